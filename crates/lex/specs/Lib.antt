@@ -1,0 +1,5 @@
+pub mod Byte
+pub mod Walk
+pub mod Lexer
+pub mod Search
+pub mod Grammar
