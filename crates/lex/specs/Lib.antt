@@ -2,4 +2,5 @@ pub mod Byte
 pub mod Walk
 pub mod Lexer
 pub mod Search
+pub mod Seek
 pub mod Grammar

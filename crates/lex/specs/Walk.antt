@@ -22,11 +22,11 @@ unfoldable pub walk : {S A : Type 0} → (S → ℕ → List ℕ → Turn S A) �
 walk t z s [] = z s
 walk t z s (c ∷ r) = turned (t s c r) (λ u. walk t z u r)
 
-module _ {S A : Type 0} (t : S → ℕ → List ℕ → Turn S A) (z : S → A) where
-  -- the list from i, with its first byte apart
-  split : (xs : List ℕ) (i : ℕ) → i < length xs → drop i xs ≡ getD xs i 0 ∷ drop (i + 1) xs
-  split xs i h = rw (add-one, drop-cons xs i 0)
+-- the list from i, with its first byte apart
+pub split : (xs : List ℕ) (i : ℕ) → i < length xs → drop i xs ≡ getD xs i 0 ∷ drop (i + 1) xs
+split xs i h = rw (add-one, drop-cons xs i 0)
 
+module _ {S A : Type 0} (t : S → ℕ → List ℕ → Turn S A) (z : S → A) where
   pub walk-ends : (s : S) (xs : List ℕ) (i : ℕ) → length xs ≤ i → walk t z s (drop i xs) ≡ z s
   unfolding walk
   walk-ends s xs i h = rw (drop-of-length-le xs h)
