@@ -8,7 +8,7 @@
 # build folder lies outside the repository (default: a folder under the system's temp folder), and nothing of the
 # original is kept here.
 set -eu
-here=$(CDPATH= cd -- "$(dirname -- "$0")" && pwd)
+here=$(CDPATH='' cd -- "$(dirname -- "$0")" && pwd)
 original=${ORIGINAL:-$here/../../shared/docs/src/native/crates/cad-step/src}
 build=${1:-${TMPDIR:-$(dirname "$(mktemp -u)")}/differential-oracle}
 say() { echo "build.sh: $*" >&2; }
@@ -35,7 +35,7 @@ source=$(dpkg -L librust-memchr-dev | sed -n 's,/memchr-[0-9][^/]*$,,p' | head -
 [ -d "$source" ] || { say "the crates of $packages are not found"; exit 1; }
 
 mkdir -p "$build/cad-step/src" "$build/oracle/src" "$build/.cargo"
-build=$(CDPATH= cd -- "$build" && pwd)
+build=$(CDPATH='' cd -- "$build" && pwd)
 
 # A file is copied only where it changed, so that a second build is quick.
 put() { # put FROM TO

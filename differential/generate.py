@@ -369,8 +369,8 @@ class Generated:
 class Damaged:
     """Windows of real files with a marker in front, and whole files below 200 KB, with a few bytes changed."""
 
-    FRONTS = [M, H, D, D, D, D, D, M + b"\nHEADER;\n", D + b"#1=", D + b"#1=A(", b"", BOM + D]
-    ENDS = [b"", b"", b";", b");", b"');", b"ENDSEC;END-ISO-10303-21;", b"*/;"]
+    FRONTS = [M, H, D, D, D, D, D, D, D, M + b"DATA('x') ;", M + b"\nHEADER;\n", D + b"#1=", D + b"#1=A(", b"", BOM + D]
+    ENDS = [b"", b"", b"", b"", b";", b");", b"');", b"ENDSEC;", b"ENDSEC;END-ISO-10303-21;", b"*/;"]
 
     def __init__(self, count, seed, names):
         self.count = count
@@ -400,10 +400,10 @@ class Damaged:
             start = data.find(b";", start) + 1
         length = 1 + (r.below(4000) if r.one_in(2) else r.below(400))
         end = min(start + length, len(data))
-        if r.one_in(2):
+        if not r.one_in(4):
             end = data.rfind(b";", start, end) + 1 or end
         window = data[start:max(start, end)]
-        window = damage(r, window, r.pick([0, 1, 1, 2, 3]))
+        window = damage(r, window, r.pick([0, 0, 1, 1, 2, 3]))
         return r.pick(self.FRONTS) + window + r.pick(self.ENDS)
 
 
@@ -466,7 +466,7 @@ def chosen_cases():
     # Comments in every place.
     comments = [
         b"/*/", b"/**/", b"/***/", b"/****/", b"/*/*/", b"/*/**/", b"/**//**/", b"/* * / */", b"/*;*/", b"/*'*/", b"/*(*/",
-        b"/*)*/", b"/", b"/*", b"/**", b"*/", b"//", b"/ *", b"/*\n*/ /*", b"//**/", b"/*\"*/", b"/**/*/", b"/*a*/ \n/*b*/",
+        b"/*)*/", b"/", b"/*", b"/**", b"*/", b"//", b"/ *", b"/*\n*/ /*", b"//**/", b"/**/*/", b"/*a*/ \n/*b*/",
     ]
     comment_places = [
         (M, b""), (M, b";"), (M + b"X", b";"), (H, b""), (H, b"A();"), (H + b"A", b"();"), (H + b"A(", b");"),
@@ -481,11 +481,11 @@ def chosen_cases():
 
     # Strings in every place.
     strings = [
-        b"'", b"''", b"'''", b"''''", b"'''''", b"''''''", b"';'", b"'('", b"')'", b"'/*'", b"'*/'", b"'a''b'", b"'\\'", b"'\\''",
+        b"'", b"''", b"'''", b"''''", b"'''''", b"''''''", b"';'", b"'('", b"')'", b"'/*'", b"'*/'", b"'a''b'", b"'\\''",
         b"\"", b"\"'\"", b"'\"'", b"'\n'", b"''';'''", b"'a'b'", b"' ' '", b"'#2=B('",
     ]
     string_places = [
-        (M, b";"), (M + b"X", b";DATA;#1=A();"), (H, b";"), (H + b"A(", b");"), (H, b"A();"), (H + b"A(", b");B();"), (D, b";"),
+        (M + b"X", b";DATA;#1=A();"), (H, b";"), (H + b"A(", b");"), (H, b"A();"), (H + b"A(", b");B();"), (D, b";"),
         (D + b"#1=A(", b");"), (D + b"#1=A(", b");#2=B();"), (D + b"#1=", b"();"), (D + b"#1=(P(", b"));"), (D + b"#1=A()", b";"),
         (D + b"ENDSEC;", b";"), (D + b"#1=A((", b");"),
     ]
@@ -604,6 +604,16 @@ def chosen_cases():
         yield bytes([b])
         yield bytes([b]) + M
 
+    # Nothing after `=`, no `(`: with a rest that is not theirs.
+    for rest in (b"", b"#2=B();", b"ENDSEC;", b"END-ISO-10303-21;)"):
+        for record in (b"#1=;", b"#1= ;", b"#1 =\n;", b"#1=A;", b"#1=A ;", b"#1='a';", b"#1=/**/;", b"#1=);"):
+            yield D + record + rest
+            if rest.endswith(b")"):
+                yield D + record[:-1] + b"(;" + rest
+    for record in (b";", b"X;", b"#4294967296=A();", b"#=A();", b"#1A();", b"#1=;", b"#1= ;", b"#1=A;", b"#1=A(;", b"A;"):
+        for opening in (b"DATA;", b"DAT;", b"DATA1;", b"DATA,;", b"DATA;ENDSEC;", b"HEADER;", b"HEADE;"):
+            yield M + opening + record
+
     # One byte apart: around each refusal and reason, and around accepted records.
     for base, start in (
         (M + b"X", len(M)), (M + b"/**/", len(M)), (M + b"'';", len(M)), (H + b"A();", len(H)), (H + b"A;", len(H)), (D + b"#1=A();", len(D)),
@@ -611,7 +621,7 @@ def chosen_cases():
         (D + b"X;", len(D)), (D + b"#=A();", len(D)), (D + b"#1A();", len(D)), (D + b"#1=;", len(D)), (D + b"#1=A;", len(D)),
         (D + b"#4294967296=A();", len(D) + 9),
     ):
-        yield from neighbours(base, start, b"(';", b")#/ ")
+        yield from neighbours(base, start, b"(';", b")#/")
 
 
 class Chosen:

@@ -26,6 +26,10 @@ walk t z s (c ∷ r) = turned (t s c r) (λ u. walk t z u r)
 pub split : (xs : List ℕ) (i : ℕ) → i < length xs → drop i xs ≡ getD xs i 0 ∷ drop (i + 1) xs
 split xs i h = rw (add-one, drop-cons xs i 0)
 
+-- nothing is left from the end on
+pub drop-end : (xs : List ℕ) (i : ℕ) → length xs ≤ i → drop i xs ≡ []
+drop-end xs i h = drop-of-length-le xs h
+
 module _ {S A : Type 0} (t : S → ℕ → List ℕ → Turn S A) (z : S → A) where
   pub walk-ends : (s : S) (xs : List ℕ) (i : ℕ) → length xs ≤ i → walk t z s (drop i xs) ≡ z s
   unfolding walk

@@ -1,0 +1,78 @@
+use Rattle.record.specs.Turns.{past-stops, past-goes}
+use Rattle.record.specs.Text.{past, pastTurn}
+use Rattle.lex.specs.Byte.{white}
+use Rattle.lex.specs.Walk.{walk, walk-ends, drop-end}
+use lib.ListN.{length, drop, getD}
+use denote.Ref.{now}
+use borrow.Author.Tests.{eq-eqb, ne-eqb, not-true, not-false}
+use borrow.Author.Needs.{needs}
+use native.Mathlib.Omega.{arith}
+use mathlib.Core.List.{List, [], _∷_}
+use mathlib.Core.Bool.{true, false}
+use mathlib.Core.Path.{_≡_, ap, sym, refl, _∙_}
+use Prim.Native.Nat.{ℕ, _+_, _-_, _≤_}
+use Rattle.record.proofs.past_space.Statement.{statement}
+use Rattle.record.proofs.past_space.Tie as tie
+use Rattle.record.proofs.past_space.Reads as reads
+use Rattle.record.proofs.past_space.Lts as lts
+use Rattle.lex.proofs.is_space.Reads as is-space-reads
+
+abbrev Inv-loop : tie.InvT-loop
+Inv-loop b from i₀ i = (i ≤ length b) × (walk (pastTurn white) (λ u. []) tt (drop i b) ≡ past white (drop from b))
+
+abbrev μ-loop : tie.MeasureT-loop
+μ-loop b from i₀ i = length b - i
+
+-- src/lib.rt:39:5
+loop-holds : tie.Need-loop-holds Inv-loop μ-loop
+unfolding past
+loop-holds c = (omega arith, refl)
+
+-- src/lib.rt:40:27
+shared-slice-read-is-space : tie.Need-shared-slice-read-is-space Inv-loop μ-loop
+shared-slice-read-is-space c = search needs
+
+-- src/lib.rt:40:13
+is-space-requires : tie.Need-is-space-requires Inv-loop μ-loop
+is-space-requires c κs = search needs
+
+-- src/lib.rt:41:13
+returns : tie.Need-returns Inv-loop μ-loop
+returns c = let t = c .before .before .before .before in
+    let b = now (t .before .before .args .b) in
+    (past-stops b (t .loop .i) (omega arith) white _ (sym (c .before .is-space .ensures) ∙ not-true _ (c .if1 .taken)) (t .loop .inv .1), omega arith)
+
+-- src/lib.rt:43:9
+add-i : tie.Need-add-i Inv-loop μ-loop
+add-i c = search needs
+
+-- src/lib.rt:39:5
+loop-less : tie.Need-loop-less Inv-loop μ-loop
+loop-less c = search needs
+
+-- src/lib.rt:39:5
+loop-again : tie.Need-loop-again Inv-loop μ-loop
+loop-again c = let t = c .before .before .before .before in
+    let b = now (t .before .before .args .b) in
+    (omega arith, past-goes b (t .loop .i) (omega arith) white _ (sym (c .before .is-space .ensures) ∙ not-false _ (c .if1 .left)) (t .loop .inv .1))
+
+-- src/lib.rt:33:1
+returns-2 : tie.Need-returns-2 Inv-loop μ-loop
+returns-2 c = let t = c .before in
+    let b = now (t .before .before .args .b) in
+    (drop-end b (t .loop .i) (omega arith) ∙ sym (walk-ends (pastTurn white) (λ u. []) tt b (t .loop .i) (omega arith)) ∙ t .loop .inv .1, omega arith)
+
+pub past-space-spec : {M : Type 1} → statement M
+past-space-spec =
+    tie.close
+    (tie.spec
+    Inv-loop
+    μ-loop
+    loop-holds
+    shared-slice-read-is-space
+    is-space-requires
+    returns
+    add-i
+    loop-less
+    loop-again
+    returns-2)

@@ -1,0 +1,48 @@
+use borrow.Author.Needs.{needs}
+use Rattle.record.proofs.section_word.Statement.{statement}
+use Rattle.record.proofs.section_word.Tie as tie
+use Rattle.record.proofs.section_word.Reads as reads
+use Rattle.record.proofs.section_word.Lts as lts
+use Rattle.record.proofs.past_space.Reads as past-space-reads
+use Rattle.record.proofs.trail_at.Reads as trail-at-reads
+use Rattle.record.proofs.word_in.Reads as word-in-reads
+
+-- src/lib.rt:186:9
+past-space-requires : tie.Need-past-space-requires
+past-space-requires c κs = search needs
+
+-- src/lib.rt:187:9
+trail-at-requires : tie.Need-trail-at-requires
+trail-at-requires c κs = search needs
+
+-- src/lib.rt:188:13
+sub-word-in : tie.Need-sub-word-in
+sub-word-in c = search needs
+
+-- src/lib.rt:188:13
+part-word-in-start : tie.Need-part-word-in-start
+part-word-in-start c = search needs
+
+-- src/lib.rt:188:13
+part-word-in-end : tie.Need-part-word-in-end
+part-word-in-end c = search needs
+
+-- src/lib.rt:188:5
+word-in-requires : tie.Need-word-in-requires
+word-in-requires c κs = search needs
+
+-- src/lib.rt:183:1
+returns : tie.Need-returns
+returns c = ?
+
+pub section-word-spec : {M : Type 1} → statement M
+section-word-spec =
+    tie.close
+    (tie.spec
+    past-space-requires
+    trail-at-requires
+    sub-word-in
+    part-word-in-start
+    part-word-in-end
+    word-in-requires
+    returns)

@@ -1,0 +1,101 @@
+-- What the head of a record's text is, at places of the text: a law for each way out of the code.
+-- Assumes nothing.
+use Prim.Native.Nat.{ℕ, _+_, _-_, _≤_, _<_}
+use mathlib.Core.Path.{_≡_, refl, sym, _∙_, ap}
+use mathlib.Core.Bool.{Bool, true, false, _&&_, _||_}
+use mathlib.Core.List.{List, [], _∷_, map}
+use native.Mathlib.Omega.{arith}
+use native.Mathlib.Decide.{ℕ-discrete}
+use borrow.Author.Tests.{eq-eqb, ne-eqb, lt-ltb, le-ltb}
+use lib.Dec.{eqb, ltb}
+use lib.ListN.{length, take, drop, getD, length-drop, length-take, length-map}
+use lib.Seq.{take-all}
+use Rattle.lex.specs.Byte.{pick, white, place, place-drop}
+use Rattle.lex.specs.Walk.{split, drop-end}
+use Rattle.record.specs.Text.{past, Digits, digits, numberFrom, Keyed, opened, unopened, keyword}
+use Rattle.record.specs.Word.{same, upper, isWord, dataWord, opens, opensData}
+use Rattle.record.specs.Turns.{same-lengths}
+use Rattle.record.specs.Head.{valueHead, equalHead, dataHead, headerHead, namedHead, keyedHead}
+use Rattle.record.specs.declared.Head.{Head}
+use Rattle.record.specs.declared.Head.the-variants.{Bad, Complex, Simple}
+
+-- the rest from a byte on begins where the byte stands
+place-cons : (b : List ℕ) (v : ℕ) → v < length b → place b (getD b v 0 ∷ drop (v + 1) b) ≡ v
+place-cons b v h = ap (place b) (sym (split b v h)) ∙ place-drop b v (omega arith)
+
+-- what stands from the value on, where that is the rest r from v
+module _ (b : List ℕ) (id v : ℕ) (r : List ℕ) (e : drop v b ≡ r) where
+  pub value-none : length b ≤ v → Bad 6 ≡ valueHead b id r
+  value-none h = rw (← e, drop-end b v h) refl
+
+  pub value-complex : v < length b → getD b v 0 ≡ 40 → Complex id v ≡ valueHead b id r
+  value-complex h k = rw (← e, split b v h, eq-eqb _ _ k) (ap (Complex id) (sym (place-cons b v h)))
+
+  pub value-keyed : v < length b → (getD b v 0 ≡ 40 → ⊥) → keyedHead b id (drop v b) (keyword (drop v b)) ≡ valueHead b id r
+  value-keyed h k = rw (← e, split b v h, ne-eqb _ _ k) refl
+
+  pub equal-none : length b ≤ v → Bad 5 ≡ equalHead b id r
+  equal-none h = rw (← e, drop-end b v h) refl
+
+  pub equal-other : v < length b → (getD b v 0 ≡ 61 → ⊥) → Bad 5 ≡ equalHead b id r
+  equal-other h k = rw (← e, split b v h, ne-eqb _ _ k) refl
+
+  pub equal-found : v < length b → getD b v 0 ≡ 61 → valueHead b id (past white (drop (v + 1) b)) ≡ equalHead b id r
+  equal-found h k = rw (← e, split b v h, eq-eqb _ _ k) refl
+
+-- a keyword that was found or not
+pub keyed-absent : (b : List ℕ) (id v : ℕ) (k : Keyed) → k ≡ unopened → Bad 7 ≡ keyedHead b id (drop v b) k
+keyed-absent b id v k q = rw q refl
+
+pub keyed-found : (b : List ℕ) (id v e o : ℕ) (k : Keyed) → v ≤ length b → e ≤ length b → o ≤ length b → k ≡ opened (drop e b) (drop o b) → Simple id v e o ≡ keyedHead b id (drop v b) k
+keyed-found b id v e o k hv he ho q = rw (q, place-drop b v hv, place-drop b e he, place-drop b o ho) refl
+
+pub named-absent : (b : List ℕ) (v : ℕ) → drop v b ≡ past white b → keyword (drop v b) ≡ unopened → Bad 1 ≡ headerHead b
+unfolding headerHead
+named-absent b v p q = rw (← p, q) refl
+
+pub named-found : (b : List ℕ) (v e o : ℕ) → drop v b ≡ past white b → v ≤ length b → e ≤ length b → o ≤ length b → keyword (drop v b) ≡ opened (drop e b) (drop o b) → Simple 0 v e o ≡ headerHead b
+unfolding headerHead
+named-found b v e o p hv he ho q = rw (← p, q, place-drop b v hv, place-drop b e he, place-drop b o ho) refl
+
+-- the `#` and the id
+pub data-none : (b : List ℕ) → length b ≡ 0 → Bad 2 ≡ dataHead b
+unfolding dataHead
+data-none [] h = refl
+data-none (c ∷ r) h = absurd (omega arith)
+
+module _ (b : List ℕ) (h : 0 < length b) where
+  pub data-other : (getD b 0 0 ≡ 35 → ⊥) → Bad 2 ≡ dataHead b
+  unfolding dataHead
+  data-other k = go b k h
+    where
+      go : (l : List ℕ) → (getD l 0 0 ≡ 35 → ⊥) → 0 < length l → Bad 2 ≡ dataHead l
+      go [] k h = refl
+      go (c ∷ r) k h = rw (ne-eqb c 35 k) refl
+
+  pub data-over : getD b 0 0 ≡ 35 → 4294967295 < numberFrom 0 (drop 1 b) .value → Bad 3 ≡ dataHead b
+  unfolding dataHead
+  data-over k n = go b k h n
+    where
+      go : (l : List ℕ) → getD l 0 0 ≡ 35 → 0 < length l → 4294967295 < numberFrom 0 (drop 1 l) .value → Bad 3 ≡ dataHead l
+      go [] k h n = absurd (omega arith)
+      go (c ∷ r) k h n = rw (eq-eqb c 35 k, lt-ltb _ _ n) refl
+
+  -- the id's digits were read: none of them, or some
+  pub data-empty : (n : ℕ) → getD b 0 0 ≡ 35 → numberFrom 0 (drop 1 b) ≡ digits n (drop 1 b) → n ≤ 4294967295 → Bad 4 ≡ dataHead b
+  unfolding dataHead
+  data-empty n k q m = go b k h q
+    where
+      go : (l : List ℕ) → getD l 0 0 ≡ 35 → 0 < length l → numberFrom 0 (drop 1 l) ≡ digits n (drop 1 l) → Bad 4 ≡ dataHead l
+      go [] k h q = absurd (omega arith)
+      go (c ∷ r) k h q = rw (eq-eqb c 35 k, q, le-ltb _ _ m, eq-eqb (length r) (length r) refl) refl
+
+  pub data-value : (n p : ℕ) → getD b 0 0 ≡ 35 → numberFrom 0 (drop 1 b) ≡ digits n (drop p b) → n ≤ 4294967295 → 1 ≤ p → p ≤ length b → (p ≡ 1 → ⊥) → equalHead b n (past white (drop p b)) ≡ dataHead b
+  unfolding dataHead
+  data-value n p k q m a z o = go b k h q z
+    where
+      go : (l : List ℕ) → getD l 0 0 ≡ 35 → 0 < length l → numberFrom 0 (drop 1 l) ≡ digits n (drop p l) → p ≤ length l → equalHead l n (past white (drop p l)) ≡ dataHead l
+      go [] k h q z = absurd (omega arith)
+      go (c ∷ r) k h q z =
+          let f : length (drop p (c ∷ r)) ≡ length r → ⊥ = λ e. omega (arith, length-drop p (c ∷ r)) in
+          rw (eq-eqb c 35 k, q, le-ltb _ _ m, ne-eqb (length (drop p (c ∷ r))) (length r) f) refl

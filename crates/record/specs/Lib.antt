@@ -1,0 +1,5 @@
+pub mod Text
+pub mod Word
+pub mod Head
+pub mod Turns
+pub mod HeadLaws

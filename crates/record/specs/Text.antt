@@ -1,0 +1,74 @@
+-- Parts of a record's text: what stands before a rest, what is left past bytes of a kind, digits and their number, a keyword.
+-- Assumes nothing.
+use Prim.Native.Nat.{ℕ, _+_, _*_, _-_, _≤_, _<_}
+use mathlib.Core.Path.{_≡_}
+use mathlib.Core.Bool.{Bool, true, false, _&&_}
+use mathlib.Core.List.{List, [], _∷_}
+use lib.Dec.{eqb, leb}
+use lib.ListN.{length, take, drop}
+use Rattle.lex.specs.Byte.{pick, white}
+use Rattle.lex.specs.Walk.{Turn, stop, on, walk}
+use Rattle.record.specs.declared.Number.{Number}
+use Rattle.record.specs.declared.Number.the-variants.{Over, Value}
+use Rattle.record.specs.declared.Key.{Key}
+use Rattle.record.specs.declared.Key.the-variants.{Absent, Found}
+
+-- the bytes of xs before its rest r
+abbrev pub before : List ℕ → List ℕ → List ℕ
+before xs r = take (length xs - length r) xs
+
+abbrev pub pastTurn : (ℕ → Bool) → Unit {0} → ℕ → List ℕ → Turn (Unit {0}) (List ℕ)
+pastTurn p u c r = pick (p c) (on u) (stop (c ∷ r))
+
+-- the rest from the first byte that is not of the kind p
+unfoldable pub past : (ℕ → Bool) → List ℕ → List ℕ
+past p xs = walk (pastTurn p) (λ u. []) tt xs
+
+-- a decimal digit
+abbrev pub digit : ℕ → Bool
+digit c = leb 48 c && leb c 57
+
+-- a number and the rest after its digits
+pub record Digits : Type 0 where
+  pub value : ℕ
+  pub rest : List ℕ
+
+abbrev pub digits : ℕ → List ℕ → Digits
+digits n r = record { value = n; rest = r }
+
+abbrev pub digitTurn : ℕ → ℕ → List ℕ → Turn ℕ Digits
+digitTurn n c r = pick (digit c) (on (n * 10 + (c - 48))) (stop (digits n (c ∷ r)))
+
+-- the decimal number that the digits at the start stand for, after those that gave n, and the rest after them
+unfoldable pub numberFrom : ℕ → List ℕ → Digits
+numberFrom n xs = walk digitTurn (λ m. digits m []) n xs
+
+-- a keyword's end, as the rest from there, and the rest from the `(` after it; or no `(`
+pub data Keyed : Type 0 where
+  opened : List ℕ → List ℕ → Keyed
+  unopened : Keyed
+
+-- e is the rest after the last byte that is not white
+abbrev pub keyTurn : List ℕ → ℕ → List ℕ → Turn (List ℕ) Keyed
+keyTurn e c r = pick (eqb c 40) (stop (opened e (c ∷ r))) (on (pick (white c) e r))
+
+-- "a keyword and the first byte `(`": the keyword is what stands before the first `(`, trailing whitespace dropped
+unfoldable pub keyword : List ℕ → Keyed
+keyword xs = walk keyTurn (λ e. unopened) xs xs
+
+abbrev pub trailTurn : List ℕ → ℕ → List ℕ → Turn (List ℕ) (List ℕ)
+trailTurn e c r = on (pick (white c) e r)
+
+-- the rest after the last byte that is not white: the whitespace at the end
+unfoldable pub trail : List ℕ → List ℕ
+trail xs = walk trailTurn (λ e. e) xs xs
+
+-- what the code's answer says of the digits from a place on: "id above 4294967295", or the number and the place after them
+abbrev pub Numbered : List ℕ → ℕ → Number → Type 0
+Numbered b from Over = 4294967295 < numberFrom 0 (drop from b) .value
+Numbered b from (Value n p) = (numberFrom 0 (drop from b) ≡ digits n (drop p b)) × (from ≤ p) × (p ≤ length b) × (n ≤ 4294967295)
+
+-- what the code's answer says of the keyword from a place on
+abbrev pub KeyedAt : List ℕ → ℕ → Key → Type 0
+KeyedAt b from Absent = keyword (drop from b) ≡ unopened
+KeyedAt b from (Found e o) = (keyword (drop from b) ≡ opened (drop e b) (drop o b)) × (e ≤ length b) × (o ≤ length b)

@@ -1,0 +1,77 @@
+-- What one byte does to the walks of Text.antt, at an index of the whole text: the laws that the loops of the code go by.
+-- Assumes nothing.
+use Prim.Native.Nat.{ℕ, _+_, _*_, _-_, _≤_, _<_}
+use mathlib.Core.Path.{_≡_, refl, sym, _∙_, ap}
+use mathlib.Core.Bool.{Bool, true, false, _&&_}
+use mathlib.Core.List.{List, [], _∷_, map}
+use native.Mathlib.Omega.{arith}
+use native.Mathlib.Nat.{le-refl}
+use lib.Dec.{eqb, leb}
+use borrow.Author.Tests.{leb-true}
+use lib.ListN.{length, drop, getD}
+use Rattle.lex.specs.Byte.{pick, white}
+use Rattle.lex.specs.Walk.{Turn, stop, on, turned, walk, split, walk-ends, walk-stops, walk-goes}
+use Rattle.record.specs.Text.{pastTurn, digit, Digits, digits, digitTurn, numberFrom, Keyed, opened, unopened, keyTurn, trailTurn}
+use Rattle.record.specs.Word.{same, upper}
+
+module _ (b : List ℕ) (i : ℕ) (h : i < length b) where
+  pub past-stops : (p : ℕ → Bool) (a : List ℕ) → p (getD b i 0) ≡ false → walk (pastTurn p) (λ u. []) tt (drop i b) ≡ a → drop i b ≡ a
+  past-stops p a e inv = sym (walk-stops (pastTurn p) (λ u. []) tt b i (drop i b) h (rw e (ap stop (sym (split b i h))))) ∙ inv
+
+  pub past-goes : (p : ℕ → Bool) (a : List ℕ) → p (getD b i 0) ≡ true → walk (pastTurn p) (λ u. []) tt (drop i b) ≡ a → walk (pastTurn p) (λ u. []) tt (drop (i + 1) b) ≡ a
+  past-goes p a e inv = sym (walk-goes (pastTurn p) (λ u. []) tt tt b i h (rw e refl)) ∙ inv
+
+  pub digit-stops : (n : ℕ) (a : Digits) → digit (getD b i 0) ≡ false → walk digitTurn (λ m. digits m []) n (drop i b) ≡ a → digits n (drop i b) ≡ a
+  digit-stops n a e inv = sym (walk-stops digitTurn (λ m. digits m []) n b i (digits n (drop i b)) h (rw e (ap (λ (l : List ℕ). stop (digits n l)) (sym (split b i h))))) ∙ inv
+
+  pub digit-goes : (n : ℕ) (a : Digits) → digit (getD b i 0) ≡ true → walk digitTurn (λ m. digits m []) n (drop i b) ≡ a → walk digitTurn (λ m. digits m []) (n * 10 + (getD b i 0 - 48)) (drop (i + 1) b) ≡ a
+  digit-goes n a e inv = sym (walk-goes digitTurn (λ m. digits m []) n (n * 10 + (getD b i 0 - 48)) b i h (rw e refl)) ∙ inv
+
+  pub key-stops : (e : ℕ) (a : Keyed) → eqb (getD b i 0) 40 ≡ true → walk keyTurn (λ k. unopened) (drop e b) (drop i b) ≡ a → opened (drop e b) (drop i b) ≡ a
+  key-stops e a q inv = sym (walk-stops keyTurn (λ k. unopened) (drop e b) b i (opened (drop e b) (drop i b)) h (rw q (ap (λ (l : List ℕ). stop (opened (drop e b) l)) (sym (split b i h))))) ∙ inv
+
+  pub key-goes : (e k : ℕ) (a : Keyed) → eqb (getD b i 0) 40 ≡ false → pick (white (getD b i 0)) (drop e b) (drop (i + 1) b) ≡ drop k b → walk keyTurn (λ l. unopened) (drop e b) (drop i b) ≡ a → walk keyTurn (λ l. unopened) (drop k b) (drop (i + 1) b) ≡ a
+  key-goes e k a q w inv = sym (walk-goes keyTurn (λ l. unopened) (drop e b) (drop k b) b i h (rw q (ap on w))) ∙ inv
+
+  pub trail-goes : (e k : ℕ) (a : List ℕ) → pick (white (getD b i 0)) (drop e b) (drop (i + 1) b) ≡ drop k b → walk trailTurn (λ l. l) (drop e b) (drop i b) ≡ a → walk trailTurn (λ l. l) (drop k b) (drop (i + 1) b) ≡ a
+  trail-goes e k a w inv = sym (walk-goes trailTurn (λ l. l) (drop e b) (drop k b) b i h (ap on w)) ∙ inv
+
+-- further digits make no number smaller
+pub number-grows : (n : ℕ) (xs : List ℕ) → n ≤ numberFrom n xs .value
+unfolding numberFrom walk
+number-grows n [] = le-refl n
+number-grows n (c ∷ r) = go (digit c) (number-grows (n * 10 + (c - 48)) r)
+  where
+    go : (t : Bool) → n * 10 + (c - 48) ≤ numberFrom (n * 10 + (c - 48)) r .value → n ≤ turned (pick t (on (n * 10 + (c - 48))) (stop (digits n (c ∷ r)))) (λ u. walk digitTurn (λ m. digits m []) u r) .value
+    go true k = omega arith
+    go false k = le-refl n
+
+-- texts of different lengths are not the same
+pub same-lengths : (x y : List ℕ) → (length x ≡ length y → ⊥) → same x y ≡ false
+unfolding same
+same-lengths [] [] h = absurd (h refl)
+same-lengths [] (b ∷ y) h = refl
+same-lengths (a ∷ x) [] h = refl
+same-lengths (a ∷ x) (b ∷ y) h = go (eqb a b) (same-lengths x y (λ e. h (omega arith)))
+  where
+    go : (t : Bool) → same x y ≡ false → t && same x y ≡ false
+    go true k = k
+    go false k = refl
+
+-- at an index of two texts, the bytes there differ or agree
+pub same-stops : (x y : List ℕ) (i : ℕ) (a : Bool) → i < length x → i < length y → eqb (upper (getD x i 0)) (getD y i 0) ≡ false → same (map upper (drop i x)) (drop i y) ≡ a → false ≡ a
+unfolding same
+same-stops x y i a h k e inv = sym (rw (split x i h, split y i k, e) refl) ∙ inv
+
+pub same-goes : (x y : List ℕ) (i : ℕ) (a : Bool) → i < length x → i < length y → eqb (upper (getD x i 0)) (getD y i 0) ≡ true → same (map upper (drop i x)) (drop i y) ≡ a → same (map upper (drop (i + 1) x)) (drop (i + 1) y) ≡ a
+unfolding same
+same-goes x y i a h k e inv = sym (rw (split x i h, split y i k, e) refl) ∙ inv
+
+-- two tests that both hold: each number lies from the one bound to the other
+pub bounds : (l c m : ℕ) → leb l c && leb c m ≡ true → (l ≤ c) × (c ≤ m)
+bounds l c m = go (leb l c) (leb c m) refl refl
+  where
+    go : (a b : Bool) → leb l c ≡ a → leb c m ≡ b → a && b ≡ true → (l ≤ c) × (c ≤ m)
+    go true true p q e = (leb-true l c p, leb-true c m q)
+    go true false p q e = let z : _≡_ {A = ℕ} 0 1 = cc in absurd (omega arith)
+    go false b p q e = let z : _≡_ {A = ℕ} 0 1 = cc in absurd (omega arith)

@@ -1,0 +1,64 @@
+-- Document 01, 'Reading the file': the section words.
+-- Assumes nothing.
+use Prim.Native.Nat.{ℕ, _-_}
+use mathlib.Core.Bool.{Bool, true, false, _&&_, _||_}
+use mathlib.Core.List.{List, [], _∷_, map}
+use lib.Dec.{eqb, leb}
+use lib.ListN.{take, drop}
+use Rattle.lex.specs.Byte.{pick, white}
+use Rattle.record.specs.Text.{before, past, trail}
+use Rattle.record.specs.declared.Word.{Word}
+use Rattle.record.specs.declared.Word.the-variants.{Header, Data, EndSection, EndFile, Other}
+
+-- "letters in either case": a small letter as its capital
+abbrev pub upper : ℕ → ℕ
+upper c = pick (leb 97 c && leb c 122) (c - 32) c
+
+-- the same bytes
+unfoldable pub same : List ℕ → List ℕ → Bool
+same [] [] = true
+same [] (b ∷ y) = false
+same (a ∷ x) [] = false
+same (a ∷ x) (b ∷ y) = eqb a b && same x y
+
+-- "Trimmed of whitespace"
+abbrev pub trimmed : List ℕ → List ℕ
+trimmed xs = before (past white xs) (trail (past white xs))
+
+-- the text is this word, letters in either case
+abbrev pub isWord : List ℕ → List ℕ → Bool
+isWord t w = same (map upper t) w
+
+-- the list begins with a `(`
+abbrev pub opens : List ℕ → Bool
+opens [] = false
+opens (c ∷ r) = eqb c 40
+
+-- ENDSEC, HEADER, DATA, END-ISO-10303-21
+abbrev pub endsec : List ℕ
+endsec = 69 ∷ 78 ∷ 68 ∷ 83 ∷ 69 ∷ 67 ∷ []
+
+abbrev pub header : List ℕ
+header = 72 ∷ 69 ∷ 65 ∷ 68 ∷ 69 ∷ 82 ∷ []
+
+abbrev pub dataWord : List ℕ
+dataWord = 68 ∷ 65 ∷ 84 ∷ 65 ∷ []
+
+abbrev pub marker : List ℕ
+marker = 73 ∷ 83 ∷ 79 ∷ 45 ∷ 49 ∷ 48 ∷ 51 ∷ 48 ∷ 51 ∷ 45 ∷ 50 ∷ 49 ∷ []
+
+abbrev pub endFile : List ℕ
+endFile = 69 ∷ 78 ∷ 68 ∷ 45 ∷ marker
+
+-- "`DATA`, or `DATA`, whitespace or none, then `(`, opens data"
+abbrev pub opensData : List ℕ → Bool
+opensData t = isWord t dataWord || (isWord (take 4 t) dataWord && opens (past white (drop 4 t)))
+
+-- "`HEADER` opens the header; [..] opens data; `ENDSEC` leaves the section; `END-ISO-10303-21` ends the reading"
+abbrev pub wordIn : List ℕ → Word
+wordIn t =
+    pick (isWord t endsec) EndSection (pick (isWord t header) Header (pick (opensData t) Data (pick (isWord t endFile) EndFile Other)))
+
+-- the word that a record's text is
+unfoldable pub wordOf : List ℕ → Word
+wordOf body = wordIn (trimmed body)
