@@ -3,3 +3,4 @@ pub mod Walk
 pub mod Lexer
 pub mod Search
 pub mod Grammar
+pub mod Local
