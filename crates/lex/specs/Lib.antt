@@ -4,3 +4,4 @@ pub mod Lexer
 pub mod Search
 pub mod Grammar
 pub mod Local
+pub mod Right
