@@ -115,3 +115,126 @@ end-open xs = fault-is (recordEnd xs) 59 5 xs (λ r. end-only) (λ o. end-text-o
 -- a record has at most one end
 pub end-one : {xs r s : List ℕ} → Ends xs r → Ends xs s → r ≡ s
 end-one h k = cc (end-only h, end-only k)
+
+-- a search for a closing `)` passes over strings and comments
+paren-passing : Passing paren
+paren-passing = record { quote = λ d. refl; slash = λ d. refl }
+
+module _ (n : ℕ) (w : List ℕ) where
+  -- a `(` opens one more
+  deeper : (d : ℕ) (t : List ℕ) → plainly paren n w d (40 ∷ t) ≡ plainly paren n w (suc d) t
+  deeper d t = byte-step paren n w d (suc d) 40 t (eqb-false 40 39 refl) (λ (r, e). eqb-false 40 47 refl (cc)) refl
+
+  -- a `)` closes the innermost
+  shallower : (d : ℕ) (t : List ℕ) → plainly paren n w (suc d) (41 ∷ t) ≡ plainly paren n w d t
+  shallower d t = byte-step paren n w (suc d) d 41 t (eqb-false 41 39 refl) (λ (r, e). eqb-false 41 47 refl (cc)) refl
+
+  -- balanced bytes leave the depth as it is
+  balanced-step : (d : ℕ) {xs ys : List ℕ} → Balanced xs ys → plainly paren n w d xs ≡ plainly paren n w d ys
+  balanced-step d Balanced.none = refl
+  balanced-step d (Balanced.byte {c} {xs} h k l m r) =
+      byte-step paren n w d d c xs l m (rw (ne-eqb c 40 h, ne-eqb c 41 k)) ∙ balanced-step d r
+  balanced-step d (Balanced.string q r) = string-step paren n w paren-passing d q ∙ balanced-step d r
+  balanced-step d (Balanced.comment q r) = comment-step paren n w paren-passing d q ∙ balanced-step d r
+  balanced-step d (Balanced.group {xs} {zs} r s) = deeper d xs ∙ balanced-step (suc d) r ∙ shallower d zs ∙ balanced-step d s
+
+  -- bytes that leave parentheses open lead to some depth
+  deep-step : (d : ℕ) {k : ℕ} {xs ys : List ℕ} → Deep k xs ys → (e : ℕ) × (plainly paren n w d xs ≡ plainly paren n w e ys)
+  deep-step d (Deep.flat r) = (d, balanced-step d r)
+  deep-step d (Deep.nested {zs} r s) = let (e, p) = deep-step (suc d) s in (e, balanced-step d r ∙ deeper d zs ∙ p)
+
+-- "The closing `)`": where it is, it is found
+pub closing-only : (c : ℕ) {t r : List ℕ} → Closes t r → closing (c ∷ t) ≡ at (41 ∷ r)
+unfolding closing
+closing-only c {t} {r} h = balanced-step 6 (c ∷ t) 0 h ∙ seek-halts paren (missed 6 (c ∷ t)) Plain 0 (41 ∷ r) 41 r refl refl
+
+-- refusal 4, "string open", at the string's quote
+pub closing-text-only : (c : ℕ) {d : ℕ} {t o : List ℕ} → Deep d t o → OpenText o → closing (c ∷ t) ≡ fault 4 o
+unfolding closing
+closing-text-only c {t} h q = let (e, p) = deep-step 6 (c ∷ t) 0 h in p ∙ text-fault paren 6 (c ∷ t) paren-passing e q
+
+-- refusal 3, "comment open", at the comment's slash
+pub closing-remark-only : (c : ℕ) {d : ℕ} {t o : List ℕ} → Deep d t o → OpenRemark o → closing (c ∷ t) ≡ fault 3 o
+unfolding closing
+closing-remark-only c {t} h q = let (e, p) = deep-step 6 (c ∷ t) 0 h in p ∙ remark-fault paren 6 (c ∷ t) paren-passing e q
+
+-- refusal 6, no closing `)`, at the `(`
+pub closing-over-only : (c : ℕ) {d : ℕ} {t : List ℕ} → Deep d t [] → closing (c ∷ t) ≡ fault 6 (c ∷ t)
+unfolding closing walk
+closing-over-only c {t} h = let (e, p) = deep-step 6 (c ∷ t) 0 h in p
+
+-- from xs, with d parentheses open, up to ys with k open: some of the d are closed first, and what is opened then is left open
+data Sunk : ℕ → ℕ → List ℕ → List ℕ → Type 0 where
+  stay : {d k : ℕ} {xs ys : List ℕ} (i : ℕ) → k ≡ i + d → Deep i xs ys → Sunk d k xs ys
+  rise : {d k : ℕ} {xs zs ys : List ℕ} → Balanced xs (41 ∷ zs) → Sunk d k zs ys → Sunk (suc d) k xs ys
+
+-- nothing read
+sunk-none : (d : ℕ) (xs : List ℕ) → Sunk d d xs xs
+sunk-none d xs = Sunk.stay {d = d} {k = d} 0 (omega arith) (Deep.flat Balanced.none)
+
+-- balanced bytes may go before
+deep-before : {i : ℕ} {xs ts ys : List ℕ} → ((zs : List ℕ) → Balanced ts zs → Balanced xs zs) → Deep i ts ys → Deep i xs ys
+deep-before {ys} g (Deep.flat r) = Deep.flat (g ys r)
+deep-before g (Deep.nested {zs} r s) = Deep.nested (g (40 ∷ zs) r) s
+
+sunk-before : {d k : ℕ} {xs ts ys : List ℕ} → ((zs : List ℕ) → Balanced ts zs → Balanced xs zs) → Sunk d k ts ys → Sunk d k xs ys
+sunk-before g (Sunk.stay i e s) = Sunk.stay i e (deep-before g s)
+sunk-before g (Sunk.rise {zs} r s) = Sunk.rise (g (41 ∷ zs) r) s
+
+-- and a `(`
+sunk-open : {d k : ℕ} {t ys : List ℕ} → Sunk (suc d) k t ys → Sunk d k (40 ∷ t) ys
+sunk-open {d} {k} (Sunk.stay i e s) = Sunk.stay {d = d} {k = k} (suc i) (omega arith) (Deep.nested Balanced.none s)
+sunk-open (Sunk.rise r s) = sunk-before (λ zs. Balanced.group r) s
+
+-- from the outermost depth
+sunk-deep : {k : ℕ} {xs ys : List ℕ} → Sunk 0 k xs ys → Deep k xs ys
+sunk-deep {k} (Sunk.stay i e s) = let g : k ≡ i = omega arith in rw g s
+
+-- with none left open
+deep-closes : {xs r : List ℕ} → Deep 0 xs (41 ∷ r) → Closes xs r
+deep-closes (Deep.flat r) = r
+
+-- what becomes of a search for a closing `)` with d parentheses open
+abbrev Comes : ℕ → List ℕ → Type 0
+Comes d xs = Outcome (λ r. Sunk d 0 xs (41 ∷ r)) (λ o. (k : ℕ) × Sunk d k xs o)
+
+-- from further on, at another depth
+sunken : (d e : ℕ) (xs ts : List ℕ) → ((k : ℕ) (ys : List ℕ) → Sunk e k ts ys → Sunk d k xs ys) → Comes e ts → Comes d xs
+sunken d e xs ts g u = further (λ r. g 0 (41 ∷ r)) (λ o s. (s .0, g (s .0) o (s .1))) u
+
+-- where a `)` stands
+closed-comes : (d : ℕ) (t : List ℕ) → ((e : ℕ) → Comes e t) → Comes d (41 ∷ t)
+closed-comes zero t u = Outcome.found t (sunk-none 0 (41 ∷ t))
+closed-comes (suc d) t u = sunken (suc d) d (41 ∷ t) t (λ k ys. Sunk.rise Balanced.none) (u d)
+
+closing-comes : {xs : List ℕ} → Reads xs → (d : ℕ) → Comes d xs
+closing-comes Reads.end d = Outcome.over (d, sunk-none d [])
+closing-comes (Reads.byte {c} {t} h v s) d = go (ℕ-discrete c 40) (ℕ-discrete c 41) (closing-comes s)
+  where
+    go : Dec (c ≡ 40) → Dec (c ≡ 41) → ((e : ℕ) → Comes e t) → Comes d (c ∷ t)
+    go (yes p) q u = rw p (sunken d (suc d) (40 ∷ t) t (λ k ys. sunk-open) (u (suc d)))
+    go (no l) (yes q) u = rw q (closed-comes d t u)
+    go (no l) (no m) u = sunken d d (c ∷ t) t (λ k ys. sunk-before (λ zs. Balanced.byte l m h v)) (u d)
+closing-comes {xs} (Reads.string {zs} q s) d = sunken d d xs zs (λ k ys. sunk-before (λ zs. Balanced.string q)) (closing-comes s d)
+closing-comes {xs} (Reads.comment {zs} q s) d = sunken d d xs zs (λ k ys. sunk-before (λ zs. Balanced.comment q)) (closing-comes s d)
+closing-comes {xs} (Reads.text q) d = Outcome.text xs (d, sunk-none d xs) q
+closing-comes {xs} (Reads.remark q) d = Outcome.remark xs (d, sunk-none d xs) q
+
+-- from a `(`
+closes-comes : (t : List ℕ) → Outcome (Closes t) (λ o. (d : ℕ) × Deep d t o)
+closes-comes t = further (λ r s. deep-closes (sunk-deep s)) (λ o s. (s .0, sunk-deep (s .1))) (closing-comes (tokens t) 0)
+
+-- "The closing `)`": what is found is that
+pub closing-is : (c : ℕ) (t ys : List ℕ) → closing (c ∷ t) ≡ at ys → (r : List ℕ) × (ys ≡ 41 ∷ r) × Closes t r
+closing-is c t = found-is (closing (c ∷ t)) 41 6 (c ∷ t) (λ r. closing-only c) (λ o (d, h). closing-text-only c h)
+    (λ o (d, h). closing-remark-only c h) (λ (d, h). closing-over-only c h) (closes-comes t)
+
+-- refusals 3, 4 and 6 of a closing `)` say what they say
+pub closing-open : (c : ℕ) (t : List ℕ) (n : ℕ) (o : List ℕ) → closing (c ∷ t) ≡ fault n o
+    → ((n ≡ 4) × ((d : ℕ) × Deep d t o) × OpenText o) ⊎ (((n ≡ 3) × ((d : ℕ) × Deep d t o) × OpenRemark o) ⊎ ((n ≡ 6) × (o ≡ c ∷ t) × ((d : ℕ) × Deep d t [])))
+closing-open c t = fault-is (closing (c ∷ t)) 41 6 (c ∷ t) (λ r. closing-only c) (λ o (d, h). closing-text-only c h)
+    (λ o (d, h). closing-remark-only c h) (λ (d, h). closing-over-only c h) (closes-comes t)
+
+-- a `(` has at most one closing `)`
+pub closing-one : {t r s : List ℕ} → Closes t r → Closes t s → r ≡ s
+closing-one h k = cc (closing-only 40 h, closing-only 40 k)
