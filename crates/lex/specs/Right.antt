@@ -11,10 +11,11 @@ use lib.Dec.{eqb}
 use borrow.Author.Tests.{eqb-true, eqb-false, ne-eqb}
 use Rattle.lex.specs.Byte.{white}
 use Rattle.lex.specs.Walk.{walk}
-use Rattle.lex.specs.Search.{Sought, at, fault, Look, halt, look, semicolon, paren, missed, recordEnd, closing, triviaTurn, triviaEnd, trivia}
-use Rattle.lex.specs.Grammar.{Begins, Opens, Comment, Quotation, Trivia, Led, Runs, Ends, Balanced, Closes, Deep, OpenText, OpenRemark}
+use Rattle.lex.specs.Search.{Sought, at, fault, seen, Look, halt, look, semicolon, paren, missed, recordEnd, closing, triviaTurn, triviaEnd, trivia}
+use Rattle.lex.specs.Grammar.{Begins, Opens, Remarked, Comment, Quotation, Trivia, Led, Runs, Ends, Balanced, Closes, Deep, OpenText, OpenRemark}
 use Rattle.lex.specs.Local.{seek, seek-halts}
-use Rattle.lex.specs.declared.Mode.the-variants.{Plain, Slash, Remark, Starred}
+use Rattle.lex.specs.declared.Mode.the-variants.{Plain, Slash, Remark}
+use Rattle.lex.specs.declared.Mode.{Mode}
 pub mod Steps
 pub mod Tokens
 use Steps.{clash, Deaf, remark-shut, remark-open, Passing, plainly, byte-step, string-step, comment-step, text-stuck, remark-stuck}
@@ -238,3 +239,109 @@ closing-open c t = fault-is (closing (c ∷ t)) 41 6 (c ∷ t) (λ r. closing-on
 -- a `(` has at most one closing `)`
 pub closing-one : {t r s : List ℕ} → Closes t r → Closes t s → r ≡ s
 closing-one h k = cc (closing-only 40 h, closing-only 40 k)
+
+-- past trivia, from a mode
+abbrev past : Mode → List ℕ → List ℕ → Sought
+past m o xs = walk triviaTurn triviaEnd (seen m 0 o) xs
+
+-- where the last byte outside comments stood has no part in the answer
+past-any : (o p xs : List ℕ) → past Plain o xs ≡ past Plain p xs
+unfolding walk
+past-any o p [] = refl
+past-any o p (c ∷ r) = refl
+
+-- in a comment the search past trivia is deaf
+trivia-deaf : Deaf triviaTurn triviaEnd 0
+trivia-deaf = record { quiet = λ m o c r h. rw h; remark = λ o. refl; starred = λ o. refl }
+
+-- whitespace is passed over
+blank-step : (c : ℕ) (t : List ℕ) → white c ≡ true → trivia (c ∷ t) ≡ trivia t
+unfolding trivia walk
+blank-step c t h = rw h (past-any (c ∷ t) t t)
+
+-- a slash and a star open a comment
+past-start : (t : List ℕ) → trivia (47 ∷ 42 ∷ t) ≡ past Remark (47 ∷ 42 ∷ t) t
+unfolding trivia walk
+past-start t = refl
+
+-- a comment that ends
+past-shut : (o b r : List ℕ) → Remarked b → past Remark o (b ++ (42 ∷ 47 ∷ r)) ≡ trivia r
+unfolding trivia
+past-shut o b r h = remark-shut triviaTurn triviaEnd 0 trivia-deaf o b r h ∙ past-any o r r
+
+-- trivia is passed over
+trivia-step : {xs ys : List ℕ} → Trivia xs ys → trivia xs ≡ trivia ys
+trivia-step Trivia.none = refl
+trivia-step (Trivia.blank {c} {xs} h r) = blank-step c xs h ∙ trivia-step r
+trivia-step (Trivia.comment {zs} q r) = rw (q .shape) (past-start (q .body ++ (42 ∷ 47 ∷ zs)) ∙ past-shut _ (q .body) zs (q .first)) ∙ trivia-step r
+
+-- a slash that opens no comment is where the trivia ends
+slash-stops : (o t : List ℕ) → (Begins 42 t → ⊥) → past Slash o t ≡ at o
+unfolding walk
+slash-stops o [] h = refl
+slash-stops o (c ∷ r) h = rw (ne-eqb c 42 (λ e. h (r, cc)))
+
+-- where no trivia begins the search stops
+led-stops : (ys : List ℕ) → ((c : ℕ) → white c ≡ true → Begins c ys → ⊥) → (Opens ys → ⊥) → trivia ys ≡ at ys
+unfolding trivia walk
+led-stops [] h k = refl
+led-stops (c ∷ t) h k = go (white c) (eqb c 47) refl refl
+  where
+    go : (a b : Bool) → white c ≡ a → eqb c 47 ≡ b → trivia (c ∷ t) ≡ at (c ∷ t)
+    go true b p q = absurd (h c p (t, refl))
+    go false true p q = rw (p, q) (slash-stops (c ∷ t) t (λ (r, e). k (r, cc (eqb-true c 47 q))))
+    go false false p q = rw (p, q)
+
+-- "A record starts at the first non-trivia byte": where it starts, it is found
+pub trivia-only : {xs ys : List ℕ} → Led xs ys → trivia xs ≡ at ys
+trivia-only {ys} l = trivia-step (l .before) ∙ led-stops ys (l .unblank) (l .unopened)
+
+-- refusal 3, "comment open", at the comment's slash
+pub trivia-open-only : {xs o : List ℕ} → Trivia xs o → OpenRemark o → trivia xs ≡ fault 3 o
+trivia-open-only r q = let (t, e, h) = open-remark q in
+    trivia-step r ∙ rw e (past-start t ∙ remark-open triviaTurn triviaEnd 0 trivia-deaf (47 ∷ 42 ∷ t) t h)
+
+-- what becomes of the search past trivia: a byte that is none, or a comment that never ends
+abbrev Leads : List ℕ → Type 0
+Leads xs = ((ys : List ℕ) × Led xs ys) ⊎ ((o : List ℕ) × Trivia xs o × OpenRemark o)
+
+-- trivia may go before
+leads-before : {xs ts : List ℕ} → ((zs : List ℕ) → Trivia ts zs → Trivia xs zs) → Leads ts → Leads xs
+leads-before g (inl (ys, l)) = inl (ys, record { before = g ys (l .before); unblank = l .unblank; unopened = l .unopened })
+leads-before g (inr (o, r, q)) = inr (o, g o r, q)
+
+-- a byte that is none
+leads-here : (c : ℕ) (xs : List ℕ) → Begins c xs → white c ≡ false → (Opens xs → ⊥) → Leads xs
+leads-here c xs (t, e) h k = inl (xs, record { before = Trivia.none; unblank = λ b w (r, g). clash (cc); unopened = k })
+
+trivia-comes : {xs : List ℕ} → Reads xs → Leads xs
+trivia-comes Reads.end = inl ([], record { before = Trivia.none; unblank = λ c w (r, e). clash (cc); unopened = λ (r, e). clash (cc) })
+trivia-comes (Reads.byte {c} {t} h k s) = go (white c) refl (trivia-comes s)
+  where
+    go : (a : Bool) → white c ≡ a → Leads t → Leads (c ∷ t)
+    go true p u = leads-before (λ zs. Trivia.blank p) u
+    go false p u = leads-here c (c ∷ t) (t, refl) p k
+trivia-comes {xs} (Reads.string q s) = leads-here 39 xs (_, q .shape) refl (λ (r, e). eqb-false 39 47 refl (cc))
+trivia-comes (Reads.comment q s) = leads-before (λ zs. Trivia.comment q) (trivia-comes s)
+trivia-comes {xs} (Reads.text q) = leads-here 39 xs (q .0) refl (λ (r, e). eqb-false 39 47 refl (cc))
+trivia-comes {xs} (Reads.remark q) = inr (xs, Trivia.none, q)
+
+-- "A record starts at the first non-trivia byte": what is found is that
+pub trivia-is : (xs ys : List ℕ) → trivia xs ≡ at ys → Led xs ys
+trivia-is xs ys h = go (trivia-comes (tokens xs))
+  where
+    go : Leads xs → Led xs ys
+    go (inl (zs, l)) = let e : ys ≡ zs = cc (trivia-only l) in rw e l
+    go (inr (o, r, q)) = clash (cc (trivia-open-only r q))
+
+-- refusal 3 of trivia says what it says
+pub trivia-open : (xs o : List ℕ) (n : ℕ) → trivia xs ≡ fault n o → (n ≡ 3) × Trivia xs o × OpenRemark o
+trivia-open xs o n h = go (trivia-comes (tokens xs))
+  where
+    go : Leads xs → (n ≡ 3) × Trivia xs o × OpenRemark o
+    go (inl (zs, l)) = clash (cc (trivia-only l))
+    go (inr (p, r, q)) = let e : o ≡ p = cc (trivia-open-only r q) in (cc (trivia-open-only r q), rw e r, rw e q)
+
+-- trivia leads to at most one place
+pub trivia-one : {xs ys zs : List ℕ} → Led xs ys → Led xs zs → ys ≡ zs
+trivia-one h k = cc (trivia-only h, trivia-only k)
