@@ -10,8 +10,8 @@ use lib.ListN.{length}
 use Rattle.lex.specs.Byte.{pick, white}
 use Rattle.lex.specs.Walk.{Turn, stop, on, turned, walk}
 use Rattle.lex.specs.Lexer.{calm, next}
-use Rattle.lex.specs.Search.{Sought, at, fault, Seen, seen, Look, halt, look, semicolon, paren, looked, seekTurn, unclosed, missed, recordEnd, closing}
-use Rattle.lex.specs.Search.{lead, triviaTurn, trailed, triviaEnd, trivia}
+use Rattle.lex.specs.Search.{Sought, at, fault, Seen, seen, Look, halt, look, semicolon, paren, looked, seekTurn, unclosed, missed}
+use Rattle.lex.specs.Search.{recordEnd, closing, lead, triviaTurn, trailed, triviaEnd, trivia}
 use Rattle.lex.specs.declared.Mode.{Mode}
 use Rattle.lex.specs.declared.Mode.the-variants.{Plain, Slash, Text, Quoted, Remark, Starred}
 
@@ -61,18 +61,23 @@ stops-on f m k d e c t ys step s = record {
   local = λ z o r. let (p, q) = step z o (s .before ++ (s .byte ∷ r)) in cc (s .local z p r) }
 
 -- a search that stops is local
-pub seek-stops : (f : ℕ → ℕ → Look) (n : ℕ) (w : List ℕ) (m : Mode) (d : ℕ) (o xs ys : List ℕ) → seek f (missed n w) m d o xs ≡ at ys → Stops f m d xs ys
+pub seek-stops : (f : ℕ → ℕ → Look) (n : ℕ) (w : List ℕ) (m : Mode) (d : ℕ) (o xs ys : List ℕ)
+    → seek f (missed n w) m d o xs ≡ at ys → Stops f m d xs ys
 unfolding walk
 seek-stops f n w m d o [] ys h = let (k, p, e) = missed-fault n w m d o in let z : _≡_ {A = ℕ} 0 1 = cc in absurd (omega arith)
 seek-stops f n w m d o (c ∷ t) ys h = go (calm m c) (f d c) refl refl (λ k e p. seek-stops f n w k e p t ys)
   where
     go : (k : Bool) (l : Look) → calm m c ≡ k → f d c ≡ l
         → ((m : Mode) (d : ℕ) (o : List ℕ) → seek f (missed n w) m d o t ≡ at ys → Stops f m d t ys) → Stops f m d (c ∷ t) ys
-    go false l p q ih = stops-on f m (next m c) d d c t ys (λ z o r. (o, seek-within f z m d o c r p)) (ih (next m c) d o (rw (seek-within f _ m d o c t p) at h))
+    go false l p q ih =
+        stops-on f m (next m c) d d c t ys (λ z o r. (o, seek-within f z m d o c r p))
+        (ih (next m c) d o (rw (seek-within f _ m d o c t p) at h))
     go true halt p q ih = record {
-      before = []; byte = c; after = t; rest = cc (seek-halts f (missed n w) m d o c t p q); splits = refl; local = λ z o r. seek-halts f z m d o c r p q }
+      before = []; byte = c; after = t; rest = cc (seek-halts f (missed n w) m d o c t p q); splits = refl;
+      local = λ z o r. seek-halts f z m d o c r p q }
     go true (look e) p q ih =
-        stops-on f m (next m c) d e c t ys (λ z o r. (c ∷ r, seek-past f z m d o c r e p q)) (ih (next m c) e (c ∷ t) (rw (seek-past f _ m d o c t e p q) at h))
+        stops-on f m (next m c) d e c t ys (λ z o r. (c ∷ r, seek-past f z m d o c r e p q))
+        (ih (next m c) e (c ∷ t) (rw (seek-past f _ m d o c t e p q) at h))
 
 -- "ends at the first `;` outside strings and comments": what follows the `;` has no part in where it is found
 pub end-local : (xs r : List ℕ) → recordEnd xs ≡ at (59 ∷ r)

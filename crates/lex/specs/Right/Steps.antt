@@ -7,16 +7,15 @@ use mathlib.Core.List.{List, [], _∷_, _++_, append-nil}
 use native.Mathlib.Omega.{arith}
 use lib.Dec.{eqb}
 use borrow.Author.Tests.{eqb-true, eqb-false, ne-eqb}
-use Rattle.lex.specs.Byte.{pick}
-use Rattle.lex.specs.Walk.{Turn, stop, on, turned, walk}
+use Rattle.lex.specs.Walk.{Turn, on, walk}
 use Rattle.lex.specs.Lexer.{calm, fresh, next}
-use Rattle.lex.specs.Search.{Sought, at, fault, Seen, seen, Look, halt, look, seekTurn, missed}
+use Rattle.lex.specs.Search.{Sought, at, fault, Seen, seen, Look, look, seekTurn, missed}
 use Rattle.lex.specs.Grammar.{Begins, Opens, Remarked, Comment, Inside, Quotation}
-use Rattle.lex.specs.Local.{seek, seek-within, seek-past, seek-halts}
+use Rattle.lex.specs.Local.{seek, seek-within, seek-past}
 use Rattle.lex.specs.declared.Mode.{Mode}
 use Rattle.lex.specs.declared.Mode.the-variants.{Plain, Slash, Text, Quoted, Remark, Starred}
 
--- nothing holds where two numbers that differ are equal
+-- two numbers that differ are not equal
 pub clash : {A : Type 0} → _≡_ {A = ℕ} 0 1 → A
 clash e = absurd (omega arith)
 
@@ -28,6 +27,7 @@ Pair a b xs = (r : List ℕ) × (xs ≡ a ∷ b ∷ r)
 abbrev pub Starless : List ℕ → Type 0
 Starless xs = (u v : List ℕ) → xs ≡ u ++ (42 ∷ 47 ∷ v) → ⊥
 
+-- nor in what follows its first byte
 pub starless-tail : (c : ℕ) (xs : List ℕ) → Starless (c ∷ xs) → Starless xs
 starless-tail c xs h u v e = h (c ∷ u) v (cc)
 

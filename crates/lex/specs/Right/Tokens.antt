@@ -1,19 +1,16 @@
 -- Every list of bytes reads as tokens: bytes outside, whole strings and whole comments, up to its end or to a string or a comment
 -- that never ends. Assumes nothing.
 use Prim.Native.Nat.{ℕ, zero, suc, _≤_, _<_}
-use mathlib.Core.Path.{_≡_, refl, sym, _∙_, ap}
+use mathlib.Core.Path.{_≡_, refl, ap}
 use mathlib.Core.Logic.{_⊎_, inl, inr}
 use mathlib.Core.List.{List, [], _∷_, _++_}
 use native.Mathlib.Omega.{arith}
 use native.Mathlib.Decide.{ℕ-discrete}
 use lib.ListN.{length, length-append}
-use borrow.Author.Tests.{eqb-false}
-use Rattle.lex.specs.Search.{Sought, at, fault, Look, halt}
+use Rattle.lex.specs.Search.{Look, halt}
 use Rattle.lex.specs.Walk.{walk}
-use Rattle.lex.specs.Local.{seek-halts}
 use Rattle.lex.specs.Grammar.{Begins, Opens, Remarked, Comment, Inside, Quotation, OpenText, OpenRemark}
-use Rattle.lex.specs.Right.Steps.{clash, Pair, Starless, starless-tail, pair-swap, text-shut, text-open}
-use Rattle.lex.specs.declared.Mode.the-variants.{Plain, Text}
+use Rattle.lex.specs.Right.Steps.{clash, Pair, Starless, pair-swap, text-shut, text-open}
 
 -- whether the list begins with this byte
 begins : (a : ℕ) (xs : List ℕ) → Dec (Begins a xs)
@@ -39,11 +36,12 @@ starless-cons : (c : ℕ) (xs : List ℕ) → (Pair 42 47 (c ∷ xs) → ⊥) �
 starless-cons c xs h k [] v e = h (v, e)
 starless-cons c xs h k (x ∷ u) v e = k u v (cc)
 
+-- no byte, no `*/`
 starless-nil : Starless []
 starless-nil [] v e = clash (cc)
 starless-nil (x ∷ u) v e = clash (cc)
 
--- a comment's inside ends, and something follows
+-- a comment's inside ends at the first `*/`, and rest follows
 record Shut (t : List ℕ) : Type 0 where
   body : List ℕ
   rest : List ℕ
@@ -62,7 +60,7 @@ remark-ends (c ∷ t) = go (pair 42 47 (c ∷ t)) (remark-ends t)
       first = starless-cons c (s .body ++ (42 ∷ [])) (λ p. h (rw (s .shape) (pair-swap c (s .body) [] (47 ∷ s .rest) p))) (s .first) })
     go (no h) (inr k) = inr (starless-cons c t h k)
 
--- a string's inside ends, and something follows that is no quote
+-- a string's inside ends at a quote, and rest follows, which begins with none
 record Closed (t : List ℕ) : Type 0 where
   body : List ℕ
   rest : List ℕ
