@@ -57,8 +57,13 @@ missed-fault n w Starred d o = (3, o, refl)
 stops-on : (f : ℕ → ℕ → Look) (m k : Mode) (d e c : ℕ) (t ys : List ℕ)
     → ((z : Seen → Sought) (o r : List ℕ) → (p : List ℕ) × (seek f z m d o (c ∷ r) ≡ seek f z k e p r)) → Stops f k e t ys → Stops f m d (c ∷ t) ys
 stops-on f m k d e c t ys step s = record {
-  before = c ∷ s .before; byte = s .byte; after = s .after; rest = s .rest; splits = cc;
-  local = λ z o r. let (p, q) = step z o (s .before ++ (s .byte ∷ r)) in cc (s .local z p r) }
+  before = c ∷ s .before;
+  byte = s .byte;
+  after = s .after;
+  rest = s .rest;
+  splits = cc;
+  local = λ z o r. let (p, q) = step z o (s .before ++ (s .byte ∷ r)) in cc (s .local z p r);
+}
 
 -- a search that stops is local
 pub seek-stops : (f : ℕ → ℕ → Look) (n : ℕ) (w : List ℕ) (m : Mode) (d : ℕ) (o xs ys : List ℕ)
@@ -73,8 +78,13 @@ seek-stops f n w m d o (c ∷ t) ys h = go (calm m c) (f d c) refl refl (λ k e 
         stops-on f m (next m c) d d c t ys (λ z o r. (o, seek-within f z m d o c r p))
         (ih (next m c) d o (rw (seek-within f _ m d o c t p) at h))
     go true halt p q ih = record {
-      before = []; byte = c; after = t; rest = cc (seek-halts f (missed n w) m d o c t p q); splits = refl;
-      local = λ z o r. seek-halts f z m d o c r p q }
+      before = [];
+      byte = c;
+      after = t;
+      rest = cc (seek-halts f (missed n w) m d o c t p q);
+      splits = refl;
+      local = λ z o r. seek-halts f z m d o c r p q;
+    }
     go true (look e) p q ih =
         stops-on f m (next m c) d e c t ys (λ z o r. (c ∷ r, seek-past f z m d o c r e p q))
         (ih (next m c) e (c ∷ t) (rw (seek-past f _ m d o c t e p q) at h))

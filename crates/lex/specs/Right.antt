@@ -204,7 +204,12 @@ end-comes {xs} (Reads.remark q) = Outcome.remark xs Runs.none q
 -- each way it comes out, with its answer
 end-answers : (xs : List ℕ) → Answers (recordEnd xs) 59 5 xs (Ends xs) (Runs xs)
 end-answers xs = record {
-  comes = end-comes (tokens xs); founds = λ r. end-only; texts = λ o. end-text-only; remarks = λ o. end-remark-only; overs = end-over-only }
+  comes = end-comes (tokens xs);
+  founds = λ r. end-only;
+  texts = λ o. end-text-only;
+  remarks = λ o. end-remark-only;
+  overs = end-over-only;
+}
 
 -- "ends at the first `;` outside strings and comments": what is found is that
 pub end-is : (xs ys : List ℕ) → recordEnd xs ≡ at ys → (r : List ℕ) × (ys ≡ 59 ∷ r) × Ends xs r
@@ -332,8 +337,12 @@ closes-comes t = further (λ r s. deep-closes (sunk-deep s)) (λ o s. (s .0, sun
 -- each way it comes out, with its answer
 closing-answers : (c : ℕ) (t : List ℕ) → Answers (closing (c ∷ t)) 41 6 (c ∷ t) (Closes t) (λ o. (d : ℕ) × Deep d t o)
 closing-answers c t = record {
-  comes = closes-comes t; founds = λ r. closing-only c; texts = λ o (d, h). closing-text-only c h;
-  remarks = λ o (d, h). closing-remark-only c h; overs = λ (d, h). closing-over-only c h }
+  comes = closes-comes t;
+  founds = λ r. closing-only c;
+  texts = λ o (d, h). closing-text-only c h;
+  remarks = λ o (d, h). closing-remark-only c h;
+  overs = λ (d, h). closing-over-only c h;
+}
 
 -- "The closing `)`": what is found is that
 pub closing-is : (c : ℕ) (t ys : List ℕ) → closing (c ∷ t) ≡ at ys → (r : List ℕ) × (ys ≡ 41 ∷ r) × Closes t r

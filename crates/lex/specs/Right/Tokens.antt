@@ -56,8 +56,11 @@ remark-ends (c ∷ t) = go (pair 42 47 (c ∷ t)) (remark-ends t)
     go : Dec (Pair 42 47 (c ∷ t)) → Shut t ⊎ Starless t → Shut (c ∷ t) ⊎ Starless (c ∷ t)
     go (yes (r, e)) k = inl (record { body = []; rest = r; first = starless-cons 42 [] (λ (v, g). clash (cc)) starless-nil; shape = e })
     go (no h) (inl s) = inl (record {
-      body = c ∷ s .body; rest = s .rest; shape = cc;
-      first = starless-cons c (s .body ++ (42 ∷ [])) (λ p. h (rw (s .shape) (pair-swap c (s .body) [] (47 ∷ s .rest) p))) (s .first) })
+      body = c ∷ s .body;
+      rest = s .rest;
+      shape = cc;
+      first = starless-cons c (s .body ++ (42 ∷ [])) (λ p. h (rw (s .shape) (pair-swap c (s .body) [] (47 ∷ s .rest) p))) (s .first);
+    })
     go (no h) (inr k) = inr (starless-cons c t h k)
 
 -- a string's inside ends at a quote, and rest follows, which begins with none
