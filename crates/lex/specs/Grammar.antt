@@ -2,7 +2,7 @@
 -- a grammar that name no loop. A rule speaks of a list of bytes, xs, and of the rest that is left of it.
 -- Right.antt shows that the searches of Search.antt find just these, and that there is no other.
 -- Assumes nothing.
-use Prim.Native.Nat.{ℕ}
+use Prim.Native.Nat.{ℕ, suc}
 use mathlib.Core.Path.{_≡_}
 use mathlib.Core.Bool.{Bool, true, false}
 use mathlib.Core.List.{List, [], _∷_, _++_}
@@ -73,6 +73,12 @@ pub data Balanced : List ℕ → List ℕ → Type 0 where
 -- "The closing `)`" of a `(`: xs follows the `(`, balanced bytes lead up to the `)`, and r follows it
 abbrev pub Closes : List ℕ → List ℕ → Type 0
 Closes xs r = Balanced xs (41 ∷ r)
+
+-- from xs up to ys all strings and comments are whole, and d parentheses are open that were opened on the way: balanced bytes
+-- and a `(` for each of them, and balanced bytes again
+pub data Deep : ℕ → List ℕ → List ℕ → Type 0 where
+  flat : {xs ys : List ℕ} → Balanced xs ys → Deep 0 xs ys
+  nested : {d : ℕ} {xs zs ys : List ℕ} → Balanced xs (40 ∷ zs) → Deep d zs ys → Deep (suc d) xs ys
 
 -- refusal 4, "string open": a string opens here, and none ends
 abbrev pub OpenText : List ℕ → Type 0

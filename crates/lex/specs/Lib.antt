@@ -4,3 +4,5 @@ pub mod Lexer
 pub mod Search
 pub mod Seek
 pub mod Grammar
+pub mod Local
+pub mod Right

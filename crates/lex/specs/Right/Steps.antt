@@ -1,0 +1,158 @@
+-- What a byte outside, a whole string, a whole comment and one that never ends do to a search, over every search.
+-- Assumes nothing.
+use Prim.Native.Nat.{ℕ}
+use mathlib.Core.Path.{_≡_, refl, sym, _∙_}
+use mathlib.Core.Bool.{Bool, true, false}
+use mathlib.Core.List.{List, [], _∷_, _++_, append-nil}
+use native.Mathlib.Omega.{arith}
+use lib.Dec.{eqb}
+use borrow.Author.Tests.{eqb-true, eqb-false, ne-eqb}
+use Rattle.lex.specs.Walk.{Turn, on, walk}
+use Rattle.lex.specs.Lexer.{calm, fresh, next}
+use Rattle.lex.specs.Search.{Sought, at, fault, Seen, seen, Look, look, seekTurn, missed}
+use Rattle.lex.specs.Grammar.{Begins, Opens, Remarked, Comment, Inside, Quotation}
+use Rattle.lex.specs.Local.{seek, seek-within, seek-past}
+use Rattle.lex.specs.declared.Mode.{Mode}
+use Rattle.lex.specs.declared.Mode.the-variants.{Plain, Slash, Text, Quoted, Remark, Starred}
+
+-- two numbers that differ are not equal
+pub clash : {A : Type 0} → _≡_ {A = ℕ} 0 1 → A
+clash e = absurd (omega arith)
+
+-- the list begins with these two bytes
+abbrev pub Pair : ℕ → ℕ → List ℕ → Type 0
+Pair a b xs = (r : List ℕ) × (xs ≡ a ∷ b ∷ r)
+
+-- no `*/` in the list
+abbrev pub Starless : List ℕ → Type 0
+Starless xs = (u v : List ℕ) → xs ≡ u ++ (42 ∷ 47 ∷ v) → ⊥
+
+-- nor in what follows its first byte
+pub starless-tail : (c : ℕ) (xs : List ℕ) → Starless (c ∷ xs) → Starless xs
+starless-tail c xs h u v e = h (c ∷ u) v (cc)
+
+-- where a `*/` begins has to do with two bytes alone
+pub pair-swap : (c : ℕ) (b x y : List ℕ) → Pair 42 47 (c ∷ (b ++ (42 ∷ x))) → Pair 42 47 (c ∷ (b ++ (42 ∷ y)))
+pair-swap c [] x y (r, e) = absurd (eqb-false 42 47 refl (cc))
+pair-swap c (a ∷ b) x y (r, e) = (b ++ (42 ∷ y), cc)
+
+-- in a comment a search is deaf: it goes on with the same state but for the mode, and refuses at the file's end
+pub record Deaf (t : Seen → ℕ → List ℕ → Turn Seen Sought) (z : Seen → Sought) (d : ℕ) : Type 0 where
+  pub quiet : (m : Mode) (o : List ℕ) (c : ℕ) (r : List ℕ) → calm m c ≡ false → t (seen m d o) c r ≡ on (seen (next m c) d o)
+  pub remark : (o : List ℕ) → z (seen Remark d o) ≡ fault 3 o
+  pub starred : (o : List ℕ) → z (seen Starred d o) ≡ fault 3 o
+
+module _ (t : Seen → ℕ → List ℕ → Turn Seen Sought) (z : Seen → Sought) (d : ℕ) (deaf : Deaf t z d) (o : List ℕ) where
+  -- a star that no slash follows
+  unstarred : (xs : List ℕ) → (Begins 47 xs → ⊥) → walk t z (seen Starred d o) xs ≡ walk t z (seen Remark d o) xs
+  unfolding walk
+  unstarred [] h = deaf .starred o ∙ sym (deaf .remark o)
+  unstarred (c ∷ r) h = rw (deaf .quiet Starred o c r refl, deaf .quiet Remark o c r refl, ne-eqb c 47 (λ e. h (r, cc)))
+
+  -- a byte in a comment at which no `*/` begins
+  remark-step : (c : ℕ) (xs : List ℕ) → (Pair 42 47 (c ∷ xs) → ⊥) → walk t z (seen Remark d o) (c ∷ xs) ≡ walk t z (seen Remark d o) xs
+  unfolding walk
+  remark-step c xs h = go (eqb c 42) refl
+    where
+      go : (k : Bool) → eqb c 42 ≡ k → walk t z (seen Remark d o) (c ∷ xs) ≡ walk t z (seen Remark d o) xs
+      go true e = rw (deaf .quiet Remark o c xs refl, e) (unstarred xs (λ (r, g). h (r, cc (eqb-true c 42 e))))
+      go false e = rw (deaf .quiet Remark o c xs refl, e)
+
+  -- a comment that ends
+  pub remark-shut : (b r : List ℕ) → Remarked b → walk t z (seen Remark d o) (b ++ (42 ∷ 47 ∷ r)) ≡ walk t z (seen Plain d o) r
+  unfolding walk
+  remark-shut [] r h = rw (deaf .quiet Remark o 42 (47 ∷ r) refl, deaf .quiet Starred o 47 r refl)
+  remark-shut (c ∷ b) r h =
+      remark-step c (b ++ (42 ∷ 47 ∷ r)) (λ p. let (v, e) = pair-swap c b (47 ∷ r) [] p in h [] v e)
+      ∙ remark-shut b r (starless-tail c (b ++ (42 ∷ [])) h)
+
+  -- a comment that never ends
+  pub remark-open : (xs : List ℕ) → Starless xs → walk t z (seen Remark d o) xs ≡ fault 3 o
+  unfolding walk
+  remark-open [] h = deaf .remark o
+  remark-open (c ∷ xs) h = remark-step c xs (λ (v, e). h [] v e) ∙ remark-open xs (starless-tail c xs h)
+
+-- a search passes over strings and comments: neither the quote that opens one nor the slash changes its depth
+pub record Passing (f : ℕ → ℕ → Look) : Type 0 where
+  pub quote : (d : ℕ) → f d 39 ≡ look d
+  pub slash : (d : ℕ) → f d 47 ≡ look d
+
+-- a search outside strings and comments, with d open parentheses; without what it seeks, refusal n at w
+abbrev pub plainly : (ℕ → ℕ → Look) → ℕ → List ℕ → ℕ → List ℕ → Sought
+plainly f n w d xs = seek f (missed n w) Plain d xs xs
+
+module _ (f : ℕ → ℕ → Look) (n : ℕ) (w : List ℕ) where
+  -- outside strings and comments, where the last byte outside stood has no part in the answer
+  unopened : (d : ℕ) (o p xs : List ℕ) → seek f (missed n w) Plain d o xs ≡ seek f (missed n w) Plain d p xs
+  unfolding walk
+  unopened d o p [] = refl
+  unopened d o p (c ∷ r) = refl
+
+  -- a slash that no star follows
+  unslashed : (d : ℕ) (o p xs : List ℕ) → (Begins 42 xs → ⊥) → seek f (missed n w) Slash d o xs ≡ seek f (missed n w) Plain d p xs
+  unfolding walk
+  unslashed d o p [] h = refl
+  unslashed d o p (c ∷ r) h = rw (ne-eqb c 42 (λ e. h (r, cc)))
+
+  -- a quote that no quote follows
+  unquoted : (d : ℕ) (o p xs : List ℕ) → (Begins 39 xs → ⊥) → seek f (missed n w) Quoted d o xs ≡ seek f (missed n w) Plain d p xs
+  unfolding walk
+  unquoted d o p [] h = refl
+  unquoted d o p (c ∷ r) h = rw (ne-eqb c 39 (λ e. h (r, cc)))
+
+  -- the inside of a string
+  inside-step : (d : ℕ) (o ys : List ℕ) {b : List ℕ} → Inside b → seek f (missed n w) Text d o (b ++ ys) ≡ seek f (missed n w) Text d o ys
+  unfolding walk
+  inside-step d o ys Inside.none = refl
+  inside-step d o ys (Inside.other {c} h i) = rw (ne-eqb c 39 h) (inside-step d o ys i)
+  inside-step d o ys (Inside.doubled i) = inside-step d o ys i
+
+  -- a string that ends
+  pub text-shut : (d : ℕ) (o p r : List ℕ) {b : List ℕ} → Inside b → (Begins 39 r → ⊥)
+      → seek f (missed n w) Text d o (b ++ (39 ∷ r)) ≡ seek f (missed n w) Plain d p r
+  text-shut d o p r i h = inside-step d o (39 ∷ r) i ∙ seek-within f (missed n w) Text d o 39 r refl ∙ unquoted d o p r h
+
+  -- a string that never ends
+  pub text-open : (d : ℕ) (o : List ℕ) {b : List ℕ} → Inside b → seek f (missed n w) Text d o b ≡ fault 4 o
+  unfolding walk
+  text-open d o {b} i = rw (append-nil b) at (inside-step d o [] i)
+
+  -- in a comment a search is deaf
+  seek-deaf : (d : ℕ) → Deaf (seekTurn f) (missed n w) d
+  seek-deaf d = record { quiet = λ m o c r h. rw h; remark = λ o. refl; starred = λ o. refl }
+
+  -- a byte that opens no string and no comment
+  pub byte-step : (d e c : ℕ) (t : List ℕ) → (c ≡ 39 → ⊥) → (Opens (c ∷ t) → ⊥) → f d c ≡ look e
+      → plainly f n w d (c ∷ t) ≡ plainly f n w e t
+  byte-step d e c t h k l = seek-past f (missed n w) Plain d (c ∷ t) c t e refl l ∙ go (eqb c 47) refl
+    where
+      go : (b : Bool) → eqb c 47 ≡ b → seek f (missed n w) (fresh c) e (c ∷ t) t ≡ plainly f n w e t
+      go true p = rw (ne-eqb c 39 h, p) (unslashed e (c ∷ t) t t (λ (r, g). k (r, cc (eqb-true c 47 p))))
+      go false p = rw (ne-eqb c 39 h, p) (unopened e (c ∷ t) t t)
+
+  module _ (passing : Passing f) (d : ℕ) where
+    -- a quote opens a string
+    text-start : (t : List ℕ) → plainly f n w d (39 ∷ t) ≡ seek f (missed n w) Text d (39 ∷ t) t
+    text-start t = seek-past f (missed n w) Plain d (39 ∷ t) 39 t d refl (passing .quote d)
+
+    -- a slash and a star open a comment
+    remark-start : (t : List ℕ) → plainly f n w d (47 ∷ 42 ∷ t) ≡ seek f (missed n w) Remark d (47 ∷ 42 ∷ t) t
+    remark-start t = seek-past f (missed n w) Plain d (47 ∷ 42 ∷ t) 47 (42 ∷ t) d refl (passing .slash d)
+        ∙ seek-within f (missed n w) Slash d (47 ∷ 42 ∷ t) 42 t refl
+
+    -- a whole string
+    pub string-step : {xs zs : List ℕ} → Quotation xs zs → plainly f n w d xs ≡ plainly f n w d zs
+    string-step {zs} q = rw (q .shape) (text-start (q .body ++ (39 ∷ zs)) ∙ text-shut d _ zs zs (q .inside) (q .single))
+
+    -- a whole comment
+    pub comment-step : {xs zs : List ℕ} → Comment xs zs → plainly f n w d xs ≡ plainly f n w d zs
+    comment-step {zs} q = rw (q .shape) (remark-start (q .body ++ (42 ∷ 47 ∷ zs))
+        ∙ remark-shut (seekTurn f) (missed n w) d (seek-deaf d) _ (q .body) zs (q .first) ∙ unopened d _ zs zs)
+
+    -- a string that never ends
+    pub text-stuck : (t : List ℕ) → Inside t → plainly f n w d (39 ∷ t) ≡ fault 4 (39 ∷ t)
+    text-stuck t i = text-start t ∙ text-open d (39 ∷ t) i
+
+    -- a comment that never ends
+    pub remark-stuck : (t : List ℕ) → Starless t → plainly f n w d (47 ∷ 42 ∷ t) ≡ fault 3 (47 ∷ 42 ∷ t)
+    remark-stuck t h = remark-start t ∙ remark-open (seekTurn f) (missed n w) d (seek-deaf d) (47 ∷ 42 ∷ t) t h
