@@ -78,7 +78,11 @@ fn next_mode(m: Mode, b: u8) -> Mode
         Mode::Text => either(b == b'\'', Mode::Quoted, Mode::Text),
         Mode::Quoted => either(b == b'\'', Mode::Text, fresh_mode(b)),
         Mode::Remark => either(b == b'*', Mode::Starred, Mode::Remark),
-        Mode::Starred => either(b == b'/', Mode::Plain, either(b == b'*', Mode::Starred, Mode::Remark)),
+        Mode::Starred => either(
+            b == b'/',
+            Mode::Plain,
+            either(b == b'*', Mode::Starred, Mode::Remark),
+        ),
     }
 }
 

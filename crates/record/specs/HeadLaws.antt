@@ -12,8 +12,8 @@ use lib.ListN.{length, take, drop, getD, length-drop, length-take, length-map}
 use lib.Seq.{take-all}
 use Rattle.lex.specs.Byte.{pick, white, place, place-drop}
 use Rattle.lex.specs.Walk.{split, drop-end}
-use Rattle.record.specs.Text.{past, Digits, digits, numberFrom, Keyed, opened, unopened, keyword}
-use Rattle.record.specs.Word.{same, upper, isWord, dataWord, opens, opensData}
+use Rattle.record.specs.Text.{past, Digits, digits, numberFrom, Keyed, opened, unopened, keyword, trail}
+use Rattle.record.specs.Word.{same, upper, isWord, dataWord, opens, opensData, trimmed}
 use Rattle.record.specs.Turns.{same-lengths}
 use Rattle.record.specs.Head.{valueHead, equalHead, dataHead, headerHead, namedHead, keyedHead}
 use Rattle.record.specs.declared.Head.{Head}
@@ -99,3 +99,44 @@ module _ (b : List ℕ) (h : 0 < length b) where
       go (c ∷ r) k h q z =
           let f : length (drop p (c ∷ r)) ≡ length r → ⊥ = λ e. omega (arith, length-drop p (c ∷ r)) in
           rw (eq-eqb c 35 k, q, le-ltb _ _ m, ne-eqb (length (drop p (c ∷ r))) (length r) f) refl
+
+-- a text of the word's length and with its first bytes is the word; any other is not
+data-short : (t : List ℕ) → (length t ≡ 4 → ⊥) → isWord t dataWord ≡ false
+data-short t h = same-lengths (map upper t) dataWord (λ e. h (sym (length-map t upper) ∙ e))
+
+pub opens-short : (t : List ℕ) → length t < 4 → false ≡ opensData t
+opens-short t h =
+    let a : take 4 t ≡ t = take-all 4 t (omega arith) in
+    rw (a, data-short t (omega arith)) refl
+
+pub opens-other : (t : List ℕ) → false ≡ isWord (take 4 t) dataWord → false ≡ opensData t
+opens-other t e = go (ℕ-discrete (length t) 4)
+  where
+    go : Dec (length t ≡ 4) → false ≡ opensData t
+    go (yes h) =
+        let a : take 4 t ≡ t = take-all 4 t (omega arith) in
+        let f : isWord t dataWord ≡ false = rw a at (sym e) in
+        rw (a, f) refl
+    go (no h) = rw (data-short t h, sym e) refl
+
+pub opens-after : (t : List ℕ) (p : ℕ) → true ≡ isWord (take 4 t) dataWord → 4 ≤ p → drop p t ≡ past white (drop 4 t) → p < length t → eqb (getD t p 0) 40 ≡ opensData t
+opens-after t p e h q k = rw (data-short t (omega arith), sym e, ← q, split t p k) refl
+
+pub opens-alone : (t : List ℕ) (p : ℕ) → true ≡ isWord (take 4 t) dataWord → drop p t ≡ past white (drop 4 t) → length t ≤ p → eqb (length t) 4 ≡ opensData t
+opens-alone t p e q k = go (ℕ-discrete (length t) 4)
+  where
+    none : drop p t ≡ []
+    none = drop-end t p k
+
+    go : Dec (length t ≡ 4) → eqb (length t) 4 ≡ opensData t
+    go (yes h) =
+        let a : take 4 t ≡ t = take-all 4 t (omega arith) in
+        let f : isWord t dataWord ≡ true = rw a at (sym e) in
+        rw (eq-eqb _ _ h, f) refl
+    go (no h) = rw (ne-eqb _ _ h, data-short t h, sym e, ← q, none) refl
+
+-- the trimmed text is the part from its first byte that is not white to the last
+pub trimmed-at : (b : List ℕ) (a e : ℕ) → drop a b ≡ past white b → drop e b ≡ trail (drop a b) → a ≤ e → e ≤ length b → take (e - a) (drop a b) ≡ trimmed b
+trimmed-at b a e p q h k =
+    let n : e - a ≡ length (drop a b) - length (drop e b) = omega (arith, length-drop a b, length-drop e b) in
+    rw (← p, ← q) (ap (λ (m : ℕ). take m (drop a b)) n)

@@ -33,6 +33,7 @@ pub enum Head {
 fn past_space(b: &[u8], from: usize) -> usize
     requires { ⌜ from ≤ length (now b) ⌝ }
     ensures { λ r. ⌜ drop r (now (b .entry)) ≡ past white (drop from (now (b .entry))) ⌝ }
+    ensures { λ r. ⌜ from ≤ r ⌝ }
     ensures { λ r. ⌜ r ≤ length (now (b .entry)) ⌝ }
 {
     let mut i = from;

@@ -78,10 +78,16 @@ loop-again c = let t = c .before .before .before .before .before in
     let s = now (t .before .before .before .args .s) in
     let i = t .loop .i in
     ⊎-elim
-    (λ w. (omega arith, seek-looks semicolon (missed 5 (drop (t .before .within .result) s)) s i (omega arith) (t .loop .m) 0 (t .loop .since) _ _ 0 _
-    (sym (c .before .before .is-calm .ensures) ∙ w .0 .taken) (simp (ne-eqb _ _ (w .1 .left))) (c .next-mode .ensures) (w .2) (t .loop .inv .1)))
-    (λ w. (omega arith, seek-passes semicolon (missed 5 (drop (t .before .within .result) s)) s i (omega arith) (t .loop .m) 0 (t .loop .since) _ _ _
-    (sym (c .before .before .is-calm .ensures) ∙ w .0 .left) (c .next-mode .ensures) (w .1) (t .loop .inv .1)))
+    (λ w. (
+      omega arith,
+      seek-looks semicolon (missed 5 (drop (t .before .within .result) s)) s i (omega arith) (t .loop .m) 0 (t .loop .since) _ _ 0 _
+          (sym (c .before .before .is-calm .ensures) ∙ w .0 .taken) (simp (ne-eqb _ _ (w .1 .left))) (c .next-mode .ensures) (w .2) (t .loop .inv .1),
+    ))
+    (λ w. (
+      omega arith,
+      seek-passes semicolon (missed 5 (drop (t .before .within .result) s)) s i (omega arith) (t .loop .m) 0 (t .loop .since) _ _ _
+          (sym (c .before .before .is-calm .ensures) ∙ w .0 .left) (c .next-mode .ensures) (w .1) (t .loop .inv .1),
+    ))
     (c .before .if1 .came)
 
 -- src/lib.rt:126:20

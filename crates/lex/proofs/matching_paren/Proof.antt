@@ -50,7 +50,7 @@ loop-holds c = let s = now (c .before .before .before .args .s) in
     let p = c .before .before .before .args .opening in
     let e : drop (c .before .within .result) s ≡ drop p s = ap (λ (k : ℕ). drop k s) (c .before .within .ensures) ∙ drop-within s p in
     let f : drop (c .within2 .result) s ≡ drop 1 (drop (c .before .within .result) s) =
-        ap (λ (k : ℕ). drop k s) (c .within2 .ensures) ∙ drop-within s (c .before .within .result + 1) ∙ sym (drop-drop 1 (c .before .within .result) s) in
+    ap (λ (k : ℕ). drop k s) (c .within2 .ensures) ∙ drop-within s (c .before .within .result + 1) ∙ sym (drop-drop 1 (c .before .within .result) s) in
     (omega (arith, c .within2 .ensures), omega arith, rw f (ap closing e))
 
 -- src/lib.rt:161:17
@@ -102,13 +102,20 @@ loop-again c = let t = c .before .before .before .before .before in
     let z = missed 6 (drop (t .before .before .within .result) s) in
     ⊎-elim
     (λ w.
-      let e : paren (t .loop .depth) (getD s (t .loop .i) 0) ≡ look (c .before .if1 .depth) =
-          sym (w .1 .ensures) ∙ ap lookOf (w .3 .given .1) ∙ ap look (sym (w .6)) in
-      let up = paren-up (t .loop .depth) (getD s (t .loop .i) 0) (c .before .if1 .depth) e in
-      (omega arith, omega arith, seek-looks paren z s (t .loop .i) (omega arith) (t .loop .m) (t .loop .depth) (t .loop .since) _ _ _ _
-      (sym (c .before .before .is-calm .ensures) ∙ w .0 .taken) e (c .next-mode .ensures) (w .5) (t .loop .inv .2)))
-    (λ w. (omega arith, omega arith, rw (w .2) (seek-passes paren z s (t .loop .i) (omega arith) (t .loop .m) (t .loop .depth) (t .loop .since) _ _ _
-    (sym (c .before .before .is-calm .ensures) ∙ w .0 .left) (c .next-mode .ensures) (w .1) (t .loop .inv .2))))
+    let e : paren (t .loop .depth) (getD s (t .loop .i) 0) ≡ look (c .before .if1 .depth) =
+    sym (w .1 .ensures) ∙ ap lookOf (w .3 .given .1) ∙ ap look (sym (w .6)) in
+    let up = paren-up (t .loop .depth) (getD s (t .loop .i) 0) (c .before .if1 .depth) e in (
+      omega arith,
+      omega arith,
+      seek-looks paren z s (t .loop .i) (omega arith) (t .loop .m) (t .loop .depth) (t .loop .since) _ _ _ _
+          (sym (c .before .before .is-calm .ensures) ∙ w .0 .taken) e (c .next-mode .ensures) (w .5) (t .loop .inv .2),
+    ))
+    (λ w. (
+      omega arith,
+      omega arith,
+      rw (w .2) (seek-passes paren z s (t .loop .i) (omega arith) (t .loop .m) (t .loop .depth) (t .loop .since) _ _ _
+          (sym (c .before .before .is-calm .ensures) ∙ w .0 .left) (c .next-mode .ensures) (w .1) (t .loop .inv .2)),
+    ))
     (c .before .if1 .came)
 
 -- src/lib.rt:172:20

@@ -87,10 +87,16 @@ loop-again : tie.Need-loop-again Inv-loop μ-loop
 loop-again c = let t = c .before .before .before .before in
     let s = now (t .before .before .before .args .s) in
     ⊎-elim
-    (λ w. (omega arith, trivia-goes s (t .loop .i) (omega arith) (t .loop .m) (t .loop .since) _ _ _
-    (sym (c .before .is-calm .ensures) ∙ w .0 .taken) (sym (w .1 .ensures) ∙ w .3 .given .1 ∙ ap Goes (sym (w .6))) (w .5) (t .loop .inv .1)))
-    (λ w. (omega arith, trivia-passes s (t .loop .i) (omega arith) (t .loop .m) (t .loop .since) _ _ _
-    (sym (c .before .is-calm .ensures) ∙ w .0 .left) (w .3 ∙ w .1 .ensures) (w .2) (t .loop .inv .1)))
+    (λ w. (
+      omega arith,
+      trivia-goes s (t .loop .i) (omega arith) (t .loop .m) (t .loop .since) _ _ _
+          (sym (c .before .is-calm .ensures) ∙ w .0 .taken) (sym (w .1 .ensures) ∙ w .3 .given .1 ∙ ap Goes (sym (w .6))) (w .5) (t .loop .inv .1),
+    ))
+    (λ w. (
+      omega arith,
+      trivia-passes s (t .loop .i) (omega arith) (t .loop .m) (t .loop .since) _ _ _
+          (sym (c .before .is-calm .ensures) ∙ w .0 .left) (w .3 ∙ w .1 .ensures) (w .2) (t .loop .inv .1),
+    ))
     (c .if1 .came)
 
 -- src/lib.rt:232:5

@@ -76,7 +76,7 @@ returns-2 c = let t = c .before .before .before .before .before in
     let b = now (t .before .before .args .b) in
     let n = t .loop .n * 10 + (getD b (t .loop .i) 0 - 48) in
     let e : numberFrom n (drop (t .loop .i + 1) b) ≡ numberFrom 0 (drop (t .before .before .args .from) b) =
-        digit-goes b (t .loop .i) (omega arith) (t .loop .n) _ (sym (c .before .before .is-digit .ensures) ∙ not-false _ (c .before .if1 .left)) (t .loop .inv .3) in
+    digit-goes b (t .loop .i) (omega arith) (t .loop .n) _ (sym (c .before .before .is-digit .ensures) ∙ not-false _ (c .before .if1 .left)) (t .loop .inv .3) in
     rw (← e) (omega (arith, number-grows n (drop (t .loop .i + 1) b)))
 
 -- src/lib.rt:75:9

@@ -18,7 +18,7 @@ use Rattle.record.proofs.past_space.Lts as lts
 use Rattle.lex.proofs.is_space.Reads as is-space-reads
 
 abbrev Inv-loop : tie.InvT-loop
-Inv-loop b from i₀ i = (i ≤ length b) × (walk (pastTurn white) (λ u. []) tt (drop i b) ≡ past white (drop from b))
+Inv-loop b from i₀ i = ((from ≤ i) × (i ≤ length b)) × (walk (pastTurn white) (λ u. []) tt (drop i b) ≡ past white (drop from b))
 
 abbrev μ-loop : tie.MeasureT-loop
 μ-loop b from i₀ i = length b - i
@@ -26,7 +26,7 @@ abbrev μ-loop : tie.MeasureT-loop
 -- src/lib.rt:39:5
 loop-holds : tie.Need-loop-holds Inv-loop μ-loop
 unfolding past
-loop-holds c = (omega arith, refl)
+loop-holds c = ((omega arith, omega arith), refl)
 
 -- src/lib.rt:40:27
 shared-slice-read-is-space : tie.Need-shared-slice-read-is-space Inv-loop μ-loop
@@ -40,7 +40,7 @@ is-space-requires c κs = search needs
 returns : tie.Need-returns Inv-loop μ-loop
 returns c = let t = c .before .before .before .before in
     let b = now (t .before .before .args .b) in
-    (past-stops b (t .loop .i) (omega arith) white _ (sym (c .before .is-space .ensures) ∙ not-true _ (c .if1 .taken)) (t .loop .inv .1), omega arith)
+    (past-stops b (t .loop .i) (omega arith) white _ (sym (c .before .is-space .ensures) ∙ not-true _ (c .if1 .taken)) (t .loop .inv .1), (omega arith, omega arith))
 
 -- src/lib.rt:43:9
 add-i : tie.Need-add-i Inv-loop μ-loop
@@ -54,13 +54,13 @@ loop-less c = search needs
 loop-again : tie.Need-loop-again Inv-loop μ-loop
 loop-again c = let t = c .before .before .before .before in
     let b = now (t .before .before .args .b) in
-    (omega arith, past-goes b (t .loop .i) (omega arith) white _ (sym (c .before .is-space .ensures) ∙ not-false _ (c .if1 .left)) (t .loop .inv .1))
+    ((omega arith, omega arith), past-goes b (t .loop .i) (omega arith) white _ (sym (c .before .is-space .ensures) ∙ not-false _ (c .if1 .left)) (t .loop .inv .1))
 
 -- src/lib.rt:33:1
 returns-2 : tie.Need-returns-2 Inv-loop μ-loop
 returns-2 c = let t = c .before in
     let b = now (t .before .before .args .b) in
-    (drop-end b (t .loop .i) (omega arith) ∙ sym (walk-ends (pastTurn white) (λ u. []) tt b (t .loop .i) (omega arith)) ∙ t .loop .inv .1, omega arith)
+    (drop-end b (t .loop .i) (omega arith) ∙ sym (walk-ends (pastTurn white) (λ u. []) tt b (t .loop .i) (omega arith)) ∙ t .loop .inv .1, (omega arith, omega arith))
 
 pub past-space-spec : {M : Type 1} → statement M
 past-space-spec =

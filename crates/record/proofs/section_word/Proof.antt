@@ -1,3 +1,7 @@
+use Rattle.record.specs.Word.{wordOf, wordIn}
+use Rattle.record.specs.HeadLaws.{trimmed-at}
+use denote.Ref.{now}
+use mathlib.Core.Path.{_∙_, ap}
 use borrow.Author.Needs.{needs}
 use Rattle.record.proofs.section_word.Statement.{statement}
 use Rattle.record.proofs.section_word.Tie as tie
@@ -33,7 +37,11 @@ word-in-requires c κs = search needs
 
 -- src/lib.rt:183:1
 returns : tie.Need-returns
-returns c = ?
+unfolding wordOf
+returns c = let t = c .before .before in
+    let b = now (t .before .before .before .args .b) in
+    c .word-in .ensures
+    ∙ ap wordIn (trimmed-at b (t .before .past-space .result) (t .trail-at .result) (t .before .past-space .ensures .0) (t .trail-at .ensures .0) (t .trail-at .ensures .1 .0) (t .trail-at .ensures .1 .1))
 
 pub section-word-spec : {M : Type 1} → statement M
 section-word-spec =
