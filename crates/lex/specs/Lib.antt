@@ -6,3 +6,4 @@ pub mod Seek
 pub mod Grammar
 pub mod Local
 pub mod Right
+pub mod At

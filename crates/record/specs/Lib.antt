@@ -3,3 +3,4 @@ pub mod Word
 pub mod Head
 pub mod Turns
 pub mod HeadLaws
+pub mod Within

@@ -1,0 +1,66 @@
+-- The places of a head lie in the record's text. Assumes nothing.
+use Prim.Native.Nat.{ℕ, _≤_}
+use mathlib.Core.Path.{_≡_}
+use native.Mathlib.Omega.{arith}
+use mathlib.Core.Bool.{Bool, true, false}
+use mathlib.Core.List.{List, [], _∷_}
+use lib.Dec.{eqb, ltb}
+use lib.ListN.{length}
+use Rattle.lex.specs.Byte.{pick, white, place, place-within}
+use Rattle.record.specs.Text.{past, Digits, numberFrom, Keyed, opened, unopened, keyword}
+use Rattle.record.specs.Head.{keyedHead, valueHead, equalHead, idHead, hashHead, dataHead, namedHead, headerHead}
+use Rattle.record.specs.declared.Head.{Head}
+use Rattle.record.specs.declared.Head.the-variants.{Bad, Complex, Simple}
+
+-- each place of the head is at most n
+abbrev pub HeadWithin : ℕ → Head → Type 0
+HeadWithin n (Bad why) = Unit {0}
+HeadWithin n (Complex id o) = o ≤ n
+HeadWithin n (Simple id a z o) = (a ≤ n) × (z ≤ n) × (o ≤ n)
+
+-- one of two heads
+either : (n : ℕ) (t : Bool) (g h : Head) → HeadWithin n g → HeadWithin n h → HeadWithin n (pick t g h)
+either n true g h p q = p
+either n false g h p q = q
+
+keyed-within : (b : List ℕ) (id : ℕ) (v : List ℕ) (k : Keyed) → HeadWithin (length b) (keyedHead b id v k)
+keyed-within b id v unopened = tt
+keyed-within b id v (opened e o) = (place-within b v, place-within b e, place-within b o)
+
+value-within : (b : List ℕ) (id : ℕ) (r : List ℕ) → HeadWithin (length b) (valueHead b id r)
+value-within b id [] = tt
+value-within b id (c ∷ r) = either (length b) (eqb c 40) _ _ (place-within b (c ∷ r)) (keyed-within b id (c ∷ r) (keyword (c ∷ r)))
+
+equal-within : (b : List ℕ) (id : ℕ) (r : List ℕ) → HeadWithin (length b) (equalHead b id r)
+equal-within b id [] = tt
+equal-within b id (c ∷ r) = either (length b) (eqb c 61) _ _ (value-within b id (past white r)) tt
+
+id-within : (b r : List ℕ) (d : Digits) → HeadWithin (length b) (idHead b r d)
+id-within b r d =
+    either (length b) (ltb 4294967295 (d .value)) _ _ tt
+    (either (length b) (eqb (length (d .rest)) (length r)) _ _ tt (equal-within b (d .value) (past white (d .rest))))
+
+hash-within : (b r : List ℕ) → HeadWithin (length b) (hashHead b r)
+hash-within b [] = tt
+hash-within b (c ∷ r) = either (length b) (eqb c 35) _ _ (id-within b r (numberFrom 0 r)) tt
+
+pub data-within : (b : List ℕ) → HeadWithin (length b) (dataHead b)
+unfolding dataHead
+data-within b = hash-within b b
+
+named-within : (b v : List ℕ) (k : Keyed) → HeadWithin (length b) (namedHead b v k)
+named-within b v unopened = tt
+named-within b v (opened e o) = (place-within b v, place-within b e, place-within b o)
+
+pub header-within : (b : List ℕ) → HeadWithin (length b) (headerHead b)
+unfolding headerHead
+header-within b = named-within b (past white b) (keyword (past white b))
+
+-- no header record is complex
+pub header-simple : (b : List ℕ) (id o : ℕ) → headerHead b ≡ Complex id o → ⊥
+unfolding headerHead
+header-simple b id o = go (keyword (past white b))
+  where
+    go : (k : Keyed) → namedHead b (past white b) k ≡ Complex id o → ⊥
+    go unopened e = let z : _≡_ {A = ℕ} 0 1 = cc in omega arith
+    go (opened l m) e = let z : _≡_ {A = ℕ} 0 1 = cc in omega arith

@@ -1,0 +1,69 @@
+use Rattle.statement.specs.Laws.{statement-none, statement-found, statement-over, statement-refused, ahead-from}
+use Rattle.lex.specs.At.{trivia-at}
+use Rattle.lex.specs.Search.{toldFound}
+use denote.Ref.{now}
+use lib.ListN.{length}
+use native.Mathlib.Omega.{arith}
+use mathlib.Core.Path.{_≡_, sym, _∙_, ap}
+use borrow.Author.Needs.{needs}
+use Rattle.statement.proofs.next_statement.Statement.{statement}
+use Rattle.statement.proofs.next_statement.Tie as tie
+use Rattle.statement.proofs.next_statement.Reads as reads
+use Rattle.statement.proofs.next_statement.Lts as lts
+use Rattle.lex.proofs.skip_trivia.Reads as skip-trivia-reads
+use Rattle.statement.proofs.statement_at.Reads as statement-at-reads
+
+-- src/lib.rt:192:9
+returns : tie.Need-returns
+returns c = let a = c .before .before .args in
+    (statement-none (now (a .s)) (a .i) (a .section) (c .if1 .taken), tt)
+
+-- src/lib.rt:194:11
+skip-trivia-requires : tie.Need-skip-trivia-requires
+skip-trivia-requires c κs = search needs
+
+-- src/lib.rt:195:24
+enum-known-f : tie.Need-enum-known-f
+enum-known-f c = search needs
+
+-- src/lib.rt:196:19
+enum-known-start : tie.Need-enum-known-start
+enum-known-start c = search needs
+
+-- src/lib.rt:198:17
+returns-2 : tie.Need-returns-2
+returns-2 c = let t = c .before .before .before .before in
+    let a = t .before .before .before .args in
+    (statement-over (now (a .s)) (a .i) (a .section) _ (omega arith) (sym (ap toldFound (c .before .before .start .given .1)) ∙ t .skip-trivia .ensures) (c .if2 .taken), tt)
+
+-- src/lib.rt:200:13
+statement-at-requires : tie.Need-statement-at-requires
+statement-at-requires c κs = search needs
+
+-- src/lib.rt:187:1
+returns-3 : tie.Need-returns-3
+returns-3 c = let t = c .before .before .before in
+    let a = t .before .before .before .args in
+    (statement-refused (now (a .s)) (a .i) (a .section) _ (sym (ap toldFound (c .before .f .given .1)) ∙ t .skip-trivia .ensures), tt)
+
+-- src/lib.rt:187:1
+returns-4 : tie.Need-returns-4
+returns-4 c = let t = c .before .before .before .before .before in
+    let a = t .before .before .before .args in
+    let e = sym (ap toldFound (c .before .before .before .start .given .1)) ∙ t .skip-trivia .ensures in (
+      c .statement-at .ensures .0 ∙ statement-found (now (a .s)) (a .i) (a .section) _ (omega arith) e,
+      ahead-from (a .i) _ (length (now (a .s))) (c .statement-at .result) (trivia-at (now (a .s)) (a .i) _ (omega arith) e .1) (c .statement-at .ensures .1),
+    )
+
+pub next-statement-spec : {M : Type 1} → statement M
+next-statement-spec =
+    tie.close
+    (tie.spec
+    returns
+    skip-trivia-requires
+    enum-known-f
+    enum-known-start
+    returns-2
+    statement-at-requires
+    returns-3
+    returns-4)

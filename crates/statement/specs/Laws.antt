@@ -1,0 +1,150 @@
+-- What the definitions say at places of the file: the laws that the code's proofs cite.
+-- Assumes nothing.
+use Prim.Native.Nat.{ℕ, _+_, _-_, _≤_, _<_}
+use mathlib.Core.Path.{_≡_, refl, sym, _∙_, ap}
+use mathlib.Core.List.{List, [], _∷_, _++_}
+use native.Mathlib.Omega.{arith}
+use lib.ListN.{length, take, drop, length-drop, length-append, length-take}
+use lib.Seq.{drop-drop, drop-append-seam}
+use Rattle.error.specs.Refusal.{Refusal, refusal, Told, good, bad, told}
+use Rattle.lex.specs.Byte.{place, place-drop}
+use Rattle.lex.specs.Search.{Sought, at, fault, trivia, recordEnd, closing, placed}
+use Rattle.record.specs.Head.{dataHead, headerHead}
+use Rattle.record.specs.Within.{HeadWithin, data-within, header-within}
+use Rattle.record.specs.declared.Head.{Head}
+use Rattle.record.specs.declared.Head.the-variants.{Bad, Complex, Simple}
+use Rattle.lex.specs.Walk.{split, drop-end, walk}
+use Rattle.lex.specs.At.{trivia-at, end-at}
+use Rattle.record.specs.Text.{before}
+use Rattle.record.specs.Word.{wordOf}
+use Rattle.record.specs.declared.Word.{Word}
+use Rattle.statement.specs.Row.{Row, row, HeaderRow, headerRow, argued, recordBy, recordOf, headerBy, headerOf}
+use Rattle.statement.specs.Statement.{Stmt, ends, refused, moved, headed, recorded, inSection, worded, ended, begun, led, statement, Ahead}
+use Rattle.statement.specs.declared.Said.{Said}
+use Rattle.statement.specs.declared.Said.the-variants.{Ends, Refuses, Moves, Heads, Records}
+use Rattle.statement.specs.declared.Section.{Section}
+use Rattle.statement.specs.declared.Section.the-variants.{Outside, InHeader, InData}
+
+-- a place in a rest of the file is a place in the file
+pub place-in : (s : List ℕ) (p a : ℕ) → p + a ≤ length s → place s (drop a (drop p s)) ≡ p + a
+place-in s p a h = rw (drop-drop a p s) (place-drop s (p + a) h)
+
+-- a record by its head, at places of the file
+module _ (s body : List ℕ) (p : ℕ) where
+  past-open : (o : ℕ) → p + o < length s → p + o + 1 ≡ place s (drop (o + 1) (drop p s))
+  past-open o h = omega (arith, place-in s p (o + 1) (omega arith))
+
+  pub record-bad : (why : ℕ) → p ≤ length s → dataHead body ≡ Bad why → bad (refusal 7 why p) ≡ recordOf s (drop p s) body
+  unfolding recordOf
+  record-bad why h e = rw (e, place-drop s p h) refl
+
+  pub record-complex : (i o : ℕ) → p + o < length s → dataHead body ≡ Complex i o → argued s (drop (p + o) s) (λ q. row i 0 0 (p + o + 1) q 1) ≡ recordOf s (drop p s) body
+  unfolding recordOf
+  record-complex i o h e = rw (e, ← drop-drop o p s, past-open o h) refl
+
+  pub record-simple : (i a z o : ℕ) → p + a ≤ length s → p + z ≤ length s → p + o < length s → dataHead body ≡ Simple i a z o → argued s (drop (p + o) s) (λ q. row i (p + a) (p + z) (p + o + 1) q 0) ≡ recordOf s (drop p s) body
+  unfolding recordOf
+  record-simple i a z o ha hz h e = rw (e, ← drop-drop o p s, past-open o h, place-in s p a ha, place-in s p z hz) refl
+
+  pub header-bad : (why : ℕ) → p ≤ length s → headerHead body ≡ Bad why → bad (refusal 7 why p) ≡ headerOf s (drop p s) body
+  unfolding headerOf
+  header-bad why h e = rw (e, place-drop s p h) refl
+
+  pub header-simple : (i a z o : ℕ) → p + a ≤ length s → p + z ≤ length s → p + o < length s → headerHead body ≡ Simple i a z o → argued s (drop (p + o) s) (λ q. headerRow (p + a) (p + z) (p + o + 1) q) ≡ headerOf s (drop p s) body
+  unfolding headerOf
+  header-simple i a z o ha hz h e = rw (e, ← drop-drop o p s, past-open o h, place-in s p a ha, place-in s p z hz) refl
+
+-- a record's text, from its start up to its `;`
+pub text-length : (s : List ℕ) (p e : ℕ) → p ≤ e → e ≤ length s → length (take (e - p) (drop p s)) ≡ e - p
+text-length s p e h k = simp (length-take, length-drop) (omega arith)
+
+-- the places of a head lie before the record's `;`
+module _ (s : List ℕ) (p e : ℕ) (h : p ≤ e) (k : e < length s) where
+  within : (g : Head) → HeadWithin (length (take (e - p) (drop p s))) g → HeadWithin (e - p) g
+  within g w = rw (text-length s p e h (omega arith)) at w
+
+  pub complex-fits : (i o : ℕ) → dataHead (take (e - p) (drop p s)) ≡ Complex i o → p + o ≤ e
+  complex-fits i o q = let w : o ≤ e - p = within (Complex i o) (rw q at (data-within (take (e - p) (drop p s)))) in omega arith
+
+  pub simple-fits : (i a z o : ℕ) → dataHead (take (e - p) (drop p s)) ≡ Simple i a z o → (p + a ≤ e) × (p + z ≤ e) × (p + o ≤ e)
+  simple-fits i a z o q =
+      let w : (a ≤ e - p) × (z ≤ e - p) × (o ≤ e - p) = within (Simple i a z o) (rw q at (data-within (take (e - p) (drop p s)))) in
+      (omega arith, omega arith, omega arith)
+
+  pub header-fits : (i a z o : ℕ) → headerHead (take (e - p) (drop p s)) ≡ Simple i a z o → (p + a ≤ e) × (p + z ≤ e) × (p + o ≤ e)
+  header-fits i a z o q =
+      let w : (a ≤ e - p) × (z ≤ e - p) × (o ≤ e - p) = within (Simple i a z o) (rw q at (header-within (take (e - p) (drop p s)))) in
+      (omega arith, omega arith, omega arith)
+
+-- a record's text, as the bytes before its `;`
+before-at : (s : List ℕ) (p e : ℕ) → p ≤ e → e ≤ length s → before (drop p s) (drop e s) ≡ take (e - p) (drop p s)
+before-at s p e h k =
+    let n : length (drop p s) - length (drop e s) ≡ e - p = omega (arith, length-drop p s, length-drop e s) in
+    ap (λ (m : ℕ). take m (drop p s)) n
+
+-- a record in its section, at places of the file
+module _ (s : List ℕ) (p e : ℕ) (h : p ≤ e) (k : e ≤ length s) where
+  pub section-outside : moved Outside (drop (e + 1) s) ≡ inSection s (drop p s) (drop e s) Outside
+  section-outside = ap (moved Outside) (sym (drop-drop 1 e s))
+
+  pub section-header : (t : Told HeaderRow) → t ≡ headerOf s (drop p s) (take (e - p) (drop p s)) → headed (drop p s) (drop (e + 1) s) t ≡ inSection s (drop p s) (drop e s) InHeader
+  section-header t q = rw (before-at s p e h k, drop-drop 1 e s) (ap (headed (drop p s) (drop (e + 1) s)) q)
+
+  pub section-data : (t : Told Row) → t ≡ recordOf s (drop p s) (take (e - p) (drop p s)) → recorded (drop p s) (drop (e + 1) s) t ≡ inSection s (drop p s) (drop e s) InData
+  section-data t q = rw (before-at s p e h k, drop-drop 1 e s) (ap (recorded (drop p s) (drop (e + 1) s)) q)
+
+  -- the word that the record is
+  pub worded-at : (sec : Section) (w : Word) → w ≡ wordOf (take (e - p) (drop p s)) → worded s (drop p s) (drop e s) sec w ≡ ended s (drop p s) sec (at (drop e s))
+  worded-at sec w q = ap (worded s (drop p s) (drop e s) sec) (q ∙ ap wordOf (sym (before-at s p e h k)))
+
+  -- a section word moves past the record
+  pub moved-at : (sec : Section) → moved sec (drop (e + 1) s) ≡ moved sec (drop 1 (drop e s))
+  moved-at sec = ap (moved sec) (sym (drop-drop 1 e s))
+
+-- a statement whose first byte stands at p
+module _ (s : List ℕ) (p : ℕ) (sec : Section) (h : p < length s) where
+  begun-is : begun s sec (drop p s) ≡ ended s (drop p s) sec (recordEnd (drop p s))
+  begun-is = rw (split s p h) refl
+
+  pub begun-found : (e : ℕ) → good e ≡ placed s (recordEnd (drop p s)) → ended s (drop p s) sec (at (drop e s)) ≡ begun s sec (drop p s)
+  begun-found e q = ap (ended s (drop p s) sec) (sym (end-at s p e (omega arith) q .0)) ∙ sym begun-is
+
+  pub begun-refused : (q : Refusal) → bad q ≡ placed s (recordEnd (drop p s)) → refused q ≡ begun s sec (drop p s)
+  begun-refused q r = go (recordEnd (drop p s)) refl r
+    where
+      go : (x : Sought) → recordEnd (drop p s) ≡ x → bad q ≡ placed s x → refused q ≡ begun s sec (drop p s)
+      go (at ys) e w = let z : _≡_ {A = ℕ} 0 1 = cc in absurd (omega arith)
+      go (fault n o) e w =
+          let f : q ≡ refusal n 0 (place s o) = cc in
+          ap refused f ∙ ap (ended s (drop p s) sec) (sym e) ∙ sym begun-is
+
+-- a statement from the place i on
+module _ (s : List ℕ) (i : ℕ) (sec : Section) where
+  pub statement-none : length s ≤ i → ends ≡ statement s sec (drop i s)
+  unfolding statement trivia walk
+  statement-none h = rw (drop-end s i h) refl
+
+  pub statement-found : (p : ℕ) → i ≤ length s → good p ≡ placed s (trivia (drop i s)) → begun s sec (drop p s) ≡ statement s sec (drop i s)
+  unfolding statement
+  statement-found p h q = ap (led s sec) (sym (trivia-at s i p h q .0))
+
+  pub statement-over : (p : ℕ) → i ≤ length s → good p ≡ placed s (trivia (drop i s)) → length s ≤ p → ends ≡ statement s sec (drop i s)
+  statement-over p h q k = rw (← statement-found p h q, drop-end s p k) refl
+
+  pub statement-refused : (q : Refusal) → bad q ≡ placed s (trivia (drop i s)) → refused q ≡ statement s sec (drop i s)
+  unfolding statement
+  statement-refused q r = go (trivia (drop i s)) refl r
+    where
+      go : (x : Sought) → trivia (drop i s) ≡ x → bad q ≡ placed s x → refused q ≡ led s sec (trivia (drop i s))
+      go (at ys) e w = let z : _≡_ {A = ℕ} 0 1 = cc in absurd (omega arith)
+      go (fault n o) e w =
+          let f : q ≡ refusal n 0 (place s o) = cc in
+          ap refused f ∙ ap (led s sec) (sym e)
+
+-- what lies after a later place lies after an earlier one
+pub ahead-from : (i p n : ℕ) (r : Said) → i ≤ p → Ahead p n r → Ahead i n r
+ahead-from i p n Ends h w = tt
+ahead-from i p n (Refuses f) h w = tt
+ahead-from i p n (Moves sec q) h w = (omega arith, omega arith)
+ahead-from i p n (Heads r b q) h w = (omega arith, omega arith)
+ahead-from i p n (Records r b q) h w = (omega arith, omega arith)
