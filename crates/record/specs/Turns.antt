@@ -12,7 +12,7 @@ use lib.ListN.{length, drop, getD}
 use Rattle.lex.specs.Byte.{pick, white}
 use Rattle.lex.specs.Walk.{Turn, stop, on, turned, walk, split, walk-ends, walk-stops, walk-goes}
 use Rattle.record.specs.Text.{pastTurn, digit, Digits, digits, digitTurn, numberFrom, Keyed, opened, unopened, keyTurn, trailTurn}
-use Rattle.record.specs.Word.{same, upper}
+use Rattle.record.specs.Word.{same}
 
 module _ (b : List ℕ) (i : ℕ) (h : i < length b) where
   pub past-stops : (p : ℕ → Bool) (a : List ℕ) → p (getD b i 0) ≡ false → walk (pastTurn p) (λ u. []) tt (drop i b) ≡ a → drop i b ≡ a
@@ -58,14 +58,15 @@ same-lengths (a ∷ x) (b ∷ y) h = go (eqb a b) (same-lengths x y (λ e. h (om
     go true k = k
     go false k = refl
 
--- at an index of two texts, the bytes there differ or agree
-pub same-stops : (x y : List ℕ) (i : ℕ) (a : Bool) → i < length x → i < length y → eqb (upper (getD x i 0)) (getD y i 0) ≡ false → same (map upper (drop i x)) (drop i y) ≡ a → false ≡ a
-unfolding same
-same-stops x y i a h k e inv = sym (rw (split x i h, split y i k, e) refl) ∙ inv
+-- at an index of two texts, the first seen through f, the bytes there differ or agree
+module _ (f : ℕ → ℕ) (x y : List ℕ) (i : ℕ) (a : Bool) (h : i < length x) (k : i < length y) where
+  pub same-stops : eqb (f (getD x i 0)) (getD y i 0) ≡ false → same (map f (drop i x)) (drop i y) ≡ a → false ≡ a
+  unfolding same
+  same-stops e inv = sym (rw (split x i h, split y i k, e) refl) ∙ inv
 
-pub same-goes : (x y : List ℕ) (i : ℕ) (a : Bool) → i < length x → i < length y → eqb (upper (getD x i 0)) (getD y i 0) ≡ true → same (map upper (drop i x)) (drop i y) ≡ a → same (map upper (drop (i + 1) x)) (drop (i + 1) y) ≡ a
-unfolding same
-same-goes x y i a h k e inv = sym (rw (split x i h, split y i k, e) refl) ∙ inv
+  pub same-goes : eqb (f (getD x i 0)) (getD y i 0) ≡ true → same (map f (drop i x)) (drop i y) ≡ a → same (map f (drop (i + 1) x)) (drop (i + 1) y) ≡ a
+  unfolding same
+  same-goes e inv = sym (rw (split x i h, split y i k, e) refl) ∙ inv
 
 -- two tests that both hold: each number lies from the one bound to the other
 pub bounds : (l c m : ℕ) → leb l c && leb c m ≡ true → (l ≤ c) × (c ≤ m)

@@ -9,7 +9,7 @@ ghost use Prim.Native.Nat.{_≤_, _<_};
 ghost use lib.ListN.{length, drop};
 ghost use Rattle.lex.specs.Byte.{white, place};
 ghost use Rattle.record.specs.Text.{past, digit, trail, Numbered, KeyedAt};
-ghost use Rattle.record.specs.Word.{upper, isWord, opensData, wordIn, wordOf};
+ghost use Rattle.record.specs.Word.{upper, same, isWord, opensData, wordIn, wordOf};
 ghost use Rattle.record.specs.Head.{dataHead, equalHead, valueHead, headerHead};
 
 // The words of document 01 that a record's text can be.
@@ -252,4 +252,29 @@ pub fn header_head(b: &[u8]) -> Head
         Key::Absent => Head::Bad(1),
         Key::Found(e, o) => Head::Simple(0, v, e, o),
     }
+}
+
+// Whether two texts have the same bytes.
+pub fn same_bytes(x: &[u8], y: &[u8]) -> bool
+    ensures { λ r. ⌜ r ≡ same (now (x .entry)) (now (y .entry)) ⌝ }
+{
+    if x.len() != y.len() {
+        return false;
+    }
+    let mut i = 0;
+    while i < x.len() {
+        if x[i] != y[i] {
+            return false;
+        }
+        i += 1;
+    }
+    true
+}
+
+// How many white bytes a text begins with.
+pub fn leading_space(b: &[u8]) -> usize
+    ensures { λ r. ⌜ drop r (now (b .entry)) ≡ past white (now (b .entry)) ⌝ }
+    ensures { λ r. ⌜ r ≤ length (now (b .entry)) ⌝ }
+{
+    past_space(b, 0)
 }

@@ -47,7 +47,7 @@ shared-slice-read-if2 c = search needs
 returns-2 : tie.Need-returns-2 Inv-loop μ-loop
 returns-2 c = let t = c .before .before .before .before .before in
     let a = t .before .before .before .before .args in
-    same-stops (now (a .t)) (now (a .w)) (t .loop .i) _ (omega arith) (omega arith) (ne-eqb _ _ (λ e. c .if2 .taken (c .before .before .upper-of .ensures ∙ e))) (t .loop .inv .1)
+    same-stops upper (now (a .t)) (now (a .w)) (t .loop .i) _ (omega arith) (omega arith) (ne-eqb _ _ (λ e. c .if2 .taken (c .before .before .upper-of .ensures ∙ e))) (t .loop .inv .1)
 
 -- src/lib.rt:142:9
 add-i : tie.Need-add-i Inv-loop μ-loop
@@ -61,7 +61,7 @@ loop-less c = search needs
 loop-again : tie.Need-loop-again Inv-loop μ-loop
 loop-again c = let t = c .before .before .before .before .before in
     let a = t .before .before .before .before .args in
-    (omega arith, same-goes (now (a .t)) (now (a .w)) (t .loop .i) _ (omega arith) (omega arith) (eq-eqb _ _ (sym (c .before .before .upper-of .ensures) ∙ c .if2 .left)) (t .loop .inv .1))
+    (omega arith, same-goes upper (now (a .t)) (now (a .w)) (t .loop .i) _ (omega arith) (omega arith) (eq-eqb _ _ (sym (c .before .before .upper-of .ensures) ∙ c .if2 .left)) (t .loop .inv .1))
 
 -- src/lib.rt:131:1
 returns-3 : tie.Need-returns-3 Inv-loop μ-loop

@@ -1,0 +1,110 @@
+use lib.ListN.{length-set}
+use native.Mathlib.Numerals.{towards-suc}
+use native.Mathlib.Omega.{arith}
+use borrow.Author.Tests.{not-true, not-false}
+use mathlib.Core.Path.{refl}
+use borrow.Author.Needs.{needs}
+use Rattle.scan.proofs.put_header.Statement.{statement}
+use Rattle.scan.proofs.put_header.Tie as tie
+use Rattle.scan.proofs.put_header.Reads as reads
+use Rattle.scan.proofs.put_header.Lts as lts
+
+-- src/lib.rt:86:9
+returns : tie.Need-returns
+returns c = rw (not-true _ (c .if1 .taken)) refl
+
+-- src/lib.rt:88:14
+mul-at : tie.Need-mul-at
+mul-at c = search needs
+
+-- src/lib.rt:89:15
+cast-out : tie.Need-cast-out
+cast-out c = search needs
+
+-- src/lib.rt:89:5
+mul-out : tie.Need-mul-out
+mul-out c = search needs
+
+-- src/lib.rt:89:5
+slice-write-out : tie.Need-slice-write-out
+slice-write-out c = search needs
+
+-- src/lib.rt:90:19
+cast-out-2 : tie.Need-cast-out-2
+cast-out-2 c = search needs
+
+-- src/lib.rt:90:9
+add-out : tie.Need-add-out
+add-out c = search needs
+
+-- src/lib.rt:90:5
+mul-out-2 : tie.Need-mul-out-2
+mul-out-2 c = search needs
+
+-- src/lib.rt:90:5
+slice-write-out-2 : tie.Need-slice-write-out-2
+slice-write-out-2 c = simp length-set (omega arith)
+
+-- src/lib.rt:91:19
+cast-out-3 : tie.Need-cast-out-3
+cast-out-3 c = search needs
+
+-- src/lib.rt:91:9
+add-out-2 : tie.Need-add-out-2
+add-out-2 c = search needs
+
+-- src/lib.rt:91:5
+mul-out-3 : tie.Need-mul-out-3
+mul-out-3 c = search needs
+
+-- src/lib.rt:91:5
+slice-write-out-3 : tie.Need-slice-write-out-3
+slice-write-out-3 c = simp length-set (omega arith)
+
+-- src/lib.rt:92:19
+cast-out-4 : tie.Need-cast-out-4
+cast-out-4 c = search needs
+
+-- src/lib.rt:92:9
+add-out-3 : tie.Need-add-out-3
+add-out-3 c = search needs
+
+-- src/lib.rt:92:5
+mul-out-4 : tie.Need-mul-out-4
+mul-out-4 c = search needs
+
+-- src/lib.rt:92:5
+slice-write-out-4 : tie.Need-slice-write-out-4
+slice-write-out-4 c = simp length-set (omega arith)
+
+-- src/lib.rt:81:1
+same-length : tie.Need-same-length
+same-length c = search needs
+
+-- src/lib.rt:81:1
+returns-2 : tie.Need-returns-2
+returns-2 c = rw (not-false _ (c .before .before .before .before .if1 .left)) (simp towards-suc)
+
+pub put-header-spec : {M : Type 1} → statement M
+put-header-spec =
+    tie.close
+    (tie.spec
+    returns
+    mul-at
+    cast-out
+    mul-out
+    slice-write-out
+    cast-out-2
+    add-out
+    mul-out-2
+    slice-write-out-2
+    cast-out-3
+    add-out-2
+    mul-out-3
+    slice-write-out-3
+    cast-out-4
+    add-out-3
+    mul-out-4
+    slice-write-out-4
+    same-length
+    returns-2)

@@ -1,0 +1,72 @@
+-- Document 01, 'Reading the file' and 'Refusal numbers' 1, 2 and 8: the whole file, read in order up to its first fault.
+-- Assumes nothing.
+use Prim.Native.Nat.{ℕ, zero, suc, _+_, max}
+use mathlib.Core.Bool.{Bool, true, false}
+use mathlib.Core.List.{List, [], _∷_}
+use lib.Dec.{ltb}
+use lib.ListN.{length, take, drop}
+use Rattle.error.specs.Refusal.{Refusal, refusal, Told, good, bad}
+use Rattle.lex.specs.Byte.{pick, white, place}
+use Rattle.record.specs.Text.{past}
+use Rattle.record.specs.Word.{same, marker}
+use Rattle.statement.specs.Row.{Row, HeaderRow, mapped}
+use Rattle.statement.specs.Statement.{Stmt, ends, refused, moved, header, record′, statement}
+use Rattle.statement.specs.declared.Section.{Section}
+use Rattle.statement.specs.declared.Section.the-variants.{Outside, InHeader, InData}
+
+-- the rows of a file, each kind in file order
+pub record Table : Type 0 where
+  pub headers : List HeaderRow
+  pub records : List Row
+
+abbrev pub table : List HeaderRow → List Row → Table
+table hs rs = record { headers = hs; records = rs }
+
+-- a row before those of the rest of the file
+abbrev pub withHeader : HeaderRow → Table → Table
+withHeader w t = table (w ∷ t .headers) (t .records)
+
+abbrev pub withRecord : Row → Table → Table
+withRecord w t = table (t .headers) (w ∷ t .records)
+
+-- "8 is given exactly when a record has been read whole and the lent rows of its kind [..] are already used up": so many are
+-- used of so many; 8 stands at the record's start
+abbrev pub roomed : List ℕ → List ℕ → ℕ → ℕ → Told Table → Told Table
+roomed s ys used room t = pick (ltb used room) t (bad (refusal 8 0 (place s ys)))
+
+-- what a statement does to the reading; `go` reads on in a section, with so many rows used, from a rest
+abbrev pub taken : List ℕ → ℕ → ℕ → ℕ → ℕ → Stmt → (Section → ℕ → ℕ → List ℕ → Told Table) → Told Table
+taken s H R h r ends go = good (table [] [])
+taken s H R h r (refused q) go = bad q
+taken s H R h r (moved sec t) go = go sec h r t
+taken s H R h r (header w ys t) go = let rest = go InHeader (h + 1) r t in roomed s ys h H (mapped (withHeader w) rest)
+taken s H R h r (record′ w ys t) go = let rest = go InData h (r + 1) t in roomed s ys r R (mapped (withRecord w) rest)
+
+-- "then the file is read in order and the first fault is given": from the rest xs of the file s, with H header rows and R data
+-- rows lent, h and r of them used. The first number bounds the statements that are left; it is never used up (Laws.antt)
+unfoldable pub readFrom : ℕ → List ℕ → ℕ → ℕ → Section → ℕ → ℕ → List ℕ → Told Table
+readFrom zero s H R sec h r xs = bad (refusal 0 0 0)
+readFrom (suc k) s H R sec h r xs = taken s H R h r (statement s sec xs) (λ sec h r t. readFrom k s H R sec h r t)
+
+-- the byte-order mark EF BB BF
+abbrev pub mark : List ℕ
+mark = 239 ∷ 187 ∷ 191 ∷ []
+
+-- "after an optional EF BB BF and whitespace only"
+abbrev pub unmarked : List ℕ → List ℕ
+unmarked s = pick (same (take 3 s) mark) (drop 3 s) s
+
+-- "The marker is `ISO-10303-21`"
+abbrev pub marked : List ℕ → Bool
+marked s = same (take 12 (past white (unmarked s))) marker
+
+-- a file of so many lent header and data rows: "2 is tested before 1; then the file is read in order and the first fault is given"
+unfoldable pub scanOf : List ℕ → ℕ → ℕ → Told Table
+scanOf s H R =
+    pick (ltb 4294967295 (length s)) (bad (refusal 2 0 0))
+    (pick (marked s) (readFrom (length s + 1) s H R Outside 0 0 s) (bad (refusal 1 0 0)))
+
+-- the largest id, 0 where there is no record
+unfoldable pub largest : List Row → ℕ
+largest [] = 0
+largest (w ∷ ws) = max (w .id) (largest ws)

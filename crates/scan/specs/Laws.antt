@@ -1,0 +1,262 @@
+-- The reading so far, as the scan's loop keeps it, and what each statement does to it.
+-- Assumes nothing.
+use Prim.Native.Nat.{ℕ, zero, suc, _+_, _*_, _-_, _≤_, _<_, max}
+use mathlib.Core.Path.{_≡_, refl, sym, _∙_, ap}
+use mathlib.Core.Bool.{Bool, true, false}
+use mathlib.Core.List.{List, [], _∷_, _++_, append-assoc, append-nil}
+use native.Mathlib.Omega.{arith}
+use borrow.Author.Tests.{lt-ltb, le-ltb}
+use lib.Dec.{ltb}
+use native.Mathlib.Nat.{suc-mul}
+use lib.ListN.{length, take, drop, length-append, length-drop}
+use lib.Seq.{sets, sets-eq, take-append-seam, drop-append-add, drop-drop}
+use Rattle.error.specs.Refusal.{Refusal, refusal, Told, good, bad}
+use Rattle.lex.specs.Byte.{pick, place}
+use Rattle.statement.specs.Row.{Row, HeaderRow, mapped}
+use Rattle.statement.specs.Statement.{Stmt, ends, refused, moved, header, record′, statement}
+use Rattle.statement.specs.declared.Section.{Section}
+use Rattle.statement.specs.declared.Section.the-variants.{Outside, InHeader, InData}
+use Rattle.scan.specs.File.{Table, table, withHeader, withRecord, roomed, taken, readFrom, largest}
+use Rattle.scan.specs.Table.{six, four, flat, laid, Counts, counts, countsOf}
+
+-- rows before those of the rest of the file
+abbrev pub join : List HeaderRow → List Row → Table → Table
+join hs rs t = table (hs ++ t .headers) (rs ++ t .records)
+
+-- one turn of the reading, while statements may be left
+unrolled : (k : ℕ) (s : List ℕ) (H R : ℕ) (sec : Section) (h r : ℕ) (xs : List ℕ) → 0 < k
+    → readFrom k s H R sec h r xs ≡ taken s H R h r (statement s sec xs) (λ sec h r t. readFrom (k - 1) s H R sec h r t)
+unfolding readFrom
+unrolled zero s H R sec h r xs p = absurd (omega arith)
+unrolled (suc k) s H R sec h r xs p = let e : suc k - 1 ≡ k = omega arith in rw e refl
+
+-- the ids' maximum with one record more
+largest-more : (rs : List Row) (w : Row) → largest (rs ++ (w ∷ [])) ≡ max (largest rs) (w .id)
+unfolding largest
+largest-more [] w = omega arith
+largest-more (v ∷ rs) w = let ih = largest-more rs w in omega arith
+
+-- the flat rows with one row more
+flat-more : {A : Type 0} (f : A → List ℕ) (ws : List A) (w : A) → flat f (ws ++ (w ∷ [])) ≡ flat f ws ++ f w
+unfolding flat
+flat-more f [] w = append-nil (f w)
+flat-more f (v ∷ ws) w = ap (λ (l : List ℕ). f v ++ l) (flat-more f ws w) ∙ sym (append-assoc (f v) (flat f ws) (f w))
+
+-- so many rows of n numbers each
+flat-length : {A : Type 0} (n : ℕ) (f : A → List ℕ) → ((w : A) → length (f w) ≡ n) → (ws : List A) → length (flat f ws) ≡ length ws * n
+unfolding flat
+flat-length n f e [] = omega arith
+flat-length n f e (w ∷ ws) =
+    let m : suc (length ws) * n ≡ length ws * n + n = suc-mul (length ws) n in
+    let ih = flat-length n f e ws in
+    omega (arith, length-append (f w) (flat f ws), e w)
+
+-- the numbers of one row more are stored after those of the rows before
+laid-more : {A : Type 0} (n : ℕ) (f : A → List ℕ) → ((w : A) → length (f w) ≡ n) → (ws : List A) (w : A) (old : List ℕ) → length ws * n + n ≤ length old
+    → laid (flat f (ws ++ (w ∷ []))) old ≡ sets (laid (flat f ws) old) (length ws * n) (f w)
+laid-more n f e ws w old h =
+    let l = flat f ws in
+    let k : length l ≡ length ws * n = flat-length n f e ws in
+    let m : length l + length (f w) ≤ length (laid l old) = omega (arith, e w, length-append l (drop (length l) old), length-drop (length l) old) in
+    let d : drop (length (f w)) (drop (length l) old) ≡ drop (length (l ++ f w)) old =
+        drop-drop (length (f w)) (length l) old ∙ ap (λ (j : ℕ). drop j old) (sym (length-append l (f w))) in
+    rw (flat-more f ws w, ← k)
+    (sym
+    (sets-eq (f w) (laid l old) (length l) m
+    ∙ rw (take-append-seam l (drop (length l) old), drop-append-add l (drop (length l) old) (length (f w)), d) refl))
+
+-- the memory that the loop leaves, where it writes at all
+abbrev pub wrote : Bool → List ℕ → List ℕ → List ℕ
+wrote write new old = pick write (laid new old) old
+
+-- the reading so far: hs and rs are the rows up to the place i, and what is left gives the rest
+pub record Going (s : List ℕ) (H R : ℕ) (write : Bool) (h₀ r₀ : List ℕ) (i : ℕ) (sec : Section) (h r m : ℕ) (hnow rnow : List ℕ) : Type 0 where
+  pub fuel : ℕ
+  pub hs : List HeaderRow
+  pub rs : List Row
+  pub within : i ≤ length s
+  pub enough : length s - i < fuel
+  pub same : mapped (join hs rs) (readFrom fuel s H R sec h r (drop i s)) ≡ readFrom (length s + 1) s H R Outside 0 0 s
+  pub hcount : length hs ≡ h
+  pub rcount : length rs ≡ r
+  pub hroom : h ≤ H
+  pub rroom : r ≤ R
+  pub most : largest rs ≡ m
+  pub hlaid : hnow ≡ wrote write (flat four hs) h₀
+  pub rlaid : rnow ≡ wrote write (flat six rs) r₀
+
+-- what the loop must leave: nothing changed where it does not write; else the rows of an answer
+abbrev pub Written : Bool → Told Table → (Table → List ℕ) → List ℕ → List ℕ → Type 0
+Written false o f old new = new ≡ old
+Written true (good t) f old new = new ≡ laid (f t) old
+Written true (bad q) f old new = Unit {0}
+
+-- nothing before
+join-none : (x : Told Table) → mapped (join [] []) x ≡ x
+join-none (good t) = refl
+join-none (bad q) = refl
+
+-- rows before rows, and one more
+join-header : (hs : List HeaderRow) (rs : List Row) (w : HeaderRow) (x : Told Table) → mapped (join hs rs) (mapped (withHeader w) x) ≡ mapped (join (hs ++ (w ∷ [])) rs) x
+join-header hs rs w (good t) = ap (λ (l : List HeaderRow). good (table l (rs ++ t .records))) (sym (append-assoc hs (w ∷ []) (t .headers)))
+join-header hs rs w (bad q) = refl
+
+join-record : (hs : List HeaderRow) (rs : List Row) (w : Row) (x : Told Table) → mapped (join hs rs) (mapped (withRecord w) x) ≡ mapped (join hs (rs ++ (w ∷ []))) x
+join-record hs rs w (good t) = ap (λ (l : List Row). good (table (hs ++ t .headers) l)) (sym (append-assoc rs (w ∷ []) (t .records)))
+join-record hs rs w (bad q) = refl
+
+-- where the loop begins
+pub going-starts : (s : List ℕ) (H R : ℕ) (write : Bool) (h₀ r₀ : List ℕ) → Going s H R write h₀ r₀ 0 Outside 0 0 0 h₀ r₀
+unfolding flat largest
+going-starts s H R write h₀ r₀ = record {
+  fuel = length s + 1;
+  hs = [];
+  rs = [];
+  within = omega arith;
+  enough = omega arith;
+  same = join-none (readFrom (length s + 1) s H R Outside 0 0 s);
+  hcount = refl;
+  rcount = refl;
+  hroom = omega arith;
+  rroom = omega arith;
+  most = refl;
+  hlaid = sym (kept write h₀);
+  rlaid = sym (kept write r₀);
+}
+  where
+    kept : (b : Bool) (l : List ℕ) → wrote b [] l ≡ l
+    kept true l = refl
+    kept false l = refl
+
+module _ (s : List ℕ) (H R : ℕ) (write : Bool) (h₀ r₀ : List ℕ) (i : ℕ) (sec : Section) (h r m : ℕ) (hnow rnow : List ℕ)
+    (g : Going s H R write h₀ r₀ i sec h r m hnow rnow) where
+  -- the whole reading
+  whole : Told Table
+  whole = readFrom (length s + 1) s H R Outside 0 0 s
+
+  -- the whole reading, by the next statement
+  turn : (x : Stmt) → x ≡ statement s sec (drop i s) → mapped (join (g .hs) (g .rs)) (taken s H R h r x (λ sec h r t. readFrom (g .fuel - 1) s H R sec h r t)) ≡ whole
+  unfolding whole
+  turn x e = rw (e, ← unrolled (g .fuel) s H R sec h r (drop i s) (omega (arith, g .enough))) (g .same)
+
+  -- the file ends
+  pub going-ends : ends ≡ statement s sec (drop i s) → good (table (g .hs) (g .rs)) ≡ readFrom (length s + 1) s H R Outside 0 0 s
+  unfolding whole
+  going-ends e = rw (append-nil (g .hs), append-nil (g .rs)) at (turn ends e)
+
+  -- a refusal
+  pub going-refused : (q : Refusal) → refused q ≡ statement s sec (drop i s) → bad q ≡ readFrom (length s + 1) s H R Outside 0 0 s
+  unfolding whole
+  going-refused q e = turn (refused q) e
+
+  -- a section word, or a record that is ignored
+  pub going-moves : (to : Section) (n : ℕ) → moved to (drop n s) ≡ statement s sec (drop i s) → i < n → n ≤ length s → Going s H R write h₀ r₀ n to h r m hnow rnow
+  unfolding whole
+  going-moves to n e p q = record {
+    fuel = g .fuel - 1;
+    hs = g .hs;
+    rs = g .rs;
+    within = q;
+    enough = omega (arith, g .enough);
+    same = turn (moved to (drop n s)) e;
+    hcount = g .hcount;
+    rcount = g .rcount;
+    hroom = g .hroom;
+    rroom = g .rroom;
+    most = g .most;
+    hlaid = g .hlaid;
+    rlaid = g .rlaid;
+  }
+
+  -- a header record with no row left
+  pub header-full : (w : HeaderRow) (p n : ℕ) → header w (drop p s) (drop n s) ≡ statement s sec (drop i s) → H ≤ h → bad (refusal 8 0 (place s (drop p s))) ≡ readFrom (length s + 1) s H R Outside 0 0 s
+  unfolding whole
+  header-full w p n e k = rw (le-ltb h H k) at (turn (header w (drop p s) (drop n s)) e)
+
+  pub record-full : (w : Row) (p n : ℕ) → record′ w (drop p s) (drop n s) ≡ statement s sec (drop i s) → R ≤ r → bad (refusal 8 0 (place s (drop p s))) ≡ readFrom (length s + 1) s H R Outside 0 0 s
+  unfolding whole
+  record-full w p n e k = rw (le-ltb r R k) at (turn (record′ w (drop p s) (drop n s)) e)
+
+  -- a header record, and its row
+  pub going-header : (w : HeaderRow) (p n : ℕ) → header w (drop p s) (drop n s) ≡ statement s sec (drop i s) → i < n → n ≤ length s → h < H → h * 4 + 4 ≤ length h₀
+      → Going s H R write h₀ r₀ n InHeader (h + 1) r m (pick write (sets hnow (h * 4) (four w)) hnow) rnow
+  unfolding whole
+  going-header w p n e a b k l = record {
+    fuel = g .fuel - 1;
+    hs = g .hs ++ (w ∷ []);
+    rs = g .rs;
+    within = b;
+    enough = omega (arith, g .enough);
+    same = sym (join-header (g .hs) (g .rs) w (readFrom (g .fuel - 1) s H R InHeader (h + 1) r (drop n s))) ∙ rw (lt-ltb h H k) at (turn (header w (drop p s) (drop n s)) e);
+    hcount = length-append (g .hs) (w ∷ []) ∙ omega (arith, g .hcount);
+    rcount = g .rcount;
+    hroom = omega arith;
+    rroom = g .rroom;
+    most = g .most;
+    hlaid = rw (g .hlaid) (go write);
+    rlaid = g .rlaid;
+  }
+    where
+      go : (b : Bool) → pick b (sets (wrote b (flat four (g .hs)) h₀) (h * 4) (four w)) (wrote b (flat four (g .hs)) h₀) ≡ wrote b (flat four (g .hs ++ (w ∷ []))) h₀
+      go false = refl
+      go true = rw (← g .hcount) (sym (laid-more 4 four (λ v. refl) (g .hs) w h₀ (rw (g .hcount) l)))
+
+  -- a data record, and its row
+  pub going-record : (w : Row) (p n : ℕ) → record′ w (drop p s) (drop n s) ≡ statement s sec (drop i s) → i < n → n ≤ length s → r < R → r * 6 + 6 ≤ length r₀
+      → Going s H R write h₀ r₀ n InData h (r + 1) (max m (w .id)) hnow (pick write (sets rnow (r * 6) (six w)) rnow)
+  unfolding whole
+  going-record w p n e a b k l = record {
+    fuel = g .fuel - 1;
+    hs = g .hs;
+    rs = g .rs ++ (w ∷ []);
+    within = b;
+    enough = omega (arith, g .enough);
+    same = sym (join-record (g .hs) (g .rs) w (readFrom (g .fuel - 1) s H R InData h (r + 1) (drop n s))) ∙ rw (lt-ltb r R k) at (turn (record′ w (drop p s) (drop n s)) e);
+    hcount = g .hcount;
+    rcount = length-append (g .rs) (w ∷ []) ∙ omega (arith, g .rcount);
+    hroom = g .hroom;
+    rroom = omega arith;
+    most = largest-more (g .rs) w ∙ ap (λ (j : ℕ). max j (w .id)) (g .most);
+    hlaid = g .hlaid;
+    rlaid = rw (g .rlaid) (go write);
+  }
+    where
+      go : (b : Bool) → pick b (sets (wrote b (flat six (g .rs)) r₀) (r * 6) (six w)) (wrote b (flat six (g .rs)) r₀) ≡ wrote b (flat six (g .rs ++ (w ∷ []))) r₀
+      go false = refl
+      go true = rw (← g .rcount) (sym (laid-more 6 six (λ v. refl) (g .rs) w r₀ (rw (g .rcount) l)))
+
+  -- the answer's counts
+  pub going-counts : (x : Told Table) → good (table (g .hs) (g .rs)) ≡ x → good (counts h r m) ≡ mapped countsOf x
+  going-counts x e = rw (← e, g .hcount, g .rcount, g .most) refl
+
+  -- the memory after an answer and after a refusal
+  pub going-wrote : (x : Told Table) → good (table (g .hs) (g .rs)) ≡ x → Written write x (λ t. flat four (t .headers)) h₀ hnow × Written write x (λ t. flat six (t .records)) r₀ rnow
+  going-wrote x e = rw (← e, g .hlaid, g .rlaid) (go write)
+    where
+      go : (b : Bool)
+          → Written b (good (table (g .hs) (g .rs))) (λ t. flat four (t .headers)) h₀ (wrote b (flat four (g .hs)) h₀)
+          × Written b (good (table (g .hs) (g .rs))) (λ t. flat six (t .records)) r₀ (wrote b (flat six (g .rs)) r₀)
+      go true = (refl, refl)
+      go false = (refl, refl)
+
+  pub going-kept : (q : Refusal) (x : Told Table) → bad q ≡ x → Written write x (λ t. flat four (t .headers)) h₀ hnow × Written write x (λ t. flat six (t .records)) r₀ rnow
+  going-kept q x e = rw (← e, g .hlaid, g .rlaid) (go write)
+    where
+      go : (b : Bool)
+          → Written b (bad q) (λ t. flat four (t .headers)) h₀ (wrote b (flat four (g .hs)) h₀)
+          × Written b (bad q) (λ t. flat six (t .records)) r₀ (wrote b (flat six (g .rs)) r₀)
+      go true = (tt, tt)
+      go false = (refl, refl)
+
+-- each place of a row is at most n
+pub record HeaderFits (n : ℕ) (w : HeaderRow) : Type 0 where
+  pub keyStart : w .keyStart ≤ n
+  pub keyEnd : w .keyEnd ≤ n
+  pub argStart : w .argStart ≤ n
+  pub argEnd : w .argEnd ≤ n
+
+pub record RecordFits (n : ℕ) (w : Row) : Type 0 where
+  pub keyStart : w .keyStart ≤ n
+  pub keyEnd : w .keyEnd ≤ n
+  pub argStart : w .argStart ≤ n
+  pub argEnd : w .argEnd ≤ n

@@ -1,0 +1,53 @@
+-- The rows in lent memory, and what the scan's answer says.
+-- Assumes nothing.
+use Prim.Native.Nat.{ℕ, _+_, _*_}
+use mathlib.Core.List.{List, [], _∷_, _++_}
+use lib.ListN.{length, drop}
+use Rattle.error.specs.Refusal.{Refusal, Told, good, bad, told}
+use Rattle.statement.specs.Row.{Row, HeaderRow, mapped}
+use Rattle.scan.specs.File.{Table, largest}
+use Rattle.scan.specs.declared.Scanned.{Scanned}
+use Rattle.scan.specs.declared.Scanned.the-variants.{Rows, Refused}
+
+-- the six numbers of a data row, in document 01's order
+abbrev pub six : Row → List ℕ
+six w = w .id ∷ w .keyStart ∷ w .keyEnd ∷ w .argStart ∷ w .argEnd ∷ w .complex ∷ []
+
+-- the four numbers of a header row
+abbrev pub four : HeaderRow → List ℕ
+four w = w .keyStart ∷ w .keyEnd ∷ w .argStart ∷ w .argEnd ∷ []
+
+-- rows one after the other
+unfoldable pub flat : {A : Type 0} → (A → List ℕ) → List A → List ℕ
+flat f [] = []
+flat f (w ∷ ws) = f w ++ flat f ws
+
+-- "lent rows and output keep their bytes, as does all room beyond an answer": the new numbers, and then the old
+abbrev pub laid : List ℕ → List ℕ → List ℕ
+laid new old = new ++ drop (length new) old
+
+-- the lent header rows and data rows after an answer; a refusal leaves them as they were
+abbrev pub headersAfter : Told Table → List ℕ → List ℕ
+headersAfter (good t) old = laid (flat four (t .headers)) old
+headersAfter (bad q) old = old
+
+abbrev pub rowsAfter : Told Table → List ℕ → List ℕ
+rowsAfter (good t) old = laid (flat six (t .records)) old
+rowsAfter (bad q) old = old
+
+-- an answer's values: the counts of both kinds of row, and the largest id
+pub record Counts : Type 0 where
+  pub headers : ℕ
+  pub records : ℕ
+  pub max : ℕ
+
+abbrev pub counts : ℕ → ℕ → ℕ → Counts
+counts h r m = record { headers = h; records = r; max = m }
+
+abbrev pub countsOf : Table → Counts
+countsOf t = counts (length (t .headers)) (length (t .records)) (largest (t .records))
+
+-- what the code's answer says
+abbrev pub toldScan : Scanned → Told Counts
+toldScan (Rows h r m) = good (counts h r m)
+toldScan (Refused f) = bad (told f)

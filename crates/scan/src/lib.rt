@@ -1,0 +1,110 @@
+// The scan: a lent file becomes rows in lent memory, or one numbered refusal with a place.
+//
+// As `scan` of the Rust's scan.rs. The file is read twice, first to decide and count, then to write, so that a refusal
+// changes nothing that was lent. Nothing is sized by an id: a record takes one row and one id slot, whatever its number.
+ghost use mathlib.Core.Path.{_≡_};
+ghost use mathlib.Core.Bool.{true, false};
+ghost use Prim.Native.Nat.{_+_, _*_, _/_, _≤_, _<_, min, max};
+ghost use lib.ListN.{length, take, drop};
+ghost use lib.Seq.{sets};
+ghost use Rattle.lex.specs.Byte.{pick, white};
+ghost use Rattle.record.specs.Text.{past};
+ghost use Rattle.record.specs.Word.{same, marker};
+ghost use Rattle.statement.specs.Row.{mapped};
+ghost use Rattle.statement.specs.Statement.{rowOf, headerRowOf};
+ghost use Rattle.scan.specs.File.{scanOf, marked, readFrom};
+ghost use Rattle.scan.specs.Table.{six, four, toldScan, countsOf, headersAfter, rowsAfter};
+ghost use Rattle.scan.specs.Laws.{HeaderFits, RecordFits, Written};
+use error::Fault;
+use statement::HeaderSpan;
+use statement::RecordSpan;
+use statement::Said;
+use statement::Section;
+
+// How many header rows and data rows there are, and the largest id; or why there are none.
+pub enum Scanned {
+    Rows {
+        headers: usize,
+        records: usize,
+        max: u32,
+    },
+    Refused(Fault),
+}
+
+// Whether a text begins with these bytes.
+fn starts_with(t: &[u8], w: &[u8]) -> bool
+    ensures { λ r. ⌜ r ≡ same (take (length (now (w .entry))) (now (t .entry))) (now (w .entry)) ⌝ }
+{
+    let n = w.len();
+    if t.len() < n {
+        return false;
+    }
+    record::same_bytes(&t[..n], w)
+}
+
+// Whether a text begins with the marker, after whitespace.
+fn is_marker(t: &[u8]) -> bool
+    ensures { λ r. ⌜ r ≡ same (take 12 (past white (now (t .entry)))) marker ⌝ }
+{
+    let a = record::leading_space(t);
+    starts_with(&t[a..], b"ISO-10303-21")
+}
+
+// Whether the file begins with the marker, after a byte-order mark and whitespace.
+fn is_marked(s: &[u8]) -> bool
+    ensures { λ r. ⌜ r ≡ marked (now (s .entry)) ⌝ }
+{
+    if s.len() < 3 {
+        return is_marker(s);
+    }
+    if starts_with(s, b"\xEF\xBB\xBF") {
+        return is_marker(&s[3..]);
+    }
+    is_marker(s)
+}
+
+// The lesser of two numbers.
+fn least(a: usize, b: usize) -> usize
+    ensures { λ r. ⌜ r ≡ min a b ⌝ }
+{
+    if a < b { a } else { b }
+}
+
+// The greater of two ids.
+fn greater(a: u32, b: u32) -> u32
+    ensures { λ r. ⌜ r ≡ max a b ⌝ }
+{
+    if a < b { b } else { a }
+}
+
+// Stores a header row as row k, where the pass writes.
+fn put_header(out: &mut [u32], k: usize, span: HeaderSpan, write: bool)
+    requires { ⌜ (k * 4 + 4 ≤ length (now out)) × HeaderFits 4294967295 (headerRowOf span) ⌝ }
+    ensures { λ _. ⌜ now (out .exit) ≡ pick write (sets (now (out .entry)) (k * 4) (four (headerRowOf span))) (now (out .entry)) ⌝ }
+{
+    if !write {
+        return;
+    }
+    let at = k * 4;
+    out[at] = span.keyword.start as u32;
+    out[at + 1] = span.keyword.end as u32;
+    out[at + 2] = span.args.start as u32;
+    out[at + 3] = span.args.end as u32;
+}
+
+// Stores a data row as row k, where the pass writes.
+fn put_record(out: &mut [u32], k: usize, span: RecordSpan, write: bool)
+    requires { ⌜ (k * 6 + 6 ≤ length (now out)) × RecordFits 4294967295 (rowOf span) ⌝ }
+    ensures { λ _. ⌜ now (out .exit) ≡ pick write (sets (now (out .entry)) (k * 6) (six (rowOf span))) (now (out .entry)) ⌝ }
+{
+    if !write {
+        return;
+    }
+    let at = k * 6;
+    out[at] = span.id;
+    out[at + 1] = span.keyword.start as u32;
+    out[at + 2] = span.keyword.end as u32;
+    out[at + 3] = span.args.start as u32;
+    out[at + 4] = span.args.end as u32;
+    out[at + 5] = span.complex;
+}
