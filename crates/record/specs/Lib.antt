@@ -3,3 +3,5 @@ pub mod Word
 pub mod Head
 pub mod Turns
 pub mod HeadLaws
+pub mod Form
+pub mod FormRight
