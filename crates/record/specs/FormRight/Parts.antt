@@ -1,22 +1,24 @@
 -- The parts of a text: that it can always be taken apart so, and what the walks of Text.antt do with such a part.
 -- Assumes nothing.
-use Prim.Native.Nat.{ℕ, suc, _+_, _*_, _-_, _^_}
-use mathlib.Core.Path.{_≡_, refl, sym, _∙_, ap}
-use mathlib.Core.Bool.{Bool, true, false, not, _||_, _&&_}
-use mathlib.Core.List.{List, [], _∷_, _++_, append-assoc}
+use Prim.Native.Nat.{ℕ, _+_, _*_, _-_, _^_}
+use mathlib.Core.Path.{_≡_, refl, _∙_, ap}
+use mathlib.Core.Bool.{Bool, true, false}
+use mathlib.Core.List.{List, [], _∷_, _++_}
 use native.Mathlib.Omega.{arith}
 use native.Mathlib.Nat.{pow-succ'}
-use lib.Dec.{eqb, leb}
 use lib.ListN.{length}
-use borrow.Author.Tests.{not-true, not-false, eqb-true}
 use Rattle.lex.specs.Byte.{pick, white}
 use Rattle.lex.specs.Walk.{Turn, on, walk}
 use Rattle.lex.specs.Right.Steps.{clash}
-use Rattle.record.specs.Text.{past, digit, digits, numberFrom, opened, unopened, keyTurn, keyword, trailTurn, trail}
-use Rattle.record.specs.Form.{All, Free, NotFirst, NotLast, Skipped, valueOf}
+use Rattle.record.specs.Text.{past, digit, digits, numberFrom}
+use Rattle.record.specs.Form.{All, NotFirst, NotLast, Skipped, valueOf}
 
--- an empty list has no first byte, and a first byte is the only one
-pub first-none : (p : ℕ → Bool) → NotFirst p []
+-- where whatever answers is a, and something answers, a answers
+pub sole : {A : Type 0} (P : A → Type 0) {a : A} → ((x : A) → P x → x ≡ a) → (x : A) × P x → P a
+sole P only (x, h) = rw (only x h) at h
+
+-- an empty list has no first byte; a list has one
+first-none : (p : ℕ → Bool) → NotFirst p []
 first-none p c r e = clash (cc)
 
 pub first-other : (p : ℕ → Bool) (c : ℕ) (xs : List ℕ) → p c ≡ false → NotFirst p (c ∷ xs)
@@ -26,16 +28,24 @@ first-other p c xs h d r e = ap p (cc) ∙ h
 pub first-part : (p : ℕ → Bool) (t z : List ℕ) → NotFirst p (t ++ z) → NotFirst p t
 first-part p t z h c r e = h c (r ++ z) (cc)
 
--- a list all of one kind, and its parts
+-- a list all of one kind, its parts, and a kind that every byte is of
 pub all-front : (p : ℕ → Bool) (f g : List ℕ) → All p (f ++ g) → All p f
 all-front p [] g h = tt
 all-front p (c ∷ f) g (h, t) = (h, all-front p f g t)
+
+pub all-back : (p : ℕ → Bool) (f g : List ℕ) → All p (f ++ g) → All p g
+all-back p [] g h = h
+all-back p (c ∷ f) g (h, t) = all-back p f g t
+
+pub all-join : (p : ℕ → Bool) (f g : List ℕ) → All p f → All p g → All p (f ++ g)
+all-join p [] g h k = k
+all-join p (c ∷ f) g (h, t) k = (h, all-join p f g t k)
 
 pub all-any : (f : List ℕ) → All (λ c. true) f
 all-any [] = tt
 all-any (c ∷ f) = (refl, all-any f)
 
--- what holds of one kind holds of the other
+-- a kind within another
 pub all-kind : (p q : ℕ → Bool) (f : List ℕ) → ((c : ℕ) → p c ≡ true → q c ≡ true) → All p f → All q f
 all-kind p q [] g h = tt
 all-kind p q (c ∷ f) g (h, t) = (g c h, all-kind p q f g t)
@@ -52,8 +62,8 @@ span p (c ∷ xs) = go (p c) refl (span p xs)
     go true h (f, r, e, s) = (c ∷ f, r, cc, record { all = (h, s .all); over = s .over })
     go false h s = ([], c ∷ xs, refl, record { all = tt; over = first-other p c xs h })
 
--- an empty list has no last byte; a byte before a list that does not end so, and after it
-pub last-none : (p : ℕ → Bool) → NotLast p []
+-- an empty list has no last byte; a list that does not end so, with one byte more or less before it
+last-none : (p : ℕ → Bool) → NotLast p []
 last-none p [] c e = clash (cc)
 last-none p (b ∷ r) c e = clash (cc)
 
@@ -77,7 +87,7 @@ tail-split (c ∷ xs) = go (white c) refl (tail-split xs)
     go true h (d ∷ k, w, e, a, l) = (c ∷ d ∷ k, w, cc, a, last-more white c (d ∷ k) (λ n. clash (cc)) l)
     go false h (k, w, e, a, l) = (c ∷ k, w, cc, a, last-more white c k (λ n. h) l)
 
--- past the bytes of a kind
+-- past bytes of a kind, and where there are none
 pub past-pass : (p : ℕ → Bool) (f r : List ℕ) → All p f → past p (f ++ r) ≡ past p r
 unfolding past walk
 past-pass p [] r h = refl
@@ -88,11 +98,11 @@ unfolding past walk
 past-halt p [] h = refl
 past-halt p (c ∷ r) h = rw (h c r refl)
 
--- one more digit
+-- a number with one digit more
 ten : (n d v e : ℕ) → (n * 10 + d) * e + v ≡ n * (10 * e) + (d * e + v)
 ten n d v e = omega arith
 
--- the number of digits after others
+-- the number of digits after those that gave n, and where there are none
 pub number-pass : (n : ℕ) (ds r : List ℕ) → All digit ds → numberFrom n (ds ++ r) ≡ numberFrom (n * 10 ^ length ds + valueOf ds) r
 unfolding numberFrom walk valueOf
 number-pass n [] r h = ap (λ (m : ℕ). numberFrom m r) (omega arith)
@@ -115,8 +125,10 @@ module _ {A : Type 0} (t : List ℕ → ℕ → List ℕ → Turn (List ℕ) A) 
   word-some : (e : List ℕ) (c : ℕ) (k y : List ℕ) → All q (c ∷ k) → NotLast white (c ∷ k) → walk t z e (c ∷ (k ++ y)) ≡ walk t z y y
   unfolding walk
   word-some e c [] y (a, u) l = rw (goes c a e y, l [] c refl)
-  word-some e c (d ∷ k) y (a, u) l = rw (goes c a e (d ∷ (k ++ y))) (word-some (pick (white c) e (d ∷ (k ++ y))) d k y u (last-next white c (d ∷ k) l))
+  word-some e c (d ∷ k) y (a, u) l =
+      rw (goes c a e (d ∷ (k ++ y))) (word-some (pick (white c) e (d ∷ (k ++ y))) d k y u (last-next white c (d ∷ k) l))
 
-  pub word-pass : (k w y : List ℕ) → All q k → NotLast white k → All q w → All white w → walk t z (k ++ (w ++ y)) (k ++ (w ++ y)) ≡ walk t z (w ++ y) y
+  pub word-pass : (k w y : List ℕ) → All q k → NotLast white k → All q w → All white w
+      → walk t z (k ++ (w ++ y)) (k ++ (w ++ y)) ≡ walk t z (w ++ y) y
   word-pass [] w y a l b h = blank-pass (w ++ y) w y b h
   word-pass (c ∷ k) w y a l b h = word-some (c ∷ (k ++ (w ++ y))) c k (w ++ y) a l ∙ blank-pass (w ++ y) w y b h
