@@ -4,3 +4,5 @@ pub mod Head
 pub mod Turns
 pub mod HeadLaws
 pub mod Within
+pub mod Form
+pub mod FormRight

@@ -48,6 +48,10 @@ unfoldable pub readFrom : ℕ → List ℕ → ℕ → ℕ → Section → ℕ �
 readFrom zero s H R sec h r xs = bad (refusal 0 0 0)
 readFrom (suc k) s H R sec h r xs = taken s H R h r (statement s sec xs) (λ sec h r t. readFrom k s H R sec h r t)
 
+-- the whole file, from its first byte, outside of every section; a byte-order mark is the first byte of the first record
+abbrev pub readingOf : List ℕ → ℕ → ℕ → Told Table
+readingOf s H R = readFrom (length s + 1) s H R Outside 0 0 s
+
 -- the byte-order mark EF BB BF
 abbrev pub mark : List ℕ
 mark = 239 ∷ 187 ∷ 191 ∷ []
@@ -64,7 +68,7 @@ marked s = same (take 12 (past white (unmarked s))) marker
 unfoldable pub scanOf : List ℕ → ℕ → ℕ → Told Table
 scanOf s H R =
     pick (ltb 4294967295 (length s)) (bad (refusal 2 0 0))
-    (pick (marked s) (readFrom (length s + 1) s H R Outside 0 0 s) (bad (refusal 1 0 0)))
+    (pick (marked s) (readingOf s H R) (bad (refusal 1 0 0)))
 
 -- the largest id, 0 where there is no record
 unfoldable pub largest : List Row → ℕ

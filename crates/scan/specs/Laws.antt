@@ -16,8 +16,8 @@ use Rattle.statement.specs.Row.{Row, HeaderRow, mapped}
 use Rattle.statement.specs.Statement.{Stmt, ends, refused, moved, header, record′, statement}
 use Rattle.statement.specs.declared.Section.{Section}
 use Rattle.statement.specs.declared.Section.the-variants.{Outside, InHeader, InData}
-use Rattle.scan.specs.File.{Table, table, withHeader, withRecord, roomed, taken, readFrom, largest}
-use Rattle.scan.specs.Table.{six, four, flat, laid, Counts, counts, countsOf}
+use Rattle.scan.specs.File.{Table, table, withHeader, withRecord, roomed, taken, readFrom, readingOf, largest}
+use Rattle.scan.specs.Table.{six, four, flat, headerNumbers, recordNumbers, laid, Counts, counts, countsOf}
 
 -- rows before those of the rest of the file
 abbrev pub join : List HeaderRow → List Row → Table → Table
@@ -76,7 +76,7 @@ pub record Going (s : List ℕ) (H R : ℕ) (write : Bool) (h₀ r₀ : List ℕ
   pub rs : List Row
   pub within : i ≤ length s
   pub enough : length s - i < fuel
-  pub same : mapped (join hs rs) (readFrom fuel s H R sec h r (drop i s)) ≡ readFrom (length s + 1) s H R Outside 0 0 s
+  pub same : mapped (join hs rs) (readFrom fuel s H R sec h r (drop i s)) ≡ readingOf s H R
   pub hcount : length hs ≡ h
   pub rcount : length rs ≡ r
   pub hroom : h ≤ H
@@ -114,7 +114,7 @@ going-starts s H R write h₀ r₀ = record {
   rs = [];
   within = omega arith;
   enough = omega arith;
-  same = join-none (readFrom (length s + 1) s H R Outside 0 0 s);
+  same = join-none (readingOf s H R);
   hcount = refl;
   rcount = refl;
   hroom = omega arith;
@@ -130,28 +130,20 @@ going-starts s H R write h₀ r₀ = record {
 
 module _ (s : List ℕ) (H R : ℕ) (write : Bool) (h₀ r₀ : List ℕ) (i : ℕ) (sec : Section) (h r m : ℕ) (hnow rnow : List ℕ)
     (g : Going s H R write h₀ r₀ i sec h r m hnow rnow) where
-  -- the whole reading
-  whole : Told Table
-  whole = readFrom (length s + 1) s H R Outside 0 0 s
-
   -- the whole reading, by the next statement
-  turn : (x : Stmt) → x ≡ statement s sec (drop i s) → mapped (join (g .hs) (g .rs)) (taken s H R h r x (λ sec h r t. readFrom (g .fuel - 1) s H R sec h r t)) ≡ whole
-  unfolding whole
+  turn : (x : Stmt) → x ≡ statement s sec (drop i s) → mapped (join (g .hs) (g .rs)) (taken s H R h r x (λ sec h r t. readFrom (g .fuel - 1) s H R sec h r t)) ≡ readingOf s H R
   turn x e = rw (e, ← unrolled (g .fuel) s H R sec h r (drop i s) (omega (arith, g .enough))) (g .same)
 
   -- the file ends
-  pub going-ends : ends ≡ statement s sec (drop i s) → good (table (g .hs) (g .rs)) ≡ readFrom (length s + 1) s H R Outside 0 0 s
-  unfolding whole
+  pub going-ends : ends ≡ statement s sec (drop i s) → good (table (g .hs) (g .rs)) ≡ readingOf s H R
   going-ends e = rw (append-nil (g .hs), append-nil (g .rs)) at (turn ends e)
 
   -- a refusal
-  pub going-refused : (q : Refusal) → refused q ≡ statement s sec (drop i s) → bad q ≡ readFrom (length s + 1) s H R Outside 0 0 s
-  unfolding whole
+  pub going-refused : (q : Refusal) → refused q ≡ statement s sec (drop i s) → bad q ≡ readingOf s H R
   going-refused q e = turn (refused q) e
 
   -- a section word, or a record that is ignored
   pub going-moves : (to : Section) (n : ℕ) → moved to (drop n s) ≡ statement s sec (drop i s) → i < n → n ≤ length s → Going s H R write h₀ r₀ n to h r m hnow rnow
-  unfolding whole
   going-moves to n e p q = record {
     fuel = g .fuel - 1;
     hs = g .hs;
@@ -169,18 +161,15 @@ module _ (s : List ℕ) (H R : ℕ) (write : Bool) (h₀ r₀ : List ℕ) (i : �
   }
 
   -- a header record with no row left
-  pub header-full : (w : HeaderRow) (p n : ℕ) → header w (drop p s) (drop n s) ≡ statement s sec (drop i s) → H ≤ h → bad (refusal 8 0 (place s (drop p s))) ≡ readFrom (length s + 1) s H R Outside 0 0 s
-  unfolding whole
+  pub header-full : (w : HeaderRow) (p n : ℕ) → header w (drop p s) (drop n s) ≡ statement s sec (drop i s) → H ≤ h → bad (refusal 8 0 (place s (drop p s))) ≡ readingOf s H R
   header-full w p n e k = rw (le-ltb h H k) at (turn (header w (drop p s) (drop n s)) e)
 
-  pub record-full : (w : Row) (p n : ℕ) → record′ w (drop p s) (drop n s) ≡ statement s sec (drop i s) → R ≤ r → bad (refusal 8 0 (place s (drop p s))) ≡ readFrom (length s + 1) s H R Outside 0 0 s
-  unfolding whole
+  pub record-full : (w : Row) (p n : ℕ) → record′ w (drop p s) (drop n s) ≡ statement s sec (drop i s) → R ≤ r → bad (refusal 8 0 (place s (drop p s))) ≡ readingOf s H R
   record-full w p n e k = rw (le-ltb r R k) at (turn (record′ w (drop p s) (drop n s)) e)
 
   -- a header record, and its row
   pub going-header : (w : HeaderRow) (p n : ℕ) → header w (drop p s) (drop n s) ≡ statement s sec (drop i s) → i < n → n ≤ length s → h < H → h * 4 + 4 ≤ length h₀
       → Going s H R write h₀ r₀ n InHeader (h + 1) r m (pick write (sets hnow (h * 4) (four w)) hnow) rnow
-  unfolding whole
   going-header w p n e a b k l = record {
     fuel = g .fuel - 1;
     hs = g .hs ++ (w ∷ []);
@@ -204,7 +193,6 @@ module _ (s : List ℕ) (H R : ℕ) (write : Bool) (h₀ r₀ : List ℕ) (i : �
   -- a data record, and its row
   pub going-record : (w : Row) (p n : ℕ) → record′ w (drop p s) (drop n s) ≡ statement s sec (drop i s) → i < n → n ≤ length s → r < R → r * 6 + 6 ≤ length r₀
       → Going s H R write h₀ r₀ n InData h (r + 1) (max m (w .id)) hnow (pick write (sets rnow (r * 6) (six w)) rnow)
-  unfolding whole
   going-record w p n e a b k l = record {
     fuel = g .fuel - 1;
     hs = g .hs;
@@ -230,21 +218,21 @@ module _ (s : List ℕ) (H R : ℕ) (write : Bool) (h₀ r₀ : List ℕ) (i : �
   going-counts x e = rw (← e, g .hcount, g .rcount, g .most) refl
 
   -- the memory after an answer and after a refusal
-  pub going-wrote : (x : Told Table) → good (table (g .hs) (g .rs)) ≡ x → Written write x (λ t. flat four (t .headers)) h₀ hnow × Written write x (λ t. flat six (t .records)) r₀ rnow
+  pub going-wrote : (x : Told Table) → good (table (g .hs) (g .rs)) ≡ x → Written write x headerNumbers h₀ hnow × Written write x recordNumbers r₀ rnow
   going-wrote x e = rw (← e, g .hlaid, g .rlaid) (go write)
     where
       go : (b : Bool)
-          → Written b (good (table (g .hs) (g .rs))) (λ t. flat four (t .headers)) h₀ (wrote b (flat four (g .hs)) h₀)
-          × Written b (good (table (g .hs) (g .rs))) (λ t. flat six (t .records)) r₀ (wrote b (flat six (g .rs)) r₀)
+          → Written b (good (table (g .hs) (g .rs))) headerNumbers h₀ (wrote b (flat four (g .hs)) h₀)
+          × Written b (good (table (g .hs) (g .rs))) recordNumbers r₀ (wrote b (flat six (g .rs)) r₀)
       go true = (refl, refl)
       go false = (refl, refl)
 
-  pub going-kept : (q : Refusal) (x : Told Table) → bad q ≡ x → Written write x (λ t. flat four (t .headers)) h₀ hnow × Written write x (λ t. flat six (t .records)) r₀ rnow
+  pub going-kept : (q : Refusal) (x : Told Table) → bad q ≡ x → Written write x headerNumbers h₀ hnow × Written write x recordNumbers r₀ rnow
   going-kept q x e = rw (← e, g .hlaid, g .rlaid) (go write)
     where
       go : (b : Bool)
-          → Written b (bad q) (λ t. flat four (t .headers)) h₀ (wrote b (flat four (g .hs)) h₀)
-          × Written b (bad q) (λ t. flat six (t .records)) r₀ (wrote b (flat six (g .rs)) r₀)
+          → Written b (bad q) headerNumbers h₀ (wrote b (flat four (g .hs)) h₀)
+          × Written b (bad q) recordNumbers r₀ (wrote b (flat six (g .rs)) r₀)
       go true = (tt, tt)
       go false = (refl, refl)
 

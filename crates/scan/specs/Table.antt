@@ -22,17 +22,24 @@ unfoldable pub flat : {A : Type 0} → (A → List ℕ) → List A → List ℕ
 flat f [] = []
 flat f (w ∷ ws) = f w ++ flat f ws
 
+-- the numbers of a table's header rows, and of its data rows
+abbrev pub headerNumbers : Table → List ℕ
+headerNumbers t = flat four (t .headers)
+
+abbrev pub recordNumbers : Table → List ℕ
+recordNumbers t = flat six (t .records)
+
 -- "lent rows and output keep their bytes, as does all room beyond an answer": the new numbers, and then the old
 abbrev pub laid : List ℕ → List ℕ → List ℕ
 laid new old = new ++ drop (length new) old
 
 -- the lent header rows and data rows after an answer; a refusal leaves them as they were
 abbrev pub headersAfter : Told Table → List ℕ → List ℕ
-headersAfter (good t) old = laid (flat four (t .headers)) old
+headersAfter (good t) old = laid (headerNumbers t) old
 headersAfter (bad q) old = old
 
 abbrev pub rowsAfter : Told Table → List ℕ → List ℕ
-rowsAfter (good t) old = laid (flat six (t .records)) old
+rowsAfter (good t) old = laid (recordNumbers t) old
 rowsAfter (bad q) old = old
 
 -- an answer's values: the counts of both kinds of row, and the largest id

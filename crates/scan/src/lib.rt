@@ -12,8 +12,8 @@ ghost use Rattle.record.specs.Text.{past};
 ghost use Rattle.record.specs.Word.{same, marker};
 ghost use Rattle.statement.specs.Row.{mapped};
 ghost use Rattle.statement.specs.Statement.{rowOf, headerRowOf};
-ghost use Rattle.scan.specs.File.{scanOf, marked, readFrom};
-ghost use Rattle.scan.specs.Table.{six, four, toldScan, countsOf, headersAfter, rowsAfter};
+ghost use Rattle.scan.specs.File.{scanOf, marked, readingOf};
+ghost use Rattle.scan.specs.Table.{six, four, headerNumbers, recordNumbers, toldScan, countsOf, headersAfter, rowsAfter};
 ghost use Rattle.scan.specs.Laws.{HeaderFits, RecordFits, Written};
 use error::Fault;
 use statement::HeaderSpan;
@@ -107,4 +107,56 @@ fn put_record(out: &mut [u32], k: usize, span: RecordSpan, write: bool)
     out[at + 3] = span.args.start as u32;
     out[at + 4] = span.args.end as u32;
     out[at + 5] = span.complex;
+}
+
+// Reads the file in order: counts, and where `write` is set stores each row. What is stored before a refusal stays, so
+// the scan writes only where an earlier pass has found none.
+fn pass(s: &[u8], headers: &mut [u32], rows: &mut [u32], slots: usize, write: bool) -> Scanned
+    requires { ⌜ length (now s) ≤ 4294967295 ⌝ }
+    ensures { λ r. ⌜ toldScan r ≡ mapped countsOf (readingOf (now (s .entry)) (length (now (headers .entry)) / 4) (min (length (now (rows .entry)) / 6) slots)) ⌝ }
+    ensures { λ _. ⌜ Written write (readingOf (now (s .entry)) (length (now (headers .entry)) / 4) (min (length (now (rows .entry)) / 6) slots)) headerNumbers (now (headers .entry)) (now (headers .exit)) ⌝ }
+    ensures { λ _. ⌜ Written write (readingOf (now (s .entry)) (length (now (headers .entry)) / 4) (min (length (now (rows .entry)) / 6) slots)) recordNumbers (now (rows .entry)) (now (rows .exit)) ⌝ }
+{
+    let hroom = headers.len() / 4;
+    let room = least(rows.len() / 6, slots);
+    let mut i = 0;
+    let mut section = Section::Outside;
+    let mut h: usize = 0;
+    let mut r: usize = 0;
+    let mut max: u32 = 0;
+    loop {
+        match statement::next_statement(s, i, section) {
+            Said::Ends => {
+                return Scanned::Rows {
+                    headers: h,
+                    records: r,
+                    max,
+                };
+            }
+            Said::Refuses(f) => return Scanned::Refused(f),
+            Said::Moves(to, next) => {
+                section = to;
+                i = next;
+            }
+            Said::Heads(span, start, next) => {
+                if hroom <= h {
+                    return Scanned::Refused(Fault::NoRow(start));
+                }
+                put_header(headers, h, span, write);
+                section = Section::InHeader;
+                h += 1;
+                i = next;
+            }
+            Said::Records(span, start, next) => {
+                if room <= r {
+                    return Scanned::Refused(Fault::NoRow(start));
+                }
+                put_record(rows, r, span, write);
+                section = Section::InData;
+                r += 1;
+                max = greater(max, span.id);
+                i = next;
+            }
+        }
+    }
 }

@@ -11,7 +11,7 @@ use Rattle.scan.proofs.put_record.Lts as lts
 
 -- src/lib.rt:101:9
 returns : tie.Need-returns
-returns c = rw (not-true _ (c .if1 .taken)) refl
+returns c = rw (not-true (c .before .args .write) (c .if1 .taken)) refl
 
 -- src/lib.rt:103:14
 mul-at : tie.Need-mul-at
@@ -107,7 +107,7 @@ same-length c = search needs
 
 -- src/lib.rt:96:1
 returns-2 : tie.Need-returns-2
-returns-2 c = rw (not-false _ (c .before .before .before .before .if1 .left)) (simp towards-suc)
+returns-2 c = rw (not-false (c .before .before .before .before .before .args .write) (c .before .before .before .before .if1 .left)) (simp towards-suc)
 
 pub put-record-spec : {M : Type 1} → statement M
 put-record-spec =

@@ -1,0 +1,398 @@
+-- Form.antt's rules and what Text.antt, Head.antt and Word.antt compute are one: what is computed is so, and nothing else is.
+-- Assumes nothing.
+use Prim.Native.Nat.{ℕ, zero, suc, _+_, _*_, _-_, _^_, _≤_, _<_}
+use Prim.Native.String.{String}
+use mathlib.Core.Path.{_≡_, refl, sym, _∙_, ap}
+use mathlib.Core.Bool.{Bool, true, false, not, _||_, _&&_}
+use mathlib.Core.Logic.{_⊎_, inl, inr}
+use mathlib.Core.List.{List, [], _∷_, _++_, map, append-assoc, append-nil, map-append}
+use native.Mathlib.Omega.{arith}
+use native.Mathlib.Decide.{ℕ-discrete}
+use lib.Dec.{eqb, leb}
+use lib.ListN.{length, take, drop, length-append, length-map, take-append-drop}
+use lib.Seq.{take-at, drop-at}
+use borrow.Author.Tests.{not-true, not-false, leb-false, leb-true, lt-ltb, le-ltb, eqb-true, eq-eqb, ne-eqb}
+use Rattle.lex.specs.Byte.{pick, white, place}
+use Rattle.lex.specs.Walk.{on, walk}
+use Rattle.lex.specs.Grammar.{Begins}
+use Rattle.lex.specs.Right.Steps.{clash}
+use Rattle.record.specs.Text.{past, digit, Digits, digits, numberFrom, opened, unopened, keyTurn, keyword, trailTurn, trail}
+use Rattle.record.specs.Turns.{bounds, number-grows}
+use Rattle.record.specs.Head.{valueHead, equalHead, dataHead, headerHead}
+use Rattle.record.specs.Word.{upper, same, isWord, opens, endsec, header, dataWord, endFile, opensData, trimmed, wordIn, wordOf}
+use Rattle.record.specs.Form.{All, Free, NotFirst, NotLast, Skipped, valueOf, Id, Keyword, Lead, HeadForm, HeaderForm}
+use Rattle.record.specs.Form.{Trimmed, bytes, Spelt, Says, WordForm}
+use Rattle.record.specs.declared.Head.{Head}
+use Rattle.record.specs.declared.Head.the-variants.{Bad, Complex, Simple}
+use Rattle.record.specs.declared.Word.{Word}
+use Rattle.record.specs.declared.Word.the-variants.{Header, Data, EndSection, EndFile, Other}
+pub mod Parts
+use Parts.{sole, first-other, first-part, all-front, all-back, all-join, all-any, all-kind, Spanned, span, Tailed, tail-split}
+use Parts.{past-pass, past-halt, number-pass, number-halt, word-pass}
+
+-- what is left past bytes of a kind, where they are given
+pub past-only : (p : ℕ → Bool) (f r : List ℕ) → Skipped p f r → past p (f ++ r) ≡ r
+past-only p f r s = past-pass p f r (s .all) ∙ past-halt p r (s .over)
+
+-- what is left past bytes of a kind is that
+pub past-is : (p : ℕ → Bool) (xs : List ℕ) → (f : List ℕ) × (xs ≡ f ++ past p xs) × Skipped p f (past p xs)
+past-is p xs = go (span p xs)
+  where
+    go : Spanned p xs → (f : List ℕ) × (xs ≡ f ++ past p xs) × Skipped p f (past p xs)
+    go (f, r, e, s) =
+        let g : past p xs ≡ r = ap (past p) e ∙ past-only p f r s in
+        (f, rw g e, rw g s)
+
+-- the number of digits and what follows them, where they are given
+pub number-only : (ds r : List ℕ) → Skipped digit ds r → numberFrom 0 (ds ++ r) ≡ digits (valueOf ds) r
+number-only ds r s = number-pass 0 ds r (s .all) ∙ number-halt _ r (s .over) ∙ ap (λ (m : ℕ). digits m r) (omega arith)
+
+-- the number that is read is that of the digits, and what is left follows them
+pub number-is : (xs : List ℕ) (n : ℕ) (r : List ℕ) → numberFrom 0 xs ≡ digits n r
+    → (ds : List ℕ) × (xs ≡ ds ++ r) × Skipped digit ds r × (n ≡ valueOf ds)
+number-is xs n r h = go (span digit xs)
+  where
+    go : Spanned digit xs → (ds : List ℕ) × (xs ≡ ds ++ r) × Skipped digit ds r × (n ≡ valueOf ds)
+    go (ds, s, e, k) =
+        let g : digits n r ≡ digits (valueOf ds) s = sym h ∙ ap (numberFrom 0) e ∙ number-only ds s k in
+        let q : r ≡ s = ap (λ (d : Digits). d .rest) g in
+        (ds, rw q e, rw q k, ap (λ (d : Digits). d .value) g)
+
+-- whitespace is no other byte
+white-other : (b c : ℕ) → white b ≡ false → white c ≡ true → not (eqb c b) ≡ true
+white-other b c h k = rw (ne-eqb c b (λ e. clash (cc)))
+
+white-free : (w : List ℕ) → All white w → Free 40 w
+white-free w = all-kind white (λ c. not (eqb c 40)) w (λ c. white-other 40 c refl)
+
+-- the search for a `(` passes over other bytes
+key-goes : (c : ℕ) → not (eqb c 40) ≡ true → (e r : List ℕ) → keyTurn e c r ≡ on (pick (white c) e r)
+key-goes c h e r = rw (not-true (eqb c 40) h)
+
+-- "a keyword and the first byte `(`": where they are given they are found
+pub keyword-only : {xs k w r : List ℕ} → Keyword xs k w r → keyword xs ≡ opened (w ++ (40 ∷ r)) (40 ∷ r)
+unfolding keyword walk
+keyword-only {k} {w} {r} f =
+    let free : Free 40 w = white-free w (f .blank) in
+    rw (f .shape) (word-pass keyTurn (λ e. unopened) (λ c. not (eqb c 40)) key-goes k w (40 ∷ r) (f .first) (f .ended) free (f .blank))
+
+-- without a `(` none is found
+pub keyword-none-only : (xs : List ℕ) → Free 40 xs → keyword xs ≡ unopened
+unfolding keyword walk
+keyword-none-only xs h = go xs xs h
+  where
+    go : (e ys : List ℕ) → Free 40 ys → walk keyTurn (λ u. unopened) e ys ≡ unopened
+    go e [] h = refl
+    go e (c ∷ ys) (h, t) = rw (not-true (eqb c 40) h) (go (pick (white c) e ys) ys t)
+
+-- a text has a keyword and a `(`, or no `(`
+abbrev Keys : List ℕ → Type 0
+Keys xs = ((k w r : List ℕ) × Keyword xs k w r) ⊎ Free 40 xs
+
+keyword-comes : (xs : List ℕ) → Keys xs
+keyword-comes xs = go (span (λ c. not (eqb c 40)) xs)
+  where
+    cut : (f r : List ℕ) → xs ≡ f ++ (40 ∷ r) → Free 40 f → Tailed f → Keys xs
+    cut f r e h (k, w, g, a, l) =
+        inl (k, w, r, record { shape = cc (append-assoc k w (40 ∷ r)); first = all-front _ k w (rw g at h); blank = a; ended = l })
+
+    go : Spanned (λ c. not (eqb c 40)) xs → Keys xs
+    go (f, [], e, s) = inr (rw (e, append-nil) (s .all))
+    go (f, c ∷ r, e, s) =
+        let h : c ≡ 40 = eqb-true c 40 (not-false (eqb c 40) (s .over c r refl)) in
+        cut f r (rw h at e) (s .all) (tail-split f)
+
+-- "a keyword and the first byte `(`": what is found is that
+pub keyword-is : (xs e o : List ℕ) → keyword xs ≡ opened e o → (k w r : List ℕ) × (o ≡ 40 ∷ r) × (e ≡ w ++ (40 ∷ r)) × Keyword xs k w r
+keyword-is xs e o h = go (keyword-comes xs)
+  where
+    go : Keys xs → (k w r : List ℕ) × (o ≡ 40 ∷ r) × (e ≡ w ++ (40 ∷ r)) × Keyword xs k w r
+    go (inl (k, w, r, f)) = (k, w, r, cc (keyword-only f), cc (keyword-only f), f)
+    go (inr f) = clash (cc (keyword-none-only xs f))
+
+-- where none is found, there is no `(`
+pub keyword-none : (xs : List ℕ) → keyword xs ≡ unopened → Free 40 xs
+keyword-none xs h = go (keyword-comes xs)
+  where
+    go : Keys xs → Free 40 xs
+    go (inl (k, w, r, f)) = clash (cc (keyword-only f))
+    go (inr f) = f
+
+-- the whitespace at the end, where it is given
+trail-only : (t z : List ℕ) → NotLast white t → All white z → trail (t ++ z) ≡ z
+unfolding trail walk
+trail-only t z l a = rw (append-nil z) at (word-pass trailTurn (λ e. e) (λ c. true) (λ c h e r. refl) t z [] (all-any t) l (all-any z) a)
+
+-- "Trimmed of whitespace": the trimmed text is the one that is computed
+pub trimmed-only : {xs t : List ℕ} → Trimmed xs t → t ≡ trimmed xs
+trimmed-only {t} f = rw (f .shape) (go t (f .first) (f .last))
+  where
+    go : (u : List ℕ) → NotFirst white u → NotLast white u → u ≡ trimmed (f .front ++ (u ++ f .back))
+    go [] h l =
+        let none : past white (f .back ++ []) ≡ [] = past-only white (f .back) [] (record { all = f .after; over = h }) in
+        let e : past white (f .front ++ f .back) ≡ [] = past-pass white (f .front) (f .back) (f .before) ∙ (rw append-nil at none) in
+        rw (e, trail-only [] [] l tt)
+    go (c ∷ u) h l =
+        let o : NotFirst white (c ∷ (u ++ f .back)) = first-other white c (u ++ f .back) (h c u refl) in
+        let e = past-only white (f .front) (c ∷ (u ++ f .back)) (record { all = f .before; over = o }) in
+        let n : length (c ∷ u) ≡ length (c ∷ (u ++ f .back)) - length (f .back) = simp length-append (omega arith) in
+        rw (e, trail-only (c ∷ u) (f .back) l (f .after)) (sym (take-at (c ∷ u) (f .back) _ n))
+
+-- every text can be trimmed
+trimmed-comes : (xs : List ℕ) → (t : List ℕ) × Trimmed xs t
+trimmed-comes xs = go (span white xs)
+  where
+    cut : (a r : List ℕ) → xs ≡ a ++ r → Skipped white a r → Tailed r → (t : List ℕ) × Trimmed xs t
+    cut a r e s (t, z, g, b, l) =
+        let o : NotFirst white t = first-part white t z (rw g at (s .over)) in
+        (t, record { front = a; back = z; shape = cc; before = s .all; after = b; first = o; last = l })
+
+    go : Spanned white xs → (t : List ℕ) × Trimmed xs t
+    go (a, r, e, s) = cut a r e s (tail-split r)
+
+-- "Trimmed of whitespace": what is computed is that
+pub trimmed-is : (xs : List ℕ) → Trimmed xs (trimmed xs)
+trimmed-is xs = sole (Trimmed xs) (λ t. trimmed-only) (trimmed-comes xs)
+
+-- no whitespace is a digit, so digits end before it
+white-digit : (c : ℕ) → white c ≡ true → digit c ≡ false
+white-digit c h = go (digit c) refl
+  where
+    go : (t : Bool) → digit c ≡ t → digit c ≡ false
+    go false e = e
+    go true e =
+        let l : (48 ≤ c) × (c ≤ 57) = bounds 48 c 57 e in
+        let n : (b : ℕ) → (c ≡ b → ⊥) → eqb c b ≡ false = ne-eqb c in
+        let w : white c ≡ false = rw (n 32 (omega arith), n 9 (omega arith), n 10 (omega arith), n 12 (omega arith), n 13 (omega arith)) in
+        clash (cc)
+
+first-white : (w y : List ℕ) → All white w → NotFirst digit y → NotFirst digit (w ++ y)
+first-white [] y h k = k
+first-white (c ∷ w) y (h, t) k = first-other digit c (w ++ y) (white-digit c h)
+
+-- an id was read
+id-only : (ds y : List ℕ) → Id ds → NotFirst digit y → dataHead (35 ∷ (ds ++ y)) ≡ equalHead (35 ∷ (ds ++ y)) (valueOf ds) (past white y)
+unfolding dataHead
+id-only ds y i h =
+    let s : Skipped digit ds y = record { all = i .all; over = h } in
+    rw (number-only ds y s, le-ltb 4294967295 (valueOf ds) (i .within), ne-eqb (length y) (length (ds ++ y)) (longer ds (i .some)))
+  where
+    longer : (f : List ℕ) → (f ≡ [] → ⊥) → length y ≡ length (f ++ y) → ⊥
+    longer [] n e = n refl
+    longer (d ∷ f) n e = omega (arith, length-append f y)
+
+-- all up to the value was read
+lead-only : {a : List ℕ} {n : ℕ} {v : List ℕ} → Lead a n v → dataHead (a ++ v) ≡ valueHead (a ++ v) n v
+lead-only (Lead.lead ds w u v i b s) =
+    let e : (35 ∷ (ds ++ (w ++ (61 ∷ u)))) ++ v ≡ 35 ∷ (ds ++ (w ++ (61 ∷ (u ++ v)))) = simp append-assoc in
+    let o : NotFirst white (61 ∷ (u ++ v)) = first-other white 61 (u ++ v) refl in
+    rw e (id-only ds (w ++ (61 ∷ (u ++ v))) i (first-white w _ b (first-other digit 61 (u ++ v) refl))
+    ∙ rw (past-only white w (61 ∷ (u ++ v)) (record { all = b; over = o }), past-only white u v s) refl)
+
+-- what stands where an `=` should, and after it
+module _ (b : List ℕ) (n : ℕ) where
+  equal-none : (r : List ℕ) → (Begins 61 r → ⊥) → equalHead b n r ≡ Bad 5
+  equal-none [] h = refl
+  equal-none (c ∷ r) h = rw (ne-eqb c 61 (λ e. h (r, cc)))
+
+  value-none : (v : List ℕ) → (v ≡ [] → ⊥) → Free 40 v → valueHead b n v ≡ Bad 7
+  value-none [] z h = absurd (z refl)
+  value-none (c ∷ r) z h = rw (not-true (eqb c 40) (h .0), keyword-none-only (c ∷ r) h)
+
+  value-keyed : (v k w r : List ℕ) → (Begins 40 v → ⊥) → Keyword v k w r
+      → valueHead b n v ≡ Simple n (place b v) (place b (w ++ (40 ∷ r))) (place b (40 ∷ r))
+  value-keyed [] k w r h f = clash (cc (keyword-only f, keyword-none-only [] tt))
+  value-keyed (c ∷ v) k w r h f = rw (ne-eqb c 40 (λ e. h (v, cc)), keyword-only f)
+
+-- a keyword's places are the numbers of bytes before them
+keyed-places : (n : ℕ) (a : List ℕ) {v k w r : List ℕ} → Keyword v k w r
+    → Simple n (length a) (length (a ++ k)) (length (a ++ (k ++ w)))
+    ≡ Simple n (place (a ++ v) v) (place (a ++ v) (w ++ (40 ∷ r))) (place (a ++ v) (40 ∷ r))
+keyed-places n a {v} {k} {w} {r} f =
+    let x : length a ≡ place (a ++ v) v = simp length-append (omega arith) in
+    let y : length (a ++ k) ≡ place (a ++ v) (w ++ (40 ∷ r)) = rw (f .shape) (simp length-append (omega arith)) in
+    let z : length (a ++ (k ++ w)) ≡ place (a ++ v) (40 ∷ r) = rw (f .shape) (simp length-append (omega arith)) in
+    cc
+
+-- "Data: `#`, digits ..", reasons 2 to 7: the head of a text by the rules is the one that is computed
+pub headform-only : {b : List ℕ} {h : Head} → HeadForm b h → h ≡ dataHead b
+unfolding dataHead
+headform-only (HeadForm.unmarked [] h) = refl
+headform-only (HeadForm.unmarked (c ∷ r) h) = rw (ne-eqb c 35 (λ e. h (r, cc)))
+headform-only (HeadForm.above ds r a h) =
+    let n : ℕ = 0 * 10 ^ length ds + valueOf ds in
+    let g : 4294967295 < numberFrom 0 (ds ++ r) .value = rw (number-pass 0 ds r a) (omega (arith, number-grows n r)) in
+    rw (lt-ltb 4294967295 (numberFrom 0 (ds ++ r) .value) g)
+headform-only (HeadForm.numberless r h) = rw (number-halt 0 r h, eq-eqb (length r) (length r) refl)
+headform-only (HeadForm.unequal ds w r i d s h) = sym (id-only ds (w ++ r) i d ∙ rw (past-only white w r s) (equal-none _ (valueOf ds) r h))
+headform-only (HeadForm.valueless {a} l) = sym (rw (append-nil a) at (lead-only l))
+headform-only (HeadForm.unopened {a} {v} {n} l z f) = sym (lead-only l ∙ value-none (a ++ v) n v z f)
+headform-only (HeadForm.complex {a} {r} {n} l) = ap (Complex n) (simp length-append (omega arith)) ∙ sym (lead-only l)
+headform-only (HeadForm.simple {a} {v} {k} {w} {r} {n} l h f) = keyed-places n a f ∙ sym (lead-only l ∙ value-keyed (a ++ v) n v k w r h f)
+
+-- every text has a head: by what stands after `=`, in place of `=`, after `#`, and at the start
+abbrev Heads : List ℕ → Type 0
+Heads b = (h : Head) × HeadForm b h
+
+value-comes : {a : List ℕ} {n : ℕ} (v : List ℕ) → Lead a n v → Heads (a ++ v)
+value-comes {a} [] l = (Bad 6, rw (append-nil a) (HeadForm.valueless l))
+value-comes {a} {n} (c ∷ r) l = go (ℕ-discrete c 40) (keyword-comes (c ∷ r))
+  where
+    go : Dec (c ≡ 40) → Keys (c ∷ r) → Heads (a ++ (c ∷ r))
+    go (yes p) k = rw p (Complex n (length a), HeadForm.complex (rw p at l))
+    go (no h) (inl (k, w, s, f)) = (_, HeadForm.simple l (λ (s, e). h (cc)) f)
+    go (no h) (inr f) = (Bad 7, HeadForm.unopened l (λ e. clash (cc)) f)
+
+equal-comes : (ds w z : List ℕ) → Id ds → NotFirst digit (w ++ z) → Skipped white w z → Heads (35 ∷ (ds ++ (w ++ z)))
+equal-comes ds w [] i d s = (Bad 5, HeadForm.unequal ds w [] i d s (λ (r, e). clash (cc)))
+equal-comes ds w (c ∷ z) i d s = go (ℕ-discrete c 61) (span white z)
+  where
+    go : Dec (c ≡ 61) → Spanned white z → Heads (35 ∷ (ds ++ (w ++ (c ∷ z))))
+    go (yes p) (u, v, e, t) = rw (p, e) (simp append-assoc at (value-comes v (Lead.lead ds w u v i (s .all) t)))
+    go (no h) t = (Bad 5, HeadForm.unequal ds w (c ∷ z) i d s (λ (r, e). h (cc)))
+
+number-comes : (ds y : List ℕ) → Skipped digit ds y → Heads (35 ∷ (ds ++ y))
+number-comes [] y s = (Bad 4, HeadForm.numberless y (s .over))
+number-comes (d ∷ ds) y s = go (leb (valueOf (d ∷ ds)) 4294967295) refl (span white y)
+  where
+    go : (t : Bool) → leb (valueOf (d ∷ ds)) 4294967295 ≡ t → Spanned white y → Heads (35 ∷ (d ∷ (ds ++ y)))
+    go false h t = (Bad 3, HeadForm.above (d ∷ ds) y (s .all) (leb-false _ _ h))
+    go true h (w, z, e, t) =
+        rw e (equal-comes (d ∷ ds) w z (record { all = s .all; some = λ n. clash (cc); within = leb-true _ _ h }) (rw e at (s .over)) t)
+
+head-comes : (b : List ℕ) → Heads b
+head-comes [] = (Bad 2, HeadForm.unmarked [] (λ (r, e). clash (cc)))
+head-comes (c ∷ r) = go (ℕ-discrete c 35) (span digit r)
+  where
+    go : Dec (c ≡ 35) → Spanned digit r → Heads (c ∷ r)
+    go (yes p) (ds, y, e, s) = rw (p, e) (number-comes ds y s)
+    go (no h) s = (Bad 2, HeadForm.unmarked (c ∷ r) (λ (r, e). h (cc)))
+
+-- "Data: `#`, digits ..", reasons 2 to 7: the head that is computed is that of the text by the rules
+pub headform-is : (b : List ℕ) → HeadForm b (dataHead b)
+headform-is b = sole (HeadForm b) (λ h. headform-only) (head-comes b)
+
+-- a header record's head, reason 1: the head of a text by the rules is the one that is computed
+pub headerform-only : {b : List ℕ} {h : Head} → HeaderForm b h → h ≡ headerHead b
+unfolding headerHead
+headerform-only (HeaderForm.unopened b f) = let (a, e, s) = past-is white b in
+    rw (keyword-none-only (past white b) (all-back _ a (past white b) (rw e at f)))
+headerform-only (HeaderForm.named {a} {v} s f) = rw (past-only white a v s, keyword-only f) (keyed-places 0 a f)
+
+-- every text has a header record's head
+header-comes : (b : List ℕ) → (h : Head) × HeaderForm b h
+header-comes b = go (span white b)
+  where
+    cut : (a v : List ℕ) → b ≡ a ++ v → Skipped white a v → Keys v → (h : Head) × HeaderForm b h
+    cut a v e s (inl (k, w, r, f)) = rw e (_, HeaderForm.named s f)
+    cut a v e s (inr f) = (Bad 1, HeaderForm.unopened b (rw e (all-join _ a v (white-free a (s .all)) f)))
+
+    go : Spanned white b → (h : Head) × HeaderForm b h
+    go (a, v, e, s) = cut a v e s (keyword-comes v)
+
+-- a header record's head, reason 1: the head that is computed is that of the text by the rules
+pub headerform-is : (b : List ℕ) → HeaderForm b (headerHead b)
+headerform-is b = sole (HeaderForm b) (λ h. headerform-only) (header-comes b)
+
+-- the same bytes
+same-true : (x y : List ℕ) → same x y ≡ true → x ≡ y
+unfolding same
+same-true [] [] h = refl
+same-true [] (b ∷ y) h = clash (cc)
+same-true (a ∷ x) [] h = clash (cc)
+same-true (a ∷ x) (b ∷ y) h = go (eqb a b) refl (same-true x y)
+  where
+    go : (t : Bool) → eqb a b ≡ t → (same x y ≡ true → x ≡ y) → a ∷ x ≡ b ∷ y
+    go true e g = let f : same x y ≡ true = rw e at h in cc (g f, eqb-true a b e)
+    go false e g = let f : false ≡ true = rw e at h in clash (cc)
+
+same-self : (x : List ℕ) → same x x ≡ true
+unfolding same
+same-self [] = refl
+same-self (a ∷ x) = rw (eq-eqb a a refl) (same-self x)
+
+-- "letters in either case": the test for a word, both ways
+spelt-is : (t : List ℕ) (w : String) → isWord t (bytes w) ≡ true → Spelt t w
+spelt-is t w h = same-true (map upper t) (bytes w) h
+
+spelt-only : (t : List ℕ) (w : String) → Spelt t w → isWord t (bytes w) ≡ true
+spelt-only t w h = rw h (same-self (bytes w))
+
+-- a test that cannot pass fails
+fails : (t : Bool) → (t ≡ true → ⊥) → t ≡ false
+fails true h = absurd (h refl)
+fails false h = refl
+
+-- the test for what opens data, both ways
+opens-is : (t : List ℕ) → opensData t ≡ true → Says t Data
+opens-is t h = go (isWord t dataWord) (isWord (take 4 t) dataWord) (past white (drop 4 t)) refl refl refl h
+  where
+    go : (a b : Bool) (v : List ℕ) → isWord t dataWord ≡ a → isWord (take 4 t) dataWord ≡ b → past white (drop 4 t) ≡ v
+        → a || (b && opens v) ≡ true → Says t Data
+    go true b v p q e h = Says.data-alone t (spelt-is t "DATA" p)
+    go false false v p q e h = clash (cc)
+    go false true [] p q e h = clash (cc)
+    go false true (c ∷ r) p q e h =
+        let (w, g, s) = past-is white (drop 4 t) in
+        let f : take 4 t ++ (w ++ (40 ∷ r)) ≡ t = cc (take-append-drop 4 t, eqb-true c 40 h) in
+        rw f at (Says.data-opened (take 4 t) w r (spelt-is (take 4 t) "DATA" q) (s .all))
+
+or-true : (a : Bool) → a || true ≡ true
+or-true true = refl
+or-true false = refl
+
+opens-only : (d w r : List ℕ) → Spelt d "DATA" → All white w → opensData (d ++ (w ++ (40 ∷ r))) ≡ true
+opens-only d w r h a =
+    let n : length d ≡ 4 = sym (length-map d upper) ∙ ap length h in
+    let e : past white (w ++ (40 ∷ r)) ≡ 40 ∷ r = past-only white w (40 ∷ r) (record { all = a; over = first-other white 40 r refl }) in
+    rw (take-at d (w ++ (40 ∷ r)) 4 n, drop-at d (w ++ (40 ∷ r)) 4 n, spelt-only d "DATA" h, e) (or-true (isWord (d ++ (w ++ (40 ∷ r))) dataWord))
+
+-- the first letters of a word
+map-take : (n : ℕ) (t : List ℕ) → map upper (take n t) ≡ take n (map upper t)
+map-take zero t = refl
+map-take (suc n) [] = refl
+map-take (suc n) (c ∷ t) = ap (λ (l : List ℕ). upper c ∷ l) (map-take n t)
+
+-- what a trimmed text says by the rules is what is computed
+says-only : {t : List ℕ} {w : Word} → Says t w → w ≡ wordIn t
+unfolding same
+says-only (Says.headed t h) = rw h
+says-only (Says.data-alone t h) = rw h
+says-only (Says.data-opened d w r h a) = rw (opens-only d w r h a, map-append, h)
+says-only (Says.left t h) = rw h
+says-only (Says.ended t h) = rw (map-take, h)
+
+-- no text says that it is no word
+says-other : {t : List ℕ} → Says t Other → ⊥
+says-other s = elim s [ ]
+
+-- every text is a word, or none
+word-comes : {b t : List ℕ} → Trimmed b t → (w : Word) × WordForm b w
+word-comes {b} {t} f = go (isWord t endsec) (isWord t header) (opensData t) (isWord t endFile) refl refl refl refl
+  where
+    go : (i j k l : Bool) → isWord t endsec ≡ i → isWord t header ≡ j → opensData t ≡ k → isWord t endFile ≡ l → (w : Word) × WordForm b w
+    go true j k l p q r s = (EndSection, WordForm.word f (Says.left t (spelt-is t "ENDSEC" p)))
+    go false true k l p q r s = (Header, WordForm.word f (Says.headed t (spelt-is t "HEADER" q)))
+    go false false true l p q r s = (Data, WordForm.word f (opens-is t r))
+    go false false false true p q r s = (EndFile, WordForm.word f (Says.ended t (spelt-is t "END-ISO-10303-21" s)))
+    go false false false false p q r s =
+        let other : wordIn t ≡ Other = rw (p, q, r, s) in
+        (Other, WordForm.other f (λ w h. says-other (rw (says-only h ∙ other) at h)))
+
+-- "`HEADER` opens ..": the word that a text is by the rules is the one that is computed
+pub wordform-only : {b : List ℕ} {w : Word} → WordForm b w → w ≡ wordOf b
+unfolding wordOf
+wordform-only (WordForm.word f s) = says-only s ∙ ap wordIn (trimmed-only f)
+wordform-only (WordForm.other {t} f n) = go ∙ ap wordIn (trimmed-only f)
+  where
+    go : Other ≡ wordIn t
+    go = rw (
+      fails (isWord t endsec) (λ e. n EndSection (Says.left t (spelt-is t "ENDSEC" e))),
+      fails (isWord t header) (λ e. n Header (Says.headed t (spelt-is t "HEADER" e))),
+      fails (opensData t) (λ e. n Data (opens-is t e)),
+      fails (isWord t endFile) (λ e. n EndFile (Says.ended t (spelt-is t "END-ISO-10303-21" e))),
+    )
+
+-- "`HEADER` opens ..": the word that is computed is that of the text by the rules
+pub wordform-is : (b : List ℕ) → WordForm b (wordOf b)
+wordform-is b = sole (WordForm b) (λ w. wordform-only) (word-comes (trimmed-is b))
