@@ -11,7 +11,7 @@ use native.Mathlib.Nat.{suc-mul}
 use lib.ListN.{length, take, drop, length-append, length-drop}
 use lib.Seq.{sets, sets-eq, take-append-seam, drop-append-add, drop-drop}
 use Rattle.error.specs.Refusal.{Refusal, refusal, Told, good, bad}
-use Rattle.lex.specs.Byte.{pick, place}
+use Rattle.lex.specs.Byte.{pick, place, place-drop}
 use Rattle.statement.specs.Row.{Row, HeaderRow, mapped}
 use Rattle.statement.specs.Statement.{Stmt, ends, refused, moved, header, record′, statement}
 use Rattle.statement.specs.declared.Section.{Section}
@@ -59,7 +59,7 @@ laid-more n f e ws w old h =
     let k : length l ≡ length ws * n = flat-length n f e ws in
     let m : length l + length (f w) ≤ length (laid l old) = omega (arith, e w, length-append l (drop (length l) old), length-drop (length l) old) in
     let d : drop (length (f w)) (drop (length l) old) ≡ drop (length (l ++ f w)) old =
-        drop-drop (length (f w)) (length l) old ∙ ap (λ (j : ℕ). drop j old) (sym (length-append l (f w))) in
+    drop-drop (length (f w)) (length l) old ∙ ap (λ (j : ℕ). drop j old) (sym (length-append l (f w))) in
     rw (flat-more f ws w, ← k)
     (sym
     (sets-eq (f w) (laid l old) (length l) m
@@ -161,11 +161,11 @@ module _ (s : List ℕ) (H R : ℕ) (write : Bool) (h₀ r₀ : List ℕ) (i : �
   }
 
   -- a header record with no row left
-  pub header-full : (w : HeaderRow) (p n : ℕ) → header w (drop p s) (drop n s) ≡ statement s sec (drop i s) → H ≤ h → bad (refusal 8 0 (place s (drop p s))) ≡ readingOf s H R
-  header-full w p n e k = rw (le-ltb h H k) at (turn (header w (drop p s) (drop n s)) e)
+  pub header-full : (w : HeaderRow) (p n : ℕ) → p ≤ length s → header w (drop p s) (drop n s) ≡ statement s sec (drop i s) → H ≤ h → bad (refusal 8 0 p) ≡ readingOf s H R
+  header-full w p n l e k = rw (le-ltb h H k, place-drop s p l) at (turn (header w (drop p s) (drop n s)) e)
 
-  pub record-full : (w : Row) (p n : ℕ) → record′ w (drop p s) (drop n s) ≡ statement s sec (drop i s) → R ≤ r → bad (refusal 8 0 (place s (drop p s))) ≡ readingOf s H R
-  record-full w p n e k = rw (le-ltb r R k) at (turn (record′ w (drop p s) (drop n s)) e)
+  pub record-full : (w : Row) (p n : ℕ) → p ≤ length s → record′ w (drop p s) (drop n s) ≡ statement s sec (drop i s) → R ≤ r → bad (refusal 8 0 p) ≡ readingOf s H R
+  record-full w p n l e k = rw (le-ltb r R k, place-drop s p l) at (turn (record′ w (drop p s) (drop n s)) e)
 
   -- a header record, and its row
   pub going-header : (w : HeaderRow) (p n : ℕ) → header w (drop p s) (drop n s) ≡ statement s sec (drop i s) → i < n → n ≤ length s → h < H → h * 4 + 4 ≤ length h₀
@@ -236,15 +236,20 @@ module _ (s : List ℕ) (H R : ℕ) (write : Bool) (h₀ r₀ : List ℕ) (i : �
       go true = (tt, tt)
       go false = (refl, refl)
 
--- each place of a row is at most n
-pub record HeaderFits (n : ℕ) (w : HeaderRow) : Type 0 where
-  pub keyStart : w .keyStart ≤ n
-  pub keyEnd : w .keyEnd ≤ n
-  pub argStart : w .argStart ≤ n
-  pub argEnd : w .argEnd ≤ n
+-- what the loop leaves where it returns, with the room R′ that its contract speaks of
+abbrev pub Left : List ℕ → ℕ → ℕ → Bool → List ℕ → List ℕ → List ℕ → List ℕ → Told Counts → Type 0
+Left s H R′ write h₀ r₀ hnow rnow a =
+    (a ≡ mapped countsOf (readingOf s H R′)) × (Written write (readingOf s H R′) headerNumbers h₀ hnow × Written write (readingOf s H R′) recordNumbers r₀ rnow)
 
-pub record RecordFits (n : ℕ) (w : Row) : Type 0 where
-  pub keyStart : w .keyStart ≤ n
-  pub keyEnd : w .keyEnd ≤ n
-  pub argStart : w .argStart ≤ n
-  pub argEnd : w .argEnd ≤ n
+module _ (s : List ℕ) (H R : ℕ) (write : Bool) (h₀ r₀ : List ℕ) (i : ℕ) (sec : Section) (h r m : ℕ) (hnow rnow : List ℕ)
+    (g : Going s H R write h₀ r₀ i sec h r m hnow rnow) (R′ : ℕ) (k : R ≡ R′) where
+  pub done : ends ≡ statement s sec (drop i s) → Left s H R′ write h₀ r₀ hnow rnow (good (counts h r m))
+  done e =
+      let x = going-ends s H R write h₀ r₀ i sec h r m hnow rnow g e in
+      let w = going-wrote s H R write h₀ r₀ i sec h r m hnow rnow g (readingOf s H R) x in
+      rw (← k) (going-counts s H R write h₀ r₀ i sec h r m hnow rnow g (readingOf s H R) x, (w .0, w .1))
+
+  pub failed : (q : Refusal) → bad q ≡ readingOf s H R → Left s H R′ write h₀ r₀ hnow rnow (bad q)
+  failed q x =
+      let w = going-kept s H R write h₀ r₀ i sec h r m hnow rnow g q (readingOf s H R) x in
+      rw (← k) (ap (mapped countsOf) x, (w .0, w .1))

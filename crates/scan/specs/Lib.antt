@@ -1,3 +1,5 @@
 pub mod File
 pub mod Table
 pub mod Laws
+pub mod Fits
+pub mod Scan

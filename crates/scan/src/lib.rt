@@ -14,7 +14,8 @@ ghost use Rattle.statement.specs.Row.{mapped};
 ghost use Rattle.statement.specs.Statement.{rowOf, headerRowOf};
 ghost use Rattle.scan.specs.File.{scanOf, marked, readingOf};
 ghost use Rattle.scan.specs.Table.{six, four, headerNumbers, recordNumbers, toldScan, countsOf, headersAfter, rowsAfter};
-ghost use Rattle.scan.specs.Laws.{HeaderFits, RecordFits, Written};
+ghost use Rattle.scan.specs.Laws.{Written};
+ghost use Rattle.scan.specs.Fits.{HeaderFits, RecordFits};
 use error::Fault;
 use statement::HeaderSpan;
 use statement::RecordSpan;
@@ -158,5 +159,28 @@ fn pass(s: &[u8], headers: &mut [u32], rows: &mut [u32], slots: usize, write: bo
                 i = next;
             }
         }
+    }
+}
+
+// Scans the file into lent rows: header rows of four numbers, data rows of six, and so many id slots, one a record. 8 where
+// the rows of a kind, or the id slots, are used up. A refusal changes nothing; rows beyond the answer's keep their numbers.
+pub fn scan(file: &[u8], headers: &mut [u32], rows: &mut [u32], slots: usize) -> Scanned
+    ensures { λ r. ⌜ toldScan r ≡ mapped countsOf (scanOf (now (file .entry)) (length (now (headers .entry)) / 4) (min (length (now (rows .entry)) / 6) slots)) ⌝ }
+    ensures { λ _. ⌜ now (headers .exit) ≡ headersAfter (scanOf (now (file .entry)) (length (now (headers .entry)) / 4) (min (length (now (rows .entry)) / 6) slots)) (now (headers .entry)) ⌝ }
+    ensures { λ _. ⌜ now (rows .exit) ≡ rowsAfter (scanOf (now (file .entry)) (length (now (headers .entry)) / 4) (min (length (now (rows .entry)) / 6) slots)) (now (rows .entry)) ⌝ }
+{
+    if 4294967295 < file.len() {
+        return Scanned::Refused(Fault::TooLong);
+    }
+    if !is_marked(file) {
+        return Scanned::Refused(Fault::NoMarker);
+    }
+    match pass(file, headers, rows, slots, false) {
+        Scanned::Refused(f) => Scanned::Refused(f),
+        Scanned::Rows {
+            headers: _,
+            records: _,
+            max: _,
+        } => pass(file, headers, rows, slots, true),
     }
 }

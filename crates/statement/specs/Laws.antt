@@ -146,5 +146,5 @@ pub ahead-from : (i p n : ℕ) (r : Said) → i ≤ p → Ahead p n r → Ahead 
 ahead-from i p n Ends h w = tt
 ahead-from i p n (Refuses f) h w = tt
 ahead-from i p n (Moves sec q) h w = (omega arith, omega arith)
-ahead-from i p n (Heads r b q) h w = (omega arith, omega arith)
-ahead-from i p n (Records r b q) h w = (omega arith, omega arith)
+ahead-from i p n (Heads r b q) h w = (omega arith, omega arith, omega arith)
+ahead-from i p n (Records r b q) h w = (omega arith, omega arith, omega arith)

@@ -93,10 +93,10 @@ toldSaid s (Moves sec n) = moved sec (drop n s)
 toldSaid s (Heads r p n) = header (headerRowOf r) (drop p s) (drop n s)
 toldSaid s (Records r p n) = record′ (rowOf r) (drop p s) (drop n s)
 
--- the place after a statement lies after the place i, in a file of n bytes
+-- the place after a statement lies after the place i and after the record's start, in a file of n bytes
 abbrev pub Ahead : ℕ → ℕ → Said → Type 0
 Ahead i n Ends = Unit {0}
 Ahead i n (Refuses f) = Unit {0}
 Ahead i n (Moves sec p) = (i < p) × (p ≤ n)
-Ahead i n (Heads r q p) = (i < p) × (p ≤ n)
-Ahead i n (Records r q p) = (i < p) × (p ≤ n)
+Ahead i n (Heads r q p) = (i < p) × (q < p) × (p ≤ n)
+Ahead i n (Records r q p) = (i < p) × (q < p) × (p ≤ n)

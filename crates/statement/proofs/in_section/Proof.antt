@@ -69,7 +69,7 @@ returns-2 : tie.Need-returns-2
 returns-2 c = let a = c .before .before .before .before .before .before .before .args in (
   rw (c .before .before .before .before .enum-told2 .given .1) (section-header (now (a .s)) (a .start) (a .end) (omega arith) (omega arith) _
       (sym (ap toldHeader (c .before .span .given .1)) ∙ c .before .before .before .scan-header-record .ensures)),
-  (omega arith, omega arith),
+  (omega arith, omega arith, omega arith),
 )
 
 -- src/lib.rt:141:1
@@ -85,7 +85,7 @@ returns-4 : tie.Need-returns-4
 returns-4 c = let a = c .before .before .before .before .before .before .before .args in (
   rw (c .before .before .before .before .enum-told3 .given .1) (section-data (now (a .s)) (a .start) (a .end) (omega arith) (omega arith) _
       (sym (ap toldRecord (c .before .span2 .given .1)) ∙ c .before .before .before .scan-data-record .ensures)),
-  (omega arith, omega arith),
+  (omega arith, omega arith, omega arith),
 )
 
 -- src/lib.rt:141:1
