@@ -3,3 +3,4 @@ pub mod Table
 pub mod Laws
 pub mod Fits
 pub mod Scan
+pub mod Examples

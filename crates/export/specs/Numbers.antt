@@ -1,0 +1,16 @@
+-- A scan's answer as plain numbers, for a host in another language.
+-- Assumes nothing.
+use Prim.Native.Nat.{ℕ}
+use mathlib.Core.List.{List, [], _∷_}
+use Rattle.error.specs.Refusal.{Refusal, Told, good, bad}
+use Rattle.scan.specs.Table.{Counts}
+
+-- 0, or the number of the refusal
+abbrev pub code : Told Counts → ℕ
+code (good c) = 0
+code (bad q) = q .number
+
+-- header rows, data rows and the largest id; or the refusal's reason and place
+abbrev pub three : Told Counts → List ℕ
+three (good c) = c .headers ∷ c .records ∷ c .max ∷ []
+three (bad q) = q .reason ∷ q .place ∷ 0 ∷ []

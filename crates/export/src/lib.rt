@@ -1,0 +1,64 @@
+// The scan for hosts in other languages: slices and numbers only. Used by the benchmarks; a load node's interface grows here.
+ghost use mathlib.Core.Path.{_≡_};
+ghost use Prim.Native.Nat.{_/_, min};
+ghost use lib.ListN.{length};
+ghost use mathlib.Core.List.{[], _∷_};
+ghost use lib.Seq.{sets};
+ghost use lib.Dec.{leb};
+ghost use Rattle.lex.specs.Byte.{pick};
+ghost use Rattle.statement.specs.Row.{mapped};
+ghost use Rattle.scan.specs.File.{scanOf};
+ghost use Rattle.scan.specs.Table.{countsOf, headersAfter, rowsAfter, toldScan};
+ghost use Rattle.export.specs.Numbers.{code, three};
+use scan::Scanned;
+
+// An answer as three numbers at the start of `out`, where there is room for three, and 0 or the refusal's number.
+fn told_to(r: Scanned, out: &mut [u64]) -> u8
+    ensures { λ n. ⌜ n ≡ code (toldScan r) ⌝ }
+    ensures { λ _. ⌜ now (out .exit) ≡ pick (leb 3 (length (now (out .entry)))) (sets (now (out .entry)) 0 (three (toldScan r))) (now (out .entry)) ⌝ }
+{
+    match r {
+        Scanned::Rows {
+            headers,
+            records,
+            max,
+        } => {
+            put(out, headers as u64, records as u64, max as u64);
+            0
+        }
+        Scanned::Refused(f) => {
+            put(out, error::reason(f) as u64, error::place(f) as u64, 0);
+            error::number(f)
+        }
+    }
+}
+
+fn put(out: &mut [u64], a: u64, b: u64, c: u64)
+    ensures { λ _. ⌜ now (out .exit) ≡ pick (leb 3 (length (now (out .entry)))) (sets (now (out .entry)) 0 (a ∷ b ∷ c ∷ [])) (now (out .entry)) ⌝ }
+{
+    if out.len() < 3 {
+        return;
+    }
+    out[0] = a;
+    out[1] = b;
+    out[2] = c;
+}
+
+// Scans a file into lent rows: 0, with header rows, data rows and the largest id in `out`; or the refusal's number, with its
+// reason and place there.
+#[no_mangle]
+pub extern "C" fn hooflift_scan(
+    file: &[u8],
+    headers: &mut [u32],
+    rows: &mut [u32],
+    slots: usize,
+    out: &mut [u64],
+) -> u8
+    ensures { λ n. ⌜ n ≡ code (mapped countsOf (scanOf (now (file .entry)) (length (now (headers .entry)) / 4) (min (length (now (rows .entry)) / 6) slots))) ⌝ }
+    ensures { λ _. ⌜ now (headers .exit) ≡ headersAfter (scanOf (now (file .entry)) (length (now (headers .entry)) / 4) (min (length (now (rows .entry)) / 6) slots)) (now (headers .entry)) ⌝ }
+    ensures { λ _. ⌜ now (rows .exit) ≡ rowsAfter (scanOf (now (file .entry)) (length (now (headers .entry)) / 4) (min (length (now (rows .entry)) / 6) slots)) (now (rows .entry)) ⌝ }
+    ensures { λ _. ⌜ now (out .exit) ≡ pick (leb 3 (length (now (out .entry)))) (sets (now (out .entry)) 0 (three (mapped countsOf (scanOf (now (file .entry)) (length (now (headers .entry)) / 4) (min (length (now (rows .entry)) / 6) slots))))) (now (out .entry)) ⌝ }
+{
+    let r = scan::scan(file, headers, rows, slots);
+    told_to(r, out)
+}

@@ -1,0 +1,80 @@
+-- The starred examples 1 to 5 of document 01, proved of the definitions as one list under one statement.
+-- Assumes nothing.
+use Prim.Native.Nat.{ℕ, _-_, _+_}
+use Prim.Native.String.{String}
+use mathlib.Core.Path.{_≡_, refl}
+use mathlib.Core.Bool.{Bool, true, false}
+use mathlib.Core.List.{List, [], _∷_, map}
+use lib.Dec.{eqb}
+use lib.ListN.{length, take, drop}
+use Rattle.error.specs.Refusal.{Refusal, refusal, Told, good, bad}
+use Rattle.lex.specs.Byte.{pick}
+use Rattle.lex.specs.Walk.{walk}
+use Rattle.lex.specs.Search.{trivia, recordEnd, closing}
+use Rattle.record.specs.Form.{bytes}
+use Rattle.record.specs.Text.{past, numberFrom, keyword, trail}
+use Rattle.record.specs.Word.{same, wordOf}
+use Rattle.record.specs.Head.{dataHead, headerHead}
+use Rattle.statement.specs.Row.{Row, mapped, recordOf, headerOf}
+use Rattle.statement.specs.Statement.{statement}
+use Rattle.scan.specs.File.{Table, largest, readFrom, scanOf}
+
+-- a line of the program `list`: id, keyword or `(complex)`, argument start and end
+pub record Line : Type 0 where
+  pub id : ℕ
+  pub keyword : List ℕ
+  pub argStart : ℕ
+  pub argEnd : ℕ
+
+abbrev pub line : ℕ → String → ℕ → ℕ → Line
+line i k a e = record { id = i; keyword = bytes k; argStart = a; argEnd = e }
+
+-- what the program `list` prints: `records N max M`, and a line for each record
+pub record Listing : Type 0 where
+  pub records : ℕ
+  pub max : ℕ
+  pub lines : List Line
+
+abbrev pub listing : ℕ → ℕ → List Line → Listing
+listing n m ls = record { records = n; max = m; lines = ls }
+
+-- the line of a row in the file s
+abbrev pub lineOf : List ℕ → Row → Line
+lineOf s w = record {
+  id = w .id;
+  keyword = pick (eqb (w .complex) 1) (bytes "(complex)") (take (w .keyEnd - w .keyStart) (drop (w .keyStart) s));
+  argStart = w .argStart;
+  argEnd = w .argEnd;
+}
+
+abbrev pub listed : List ℕ → Table → Listing
+listed s t = listing (length (t .records)) (largest (t .records)) (map (lineOf s) (t .records))
+
+-- an input and what is owed for it
+pub record Example : Type 0 where
+  pub input : String
+  pub answer : Told Listing
+
+abbrev pub example : String → Told Listing → Example
+example s a = record { input = s; answer = a }
+
+-- examples 1 to 5, in document 01's order; 5 has two inputs
+abbrev pub examples : List Example
+examples =
+    example "ISO-10303-21;HEADER;FILE_SCHEMA(('X'));ENDSEC;DATA;#1=A('a;''b',#2);#2=(P(1.)Q($));ENDSEC;END-ISO-10303-21;"
+    (good (listing 2 2 (line 1 "A" 56 66 ∷ line 2 "(complex)" 72 81 ∷ [])))
+    ∷ example "ISO-10303-21;/*/;" (bad (refusal 3 0 13))
+    ∷ example "" (bad (refusal 1 0 0))
+    ∷ example "ISO-10303-21;DATA;;" (bad (refusal 7 2 18))
+    ∷ example "ISO-10303-21;DATA;#4294967295=A();" (good (listing 1 4294967295 (line 4294967295 "A" 32 32 ∷ [])))
+    ∷ example "ISO-10303-21;DATA;#4294967296=A();" (bad (refusal 7 3 18))
+    ∷ []
+
+-- each example's answer is the scan's, with room for two rows of each kind
+abbrev pub Holds : List Example → Type 0
+Holds [] = Unit {0}
+Holds (e ∷ es) = (mapped (listed (bytes (e .input))) (scanOf (bytes (e .input)) 2 2) ≡ e .answer) × Holds es
+
+pub examples-hold : Holds examples
+unfolding walk trivia recordEnd closing past numberFrom keyword trail same wordOf dataHead headerHead recordOf headerOf statement largest readFrom scanOf
+examples-hold = (refl, (refl, (refl, (refl, (refl, (refl, tt))))))
