@@ -59,7 +59,7 @@ told (TooDeep p) = refusal 15 0 p
 told (TooShort p) = refusal 16 0 p
 
 -- the case that has a number, reason and place: the table read the other way
-faultOf : Refusal → Fault
+pub faultOf : Refusal → Fault
 faultOf q =
     getD
     (NoMarker
@@ -83,7 +83,7 @@ faultOf q =
     (q .number)
     NoMarker
 
-faultOf-told : (f : Fault) → faultOf (told f) ≡ f
+pub faultOf-told : (f : Fault) → faultOf (told f) ≡ f
 unfolding faultOf
 faultOf-told NoMarker = refl
 faultOf-told TooLong = refl

@@ -7,3 +7,4 @@ pub mod Grammar
 pub mod Local
 pub mod Right
 pub mod At
+pub mod Only

@@ -3,4 +3,5 @@ pub mod Table
 pub mod Laws
 pub mod Fits
 pub mod Scan
+pub mod Only
 pub mod Examples

@@ -1,0 +1,22 @@
+-- "that two allowed answers coincide is proved": a place or a refusal that is told is one answer of the code.
+-- Assumes nothing.
+use Prim.Native.Nat.{ℕ, _≤_}
+use mathlib.Core.Path.{_≡_, refl, sym, _∙_, ap}
+use Rattle.error.specs.Refusal.{Told, good, bad, faultOf, faultOf-told}
+use Rattle.lex.specs.Search.{toldFound}
+use Rattle.lex.specs.declared.Found.{Found}
+use Rattle.lex.specs.declared.Found.the-variants.{At, Refused}
+
+-- the answer that tells this
+foundOf : Told ℕ → Found
+foundOf (good p) = At p
+foundOf (bad q) = Refused (faultOf q)
+
+found-back : (a : Found) → foundOf (toldFound a) ≡ a
+unfolding foundOf
+found-back (At p) = refl
+found-back (Refused f) = ap Refused (faultOf-told f)
+
+-- `find_record_end`, `matching_paren`, `skip_trivia`
+pub found-only : (a b : Found) → toldFound a ≡ toldFound b → a ≡ b
+found-only a b e = sym (found-back a) ∙ ap foundOf e ∙ found-back b

@@ -1,0 +1,50 @@
+-- "that two allowed answers coincide is proved": what a statement says is one answer of the code.
+-- Assumes nothing.
+use Prim.Native.Nat.{ℕ, _≤_, _<_}
+use mathlib.Core.Path.{_≡_, refl, sym, _∙_, ap}
+use mathlib.Core.List.{List}
+use native.Mathlib.Omega.{arith}
+use lib.ListN.{length}
+use Rattle.error.specs.Refusal.{faultOf, faultOf-told}
+use Rattle.lex.specs.Byte.{place, place-drop}
+use Rattle.statement.specs.Row.{Row, HeaderRow}
+use Rattle.statement.specs.Statement.{Stmt, ends, refused, moved, header, record′, toldSaid, Ahead}
+use Rattle.statement.specs.declared.Said.{Said}
+use Rattle.statement.specs.declared.HeaderSpan.{HeaderSpan}
+use Rattle.statement.specs.declared.RecordSpan.{RecordSpan}
+use Rattle.statement.specs.declared.Said.the-variants.{Ends, Refuses, Moves, Heads, Records}
+
+-- the spans of a row
+abbrev spanOf : Row → RecordSpan
+spanOf w = record {
+  id = w .id;
+  keyword = record { start = w .keyStart; end = w .keyEnd };
+  args = record { start = w .argStart; end = w .argEnd };
+  complex = w .complex;
+}
+
+abbrev headerSpanOf : HeaderRow → HeaderSpan
+headerSpanOf w = record {
+  keyword = record { start = w .keyStart; end = w .keyEnd };
+  args = record { start = w .argStart; end = w .argEnd };
+}
+
+-- the answer that says this
+saidOf : List ℕ → Stmt → Said
+saidOf s ends = Ends
+saidOf s (refused q) = Refuses (faultOf q)
+saidOf s (moved sec r) = Moves sec (place s r)
+saidOf s (header w ys r) = Heads (headerSpanOf w) (place s ys) (place s r)
+saidOf s (record′ w ys r) = Records (spanOf w) (place s ys) (place s r)
+
+said-back : (s : List ℕ) (i : ℕ) (a : Said) → Ahead i (length s) a → saidOf s (toldSaid s a) ≡ a
+unfolding saidOf
+said-back s i Ends h = refl
+said-back s i (Refuses f) h = ap Refuses (faultOf-told f)
+said-back s i (Moves sec p) h = ap (Moves sec) (place-drop s p (omega arith))
+said-back s i (Heads w o p) h = rw (place-drop s o (omega arith), place-drop s p (omega arith)) refl
+said-back s i (Records w o p) h = rw (place-drop s o (omega arith), place-drop s p (omega arith)) refl
+
+-- `next_statement`
+pub said-only : (s : List ℕ) (i : ℕ) (a b : Said) → Ahead i (length s) a → Ahead i (length s) b → toldSaid s a ≡ toldSaid s b → a ≡ b
+said-only s i a b h k e = sym (said-back s i a h) ∙ ap (saidOf s) e ∙ said-back s i b k
