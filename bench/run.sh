@@ -66,7 +66,7 @@ TOML
 # One program for each place of the proved code within a line of 64 bytes: its loops are aligned to 16 bytes only, so
 # where a host's linker happens to put them changes its time.
 build() { # build SKIP
-    printf '.section .text.before,"axR",@progbits\n.p2align 6\n.skip %d, 0x90\n' "$1" >"$work/before.s"
+    printf '.section .text.before,"axR",@progbits\n.p2align 6\n.skip %d, 0x90\n' $((64 + $1)) >"$work/before.s"
     ${CC:-cc} -c "$work/before.s" -o "$work/before.o"
     # Cargo reads its configuration from the folder it runs in. It does not look at the object files: the old program goes.
     rm -f "$work/target/release/bench" "$work/target/release/deps/bench-"*
@@ -81,9 +81,10 @@ echo "$(date -u +%Y-%m-%d), $(uname -m), $(sed -n 's/^model name[^:]*: //p' /pro
 echo
 "$program" "$real"/*
 printf '\n## Placement of the proved code\n\n'
-"$program" real "$real"/* | sed -n '1s/| file/| place, file/p; 2p'
 for skip in 0 16 32 48; do
-    "$work/bench-$skip" real "$real"/* | sed "1,2d; s/^| /| $skip, /"
+    edit="1s/^| /| place, /; 3,\$ s/^| /| $skip, /"
+    [ "$skip" = 0 ] || edit="1,2d; s/^| /| $skip, /"
+    "$work/bench-$skip" real "$real"/* | sed "$edit"
 done
 
 counted=${COUNTED:-$(find "$real" -type f -size +50k -printf '%s %p\n' | sort -n | sed -n '1s/^[0-9]* //p')}

@@ -6,3 +6,4 @@ pub mod HeadLaws
 pub mod Within
 pub mod Form
 pub mod FormRight
+pub mod HashOther

@@ -180,10 +180,16 @@ fn word_in(t: &[u8]) -> Word
     Word::Other
 }
 
-// The word that a record's text is.
+// The word that a record's text is. Nearly every record begins with `#` and is none: its end need not be looked at.
 pub fn section_word(b: &[u8]) -> Word
     ensures { λ r. ⌜ r ≡ wordOf (now (b .entry)) ⌝ }
 {
+    if b.len() == 0 {
+        return Word::Other;
+    }
+    if b[0] == b'#' {
+        return Word::Other;
+    }
     let a = past_space(b, 0);
     let e = trail_at(b, a);
     word_in(&b[a..e])

@@ -1,6 +1,8 @@
 use Rattle.record.specs.Word.{wordOf, wordIn}
+use Rattle.record.specs.HashOther.{hash-word, empty-word}
 use Rattle.record.specs.HeadLaws.{trimmed-at}
 use denote.Ref.{now}
+use native.Mathlib.Omega.{arith}
 use mathlib.Core.Path.{_∙_, ap}
 use borrow.Author.Needs.{needs}
 use Rattle.record.proofs.section_word.Statement.{statement}
@@ -11,35 +13,47 @@ use Rattle.record.proofs.past_space.Reads as past-space-reads
 use Rattle.record.proofs.trail_at.Reads as trail-at-reads
 use Rattle.record.proofs.word_in.Reads as word-in-reads
 
--- src/lib.rt:186:9
+-- src/lib.rt:188:9
+returns : tie.Need-returns
+returns c = empty-word (now (c .before .before .args .b)) (c .if1 .taken)
+
+-- src/lib.rt:190:8
+shared-slice-read-if2 : tie.Need-shared-slice-read-if2
+shared-slice-read-if2 c = search needs
+
+-- src/lib.rt:191:9
+returns-2 : tie.Need-returns-2
+returns-2 c = hash-word (now (c .before .before .before .before .args .b)) (omega arith) (c .if2 .taken)
+
+-- src/lib.rt:193:9
 past-space-requires : tie.Need-past-space-requires
 past-space-requires c κs = search needs
 
--- src/lib.rt:187:9
+-- src/lib.rt:194:9
 trail-at-requires : tie.Need-trail-at-requires
 trail-at-requires c κs = search needs
 
--- src/lib.rt:188:13
+-- src/lib.rt:195:13
 sub-word-in : tie.Need-sub-word-in
 sub-word-in c = search needs
 
--- src/lib.rt:188:13
+-- src/lib.rt:195:13
 part-word-in-start : tie.Need-part-word-in-start
 part-word-in-start c = search needs
 
--- src/lib.rt:188:13
+-- src/lib.rt:195:13
 part-word-in-end : tie.Need-part-word-in-end
 part-word-in-end c = search needs
 
--- src/lib.rt:188:5
+-- src/lib.rt:195:5
 word-in-requires : tie.Need-word-in-requires
 word-in-requires c κs = search needs
 
--- src/lib.rt:183:1
-returns : tie.Need-returns
+-- src/lib.rt:184:1
+returns-3 : tie.Need-returns-3
 unfolding wordOf
-returns c = let t = c .before .before in
-    let b = now (t .before .before .before .args .b) in
+returns-3 c = let t = c .before .before in
+    let b = now (t .before .before .before .before .before .before .args .b) in
     c .word-in .ensures
     ∙ ap wordIn (trimmed-at b (t .before .past-space .result) (t .trail-at .result) (t .before .past-space .ensures .0) (t .trail-at .ensures .0) (t .trail-at .ensures .1 .0) (t .trail-at .ensures .1 .1))
 
@@ -47,10 +61,13 @@ pub section-word-spec : {M : Type 1} → statement M
 section-word-spec =
     tie.close
     (tie.spec
+    returns
+    shared-slice-read-if2
+    returns-2
     past-space-requires
     trail-at-requires
     sub-word-in
     part-word-in-start
     part-word-in-end
     word-in-requires
-    returns)
+    returns-3)

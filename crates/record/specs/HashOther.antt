@@ -1,0 +1,43 @@
+-- A text that begins with `#`, the byte 35, is no section word. Assumes nothing.
+use Prim.Native.Nat.{ℕ, _<_}
+use native.Mathlib.Omega.{arith}
+use lib.ListN.{length, getD}
+use mathlib.Core.Path.{_≡_, refl, sym}
+use mathlib.Core.Bool.{Bool, true, false}
+use mathlib.Core.List.{List, [], _∷_, _++_}
+use Rattle.lex.specs.Byte.{white}
+use Rattle.lex.specs.Grammar.{Begins}
+use Rattle.lex.specs.Right.Steps.{clash}
+use Rattle.record.specs.Form.{All, Trimmed}
+use Rattle.record.specs.FormRight.{trimmed-is}
+use Rattle.lex.specs.Walk.{walk}
+use Rattle.record.specs.Text.{past, trail}
+use Rattle.record.specs.Word.{same, trimmed, wordOf}
+use Rattle.record.specs.declared.Word.{Word}
+use Rattle.record.specs.declared.Word.the-variants.{Other}
+
+-- trimmed of whitespace it begins so too
+hash-trimmed : {t u : List ℕ} → Trimmed (35 ∷ t) u → Begins 35 u
+hash-trimmed {t} {u} f = go (f .front) u (f .back) (f .shape) (f .before) (f .after)
+  where
+    go : (a v z : List ℕ) → 35 ∷ t ≡ a ++ (v ++ z) → All white a → All white z → Begins 35 v
+    go (c ∷ a) v z e (h, k) w = clash (cc)
+    go [] (c ∷ v) z e h w = (v, cc)
+    go [] [] [] e h w = clash (cc)
+    go [] [] (c ∷ z) e h (w, k) = clash (cc)
+
+-- `#` begins none of the words
+pub hash-other : (t : List ℕ) → wordOf (35 ∷ t) ≡ Other
+unfolding wordOf same
+hash-other t = let (u, e) = hash-trimmed (trimmed-is (35 ∷ t)) in rw e refl
+
+-- at its first place
+pub hash-word : (b : List ℕ) → 0 < length b → getD b 0 0 ≡ 35 → Other ≡ wordOf b
+hash-word [] h e = absurd (omega arith)
+hash-word (c ∷ t) h e = rw e (sym (hash-other t))
+
+-- an empty text is none either
+pub empty-word : (b : List ℕ) → length b ≡ 0 → Other ≡ wordOf b
+unfolding wordOf same past trail walk
+empty-word [] h = refl
+empty-word (c ∷ t) h = absurd (omega arith)
