@@ -3,3 +3,5 @@ pub mod Table
 pub mod Laws
 pub mod Fits
 pub mod Scan
+pub mod Form
+pub mod FormRight
