@@ -9,7 +9,7 @@ use native.Mathlib.Decide.{decLe}
 use lib.Dec.{eqb}
 use lib.ListN.{length, take}
 use borrow.Author.Tests.{lt-ltb, le-ltb, ne-eqb, eqb-true}
-use Rattle.error.specs.Refusal.{Told}
+use Rattle.error.specs.Refusal.{Refusal, Told, bad}
 use Rattle.lex.specs.Byte.{white}
 use Rattle.lex.specs.Right.Steps.{clash}
 use Rattle.record.specs.Text.{past}
@@ -21,8 +21,10 @@ use Rattle.statement.specs.Statement.{Stmt, ends, refused, moved, header, recor
 use Rattle.statement.specs.declared.Section.{Section}
 use Rattle.statement.specs.declared.Section.the-variants.{Outside, InHeader, InData}
 use Rattle.scan.specs.File.{Table, taken, readFrom, mark, marked, scanOf}
-use Rattle.scan.specs.Form.{StatementForm, Reads, Marked, Scans}
+use Rattle.scan.specs.Form.{StatementForm, Reads, Marked, Scans, Full}
 pub mod Statements
+pub mod Numbers
+use Numbers.{Between, scans-bad, full-reads}
 use Statements.{Stated, statement-comes, statement-only, moved-shorter, header-shorter, data-shorter}
 
 module _ (s : List ℕ) (H R : ℕ) where
@@ -141,3 +143,25 @@ scans-comes s H R = go (decLe (length s) 4294967295) (marked s) refl
 -- the answer that is computed is that by the rules
 pub scans-is : (s : List ℕ) (H R : ℕ) → Scans s H R (scanOf s H R)
 scans-is s H R = sole (Scans s H R) (λ a. scans-only) (scans-comes s H R)
+
+-- a file has at most one answer
+pub scans-one : {s : List ℕ} {H R : ℕ} {a b : Told Table} → Scans s H R a → Scans s H R b → a ≡ b
+scans-one d e = scans-only d ∙ sym (scans-only e)
+
+-- what holds of each refusal by the rules holds of the one that is computed
+module _ (s : List ℕ) (H R : ℕ) (q : Refusal) (e : scanOf s H R ≡ bad q) where
+  -- the numbers of the table that a scan can answer
+  pub scan-number : Between 1 8 q
+  scan-number = scans-bad (rw e at (scans-is s H R)) .0
+
+  -- the number that stands for too little fuel is never answered
+  pub scan-fueled : q .number ≡ 0 → ⊥
+  scan-fueled z = omega (arith, scan-number)
+
+  -- "8 is given exactly when a record has been read whole and the lent rows of its kind [..] are already used up": only then
+  pub scan-full-only : q .number ≡ 8 → Full s H R q
+  scan-full-only = scans-bad (rw e at (scans-is s H R)) .1
+
+-- and always then
+pub scan-full : (s : List ℕ) (H R : ℕ) (q : Refusal) → length s ≤ 4294967295 → Marked s → Full s H R q → scanOf s H R ≡ bad q
+scan-full s H R q h m f = sym (scans-only (Scans.read h m (full-reads f)))
