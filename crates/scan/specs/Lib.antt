@@ -5,3 +5,4 @@ pub mod Fits
 pub mod Scan
 pub mod Form
 pub mod FormRight
+pub mod Rooms
