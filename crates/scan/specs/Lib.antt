@@ -5,3 +5,6 @@ pub mod Fits
 pub mod Scan
 pub mod Only
 pub mod Examples
+pub mod Form
+pub mod FormRight
+pub mod Rooms

@@ -13,17 +13,17 @@ use Rattle.scan.specs.Table.{headerNumbers, recordNumbers, laid, headers
 use Rattle.scan.specs.Laws.{Written, Left}
 
 -- what the scan owes: its answer, and the lent rows after it
-abbrev pub Scans : List ℕ → ℕ → ℕ → List ℕ → List ℕ → List ℕ → List ℕ → Told Counts → Type 0
-Scans s H R h₀ r₀ hnow rnow a = (a ≡ mapped countsOf (scanOf s H R)) × ((hnow ≡ headersAfter (scanOf s H R) h₀) × (rnow ≡ rowsAfter (scanOf s H R) r₀))
+abbrev pub Leaves : List ℕ → ℕ → ℕ → List ℕ → List ℕ → List ℕ → List ℕ → Told Counts → Type 0
+Leaves s H R h₀ r₀ hnow rnow a = (a ≡ mapped countsOf (scanOf s H R)) × ((hnow ≡ headersAfter (scanOf s H R) h₀) × (rnow ≡ rowsAfter (scanOf s H R) r₀))
 
 module _ (s : List ℕ) (H R : ℕ) (h₀ r₀ : List ℕ) where
   -- "2 is tested before 1"
-  pub scan-long : 4294967295 < length s → Scans s H R h₀ r₀ h₀ r₀ (bad (refusal 2 0 0))
+  pub scan-long : 4294967295 < length s → Leaves s H R h₀ r₀ h₀ r₀ (bad (refusal 2 0 0))
   unfolding scanOf
   scan-long h = rw (lt-ltb _ _ h) (refl, (refl, refl))
 
   module _ (h : length s ≤ 4294967295) where
-    pub scan-unmarked : marked s ≡ false → Scans s H R h₀ r₀ h₀ r₀ (bad (refusal 1 0 0))
+    pub scan-unmarked : marked s ≡ false → Leaves s H R h₀ r₀ h₀ r₀ (bad (refusal 1 0 0))
     unfolding scanOf
     scan-unmarked m = rw (le-ltb _ _ h, m) (refl, (refl, refl))
 
@@ -33,7 +33,7 @@ module _ (s : List ℕ) (H R : ℕ) (h₀ r₀ : List ℕ) where
       scan-reads = rw (le-ltb _ _ h, m) refl
 
       -- the first pass refuses, and has written nothing
-      pub scan-refused : (q : Refusal) (hnow rnow : List ℕ) → Left s H R false h₀ r₀ hnow rnow (bad q) → Scans s H R h₀ r₀ hnow rnow (bad q)
+      pub scan-refused : (q : Refusal) (hnow rnow : List ℕ) → Left s H R false h₀ r₀ hnow rnow (bad q) → Leaves s H R h₀ r₀ hnow rnow (bad q)
       scan-refused q hnow rnow w = rw scan-reads (go (readingOf s H R) (w .0))
         where
           go : (x : Told Table) → bad q ≡ mapped countsOf x → (bad q ≡ mapped countsOf x) × ((hnow ≡ headersAfter x h₀) × (rnow ≡ rowsAfter x r₀))
@@ -41,7 +41,7 @@ module _ (s : List ℕ) (H R : ℕ) (h₀ r₀ : List ℕ) where
           go (bad p) e = (e, (w .1 .0, w .1 .1))
 
       -- the first pass answers, and the second writes
-      pub scan-done : (n : Counts) (a : Told Counts) (hnow rnow : List ℕ) → good n ≡ mapped countsOf (readingOf s H R) → Left s H R true h₀ r₀ hnow rnow a → Scans s H R h₀ r₀ hnow rnow a
+      pub scan-done : (n : Counts) (a : Told Counts) (hnow rnow : List ℕ) → good n ≡ mapped countsOf (readingOf s H R) → Left s H R true h₀ r₀ hnow rnow a → Leaves s H R h₀ r₀ hnow rnow a
       scan-done n a hnow rnow k w = rw scan-reads (go (readingOf s H R) k (w .0) (w .1 .0) (w .1 .1))
         where
           go : (x : Told Table) → good n ≡ mapped countsOf x → a ≡ mapped countsOf x → Written true x headerNumbers h₀ hnow → Written true x recordNumbers r₀ rnow

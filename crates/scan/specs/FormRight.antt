@@ -1,0 +1,167 @@
+-- The whole file: Form.antt's rules and what File.antt computes are one. What is computed is so, and nothing else is; and fuel
+-- never matters. Assumes nothing.
+use Prim.Native.Nat.{ℕ, zero, suc, _+_, _-_, _≤_, _<_}
+use mathlib.Core.Path.{_≡_, refl, sym, _∙_}
+use mathlib.Core.Bool.{Bool, true, false}
+use mathlib.Core.List.{List, [], _∷_, _++_}
+use native.Mathlib.Omega.{arith}
+use native.Mathlib.Decide.{decLe}
+use lib.Dec.{eqb}
+use lib.ListN.{length, take}
+use borrow.Author.Tests.{lt-ltb, le-ltb, ne-eqb, eqb-true}
+use Rattle.error.specs.Refusal.{Refusal, Told, bad}
+use Rattle.lex.specs.Byte.{white}
+use Rattle.lex.specs.Right.Steps.{clash}
+use Rattle.record.specs.Text.{past}
+use Rattle.record.specs.Word.{same, marker}
+use Rattle.record.specs.Form.{All}
+use Rattle.record.specs.FormRight.{past-only, past-is}
+use Rattle.record.specs.FormRight.Parts.{sole, first-other}
+use Rattle.statement.specs.Statement.{Stmt, ends, refused, moved, header, record′}
+use Rattle.statement.specs.declared.Section.{Section}
+use Rattle.statement.specs.declared.Section.the-variants.{Outside, InHeader, InData}
+use Rattle.scan.specs.File.{Table, taken, readFrom, mark, marked, scanOf}
+use Rattle.scan.specs.Form.{StatementForm, Reads, Marked, Scans, Full}
+pub mod Statements
+pub mod Numbers
+use Numbers.{Between, scans-bad, full-reads}
+use Statements.{Stated, statement-comes, statement-only, moved-shorter, header-shorter, data-shorter}
+
+module _ (s : List ℕ) (H R : ℕ) where
+  -- one turn of the computed reading, by the statement's form
+  turn : (h r k : ℕ) {sec : Section} {xs : List ℕ} {x : Stmt} → length xs < k → StatementForm s sec xs x
+      → readFrom k s H R sec h r xs ≡ taken s H R h r x (λ sec h r t. readFrom (k - 1) s H R sec h r t)
+  unfolding readFrom
+  turn h r zero l f = absurd (omega arith)
+  turn h r (suc k) l f = let e : suc k - 1 ≡ k = omega arith in rw (statement-only f, e) refl
+
+  -- "then the file is read in order and the first fault is given": the answer by the rules is the one that is computed, whatever
+  -- the fuel, if it is enough
+  pub reads-only : {sec : Section} {h r : ℕ} {xs : List ℕ} {a : Told Table} → Reads s H R sec h r xs a
+      → (k : ℕ) → length xs < k → readFrom k s H R sec h r xs ≡ a
+  reads-only {h} {r} (Reads.over f) k l = turn h r k l f
+  reads-only {h} {r} (Reads.fault f) k l = turn h r k l f
+  reads-only {h} {r} (Reads.on f d) k l = let m = moved-shorter f in turn h r k l f ∙ reads-only d (k - 1) (omega arith)
+  reads-only {h} {r} (Reads.header-row f p d) k l =
+      let m = header-shorter f in turn h r k l f ∙ rw (lt-ltb h H p, reads-only d (k - 1) (omega arith)) refl
+  reads-only {h} {r} (Reads.header-full f p) k l = turn h r k l f ∙ rw (le-ltb h H p) refl
+  reads-only {h} {r} (Reads.data-row f p d) k l =
+      let m = data-shorter f in turn h r k l f ∙ rw (lt-ltb r R p, reads-only d (k - 1) (omega arith)) refl
+  reads-only {h} {r} (Reads.data-full f p) k l = turn h r k l f ∙ rw (le-ltb r R p) refl
+
+  -- every rest of at most n bytes has an answer
+  reads-comes : (n : ℕ) (sec : Section) (h r : ℕ) (xs : List ℕ) → length xs < n → (a : Told Table) × Reads s H R sec h r xs a
+  reads-comes zero sec h r xs l = absurd (omega arith)
+  reads-comes (suc n) sec h r xs l =
+      go (statement-comes s sec xs) (decLe (suc h) H) (decLe (suc r) R) (λ sec h r t m. reads-comes n sec h r t (omega arith))
+    where
+      go : Stated s sec xs → Dec (h < H) → Dec (r < R)
+          → ((sec : Section) (h r : ℕ) (t : List ℕ) → length t < length xs → (a : Told Table) × Reads s H R sec h r t a)
+          → (a : Told Table) × Reads s H R sec h r xs a
+      go (ends, f) p q ih = (_, Reads.over f)
+      go (refused e, f) p q ih = (_, Reads.fault f)
+      go (moved to t, f) p q ih = let (a, d) = ih to h r t (moved-shorter f) in (a, Reads.on f d)
+      go (header w ys t, f) (yes p) q ih = let (a, d) = ih InHeader (h + 1) r t (header-shorter f) in (_, Reads.header-row f p d)
+      go (header w ys t, f) (no p) q ih = (_, Reads.header-full {h = h} f (omega arith))
+      go (record′ w ys t, f) p (yes q) ih = let (a, d) = ih InData h (r + 1) t (data-shorter f) in (_, Reads.data-row f q d)
+      go (record′ w ys t, f) p (no q) ih = (_, Reads.data-full {r = r} f (omega arith))
+
+  -- the answer that is computed, with enough fuel, is that by the rules
+  pub reads-is : (k : ℕ) (sec : Section) (h r : ℕ) (xs : List ℕ) → length xs < k → Reads s H R sec h r xs (readFrom k s H R sec h r xs)
+  reads-is k sec h r xs l = sole (Reads s H R sec h r xs) (λ a d. sym (reads-only d k l)) (reads-comes k sec h r xs l)
+
+  -- fuel never matters: enough fuel gives the same answer
+  pub fuel-free : (j k : ℕ) (sec : Section) (h r : ℕ) (xs : List ℕ) → length xs < j → length xs < k
+      → readFrom j s H R sec h r xs ≡ readFrom k s H R sec h r xs
+  fuel-free j k sec h r xs l m = reads-only (reads-is k sec h r xs m) j l
+
+-- a list that begins with w
+begins-is : (w s : List ℕ) → same (take (length w) s) w ≡ true → (r : List ℕ) × (s ≡ w ++ r)
+unfolding same
+begins-is [] s h = (s, refl)
+begins-is (c ∷ w) [] h = clash (cc)
+begins-is (c ∷ w) (d ∷ s) h = go (eqb d c) refl (begins-is w s)
+  where
+    go : (t : Bool) → eqb d c ≡ t → (same (take (length w) s) w ≡ true → (r : List ℕ) × (s ≡ w ++ r))
+        → (r : List ℕ) × (d ∷ s ≡ c ∷ (w ++ r))
+    go true e ih = let (r, g) = ih (rw e at h) in (r, cc (eqb-true d c e))
+    go false e ih = clash (cc)
+
+-- "The marker is `ISO-10303-21` after [..] whitespace only": the test, both ways
+marker-only : (w r : List ℕ) → All white w → same (take 12 (past white (w ++ (marker ++ r)))) marker ≡ true
+unfolding same
+marker-only w r a = rw (past-only white w (marker ++ r) (record { all = a; over = first-other white 73 _ refl })) refl
+
+marker-is : (s : List ℕ) → same (take 12 (past white s)) marker ≡ true → (w r : List ℕ) × (s ≡ w ++ (marker ++ r)) × All white w
+marker-is s h =
+    let (w, e, k) = past-is white s in
+    let (r, g) = begins-is marker (past white s) h in
+    (w, r, cc, k .all)
+
+-- "The marker is `ISO-10303-21` after an optional EF BB BF and whitespace only": what is marked by the rules passes the test
+pub marked-only : {s : List ℕ} → Marked s → marked s ≡ true
+unfolding same
+marked-only (Marked.plain [] r a) = marker-only [] r a
+marked-only (Marked.plain (c ∷ w) r a) =
+    rw (ne-eqb c 239 (λ e. let f : white 239 ≡ true = rw e at (a .0) in clash (cc))) (marker-only (c ∷ w) r a)
+marked-only (Marked.mark w r a) = marker-only w r a
+
+-- and what passes the test is marked by the rules
+pub marked-is : (s : List ℕ) → marked s ≡ true → Marked s
+unfolding same
+marked-is s h = go (same (take 3 s) mark) refl
+  where
+    go : (t : Bool) → same (take 3 s) mark ≡ t → Marked s
+    go true e =
+        let (r, g) = begins-is mark s e in
+        let (w, u, q, a) = marker-is r (rw g at h) in
+        rw (g, q) (Marked.mark w u a)
+    go false e = let (w, u, q, a) = marker-is s (rw e at h) in rw q (Marked.plain w u a)
+
+-- a test that cannot pass fails
+fails : (t : Bool) → (t ≡ true → ⊥) → t ≡ false
+fails true h = absurd (h refl)
+fails false h = refl
+
+-- "2 is tested before 1; then the file is read in order and the first fault is given": the answer by the rules is the one that
+-- is computed
+pub scans-only : {s : List ℕ} {H R : ℕ} {a : Told Table} → Scans s H R a → a ≡ scanOf s H R
+unfolding scanOf
+scans-only (Scans.long h) = rw (lt-ltb _ _ h)
+scans-only {s} (Scans.unmarked h n) = rw (le-ltb _ _ h, fails (marked s) (λ e. n (marked-is s e)))
+scans-only {s} {H} {R} (Scans.read h m d) = rw (le-ltb _ _ h, marked-only m) (sym (reads-only s H R d (length s + 1) (omega arith)))
+
+-- every file has an answer
+scans-comes : (s : List ℕ) (H R : ℕ) → (a : Told Table) × Scans s H R a
+scans-comes s H R = go (decLe (length s) 4294967295) (marked s) refl
+  where
+    go : Dec (length s ≤ 4294967295) → (t : Bool) → marked s ≡ t → (a : Told Table) × Scans s H R a
+    go (no h) t e = (_, Scans.long (omega arith))
+    go (yes h) true e = (_, Scans.read h (marked-is s e) (reads-is s H R (length s + 1) Outside 0 0 s (omega arith)))
+    go (yes h) false e = (_, Scans.unmarked h (λ m. clash (cc (marked-only m))))
+
+-- the answer that is computed is that by the rules
+pub scans-is : (s : List ℕ) (H R : ℕ) → Scans s H R (scanOf s H R)
+scans-is s H R = sole (Scans s H R) (λ a. scans-only) (scans-comes s H R)
+
+-- a file has at most one answer
+pub scans-one : {s : List ℕ} {H R : ℕ} {a b : Told Table} → Scans s H R a → Scans s H R b → a ≡ b
+scans-one d e = scans-only d ∙ sym (scans-only e)
+
+-- what holds of each refusal by the rules holds of the one that is computed
+module _ (s : List ℕ) (H R : ℕ) (q : Refusal) (e : scanOf s H R ≡ bad q) where
+  -- the numbers of the table that a scan can answer
+  pub scan-number : Between 1 8 q
+  scan-number = scans-bad (rw e at (scans-is s H R)) .0
+
+  -- the number that stands for too little fuel is never answered
+  pub scan-fueled : q .number ≡ 0 → ⊥
+  scan-fueled z = omega (arith, scan-number)
+
+  -- "8 is given exactly when a record has been read whole and the lent rows of its kind [..] are already used up": only then
+  pub scan-full-only : q .number ≡ 8 → Full s H R q
+  scan-full-only = scans-bad (rw e at (scans-is s H R)) .1
+
+-- and always then
+pub scan-full : (s : List ℕ) (H R : ℕ) (q : Refusal) → length s ≤ 4294967295 → Marked s → Full s H R q → scanOf s H R ≡ bad q
+scan-full s H R q h m f = sym (scans-only (Scans.read h m (full-reads f)))
