@@ -12,6 +12,10 @@ use files::Case;
 use sides::{Rooms, agree, original, proved};
 use std::hint::black_box;
 
+/// More rounds for the table that counts most, so that it takes some seconds too.
+const ROUNDS_REAL: u64 = 200;
+const ROUNDS: u64 = 40;
+
 /// The least times of one file, in nanoseconds.
 struct Times {
     rust: u64,
@@ -20,32 +24,14 @@ struct Times {
     sum: u64,
 }
 
-/// Interleaved rounds over one file, so that a disturbance meets all alike.
-fn measure(file: &[u8], rooms: &mut Rooms, rounds: usize) -> Times {
-    let mut t = Times {
-        rust: u64::MAX,
-        rust_fresh: u64::MAX,
-        proved: u64::MAX,
-        sum: u64::MAX,
-    };
-    for _ in 0..rounds {
-        least(&mut t.rust, || original(black_box(file)));
-        least(&mut t.proved, || proved(black_box(file), rooms));
-        least(&mut t.sum, || files::sum(black_box(file)));
-        // SAFETY: gives free pages back to the system; nothing that is in use is touched.
-        unsafe { clock::malloc_trim(0) };
-        least(&mut t.rust_fresh, || original(black_box(file)));
-    }
-    t
-}
-
-/// About four seconds for each file, at least 12 rounds and at most 40.
-fn rounds_for(file: &[u8], rooms: &mut Rooms) -> usize {
-    let begin = thread_nanoseconds();
-    black_box(proved(file, rooms));
-    black_box(original(file).is_ok());
-    let once = (thread_nanoseconds() - begin).max(1);
-    (4_000_000_000 / once).clamp(12, 40) as usize
+/// A line of a table: a file, what is lent for it, and in which rounds it takes part.
+struct Line<'a> {
+    case: &'a Case,
+    answer: String,
+    rooms: Rooms,
+    every: u64,
+    rounds: u64,
+    least: Times,
 }
 
 /// What both sides answer; the program ends where they differ.
@@ -56,22 +42,76 @@ fn answer(case: &Case, rooms: &mut Rooms) -> String {
     })
 }
 
-fn line(case: &Case) {
-    let mut rooms = Rooms::for_file(&case.bytes);
-    let answer = answer(case, &mut rooms);
-    let rounds = rounds_for(&case.bytes, &mut rooms);
-    let t = measure(&case.bytes, &mut rooms, rounds);
-    let per = |ns: u64| ns as f64 / case.bytes.len() as f64;
+impl Line<'_> {
+    /// Checked before it is timed. It takes part in every round, or in fewer where 40 would take more than four
+    /// seconds, but in ten of them at least.
+    fn new(case: &Case) -> Line<'_> {
+        let mut rooms = Rooms::for_file(&case.bytes);
+        let answer = answer(case, &mut rooms);
+        let begin = thread_nanoseconds();
+        black_box(proved(&case.bytes, &mut rooms));
+        black_box(original(&case.bytes).is_ok());
+        let once = thread_nanoseconds() - begin;
+        let every = (once * ROUNDS / 4_000_000_000 + 1).min(ROUNDS / 10);
+        let least = Times {
+            rust: u64::MAX,
+            rust_fresh: u64::MAX,
+            proved: u64::MAX,
+            sum: u64::MAX,
+        };
+        Line {
+            case,
+            answer,
+            rooms,
+            every,
+            rounds: 0,
+            least,
+        }
+    }
+
+    fn round(&mut self) {
+        self.rounds += 1;
+        let (file, t) = (&self.case.bytes, &mut self.least);
+        // SAFETY: gives free pages back to the system; nothing that is in use is touched.
+        unsafe { clock::malloc_trim(0) };
+        least(&mut t.rust_fresh, || original(black_box(file)));
+        least(&mut t.rust, || original(black_box(file)));
+        least(&mut t.proved, || proved(black_box(file), &mut self.rooms));
+        least(&mut t.sum, || files::sum(black_box(file)));
+    }
+
+    fn print(&self) {
+        let t = &self.least;
+        let bytes = self.case.bytes.len();
+        let per = |ns: u64| ns as f64 / bytes as f64;
+        println!(
+            "| {} | {bytes} | {} | {} | {:.3} | {:.3} | {:.2} | {:.3} | {:.3} |",
+            self.case.name,
+            self.answer,
+            self.rounds,
+            per(t.rust),
+            per(t.proved),
+            t.proved as f64 / t.rust as f64,
+            per(t.rust_fresh),
+            per(t.sum),
+        );
+    }
+}
+
+/// Times the files of one table round by round, so that a disturbance of some seconds meets all alike.
+fn table<'a>(cases: impl IntoIterator<Item = &'a Case>, rounds: u64) {
+    let mut lines: Vec<Line> = cases.into_iter().map(Line::new).collect();
+    for round in 0..rounds {
+        lines
+            .iter_mut()
+            .filter(|line| round % line.every == 0)
+            .for_each(Line::round);
+    }
     println!(
-        "| {} | {} | {answer} | {rounds} | {:.3} | {:.3} | {:.2} | {:.3} | {:.3} |",
-        case.name,
-        case.bytes.len(),
-        per(t.rust),
-        per(t.proved),
-        t.proved as f64 / t.rust as f64,
-        per(t.rust_fresh),
-        per(t.sum),
+        "| file | bytes | answer | rounds | Rust ns/byte | proved ns/byte | proved / Rust | Rust, fresh memory | sum of bytes |"
     );
+    println!("|---|---|---|---|---|---|---|---|---|");
+    lines.iter().for_each(Line::print);
 }
 
 fn once(side: &str, path: &str) {
@@ -101,14 +141,6 @@ fn large(all: &[Case]) -> &[Case] {
     &all[first.min(all.len() - 1)..]
 }
 
-fn table<'a>(cases: impl IntoIterator<Item = &'a Case>) {
-    println!(
-        "| file | bytes | answer | rounds | Rust ns/byte | proved ns/byte | proved / Rust | Rust, fresh memory | sum of bytes |"
-    );
-    println!("|---|---|---|---|---|---|---|---|---|");
-    cases.into_iter().for_each(line);
-}
-
 fn main() {
     let arguments: Vec<String> = std::env::args().skip(1).collect();
     let words: Vec<&str> = arguments.iter().map(String::as_str).collect();
@@ -117,17 +149,20 @@ fn main() {
         ["once", side, path] => return once(side, path),
         ["real", ..] => {
             clock::keep_memory();
-            return table(large(&read_all(&arguments[1..])));
+            return table(large(&read_all(&arguments[1..])), ROUNDS_REAL);
         }
         _ => clock::keep_memory(),
     }
     let all = read_all(&arguments);
     println!("Both give the same rows for all {} real files.", all.len());
     println!("\n## Real files of 1 MB and more\n");
-    table(large(&all));
+    table(large(&all), ROUNDS_REAL);
     println!("\n## Growth\n");
     let seed = &all[all.len() - 1].bytes;
-    table(&[1, 2, 4, 8, 16, 32, 64].map(|megabytes| files::grown(seed, megabytes)));
+    table(
+        &[1, 2, 4, 8, 16, 32, 64].map(|megabytes| files::grown(seed, megabytes)),
+        ROUNDS,
+    );
     println!("\n## Hostile files\n");
-    table(&files::hostile());
+    table(&files::hostile(), ROUNDS);
 }

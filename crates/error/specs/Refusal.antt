@@ -34,7 +34,7 @@ pub record Refusal : Type 0 where
 abbrev pub refusal : ℕ → ℕ → ℕ → Refusal
 refusal n r p = record { number = n; reason = r; place = p }
 
--- "For every input [..] an answer or in one numbered refusal with a place" (demand 1)
+-- "Every input ends in an answer or in one numbered refusal with a place" (demand 1)
 pub data Told (A : Type 0) : Type 0 where
   good : A → Told A
   bad : Refusal → Told A

@@ -8,7 +8,7 @@ ghost use lib.Dec.{leb};
 ghost use Rattle.lex.specs.Byte.{pick};
 ghost use Rattle.statement.specs.Row.{mapped};
 ghost use Rattle.scan.specs.File.{scanOf};
-ghost use Rattle.scan.specs.Table.{countsOf, headersAfter, rowsAfter, toldScan};
+ghost use Rattle.scan.specs.Table.{headerRoom, dataRoom, countsOf, headersAfter, rowsAfter, toldScan};
 ghost use Rattle.export.specs.Numbers.{code, three};
 use scan::Scanned;
 
@@ -54,10 +54,10 @@ pub extern "C" fn hooflift_scan(
     slots: usize,
     out: &mut [u64],
 ) -> u8
-    ensures { λ n. ⌜ n ≡ code (mapped countsOf (scanOf (now (file .entry)) (length (now (headers .entry)) / 4) (min (length (now (rows .entry)) / 6) slots))) ⌝ }
-    ensures { λ _. ⌜ now (headers .exit) ≡ headersAfter (scanOf (now (file .entry)) (length (now (headers .entry)) / 4) (min (length (now (rows .entry)) / 6) slots)) (now (headers .entry)) ⌝ }
-    ensures { λ _. ⌜ now (rows .exit) ≡ rowsAfter (scanOf (now (file .entry)) (length (now (headers .entry)) / 4) (min (length (now (rows .entry)) / 6) slots)) (now (rows .entry)) ⌝ }
-    ensures { λ _. ⌜ now (out .exit) ≡ pick (leb 3 (length (now (out .entry)))) (sets (now (out .entry)) 0 (three (mapped countsOf (scanOf (now (file .entry)) (length (now (headers .entry)) / 4) (min (length (now (rows .entry)) / 6) slots))))) (now (out .entry)) ⌝ }
+    ensures { λ n. ⌜ n ≡ code (mapped countsOf (scanOf (now (file .entry)) (headerRoom (now (headers .entry))) (dataRoom (now (rows .entry)) slots))) ⌝ }
+    ensures { λ _. ⌜ now (headers .exit) ≡ headersAfter (scanOf (now (file .entry)) (headerRoom (now (headers .entry))) (dataRoom (now (rows .entry)) slots)) (now (headers .entry)) ⌝ }
+    ensures { λ _. ⌜ now (rows .exit) ≡ rowsAfter (scanOf (now (file .entry)) (headerRoom (now (headers .entry))) (dataRoom (now (rows .entry)) slots)) (now (rows .entry)) ⌝ }
+    ensures { λ _. ⌜ now (out .exit) ≡ pick (leb 3 (length (now (out .entry)))) (sets (now (out .entry)) 0 (three (mapped countsOf (scanOf (now (file .entry)) (headerRoom (now (headers .entry))) (dataRoom (now (rows .entry)) slots))))) (now (out .entry)) ⌝ }
 {
     let r = scan::scan(file, headers, rows, slots);
     told_to(r, out)

@@ -26,13 +26,13 @@ pub record Comment (xs r : List ℕ) : Type 0 where
   pub first : Remarked body
   pub shape : xs ≡ 47 ∷ 42 ∷ (body ++ (42 ∷ 47 ∷ r))
 
--- ISO 10303-21: the inside of a string is any bytes but quotes, and pairs of quotes
+-- the inside of a string: any bytes but quotes, and pairs of quotes, as ISO 10303-21 doubles them and the Rust pairs them
 pub data Inside : List ℕ → Type 0 where
   none : Inside []
   other : {c : ℕ} {b : List ℕ} → (c ≡ 39 → ⊥) → Inside b → Inside (c ∷ b)
   doubled : {b : List ℕ} → Inside b → Inside (39 ∷ 39 ∷ b)
 
--- "A string ends at a quote not followed by a quote": xs begins with a string, and r follows it
+-- "A string ends at a quote not followed by a quote", the quotes inside it paired off first: xs begins with a string, and r follows it
 pub record Quotation (xs r : List ℕ) : Type 0 where
   pub body : List ℕ
   pub inside : Inside body

@@ -43,7 +43,7 @@ taken s H R h r (header w ys t) go = let rest = go InHeader (h + 1) r t in roome
 taken s H R h r (record′ w ys t) go = let rest = go InData h (r + 1) t in roomed s ys r R (mapped (withRecord w) rest)
 
 -- "then the file is read in order and the first fault is given": from the rest xs of the file s, with H header rows and R data
--- rows lent, h and r of them used. The first number bounds the statements that are left; it is never used up (Laws.antt)
+-- rows lent, h and r of them used. The first number bounds the statements that are left; it is never used up (`fuel-free`, `scan-fueled` of FormRight.antt)
 unfoldable pub readFrom : ℕ → List ℕ → ℕ → ℕ → Section → ℕ → ℕ → List ℕ → Told Table
 readFrom zero s H R sec h r xs = bad (refusal 0 0 0)
 readFrom (suc k) s H R sec h r xs = taken s H R h r (statement s sec xs) (λ sec h r t. readFrom k s H R sec h r t)

@@ -1,6 +1,6 @@
 -- The rows in lent memory, and what the scan's answer says.
 -- Assumes nothing.
-use Prim.Native.Nat.{ℕ, _+_, _*_}
+use Prim.Native.Nat.{ℕ, _/_, min}
 use mathlib.Core.List.{List, [], _∷_, _++_}
 use lib.ListN.{length, drop}
 use Rattle.error.specs.Refusal.{Refusal, Told, good, bad, told}
@@ -8,6 +8,14 @@ use Rattle.statement.specs.Row.{Row, HeaderRow, mapped}
 use Rattle.scan.specs.File.{Table, largest}
 use Rattle.scan.specs.declared.Scanned.{Scanned}
 use Rattle.scan.specs.declared.Scanned.the-variants.{Rows, Refused}
+
+-- how many header rows are lent, of four numbers each
+abbrev pub headerRoom : List ℕ → ℕ
+headerRoom h = length h / 4
+
+-- "the lent rows of its kind (or id slots, one a record)": how many data rows are lent, of six numbers each, with a slot for each
+abbrev pub dataRoom : List ℕ → ℕ → ℕ
+dataRoom r slots = min (length r / 6) slots
 
 -- the six numbers of a data row, in document 01's order
 abbrev pub six : Row → List ℕ

@@ -13,7 +13,7 @@ ghost use Rattle.record.specs.Word.{same, marker};
 ghost use Rattle.statement.specs.Row.{mapped};
 ghost use Rattle.statement.specs.Statement.{rowOf, headerRowOf};
 ghost use Rattle.scan.specs.File.{scanOf, marked, readingOf};
-ghost use Rattle.scan.specs.Table.{six, four, headerNumbers, recordNumbers, toldScan, countsOf, headersAfter, rowsAfter};
+ghost use Rattle.scan.specs.Table.{headerRoom, dataRoom, six, four, headerNumbers, recordNumbers, toldScan, countsOf, headersAfter, rowsAfter};
 ghost use Rattle.scan.specs.Laws.{Written};
 ghost use Rattle.scan.specs.Fits.{HeaderFits, RecordFits};
 use error::Fault;
@@ -114,9 +114,9 @@ fn put_record(out: &mut [u32], k: usize, span: RecordSpan, write: bool)
 // the scan writes only where an earlier pass has found none.
 fn pass(s: &[u8], headers: &mut [u32], rows: &mut [u32], slots: usize, write: bool) -> Scanned
     requires { ⌜ length (now s) ≤ 4294967295 ⌝ }
-    ensures { λ r. ⌜ toldScan r ≡ mapped countsOf (readingOf (now (s .entry)) (length (now (headers .entry)) / 4) (min (length (now (rows .entry)) / 6) slots)) ⌝ }
-    ensures { λ _. ⌜ Written write (readingOf (now (s .entry)) (length (now (headers .entry)) / 4) (min (length (now (rows .entry)) / 6) slots)) headerNumbers (now (headers .entry)) (now (headers .exit)) ⌝ }
-    ensures { λ _. ⌜ Written write (readingOf (now (s .entry)) (length (now (headers .entry)) / 4) (min (length (now (rows .entry)) / 6) slots)) recordNumbers (now (rows .entry)) (now (rows .exit)) ⌝ }
+    ensures { λ r. ⌜ toldScan r ≡ mapped countsOf (readingOf (now (s .entry)) (headerRoom (now (headers .entry))) (dataRoom (now (rows .entry)) slots)) ⌝ }
+    ensures { λ _. ⌜ Written write (readingOf (now (s .entry)) (headerRoom (now (headers .entry))) (dataRoom (now (rows .entry)) slots)) headerNumbers (now (headers .entry)) (now (headers .exit)) ⌝ }
+    ensures { λ _. ⌜ Written write (readingOf (now (s .entry)) (headerRoom (now (headers .entry))) (dataRoom (now (rows .entry)) slots)) recordNumbers (now (rows .entry)) (now (rows .exit)) ⌝ }
 {
     let hroom = headers.len() / 4;
     let room = least(rows.len() / 6, slots);
@@ -165,9 +165,9 @@ fn pass(s: &[u8], headers: &mut [u32], rows: &mut [u32], slots: usize, write: bo
 // Scans the file into lent rows: header rows of four numbers, data rows of six, and so many id slots, one a record. 8 where
 // the rows of a kind, or the id slots, are used up. A refusal changes nothing; rows beyond the answer's keep their numbers.
 pub fn scan(file: &[u8], headers: &mut [u32], rows: &mut [u32], slots: usize) -> Scanned
-    ensures { λ r. ⌜ toldScan r ≡ mapped countsOf (scanOf (now (file .entry)) (length (now (headers .entry)) / 4) (min (length (now (rows .entry)) / 6) slots)) ⌝ }
-    ensures { λ _. ⌜ now (headers .exit) ≡ headersAfter (scanOf (now (file .entry)) (length (now (headers .entry)) / 4) (min (length (now (rows .entry)) / 6) slots)) (now (headers .entry)) ⌝ }
-    ensures { λ _. ⌜ now (rows .exit) ≡ rowsAfter (scanOf (now (file .entry)) (length (now (headers .entry)) / 4) (min (length (now (rows .entry)) / 6) slots)) (now (rows .entry)) ⌝ }
+    ensures { λ r. ⌜ toldScan r ≡ mapped countsOf (scanOf (now (file .entry)) (headerRoom (now (headers .entry))) (dataRoom (now (rows .entry)) slots)) ⌝ }
+    ensures { λ _. ⌜ now (headers .exit) ≡ headersAfter (scanOf (now (file .entry)) (headerRoom (now (headers .entry))) (dataRoom (now (rows .entry)) slots)) (now (headers .entry)) ⌝ }
+    ensures { λ _. ⌜ now (rows .exit) ≡ rowsAfter (scanOf (now (file .entry)) (headerRoom (now (headers .entry))) (dataRoom (now (rows .entry)) slots)) (now (rows .entry)) ⌝ }
 {
     if 4294967295 < file.len() {
         return Scanned::Refused(Fault::TooLong);
