@@ -1,3 +1,4 @@
 pub mod Row
 pub mod Statement
 pub mod Laws
+pub mod Closed
