@@ -2,3 +2,4 @@ pub mod Row
 pub mod Statement
 pub mod Laws
 pub mod Closed
+pub mod ClosedRight
