@@ -22,6 +22,7 @@ use Rattle.statement.specs.Row.{Row, row, HeaderRow, headerRow, mapped, 
 use Rattle.statement.specs.Closed.{OutsideBoth, ClosedAt, ClosedData, ClosedHeader, Content, content, HeaderContent, headerContent}
 pub mod HashOther
 pub mod Statements
+pub mod Examples
 
 -- a `)` that is found in t, whatever follows t, is found there whatever else follows it
 pub closing-inside : (c : ℕ) (t v z : List ℕ) → closing (c ∷ (t ++ z)) ≡ at (41 ∷ (v ++ z))
