@@ -1,7 +1,8 @@
 -- Document 01, 'Reading the file': "A file is closed when each header and data record's `(` lies outside strings and comments and
 -- closes before that record's `;`, and each complex record's parts have their `(` outside both." The byte `(` is 40, `)` is 41 and
 -- `;` is 59; a record's text is what stands from its start up to its `;`.
--- ClosedRight.antt shows that what a closed record says does not depend on what stands around it.
+-- ClosedRight.antt shows that what a closed record says does not depend on what stands around it, and ClosedRight/Parts.antt that a
+-- part's `)`, which is asked for here, is always there.
 -- Assumes nothing.
 use Prim.Native.Nat.{ℕ}
 use mathlib.Core.Path.{_≡_}
@@ -52,7 +53,7 @@ pub data ClosedHeader : List ℕ → Type 0 where
   named : {b : List ℕ} {i a z o : ℕ} → headerHead b ≡ Simple i a z o → ClosedAt b o → ClosedHeader b
 
 -- "each header and data record": those that the file s is read to have, from the rest xs on in a section, up to the reading's end;
--- b is the record's text and r what follows its `;`
+-- b is the record's text and r what follows its `;`. A file that is refused is none of these: demand 3 speaks of accepted files
 pub data ClosedFrom (s : List ℕ) : Section → List ℕ → Type 0 where
   over : {sec : Section} {xs : List ℕ} → statement s sec xs ≡ ends → ClosedFrom s sec xs
   turn : {sec to : Section} {xs r : List ℕ} → statement s sec xs ≡ moved to r → ClosedFrom s to r → ClosedFrom s sec xs
