@@ -22,6 +22,7 @@ use Rattle.statement.specs.Row.{Row, row, HeaderRow, headerRow, mapped, 
 use Rattle.statement.specs.Closed.{OutsideBoth, ClosedAt, ClosedData, ClosedHeader, Content, content, HeaderContent, headerContent}
 pub mod HashOther
 pub mod Statements
+pub mod Outside
 pub mod Parts
 pub mod Examples
 

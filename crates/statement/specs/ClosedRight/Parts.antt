@@ -1,56 +1,23 @@
 -- Closed.antt asks no more of a complex record's parts than the paper does: a part whose `(` lies outside strings and comments closes
--- within the arguments, since these are balanced. And what lies outside in a record's text lies outside in the file.
+-- within the arguments, since these are balanced.
 -- Assumes nothing.
 use Prim.Native.Nat.{ℕ, _≤_, _<_}
-use mathlib.Core.Path.{_≡_, refl, _∙_, ap}
+use mathlib.Core.Path.{_≡_, refl, sym, _∙_, ap}
 use mathlib.Core.Logic.{_⊎_, inl, inr}
 use mathlib.Core.List.{List, [], _∷_, _++_, append-assoc}
 use native.Mathlib.Omega.{arith}
 use native.Mathlib.Decide.{ℕ-discrete}
 use lib.ListN.{length, length-append}
-use Rattle.lex.specs.Grammar.{Begins, Opens, Comment, Quotation, Runs, Balanced, Closes, Deep, OpenText, OpenRemark}
+use Rattle.lex.specs.Grammar.{Opens, Runs, Balanced, Closes, Deep, OpenText, OpenRemark}
 use Rattle.lex.specs.Search.{Sought, at, fault, closing}
 use Rattle.lex.specs.Local.{closing-local}
 use Rattle.lex.specs.Right.{closing-only, closing-is, closing-open, closing-one, closing-text-only, closing-remark-only, closing-over-only}
 use Rattle.lex.specs.Right.Steps.{clash}
 use Rattle.record.specs.Form.{Free}
+use Rattle.record.specs.FormRight.Parts.{all-back}
 use Rattle.statement.specs.Closed.{OutsideBoth, ClosedParts}
 use Rattle.statement.specs.ClosedRight.{closes-own}
-
--- what is left is no longer
-runs-longer : {xs ys : List ℕ} → Runs xs ys → length ys ≤ length xs
-runs-longer Runs.none = omega arith
-runs-longer (Runs.byte h k l r) = omega (arith, runs-longer r)
-runs-longer (Runs.string q r) = omega (arith, runs-longer r, simp length-append at (ap length (q .shape)))
-runs-longer (Runs.comment q r) = omega (arith, runs-longer r, simp length-append at (ap length (q .shape)))
-
--- more bytes after one that is left change neither strings nor comments
-module _ (z : List ℕ) where
-  begins-more : (a : ℕ) (xs : List ℕ) → 0 < length xs → Begins a (xs ++ z) → Begins a xs
-  begins-more a [] h b = absurd (omega arith)
-  begins-more a (c ∷ xs) h (r, e) = (xs, cc)
-
-  opens-more : (c : ℕ) (xs : List ℕ) → 0 < length xs → Opens (c ∷ (xs ++ z)) → Opens (c ∷ xs)
-  opens-more c [] h b = absurd (omega arith)
-  opens-more c (d ∷ xs) h (r, e) = (xs, cc)
-
-  quotation-more : {xs zs : List ℕ} → Quotation xs zs → 0 < length zs → Quotation (xs ++ z) (zs ++ z)
-  quotation-more {zs} q h = record {
-    body = q .body;
-    inside = q .inside;
-    shape = cc (append-assoc (q .body) (39 ∷ zs) z);
-    single = λ b. q .single (begins-more 39 zs h b);
-  }
-
-  comment-more : {xs zs : List ℕ} → Comment xs zs → Comment (xs ++ z) (zs ++ z)
-  comment-more {zs} q = record { body = q .body; first = q .first; shape = cc (append-assoc (q .body) (42 ∷ 47 ∷ zs) z) }
-
-  -- what lies outside both in a record's text lies outside both in the file
-  pub outside-more : {xs : List ℕ} {c : ℕ} {r : List ℕ} → OutsideBoth xs (c ∷ r) → OutsideBoth (xs ++ z) (c ∷ (r ++ z))
-  outside-more Runs.none = Runs.none
-  outside-more (Runs.byte {c} {xs} h k l r) = Runs.byte h k (λ o. l (opens-more c xs (omega (arith, runs-longer r)) o)) (outside-more r)
-  outside-more (Runs.string q r) = Runs.string (quotation-more q (omega (arith, runs-longer r))) (outside-more r)
-  outside-more (Runs.comment q r) = Runs.comment (comment-more q) (outside-more r)
+use Rattle.statement.specs.ClosedRight.Outside.{runs-longer, opens-more, quotation-more, comment-more}
 
 -- no `(` of xs stands before the one that r follows
 abbrev First : List ℕ → List ℕ → Type 0
@@ -149,3 +116,18 @@ pub parts-outside : {a : List ℕ} → ClosedParts a → OutsideParts a
 parts-outside (ClosedParts.none h) = OutsideParts.none h
 parts-outside (ClosedParts.part k {r} {t} e f o h p) =
     OutsideParts.part k e f o (λ u c. rw (closing-one h c) at (parts-outside p))
+
+-- the first `(` byte is one
+pub part-first : (k r l s : List ℕ) → Free 40 k → Free 40 l → k ++ (40 ∷ r) ≡ l ++ (40 ∷ s) → (k ≡ l) × (r ≡ s)
+part-first [] r [] s h i e = (refl, cc)
+part-first [] r (d ∷ l) s h (i, j) e = clash (cc)
+part-first (c ∷ k) r [] s (h, t) i e = clash (cc)
+part-first (c ∷ k) r (d ∷ l) s (h, t) (i, j) e = let (p, q) = part-first k r l s t j (cc) in (cc, q)
+
+-- what closed parts say of the part that comes first
+pub closed-part : {a : List ℕ} → ClosedParts a → (k r : List ℕ) → a ≡ k ++ (40 ∷ r) → Free 40 k
+    → OutsideBoth a (40 ∷ r) × ((t : List ℕ) → Closes r t → ClosedParts t)
+closed-part (ClosedParts.none h) k r e f = let n : Free 40 (40 ∷ r) = all-back _ k (40 ∷ r) (rw e at h) in clash (cc (n .0))
+closed-part (ClosedParts.part l {r = s} g i o h p) k r e f =
+    let (q, u) = part-first l s k r i f (sym g ∙ e) in
+    (rw u at o, λ t c. rw (closing-one (rw u at h) c) at p)
