@@ -1,0 +1,74 @@
+use Prim.Native.Nat.{ℕ, _≤_, _-_}
+use mathlib.Core.Path.{_≡_, refl, subst, _∙_}
+use mathlib.Core.List.{List}
+use native.Mathlib.Omega.{arith}
+use lib.ListN.{length, take}
+use lib.Seq.{take-all}
+use borrow.Author.Needs.{needs}
+use denote.Ref.{now}
+use Rattle.text.specs.Put.{Put}
+use Rattle.text.proofs.Laws.{put-start, put-more}
+use Rattle.text.proofs.bytes.Statement.{statement}
+use Rattle.text.proofs.bytes.Tie as tie
+use Rattle.text.proofs.bytes.Reads as reads
+use Rattle.text.proofs.bytes.Lts as lts
+use Rattle.text.proofs.byte.Reads as byte-reads
+
+abbrev Inv-loop : tie.InvT-loop
+Inv-loop buffer₀ words last₀ i₀ buffer last i =
+    (i ≤ length words) × (length buffer ≡ length buffer₀) × (Put buffer₀ (last₀ .used) (take i words) buffer (last .used))
+
+abbrev μ-loop : tie.MeasureT-loop
+μ-loop buffer₀ words last₀ i₀ buffer last i = length words - i
+
+loop-holds : tie.Need-loop-holds Inv-loop μ-loop
+loop-holds c =
+    let a = c .before .before .args in
+    (omega arith, refl, put-start (now (a .buffer)) (a .pen .used))
+
+shared-slice-read-byte : tie.Need-shared-slice-read-byte Inv-loop μ-loop
+shared-slice-read-byte c = omega arith
+
+byte-requires : tie.Need-byte-requires Inv-loop μ-loop
+byte-requires c κs = search needs
+
+add-i : tie.Need-add-i Inv-loop μ-loop
+add-i c = omega arith
+
+loop-less : tie.Need-loop-less Inv-loop μ-loop
+loop-less c = omega arith
+
+loop-again : tie.Need-loop-again Inv-loop μ-loop
+loop-again c =
+    let a = c .before .before .before .before .before .before .before .before .before .args in
+    let l = c .before .before .before .before .before .before .loop in
+    let b = c .before .before .byte in (
+      omega arith,
+      b .kept .0 ∙ l .inv .1,
+      put-more (now (a .buffer)) (l .buffer) (b .last .0) (now (a .words)) (a .pen .used) (l .last .used) (b .result .used) (l .i) (omega arith) (l .inv .1) (l .inv .2) (b .ensures),
+    )
+
+same-length : tie.Need-same-length Inv-loop μ-loop
+same-length c = search needs
+
+returns : tie.Need-returns Inv-loop μ-loop
+returns c =
+    let a = c .before .before .before .before .args in
+    let l = c .before .loop in
+    let e : take (l .i) (now (a .words)) ≡ now (a .words) = take-all (l .i) (now (a .words)) (omega arith) in
+    subst (λ (w : List ℕ). Put (now (a .buffer)) (a .pen .used) w (l .buffer) (l .last .used)) e (l .inv .2)
+
+pub bytes-spec : {M : Type 1} → statement M
+bytes-spec =
+    tie.close
+    (tie.spec
+    Inv-loop
+    μ-loop
+    loop-holds
+    shared-slice-read-byte
+    byte-requires
+    add-i
+    loop-less
+    loop-again
+    same-length
+    returns)
