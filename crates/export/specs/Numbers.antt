@@ -11,6 +11,6 @@ code (good c) = 0
 code (bad q) = q .number
 
 -- header rows, data rows and the largest id; or the refusal's reason and place
-abbrev pub three : Told Counts → List ℕ
-three (good c) = c .headers ∷ c .records ∷ c .max ∷ []
-three (bad q) = q .reason ∷ q .place ∷ 0 ∷ []
+abbrev pub numbers : Told Counts → List ℕ
+numbers (good c) = c .headers ∷ c .records ∷ c .max ∷ []
+numbers (bad q) = q .reason ∷ q .place ∷ []

@@ -9,13 +9,14 @@ ghost use Rattle.lex.specs.Byte.{pick};
 ghost use Rattle.statement.specs.Row.{mapped};
 ghost use Rattle.scan.specs.File.{scanOf};
 ghost use Rattle.scan.specs.Table.{headerRoom, dataRoom, countsOf, headersAfter, rowsAfter, toldScan};
-ghost use Rattle.export.specs.Numbers.{code, three};
+ghost use Rattle.export.specs.Numbers.{code, numbers};
 use scan::Scanned;
 
-// An answer as three numbers at the start of `out`, where there is room for three, and 0 or the refusal's number.
+// Puts an answer's numbers at the start of `out`, where there is room for three: the counts, or a refusal's reason and place;
+// and answers 0 or the refusal's number.
 fn told_to(r: Scanned, out: &mut [u64]) -> u8
     ensures { λ n. ⌜ n ≡ code (toldScan r) ⌝ }
-    ensures { λ _. ⌜ now (out .exit) ≡ pick (leb 3 (length (now (out .entry)))) (sets (now (out .entry)) 0 (three (toldScan r))) (now (out .entry)) ⌝ }
+    ensures { λ _. ⌜ now (out .exit) ≡ pick (leb 3 (length (now (out .entry)))) (sets (now (out .entry)) 0 (numbers (toldScan r))) (now (out .entry)) ⌝ }
 {
     match r {
         Scanned::Rows {
@@ -23,25 +24,35 @@ fn told_to(r: Scanned, out: &mut [u64]) -> u8
             records,
             max,
         } => {
-            put(out, headers as u64, records as u64, max as u64);
+            put_counts(out, headers as u64, records as u64, max as u64);
             0
         }
         Scanned::Refused(f) => {
-            put(out, error::reason(f) as u64, error::place(f) as u64, 0);
+            put_place(out, error::reason(f) as u64, error::place(f) as u64);
             error::number(f)
         }
     }
 }
 
-fn put(out: &mut [u64], a: u64, b: u64, c: u64)
-    ensures { λ _. ⌜ now (out .exit) ≡ pick (leb 3 (length (now (out .entry)))) (sets (now (out .entry)) 0 (a ∷ b ∷ c ∷ [])) (now (out .entry)) ⌝ }
+fn put_counts(out: &mut [u64], headers: u64, records: u64, max: u64)
+    ensures { λ _. ⌜ now (out .exit) ≡ pick (leb 3 (length (now (out .entry)))) (sets (now (out .entry)) 0 (headers ∷ records ∷ max ∷ [])) (now (out .entry)) ⌝ }
 {
     if out.len() < 3 {
         return;
     }
-    out[0] = a;
-    out[1] = b;
-    out[2] = c;
+    out[0] = headers;
+    out[1] = records;
+    out[2] = max;
+}
+
+fn put_place(out: &mut [u64], reason: u64, place: u64)
+    ensures { λ _. ⌜ now (out .exit) ≡ pick (leb 3 (length (now (out .entry)))) (sets (now (out .entry)) 0 (reason ∷ place ∷ [])) (now (out .entry)) ⌝ }
+{
+    if out.len() < 3 {
+        return;
+    }
+    out[0] = reason;
+    out[1] = place;
 }
 
 // Scans a file into lent rows: 0, with header rows, data rows and the largest id in `out`; or the refusal's number, with its
@@ -57,7 +68,7 @@ pub extern "C" fn hooflift_scan(
     ensures { λ n. ⌜ n ≡ code (mapped countsOf (scanOf (now (file .entry)) (headerRoom (now (headers .entry))) (dataRoom (now (rows .entry)) slots))) ⌝ }
     ensures { λ _. ⌜ now (headers .exit) ≡ headersAfter (scanOf (now (file .entry)) (headerRoom (now (headers .entry))) (dataRoom (now (rows .entry)) slots)) (now (headers .entry)) ⌝ }
     ensures { λ _. ⌜ now (rows .exit) ≡ rowsAfter (scanOf (now (file .entry)) (headerRoom (now (headers .entry))) (dataRoom (now (rows .entry)) slots)) (now (rows .entry)) ⌝ }
-    ensures { λ _. ⌜ now (out .exit) ≡ pick (leb 3 (length (now (out .entry)))) (sets (now (out .entry)) 0 (three (mapped countsOf (scanOf (now (file .entry)) (headerRoom (now (headers .entry))) (dataRoom (now (rows .entry)) slots))))) (now (out .entry)) ⌝ }
+    ensures { λ _. ⌜ now (out .exit) ≡ pick (leb 3 (length (now (out .entry)))) (sets (now (out .entry)) 0 (numbers (mapped countsOf (scanOf (now (file .entry)) (headerRoom (now (headers .entry))) (dataRoom (now (rows .entry)) slots))))) (now (out .entry)) ⌝ }
 {
     let r = scan::scan(file, headers, rows, slots);
     told_to(r, out)

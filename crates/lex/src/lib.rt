@@ -5,7 +5,7 @@
 ghost use mathlib.Core.Path.{_≡_};
 ghost use Prim.Native.Nat.{_+_, _<_, _^_, min};
 ghost use mathlib.Core.Bool.{true, false};
-ghost use lib.ListN.{length, drop};
+ghost use lib.ListN.{drop};
 ghost use Rattle.lex.specs.Byte.{white, pick};
 ghost use Rattle.lex.specs.Lexer.{calm, fresh, next};
 ghost use Rattle.lex.specs.Search.{recordEnd, closing, trivia, placed, toldFound, unclosedFault, paren, lookOf, leadAt, trailedAt};
@@ -194,6 +194,7 @@ fn plain_lead(b: u8, i: usize) -> Lead
     Lead::Ends(i)
 }
 
+// Only the first two modes meet a byte outside comments here; the others answer for the match to be whole.
 // A slash that was no comment's is the first byte after the trivia, and so is any byte that is neither white nor a slash.
 fn lead_at(m: Mode, b: u8, since: usize, i: usize) -> Lead
     ensures { λ r. ⌜ r ≡ leadAt m b since i ⌝ }
@@ -208,7 +209,7 @@ fn lead_at(m: Mode, b: u8, since: usize, i: usize) -> Lead
     }
 }
 
-// Where the trivia end that the file ends in.
+// Where the trivia end that the file ends in; no string is open in trivia, and its modes answer as the plain one.
 fn trailed_at(m: Mode, since: usize, n: usize) -> Found
     ensures { λ r. ⌜ r ≡ trailedAt m since n ⌝ }
 {

@@ -4,10 +4,9 @@
 // what a record says cannot depend on what stands around it; places count from the record's start.
 ghost use mathlib.Core.Path.{_≡_};
 ghost use mathlib.Core.Bool.{true, false};
-ghost use mathlib.Core.List.{map};
 ghost use Prim.Native.Nat.{_≤_, _<_};
 ghost use lib.ListN.{length, drop};
-ghost use Rattle.lex.specs.Byte.{white, place};
+ghost use Rattle.lex.specs.Byte.{white};
 ghost use Rattle.record.specs.Text.{past, digit, trail, Numbered, KeyedAt};
 ghost use Rattle.record.specs.Word.{upper, same, isWord, opensData, wordIn, wordOf};
 ghost use Rattle.record.specs.Head.{dataHead, equalHead, valueHead, headerHead};

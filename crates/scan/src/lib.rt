@@ -5,7 +5,7 @@
 ghost use mathlib.Core.Path.{_≡_};
 ghost use mathlib.Core.Bool.{true, false};
 ghost use Prim.Native.Nat.{_+_, _*_, _/_, _≤_, _<_, min, max};
-ghost use lib.ListN.{length, take, drop};
+ghost use lib.ListN.{length, take};
 ghost use lib.Seq.{sets};
 ghost use Rattle.lex.specs.Byte.{pick, white};
 ghost use Rattle.record.specs.Text.{past};
@@ -110,6 +110,16 @@ fn put_record(out: &mut [u32], k: usize, span: RecordSpan, write: bool)
     out[at + 5] = span.complex;
 }
 
+fn rows_found(headers: usize, records: usize, max: u32) -> Scanned
+    ensures { λ r. ⌜ r ≡ Scanned.Rows headers records max ⌝ }
+{
+    Scanned::Rows {
+        headers,
+        records,
+        max,
+    }
+}
+
 // Reads the file in order: counts, and where `write` is set stores each row. What is stored before a refusal stays, so
 // the scan writes only where an earlier pass has found none.
 fn pass(s: &[u8], headers: &mut [u32], rows: &mut [u32], slots: usize, write: bool) -> Scanned
@@ -127,13 +137,7 @@ fn pass(s: &[u8], headers: &mut [u32], rows: &mut [u32], slots: usize, write: bo
     let mut max: u32 = 0;
     loop {
         match statement::next_statement(s, i, section) {
-            Said::Ends => {
-                return Scanned::Rows {
-                    headers: h,
-                    records: r,
-                    max,
-                };
-            }
+            Said::Ends => return rows_found(h, r, max),
             Said::Refuses(f) => return Scanned::Refused(f),
             Said::Moves(to, next) => {
                 section = to;

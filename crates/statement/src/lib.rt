@@ -5,7 +5,6 @@
 ghost use mathlib.Core.Path.{_≡_};
 ghost use Prim.Native.Nat.{_+_, _-_, _≤_, _<_};
 ghost use lib.ListN.{length, take, drop};
-ghost use Rattle.lex.specs.Byte.{place};
 ghost use Rattle.lex.specs.Search.{at};
 ghost use Rattle.statement.specs.Row.{row, headerRow, argued, recordOf, headerOf};
 ghost use Rattle.statement.specs.Statement.{toldRecord, toldHeader, toldSaid, Ahead, inSection, ended, begun, statement};
@@ -120,6 +119,7 @@ fn scan_data_record(s: &[u8], start: usize, end: usize) -> RecordRead
     }
 }
 
+// The header record whose text runs from start up to the `;` at end. Its head is never complex (`header-simple`).
 fn scan_header_record(s: &[u8], start: usize, end: usize) -> HeaderRead
     requires { ⌜ (start ≤ end) × (end < length (now s)) ⌝ }
     ensures { λ r. ⌜ toldHeader r ≡ headerOf (now (s .entry)) (drop start (now (s .entry))) (take (end - start) (drop start (now (s .entry)))) ⌝ }

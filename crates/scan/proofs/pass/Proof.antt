@@ -20,6 +20,7 @@ use Rattle.scan.proofs.greater.Reads as greater-reads
 use Rattle.scan.proofs.least.Reads as least-reads
 use Rattle.scan.proofs.put_header.Reads as put-header-reads
 use Rattle.scan.proofs.put_record.Reads as put-record-reads
+use Rattle.scan.proofs.rows_found.Reads as rows-found-reads
 use Rattle.statement.proofs.next_statement.Reads as next-statement-reads
 
 abbrev Inv-loop : tie.InvT-loop
@@ -45,6 +46,10 @@ next-statement-requires c κs = search needs
 enum-told : tie.Need-enum-told Inv-loop μ-loop
 enum-told c = search needs
 
+-- the answer
+rows-found-requires : tie.Need-rows-found-requires Inv-loop μ-loop
+rows-found-requires c κs = search needs
+
 -- src/lib.rt:130:17
 same-length : tie.Need-same-length Inv-loop μ-loop
 same-length c = search needs
@@ -55,9 +60,12 @@ same-length-2 c = search needs
 
 -- src/lib.rt:130:17
 returns : tie.Need-returns Inv-loop μ-loop
-returns c = let t = c .before .before .before in
+returns c =
+    let t = c .before .before .before .before in
     let a = t .before .before .before .before .before .args in
-    done _ _ _ _ _ _ _ _ _ _ _ _ _ (t .loop .inv .2) _ (t .before .least .ensures) (sym (ap (toldSaid (now (a .s))) (c .enum-told .given .1)) ∙ c .before .before .next-statement .ensures .0)
+    rw (c .rows-found .ensures)
+    (done _ _ _ _ _ _ _ _ _ _ _ _ _ (t .loop .inv .2) _ (t .before .least .ensures)
+    (sym (ap (toldSaid (now (a .s))) (c .before .enum-told .given .1)) ∙ c .before .before .before .next-statement .ensures .0))
 
 -- src/lib.rt:136:27
 enum-known-f : tie.Need-enum-known-f Inv-loop μ-loop
@@ -214,6 +222,7 @@ pass-spec =
     loop-holds
     next-statement-requires
     enum-told
+    rows-found-requires
     same-length
     same-length-2
     returns

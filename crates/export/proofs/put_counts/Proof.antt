@@ -3,36 +3,36 @@ use native.Mathlib.Omega.{arith}
 use borrow.Author.Tests.{le-leb, lt-leb}
 use mathlib.Core.Path.{refl}
 use borrow.Author.Needs.{needs}
-use Rattle.export.proofs.put.Statement.{statement}
-use Rattle.export.proofs.put.Tie as tie
-use Rattle.export.proofs.put.Reads as reads
-use Rattle.export.proofs.put.Lts as lts
+use Rattle.export.proofs.put_counts.Statement.{statement}
+use Rattle.export.proofs.put_counts.Tie as tie
+use Rattle.export.proofs.put_counts.Reads as reads
+use Rattle.export.proofs.put_counts.Lts as lts
 
--- src/lib.rt:40:9
+-- src/lib.rt:41:9
 returns : tie.Need-returns
 returns c = rw (lt-leb _ _ (c .if1 .taken)) refl
 
--- src/lib.rt:42:5
+-- src/lib.rt:43:5
 slice-write-out : tie.Need-slice-write-out
 slice-write-out c = search needs
 
--- src/lib.rt:43:5
+-- src/lib.rt:44:5
 slice-write-out-2 : tie.Need-slice-write-out-2
 slice-write-out-2 c = simp length-set (omega arith)
 
--- src/lib.rt:44:5
+-- src/lib.rt:45:5
 slice-write-out-3 : tie.Need-slice-write-out-3
 slice-write-out-3 c = search needs
 
--- src/lib.rt:36:1
+-- src/lib.rt:37:1
 same-length : tie.Need-same-length
 same-length c = search needs
 
--- src/lib.rt:36:1
+-- src/lib.rt:37:1
 returns-2 : tie.Need-returns-2
 returns-2 c = rw (le-leb _ _ (c .if1 .left)) refl
 
-pub put-spec : {M : Type 1} → statement M
-put-spec =
+pub put-counts-spec : {M : Type 1} → statement M
+put-counts-spec =
     tie.close
     (tie.spec returns slice-write-out slice-write-out-2 slice-write-out-3 same-length returns-2)
