@@ -8,3 +8,4 @@ pub mod Examples
 pub mod Form
 pub mod FormRight
 pub mod Rooms
+pub mod Rests
