@@ -7,3 +7,4 @@ pub mod Within
 pub mod Form
 pub mod FormRight
 pub mod HashOther
+pub mod Ordered

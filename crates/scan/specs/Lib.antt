@@ -9,3 +9,4 @@ pub mod Form
 pub mod FormRight
 pub mod Rooms
 pub mod Rests
+pub mod Ordered
