@@ -10,3 +10,4 @@ pub mod FormRight
 pub mod Rooms
 pub mod Rests
 pub mod Ordered
+pub mod Roomy
