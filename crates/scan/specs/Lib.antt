@@ -11,3 +11,4 @@ pub mod Rooms
 pub mod Rests
 pub mod Ordered
 pub mod Roomy
+pub mod Points
