@@ -1,9 +1,10 @@
 -- What stands at the places that are answered: at a refusal's place what its number names, and between a row's arguments' start
 -- and end a `(`, balanced bytes and a `)`. Assumes nothing.
-use Prim.Native.Nat.{ℕ}
-use mathlib.Core.Path.{_≡_, refl}
+use Prim.Native.Nat.{ℕ, _≤_, _<_}
+use mathlib.Core.Path.{_≡_, refl, ap}
 use mathlib.Core.List.{List, [], _∷_}
-use lib.ListN.{drop}
+use native.Mathlib.Omega.{arith}
+use lib.ListN.{length, drop, length-append, length-drop}
 use Rattle.error.specs.Refusal.{Refusal, refusal, Told, good, bad}
 use Rattle.lex.specs.Byte.{place}
 use Rattle.lex.specs.Grammar.{Begins, Opens, Led, Runs, Closes, Deep, OpenText, OpenRemark}
@@ -35,6 +36,22 @@ pub data Stands (s : List ℕ) : ℕ → List ℕ → Type 0 where
   bad-record : {xs ys body t : List ℕ} → Rest s xs → Record xs ys body t → Stands s 7 ys
   -- "8 [..], record start"
   full : {xs ys body t : List ℕ} → Rest s xs → Record xs ys body t → Stands s 8 ys
+
+-- a list that is not empty has a byte
+some : (xs : List ℕ) → (xs ≡ [] → ⊥) → 0 < length xs
+some [] h = absurd (h refl)
+some (c ∷ xs) h = omega arith
+
+-- but for 1 and 2, a refusal stands at a byte
+stands-some : {s : List ℕ} {n : ℕ} {xs : List ℕ} → Stands s n xs → 3 ≤ n → 0 < length xs
+stands-some Stands.unmarked h = absurd (omega arith)
+stands-some Stands.long h = absurd (omega arith)
+stands-some (Stands.comment o) h = omega (arith, ap length (o .0 .1))
+stands-some (Stands.string o) h = omega (arith, ap length (o .0 .1))
+stands-some (Stands.endless {ys} u l k r) h = some ys k
+stands-some (Stands.paren d) h = omega arith
+stands-some (Stands.bad-record u d) h = omega (arith, simp length-append at (ap length (d .text)))
+stands-some (Stands.full u d) h = omega (arith, simp length-append at (ap length (d .text)))
 
 -- a refusal of the file s stands where it should
 abbrev pub Pointed : List ℕ → Refusal → Type 0
@@ -139,6 +156,10 @@ module _ (s : List ℕ) (H R : ℕ) where
     -- what a refusal's number names stands at its place
     pub scan-stands : Pointed s q
     scan-stands = scan-points (bad q) e
+
+    -- but for 1 and 2, its place is that of a byte of the file
+    pub scan-inside : 3 ≤ q .number → q .place < length s
+    scan-inside h = omega (arith, stands-some scan-stands h, length-drop (q .place) s)
 
     -- at the place of a refusal 3 stands a slash and a star
     pub scan-comment : q .number ≡ 3 → Opens (drop (q .place) s)
