@@ -8,3 +8,4 @@ pub mod Form
 pub mod FormRight
 pub mod HashOther
 pub mod Only
+pub mod Ordered

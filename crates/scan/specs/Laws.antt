@@ -43,7 +43,7 @@ flat-more f [] w = append-nil (f w)
 flat-more f (v ∷ ws) w = ap (λ (l : List ℕ). f v ++ l) (flat-more f ws w) ∙ sym (append-assoc (f v) (flat f ws) (f w))
 
 -- so many rows of n numbers each
-flat-length : {A : Type 0} (n : ℕ) (f : A → List ℕ) → ((w : A) → length (f w) ≡ n) → (ws : List A) → length (flat f ws) ≡ length ws * n
+pub flat-length : {A : Type 0} (n : ℕ) (f : A → List ℕ) → ((w : A) → length (f w) ≡ n) → (ws : List A) → length (flat f ws) ≡ length ws * n
 unfolding flat
 flat-length n f e [] = omega arith
 flat-length n f e (w ∷ ws) =

@@ -8,3 +8,7 @@ pub mod Examples
 pub mod Form
 pub mod FormRight
 pub mod Rooms
+pub mod Rests
+pub mod Ordered
+pub mod Roomy
+pub mod Points

@@ -1,0 +1,183 @@
+-- What stands at the places that are answered: at a refusal's place what its number names, and between a row's arguments' start
+-- and end a `(`, balanced bytes and a `)`. Assumes nothing.
+use Prim.Native.Nat.{ℕ, _≤_, _<_}
+use mathlib.Core.Path.{_≡_, refl, ap}
+use mathlib.Core.List.{List, [], _∷_}
+use native.Mathlib.Omega.{arith}
+use lib.ListN.{length, drop, length-append, length-drop}
+use Rattle.error.specs.Refusal.{Refusal, refusal, Told, good, bad}
+use Rattle.lex.specs.Byte.{place}
+use Rattle.lex.specs.Grammar.{Begins, Opens, Led, Runs, Closes, Deep, OpenText, OpenRemark}
+use Rattle.statement.specs.Row.{Row, HeaderRow}
+use Rattle.statement.specs.Statement.{Stmt, ends, refused, moved, header, record′, statement}
+use Rattle.statement.specs.declared.Section.{Section}
+use Rattle.scan.specs.File.{Table, scanOf}
+use Rattle.scan.specs.Fits.{Each}
+use Rattle.scan.specs.Form.{Argued, DataForm, HeaderRecordForm, Record, StatementForm}
+use Rattle.scan.specs.FormRight.Statements.{statement-is}
+use Rattle.scan.specs.Rests.{Rest, rest-all, rest-on, rest-of, rest-place, trivia-rest, runs-rest, balanced-rest, deep-rest, after-rest}
+use Rattle.scan.specs.Rests.{record-rest, moved-rest, header-form, data-form, Tells, scan-tells}
+
+-- the table of refusal numbers: what the file s is from the place of a refusal with this number on
+pub data Stands (s : List ℕ) : ℕ → List ℕ → Type 0 where
+  -- "1 no Part 21 marker, 0"
+  unmarked : Stands s 1 s
+  -- "2 file too long, 0"
+  long : Stands s 2 s
+  -- "3 comment open, its `/`"
+  comment : {o : List ℕ} → OpenRemark o → Stands s 3 o
+  -- "4 string open, its first quote"
+  string : {o : List ℕ} → OpenText o → Stands s 4 o
+  -- "5 record without `;`, its start"
+  endless : {xs ys : List ℕ} → Rest s xs → Led xs ys → (ys ≡ [] → ⊥) → Runs ys [] → Stands s 5 ys
+  -- "6 parenthesis open, its `(`"
+  paren : {d : ℕ} {t : List ℕ} → Deep d t [] → Stands s 6 (40 ∷ t)
+  -- "7 bad record, with reason, its start"
+  bad-record : {xs ys body t : List ℕ} → Rest s xs → Record xs ys body t → Stands s 7 ys
+  -- "8 [..], record start"
+  full : {xs ys body t : List ℕ} → Rest s xs → Record xs ys body t → Stands s 8 ys
+
+-- a list that is not empty has a byte
+some : (xs : List ℕ) → (xs ≡ [] → ⊥) → 0 < length xs
+some [] h = absurd (h refl)
+some (c ∷ xs) h = omega arith
+
+-- but for 1 and 2, a refusal stands at a byte
+stands-some : {s : List ℕ} {n : ℕ} {xs : List ℕ} → Stands s n xs → 3 ≤ n → 0 < length xs
+stands-some Stands.unmarked h = absurd (omega arith)
+stands-some Stands.long h = absurd (omega arith)
+stands-some (Stands.comment o) h = omega (arith, ap length (o .0 .1))
+stands-some (Stands.string o) h = omega (arith, ap length (o .0 .1))
+stands-some (Stands.endless {ys} u l k r) h = some ys k
+stands-some (Stands.paren d) h = omega arith
+stands-some (Stands.bad-record u d) h = omega (arith, simp length-append at (ap length (d .text)))
+stands-some (Stands.full u d) h = omega (arith, simp length-append at (ap length (d .text)))
+
+-- a refusal of the file s stands where it should
+abbrev pub Pointed : List ℕ → Refusal → Type 0
+Pointed s q = Stands s (q .number) (drop (q .place) s)
+
+-- a refusal at a rest
+pointed : {s r : List ℕ} (n why : ℕ) → Rest s r → Stands s n r → Pointed s (refusal n why (place s r))
+pointed n why u p = rw (rest-place u) p
+
+-- a refusal of a record's arguments
+argued-points : {s t : List ℕ} {q : Refusal} → Rest s (40 ∷ t) → Argued s t (bad q) → Pointed s q
+argued-points u (Argued.text-open d o) = pointed 4 0 (rest-of u (rest-on (deep-rest d))) (Stands.string o)
+argued-points u (Argued.remark-open d o) = pointed 3 0 (rest-of u (rest-on (deep-rest d))) (Stands.comment o)
+argued-points u (Argued.unclosed d) = pointed 6 0 u (Stands.paren d)
+
+module _ {s xs ys body t : List ℕ} (u : Rest s xs) (d : Record xs ys body t) where
+  -- a refusal of a header record
+  header-points : {q : Refusal} → HeaderRecordForm s ys body (bad q) → Pointed s q
+  header-points (HeaderRecordForm.bad-record {why} h) = pointed 7 why (rest-of u (record-rest d .0)) (Stands.bad-record u d)
+  header-points (HeaderRecordForm.named-refused h o g) = argued-points (rest-of (rest-of u (record-rest d .0)) (after-rest o)) g
+
+  -- a refusal of a data record
+  data-points : {q : Refusal} → DataForm s ys body (bad q) → Pointed s q
+  data-points (DataForm.bad-record {why} h) = pointed 7 why (rest-of u (record-rest d .0)) (Stands.bad-record u d)
+  data-points (DataForm.complex-refused h o g) = argued-points (rest-of (rest-of u (record-rest d .0)) (after-rest o)) g
+  data-points (DataForm.simple-refused h o g) = argued-points (rest-of (rest-of u (record-rest d .0)) (after-rest o)) g
+
+-- a refusal of a statement
+pub refused-points : {s : List ℕ} {sec : Section} {xs : List ℕ} {q : Refusal} → Rest s xs → StatementForm s sec xs (refused q) → Pointed s q
+refused-points u (StatementForm.trivia-open r o) = pointed 3 0 (rest-of u (trivia-rest r)) (Stands.comment o)
+refused-points u (StatementForm.endless l h r) = pointed 5 0 (rest-of u (trivia-rest (l .before))) (Stands.endless u l h r)
+refused-points u (StatementForm.text-open l r o) =
+    pointed 4 0 (rest-of u (rest-of (trivia-rest (l .before)) (runs-rest r))) (Stands.string o)
+refused-points u (StatementForm.remark-open l r o) =
+    pointed 3 0 (rest-of u (rest-of (trivia-rest (l .before)) (runs-rest r))) (Stands.comment o)
+refused-points u (StatementForm.header-refused d f g) = header-points u d g
+refused-points u (StatementForm.data-refused d f g) = data-points u d g
+
+-- "argument start and end": a `(` stands before the place a, and its closing `)` at the place e
+pub record Enclosed (s : List ℕ) (a e : ℕ) : Type 0 where
+  pub after : List ℕ
+  pub opened : Rest s (40 ∷ drop a s)
+  pub closed : Closes (drop a s) after
+  pub ended : drop e s ≡ 41 ∷ after
+
+-- the arguments of a record
+argued-encloses : {s t : List ℕ} {e : ℕ} → Rest s (40 ∷ t) → Argued s t (good e) → Enclosed s (place s t) e
+argued-encloses {s} {t} u (Argued.closed {r} c) =
+    let k : Rest s t = rest-of u (rest-on rest-all) in
+    let p : drop (place s t) s ≡ t = rest-place k in
+    record { after = r; opened = rw p u; closed = rw p c; ended = rest-place (rest-of k (balanced-rest c)) }
+
+-- the arguments of a header row
+pub header-encloses : {s ys body : List ℕ} {w : HeaderRow} → Rest s ys → HeaderRecordForm s ys body (good w) → Enclosed s (w .argStart) (w .argEnd)
+header-encloses u (HeaderRecordForm.named h a z o g) = argued-encloses (rest-of u (after-rest o)) g
+
+-- the arguments of a data row
+pub data-encloses : {s ys body : List ℕ} {w : Row} → Rest s ys → DataForm s ys body (good w) → Enclosed s (w .argStart) (w .argEnd)
+data-encloses u (DataForm.complex h o g) = argued-encloses (rest-of u (after-rest o)) g
+data-encloses u (DataForm.simple h a z o g) = argued-encloses (rest-of u (after-rest o)) g
+
+-- the lists and the places of a statement
+abbrev pub Says : List ℕ → Stmt → Type 0
+Says s ends = Unit {0}
+Says s (refused q) = Pointed s q
+Says s (moved sec t) = Rest s t
+Says s (header w ys t) = Rest s ys × Rest s t × Enclosed s (w .argStart) (w .argEnd)
+Says s (record′ w ys t) = Rest s ys × Rest s t × Enclosed s (w .argStart) (w .argEnd)
+
+-- read from a rest of the file, a statement's lists are rests of the file, and its places point at what they name
+pub statement-says : {s : List ℕ} {sec : Section} {xs : List ℕ} (x : Stmt) → Rest s xs → StatementForm s sec xs x → Says s x
+statement-says ends u f = tt
+statement-says (refused q) u f = refused-points u f
+statement-says (moved sec t) u f = rest-of u (moved-rest f)
+statement-says (header w ys t) u f =
+    let (body, d, g) = header-form f in
+    let (k, l) = record-rest d in
+    (rest-of u k, rest-of u (rest-of k l), header-encloses (rest-of u k) g)
+statement-says (record′ w ys t) u f =
+    let (body, d, g) = data-form f in
+    let (k, l) = record-rest d in
+    (rest-of u k, rest-of u (rest-of k l), data-encloses (rest-of u k) g)
+
+-- so it is with the statement that is computed
+pub statement-points : (s : List ℕ) (sec : Section) (xs : List ℕ) → Rest s xs → Says s (statement s sec xs)
+statement-points s sec xs u = statement-says (statement s sec xs) u (statement-is s sec xs)
+
+module _ (s : List ℕ) (H R : ℕ) where
+  -- the places of an answer point at what they name
+  scan-points : (a : Told Table) → scanOf s H R ≡ a
+      → Tells (λ w. Enclosed s (w .argStart) (w .argEnd)) (λ w. Enclosed s (w .argStart) (w .argEnd)) (Pointed s) a
+  scan-points = scan-tells s _ _ (Pointed s) (λ ys body w u g. header-encloses u g) (λ ys body w u g. data-encloses u g)
+      (λ sec xs q u f. refused-points u f) (λ xs ys body t u d. pointed 8 0 (rest-of u (record-rest d .0)) (Stands.full u d))
+      Stands.unmarked Stands.long H R
+
+  -- the arguments of each row of an answer stand between a `(` and its closing `)`
+  pub scan-encloses : (t : Table) → scanOf s H R ≡ good t
+      → Each (λ w. Enclosed s (w .argStart) (w .argEnd)) (t .headers) × Each (λ w. Enclosed s (w .argStart) (w .argEnd)) (t .records)
+  scan-encloses t e = scan-points (good t) e
+
+  module _ (q : Refusal) (e : scanOf s H R ≡ bad q) where
+    -- what a refusal's number names stands at its place
+    pub scan-stands : Pointed s q
+    scan-stands = scan-points (bad q) e
+
+    -- but for 1 and 2, its place is that of a byte of the file
+    pub scan-inside : 3 ≤ q .number → q .place < length s
+    scan-inside h = omega (arith, stands-some scan-stands h, length-drop (q .place) s)
+
+    -- at the place of a refusal 3 stands a slash and a star
+    pub scan-comment : q .number ≡ 3 → Opens (drop (q .place) s)
+    scan-comment n = go (rw n at scan-stands)
+      where
+        go : {xs : List ℕ} → Stands s 3 xs → Opens xs
+        go (Stands.comment o) = o .0
+
+    -- at the place of a refusal 4 stands a quote
+    pub scan-string : q .number ≡ 4 → Begins 39 (drop (q .place) s)
+    scan-string n = go (rw n at scan-stands)
+      where
+        go : {xs : List ℕ} → Stands s 4 xs → Begins 39 xs
+        go (Stands.string o) = o .0
+
+    -- at the place of a refusal 6 stands a `(`
+    pub scan-paren : q .number ≡ 6 → Begins 40 (drop (q .place) s)
+    scan-paren n = go (rw n at scan-stands)
+      where
+        go : {xs : List ℕ} → Stands s 6 xs → Begins 40 xs
+        go (Stands.paren {t} d) = (t, refl)

@@ -1,0 +1,163 @@
+-- Every list of bytes that the reading speaks of is a rest of the file. So a place, which is the number of bytes before a rest,
+-- points at that rest: a refusal stands where what it names begins. Assumes nothing.
+use Prim.Native.Nat.{ℕ, _-_, _≤_}
+use mathlib.Core.Path.{_≡_, refl, ap}
+use mathlib.Core.List.{List, [], _∷_, _++_, append-assoc}
+use native.Mathlib.Omega.{arith}
+use lib.ListN.{length, drop, length-append}
+use lib.Seq.{drop-at}
+use Rattle.error.specs.Refusal.{Refusal, refusal, Told, good, bad}
+use Rattle.lex.specs.Byte.{place}
+use Rattle.lex.specs.Grammar.{Comment, Quotation, Trivia, Runs, Balanced, Deep}
+use Rattle.statement.specs.Row.{Row, HeaderRow, mapped}
+use Rattle.statement.specs.Statement.{refused, moved, header, record′}
+use Rattle.statement.specs.declared.Section.{Section}
+use Rattle.scan.specs.File.{Table, withHeader, withRecord, scanOf}
+use Rattle.scan.specs.Fits.{Each}
+use Rattle.scan.specs.Form.{After, DataForm, HeaderRecordForm, Record, StatementForm, Reads, Scans, Reached}
+use Rattle.scan.specs.FormRight.{scans-is}
+
+-- r is a rest of xs: some bytes, and then r
+pub record Rest (xs r : List ℕ) : Type 0 where
+  pub before : List ℕ
+  pub splits : xs ≡ before ++ r
+
+-- all of a list is a rest of it
+pub rest-all : {xs : List ℕ} → Rest xs xs
+rest-all = record { before = []; splits = refl }
+
+-- one more byte in front
+pub rest-on : {c : ℕ} {xs r : List ℕ} → Rest xs r → Rest (c ∷ xs) r
+rest-on {c} d = record { before = c ∷ d .before; splits = cc }
+
+-- a rest of a rest
+pub rest-of : {xs ys r : List ℕ} → Rest xs ys → Rest ys r → Rest xs r
+rest-of d e = record { before = d .before ++ e .before; splits = rw append-assoc (cc) }
+
+-- a rest is no longer than the list
+pub rest-within : {xs r : List ℕ} → Rest xs r → length r ≤ length xs
+rest-within d = omega (arith, simp length-append at (ap length (d .splits)))
+
+-- a place points at the rest that it was given for
+pub rest-place : {s r : List ℕ} → Rest s r → drop (place s r) s ≡ r
+rest-place {r} d = rw (d .splits) (drop-at (d .before) r (length (d .before ++ r) - length r) (simp length-append (omega arith)))
+
+-- what follows a comment
+comment-rest : {xs r : List ℕ} → Comment xs r → Rest xs r
+comment-rest q = record { before = 47 ∷ 42 ∷ (q .body ++ (42 ∷ 47 ∷ [])); splits = rw append-assoc (q .shape) }
+
+-- what follows a string
+string-rest : {xs r : List ℕ} → Quotation xs r → Rest xs r
+string-rest q = record { before = 39 ∷ (q .body ++ (39 ∷ [])); splits = rw append-assoc (q .shape) }
+
+-- what follows trivia
+pub trivia-rest : {xs ys : List ℕ} → Trivia xs ys → Rest xs ys
+trivia-rest Trivia.none = rest-all
+trivia-rest (Trivia.blank h r) = rest-on (trivia-rest r)
+trivia-rest (Trivia.comment q r) = rest-of (comment-rest q) (trivia-rest r)
+
+-- what follows bytes without a `;`
+pub runs-rest : {xs ys : List ℕ} → Runs xs ys → Rest xs ys
+runs-rest Runs.none = rest-all
+runs-rest (Runs.byte h k l r) = rest-on (runs-rest r)
+runs-rest (Runs.string q r) = rest-of (string-rest q) (runs-rest r)
+runs-rest (Runs.comment q r) = rest-of (comment-rest q) (runs-rest r)
+
+-- what follows balanced bytes
+pub balanced-rest : {xs ys : List ℕ} → Balanced xs ys → Rest xs ys
+balanced-rest Balanced.none = rest-all
+balanced-rest (Balanced.byte h k l m r) = rest-on (balanced-rest r)
+balanced-rest (Balanced.string q r) = rest-of (string-rest q) (balanced-rest r)
+balanced-rest (Balanced.comment q r) = rest-of (comment-rest q) (balanced-rest r)
+balanced-rest (Balanced.group r t) = rest-on (rest-of (balanced-rest r) (rest-on (balanced-rest t)))
+
+-- what follows bytes in which parentheses are open
+pub deep-rest : {d : ℕ} {xs ys : List ℕ} → Deep d xs ys → Rest xs ys
+deep-rest (Deep.flat r) = balanced-rest r
+deep-rest (Deep.nested r d) = rest-of (balanced-rest r) (rest-on (deep-rest d))
+
+-- what is left after so many bytes
+pub after-rest : {n : ℕ} {ys zs : List ℕ} → After n ys zs → Rest ys zs
+after-rest (b, e, l) = record { before = b; splits = e }
+
+-- a record's start, and what follows the record
+pub record-rest : {xs ys body t : List ℕ} → Record xs ys body t → Rest xs ys × Rest ys t
+record-rest d = (trivia-rest (d .starts .before), rest-of (runs-rest (d .finishes)) (rest-on rest-all))
+
+-- what follows a section word or an ignored record is a rest
+pub moved-rest : {s : List ℕ} {sec to : Section} {xs t : List ℕ} → StatementForm s sec xs (moved to t) → Rest xs t
+moved-rest (StatementForm.heads d f) = let (a, b) = record-rest d in rest-of a b
+moved-rest (StatementForm.opens d f) = let (a, b) = record-rest d in rest-of a b
+moved-rest (StatementForm.leaves d f) = let (a, b) = record-rest d in rest-of a b
+moved-rest (StatementForm.ignored d f) = let (a, b) = record-rest d in rest-of a b
+
+-- a header row comes from a header record
+pub header-form : {s : List ℕ} {sec : Section} {xs ys t : List ℕ} {w : HeaderRow} → StatementForm s sec xs (header w ys t)
+    → (body : List ℕ) × Record xs ys body t × HeaderRecordForm s ys body (good w)
+header-form (StatementForm.header-row d f g) = (_, d, g)
+
+-- a data row comes from a data record
+pub data-form : {s : List ℕ} {sec : Section} {xs ys t : List ℕ} {w : Row} → StatementForm s sec xs (record′ w ys t)
+    → (body : List ℕ) × Record xs ys body t × DataForm s ys body (good w)
+data-form (StatementForm.data-row d f g) = (_, d, g)
+
+-- a header record starts at a rest, and what follows it is one
+pub header-rest : {s : List ℕ} {sec : Section} {xs ys t : List ℕ} {w : HeaderRow} → StatementForm s sec xs (header w ys t) → Rest xs ys × Rest ys t
+header-rest f = record-rest (header-form f .1)
+
+-- and so it is with a data record
+pub data-rest : {s : List ℕ} {sec : Section} {xs ys t : List ℕ} {w : Row} → StatementForm s sec xs (record′ w ys t) → Rest xs ys × Rest ys t
+data-rest f = record-rest (data-form f .1)
+
+-- what the reading comes to is a rest of the file
+pub reached-rest : {s : List ℕ} {sec : Section} {xs : List ℕ} {h r : ℕ} → Reached s sec xs h r → Rest s xs
+reached-rest Reached.start = rest-all
+reached-rest (Reached.on u f) = rest-of (reached-rest u) (moved-rest f)
+reached-rest (Reached.header-row u f) = let (a, b) = header-rest f in rest-of (reached-rest u) (rest-of a b)
+reached-rest (Reached.data-row u f) = let (a, b) = data-rest f in rest-of (reached-rest u) (rest-of a b)
+
+-- each header row of an answer is so, and each data row; or its refusal is
+abbrev pub Tells : (HeaderRow → Type 0) → (Row → Type 0) → (Refusal → Type 0) → Told Table → Type 0
+Tells P Q B (good t) = Each P (t .headers) × Each Q (t .records)
+Tells P Q B (bad q) = B q
+
+module _ (s : List ℕ) (P : HeaderRow → Type 0) (Q : Row → Type 0) (B : Refusal → Type 0)
+    (headers : (ys body : List ℕ) (w : HeaderRow) → Rest s ys → HeaderRecordForm s ys body (good w) → P w)
+    (records : (ys body : List ℕ) (w : Row) → Rest s ys → DataForm s ys body (good w) → Q w)
+    (refusals : (sec : Section) (xs : List ℕ) (q : Refusal) → Rest s xs → StatementForm s sec xs (refused q) → B q)
+    (full : (xs ys body t : List ℕ) → Rest s xs → Record xs ys body t → B (refusal 8 0 (place s ys))) where
+  -- one header row more
+  with-header : (w : HeaderRow) (a : Told Table) → P w → Tells P Q B a → Tells P Q B (mapped (withHeader w) a)
+  with-header w (good t) p (h, r) = ((p, h), r)
+  with-header w (bad q) p h = h
+
+  -- one data row more
+  with-record : (w : Row) (a : Told Table) → Q w → Tells P Q B a → Tells P Q B (mapped (withRecord w) a)
+  with-record w (good t) p (h, r) = (h, (p, r))
+  with-record w (bad q) p h = h
+
+  -- what holds of each record, of each refusal of a statement, and of 8 at each record's start, whatever rest of the file they
+  -- are read from, holds of the answer from each rest on
+  reads-tell : {H R : ℕ} {sec : Section} {h r : ℕ} {xs : List ℕ} {a : Told Table} → Rest s xs → Reads s H R sec h r xs a → Tells P Q B a
+  reads-tell u (Reads.over f) = (tt, tt)
+  reads-tell u (Reads.fault f) = refusals _ _ _ u f
+  reads-tell u (Reads.on f d) = reads-tell (rest-of u (moved-rest f)) d
+  reads-tell u (Reads.header-row {w} {a} f p d) =
+      let (body, r, g) = header-form f in
+      let (k, l) = record-rest r in
+      with-header w a (headers _ body w (rest-of u k) g) (reads-tell (rest-of u (rest-of k l)) d)
+  reads-tell u (Reads.header-full f p) = full _ _ _ _ u (header-form f .1)
+  reads-tell u (Reads.data-row {w} {a} f p d) =
+      let (body, r, g) = data-form f in
+      let (k, l) = record-rest r in
+      with-record w a (records _ body w (rest-of u k) g) (reads-tell (rest-of u (rest-of k l)) d)
+  reads-tell u (Reads.data-full f p) = full _ _ _ _ u (data-form f .1)
+
+  -- and of the answer for the file, if it holds of the refusals 1 and 2 at its start
+  pub scan-tells : B (refusal 1 0 0) → B (refusal 2 0 0) → (H R : ℕ) (a : Told Table) → scanOf s H R ≡ a → Tells P Q B a
+  scan-tells b c H R a e = go (rw e at (scans-is s H R))
+    where
+      go : {a : Told Table} → Scans s H R a → Tells P Q B a
+      go (Scans.long h) = c
+      go (Scans.unmarked h n) = b
+      go (Scans.read h m d) = reads-tell rest-all d
