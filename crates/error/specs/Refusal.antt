@@ -83,6 +83,7 @@ faultOf q =
     (q .number)
     NoMarker
 
+-- read the other way, the table gives the case back
 pub faultOf-told : (f : Fault) → faultOf (told f) ≡ f
 unfolding faultOf
 faultOf-told NoMarker = refl

@@ -34,6 +34,7 @@ pub record Seen : Type 0 where
   pub depth : ℕ
   pub opened : List ℕ
 
+-- such a state by its parts
 abbrev pub seen : Mode → ℕ → List ℕ → Seen
 seen m d o = record { mode = m; depth = d; opened = o }
 
@@ -60,6 +61,7 @@ abbrev pub looked : Look → Mode → List ℕ → Turn Seen Sought
 looked halt m here = stop (at here)
 looked (look d) m here = on (seen m d here)
 
+-- one byte of a search for what f looks for: a byte in a string or a comment only moves the mode
 abbrev pub seekTurn : (ℕ → ℕ → Look) → Seen → ℕ → List ℕ → Turn Seen Sought
 seekTurn f s c r =
     pick (calm (s .mode) c)
@@ -75,6 +77,7 @@ unclosed Quoted n whole o = fault n whole
 unclosed Remark n whole o = fault 3 o
 unclosed Starred n whole o = fault 3 o
 
+-- the same of a state
 abbrev pub missed : ℕ → List ℕ → Seen → Sought
 missed n whole s = unclosed (s .mode) n whole (s .opened)
 
@@ -96,6 +99,7 @@ lead Quoted o c r = stop (at o)
 lead Remark o c r = stop (at o)
 lead Starred o c r = stop (at o)
 
+-- one byte of trivia: a byte in a comment only moves the mode
 abbrev pub triviaTurn : Seen → ℕ → List ℕ → Turn Seen Sought
 triviaTurn s c r = pick (calm (s .mode) c) (lead (s .mode) (s .opened) c r) (on (seen (next (s .mode) c) 0 (s .opened)))
 
@@ -108,6 +112,7 @@ trailed Quoted o = at []
 trailed Remark o = fault 3 o
 trailed Starred o = fault 3 o
 
+-- the same of a state
 abbrev pub triviaEnd : Seen → Sought
 triviaEnd s = trailed (s .mode) (s .opened)
 

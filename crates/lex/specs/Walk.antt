@@ -13,6 +13,7 @@ pub data Turn (S A : Type 0) : Type 0 where
   stop : A → Turn S A
   on : S → Turn S A
 
+-- the answer of a turn, or what the walk goes on to answer
 abbrev pub turned : {S A : Type 0} → Turn S A → (S → A) → A
 turned (stop a) k = a
 turned (on u) k = k u

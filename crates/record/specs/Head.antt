@@ -45,5 +45,6 @@ abbrev pub namedHead : List ℕ → List ℕ → Keyed → Head
 namedHead b v unopened = Bad 1
 namedHead b v (opened e o) = Simple 0 (place b v) (place b e) (place b o)
 
+-- a header record: a keyword and the first byte `(`
 unfoldable pub headerHead : List ℕ → Head
 headerHead b = namedHead b (past white b) (keyword (past white b))

@@ -47,13 +47,16 @@ module _ (b : List ℕ) (id v : ℕ) (r : List ℕ) (e : drop v b ≡ r) where
 pub keyed-absent : (b : List ℕ) (id v : ℕ) (k : Keyed) → k ≡ unopened → Bad 7 ≡ keyedHead b id (drop v b) k
 keyed-absent b id v k q = rw q refl
 
+-- a keyword that was found, by its places
 pub keyed-found : (b : List ℕ) (id v e o : ℕ) (k : Keyed) → v ≤ length b → e ≤ length b → o ≤ length b → k ≡ opened (drop e b) (drop o b) → Simple id v e o ≡ keyedHead b id (drop v b) k
 keyed-found b id v e o k hv he ho q = rw (q, place-drop b v hv, place-drop b e he, place-drop b o ho) refl
 
+-- a header record without `(`
 pub named-absent : (b : List ℕ) (v : ℕ) → drop v b ≡ past white b → keyword (drop v b) ≡ unopened → Bad 1 ≡ headerHead b
 unfolding headerHead
 named-absent b v p q = rw (← p, q) refl
 
+-- a header record's keyword, by its places
 pub named-found : (b : List ℕ) (v e o : ℕ) → drop v b ≡ past white b → v ≤ length b → e ≤ length b → o ≤ length b → keyword (drop v b) ≡ opened (drop e b) (drop o b) → Simple 0 v e o ≡ headerHead b
 unfolding headerHead
 named-found b v e o p hv he ho q = rw (← p, q, place-drop b v hv, place-drop b e he, place-drop b o ho) refl
@@ -104,11 +107,13 @@ module _ (b : List ℕ) (h : 0 < length b) where
 data-short : (t : List ℕ) → (length t ≡ 4 → ⊥) → isWord t dataWord ≡ false
 data-short t h = same-lengths (map upper t) dataWord (λ e. h (sym (length-map t upper) ∙ e))
 
+-- a text that is shorter than the word opens no data
 pub opens-short : (t : List ℕ) → length t < 4 → false ≡ opensData t
 opens-short t h =
     let a : take 4 t ≡ t = take-all 4 t (omega arith) in
     rw (a, data-short t (omega arith)) refl
 
+-- nor does one that begins otherwise
 pub opens-other : (t : List ℕ) → false ≡ isWord (take 4 t) dataWord → false ≡ opensData t
 opens-other t e = go (ℕ-discrete (length t) 4)
   where
@@ -119,9 +124,11 @@ opens-other t e = go (ℕ-discrete (length t) 4)
         rw (a, f) refl
     go (no h) = rw (data-short t h, sym e) refl
 
+-- one that begins so and goes on opens data where a `(` is next
 pub opens-after : (t : List ℕ) (p : ℕ) → true ≡ isWord (take 4 t) dataWord → 4 ≤ p → drop p t ≡ past white (drop 4 t) → p < length t → eqb (getD t p 0) 40 ≡ opensData t
 opens-after t p e h q k = rw (data-short t (omega arith), sym e, ← q, split t p k) refl
 
+-- one that begins so and has only whitespace after opens data where it is the word alone
 pub opens-alone : (t : List ℕ) (p : ℕ) → true ≡ isWord (take 4 t) dataWord → drop p t ≡ past white (drop 4 t) → length t ≤ p → eqb (length t) 4 ≡ opensData t
 opens-alone t p e q k = go (ℕ-discrete (length t) 4)
   where

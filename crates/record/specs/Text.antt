@@ -17,6 +17,7 @@ use Rattle.record.specs.declared.Key.the-variants.{Absent, Found}
 abbrev pub before : List ℕ → List ℕ → List ℕ
 before xs r = take (length xs - length r) xs
 
+-- a byte of the kind p is passed over
 abbrev pub pastTurn : (ℕ → Bool) → Unit {0} → ℕ → List ℕ → Turn (Unit {0}) (List ℕ)
 pastTurn p u c r = pick (p c) (on u) (stop (c ∷ r))
 
@@ -33,9 +34,11 @@ pub record Digits : Type 0 where
   pub value : ℕ
   pub rest : List ℕ
 
+-- such a number by its parts
 abbrev pub digits : ℕ → List ℕ → Digits
 digits n r = record { value = n; rest = r }
 
+-- a digit makes the number ten times as large, and its own value larger
 abbrev pub digitTurn : ℕ → ℕ → List ℕ → Turn ℕ Digits
 digitTurn n c r = pick (digit c) (on (n * 10 + (c - 48))) (stop (digits n (c ∷ r)))
 
@@ -56,6 +59,7 @@ keyTurn e c r = pick (eqb c 40) (stop (opened e (c ∷ r))) (on (pick (white c) 
 unfoldable pub keyword : List ℕ → Keyed
 keyword xs = walk keyTurn (λ e. unopened) xs xs
 
+-- e is the rest after the last byte that is not white
 abbrev pub trailTurn : List ℕ → ℕ → List ℕ → Turn (List ℕ) (List ℕ)
 trailTurn e c r = on (pick (white c) e r)
 

@@ -44,6 +44,7 @@ hash-within : (b r : List ℕ) → HeadWithin (length b) (hashHead b r)
 hash-within b [] = tt
 hash-within b (c ∷ r) = either (length b) (eqb c 35) _ _ (id-within b r (numberFrom 0 r)) tt
 
+-- the places of a data record's head lie in its text
 pub data-within : (b : List ℕ) → HeadWithin (length b) (dataHead b)
 unfolding dataHead
 data-within b = hash-within b b
@@ -52,6 +53,7 @@ named-within : (b v : List ℕ) (k : Keyed) → HeadWithin (length b) (namedHead
 named-within b v unopened = tt
 named-within b v (opened e o) = (place-within b v, place-within b e, place-within b o)
 
+-- the places of a header record's head lie in its text
 pub header-within : (b : List ℕ) → HeadWithin (length b) (headerHead b)
 unfolding headerHead
 header-within b = named-within b (past white b) (keyword (past white b))

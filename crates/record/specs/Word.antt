@@ -34,19 +34,23 @@ abbrev pub opens : List ℕ → Bool
 opens [] = false
 opens (c ∷ r) = eqb c 40
 
--- ENDSEC, HEADER, DATA, END-ISO-10303-21
+-- `ENDSEC`
 abbrev pub endsec : List ℕ
 endsec = 69 ∷ 78 ∷ 68 ∷ 83 ∷ 69 ∷ 67 ∷ []
 
+-- `HEADER`
 abbrev pub header : List ℕ
 header = 72 ∷ 69 ∷ 65 ∷ 68 ∷ 69 ∷ 82 ∷ []
 
+-- `DATA`
 abbrev pub dataWord : List ℕ
 dataWord = 68 ∷ 65 ∷ 84 ∷ 65 ∷ []
 
+-- `ISO-10303-21`
 abbrev pub marker : List ℕ
 marker = 73 ∷ 83 ∷ 79 ∷ 45 ∷ 49 ∷ 48 ∷ 51 ∷ 48 ∷ 51 ∷ 45 ∷ 50 ∷ 49 ∷ []
 
+-- `END-ISO-10303-21`
 abbrev pub endFile : List ℕ
 endFile = 69 ∷ 78 ∷ 68 ∷ 45 ∷ marker
 

@@ -26,6 +26,7 @@ pub record Line : Type 0 where
   pub argStart : ℕ
   pub argEnd : ℕ
 
+-- such a line, the keyword as text
 abbrev pub line : ℕ → String → ℕ → ℕ → Line
 line i k a e = record { id = i; keyword = bytes k; argStart = a; argEnd = e }
 
@@ -35,6 +36,7 @@ pub record Listing : Type 0 where
   pub max : ℕ
   pub lines : List Line
 
+-- such a listing by its parts
 abbrev pub listing : ℕ → ℕ → List Line → Listing
 listing n m ls = record { records = n; max = m; lines = ls }
 
@@ -47,6 +49,7 @@ lineOf s w = record {
   argEnd = w .argEnd;
 }
 
+-- the listing of the file s with these rows
 abbrev pub listed : List ℕ → Table → Listing
 listed s t = listing (length (t .records)) (largest (t .records)) (map (lineOf s) (t .records))
 
@@ -55,6 +58,7 @@ pub record Example : Type 0 where
   pub input : String
   pub answer : Told Listing
 
+-- such an example by its parts
 abbrev pub example : String → Told Listing → Example
 example s a = record { input = s; answer = a }
 
@@ -75,6 +79,7 @@ abbrev pub Holds : List Example → Type 0
 Holds [] = Unit {0}
 Holds (e ∷ es) = (mapped (listed (bytes (e .input))) (scanOf (bytes (e .input)) 2 2) ≡ e .answer) × Holds es
 
+-- "Starred examples are proved of the definitions as one list under one statement"
 pub examples-hold : Holds examples
 unfolding walk trivia recordEnd closing past numberFrom keyword trail same wordOf dataHead headerHead recordOf headerOf statement largest readFrom scanOf
 examples-hold = (refl, (refl, (refl, (refl, (refl, (refl, tt))))))

@@ -19,6 +19,7 @@ pub record Table : Type 0 where
   pub headers : List HeaderRow
   pub records : List Row
 
+-- such a table by its parts
 abbrev pub table : List HeaderRow → List Row → Table
 table hs rs = record { headers = hs; records = rs }
 
@@ -26,6 +27,7 @@ table hs rs = record { headers = hs; records = rs }
 abbrev pub withHeader : HeaderRow → Table → Table
 withHeader w t = table (w ∷ t .headers) (t .records)
 
+-- a data row likewise
 abbrev pub withRecord : Row → Table → Table
 withRecord w t = table (t .headers) (w ∷ t .records)
 

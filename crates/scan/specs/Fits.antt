@@ -29,6 +29,7 @@ pub record HeaderFits (n : ℕ) (w : HeaderRow) : Type 0 where
   pub argStart : w .argStart ≤ n
   pub argEnd : w .argEnd ≤ n
 
+-- each place of a data row is at most n
 pub record RecordFits (n : ℕ) (w : Row) : Type 0 where
   pub keyStart : w .keyStart ≤ n
   pub keyEnd : w .keyEnd ≤ n
@@ -45,6 +46,7 @@ abbrev pub Each : {A : Type 0} → (A → Type 0) → List A → Type 0
 Each F [] = Unit {0}
 Each F (w ∷ ws) = F w × Each F ws
 
+-- each place of each row is at most n
 pub record TableFits (n : ℕ) (t : Table) : Type 0 where
   pub headers : Each (HeaderFits n) (t .headers)
   pub records : Each (RecordFits n) (t .records)
@@ -177,6 +179,7 @@ header-fits-more n m w h f = record {
   argEnd = omega (arith, f .argEnd);
 }
 
+-- a greater bound for a data row
 pub record-fits-more : (n m : ℕ) (w : Row) → n ≤ m → RecordFits n w → RecordFits m w
 record-fits-more n m w h f = record {
   keyStart = omega (arith, f .keyStart);

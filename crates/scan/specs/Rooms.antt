@@ -96,6 +96,7 @@ scan-fit s H R t e = let k = scans-fit (rw e at (scans-is s H R)) in omega arith
 abbrev largeId : List ℕ
 largeId = bytes "ISO-10303-21;DATA;#4294967295=A();"
 
+-- it needs one row and one id slot
 pub large-id : scanOf largeId 0 1 ≡ good (table [] (row 4294967295 30 31 32 32 0 ∷ []))
 unfolding scanOf readFrom statement trivia recordEnd closing walk past numberFrom keyword trail same wordOf dataHead recordOf
 large-id = refl

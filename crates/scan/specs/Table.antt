@@ -34,6 +34,7 @@ flat f (w ∷ ws) = f w ++ flat f ws
 abbrev pub headerNumbers : Table → List ℕ
 headerNumbers t = flat four (t .headers)
 
+-- the numbers of a table's data rows
 abbrev pub recordNumbers : Table → List ℕ
 recordNumbers t = flat six (t .records)
 
@@ -46,6 +47,7 @@ abbrev pub headersAfter : Told Table → List ℕ → List ℕ
 headersAfter (good t) old = laid (headerNumbers t) old
 headersAfter (bad q) old = old
 
+-- the lent data rows likewise
 abbrev pub rowsAfter : Told Table → List ℕ → List ℕ
 rowsAfter (good t) old = laid (recordNumbers t) old
 rowsAfter (bad q) old = old
@@ -56,9 +58,11 @@ pub record Counts : Type 0 where
   pub records : ℕ
   pub max : ℕ
 
+-- such values by their parts
 abbrev pub counts : ℕ → ℕ → ℕ → Counts
 counts h r m = record { headers = h; records = r; max = m }
 
+-- the values of a table
 abbrev pub countsOf : Table → Counts
 countsOf t = counts (length (t .headers)) (length (t .records)) (largest (t .records))
 

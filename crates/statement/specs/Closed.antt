@@ -87,5 +87,6 @@ pub record HeaderContent : Type 0 where
   pub keyword : List ℕ
   pub args : List ℕ
 
+-- what the header row w says of the file s
 abbrev pub headerContent : List ℕ → HeaderRow → HeaderContent
 headerContent s w = record { keyword = slice (w .keyStart) (w .keyEnd) s; args = slice (w .argStart) (w .argEnd) s }

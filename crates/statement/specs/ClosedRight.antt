@@ -105,6 +105,7 @@ abbrev pub rowFrom : {b : List ℕ} → ℕ → ClosedData b → Row
 rowFrom n (ClosedData.simple {i} {a} {z} {o} e c) = row i (n + a) (n + z) (n + (o + 1)) (n + (o + 1 + length (c .args))) 0
 rowFrom n (ClosedData.complex {i} {o} e c p) = row i 0 0 (n + (o + 1)) (n + (o + 1 + length (c .args))) 1
 
+-- what a closed data text says, from the text alone
 abbrev pub contentOf : {b : List ℕ} → ClosedData b → Content
 contentOf {b} (ClosedData.simple {i} {a} {z} e c) = record { id = i; keyword = slice a z b; args = c .args; complex = 0 }
 contentOf (ClosedData.complex {i} e c p) = record { id = i; keyword = []; args = c .args; complex = 1 }
@@ -149,6 +150,7 @@ alone-is {b} c =
 abbrev pub headerRowFrom : {b : List ℕ} → ℕ → ClosedHeader b → HeaderRow
 headerRowFrom n (ClosedHeader.named {i} {a} {z} {o} e c) = headerRow (n + a) (n + z) (n + (o + 1)) (n + (o + 1 + length (c .args)))
 
+-- what a closed header text says, from the text alone
 abbrev pub headerContentOf : {b : List ℕ} → ClosedHeader b → HeaderContent
 headerContentOf {b} (ClosedHeader.named {i} {a} {z} e c) = record { keyword = slice a z b; args = c .args }
 
@@ -160,6 +162,7 @@ header-row {b} (ClosedHeader.named {i} {a} {z} {o} e c) q y =
     let h : o + 1 ≤ length b = omega (arith, args-within c) in
     rw e (argued-local c q y _ ∙ rw (place-after q b y a (w .0), place-after q b y z (w .1), place-after q b y (o + 1) h) refl)
 
+-- its row says just that, wherever it stands
 pub header-content : {b : List ℕ} (c : ClosedHeader b) (q y : List ℕ) → headerContent (q ++ (b ++ y)) (headerRowFrom (length q) c) ≡ headerContentOf c
 header-content {b} (ClosedHeader.named {i} {a} {z} {o} e c) q y =
     let w : (a ≤ length b) × (z ≤ length b) × (o ≤ length b) = rw e at (header-within b) in
@@ -181,6 +184,7 @@ hash-first (c ∷ r) h = go (ℕ-discrete c 35)
     go (yes p) = (r, cc)
     go (no n) = absurd (h (rw (ne-eqb c 35 n)))
 
+-- a closed data text begins with `#`
 pub closed-hash : {b : List ℕ} → ClosedData b → Begins 35 b
 closed-hash {b} (ClosedData.simple e c) = hash-first b (λ h. clash (cc))
 closed-hash {b} (ClosedData.complex e c p) = hash-first b (λ h. clash (cc))

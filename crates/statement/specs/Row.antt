@@ -19,6 +19,7 @@ pub record Row : Type 0 where
   pub argEnd : ℕ
   pub complex : ℕ
 
+-- such a row by its numbers
 abbrev pub row : ℕ → ℕ → ℕ → ℕ → ℕ → ℕ → Row
 row i k l a b c = record { id = i; keyStart = k; keyEnd = l; argStart = a; argEnd = b; complex = c }
 
@@ -29,6 +30,7 @@ pub record HeaderRow : Type 0 where
   pub argStart : ℕ
   pub argEnd : ℕ
 
+-- such a row by its numbers
 abbrev pub headerRow : ℕ → ℕ → ℕ → ℕ → HeaderRow
 headerRow k l a b = record { keyStart = k; keyEnd = l; argStart = a; argEnd = b }
 

@@ -31,10 +31,12 @@ pub data Stmt : Type 0 where
   header : HeaderRow → List ℕ → List ℕ → Stmt
   record′ : Row → List ℕ → List ℕ → Stmt
 
+-- a header record's row, or its refusal
 abbrev pub headed : List ℕ → List ℕ → Told HeaderRow → Stmt
 headed ys r (good w) = header w ys r
 headed ys r (bad q) = refused q
 
+-- a data record's row, or its refusal
 abbrev pub recorded : List ℕ → List ℕ → Told Row → Stmt
 recorded ys r (good w) = record′ w ys r
 recorded ys r (bad q) = refused q
@@ -63,6 +65,7 @@ abbrev pub begun : List ℕ → Section → List ℕ → Stmt
 begun s sec [] = ends
 begun s sec (c ∷ r) = ended s (c ∷ r) sec (recordEnd (c ∷ r))
 
+-- what follows the trivia, or the comment that is open in them
 abbrev pub led : List ℕ → Section → Sought → Stmt
 led s sec (fault n o) = refused (refusal n 0 (place s o))
 led s sec (at ys) = begun s sec ys
@@ -75,17 +78,21 @@ statement s sec xs = led s sec (trivia xs)
 abbrev pub rowOf : RecordSpan → Row
 rowOf r = row (r .id) (r .keyword .start) (r .keyword .end) (r .args .start) (r .args .end) (r .complex)
 
+-- a header row likewise
 abbrev pub headerRowOf : HeaderSpan → HeaderRow
 headerRowOf r = headerRow (r .keyword .start) (r .keyword .end) (r .args .start) (r .args .end)
 
+-- what `scan_data_record` answers
 abbrev pub toldRecord : RecordRead → Told Row
 toldRecord (RecordIs r) = good (rowOf r)
 toldRecord (NoRecord f) = bad (told f)
 
+-- what `scan_header_record` answers
 abbrev pub toldHeader : HeaderRead → Told HeaderRow
 toldHeader (HeaderIs r) = good (headerRowOf r)
 toldHeader (NoHeader f) = bad (told f)
 
+-- what `next_statement` answers, with rests of the file s for places
 abbrev pub toldSaid : List ℕ → Said → Stmt
 toldSaid s Ends = ends
 toldSaid s (Refuses f) = refused (told f)

@@ -21,6 +21,7 @@ sole P only (x, h) = rw (only x h) at h
 first-none : (p : ℕ → Bool) → NotFirst p []
 first-none p c r e = clash (cc)
 
+-- a list whose first byte is of another kind
 pub first-other : (p : ℕ → Bool) (c : ℕ) (xs : List ℕ) → p c ≡ false → NotFirst p (c ∷ xs)
 first-other p c xs h d r e = ap p (cc) ∙ h
 
@@ -33,14 +34,17 @@ pub all-front : (p : ℕ → Bool) (f g : List ℕ) → All p (f ++ g) → All p
 all-front p [] g h = tt
 all-front p (c ∷ f) g (h, t) = (h, all-front p f g t)
 
+-- the back of such bytes is such bytes
 pub all-back : (p : ℕ → Bool) (f g : List ℕ) → All p (f ++ g) → All p g
 all-back p [] g h = h
 all-back p (c ∷ f) g (h, t) = all-back p f g t
 
+-- such bytes after such bytes
 pub all-join : (p : ℕ → Bool) (f g : List ℕ) → All p f → All p g → All p (f ++ g)
 all-join p [] g h k = k
 all-join p (c ∷ f) g (h, t) k = (h, all-join p f g t k)
 
+-- all bytes are of the kind of all bytes
 pub all-any : (f : List ℕ) → All (λ c. true) f
 all-any [] = tt
 all-any (c ∷ f) = (refl, all-any f)
@@ -54,6 +58,7 @@ all-kind p q (c ∷ f) g (h, t) = (g c h, all-kind p q f g t)
 abbrev pub Spanned : (ℕ → Bool) → List ℕ → Type 0
 Spanned p xs = (f r : List ℕ) × (xs ≡ f ++ r) × Skipped p f r
 
+-- every list splits so
 pub span : (p : ℕ → Bool) (xs : List ℕ) → Spanned p xs
 span p [] = ([], [], refl, record { all = tt; over = first-none p })
 span p (c ∷ xs) = go (p c) refl (span p xs)
@@ -78,6 +83,7 @@ last-next p c k h r d e = h (c ∷ r) d (cc)
 abbrev pub Tailed : List ℕ → Type 0
 Tailed xs = (k w : List ℕ) × (xs ≡ k ++ w) × All white w × NotLast white k
 
+-- every list splits so
 pub tail-split : (xs : List ℕ) → Tailed xs
 tail-split [] = ([], [], refl, tt, last-none white)
 tail-split (c ∷ xs) = go (white c) refl (tail-split xs)
@@ -93,6 +99,7 @@ unfolding past walk
 past-pass p [] r h = refl
 past-pass p (c ∷ f) r (h, t) = rw h (past-pass p f r t)
 
+-- nothing is passed over where the first byte is of another kind
 pub past-halt : (p : ℕ → Bool) (r : List ℕ) → NotFirst p r → past p r ≡ r
 unfolding past walk
 past-halt p [] h = refl
@@ -109,6 +116,7 @@ number-pass n [] r h = ap (λ (m : ℕ). numberFrom m r) (omega arith)
 number-pass n (d ∷ ds) r (h, t) =
     rw (h, pow-succ') (number-pass (n * 10 + (d - 48)) ds r t ∙ ap (λ (m : ℕ). numberFrom m r) (ten n (d - 48) (valueOf ds) (10 ^ length ds)))
 
+-- a number ends where no digit follows
 pub number-halt : (n : ℕ) (r : List ℕ) → NotFirst digit r → numberFrom n r ≡ digits n r
 unfolding numberFrom walk
 number-halt n [] h = refl

@@ -63,6 +63,7 @@ reads-bad {s} {H} {h} u l m (Reads.header-full f p) = let e : h ≡ H = omega ar
 reads-bad u l m (Reads.data-row {w} {a} f p d) = bad-mapped _ (withRecord w) a (reads-bad (Reached.data-row u f) l (omega arith) d)
 reads-bad {s} {R} {r} u l m (Reads.data-full f p) = let e : r ≡ R = omega arith in (omega arith, λ z. Full.records (rw e at u) l f)
 
+-- what is known of a refusal of the whole scan
 pub scans-bad : {s : List ℕ} {H R : ℕ} {a : Told Table} → Scans s H R a → IfBad (Refusing s H R) a
 scans-bad (Scans.long h) = (omega arith, λ e. absurd (omega arith))
 scans-bad (Scans.unmarked h n) = (omega arith, λ e. absurd (omega arith))

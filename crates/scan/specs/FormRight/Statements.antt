@@ -148,6 +148,7 @@ dataform-is s body e =
     sole (DataForm s (body ++ e) body) (λ a. dataform-only)
     (dataform-comes s (body ++ e) body (dataHead body) (headform-is body) (head-placed e (headform-is body)))
 
+-- what is computed of a header record follows the rules
 pub headerrecord-is : (s body e : List ℕ) → HeaderRecordForm s (body ++ e) body (headerOf s (body ++ e) body)
 headerrecord-is s body e =
     sole (HeaderRecordForm s (body ++ e) body) (λ a. headerrecord-only)
@@ -269,14 +270,17 @@ statement-is s sec xs = sole (StatementForm s sec xs) (λ x. statement-only) (st
 record-shorter : {xs ys body t : List ℕ} → Record xs ys body t → length t < length xs
 record-shorter {xs} d = omega (arith, trivia-shorter xs (trivia-only (d .starts)), simp length-append at (ap length (d .text)))
 
+-- less is left after a section word or an ignored record
 pub moved-shorter : {s : List ℕ} {sec to : Section} {xs t : List ℕ} → StatementForm s sec xs (moved to t) → length t < length xs
 moved-shorter (StatementForm.heads d f) = record-shorter d
 moved-shorter (StatementForm.opens d f) = record-shorter d
 moved-shorter (StatementForm.leaves d f) = record-shorter d
 moved-shorter (StatementForm.ignored d f) = record-shorter d
 
+-- less is left after a header record
 pub header-shorter : {s : List ℕ} {sec : Section} {xs ys t : List ℕ} {w : HeaderRow} → StatementForm s sec xs (header w ys t) → length t < length xs
 header-shorter (StatementForm.header-row d f g) = record-shorter d
 
+-- less is left after a data record
 pub data-shorter : {s : List ℕ} {sec : Section} {xs ys t : List ℕ} {w : Row} → StatementForm s sec xs (record′ w ys t) → length t < length xs
 data-shorter (StatementForm.data-row d f g) = record-shorter d

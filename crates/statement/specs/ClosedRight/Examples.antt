@@ -85,10 +85,12 @@ unclosed-part (ClosedData.complex e c p) =
 abbrev example : List ℕ
 example = bytes "ISO-10303-21;HEADER;FILE_SCHEMA(('X'));ENDSEC;DATA;#1=A('a;''b',#2);#2=(P(1.)Q($));ENDSEC;END-ISO-10303-21;"
 
+-- the header record of example 1 is closed
 pub closed-header : ClosedHeader (bytes "FILE_SCHEMA(('X'))")
 unfolding headerHead past keyword walk recordEnd closing
 closed-header = ClosedHeader.named refl (closed-after (bytes "FILE_SCHEMA") (bytes "('X')") [] refl refl)
 
+-- the whole file of example 1 is closed
 pub closed-example : Closed example
 unfolding statement trivia recordEnd closing walk recordOf headerOf dataHead headerHead past numberFrom keyword trail wordOf same
 closed-example =
@@ -106,6 +108,7 @@ closed-example =
 abbrev crossing : List ℕ
 crossing = bytes "ISO-10303-21;DATA;#1=A((1);#2=B(2));ENDSEC;"
 
+-- a file with the records of example 11 is not
 pub unclosed-file : Closed crossing → ⊥
 unfolding statement trivia recordEnd closing walk recordOf dataHead past numberFrom keyword trail wordOf same
 unclosed-file c =

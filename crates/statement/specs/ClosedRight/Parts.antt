@@ -112,6 +112,7 @@ parts-closed (OutsideParts.part k {r} e f o g) z c =
     let (t, h, m) = part-closes k r z f (rw e at o) (rw e at c) in
     ClosedParts.part k e f o h (parts-closed (g t h) z m)
 
+-- closed parts have their `(` outside both
 pub parts-outside : {a : List ℕ} → ClosedParts a → OutsideParts a
 parts-outside (ClosedParts.none h) = OutsideParts.none h
 parts-outside (ClosedParts.part k {r} {t} e f o h p) =

@@ -67,6 +67,7 @@ text-any b r h y =
     let k : b ≡ u = append-cancel-right b u (59 ∷ r) e in
     rw k (l y)
 
+-- a text stands so before any rest
 pub stands-any : {t b r : List ℕ} → Stands t b r → (y : List ℕ) → Stands t b y
 stands-any {t} {b} {r} h y =
     let l : trivia (b ++ (59 ∷ r)) ≡ at (b ++ (59 ∷ r)) = sym (lead-any t _ (h .lead) (b ++ (59 ∷ r))) ∙ h .lead in
