@@ -10,8 +10,9 @@ use borrow.Author.Tests.{lt-ltb, le-ltb, eq-eqb, ne-eqb, le-leb, lt-leb}
 use lib.Dec.{T, ltb, leb, eqb}
 use lib.IntN.{ℤ, pos}
 use lib.Pow.{pow-pos, mod-mod-pow}
-use lib.Ieee.{Float, nan, inf, fin, binary64, up, down, unlike, odd, round, mul, div, fits, ofFields, ofBits, toBits}
-use lib.Ieee.Fits.{up-pos, down-pos}
+use lib.Ieee.{Float, nan, inf, fin, binary64, up, down, unlike, odd, round, ofInt, neg, mul, div, fits, ofFields, ofBits, toBits}
+use lib.Ieee.Fits.{up-pos, down-pos, ofInt-fits, neg-fits}
+use lib.Ieee.Back.{round-whole}
 use lib.Ieee.Exact.{HasValue, odd-sign}
 use lib.Ieee.Bits.{ofBits-toBits}
 use Rattle.nearest.specs.Units.{unitsAt, unitsOf, infinity}
@@ -224,3 +225,64 @@ mul-bits x y h k = mul-like x y (worthOf (toBits binary64 x)) (worthOf (toBits b
 
 pub div-bits : (x y : Float) → T (fits binary64 x) → T (fits binary64 y) → toBits binary64 (div binary64 x y) ≡ quotient (toBits binary64 x) (toBits binary64 y)
 div-bits x y h k = div-like x y (worthOf (toBits binary64 x)) (worthOf (toBits binary64 y)) (like-own x h) (like-own y k)
+
+-- ---- operands that an f64 holds exactly
+worth-like : (x : Float) (w : Worth) (s : Bool) (a : ℕ) → Like x w → HasValue x s a (2 ^ 1074) → w ≡ finite s a
+worth-like x w s a like-nan h = absurd h
+worth-like x w s a like-inf h = absurd h
+worth-like x w s a (like-fin {s = t} {m = m} {e = e} {a = b} f) h =
+    let p : b ≡ a = eq-of-mul-eq-mul-right (down e) (down-pos e) b a (sym f ∙ h .1) in λ i. finite (h .0 i) (p i)
+
+-- a value that is a units in size has a pattern that is worth a units
+pub worth-value : (x : Float) (s : Bool) (a : ℕ) → T (fits binary64 x) → HasValue x s a (2 ^ 1074) → worthOf (toBits binary64 x) ≡ finite s a
+worth-value x s a h v = worth-like x (worthOf (toBits binary64 x)) s a (like-own x h) v
+
+in-units : (x : Float) (s : Bool) (n : ℕ) → HasValue x s n 1 → HasValue x s (n * 2 ^ 1074) (2 ^ 1074)
+in-units nan s n h = h
+in-units (inf t) s n h = h
+in-units (fin t m e) s n h =
+    (h .0, ap (λ (x : ℕ). x * 2 ^ 1074) (sym (mul-one (m * up e)) ∙ h .1) ∙ mul-right-comm n (down e) (2 ^ 1074))
+
+minus-value : (x : Float) (a c : ℕ) → HasValue x false a c → HasValue (neg x) true a c
+unfolding neg
+minus-value nan a c h = h
+minus-value (inf t) a c h = h
+minus-value (fin t m e) a c h = (ap not (h .0), h .1)
+
+-- a whole number up to 2 ^ 53, and its negative: of zero too
+pub worth-whole : (m : ℕ) → m ≤ 2 ^ 53 → worthOf (toBits binary64 (ofInt binary64 (pos m))) ≡ finite false (m * 2 ^ 1074)
+unfolding ofInt
+worth-whole m h = worth-value (round binary64 false m 1) false (m * 2 ^ 1074) (ofInt-fits binary64 (pos m)) (in-units (round binary64 false m 1) false m (round-whole binary64 false m h))
+
+pub worth-minus : (m : ℕ) → m ≤ 2 ^ 53 → worthOf (toBits binary64 (neg (ofInt binary64 (pos m)))) ≡ finite true (m * 2 ^ 1074)
+unfolding ofInt
+worth-minus m h =
+    worth-value (neg (round binary64 false m 1)) true (m * 2 ^ 1074) (neg-fits binary64 (round binary64 false m 1) (ofInt-fits binary64 (pos m)))
+    (minus-value (round binary64 false m 1) (m * 2 ^ 1074) (2 ^ 1074) (in-units (round binary64 false m 1) false m (round-whole binary64 false m h)))
+
+as-first : (s : Bool) → unlike s false ≡ s
+as-first true = refl
+as-first false = refl
+
+-- the product of two whole numbers, and their quotient
+pub product-exact : (p q : ℕ) (s : Bool) (a b : ℕ) → worthOf p ≡ finite s (a * 2 ^ 1074) → worthOf q ≡ finite false (b * 2 ^ 1074) → product p q ≡ signed s (near (a * b) 1)
+product-exact p q s a b e f =
+    ap (λ (w : Worth). timesOf w (worthOf q)) e
+    ∙ ap (timesOf (finite s (a * 2 ^ 1074))) f
+    ∙ ap (λ (t : Bool). signed t (near (a * 2 ^ 1074 * (b * 2 ^ 1074)) (2 ^ 1074 * 2 ^ 1074))) (as-first s)
+    ∙ ap (signed s)
+    (near-same (a * 2 ^ 1074 * (b * 2 ^ 1074)) (2 ^ 1074 * 2 ^ 1074) (a * b) 1 (mul-pos (pow-pos 1074) (pow-pos 1074)) (pow-pos 0)
+    (mul-one (a * 2 ^ 1074 * (b * 2 ^ 1074)) ∙ swap-middle a (2 ^ 1074) b (2 ^ 1074)))
+
+pub quotient-exact : (p q : ℕ) (s : Bool) (a b : ℕ) → 0 < b → worthOf p ≡ finite s (a * 2 ^ 1074) → worthOf q ≡ finite false (b * 2 ^ 1074) → quotient p q ≡ signed s (near a b)
+quotient-exact p q s a b bp e f =
+    let d = b * 2 ^ 1074 in
+    let dp : 0 < b * 2 ^ 1074 = mul-pos bp (pow-pos 1074) in
+    ap (λ (w : Worth). overOf w (worthOf q)) e
+    ∙ ap (overOf (finite s (a * 2 ^ 1074))) f
+    ∙ ap (λ (z : Bool). cond z (cond (eqb (a * 2 ^ 1074) 0) quiet (signed (unlike s false) infinity)) (signed (unlike s false) (near (a * 2 ^ 1074) (b * 2 ^ 1074)))) (ne-eqb (b * 2 ^ 1074) 0 (some (b * 2 ^ 1074) dp))
+    ∙ ap (λ (t : Bool). signed t (near (a * 2 ^ 1074) (b * 2 ^ 1074))) (as-first s)
+    ∙ ap (signed s) (near-same (a * 2 ^ 1074) (b * 2 ^ 1074) a b dp bp (mul-right-comm a (2 ^ 1074) b ∙ mul-assoc a b (2 ^ 1074)))
+  where
+    some : (n : ℕ) → 0 < n → n ≡ 0 → ⊥
+    some n h z = omega arith
