@@ -3,3 +3,7 @@ pub mod Parts
 pub mod Table
 pub mod Class
 pub mod Read
+pub mod Whole
+pub mod Form
+pub mod FormRight
+pub mod WholeRight

@@ -11,10 +11,12 @@ use Rattle.lex.specs.Byte.{pick}
 use Rattle.lex.specs.Walk.{walk, walk-ends, drop-end, split}
 use Rattle.record.specs.Text.{digit, Digits, digits, digitTurn, numberFrom}
 use Rattle.record.specs.Turns.{digit-stops, digit-goes}
-use Rattle.reals.specs.Scalar.{NumberAt, DecimalAt, TensAt, unsigned, minus, most, largest, Mantissa, mantissa, pointed, fractionOf, Exponent, power, malformed, ended, exponentOf}
+use Rattle.reals.specs.Scalar.{NumberAt, DecimalAt, TensAt, unsigned, minus, most, largest, Mantissa, mantissa, pointed, fractionOf, Exponent, power, malformed, ended, exponentOf, digitsOnly, PlainAt}
 use Rattle.reals.specs.declared.Decimal.{Decimal}
 use Rattle.reals.specs.declared.Tens.{Tens}
 use Rattle.reals.specs.declared.Tens.the-variants.{Power, Malformed}
+use Rattle.reals.specs.declared.Plain.{Plain}
+use Rattle.reals.specs.declared.Plain.the-variants.{Other}
 use Rattle.reals.specs.declared.Number.{Number}
 
 -- up to i the digits have been read: whatever number n stood before them, k stands there now, held up to the cap
@@ -122,44 +124,51 @@ module _ (t : List ℕ) (i : ℕ) where
   pub tens-other : i < length t → eqb (getD t i 0) 69 || eqb (getD t i 0) 101 ≡ false → TensAt (drop i t) Malformed
   tens-other h e = rw (split t i h, e) refl
 
-  -- after the letter: u is where the digits begin, and d what was read of them
-  module _ (h : i < length t) (e : eqb (getD t i 0) 69 || eqb (getD t i 0) 101 ≡ true) (u : ℕ) (us : drop u t ≡ unsigned (drop (i + 1) t)) (d : Number) (at : NumberAt t u 0 largest d) where
+  -- after the letter: u is where the digits begin
+  module _ (h : i < length t) (e : eqb (getD t i 0) 69 || eqb (getD t i 0) 101 ≡ true) (u : ℕ) (us : drop u t ≡ unsigned (drop (i + 1) t)) where
     letter : exponentOf (drop i t) ≡ ended (minus (drop (i + 1) t)) (drop u t) (numberFrom 0 (drop u t))
     letter = rw (split t i h, e, us) refl
 
-    rest : numberFrom 0 (drop u t) .rest ≡ drop (d .next) t
-    rest = at .rest 0
+    pub tens-read : (m : Bool) (x : ℕ) → m ≡ minus (drop (i + 1) t) → PlainAt (drop u t) largest (Plain.Digits x) → TensAt (drop i t) (Power m x)
+    tens-read m x s p = (numberFrom 0 (drop u t) .value, letter ∙ rw (p .0, s) refl, p .1)
 
-    pub tens-read : (m : Bool) → m ≡ minus (drop (i + 1) t) → d .next ≡ length t → u < length t → TensAt (drop i t) (Power m (d .value))
-    tens-read m s n l =
-        let z : length (numberFrom 0 (drop u t) .rest) ≡ 0 = ap length rest ∙ simp length-drop (omega arith) in
-        let o : 0 < length (drop u t) = simp length-drop (omega arith) in (
-          numberFrom 0 (drop u t) .value,
-          letter ∙ rw (eq-eqb (length (numberFrom 0 (drop u t) .rest)) 0 z, lt-ltb 0 (length (drop u t)) o, s) refl,
-          at .value 0 refl,
-        )
+    pub tens-bad : PlainAt (drop u t) largest Other → TensAt (drop i t) Malformed
+    tens-bad p = letter ∙ rw p refl
 
-    pub tens-bad : eqb (d .next) (length t) && ltb u (length t) ≡ false → TensAt (drop i t) Malformed
-    tens-bad f = letter ∙ go (eqb (d .next) (length t)) (ltb u (length t)) refl refl f
-      where
-        no-and : (a : Bool) → pick (a && false) (power (minus (drop (i + 1) t)) (numberFrom 0 (drop u t) .value)) malformed ≡ malformed
-        no-and true = refl
-        no-and false = refl
+-- ---- a rest that is digits only
+module _ (t : List ℕ) (u cap : ℕ) (d : Number) (at : NumberAt t u 0 cap d) where
+  rest : numberFrom 0 (drop u t) .rest ≡ drop (d .next) t
+  rest = at .rest 0
 
-        go : (a b : Bool) → eqb (d .next) (length t) ≡ a → ltb u (length t) ≡ b → a && b ≡ false → ended (minus (drop (i + 1) t)) (drop u t) (numberFrom 0 (drop u t)) ≡ malformed
-        go true true p q f = let z : _≡_ {A = ℕ} 0 1 = cc in absurd (omega arith)
-        go true false p q f =
-            let g : length t ≤ u = ltb-false u (length t) q in
-            let z : length (drop u t) ≤ 0 = simp length-drop (omega arith) in
-            rw (le-ltb 0 (length (drop u t)) z) (no-and (eqb (length (numberFrom 0 (drop u t) .rest)) 0))
-        go false b p q f =
-            let w : d .next ≤ length t = at .within in
-            let n : d .next ≡ length t → ⊥ = eqb-false (d .next) (length t) p in
-            let z : length (numberFrom 0 (drop u t) .rest) ≡ 0 → ⊥ = λ o. n (full (ap length (sym rest) ∙ o) w) in
-            rw (ne-eqb (length (numberFrom 0 (drop u t) .rest)) 0 z) refl
-          where
-            full : length (drop (d .next) t) ≡ 0 → d .next ≤ length t → d .next ≡ length t
-            full o w = let q : length t - d .next ≡ 0 = sym (simp length-drop) ∙ o in omega arith
+  pub plain-read : d .next ≡ length t → u < length t → PlainAt (drop u t) cap (Plain.Digits (d .value))
+  plain-read n l =
+      let z : length (numberFrom 0 (drop u t) .rest) ≡ 0 = ap length rest ∙ simp length-drop (omega arith) in
+      let o : 0 < length (drop u t) = simp length-drop (omega arith) in (
+        rw (eq-eqb (length (numberFrom 0 (drop u t) .rest)) 0 z, lt-ltb 0 (length (drop u t)) o) refl,
+        at .value 0 (omega arith),
+      )
+
+  pub plain-other : eqb (d .next) (length t) && ltb u (length t) ≡ false → PlainAt (drop u t) cap Other
+  plain-other f = go (eqb (d .next) (length t)) (ltb u (length t)) refl refl f
+    where
+      no-and : (a : Bool) → a && false ≡ false
+      no-and true = refl
+      no-and false = refl
+
+      full : length (drop (d .next) t) ≡ 0 → d .next ≤ length t → d .next ≡ length t
+      full o w = let q : length t - d .next ≡ 0 = sym (simp length-drop) ∙ o in omega arith
+
+      go : (a b : Bool) → eqb (d .next) (length t) ≡ a → ltb u (length t) ≡ b → a && b ≡ false → digitsOnly (drop u t) ≡ false
+      go true true p q f = let z : _≡_ {A = ℕ} 0 1 = cc in absurd (omega arith)
+      go true false p q f =
+          let g : length t ≤ u = ltb-false u (length t) q in
+          let z : length (drop u t) ≤ 0 = simp length-drop (omega arith) in
+          rw (le-ltb 0 (length (drop u t)) z) (no-and (eqb (length (numberFrom 0 (drop u t) .rest)) 0))
+      go false b p q f =
+          let w : d .next ≤ length t = at .within in
+          let n : d .next ≡ length t → ⊥ = eqb-false (d .next) (length t) p in
+          let z : length (numberFrom 0 (drop u t) .rest) ≡ 0 → ⊥ = λ o. n (full (ap length (sym rest) ∙ o) w) in
+          rw (ne-eqb (length (numberFrom 0 (drop u t) .rest)) 0 z) refl
 
 -- two tests that both hold
 pub both : (a b : Bool) → a && b ≡ true → (a ≡ true) × (b ≡ true)

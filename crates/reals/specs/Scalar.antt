@@ -6,6 +6,7 @@ use mathlib.Core.Bool.{Bool, true, false, _&&_, _||_}
 use mathlib.Core.List.{List, [], _∷_}
 use lib.Dec.{eqb, leb, ltb}
 use lib.ListN.{length, drop}
+use lib.IntN.{ℤ, pos, negℤ}
 use lib.Ieee.{binary64, toBits}
 use Rattle.lex.specs.Byte.{pick}
 use Rattle.record.specs.Text.{digit, Digits, numberFrom}
@@ -17,6 +18,12 @@ use Rattle.reals.specs.declared.Number.{Number}
 use Rattle.reals.specs.declared.Decimal.{Decimal}
 use Rattle.reals.specs.declared.Tens.{Tens}
 use Rattle.reals.specs.declared.Tens.the-variants.{Power, Malformed}
+use Rattle.reals.specs.declared.Plain.{Plain}
+use Rattle.reals.specs.declared.Plain.the-variants.{Other}
+use Rattle.reals.specs.declared.Whole.{Whole}
+use Rattle.reals.specs.declared.Whole.the-variants.{NotWhole}
+use Rattle.reals.specs.declared.Reference.{Reference}
+use Rattle.reals.specs.declared.Reference.the-variants.{NotReference}
 
 -- what a scalar reads as, or the number of document 01's refusal; the place is the parameter's, and its reader's to say
 pub data Answer (A : Type 0) : Type 0 where
@@ -60,6 +67,10 @@ pub data Exponent : Type 0 where
   power : Bool → ℕ → Exponent
   malformed : Exponent
 
+-- the bytes are digits, at least one
+abbrev pub digitsOnly : List ℕ → Bool
+digitsOnly u = eqb (length (numberFrom 0 u .rest)) 0 && ltb 0 (length u)
+
 abbrev pub ended : Bool → List ℕ → Digits → Exponent
 ended s u d = pick (eqb (length (d .rest)) 0 && ltb 0 (length u)) (power s (d .value)) malformed
 
@@ -102,6 +113,32 @@ classOf unparsed = refused 12
 unfoldable pub realOf : List ℕ → Answer ℕ
 realOf t = classOf (parseOf t)
 
+-- ---- integers and references
+abbrev pub toldWhole : Whole → Answer ℤ
+toldWhole (Whole.Value z) = read z
+toldWhole NotWhole = refused 12
+
+abbrev pub toldReference : Reference → Answer ℕ
+toldReference (Reference.Value n) = read n
+toldReference NotReference = refused 12
+
+-- "in the signed 64-bit range"
+abbrev pub ranged : Bool → ℕ → Answer ℤ
+ranged false n = pick (ltb n (2 ^ 63)) (read (pos n)) (refused 12)
+ranged true n = pick (leb n (2 ^ 63)) (read (negℤ (pos n))) (refused 12)
+
+-- "integers with optional sign"
+unfoldable pub wholeOf : List ℕ → Answer ℤ
+wholeOf t = pick (digitsOnly (unsigned t)) (ranged (minus t) (numberFrom 0 (unsigned t) .value)) (refused 12)
+
+-- "`#` and digits up to 4294967295"
+abbrev pub idOf : List ℕ → Answer ℕ
+idOf ds = pick (digitsOnly ds && leb (numberFrom 0 ds .value) 4294967295) (read (numberFrom 0 ds .value)) (refused 12)
+
+unfoldable pub referenceOf : List ℕ → Answer ℕ
+referenceOf [] = refused 12
+referenceOf (c ∷ r) = pick (eqb c 35) (idOf r) (refused 12)
+
 -- ---- what the code's parts promise, at a place of the text; a number is held as itself or, from the cap on, as the cap
 
 -- the digits from `at`, after those that gave n: their number, and the place after them
@@ -110,6 +147,11 @@ pub record NumberAt (t : List ℕ) (at from cap : ℕ) (r : Number) : Type 0 whe
   pub rest : (n : ℕ) → numberFrom n (drop at t) .rest ≡ drop (r .next) t
   pub above : at ≤ r .next
   pub within : r .next ≤ length t
+
+-- the bytes are a number's digits, or not
+abbrev pub PlainAt : List ℕ → ℕ → Plain → Type 0
+PlainAt xs cap (Plain.Digits n) = (digitsOnly xs ≡ true) × (n ≡ min cap (numberFrom 0 xs .value))
+PlainAt xs cap Other = digitsOnly xs ≡ false
 
 -- the largest m, and one more
 abbrev pub most : ℕ

@@ -12,7 +12,7 @@ ghost use Rattle.record.specs.Text.{digit};
 ghost use Rattle.nearest.specs.Near.{near};
 ghost use Rattle.nearest.specs.Round.{signed};
 ghost use Rattle.nearest.specs.Product.{worthOf, finite};
-ghost use Rattle.reals.specs.Scalar.{toldReal, realOf, unsigned, minus, NumberAt, DecimalAt, TensAt, ClassOf, largest};
+ghost use Rattle.reals.specs.Scalar.{toldReal, realOf, toldWhole, wholeOf, ranged, toldReference, referenceOf, unsigned, minus, NumberAt, PlainAt, DecimalAt, TensAt, ClassOf};
 
 pub enum Real {
     Value(f64),
@@ -20,6 +20,18 @@ pub enum Real {
     Outside,
     // 12.
     NotReal,
+}
+
+pub enum Whole {
+    Value(i64),
+    // 12.
+    NotWhole,
+}
+
+pub enum Reference {
+    Value(u32),
+    // 12.
+    NotReference,
 }
 
 // One more than the largest m: m has at most 15 digits.
@@ -133,6 +145,23 @@ enum Tens {
     Malformed,
 }
 
+// The number of a text's rest, where it is digits only, at least one; or the cap.
+enum Plain {
+    Digits(u64),
+    Other,
+}
+
+fn plain_from(t: &[u8], at: usize, cap: u64) -> Plain
+    requires { ⌜ at ≤ length (now t) ⌝ }
+    ensures { λ r. ⌜ PlainAt (drop at (now (t .entry))) cap r ⌝ }
+{
+    let d = digits_from(t, at, 0, cap);
+    if (d.next == t.len()) & (at < t.len()) {
+        return Plain::Digits(d.value);
+    }
+    Plain::Other
+}
+
 // The exponent that the rest of the text is; none is 0.
 fn tens_from(t: &[u8], at: usize) -> Tens
     requires { ⌜ at ≤ length (now t) ⌝ }
@@ -144,11 +173,10 @@ fn tens_from(t: &[u8], at: usize) -> Tens
     let c = t[at];
     if (c == b'E') | (c == b'e') {
         let u = past_sign(t, at + 1);
-        let d = digits_from(t, u, 0, LARGEST);
-        let next = d.next;
-        if (next == t.len()) & (u < t.len()) {
-            return Tens::Power(minus_at(t, at + 1), d.value);
-        }
+        let Plain::Digits(x) = plain_from(t, u, LARGEST) else {
+            return Tens::Malformed;
+        };
+        return Tens::Power(minus_at(t, at + 1), x);
     }
     Tens::Malformed
 }
@@ -258,4 +286,60 @@ pub fn parse_real(t: &[u8]) -> Real
         return Real::NotReal;
     };
     in_class(neg, d.value, d.places, down, x)
+}
+
+// The negative of a number.
+fn below_zero(n: u64) -> Whole
+    ensures { λ r. ⌜ toldWhole r ≡ ranged true n ⌝ }
+{
+    if n == 0 {
+        return Whole::Value(0);
+    }
+    // The smallest has no positive of its own, so the step from -1 down is what is cast.
+    if n <= 0x8000_0000_0000_0000 {
+        return Whole::Value(-1 - ((n - 1) as i64));
+    }
+    Whole::NotWhole
+}
+
+fn above_zero(n: u64) -> Whole
+    ensures { λ r. ⌜ toldWhole r ≡ ranged false n ⌝ }
+{
+    if n < 0x8000_0000_0000_0000 {
+        return Whole::Value(n as i64);
+    }
+    Whole::NotWhole
+}
+
+// Reads an integer.
+pub fn parse_int(t: &[u8]) -> Whole
+    ensures { λ r. ⌜ toldWhole r ≡ wholeOf (now (t .entry)) ⌝ }
+{
+    let a = past_sign(t, 0);
+    let Plain::Digits(n) = plain_from(t, a, LARGEST) else {
+        return Whole::NotWhole;
+    };
+    if minus_at(t, 0) {
+        return below_zero(n);
+    }
+    above_zero(n)
+}
+
+// Reads a reference.
+pub fn parse_ref(t: &[u8]) -> Reference
+    ensures { λ r. ⌜ toldReference r ≡ referenceOf (now (t .entry)) ⌝ }
+{
+    if t.len() == 0 {
+        return Reference::NotReference;
+    }
+    if t[0] != b'#' {
+        return Reference::NotReference;
+    }
+    let Plain::Digits(n) = plain_from(t, 1, LARGEST) else {
+        return Reference::NotReference;
+    };
+    if n <= 4294967295 {
+        return Reference::Value(n as u32);
+    }
+    Reference::NotReference
 }
