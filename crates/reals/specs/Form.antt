@@ -1,0 +1,97 @@
+-- Document 01, 'Parameters': reals, integers and references as rules that name no loop: a rule speaks of a list of bytes and of the parts it is put together
+-- from. The byte `#` is 35, `+` is 43, `-` is 45, `.` is 46, `E` is 69 and `e` is 101.
+-- FormRight.antt shows that Scalar.antt computes just this, and that there is no other answer. Assumes nothing.
+use Prim.Native.Nat.{ℕ, _+_, _*_, _^_, _≤_, _<_}
+use mathlib.Core.Path.{_≡_}
+use mathlib.Core.Logic.{_⊎_}
+use mathlib.Core.Bool.{Bool, true, false}
+use mathlib.Core.List.{List, [], _∷_, _++_}
+use lib.IntN.{ℤ, pos, negℤ}
+use lib.ListN.{length}
+use Rattle.record.specs.Text.{digit}
+use Rattle.record.specs.Form.{All, valueOf, Id}
+use Rattle.nearest.specs.Nearest.{IsNearest}
+use Rattle.nearest.specs.Round.{signed}
+use Rattle.reals.specs.Scalar.{Answer, read, refused}
+
+-- "Optional sign", and then u; true is the sign `-`
+pub data Signed : List ℕ → Bool → List ℕ → Type 0 where
+  unmarked : (u : List ℕ) → Signed u false u
+  plus : (u : List ℕ) → Signed (43 ∷ u) false u
+  minus : (u : List ℕ) → Signed (45 ∷ u) true u
+
+-- "with an optional point": nothing, or a point and the digits f
+pub data Fraction : List ℕ → List ℕ → Type 0 where
+  pointless : Fraction [] []
+  point : (f : List ℕ) → All digit f → Fraction (46 ∷ f) f
+
+-- "optionally E or e, optional sign, digits": whether the exponent is negative, and its digits, none where there is no exponent
+pub data Powered : List ℕ → Bool → List ℕ → Type 0 where
+  powerless : Powered [] false []
+  powered : (c : ℕ) (xs x : List ℕ) (s : Bool) → (c ≡ 69) ⊎ (c ≡ 101) → Signed xs s x → All digit x → (x ≡ [] → ⊥) → Powered (c ∷ xs) s x
+
+-- "Optional sign; digits, at least one, with an optional point; optionally E or e, optional sign, digits": the digits before the
+-- point, those after it, and the exponent's
+pub record Written (t : List ℕ) (s : Bool) (w f : List ℕ) (down : Bool) (x : List ℕ) : Type 0 where
+  pub u : List ℕ
+  pub p : List ℕ
+  pub e : List ℕ
+  pub sign : Signed t s u
+  pub shape : u ≡ w ++ (p ++ e)
+  pub whole : All digit w
+  pub fraction : Fraction p f
+  pub some : w ++ f ≡ [] → ⊥
+  pub power : Powered e down x
+
+-- "−22 ≤ e ≤ 22", e being the exponent x less the number f of fraction digits
+abbrev pub Reach : ℕ → Bool → ℕ → Type 0
+Reach f false x = (x ≤ f + 22) × (f ≤ x + 22)
+Reach f true x = x + f ≤ 22
+
+-- "m has at most 15 digits", leading zeros dropped, and e is in reach
+pub record Classed (m f : ℕ) (down : Bool) (x : ℕ) : Type 0 where
+  pub few : m < 10 ^ 15
+  pub reach : Reach f down x
+
+-- m·10^e as a fraction, the powers of ten multiplied out
+abbrev pub over : ℕ → Bool → ℕ → ℕ
+over m false x = m * 10 ^ x
+over m true x = m
+
+abbrev pub under : ℕ → Bool → ℕ → ℕ
+under f false x = 10 ^ f
+under f true x = 10 ^ (x + f)
+
+-- what a text answers: the f64 nearest to m·10^e, ties to even, by its pattern, "sign kept at zero"; "Other well-formed reals are
+-- 13; all else, `inf` and `nan` included, is 12"
+pub data RealForm : List ℕ → Answer ℕ → Type 0 where
+  real : {t w f x : List ℕ} {s down : Bool} {b : ℕ} → Written t s w f down x → Classed (valueOf (w ++ f)) (length f) down (valueOf x)
+      → IsNearest (over (valueOf (w ++ f)) down (valueOf x)) (under (length f) down (valueOf x)) b → RealForm t (read (signed s b))
+  outside : {t w f x : List ℕ} {s down : Bool} → Written t s w f down x → (Classed (valueOf (w ++ f)) (length f) down (valueOf x) → ⊥)
+      → RealForm t (refused 13)
+  other : {t : List ℕ} → ((s down : Bool) (w f x : List ℕ) → Written t s w f down x → ⊥) → RealForm t (refused 12)
+
+-- "in the signed 64-bit range": a number, negative where true
+abbrev pub Ranged : Bool → ℕ → Type 0
+Ranged false n = n < 2 ^ 63
+Ranged true n = n ≤ 2 ^ 63
+
+abbrev pub valued : Bool → ℕ → ℤ
+valued false n = pos n
+valued true n = negℤ (pos n)
+
+-- "integers with optional sign": digits, at least one
+pub record Integer (t : List ℕ) (s : Bool) (ds : List ℕ) : Type 0 where
+  pub sign : Signed t s ds
+  pub all : All digit ds
+  pub some : ds ≡ [] → ⊥
+  pub within : Ranged s (valueOf ds)
+
+pub data WholeForm : List ℕ → Answer ℤ → Type 0 where
+  whole : {t ds : List ℕ} {s : Bool} → Integer t s ds → WholeForm t (read (valued s (valueOf ds)))
+  other : {t : List ℕ} → ((s : Bool) (ds : List ℕ) → Integer t s ds → ⊥) → WholeForm t (refused 12)
+
+-- "`#` and digits up to 4294967295": as a record's id
+pub data ReferenceForm : List ℕ → Answer ℕ → Type 0 where
+  reference : (ds : List ℕ) → Id ds → ReferenceForm (35 ∷ ds) (read (valueOf ds))
+  other : {t : List ℕ} → ((ds : List ℕ) → t ≡ 35 ∷ ds → Id ds → ⊥) → ReferenceForm t (refused 12)

@@ -1,0 +1,9 @@
+pub mod Scalar
+pub mod Parts
+pub mod Table
+pub mod Class
+pub mod Read
+pub mod Whole
+pub mod Form
+pub mod FormRight
+pub mod WholeRight
