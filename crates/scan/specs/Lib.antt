@@ -4,7 +4,6 @@ pub mod Laws
 pub mod Fits
 pub mod Scan
 pub mod Only
-pub mod Examples
 pub mod Form
 pub mod FormRight
 pub mod Rooms

@@ -1,4 +1,4 @@
--- The starred examples 1 to 5 of document 01, proved of the definitions as one list under one statement.
+-- The starred examples 1 to 5 and 9 of document 01, proved of the definitions as one list under one statement.
 -- Assumes nothing.
 use Prim.Native.Nat.{ℕ, _-_, _+_}
 use Prim.Native.String.{String}
@@ -6,6 +6,7 @@ use mathlib.Core.Path.{_≡_, refl}
 use mathlib.Core.Bool.{Bool, true, false}
 use mathlib.Core.List.{List, [], _∷_, map}
 use lib.Dec.{eqb}
+use lib.Ieee.{size}
 use lib.ListN.{length, take, drop}
 use Rattle.error.specs.Refusal.{Refusal, refusal, Told, good, bad}
 use Rattle.lex.specs.Byte.{pick}
@@ -17,7 +18,9 @@ use Rattle.record.specs.Word.{same, wordOf}
 use Rattle.record.specs.Head.{dataHead, headerHead}
 use Rattle.statement.specs.Row.{Row, mapped, recordOf, headerOf}
 use Rattle.statement.specs.Statement.{statement}
 use Rattle.scan.specs.File.{Table, largest, readFrom, scanOf}
+use Rattle.nearest.specs.Near.{near, nearUnits}
+use Rattle.reals.specs.Scalar.{Answer, read, refused, parseOf, realOf}
 
 -- a line of the program `list`: id, keyword or `(complex)`, argument start and end
 pub record Line : Type 0 where
@@ -53,33 +56,34 @@ lineOf s w = record {
 abbrev pub listed : List ℕ → Table → Listing
 listed s t = listing (length (t .records)) (largest (t .records)) (map (lineOf s) (t .records))
 
--- an input and what is owed for it
-pub record Example : Type 0 where
-  pub input : String
-  pub answer : Told Listing
+-- an input and what is owed for it: a file with its listing or refusal, or a real with its f64's bits or its refusal's number
+pub data Example : Type 0 where
+  file : String → Told Listing → Example
+  real : String → Answer ℕ → Example
 
--- such an example by its parts
-abbrev pub example : String → Told Listing → Example
-example s a = record { input = s; answer = a }
-
--- examples 1 to 5, in document 01's order; 5 has two inputs
+-- examples 1 to 5 and 9, in document 01's order; 5 has two inputs, 9 has four
 abbrev pub examples : List Example
 examples =
-    example "ISO-10303-21;HEADER;FILE_SCHEMA(('X'));ENDSEC;DATA;#1=A('a;''b',#2);#2=(P(1.)Q($));ENDSEC;END-ISO-10303-21;"
+    file "ISO-10303-21;HEADER;FILE_SCHEMA(('X'));ENDSEC;DATA;#1=A('a;''b',#2);#2=(P(1.)Q($));ENDSEC;END-ISO-10303-21;"
     (good (listing 2 2 (line 1 "A" 56 66 ∷ line 2 "(complex)" 72 81 ∷ [])))
-    ∷ example "ISO-10303-21;/*/;" (bad (refusal 3 0 13))
-    ∷ example "" (bad (refusal 1 0 0))
-    ∷ example "ISO-10303-21;DATA;;" (bad (refusal 7 2 18))
-    ∷ example "ISO-10303-21;DATA;#4294967295=A();" (good (listing 1 4294967295 (line 4294967295 "A" 32 32 ∷ [])))
-    ∷ example "ISO-10303-21;DATA;#4294967296=A();" (bad (refusal 7 3 18))
+    ∷ file "ISO-10303-21;/*/;" (bad (refusal 3 0 13))
+    ∷ file "" (bad (refusal 1 0 0))
+    ∷ file "ISO-10303-21;DATA;;" (bad (refusal 7 2 18))
+    ∷ file "ISO-10303-21;DATA;#4294967295=A();" (good (listing 1 4294967295 (line 4294967295 "A" 32 32 ∷ [])))
+    ∷ file "ISO-10303-21;DATA;#4294967296=A();" (bad (refusal 7 3 18))
+    ∷ real "1E22" (read 0x4480_f0cf_064d_d592)
+    ∷ real "1E23" (refused 13)
+    ∷ real "123456789012345" (read 0x42dc_1221_8377_de40)
+    ∷ real "1234567890123456" (refused 13)
     ∷ []
 
--- each example's answer is the scan's, with room for two rows of each kind
+-- each example's answer is the definitions': a file's with room for two rows of each kind
 abbrev pub Holds : List Example → Type 0
 Holds [] = Unit {0}
-Holds (e ∷ es) = (mapped (listed (bytes (e .input))) (scanOf (bytes (e .input)) 2 2) ≡ e .answer) × Holds es
+Holds (file s a ∷ es) = (mapped (listed (bytes s)) (scanOf (bytes s) 2 2) ≡ a) × Holds es
+Holds (real s a ∷ es) = (realOf (bytes s) ≡ a) × Holds es
 
 -- "Starred examples are proved of the definitions as one list under one statement"
 pub examples-hold : Holds examples
-unfolding walk trivia recordEnd closing past numberFrom keyword trail same wordOf dataHead headerHead recordOf headerOf statement largest readFrom scanOf
-examples-hold = (refl, (refl, (refl, (refl, (refl, (refl, tt))))))
+unfolding walk trivia recordEnd closing past numberFrom keyword trail same wordOf dataHead headerHead recordOf headerOf statement largest readFrom scanOf realOf parseOf near nearUnits size
+examples-hold = (refl, (refl, (refl, (refl, (refl, (refl, (refl, (refl, (refl, (refl, tt))))))))))
