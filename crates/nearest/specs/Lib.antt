@@ -1,6 +1,7 @@
 pub mod Units
 pub mod Nearest
 pub mod Near
+pub mod Scaled
 pub mod Round
 pub mod Product
 pub mod Examples

@@ -153,7 +153,7 @@ abbrev pub PlainAt : List ℕ → ℕ → Plain → Type 0
 PlainAt xs cap (Plain.Digits n) = (digitsOnly xs ≡ true) × (n ≡ min cap (numberFrom 0 xs .value))
 PlainAt xs cap Other = digitsOnly xs ≡ false
 
--- the largest m, and one more
+-- one more than the largest m
 abbrev pub most : ℕ
 most = 10 ^ 15
 

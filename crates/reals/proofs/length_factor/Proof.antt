@@ -1,0 +1,25 @@
+-- `reals::length_factor` meets its contract: one product of 1000.0 and the factor. Assumes nothing.
+use Prim.Native.Nat.{ℕ}
+use mathlib.Core.Path.{_∙_, ap}
+use borrow.Author.Needs.{needs}
+use lib.Ieee.{binary64, toBits}
+use Rattle.nearest.specs.Near.{near}
+use Rattle.nearest.specs.Product.{product}
+use Rattle.reals.specs.Prefix.{thousand}
+use Rattle.reals.proofs.length_factor.Statement.{statement}
+use Rattle.reals.proofs.length_factor.Tie as tie
+
+prefix-factor-requires : tie.Need-prefix-factor-requires
+prefix-factor-requires c κs = search needs
+
+times-requires : tie.Need-times-requires
+times-requires c κs = search needs
+
+returns : tie.Need-returns
+returns c =
+    c .times .ensures
+    ∙ ap (λ (p : ℕ). product p (toBits binary64 (c .before .prefix-factor .result))) thousand
+    ∙ ap (λ (q : ℕ). product (near 1000 1) q) (c .before .prefix-factor .ensures)
+
+pub length-factor-spec : {M : Type 1} → statement M
+length-factor-spec = tie.close (tie.spec prefix-factor-requires times-requires returns)

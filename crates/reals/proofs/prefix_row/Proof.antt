@@ -1,0 +1,93 @@
+-- `reals::prefix_row` meets its contract: the rows before `k` have other names, and each row's part of `names` is its name.
+-- Assumes nothing.
+use Prim.Native.Nat.{_-_, _<_}
+use mathlib.Core.Path.{_≡_, refl, sym, _∙_}
+use native.Mathlib.Omega.{arith}
+use borrow.Author.Needs.{needs}
+use denote.Ref.{now}
+use Rattle.reals.specs.Prefix.{Searching, order-at, within-at, word-at, search-finds, search-goes, search-ends, placeIn}
+use Rattle.reals.proofs.prefix_row.Statement.{statement}
+use Rattle.reals.proofs.prefix_row.Tie as tie
+
+abbrev Inv-loop : tie.InvT-loop
+Inv-loop name names starts k₀ k = Searching name k
+
+abbrev μ-loop : tie.MeasureT-loop
+μ-loop name names starts k₀ k = 16 - k
+
+loop-holds : tie.Need-loop-holds Inv-loop μ-loop
+loop-holds c = (omega arith, omega arith)
+
+mul-a : tie.Need-mul-a Inv-loop μ-loop
+mul-a c = search needs
+
+array-read-a : tie.Need-array-read-a Inv-loop μ-loop
+array-read-a c = search needs
+
+add-e : tie.Need-add-e Inv-loop μ-loop
+add-e c = search needs
+
+mul-e : tie.Need-mul-e Inv-loop μ-loop
+mul-e c = search needs
+
+array-read-e : tie.Need-array-read-e Inv-loop μ-loop
+array-read-e c = search needs
+
+sub-is-word : tie.Need-sub-is-word Inv-loop μ-loop
+sub-is-word c = order-at (c .before .loop .k) (c .loop-test .taken)
+
+part-is-word-start : tie.Need-part-is-word-start Inv-loop μ-loop
+part-is-word-start c = order-at (c .before .before .loop .k) (c .before .loop-test .taken)
+
+part-is-word-end : tie.Need-part-is-word-end Inv-loop μ-loop
+part-is-word-end c = within-at (c .before .before .loop .k) (c .before .loop-test .taken)
+
+is-word-requires : tie.Need-is-word-requires Inv-loop μ-loop
+is-word-requires c κs = search needs
+
+returns : tie.Need-returns Inv-loop μ-loop
+returns c =
+    let w = c .before in
+    let t = w .before .before .before in
+    let l = t .before in
+    let name = now (l .before .before .args .name) in
+    search-finds name (l .loop .k) (t .loop-test .taken) (sym (word-at name (l .loop .k) (t .loop-test .taken)) ∙ sym (w .is-word .ensures) ∙ c .if1 .taken) (l .loop .inv)
+
+add-k : tie.Need-add-k Inv-loop μ-loop
+add-k c = search needs
+
+loop-less : tie.Need-loop-less Inv-loop μ-loop
+loop-less c = search needs
+
+loop-again : tie.Need-loop-again Inv-loop μ-loop
+loop-again c =
+    let w = c .before in
+    let t = w .before .before .before in
+    let l = t .before in
+    let name = now (l .before .before .args .name) in
+    search-goes name (l .loop .k) (t .loop-test .taken) (sym (word-at name (l .loop .k) (t .loop-test .taken)) ∙ sym (w .is-word .ensures) ∙ c .if1 .left) (l .loop .inv)
+
+returns-2 : tie.Need-returns-2 Inv-loop μ-loop
+returns-2 c = search-ends (now (c .before .before .before .args .name)) (c .before .loop .k) (omega arith) (c .before .loop .inv)
+
+pub prefix-row-spec : {M : Type 1} → statement M
+prefix-row-spec =
+    tie.close
+    (tie.spec
+    Inv-loop
+    μ-loop
+    loop-holds
+    mul-a
+    array-read-a
+    add-e
+    mul-e
+    array-read-e
+    sub-is-word
+    part-is-word-start
+    part-is-word-end
+    is-word-requires
+    returns
+    add-k
+    loop-less
+    loop-again
+    returns-2)

@@ -1,0 +1,211 @@
+-- Document 01, 'Units': the sixteen SI prefixes, their names and factors. Assumes nothing.
+use Prim.Native.Nat.{ℕ, zero, suc, _+_, _*_, _-_, _^_, _≤_, _<_}
+use Prim.Native.String.{String}
+use mathlib.Core.Path.{_≡_, refl, sym, _∙_, ap, subst}
+use mathlib.Core.Bool.{Bool, true, false}
+use mathlib.Core.List.{List, [], _∷_, _++_}
+use native.Mathlib.Omega.{arith}
+use native.Mathlib.Nat.{add-zero, zero-add, add-suc, suc-add, le-of-suc-le-suc, not-suc-le-zero}
+use native.Mathlib.Numerals.{add-one}
+use native.Mathlib.Decide.{decLt}
+use mathlib.Core.Logic.{_⊎_, inl, inr}
+use lib.Dec.{lit≤}
+use lib.ListN.{length, take, drop, getD}
+use lib.Seq.{drop-cons}
+use lib.Ieee.{Float, nan, binary64, ofBits, toBits, size}
+use Rattle.lex.specs.Byte.{pick}
+use Rattle.record.specs.Word.{isWord}
+use Rattle.record.specs.Form.{bytes}
+use Rattle.nearest.specs.Near.{near, nearUnits}
+use Rattle.nearest.specs.Product.{product}
+
+-- a prefix: its name, and its power of ten, a negative one where true
+pub record Prefix : Type 0 where
+  pub name : String
+  pub down : Bool
+  pub tens : ℕ
+
+abbrev pub row : String → Bool → ℕ → Prefix
+row n d k = record { name = n; down = d; tens = k }
+
+-- "EXA 1e18, PETA 1e15, [..] ATTO 1e-18"
+abbrev pub prefixes : List Prefix
+prefixes =
+    row "EXA" false 18
+    ∷ row "PETA" false 15
+    ∷ row "TERA" false 12
+    ∷ row "GIGA" false 9
+    ∷ row "MEGA" false 6
+    ∷ row "KILO" false 3
+    ∷ row "HECTO" false 2
+    ∷ row "DECA" false 1
+    ∷ row "DECI" true 1
+    ∷ row "CENTI" true 2
+    ∷ row "MILLI" true 3
+    ∷ row "MICRO" true 6
+    ∷ row "NANO" true 9
+    ∷ row "PICO" true 12
+    ∷ row "FEMTO" true 15
+    ∷ row "ATTO" true 18
+    ∷ []
+
+-- "any other 1.0"
+abbrev pub unity : Prefix
+unity = row "" false 0
+
+-- the power of ten as a fraction
+abbrev pub tenUp : Prefix → ℕ
+tenUp p = pick (p .down) 1 (10 ^ p .tens)
+
+abbrev pub tenDown : Prefix → ℕ
+tenDown p = pick (p .down) (10 ^ p .tens) 1
+
+-- the place of the prefix that is named so, letters in either case; the number of prefixes where there is none
+unfoldable pub placeIn : List Prefix → List ℕ → ℕ
+placeIn [] t = 0
+placeIn (p ∷ ps) t = pick (isWord t (bytes (p .name))) 0 (suc (placeIn ps t))
+
+abbrev pub prefixOf : List ℕ → Prefix
+prefixOf t = getD prefixes (placeIn prefixes t) unity
+
+-- the f64 nearest to the prefix's power of ten, by its pattern
+abbrev pub factorOf : List ℕ → ℕ
+factorOf t = near (tenUp (prefixOf t)) (tenDown (prefixOf t))
+
+-- "Length in mm: 1000.0 times the prefix factor, one rounding"
+abbrev pub lengthFactorOf : List ℕ → ℕ
+lengthFactorOf t = product (near 1000 1) (factorOf t)
+
+-- ---- the code's tables: all names in a row, where each begins, and the factors, 1.0 the last
+abbrev pub names : List ℕ
+names = 69 ∷ 88 ∷ 65 ∷ 80 ∷ 69 ∷ 84 ∷ 65 ∷ 84 ∷ 69 ∷ 82 ∷ 65 ∷ 71 ∷ 73 ∷ 71 ∷ 65 ∷ 77 ∷ 69 ∷ 71 ∷ 65 ∷ 75 ∷ 73 ∷ 76 ∷ 79 ∷ 72 ∷ 69 ∷ 67 ∷ 84 ∷ 79 ∷ 68 ∷ 69 ∷ 67 ∷ 65 ∷ 68 ∷ 69 ∷ 67 ∷ 73 ∷ 67 ∷ 69 ∷ 78 ∷ 84 ∷ 73 ∷ 77 ∷ 73 ∷ 76 ∷ 76 ∷ 73 ∷ 77 ∷ 73 ∷ 67 ∷ 82 ∷ 79 ∷ 78 ∷ 65 ∷ 78 ∷ 79 ∷ 80 ∷ 73 ∷ 67 ∷ 79 ∷ 70 ∷ 69 ∷ 77 ∷ 84 ∷ 79 ∷ 65 ∷ 84 ∷ 84 ∷ 79 ∷ []
+
+abbrev pub starts : List ℕ
+starts = 0 ∷ 3 ∷ 7 ∷ 11 ∷ 15 ∷ 19 ∷ 23 ∷ 28 ∷ 32 ∷ 36 ∷ 41 ∷ 46 ∷ 51 ∷ 55 ∷ 59 ∷ 64 ∷ 68 ∷ []
+
+abbrev pub factors : List Float
+factors =
+    ofBits binary64 4876203697187506176
+    ∷ ofBits binary64 4831355200913801216
+    ∷ ofBits binary64 4786511204640096256
+    ∷ ofBits binary64 4741671816366391296
+    ∷ ofBits binary64 4696837146684686336
+    ∷ ofBits binary64 4652007308841189376
+    ∷ ofBits binary64 4636737291354636288
+    ∷ ofBits binary64 4621819117588971520
+    ∷ ofBits binary64 4591870180066957722
+    ∷ ofBits binary64 4576918229304087675
+    ∷ ofBits binary64 4562254508917369340
+    ∷ ofBits binary64 4517329193108106637
+    ∷ ofBits binary64 4472406533629990549
+    ∷ ofBits binary64 4427486594234968593
+    ∷ ofBits binary64 4382569440205035030
+    ∷ ofBits binary64 4337655138388951980
+    ∷ ofBits binary64 4607182418800017408
+    ∷ []
+
+-- the part of `names` for the row i is the name, and the factor is the nearest f64
+pub record Rule (i : ℕ) (p : Prefix) : Type 0 where
+  pub order : getD starts i 0 ≤ getD starts (suc i) 0
+  pub within : getD starts (suc i) 0 ≤ 68
+  pub named : take (getD starts (suc i) 0 - getD starts i 0) (drop (getD starts i 0) names) ≡ bytes (p .name)
+  pub factor : toBits binary64 (getD factors i nan) ≡ near (tenUp p) (tenDown p)
+
+abbrev Rules : ℕ → List Prefix → Type 0
+Rules i [] = Unit {0}
+Rules i (p ∷ ps) = Rule i p × Rules (suc i) ps
+
+-- the rule at every row
+all-rules : Rules 0 prefixes
+unfolding toBits ofBits near nearUnits size
+all-rules = (record { order = lit≤ tt; within = lit≤ tt; named = refl; factor = refl }, (record { order = lit≤ tt; within = lit≤ tt; named = refl; factor = refl }, (record { order = lit≤ tt; within = lit≤ tt; named = refl; factor = refl }, (record { order = lit≤ tt; within = lit≤ tt; named = refl; factor = refl }, (record { order = lit≤ tt; within = lit≤ tt; named = refl; factor = refl }, (record { order = lit≤ tt; within = lit≤ tt; named = refl; factor = refl }, (record { order = lit≤ tt; within = lit≤ tt; named = refl; factor = refl }, (record { order = lit≤ tt; within = lit≤ tt; named = refl; factor = refl }, (record { order = lit≤ tt; within = lit≤ tt; named = refl; factor = refl }, (record { order = lit≤ tt; within = lit≤ tt; named = refl; factor = refl }, (record { order = lit≤ tt; within = lit≤ tt; named = refl; factor = refl }, (record { order = lit≤ tt; within = lit≤ tt; named = refl; factor = refl }, (record { order = lit≤ tt; within = lit≤ tt; named = refl; factor = refl }, (record { order = lit≤ tt; within = lit≤ tt; named = refl; factor = refl }, (record { order = lit≤ tt; within = lit≤ tt; named = refl; factor = refl }, (record { order = lit≤ tt; within = lit≤ tt; named = refl; factor = refl }, tt))))))))))))))))
+
+rule-from : (ps : List Prefix) (i : ℕ) → Rules i ps → (k : ℕ) → k < length ps → Rule (i + k) (getD ps k unity)
+rule-from [] i r k h = absurd (not-suc-le-zero h)
+rule-from (p ∷ ps) i r zero h = subst (λ (m : ℕ). Rule m p) (sym (add-zero i)) (r .0)
+rule-from (p ∷ ps) i r (suc k) h =
+    subst (λ (m : ℕ). Rule m (getD ps k unity)) (suc-add i k ∙ sym (add-suc i k)) (rule-from ps (suc i) (r .1) k (le-of-suc-le-suc h))
+
+pub rule-at : (k : ℕ) → k < 16 → Rule k (getD prefixes k unity)
+rule-at k h = subst (λ (m : ℕ). Rule m (getD prefixes k unity)) (zero-add k) (rule-from prefixes 0 all-rules k h)
+
+-- the same, as the code counts
+pub order-at : (k : ℕ) → k < 16 → getD starts k 0 ≤ getD starts (k + 1) 0
+order-at k h = subst (λ (j : ℕ). getD starts k 0 ≤ getD starts j 0) (sym (add-one k)) (rule-at k h .order)
+
+pub within-at : (k : ℕ) → k < 16 → getD starts (k + 1) 0 ≤ 68
+within-at k h = subst (λ (j : ℕ). getD starts j 0 ≤ 68) (sym (add-one k)) (rule-at k h .within)
+
+pub word-at : (t : List ℕ) (k : ℕ) → k < 16 → isWord t (take (getD starts (k + 1) 0 - getD starts k 0) (drop (getD starts k 0) names)) ≡ isWord t (bytes (getD prefixes k unity .name))
+word-at t k h =
+    subst (λ (j : ℕ). isWord t (take (getD starts j 0 - getD starts k 0) (drop (getD starts k 0) names)) ≡ isWord t (bytes (getD prefixes k unity .name))) (sym (add-one k))
+    (ap (isWord t) (rule-at k h .named))
+
+last-factor : toBits binary64 (getD factors 16 nan) ≡ near 1 1
+unfolding toBits ofBits near nearUnits size
+last-factor = refl
+
+pub thousand : toBits binary64 (ofBits binary64 4652007308841189376) ≡ near 1000 1
+unfolding toBits ofBits near nearUnits size
+thousand = refl
+
+-- ---- the search, from a row on
+abbrev pub Searching : List ℕ → ℕ → Type 0
+Searching t k = (k ≤ 16) × (k + placeIn (drop k prefixes) t ≡ placeIn prefixes t)
+
+head-at : (k : ℕ) → k < 16 → drop k prefixes ≡ getD prefixes k unity ∷ drop (suc k) prefixes
+head-at k h = drop-cons prefixes k unity h
+
+pub search-finds : (t : List ℕ) (k : ℕ) → k < 16 → isWord t (bytes (getD prefixes k unity .name)) ≡ true → Searching t k → k ≡ placeIn prefixes t
+unfolding placeIn
+search-finds t k h e s =
+    let q : placeIn (drop k prefixes) t ≡ 0 = ap (λ (l : List Prefix). placeIn l t) (head-at k h) ∙ rw e refl in
+    let r : k + placeIn (drop k prefixes) t ≡ placeIn prefixes t = s .1 in
+    plain k (placeIn (drop k prefixes) t) (placeIn prefixes t) q r
+  where
+    plain : (k a b : ℕ) → a ≡ 0 → k + a ≡ b → k ≡ b
+    plain k a b q r = omega arith
+
+pub search-goes : (t : List ℕ) (k : ℕ) → k < 16 → isWord t (bytes (getD prefixes k unity .name)) ≡ false → Searching t k → Searching t (k + 1)
+unfolding placeIn
+search-goes t k h e s =
+    let q : placeIn (drop k prefixes) t ≡ suc (placeIn (drop (suc k) prefixes) t) = ap (λ (l : List Prefix). placeIn l t) (head-at k h) ∙ rw e refl in
+    let j : k + 1 ≡ suc k = add-one k in
+    (omega arith, subst (λ (m : ℕ). m + placeIn (drop m prefixes) t ≡ placeIn prefixes t) (sym j) (plain k (placeIn (drop k prefixes) t) (placeIn (drop (suc k) prefixes) t) (placeIn prefixes t) q (s .1)))
+  where
+    plain : (k a c b : ℕ) → a ≡ suc c → k + a ≡ b → suc k + c ≡ b
+    plain k a c b q r = omega arith
+
+pub search-ends : (t : List ℕ) (k : ℕ) → 16 ≤ k → Searching t k → 16 ≡ placeIn prefixes t
+unfolding placeIn
+search-ends t k h s =
+    let e : k ≡ 16 = omega arith in
+    let q : 16 + placeIn (drop 16 prefixes) t ≡ placeIn prefixes t = subst (λ (m : ℕ). m + placeIn (drop m prefixes) t ≡ placeIn prefixes t) e (s .1) in
+    q
+
+pub place-within : (t : List ℕ) (ps : List Prefix) → placeIn ps t ≤ length ps
+unfolding placeIn
+place-within t [] = omega arith
+place-within t (p ∷ ps) = go (isWord t (bytes (p .name))) (place-within t ps)
+  where
+    go : (b : Bool) → placeIn ps t ≤ length ps → pick b 0 (suc (placeIn ps t)) ≤ suc (length ps)
+    go true l = omega arith
+    go false l = omega arith
+
+pub place-most : (t : List ℕ) → placeIn prefixes t ≤ 16
+place-most t = place-within t prefixes
+
+-- the factor at the place that was found
+pub factor-at : (k : ℕ) → k ≤ 16 → toBits binary64 (getD factors k nan) ≡ near (tenUp (getD prefixes k unity)) (tenDown (getD prefixes k unity))
+factor-at k h = go (eq-or k h)
+  where
+    eq-or : (k : ℕ) → k ≤ 16 → (k < 16) ⊎ (k ≡ 16)
+    eq-or k h = by (decLt k 16)
+      where
+        by : Dec (k < 16) → (k < 16) ⊎ (k ≡ 16)
+        by (yes l) = inl l
+        by (no l) = inr (omega arith)
+
+    go : (k < 16) ⊎ (k ≡ 16) → toBits binary64 (getD factors k nan) ≡ near (tenUp (getD prefixes k unity)) (tenDown (getD prefixes k unity))
+    go (inl l) = rule-at k l .factor
+    go (inr e) = subst (λ (m : ℕ). toBits binary64 (getD factors m nan) ≡ near (tenUp (getD prefixes m unity)) (tenDown (getD prefixes m unity))) (sym e) last-factor

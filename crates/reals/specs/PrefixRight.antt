@@ -1,0 +1,120 @@
+-- The factor of a prefix as a rule that names no search, and that Prefix.antt computes just this. Assumes nothing.
+use Prim.Native.Nat.{ℕ, zero, suc, _+_, _^_, _≤_, _<_}
+use Prim.Native.String.{String}
+use mathlib.Core.Path.{_≡_, refl, sym, _∙_, ap, subst}
+use mathlib.Core.Bool.{Bool, true, false, not, _&&_}
+use mathlib.Core.Logic.{_⊎_, inl, inr}
+use mathlib.Core.List.{List, [], _∷_, map}
+use native.Mathlib.Nat.{one-le-pow, le-of-suc-le-suc}
+use native.Mathlib.Omega.{arith}
+use native.Mathlib.Decide.{decLt}
+use borrow.Author.Tests.{eqb-true, eq-eqb}
+use lib.Dec.{T, eqb}
+use lib.ListN.{length, getD}
+use lib.Ieee.Bits.{is-false}
+use lib.Ieee.Fits.{and-l, and-r}
+use Rattle.lex.specs.Byte.{pick}
+use Rattle.lex.specs.Right.Steps.{clash}
+use Rattle.record.specs.Word.{upper, same, isWord}
+use Rattle.record.specs.Form.{bytes, Spelt}
+use Rattle.nearest.specs.Nearest.{IsNearest}
+use Rattle.nearest.specs.Near.{near, near-is, near-only}
+use Rattle.reals.specs.Prefix.{Prefix, row, prefixes, unity, tenUp, tenDown, placeIn, prefixOf, factorOf, place-within, place-most}
+
+-- "Prefixes: [..]; any other 1.0", "all in either case": the nearest f64 to the power of ten of the one row that is named so
+pub data PrefixForm : List ℕ → ℕ → Type 0 where
+  named : {t : List ℕ} {b : ℕ} (k : ℕ) → k < 16 → Spelt t (getD prefixes k unity .name) → IsNearest (tenUp (getD prefixes k unity)) (tenDown (getD prefixes k unity)) b → PrefixForm t b
+  other : {t : List ℕ} {b : ℕ} → ((k : ℕ) → k < 16 → Spelt t (getD prefixes k unity .name) → ⊥) → IsNearest 1 1 b → PrefixForm t b
+
+-- ---- the test for a word, both ways
+same-true : (x y : List ℕ) → same x y ≡ true → x ≡ y
+unfolding same
+same-true [] [] h = refl
+same-true [] (b ∷ y) h = clash (cc)
+same-true (a ∷ x) [] h = clash (cc)
+same-true (a ∷ x) (b ∷ y) h = go (eqb a b) refl (same-true x y) h
+  where
+    go : (t : Bool) → eqb a b ≡ t → (same x y ≡ true → x ≡ y) → t && same x y ≡ true → a ∷ x ≡ b ∷ y
+    go true e g f = cc (g f, eqb-true a b e)
+    go false e g f = clash (cc)
+
+same-self : (x : List ℕ) → same x x ≡ true
+unfolding same
+same-self [] = refl
+same-self (a ∷ x) = rw (eq-eqb a a refl) (same-self x)
+
+spelt-is : (t : List ℕ) (w : String) → isWord t (bytes w) ≡ true → Spelt t w
+spelt-is t w h = same-true (map upper t) (bytes w) h
+
+spelt-only : (t : List ℕ) (w : String) → Spelt t w → isWord t (bytes w) ≡ true
+spelt-only t w h = rw h (same-self (bytes w))
+
+-- ---- no two rows have one name: one test that antt computes
+abbrev absent : List ℕ → List Prefix → Bool
+absent w [] = true
+absent w (q ∷ qs) = not (same (bytes (q .name)) w) && absent w qs
+
+abbrev distinct : List Prefix → Bool
+distinct [] = true
+distinct (p ∷ ps) = absent (bytes (p .name)) ps && distinct ps
+
+all-distinct : T (distinct prefixes)
+unfolding same
+all-distinct = tt
+
+absent-at : (w : List ℕ) (ps : List Prefix) (j : ℕ) → T (absent w ps) → j < length ps → same (bytes (getD ps j unity .name)) w ≡ false
+absent-at w [] j a h = absurd (omega arith)
+absent-at w (q ∷ qs) zero a h = is-false (same (bytes (q .name)) w) (and-l (not (same (bytes (q .name)) w)) (absent w qs) a)
+absent-at w (q ∷ qs) (suc j) a h = absent-at w qs j (and-r (not (same (bytes (q .name)) w)) (absent w qs) a) (le-of-suc-le-suc h)
+
+-- ---- the search finds the row that is named so
+place-only : (t : List ℕ) (ps : List Prefix) (j : ℕ) → T (distinct ps) → j < length ps → Spelt t (getD ps j unity .name) → placeIn ps t ≡ j
+unfolding placeIn
+place-only t [] j d h s = absurd (omega arith)
+place-only t (p ∷ ps) zero d h s = rw (spelt-only t (p .name) s) refl
+place-only t (p ∷ ps) (suc j) d h s =
+    let a : T (absent (bytes (p .name)) ps) = and-l (absent (bytes (p .name)) ps) (distinct ps) d in
+    let e : isWord t (bytes (p .name)) ≡ false = ap (λ (l : List ℕ). same l (bytes (p .name))) s ∙ absent-at (bytes (p .name)) ps j a (le-of-suc-le-suc h) in
+    rw e (ap suc (place-only t ps j (and-r (absent (bytes (p .name)) ps) (distinct ps) d) (le-of-suc-le-suc h) s))
+
+place-is : (t : List ℕ) (ps : List Prefix) → placeIn ps t < length ps → Spelt t (getD ps (placeIn ps t) unity .name)
+unfolding placeIn
+place-is t [] h = absurd (omega arith)
+place-is t (p ∷ ps) h = go (isWord t (bytes (p .name))) refl h (place-is t ps)
+  where
+    go : (b : Bool) → isWord t (bytes (p .name)) ≡ b → pick b 0 (suc (placeIn ps t)) < suc (length ps) → (placeIn ps t < length ps → Spelt t (getD ps (placeIn ps t) unity .name)) → Spelt t (getD (p ∷ ps) (pick b 0 (suc (placeIn ps t))) unity .name)
+    go true e h r = spelt-is t (p .name) e
+    go false e h r = r (le-of-suc-le-suc h)
+
+-- ---- the theorems
+up-pos : (p : Prefix) → 0 < tenDown p
+up-pos p = go (p .down) (p .tens)
+  where
+    go : (b : Bool) (k : ℕ) → 0 < pick b (10 ^ k) 1
+    go true k = one-le-pow k 10 (omega arith)
+    go false k = omega arith
+
+at-end : (t : List ℕ) → placeIn prefixes t ≡ 16 → factorOf t ≡ near 1 1
+at-end t e = ap (λ (k : ℕ). near (tenUp (getD prefixes k unity)) (tenDown (getD prefixes k unity))) e
+
+pub prefix-is : (t : List ℕ) → PrefixForm t (factorOf t)
+prefix-is t = go (decLt (placeIn prefixes t) 16) (place-most t)
+  where
+    never : (a k : ℕ) → a ≡ 16 → a ≡ k → k < 16 → ⊥
+    never a k e f h = omega arith
+
+    go : Dec (placeIn prefixes t < 16) → placeIn prefixes t ≤ 16 → PrefixForm t (factorOf t)
+    go (yes h) m = named (placeIn prefixes t) h (place-is t prefixes h) (near-is (tenUp (prefixOf t)) (tenDown (prefixOf t)) (up-pos (prefixOf t)))
+    go (no h) m =
+        let e : placeIn prefixes t ≡ 16 = omega arith in
+        subst (PrefixForm t) (sym (at-end t e)) (other (λ k l s. never (placeIn prefixes t) k e (place-only t prefixes k all-distinct l s) l) (near-is 1 1 (omega arith)))
+
+pub prefix-only : {t : List ℕ} {b : ℕ} → PrefixForm t b → b ≡ factorOf t
+prefix-only {t} {b} (named k h s n) =
+    near-only (tenUp (getD prefixes k unity)) (tenDown (getD prefixes k unity)) b (up-pos (getD prefixes k unity)) n
+    ∙ ap (λ (j : ℕ). near (tenUp (getD prefixes j unity)) (tenDown (getD prefixes j unity))) (sym (place-only t prefixes k all-distinct h s))
+prefix-only {t} {b} (other h n) = near-only 1 1 b (omega arith) n ∙ sym (at-end t (by (decLt (placeIn prefixes t) 16) (place-most t)))
+  where
+    by : Dec (placeIn prefixes t < 16) → placeIn prefixes t ≤ 16 → placeIn prefixes t ≡ 16
+    by (yes l) m = absurd (h (placeIn prefixes t) l (place-is t prefixes l))
+    by (no l) m = omega arith
