@@ -1,0 +1,70 @@
+-- Some values of the definitions, worked out: each is what IEEE 754 has. Assumes nothing.
+use Prim.Native.Nat.{ℕ, _+_, _-_, _*_, _^_}
+use mathlib.Core.Path.{_≡_, refl}
+use mathlib.Core.Bool.{true, false}
+use lib.Ieee.{size, nearest}
+use Rattle.nearest.specs.Units.{infinity, unitsOf}
+use Rattle.nearest.specs.Near.{near, nearUnits}
+use Rattle.nearest.specs.Product.{product, quotient, quiet, worthOf}
+
+-- 1, and a tenth, whose digits go on for ever
+one : near 1 1 ≡ 0x3ff0_0000_0000_0000
+unfolding near nearUnits size
+one = refl
+
+tenth : near 1 10 ≡ 0x3fb9_9999_9999_999a
+unfolding near nearUnits size
+tenth = refl
+
+-- a tie goes to the even pattern: 2 ^ 53 + 1 down, 2 ^ 53 + 3 up
+tie-down : near (2 ^ 53 + 1) 1 ≡ 0x4340_0000_0000_0000
+unfolding near nearUnits size
+tie-down = refl
+
+tie-up : near (2 ^ 53 + 3) 1 ≡ 0x4340_0000_0000_0002
+unfolding near nearUnits size
+tie-up = refl
+
+-- half of the smallest f64 is a tie with 0, and three halves a tie with two
+half-smallest : near 1 (2 ^ 1075) ≡ 0
+unfolding near nearUnits size
+half-smallest = refl
+
+three-halves : near 3 (2 ^ 1075) ≡ 2
+unfolding near nearUnits size
+three-halves = refl
+
+-- half way past the largest f64 is a tie with infinity, whose pattern is even; below it is the largest
+overflow : near (2 ^ 1024 - 2 ^ 970) 1 ≡ infinity
+unfolding near nearUnits size
+overflow = refl
+
+largest : near (2 ^ 1024 - 2 ^ 970 - 1) 1 ≡ infinity - 1
+unfolding near nearUnits size
+largest = refl
+
+-- -0 times 1 keeps its sign; infinity times 0, and 0 by 0, are no number; 1 by -0 is negative infinity
+minus-zero : product (2 ^ 63) 0x3ff0_0000_0000_0000 ≡ 2 ^ 63
+unfolding worthOf unitsOf near nearUnits size
+minus-zero = refl
+
+infinity-zero : product infinity 0 ≡ quiet
+unfolding worthOf unitsOf
+infinity-zero = refl
+
+zero-zero : quotient 0 0 ≡ quiet
+unfolding worthOf unitsOf
+zero-zero = refl
+
+one-zero : quotient 0x3ff0_0000_0000_0000 (2 ^ 63) ≡ 2 ^ 63 + infinity
+unfolding worthOf unitsOf
+one-zero = refl
+
+-- document 01: NANO metre is 1000.0 times the f64 1e-9, whose bits end in ed8e; rounded once from decimals they would end in ed8d
+nano : product (near 1000 1) (near 1 1000000000) ≡ 0x3eb0_c6f7_a0b5_ed8e
+unfolding worthOf unitsOf near nearUnits size
+nano = refl
+
+nano-once : near 1 1000000 ≡ 0x3eb0_c6f7_a0b5_ed8d
+unfolding near nearUnits size
+nano-once = refl

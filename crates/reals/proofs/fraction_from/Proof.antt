@@ -1,0 +1,51 @@
+-- `reals::fraction_from` meets its contract, by the laws of Parts.antt at each way out. Assumes nothing.
+use native.Mathlib.Omega.{arith}
+use borrow.Author.Needs.{needs}
+use borrow.Author.Tests.{eq-eqb, ne-eqb}
+use denote.Ref.{now}
+use lib.ListN.{getD}
+use Rattle.reals.specs.Parts.{decimal-pointed, decimal-whole, decimal-end}
+use Rattle.reals.proofs.fraction_from.Statement.{statement}
+use Rattle.reals.proofs.fraction_from.Tie as tie
+
+shared-slice-read-if2 : tie.Need-shared-slice-read-if2
+shared-slice-read-if2 c = search needs
+
+add-digits-from : tie.Need-add-digits-from
+add-digits-from c = search needs
+
+digits-from-requires : tie.Need-digits-from-requires
+digits-from-requires c κs = search needs
+
+add-t10 : tie.Need-add-t10
+add-t10 c = search needs
+
+sub-t11 : tie.Need-sub-t11
+sub-t11 c = search needs
+
+returns : tie.Need-returns
+returns c =
+    let b = c .before .before in
+    let a = b .before .before .before .before .args in
+    decimal-pointed (now (a .t)) (a .at) (a .from) (c .before .digits-from .result) (omega arith) (eq-eqb (getD (now (a .t)) (a .at) 0) 46 (b .if2 .taken)) (c .before .digits-from .ensures)
+
+returns-2 : tie.Need-returns-2
+returns-2 c =
+    let a = c .before .before .before .before .args in
+    decimal-whole (now (a .t)) (a .at) (a .from) (omega arith) (ne-eqb (getD (now (a .t)) (a .at) 0) 46 (c .if2 .left))
+
+returns-3 : tie.Need-returns-3
+returns-3 c = let a = c .before .before .args in decimal-end (now (a .t)) (a .at) (a .from) (omega arith) (omega arith)
+
+pub fraction-from-spec : {M : Type 1} → statement M
+fraction-from-spec =
+    tie.close
+    (tie.spec
+    shared-slice-read-if2
+    add-digits-from
+    digits-from-requires
+    add-t10
+    sub-t11
+    returns
+    returns-2
+    returns-3)

@@ -1,0 +1,30 @@
+-- `reals::lowered` meets its contract: one quotient of two exact numbers. Assumes nothing.
+use Prim.Native.Nat.{_^_}
+use mathlib.Core.Path.{_∙_}
+use native.Mathlib.Nat.{one-le-pow}
+use native.Mathlib.Omega.{arith}
+use borrow.Author.Needs.{needs}
+use lib.Ieee.{binary64, toBits}
+use Rattle.nearest.specs.Product.{quotient-exact}
+use Rattle.reals.proofs.lowered.Statement.{statement}
+use Rattle.reals.proofs.lowered.Tie as tie
+
+exact-requires : tie.Need-exact-requires
+exact-requires c κs = search needs
+
+power-of-ten-requires : tie.Need-power-of-ten-requires
+power-of-ten-requires c κs = search needs
+
+over-requires : tie.Need-over-requires
+over-requires c κs = search needs
+
+returns : tie.Need-returns
+returns c =
+    let p = c .before in
+    let e = p .before in
+    let a = e .before .args in
+    c .over .ensures
+    ∙ quotient-exact (toBits binary64 (e .exact .result)) (toBits binary64 (p .power-of-ten .result)) (a .neg) (a .m) (10 ^ a .k) (one-le-pow (a .k) 10 (omega arith)) (e .exact .ensures) (p .power-of-ten .ensures)
+
+pub lowered-spec : {M : Type 1} → statement M
+lowered-spec = tie.close (tie.spec exact-requires power-of-ten-requires over-requires returns)

@@ -1,0 +1,80 @@
+-- The class of reals, where m and the exponent are held up to their caps: the laws of each way out of `in_class`. Assumes nothing.
+use Prim.Native.Nat.{ℕ, zero, suc, _+_, _*_, _-_, _^_, _≤_, _<_, min}
+use mathlib.Core.Path.{_≡_, refl, sym, _∙_, ap, subst}
+use mathlib.Core.Bool.{Bool, true, false, _&&_}
+use native.Mathlib.Nat.{one-le-pow, mul-assoc, mul-one, mul-comm}
+use native.Mathlib.Omega.{arith}
+use borrow.Author.Tests.{lt-ltb, le-ltb, le-leb, lt-leb}
+use lib.Dec.{ltb, leb}
+use lib.Pow.{pow-add}
+use Rattle.lex.specs.Byte.{pick}
+use Rattle.nearest.specs.Near.{near, near-same}
+use Rattle.nearest.specs.Round.{signed}
+use Rattle.reals.specs.Scalar.{Answer, read, refused, parsed, classOf, reaches, nearTen, most, largest}
+
+ten-pos : (k : ℕ) → 0 < 10 ^ k
+ten-pos k = one-le-pow k 10 (omega arith)
+
+no-and : (a : Bool) → a && false ≡ false
+no-and true = refl
+no-and false = refl
+
+module _ (s : Bool) (m f x M X : ℕ) (a : m ≡ min most M) (b : x ≡ min largest X) where
+  pub out-long : (d : Bool) → most ≤ m → refused 13 ≡ classOf (parsed s M f d X)
+  out-long d h = let l : most ≤ M = omega arith in rw (le-ltb M most l) refl
+
+  out-far : (d : Bool) → reaches f d X ≡ false → refused 13 ≡ classOf (parsed s M f d X)
+  out-far d e = rw (e, no-and (ltb M most)) refl
+
+  inside : (d : Bool) (p : ℕ) → m < most → reaches f d X ≡ true → p ≡ signed s (nearTen M f d X) → read p ≡ classOf (parsed s M f d X)
+  inside d p h e q = let l : M < most = omega arith in rw (lt-ltb M most l, e) (ap read q)
+
+  held : m < most → m ≡ M
+  held h = omega arith
+
+  -- a negative exponent
+  pub in-down : (p : ℕ) → m < most → x + f ≤ 22 → p ≡ signed s (near m (10 ^ (x + f))) → read p ≡ classOf (parsed s M f true X)
+  in-down p h l q =
+      let y : x ≡ X = omega arith in
+      let z : X + f ≤ 22 = omega arith in
+      inside true p h (le-leb (X + f) 22 z) (q ∙ ap (λ (n : ℕ). signed s (near n (10 ^ (x + f)))) (held h) ∙ ap (λ (n : ℕ). signed s (near M (10 ^ (n + f)))) y)
+
+  pub out-down : 22 < x + f → refused 13 ≡ classOf (parsed s M f true X)
+  out-down l = let z : 22 < X + f = omega arith in out-far true (lt-leb (X + f) 22 z)
+
+  -- the exponent outweighs the fraction
+  pub in-up : (p : ℕ) → f < 2 ^ 63 → m < most → f ≤ x → x - f ≤ 22 → p ≡ signed s (near (m * 10 ^ (x - f)) 1) → read p ≡ classOf (parsed s M f false X)
+  in-up p w h g l q =
+      let y : x ≡ X = omega arith in
+      let z : X ≤ f + 22 = omega arith in
+      let v : f ≤ X + 22 = omega arith in
+      let t : x - f + f ≡ x = omega arith in
+      inside false p h (rw (le-leb X (f + 22) z, le-leb f (X + 22) v) refl)
+      (q
+      ∙ ap (signed s) (near-same (m * 10 ^ (x - f)) 1 (m * 10 ^ x) (10 ^ f) (ten-pos 0) (ten-pos f)
+      (mul-assoc m (10 ^ (x - f)) (10 ^ f) ∙ ap (λ (n : ℕ). m * n) (sym (pow-add 10 (x - f) f) ∙ ap (λ (n : ℕ). 10 ^ n) t) ∙ sym (mul-one (m * 10 ^ x))))
+      ∙ ap (λ (n : ℕ). signed s (near (n * 10 ^ x) (10 ^ f))) (held h)
+      ∙ ap (λ (n : ℕ). signed s (near (M * 10 ^ n) (10 ^ f))) y)
+
+  pub out-up : f ≤ x → 22 < x - f → refused 13 ≡ classOf (parsed s M f false X)
+  out-up g l = let z : f + 22 < X = omega arith in out-far false (rw (lt-leb X (f + 22) z) refl)
+
+  -- the fraction outweighs the exponent
+  pub in-mid : (p : ℕ) → f < 2 ^ 63 → m < most → x < f → f - x ≤ 22 → p ≡ signed s (near m (10 ^ (f - x))) → read p ≡ classOf (parsed s M f false X)
+  in-mid p w h g l q =
+      let y : x ≡ X = omega arith in
+      let z : X ≤ f + 22 = omega arith in
+      let v : f ≤ X + 22 = omega arith in
+      let t : x + (f - x) ≡ f = omega arith in
+      inside false p h (rw (le-leb X (f + 22) z, le-leb f (X + 22) v) refl)
+      (q
+      ∙ ap (signed s) (near-same m (10 ^ (f - x)) (m * 10 ^ x) (10 ^ f) (ten-pos (f - x)) (ten-pos f)
+      (ap (λ (n : ℕ). m * n) (ap (λ (n : ℕ). 10 ^ n) (sym t) ∙ pow-add 10 x (f - x)) ∙ sym (mul-assoc m (10 ^ x) (10 ^ (f - x)))))
+      ∙ ap (λ (n : ℕ). signed s (near (n * 10 ^ x) (10 ^ f))) (held h)
+      ∙ ap (λ (n : ℕ). signed s (near (M * 10 ^ n) (10 ^ f))) y)
+
+  pub out-mid : f < 2 ^ 63 → x < f → 22 < f - x → refused 13 ≡ classOf (parsed s M f false X)
+  out-mid w g l =
+      let y : x ≡ X = omega arith in
+      let z : X + 22 < f = omega arith in
+      out-far false (rw (lt-leb f (X + 22) z) (no-and (leb X (f + 22))))

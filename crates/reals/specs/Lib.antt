@@ -1,0 +1,5 @@
+pub mod Scalar
+pub mod Parts
+pub mod Table
+pub mod Class
+pub mod Read

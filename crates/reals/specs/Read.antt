@@ -1,0 +1,74 @@
+-- A real, read at places of the text: what the code's parts promise put together. Assumes nothing.
+use Prim.Native.Nat.{ℕ, zero, suc, _+_, _*_, _-_, _≤_, _<_, min}
+use mathlib.Core.Path.{_≡_, refl, sym, _∙_, ap, subst}
+use mathlib.Core.Bool.{Bool, true, false, _&&_}
+use mathlib.Core.List.{List, [], _∷_}
+use native.Mathlib.Omega.{arith}
+use native.Mathlib.Decide.{ℕ-discrete}
+use borrow.Author.Tests.{eq-eqb, ne-eqb}
+use lib.Dec.{eqb}
+use lib.ListN.{length, drop, length-drop}
+use Rattle.lex.specs.Byte.{pick}
+use Rattle.record.specs.Text.{Digits, numberFrom}
+use Rattle.reals.specs.Scalar.{Answer, read, refused, toldReal, unsigned, minus, Mantissa, fractionOf, Exponent, power, malformed, exponentOf, Parsed, parsed, unparsed, joined, parseOf, classOf, realOf, NumberAt, DecimalAt, TensAt, ClassOf, most, largest}
+use Rattle.reals.specs.declared.Real.{Real}
+use Rattle.reals.specs.declared.Number.{Number}
+use Rattle.reals.specs.declared.Decimal.{Decimal}
+use Rattle.reals.specs.declared.Tens.{Tens}
+use Rattle.reals.specs.declared.Tens.the-variants.{Power, Malformed}
+
+-- two rests of a text are as long where they begin at one place
+same-place : (t : List ℕ) (i j : ℕ) → i ≤ length t → j ≤ length t → eqb (length (drop i t)) (length (drop j t)) ≡ eqb i j
+same-place t i j h k = simp length-drop (go (ℕ-discrete i j))
+  where
+    go : Dec (i ≡ j) → eqb (length t - i) (length t - j) ≡ eqb i j
+    go (yes e) = let f : length t - i ≡ length t - j = omega arith in eq-eqb (length t - i) (length t - j) f ∙ sym (eq-eqb i j e)
+    go (no n) =
+        let f : length t - i ≡ length t - j → ⊥ = λ e. n (omega arith) in
+        ne-eqb (length t - i) (length t - j) f ∙ sym (ne-eqb i j n)
+
+module _ (t : List ℕ) (a : ℕ) (here : drop a t ≡ unsigned t) (within : a ≤ length t) (w : Number) (whole : NumberAt t a 0 most w) (d : Decimal) (decimal : DecimalAt t (w .next) (w .value) d) where
+  rest-is : numberFrom 0 (unsigned t) .rest ≡ drop (w .next) t
+  rest-is = ap (λ (l : List ℕ). numberFrom 0 l .rest) (sym here) ∙ whole .rest 0
+
+  mant-is : fractionOf (numberFrom 0 (unsigned t) .value) (numberFrom 0 (unsigned t) .rest) ≡ fractionOf (numberFrom 0 (unsigned t) .value) (drop (w .next) t)
+  mant-is = ap (fractionOf (numberFrom 0 (unsigned t) .value)) rest-is
+
+  held : d .value ≡ min most (fractionOf (numberFrom 0 (unsigned t) .value) (numberFrom 0 (unsigned t) .rest) .value)
+  held =
+      decimal .value (numberFrom 0 (unsigned t) .value) (whole .value 0 refl ∙ ap (λ (l : List ℕ). min most (numberFrom 0 l .value)) here)
+      ∙ ap (λ (m : Mantissa). min most (m .value)) (sym mant-is)
+
+  places : fractionOf (numberFrom 0 (unsigned t) .value) (numberFrom 0 (unsigned t) .rest) .places ≡ d .places
+  places = ap (λ (m : Mantissa). m .places) mant-is ∙ decimal .places (numberFrom 0 (unsigned t) .value)
+
+  after : fractionOf (numberFrom 0 (unsigned t) .value) (numberFrom 0 (unsigned t) .rest) .rest ≡ drop (d .next) t
+  after = ap (λ (m : Mantissa). m .rest) mant-is ∙ decimal .rest (numberFrom 0 (unsigned t) .value)
+
+  none-at : eqb (length (numberFrom 0 (unsigned t) .rest)) (length (unsigned t)) ≡ eqb (w .next) a
+  none-at =
+      ap (λ (l : List ℕ). eqb (length l) (length (unsigned t))) rest-is
+      ∙ ap (λ (l : List ℕ). eqb (length (drop (w .next) t)) (length l)) (sym here)
+      ∙ same-place t (w .next) a (whole .within) within
+
+  real-at : realOf t ≡ classOf (pick (eqb (w .next) a && eqb (d .places) 0) unparsed (joined (minus t) (fractionOf (numberFrom 0 (unsigned t) .value) (numberFrom 0 (unsigned t) .rest)) (exponentOf (drop (d .next) t))))
+  unfolding realOf parseOf
+  real-at =
+      let M = fractionOf (numberFrom 0 (unsigned t) .value) (numberFrom 0 (unsigned t) .rest) in
+      ap (λ (b : Bool). classOf (pick (b && eqb (M .places) 0) unparsed (joined (minus t) M (exponentOf (M .rest))))) none-at
+      ∙ ap (λ (f : ℕ). classOf (pick (eqb (w .next) a && eqb f 0) unparsed (joined (minus t) M (exponentOf (M .rest))))) places
+      ∙ ap (λ (l : List ℕ). classOf (pick (eqb (w .next) a && eqb (d .places) 0) unparsed (joined (minus t) M (exponentOf l)))) after
+
+  pub no-digit : eqb (w .next) a && eqb (d .places) 0 ≡ true → refused 12 ≡ realOf t
+  no-digit e = sym (real-at ∙ rw e refl)
+
+  pub bad-tens : eqb (w .next) a && eqb (d .places) 0 ≡ false → TensAt (drop (d .next) t) Malformed → refused 12 ≡ realOf t
+  bad-tens e f = sym (real-at ∙ rw (e, f) refl)
+
+  pub good-tens : (s down : Bool) (x : ℕ) (r : Real) → eqb (w .next) a && eqb (d .places) 0 ≡ false → s ≡ minus t → TensAt (drop (d .next) t) (Power down x) → ClassOf s (d .value) (d .places) down x r → toldReal r ≡ realOf t
+  good-tens s down x r e m f c =
+      let M = fractionOf (numberFrom 0 (unsigned t) .value) (numberFrom 0 (unsigned t) .rest) in
+      c (M .value) (f .0) held (f .2)
+      ∙ ap (λ (b : Bool). classOf (parsed b (M .value) (d .places) down (f .0))) m
+      ∙ ap (λ (k : ℕ). classOf (parsed (minus t) (M .value) k down (f .0))) (sym places)
+      ∙ sym (real-at ∙ rw (e, f .1) refl)

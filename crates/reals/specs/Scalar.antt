@@ -1,0 +1,135 @@
+-- Document 01, 'Parameters': reals, computed from a trimmed parameter's bytes. Form.antt has the same as rules, and FormRight.antt
+-- that the two are one. Assumes nothing.
+use Prim.Native.Nat.{ℕ, _+_, _*_, _-_, _^_, _≤_, _<_, min}
+use mathlib.Core.Path.{_≡_}
+use mathlib.Core.Bool.{Bool, true, false, _&&_, _||_}
+use mathlib.Core.List.{List, [], _∷_}
+use lib.Dec.{eqb, leb, ltb}
+use lib.ListN.{length, drop}
+use lib.Ieee.{binary64, toBits}
+use Rattle.lex.specs.Byte.{pick}
+use Rattle.record.specs.Text.{digit, Digits, numberFrom}
+use Rattle.nearest.specs.Near.{near}
+use Rattle.nearest.specs.Round.{signed}
+use Rattle.reals.specs.declared.Real.{Real}
+use Rattle.reals.specs.declared.Real.the-variants.{Value, Outside, NotReal}
+use Rattle.reals.specs.declared.Number.{Number}
+use Rattle.reals.specs.declared.Decimal.{Decimal}
+use Rattle.reals.specs.declared.Tens.{Tens}
+use Rattle.reals.specs.declared.Tens.the-variants.{Power, Malformed}
+
+-- what a scalar reads as, or the number of document 01's refusal; the place is the parameter's, and its reader's to say
+pub data Answer (A : Type 0) : Type 0 where
+  read : A → Answer A
+  refused : ℕ → Answer A
+
+-- "real outside the class" is 13, "parameter of another type" 12. A float is told by its bit pattern
+abbrev pub toldReal : Real → Answer ℕ
+toldReal (Value x) = read (toBits binary64 x)
+toldReal Outside = refused 13
+toldReal NotReal = refused 12
+
+-- "Optional sign": what follows it, and whether it is `-`
+abbrev pub unsigned : List ℕ → List ℕ
+unsigned [] = []
+unsigned (c ∷ r) = pick (eqb c 43 || eqb c 45) r (c ∷ r)
+
+abbrev pub minus : List ℕ → Bool
+minus [] = false
+minus (c ∷ r) = eqb c 45
+
+-- the number m of all digits, how many stand after the point, and what follows
+pub record Mantissa : Type 0 where
+  pub value : ℕ
+  pub places : ℕ
+  pub rest : List ℕ
+
+abbrev pub mantissa : ℕ → ℕ → List ℕ → Mantissa
+mantissa m f r = record { value = m; places = f; rest = r }
+
+abbrev pub pointed : List ℕ → Digits → Mantissa
+pointed r d = mantissa (d .value) (length r - length (d .rest)) (d .rest)
+
+-- "with an optional point": w is the number of the digits before it
+abbrev pub fractionOf : ℕ → List ℕ → Mantissa
+fractionOf w [] = mantissa w 0 []
+fractionOf w (c ∷ r) = pick (eqb c 46) (pointed r (numberFrom w r)) (mantissa w 0 (c ∷ r))
+
+-- "optionally E or e, optional sign, digits": whether the exponent is negative, and its size
+pub data Exponent : Type 0 where
+  power : Bool → ℕ → Exponent
+  malformed : Exponent
+
+abbrev pub ended : Bool → List ℕ → Digits → Exponent
+ended s u d = pick (eqb (length (d .rest)) 0 && ltb 0 (length u)) (power s (d .value)) malformed
+
+abbrev pub exponentOf : List ℕ → Exponent
+exponentOf [] = power false 0
+exponentOf (c ∷ r) = pick (eqb c 69 || eqb c 101) (ended (minus r) (unsigned r) (numberFrom 0 (unsigned r))) malformed
+
+-- a real's sign, m, number of fraction digits, and exponent
+pub data Parsed : Type 0 where
+  parsed : Bool → ℕ → ℕ → Bool → ℕ → Parsed
+  unparsed : Parsed
+
+abbrev pub joined : Bool → Mantissa → Exponent → Parsed
+joined s m (power d x) = parsed s (m .value) (m .places) d x
+joined s m malformed = unparsed
+
+-- "digits, at least one": none stands before the point, and none after it
+abbrev pub counted : Bool → List ℕ → Digits → Mantissa → Parsed
+counted s u d m = pick (eqb (length (d .rest)) (length u) && eqb (m .places) 0) unparsed (joined s m (exponentOf (m .rest)))
+
+unfoldable pub parseOf : List ℕ → Parsed
+parseOf t =
+    counted (minus t) (unsigned t) (numberFrom 0 (unsigned t)) (fractionOf (numberFrom 0 (unsigned t) .value) (numberFrom 0 (unsigned t) .rest))
+
+-- "−22 ≤ e ≤ 22", e being the exponent less the number f of fraction digits; true is a negative exponent
+abbrev pub reaches : ℕ → Bool → ℕ → Bool
+reaches f false x = leb x (f + 22) && leb f (x + 22)
+reaches f true x = leb (x + f) 22
+
+-- "the f64 nearest to m·10^e"
+abbrev pub nearTen : ℕ → ℕ → Bool → ℕ → ℕ
+nearTen m f false x = near (m * 10 ^ x) (10 ^ f)
+nearTen m f true x = near m (10 ^ (x + f))
+
+-- "Class: m has at most 15 digits and −22 ≤ e ≤ 22"; "sign kept at zero"
+abbrev pub classOf : Parsed → Answer ℕ
+classOf (parsed s m f d x) = pick (ltb m (10 ^ 15) && reaches f d x) (read (signed s (nearTen m f d x))) (refused 13)
+classOf unparsed = refused 12
+
+unfoldable pub realOf : List ℕ → Answer ℕ
+realOf t = classOf (parseOf t)
+
+-- ---- what the code's parts promise, at a place of the text; a number is held as itself or, from the cap on, as the cap
+
+-- the digits from `at`, after those that gave n: their number, and the place after them
+pub record NumberAt (t : List ℕ) (at from cap : ℕ) (r : Number) : Type 0 where
+  pub value : (n : ℕ) → from ≡ min cap n → r .value ≡ min cap (numberFrom n (drop at t) .value)
+  pub rest : (n : ℕ) → numberFrom n (drop at t) .rest ≡ drop (r .next) t
+  pub above : at ≤ r .next
+  pub within : r .next ≤ length t
+
+-- the largest m, and one more
+abbrev pub most : ℕ
+most = 10 ^ 15
+
+pub record DecimalAt (t : List ℕ) (at from : ℕ) (r : Decimal) : Type 0 where
+  pub value : (n : ℕ) → from ≡ min most n → r .value ≡ min most (fractionOf n (drop at t) .value)
+  pub places : (n : ℕ) → fractionOf n (drop at t) .places ≡ r .places
+  pub rest : (n : ℕ) → fractionOf n (drop at t) .rest ≡ drop (r .next) t
+  pub within : r .next ≤ length t
+  pub short : r .places ≤ length t
+
+-- the largest exponent that is held as itself
+abbrev pub largest : ℕ
+largest = 2 ^ 64 - 1
+
+abbrev pub TensAt : List ℕ → Tens → Type 0
+TensAt xs (Power d x) = (n : ℕ) × (exponentOf xs ≡ power d n) × (x ≡ min largest n)
+TensAt xs Malformed = exponentOf xs ≡ malformed
+
+-- the answer for numbers that are held so
+abbrev pub ClassOf : Bool → ℕ → ℕ → Bool → ℕ → Real → Type 0
+ClassOf s m f d x r = (M X : ℕ) → m ≡ min most M → x ≡ min largest X → toldReal r ≡ classOf (parsed s M f d X)

@@ -1,0 +1,261 @@
+// Scalars of a parameter: reals, integers, references, and the SI prefixes' factors.
+//
+// Each takes the trimmed bytes of one parameter or item. As the Rust's parse_f64, parse_i64, parse_ref and si_prefix_factor, with
+// the float's reading as own code: in document 01's class a real is one product or quotient of two exact f64s, so it is rounded
+// once, and the crate `nearest` says what that gives.
+ghost use mathlib.Core.Path.{_≡_};
+ghost use Prim.Native.Nat.{_+_, _*_, _-_, _≤_, _<_, _^_, min};
+ghost use mathlib.Core.Bool.{true, false};
+ghost use lib.ListN.{length, drop};
+ghost use lib.Ieee.{binary64, toBits};
+ghost use Rattle.record.specs.Text.{digit};
+ghost use Rattle.nearest.specs.Near.{near};
+ghost use Rattle.nearest.specs.Round.{signed};
+ghost use Rattle.nearest.specs.Product.{worthOf, finite};
+ghost use Rattle.reals.specs.Scalar.{toldReal, realOf, unsigned, minus, NumberAt, DecimalAt, TensAt, ClassOf, largest};
+
+pub enum Real {
+    Value(f64),
+    // 13: a real, but not of the class.
+    Outside,
+    // 12.
+    NotReal,
+}
+
+// One more than the largest m: m has at most 15 digits.
+const MOST: u64 = 1000000000000000;
+
+// Exponents from here on count as this one: no text is long enough for its fraction to make up for it.
+const LARGEST: u64 = 0xffff_ffff_ffff_ffff;
+
+fn is_digit(c: u8) -> bool
+    ensures { λ r. ⌜ r ≡ digit c ⌝ }
+{
+    (48 <= c) & (c <= 57)
+}
+
+fn minus_at(t: &[u8], at: usize) -> bool
+    ensures { λ r. ⌜ r ≡ minus (drop at (now (t .entry))) ⌝ }
+{
+    if at < t.len() {
+        return t[at] == b'-';
+    }
+    false
+}
+
+// The place after an optional sign.
+fn past_sign(t: &[u8], at: usize) -> usize
+    requires { ⌜ at ≤ length (now t) ⌝ }
+    ensures { λ r. ⌜ (drop r (now (t .entry)) ≡ unsigned (drop at (now (t .entry)))) × (r ≤ length (now (t .entry))) × (at ≤ r) ⌝ }
+{
+    if at < t.len() {
+        let c = t[at];
+        if (c == b'+') | (c == b'-') {
+            return at + 1;
+        }
+    }
+    at
+}
+
+// A number with one digit more, or the cap: so that digits without end neither wrap nor count as few.
+fn with_digit(n: u64, c: u8, cap: u64) -> u64
+    requires { ⌜ (48 ≤ c) × (c ≤ 57) × (n ≤ cap) ⌝ }
+    ensures { λ r. ⌜ r ≡ min cap (n * 10 + (c - 48)) ⌝ }
+{
+    let d = (c - 48) as u64;
+    if n < cap / 10 {
+        return n * 10 + d;
+    }
+    if n == cap / 10 {
+        if d < cap % 10 {
+            return n * 10 + d;
+        }
+    }
+    cap
+}
+
+// A number and the place after its digits.
+struct Number {
+    value: u64,
+    next: usize,
+}
+
+// Reads on with the digits from a place.
+fn digits_from(t: &[u8], at: usize, from: u64, cap: u64) -> Number
+    requires { ⌜ (at ≤ length (now t)) × (from ≤ cap) ⌝ }
+    ensures { λ r. ⌜ NumberAt (now (t .entry)) at from cap r ⌝ }
+{
+    let mut n = from;
+    let mut i = at;
+    while i < t.len() {
+        let c = t[i];
+        if !is_digit(c) {
+            return Number { value: n, next: i };
+        }
+        n = with_digit(n, c, cap);
+        i += 1;
+    }
+    Number { value: n, next: i }
+}
+
+// All digits' number, how many stand after the point, and the place after them.
+struct Decimal {
+    value: u64,
+    places: usize,
+    next: usize,
+}
+
+// Reads on with an optional point and its digits.
+fn fraction_from(t: &[u8], at: usize, from: u64) -> Decimal
+    requires { ⌜ (at ≤ length (now t)) × (from ≤ 1000000000000000) ⌝ }
+    ensures { λ r. ⌜ DecimalAt (now (t .entry)) at from r ⌝ }
+{
+    if at < t.len() {
+        if t[at] == b'.' {
+            let r = digits_from(t, at + 1, from, MOST);
+            return Decimal {
+                value: r.value,
+                places: r.next - (at + 1),
+                next: r.next,
+            };
+        }
+    }
+    Decimal {
+        value: from,
+        places: 0,
+        next: at,
+    }
+}
+
+// Whether an exponent is negative, and its size.
+enum Tens {
+    Power(bool, u64),
+    Malformed,
+}
+
+// The exponent that the rest of the text is; none is 0.
+fn tens_from(t: &[u8], at: usize) -> Tens
+    requires { ⌜ at ≤ length (now t) ⌝ }
+    ensures { λ r. ⌜ TensAt (drop at (now (t .entry))) r ⌝ }
+{
+    if at == t.len() {
+        return Tens::Power(false, 0);
+    }
+    let c = t[at];
+    if (c == b'E') | (c == b'e') {
+        let u = past_sign(t, at + 1);
+        let d = digits_from(t, u, 0, LARGEST);
+        let next = d.next;
+        if (next == t.len()) & (u < t.len()) {
+            return Tens::Power(minus_at(t, at + 1), d.value);
+        }
+    }
+    Tens::Malformed
+}
+
+// The powers of ten that an f64 holds exactly: entry k is 10^k.
+const POWERS: [f64; 23] = [
+    1e0,
+    1e1,
+    1e2,
+    1e3,
+    1e4,
+    1e5,
+    1e6,
+    1e7,
+    1e8,
+    1e9,
+    1e10,
+    1e11,
+    1e12,
+    1e13,
+    1e14,
+    1e15,
+    1e16,
+    1e17,
+    1e18,
+    1e19,
+    1e20,
+    1e21,
+    1e22,
+];
+
+fn power_of_ten(k: usize) -> f64
+    requires { ⌜ k < 23 ⌝ }
+    ensures { λ r. ⌜ worthOf (toBits binary64 r) ≡ finite false (10 ^ k * 2 ^ 1074) ⌝ }
+{
+    POWERS[k]
+}
+
+// The number with its sign, which zero has too.
+fn exact(neg: bool, m: u64) -> f64
+    requires { ⌜ m < 1000000000000000 ⌝ }
+    ensures { λ r. ⌜ worthOf (toBits binary64 r) ≡ finite neg (m * 2 ^ 1074) ⌝ }
+{
+    let x = m as f64;
+    if neg {
+        return -x;
+    }
+    x
+}
+
+fn raised(neg: bool, m: u64, k: usize) -> f64
+    requires { ⌜ (m < 1000000000000000) × (k < 23) ⌝ }
+    ensures { λ r. ⌜ toBits binary64 r ≡ signed neg (near (m * 10 ^ k) 1) ⌝ }
+{
+    nearest::times(exact(neg, m), power_of_ten(k))
+}
+
+fn lowered(neg: bool, m: u64, k: usize) -> f64
+    requires { ⌜ (m < 1000000000000000) × (k < 23) ⌝ }
+    ensures { λ r. ⌜ toBits binary64 r ≡ signed neg (near m (10 ^ k)) ⌝ }
+{
+    nearest::over(exact(neg, m), power_of_ten(k))
+}
+
+// The answer for a real with m, f fraction digits and an exponent x, negative if `down`.
+fn in_class(neg: bool, m: u64, f: usize, down: bool, x: u64) -> Real
+    requires { ⌜ f < 2 ^ 63 ⌝ }
+    ensures { λ r. ⌜ ClassOf neg m f down x r ⌝ }
+{
+    if MOST <= m {
+        return Real::Outside;
+    }
+    let k = x as usize;
+    if down {
+        if k <= 22 {
+            if f <= 22 - k {
+                return Real::Value(lowered(neg, m, k + f));
+            }
+        }
+        return Real::Outside;
+    }
+    if f <= k {
+        if k - f <= 22 {
+            return Real::Value(raised(neg, m, k - f));
+        }
+        return Real::Outside;
+    }
+    if f - k <= 22 {
+        return Real::Value(lowered(neg, m, f - k));
+    }
+    Real::Outside
+}
+
+// Reads a real.
+pub fn parse_real(t: &[u8]) -> Real
+    ensures { λ r. ⌜ toldReal r ≡ realOf (now (t .entry)) ⌝ }
+{
+    let neg = minus_at(t, 0);
+    let a = past_sign(t, 0);
+    let w = digits_from(t, a, 0, MOST);
+    let point = w.next;
+    let d = fraction_from(t, point, w.value);
+    if (point == a) & (d.places == 0) {
+        return Real::NotReal;
+    }
+    let Tens::Power(down, x) = tens_from(t, d.next) else {
+        return Real::NotReal;
+    };
+    in_class(neg, d.value, d.places, down, x)
+}
