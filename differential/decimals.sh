@@ -1,0 +1,79 @@
+#!/bin/sh
+# Compares the program `decimals` with Rust's own reading of decimals, byte for byte, on all streams.
+#
+#   decimals.sh DECIMALS_PROGRAM [WORK_FOLDER]
+#   decimals.sh replay FOLDER       writes the chosen list as FOLDER/stdin, and Rust's answers to it as FOLDER/stdout
+#
+# Environment: STREAMS (default: chosen exhaustive class ties edges outside malformed), COUNT (decimals of `class`, 600000; of
+# `ties` half of it, of `edges`, `outside` and `malformed` a sixth), SEED (1).
+# The last line is `differences N`; the exit status is 0 where N is 0.
+set -eu
+[ $# -ge 1 ] || { sed -n '2,9s/^# \{0,1\}//p' "$0" >&2; exit 2; }
+here=$(CDPATH='' cd -- "$(dirname -- "$0")" && pwd)
+export PYTHONDONTWRITEBYTECODE=1
+make="python3 $here/decimals.py"
+if [ "$1" != replay ] && [ $# -ge 2 ]; then
+    mkdir -p "$2"
+    work=$(CDPATH='' cd -- "$2" && pwd)
+else
+    work=$(mktemp -d)
+    trap 'rm -rf "$work"' EXIT
+    trap 'exit 130' INT TERM
+fi
+rustc --edition 2021 -C opt-level=3 -o "$work/oracle" "$here/decimals.rs"
+
+# How often each answer stands in a file.
+tally() { # tally FILE
+    awk '{ n[$0 ~ /^[0-9a-f]+$/ && length($0) == 16 ? "value" : $0]++ }
+        END { printf "value %d, 12 %d, 13 %d, too long %d", n["value"], n["12"], n["13"], n["too long for this program"] }' "$1"
+}
+
+if [ "$1" = replay ]; then
+    [ $# -eq 2 ] || { sed -n '2,9s/^# \{0,1\}//p' "$0" >&2; exit 2; }
+    mkdir -p "$2"
+    $make chosen >"$2/stdin"
+    "$work/oracle" <"$2/stdin" >"$2/stdout"
+    if grep '^Rust ' "$2/stdout" >&2; then exit 1; fi
+    echo "chosen: $(wc -l <"$2/stdout") decimals, $(wc -c <"$2/stdin") bytes: $(tally "$2/stdout")"
+    exit 0
+fi
+
+program=$(CDPATH='' cd -- "$(dirname -- "$1")" && pwd)/$(basename -- "$1")
+[ -x "$program" ] || { echo "decimals.sh: $1 is no executable" >&2; exit 2; }
+count=${COUNT:-600000}
+seed=${SEED:-1}
+decimals=0
+differences=0
+for stream in ${STREAMS:-chosen exhaustive class ties edges outside malformed}; do
+    case $stream in
+    chosen | exhaustive) $make "$stream" ;;
+    class) $make class "$count" "$seed" ;;
+    ties) $make ties $((count / 2)) "$seed" ;;
+    *) $make "$stream" $((count / 6)) "$seed" ;;
+    esac >"$work/stream"
+    "$work/oracle" <"$work/stream" >"$work/expected"
+    status=0
+    "$program" <"$work/stream" >"$work/actual" || status=$?
+    [ "$status" -eq 0 ] || echo "$stream: the program ended with status $status" >&2
+    made=$(wc -l <"$work/expected")
+    differing=0
+    if ! cmp -s "$work/expected" "$work/actual"; then
+        # as strings: awk would take two of these lines for numbers and round them
+        paste "$work/expected" "$work/actual" | awk -F '\t' '$1 "" != $2 "" { print NR }' >"$work/lines"
+        differing=$(wc -l <"$work/lines")
+        at=$(head -n 1 "$work/lines")
+        [ "$differing" -gt 0 ] || differing=1
+        echo "$stream: the first difference is at line ${at:-?}:"
+        if [ -n "$at" ]; then
+            for part in stream expected actual; do
+                echo "  $part: $(sed -n "${at}p" "$work/$part" | cut -c 1-200 | cat -v)"
+            done
+        fi
+    fi
+    echo "$stream: decimals $made differences $differing | $(tally "$work/expected")"
+    decimals=$((decimals + made))
+    differences=$((differences + differing))
+done
+echo "decimals $decimals"
+echo "differences $differences"
+[ "$differences" -eq 0 ]
