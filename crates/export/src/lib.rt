@@ -1,4 +1,7 @@
 // The scan for hosts in other languages: slices and numbers only. Used by the benchmarks; a load node's interface grows here.
+mod real;
+
+pub use real::hooflift_real;
 ghost use mathlib.Core.Path.{_≡_};
 ghost use Prim.Native.Nat.{_/_, min};
 ghost use lib.ListN.{length};

@@ -1,0 +1,14 @@
+-- A real's answer as plain numbers, for a host in another language.
+-- Assumes nothing.
+use Prim.Native.Nat.{ℕ}
+use Rattle.reals.specs.Scalar.{Answer, read, refused}
+
+-- 0, or the number of the refusal
+abbrev pub realCode : Answer ℕ → ℕ
+realCode (read b) = 0
+realCode (refused n) = n
+
+-- the bit pattern, or what stood there
+abbrev pub realBits : Answer ℕ → ℕ → ℕ
+realBits (read b) old = b
+realBits (refused n) old = old
