@@ -37,7 +37,7 @@ worthOf p =
 abbrev pub quiet : ℕ
 quiet = infinity + 2 ^ 51
 
--- IEEE 754, 6.1 and 7.2: a product is negative where one factor is; infinity times zero is no number
+-- IEEE 754, 6.3, 6.1 and 7.2: a product is negative where exactly one factor is; infinity times zero is no number
 abbrev pub timesOf : Worth → Worth → ℕ
 timesOf none y = quiet
 timesOf (infinite s) none = quiet

@@ -1,6 +1,6 @@
 -- Document 01, 'Parameters': reals, integers and references as rules that name no loop: a rule speaks of a list of bytes and of the parts it is put together
 -- from. The byte `#` is 35, `+` is 43, `-` is 45, `.` is 46, `E` is 69 and `e` is 101.
--- FormRight.antt shows that Scalar.antt computes just this, and that there is no other answer. Assumes nothing.
+-- FormRight.antt and WholeRight.antt show that Scalar.antt computes just this, and that there is no other answer. Assumes nothing.
 use Prim.Native.Nat.{ℕ, _+_, _*_, _^_, _≤_, _<_}
 use mathlib.Core.Path.{_≡_}
 use mathlib.Core.Logic.{_⊎_}

@@ -1,4 +1,5 @@
 pub mod Scalar
+pub mod Only
 pub mod Parts
 pub mod Table
 pub mod Class

@@ -1,5 +1,5 @@
--- Document 01, 'Parameters': reals, computed from a trimmed parameter's bytes. Form.antt has the same as rules, and FormRight.antt
--- that the two are one. Assumes nothing.
+-- Document 01, 'Parameters': reals, integers and references, computed from a trimmed parameter's bytes. Form.antt has the same as
+-- rules, and FormRight.antt and WholeRight.antt that the two are one. Assumes nothing.
 use Prim.Native.Nat.{ℕ, _+_, _*_, _-_, _^_, _≤_, _<_, min}
 use mathlib.Core.Path.{_≡_}
 use mathlib.Core.Bool.{Bool, true, false, _&&_, _||_}
@@ -164,7 +164,7 @@ pub record DecimalAt (t : List ℕ) (at from : ℕ) (r : Decimal) : Type 0 where
   pub within : r .next ≤ length t
   pub short : r .places ≤ length t
 
--- the largest exponent that is held as itself
+-- the largest number that is held as itself; it stands for all above it
 abbrev pub largest : ℕ
 largest = 2 ^ 64 - 1
 
