@@ -1,10 +1,10 @@
 -- RFC 3629: which numbers are characters, their encoding (section 3's table), and the character that a list of bytes begins with,
 -- computed. Table.antt has section 4's table of byte sequences as rules. Assumes nothing.
-use Prim.Native.Nat.{ℕ, _+_, _*_, _-_, _/_, _%_}
+use Prim.Native.Nat.{ℕ, zero, suc, _+_, _*_, _-_, _/_, _%_}
 use mathlib.Core.Bool.{Bool, true, false, _&&_, _||_}
 use mathlib.Core.List.{List, [], _∷_, _++_}
 use lib.Dec.{eqb, leb, ltb}
-use lib.ListN.{getD}
+use lib.ListN.{length, take, drop, getD}
 use Rattle.lex.specs.Byte.{pick}
 
 -- "UTF-8 encodes characters from the U+0000..U+10FFFF range"; "prohibits encoding character numbers between U+D800 and U+DFFF"
@@ -46,10 +46,29 @@ pub data Lead : Type 0 where
 abbrev pub tail : ℕ → Bool
 tail b = leb 128 b && leb b 191
 
--- the second byte's range, which section 4 narrows after E0 (no longer form than needed), ED (no surrogate), F0 (as E0) and F4
--- (nothing above 10FFFF)
+-- the least second byte: after E0 and F0 no longer form than needed
+abbrev pub lowest : ℕ → ℕ
+lowest a = pick (eqb a 224) 160 (pick (eqb a 240) 144 128)
+
+-- the greatest second byte: after ED no surrogate, after F4 nothing above 10FFFF
+abbrev pub highest : ℕ → ℕ
+highest a = pick (eqb a 237) 159 (pick (eqb a 244) 143 191)
+
+-- the second byte's range, which section 4 narrows after E0, ED, F0 and F4
 abbrev pub second : ℕ → ℕ → Bool
-second a b = leb (pick (eqb a 224) 160 (pick (eqb a 240) 144 128)) b && leb b (pick (eqb a 237) 159 (pick (eqb a 244) 143 191))
+second a b = leb (lowest a) b && leb b (highest a)
+
+-- two bytes: the character, or no sequence where the second byte is no tail
+abbrev pub leadTwo : ℕ → ℕ → Lead
+leadTwo a b = pick (tail b) (valid ((a - 192) * 64 + (b - 128)) 2) invalid
+
+-- three bytes: the second in its narrowed range
+abbrev pub leadThree : ℕ → ℕ → ℕ → Lead
+leadThree a b c = pick (second a b && tail c) (valid ((a - 224) * 4096 + (b - 128) * 64 + (c - 128)) 3) invalid
+
+-- four bytes: the second in its narrowed range
+abbrev pub leadFour : ℕ → ℕ → ℕ → ℕ → Lead
+leadFour a b c d = pick (second a b && tail c && tail d) (valid ((a - 240) * 262144 + (b - 128) * 4096 + (c - 128) * 64 + (d - 128)) 4) invalid
 
 -- the sequence that a list of bytes begins with: its first byte tells its length
 unfoldable pub leadOf : List ℕ → Lead
@@ -59,17 +78,45 @@ leadOf s =
     (valid (byteAt s 0) 1)
     (pick
     (leb 194 (byteAt s 0) && leb (byteAt s 0) 223)
-    (pick (tail (byteAt s 1)) (valid ((byteAt s 0 - 192) * 64 + (byteAt s 1 - 128)) 2) invalid)
+    (leadTwo (byteAt s 0) (byteAt s 1))
     (pick
     (leb 224 (byteAt s 0) && leb (byteAt s 0) 239)
-    (pick
-    (second (byteAt s 0) (byteAt s 1) && tail (byteAt s 2))
-    (valid ((byteAt s 0 - 224) * 4096 + (byteAt s 1 - 128) * 64 + (byteAt s 2 - 128)) 3)
-    invalid)
+    (leadThree (byteAt s 0) (byteAt s 1) (byteAt s 2))
     (pick
     (leb 240 (byteAt s 0) && leb (byteAt s 0) 244)
-    (pick
-    (second (byteAt s 0) (byteAt s 1) && tail (byteAt s 2) && tail (byteAt s 3))
-    (valid ((byteAt s 0 - 240) * 262144 + (byteAt s 1 - 128) * 4096 + (byteAt s 2 - 128) * 64 + (byteAt s 3 - 128)) 4)
-    invalid)
+    (leadFour (byteAt s 0) (byteAt s 1) (byteAt s 2) (byteAt s 3))
     invalid)))
+
+-- the number of the character that bytes begin with, 0 where there is none
+abbrev pub codeOfLead : Lead → ℕ
+codeOfLead (valid c n) = c
+codeOfLead invalid = 0
+
+-- in how many bytes, 0 where there is none
+abbrev pub usedOfLead : Lead → ℕ
+usedOfLead (valid c n) = n
+usedOfLead invalid = 0
+
+-- an encoding put into a room at a place, where it fits; the room as it is where it does not
+unfoldable pub putAt : ℕ → List ℕ → List ℕ → List ℕ
+putAt at e o = pick (leb (at + length e) (length o)) (take at o ++ e ++ drop (at + length e) o) o
+
+-- how many bytes were put
+unfoldable pub putWidth : ℕ → List ℕ → List ℕ → ℕ
+putWidth at e o = pick (leb (at + length e) (length o)) (length e) 0
+
+-- what follows a character: the rest of its bytes are passed over, and no sequence ends all
+abbrev pub onward : Lead → (ℕ → Bool) → Bool
+onward (valid c n) k = k (n - 1)
+onward invalid k = false
+
+-- the bytes are one valid sequence after another, once so many are passed over that belong to one already begun
+unfoldable pub validFrom : List ℕ → ℕ → Bool
+validFrom [] zero = true
+validFrom [] (suc n) = false
+validFrom (b ∷ r) zero = onward (leadOf (b ∷ r)) (λ n. validFrom r n)
+validFrom (b ∷ r) (suc n) = validFrom r n
+
+-- "UTF8-octets = *( UTF8-char )": the bytes are one valid sequence after another
+abbrev pub validOf : List ℕ → Bool
+validOf s = validFrom s 0
