@@ -2,17 +2,16 @@
 -- the theorems of Agree.antt cite. Assumes nothing.
 use Prim.Native.Nat.{ℕ, zero, suc, _+_, _*_, _-_, _/_, _%_, _≤_, _<_}
 use mathlib.Core.Path.{_≡_, refl, sym, _∙_, ap}
-use mathlib.Core.Bool.{Bool, true, false, _&&_, _||_}
-use mathlib.Core.List.{List, [], _∷_, _++_}
-use native.Mathlib.Nat.{div-add-mod', mod-lt}
+use mathlib.Core.Bool.{Bool, true, false, _&&_}
+use mathlib.Core.List.{List, [], _∷_}
 use native.Mathlib.Decide.{decLt, decLe}
 use native.Mathlib.Omega.{arith}
-use borrow.Author.Tests.{ltb-true, ltb-false, leb-true, leb-false, lt-ltb, le-ltb, le-leb, lt-leb}
+use borrow.Author.Tests.{ltb-true, leb-true, lt-ltb, le-ltb, le-leb, lt-leb}
 use lib.Dec.{eqb, leb, ltb}
 use lib.ListN.{length, take, drop, getD, length-drop, List·getD-eq-default, drop-of-length-le}
 use lib.Seq.{sets, sets-eq, take-all, drop-drop, getD-drop}
 use Rattle.lex.specs.Byte.{pick}
-use Rattle.utf8.specs.Utf8.{scalar, encode, byteAt, Lead, valid, invalid, tail, lowest, highest, second, leadTwo, leadThree, leadFour, leadOf, codeOfLead, usedOfLead, putAt, putWidth, onward, validFrom, validOf}
+use Rattle.utf8.specs.Utf8.{scalar, encode, byteAt, Lead, valid, invalid, tail, lowest, highest, second, leadTwo, leadThree, leadFour, leadOf, codeOfLead, usedOfLead, putAt, putWidth, validFrom, validOf}
 
 -- two tests that hold together
 pub both : (a b : Bool) → a && b ≡ true → (a ≡ true) × (b ≡ true)

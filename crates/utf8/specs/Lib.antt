@@ -1,2 +1,5 @@
 pub mod Utf8
 pub mod Laws
+pub mod Table
+pub mod Agree
+pub mod Examples
