@@ -46,6 +46,7 @@ fn byte_at(bytes: &[u8], k: usize) -> u32
     }
 }
 
+// `UTF8-tail = %x80-BF`.
 fn is_tail(b: u32) -> bool
     ensures { λ r. ⌜ r ≡ tail b ⌝ }
 {
@@ -85,12 +86,14 @@ fn is_second(a: u32, b: u32) -> bool
     (lowest_second(a) <= b) & (b <= highest_second(a))
 }
 
+// No valid sequence.
 fn nothing() -> Character
     ensures { λ r. ⌜ (r .code ≡ 0) × (r .used ≡ 0) ⌝ }
 {
     Character { code: 0, used: 0 }
 }
 
+// The character of two bytes, whose first is C2 to DF.
 fn two(a: u32, b: u32) -> Character
     requires { ⌜ (194 ≤ a) × (a ≤ 223) ⌝ }
     ensures { λ r. ⌜ (r .code ≡ codeOfLead (leadTwo a b)) × (r .used ≡ usedOfLead (leadTwo a b)) ⌝ }
@@ -104,6 +107,7 @@ fn two(a: u32, b: u32) -> Character
     nothing()
 }
 
+// The character of three bytes, whose first is E0 to EF.
 fn three(a: u32, b: u32, c: u32) -> Character
     requires { ⌜ (224 ≤ a) × (a ≤ 239) ⌝ }
     ensures { λ r. ⌜ (r .code ≡ codeOfLead (leadThree a b c)) × (r .used ≡ usedOfLead (leadThree a b c)) ⌝ }
@@ -117,6 +121,7 @@ fn three(a: u32, b: u32, c: u32) -> Character
     nothing()
 }
 
+// The character of four bytes, whose first is F0 to F4.
 fn four(a: u32, b: u32, c: u32, d: u32) -> Character
     requires { ⌜ (240 ≤ a) × (a ≤ 244) ⌝ }
     ensures { λ r. ⌜ (r .code ≡ codeOfLead (leadFour a b c d)) × (r .used ≡ usedOfLead (leadFour a b c d)) ⌝ }
@@ -150,6 +155,7 @@ pub fn sequence(bytes: &[u8]) -> Character
     nothing()
 }
 
+// Stores the table's first line: the number itself.
 fn put_one(out: &mut [u8], at: usize, code: u32)
     requires { ⌜ (at + 1 ≤ length (now out)) × (code < 128) ⌝ }
     ensures { λ _. ⌜ now (out .exit) ≡ sets (now (out .entry)) at (encode code) ⌝ }
@@ -157,6 +163,7 @@ fn put_one(out: &mut [u8], at: usize, code: u32)
     out[at] = code as u8;
 }
 
+// Stores its second line: five bits and six.
 fn put_two(out: &mut [u8], at: usize, code: u32)
     requires { ⌜ (at + 2 ≤ length (now out)) × (128 ≤ code) × (code < 2048) ⌝ }
     ensures { λ _. ⌜ now (out .exit) ≡ sets (now (out .entry)) at (encode code) ⌝ }
@@ -165,6 +172,7 @@ fn put_two(out: &mut [u8], at: usize, code: u32)
     out[at + 1] = (128 + code % 64) as u8;
 }
 
+// Stores its third line: four bits, six and six.
 fn put_three(out: &mut [u8], at: usize, code: u32)
     requires { ⌜ (at + 3 ≤ length (now out)) × (2048 ≤ code) × (code < 65536) × (scalar code ≡ true) ⌝ }
     ensures { λ _. ⌜ now (out .exit) ≡ sets (now (out .entry)) at (encode code) ⌝ }
@@ -174,6 +182,7 @@ fn put_three(out: &mut [u8], at: usize, code: u32)
     out[at + 2] = (128 + code % 64) as u8;
 }
 
+// Stores its fourth line: three bits, six, six and six.
 fn put_four(out: &mut [u8], at: usize, code: u32)
     requires { ⌜ (at + 4 ≤ length (now out)) × (65536 ≤ code) × (code ≤ 1114111) ⌝ }
     ensures { λ _. ⌜ now (out .exit) ≡ sets (now (out .entry)) at (encode code) ⌝ }
