@@ -12,6 +12,7 @@ one : near 1 1 ≡ 0x3ff0_0000_0000_0000
 unfolding near nearUnits size
 one = refl
 
+-- a tenth, whose binary digits go on for ever
 tenth : near 1 10 ≡ 0x3fb9_9999_9999_999a
 unfolding near nearUnits size
 tenth = refl
@@ -21,6 +22,7 @@ tie-down : near (2 ^ 53 + 1) 1 ≡ 0x4340_0000_0000_0000
 unfolding near nearUnits size
 tie-down = refl
 
+-- 2 ^ 53 + 3 lies half way, and goes up to the even pattern
 tie-up : near (2 ^ 53 + 3) 1 ≡ 0x4340_0000_0000_0002
 unfolding near nearUnits size
 tie-up = refl
@@ -30,6 +32,7 @@ half-smallest : near 1 (2 ^ 1075) ≡ 0
 unfolding near nearUnits size
 half-smallest = refl
 
+-- three halves of the smallest f64 are a tie, and go up to two of it
 three-halves : near 3 (2 ^ 1075) ≡ 2
 unfolding near nearUnits size
 three-halves = refl
@@ -39,6 +42,7 @@ overflow : near (2 ^ 1024 - 2 ^ 970) 1 ≡ infinity
 unfolding near nearUnits size
 overflow = refl
 
+-- one less than half way past the largest f64 is the largest f64
 largest : near (2 ^ 1024 - 2 ^ 970 - 1) 1 ≡ infinity - 1
 unfolding near nearUnits size
 largest = refl
@@ -48,14 +52,17 @@ minus-zero : product (2 ^ 63) 0x3ff0_0000_0000_0000 ≡ 2 ^ 63
 unfolding worthOf unitsOf near nearUnits size
 minus-zero = refl
 
+-- infinity times 0 is no number
 infinity-zero : product infinity 0 ≡ quiet
 unfolding worthOf unitsOf
 infinity-zero = refl
 
+-- 0 by 0 is no number
 zero-zero : quotient 0 0 ≡ quiet
 unfolding worthOf unitsOf
 zero-zero = refl
 
+-- 1 by -0 is negative infinity
 one-zero : quotient 0x3ff0_0000_0000_0000 (2 ^ 63) ≡ 2 ^ 63 + infinity
 unfolding worthOf unitsOf
 one-zero = refl
@@ -65,6 +72,7 @@ nano : product (near 1000 1) (near 1 1000000000) ≡ 0x3eb0_c6f7_a0b5_ed8e
 unfolding worthOf unitsOf near nearUnits size
 nano = refl
 
+-- rounded once from decimals the last digit is another
 nano-once : near 1 1000000 ≡ 0x3eb0_c6f7_a0b5_ed8d
 unfolding near nearUnits size
 nano-once = refl

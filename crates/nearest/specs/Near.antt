@@ -35,11 +35,13 @@ unfoldable pub near : ℕ → ℕ → ℕ
 near num den = nearUnits (num * 2 ^ 1074) den
 
 -- ---- what `compare` says
+-- what each answer of `compare` says of two numbers
 abbrev pub Cmp : Ordering → ℕ → ℕ → Type 0
 Cmp Ordering·lt a b = a < b
 Cmp Ordering·eq a b = a ≡ b
 Cmp Ordering·gt a b = b < a
 
+-- `compare` says so of its arguments
 pub cmp : (a b : ℕ) → Cmp (compare a b) a b
 cmp a b = go (compare a b) (leb→le a b) (nleb→lt a b) (eqb→eq a b) (λ (e : a ≡ b). subst (λ (x : ℕ). T (eqb a x)) e (eqb-refl a))
   where
@@ -58,9 +60,11 @@ module _ (n den b r u : ℕ) (dp : 0 < den) (lo : unitsOf b * den + r ≡ n) (hi
       go (yes l) = inl (l, mul-le-mul-right den (units-le c b l))
       go (no k) = let l : suc b ≤ c = omega arith in inr (mul-le-mul-right den (units-le (suc b) c l))
 
+  -- a pattern below the one is worth less
   lower : (c : ℕ) → c ≤ b → (c ≡ b → ⊥) → unitsOf c * den < unitsOf b * den
   lower c l ne = mul-lt-mul-of-pos-right (units-lt c b (lt-of-le-ne l ne)) dp
 
+  -- a pattern above the other is worth more
   upper : (c : ℕ) → suc b ≤ c → (c ≡ suc b → ⊥) → unitsOf (suc b) * den < unitsOf c * den
   upper c l ne = let m : suc b < c = omega arith in mul-lt-mul-of-pos-right (units-lt (suc b) c m) dp
 
@@ -68,9 +72,11 @@ module _ (n den b r u : ℕ) (dp : 0 < den) (lo : unitsOf b * den + r ≡ n) (hi
   far-down : (v w x : ℕ) → v + r ≡ n → w ≡ v + u → x ≤ v → gap v n ≤ gap x n
   far-down v w x p q l = omega arith
 
+  -- where r is at most half of u, a number from w on is no closer than v
   far-up : (v w x : ℕ) → v + r ≡ n → w ≡ v + u → w ≤ x → r * 2 ≤ u → gap v n ≤ gap x n
   far-up v w x p q l h = omega arith
 
+  -- where r is at most half of u, and b even if it is just half, b is the nearest
   near-down : r * 2 ≤ u → (r * 2 ≡ u → b % 2 ≡ 0) → NearestTo n den b
   near-down h t = record {
     pattern = omega arith;
@@ -92,6 +98,7 @@ module _ (n den b r u : ℕ) (dp : 0 < den) (lo : unitsOf b * den + r ≡ n) (hi
       tie c ne e (inl s) = absurd (less (unitsOf b * den) (unitsOf c * den) lo (lower c (s .0) ne) e)
       tie c ne e (inr s) = t (level (unitsOf b * den) (unitsOf (suc b) * den) (unitsOf c * den) lo hi s e)
 
+  -- where r is at least half of u, and the next pattern even if it is just half, that one is the nearest
   near-up : u ≤ r * 2 → (r * 2 ≡ u → suc b % 2 ≡ 0) → NearestTo n den (suc b)
   near-up h t = record {
     pattern = fit;
@@ -122,6 +129,7 @@ module _ (n den b r u : ℕ) (dp : 0 < den) (lo : unitsOf b * den + r ≡ n) (hi
           absurd (more (unitsOf b * den) (unitsOf (suc b) * den) (unitsOf c * den) lo hi (upper c l ne) e)
 
 -- ---- at infinity's pattern or past it, infinity's is the nearest
+-- what is worth infinity's pattern or more is nearest to infinity
 past : (n den : ℕ) → unitsOf infinity * den ≤ n → NearestTo n den infinity
 past n den h = record {
   pattern = omega arith;
@@ -133,9 +141,11 @@ past n den h = record {
     far v x l k = omega arith
 
 -- ---- the law of the digits
+-- what is dropped does not change whether a pattern is even
 even-sum : (k q : ℕ) → q % 2 ≡ 0 → (k * 2 ^ 52 + q) % 2 ≡ 0
 even-sum k q e = omega arith
 
+-- one more than what is kept is kept too, the carry included
 kept-suc : (k q : ℕ) → q < 2 ^ 53 → (k ≡ 0) ⊎ (2 ^ 52 ≤ q) → Kept k (suc q)
 kept-suc k q h l = record { most = omega arith; leads = go l }
   where
@@ -144,12 +154,14 @@ kept-suc k q h l = record { most = omega arith; leads = go l }
     go (inr m) = inr (omega arith)
 
 module _ (n den k q r : ℕ) (dp : 0 < den) (split : q * (den * 2 ^ k) + r ≡ n) (rl : r < den * 2 ^ k) (qk : q < 2 ^ 53) (lead : (k ≡ 0) ⊎ (2 ^ 52 ≤ q)) where
+  -- the pattern with q kept is worth q times the divisor
   here : unitsOf (k * 2 ^ 52 + q) * den ≡ q * (den * 2 ^ k)
   here =
       ap (λ (x : ℕ). x * den) (units-kept k q (record { most = le-of-lt qk; leads = lead }))
       ∙ mul-assoc q (2 ^ k) den
       ∙ ap (λ (x : ℕ). q * x) (mul-comm (2 ^ k) den)
 
+  -- the next pattern is worth one divisor more
   next : unitsOf (suc (k * 2 ^ 52 + q)) * den ≡ unitsOf (k * 2 ^ 52 + q) * den + den * 2 ^ k
   next =
       let i : suc (k * 2 ^ 52 + q) ≡ k * 2 ^ 52 + suc q = omega arith in
@@ -160,9 +172,11 @@ module _ (n den k q r : ℕ) (dp : 0 < den) (split : q * (den * 2 ^ k) + r ≡ n
       ∙ suc-mul q (den * 2 ^ k)
       ∙ ap (λ (x : ℕ). x + den * 2 ^ k) (sym here)
 
+  -- n lies r above the pattern with q kept
   lo : unitsOf (k * 2 ^ 52 + q) * den + r ≡ n
   lo = ap (λ (x : ℕ). x + r) here ∙ split
 
+  -- by how twice r compares with the divisor, q or the next is the nearest
   at-order : (o : Ordering) → Cmp o (r * 2) (den * 2 ^ k) → suc (k * 2 ^ 52 + q) ≤ infinity → NearestTo n den (min infinity (k * 2 ^ 52 + nearest q o))
   at-order Ordering·lt c f =
       let e : min infinity (k * 2 ^ 52 + q) ≡ k * 2 ^ 52 + q = omega arith in
@@ -197,6 +211,7 @@ module _ (n den k q r : ℕ) (dp : 0 < den) (split : q * (den * 2 ^ k) + r ≡ n
       never : (x y : ℕ) → y < x → x ≡ y → ⊥
       never x y l e = omega arith
 
+  -- what q is rounded to is not below q
   nearest-ge : (o : Ordering) → q ≤ nearest q o
   nearest-ge Ordering·lt = omega arith
   nearest-ge Ordering·eq = omega arith
@@ -219,6 +234,7 @@ module _ (n den k q r : ℕ) (dp : 0 < den) (split : q * (den * 2 ^ k) + r ≡ n
           (past n den (up-to (unitsOf infinity) (unitsOf (k * 2 ^ 52 + q)) n (mul-le-mul-right den (units-le infinity (k * 2 ^ 52 + q) i)) lo))
 
 -- ---- the digits that `near` keeps
+-- of z digits, more than 53, the dropped ones and 52 more are fewer than z
 spare : (z : ℕ) → 0 < z - 53 → 52 + (z - 53) < z
 spare z h = omega arith
 
@@ -233,6 +249,7 @@ lead-kept w = go (eq-zero-or-pos (size w - 53))
         (le-div-iff-mul-le (pow-pos (size w - 53)) .1
         (subst (λ (x : ℕ). x ≤ w) (pow-add 2 52 (size w - 53)) (size-reaches w (52 + (size w - 53)) (spare (size w) p))))
 
+-- what is computed is the nearest pattern, in units
 nearUnits-is : (n den : ℕ) → 0 < den → NearestTo n den (nearUnits n den)
 unfolding nearUnits
 nearUnits-is n den dp =
@@ -244,10 +261,12 @@ nearUnits-is n den dp =
     (subst (λ (x : ℕ). (k ≡ 0) ⊎ (2 ^ 52 ≤ x)) (sym e) (lead-kept (n / den)))
 
 -- ---- the theorems
+-- what is computed is the nearest pattern
 pub near-is : (num den : ℕ) → 0 < den → IsNearest num den (near num den)
 unfolding near
 near-is num den dp = nearUnits-is (num * 2 ^ 1074) den dp
 
+-- and there is no other
 pub near-only : (num den b : ℕ) → 0 < den → IsNearest num den b → b ≡ near num den
 near-only num den b dp h = nearest-only (num * 2 ^ 1074) den dp b (near num den) h (near-is num den dp)
 

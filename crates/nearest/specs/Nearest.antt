@@ -23,10 +23,12 @@ IsNearest num den b = NearestTo (num * 2 ^ 1074) den b
 between : (a b m n : ℕ) → a < m → m < b → gap a n ≡ gap b n → gap a n ≤ gap m n → ⊥
 between a b m n h k e l = omega arith
 
+-- two even numbers have a number between them
 two-apart : (b c : ℕ) → b % 2 ≡ 0 → c % 2 ≡ 0 → b < c → suc b < c
 two-apart b c e f l = omega arith
 
 module _ (n den : ℕ) (dp : 0 < den) where
+  -- of two different patterns one is not the nearest
   no-two : (b c : ℕ) → NearestTo n den b → NearestTo n den c → b < c → ⊥
   no-two b c p q l =
       let x : gap (unitsOf b * den) n ≤ gap (unitsOf c * den) n = p .closest c (q .pattern) in

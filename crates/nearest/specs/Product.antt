@@ -25,6 +25,7 @@ pub data Worth : Type 0 where
   infinite : Bool → Worth
   finite : Bool → ℕ → Worth
 
+-- the sign is the highest of the 64 bits
 abbrev pub negative : ℕ → Bool
 negative p = leb (2 ^ 63) p
 
@@ -57,18 +58,22 @@ overOf (finite s a) none = quiet
 overOf (finite s a) (infinite t) = signed (unlike s t) 0
 overOf (finite s a) (finite t b) = cond (eqb b 0) (cond (eqb a 0) quiet (signed (unlike s t) infinity)) (signed (unlike s t) (near a b))
 
+-- the pattern of a product, by what the two patterns stand for
 abbrev pub product : ℕ → ℕ → ℕ
 product p q = timesOf (worthOf p) (worthOf q)
 
+-- the pattern of a quotient, by what the two patterns stand for
 abbrev pub quotient : ℕ → ℕ → ℕ
 quotient p q = overOf (worthOf p) (worthOf q)
 
 -- ---- a value and what its pattern stands for
+-- the language's value and what a pattern stands for are the same number, infinity or no number
 data Like : Float → Worth → Type 0 where
   like-nan : Like nan none
   like-inf : {s : Bool} → Like (inf s) (infinite s)
   like-fin : {s : Bool} {m : ℕ} {e : ℤ} {a : ℕ} → m * up e * 2 ^ 1074 ≡ a * down e → Like (fin s m e) (finite s a)
 
+-- a value of a units in size stands for a units
 of-value : (x : Float) (s : Bool) (a : ℕ) → HasValue x s a (2 ^ 1074) → Like x (finite s a)
 of-value nan s a h = absurd h
 of-value (inf t) s a h = absurd h
@@ -100,6 +105,7 @@ like-fields s r (suc x) t e f l = go (decLt r infinity)
             let z : suc t ≡ 0 → ⊥ = λ k. omega arith in
             rw (ne-eqb r infinity j, ne-eqb (suc t) 0 z) like-nan
 
+-- the value that is read from a pattern is what the pattern stands for
 like-bits : (p : ℕ) → Like (ofBits binary64 p) (worthOf p)
 unfolding ofBits worthOf
 like-bits p =
@@ -111,6 +117,7 @@ like-own : (x : Float) → T (fits binary64 x) → Like x (worthOf (toBits binar
 like-own x h = subst (λ (y : Float). Like y (worthOf (toBits binary64 x))) (ofBits-toBits binary64 x h) (like-bits (toBits binary64 x))
 
 -- ---- exact values
+-- a number is zero where its units are
 zero-both : (m u a d : ℕ) → 0 < u → 0 < d → m * u * 2 ^ 1074 ≡ a * d → eqb m 0 ≡ eqb a 0
 zero-both m u a d up dp e = go m a e
   where
@@ -133,6 +140,7 @@ zero-both m u a d up dp e = go m a e
         no-zero : (a : ℕ) → suc a ≡ 0 → ⊥
         no-zero a e = omega arith
 
+-- the two middle factors of four change places
 swap-middle : (a b c d : ℕ) → a * b * (c * d) ≡ a * c * (b * d)
 swap-middle a b c d = mul-assoc a b (c * d) ∙ ap (λ (x : ℕ). a * x) (mul-left-comm b c d) ∙ sym (mul-assoc a c (b * d))
 
@@ -154,6 +162,7 @@ ratio x y S a b c d sp e f =
     ∙ ap (λ (z : ℕ). a * z) (sym (mul-assoc c y S) ∙ ap (λ (z : ℕ). z * S) (mul-comm c y))
     ∙ sym (mul-assoc a (y * c) S))
 
+-- the pattern of no number
 toBits-nan : toBits binary64 nan ≡ quiet
 unfolding toBits
 toBits-nan = refl
@@ -162,6 +171,7 @@ toBits-inf : (s : Bool) → toBits binary64 (inf s) ≡ signed s infinity
 unfolding toBits
 toBits-inf s = refl
 
+-- the pattern of a zero with its sign
 toBits-zero : (s : Bool) → toBits binary64 (fin s 0 (pos 0)) ≡ signed s 0
 unfolding toBits
 toBits-zero true = refl
@@ -172,6 +182,7 @@ inf-or-nan : (b c : Bool) (s : Bool) → b ≡ c → toBits binary64 (cond b nan
 inf-or-nan true c s e = rw (← e) toBits-nan
 inf-or-nan false c s e = rw (← e) (toBits-inf s)
 
+-- the language's product of two values is the product of what they stand for
 mul-like : (x y : Float) (a b : Worth) → Like x a → Like y b → toBits binary64 (mul binary64 x y) ≡ timesOf a b
 unfolding mul
 mul-like x y a b like-nan w = toBits-nan
@@ -195,6 +206,7 @@ over-cases : (z w z′ w′ : Bool) (s : Bool) (x : Float) (r : ℕ) → z ≡ z
 over-cases true w z′ w′ s x r e f h = rw (← e) (inf-or-nan w w′ s f)
 over-cases false w z′ w′ s x r e f h = rw (← e) (h (sym e))
 
+-- the language's quotient of two values is the quotient of what they stand for
 div-like : (x y : Float) (a b : Worth) → Like x a → Like y b → toBits binary64 (div binary64 x y) ≡ overOf a b
 unfolding div
 div-like x y a b like-nan w = toBits-nan
@@ -220,13 +232,16 @@ div-like x y a b (like-fin {s = s} {m = m} {e = d} {a = u} f) (like-fin {s = t} 
     not-zero (suc n) e = omega arith
 
 -- ---- the language's `*` and `/`
+-- `*` gives the product's pattern
 pub mul-bits : (x y : Float) → T (fits binary64 x) → T (fits binary64 y) → toBits binary64 (mul binary64 x y) ≡ product (toBits binary64 x) (toBits binary64 y)
 mul-bits x y h k = mul-like x y (worthOf (toBits binary64 x)) (worthOf (toBits binary64 y)) (like-own x h) (like-own y k)
 
+-- `/` gives the quotient's pattern
 pub div-bits : (x y : Float) → T (fits binary64 x) → T (fits binary64 y) → toBits binary64 (div binary64 x y) ≡ quotient (toBits binary64 x) (toBits binary64 y)
 div-bits x y h k = div-like x y (worthOf (toBits binary64 x)) (worthOf (toBits binary64 y)) (like-own x h) (like-own y k)
 
 -- ---- operands that an f64 holds exactly
+-- a value of a units in size is like nothing else than a units
 worth-like : (x : Float) (w : Worth) (s : Bool) (a : ℕ) → Like x w → HasValue x s a (2 ^ 1074) → w ≡ finite s a
 worth-like x w s a like-nan h = absurd h
 worth-like x w s a like-inf h = absurd h
@@ -237,12 +252,14 @@ worth-like x w s a (like-fin {s = t} {m = m} {e = e} {a = b} f) h =
 pub worth-value : (x : Float) (s : Bool) (a : ℕ) → T (fits binary64 x) → HasValue x s a (2 ^ 1074) → worthOf (toBits binary64 x) ≡ finite s a
 worth-value x s a h v = worth-like x (worthOf (toBits binary64 x)) s a (like-own x h) v
 
+-- a whole number n is n times 2 ^ 1074 units
 in-units : (x : Float) (s : Bool) (n : ℕ) → HasValue x s n 1 → HasValue x s (n * 2 ^ 1074) (2 ^ 1074)
 in-units nan s n h = h
 in-units (inf t) s n h = h
 in-units (fin t m e) s n h =
     (h .0, ap (λ (x : ℕ). x * 2 ^ 1074) (sym (mul-one (m * up e)) ∙ h .1) ∙ mul-right-comm n (down e) (2 ^ 1074))
 
+-- the negative of a value has its size
 minus-value : (x : Float) (a c : ℕ) → HasValue x false a c → HasValue (neg x) true a c
 unfolding neg
 minus-value nan a c h = h
@@ -254,12 +271,14 @@ pub worth-whole : (m : ℕ) → m ≤ 2 ^ 53 → worthOf (toBits binary64 (ofInt
 unfolding ofInt
 worth-whole m h = worth-value (round binary64 false m 1) false (m * 2 ^ 1074) (ofInt-fits binary64 (pos m)) (in-units (round binary64 false m 1) false m (round-whole binary64 false m h))
 
+-- the negative of a whole number up to 2 ^ 53, zero's too, is worth it exactly
 pub worth-minus : (m : ℕ) → m ≤ 2 ^ 53 → worthOf (toBits binary64 (neg (ofInt binary64 (pos m)))) ≡ finite true (m * 2 ^ 1074)
 unfolding ofInt
 worth-minus m h =
     worth-value (neg (round binary64 false m 1)) true (m * 2 ^ 1074) (neg-fits binary64 (round binary64 false m 1) (ofInt-fits binary64 (pos m)))
     (minus-value (round binary64 false m 1) (m * 2 ^ 1074) (2 ^ 1074) (in-units (round binary64 false m 1) false m (round-whole binary64 false m h)))
 
+-- beside a positive operand the other one's sign is the result's
 as-first : (s : Bool) → unlike s false ≡ s
 as-first true = refl
 as-first false = refl
@@ -274,6 +293,7 @@ product-exact p q s a b e f =
     (near-same (a * 2 ^ 1074 * (b * 2 ^ 1074)) (2 ^ 1074 * 2 ^ 1074) (a * b) 1 (mul-pos (pow-pos 1074) (pow-pos 1074)) (pow-pos 0)
     (mul-one (a * 2 ^ 1074 * (b * 2 ^ 1074)) ∙ swap-middle a (2 ^ 1074) b (2 ^ 1074)))
 
+-- the quotient of two whole numbers is the nearest pattern to their fraction
 pub quotient-exact : (p q : ℕ) (s : Bool) (a b : ℕ) → 0 < b → worthOf p ≡ finite s (a * 2 ^ 1074) → worthOf q ≡ finite false (b * 2 ^ 1074) → quotient p q ≡ signed s (near a b)
 quotient-exact p q s a b bp e f =
     let d = b * 2 ^ 1074 in

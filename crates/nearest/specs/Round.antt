@@ -21,9 +21,11 @@ use Rattle.nearest.specs.Near.{near, nearUnits, dropped, lead-kept}
 abbrev pub signed : Bool → ℕ → ℕ
 signed s b = cond s (2 ^ 63) 0 + b
 
+-- powers of two in order have exponents in order
 pow-lt-back : (i p : ℕ) → 2 ^ i < 2 ^ p → i < p
 pow-lt-back i p h = lt-of-not-le (λ (g : p ≤ i). lt-irrefl (2 ^ i) (lt-of-lt-of-le h (pow-mono g)))
 
+-- a number from 2 ^ a up to the next power has a + 1 digits
 size-exact : (a n : ℕ) → 2 ^ a ≤ n → n < 2 ^ suc a → size n ≡ suc a
 size-exact a n l h = le-antisymm (size-le n (suc a) h) (pow-lt-back a (size n) (lt-of-le-of-lt l (size-lt n)))
 
@@ -31,6 +33,7 @@ size-exact a n l h = le-antisymm (size-le n (suc a) h) (pow-lt-back a (size n) (
 abbrev written : ℕ → ℕ → ℕ
 written a z = (z - 53) * 2 ^ 52 + a / 2 ^ (z - 53)
 
+-- k digits dropped and q kept are written as k * 2 ^ 52 + q, the carry included
 written-kept : (k q : ℕ) → Kept k q → written (q * 2 ^ k) (size (q * 2 ^ k)) ≡ k * 2 ^ 52 + q
 written-kept k q h = go (decLt q (2 ^ 52)) (decLt q (2 ^ 53)) (h .leads)
   where
@@ -98,10 +101,12 @@ toBits-value (fin t m e) s a h =
     ∙ add-assoc (cond t (2 ^ 63) 0) ((size a - 53) * 2 ^ 52) (a / 2 ^ (size a - 53))
     ∙ ap (λ (b : Bool). signed b (written a (size a))) (h .0)
 
+-- the pattern of an infinity with its sign
 toBits-inf : (s : Bool) → toBits binary64 (inf s) ≡ signed s infinity
 unfolding toBits
 toBits-inf s = refl
 
+-- infinity's pattern counts as 2 ^ 1024
 worth-infinity : unitsOf infinity ≡ 2 ^ (1074 + 1024)
 unfolding unitsOf
 worth-infinity = refl
@@ -116,6 +121,7 @@ under-infinity k q h l = go (decLt (k * 2 ^ 52 + q) infinity)
         let i : infinity ≤ k * 2 ^ 52 + q = omega arith in
         absurd (lt-irrefl (q * 2 ^ k) (lt-of-lt-of-le l (subst (λ (x : ℕ). x ≤ q * 2 ^ k) worth-infinity (subst (λ (x : ℕ). unitsOf infinity ≤ x) (units-kept k q h) (units-le infinity (k * 2 ^ 52 + q) i)))))
 
+-- what counts as 2 ^ 1024 or more has infinity's pattern or one past it
 over-infinity : (k q : ℕ) → Kept k q → 2 ^ (1074 + 1024) ≤ q * 2 ^ k → infinity ≤ k * 2 ^ 52 + q
 over-infinity k q h l = go (decLt (k * 2 ^ 52 + q) infinity)
   where
@@ -124,6 +130,7 @@ over-infinity k q h l = go (decLt (k * 2 ^ 52 + q) infinity)
     go (yes m) =
         absurd (lt-irrefl (q * 2 ^ k) (lt-of-lt-of-le (subst (λ (x : ℕ). q * 2 ^ k < x) worth-infinity (subst (λ (x : ℕ). x < unitsOf infinity) (units-kept k q h) (units-lt (k * 2 ^ 52 + q) infinity m))) l))
 
+-- what the kit makes of q kept and k dropped has that pattern, infinity's at most
 units-pattern : (s : Bool) (q k : ℕ) → Kept k q → toBits binary64 (units binary64 s q k) ≡ signed s (min infinity (k * 2 ^ 52 + q))
 unfolding units
 units-pattern s q k h = go (ltb (q * 2 ^ k) (2 ^ (1074 + 1024))) (ltb→lt (q * 2 ^ k) (2 ^ (1074 + 1024))) (nltb→le (q * 2 ^ k) (2 ^ (1074 + 1024)))
@@ -141,6 +148,7 @@ units-pattern s q k h = go (ltb (q * 2 ^ k) (2 ^ (1074 + 1024))) (ltb→lt (q * 
         ∙ ap (signed s) (small (k * 2 ^ 52 + q) (under-infinity k q h (l tt)))
     go false l g = toBits-inf s ∙ ap (signed s) (large (k * 2 ^ 52 + q) (over-infinity k q h (g tt)))
 
+-- the digits that `near` keeps are kept in the sense of `Kept`
 kept-near : (n den : ℕ) (o : Ordering) → Kept (dropped n den) (nearest (n / (den * 2 ^ dropped n den)) o)
 kept-near n den o =
     let k = dropped n den in

@@ -22,11 +22,13 @@ order-is Ordering·gt Ordering·lt a b h k = absurd (omega arith)
 order-is Ordering·gt Ordering·eq a b h k = absurd (omega arith)
 order-is Ordering·gt Ordering·gt a b h k = refl
 
+-- two numbers times a third stand in the same order
 scaled-order : (o : Ordering) (a b c : ℕ) → 0 < c → Cmp o a b → Cmp o (a * c) (b * c)
 scaled-order Ordering·lt a b c p h = mul-lt-mul-of-pos-right h p
 scaled-order Ordering·eq a b c p h = ap (λ (x : ℕ). x * c) h
 scaled-order Ordering·gt a b c p h = mul-lt-mul-of-pos-right h p
 
+-- so `compare` gives the same
 compare-scaled : (a b c : ℕ) → 0 < c → compare (a * c) (b * c) ≡ compare a b
 compare-scaled a b c p = order-is (compare (a * c) (b * c)) (compare a b) (a * c) (b * c) (cmp (a * c) (b * c)) (scaled-order (compare a b) a b c p (cmp a b))
 

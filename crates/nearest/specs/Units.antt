@@ -31,10 +31,12 @@ pub record Kept (k q : ℕ) : Type 0 where
   pub most : q ≤ 2 ^ 53
   pub leads : (k ≡ 0) ⊎ (2 ^ 52 ≤ q)
 
+-- what a pattern is worth, by its two fields
 fields : (b x t : ℕ) → b / 2 ^ 52 ≡ x → b % 2 ^ 52 ≡ t → unitsOf b ≡ unitsAt x t
 unfolding unitsOf
 fields b x t e f = ap (λ (y : ℕ). unitsAt y (b % 2 ^ 52)) e ∙ ap (unitsAt x) f
 
+-- the leading digit taken off and put back
 sub-lead : (k q : ℕ) → 2 ^ 52 ≤ q → (2 ^ 52 + (q - 2 ^ 52)) * 2 ^ k ≡ q * 2 ^ k
 sub-lead k q h = let e : 2 ^ 52 + (q - 2 ^ 52) ≡ q = omega arith in ap (λ (y : ℕ). y * 2 ^ k) e
 
@@ -92,6 +94,7 @@ units-lt a (suc b) h = go (decLt a b) (step b) (units-lt a b)
     go (yes l) s r = let t : unitsOf a < unitsOf b = r l in omega arith
     go (no n) s r = let e : a ≡ b = omega arith in subst (λ (x : ℕ). unitsOf x < unitsOf (suc b)) (sym e) s
 
+-- and no pattern is worth less than one below it
 pub units-le : (a b : ℕ) → a ≤ b → unitsOf a ≤ unitsOf b
 units-le a b h = go (eq-or-lt-of-le h)
   where

@@ -12,23 +12,29 @@ use Rattle.nearest.specs.Near.{near, near-same}
 use Rattle.nearest.specs.Round.{signed}
 use Rattle.reals.specs.Scalar.{Answer, read, refused, parsed, classOf, reaches, nearTen, most, largest}
 
+-- a power of ten is positive
 ten-pos : (k : ℕ) → 0 < 10 ^ k
 ten-pos k = one-le-pow k 10 (omega arith)
 
+-- a test that fails makes both fail
 no-and : (a : Bool) → a && false ≡ false
 no-and true = refl
 no-and false = refl
 
 module _ (s : Bool) (m f x M X : ℕ) (a : m ≡ min most M) (b : x ≡ min largest X) where
+  -- m has more than 15 digits: 13
   pub out-long : (d : Bool) → most ≤ m → refused 13 ≡ classOf (parsed s M f d X)
   out-long d h = let l : most ≤ M = omega arith in rw (le-ltb M most l) refl
 
+  -- the exponent is out of reach: 13
   out-far : (d : Bool) → reaches f d X ≡ false → refused 13 ≡ classOf (parsed s M f d X)
   out-far d e = rw (e, no-and (ltb M most)) refl
 
+  -- m has at most 15 digits and the exponent is in reach: the nearest f64
   inside : (d : Bool) (p : ℕ) → m < most → reaches f d X ≡ true → p ≡ signed s (nearTen M f d X) → read p ≡ classOf (parsed s M f d X)
   inside d p h e q = let l : M < most = omega arith in rw (lt-ltb M most l, e) (ap read q)
 
+  -- below its cap m is held as itself
   held : m < most → m ≡ M
   held h = omega arith
 
@@ -39,6 +45,7 @@ module _ (s : Bool) (m f x M X : ℕ) (a : m ≡ min most M) (b : x ≡ min larg
       let z : X + f ≤ 22 = omega arith in
       inside true p h (le-leb (X + f) 22 z) (q ∙ ap (λ (n : ℕ). signed s (near n (10 ^ (x + f)))) (held h) ∙ ap (λ (n : ℕ). signed s (near M (10 ^ (n + f)))) y)
 
+  -- a negative exponent's size and the fraction digits are more than 22: 13
   pub out-down : 22 < x + f → refused 13 ≡ classOf (parsed s M f true X)
   out-down l = let z : 22 < X + f = omega arith in out-far true (lt-leb (X + f) 22 z)
 
@@ -56,6 +63,7 @@ module _ (s : Bool) (m f x M X : ℕ) (a : m ≡ min most M) (b : x ≡ min larg
       ∙ ap (λ (n : ℕ). signed s (near (n * 10 ^ x) (10 ^ f))) (held h)
       ∙ ap (λ (n : ℕ). signed s (near (M * 10 ^ n) (10 ^ f))) y)
 
+  -- the exponent less the fraction is above 22: 13
   pub out-up : f ≤ x → 22 < x - f → refused 13 ≡ classOf (parsed s M f false X)
   out-up g l = let z : f + 22 < X = omega arith in out-far false (rw (lt-leb X (f + 22) z) refl)
 
@@ -73,6 +81,7 @@ module _ (s : Bool) (m f x M X : ℕ) (a : m ≡ min most M) (b : x ≡ min larg
       ∙ ap (λ (n : ℕ). signed s (near (n * 10 ^ x) (10 ^ f))) (held h)
       ∙ ap (λ (n : ℕ). signed s (near (M * 10 ^ n) (10 ^ f))) y)
 
+  -- the exponent less the fraction is below -22: 13
   pub out-mid : f < 2 ^ 63 → x < f → 22 < f - x → refused 13 ≡ classOf (parsed s M f false X)
   out-mid w g l =
       let y : x ≡ X = omega arith in

@@ -58,6 +58,7 @@ abbrev pub over : ℕ → Bool → ℕ → ℕ
 over m false x = m * 10 ^ x
 over m true x = m
 
+-- the fraction's lower side
 abbrev pub under : ℕ → Bool → ℕ → ℕ
 under f false x = 10 ^ f
 under f true x = 10 ^ (x + f)
@@ -76,6 +77,7 @@ abbrev pub Ranged : Bool → ℕ → Type 0
 Ranged false n = n < 2 ^ 63
 Ranged true n = n ≤ 2 ^ 63
 
+-- the integer of a size, negative where true
 abbrev pub valued : Bool → ℕ → ℤ
 valued false n = pos n
 valued true n = negℤ (pos n)
@@ -87,6 +89,7 @@ pub record Integer (t : List ℕ) (s : Bool) (ds : List ℕ) : Type 0 where
   pub some : ds ≡ [] → ⊥
   pub within : Ranged s (valueOf ds)
 
+-- what a text answers: the integer, or 12
 pub data WholeForm : List ℕ → Answer ℤ → Type 0 where
   whole : {t ds : List ℕ} {s : Bool} → Integer t s ds → WholeForm t (read (valued s (valueOf ds)))
   other : {t : List ℕ} → ((s : Bool) (ds : List ℕ) → Integer t s ds → ⊥) → WholeForm t (refused 12)

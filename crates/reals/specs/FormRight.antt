@@ -29,17 +29,20 @@ use Rattle.reals.specs.Form as Form
 abbrev pub Bare : List ℕ → Type 0
 Bare u = (unsigned u ≡ u) × (minus u ≡ false)
 
+-- a byte after `-` is no sign
 bare : (c : ℕ) (r : List ℕ) → 46 ≤ c → Bare (c ∷ r)
 bare c r h =
     let a : c ≡ 43 → ⊥ = λ e. omega arith in
     let b : c ≡ 45 → ⊥ = λ e. omega arith in
     (rw (ne-eqb c 43 a, ne-eqb c 45 b) refl, ne-eqb c 45 b)
 
+-- what follows an optional sign, and the sign, are what is computed
 pub signed-only : (t u : List ℕ) (s : Bool) → Signed t s u → Bare u → (unsigned t ≡ u) × (minus t ≡ s)
 signed-only t u s (unmarked v) h = h
 signed-only t u s (plus v) h = (refl, refl)
 signed-only t u s (Form.minus v) h = (refl, refl)
 
+-- what is computed is an optional sign and what follows it
 pub signed-is : (t : List ℕ) → Signed t (minus t) (unsigned t)
 signed-is [] = unmarked []
 signed-is (c ∷ r) = go (eqb c 43) (eqb c 45) refl refl
@@ -50,10 +53,12 @@ signed-is (c ∷ r) = go (eqb c 43) (eqb c 45) refl refl
     go false true p q = rw (eqb-true c 45 q) (Form.minus r)
     go false false p q = unmarked (c ∷ r)
 
+-- a digit is no sign
 digit-bare : (c : ℕ) (r : List ℕ) → digit c ≡ true → Bare (c ∷ r)
 digit-bare c r h = let k = bounds 48 c 57 h in bare c r (omega arith)
 
 -- ---- the exponent
+-- a byte above `9` is no digit
 not-digit : (c : ℕ) → 57 < c → digit c ≡ false
 not-digit c h = rw (lt-leb c 57 h) (go (leb 48 c))
   where
@@ -61,6 +66,7 @@ not-digit c h = rw (lt-leb c 57 h) (go (leb 48 c))
     go true = refl
     go false = refl
 
+-- `E` and `e` pass the test, and stand above `9`
 letter : (c : ℕ) → (c ≡ 69) ⊎ (c ≡ 101) → (eqb c 69 || eqb c 101 ≡ true) × (57 < c)
 letter c (inl e) = (rw (eq-eqb c 69 e) refl, omega arith)
 letter c (inr e) = (rw (eq-eqb c 101 e) (go (eqb c 69)), omega arith)
@@ -69,20 +75,25 @@ letter c (inr e) = (rw (eq-eqb c 101 e) (go (eqb c 69)), omega arith)
     go true = refl
     go false = refl
 
+-- digits do not begin with a sign
 pub digits-bare : (x : List ℕ) → All digit x → (x ≡ [] → ⊥) → Bare x
 digits-bare [] a n = absurd (n refl)
 digits-bare (c ∷ x) (h, a) n = digit-bare c x h
 
+-- the empty text begins with no digit
 nothing : NotFirst digit []
 nothing c r e = clash (cc)
 
+-- a text that is not empty has a length
 pub some-length : (x : List ℕ) → (x ≡ [] → ⊥) → 0 < length x
 some-length [] n = absurd (n refl)
 some-length (c ∷ x) n = omega arith
 
+-- of digits alone the number is all there is
 pub number-all : (x : List ℕ) → All digit x → numberFrom 0 x ≡ digits (valueOf x) []
 number-all x a = ap (numberFrom 0) (sym (append-nil x)) ∙ number-only x [] record { all = a; over = nothing }
 
+-- the exponent by the rule is the one that is computed
 pub powered-only : (e x : List ℕ) (d : Bool) → Powered e d x → exponentOf e ≡ power d (valueOf x)
 unfolding valueOf
 powered-only e x d powerless = refl
@@ -90,6 +101,7 @@ powered-only e x d (powered c xs y s l g a n) =
     let k = signed-only xs y s g (digits-bare y a n) in
     rw (letter c l .0, k .0, k .1, number-all y a, lt-ltb 0 (length y) (some-length y n)) refl
 
+-- an exponent begins with no digit
 powered-not-first : (e x : List ℕ) (d : Bool) → Powered e d x → NotFirst digit e
 powered-not-first e x d powerless = nothing
 powered-not-first e x d (powered c xs y s l g a n) = first-other digit c xs (not-digit c (letter c l .1))
@@ -146,6 +158,7 @@ value-join (c ∷ w) f =
     ∙ ap (λ (n : ℕ). d * 10 ^ length w * 10 ^ length f + n) (value-join w f)
     ∙ ap (λ (n : ℕ). n + valueOf (w ++ f)) (mul-assoc d (10 ^ length w) (10 ^ length f) ∙ ap (λ (n : ℕ). d * n) (sym e))
 
+-- a point, or what follows where there is none, is no digit
 fraction-first : (p f e : List ℕ) → Fraction p f → NotFirst digit e → NotFirst digit (p ++ e)
 fraction-first p f e pointless h = h
 fraction-first p f e (point g a) h = first-other digit 46 (g ++ e) refl
@@ -158,6 +171,7 @@ after-point n e x d (powered c xs y s l g a m) =
     let q : c ≡ 46 → ⊥ = λ z. omega arith in
     rw (ne-eqb c 46 q) refl
 
+-- the digits after the point, by the rule, are those that are computed
 fraction-only : (w p f e x : List ℕ) (d : Bool) → Fraction p f → Powered e d x → fractionOf (valueOf w) (p ++ e) ≡ mantissa (valueOf (w ++ f)) (length f) e
 fraction-only w p f e x d pointless h = after-point (valueOf w) e x d h ∙ ap (λ (y : List ℕ). mantissa (valueOf y) 0 e) (sym (append-nil w))
 fraction-only w p f e x d (point g a) h =
@@ -209,6 +223,7 @@ written-only {t} {w} {f} {x} {s} {d} r =
 Split : ℕ → List ℕ → Type 0
 Split n r = (p f e : List ℕ) × (r ≡ p ++ e) × Fraction p f × (fractionOf n r .places ≡ length f) × (fractionOf n r .rest ≡ e)
 
+-- every text splits so
 fraction-is : (n : ℕ) (r : List ℕ) → Split n r
 unfolding Split
 fraction-is n [] = ([], [], [], refl, pointless, refl, refl)
@@ -261,14 +276,17 @@ written-is t = at (number-is (unsigned t) (numberFrom 0 (unsigned t) .value) (nu
 ten-pos : (k : ℕ) → 0 < 10 ^ k
 ten-pos k = one-le-pow k 10 (omega arith)
 
+-- the lower side is positive
 under-pos : (f : ℕ) (d : Bool) (x : ℕ) → 0 < under f d x
 under-pos f false x = ten-pos f
 under-pos f true x = ten-pos (x + f)
 
+-- m·10^e computed is the nearest to the fraction
 near-ten : (m f : ℕ) (d : Bool) (x : ℕ) → nearTen m f d x ≡ near (over m d x) (under f d x)
 near-ten m f false x = refl
 near-ten m f true x = refl
 
+-- e is in reach and the test passes, or neither
 reach-is : (f : ℕ) (d : Bool) (x : ℕ) → (Reach f d x × (reaches f d x ≡ true)) ⊎ ((Reach f d x → ⊥) × (reaches f d x ≡ false))
 reach-is f false x = go (decLe x (f + 22)) (decLe f (x + 22))
   where
@@ -282,6 +300,7 @@ reach-is f true x = go (decLe (x + f) 22)
     go (yes a) = inl (a, le-leb (x + f) 22 a)
     go (no a) = let l : 22 < x + f = omega arith in inr (a, lt-leb (x + f) 22 l)
 
+-- a real is of the class and the test passes, or neither
 class-is : (m f : ℕ) (d : Bool) (x : ℕ) → (Classed m f d x × (ltb m (10 ^ 15) && reaches f d x ≡ true)) ⊎ ((Classed m f d x → ⊥) × (ltb m (10 ^ 15) && reaches f d x ≡ false))
 class-is m f d x = go (decLt m (10 ^ 15)) (reach-is f d x)
   where
@@ -291,16 +310,20 @@ class-is m f d x = go (decLt m (10 ^ 15)) (reach-is f d x)
     go (no a) r = let l : 10 ^ 15 ≤ m = omega arith in inr (λ k. a (k .few), rw (le-ltb m (10 ^ 15) l) refl)
 
 -- ---- the theorems
+-- what is written is answered by its class
 real-of : {t w f x : List ℕ} {s d : Bool} → Written t s w f d x → realOf t ≡ classOf (parsed s (valueOf (w ++ f)) (length f) d (valueOf x))
 unfolding realOf
 real-of r = ap classOf (written-only r)
 
+-- a real of the class is answered by the nearest f64
 in-class : (s : Bool) (m f : ℕ) (d : Bool) (x : ℕ) → ltb m (10 ^ 15) && reaches f d x ≡ true → classOf (parsed s m f d x) ≡ read (signed s (near (over m d x) (under f d x)))
 in-class s m f d x e = rw e (ap (λ (b : ℕ). read (signed s b)) (near-ten m f d x))
 
+-- a real outside the class is 13
 out-class : (s : Bool) (m f : ℕ) (d : Bool) (x : ℕ) → ltb m (10 ^ 15) && reaches f d x ≡ false → classOf (parsed s m f d x) ≡ refused 13
 out-class s m f d x e = rw e refl
 
+-- what is no real is 12
 not-parsed : (t : List ℕ) → parseOf t ≡ unparsed → realOf t ≡ refused 12
 unfolding realOf
 not-parsed t e = ap classOf e

@@ -31,6 +31,7 @@ realTold : Answer ℕ → Real
 realTold (read b) = Real.Value (ofBits binary64 b)
 realTold (refused n) = pick (eqb n 13) Outside NotReal
 
+-- it is the answer that was told
 real-back : (a : Real) → RealFits a → realTold (toldReal a) ≡ a
 unfolding realTold
 real-back (Real.Value x) h = ap Real.Value (ofBits-toBits binary64 x h)
@@ -41,10 +42,12 @@ real-back NotReal h = refl
 pub real-told-only : (a b : Real) → RealFits a → RealFits b → toldReal a ≡ toldReal b → a ≡ b
 real-told-only a b h k e = sym (real-back a h) ∙ ap realTold e ∙ real-back b k
 
+-- the answer that tells this integer or refusal
 wholeTold : Answer ℤ → Whole
 wholeTold (read z) = Whole.Value z
 wholeTold (refused n) = NotWhole
 
+-- it is the answer that was told
 whole-back : (a : Whole) → wholeTold (toldWhole a) ≡ a
 unfolding wholeTold
 whole-back (Whole.Value z) = refl
@@ -54,10 +57,12 @@ whole-back NotWhole = refl
 pub whole-told-only : (a b : Whole) → toldWhole a ≡ toldWhole b → a ≡ b
 whole-told-only a b e = sym (whole-back a) ∙ ap wholeTold e ∙ whole-back b
 
+-- the answer that tells this reference or refusal
 referenceTold : Answer ℕ → Reference
 referenceTold (read n) = Reference.Value n
 referenceTold (refused n) = NotReference
 
+-- it is the answer that was told
 reference-back : (a : Reference) → referenceTold (toldReference a) ≡ a
 unfolding referenceTold
 reference-back (Reference.Value n) = refl

@@ -27,12 +27,15 @@ pub record Reading (t : List ℕ) (at from cap value i : ℕ) : Type 0 where
   pub so-far : (n : ℕ) → (k : ℕ) × (numberFrom k (drop i t) ≡ numberFrom n (drop at t)) × (from ≡ min cap n → value ≡ min cap k)
 
 module _ (t : List ℕ) (at from cap : ℕ) where
+  -- before the first digit
   pub reading-starts : at ≤ length t → from ≤ cap → Reading t at from cap from at
   reading-starts h l = record { above = omega arith; within = h; held = l; so-far = λ n. (n, refl, λ e. e) }
 
+  -- a digit more, where the number is held up to the cap
   one-more : (v k d : ℕ) → v ≡ min cap k → min cap (v * 10 + d) ≡ min cap (k * 10 + d)
   one-more v k d e = omega arith
 
+  -- a digit is read
   pub reading-goes : (value i next : ℕ) → i < length t → digit (getD t i 0) ≡ true → next ≡ min cap (value * 10 + (getD t i 0 - 48)) → Reading t at from cap value i → Reading t at from cap next (i + 1)
   unfolding numberFrom
   reading-goes value i next l d e r = record {
@@ -47,6 +50,7 @@ module _ (t : List ℕ) (at from cap : ℕ) where
         );
   }
 
+  -- at a byte that is no digit, or at the end, the number is read
   made : (value i : ℕ) → ((k : ℕ) → numberFrom k (drop i t) ≡ digits k (drop i t)) → Reading t at from cap value i → NumberAt t at from cap record { value = value; next = i }
   made value i h r = record {
     value = λ n e. let s = r .so-far n in s .2 e ∙ ap (min cap) (sym (ap (λ (d : Digits). d .value) (sym (s .1) ∙ h (s .0))));
@@ -55,10 +59,12 @@ module _ (t : List ℕ) (at from cap : ℕ) where
     within = r .within;
   }
 
+  -- a byte that is no digit ends the number
   pub reading-stops : (value i : ℕ) → i < length t → digit (getD t i 0) ≡ false → Reading t at from cap value i → NumberAt t at from cap record { value = value; next = i }
   unfolding numberFrom
   reading-stops value i l d r = made value i (λ k. sym (digit-stops t i l k (numberFrom k (drop i t)) d refl)) r
 
+  -- the text's end ends it
   pub reading-ends : (value i : ℕ) → length t ≤ i → Reading t at from cap value i → NumberAt t at from cap record { value = value; next = i }
   unfolding numberFrom
   reading-ends value i l r =
@@ -66,30 +72,39 @@ module _ (t : List ℕ) (at from cap : ℕ) where
 
 -- ---- one byte of the text, or its end
 module _ (t : List ℕ) (i : ℕ) where
+  -- the byte tells whether the sign is `-`
   pub minus-here : i < length t → eqb (getD t i 0) 45 ≡ minus (drop i t)
   minus-here h = rw (split t i h) refl
 
+  -- at the end there is no sign
   pub minus-none : length t ≤ i → false ≡ minus (drop i t)
   minus-none h = rw (drop-end t i h) refl
 
+  -- a sign is passed over
   pub sign-passed : i < length t → eqb (getD t i 0) 43 || eqb (getD t i 0) 45 ≡ true → drop (i + 1) t ≡ unsigned (drop i t)
   sign-passed h e = rw (split t i h, e) refl
 
+  -- another byte is not
   pub sign-none : i < length t → eqb (getD t i 0) 43 || eqb (getD t i 0) 45 ≡ false → drop i t ≡ unsigned (drop i t)
   sign-none h e = rw (split t i h, e) refl
 
+  -- nor is the end
   pub sign-end : length t ≤ i → drop i t ≡ unsigned (drop i t)
   sign-end h = rw (drop-end t i h) refl
 
+  -- after a point the digits are read on
   point : (n : ℕ) → i < length t → eqb (getD t i 0) 46 ≡ true → fractionOf n (drop i t) ≡ pointed (drop (i + 1) t) (numberFrom n (drop (i + 1) t))
   point n h e = rw (split t i h, e) refl
 
+  -- another byte leaves the number as it is
   no-point : (n : ℕ) → i < length t → eqb (getD t i 0) 46 ≡ false → fractionOf n (drop i t) ≡ mantissa n 0 (drop i t)
   no-point n h e = rw (split t i h, e) refl
 
+  -- so does the end
   no-byte : (n : ℕ) → length t ≤ i → fractionOf n (drop i t) ≡ mantissa n 0 (drop i t)
   no-byte n h = rw (drop-end t i h) refl
 
+  -- the fraction after a point, by the place where its digits end
   pub decimal-pointed : (from : ℕ) (r : Number) → i < length t → eqb (getD t i 0) 46 ≡ true → NumberAt t (i + 1) from most r → DecimalAt t i from record { value = r .value; places = r .next - (i + 1); next = r .next }
   decimal-pointed from r h e d = record {
     value = λ n f. d .value n f ∙ ap (λ (m : Mantissa). min most (m .value)) (sym (point n h e));
@@ -103,6 +118,7 @@ module _ (t : List ℕ) (i : ℕ) where
       gone : i + 1 ≤ r .next → r .next ≤ length t → length (drop (i + 1) t) - length (drop (r .next) t) ≡ r .next - (i + 1)
       gone a b = simp length-drop (omega arith)
 
+  -- no fraction: the number as it is
   decimal-plain : (from : ℕ) → i ≤ length t → ((n : ℕ) → fractionOf n (drop i t) ≡ mantissa n 0 (drop i t)) → DecimalAt t i from record { value = from; places = 0; next = i }
   decimal-plain from l h = record {
     value = λ n f. f ∙ ap (λ (m : Mantissa). min most (m .value)) (sym (h n));
@@ -112,34 +128,43 @@ module _ (t : List ℕ) (i : ℕ) where
     short = omega arith;
   }
 
+  -- at a byte that is no point
   pub decimal-whole : (from : ℕ) → i < length t → eqb (getD t i 0) 46 ≡ false → DecimalAt t i from record { value = from; places = 0; next = i }
   decimal-whole from h e = let l : i ≤ length t = omega arith in decimal-plain from l (λ n. no-point n h e)
 
+  -- at the end
   pub decimal-end : (from : ℕ) → i ≤ length t → length t ≤ i → DecimalAt t i from record { value = from; places = 0; next = i }
   decimal-end from l h = decimal-plain from l (λ n. no-byte n h)
 
+  -- at the end the exponent is 0
   pub tens-none : length t ≤ i → TensAt (drop i t) (Power false 0)
   tens-none h = (0, rw (drop-end t i h) refl, refl)
 
+  -- a byte that is no `E` or `e` begins no exponent
   pub tens-other : i < length t → eqb (getD t i 0) 69 || eqb (getD t i 0) 101 ≡ false → TensAt (drop i t) Malformed
   tens-other h e = rw (split t i h, e) refl
 
   -- after the letter: u is where the digits begin
   module _ (h : i < length t) (e : eqb (getD t i 0) 69 || eqb (getD t i 0) 101 ≡ true) (u : ℕ) (us : drop u t ≡ unsigned (drop (i + 1) t)) where
+    -- what follows the letter is the exponent, by its sign and digits
     letter : exponentOf (drop i t) ≡ ended (minus (drop (i + 1) t)) (drop u t) (numberFrom 0 (drop u t))
     letter = rw (split t i h, e, us) refl
 
+    -- digits after it are the exponent
     pub tens-read : (m : Bool) (x : ℕ) → m ≡ minus (drop (i + 1) t) → PlainAt (drop u t) largest (Plain.Digits x) → TensAt (drop i t) (Power m x)
     tens-read m x s p = (numberFrom 0 (drop u t) .value, letter ∙ rw (p .0, s) refl, p .1)
 
+    -- anything else is malformed
     pub tens-bad : PlainAt (drop u t) largest Other → TensAt (drop i t) Malformed
     tens-bad p = letter ∙ rw p refl
 
 -- ---- a rest that is digits only
 module _ (t : List ℕ) (u cap : ℕ) (d : Number) (at : NumberAt t u 0 cap d) where
+  -- what is left after the digits begins at their place
   rest : numberFrom 0 (drop u t) .rest ≡ drop (d .next) t
   rest = at .rest 0
 
+  -- the digits reach the end, and there is one: a number
   pub plain-read : d .next ≡ length t → u < length t → PlainAt (drop u t) cap (Plain.Digits (d .value))
   plain-read n l =
       let z : length (numberFrom 0 (drop u t) .rest) ≡ 0 = ap length rest ∙ simp length-drop (omega arith) in
@@ -148,6 +173,7 @@ module _ (t : List ℕ) (u cap : ℕ) (d : Number) (at : NumberAt t u 0 cap d) w
         at .value 0 (omega arith),
       )
 
+  -- they do not, or there is none: no number
   pub plain-other : eqb (d .next) (length t) && ltb u (length t) ≡ false → PlainAt (drop u t) cap Other
   plain-other f = go (eqb (d .next) (length t)) (ltb u (length t)) refl refl f
     where

@@ -25,6 +25,7 @@ pub record Prefix : Type 0 where
   pub down : Bool
   pub tens : ℕ
 
+-- a row of the table
 abbrev pub row : String → Bool → ℕ → Prefix
 row n d k = record { name = n; down = d; tens = k }
 
@@ -57,6 +58,7 @@ unity = row "" false 0
 abbrev pub tenUp : Prefix → ℕ
 tenUp p = pick (p .down) 1 (10 ^ p .tens)
 
+-- the fraction's lower side
 abbrev pub tenDown : Prefix → ℕ
 tenDown p = pick (p .down) (10 ^ p .tens) 1
 
@@ -65,6 +67,7 @@ unfoldable pub placeIn : List Prefix → List ℕ → ℕ
 placeIn [] t = 0
 placeIn (p ∷ ps) t = pick (isWord t (bytes (p .name))) 0 (suc (placeIn ps t))
 
+-- the prefix that is named so, or the one of factor 1.0
 abbrev pub prefixOf : List ℕ → Prefix
 prefixOf t = getD prefixes (placeIn prefixes t) unity
 
@@ -77,12 +80,15 @@ abbrev pub lengthFactorOf : List ℕ → ℕ
 lengthFactorOf t = product (near 1000 1) (factorOf t)
 
 -- ---- the code's tables: all names in a row, where each begins, and the factors, 1.0 the last
+-- the names one after another
 abbrev pub names : List ℕ
 names = 69 ∷ 88 ∷ 65 ∷ 80 ∷ 69 ∷ 84 ∷ 65 ∷ 84 ∷ 69 ∷ 82 ∷ 65 ∷ 71 ∷ 73 ∷ 71 ∷ 65 ∷ 77 ∷ 69 ∷ 71 ∷ 65 ∷ 75 ∷ 73 ∷ 76 ∷ 79 ∷ 72 ∷ 69 ∷ 67 ∷ 84 ∷ 79 ∷ 68 ∷ 69 ∷ 67 ∷ 65 ∷ 68 ∷ 69 ∷ 67 ∷ 73 ∷ 67 ∷ 69 ∷ 78 ∷ 84 ∷ 73 ∷ 77 ∷ 73 ∷ 76 ∷ 76 ∷ 73 ∷ 77 ∷ 73 ∷ 67 ∷ 82 ∷ 79 ∷ 78 ∷ 65 ∷ 78 ∷ 79 ∷ 80 ∷ 73 ∷ 67 ∷ 79 ∷ 70 ∷ 69 ∷ 77 ∷ 84 ∷ 79 ∷ 65 ∷ 84 ∷ 84 ∷ 79 ∷ []
 
+-- where each name begins, and where the last ends
 abbrev pub starts : List ℕ
 starts = 0 ∷ 3 ∷ 7 ∷ 11 ∷ 15 ∷ 19 ∷ 23 ∷ 28 ∷ 32 ∷ 36 ∷ 41 ∷ 46 ∷ 51 ∷ 55 ∷ 59 ∷ 64 ∷ 68 ∷ []
 
+-- the f64 of each power of ten, and 1.0
 abbrev pub factors : List Float
 factors =
     ofBits binary64 4876203697187506176
@@ -111,6 +117,7 @@ pub record Rule (i : ℕ) (p : Prefix) : Type 0 where
   pub named : take (getD starts (suc i) 0 - getD starts i 0) (drop (getD starts i 0) names) ≡ bytes (p .name)
   pub factor : toBits binary64 (getD factors i nan) ≡ near (tenUp p) (tenDown p)
 
+-- the rule at each row, counted from i
 abbrev Rules : ℕ → List Prefix → Type 0
 Rules i [] = Unit {0}
 Rules i (p ∷ ps) = Rule i p × Rules (suc i) ps
@@ -120,12 +127,14 @@ all-rules : Rules 0 prefixes
 unfolding toBits ofBits near nearUnits size
 all-rules = (record { order = lit≤ tt; within = lit≤ tt; named = refl; factor = refl }, (record { order = lit≤ tt; within = lit≤ tt; named = refl; factor = refl }, (record { order = lit≤ tt; within = lit≤ tt; named = refl; factor = refl }, (record { order = lit≤ tt; within = lit≤ tt; named = refl; factor = refl }, (record { order = lit≤ tt; within = lit≤ tt; named = refl; factor = refl }, (record { order = lit≤ tt; within = lit≤ tt; named = refl; factor = refl }, (record { order = lit≤ tt; within = lit≤ tt; named = refl; factor = refl }, (record { order = lit≤ tt; within = lit≤ tt; named = refl; factor = refl }, (record { order = lit≤ tt; within = lit≤ tt; named = refl; factor = refl }, (record { order = lit≤ tt; within = lit≤ tt; named = refl; factor = refl }, (record { order = lit≤ tt; within = lit≤ tt; named = refl; factor = refl }, (record { order = lit≤ tt; within = lit≤ tt; named = refl; factor = refl }, (record { order = lit≤ tt; within = lit≤ tt; named = refl; factor = refl }, (record { order = lit≤ tt; within = lit≤ tt; named = refl; factor = refl }, (record { order = lit≤ tt; within = lit≤ tt; named = refl; factor = refl }, (record { order = lit≤ tt; within = lit≤ tt; named = refl; factor = refl }, tt))))))))))))))))
 
+-- the rule at a row that is counted from i
 rule-from : (ps : List Prefix) (i : ℕ) → Rules i ps → (k : ℕ) → k < length ps → Rule (i + k) (getD ps k unity)
 rule-from [] i r k h = absurd (not-suc-le-zero h)
 rule-from (p ∷ ps) i r zero h = subst (λ (m : ℕ). Rule m p) (sym (add-zero i)) (r .0)
 rule-from (p ∷ ps) i r (suc k) h =
     subst (λ (m : ℕ). Rule m (getD ps k unity)) (suc-add i k ∙ sym (add-suc i k)) (rule-from ps (suc i) (r .1) k (le-of-suc-le-suc h))
 
+-- the rule at row k
 pub rule-at : (k : ℕ) → k < 16 → Rule k (getD prefixes k unity)
 rule-at k h = subst (λ (m : ℕ). Rule m (getD prefixes k unity)) (zero-add k) (rule-from prefixes 0 all-rules k h)
 
@@ -133,29 +142,36 @@ rule-at k h = subst (λ (m : ℕ). Rule m (getD prefixes k unity)) (zero-add k) 
 pub order-at : (k : ℕ) → k < 16 → getD starts k 0 ≤ getD starts (k + 1) 0
 order-at k h = subst (λ (j : ℕ). getD starts k 0 ≤ getD starts j 0) (sym (add-one k)) (rule-at k h .order)
 
+-- each name ends inside the names
 pub within-at : (k : ℕ) → k < 16 → getD starts (k + 1) 0 ≤ 68
 within-at k h = subst (λ (j : ℕ). getD starts j 0 ≤ 68) (sym (add-one k)) (rule-at k h .within)
 
+-- to compare with a part of the names is to compare with the prefix's name
 pub word-at : (t : List ℕ) (k : ℕ) → k < 16 → isWord t (take (getD starts (k + 1) 0 - getD starts k 0) (drop (getD starts k 0) names)) ≡ isWord t (bytes (getD prefixes k unity .name))
 word-at t k h =
     subst (λ (j : ℕ). isWord t (take (getD starts j 0 - getD starts k 0) (drop (getD starts k 0) names)) ≡ isWord t (bytes (getD prefixes k unity .name))) (sym (add-one k))
     (ap (isWord t) (rule-at k h .named))
 
+-- the last factor is 1.0
 last-factor : toBits binary64 (getD factors 16 nan) ≡ near 1 1
 unfolding toBits ofBits near nearUnits size
 last-factor = refl
 
+-- 1000.0 is the f64 nearest to 1000
 pub thousand : toBits binary64 (ofBits binary64 4652007308841189376) ≡ near 1000 1
 unfolding toBits ofBits near nearUnits size
 thousand = refl
 
 -- ---- the search, from a row on
+-- the place among the prefixes from k on, with the k that were passed, is the place among all
 abbrev pub Searching : List ℕ → ℕ → Type 0
 Searching t k = (k ≤ 16) × (k + placeIn (drop k prefixes) t ≡ placeIn prefixes t)
 
+-- the prefixes from k on begin with prefix k
 head-at : (k : ℕ) → k < 16 → drop k prefixes ≡ getD prefixes k unity ∷ drop (suc k) prefixes
 head-at k h = drop-cons prefixes k unity h
 
+-- the name at k fits: k is the place
 pub search-finds : (t : List ℕ) (k : ℕ) → k < 16 → isWord t (bytes (getD prefixes k unity .name)) ≡ true → Searching t k → k ≡ placeIn prefixes t
 unfolding placeIn
 search-finds t k h e s =
@@ -166,6 +182,7 @@ search-finds t k h e s =
     plain : (k a b : ℕ) → a ≡ 0 → k + a ≡ b → k ≡ b
     plain k a b q r = omega arith
 
+-- the name at k does not fit: the search goes on
 pub search-goes : (t : List ℕ) (k : ℕ) → k < 16 → isWord t (bytes (getD prefixes k unity .name)) ≡ false → Searching t k → Searching t (k + 1)
 unfolding placeIn
 search-goes t k h e s =
@@ -176,6 +193,7 @@ search-goes t k h e s =
     plain : (k a c b : ℕ) → a ≡ suc c → k + a ≡ b → suc k + c ≡ b
     plain k a c b q r = omega arith
 
+-- no name fits: 16 is the place
 pub search-ends : (t : List ℕ) (k : ℕ) → 16 ≤ k → Searching t k → 16 ≡ placeIn prefixes t
 unfolding placeIn
 search-ends t k h s =
@@ -183,6 +201,7 @@ search-ends t k h s =
     let q : 16 + placeIn (drop 16 prefixes) t ≡ placeIn prefixes t = subst (λ (m : ℕ). m + placeIn (drop m prefixes) t ≡ placeIn prefixes t) e (s .1) in
     q
 
+-- the place lies in the table or at its end
 pub place-within : (t : List ℕ) (ps : List Prefix) → placeIn ps t ≤ length ps
 unfolding placeIn
 place-within t [] = omega arith
@@ -192,6 +211,7 @@ place-within t (p ∷ ps) = go (isWord t (bytes (p .name))) (place-within t ps)
     go true l = omega arith
     go false l = omega arith
 
+-- so it is at most 16
 pub place-most : (t : List ℕ) → placeIn prefixes t ≤ 16
 place-most t = place-within t prefixes
 

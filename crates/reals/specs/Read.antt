@@ -28,29 +28,36 @@ same-place t i j h k = simp length-drop (go (ℕ-discrete i j))
         ne-eqb (length t - i) (length t - j) f ∙ sym (ne-eqb i j n)
 
 module _ (t : List ℕ) (a : ℕ) (here : drop a t ≡ unsigned t) (within : a ≤ length t) (w : Number) (whole : NumberAt t a 0 most w) (d : Decimal) (decimal : DecimalAt t (w .next) (w .value) d) where
+  -- what follows the digits before the point begins where the code stands
   rest-is : numberFrom 0 (unsigned t) .rest ≡ drop (w .next) t
   rest-is = ap (λ (l : List ℕ). numberFrom 0 l .rest) (sym here) ∙ whole .rest 0
 
+  -- so the fraction is read from there
   mant-is : fractionOf (numberFrom 0 (unsigned t) .value) (numberFrom 0 (unsigned t) .rest) ≡ fractionOf (numberFrom 0 (unsigned t) .value) (drop (w .next) t)
   mant-is = ap (fractionOf (numberFrom 0 (unsigned t) .value)) rest-is
 
+  -- m is held up to its cap
   held : d .value ≡ min most (fractionOf (numberFrom 0 (unsigned t) .value) (numberFrom 0 (unsigned t) .rest) .value)
   held =
       decimal .value (numberFrom 0 (unsigned t) .value) (whole .value 0 refl ∙ ap (λ (l : List ℕ). min most (numberFrom 0 l .value)) here)
       ∙ ap (λ (m : Mantissa). min most (m .value)) (sym mant-is)
 
+  -- the number of fraction digits
   places : fractionOf (numberFrom 0 (unsigned t) .value) (numberFrom 0 (unsigned t) .rest) .places ≡ d .places
   places = ap (λ (m : Mantissa). m .places) mant-is ∙ decimal .places (numberFrom 0 (unsigned t) .value)
 
+  -- what follows the fraction begins where the code stands
   after : fractionOf (numberFrom 0 (unsigned t) .value) (numberFrom 0 (unsigned t) .rest) .rest ≡ drop (d .next) t
   after = ap (λ (m : Mantissa). m .rest) mant-is ∙ decimal .rest (numberFrom 0 (unsigned t) .value)
 
+  -- no digit stands before the point where the code has not moved
   none-at : eqb (length (numberFrom 0 (unsigned t) .rest)) (length (unsigned t)) ≡ eqb (w .next) a
   none-at =
       ap (λ (l : List ℕ). eqb (length l) (length (unsigned t))) rest-is
       ∙ ap (λ (l : List ℕ). eqb (length (drop (w .next) t)) (length l)) (sym here)
       ∙ same-place t (w .next) a (whole .within) within
 
+  -- the answer, by the code's places
   real-at : realOf t ≡ classOf (pick (eqb (w .next) a && eqb (d .places) 0) unparsed (joined (minus t) (fractionOf (numberFrom 0 (unsigned t) .value) (numberFrom 0 (unsigned t) .rest)) (exponentOf (drop (d .next) t))))
   unfolding realOf parseOf
   real-at =
@@ -59,12 +66,15 @@ module _ (t : List ℕ) (a : ℕ) (here : drop a t ≡ unsigned t) (within : a �
       ∙ ap (λ (f : ℕ). classOf (pick (eqb (w .next) a && eqb f 0) unparsed (joined (minus t) M (exponentOf (M .rest))))) places
       ∙ ap (λ (l : List ℕ). classOf (pick (eqb (w .next) a && eqb (d .places) 0) unparsed (joined (minus t) M (exponentOf l)))) after
 
+  -- no digit before or after the point: 12
   pub no-digit : eqb (w .next) a && eqb (d .places) 0 ≡ true → refused 12 ≡ realOf t
   no-digit e = sym (real-at ∙ rw e refl)
 
+  -- a malformed exponent: 12
   pub bad-tens : eqb (w .next) a && eqb (d .places) 0 ≡ false → TensAt (drop (d .next) t) Malformed → refused 12 ≡ realOf t
   bad-tens e f = sym (real-at ∙ rw (e, f) refl)
 
+  -- else the class's answer
   pub good-tens : (s down : Bool) (x : ℕ) (r : Real) → eqb (w .next) a && eqb (d .places) 0 ≡ false → s ≡ minus t → TensAt (drop (d .next) t) (Power down x) → ClassOf s (d .value) (d .places) down x r → toldReal r ≡ realOf t
   good-tens s down x r e m f c =
       let M = fractionOf (numberFrom 0 (unsigned t) .value) (numberFrom 0 (unsigned t) .rest) in

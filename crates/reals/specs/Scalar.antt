@@ -41,6 +41,7 @@ abbrev pub unsigned : List ℕ → List ℕ
 unsigned [] = []
 unsigned (c ∷ r) = pick (eqb c 43 || eqb c 45) r (c ∷ r)
 
+-- whether the sign is `-`
 abbrev pub minus : List ℕ → Bool
 minus [] = false
 minus (c ∷ r) = eqb c 45
@@ -51,9 +52,11 @@ pub record Mantissa : Type 0 where
   pub places : ℕ
   pub rest : List ℕ
 
+-- a mantissa of these three
 abbrev pub mantissa : ℕ → ℕ → List ℕ → Mantissa
 mantissa m f r = record { value = m; places = f; rest = r }
 
+-- after a point stands r, of which d was read: the number, as many places as bytes were read, and what is left
 abbrev pub pointed : List ℕ → Digits → Mantissa
 pointed r d = mantissa (d .value) (length r - length (d .rest)) (d .rest)
 
@@ -71,9 +74,11 @@ pub data Exponent : Type 0 where
 abbrev pub digitsOnly : List ℕ → Bool
 digitsOnly u = eqb (length (numberFrom 0 u .rest)) 0 && ltb 0 (length u)
 
+-- an exponent is digits only, at least one
 abbrev pub ended : Bool → List ℕ → Digits → Exponent
 ended s u d = pick (eqb (length (d .rest)) 0 && ltb 0 (length u)) (power s (d .value)) malformed
 
+-- nothing is the exponent 0; else the letter, an optional sign and digits
 abbrev pub exponentOf : List ℕ → Exponent
 exponentOf [] = power false 0
 exponentOf (c ∷ r) = pick (eqb c 69 || eqb c 101) (ended (minus r) (unsigned r) (numberFrom 0 (unsigned r))) malformed
@@ -83,6 +88,7 @@ pub data Parsed : Type 0 where
   parsed : Bool → ℕ → ℕ → Bool → ℕ → Parsed
   unparsed : Parsed
 
+-- a real has a mantissa and a well-formed exponent
 abbrev pub joined : Bool → Mantissa → Exponent → Parsed
 joined s m (power d x) = parsed s (m .value) (m .places) d x
 joined s m malformed = unparsed
@@ -91,6 +97,7 @@ joined s m malformed = unparsed
 abbrev pub counted : Bool → List ℕ → Digits → Mantissa → Parsed
 counted s u d m = pick (eqb (length (d .rest)) (length u) && eqb (m .places) 0) unparsed (joined s m (exponentOf (m .rest)))
 
+-- "Optional sign; digits, at least one, with an optional point; optionally E or e, optional sign, digits"
 unfoldable pub parseOf : List ℕ → Parsed
 parseOf t =
     counted (minus t) (unsigned t) (numberFrom 0 (unsigned t)) (fractionOf (numberFrom 0 (unsigned t) .value) (numberFrom 0 (unsigned t) .rest))
@@ -110,14 +117,17 @@ abbrev pub classOf : Parsed → Answer ℕ
 classOf (parsed s m f d x) = pick (ltb m (10 ^ 15) && reaches f d x) (read (signed s (nearTen m f d x))) (refused 13)
 classOf unparsed = refused 12
 
+-- what a text answers as a real
 unfoldable pub realOf : List ℕ → Answer ℕ
 realOf t = classOf (parseOf t)
 
 -- ---- integers and references
+-- an integer, or 12
 abbrev pub toldWhole : Whole → Answer ℤ
 toldWhole (Whole.Value z) = read z
 toldWhole NotWhole = refused 12
 
+-- a reference, or 12
 abbrev pub toldReference : Reference → Answer ℕ
 toldReference (Reference.Value n) = read n
 toldReference NotReference = refused 12
@@ -135,6 +145,7 @@ wholeOf t = pick (digitsOnly (unsigned t)) (ranged (minus t) (numberFrom 0 (unsi
 abbrev pub idOf : List ℕ → Answer ℕ
 idOf ds = pick (digitsOnly ds && leb (numberFrom 0 ds .value) 4294967295) (read (numberFrom 0 ds .value)) (refused 12)
 
+-- what a text answers as a reference
 unfoldable pub referenceOf : List ℕ → Answer ℕ
 referenceOf [] = refused 12
 referenceOf (c ∷ r) = pick (eqb c 35) (idOf r) (refused 12)
@@ -157,6 +168,7 @@ PlainAt xs cap Other = digitsOnly xs ≡ false
 abbrev pub most : ℕ
 most = 10 ^ 15
 
+-- the fraction from `at`, after digits that gave n: the number of all digits, how many stand after the point, and the place after them
 pub record DecimalAt (t : List ℕ) (at from : ℕ) (r : Decimal) : Type 0 where
   pub value : (n : ℕ) → from ≡ min most n → r .value ≡ min most (fractionOf n (drop at t) .value)
   pub places : (n : ℕ) → fractionOf n (drop at t) .places ≡ r .places
@@ -168,6 +180,7 @@ pub record DecimalAt (t : List ℕ) (at from : ℕ) (r : Decimal) : Type 0 where
 abbrev pub largest : ℕ
 largest = 2 ^ 64 - 1
 
+-- the exponent, held up to the largest number, or none
 abbrev pub TensAt : List ℕ → Tens → Type 0
 TensAt xs (Power d x) = (n : ℕ) × (exponentOf xs ≡ power d n) × (x ≡ min largest n)
 TensAt xs Malformed = exponentOf xs ≡ malformed

@@ -32,10 +32,12 @@ capped s n N e = go (decLe N largest)
         out s n a ∙ sym (out s N b)
 
 module _ (t : List ℕ) (a : ℕ) (here : drop a t ≡ unsigned t) where
+  -- the rest is not digits only: 12
   pub whole-other : PlainAt (drop a t) largest Other → refused 12 ≡ wholeOf t
   unfolding wholeOf
   whole-other p = let q : digitsOnly (unsigned t) ≡ false = ap digitsOnly (sym here) ∙ p in rw q refl
 
+  -- the rest is digits: the number, if it is in range
   pub whole-read : (s : Bool) (n : ℕ) → s ≡ minus t → PlainAt (drop a t) largest (Plain.Digits n) → ranged s n ≡ wholeOf t
   unfolding wholeOf
   whole-read s n m p =
@@ -44,6 +46,7 @@ module _ (t : List ℕ) (a : ℕ) (here : drop a t ≡ unsigned t) where
       capped s n (numberFrom 0 (unsigned t) .value) e ∙ ap (λ (b : Bool). ranged b (numberFrom 0 (unsigned t) .value)) m ∙ sym (rw q refl)
 
 module _ (t : List ℕ) where
+  -- an empty text: 12
   pub reference-none : length t ≤ 0 → refused 12 ≡ referenceOf t
   unfolding referenceOf
   reference-none h = go t h
@@ -52,6 +55,7 @@ module _ (t : List ℕ) where
       go [] h = refl
       go (c ∷ r) h = absurd (omega arith)
 
+  -- the first byte decides
   at-first : 0 < length t → referenceOf t ≡ pick (eqb (getD t 0 0) 35) (idOf (drop 1 t)) (refused 12)
   unfolding referenceOf
   at-first h = go t h
@@ -60,15 +64,19 @@ module _ (t : List ℕ) where
       go [] h = absurd (omega arith)
       go (c ∷ r) h = refl
 
+  -- another first byte: 12
   pub reference-other : 0 < length t → (getD t 0 0 ≡ 35 → ⊥) → refused 12 ≡ referenceOf t
   reference-other h n = sym (at-first h ∙ rw (ne-eqb (getD t 0 0) 35 n) refl)
 
+  -- after `#` the digits decide
   hashed : 0 < length t → getD t 0 0 ≡ 35 → referenceOf t ≡ idOf (drop 1 t)
   hashed h e = at-first h ∙ rw (eq-eqb (getD t 0 0) 35 e) refl
 
+  -- not digits only: 12
   pub reference-bad : 0 < length t → getD t 0 0 ≡ 35 → PlainAt (drop 1 t) largest Other → refused 12 ≡ referenceOf t
   reference-bad h e p = sym (hashed h e ∙ rw p refl)
 
+  -- digits up to 4294967295: the number
   pub reference-read : (n : ℕ) → 0 < length t → getD t 0 0 ≡ 35 → PlainAt (drop 1 t) largest (Plain.Digits n) → n ≤ 4294967295 → read n ≡ referenceOf t
   reference-read n h e p l = sym (hashed h e ∙ at (numberFrom 0 (drop 1 t) .value) (p .1))
     where
@@ -78,6 +86,7 @@ module _ (t : List ℕ) where
           let y : N ≤ 4294967295 = omega arith in
           rw (p .0, le-leb N 4294967295 y) (ap read z)
 
+  -- a larger number: 12
   pub reference-over : (n : ℕ) → 0 < length t → getD t 0 0 ≡ 35 → PlainAt (drop 1 t) largest (Plain.Digits n) → 4294967295 < n → refused 12 ≡ referenceOf t
   reference-over n h e p l = sym (hashed h e ∙ at (numberFrom 0 (drop 1 t) .value) (p .1))
     where

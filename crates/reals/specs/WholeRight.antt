@@ -22,16 +22,20 @@ use Rattle.reals.specs.Form as Form
 use Rattle.reals.specs.FormRight.{signed-only, signed-is, digits-bare, number-all, some-length}
 
 -- ---- digits, at least one
+-- digits, at least one, pass the test
 only-digits : (u : List ℕ) → All digit u → (u ≡ [] → ⊥) → digitsOnly u ≡ true
 only-digits u a n = rw (number-all u a, lt-ltb 0 (length u) (some-length u n)) refl
 
+-- their number is the one that is computed
 value-digits : (u : List ℕ) → All digit u → numberFrom 0 u .value ≡ valueOf u
 value-digits u a = ap (λ (d : Digits). d .value) (number-all u a)
 
+-- a list of length 0 is empty
 empty : (r : List ℕ) → length r ≡ 0 → r ≡ []
 empty [] e = refl
 empty (c ∷ r) e = absurd (omega arith)
 
+-- what passes the test are digits, at least one
 are-digits : (u : List ℕ) → digitsOnly u ≡ true → All digit u × (u ≡ [] → ⊥)
 are-digits u e = by (number-is u (numberFrom 0 u .value) (numberFrom 0 u .rest) refl)
   where
@@ -49,10 +53,12 @@ are-digits u e = by (number-is u (numberFrom 0 u .value) (numberFrom 0 u .rest) 
         none a b = omega arith
 
 -- ---- integers
+-- a number in range is read as it is
 ranged-in : (s : Bool) (n : ℕ) → Ranged s n → ranged s n ≡ read (valued s n)
 ranged-in false n h = rw (lt-ltb n (2 ^ 63) h) refl
 ranged-in true n h = rw (le-leb n (2 ^ 63) h) refl
 
+-- a number is in range, or is refused
 ranged-is : (s : Bool) (n : ℕ) → Ranged s n ⊎ ((Ranged s n → ⊥) × (ranged s n ≡ refused 12))
 ranged-is false n = go (decLt n (2 ^ 63))
   where
@@ -65,6 +71,7 @@ ranged-is true n = go (decLe n (2 ^ 63))
     go (yes h) = inl h
     go (no h) = let l : 2 ^ 63 < n = omega arith in inr (h, rw (lt-leb n (2 ^ 63) l) refl)
 
+-- an integer by the rule is the one that is computed
 integer-only : {t ds : List ℕ} {s : Bool} → Integer t s ds → wholeOf t ≡ read (valued s (valueOf ds))
 unfolding wholeOf
 integer-only {t} {ds} {s} i =
@@ -101,6 +108,7 @@ whole-is t = go (integer-is t)
     go (inl (s, ds, i)) = subst (WholeForm t) (sym (integer-only i)) (whole i)
     go (inr e) = subst (WholeForm t) (sym e) (WholeForm.other (λ s ds i. never (sym (integer-only i) ∙ e)))
 
+-- and there is no other
 pub whole-only : {t : List ℕ} {a : Answer ℤ} → WholeForm t a → a ≡ wholeOf t
 whole-only (whole i) = sym (integer-only i)
 whole-only {t} (WholeForm.other h) = go (integer-is t)
@@ -110,10 +118,12 @@ whole-only {t} (WholeForm.other h) = go (integer-is t)
     go (inr e) = sym e
 
 -- ---- references
+-- a reference by the rule is the one that is computed
 id-only : (ds : List ℕ) → Id ds → referenceOf (35 ∷ ds) ≡ read (valueOf ds)
 unfolding referenceOf
 id-only ds i = rw (only-digits ds (i .all) (i .some), value-digits ds (i .all), le-leb (valueOf ds) 4294967295 (i .within)) refl
 
+-- a text is a reference, or is refused
 id-is : (t : List ℕ) → ((ds : List ℕ) × (t ≡ 35 ∷ ds) × Id ds) ⊎ (referenceOf t ≡ refused 12)
 unfolding referenceOf
 id-is [] = inr refl
@@ -128,6 +138,7 @@ id-is (c ∷ r) = go (eqb c 35) (digitsOnly r) refl refl
     go true false p q = inr refl
     go true true p q = by (eqb-true c 35 p) (are-digits r q) (decLe (valueOf r) 4294967295)
 
+-- what is computed is the answer
 pub reference-is : (t : List ℕ) → ReferenceForm t (referenceOf t)
 reference-is t = go (id-is t)
   where
@@ -138,6 +149,7 @@ reference-is t = go (id-is t)
     go (inl (ds, e, i)) = subst (λ (l : List ℕ). ReferenceForm l (referenceOf l)) (sym e) (subst (ReferenceForm (35 ∷ ds)) (sym (id-only ds i)) (reference ds i))
     go (inr e) = subst (ReferenceForm t) (sym e) (ReferenceForm.other (λ ds f i. never (sym (id-only ds i) ∙ ap referenceOf (sym f) ∙ e)))
 
+-- and there is no other
 pub reference-only : {t : List ℕ} {a : Answer ℕ} → ReferenceForm t a → a ≡ referenceOf t
 reference-only (reference ds i) = sym (id-only ds i)
 reference-only {t} (ReferenceForm.other h) = go (id-is t)
