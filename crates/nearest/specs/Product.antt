@@ -17,7 +17,7 @@ use lib.Ieee.Exact.{HasValue, odd-sign}
 use lib.Ieee.Bits.{ofBits-toBits}
 use Rattle.nearest.specs.Units.{unitsAt, unitsOf, infinity}
 use Rattle.nearest.specs.Near.{near, near-same}
-use Rattle.nearest.specs.Round.{signed, round-near}
+use Rattle.nearest.specs.Round.{signed, toBits-inf, round-near}
 
 -- what a bit pattern stands for: no number, an infinity, or so many units of 2 ^ -1074; true is the negative sign
 pub data Worth : Type 0 where
@@ -167,10 +167,6 @@ toBits-nan : toBits binary64 nan ≡ quiet
 unfolding toBits
 toBits-nan = refl
 
-toBits-inf : (s : Bool) → toBits binary64 (inf s) ≡ signed s infinity
-unfolding toBits
-toBits-inf s = refl
-
 -- the pattern of a zero with its sign
 toBits-zero : (s : Bool) → toBits binary64 (fin s 0 (pos 0)) ≡ signed s 0
 unfolding toBits
@@ -283,6 +279,10 @@ as-first : (s : Bool) → unlike s false ≡ s
 as-first true = refl
 as-first false = refl
 
+-- a positive number is not zero
+some : (n : ℕ) → 0 < n → n ≡ 0 → ⊥
+some n h z = omega arith
+
 -- the product of two whole numbers, and their quotient
 pub product-exact : (p q : ℕ) (s : Bool) (a b : ℕ) → worthOf p ≡ finite s (a * 2 ^ 1074) → worthOf q ≡ finite false (b * 2 ^ 1074) → product p q ≡ signed s (near (a * b) 1)
 product-exact p q s a b e f =
@@ -303,6 +303,3 @@ quotient-exact p q s a b bp e f =
     ∙ ap (λ (z : Bool). cond z (cond (eqb (a * 2 ^ 1074) 0) quiet (signed (unlike s false) infinity)) (signed (unlike s false) (near (a * 2 ^ 1074) (b * 2 ^ 1074)))) (ne-eqb (b * 2 ^ 1074) 0 (some (b * 2 ^ 1074) dp))
     ∙ ap (λ (t : Bool). signed t (near (a * 2 ^ 1074) (b * 2 ^ 1074))) (as-first s)
     ∙ ap (signed s) (near-same (a * 2 ^ 1074) (b * 2 ^ 1074) a b dp bp (mul-right-comm a (2 ^ 1074) b ∙ mul-assoc a b (2 ^ 1074)))
-  where
-    some : (n : ℕ) → 0 < n → n ≡ 0 → ⊥
-    some n h z = omega arith

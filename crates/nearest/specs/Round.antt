@@ -102,7 +102,7 @@ toBits-value (fin t m e) s a h =
     ∙ ap (λ (b : Bool). signed b (written a (size a))) (h .0)
 
 -- the pattern of an infinity with its sign
-toBits-inf : (s : Bool) → toBits binary64 (inf s) ≡ signed s infinity
+pub toBits-inf : (s : Bool) → toBits binary64 (inf s) ≡ signed s infinity
 unfolding toBits
 toBits-inf s = refl
 

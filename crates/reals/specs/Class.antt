@@ -13,11 +13,11 @@ use Rattle.nearest.specs.Round.{signed}
 use Rattle.reals.specs.Scalar.{Answer, read, refused, parsed, classOf, reaches, nearTen, most, largest}
 
 -- a power of ten is positive
-ten-pos : (k : ℕ) → 0 < 10 ^ k
+pub ten-pos : (k : ℕ) → 0 < 10 ^ k
 ten-pos k = one-le-pow k 10 (omega arith)
 
 -- a test that fails makes both fail
-no-and : (a : Bool) → a && false ≡ false
+pub no-and : (a : Bool) → a && false ≡ false
 no-and true = refl
 no-and false = refl
 

@@ -5,7 +5,7 @@ use mathlib.Core.Logic.{_⊎_, inl, inr}
 use mathlib.Core.Bool.{Bool, true, false, _&&_, _||_}
 use mathlib.Core.List.{List, [], _∷_, _++_, append-assoc, append-nil}
 use native.Mathlib.Omega.{arith}
-use native.Mathlib.Nat.{one-le-pow, mul-assoc, add-assoc, add-mul}
+use native.Mathlib.Nat.{mul-assoc, add-assoc, add-mul}
 use lib.Pow.{pow-add}
 use native.Mathlib.Decide.{decLt, decLe}
 use borrow.Author.Tests.{lt-ltb, le-ltb, le-leb, lt-leb, eq-eqb, ne-eqb, eqb-true, eqb-false, leb-true}
@@ -21,6 +21,7 @@ use Rattle.record.specs.FormRight.Parts.{first-other, number-pass, number-halt,
 use Rattle.nearest.specs.Near.{near, near-is, near-only}
 use Rattle.nearest.specs.Round.{signed}
 use Rattle.reals.specs.Scalar.{Answer, read, refused, unsigned, minus, Mantissa, mantissa, pointed, fractionOf, Exponent, power, malformed, ended, exponentOf, Parsed, parsed, unparsed, joined, counted, parseOf, reaches, nearTen, classOf, realOf}
+use Rattle.reals.specs.Class.{ten-pos}
 use Rattle.reals.specs.Form.{Signed, unmarked, plus, Fraction, pointless, point, Powered, powerless, powered, Written, Reach, Classed, over, under, RealForm, real, outside}
 use Rattle.reals.specs.Form as Form
 
@@ -273,9 +274,6 @@ written-is t = at (number-is (unsigned t) (numberFrom 0 (unsigned t) .value) (nu
             inl (minus t, d, [], c ∷ f, x, record { u = unsigned t; p = p; e = e; sign = signed-is t; shape = shape [] h; whole = a; fraction = g; some = λ z. clash (cc); power = q })
 
 -- ---- the class
-ten-pos : (k : ℕ) → 0 < 10 ^ k
-ten-pos k = one-le-pow k 10 (omega arith)
-
 -- the lower side is positive
 under-pos : (f : ℕ) (d : Bool) (x : ℕ) → 0 < under f d x
 under-pos f false x = ten-pos f

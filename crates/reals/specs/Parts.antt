@@ -12,6 +12,7 @@ use Rattle.lex.specs.Walk.{walk, walk-ends, drop-end, split}
 use Rattle.record.specs.Text.{digit, Digits, digits, digitTurn, numberFrom}
 use Rattle.record.specs.Turns.{digit-stops, digit-goes}
 use Rattle.reals.specs.Scalar.{NumberAt, DecimalAt, TensAt, unsigned, minus, most, largest, Mantissa, mantissa, pointed, fractionOf, Exponent, power, malformed, ended, exponentOf, digitsOnly, PlainAt}
+use Rattle.reals.specs.Class.{no-and}
 use Rattle.reals.specs.declared.Decimal.{Decimal}
 use Rattle.reals.specs.declared.Tens.{Tens}
 use Rattle.reals.specs.declared.Tens.the-variants.{Power, Malformed}
@@ -177,10 +178,6 @@ module _ (t : List ℕ) (u cap : ℕ) (d : Number) (at : NumberAt t u 0 cap d) w
   pub plain-other : eqb (d .next) (length t) && ltb u (length t) ≡ false → PlainAt (drop u t) cap Other
   plain-other f = go (eqb (d .next) (length t)) (ltb u (length t)) refl refl f
     where
-      no-and : (a : Bool) → a && false ≡ false
-      no-and true = refl
-      no-and false = refl
-
       full : length (drop (d .next) t) ≡ 0 → d .next ≤ length t → d .next ≡ length t
       full o w = let q : length t - d .next ≡ 0 = sym (simp length-drop) ∙ o in omega arith
 

@@ -1,53 +1,27 @@
 -- The factor of a prefix as a rule that names no search, and that Prefix.antt computes just this. Assumes nothing.
-use Prim.Native.Nat.{ℕ, zero, suc, _+_, _^_, _≤_, _<_}
-use Prim.Native.String.{String}
+use Prim.Native.Nat.{ℕ, zero, suc, _^_, _≤_, _<_}
 use mathlib.Core.Path.{_≡_, refl, sym, _∙_, ap, subst}
 use mathlib.Core.Bool.{Bool, true, false, not, _&&_}
-use mathlib.Core.Logic.{_⊎_, inl, inr}
-use mathlib.Core.List.{List, [], _∷_, map}
+use mathlib.Core.List.{List, [], _∷_}
 use native.Mathlib.Nat.{one-le-pow, le-of-suc-le-suc}
 use native.Mathlib.Omega.{arith}
 use native.Mathlib.Decide.{decLt}
-use borrow.Author.Tests.{eqb-true, eq-eqb}
-use lib.Dec.{T, eqb}
+use lib.Dec.{T}
 use lib.ListN.{length, getD}
 use lib.Ieee.Bits.{is-false}
 use lib.Ieee.Fits.{and-l, and-r}
 use Rattle.lex.specs.Byte.{pick}
-use Rattle.lex.specs.Right.Steps.{clash}
-use Rattle.record.specs.Word.{upper, same, isWord}
+use Rattle.record.specs.Word.{same, isWord}
 use Rattle.record.specs.Form.{bytes, Spelt}
+use Rattle.record.specs.FormRight.{spelt-is, spelt-only}
 use Rattle.nearest.specs.Nearest.{IsNearest}
 use Rattle.nearest.specs.Near.{near, near-is, near-only}
-use Rattle.reals.specs.Prefix.{Prefix, row, prefixes, unity, tenUp, tenDown, placeIn, prefixOf, factorOf, place-within, place-most}
+use Rattle.reals.specs.Prefix.{Prefix, row, prefixes, unity, tenUp, tenDown, placeIn, prefixOf, factorOf, place-most}
 
 -- "Prefixes: [..]; any other 1.0", "all in either case": the nearest f64 to the power of ten of the one row that is named so
 pub data PrefixForm : List ℕ → ℕ → Type 0 where
   named : {t : List ℕ} {b : ℕ} (k : ℕ) → k < 16 → Spelt t (getD prefixes k unity .name) → IsNearest (tenUp (getD prefixes k unity)) (tenDown (getD prefixes k unity)) b → PrefixForm t b
   other : {t : List ℕ} {b : ℕ} → ((k : ℕ) → k < 16 → Spelt t (getD prefixes k unity .name) → ⊥) → IsNearest 1 1 b → PrefixForm t b
-
--- ---- the test for a word, both ways
-same-true : (x y : List ℕ) → same x y ≡ true → x ≡ y
-unfolding same
-same-true [] [] h = refl
-same-true [] (b ∷ y) h = clash (cc)
-same-true (a ∷ x) [] h = clash (cc)
-same-true (a ∷ x) (b ∷ y) h = go (eqb a b) refl (same-true x y) h
-  where
-    go : (t : Bool) → eqb a b ≡ t → (same x y ≡ true → x ≡ y) → t && same x y ≡ true → a ∷ x ≡ b ∷ y
-    go true e g f = cc (g f, eqb-true a b e)
-    go false e g f = clash (cc)
-
-same-self : (x : List ℕ) → same x x ≡ true
-unfolding same
-same-self [] = refl
-same-self (a ∷ x) = rw (eq-eqb a a refl) (same-self x)
-
-spelt-is : (t : List ℕ) (w : String) → isWord t (bytes w) ≡ true → Spelt t w
-spelt-is t w h = same-true (map upper t) (bytes w) h
-
-spelt-only : (t : List ℕ) (w : String) → Spelt t w → isWord t (bytes w) ≡ true
-spelt-only t w h = rw h (same-self (bytes w))
 
 -- ---- no two rows have one name: one test that antt computes
 -- no row has this name

@@ -306,16 +306,18 @@ same-true (a ∷ x) (b ∷ y) h = go (eqb a b) refl (same-true x y)
     go true e g = let f : same x y ≡ true = rw e at h in cc (g f, eqb-true a b e)
     go false e g = let f : false ≡ true = rw e at h in clash (cc)
 
+-- a text is the same as itself
 same-self : (x : List ℕ) → same x x ≡ true
 unfolding same
 same-self [] = refl
 same-self (a ∷ x) = rw (eq-eqb a a refl) (same-self x)
 
 -- "letters in either case": the test for a word, both ways
-spelt-is : (t : List ℕ) (w : String) → isWord t (bytes w) ≡ true → Spelt t w
+pub spelt-is : (t : List ℕ) (w : String) → isWord t (bytes w) ≡ true → Spelt t w
 spelt-is t w h = same-true (map upper t) (bytes w) h
 
-spelt-only : (t : List ℕ) (w : String) → Spelt t w → isWord t (bytes w) ≡ true
+-- a text that is spelt so passes the test
+pub spelt-only : (t : List ℕ) (w : String) → Spelt t w → isWord t (bytes w) ≡ true
 spelt-only t w h = rw h (same-self (bytes w))
 
 -- a test that cannot pass fails
