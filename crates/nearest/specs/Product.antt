@@ -16,7 +16,8 @@ use lib.Ieee.Back.{round-whole}
 use lib.Ieee.Exact.{HasValue, odd-sign}
 use lib.Ieee.Bits.{ofBits-toBits}
 use Rattle.nearest.specs.Units.{unitsAt, unitsOf, infinity}
-use Rattle.nearest.specs.Near.{near, near-same}
+use Rattle.nearest.specs.Nearest.{IsNearest}
+use Rattle.nearest.specs.Near.{near, near-is, near-same}
 use Rattle.nearest.specs.Round.{signed, toBits-inf, round-near}
 
 -- what a bit pattern stands for: no number, an infinity, or so many units of 2 ^ -1074; true is the negative sign
@@ -303,3 +304,24 @@ quotient-exact p q s a b bp e f =
     ∙ ap (λ (z : Bool). cond z (cond (eqb (a * 2 ^ 1074) 0) quiet (signed (unlike s false) infinity)) (signed (unlike s false) (near (a * 2 ^ 1074) (b * 2 ^ 1074)))) (ne-eqb (b * 2 ^ 1074) 0 (some (b * 2 ^ 1074) dp))
     ∙ ap (λ (t : Bool). signed t (near (a * 2 ^ 1074) (b * 2 ^ 1074))) (as-first s)
     ∙ ap (signed s) (near-same (a * 2 ^ 1074) (b * 2 ^ 1074) a b dp bp (mul-right-comm a (2 ^ 1074) b ∙ mul-assoc a b (2 ^ 1074)))
+
+-- ---- what the two functions answer, held against the definition of the nearest
+-- a product of two numbers of a and b units is the nearest pattern to it, with its sign
+pub product-nearest : (p q : ℕ) (s t : Bool) (a b : ℕ) → worthOf p ≡ finite s a → worthOf q ≡ finite t b
+    → (c : ℕ) × (product p q ≡ signed (unlike s t) c) × IsNearest (a * b) (2 ^ 1074 * 2 ^ 1074) c
+product-nearest p q s t a b e f = (
+  near (a * b) (2 ^ 1074 * 2 ^ 1074),
+  ap (λ (w : Worth). timesOf w (worthOf q)) e ∙ ap (timesOf (finite s a)) f,
+  near-is (a * b) (2 ^ 1074 * 2 ^ 1074) (mul-pos (pow-pos 1074) (pow-pos 1074)),
+)
+
+-- a quotient of two numbers of a and b units, b not zero, is the nearest pattern to a / b, with its sign
+pub quotient-nearest : (p q : ℕ) (s t : Bool) (a b : ℕ) → 0 < b → worthOf p ≡ finite s a → worthOf q ≡ finite t b
+    → (c : ℕ) × (quotient p q ≡ signed (unlike s t) c) × IsNearest a b c
+quotient-nearest p q s t a b bp e f = (
+  near a b,
+  ap (λ (w : Worth). overOf w (worthOf q)) e
+      ∙ ap (overOf (finite s a)) f
+      ∙ ap (λ (z : Bool). cond z (cond (eqb a 0) quiet (signed (unlike s t) infinity)) (signed (unlike s t) (near a b))) (ne-eqb b 0 (some b bp)),
+  near-is a b bp,
+)
