@@ -1,0 +1,51 @@
+-- What the numbers that the code hands on stand for, and the answers of the public functions. Assumes nothing.
+use Prim.Native.Nat.{ℕ, zero, suc, _+_, _*_, _-_, _≤_, min}
+use mathlib.Core.Path.{_≡_}
+use mathlib.Core.Bool.{Bool, true, false, _&&_, _||_}
+use mathlib.Core.List.{List, [], _∷_, _++_}
+use lib.Dec.{eqb, leb, ltb}
+use lib.ListN.{length, take, drop}
+use Rattle.lex.specs.Byte.{pick}
+use Rattle.utf8.specs.Utf8.{encodeAll}
+use Rattle.strings.specs.declared.Char.{Char}
+use Rattle.strings.specs.declared.Decoded.{Decoded}
+use Rattle.strings.specs.declared.Decoded.the-variants.{Plain, Written, Short}
+use Rattle.strings.specs.Text.{Group, char, wrong, Piece, plain, bytesOf}
+use Rattle.strings.specs.Put.{Laid}
+
+-- a group that took no byte is a bad one
+abbrev pub toldGroup : Char → Group
+toldGroup c = pick (eqb (c .used) 0) wrong (char (c .code) (c .used))
+
+-- a piece as the code sees it: the bytes to write and the bytes read
+pub record View : Type 0 where
+  pub written : List ℕ
+  pub used : ℕ
+
+-- a piece's view
+abbrev pub viewOf : Piece → View
+viewOf p = record { written = encodeAll (p .chars); used = p .used }
+
+-- the view of a piece with one character; a number that is no character stands for none
+abbrev pub oneView : ℕ → ℕ → View
+oneView c k = record { written = encodeAll (c ∷ []); used = k }
+
+-- a piece has been read: its bytes are put from place a on
+pub record Moved (p : Piece) (a : ℕ) (o : List ℕ) (e k : ℕ) (q : List ℕ) : Type 0 where
+  pub put : Laid a o (encodeAll (p .chars)) e q
+  pub read : k ≡ p .used
+
+-- "If no quote, backslash or high byte occurs, the text shown is that part of the file; otherwise a part of the lent output. 16
+-- exactly when a text of this second kind is longer than the output."
+abbrev pub decodedOf : List ℕ → ℕ → Decoded
+decodedOf s n = pick (plain s) Plain (pick (leb (length (bytesOf s)) n) (Written (length (bytesOf s))) Short)
+
+-- the lent output afterwards: the text and, beyond it, what was there; untouched where nothing is written
+abbrev pub roomAfter : List ℕ → List ℕ → List ℕ
+roomAfter s o = pick (plain s) o (pick (leb (length (bytesOf s)) (length o)) (bytesOf s ++ drop (length (bytesOf s)) o) o)
+
+-- the text of an answer: "that part of the file; otherwise a part of the lent output"; none for a refusal
+abbrev pub shownOf : List ℕ → List ℕ → Decoded → List ℕ
+shownOf s o Plain = s
+shownOf s o (Written n) = take n o
+shownOf s o Short = []

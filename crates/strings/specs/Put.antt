@@ -1,0 +1,70 @@
+-- Bytes put into lent room one after another: how far a run has come and what the room then holds. Assumes nothing.
+use Prim.Native.Nat.{ℕ, zero, suc, _+_, _*_, _-_, _≤_, _<_, min}
+use mathlib.Core.Path.{_≡_, refl, sym, _∙_, ap}
+use mathlib.Core.Bool.{Bool, true, false, _&&_, _||_}
+use mathlib.Core.List.{List, [], _∷_, _++_, append-assoc, append-nil}
+use native.Mathlib.Omega.{arith}
+use borrow.Author.Tests.{le-leb}
+use lib.Dec.{leb}
+use lib.ListN.{length, take, drop, length-append, length-drop}
+use lib.Seq.{drop-drop, take-append-seam, drop-append-add}
+use Rattle.lex.specs.Byte.{pick}
+use Rattle.utf8.specs.Utf8.{encode, encodeAll, putAt}
+
+-- the largest number of 64 bits
+abbrev pub most : ℕ
+most = 18446744073709551615
+
+-- from place a of the room o, the bytes bs have been counted up to e, and where they fit the room p holds them and is else as it was
+pub record Laid (a : ℕ) (o bs : List ℕ) (e : ℕ) (p : List ℕ) : Type 0 where
+  pub counted : e ≡ min most (a + length bs)
+  pub laid : (pre post : List ℕ) → o ≡ pre ++ post → length pre ≡ a → length bs ≤ length post → p ≡ pre ++ (bs ++ drop (length bs) post)
+
+-- no byte changes nothing
+pub laid-none : (a : ℕ) (o : List ℕ) → a ≤ most → Laid a o [] a o
+laid-none a o h = record { counted = omega arith; laid = λ pre post e l k. e }
+
+-- bytes, and then further bytes
+pub laid-then : (a : ℕ) (o xs : List ℕ) (e : ℕ) (p ys : List ℕ) (f : ℕ) (q : List ℕ) → length o ≤ most → Laid a o xs e p → Laid e p ys f q → Laid a o (xs ++ ys) f q
+laid-then a o xs e p ys f q m x y = record { counted = rw (length-append xs ys) (omega (arith, x .counted, y .counted)); laid = go }
+  where
+    go : (pre post : List ℕ) → o ≡ pre ++ post → length pre ≡ a → length (xs ++ ys) ≤ length post → q ≡ pre ++ ((xs ++ ys) ++ drop (length (xs ++ ys)) post)
+    go pre post g l h =
+        let n : length (xs ++ ys) ≡ length xs + length ys = length-append xs ys in
+        let o≡ : length o ≡ length pre + length post = ap length g ∙ length-append pre post in
+        let p≡ : p ≡ pre ++ xs ++ drop (length xs) post = x .laid pre post g l (omega arith) ∙ sym (append-assoc pre xs (drop (length xs) post)) in
+        let e≡ : length (pre ++ xs) ≡ e = length-append pre xs ∙ omega (arith, x .counted) in
+        let d : length ys ≤ length (drop (length xs) post) = rw (length-drop (length xs) post) (omega arith) in
+        let q≡ : q ≡ pre ++ xs ++ (ys ++ drop (length ys) (drop (length xs) post)) = y .laid (pre ++ xs) (drop (length xs) post) p≡ e≡ d in
+        let r = drop (length xs + length ys) post in
+        q≡ ∙ rw (n, drop-drop (length ys) (length xs) post) (append-assoc pre xs (ys ++ r) ∙ ap (λ (z : List ℕ). pre ++ z) (sym (append-assoc xs ys r)))
+
+-- the encodings of two lists of characters
+pub encode-append : (xs ys : List ℕ) → encodeAll (xs ++ ys) ≡ encodeAll xs ++ encodeAll ys
+unfolding encodeAll
+encode-append [] ys = refl
+encode-append (x ∷ xs) ys = ap (λ (z : List ℕ). encode x ++ z) (encode-append xs ys) ∙ sym (append-assoc (encode x) (encodeAll xs) (encodeAll ys))
+
+-- characters, and then further characters
+pub laid-chars : (a : ℕ) (o xs : List ℕ) (e : ℕ) (p ys : List ℕ) (f : ℕ) (q : List ℕ) → length o ≤ most → Laid a o (encodeAll xs) e p → Laid e p (encodeAll ys) f q → Laid a o (encodeAll (xs ++ ys)) f q
+laid-chars a o xs e p ys f q m x y = rw (encode-append xs ys) (laid-then a o (encodeAll xs) e p (encodeAll ys) f q m x y)
+
+-- no character
+pub laid-nothing : (a : ℕ) (o : List ℕ) → a ≤ most → Laid a o (encodeAll []) a o
+unfolding encodeAll
+laid-nothing a o h = laid-none a o h
+
+-- a room after bytes were put at a place of it where they fit, and else as it was
+pub put-laid : (a : ℕ) (o bs p : List ℕ) (e : ℕ) → p ≡ pick (leb (a + length bs) (length o)) (take a o ++ bs ++ drop (a + length bs) o) o → e ≡ min most (a + length bs) → Laid a o bs e p
+put-laid a o bs p e h k = record { counted = k; laid = go }
+  where
+    go : (pre post : List ℕ) → o ≡ pre ++ post → length pre ≡ a → length bs ≤ length post → p ≡ pre ++ (bs ++ drop (length bs) post)
+    go pre post g l j =
+        let n : length o ≡ length pre + length post = ap length g ∙ length-append pre post in
+        let u : p ≡ take a o ++ bs ++ drop (a + length bs) o = h ∙ rw (le-leb (a + length bs) (length o) (omega arith)) refl in
+        u ∙ rw (g, sym l, take-append-seam pre post, drop-append-add pre post (length bs)) (append-assoc pre bs (drop (length bs) post))
+
+-- a character put where it fits, and counted wherever it stands
+pub put-one : (a : ℕ) (o : List ℕ) (c w e : ℕ) (p : List ℕ) → w ≡ length (encode c) → p ≡ putAt a (encode c) o → e ≡ min most (a + w) → Laid a o (encodeAll (c ∷ [])) e p
+unfolding encodeAll putAt
+put-one a o c w e p h k l = rw (append-nil (encode c)) (put-laid a o (encode c) p e k (l ∙ ap (λ (z : ℕ). min most (a + z)) h))

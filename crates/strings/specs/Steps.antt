@@ -1,0 +1,322 @@
+-- The text's pieces one after another: the laws that the code's loops go by. Assumes nothing.
+use Prim.Native.Nat.{ℕ, zero, suc, _+_, _*_, _-_, _≤_, _<_, min}
+use mathlib.Core.Path.{_≡_, refl, sym, _∙_, ap}
+use mathlib.Core.Bool.{Bool, true, false, _&&_, _||_}
+use mathlib.Core.List.{List, [], _∷_, _++_, append-assoc, append-nil}
+use native.Mathlib.Omega.{arith}
+use native.Mathlib.Nat.{le-refl, add-assoc}
+use borrow.Author.Tests.{ltb-true, ltb-false, leb-true, leb-false, lt-ltb, le-ltb, le-leb, lt-leb, eqb-true, ne-eqb}
+use lib.Dec.{eqb, leb, ltb}
+use lib.ListN.{length, take, drop, getD, length-drop, List·getD-eq-default, drop-of-length-le}
+use lib.Seq.{drop-drop, append-snoc, take-all}
+use Rattle.lex.specs.Byte.{pick}
+use Rattle.utf8.specs.Utf8.{byteAt, Lead, valid, invalid, leadOf, encodeAll}
+use Rattle.lex.specs.Walk.{split}
+use Rattle.strings.specs.Text
+use Rattle.strings.specs.Hex.{both, neither}
+use Rattle.utf8.specs.Laws.{used-within}
+use Rattle.strings.specs.Put.{most, Laid, laid-nothing, laid-chars}
+use Rattle.strings.specs.Code.{Moved, toldGroup}
+use Rattle.strings.specs.declared.Char.{Char}
+
+-- a hex digit stands within the list
+pub hex-within : (s : List ℕ) (k : ℕ) → Text.hexDigit (byteAt s k) ≡ true → k < length s
+hex-within s k e = go (ltb k (length s)) refl
+  where
+    go : (t : Bool) → ltb k (length s) ≡ t → k < length s
+    go true p = ltb-true k (length s) p
+    go false p =
+        let z : _≡_ {A = Bool} false true = ap Text.hexDigit (sym (List·getD-eq-default s 256 (ltb-false k (length s) p))) ∙ e in
+        let w : _≡_ {A = ℕ} 0 1 = ap (λ (t : Bool). pick t 1 0) z in
+        absurd (omega arith)
+
+-- a byte that is told stands within the list
+pub is-within : (s : List ℕ) (k b : ℕ) → b < 256 → Text.is s k b ≡ true → k < length s
+is-within s k b h e = go (ltb k (length s)) refl
+  where
+    go : (t : Bool) → ltb k (length s) ≡ t → k < length s
+    go true p = ltb-true k (length s) p
+    go false p =
+        let z : byteAt s k ≡ 256 = List·getD-eq-default s 256 (ltb-false k (length s) p) in
+        let w : byteAt s k ≡ b = eqb-true (byteAt s k) b e in
+        absurd (omega arith)
+
+-- four hex digits stand within the list
+pub four-within : (s : List ℕ) (k : ℕ) → Text.fourAt s k ≡ true → k + 4 ≤ length s
+four-within s k e =
+    let x = both (Text.twoAt s k) (Text.twoAt s (k + 2)) e in
+    let y = both (Text.hexDigit (byteAt s (k + 2))) (Text.hexDigit (byteAt s (k + 2 + 1))) (x .1) in
+    let z = hex-within s (k + 2 + 1) (y .1) in
+    omega arith
+
+-- how many bytes a group took
+abbrev pub taken : Text.Group → ℕ
+taken (Text.char c k) = k
+taken Text.wrong = 0
+
+-- a group takes bytes that are there
+pub group-fits : (w : ℕ) (s : List ℕ) → taken (Text.groupOf w s) ≤ length s
+unfolding Text.groupTwo Text.groupFour
+group-fits w s = go (eqb w 4)
+  where
+    two : (t u v : Bool) → Text.fourAt s 0 ≡ t → Text.high (Text.fourOf s 0) ≡ u → Text.fourAt s 4 ≡ v → taken (Text.groupTwo s) ≤ length s
+    two false u v p q r = rw p (omega arith)
+    two true false v p q r = let h = four-within s 0 p in rw (p, q) (omega arith)
+    two true true false p q r = rw (p, q, r) (omega arith)
+    two true true true p q r = let h = four-within s 4 r in rw (p, q, r) (omega arith)
+
+    four : (t v : Bool) → Text.fourAt s 0 ≡ t → Text.fourAt s 4 ≡ v → taken (Text.groupFour s) ≤ length s
+    four false v p r = rw p (omega arith)
+    four true false p r = rw (p, r) (omega arith)
+    four true true p r = let h = four-within s 4 r in rw (p, r) (omega arith)
+
+    go : (t : Bool) → taken (pick t (Text.groupTwo s) (Text.groupFour s)) ≤ length s
+    go true = two (Text.fourAt s 0) (Text.high (Text.fourOf s 0)) (Text.fourAt s 4) refl refl refl
+    go false = four (Text.fourAt s 0) (Text.fourAt s 4) refl refl
+
+-- the groups from a place on
+pub groups-skip : (w n : ℕ) (s : List ℕ) → Text.groupsFrom w n s ≡ Text.groupsFrom w 0 (drop n s)
+unfolding Text.groupsFrom
+groups-skip w zero s = refl
+groups-skip w (suc n) [] = refl
+groups-skip w (suc n) (b ∷ r) = groups-skip w n r
+
+-- whether the groups end here: too few bytes are left, or a backslash
+abbrev pub ends : ℕ → List ℕ → Bool
+ends w t = ltb (length t) w || Text.is t 0 92
+
+-- the groups end
+pub groups-stop : (w : ℕ) (t : List ℕ) → 0 < length t → ends w t ≡ true → Text.groupsFrom w 0 t ≡ Text.ended [] (Text.closing t)
+unfolding Text.groupsFrom
+groups-stop w [] h e = absurd (omega arith)
+groups-stop w (b ∷ r) h e = rw e refl
+
+-- a bad group
+pub groups-wrong : (w : ℕ) (t : List ℕ) → 0 < length t → ends w t ≡ false → Text.groupOf w t ≡ Text.wrong → Text.groupsFrom w 0 t ≡ Text.broken []
+unfolding Text.groupsFrom
+groups-wrong w [] h e g = absurd (omega arith)
+groups-wrong w (b ∷ r) h e g = rw (e, g) refl
+
+-- a group, and those after it
+pub groups-char : (w : ℕ) (t : List ℕ) (c k : ℕ) → 0 < length t → ends w t ≡ false → Text.groupOf w t ≡ Text.char c k → 0 < k → Text.groupsFrom w 0 t ≡ Text.withChar c k (Text.groupsFrom w 0 (drop k t))
+unfolding Text.groupsFrom
+groups-char w [] c k h e g p = absurd (omega arith)
+groups-char w (b ∷ r) c zero h e g p = absurd (omega arith)
+groups-char w (b ∷ r) c (suc k) h e g p = let q : suc k - 1 ≡ k = omega arith in rw (e, g, q) (ap (λ (z : Text.Groups). Text.withChar c (suc k) z) (groups-skip w k r))
+
+-- how many bytes the groups took
+abbrev pub eaten : Text.Groups → ℕ
+eaten (Text.ended cs n) = n
+eaten (Text.broken cs) = 0
+
+-- the groups take bytes that are there
+pub groups-fit : (w n : ℕ) (t : List ℕ) → eaten (Text.groupsFrom w n t) ≤ length t - n
+unfolding Text.groupsFrom
+groups-fit w n [] = omega arith
+groups-fit w (suc n) (b ∷ r) = let k = groups-fit w n r in omega arith
+groups-fit w zero (b ∷ r) =
+    let k = go (ltb (suc (length r)) w || eqb b 92) (Text.groupOf w (b ∷ r)) (group-fits w (b ∷ r)) (λ k. groups-fit w (k - 1) r) in
+    omega arith
+  where
+    shut : (t : Bool) → pick t (min 4 (length (b ∷ r))) 0 ≤ length (b ∷ r)
+    shut true = omega arith
+    shut false = omega arith
+
+    more : (c k : ℕ) (g : Text.Groups) → k ≤ length (b ∷ r) → eaten g ≤ length r - (k - 1) → eaten (Text.withChar c k g) ≤ length (b ∷ r)
+    more c k (Text.ended cs n) h l = omega arith
+    more c k (Text.broken cs) h l = omega arith
+
+    go : (t : Bool) (g : Text.Group) → taken g ≤ length (b ∷ r) → ((k : ℕ) → eaten (Text.groupsFrom w (k - 1) r) ≤ length r - (k - 1)) → eaten (pick t (Text.ended [] (Text.closing (b ∷ r))) (Text.grouped g (λ k. Text.groupsFrom w (k - 1) r))) ≤ length (b ∷ r)
+    go true g h f = shut (Text.is (b ∷ r) 0 92 && (Text.is (b ∷ r) 1 88 && Text.is (b ∷ r) 2 48))
+    go false (Text.char c k) h f = more c k (Text.groupsFrom w (k - 1) r) h (f k)
+    go false Text.wrong h f = omega arith
+
+-- the text from a place on
+pub text-skip : (n : ℕ) (s : List ℕ) → Text.textFrom n s ≡ Text.textOf (drop n s)
+unfolding Text.textFrom Text.textOf
+text-skip zero s = refl
+text-skip (suc n) [] = refl
+text-skip (suc n) (b ∷ r) = text-skip n r
+
+-- a piece, and the text after it
+pub text-goes : (s : List ℕ) (n : ℕ) → 0 < length s → n ≡ Text.pieceOf s .used → 0 < n → Text.textOf s ≡ Text.pieceOf s .chars ++ Text.textOf (drop n s)
+unfolding Text.textFrom Text.textOf
+text-goes [] n h e p = absurd (omega arith)
+text-goes (b ∷ r) zero h e p = absurd (omega arith)
+text-goes (b ∷ r) (suc n) h e p =
+    let q : Text.pieceOf (b ∷ r) .used - 1 ≡ n = omega arith in
+    rw q (ap (λ (z : List ℕ). Text.pieceOf (b ∷ r) .chars ++ z) (text-skip n r))
+
+-- no byte, no text
+pub text-ends : (s : List ℕ) (i : ℕ) → length s ≤ i → Text.textOf (drop i s) ≡ []
+unfolding Text.textFrom Text.textOf
+text-ends s i h = rw (drop-of-length-le s h) refl
+
+-- a directive with groups takes bytes that are there
+pub extended-fits : (w : ℕ) (s : List ℕ) → 4 ≤ length s → (0 < Text.extended (Text.groupsFrom w 0 (drop 4 s)) .used) × (Text.extended (Text.groupsFrom w 0 (drop 4 s)) .used ≤ length s)
+extended-fits w s h = go (Text.groupsFrom w 0 (drop 4 s)) (groups-fit w 0 (drop 4 s))
+  where
+    go : (g : Text.Groups) → eaten g ≤ length (drop 4 s) - 0 → (0 < Text.extended g .used) × (Text.extended g .used ≤ length s)
+    go (Text.ended cs n) l = let k : length (drop 4 s) ≡ length s - 4 = length-drop 4 s in (omega arith, omega arith)
+    go (Text.broken cs) l = (omega arith, omega arith)
+
+-- whether a piece takes bytes that are there, at least one
+abbrev pub Fits : List ℕ → Text.Piece → Type 0
+Fits s p = (0 < p .used) × (p .used ≤ length s)
+
+-- one of two that both do
+pub pick-fits : (s : List ℕ) (t : Bool) (p q : Text.Piece) → (t ≡ true → Fits s p) → (t ≡ false → Fits s q) → Fits s (pick t p q)
+pick-fits s true p q f g = f refl
+pick-fits s false p q f g = g refl
+
+-- a directive with groups, or an unknown one
+pub long-fits : (s : List ℕ) → 0 < length s → Fits s (Text.longOf s)
+long-fits s h = pick-fits s (Text.is s 1 88 && (Text.is s 2 50 && Text.is s 3 92)) _ _ (λ e. extended-fits 4 s (three 50 e)) (λ n. pick-fits s (Text.is s 1 88 && (Text.is s 2 52 && Text.is s 3 92)) _ _ (λ e. extended-fits 8 s (three 52 e)) (λ m. (omega arith, omega arith)))
+  where
+    three : (d : ℕ) → Text.is s 1 88 && (Text.is s 2 d && Text.is s 3 92) ≡ true → 4 ≤ length s
+    three d e =
+        let x = both (Text.is s 1 88) (Text.is s 2 d && Text.is s 3 92) e in
+        let y = both (Text.is s 2 d) (Text.is s 3 92) (x .1) in
+        let z = is-within s 3 92 (omega arith) (y .1) in
+        omega arith
+
+-- every directive
+pub directive-fits : (s : List ℕ) → 0 < length s → Fits s (Text.directiveOf s)
+unfolding Text.directiveOf
+directive-fits s h =
+    pick-fits s (Text.is s 1 92) _ _ (λ e. let z = is-within s 1 92 (omega arith) e in (omega arith, omega arith)) (λ n1.
+    pick-fits s (Text.is s 1 78 && Text.is s 2 92) _ _ (λ e. let z = is-within s 2 92 (omega arith) (both (Text.is s 1 78) (Text.is s 2 92) e .1) in (omega arith, omega arith)) (λ n2.
+    pick-fits s (Text.is s 1 84 && Text.is s 2 92) _ _ (λ e. let z = is-within s 2 92 (omega arith) (both (Text.is s 1 84) (Text.is s 2 92) e .1) in (omega arith, omega arith)) (λ n3.
+    pick-fits s (Text.is s 1 80 && Text.is s 3 92) _ _ (λ e. let z = is-within s 3 92 (omega arith) (both (Text.is s 1 80) (Text.is s 3 92) e .1) in (omega arith, omega arith)) (λ n4.
+    pick-fits s (Text.is s 1 83 && (Text.is s 2 92 && leb 4 (length s))) _ _ (λ e. let z = leb-true 4 (length s) (both (Text.is s 2 92) (leb 4 (length s)) (both (Text.is s 1 83) (Text.is s 2 92 && leb 4 (length s)) e .1) .1) in (omega arith, omega arith)) (λ n5.
+    pick-fits s (Text.is s 1 88 && (Text.is s 2 92 && Text.twoAt s 3)) _ _ (λ e. let z = hex-within s 4 (both (Text.hexDigit (byteAt s 3)) (Text.hexDigit (byteAt s 4)) (both (Text.is s 2 92) (Text.twoAt s 3) (both (Text.is s 1 88) (Text.is s 2 92 && Text.twoAt s 3) e .1) .1) .1) in (omega arith, omega arith)) (λ n6. long-fits s h))))))
+
+-- every piece takes bytes that are there, at least one
+pub piece-fits : (s : List ℕ) → 0 < length s → Fits s (Text.pieceOf s)
+unfolding Text.pieceOf
+piece-fits s h =
+    pick-fits s (Text.is s 0 92) _ _ (λ e. directive-fits s h) (λ n1.
+    pick-fits s (Text.is s 0 39 && Text.is s 1 39) _ _ (λ e. let z = is-within s 1 39 (omega arith) (both (Text.is s 0 39) (Text.is s 1 39) e .1) in (omega arith, omega arith)) (λ n2.
+    pick-fits s (ltb (byteAt s 0) 128) _ _ (λ e. (omega arith, omega arith)) (λ n3. go (leadOf s) refl)))
+  where
+    go : (l : Lead) → leadOf s ≡ l → Fits s (Text.rawOf (byteAt s 0) l)
+    go (valid c k) e = used-within s c k e
+    go invalid e = (omega arith, omega arith)
+
+-- nothing is left: plain
+pub plain-ends : (s : List ℕ) (i : ℕ) → length s ≤ i → Text.plain (drop i s) ≡ true
+unfolding Text.plain
+plain-ends s i h = rw (drop-of-length-le s h) refl
+
+-- a quote, a backslash or a high byte
+pub plain-stops : (s : List ℕ) (i : ℕ) → i < length s → eqb (getD s i 0) 39 || (eqb (getD s i 0) 92 || leb 128 (getD s i 0)) ≡ true → Text.plain (drop i s) ≡ false
+unfolding Text.plain
+plain-stops s i h e = rw (split s i h, e) refl
+
+-- another byte
+pub plain-goes : (s : List ℕ) (i : ℕ) → i < length s → eqb (getD s i 0) 39 || (eqb (getD s i 0) 92 || leb 128 (getD s i 0)) ≡ false → Text.plain (drop i s) ≡ Text.plain (drop (i + 1) s)
+unfolding Text.plain
+plain-goes s i h e = rw (split s i h, e) refl
+
+-- the piece of a directive whose groups are read up to place i, the characters cs among them
+abbrev pub onward : List ℕ → ℕ → Text.Groups → Text.Piece
+onward cs i (Text.ended ds n) = Text.gives (cs ++ ds) (i + n)
+onward cs i (Text.broken ds) = Text.gives (cs ++ (ds ++ 92 ∷ [])) 1
+
+-- one group more is read
+pub onward-char : (cs : List ℕ) (i c k : ℕ) (g : Text.Groups) → onward cs i (Text.withChar c k g) ≡ onward (cs ++ c ∷ []) (i + k) g
+onward-char cs i c k (Text.ended ds n) =
+    let e : i + (k + n) ≡ i + k + n = omega arith in
+    rw (e, append-snoc cs c ds) refl
+onward-char cs i c k (Text.broken ds) = rw (append-snoc cs c (ds ++ 92 ∷ [])) refl
+
+-- at the start none is read
+pub onward-none : (g : Text.Groups) → Text.extended g ≡ onward [] 4 g
+onward-none (Text.ended ds n) = refl
+onward-none (Text.broken ds) = refl
+
+-- the groups are read up to place i, and their characters put
+pub record Reading (w : ℕ) (s : List ℕ) (a₀ : ℕ) (o₀ : List ℕ) (i a : ℕ) (o : List ℕ) : Type 0 where
+  pub done : List ℕ
+  pub from : 4 ≤ i
+  pub within : i ≤ length s
+  pub ahead : Text.extended (Text.groupsFrom w 0 (drop 4 s)) ≡ onward done i (Text.groupsFrom w 0 (drop i s))
+  pub put : Laid a₀ o₀ (encodeAll done) a o
+  pub kept : length o ≡ length o₀
+
+-- the rest from a place, as the language hands it on
+pub rest-is : (s : List ℕ) (i : ℕ) → take (length s - i) (drop i s) ≡ drop i s
+rest-is s i = take-all (length s - i) (drop i s) (omega (arith, length-drop i s))
+
+module _ (w : ℕ) (s : List ℕ) (a₀ : ℕ) (o₀ : List ℕ) where
+  -- at the start
+  pub reading-starts : 4 ≤ length s → a₀ ≤ most → Reading w s a₀ o₀ 4 a₀ o₀
+  reading-starts h m = record { done = []; from = omega arith; within = h; ahead = onward-none (Text.groupsFrom w 0 (drop 4 s)); put = laid-nothing a₀ o₀ m; kept = refl }
+
+  module _ (i a : ℕ) (o : List ℕ) (r : Reading w s a₀ o₀ i a o) where
+    -- no byte is left
+    pub reading-ends : length s ≤ i → Moved (Text.extended (Text.groupsFrom w 0 (drop 4 s))) a₀ o₀ a i o
+    unfolding Text.groupsFrom
+    reading-ends h =
+        let e : Text.extended (Text.groupsFrom w 0 (drop 4 s)) ≡ Text.gives (r .done ++ []) (i + 0) = r .ahead ∙ ap (λ (t : List ℕ). onward (r .done) i (Text.groupsFrom w 0 t)) (drop-of-length-le s h) in
+        moved e (omega arith)
+      where
+        moved : Text.extended (Text.groupsFrom w 0 (drop 4 s)) ≡ Text.gives (r .done ++ []) (i + 0) → i ≡ i + 0 → Moved (Text.extended (Text.groupsFrom w 0 (drop 4 s))) a₀ o₀ a i o
+        moved e k = rw e (record { put = rw (append-nil (r .done)) (r .put); read = k })
+
+    -- the groups end
+    pub reading-stops : i < length s → ends w (drop i s) ≡ true → Moved (Text.extended (Text.groupsFrom w 0 (drop 4 s))) a₀ o₀ a (i + Text.closing (drop i s)) o
+    reading-stops h e =
+        let n : 0 < length (drop i s) = omega (arith, length-drop i s) in
+        let f : Text.extended (Text.groupsFrom w 0 (drop 4 s)) ≡ Text.gives (r .done ++ []) (i + Text.closing (drop i s)) = r .ahead ∙ ap (onward (r .done) i) (groups-stop w (drop i s) n e) in
+        rw f (record { put = rw (append-nil (r .done)) (r .put); read = refl })
+
+    module _ (e : ℕ) (p : List ℕ) (m : length o₀ ≤ most) (h : i < length s) (g : ends w (drop i s) ≡ false) where
+      -- a bad group: "the characters already read, then a literal backslash"
+      pub reading-breaks : Text.groupOf w (drop i s) ≡ Text.wrong → Laid a o (encodeAll (92 ∷ [])) e p → Moved (Text.extended (Text.groupsFrom w 0 (drop 4 s))) a₀ o₀ e 1 p
+      reading-breaks b l =
+          let n : 0 < length (drop i s) = omega (arith, length-drop i s) in
+          let f : Text.extended (Text.groupsFrom w 0 (drop 4 s)) ≡ Text.gives (r .done ++ 92 ∷ []) 1 = r .ahead ∙ ap (onward (r .done) i) (groups-wrong w (drop i s) n g b) in
+          rw f (record { put = laid-chars a₀ o₀ (r .done) a o (92 ∷ []) e p m (r .put) l; read = refl })
+
+      -- a group is read
+      pub reading-goes : (c k : ℕ) → Text.groupOf w (drop i s) ≡ Text.char c k → 0 < k → Laid a o (encodeAll (c ∷ [])) e p → length p ≡ length o → Reading w s a₀ o₀ (i + k) e p
+      reading-goes c k b q l j =
+          let n : 0 < length (drop i s) = omega (arith, length-drop i s) in
+          let t : k ≤ length (drop i s) = rw (sym (ap taken b)) (group-fits w (drop i s)) in
+          let f : Text.extended (Text.groupsFrom w 0 (drop 4 s)) ≡ onward (r .done ++ c ∷ []) (i + k) (Text.groupsFrom w 0 (drop k (drop i s))) = r .ahead ∙ ap (onward (r .done) i) (groups-char w (drop i s) c k n g b q) ∙ onward-char (r .done) i c k (Text.groupsFrom w 0 (drop k (drop i s))) in
+          record {
+            done = r .done ++ c ∷ [];
+            from = omega (arith, r .from);
+            within = omega (arith, length-drop i s, r .within);
+            ahead = f ∙ ap (λ (u : List ℕ). onward (r .done ++ c ∷ []) (i + k) (Text.groupsFrom w 0 u)) (drop-drop k i s);
+            put = laid-chars a₀ o₀ (r .done) a o (c ∷ []) e p m (r .put) l;
+            kept = j ∙ r .kept;
+          }
+
+-- what the code's group tells, where it took bytes
+pub told-char : (w : ℕ) (t u : List ℕ) (c : Char) → u ≡ t → toldGroup c ≡ Text.groupOf w u → (c .used ≡ 0 → ⊥) → Text.groupOf w t ≡ Text.char (c .code) (c .used)
+told-char w t u c e h n = rw (sym e) (sym h ∙ rw (ne-eqb (c .used) 0 n) refl)
+
+-- and where it took none
+pub told-wrong : (w : ℕ) (t u : List ℕ) (c : Char) → u ≡ t → toldGroup c ≡ Text.groupOf w u → c .used ≡ 0 → Text.groupOf w t ≡ Text.wrong
+told-wrong w t u c e h n = rw (sym e) (sym h ∙ rw n refl)
+
+-- the `\X0` takes bytes that are there
+pub closing-fits : (s : List ℕ) → Text.closing s ≤ length s
+closing-fits s = go (Text.is s 0 92 && (Text.is s 1 88 && Text.is s 2 48))
+  where
+    go : (t : Bool) → pick t (min 4 (length s)) 0 ≤ length s
+    go true = omega arith
+    go false = omega arith
+
+-- the bytes that the code's group took are there
+pub used-fits : (w : ℕ) (t u : List ℕ) (c : Char) → u ≡ t → toldGroup c ≡ Text.groupOf w u → c .used ≤ length t
+used-fits w t u c e h = go (eqb (c .used) 0) refl
+  where
+    go : (b : Bool) → eqb (c .used) 0 ≡ b → c .used ≤ length t
+    go true p = let z = eqb-true (c .used) 0 p in omega arith
+    go false p =
+        let q : taken (Text.groupOf w t) ≡ c .used = ap (λ (z : List ℕ). taken (Text.groupOf w z)) (sym e) ∙ sym (ap taken h) ∙ rw p refl in
+        let f = group-fits w t in
+        omega arith

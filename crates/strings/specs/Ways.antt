@@ -1,0 +1,209 @@
+-- What each test of the code's `short` and `ordinary` shows: one law for each way out. Assumes nothing.
+use Prim.Native.Nat.{ℕ, zero, suc, _+_, _*_, _-_, _≤_, _<_, min}
+use mathlib.Core.Path.{_≡_, refl, sym, _∙_, ap}
+use mathlib.Core.Bool.{Bool, true, false, _&&_, _||_}
+use mathlib.Core.List.{List, [], _∷_, _++_, append-assoc, append-nil}
+use native.Mathlib.Omega.{arith}
+use borrow.Author.Tests.{ltb-true, lt-ltb, le-ltb, eq-eqb, ne-eqb}
+use lib.Dec.{eqb, leb, ltb}
+use lib.ListN.{length, drop, length-drop}
+use lib.Seq.{drop-drop}
+use Rattle.lex.specs.Byte.{pick}
+use Rattle.utf8.specs.Utf8.{byteAt, Lead, valid, invalid, leadOf, codeOfLead, usedOfLead, encode, encodeAll}
+use Rattle.utf8.specs.Laws.{used-none, used-some}
+use Rattle.strings.specs.Text
+use Rattle.strings.specs.declared.Char.{Char}
+use Rattle.strings.specs.Code.{View, viewOf, oneView, Moved}
+use Rattle.strings.specs.Put.{most, Laid, laid-nothing, laid-chars}
+use Rattle.strings.specs.Hex.{both, two-below}
+use Rattle.strings.specs.Steps.{is-within, piece-fits, text-goes, text-ends}
+
+-- a number below its bound is one that is there
+pub bounded : (t : Bool) (w n v : ℕ) → (t ≡ true → w < n) → v ≡ pick t w n → ltb v n ≡ t
+bounded true w n v f e = lt-ltb v n (rw e (f refl))
+bounded false w n v f e = le-ltb v n (omega arith)
+
+module _ (s : List ℕ) (x y z v : ℕ) (ex : x ≡ byteAt s 1) (ey : y ≡ byteAt s 2) (ez : z ≡ byteAt s 3) (ev : v ≡ pick (Text.twoAt s 3) (Text.twoOf s 3) 256) where
+  -- the tests of the code are those of the definition
+  first : (a : ℕ) (t : Bool) → eqb x a ≡ t → Text.is s 1 a ≡ t
+  first a t h = rw (sym ex) h
+
+  slashed : (a : ℕ) (t : Bool) → eqb x a && eqb y 92 ≡ t → Text.is s 1 a && Text.is s 2 92 ≡ t
+  slashed a t h = rw (sym ex, sym ey) h
+
+  paged : (t : Bool) → eqb x 80 && eqb z 92 ≡ t → Text.is s 1 80 && Text.is s 3 92 ≡ t
+  paged t h = rw (sym ex, sym ez) h
+
+  shifted : (t : Bool) → eqb x 83 && (eqb y 92 && leb 4 (length s)) ≡ t → Text.is s 1 83 && (Text.is s 2 92 && leb 4 (length s)) ≡ t
+  shifted t h = rw (sym ex, sym ey) h
+
+  octet : (t : Bool) → eqb x 88 && (eqb y 92 && ltb v 256) ≡ t → Text.is s 1 88 && (Text.is s 2 92 && Text.twoAt s 3) ≡ t
+  octet t h =
+      let u : ltb v 256 ≡ Text.twoAt s 3 = bounded (Text.twoAt s 3) (Text.twoOf s 3) 256 v (two-below s 3) ev in
+      rw (sym ex, sym ey, sym u) h
+
+  -- "`\\` a backslash"
+  pub is-backslash : eqb x 92 ≡ true → oneView 92 2 ≡ viewOf (Text.directiveOf s)
+  unfolding Text.directiveOf
+  is-backslash h = rw (first 92 true h) refl
+
+  module _ (n1 : eqb x 92 ≡ false) where
+    -- "`\N\` LF"
+    pub is-newline : eqb x 78 && eqb y 92 ≡ true → oneView 10 3 ≡ viewOf (Text.directiveOf s)
+    unfolding Text.directiveOf
+    is-newline h = rw (first 92 false n1, slashed 78 true h) refl
+
+    module _ (n2 : eqb x 78 && eqb y 92 ≡ false) where
+      -- "`\T\` tab"
+      pub is-tab : eqb x 84 && eqb y 92 ≡ true → oneView 9 3 ≡ viewOf (Text.directiveOf s)
+      unfolding Text.directiveOf
+      is-tab h = rw (first 92 false n1, slashed 78 false n2, slashed 84 true h) refl
+
+      module _ (n3 : eqb x 84 && eqb y 92 ≡ false) where
+        -- "`\P?\` nothing"
+        pub is-page : eqb x 80 && eqb z 92 ≡ true → oneView 1114112 4 ≡ viewOf (Text.directiveOf s)
+        unfolding Text.directiveOf encodeAll encode
+        is-page h = rw (first 92 false n1, slashed 78 false n2, slashed 84 false n3, paged true h) refl
+
+        module _ (n4 : eqb x 80 && eqb z 92 ≡ false) where
+          -- "`\S\c` code c+128"
+          pub is-shift : eqb x 83 && (eqb y 92 && leb 4 (length s)) ≡ true → oneView (z + 128) 4 ≡ viewOf (Text.directiveOf s)
+          unfolding Text.directiveOf
+          is-shift h = rw (first 92 false n1, slashed 78 false n2, slashed 84 false n3, paged false n4, shifted true h, ez) refl
+
+          module _ (n5 : eqb x 83 && (eqb y 92 && leb 4 (length s)) ≡ false) where
+            -- "`\X\HH` one octet"
+            pub is-octet : eqb x 88 && (eqb y 92 && ltb v 256) ≡ true → v < 256 → oneView v 5 ≡ viewOf (Text.directiveOf s)
+            unfolding Text.directiveOf
+            is-octet h k =
+                let t : Text.twoAt s 3 ≡ true = sym (bounded (Text.twoAt s 3) (Text.twoOf s 3) 256 v (two-below s 3) ev) ∙ lt-ltb v 256 k in
+                let w : v ≡ Text.twoOf s 3 = ev ∙ rw t refl in
+                rw (first 92 false n1, slashed 78 false n2, slashed 84 false n3, paged false n4, shifted false n5, octet true h, w) refl
+
+            -- none of them
+            pub is-long : eqb x 88 && (eqb y 92 && ltb v 256) ≡ false → viewOf (Text.longOf s) ≡ viewOf (Text.directiveOf s)
+            unfolding Text.directiveOf
+            is-long h = rw (first 92 false n1, slashed 78 false n2, slashed 84 false n3, paged false n4, shifted false n5, octet false h) refl
+
+module _ (s : List ℕ) (n0 : eqb (byteAt s 0) 92 ≡ false) (b d : ℕ) (eb : b ≡ byteAt s 0) (ed : d ≡ byteAt s 1) where
+  twice : (t : Bool) → eqb b 39 && eqb d 39 ≡ t → Text.is s 0 39 && Text.is s 1 39 ≡ t
+  twice t h = rw (sym eb, sym ed) h
+
+  -- "`''` gives a quote"
+  pub is-quote : eqb b 39 && eqb d 39 ≡ true → oneView 39 2 ≡ viewOf (Text.pieceOf s)
+  unfolding Text.pieceOf
+  is-quote h = rw (n0, twice true h) refl
+
+  module _ (n1 : eqb b 39 && eqb d 39 ≡ false) where
+    -- a byte below 80 is itself
+    pub is-ascii : b < 128 → oneView b 1 ≡ viewOf (Text.pieceOf s)
+    unfolding Text.pieceOf
+    is-ascii h =
+        let u : ltb (byteAt s 0) 128 ≡ true = rw (sym eb) (lt-ltb b 128 h) in
+        rw (n0, twice false n1, u, eb) refl
+
+    -- "else Latin-1"
+    pub is-latin : 128 ≤ b → 0 ≡ usedOfLead (leadOf s) → oneView b 1 ≡ viewOf (Text.pieceOf s)
+    unfolding Text.pieceOf
+    is-latin h k =
+        let u : ltb (byteAt s 0) 128 ≡ false = rw (sym eb) (le-ltb b 128 h) in
+        rw (n0, twice false n1, u, used-none s k, eb) refl
+
+    -- "a valid UTF-8 sequence"
+    pub is-sequence : (c n : ℕ) → 128 ≤ b → c ≡ codeOfLead (leadOf s) → n ≡ usedOfLead (leadOf s) → (n ≡ 0 → ⊥) → oneView c n ≡ viewOf (Text.pieceOf s)
+    unfolding Text.pieceOf
+    is-sequence c n h e k p =
+        let u : ltb (byteAt s 0) 128 ≡ false = rw (sym eb) (le-ltb b 128 h) in
+        let l : leadOf s ≡ valid (codeOfLead (leadOf s)) n = used-some s n k p in
+        let q : Text.rawOf (byteAt s 0) (leadOf s) ≡ Text.gives (c ∷ []) n = ap (Text.rawOf (byteAt s 0)) l ∙ ap (λ (w : ℕ). Text.gives (w ∷ []) n) (sym e) in
+        rw (n0, twice false n1, u, q) refl
+
+-- pieces that write and read the same
+pub moved-view : (p q : Text.Piece) (a : ℕ) (o : List ℕ) (e k : ℕ) (r : List ℕ) → viewOf p ≡ viewOf q → Moved p a o e k r → Moved q a o e k r
+moved-view p q a o e k r h m = record { put = rw (sym (ap (λ (v : View). v .written) h)) (m .put); read = m .read ∙ ap (λ (v : View). v .used) h }
+
+-- a piece with one character
+pub moved-one : (p : Text.Piece) (a : ℕ) (o : List ℕ) (e k c : ℕ) (r : List ℕ) → oneView c k ≡ viewOf p → Laid a o (encodeAll (c ∷ [])) e r → Moved p a o e k r
+moved-one p a o e k c r h l = record { put = rw (sym (ap (λ (v : View). v .written) h)) l; read = ap (λ (v : View). v .used) h }
+
+-- what `short` tells where it took bytes, and where it took none
+pub short-some : (s : List ℕ) (c : Char) → pick (eqb (c .used) 0) (viewOf (Text.longOf s)) (oneView (c .code) (c .used)) ≡ viewOf (Text.directiveOf s) → (c .used ≡ 0 → ⊥) → oneView (c .code) (c .used) ≡ viewOf (Text.directiveOf s)
+short-some s c h n = sym (rw (ne-eqb (c .used) 0 n) refl) ∙ h
+
+-- where it took none a directive with groups, or an unknown one, stands
+pub short-none : (s : List ℕ) (c : Char) → pick (eqb (c .used) 0) (viewOf (Text.longOf s)) (oneView (c .code) (c .used)) ≡ viewOf (Text.directiveOf s) → c .used ≡ 0 → viewOf (Text.longOf s) ≡ viewOf (Text.directiveOf s)
+short-none s c h n = sym (rw n refl) ∙ h
+
+module _ (s : List ℕ) (x y z : ℕ) (ex : x ≡ byteAt s 1) (ey : y ≡ byteAt s 2) (ez : z ≡ byteAt s 3) where
+  marked : (d : ℕ) (t : Bool) → eqb x 88 && (eqb y d && eqb z 92) ≡ t → Text.is s 1 88 && (Text.is s 2 d && Text.is s 3 92) ≡ t
+  marked d t h = rw (sym ex, sym ey, sym ez) h
+
+  -- four bytes of a directive are there
+  pub marked-four : (d : ℕ) → eqb x 88 && (eqb y d && eqb z 92) ≡ true → 4 ≤ length s
+  marked-four d h =
+      let k = both (Text.is s 2 d) (Text.is s 3 92) (both (Text.is s 1 88) (Text.is s 2 d && Text.is s 3 92) (marked d true h) .1) .1 in
+      is-within s 3 92 (omega arith) k
+
+  -- "`\X2\`"
+  pub long-two : eqb x 88 && (eqb y 50 && eqb z 92) ≡ true → Text.extended (Text.groupsFrom 4 0 (drop 4 s)) ≡ Text.longOf s
+  long-two h = rw (marked 50 true h) refl
+
+  -- "`\X4\`"
+  pub long-four : eqb x 88 && (eqb y 50 && eqb z 92) ≡ false → eqb x 88 && (eqb y 52 && eqb z 92) ≡ true → Text.extended (Text.groupsFrom 8 0 (drop 4 s)) ≡ Text.longOf s
+  long-four n h = rw (marked 50 false n, marked 52 true h) refl
+
+  -- "An unknown directive is a literal backslash"
+  pub long-none : eqb x 88 && (eqb y 50 && eqb z 92) ≡ false → eqb x 88 && (eqb y 52 && eqb z 92) ≡ false → Text.gives (92 ∷ []) 1 ≡ Text.longOf s
+  long-none n h = rw (marked 50 false n, marked 52 false h) refl
+
+-- a backslash opens a directive
+pub piece-directive : (s : List ℕ) (b : ℕ) → b ≡ byteAt s 0 → b ≡ 92 → Text.directiveOf s ≡ Text.pieceOf s
+unfolding Text.pieceOf
+piece-directive s b e h = rw (eq-eqb (byteAt s 0) 92 (sym e ∙ h)) refl
+
+-- no backslash
+pub no-directive : (s : List ℕ) (b : ℕ) → b ≡ byteAt s 0 → (b ≡ 92 → ⊥) → eqb (byteAt s 0) 92 ≡ false
+no-directive s b e h = ne-eqb (byteAt s 0) 92 (λ k. h (e ∙ k))
+
+-- the text is read up to place i, and its characters put
+pub record Running (s o₀ : List ℕ) (i a : ℕ) (o : List ℕ) : Type 0 where
+  pub done : List ℕ
+  pub within : i ≤ length s
+  pub ahead : Text.textOf s ≡ done ++ Text.textOf (drop i s)
+  pub put : Laid 0 o₀ (encodeAll done) a o
+  pub kept : length o ≡ length o₀
+
+-- at the start
+pub running-starts : (s o : List ℕ) → Running s o 0 0 o
+running-starts s o = record { done = []; within = omega arith; ahead = refl; put = laid-nothing 0 o (omega arith); kept = refl }
+
+-- a piece is read
+pub running-goes : (s o₀ : List ℕ) (i a : ℕ) (o t : List ℕ) (e k : ℕ) (p : List ℕ) → length o₀ ≤ most → i < length s → t ≡ drop i s → Running s o₀ i a o → Moved (Text.pieceOf t) a o e k p → length p ≡ length o → Running s o₀ (i + k) e p
+running-goes s o₀ i a o t e k p m h q r v j =
+    let n : 0 < length (drop i s) = omega (arith, length-drop i s) in
+    let w : k ≡ Text.pieceOf (drop i s) .used = v .read ∙ ap (λ (z : List ℕ). Text.pieceOf z .used) q in
+    let l : Laid a o (encodeAll (Text.pieceOf (drop i s) .chars)) e p = rw (sym q) (v .put) in
+    let f = piece-fits (drop i s) n in
+    let g : Text.textOf (drop i s) ≡ Text.pieceOf (drop i s) .chars ++ Text.textOf (drop k (drop i s)) = text-goes (drop i s) k n w (omega arith) in
+    record {
+      done = r .done ++ Text.pieceOf (drop i s) .chars;
+      within = omega (arith, length-drop i s);
+      ahead = r .ahead ∙ ap (λ (z : List ℕ). r .done ++ z) g ∙ sym (append-assoc (r .done) (Text.pieceOf (drop i s) .chars) (Text.textOf (drop k (drop i s)))) ∙ ap (λ (z : List ℕ). r .done ++ Text.pieceOf (drop i s) .chars ++ Text.textOf z) (drop-drop k i s);
+      put = laid-chars 0 o₀ (r .done) a o (Text.pieceOf (drop i s) .chars) e p m (r .put) l;
+      kept = j ∙ r .kept;
+    }
+
+-- the bytes of a piece are there
+pub moved-fits : (s : List ℕ) (i a : ℕ) (o t : List ℕ) (e k : ℕ) (p : List ℕ) → i < length s → t ≡ drop i s → Moved (Text.pieceOf t) a o e k p → (0 < k) × (i + k ≤ length s)
+moved-fits s i a o t e k p h q v =
+    let n : 0 < length (drop i s) = omega (arith, length-drop i s) in
+    let w : k ≡ Text.pieceOf (drop i s) .used = v .read ∙ ap (λ (z : List ℕ). Text.pieceOf z .used) q in
+    let f = piece-fits (drop i s) n in
+    (omega arith, omega (arith, length-drop i s))
+
+-- no byte is left
+pub running-ends : (s o₀ : List ℕ) (i a : ℕ) (o : List ℕ) → length s ≤ i → Running s o₀ i a o → Laid 0 o₀ (Text.bytesOf s) a o
+unfolding Text.bytesOf
+running-ends s o₀ i a o h r =
+    let e : Text.textOf s ≡ r .done = r .ahead ∙ ap (λ (z : List ℕ). r .done ++ z) (text-ends s i h) ∙ append-nil (r .done) in
+    rw e (r .put)

@@ -1,0 +1,394 @@
+// The text of a string: document 01's 'Strings', as the Rust's decode_string.
+//
+// A text without a quote, a backslash or a high byte is shown as it stands in the file. Any other is put into lent room, in UTF-8: a
+// first run counts its bytes and a second one writes them, so that a room that is too short keeps what it had. A piece of the text is
+// read from a slice that starts at it and is never looked at again from its start, but for a directive with a bad group: so the time
+// grows with the length.
+ghost use mathlib.Core.Path.{_≡_};
+ghost use mathlib.Core.List.{[], _∷_};
+ghost use mathlib.Core.Bool.{true, false};
+ghost use Prim.Native.Nat.{_+_, _-_, _≤_, _<_, min};
+ghost use lib.Dec.{eqb};
+ghost use lib.ListN.{length, take, drop};
+ghost use Rattle.lex.specs.Byte.{pick};
+ghost use Rattle.utf8.specs.Utf8.{byteAt, encodeAll};
+ghost use Rattle.strings.specs.Text.{hexDigit, hexValue, twoAt, twoOf, fourAt, fourOf, groupTwo, groupFour, groupOf, closing, plain, shown, joined, longOf, directiveOf, pieceOf, extended, groupsFrom, bytesOf};
+ghost use Rattle.strings.specs.Code.{toldGroup, oneView, viewOf, Moved, decodedOf, roomAfter, shownOf};
+ghost use Rattle.strings.specs.Put.{most, Laid};
+
+// What a hex digit's place gives where no hex digit stands.
+const NO_DIGIT: u32 = 16;
+
+// The byte at a place, or 256, which is no byte, past the end.
+fn byte_at(s: &[u8], k: usize) -> u32
+    ensures { λ r. ⌜ r ≡ byteAt (now (s .entry)) k ⌝ }
+{
+    if k < s.len() {
+        return s[k] as u32;
+    }
+    256
+}
+
+// A hex digit's value, or 16.
+fn hex_value(b: u32) -> u32
+    ensures { λ r. ⌜ r ≡ pick (hexDigit b) (hexValue b) 16 ⌝ }
+{
+    if (48 <= b) & (b <= 57) {
+        return b - 48;
+    }
+    if (65 <= b) & (b <= 70) {
+        return b - 55;
+    }
+    if (97 <= b) & (b <= 102) {
+        return b - 87;
+    }
+    NO_DIGIT
+}
+
+// The number of two hex digits, or 256 where they are not.
+fn hex_two(s: &[u8], k: usize) -> u32
+    requires { ⌜ k ≤ 8 ⌝ }
+    ensures { λ r. ⌜ r ≡ pick (twoAt (now (s .entry)) k) (twoOf (now (s .entry)) k) 256 ⌝ }
+{
+    let a = hex_value(byte_at(s, k));
+    let b = hex_value(byte_at(s, k + 1));
+    if (a < 16) & (b < 16) {
+        return a * 16 + b;
+    }
+    256
+}
+
+// The number of four hex digits, or 65536 where they are not.
+fn hex_four(s: &[u8], k: usize) -> u32
+    requires { ⌜ k ≤ 4 ⌝ }
+    ensures { λ r. ⌜ r ≡ pick (fourAt (now (s .entry)) k) (fourOf (now (s .entry)) k) 65536 ⌝ }
+{
+    let a = hex_two(s, k);
+    let b = hex_two(s, k + 2);
+    if (a < 256) & (b < 256) {
+        return a * 256 + b;
+    }
+    65536
+}
+
+// A character and how many bytes it took; none where it took no byte.
+struct Char {
+    code: u32,
+    used: usize,
+}
+
+// U+FFFD for a number that is no character.
+fn shown_code(c: u32) -> u32
+    ensures { λ r. ⌜ r ≡ shown c ⌝ }
+{
+    if c < 55296 {
+        return c;
+    }
+    if (57344 <= c) & (c <= 1114111) {
+        return c;
+    }
+    65533
+}
+
+// The character of two surrogates.
+fn joined_code(h: u32, l: u32) -> u32
+    requires { ⌜ (55296 ≤ h) × (h ≤ 56319) ⌝ }
+    ensures { λ r. ⌜ r ≡ joined h l ⌝ }
+{
+    if (56320 <= l) & (l < 57344) {
+        return 65536 + (h - 55296) * 1024 + (l - 56320);
+    }
+    65533
+}
+
+// A group of four hex digits, with a second one after a high surrogate.
+fn group_two(s: &[u8]) -> Char
+    ensures { λ r. ⌜ toldGroup r ≡ groupTwo (now (s .entry)) ⌝ }
+{
+    let a = hex_four(s, 0);
+    if 65536 <= a {
+        return Char { code: 0, used: 0 };
+    }
+    if (55296 <= a) & (a < 56320) {
+        let b = hex_four(s, 4);
+        if 65536 <= b {
+            return Char { code: 0, used: 0 };
+        }
+        return Char {
+            code: joined_code(a, b),
+            used: 8,
+        };
+    }
+    Char {
+        code: shown_code(a),
+        used: 4,
+    }
+}
+
+// A group of eight hex digits.
+fn group_four(s: &[u8]) -> Char
+    ensures { λ r. ⌜ toldGroup r ≡ groupFour (now (s .entry)) ⌝ }
+{
+    let a = hex_four(s, 0);
+    let b = hex_four(s, 4);
+    if (65536 <= a) | (65536 <= b) {
+        return Char { code: 0, used: 0 };
+    }
+    Char {
+        code: shown_code(a * 65536 + b),
+        used: 8,
+    }
+}
+
+// A group of so many digits: four, or eight.
+fn group(s: &[u8], width: usize) -> Char
+    ensures { λ r. ⌜ toldGroup r ≡ groupOf width (now (s .entry)) ⌝ }
+{
+    if width == 4 {
+        return group_two(s);
+    }
+    group_four(s)
+}
+
+// How many bytes a `\X0` takes with the byte after it, or 0.
+fn closing_len(s: &[u8]) -> usize
+    ensures { λ r. ⌜ r ≡ closing (now (s .entry)) ⌝ }
+{
+    if (byte_at(s, 0) == 92) & ((byte_at(s, 1) == 88) & (byte_at(s, 2) == 48)) {
+        if s.len() < 4 {
+            return s.len();
+        }
+        return 4;
+    }
+    0
+}
+
+// Whether the bytes are the text as they stand.
+fn is_plain(s: &[u8]) -> bool
+    ensures { λ r. ⌜ r ≡ plain (now (s .entry)) ⌝ }
+{
+    let mut i = 0;
+    while i < s.len() {
+        let b = s[i];
+        if (b == 39) | ((b == 92) | (128 <= b)) {
+            return false;
+        }
+        i += 1;
+    }
+    true
+}
+
+// A number that is no character: it has no encoding.
+const NOTHING: u32 = 1114112;
+
+// What follows a backslash, but for the directives with groups: one character or none; it took no byte where it is no such directive.
+fn short(s: &[u8]) -> Char
+    ensures { λ r. ⌜ pick (eqb (r .used) 0) (viewOf (longOf (now (s .entry)))) (oneView (r .code) (r .used)) ≡ viewOf (directiveOf (now (s .entry))) ⌝ }
+{
+    let x = byte_at(s, 1);
+    let y = byte_at(s, 2);
+    let z = byte_at(s, 3);
+    let v = hex_two(s, 3);
+    if x == 92 {
+        return Char { code: 92, used: 2 };
+    }
+    if (x == 78) & (y == 92) {
+        return Char { code: 10, used: 3 };
+    }
+    if (x == 84) & (y == 92) {
+        return Char { code: 9, used: 3 };
+    }
+    if (x == 80) & (z == 92) {
+        return Char {
+            code: NOTHING,
+            used: 4,
+        };
+    }
+    if (x == 83) & ((y == 92) & (4 <= s.len())) {
+        return Char {
+            code: z + 128,
+            used: 4,
+        };
+    }
+    if (x == 88) & ((y == 92) & (v < 256)) {
+        return Char { code: v, used: 5 };
+    }
+    Char { code: 0, used: 0 }
+}
+
+// What stands at a byte that is no backslash.
+fn ordinary(s: &[u8]) -> Char
+    requires { ⌜ eqb (byteAt (now s) 0) 92 ≡ false ⌝ }
+    ensures { λ r. ⌜ oneView (r .code) (r .used) ≡ viewOf (pieceOf (now (s .entry))) ⌝ }
+{
+    let b = byte_at(s, 0);
+    if (b == 39) & (byte_at(s, 1) == 39) {
+        return Char { code: 39, used: 2 };
+    }
+    if b < 128 {
+        return Char { code: b, used: 1 };
+    }
+    let q = utf8::sequence(s);
+    if q.used == 0 {
+        return Char { code: b, used: 1 };
+    }
+    Char {
+        code: q.code,
+        used: q.used,
+    }
+}
+
+// Puts a character where it fits, and counts its bytes wherever it stands.
+fn put_char(out: &mut [u8], at: usize, code: u32) -> usize
+    ensures { λ r. ⌜ Laid at (now (out .entry)) (encodeAll (code ∷ [])) r (now (out .exit)) ⌝ }
+{
+    let w = utf8::width(code);
+    utf8::put(out, at, code);
+    if 18446744073709551615 - at < w {
+        return 18446744073709551615;
+    }
+    at + w
+}
+
+// The bytes counted so far, and how many bytes of the string were read for a piece.
+struct Reached {
+    at: usize,
+    used: usize,
+}
+
+// The groups of a directive whose four bytes stand at the start, up to their end; a bad one leaves the characters before it and a
+// literal backslash.
+fn groups(s: &[u8], width: usize, out: &mut [u8], at: usize) -> Reached
+    requires { ⌜ 4 ≤ length (now s) ⌝ }
+    ensures { λ r. ⌜ Moved (extended (groupsFrom width 0 (drop 4 (now (s .entry))))) at (now (out .entry)) (r .at) (r .used) (now (out .exit)) ⌝ }
+{
+    let mut i = 4;
+    let mut n = at;
+    while i < s.len() {
+        let t = &s[i..];
+        if (t.len() < width) | (byte_at(t, 0) == 92) {
+            return Reached {
+                at: n,
+                used: i + closing_len(t),
+            };
+        }
+        let g = group(t, width);
+        let used = g.used;
+        if used == 0 {
+            return Reached {
+                at: put_char(out, n, 92),
+                used: 1,
+            };
+        }
+        n = put_char(out, n, g.code);
+        i += used;
+    }
+    Reached { at: n, used: i }
+}
+
+// A directive, or a literal backslash.
+fn directive(s: &[u8], out: &mut [u8], at: usize) -> Reached
+    ensures { λ r. ⌜ Moved (directiveOf (now (s .entry))) at (now (out .entry)) (r .at) (r .used) (now (out .exit)) ⌝ }
+{
+    let c = short(s);
+    let used = c.used;
+    if used != 0 {
+        return Reached {
+            at: put_char(out, at, c.code),
+            used,
+        };
+    }
+    let x = byte_at(s, 1);
+    let y = byte_at(s, 2);
+    let z = byte_at(s, 3);
+    if (x == 88) & ((y == 50) & (z == 92)) {
+        return groups(s, 4, out, at);
+    }
+    if (x == 88) & ((y == 52) & (z == 92)) {
+        return groups(s, 8, out, at);
+    }
+    Reached {
+        at: put_char(out, at, 92),
+        used: 1,
+    }
+}
+
+// The piece of the text that stands at the start.
+fn step(s: &[u8], out: &mut [u8], at: usize) -> Reached
+    ensures { λ r. ⌜ Moved (pieceOf (now (s .entry))) at (now (out .entry)) (r .at) (r .used) (now (out .exit)) ⌝ }
+{
+    if byte_at(s, 0) == 92 {
+        return directive(s, out, at);
+    }
+    let c = ordinary(s);
+    let used = c.used;
+    Reached {
+        at: put_char(out, at, c.code),
+        used,
+    }
+}
+
+// Counts the bytes of the text, and writes them where they fit.
+fn run(raw: &[u8], out: &mut [u8]) -> usize
+    ensures { λ r. ⌜ Laid 0 (now (out .entry)) (bytesOf (now (raw .entry))) r (now (out .exit)) ⌝ }
+{
+    let mut at = 0;
+    let mut i = 0;
+    while i < raw.len() {
+        let r = step(&raw[i..], out, at);
+        at = r.at;
+        i += r.used;
+    }
+    at
+}
+
+// Where a string's text is: it is the string's bytes, or so many bytes of the lent room; or the room is too short.
+pub enum Decoded {
+    Plain,
+    Written(usize),
+    Short,
+}
+
+// How many bytes the text has that would be written; the largest number for a text that no memory holds.
+pub fn text_length(raw: &[u8]) -> usize
+    ensures { λ r. ⌜ r ≡ min 18446744073709551615 (length (bytesOf (now (raw .entry)))) ⌝ }
+{
+    let mut none = [0u8; 1];
+    run(raw, &mut none)
+}
+
+// Finds a string's text, and writes it where it is not the string itself and fits.
+pub fn decode_string(raw: &[u8], out: &mut [u8]) -> Decoded
+    ensures { λ r. ⌜ r ≡ decodedOf (now (raw .entry)) (length (now (out .entry))) ⌝ }
+    ensures { λ _. ⌜ now (out .exit) ≡ roomAfter (now (raw .entry)) (now (out .entry)) ⌝ }
+{
+    if is_plain(raw) {
+        return Decoded::Plain;
+    }
+    let n = text_length(raw);
+    if out.len() < n {
+        return Decoded::Short;
+    }
+    run(raw, out);
+    Decoded::Written(n)
+}
+
+// The text itself: a part of the file or a part of the room.
+pub fn text<'a>(raw: &'a [u8], out: &'a [u8], answer: Decoded) -> &'a [u8]
+    ensures { λ r. ⌜ now r ≡ shownOf (now (raw .entry)) (now (out .entry)) answer ⌝ }
+{
+    match answer {
+        Decoded::Plain => {
+            return raw;
+        }
+        Decoded::Written(n) => {
+            if n <= out.len() {
+                return &out[..n];
+            }
+            return out;
+        }
+        Decoded::Short => {
+            return &out[..0];
+        }
+    }
+}
