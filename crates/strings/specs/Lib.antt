@@ -5,3 +5,6 @@ pub mod Put
 pub mod Steps
 pub mod Ways
 pub mod Decoded
+pub mod Iso
+pub mod IsoRight
+pub mod Shown

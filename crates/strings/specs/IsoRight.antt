@@ -1,0 +1,187 @@
+-- Document 01's total rule gives every string of ISO 10303-21's grammar the text that ISO gives it. Assumes nothing.
+use Prim.Native.Nat.{ℕ, zero, suc, _+_, _*_, _-_, _≤_, _<_}
+use mathlib.Core.Path.{_≡_, refl, sym, _∙_, ap}
+use mathlib.Core.Bool.{Bool, true, false, _&&_, _||_}
+use mathlib.Core.List.{List, [], _∷_, _++_, append-assoc}
+use native.Mathlib.Omega.{arith}
+use borrow.Author.Tests.{lt-ltb, le-ltb, le-leb, lt-leb, ne-eqb}
+use lib.Dec.{eqb, leb, ltb}
+use lib.ListN.{length, drop, length-append}
+use lib.Seq.{drop-append-seam, drop-drop}
+use Rattle.lex.specs.Byte.{pick}
+use Rattle.utf8.specs.Utf8.{byteAt, scalar, Lead, valid, invalid, leadOf, encode}
+use Rattle.utf8.specs.Table.{In, Encoded}
+use Rattle.utf8.specs.Agree.{table-leads}
+use Rattle.strings.specs.Text
+use Rattle.strings.specs.Steps.{text-goes, groups-char, groups-stop}
+use Rattle.strings.specs.Iso
+
+-- a hex digit of ISO is one of document 01
+hex-is : (b : ℕ) → Iso.Hex b → Text.hexDigit b ≡ true
+hex-is b (Iso.digit h) = rw (le-leb 48 b (h .0), le-leb b 57 (h .1)) refl
+hex-is b (Iso.letter h) = go (leb 48 b && leb b 57)
+  where
+    go : (t : Bool) → t || (leb 65 b && leb b 70 || leb 97 b && leb b 102) ≡ true
+    go true = refl
+    go false = rw (le-leb 65 b (h .0), le-leb b 70 (h .1)) refl
+
+-- and no backslash
+hex-no-backslash : (b : ℕ) → Iso.Hex b → eqb b 92 ≡ false
+hex-no-backslash b (Iso.digit h) = ne-eqb b 92 (λ e. absurd (omega arith))
+hex-no-backslash b (Iso.letter h) = ne-eqb b 92 (λ e. absurd (omega arith))
+
+-- a character of ISO 10646 is one of RFC 3629
+character-scalar : (c : ℕ) → Iso.Character c → scalar c ≡ true
+character-scalar c (Iso.below h) = rw (lt-ltb c 55296 (omega arith)) refl
+character-scalar c (Iso.above h) = rw (le-ltb c 55296 (omega arith), le-leb 57344 c (h .0), le-leb c 1114111 (h .1)) refl
+
+-- and no high surrogate
+character-low : (c : ℕ) → Iso.Character c → Text.high c ≡ false
+character-low c (Iso.below h) = rw (lt-leb 55296 c (omega arith)) refl
+character-low c (Iso.above h) = rw (le-leb 55296 c (omega arith), le-ltb c 56320 (omega arith)) refl
+
+-- a piece, and the text of what follows it
+piece-then : (s r cs ds : List ℕ) (k : ℕ) → 0 < length s → Text.pieceOf s ≡ Text.gives cs k → 0 < k → drop k s ≡ r → Text.textOf r ≡ ds → Text.textOf s ≡ cs ++ ds
+piece-then s r cs ds k h e p d t =
+    text-goes s k h (sym (ap (λ (q : Text.Piece). q .used) e)) p
+    ∙ ap (λ (q : Text.Piece). q .chars ++ Text.textOf (drop k s)) e
+    ∙ ap (λ (z : List ℕ). cs ++ Text.textOf z) d
+    ∙ ap (λ (z : List ℕ). cs ++ z) t
+
+-- a byte that stands for itself
+piece-basic : (b : ℕ) (r : List ℕ) → Iso.Basic b → Text.pieceOf (b ∷ r) ≡ Text.gives (b ∷ []) 1
+unfolding Text.pieceOf
+piece-basic b r (Iso.to-ampersand h) = rw (ne-eqb b 92 (λ e. absurd (omega arith)), ne-eqb b 39 (λ e. absurd (omega arith)), lt-ltb b 128 (omega arith)) refl
+piece-basic b r (Iso.to-bracket h) = rw (ne-eqb b 92 (λ e. absurd (omega arith)), ne-eqb b 39 (λ e. absurd (omega arith)), lt-ltb b 128 (omega arith)) refl
+piece-basic b r (Iso.to-tilde h) = rw (ne-eqb b 92 (λ e. absurd (omega arith)), ne-eqb b 39 (λ e. absurd (omega arith)), lt-ltb b 128 (omega arith)) refl
+
+-- a valid sequence whose first byte is 80 or more
+piece-lead : (f : ℕ) (t : List ℕ) (c k : ℕ) → 128 ≤ f → leadOf (f ∷ t) ≡ valid c k → Text.pieceOf (f ∷ t) ≡ Text.gives (c ∷ []) k
+unfolding Text.pieceOf
+piece-lead f t c k h e = rw (ne-eqb f 92 (λ z. absurd (omega arith)), ne-eqb f 39 (λ z. absurd (omega arith)), le-ltb f 128 h, e) refl
+
+-- a character from 80 up, in UTF-8
+piece-high : (c : ℕ) (x r : List ℕ) → In 128 1114111 c → Encoded c x → (0 < length x) × (Text.pieceOf (x ++ r) ≡ Text.gives (c ∷ []) (length x))
+piece-high c _ r h (Encoded.line-one l) = absurd (omega arith)
+piece-high c _ r h (Encoded.line-two {x = x} {y = y} l e p q) = (omega arith, piece-lead (192 + x) ((128 + y) ∷ r) c 2 (omega arith) (table-leads (Encoded.line-two l e p q) r))
+piece-high c _ r h (Encoded.line-three {x = x} {y = y} {z = z} l n e p q s) =
+    (omega arith, piece-lead (224 + x) ((128 + y) ∷ (128 + z) ∷ r) c 3 (omega arith) (table-leads (Encoded.line-three l n e p q s) r))
+piece-high c _ r h (Encoded.line-four {x = x} {y = y} {z = z} {w = w} l e p q s u) =
+    (omega arith, piece-lead (240 + x) ((128 + y) ∷ (128 + z) ∷ (128 + w) ∷ r) c 4 (omega arith) (table-leads (Encoded.line-four l e p q s u) r))
+
+-- the digits of a group, and the group of document 01
+two-group : (x : List ℕ) (c : ℕ) (t : List ℕ) → Iso.Two x c → Iso.Character c
+    → (Text.groupOf 4 (x ++ t) ≡ Text.char c 4) × (length x ≡ 4) × (Text.is (x ++ t) 0 92 ≡ false)
+unfolding Text.groupTwo
+two-group _ _ t (Iso.two (Iso.one {a = a} {b = b} ha hb) (Iso.one {a = d} {b = e} hd he)) k =
+    let n = (Text.hexValue a * 16 + Text.hexValue b) * 256 + (Text.hexValue d * 16 + Text.hexValue e) in
+    (rw (hex-is a ha, hex-is b hb, hex-is d hd, hex-is e he, character-low n k, character-scalar n k) refl, refl, hex-no-backslash a ha)
+
+-- the same of eight digits
+four-group : (x : List ℕ) (c : ℕ) (t : List ℕ) → Iso.Four x c → Iso.Character c
+    → (Text.groupOf 8 (x ++ t) ≡ Text.char c 8) × (length x ≡ 8) × (Text.is (x ++ t) 0 92 ≡ false)
+unfolding Text.groupFour
+four-group _ _ t (Iso.four (Iso.two (Iso.one {a = a} {b = b} ha hb) (Iso.one {a = d} {b = e} hd he)) (Iso.two (Iso.one {a = f} {b = g} hf hg) (Iso.one {a = i} {b = j} hi hj))) k =
+    let m = (Text.hexValue a * 16 + Text.hexValue b) * 256 + (Text.hexValue d * 16 + Text.hexValue e) in
+    let n = (Text.hexValue f * 16 + Text.hexValue g) * 256 + (Text.hexValue i * 16 + Text.hexValue j) in
+    (rw (hex-is a ha, hex-is b hb, hex-is d hd, hex-is e he, hex-is f hf, hex-is g hg, hex-is i hi, hex-is j hj, character-scalar (m * 65536 + n) k) refl, refl, hex-no-backslash a ha)
+
+-- one group, and the groups after it
+group-then : (w : ℕ) (x t : List ℕ) (c : ℕ) (cs : List ℕ) (n : ℕ) → 0 < w → Text.groupOf w (x ++ t) ≡ Text.char c w → length x ≡ w → Text.is (x ++ t) 0 92 ≡ false
+    → Text.groupsFrom w 0 t ≡ Text.ended cs n → Text.groupsFrom w 0 (x ++ t) ≡ Text.ended (c ∷ cs) (length x + n)
+group-then w x t c cs n p g l b e =
+    let q : length (x ++ t) ≡ length x + length t = length-append x t in
+    let f : ltb (length (x ++ t)) w || Text.is (x ++ t) 0 92 ≡ false = rw (le-ltb (length (x ++ t)) w (omega arith), b) refl in
+    let d : drop w (x ++ t) ≡ t = ap (λ (k : ℕ). drop k (x ++ t)) (sym l) ∙ drop-append-seam x t in
+    groups-char w (x ++ t) c w (omega arith) f g p ∙ ap (λ (z : List ℕ). Text.withChar c w (Text.groupsFrom w 0 z)) d ∙ ap (Text.withChar c w) e ∙ ap (λ (k : ℕ). Text.ended (c ∷ cs) (k + n)) (sym l)
+
+-- the end of the groups is eaten whole
+end-groups : (w : ℕ) (r : List ℕ) → Text.groupsFrom w 0 (Iso.endExtended ++ r) ≡ Text.ended [] 4
+unfolding Text.groupsFrom
+end-groups w r = groups-stop w (Iso.endExtended ++ r) (omega arith) (stop (ltb (length (Iso.endExtended ++ r)) w)) ∙ ap (Text.ended []) (omega arith)
+  where
+    stop : (t : Bool) → t || true ≡ true
+    stop true = refl
+    stop false = refl
+
+-- "HEX_TWO { HEX_TWO } END_EXTENDED"
+twos-groups : {g cs : List ℕ} (r : List ℕ) → Iso.Twos g cs → Text.groupsFrom 4 0 (g ++ (Iso.endExtended ++ r)) ≡ Text.ended cs (length g + 4)
+twos-groups r (Iso.Twos.last {x = x} {c = c} t k) =
+    let g = two-group x c (Iso.endExtended ++ r) t k in
+    group-then 4 x (Iso.endExtended ++ r) c [] 4 (omega arith) (g .0) (g .1) (g .2) (end-groups 4 r)
+twos-groups r (Iso.Twos.next {x = x} {r = y} {c = c} {cs = cs} t k m) =
+    let g = two-group x c (y ++ (Iso.endExtended ++ r)) t k in
+    ap (Text.groupsFrom 4 0) (append-assoc x y (Iso.endExtended ++ r))
+    ∙ group-then 4 x (y ++ (Iso.endExtended ++ r)) c cs (length y + 4) (omega arith) (g .0) (g .1) (g .2) (twos-groups r m)
+    ∙ ap (Text.ended (c ∷ cs)) (omega (arith, length-append x y))
+
+-- "HEX_FOUR { HEX_FOUR } END_EXTENDED"
+fours-groups : {g cs : List ℕ} (r : List ℕ) → Iso.Fours g cs → Text.groupsFrom 8 0 (g ++ (Iso.endExtended ++ r)) ≡ Text.ended cs (length g + 4)
+fours-groups r (Iso.Fours.last {x = x} {c = c} t k) =
+    let g = four-group x c (Iso.endExtended ++ r) t k in
+    group-then 8 x (Iso.endExtended ++ r) c [] 4 (omega arith) (g .0) (g .1) (g .2) (end-groups 8 r)
+fours-groups r (Iso.Fours.next {x = x} {r = y} {c = c} {cs = cs} t k m) =
+    let g = four-group x c (y ++ (Iso.endExtended ++ r)) t k in
+    ap (Text.groupsFrom 8 0) (append-assoc x y (Iso.endExtended ++ r))
+    ∙ group-then 8 x (y ++ (Iso.endExtended ++ r)) c cs (length y + 4) (omega arith) (g .0) (g .1) (g .2) (fours-groups r m)
+    ∙ ap (Text.ended (c ∷ cs)) (omega (arith, length-append x y))
+
+-- what follows the groups and their end
+drop-groups : (g r : List ℕ) → drop (length g + 4) (g ++ (Iso.endExtended ++ r)) ≡ r
+drop-groups g r = sym (drop-drop 4 (length g) (g ++ (Iso.endExtended ++ r))) ∙ ap (drop 4) (drop-append-seam g (Iso.endExtended ++ r))
+
+-- "`\X2\` groups of four"
+piece-two : (g r cs : List ℕ) → Text.groupsFrom 4 0 (g ++ (Iso.endExtended ++ r)) ≡ Text.ended cs (length g + 4) → Text.pieceOf (92 ∷ 88 ∷ 50 ∷ 92 ∷ (g ++ (Iso.endExtended ++ r))) ≡ Text.gives cs (4 + (length g + 4))
+unfolding Text.pieceOf Text.directiveOf
+piece-two g r cs e = rw e refl
+
+-- "and `\X4\` of eight hex digits"
+piece-four : (g r cs : List ℕ) → Text.groupsFrom 8 0 (g ++ (Iso.endExtended ++ r)) ≡ Text.ended cs (length g + 4) → Text.pieceOf (92 ∷ 88 ∷ 52 ∷ 92 ∷ (g ++ (Iso.endExtended ++ r))) ≡ Text.gives cs (4 + (length g + 4))
+unfolding Text.pieceOf Text.directiveOf
+piece-four g r cs e = rw e refl
+
+-- "`''` gives a quote; `\\` a backslash"; "`\P?\` nothing; `\S\c` code c+128"
+piece-quote : (r : List ℕ) → Text.pieceOf (39 ∷ 39 ∷ r) ≡ Text.gives (39 ∷ []) 2
+unfolding Text.pieceOf
+piece-quote r = refl
+
+-- "`\\` a backslash"
+piece-backslash : (r : List ℕ) → Text.pieceOf (92 ∷ 92 ∷ r) ≡ Text.gives (92 ∷ []) 2
+unfolding Text.pieceOf Text.directiveOf
+piece-backslash r = refl
+
+-- "`\P?\` nothing"
+piece-page : (a : ℕ) (r : List ℕ) → Text.pieceOf (92 ∷ 80 ∷ a ∷ 92 ∷ r) ≡ Text.gives [] 4
+unfolding Text.pieceOf Text.directiveOf
+piece-page a r = refl
+
+-- "`\S\c` code c+128"
+piece-shift : (c : ℕ) (r : List ℕ) → Text.pieceOf (92 ∷ 83 ∷ 92 ∷ c ∷ r) ≡ Text.gives ((c + 128) ∷ []) 4
+unfolding Text.pieceOf Text.directiveOf
+piece-shift c r = rw (le-leb 4 (length (92 ∷ 83 ∷ 92 ∷ c ∷ r)) (omega arith)) refl
+
+-- "`\X\HH` one octet"
+piece-octet : (x r : List ℕ) (c : ℕ) → Iso.One x c → (Text.pieceOf (92 ∷ 88 ∷ 92 ∷ (x ++ r)) ≡ Text.gives (c ∷ []) 5) × (drop 5 (92 ∷ 88 ∷ 92 ∷ (x ++ r)) ≡ r)
+unfolding Text.pieceOf Text.directiveOf
+piece-octet _ r _ (Iso.one {a = a} {b = b} ha hb) = (rw (hex-is a ha, hex-is b hb) refl, refl)
+
+-- what stands between the apostrophes of an ISO string has ISO's text
+pub iso-text : {p : Bool} {s cs : List ℕ} → Iso.Iso p s cs → Text.textOf s ≡ cs
+unfolding Text.textOf Text.textFrom
+iso-text Iso.Iso.ends = refl
+iso-text (Iso.Iso.basic {b = b} {r = r} {cs = cs} h i) = piece-then (b ∷ r) r (b ∷ []) cs 1 (omega arith) (piece-basic b r h) (omega arith) refl (iso-text i)
+iso-text (Iso.Iso.high-codepoint {c = c} {x = x} {r = r} {cs = cs} h e i) =
+    let k = piece-high c x r h e in
+    let l : 0 < length (x ++ r) = omega (arith, length-append x r, k .0) in
+    piece-then (x ++ r) r (c ∷ []) cs (length x) l (k .1) (k .0) (drop-append-seam x r) (iso-text i)
+iso-text (Iso.Iso.apostrophe {r = r} {cs = cs} i) = piece-then (39 ∷ 39 ∷ r) r (39 ∷ []) cs 2 (omega arith) (piece-quote r) (omega arith) refl (iso-text i)
+iso-text (Iso.Iso.reverse-solidus {r = r} {cs = cs} i) = piece-then (92 ∷ 92 ∷ r) r (92 ∷ []) cs 2 (omega arith) (piece-backslash r) (omega arith) refl (iso-text i)
+iso-text (Iso.Iso.page {c = c} {r = r} {cs = cs} h i) = piece-then (92 ∷ 83 ∷ 92 ∷ c ∷ r) r ((c + 128) ∷ []) cs 4 (omega arith) (piece-shift c r) (omega arith) refl (iso-text i)
+iso-text (Iso.Iso.alphabet {a = a} {r = r} {cs = cs} h i) = piece-then (92 ∷ 80 ∷ a ∷ 92 ∷ r) r [] cs 4 (omega arith) (piece-page a r) (omega arith) refl (iso-text i)
+iso-text (Iso.Iso.extended2 {g = g} {r = r} {cs = cs} {ds = ds} t i) =
+    piece-then (92 ∷ 88 ∷ 50 ∷ 92 ∷ (g ++ (Iso.endExtended ++ r))) r cs ds (4 + (length g + 4)) (omega arith) (piece-two g r cs (twos-groups r t)) (omega arith) (sym (drop-drop (length g + 4) 4 (92 ∷ 88 ∷ 50 ∷ 92 ∷ (g ++ (Iso.endExtended ++ r)))) ∙ drop-groups g r) (iso-text i)
+iso-text (Iso.Iso.extended4 {g = g} {r = r} {cs = cs} {ds = ds} t i) =
+    piece-then (92 ∷ 88 ∷ 52 ∷ 92 ∷ (g ++ (Iso.endExtended ++ r))) r cs ds (4 + (length g + 4)) (omega arith) (piece-four g r cs (fours-groups r t)) (omega arith) (sym (drop-drop (length g + 4) 4 (92 ∷ 88 ∷ 52 ∷ 92 ∷ (g ++ (Iso.endExtended ++ r)))) ∙ drop-groups g r) (iso-text i)
+iso-text (Iso.Iso.arbitrary {x = x} {r = r} {cs = cs} {c = c} o i) =
+    let k = piece-octet x r c o in
+    piece-then (92 ∷ 88 ∷ 92 ∷ (x ++ r)) r (c ∷ []) cs 5 (omega arith) (k .0) (omega arith) (k .1) (iso-text i)
