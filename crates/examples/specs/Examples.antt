@@ -1,4 +1,4 @@
--- The starred examples 1 to 5 and 9 of document 01, proved of the definitions as one list under one statement.
+-- The starred examples 1 to 5 and 7 to 9 of document 01, proved of the definitions as one list under one statement.
 -- Assumes nothing.
 use Prim.Native.Nat.{ℕ, _-_, _+_}
 use Prim.Native.String.{String}
@@ -21,6 +21,8 @@ use Rattle.statement.specs.Statement.{statement}
 use Rattle.scan.specs.File.{Table, largest, readFrom, scanOf}
 use Rattle.nearest.specs.Near.{near, nearUnits}
 use Rattle.reals.specs.Scalar.{Answer, read, refused, parseOf, realOf}
+use Rattle.utf8.specs.Utf8.{encode, encodeAll, leadOf}
+use Rattle.strings.specs.Text.{groupTwo, groupFour, groupsFrom, directiveOf, pieceOf, textFrom, textOf, bytesOf}
 
 -- a line of the program `list`: id, keyword or `(complex)`, argument start and end
 pub record Line : Type 0 where
@@ -56,12 +58,14 @@ lineOf s w = record {
 abbrev pub listed : List ℕ → Table → Listing
 listed s t = listing (length (t .records)) (largest (t .records)) (map (lineOf s) (t .records))
 
--- an input and what is owed for it: a file with its listing or refusal, or a real with its f64's bits or its refusal's number
+-- an input and what is owed for it: a file with its listing or refusal, a string with its text in UTF-8, or a real with its f64's
+-- bits or its refusal's number
 pub data Example : Type 0 where
   file : String → Told Listing → Example
+  string : String → List ℕ → Example
   real : String → Answer ℕ → Example
 
--- examples 1 to 5 and 9, in document 01's order; 5 has two inputs, 9 has four
+-- examples 1 to 5 and 7 to 9, in document 01's order; 5 has two inputs, 7 three and 9 four
 abbrev pub examples : List Example
 examples =
     file "ISO-10303-21;HEADER;FILE_SCHEMA(('X'));ENDSEC;DATA;#1=A('a;''b',#2);#2=(P(1.)Q($));ENDSEC;END-ISO-10303-21;"
@@ -71,6 +75,10 @@ examples =
     ∷ file "ISO-10303-21;DATA;;" (bad (refusal 7 2 18))
     ∷ file "ISO-10303-21;DATA;#4294967295=A();" (good (listing 1 4294967295 (line 4294967295 "A" 32 32 ∷ [])))
     ∷ file "ISO-10303-21;DATA;#4294967296=A();" (bad (refusal 7 3 18))
+    ∷ string "\\X2\\00C40042\\X0\\" (0xc3 ∷ 0x84 ∷ 0x42 ∷ [])
+    ∷ string "\\S\\D" (0xc3 ∷ 0x84 ∷ [])
+    ∷ string "\\X\\C4" (0xc3 ∷ 0x84 ∷ [])
+    ∷ string "\\X2\\0041ZZZZ\\X0\\" (bytes "A\\X2\\0041ZZZZ\\X0\\")
     ∷ real "1E22" (read 0x4480_f0cf_064d_d592)
     ∷ real "1E23" (refused 13)
     ∷ real "123456789012345" (read 0x42dc_1221_8377_de40)
@@ -81,9 +89,10 @@ examples =
 abbrev pub Holds : List Example → Type 0
 Holds [] = Unit {0}
 Holds (file s a ∷ es) = (mapped (listed (bytes s)) (scanOf (bytes s) 2 2) ≡ a) × Holds es
+Holds (string s t ∷ es) = (bytesOf (bytes s) ≡ t) × Holds es
 Holds (real s a ∷ es) = (realOf (bytes s) ≡ a) × Holds es
 
 -- "Starred examples are proved of the definitions as one list under one statement"
 pub examples-hold : Holds examples
-unfolding walk trivia recordEnd closing past numberFrom keyword trail same wordOf dataHead headerHead recordOf headerOf statement largest readFrom scanOf realOf parseOf near nearUnits size
-examples-hold = (refl, (refl, (refl, (refl, (refl, (refl, (refl, (refl, (refl, (refl, tt))))))))))
+unfolding walk trivia recordEnd closing past numberFrom keyword trail same wordOf dataHead headerHead recordOf headerOf statement largest readFrom scanOf realOf parseOf near nearUnits size encode encodeAll leadOf groupTwo groupFour groupsFrom directiveOf pieceOf textFrom textOf bytesOf
+examples-hold = (refl, (refl, (refl, (refl, (refl, (refl, (refl, (refl, (refl, (refl, (refl, (refl, (refl, (refl, tt))))))))))))))
