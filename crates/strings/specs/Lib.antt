@@ -8,3 +8,5 @@ pub mod Decoded
 pub mod Iso
 pub mod IsoRight
 pub mod Shown
+pub mod Rules
+pub mod RulesRight

@@ -1,0 +1,132 @@
+-- Document 01, 'Strings': what a string's bytes stand for, as rules that name no loop. A rule speaks of a list of bytes, of what
+-- stands at its start, of the characters that this gives and of how many bytes it takes. The quote is 39, the backslash 92, `N` is
+-- 78, `P` 80, `S` 83, `T` 84, `X` 88, and the digits `0`, `2`, `4` are 48, 50, 52. Words quoted from the document count in hex.
+-- RulesRight.antt shows that Text.antt computes just this, and that there is no other answer. Assumes nothing.
+use Prim.Native.Nat.{ℕ, _+_, _*_, _≤_, _<_}
+use mathlib.Core.Path.{_≡_}
+use mathlib.Core.List.{List, [], _∷_, _++_}
+use lib.ListN.{length, drop}
+use Rattle.lex.specs.Grammar.{Begins}
+use Rattle.utf8.specs.Table.{In, Encoded}
+
+-- "hex digits, either case": a byte and the digit's value
+pub data Hex : ℕ → ℕ → Type 0 where
+  -- `0` to `9`
+  decimal : {v : ℕ} → v < 10 → Hex (48 + v) v
+  -- `A` to `F`
+  capital : {v : ℕ} → v < 6 → Hex (65 + v) (10 + v)
+  -- `a` to `f`
+  small : {v : ℕ} → v < 6 → Hex (97 + v) (10 + v)
+
+-- "four .. hex digits" stand at the start, and this is their number
+pub data Four : List ℕ → ℕ → Type 0 where
+  digits : {a b c d i j k l : ℕ} {r : List ℕ} → Hex a i → Hex b j → Hex c k → Hex d l
+      → Four (a ∷ b ∷ c ∷ d ∷ r) (i * 4096 + j * 256 + k * 16 + l)
+
+-- a high surrogate of UTF-16, D800 to DBFF
+abbrev pub High : ℕ → Type 0
+High n = In 55296 56319 n
+
+-- a low one, DC00 to DFFF
+abbrev pub Low : ℕ → Type 0
+Low n = In 56320 57343 n
+
+-- the character that a code gives
+pub data Shown : ℕ → ℕ → Type 0 where
+  -- a code below the surrogates gives its character
+  below : {n : ℕ} → n < 55296 → Shown n n
+  -- and so does one between them and 10FFFF
+  above : {n : ℕ} → In 57344 1114111 n → Shown n n
+  -- "other surrogates .. give U+FFFD"
+  surrogate : {n : ℕ} → In 55296 57343 n → Shown n 65533
+  -- "codes above 10FFFF give U+FFFD"
+  beyond : {n : ℕ} → 1114111 < n → Shown n 65533
+
+-- a group, of four digits in `\X2\` and of eight in `\X4\`, stands at the start: its character, and how many bytes it takes
+pub data GoodGroup : ℕ → List ℕ → ℕ → ℕ → Type 0 where
+  -- "`\X2\` groups of four": any code but a high surrogate's
+  single : {s : List ℕ} {n c : ℕ} → Four s n → (High n → ⊥) → Shown n c → GoodGroup 4 s c 4
+  -- "In `\X2\` a high and a low surrogate join": D800 + y and DC00 + x are the code 10000 + y·400 + x, in hex
+  pair : {s : List ℕ} {y x : ℕ} → Four s (55296 + y) → y < 1024 → Four (drop 4 s) (56320 + x) → x < 1024
+      → GoodGroup 4 s (65536 + y * 1024 + x) 8
+  -- U+FFFD, "in `\X2\` a high one together with its second group", which is no low one
+  unpaired : {s : List ℕ} {n m : ℕ} → Four s n → High n → Four (drop 4 s) m → (Low m → ⊥) → GoodGroup 4 s 65533 8
+  -- "and `\X4\` of eight hex digits"
+  eight : {s : List ℕ} {n m c : ℕ} → Four s n → Four (drop 4 s) m → Shown (n * 65536 + m) c → GoodGroup 8 s c 8
+
+-- "a bad group": one could start here, for so many bytes are left and there is no backslash, and none does. "A high one not
+-- followed by four hex digits is a bad group" is a theorem of RulesRight.antt (high-alone)
+pub record BadGroup (w : ℕ) (s : List ℕ) : Type 0 where
+  pub whole : w ≤ length s
+  pub unmarked : Begins 92 s → ⊥
+  pub not-good : (c k : ℕ) → GoodGroup w s c k → ⊥
+
+-- the groups of a directive, good ones to their end: their characters, and how many bytes they take
+pub data Groups : ℕ → List ℕ → List ℕ → ℕ → Type 0 where
+  -- "up to the end"
+  at-end : {w : ℕ} → Groups w [] [] 0
+  -- "or a backslash at a group's start; a `\X0` there is eaten with the byte after it"
+  closed : {w b : ℕ} {r : List ℕ} → Groups w (92 ∷ 88 ∷ 48 ∷ b ∷ r) [] 4
+  -- alone where no byte comes after it
+  closed-last : {w : ℕ} → Groups w (92 ∷ 88 ∷ 48 ∷ []) [] 3
+  -- "another directive is read as such": a backslash with no `X0` after it is left to be read
+  another : {w : ℕ} {r : List ℕ} → ((q : List ℕ) → r ≡ 88 ∷ 48 ∷ q → ⊥) → Groups w (92 ∷ r) [] 0
+  -- "a group cut short by the end is literal": its bytes are left, to be read on as text (the Rust, which decides, does not copy them)
+  cut : {w b : ℕ} {r : List ℕ} → (b ≡ 92 → ⊥) → length (b ∷ r) < w → Groups w (b ∷ r) [] 0
+  -- a group, and those after it
+  next : {w : ℕ} {s cs : List ℕ} {c k n : ℕ} → GoodGroup w s c k → Groups w (drop k s) cs n → Groups w s (c ∷ cs) (k + n)
+
+-- the groups of a directive up to a bad one: "the characters already read"
+pub data Broken : ℕ → List ℕ → List ℕ → Type 0 where
+  -- the bad one
+  bad : {w : ℕ} {s : List ℕ} → BadGroup w s → Broken w s []
+  -- a good one before it
+  good : {w : ℕ} {s cs : List ℕ} {c k : ℕ} → GoodGroup w s c k → Broken w (drop k s) cs → Broken w s (c ∷ cs)
+
+-- "`\X2\` groups of four and `\X4\` of eight hex digits": the digit in the directive's name, and how many digits its groups have
+pub data Named : ℕ → ℕ → Type 0 where
+  -- `\X2\`
+  two : Named 50 4
+  -- `\X4\`
+  four : Named 52 8
+
+-- a directive stands at the start: its characters, and how many bytes it takes
+pub data Directive : List ℕ → List ℕ → ℕ → Type 0 where
+  -- "`\\` a backslash"
+  backslash : {r : List ℕ} → Directive (92 ∷ 92 ∷ r) (92 ∷ []) 2
+  -- "`\N\` LF"
+  newline : {r : List ℕ} → Directive (92 ∷ 78 ∷ 92 ∷ r) (10 ∷ []) 3
+  -- "`\T\` tab"
+  tab : {r : List ℕ} → Directive (92 ∷ 84 ∷ 92 ∷ r) (9 ∷ []) 3
+  -- "`\P?\` nothing", whatever byte the `?` is
+  page : {b : ℕ} {r : List ℕ} → Directive (92 ∷ 80 ∷ b ∷ 92 ∷ r) [] 4
+  -- "`\S\c` code c+128"
+  shift : {c : ℕ} {r : List ℕ} → Directive (92 ∷ 83 ∷ 92 ∷ c ∷ r) ((c + 128) ∷ []) 4
+  -- "`\X\HH` one octet"
+  octet : {a b i j : ℕ} {r : List ℕ} → Hex a i → Hex b j → Directive (92 ∷ 88 ∷ 92 ∷ a ∷ b ∷ r) ((i * 16 + j) ∷ []) 5
+  -- "`\X2\` groups of four and `\X4\` of eight"
+  long : {d w n : ℕ} {r cs : List ℕ} → Named d w → Groups w r cs n → Directive (92 ∷ 88 ∷ d ∷ 92 ∷ r) cs (4 + n)
+  -- "A bad group gives the characters already read, then a literal backslash, and reading goes on after the directive's first byte"
+  long-bad : {d w : ℕ} {r cs : List ℕ} → Named d w → Broken w r cs → Directive (92 ∷ 88 ∷ d ∷ 92 ∷ r) (cs ++ 92 ∷ []) 1
+
+-- a piece stands at the start: its characters, and how many bytes it takes
+pub data Reads : List ℕ → List ℕ → ℕ → Type 0 where
+  -- "`''` gives a quote"
+  quote : {r : List ℕ} → Reads (39 ∷ 39 ∷ r) (39 ∷ []) 2
+  -- a directive, as above
+  directive : {s cs : List ℕ} {k : ℕ} → Directive s cs k → Reads s cs k
+  -- "An unknown directive is a literal backslash": a backslash at which no directive stands
+  unknown : {r : List ℕ} → ((cs : List ℕ) (k : ℕ) → Directive (92 ∷ r) cs k → ⊥) → Reads (92 ∷ r) (92 ∷ []) 1
+  -- any other byte below 80 is itself: no backslash, and no quote that a quote follows
+  itself : {b : ℕ} {r : List ℕ} → b < 128 → (b ≡ 92 → ⊥) → (b ≡ 39 → Begins 39 r → ⊥) → Reads (b ∷ r) (b ∷ []) 1
+  -- "Raw bytes from 80 up: a valid UTF-8 sequence"
+  sequence : (bs r : List ℕ) {c : ℕ} → Encoded c bs → 128 ≤ c → Reads (bs ++ r) (c ∷ []) (length bs)
+  -- "else Latin-1": a byte with which no valid sequence begins
+  latin : {b : ℕ} {r : List ℕ} → 128 ≤ b → ((c : ℕ) (bs q : List ℕ) → Encoded c bs → b ∷ r ≡ bs ++ q → ⊥) → Reads (b ∷ r) (b ∷ []) 1
+
+-- a string's bytes and its characters: one piece after another, to the end
+pub data Text : List ℕ → List ℕ → Type 0 where
+  -- no bytes, no characters
+  none : Text [] []
+  -- a piece, and the text of the bytes after it
+  more : {s cs ds : List ℕ} {k : ℕ} → Reads s cs k → Text (drop k s) ds → Text s (cs ++ ds)

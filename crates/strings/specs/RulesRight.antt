@@ -1,0 +1,781 @@
+-- Rules.antt's rules and what Text.antt computes are one: what is computed is so, and nothing else is. No theorem asks that the
+-- numbers of a list are bytes. Assumes nothing.
+use Prim.Native.Nat.{ℕ, zero, suc, _+_, _*_, _-_, _≤_, _<_, min}
+use mathlib.Core.Path.{_≡_, refl, sym, _∙_, ap, subst}
+use mathlib.Core.Bool.{Bool, true, false, _&&_, _||_}
+use mathlib.Core.List.{List, [], _∷_, _++_}
+use native.Mathlib.Decide.{decLt}
+use native.Mathlib.Omega.{arith}
+use borrow.Author.Tests.{ltb-true, ltb-false, leb-true, lt-ltb, le-ltb, le-leb, lt-leb, eqb-true, eqb-false, eq-eqb, ne-eqb}
+use lib.Dec.{eqb, leb, ltb}
+use lib.ListN.{length, take, drop, length-drop, take-append-drop}
+use lib.Seq.{drop-cons, getD-drop}
+use Rattle.lex.specs.Byte.{pick}
+use Rattle.lex.specs.Grammar.{Begins}
+use Rattle.utf8.specs.Utf8.{encode, byteAt, Lead, valid, invalid, leadOf}
+use Rattle.utf8.specs.Table.{Encoded, line-one, line-two, line-three, line-four}
+use Rattle.utf8.specs.Laws.{scalar-low, scalar-high, scalar-between, scalar-above, encode-one}
+use Rattle.utf8.specs.Agree.{table-is, table-only, encode-leads, lead-is}
+use Rattle.strings.specs.Text
+use Rattle.strings.specs.Hex.{both, neither}
+use Rattle.strings.specs.Steps.{hex-within, is-within, four-within, ends, groups-stop, groups-wrong, groups-char, piece-fits, text-goes}
+use Rattle.strings.specs.Rules
+
+-- a test that holds does not fail
+differ : {A : Type 0} (t : Bool) → t ≡ true → t ≡ false → A
+differ t p q = let z : _≡_ {A = ℕ} 0 1 = ap (λ (u : Bool). pick u 0 1) (sym p ∙ q) in absurd (omega arith)
+
+-- ---- hex digits
+-- a byte that is computed to be a hex digit is one, of the value computed
+pub hex-is : (b : ℕ) → Text.hexDigit b ≡ true → Rules.Hex b (Text.hexValue b)
+hex-is b e = go (leb 48 b && leb b 57) (leb 65 b && leb b 70) (leb 97 b && leb b 102) refl refl refl
+  where
+    go : (x y z : Bool) → leb 48 b && leb b 57 ≡ x → leb 65 b && leb b 70 ≡ y → leb 97 b && leb b 102 ≡ z → Rules.Hex b (Text.hexValue b)
+    go true y z p q r =
+        let (k, l) = both (leb 48 b) (leb b 57) p in
+        let i = leb-true 48 b k in
+        let j = leb-true b 57 l in
+        let f : 48 + (b - 48) ≡ b = omega arith in
+        rw l (subst (λ (c : ℕ). Rules.Hex c (b - 48)) f (Rules.decimal {v = b - 48} (omega arith)))
+    go false true z p q r =
+        let (k, l) = both (leb 65 b) (leb b 70) q in
+        let i = leb-true 65 b k in
+        let j = leb-true b 70 l in
+        let f : 65 + (b - 65) ≡ b = omega arith in
+        let g : 10 + (b - 65) ≡ b - 55 = omega arith in
+        rw (lt-leb b 57 (omega arith), l, ← g) (subst (λ (c : ℕ). Rules.Hex c (10 + (b - 65))) f (Rules.capital {v = b - 65} (omega arith)))
+    go false false true p q r =
+        let (k, l) = both (leb 97 b) (leb b 102) r in
+        let i = leb-true 97 b k in
+        let j = leb-true b 102 l in
+        let f : 97 + (b - 97) ≡ b = omega arith in
+        let g : 10 + (b - 97) ≡ b - 87 = omega arith in
+        rw (lt-leb b 57 (omega arith), lt-leb b 70 (omega arith), ← g) (subst (λ (c : ℕ). Rules.Hex c (10 + (b - 97))) f (Rules.small {v = b - 97} (omega arith)))
+    go false false false p q r = differ (Text.hexDigit b) e (rw (p, q, r) refl)
+
+-- a number of a range passes its test
+within : (l h b : ℕ) → l ≤ b → b ≤ h → leb l b && leb b h ≡ true
+within l h b p q = rw (le-leb l b p, le-leb b h q) refl
+
+-- one above it fails it
+over : (l h b : ℕ) → l ≤ b → h < b → leb l b && leb b h ≡ false
+over l h b p q = rw (le-leb l b p, lt-leb b h q) refl
+
+-- a hex digit is computed to be one, of its value
+pub hex-only : {b v : ℕ} → Rules.Hex b v → (Text.hexDigit b ≡ true) × (Text.hexValue b ≡ v)
+hex-only (Rules.decimal {v = v} h) = one (48 + v) v refl h
+  where
+    one : (b v : ℕ) → b ≡ 48 + v → v < 10 → (Text.hexDigit b ≡ true) × (Text.hexValue b ≡ v)
+    one b v e h = (rw (within 48 57 b (omega arith) (omega arith)) refl, rw (le-leb b 57 (omega arith)) (omega arith))
+hex-only (Rules.capital {v = v} h) = one (65 + v) v refl h
+  where
+    one : (b v : ℕ) → b ≡ 65 + v → v < 6 → (Text.hexDigit b ≡ true) × (Text.hexValue b ≡ 10 + v)
+    one b v e h =
+        (rw (over 48 57 b (omega arith) (omega arith), within 65 70 b (omega arith) (omega arith)) refl,
+        rw (lt-leb b 57 (omega arith), le-leb b 70 (omega arith)) (omega arith))
+hex-only (Rules.small {v = v} h) = one (97 + v) v refl h
+  where
+    one : (b v : ℕ) → b ≡ 97 + v → v < 6 → (Text.hexDigit b ≡ true) × (Text.hexValue b ≡ 10 + v)
+    one b v e h =
+        (rw (over 48 57 b (omega arith) (omega arith), over 65 70 b (omega arith) (omega arith), within 97 102 b (omega arith) (omega arith)) refl,
+        rw (lt-leb b 57 (omega arith), lt-leb b 70 (omega arith)) (omega arith))
+
+-- four hex digits as computed are four
+pub four-is : (s : List ℕ) → Text.fourAt s 0 ≡ true → Rules.Four s (Text.fourOf s 0)
+four-is [] e = let h = four-within [] 0 e in absurd (omega arith)
+four-is (a ∷ []) e = let h = four-within (a ∷ []) 0 e in absurd (omega arith)
+four-is (a ∷ b ∷ []) e = let h = four-within (a ∷ b ∷ []) 0 e in absurd (omega arith)
+four-is (a ∷ b ∷ c ∷ []) e = let h = four-within (a ∷ b ∷ c ∷ []) 0 e in absurd (omega arith)
+four-is (a ∷ b ∷ c ∷ d ∷ r) e =
+    let (x, y) = both (Text.hexDigit a && Text.hexDigit b) (Text.hexDigit c && Text.hexDigit d) e in
+    let (p, q) = both (Text.hexDigit a) (Text.hexDigit b) x in
+    let (t, u) = both (Text.hexDigit c) (Text.hexDigit d) y in
+    let f : Text.hexValue a * 4096 + Text.hexValue b * 256 + Text.hexValue c * 16 + Text.hexValue d ≡ (Text.hexValue a * 16 + Text.hexValue b) * 256 + (Text.hexValue c * 16 + Text.hexValue d) = sum (Text.hexValue a) (Text.hexValue b) (Text.hexValue c) (Text.hexValue d) in
+    subst (Rules.Four (a ∷ b ∷ c ∷ d ∷ r)) f (Rules.digits (hex-is a p) (hex-is b q) (hex-is c t) (hex-is d u))
+  where
+    sum : (i j k l : ℕ) → i * 4096 + j * 256 + k * 16 + l ≡ (i * 16 + j) * 256 + (k * 16 + l)
+    sum i j k l = omega arith
+
+-- four hex digits are computed to be four, of their number
+pub four-only : {s : List ℕ} {n : ℕ} → Rules.Four s n → (Text.fourAt s 0 ≡ true) × (Text.fourOf s 0 ≡ n)
+four-only (Rules.digits {i = i} {j = j} {k = k} {l = l} p q t u) =
+    let (a, e) = hex-only p in
+    let (b, f) = hex-only q in
+    let (c, g) = hex-only t in
+    let (d, h) = hex-only u in
+    (rw (a, b, c, d) refl, rw (e, f, g, h) (omega arith))
+
+-- the four after the first four
+four-next : (s : List ℕ) → (Text.fourAt (drop 4 s) 0 ≡ Text.fourAt s 4) × (Text.fourOf (drop 4 s) 0 ≡ Text.fourOf s 4)
+four-next s =
+    (rw (getD-drop 4 s 0 256, getD-drop 4 s 1 256, getD-drop 4 s 2 256, getD-drop 4 s 3 256) refl,
+    rw (getD-drop 4 s 0 256, getD-drop 4 s 1 256, getD-drop 4 s 2 256, getD-drop 4 s 3 256) refl)
+
+-- computed after the first four
+second-is : (s : List ℕ) → Text.fourAt s 4 ≡ true → Rules.Four (drop 4 s) (Text.fourOf s 4)
+second-is s e = let (p, q) = four-next s in subst (Rules.Four (drop 4 s)) q (four-is (drop 4 s) (p ∙ e))
+
+-- standing after the first four
+second-only : (s : List ℕ) (n : ℕ) → Rules.Four (drop 4 s) n → (Text.fourAt s 4 ≡ true) × (Text.fourOf s 4 ≡ n)
+second-only s n f = let (p, q) = four-next s in let (t, u) = four-only f in (sym p ∙ t, sym q ∙ u)
+
+-- ---- groups
+-- the character that is computed of a code is the code's
+pub shown-is : (n : ℕ) → Rules.Shown n (Text.shown n)
+shown-is n = go (decLt n 55296) (decLt n 57344) (decLt 1114111 n)
+  where
+    go : Dec (n < 55296) → Dec (n < 57344) → Dec (1114111 < n) → Rules.Shown n (Text.shown n)
+    go (yes h) _ _ = rw (scalar-low n h) (Rules.below h)
+    go (no a) (yes h) _ = rw (scalar-between n (omega arith) (omega arith)) (Rules.surrogate {n = n} (omega arith, omega arith))
+    go (no a) (no b) (yes h) = rw (scalar-above n h) (Rules.beyond h)
+    go (no a) (no b) (no c) = rw (scalar-high n (omega arith) (omega arith)) (Rules.above {n = n} (omega arith, omega arith))
+
+-- and no other
+pub shown-only : {n c : ℕ} → Rules.Shown n c → Text.shown n ≡ c
+shown-only {n} (Rules.below h) = rw (scalar-low n h) refl
+shown-only {n} (Rules.above (l, h)) = rw (scalar-high n l h) refl
+shown-only {n} (Rules.surrogate (l, h)) = rw (scalar-between n l h) refl
+shown-only {n} (Rules.beyond h) = rw (scalar-above n h) refl
+
+-- a number of a range whose end is left out passes its test
+half : (l h b : ℕ) → l ≤ b → b < h → leb l b && ltb b h ≡ true
+half l h b p q = rw (le-leb l b p, lt-ltb b h q) refl
+
+-- one outside it fails it
+outside : (l h b : ℕ) → (l ≤ b → b < h → ⊥) → leb l b && ltb b h ≡ false
+outside l h b n = go (leb l b && ltb b h) refl
+  where
+    go : (t : Bool) → leb l b && ltb b h ≡ t → leb l b && ltb b h ≡ false
+    go true e = let (p, q) = both (leb l b) (ltb b h) e in absurd (n (leb-true l b p) (ltb-true b h q))
+    go false e = e
+
+-- a good group is computed to be one
+pub good-only : {w : ℕ} {s : List ℕ} {c k : ℕ} → Rules.GoodGroup w s c k → Text.groupOf w s ≡ Text.char c k
+unfolding Text.groupTwo Text.groupFour
+good-only {s = s} (Rules.single {n = n} f h g) =
+    let (p, q) = four-only f in
+    let u : Text.high n ≡ false = outside 55296 56320 n (λ a b. h (a, omega arith)) in
+    rw (p, q, u, shown-only g) refl
+good-only {s = s} (Rules.pair {y = y} {x = x} f h g i) =
+    let (p, q) = four-only f in
+    let (t, e) = second-only s (56320 + x) g in
+    let u : Text.high (55296 + y) ≡ true = half 55296 56320 (55296 + y) (omega arith) (omega arith) in
+    let v : Text.low (56320 + x) ≡ true = half 56320 57344 (56320 + x) (omega arith) (omega arith) in
+    let a : 55296 + y - 55296 ≡ y = omega arith in
+    let b : 56320 + x - 56320 ≡ x = omega arith in
+    rw (p, q, u, t, e, v, a, b) refl
+good-only {s = s} (Rules.unpaired {n = n} {m = m} f (l, h) g i) =
+    let (p, q) = four-only f in
+    let (t, e) = second-only s m g in
+    let u : Text.high n ≡ true = half 55296 56320 n l (omega arith) in
+    let v : Text.low m ≡ false = outside 56320 57344 m (λ a b. i (a, omega arith)) in
+    rw (p, q, u, t, e, v) refl
+good-only {s = s} (Rules.eight {n = n} {m = m} f g h) =
+    let (p, q) = four-only f in
+    let (t, e) = second-only s m g in
+    rw (p, q, t, e, shown-only h) refl
+
+-- a group as computed is told: a good one of this character and these bytes, or none
+abbrev Told : ℕ → List ℕ → Text.Group → Type 0
+Told w s (Text.char c k) = Rules.GoodGroup w s c k
+Told w s Text.wrong = Unit {0}
+
+-- a group of four digits
+two-told : (s : List ℕ) → Told 4 s (Text.groupTwo s)
+unfolding Text.groupTwo
+two-told s = go (Text.fourAt s 0) refl
+  where
+    both-are : (t : Bool) → Text.low (Text.fourOf s 4) ≡ t → Text.fourAt s 0 ≡ true → Text.high (Text.fourOf s 0) ≡ true → Text.fourAt s 4 ≡ true → Rules.GoodGroup 4 s (pick t (65536 + (Text.fourOf s 0 - 55296) * 1024 + (Text.fourOf s 4 - 56320)) 65533) 8
+    both-are true e p h q =
+        let (a, b) = both (leb 55296 (Text.fourOf s 0)) (ltb (Text.fourOf s 0) 56320) h in
+        let (c, d) = both (leb 56320 (Text.fourOf s 4)) (ltb (Text.fourOf s 4) 57344) e in
+        let al = leb-true 55296 (Text.fourOf s 0) a in
+        let ah = ltb-true (Text.fourOf s 0) 56320 b in
+        let bl = leb-true 56320 (Text.fourOf s 4) c in
+        let bh = ltb-true (Text.fourOf s 4) 57344 d in
+        let f : Text.fourOf s 0 ≡ 55296 + (Text.fourOf s 0 - 55296) = omega arith in
+        let g : Text.fourOf s 4 ≡ 56320 + (Text.fourOf s 4 - 56320) = omega arith in
+        Rules.pair (subst (Rules.Four s) f (four-is s p)) (omega arith) (subst (Rules.Four (drop 4 s)) g (second-is s q)) (omega arith)
+    both-are false e p h q =
+        let (a, b) = both (leb 55296 (Text.fourOf s 0)) (ltb (Text.fourOf s 0) 56320) h in
+        let ah = ltb-true (Text.fourOf s 0) 56320 b in
+        Rules.unpaired (four-is s p) (leb-true 55296 (Text.fourOf s 0) a, omega arith) (second-is s q) (λ (l, h). differ (Text.low (Text.fourOf s 4)) (half 56320 57344 (Text.fourOf s 4) l (omega arith)) e)
+    second : (t : Bool) → Text.fourAt s 4 ≡ t → Text.fourAt s 0 ≡ true → Text.high (Text.fourOf s 0) ≡ true → Told 4 s (pick t (Text.char (Text.joined (Text.fourOf s 0) (Text.fourOf s 4)) 8) Text.wrong)
+    second true q p h = both-are (Text.low (Text.fourOf s 4)) refl p h q
+    second false q p h = tt
+    first : (t : Bool) → Text.high (Text.fourOf s 0) ≡ t → Text.fourAt s 0 ≡ true → Told 4 s (pick t (Text.pairOf s) (Text.char (Text.shown (Text.fourOf s 0)) 4))
+    first true h p = second (Text.fourAt s 4) refl p h
+    first false h p = Rules.single (four-is s p) (λ (a, b). differ (Text.high (Text.fourOf s 0)) (half 55296 56320 (Text.fourOf s 0) a (omega arith)) h) (shown-is (Text.fourOf s 0))
+    go : (t : Bool) → Text.fourAt s 0 ≡ t → Told 4 s (pick t (pick (Text.high (Text.fourOf s 0)) (Text.pairOf s) (Text.char (Text.shown (Text.fourOf s 0)) 4)) Text.wrong)
+    go true p = first (Text.high (Text.fourOf s 0)) refl p
+    go false p = tt
+
+-- a group of eight
+four-told : (s : List ℕ) → Told 8 s (Text.groupFour s)
+unfolding Text.groupFour
+four-told s = go (Text.fourAt s 0 && Text.fourAt s 4) refl
+  where
+    go : (t : Bool) → Text.fourAt s 0 && Text.fourAt s 4 ≡ t → Told 8 s (pick t (Text.char (Text.shown (Text.fourOf s 0 * 65536 + Text.fourOf s 4)) 8) Text.wrong)
+    go true e =
+        let (p, q) = both (Text.fourAt s 0) (Text.fourAt s 4) e in
+        Rules.eight (four-is s p) (second-is s q) (shown-is (Text.fourOf s 0 * 65536 + Text.fourOf s 4))
+    go false e = tt
+
+-- a group of either kind
+told : {d w : ℕ} (s : List ℕ) → Rules.Named d w → Told w s (Text.groupOf w s)
+told s Rules.two = two-told s
+told s Rules.four = four-told s
+
+-- a group as computed is a good one
+pub good-is : {d w : ℕ} (s : List ℕ) (c k : ℕ) → Rules.Named d w → Text.groupOf w s ≡ Text.char c k → Rules.GoodGroup w s c k
+good-is {w = w} s c k n e = subst (Told w s) e (told s n)
+
+-- a group is a character or none
+apart : {A : Type 0} (c k : ℕ) → Text.char c k ≡ Text.wrong → A
+apart c k e = let z : _≡_ {A = ℕ} 0 1 = cc in absurd (omega arith)
+
+-- where no good group stands, none is computed
+pub good-none : {d w : ℕ} (s : List ℕ) → Rules.Named d w → ((c k : ℕ) → Rules.GoodGroup w s c k → ⊥) → Text.groupOf w s ≡ Text.wrong
+good-none {w = w} s n h = go (Text.groupOf w s) refl
+  where
+    go : (g : Text.Group) → Text.groupOf w s ≡ g → g ≡ Text.wrong
+    go (Text.char c k) e = absurd (h c k (good-is s c k n e))
+    go Text.wrong e = refl
+
+-- four hex digits are bytes that are there, and no backslash stands first
+four-starts : {s : List ℕ} {n : ℕ} → Rules.Four s n → (4 ≤ length s) × (Text.is s 0 92 ≡ false)
+four-starts {s} f =
+    let (p, q) = four-only f in
+    (four-within s 0 p, go (Text.is s 0 92) refl p)
+  where
+    go : (t : Bool) → Text.is s 0 92 ≡ t → Text.fourAt s 0 ≡ true → t ≡ false
+    go true e p =
+        let b : byteAt s 0 ≡ 92 = eqb-true (byteAt s 0) 92 e in
+        let (x, y) = both (Text.twoAt s 0) (Text.twoAt s 2) p in
+        let (u, v) = both (Text.hexDigit (byteAt s 0)) (Text.hexDigit (byteAt s 1)) x in
+        let w : _≡_ {A = Bool} false true = sym (ap Text.hexDigit b) ∙ u in
+        differ false w refl
+    go false e p = refl
+
+-- a good group begins where a group may, and takes bytes that are there
+good-starts : {w : ℕ} {s : List ℕ} {c k : ℕ} → Rules.GoodGroup w s c k → (w ≤ length s) × (Text.is s 0 92 ≡ false) × (0 < w) × (0 < k)
+good-starts (Rules.single f h g) = let (l, b) = four-starts f in (l, b, omega arith, omega arith)
+good-starts (Rules.pair f h g i) = let (l, b) = four-starts f in (l, b, omega arith, omega arith)
+good-starts (Rules.unpaired f h g i) = let (l, b) = four-starts f in (l, b, omega arith, omega arith)
+good-starts {s = s} (Rules.eight f g h) =
+    let (l, b) = four-starts f in
+    let (m, c) = four-starts g in
+    let e : length (drop 4 s) ≡ length s - 4 = length-drop 4 s in
+    (omega arith, b, omega arith, omega arith)
+
+-- no group is computed of a high surrogate without four hex digits after it
+high-wrong : (s : List ℕ) (n : ℕ) → Text.fourAt s 0 ≡ true → Text.fourOf s 0 ≡ n → Text.high n ≡ true → Text.fourAt s 4 ≡ false → Text.groupOf 4 s ≡ Text.wrong
+unfolding Text.groupTwo
+high-wrong s n p q h e = rw (p, q, h, e) refl
+
+-- "a high one not followed by four hex digits is a bad group"
+pub high-alone : {s : List ℕ} {n : ℕ} → Rules.Four s n → Rules.High n → ((m : ℕ) → Rules.Four (drop 4 s) m → ⊥) → Rules.BadGroup 4 s
+high-alone {s} {n} f (l, h) g =
+    let (p, q) = four-only f in
+    let (i, j) = four-starts f in
+    record {
+      whole = i;
+      unmarked = λ (r, e). differ (Text.is s 0 92) (ap (λ (z : List ℕ). Text.is z 0 92) e) j;
+      not-good = λ c k b. apart c k (sym (good-only b) ∙ high-wrong s n p q (half 55296 56320 n l (omega arith)) (go (Text.fourAt s 4) refl))
+    }
+  where
+    go : (t : Bool) → Text.fourAt s 4 ≡ t → t ≡ false
+    go true e = absurd (g (Text.fourOf s 4) (second-is s e))
+    go false e = refl
+
+-- ---- the groups of a directive
+-- the list from a byte that is there
+here : (s : List ℕ) (k a : ℕ) → a < 256 → Text.is s k a ≡ true → drop k s ≡ a ∷ drop (suc k) s
+here s k a h e = drop-cons s k 256 (is-within s k a h e) ∙ ap (λ (b : ℕ). b ∷ drop (suc k) s) (eqb-true (byteAt s k) a e)
+
+-- two bytes that are there
+here-two : (s : List ℕ) (a b : ℕ) → a < 256 → b < 256 → Text.is s 0 a ≡ true → Text.is s 1 b ≡ true → s ≡ a ∷ b ∷ drop 2 s
+here-two s a b h i p q = here s 0 a h p ∙ ap (λ (r : List ℕ). a ∷ r) (here s 1 b i q)
+
+-- the groups end at a backslash
+slash-ends : (w : ℕ) (r : List ℕ) → ends w (92 ∷ r) ≡ true
+slash-ends w r = go (ltb (length (92 ∷ r)) w)
+  where
+    go : (t : Bool) → t || true ≡ true
+    go true = refl
+    go false = refl
+
+-- they do not end where a group may start
+group-starts : (w : ℕ) (s : List ℕ) → w ≤ length s → Text.is s 0 92 ≡ false → ends w s ≡ false
+group-starts w s h e = rw (le-ltb (length s) w h, e) refl
+
+-- no `\X0` after the backslash
+unclosed : (r : List ℕ) → ((q : List ℕ) → r ≡ 88 ∷ 48 ∷ q → ⊥) → Text.is r 0 88 && Text.is r 1 48 ≡ false
+unclosed r h = go (Text.is r 0 88 && Text.is r 1 48) refl
+  where
+    go : (t : Bool) → Text.is r 0 88 && Text.is r 1 48 ≡ t → t ≡ false
+    go true e = let (p, q) = both (Text.is r 0 88) (Text.is r 1 48) e in absurd (h (drop 2 r) (here-two r 88 48 (omega arith) (omega arith) p q))
+    go false e = refl
+
+-- no byte is left
+groups-none : (w : ℕ) → Text.groupsFrom w 0 [] ≡ Text.ended [] 0
+unfolding Text.groupsFrom
+groups-none w = refl
+
+-- groups to their end are computed so
+pub groups-only : {w : ℕ} {s cs : List ℕ} {n : ℕ} → Rules.Groups w s cs n → Text.groupsFrom w 0 s ≡ Text.ended cs n
+groups-only {w} Rules.at-end = groups-none w
+groups-only {w} (Rules.closed {b = b} {r = r}) =
+    let e : min 4 (length (92 ∷ 88 ∷ 48 ∷ b ∷ r)) ≡ 4 = omega arith in
+    groups-stop w (92 ∷ 88 ∷ 48 ∷ b ∷ r) (omega arith) (slash-ends w (88 ∷ 48 ∷ b ∷ r)) ∙ ap (Text.ended []) e
+groups-only {w} Rules.closed-last = groups-stop w (92 ∷ 88 ∷ 48 ∷ []) (omega arith) (slash-ends w (88 ∷ 48 ∷ []))
+groups-only {w} (Rules.another {r = r} h) =
+    let e : Text.closing (92 ∷ r) ≡ 0 = rw (unclosed r h) refl in
+    groups-stop w (92 ∷ r) (omega arith) (slash-ends w r) ∙ ap (Text.ended []) e
+groups-only {w} (Rules.cut {b = b} {r = r} n h) =
+    let e : Text.closing (b ∷ r) ≡ 0 = rw (ne-eqb b 92 n) refl in
+    let f : ends w (b ∷ r) ≡ true = rw (lt-ltb (length (b ∷ r)) w h) refl in
+    groups-stop w (b ∷ r) (omega arith) f ∙ ap (Text.ended []) e
+groups-only {w} {s} (Rules.next {cs = cs} {c = c} {k = k} {n = n} g t) =
+    let (l, b, p, q) = good-starts g in
+    groups-char w s c k (omega arith) (group-starts w s l b) (good-only g) q ∙ ap (Text.withChar c k) (groups-only t)
+
+-- no backslash stands first
+unslashed : (s : List ℕ) → (Begins 92 s → ⊥) → Text.is s 0 92 ≡ false
+unslashed s h = go (Text.is s 0 92) refl
+  where
+    go : (t : Bool) → Text.is s 0 92 ≡ t → t ≡ false
+    go true e = absurd (h (drop 1 s, here s 0 92 (omega arith) e))
+    go false e = refl
+
+-- groups up to a bad one are computed so
+pub broken-only : {d w : ℕ} {s cs : List ℕ} → Rules.Named d w → Rules.Broken w s cs → Text.groupsFrom w 0 s ≡ Text.broken cs
+broken-only {w = w} {s = s} n (Rules.bad b) = groups-wrong w s (omega (arith, b .whole, wide n)) (group-starts w s (b .whole) (unslashed s (b .unmarked))) (good-none s n (b .not-good))
+  where
+    wide : {d v : ℕ} → Rules.Named d v → 4 ≤ v
+    wide Rules.two = omega arith
+    wide Rules.four = omega arith
+broken-only {w = w} {s = s} n (Rules.good {cs = cs} {c = c} {k = k} g t) =
+    let (l, b, p, q) = good-starts g in
+    groups-char w s c k (omega arith) (group-starts w s l b) (good-only g) q ∙ ap (Text.withChar c k) (broken-only n t)
+
+-- the groups as computed are told: to their end, or up to a bad one
+abbrev Run : ℕ → List ℕ → Text.Groups → Type 0
+Run w s (Text.ended cs n) = Rules.Groups w s cs n
+Run w s (Text.broken cs) = Rules.Broken w s cs
+
+-- one group more in front
+run-next : (w : ℕ) (s : List ℕ) (c k : ℕ) (g : Text.Groups) → Rules.GoodGroup w s c k → Run w (drop k s) g → Run w s (Text.withChar c k g)
+run-next w s c k (Text.ended cs n) h t = Rules.next h t
+run-next w s c k (Text.broken cs) h t = Rules.good h t
+
+-- the groups end at a backslash, and a `\X0` there is taken
+run-slash : (w : ℕ) (r : List ℕ) → Rules.Groups w (92 ∷ r) [] (Text.closing (92 ∷ r))
+run-slash w r = go (Text.is r 0 88 && Text.is r 1 48) refl
+  where
+    last : (q : List ℕ) → Rules.Groups w (92 ∷ 88 ∷ 48 ∷ q) [] (min 4 (length (92 ∷ 88 ∷ 48 ∷ q)))
+    last [] = Rules.closed-last
+    last (b ∷ q) = let e : 4 ≡ min 4 (length (92 ∷ 88 ∷ 48 ∷ b ∷ q)) = omega arith in subst (Rules.Groups w (92 ∷ 88 ∷ 48 ∷ b ∷ q) []) e Rules.closed
+    go : (t : Bool) → Text.is r 0 88 && Text.is r 1 48 ≡ t → Rules.Groups w (92 ∷ r) [] (pick t (min 4 (length (92 ∷ r))) 0)
+    go true e =
+        let (p, q) = both (Text.is r 0 88) (Text.is r 1 48) e in
+        let f : 88 ∷ 48 ∷ drop 2 r ≡ r = sym (here-two r 88 48 (omega arith) (omega arith) p q) in
+        subst (λ (z : List ℕ). Rules.Groups w (92 ∷ z) [] (min 4 (length (92 ∷ z)))) f (last (drop 2 r))
+    go false e = Rules.another (λ q f. differ (Text.is r 0 88 && Text.is r 1 48) (ap (λ (z : List ℕ). Text.is z 0 88 && Text.is z 1 48) f) e)
+
+-- the groups end
+run-stop : (w b : ℕ) (r : List ℕ) → ends w (b ∷ r) ≡ true → Rules.Groups w (b ∷ r) [] (Text.closing (b ∷ r))
+run-stop w b r e = go (eqb b 92) refl
+  where
+    short : (t u : Bool) → t || u ≡ true → u ≡ false → t ≡ true
+    short true u p q = refl
+    short false u p q = differ u p q
+    go : (t : Bool) → eqb b 92 ≡ t → Rules.Groups w (b ∷ r) [] (Text.closing (b ∷ r))
+    go true p = subst (λ (z : ℕ). Rules.Groups w (z ∷ r) [] (Text.closing (z ∷ r))) (sym (eqb-true b 92 p)) (run-slash w r)
+    go false p =
+        let f : 0 ≡ Text.closing (b ∷ r) = rw p refl in
+        subst (Rules.Groups w (b ∷ r) []) f (Rules.cut (eqb-false b 92 p) (ltb-true (length (b ∷ r)) w (short (ltb (length (b ∷ r)) w) (eqb b 92) e p)))
+
+-- the groups as computed are told where those of shorter lists are
+run-step : {d w : ℕ} (s : List ℕ) → Rules.Named d w → ((t : List ℕ) → length t < length s → Run w t (Text.groupsFrom w 0 t)) → Run w s (Text.groupsFrom w 0 s)
+run-step {w = w} [] n ih = subst (Run w []) (sym (groups-none w)) Rules.at-end
+run-step {w = w} (b ∷ r) n ih = go (ends w (b ∷ r)) refl
+  where
+    group : (g : Text.Group) → Text.groupOf w (b ∷ r) ≡ g → ends w (b ∷ r) ≡ false → Run w (b ∷ r) (Text.groupsFrom w 0 (b ∷ r))
+    group (Text.char c k) f e =
+        let h = good-is (b ∷ r) c k n f in
+        let (l, m, p, q) = good-starts h in
+        let i : length (drop k (b ∷ r)) < length (b ∷ r) = omega (arith, length-drop k (b ∷ r)) in
+        subst (Run w (b ∷ r)) (sym (groups-char w (b ∷ r) c k (omega arith) e f q)) (run-next w (b ∷ r) c k (Text.groupsFrom w 0 (drop k (b ∷ r))) h (ih (drop k (b ∷ r)) i))
+    group Text.wrong f e =
+        let (l, m) = neither (ltb (length (b ∷ r)) w) (eqb b 92) e in
+        let u : Rules.BadGroup w (b ∷ r) = record {
+          whole = ltb-false (length (b ∷ r)) w l;
+          unmarked = λ (q, z). differ (eqb b 92) (ap (λ (y : List ℕ). Text.is y 0 92) z) m;
+          not-good = λ c k h. apart c k (sym (good-only h) ∙ f)
+        } in
+        subst (Run w (b ∷ r)) (sym (groups-wrong w (b ∷ r) (omega arith) e f)) (Rules.bad u)
+    go : (t : Bool) → ends w (b ∷ r) ≡ t → Run w (b ∷ r) (Text.groupsFrom w 0 (b ∷ r))
+    go true e = subst (Run w (b ∷ r)) (sym (groups-stop w (b ∷ r) (omega arith) e)) (run-stop w b r e)
+    go false e = group (Text.groupOf w (b ∷ r)) refl e
+
+-- the groups as computed are told
+run-is : {d w : ℕ} (s : List ℕ) → Rules.Named d w → Run w s (Text.groupsFrom w 0 s)
+run-is {d} {w} s n = go (length s) s (omega arith)
+  where
+    go : (m : ℕ) (s : List ℕ) → length s ≤ m → Run w s (Text.groupsFrom w 0 s)
+    go zero s h = run-step s n (λ t l. absurd (omega arith))
+    go (suc m) s h = run-step s n (λ t l. go m t (omega arith))
+
+-- groups that are computed to end do
+pub groups-is : {d w : ℕ} (s cs : List ℕ) (n : ℕ) → Rules.Named d w → Text.groupsFrom w 0 s ≡ Text.ended cs n → Rules.Groups w s cs n
+groups-is {w = w} s cs n m e = subst (Run w s) e (run-is s m)
+
+-- and those that are computed to be broken off are
+pub broken-is : {d w : ℕ} (s cs : List ℕ) → Rules.Named d w → Text.groupsFrom w 0 s ≡ Text.broken cs → Rules.Broken w s cs
+broken-is {w = w} s cs m e = subst (Run w s) e (run-is s m)
+
+-- ---- directives
+-- the piece that a directive with groups gives
+extended-is : {d w : ℕ} (r : List ℕ) → Rules.Named d w → Rules.Directive (92 ∷ 88 ∷ d ∷ 92 ∷ r) (Text.extended (Text.groupsFrom w 0 r) .chars) (Text.extended (Text.groupsFrom w 0 r) .used)
+extended-is {d} {w} r n = go (Text.groupsFrom w 0 r) (run-is r n)
+  where
+    go : (g : Text.Groups) → Run w r g → Rules.Directive (92 ∷ 88 ∷ d ∷ 92 ∷ r) (Text.extended g .chars) (Text.extended g .used)
+    go (Text.ended cs k) h = Rules.long n h
+    go (Text.broken cs) h = Rules.long-bad n h
+
+-- the directives with names of three bytes are computed by the digit in them
+named-is : {d w : ℕ} (r : List ℕ) → Rules.Named d w → Text.pieceOf (92 ∷ 88 ∷ d ∷ 92 ∷ r) ≡ Text.extended (Text.groupsFrom w 0 r)
+unfolding Text.pieceOf Text.directiveOf
+named-is r Rules.two = refl
+named-is r Rules.four = refl
+
+-- two hex digits after `\X\`
+octet-is : (a b : ℕ) (r : List ℕ) → Text.hexDigit a ≡ true → Text.hexDigit b ≡ true → Text.pieceOf (92 ∷ 88 ∷ 92 ∷ a ∷ b ∷ r) ≡ Text.gives ((Text.hexValue a * 16 + Text.hexValue b) ∷ []) 5
+unfolding Text.pieceOf Text.directiveOf
+octet-is a b r p q = rw (p, q) refl
+
+-- a directive is computed so
+pub directive-only : {s cs : List ℕ} {k : ℕ} → Rules.Directive s cs k → Text.pieceOf s ≡ Text.gives cs k
+unfolding Text.pieceOf Text.directiveOf
+directive-only Rules.backslash = refl
+directive-only Rules.newline = refl
+directive-only Rules.tab = refl
+directive-only Rules.page = refl
+directive-only (Rules.shift {c = c} {r = r}) = rw (le-leb 4 (length (92 ∷ 83 ∷ 92 ∷ c ∷ r)) (omega arith)) refl
+directive-only (Rules.octet {a = a} {b = b} {i = i} {j = j} {r = r} x y) =
+    let (p, e) = hex-only x in
+    let (q, f) = hex-only y in
+    octet-is a b r p q ∙ rw (e, f) refl
+directive-only (Rules.long {r = r} n g) = named-is r n ∙ ap Text.extended (groups-only g)
+directive-only (Rules.long-bad {r = r} n g) = named-is r n ∙ ap Text.extended (broken-only n g)
+
+-- the rule for what stands at the start of s gives this piece
+abbrev Directs : List ℕ → Text.Piece → Type 0
+Directs s p = Rules.Directive s (p .chars) (p .used)
+
+-- each test that is computed at a backslash is the rule that it stands for
+module _ (s : List ℕ) (o : Text.is s 0 92 ≡ true) where
+  -- `\\`
+  backslash-is : Text.is s 1 92 ≡ true → Directs s (Text.gives (92 ∷ []) 2)
+  backslash-is e = subst (λ (z : List ℕ). Directs z (Text.gives (92 ∷ []) 2)) (sym (here-two s 92 92 (omega arith) (omega arith) o e)) Rules.backslash
+
+  -- a letter and a backslash
+  letter : (a : ℕ) → a < 256 → Text.is s 1 a && Text.is s 2 92 ≡ true → s ≡ 92 ∷ a ∷ 92 ∷ drop 3 s
+  letter a h e =
+      let (p, q) = both (Text.is s 1 a) (Text.is s 2 92) e in
+      here-two s 92 a (omega arith) h o p ∙ ap (λ (z : List ℕ). 92 ∷ a ∷ z) (here s 2 92 (omega arith) q)
+
+  -- `\N\`
+  newline-is : Text.is s 1 78 && Text.is s 2 92 ≡ true → Directs s (Text.gives (10 ∷ []) 3)
+  newline-is e = subst (λ (z : List ℕ). Directs z (Text.gives (10 ∷ []) 3)) (sym (letter 78 (omega arith) e)) Rules.newline
+
+  -- `\T\`
+  tab-is : Text.is s 1 84 && Text.is s 2 92 ≡ true → Directs s (Text.gives (9 ∷ []) 3)
+  tab-is e = subst (λ (z : List ℕ). Directs z (Text.gives (9 ∷ []) 3)) (sym (letter 84 (omega arith) e)) Rules.tab
+
+  -- `\P?\`
+  page-is : Text.is s 1 80 && Text.is s 3 92 ≡ true → Directs s (Text.gives [] 4)
+  page-is e =
+      let (p, q) = both (Text.is s 1 80) (Text.is s 3 92) e in
+      let l = is-within s 3 92 (omega arith) q in
+      let f : s ≡ 92 ∷ 80 ∷ byteAt s 2 ∷ 92 ∷ drop 4 s =
+          here-two s 92 80 (omega arith) (omega arith) o p ∙ ap (λ (z : List ℕ). 92 ∷ 80 ∷ z) (drop-cons s 2 256 (omega arith)) ∙ ap (λ (z : List ℕ). 92 ∷ 80 ∷ byteAt s 2 ∷ z) (here s 3 92 (omega arith) q) in
+      subst (λ (z : List ℕ). Directs z (Text.gives [] 4)) (sym f) Rules.page
+
+  -- `\S\c`
+  shift-is : Text.is s 1 83 && (Text.is s 2 92 && leb 4 (length s)) ≡ true → Directs s (Text.gives ((byteAt s 3 + 128) ∷ []) 4)
+  shift-is e =
+      let (p, x) = both (Text.is s 1 83) (Text.is s 2 92 && leb 4 (length s)) e in
+      let (q, l) = both (Text.is s 2 92) (leb 4 (length s)) x in
+      let h = leb-true 4 (length s) l in
+      let f : s ≡ 92 ∷ 83 ∷ 92 ∷ byteAt s 3 ∷ drop 4 s =
+          here-two s 92 83 (omega arith) (omega arith) o p ∙ ap (λ (z : List ℕ). 92 ∷ 83 ∷ z) (here s 2 92 (omega arith) q) ∙ ap (λ (z : List ℕ). 92 ∷ 83 ∷ 92 ∷ z) (drop-cons s 3 256 (omega arith)) in
+      subst (λ (z : List ℕ). Directs z (Text.gives ((byteAt s 3 + 128) ∷ []) 4)) (sym f) Rules.shift
+
+  -- `\X\HH`
+  two-digits : Text.is s 1 88 && (Text.is s 2 92 && Text.twoAt s 3) ≡ true → Directs s (Text.gives (Text.twoOf s 3 ∷ []) 5)
+  two-digits e =
+      let (p, x) = both (Text.is s 1 88) (Text.is s 2 92 && Text.twoAt s 3) e in
+      let (q, y) = both (Text.is s 2 92) (Text.twoAt s 3) x in
+      let (u, v) = both (Text.hexDigit (byteAt s 3)) (Text.hexDigit (byteAt s 4)) y in
+      let h = hex-within s 4 v in
+      let f : s ≡ 92 ∷ 88 ∷ 92 ∷ byteAt s 3 ∷ byteAt s 4 ∷ drop 5 s =
+          here-two s 92 88 (omega arith) (omega arith) o p ∙ ap (λ (z : List ℕ). 92 ∷ 88 ∷ z) (here s 2 92 (omega arith) q) ∙ ap (λ (z : List ℕ). 92 ∷ 88 ∷ 92 ∷ z) (drop-cons s 3 256 (omega arith)) ∙ ap (λ (z : List ℕ). 92 ∷ 88 ∷ 92 ∷ byteAt s 3 ∷ z) (drop-cons s 4 256 (omega arith)) in
+      subst (λ (z : List ℕ). Directs z (Text.gives (Text.twoOf s 3 ∷ []) 5)) (sym f) (Rules.octet (hex-is (byteAt s 3) u) (hex-is (byteAt s 4) v))
+
+  -- `\X2\` and `\X4\`
+  long-is : {d w : ℕ} → Rules.Named d w → d < 256 → Text.is s 1 88 && (Text.is s 2 d && Text.is s 3 92) ≡ true → Directs s (Text.extended (Text.groupsFrom w 0 (drop 4 s)))
+  long-is {d} {w} n h e =
+      let (p, x) = both (Text.is s 1 88) (Text.is s 2 d && Text.is s 3 92) e in
+      let (q, y) = both (Text.is s 2 d) (Text.is s 3 92) x in
+      let f : s ≡ 92 ∷ 88 ∷ d ∷ 92 ∷ drop 4 s =
+          here-two s 92 88 (omega arith) (omega arith) o p ∙ ap (λ (z : List ℕ). 92 ∷ 88 ∷ z) (here s 2 d h q) ∙ ap (λ (z : List ℕ). 92 ∷ 88 ∷ d ∷ z) (here s 3 92 (omega arith) y) in
+      subst (λ (z : List ℕ). Directs z (Text.extended (Text.groupsFrom w 0 (drop 4 s)))) (sym f) (extended-is (drop 4 s) n)
+
+-- no test that is computed at a backslash holds
+record Undirected (s : List ℕ) : Type 0 where
+  no-backslash : Text.is s 1 92 ≡ false
+  no-newline : Text.is s 1 78 && Text.is s 2 92 ≡ false
+  no-tab : Text.is s 1 84 && Text.is s 2 92 ≡ false
+  no-page : Text.is s 1 80 && Text.is s 3 92 ≡ false
+  no-shift : Text.is s 1 83 && (Text.is s 2 92 && leb 4 (length s)) ≡ false
+  no-octet : Text.is s 1 88 && (Text.is s 2 92 && Text.twoAt s 3) ≡ false
+  no-two : Text.is s 1 88 && (Text.is s 2 50 && Text.is s 3 92) ≡ false
+  no-four : Text.is s 1 88 && (Text.is s 2 52 && Text.is s 3 92) ≡ false
+
+-- then a backslash alone is computed
+undirected-only : (s : List ℕ) → Undirected s → Text.directiveOf s ≡ Text.gives (92 ∷ []) 1
+unfolding Text.directiveOf
+undirected-only s u = rw (u .no-backslash, u .no-newline, u .no-tab, u .no-page, u .no-shift, u .no-octet, u .no-two, u .no-four) refl
+
+-- true is not false
+never : _≡_ {A = Bool} true false → ⊥
+never e = differ true refl e
+
+-- a directive with groups passes its test
+named-none : {d w : ℕ} (r : List ℕ) → Rules.Named d w → Undirected (92 ∷ 88 ∷ d ∷ 92 ∷ r) → ⊥
+named-none r Rules.two u = never (u .no-two)
+named-none r Rules.four u = never (u .no-four)
+
+-- and no directive stands there
+undirected-none : {s cs : List ℕ} {k : ℕ} → Rules.Directive s cs k → Undirected s → ⊥
+undirected-none Rules.backslash u = never (u .no-backslash)
+undirected-none Rules.newline u = never (u .no-newline)
+undirected-none Rules.tab u = never (u .no-tab)
+undirected-none Rules.page u = never (u .no-page)
+undirected-none (Rules.shift {c = c} {r = r}) u = never (sym (le-leb 4 (length (92 ∷ 83 ∷ 92 ∷ c ∷ r)) (omega arith)) ∙ u .no-shift)
+undirected-none (Rules.octet x y) u = never (sym (rw (hex-only x .0, hex-only y .0) refl) ∙ u .no-octet)
+undirected-none (Rules.long {r = r} n g) u = named-none r n u
+undirected-none (Rules.long-bad {r = r} n g) u = named-none r n u
+
+-- a test that cannot hold fails
+fails : (t : Bool) → (t ≡ true → ⊥) → t ≡ false
+fails true h = absurd (h refl)
+fails false h = refl
+
+-- where no directive stands no test holds
+undirected-is : (s : List ℕ) → Text.is s 0 92 ≡ true → ((cs : List ℕ) (k : ℕ) → Rules.Directive s cs k → ⊥) → Undirected s
+undirected-is s o n = record {
+  no-backslash = fails _ (λ e. n _ _ (backslash-is s o e));
+  no-newline = fails _ (λ e. n _ _ (newline-is s o e));
+  no-tab = fails _ (λ e. n _ _ (tab-is s o e));
+  no-page = fails _ (λ e. n _ _ (page-is s o e));
+  no-shift = fails _ (λ e. n _ _ (shift-is s o e));
+  no-octet = fails _ (λ e. n _ _ (two-digits s o e));
+  no-two = fails _ (λ e. n _ _ (long-is s o Rules.two (omega arith) e));
+  no-four = fails _ (λ e. n _ _ (long-is s o Rules.four (omega arith) e))
+}
+
+-- ---- pieces
+-- the rules give this piece at the start of s
+abbrev Says : List ℕ → Text.Piece → Type 0
+Says s p = Rules.Reads s (p .chars) (p .used)
+
+-- one of two, by a test
+pick-says : (s : List ℕ) (t : Bool) (p q : Text.Piece) → (t ≡ true → Says s p) → (t ≡ false → Says s q) → Says s (pick t p q)
+pick-says s true p q f g = f refl
+pick-says s false p q f g = g refl
+
+-- what is computed at a backslash is what the rules give
+backslash-says : (s : List ℕ) → Text.is s 0 92 ≡ true → Says s (Text.directiveOf s)
+unfolding Text.directiveOf
+backslash-says s o =
+    pick-says s (Text.is s 1 92) _ _ (λ e. Rules.directive (backslash-is s o e)) (λ n1.
+    pick-says s (Text.is s 1 78 && Text.is s 2 92) _ _ (λ e. Rules.directive (newline-is s o e)) (λ n2.
+    pick-says s (Text.is s 1 84 && Text.is s 2 92) _ _ (λ e. Rules.directive (tab-is s o e)) (λ n3.
+    pick-says s (Text.is s 1 80 && Text.is s 3 92) _ _ (λ e. Rules.directive (page-is s o e)) (λ n4.
+    pick-says s (Text.is s 1 83 && (Text.is s 2 92 && leb 4 (length s))) _ _ (λ e. Rules.directive (shift-is s o e)) (λ n5.
+    pick-says s (Text.is s 1 88 && (Text.is s 2 92 && Text.twoAt s 3)) _ _ (λ e. Rules.directive (two-digits s o e)) (λ n6.
+    pick-says s (Text.is s 1 88 && (Text.is s 2 50 && Text.is s 3 92)) _ _ (λ e. Rules.directive (long-is s o Rules.two (omega arith) e)) (λ n7.
+    pick-says s (Text.is s 1 88 && (Text.is s 2 52 && Text.is s 3 92)) _ _ (λ e. Rules.directive (long-is s o Rules.four (omega arith) e)) (λ n8.
+    alone (record { no-backslash = n1; no-newline = n2; no-tab = n3; no-page = n4; no-shift = n5; no-octet = n6; no-two = n7; no-four = n8 })))))))))
+  where
+    alone : Undirected s → Says s (Text.gives (92 ∷ []) 1)
+    alone u =
+        let f : s ≡ 92 ∷ drop 1 s = here s 0 92 (omega arith) o in
+        subst (λ (z : List ℕ). Says z (Text.gives (92 ∷ []) 1)) (sym f) (Rules.unknown (λ cs k h. undirected-none h (subst Undirected f u)))
+
+-- a sequence of a character from 80 up begins with a byte from 80 up
+encoded-high : {c : ℕ} {bs : List ℕ} (r : List ℕ) → Encoded c bs → 128 ≤ c → 128 ≤ byteAt (bs ++ r) 0
+encoded-high r (line-one (l, h)) k = absurd (omega arith)
+encoded-high r (line-two {x = x} h e p q) k = omega arith
+encoded-high r (line-three {x = x} h n e p q t) k = omega arith
+encoded-high r (line-four {x = x} h e p q t u) k = omega arith
+
+-- the bytes from 80 up: what is computed is what the rules give
+raw-says : (b : ℕ) (r : List ℕ) → 128 ≤ b → Says (b ∷ r) (Text.rawOf b (leadOf (b ∷ r)))
+raw-says b r h = go (leadOf (b ∷ r)) refl
+  where
+    from : (c k : ℕ) → take k (b ∷ r) ≡ encode c → encode c ++ drop k (b ∷ r) ≡ b ∷ r
+    from c k e = ap (λ (z : List ℕ). z ++ drop k (b ∷ r)) (sym e) ∙ take-append-drop k (b ∷ r)
+    high : (c k : ℕ) → take k (b ∷ r) ≡ encode c → Dec (c < 128) → 128 ≤ c
+    high c k e (yes l) =
+        let f : c ∷ drop k (b ∷ r) ≡ b ∷ r = ap (λ (z : List ℕ). z ++ drop k (b ∷ r)) (sym (encode-one c l)) ∙ from c k e in
+        let g : c ≡ b = ap (λ (z : List ℕ). byteAt z 0) f in
+        omega arith
+    high c k e (no l) = omega arith
+    go : (l : Lead) → leadOf (b ∷ r) ≡ l → Says (b ∷ r) (Text.rawOf b l)
+    go (valid c k) e =
+        let (s, t, n) = lead-is (b ∷ r) c k e in
+        let q : Rules.Reads (encode c ++ drop k (b ∷ r)) (c ∷ []) (length (encode c)) = Rules.sequence (encode c) (drop k (b ∷ r)) (table-is c s) (high c k t (decLt c 128)) in
+        let u : Rules.Reads (b ∷ r) (c ∷ []) (length (encode c)) = subst (λ (z : List ℕ). Rules.Reads z (c ∷ []) (length (encode c))) (from c k t) q in
+        subst (Rules.Reads (b ∷ r) (c ∷ [])) (sym n) u
+    go invalid e = Rules.latin h unled
+      where
+        unled : (c : ℕ) (bs q : List ℕ) → Encoded c bs → b ∷ r ≡ bs ++ q → ⊥
+        unled c bs q t f =
+            let (s, x) = table-only t in
+            let g : valid c (length (encode c)) ≡ invalid = sym (encode-leads c q s) ∙ ap (λ (z : List ℕ). leadOf (z ++ q)) (sym x) ∙ ap leadOf (sym f) ∙ e in
+            let z : _≡_ {A = ℕ} 0 1 = cc in
+            absurd (omega arith)
+
+-- what is computed at the start of a string's bytes is what the rules give
+pub piece-is : (s : List ℕ) → 0 < length s → Rules.Reads s (Text.pieceOf s .chars) (Text.pieceOf s .used)
+unfolding Text.pieceOf
+piece-is [] h = absurd (omega arith)
+piece-is (b ∷ r) h =
+    pick-says (b ∷ r) (eqb b 92) _ _ (λ e. backslash-says (b ∷ r) e) (λ n1.
+    pick-says (b ∷ r) (eqb b 39 && Text.is r 0 39) _ _ (λ e. doubled e) (λ n2.
+    pick-says (b ∷ r) (ltb b 128) _ _ (λ e. Rules.itself (ltb-true b 128 e) (eqb-false b 92 n1) (single n2)) (λ n3.
+    raw-says b r (ltb-false b 128 n3))))
+  where
+    doubled : eqb b 39 && Text.is r 0 39 ≡ true → Says (b ∷ r) (Text.gives (39 ∷ []) 2)
+    doubled e =
+        let (p, q) = both (eqb b 39) (Text.is r 0 39) e in
+        subst (λ (z : List ℕ). Says z (Text.gives (39 ∷ []) 2)) (sym (here-two (b ∷ r) 39 39 (omega arith) (omega arith) p q)) Rules.quote
+    single : eqb b 39 && Text.is r 0 39 ≡ false → b ≡ 39 → Begins 39 r → ⊥
+    single n e (q, f) = differ (eqb b 39 && Text.is r 0 39) (rw (eq-eqb b 39 e) (ap (λ (z : List ℕ). Text.is z 0 39) f)) n
+
+-- a piece as the two things that are told of it
+gives-parts : (p : Text.Piece) (cs : List ℕ) (k : ℕ) → p ≡ Text.gives cs k → (cs ≡ p .chars) × (k ≡ p .used)
+gives-parts p cs k e = (sym (ap (λ (q : Text.Piece). q .chars) e), sym (ap (λ (q : Text.Piece). q .used) e))
+
+-- a byte from 80 up is read raw
+raw-only : (s : List ℕ) → 128 ≤ byteAt s 0 → Text.pieceOf s ≡ Text.rawOf (byteAt s 0) (leadOf s)
+unfolding Text.pieceOf
+raw-only s h = rw (ne-eqb (byteAt s 0) 92 (λ e. omega arith), ne-eqb (byteAt s 0) 39 (λ e. omega arith), le-ltb (byteAt s 0) 128 h) refl
+
+-- where no sequence begins none is read
+led-none : (s : List ℕ) → ((c : ℕ) (bs q : List ℕ) → Encoded c bs → s ≡ bs ++ q → ⊥) → leadOf s ≡ invalid
+led-none s n = go (leadOf s) refl
+  where
+    go : (l : Lead) → leadOf s ≡ l → l ≡ invalid
+    go (valid c k) e =
+        let (t, x, m) = lead-is s c k e in
+        absurd (n c (encode c) (drop k s) (table-is c t) (sym (ap (λ (z : List ℕ). z ++ drop k s) (sym x) ∙ take-append-drop k s)))
+    go invalid e = refl
+
+-- a byte below 80 that is itself
+itself-only : (b : ℕ) (r : List ℕ) → b < 128 → (b ≡ 92 → ⊥) → (b ≡ 39 → Begins 39 r → ⊥) → Text.pieceOf (b ∷ r) ≡ Text.gives (b ∷ []) 1
+unfolding Text.pieceOf
+itself-only b r h n q = rw (ne-eqb b 92 n, fails (eqb b 39 && Text.is r 0 39) single, lt-ltb b 128 h) refl
+  where
+    single : eqb b 39 && Text.is r 0 39 ≡ true → ⊥
+    single e =
+        let (x, y) = both (eqb b 39) (Text.is r 0 39) e in
+        q (eqb-true b 39 x) (drop 1 r, here r 0 39 (omega arith) y)
+
+-- an unknown directive
+unknown-only : (r : List ℕ) → ((cs : List ℕ) (k : ℕ) → Rules.Directive (92 ∷ r) cs k → ⊥) → Text.pieceOf (92 ∷ r) ≡ Text.gives (92 ∷ []) 1
+unfolding Text.pieceOf
+unknown-only r n = undirected-only (92 ∷ r) (undirected-is (92 ∷ r) refl n)
+
+-- two quotes
+quote-only : (r : List ℕ) → Text.pieceOf (39 ∷ 39 ∷ r) ≡ Text.gives (39 ∷ []) 2
+unfolding Text.pieceOf
+quote-only r = refl
+
+-- what the rules give is computed
+pub reads-only : {s cs : List ℕ} {k : ℕ} → Rules.Reads s cs k → Text.pieceOf s ≡ Text.gives cs k
+reads-only (Rules.quote {r = r}) = quote-only r
+reads-only (Rules.directive d) = directive-only d
+reads-only (Rules.unknown {r = r} n) = unknown-only r n
+reads-only (Rules.itself {b = b} {r = r} h n q) = itself-only b r h n q
+reads-only (Rules.sequence bs r {c = c} t h) =
+    let (s, x) = table-only t in
+    let l : leadOf (bs ++ r) ≡ valid c (length bs) = ap (λ (z : List ℕ). leadOf (z ++ r)) x ∙ encode-leads c r s ∙ ap (λ (z : List ℕ). valid c (length z)) (sym x) in
+    raw-only (bs ++ r) (encoded-high r t h) ∙ ap (Text.rawOf (byteAt (bs ++ r) 0)) l
+reads-only (Rules.latin {b = b} {r = r} h n) = raw-only (b ∷ r) h ∙ ap (Text.rawOf b) (led-none (b ∷ r) n)
+
+-- and nothing else is: the rules give one piece at most
+pub piece-only : {s cs : List ℕ} {k : ℕ} → Rules.Reads s cs k → (cs ≡ Text.pieceOf s .chars) × (k ≡ Text.pieceOf s .used)
+piece-only {s} {cs} {k} r = gives-parts (Text.pieceOf s) cs k (reads-only r)
+
+-- ---- texts
+-- where a piece stands there is a byte
+reads-some : {s cs : List ℕ} {k : ℕ} → Rules.Reads s cs k → 0 < length s
+reads-some Rules.quote = omega arith
+reads-some (Rules.directive d) = directive-some d
+  where
+    directive-some : {s cs : List ℕ} {k : ℕ} → Rules.Directive s cs k → 0 < length s
+    directive-some Rules.backslash = omega arith
+    directive-some Rules.newline = omega arith
+    directive-some Rules.tab = omega arith
+    directive-some Rules.page = omega arith
+    directive-some Rules.shift = omega arith
+    directive-some (Rules.octet x y) = omega arith
+    directive-some (Rules.long n g) = omega arith
+    directive-some (Rules.long-bad n g) = omega arith
+reads-some (Rules.unknown n) = omega arith
+reads-some (Rules.itself h n q) = omega arith
+reads-some (Rules.sequence bs r t h) = encoded-some r t
+  where
+    encoded-some : {c : ℕ} {bs : List ℕ} (r : List ℕ) → Encoded c bs → 0 < length (bs ++ r)
+    encoded-some r (line-one h) = omega arith
+    encoded-some r (line-two h e p q) = omega arith
+    encoded-some r (line-three h n e p q t) = omega arith
+    encoded-some r (line-four h e p q t u) = omega arith
+reads-some (Rules.latin h n) = omega arith
+
+-- no bytes have no characters
+text-none : Text.textOf [] ≡ []
+unfolding Text.textOf Text.textFrom
+text-none = refl
+
+-- the text as computed is one by the rules, where those of shorter lists are
+text-step : (s : List ℕ) → ((t : List ℕ) → length t < length s → Rules.Text t (Text.textOf t)) → Rules.Text s (Text.textOf s)
+text-step [] ih = subst (Rules.Text []) (sym text-none) Rules.none
+text-step (b ∷ r) ih =
+    let h : 0 < length (b ∷ r) = omega arith in
+    let (l, u) = piece-fits (b ∷ r) h in
+    let i : length (drop (Text.pieceOf (b ∷ r) .used) (b ∷ r)) < length (b ∷ r) = omega (arith, length-drop (Text.pieceOf (b ∷ r) .used) (b ∷ r)) in
+    subst (Rules.Text (b ∷ r)) (sym (text-goes (b ∷ r) (Text.pieceOf (b ∷ r) .used) h refl l))
+    (Rules.more (piece-is (b ∷ r) h) (ih (drop (Text.pieceOf (b ∷ r) .used) (b ∷ r)) i))
+
+-- the text as computed is one by the rules
+pub text-is : (s : List ℕ) → Rules.Text s (Text.textOf s)
+text-is s = go (length s) s (omega arith)
+  where
+    go : (n : ℕ) (s : List ℕ) → length s ≤ n → Rules.Text s (Text.textOf s)
+    go zero s h = text-step s (λ t l. absurd (omega arith))
+    go (suc n) s h = text-step s (λ t l. go n t (omega arith))
+
+-- and there is no other
+pub text-only : {s cs : List ℕ} → Rules.Text s cs → cs ≡ Text.textOf s
+text-only Rules.none = sym text-none
+text-only {s} (Rules.more {cs = cs} {ds = ds} {k = k} r t) =
+    let (p, q) = piece-only r in
+    let h = reads-some r in
+    let (l, u) = piece-fits s h in
+    ap (λ (z : List ℕ). cs ++ z) (text-only t) ∙ ap (λ (z : List ℕ). z ++ Text.textOf (drop k s)) p ∙ sym (text-goes s k h q (omega arith))
