@@ -49,3 +49,18 @@ abbrev pub shownOf : List ℕ → List ℕ → Decoded → List ℕ
 shownOf s o Plain = s
 shownOf s o (Written n) = take n o
 shownOf s o Short = []
+
+-- the text of a string, or the number of document 01's refusal; the place is the parameter's, and its reader's to say
+pub data Answer : Type 0 where
+  text : List ℕ → Answer
+  refused : ℕ → Answer
+
+-- document 01's number and value for each case: a text in the file, a text in the room, "output too short", 16
+abbrev pub toldText : List ℕ → List ℕ → Decoded → Answer
+toldText s o Plain = text s
+toldText s o (Written n) = text (take n o)
+toldText s o Short = refused 16
+
+-- "16 exactly when a text of this second kind is longer than the output"
+abbrev pub answerOf : List ℕ → ℕ → Answer
+answerOf s n = pick (plain s || leb (length (bytesOf s)) n) (text (bytesOf s)) (refused 16)

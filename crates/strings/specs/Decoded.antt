@@ -13,22 +13,31 @@ use Rattle.strings.specs.declared.Decoded.{Decoded}
 use Rattle.strings.specs.declared.Decoded.the-variants.{Plain, Written, Short}
 use Rattle.strings.specs.Text.{plain, bytesOf}
 use Rattle.strings.specs.Put.{most, Laid}
-use Rattle.strings.specs.Code.{decodedOf, roomAfter, shownOf}
+use Rattle.strings.specs.Code.{decodedOf, roomAfter, shownOf, toldText, answerOf}
+use Rattle.strings.specs.Shown.{told-text}
+
+-- what `decode_string` owes: the answer, the room, and what the two tell
+abbrev pub Answered : List ℕ → List ℕ → List ℕ → Decoded → Type 0
+Answered s o p d = (d ≡ decodedOf s (length o)) × ((p ≡ roomAfter s o) × (toldText s p d ≡ answerOf s (length o)))
+
+-- the answer and the room tell the text or 16
+answered : (s o p : List ℕ) (d : Decoded) → d ≡ decodedOf s (length o) → p ≡ roomAfter s o → Answered s o p d
+answered s o p d e f = (e, (f, told-text s o p d e f))
 
 -- the text is the string's bytes
-pub decoded-plain : (s o : List ℕ) → plain s ≡ true → (Plain ≡ decodedOf s (length o)) × (o ≡ roomAfter s o)
-decoded-plain s o h = (rw h refl, rw h refl)
+pub decoded-plain : (s o : List ℕ) → plain s ≡ true → Answered s o o Plain
+decoded-plain s o h = answered s o o Plain (rw h refl) (rw h refl)
 
 -- the text is longer than the room
-pub decoded-short : (s o : List ℕ) (n : ℕ) → plain s ≡ false → n ≡ min most (length (bytesOf s)) → length o < n → (Short ≡ decodedOf s (length o)) × (o ≡ roomAfter s o)
-decoded-short s o n h e l = let k = lt-leb (length (bytesOf s)) (length o) (omega arith) in (rw (h, k) refl, rw (h, k) refl)
+pub decoded-short : (s o : List ℕ) (n : ℕ) → plain s ≡ false → n ≡ min most (length (bytesOf s)) → length o < n → Answered s o o Short
+decoded-short s o n h e l = let k = lt-leb (length (bytesOf s)) (length o) (omega arith) in answered s o o Short (rw (h, k) refl) (rw (h, k) refl)
 
 -- the text is put into the room
-pub decoded-written : (s o p : List ℕ) (n r : ℕ) → plain s ≡ false → n ≡ min most (length (bytesOf s)) → n ≤ length o → length o < most → Laid 0 o (bytesOf s) r p → (Written n ≡ decodedOf s (length o)) × (p ≡ roomAfter s o)
+pub decoded-written : (s o p : List ℕ) (n r : ℕ) → plain s ≡ false → n ≡ min most (length (bytesOf s)) → n ≤ length o → length o < most → Laid 0 o (bytesOf s) r p → Answered s o p (Written n)
 decoded-written s o p n r h e l m d =
     let q : n ≡ length (bytesOf s) = omega arith in
     let k = le-leb (length (bytesOf s)) (length o) (omega arith) in
-    (rw (h, k) (ap Written q), rw (h, k) (d .laid [] o refl refl (omega arith)))
+    answered s o p (Written n) (rw (h, k) (ap Written q)) (rw (h, k) (d .laid [] o refl refl (omega arith)))
 
 -- a number of bytes past the room's end shows the whole room
 pub shown-all : (s o : List ℕ) (d : Decoded) (n : ℕ) → d ≡ Written n → length o ≤ n → o ≡ shownOf s o d

@@ -27,12 +27,6 @@ neither true b e = (e, absurd (true-false e))
     true-false z = let w : _≡_ {A = ℕ} 0 1 = ap (λ (t : Bool). pick t 0 1) z in absurd (omega arith)
 neither false b e = (refl, e)
 
--- the byte at a place within the list is the same whatever stands past its end
-pub byte-within : (s : List ℕ) (k : ℕ) → k < length s → getD s k 0 ≡ byteAt s k
-byte-within [] k h = absurd (omega arith)
-byte-within (b ∷ r) zero h = refl
-byte-within (b ∷ r) (suc k) h = byte-within r k (omega arith)
-
 -- past the end stands no byte
 pub byte-past : (s : List ℕ) (k : ℕ) → length s ≤ k → 256 ≡ byteAt s k
 byte-past s k h = sym (List·getD-eq-default s 256 h)

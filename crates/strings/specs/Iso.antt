@@ -1,6 +1,7 @@
 -- ISO 10303-21, 'String' and 'Control directives': the grammar of what stands between a string's apostrophes, and the text that it
--- stands for, as rules that name no loop. IsoRight.antt shows that document 01's total rule (Text.antt) gives every string of this
--- grammar this text. Assumes nothing.
+-- stands for, as rules that name no loop. Left out: `\S\` while another page than A is named (docs/DIFFERENCES.md), and groups that are
+-- no character. IsoRight.antt shows that document 01's total rule (Text.antt) gives every string of these rules this text.
+-- Assumes nothing.
 use Prim.Native.Nat.{ℕ, _+_, _*_, _≤_}
 use mathlib.Core.Path.{_≡_}
 use mathlib.Core.Bool.{Bool, true, false}
@@ -19,6 +20,11 @@ pub data Basic : ℕ → Type 0 where
 -- "LATIN_CODEPOINT = SPACE | DIGIT | LOWER | UPPER | SPECIAL | REVERSE_SOLIDUS | APOSTROPHE"
 abbrev pub Latin : ℕ → Type 0
 Latin b = In 32 126 b
+
+-- "UPPER": A to Z and _
+pub data Upper : ℕ → Type 0 where
+  capital : {b : ℕ} → In 65 90 b → Upper b
+  low-line : Upper 95
 
 -- "HEX = 0 | 1 | 2 | 3 | 4 | 5 | 6 | 7 | 8 | 9 | A | B | C | D | E | F"
 pub data Hex : ℕ → Type 0 where
@@ -70,7 +76,7 @@ pub data Iso : Bool → List ℕ → List ℕ → Type 0 where
   -- "PAGE = REVERSE_SOLIDUS "S" REVERSE_SOLIDUS LATIN_CODEPOINT": on page A (ISO 8859-1) the character's code plus 128
   page : {c : ℕ} {r cs : List ℕ} → Latin c → Iso true r cs → Iso true (92 ∷ 83 ∷ 92 ∷ c ∷ r) ((c + 128) ∷ cs)
   -- "ALPHABET = REVERSE_SOLIDUS "P" UPPER REVERSE_SOLIDUS": names the page from here on
-  alphabet : {p : Bool} {a : ℕ} {r cs : List ℕ} → In 65 90 a → Iso (eqb a 65) r cs → Iso p (92 ∷ 80 ∷ a ∷ 92 ∷ r) cs
+  alphabet : {p : Bool} {a : ℕ} {r cs : List ℕ} → Upper a → Iso (eqb a 65) r cs → Iso p (92 ∷ 80 ∷ a ∷ 92 ∷ r) cs
   -- "EXTENDED2 = REVERSE_SOLIDUS "X2" REVERSE_SOLIDUS HEX_TWO { HEX_TWO } END_EXTENDED"
   extended2 : {p : Bool} {g r cs ds : List ℕ} → Twos g cs → Iso p r ds → Iso p (92 ∷ 88 ∷ 50 ∷ 92 ∷ (g ++ (endExtended ++ r))) (cs ++ ds)
   -- "EXTENDED4 = REVERSE_SOLIDUS "X4" REVERSE_SOLIDUS HEX_FOUR { HEX_FOUR } END_EXTENDED"

@@ -1,4 +1,5 @@
--- Document 01's total rule gives every string of ISO 10303-21's grammar the text that ISO gives it. Assumes nothing.
+-- Document 01's total rule gives every string of the rules in Iso.antt (ISO 10303-21, page A) the text that ISO gives it; document
+-- 01's example 7 is such a string. Assumes nothing.
 use Prim.Native.Nat.{ℕ, zero, suc, _+_, _*_, _-_, _≤_, _<_}
 use mathlib.Core.Path.{_≡_, refl, sym, _∙_, ap}
 use mathlib.Core.Bool.{Bool, true, false, _&&_, _||_}
@@ -140,7 +141,7 @@ piece-four : (g r cs : List ℕ) → Text.groupsFrom 8 0 (g ++ (Iso.endExtended 
 unfolding Text.pieceOf Text.directiveOf
 piece-four g r cs e = rw e refl
 
--- "`''` gives a quote; `\\` a backslash"; "`\P?\` nothing; `\S\c` code c+128"
+-- "`''` gives a quote"
 piece-quote : (r : List ℕ) → Text.pieceOf (39 ∷ 39 ∷ r) ≡ Text.gives (39 ∷ []) 2
 unfolding Text.pieceOf
 piece-quote r = refl
@@ -165,7 +166,7 @@ piece-octet : (x r : List ℕ) (c : ℕ) → Iso.One x c → (Text.pieceOf (92 �
 unfolding Text.pieceOf Text.directiveOf
 piece-octet _ r _ (Iso.one {a = a} {b = b} ha hb) = (rw (hex-is a ha, hex-is b hb) refl, refl)
 
--- what stands between the apostrophes of an ISO string has ISO's text
+-- what stands between the apostrophes of such a string has ISO's text
 pub iso-text : {p : Bool} {s cs : List ℕ} → Iso.Iso p s cs → Text.textOf s ≡ cs
 unfolding Text.textOf Text.textFrom
 iso-text Iso.Iso.ends = refl
@@ -185,3 +186,19 @@ iso-text (Iso.Iso.extended4 {g = g} {r = r} {cs = cs} {ds = ds} t i) =
 iso-text (Iso.Iso.arbitrary {x = x} {r = r} {cs = cs} {c = c} o i) =
     let k = piece-octet x r c o in
     piece-then (92 ∷ 88 ∷ 92 ∷ (x ++ r)) r (c ∷ []) cs 5 (omega arith) (k .0) (omega arith) (k .1) (iso-text i)
+
+-- `\X2\00C40042\X0\` stands for U+00C4 and B
+pub seven : Iso.Iso true (92 ∷ 88 ∷ 50 ∷ 92 ∷ 48 ∷ 48 ∷ 67 ∷ 52 ∷ 48 ∷ 48 ∷ 52 ∷ 50 ∷ 92 ∷ 88 ∷ 48 ∷ 92 ∷ []) (196 ∷ 66 ∷ [])
+seven =
+    Iso.Iso.extended2
+    {g = 48 ∷ 48 ∷ 67 ∷ 52 ∷ 48 ∷ 48 ∷ 52 ∷ 50 ∷ []}
+    {r = []}
+    (Iso.Twos.next
+    {x = 48 ∷ 48 ∷ 67 ∷ 52 ∷ []}
+    {r = 48 ∷ 48 ∷ 52 ∷ 50 ∷ []}
+    (Iso.two (Iso.one (Iso.digit {b = 48} (omega arith, omega arith)) (Iso.digit {b = 48} (omega arith, omega arith))) (Iso.one (Iso.letter {b = 67} (omega arith, omega arith)) (Iso.digit {b = 52} (omega arith, omega arith))))
+    (Iso.below {c = 196} (omega arith, omega arith))
+    (Iso.Twos.last
+    (Iso.two (Iso.one (Iso.digit {b = 48} (omega arith, omega arith)) (Iso.digit {b = 48} (omega arith, omega arith))) (Iso.one (Iso.digit {b = 52} (omega arith, omega arith)) (Iso.digit {b = 50} (omega arith, omega arith))))
+    (Iso.below {c = 66} (omega arith, omega arith))))
+    Iso.Iso.ends

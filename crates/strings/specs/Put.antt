@@ -15,7 +15,8 @@ use Rattle.utf8.specs.Utf8.{encode, encodeAll, putAt}
 abbrev pub most : ℕ
 most = 18446744073709551615
 
--- from place a of the room o, the bytes bs have been counted up to e, and where they fit the room p holds them and is else as it was
+-- from place a of the room o, the bytes bs have been counted up to e; where they all fit, the room p holds them and is beyond them as
+-- it was (where they do not, nothing is said of the room)
 pub record Laid (a : ℕ) (o bs : List ℕ) (e : ℕ) (p : List ℕ) : Type 0 where
   pub counted : e ≡ min most (a + length bs)
   pub laid : (pre post : List ℕ) → o ≡ pre ++ post → length pre ≡ a → length bs ≤ length post → p ≡ pre ++ (bs ++ drop (length bs) post)

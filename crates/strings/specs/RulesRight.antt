@@ -70,15 +70,17 @@ hex-only (Rules.decimal {v = v} h) = one (48 + v) v refl h
 hex-only (Rules.capital {v = v} h) = one (65 + v) v refl h
   where
     one : (b v : ℕ) → b ≡ 65 + v → v < 6 → (Text.hexDigit b ≡ true) × (Text.hexValue b ≡ 10 + v)
-    one b v e h =
-        (rw (over 48 57 b (omega arith) (omega arith), within 65 70 b (omega arith) (omega arith)) refl,
-        rw (lt-leb b 57 (omega arith), le-leb b 70 (omega arith)) (omega arith))
+    one b v e h = (
+      rw (over 48 57 b (omega arith) (omega arith), within 65 70 b (omega arith) (omega arith)) refl,
+      rw (lt-leb b 57 (omega arith), le-leb b 70 (omega arith)) (omega arith),
+    )
 hex-only (Rules.small {v = v} h) = one (97 + v) v refl h
   where
     one : (b v : ℕ) → b ≡ 97 + v → v < 6 → (Text.hexDigit b ≡ true) × (Text.hexValue b ≡ 10 + v)
-    one b v e h =
-        (rw (over 48 57 b (omega arith) (omega arith), over 65 70 b (omega arith) (omega arith), within 97 102 b (omega arith) (omega arith)) refl,
-        rw (lt-leb b 57 (omega arith), lt-leb b 70 (omega arith)) (omega arith))
+    one b v e h = (
+      rw (over 48 57 b (omega arith) (omega arith), over 65 70 b (omega arith) (omega arith), within 97 102 b (omega arith) (omega arith)) refl,
+      rw (lt-leb b 57 (omega arith), lt-leb b 70 (omega arith)) (omega arith),
+    )
 
 -- four hex digits as computed are four
 pub four-is : (s : List ℕ) → Text.fourAt s 0 ≡ true → Rules.Four s (Text.fourOf s 0)
@@ -107,9 +109,10 @@ four-only (Rules.digits {i = i} {j = j} {k = k} {l = l} p q t u) =
 
 -- the four after the first four
 four-next : (s : List ℕ) → (Text.fourAt (drop 4 s) 0 ≡ Text.fourAt s 4) × (Text.fourOf (drop 4 s) 0 ≡ Text.fourOf s 4)
-four-next s =
-    (rw (getD-drop 4 s 0 256, getD-drop 4 s 1 256, getD-drop 4 s 2 256, getD-drop 4 s 3 256) refl,
-    rw (getD-drop 4 s 0 256, getD-drop 4 s 1 256, getD-drop 4 s 2 256, getD-drop 4 s 3 256) refl)
+four-next s = (
+  rw (getD-drop 4 s 0 256, getD-drop 4 s 1 256, getD-drop 4 s 2 256, getD-drop 4 s 3 256) refl,
+  rw (getD-drop 4 s 0 256, getD-drop 4 s 1 256, getD-drop 4 s 2 256, getD-drop 4 s 3 256) refl,
+)
 
 -- computed after the first four
 second-is : (s : List ℕ) → Text.fourAt s 4 ≡ true → Rules.Four (drop 4 s) (Text.fourOf s 4)
@@ -200,12 +203,15 @@ two-told s = go (Text.fourAt s 0) refl
         let (a, b) = both (leb 55296 (Text.fourOf s 0)) (ltb (Text.fourOf s 0) 56320) h in
         let ah = ltb-true (Text.fourOf s 0) 56320 b in
         Rules.unpaired (four-is s p) (leb-true 55296 (Text.fourOf s 0) a, omega arith) (second-is s q) (λ (l, h). differ (Text.low (Text.fourOf s 4)) (half 56320 57344 (Text.fourOf s 4) l (omega arith)) e)
+
     second : (t : Bool) → Text.fourAt s 4 ≡ t → Text.fourAt s 0 ≡ true → Text.high (Text.fourOf s 0) ≡ true → Told 4 s (pick t (Text.char (Text.joined (Text.fourOf s 0) (Text.fourOf s 4)) 8) Text.wrong)
     second true q p h = both-are (Text.low (Text.fourOf s 4)) refl p h q
     second false q p h = tt
+
     first : (t : Bool) → Text.high (Text.fourOf s 0) ≡ t → Text.fourAt s 0 ≡ true → Told 4 s (pick t (Text.pairOf s) (Text.char (Text.shown (Text.fourOf s 0)) 4))
     first true h p = second (Text.fourAt s 4) refl p h
     first false h p = Rules.single (four-is s p) (λ (a, b). differ (Text.high (Text.fourOf s 0)) (half 55296 56320 (Text.fourOf s 0) a (omega arith)) h) (shown-is (Text.fourOf s 0))
+
     go : (t : Bool) → Text.fourAt s 0 ≡ t → Told 4 s (pick t (pick (Text.high (Text.fourOf s 0)) (Text.pairOf s) (Text.char (Text.shown (Text.fourOf s 0)) 4)) Text.wrong)
     go true p = first (Text.high (Text.fourOf s 0)) refl p
     go false p = tt
@@ -281,7 +287,7 @@ high-alone {s} {n} f (l, h) g =
     record {
       whole = i;
       unmarked = λ (r, e). differ (Text.is s 0 92) (ap (λ (z : List ℕ). Text.is z 0 92) e) j;
-      not-good = λ c k b. apart c k (sym (good-only b) ∙ high-wrong s n p q (half 55296 56320 n l (omega arith)) (go (Text.fourAt s 4) refl))
+      not-good = λ c k b. apart c k (sym (good-only b) ∙ high-wrong s n p q (half 55296 56320 n l (omega arith)) (go (Text.fourAt s 4) refl));
     }
   where
     go : (t : Bool) → Text.fourAt s 4 ≡ t → t ≡ false
@@ -376,6 +382,7 @@ run-slash w r = go (Text.is r 0 88 && Text.is r 1 48) refl
     last : (q : List ℕ) → Rules.Groups w (92 ∷ 88 ∷ 48 ∷ q) [] (min 4 (length (92 ∷ 88 ∷ 48 ∷ q)))
     last [] = Rules.closed-last
     last (b ∷ q) = let e : 4 ≡ min 4 (length (92 ∷ 88 ∷ 48 ∷ b ∷ q)) = omega arith in subst (Rules.Groups w (92 ∷ 88 ∷ 48 ∷ b ∷ q) []) e Rules.closed
+
     go : (t : Bool) → Text.is r 0 88 && Text.is r 1 48 ≡ t → Rules.Groups w (92 ∷ r) [] (pick t (min 4 (length (92 ∷ r))) 0)
     go true e =
         let (p, q) = both (Text.is r 0 88) (Text.is r 1 48) e in
@@ -390,6 +397,7 @@ run-stop w b r e = go (eqb b 92) refl
     short : (t u : Bool) → t || u ≡ true → u ≡ false → t ≡ true
     short true u p q = refl
     short false u p q = differ u p q
+
     go : (t : Bool) → eqb b 92 ≡ t → Rules.Groups w (b ∷ r) [] (Text.closing (b ∷ r))
     go true p = subst (λ (z : ℕ). Rules.Groups w (z ∷ r) [] (Text.closing (z ∷ r))) (sym (eqb-true b 92 p)) (run-slash w r)
     go false p =
@@ -412,9 +420,10 @@ run-step {w = w} (b ∷ r) n ih = go (ends w (b ∷ r)) refl
         let u : Rules.BadGroup w (b ∷ r) = record {
           whole = ltb-false (length (b ∷ r)) w l;
           unmarked = λ (q, z). differ (eqb b 92) (ap (λ (y : List ℕ). Text.is y 0 92) z) m;
-          not-good = λ c k h. apart c k (sym (good-only h) ∙ f)
+          not-good = λ c k h. apart c k (sym (good-only h) ∙ f);
         } in
         subst (Run w (b ∷ r)) (sym (groups-wrong w (b ∷ r) (omega arith) e f)) (Rules.bad u)
+
     go : (t : Bool) → ends w (b ∷ r) ≡ t → Run w (b ∷ r) (Text.groupsFrom w 0 (b ∷ r))
     go true e = subst (Run w (b ∷ r)) (sym (groups-stop w (b ∷ r) (omega arith) e)) (run-stop w b r e)
     go false e = group (Text.groupOf w (b ∷ r)) refl e
@@ -500,7 +509,7 @@ module _ (s : List ℕ) (o : Text.is s 0 92 ≡ true) where
       let (p, q) = both (Text.is s 1 80) (Text.is s 3 92) e in
       let l = is-within s 3 92 (omega arith) q in
       let f : s ≡ 92 ∷ 80 ∷ byteAt s 2 ∷ 92 ∷ drop 4 s =
-          here-two s 92 80 (omega arith) (omega arith) o p ∙ ap (λ (z : List ℕ). 92 ∷ 80 ∷ z) (drop-cons s 2 256 (omega arith)) ∙ ap (λ (z : List ℕ). 92 ∷ 80 ∷ byteAt s 2 ∷ z) (here s 3 92 (omega arith) q) in
+      here-two s 92 80 (omega arith) (omega arith) o p ∙ ap (λ (z : List ℕ). 92 ∷ 80 ∷ z) (drop-cons s 2 256 (omega arith)) ∙ ap (λ (z : List ℕ). 92 ∷ 80 ∷ byteAt s 2 ∷ z) (here s 3 92 (omega arith) q) in
       subst (λ (z : List ℕ). Directs z (Text.gives [] 4)) (sym f) Rules.page
 
   -- `\S\c`
@@ -510,7 +519,7 @@ module _ (s : List ℕ) (o : Text.is s 0 92 ≡ true) where
       let (q, l) = both (Text.is s 2 92) (leb 4 (length s)) x in
       let h = leb-true 4 (length s) l in
       let f : s ≡ 92 ∷ 83 ∷ 92 ∷ byteAt s 3 ∷ drop 4 s =
-          here-two s 92 83 (omega arith) (omega arith) o p ∙ ap (λ (z : List ℕ). 92 ∷ 83 ∷ z) (here s 2 92 (omega arith) q) ∙ ap (λ (z : List ℕ). 92 ∷ 83 ∷ 92 ∷ z) (drop-cons s 3 256 (omega arith)) in
+      here-two s 92 83 (omega arith) (omega arith) o p ∙ ap (λ (z : List ℕ). 92 ∷ 83 ∷ z) (here s 2 92 (omega arith) q) ∙ ap (λ (z : List ℕ). 92 ∷ 83 ∷ 92 ∷ z) (drop-cons s 3 256 (omega arith)) in
       subst (λ (z : List ℕ). Directs z (Text.gives ((byteAt s 3 + 128) ∷ []) 4)) (sym f) Rules.shift
 
   -- `\X\HH`
@@ -521,7 +530,7 @@ module _ (s : List ℕ) (o : Text.is s 0 92 ≡ true) where
       let (u, v) = both (Text.hexDigit (byteAt s 3)) (Text.hexDigit (byteAt s 4)) y in
       let h = hex-within s 4 v in
       let f : s ≡ 92 ∷ 88 ∷ 92 ∷ byteAt s 3 ∷ byteAt s 4 ∷ drop 5 s =
-          here-two s 92 88 (omega arith) (omega arith) o p ∙ ap (λ (z : List ℕ). 92 ∷ 88 ∷ z) (here s 2 92 (omega arith) q) ∙ ap (λ (z : List ℕ). 92 ∷ 88 ∷ 92 ∷ z) (drop-cons s 3 256 (omega arith)) ∙ ap (λ (z : List ℕ). 92 ∷ 88 ∷ 92 ∷ byteAt s 3 ∷ z) (drop-cons s 4 256 (omega arith)) in
+      here-two s 92 88 (omega arith) (omega arith) o p ∙ ap (λ (z : List ℕ). 92 ∷ 88 ∷ z) (here s 2 92 (omega arith) q) ∙ ap (λ (z : List ℕ). 92 ∷ 88 ∷ 92 ∷ z) (drop-cons s 3 256 (omega arith)) ∙ ap (λ (z : List ℕ). 92 ∷ 88 ∷ 92 ∷ byteAt s 3 ∷ z) (drop-cons s 4 256 (omega arith)) in
       subst (λ (z : List ℕ). Directs z (Text.gives (Text.twoOf s 3 ∷ []) 5)) (sym f) (Rules.octet (hex-is (byteAt s 3) u) (hex-is (byteAt s 4) v))
 
   -- `\X2\` and `\X4\`
@@ -530,7 +539,7 @@ module _ (s : List ℕ) (o : Text.is s 0 92 ≡ true) where
       let (p, x) = both (Text.is s 1 88) (Text.is s 2 d && Text.is s 3 92) e in
       let (q, y) = both (Text.is s 2 d) (Text.is s 3 92) x in
       let f : s ≡ 92 ∷ 88 ∷ d ∷ 92 ∷ drop 4 s =
-          here-two s 92 88 (omega arith) (omega arith) o p ∙ ap (λ (z : List ℕ). 92 ∷ 88 ∷ z) (here s 2 d h q) ∙ ap (λ (z : List ℕ). 92 ∷ 88 ∷ d ∷ z) (here s 3 92 (omega arith) y) in
+      here-two s 92 88 (omega arith) (omega arith) o p ∙ ap (λ (z : List ℕ). 92 ∷ 88 ∷ z) (here s 2 d h q) ∙ ap (λ (z : List ℕ). 92 ∷ 88 ∷ d ∷ z) (here s 3 92 (omega arith) y) in
       subst (λ (z : List ℕ). Directs z (Text.extended (Text.groupsFrom w 0 (drop 4 s)))) (sym f) (extended-is (drop 4 s) n)
 
 -- no test that is computed at a backslash holds
@@ -584,7 +593,7 @@ undirected-is s o n = record {
   no-shift = fails _ (λ e. n _ _ (shift-is s o e));
   no-octet = fails _ (λ e. n _ _ (two-digits s o e));
   no-two = fails _ (λ e. n _ _ (long-is s o Rules.two (omega arith) e));
-  no-four = fails _ (λ e. n _ _ (long-is s o Rules.four (omega arith) e))
+  no-four = fails _ (λ e. n _ _ (long-is s o Rules.four (omega arith) e));
 }
 
 -- ---- pieces
@@ -629,12 +638,14 @@ raw-says b r h = go (leadOf (b ∷ r)) refl
   where
     from : (c k : ℕ) → take k (b ∷ r) ≡ encode c → encode c ++ drop k (b ∷ r) ≡ b ∷ r
     from c k e = ap (λ (z : List ℕ). z ++ drop k (b ∷ r)) (sym e) ∙ take-append-drop k (b ∷ r)
+
     high : (c k : ℕ) → take k (b ∷ r) ≡ encode c → Dec (c < 128) → 128 ≤ c
     high c k e (yes l) =
         let f : c ∷ drop k (b ∷ r) ≡ b ∷ r = ap (λ (z : List ℕ). z ++ drop k (b ∷ r)) (sym (encode-one c l)) ∙ from c k e in
         let g : c ≡ b = ap (λ (z : List ℕ). byteAt z 0) f in
         omega arith
     high c k e (no l) = omega arith
+
     go : (l : Lead) → leadOf (b ∷ r) ≡ l → Says (b ∷ r) (Text.rawOf b l)
     go (valid c k) e =
         let (s, t, n) = lead-is (b ∷ r) c k e in
@@ -664,6 +675,7 @@ piece-is (b ∷ r) h =
     doubled e =
         let (p, q) = both (eqb b 39) (Text.is r 0 39) e in
         subst (λ (z : List ℕ). Says z (Text.gives (39 ∷ []) 2)) (sym (here-two (b ∷ r) 39 39 (omega arith) (omega arith) p q)) Rules.quote
+
     single : eqb b 39 && Text.is r 0 39 ≡ false → b ≡ 39 → Begins 39 r → ⊥
     single n e (q, f) = differ (eqb b 39 && Text.is r 0 39) (rw (eq-eqb b 39 e) (ap (λ (z : List ℕ). Text.is z 0 39) f)) n
 

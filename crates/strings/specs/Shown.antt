@@ -11,7 +11,7 @@ use lib.ListN.{length, take, drop, getD}
 use lib.Seq.{take-append-seam}
 use Rattle.lex.specs.Byte.{pick}
 use Rattle.utf8.specs.Utf8.{byteAt, scalar, encode, encodeAll, Lead, valid, invalid, leadOf}
-use Rattle.utf8.specs.Laws.{encode-one}
+use Rattle.utf8.specs.Laws.{encode-one, scalar-low}
 use Rattle.utf8.specs.Table.{Valid}
 use Rattle.utf8.specs.Agree.{Scalars, all-valid, lead-is}
 use Rattle.strings.specs.declared.Decoded.{Decoded}
@@ -19,27 +19,23 @@ use Rattle.strings.specs.declared.Decoded.the-variants.{Plain, Written, 
 use Rattle.strings.specs.Text
 use Rattle.strings.specs.Hex.{both, neither, two-below}
 use Rattle.strings.specs.Steps.{text-skip}
-use Rattle.strings.specs.Code.{decodedOf, roomAfter, shownOf}
+use Rattle.strings.specs.Code.{decodedOf, roomAfter, shownOf, Answer, text, refused, toldText, answerOf}
 
 -- every number of the list is a byte
 abbrev pub Bytes : List ℕ → Type 0
 Bytes [] = Unit
 Bytes (b ∷ r) = (b < 256) × Bytes r
 
--- a byte of the list, or what stands for none
-byte-small : (s : List ℕ) (k : ℕ) → Bytes s → byteAt s k ≤ 256
-byte-small [] k h = omega arith
-byte-small (b ∷ r) zero (h, t) = omega arith
-byte-small (b ∷ r) (suc k) (h, t) = byte-small r k t
+-- a byte of a list of bytes, or what stands for none
+byte-least : (s : List ℕ) (k : ℕ) → Bytes s → byteAt s k ≤ 256
+byte-least [] k h = omega arith
+byte-least (b ∷ r) zero (h, t) = omega arith
+byte-least (b ∷ r) (suc k) (h, t) = byte-least r k t
 
 -- the characters of two lists
 scalars-append : (xs ys : List ℕ) → Scalars xs → Scalars ys → Scalars (xs ++ ys)
 scalars-append [] ys h k = k
 scalars-append (x ∷ xs) ys (h, t) k = (h, scalars-append xs ys t k)
-
--- a number below the surrogates
-low-scalar : (c : ℕ) → c < 55296 → scalar c ≡ true
-low-scalar c h = rw (lt-ltb c 55296 h) refl
 
 -- "other surrogates and codes above 10FFFF give U+FFFD"
 shown-scalar : (c : ℕ) → scalar (Text.shown c) ≡ true
@@ -129,8 +125,8 @@ directive-scalar s h =
     pick-scalar (Text.is s 1 78 && Text.is s 2 92) _ _ (λ e. (refl, tt)) (λ n2.
     pick-scalar (Text.is s 1 84 && Text.is s 2 92) _ _ (λ e. (refl, tt)) (λ n3.
     pick-scalar (Text.is s 1 80 && Text.is s 3 92) _ _ (λ e. tt) (λ n4.
-    pick-scalar (Text.is s 1 83 && (Text.is s 2 92 && leb 4 (length s))) _ _ (λ e. let k = byte-small s 3 h in (low-scalar (byteAt s 3 + 128) (omega arith), tt)) (λ n5.
-    pick-scalar (Text.is s 1 88 && (Text.is s 2 92 && Text.twoAt s 3)) _ _ (λ e. let k = two-below s 3 (both (Text.is s 2 92) (Text.twoAt s 3) (both (Text.is s 1 88) (Text.is s 2 92 && Text.twoAt s 3) e .1) .1) in (low-scalar (Text.twoOf s 3) (omega arith), tt)) (λ n6.
+    pick-scalar (Text.is s 1 83 && (Text.is s 2 92 && leb 4 (length s))) _ _ (λ e. let k = byte-least s 3 h in (scalar-low (byteAt s 3 + 128) (omega arith), tt)) (λ n5.
+    pick-scalar (Text.is s 1 88 && (Text.is s 2 92 && Text.twoAt s 3)) _ _ (λ e. let k = two-below s 3 (both (Text.is s 2 92) (Text.twoAt s 3) (both (Text.is s 1 88) (Text.is s 2 92 && Text.twoAt s 3) e .1) .1) in (scalar-low (Text.twoOf s 3) (omega arith), tt)) (λ n6.
     pick-scalar (Text.is s 1 88 && (Text.is s 2 50 && Text.is s 3 92)) _ _ (λ e. extended-scalar (Text.groupsFrom 4 0 (drop 4 s)) (groups-scalar 4 0 (drop 4 s))) (λ n7.
     pick-scalar (Text.is s 1 88 && (Text.is s 2 52 && Text.is s 3 92)) _ _ (λ e. extended-scalar (Text.groupsFrom 8 0 (drop 4 s)) (groups-scalar 8 0 (drop 4 s))) (λ n8. (refl, tt)))))))))
 
@@ -140,11 +136,11 @@ unfolding Text.pieceOf
 piece-scalar s h =
     pick-scalar (Text.is s 0 92) _ _ (λ e. directive-scalar s h) (λ n1.
     pick-scalar (Text.is s 0 39 && Text.is s 1 39) _ _ (λ e. (refl, tt)) (λ n2.
-    pick-scalar (ltb (byteAt s 0) 128) _ _ (λ e. let k = ltb-true (byteAt s 0) 128 e in (low-scalar (byteAt s 0) (omega arith), tt)) (λ n3. go (leadOf s) refl)))
+    pick-scalar (ltb (byteAt s 0) 128) _ _ (λ e. let k = ltb-true (byteAt s 0) 128 e in (scalar-low (byteAt s 0) (omega arith), tt)) (λ n3. go (leadOf s) refl)))
   where
     go : (l : Lead) → leadOf s ≡ l → Scalars (Text.rawOf (byteAt s 0) l .chars)
     go (valid c k) e = (lead-is s c k e .0, tt)
-    go invalid e = let k = byte-small s 0 h in (low-scalar (byteAt s 0) (omega arith), tt)
+    go invalid e = let k = byte-least s 0 h in (scalar-low (byteAt s 0) (omega arith), tt)
 
 -- every number of a string's text is a character: none is lost when it is encoded
 pub text-scalars : (n : ℕ) (s : List ℕ) → Bytes s → Scalars (Text.textFrom n s)
@@ -192,3 +188,13 @@ shown-text s o n = go (Text.plain s) (leb (length (Text.bytesOf s)) (length o)) 
 -- and it is valid UTF-8
 pub shown-valid : (s o : List ℕ) → Bytes s → (decodedOf s (length o) ≡ Short → ⊥) → Valid (shownOf s (roomAfter s o) (decodedOf s (length o)))
 shown-valid s o h n = rw (shown-text s o n) (text-valid s h)
+
+-- an answer of `decode_string`, with the room that it leaves, tells the text or 16
+pub told-text : (s o p : List ℕ) (d : Decoded) → d ≡ decodedOf s (length o) → p ≡ roomAfter s o → toldText s p d ≡ answerOf s (length o)
+told-text s o p d e f = rw (e, f) (go (Text.plain s) (leb (length (Text.bytesOf s)) (length o)) refl)
+  where
+    go : (t u : Bool) → Text.plain s ≡ t
+        → toldText s (pick t o (pick u (Text.bytesOf s ++ drop (length (Text.bytesOf s)) o) o)) (pick t Plain (pick u (Written (length (Text.bytesOf s))) Short)) ≡ pick (t || u) (text (Text.bytesOf s)) (refused 16)
+    go true u e = ap text (sym (plain-text s e))
+    go false true e = ap text (take-append-seam (Text.bytesOf s) (drop (length (Text.bytesOf s)) o))
+    go false false e = refl

@@ -1,5 +1,5 @@
--- Document 01, 'Strings': the text that a string's bytes stand for, for every list of bytes. Iso.antt has ISO 10303-21's own
--- grammar; each line below says where document 01 goes beyond it. Assumes nothing.
+-- Document 01, 'Strings': the text that a string's bytes stand for, for every list of bytes, computed. Rules.antt has the same as rules.
+-- Iso.antt has ISO 10303-21's own grammar; the lines below say in brackets where document 01 goes beyond it. Assumes nothing.
 use Prim.Native.Nat.{ℕ, zero, suc, _+_, _*_, _-_, min}
 use mathlib.Core.Bool.{Bool, true, false, _&&_, _||_}
 use mathlib.Core.List.{List, [], _∷_, _++_}
@@ -8,7 +8,7 @@ use lib.ListN.{length, drop}
 use Rattle.lex.specs.Byte.{pick}
 use Rattle.utf8.specs.Utf8.{scalar, encode, encodeAll, byteAt, Lead, valid, invalid, leadOf}
 
--- a hex digit, "either case" (ISO has capitals only), and its value
+-- a hex digit, "either case" (ISO has capitals only)
 abbrev pub hexDigit : ℕ → Bool
 hexDigit b = leb 48 b && leb b 57 || (leb 65 b && leb b 70 || leb 97 b && leb b 102)
 
@@ -88,8 +88,8 @@ grouped wrong f = broken []
 abbrev pub closing : List ℕ → ℕ
 closing s = pick (eqb (byteAt s 0) 92 && (eqb (byteAt s 1) 88 && eqb (byteAt s 2) 48)) (min 4 (length s)) 0
 
--- "up to the end or a backslash at a group's start"; "a group cut short by the end" is no group. The first n bytes belong to a
--- group already read
+-- "up to the end or a backslash at a group's start" (ISO asks for a group and for `\X0\`); "a group cut short by the end" is no group,
+-- and its bytes are read on as what follows (docs/DIFFERENCES.md). The first n bytes belong to a group already read
 unfoldable pub groupsFrom : ℕ → ℕ → List ℕ → Groups
 groupsFrom w n [] = ended [] 0
 groupsFrom w (suc n) (b ∷ r) = groupsFrom w n r
@@ -151,7 +151,8 @@ abbrev pub rawOf : ℕ → Lead → Piece
 rawOf b (valid c k) = gives (c ∷ []) k
 rawOf b invalid = gives (b ∷ []) 1
 
--- "`''` gives a quote"; a backslash opens a directive; other bytes below 80 are themselves (a single quote too: ISO has none)
+-- "`''` gives a quote"; a backslash opens a directive; other bytes below 80 are themselves (a single quote and
+-- control bytes too: ISO has neither)
 unfoldable pub pieceOf : List ℕ → Piece
 pieceOf s =
     pick

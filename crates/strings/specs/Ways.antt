@@ -24,19 +24,23 @@ bounded true w n v f e = lt-ltb v n (rw e (f refl))
 bounded false w n v f e = le-ltb v n (omega arith)
 
 module _ (s : List ℕ) (x y z v : ℕ) (ex : x ≡ byteAt s 1) (ey : y ≡ byteAt s 2) (ez : z ≡ byteAt s 3) (ev : v ≡ pick (Text.twoAt s 3) (Text.twoOf s 3) 256) where
-  -- the tests of the code are those of the definition
+  -- the byte after the backslash, as the code tests it
   first : (a : ℕ) (t : Bool) → eqb x a ≡ t → Text.is s 1 a ≡ t
   first a t h = rw (sym ex) h
 
+  -- a letter and a backslash, as the code tests it
   slashed : (a : ℕ) (t : Bool) → eqb x a && eqb y 92 ≡ t → Text.is s 1 a && Text.is s 2 92 ≡ t
   slashed a t h = rw (sym ex, sym ey) h
 
+  -- `P`, any byte and a backslash, as the code tests it
   paged : (t : Bool) → eqb x 80 && eqb z 92 ≡ t → Text.is s 1 80 && Text.is s 3 92 ≡ t
   paged t h = rw (sym ex, sym ez) h
 
+  -- `S`, a backslash and a byte, as the code tests it
   shifted : (t : Bool) → eqb x 83 && (eqb y 92 && leb 4 (length s)) ≡ t → Text.is s 1 83 && (Text.is s 2 92 && leb 4 (length s)) ≡ t
   shifted t h = rw (sym ex, sym ey) h
 
+  -- `X`, a backslash and two hex digits, as the code tests it
   octet : (t : Bool) → eqb x 88 && (eqb y 92 && ltb v 256) ≡ t → Text.is s 1 88 && (Text.is s 2 92 && Text.twoAt s 3) ≡ t
   octet t h =
       let u : ltb v 256 ≡ Text.twoAt s 3 = bounded (Text.twoAt s 3) (Text.twoOf s 3) 256 v (two-below s 3) ev in
@@ -86,6 +90,7 @@ module _ (s : List ℕ) (x y z v : ℕ) (ex : x ≡ byteAt s 1) (ey : y ≡ byte
             is-long h = rw (first 92 false n1, slashed 78 false n2, slashed 84 false n3, paged false n4, shifted false n5, octet false h) refl
 
 module _ (s : List ℕ) (n0 : eqb (byteAt s 0) 92 ≡ false) (b d : ℕ) (eb : b ≡ byteAt s 0) (ed : d ≡ byteAt s 1) where
+  -- two quotes, as the code tests it
   twice : (t : Bool) → eqb b 39 && eqb d 39 ≡ t → Text.is s 0 39 && Text.is s 1 39 ≡ t
   twice t h = rw (sym eb, sym ed) h
 
@@ -135,6 +140,7 @@ pub short-none : (s : List ℕ) (c : Char) → pick (eqb (c .used) 0) (viewOf (T
 short-none s c h n = sym (rw n refl) ∙ h
 
 module _ (s : List ℕ) (x y z : ℕ) (ex : x ≡ byteAt s 1) (ey : y ≡ byteAt s 2) (ez : z ≡ byteAt s 3) where
+  -- `X`, a digit and a backslash, as the code tests it
   marked : (d : ℕ) (t : Bool) → eqb x 88 && (eqb y d && eqb z 92) ≡ t → Text.is s 1 88 && (Text.is s 2 d && Text.is s 3 92) ≡ t
   marked d t h = rw (sym ex, sym ey, sym ez) h
 

@@ -2,18 +2,19 @@
 //
 // A text without a quote, a backslash or a high byte is shown as it stands in the file. Any other is put into lent room, in UTF-8: a
 // first run counts its bytes and a second one writes them, so that a room that is too short keeps what it had. A piece of the text is
-// read from a slice that starts at it and is never looked at again from its start, but for a directive with a bad group: so the time
-// grows with the length.
+// read from a slice that starts at it and is not looked at again, but for the groups before a bad one: these are hex digits alone,
+// and no directive begins with a backslash and a hex digit, so that they are read twice and no more, and the time grows with the
+// length.
 ghost use mathlib.Core.Path.{_≡_};
 ghost use mathlib.Core.List.{[], _∷_};
-ghost use mathlib.Core.Bool.{true, false};
-ghost use Prim.Native.Nat.{_+_, _-_, _≤_, _<_, min};
+ghost use mathlib.Core.Bool.{false};
+ghost use Prim.Native.Nat.{_≤_, min};
 ghost use lib.Dec.{eqb};
-ghost use lib.ListN.{length, take, drop};
+ghost use lib.ListN.{length, drop};
 ghost use Rattle.lex.specs.Byte.{pick};
 ghost use Rattle.utf8.specs.Utf8.{byteAt, encodeAll};
 ghost use Rattle.strings.specs.Text.{hexDigit, hexValue, twoAt, twoOf, fourAt, fourOf, groupTwo, groupFour, groupOf, closing, plain, shown, joined, longOf, directiveOf, pieceOf, extended, groupsFrom, bytesOf};
-ghost use Rattle.strings.specs.Code.{toldGroup, oneView, viewOf, Moved, decodedOf, roomAfter, shownOf};
+ghost use Rattle.strings.specs.Code.{toldGroup, oneView, viewOf, Moved, decodedOf, roomAfter, shownOf, toldText, answerOf};
 ghost use Rattle.strings.specs.Put.{most, Laid};
 
 // What a hex digit's place gives where no hex digit stands.
@@ -349,9 +350,9 @@ pub enum Decoded {
     Short,
 }
 
-// How many bytes the text has that would be written; the largest number for a text that no memory holds.
+// How many bytes the text has; the largest number for a text that no memory holds.
 pub fn text_length(raw: &[u8]) -> usize
-    ensures { λ r. ⌜ r ≡ min 18446744073709551615 (length (bytesOf (now (raw .entry)))) ⌝ }
+    ensures { λ r. ⌜ r ≡ min most (length (bytesOf (now (raw .entry)))) ⌝ }
 {
     let mut none = [0u8; 1];
     run(raw, &mut none)
@@ -361,6 +362,7 @@ pub fn text_length(raw: &[u8]) -> usize
 pub fn decode_string(raw: &[u8], out: &mut [u8]) -> Decoded
     ensures { λ r. ⌜ r ≡ decodedOf (now (raw .entry)) (length (now (out .entry))) ⌝ }
     ensures { λ _. ⌜ now (out .exit) ≡ roomAfter (now (raw .entry)) (now (out .entry)) ⌝ }
+    ensures { λ r. ⌜ toldText (now (raw .entry)) (now (out .exit)) r ≡ answerOf (now (raw .entry)) (length (now (out .entry))) ⌝ }
 {
     if is_plain(raw) {
         return Decoded::Plain;

@@ -1,7 +1,8 @@
 use borrow.Author.Needs.{needs}
 use native.Mathlib.Omega.{arith}
 use denote.Ref.{now}
-use Rattle.strings.specs.Hex.{byte-within, byte-past}
+use Rattle.utf8.specs.Laws.{byte-at}
+use Rattle.strings.specs.Hex.{byte-past}
 use Rattle.strings.proofs.byte_at.Statement.{statement}
 use Rattle.strings.proofs.byte_at.Tie as tie
 use Rattle.strings.proofs.byte_at.Reads as reads
@@ -17,7 +18,7 @@ cast-result c = omega (arith, c .shared-slice-known .given (c .before .before .a
 
 -- src/lib.rt:10:9
 returns : tie.Need-returns
-returns c = byte-within (now (c .before .before .args .s)) (c .before .before .args .k) (omega arith)
+returns c = byte-at (now (c .before .before .args .s)) (c .before .before .args .k) 0 (omega arith)
 
 -- src/lib.rt:6:1
 returns-2 : tie.Need-returns-2
