@@ -1,6 +1,7 @@
 // What the programs are given: files that arguments name, standard input, and how much stack they may use.
 mod feed;
 mod limit;
+mod lines;
 
 pub use feed::Brought;
 pub use feed::Feed;
@@ -10,6 +11,13 @@ pub use feed::number_line;
 pub use feed::skip;
 pub use feed::start;
 pub use limit::stack_limit;
+pub use lines::FAILED;
+pub use lines::LINE;
+pub use lines::LONG;
+pub use lines::Lines;
+pub use lines::OVER;
+pub use lines::next_line;
+pub use lines::no_line;
 ghost use Prim.Native.Nat.{_≤_};
 ghost use lib.ListN.{length};
 ghost use Rattle.io.specs.Counts.{Counts};
