@@ -1,5 +1,5 @@
 #!/bin/sh
-# Builds the oracle: the Rust original, unchanged, under the driver in oracle/.
+# Builds the oracle: the Rust original, unchanged, under the driver in oracle/; and beside it `texts`, under texts.rs.
 #
 #   build.sh [BUILD_FOLDER]
 #
@@ -34,7 +34,7 @@ fi
 source=$(dpkg -L librust-memchr-dev | sed -n 's,/memchr-[0-9][^/]*$,,p' | head -n 1)
 [ -d "$source" ] || { say "the crates of $packages are not found"; exit 1; }
 
-mkdir -p "$build/cad-step/src" "$build/oracle/src" "$build/.cargo"
+mkdir -p "$build/cad-step/src" "$build/oracle/src/bin" "$build/.cargo"
 build=$(CDPATH='' cd -- "$build" && pwd)
 
 # A file is copied only where it changed, so that a second build is quick.
@@ -52,6 +52,7 @@ put "$build/new" "$build/cad-step/src/presentation.rs"
 for file in "$here"/oracle/*.rs; do
     put "$file" "$build/oracle/src/$(basename "$file")"
 done
+put "$here/texts.rs" "$build/oracle/src/bin/texts.rs"
 
 cat >"$build/new" <<'END'
 [package]

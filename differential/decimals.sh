@@ -10,6 +10,7 @@
 set -eu
 [ $# -ge 1 ] || { sed -n '2,9s/^# \{0,1\}//p' "$0" >&2; exit 2; }
 here=$(CDPATH='' cd -- "$(dirname -- "$0")" && pwd)
+. "$here/lines.sh"
 export PYTHONDONTWRITEBYTECODE=1
 make="python3 $here/decimals.py"
 if [ "$1" != replay ] && [ $# -ge 2 ]; then
@@ -52,24 +53,7 @@ for stream in ${STREAMS:-chosen exhaustive class ties edges outside malformed}; 
     *) $make "$stream" $((count / 6)) "$seed" ;;
     esac >"$work/stream"
     "$work/oracle" <"$work/stream" >"$work/expected"
-    status=0
-    "$program" <"$work/stream" >"$work/actual" || status=$?
-    [ "$status" -eq 0 ] || echo "$stream: the program ended with status $status" >&2
-    made=$(wc -l <"$work/expected")
-    differing=0
-    if ! cmp -s "$work/expected" "$work/actual"; then
-        # as strings: awk would take two of these lines for numbers and round them
-        paste "$work/expected" "$work/actual" | awk -F '\t' '$1 "" != $2 "" { print NR }' >"$work/lines"
-        differing=$(wc -l <"$work/lines")
-        at=$(head -n 1 "$work/lines")
-        [ "$differing" -gt 0 ] || differing=1
-        echo "$stream: the first difference is at line ${at:-?}:"
-        if [ -n "$at" ]; then
-            for part in stream expected actual; do
-                echo "  $part: $(sed -n "${at}p" "$work/$part" | cut -c 1-200 | cat -v)"
-            done
-        fi
-    fi
+    compare "$stream"
     echo "$stream: decimals $made differences $differing | $(tally "$work/expected")"
     decimals=$((decimals + made))
     differences=$((differences + differing))
