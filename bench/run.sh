@@ -27,19 +27,7 @@ fi
 [ -n "$(ls -A "$real")" ] || { say "no real files in $real"; exit 1; }
 
 # The proved library, from a copy of the crates.
-object=${OBJECT:-}
-if [ -z "$object" ]; then
-    say "proving the library export (some minutes the first time)"
-    rm -rf "$work/copy"
-    mkdir "$work/copy"
-    cp "$here/../crates.txt" "$work/copy/"
-    cp -R "$here/../crates" "$work/copy/crates"
-    sh "$shared/perf/native.sh" -w "$work/native" -o "$work/refuses" "$work/copy" export "$here/refuses.c" >&2
-    "$work/refuses"
-    object=$work/native/export.o
-fi
-[ -f "$object" ] || { say "no object file $object"; exit 1; }
-object=$(CDPATH='' cd -- "$(dirname -- "$object")" && pwd)/$(basename -- "$object")
+object=$(sh "$here/object.sh" "$work")
 
 # The original, and the program with both.
 say "building the original"

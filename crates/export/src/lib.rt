@@ -1,7 +1,10 @@
-// The scan for hosts in other languages: slices and numbers only. Used by the benchmarks; a load node's interface grows here.
+// The scan, the reals and the texts for hosts in other languages: slices and numbers only. Used by the benchmarks; a load node's
+// interface grows here.
 mod real;
+mod text;
 
 pub use real::hooflift_real;
+pub use text::hooflift_text;
 ghost use mathlib.Core.Path.{_≡_};
 ghost use Prim.Native.Nat.{_/_, min};
 ghost use lib.ListN.{length};

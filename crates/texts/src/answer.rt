@@ -95,13 +95,7 @@ fn written(answer: Decoded) -> usize {
     }
 }
 
-fn put_answer<'a>(
-    raw: &'a [u8],
-    room: &'a [u8],
-    answer: Decoded,
-    out: &mut [u8],
-    pen: Pen,
-) -> Pen {
+fn put_answer<'a>(raw: &'a [u8], room: &'a [u8], answer: Decoded, out: &mut [u8], pen: Pen) -> Pen {
     let t = strings::text(raw, room, answer);
     match answer {
         Decoded::Plain => {
