@@ -45,10 +45,9 @@ for file in error kind lib scan units value; do
     put "$original/$file.rs" "$build/cad-step/src/$file.rs"
 done
 # lib.rs declares two modules that are not there; nothing that is compared touches them.
-: >"$build/new"
-put "$build/new" "$build/cad-step/src/lower.rs"
-printf '%s\n' 'pub struct Appearance;' 'pub struct Styles;' >"$build/new"
-put "$build/new" "$build/cad-step/src/presentation.rs"
+for file in lower presentation; do
+    put "$here/oracle/stand-in/$file.rs" "$build/cad-step/src/$file.rs"
+done
 for file in "$here"/oracle/*.rs; do
     put "$file" "$build/oracle/src/$(basename "$file")"
 done

@@ -1,50 +1,118 @@
 //! Drives the Rust original over a run of cases and prints the text form of all answers.
 //!
-//!     oracle [--part rows] [FILE..]
+//!     oracle [--part PART,..] [--readers NAME,..] [FILE..]
 //!
 //! Without files, standard input is a run of cases: a length in decimal, LF, that many bytes. With files, each file is
-//! one case. `--part` names how far the text form is printed; each part is one function below and prints what the
-//! parts before it print as well.
+//! one case. `--part` names which lines are printed beside `case`, `refused`, `scan`, `h` and `r`, which every part has:
 //!
-//! A case in which the original panics prints its `case` line and the line `panic`; the run goes on.
+//!     rows      no others (the default)
+//!     lookup    `l` and `f`
+//!     texts     `name` and `system`
+//!     units     `units`
+//!     walks     `walk`, `part` and the readers' lines
+//!     all       all of them
+//!
+//! `--readers` names the readers whose lines a walk prints; `skip` is always printed.
+//!
+//! A reader in which the original panics prints its name and `panic`; a case in which it panics elsewhere prints its `case` line and
+//! the line `panic`. The run goes on. A line that begins with `driver` tells where the driver's own reading of document 01 and
+//! the original part inside the domain; none is wanted.
 
+mod document;
 mod input;
+mod lookup;
+mod parts;
+mod reader;
+mod real;
 mod refusal;
 mod rows;
+mod step;
+mod text;
+mod units;
 
 use std::io::Write;
 use std::panic::{AssertUnwindSafe, catch_unwind, set_hook};
 
-/// How far the text form goes.
-#[derive(Clone, Copy, PartialEq, Eq)]
-enum Part {
-    /// `refused`, or `scan` and the `h` and `r` lines.
-    Rows,
+/// Which lines are printed.
+#[derive(Default)]
+struct Wanted {
+    lookup: bool,
+    texts: bool,
+    units: bool,
+    walks: bool,
+    readers: [bool; 15],
+}
+
+impl Wanted {
+    fn parts(&mut self, names: &str) {
+        for name in names.split(',') {
+            let all = name == "all";
+            match name {
+                "rows" | "lookup" | "texts" | "units" | "walks" | "all" => {}
+                _ => fail("--part takes: rows, lookup, texts, units, walks, all"),
+            }
+            self.lookup |= all || name == "lookup";
+            self.texts |= all || name == "texts";
+            self.units |= all || name == "units";
+            self.walks |= all || name == "walks";
+        }
+    }
+
+    fn readers(&mut self, names: &str) {
+        self.readers = [false; 15];
+        for name in names.split(',') {
+            match reader::READERS.iter().position(|(known, _)| *known == name) {
+                Some(k) => self.readers[k] = true,
+                None => fail("--readers takes the readers' names"),
+            }
+        }
+    }
 }
 
 /// The lines of one case after its `case` line.
-fn answer(part: Part, file: &[u8], out: &mut String) {
-    let Some(_scan) = rows::print(file, out) else {
+fn answer(wanted: &Wanted, file: &[u8], out: &mut String) {
+    let Some(scan) = rows::print(file, out) else {
         return;
     };
-    match part {
-        Part::Rows => {}
-        // Further parts (lookups, header search and texts, units, walks) come here as further functions, each given
-        // the file and the scan, so that nothing rests on an id table sized by the largest id.
+    if !(wanted.lookup || wanted.texts || wanted.units || wanted.walks) {
+        return;
+    }
+    let step = match step::Step::of(file, &scan) {
+        Ok(step) => step,
+        Err(how) => {
+            out.push_str(&format!("driver {how}\n"));
+            return;
+        }
+    };
+    if wanted.lookup {
+        lookup::print_ids(&scan, &step, out);
+        lookup::print_headers(file, &scan, &step, out);
+    }
+    if wanted.texts {
+        lookup::print_texts(file, &scan, &step, out);
+    }
+    if wanted.units {
+        units::print(file, &scan, &step, out);
+    }
+    if wanted.walks {
+        parts::print(file, &scan, &step, &wanted.readers, out);
     }
 }
 
 fn main() {
-    let mut part = Part::Rows;
+    let mut wanted = Wanted {
+        readers: [true; 15],
+        ..Wanted::default()
+    };
     let mut files = Vec::new();
     let mut arguments = std::env::args_os().skip(1);
     while let Some(argument) = arguments.next() {
         if argument == "--part" {
-            let name = arguments.next().unwrap_or_default();
-            part = match name.to_str() {
-                Some("rows") => Part::Rows,
-                _ => fail("--part takes: rows"),
-            };
+            let names = arguments.next().unwrap_or_default();
+            wanted.parts(names.to_str().unwrap_or(""));
+        } else if argument == "--readers" {
+            let names = arguments.next().unwrap_or_default();
+            wanted.readers(names.to_str().unwrap_or(""));
         } else {
             files.push(argument);
         }
@@ -58,7 +126,7 @@ fn main() {
     let mut number = 0u64;
     let mut each = |file: Vec<u8>| {
         text.clear();
-        let whole = catch_unwind(AssertUnwindSafe(|| answer(part, &file, &mut text)));
+        let whole = catch_unwind(AssertUnwindSafe(|| answer(&wanted, &file, &mut text)));
         if whole.is_err() {
             text.clear();
             text.push_str("panic\n");

@@ -1,6 +1,7 @@
 //! Document 01's refusal numbers, reasons and places for the original's errors.
 //!
-//! Places follow document 01's table. For the scan's errors the original's offset is that place in every case:
+//! Places follow document 01's table. For the scan's errors, which are those of a complex record's parts too, the original's
+//! offset is that place in every case:
 //!
 //! | no. | the table's place | the original's offset |
 //! |---|---|---|
@@ -10,14 +11,47 @@
 //! | 6 | its `(` | `matching_paren` gives the `(` it was called at, the outermost one |
 //! | 7 | its start | `body.start`, again the first byte after trivia |
 //!
-//! So nothing is computed anew here. 2 is given by the driver. 8 depends on lent rooms, which the original has not.
+//! And so it is for the argument reader's errors, but for one:
+//!
+//! | no. | the table's place | the original's offset |
+//! |---|---|---|
+//! | 10 | reader's place | `param_span` has skipped the trivia and gives where they end |
+//! | 11 | its quote | `param_span` gives the opening quote |
+//! | 12 | parameter or item start | the span's start, which is the parameter's or the item's; `next_bool` gives the place after the parameter instead, so the driver takes where the trivia end |
+//!
+//! 2, 13, 14, 15 are the driver's own: the original has no such bounds. 8 and 16 depend on lent rooms, which it has not either;
+//! 9 is not asked for in the text form.
 
 use cad_step::StepError;
+use std::fmt;
 
-/// `NO/REASON@PLACE` of an error of the scan.
-pub fn of_scan(error: &StepError) -> String {
+#[derive(Clone, Copy, PartialEq, Eq, Debug)]
+pub struct Refusal {
+    pub number: u8,
+    pub reason: u8,
+    pub place: usize,
+}
+
+impl Refusal {
+    pub fn new(number: u8, place: usize) -> Self {
+        Refusal {
+            number,
+            reason: 0,
+            place,
+        }
+    }
+}
+
+impl fmt::Display for Refusal {
+    fn fmt(&self, f: &mut fmt::Formatter<'_>) -> fmt::Result {
+        write!(f, "{}/{}@{}", self.number, self.reason, self.place)
+    }
+}
+
+/// An error of the original as document 01 numbers it. An error without a number is a panic, and would be seen.
+pub fn of(error: &StepError) -> Refusal {
     match error {
-        StepError::NotPart21 => "1/0@0".to_string(),
+        StepError::NotPart21 => Refusal::new(1, 0),
         StepError::Unterminated { what, offset } => {
             let number = match *what {
                 "comment" => 3,
@@ -26,7 +60,7 @@ pub fn of_scan(error: &StepError) -> String {
                 "parenthesis" => 6,
                 other => panic!("unknown unterminated thing: {other}"),
             };
-            format!("{number}/0@{offset}")
+            Refusal::new(number, *offset)
         }
         StepError::Record { offset, detail } => {
             let reason = match detail.as_str() {
@@ -41,8 +75,21 @@ pub fn of_scan(error: &StepError) -> String {
                 // whitespace is there, is no whitespace and is not the `(`. A panic would show it.
                 other => panic!("unknown detail: {other}"),
             };
-            format!("7/{reason}@{offset}")
+            Refusal {
+                number: 7,
+                reason,
+                place: *offset,
+            }
         }
-        other => panic!("not an error of the scan: {other}"),
+        StepError::Value { offset, detail } => {
+            let number = match detail.as_str() {
+                "expected a parameter, found end of record" => 10,
+                "unterminated string literal" | "unterminated binary literal" => 11,
+                other if other.starts_with("expected ") => 12,
+                other => panic!("unknown detail: {other}"),
+            };
+            Refusal::new(number, *offset)
+        }
+        other => panic!("no number for: {other}"),
     }
 }

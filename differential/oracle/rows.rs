@@ -15,7 +15,7 @@ pub fn print(file: &[u8], out: &mut String) -> Option<Scan> {
     let scanned = match scan(file) {
         Ok(scanned) => scanned,
         Err(error) => {
-            let _ = writeln!(out, "refused {}", refusal::of_scan(&error));
+            let _ = writeln!(out, "refused {}", refusal::of(&error));
             return None;
         }
     };
