@@ -1,12 +1,13 @@
 #!/usr/bin/env python3
 """Compares two answers to one run of cases, case by case.
 
-    differ.py STREAM EXPECTED ACTUAL [NAME [FIRST]]     STREAM is a run of cases
-    differ.py --file FILE EXPECTED ACTUAL [NAME]        FILE is the one case
+    differ.py STREAM EXPECTED ACTUAL [NAME [FIRST [SHOW]]]     STREAM is a run of cases
+    differ.py --file FILE EXPECTED ACTUAL [NAME]               FILE is the one case
 
-Prints the first case that differs, with its bytes in hex and both answers, on standard error (NAME and FIRST, the
-number of the run's first case in its stream, are only shown), and `DIFFERING LEFT_OUT` on standard output. Left out is
-a case in which the original panicked, and one above 1 MiB that the program has no room for.
+Prints the first SHOW cases (one, if it is not said) that differ, with their bytes in hex and both answers, on standard
+error (NAME and FIRST, the number of the run's first case in its stream, are only shown), and `DIFFERING LEFT_OUT KINDS` on
+standard output, where KINDS tells how many cases have their first difference at a line of each kind. Left out is a case in which
+the original panicked, and one above 1 MiB that the program has no room for.
 """
 
 import sys
@@ -52,6 +53,31 @@ def window(expected, actual):
     return [front + "\n".join("  " + line.decode("latin-1") for line in side[k:k + 12]) for side in (a, b)]
 
 
+def panicked(answer):
+    """The original panicked, in the whole case or in one reader."""
+    return answer == b"panic\n" or any(line.endswith(b" panic") for line in answer.splitlines())
+
+
+def no_room(case, want, have):
+    """Above 1 MiB the program may lack the room for the file, its rows, or single lists and texts."""
+    if len(case) <= MIB:
+        return False
+    if have.endswith(b"too long for this program\n") or have.startswith(b"refused 8/"):
+        return True
+    a, b = want.splitlines(), have.splitlines()
+    return len(a) == len(b) and all(x == y or b" 16/0@" in y for x, y in zip(a, b))
+
+
+def kind(want, have):
+    """The first word of the first line that differs."""
+    a, b = want.splitlines(), have.splitlines()
+    k = 0
+    while k < len(a) and k < len(b) and a[k] == b[k]:
+        k += 1
+    line = a[k] if k < len(a) else b[k] if k < len(b) else b"?"
+    return line.split(b" ")[0].decode("latin-1") or "?"
+
+
 def main():
     arguments = sys.argv[1:]
     one = arguments[:1] == ["--file"]
@@ -60,6 +86,7 @@ def main():
     stream, expected_path, actual_path = arguments[:3]
     name = arguments[3] if len(arguments) > 3 else stream
     first = int(arguments[4]) if len(arguments) > 4 else 0
+    show = int(arguments[5]) if len(arguments) > 5 else 1
 
     expected = answers(expected_path)
     actual = answers(actual_path)
@@ -70,20 +97,20 @@ def main():
         run = cases(stream)
 
     differing = left_out = count = 0
+    kinds = {}
     for i, case in enumerate(run):
         count += 1
         want = expected[i] if i < len(expected) else b"(no answer)"
         have = actual[i] if i < len(actual) else b"(no answer)"
         if want == have and i < len(expected):
             continue
-        if want == b"panic\n":
-            left_out += 1
-            continue
-        if len(case) > MIB and (have.endswith(b"too long for this program\n") or have.startswith(b"refused 8/")):
+        if panicked(want) or no_room(case, want, have):
             left_out += 1
             continue
         differing += 1
-        if differing == 1:
+        found = kind(want, have)
+        kinds[found] = kinds.get(found, 0) + 1
+        if differing <= show:
             both = window(want, have)
             sys.stderr.write(
                 "%s: case %d differs (%d bytes)\n  hex  %s\n  text %s\nexpected:\n%s\nactual:\n%s\n"
@@ -92,7 +119,7 @@ def main():
     if len(actual) > count:
         differing += len(actual) - count
         sys.stderr.write("%s: %d answers too many\n" % (name, len(actual) - count))
-    print(differing, left_out)
+    print(differing, left_out, *("%s:%d" % pair for pair in sorted(kinds.items())))
 
 
 if __name__ == "__main__":
