@@ -14,7 +14,9 @@ import struct
 import sys
 from fractions import Fraction
 
-from differ import answers, cases
+sys.dont_write_bytecode = True
+
+from differ import answers, cases  # noqa: E402
 
 REF = re.compile(rb"#([0-9]+)\Z")
 INT = re.compile(rb"[+-]?[0-9]+\Z")
@@ -198,5 +200,4 @@ def main():
 
 
 if __name__ == "__main__":
-    sys.dont_write_bytecode = True
     main()

@@ -4,7 +4,7 @@ The ids of a file are drawn in one of several ways: few that repeat, shuffled, d
 in front. Header records have keywords in either case, FILE_NAME parameters of all forms and numbers. Complex records have none
 to five parts, some of them with a `(` in a string or a comment, where the search for its `)` starts inside that."""
 
-from draw import D, H, M, Rng, damage
+from draw import M, Rng, damage
 from parameters import COMMENTS, WHITES, Parameters, closed
 
 KEYWORDS = [b"A", b"B", b"CARTESIAN_POINT", b"SI_UNIT", b"X_1", b"GEOMETRIC_REPRESENTATION_CONTEXT", b"a", b"File_Name"]

@@ -5,7 +5,7 @@ around the class's edges, names, strings with directives, measures, lists and gr
 everywhere, and soups of tokens. What is drawn is then closed as the scan sees it (it knows no `"`), so that most files are
 accepted, while the argument reader still meets open literals and comments."""
 
-from draw import D, H, M, Rng, damage
+from draw import D, H, Rng, damage
 
 WHITES = [b" ", b" ", b"\n", b"\t", b"\r\n", b"\x0c", b"  ", b"\r"]
 COMMENTS = [

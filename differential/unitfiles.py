@@ -5,8 +5,8 @@ to other units. Chains have none to eighteen conversions, end in an SI unit, in 
 superseded, simple where they should be complex, faulty in their parts; the records stand in any order. Each file has its own
 rate of odd things, so that most give factors and the others refuse in many ways."""
 
-from draw import D, M, Rng, damage
-from parameters import ODD_MEASURES, REALS, ODD_REALS
+from draw import D, Rng, damage
+from parameters import ODD_MEASURES, ODD_REALS, REALS
 
 PREFIXES = [
     b"EXA", b"PETA", b"TERA", b"GIGA", b"MEGA", b"KILO", b"HECTO", b"DECA", b"DECI", b"CENTI", b"MILLI", b"MICRO", b"NANO", b"PICO", b"FEMTO", b"ATTO",

@@ -1,8 +1,9 @@
-//! What document 01 says of parameters, written from its words and not from the original's code.
+//! What document 01 says of parameters, in its words and shape; where it is silent, what the original settles.
 //!
 //! The driver prints the original's answers. This module serves two ends: it gives the answer where the original's lies outside
 //! document 01's domain (reals outside the class, `inf` and its like, byte 0B and Unicode white space at a number's ends,
-//! surrogates that do not join), and everywhere else its answer must be the original's, so that an error of the driver shows.
+//! surrogates that do not join), and everywhere else its answer must be the original's, so that an error of the driver shows. It
+//! was written with the original at hand: a check of the driver, and no second witness for the original.
 
 use crate::real::{Reading, of_class, reading};
 use crate::refusal::Refusal;
@@ -50,7 +51,11 @@ pub enum Reader {
 
 /// The bits of an f64, every NaN being one.
 pub fn bits(x: f64) -> u64 {
-    if x.is_nan() { f64::NAN.to_bits() } else { x.to_bits() }
+    if x.is_nan() {
+        f64::NAN.to_bits()
+    } else {
+        x.to_bits()
+    }
 }
 
 pub fn white(b: u8) -> bool {
@@ -188,12 +193,20 @@ pub struct Document<'a> {
 
 impl Document<'_> {
     /// The answer of a reader at `place`, and where it stands then.
-    pub fn read(&self, reader: Reader, place: usize, end: usize) -> (usize, Result<Answer, Refusal>) {
+    pub fn read(
+        &self,
+        reader: Reader,
+        place: usize,
+        end: usize,
+    ) -> (usize, Result<Answer, Refusal>) {
         match parameter(self.file, place, end) {
             Err((refusal, stands)) => (stands, Err(refusal)),
             Ok(p) => {
                 let told = self.value(reader, &p.span);
-                (p.after, told.map_err(|(number, place)| Refusal::new(number, place)))
+                (
+                    p.after,
+                    told.map_err(|(number, place)| Refusal::new(number, place)),
+                )
             }
         }
     }
@@ -210,22 +223,29 @@ impl Document<'_> {
             Reader::I64 => self.integer(span).map(Answer::Int).map_err(at),
             Reader::F64 | Reader::OptF64 => self.real(span).map(Answer::Real).map_err(at),
             Reader::Measure => self.measure(span).map(Answer::Real).map_err(at),
-            Reader::Enum => self.name(span).map(|n| Answer::Name(n.to_vec())).map_err(at),
+            Reader::Enum => self
+                .name(span)
+                .map(|n| Answer::Name(n.to_vec()))
+                .map_err(at),
             Reader::Bool => match self.name(span) {
                 Ok(b"T") => Ok(Answer::Truth('T')),
                 Ok(b"F") => Ok(Answer::Truth('F')),
                 Ok(b"U") => Ok(Answer::Truth('U')),
                 _ => Err(at(12)),
             },
-            Reader::Str if s.len() >= 2 && s[0] == b'\'' => {
-                Ok(Answer::Text(text::decode(&s[1..s.len() - 1], self.outside).into_bytes()))
-            }
+            Reader::Str if s.len() >= 2 && s[0] == b'\'' => Ok(Answer::Text(
+                text::decode(&s[1..s.len() - 1], self.outside).into_bytes(),
+            )),
             Reader::Str => Err(at(12)),
             Reader::RefList => self.list(span, Self::reference).map(Answer::Refs),
             Reader::I64List => self.list(span, Self::integer).map(Answer::Ints),
             Reader::F64List => self.list(span, Self::real).map(Answer::Reals),
-            Reader::RefGrid => self.grid(span, Self::reference).map(|(n, e)| Answer::RefGrid(n, e)),
-            Reader::F64Grid => self.grid(span, Self::real).map(|(n, e)| Answer::RealGrid(n, e)),
+            Reader::RefGrid => self
+                .grid(span, Self::reference)
+                .map(|(n, e)| Answer::RefGrid(n, e)),
+            Reader::F64Grid => self
+                .grid(span, Self::real)
+                .map(|(n, e)| Answer::RealGrid(n, e)),
         }
     }
 
@@ -239,7 +259,9 @@ impl Document<'_> {
         if digits.len() - zeros > 10 {
             return Err(12);
         }
-        let number = digits.iter().fold(0u64, |n, b| n * 10 + u64::from(b - b'0'));
+        let number = digits
+            .iter()
+            .fold(0u64, |n, b| n * 10 + u64::from(b - b'0'));
         u32::try_from(number).map_err(|_| 12)
     }
 
@@ -267,7 +289,9 @@ impl Document<'_> {
         if digits.len() - zeros > 19 {
             return Err(12);
         }
-        let size = digits.iter().fold(0i128, |n, b| n * 10 + i128::from(b - b'0'));
+        let size = digits
+            .iter()
+            .fold(0i128, |n, b| n * 10 + i128::from(b - b'0'));
         i64::try_from(if negative { -size } else { size }).map_err(|_| 12)
     }
 
@@ -284,9 +308,17 @@ impl Document<'_> {
             self.outside.set(true);
             return Err(13);
         }
-        let m = if figures.is_empty() { 0 } else { figures.parse::<u64>().expect("15 digits") };
+        let m = if figures.is_empty() {
+            0
+        } else {
+            figures.parse::<u64>().expect("15 digits")
+        };
         let ten = (0..e.unsigned_abs()).fold(1.0f64, |p, _| p * 10.0);
-        let size = if e < 0 { m as f64 / ten } else { m as f64 * ten };
+        let size = if e < 0 {
+            m as f64 / ten
+        } else {
+            m as f64 * ten
+        };
         let x = if s.starts_with('-') { -size } else { size };
         // Rust's parser stops taking digits of an exponent at 65536, which a long fraction could make up for.
         if s.len() > 60000 && s.parse::<f64>().is_ok_and(|y| y.to_bits() != x.to_bits()) {
@@ -319,7 +351,11 @@ impl Document<'_> {
         std::str::from_utf8(name).map(str::as_bytes).map_err(|_| 12)
     }
 
-    fn list<T>(&self, span: &Range<usize>, item: impl Fn(&Self, &Range<usize>) -> Result<T, u8>) -> Result<Vec<T>, (u8, usize)> {
+    fn list<T>(
+        &self,
+        span: &Range<usize>,
+        item: impl Fn(&Self, &Range<usize>) -> Result<T, u8>,
+    ) -> Result<Vec<T>, (u8, usize)> {
         let body = inside(self.file, span).ok_or((12, span.start))?;
         let mut out = Vec::new();
         for i in items(self.file, body) {

@@ -9,7 +9,11 @@ use std::fmt::Write;
 
 /// The last row of each id.
 pub fn last_rows(scan: &Scan) -> HashMap<u32, usize> {
-    scan.records.iter().enumerate().map(|(i, r)| (r.id, i)).collect()
+    scan.records
+        .iter()
+        .enumerate()
+        .map(|(i, r)| (r.id, i))
+        .collect()
 }
 
 fn row_line(out: &mut String, head: &str, row: Option<usize>) {
@@ -38,7 +42,8 @@ pub fn print_ids(scan: &Scan, step: &Step, out: &mut String) {
 /// The first header row with a keyword, letters in either case.
 fn header_row(file: &[u8], scan: &Scan, keyword: &str) -> Option<usize> {
     scan.header.iter().position(|h| {
-        file[h.keyword.start as usize..h.keyword.end as usize].eq_ignore_ascii_case(keyword.as_bytes())
+        file[h.keyword.start as usize..h.keyword.end as usize]
+            .eq_ignore_ascii_case(keyword.as_bytes())
     })
 }
 
@@ -47,11 +52,18 @@ pub fn print_headers(file: &[u8], scan: &Scan, step: &Step, out: &mut String) {
     for keyword in ["FILE_NAME", "file_schema", "File_Description", "NOPE"] {
         let row = step.file.header_args(keyword).map(|args| {
             let start = args.offset();
-            scan.header.iter().position(|h| h.args.start as usize == start).expect("a header row")
+            scan.header
+                .iter()
+                .position(|h| h.args.start as usize == start)
+                .expect("a header row")
         });
         row_line(out, &format!("f {keyword}"), row);
         if row != header_row(file, scan, keyword) {
-            let _ = writeln!(out, "driver f {keyword} {:?} is the first", header_row(file, scan, keyword));
+            let _ = writeln!(
+                out,
+                "driver f {keyword} {:?} is the first",
+                header_row(file, scan, keyword)
+            );
         }
     }
 }
@@ -62,7 +74,10 @@ fn text(file: &[u8], scan: &Scan, skipped: usize) -> Result<(Vec<u8>, bool), &'s
     let Some(row) = header_row(file, scan, "FILE_NAME") else {
         return Ok((Vec::new(), false));
     };
-    let (mut place, end) = (scan.header[row].args.start as usize, scan.header[row].args.end as usize);
+    let (mut place, end) = (
+        scan.header[row].args.start as usize,
+        scan.header[row].args.end as usize,
+    );
     for _ in 0..skipped {
         match tell(Reader::Skip, file, place, end) {
             Told::Said(after, Ok(_)) => place = after,
@@ -91,7 +106,11 @@ pub fn print_texts(file: &[u8], scan: &Scan, step: &Step, out: &mut String) {
                 put_hex(out, &text);
                 out.push('\n');
                 if step.whole() && !outside {
-                    let whole = if skipped == 0 { step.file.file_name() } else { step.file.originating_system() };
+                    let whole = if skipped == 0 {
+                        step.file.file_name()
+                    } else {
+                        step.file.originating_system()
+                    };
                     if whole.as_bytes() != text {
                         let _ = writeln!(out, "driver {name} the original says {whole:?}");
                     }

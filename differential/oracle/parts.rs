@@ -39,7 +39,10 @@ pub fn of(file: &[u8], record: &RecordSpan) -> (Vec<Part>, Option<Refusal>) {
             // 3, 4 or 6; the places are the table's, as in the scan.
             Err(error) => return (parts, Some(refusal::of(&error))),
         };
-        let kept = file[i..open].iter().rposition(|&b| !white(b)).map_or(0, |last| last + 1);
+        let kept = file[i..open]
+            .iter()
+            .rposition(|&b| !white(b))
+            .map_or(0, |last| last + 1);
         let keyword = i..i + kept;
         parts.push(Part {
             kind: Kind::intern(&file[keyword.clone()]),
@@ -55,7 +58,10 @@ fn checked(step: &StepFile, row: usize, parts: &[Part], fault: Option<Refusal>) 
     match (step.complex_parts(&step.entities()[row]), fault) {
         (Ok(found), None) => {
             let same = found.len() == parts.len()
-                && found.iter().zip(parts).all(|((kind, args), p)| *kind == p.kind && args.offset() == p.args.start);
+                && found
+                    .iter()
+                    .zip(parts)
+                    .all(|((kind, args), p)| *kind == p.kind && args.offset() == p.args.start);
             (!same).then(|| "the original has other parts".to_string())
         }
         (Err(error), Some(fault)) if refusal::of(&error) == fault => None,
@@ -68,12 +74,24 @@ fn checked(step: &StepFile, row: usize, parts: &[Part], fault: Option<Refusal>) 
 pub fn print(file: &[u8], scan: &Scan, step: &step::Step, wanted: &[bool; 15], out: &mut String) {
     for (i, h) in scan.header.iter().enumerate() {
         let _ = writeln!(out, "walk h {i}");
-        reader::walk(file, h.args.start as usize, h.args.end as usize, wanted, out);
+        reader::walk(
+            file,
+            h.args.start as usize,
+            h.args.end as usize,
+            wanted,
+            out,
+        );
     }
     for (i, r) in scan.records.iter().enumerate() {
         if !r.complex {
             let _ = writeln!(out, "walk r {i}");
-            reader::walk(file, r.args.start as usize, r.args.end as usize, wanted, out);
+            reader::walk(
+                file,
+                r.args.start as usize,
+                r.args.end as usize,
+                wanted,
+                out,
+            );
             continue;
         }
         let (parts, fault) = of(file, r);

@@ -56,7 +56,9 @@ fn call(reader: Reader, args: &mut Args<'_>) -> Result<Answer, StepError> {
         Reader::OptRef => args.next_opt_ref()?.map_or(Answer::Unset, Answer::Ref),
         Reader::I64 => Answer::Int(args.next_i64()?),
         Reader::F64 => Answer::Real(bits(args.next_f64()?)),
-        Reader::OptF64 => args.next_opt_f64()?.map_or(Answer::Unset, |x| Answer::Real(bits(x))),
+        Reader::OptF64 => args
+            .next_opt_f64()?
+            .map_or(Answer::Unset, |x| Answer::Real(bits(x))),
         Reader::Measure => Answer::Real(bits(args.next_measure_f64()?)),
         Reader::Enum => Answer::Name(args.next_enum()?.as_bytes().to_vec()),
         Reader::Bool => Answer::Truth(match args.next_bool()? {
@@ -106,9 +108,19 @@ pub fn tell(reader: Reader, file: &[u8], place: usize, end: usize) -> Told {
 }
 
 /// The same, and notes whether anything outside document 01's domain was met.
-pub fn tell_and_note(reader: Reader, file: &[u8], place: usize, end: usize, noted: &Cell<bool>) -> Told {
+pub fn tell_and_note(
+    reader: Reader,
+    file: &[u8],
+    place: usize,
+    end: usize,
+    noted: &Cell<bool>,
+) -> Told {
     let outside = Cell::new(false);
-    let (own_after, own) = Document { file, outside: &outside }.read(reader, place, end);
+    let (own_after, own) = Document {
+        file,
+        outside: &outside,
+    }
+    .read(reader, place, end);
     let mut args = Args::new(file, place as u32..end as u32);
     let Ok(original) = catch_unwind(AssertUnwindSafe(|| call(reader, &mut args))) else {
         return Told::Panicked;

@@ -2,7 +2,10 @@
 
 pub enum Reading {
     /// The digits of m without its leading zeros, and e.
-    Real { figures: String, e: i128 },
+    Real {
+        figures: String,
+        e: i128,
+    },
     NotReal,
 }
 

@@ -38,7 +38,9 @@ impl Step {
     /// The row that the original's lookup finds. The ids asked for are the records', 0, 1 and such as lie past the largest: the
     /// new ids are none of these.
     pub fn row(&self, id: u32) -> Option<usize> {
-        let found = self.file.get(self.renamed.get(&id).copied().unwrap_or(id))?;
+        let found = self
+            .file
+            .get(self.renamed.get(&id).copied().unwrap_or(id))?;
         let base = self.file.entities().as_ptr() as usize;
         Some((std::ptr::from_ref(found) as usize - base) / size_of::<Entity>())
     }
@@ -47,11 +49,14 @@ impl Step {
 /// The digits after the next `#` from `i` on, and their value.
 fn next_id(bytes: &[u8], i: usize) -> Option<(Range<usize>, Option<u32>)> {
     let start = i + bytes[i..].iter().position(|&b| b == b'#')? + 1;
-    let length = bytes[start..].iter().take_while(|b| b.is_ascii_digit()).count();
-    let digits = start..start + length;
-    let value = bytes[digits.clone()]
+    let length = bytes[start..]
         .iter()
-        .try_fold(0u32, |n, b| n.checked_mul(10)?.checked_add(u32::from(b - b'0')));
+        .take_while(|b| b.is_ascii_digit())
+        .count();
+    let digits = start..start + length;
+    let value = bytes[digits.clone()].iter().try_fold(0u32, |n, b| {
+        n.checked_mul(10)?.checked_add(u32::from(b - b'0'))
+    });
     Some((digits, value))
 }
 
@@ -66,7 +71,12 @@ fn new_ids(scanned: &Scan, bytes: &[u8]) -> HashMap<u32, u32> {
     while (limit as usize) < 2 * used.len() {
         limit *= 10;
     }
-    let large: BTreeSet<u32> = scanned.records.iter().map(|r| r.id).filter(|id| *id >= limit).collect();
+    let large: BTreeSet<u32> = scanned
+        .records
+        .iter()
+        .map(|r| r.id)
+        .filter(|id| *id >= limit)
+        .collect();
     let free = (0..limit).filter(|id| !used.contains(id));
     large.into_iter().zip(free).collect()
 }
@@ -87,12 +97,20 @@ fn same_rows(old: &Scan, bytes: &[u8], renamed: &HashMap<u32, u32>) -> Result<()
     let new = scan(bytes).map_err(|error| error.to_string())?;
     let same = old.header.len() == new.header.len()
         && old.records.len() == new.records.len()
-        && old.header.iter().zip(&new.header).all(|(a, b)| a.keyword == b.keyword && a.args == b.args)
+        && old
+            .header
+            .iter()
+            .zip(&new.header)
+            .all(|(a, b)| a.keyword == b.keyword && a.args == b.args)
         && old.records.iter().zip(&new.records).all(|(a, b)| {
             renamed.get(&a.id).copied().unwrap_or(a.id) == b.id
                 && a.keyword == b.keyword
                 && a.args == b.args
                 && a.complex == b.complex
         });
-    if same { Ok(()) } else { Err("the new ids changed the rows".to_string()) }
+    if same {
+        Ok(())
+    } else {
+        Err("the new ids changed the rows".to_string())
+    }
 }

@@ -1,10 +1,11 @@
-//! What document 01 says of a string's text, written from its words and not from the original's code.
+//! What document 01 says of a string's text; where it is silent, what the original settles.
 
 use std::cell::Cell;
 
 /// The value of hex digits in either case, or none.
 fn hex(s: &[u8]) -> Option<u32> {
-    s.iter().try_fold(0u32, |n, &b| Some(n << 4 | char::from(b).to_digit(16)?))
+    s.iter()
+        .try_fold(0u32, |n, &b| Some(n << 4 | char::from(b).to_digit(16)?))
 }
 
 /// A code's character; U+FFFD for surrogates and codes above 10FFFF.
@@ -92,7 +93,9 @@ fn groups(s: &[u8], width: usize, out: &mut String, outside: &Cell<bool>) -> Opt
             let second = hex(s.get(i..i + 4)?)?;
             i += 4;
             if (0xDC00..=0xDFFF).contains(&second) {
-                out.push(character(0x10000 + ((code - 0xD800) << 10 | (second - 0xDC00))));
+                out.push(character(
+                    0x10000 + ((code - 0xD800) << 10 | (second - 0xDC00)),
+                ));
             } else {
                 outside.set(true);
                 out.push('\u{FFFD}');

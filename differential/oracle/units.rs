@@ -126,7 +126,10 @@ impl Way<'_> {
                 continue;
             };
             let role = self.parts(unit)?.iter().map(|p| p.kind).find(|kind| {
-                matches!(kind, Kind::LengthUnit | Kind::PlaneAngleUnit | Kind::SolidAngleUnit)
+                matches!(
+                    kind,
+                    Kind::LengthUnit | Kind::PlaneAngleUnit | Kind::SolidAngleUnit
+                )
             });
             match role {
                 Some(Kind::LengthUnit) => length = self.length(unit, 0)?.or(length),
@@ -162,7 +165,12 @@ impl Way<'_> {
             return None;
         }
         let prefix = prefix.unwrap_or_default().to_ascii_uppercase();
-        Some(PREFIXES.iter().find(|(p, _)| p.as_bytes() == prefix).map_or(1.0, |(_, factor)| *factor))
+        Some(
+            PREFIXES
+                .iter()
+                .find(|(p, _)| p.as_bytes() == prefix)
+                .map_or(1.0, |(_, factor)| *factor),
+        )
     }
 
     /// The measure that a conversion part leads to.
@@ -216,7 +224,12 @@ impl Way<'_> {
             e = base;
         };
         // The last value was multiplied first.
-        Ok(base.map(|factor| values.iter().rev().fold(factor, |factor, value| value * factor)))
+        Ok(base.map(|factor| {
+            values
+                .iter()
+                .rev()
+                .fold(factor, |factor, value| value * factor)
+        }))
     }
 
     fn angle(&self, unit: &RecordSpan) -> Result<Option<f64>, Refusal> {
@@ -289,7 +302,14 @@ pub fn print(file: &[u8], scan: &Scan, step: &Step, out: &mut String) {
         return;
     };
     let told = told
-        .map(|u| (bits(u.length_to_mm), bits(u.angle_to_rad), bits(u.uncertainty), u.resolved))
+        .map(|u| {
+            (
+                bits(u.length_to_mm),
+                bits(u.angle_to_rad),
+                bits(u.uncertainty),
+                u.resolved,
+            )
+        })
         .map_err(|error| refusal::of(&error));
     put(out, &told);
     if told != own {
