@@ -35,7 +35,7 @@ pub fn is_space(b: u8) -> bool
 }
 
 // Whether a byte that is read in this mode stands outside strings and comments.
-fn is_calm(m: Mode, b: u8) -> bool
+pub fn is_calm(m: Mode, b: u8) -> bool
     ensures { λ r. ⌜ r ≡ calm m b ⌝ }
 {
     match m {
@@ -69,7 +69,7 @@ fn either(test: bool, yes: Mode, other: Mode) -> Mode
 }
 
 // The mode after the byte b.
-fn next_mode(m: Mode, b: u8) -> Mode
+pub fn next_mode(m: Mode, b: u8) -> Mode
     ensures { λ r. ⌜ r ≡ next m b ⌝ }
 {
     match m {
@@ -87,7 +87,7 @@ fn next_mode(m: Mode, b: u8) -> Mode
 }
 
 // A start, or the file's end where the start lies past it.
-fn within(start: usize, n: usize) -> usize
+pub fn within(start: usize, n: usize) -> usize
     ensures { λ r. ⌜ r ≡ min start n ⌝ }
 {
     if start < n { start } else { n }

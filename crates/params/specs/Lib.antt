@@ -1,0 +1,5 @@
+pub mod Grammar
+pub mod Cut
+pub mod Seek
+pub mod Reader
+pub mod ReaderLaws

@@ -1,0 +1,136 @@
+-- What the code's parts promise, put together to the answers of Reader.antt. Assumes nothing.
+use Prim.Native.Nat.{ℕ, zero, suc, _+_, _-_, _≤_, _<_, min}
+use mathlib.Core.Path.{_≡_, refl, sym, _∙_, ap}
+use mathlib.Core.Bool.{Bool, true, false, _&&_}
+use mathlib.Core.List.{List, [], _∷_}
+use native.Mathlib.Omega.{arith}
+use native.Mathlib.Decide.{decLe}
+use borrow.Author.Tests.{leb-true, eq-eqb, ne-eqb}
+use lib.Dec.{eqb, leb}
+use lib.ListN.{length, take, drop, getD}
+use lib.Seq.{length-take-le}
+use Rattle.error.specs.Refusal.{Refusal, refusal, Told, good, bad}
+use Rattle.lex.specs.Byte.{pick, place, place-drop}
+use Rattle.lex.specs.Walk.{split, drop-end}
+use Rattle.lex.specs.Search.{Sought, at, fault, trivia, placed}
+use Rattle.lex.specs.At.{trivia-at}
+use Rattle.params.specs.Cut.{Cut, cut, unclosed, cutOf, runsOut, started, eaten}
+use Rattle.params.specs.Seek.{endedAt, EndedIn}
+use Rattle.params.specs.Reader.{Read, reading, Span, span, inFile, within, bounded, begun, paramOf, emptied, emptyOf, skipOf, andThen, skipFrom, skipsOf}
+use Rattle.params.specs.declared.Ended.{Ended}
+use Rattle.params.specs.declared.Ended.the-variants.{At, Open}
+
+-- both of two tests
+and-true : (a b : Bool) → a && b ≡ true → (a ≡ true) × (b ≡ true)
+and-true true true h = (refl, refl)
+and-true true false h = (refl, h)
+and-true false true h = (h, refl)
+and-true false false h = (h, h)
+
+-- a place and an end in a file of n bytes
+pub in-true : (n p e : ℕ) → inFile n p e ≡ true → (p ≤ e) × (e ≤ n)
+in-true n p e h = let (a, b) = and-true (leb p e) (leb e n) h in (leb-true p e a, leb-true e n b)
+
+-- where the trivia end
+pub started-at : (xs : List ℕ) (i p : ℕ) → i ≤ length xs → good p ≡ placed xs (trivia (drop i xs)) → (drop p xs ≡ started (drop i xs)) × (i ≤ p) × (p ≤ length xs)
+unfolding started
+started-at xs i p h e = let (a, b, c) = trivia-at xs i p h e in (sym (ap runsOut a), b, c)
+
+-- "an open comment runs to the end"
+pub started-open : (xs : List ℕ) (i : ℕ) (q : Refusal) → bad q ≡ placed xs (trivia (drop i xs)) → drop (length xs) xs ≡ started (drop i xs)
+unfolding started
+started-open xs i q = go (trivia (drop i xs))
+  where
+    go : (x : Sought) → bad q ≡ placed xs x → drop (length xs) xs ≡ runsOut x
+    go (at r) e = let z : _≡_ {A = ℕ} 0 1 = cc in absurd (omega arith)
+    go (fault n o) e = drop-end xs (length xs) (omega arith)
+
+module _ (s : List ℕ) (p e : ℕ) (inside : inFile (length s) p e ≡ true) (start : ℕ) (begins : drop start (take e s) ≡ started (drop p (take e s))) (short : start ≤ e) where
+  -- the bytes up to the reader's end
+  total : length (take e s) ≡ e
+  total = length-take-le e s (in-true (length s) p e inside .1)
+
+  -- a place among them
+  there : (k : ℕ) → k ≤ e → place (take e s) (drop k (take e s)) ≡ k
+  there k h = place-drop (take e s) k (omega (arith, total))
+
+  -- past the comma or at the end
+  comma : (k : ℕ) → k ≤ e → place (take e s) (eaten (drop k (take e s))) ≡ min (k + 1) e
+  comma k h = go (decLe e k)
+    where
+      go : Dec (e ≤ k) → place (take e s) (eaten (drop k (take e s))) ≡ min (k + 1) e
+      go (yes l) = rw (drop-end (take e s) k (omega (arith, total))) (omega (arith, total))
+      go (no l) = rw (split (take e s) k (omega (arith, total))) (there (k + 1) (omega arith) ∙ omega arith)
+
+  -- whether no parameter is left
+  pub empty-told : reading (good (eqb start e)) start e ≡ emptyOf s p e
+  unfolding emptyOf
+  empty-told = rw (inside, ← begins) (go (decLe e start))
+    where
+      go : Dec (e ≤ start) → reading (good (eqb start e)) start e ≡ emptied (take e s) e (drop start (take e s))
+      go (yes l) =
+          let q : start ≡ e = omega arith in
+          let r : place (take e s) [] ≡ start = omega (arith, total) in
+          rw (drop-end (take e s) start (omega (arith, total)), eq-eqb start e q) (ap (λ (k : ℕ). reading (good true) k e) (sym r))
+      go (no l) =
+          let q : start ≡ e → ⊥ = λ h. l (omega arith) in
+          let t : place (take e s) (getD (take e s) start 0 ∷ drop (start + 1) (take e s)) ≡ start = ap (place (take e s)) (sym (split (take e s) start (omega (arith, total)))) ∙ there start short in
+          rw (split (take e s) start (omega (arith, total)), ne-eqb start e q) (ap (λ (k : ℕ). reading (good false) k e) (sym t))
+
+  -- "At the end there is none (10)"
+  pub param-none : start ≡ e → reading (bad (refusal 10 0 e)) e e ≡ paramOf s p e
+  unfolding paramOf
+  param-none h =
+      let r : place (take e s) [] ≡ e = omega (arith, total) in
+      rw (inside, ← begins, drop-end (take e s) start (omega (arith, total))) (ap (λ (k : ℕ). reading (bad (refusal 10 0 k)) k e) (sym r))
+
+  -- a parameter, by its end
+  begun-at : start < e → bounded (take e s) e (drop start (take e s)) (cutOf (drop start (take e s))) ≡ begun (take e s) e (drop start (take e s))
+  begun-at h = rw (split (take e s) start (omega (arith, total))) refl
+
+  -- a parameter is cut
+  pub param-cut : start < e → (z b : ℕ) → z ≤ e → b ≤ e → cut (drop z (take e s)) (drop b (take e s)) ≡ cutOf (drop start (take e s))
+      → reading (good (span start z)) (min (b + 1) e) e ≡ paramOf s p e
+  unfolding paramOf
+  param-cut h z b hz hb k =
+      rw (inside, ← begins)
+      (ap (λ (i : ℕ). reading (good (span i z)) (min (b + 1) e) e) (sym (there start short))
+      ∙ ap (λ (i : ℕ). reading (good (span (place (take e s) (drop start (take e s))) i)) (min (b + 1) e) e) (sym (there z hz))
+      ∙ ap (λ (i : ℕ). reading (good (span (place (take e s) (drop start (take e s))) (place (take e s) (drop z (take e s))))) i e) (sym (comma b hb))
+      ∙ ap (bounded (take e s) e (drop start (take e s))) k
+      ∙ begun-at h)
+
+  -- refusal 11
+  pub param-open : start < e → (q : ℕ) → q ≤ e → unclosed (drop q (take e s)) ≡ cutOf (drop start (take e s))
+      → reading (bad (refusal 11 0 q)) start e ≡ paramOf s p e
+  unfolding paramOf
+  param-open h q hq k =
+      rw (inside, ← begins)
+      (ap (λ (i : ℕ). reading (bad (refusal 11 0 i)) start e) (sym (there q hq))
+      ∙ ap (λ (i : ℕ). reading (bad (refusal 11 0 (place (take e s) (drop q (take e s))))) i e) (sym (there start short))
+      ∙ ap (bounded (take e s) e (drop start (take e s))) k
+      ∙ begun-at h)
+
+-- what the first of n parameters does to them: its refusal is the answer
+pub skip-stops : (n : ℕ) (s : List ℕ) (p e : ℕ) (q : Refusal) (p′ e′ : ℕ) → 0 < n → reading (bad q) p′ e′ ≡ skipOf s p e → reading (bad q) p′ e′ ≡ skipFrom n s p e
+unfolding skipFrom
+skip-stops zero s p e q p′ e′ h k = absurd (omega arith)
+skip-stops (suc n) s p e q p′ e′ h k = ap (λ (r : Read (Unit {0})). andThen (r .answer) (r .place) (r .end) (λ q f. skipFrom n s q f)) k
+
+-- or the others follow
+pub skip-goes : (n : ℕ) (s : List ℕ) (p e p′ e′ : ℕ) → 0 < n → reading (good tt) p′ e′ ≡ skipOf s p e → skipFrom (n - 1) s p′ e′ ≡ skipFrom n s p e
+unfolding skipFrom
+skip-goes zero s p e p′ e′ h k = absurd (omega arith)
+skip-goes (suc n) s p e p′ e′ h k =
+    let m : suc n - 1 ≡ n = omega arith in
+    ap (λ (i : ℕ). skipFrom i s p′ e′) m ∙ ap (λ (r : Read (Unit {0})). andThen (r .answer) (r .place) (r .end) (λ q f. skipFrom n s q f)) k
+
+-- none is left
+pub skip-ends : (n : ℕ) (s : List ℕ) (p e : ℕ) → n ≡ 0 → reading (good tt) p e ≡ skipFrom n s p e
+unfolding skipFrom
+skip-ends n s p e h = rw h refl
+
+-- for a place and an end in the file
+pub skips-in : (n : ℕ) (s : List ℕ) (p e : ℕ) → inFile (length s) p e ≡ true → skipFrom n s p e ≡ skipsOf n s p e
+unfolding skipsOf
+skips-in n s p e h = rw h refl
