@@ -34,8 +34,8 @@ past-any o p [] = refl
 past-any o p (c ∷ r) = refl
 
 -- in a comment the search past trivia is deaf
-trivia-deaf : Deaf triviaTurn triviaEnd 0
-trivia-deaf = record { quiet = λ m o c r h. rw h; remark = λ o. refl; starred = λ o. refl }
+trivia-deaf : (o : List ℕ) → Deaf triviaTurn triviaEnd (λ m. seen m 0 o)
+trivia-deaf o = record { quiet = λ m c r h. rw h; starred = refl }
 
 -- whitespace is passed over
 blank-step : (c : ℕ) (t : List ℕ) → white c ≡ true → trivia (c ∷ t) ≡ trivia t
@@ -50,7 +50,7 @@ past-start t = refl
 -- a comment that ends
 past-shut : (o b r : List ℕ) → Remarked b → past Remark o (b ++ (42 ∷ 47 ∷ r)) ≡ trivia r
 unfolding trivia
-past-shut o b r h = remark-shut triviaTurn triviaEnd 0 trivia-deaf o b r h ∙ past-any o r r
+past-shut o b r h = remark-shut triviaTurn triviaEnd (λ m. seen m 0 o) (trivia-deaf o) b r h ∙ past-any o r r
 
 -- trivia is passed over
 trivia-step : {xs ys : List ℕ} → Trivia xs ys → trivia xs ≡ trivia ys
@@ -82,7 +82,7 @@ trivia-only {ys} l = trivia-step (l .before) ∙ led-stops ys (l .unblank) (l .u
 -- refusal 3, "comment open", at the comment's slash
 pub trivia-open-only : {xs o : List ℕ} → Trivia xs o → OpenRemark o → trivia xs ≡ fault 3 o
 trivia-open-only r q = let (t, e, h) = open-remark q in
-    trivia-step r ∙ rw e (past-start t ∙ remark-open triviaTurn triviaEnd 0 trivia-deaf (47 ∷ 42 ∷ t) t h)
+    trivia-step r ∙ rw e (past-start t ∙ remark-open triviaTurn triviaEnd (λ m. seen m 0 (47 ∷ 42 ∷ t)) (trivia-deaf (47 ∷ 42 ∷ t)) t h)
 
 -- what becomes of the search past trivia: a byte that is none, or a comment that never ends
 abbrev Leads : List ℕ → Type 0

@@ -3,3 +3,4 @@ pub mod Cut
 pub mod Seek
 pub mod Reader
 pub mod ReaderLaws
+pub mod Right

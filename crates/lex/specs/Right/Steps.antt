@@ -36,41 +36,58 @@ pub pair-swap : (c : ℕ) (b x y : List ℕ) → Pair 42 47 (c ∷ (b ++ (42 ∷
 pair-swap c [] x y (r, e) = absurd (eqb-false 42 47 refl (cc))
 pair-swap c (a ∷ b) x y (r, e) = (b ++ (42 ∷ y), cc)
 
--- in a comment a search is deaf: it goes on with the same state but for the mode, and refuses at the file's end
-pub record Deaf (t : Seen → ℕ → List ℕ → Turn Seen Sought) (z : Seen → Sought) (d : ℕ) : Type 0 where
-  pub quiet : (m : Mode) (o : List ℕ) (c : ℕ) (r : List ℕ) → calm m c ≡ false → t (seen m d o) c r ≡ on (seen (next m c) d o)
-  pub remark : (o : List ℕ) → z (seen Remark d o) ≡ fault 3 o
-  pub starred : (o : List ℕ) → z (seen Starred d o) ≡ fault 3 o
+-- in strings and comments a search is deaf: only its mode moves, and where the bytes end a star in a comment is no matter.
+-- st is its state by the mode
+pub record Deaf {S A : Type 0} (t : S → ℕ → List ℕ → Turn S A) (z : S → A) (st : Mode → S) : Type 0 where
+  pub quiet : (m : Mode) (c : ℕ) (r : List ℕ) → calm m c ≡ false → t (st m) c r ≡ on (st (next m c))
+  pub starred : z (st Starred) ≡ z (st Remark)
 
-module _ (t : Seen → ℕ → List ℕ → Turn Seen Sought) (z : Seen → Sought) (d : ℕ) (deaf : Deaf t z d) (o : List ℕ) where
+module _ {S A : Type 0} (t : S → ℕ → List ℕ → Turn S A) (z : S → A) (st : Mode → S) (deaf : Deaf t z st) where
   -- a star that no slash follows
-  unstarred : (xs : List ℕ) → (Begins 47 xs → ⊥) → walk t z (seen Starred d o) xs ≡ walk t z (seen Remark d o) xs
+  unstarred : (xs : List ℕ) → (Begins 47 xs → ⊥) → walk t z (st Starred) xs ≡ walk t z (st Remark) xs
   unfolding walk
-  unstarred [] h = deaf .starred o ∙ sym (deaf .remark o)
-  unstarred (c ∷ r) h = rw (deaf .quiet Starred o c r refl, deaf .quiet Remark o c r refl, ne-eqb c 47 (λ e. h (r, cc)))
+  unstarred [] h = deaf .starred
+  unstarred (c ∷ r) h = rw (deaf .quiet Starred c r refl, deaf .quiet Remark c r refl, ne-eqb c 47 (λ e. h (r, cc)))
 
   -- a byte in a comment at which no `*/` begins
-  remark-step : (c : ℕ) (xs : List ℕ) → (Pair 42 47 (c ∷ xs) → ⊥) → walk t z (seen Remark d o) (c ∷ xs) ≡ walk t z (seen Remark d o) xs
+  remark-step : (c : ℕ) (xs : List ℕ) → (Pair 42 47 (c ∷ xs) → ⊥) → walk t z (st Remark) (c ∷ xs) ≡ walk t z (st Remark) xs
   unfolding walk
   remark-step c xs h = go (eqb c 42) refl
     where
-      go : (k : Bool) → eqb c 42 ≡ k → walk t z (seen Remark d o) (c ∷ xs) ≡ walk t z (seen Remark d o) xs
-      go true e = rw (deaf .quiet Remark o c xs refl, e) (unstarred xs (λ (r, g). h (r, cc (eqb-true c 42 e))))
-      go false e = rw (deaf .quiet Remark o c xs refl, e)
+      go : (k : Bool) → eqb c 42 ≡ k → walk t z (st Remark) (c ∷ xs) ≡ walk t z (st Remark) xs
+      go true e = rw (deaf .quiet Remark c xs refl, e) (unstarred xs (λ (r, g). h (r, cc (eqb-true c 42 e))))
+      go false e = rw (deaf .quiet Remark c xs refl, e)
 
   -- a comment that ends
-  pub remark-shut : (b r : List ℕ) → Remarked b → walk t z (seen Remark d o) (b ++ (42 ∷ 47 ∷ r)) ≡ walk t z (seen Plain d o) r
+  pub remark-shut : (b r : List ℕ) → Remarked b → walk t z (st Remark) (b ++ (42 ∷ 47 ∷ r)) ≡ walk t z (st Plain) r
   unfolding walk
-  remark-shut [] r h = rw (deaf .quiet Remark o 42 (47 ∷ r) refl, deaf .quiet Starred o 47 r refl)
+  remark-shut [] r h = rw (deaf .quiet Remark 42 (47 ∷ r) refl, deaf .quiet Starred 47 r refl)
   remark-shut (c ∷ b) r h =
       remark-step c (b ++ (42 ∷ 47 ∷ r)) (λ p. let (v, e) = pair-swap c b (47 ∷ r) [] p in h [] v e)
       ∙ remark-shut b r (starless-tail c (b ++ (42 ∷ [])) h)
 
   -- a comment that never ends
-  pub remark-open : (xs : List ℕ) → Starless xs → walk t z (seen Remark d o) xs ≡ fault 3 o
+  pub remark-open : (xs : List ℕ) → Starless xs → walk t z (st Remark) xs ≡ z (st Remark)
   unfolding walk
-  remark-open [] h = deaf .remark o
+  remark-open [] h = refl
   remark-open (c ∷ xs) h = remark-step c xs (λ (v, e). h [] v e) ∙ remark-open xs (starless-tail c xs h)
+
+  -- the inside of a string
+  pub inside-step : (ys : List ℕ) {b : List ℕ} → Inside b → walk t z (st Text) (b ++ ys) ≡ walk t z (st Text) ys
+  unfolding walk
+  inside-step ys Inside.none = refl
+  inside-step ys (Inside.other {c} {b} h i) = rw (deaf .quiet Text c (b ++ ys) refl, ne-eqb c 39 h) (inside-step ys i)
+  inside-step ys (Inside.doubled {b} i) = rw (deaf .quiet Text 39 (39 ∷ (b ++ ys)) refl, deaf .quiet Quoted 39 (b ++ ys) refl) (inside-step ys i)
+
+  -- a string up to the quote that ends it
+  pub text-ends : (r : List ℕ) {b : List ℕ} → Inside b → walk t z (st Text) (b ++ (39 ∷ r)) ≡ walk t z (st Quoted) r
+  unfolding walk
+  text-ends r i = inside-step (39 ∷ r) i ∙ rw (deaf .quiet Text 39 r refl) refl
+
+  -- a string that never ends
+  pub text-over : {b : List ℕ} → Inside b → walk t z (st Text) b ≡ z (st Text)
+  unfolding walk
+  text-over {b} i = rw (append-nil b) at (inside-step [] i)
 
 -- a search passes over strings and comments: neither the quote that opens one nor the slash changes its depth
 pub record Passing (f : ℕ → ℕ → Look) : Type 0 where
@@ -100,26 +117,18 @@ module _ (f : ℕ → ℕ → Look) (n : ℕ) (w : List ℕ) where
   unquoted d o p [] h = refl
   unquoted d o p (c ∷ r) h = rw (ne-eqb c 39 (λ e. h (r, cc)))
 
-  -- the inside of a string
-  inside-step : (d : ℕ) (o ys : List ℕ) {b : List ℕ} → Inside b → seek f (missed n w) Text d o (b ++ ys) ≡ seek f (missed n w) Text d o ys
-  unfolding walk
-  inside-step d o ys Inside.none = refl
-  inside-step d o ys (Inside.other {c} h i) = rw (ne-eqb c 39 h) (inside-step d o ys i)
-  inside-step d o ys (Inside.doubled i) = inside-step d o ys i
+  -- in strings and comments a search is deaf
+  seek-deaf : (d : ℕ) (o : List ℕ) → Deaf (seekTurn f) (missed n w) (λ m. seen m d o)
+  seek-deaf d o = record { quiet = λ m c r h. rw h; starred = refl }
 
   -- a string that ends
   pub text-shut : (d : ℕ) (o p r : List ℕ) {b : List ℕ} → Inside b → (Begins 39 r → ⊥)
       → seek f (missed n w) Text d o (b ++ (39 ∷ r)) ≡ seek f (missed n w) Plain d p r
-  text-shut d o p r i h = inside-step d o (39 ∷ r) i ∙ seek-within f (missed n w) Text d o 39 r refl ∙ unquoted d o p r h
+  text-shut d o p r i h = text-ends (seekTurn f) (missed n w) (λ m. seen m d o) (seek-deaf d o) r i ∙ unquoted d o p r h
 
   -- a string that never ends
   pub text-open : (d : ℕ) (o : List ℕ) {b : List ℕ} → Inside b → seek f (missed n w) Text d o b ≡ fault 4 o
-  unfolding walk
-  text-open d o {b} i = rw (append-nil b) at (inside-step d o [] i)
-
-  -- in a comment a search is deaf
-  seek-deaf : (d : ℕ) → Deaf (seekTurn f) (missed n w) d
-  seek-deaf d = record { quiet = λ m o c r h. rw h; remark = λ o. refl; starred = λ o. refl }
+  text-open d o i = text-over (seekTurn f) (missed n w) (λ m. seen m d o) (seek-deaf d o) i
 
   -- a byte that opens no string and no comment
   pub byte-step : (d e c : ℕ) (t : List ℕ) → (c ≡ 39 → ⊥) → (Opens (c ∷ t) → ⊥) → f d c ≡ look e
@@ -146,8 +155,8 @@ module _ (f : ℕ → ℕ → Look) (n : ℕ) (w : List ℕ) where
 
     -- a whole comment
     pub comment-step : {xs zs : List ℕ} → Comment xs zs → plainly f n w d xs ≡ plainly f n w d zs
-    comment-step {zs} q = rw (q .shape) (remark-start (q .body ++ (42 ∷ 47 ∷ zs))
-        ∙ remark-shut (seekTurn f) (missed n w) d (seek-deaf d) _ (q .body) zs (q .first) ∙ unopened d _ zs zs)
+    comment-step {zs} q = let xs₀ : List ℕ = 47 ∷ 42 ∷ (q .body ++ (42 ∷ 47 ∷ zs)) in rw (q .shape) (remark-start (q .body ++ (42 ∷ 47 ∷ zs))
+        ∙ remark-shut (seekTurn f) (missed n w) (λ m. seen m d xs₀) (seek-deaf d xs₀) (q .body) zs (q .first) ∙ unopened d _ zs zs)
 
     -- a string that never ends
     pub text-stuck : (t : List ℕ) → Inside t → plainly f n w d (39 ∷ t) ≡ fault 4 (39 ∷ t)
@@ -155,4 +164,4 @@ module _ (f : ℕ → ℕ → Look) (n : ℕ) (w : List ℕ) where
 
     -- a comment that never ends
     pub remark-stuck : (t : List ℕ) → Starless t → plainly f n w d (47 ∷ 42 ∷ t) ≡ fault 3 (47 ∷ 42 ∷ t)
-    remark-stuck t h = remark-start t ∙ remark-open (seekTurn f) (missed n w) d (seek-deaf d) (47 ∷ 42 ∷ t) t h
+    remark-stuck t h = remark-start t ∙ remark-open (seekTurn f) (missed n w) (λ m. seen m d (47 ∷ 42 ∷ t)) (seek-deaf d (47 ∷ 42 ∷ t)) t h

@@ -136,11 +136,11 @@ pub data Reads : List ℕ → Type 0 where
   remark : {xs : List ℕ} → OpenRemark xs → Reads xs
 
 -- what follows a string is shorter than what begins with it
-quotation-shorter : {xs r : List ℕ} → Quotation xs r → length r < length xs
+pub quotation-shorter : {xs r : List ℕ} → Quotation xs r → length r < length xs
 quotation-shorter q = omega (arith, simp length-append at (ap length (q .shape)))
 
 -- what follows a comment is shorter than what begins with it
-comment-shorter : {xs r : List ℕ} → Comment xs r → length r < length xs
+pub comment-shorter : {xs r : List ℕ} → Comment xs r → length r < length xs
 comment-shorter q = omega (arith, simp length-append at (ap length (q .shape)))
 
 -- every list of at most n bytes
