@@ -1,6 +1,6 @@
 -- What the code's parts promise, put together to the answers of Reader.antt. Assumes nothing.
 use Prim.Native.Nat.{ℕ, zero, suc, _+_, _-_, _≤_, _<_, min}
-use mathlib.Core.Path.{_≡_, refl, sym, _∙_, ap}
+use mathlib.Core.Path.{_≡_, refl, sym, _∙_, ap, subst}
 use mathlib.Core.Bool.{Bool, true, false, _&&_}
 use mathlib.Core.List.{List, [], _∷_}
 use native.Mathlib.Omega.{arith}
@@ -16,7 +16,9 @@ use Rattle.lex.specs.Search.{Sought, at, fault, trivia, placed}
 use Rattle.lex.specs.At.{trivia-at}
 use Rattle.params.specs.Cut.{Cut, cut, unclosed, cutOf, runsOut, started, eaten}
 use Rattle.params.specs.Seek.{endedAt, EndedIn}
-use Rattle.params.specs.Reader.{Read, reading, Span, span, inFile, within, bounded, begun, paramOf, emptied, emptyOf, skipOf, andThen, skipFrom, skipsOf}
+use Rattle.params.specs.Reader.{Read, reading, Span, span, inFile, within, bounded, begun, paramOf, CutIn, emptied, emptyOf, skipOf, andThen, skipFrom, skipsOf}
+use Rattle.params.specs.declared.State.{State}
+use Rattle.params.specs.declared.Cut as Code
 use Rattle.params.specs.declared.Ended.{Ended}
 use Rattle.params.specs.declared.Ended.the-variants.{At, Open}
 
@@ -134,3 +136,7 @@ skip-ends n s p e h = rw h refl
 pub skips-in : (n : ℕ) (s : List ℕ) (p e : ℕ) → inFile (length s) p e ≡ true → skipFrom n s p e ≡ skipsOf n s p e
 unfolding skipsOf
 skips-in n s p e h = rw h refl
+
+-- where a parameter lies that is cut
+pub cut-places : (n : ℕ) (r : Code.Cut) (a z : ℕ) (t : State) → CutIn n r → r ≡ Code.the-variants.Span a z t → (a ≤ z) × (z ≤ n)
+cut-places n r a z t h e = subst (CutIn n) e h

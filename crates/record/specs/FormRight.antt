@@ -119,7 +119,7 @@ keyword-none xs h = go (keyword-comes xs)
     go (inr f) = f
 
 -- the whitespace at the end, where it is given
-trail-only : (t z : List ℕ) → NotLast white t → All white z → trail (t ++ z) ≡ z
+pub trail-only : (t z : List ℕ) → NotLast white t → All white z → trail (t ++ z) ≡ z
 unfolding trail walk
 trail-only t z l a = rw (append-nil z) at (word-pass trailTurn (λ e. e) (λ c. true) (λ c h e r. refl) t z [] (all-any t) l (all-any z) a)
 

@@ -68,7 +68,7 @@ span p (c ∷ xs) = go (p c) refl (span p xs)
     go false h s = ([], c ∷ xs, refl, record { all = tt; over = first-other p c xs h })
 
 -- an empty list has no last byte; a list that does not end so, with one byte more or less before it
-last-none : (p : ℕ → Bool) → NotLast p []
+pub last-none : (p : ℕ → Bool) → NotLast p []
 last-none p [] c e = clash (cc)
 last-none p (b ∷ r) c e = clash (cc)
 

@@ -1,0 +1,307 @@
+// The argument reader's scalars: references, integers, reals, measures and booleans.
+//
+// As the readers `next_..` of the Rust's value.rs that give one value. Each cuts the next parameter and reads its bytes; a parameter
+// that is none of its kind is passed all the same, and the refusal stands at its start.
+ghost use mathlib.Core.Path.{_≡_};
+ghost use mathlib.Core.Bool.{true, false, not};
+ghost use Prim.Native.Nat.{_+_, _-_, _≤_, _<_};
+ghost use lib.ListN.{length, take, drop};
+ghost use lib.Dec.{eqb};
+ghost use Rattle.lex.specs.Byte.{white};
+ghost use Rattle.record.specs.Text.{past, trail};
+ghost use Rattle.record.specs.Word.{trimmed};
+ghost use Rattle.reals.specs.Scalar.{toldReference, referenceOf, toldWhole, wholeOf, toldReal, realOf};
+ghost use Rattle.params.specs.Reader.{reading};
+ghost use Rattle.scalars.specs.Scalars.{unopening, InnerAt, measureOf, isUnset, optionOf, answered, nextOf, toldTruth, truthOf, toldNextRef, toldNextOptRef, toldNextWhole, toldNextReal, toldNextOptReal, toldNextTruth, asGiven};
+use error::Fault;
+use params::Cut;
+use params::State;
+use reals::Real;
+use reals::Reference;
+use reals::Whole;
+
+// A part of a text, from start up to stop.
+pub struct Part {
+    pub start: usize,
+    pub stop: usize,
+}
+
+pub enum NextRef {
+    Value(u32, State),
+    Refused(Fault, State),
+}
+
+pub enum NextOptRef {
+    Value(u32, State),
+    Unset(State),
+    Refused(Fault, State),
+}
+
+pub enum NextWhole {
+    Value(i64, State),
+    Refused(Fault, State),
+}
+
+pub enum NextReal {
+    Value(f64, State),
+    Refused(Fault, State),
+}
+
+pub enum NextOptReal {
+    Value(f64, State),
+    Unset(State),
+    Refused(Fault, State),
+}
+
+// `.T.`, `.F.` and `.U.`, or 12.
+enum Truth {
+    True,
+    False,
+    Unknown,
+    NotTruth,
+}
+
+pub enum NextTruth {
+    True(State),
+    False(State),
+    Unknown(State),
+    Refused(Fault, State),
+}
+
+// The place after the last byte from `from` on that is not white, or `from`. From the end, since most texts end in no whitespace.
+fn trail_from(b: &[u8], from: usize) -> usize
+    requires { ⌜ from ≤ length (now b) ⌝ }
+    ensures { λ r. ⌜ drop r (now (b .entry)) ≡ trail (drop from (now (b .entry))) ⌝ }
+    ensures { λ r. ⌜ (from ≤ r) × (r ≤ length (now (b .entry))) ⌝ }
+{
+    let mut e = b.len();
+    while from < e {
+        if !lex::is_space(b[e - 1]) {
+            return e;
+        }
+        e -= 1;
+    }
+    e
+}
+
+// What is left of a text without the whitespace at its ends.
+pub fn trim(b: &[u8]) -> Part
+    ensures { λ r. ⌜ drop (r .start) (now (b .entry)) ≡ past white (now (b .entry)) ⌝ }
+    ensures { λ r. ⌜ take (r .stop - r .start) (drop (r .start) (now (b .entry))) ≡ trimmed (now (b .entry)) ⌝ }
+    ensures { λ r. ⌜ (r .start ≤ r .stop) × (r .stop ≤ length (now (b .entry))) ⌝ }
+{
+    let start = record::leading_space(b);
+    let stop = trail_from(b, start);
+    Part { start, stop }
+}
+
+// The place of the first `(`, or the text's length.
+fn first_open(t: &[u8]) -> usize
+    ensures { λ r. ⌜ drop r (now (t .entry)) ≡ past unopening (now (t .entry)) ⌝ }
+    ensures { λ r. ⌜ r ≤ length (now (t .entry)) ⌝ }
+{
+    let mut i: usize = 0;
+    while i < t.len() {
+        if t[i] == b'(' {
+            return i;
+        }
+        i += 1;
+    }
+    i
+}
+
+// What stands between the first `(` and a `)` at the end.
+enum Inner {
+    Inside(usize, usize),
+    Bare,
+}
+
+fn inner_of(t: &[u8]) -> Inner
+    ensures { λ r. ⌜ InnerAt (now (t .entry)) r ⌝ }
+{
+    let o = first_open(t);
+    let n = t.len();
+    if n - o < 2 {
+        return Inner::Bare;
+    }
+    if t[n - 1] != b')' {
+        return Inner::Bare;
+    }
+    let w = trim(&t[o + 1..n - 1]);
+    Inner::Inside(o + 1 + w.start, o + 1 + w.stop)
+}
+
+// Reads a measure.
+fn parse_measure(t: &[u8]) -> Real
+    ensures { λ r. ⌜ toldReal r ≡ measureOf (now (t .entry)) ⌝ }
+{
+    match reals::parse_real(t) {
+        Real::Value(x) => Real::Value(x),
+        Real::Outside => Real::Outside,
+        Real::NotReal => match inner_of(t) {
+            Inner::Inside(a, z) => reals::parse_real(&t[a..z]),
+            Inner::Bare => Real::NotReal,
+        },
+    }
+}
+
+fn is_unset(t: &[u8]) -> bool
+    ensures { λ r. ⌜ r ≡ isUnset (now (t .entry)) ⌝ }
+{
+    record::same_bytes(t, b"$")
+}
+
+fn parse_truth(t: &[u8]) -> Truth
+    ensures { λ r. ⌜ toldTruth r ≡ truthOf (now (t .entry)) ⌝ }
+{
+    if record::same_bytes(t, b".T.") {
+        return Truth::True;
+    }
+    if record::same_bytes(t, b".F.") {
+        return Truth::False;
+    }
+    if record::same_bytes(t, b".U.") {
+        return Truth::Unknown;
+    }
+    Truth::NotTruth
+}
+
+fn ref_read(v: Reference, start: usize, to: State) -> NextRef
+    ensures { λ r. ⌜ toldNextRef r ≡ reading (answered start (toldReference v)) (to .place) (to .end) ⌝ }
+{
+    match v {
+        Reference::Value(n) => NextRef::Value(n, to),
+        Reference::NotReference => NextRef::Refused(Fault::WrongType(start), to),
+    }
+}
+
+// Reads a reference.
+pub fn next_ref(file: &[u8], at: State) -> NextRef
+    ensures { λ r. ⌜ toldNextRef r ≡ nextOf referenceOf (now (file .entry)) (at .place) (at .end) ⌝ }
+{
+    match params::param_span(file, at) {
+        Cut::Refused(f, to) => NextRef::Refused(f, to),
+        Cut::Span(start, stop, to) => ref_read(reals::parse_ref(&file[start..stop]), start, to),
+    }
+}
+
+fn opt_ref_read(v: Reference, start: usize, to: State) -> NextOptRef
+    ensures { λ r. ⌜ toldNextOptRef r ≡ reading (answered start (asGiven (toldReference v))) (to .place) (to .end) ⌝ }
+{
+    match v {
+        Reference::Value(n) => NextOptRef::Value(n, to),
+        Reference::NotReference => NextOptRef::Refused(Fault::WrongType(start), to),
+    }
+}
+
+// Reads a reference, or `$`.
+pub fn next_opt_ref(file: &[u8], at: State) -> NextOptRef
+    ensures { λ r. ⌜ toldNextOptRef r ≡ nextOf (optionOf referenceOf) (now (file .entry)) (at .place) (at .end) ⌝ }
+{
+    match params::param_span(file, at) {
+        Cut::Refused(f, to) => NextOptRef::Refused(f, to),
+        Cut::Span(start, stop, to) => {
+            let t = &file[start..stop];
+            if is_unset(t) {
+                return NextOptRef::Unset(to);
+            }
+            opt_ref_read(reals::parse_ref(t), start, to)
+        }
+    }
+}
+
+fn whole_read(v: Whole, start: usize, to: State) -> NextWhole
+    ensures { λ r. ⌜ toldNextWhole r ≡ reading (answered start (toldWhole v)) (to .place) (to .end) ⌝ }
+{
+    match v {
+        Whole::Value(n) => NextWhole::Value(n, to),
+        Whole::NotWhole => NextWhole::Refused(Fault::WrongType(start), to),
+    }
+}
+
+// Reads an integer.
+pub fn next_i64(file: &[u8], at: State) -> NextWhole
+    ensures { λ r. ⌜ toldNextWhole r ≡ nextOf wholeOf (now (file .entry)) (at .place) (at .end) ⌝ }
+{
+    match params::param_span(file, at) {
+        Cut::Refused(f, to) => NextWhole::Refused(f, to),
+        Cut::Span(start, stop, to) => whole_read(reals::parse_int(&file[start..stop]), start, to),
+    }
+}
+
+fn real_read(v: Real, start: usize, to: State) -> NextReal
+    ensures { λ r. ⌜ toldNextReal r ≡ reading (answered start (toldReal v)) (to .place) (to .end) ⌝ }
+{
+    match v {
+        Real::Value(x) => NextReal::Value(x, to),
+        Real::Outside => NextReal::Refused(Fault::OutsideClass(start), to),
+        Real::NotReal => NextReal::Refused(Fault::WrongType(start), to),
+    }
+}
+
+// Reads a real; an integer is one too.
+pub fn next_f64(file: &[u8], at: State) -> NextReal
+    ensures { λ r. ⌜ toldNextReal r ≡ nextOf realOf (now (file .entry)) (at .place) (at .end) ⌝ }
+{
+    match params::param_span(file, at) {
+        Cut::Refused(f, to) => NextReal::Refused(f, to),
+        Cut::Span(start, stop, to) => real_read(reals::parse_real(&file[start..stop]), start, to),
+    }
+}
+
+fn opt_real_read(v: Real, start: usize, to: State) -> NextOptReal
+    ensures { λ r. ⌜ toldNextOptReal r ≡ reading (answered start (asGiven (toldReal v))) (to .place) (to .end) ⌝ }
+{
+    match v {
+        Real::Value(x) => NextOptReal::Value(x, to),
+        Real::Outside => NextOptReal::Refused(Fault::OutsideClass(start), to),
+        Real::NotReal => NextOptReal::Refused(Fault::WrongType(start), to),
+    }
+}
+
+// Reads a real, or `$`.
+pub fn next_opt_f64(file: &[u8], at: State) -> NextOptReal
+    ensures { λ r. ⌜ toldNextOptReal r ≡ nextOf (optionOf realOf) (now (file .entry)) (at .place) (at .end) ⌝ }
+{
+    match params::param_span(file, at) {
+        Cut::Refused(f, to) => NextOptReal::Refused(f, to),
+        Cut::Span(start, stop, to) => {
+            let t = &file[start..stop];
+            if is_unset(t) {
+                return NextOptReal::Unset(to);
+            }
+            opt_real_read(reals::parse_real(t), start, to)
+        }
+    }
+}
+
+// Reads a measure: a real, or one in parentheses after a keyword.
+pub fn next_measure_f64(file: &[u8], at: State) -> NextReal
+    ensures { λ r. ⌜ toldNextReal r ≡ nextOf measureOf (now (file .entry)) (at .place) (at .end) ⌝ }
+{
+    match params::param_span(file, at) {
+        Cut::Refused(f, to) => NextReal::Refused(f, to),
+        Cut::Span(start, stop, to) => real_read(parse_measure(&file[start..stop]), start, to),
+    }
+}
+
+fn truth_read(v: Truth, start: usize, to: State) -> NextTruth
+    ensures { λ r. ⌜ toldNextTruth r ≡ reading (answered start (toldTruth v)) (to .place) (to .end) ⌝ }
+{
+    match v {
+        Truth::True => NextTruth::True(to),
+        Truth::False => NextTruth::False(to),
+        Truth::Unknown => NextTruth::Unknown(to),
+        Truth::NotTruth => NextTruth::Refused(Fault::WrongType(start), to),
+    }
+}
+
+// Reads a boolean.
+pub fn next_bool(file: &[u8], at: State) -> NextTruth
+    ensures { λ r. ⌜ toldNextTruth r ≡ nextOf truthOf (now (file .entry)) (at .place) (at .end) ⌝ }
+{
+    match params::param_span(file, at) {
+        Cut::Refused(f, to) => NextTruth::Refused(f, to),
+        Cut::Span(start, stop, to) => truth_read(parse_truth(&file[start..stop]), start, to),
+    }
+}
