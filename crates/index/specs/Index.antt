@@ -1,0 +1,111 @@
+-- The id index: what the slots hold, and what stands beside them.
+-- Assumes nothing.
+use Prim.Native.Nat.{ℕ, zero, suc, _+_, _-_, _≤_, _<_}
+use mathlib.Core.Path.{_≡_, refl, sym, _∙_, ap, subst}
+use mathlib.Core.Bool.{Bool, true, false}
+use mathlib.Core.List.{List, [], _∷_}
+use mathlib.Core.Logic.{_⊎_, inl, inr}
+use native.Mathlib.Omega.{arith}
+use lib.ListN.{length, getD, take, drop}
+use lib.Seq.{ext-getD, getD-drop}
+use Rattle.index.specs.Order.{idOf, rowAt, Before, Rises, Says, ordered, less-or, before-once, before-self}
+use Rattle.index.specs.declared.Ids.{Ids}
+
+-- the slot that row r stands in
+pub record Stands (n r : ℕ) (xs : List ℕ) : Type 0 where
+  pub slot : ℕ
+  pub inside : slot < n
+  pub holds : getD xs slot 0 ≡ r
+
+-- the slots xs are the index of n rows: each holds a row, each row stands in one, and they are in order
+pub record IsIndex (f : ℕ → ℕ) (n : ℕ) (xs : List ℕ) : Type 0 where
+  pub rows : (i : ℕ) → i < n → getD xs i 0 < n
+  pub whole : (r : ℕ) → r < n → Stands n r xs
+  pub order : (i j : ℕ) → i < j → j < n → Before f (getD xs i 0) (getD xs j 0)
+
+-- what `build` leaves for n rows: the index in the first n slots, the slots past it as they were, and beside them how many rows
+-- there are, the ids of the first slot and of the last, whether ids rise in file order, and whether they rise along the slots
+pub record Built (f : ℕ → ℕ) (n : ℕ) (before after : List ℕ) (b : Ids) : Type 0 where
+  pub index : IsIndex f n after
+  pub rest : drop n after ≡ drop n before
+  pub size : length after ≡ length before
+  pub count : b .count ≡ n
+  pub first : b .first ≡ f (rowAt (b .direct) after 0)
+  pub last : b .last ≡ f (rowAt (b .direct) after (n - 1))
+  pub direct : Says (b .direct) (Rises f (λ i. i) n)
+  pub distinct : Says (b .distinct) (Rises f (rowAt (b .direct) after) n)
+
+-- the numbers that stand beside n slots, with what was found of the ids
+abbrev pub besideOf : List ℕ → List ℕ → ℕ → Bool → Bool → Ids
+besideOf rows slots n direct distinct = record { count = n; first = idOf rows (rowAt direct slots 0); last = idOf rows (rowAt direct slots (n - 1)); direct = direct; distinct = distinct }
+
+-- of two rows one stands before the other, or they are one
+sided : (f : ℕ → ℕ) (x y : ℕ) → Before f x y ⊎ ((x ≡ y) ⊎ Before f y x)
+sided f x y = go (ordered (f x) (f y)) (ordered x y)
+  where
+    go : (f x < f y) ⊎ ((f x ≡ f y) ⊎ (f y < f x)) → (x < y) ⊎ ((x ≡ y) ⊎ (y < x)) → Before f x y ⊎ ((x ≡ y) ⊎ Before f y x)
+    go (inl l) _ = inl (inl l)
+    go (inr (inr l)) _ = inr (inr (inl l))
+    go (inr (inl e)) (inl l) = inl (inr (e, l))
+    go (inr (inl e)) (inr (inl d)) = inr (inl d)
+    go (inr (inl e)) (inr (inr l)) = inr (inr (inr (sym e, l)))
+
+-- where the slots before i agree, the row in slot i of one index does not stand before the row in slot i of the other
+not-before : (f : ℕ → ℕ) (n : ℕ) (xs ys : List ℕ) → IsIndex f n xs → IsIndex f n ys → (i : ℕ) → i < n → ((j : ℕ) → j < i → getD xs j 0 ≡ getD ys j 0) → Before f (getD xs i 0) (getD ys i 0) → ⊥
+not-before f n xs ys a b i h e l = go (b .whole (getD xs i 0) (a .rows i h))
+  where
+    on : (s : Stands n (getD xs i 0) ys) → (s .slot < i) ⊎ ((s .slot ≡ i) ⊎ (i < s .slot)) → ⊥
+    on s (inl m) = before-self f (getD xs i 0) (subst (λ (z : ℕ). Before f z (getD xs i 0)) (e (s .slot) m ∙ s .holds) (a .order (s .slot) i m h))
+    on s (inr (inl m)) = before-self f (getD xs i 0) (subst (λ (z : ℕ). Before f (getD xs i 0) z) (ap (λ (z : ℕ). getD ys z 0) (sym m) ∙ s .holds) l)
+    on s (inr (inr m)) = before-once f (getD xs i 0) (getD ys i 0) l (subst (λ (z : ℕ). Before f (getD ys i 0) z) (s .holds) (b .order i (s .slot) m (s .inside)))
+
+    go : Stands n (getD xs i 0) ys → ⊥
+    go s = on s (ordered (s .slot) i)
+
+-- where the slots before m agree, those up to m agree
+slot-next : (f : ℕ → ℕ) (n : ℕ) (xs ys : List ℕ) → IsIndex f n xs → IsIndex f n ys → (m : ℕ) → m < n → ((j : ℕ) → j < m → getD xs j 0 ≡ getD ys j 0) → (i : ℕ) → i < suc m → getD xs i 0 ≡ getD ys i 0
+slot-next f n xs ys a b m h below i l = go (ordered i m)
+  where
+    here : Before f (getD xs m 0) (getD ys m 0) ⊎ ((getD xs m 0 ≡ getD ys m 0) ⊎ Before f (getD ys m 0) (getD xs m 0)) → getD xs m 0 ≡ getD ys m 0
+    here (inl k) = absurd (not-before f n xs ys a b m h below k)
+    here (inr (inl e)) = e
+    here (inr (inr k)) = absurd (not-before f n ys xs b a m h (λ j o. sym (below j o)) k)
+
+    go : (i < m) ⊎ ((i ≡ m) ⊎ (m < i)) → getD xs i 0 ≡ getD ys i 0
+    go (inl k) = below i k
+    go (inr (inl e)) = rw e (here (sided f (getD xs m 0) (getD ys m 0)))
+    go (inr (inr k)) = absurd (omega arith)
+
+-- there is one index of n rows: each slot is fixed
+pub index-only : (f : ℕ → ℕ) (n : ℕ) (xs ys : List ℕ) → IsIndex f n xs → IsIndex f n ys → (m : ℕ) → m ≤ n → (i : ℕ) → i < m → getD xs i 0 ≡ getD ys i 0
+index-only f n xs ys a b zero h i l = absurd (omega arith)
+index-only f n xs ys a b (suc m) h i l = slot-next f n xs ys a b m h (index-only f n xs ys a b m (omega arith)) i l
+
+-- two answers to one question are the same
+pub says-one : (A : Type 0) (s t : Bool) → Says s A → Says t A → s ≡ t
+says-one A true true a b = refl
+says-one A true false a b = absurd (b a)
+says-one A false true a b = absurd (a b)
+says-one A false false a b = refl
+
+-- two lists with the same first n numbers and the same rest are the same
+joined : (n : ℕ) (xs ys : List ℕ) → length xs ≡ length ys → ((i : ℕ) → i < n → getD xs i 0 ≡ getD ys i 0) → drop n xs ≡ drop n ys → xs ≡ ys
+joined n xs ys l e r = ext-getD 0 xs ys l (λ i h. go i (less-or i n))
+  where
+    go : (i : ℕ) → (i < n) ⊎ (n ≤ i) → getD xs i 0 ≡ getD ys i 0
+    go i (inl h) = e i h
+    go i (inr h) = let q : n + (i - n) ≡ i = omega arith in ap (λ (z : ℕ). getD xs z 0) (sym q) ∙ sym (getD-drop n xs (i - n) 0) ∙ ap (λ (z : List ℕ). getD z (i - n) 0) r ∙ getD-drop n ys (i - n) 0 ∙ ap (λ (z : ℕ). getD ys z 0) q
+
+-- what `build` leaves is one list of slots
+pub built-slots-only : (f : ℕ → ℕ) (n : ℕ) (old xs ys : List ℕ) (a b : Ids) → Built f n old xs a → Built f n old ys b → xs ≡ ys
+built-slots-only f n old xs ys a b h g = joined n xs ys (h .size ∙ sym (g .size)) (index-only f n xs ys (h .index) (g .index) n (omega arith)) (h .rest ∙ sym (g .rest))
+
+-- and one set of numbers beside them
+pub built-only : (f : ℕ → ℕ) (n : ℕ) (old xs : List ℕ) (a b : Ids) → Built f n old xs a → Built f n old xs b → a ≡ b
+built-only f n old xs a b h g = go (says-one (Rises f (λ i. i) n) (a .direct) (b .direct) (h .direct) (g .direct))
+  where
+    go : a .direct ≡ b .direct → a ≡ b
+    go e = same (h .count ∙ sym (g .count)) (h .first ∙ ap (λ (d : Bool). f (rowAt d xs 0)) e ∙ sym (g .first)) (h .last ∙ ap (λ (d : Bool). f (rowAt d xs (n - 1))) e ∙ sym (g .last)) e (says-one (Rises f (rowAt (b .direct) xs) n) (a .distinct) (b .distinct) (subst (λ (d : Bool). Says (a .distinct) (Rises f (rowAt d xs) n)) e (h .distinct)) (g .distinct))
+      where
+        same : a .count ≡ b .count → a .first ≡ b .first → a .last ≡ b .last → a .direct ≡ b .direct → a .distinct ≡ b .distinct → a ≡ b
+        same p q r s t = λ i. record { count = p i; first = q i; last = r i; direct = s i; distinct = t i }

@@ -1,0 +1,9 @@
+pub mod Order
+pub mod Lookup
+pub mod Index
+pub mod Sort
+pub mod Search
+pub mod Laws
+pub mod IndexRight
+pub mod SearchRight
+pub mod Only

@@ -1,0 +1,23 @@
+-- "that two allowed answers coincide is proved": what a search tells is one answer of the code.
+-- Assumes nothing.
+use Prim.Native.Nat.{ℕ}
+use mathlib.Core.Path.{_≡_, refl, sym, _∙_, ap}
+use mathlib.Core.Option.{Option, none, some}
+use Rattle.index.specs.Search.{toldFound}
+use Rattle.index.specs.declared.Found.{Found}
+use Rattle.index.specs.declared.Found.the-variants.{At, Nothing}
+
+-- the answer that tells this
+foundOf : Option ℕ → Found
+foundOf none = Nothing
+foundOf (some r) = At r
+
+-- it is the answer that told it
+found-back : (a : Found) → foundOf (toldFound a) ≡ a
+unfolding foundOf
+found-back (At r) = refl
+found-back Nothing = refl
+
+-- `get`
+pub found-only : (a b : Found) → toldFound a ≡ toldFound b → a ≡ b
+found-only a b e = sym (found-back a) ∙ ap foundOf e ∙ found-back b

@@ -1,0 +1,90 @@
+-- The search in the slots. It is fixed for any slots, what they hold being the index or not.
+-- Assumes nothing.
+use Prim.Native.Nat.{ℕ, zero, suc, _+_, _-_, _*_, _/_, _%_, _≤_, _<_, min, max}
+use mathlib.Core.Path.{_≡_, refl, sym, _∙_, ap}
+use mathlib.Core.Bool.{Bool, true, false, _&&_}
+use mathlib.Core.List.{List}
+use mathlib.Core.Option.{Option, none, some}
+use lib.Dec.{ltb, leb, eqb}
+use lib.ListN.{length}
+use Rattle.lex.specs.Byte.{pick}
+use Rattle.lex.specs.Walk.{Turn, stop, on, turned}
+use Rattle.index.specs.Order.{idOf, rowAt, tableRoom}
+use Rattle.index.specs.declared.Ids.{Ids}
+use Rattle.index.specs.declared.Found.{Found}
+use Rattle.index.specs.declared.Found.the-variants.{At, Nothing}
+
+-- what the code's answer says: a row, or none
+abbrev pub toldFound : Found → Option ℕ
+toldFound (At r) = some r
+toldFound Nothing = none
+
+-- where a search stands: slots before lo hold ids up to the one sought, the last of them `under`; slots from hi on hold greater
+-- ids, the first of them `over`; so many guided probes are left
+pub record Bracket : Type 0 where
+  pub lo : ℕ
+  pub hi : ℕ
+  pub under : ℕ
+  pub over : ℕ
+  pub guided : ℕ
+
+-- a bracket by its parts
+abbrev pub bracket : ℕ → ℕ → ℕ → ℕ → ℕ → Bracket
+bracket l h u o g = record { lo = l; hi = h; under = u; over = o; guided = g }
+
+-- the slot where an id would stand if ids rose evenly from slot lo - 1 to slot hi
+abbrev pub evenly : ℕ → Bracket → ℕ
+evenly k b = b .lo - 1 + (k - b .under) * (b .hi + 1 - b .lo) / (b .over - b .under)
+
+-- the slot where an id would stand if ids rose by one a slot from the nearer end
+abbrev pub stepped : ℕ → Bracket → ℕ
+stepped k b = pick (leb (k - b .under) (b .over - k)) (b .lo - 1 + (k - b .under)) (b .hi - (b .over - k))
+
+-- the slot in the middle
+abbrev pub middle : Bracket → ℕ
+middle b = b .lo + (b .hi - b .lo) / 2
+
+-- the slot to look at: by guess while guided probes are left, evenly and stepped in turn, and then the middle
+abbrev pub guess : ℕ → Bracket → ℕ
+guess k b = pick (eqb (b .guided) 0) (middle b) (pick (eqb (b .guided % 2) 0) (evenly k b) (stepped k b))
+
+-- the guess, brought into the bracket
+abbrev pub probeOf : ℕ → Bracket → ℕ
+probeOf k b = max (b .lo) (min (guess k b) (b .hi - 1))
+
+-- the bracket after slot m, which holds this id
+abbrev pub narrowed : ℕ → Bracket → ℕ → ℕ → Bracket
+narrowed k b m id = pick (leb id k) (bracket (m + 1) (b .hi) id (b .over) (b .guided - 1)) (bracket (b .lo) m (b .under) id (b .guided - 1))
+
+-- one look at slot m: where no id stands twice and it holds the id sought, the slots up to it end there
+abbrev pub looked : ℕ → Bool → Bracket → ℕ → ℕ → Turn Bracket ℕ
+looked k distinct b m id = pick (distinct && eqb id k) (stop (m + 1)) (on (narrowed k b m id))
+
+-- one turn: the bracket is empty, or one slot is looked at; `g` gives the id in a slot
+abbrev pub turn : ℕ → Bool → (ℕ → ℕ) → Bracket → Turn Bracket ℕ
+turn k distinct g b = pick (ltb (b .lo) (b .hi)) (looked k distinct b (probeOf k b) (g (probeOf k b))) (stop (b .lo))
+
+-- the slots that hold ids up to the one sought end here: turn by turn, the bracket narrowing with each
+unfoldable pub endFrom : ℕ → ℕ → Bool → (ℕ → ℕ) → Bracket → ℕ
+endFrom zero k distinct g b = b .lo
+endFrom (suc n) k distinct g b = turned (turn k distinct g b) (λ c. endFrom n k distinct g c)
+
+-- the bracket of n slots, whose first id and last stand beside them
+abbrev pub opening : ℕ → ℕ → ℕ → Bracket
+opening n first last = bracket 1 (n - 1) first last 4
+
+-- the slots up to an id end here, for n slots: all of them where the last id is not above it, none where the first is
+abbrev pub endOf : ℕ → Bool → (ℕ → ℕ) → ℕ → ℕ → ℕ → ℕ
+endOf k distinct g n first last = pick (leb last k) n (pick (ltb k first) 0 (endFrom n k distinct g (opening n first last)))
+
+-- the row before an end, where the table has it and its id is the one sought
+abbrev pub servedOf : List ℕ → List ℕ → Bool → ℕ → ℕ → ℕ → Option ℕ
+servedOf rows slots direct n k e = pick (eqb e 0) none (pick (ltb (rowAt direct slots (e - 1)) n && eqb (idOf rows (rowAt direct slots (e - 1))) k) (some (rowAt direct slots (e - 1))) none)
+
+-- what a search answers, for any slots and any numbers beside them
+abbrev pub searched : List ℕ → List ℕ → Ids → ℕ → Option ℕ
+searched rows slots b k =
+    servedOf rows slots (b .direct) n k (endOf k (b .distinct) (λ i. idOf rows (rowAt (b .direct) slots i)) n (b .first) (b .last))
+  where
+    n : ℕ
+    n = tableRoom (length rows) (length slots) (b .count)
