@@ -1,0 +1,216 @@
+-- The kinds of records that the units need, by their keywords.
+-- Assumes nothing.
+use Prim.Native.Nat.{ℕ}
+use Prim.Native.String.{String}
+use mathlib.Core.Path.{_≡_, refl, sym, _∙_, ap, subst}
+use mathlib.Core.Bool.{Bool, true, false, _&&_}
+use mathlib.Core.List.{List, [], _∷_, map}
+use mathlib.Core.Logic.{_⊎_, inl, inr}
+use lib.Dec.{eqb}
+use lib.ListN.{getD}
+use borrow.Author.Tests.{eqb-true, eq-eqb}
+use Rattle.lex.specs.Byte.{pick}
+use Rattle.lex.specs.Right.Steps.{clash}
+use Rattle.record.specs.Word.{upper, same, isWord}
+use Rattle.record.specs.Form.{bytes, Spelt}
+use Rattle.kinds.specs.declared.Kind.{Kind}
+use Rattle.kinds.specs.declared.Kind.the-variants.{
+  GeometricRepresentationContext,
+  GlobalUnitAssignedContext,
+  GlobalUncertaintyAssignedContext,
+  LengthUnit,
+  PlaneAngleUnit,
+  SolidAngleUnit,
+  SiUnit,
+  ConversionBasedUnit,
+  UncertaintyMeasureWithUnit,
+  LengthMeasureWithUnit,
+  Complex,
+  Other,
+}
+
+-- the keyword of a kind, in capitals; `(complex)` for a complex record, and none for the others
+abbrev pub nameOf : Kind → String
+nameOf GeometricRepresentationContext = "GEOMETRIC_REPRESENTATION_CONTEXT"
+nameOf GlobalUnitAssignedContext = "GLOBAL_UNIT_ASSIGNED_CONTEXT"
+nameOf GlobalUncertaintyAssignedContext = "GLOBAL_UNCERTAINTY_ASSIGNED_CONTEXT"
+nameOf LengthUnit = "LENGTH_UNIT"
+nameOf PlaneAngleUnit = "PLANE_ANGLE_UNIT"
+nameOf SolidAngleUnit = "SOLID_ANGLE_UNIT"
+nameOf SiUnit = "SI_UNIT"
+nameOf ConversionBasedUnit = "CONVERSION_BASED_UNIT"
+nameOf UncertaintyMeasureWithUnit = "UNCERTAINTY_MEASURE_WITH_UNIT"
+nameOf LengthMeasureWithUnit = "LENGTH_MEASURE_WITH_UNIT"
+nameOf Complex = "(complex)"
+nameOf Other = ""
+
+-- the ten kinds that have a keyword
+abbrev pub named : List Kind
+named = GeometricRepresentationContext ∷ GlobalUnitAssignedContext ∷ GlobalUncertaintyAssignedContext ∷ LengthUnit ∷ PlaneAngleUnit ∷ SolidAngleUnit ∷ SiUnit ∷ ConversionBasedUnit ∷ UncertaintyMeasureWithUnit ∷ LengthMeasureWithUnit ∷ []
+
+-- the first of these kinds that is spelt so, letters in either case; none is `Other`
+abbrev pub kindIn : List Kind → List ℕ → Kind
+kindIn [] t = Other
+kindIn (k ∷ ks) t = pick (isWord t (bytes (nameOf k))) k (kindIn ks t)
+
+-- the kind of a keyword
+unfoldable pub kindOf : List ℕ → Kind
+kindOf t = kindIn named t
+
+-- one of the ten
+abbrev pub Named : Kind → Type 0
+Named GeometricRepresentationContext = Unit {0}
+Named GlobalUnitAssignedContext = Unit {0}
+Named GlobalUncertaintyAssignedContext = Unit {0}
+Named LengthUnit = Unit {0}
+Named PlaneAngleUnit = Unit {0}
+Named SolidAngleUnit = Unit {0}
+Named SiUnit = Unit {0}
+Named ConversionBasedUnit = Unit {0}
+Named UncertaintyMeasureWithUnit = Unit {0}
+Named LengthMeasureWithUnit = Unit {0}
+Named Complex = ⊥
+Named Other = ⊥
+
+-- the kind of a keyword without a search: the one of the ten whose name it is, letters in either case; "all others are `Other`"
+pub data KindForm (t : List ℕ) : Kind → Type 0 where
+  spelt : (k : Kind) → Named k → Spelt t (nameOf k) → KindForm t k
+  other : ((k : Kind) → Named k → Spelt t (nameOf k) → ⊥) → KindForm t Other
+
+-- a kind's place in the list of kinds
+abbrev pub rankOf : Kind → ℕ
+rankOf GeometricRepresentationContext = 0
+rankOf GlobalUnitAssignedContext = 1
+rankOf GlobalUncertaintyAssignedContext = 2
+rankOf LengthUnit = 3
+rankOf PlaneAngleUnit = 4
+rankOf SolidAngleUnit = 5
+rankOf SiUnit = 6
+rankOf ConversionBasedUnit = 7
+rankOf UncertaintyMeasureWithUnit = 8
+rankOf LengthMeasureWithUnit = 9
+rankOf Complex = 10
+rankOf Other = 11
+
+-- the kind at a place
+kindAt : ℕ → Kind
+kindAt n = getD (GeometricRepresentationContext ∷ GlobalUnitAssignedContext ∷ GlobalUncertaintyAssignedContext ∷ LengthUnit ∷ PlaneAngleUnit ∷ SolidAngleUnit ∷ SiUnit ∷ ConversionBasedUnit ∷ UncertaintyMeasureWithUnit ∷ LengthMeasureWithUnit ∷ Complex ∷ Other ∷ []) n Other
+
+-- a kind stands at its own place
+kind-back : (k : Kind) → kindAt (rankOf k) ≡ k
+unfolding kindAt
+kind-back GeometricRepresentationContext = refl
+kind-back GlobalUnitAssignedContext = refl
+kind-back GlobalUncertaintyAssignedContext = refl
+kind-back LengthUnit = refl
+kind-back PlaneAngleUnit = refl
+kind-back SolidAngleUnit = refl
+kind-back SiUnit = refl
+kind-back ConversionBasedUnit = refl
+kind-back UncertaintyMeasureWithUnit = refl
+kind-back LengthMeasureWithUnit = refl
+kind-back Complex = refl
+kind-back Other = refl
+
+-- kinds of one place are the same
+pub rank-one : (a b : Kind) → rankOf a ≡ rankOf b → a ≡ b
+rank-one a b e = sym (kind-back a) ∙ ap kindAt e ∙ kind-back b
+
+-- ---- the test for a word, both ways
+-- texts that are the same
+same-true : (x y : List ℕ) → same x y ≡ true → x ≡ y
+unfolding same
+same-true [] [] h = refl
+same-true [] (b ∷ y) h = clash (cc)
+same-true (a ∷ x) [] h = clash (cc)
+same-true (a ∷ x) (b ∷ y) h = go (eqb a b) refl (same-true x y) h
+  where
+    go : (t : Bool) → eqb a b ≡ t → (same x y ≡ true → x ≡ y) → t && same x y ≡ true → a ∷ x ≡ b ∷ y
+    go true e g f = cc (g f, eqb-true a b e)
+    go false e g f = clash (cc)
+
+-- a text is the same as itself
+same-self : (x : List ℕ) → same x x ≡ true
+unfolding same
+same-self [] = refl
+same-self (a ∷ x) = rw (eq-eqb a a refl) (same-self x)
+
+-- ---- the theorems
+-- no kind of a list is spelt so
+abbrev Unspelt : List Kind → List ℕ → Type 0
+Unspelt [] t = Unit {0}
+Unspelt (k ∷ ks) t = (Spelt t (nameOf k) → ⊥) × Unspelt ks t
+
+-- each kind of a list is one of the ten
+abbrev Nameds : List Kind → Type 0
+Nameds [] = Unit {0}
+Nameds (k ∷ ks) = Named k × Nameds ks
+
+-- a kind of a list is spelt so, or none is
+found : (ks : List Kind) (t : List ℕ) → Nameds ks → (Named (kindIn ks t) × Spelt t (nameOf (kindIn ks t))) ⊎ (Unspelt ks t × (kindIn ks t ≡ Other))
+found [] t n = inr (tt, refl)
+found (k ∷ ks) t n = go (isWord t (bytes (nameOf k))) refl (found ks t (n .1))
+  where
+    go : (b : Bool) → isWord t (bytes (nameOf k)) ≡ b → (Named (kindIn ks t) × Spelt t (nameOf (kindIn ks t))) ⊎ (Unspelt ks t × (kindIn ks t ≡ Other))
+        → (Named (pick b k (kindIn ks t)) × Spelt t (nameOf (pick b k (kindIn ks t)))) ⊎ (Unspelt (k ∷ ks) t × (pick b k (kindIn ks t) ≡ Other))
+    go true e r = inl (n .0, same-true (map upper t) (bytes (nameOf k)) e)
+    go false e (inl s) = inl s
+    go false e (inr u) = inr ((λ s. let q : false ≡ true = sym e ∙ ap (λ (x : List ℕ). same x (bytes (nameOf k))) s ∙ same-self (bytes (nameOf k)) in clash (cc), u .0), u .1)
+
+-- none of the ten, one by one
+none-named : (t : List ℕ) → Unspelt named t → (k : Kind) → Named k → Spelt t (nameOf k) → ⊥
+none-named t u GeometricRepresentationContext n = u .0
+none-named t u GlobalUnitAssignedContext n = u .1 .0
+none-named t u GlobalUncertaintyAssignedContext n = u .1 .1 .0
+none-named t u LengthUnit n = u .1 .1 .1 .0
+none-named t u PlaneAngleUnit n = u .1 .1 .1 .1 .0
+none-named t u SolidAngleUnit n = u .1 .1 .1 .1 .1 .0
+none-named t u SiUnit n = u .1 .1 .1 .1 .1 .1 .0
+none-named t u ConversionBasedUnit n = u .1 .1 .1 .1 .1 .1 .1 .0
+none-named t u UncertaintyMeasureWithUnit n = u .1 .1 .1 .1 .1 .1 .1 .1 .0
+none-named t u LengthMeasureWithUnit n = u .1 .1 .1 .1 .1 .1 .1 .1 .1 .0
+none-named t u Complex n = absurd n
+none-named t u Other n = absurd n
+-- the ten are the ten
+all-named : Nameds named
+all-named = (tt, (tt, (tt, (tt, (tt, (tt, (tt, (tt, (tt, (tt, tt))))))))))
+
+-- the kind that is computed is that of the keyword
+pub kind-is : (t : List ℕ) → KindForm t (kindOf t)
+unfolding kindOf
+kind-is t = go (found named t all-named)
+  where
+    go : (Named (kindIn named t) × Spelt t (nameOf (kindIn named t))) ⊎ (Unspelt named t × (kindIn named t ≡ Other)) → KindForm t (kindIn named t)
+    go (inl s) = spelt (kindIn named t) (s .0) (s .1)
+    go (inr u) = subst (λ (k : Kind). KindForm t k) (sym (u .1)) (other (none-named t (u .0)))
+
+-- the search in a text that is already in capitals
+abbrev kindBy : List Kind → List ℕ → Kind
+kindBy [] u = Other
+kindBy (k ∷ ks) u = pick (same u (bytes (nameOf k))) k (kindBy ks u)
+
+-- the search finds each of the ten by its name
+by-name : (k : Kind) → Named k → kindBy named (bytes (nameOf k)) ≡ k
+unfolding same
+by-name GeometricRepresentationContext n = refl
+by-name GlobalUnitAssignedContext n = refl
+by-name GlobalUncertaintyAssignedContext n = refl
+by-name LengthUnit n = refl
+by-name PlaneAngleUnit n = refl
+by-name SolidAngleUnit n = refl
+by-name SiUnit n = refl
+by-name ConversionBasedUnit n = refl
+by-name UncertaintyMeasureWithUnit n = refl
+by-name LengthMeasureWithUnit n = refl
+by-name Complex n = absurd n
+by-name Other n = absurd n
+
+-- it is the only kind
+pub kind-only : {t : List ℕ} {k : Kind} → KindForm t k → kindOf t ≡ k
+unfolding kindOf
+kind-only {t} (spelt k n s) = ap (λ (u : List ℕ). kindBy named u) s ∙ by-name k n
+kind-only {t} (other h) = go (found named t all-named)
+  where
+    go : (Named (kindIn named t) × Spelt t (nameOf (kindIn named t))) ⊎ (Unspelt named t × (kindIn named t ≡ Other)) → kindIn named t ≡ Other
+    go (inl s) = absurd (h (kindIn named t) (s .0) (s .1))
+    go (inr u) = u .1

@@ -1,0 +1,21 @@
+-- Two texts that are compared byte by byte, letters in either case: what one byte does, at an index of both.
+-- Assumes nothing.
+use Prim.Native.Nat.{ℕ, _+_, _<_}
+use mathlib.Core.Path.{_≡_, refl, sym, _∙_}
+use mathlib.Core.Bool.{Bool, true, false, _&&_}
+use mathlib.Core.List.{List, map}
+use lib.Dec.{eqb}
+use lib.ListN.{length, drop, getD}
+use Rattle.lex.specs.Walk.{split}
+use Rattle.record.specs.Word.{same, upper}
+
+module _ (x y : List ℕ) (i : ℕ) (a : Bool) (h : i < length x) (k : i < length y) where
+  -- the bytes there differ
+  pub both-stops : eqb (upper (getD x i 0)) (upper (getD y i 0)) ≡ false → same (map upper (drop i x)) (map upper (drop i y)) ≡ a → false ≡ a
+  unfolding same
+  both-stops e inv = sym (rw (split x i h, split y i k, e) refl) ∙ inv
+
+  -- they agree
+  pub both-goes : eqb (upper (getD x i 0)) (upper (getD y i 0)) ≡ true → same (map upper (drop i x)) (map upper (drop i y)) ≡ a → same (map upper (drop (i + 1) x)) (map upper (drop (i + 1) y)) ≡ a
+  unfolding same
+  both-goes e inv = sym (rw (split x i h, split y i k, e) refl) ∙ inv

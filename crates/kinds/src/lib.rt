@@ -1,0 +1,112 @@
+// The kinds of records that the units need, by their keywords, letters in either case.
+//
+// As the Rust's kind.rs, with ten of its names: all others are `Other` (docs/DIFFERENCES.md). A complex record has a kind of its
+// own; its parts have kinds by their keywords.
+ghost use mathlib.Core.Path.{_≡_};
+ghost use mathlib.Core.List.{map};
+ghost use lib.Dec.{eqb};
+ghost use Rattle.record.specs.Word.{same, upper};
+ghost use Rattle.kinds.specs.Kind.{kindOf, rankOf};
+
+pub enum Kind {
+    GeometricRepresentationContext,
+    GlobalUnitAssignedContext,
+    GlobalUncertaintyAssignedContext,
+    LengthUnit,
+    PlaneAngleUnit,
+    SolidAngleUnit,
+    SiUnit,
+    ConversionBasedUnit,
+    UncertaintyMeasureWithUnit,
+    LengthMeasureWithUnit,
+    Complex,
+    Other,
+}
+
+// The kind of a keyword.
+pub fn intern(kw: &[u8]) -> Kind
+    ensures { λ r. ⌜ r ≡ kindOf (now (kw .entry)) ⌝ }
+{
+    if record::is_word(kw, b"GEOMETRIC_REPRESENTATION_CONTEXT") {
+        return Kind::GeometricRepresentationContext;
+    }
+    if record::is_word(kw, b"GLOBAL_UNIT_ASSIGNED_CONTEXT") {
+        return Kind::GlobalUnitAssignedContext;
+    }
+    if record::is_word(kw, b"GLOBAL_UNCERTAINTY_ASSIGNED_CONTEXT") {
+        return Kind::GlobalUncertaintyAssignedContext;
+    }
+    if record::is_word(kw, b"LENGTH_UNIT") {
+        return Kind::LengthUnit;
+    }
+    if record::is_word(kw, b"PLANE_ANGLE_UNIT") {
+        return Kind::PlaneAngleUnit;
+    }
+    if record::is_word(kw, b"SOLID_ANGLE_UNIT") {
+        return Kind::SolidAngleUnit;
+    }
+    if record::is_word(kw, b"SI_UNIT") {
+        return Kind::SiUnit;
+    }
+    if record::is_word(kw, b"CONVERSION_BASED_UNIT") {
+        return Kind::ConversionBasedUnit;
+    }
+    if record::is_word(kw, b"UNCERTAINTY_MEASURE_WITH_UNIT") {
+        return Kind::UncertaintyMeasureWithUnit;
+    }
+    if record::is_word(kw, b"LENGTH_MEASURE_WITH_UNIT") {
+        return Kind::LengthMeasureWithUnit;
+    }
+    Kind::Other
+}
+
+// A kind's place in the list of kinds.
+fn rank(k: Kind) -> u8
+    ensures { λ r. ⌜ r ≡ rankOf k ⌝ }
+{
+    match k {
+        Kind::GeometricRepresentationContext => 0,
+        Kind::GlobalUnitAssignedContext => 1,
+        Kind::GlobalUncertaintyAssignedContext => 2,
+        Kind::LengthUnit => 3,
+        Kind::PlaneAngleUnit => 4,
+        Kind::SolidAngleUnit => 5,
+        Kind::SiUnit => 6,
+        Kind::ConversionBasedUnit => 7,
+        Kind::UncertaintyMeasureWithUnit => 8,
+        Kind::LengthMeasureWithUnit => 9,
+        Kind::Complex => 10,
+        Kind::Other => 11,
+    }
+}
+
+// Whether two kinds are the same.
+pub fn same_kind(a: Kind, b: Kind) -> bool
+    ensures { λ r. ⌜ r ≡ eqb (rankOf a) (rankOf b) ⌝ }
+{
+    rank(a) == rank(b)
+}
+
+// A small letter as its capital.
+fn capital(c: u8) -> u8
+    ensures { λ r. ⌜ r ≡ upper c ⌝ }
+{
+    if (97 <= c) & (c <= 122) { c - 32 } else { c }
+}
+
+// Whether two texts are the same word, letters in either case.
+pub fn same_word(t: &[u8], w: &[u8]) -> bool
+    ensures { λ r. ⌜ r ≡ same (map upper (now (t .entry))) (map upper (now (w .entry))) ⌝ }
+{
+    if t.len() != w.len() {
+        return false;
+    }
+    let mut i = 0;
+    while i < t.len() {
+        if capital(t[i]) != capital(w[i]) {
+            return false;
+        }
+        i += 1;
+    }
+    true
+}
