@@ -171,6 +171,7 @@ none-named t u UncertaintyMeasureWithUnit n = u .1 .1 .1 .1 .1 .1 .1 .1 .0
 none-named t u LengthMeasureWithUnit n = u .1 .1 .1 .1 .1 .1 .1 .1 .1 .0
 none-named t u Complex n = absurd n
 none-named t u Other n = absurd n
+
 -- the ten are the ten
 all-named : Nameds named
 all-named = (tt, (tt, (tt, (tt, (tt, (tt, (tt, (tt, (tt, (tt, tt))))))))))

@@ -1,0 +1,4 @@
+pub mod Part
+pub mod Laws
+pub mod PartRight
+pub mod Only

@@ -1,0 +1,152 @@
+-- Part.antt's rules and what it computes are one: the next part that is computed is so, and nothing else is; and so are all parts.
+-- Assumes nothing.
+use Prim.Native.Nat.{ℕ, zero, suc, _+_, _-_, _≤_, _<_}
+use mathlib.Core.Path.{_≡_, refl, sym, _∙_, ap, subst}
+use mathlib.Core.Bool.{Bool, true, false, not, _||_}
+use mathlib.Core.List.{List, [], _∷_, _++_, append-assoc}
+use mathlib.Core.Option.{Option, none, some}
+use native.Mathlib.Omega.{arith}
+use native.Mathlib.Decide.{decLt}
+use lib.Dec.{ltb, eqb}
+use lib.ListN.{length, take, drop, length-append, length-take, length-drop, take-append-drop}
+use lib.Seq.{take-at, drop-at, length-take-le}
+use borrow.Author.Tests.{lt-ltb, le-ltb}
+use Rattle.error.specs.Refusal.{Refusal, refusal, Told, good, bad}
+use Rattle.lex.specs.Byte.{pick, white, place}
+use Rattle.lex.specs.Search.{closing, placed}
+use Rattle.lex.specs.Right.Steps.{clash}
+use Rattle.record.specs.Text.{past, Keyed, opened, unopened, keyword}
+use Rattle.record.specs.Head.{headerHead}
+use Rattle.record.specs.Form.{Skipped, Free, NotFirst, Keyword, HeaderForm}
+use Rattle.record.specs.FormRight.{past-only, past-is, keyword-is, keyword-none, headerform-only}
+use Rattle.record.specs.FormRight.Parts.{sole}
+use Rattle.record.specs.declared.Head.{Head}
+use Rattle.record.specs.declared.Head.the-variants.{Bad, Simple}
+use Rattle.statement.specs.Row.{HeaderRow, headerRow, mapped, argued}
+use Rattle.scan.specs.Form.{Argued}
+use Rattle.scan.specs.FormRight.Statements.{argued-only, argued-is}
+use Rattle.parts.specs.Part.{separator, partBy, partIn, nextOf, Window, NextForm, before, partsBy, partsFrom, partsOf, PartsForm}
+use Rattle.parts.specs.Laws.{next-outside, next-done, next-ahead}
+
+-- what is not a separator is not white
+not-white : (v : List ℕ) → NotFirst separator v → NotFirst white v
+not-white v h c r e = go (white c) refl (h c r e)
+  where
+    go : (t : Bool) → white c ≡ t → (t || eqb c 44) ≡ false → white c ≡ false
+    go true p q = clash (cc)
+    go false p q = p
+
+-- the bytes of a window are those that the code cuts out
+window-cut : {s : List ℕ} {from end : ℕ} {m : List ℕ} (w : Window s from end m) → take (end - from) (drop from s) ≡ m
+window-cut {s} {from} {end} {m} w =
+    let d : drop from s ≡ m ++ w .back = ap (drop from) (w .shape) ∙ drop-at (w .front) (m ++ w .back) from (w .starts) in
+    let n : length m ≡ end - from = let a = w .starts in let b = w .ends in omega arith in
+    ap (take (end - from)) d ∙ take-at m (w .back) (end - from) n
+
+-- a window ends in the file
+window-ends : {s : List ℕ} {from end : ℕ} {m : List ℕ} (w : Window s from end m) → end ≤ length s
+window-ends {s} {from} {end} {m} w =
+    let l : length s ≡ length (w .front) + (length m + length (w .back)) = ap (λ (x : List ℕ). length x) (w .shape) ∙ length-append (w .front) (m ++ w .back) ∙ ap (λ (n : ℕ). length (w .front) + n) (length-append m (w .back)) in
+    let b = w .ends in
+    omega arith
+
+-- the next part of a window, past its separators
+window-next : {s : List ℕ} {from end : ℕ} {f v : List ℕ} (w : Window s from end (f ++ v)) → Skipped separator f v → (h : Head) → h ≡ headerHead v → nextOf s from end ≡ partBy s (from + length f) h
+unfolding nextOf
+window-next {s} {from} {end} {f} {v} w k h e =
+    let p : past separator (f ++ v) ≡ v = past-only separator f v k in
+    let l : length (f ++ v) ≡ length f + length v = length-append f v in
+    let q : place (f ++ v) v ≡ length f = omega arith in
+    rw (le-ltb (length s) end (window-ends w), window-cut w)
+    (ap (λ (x : List ℕ). partBy s (from + place (f ++ v) x) (headerHead x)) p ∙ ap (λ (n : ℕ). partBy s (from + n) (headerHead v)) q ∙ ap (partBy s (from + length f)) (sym e))
+
+-- the head of a keyword that follows separators
+key-head : {f v k w r : List ℕ} → Skipped separator f v → Keyword v k w r → Simple 0 0 (length k) (length (k ++ w)) ≡ headerHead v
+key-head {f} {v} p g = headerform-only (HeaderForm.named {a = []} (record { all = tt; over = not-white v (p .over) }) g)
+
+-- the file from the `(` on
+from-open : (s : List ℕ) (from end : ℕ) (f v k w r : List ℕ) (m : Window s from end (f ++ v)) → Keyword v k w r → drop (from + length f + length (k ++ w)) s ≡ 40 ∷ (r ++ m .back)
+from-open s from end f v k w r m g =
+    let x : List ℕ = m .front ++ (f ++ (k ++ w)) in
+    let e : s ≡ x ++ (40 ∷ (r ++ m .back)) = m .shape ∙ ap (λ (z : List ℕ). m .front ++ ((f ++ z) ++ m .back)) (g .shape) ∙ simp append-assoc in
+    let l : length x ≡ from + length f + length (k ++ w) = length-append (m .front) (f ++ (k ++ w)) ∙ ap (λ (n : ℕ). length (m .front) + n) (length-append f (k ++ w)) ∙ (let a = m .starts in omega arith) in
+    ap (drop (from + length f + length (k ++ w))) e ∙ drop-at x (40 ∷ (r ++ m .back)) (from + length f + length (k ++ w)) l
+
+-- the next part by the rules is the one that is computed
+pub next-only : {s : List ℕ} {from end : ℕ} {a : Told (Option HeaderRow)} → NextForm s from end a → a ≡ nextOf s from end
+next-only {s} {from} {end} (NextForm.outside h) = next-outside s from end h
+next-only {s} {from} {end} (NextForm.done h l) = next-done s from end h l
+next-only (NextForm.over {f} {v} w k g) = sym (window-next w k (Bad 1) (headerform-only (HeaderForm.unopened v g)))
+next-only {s} {from} {end} (NextForm.part {f} {v} {k} {w} {r} {e} m p g t) =
+    sym (window-next m p (Simple 0 0 (length k) (length (k ++ w))) (key-head p g)
+    ∙ ap (λ (x : List ℕ). argued s x (λ q. some (headerRow (from + length f + 0) (from + length f + length k) (from + length f + length (k ++ w) + 1) q))) (from-open s from end f v k w r m g)
+    ∙ ap (mapped (λ q. some (headerRow (from + length f + 0) (from + length f + length k) (from + length f + length (k ++ w) + 1) q))) (sym (argued-only t))
+    ∙ ap (λ (n : ℕ). good (some (headerRow n (from + length f + length k) (from + length f + length (k ++ w) + 1) e))) (omega arith))
+next-only {s} {from} {end} (NextForm.refused {f} {v} {k} {w} {r} {q} m p g t) =
+    sym (window-next m p (Simple 0 0 (length k) (length (k ++ w))) (key-head p g)
+    ∙ ap (λ (x : List ℕ). argued s x (λ q. some (headerRow (from + length f + 0) (from + length f + length k) (from + length f + length (k ++ w) + 1) q))) (from-open s from end f v k w r m g)
+    ∙ ap (mapped (λ q. some (headerRow (from + length f + 0) (from + length f + length k) (from + length f + length (k ++ w) + 1) q))) (sym (argued-only t)))
+
+-- the bytes between two places of the file
+window-of : (s : List ℕ) (from end : ℕ) → from ≤ end → end ≤ length s → Window s from end (take (end - from) (drop from s))
+window-of s from end h l =
+    record
+    { front = take from s
+    ; back = drop (end - from) (drop from s)
+    ; shape = sym (ap (λ (x : List ℕ). take from s ++ x) (take-append-drop (end - from) (drop from s)) ∙ take-append-drop from s)
+    ; starts = length-take-le from s (omega arith)
+    ; ends = simp (length-take, length-drop) (omega arith) }
+
+-- every place has a next part, by the rules
+next-comes : (s : List ℕ) (from end : ℕ) → (a : Told (Option HeaderRow)) × NextForm s from end a
+next-comes s from end = by-end (decLt (length s) end)
+  where
+    part-comes : {f v : List ℕ} (m : Window s from end (f ++ v)) → Skipped separator f v → (x : Keyed) → keyword v ≡ x → (a : Told (Option HeaderRow)) × NextForm s from end a
+    part-comes {f} {v} m p unopened e = (_, NextForm.over m p (keyword-none v e))
+    part-comes {f} {v} m p (opened z o) e = let (k, w, r, d, b, g) = keyword-is v z o e in argue k w r g (placed s (closing (40 ∷ (r ++ m .back)))) (argued-is s (r ++ m .back))
+      where
+        argue : (k w r : List ℕ) → Keyword v k w r → (t : Told ℕ) → Argued s (r ++ m .back) t → (a : Told (Option HeaderRow)) × NextForm s from end a
+        argue k w r g (good q) t = (_, NextForm.part m p g t)
+        argue k w r g (bad q) t = (_, NextForm.refused m p g t)
+    by-start : end ≤ length s → Dec (from < end) → (a : Told (Option HeaderRow)) × NextForm s from end a
+    by-start l (yes h) =
+        let (f, e, k) = past-is separator (take (end - from) (drop from s)) in
+        part-comes (subst (λ (x : List ℕ). Window s from end x) e (window-of s from end (omega arith) l)) k (keyword (past separator (take (end - from) (drop from s)))) refl
+    by-start l (no h) = (_, NextForm.done l (omega arith))
+    by-end : Dec (length s < end) → (a : Told (Option HeaderRow)) × NextForm s from end a
+    by-end (yes h) = (_, NextForm.outside h)
+    by-end (no h) = by-start (omega arith) (decLt from end)
+
+-- the next part that is computed is so
+pub next-is : (s : List ℕ) (from end : ℕ) → NextForm s from end (nextOf s from end)
+next-is s from end = sole (NextForm s from end) (λ a. next-only) (next-comes s from end)
+
+-- all parts by the rules are those that are computed, where the steps are enough
+parts-steps : {s : List ℕ} {from end : ℕ} {a : Told (List HeaderRow)} → PartsForm s end from a → (n : ℕ) → from ≤ length s → length s < n + from → a ≡ partsFrom n s from end
+unfolding partsFrom
+parts-steps {s} {from} {end} f zero h l = absurd (omega arith)
+parts-steps (PartsForm.over g) (suc n) h l = rw (← next-only g)
+parts-steps (PartsForm.fault g) (suc n) h l = rw (← next-only g)
+parts-steps {s} {from} {end} (PartsForm.more {p = p} g f) (suc n) h l =
+    let (a, b, c, d) = next-ahead s from end p (sym (next-only g)) in
+    rw (← next-only g) (ap (before p) (parts-steps f n (omega arith) (omega arith)))
+
+-- all parts from a place in the file
+pub parts-only : {s : List ℕ} {from end : ℕ} {a : Told (List HeaderRow)} → PartsForm s end from a → from ≤ length s → a ≡ partsOf s from end
+parts-only {s} {from} f h = parts-steps f (suc (length s)) h (omega arith)
+
+-- the parts that are computed are so, where the steps are enough
+parts-come : (n : ℕ) (s : List ℕ) (from end : ℕ) → from ≤ length s → length s < n + from → PartsForm s end from (partsFrom n s from end)
+unfolding partsFrom
+parts-come zero s from end h l = absurd (omega arith)
+parts-come (suc n) s from end h l = go (nextOf s from end) refl (next-is s from end) (λ p a b. parts-come n s (p .argEnd + 1) end a b)
+  where
+    go : (t : Told (Option HeaderRow)) → nextOf s from end ≡ t → NextForm s from end t → ((p : HeaderRow) → p .argEnd + 1 ≤ length s → length s < n + (p .argEnd + 1) → PartsForm s end (p .argEnd + 1) (partsFrom n s (p .argEnd + 1) end))
+        → PartsForm s end from (partsBy t (λ p. partsFrom n s (p .argEnd + 1) end))
+    go (bad q) e f k = PartsForm.fault f
+    go (good none) e f k = PartsForm.over f
+    go (good (some p)) e f k = let (a, b, c, d) = next-ahead s from end p e in PartsForm.more f (k p (omega arith) (omega arith))
+
+-- all parts that are computed are so
+pub parts-are : (s : List ℕ) (from end : ℕ) → from ≤ length s → PartsForm s end from (partsOf s from end)
+parts-are s from end h = parts-come (suc (length s)) s from end h (omega arith)
