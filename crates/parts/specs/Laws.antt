@@ -209,12 +209,13 @@ module _ (s : List ℕ) (k : Kind) (start end : ℕ) where
         let (n, c, g) = later in
         let (a, b, d, h) = next-ahead s i end (headerRowOf p) e in
         let w = f .enough in
-        record
-        { steps = n
-        ; enough = omega arith
-        ; inside = omega arith
-        ; fine = fine-more got p (isKind s k (headerRowOf p)) (f .fine)
-        ; gives = by (partsFrom n s (p .args .end + 1) end) ∙ (rw e at g) }
+        record {
+          steps = n;
+          enough = omega arith;
+          inside = omega arith;
+          fine = fine-more got p (isKind s k (headerRowOf p)) (f .fine);
+          gives = by (partsFrom n s (p .args .end + 1) end) ∙ (rw e at g);
+        }
       where
         by : (x : Told (List HeaderRow)) → mapped (λ ps. orElse (foundOf (firstOf got p (isKind s k (headerRowOf p)))) (firstKind s k ps)) x ≡ mapped (λ ps. orElse (foundOf got) (firstKind s k ps)) (before (headerRowOf p) x)
         by (good ps) = ap good (more-found got p (isKind s k (headerRowOf p)) (firstKind s k ps) (f .fine))

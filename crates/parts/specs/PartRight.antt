@@ -90,12 +90,13 @@ next-only {s} {from} {end} (NextForm.refused {f} {v} {k} {w} {r} {q} m p g t) =
 -- the bytes between two places of the file
 window-of : (s : List ℕ) (from end : ℕ) → from ≤ end → end ≤ length s → Window s from end (take (end - from) (drop from s))
 window-of s from end h l =
-    record
-    { front = take from s
-    ; back = drop (end - from) (drop from s)
-    ; shape = sym (ap (λ (x : List ℕ). take from s ++ x) (take-append-drop (end - from) (drop from s)) ∙ take-append-drop from s)
-    ; starts = length-take-le from s (omega arith)
-    ; ends = simp (length-take, length-drop) (omega arith) }
+    record {
+      front = take from s;
+      back = drop (end - from) (drop from s);
+      shape = sym (ap (λ (x : List ℕ). take from s ++ x) (take-append-drop (end - from) (drop from s)) ∙ take-append-drop from s);
+      starts = length-take-le from s (omega arith);
+      ends = simp (length-take, length-drop) (omega arith);
+    }
 
 -- every place has a next part, by the rules
 next-comes : (s : List ℕ) (from end : ℕ) → (a : Told (Option HeaderRow)) × NextForm s from end a
@@ -108,11 +109,13 @@ next-comes s from end = by-end (decLt (length s) end)
         argue : (k w r : List ℕ) → Keyword v k w r → (t : Told ℕ) → Argued s (r ++ m .back) t → (a : Told (Option HeaderRow)) × NextForm s from end a
         argue k w r g (good q) t = (_, NextForm.part m p g t)
         argue k w r g (bad q) t = (_, NextForm.refused m p g t)
+
     by-start : end ≤ length s → Dec (from < end) → (a : Told (Option HeaderRow)) × NextForm s from end a
     by-start l (yes h) =
         let (f, e, k) = past-is separator (take (end - from) (drop from s)) in
         part-comes (subst (λ (x : List ℕ). Window s from end x) e (window-of s from end (omega arith) l)) k (keyword (past separator (take (end - from) (drop from s)))) refl
     by-start l (no h) = (_, NextForm.done l (omega arith))
+
     by-end : Dec (length s < end) → (a : Told (Option HeaderRow)) × NextForm s from end a
     by-end (yes h) = (_, NextForm.outside h)
     by-end (no h) = by-start (omega arith) (decLt from end)

@@ -1,0 +1,4 @@
+pub mod Kept
+pub mod Laws
+pub mod KeptRight
+pub mod Only
