@@ -1,0 +1,35 @@
+use borrow.Author.Needs.{needs}
+use native.Mathlib.Omega.{arith}
+use mathlib.Core.Path.{_≡_, refl, sym, _∙_, ap}
+use mathlib.Core.Bool.{Bool, true, false}
+use mathlib.Core.Option.{Option, none, some}
+use Prim.Native.Nat.{ℕ, _+_, _*_, _-_, _≤_}
+use borrow.Author.Tests.{not-true, not-false, lt-ltb, le-ltb, eq-eqb, ne-eqb}
+use denote.Ref.{now}
+use lib.ListN.{length, take, drop, getD}
+use Rattle.statement.specs.Row.{Row}
+use Rattle.lookup.proofs.entity.Statement.{statement}
+use Rattle.lookup.proofs.entity.Tie as tie
+use Rattle.lookup.proofs.entity.Reads as reads
+use Rattle.lookup.proofs.entity.Lts as lts
+use Rattle.lookup.proofs.least.Reads as least-reads
+use Rattle.lookup.proofs.read_row.Reads as read-row-reads
+
+-- src/lib.rt:113:9
+least-requires : tie.Need-least-requires
+least-requires c κs = search needs
+
+-- src/lib.rt:115:9
+returns : tie.Need-returns
+returns c = sym (rw (le-ltb _ _ (rw (c .before .least .ensures) at (c .if1 .taken))) refl)
+
+-- src/lib.rt:117:16
+read-row-requires : tie.Need-read-row-requires
+read-row-requires c κs = search needs
+
+-- src/lib.rt:110:1
+returns-2 : tie.Need-returns-2
+returns-2 c = ap some (c .read-row .ensures) ∙ sym (rw (lt-ltb _ _ (rw (c .before .before .least .ensures) at (c .before .if1 .left))) refl)
+
+pub entity-spec : {M : Type 1} → statement M
+entity-spec = tie.close (tie.spec least-requires returns read-row-requires returns-2)

@@ -1,0 +1,117 @@
+-- Rows looked up: by number, by id, by kind.
+-- Assumes nothing.
+use Prim.Native.Nat.{ℕ, zero, suc, _+_, _*_, _/_, _-_, _≤_, _<_, min}
+use mathlib.Core.Path.{_≡_}
+use mathlib.Core.Bool.{Bool, true, false, _&&_}
+use mathlib.Core.List.{List}
+use mathlib.Core.Option.{Option, none, some}
+use lib.Dec.{ltb, leb, eqb}
+use lib.ListN.{length, take, drop, getD}
+use Rattle.error.specs.Refusal.{Refusal, refusal, Told, good, bad, told}
+use Rattle.lex.specs.Byte.{pick}
+use Rattle.statement.specs.Row.{Row, row}
+use Rattle.statement.specs.Statement.{rowOf}
+use Rattle.kinds.specs.Kind.{kindOf, rankOf}
+use Rattle.kinds.specs.declared.Kind.{Kind}
+use Rattle.kinds.specs.declared.Kind.the-variants.{Complex, Other}
+use Rattle.lookup.specs.declared.Entry.{Entry}
+use Rattle.lookup.specs.declared.Entry.the-variants as entry
+use Rattle.lookup.specs.declared.Required.{Required}
+use Rattle.lookup.specs.declared.Required.the-variants as need
+use Rattle.lookup.specs.declared.Spanned.{Spanned}
+use Rattle.lookup.specs.declared.Spanned.the-variants as spanned
+use Rattle.lookup.specs.declared.Place.{Place}
+use Rattle.lookup.specs.declared.Place.the-variants as place
+
+-- how many rows a table has: as many as are told, where there are six numbers for each
+abbrev pub tableRows : List ℕ → ℕ → ℕ
+tableRows rows n = min n (length rows / 6)
+
+-- row k of a table: "id, keyword start and end (0, 0 if complex), argument start and end, complex 0 or 1"
+abbrev pub rowNumbers : List ℕ → ℕ → Row
+rowNumbers rows k =
+    row (getD rows (k * 6) 0) (getD rows (k * 6 + 1) 0) (getD rows (k * 6 + 2) 0) (getD rows (k * 6 + 3) 0) (getD rows (k * 6 + 4) 0) (getD rows (k * 6 + 5) 0)
+
+-- the row with a number; none past the table
+abbrev pub rowIn : List ℕ → ℕ → ℕ → Option Row
+rowIn rows n k = pick (ltb k (tableRows rows n)) (some (rowNumbers rows k)) none
+
+-- the row whose number a lookup gave, or none
+abbrev pub rowFound : List ℕ → Option ℕ → Option Row
+rowFound rows none = none
+rowFound rows (some k) = some (rowNumbers rows k)
+
+-- "14 arguments asked of an id with no record, 0"
+abbrev pub required : Option Row → Told Row
+required none = bad (refusal 14 0 0)
+required (some w) = good w
+
+-- a part of the file: start and end
+pub record Span : Type 0 where
+  pub start : ℕ
+  pub end : ℕ
+
+-- such a part by its places
+abbrev pub span : ℕ → ℕ → Span
+span a z = record { start = a; end = z }
+
+-- a span that lies in a file of this length and runs forwards
+abbrev pub spanFine : ℕ → ℕ → ℕ → Bool
+spanFine len a z = leb a z && leb z len
+
+-- "9 span outside the file or backwards, 0"
+abbrev pub spanIn : ℕ → ℕ → ℕ → Told Span
+spanIn len a z = pick (spanFine len a z) (good (span a z)) (bad (refusal 9 0 0))
+
+-- the arguments of a row that was looked up: 14, 9, or the span
+abbrev pub argsBy : ℕ → Option Row → Told Span
+argsBy len none = bad (refusal 14 0 0)
+argsBy len (some w) = spanIn len (w .argStart) (w .argEnd)
+
+-- the bytes of the file from a up to z
+abbrev pub cut : List ℕ → ℕ → ℕ → List ℕ
+cut s a z = take (z - a) (drop a s)
+
+-- a row's kind: a complex record's own, else that of its keyword; one outside the file is of no kind
+abbrev pub kindIn : List ℕ → Row → Kind
+kindIn s w = pick (eqb (w .complex) 1) Complex (pick (spanFine (length s) (w .keyStart) (w .keyEnd)) (kindOf (cut s (w .keyStart) (w .keyEnd))) Other)
+
+-- the kind of a row that was looked up
+abbrev pub kindFound : List ℕ → Option Row → Kind
+kindFound s none = Other
+kindFound s (some w) = kindIn s w
+
+-- row k is of a kind
+abbrev pub isKind : List ℕ → List ℕ → Kind → ℕ → Bool
+isKind s rows k i = eqb (rankOf (kindIn s (rowNumbers rows i))) (rankOf k)
+
+-- the first of the next n rows, from row i on, of which a test holds
+unfoldable pub firstFrom : (ℕ → Bool) → ℕ → ℕ → Option ℕ
+firstFrom p zero i = none
+firstFrom p (suc n) i = pick (p i) (some i) (firstFrom p n (suc i))
+
+-- the same without a loop: a row from i on and before z of which it holds, and of none before; or of none at all
+abbrev pub FirstForm : (ℕ → Bool) → ℕ → ℕ → Option ℕ → Type 0
+FirstForm p i z none = (j : ℕ) → i ≤ j → j < z → p j ≡ false
+FirstForm p i z (some k) = (i ≤ k) × (k < z) × (p k ≡ true) × ((j : ℕ) → i ≤ j → j < k → p j ≡ false)
+
+-- ---- what the code's answers say
+-- a row or none
+abbrev pub toldEntry : Entry → Option Row
+toldEntry (entry.Row w) = some (rowOf w)
+toldEntry entry.Nothing = none
+
+-- a row or 14
+abbrev pub toldRequired : Required → Told Row
+toldRequired (need.Row w) = good (rowOf w)
+toldRequired (need.Refused f) = bad (told f)
+
+-- a part of the file, or 9 or 14
+abbrev pub toldSpan : Spanned → Told Span
+toldSpan (spanned.Span r) = good (span (r .start) (r .end))
+toldSpan (spanned.Refused f) = bad (told f)
+
+-- a row's number or none
+abbrev pub toldPlace : Place → Option ℕ
+toldPlace (place.At i) = some i
+toldPlace place.Nothing = none

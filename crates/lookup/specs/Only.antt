@@ -1,0 +1,78 @@
+-- "that two allowed answers coincide is proved": what each lookup tells is one answer of the code.
+-- Assumes nothing.
+use Prim.Native.Nat.{ℕ}
+use mathlib.Core.Path.{_≡_, refl, sym, _∙_, ap}
+use mathlib.Core.Option.{Option, none, some}
+use Rattle.error.specs.Refusal.{Told, good, bad, faultOf, faultOf-told}
+use Rattle.statement.specs.Row.{Row}
+use Rattle.statement.specs.declared.RecordSpan.{RecordSpan}
+use Rattle.lookup.specs.Lookup.{Span, toldEntry, toldRequired, toldSpan, toldPlace}
+use Rattle.lookup.specs.declared.Entry.{Entry}
+use Rattle.lookup.specs.declared.Entry.the-variants as entry
+use Rattle.lookup.specs.declared.Required.{Required}
+use Rattle.lookup.specs.declared.Required.the-variants as need
+use Rattle.lookup.specs.declared.Spanned.{Spanned}
+use Rattle.lookup.specs.declared.Spanned.the-variants as spanned
+use Rattle.lookup.specs.declared.Place.{Place}
+use Rattle.lookup.specs.declared.Place.the-variants as place
+
+-- the row that has these numbers
+rowBack : Row → RecordSpan
+rowBack w = record { id = w .id; keyword = record { start = w .keyStart; end = w .keyEnd }; args = record { start = w .argStart; end = w .argEnd }; complex = w .complex }
+
+-- the answers that tell this
+entryOf : Option Row → Entry
+entryOf none = entry.Nothing
+entryOf (some w) = entry.Row (rowBack w)
+
+-- a row or 14
+requiredOf : Told Row → Required
+requiredOf (good w) = need.Row (rowBack w)
+requiredOf (bad q) = need.Refused (faultOf q)
+
+-- a part of the file, or 9 or 14
+spannedOf : Told Span → Spanned
+spannedOf (good r) = spanned.Span (record { start = r .start; end = r .end })
+spannedOf (bad q) = spanned.Refused (faultOf q)
+
+-- a row's number or none
+placeOf : Option ℕ → Place
+placeOf none = place.Nothing
+placeOf (some i) = place.At i
+
+-- each is the answer that told it
+entry-back : (a : Entry) → entryOf (toldEntry a) ≡ a
+unfolding entryOf rowBack
+entry-back (entry.Row w) = refl
+entry-back entry.Nothing = refl
+
+required-back : (a : Required) → requiredOf (toldRequired a) ≡ a
+unfolding requiredOf rowBack
+required-back (need.Row w) = refl
+required-back (need.Refused f) = ap need.Refused (faultOf-told f)
+
+spanned-back : (a : Spanned) → spannedOf (toldSpan a) ≡ a
+unfolding spannedOf
+spanned-back (spanned.Span r) = refl
+spanned-back (spanned.Refused f) = ap spanned.Refused (faultOf-told f)
+
+place-back : (a : Place) → placeOf (toldPlace a) ≡ a
+unfolding placeOf
+place-back (place.At i) = refl
+place-back place.Nothing = refl
+
+-- `entity`, `get`
+pub entry-only : (a b : Entry) → toldEntry a ≡ toldEntry b → a ≡ b
+entry-only a b e = sym (entry-back a) ∙ ap entryOf e ∙ entry-back b
+
+-- `require`
+pub required-only : (a b : Required) → toldRequired a ≡ toldRequired b → a ≡ b
+required-only a b e = sym (required-back a) ∙ ap requiredOf e ∙ required-back b
+
+-- `keyword`, `args_of`, `args`
+pub spanned-only : (a b : Spanned) → toldSpan a ≡ toldSpan b → a ≡ b
+spanned-only a b e = sym (spanned-back a) ∙ ap spannedOf e ∙ spanned-back b
+
+-- `by_kind`
+pub place-only : (a b : Place) → toldPlace a ≡ toldPlace b → a ≡ b
+place-only a b e = sym (place-back a) ∙ ap placeOf e ∙ place-back b
