@@ -107,7 +107,7 @@ kept-back len rows n room w h f r =
     let d : length (littles xs) / 24 ≡ n = omega arith in
     let e : numbersOf (littles xs) ≡ xs = numbers-back xs w in
     let g : fineAll len (numbersOf (littles xs)) (length (littles xs) / 24) ≡ true =
-      ap₂ (fineAll len) e d ∙ same-fine len xs rows n (λ i k. getD-take (n * 6) rows i 0 k) ∙ f in
+    ap₂ (fineAll len) e d ∙ same-fine len xs rows n (λ i k. getD-take (n * 6) rows i 0 k) ∙ f in
     (read-good len (littles xs) room (omega arith) g (omega arith) ∙ ap good d, e)
 
 -- bytes that read, written again, are the same bytes

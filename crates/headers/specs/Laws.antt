@@ -1,0 +1,55 @@
+-- Laws for the code: each way out of the test of a header row, and that a row found lies in the table.
+-- Assumes nothing.
+use Prim.Native.Nat.{ℕ, _+_, _*_, _/_, _-_, _≤_, _<_, min}
+use mathlib.Core.Path.{_≡_, refl, sym, _∙_, ap, subst}
+use mathlib.Core.Bool.{Bool, true, false, _&&_}
+use mathlib.Core.List.{List, map}
+use mathlib.Core.Option.{Option, none, some}
+use native.Mathlib.Omega.{arith}
+use lib.ListN.{length}
+use borrow.Author.Tests.{le-leb, lt-leb}
+use Rattle.error.specs.Refusal.{refusal, Told, good, bad}
+use Rattle.record.specs.Word.{same, upper}
+use Rattle.statement.specs.Row.{HeaderRow}
+use Rattle.lookup.specs.Lookup.{Span, span, cut, firstFrom, FirstForm}
+use Rattle.lookup.specs.Laws.{first-right}
+use Rattle.headers.specs.Header.{headerRows, named, isHeader, headerFirst, argued}
+
+module _ (s name : List ℕ) (w : HeaderRow) where
+  -- a keyword that runs backwards is none
+  pub named-backwards : w .keyEnd < w .keyStart → false ≡ named s name w
+  named-backwards h = sym (rw (lt-leb (w .keyStart) (w .keyEnd) h) refl)
+
+  -- nor is one outside the file
+  pub named-outside : w .keyStart ≤ w .keyEnd → length s < w .keyEnd → false ≡ named s name w
+  named-outside l h = sym (rw (le-leb (w .keyStart) (w .keyEnd) l, lt-leb (w .keyEnd) (length s) h) refl)
+
+  -- another is compared
+  pub named-by : w .keyStart ≤ w .keyEnd → w .keyEnd ≤ length s → same (map upper (cut s (w .keyStart) (w .keyEnd))) (map upper name) ≡ named s name w
+  named-by l h = sym (rw (le-leb (w .keyStart) (w .keyEnd) l, le-leb (w .keyEnd) (length s) h) refl)
+
+module _ (len : ℕ) (w : HeaderRow) where
+  -- arguments that run backwards are 9
+  pub argued-backwards : w .argEnd < w .argStart → bad (refusal 9 0 0) ≡ argued len w
+  argued-backwards h = sym (rw (lt-leb (w .argStart) (w .argEnd) h) refl)
+
+  -- and so are those outside the file
+  pub argued-outside : w .argStart ≤ w .argEnd → len < w .argEnd → bad (refusal 9 0 0) ≡ argued len w
+  argued-outside l h = sym (rw (le-leb (w .argStart) (w .argEnd) l, lt-leb (w .argEnd) len h) refl)
+
+  -- others are given
+  pub argued-by : w .argStart ≤ w .argEnd → w .argEnd ≤ len → good (some (span (w .argStart) (w .argEnd))) ≡ argued len w
+  argued-by l h = sym (rw (le-leb (w .argStart) (w .argEnd) l, le-leb (w .argEnd) len h) refl)
+
+-- the header row that is found is the first with its keyword, by the rule
+pub header-right : (s heads : List ℕ) (n : ℕ) (name : List ℕ) → FirstForm (isHeader s heads name) 0 (headerRows heads n) (headerFirst s heads n name)
+header-right s heads n name =
+    let e : headerRows heads n - 0 ≡ headerRows heads n = omega arith in
+    subst (λ (z : ℕ). FirstForm (isHeader s heads name) 0 (headerRows heads n) (firstFrom (isHeader s heads name) z 0)) e (first-right (isHeader s heads name) (headerRows heads n) 0 (omega arith))
+
+-- it lies in the table
+pub header-fits : (s heads : List ℕ) (n : ℕ) (name : List ℕ) (i : ℕ) → some i ≡ headerFirst s heads n name → i * 4 + 4 ≤ length heads
+header-fits s heads n name i e =
+    let f : FirstForm (isHeader s heads name) 0 (headerRows heads n) (some i) = subst (λ (o : Option ℕ). FirstForm (isHeader s heads name) 0 (headerRows heads n) o) (sym e) (header-right s heads n name) in
+    let l = f .1 in
+    omega arith

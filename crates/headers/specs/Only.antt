@@ -1,0 +1,26 @@
+-- "that two allowed answers coincide is proved": what a search for a header record tells is one answer of the code.
+-- Assumes nothing.
+use mathlib.Core.Path.{_≡_, refl, sym, _∙_, ap}
+use mathlib.Core.Option.{Option, none, some}
+use Rattle.error.specs.Refusal.{Told, good, bad, faultOf, faultOf-told}
+use Rattle.lookup.specs.Lookup.{Span}
+use Rattle.headers.specs.Header.{toldHeader}
+use Rattle.headers.specs.declared.HeaderFound.{HeaderFound}
+use Rattle.headers.specs.declared.HeaderFound.the-variants as heading
+
+-- the answer that tells this
+headerBack : Told (Option Span) → HeaderFound
+headerBack (good none) = heading.Nothing
+headerBack (good (some r)) = heading.Span (record { start = r .start; end = r .end })
+headerBack (bad q) = heading.Refused (faultOf q)
+
+-- it is the answer that told it
+header-told : (a : HeaderFound) → headerBack (toldHeader a) ≡ a
+unfolding headerBack
+header-told (heading.Span r) = refl
+header-told heading.Nothing = refl
+header-told (heading.Refused f) = ap heading.Refused (faultOf-told f)
+
+-- `header_args`
+pub header-only : (a b : HeaderFound) → toldHeader a ≡ toldHeader b → a ≡ b
+header-only a b e = sym (header-told a) ∙ ap headerBack e ∙ header-told b

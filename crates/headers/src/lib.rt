@@ -1,0 +1,112 @@
+// Header records by keyword, over number columns: four numbers a header row.
+//
+// As `header_args` of the Rust's lib.rs. The search over a slice of structs stands above this one.
+ghost use mathlib.Core.Path.{_≡_};
+ghost use Prim.Native.Nat.{_+_, _-_, _*_, _/_, _≤_, _<_, min};
+ghost use lib.ListN.{length};
+ghost use mathlib.Core.Option.{some};
+ghost use Rattle.lookup.specs.Lookup.{toldPlace};
+ghost use Rattle.headers.specs.Header.{headerNumbers, isHeader, headerFirst, headerArgs, toldHeader};
+ghost use Rattle.statement.specs.Statement.{headerRowOf};
+use error::Fault;
+use lookup::Place;
+use lookup::Tables;
+use statement::HeaderSpan;
+use statement::Range;
+
+// A header record's arguments; or that there is no such record; or 9.
+pub enum HeaderFound {
+    Span(Range),
+    Nothing,
+    Refused(Fault),
+}
+
+// The lesser of two numbers.
+fn least(a: usize, b: usize) -> usize
+    ensures { λ r. ⌜ r ≡ min a b ⌝ }
+{
+    if a < b { a } else { b }
+}
+
+// A number of 32 bits as a place.
+fn wide(x: u32) -> usize
+    ensures { λ r. ⌜ r ≡ x ⌝ }
+{
+    x as usize
+}
+
+// Header row k.
+fn read_header(heads: &[u32], k: usize) -> HeaderSpan
+    requires { ⌜ k * 4 + 4 ≤ length (now heads) ⌝ }
+    ensures { λ r. ⌜ headerRowOf r ≡ headerNumbers (now (heads .entry)) k ⌝ }
+{
+    let at = k * 4;
+    let keyword = Range {
+        start: wide(heads[at]),
+        end: wide(heads[at + 1]),
+    };
+    let args = Range {
+        start: wide(heads[at + 2]),
+        end: wide(heads[at + 3]),
+    };
+    HeaderSpan { keyword, args }
+}
+
+// Whether header row k has this keyword, letters in either case. One whose keyword lies outside the file has none.
+fn is_named(file: &[u8], heads: &[u32], k: usize, name: &[u8]) -> bool
+    requires { ⌜ k * 4 + 4 ≤ length (now heads) ⌝ }
+    ensures { λ r. ⌜ r ≡ isHeader (now (file .entry)) (now (heads .entry)) (now (name .entry)) k ⌝ }
+{
+    let w = read_header(heads, k);
+    let a = w.keyword.start;
+    let z = w.keyword.end;
+    if z < a {
+        return false;
+    }
+    if file.len() < z {
+        return false;
+    }
+    kinds::same_word(&file[a..z], name)
+}
+
+// The first header row with this keyword.
+pub fn header_row(file: &[u8], heads: &[u32], t: Tables, name: &[u8]) -> Place
+    ensures { λ r. ⌜ toldPlace r ≡ headerFirst (now (file .entry)) (now (heads .entry)) (t .headers) (now (name .entry)) ⌝ }
+{
+    let n = least(t.headers, heads.len() / 4);
+    let mut i = 0;
+    while i < n {
+        if is_named(file, heads, i, name) {
+            return Place::At(i);
+        }
+        i += 1;
+    }
+    Place::Nothing
+}
+
+// The arguments of header row i, or 9.
+fn named_args(file: &[u8], heads: &[u32], i: usize) -> HeaderFound
+    requires { ⌜ i * 4 + 4 ≤ length (now heads) ⌝ }
+    ensures { λ r. ⌜ toldHeader r ≡ headerArgs (length (now (file .entry))) (now (heads .entry)) (some i) ⌝ }
+{
+    let w = read_header(heads, i);
+    let a = w.args.start;
+    let z = w.args.end;
+    if z < a {
+        return HeaderFound::Refused(Fault::OutOfFile);
+    }
+    if file.len() < z {
+        return HeaderFound::Refused(Fault::OutOfFile);
+    }
+    HeaderFound::Span(Range { start: a, end: z })
+}
+
+// The arguments of the first header record with this keyword; none where there is no such record; 9 where they lie outside the file.
+pub fn header_args(file: &[u8], heads: &[u32], t: Tables, name: &[u8]) -> HeaderFound
+    ensures { λ r. ⌜ toldHeader r ≡ headerArgs (length (now (file .entry))) (now (heads .entry)) (headerFirst (now (file .entry)) (now (heads .entry)) (t .headers) (now (name .entry))) ⌝ }
+{
+    match header_row(file, heads, t, name) {
+        Place::Nothing => HeaderFound::Nothing,
+        Place::At(i) => named_args(file, heads, i),
+    }
+}
