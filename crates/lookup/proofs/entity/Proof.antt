@@ -8,6 +8,7 @@ use borrow.Author.Tests.{not-true, not-false, lt-ltb, le-ltb, eq-eqb, ne-eqb}
 use denote.Ref.{now}
 use lib.ListN.{length, take, drop, getD}
 use Rattle.statement.specs.Row.{Row}
+use Rattle.lookup.specs.Lookup.{tableRows}
 use Rattle.lookup.proofs.entity.Statement.{statement}
 use Rattle.lookup.proofs.entity.Tie as tie
 use Rattle.lookup.proofs.entity.Reads as reads
@@ -21,7 +22,9 @@ least-requires c κs = search needs
 
 -- src/lib.rt:115:9
 returns : tie.Need-returns
-returns c = sym (rw (le-ltb _ _ (rw (c .before .least .ensures) at (c .if1 .taken))) refl)
+returns c =
+    let e = c .before .least .ensures in
+    sym (rw (le-ltb (c .before .before .before .args .k) (tableRows (now (c .before .before .before .args .rows)) (c .before .before .before .args .t .records)) (omega arith)) refl)
 
 -- src/lib.rt:117:16
 read-row-requires : tie.Need-read-row-requires
@@ -29,7 +32,9 @@ read-row-requires c κs = search needs
 
 -- src/lib.rt:110:1
 returns-2 : tie.Need-returns-2
-returns-2 c = ap some (c .read-row .ensures) ∙ sym (rw (lt-ltb _ _ (rw (c .before .before .least .ensures) at (c .before .if1 .left))) refl)
+returns-2 c =
+    let e = c .before .before .least .ensures in
+    ap some (c .read-row .ensures) ∙ sym (rw (lt-ltb (c .before .before .before .before .args .k) (tableRows (now (c .before .before .before .before .args .rows)) (c .before .before .before .before .args .t .records)) (omega arith)) refl)
 
 pub entity-spec : {M : Type 1} → statement M
 entity-spec = tie.close (tie.spec least-requires returns read-row-requires returns-2)

@@ -1,0 +1,3 @@
+pub mod Store
+pub mod Few
+pub mod Laws
