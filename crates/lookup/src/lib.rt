@@ -1,6 +1,6 @@
-// The rows of a scanned file, looked up: by id, by number, by kind, and header records by keyword.
+// The rows of a scanned file, looked up: by id, by number, by kind.
 //
-// As `get`, `require`, `args`, `by_kind`, `header_args` and their like of the Rust's lib.rs. The tables are lent slices of numbers,
+// As `get`, `require`, `args`, `by_kind` and their like of the Rust's lib.rs. The tables are lent slices of numbers,
 // and what goes with them is one struct by value. Tables that are not what the scan and the index left are answered too: what is
 // served lies in the table, and a span outside the file is 9.
 ghost use mathlib.Core.Path.{_≡_};

@@ -19,7 +19,7 @@ use Rattle.kept.proofs.get_numbers.Reads as get-numbers-reads
 -- src/lib.rt:159:9
 returns : tie.Need-returns
 returns c =
-    let e = read-over (c .before .before .before .args .len) (now (c .before .before .before .args .bytes)) (length (now (c .before .before .before .args .rows))) (c .if1 .taken) in
+    let e = read-over (c .before .before .before .args .len) (now (c .before .before .before .args .bytes)) (length (now (c .before .before .before .args .rows))) (λ e. c .if1 .taken (omega arith)) in
     (sym e, sym (ap (λ (t : Told ℕ). readAfter (now (c .before .before .before .args .bytes)) t (now (c .before .before .before .args .rows))) e))
 
 -- src/lib.rt:162:9
