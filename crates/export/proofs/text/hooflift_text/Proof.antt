@@ -29,11 +29,16 @@ returns : tie.Need-returns
 returns c =
     let p = c .before .before .before .before in
     let a = p .before .before .before .before .args in
-    let e : Plain ≡ decodedOf (now (a .raw)) (length (now (a .out))) = rw (c .enum-told .given .1) at (p .decode-string .ensures .0) in
-    (ap (λ (d : Decoded). textCode d) e,
-    (p .decode-string .ensures .1,
-    (ap (λ (d : Decoded). textPlace d (now (a .place))) e,
-    ap (λ (d : Decoded). textCount d (length (now (a .raw))) (now (a .count))) e)))
+    let e : Plain ≡ decodedOf (now (a .raw)) (length (now (a .out))) = rw (c .enum-told .given .1) at (p .decode-string .ensures .0) in (
+      ap (λ (d : Decoded). textCode d) e,
+      (
+        p .decode-string .ensures .1,
+        (
+          ap (λ (d : Decoded). textPlace d (now (a .place))) e,
+          ap (λ (d : Decoded). textCount d (length (now (a .raw))) (now (a .count))) e,
+        ),
+      ),
+    )
 
 same-length-2 : tie.Need-same-length-2
 same-length-2 c = search needs
@@ -42,11 +47,16 @@ returns-2 : tie.Need-returns-2
 returns-2 c =
     let p = c .before .before .before .before .before in
     let a = p .before .before .before .before .args in
-    let e = rw (c .before .n .given .1) at (p .decode-string .ensures .0) in
-    (ap (λ (d : Decoded). textCode d) e,
-    (p .decode-string .ensures .1,
-    (ap (λ (d : Decoded). textPlace d (now (a .place))) e,
-    ap (λ (d : Decoded). textCount d (length (now (a .raw))) (now (a .count))) e)))
+    let e = rw (c .before .n .given .1) at (p .decode-string .ensures .0) in (
+      ap (λ (d : Decoded). textCode d) e,
+      (
+        p .decode-string .ensures .1,
+        (
+          ap (λ (d : Decoded). textPlace d (now (a .place))) e,
+          ap (λ (d : Decoded). textCount d (length (now (a .raw))) (now (a .count))) e,
+        ),
+      ),
+    )
 
 same-length-3 : tie.Need-same-length-3
 same-length-3 c = search needs
@@ -55,11 +65,16 @@ returns-3 : tie.Need-returns-3
 returns-3 c =
     let p = c .before .before .before .before in
     let a = p .before .before .before .before .args in
-    let e : Short ≡ decodedOf (now (a .raw)) (length (now (a .out))) = rw (c .enum-told2 .given .1) at (p .decode-string .ensures .0) in
-    (ap (λ (d : Decoded). textCode d) e,
-    (p .decode-string .ensures .1,
-    (ap (λ (d : Decoded). textPlace d (now (a .place))) e,
-    ap (λ (d : Decoded). textCount d (length (now (a .raw))) (now (a .count))) e)))
+    let e : Short ≡ decodedOf (now (a .raw)) (length (now (a .out))) = rw (c .enum-told2 .given .1) at (p .decode-string .ensures .0) in (
+      ap (λ (d : Decoded). textCode d) e,
+      (
+        p .decode-string .ensures .1,
+        (
+          ap (λ (d : Decoded). textPlace d (now (a .place))) e,
+          ap (λ (d : Decoded). textCount d (length (now (a .raw))) (now (a .count))) e,
+        ),
+      ),
+    )
 
 pub hooflift-text-spec : {M : Type 1} → statement M
 hooflift-text-spec =
