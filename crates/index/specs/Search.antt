@@ -44,9 +44,9 @@ stepped k b = pick (leb (k - b .under) (b .over - k)) (b .lo - 1 + (k - b .under
 abbrev pub middle : Bracket → ℕ
 middle b = b .lo + (b .hi - b .lo) / 2
 
--- the slot to look at: by guess while guided probes are left, evenly and stepped in turn, and then the middle
+-- the slot to look at: evenly while guided probes are left, stepped at the last of them, and then the middle
 abbrev pub guess : ℕ → Bracket → ℕ
-guess k b = pick (eqb (b .guided) 0) (middle b) (pick (eqb (b .guided % 2) 0) (evenly k b) (stepped k b))
+guess k b = pick (eqb (b .guided) 0) (middle b) (pick (eqb (b .guided) 1) (stepped k b) (evenly k b))
 
 -- the guess, brought into the bracket
 abbrev pub probeOf : ℕ → Bracket → ℕ
@@ -71,7 +71,7 @@ endFrom (suc n) k distinct g b = turned (turn k distinct g b) (λ c. endFrom n k
 
 -- the bracket of n slots, whose first id and last stand beside them
 abbrev pub opening : ℕ → ℕ → ℕ → Bracket
-opening n first last = bracket 1 (n - 1) first last 4
+opening n first last = bracket 1 (n - 1) first last 6
 
 -- the slots up to an id end here, for n slots: all of them where the last id is not above it, none where the first is
 abbrev pub endOf : ℕ → Bool → (ℕ → ℕ) → ℕ → ℕ → ℕ → ℕ
