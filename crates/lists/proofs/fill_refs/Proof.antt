@@ -1,0 +1,98 @@
+use borrow.Author.Needs.{needs}
+use Rattle.lists.specs.ReadLaws.{fills-none, fills-blank, fills-full}
+use Rattle.lists.specs.Laws.{shape-full}
+use Rattle.lists.specs.Items.{asFate, filled, valuesOf}
+use Rattle.reals.specs.Scalar.{referenceOf}
+use native.Mathlib.Omega.{arith}
+use denote.Ref.{now}
+use lib.ListN.{length}
+use lib.IntN.{ℤ}
+use mathlib.Core.List.{List, map}
+use mathlib.Core.Path.{_≡_, refl, ap, sym, _∙_}
+use Prim.Native.Nat.{ℕ, _-_}
+use Rattle.lists.proofs.fill_refs.Statement.{statement}
+use Rattle.lists.proofs.fill_refs.Tie as tie
+use Rattle.lists.proofs.fill_refs.Reads as reads
+use Rattle.lists.proofs.fill_refs.Lts as lts
+use Rattle.lists.proofs.fill_ref_items.Reads as fill-ref-items-reads
+use Rattle.lists.proofs.shape_of.Reads as shape-of-reads
+
+-- src/lib.rt:210:11
+shape-of-requires : tie.Need-shape-of-requires
+shape-of-requires c κs = search needs
+
+-- src/lib.rt:211:27
+enum-told : tie.Need-enum-told
+enum-told c = search needs
+
+-- src/lib.rt:212:25
+enum-told-2 : tie.Need-enum-told-2
+enum-told-2 c = search needs
+
+-- src/lib.rt:214:17
+enum-told-3 : tie.Need-enum-told-3
+enum-told-3 c = search needs
+
+-- src/lib.rt:215:34
+sub-fill-ref-items : tie.Need-sub-fill-ref-items
+sub-fill-ref-items c = let (n, f, o) = shape-full _ _ (c .before .before .shape-of .ensures) (c .enum-told3 .given .1) in omega (arith, n)
+
+-- src/lib.rt:215:28
+sub-fill-ref-items-2 : tie.Need-sub-fill-ref-items-2
+sub-fill-ref-items-2 c = let (n, f, o) = shape-full _ _ (c .before .before .shape-of .ensures) (c .enum-told3 .given .1) in omega (arith, n)
+
+-- src/lib.rt:215:28
+part-fill-ref-items-start : tie.Need-part-fill-ref-items-start
+part-fill-ref-items-start c = let (n, f, o) = shape-full _ _ (c .before .before .shape-of .ensures) (c .enum-told3 .given .1) in omega (arith, n)
+
+-- src/lib.rt:215:28
+part-fill-ref-items-end : tie.Need-part-fill-ref-items-end
+part-fill-ref-items-end c = let (n, f, o) = shape-full _ _ (c .before .before .shape-of .ensures) (c .enum-told3 .given .1) in omega (arith, n)
+
+-- src/lib.rt:215:13
+fill-ref-items-requires : tie.Need-fill-ref-items-requires
+fill-ref-items-requires c κs = let s = c .before .before in
+    let t = s .before .before .before .before .before in
+    fills-full (λ u. asFate (referenceOf u)) (now (t .args .t)) _ (s .before .before .shape-of .ensures) _ (t .pre) (s .enum-told3 .given .1) .1
+
+-- src/lib.rt:205:1
+returns : tie.Need-returns
+returns c = let s = c .before .before in
+    let t = s .before .before .before in
+    absurd (fills-none (λ u. asFate (referenceOf u)) (now (t .args .t)) _ (s .shape-of .ensures) _ (t .pre) (c .enum-told .given .1))
+
+-- src/lib.rt:205:1
+returns-2 : tie.Need-returns-2
+returns-2 c = let s = c .before .before in
+    let t = s .before .before .before in
+    fills-blank (λ u. asFate (referenceOf u)) (now (t .args .t)) _ (s .shape-of .ensures) _ (t .pre) (now (t .args .out)) (c .enum-told2 .given .1)
+
+-- src/lib.rt:205:1
+same-length : tie.Need-same-length
+same-length c = search needs
+
+-- src/lib.rt:205:1
+returns-3 : tie.Need-returns-3
+returns-3 c = let i = c .before .before in
+    let s = i .before .before .before in
+    let t = s .before .before .before .before .before in
+    let (x, y) = fills-full (λ u. asFate (referenceOf u)) (now (t .args .t)) _ (s .before .before .shape-of .ensures) _ (t .pre) (s .enum-told3 .given .1) in
+    (i .fill-ref-items .ensures .0 ∙ ap (λ (vs : List ℕ). filled vs (now (t .args .out))) (sym x), i .fill-ref-items .ensures .1 ∙ ap length (sym x))
+
+pub fill-refs-spec : {M : Type 1} → statement M
+fill-refs-spec =
+    tie.close
+    (tie.spec
+    shape-of-requires
+    enum-told
+    enum-told-2
+    enum-told-3
+    sub-fill-ref-items
+    sub-fill-ref-items-2
+    part-fill-ref-items-start
+    part-fill-ref-items-end
+    fill-ref-items-requires
+    returns
+    returns-2
+    same-length
+    returns-3)

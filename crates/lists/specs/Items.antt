@@ -1,0 +1,209 @@
+-- Document 01, 'Parameters': lists and their items. "A list is `(`..`)`; its inside is handed on as a part and cut at depth-0 commas,
+-- items trimmed of whitespace only." One definition serves every kind of item: an item that is a list itself makes a grid.
+-- Assumes nothing.
+use Prim.Native.Nat.{ℕ, zero, suc, _+_, _-_, _≤_, _<_}
+use mathlib.Core.Path.{_≡_}
+use mathlib.Core.Bool.{Bool, true, false, _&&_}
+use mathlib.Core.List.{List, [], _∷_, _++_, map}
+use lib.Dec.{eqb, leb}
+use lib.ListN.{length, take, drop, getD}
+use Rattle.error.specs.Refusal.{Refusal, refusal, Told, good, bad, told}
+use Rattle.lex.specs.Byte.{pick, white}
+use Rattle.record.specs.Text.{before, past}
+use Rattle.record.specs.Word.{trimmed}
+use Rattle.reals.specs.Scalar.{Answer, read, refused, referenceOf, wholeOf, realOf}
+use Rattle.params.specs.Cut.{Cut, cut, unclosed, cutOf}
+use Rattle.params.specs.Reader.{Read, reading, Span, mapped, paramOf}
+use Rattle.lists.specs.declared.Item.{Item}
+use Rattle.lists.specs.declared.Shape.{Shape}
+use Rattle.lists.specs.declared.Shape.the-variants.{NotList, Blank, Full}
+use Rattle.lists.specs.declared.Counted.{Counted}
+use Rattle.lists.specs.declared.Counted.the-variants.{All, Wrong, Outside}
+use Rattle.lists.specs.declared.Verdict.{Verdict}
+use Rattle.lists.specs.declared.Verdict as VerdictCode
+use Rattle.lists.specs.declared.Kind.{Kind}
+use Rattle.lists.specs.declared.Kind as KindCode
+use Rattle.lists.specs.declared.Room as RoomCode
+use Rattle.lists.specs.declared.NextList as NextListCode
+
+-- what a text reads as, or a refusal's number and how far into the text its place is
+pub data Fate (A : Type 0) : Type 0 where
+  fine : A → Fate A
+  faulty : ℕ → ℕ → Fate A
+
+-- seen from k bytes further back
+abbrev pub shifted : {A : Type 0} → ℕ → Fate A → Fate A
+shifted k (fine a) = fine a
+shifted k (faulty n o) = faulty n (k + o)
+
+-- a value by a function, or its refusal
+abbrev pub fated : {A B : Type 0} → (A → B) → Fate A → Fate B
+fated h (fine a) = fine (h a)
+fated h (faulty n o) = faulty n o
+
+-- a scalar for an item: its refusal is at its start
+abbrev pub asFate : {A : Type 0} → Answer A → Fate A
+asFate (read a) = fine a
+asFate (refused n) = faulty n 0
+
+-- an item ends as a parameter does, and an open literal runs to the end of the list
+abbrev pub boundOf : Cut → List ℕ
+boundOf (cut z b) = b
+boundOf (unclosed o) = []
+
+-- "cut at depth-0 commas": the rest from the comma that ends the item, or nothing
+unfoldable pub itemEnd : List ℕ → List ℕ
+itemEnd xs = boundOf (cutOf xs)
+
+-- how many white bytes a text begins with
+abbrev pub indent : List ℕ → ℕ
+indent t = length t - length (past white t)
+
+-- "items trimmed of whitespace only": an item's bytes up to its comma, read by g
+unfoldable pub itemBy : {A : Type 0} → (List ℕ → Fate A) → List ℕ → Fate A
+itemBy g t = shifted (indent t) (g (trimmed t))
+
+-- a value in front of what follows
+abbrev pub consed : {A : Type 0} → A → Fate (List A) → Fate (List A)
+consed a (fine vs) = fine (a ∷ vs)
+consed a (faulty n o) = faulty n o
+
+-- "the first bad item gives 12 or 13": what follows is read only after an item that reads
+abbrev pub headed : {A : Type 0} → Fate A → (Unit {0} → Fate (List A)) → Fate (List A)
+headed (fine a) k = consed a (k tt)
+headed (faulty n o) k = faulty n o
+
+-- what follows a comma
+abbrev pub past-comma : {A : Type 0} → List ℕ → (List ℕ → Fate (List A)) → Fate (List A)
+past-comma [] k = fine []
+past-comma (c ∷ r) k = k r
+
+-- the items from xs on, which stands o bytes into the list; the first number is one more than the bytes that are left, at least
+unfoldable pub itemsFrom : {A : Type 0} → ℕ → (List ℕ → Fate A) → ℕ → List ℕ → Fate (List A)
+itemsFrom zero g o xs = fine []
+itemsFrom (suc n) g o xs =
+    headed (shifted o (itemBy g (before xs (itemEnd xs)))) (λ u. past-comma (itemEnd xs) (λ r. itemsFrom n g (o + (length xs - length r)) r))
+
+-- "`()` has no item": nor has a list of whitespace alone
+abbrev pub isNone : List ℕ → Bool
+isNone [] = true
+isNone (c ∷ r) = false
+
+-- all items of a list's inside
+unfoldable pub itemsBy : {A : Type 0} → (List ℕ → Fate A) → List ℕ → Fate (List A)
+itemsBy g b = pick (isNone (trimmed b)) (fine []) (itemsFrom (suc (length b)) g 0 b)
+
+-- the inside of a list, if a text is one
+pub data Body : Type 0 where
+  inside : List ℕ → Body
+  bare : Body
+
+-- "A list is `(`..`)`"
+unfoldable pub bodyOf : List ℕ → Body
+bodyOf [] = bare
+bodyOf (c ∷ r) = pick (eqb c 40 && eqb (getD r (length r - 1) 0) 41) (inside (take (length r - 1) r)) bare
+
+-- its items; what is no list is 12 at its start
+abbrev pub listed : {A : Type 0} → (List ℕ → Fate A) → Body → Fate (List A)
+listed g (inside b) = shifted 1 (itemsBy g b)
+listed g bare = faulty 12 0
+
+-- a list whose items g reads; where g reads lists, a grid
+unfoldable pub listBy : {A : Type 0} → (List ℕ → Fate A) → List ℕ → Fate (List A)
+listBy g t = listed g (bodyOf t)
+
+-- a list of scalars that f reads
+abbrev pub listOf : {A : Type 0} → (List ℕ → Answer A) → List ℕ → Fate (List A)
+listOf f t = listBy (λ u. asFate (f u)) t
+
+-- "16 comes only if all read and either list is too short", at the parameter's start; other refusals at the item's start
+abbrev pub roomed : {A : Type 0} → (A → Bool) → ℕ → Fate A → Told A
+roomed fits a (fine v) = pick (fits v) (good v) (bad (refusal 16 0 a))
+roomed fits a (faulty n o) = bad (refusal n 0 (a + o))
+
+-- the next parameter of a reader, read by g into rooms that fit or not
+unfoldable pub nextBy : {A : Type 0} → (List ℕ → Fate A) → (A → Bool) → List ℕ → ℕ → ℕ → Read A
+nextBy g fits s p e = mapped (λ a. roomed fits (a .start) (g (take (a .stop - a .start) (drop (a .start) s)))) (paramOf s p e)
+
+-- a list fits where there is room for its numbers
+abbrev pub fitsIn : {A : Type 0} → ℕ → List A → Bool
+fitsIn room vs = leb (length vs) room
+
+-- the answer's count
+abbrev pub howMany : {A : Type 0} → Read (List A) → Read ℕ
+howMany a = mapped (λ vs. good (length vs)) a
+
+-- "lent rows and output keep their bytes, as does all room beyond an answer": the lent list after an answer
+abbrev pub written : {A : Type 0} → Told (List A) → List A → List A
+written (good vs) out = vs ++ drop (length vs) out
+written (bad q) out = out
+
+-- ---- what the code's parts promise
+
+-- an item of the list's inside b, from i on: its bytes, trimmed, and its comma or the end
+pub record ItemAt (b : List ℕ) (i : ℕ) (r : Item) : Type 0 where
+  pub ends : drop (r .bound) b ≡ itemEnd (drop i b)
+  pub text : take (r .stop - r .start) (drop (r .start) b) ≡ trimmed (before (drop i b) (itemEnd (drop i b)))
+  pub begins : r .start ≡ i + indent (before (drop i b) (itemEnd (drop i b)))
+  pub ordered : r .start ≤ r .stop
+  pub short : r .stop ≤ length b
+  pub above : i ≤ r .bound
+  pub within : r .bound ≤ length b
+
+-- what a text is: no list, one without items, or one with them
+abbrev pub ShapeAt : List ℕ → Shape → Type 0
+ShapeAt t NotList = bodyOf t ≡ bare
+ShapeAt t Blank = (b : List ℕ) × (bodyOf t ≡ inside b) × (isNone (trimmed b) ≡ true)
+ShapeAt t Full = (2 ≤ length t) × (bodyOf t ≡ inside (take (length t - 1 - 1) (drop 1 t))) × (isNone (trimmed (take (length t - 1 - 1) (drop 1 t))) ≡ false)
+
+-- how many were read, or the refusal
+abbrev pub toldCounted : Counted → Fate ℕ
+toldCounted (All n) = fine n
+toldCounted (Wrong o) = faulty 12 o
+toldCounted (Outside o) = faulty 13 o
+
+-- none is more than n
+abbrev pub CountedIn : ℕ → Counted → Type 0
+CountedIn n (All k) = k ≤ n
+CountedIn n (Wrong o) = o ≤ n
+CountedIn n (Outside o) = o ≤ n
+
+-- whether an item reads
+abbrev pub toldVerdict : Verdict → Fate (Unit {0})
+toldVerdict VerdictCode.the-variants.Reads = fine tt
+toldVerdict VerdictCode.the-variants.Wrong = faulty 12 0
+toldVerdict VerdictCode.the-variants.Outside = faulty 13 0
+
+-- whether a text reads
+abbrev pub mute : {A : Type 0} → Fate A → Fate (Unit {0})
+mute (fine a) = fine tt
+mute (faulty n o) = faulty n o
+
+-- whether an item of a kind reads
+abbrev pub kindOf : Kind → List ℕ → Fate (Unit {0})
+kindOf KindCode.the-variants.References t = mute (asFate (referenceOf t))
+kindOf KindCode.the-variants.Integers t = mute (asFate (wholeOf t))
+kindOf KindCode.the-variants.Floats t = mute (asFate (realOf t))
+
+-- that there is room, or a refusal
+abbrev pub toldRoom : RoomCode.Room → Told ℕ
+toldRoom (RoomCode.the-variants.Fits n) = good n
+toldRoom (RoomCode.the-variants.Refused f) = bad (told f)
+
+-- what the readers of lists answer
+abbrev pub toldNextList : NextListCode.NextList → Read ℕ
+toldNextList (NextListCode.the-variants.Count n t) = reading (good n) (t .place) (t .end)
+toldNextList (NextListCode.the-variants.Refused f t) = reading (bad (told f)) (t .place) (t .end)
+
+-- the values of a list that reads
+abbrev pub valuesOf : {A : Type 0} → Fate (List A) → List A
+valuesOf (fine vs) = vs
+valuesOf (faulty n o) = []
+
+-- it reads, and there is room for its numbers
+abbrev pub Ready : {A : Type 0} → Fate (List A) → ℕ → Type 0
+Ready a room = (a ≡ fine (valuesOf a)) × (length (valuesOf a) ≤ room)
+
+-- the lent list with these numbers in front
+abbrev pub filled : {A : Type 0} → List A → List A → List A
+filled vs out = vs ++ drop (length vs) out

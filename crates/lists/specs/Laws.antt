@@ -1,0 +1,259 @@
+-- What one item does to a list that is read, and what a text that is a list reads as: the laws that the code goes by.
+-- Assumes nothing.
+use Prim.Native.Nat.{ℕ, zero, suc, _+_, _-_, _≤_, _<_, min}
+use mathlib.Core.Path.{_≡_, refl, sym, _∙_, ap, subst}
+use mathlib.Core.Bool.{Bool, true, false, _&&_}
+use mathlib.Core.List.{List, [], _∷_, _++_, map}
+use native.Mathlib.Omega.{arith}
+use native.Mathlib.Decide.{decLe}
+use lib.Dec.{eqb, leb}
+use lib.ListN.{length, take, drop, getD, length-drop, length-take, length-map}
+use lib.Seq.{length-take-le, drop-drop}
+use borrow.Author.Tests.{eq-eqb, ne-eqb}
+use Rattle.error.specs.Refusal.{Refusal, refusal, Told, good, bad}
+use Rattle.lex.specs.Byte.{pick, white, place}
+use Rattle.lex.specs.Walk.{split, drop-end}
+use Rattle.record.specs.Text.{before, past}
+use Rattle.record.specs.Word.{trimmed}
+use Rattle.scalars.specs.Laws.{part-part}
+use Rattle.reals.specs.Scalar.{Answer, read, refused}
+use Rattle.params.specs.Cut.{Cut, cut, unclosed, cutOf}
+use Rattle.params.specs.Seek.{endedAt, EndedIn}
+use Rattle.params.specs.declared.Ended.{Ended}
+use Rattle.params.specs.declared.Ended.the-variants.{At, Open}
+use Rattle.lists.specs.declared.Item.{Item}
+use Rattle.lists.specs.Items.{Fate, fine, faulty, shifted, fated, asFate, boundOf, itemEnd, indent, itemBy, consed, headed, past-comma, itemsFrom, isNone, itemsBy, Body, inside, bare, bodyOf, listed, listBy, ItemAt, ShapeAt, CountedIn}
+use Rattle.lists.specs.declared.Shape.{Shape}
+use Rattle.lists.specs.declared.Shape.the-variants.{NotList, Blank, Full}
+use Rattle.lists.specs.declared.Counted.{Counted}
+use Rattle.lists.specs.declared.Counted.the-variants.{All, Wrong, Outside}
+
+-- where the code's search for a parameter's end finds it, the item ends
+pub end-found : (b : List ℕ) (i z p : ℕ) (r : Ended) → endedAt b r ≡ cutOf (drop i b) → r ≡ At z p → drop p b ≡ itemEnd (drop i b)
+unfolding itemEnd
+end-found b i z p r h e = ap boundOf (ap (endedAt b) (sym e) ∙ h)
+
+-- an open literal runs to the end of the list
+pub end-open : (b : List ℕ) (i q : ℕ) (r : Ended) → endedAt b r ≡ cutOf (drop i b) → r ≡ Open q → drop (length b) b ≡ itemEnd (drop i b)
+unfolding itemEnd
+end-open b i q r h e = drop-end b (length b) (omega arith) ∙ ap boundOf (ap (endedAt b) (sym e) ∙ h)
+
+-- and where it lies
+pub found-in : (a n z p : ℕ) (r : Ended) → EndedIn a n r → r ≡ At z p → (a ≤ z) × (z ≤ p) × (p ≤ n)
+found-in a n z p r h e = subst (EndedIn a n) e h
+
+-- the bytes between two places
+pub between : (b : List ℕ) (i j : ℕ) → i ≤ j → j ≤ length b → before (drop i b) (drop j b) ≡ take (j - i) (drop i b)
+between b i j h k = let e : length (drop i b) - length (drop j b) ≡ j - i = omega (arith, length-drop i b, length-drop j b) in ap (λ (n : ℕ). take n (drop i b)) e
+
+-- an item by its end and by what is left of it without whitespace
+pub item-is : (b : List ℕ) (i j s z : ℕ) → i ≤ j → j ≤ length b → drop j b ≡ itemEnd (drop i b)
+    → drop s (take (j - i) (drop i b)) ≡ past white (take (j - i) (drop i b)) → take (z - s) (drop s (take (j - i) (drop i b))) ≡ trimmed (take (j - i) (drop i b))
+    → s ≤ z → z ≤ length (take (j - i) (drop i b)) → ItemAt b i (record { start = i + s; stop = i + z; bound = j })
+item-is b i j s z h k e f g o l =
+    let n : length (take (j - i) (drop i b)) ≡ j - i = simp (length-take, length-drop) (omega arith) in
+    let t : before (drop i b) (itemEnd (drop i b)) ≡ take (j - i) (drop i b) = ap (before (drop i b)) (sym e) ∙ between b i j h k in
+    let m : length (take (j - i) (drop i b)) - length (past white (take (j - i) (drop i b))) ≡ s = ap (λ (r : List ℕ). length (take (j - i) (drop i b)) - length r) (sym f) ∙ omega (arith, length-drop s (take (j - i) (drop i b))) in
+    record {
+      ends = e;
+      text = sym (part-part b i (j - i) s z o (omega (arith, l, n))) ∙ g ∙ ap trimmed (sym t);
+      begins = ap (λ (x : ℕ). i + x) (sym m) ∙ ap (λ (r : List ℕ). i + indent r) (sym t);
+      ordered = omega arith;
+      short = omega (arith, l, n);
+      above = h;
+      within = k;
+    }
+
+-- seen from further back twice
+shift-twice : {A : Type 0} (i k : ℕ) (a : Fate A) → shifted i (shifted k a) ≡ shifted (i + k) a
+shift-twice i k (fine a) = refl
+shift-twice i k (faulty n o) = let e : i + (k + o) ≡ i + k + o = omega arith in ap (faulty n) e
+
+module _ {A : Type 0} (g : List ℕ → Fate A) (b : List ℕ) (i : ℕ) (r : Item) (h : ItemAt b i r) where
+  -- what an item reads as, at its place in the list
+  item-reads : shifted (r .start) (g (take (r .stop - r .start) (drop (r .start) b))) ≡ shifted i (itemBy g (before (drop i b) (itemEnd (drop i b))))
+  unfolding itemBy
+  item-reads =
+      ap (λ (t : List ℕ). shifted (r .start) (g t)) (h .text)
+      ∙ ap (λ (k : ℕ). shifted k (g (trimmed (before (drop i b) (itemEnd (drop i b)))))) (h .begins)
+      ∙ sym (shift-twice i (indent (before (drop i b) (itemEnd (drop i b)))) (g (trimmed (before (drop i b) (itemEnd (drop i b))))))
+
+  -- a bad item
+  pub items-bad : (m n o : ℕ) → faulty n o ≡ g (take (r .stop - r .start) (drop (r .start) b)) → faulty n (r .start + o) ≡ itemsFrom (suc m) g i (drop i b)
+  unfolding itemsFrom
+  items-bad m n o e =
+      ap (λ (x : Fate A). headed (shifted (r .start) x) (λ u. past-comma (itemEnd (drop i b)) (λ r. itemsFrom m g (i + (length (drop i b) - length r)) r))) e
+      ∙ ap (λ (x : Fate A). headed x (λ u. past-comma (itemEnd (drop i b)) (λ r. itemsFrom m g (i + (length (drop i b) - length r)) r))) item-reads
+
+  -- a good item, and what follows it
+  good-item : (m : ℕ) (a : A) → fine a ≡ g (take (r .stop - r .start) (drop (r .start) b))
+      → consed a (past-comma (drop (r .bound) b) (λ r. itemsFrom m g (i + (length (drop i b) - length r)) r)) ≡ itemsFrom (suc m) g i (drop i b)
+  unfolding itemsFrom
+  good-item m a e =
+      ap (λ (x : List ℕ). consed a (past-comma x (λ r. itemsFrom m g (i + (length (drop i b) - length r)) r))) (h .ends)
+      ∙ ap (λ (x : Fate A). headed (shifted (r .start) x) (λ u. past-comma (itemEnd (drop i b)) (λ r. itemsFrom m g (i + (length (drop i b) - length r)) r))) e
+      ∙ ap (λ (x : Fate A). headed x (λ u. past-comma (itemEnd (drop i b)) (λ r. itemsFrom m g (i + (length (drop i b) - length r)) r))) item-reads
+
+  -- it is the last
+  pub items-last : (m : ℕ) (a : A) → fine a ≡ g (take (r .stop - r .start) (drop (r .start) b)) → r .bound ≡ length b → fine (a ∷ []) ≡ itemsFrom (suc m) g i (drop i b)
+  items-last m a e k =
+      ap (λ (x : List ℕ). consed a (past-comma x (λ r. itemsFrom m g (i + (length (drop i b) - length r)) r))) (sym (drop-end b (r .bound) (omega arith)))
+      ∙ good-item m a e
+
+  -- others follow
+  pub items-more : (m : ℕ) (a : A) → fine a ≡ g (take (r .stop - r .start) (drop (r .start) b)) → r .bound < length b
+      → consed a (itemsFrom m g (r .bound + 1) (drop (r .bound + 1) b)) ≡ itemsFrom (suc m) g i (drop i b)
+  items-more m a e k =
+      let p : i + (length (drop i b) - length (drop (r .bound + 1) b)) ≡ r .bound + 1 = omega (arith, h .above, length-drop i b, length-drop (r .bound + 1) b) in
+      ap (λ (n : ℕ). consed a (itemsFrom m g n (drop (r .bound + 1) b))) (sym p)
+      ∙ ap (λ (x : List ℕ). consed a (past-comma x (λ r. itemsFrom m g (i + (length (drop i b) - length r)) r))) (sym (split b (r .bound) k))
+      ∙ good-item m a e
+
+-- n more
+abbrev pub plus : ℕ → Fate ℕ → Fate ℕ
+plus n a = fated (λ k. n + k) a
+
+-- a value more
+count-consed : {A : Type 0} (n : ℕ) (a : A) (x : Fate (List A)) → plus n (fated length (consed a x)) ≡ plus (n + 1) (fated length x)
+count-consed n a (fine vs) = let e : n + suc (length vs) ≡ n + 1 + length vs = omega arith in ap fine e
+count-consed n a (faulty k o) = refl
+
+module _ {A : Type 0} (g : List ℕ → Fate A) (b : List ℕ) (i n : ℕ) (r : Item) (h : ItemAt b i r) (few : n ≤ length b) (a : Fate ℕ)
+    (inv : plus n (fated length (itemsFrom (suc (length b) - n) g i (drop i b))) ≡ a) where
+  -- one item of those that may be left
+  left : suc (length b) - n ≡ suc (length b - n)
+  left = omega arith
+
+  -- a bad item is the answer
+  pub count-bad : (k o : ℕ) → faulty k o ≡ g (take (r .stop - r .start) (drop (r .start) b)) → faulty k (r .start + o) ≡ a
+  count-bad k o e =
+      ap (λ (x : Fate (List A)). plus n (fated length x)) (items-bad g b i r h (length b - n) k o e)
+      ∙ ap (λ (m : ℕ). plus n (fated length (itemsFrom m g i (drop i b)))) (sym left) ∙ inv
+
+  -- the last item
+  pub count-last : (v : A) → fine v ≡ g (take (r .stop - r .start) (drop (r .start) b)) → r .bound ≡ length b → fine (n + 1) ≡ a
+  count-last v e k =
+      ap (λ (x : Fate (List A)). plus n (fated length x)) (items-last g b i r h (length b - n) v e k)
+      ∙ ap (λ (m : ℕ). plus n (fated length (itemsFrom m g i (drop i b)))) (sym left) ∙ inv
+
+  -- another item
+  pub count-more : (v : A) → fine v ≡ g (take (r .stop - r .start) (drop (r .start) b)) → r .bound < length b
+      → plus (n + 1) (fated length (itemsFrom (suc (length b) - (n + 1)) g (r .bound + 1) (drop (r .bound + 1) b))) ≡ a
+  count-more v e k =
+      let m : suc (length b) - (n + 1) ≡ length b - n = omega arith in
+      ap (λ (j : ℕ). plus (n + 1) (fated length (itemsFrom j g (r .bound + 1) (drop (r .bound + 1) b)))) m
+      ∙ sym (count-consed n v (itemsFrom (length b - n) g (r .bound + 1) (drop (r .bound + 1) b)))
+      ∙ ap (λ (x : Fate (List A)). plus n (fated length x)) (items-more g b i r h (length b - n) v e k)
+      ∙ ap (λ (j : ℕ). plus n (fated length (itemsFrom j g i (drop i b)))) (sym left) ∙ inv
+
+-- none counted yet
+pub count-starts : {A : Type 0} (g : List ℕ → Fate A) (b : List ℕ) → plus 0 (fated length (itemsFrom (suc (length b) - 0) g 0 b)) ≡ fated length (itemsFrom (suc (length b)) g 0 b)
+count-starts {A} g b = let m : suc (length b) - 0 ≡ suc (length b) = omega arith in ap (λ (n : ℕ). plus 0 (fated length (itemsFrom n g 0 b))) m ∙ go (itemsFrom (suc (length b)) g 0 b)
+  where
+    go : (a : Fate (List A)) → plus 0 (fated length a) ≡ fated length a
+    go (fine vs) = let e : 0 + length vs ≡ length vs = omega arith in ap fine e
+    go (faulty n o) = refl
+
+-- two tests, the second of which fails
+and-false : (a b : Bool) → b ≡ false → a && b ≡ false
+and-false true b e = e
+and-false false b e = refl
+
+-- a text by its first byte
+body-split : (t : List ℕ) → 0 < length t
+    → pick (eqb (getD t 0 0) 40 && eqb (getD (drop 1 t) (length (drop 1 t) - 1) 0) 41) (inside (take (length (drop 1 t) - 1) (drop 1 t))) bare ≡ bodyOf t
+unfolding bodyOf
+body-split (c ∷ r) h = refl
+
+-- its last byte
+last-byte : (t : List ℕ) → 1 < length t → getD (drop 1 t) (length (drop 1 t) - 1) 0 ≡ getD t (length t - 1) 0
+last-byte [] h = absurd (omega arith)
+last-byte (c ∷ []) h = absurd (omega arith)
+last-byte (c ∷ d ∷ r) h = let e : length (c ∷ d ∷ r) - 1 ≡ suc (length (d ∷ r) - 1) = omega arith in sym (ap (λ (k : ℕ). getD (c ∷ d ∷ r) k 0) e)
+
+-- what is no list
+pub body-short : (t : List ℕ) → length t < 2 → bodyOf t ≡ bare
+unfolding bodyOf
+body-short [] h = refl
+body-short (c ∷ []) h = rw (and-false (eqb c 40) (eqb 0 41) refl) refl
+body-short (c ∷ d ∷ r) h = absurd (omega arith)
+
+pub body-first : (t : List ℕ) → 1 < length t → (getD t 0 0 ≡ 40 → ⊥) → bodyOf t ≡ bare
+body-first t h k = sym (body-split t (omega arith)) ∙ rw (ne-eqb (getD t 0 0) 40 k) refl
+
+pub body-last : (t : List ℕ) → 1 < length t → (getD t (length t - 1) 0 ≡ 41 → ⊥) → bodyOf t ≡ bare
+body-last t h k =
+    sym (body-split t (omega arith))
+    ∙ rw (last-byte t h, and-false (eqb (getD t 0 0) 40) (eqb (getD t (length t - 1) 0) 41) (ne-eqb (getD t (length t - 1) 0) 41 k)) refl
+
+-- what is one
+pub body-full : (t : List ℕ) → 1 < length t → getD t 0 0 ≡ 40 → getD t (length t - 1) 0 ≡ 41 → bodyOf t ≡ inside (take (length t - 1 - 1) (drop 1 t))
+body-full t h k l =
+    let e : length (drop 1 t) - 1 ≡ length t - 1 - 1 = omega (arith, length-drop 1 t) in
+    sym (body-split t (omega arith)) ∙ rw (last-byte t h, k, l, e) refl
+
+module _ (xs : List ℕ) (s z : ℕ) (cut : take (z - s) (drop s xs) ≡ trimmed xs) (ordered : s ≤ z) (short : z ≤ length xs) where
+  -- nothing but whitespace
+  pub none-true : s ≡ z → isNone (trimmed xs) ≡ true
+  none-true h = let e : z - s ≡ 0 = omega arith in ap isNone (sym cut) ∙ ap (λ (n : ℕ). isNone (take n (drop s xs))) e
+
+  -- something else
+  pub none-false : (s ≡ z → ⊥) → isNone (trimmed xs) ≡ false
+  none-false h = go (trimmed xs) cut
+    where
+      go : (t : List ℕ) → take (z - s) (drop s xs) ≡ t → isNone t ≡ false
+      go [] e = let n : length (take (z - s) (drop s xs)) ≡ z - s = length-take-le (z - s) (drop s xs) (omega (arith, length-drop s xs)) in absurd (h (omega (arith, n, ap length e)))
+      go (c ∷ r) e = refl
+
+module _ {A : Type 0} (g : List ℕ → Fate A) (t : List ℕ) where
+  -- no list
+  pub list-none : bodyOf t ≡ bare → faulty 12 0 ≡ listBy g t
+  unfolding listBy
+  list-none e = ap (listed g) (sym e)
+
+  -- a list without items
+  pub list-blank : (b : List ℕ) → bodyOf t ≡ inside b → isNone (trimmed b) ≡ true → fine [] ≡ listBy g t
+  unfolding listBy itemsBy
+  list-blank b e h = sym (ap (listed g) e ∙ rw h refl)
+
+  -- a list with items
+  pub list-full : (b : List ℕ) → bodyOf t ≡ inside b → isNone (trimmed b) ≡ false → shifted 1 (itemsFrom (suc (length b)) g 0 b) ≡ listBy g t
+  unfolding listBy itemsBy
+  list-full b e h = sym (ap (listed g) e ∙ rw h refl)
+
+-- what the code's answer says of a text
+pub shape-none : (t : List ℕ) (r : Shape) → ShapeAt t r → r ≡ NotList → bodyOf t ≡ bare
+shape-none t r h e = subst (ShapeAt t) e h
+
+pub shape-blank : (t : List ℕ) (r : Shape) → ShapeAt t r → r ≡ Blank → (b : List ℕ) × (bodyOf t ≡ inside b) × (isNone (trimmed b) ≡ true)
+shape-blank t r h e = subst (ShapeAt t) e h
+
+pub shape-full : (t : List ℕ) (r : Shape) → ShapeAt t r → r ≡ Full
+    → (2 ≤ length t) × (bodyOf t ≡ inside (take (length t - 1 - 1) (drop 1 t))) × (isNone (trimmed (take (length t - 1 - 1) (drop 1 t))) ≡ false)
+shape-full t r h e = subst (ShapeAt t) e h
+
+-- the inside's length
+pub body-length : (t : List ℕ) → 2 ≤ length t → length (take (length t - 1 - 1) (drop 1 t)) ≡ length t - 2
+body-length t h = simp (length-take, length-drop) (omega arith)
+
+-- what is counted in the inside of a list
+pub counted-full : {A : Type 0} (g : List ℕ → Fate A) (t : List ℕ) (r : Shape) → ShapeAt t r → r ≡ Full → (a : Fate ℕ)
+    → a ≡ fated length (itemsFrom (suc (length (take (length t - 1 - 1) (drop 1 t)))) g 0 (take (length t - 1 - 1) (drop 1 t))) → shifted 1 a ≡ fated length (listBy g t)
+counted-full {A} g t r h e a k =
+    let (n, f, o) = shape-full t r h e in
+    ap (shifted 1) k ∙ go (itemsFrom (suc (length (take (length t - 1 - 1) (drop 1 t)))) g 0 (take (length t - 1 - 1) (drop 1 t)))
+    ∙ ap (fated length) (list-full g t (take (length t - 1 - 1) (drop 1 t)) f o)
+  where
+    go : (x : Fate (List A)) → shifted 1 (fated length x) ≡ fated length (shifted 1 x)
+    go (fine vs) = refl
+    go (faulty n o) = refl
+
+-- where the code's count lies
+pub counted-wrong : (n o : ℕ) (r : Counted) → CountedIn n r → r ≡ Wrong o → o ≤ n
+counted-wrong n o r h e = subst (CountedIn n) e h
+
+pub counted-outside : (n o : ℕ) (r : Counted) → CountedIn n r → r ≡ Outside o → o ≤ n
+counted-outside n o r h e = subst (CountedIn n) e h
+
+pub counted-all : (n k : ℕ) (r : Counted) → CountedIn n r → r ≡ All k → k ≤ n
+counted-all n k r h e = subst (CountedIn n) e h

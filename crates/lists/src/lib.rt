@@ -1,0 +1,255 @@
+// The argument reader's lists: references, integers and reals into lent numbers.
+//
+// As the Rust's next_ref_list, next_i64_list and next_f64_list, with split_top_level and trim_span. A list is gone through twice: the
+// first time it is only counted, so that a refusal leaves the lent numbers alone, and the second time it is written.
+ghost use mathlib.Core.Path.{_≡_};
+ghost use Prim.Native.Nat.{_+_, _-_, _≤_, _<_, _^_, suc};
+ghost use lib.Dec.{leb};
+ghost use mathlib.Core.Bool.{true, false};
+ghost use mathlib.Core.List.{map};
+ghost use lib.ListN.{length, take, drop};
+ghost use lib.Ieee.{binary64, toBits};
+ghost use Rattle.reals.specs.Scalar.{referenceOf, wholeOf, realOf};
+ghost use Rattle.lists.specs.Items.{toldRoom, roomed, itemEnd, ItemAt, toldVerdict, CountedIn, ShapeAt, toldCounted, fated, kindOf, asFate, itemsFrom, listBy, listOf, Ready, valuesOf, filled, nextBy, fitsIn, howMany, written, toldNextList};
+use error::Fault;
+use params::Cut;
+use params::Ended;
+use params::State;
+use reals::Real;
+use reals::Reference;
+use reals::Whole;
+
+// An item without the whitespace at its ends, and its comma or the end of the list.
+struct Item {
+    pub start: usize,
+    pub stop: usize,
+    pub bound: usize,
+}
+
+// What a text is: no list, a list without items, or one with them.
+enum Shape {
+    NotList,
+    Blank,
+    Full,
+}
+
+// What the items of a list are to be.
+enum Kind {
+    References,
+    Integers,
+    Floats,
+}
+
+// Whether an item reads: yes, or 12, or 13.
+enum Verdict {
+    Reads,
+    Wrong,
+    Outside,
+}
+
+// How many items there are, or the place of the first bad one: 12, or 13.
+enum Counted {
+    All(usize),
+    Wrong(usize),
+    Outside(usize),
+}
+
+// That there is room for so many, or a refusal.
+enum Room {
+    Fits(usize),
+    Refused(Fault),
+}
+
+// How many numbers were written, or a refusal.
+pub enum NextList {
+    Count(usize, State),
+    Refused(Fault, State),
+}
+
+// Where the item ends that begins at i: at its comma, or with the list.
+fn item_end(b: &[u8], i: usize) -> usize
+    requires { ⌜ i ≤ length (now b) ⌝ }
+    ensures { λ r. ⌜ drop r (now (b .entry)) ≡ itemEnd (drop i (now (b .entry))) ⌝ }
+    ensures { λ r. ⌜ (i ≤ r) × (r ≤ length (now (b .entry))) ⌝ }
+{
+    match params::param_end(b, i) {
+        Ended::At(_, p) => p,
+        Ended::Open(_) => b.len(),
+    }
+}
+
+// The item from i on.
+fn item_at(b: &[u8], i: usize) -> Item
+    requires { ⌜ i ≤ length (now b) ⌝ }
+    ensures { λ r. ⌜ ItemAt (now (b .entry)) i r ⌝ }
+{
+    let bound = item_end(b, i);
+    let w = scalars::trim(&b[i..bound]);
+    Item {
+        start: i + w.start,
+        stop: i + w.stop,
+        bound,
+    }
+}
+
+fn shape_of(t: &[u8]) -> Shape
+    ensures { λ r. ⌜ ShapeAt (now (t .entry)) r ⌝ }
+{
+    let n = t.len();
+    if n < 2 {
+        return Shape::NotList;
+    }
+    if t[0] != b'(' {
+        return Shape::NotList;
+    }
+    if t[n - 1] != b')' {
+        return Shape::NotList;
+    }
+    let w = scalars::trim(&t[1..n - 1]);
+    if w.start == w.stop {
+        return Shape::Blank;
+    }
+    Shape::Full
+}
+
+// Whether a text reads as an item of its kind.
+fn verdict_of(kind: Kind, t: &[u8]) -> Verdict
+    ensures { λ r. ⌜ toldVerdict r ≡ kindOf kind (now (t .entry)) ⌝ }
+{
+    match kind {
+        Kind::References => match reals::parse_ref(t) {
+            Reference::Value(_) => Verdict::Reads,
+            Reference::NotReference => Verdict::Wrong,
+        },
+        Kind::Integers => match reals::parse_int(t) {
+            Whole::Value(_) => Verdict::Reads,
+            Whole::NotWhole => Verdict::Wrong,
+        },
+        Kind::Floats => match reals::parse_real(t) {
+            Real::Value(_) => Verdict::Reads,
+            Real::Outside => Verdict::Outside,
+            Real::NotReal => Verdict::Wrong,
+        },
+    }
+}
+
+// Counts the items of a list's inside, or finds the first bad one.
+fn count_items(b: &[u8], kind: Kind) -> Counted
+    ensures { λ r. ⌜ toldCounted r ≡ fated length (itemsFrom (suc (length (now (b .entry)))) (kindOf kind) 0 (now (b .entry))) ⌝ }
+    ensures { λ r. ⌜ CountedIn (length (now (b .entry)) + 1) r ⌝ }
+{
+    let mut i: usize = 0;
+    let mut n: usize = 0;
+    loop {
+        let w = item_at(b, i);
+        let start = w.start;
+        let stop = w.stop;
+        let bound = w.bound;
+        match verdict_of(kind, &b[start..stop]) {
+            Verdict::Reads => n += 1,
+            Verdict::Wrong => return Counted::Wrong(start),
+            Verdict::Outside => return Counted::Outside(start),
+        }
+        if bound == b.len() {
+            return Counted::All(n);
+        }
+        i = bound + 1;
+    }
+}
+
+// Counts the items of a list, or finds what is wrong with it.
+fn count_list(t: &[u8], kind: Kind) -> Counted
+    ensures { λ r. ⌜ toldCounted r ≡ fated length (listBy (kindOf kind) (now (t .entry))) ⌝ }
+    ensures { λ r. ⌜ CountedIn (length (now (t .entry))) r ⌝ }
+{
+    match shape_of(t) {
+        Shape::NotList => Counted::Wrong(0),
+        Shape::Blank => Counted::All(0),
+        Shape::Full => {
+            let n = t.len();
+            match count_items(&t[1..n - 1], kind) {
+                Counted::All(k) => Counted::All(k),
+                Counted::Wrong(o) => Counted::Wrong(1 + o),
+                Counted::Outside(o) => Counted::Outside(1 + o),
+            }
+        }
+    }
+}
+
+// Writes the references of a list's inside that all read.
+fn fill_ref_items(b: &[u8], out: &mut [u32]) -> usize
+    requires { ⌜ Ready (itemsFrom (suc (length (now b))) (λ u. asFate (referenceOf u)) 0 (now b)) (length (now out)) ⌝ }
+    ensures { λ r. ⌜ now (out .exit) ≡ filled (valuesOf (itemsFrom (suc (length (now (b .entry)))) (λ u. asFate (referenceOf u)) 0 (now (b .entry)))) (now (out .entry)) ⌝ }
+    ensures { λ r. ⌜ r ≡ length (valuesOf (itemsFrom (suc (length (now (b .entry)))) (λ u. asFate (referenceOf u)) 0 (now (b .entry)))) ⌝ }
+{
+    let mut i: usize = 0;
+    let mut n: usize = 0;
+    loop {
+        let w = item_at(b, i);
+        let start = w.start;
+        let stop = w.stop;
+        let bound = w.bound;
+        let Reference::Value(v) = reals::parse_ref(&b[start..stop]) else {
+            return n;
+        };
+        out[n] = v;
+        n += 1;
+        if bound == b.len() {
+            return n;
+        }
+        i = bound + 1;
+    }
+}
+
+// Writes the references of a list that all read.
+fn fill_refs(t: &[u8], out: &mut [u32]) -> usize
+    requires { ⌜ Ready (listOf referenceOf (now t)) (length (now out)) ⌝ }
+    ensures { λ r. ⌜ now (out .exit) ≡ filled (valuesOf (listOf referenceOf (now (t .entry)))) (now (out .entry)) ⌝ }
+    ensures { λ r. ⌜ r ≡ length (valuesOf (listOf referenceOf (now (t .entry)))) ⌝ }
+{
+    match shape_of(t) {
+        Shape::NotList => 0,
+        Shape::Blank => 0,
+        Shape::Full => {
+            let n = t.len();
+            fill_ref_items(&t[1..n - 1], out)
+        }
+    }
+}
+
+// Whether a list that starts at `start` reads and fits: how many items it has, or 12, 13 or 16.
+fn room_for(t: &[u8], kind: Kind, start: usize, room: usize) -> Room
+    requires { ⌜ start + length (now t) < 2 ^ 63 ⌝ }
+    ensures { λ r. ⌜ toldRoom r ≡ roomed (λ n. leb n room) start (fated length (listBy (kindOf kind) (now (t .entry)))) ⌝ }
+{
+    match count_list(t, kind) {
+        Counted::Wrong(o) => Room::Refused(Fault::WrongType(start + o)),
+        Counted::Outside(o) => Room::Refused(Fault::OutsideClass(start + o)),
+        Counted::All(n) => {
+            if n <= room {
+                return Room::Fits(n);
+            }
+            Room::Refused(Fault::TooShort(start))
+        }
+    }
+}
+
+// Reads a list of references into lent numbers.
+pub fn next_ref_list(file: &[u8], at: State, out: &mut [u32]) -> NextList
+    ensures { λ r. ⌜ toldNextList r ≡ howMany (nextBy (listOf referenceOf) (fitsIn (length (now (out .entry)))) (now (file .entry)) (at .place) (at .end)) ⌝ }
+    ensures { λ r. ⌜ now (out .exit) ≡ written (nextBy (listOf referenceOf) (fitsIn (length (now (out .entry)))) (now (file .entry)) (at .place) (at .end) .answer) (now (out .entry)) ⌝ }
+{
+    match params::param_span(file, at) {
+        Cut::Refused(f, to) => NextList::Refused(f, to),
+        Cut::Span(start, stop, to) => {
+            let t = &file[start..stop];
+            match room_for(t, Kind::References, start, out.len()) {
+                Room::Refused(f) => NextList::Refused(f, to),
+                Room::Fits(n) => {
+                    fill_refs(t, out);
+                    NextList::Count(n, to)
+                }
+            }
+        }
+    }
+}
