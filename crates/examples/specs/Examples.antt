@@ -1,13 +1,14 @@
--- The starred examples 1 to 5 and 7 to 9 of document 01, proved of the definitions as one list under one statement.
+-- The starred examples 1 to 9 of document 01, proved of the definitions as one list under one statement.
 -- Assumes nothing.
 use Prim.Native.Nat.{ℕ, _-_, _+_}
 use Prim.Native.String.{String}
 use mathlib.Core.Path.{_≡_, refl}
 use mathlib.Core.Bool.{Bool, true, false}
 use mathlib.Core.List.{List, [], _∷_, map}
+use mathlib.Core.Option.{Option, none, some}
 use lib.Dec.{eqb}
 use lib.Ieee.{size}
-use lib.ListN.{length, take, drop}
+use lib.ListN.{length, take, drop, getD}
 use Rattle.error.specs.Refusal.{Refusal, refusal, Told, good, bad}
 use Rattle.lex.specs.Byte.{pick}
 use Rattle.lex.specs.Walk.{walk}
@@ -21,6 +22,7 @@ use Rattle.statement.specs.Statement.{statement}
 use Rattle.scan.specs.File.{Table, largest, readFrom, scanOf}
 use Rattle.nearest.specs.Near.{near, nearUnits}
 use Rattle.reals.specs.Scalar.{Answer, read, refused, parseOf, realOf}
+use Rattle.index.specs.Lookup.{written, lookupOf}
 use Rattle.utf8.specs.Utf8.{encode, encodeAll, leadOf}
 use Rattle.strings.specs.Text.{groupTwo, groupFour, groupsFrom, directiveOf, pieceOf, textFrom, textOf, bytesOf}
 
@@ -58,14 +60,24 @@ lineOf s w = record {
 abbrev pub listed : List ℕ → Table → Listing
 listed s t = listing (length (t .records)) (largest (t .records)) (map (lineOf s) (t .records))
 
--- an input and what is owed for it: a file with its listing or refusal, a string with its text in UTF-8, or a real with its f64's
+-- the line of the record that is served, where the lookup gives its number
+abbrev pub lineAt : List Line → Option ℕ → Option Line
+lineAt ls none = none
+lineAt ls (some r) = some (getD ls r (line 0 "" 0 0))
+
+-- "Lookup of an id answers like a map written to in file order": the line of the record that is served for k
+abbrev pub served : List ℕ → ℕ → Table → Option Line
+served s k t = lineAt (map (lineOf s) (t .records)) (lookupOf (λ r. getD (map (λ (w : Row). w .id) (t .records)) r 0) (length (t .records)) k)
+
+-- an input and what is owed for it: a file with its listing or refusal, a file and an id with the record that is served, a string with its text in UTF-8, or a real with its f64's
 -- bits or its refusal's number
 pub data Example : Type 0 where
   file : String → Told Listing → Example
+  lookup : String → ℕ → Told (Option Line) → Example
   string : String → List ℕ → Example
   real : String → Answer ℕ → Example
 
--- examples 1 to 5 and 7 to 9, in document 01's order; 5 has two inputs, 7 three and 9 four
+-- examples 1 to 9, in document 01's order; 5 has two inputs, 7 three and 9 four
 abbrev pub examples : List Example
 examples =
     file "ISO-10303-21;HEADER;FILE_SCHEMA(('X'));ENDSEC;DATA;#1=A('a;''b',#2);#2=(P(1.)Q($));ENDSEC;END-ISO-10303-21;"
@@ -75,6 +87,7 @@ examples =
     ∷ file "ISO-10303-21;DATA;;" (bad (refusal 7 2 18))
     ∷ file "ISO-10303-21;DATA;#4294967295=A();" (good (listing 1 4294967295 (line 4294967295 "A" 32 32 ∷ [])))
     ∷ file "ISO-10303-21;DATA;#4294967296=A();" (bad (refusal 7 3 18))
+    ∷ lookup "ISO-10303-21;DATA;#1=A(1);#1=B(2);" 1 (good (some (line 1 "B" 31 32)))
     ∷ string "\\X2\\00C40042\\X0\\" (0xc3 ∷ 0x84 ∷ 0x42 ∷ [])
     ∷ string "\\S\\D" (0xc3 ∷ 0x84 ∷ [])
     ∷ string "\\X\\C4" (0xc3 ∷ 0x84 ∷ [])
@@ -89,10 +102,11 @@ examples =
 abbrev pub Holds : List Example → Type 0
 Holds [] = Unit {0}
 Holds (file s a ∷ es) = (mapped (listed (bytes s)) (scanOf (bytes s) 2 2) ≡ a) × Holds es
+Holds (lookup s k a ∷ es) = (mapped (served (bytes s) k) (scanOf (bytes s) 2 2) ≡ a) × Holds es
 Holds (string s t ∷ es) = (bytesOf (bytes s) ≡ t) × Holds es
 Holds (real s a ∷ es) = (realOf (bytes s) ≡ a) × Holds es
 
 -- "Starred examples are proved of the definitions as one list under one statement"
 pub examples-hold : Holds examples
-unfolding walk trivia recordEnd closing past numberFrom keyword trail same wordOf dataHead headerHead recordOf headerOf statement largest readFrom scanOf realOf parseOf near nearUnits size encode encodeAll leadOf groupTwo groupFour groupsFrom directiveOf pieceOf textFrom textOf bytesOf
-examples-hold = (refl, (refl, (refl, (refl, (refl, (refl, (refl, (refl, (refl, (refl, (refl, (refl, (refl, (refl, tt))))))))))))))
+unfolding walk trivia recordEnd closing past numberFrom keyword trail same wordOf dataHead headerHead recordOf headerOf statement largest readFrom scanOf realOf parseOf near nearUnits size encode encodeAll leadOf groupTwo groupFour groupsFrom directiveOf pieceOf textFrom textOf bytesOf written
+examples-hold = (refl, (refl, (refl, (refl, (refl, (refl, (refl, (refl, (refl, (refl, (refl, (refl, (refl, (refl, (refl, tt)))))))))))))))
