@@ -1,7 +1,8 @@
 //! The proved decoding of a string beside the Rust original's `decode_string`, in one executable; see texts.sh.
 //!
-//!   texts              the tables: lists of strings, and time against length
-//!   texts once SIDE N  one reading of list N, 0 or 1, by one side, `rust` or `proved`, for a count of instructions; `none` reads none
+//!   texts                 the tables: lists of strings, and time against length
+//!   texts once SIDE LIST  one reading of a list, `plain` or `escaped`, by one side, `rust` or `proved`, for a count of instructions;
+//!                      `none` reads none; prints how many strings the list has
 #[path = "src/clock.rs"]
 #[allow(dead_code)]
 mod clock;
@@ -22,7 +23,8 @@ unsafe extern "C" {
     ) -> u8;
 }
 
-const COUNT: usize = 200_000;
+/// Bytes of a list, and how often it is read.
+const SIZE: usize = 4_000_000;
 const ROUNDS: usize = 40;
 
 /// How long the text is, and whether it is the string itself. The room suffices.
@@ -80,8 +82,8 @@ struct List {
 impl List {
     fn new(name: &'static str, seed: u64, one: impl Fn(&mut Draw) -> Vec<u8>) -> List {
         let mut draw = Draw(seed);
-        let mut list = List { name, bytes: Vec::new(), ends: Vec::with_capacity(COUNT) };
-        for _ in 0..COUNT {
+        let mut list = List { name, bytes: Vec::new(), ends: Vec::new() };
+        while list.bytes.len() < SIZE {
             list.bytes.extend_from_slice(&one(&mut draw));
             list.ends.push(list.bytes.len());
         }
@@ -110,13 +112,21 @@ fn groups(d: &mut Draw, directive: &str, n: usize, width: usize, first: usize, c
     format!("\\{directive}\\{digits}\\X0\\").into_bytes()
 }
 
+fn plain_names() -> List {
+    List::new("plain, 6 to 20 bytes", 1, |d| d.word(6, 20))
+}
+
+fn escaped_names() -> List {
+    List::new("one letter as `\\X2\\00E4\\X0\\` in a name", 2, |d| {
+        let g = groups(d, "X2", 1, 4, 0xC0, 64);
+        around(d, &g)
+    })
+}
+
 fn lists() -> Vec<List> {
     vec![
-        List::new("plain, 6 to 20 bytes", 1, |d| d.word(6, 20)),
-        List::new("one letter as `\\X2\\00E4\\X0\\` in a name", 2, |d| {
-            let g = groups(d, "X2", 1, 4, 0xC0, 64);
-            around(d, &g)
-        }),
+        plain_names(),
+        escaped_names(),
         List::new("plain, 100 bytes", 3, |d| d.word(100, 100)),
         List::new("plain, 1,000 bytes", 4, |d| d.word(1000, 1000)),
         List::new("one letter as `\\X\\E4`", 5, |d| around(d, b"\\X\\E4")),
@@ -160,8 +170,8 @@ fn list_table(out: &mut [u8]) {
             least(&mut a, || rust_list(black_box(&list)));
             least(&mut b, || proved_list(black_box(&list), out));
         }
-        let each = |n: u64| n as f64 / COUNT as f64;
-        let bytes = list.bytes.len() as f64 / COUNT as f64;
+        let each = |n: u64| n as f64 / list.ends.len() as f64;
+        let bytes = each(list.bytes.len() as u64);
         println!("| {} | {bytes:.1} | {:.1} | {:.1} | {:.2} |", list.name, each(a), each(b), b as f64 / a as f64);
     }
 }
@@ -225,13 +235,13 @@ fn main() {
     if args.next().as_deref() == Some("once") {
         let mut out = vec![0u8; 4096];
         let side = args.next().unwrap_or_default();
-        let all = lists();
-        let which = usize::from(args.next().as_deref() == Some("1"));
+        let list = if args.next().as_deref() == Some("escaped") { escaped_names() } else { plain_names() };
         match side.as_str() {
-            "rust" => black_box(rust_list(&all[which])),
-            "proved" => black_box(proved_list(&all[which], &mut out)),
+            "rust" => black_box(rust_list(&list)),
+            "proved" => black_box(proved_list(&list, &mut out)),
             _ => 0,
         };
+        println!("{}", list.ends.len());
         return;
     }
     list_table(&mut vec![1u8; 4096]);

@@ -42,16 +42,16 @@ echo
 "$program"
 
 command -v valgrind >/dev/null || exit 0
-# What a side's run has more than a run of neither.
+# What a side's run has more than a run of neither, for each string.
 instructions() { # instructions SIDE LIST
     valgrind --tool=callgrind --callgrind-out-file=/dev/null "$program" once "$1" "$2" 2>&1 |
         sed -n 's/.*Collected : \([0-9]*\).*/\1/p'
 }
-none=$(instructions none 0)
+more() { # more SIDE LIST
+    awk -v a="$(instructions "$1" "$2")" -v b="$(instructions none "$2")" -v n="$("$program" once none "$2")" \
+        'BEGIN { printf "%.1f", (a - b) / n }'
+}
 printf '\n| side | instructions for each plain string of 6 to 20 bytes | with one `\\X2\\` directive |\n|---|---|---|\n'
 for side in rust proved; do
-    plain=$(instructions "$side" 0)
-    escaped=$(instructions "$side" 1)
-    awk -v s="$side" -v p="$((plain - none))" -v e="$((escaped - none))" \
-        'BEGIN { printf "| %s | %.1f | %.1f |\n", s, p / 200000, e / 200000 }'
+    echo "| $side | $(more "$side" plain) | $(more "$side" escaped) |"
 done
