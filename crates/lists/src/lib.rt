@@ -253,3 +253,64 @@ pub fn next_ref_list(file: &[u8], at: State, out: &mut [u32]) -> NextList
         }
     }
 }
+
+// Writes the integers of a list's inside that all read.
+fn fill_whole_items(b: &[u8], out: &mut [i64]) -> usize
+    requires { ⌜ Ready (itemsFrom (suc (length (now b))) (λ u. asFate (wholeOf u)) 0 (now b)) (length (now out)) ⌝ }
+    ensures { λ r. ⌜ now (out .exit) ≡ filled (valuesOf (itemsFrom (suc (length (now (b .entry)))) (λ u. asFate (wholeOf u)) 0 (now (b .entry)))) (now (out .entry)) ⌝ }
+    ensures { λ r. ⌜ r ≡ length (valuesOf (itemsFrom (suc (length (now (b .entry)))) (λ u. asFate (wholeOf u)) 0 (now (b .entry)))) ⌝ }
+{
+    let mut i: usize = 0;
+    let mut n: usize = 0;
+    loop {
+        let w = item_at(b, i);
+        let start = w.start;
+        let stop = w.stop;
+        let bound = w.bound;
+        let Whole::Value(v) = reals::parse_int(&b[start..stop]) else {
+            return n;
+        };
+        out[n] = v;
+        n += 1;
+        if bound == b.len() {
+            return n;
+        }
+        i = bound + 1;
+    }
+}
+
+// Writes the integers of a list that all read.
+fn fill_wholes(t: &[u8], out: &mut [i64]) -> usize
+    requires { ⌜ Ready (listOf wholeOf (now t)) (length (now out)) ⌝ }
+    ensures { λ r. ⌜ now (out .exit) ≡ filled (valuesOf (listOf wholeOf (now (t .entry)))) (now (out .entry)) ⌝ }
+    ensures { λ r. ⌜ r ≡ length (valuesOf (listOf wholeOf (now (t .entry)))) ⌝ }
+{
+    match shape_of(t) {
+        Shape::NotList => 0,
+        Shape::Blank => 0,
+        Shape::Full => {
+            let n = t.len();
+            fill_whole_items(&t[1..n - 1], out)
+        }
+    }
+}
+
+// Reads a list of integers into lent numbers.
+pub fn next_i64_list(file: &[u8], at: State, out: &mut [i64]) -> NextList
+    ensures { λ r. ⌜ toldNextList r ≡ howMany (nextBy (listOf wholeOf) (fitsIn (length (now (out .entry)))) (now (file .entry)) (at .place) (at .end)) ⌝ }
+    ensures { λ r. ⌜ now (out .exit) ≡ written (nextBy (listOf wholeOf) (fitsIn (length (now (out .entry)))) (now (file .entry)) (at .place) (at .end) .answer) (now (out .entry)) ⌝ }
+{
+    match params::param_span(file, at) {
+        Cut::Refused(f, to) => NextList::Refused(f, to),
+        Cut::Span(start, stop, to) => {
+            let t = &file[start..stop];
+            match room_for(t, Kind::Integers, start, out.len()) {
+                Room::Refused(f) => NextList::Refused(f, to),
+                Room::Fits(n) => {
+                    fill_wholes(t, out);
+                    NextList::Count(n, to)
+                }
+            }
+        }
+    }
+}
