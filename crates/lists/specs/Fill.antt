@@ -72,6 +72,12 @@ module _ {A : Type 0} (vs out : List A) (n : ℕ) (v : A) (l : List A) (here : d
       let m : n + 1 ≡ length vs = omega (arith, length-drop n vs, ap length here, ap length e) in
       (ap (λ (k : ℕ). take k vs ++ drop k out) m ∙ ap (λ (x : List A). x ++ drop (length vs) out) (take-length vs), m)
 
+-- a list told by f, of which one place is written
+pub map-set : {A B : Type 0} (f : A → B) (l : List A) (n : ℕ) (v : A) → map f (set l n v) ≡ set (map f l) n (f v)
+map-set f [] n v = refl
+map-set f (x ∷ l) zero v = refl
+map-set {B = B} f (x ∷ l) (suc n) v = ap (λ (t : List B). f x ∷ t) (map-set f l n v)
+
 -- so many of a list's values are written: the lent list was out₀ and is out, and i is the place of the next item
 pub record Filling {A : Type 0} (g : List ℕ → Fate A) (b : List ℕ) (out₀ out : List A) (i n : ℕ) : Type 0 where
   pub few : n ≤ i

@@ -85,23 +85,23 @@ room-refused (fine vs) a room q e = go (leb (length vs) room) refl e
     go false h e = rw h (let p : refusal 16 0 a ≡ q = cc in ap bad p)
 room-refused (faulty k o) a room q e = let p : refusal k 0 (a + o) ≡ q = cc in ap bad p
 
-module _ {A : Type 0} (g : List ℕ → Fate (List A)) (out : List A) (s : List ℕ) (p e : ℕ) where
+module _ {A : Type 0} (g : List ℕ → Fate (List A)) (out : List A) (room : ℕ) (s : List ℕ) (p e : ℕ) where
   -- no parameter is cut
   pub lists-uncut : (q : Refusal) (p′ e′ : ℕ) → reading (bad q) p′ e′ ≡ paramOf s p e
-      → (reading (bad q) p′ e′ ≡ howMany (nextBy g (fitsIn (length out)) s p e)) × (out ≡ written (nextBy g (fitsIn (length out)) s p e .answer) out)
+      → (reading (bad q) p′ e′ ≡ howMany (nextBy g (fitsIn room) s p e)) × (out ≡ written (nextBy g (fitsIn room) s p e .answer) out)
   unfolding nextBy
   lists-uncut q p′ e′ h = (rw (← h) refl, rw (← h) refl)
 
   module _ (a z p′ e′ : ℕ) (h : reading (good (span a z)) p′ e′ ≡ paramOf s p e) where
     -- a list that is refused
-    pub lists-refused : (q : Refusal) → roomed (fitsIn (length out)) a (g (take (z - a) (drop a s))) ≡ bad q
-        → (reading (bad q) p′ e′ ≡ howMany (nextBy g (fitsIn (length out)) s p e)) × (out ≡ written (nextBy g (fitsIn (length out)) s p e .answer) out)
+    pub lists-refused : (q : Refusal) → roomed (fitsIn room) a (g (take (z - a) (drop a s))) ≡ bad q
+        → (reading (bad q) p′ e′ ≡ howMany (nextBy g (fitsIn room) s p e)) × (out ≡ written (nextBy g (fitsIn room) s p e .answer) out)
     unfolding nextBy
     lists-refused q k = (rw (← h, k) refl, rw (← h, k) refl)
 
     -- a list that is read
-    pub lists-read : (vs w : List A) → roomed (fitsIn (length out)) a (g (take (z - a) (drop a s))) ≡ good vs → w ≡ filled vs out
-        → (reading (good (length vs)) p′ e′ ≡ howMany (nextBy g (fitsIn (length out)) s p e)) × (w ≡ written (nextBy g (fitsIn (length out)) s p e .answer) out)
+    pub lists-read : (vs w : List A) → roomed (fitsIn room) a (g (take (z - a) (drop a s))) ≡ good vs → w ≡ filled vs out
+        → (reading (good (length vs)) p′ e′ ≡ howMany (nextBy g (fitsIn room) s p e)) × (w ≡ written (nextBy g (fitsIn room) s p e .answer) out)
     unfolding nextBy
     lists-read vs w k l = (rw (← h, k) refl, rw (← h, k) l)
 

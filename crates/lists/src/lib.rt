@@ -314,3 +314,64 @@ pub fn next_i64_list(file: &[u8], at: State, out: &mut [i64]) -> NextList
         }
     }
 }
+
+// Writes the reals of a list's inside that all read.
+fn fill_real_items(b: &[u8], out: &mut [f64]) -> usize
+    requires { ⌜ Ready (itemsFrom (suc (length (now b))) (λ u. asFate (realOf u)) 0 (now b)) (length (now out)) ⌝ }
+    ensures { λ r. ⌜ map (toBits binary64) (now (out .exit)) ≡ filled (valuesOf (itemsFrom (suc (length (now (b .entry)))) (λ u. asFate (realOf u)) 0 (now (b .entry)))) (map (toBits binary64) (now (out .entry))) ⌝ }
+    ensures { λ r. ⌜ r ≡ length (valuesOf (itemsFrom (suc (length (now (b .entry)))) (λ u. asFate (realOf u)) 0 (now (b .entry)))) ⌝ }
+{
+    let mut i: usize = 0;
+    let mut n: usize = 0;
+    loop {
+        let w = item_at(b, i);
+        let start = w.start;
+        let stop = w.stop;
+        let bound = w.bound;
+        let Real::Value(v) = reals::parse_real(&b[start..stop]) else {
+            return n;
+        };
+        out[n] = v;
+        n += 1;
+        if bound == b.len() {
+            return n;
+        }
+        i = bound + 1;
+    }
+}
+
+// Writes the reals of a list that all read.
+fn fill_reals(t: &[u8], out: &mut [f64]) -> usize
+    requires { ⌜ Ready (listOf realOf (now t)) (length (now out)) ⌝ }
+    ensures { λ r. ⌜ map (toBits binary64) (now (out .exit)) ≡ filled (valuesOf (listOf realOf (now (t .entry)))) (map (toBits binary64) (now (out .entry))) ⌝ }
+    ensures { λ r. ⌜ r ≡ length (valuesOf (listOf realOf (now (t .entry)))) ⌝ }
+{
+    match shape_of(t) {
+        Shape::NotList => 0,
+        Shape::Blank => 0,
+        Shape::Full => {
+            let n = t.len();
+            fill_real_items(&t[1..n - 1], out)
+        }
+    }
+}
+
+// Reads a list of reals into lent numbers.
+pub fn next_f64_list(file: &[u8], at: State, out: &mut [f64]) -> NextList
+    ensures { λ r. ⌜ toldNextList r ≡ howMany (nextBy (listOf realOf) (fitsIn (length (now (out .entry)))) (now (file .entry)) (at .place) (at .end)) ⌝ }
+    ensures { λ r. ⌜ map (toBits binary64) (now (out .exit)) ≡ written (nextBy (listOf realOf) (fitsIn (length (now (out .entry)))) (now (file .entry)) (at .place) (at .end) .answer) (map (toBits binary64) (now (out .entry))) ⌝ }
+{
+    match params::param_span(file, at) {
+        Cut::Refused(f, to) => NextList::Refused(f, to),
+        Cut::Span(start, stop, to) => {
+            let t = &file[start..stop];
+            match room_for(t, Kind::Floats, start, out.len()) {
+                Room::Refused(f) => NextList::Refused(f, to),
+                Room::Fits(n) => {
+                    fill_reals(t, out);
+                    NextList::Count(n, to)
+                }
+            }
+        }
+    }
+}

@@ -71,14 +71,14 @@ fill-wholes-requires c κs = let r = c .before .before .before .before in
 -- src/lib.rt:299:1
 returns : tie.Need-returns
 returns c = let t = c .before .before .before .before .before in
-    lists-uncut (listOf wholeOf) (now (t .args .out)) (now (t .args .file)) (t .args .at .place) (t .args .at .end) _ _ _ (ap toldCut (sym (c .before .f .given .1)) ∙ c .before .before .before .param-span .ensures .0)
+    lists-uncut (listOf wholeOf) (now (t .args .out)) (length (now (t .args .out))) (now (t .args .file)) (t .args .at .place) (t .args .at .end) _ _ _ (ap toldCut (sym (c .before .f .given .1)) ∙ c .before .before .before .param-span .ensures .0)
 
 -- src/lib.rt:299:1
 returns-2 : tie.Need-returns-2
 returns-2 c = let r = c .before .before .before in
     let g = r .before .before .before in
     let t = g .before .before .before .before in
-    lists-refused (listOf wholeOf) (now (t .args .out)) (now (t .args .file)) (t .args .at .place) (t .args .at .end) _ _ _ _ (ap toldCut (sym (g .start .given .1)) ∙ g .before .before .param-span .ensures .0) _
+    lists-refused (listOf wholeOf) (now (t .args .out)) (length (now (t .args .out))) (now (t .args .file)) (t .args .at .place) (t .args .at .end) _ _ _ _ (ap toldCut (sym (g .start .given .1)) ∙ g .before .before .param-span .ensures .0) _
     (room-refused (listOf wholeOf (take (g .start .given .0 .1 .0 - g .start .given .0 .0) (drop (g .start .given .0 .0) (now (t .args .file))))) (g .start .given .0 .0) (length (now (t .args .out))) _ (ap toldRoom (sym (c .before .f2 .given .1)) ∙ r .room-for .ensures ∙ ap (roomed (λ (k : ℕ). leb k (length (now (t .args .out)))) (g .start .given .0 .0)) (count-mute (λ v. asFate (wholeOf v)) _)))
 
 -- src/lib.rt:299:1
@@ -94,7 +94,7 @@ returns-3 c = let i = c .before in
     let u = listOf wholeOf (take (g .start .given .0 .1 .0 - g .start .given .0 .0) (drop (g .start .given .0 .0) (now (t .args .file)))) in
     let (x, y, z, w) = room-fits u (g .start .given .0 .0) (length (now (t .args .out))) _
     (ap toldRoom (sym (i .before .before .before .n .given .1)) ∙ r .room-for .ensures ∙ ap (roomed (λ (k : ℕ). leb k (length (now (t .args .out)))) (g .start .given .0 .0)) (count-mute (λ v. asFate (wholeOf v)) _)) in
-    let (a, b) = lists-read (listOf wholeOf) (now (t .args .out)) (now (t .args .file)) (t .args .at .place) (t .args .at .end) _ _ _ _ (ap toldCut (sym (g .start .given .1)) ∙ g .before .before .param-span .ensures .0) (valuesOf u) _ w (i .fill-wholes .ensures .0) in
+    let (a, b) = lists-read (listOf wholeOf) (now (t .args .out)) (length (now (t .args .out))) (now (t .args .file)) (t .args .at .place) (t .args .at .end) _ _ _ _ (ap toldCut (sym (g .start .given .1)) ∙ g .before .before .param-span .ensures .0) (valuesOf u) _ w (i .fill-wholes .ensures .0) in
     (ap (λ (k : ℕ). reading (good k) (g .start .given .0 .1 .1 .0 .place) (g .start .given .0 .1 .1 .0 .end)) (sym y) ∙ a, b)
 
 pub next-i64-list-spec : {M : Type 1} → statement M
