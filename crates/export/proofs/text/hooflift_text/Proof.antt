@@ -32,7 +32,7 @@ returns c =
     let e : Plain ≡ decodedOf (now (a .raw)) (length (now (a .out))) = rw (c .enum-told .given .1) at (p .decode-string .ensures .0) in (
       ap (λ (d : Decoded). textCode d) e,
       (
-        p .decode-string .ensures .1,
+        p .decode-string .ensures .1 .0,
         (
           ap (λ (d : Decoded). textPlace d (now (a .place))) e,
           ap (λ (d : Decoded). textCount d (length (now (a .raw))) (now (a .count))) e,
@@ -50,7 +50,7 @@ returns-2 c =
     let e = rw (c .before .n .given .1) at (p .decode-string .ensures .0) in (
       ap (λ (d : Decoded). textCode d) e,
       (
-        p .decode-string .ensures .1,
+        p .decode-string .ensures .1 .0,
         (
           ap (λ (d : Decoded). textPlace d (now (a .place))) e,
           ap (λ (d : Decoded). textCount d (length (now (a .raw))) (now (a .count))) e,
@@ -68,7 +68,7 @@ returns-3 c =
     let e : Short ≡ decodedOf (now (a .raw)) (length (now (a .out))) = rw (c .enum-told2 .given .1) at (p .decode-string .ensures .0) in (
       ap (λ (d : Decoded). textCode d) e,
       (
-        p .decode-string .ensures .1,
+        p .decode-string .ensures .1 .0,
         (
           ap (λ (d : Decoded). textPlace d (now (a .place))) e,
           ap (λ (d : Decoded). textCount d (length (now (a .raw))) (now (a .count))) e,
