@@ -138,6 +138,7 @@ fn lists() -> Vec<List> {
         List::new("a path with lone backslashes", 11, |d| [&b"C:\\q"[..], &d.word(4, 8), b"\\q", &d.word(4, 8)].concat()),
         List::new("8 Han characters in one `\\X2\\`", 12, |d| groups(d, "X2", 8, 4, 0x4E00, 0x5000)),
         List::new("100 Han characters in one `\\X2\\`", 13, |d| groups(d, "X2", 100, 4, 0x4E00, 0x5000)),
+        List::new("100 times the same Han character", 17, |d| groups(d, "X2", 100, 4, 0x4E2D, 1)),
         List::new("4 emoji in one `\\X4\\`", 14, |d| groups(d, "X4", 4, 8, 0x1F600, 80)),
         List::new("30 Han characters in raw UTF-8", 15, |d| {
             (0..30).map(|_| char::from_u32(0x4E00 + d.below(0x5000) as u32).unwrap()).collect::<String>().into_bytes()
@@ -176,44 +177,52 @@ fn list_table(out: &mut [u8]) {
     }
 }
 
-/// A start, what is repeated, and an end.
+/// A start, what is repeated (where it is empty, groups of four drawn hex digits that are no surrogate), and an end.
 type Hostile = (&'static str, &'static [u8], &'static [u8], &'static [u8]);
 
-const HOSTILE: [Hostile; 10] = [
+const HOSTILE: [Hostile; 12] = [
     ("plain", b"", b"a", b""),
     ("`\\X2\\ZZZZ` again and again", b"", b"\\X2\\ZZZZ", b""),
     ("`\\X2\\D83D` again and again", b"", b"\\X2\\D83D", b""),
     ("`\\X2\\0041` again and again", b"", b"\\X2\\0041", b""),
-    ("`\\X2\\`, hex digits and a bad group at the end", b"\\X2\\", b"0041", b"ZZZZ"),
-    ("`\\X4\\`, hex digits and a bad group at the end", b"\\X4\\", b"0001F600", b"0000000Z"),
-    ("`\\X2\\` and hex digits", b"\\X2\\", b"00E4", b"\\X0\\"),
+    ("`\\X2\\`, `0041` and a bad group at the end", b"\\X2\\", b"0041", b"ZZZZ"),
+    ("`\\X4\\`, `0001F600` and a bad group at the end", b"\\X4\\", b"0001F600", b"0000000Z"),
+    ("`\\X2\\`, drawn digits and a bad group at the end", b"\\X2\\", b"", b"ZZZZ"),
+    ("`\\X2\\` and drawn digits", b"\\X2\\", b"", b"\\X0\\"),
+    ("`\\X2\\` and `00E4`", b"\\X2\\", b"00E4", b"\\X0\\"),
     ("backslashes", b"", b"\\", b""),
     ("the bytes E2 82, a sequence cut short", b"", b"\xE2\x82", b""),
     ("the byte 80", b"", b"\x80", b""),
 ];
 
-fn made(case: &Hostile, size: usize) -> Vec<u8> {
+fn made(case: &Hostile, size: usize, seed: u64) -> Vec<u8> {
     let (_, start, piece, end) = case;
+    let mut draw = Draw(seed);
     let mut s = start.to_vec();
-    while s.len() + piece.len() + end.len() <= size {
-        s.extend_from_slice(piece);
+    while s.len() + piece.len().max(4) + end.len() <= size {
+        match piece {
+            [] => s.extend_from_slice(format!("{:04X}", draw.below(0xD800)).as_bytes()),
+            _ => s.extend_from_slice(piece),
+        }
     }
     s.extend_from_slice(end);
     s
 }
 
-/// Nanoseconds a byte of both sides: the least of some rounds, each of a megabyte at least.
+/// Nanoseconds a byte of both sides: the least of some rounds, each of a megabyte at least. Drawn digits differ from string to string:
+/// a processor learns the jumps of a short one that is read again and again.
 fn growth(case: &Hostile, size: usize, out: &mut [u8]) -> (f64, f64) {
-    let s = made(case, size);
-    agree(case.0, &s, out);
-    let again = (1_000_000 / s.len()).max(1);
-    let rounds = (50_000_000 / (s.len() * again)).clamp(3, 20);
+    let again = (1_000_000 / size).max(1);
+    let strings: Vec<Vec<u8>> = (0..again).map(|k| made(case, size, k as u64)).collect();
+    strings.iter().for_each(|s| agree(case.0, s, out));
+    let bytes = strings.iter().map(|s| s.len()).sum::<usize>();
+    let rounds = (50_000_000 / bytes).clamp(3, 20);
     let (mut a, mut b) = (u64::MAX, u64::MAX);
     for _ in 0..rounds {
-        least(&mut a, || (0..again).map(|_| black_box(decode_string(black_box(&s))).len()).sum::<usize>());
-        least(&mut b, || (0..again).map(|_| black_box(proved(black_box(&s), out)).0).sum::<usize>());
+        least(&mut a, || strings.iter().map(|s| black_box(decode_string(black_box(s))).len()).sum::<usize>());
+        least(&mut b, || strings.iter().map(|s| black_box(proved(black_box(s), out)).0).sum::<usize>());
     }
-    let each = |n: u64| n as f64 / (again * s.len()) as f64;
+    let each = |n: u64| n as f64 / bytes as f64;
     (each(a), each(b))
 }
 

@@ -16,8 +16,8 @@ import sys
 from generate import Rng
 
 # A quote; the backslash and the letters and digits of directives; a hex digit and a letter that is none; of UTF-8 a byte for each
-# row of RFC 3629's table and each bound within: 80 and A9 lie on two sides of every narrower range of a second byte (A0 from up
-# after E0, up to 9F after ED, 90 from up after F0, up to 8F after F4), and C0 begins nothing.
+# row of RFC 3629's table and each bound within: 80 and A9 lie on two sides of every narrower range of a second byte (from A0 up
+# after E0, up to 9F after ED, from 90 up after F0, up to 8F after F4), and C0 begins nothing.
 BYTES = b"'\\NSTPX024AZ" + bytes([0x80, 0xA9, 0xC0, 0xC3, 0xE0, 0xE2, 0xED, 0xF0, 0xF4])
 
 PIECES = [b"00", b"41", b"D8", b"3D", b"DE", b"Z", b"\\", b"\\X0\\", b"''"]
