@@ -178,9 +178,11 @@ body-short [] h = refl
 body-short (c ∷ []) h = rw (and-false (eqb c 40) (eqb 0 41) refl) refl
 body-short (c ∷ d ∷ r) h = absurd (omega arith)
 
+-- a parameter whose first byte is no `(` is no list
 pub body-first : (t : List ℕ) → 1 < length t → (getD t 0 0 ≡ 40 → ⊥) → bodyOf t ≡ bare
 body-first t h k = sym (body-split t (omega arith)) ∙ rw (ne-eqb (getD t 0 0) 40 k) refl
 
+-- nor is one whose last byte is no `)`
 pub body-last : (t : List ℕ) → 1 < length t → (getD t (length t - 1) 0 ≡ 41 → ⊥) → bodyOf t ≡ bare
 body-last t h k =
     sym (body-split t (omega arith))
@@ -225,9 +227,11 @@ module _ {A : Type 0} (g : List ℕ → Fate A) (t : List ℕ) where
 pub shape-none : (t : List ℕ) (r : Shape) → ShapeAt t r → r ≡ NotList → bodyOf t ≡ bare
 shape-none t r h e = subst (ShapeAt t) e h
 
+-- what the code's answer says of a list with nothing between its parentheses
 pub shape-blank : (t : List ℕ) (r : Shape) → ShapeAt t r → r ≡ Blank → (b : List ℕ) × (bodyOf t ≡ inside b) × (isNone (trimmed b) ≡ true)
 shape-blank t r h e = subst (ShapeAt t) e h
 
+-- what it says of a list with items
 pub shape-full : (t : List ℕ) (r : Shape) → ShapeAt t r → r ≡ Full
     → (2 ≤ length t) × (bodyOf t ≡ inside (take (length t - 1 - 1) (drop 1 t))) × (isNone (trimmed (take (length t - 1 - 1) (drop 1 t))) ≡ false)
 shape-full t r h e = subst (ShapeAt t) e h
@@ -252,8 +256,10 @@ counted-full {A} g t r h e a k =
 pub counted-wrong : (n o : ℕ) (r : Counted) → CountedIn n r → r ≡ Wrong o → o ≤ n
 counted-wrong n o r h e = subst (CountedIn n) e h
 
+-- the place of an item outside the class lies in the list
 pub counted-outside : (n o : ℕ) (r : Counted) → CountedIn n r → r ≡ Outside o → o ≤ n
 counted-outside n o r h e = subst (CountedIn n) e h
 
+-- there are no more items than places in the list
 pub counted-all : (n k : ℕ) (r : Counted) → CountedIn n r → r ≡ All k → k ≤ n
 counted-all n k r h e = subst (CountedIn n) e h
