@@ -32,7 +32,7 @@ cut-deaf : (d : ℕ) (o s : List ℕ) → Deaf cutTurn cutEnd (λ m. stand m fal
 cut-deaf d o s = record { quiet = λ m c r h. rw h; starred = refl }
 
 -- outside literals and comments, with d open parentheses, the parameter reaching to s
-abbrev plainly : ℕ → List ℕ → List ℕ → Cut
+abbrev pub plainly : ℕ → List ℕ → List ℕ → Cut
 plainly d s xs = from Plain false d xs s xs
 
 -- where the last byte outside stood has no part in it
@@ -58,7 +58,7 @@ white-not : (c k : ℕ) → white c ≡ true → white k ≡ false → eqb c k �
 white-not c k h e = ne-eqb c k (λ p. let q : white k ≡ true = ap white (sym p) ∙ h in clash (cc))
 
 -- whitespace is passed over
-blank-step : (d : ℕ) (s : List ℕ) (c : ℕ) (r : List ℕ) → white c ≡ true → plainly d s (c ∷ r) ≡ plainly d s r
+pub blank-step : (d : ℕ) (s : List ℕ) (c : ℕ) (r : List ℕ) → white c ≡ true → plainly d s (c ∷ r) ≡ plainly d s r
 unfolding walk
 blank-step d s c r h =
     rw (h, white-not c 44 h refl, white-not c 39 h refl, white-not c 47 h refl, white-not c 34 h refl, white-not c 40 h refl, white-not c 41 h refl)
@@ -70,14 +70,14 @@ unfolding walk
 remark-start d s t = refl
 
 -- a whole comment is passed over
-comment-step : (d : ℕ) (s : List ℕ) {xs ys : List ℕ} → Comment xs ys → plainly d s xs ≡ plainly d s ys
+pub comment-step : (d : ℕ) (s : List ℕ) {xs ys : List ℕ} → Comment xs ys → plainly d s xs ≡ plainly d s ys
 comment-step d s {ys} q =
     let o : List ℕ = 47 ∷ 42 ∷ (q .body ++ (42 ∷ 47 ∷ ys)) in
     rw (q .shape)
     (remark-start d s (q .body ++ (42 ∷ 47 ∷ ys)) ∙ remark-shut cutTurn cutEnd (λ m. stand m false d o s) (cut-deaf d o s) (q .body) ys (q .first) ∙ unopened d o ys s ys)
 
 -- a comment that never ends runs to the end
-remark-stuck : (d : ℕ) (s : List ℕ) {o : List ℕ} → OpenRemark o → plainly d s o ≡ cut s []
+pub remark-stuck : (d : ℕ) (s : List ℕ) {o : List ℕ} → OpenRemark o → plainly d s o ≡ cut s []
 remark-stuck d s q = let (t, e, h) = open-remark q in
     let o : List ℕ = 47 ∷ 42 ∷ t in
     rw e (remark-start d s t ∙ remark-open cutTurn cutEnd (λ m. stand m false d o s) (cut-deaf d o s) t h)
@@ -88,14 +88,14 @@ unfolding walk
 text-start d s t = refl
 
 -- a whole string is the parameter's
-string-step : (d : ℕ) (s : List ℕ) {xs ys : List ℕ} → Quotation xs ys → plainly d s xs ≡ plainly d ys ys
+pub string-step : (d : ℕ) (s : List ℕ) {xs ys : List ℕ} → Quotation xs ys → plainly d s xs ≡ plainly d ys ys
 string-step d s {ys} q =
     let t : List ℕ = q .body ++ (39 ∷ ys) in
     rw (q .shape)
     (text-start d s t ∙ text-ends cutTurn cutEnd (λ m. stand m false d (39 ∷ t) t) (cut-deaf d (39 ∷ t) t) ys (q .inside) ∙ unquoted d (39 ∷ t) t ys (q .single))
 
 -- a string that never ends is refused at its quote
-text-stuck : (d : ℕ) (s : List ℕ) {o : List ℕ} → OpenText o → plainly d s o ≡ unclosed o
+pub text-stuck : (d : ℕ) (s : List ℕ) {o : List ℕ} → OpenText o → plainly d s o ≡ unclosed o
 text-stuck d s q = let (t, e, i) = open-text q in
     rw e (text-start d s t ∙ text-over cutTurn cutEnd (λ m. stand m false d (39 ∷ t) t) (cut-deaf d (39 ∷ t) t) i)
 
@@ -124,13 +124,13 @@ unfolding walk
 binary-start d s t = refl
 
 -- a whole binary literal is the parameter's
-binary-step : (d : ℕ) (s : List ℕ) {xs ys : List ℕ} → Binary xs ys → plainly d s xs ≡ plainly d ys ys
+pub binary-step : (d : ℕ) (s : List ℕ) {xs ys : List ℕ} → Binary xs ys → plainly d s xs ≡ plainly d ys ys
 binary-step d s {ys} q =
     let t : List ℕ = q .body ++ (34 ∷ ys) in
     rw (q .shape) (binary-start d s t ∙ binary-shut d (34 ∷ t) t (q .body) ys (q .inside))
 
 -- a byte that does nothing else is the parameter's
-byte-step : (d : ℕ) (s : List ℕ) (c : ℕ) (r : List ℕ) → Ordinary c r → plainly d s (c ∷ r) ≡ plainly d r r
+pub byte-step : (d : ℕ) (s : List ℕ) (c : ℕ) (r : List ℕ) → Ordinary c r → plainly d s (c ∷ r) ≡ plainly d r r
 unfolding walk
 byte-step d s c r q = go (eqb c 47) refl
   where
@@ -143,7 +143,7 @@ byte-step d s c r q = go (eqb c 47) refl
         (unopened d (c ∷ r) r r r)
 
 -- a token is the parameter's
-token-step : (s : List ℕ) {d e : ℕ} {xs ys : List ℕ} → Token d xs e ys → plainly d s xs ≡ plainly e ys ys
+pub token-step : (s : List ℕ) {d e : ℕ} {xs ys : List ℕ} → Token d xs e ys → plainly d s xs ≡ plainly e ys ys
 unfolding walk
 token-step s (Token.byte {d} {c} {xs} q) = byte-step d s c xs q
 token-step s (Token.nested {d} {xs}) = rw (ne-eqb (suc d) 0 (λ e. absurd (omega arith))) (unopened (suc d) (44 ∷ xs) xs xs xs)
@@ -172,7 +172,7 @@ trivia-step d s (Trivia.blank {c} {xs} h r) = blank-step d s c xs h ∙ trivia-s
 trivia-step d s (Trivia.comment q r) = comment-step d s q ∙ trivia-step d s r
 
 -- a comma at depth 0 and the end end it
-bound-stops : (s : List ℕ) {d : ℕ} {ys : List ℕ} → Bound d ys → plainly d s ys ≡ cut s ys
+pub bound-stops : (s : List ℕ) {d : ℕ} {ys : List ℕ} → Bound d ys → plainly d s ys ≡ cut s ys
 unfolding walk
 bound-stops s Bound.comma = refl
 bound-stops s Bound.end = refl
@@ -195,12 +195,12 @@ record Shut (t : List ℕ) : Type 0 where
   shape : t ≡ body ++ (34 ∷ rest)
 
 -- one more byte that is not k
-without-cons : (k c : ℕ) (b : List ℕ) → (c ≡ k → ⊥) → Without k b → Without k (c ∷ b)
+pub without-cons : (k c : ℕ) (b : List ℕ) → (c ≡ k → ⊥) → Without k b → Without k (c ∷ b)
 without-cons k c b h i [] v e = h (cc)
 without-cons k c b h i (x ∷ u) v e = i u v (cc)
 
 -- no byte at all
-without-nil : (k : ℕ) → Without k []
+pub without-nil : (k : ℕ) → Without k []
 without-nil k [] v e = clash (cc)
 without-nil k (x ∷ u) v e = clash (cc)
 
@@ -223,11 +223,11 @@ open-binary {xs} ((t, e), h) = go (binary-ends t)
     go (inr i) = (t, e, i)
 
 -- and what holds no `"` ends none
-unended : {t : List ℕ} → Without 34 t → (r : List ℕ) → Binary (34 ∷ t) r → ⊥
+pub unended : {t : List ℕ} → Without 34 t → (r : List ℕ) → Binary (34 ∷ t) r → ⊥
 unended h r q = h (q .body) r (cc (q .shape))
 
 -- a binary literal that never ends is refused at its quote
-binary-stuck : (d : ℕ) (s : List ℕ) {o : List ℕ} → OpenBinary o → plainly d s o ≡ unclosed o
+pub binary-stuck : (d : ℕ) (s : List ℕ) {o : List ℕ} → OpenBinary o → plainly d s o ≡ unclosed o
 binary-stuck d s q = let (t, e, i) = open-binary q in rw e (binary-start d s t ∙ binary-over d (34 ∷ t) t t i)
 
 -- refusal 11, at the literal's quote

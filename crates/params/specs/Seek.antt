@@ -1,19 +1,26 @@
--- What one byte does to the search for a parameter's end, at an index of the bytes up to the reader's end: the laws that the loop of the
--- code goes by. Assumes nothing.
-use Prim.Native.Nat.{ℕ, suc, _+_, _-_, _<_, _≤_}
+-- What the token at a place of the bytes up to the reader's end does to the search for a parameter's end: the laws that the loop of the
+-- code goes by, one for each way out of it. Assumes nothing.
+use Prim.Native.Nat.{ℕ, zero, suc, _+_, _-_, _<_, _≤_}
 use mathlib.Core.Path.{_≡_, refl, sym, _∙_, ap}
 use mathlib.Core.Bool.{Bool, true, false, _&&_, _||_}
-use mathlib.Core.List.{List, [], _∷_}
+use mathlib.Core.List.{List, [], _∷_, _++_, append-nil}
 use native.Mathlib.Omega.{arith}
 use lib.Dec.{eqb}
 use lib.ListN.{length, drop, getD}
+use lib.Seq.{drop-drop}
+use borrow.Author.Tests.{eqb-true, eqb-false, ne-eqb}
 use Rattle.lex.specs.Byte.{pick, white}
-use Rattle.lex.specs.Walk.{Turn, stop, on, walk, split, drop-end, walk-ends, walk-stops, walk-goes}
-use Rattle.lex.specs.declared.Mode.{Mode}
-use Rattle.lex.specs.declared.Mode.the-variants.{Plain, Slash, Text, Quoted, Remark, Starred}
-use Rattle.params.specs.Cut.{Cut, cut, unclosed, Stand, stand, outside, settled, solidAfter, level, modeAfter, binaryAfter, passed, cutTurn, over, cutEnd}
+use Rattle.lex.specs.Walk.{walk, split, drop-end}
+use Rattle.lex.specs.Right.Steps.{clash}
+use Rattle.tokens.specs.Leap.{fromByte, heads, Rest, ends, never, stringRest, commentRest}
+use Rattle.tokens.specs.Laws.{string-is, string-never, comment-is, comment-never, byte-found}
+use Rattle.params.specs.Grammar.{Without, Binary, OpenBinary, Ordinary, Token, Bound}
+use Rattle.params.specs.Cut.{Cut, cut, unclosed, cutOf}
+use Rattle.params.specs.Right.{plainly, blank-step, comment-step, remark-stuck, string-step, text-stuck, binary-step, byte-step, token-step, bound-stops, without-cons, without-nil, unended, binary-stuck}
 use Rattle.params.specs.declared.Ended.{Ended}
 use Rattle.params.specs.declared.Ended.the-variants.{At, Open}
+use Rattle.params.specs.declared.Step.{Step}
+use Rattle.params.specs.declared.Step as StepCode
 
 -- what the code's answer says, of the bytes xs
 abbrev pub endedAt : List ℕ → Ended → Cut
@@ -25,117 +32,152 @@ abbrev pub EndedIn : ℕ → ℕ → Ended → Type 0
 EndedIn start n (At z bound) = (start ≤ z) × (z ≤ bound) × (bound ≤ n)
 EndedIn start n (Open q) = (start ≤ q) × (q ≤ n)
 
--- `over` of the code, with places for rests
-abbrev pub overAt : Mode → ℕ → ℕ → ℕ → Ended
-overAt Plain s o n = At s n
-overAt Slash s o n = At n n
-overAt Text s o n = Open o
-overAt Quoted s o n = At n n
-overAt Remark s o n = At s n
-overAt Starred s o n = At s n
+-- the search from i on, outside literals and comments, the parameter reaching to z, with d open parentheses
+abbrev pub onward : List ℕ → ℕ → ℕ → ℕ → Cut
+onward xs i z d = plainly d (drop z xs) (drop i xs)
 
--- one of two places
-pub drop-pick : (xs : List ℕ) (k : Bool) (a b : ℕ) → drop (pick k a b) xs ≡ pick k (drop a xs) (drop b xs)
-drop-pick xs true a b = refl
-drop-pick xs false a b = refl
+-- what the token at i does: the comma is there, a literal is open, or the search goes on from j
+abbrev pub Stepped : List ℕ → ℕ → ℕ → ℕ → Step → Type 0
+Stepped xs i z d StepCode.the-variants.Comma = onward xs i z d ≡ cut (drop z xs) (drop i xs)
+Stepped xs i z d StepCode.the-variants.Open = onward xs i z d ≡ unclosed (drop i xs)
+Stepped xs i z d (StepCode.the-variants.On j y e) = (onward xs i z d ≡ onward xs j y e) × (i < j) × (j ≤ length xs) × (z ≤ y) × (y ≤ j) × (e ≤ d + 1)
 
--- a settled place
-pub drop-settled : (xs : List ℕ) (m : Mode) (s i : ℕ) → drop (settled m s i) xs ≡ settled m (drop s xs) (drop i xs)
-drop-settled xs Plain s i = refl
-drop-settled xs Slash s i = refl
-drop-settled xs Text s i = refl
-drop-settled xs Quoted s i = refl
-drop-settled xs Remark s i = refl
-drop-settled xs Starred s i = refl
-
--- a settled place lies where both do
-pub settled-in : (a n : ℕ) (m : Mode) (s i : ℕ) → a ≤ s → s ≤ n → a ≤ i → i ≤ n → (a ≤ settled m s i) × (settled m s i ≤ n)
-settled-in a n Plain s i h k l p = (h, k)
-settled-in a n Slash s i h k l p = (l, p)
-settled-in a n Text s i h k l p = (h, k)
-settled-in a n Quoted s i h k l p = (l, p)
-settled-in a n Remark s i h k l p = (h, k)
-settled-in a n Starred s i h k l p = (h, k)
-
--- one of two that lie there
-pub pick-in : (a n : ℕ) (k : Bool) (x y : ℕ) → (a ≤ x) × (x ≤ n) → (a ≤ y) × (y ≤ n) → (a ≤ pick k x y) × (pick k x y ≤ n)
-pick-in a n true x y h l = h
-pick-in a n false x y h l = l
-
--- the place reached after a byte
-pub solid-in : (a n : ℕ) (out b : Bool) (c s k p : ℕ) → (a ≤ s) × (s ≤ n) → (a ≤ k) × (k ≤ n) → (a ≤ p) × (p ≤ n)
-    → (a ≤ solidAfter out b c s k p) × (solidAfter out b c s k p ≤ n)
-solid-in a n out b c s k p h l q =
-    pick-in a n out (pick (white c || eqb c 47) s p) (pick b p k) (pick-in a n (white c || eqb c 47) s p h q) (pick-in a n b p k q l)
-
--- a byte opens one parenthesis at most
-pub level-up : (out : Bool) (d c : ℕ) → level out d c ≤ d + 1
-level-up false d c = omega arith
-level-up true d c = go (eqb c 40) (eqb c 41)
+-- what stands before the byte that is found holds none
+found-after : (b : ℕ) (xs : List ℕ) → (u : List ℕ) × Without b u × (xs ≡ u ++ fromByte b xs)
+unfolding fromByte
+found-after b [] = ([], without-nil b, refl)
+found-after b (c ∷ r) = go (eqb c b) refl (found-after b r)
   where
-    go : (a b : Bool) → pick a (suc d) (pick b (d - 1) d) ≤ d + 1
-    go true b = omega arith
-    go false true = omega arith
-    go false false = omega arith
+    go : (k : Bool) → eqb c b ≡ k → (u : List ℕ) × Without b u × (r ≡ u ++ fromByte b r) → (u : List ℕ) × Without b u × (c ∷ r ≡ u ++ pick k (c ∷ r) (fromByte b r))
+    go true e f = ([], without-nil b, refl)
+    go false e (u, w, f) = (c ∷ u, without-cons b c u (eqb-false c b e) w, ap (λ (l : List ℕ). c ∷ l) f)
 
--- how far a parameter is read, with places for rests
-abbrev pub standAt : List ℕ → Mode → Bool → ℕ → ℕ → ℕ → Stand
-standAt xs m b d o s = stand m b d (drop o xs) (drop s xs)
+-- a byte above the slash is none that means something here
+pub plain-white : (c : ℕ) → 47 < c → white c ≡ false
+plain-white c h = rw (ne-eqb c 32 (λ e. absurd (omega arith)), ne-eqb c 9 (λ e. absurd (omega arith)), ne-eqb c 10 (λ e. absurd (omega arith)), ne-eqb c 12 (λ e. absurd (omega arith)), ne-eqb c 13 (λ e. absurd (omega arith))) refl
 
--- the code's answer where the bytes ended
-pub over-told : (xs : List ℕ) (m : Mode) (s o : ℕ) → endedAt xs (overAt m s o (length xs)) ≡ over m (drop s xs) (drop o xs)
-over-told xs Plain s o = ap (cut (drop s xs)) (drop-end xs (length xs) (omega arith))
-over-told xs Slash s o = rw (drop-end xs (length xs) (omega arith)) refl
-over-told xs Text s o = refl
-over-told xs Quoted s o = rw (drop-end xs (length xs) (omega arith)) refl
-over-told xs Remark s o = ap (cut (drop s xs)) (drop-end xs (length xs) (omega arith))
-over-told xs Starred s o = ap (cut (drop s xs)) (drop-end xs (length xs) (omega arith))
+module _ (xs : List ℕ) (i z d : ℕ) (h : i < length xs) where
+  -- the search, with the byte at i apart
+  here : (c : ℕ) → getD xs i 0 ≡ c → drop i xs ≡ c ∷ drop (i + 1) xs
+  here c e = split xs i h ∙ ap (λ (k : ℕ). k ∷ drop (i + 1) xs) e
 
--- its places lie where they should
-pub over-in : (a n : ℕ) (m : Mode) (s o : ℕ) → a ≤ s → s ≤ n → a ≤ o → o ≤ n → EndedIn a n (overAt m s o n)
-over-in a n Plain s o h k l p = (h, k, omega arith)
-over-in a n Slash s o h k l p = (omega arith, omega arith, omega arith)
-over-in a n Text s o h k l p = (l, p)
-over-in a n Quoted s o h k l p = (omega arith, omega arith, omega arith)
-over-in a n Remark s o h k l p = (h, k, omega arith)
-over-in a n Starred s o h k l p = (h, k, omega arith)
+  -- "a comma at depth 0"
+  pub step-comma : getD xs i 0 ≡ 44 → d ≡ 0 → onward xs i z d ≡ cut (drop z xs) (drop i xs)
+  step-comma e f = rw (here 44 e, f) (bound-stops (drop z xs) Bound.comma)
 
--- the place reached after a byte, as a rest
-drop-solid : (xs : List ℕ) (out b : Bool) (c s k p : ℕ) → drop (solidAfter out b c s k p) xs ≡ solidAfter out b c (drop s xs) (drop k xs) (drop p xs)
-drop-solid xs true b c s k p = drop-pick xs (white c || eqb c 47) s p
-drop-solid xs false b c s k p = drop-pick xs b p k
+  -- a comma of a nested list
+  pub step-nested : getD xs i 0 ≡ 44 → (d ≡ 0 → ⊥) → onward xs i z d ≡ onward xs (i + 1) (i + 1) d
+  step-nested e f = rw (here 44 e) (go d f)
+    where
+      go : (d : ℕ) → (d ≡ 0 → ⊥) → plainly d (drop z xs) (44 ∷ drop (i + 1) xs) ≡ plainly d (drop (i + 1) xs) (drop (i + 1) xs)
+      go zero f = absurd (f refl)
+      go (suc d) f = token-step (drop z xs) Token.nested
 
--- One turn of the loop: the byte at i is the comma, or is passed over; and where the bytes end.
-module _ (xs : List ℕ) (i : ℕ) (m : Mode) (b : Bool) (d since solid : ℕ) (a : Cut) (inv : walk cutTurn cutEnd (standAt xs m b d since solid) (drop i xs) ≡ a) where
-  -- the comma
-  pub cut-halts : i < length xs → outside b m (getD xs i 0) && (eqb (getD xs i 0) 44 && eqb d 0) ≡ true → cut (drop (settled m solid i) xs) (drop i xs) ≡ a
-  cut-halts h e =
-      sym
-      (walk-stops cutTurn cutEnd (standAt xs m b d since solid) xs i (cut (drop (settled m solid i) xs) (drop i xs)) h
-      (rw e (ap stop (ap (λ (l : List ℕ). cut (settled m (drop solid xs) l) l) (sym (split xs i h)) ∙ ap (λ (l : List ℕ). cut l (drop i xs)) (sym (drop-settled xs m solid i))))))
-      ∙ inv
+  -- a `(`
+  pub step-opening : getD xs i 0 ≡ 40 → onward xs i z d ≡ onward xs (i + 1) (i + 1) (d + 1)
+  step-opening e = let f : d + 1 ≡ suc d = omega arith in rw (here 40 e, f) (token-step (drop z xs) Token.opening)
+
+  -- a `)`: "at depth 0 leaves it 0"
+  pub step-closing : getD xs i 0 ≡ 41 → onward xs i z d ≡ onward xs (i + 1) (i + 1) (d - 1)
+  step-closing e = rw (here 41 e) (go d)
+    where
+      go : (d : ℕ) → plainly d (drop z xs) (41 ∷ drop (i + 1) xs) ≡ plainly (d - 1) (drop (i + 1) xs) (drop (i + 1) xs)
+      go zero = token-step (drop z xs) Token.stray
+      go (suc d) = let f : suc d - 1 ≡ d = omega arith in rw f (token-step (drop z xs) Token.closing)
+
+  -- a string that ends
+  pub step-string : (j : ℕ) → getD xs i 0 ≡ 39 → ends (drop j xs) ≡ stringRest (drop (i + 1) xs) → onward xs i z d ≡ onward xs j j d
+  step-string j e f = rw (here 39 e) (string-step d (drop z xs) (string-is (drop (i + 1) xs) (drop j xs) (sym f)))
+
+  -- a string that is open
+  pub step-open : getD xs i 0 ≡ 39 → never ≡ stringRest (drop (i + 1) xs) → onward xs i z d ≡ unclosed (drop i xs)
+  step-open e f = rw (here 39 e) (text-stuck d (drop z xs) (string-never (drop (i + 1) xs) (sym f)))
+
+  -- a binary literal that ends
+  pub step-binary : (q : ℕ) → getD xs i 0 ≡ 34 → drop q xs ≡ fromByte 34 (drop (i + 1) xs) → q < length xs → onward xs i z d ≡ onward xs (q + 1) (q + 1) d
+  step-binary q e f k =
+      let (u, w, g) = found-after 34 (drop (i + 1) xs) in
+      let p : fromByte 34 (drop (i + 1) xs) ≡ getD xs q 0 ∷ drop (q + 1) xs = sym f ∙ split xs q k in
+      let o = byte-found 34 (drop (i + 1) xs) (getD xs q 0) (drop (q + 1) xs) p in
+      let t : drop (i + 1) xs ≡ u ++ (34 ∷ drop (q + 1) xs) = g ∙ ap (λ (l : List ℕ). u ++ l) (p ∙ ap (λ (c : ℕ). c ∷ drop (q + 1) xs) o) in
+      rw (here 34 e) (binary-step d (drop z xs) {xs = 34 ∷ drop (i + 1) xs} {ys = drop (q + 1) xs} (record { body = u; inside = w; shape = ap (λ (l : List ℕ). 34 ∷ l) t }))
+
+  -- a binary literal that is open
+  pub step-binary-open : (q : ℕ) → getD xs i 0 ≡ 34 → drop q xs ≡ fromByte 34 (drop (i + 1) xs) → length xs ≤ q → onward xs i z d ≡ unclosed (drop i xs)
+  step-binary-open q e f k =
+      let (u, w, g) = found-after 34 (drop (i + 1) xs) in
+      let t : drop (i + 1) xs ≡ u ++ [] = g ∙ ap (λ (l : List ℕ). u ++ l) (sym f ∙ drop-end xs q k) in
+      let v : drop (i + 1) xs ≡ u = t ∙ append-nil u in
+      rw (here 34 e) (binary-stuck d (drop z xs) ((drop (i + 1) xs, refl), unended (rw v w)))
+
+  -- two bytes that open a comment
+  opened : getD xs i 0 ≡ 47 → heads 42 (drop (i + 1) xs) ≡ true → drop i xs ≡ 47 ∷ 42 ∷ drop (i + 2) xs
+  opened e f = here 47 e ∙ ap (λ (l : List ℕ). 47 ∷ l) (go (drop (i + 1) xs) f ∙ ap (λ (l : List ℕ). 42 ∷ l) (drop-drop 1 (i + 1) xs ∙ ap (λ (k : ℕ). drop k xs) (omega arith)))
+    where
+      go : (l : List ℕ) → heads 42 l ≡ true → l ≡ 42 ∷ drop 1 l
+      go [] f = clash (cc)
+      go (c ∷ l) f = ap (λ (k : ℕ). k ∷ l) (eqb-true c 42 f)
+
+  -- a comment that ends
+  pub step-comment : (j : ℕ) → getD xs i 0 ≡ 47 → true ≡ heads 42 (drop (i + 1) xs) → ends (drop j xs) ≡ commentRest (drop (i + 2) xs) → onward xs i z d ≡ onward xs j z d
+  step-comment j e f g = rw (opened e (sym f)) (comment-step d (drop z xs) (comment-is (drop (i + 2) xs) (drop j xs) (sym g)))
+
+  -- "an open comment runs to the end"
+  pub step-remark : getD xs i 0 ≡ 47 → true ≡ heads 42 (drop (i + 1) xs) → never ≡ commentRest (drop (i + 2) xs) → onward xs i z d ≡ onward xs (length xs) z d
+  step-remark e f g =
+      rw (opened e (sym f), drop-end xs (length xs) (omega arith))
+      (remark-stuck d (drop z xs) (comment-never (drop (i + 2) xs) (sym g)) ∙ sym (bound-stops (drop z xs) {d = d} Bound.end))
+
+  -- whitespace
+  pub step-blank : white (getD xs i 0) ≡ true → onward xs i z d ≡ onward xs (i + 1) z d
+  step-blank e = rw (split xs i h) (blank-step d (drop z xs) (getD xs i 0) (drop (i + 1) xs) e)
 
   -- any other byte
-  pub cut-goes : (out : Bool) → i < length xs → out && (eqb (getD xs i 0) 44 && eqb d 0) ≡ false → out ≡ outside b m (getD xs i 0)
-      → (m′ : Mode) (b′ : Bool) (d′ since′ solid′ : ℕ) → m′ ≡ modeAfter b m (getD xs i 0) → b′ ≡ binaryAfter out b (getD xs i 0) → d′ ≡ level out d (getD xs i 0)
-      → since′ ≡ pick out i since → solid′ ≡ solidAfter out b (getD xs i 0) (settled m solid i) solid (i + 1)
-      → walk cutTurn cutEnd (standAt xs m′ b′ d′ since′ solid′) (drop (i + 1) xs) ≡ a
-  cut-goes out h e o m′ b′ d′ since′ solid′ p q r s t =
-      let c = getD xs i 0 in
-      let past = drop (i + 1) xs in
-      let opened : drop since′ xs ≡ pick out (c ∷ past) (drop since xs) =
-      ap (λ (k : ℕ). drop k xs) s ∙ drop-pick xs out i since ∙ ap (λ (l : List ℕ). pick out l (drop since xs)) (split xs i h) in
-      let reached : drop (settled m solid i) xs ≡ settled m (drop solid xs) (c ∷ past) =
-      drop-settled xs m solid i ∙ ap (λ (l : List ℕ). settled m (drop solid xs) l) (split xs i h) in
-      let kept : drop solid′ xs ≡ solidAfter out b c (settled m (drop solid xs) (c ∷ past)) (drop solid xs) past =
-      ap (λ (k : ℕ). drop k xs) t ∙ drop-solid xs out b c (settled m solid i) solid (i + 1) ∙ ap (λ (l : List ℕ). solidAfter out b c l (drop solid xs) past) reached in
-      rw (opened, kept, p, q, r)
-      (sym (walk-goes cutTurn cutEnd (standAt xs m b d since solid) (passed (standAt xs m b d since solid) out c past) xs i h (rw (← o, e) refl)) ∙ inv)
+  pub step-byte : Ordinary (getD xs i 0) (drop (i + 1) xs) → onward xs i z d ≡ onward xs (i + 1) (i + 1) d
+  step-byte o = rw (split xs i h) (byte-step d (drop z xs) (getD xs i 0) (drop (i + 1) xs) o)
 
-  -- the end, outside binary literals
-  pub cut-over : length xs ≤ i → b ≡ false → over m (drop solid xs) (drop since xs) ≡ a
-  cut-over h e = rw e at (sym (walk-ends cutTurn cutEnd (standAt xs m b d since solid) xs i h) ∙ inv)
+  -- a byte above the slash
+  pub step-plain : 47 < getD xs i 0 → onward xs i z d ≡ onward xs (i + 1) (i + 1) d
+  step-plain k = step-byte (record {
+    unblank = plain-white (getD xs i 0) k;
+    unquoted = λ e. absurd (omega arith);
+    unbinary = λ e. absurd (omega arith);
+    unopened = λ (r, e). let f : getD xs i 0 ≡ 47 = cc in absurd (omega arith);
+    opening = λ e. absurd (omega arith);
+    closing = λ e. absurd (omega arith);
+    comma = λ e. absurd (omega arith);
+  })
 
-  -- the end in a binary literal
-  pub cut-open : length xs ≤ i → b ≡ true → unclosed (drop since xs) ≡ a
-  cut-open h e = rw e at (sym (walk-ends cutTurn cutEnd (standAt xs m b d since solid) xs i h) ∙ inv)
+  -- a slash that opens no comment
+  pub step-slash : getD xs i 0 ≡ 47 → false ≡ heads 42 (drop (i + 1) xs) → onward xs i z d ≡ onward xs (i + 1) (i + 1) d
+  step-slash e f = step-byte (record {
+    unblank = rw e refl;
+    unquoted = λ k. absurd (omega arith);
+    unbinary = λ k. absurd (omega arith);
+    unopened = λ (r, k). let g : drop (i + 1) xs ≡ 42 ∷ r = cc in let t : heads 42 (42 ∷ r) ≡ false = ap (heads 42) (sym g) ∙ sym f in clash (cc);
+    opening = λ k. absurd (omega arith);
+    closing = λ k. absurd (omega arith);
+    comma = λ k. absurd (omega arith);
+  })
+
+  -- one that is none of the marks
+  pub step-other : (getD xs i 0 ≡ 44 → ⊥) → (getD xs i 0 ≡ 40 → ⊥) → (getD xs i 0 ≡ 41 → ⊥) → (getD xs i 0 ≡ 39 → ⊥) → (getD xs i 0 ≡ 34 → ⊥) → (getD xs i 0 ≡ 47 → ⊥) → white (getD xs i 0) ≡ false
+      → onward xs i z d ≡ onward xs (i + 1) (i + 1) d
+  step-other n44 n40 n41 n39 n34 n47 w = step-byte (record {
+    unblank = w;
+    unquoted = n39;
+    unbinary = n34;
+    unopened = λ (r, e). n47 (cc);
+    opening = n40;
+    closing = n41;
+    comma = n44;
+  })
+
+-- where the bytes end
+pub onward-over : (xs : List ℕ) (i z d : ℕ) → length xs ≤ i → onward xs i z d ≡ cut (drop z xs) (drop (length xs) xs)
+onward-over xs i z d h = rw (drop-end xs i h, drop-end xs (length xs) (omega arith)) (bound-stops (drop z xs) {d = d} Bound.end)
+
+-- where it begins
+pub onward-starts : (xs : List ℕ) (start from : ℕ) → drop from xs ≡ drop start xs → onward xs from from 0 ≡ cutOf (drop start xs)
+unfolding cutOf
+onward-starts xs start from e = rw e refl

@@ -1,0 +1,257 @@
+-- A string and a comment as the scan's grammar has them end just where they are said to end; and the laws of the code's loops.
+-- Assumes nothing.
+use Prim.Native.Nat.{ℕ, suc, _+_, _-_, _≤_, _<_, min}
+use mathlib.Core.Path.{_≡_, refl, sym, _∙_, ap}
+use mathlib.Core.Bool.{Bool, true, false, not}
+use mathlib.Core.List.{List, [], _∷_, _++_}
+use native.Mathlib.Omega.{arith}
+use lib.Dec.{eqb, leb}
+use lib.ListN.{length, drop, getD, length-drop}
+use lib.Seq.{drop-drop}
+use borrow.Author.Tests.{eqb-true, eqb-false, eq-eqb, ne-eqb, leb-true, leb-false}
+use Rattle.lex.specs.Byte.{pick}
+use Rattle.lex.specs.Walk.{walk, split, drop-end}
+use Rattle.lex.specs.Lexer.{calm, next}
+use Rattle.lex.specs.Grammar.{Begins, Opens, Comment, Quotation, OpenText, OpenRemark}
+use Rattle.lex.specs.Right.Steps.{clash, Deaf, remark-shut, remark-open, text-ends, text-over}
+use Rattle.lex.specs.Right.Tokens.{open-text, open-remark, Reads, tokens}
+use Rattle.lex.specs.declared.Mode.{Mode}
+use Rattle.lex.specs.declared.Mode.the-variants.{Plain, Slash, Text, Quoted, Remark, Starred}
+use Rattle.tokens.specs.Leap.{fromByte, heads, Rest, ends, never, leapTurn, leapEnd, stringRest, commentRest}
+
+-- in strings and comments a leap is deaf
+leap-deaf : Deaf leapTurn leapEnd (λ m. m)
+leap-deaf = record { quiet = λ m c r h. rw h; starred = refl }
+
+-- after a string
+quoted-ends : (r : List ℕ) → (Begins 39 r → ⊥) → walk leapTurn leapEnd Quoted r ≡ ends r
+unfolding walk
+quoted-ends [] h = refl
+quoted-ends (c ∷ r) h = rw (ne-eqb c 39 (λ e. h (r, cc)))
+
+-- after a comment
+plain-ends : (r : List ℕ) → walk leapTurn leapEnd Plain r ≡ ends r
+unfolding walk
+plain-ends [] = refl
+plain-ends (c ∷ r) = refl
+
+-- a string that ends is left there
+pub string-only : {t r : List ℕ} → Quotation (39 ∷ t) r → stringRest t ≡ ends r
+unfolding stringRest
+string-only {t} {r} q =
+    let e : t ≡ q .body ++ (39 ∷ r) = cc (q .shape) in
+    rw e (text-ends leapTurn leapEnd (λ m. m) leap-deaf r (q .inside) ∙ quoted-ends r (q .single))
+
+-- a string that never ends is never left
+pub string-never-only : {t : List ℕ} → OpenText (39 ∷ t) → stringRest t ≡ never
+unfolding stringRest
+string-never-only {t} h = let (u, e, i) = open-text h in let f : t ≡ u = cc in rw f (text-over leapTurn leapEnd (λ m. m) leap-deaf i)
+
+-- a comment that ends is left there
+pub comment-only : {t r : List ℕ} → Comment (47 ∷ 42 ∷ t) r → commentRest t ≡ ends r
+unfolding commentRest
+comment-only {t} {r} q =
+    let e : t ≡ q .body ++ (42 ∷ 47 ∷ r) = cc (q .shape) in
+    rw e (remark-shut leapTurn leapEnd (λ m. m) leap-deaf (q .body) r (q .first) ∙ plain-ends r)
+
+-- a comment that never ends is never left
+pub comment-never-only : {t : List ℕ} → OpenRemark (47 ∷ 42 ∷ t) → commentRest t ≡ never
+unfolding commentRest
+comment-never-only {t} h = let (u, e, i) = open-remark h in let f : t ≡ u = cc in rw f (remark-open leapTurn leapEnd (λ m. m) leap-deaf u i)
+
+-- what becomes of a string: it ends, or it never does
+pub data Spells (t : List ℕ) : Type 0 where
+  whole : {r : List ℕ} → Quotation (39 ∷ t) r → Spells t
+  cut : OpenText (39 ∷ t) → Spells t
+
+pub spells : (t : List ℕ) → Spells t
+spells t = go (39 ∷ t) refl (tokens (39 ∷ t))
+  where
+    go : (xs : List ℕ) → xs ≡ 39 ∷ t → Reads xs → Spells t
+    go xs e Reads.end = clash (cc)
+    go xs e (Reads.byte h k r) = absurd (h (cc))
+    go xs e (Reads.string q r) = Spells.whole (rw e at q)
+    go xs e (Reads.comment q r) = absurd (eqb-false 39 47 refl (cc (q .shape)))
+    go xs e (Reads.text q) = Spells.cut (rw e at q)
+    go xs e (Reads.remark ((r, f), h)) = absurd (eqb-false 39 47 refl (cc))
+
+-- what becomes of a comment
+pub data Remarks (t : List ℕ) : Type 0 where
+  whole : {r : List ℕ} → Comment (47 ∷ 42 ∷ t) r → Remarks t
+  cut : OpenRemark (47 ∷ 42 ∷ t) → Remarks t
+
+pub remarks : (t : List ℕ) → Remarks t
+remarks t = go (47 ∷ 42 ∷ t) refl (tokens (47 ∷ 42 ∷ t))
+  where
+    go : (xs : List ℕ) → xs ≡ 47 ∷ 42 ∷ t → Reads xs → Remarks t
+    go xs e Reads.end = clash (cc)
+    go xs e (Reads.byte h k r) = absurd (k (t, cc))
+    go xs e (Reads.string q r) = absurd (eqb-false 39 47 refl (cc (q .shape)))
+    go xs e (Reads.comment q r) = Remarks.whole (rw e at q)
+    go xs e (Reads.text ((r, f), h)) = absurd (eqb-false 39 47 refl (cc))
+    go xs e (Reads.remark q) = Remarks.cut (rw e at q)
+
+-- where a string is left, it is one
+pub string-is : (t r : List ℕ) → stringRest t ≡ ends r → Quotation (39 ∷ t) r
+string-is t r e = go (spells t)
+  where
+    go : Spells t → Quotation (39 ∷ t) r
+    go (Spells.whole {r = z} q) = let f : r ≡ z = cc (string-only q) in rw f q
+    go (Spells.cut q) = clash (cc (string-never-only q))
+
+-- where it is never left, it is open
+pub string-never : (t : List ℕ) → stringRest t ≡ never → OpenText (39 ∷ t)
+string-never t e = go (spells t)
+  where
+    go : Spells t → OpenText (39 ∷ t)
+    go (Spells.whole q) = clash (cc (string-only q))
+    go (Spells.cut q) = q
+
+-- where a comment is left, it is one
+pub comment-is : (t r : List ℕ) → commentRest t ≡ ends r → Comment (47 ∷ 42 ∷ t) r
+comment-is t r e = go (remarks t)
+  where
+    go : Remarks t → Comment (47 ∷ 42 ∷ t) r
+    go (Remarks.whole {r = z} q) = let f : r ≡ z = cc (comment-only q) in rw f q
+    go (Remarks.cut q) = clash (cc (comment-never-only q))
+
+-- where it is never left, it is open
+pub comment-never : (t : List ℕ) → commentRest t ≡ never → OpenRemark (47 ∷ 42 ∷ t)
+comment-never t e = go (remarks t)
+  where
+    go : Remarks t → OpenRemark (47 ∷ 42 ∷ t)
+    go (Remarks.whole q) = clash (cc (comment-only q))
+    go (Remarks.cut q) = q
+
+-- the byte is found
+pub byte-here : (b : ℕ) (s : List ℕ) (i : ℕ) → i < length s → getD s i 0 ≡ b → drop i s ≡ fromByte b (drop i s)
+unfolding fromByte
+byte-here b s i h e = rw (split s i h) (rw (eq-eqb (getD s i 0) b e) refl)
+
+-- or another byte stands there
+pub byte-next : (b : ℕ) (s : List ℕ) (i : ℕ) → i < length s → (getD s i 0 ≡ b → ⊥) → fromByte b (drop (i + 1) s) ≡ fromByte b (drop i s)
+unfolding fromByte
+byte-next b s i h e = rw (split s i h) (rw (ne-eqb (getD s i 0) b e) refl)
+
+-- or there is none
+pub byte-none : (b : ℕ) (s : List ℕ) (i : ℕ) → length s ≤ i → drop i s ≡ fromByte b (drop i s)
+unfolding fromByte
+byte-none b s i h = rw (drop-end s i h) refl
+
+-- what is found begins with the byte
+pub byte-found : (b : ℕ) (xs : List ℕ) (c : ℕ) (r : List ℕ) → fromByte b xs ≡ c ∷ r → c ≡ b
+unfolding fromByte
+byte-found b [] c r e = clash (cc)
+byte-found b (x ∷ xs) c r e = go (eqb x b) refl e (byte-found b xs c r)
+  where
+    go : (k : Bool) → eqb x b ≡ k → pick k (x ∷ xs) (fromByte b xs) ≡ c ∷ r → (fromByte b xs ≡ c ∷ r → c ≡ b) → c ≡ b
+    go true h e ih = let f : x ≡ b = eqb-true x b h in cc
+    go false h e ih = ih e
+
+-- a string goes on to its next quote
+string-skips : (xs : List ℕ) → stringRest xs ≡ stringRest (fromByte 39 xs)
+unfolding stringRest walk fromByte
+string-skips [] = refl
+string-skips (c ∷ r) = go (eqb c 39) refl (string-skips r)
+  where
+    go : (k : Bool) → eqb c 39 ≡ k → walk leapTurn leapEnd Text r ≡ walk leapTurn leapEnd Text (fromByte 39 r)
+        → walk leapTurn leapEnd (pick k Quoted Text) r ≡ walk leapTurn leapEnd Text (pick k (c ∷ r) (fromByte 39 r))
+    go true e ih = rw e refl
+    go false e ih = ih
+
+-- where the bytes end, a string is open
+string-empty : stringRest [] ≡ never
+unfolding stringRest walk
+string-empty = refl
+
+-- a quote that no quote follows
+string-single : (r : List ℕ) → heads 39 r ≡ false → stringRest (39 ∷ r) ≡ ends r
+unfolding stringRest walk
+string-single [] h = refl
+string-single (c ∷ r) h = rw h refl
+
+-- a quote that a quote follows
+string-double : (r : List ℕ) → heads 39 r ≡ true → stringRest (39 ∷ r) ≡ stringRest (drop 1 r)
+unfolding stringRest walk
+string-double [] h = clash (cc)
+string-double (c ∷ r) h = rw h refl
+
+-- a comment goes on to its next star
+comment-skips : (xs : List ℕ) → commentRest xs ≡ commentRest (fromByte 42 xs)
+unfolding commentRest walk fromByte
+comment-skips [] = refl
+comment-skips (c ∷ r) = go (eqb c 42) refl (comment-skips r)
+  where
+    go : (k : Bool) → eqb c 42 ≡ k → walk leapTurn leapEnd Remark r ≡ walk leapTurn leapEnd Remark (fromByte 42 r)
+        → walk leapTurn leapEnd (pick k Starred Remark) r ≡ walk leapTurn leapEnd Remark (pick k (c ∷ r) (fromByte 42 r))
+    go true e ih = rw e refl
+    go false e ih = ih
+
+-- where the bytes end, a comment is open
+comment-empty : commentRest [] ≡ never
+unfolding commentRest walk
+comment-empty = refl
+
+-- a star that a slash follows
+comment-ends : (r : List ℕ) → heads 47 r ≡ true → commentRest (42 ∷ r) ≡ ends (drop 1 r)
+unfolding commentRest walk
+comment-ends [] h = clash (cc)
+comment-ends (c ∷ r) h = rw h (plain-ends r)
+
+-- any other star
+comment-star : (r : List ℕ) → heads 47 r ≡ false → commentRest (42 ∷ r) ≡ commentRest r
+unfolding commentRest walk
+comment-star [] h = refl
+comment-star (c ∷ r) h = rw h refl
+
+-- The same at places of the bytes: q is where the byte sought from i on is found.
+module _ (s : List ℕ) (i q : ℕ) where
+  -- nothing is found
+  found-none : (b : ℕ) → drop q s ≡ fromByte b (drop i s) → length s ≤ q → fromByte b (drop i s) ≡ []
+  found-none b e h = sym e ∙ drop-end s q h
+
+  -- the byte is found
+  found-here : (b : ℕ) → drop q s ≡ fromByte b (drop i s) → q < length s → fromByte b (drop i s) ≡ b ∷ drop (q + 1) s
+  found-here b e h =
+      let f : fromByte b (drop i s) ≡ getD s q 0 ∷ drop (q + 1) s = sym e ∙ split s q h in
+      f ∙ ap (λ (c : ℕ). c ∷ drop (q + 1) s) (byte-found b (drop i s) (getD s q 0) (drop (q + 1) s) f)
+
+  -- one byte further
+  drop-one : drop 1 (drop (q + 1) s) ≡ drop (q + 2) s
+  drop-one = let e : q + 1 + 1 ≡ q + 2 = omega arith in drop-drop 1 (q + 1) s ∙ ap (λ (k : ℕ). drop k s) e
+
+  module _ (e : drop q s ≡ fromByte 39 (drop i s)) where
+    pub string-none : length s ≤ q → stringRest (drop i s) ≡ never
+    string-none h = string-skips (drop i s) ∙ ap stringRest (found-none 39 e h) ∙ string-empty
+
+    pub string-last : q < length s → heads 39 (drop (q + 1) s) ≡ false → stringRest (drop i s) ≡ ends (drop (q + 1) s)
+    string-last h k = string-skips (drop i s) ∙ ap stringRest (found-here 39 e h) ∙ string-single (drop (q + 1) s) k
+
+    pub string-more : q < length s → heads 39 (drop (q + 1) s) ≡ true → stringRest (drop i s) ≡ stringRest (drop (q + 2) s)
+    string-more h k = string-skips (drop i s) ∙ ap stringRest (found-here 39 e h) ∙ string-double (drop (q + 1) s) k ∙ ap stringRest drop-one
+
+  module _ (e : drop q s ≡ fromByte 42 (drop i s)) where
+    pub comment-none : length s ≤ q → commentRest (drop i s) ≡ never
+    comment-none h = comment-skips (drop i s) ∙ ap commentRest (found-none 42 e h) ∙ comment-empty
+
+    pub comment-last : q < length s → heads 47 (drop (q + 1) s) ≡ true → commentRest (drop i s) ≡ ends (drop (q + 2) s)
+    comment-last h k = comment-skips (drop i s) ∙ ap commentRest (found-here 42 e h) ∙ comment-ends (drop (q + 1) s) k ∙ ap ends drop-one
+
+    pub comment-more : q < length s → heads 47 (drop (q + 1) s) ≡ false → commentRest (drop i s) ≡ commentRest (drop (q + 1) s)
+    comment-more h k = comment-skips (drop i s) ∙ ap commentRest (found-here 42 e h) ∙ comment-star (drop (q + 1) s) k
+
+-- a byte that stands somewhere is no rest's end
+pub heads-short : (b : ℕ) (s : List ℕ) (i : ℕ) → heads b (drop i s) ≡ true → i < length s
+heads-short b s i h = go (leb (length s) i) refl
+  where
+    go : (k : Bool) → leb (length s) i ≡ k → i < length s
+    go true e = let f : heads b [] ≡ true = ap (heads b) (sym (drop-end s i (leb-true (length s) i e))) ∙ h in clash (cc)
+    go false e = leb-false (length s) i e
+
+-- the byte at a place
+pub heads-at : (b : ℕ) (s : List ℕ) (i : ℕ) → i < length s → eqb (getD s i 0) b ≡ heads b (drop i s)
+heads-at b s i h = rw (split s i h) refl
+
+-- none past the end
+pub heads-past : (b : ℕ) (s : List ℕ) (i : ℕ) → length s ≤ i → false ≡ heads b (drop i s)
+heads-past b s i h = rw (drop-end s i h) refl

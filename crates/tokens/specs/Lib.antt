@@ -1,0 +1,2 @@
+pub mod Leap
+pub mod Laws

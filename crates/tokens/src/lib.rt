@@ -1,0 +1,75 @@
+// Where a byte is found, and where a string and a comment end: the leaps that a search makes over bytes that mean nothing to it.
+//
+// As memchr, string_end and find_comment_end of the Rust's scan.rs and value.rs. No function has a `requires`: a start past the end
+// counts as the end.
+ghost use mathlib.Core.Path.{_≡_};
+ghost use Prim.Native.Nat.{_+_, _≤_, min};
+ghost use lib.ListN.{length, drop};
+ghost use Rattle.tokens.specs.Leap.{fromByte, heads, toldPast, PastIn, stringRest, commentRest};
+
+// Where something ends, or that it never does.
+pub enum Past {
+    At(usize),
+    Never,
+}
+
+// The first place from `start` on that has the byte b, or the length.
+pub fn find_byte(s: &[u8], start: usize, b: u8) -> usize
+    ensures { λ r. ⌜ drop r (now (s .entry)) ≡ fromByte b (drop start (now (s .entry))) ⌝ }
+    ensures { λ r. ⌜ (min start (length (now (s .entry))) ≤ r) × (r ≤ length (now (s .entry))) ⌝ }
+{
+    let mut i = lex::within(start, s.len());
+    while i < s.len() {
+        if s[i] == b {
+            return i;
+        }
+        i += 1;
+    }
+    i
+}
+
+// Whether the byte b stands at i.
+pub fn is_at(s: &[u8], i: usize, b: u8) -> bool
+    ensures { λ r. ⌜ r ≡ heads b (drop i (now (s .entry))) ⌝ }
+{
+    if i < s.len() {
+        return s[i] == b;
+    }
+    false
+}
+
+// Where the string ends whose first quote stands before `start`: at a quote that no quote follows.
+pub fn string_end(s: &[u8], start: usize) -> Past
+    ensures { λ r. ⌜ toldPast (now (s .entry)) r ≡ stringRest (drop start (now (s .entry))) ⌝ }
+    ensures { λ r. ⌜ PastIn start (length (now (s .entry))) r ⌝ }
+{
+    let mut i = lex::within(start, s.len());
+    loop {
+        let q = find_byte(s, i, b'\'');
+        if q == s.len() {
+            return Past::Never;
+        }
+        if !is_at(s, q + 1, b'\'') {
+            return Past::At(q + 1);
+        }
+        i = q + 2;
+    }
+}
+
+// Where the comment ends whose `/*` stands before `start`: after the first `*/`.
+pub fn comment_end(s: &[u8], start: usize) -> Past
+    ensures { λ r. ⌜ toldPast (now (s .entry)) r ≡ commentRest (drop start (now (s .entry))) ⌝ }
+    ensures { λ r. ⌜ PastIn start (length (now (s .entry))) r ⌝ }
+{
+    let mut i = lex::within(start, s.len());
+    loop {
+        let q = find_byte(s, i, b'*');
+        if q == s.len() {
+            return Past::Never;
+        }
+        if is_at(s, q + 1, b'/') {
+            return Past::At(q + 2);
+        }
+        i = q + 1;
+    }
+}
