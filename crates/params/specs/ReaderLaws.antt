@@ -1,19 +1,20 @@
 -- What the code's parts promise, put together to the answers of Reader.antt. Assumes nothing.
 use Prim.Native.Nat.{ℕ, zero, suc, _+_, _-_, _≤_, _<_, min}
 use mathlib.Core.Path.{_≡_, refl, sym, _∙_, ap, subst}
-use mathlib.Core.Bool.{Bool, true, false, _&&_}
+use mathlib.Core.Bool.{Bool, true, false, not, _&&_}
 use mathlib.Core.List.{List, [], _∷_}
 use native.Mathlib.Omega.{arith}
 use native.Mathlib.Decide.{decLe}
-use borrow.Author.Tests.{leb-true, eq-eqb, ne-eqb}
-use lib.Dec.{eqb, leb}
+use borrow.Author.Tests.{leb-true, ltb-true, eq-eqb, ne-eqb, eqb-false, not-true}
+use lib.Dec.{eqb, leb, ltb}
 use lib.ListN.{length, take, drop, getD}
 use lib.Seq.{length-take-le}
 use Rattle.error.specs.Refusal.{Refusal, refusal, Told, good, bad}
-use Rattle.lex.specs.Byte.{pick, place, place-drop}
+use Rattle.lex.specs.Byte.{pick, white, place, place-drop}
 use Rattle.lex.specs.Walk.{split, drop-end}
 use Rattle.lex.specs.Search.{Sought, at, fault, trivia, placed}
 use Rattle.lex.specs.At.{trivia-at}
+use Rattle.lex.specs.Right.{trivia-here}
 use Rattle.params.specs.Cut.{Cut, cut, unclosed, cutOf, runsOut, started, eaten}
 use Rattle.params.specs.Seek.{endedAt, EndedIn}
 use Rattle.params.specs.Reader.{Read, reading, Span, span, inFile, within, bounded, begun, paramOf, CutIn, emptied, emptyOf, skipOf, andThen, skipFrom, skipsOf}
@@ -46,6 +47,14 @@ started-open xs i q = go (trivia (drop i xs))
     go : (x : Sought) → bad q ≡ placed xs x → drop (length xs) xs ≡ runsOut x
     go (at r) e = let z : _≡_ {A = ℕ} 0 1 = cc in absurd (omega arith)
     go (fault n o) e = drop-end xs (length xs) (omega arith)
+
+-- a byte above the space that is no slash begins no trivia
+pub started-here : (xs : List ℕ) (i : ℕ) → i < length xs → ltb 32 (getD xs i 0) && not (eqb (getD xs i 0) 47) ≡ true → started (drop i xs) ≡ drop i xs
+unfolding started
+started-here xs i h e = let (a, b) = and-true (ltb 32 (getD xs i 0)) (not (eqb (getD xs i 0) 47)) e in
+    let k = ltb-true 32 (getD xs i 0) a in
+    let w : white (getD xs i 0) ≡ false = rw (ne-eqb (getD xs i 0) 32 (λ q. absurd (omega arith)), ne-eqb (getD xs i 0) 9 (λ q. absurd (omega arith)), ne-eqb (getD xs i 0) 10 (λ q. absurd (omega arith)), ne-eqb (getD xs i 0) 12 (λ q. absurd (omega arith)), ne-eqb (getD xs i 0) 13 (λ q. absurd (omega arith))) refl in
+    rw (split xs i h) (ap runsOut (trivia-here (getD xs i 0) (drop (i + 1) xs) w (eqb-false (getD xs i 0) 47 (not-true (eqb (getD xs i 0) 47) b))))
 
 module _ (s : List ℕ) (p e : ℕ) (inside : inFile (length s) p e ≡ true) (start : ℕ) (begins : drop start (take e s) ≡ started (drop p (take e s))) (short : start ≤ e) where
   -- the bytes up to the reader's end

@@ -1,6 +1,6 @@
 -- What the token at a place of the bytes up to the reader's end does to the search for a parameter's end: the laws that the loop of the
 -- code goes by, one for each way out of it. Assumes nothing.
-use Prim.Native.Nat.{ℕ, zero, suc, _+_, _-_, _<_, _≤_}
+use Prim.Native.Nat.{ℕ, zero, suc, _+_, _-_, _<_, _≤_, _^_}
 use mathlib.Core.Path.{_≡_, refl, sym, _∙_, ap}
 use mathlib.Core.Bool.{Bool, true, false, _&&_, _||_}
 use mathlib.Core.List.{List, [], _∷_, _++_, append-nil}
@@ -13,6 +13,9 @@ use Rattle.lex.specs.Byte.{pick, white}
 use Rattle.lex.specs.Walk.{walk, split, drop-end}
 use Rattle.lex.specs.Right.Steps.{clash}
 use Rattle.tokens.specs.Leap.{fromByte, heads, Rest, ends, never, stringRest, commentRest}
+use Rattle.tokens.specs.Leap.{toldPast, PastIn}
+use Rattle.tokens.specs.declared.Past.{Past}
+use Rattle.tokens.specs.declared.Past as PastCode
 use Rattle.tokens.specs.Laws.{string-is, string-never, comment-is, comment-never, byte-found}
 use Rattle.params.specs.Grammar.{Without, Binary, OpenBinary, Ordinary, Token, Bound}
 use Rattle.params.specs.Cut.{Cut, cut, unclosed, cutOf}
@@ -35,6 +38,19 @@ EndedIn start n (Open q) = (start ≤ q) × (q ≤ n)
 -- the search from i on, outside literals and comments, the parameter reaching to z, with d open parentheses
 abbrev pub onward : List ℕ → ℕ → ℕ → ℕ → Cut
 onward xs i z d = plainly d (drop z xs) (drop i xs)
+
+-- where the search stands: a place of the bytes, behind what the parameter reaches to, with at most as many parentheses open as bytes
+-- were read
+pub record Standing (xs : List ℕ) (i z d : ℕ) : Type 0 where
+  pub place : i < length xs
+  pub reach : z ≤ i
+  pub few : d ≤ i
+  pub bounded : length xs < 2 ^ 63
+
+-- and the byte c is there
+pub record Stands (xs : List ℕ) (i z d c : ℕ) : Type 0 where
+  pub standing : Standing xs i z d
+  pub byte : getD xs i 0 ≡ c
 
 -- what the token at i does: the comma is there, a literal is open, or the search goes on from j
 abbrev pub Stepped : List ℕ → ℕ → ℕ → ℕ → Step → Type 0
@@ -112,7 +128,9 @@ module _ (xs : List ℕ) (i z d : ℕ) (h : i < length xs) where
 
   -- two bytes that open a comment
   opened : getD xs i 0 ≡ 47 → heads 42 (drop (i + 1) xs) ≡ true → drop i xs ≡ 47 ∷ 42 ∷ drop (i + 2) xs
-  opened e f = here 47 e ∙ ap (λ (l : List ℕ). 47 ∷ l) (go (drop (i + 1) xs) f ∙ ap (λ (l : List ℕ). 42 ∷ l) (drop-drop 1 (i + 1) xs ∙ ap (λ (k : ℕ). drop k xs) (omega arith)))
+  opened e f =
+      let k : i + 1 + 1 ≡ i + 2 = omega arith in
+      here 47 e ∙ ap (λ (l : List ℕ). 47 ∷ l) (go (drop (i + 1) xs) f ∙ ap (λ (l : List ℕ). 42 ∷ l) (drop-drop 1 (i + 1) xs ∙ ap (λ (j : ℕ). drop j xs) k))
     where
       go : (l : List ℕ) → heads 42 l ≡ true → l ≡ 42 ∷ drop 1 l
       go [] f = clash (cc)
@@ -181,3 +199,33 @@ onward-over xs i z d h = rw (drop-end xs i h, drop-end xs (length xs) (omega ari
 pub onward-starts : (xs : List ℕ) (start from : ℕ) → drop from xs ≡ drop start xs → onward xs from from 0 ≡ cutOf (drop start xs)
 unfolding cutOf
 onward-starts xs start from e = rw e refl
+
+-- The ways out of the code's steps.
+module _ (xs : List ℕ) (i z d : ℕ) where
+  -- a string
+  pub text-past : (r : Past) (j : ℕ) → Stands xs i z d 39 → toldPast xs r ≡ stringRest (drop (i + 1) xs) → PastIn (i + 1) (length xs) r → r ≡ PastCode.the-variants.At j
+      → Stepped xs i z d (StepCode.the-variants.On j j d)
+  text-past r j s e (w) f = let (a, b) = rw f at w in
+      let k = s .standing in
+      (step-string xs i z d (k .place) j (s .byte) (ap (toldPast xs) (sym f) ∙ e), omega arith, b, omega (arith, k .reach), omega arith, omega arith)
+
+  -- an open one
+  pub text-never : (r : Past) → Stands xs i z d 39 → toldPast xs r ≡ stringRest (drop (i + 1) xs) → r ≡ PastCode.the-variants.Never → Stepped xs i z d StepCode.the-variants.Open
+  text-never r s e f = step-open xs i z d (s .standing .place) (s .byte) (ap (toldPast xs) (sym f) ∙ e)
+
+  -- a comment
+  pub comment-past : (r : Past) (j : ℕ) → Stands xs i z d 47 → heads 42 (drop (i + 1) xs) ≡ true → toldPast xs r ≡ commentRest (drop (i + 2) xs) → PastIn (i + 2) (length xs) r → r ≡ PastCode.the-variants.At j
+      → Stepped xs i z d (StepCode.the-variants.On j z d)
+  comment-past r j s g e w f = let (a, b) = rw f at w in
+      let k = s .standing in
+      (step-comment xs i z d (k .place) j (s .byte) (sym g) (ap (toldPast xs) (sym f) ∙ e), omega arith, b, omega arith, omega (arith, k .reach), omega arith)
+
+  -- an open one
+  pub comment-stuck : (r : Past) → Stands xs i z d 47 → heads 42 (drop (i + 1) xs) ≡ true → toldPast xs r ≡ commentRest (drop (i + 2) xs) → r ≡ PastCode.the-variants.Never
+      → Stepped xs i z d (StepCode.the-variants.On (length xs) z d)
+  comment-stuck r s g e f = let k = s .standing in
+      (step-remark xs i z d (k .place) (s .byte) (sym g) (ap (toldPast xs) (sym f) ∙ e), k .place, omega arith, omega arith, omega (arith, k .reach, k .place), omega arith)
+
+  -- one byte that is the parameter's
+  pub on-byte : (e : ℕ) → Standing xs i z d → onward xs i z d ≡ onward xs (i + 1) (i + 1) e → e ≤ d + 1 → Stepped xs i z d (StepCode.the-variants.On (i + 1) (i + 1) e)
+  on-byte e k f g = (f, omega arith, omega (arith, k .place), omega (arith, k .reach), omega arith, g)

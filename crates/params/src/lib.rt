@@ -5,15 +5,14 @@
 // up to it, so that places are the file's.
 ghost use mathlib.Core.Path.{_≡_};
 ghost use mathlib.Core.Bool.{true, false, _&&_};
-ghost use Prim.Native.Nat.{_+_, _≤_, _<_, _^_, min};
+ghost use Prim.Native.Nat.{_+_, _-_, _≤_, _<_, _^_, min};
 ghost use lib.ListN.{length, take, drop};
-ghost use Rattle.lex.specs.Byte.{pick};
-ghost use Rattle.params.specs.Cut.{outside, settled, solidAfter, level, modeAfter, binaryAfter, cutOf, started};
-ghost use Rattle.params.specs.Seek.{overAt, endedAt, EndedIn};
+ghost use Rattle.params.specs.Cut.{cutOf, started};
+ghost use Rattle.params.specs.Seek.{endedAt, EndedIn, Standing, Stands, Stepped};
 ghost use Rattle.params.specs.Reader.{inFile, toldCut, CutIn, paramOf, toldOpened, openedOf, toldEmptiness, emptyOf, toldSkipped, skipOf, skipsOf};
 use error::Fault;
 use lex::Found;
-use lex::Mode;
+use tokens::Past;
 
 // Where a reader stands, and up to where it reads.
 pub struct State {
@@ -51,104 +50,102 @@ pub enum Skipped {
     Refused(Fault, State),
 }
 
-// Whether a byte stands outside strings, binary literals and comments.
-fn is_outside(binary: bool, m: Mode, b: u8) -> bool
-    ensures { λ r. ⌜ r ≡ outside binary m b ⌝ }
-{
-    if binary {
-        return false;
-    }
-    lex::is_calm(m, b)
+// What the token at a place does to the search for a parameter's end: the comma is there, a literal is open, or the search goes on
+// from a place, with what the parameter then reaches to and so many open parentheses.
+enum Step {
+    Comma,
+    Open,
+    On(usize, usize, usize),
 }
 
-// What the parameter reaches to before the place i: a slash that opened no comment, and a quote that ended a string, are its own.
-fn settled_at(m: Mode, solid: usize, i: usize) -> usize
-    ensures { λ r. ⌜ r ≡ settled m solid i ⌝ }
+fn lowered(depth: usize) -> usize
+    ensures { λ r. ⌜ r ≡ depth - 1 ⌝ }
 {
-    match m {
-        Mode::Plain => solid,
-        Mode::Slash => i,
-        Mode::Text => solid,
-        Mode::Quoted => i,
-        Mode::Remark => solid,
-        Mode::Starred => solid,
-    }
-}
-
-// What it reaches to after the byte b.
-fn solid_after(out: bool, binary: bool, b: u8, reached: usize, solid: usize, past: usize) -> usize
-    ensures { λ r. ⌜ r ≡ solidAfter out binary b reached solid past ⌝ }
-{
-    if out {
-        if lex::is_space(b) | (b == b'/') {
-            return reached;
-        }
-        return past;
-    }
-    if binary { past } else { solid }
-}
-
-fn level_after(out: bool, depth: usize, b: u8) -> usize
-    requires { ⌜ depth < 2 ^ 63 ⌝ }
-    ensures { λ r. ⌜ r ≡ level out depth b ⌝ }
-{
-    if !out {
-        return depth;
-    }
-    if b == b'(' {
-        return depth + 1;
-    }
-    if b != b')' {
-        return depth;
-    }
     if depth == 0 {
         return 0;
     }
     depth - 1
 }
 
-fn mode_after(binary: bool, m: Mode, b: u8) -> Mode
-    ensures { λ r. ⌜ r ≡ modeAfter binary m b ⌝ }
+// A comma: of the parameter, or of a list in it.
+fn comma_step(part: &[u8], i: usize, solid: usize, depth: usize) -> Step
+    requires { ⌜ Stands (now part) i solid depth 44 ⌝ }
+    ensures { λ r. ⌜ Stepped (now (part .entry)) i solid depth r ⌝ }
 {
-    if binary {
-        return m;
+    if depth < 1 {
+        return Step::Comma;
     }
-    lex::next_mode(m, b)
+    Step::On(i + 1, i + 1, depth)
 }
 
-fn binary_after(out: bool, binary: bool, b: u8) -> bool
-    ensures { λ r. ⌜ r ≡ binaryAfter out binary b ⌝ }
+// A quote, which opens a string.
+fn text_step(part: &[u8], i: usize, solid: usize, depth: usize) -> Step
+    requires { ⌜ Stands (now part) i solid depth 39 ⌝ }
+    ensures { λ r. ⌜ Stepped (now (part .entry)) i solid depth r ⌝ }
 {
-    if binary {
-        return b != b'"';
-    }
-    if out {
-        return b == b'"';
-    }
-    false
-}
-
-fn opened_after(out: bool, since: usize, i: usize) -> usize
-    ensures { λ r. ⌜ r ≡ pick out i since ⌝ }
-{
-    if out { i } else { since }
-}
-
-// What is found where the bytes end, at n, outside binary literals.
-fn over_at(m: Mode, solid: usize, since: usize, n: usize) -> Ended
-    ensures { λ r. ⌜ r ≡ overAt m solid since n ⌝ }
-{
-    match m {
-        Mode::Plain => Ended::At(solid, n),
-        Mode::Slash => Ended::At(n, n),
-        Mode::Text => Ended::Open(since),
-        Mode::Quoted => Ended::At(n, n),
-        Mode::Remark => Ended::At(solid, n),
-        Mode::Starred => Ended::At(solid, n),
+    match tokens::string_end(part, i + 1) {
+        Past::At(j) => Step::On(j, j, depth),
+        Past::Never => Step::Open,
     }
 }
 
-// Finds where the parameter ends that starts at `start`.
+// A `"`, which opens a binary literal.
+fn binary_step(part: &[u8], i: usize, solid: usize, depth: usize) -> Step
+    requires { ⌜ Stands (now part) i solid depth 34 ⌝ }
+    ensures { λ r. ⌜ Stepped (now (part .entry)) i solid depth r ⌝ }
+{
+    let q = tokens::find_byte(part, i + 1, b'"');
+    if q == part.len() {
+        return Step::Open;
+    }
+    Step::On(q + 1, q + 1, depth)
+}
+
+// A slash: it opens a comment, which is no part of the parameter where it ends it, or is a byte of the parameter.
+fn slash_step(part: &[u8], i: usize, solid: usize, depth: usize) -> Step
+    requires { ⌜ Stands (now part) i solid depth 47 ⌝ }
+    ensures { λ r. ⌜ Stepped (now (part .entry)) i solid depth r ⌝ }
+{
+    if !tokens::is_at(part, i + 1, b'*') {
+        return Step::On(i + 1, i + 1, depth);
+    }
+    match tokens::comment_end(part, i + 2) {
+        Past::At(j) => Step::On(j, solid, depth),
+        Past::Never => Step::On(part.len(), solid, depth),
+    }
+}
+
+// The token at i, outside literals and comments.
+fn token_at(part: &[u8], i: usize, solid: usize, depth: usize) -> Step
+    requires { ⌜ Standing (now part) i solid depth ⌝ }
+    ensures { λ r. ⌜ Stepped (now (part .entry)) i solid depth r ⌝ }
+{
+    let b = part[i];
+    if b == b',' {
+        return comma_step(part, i, solid, depth);
+    }
+    if b == b'(' {
+        return Step::On(i + 1, i + 1, depth + 1);
+    }
+    if b == b')' {
+        return Step::On(i + 1, i + 1, lowered(depth));
+    }
+    if b == b'\'' {
+        return text_step(part, i, solid, depth);
+    }
+    if b == b'"' {
+        return binary_step(part, i, solid, depth);
+    }
+    if b == b'/' {
+        return slash_step(part, i, solid, depth);
+    }
+    if lex::is_space(b) {
+        return Step::On(i + 1, solid, depth);
+    }
+    Step::On(i + 1, i + 1, depth)
+}
+
+// Finds where the parameter ends that starts at `start`. A byte above the slash is always one of its own: most are.
 pub fn param_end(part: &[u8], start: usize) -> Ended
     ensures { λ r. ⌜ endedAt (now (part .entry)) r ≡ cutOf (drop start (now (part .entry))) ⌝ }
     ensures { λ r. ⌜ EndedIn (min start (length (now (part .entry)))) (length (now (part .entry))) r ⌝ }
@@ -156,28 +153,34 @@ pub fn param_end(part: &[u8], start: usize) -> Ended
     let from = lex::within(start, part.len());
     let mut i = from;
     let mut solid = from;
-    let mut since = from;
     let mut depth: usize = 0;
-    let mut binary = false;
-    let mut m = Mode::Plain;
     while i < part.len() {
-        let b = part[i];
-        let out = is_outside(binary, m, b);
-        let reached = settled_at(m, solid, i);
-        if out & ((b == b',') & (depth == 0)) {
-            return Ended::At(reached, i);
+        if part[i] > b'/' {
+            i += 1;
+            solid = i;
+        } else {
+            match token_at(part, i, solid, depth) {
+                Step::Comma => return Ended::At(solid, i),
+                Step::Open => return Ended::Open(i),
+                Step::On(j, reached, open) => {
+                    i = j;
+                    solid = reached;
+                    depth = open;
+                }
+            }
         }
-        solid = solid_after(out, binary, b, reached, solid, i + 1);
-        depth = level_after(out, depth, b);
-        since = opened_after(out, since, i);
-        m = mode_after(binary, m, b);
-        binary = binary_after(out, binary, b);
-        i += 1;
     }
-    if binary {
-        return Ended::Open(since);
+    Ended::At(solid, part.len())
+}
+
+// Whether a byte stands here with which no trivia begins: most parameters start at once.
+fn is_dark(part: &[u8], place: usize) -> bool
+    ensures { λ r. ⌜ (r ≡ true → (place < length (now (part .entry))) × (started (drop place (now (part .entry))) ≡ drop place (now (part .entry)))) ⌝ }
+{
+    if place < part.len() {
+        return (part[place] > b' ') & (part[place] != b'/');
     }
-    over_at(m, solid, since, part.len())
+    false
 }
 
 // The place after the trivia; an open comment runs to the end.
@@ -186,6 +189,9 @@ fn past_trivia(part: &[u8], place: usize) -> usize
     ensures { λ r. ⌜ drop r (now (part .entry)) ≡ started (drop place (now (part .entry))) ⌝ }
     ensures { λ r. ⌜ (place ≤ r) × (r ≤ length (now (part .entry))) ⌝ }
 {
+    if is_dark(part, place) {
+        return place;
+    }
     match lex::skip_trivia(part, place) {
         Found::At(p) => p,
         Found::Refused(_) => part.len(),

@@ -1,159 +1,116 @@
-use Rattle.params.specs.Cut.{cutTurn, cutEnd, cutOf}
-use Rattle.params.specs.Seek.{standAt, settled-in, pick-in, solid-in, level-up, over-told, over-in, cut-halts, cut-goes, cut-over, cut-open, endedAt, EndedIn}
-use Rattle.lex.specs.Seek.{drop-within}
-use Rattle.lex.specs.Walk.{walk}
+use Rattle.params.specs.Seek.{Standing, Stands, Stepped, onward, step-comma, step-nested, step-opening, step-closing, step-string, step-open, step-binary, step-binary-open, step-blank, step-plain, step-slash, step-other, onward-over, onward-starts, text-past, text-never, comment-past, comment-stuck, on-byte, endedAt, EndedIn}
+use Rattle.params.specs.Cut.{cut, cutOf}
 use lib.ListN.{length, drop, getD}
-use Prim.Native.Nat.{ℕ, _-_, _≤_}
+use Prim.Native.Nat.{ℕ, _-_, _≤_, _+_}
 use mathlib.Core.Path.{_≡_, refl, _∙_, sym, ap}
 use native.Mathlib.Omega.{arith}
+use borrow.Author.Tests.{not-true, not-false}
 use borrow.Author.Needs.{needs}
 use denote.Ref.{now}
-use Rattle.params.specs.Cut.{cut, solidAfter}
-use mathlib.Core.Bool.{Bool, _&&_}
-use lib.Dec.{eqb}
-use Prim.Native.Nat.{_+_}
+use Rattle.params.specs.declared.Step as StepCode
+use Rattle.lex.specs.Seek.{drop-within}
 use Rattle.params.proofs.param_end.Statement.{statement}
 use Rattle.params.proofs.param_end.Tie as tie
 use Rattle.params.proofs.param_end.Reads as reads
 use Rattle.params.proofs.param_end.Lts as lts
 use Rattle.lex.proofs.within.Reads as within-reads
-use Rattle.params.proofs.binary_after.Reads as binary-after-reads
-use Rattle.params.proofs.is_outside.Reads as is-outside-reads
-use Rattle.params.proofs.level_after.Reads as level-after-reads
-use Rattle.params.proofs.mode_after.Reads as mode-after-reads
-use Rattle.params.proofs.opened_after.Reads as opened-after-reads
-use Rattle.params.proofs.over_at.Reads as over-at-reads
-use Rattle.params.proofs.settled_at.Reads as settled-at-reads
-use Rattle.params.proofs.solid_after.Reads as solid-after-reads
+use Rattle.params.proofs.token_at.Reads as token-at-reads
 
 abbrev Inv-loop : tie.InvT-loop
-Inv-loop part start from i₀ solid₀ since₀ depth₀ binary₀ m₀ i solid since depth binary m = (from ≤ solid) × (solid ≤ i) × (from ≤ since) × (since ≤ i) × (i ≤ length part) × (depth ≤ i) × (walk cutTurn cutEnd (standAt part m binary depth since solid) (drop i part) ≡ cutOf (drop start part))
+Inv-loop part start from i₀ solid₀ depth₀ i solid depth = (from ≤ solid) × (solid ≤ i) × (i ≤ length part) × (depth ≤ i) × (onward part i solid depth ≡ cutOf (drop start part))
 
 abbrev μ-loop : tie.MeasureT-loop
-μ-loop part start from i₀ solid₀ since₀ depth₀ binary₀ m₀ i solid since depth binary m = length part - i
+μ-loop part start from i₀ solid₀ depth₀ i solid depth = length part - i
 
--- src/lib.rt:156:9
+-- src/lib.rt:153:9
 within-requires : tie.Need-within-requires Inv-loop μ-loop
 within-requires c κs = search needs
 
--- src/lib.rt:163:5
+-- src/lib.rt:157:5
 loop-holds : tie.Need-loop-holds Inv-loop μ-loop
-unfolding cutOf
-loop-holds c = let s = now (c .before .before .args .part) in (
-  omega arith,
-  omega arith,
-  omega arith,
-  omega arith,
-  omega (arith, c .within .ensures),
-  omega arith,
-  ap cutOf (ap (λ (k : ℕ). drop k s) (c .within .ensures) ∙ drop-within s (c .before .before .args .start)),
-)
-
--- src/lib.rt:164:17
-shared-slice-read-b : tie.Need-shared-slice-read-b Inv-loop μ-loop
-shared-slice-read-b c = search needs
-
--- src/lib.rt:165:13
-is-outside-requires : tie.Need-is-outside-requires Inv-loop μ-loop
-is-outside-requires c κs = search needs
-
--- src/lib.rt:166:13
-settled-at-requires : tie.Need-settled-at-requires Inv-loop μ-loop
-settled-at-requires c κs = search needs
-
--- src/lib.rt:168:13
-returns : tie.Need-returns Inv-loop μ-loop
-returns c = let t = c .before .before .before .before .before in
-    let s = now (t .before .before .before .args .part) in
-    let l = t .loop in
-    let e = c .before .settled-at .ensures in
-    let w = settled-in (t .before .within .result) (l .i) (l .m) (l .solid) (l .i) (omega arith) (omega arith) (omega arith) (omega arith) in (
-      ap (λ (k : ℕ). cut (drop k s) (drop (l .i) s)) e
-          ∙ cut-halts s (l .i) (l .m) (l .binary) (l .depth) (l .since) (l .solid) _ (l .inv .6) (omega arith)
-          (ap (λ (k : Bool). k && (eqb (getD s (l .i) 0) 44 && eqb (l .depth) 0)) (sym (c .before .before .is-outside .ensures)) ∙ c .if1 .taken),
-      (omega (arith, e, w .0, t .before .within .ensures), omega (arith, e, w .1), omega arith),
+loop-holds c = let s = now (c .before .before .args .part) in
+    let w = c .within .ensures in (
+      omega arith,
+      omega arith,
+      omega (arith, w),
+      omega arith,
+      onward-starts s (c .before .before .args .start) (c .within .result) (ap (λ (k : ℕ). drop k s) w ∙ drop-within s (c .before .before .args .start)),
     )
 
--- src/lib.rt:170:61
-add-solid-after : tie.Need-add-solid-after Inv-loop μ-loop
-add-solid-after c = search needs
+-- src/lib.rt:158:12
+shared-slice-read-if1 : tie.Need-shared-slice-read-if1 Inv-loop μ-loop
+shared-slice-read-if1 c = search needs
 
--- src/lib.rt:170:9
-solid-after-requires : tie.Need-solid-after-requires Inv-loop μ-loop
-solid-after-requires c κs = search needs
-
--- src/lib.rt:171:9
-level-after-requires : tie.Need-level-after-requires Inv-loop μ-loop
-level-after-requires c κs = omega arith
-
--- src/lib.rt:172:9
-opened-after-requires : tie.Need-opened-after-requires Inv-loop μ-loop
-opened-after-requires c κs = search needs
-
--- src/lib.rt:173:9
-mode-after-requires : tie.Need-mode-after-requires Inv-loop μ-loop
-mode-after-requires c κs = search needs
-
--- src/lib.rt:174:9
-binary-after-requires : tie.Need-binary-after-requires Inv-loop μ-loop
-binary-after-requires c κs = search needs
-
--- src/lib.rt:175:9
+-- src/lib.rt:159:13
 add-i : tie.Need-add-i Inv-loop μ-loop
 add-i c = search needs
 
--- src/lib.rt:163:5
+-- src/lib.rt:157:5
 loop-less : tie.Need-loop-less Inv-loop μ-loop
 loop-less c = search needs
 
--- src/lib.rt:163:5
+-- src/lib.rt:157:5
 loop-again : tie.Need-loop-again Inv-loop μ-loop
-loop-again c = let p = c .before .before .before .before .before in
-    let t = p .before .before .before .before .before in
-    let s = now (t .before .before .before .args .part) in
-    let l = t .loop in
-    let from = t .before .within .result in
-    let out = p .before .before .is-outside .result in
-    let reach = p .before .settled-at .ensures in
-    let w = settled-in from (l .i + 1) (l .m) (l .solid) (l .i) (omega arith) (omega arith) (omega arith) (omega arith) in
-    let so = c .before .before .before .before .solid-after .ensures in
-    let op = c .before .before .opened-after .ensures in
-    let le = c .before .before .before .level-after .ensures in
-    let x = solid-in from (l .i + 1) out (l .binary) (getD s (l .i) 0) (p .before .settled-at .result) (l .solid) (l .i + 1) (rw reach w) (omega arith, omega arith) (omega arith, omega arith) in
-    let y = pick-in from (l .i + 1) out (l .i) (l .since) (omega arith, omega arith) (omega arith, omega arith) in
-    let z = level-up out (l .depth) (getD s (l .i) 0) in (
-      omega (arith, so, x .0),
-      omega (arith, so, x .1),
-      omega (arith, op, y .0),
-      omega (arith, op, y .1),
-      omega arith,
-      omega (arith, le, z),
-      cut-goes s (l .i) (l .m) (l .binary) (l .depth) (l .since) (l .solid) _ (l .inv .6) out (omega arith) (p .if1 .left) (p .before .before .is-outside .ensures) _ _ _ _ _
-          (c .before .mode-after .ensures) (c .binary-after .ensures) le op
-          (so ∙ ap (λ (k : ℕ). solidAfter out (l .binary) (getD s (l .i) 0) k (l .solid) (l .i + 1)) reach),
-    )
-
--- src/lib.rt:178:9
-returns-2 : tie.Need-returns-2 Inv-loop μ-loop
-returns-2 c = let l = c .before .before .loop in
-    let s = now (c .before .before .before .before .before .args .part) in
-    let w = c .before .before .before .within .ensures in
-    (cut-open s (l .i) (l .m) (l .binary) (l .depth) (l .since) (l .solid) _ (l .inv .6) (omega arith) (c .if2 .taken), (omega (arith, w), omega arith))
-
--- src/lib.rt:180:5
-over-at-requires : tie.Need-over-at-requires Inv-loop μ-loop
-over-at-requires c κs = search needs
-
--- src/lib.rt:152:1
-returns-3 : tie.Need-returns-3 Inv-loop μ-loop
-returns-3 c = let l = c .before .before .before .loop in
+loop-again c = let l = c .before .before .before .loop in
     let s = now (c .before .before .before .before .before .before .args .part) in
-    let w = c .before .before .before .before .within .ensures in
-    let n = length s in (
-      ap (endedAt s) (c .over-at .ensures) ∙ over-told s (l .m) (l .solid) (l .since)
-          ∙ cut-over s (l .i) (l .m) (l .binary) (l .depth) (l .since) (l .solid) _ (l .inv .6) (omega arith) (c .before .if2 .left),
-      rw (c .over-at .ensures) (over-in _ n (l .m) (l .solid) (l .since) (omega (arith, w)) (omega arith) (omega (arith, w)) (omega arith)),
-    )
+    (omega arith, omega arith, omega arith, omega arith, sym (step-plain s (l .i) (l .solid) (l .depth) (omega arith) (c .if1 .taken)) ∙ l .inv .4)
+
+-- src/lib.rt:162:19
+token-at-requires : tie.Need-token-at-requires Inv-loop μ-loop
+token-at-requires c κs = let l = c .before .before .before .loop in record {
+  place = omega arith;
+  reach = omega arith;
+  few = omega arith;
+  bounded = omega (arith, c .before .before .before .before .before .before .good .0 .1);
+}
+
+-- src/lib.rt:163:32
+enum-told : tie.Need-enum-told Inv-loop μ-loop
+enum-told c = search needs
+
+-- src/lib.rt:163:32
+returns : tie.Need-returns Inv-loop μ-loop
+returns c = let t = c .before .before in
+    let l = t .before .before .before .before .loop in
+    let k : Stepped (now (t .before .before .before .before .before .before .before .args .part)) (l .i) (l .solid) (l .depth) StepCode.the-variants.Comma = rw (c .enum-told .given .1) at (t .token-at .ensures) in
+    (sym k ∙ l .inv .4, (omega (arith, t .before .before .before .before .before .within .ensures), omega arith, omega arith))
+
+-- src/lib.rt:164:31
+enum-told-2 : tie.Need-enum-told-2 Inv-loop μ-loop
+enum-told-2 c = search needs
+
+-- src/lib.rt:164:31
+returns-2 : tie.Need-returns-2 Inv-loop μ-loop
+returns-2 c = let t = c .before .before in
+    let l = t .before .before .before .before .loop in
+    let k : Stepped (now (t .before .before .before .before .before .before .before .args .part)) (l .i) (l .solid) (l .depth) StepCode.the-variants.Open = rw (c .enum-told2 .given .1) at (t .token-at .ensures) in
+    (sym k ∙ l .inv .4, (omega (arith, t .before .before .before .before .before .within .ensures), omega arith))
+
+-- src/lib.rt:165:26
+enum-known-j : tie.Need-enum-known-j Inv-loop μ-loop
+enum-known-j c = search needs
+
+-- src/lib.rt:157:5
+loop-less-2 : tie.Need-loop-less-2 Inv-loop μ-loop
+loop-less-2 c = let t = c .before .before .before in
+    let l = t .before .before .before .before .loop in
+    let g = c .before .j .given in
+    let k : Stepped (now (t .before .before .before .before .before .before .before .args .part)) (l .i) (l .solid) (l .depth) (StepCode.the-variants.On (g .0 .0) (g .0 .1 .0) (g .0 .1 .1 .0)) = rw (g .1) at (t .token-at .ensures) in
+    omega (arith, k .1, k .2)
+
+-- src/lib.rt:157:5
+loop-again-2 : tie.Need-loop-again-2 Inv-loop μ-loop
+loop-again-2 c = let t = c .before .before .before in
+    let l = t .before .before .before .before .loop in
+    let g = c .before .j .given in
+    let k : Stepped (now (t .before .before .before .before .before .before .before .args .part)) (l .i) (l .solid) (l .depth) (StepCode.the-variants.On (g .0 .0) (g .0 .1 .0) (g .0 .1 .1 .0)) = rw (g .1) at (t .token-at .ensures) in
+    (omega (arith, k .3), omega (arith, k .4), omega (arith, k .2), omega (arith, k .1, k .5), sym (k .0) ∙ l .inv .4)
+
+-- src/lib.rt:149:1
+returns-3 : tie.Need-returns-3 Inv-loop μ-loop
+returns-3 c = let l = c .before .loop in
+    let s = now (c .before .before .before .before .args .part) in
+    (sym (onward-over s (l .i) (l .solid) (l .depth) (omega arith)) ∙ l .inv .4, (omega (arith, c .before .before .within .ensures), omega arith, omega arith))
 
 pub param-end-spec : {M : Type 1} → statement M
 param-end-spec =
@@ -163,19 +120,16 @@ param-end-spec =
     μ-loop
     within-requires
     loop-holds
-    shared-slice-read-b
-    is-outside-requires
-    settled-at-requires
-    returns
-    add-solid-after
-    solid-after-requires
-    level-after-requires
-    opened-after-requires
-    mode-after-requires
-    binary-after-requires
+    shared-slice-read-if1
     add-i
     loop-less
     loop-again
+    token-at-requires
+    enum-told
+    returns
+    enum-told-2
     returns-2
-    over-at-requires
+    enum-known-j
+    loop-less-2
+    loop-again-2
     returns-3)
