@@ -1,8 +1,11 @@
-// The scan, the reals and the texts for hosts in other languages: slices and numbers only. Used by the benchmarks; a load node's
+// The scan, the argument reader, the reals and the texts for hosts in other languages: slices and numbers only. Used by the benchmarks; a load node's
 // interface grows here.
+mod readers;
 mod real;
 mod text;
 
+pub use readers::hooflift_f64_list;
+pub use readers::hooflift_skip;
 pub use real::hooflift_real;
 pub use text::hooflift_text;
 ghost use mathlib.Core.Path.{_≡_};

@@ -1,0 +1,64 @@
+// The argument reader, for hosts in other languages: its place goes in and comes back, and a refusal's place goes beside it.
+ghost use mathlib.Core.Path.{_≡_};
+ghost use lib.ListN.{length};
+ghost use mathlib.Core.List.{map};
+ghost use lib.Ieee.{binary64, toBits};
+ghost use Rattle.reals.specs.Scalar.{realOf};
+ghost use Rattle.params.specs.Reader.{skipOf};
+ghost use Rattle.lists.specs.Items.{nextBy, listOf, fitsIn, howMany, written};
+ghost use Rattle.export.specs.Readers.{readCode, readFault, readCount};
+use lists::NextList;
+use params::Skipped;
+use params::State;
+
+// Goes past one parameter: 0, or the refusal's number, with its place in `fault`; `place` is where the reader then stands.
+#[no_mangle]
+pub extern "C" fn hooflift_skip(file: &[u8], place: &mut usize, end: usize, fault: &mut usize) -> u8
+    ensures { λ n. ⌜ n ≡ readCode (skipOf (now (file .entry)) (now (place .entry)) end .answer) ⌝ }
+    ensures { λ _. ⌜ now (place .exit) ≡ skipOf (now (file .entry)) (now (place .entry)) end .place ⌝ }
+    ensures { λ _. ⌜ now (fault .exit) ≡ readFault (skipOf (now (file .entry)) (now (place .entry)) end .answer) (now (fault .entry)) ⌝ }
+{
+    let at = State { place: *place, end };
+    match params::skip(file, at) {
+        Skipped::Past(to) => {
+            *place = to.place;
+            0
+        }
+        Skipped::Refused(f, to) => {
+            *place = to.place;
+            *fault = error::place(f);
+            error::number(f)
+        }
+    }
+}
+
+// Reads a list of reals into `out`: 0, with how many in `count`; or the refusal's number, with its place in `fault`.
+#[no_mangle]
+pub extern "C" fn hooflift_f64_list(
+    file: &[u8],
+    place: &mut usize,
+    end: usize,
+    out: &mut [f64],
+    count: &mut usize,
+    fault: &mut usize,
+) -> u8
+    ensures { λ n. ⌜ n ≡ readCode (howMany (nextBy (listOf realOf) (fitsIn (length (now (out .entry)))) (now (file .entry)) (now (place .entry)) end) .answer) ⌝ }
+    ensures { λ _. ⌜ now (place .exit) ≡ howMany (nextBy (listOf realOf) (fitsIn (length (now (out .entry)))) (now (file .entry)) (now (place .entry)) end) .place ⌝ }
+    ensures { λ _. ⌜ map (toBits binary64) (now (out .exit)) ≡ written (nextBy (listOf realOf) (fitsIn (length (now (out .entry)))) (now (file .entry)) (now (place .entry)) end .answer) (map (toBits binary64) (now (out .entry))) ⌝ }
+    ensures { λ _. ⌜ now (count .exit) ≡ readCount (howMany (nextBy (listOf realOf) (fitsIn (length (now (out .entry)))) (now (file .entry)) (now (place .entry)) end) .answer) (now (count .entry)) ⌝ }
+    ensures { λ _. ⌜ now (fault .exit) ≡ readFault (howMany (nextBy (listOf realOf) (fitsIn (length (now (out .entry)))) (now (file .entry)) (now (place .entry)) end) .answer) (now (fault .entry)) ⌝ }
+{
+    let at = State { place: *place, end };
+    match lists::next_f64_list(file, at, out) {
+        NextList::Count(n, to) => {
+            *place = to.place;
+            *count = n;
+            0
+        }
+        NextList::Refused(f, to) => {
+            *place = to.place;
+            *fault = error::place(f);
+            error::number(f)
+        }
+    }
+}
