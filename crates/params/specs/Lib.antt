@@ -4,3 +4,5 @@ pub mod Seek
 pub mod Reader
 pub mod ReaderLaws
 pub mod Right
+pub mod Rules
+pub mod RulesRight

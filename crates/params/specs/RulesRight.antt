@@ -1,0 +1,213 @@
+-- Rules.antt's rules and what Reader.antt computes are one: what is computed is so, and nothing else is. Assumes nothing.
+use Prim.Native.Nat.{ℕ, suc, _+_, _-_, _≤_, _<_, min}
+use mathlib.Core.Path.{_≡_, refl, sym, _∙_, ap}
+use mathlib.Core.Bool.{Bool, true, false}
+use mathlib.Core.List.{List, [], _∷_, _++_, append-assoc, append-nil}
+use native.Mathlib.Omega.{arith}
+use borrow.Author.Tests.{le-leb}
+use lib.ListN.{length, take, drop, length-append, take-append-drop}
+use lib.Seq.{length-take-le, drop-at}
+use Rattle.error.specs.Refusal.{refusal, good, bad}
+use Rattle.lex.specs.Byte.{pick, place}
+use Rattle.lex.specs.Walk.{drop-end}
+use Rattle.lex.specs.Grammar.{Comment, Quotation, Trivia}
+use Rattle.lex.specs.Right.Steps.{clash}
+use Rattle.params.specs.Grammar.{Binary, Token, Runs, Whole, Trails, Parameter, Unclosed, Starts}
+use Rattle.params.specs.Cut.{Cut, cut, unclosed, cutOf, started}
+use Rattle.params.specs.Right.{param-is, param-only, unclosed-is, unclosed-only, started-is, started-only}
+use Rattle.params.specs.Reader.{Read, reading, Span, span, inFile, bounded, begun, paramOf}
+use Rattle.params.specs.ReaderLaws.{in-true, param-none, param-cut, param-open}
+use Rattle.params.specs.Rules.{Inside, rest, NextForm}
+
+-- ---- every list that the rules speak of is a rest of the bytes
+-- r is a rest of xs: some bytes, and then r
+abbrev pub Rest : List ℕ → List ℕ → Type 0
+Rest xs r = (b : List ℕ) × (xs ≡ b ++ r)
+
+-- all of it is one
+rest-all : {xs : List ℕ} → Rest xs xs
+rest-all = ([], refl)
+
+-- and so is nothing
+rest-none : {xs : List ℕ} → Rest xs []
+rest-none {xs} = (xs, sym (append-nil xs))
+
+-- one more byte in front
+rest-on : {c : ℕ} {xs r : List ℕ} → Rest xs r → Rest (c ∷ xs) r
+rest-on {c} (b, e) = (c ∷ b, cc)
+
+-- a rest of a rest
+pub rest-of : {xs ys r : List ℕ} → Rest xs ys → Rest ys r → Rest xs r
+rest-of {r} (b, e) (c, f) = (b ++ c, e ∙ ap (λ (l : List ℕ). b ++ l) f ∙ sym (append-assoc b c r))
+
+-- a rest is no longer than the list
+pub rest-within : {xs r : List ℕ} → Rest xs r → length r ≤ length xs
+rest-within (b, e) = omega (arith, simp length-append at (ap length e))
+
+-- a place points at the rest that it was given for
+pub rest-place : {xs r : List ℕ} → Rest xs r → drop (place xs r) xs ≡ r
+rest-place {r} (b, e) = rw e (drop-at b r (length (b ++ r) - length r) (simp length-append (omega arith)))
+
+-- the rest from a place on
+rest-from : (xs : List ℕ) (i : ℕ) → Rest xs (drop i xs)
+rest-from xs i = (take i xs, sym (take-append-drop i xs))
+
+-- what follows a comment
+comment-rest : {xs r : List ℕ} → Comment xs r → Rest xs r
+comment-rest {r} q = (47 ∷ 42 ∷ (q .body ++ (42 ∷ 47 ∷ [])), q .shape ∙ ap (λ (l : List ℕ). 47 ∷ 42 ∷ l) (sym (append-assoc (q .body) (42 ∷ 47 ∷ []) r)))
+
+-- what follows a string
+string-rest : {xs r : List ℕ} → Quotation xs r → Rest xs r
+string-rest {r} q = (39 ∷ (q .body ++ (39 ∷ [])), q .shape ∙ ap (λ (l : List ℕ). 39 ∷ l) (sym (append-assoc (q .body) (39 ∷ []) r)))
+
+-- what follows a binary literal
+binary-rest : {xs r : List ℕ} → Binary xs r → Rest xs r
+binary-rest {r} q = (34 ∷ (q .body ++ (34 ∷ [])), q .shape ∙ ap (λ (l : List ℕ). 34 ∷ l) (sym (append-assoc (q .body) (34 ∷ []) r)))
+
+-- what follows trivia
+trivia-rest : {xs ys : List ℕ} → Trivia xs ys → Rest xs ys
+trivia-rest Trivia.none = rest-all
+trivia-rest (Trivia.blank h r) = rest-on (trivia-rest r)
+trivia-rest (Trivia.comment q r) = rest-of (comment-rest q) (trivia-rest r)
+
+-- what follows a token
+token-rest : {d e : ℕ} {xs ys : List ℕ} → Token d xs e ys → Rest xs ys
+token-rest (Token.byte q) = rest-on rest-all
+token-rest Token.nested = rest-on rest-all
+token-rest (Token.string q) = string-rest q
+token-rest (Token.binary q) = binary-rest q
+token-rest Token.opening = rest-on rest-all
+token-rest Token.closing = rest-on rest-all
+token-rest Token.stray = rest-on rest-all
+
+-- what follows tokens and trivia
+runs-rest : {d e : ℕ} {xs ys : List ℕ} → Runs d xs e ys → Rest xs ys
+runs-rest Runs.none = rest-all
+runs-rest (Runs.token r q) = rest-of (runs-rest r) (token-rest q)
+runs-rest (Runs.blank r h) = rest-of (runs-rest r) (rest-on rest-all)
+runs-rest (Runs.comment r q) = rest-of (runs-rest r) (comment-rest q)
+
+-- what follows a parameter
+whole-rest : {d e : ℕ} {xs ys : List ℕ} → Whole d xs e ys → Rest xs ys
+whole-rest Whole.none = rest-all
+whole-rest (Whole.last r q) = rest-of (runs-rest r) (token-rest q)
+
+-- what follows its trailing trivia
+trails-rest : {xs ys : List ℕ} → Trails xs ys → Rest xs ys
+trails-rest (Trails.shut r) = trivia-rest r
+trails-rest (Trails.unclosed r q) = rest-none
+
+-- where a parameter stops, and where its comma or the end is
+pub param-rest : {xs z b : List ℕ} → Parameter xs z b → Rest xs z × Rest z b
+param-rest p = (whole-rest (p .whole), trails-rest (p .trails))
+
+-- where an open literal begins
+pub unclosed-rest : {xs o : List ℕ} → Unclosed xs o → Rest xs o × (0 < length o)
+unclosed-rest (Unclosed.text r ((t, e), q)) = (runs-rest r, rw e (omega arith))
+unclosed-rest (Unclosed.binary r ((t, e), q)) = (runs-rest r, rw e (omega arith))
+
+-- where a parameter starts
+pub starts-rest : {xs ys : List ℕ} → Starts xs ys → Rest xs ys
+starts-rest (Starts.led l) = trivia-rest (l .before)
+starts-rest (Starts.unclosed r q) = rest-none
+
+-- ---- the reader's place and end
+-- they lie in the file, and the test passes
+pub inside-true : (s : List ℕ) (p e : ℕ) → Inside s p e → inFile (length s) p e ≡ true
+inside-true s p e (h, k) = rw (le-leb p e h, le-leb e (length s) k) refl
+
+-- or they do not, and it fails
+pub inside-false : (s : List ℕ) (p e : ℕ) → (Inside s p e → ⊥) → inFile (length s) p e ≡ false
+inside-false s p e n = go (inFile (length s) p e) refl
+  where
+    go : (t : Bool) → inFile (length s) p e ≡ t → inFile (length s) p e ≡ false
+    go true h = absurd (n (in-true (length s) p e h))
+    go false h = h
+
+-- ---- what is computed is so
+module _ (s : List ℕ) (p e : ℕ) (i : Inside s p e) where
+  -- the bytes up to the end
+  total : length (take e s) ≡ e
+  total = length-take-le e s (i .1)
+
+  -- a rest's place
+  there : (r : List ℕ) → Rest (take e s) r → rest s e (place (take e s) r) ≡ r
+  there r h = rest-place h
+
+  -- the place of the end
+  at-end : place (take e s) [] ≡ e
+  at-end = omega (arith, total)
+
+  -- a place in the bytes
+  place-of : (r : List ℕ) → Rest (take e s) r → place (take e s) r ≤ e
+  place-of r h = omega (arith, total)
+
+  -- what follows the parameter's start, by its end
+  bounded-is : (c : ℕ) (r : List ℕ) → Starts (rest s e p) (c ∷ r) → (x : Cut) → cutOf (c ∷ r) ≡ x → NextForm s p e (bounded (take e s) e (c ∷ r) x)
+  bounded-is c r h (unclosed o) k =
+      let xs = take e s in
+      let y : Rest xs (c ∷ r) = rest-of (rest-from xs p) (starts-rest h) in
+      let u = unclosed-is (c ∷ r) o k in
+      let (w, l) = unclosed-rest u in
+      let z : Rest xs o = rest-of y w in
+      NextForm.unclosed {a = place xs (c ∷ r)} {q = place xs o} i (omega (arith, rest-within w)) (omega (arith, total, rest-within z))
+      (rw (there (c ∷ r) y) h) (rw (there (c ∷ r) y, there o z) u)
+  bounded-is c r h (cut z []) k =
+      let xs = take e s in
+      let y : Rest xs (c ∷ r) = rest-of (rest-from xs p) (starts-rest h) in
+      let q = param-is (c ∷ r) z [] k in
+      let (w, v) = param-rest q in
+      let x : Rest xs z = rest-of y w in
+      rw at-end
+      (NextForm.last {a = place xs (c ∷ r)} {z = place xs z} i (omega (arith, total, rest-within y)) (omega (arith, rest-within w)) (place-of z x)
+      (rw (there (c ∷ r) y) h) (rw (there (c ∷ r) y, there z x) q))
+  bounded-is c r h (cut z (d ∷ t)) k =
+      let xs = take e s in
+      let y : Rest xs (c ∷ r) = rest-of (rest-from xs p) (starts-rest h) in
+      let q = param-is (c ∷ r) z (d ∷ t) k in
+      let (w, v) = param-rest q in
+      let x : Rest xs z = rest-of y w in
+      let b : Rest xs (d ∷ t) = rest-of x v in
+      let n : suc (place xs (d ∷ t)) ≡ place xs t = omega (arith, rest-within b) in
+      rw (← n)
+      (NextForm.comma {a = place xs (c ∷ r)} {z = place xs z} {b = place xs (d ∷ t)} i (omega (arith, rest-within w)) (omega (arith, rest-within v)) (omega (arith, total, rest-within b))
+      (rw (there (c ∷ r) y) h) (rw (there (c ∷ r) y, there z x, there (d ∷ t) b) q))
+
+  -- by the parameter's start
+  begun-is : (ys : List ℕ) → Starts (rest s e p) ys → NextForm s p e (begun (take e s) e ys)
+  begun-is [] h = rw at-end (NextForm.none i h)
+  begun-is (c ∷ r) h = bounded-is c r h (cutOf (c ∷ r)) refl
+
+-- what is computed is the answer
+pub next-is : (s : List ℕ) (p e : ℕ) → NextForm s p e (paramOf s p e)
+unfolding paramOf
+next-is s p e = go (inFile (length s) p e) refl
+  where
+    off : inFile (length s) p e ≡ false → Inside s p e → ⊥
+    off h i = clash (cc (inside-true s p e i))
+
+    go : (t : Bool) → inFile (length s) p e ≡ t
+        → NextForm s p e (pick t (begun (take e s) e (started (drop p (take e s)))) (reading (bad (refusal 9 0 0)) p e))
+    go true h = begun-is s p e (in-true (length s) p e h) (started (drop p (take e s))) (started-is (drop p (take e s)))
+    go false h = NextForm.outside (off h)
+
+-- and there is no other
+pub next-only : {s : List ℕ} {p e : ℕ} {r : Read Span} → NextForm s p e r → r ≡ paramOf s p e
+unfolding paramOf
+next-only {s} {p} {e} (NextForm.outside n) = rw (inside-false s p e n) refl
+next-only {s} {p} {e} (NextForm.none i h) =
+    let t = total s p e i in
+    let k : drop e (take e s) ≡ started (drop p (take e s)) = drop-end (take e s) e (omega arith) ∙ sym (started-only h) in
+    param-none s p e (inside-true s p e i) e k (omega arith) refl
+next-only {s} {p} {e} (NextForm.comma {a} {z} {b} i az zb be h q) =
+    let n : suc b ≡ min (b + 1) e = omega arith in
+    ap (λ (k : ℕ). reading (good (span a z)) k e) n
+    ∙ param-cut s p e (inside-true s p e i) a (sym (started-only h)) (omega arith) (omega arith) z b (omega arith) (omega arith) (sym (param-only q))
+next-only {s} {p} {e} (NextForm.last {a} {z} i ae az ze h q) =
+    let t = total s p e i in
+    let n : e ≡ min (e + 1) e = omega arith in
+    let d : drop e (take e s) ≡ [] = drop-end (take e s) e (omega arith) in
+    ap (λ (k : ℕ). reading (good (span a z)) k e) n
+    ∙ param-cut s p e (inside-true s p e i) a (sym (started-only h)) (omega arith) ae z e ze (omega arith) (ap (cut (drop z (take e s))) d ∙ sym (param-only q))
+next-only {s} {p} {e} (NextForm.unclosed {a} {q} i aq qe h u) =
+    param-open s p e (inside-true s p e i) a (sym (started-only h)) (omega arith) (omega arith) q (omega arith) (sym (unclosed-only u))
