@@ -6,3 +6,5 @@ pub mod ReaderLaws
 pub mod Right
 pub mod Rules
 pub mod RulesRight
+pub mod Places
+pub mod Only
