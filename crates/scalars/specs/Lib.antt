@@ -1,2 +1,4 @@
 pub mod Scalars
 pub mod Laws
+pub mod Rules
+pub mod RulesRight

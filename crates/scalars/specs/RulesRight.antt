@@ -1,0 +1,253 @@
+-- Rules.antt's rules and what Scalars.antt computes are one: what is computed is so, and nothing else is. Assumes nothing.
+use Prim.Native.Nat.{ℕ, _-_}
+use mathlib.Core.Path.{_≡_, refl, sym, _∙_, ap, subst}
+use mathlib.Core.Logic.{_⊎_, inl, inr}
+use mathlib.Core.Bool.{Bool, true, false, not}
+use mathlib.Core.List.{List, [], _∷_, _++_}
+use native.Mathlib.Omega.{arith}
+use borrow.Author.Tests.{eqb-true, eq-eqb, ne-eqb, not-false}
+use lib.Dec.{eqb}
+use lib.ListN.{length, getD, length-append}
+use lib.Seq.{take-at}
+use Rattle.lex.specs.Byte.{pick}
+use Rattle.lex.specs.Right.Steps.{clash}
+use Rattle.record.specs.Text.{past, digit}
+use Rattle.record.specs.Turns.{bounds}
+use Rattle.record.specs.Word.{same, trimmed}
+use Rattle.record.specs.Form.{All, Free, Skipped, bytes}
+use Rattle.record.specs.FormRight.{past-is, past-only, trimmed-is, trimmed-only}
+use Rattle.record.specs.FormRight.Parts.{first-other, all-back, all-join, all-kind}
+use Rattle.reals.specs.Scalar.{Answer, read, refused, referenceOf, realOf}
+use Rattle.reals.specs.Form.{Signed, Fraction, Powered, Written, RealForm, ReferenceForm}
+use Rattle.reals.specs.FormRight.{real-is, real-only}
+use Rattle.reals.specs.WholeRight.{reference-is, reference-only}
+use Rattle.scalars.specs.Scalars as Scalars
+use Rattle.scalars.specs.Scalars.{Given, Logical, isUnset, asGiven, optionOf, unopening, inside, bare, enclosed, kernelFrom, kernelOf, measured, measureOf, truthOf}
+use Rattle.scalars.specs.Rules.{Typed, MeasureForm, TruthForm, OptionForm}
+
+-- ---- the same bytes
+-- a test that two texts are the same, both ways
+pub same-is : (x y : List ℕ) → same x y ≡ true → x ≡ y
+unfolding same
+same-is [] [] h = refl
+same-is [] (b ∷ y) h = clash (cc)
+same-is (a ∷ x) [] h = clash (cc)
+same-is (a ∷ x) (b ∷ y) h = go (eqb a b) refl (same-is x y)
+  where
+    go : (t : Bool) → eqb a b ≡ t → (same x y ≡ true → x ≡ y) → a ∷ x ≡ b ∷ y
+    go true e g = let f : same x y ≡ true = rw e at h in cc (g f, eqb-true a b e)
+    go false e g = let f : false ≡ true = rw e at h in clash (cc)
+
+-- a text is the same as itself
+pub same-self : (x : List ℕ) → same x x ≡ true
+unfolding same
+same-self [] = refl
+same-self (a ∷ x) = rw (eq-eqb a a refl) (same-self x)
+
+-- texts that differ
+pub same-not : (x y : List ℕ) → (x ≡ y → ⊥) → same x y ≡ false
+same-not x y h = go (same x y) refl
+  where
+    go : (t : Bool) → same x y ≡ t → same x y ≡ false
+    go true e = absurd (h (same-is x y e))
+    go false e = e
+
+-- ---- no real has a `(`
+-- a digit is no `(`
+digit-free : (c : ℕ) → digit c ≡ true → not (eqb c 40) ≡ true
+digit-free c h = let k = bounds 48 c 57 h in rw (ne-eqb c 40 (λ e. absurd (omega arith))) refl
+
+digits-free : (f : List ℕ) → All digit f → Free 40 f
+digits-free f = all-kind digit (λ c. not (eqb c 40)) f digit-free
+
+-- nor is a sign
+signed-free : {t u : List ℕ} {s : Bool} → Signed t s u → Free 40 u → Free 40 t
+signed-free (Signed.unmarked u) h = h
+signed-free (Signed.plus u) h = (refl, h)
+signed-free (Signed.minus u) h = (refl, h)
+
+-- nor the point
+fraction-free : {p f : List ℕ} → Fraction p f → Free 40 p
+fraction-free Fraction.pointless = tt
+fraction-free (Fraction.point f a) = (refl, digits-free f a)
+
+-- nor an exponent's letter
+powered-free : {e x : List ℕ} {d : Bool} → Powered e d x → Free 40 e
+powered-free Powered.powerless = tt
+powered-free (Powered.powered c xs x s (inl e) g a n) = (rw e refl, signed-free g (digits-free x a))
+powered-free (Powered.powered c xs x s (inr e) g a n) = (rw e refl, signed-free g (digits-free x a))
+
+-- a real as it is written
+written-free : {t w f x : List ℕ} {s d : Bool} → Written t s w f d x → Free 40 t
+written-free {w} r =
+    signed-free (r .sign) (rw (r .shape) (all-join _ w (r .p ++ r .e) (digits-free w (r .whole)) (all-join _ (r .p) (r .e) (fraction-free (r .fraction)) (powered-free (r .power)))))
+
+-- a text with a `(` has one
+typed-opens : {t u : List ℕ} → Typed t u → Free 40 t → ⊥
+typed-opens y h = let (n, k) = all-back (λ c. not (eqb c 40)) (y .keyword) (40 ∷ (y .body ++ (41 ∷ []))) (rw (y .shape) at h) in clash (cc)
+
+-- what has a keyword is no real
+pub typed-real : {t u : List ℕ} → Typed t u → realOf t ≡ refused 12
+typed-real {t} y = sym (real-only (RealForm.other (λ s d w f x r. typed-opens y (written-free r))))
+
+-- ---- `KEYWORD(real)`
+-- what follows the `(`, where its last byte is a `)`
+enclosed-only : (b : List ℕ) → enclosed (b ++ (41 ∷ [])) ≡ inside (trimmed b)
+enclosed-only b =
+    let n : length (b ++ (41 ∷ [])) - 1 ≡ length b = simp length-append (omega arith) in
+    rw (n, last b, take-at b (41 ∷ []) (length b) refl) refl
+  where
+    last : (b : List ℕ) → getD (b ++ (41 ∷ [])) (length b) 0 ≡ 41
+    last [] = refl
+    last (c ∷ b) = last b
+
+-- a text with a keyword has what is computed
+pub typed-only : {t u : List ℕ} → Typed t u → kernelOf t ≡ inside u
+unfolding kernelOf
+typed-only {t} {u} y =
+    let r : List ℕ = y .body ++ (41 ∷ []) in
+    let e : past unopening t ≡ 40 ∷ r = rw (y .shape) (past-only unopening (y .keyword) (40 ∷ r) record { all = y .first; over = first-other unopening 40 r refl }) in
+    ap kernelFrom e ∙ enclosed-only (y .body) ∙ ap inside (sym (trimmed-only (y .trims)))
+
+-- a list ends in a `)`, or what stands at its end is none
+Ended : List ℕ → Type 0
+Ended r = ((b : List ℕ) × (r ≡ b ++ (41 ∷ []))) ⊎ (enclosed r ≡ bare)
+
+ended : (r : List ℕ) → Ended r
+unfolding Ended
+ended [] = inr refl
+ended (c ∷ r) = go c r
+  where
+    back : (c : ℕ) (r : List ℕ) → getD (c ∷ r) (length r) 0 ≡ 41 → (b : List ℕ) × (c ∷ r ≡ b ++ (41 ∷ []))
+    back c [] e = ([], cc)
+    back c (d ∷ r) e = let (b, f) = back d r e in (c ∷ b, cc)
+
+    go : (c : ℕ) (r : List ℕ) → ((b : List ℕ) × (c ∷ r ≡ b ++ (41 ∷ []))) ⊎ (enclosed (c ∷ r) ≡ bare)
+    go c r = by (eqb (getD (c ∷ r) (length r) 0) 41) refl
+      where
+        n : length (c ∷ r) - 1 ≡ length r
+        n = omega arith
+
+        by : (t : Bool) → eqb (getD (c ∷ r) (length r) 0) 41 ≡ t → ((b : List ℕ) × (c ∷ r ≡ b ++ (41 ∷ []))) ⊎ (enclosed (c ∷ r) ≡ bare)
+        by true e = inl (back c r (eqb-true _ 41 e))
+        by false e = inr (rw (n, e) refl)
+
+-- a text has a keyword, or none is found
+pub typed-comes : (t : List ℕ) → ((u : List ℕ) × Typed t u) ⊎ (kernelOf t ≡ bare)
+unfolding kernelOf Ended
+typed-comes t = go (past unopening t) refl (past-is unopening t)
+  where
+    cut : (f r : List ℕ) → t ≡ f ++ (40 ∷ r) → Free 40 f → Ended r → ((u : List ℕ) × Typed t u) ⊎ (enclosed r ≡ bare)
+    cut f r e a (inl (b, g)) = inl (trimmed b, record { keyword = f; body = b; shape = cc; first = a; trims = trimmed-is b })
+    cut f r e a (inr h) = inr h
+
+    go : (x : List ℕ) → past unopening t ≡ x → (f : List ℕ) × (t ≡ f ++ past unopening t) × Skipped unopening f (past unopening t)
+        → ((u : List ℕ) × Typed t u) ⊎ (kernelFrom x ≡ bare)
+    go [] q k = inr refl
+    go (c ∷ r) q (f, e, s) =
+        let h : c ≡ 40 = eqb-true c 40 (not-false (eqb c 40) (s .over c r q)) in
+        cut f r (e ∙ ap (λ (l : List ℕ). f ++ l) (q ∙ ap (λ (d : ℕ). d ∷ r) h)) (s .all) (ended r)
+
+-- ---- measures
+-- a text with a keyword is read by what stands inside
+measure-typed : {t u : List ℕ} → Typed t u → measureOf t ≡ realOf u
+unfolding measureOf
+measure-typed y = rw (typed-real y, typed-only y) refl
+
+-- another one is read as it stands
+measure-bare : (t : List ℕ) → kernelOf t ≡ bare → measureOf t ≡ realOf t
+unfolding measureOf
+measure-bare t e = rw e (go (realOf t))
+  where
+    go : (a : Answer ℕ) → measured a bare ≡ a
+    go (read b) = refl
+    go (refused n) = by (eqb n 12) refl
+      where
+        by : (t : Bool) → eqb n 12 ≡ t → pick {A = Answer ℕ} t (refused 12) (refused n) ≡ refused n
+        by true h = ap refused (sym (eqb-true n 12 h))
+        by false h = refl
+
+-- no text is found in parentheses and not
+none-inside : {t u : List ℕ} → kernelOf t ≡ bare → Typed t u → ⊥
+none-inside e y = clash (cc (typed-only y))
+
+-- "A measure is a real or `KEYWORD(real)`.": what is computed is the answer
+pub measure-is : (t : List ℕ) → MeasureForm t (measureOf t)
+measure-is t = go (typed-comes t)
+  where
+    go : ((u : List ℕ) × Typed t u) ⊎ (kernelOf t ≡ bare) → MeasureForm t (measureOf t)
+    go (inl (u, y)) = subst (MeasureForm t) (sym (measure-typed y)) (MeasureForm.typed y (real-is u))
+    go (inr e) = subst (MeasureForm t) (sym (measure-bare t e)) (MeasureForm.bare (λ u. none-inside e) (real-is t))
+
+-- and there is no other
+pub measure-only : {t : List ℕ} {a : Answer ℕ} → MeasureForm t a → a ≡ measureOf t
+measure-only (MeasureForm.typed y r) = real-only r ∙ sym (measure-typed y)
+measure-only {t} {a} (MeasureForm.bare n r) = go (typed-comes t)
+  where
+    go : ((u : List ℕ) × Typed t u) ⊎ (kernelOf t ≡ bare) → a ≡ measureOf t
+    go (inl (u, y)) = absurd (n u y)
+    go (inr e) = real-only r ∙ sym (measure-bare t e)
+
+-- ---- booleans
+-- "`.T.` `.F.` `.U.`": the answer by the rules is the one that is computed
+pub truth-only : {t : List ℕ} {a : Answer Logical} → TruthForm t a → a ≡ truthOf t
+unfolding truthOf same
+truth-only TruthForm.true = refl
+truth-only TruthForm.false = refl
+truth-only TruthForm.unknown = refl
+truth-only {t} (TruthForm.other h k l) = rw (same-not t (bytes ".T.") h, same-not t (bytes ".F.") k, same-not t (bytes ".U.") l) refl
+
+-- every text is a boolean, or none
+truth-comes : (t : List ℕ) → (a : Answer Logical) × TruthForm t a
+truth-comes t = go (same t (bytes ".T.")) (same t (bytes ".F.")) (same t (bytes ".U.")) refl refl refl
+  where
+    differs : (w : List ℕ) → same t w ≡ false → t ≡ w → ⊥
+    differs w h e = clash (cc (ap (λ (x : List ℕ). same x w) e ∙ same-self w))
+
+    go : (a b c : Bool) → same t (bytes ".T.") ≡ a → same t (bytes ".F.") ≡ b → same t (bytes ".U.") ≡ c → (a : Answer Logical) × TruthForm t a
+    go true b c p q r = (_, subst (λ (x : List ℕ). TruthForm x (read Scalars.holds)) (sym (same-is t _ p)) TruthForm.true)
+    go false true c p q r = (_, subst (λ (x : List ℕ). TruthForm x (read Scalars.fails)) (sym (same-is t _ q)) TruthForm.false)
+    go false false true p q r = (_, subst (λ (x : List ℕ). TruthForm x (read Scalars.unknown)) (sym (same-is t _ r)) TruthForm.unknown)
+    go false false false p q r = (refused 12, TruthForm.other (differs _ p) (differs _ q) (differs _ r))
+
+-- what is computed is the answer
+pub truth-is : (t : List ℕ) → TruthForm t (truthOf t)
+truth-is t = let (a, h) = truth-comes t in subst (TruthForm t) (truth-only h) h
+
+-- ---- `$`
+module _ {A : Type 0} (P : List ℕ → Answer A → Type 0) (f : List ℕ → Answer A) where
+  -- what is computed is the answer, where it is for values
+  pub option-is : ((t : List ℕ) → P t (f t)) → (t : List ℕ) → OptionForm P t (optionOf f t)
+  unfolding isUnset
+  option-is h t = go (same t (bytes "$")) refl (f t) (h t)
+    where
+      differs : same t (bytes "$") ≡ false → t ≡ bytes "$" → ⊥
+      differs e q = clash (cc (ap (λ (x : List ℕ). same x (bytes "$")) q ∙ same-self (bytes "$")))
+
+      go : (u : Bool) → same t (bytes "$") ≡ u → (a : Answer A) → P t a → OptionForm P t (pick u (read Scalars.unset) (asGiven a))
+      go true e a p = subst (λ (x : List ℕ). OptionForm P x (read Scalars.unset)) (sym (same-is t _ e)) OptionForm.unset
+      go false e (read a) p = OptionForm.given (differs e) p
+      go false e (refused n) p = OptionForm.other (differs e) p
+
+  -- and there is no other
+  pub option-only : ((t : List ℕ) (a : Answer A) → P t a → a ≡ f t) → {t : List ℕ} {a : Answer (Given A)} → OptionForm P t a → a ≡ optionOf f t
+  unfolding isUnset same
+  option-only h OptionForm.unset = refl
+  option-only h {t} (OptionForm.given {a} n p) = rw (same-not t (bytes "$") n) (ap asGiven (h t (read a) p))
+  option-only h {t} (OptionForm.other {n} k p) = rw (same-not t (bytes "$") k) (ap asGiven (h t (refused n) p))
+
+-- `next_opt_ref`: a reference, or `$`
+pub opt-reference-is : (t : List ℕ) → OptionForm ReferenceForm t (optionOf referenceOf t)
+opt-reference-is = option-is ReferenceForm referenceOf reference-is
+
+-- and nothing else
+pub opt-reference-only : {t : List ℕ} {a : Answer (Given ℕ)} → OptionForm ReferenceForm t a → a ≡ optionOf referenceOf t
+opt-reference-only = option-only ReferenceForm referenceOf (λ t a. reference-only)
+
+-- `next_opt_f64`: a real, or `$`
+pub opt-real-is : (t : List ℕ) → OptionForm RealForm t (optionOf realOf t)
+opt-real-is = option-is RealForm realOf real-is
+
+-- and nothing else
+pub opt-real-only : {t : List ℕ} {a : Answer (Given ℕ)} → OptionForm RealForm t a → a ≡ optionOf realOf t
+opt-real-only = option-only RealForm realOf (λ t a. real-only)
