@@ -2,3 +2,5 @@ pub mod Scalars
 pub mod Laws
 pub mod Rules
 pub mod RulesRight
+pub mod Places
+pub mod Only
