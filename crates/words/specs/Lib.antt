@@ -1,2 +1,6 @@
 pub mod Words
 pub mod Laws
+pub mod Rules
+pub mod RulesRight
+pub mod Places
+pub mod Only
