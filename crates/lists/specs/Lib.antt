@@ -1,4 +1,6 @@
 pub mod Items
+pub mod Rules
+pub mod RulesRight
 pub mod Laws
 pub mod Fill
 pub mod ReadLaws
