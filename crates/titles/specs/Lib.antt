@@ -1,1 +1,3 @@
 pub mod Title
+pub mod Places
+pub mod Only
