@@ -4,3 +4,4 @@ pub mod Rules
 pub mod RulesRight
 pub mod Places
 pub mod Only
+pub mod Examples

@@ -1,0 +1,51 @@
+-- Points that document 01 leaves to the Rust, for names and string parameters. Assumes nothing.
+use mathlib.Core.Path.{_≡_, refl}
+use mathlib.Core.List.{[], _∷_}
+use Rattle.error.specs.Refusal.{refusal, good, bad}
+use Rattle.record.specs.Form.{bytes}
+use Rattle.record.specs.Word.{same}
+use Rattle.utf8.specs.Utf8.{encode, encodeAll, leadOf, validFrom}
+use Rattle.strings.specs.Text.{plain, pieceOf, textFrom, textOf, bytesOf}
+use Rattle.params.specs.Reader.{span}
+use Rattle.scalars.specs.Scalars.{isUnset}
+use Rattle.words.specs.Words.{isName, nameAt, isString, inRoom, stringAt, roomAt}
+
+-- `..` is an empty name
+empty-name : nameAt (bytes "..") (span 0 2) ≡ good (span 1 1)
+unfolding isName validFrom
+empty-name = refl
+
+-- a dot alone is none
+one-dot : nameAt (bytes ".") (span 0 1) ≡ bad (refusal 12 0 0)
+unfolding isName
+one-dot = refl
+
+-- nor is one that is not valid UTF-8: C0 80
+overlong-name : nameAt (46 ∷ 0xc0 ∷ 0x80 ∷ 46 ∷ []) (span 0 4) ≡ bad (refusal 12 0 0)
+unfolding isName validFrom leadOf
+overlong-name = refl
+
+-- an empty parameter is no name and no text
+nameless : nameAt [] (span 0 0) ≡ bad (refusal 12 0 0)
+unfolding isName
+nameless = refl
+
+-- no text either
+textless : stringAt [] 0 (span 0 0) ≡ bad (refusal 12 0 0)
+unfolding stringAt isUnset same isString
+textless = refl
+
+-- a quote alone is no string parameter
+one-quote : stringAt (bytes "'") 0 (span 0 1) ≡ bad (refusal 12 0 0)
+unfolding stringAt isUnset same isString
+one-quote = refl
+
+-- `'a'b` is a string parameter with the text `a'`
+half-quoted : stringAt (bytes "'a'b") 2 (span 0 4) ≡ good (inRoom 2)
+unfolding stringAt isUnset same isString plain bytesOf textOf textFrom pieceOf encodeAll encode
+half-quoted = refl
+
+-- which is written to the room
+half-quoted-room : roomAt (bytes "'a'b") (0 ∷ 0 ∷ []) (span 0 4) ≡ bytes "a'"
+unfolding roomAt isUnset same isString plain bytesOf textOf textFrom pieceOf encodeAll encode
+half-quoted-room = refl
