@@ -11,7 +11,7 @@ use lib.Dec.{eqb}
 use lib.IntN.{ℤ}
 use lib.ListN.{length, take, drop, getD, length-append}
 use lib.Seq.{take-at}
-use Rattle.error.specs.Refusal.{Refusal, refusal, Told, bad}
+use Rattle.error.specs.Refusal.{good, Refusal, refusal, Told, bad}
 use Rattle.lex.specs.Byte.{pick, white}
 use Rattle.lex.specs.Right.Steps.{clash}
 use Rattle.lex.specs.Walk.{walk}
@@ -27,7 +27,7 @@ use Rattle.reals.specs.WholeRight.{whole-is, whole-only, reference-is, referenc
 use Rattle.params.specs.Grammar.{Bound}
 use Rattle.params.specs.Cut.{Cut, cut, unclosed, cutOf}
 use Rattle.params.specs.Right.{param-is, param-only, unclosed-is, unclosed-only}
-use Rattle.params.specs.Reader.{reading, Span, inFile}
+use Rattle.params.specs.Reader.{paramOf, reading, Span, inFile}
 use Rattle.params.specs.Rules.{Inside}
 use Rattle.params.specs.RulesRight.{Rest, rest-of, param-rest}
 use Rattle.params.specs.Places.{Stands, Past, mapped-stands, mapped-stays, refused-past}
@@ -365,7 +365,7 @@ module _ {A : Type 0} (g : List ℕ → Fate A) (fits : A → Bool) (s : List �
 
   -- after 12, 13 and 16 past the parameter and its comma
   pub list-past : (q : Refusal) → nextBy g fits s p e .answer ≡ bad q → 11 < q .number
-      → (a : Span) × (roomed fits (a .start) (g (take (a .stop - a .start) (drop (a .start) s))) ≡ bad q) × Inside s p e × Past s p e a (nextBy g fits s p e .place)
+      → (a : Span) × (paramOf s p e .answer ≡ good a) × (roomed fits (a .start) (g (take (a .stop - a .start) (drop (a .start) s))) ≡ bad q) × Inside s p e × Past s p e a (nextBy g fits s p e .place)
   unfolding nextBy
   list-past = refused-past reads s p e
 

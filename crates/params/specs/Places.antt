@@ -137,14 +137,14 @@ module _ {A : Type 0} (f : Span → Told A) (s : List ℕ) (p e : ℕ) where
   pub mapped-stays : inFile (length s) p e ≡ false → mapped f (paramOf s p e) ≡ reading (bad (refusal 9 0 0)) p e
   mapped-stays h = rw (param-stays s p e h) refl
 
-  -- "The reader after 12, 13 and 16 stands past the parameter and its comma"
+  -- "The reader after 12, 13 and 16 stands past the parameter and its comma": a is the parameter that was cut
   pub refused-past : (q : Refusal) → mapped f (paramOf s p e) .answer ≡ bad q → 11 < q .number
-      → (a : Span) × (f a ≡ bad q) × Inside s p e × Past s p e a (mapped f (paramOf s p e) .place)
+      → (a : Span) × (paramOf s p e .answer ≡ good a) × (f a ≡ bad q) × Inside s p e × Past s p e a (mapped f (paramOf s p e) .place)
   refused-past q h n = go (paramOf s p e .answer) refl (form-past s p e (next-is s p e)) h
     where
       go : (t : Told Span) → paramOf s p e .answer ≡ t → ToldPast s p e t (paramOf s p e .place) → onward f t ≡ bad q
-          → (a : Span) × (f a ≡ bad q) × Inside s p e × Past s p e a (paramOf s p e .place)
-      go (good a) k l m = (a, m, l .0, l .1)
+          → (a : Span) × (paramOf s p e .answer ≡ good a) × (f a ≡ bad q) × Inside s p e × Past s p e a (paramOf s p e .place)
+      go (good a) k l m = (a, k, m, l .0, l .1)
       go (bad r) k l m = let z : r .number ≡ q .number = cc in absurd (omega arith)
 
 -- ---- `is_empty`, `skip`, `skip_n`

@@ -12,7 +12,8 @@ use Rattle.params.specs.Reader.{Read, reading, Span, span}
 abbrev pub Inside : List ℕ → ℕ → ℕ → Type 0
 Inside s p e = (p ≤ e) × (e ≤ length s)
 
--- the bytes from a place up to the reader's end: nothing past it is looked at
+-- the bytes from a place up to the reader's end: "no literal or comment is looked for past the reader's end, so that a literal not closed
+-- there is 11 (this paper decides)"
 abbrev pub rest : List ℕ → ℕ → ℕ → List ℕ
 rest s e i = drop i (take e s)
 

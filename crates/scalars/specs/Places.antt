@@ -5,7 +5,7 @@ use mathlib.Core.Bool.{false}
 use mathlib.Core.List.{List}
 use native.Mathlib.Omega.{arith}
 use lib.ListN.{length, take, drop}
-use Rattle.error.specs.Refusal.{Refusal, refusal, bad}
+use Rattle.error.specs.Refusal.{good, Refusal, refusal, bad}
 use Rattle.lex.specs.Right.Steps.{clash}
 use Rattle.reals.specs.Scalar.{Answer, read, refused}
 use Rattle.params.specs.Reader.{reading, Span, inFile, paramOf}
@@ -36,13 +36,13 @@ module _ {A : Type 0} (f : List ℕ → Answer A) (s : List ℕ) (p e : ℕ) whe
 
   -- 12 and 13 stand at the parameter's start, and the reader past the parameter and its comma
   pub next-past : (q : Refusal) → nextOf f s p e .answer ≡ bad q → 11 < q .number
-      → (a : Span) × (q .place ≡ a .start) × (f (take (a .stop - a .start) (drop (a .start) s)) ≡ refused (q .number)) × Past s p e a (nextOf f s p e .place)
+      → (a : Span) × (paramOf s p e .answer ≡ good a) × (q .place ≡ a .start) × (f (take (a .stop - a .start) (drop (a .start) s)) ≡ refused (q .number)) × Past s p e a (nextOf f s p e .place)
   unfolding nextOf
-  next-past q h n = let (a, k, i, l) = refused-past (scalarAt f s) s p e q h n in go a (f (take (a .stop - a .start) (drop (a .start) s))) refl k l
+  next-past q h n = let (a, j, k, i, l) = refused-past (scalarAt f s) s p e q h n in go a j (f (take (a .stop - a .start) (drop (a .start) s))) refl k l
     where
-      go : (a : Span) (v : Answer A) → f (take (a .stop - a .start) (drop (a .start) s)) ≡ v → answered (a .start) v ≡ bad q → Past s p e a (paramOf s p e .place)
-          → (a : Span) × (q .place ≡ a .start) × (f (take (a .stop - a .start) (drop (a .start) s)) ≡ refused (q .number)) × Past s p e a (paramOf s p e .place)
-      go a (read v) e k l = clash (cc)
-      go a (refused m) e k l =
+      go : (a : Span) → paramOf s p e .answer ≡ good a → (v : Answer A) → f (take (a .stop - a .start) (drop (a .start) s)) ≡ v → answered (a .start) v ≡ bad q → Past s p e a (paramOf s p e .place)
+          → (a : Span) × (paramOf s p e .answer ≡ good a) × (q .place ≡ a .start) × (f (take (a .stop - a .start) (drop (a .start) s)) ≡ refused (q .number)) × Past s p e a (paramOf s p e .place)
+      go a j (read v) e k l = clash (cc)
+      go a j (refused m) e k l =
           let z : q ≡ refusal m 0 (a .start) = cc in
-          (a, ap (λ (x : Refusal). x .place) z, e ∙ ap (λ (x : Refusal). refused (x .number)) (sym z), l)
+          (a, j, ap (λ (x : Refusal). x .place) z, e ∙ ap (λ (x : Refusal). refused (x .number)) (sym z), l)

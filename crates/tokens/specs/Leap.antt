@@ -1,5 +1,5 @@
--- Where a byte is found, and where a string and a comment end, computed by the scan's lexer (lex/specs/Lexer.antt), so that there is no
--- second definition of either. What they are without a loop stands in lex/specs/Grammar.antt; Laws.antt ties the two. Assumes nothing.
+-- Where a byte is found; and where a string and a comment end, computed by the scan's lexer (lex/specs/Lexer.antt), so that there is no
+-- second definition of either. What these two are without a loop stands in lex/specs/Grammar.antt; Laws.antt ties them. Assumes nothing.
 use Prim.Native.Nat.{ℕ, _+_, _≤_, _<_}
 use mathlib.Core.Path.{_≡_}
 use mathlib.Core.Bool.{Bool, true, false}

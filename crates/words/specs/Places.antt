@@ -58,8 +58,8 @@ module _ (s : List ℕ) (p e : ℕ) where
 
   -- 12 stands at the parameter's start, and the reader past the parameter and its comma
   pub name-past : (q : Refusal) → mapped (nameAt s) (paramOf s p e) .answer ≡ bad q → 11 < q .number
-      → (a : Span) × (q .place ≡ a .start) × Past s p e a (paramOf s p e .place)
-  name-past q h n = let (a, k, i, l) = refused-past (nameAt s) s p e q h n in (a, name-start q (nameform-is s a) k, l)
+      → (a : Span) × (paramOf s p e .answer ≡ good a) × (q .place ≡ a .start) × Past s p e a (paramOf s p e .place)
+  name-past q h n = let (a, j, k, i, l) = refused-past (nameAt s) s p e q h n in (a, j, name-start q (nameform-is s a) k, l)
 
 -- ---- texts
 -- a text in the file, or from the room's start
@@ -97,10 +97,10 @@ module _ (s o : List ℕ) (p e : ℕ) where
 
   -- 12 and 16 stand at the parameter's start, and the reader past the parameter and its comma
   pub text-past : (q : Refusal) → mapped (stringAt s (length o)) (paramOf s p e) .answer ≡ bad q → 11 < q .number
-      → (a : Span) × (q .place ≡ a .start) × Past s p e a (paramOf s p e .place)
-  text-past q h n = let (a, k, i, l) = refused-past (stringAt s (length o)) s p e q h n in
+      → (a : Span) × (paramOf s p e .answer ≡ good a) × (q .place ≡ a .start) × Past s p e a (paramOf s p e .place)
+  text-past q h n = let (a, j, k, i, l) = refused-past (stringAt s (length o)) s p e q h n in
       let x = l .passed in let y = l .within in let z = i .1 in
-      (a, text-start q (textform-is s a o (l .ordered) (omega arith)) k, l)
+      (a, j, text-start q (textform-is s a o (l .ordered) (omega arith)) k, l)
 
   -- "A refusal returns only its number, reason and place": the lent output keeps its bytes
   pub text-kept : (q : Refusal) → mapped (stringAt s (length o)) (paramOf s p e) .answer ≡ bad q → roomOf s o (paramOf s p e .answer) ≡ o
