@@ -1,9 +1,12 @@
-// The scan, the argument reader, the reals and the texts for hosts in other languages: slices and numbers only. Used by the benchmarks; a load node's
-// interface grows here.
+// The scan, the id index, the argument reader, the reals and the texts for hosts in other languages: slices and numbers only. Used
+// by the benchmarks; a load node's interface grows here.
+mod ids;
 mod readers;
 mod real;
 mod text;
 
+pub use ids::hooflift_get;
+pub use ids::hooflift_index;
 pub use readers::hooflift_f64_list;
 pub use readers::hooflift_skip;
 pub use real::hooflift_real;
