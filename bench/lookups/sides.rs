@@ -1,0 +1,326 @@
+//! The two sides of a lookup: the original's dense table, and the proved index, whose search is written again here to count the
+//! lines of memory that it touches.
+use cad_step::StepFile;
+use cad_step::scan::Scan;
+
+unsafe extern "C" {
+    fn hooflift_scan(
+        file: *const u8,
+        file_len: usize,
+        headers: *mut u32,
+        headers_len: usize,
+        rows: *mut u32,
+        rows_len: usize,
+        slots: usize,
+        out: *mut u64,
+        out_len: usize,
+    ) -> u8;
+    fn hooflift_index(
+        rows: *const u32,
+        rows_len: usize,
+        count: usize,
+        slots: *mut u32,
+        slots_len: usize,
+        ids: *mut u64,
+        ids_len: usize,
+    ) -> u8;
+    fn hooflift_get(
+        rows: *const u32,
+        rows_len: usize,
+        slots: *const u32,
+        slots_len: usize,
+        count: usize,
+        first: u32,
+        last: u32,
+        flags: u32,
+        id: u32,
+    ) -> u32;
+}
+
+const NONE: u32 = u32::MAX;
+const GUIDED: usize = 6;
+
+/// The table as the original's `from_bytes` makes it, without the rest.
+pub fn dense(found: &Scan) -> Vec<u32> {
+    let mut by_id = vec![NONE; found.max_id as usize + 1];
+    for (row, record) in found.records.iter().enumerate() {
+        by_id[record.id as usize] = row as u32;
+    }
+    by_id
+}
+
+/// The ids of the records that are found, summed: the record is read.
+pub fn rust_gets(file: &StepFile, asked: &[u32]) -> u64 {
+    asked.iter().map(|&id| file.get(id).map_or(0, |e| u64::from(e.id) + 1)).sum()
+}
+
+/// The same, each lookup waiting for the record that the one before found. The mask is 0, which the compiler does not know.
+pub fn rust_chain(file: &StepFile, asked: &[u32], mask: u32) -> u64 {
+    let mut found = 0;
+    let mut sum = 0;
+    for &id in asked {
+        found = file.get(id ^ (found & mask)).map_or(0, |e| e.id);
+        sum += u64::from(found);
+    }
+    sum
+}
+
+/// A line of memory.
+#[repr(align(64))]
+#[derive(Clone)]
+struct Line(#[allow(dead_code)] [u32; 16]);
+
+/// Numbers that begin a line.
+struct Room {
+    lines: Vec<Line>,
+    len: usize,
+}
+
+impl Room {
+    fn new(len: usize) -> Room {
+        Room { lines: vec![Line([7; 16]); len.div_ceil(16)], len }
+    }
+
+    fn numbers(&self) -> &[u32] {
+        // SAFETY: the lines hold at least so many numbers, one after the other.
+        unsafe { std::slice::from_raw_parts(self.place(), self.len) }
+    }
+
+    fn place(&self) -> *const u32 {
+        self.lines.as_ptr().cast()
+    }
+
+    fn place_mut(&mut self) -> *mut u32 {
+        self.lines.as_mut_ptr().cast()
+    }
+}
+
+/// What is lent to the proved side, and what it left there.
+pub struct Table {
+    headers: Room,
+    rows: Room,
+    slots: Room,
+    beside: [u64; 4],
+}
+
+impl Table {
+    pub fn open(file: &[u8], headers: usize, records: usize) -> Table {
+        let mut table = Table {
+            headers: Room::new(headers * 4),
+            rows: Room::new(records * 6),
+            slots: Room::new(records),
+            beside: [0; 4],
+        };
+        table.scan(file);
+        table.index();
+        table
+    }
+
+    pub fn scan(&mut self, file: &[u8]) {
+        let mut out = [0u64; 3];
+        // SAFETY: each pointer goes with its room's length, and no two rooms overlap.
+        let code = unsafe {
+            hooflift_scan(
+                file.as_ptr(),
+                file.len(),
+                self.headers.place_mut(),
+                self.headers.len,
+                self.rows.place_mut(),
+                self.rows.len,
+                self.slots.len,
+                out.as_mut_ptr(),
+                3,
+            )
+        };
+        assert_eq!((code, out[1]), (0, self.slots.len as u64));
+    }
+
+    pub fn index(&mut self) {
+        // SAFETY: as above.
+        let code = unsafe {
+            hooflift_index(
+                self.rows.place(),
+                self.rows.len,
+                self.slots.len,
+                self.slots.place_mut(),
+                self.slots.len,
+                self.beside.as_mut_ptr(),
+                4,
+            )
+        };
+        assert_eq!(code, 0);
+    }
+
+    pub fn get(&self, id: u32) -> Option<usize> {
+        let [count, first, last, flags] = self.beside;
+        // SAFETY: each pointer goes with its room's length.
+        let row = unsafe {
+            hooflift_get(
+                self.rows.place(),
+                self.rows.len,
+                self.slots.place(),
+                self.slots.len,
+                count as usize,
+                first as u32,
+                last as u32,
+                flags as u32,
+                id,
+            )
+        };
+        (row != NONE).then_some(row as usize)
+    }
+
+    pub fn id(&self, row: usize) -> u32 {
+        self.rows.numbers()[row * 6]
+    }
+
+    /// As `rust_gets`.
+    pub fn gets(&self, asked: &[u32]) -> u64 {
+        asked.iter().map(|&id| self.get(id).map_or(0, |r| u64::from(self.id(r)) + 1)).sum()
+    }
+
+    /// As `rust_chain`.
+    pub fn chain(&self, asked: &[u32], mask: u32) -> u64 {
+        let mut found = 0;
+        let mut sum = 0;
+        for &id in asked {
+            found = self.get(id ^ (found & mask)).map_or(0, |r| self.id(r));
+            sum += u64::from(found);
+        }
+        sum
+    }
+
+    /// The bytes that finding ids takes beside the rows: the slots, and four numbers.
+    pub fn bytes(&self) -> u64 {
+        self.slots.len as u64 * 4 + 32
+    }
+
+    pub fn order(&self) -> &'static str {
+        ["unsorted, repeated", "direct", "unsorted", "direct"][self.beside[3] as usize]
+    }
+
+    /// The row in a slot, as crates/index reads it.
+    fn row_at(&self, slot: usize, seen: &mut Seen) -> usize {
+        if self.beside[3] % 2 == 1 {
+            return slot;
+        }
+        seen.touch(1 << 40, slot * 4);
+        self.slots.numbers()[slot] as usize
+    }
+
+    fn id_at(&self, row: usize, seen: &mut Seen) -> u32 {
+        seen.touch(0, row * 24);
+        self.id(row)
+    }
+
+    /// The search of crates/index/specs/Search.antt, with the lines that it touches.
+    pub fn counted(&self, id: u32, lines: &mut Lines) -> Option<usize> {
+        let mut seen = Seen::default();
+        let [_, first, last, _] = self.beside;
+        let end = if last <= u64::from(id) {
+            self.slots.len
+        } else if u64::from(id) < first {
+            0
+        } else {
+            self.end_from(id, &mut seen)
+        };
+        let found = (end > 0).then(|| self.row_at(end - 1, &mut seen)).filter(|&r| self.id_at(r, &mut seen) == id);
+        lines.add(&seen);
+        found
+    }
+
+    /// Where the slots that hold ids up to this one end: even guesses, one step from an end, and then the middle.
+    fn end_from(&self, id: u32, seen: &mut Seen) -> usize {
+        let k = u64::from(id);
+        let [_, mut under, mut over, flags] = self.beside;
+        let (mut lo, mut hi) = (1, self.slots.len - 1);
+        let mut guided = GUIDED;
+        while lo < hi {
+            let guess = match guided {
+                0 => lo + (hi - lo) / 2,
+                1 => stepped(k, lo, hi, under, over),
+                _ => lo - 1 + ((k - under) * (hi + 1 - lo) as u64 / (over - under)) as usize,
+            };
+            let m = guess.min(hi - 1).max(lo);
+            guided = guided.saturating_sub(1);
+            seen.looks += 1;
+            let row = self.row_at(m, seen);
+            let there = u64::from(self.id_at(row, seen));
+            if flags >= 2 && there == k {
+                return m + 1;
+            }
+            if there <= k {
+                (lo, under) = (m + 1, there);
+            } else {
+                (hi, over) = (m, there);
+            }
+        }
+        lo
+    }
+}
+
+fn stepped(k: u64, lo: usize, hi: usize, under: u64, over: u64) -> usize {
+    if k - under <= over - k {
+        lo - 1 + (k - under) as usize
+    } else {
+        hi.saturating_sub((over - k) as usize)
+    }
+}
+
+/// The lines that one lookup touched, each once, and how many slots it looked at.
+#[derive(Default)]
+struct Seen {
+    lines: Vec<usize>,
+    looks: usize,
+}
+
+impl Seen {
+    fn touch(&mut self, room: usize, byte: usize) {
+        let line = room + byte / 64;
+        if !self.lines.contains(&line) {
+            self.lines.push(line);
+        }
+    }
+}
+
+/// Over many lookups.
+#[derive(Default)]
+pub struct Lines {
+    lookups: usize,
+    lines: usize,
+    most: usize,
+    looks: usize,
+    most_looks: usize,
+}
+
+impl Lines {
+    fn add(&mut self, seen: &Seen) {
+        self.lookups += 1;
+        self.lines += seen.lines.len();
+        self.most = self.most.max(seen.lines.len());
+        self.looks += seen.looks;
+        self.most_looks = self.most_looks.max(seen.looks);
+    }
+
+    /// Mean and worst.
+    pub fn told(&self) -> String {
+        format!("{:.2}, {}", self.lines as f64 / self.lookups as f64, self.most)
+    }
+
+    pub fn looks(&self) -> String {
+        format!("{:.2}, {}", self.looks as f64 / self.lookups as f64, self.most_looks)
+    }
+}
+
+/// A number with commas.
+pub fn spelt(n: u64) -> String {
+    let digits = n.to_string();
+    let mut told = String::new();
+    for (i, c) in digits.chars().enumerate() {
+        if i > 0 && (digits.len() - i) % 3 == 0 {
+            told.push(',');
+        }
+        told.push(c);
+    }
+    told
+}
