@@ -1,5 +1,6 @@
--- `number_at` has a file so that bytes in another order are refused at its own answer. Assumes nothing.
+-- `number_at` has a file so that bytes in another order are refused at its own answer, as a sum that is false. Assumes nothing.
 use borrow.Author.Needs.{needs}
+use native.Mathlib.Omega.{arith}
 use Rattle.kept.proofs.number_at.Statement.{statement}
 use Rattle.kept.proofs.number_at.Tie as tie
 use Rattle.kept.proofs.number_at.Reads as reads
@@ -80,7 +81,7 @@ add-result-3 c = search needs
 
 -- src/lib.rt:57:1
 returns : tie.Need-returns
-returns c = search needs
+returns c = omega arith
 
 pub number-at-spec : {M : Type 1} → statement M
 number-at-spec =

@@ -2,6 +2,9 @@ use borrow.Author.Needs.{needs}
 use Rattle.statement.specs.Row.{mapped}
 use Rattle.lex.specs.Search.{toldFound}
 use mathlib.Core.Path.{refl, sym, _∙_, ap}
+use Prim.Native.Nat.{ℕ, _+_}
+use mathlib.Core.Option.{some}
+use Rattle.statement.specs.Row.{headerRow}
 use Rattle.parts.proofs.part_at.Statement.{statement}
 use Rattle.parts.proofs.part_at.Tie as tie
 use Rattle.parts.proofs.part_at.Reads as reads
@@ -46,7 +49,8 @@ returns c = ap (mapped _) (sym (ap toldFound (c .before .f .given .1)) ∙ c .be
 
 -- src/lib.rt:49:1
 returns-2 : tie.Need-returns-2
-returns-2 c = ap (mapped _) (sym (ap toldFound (c .before .close .given .1)) ∙ c .before .before .before .matching-paren .ensures)
+returns-2 c = let a = c .before .before .before .before .before .args in
+    ap (mapped (λ (q : ℕ). some (headerRow (a .a + a .k) (a .a + a .z) (a .a + a .o + 1) q))) (sym (ap toldFound (c .before .close .given .1)) ∙ c .before .before .before .matching-paren .ensures)
 
 pub part-at-spec : {M : Type 1} → statement M
 part-at-spec =
