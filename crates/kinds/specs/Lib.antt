@@ -1,2 +1,3 @@
 pub mod Kind
 pub mod Words
+pub mod Name

@@ -5,8 +5,10 @@
 ghost use mathlib.Core.Path.{_≡_};
 ghost use mathlib.Core.List.{map};
 ghost use lib.Dec.{eqb};
+ghost use Rattle.record.specs.Form.{bytes};
 ghost use Rattle.record.specs.Word.{same, upper};
-ghost use Rattle.kinds.specs.Kind.{kindOf, rankOf};
+ghost use Rattle.kinds.specs.Kind.{kindOf, nameOf, rankOf};
+ghost use Rattle.kinds.specs.Name.{nameIn, nameAfter};
 
 pub enum Kind {
     GeometricRepresentationContext,
@@ -21,6 +23,12 @@ pub enum Kind {
     LengthMeasureWithUnit,
     Complex,
     Other,
+}
+
+// A kind's name at the start of lent memory, in so many bytes; or that there is no room for it.
+pub enum Name {
+    Bytes(usize),
+    Short,
 }
 
 // The kind of a keyword.
@@ -109,4 +117,45 @@ pub fn same_word(t: &[u8], w: &[u8]) -> bool
         i += 1;
     }
     true
+}
+
+// Puts a name at the start of `out`, where there is room for it.
+fn put_name(out: &mut [u8], name: &[u8]) -> Name
+    ensures { λ r. ⌜ r ≡ nameIn (now (name .entry)) (now (out .entry)) ⌝ }
+    ensures { λ _. ⌜ now (out .exit) ≡ nameAfter (now (name .entry)) (now (out .entry)) ⌝ }
+{
+    if out.len() < name.len() {
+        return Name::Short;
+    }
+    let mut i = 0;
+    while i < name.len() {
+        out[i] = name[i];
+        i += 1;
+    }
+    Name::Bytes(i)
+}
+
+// A kind's keyword in capitals; `(complex)` for a complex record, and the empty text for `Other`. As the Rust's `as_str`, into lent
+// memory.
+pub fn as_str(k: Kind, out: &mut [u8]) -> Name
+    ensures { λ r. ⌜ r ≡ nameIn (bytes (nameOf k)) (now (out .entry)) ⌝ }
+    ensures { λ _. ⌜ now (out .exit) ≡ nameAfter (bytes (nameOf k)) (now (out .entry)) ⌝ }
+{
+    match k {
+        Kind::GeometricRepresentationContext => put_name(out, b"GEOMETRIC_REPRESENTATION_CONTEXT"),
+        Kind::GlobalUnitAssignedContext => put_name(out, b"GLOBAL_UNIT_ASSIGNED_CONTEXT"),
+        Kind::GlobalUncertaintyAssignedContext => put_name(
+            out,
+            b"GLOBAL_UNCERTAINTY_ASSIGNED_CONTEXT",
+        ),
+        Kind::LengthUnit => put_name(out, b"LENGTH_UNIT"),
+        Kind::PlaneAngleUnit => put_name(out, b"PLANE_ANGLE_UNIT"),
+        Kind::SolidAngleUnit => put_name(out, b"SOLID_ANGLE_UNIT"),
+        Kind::SiUnit => put_name(out, b"SI_UNIT"),
+        Kind::ConversionBasedUnit => put_name(out, b"CONVERSION_BASED_UNIT"),
+        Kind::UncertaintyMeasureWithUnit => put_name(out, b"UNCERTAINTY_MEASURE_WITH_UNIT"),
+        Kind::LengthMeasureWithUnit => put_name(out, b"LENGTH_MEASURE_WITH_UNIT"),
+        Kind::Complex => put_name(out, b"(complex)"),
+        Kind::Other => put_name(out, b""),
+    }
 }

@@ -1,0 +1,94 @@
+-- A kind's name in lent memory, and that it is the kind's own.
+-- Assumes nothing.
+use Prim.Native.Nat.{ℕ, suc, _+_, _≤_, _<_}
+use mathlib.Core.Path.{_≡_, refl, sym, _∙_, ap, subst}
+use mathlib.Core.Bool.{true}
+use mathlib.Core.List.{List, [], _∷_, _++_, append-assoc}
+use native.Mathlib.Numerals.{add-one}
+use native.Mathlib.Omega.{arith}
+use lib.Dec.{leb}
+use lib.ListN.{length, getD, take, drop, set}
+use lib.Seq.{drop-cons, set-at, take-suc, length-take-le, take-length, take-append-seam}
+use borrow.Author.Tests.{le-leb}
+use Rattle.lex.specs.Byte.{pick}
+use Rattle.record.specs.Form.{bytes, Spelt}
+use Rattle.record.specs.Word.{same}
+use Rattle.kinds.specs.Kind.{nameOf, Named, kindOf, kind-only}
+use Rattle.kinds.specs.Kind.KindForm.{spelt}
+use Rattle.kinds.specs.declared.Kind.{Kind}
+use Rattle.kinds.specs.declared.Kind.the-variants.{
+  GeometricRepresentationContext,
+  GlobalUnitAssignedContext,
+  GlobalUncertaintyAssignedContext,
+  LengthUnit,
+  PlaneAngleUnit,
+  SolidAngleUnit,
+  SiUnit,
+  ConversionBasedUnit,
+  UncertaintyMeasureWithUnit,
+  LengthMeasureWithUnit,
+  Complex,
+  Other,
+}
+use Rattle.kinds.specs.declared.Name.{Name}
+use Rattle.kinds.specs.declared.Name.the-variants.{Bytes, Short}
+
+-- how many bytes a name takes in this room, or that there is no room for it
+abbrev pub nameIn : List ℕ → List ℕ → Name
+nameIn name out = pick (leb (length name) (length out)) (Bytes (length name)) Short
+
+-- the room with the name at its start and its other bytes as they were; all as it was where there is no room for it
+abbrev pub nameAfter : List ℕ → List ℕ → List ℕ
+nameAfter name out = pick (leb (length name) (length out)) (name ++ drop (length name) out) out
+
+-- a name is its own keyword, letters being capitals
+name-spelt : (k : Kind) → Named k → Spelt (bytes (nameOf k)) (nameOf k)
+name-spelt GeometricRepresentationContext n = refl
+name-spelt GlobalUnitAssignedContext n = refl
+name-spelt GlobalUncertaintyAssignedContext n = refl
+name-spelt LengthUnit n = refl
+name-spelt PlaneAngleUnit n = refl
+name-spelt SolidAngleUnit n = refl
+name-spelt SiUnit n = refl
+name-spelt ConversionBasedUnit n = refl
+name-spelt UncertaintyMeasureWithUnit n = refl
+name-spelt LengthMeasureWithUnit n = refl
+name-spelt Complex n = absurd n
+name-spelt Other n = absurd n
+
+-- the kind of a kind's name is that kind
+pub name-kind : (k : Kind) → Named k → kindOf (bytes (nameOf k)) ≡ k
+name-kind k n = kind-only (spelt k n (name-spelt k n))
+
+-- the bytes that are written for a kind are a keyword of that kind
+pub written-kind : (k : Kind) (out : List ℕ) → Named k → length (bytes (nameOf k)) ≤ length out → kindOf (take (length (bytes (nameOf k))) (nameAfter (bytes (nameOf k)) out)) ≡ k
+written-kind k out n h = ap kindOf (rw (le-leb (length (bytes (nameOf k))) (length out) h) (take-append-seam (bytes (nameOf k)) (drop (length (bytes (nameOf k))) out))) ∙ name-kind k n
+
+-- the names of `Complex` and of `Other` are no keywords of the ten
+pub complex-kind : kindOf (bytes (nameOf Complex)) ≡ Other
+unfolding kindOf same
+complex-kind = refl
+
+-- the same for the empty name
+pub other-kind : kindOf (bytes (nameOf Other)) ≡ Other
+unfolding kindOf same
+other-kind = refl
+
+-- one byte of a name is put behind those before it
+pub name-next : (name old : List ℕ) (i : ℕ) → i < length name → i < length old → set (take i name ++ drop i old) i (getD name i 0) ≡ take (i + 1) name ++ drop (i + 1) old
+name-next name old i h k =
+    ap (λ (z : List ℕ). set (take i name ++ z) i (getD name i 0)) (drop-cons old i 0 k)
+    ∙ set-at (take i name) (getD old i 0) (drop (suc i) old) (getD name i 0) i (length-take-le i name (omega arith))
+    ∙ sym (append-assoc (take i name) (getD name i 0 ∷ []) (drop (suc i) old))
+    ∙ ap (λ (z : List ℕ). z ++ drop (suc i) old) (sym (take-suc name i 0 h))
+    ∙ ap (λ (z : ℕ). take z name ++ drop z old) (sym (add-one i))
+
+-- all bytes of a name are put
+pub name-done : (name old out : List ℕ) (i : ℕ) → length name ≤ length old → i ≡ length name → out ≡ take i name ++ drop i old → (Bytes i ≡ nameIn name old) × (out ≡ nameAfter name old)
+name-done name old out i h e d =
+    let l : leb (length name) (length old) ≡ true = le-leb (length name) (length old) h in
+    (rw l (ap Bytes e), rw l (d ∙ ap (λ (z : ℕ). take z name ++ drop z old) e ∙ ap (λ (z : List ℕ). z ++ drop (length name) old) (take-length name)))
+
+-- what is put for a kind, once the kind is told
+pub name-told : (k j : Kind) (old out : List ℕ) (r : Name) → k ≡ j → (r ≡ nameIn (bytes (nameOf j)) old) × (out ≡ nameAfter (bytes (nameOf j)) old) → (r ≡ nameIn (bytes (nameOf k)) old) × (out ≡ nameAfter (bytes (nameOf k)) old)
+name-told k j old out r e h = subst (λ (z : Kind). (r ≡ nameIn (bytes (nameOf z)) old) × (out ≡ nameAfter (bytes (nameOf z)) old)) (sym e) h
