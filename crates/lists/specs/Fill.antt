@@ -1,17 +1,17 @@
 -- What one item does to a list that reads and is written: the laws that the writing loops go by, for every kind of item.
 -- Assumes nothing.
-use Prim.Native.Nat.{ℕ, zero, suc, _+_, _-_, _≤_, _<_}
-use mathlib.Core.Path.{_≡_, refl, sym, _∙_, ap, subst}
+use Prim.Native.Nat.{ℕ, zero, suc, _+_, _-_, _≤_, _<_, min}
+use mathlib.Core.Path.{_≡_, refl, sym, _∙_, ap}
 use mathlib.Core.List.{List, [], _∷_, _++_, map, append-assoc}
 use native.Mathlib.Omega.{arith}
 use native.Mathlib.Decide.{ℕ-discrete}
-use lib.ListN.{length, take, drop, getD, set, length-drop, length-take, length-append}
+use lib.ListN.{length, take, drop, getD, set, length-drop, length-append}
 use lib.Seq.{length-take-le, drop-drop, set-at, drop-cons, take-add, take-length}
 use native.Mathlib.Numerals.{add-one}
 use Rattle.lex.specs.Right.Steps.{clash}
 use Rattle.lists.specs.declared.Item.{Item}
-use Rattle.lists.specs.Items.{Fate, fine, faulty, shifted, fated, consed, itemsFrom, ItemAt, valuesOf, Ready, filled}
-use Rattle.lists.specs.Laws.{items-bad, items-last, items-more}
+use Rattle.lists.specs.Items.{Fate, fine, faulty, consed, itemsFrom, ItemAt, valuesOf, Ready, filled}
+use Rattle.lists.specs.Laws.{item-in, items-bad, items-last, items-more}
 
 -- what is consed is fine only where the rest is
 consed-fine : {A : Type 0} (a : A) (x : Fate (List A)) (vs : List A) → consed a x ≡ fine vs → (r : List A) × (x ≡ fine r) × (vs ≡ a ∷ r)
@@ -103,7 +103,10 @@ module _ {A : Type 0} (g : List ℕ → Fate A) (b : List ℕ) (out₀ out : Lis
       ap length (f .done) ∙ length-append (take n (valuesOf (itemsFrom (suc (length b)) g 0 b))) (drop n out₀)
       ∙ omega (arith, h, f .room, length-take-le n (valuesOf (itemsFrom (suc (length b)) g 0 b)) h, length-drop n out₀)
 
-  module _ (r : Item) (h : ItemAt b i r) where
+  module _ (r : Item) (found : ItemAt b (min i (length b)) r) where
+    h : ItemAt b i r
+    h = item-in b i r (f .within) found
+
     few-enough : n ≤ length b
     few-enough = omega (arith, f .few, f .within)
 

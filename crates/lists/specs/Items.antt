@@ -1,19 +1,19 @@
 -- Document 01, 'Parameters': lists and their items. "A list is `(`..`)`; its inside is handed on as a part and cut at depth-0 commas,
 -- items trimmed of whitespace only." One definition serves every kind of item: an item that is a list itself makes a grid.
 -- Assumes nothing.
-use Prim.Native.Nat.{ℕ, zero, suc, _+_, _-_, _≤_, _<_}
+use Prim.Native.Nat.{ℕ, zero, suc, _+_, _-_, _≤_}
 use mathlib.Core.Path.{_≡_}
 use mathlib.Core.Bool.{Bool, true, false, _&&_}
-use mathlib.Core.List.{List, [], _∷_, _++_, map}
+use mathlib.Core.List.{List, [], _∷_, _++_}
 use lib.Dec.{eqb, leb}
 use lib.ListN.{length, take, drop, getD}
-use Rattle.error.specs.Refusal.{Refusal, refusal, Told, good, bad, told}
+use Rattle.error.specs.Refusal.{refusal, Told, good, bad, told}
 use Rattle.lex.specs.Byte.{pick, white}
 use Rattle.record.specs.Text.{before, past}
 use Rattle.record.specs.Word.{trimmed}
 use Rattle.reals.specs.Scalar.{Answer, read, refused, referenceOf, wholeOf, realOf}
 use Rattle.params.specs.Cut.{Cut, cut, unclosed, cutOf}
-use Rattle.params.specs.Reader.{Read, reading, Span, mapped, paramOf}
+use Rattle.params.specs.Reader.{Read, reading, onward, mapped, paramOf}
 use Rattle.lists.specs.declared.Item.{Item}
 use Rattle.lists.specs.declared.Shape.{Shape}
 use Rattle.lists.specs.declared.Shape.the-variants.{NotList, Blank, Full}
@@ -23,7 +23,7 @@ use Rattle.lists.specs.declared.Verdict.{Verdict}
 use Rattle.lists.specs.declared.Verdict as VerdictCode
 use Rattle.lists.specs.declared.Kind.{Kind}
 use Rattle.lists.specs.declared.Kind as KindCode
-use Rattle.lists.specs.declared.Room as RoomCode
+use Rattle.lists.specs.declared.ReadList as ReadListCode
 use Rattle.lists.specs.declared.NextList as NextListCode
 
 -- what a text reads as, or a refusal's number and how far into the text its place is
@@ -125,9 +125,18 @@ roomed fits a (faulty n o) = bad (refusal n 0 (a + o))
 unfoldable pub nextBy : {A : Type 0} → (List ℕ → Fate A) → (A → Bool) → List ℕ → ℕ → ℕ → Read A
 nextBy g fits s p e = mapped (λ a. roomed fits (a .start) (g (take (a .stop - a .start) (drop (a .start) s)))) (paramOf s p e)
 
+-- the same answer seen from k bytes further back: only a refusal has a place
+abbrev pub moved : {A : Type 0} → ℕ → Told A → Told A
+moved k (good a) = good a
+moved k (bad q) = bad (refusal (q .number) (q .reason) (k + q .place))
+
 -- a list fits where there is room for its numbers
 abbrev pub fitsIn : {A : Type 0} → ℕ → List A → Bool
 fitsIn room vs = leb (length vs) room
+
+-- how many numbers a list has, or its refusal
+abbrev pub countOf : {A : Type 0} → Told (List A) → Told ℕ
+countOf a = onward (λ vs. good (length vs)) a
 
 -- the answer's count
 abbrev pub howMany : {A : Type 0} → Read (List A) → Read ℕ
@@ -176,8 +185,7 @@ toldVerdict VerdictCode.the-variants.Outside = faulty 13 0
 
 -- whether a text reads
 abbrev pub mute : {A : Type 0} → Fate A → Fate (Unit {0})
-mute (fine a) = fine tt
-mute (faulty n o) = faulty n o
+mute a = fated (λ x. tt) a
 
 -- whether an item of a kind reads
 abbrev pub kindOf : Kind → List ℕ → Fate (Unit {0})
@@ -185,10 +193,19 @@ kindOf KindCode.the-variants.References t = mute (asFate (referenceOf t))
 kindOf KindCode.the-variants.Integers t = mute (asFate (wholeOf t))
 kindOf KindCode.the-variants.Floats t = mute (asFate (realOf t))
 
--- that there is room, or a refusal
-abbrev pub toldRoom : RoomCode.Room → Told ℕ
-toldRoom (RoomCode.the-variants.Fits n) = good n
-toldRoom (RoomCode.the-variants.Refused f) = bad (told f)
+-- what the readers of a list's text answer: places are told from the text's start, and so 16 is at 0
+abbrev pub toldReadList : ReadListCode.ReadList → Told ℕ
+toldReadList (ReadListCode.the-variants.Count n) = good n
+toldReadList (ReadListCode.the-variants.Wrong o) = bad (refusal 12 0 o)
+toldReadList (ReadListCode.the-variants.Outside o) = bad (refusal 13 0 o)
+toldReadList ReadListCode.the-variants.Short = bad (refusal 16 0 0)
+
+-- how far into the text its place is
+abbrev pub reached : ReadListCode.ReadList → ℕ
+reached (ReadListCode.the-variants.Count n) = 0
+reached (ReadListCode.the-variants.Wrong o) = o
+reached (ReadListCode.the-variants.Outside o) = o
+reached ReadListCode.the-variants.Short = 0
 
 -- what the readers of lists answer
 abbrev pub toldNextList : NextListCode.NextList → Read ℕ

@@ -1,28 +1,27 @@
 -- What one item does to a list that is read, and what a text that is a list reads as: the laws that the code goes by.
 -- Assumes nothing.
-use Prim.Native.Nat.{ℕ, zero, suc, _+_, _-_, _≤_, _<_, min}
+use Prim.Native.Nat.{ℕ, suc, _+_, _-_, _≤_, _<_, min}
 use mathlib.Core.Path.{_≡_, refl, sym, _∙_, ap, subst}
 use mathlib.Core.Bool.{Bool, true, false, _&&_}
-use mathlib.Core.List.{List, [], _∷_, _++_, map}
+use mathlib.Core.List.{List, [], _∷_}
 use native.Mathlib.Omega.{arith}
-use native.Mathlib.Decide.{decLe}
-use lib.Dec.{eqb, leb}
-use lib.ListN.{length, take, drop, getD, length-drop, length-take, length-map}
-use lib.Seq.{length-take-le, drop-drop}
-use borrow.Author.Tests.{eq-eqb, ne-eqb}
-use Rattle.error.specs.Refusal.{Refusal, refusal, Told, good, bad}
+use lib.Dec.{eqb}
+use lib.ListN.{length, take, drop, getD, length-drop, length-take}
+use lib.Seq.{length-take-le}
+use borrow.Author.Tests.{ne-eqb}
+use Rattle.error.specs.Refusal.{good, bad}
 use Rattle.lex.specs.Byte.{pick, white, place}
 use Rattle.lex.specs.Walk.{split, drop-end}
 use Rattle.record.specs.Text.{before, past}
 use Rattle.record.specs.Word.{trimmed}
 use Rattle.scalars.specs.Laws.{part-part}
-use Rattle.reals.specs.Scalar.{Answer, read, refused}
-use Rattle.params.specs.Cut.{Cut, cut, unclosed, cutOf}
+use Rattle.reals.specs.Scalar.{read}
+use Rattle.params.specs.Cut.{cut, cutOf}
 use Rattle.params.specs.Seek.{endedAt, EndedIn}
 use Rattle.params.specs.declared.Ended.{Ended}
 use Rattle.params.specs.declared.Ended.the-variants.{At, Open}
 use Rattle.lists.specs.declared.Item.{Item}
-use Rattle.lists.specs.Items.{Fate, fine, faulty, shifted, fated, asFate, boundOf, itemEnd, indent, itemBy, consed, headed, past-comma, itemsFrom, isNone, itemsBy, Body, inside, bare, bodyOf, listed, listBy, ItemAt, ShapeAt, CountedIn}
+use Rattle.lists.specs.Items.{Fate, fine, faulty, shifted, fated, boundOf, itemEnd, indent, itemBy, consed, headed, past-comma, itemsFrom, isNone, itemsBy, inside, bare, bodyOf, listed, listBy, ItemAt, ShapeAt, CountedIn}
 use Rattle.lists.specs.declared.Shape.{Shape}
 use Rattle.lists.specs.declared.Shape.the-variants.{NotList, Blank, Full}
 use Rattle.lists.specs.declared.Counted.{Counted}
@@ -63,6 +62,10 @@ item-is b i j s z h k e f g o l =
       above = h;
       within = k;
     }
+
+-- an item that the code gives for a place in the list
+pub item-in : (b : List ℕ) (i : ℕ) (r : Item) → i ≤ length b → ItemAt b (min i (length b)) r → ItemAt b i r
+item-in b i r h k = let e : min i (length b) ≡ i = omega arith in subst (λ (j : ℕ). ItemAt b j r) e k
 
 -- seen from further back twice
 shift-twice : {A : Type 0} (i k : ℕ) (a : Fate A) → shifted i (shifted k a) ≡ shifted (i + k) a
@@ -109,49 +112,68 @@ module _ {A : Type 0} (g : List ℕ → Fate A) (b : List ℕ) (i : ℕ) (r : It
       ∙ ap (λ (x : List ℕ). consed a (past-comma x (λ r. itemsFrom m g (i + (length (drop i b) - length r)) r))) (sym (split b (r .bound) k))
       ∙ good-item m a e
 
--- n more
-abbrev pub plus : ℕ → Fate ℕ → Fate ℕ
-plus n a = fated (λ k. n + k) a
+-- values taken in one after another, from the first on
+abbrev pub tally : {A S : Type 0} → (S → A → S) → S → List A → S
+tally f s [] = s
+tally f s (a ∷ vs) = tally f (f s a) vs
+
+-- counted: one more for each
+abbrev pub oneMore : {A : Type 0} → ℕ → A → ℕ
+oneMore n a = n + 1
+
+-- so many
+tally-counts : {A : Type 0} (n : ℕ) (vs : List A) → tally oneMore n vs ≡ n + length vs
+tally-counts n [] = omega arith
+tally-counts n (a ∷ vs) = tally-counts (n + 1) vs ∙ omega arith
 
 -- a value more
-count-consed : {A : Type 0} (n : ℕ) (a : A) (x : Fate (List A)) → plus n (fated length (consed a x)) ≡ plus (n + 1) (fated length x)
-count-consed n a (fine vs) = let e : n + suc (length vs) ≡ n + 1 + length vs = omega arith in ap fine e
-count-consed n a (faulty k o) = refl
+tally-consed : {A S : Type 0} (f : S → A → S) (s : S) (a : A) (x : Fate (List A)) → fated (tally f s) (consed a x) ≡ fated (tally f (f s a)) x
+tally-consed f s a (fine vs) = refl
+tally-consed f s a (faulty k o) = refl
 
-module _ {A : Type 0} (g : List ℕ → Fate A) (b : List ℕ) (i n : ℕ) (r : Item) (h : ItemAt b i r) (few : n ≤ length b) (a : Fate ℕ)
-    (inv : plus n (fated length (itemsFrom (suc (length b) - n) g i (drop i b))) ≡ a) where
+-- What the loop that takes the items of a list in has found: s, and a is the answer.
+module _ {A S : Type 0} (g : List ℕ → Fate A) (f : S → A → S) (b : List ℕ) (i n : ℕ) (r : Item) (found : ItemAt b (min i (length b)) r) (inside : i ≤ length b) (few : n ≤ length b) (s : S) (a : Fate S)
+    (inv : fated (tally f s) (itemsFrom (suc (length b) - n) g i (drop i b)) ≡ a) where
   -- one item of those that may be left
   left : suc (length b) - n ≡ suc (length b - n)
   left = omega arith
 
+  h : ItemAt b i r
+  h = item-in b i r inside found
+
   -- a bad item is the answer
-  pub count-bad : (k o : ℕ) → faulty k o ≡ g (take (r .stop - r .start) (drop (r .start) b)) → faulty k (r .start + o) ≡ a
-  count-bad k o e =
-      ap (λ (x : Fate (List A)). plus n (fated length x)) (items-bad g b i r h (length b - n) k o e)
-      ∙ ap (λ (m : ℕ). plus n (fated length (itemsFrom m g i (drop i b)))) (sym left) ∙ inv
+  pub tally-bad : (k o : ℕ) → faulty k o ≡ g (take (r .stop - r .start) (drop (r .start) b)) → faulty k (r .start + o) ≡ a
+  tally-bad k o e =
+      ap (fated (tally f s)) (items-bad g b i r h (length b - n) k o e)
+      ∙ ap (λ (m : ℕ). fated (tally f s) (itemsFrom m g i (drop i b))) (sym left) ∙ inv
 
   -- the last item
-  pub count-last : (v : A) → fine v ≡ g (take (r .stop - r .start) (drop (r .start) b)) → r .bound ≡ length b → fine (n + 1) ≡ a
-  count-last v e k =
-      ap (λ (x : Fate (List A)). plus n (fated length x)) (items-last g b i r h (length b - n) v e k)
-      ∙ ap (λ (m : ℕ). plus n (fated length (itemsFrom m g i (drop i b)))) (sym left) ∙ inv
+  pub tally-last : (v : A) → fine v ≡ g (take (r .stop - r .start) (drop (r .start) b)) → r .bound ≡ length b → fine (f s v) ≡ a
+  tally-last v e k =
+      ap (fated (tally f s)) (items-last g b i r h (length b - n) v e k)
+      ∙ ap (λ (m : ℕ). fated (tally f s) (itemsFrom m g i (drop i b))) (sym left) ∙ inv
 
   -- another item
-  pub count-more : (v : A) → fine v ≡ g (take (r .stop - r .start) (drop (r .start) b)) → r .bound < length b
-      → plus (n + 1) (fated length (itemsFrom (suc (length b) - (n + 1)) g (r .bound + 1) (drop (r .bound + 1) b))) ≡ a
-  count-more v e k =
+  pub tally-more : (v : A) → fine v ≡ g (take (r .stop - r .start) (drop (r .start) b)) → r .bound < length b
+      → fated (tally f (f s v)) (itemsFrom (suc (length b) - (n + 1)) g (r .bound + 1) (drop (r .bound + 1) b)) ≡ a
+  tally-more v e k =
       let m : suc (length b) - (n + 1) ≡ length b - n = omega arith in
-      ap (λ (j : ℕ). plus (n + 1) (fated length (itemsFrom j g (r .bound + 1) (drop (r .bound + 1) b)))) m
-      ∙ sym (count-consed n v (itemsFrom (length b - n) g (r .bound + 1) (drop (r .bound + 1) b)))
-      ∙ ap (λ (x : Fate (List A)). plus n (fated length x)) (items-more g b i r h (length b - n) v e k)
-      ∙ ap (λ (j : ℕ). plus n (fated length (itemsFrom j g i (drop i b)))) (sym left) ∙ inv
+      ap (λ (j : ℕ). fated (tally f (f s v)) (itemsFrom j g (r .bound + 1) (drop (r .bound + 1) b))) m
+      ∙ sym (tally-consed f s v (itemsFrom (length b - n) g (r .bound + 1) (drop (r .bound + 1) b)))
+      ∙ ap (fated (tally f s)) (items-more g b i r h (length b - n) v e k)
+      ∙ ap (λ (j : ℕ). fated (tally f s) (itemsFrom j g i (drop i b))) (sym left) ∙ inv
+
+-- none taken in yet
+pub tally-starts : {A S : Type 0} (g : List ℕ → Fate A) (f : S → A → S) (s : S) (b : List ℕ)
+    → fated (tally f s) (itemsFrom (suc (length b) - 0) g 0 b) ≡ fated (tally f s) (itemsFrom (suc (length b)) g 0 b)
+tally-starts g f s b = let m : suc (length b) - 0 ≡ suc (length b) = omega arith in ap (λ (n : ℕ). fated (tally f s) (itemsFrom n g 0 b)) m
 
 -- none counted yet
-pub count-starts : {A : Type 0} (g : List ℕ → Fate A) (b : List ℕ) → plus 0 (fated length (itemsFrom (suc (length b) - 0) g 0 b)) ≡ fated length (itemsFrom (suc (length b)) g 0 b)
-count-starts {A} g b = let m : suc (length b) - 0 ≡ suc (length b) = omega arith in ap (λ (n : ℕ). plus 0 (fated length (itemsFrom n g 0 b))) m ∙ go (itemsFrom (suc (length b)) g 0 b)
+pub count-starts : {A : Type 0} (g : List ℕ → Fate A) (b : List ℕ) → fated (tally oneMore 0) (itemsFrom (suc (length b) - 0) g 0 b) ≡ fated length (itemsFrom (suc (length b)) g 0 b)
+count-starts {A} g b = tally-starts g oneMore 0 b ∙ go (itemsFrom (suc (length b)) g 0 b)
   where
-    go : (a : Fate (List A)) → plus 0 (fated length a) ≡ fated length a
-    go (fine vs) = let e : 0 + length vs ≡ length vs = omega arith in ap fine e
+    go : (a : Fate (List A)) → fated (tally oneMore 0) a ≡ fated length a
+    go (fine vs) = let e : tally oneMore 0 vs ≡ length vs = tally-counts 0 vs ∙ omega arith in ap fine e
     go (faulty n o) = refl
 
 -- two tests, the second of which fails

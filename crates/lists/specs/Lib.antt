@@ -4,3 +4,4 @@ pub mod RulesRight
 pub mod Laws
 pub mod Fill
 pub mod ReadLaws
+pub mod Places

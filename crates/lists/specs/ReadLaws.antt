@@ -1,89 +1,142 @@
 -- The answers of the readers of lists, put together from what the code's parts promise. Assumes nothing.
-use Prim.Native.Nat.{ℕ, zero, suc, _+_, _-_, _≤_, _<_}
-use mathlib.Core.Path.{_≡_, refl, sym, _∙_, ap, subst}
+use Prim.Native.Nat.{ℕ, zero, suc, _+_, _-_}
+use mathlib.Core.Path.{_≡_, refl, sym, _∙_, ap}
 use mathlib.Core.Bool.{Bool, true, false}
-use mathlib.Core.List.{List, [], _∷_, _++_}
+use mathlib.Core.List.{List, [], _∷_, map}
 use native.Mathlib.Omega.{arith}
 use lib.Dec.{leb}
-use lib.ListN.{length, take, drop}
-use borrow.Author.Tests.{leb-true, le-leb}
+use lib.ListN.{length, take, drop, length-map}
+use borrow.Author.Tests.{leb-true}
 use Rattle.error.specs.Refusal.{Refusal, refusal, Told, good, bad}
 use Rattle.lex.specs.Byte.{pick}
 use Rattle.lex.specs.Right.Steps.{clash}
 use Rattle.record.specs.Text.{before}
 use Rattle.record.specs.Word.{trimmed}
-use Rattle.params.specs.Reader.{Read, reading, Span, span, mapped, paramOf}
+use Rattle.params.specs.Reader.{reading, span, paramOf}
 use Rattle.lists.specs.declared.Shape.{Shape}
 use Rattle.lists.specs.declared.Shape.the-variants.{NotList, Blank, Full}
-use Rattle.lists.specs.Items.{Fate, fine, faulty, shifted, fated, mute, itemEnd, indent, itemBy, consed, headed, past-comma, itemsFrom, isNone, itemsBy, Body, inside, bare, bodyOf, listed, listBy, roomed, nextBy, fitsIn, howMany, written, valuesOf, Ready, filled, ShapeAt}
+use Rattle.lists.specs.Items.{Fate, fine, faulty, shifted, fated, mute, itemEnd, indent, itemBy, consed, headed, past-comma, itemsFrom, isNone, itemsBy, Body, inside, bare, bodyOf, listed, listBy, roomed, moved, nextBy, fitsIn, countOf, howMany, written, valuesOf, Ready, filled, ShapeAt}
 use Rattle.lists.specs.Laws.{list-none, list-blank, list-full, shape-none, shape-blank, shape-full}
 
--- items are counted whatever they read as
-count-headed : {A : Type 0} (x : Fate A) (k l : ℕ) (m : Unit {0} → Fate (List (Unit {0}))) (n : Unit {0} → Fate (List A)) → fated length (m tt) ≡ fated length (n tt)
-    → fated length (headed (shifted k (shifted l (mute x))) m) ≡ fated length (headed (shifted k (shifted l x)) n)
-count-headed {A} (fine a) k l m n e = go (m tt) (n tt) e
-  where
-    go : (y : Fate (List (Unit {0}))) (z : Fate (List A)) → fated length y ≡ fated length z → fated length (consed tt y) ≡ fated length (consed a z)
-    go (fine u) (fine v) e = let q : length u ≡ length v = cc in ap (λ (i : ℕ). fine (suc i)) q
-    go (fine u) (faulty n o) e = clash (cc)
-    go (faulty n o) (fine v) e = clash (cc)
-    go (faulty n o) (faulty n′ o′) e = e
-count-headed (faulty n o) k l m n′ e = refl
+-- Items told by h: the list is the one of those whose items are told by h.
+module _ {A B : Type 0} (h : A → B) where
+  -- from further back
+  map-shifted : (k : ℕ) (x : Fate A) → fated h (shifted k x) ≡ shifted k (fated h x)
+  map-shifted k (fine a) = refl
+  map-shifted k (faulty n o) = refl
 
-module _ {A : Type 0} (g : List ℕ → Fate A) where
+  -- the same for a list
+  map-shifts : (k : ℕ) (x : Fate (List A)) → fated (map h) (shifted k x) ≡ shifted k (fated (map h) x)
+  map-shifts k (fine a) = refl
+  map-shifts k (faulty n o) = refl
+
+  -- a value in front
+  map-consed : (a : A) (x : Fate (List A)) → fated (map h) (consed a x) ≡ consed (h a) (fated (map h) x)
+  map-consed a (fine vs) = refl
+  map-consed a (faulty n o) = refl
+
+  -- an item, and what follows it
+  map-headed : (x : Fate A) (k : Unit {0} → Fate (List A)) (l : Unit {0} → Fate (List B)) → fated (map h) (k tt) ≡ l tt → fated (map h) (headed x k) ≡ headed (fated h x) l
+  map-headed (fine a) k l e = map-consed a (k tt) ∙ ap (consed (h a)) e
+  map-headed (faulty n o) k l e = refl
+
   -- what follows a comma
-  count-past : (xs : List ℕ) (m : List ℕ → Fate (List (Unit {0}))) (n : List ℕ → Fate (List A)) → ((r : List ℕ) → fated length (m r) ≡ fated length (n r))
-      → fated length (past-comma xs m) ≡ fated length (past-comma xs n)
-  count-past [] m n e = refl
-  count-past (c ∷ r) m n e = e r
+  map-past : (xs : List ℕ) (k : List ℕ → Fate (List A)) (l : List ℕ → Fate (List B)) → ((r : List ℕ) → fated (map h) (k r) ≡ l r) → fated (map h) (past-comma xs k) ≡ past-comma xs l
+  map-past [] k l e = refl
+  map-past (c ∷ r) k l e = e r
 
-  -- from a rest on
-  count-from : (n o : ℕ) (xs : List ℕ) → fated length (itemsFrom n (λ u. mute (g u)) o xs) ≡ fated length (itemsFrom n g o xs)
-  unfolding itemsFrom itemBy
-  count-from zero o xs = refl
-  count-from (suc n) o xs =
-      count-headed (g (trimmed (before xs (itemEnd xs)))) o (indent (before xs (itemEnd xs))) _ _
-      (count-past (itemEnd xs) _ _ (λ r. count-from n (o + (length xs - length r)) r))
+  module _ (g : List ℕ → Fate A) where
+    -- an item
+    map-item : (o : ℕ) (t : List ℕ) → fated h (shifted o (itemBy g t)) ≡ shifted o (itemBy (λ u. fated h (g u)) t)
+    unfolding itemBy
+    map-item o t = map-shifted o (shifted (indent t) (g (trimmed t))) ∙ ap (shifted o) (map-shifted (indent t) (g (trimmed t)))
 
-  -- of a list
-  pub count-mute : (t : List ℕ) → fated length (listBy (λ u. mute (g u)) t) ≡ fated length (listBy g t)
-  unfolding listBy itemsBy
-  count-mute t = go (bodyOf t)
-    where
-      shift-same : (x : Fate (List (Unit {0}))) (y : Fate (List A)) → fated length x ≡ fated length y → fated length (shifted 1 x) ≡ fated length (shifted 1 y)
-      shift-same (fine u) (fine v) e = e
-      shift-same (fine u) (faulty n o) e = clash (cc)
-      shift-same (faulty n o) (fine v) e = clash (cc)
-      shift-same (faulty n o) (faulty k p) e = let a : n ≡ k = cc in let b : o ≡ p = cc in rw (a, b) refl
+    -- from a rest on
+    map-from : (n o : ℕ) (xs : List ℕ) → fated (map h) (itemsFrom n g o xs) ≡ itemsFrom n (λ u. fated h (g u)) o xs
+    unfolding itemsFrom
+    map-from zero o xs = refl
+    map-from (suc n) o xs =
+        map-headed (shifted o (itemBy g (before xs (itemEnd xs)))) _ _ (map-past (itemEnd xs) _ _ (λ r. map-from n (o + (length xs - length r)) r))
+        ∙ ap (λ (x : Fate B). headed x (λ u. past-comma (itemEnd xs) (λ r. itemsFrom n (λ v. fated h (g v)) (o + (length xs - length r)) r))) (map-item o (before xs (itemEnd xs)))
 
-      none-same : (k : Bool) (b : List ℕ) → fated length (pick k (fine []) (itemsFrom (suc (length b)) (λ u. mute (g u)) 0 b)) ≡ fated length (pick k (fine []) (itemsFrom (suc (length b)) g 0 b))
-      none-same true b = refl
-      none-same false b = count-from (suc (length b)) 0 b
+    -- of a list
+    pub list-map : (t : List ℕ) → fated (map h) (listBy g t) ≡ listBy (λ u. fated h (g u)) t
+    unfolding listBy itemsBy
+    list-map t = go (bodyOf t)
+      where
+        none-same : (k : Bool) (b : List ℕ) → fated (map h) (pick k (fine []) (itemsFrom (suc (length b)) g 0 b)) ≡ pick k (fine []) (itemsFrom (suc (length b)) (λ u. fated h (g u)) 0 b)
+        none-same true b = refl
+        none-same false b = map-from (suc (length b)) 0 b
 
-      go : (b : Body) → fated length (listed (λ u. mute (g u)) b) ≡ fated length (listed g b)
-      go (inside b) =
-          shift-same (pick (isNone (trimmed b)) (fine []) (itemsFrom (suc (length b)) (λ u. mute (g u)) 0 b)) (pick (isNone (trimmed b)) (fine []) (itemsFrom (suc (length b)) g 0 b))
-          (none-same (isNone (trimmed b)) b)
-      go bare = refl
+        go : (b : Body) → fated (map h) (listed g b) ≡ listed (λ u. fated h (g u)) b
+        go (inside b) = map-shifts 1 (pick (isNone (trimmed b)) (fine []) (itemsFrom (suc (length b)) g 0 b)) ∙ ap (shifted 1) (none-same (isNone (trimmed b)) b)
+        go bare = refl
+
+-- items are counted whatever they read as
+pub count-mute : {A : Type 0} (g : List ℕ → Fate A) (t : List ℕ) → fated length (listBy (λ u. mute (g u)) t) ≡ fated length (listBy g t)
+count-mute {A} g t = ap (fated length) (sym (list-map (λ (a : A). tt {0}) g t)) ∙ go (listBy g t)
+  where
+    go : (x : Fate (List A)) → fated length (fated (map (λ (a : A). tt {0})) x) ≡ fated length x
+    go (fine vs) = ap fine (length-map vs (λ (a : A). tt {0}))
+    go (faulty n o) = refl
+
+-- a list that fits is counted, or its count is tested
+pub count-roomed : {A : Type 0} (room a : ℕ) (x : Fate (List A)) → roomed (λ n. leb n room) a (fated length x) ≡ countOf (roomed (fitsIn room) a x)
+count-roomed room a (fine vs) = go (leb (length vs) room)
+  where
+    go : (k : Bool) → pick k (good (length vs)) (bad (refusal 16 0 a)) ≡ countOf (pick k (good vs) (bad (refusal 16 0 a)))
+    go true = refl
+    go false = refl
+count-roomed room a (faulty n o) = refl
+
+-- what is told of a list whose items are told by kind
+pub read-told : {A : Type 0} (g : List ℕ → Fate A) (t : List ℕ) (room : ℕ) (a : Told ℕ) → a ≡ roomed (λ n. leb n room) 0 (fated length (listBy (λ u. mute (g u)) t))
+    → a ≡ countOf (roomed (fitsIn room) 0 (listBy g t))
+read-told g t room a e = e ∙ ap (roomed (λ (n : ℕ). leb n room) 0) (count-mute g t) ∙ count-roomed room 0 (listBy g t)
+
+-- a text that does not read is refused
+pub roomed-bad : {A : Type 0} (fits : A → Bool) (n o : ℕ) (x : Fate A) → faulty n o ≡ x → bad (refusal n 0 o) ≡ roomed fits 0 x
+roomed-bad fits n o x h = let e : o ≡ 0 + o = omega arith in ap (λ (p : ℕ). bad (refusal n 0 p)) e ∙ ap (roomed fits 0) h
 
 -- there is room
-pub room-fits : {A : Type 0} (x : Fate (List A)) (a room n : ℕ) → good n ≡ roomed (λ k. leb k room) a (fated length x) → (x ≡ fine (valuesOf x)) × (length (valuesOf x) ≡ n) × (n ≤ room) × (roomed (fitsIn room) a x ≡ good (valuesOf x))
-room-fits (fine vs) a room n e = go (leb (length vs) room) refl e
+pub room-fits : {A : Type 0} (x : Fate (List A)) (room n : ℕ) → good n ≡ countOf (roomed (fitsIn room) 0 x) → Ready x room × (roomed (fitsIn room) 0 x ≡ good (valuesOf x))
+room-fits (fine vs) room n e = go (leb (length vs) room) refl e
   where
-    go : (k : Bool) → leb (length vs) room ≡ k → good n ≡ pick k (good (length vs)) (bad (refusal 16 0 a))
-        → (fine vs ≡ fine vs) × (length vs ≡ n) × (n ≤ room) × (pick (leb (length vs) room) (good vs) (bad (refusal 16 0 a)) ≡ good vs)
-    go true h e = let q : length vs ≡ n = cc in let p = leb-true (length vs) room h in (refl, q, omega arith, rw h refl)
+    go : (k : Bool) → leb (length vs) room ≡ k → good n ≡ countOf (pick k (good vs) (bad (refusal 16 0 0))) → Ready (fine vs) room × (pick (leb (length vs) room) (good vs) (bad (refusal 16 0 0)) ≡ good vs)
+    go true h e = ((refl, leb-true (length vs) room h), rw h refl)
     go false h e = clash (cc)
-room-fits (faulty k o) a room n e = clash (cc)
+room-fits (faulty k o) room n e = clash (cc)
 
--- or not
-pub room-refused : {A : Type 0} (x : Fate (List A)) (a room : ℕ) (q : Refusal) → bad q ≡ roomed (λ k. leb k room) a (fated length x) → roomed (fitsIn room) a x ≡ bad q
-room-refused (fine vs) a room q e = go (leb (length vs) room) refl e
+-- a list that reads and fits is written
+pub room-written : {A : Type 0} (x : Fate (List A)) (room n : ℕ) (out w : List A) → good n ≡ countOf (roomed (fitsIn room) 0 x) → w ≡ filled (valuesOf x) out → w ≡ written (roomed (fitsIn room) 0 x) out
+room-written x room n out w e k = let (r, q) = room-fits x room n e in rw q k
+
+-- nothing is written of another
+pub room-refused : {A : Type 0} (x : Fate (List A)) (room : ℕ) (q : Refusal) (out : List A) → bad q ≡ countOf (roomed (fitsIn room) 0 x) → out ≡ written (roomed (fitsIn room) 0 x) out
+room-refused {A} x room q out e = go (roomed (fitsIn room) 0 x) e
   where
-    go : (k : Bool) → leb (length vs) room ≡ k → bad q ≡ pick k (good (length vs)) (bad (refusal 16 0 a)) → pick (leb (length vs) room) (good vs) (bad (refusal 16 0 a)) ≡ bad q
-    go true h e = clash (cc)
-    go false h e = rw h (let p : refusal 16 0 a ≡ q = cc in ap bad p)
-room-refused (faulty k o) a room q e = let p : refusal k 0 (a + o) ≡ q = cc in ap bad p
+    go : (a : Told (List A)) → bad q ≡ countOf a → out ≡ written a out
+    go (good vs) e = clash (cc)
+    go (bad p) e = refl
+
+-- what is told from further back
+roomed-moved : {A : Type 0} (fits : A → Bool) (a : ℕ) (x : Fate A) → roomed fits a x ≡ moved a (roomed fits 0 x)
+roomed-moved fits a (fine v) = go (fits v)
+  where
+    go : (k : Bool) → pick k (good v) (bad (refusal 16 0 a)) ≡ moved a (pick k (good v) (bad (refusal 16 0 0)))
+    go true = refl
+    go false = let e : a ≡ a + 0 = omega arith in ap (λ (p : ℕ). bad (refusal 16 0 p)) e
+roomed-moved fits a (faulty n o) = let e : a + o ≡ a + (0 + o) = omega arith in ap (λ (p : ℕ). bad (refusal n 0 p)) e
+
+-- its count
+moved-count : {A : Type 0} (a : ℕ) (x : Told (List A)) → moved a (countOf x) ≡ countOf (moved a x)
+moved-count a (good vs) = refl
+moved-count a (bad q) = refl
+
+-- what it writes
+moved-written : {A : Type 0} (a : ℕ) (x : Told (List A)) (out : List A) → written x out ≡ written (moved a x) out
+moved-written a (good vs) out = refl
+moved-written a (bad q) out = refl
 
 module _ {A : Type 0} (g : List ℕ → Fate (List A)) (out : List A) (room : ℕ) (s : List ℕ) (p e : ℕ) where
   -- no parameter is cut
@@ -92,18 +145,16 @@ module _ {A : Type 0} (g : List ℕ → Fate (List A)) (out : List A) (room : �
   unfolding nextBy
   lists-uncut q p′ e′ h = (rw (← h) refl, rw (← h) refl)
 
-  module _ (a z p′ e′ : ℕ) (h : reading (good (span a z)) p′ e′ ≡ paramOf s p e) where
-    -- a list that is refused
-    pub lists-refused : (q : Refusal) → roomed (fitsIn room) a (g (take (z - a) (drop a s))) ≡ bad q
-        → (reading (bad q) p′ e′ ≡ howMany (nextBy g (fitsIn room) s p e)) × (out ≡ written (nextBy g (fitsIn room) s p e .answer) out)
-    unfolding nextBy
-    lists-refused q k = (rw (← h, k) refl, rw (← h, k) refl)
-
-    -- a list that is read
-    pub lists-read : (vs w : List A) → roomed (fitsIn room) a (g (take (z - a) (drop a s))) ≡ good vs → w ≡ filled vs out
-        → (reading (good (length vs)) p′ e′ ≡ howMany (nextBy g (fitsIn room) s p e)) × (w ≡ written (nextBy g (fitsIn room) s p e .answer) out)
-    unfolding nextBy
-    lists-read vs w k l = (rw (← h, k) refl, rw (← h, k) l)
+  -- the text of a parameter is read
+  pub lists-cut : (a z p′ e′ : ℕ) → reading (good (span a z)) p′ e′ ≡ paramOf s p e → (r : Told ℕ) (w : List A) → r ≡ countOf (roomed (fitsIn room) 0 (g (take (z - a) (drop a s))))
+      → w ≡ written (roomed (fitsIn room) 0 (g (take (z - a) (drop a s)))) out
+      → (reading (moved a r) p′ e′ ≡ howMany (nextBy g (fitsIn room) s p e)) × (w ≡ written (nextBy g (fitsIn room) s p e .answer) out)
+  unfolding nextBy
+  lists-cut a z p′ e′ h r w k l =
+      let x = g (take (z - a) (drop a s)) in (
+        rw (← h) (ap (λ (y : Told ℕ). reading (moved a y) p′ e′) k ∙ ap (λ (y : Told ℕ). reading y p′ e′) (moved-count a (roomed (fitsIn room) 0 x) ∙ ap countOf (sym (roomed-moved (fitsIn room) a x)))),
+        rw (← h) (l ∙ moved-written a (roomed (fitsIn room) 0 x) out ∙ ap (λ (y : Told (List A)). written y out) (sym (roomed-moved (fitsIn room) a x))),
+      )
 
 -- what a list that reads writes, by what it is
 module _ {A : Type 0} (g : List ℕ → Fate A) (t : List ℕ) (r : Shape) (h : ShapeAt t r) (room : ℕ) (fit : Ready (listBy g t) room) where

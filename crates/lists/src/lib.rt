@@ -1,16 +1,18 @@
 // The argument reader's lists: references, integers and reals into lent numbers.
 //
 // As the Rust's next_ref_list, next_i64_list and next_f64_list, with split_top_level and trim_span. A list is gone through twice: the
-// first time it is only counted, so that a refusal leaves the lent numbers alone, and the second time it is written.
+// first time it is only counted, so that a refusal leaves the lent numbers alone, and the second time it is written. What a text says as
+// a list, and its items one after another, are there for the crates above, which read lists of lists and lists of any length.
 ghost use mathlib.Core.Path.{_≡_};
-ghost use Prim.Native.Nat.{_+_, _-_, _≤_, _<_, _^_, suc};
+ghost use Prim.Native.Nat.{_+_, _-_, _≤_, _<_, _^_, suc, min};
 ghost use lib.Dec.{leb};
 ghost use mathlib.Core.Bool.{true, false};
 ghost use mathlib.Core.List.{map};
 ghost use lib.ListN.{length, take, drop};
 ghost use lib.Ieee.{binary64, toBits};
+ghost use Rattle.params.specs.Reader.{reading};
 ghost use Rattle.reals.specs.Scalar.{referenceOf, wholeOf, realOf};
-ghost use Rattle.lists.specs.Items.{toldRoom, roomed, itemEnd, ItemAt, toldVerdict, CountedIn, ShapeAt, toldCounted, fated, kindOf, asFate, itemsFrom, listBy, listOf, Ready, valuesOf, filled, nextBy, fitsIn, howMany, written, toldNextList};
+ghost use Rattle.lists.specs.Items.{roomed, moved, countOf, reached, toldReadList, itemEnd, ItemAt, toldVerdict, CountedIn, ShapeAt, toldCounted, fated, kindOf, asFate, itemsFrom, listBy, listOf, Ready, valuesOf, filled, nextBy, fitsIn, howMany, written, toldNextList};
 use error::Fault;
 use params::Cut;
 use params::Ended;
@@ -20,21 +22,21 @@ use reals::Reference;
 use reals::Whole;
 
 // An item without the whitespace at its ends, and its comma or the end of the list.
-struct Item {
+pub struct Item {
     pub start: usize,
     pub stop: usize,
     pub bound: usize,
 }
 
 // What a text is: no list, a list without items, or one with them.
-enum Shape {
+pub enum Shape {
     NotList,
     Blank,
     Full,
 }
 
 // What the items of a list are to be.
-enum Kind {
+pub enum Kind {
     References,
     Integers,
     Floats,
@@ -48,16 +50,18 @@ enum Verdict {
 }
 
 // How many items there are, or the place of the first bad one: 12, or 13.
-enum Counted {
+pub enum Counted {
     All(usize),
     Wrong(usize),
     Outside(usize),
 }
 
-// That there is room for so many, or a refusal.
-enum Room {
-    Fits(usize),
-    Refused(Fault),
+// How many numbers of a text were written; or how far into it the first bad item is: 12, or 13; or that they do not fit: 16.
+pub enum ReadList {
+    Count(usize),
+    Wrong(usize),
+    Outside(usize),
+    Short,
 }
 
 // How many numbers were written, or a refusal.
@@ -78,21 +82,21 @@ fn item_end(b: &[u8], i: usize) -> usize
     }
 }
 
-// The item from i on.
-fn item_at(b: &[u8], i: usize) -> Item
-    requires { ⌜ i ≤ length (now b) ⌝ }
-    ensures { λ r. ⌜ ItemAt (now (b .entry)) i r ⌝ }
+// The item of a list's inside from i on, or from its end where i is past that.
+pub fn item_at(b: &[u8], i: usize) -> Item
+    ensures { λ r. ⌜ ItemAt (now (b .entry)) (min i (length (now (b .entry)))) r ⌝ }
 {
-    let bound = item_end(b, i);
-    let w = scalars::trim(&b[i..bound]);
+    let from = lex::within(i, b.len());
+    let bound = item_end(b, from);
+    let w = scalars::trim(&b[from..bound]);
     Item {
-        start: i + w.start,
-        stop: i + w.stop,
+        start: from + w.start,
+        stop: from + w.stop,
         bound,
     }
 }
 
-fn shape_of(t: &[u8]) -> Shape
+pub fn shape_of(t: &[u8]) -> Shape
     ensures { λ r. ⌜ ShapeAt (now (t .entry)) r ⌝ }
 {
     let n = t.len();
@@ -158,7 +162,7 @@ fn count_items(b: &[u8], kind: Kind) -> Counted
 }
 
 // Counts the items of a list, or finds what is wrong with it.
-fn count_list(t: &[u8], kind: Kind) -> Counted
+pub fn count_list(t: &[u8], kind: Kind) -> Counted
     ensures { λ r. ⌜ toldCounted r ≡ fated length (listBy (kindOf kind) (now (t .entry))) ⌝ }
     ensures { λ r. ⌜ CountedIn (length (now (t .entry))) r ⌝ }
 {
@@ -217,20 +221,45 @@ fn fill_refs(t: &[u8], out: &mut [u32]) -> usize
     }
 }
 
-// Whether a list that starts at `start` reads and fits: how many items it has, or 12, 13 or 16.
-fn room_for(t: &[u8], kind: Kind, start: usize, room: usize) -> Room
-    requires { ⌜ start + length (now t) < 2 ^ 63 ⌝ }
-    ensures { λ r. ⌜ toldRoom r ≡ roomed (λ n. leb n room) start (fated length (listBy (kindOf kind) (now (t .entry)))) ⌝ }
+// Whether a list reads and fits: how many items it has, or what is wrong with it.
+fn room_for(t: &[u8], kind: Kind, room: usize) -> ReadList
+    ensures { λ r. ⌜ toldReadList r ≡ roomed (λ n. leb n room) 0 (fated length (listBy (kindOf kind) (now (t .entry)))) ⌝ }
 {
     match count_list(t, kind) {
-        Counted::Wrong(o) => Room::Refused(Fault::WrongType(start + o)),
-        Counted::Outside(o) => Room::Refused(Fault::OutsideClass(start + o)),
+        Counted::Wrong(o) => ReadList::Wrong(o),
+        Counted::Outside(o) => ReadList::Outside(o),
         Counted::All(n) => {
             if n <= room {
-                return Room::Fits(n);
+                return ReadList::Count(n);
             }
-            Room::Refused(Fault::TooShort(start))
+            ReadList::Short
         }
+    }
+}
+
+// Reads the text of a list of references into lent numbers.
+pub fn read_refs(t: &[u8], out: &mut [u32]) -> ReadList
+    ensures { λ r. ⌜ toldReadList r ≡ countOf (roomed (fitsIn (length (now (out .entry)))) 0 (listOf referenceOf (now (t .entry)))) ⌝ }
+    ensures { λ r. ⌜ now (out .exit) ≡ written (roomed (fitsIn (length (now (out .entry)))) 0 (listOf referenceOf (now (t .entry)))) (now (out .entry)) ⌝ }
+{
+    let r = room_for(t, Kind::References, out.len());
+    let ReadList::Count(_) = r else {
+        return r;
+    };
+    fill_refs(t, out);
+    r
+}
+
+// What was read of the parameter that starts at `start`, as the reader's answer: places are the file's.
+fn answer_of(r: ReadList, start: usize, to: State) -> NextList
+    requires { ⌜ start + reached r < 2 ^ 63 ⌝ }
+    ensures { λ a. ⌜ toldNextList a ≡ reading (moved start (toldReadList r)) (to .place) (to .end) ⌝ }
+{
+    match r {
+        ReadList::Count(n) => NextList::Count(n, to),
+        ReadList::Wrong(o) => NextList::Refused(Fault::WrongType(start + o), to),
+        ReadList::Outside(o) => NextList::Refused(Fault::OutsideClass(start + o), to),
+        ReadList::Short => NextList::Refused(Fault::TooShort(start), to),
     }
 }
 
@@ -241,16 +270,7 @@ pub fn next_ref_list(file: &[u8], at: State, out: &mut [u32]) -> NextList
 {
     match params::param_span(file, at) {
         Cut::Refused(f, to) => NextList::Refused(f, to),
-        Cut::Span(start, stop, to) => {
-            let t = &file[start..stop];
-            match room_for(t, Kind::References, start, out.len()) {
-                Room::Refused(f) => NextList::Refused(f, to),
-                Room::Fits(n) => {
-                    fill_refs(t, out);
-                    NextList::Count(n, to)
-                }
-            }
-        }
+        Cut::Span(start, stop, to) => answer_of(read_refs(&file[start..stop], out), start, to),
     }
 }
 
@@ -295,6 +315,19 @@ fn fill_wholes(t: &[u8], out: &mut [i64]) -> usize
     }
 }
 
+// Reads the text of a list of integers into lent numbers.
+pub fn read_wholes(t: &[u8], out: &mut [i64]) -> ReadList
+    ensures { λ r. ⌜ toldReadList r ≡ countOf (roomed (fitsIn (length (now (out .entry)))) 0 (listOf wholeOf (now (t .entry)))) ⌝ }
+    ensures { λ r. ⌜ now (out .exit) ≡ written (roomed (fitsIn (length (now (out .entry)))) 0 (listOf wholeOf (now (t .entry)))) (now (out .entry)) ⌝ }
+{
+    let r = room_for(t, Kind::Integers, out.len());
+    let ReadList::Count(_) = r else {
+        return r;
+    };
+    fill_wholes(t, out);
+    r
+}
+
 // Reads a list of integers into lent numbers.
 pub fn next_i64_list(file: &[u8], at: State, out: &mut [i64]) -> NextList
     ensures { λ r. ⌜ toldNextList r ≡ howMany (nextBy (listOf wholeOf) (fitsIn (length (now (out .entry)))) (now (file .entry)) (at .place) (at .end)) ⌝ }
@@ -302,16 +335,7 @@ pub fn next_i64_list(file: &[u8], at: State, out: &mut [i64]) -> NextList
 {
     match params::param_span(file, at) {
         Cut::Refused(f, to) => NextList::Refused(f, to),
-        Cut::Span(start, stop, to) => {
-            let t = &file[start..stop];
-            match room_for(t, Kind::Integers, start, out.len()) {
-                Room::Refused(f) => NextList::Refused(f, to),
-                Room::Fits(n) => {
-                    fill_wholes(t, out);
-                    NextList::Count(n, to)
-                }
-            }
-        }
+        Cut::Span(start, stop, to) => answer_of(read_wholes(&file[start..stop], out), start, to),
     }
 }
 
@@ -356,6 +380,19 @@ fn fill_reals(t: &[u8], out: &mut [f64]) -> usize
     }
 }
 
+// Reads the text of a list of reals into lent numbers.
+pub fn read_reals(t: &[u8], out: &mut [f64]) -> ReadList
+    ensures { λ r. ⌜ toldReadList r ≡ countOf (roomed (fitsIn (length (now (out .entry)))) 0 (listOf realOf (now (t .entry)))) ⌝ }
+    ensures { λ r. ⌜ map (toBits binary64) (now (out .exit)) ≡ written (roomed (fitsIn (length (now (out .entry)))) 0 (listOf realOf (now (t .entry)))) (map (toBits binary64) (now (out .entry))) ⌝ }
+{
+    let r = room_for(t, Kind::Floats, out.len());
+    let ReadList::Count(_) = r else {
+        return r;
+    };
+    fill_reals(t, out);
+    r
+}
+
 // Reads a list of reals into lent numbers.
 pub fn next_f64_list(file: &[u8], at: State, out: &mut [f64]) -> NextList
     ensures { λ r. ⌜ toldNextList r ≡ howMany (nextBy (listOf realOf) (fitsIn (length (now (out .entry)))) (now (file .entry)) (at .place) (at .end)) ⌝ }
@@ -363,15 +400,6 @@ pub fn next_f64_list(file: &[u8], at: State, out: &mut [f64]) -> NextList
 {
     match params::param_span(file, at) {
         Cut::Refused(f, to) => NextList::Refused(f, to),
-        Cut::Span(start, stop, to) => {
-            let t = &file[start..stop];
-            match room_for(t, Kind::Floats, start, out.len()) {
-                Room::Refused(f) => NextList::Refused(f, to),
-                Room::Fits(n) => {
-                    fill_reals(t, out);
-                    NextList::Count(n, to)
-                }
-            }
-        }
+        Cut::Span(start, stop, to) => answer_of(read_reals(&file[start..stop], out), start, to),
     }
 }

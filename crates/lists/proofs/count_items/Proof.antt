@@ -1,11 +1,11 @@
-use Rattle.lists.specs.Laws.{plus, count-starts, count-bad, count-last, count-more}
-use Rattle.lists.specs.Items.{Fate, fated, faulty, itemsFrom, kindOf, toldVerdict}
+use Rattle.lists.specs.Laws.{tally, oneMore, count-starts, tally-bad, tally-last, tally-more}
+use Rattle.lists.specs.Items.{fated, faulty, itemsFrom, kindOf, toldVerdict}
 use native.Mathlib.Omega.{arith}
 use borrow.Author.Needs.{needs}
 use denote.Ref.{now}
 use lib.ListN.{length, drop}
 use mathlib.Core.Path.{_≡_, ap, sym, _∙_}
-use Prim.Native.Nat.{ℕ, suc, _+_, _-_, _≤_}
+use Prim.Native.Nat.{suc, _-_, _≤_}
 use Rattle.lists.proofs.count_items.Statement.{statement}
 use Rattle.lists.proofs.count_items.Tie as tie
 use Rattle.lists.proofs.count_items.Reads as reads
@@ -14,7 +14,7 @@ use Rattle.lists.proofs.item_at.Reads as item-at-reads
 use Rattle.lists.proofs.verdict_of.Reads as verdict-of-reads
 
 abbrev Inv-loop : tie.InvT-loop
-Inv-loop b kind i₀ n₀ i n = (n ≤ i) × (i ≤ length b) × (plus n (fated length (itemsFrom (suc (length b) - n) (kindOf kind) i (drop i b))) ≡ fated length (itemsFrom (suc (length b)) (kindOf kind) 0 b))
+Inv-loop b kind i₀ n₀ i n = (n ≤ i) × (i ≤ length b) × (fated (tally oneMore n) (itemsFrom (suc (length b) - n) (kindOf kind) i (drop i b)) ≡ fated length (itemsFrom (suc (length b)) (kindOf kind) 0 b))
 
 abbrev μ-loop : tie.MeasureT-loop
 μ-loop b kind i₀ n₀ i n = length b - i
@@ -25,7 +25,7 @@ loop-holds c = (omega arith, omega arith, count-starts (kindOf (c .before .args 
 
 -- src/lib.rt:137:13
 item-at-requires : tie.Need-item-at-requires Inv-loop μ-loop
-item-at-requires c κs = c .loop .inv .1
+item-at-requires c κs = search needs
 
 -- src/lib.rt:141:32
 sub-verdict-of : tie.Need-sub-verdict-of Inv-loop μ-loop
@@ -60,7 +60,7 @@ returns : tie.Need-returns Inv-loop μ-loop
 returns c = let m = c .before .before .before .before in
     let l = m .before in
     let t = l .before .before in (
-      ap (faulty 12) (omega arith) ∙ count-bad (kindOf (t .args .kind)) (now (t .args .b)) (l .loop .i) (l .loop .n) (m .item-at .result) (m .item-at .ensures) (omega arith) _ (l .loop .inv .2) 12 0
+      ap (faulty 12) (omega arith) ∙ tally-bad (kindOf (t .args .kind)) oneMore (now (t .args .b)) (l .loop .i) (l .loop .n) (m .item-at .result) (m .item-at .ensures) (omega arith) (omega arith) (l .loop .n) _ (l .loop .inv .2) 12 0
           (ap toldVerdict (sym (c .enum-told2 .given .1)) ∙ c .before .before .verdict-of .ensures),
       omega (arith, m .item-at .ensures .ordered, m .item-at .ensures .short),
     )
@@ -74,7 +74,7 @@ returns-2 : tie.Need-returns-2 Inv-loop μ-loop
 returns-2 c = let m = c .before .before .before .before in
     let l = m .before in
     let t = l .before .before in (
-      ap (faulty 13) (omega arith) ∙ count-bad (kindOf (t .args .kind)) (now (t .args .b)) (l .loop .i) (l .loop .n) (m .item-at .result) (m .item-at .ensures) (omega arith) _ (l .loop .inv .2) 13 0
+      ap (faulty 13) (omega arith) ∙ tally-bad (kindOf (t .args .kind)) oneMore (now (t .args .b)) (l .loop .i) (l .loop .n) (m .item-at .result) (m .item-at .ensures) (omega arith) (omega arith) (l .loop .n) _ (l .loop .inv .2) 13 0
           (ap toldVerdict (sym (c .enum-told3 .given .1)) ∙ c .before .before .verdict-of .ensures),
       omega (arith, m .item-at .ensures .ordered, m .item-at .ensures .short),
     )
@@ -84,7 +84,7 @@ returns-3 : tie.Need-returns-3 Inv-loop μ-loop
 returns-3 c = let m = c .before .before .before .before .before in
     let l = m .before in
     let t = l .before .before in (
-      count-last (kindOf (t .args .kind)) (now (t .args .b)) (l .loop .i) (l .loop .n) (m .item-at .result) (m .item-at .ensures) (omega arith) _ (l .loop .inv .2) tt
+      tally-last (kindOf (t .args .kind)) oneMore (now (t .args .b)) (l .loop .i) (l .loop .n) (m .item-at .result) (m .item-at .ensures) (omega arith) (omega arith) (l .loop .n) _ (l .loop .inv .2) tt
           (ap toldVerdict (sym (c .before .enum-told .given .1)) ∙ c .before .before .before .verdict-of .ensures) (c .if1 .taken),
       omega arith,
     )
@@ -106,7 +106,7 @@ loop-again c = let m = c .before .before .before .before .before in
     let a = m .item-at .ensures .above in (
       omega (arith, a),
       omega (arith, w, c .if1 .left),
-      count-more (kindOf (t .args .kind)) (now (t .args .b)) (l .loop .i) (l .loop .n) (m .item-at .result) (m .item-at .ensures) (omega arith) _ (l .loop .inv .2) tt
+      tally-more (kindOf (t .args .kind)) oneMore (now (t .args .b)) (l .loop .i) (l .loop .n) (m .item-at .result) (m .item-at .ensures) (omega arith) (omega arith) (l .loop .n) _ (l .loop .inv .2) tt
           (ap toldVerdict (sym (c .before .enum-told .given .1)) ∙ c .before .before .before .verdict-of .ensures) (omega (arith, w, c .if1 .left)),
     )
 

@@ -1,11 +1,11 @@
 use borrow.Author.Needs.{needs}
 use Rattle.lists.specs.Laws.{shape-none, shape-blank, shape-full, body-length, counted-full, counted-wrong, counted-outside, counted-all, list-none, list-blank}
-use Rattle.lists.specs.Items.{Fate, fated, kindOf, toldCounted}
+use Rattle.lists.specs.Items.{fated, kindOf, toldCounted}
 use native.Mathlib.Omega.{arith}
 use denote.Ref.{now}
-use lib.ListN.{length, drop}
-use mathlib.Core.Path.{_≡_, ap, sym, _∙_}
-use Prim.Native.Nat.{ℕ, suc, _+_, _-_, _≤_}
+use lib.ListN.{length}
+use mathlib.Core.Path.{ap, sym, _∙_}
+use Prim.Native.Nat.{_-_}
 use Rattle.lists.proofs.count_list.Statement.{statement}
 use Rattle.lists.proofs.count_list.Tie as tie
 use Rattle.lists.proofs.count_list.Reads as reads

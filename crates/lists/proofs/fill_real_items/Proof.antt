@@ -1,14 +1,14 @@
-use Rattle.lists.specs.Items.{Fate, fine, faulty, fated, asFate, itemsFrom, valuesOf, filled}
+use Rattle.lists.specs.Items.{faulty, asFate}
 use Rattle.reals.specs.Scalar.{Answer, realOf, toldReal}
 use native.Mathlib.Omega.{arith}
 use lib.Ieee.{binary64, toBits}
 use borrow.Author.Needs.{needs}
 use denote.Ref.{now}
-use lib.ListN.{length, take, drop, set}
+use lib.ListN.{length}
 use mathlib.Core.List.{List, [], _∷_, map}
-use mathlib.Core.Path.{_≡_, refl, ap, sym, _∙_, subst}
-use Prim.Native.Nat.{ℕ, suc, _+_, _-_, _≤_}
-use Rattle.lists.specs.Fill.{map-set, Filling, filling-starts, filling-length, filling-bad, filling-place, filling-last, filling-goes}
+use mathlib.Core.Path.{_≡_, ap, sym, _∙_, subst}
+use Prim.Native.Nat.{ℕ, _+_, _-_}
+use Rattle.lists.specs.Fill.{map-set, Filling, filling-starts, filling-bad, filling-place, filling-last, filling-goes}
 use lib.ListN.{length-set, length-map}
 use mathlib.Core.Logic.{inl, inr}
 use denote.Enum.Declared.{tagOf}
@@ -43,7 +43,7 @@ loop-holds c = let t = c .before .before in
 
 -- src/lib.rt:327:13
 item-at-requires : tie.Need-item-at-requires Inv-loop μ-loop
-item-at-requires c κs = c .loop .inv .within
+item-at-requires c κs = search needs
 
 -- src/lib.rt:331:48
 sub-parse-real : tie.Need-sub-parse-real Inv-loop μ-loop

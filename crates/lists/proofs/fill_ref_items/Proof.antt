@@ -1,14 +1,12 @@
-use Rattle.lists.specs.Fill.{fill-bad, fill-last, fill-more, fill-head, fill-place, fill-store, fill-ends}
-use Rattle.lists.specs.Items.{Fate, fine, faulty, fated, asFate, itemsFrom, valuesOf, filled}
+use Rattle.lists.specs.Items.{asFate}
 use Rattle.reals.specs.Scalar.{Answer, referenceOf, toldReference}
 use native.Mathlib.Omega.{arith}
 use borrow.Author.Needs.{needs}
 use denote.Ref.{now}
-use lib.ListN.{length, take, drop, set}
-use mathlib.Core.List.{List, [], _∷_, _++_}
-use mathlib.Core.Path.{_≡_, refl, ap, sym, _∙_}
-use Prim.Native.Nat.{ℕ, suc, _+_, _-_, _≤_}
-use Rattle.lists.specs.Fill.{Filling, filling-starts, filling-length, filling-bad, filling-place, filling-last, filling-goes}
+use lib.ListN.{length}
+use mathlib.Core.Path.{ap, sym, _∙_}
+use Prim.Native.Nat.{ℕ, _-_}
+use Rattle.lists.specs.Fill.{Filling, filling-starts, filling-bad, filling-place, filling-last, filling-goes}
 use lib.ListN.{length-set}
 use Rattle.lists.proofs.fill_ref_items.Statement.{statement}
 use Rattle.lists.proofs.fill_ref_items.Tie as tie
@@ -29,7 +27,7 @@ loop-holds c = filling-starts (λ u. asFate (referenceOf u)) (now (c .before .be
 
 -- src/lib.rt:181:13
 item-at-requires : tie.Need-item-at-requires Inv-loop μ-loop
-item-at-requires c κs = c .loop .inv .within
+item-at-requires c κs = search needs
 
 -- src/lib.rt:185:52
 sub-parse-ref : tie.Need-sub-parse-ref Inv-loop μ-loop

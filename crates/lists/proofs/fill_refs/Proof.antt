@@ -1,14 +1,13 @@
 use borrow.Author.Needs.{needs}
 use Rattle.lists.specs.ReadLaws.{fills-none, fills-blank, fills-full}
 use Rattle.lists.specs.Laws.{shape-full}
-use Rattle.lists.specs.Items.{asFate, filled, valuesOf}
+use Rattle.lists.specs.Items.{asFate, filled}
 use Rattle.reals.specs.Scalar.{referenceOf}
 use native.Mathlib.Omega.{arith}
 use denote.Ref.{now}
 use lib.ListN.{length}
-use lib.IntN.{ℤ}
-use mathlib.Core.List.{List, map}
-use mathlib.Core.Path.{_≡_, refl, ap, sym, _∙_}
+use mathlib.Core.List.{List}
+use mathlib.Core.Path.{ap, sym, _∙_}
 use Prim.Native.Nat.{ℕ, _-_}
 use Rattle.lists.proofs.fill_refs.Statement.{statement}
 use Rattle.lists.proofs.fill_refs.Tie as tie

@@ -1,4 +1,4 @@
-use Rattle.lists.specs.Items.{Fate, fine, faulty, fated, asFate, itemsFrom, valuesOf, filled}
+use Rattle.lists.specs.Items.{fine, asFate}
 use Rattle.reals.specs.Scalar.{Answer, wholeOf, toldWhole}
 use native.Mathlib.Omega.{arith}
 use lib.IntN.{ℤ}
@@ -6,11 +6,10 @@ use mir.ValLaws.{toZ-ofZ}
 use mir.Syntax.{w64}
 use borrow.Author.Needs.{needs}
 use denote.Ref.{now}
-use lib.ListN.{length, take, drop, set}
-use mathlib.Core.List.{List, [], _∷_, _++_}
-use mathlib.Core.Path.{_≡_, refl, ap, sym, _∙_}
-use Prim.Native.Nat.{ℕ, suc, _+_, _-_, _≤_}
-use Rattle.lists.specs.Fill.{Filling, filling-starts, filling-length, filling-bad, filling-place, filling-last, filling-goes}
+use lib.ListN.{length}
+use mathlib.Core.Path.{ap, sym, _∙_}
+use Prim.Native.Nat.{_-_}
+use Rattle.lists.specs.Fill.{Filling, filling-starts, filling-bad, filling-place, filling-last, filling-goes}
 use lib.ListN.{length-set}
 use Rattle.lists.proofs.fill_whole_items.Statement.{statement}
 use Rattle.lists.proofs.fill_whole_items.Tie as tie
@@ -31,7 +30,7 @@ loop-holds c = filling-starts (λ u. asFate (wholeOf u)) (now (c .before .args .
 
 -- src/lib.rt:266:13
 item-at-requires : tie.Need-item-at-requires Inv-loop μ-loop
-item-at-requires c κs = c .loop .inv .within
+item-at-requires c κs = search needs
 
 -- src/lib.rt:270:48
 sub-parse-int : tie.Need-sub-parse-int Inv-loop μ-loop

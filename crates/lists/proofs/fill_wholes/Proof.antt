@@ -1,15 +1,15 @@
 use borrow.Author.Needs.{needs}
 use Rattle.lists.specs.ReadLaws.{fills-none, fills-blank, fills-full}
 use Rattle.lists.specs.Laws.{shape-full}
-use Rattle.lists.specs.Items.{asFate, filled, valuesOf}
+use Rattle.lists.specs.Items.{asFate, filled}
 use Rattle.reals.specs.Scalar.{wholeOf}
 use native.Mathlib.Omega.{arith}
 use denote.Ref.{now}
 use lib.ListN.{length}
 use lib.IntN.{ℤ}
-use mathlib.Core.List.{List, map}
-use mathlib.Core.Path.{_≡_, refl, ap, sym, _∙_}
-use Prim.Native.Nat.{ℕ, _-_}
+use mathlib.Core.List.{List}
+use mathlib.Core.Path.{ap, sym, _∙_}
+use Prim.Native.Nat.{_-_}
 use Rattle.lists.proofs.fill_wholes.Statement.{statement}
 use Rattle.lists.proofs.fill_wholes.Tie as tie
 use Rattle.lists.proofs.fill_wholes.Reads as reads

@@ -1,101 +1,80 @@
 use borrow.Author.Needs.{needs}
-use Rattle.lists.specs.ReadLaws.{lists-uncut, lists-refused, lists-read, room-fits, room-refused, count-mute}
-use Rattle.lists.specs.Items.{Fate, asFate, fated, filled, valuesOf, listOf, roomed, toldRoom}
+use Rattle.lists.specs.ReadLaws.{lists-uncut, lists-cut}
+use Rattle.lists.specs.Places.{read-inward, list-inward, scalar-inward}
+use Rattle.lists.specs.Items.{asFate, listOf, fitsIn}
 use Rattle.params.specs.ReaderLaws.{cut-places}
-use Rattle.params.specs.Reader.{toldCut, reading}
-use Rattle.error.specs.Refusal.{Told, good}
+use Rattle.params.specs.Reader.{toldCut}
 use Rattle.reals.specs.Scalar.{referenceOf}
 use native.Mathlib.Omega.{arith}
 use denote.Ref.{now}
-use lib.Dec.{leb}
 use lib.ListN.{length, take, drop, length-take, length-drop}
-use mathlib.Core.List.{List, map}
-use mathlib.Core.Path.{_≡_, refl, ap, sym, _∙_}
-use Prim.Native.Nat.{ℕ, _-_}
+use mathlib.Core.Path.{ap, sym, _∙_}
+use Prim.Native.Nat.{_-_}
 use Rattle.lists.proofs.next_ref_list.Statement.{statement}
 use Rattle.lists.proofs.next_ref_list.Tie as tie
 use Rattle.lists.proofs.next_ref_list.Reads as reads
 use Rattle.lists.proofs.next_ref_list.Lts as lts
-use Rattle.lists.proofs.fill_refs.Reads as fill-refs-reads
-use Rattle.lists.proofs.room_for.Reads as room-for-reads
+use Rattle.lists.proofs.answer_of.Reads as answer-of-reads
+use Rattle.lists.proofs.read_refs.Reads as read-refs-reads
 use Rattle.params.proofs.param_span.Reads as param-span-reads
 
--- src/lib.rt:242:11
+-- src/lib.rt:271:11
 param-span-requires : tie.Need-param-span-requires
 param-span-requires c κs = search needs
 
--- src/lib.rt:243:22
+-- src/lib.rt:272:22
 enum-known-f : tie.Need-enum-known-f
 enum-known-f c = search needs
 
--- src/lib.rt:244:19
+-- src/lib.rt:273:19
 enum-known-start : tie.Need-enum-known-start
 enum-known-start c = search needs
 
--- src/lib.rt:245:21
-sub-t : tie.Need-sub-t
-sub-t c = let w = cut-places _ _ _ _ _ (c .before .before .before .param-span .ensures .1) (c .before .start .given .1) in w .0
+-- src/lib.rt:273:59
+sub-read-refs : tie.Need-sub-read-refs
+sub-read-refs c = let (u, v) = cut-places _ _ _ _ _ (c .before .before .before .param-span .ensures .1) (c .before .start .given .1) in u
 
--- src/lib.rt:245:21
-part-t-start : tie.Need-part-t-start
-part-t-start c = let (u, v) = cut-places _ _ _ _ _ (c .before .before .before .param-span .ensures .1) (c .before .start .given .1) in omega (arith, u, v)
+-- src/lib.rt:273:59
+part-read-refs-start : tie.Need-part-read-refs-start
+part-read-refs-start c = let (u, v) = cut-places _ _ _ _ _ (c .before .before .before .param-span .ensures .1) (c .before .start .given .1) in omega (arith, u, v)
 
--- src/lib.rt:245:21
-part-t-end : tie.Need-part-t-end
-part-t-end c = let (u, v) = cut-places _ _ _ _ _ (c .before .before .before .param-span .ensures .1) (c .before .start .given .1) in omega (arith, u, v)
+-- src/lib.rt:273:59
+part-read-refs-end : tie.Need-part-read-refs-end
+part-read-refs-end c = let (u, v) = cut-places _ _ _ _ _ (c .before .before .before .param-span .ensures .1) (c .before .start .given .1) in omega (arith, u, v)
 
--- src/lib.rt:246:19
-room-for-requires : tie.Need-room-for-requires
-room-for-requires c κs = let g = c .before .before in
-    let (u, v) = cut-places _ _ _ _ _ (g .before .before .param-span .ensures .1) (g .start .given .1) in
-    simp (length-take, length-drop) (omega (arith, u, v))
+-- src/lib.rt:273:49
+read-refs-requires : tie.Need-read-refs-requires
+read-refs-requires c κs = search needs
 
--- src/lib.rt:247:31
-enum-known-f-2 : tie.Need-enum-known-f-2
-enum-known-f-2 c = search needs
-
--- src/lib.rt:248:28
-enum-known-n : tie.Need-enum-known-n
-enum-known-n c = search needs
-
--- src/lib.rt:249:21
-fill-refs-requires : tie.Need-fill-refs-requires
-fill-refs-requires c κs = let r = c .before .before .before .before in
-    let g = r .before .before .before in
+-- src/lib.rt:273:39
+answer-of-requires : tie.Need-answer-of-requires
+answer-of-requires c κs = let i = c .before .before in
+    let g = i .before .before .before .before in
     let t = g .before .before .before .before .before in
-    let u = listOf referenceOf (take (g .start .given .0 .1 .0 - g .start .given .0 .0) (drop (g .start .given .0 .0) (now (t .args .file)))) in
-    let (x, y, z, w) = room-fits u (g .start .given .0 .0) (length (now (t .args .out))) _
-    (ap toldRoom (sym (c .before .before .n .given .1)) ∙ r .room-for .ensures ∙ ap (roomed (λ (k : ℕ). leb k (length (now (t .args .out)))) (g .start .given .0 .0)) (count-mute (λ v. asFate (referenceOf v)) _)) in
-    (x, omega (arith, y, z))
+    let s = now (t .args .file) in
+    let a = g .start .given .0 .0 in
+    let z = g .start .given .0 .1 .0 in
+    let (u, v) = cut-places _ _ _ _ _ (g .before .before .param-span .ensures .1) (g .start .given .1) in
+    let h = read-inward (listOf referenceOf) (list-inward (λ x. asFate (referenceOf x)) (scalar-inward referenceOf)) (fitsIn (length (now (t .args .out)))) (take (z - a) (drop a s)) (i .read-refs .result) (i .read-refs .ensures .0) in
+    omega (arith, u, v, h, length-take (z - a) (drop a s), length-drop a s)
 
--- src/lib.rt:238:1
+-- src/lib.rt:267:1
 returns : tie.Need-returns
 returns c = let t = c .before .before .before .before .before .before in
     lists-uncut (listOf referenceOf) (now (t .args .out)) (length (now (t .args .out))) (now (t .args .file)) (t .args .at .place) (t .args .at .end) _ _ _ (ap toldCut (sym (c .before .f .given .1)) ∙ c .before .before .before .param-span .ensures .0)
 
--- src/lib.rt:238:1
-returns-2 : tie.Need-returns-2
-returns-2 c = let r = c .before .before .before in
-    let g = r .before .before .before in
-    let t = g .before .before .before .before .before in
-    lists-refused (listOf referenceOf) (now (t .args .out)) (length (now (t .args .out))) (now (t .args .file)) (t .args .at .place) (t .args .at .end) _ _ _ _ (ap toldCut (sym (g .start .given .1)) ∙ g .before .before .param-span .ensures .0) _
-    (room-refused (listOf referenceOf (take (g .start .given .0 .1 .0 - g .start .given .0 .0) (drop (g .start .given .0 .0) (now (t .args .file))))) (g .start .given .0 .0) (length (now (t .args .out))) _ (ap toldRoom (sym (c .before .f2 .given .1)) ∙ r .room-for .ensures ∙ ap (roomed (λ (k : ℕ). leb k (length (now (t .args .out)))) (g .start .given .0 .0)) (count-mute (λ v. asFate (referenceOf v)) _)))
-
--- src/lib.rt:238:1
+-- src/lib.rt:267:1
 same-length : tie.Need-same-length
 same-length c = search needs
 
--- src/lib.rt:238:1
-returns-3 : tie.Need-returns-3
-returns-3 c = let i = c .before .before in
-    let r = i .before .before .before .before .before in
-    let g = r .before .before .before in
+-- src/lib.rt:267:1
+returns-2 : tie.Need-returns-2
+returns-2 c = let i = c .before .before .before in
+    let g = i .before .before .before .before in
     let t = g .before .before .before .before .before in
-    let u = listOf referenceOf (take (g .start .given .0 .1 .0 - g .start .given .0 .0) (drop (g .start .given .0 .0) (now (t .args .file)))) in
-    let (x, y, z, w) = room-fits u (g .start .given .0 .0) (length (now (t .args .out))) _
-    (ap toldRoom (sym (i .before .before .before .n .given .1)) ∙ r .room-for .ensures ∙ ap (roomed (λ (k : ℕ). leb k (length (now (t .args .out)))) (g .start .given .0 .0)) (count-mute (λ v. asFate (referenceOf v)) _)) in
-    let (a, b) = lists-read (listOf referenceOf) (now (t .args .out)) (length (now (t .args .out))) (now (t .args .file)) (t .args .at .place) (t .args .at .end) _ _ _ _ (ap toldCut (sym (g .start .given .1)) ∙ g .before .before .param-span .ensures .0) (valuesOf u) _ w (i .fill-refs .ensures .0) in
-    (ap (λ (k : ℕ). reading (good k) (g .start .given .0 .1 .1 .0 .place) (g .start .given .0 .1 .1 .0 .end)) (sym y) ∙ a, b)
+    let (x, y) = lists-cut (listOf referenceOf) (now (t .args .out)) (length (now (t .args .out))) (now (t .args .file)) (t .args .at .place) (t .args .at .end) _ _ _ _
+    (ap toldCut (sym (g .start .given .1)) ∙ g .before .before .param-span .ensures .0) _ _ (i .read-refs .ensures .0) (i .read-refs .ensures .1) in
+    (c .answer-of .ensures ∙ x, y)
 
 pub next-ref-list-spec : {M : Type 1} → statement M
 next-ref-list-spec =
@@ -104,14 +83,11 @@ next-ref-list-spec =
     param-span-requires
     enum-known-f
     enum-known-start
-    sub-t
-    part-t-start
-    part-t-end
-    room-for-requires
-    enum-known-f-2
-    enum-known-n
-    fill-refs-requires
+    sub-read-refs
+    part-read-refs-start
+    part-read-refs-end
+    read-refs-requires
+    answer-of-requires
     returns
-    returns-2
     same-length
-    returns-3)
+    returns-2)

@@ -2,7 +2,6 @@ use borrow.Author.Needs.{needs}
 use Rattle.lists.specs.Laws.{body-short, body-first, body-last, body-full, none-true, none-false}
 use native.Mathlib.Omega.{arith}
 use denote.Ref.{now}
-use lib.ListN.{length, drop, length-drop}
 use Prim.Native.Nat.{_-_}
 use Rattle.lists.proofs.shape_of.Statement.{statement}
 use Rattle.lists.proofs.shape_of.Tie as tie

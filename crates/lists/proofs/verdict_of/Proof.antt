@@ -1,7 +1,7 @@
 use borrow.Author.Needs.{needs}
 use Rattle.reals.specs.Scalar.{Answer, toldReference, toldWhole, toldReal}
 use Rattle.lists.specs.Items.{mute, asFate}
-use mathlib.Core.Path.{_≡_, ap, sym, _∙_}
+use mathlib.Core.Path.{ap, sym, _∙_}
 use Prim.Native.Nat.{ℕ}
 use lib.IntN.{ℤ}
 use Rattle.lists.proofs.verdict_of.Statement.{statement}

@@ -1,0 +1,53 @@
+use borrow.Author.Needs.{needs}
+use Rattle.lists.specs.Items.{asFate, listOf, toldReadList}
+use Rattle.reals.specs.Scalar.{wholeOf}
+use denote.Ref.{now}
+use lib.ListN.{length}
+use mathlib.Core.Path.{ap, sym, _∙_}
+use Rattle.lists.specs.ReadLaws.{read-told, room-fits, room-refused, room-written}
+use Rattle.lists.proofs.Laws.{refused-read}
+use Rattle.lists.proofs.read_wholes.Statement.{statement}
+use Rattle.lists.proofs.read_wholes.Tie as tie
+use Rattle.lists.proofs.read_wholes.Reads as reads
+use Rattle.lists.proofs.read_wholes.Lts as lts
+use Rattle.lists.proofs.fill_wholes.Reads as fill-wholes-reads
+use Rattle.lists.proofs.room_for.Reads as room-for-reads
+
+-- src/lib.rt:323:9
+room-for-requires : tie.Need-room-for-requires
+room-for-requires c κs = search needs
+
+enum-told : tie.Need-enum-told
+enum-told c = search needs
+
+-- src/lib.rt:325:9
+returns : tie.Need-returns
+returns c = let r = c .before .room-for in
+    let t = c .before .before .before in
+    let e = read-told (λ u. asFate (wholeOf u)) (now (t .args .t)) (length (now (t .args .out))) _ (r .ensures) in
+    let (q, k) = refused-read (r .result) (c .match .keys2) in
+    (e, room-refused (listOf wholeOf (now (t .args .t))) (length (now (t .args .out))) q (now (t .args .out)) (sym k ∙ e))
+
+-- src/lib.rt:327:5
+fill-wholes-requires : tie.Need-fill-wholes-requires
+fill-wholes-requires c κs = let r = c .before .before .before .room-for in
+    let t = c .before .before .before .before .before in
+    let e = read-told (λ u. asFate (wholeOf u)) (now (t .args .t)) (length (now (t .args .out))) _ (r .ensures) in
+    room-fits (listOf wholeOf (now (t .args .t))) (length (now (t .args .out))) _ (ap toldReadList (sym (c .before .enum-told .given .1)) ∙ e) .0
+
+-- src/lib.rt:319:1
+same-length : tie.Need-same-length
+same-length c = search needs
+
+-- src/lib.rt:319:1
+returns-2 : tie.Need-returns-2
+returns-2 c = let i = c .before in
+    let r = i .before .before .before .before .room-for in
+    let t = i .before .before .before .before .before .before in
+    let e = read-told (λ u. asFate (wholeOf u)) (now (t .args .t)) (length (now (t .args .out))) _ (r .ensures) in
+    (e, room-written (listOf wholeOf (now (t .args .t))) (length (now (t .args .out))) _ (now (t .args .out)) _ (ap toldReadList (sym (i .before .before .enum-told .given .1)) ∙ e) (i .fill-wholes .ensures .0))
+
+pub read-wholes-spec : {M : Type 1} → statement M
+read-wholes-spec =
+    tie.close
+    (tie.spec room-for-requires enum-told returns fill-wholes-requires same-length returns-2)

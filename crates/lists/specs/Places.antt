@@ -1,0 +1,200 @@
+-- Demand 1: "one numbered refusal with a place from 0 to the input's length". The place of whatever is wrong with a list lies in its
+-- text, and so that of every refusal in the file. Assumes nothing.
+use Prim.Native.Nat.{ℕ, zero, suc, _+_, _-_, _≤_, _<_}
+use mathlib.Core.Path.{_≡_, refl, ap}
+use mathlib.Core.Bool.{Bool, true, false, _&&_}
+use mathlib.Core.List.{List, [], _∷_}
+use native.Mathlib.Omega.{arith}
+use lib.Dec.{eqb}
+use lib.ListN.{length, take, drop, getD, length-drop, length-take}
+use Rattle.error.specs.Refusal.{refusal, Told, good, bad}
+use Rattle.lex.specs.Byte.{pick, white, place, place-within}
+use Rattle.lex.specs.Walk.{stop, on, turned, walk}
+use Rattle.lex.specs.Right.Steps.{clash}
+use Rattle.lex.specs.declared.Mode.{Mode}
+use Rattle.lex.specs.declared.Mode.the-variants.{Plain, Slash, Text, Quoted, Remark, Starred}
+use Rattle.record.specs.Text.{before, past, trail}
+use Rattle.record.specs.Word.{trimmed}
+use Rattle.reals.specs.Scalar.{Answer, read, refused}
+use Rattle.params.specs.Cut.{Cut, cut, unclosed, Stand, outside, settled, passed, cutTurn, over, cutEnd, cutOf, started}
+use Rattle.params.specs.Reader.{reading, Span, span, inFile, bounded, begun, onward, paramOf}
+use Rattle.lists.specs.declared.ReadList.{ReadList}
+use Rattle.lists.specs.declared.ReadList.the-variants.{Count, Wrong, Outside, Short}
+use Rattle.lists.specs.Items.{Fate, fine, faulty, shifted, asFate, boundOf, itemEnd, indent, itemBy, consed, headed, past-comma, itemsFrom, isNone, itemsBy, inside, bare, bodyOf, listed, listBy, roomed, nextBy, countOf, toldReadList, reached}
+
+-- how far into a text its fault is; 0 where it has none
+abbrev pub offset : {A : Type 0} → Fate A → ℕ
+offset (fine a) = 0
+offset (faulty n o) = o
+
+-- the place of a refusal; 0 where there is none
+abbrev pub placeOf : {A : Type 0} → Told A → ℕ
+placeOf (good a) = 0
+placeOf (bad q) = q .place
+
+-- whatever g finds wrong with a text lies in it
+abbrev pub Inward : {A : Type 0} → (List ℕ → Fate A) → Type 0
+Inward g = (t : List ℕ) → offset (g t) ≤ length t
+
+-- a scalar is refused at its start
+pub scalar-inward : {A : Type 0} (f : List ℕ → Answer A) → Inward (λ u. asFate (f u))
+scalar-inward {A} f t = go (f t)
+  where
+    go : (a : Answer A) → offset (asFate a) ≤ length t
+    go (read a) = omega arith
+    go (refused n) = omega arith
+
+-- past bytes of a kind no more is left
+past-short : (p : ℕ → Bool) (xs : List ℕ) → length (past p xs) ≤ length xs
+unfolding past walk
+past-short p [] = omega arith
+past-short p (c ∷ r) = go (p c) refl (past-short p r)
+  where
+    go : (k : Bool) → p c ≡ k → length (past p r) ≤ length r → length (past p (c ∷ r)) ≤ length (c ∷ r)
+    go true e h = rw e (omega (arith, h))
+    go false e h = rw e (omega arith)
+
+-- where the bytes ended, nothing is left
+over-short : (m : Mode) (s o : List ℕ) → length (boundOf (over m s o)) ≤ 0
+over-short Plain s o = omega arith
+over-short Slash s o = omega arith
+over-short Text s o = omega arith
+over-short Quoted s o = omega arith
+over-short Remark s o = omega arith
+over-short Starred s o = omega arith
+
+-- from the comma that ends a parameter on, no more is left than from the parameter on
+cut-short : (s : Stand) (xs : List ℕ) → length (boundOf (walk cutTurn cutEnd s xs)) ≤ length xs
+unfolding walk
+cut-short s [] = go (s .binary)
+  where
+    go : (k : Bool) → length (boundOf (pick k (unclosed (s .opened)) (over (s .mode) (s .solid) (s .opened)))) ≤ 0
+    go true = omega arith
+    go false = over-short (s .mode) (s .solid) (s .opened)
+cut-short s (c ∷ r) = go (outside (s .binary) (s .mode) c && (eqb c 44 && eqb (s .depth) 0)) (cut-short (passed s (outside (s .binary) (s .mode) c) c r) r)
+  where
+    go : (k : Bool) → length (boundOf (walk cutTurn cutEnd (passed s (outside (s .binary) (s .mode) c) c r) r)) ≤ length r
+        → length (boundOf (turned (pick k (stop (cut (settled (s .mode) (s .solid) (c ∷ r)) (c ∷ r))) (on (passed s (outside (s .binary) (s .mode) c) c r))) (λ u. walk cutTurn cutEnd u r))) ≤ length (c ∷ r)
+    go true h = omega arith
+    go false h = omega (arith, h)
+
+-- an item's end lies in the list
+end-short : (xs : List ℕ) → length (itemEnd xs) ≤ length xs
+unfolding itemEnd cutOf
+end-short xs = cut-short _ xs
+
+-- an item's bytes are no more than those it is cut from
+before-short : (xs ys : List ℕ) → length (before xs ys) ≤ length xs
+before-short xs ys = simp length-take (omega arith)
+
+-- seen from further back
+offset-shifted : {A : Type 0} (k : ℕ) (x : Fate A) → offset (shifted k x) ≤ k + offset x
+offset-shifted k (fine a) = omega arith
+offset-shifted k (faulty n o) = omega arith
+
+-- an item and those after it
+offset-headed : {A : Type 0} (m : ℕ) (x : Fate A) (k : Unit {0} → Fate (List A)) → offset x ≤ m → offset (k tt) ≤ m → offset (headed x k) ≤ m
+offset-headed {A} m (fine a) k h l = go (k tt) l
+  where
+    go : (y : Fate (List A)) → offset y ≤ m → offset (consed a y) ≤ m
+    go (fine vs) h = omega arith
+    go (faulty n o) h = h
+offset-headed m (faulty n o) k h l = h
+
+-- what follows a comma
+offset-past : {A : Type 0} (m : ℕ) (xs : List ℕ) (k : List ℕ → Fate (List A)) → ((r : List ℕ) → length r < length xs → offset (k r) ≤ m) → offset (past-comma xs k) ≤ m
+offset-past m [] k h = omega arith
+offset-past m (c ∷ r) k h = h r (omega arith)
+
+module _ {A : Type 0} (g : List ℕ → Fate A) (inward : Inward g) where
+  -- an item
+  item-inward : (t : List ℕ) → offset (itemBy g t) ≤ length t
+  unfolding itemBy
+  item-inward t =
+      omega (arith, offset-shifted (indent t) (g (trimmed t)), inward (trimmed t), past-short white t, length-take (length (past white t) - length (trail (past white t))) (past white t))
+
+  -- the items from a rest on
+  items-inward : (n o : ℕ) (xs : List ℕ) → offset (itemsFrom n g o xs) ≤ o + length xs
+  unfolding itemsFrom
+  items-inward zero o xs = omega arith
+  items-inward (suc n) o xs =
+      let t = before xs (itemEnd xs) in
+      offset-headed (o + length xs) (shifted o (itemBy g t)) _
+      (omega (arith, offset-shifted o (itemBy g t), item-inward t, before-short xs (itemEnd xs)))
+      (offset-past (o + length xs) (itemEnd xs) _ (λ r h. omega (arith, h, end-short xs, items-inward n (o + (length xs - length r)) r)))
+
+  -- the items of a list
+  all-inward : (b : List ℕ) → offset (itemsBy g b) ≤ length b
+  unfolding itemsBy
+  all-inward b = go (isNone (trimmed b))
+    where
+      go : (k : Bool) → offset (pick k (fine []) (itemsFrom (suc (length b)) g 0 b)) ≤ length b
+      go true = omega arith
+      go false = omega (arith, items-inward (suc (length b)) 0 b)
+
+  -- a list
+  pub list-inward : Inward (listBy g)
+  unfolding listBy bodyOf
+  list-inward [] = omega arith
+  list-inward (c ∷ r) = go (eqb c 40 && eqb (getD r (length r - 1) 0) 41)
+    where
+      go : (k : Bool) → offset (listed g (pick k (inside (take (length r - 1) r)) bare)) ≤ length (c ∷ r)
+      go true = omega (arith, offset-shifted 1 (itemsBy g (take (length r - 1) r)), all-inward (take (length r - 1) r), length-take (length r - 1) r)
+      go false = omega arith
+
+  -- a list's answer
+  pub roomed-inward : (fits : A → Bool) (a : ℕ) (t : List ℕ) → placeOf (roomed fits a (g t)) ≤ a + length t
+  roomed-inward fits a t = go (g t) (inward t)
+    where
+      go : (x : Fate A) → offset x ≤ length t → placeOf (roomed fits a x) ≤ a + length t
+      go (fine v) h = fit (fits v)
+        where
+          fit : (k : Bool) → placeOf (pick k (good v) (bad (refusal 16 0 a))) ≤ a + length t
+          fit true = omega arith
+          fit false = omega arith
+      go (faulty n o) h = omega arith
+
+-- a refusal before a text is read: 9 is at 0, 10 and 11 are among the bytes up to the reader's end
+span-inward : (xs : List ℕ) (e : ℕ) (ys : List ℕ) → (placeOf (begun xs e ys .answer) ≤ length xs) × ((a : Span) → begun xs e ys .answer ≡ good a → a .start ≤ length xs)
+span-inward xs e [] = (place-within xs [], λ a h. clash (cc))
+span-inward xs e (c ∷ r) = go (cutOf (c ∷ r))
+  where
+    go : (k : Cut) → (placeOf (bounded xs e (c ∷ r) k .answer) ≤ length xs) × ((a : Span) → bounded xs e (c ∷ r) k .answer ≡ good a → a .start ≤ length xs)
+    go (cut z b) = (omega arith, λ a h. let q : span (place xs (c ∷ r)) (place xs z) ≡ a = cc in rw (← q) (place-within xs (c ∷ r)))
+    go (unclosed o) = (place-within xs o, λ a h. clash (cc))
+
+-- a parameter that is cut begins in the file, and a refusal lies in it
+param-inward : (s : List ℕ) (p e : ℕ) → (placeOf (paramOf s p e .answer) ≤ length s) × ((a : Span) → paramOf s p e .answer ≡ good a → a .start ≤ length s)
+unfolding paramOf
+param-inward s p e = go (inFile (length s) p e)
+  where
+    go : (k : Bool) → (placeOf (pick k (begun (take e s) e (started (drop p (take e s)))) (reading (bad (refusal 9 0 0)) p e) .answer) ≤ length s)
+        × ((a : Span) → pick k (begun (take e s) e (started (drop p (take e s)))) (reading (bad (refusal 9 0 0)) p e) .answer ≡ good a → a .start ≤ length s)
+    go true = let (h, k) = span-inward (take e s) e (started (drop p (take e s))) in (omega (arith, h, length-take e s), λ a l. omega (arith, k a l, length-take e s))
+    go false = (omega arith, λ a h. clash (cc))
+
+-- every refusal of a reader of lists, or of grids, has its place in the file
+pub next-inward : {A : Type 0} (g : List ℕ → Fate A) → Inward g → (fits : A → Bool) (s : List ℕ) (p e : ℕ) → placeOf (nextBy g fits s p e .answer) ≤ length s
+unfolding nextBy
+next-inward {A} g inward fits s p e = let (h, k) = param-inward s p e in go (paramOf s p e .answer) h k
+  where
+    go : (x : Told Span) → placeOf x ≤ length s → ((a : Span) → x ≡ good a → a .start ≤ length s)
+        → placeOf (onward (λ a. roomed fits (a .start) (g (take (a .stop - a .start) (drop (a .start) s)))) x) ≤ length s
+    go (good a) h k =
+        let t = take (a .stop - a .start) (drop (a .start) s) in
+        omega (arith, roomed-inward g inward fits (a .start) t, k a refl, length-take (a .stop - a .start) (drop (a .start) s), length-drop (a .start) s)
+    go (bad q) h k = h
+
+-- how far into the text the code's answer is
+pub read-inward : {A : Type 0} (g : List ℕ → Fate (List A)) → Inward g → (fits : List A → Bool) (t : List ℕ) (r : ReadList) → toldReadList r ≡ countOf (roomed fits 0 (g t)) → reached r ≤ length t
+read-inward {A} g inward fits t r e = omega (arith, told-reached r, ap placeOf e, count-place (roomed fits 0 (g t)), roomed-inward g inward fits 0 t)
+  where
+    told-reached : (r : ReadList) → placeOf (toldReadList r) ≡ reached r
+    told-reached (Count n) = refl
+    told-reached (Wrong o) = refl
+    told-reached (Outside o) = refl
+    told-reached Short = refl
+
+    count-place : (x : Told (List A)) → placeOf (countOf x) ≡ placeOf x
+    count-place (good vs) = refl
+    count-place (bad q) = refl
