@@ -155,7 +155,7 @@ pub record ItemAt (b : List ℕ) (i : ℕ) (r : Item) : Type 0 where
   pub text : take (r .stop - r .start) (drop (r .start) b) ≡ trimmed (before (drop i b) (itemEnd (drop i b)))
   pub begins : r .start ≡ i + indent (before (drop i b) (itemEnd (drop i b)))
   pub ordered : r .start ≤ r .stop
-  pub short : r .stop ≤ length b
+  pub short : r .stop ≤ r .bound
   pub above : i ≤ r .bound
   pub within : r .bound ≤ length b
 

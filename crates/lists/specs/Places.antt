@@ -114,7 +114,7 @@ module _ {A : Type 0} (g : List ℕ → Fate A) (inward : Inward g) where
       omega (arith, offset-shifted (indent t) (g (trimmed t)), inward (trimmed t), past-short white t, length-take (length (past white t) - length (trail (past white t))) (past white t))
 
   -- the items from a rest on
-  items-inward : (n o : ℕ) (xs : List ℕ) → offset (itemsFrom n g o xs) ≤ o + length xs
+  pub items-inward : (n o : ℕ) (xs : List ℕ) → offset (itemsFrom n g o xs) ≤ o + length xs
   unfolding itemsFrom
   items-inward zero o xs = omega arith
   items-inward (suc n) o xs =

@@ -12,7 +12,7 @@ use Rattle.lex.specs.Byte.{pick}
 use Rattle.lex.specs.Right.Steps.{clash}
 use Rattle.record.specs.Text.{before}
 use Rattle.record.specs.Word.{trimmed}
-use Rattle.params.specs.Reader.{reading, span, paramOf}
+use Rattle.params.specs.Reader.{reading, span, onward, paramOf}
 use Rattle.lists.specs.declared.Shape.{Shape}
 use Rattle.lists.specs.declared.Shape.the-variants.{NotList, Blank, Full}
 use Rattle.lists.specs.Items.{Fate, fine, faulty, shifted, fated, mute, itemEnd, indent, itemBy, consed, headed, past-comma, itemsFrom, isNone, itemsBy, Body, inside, bare, bodyOf, listed, listBy, roomed, moved, nextBy, fitsIn, countOf, howMany, written, valuesOf, Ready, filled, ShapeAt}
@@ -128,32 +128,44 @@ roomed-moved fits a (fine v) = go (fits v)
     go false = let e : a ≡ a + 0 = omega arith in ap (λ (p : ℕ). bad (refusal 16 0 p)) e
 roomed-moved fits a (faulty n o) = let e : a + o ≡ a + (0 + o) = omega arith in ap (λ (p : ℕ). bad (refusal n 0 p)) e
 
--- its count
-moved-count : {A : Type 0} (a : ℕ) (x : Told (List A)) → moved a (countOf x) ≡ countOf (moved a x)
-moved-count a (good vs) = refl
-moved-count a (bad q) = refl
+-- what is told of its value
+pub moved-told : {A B : Type 0} (f : A → B) (a : ℕ) (x : Told A) → moved a (onward (λ v. good (f v)) x) ≡ onward (λ v. good (f v)) (moved a x)
+moved-told f a (good v) = refl
+moved-told f a (bad q) = refl
 
 -- what it writes
-moved-written : {A : Type 0} (a : ℕ) (x : Told (List A)) (out : List A) → written x out ≡ written (moved a x) out
+pub moved-written : {A : Type 0} (a : ℕ) (x : Told (List A)) (out : List A) → written x out ≡ written (moved a x) out
 moved-written a (good vs) out = refl
 moved-written a (bad q) out = refl
+
+-- The next parameter, read by g, from what the code cuts.
+module _ {A : Type 0} (g : List ℕ → Fate A) (fits : A → Bool) (s : List ℕ) (p e : ℕ) where
+  -- no parameter is cut
+  pub next-uncut : (q : Refusal) (p′ e′ : ℕ) → reading (bad q) p′ e′ ≡ paramOf s p e → reading (bad q) p′ e′ ≡ nextBy g fits s p e
+  unfolding nextBy
+  next-uncut q p′ e′ h = rw (← h) refl
+
+  -- the text of one is read, and its refusal moved to the file
+  pub next-cut : (a z p′ e′ : ℕ) → reading (good (span a z)) p′ e′ ≡ paramOf s p e → reading (moved a (roomed fits 0 (g (take (z - a) (drop a s))))) p′ e′ ≡ nextBy g fits s p e
+  unfolding nextBy
+  next-cut a z p′ e′ h = rw (← h) (ap (λ (x : Told A). reading x p′ e′) (sym (roomed-moved fits a (g (take (z - a) (drop a s))))))
 
 module _ {A : Type 0} (g : List ℕ → Fate (List A)) (out : List A) (room : ℕ) (s : List ℕ) (p e : ℕ) where
   -- no parameter is cut
   pub lists-uncut : (q : Refusal) (p′ e′ : ℕ) → reading (bad q) p′ e′ ≡ paramOf s p e
       → (reading (bad q) p′ e′ ≡ howMany (nextBy g (fitsIn room) s p e)) × (out ≡ written (nextBy g (fitsIn room) s p e .answer) out)
-  unfolding nextBy
-  lists-uncut q p′ e′ h = (rw (← h) refl, rw (← h) refl)
+  lists-uncut q p′ e′ h = let k = next-uncut g (fitsIn room) s p e q p′ e′ h in (rw (← k) refl, rw (← k) refl)
 
   -- the text of a parameter is read
   pub lists-cut : (a z p′ e′ : ℕ) → reading (good (span a z)) p′ e′ ≡ paramOf s p e → (r : Told ℕ) (w : List A) → r ≡ countOf (roomed (fitsIn room) 0 (g (take (z - a) (drop a s))))
       → w ≡ written (roomed (fitsIn room) 0 (g (take (z - a) (drop a s)))) out
       → (reading (moved a r) p′ e′ ≡ howMany (nextBy g (fitsIn room) s p e)) × (w ≡ written (nextBy g (fitsIn room) s p e .answer) out)
-  unfolding nextBy
   lists-cut a z p′ e′ h r w k l =
-      let x = g (take (z - a) (drop a s)) in (
-        rw (← h) (ap (λ (y : Told ℕ). reading (moved a y) p′ e′) k ∙ ap (λ (y : Told ℕ). reading y p′ e′) (moved-count a (roomed (fitsIn room) 0 x) ∙ ap countOf (sym (roomed-moved (fitsIn room) a x)))),
-        rw (← h) (l ∙ moved-written a (roomed (fitsIn room) 0 x) out ∙ ap (λ (y : Told (List A)). written y out) (sym (roomed-moved (fitsIn room) a x))),
+      let x = roomed (fitsIn room) 0 (g (take (z - a) (drop a s))) in
+      let n = next-cut g (fitsIn room) s p e a z p′ e′ h in
+      (
+        rw (← n) (ap (λ (y : Told ℕ). reading y p′ e′) (ap (moved a) k ∙ moved-told length a x)),
+        rw (← n) (l ∙ moved-written a x out),
       )
 
 -- what a list that reads writes, by what it is

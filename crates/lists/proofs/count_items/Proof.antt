@@ -33,11 +33,11 @@ sub-verdict-of c = c .item-at .ensures .ordered
 
 -- src/lib.rt:141:32
 part-verdict-of-start : tie.Need-part-verdict-of-start Inv-loop μ-loop
-part-verdict-of-start c = omega (arith, c .item-at .ensures .ordered, c .item-at .ensures .short)
+part-verdict-of-start c = omega (arith, c .item-at .ensures .ordered, c .item-at .ensures .short, c .item-at .ensures .within)
 
 -- src/lib.rt:141:32
 part-verdict-of-end : tie.Need-part-verdict-of-end Inv-loop μ-loop
-part-verdict-of-end c = omega (arith, c .item-at .ensures .ordered, c .item-at .ensures .short)
+part-verdict-of-end c = omega (arith, c .item-at .ensures .ordered, c .item-at .ensures .short, c .item-at .ensures .within)
 
 -- src/lib.rt:141:15
 verdict-of-requires : tie.Need-verdict-of-requires Inv-loop μ-loop
@@ -62,7 +62,7 @@ returns c = let m = c .before .before .before .before in
     let t = l .before .before in (
       ap (faulty 12) (omega arith) ∙ tally-bad (kindOf (t .args .kind)) oneMore (now (t .args .b)) (l .loop .i) (l .loop .n) (m .item-at .result) (m .item-at .ensures) (omega arith) (omega arith) (l .loop .n) _ (l .loop .inv .2) 12 0
           (ap toldVerdict (sym (c .enum-told2 .given .1)) ∙ c .before .before .verdict-of .ensures),
-      omega (arith, m .item-at .ensures .ordered, m .item-at .ensures .short),
+      omega (arith, m .item-at .ensures .ordered, m .item-at .ensures .short, m .item-at .ensures .within),
     )
 
 -- src/lib.rt:144:33
@@ -76,7 +76,7 @@ returns-2 c = let m = c .before .before .before .before in
     let t = l .before .before in (
       ap (faulty 13) (omega arith) ∙ tally-bad (kindOf (t .args .kind)) oneMore (now (t .args .b)) (l .loop .i) (l .loop .n) (m .item-at .result) (m .item-at .ensures) (omega arith) (omega arith) (l .loop .n) _ (l .loop .inv .2) 13 0
           (ap toldVerdict (sym (c .enum-told3 .given .1)) ∙ c .before .before .verdict-of .ensures),
-      omega (arith, m .item-at .ensures .ordered, m .item-at .ensures .short),
+      omega (arith, m .item-at .ensures .ordered, m .item-at .ensures .short, m .item-at .ensures .within),
     )
 
 -- src/lib.rt:147:13

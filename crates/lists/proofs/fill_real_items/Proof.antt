@@ -51,11 +51,11 @@ sub-parse-real c = c .item-at .ensures .ordered
 
 -- src/lib.rt:331:48
 part-parse-real-start : tie.Need-part-parse-real-start Inv-loop μ-loop
-part-parse-real-start c = omega (arith, c .item-at .ensures .ordered, c .item-at .ensures .short)
+part-parse-real-start c = omega (arith, c .item-at .ensures .ordered, c .item-at .ensures .short, c .item-at .ensures .within)
 
 -- src/lib.rt:331:48
 part-parse-real-end : tie.Need-part-parse-real-end Inv-loop μ-loop
-part-parse-real-end c = omega (arith, c .item-at .ensures .ordered, c .item-at .ensures .short)
+part-parse-real-end c = omega (arith, c .item-at .ensures .ordered, c .item-at .ensures .short, c .item-at .ensures .within)
 
 -- src/lib.rt:331:30
 parse-real-requires : tie.Need-parse-real-requires Inv-loop μ-loop

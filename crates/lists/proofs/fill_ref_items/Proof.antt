@@ -35,11 +35,11 @@ sub-parse-ref c = c .item-at .ensures .ordered
 
 -- src/lib.rt:185:52
 part-parse-ref-start : tie.Need-part-parse-ref-start Inv-loop μ-loop
-part-parse-ref-start c = omega (arith, c .item-at .ensures .ordered, c .item-at .ensures .short)
+part-parse-ref-start c = omega (arith, c .item-at .ensures .ordered, c .item-at .ensures .short, c .item-at .ensures .within)
 
 -- src/lib.rt:185:52
 part-parse-ref-end : tie.Need-part-parse-ref-end Inv-loop μ-loop
-part-parse-ref-end c = omega (arith, c .item-at .ensures .ordered, c .item-at .ensures .short)
+part-parse-ref-end c = omega (arith, c .item-at .ensures .ordered, c .item-at .ensures .short, c .item-at .ensures .within)
 
 -- src/lib.rt:185:35
 parse-ref-requires : tie.Need-parse-ref-requires Inv-loop μ-loop

@@ -38,11 +38,11 @@ sub-parse-int c = c .item-at .ensures .ordered
 
 -- src/lib.rt:270:48
 part-parse-int-start : tie.Need-part-parse-int-start Inv-loop μ-loop
-part-parse-int-start c = omega (arith, c .item-at .ensures .ordered, c .item-at .ensures .short)
+part-parse-int-start c = omega (arith, c .item-at .ensures .ordered, c .item-at .ensures .short, c .item-at .ensures .within)
 
 -- src/lib.rt:270:48
 part-parse-int-end : tie.Need-part-parse-int-end Inv-loop μ-loop
-part-parse-int-end c = omega (arith, c .item-at .ensures .ordered, c .item-at .ensures .short)
+part-parse-int-end c = omega (arith, c .item-at .ensures .ordered, c .item-at .ensures .short, c .item-at .ensures .within)
 
 -- src/lib.rt:270:31
 parse-int-requires : tie.Need-parse-int-requires Inv-loop μ-loop
