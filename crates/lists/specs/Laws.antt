@@ -262,15 +262,15 @@ shape-full t r h e = subst (ShapeAt t) e h
 pub body-length : (t : List ℕ) → 2 ≤ length t → length (take (length t - 1 - 1) (drop 1 t)) ≡ length t - 2
 body-length t h = simp (length-take, length-drop) (omega arith)
 
--- what is counted in the inside of a list
-pub counted-full : {A : Type 0} (g : List ℕ → Fate A) (t : List ℕ) (r : Shape) → ShapeAt t r → r ≡ Full → (a : Fate ℕ)
-    → a ≡ fated length (itemsFrom (suc (length (take (length t - 1 - 1) (drop 1 t)))) g 0 (take (length t - 1 - 1) (drop 1 t))) → shifted 1 a ≡ fated length (listBy g t)
-counted-full {A} g t r h e a k =
-    let (n, f, o) = shape-full t r h e in
+-- what is told by f of the inside of a list
+pub told-full : {A B : Type 0} (f : List A → B) (g : List ℕ → Fate A) (t : List ℕ) (r : Shape) → ShapeAt t r → r ≡ Full → (a : Fate B)
+    → a ≡ fated f (itemsFrom (suc (length (take (length t - 1 - 1) (drop 1 t)))) g 0 (take (length t - 1 - 1) (drop 1 t))) → shifted 1 a ≡ fated f (listBy g t)
+told-full {A} f g t r h e a k =
+    let (n, s, o) = shape-full t r h e in
     ap (shifted 1) k ∙ go (itemsFrom (suc (length (take (length t - 1 - 1) (drop 1 t)))) g 0 (take (length t - 1 - 1) (drop 1 t)))
-    ∙ ap (fated length) (list-full g t (take (length t - 1 - 1) (drop 1 t)) f o)
+    ∙ ap (fated f) (list-full g t (take (length t - 1 - 1) (drop 1 t)) s o)
   where
-    go : (x : Fate (List A)) → shifted 1 (fated length x) ≡ fated length (shifted 1 x)
+    go : (x : Fate (List A)) → shifted 1 (fated f x) ≡ fated f (shifted 1 x)
     go (fine vs) = refl
     go (faulty n o) = refl
 

@@ -15,12 +15,14 @@ use Rattle.lex.specs.declared.Mode.{Mode}
 use Rattle.lex.specs.declared.Mode.the-variants.{Plain, Slash, Text, Quoted, Remark, Starred}
 use Rattle.record.specs.Text.{before, past, trail}
 use Rattle.record.specs.Word.{trimmed}
-use Rattle.reals.specs.Scalar.{Answer, read, refused}
+use Rattle.reals.specs.Scalar.{Answer, read, refused, referenceOf, wholeOf, realOf}
 use Rattle.params.specs.Cut.{Cut, cut, unclosed, Stand, outside, settled, passed, cutTurn, over, cutEnd, cutOf, started}
 use Rattle.params.specs.Reader.{reading, Span, span, inFile, bounded, begun, onward, paramOf}
+use Rattle.lists.specs.declared.Kind.{Kind}
+use Rattle.lists.specs.declared.Kind.the-variants.{References, Integers, Floats}
 use Rattle.lists.specs.declared.ReadList.{ReadList}
 use Rattle.lists.specs.declared.ReadList.the-variants.{Count, Wrong, Outside, Short}
-use Rattle.lists.specs.Items.{Fate, fine, faulty, shifted, asFate, boundOf, itemEnd, indent, itemBy, consed, headed, past-comma, itemsFrom, isNone, itemsBy, inside, bare, bodyOf, listed, listBy, roomed, nextBy, countOf, toldReadList, reached}
+use Rattle.lists.specs.Items.{Fate, fine, faulty, shifted, fated, asFate, kindOf, boundOf, itemEnd, indent, itemBy, consed, headed, past-comma, itemsFrom, isNone, itemsBy, inside, bare, bodyOf, listed, listBy, roomed, nextBy, countOf, toldReadList, reached}
 
 -- how far into a text its fault is; 0 where it has none
 abbrev pub offset : {A : Type 0} → Fate A → ℕ
@@ -43,6 +45,20 @@ scalar-inward {A} f t = go (f t)
     go : (a : Answer A) → offset (asFate a) ≤ length t
     go (read a) = omega arith
     go (refused n) = omega arith
+
+-- what is told of a value has no other faults
+pub told-inward : {A B : Type 0} (h : A → B) (g : List ℕ → Fate A) → Inward g → Inward (λ u. fated h (g u))
+told-inward {A} h g inward t = go (g t) (inward t)
+  where
+    go : (x : Fate A) → offset x ≤ length t → offset (fated h x) ≤ length t
+    go (fine a) k = k
+    go (faulty n o) k = k
+
+-- an item of a kind is refused at its start
+pub kind-inward : (kind : Kind) → Inward (kindOf kind)
+kind-inward References = told-inward (λ a. tt) (λ u. asFate (referenceOf u)) (scalar-inward referenceOf)
+kind-inward Integers = told-inward (λ a. tt) (λ u. asFate (wholeOf u)) (scalar-inward wholeOf)
+kind-inward Floats = told-inward (λ a. tt) (λ u. asFate (realOf u)) (scalar-inward realOf)
 
 -- past bytes of a kind no more is left
 past-short : (p : ℕ → Bool) (xs : List ℕ) → length (past p xs) ≤ length xs

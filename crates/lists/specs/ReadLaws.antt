@@ -80,44 +80,51 @@ count-mute {A} g t = ap (fated length) (sym (list-map (λ (a : A). tt {0}) g t))
     go (fine vs) = ap fine (length-map vs (λ (a : A). tt {0}))
     go (faulty n o) = refl
 
--- a list that fits is counted, or its count is tested
-pub count-roomed : {A : Type 0} (room a : ℕ) (x : Fate (List A)) → roomed (λ n. leb n room) a (fated length x) ≡ countOf (roomed (fitsIn room) a x)
-count-roomed room a (fine vs) = go (leb (length vs) room)
+-- what is told of a value by h fits or not as the value does
+pub roomed-told : {A B : Type 0} (h : A → B) (fits : B → Bool) (a : ℕ) (x : Fate A) → roomed fits a (fated h x) ≡ onward (λ v. good (h v)) (roomed (λ v. fits (h v)) a x)
+roomed-told h fits a (fine v) = go (fits (h v))
   where
-    go : (k : Bool) → pick k (good (length vs)) (bad (refusal 16 0 a)) ≡ countOf (pick k (good vs) (bad (refusal 16 0 a)))
+    go : (k : Bool) → pick k (good (h v)) (bad (refusal 16 0 a)) ≡ onward (λ w. good (h w)) (pick k (good v) (bad (refusal 16 0 a)))
     go true = refl
     go false = refl
-count-roomed room a (faulty n o) = refl
-
--- what is told of a list whose items are told by kind
-pub read-told : {A : Type 0} (g : List ℕ → Fate A) (t : List ℕ) (room : ℕ) (a : Told ℕ) → a ≡ roomed (λ n. leb n room) 0 (fated length (listBy (λ u. mute (g u)) t))
-    → a ≡ countOf (roomed (fitsIn room) 0 (listBy g t))
-read-told g t room a e = e ∙ ap (roomed (λ (n : ℕ). leb n room) 0) (count-mute g t) ∙ count-roomed room 0 (listBy g t)
+roomed-told h fits a (faulty n o) = refl
 
 -- a text that does not read is refused
 pub roomed-bad : {A : Type 0} (fits : A → Bool) (n o : ℕ) (x : Fate A) → faulty n o ≡ x → bad (refusal n 0 o) ≡ roomed fits 0 x
 roomed-bad fits n o x h = let e : o ≡ 0 + o = omega arith in ap (λ (p : ℕ). bad (refusal n 0 p)) e ∙ ap (roomed fits 0) h
 
--- there is room
-pub room-fits : {A : Type 0} (x : Fate (List A)) (room n : ℕ) → good n ≡ countOf (roomed (fitsIn room) 0 x) → Ready x room × (roomed (fitsIn room) 0 x ≡ good (valuesOf x))
-room-fits (fine vs) room n e = go (leb (length vs) room) refl e
+-- a text of which something is told reads and fits
+pub roomed-good : {A B : Type 0} (h : A → B) (fits : A → Bool) (x : Fate A) (b : B) → good b ≡ onward (λ v. good (h v)) (roomed fits 0 x)
+    → (v : A) × (x ≡ fine v) × (fits v ≡ true) × (roomed fits 0 x ≡ good v)
+roomed-good {A} {B} h fits (fine v) b e = go (fits v) refl e
   where
-    go : (k : Bool) → leb (length vs) room ≡ k → good n ≡ countOf (pick k (good vs) (bad (refusal 16 0 0))) → Ready (fine vs) room × (pick (leb (length vs) room) (good vs) (bad (refusal 16 0 0)) ≡ good vs)
-    go true h e = ((refl, leb-true (length vs) room h), rw h refl)
-    go false h e = clash (cc)
-room-fits (faulty k o) room n e = clash (cc)
+    go : (k : Bool) → fits v ≡ k → good b ≡ onward (λ w. good (h w)) (pick k (good v) (bad (refusal 16 0 0)))
+        → (w : A) × (fine v ≡ fine w) × (fits w ≡ true) × (pick (fits v) (good v) (bad (refusal 16 0 0)) ≡ good w)
+    go true k e = (v, refl, k, rw k refl)
+    go false k e = clash (cc)
+roomed-good h fits (faulty n o) b e = clash (cc)
 
--- a list that reads and fits is written
+-- a refusal is told as itself
+pub onward-bad : {A B : Type 0} (h : A → B) (x : Told A) (q : Refusal) → bad q ≡ onward (λ v. good (h v)) x → x ≡ bad q
+onward-bad h (good v) q e = clash (cc)
+onward-bad h (bad p) q e = let k : p ≡ q = cc in ap bad k
+
+-- what is told of a list whose items are told by kind
+pub read-told : {A : Type 0} (g : List ℕ → Fate A) (t : List ℕ) (room : ℕ) (a : Told ℕ) → a ≡ roomed (λ n. leb n room) 0 (fated length (listBy (λ u. mute (g u)) t))
+    → a ≡ countOf (roomed (fitsIn room) 0 (listBy g t))
+read-told g t room a e = e ∙ ap (roomed (λ (n : ℕ). leb n room) 0) (count-mute g t) ∙ roomed-told length (λ (n : ℕ). leb n room) 0 (listBy g t)
+
+-- there is room for a list that is counted
+pub room-fits : {A : Type 0} (x : Fate (List A)) (room n : ℕ) → good n ≡ countOf (roomed (fitsIn room) 0 x) → Ready x room
+room-fits x room n e = let (v, k, l, r) = roomed-good length (fitsIn room) x n e in rw k (refl, leb-true (length v) room l)
+
+-- it is written
 pub room-written : {A : Type 0} (x : Fate (List A)) (room n : ℕ) (out w : List A) → good n ≡ countOf (roomed (fitsIn room) 0 x) → w ≡ filled (valuesOf x) out → w ≡ written (roomed (fitsIn room) 0 x) out
-room-written x room n out w e k = let (r, q) = room-fits x room n e in rw q k
+room-written x room n out w e h = let (v, k, l, r) = roomed-good length (fitsIn room) x n e in rw r (rw k at h)
 
 -- nothing is written of another
 pub room-refused : {A : Type 0} (x : Fate (List A)) (room : ℕ) (q : Refusal) (out : List A) → bad q ≡ countOf (roomed (fitsIn room) 0 x) → out ≡ written (roomed (fitsIn room) 0 x) out
-room-refused {A} x room q out e = go (roomed (fitsIn room) 0 x) e
-  where
-    go : (a : Told (List A)) → bad q ≡ countOf a → out ≡ written a out
-    go (good vs) e = clash (cc)
-    go (bad p) e = refl
+room-refused x room q out e = rw (onward-bad length (roomed (fitsIn room) 0 x) q e) refl
 
 -- what is told from further back
 roomed-moved : {A : Type 0} (fits : A → Bool) (a : ℕ) (x : Fate A) → roomed fits a x ≡ moved a (roomed fits 0 x)
@@ -162,8 +169,7 @@ module _ {A : Type 0} (g : List ℕ → Fate (List A)) (out : List A) (room : �
       → (reading (moved a r) p′ e′ ≡ howMany (nextBy g (fitsIn room) s p e)) × (w ≡ written (nextBy g (fitsIn room) s p e .answer) out)
   lists-cut a z p′ e′ h r w k l =
       let x = roomed (fitsIn room) 0 (g (take (z - a) (drop a s))) in
-      let n = next-cut g (fitsIn room) s p e a z p′ e′ h in
-      (
+      let n = next-cut g (fitsIn room) s p e a z p′ e′ h in (
         rw (← n) (ap (λ (y : Told ℕ). reading y p′ e′) (ap (moved a) k ∙ moved-told length a x)),
         rw (← n) (l ∙ moved-written a x out),
       )

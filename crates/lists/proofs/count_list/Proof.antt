@@ -1,5 +1,5 @@
 use borrow.Author.Needs.{needs}
-use Rattle.lists.specs.Laws.{shape-none, shape-blank, shape-full, body-length, counted-full, counted-wrong, counted-outside, counted-all, list-none, list-blank}
+use Rattle.lists.specs.Laws.{shape-none, shape-blank, shape-full, body-length, told-full, counted-wrong, counted-outside, counted-all, list-none, list-blank}
 use Rattle.lists.specs.Items.{fated, kindOf, toldCounted}
 use native.Mathlib.Omega.{arith}
 use denote.Ref.{now}
@@ -94,7 +94,7 @@ returns-3 c = let s = c .before .before .before .before .before in
     let t = now (s .before .before .before .before .args .t) in
     let (n, f, o) = shape-full t _ (s .before .before .shape-of .ensures) (s .enum-told3 .given .1) in
     let i = c .before .before .before .count-items in (
-      counted-full (kindOf (s .before .before .before .before .args .kind)) t _ (s .before .before .shape-of .ensures) (s .enum-told3 .given .1) _ (ap toldCounted (sym (c .before .k .given .1)) ∙ i .ensures .0),
+      told-full length (kindOf (s .before .before .before .before .args .kind)) t _ (s .before .before .shape-of .ensures) (s .enum-told3 .given .1) _ (ap toldCounted (sym (c .before .k .given .1)) ∙ i .ensures .0),
       omega (arith, n, body-length t n, counted-all _ _ _ (i .ensures .1) (c .before .k .given .1)),
     )
 
@@ -104,7 +104,7 @@ returns-4 c = let s = c .before .before .before .before .before in
     let t = now (s .before .before .before .before .args .t) in
     let (n, f, o) = shape-full t _ (s .before .before .shape-of .ensures) (s .enum-told3 .given .1) in
     let i = c .before .before .before .count-items in (
-      counted-full (kindOf (s .before .before .before .before .args .kind)) t _ (s .before .before .shape-of .ensures) (s .enum-told3 .given .1) _ (ap toldCounted (sym (c .before .o .given .1)) ∙ i .ensures .0),
+      told-full length (kindOf (s .before .before .before .before .args .kind)) t _ (s .before .before .shape-of .ensures) (s .enum-told3 .given .1) _ (ap toldCounted (sym (c .before .o .given .1)) ∙ i .ensures .0),
       omega (arith, n, body-length t n, counted-wrong _ _ _ (i .ensures .1) (c .before .o .given .1)),
     )
 
@@ -114,7 +114,7 @@ returns-5 c = let s = c .before .before .before .before .before in
     let t = now (s .before .before .before .before .args .t) in
     let (n, f, o) = shape-full t _ (s .before .before .shape-of .ensures) (s .enum-told3 .given .1) in
     let i = c .before .before .before .count-items in (
-      counted-full (kindOf (s .before .before .before .before .args .kind)) t _ (s .before .before .shape-of .ensures) (s .enum-told3 .given .1) _ (ap toldCounted (sym (c .before .o2 .given .1)) ∙ i .ensures .0),
+      told-full length (kindOf (s .before .before .before .before .args .kind)) t _ (s .before .before .shape-of .ensures) (s .enum-told3 .given .1) _ (ap toldCounted (sym (c .before .o2 .given .1)) ∙ i .ensures .0),
       omega (arith, n, body-length t n, counted-outside _ _ _ (i .ensures .1) (c .before .o2 .given .1)),
     )
 

@@ -35,7 +35,7 @@ fill-reals-requires : tie.Need-fill-reals-requires
 fill-reals-requires c κs = let r = c .before .before .before .room-for in
     let t = c .before .before .before .before .before .before in
     let e = read-told (λ u. asFate (realOf u)) (now (t .args .t)) (length (now (t .args .out))) _ (r .ensures) in
-    room-fits (listOf realOf (now (t .args .t))) (length (now (t .args .out))) _ (ap toldReadList (sym (c .before .enum-told .given .1)) ∙ e) .0
+    room-fits (listOf realOf (now (t .args .t))) (length (now (t .args .out))) _ (ap toldReadList (sym (c .before .enum-told .given .1)) ∙ e)
 
 -- src/lib.rt:384:1
 same-length : tie.Need-same-length

@@ -33,7 +33,7 @@ fill-wholes-requires : tie.Need-fill-wholes-requires
 fill-wholes-requires c κs = let r = c .before .before .before .room-for in
     let t = c .before .before .before .before .before in
     let e = read-told (λ u. asFate (wholeOf u)) (now (t .args .t)) (length (now (t .args .out))) _ (r .ensures) in
-    room-fits (listOf wholeOf (now (t .args .t))) (length (now (t .args .out))) _ (ap toldReadList (sym (c .before .enum-told .given .1)) ∙ e) .0
+    room-fits (listOf wholeOf (now (t .args .t))) (length (now (t .args .out))) _ (ap toldReadList (sym (c .before .enum-told .given .1)) ∙ e)
 
 -- src/lib.rt:319:1
 same-length : tie.Need-same-length

@@ -1,0 +1,232 @@
+use Rattle.grids.specs.Rows.{Gridding, gridding-starts}
+use Rattle.lists.specs.Items.{asFate}
+use Rattle.reals.specs.Scalar.{referenceOf}
+use lib.ListN.{length}
+use denote.Ref.{now}
+use Prim.Native.Nat.{_-_}
+use native.Mathlib.Omega.{arith}
+use borrow.Author.Needs.{needs}
+use Rattle.grids.specs.Rows.{gridding-room, row-read, row-place, row-last, row-goes}
+use Rattle.lists.specs.Items.{toldReadList}
+use Rattle.lists.proofs.Laws.{refused-read}
+use Rattle.lex.specs.Right.Steps.{clash}
+use Rattle.error.specs.Refusal.{Told, good, bad}
+use lib.ListN.{take, drop, set, length-drop, length-set}
+use lib.Seq.{length-take-le}
+use mathlib.Core.List.{List, _++_}
+use mathlib.Core.Path.{_≡_, refl, ap, sym, _∙_, subst}
+use Prim.Native.Nat.{ℕ, _+_}
+use Rattle.grids.specs.Rows.{gridding-room, row-length, row-read, row-place, row-last, row-goes}
+use Rattle.grids.proofs.fill_ref_rows.Statement.{statement}
+use Rattle.grids.proofs.fill_ref_rows.Tie as tie
+use Rattle.grids.proofs.fill_ref_rows.Reads as reads
+use Rattle.grids.proofs.fill_ref_rows.Lts as lts
+use Rattle.lists.proofs.item_at.Reads as item-at-reads
+use Rattle.lists.proofs.read_refs.Reads as read-refs-reads
+
+abbrev Inv-loop : tie.InvT-loop
+Inv-loop b out₀ ends₀ i₀ rows₀ n₀ out ends i rows n = Gridding (λ u. asFate (referenceOf u)) b out₀ out ends₀ ends i rows n
+
+abbrev μ-loop : tie.MeasureT-loop
+μ-loop b out₀ ends₀ i₀ rows₀ n₀ out ends i rows n = length b - i
+
+-- src/lib.rt:126:5
+loop-holds : tie.Need-loop-holds Inv-loop μ-loop
+loop-holds c = let t = c .before .before .before in gridding-starts (λ u. asFate (referenceOf u)) (now (t .args .b)) (now (t .args .out)) (now (t .args .ends)) (t .pre)
+
+-- src/lib.rt:127:13
+item-at-requires : tie.Need-item-at-requires Inv-loop μ-loop
+item-at-requires c κs = search needs
+
+-- src/lib.rt:131:51
+sub-read-refs : tie.Need-sub-read-refs Inv-loop μ-loop
+sub-read-refs c = c .item-at .ensures .ordered
+
+-- src/lib.rt:131:51
+part-read-refs-start : tie.Need-part-read-refs-start Inv-loop μ-loop
+part-read-refs-start c = omega (arith, c .item-at .ensures .ordered, c .item-at .ensures .short, c .item-at .ensures .within)
+
+-- src/lib.rt:131:51
+part-read-refs-end : tie.Need-part-read-refs-end Inv-loop μ-loop
+part-read-refs-end c = omega (arith, c .item-at .ensures .ordered, c .item-at .ensures .short, c .item-at .ensures .within)
+
+-- src/lib.rt:131:68
+mul-read-refs : tie.Need-mul-read-refs Inv-loop μ-loop
+mul-read-refs c = let l = c .before .before in
+    let t = l .before .before .before .before in
+    let (p, q) = gridding-room (λ x. asFate (referenceOf x)) (now (t .args .b)) _ _ _ _ _ _ _ (l .loop .inv) in
+    omega (arith, p, q)
+
+-- src/lib.rt:131:68
+sub-read-refs-2 : tie.Need-sub-read-refs-2 Inv-loop μ-loop
+sub-read-refs-2 c = let l = c .before .before in
+    let t = l .before .before .before .before in
+    gridding-room (λ x. asFate (referenceOf x)) (now (t .args .b)) _ _ _ _ _ _ _ (l .loop .inv) .0
+
+-- src/lib.rt:131:68
+part-read-refs-start-2 : tie.Need-part-read-refs-start-2 Inv-loop μ-loop
+part-read-refs-start-2 c = let l = c .before .before in
+    let t = l .before .before .before .before in
+    gridding-room (λ x. asFate (referenceOf x)) (now (t .args .b)) _ _ _ _ _ _ _ (l .loop .inv) .0
+
+-- src/lib.rt:131:68
+part-read-refs-end-2 : tie.Need-part-read-refs-end-2 Inv-loop μ-loop
+part-read-refs-end-2 c = omega arith
+
+-- src/lib.rt:131:34
+read-refs-requires : tie.Need-read-refs-requires Inv-loop μ-loop
+read-refs-requires c κs = search needs
+
+-- src/lib.rt:131:29
+enum-known-k : tie.Need-enum-known-k Inv-loop μ-loop
+enum-known-k c = search needs
+
+-- src/lib.rt:132:13
+same-length : tie.Need-same-length Inv-loop μ-loop
+same-length c = let i = c .before .before .before in
+    let m = i .before .before .before in
+    let l = m .before in
+    let t = l .before .before .before .before in
+    let (v, e, h, k) = row-read (λ x. asFate (referenceOf x)) (now (t .args .b)) _ _ _ _ _ _ _ (l .loop .inv) (m .item-at .result) (m .item-at .ensures) _ _ _ _ (length-take-le (length (l .loop .out) - l .loop .n) (drop (l .loop .n) (l .loop .out)) (omega (arith, length-drop (l .loop .n) (l .loop .out)))) (i .read-refs .ensures .0) (i .read-refs .ensures .1) in
+    let (q, w) = refused-read (i .read-refs .result) (c .match .keys2) in
+    clash (cc (h, w))
+
+-- src/lib.rt:132:13
+same-length-2 : tie.Need-same-length-2 Inv-loop μ-loop
+same-length-2 c = let i = c .before .before .before in
+    let m = i .before .before .before in
+    let l = m .before in
+    let t = l .before .before .before .before in
+    let (v, e, h, k) = row-read (λ x. asFate (referenceOf x)) (now (t .args .b)) _ _ _ _ _ _ _ (l .loop .inv) (m .item-at .result) (m .item-at .ensures) _ _ _ _ (length-take-le (length (l .loop .out) - l .loop .n) (drop (l .loop .n) (l .loop .out)) (omega (arith, length-drop (l .loop .n) (l .loop .out)))) (i .read-refs .ensures .0) (i .read-refs .ensures .1) in
+    let (q, w) = refused-read (i .read-refs .result) (c .match .keys2) in
+    clash (cc (h, w))
+
+-- src/lib.rt:132:13
+returns : tie.Need-returns Inv-loop μ-loop
+returns c = let i = c .before .before .before in
+    let m = i .before .before .before in
+    let l = m .before in
+    let t = l .before .before .before .before in
+    let (v, e, h, k) = row-read (λ x. asFate (referenceOf x)) (now (t .args .b)) _ _ _ _ _ _ _ (l .loop .inv) (m .item-at .result) (m .item-at .ensures) _ _ _ _ (length-take-le (length (l .loop .out) - l .loop .n) (drop (l .loop .n) (l .loop .out)) (omega (arith, length-drop (l .loop .n) (l .loop .out)))) (i .read-refs .ensures .0) (i .read-refs .ensures .1) in
+    let (q, w) = refused-read (i .read-refs .result) (c .match .keys2) in
+    clash (cc (h, w))
+
+-- src/lib.rt:134:9
+add-n : tie.Need-add-n Inv-loop μ-loop
+add-n c = let i = c .before .before .before .before .before in
+    let m = i .before .before .before in
+    let l = m .before in
+    let t = l .before .before .before .before in
+    let (v, e, h, k) = row-read (λ x. asFate (referenceOf x)) (now (t .args .b)) _ _ _ _ _ _ _ (l .loop .inv) (m .item-at .result) (m .item-at .ensures) _ _ _ _ (length-take-le (length (l .loop .out) - l .loop .n) (drop (l .loop .n) (l .loop .out)) (omega (arith, length-drop (l .loop .n) (l .loop .out)))) (i .read-refs .ensures .0) (i .read-refs .ensures .1) in
+    let j : c .before .k .given .0 .0 ≡ length v = cc (ap toldReadList (c .before .k .given .1), h) in
+    let (x, y) = row-place (λ x. asFate (referenceOf x)) (now (t .args .b)) _ _ _ _ _ _ _ (l .loop .inv) (m .item-at .result) (m .item-at .ensures) v e _ _ refl k in
+    omega (arith, j, x)
+
+-- src/lib.rt:135:9
+mul-ends : tie.Need-mul-ends Inv-loop μ-loop
+mul-ends c = let i = c .before .before .before .before .before in
+    let m = i .before .before .before in
+    let l = m .before in
+    let t = l .before .before .before .before in
+    let (v, e, h, k) = row-read (λ x. asFate (referenceOf x)) (now (t .args .b)) _ _ _ _ _ _ _ (l .loop .inv) (m .item-at .result) (m .item-at .ensures) _ _ _ _ (length-take-le (length (l .loop .out) - l .loop .n) (drop (l .loop .n) (l .loop .out)) (omega (arith, length-drop (l .loop .n) (l .loop .out)))) (i .read-refs .ensures .0) (i .read-refs .ensures .1) in
+    let (x, y) = row-place (λ x. asFate (referenceOf x)) (now (t .args .b)) _ _ _ _ _ _ _ (l .loop .inv) (m .item-at .result) (m .item-at .ensures) v e _ _ refl k in
+    omega (arith, y .0)
+
+-- src/lib.rt:135:9
+slice-write-ends : tie.Need-slice-write-ends Inv-loop μ-loop
+slice-write-ends c = let i = c .before .before .before .before .before in
+    let m = i .before .before .before in
+    let l = m .before in
+    let t = l .before .before .before .before in
+    let (v, e, h, k) = row-read (λ x. asFate (referenceOf x)) (now (t .args .b)) _ _ _ _ _ _ _ (l .loop .inv) (m .item-at .result) (m .item-at .ensures) _ _ _ _ (length-take-le (length (l .loop .out) - l .loop .n) (drop (l .loop .n) (l .loop .out)) (omega (arith, length-drop (l .loop .n) (l .loop .out)))) (i .read-refs .ensures .0) (i .read-refs .ensures .1) in
+    let (x, y) = row-place (λ x. asFate (referenceOf x)) (now (t .args .b)) _ _ _ _ _ _ _ (l .loop .inv) (m .item-at .result) (m .item-at .ensures) v e _ _ refl k in
+    omega (arith, y .0, y .1)
+
+-- src/lib.rt:136:9
+add-rows : tie.Need-add-rows Inv-loop μ-loop
+add-rows c = let i = c .before .before .before .before .before in
+    let m = i .before .before .before in
+    let l = m .before in
+    let t = l .before .before .before .before in
+    let (v, e, h, k) = row-read (λ x. asFate (referenceOf x)) (now (t .args .b)) _ _ _ _ _ _ _ (l .loop .inv) (m .item-at .result) (m .item-at .ensures) _ _ _ _ (length-take-le (length (l .loop .out) - l .loop .n) (drop (l .loop .n) (l .loop .out)) (omega (arith, length-drop (l .loop .n) (l .loop .out)))) (i .read-refs .ensures .0) (i .read-refs .ensures .1) in
+    omega (arith, l .loop .inv .few, l .loop .inv .within)
+
+-- src/lib.rt:138:13
+same-length-3 : tie.Need-same-length-3 Inv-loop μ-loop
+same-length-3 c = let i = c .before .before .before .before .before .before in
+    let m = i .before .before .before in
+    let l = m .before in
+    let t = l .before .before .before .before in
+    let (v, e, h, k) = row-read (λ x. asFate (referenceOf x)) (now (t .args .b)) _ _ _ _ _ _ _ (l .loop .inv) (m .item-at .result) (m .item-at .ensures) _ _ _ _ (length-take-le (length (l .loop .out) - l .loop .n) (drop (l .loop .n) (l .loop .out)) (omega (arith, length-drop (l .loop .n) (l .loop .out)))) (i .read-refs .ensures .0) (i .read-refs .ensures .1) in
+    row-length (λ x. asFate (referenceOf x)) (now (t .args .b)) _ _ _ _ _ _ _ (l .loop .inv) (m .item-at .result) (m .item-at .ensures) v e _ _ refl k
+
+-- src/lib.rt:138:13
+same-length-4 : tie.Need-same-length-4 Inv-loop μ-loop
+same-length-4 c = let i = c .before .before .before .before .before .before in
+    let m = i .before .before .before in
+    let l = m .before in
+    let t = l .before .before .before .before in
+    let (v, e, h, k) = row-read (λ x. asFate (referenceOf x)) (now (t .args .b)) _ _ _ _ _ _ _ (l .loop .inv) (m .item-at .result) (m .item-at .ensures) _ _ _ _ (length-take-le (length (l .loop .out) - l .loop .n) (drop (l .loop .n) (l .loop .out)) (omega (arith, length-drop (l .loop .n) (l .loop .out)))) (i .read-refs .ensures .0) (i .read-refs .ensures .1) in
+    let (x, y) = row-place (λ x. asFate (referenceOf x)) (now (t .args .b)) _ _ _ _ _ _ _ (l .loop .inv) (m .item-at .result) (m .item-at .ensures) v e _ _ refl k in
+    length-set (l .loop .ends) (l .loop .rows) _ ∙ y .1
+
+-- src/lib.rt:138:13
+returns-2 : tie.Need-returns-2 Inv-loop μ-loop
+returns-2 c = let i = c .before .before .before .before .before .before in
+    let m = i .before .before .before in
+    let l = m .before in
+    let t = l .before .before .before .before in
+    let (v, e, h, k) = row-read (λ x. asFate (referenceOf x)) (now (t .args .b)) _ _ _ _ _ _ _ (l .loop .inv) (m .item-at .result) (m .item-at .ensures) _ _ _ _ (length-take-le (length (l .loop .out) - l .loop .n) (drop (l .loop .n) (l .loop .out)) (omega (arith, length-drop (l .loop .n) (l .loop .out)))) (i .read-refs .ensures .0) (i .read-refs .ensures .1) in
+    let j : c .before .before .k .given .0 .0 ≡ length v = cc (ap toldReadList (c .before .before .k .given .1), h) in
+    let (x, y) = row-last (λ x. asFate (referenceOf x)) (now (t .args .b)) _ _ _ _ _ _ _ (l .loop .inv) (m .item-at .result) (m .item-at .ensures) v e _ _ refl k (c .if1 .taken) in
+    (x, ap (λ (d : ℕ). set (l .loop .ends) (l .loop .rows) (l .loop .n + d)) j ∙ y)
+
+-- src/lib.rt:140:13
+add-i : tie.Need-add-i Inv-loop μ-loop
+add-i c = omega (arith, c .before .before .before .before .before .before .before .before .before .item-at .ensures .within)
+
+-- src/lib.rt:126:5
+loop-less : tie.Need-loop-less Inv-loop μ-loop
+loop-less c = let m = c .before .before .before .before .before .before .before .before .before in omega (arith, m .item-at .ensures .within, m .item-at .ensures .above, c .if1 .left)
+
+-- src/lib.rt:126:5
+loop-again : tie.Need-loop-again Inv-loop μ-loop
+loop-again c = let i = c .before .before .before .before .before .before in
+    let m = i .before .before .before in
+    let l = m .before in
+    let t = l .before .before .before .before in
+    let (v, e, h, k) = row-read (λ x. asFate (referenceOf x)) (now (t .args .b)) _ _ _ _ _ _ _ (l .loop .inv) (m .item-at .result) (m .item-at .ensures) _ _ _ _ (length-take-le (length (l .loop .out) - l .loop .n) (drop (l .loop .n) (l .loop .out)) (omega (arith, length-drop (l .loop .n) (l .loop .out)))) (i .read-refs .ensures .0) (i .read-refs .ensures .1) in
+    let j : c .before .before .k .given .0 .0 ≡ length v = cc (ap toldReadList (c .before .before .k .given .1), h) in
+    subst (λ (d : ℕ). Gridding (λ x. asFate (referenceOf x)) (now (t .args .b)) (now (t .args .out)) (take (l .loop .n) (l .loop .out) ++ (i .read-refs .last .1 .0 ++ drop (length (l .loop .out) - l .loop .n) (drop (l .loop .n) (l .loop .out)))) (now (t .args .ends)) (set (l .loop .ends) (l .loop .rows) (l .loop .n + d)) (m .item-at .result .bound + 1) (l .loop .rows + 1) (l .loop .n + d)) (sym j)
+    (row-goes (λ x. asFate (referenceOf x)) (now (t .args .b)) _ _ _ _ _ _ _ (l .loop .inv) (m .item-at .result) (m .item-at .ensures) v e _ _ refl k (omega (arith, m .item-at .ensures .within, c .if1 .left)))
+
+pub fill-ref-rows-spec : {M : Type 1} → statement M
+fill-ref-rows-spec =
+    tie.close
+    (tie.spec
+    Inv-loop
+    μ-loop
+    loop-holds
+    item-at-requires
+    sub-read-refs
+    part-read-refs-start
+    part-read-refs-end
+    mul-read-refs
+    sub-read-refs-2
+    part-read-refs-start-2
+    part-read-refs-end-2
+    read-refs-requires
+    enum-known-k
+    same-length
+    same-length-2
+    returns
+    add-n
+    mul-ends
+    slice-write-ends
+    add-rows
+    same-length-3
+    same-length-4
+    returns-2
+    add-i
+    loop-less
+    loop-again)

@@ -1,0 +1,62 @@
+use borrow.Author.Needs.{needs}
+use Rattle.lists.specs.ReadLaws.{roomed-bad}
+use Rattle.grids.specs.Grid.{sizeFits, toldTally}
+use mathlib.Core.Path.{refl, ap, sym, _∙_}
+use Rattle.grids.proofs.room_for.Statement.{statement}
+use Rattle.grids.proofs.room_for.Tie as tie
+use Rattle.grids.proofs.room_for.Reads as reads
+use Rattle.grids.proofs.room_for.Lts as lts
+use Rattle.grids.proofs.count_grid.Reads as count-grid-reads
+
+-- src/lib.rt:92:11
+count-grid-requires : tie.Need-count-grid-requires
+count-grid-requires c κs = search needs
+
+-- src/lib.rt:93:22
+enum-known-o : tie.Need-enum-known-o
+enum-known-o c = search needs
+
+-- src/lib.rt:94:24
+enum-known-o-2 : tie.Need-enum-known-o-2
+enum-known-o-2 c = search needs
+
+-- src/lib.rt:95:20
+enum-known-rows : tie.Need-enum-known-rows
+enum-known-rows c = search needs
+
+-- src/lib.rt:97:17
+returns : tie.Need-returns
+returns c = let l = c .before .before .before .before in
+    let e = ap toldTally (sym (c .before .before .rows .given .1)) ∙ l .count-grid .ensures in
+    rw (← e) (rw (c .if1 .taken) refl)
+
+-- src/lib.rt:89:1
+returns-2 : tie.Need-returns-2
+returns-2 c = let l = c .before .before .before in
+    let t = l .before .before .args in
+    roomed-bad (sizeFits (t .room) (t .ends)) 12 _ _ (ap toldTally (sym (c .before .o .given .1)) ∙ l .count-grid .ensures)
+
+-- src/lib.rt:89:1
+returns-3 : tie.Need-returns-3
+returns-3 c = let l = c .before .before .before in
+    let t = l .before .before .args in
+    roomed-bad (sizeFits (t .room) (t .ends)) 13 _ _ (ap toldTally (sym (c .before .o2 .given .1)) ∙ l .count-grid .ensures)
+
+-- src/lib.rt:89:1
+returns-4 : tie.Need-returns-4
+returns-4 c = let l = c .before .before .before .before in
+    let e = ap toldTally (sym (c .before .before .rows .given .1)) ∙ l .count-grid .ensures in
+    rw (← e) (rw (c .if1 .left) refl)
+
+pub room-for-spec : {M : Type 1} → statement M
+room-for-spec =
+    tie.close
+    (tie.spec
+    count-grid-requires
+    enum-known-o
+    enum-known-o-2
+    enum-known-rows
+    returns
+    returns-2
+    returns-3
+    returns-4)

@@ -1,0 +1,108 @@
+-- Document 01, 'Parameters': "Grids go to a lent list of numbers and one of row ends (numbers so far); the first bad item gives 12 or
+-- 13, and 16 comes only if all read and either list is too short." A grid is a list whose items are lists (lists/specs/Items.antt), so
+-- a row that is no list is 12 at the row's start, and a bad item 12 or 13 at its own.
+-- Assumes nothing.
+use Prim.Native.Nat.{ℕ, _+_, _≤_}
+use mathlib.Core.Path.{_≡_}
+use mathlib.Core.Bool.{Bool, _&&_}
+use mathlib.Core.List.{List, [], _∷_, _++_}
+use lib.Dec.{leb}
+use lib.ListN.{length}
+use Rattle.error.specs.Refusal.{refusal, Told, good, bad, told}
+use Rattle.params.specs.Reader.{Read, reading, onward, mapped}
+use Rattle.reals.specs.Scalar.{Answer}
+use Rattle.lists.specs.Items.{Fate, fine, faulty, fated, listBy, listOf, kindOf, valuesOf}
+use Rattle.lists.specs.declared.Kind.{Kind}
+use Rattle.grids.specs.declared.Tally as TallyCode
+use Rattle.grids.specs.declared.ReadGrid as ReadGridCode
+use Rattle.grids.specs.declared.NextGrid as NextGridCode
+
+-- a grid of scalars that f reads: a list of lists
+abbrev pub gridOf : {A : Type 0} → (List ℕ → Answer A) → List ℕ → Fate (List (List A))
+gridOf f t = listBy (listOf f) t
+
+-- "a lent list of numbers": all numbers, row after row
+abbrev pub flat : {A : Type 0} → List (List A) → List A
+flat [] = []
+flat (r ∷ rs) = r ++ flat rs
+
+-- "one of row ends (numbers so far)": those of rows before which there are n numbers
+unfoldable pub endsFrom : {A : Type 0} → ℕ → List (List A) → List ℕ
+endsFrom n [] = []
+endsFrom n (r ∷ rs) = (n + length r) ∷ endsFrom (n + length r) rs
+
+-- how many rows and numbers there are
+pub record Size : Type 0 where
+  pub rows : ℕ
+  pub numbers : ℕ
+
+-- such a size by its parts
+abbrev pub size : ℕ → ℕ → Size
+size r n = record { rows = r; numbers = n }
+
+-- the size of a grid
+abbrev pub sizeOf : {A : Type 0} → List (List A) → Size
+sizeOf g = size (length g) (length (flat g))
+
+-- "either list is too short", or neither: a lent list of so many numbers and one of so many row ends
+abbrev pub sizeFits : ℕ → ℕ → Size → Bool
+sizeFits room ends s = leb (s .numbers) room && leb (s .rows) ends
+
+-- a grid fits where its size does
+abbrev pub gridFits : {A : Type 0} → ℕ → ℕ → List (List A) → Bool
+gridFits room ends g = sizeFits room ends (sizeOf g)
+
+-- the size of a grid that is read, or its refusal
+abbrev pub sizeTold : {A : Type 0} → Told (List (List A)) → Told Size
+sizeTold a = onward (λ g. good (sizeOf g)) a
+
+-- the answer's size
+abbrev pub howLarge : {A : Type 0} → Read (List (List A)) → Read Size
+howLarge a = mapped (λ g. good (sizeOf g)) a
+
+-- the numbers of a grid that is read, or its refusal
+abbrev pub numbersOf : {A : Type 0} → Told (List (List A)) → Told (List A)
+numbersOf a = onward (λ g. good (flat g)) a
+
+-- its row ends, or its refusal
+abbrev pub endsOf : {A : Type 0} → Told (List (List A)) → Told (List ℕ)
+endsOf a = onward (λ g. good (endsFrom 0 g)) a
+
+-- what the readers of grids answer
+abbrev pub toldNextGrid : NextGridCode.NextGrid → Read Size
+toldNextGrid (NextGridCode.the-variants.Count r n t) = reading (good (size r n)) (t .place) (t .end)
+toldNextGrid (NextGridCode.the-variants.Refused f t) = reading (bad (told f)) (t .place) (t .end)
+
+-- ---- what the code's parts promise
+
+-- how many numbers of a kind a row has
+abbrev pub rowOf : Kind → List ℕ → Fate ℕ
+rowOf kind u = fated length (listBy (kindOf kind) u)
+
+-- a row of k numbers more
+abbrev pub addRow : Size → ℕ → Size
+addRow s k = size (s .rows + 1) (s .numbers + k)
+
+-- how many there are, or the refusal
+abbrev pub toldTally : TallyCode.Tally → Fate Size
+toldTally (TallyCode.the-variants.All r n) = fine (size r n)
+toldTally (TallyCode.the-variants.Wrong o) = faulty 12 o
+toldTally (TallyCode.the-variants.Outside o) = faulty 13 o
+
+-- what is read of a text: places are told from its start, and so 16 is at 0
+abbrev pub toldReadGrid : ReadGridCode.ReadGrid → Told Size
+toldReadGrid (ReadGridCode.the-variants.Count r n) = good (size r n)
+toldReadGrid (ReadGridCode.the-variants.Wrong o) = bad (refusal 12 0 o)
+toldReadGrid (ReadGridCode.the-variants.Outside o) = bad (refusal 13 0 o)
+toldReadGrid ReadGridCode.the-variants.Short = bad (refusal 16 0 0)
+
+-- how far into the text its place is
+abbrev pub reachedIn : ReadGridCode.ReadGrid → ℕ
+reachedIn (ReadGridCode.the-variants.Count r n) = 0
+reachedIn (ReadGridCode.the-variants.Wrong o) = o
+reachedIn (ReadGridCode.the-variants.Outside o) = o
+reachedIn ReadGridCode.the-variants.Short = 0
+
+-- a grid reads, and there is room for its numbers and its row ends
+abbrev pub GridReady : {A : Type 0} → Fate (List (List A)) → ℕ → ℕ → Type 0
+GridReady a room ends = (a ≡ fine (valuesOf a)) × (length (flat (valuesOf a)) ≤ room) × (length (valuesOf a) ≤ ends)

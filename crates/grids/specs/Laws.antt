@@ -1,0 +1,143 @@
+-- The answers of the readers of grids, put together from what the code's parts promise. Assumes nothing.
+use Prim.Native.Nat.{ℕ, suc, _+_, _-_, _≤_, _<_}
+use mathlib.Core.Path.{_≡_, refl, sym, _∙_, ap}
+use mathlib.Core.Bool.{Bool, true, false, _&&_}
+use mathlib.Core.List.{List, [], _∷_, _++_, map}
+use native.Mathlib.Omega.{arith}
+use lib.Dec.{leb}
+use lib.ListN.{length, take, drop, length-append}
+use borrow.Author.Tests.{leb-true}
+use Rattle.error.specs.Refusal.{Refusal, refusal, Told, good, bad}
+use Rattle.lex.specs.Byte.{pick}
+use Rattle.lex.specs.Right.Steps.{clash}
+use Rattle.params.specs.Reader.{reading, span, onward, paramOf}
+use Rattle.lists.specs.Items.{Fate, fine, faulty, fated, mute, itemsFrom, listBy, kindOf, roomed, moved, nextBy, written, valuesOf, filled, ShapeAt}
+use Rattle.lists.specs.Laws.{tally, list-blank, shape-blank}
+use Rattle.lists.specs.ReadLaws.{fills-none, fills-full, list-map, count-mute, roomed-told, roomed-good, onward-bad, moved-told, moved-written, next-uncut, next-cut}
+use Rattle.lists.specs.Places.{Inward, offset, placeOf, list-inward, roomed-inward, told-inward, kind-inward, items-inward}
+use Rattle.lists.specs.declared.Kind.{Kind}
+use Rattle.lists.specs.declared.Shape.{Shape}
+use Rattle.lists.specs.declared.Shape.the-variants.{NotList, Blank, Full}
+use Rattle.grids.specs.declared.ReadGrid.{ReadGrid}
+use Rattle.grids.specs.declared.ReadGrid.the-variants.{Count, Wrong, Outside, Short}
+use Rattle.grids.specs.Grid.{Size, size, sizeOf, sizeFits, gridFits, flat, endsFrom, sizeTold, howLarge, numbersOf, endsOf, addRow, rowOf, toldReadGrid, reachedIn, GridReady}
+
+-- rows taken in one after another, by their lengths
+tally-rows : {A : Type 0} (s : Size) (g : List (List A)) → tally addRow s (map length g) ≡ size (s .rows + length g) (s .numbers + length (flat g))
+tally-rows s [] =
+    let e : s .rows ≡ s .rows + 0 = omega arith in
+    let f : s .numbers ≡ s .numbers + 0 = omega arith in
+    ap (λ (r : ℕ). size r (s .numbers)) e ∙ ap (λ (n : ℕ). size (s .rows + 0) n) f
+tally-rows s (r ∷ g) =
+    let e : s .rows + 1 + length g ≡ s .rows + suc (length g) = omega arith in
+    let f : s .numbers + length r + length (flat g) ≡ s .numbers + length (r ++ flat g) = omega (arith, length-append r (flat g)) in
+    tally-rows (addRow s (length r)) g ∙ ap (λ (k : ℕ). size k (s .numbers + length r + length (flat g))) e ∙ ap (λ (n : ℕ). size (s .rows + suc (length g)) n) f
+
+-- a grid's size, counted row by row, whatever its items read as
+pub size-told : {A : Type 0} (g : List ℕ → Fate A) (t : List ℕ)
+    → fated (tally addRow (size 0 0)) (listBy (λ u. fated length (listBy (λ v. mute (g v)) u)) t) ≡ fated sizeOf (listBy (listBy g) t)
+size-told {A} g t =
+    ap (λ (f : List ℕ → Fate ℕ). fated (tally addRow (size 0 0)) (listBy f t)) (λ i u. count-mute g u i)
+    ∙ ap (fated (tally addRow (size 0 0))) (sym (list-map length (listBy g) t)) ∙ go (listBy (listBy g) t)
+  where
+    go : (x : Fate (List (List A))) → fated (tally addRow (size 0 0)) (fated (map length) x) ≡ fated sizeOf x
+    go (fine rs) =
+        let e : 0 + length rs ≡ length rs = omega arith in
+        let f : 0 + length (flat rs) ≡ length (flat rs) = omega arith in
+        ap fine (tally-rows (size 0 0) rs ∙ ap (λ (k : ℕ). size k (0 + length (flat rs))) e ∙ ap (λ (n : ℕ). size (length rs) n) f)
+    go (faulty n o) = refl
+
+-- what is told of a grid whose items are told by kind
+pub grid-told : {A : Type 0} (g : List ℕ → Fate A) (t : List ℕ) (room ends : ℕ) (a : Told Size)
+    → a ≡ roomed (sizeFits room ends) 0 (fated (tally addRow (size 0 0)) (listBy (λ u. fated length (listBy (λ v. mute (g v)) u)) t))
+    → a ≡ sizeTold (roomed (gridFits room ends) 0 (listBy (listBy g) t))
+grid-told g t room ends a e = e ∙ ap (roomed (sizeFits room ends) 0) (size-told g t) ∙ roomed-told sizeOf (sizeFits room ends) 0 (listBy (listBy g) t)
+
+-- both of two tests
+and-true : (a b : Bool) → a && b ≡ true → (a ≡ true) × (b ≡ true)
+and-true true true h = (refl, refl)
+and-true true false h = (refl, h)
+and-true false true h = (h, refl)
+and-true false false h = (h, h)
+
+module _ {A : Type 0} (x : Fate (List (List A))) (room ends : ℕ) where
+  -- there is room for a grid whose size is told
+  pub grid-fits : (s : Size) → good s ≡ sizeTold (roomed (gridFits room ends) 0 x) → GridReady x room ends
+  grid-fits s e =
+      let (g, k, l, r) = roomed-good sizeOf (gridFits room ends) x s e in
+      let (m, n) = and-true (leb (length (flat g)) room) (leb (length g) ends) l in
+      rw k (refl, leb-true (length (flat g)) room m, leb-true (length g) ends n)
+
+  -- it is written
+  pub grid-written : (s : Size) (out w : List A) (marks m : List ℕ) → good s ≡ sizeTold (roomed (gridFits room ends) 0 x) → w ≡ filled (flat (valuesOf x)) out → m ≡ filled (endsFrom 0 (valuesOf x)) marks
+      → (w ≡ written (numbersOf (roomed (gridFits room ends) 0 x)) out) × (m ≡ written (endsOf (roomed (gridFits room ends) 0 x)) marks)
+  grid-written s out w marks m e h l = let (g, k, n, r) = roomed-good sizeOf (gridFits room ends) x s e in (rw r (rw k at h), rw r (rw k at l))
+
+  -- nothing is written of another
+  pub grid-refused : (q : Refusal) (out : List A) (marks : List ℕ) → bad q ≡ sizeTold (roomed (gridFits room ends) 0 x)
+      → (out ≡ written (numbersOf (roomed (gridFits room ends) 0 x)) out) × (marks ≡ written (endsOf (roomed (gridFits room ends) 0 x)) marks)
+  grid-refused q out marks e = let k = onward-bad sizeOf (roomed (gridFits room ends) 0 x) q e in (rw k refl, rw k refl)
+
+-- What a grid that reads writes, by what its text is.
+module _ {A : Type 0} (g : List ℕ → Fate A) (t : List ℕ) (r : Shape) (h : ShapeAt t r) where
+  -- none is no list
+  pub grid-none : (room ends : ℕ) → GridReady (listBy (listBy g) t) room ends → r ≡ NotList → ⊥
+  grid-none room ends (k, l, m) e = fills-none (listBy g) t r h ends (k, m) e
+
+  -- nothing
+  pub grid-blank : (out : List A) (marks : List ℕ) → r ≡ Blank → (out ≡ filled (flat (valuesOf (listBy (listBy g) t))) out) × (marks ≡ filled (endsFrom 0 (valuesOf (listBy (listBy g) t))) marks)
+  unfolding endsFrom
+  grid-blank out marks e = let (b, f, o) = shape-blank t r h e in let q = list-blank (listBy g) t b f o in (rw (← q) refl, rw (← q) refl)
+
+  -- its rows
+  pub grid-full : (room ends : ℕ) → GridReady (listBy (listBy g) t) room ends → r ≡ Full
+      → (valuesOf (listBy (listBy g) t) ≡ valuesOf (itemsFrom (suc (length (take (length t - 1 - 1) (drop 1 t)))) (listBy g) 0 (take (length t - 1 - 1) (drop 1 t))))
+      × GridReady (itemsFrom (suc (length (take (length t - 1 - 1) (drop 1 t)))) (listBy g) 0 (take (length t - 1 - 1) (drop 1 t))) room ends
+  grid-full room ends (k, l, m) e = let (x, y) = fills-full (listBy g) t r h ends (k, m) e in (x, (y .0, rw x at l, y .1))
+
+-- The answer's three parts: its size, the numbers and the row ends.
+module _ {A : Type 0} (g : List ℕ → Fate (List (List A))) (out : List A) (marks : List ℕ) (room ends : ℕ) (s : List ℕ) (p e : ℕ) where
+  -- no parameter is cut
+  pub grids-uncut : (q : Refusal) (p′ e′ : ℕ) → reading (bad q) p′ e′ ≡ paramOf s p e
+      → (reading (bad q) p′ e′ ≡ howLarge (nextBy g (gridFits room ends) s p e)) × ((out ≡ written (numbersOf (nextBy g (gridFits room ends) s p e .answer)) out) × (marks ≡ written (endsOf (nextBy g (gridFits room ends) s p e .answer)) marks))
+  grids-uncut q p′ e′ h = let k = next-uncut g (gridFits room ends) s p e q p′ e′ h in (rw (← k) refl, (rw (← k) refl, rw (← k) refl))
+
+  -- the text of a parameter is read
+  pub grids-cut : (a z p′ e′ : ℕ) → reading (good (span a z)) p′ e′ ≡ paramOf s p e → (r : Told Size) (w : List A) (m : List ℕ) → r ≡ sizeTold (roomed (gridFits room ends) 0 (g (take (z - a) (drop a s))))
+      → w ≡ written (numbersOf (roomed (gridFits room ends) 0 (g (take (z - a) (drop a s))))) out → m ≡ written (endsOf (roomed (gridFits room ends) 0 (g (take (z - a) (drop a s))))) marks
+      → (reading (moved a r) p′ e′ ≡ howLarge (nextBy g (gridFits room ends) s p e)) × ((w ≡ written (numbersOf (nextBy g (gridFits room ends) s p e .answer)) out) × (m ≡ written (endsOf (nextBy g (gridFits room ends) s p e .answer)) marks))
+  grids-cut a z p′ e′ h r w m k l n =
+      let x = roomed (gridFits room ends) 0 (g (take (z - a) (drop a s))) in
+      let c = next-cut g (gridFits room ends) s p e a z p′ e′ h in (
+        rw (← c) (ap (λ (y : Told Size). reading y p′ e′) (ap (moved a) k ∙ moved-told sizeOf a x)),
+        (
+          rw (← c) (l ∙ moved-written a (numbersOf x) out ∙ ap (λ (y : Told (List A)). written y out) (moved-told flat a x)),
+          rw (← c) (n ∙ moved-written a (endsOf x) marks ∙ ap (λ (y : Told (List ℕ)). written y marks) (moved-told (endsFrom 0) a x)),
+        ),
+      )
+
+-- a row of a kind has its faults in it
+pub row-inward : (kind : Kind) → Inward (rowOf kind)
+row-inward kind = told-inward length (listBy (kindOf kind)) (list-inward (kindOf kind) (kind-inward kind))
+
+-- so has a grid's inside
+pub tally-inward : (kind : Kind) (b : List ℕ) (n o : ℕ) → faulty n o ≡ fated (tally addRow (size 0 0)) (itemsFrom (suc (length b)) (rowOf kind) 0 b) → o ≤ length b
+tally-inward kind b n o e = go (itemsFrom (suc (length b)) (rowOf kind) 0 b) e (items-inward (rowOf kind) (row-inward kind) (suc (length b)) 0 b)
+  where
+    go : (x : Fate (List ℕ)) → faulty n o ≡ fated (tally addRow (size 0 0)) x → offset x ≤ 0 + length b → o ≤ length b
+    go (fine ks) e h = clash (cc)
+    go (faulty m p) e h = let q : o ≡ p = cc in omega arith
+
+-- how far into the text the code's answer is
+pub grid-inward : {A : Type 0} (g : List ℕ → Fate (List (List A))) → Inward g → (fits : List (List A) → Bool) (t : List ℕ) (r : ReadGrid) → toldReadGrid r ≡ sizeTold (roomed fits 0 (g t)) → reachedIn r ≤ length t
+grid-inward {A} g inward fits t r e = omega (arith, told-reached r, ap placeOf e, size-place (roomed fits 0 (g t)), roomed-inward g inward fits 0 t)
+  where
+    told-reached : (r : ReadGrid) → placeOf (toldReadGrid r) ≡ reachedIn r
+    told-reached (Count m n) = refl
+    told-reached (Wrong o) = refl
+    told-reached (Outside o) = refl
+    told-reached Short = refl
+
+    size-place : (x : Told (List (List A))) → placeOf (sizeTold x) ≡ placeOf x
+    size-place (good rs) = refl
+    size-place (bad q) = refl

@@ -1,0 +1,188 @@
+// The argument reader's grids: lists of lists of references and of reals, into lent numbers and lent row ends.
+//
+// As the Rust's next_ref_grid and next_f64_grid; its rows of rows become one list of numbers and one of row ends. A grid is gone through
+// twice, as a list is: the first time it is only counted, so that a refusal leaves both lent lists alone. A row end is a usize, since
+// it counts the numbers of a file that may have more of them than 32 bits can say.
+ghost use mathlib.Core.Path.{_≡_};
+ghost use Prim.Native.Nat.{_+_, _<_, _^_, suc};
+ghost use mathlib.Core.List.{map};
+ghost use lib.ListN.{length};
+ghost use lib.Ieee.{binary64, toBits};
+ghost use Rattle.params.specs.Reader.{reading};
+ghost use Rattle.reals.specs.Scalar.{referenceOf, realOf};
+ghost use Rattle.lists.specs.Items.{fated, asFate, itemsFrom, listBy, listOf, roomed, moved, nextBy, valuesOf, filled, written};
+ghost use Rattle.lists.specs.Laws.{tally};
+ghost use Rattle.grids.specs.Grid.{size, flat, endsFrom, gridOf, gridFits, sizeFits, howLarge, sizeTold, numbersOf, endsOf, addRow, rowOf, toldTally, toldReadGrid, reachedIn, toldNextGrid, GridReady};
+use error::Fault;
+use lists::Counted;
+use lists::Kind;
+use lists::ReadList;
+use lists::Shape;
+use params::Cut;
+use params::State;
+
+// How many rows and numbers there are, or how far into the text the first bad row or item is: 12, or 13.
+enum Tally {
+    All(usize, usize),
+    Wrong(usize),
+    Outside(usize),
+}
+
+// How many rows and numbers of a text were written; or what is wrong with it: 12, 13, or that they do not fit, 16.
+enum ReadGrid {
+    Count(usize, usize),
+    Wrong(usize),
+    Outside(usize),
+    Short,
+}
+
+// How many rows and numbers were written, or a refusal.
+pub enum NextGrid {
+    Count(usize, usize, State),
+    Refused(Fault, State),
+}
+
+// Counts the rows of a grid's inside and their numbers, or finds the first bad row or item.
+fn count_rows(b: &[u8], kind: Kind) -> Tally
+    ensures { λ r. ⌜ toldTally r ≡ fated (tally addRow (size 0 0)) (itemsFrom (suc (length (now (b .entry)))) (rowOf kind) 0 (now (b .entry))) ⌝ }
+{
+    let mut i: usize = 0;
+    let mut rows: usize = 0;
+    let mut numbers: usize = 0;
+    loop {
+        let w = lists::item_at(b, i);
+        let start = w.start;
+        let stop = w.stop;
+        let bound = w.bound;
+        match lists::count_list(&b[start..stop], kind) {
+            Counted::All(k) => numbers += k,
+            Counted::Wrong(o) => return Tally::Wrong(start + o),
+            Counted::Outside(o) => return Tally::Outside(start + o),
+        }
+        rows += 1;
+        if bound == b.len() {
+            return Tally::All(rows, numbers);
+        }
+        i = bound + 1;
+    }
+}
+
+// Counts the rows of a grid and their numbers, or finds what is wrong with it.
+fn count_grid(t: &[u8], kind: Kind) -> Tally
+    ensures { λ r. ⌜ toldTally r ≡ fated (tally addRow (size 0 0)) (listBy (rowOf kind) (now (t .entry))) ⌝ }
+{
+    match lists::shape_of(t) {
+        Shape::NotList => Tally::Wrong(0),
+        Shape::Blank => Tally::All(0, 0),
+        Shape::Full => {
+            let n = t.len();
+            match count_rows(&t[1..n - 1], kind) {
+                Tally::All(rows, numbers) => Tally::All(rows, numbers),
+                Tally::Wrong(o) => Tally::Wrong(1 + o),
+                Tally::Outside(o) => Tally::Outside(1 + o),
+            }
+        }
+    }
+}
+
+// Whether a grid reads and fits into so many numbers and row ends: how large it is, or what is wrong with it.
+fn room_for(t: &[u8], kind: Kind, room: usize, ends: usize) -> ReadGrid
+    ensures { λ r. ⌜ toldReadGrid r ≡ roomed (sizeFits room ends) 0 (fated (tally addRow (size 0 0)) (listBy (rowOf kind) (now (t .entry)))) ⌝ }
+{
+    match count_grid(t, kind) {
+        Tally::Wrong(o) => ReadGrid::Wrong(o),
+        Tally::Outside(o) => ReadGrid::Outside(o),
+        Tally::All(rows, numbers) => {
+            if (numbers <= room) & (rows <= ends) {
+                return ReadGrid::Count(rows, numbers);
+            }
+            ReadGrid::Short
+        }
+    }
+}
+
+// What was read of the parameter that starts at `start`, as the reader's answer: places are the file's.
+fn answer_of(r: ReadGrid, start: usize, to: State) -> NextGrid
+    requires { ⌜ start + reachedIn r < 2 ^ 63 ⌝ }
+    ensures { λ a. ⌜ toldNextGrid a ≡ reading (moved start (toldReadGrid r)) (to .place) (to .end) ⌝ }
+{
+    match r {
+        ReadGrid::Count(rows, numbers) => NextGrid::Count(rows, numbers, to),
+        ReadGrid::Wrong(o) => NextGrid::Refused(Fault::WrongType(start + o), to),
+        ReadGrid::Outside(o) => NextGrid::Refused(Fault::OutsideClass(start + o), to),
+        ReadGrid::Short => NextGrid::Refused(Fault::TooShort(start), to),
+    }
+}
+
+// Writes the references of a grid's inside that all read, and the ends of its rows.
+fn fill_ref_rows(b: &[u8], out: &mut [u32], ends: &mut [usize])
+    requires { ⌜ GridReady (itemsFrom (suc (length (now b))) (listOf referenceOf) 0 (now b)) (length (now out)) (length (now ends)) ⌝ }
+    ensures { λ _. ⌜ now (out .exit) ≡ filled (flat (valuesOf (itemsFrom (suc (length (now (b .entry)))) (listOf referenceOf) 0 (now (b .entry))))) (now (out .entry)) ⌝ }
+    ensures { λ _. ⌜ now (ends .exit) ≡ filled (endsFrom 0 (valuesOf (itemsFrom (suc (length (now (b .entry)))) (listOf referenceOf) 0 (now (b .entry))))) (now (ends .entry)) ⌝ }
+{
+    let mut i: usize = 0;
+    let mut rows: usize = 0;
+    let mut n: usize = 0;
+    loop {
+        let w = lists::item_at(b, i);
+        let start = w.start;
+        let stop = w.stop;
+        let bound = w.bound;
+        let ReadList::Count(k) = lists::read_refs(&b[start..stop], &mut out[n..]) else {
+            return;
+        };
+        n += k;
+        ends[rows] = n;
+        rows += 1;
+        if bound == b.len() {
+            return;
+        }
+        i = bound + 1;
+    }
+}
+
+// Writes the references of a grid that all read, and the ends of its rows.
+fn fill_ref_grid(t: &[u8], out: &mut [u32], ends: &mut [usize])
+    requires { ⌜ GridReady (gridOf referenceOf (now t)) (length (now out)) (length (now ends)) ⌝ }
+    ensures { λ _. ⌜ now (out .exit) ≡ filled (flat (valuesOf (gridOf referenceOf (now (t .entry))))) (now (out .entry)) ⌝ }
+    ensures { λ _. ⌜ now (ends .exit) ≡ filled (endsFrom 0 (valuesOf (gridOf referenceOf (now (t .entry))))) (now (ends .entry)) ⌝ }
+{
+    match lists::shape_of(t) {
+        Shape::NotList => {}
+        Shape::Blank => {}
+        Shape::Full => {
+            let n = t.len();
+            fill_ref_rows(&t[1..n - 1], out, ends)
+        }
+    }
+}
+
+// Reads the text of a grid of references into lent numbers and row ends.
+fn read_ref_grid(t: &[u8], out: &mut [u32], ends: &mut [usize]) -> ReadGrid
+    ensures { λ r. ⌜ toldReadGrid r ≡ sizeTold (roomed (gridFits (length (now (out .entry))) (length (now (ends .entry)))) 0 (gridOf referenceOf (now (t .entry)))) ⌝ }
+    ensures { λ r. ⌜ now (out .exit) ≡ written (numbersOf (roomed (gridFits (length (now (out .entry))) (length (now (ends .entry)))) 0 (gridOf referenceOf (now (t .entry))))) (now (out .entry)) ⌝ }
+    ensures { λ r. ⌜ now (ends .exit) ≡ written (endsOf (roomed (gridFits (length (now (out .entry))) (length (now (ends .entry)))) 0 (gridOf referenceOf (now (t .entry))))) (now (ends .entry)) ⌝ }
+{
+    let r = room_for(t, Kind::References, out.len(), ends.len());
+    let ReadGrid::Count(_, _) = r else {
+        return r;
+    };
+    fill_ref_grid(t, out, ends);
+    r
+}
+
+// Reads a grid of references into lent numbers and row ends.
+pub fn next_ref_grid(file: &[u8], at: State, out: &mut [u32], ends: &mut [usize]) -> NextGrid
+    ensures { λ r. ⌜ toldNextGrid r ≡ howLarge (nextBy (gridOf referenceOf) (gridFits (length (now (out .entry))) (length (now (ends .entry)))) (now (file .entry)) (at .place) (at .end)) ⌝ }
+    ensures { λ r. ⌜ now (out .exit) ≡ written (numbersOf (nextBy (gridOf referenceOf) (gridFits (length (now (out .entry))) (length (now (ends .entry)))) (now (file .entry)) (at .place) (at .end) .answer)) (now (out .entry)) ⌝ }
+    ensures { λ r. ⌜ now (ends .exit) ≡ written (endsOf (nextBy (gridOf referenceOf) (gridFits (length (now (out .entry))) (length (now (ends .entry)))) (now (file .entry)) (at .place) (at .end) .answer)) (now (ends .entry)) ⌝ }
+{
+    match params::param_span(file, at) {
+        Cut::Refused(f, to) => NextGrid::Refused(f, to),
+        Cut::Span(start, stop, to) => answer_of(
+            read_ref_grid(&file[start..stop], out, ends),
+            start,
+            to,
+        ),
+    }
+}
