@@ -1,5 +1,5 @@
 -- The answers of the readers of grids, put together from what the code's parts promise. Assumes nothing.
-use Prim.Native.Nat.{ℕ, suc, _+_, _-_, _≤_, _<_}
+use Prim.Native.Nat.{ℕ, suc, _+_, _-_, _≤_}
 use mathlib.Core.Path.{_≡_, refl, sym, _∙_, ap}
 use mathlib.Core.Bool.{Bool, true, false, _&&_}
 use mathlib.Core.List.{List, [], _∷_, _++_, map}
@@ -7,10 +7,9 @@ use native.Mathlib.Omega.{arith}
 use lib.Dec.{leb}
 use lib.ListN.{length, take, drop, length-append}
 use borrow.Author.Tests.{leb-true}
-use Rattle.error.specs.Refusal.{Refusal, refusal, Told, good, bad}
-use Rattle.lex.specs.Byte.{pick}
+use Rattle.error.specs.Refusal.{Refusal, Told, good, bad}
 use Rattle.lex.specs.Right.Steps.{clash}
-use Rattle.params.specs.Reader.{reading, span, onward, paramOf}
+use Rattle.params.specs.Reader.{reading, span, paramOf}
 use Rattle.lists.specs.Items.{Fate, fine, faulty, fated, mute, itemsFrom, listBy, kindOf, roomed, moved, nextBy, written, valuesOf, filled, ShapeAt}
 use Rattle.lists.specs.Laws.{tally, list-blank, shape-blank}
 use Rattle.lists.specs.ReadLaws.{fills-none, fills-full, list-map, count-mute, roomed-told, roomed-good, onward-bad, moved-told, moved-written, next-uncut, next-cut}

@@ -122,17 +122,17 @@ fn fill_ref_rows(b: &[u8], out: &mut [u32], ends: &mut [usize])
 {
     let mut i: usize = 0;
     let mut rows: usize = 0;
-    let mut n: usize = 0;
+    let mut refs: usize = 0;
     loop {
         let w = lists::item_at(b, i);
         let start = w.start;
         let stop = w.stop;
         let bound = w.bound;
-        let ReadList::Count(k) = lists::read_refs(&b[start..stop], &mut out[n..]) else {
+        let ReadList::Count(k) = lists::read_refs(&b[start..stop], &mut out[refs..]) else {
             return;
         };
-        n += k;
-        ends[rows] = n;
+        refs += k;
+        ends[rows] = refs;
         rows += 1;
         if bound == b.len() {
             return;
@@ -181,6 +181,79 @@ pub fn next_ref_grid(file: &[u8], at: State, out: &mut [u32], ends: &mut [usize]
         Cut::Refused(f, to) => NextGrid::Refused(f, to),
         Cut::Span(start, stop, to) => answer_of(
             read_ref_grid(&file[start..stop], out, ends),
+            start,
+            to,
+        ),
+    }
+}
+
+// Writes the reals of a grid's inside that all read, and the ends of its rows.
+fn fill_real_rows(b: &[u8], out: &mut [f64], ends: &mut [usize])
+    requires { ⌜ GridReady (itemsFrom (suc (length (now b))) (listOf realOf) 0 (now b)) (length (now out)) (length (now ends)) ⌝ }
+    ensures { λ _. ⌜ map (toBits binary64) (now (out .exit)) ≡ filled (flat (valuesOf (itemsFrom (suc (length (now (b .entry)))) (listOf realOf) 0 (now (b .entry))))) (map (toBits binary64) (now (out .entry))) ⌝ }
+    ensures { λ _. ⌜ now (ends .exit) ≡ filled (endsFrom 0 (valuesOf (itemsFrom (suc (length (now (b .entry)))) (listOf realOf) 0 (now (b .entry))))) (now (ends .entry)) ⌝ }
+{
+    let mut i: usize = 0;
+    let mut rows: usize = 0;
+    let mut reals: usize = 0;
+    loop {
+        let w = lists::item_at(b, i);
+        let start = w.start;
+        let stop = w.stop;
+        let bound = w.bound;
+        let ReadList::Count(k) = lists::read_reals(&b[start..stop], &mut out[reals..]) else {
+            return;
+        };
+        reals += k;
+        ends[rows] = reals;
+        rows += 1;
+        if bound == b.len() {
+            return;
+        }
+        i = bound + 1;
+    }
+}
+
+// Writes the reals of a grid that all read, and the ends of its rows.
+fn fill_real_grid(t: &[u8], out: &mut [f64], ends: &mut [usize])
+    requires { ⌜ GridReady (gridOf realOf (now t)) (length (now out)) (length (now ends)) ⌝ }
+    ensures { λ _. ⌜ map (toBits binary64) (now (out .exit)) ≡ filled (flat (valuesOf (gridOf realOf (now (t .entry))))) (map (toBits binary64) (now (out .entry))) ⌝ }
+    ensures { λ _. ⌜ now (ends .exit) ≡ filled (endsFrom 0 (valuesOf (gridOf realOf (now (t .entry))))) (now (ends .entry)) ⌝ }
+{
+    match lists::shape_of(t) {
+        Shape::NotList => {}
+        Shape::Blank => {}
+        Shape::Full => {
+            let n = t.len();
+            fill_real_rows(&t[1..n - 1], out, ends)
+        }
+    }
+}
+
+// Reads the text of a grid of reals into lent numbers and row ends.
+fn read_real_grid(t: &[u8], out: &mut [f64], ends: &mut [usize]) -> ReadGrid
+    ensures { λ r. ⌜ toldReadGrid r ≡ sizeTold (roomed (gridFits (length (now (out .entry))) (length (now (ends .entry)))) 0 (gridOf realOf (now (t .entry)))) ⌝ }
+    ensures { λ r. ⌜ map (toBits binary64) (now (out .exit)) ≡ written (numbersOf (roomed (gridFits (length (now (out .entry))) (length (now (ends .entry)))) 0 (gridOf realOf (now (t .entry))))) (map (toBits binary64) (now (out .entry))) ⌝ }
+    ensures { λ r. ⌜ now (ends .exit) ≡ written (endsOf (roomed (gridFits (length (now (out .entry))) (length (now (ends .entry)))) 0 (gridOf realOf (now (t .entry))))) (now (ends .entry)) ⌝ }
+{
+    let r = room_for(t, Kind::Floats, out.len(), ends.len());
+    let ReadGrid::Count(_, _) = r else {
+        return r;
+    };
+    fill_real_grid(t, out, ends);
+    r
+}
+
+// Reads a grid of reals into lent numbers and row ends.
+pub fn next_f64_grid(file: &[u8], at: State, out: &mut [f64], ends: &mut [usize]) -> NextGrid
+    ensures { λ r. ⌜ toldNextGrid r ≡ howLarge (nextBy (gridOf realOf) (gridFits (length (now (out .entry))) (length (now (ends .entry)))) (now (file .entry)) (at .place) (at .end)) ⌝ }
+    ensures { λ r. ⌜ map (toBits binary64) (now (out .exit)) ≡ written (numbersOf (nextBy (gridOf realOf) (gridFits (length (now (out .entry))) (length (now (ends .entry)))) (now (file .entry)) (at .place) (at .end) .answer)) (map (toBits binary64) (now (out .entry))) ⌝ }
+    ensures { λ r. ⌜ now (ends .exit) ≡ written (endsOf (nextBy (gridOf realOf) (gridFits (length (now (out .entry))) (length (now (ends .entry)))) (now (file .entry)) (at .place) (at .end) .answer)) (now (ends .entry)) ⌝ }
+{
+    match params::param_span(file, at) {
+        Cut::Refused(f, to) => NextGrid::Refused(f, to),
+        Cut::Span(start, stop, to) => answer_of(
+            read_real_grid(&file[start..stop], out, ends),
             start,
             to,
         ),

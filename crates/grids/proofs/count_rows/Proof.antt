@@ -1,5 +1,5 @@
 use Rattle.lists.specs.Laws.{tally, tally-starts, tally-bad, tally-last, tally-more, counted-wrong, counted-outside, counted-all}
-use Rattle.lists.specs.Items.{Fate, fated, itemsFrom, toldCounted}
+use Rattle.lists.specs.Items.{fated, itemsFrom, toldCounted}
 use Rattle.grids.specs.Grid.{size, addRow, rowOf}
 use borrow.Author.Needs.{needs}
 use native.Mathlib.Omega.{arith}
@@ -7,7 +7,7 @@ use denote.Ref.{now}
 use lib.ListN.{length, drop, length-drop}
 use lib.Seq.{length-take-le}
 use mathlib.Core.Path.{_≡_, ap, sym, _∙_}
-use Prim.Native.Nat.{ℕ, suc, _-_, _≤_}
+use Prim.Native.Nat.{suc, _-_, _≤_}
 use Rattle.grids.proofs.count_rows.Statement.{statement}
 use Rattle.grids.proofs.count_rows.Tie as tie
 use Rattle.grids.proofs.count_rows.Reads as reads

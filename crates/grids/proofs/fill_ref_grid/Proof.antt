@@ -6,7 +6,6 @@ use Rattle.grids.specs.Grid.{flat, endsFrom}
 use Rattle.grids.specs.Laws.{grid-none, grid-blank, grid-full}
 use native.Mathlib.Omega.{arith}
 use denote.Ref.{now}
-use lib.ListN.{length}
 use mathlib.Core.List.{List}
 use mathlib.Core.Path.{ap, sym, _∙_}
 use Prim.Native.Nat.{ℕ}

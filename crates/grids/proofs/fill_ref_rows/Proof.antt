@@ -10,10 +10,9 @@ use Rattle.grids.specs.Rows.{gridding-room, row-read, row-place, row-las
 use Rattle.lists.specs.Items.{toldReadList}
 use Rattle.lists.proofs.Laws.{refused-read}
 use Rattle.lex.specs.Right.Steps.{clash}
-use Rattle.error.specs.Refusal.{Told, good, bad}
 use lib.ListN.{take, drop, set, length-drop, length-set}
 use lib.Seq.{length-take-le}
-use mathlib.Core.List.{List, _++_}
+use mathlib.Core.List.{_++_}
 use mathlib.Core.Path.{_≡_, refl, ap, sym, _∙_, subst}
 use Prim.Native.Nat.{ℕ, _+_}
 use Rattle.grids.specs.Rows.{gridding-room, row-length, row-read, row-place, row-last, row-goes}
@@ -25,10 +24,10 @@ use Rattle.lists.proofs.item_at.Reads as item-at-reads
 use Rattle.lists.proofs.read_refs.Reads as read-refs-reads
 
 abbrev Inv-loop : tie.InvT-loop
-Inv-loop b out₀ ends₀ i₀ rows₀ n₀ out ends i rows n = Gridding (λ u. asFate (referenceOf u)) b out₀ out ends₀ ends i rows n
+Inv-loop b out₀ ends₀ i₀ rows₀ refs₀ out ends i rows refs = Gridding (λ u. asFate (referenceOf u)) b out₀ out ends₀ ends i rows refs
 
 abbrev μ-loop : tie.MeasureT-loop
-μ-loop b out₀ ends₀ i₀ rows₀ n₀ out ends i rows n = length b - i
+μ-loop b out₀ ends₀ i₀ rows₀ refs₀ out ends i rows refs = length b - i
 
 -- src/lib.rt:126:5
 loop-holds : tie.Need-loop-holds Inv-loop μ-loop
@@ -87,7 +86,7 @@ same-length c = let i = c .before .before .before in
     let m = i .before .before .before in
     let l = m .before in
     let t = l .before .before .before .before in
-    let (v, e, h, k) = row-read (λ x. asFate (referenceOf x)) (now (t .args .b)) _ _ _ _ _ _ _ (l .loop .inv) (m .item-at .result) (m .item-at .ensures) _ _ _ _ (length-take-le (length (l .loop .out) - l .loop .n) (drop (l .loop .n) (l .loop .out)) (omega (arith, length-drop (l .loop .n) (l .loop .out)))) (i .read-refs .ensures .0) (i .read-refs .ensures .1) in
+    let (v, e, h, k) = row-read (λ x. asFate (referenceOf x)) (now (t .args .b)) _ _ _ _ _ _ _ (l .loop .inv) (m .item-at .result) (m .item-at .ensures) _ _ _ _ (length-take-le (length (l .loop .out) - l .loop .refs) (drop (l .loop .refs) (l .loop .out)) (omega (arith, length-drop (l .loop .refs) (l .loop .out)))) (i .read-refs .ensures .0) (i .read-refs .ensures .1) in
     let (q, w) = refused-read (i .read-refs .result) (c .match .keys2) in
     clash (cc (h, w))
 
@@ -97,7 +96,7 @@ same-length-2 c = let i = c .before .before .before in
     let m = i .before .before .before in
     let l = m .before in
     let t = l .before .before .before .before in
-    let (v, e, h, k) = row-read (λ x. asFate (referenceOf x)) (now (t .args .b)) _ _ _ _ _ _ _ (l .loop .inv) (m .item-at .result) (m .item-at .ensures) _ _ _ _ (length-take-le (length (l .loop .out) - l .loop .n) (drop (l .loop .n) (l .loop .out)) (omega (arith, length-drop (l .loop .n) (l .loop .out)))) (i .read-refs .ensures .0) (i .read-refs .ensures .1) in
+    let (v, e, h, k) = row-read (λ x. asFate (referenceOf x)) (now (t .args .b)) _ _ _ _ _ _ _ (l .loop .inv) (m .item-at .result) (m .item-at .ensures) _ _ _ _ (length-take-le (length (l .loop .out) - l .loop .refs) (drop (l .loop .refs) (l .loop .out)) (omega (arith, length-drop (l .loop .refs) (l .loop .out)))) (i .read-refs .ensures .0) (i .read-refs .ensures .1) in
     let (q, w) = refused-read (i .read-refs .result) (c .match .keys2) in
     clash (cc (h, w))
 
@@ -107,17 +106,17 @@ returns c = let i = c .before .before .before in
     let m = i .before .before .before in
     let l = m .before in
     let t = l .before .before .before .before in
-    let (v, e, h, k) = row-read (λ x. asFate (referenceOf x)) (now (t .args .b)) _ _ _ _ _ _ _ (l .loop .inv) (m .item-at .result) (m .item-at .ensures) _ _ _ _ (length-take-le (length (l .loop .out) - l .loop .n) (drop (l .loop .n) (l .loop .out)) (omega (arith, length-drop (l .loop .n) (l .loop .out)))) (i .read-refs .ensures .0) (i .read-refs .ensures .1) in
+    let (v, e, h, k) = row-read (λ x. asFate (referenceOf x)) (now (t .args .b)) _ _ _ _ _ _ _ (l .loop .inv) (m .item-at .result) (m .item-at .ensures) _ _ _ _ (length-take-le (length (l .loop .out) - l .loop .refs) (drop (l .loop .refs) (l .loop .out)) (omega (arith, length-drop (l .loop .refs) (l .loop .out)))) (i .read-refs .ensures .0) (i .read-refs .ensures .1) in
     let (q, w) = refused-read (i .read-refs .result) (c .match .keys2) in
     clash (cc (h, w))
 
 -- src/lib.rt:134:9
-add-n : tie.Need-add-n Inv-loop μ-loop
-add-n c = let i = c .before .before .before .before .before in
+add-refs : tie.Need-add-refs Inv-loop μ-loop
+add-refs c = let i = c .before .before .before .before .before in
     let m = i .before .before .before in
     let l = m .before in
     let t = l .before .before .before .before in
-    let (v, e, h, k) = row-read (λ x. asFate (referenceOf x)) (now (t .args .b)) _ _ _ _ _ _ _ (l .loop .inv) (m .item-at .result) (m .item-at .ensures) _ _ _ _ (length-take-le (length (l .loop .out) - l .loop .n) (drop (l .loop .n) (l .loop .out)) (omega (arith, length-drop (l .loop .n) (l .loop .out)))) (i .read-refs .ensures .0) (i .read-refs .ensures .1) in
+    let (v, e, h, k) = row-read (λ x. asFate (referenceOf x)) (now (t .args .b)) _ _ _ _ _ _ _ (l .loop .inv) (m .item-at .result) (m .item-at .ensures) _ _ _ _ (length-take-le (length (l .loop .out) - l .loop .refs) (drop (l .loop .refs) (l .loop .out)) (omega (arith, length-drop (l .loop .refs) (l .loop .out)))) (i .read-refs .ensures .0) (i .read-refs .ensures .1) in
     let j : c .before .k .given .0 .0 ≡ length v = cc (ap toldReadList (c .before .k .given .1), h) in
     let (x, y) = row-place (λ x. asFate (referenceOf x)) (now (t .args .b)) _ _ _ _ _ _ _ (l .loop .inv) (m .item-at .result) (m .item-at .ensures) v e _ _ refl k in
     omega (arith, j, x)
@@ -128,7 +127,7 @@ mul-ends c = let i = c .before .before .before .before .before in
     let m = i .before .before .before in
     let l = m .before in
     let t = l .before .before .before .before in
-    let (v, e, h, k) = row-read (λ x. asFate (referenceOf x)) (now (t .args .b)) _ _ _ _ _ _ _ (l .loop .inv) (m .item-at .result) (m .item-at .ensures) _ _ _ _ (length-take-le (length (l .loop .out) - l .loop .n) (drop (l .loop .n) (l .loop .out)) (omega (arith, length-drop (l .loop .n) (l .loop .out)))) (i .read-refs .ensures .0) (i .read-refs .ensures .1) in
+    let (v, e, h, k) = row-read (λ x. asFate (referenceOf x)) (now (t .args .b)) _ _ _ _ _ _ _ (l .loop .inv) (m .item-at .result) (m .item-at .ensures) _ _ _ _ (length-take-le (length (l .loop .out) - l .loop .refs) (drop (l .loop .refs) (l .loop .out)) (omega (arith, length-drop (l .loop .refs) (l .loop .out)))) (i .read-refs .ensures .0) (i .read-refs .ensures .1) in
     let (x, y) = row-place (λ x. asFate (referenceOf x)) (now (t .args .b)) _ _ _ _ _ _ _ (l .loop .inv) (m .item-at .result) (m .item-at .ensures) v e _ _ refl k in
     omega (arith, y .0)
 
@@ -138,7 +137,7 @@ slice-write-ends c = let i = c .before .before .before .before .before in
     let m = i .before .before .before in
     let l = m .before in
     let t = l .before .before .before .before in
-    let (v, e, h, k) = row-read (λ x. asFate (referenceOf x)) (now (t .args .b)) _ _ _ _ _ _ _ (l .loop .inv) (m .item-at .result) (m .item-at .ensures) _ _ _ _ (length-take-le (length (l .loop .out) - l .loop .n) (drop (l .loop .n) (l .loop .out)) (omega (arith, length-drop (l .loop .n) (l .loop .out)))) (i .read-refs .ensures .0) (i .read-refs .ensures .1) in
+    let (v, e, h, k) = row-read (λ x. asFate (referenceOf x)) (now (t .args .b)) _ _ _ _ _ _ _ (l .loop .inv) (m .item-at .result) (m .item-at .ensures) _ _ _ _ (length-take-le (length (l .loop .out) - l .loop .refs) (drop (l .loop .refs) (l .loop .out)) (omega (arith, length-drop (l .loop .refs) (l .loop .out)))) (i .read-refs .ensures .0) (i .read-refs .ensures .1) in
     let (x, y) = row-place (λ x. asFate (referenceOf x)) (now (t .args .b)) _ _ _ _ _ _ _ (l .loop .inv) (m .item-at .result) (m .item-at .ensures) v e _ _ refl k in
     omega (arith, y .0, y .1)
 
@@ -148,7 +147,7 @@ add-rows c = let i = c .before .before .before .before .before in
     let m = i .before .before .before in
     let l = m .before in
     let t = l .before .before .before .before in
-    let (v, e, h, k) = row-read (λ x. asFate (referenceOf x)) (now (t .args .b)) _ _ _ _ _ _ _ (l .loop .inv) (m .item-at .result) (m .item-at .ensures) _ _ _ _ (length-take-le (length (l .loop .out) - l .loop .n) (drop (l .loop .n) (l .loop .out)) (omega (arith, length-drop (l .loop .n) (l .loop .out)))) (i .read-refs .ensures .0) (i .read-refs .ensures .1) in
+    let (v, e, h, k) = row-read (λ x. asFate (referenceOf x)) (now (t .args .b)) _ _ _ _ _ _ _ (l .loop .inv) (m .item-at .result) (m .item-at .ensures) _ _ _ _ (length-take-le (length (l .loop .out) - l .loop .refs) (drop (l .loop .refs) (l .loop .out)) (omega (arith, length-drop (l .loop .refs) (l .loop .out)))) (i .read-refs .ensures .0) (i .read-refs .ensures .1) in
     omega (arith, l .loop .inv .few, l .loop .inv .within)
 
 -- src/lib.rt:138:13
@@ -157,7 +156,7 @@ same-length-3 c = let i = c .before .before .before .before .before .before in
     let m = i .before .before .before in
     let l = m .before in
     let t = l .before .before .before .before in
-    let (v, e, h, k) = row-read (λ x. asFate (referenceOf x)) (now (t .args .b)) _ _ _ _ _ _ _ (l .loop .inv) (m .item-at .result) (m .item-at .ensures) _ _ _ _ (length-take-le (length (l .loop .out) - l .loop .n) (drop (l .loop .n) (l .loop .out)) (omega (arith, length-drop (l .loop .n) (l .loop .out)))) (i .read-refs .ensures .0) (i .read-refs .ensures .1) in
+    let (v, e, h, k) = row-read (λ x. asFate (referenceOf x)) (now (t .args .b)) _ _ _ _ _ _ _ (l .loop .inv) (m .item-at .result) (m .item-at .ensures) _ _ _ _ (length-take-le (length (l .loop .out) - l .loop .refs) (drop (l .loop .refs) (l .loop .out)) (omega (arith, length-drop (l .loop .refs) (l .loop .out)))) (i .read-refs .ensures .0) (i .read-refs .ensures .1) in
     row-length (λ x. asFate (referenceOf x)) (now (t .args .b)) _ _ _ _ _ _ _ (l .loop .inv) (m .item-at .result) (m .item-at .ensures) v e _ _ refl k
 
 -- src/lib.rt:138:13
@@ -166,7 +165,7 @@ same-length-4 c = let i = c .before .before .before .before .before .before in
     let m = i .before .before .before in
     let l = m .before in
     let t = l .before .before .before .before in
-    let (v, e, h, k) = row-read (λ x. asFate (referenceOf x)) (now (t .args .b)) _ _ _ _ _ _ _ (l .loop .inv) (m .item-at .result) (m .item-at .ensures) _ _ _ _ (length-take-le (length (l .loop .out) - l .loop .n) (drop (l .loop .n) (l .loop .out)) (omega (arith, length-drop (l .loop .n) (l .loop .out)))) (i .read-refs .ensures .0) (i .read-refs .ensures .1) in
+    let (v, e, h, k) = row-read (λ x. asFate (referenceOf x)) (now (t .args .b)) _ _ _ _ _ _ _ (l .loop .inv) (m .item-at .result) (m .item-at .ensures) _ _ _ _ (length-take-le (length (l .loop .out) - l .loop .refs) (drop (l .loop .refs) (l .loop .out)) (omega (arith, length-drop (l .loop .refs) (l .loop .out)))) (i .read-refs .ensures .0) (i .read-refs .ensures .1) in
     let (x, y) = row-place (λ x. asFate (referenceOf x)) (now (t .args .b)) _ _ _ _ _ _ _ (l .loop .inv) (m .item-at .result) (m .item-at .ensures) v e _ _ refl k in
     length-set (l .loop .ends) (l .loop .rows) _ ∙ y .1
 
@@ -176,10 +175,10 @@ returns-2 c = let i = c .before .before .before .before .before .before in
     let m = i .before .before .before in
     let l = m .before in
     let t = l .before .before .before .before in
-    let (v, e, h, k) = row-read (λ x. asFate (referenceOf x)) (now (t .args .b)) _ _ _ _ _ _ _ (l .loop .inv) (m .item-at .result) (m .item-at .ensures) _ _ _ _ (length-take-le (length (l .loop .out) - l .loop .n) (drop (l .loop .n) (l .loop .out)) (omega (arith, length-drop (l .loop .n) (l .loop .out)))) (i .read-refs .ensures .0) (i .read-refs .ensures .1) in
+    let (v, e, h, k) = row-read (λ x. asFate (referenceOf x)) (now (t .args .b)) _ _ _ _ _ _ _ (l .loop .inv) (m .item-at .result) (m .item-at .ensures) _ _ _ _ (length-take-le (length (l .loop .out) - l .loop .refs) (drop (l .loop .refs) (l .loop .out)) (omega (arith, length-drop (l .loop .refs) (l .loop .out)))) (i .read-refs .ensures .0) (i .read-refs .ensures .1) in
     let j : c .before .before .k .given .0 .0 ≡ length v = cc (ap toldReadList (c .before .before .k .given .1), h) in
     let (x, y) = row-last (λ x. asFate (referenceOf x)) (now (t .args .b)) _ _ _ _ _ _ _ (l .loop .inv) (m .item-at .result) (m .item-at .ensures) v e _ _ refl k (c .if1 .taken) in
-    (x, ap (λ (d : ℕ). set (l .loop .ends) (l .loop .rows) (l .loop .n + d)) j ∙ y)
+    (x, ap (λ (d : ℕ). set (l .loop .ends) (l .loop .rows) (l .loop .refs + d)) j ∙ y)
 
 -- src/lib.rt:140:13
 add-i : tie.Need-add-i Inv-loop μ-loop
@@ -195,9 +194,9 @@ loop-again c = let i = c .before .before .before .before .before .before in
     let m = i .before .before .before in
     let l = m .before in
     let t = l .before .before .before .before in
-    let (v, e, h, k) = row-read (λ x. asFate (referenceOf x)) (now (t .args .b)) _ _ _ _ _ _ _ (l .loop .inv) (m .item-at .result) (m .item-at .ensures) _ _ _ _ (length-take-le (length (l .loop .out) - l .loop .n) (drop (l .loop .n) (l .loop .out)) (omega (arith, length-drop (l .loop .n) (l .loop .out)))) (i .read-refs .ensures .0) (i .read-refs .ensures .1) in
+    let (v, e, h, k) = row-read (λ x. asFate (referenceOf x)) (now (t .args .b)) _ _ _ _ _ _ _ (l .loop .inv) (m .item-at .result) (m .item-at .ensures) _ _ _ _ (length-take-le (length (l .loop .out) - l .loop .refs) (drop (l .loop .refs) (l .loop .out)) (omega (arith, length-drop (l .loop .refs) (l .loop .out)))) (i .read-refs .ensures .0) (i .read-refs .ensures .1) in
     let j : c .before .before .k .given .0 .0 ≡ length v = cc (ap toldReadList (c .before .before .k .given .1), h) in
-    subst (λ (d : ℕ). Gridding (λ x. asFate (referenceOf x)) (now (t .args .b)) (now (t .args .out)) (take (l .loop .n) (l .loop .out) ++ (i .read-refs .last .1 .0 ++ drop (length (l .loop .out) - l .loop .n) (drop (l .loop .n) (l .loop .out)))) (now (t .args .ends)) (set (l .loop .ends) (l .loop .rows) (l .loop .n + d)) (m .item-at .result .bound + 1) (l .loop .rows + 1) (l .loop .n + d)) (sym j)
+    subst (λ (d : ℕ). Gridding (λ x. asFate (referenceOf x)) (now (t .args .b)) (now (t .args .out)) (take (l .loop .refs) (l .loop .out) ++ (i .read-refs .last .1 .0 ++ drop (length (l .loop .out) - l .loop .refs) (drop (l .loop .refs) (l .loop .out)))) (now (t .args .ends)) (set (l .loop .ends) (l .loop .rows) (l .loop .refs + d)) (m .item-at .result .bound + 1) (l .loop .rows + 1) (l .loop .refs + d)) (sym j)
     (row-goes (λ x. asFate (referenceOf x)) (now (t .args .b)) _ _ _ _ _ _ _ (l .loop .inv) (m .item-at .result) (m .item-at .ensures) v e _ _ refl k (omega (arith, m .item-at .ensures .within, c .if1 .left)))
 
 pub fill-ref-rows-spec : {M : Type 1} → statement M
@@ -220,7 +219,7 @@ fill-ref-rows-spec =
     same-length
     same-length-2
     returns
-    add-n
+    add-refs
     mul-ends
     slice-write-ends
     add-rows

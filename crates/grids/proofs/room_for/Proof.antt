@@ -1,7 +1,12 @@
 use borrow.Author.Needs.{needs}
 use Rattle.lists.specs.ReadLaws.{roomed-bad}
 use Rattle.grids.specs.Grid.{sizeFits, toldTally}
-use mathlib.Core.Path.{refl, ap, sym, _∙_}
+use mathlib.Core.Path.{ap, sym, _∙_}
+use Rattle.lists.specs.Items.{roomed}
+use Rattle.grids.specs.Grid.{size}
+use Rattle.error.specs.Refusal.{refusal, good, bad}
+use Rattle.lex.specs.Byte.{pick}
+use mathlib.Core.Bool.{Bool}
 use Rattle.grids.proofs.room_for.Statement.{statement}
 use Rattle.grids.proofs.room_for.Tie as tie
 use Rattle.grids.proofs.room_for.Reads as reads
@@ -27,8 +32,9 @@ enum-known-rows c = search needs
 -- src/lib.rt:97:17
 returns : tie.Need-returns
 returns c = let l = c .before .before .before .before in
-    let e = ap toldTally (sym (c .before .before .rows .given .1)) ∙ l .count-grid .ensures in
-    rw (← e) (rw (c .if1 .taken) refl)
+    let t = l .before .before .args in
+    let s = size (c .before .before .rows .given .0 .0) (c .before .before .rows .given .0 .1 .0) in
+    ap (λ (k : Bool). pick k (good s) (bad (refusal 16 0 0))) (sym (c .if1 .taken)) ∙ ap (roomed (sizeFits (t .room) (t .ends)) 0) (ap toldTally (sym (c .before .before .rows .given .1)) ∙ l .count-grid .ensures)
 
 -- src/lib.rt:89:1
 returns-2 : tie.Need-returns-2
@@ -45,8 +51,9 @@ returns-3 c = let l = c .before .before .before in
 -- src/lib.rt:89:1
 returns-4 : tie.Need-returns-4
 returns-4 c = let l = c .before .before .before .before in
-    let e = ap toldTally (sym (c .before .before .rows .given .1)) ∙ l .count-grid .ensures in
-    rw (← e) (rw (c .if1 .left) refl)
+    let t = l .before .before .args in
+    let s = size (c .before .before .rows .given .0 .0) (c .before .before .rows .given .0 .1 .0) in
+    ap (λ (k : Bool). pick k (good s) (bad (refusal 16 0 0))) (sym (c .if1 .left)) ∙ ap (roomed (sizeFits (t .room) (t .ends)) 0) (ap toldTally (sym (c .before .before .rows .given .1)) ∙ l .count-grid .ensures)
 
 pub room-for-spec : {M : Type 1} → statement M
 room-for-spec =
