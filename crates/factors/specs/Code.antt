@@ -1,0 +1,51 @@
+-- What the code's answers say. Assumes nothing.
+use Prim.Native.Nat.{ℕ, _-_}
+use mathlib.Core.List.{List, []}
+use mathlib.Core.Option.{Option, none, some}
+use lib.Ieee.{binary64, toBits}
+use Rattle.error.specs.Refusal.{Told, good, bad, told}
+use mathlib.Core.Bool.{Bool, true, false, _&&_}
+use lib.Dec.{leb}
+use lib.ListN.{length, take, drop}
+use Rattle.lex.specs.Byte.{pick}
+use Rattle.record.specs.Word.{isWord}
+use Rattle.words.specs.declared.NextName as NextNameCode
+use Rattle.params.specs.Reader.{Span, span}
+use Rattle.factors.specs.Thing.{goodBy}
+use Rattle.factors.specs.Factor.{Chain, known, leads}
+use Rattle.factors.specs.declared.Link as LinkCode
+use Rattle.factors.specs.declared.Run as RunCode
+use Rattle.factors.specs.declared.Factor as FactorCode
+use Rattle.factors.specs.declared.Named as NamedCode
+
+-- arguments, none, or a refusal
+abbrev pub toldRun : RunCode.Run → Told (Option Span)
+toldRun (RunCode.the-variants.Args a z) = good (some (span a z))
+toldRun RunCode.the-variants.Nothing = good none
+toldRun (RunCode.the-variants.Refused f) = bad (told f)
+
+-- a factor by its bits, none, or a refusal
+abbrev pub toldFactor : FactorCode.Factor → Told (Option ℕ)
+toldFactor (FactorCode.the-variants.Is x) = good (some (toBits binary64 x))
+toldFactor FactorCode.the-variants.Nothing = good none
+toldFactor (FactorCode.the-variants.Refused f) = bad (told f)
+
+-- an id, or a refusal
+abbrev pub toldId : NamedCode.Named → Told ℕ
+toldId (NamedCode.the-variants.Id k) = good k
+toldId (NamedCode.the-variants.Refused f) = bad (told f)
+
+-- a unit's factor, or the measure it leads to, or a refusal
+abbrev pub toldLink : LinkCode.Link → Told Chain
+toldLink (LinkCode.the-variants.Known f) = goodBy known (toldFactor f)
+toldLink (LinkCode.the-variants.Measure k) = good (leads k)
+
+-- the bytes of a name in the file s; none where it is unreadable, or its places are not in the file
+abbrev pub namedIn : List ℕ → NextNameCode.NextName → List ℕ
+namedIn s (NextNameCode.the-variants.Name a z t) = pick (leb a z && leb z (length s)) (take (z - a) (drop a s)) []
+namedIn s (NextNameCode.the-variants.Refused f t) = []
+
+-- a unit has this name; one whose name is unreadable has it
+abbrev pub isNamed : List ℕ → NextNameCode.NextName → List ℕ → Bool
+isNamed s (NextNameCode.the-variants.Name a z t) w = isWord (namedIn s (NextNameCode.the-variants.Name a z t)) w
+isNamed s (NextNameCode.the-variants.Refused f t) w = true

@@ -1,0 +1,531 @@
+-- Laws for the code: each way out of a function, over plain variables. Assumes nothing.
+use Prim.Native.Nat.{ℕ, zero, suc, _-_, _≤_}
+use Prim.Native.String.{String}
+use mathlib.Core.Path.{_≡_, refl, sym, _∙_, ap, subst}
+use mathlib.Core.Bool.{Bool, true, false, _&&_}
+use mathlib.Core.List.{List, [], _∷_, map}
+use mathlib.Core.Option.{Option, none, some}
+use native.Mathlib.Omega.{arith}
+use borrow.Author.Tests.{le-leb, le-ltb}
+use lib.Dec.{eqb, leb, ltb}
+use lib.ListN.{length, take, drop}
+use Rattle.error.specs.Refusal.{Refusal, refusal, Told, good, bad, told}
+use Rattle.lex.specs.Byte.{pick}
+use Rattle.lex.specs.Right.Steps.{clash}
+use Rattle.record.specs.Turns.{bounds}
+use Rattle.record.specs.Word.{same, isWord}
+use Rattle.record.specs.Form.{bytes}
+use Rattle.statement.specs.Row.{Row, HeaderRow}
+use Rattle.kinds.specs.Kind.{kindOf, rankOf, Named, KindForm, kind-is}
+use Rattle.kinds.specs.declared.Kind.{Kind}
+use Rattle.kinds.specs.declared.Kind.the-variants.{
+  GeometricRepresentationContext,
+  GlobalUnitAssignedContext,
+  GlobalUncertaintyAssignedContext,
+  LengthUnit,
+  PlaneAngleUnit,
+  SolidAngleUnit,
+  SiUnit,
+  ConversionBasedUnit,
+  UncertaintyMeasureWithUnit,
+  LengthMeasureWithUnit,
+  Complex,
+  Other,
+}
+use Rattle.params.specs.Cut.{Cut, cut, unclosed, cutOf, started}
+use Rattle.params.specs.Reader.{Read, reading, Span, span, inFile, within, bounded, begun, onward, mapped, paramOf, skipOf}
+use Rattle.scalars.specs.Scalars.{nextOf, measureOf}
+use Rattle.reals.specs.Scalar.{Answer, referenceOf}
+use Rattle.reals.specs.Prefix.{factorOf, lengthFactorOf}
+use Rattle.words.specs.Words.{nameAt, toldNextName}
+use Rattle.words.specs.Places.{SpanIn, ToldIn, name-in}
+use Rattle.words.specs.declared.NextName as NextNameCode
+use Rattle.parts.specs.Part.{partOf, partsOf, firstKind, isKind}
+use Rattle.index.specs.Search.{searched}
+use Rattle.index.specs.declared.Ids.{Ids}
+use Rattle.lookup.specs.Lookup.{spanFine, spanIn, kindIn, rowFound}
+use Rattle.lookup.specs.Lookup as Lookup
+use Rattle.factors.specs.Thing.{goodBy, sameKind, Piece, pieceOf, Thing, piecesOf, thingAt, thingOf, findOf, firstPiece, selfOr}
+use Rattle.factors.specs.Factor.{
+  nameOr,
+  nextName,
+  prefixIn,
+  unitIn,
+  named,
+  siLength,
+  siAngle,
+  measureRef,
+  optionBy,
+  unreadOf,
+  readOr,
+  scaledBy,
+  measureRun,
+  Chain,
+  known,
+  leads,
+  conversionOf,
+  unitBy,
+  linkOf,
+  chained,
+  baseOf,
+  measureAt,
+  measureIn,
+  lengthOf,
+  numberIn,
+  angleOf,
+}
+use Rattle.factors.specs.Code.{namedIn, isNamed}
+
+-- ---- a record's arguments
+-- a span that was given lies in the file
+span-good : (n a z : ℕ) {p : Lookup.Span} → good p ≡ spanIn n a z → (spanFine n a z ≡ true) × (p ≡ Lookup.span a z)
+span-good n a z {p} = go (spanFine n a z)
+  where
+    go : (b : Bool) → good p ≡ pick b (good (Lookup.span a z)) (bad (refusal 9 0 0)) → (b ≡ true) × (p ≡ Lookup.span a z)
+    go true h = (refl, cc)
+    go false h = clash (cc)
+
+-- of a row whose arguments do not lie in the file nothing is read
+pub thing-out : {A : Type 0} (k : Thing → Told A) (s : List ℕ) (w : Row) {q : Refusal} → bad q ≡ spanIn (length s) (w .argStart) (w .argEnd) → bad (refusal 9 0 0) ≡ onward k (thingOf s w)
+thing-out k s w {q} = go (spanFine (length s) (w .argStart) (w .argEnd))
+  where
+    go : (b : Bool) → bad q ≡ pick b (good (Lookup.span (w .argStart) (w .argEnd))) (bad (refusal 9 0 0)) → bad (refusal 9 0 0) ≡ onward k (pick b (good (thingAt s w)) (bad (refusal 9 0 0)))
+    go true h = clash (cc)
+    go false h = refl
+
+-- a row whose arguments were given is a record
+thing-good : (s : List ℕ) (w : Row) {p : Lookup.Span} → good p ≡ spanIn (length s) (w .argStart) (w .argEnd) → thingOf s w ≡ good (thingAt s w)
+thing-good s w h = rw (span-good (length s) (w .argStart) (w .argEnd) h .0) refl
+
+-- the arguments of a part
+abbrev pub runOf : Told (Option HeaderRow) → Told (Option Span)
+runOf (good none) = good none
+runOf (good (some p)) = good (some (span (p .argStart) (p .argEnd)))
+runOf (bad q) = bad q
+
+-- the first part of a kind, by its row and by its piece
+first-run : (s : List ℕ) (k : Kind) (ps : List HeaderRow) → runOf (good (firstKind s k ps)) ≡ good (firstPiece k (map (pieceOf s) ps))
+first-run s k [] = refl
+first-run s k (p ∷ ps) = go (isKind s k p) (firstKind s k ps) (firstPiece k (map (pieceOf s) ps)) (first-run s k ps)
+  where
+    go : (b : Bool) (x : Option HeaderRow) (y : Option Span) → runOf (good x) ≡ good y → runOf (good (pick b (some p) x)) ≡ good (pick b (some (span (p .argStart) (p .argEnd))) y)
+    go true x y h = refl
+    go false x y h = h
+
+-- `complex_part` gives the first piece's arguments
+part-run : (s : List ℕ) (a z c : ℕ) (k : Kind) → spanFine (length s) a z ≡ true → runOf (partOf s a z c k) ≡ goodBy (firstPiece k) (pick (eqb c 1) (goodBy (map (pieceOf s)) (partsOf s a z)) (good []))
+part-run s a z c k h =
+    let (l, m) = bounds a z (length s) h in
+    rw (le-ltb (length s) z m, le-ltb z a l) (go (eqb c 1) (partsOf s a z))
+  where
+    by : (x : Told (List HeaderRow)) → runOf (goodBy (firstKind s k) x) ≡ goodBy (firstPiece k) (goodBy (map (pieceOf s)) x)
+    by (good ps) = first-run s k ps
+    by (bad q) = refl
+
+    go : (b : Bool) (x : Told (List HeaderRow)) → runOf (pick b (goodBy (firstKind s k) x) (good none)) ≡ goodBy (firstPiece k) (pick b (goodBy (map (pieceOf s)) x) (good []))
+    go true x = by x
+    go false x = refl
+
+module _ (s : List ℕ) (w : Row) {p : Lookup.Span} (given : good p ≡ spanIn (length s) (w .argStart) (w .argEnd)) where
+  -- a record of the kind itself
+  pub self-own : (k : Kind) → sameKind (kindIn s w) k ≡ true → good (some (span (p .start) (p .end))) ≡ onward (selfOr k) (thingOf s w)
+  self-own k e = let (f, g) = span-good (length s) (w .argStart) (w .argEnd) given in rw (g, f, e) refl
+
+  -- a record of another kind, by its parts
+  pub self-part : (k : Kind) {x : Told (Option HeaderRow)} → sameKind (kindIn s w) k ≡ false → x ≡ partOf s (p .start) (p .end) (w .complex) k → runOf x ≡ onward (selfOr k) (thingOf s w)
+  self-part k e h = let (f, g) = span-good (length s) (w .argStart) (w .argEnd) given in
+      rw (f, e) (ap runOf (rw g at h) ∙ part-run s (w .argStart) (w .argEnd) (w .complex) k f)
+
+  -- a complex measure, by its parts
+  pub measure-part : {x : Told (Option HeaderRow)} → eqb (w .complex) 1 ≡ true → x ≡ partOf s (p .start) (p .end) 1 LengthMeasureWithUnit → runOf x ≡ onward measureRun (thingOf s w)
+  measure-part e h = let (f, g) = span-good (length s) (w .argStart) (w .argEnd) given in
+      rw (f, e) (ap runOf (rw g at h) ∙ part-run s (w .argStart) (w .argEnd) 1 LengthMeasureWithUnit f)
+
+-- none of the ten kinds is that of a complex record
+named-simple : (k : Kind) → Named k → eqb (rankOf k) 10 ≡ false
+named-simple GeometricRepresentationContext n = refl
+named-simple GlobalUnitAssignedContext n = refl
+named-simple GlobalUncertaintyAssignedContext n = refl
+named-simple LengthUnit n = refl
+named-simple PlaneAngleUnit n = refl
+named-simple SolidAngleUnit n = refl
+named-simple SiUnit n = refl
+named-simple ConversionBasedUnit n = refl
+named-simple UncertaintyMeasureWithUnit n = refl
+named-simple LengthMeasureWithUnit n = refl
+named-simple Complex n = absurd n
+named-simple Other n = absurd n
+
+-- nor is any keyword's
+word-simple : {t : List ℕ} {k : Kind} → KindForm t k → eqb (rankOf k) 10 ≡ false
+word-simple (KindForm.spelt k n m) = named-simple k n
+word-simple (KindForm.other m) = refl
+
+-- a row that is not marked is of no complex record
+kind-simple : (s : List ℕ) (w : Row) → eqb (w .complex) 1 ≡ false → sameKind (kindIn s w) Complex ≡ false
+kind-simple s w e = rw e (go (spanFine (length s) (w .keyStart) (w .keyEnd)))
+  where
+    go : (b : Bool) → eqb (rankOf (pick b (kindOf (Lookup.cut s (w .keyStart) (w .keyEnd))) Other)) 10 ≡ false
+    go true = word-simple (kind-is (Lookup.cut s (w .keyStart) (w .keyEnd)))
+    go false = refl
+
+-- a simple measure has its own arguments
+pub measure-own : (s : List ℕ) (w : Row) {p : Lookup.Span} → good p ≡ spanIn (length s) (w .argStart) (w .argEnd) → eqb (w .complex) 1 ≡ false → good (some (span (p .start) (p .end))) ≡ onward measureRun (thingOf s w)
+measure-own s w h e = let (f, g) = span-good (length s) (w .argStart) (w .argEnd) h in rw (g, f, kind-simple s w e) refl
+
+-- ---- where the reader reads up to
+-- a parameter leaves the reader's end
+bounded-end : (xs : List ℕ) (e : ℕ) (ys : List ℕ) (c : Cut) → bounded xs e ys c .end ≡ e
+bounded-end xs e ys (cut a b) = refl
+bounded-end xs e ys (unclosed o) = refl
+
+begun-end : (xs : List ℕ) (e : ℕ) (ys : List ℕ) → begun xs e ys .end ≡ e
+begun-end xs e [] = refl
+begun-end xs e (c ∷ r) = bounded-end xs e (c ∷ r) (cutOf (c ∷ r))
+
+param-end : (s : List ℕ) (p e : ℕ) → paramOf s p e .end ≡ e
+unfolding paramOf
+param-end s p e = go (inFile (length s) p e) (begun (take e s) e (started (drop p (take e s)))) (begun-end (take e s) e (started (drop p (take e s))))
+  where
+    go : (b : Bool) (r : Read Span) → r .end ≡ e → pick b r (reading (bad (refusal 9 0 0)) p e) .end ≡ e
+    go true r h = h
+    go false r h = refl
+
+-- so does what is read of it
+next-end : {A : Type 0} (f : List ℕ → Answer A) (s : List ℕ) (p e : ℕ) → nextOf f s p e .end ≡ e
+unfolding nextOf
+next-end f s p e = param-end s p e
+
+skip-end : (s : List ℕ) (p e : ℕ) → skipOf s p e .end ≡ e
+unfolding skipOf
+skip-end s p e = param-end s p e
+
+-- ---- SI units
+-- a name that was read, or none
+prefix-told : (s : List ℕ) (n : NextNameCode.NextName) (t : Told Span) → toldNextName n .answer ≡ t → ToldIn (length s) (SpanIn (length s)) t → namedIn s n ≡ nameOr [] s t
+prefix-told s (NextNameCode.the-variants.Name a z to) t h = subst (λ (u : Told Span). ToldIn (length s) (SpanIn (length s)) u → namedIn s (NextNameCode.the-variants.Name a z to) ≡ nameOr [] s u) h
+    (λ k. rw (le-leb a z (k .0), le-leb z (length s) (k .1)) refl)
+prefix-told s (NextNameCode.the-variants.Refused f to) t h = subst (λ (u : Told Span). ToldIn (length s) (SpanIn (length s)) u → [] ≡ nameOr [] s u) h (λ k. refl)
+
+-- a unit's own name is its name
+metre-self : isWord (bytes "METRE") (bytes "METRE") ≡ true
+unfolding same
+metre-self = refl
+
+radian-self : isWord (bytes "RADIAN") (bytes "RADIAN") ≡ true
+unfolding same
+radian-self = refl
+
+-- a name that was read, or the unit's own
+unit-told : (s w : List ℕ) → isWord w w ≡ true → (n : NextNameCode.NextName) (t : Told Span) → toldNextName n .answer ≡ t → ToldIn (length s) (SpanIn (length s)) t → isNamed s n w ≡ isWord (nameOr w s t) w
+unit-told s w e (NextNameCode.the-variants.Name a z to) t h = subst (λ (u : Told Span). ToldIn (length s) (SpanIn (length s)) u → isNamed s (NextNameCode.the-variants.Name a z to) w ≡ isWord (nameOr w s u) w) h
+    (λ k. rw (le-leb a z (k .0), le-leb z (length s) (k .1)) refl)
+unit-told s w e (NextNameCode.the-variants.Refused f to) t h = subst (λ (u : Told Span). ToldIn (length s) (SpanIn (length s)) u → true ≡ isWord (nameOr w s u) w) h (λ k. sym e)
+
+module _ (s : List ℕ) (a z : ℕ) (first second : NextNameCode.NextName) {p e : ℕ} (one : toldNextName first ≡ nextName s a z) (place : p ≡ toldNextName first .place) (end : e ≡ toldNextName first .end) (two : toldNextName second ≡ nextName s p e) where
+  -- the second name is read from where the reader stands after the first
+  second-told : toldNextName second ≡ nextName s (nextName s a z .place) z
+  second-told =
+      let f : p ≡ nextName s a z .place = place ∙ ap (λ (x : Read Span). x .place) one in
+      let g : e ≡ z = end ∙ ap (λ (x : Read Span). x .end) one ∙ param-end s a z in
+      two ∙ ap (λ (x : ℕ). nextName s x e) f ∙ ap (λ (x : ℕ). nextName s (nextName s a z .place) x) g
+
+  -- whether the unit has the name
+  unit-is : (name : String) → isWord (bytes name) (bytes name) ≡ true → isNamed s second (bytes name) ≡ isWord (unitIn name s (span a z)) (bytes name)
+  unit-is name k = unit-told s (bytes name) k second (nextName s (nextName s a z .place) z .answer) (ap (λ (x : Read Span). x .answer) second-told) (name-in s (nextName s a z .place) z)
+
+  -- the prefix
+  prefix-is : namedIn s first ≡ prefixIn s (span a z)
+  prefix-is = prefix-told s first (nextName s a z .answer) (ap (λ (x : Read Span). x .answer) one) (name-in s a z)
+
+  -- "another name no factor"
+  pub length-other : isNamed s second (bytes "METRE") ≡ false → good none ≡ good (siLength s (span a z))
+  unfolding siLength
+  length-other h = ap good (go (isWord (unitIn "METRE" s (span a z)) (bytes "METRE")) (sym (unit-is "METRE" metre-self) ∙ h))
+    where
+      go : (b : Bool) → b ≡ false → none ≡ pick b (some (lengthFactorOf (prefixIn s (span a z)))) none
+      go b k = rw k refl
+
+  pub length-is : isNamed s second (bytes "METRE") ≡ true → {v : ℕ} → v ≡ lengthFactorOf (namedIn s first) → good (some v) ≡ good (siLength s (span a z))
+  unfolding siLength
+  length-is h {v} l = ap good (go (isWord (unitIn "METRE" s (span a z)) (bytes "METRE")) (sym (unit-is "METRE" metre-self) ∙ h))
+    where
+      go : (b : Bool) → b ≡ true → some v ≡ pick b (some (lengthFactorOf (prefixIn s (span a z)))) none
+      go b k = rw k (ap some (l ∙ ap lengthFactorOf prefix-is))
+
+  pub angle-other : isNamed s second (bytes "RADIAN") ≡ false → good none ≡ good (siAngle s (span a z))
+  unfolding siAngle
+  angle-other h = ap good (go (isWord (unitIn "RADIAN" s (span a z)) (bytes "RADIAN")) (sym (unit-is "RADIAN" radian-self) ∙ h))
+    where
+      go : (b : Bool) → b ≡ false → none ≡ pick b (some (factorOf (prefixIn s (span a z)))) none
+      go b k = rw k refl
+
+  pub angle-is : isNamed s second (bytes "RADIAN") ≡ true → {v : ℕ} → v ≡ factorOf (namedIn s first) → good (some v) ≡ good (siAngle s (span a z))
+  unfolding siAngle
+  angle-is h {v} l = ap good (go (isWord (unitIn "RADIAN" s (span a z)) (bytes "RADIAN")) (sym (unit-is "RADIAN" radian-self) ∙ h))
+    where
+      go : (b : Bool) → b ≡ true → some v ≡ pick b (some (factorOf (prefixIn s (span a z)))) none
+      go b k = rw k (ap some (l ∙ ap factorOf prefix-is))
+
+-- ---- conversion units
+module _ (s : List ℕ) (a z : ℕ) where
+  -- a name that cannot be skipped
+  pub ref-refused : {q : Refusal} {p e : ℕ} → reading (bad q) p e ≡ skipOf s a z → bad q ≡ measureRef s (span a z)
+  unfolding measureRef
+  ref-refused h = rw (← h) refl
+
+  -- behind it the reference
+  pub ref-past : {p e : ℕ} {x : Read ℕ} → reading (good tt) p e ≡ skipOf s a z → x ≡ nextOf referenceOf s p e → x .answer ≡ measureRef s (span a z)
+  unfolding measureRef
+  ref-past {p} {e} h k =
+      let l : e ≡ z = ap (λ (r : Read (Unit {0})). r .end) h ∙ skip-end s a z in
+      rw (← h) (ap (λ (r : Read ℕ). r .answer) (k ∙ ap (λ (y : ℕ). nextOf referenceOf s p y) l))
+
+module _ (s : List ℕ) (left start : ℕ) (r : Span) where
+  -- none is left
+  pub conversion-deep : left ≡ 0 → bad (refusal 15 0 start) ≡ conversionOf s left start r
+  conversion-deep h = rw h refl
+
+  -- one is left
+  pub conversion-refused : {q : Refusal} → eqb left 0 ≡ false → bad q ≡ measureRef s r → bad q ≡ conversionOf s left start r
+  conversion-refused h k = rw (h, ← k) refl
+
+  pub conversion-leads : {i : ℕ} → eqb left 0 ≡ false → good i ≡ measureRef s r → good (leads i) ≡ conversionOf s left start r
+  conversion-leads h k = rw (h, ← k) refl
+
+-- ---- an SI part goes before a conversion
+module _ {A : Type 0} (si : Span → Told A) (conversion : Thing → Span → Told A) (neither : A) where
+  -- what is made of a unit
+  abbrev By : Told Thing → Told A
+  By x = onward (λ t. unitBy si (conversion t) neither t) x
+
+  -- a fault in the parts
+  unit-refused : {q : Refusal} (x : Told Thing) → bad q ≡ onward (selfOr SiUnit) x → bad q ≡ By x
+  unit-refused (good t) h = rw (← h) refl
+  unit-refused {q} (bad r) h = let e : q ≡ r = cc in ap bad e
+
+  -- an SI unit
+  unit-si : {r : Span} {y : Told A} (x : Told Thing) → good (some r) ≡ onward (selfOr SiUnit) x → y ≡ si r → y ≡ By x
+  unit-si (good t) h e = rw (← h) e
+  unit-si (bad r) h e = clash (cc)
+
+  -- neither
+  unit-neither : (x : Told Thing) → good none ≡ onward (selfOr SiUnit) x → good none ≡ onward (selfOr ConversionBasedUnit) x → good neither ≡ By x
+  unit-neither (good t) h k = rw (← h, ← k) refl
+  unit-neither (bad r) h k = clash (cc)
+
+  -- a fault that is met only then
+  unit-late : {q : Refusal} (x : Told Thing) → good none ≡ onward (selfOr SiUnit) x → bad q ≡ onward (selfOr ConversionBasedUnit) x → bad q ≡ By x
+  unit-late (good t) h k = rw (← h, ← k) refl
+  unit-late (bad r) h k = clash (cc)
+
+  -- a conversion unit
+  unit-conversion : {r : Span} {y : Told A} (s : List ℕ) (w : Row) → good none ≡ onward (selfOr SiUnit) (thingOf s w) → good (some r) ≡ onward (selfOr ConversionBasedUnit) (thingOf s w)
+      → y ≡ conversion (thingAt s w) r → y ≡ By (thingOf s w)
+  unit-conversion {r} {y} s w h k e = go (spanFine (length s) (w .argStart) (w .argEnd)) h k
+    where
+      go : (b : Bool) → good none ≡ onward (selfOr SiUnit) (pick b (good (thingAt s w)) (bad (refusal 9 0 0)))
+          → good (some r) ≡ onward (selfOr ConversionBasedUnit) (pick b (good (thingAt s w)) (bad (refusal 9 0 0)))
+          → y ≡ By (pick b (good (thingAt s w)) (bad (refusal 9 0 0)))
+      go true l m = rw (← l, ← m) e
+      go false l m = clash (cc)
+
+-- ---- a length unit
+module _ (s : List ℕ) (left : ℕ) where
+  -- a fault in the parts
+  pub link-refused : {q : Refusal} (x : Told Thing) → bad q ≡ onward (selfOr SiUnit) x → bad q ≡ onward (linkOf s left) x
+  unfolding linkOf
+  link-refused x h = unit-refused (λ r. good (known (siLength s r))) (λ t. conversionOf s left (t .run .start)) (known none) x h
+
+  -- an SI unit
+  pub link-si : {r : Span} {y : Told (Option ℕ)} (x : Told Thing) → good (some r) ≡ onward (selfOr SiUnit) x → y ≡ good (siLength s r) → goodBy known y ≡ onward (linkOf s left) x
+  unfolding linkOf
+  link-si x h e = unit-si (λ r. good (known (siLength s r))) (λ t. conversionOf s left (t .run .start)) (known none) x h (ap (goodBy known) e)
+
+  -- neither
+  pub link-neither : (x : Told Thing) → good none ≡ onward (selfOr SiUnit) x → good none ≡ onward (selfOr ConversionBasedUnit) x → good (known none) ≡ onward (linkOf s left) x
+  unfolding linkOf
+  link-neither x h k = unit-neither (λ r. good (known (siLength s r))) (λ t. conversionOf s left (t .run .start)) (known none) x h k
+
+  -- a fault that is met only then
+  pub link-late : {q : Refusal} (x : Told Thing) → good none ≡ onward (selfOr SiUnit) x → bad q ≡ onward (selfOr ConversionBasedUnit) x → bad q ≡ onward (linkOf s left) x
+  unfolding linkOf
+  link-late x h k = unit-late (λ r. good (known (siLength s r))) (λ t. conversionOf s left (t .run .start)) (known none) x h k
+
+  -- a conversion unit
+  pub link-conversion : {r : Span} {y : Told Chain} (w : Row) → good none ≡ onward (selfOr SiUnit) (thingOf s w) → good (some r) ≡ onward (selfOr ConversionBasedUnit) (thingOf s w)
+      → y ≡ conversionOf s left (w .argStart) r → y ≡ onward (linkOf s left) (thingOf s w)
+  unfolding linkOf
+  link-conversion w h k e = unit-conversion (λ r. good (known (siLength s r))) (λ t. conversionOf s left (t .run .start)) (known none) s w h k e
+
+-- ---- an angle unit
+module _ (s : List ℕ) (find : ℕ → Told (Option Thing)) where
+  -- a fault in the parts
+  pub angle-refused : {q : Refusal} (x : Told Thing) → bad q ≡ onward (selfOr SiUnit) x → bad q ≡ onward (angleOf s find) x
+  unfolding angleOf
+  angle-refused x h = unit-refused (λ r. good (siAngle s r)) (λ t r. onward (numberIn s find) (measureRef s r)) none x h
+
+  -- an SI unit
+  pub angle-si : {r : Span} {y : Told (Option ℕ)} (x : Told Thing) → good (some r) ≡ onward (selfOr SiUnit) x → y ≡ good (siAngle s r) → y ≡ onward (angleOf s find) x
+  unfolding angleOf
+  angle-si x h e = unit-si (λ r. good (siAngle s r)) (λ t r. onward (numberIn s find) (measureRef s r)) none x h e
+
+  -- neither
+  pub angle-neither : (x : Told Thing) → good none ≡ onward (selfOr SiUnit) x → good none ≡ onward (selfOr ConversionBasedUnit) x → good none ≡ onward (angleOf s find) x
+  unfolding angleOf
+  angle-neither x h k = unit-neither (λ r. good (siAngle s r)) (λ t r. onward (numberIn s find) (measureRef s r)) none x h k
+
+  -- a fault that is met only then
+  pub angle-late : {q : Refusal} (x : Told Thing) → good none ≡ onward (selfOr SiUnit) x → bad q ≡ onward (selfOr ConversionBasedUnit) x → bad q ≡ onward (angleOf s find) x
+  unfolding angleOf
+  angle-late x h k = unit-late (λ r. good (siAngle s r)) (λ t r. onward (numberIn s find) (measureRef s r)) none x h k
+
+  -- a conversion unit
+  pub angle-conversion : {r : Span} {y : Told (Option ℕ)} (w : Row) → good none ≡ onward (selfOr SiUnit) (thingOf s w) → good (some r) ≡ onward (selfOr ConversionBasedUnit) (thingOf s w)
+      → y ≡ onward (numberIn s find) (measureRef s r) → y ≡ onward (angleOf s find) (thingOf s w)
+  unfolding angleOf
+  angle-conversion w h k e = unit-conversion (λ r. good (siAngle s r)) (λ t r. onward (numberIn s find) (measureRef s r)) none s w h k e
+
+-- ---- the chain of conversion units
+-- the conversion unit for which none is left leads nowhere
+link-ends : (s : List ℕ) {i : ℕ} (x : Told Thing) → good (leads i) ≡ onward (linkOf s 0) x → ⊥
+unfolding linkOf
+link-ends s (bad r) h = clash (cc)
+link-ends s {i} (good t) h = go (selfOr SiUnit t) (selfOr ConversionBasedUnit t) h
+  where
+    go : (x y : Told (Option Span)) → good (leads i) ≡ onward (optionBy (onward (optionBy (good (known none)) (conversionOf s 0 (t .run .start))) y) (λ r. good (known (siLength s r)))) x → ⊥
+    go (bad q) y k = clash (cc)
+    go (good (some r)) y k = clash (cc)
+    go (good none) (bad q) k = clash (cc)
+    go (good none) (good none) k = clash (cc)
+    go (good none) (good (some r)) k = clash (cc)
+
+-- a factor that is known goes on unchanged
+known-on : (k : ℕ → Told (Option ℕ)) (x : Told (Option ℕ)) (y : Told Chain) → goodBy known x ≡ y → x ≡ onward (chained k) y
+known-on k (good f) y h = subst (λ (u : Told Chain). good f ≡ onward (chained k) u) h refl
+known-on k (bad q) y h = subst (λ (u : Told Chain). bad q ≡ onward (chained k) u) h refl
+
+-- a refusal is the same whatever is told
+same-bad : {A B : Type 0} {q r : Refusal} → _≡_ {A = Told A} (bad q) (bad r) → _≡_ {A = Told B} (bad q) (bad r)
+same-bad {q} {r} h = let e : q ≡ r = cc in ap bad e
+
+module _ (s : List ℕ) (find : ℕ → Told (Option Thing)) where
+  -- a unit whose factor is known
+  pub chain-known : (left : ℕ) (t : Told Thing) (x : Told (Option ℕ)) → goodBy known x ≡ onward (linkOf s left) t → x ≡ onward (lengthOf s find left) t
+  unfolding lengthOf
+  chain-known left (bad r) (good f) h = clash (cc)
+  chain-known left (bad r) (bad q) h = same-bad h
+  chain-known zero (good t) x h = known-on (λ i. good none) x (linkOf s zero t) h
+  chain-known (suc n) (good t) x h = known-on (measureIn s find (λ b. lengthOf s find n b)) x (linkOf s (suc n) t) h
+
+  -- a unit that leads to a measure
+  pub chain-leads : (left : ℕ) (t : Told Thing) {i : ℕ} {x : Told (Option ℕ)} → good (leads i) ≡ onward (linkOf s left) t → x ≡ measureIn s find (lengthOf s find (left - 1)) i → x ≡ onward (lengthOf s find left) t
+  unfolding lengthOf
+  chain-leads zero t h e = absurd (link-ends s t h)
+  chain-leads (suc n) (bad r) h e = clash (cc)
+  chain-leads (suc n) (good t) h e = let k : suc n - 1 ≡ n = omega arith in rw (← h) (rw k at e)
+
+-- one is left for the unit that leads on
+pub chain-left : (s : List ℕ) (left : ℕ) (t : Told Thing) {i : ℕ} → good (leads i) ≡ onward (linkOf s left) t → 1 ≤ left
+chain-left s zero t h = absurd (link-ends s t h)
+chain-left s (suc n) t h = omega arith
+
+-- ---- records by their ids
+module _ (s rows slots : List ℕ) (ids : Ids) (i : ℕ) where
+  -- none has the id
+  pub find-none : none ≡ rowFound rows (searched rows slots ids i) → findOf s rows slots ids i ≡ good none
+  unfolding findOf
+  find-none h = rw (← h) refl
+
+  -- one has
+  pub find-row : {w : Row} → some w ≡ rowFound rows (searched rows slots ids i) → findOf s rows slots ids i ≡ goodBy some (thingOf s w)
+  unfolding findOf
+  find-row h = rw (← h) refl
+
+-- ---- measures
+module _ (s : List ℕ) (find : ℕ → Told (Option Thing)) (k : Thing → Told (Option ℕ)) (i : ℕ) where
+  -- "a missing record [..] gives no factor"
+  pub measure-missing : find i ≡ good none → good none ≡ measureIn s find k i
+  unfolding measureIn
+  measure-missing h = rw h refl
+
+  -- a fault in its parts
+  pub measure-refused : (t : Told Thing) {q : Refusal} → find i ≡ goodBy some t → bad q ≡ onward measureRun t → bad q ≡ measureIn s find k i
+  unfolding measureIn
+  measure-refused (good t) h e = rw (h, ← e) refl
+  measure-refused (bad r) h e = rw h (same-bad e)
+
+  -- "nor does a complex length measure lacking a LENGTH_MEASURE_WITH_UNIT part"
+  pub measure-none : (t : Told Thing) → find i ≡ goodBy some t → good none ≡ onward measureRun t → good none ≡ measureIn s find k i
+  unfolding measureIn
+  measure-none (good t) h e = rw (h, ← e) refl
+  measure-none (bad r) h e = clash (cc)
+
+  -- its arguments
+  pub measure-some : (t : Told Thing) {r : Span} → find i ≡ goodBy some t → good (some r) ≡ onward measureRun t → measureIn s find k i ≡ measureAt s find k r
+  unfolding measureIn
+  measure-some (good t) h e = rw (h, ← e) refl
+  measure-some (bad r) h e = clash (cc)
+
+-- an unreadable number, whatever would follow
+unread-or : (k : ℕ → Told (Option ℕ)) (x : Told ℕ) {q : Refusal} → x ≡ bad q → unreadOf x ≡ readOr x k
+unread-or k x h = rw h refl
+
+module _ (s : List ℕ) (find : ℕ → Told (Option Thing)) (k : Thing → Told (Option ℕ)) (a z : ℕ) where
+  -- an unreadable number
+  pub at-unread : {y : Read ℕ} {q : Refusal} → y ≡ nextOf measureOf s a z → y .answer ≡ bad q → unreadOf (y .answer) ≡ measureAt s find k (span a z)
+  at-unread {y} h e = subst (λ (u : Read ℕ). unreadOf (y .answer) ≡ readOr (u .answer) (λ v. baseOf s find k v (u .place) z)) h (unread-or (λ v. baseOf s find k v (y .place) z) (y .answer) e)
+
+  -- a number, and behind it the base
+  pub at-read : {v p e : ℕ} → reading (good v) p e ≡ nextOf measureOf s a z → measureAt s find k (span a z) ≡ baseOf s find k v p e
+  at-read {v} {p} {e} h =
+      let l : e ≡ z = ap (λ (r : Read ℕ). r .end) h ∙ next-end measureOf s a z in
+      rw (← h, l) refl
+
+module _ (s : List ℕ) (find : ℕ → Told (Option Thing)) (k : Thing → Told (Option ℕ)) (v p e : ℕ) where
+  -- "an unreadable [..] base"
+  pub base-unread : {q : Refusal} {o f : ℕ} → reading (bad q) o f ≡ nextOf referenceOf s p e → good none ≡ baseOf s find k v p e
+  base-unread h = rw (← h) refl
+
+  -- a base that has no record
+  pub base-missing : {b o f : ℕ} → reading (good b) o f ≡ nextOf referenceOf s p e → find b ≡ good none → good none ≡ baseOf s find k v p e
+  base-missing h g = rw (← h, g) refl
+
+  -- "value times base factor"
+  pub base-row : {b o f : ℕ} (t : Told Thing) {x : Told (Option ℕ)} → reading (good b) o f ≡ nextOf referenceOf s p e → find b ≡ goodBy some t → x ≡ onward k t → scaledBy v x ≡ baseOf s find k v p e
+  base-row (good t) h g l = rw (← h, g, ← l) refl
+  base-row (bad r) h g l = rw (← h, g, l) refl
+
+-- ---- angles
+module _ (s : List ℕ) (find : ℕ → Told (Option Thing)) (i : ℕ) where
+  -- "a missing record [..] gives no factor"
+  pub number-missing : find i ≡ good none → good none ≡ numberIn s find i
+  unfolding numberIn
+  number-missing h = rw h refl
+
+  -- a record outside the file
+  pub number-out : (w : Row) {q : Refusal} → find i ≡ goodBy some (thingOf s w) → bad q ≡ spanIn (length s) (w .argStart) (w .argEnd) → bad (refusal 9 0 0) ≡ numberIn s find i
+  unfolding numberIn
+  number-out w h e = rw h (go (thingOf s w) (thing-out (λ t. good t) s w e))
+    where
+      go : (x : Told Thing) → bad (refusal 9 0 0) ≡ onward (λ t. good t) x → bad (refusal 9 0 0) ≡ onward (optionBy (good none) (λ t. readOr (nextOf measureOf s (t .run .start) (t .run .stop) .answer) (λ v. good (some v)))) (goodBy some x)
+      go (good t) l = clash (cc)
+      go (bad r) l = same-bad l
+
+  -- the number's answer
+  number-some : (w : Row) {p : Lookup.Span} {y : Read ℕ} → find i ≡ goodBy some (thingOf s w) → good p ≡ spanIn (length s) (w .argStart) (w .argEnd) → y ≡ nextOf measureOf s (p .start) (p .end)
+      → numberIn s find i ≡ readOr (y .answer) (λ v. good (some v))
+  unfolding numberIn
+  number-some w h e g =
+      let (f, l) = span-good (length s) (w .argStart) (w .argEnd) e in
+      rw (h, f) (ap (λ (x : Read ℕ). readOr (x .answer) (λ v. good (some v))) (sym (rw l at g)))
+
+  -- an unreadable number
+  pub number-unread : (w : Row) {p : Lookup.Span} {y : Read ℕ} {q : Refusal} → find i ≡ goodBy some (thingOf s w) → good p ≡ spanIn (length s) (w .argStart) (w .argEnd) → y ≡ nextOf measureOf s (p .start) (p .end)
+      → y .answer ≡ bad q → unreadOf (y .answer) ≡ numberIn s find i
+  number-unread w {p} {y} h e g l = unread-or (λ v. good (some v)) (y .answer) l ∙ sym (number-some w h e g)
+
+  -- "An angle's conversion gives the measure's number alone."
+  pub number-read : (w : Row) {p : Lookup.Span} {v o f : ℕ} → find i ≡ goodBy some (thingOf s w) → good p ≡ spanIn (length s) (w .argStart) (w .argEnd) → reading (good v) o f ≡ nextOf measureOf s (p .start) (p .end)
+      → good (some v) ≡ numberIn s find i
+  number-read w h e g = sym (number-some w h e g)

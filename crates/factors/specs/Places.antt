@@ -1,0 +1,268 @@
+-- "with a place from 0 to the input's length" (demand 1), for the factor of a unit: every refusal lies in the file, whatever the lent
+-- tables hold. Assumes nothing.
+use Prim.Native.Nat.{ℕ, zero, suc, _+_, _-_, _≤_}
+use mathlib.Core.Path.{_≡_, refl}
+use mathlib.Core.Bool.{Bool, true, false}
+use mathlib.Core.List.{List, [], _∷_, map}
+use mathlib.Core.Option.{Option, none, some}
+use native.Mathlib.Omega.{arith}
+use lib.Dec.{eqb, ltb}
+use lib.ListN.{length, take, drop}
+use Rattle.error.specs.Refusal.{Refusal, refusal, Told, good, bad}
+use Rattle.lex.specs.Byte.{pick, place}
+use Rattle.lex.specs.Search.{Sought, at, fault, closing, placed}
+use Rattle.record.specs.Turns.{bounds}
+use Rattle.record.specs.Text.{past}
+use Rattle.record.specs.Head.{headerHead}
+use Rattle.record.specs.declared.Head.{Head}
+use Rattle.record.specs.declared.Head.the-variants.{Bad, Complex, Simple}
+use Rattle.statement.specs.Row.{Row, HeaderRow, mapped}
+use Rattle.kinds.specs.declared.Kind.{Kind}
+use Rattle.kinds.specs.declared.Kind.the-variants.{SiUnit, ConversionBasedUnit, LengthMeasureWithUnit}
+use Rattle.kinds.specs.declared.Kind.the-variants as Kinds
+use Rattle.params.specs.Reader.{Span, onward, skipOf}
+use Rattle.params.specs.Places.{PlacedIn, skip-placed}
+use Rattle.scalars.specs.Scalars.{nextOf, measureOf}
+use Rattle.scalars.specs.Places.{next-placed}
+use Rattle.reals.specs.Scalar.{referenceOf}
+use Rattle.words.specs.Places.{ToldIn}
+use Rattle.parts.specs.Part.{separator, partBy, partIn, partsBy, partsFrom, partsOf}
+use Rattle.parts.specs.Part as Part
+use Rattle.index.specs.Search.{searched}
+use Rattle.index.specs.declared.Ids.{Ids}
+use Rattle.lookup.specs.Lookup.{spanFine, rowFound}
+use Rattle.factors.specs.Thing.{goodBy, sameKind, pieceOf, Thing, thingAt, thingOf, thingFound, findOf, firstPiece, selfOr}
+use Rattle.factors.specs.Factor.{
+  siLength,
+  siAngle,
+  measureRef,
+  optionBy,
+  readOr,
+  orNone,
+  scaledBy,
+  measureRun,
+  Chain,
+  known,
+  leads,
+  conversionOf,
+  unitBy,
+  linkOf,
+  chained,
+  baseOf,
+  measureAt,
+  measureIn,
+  lengthOf,
+  numberIn,
+  angleOf,
+}
+
+-- ---- the parts of a complex record
+-- where a `)` is sought
+sought-placed : {A : Type 0} (s : List ℕ) (f : ℕ → A) (x : Sought) → PlacedIn (length s) (mapped f (placed s x))
+sought-placed s f (at r) = tt
+sought-placed s f (fault n o) = omega arith
+
+-- the next part
+part-placed : (s : List ℕ) (from end : ℕ) → PlacedIn (length s) (Part.nextOf s from end)
+unfolding Part.nextOf
+part-placed s from end = go (ltb (length s) end)
+  where
+    m : List ℕ
+    m = take (end - from) (drop from s)
+
+    by : (a : ℕ) (h : Head) → PlacedIn (length s) (partBy s a h)
+    by a (Bad why) = tt
+    by a (Complex i o) = tt
+    by a (Simple i k z o) = sought-placed s _ (closing (drop (a + o) s))
+
+    go : (b : Bool) → PlacedIn (length s) (pick b (bad (refusal 9 0 0)) (partIn s from m))
+    go true = omega arith
+    go false = by (from + place m (past separator m)) (headerHead (past separator m))
+
+-- all parts
+parts-placed : (n : ℕ) (s : List ℕ) (from end : ℕ) → PlacedIn (length s) (partsFrom n s from end)
+unfolding partsFrom
+parts-placed zero s from end = omega arith
+parts-placed (suc n) s from end = go (Part.nextOf s from end) (part-placed s from end) (λ p. parts-placed n s (p .argEnd + 1) end)
+  where
+    add : (p : HeaderRow) (x : Told (List HeaderRow)) → PlacedIn (length s) x → PlacedIn (length s) (Part.before p x)
+    add p (good ps) h = tt
+    add p (bad q) h = h
+
+    go : (x : Told (Option HeaderRow)) → PlacedIn (length s) x → ((p : HeaderRow) → PlacedIn (length s) (partsFrom n s (p .argEnd + 1) end)) → PlacedIn (length s) (partsBy x (λ p. partsFrom n s (p .argEnd + 1) end))
+    go (bad q) h k = h
+    go (good none) h k = tt
+    go (good (some p)) h k = add p (partsFrom n s (p .argEnd + 1) end) (k p)
+
+-- ---- answers put together
+module _ {A B : Type 0} (n : ℕ) where
+  -- by a function
+  by-placed : (f : A → B) (x : Told A) → PlacedIn n x → PlacedIn n (goodBy f x)
+  by-placed f (good a) h = tt
+  by-placed f (bad q) h = h
+
+  -- read on
+  on-placed : (F : A → Type 0) (f : A → Told B) (x : Told A) → ToldIn n F x → ((a : A) → F a → PlacedIn n (f a)) → PlacedIn n (onward f x)
+  on-placed F f (good a) h k = k a h
+  on-placed F f (bad q) h k = h
+
+  -- read on, whatever was told
+  any-placed : (f : A → Told B) (x : Told A) → PlacedIn n x → ((a : A) → PlacedIn n (f a)) → PlacedIn n (onward f x)
+  any-placed f (good a) h k = k a
+  any-placed f (bad q) h k = h
+
+  -- where there may be none
+  option-placed : (other : Told B) (f : A → Told B) (x : Told (Option A)) → PlacedIn n x → PlacedIn n other → ((a : A) → PlacedIn n (f a)) → PlacedIn n (onward (optionBy other f) x)
+  option-placed other f (good none) h o k = o
+  option-placed other f (good (some a)) h o k = k a
+  option-placed other f (bad q) h o k = h
+
+-- ---- records
+-- a record of a file of n bytes: it begins in the file, and so does a fault in its parts
+abbrev pub ThingIn : ℕ → Thing → Type 0
+ThingIn n t = (t .run .start ≤ n) × PlacedIn n (t .parts)
+
+-- one that was found, or none
+abbrev pub FoundIn : ℕ → Option Thing → Type 0
+FoundIn n none = Unit {0}
+FoundIn n (some t) = ThingIn n t
+
+-- the record of a row
+pub thing-in : (s : List ℕ) (w : Row) → ToldIn (length s) (ThingIn (length s)) (thingOf s w)
+thing-in s w = go (spanFine (length s) (w .argStart) (w .argEnd)) refl
+  where
+    pieces : (b : Bool) → PlacedIn (length s) (pick b (goodBy (map (pieceOf s)) (partsOf s (w .argStart) (w .argEnd))) (good []))
+    pieces true = by-placed (length s) (map (pieceOf s)) (partsOf s (w .argStart) (w .argEnd)) (parts-placed (suc (length s)) s (w .argStart) (w .argEnd))
+    pieces false = tt
+
+    go : (b : Bool) → spanFine (length s) (w .argStart) (w .argEnd) ≡ b → ToldIn (length s) (ThingIn (length s)) (pick b (good (thingAt s w)) (bad (refusal 9 0 0)))
+    go true e = let (h, k) = bounds (w .argStart) (w .argEnd) (length s) e in (omega arith, pieces (eqb (w .complex) 1))
+    go false e = omega arith
+
+-- the record of an id
+pub find-in : (s rows slots : List ℕ) (ids : Ids) (i : ℕ) → ToldIn (length s) (FoundIn (length s)) (findOf s rows slots ids i)
+unfolding findOf
+find-in s rows slots ids i = go (rowFound rows (searched rows slots ids i))
+  where
+    one : (x : Told Thing) → ToldIn (length s) (ThingIn (length s)) x → ToldIn (length s) (FoundIn (length s)) (goodBy some x)
+    one (good t) h = h
+    one (bad q) h = h
+
+    go : (x : Option Row) → ToldIn (length s) (FoundIn (length s)) (thingFound s x)
+    go none = tt
+    go (some w) = one (thingOf s w) (thing-in s w)
+
+-- the arguments of a record of a kind, or of its first part of that kind
+self-in : (n : ℕ) (k : Kind) (t : Thing) → ThingIn n t → PlacedIn n (selfOr k t)
+self-in n k t h = go (sameKind (t .kind) k)
+  where
+    go : (b : Bool) → PlacedIn n (pick b (good (some (t .run))) (goodBy (firstPiece k) (t .parts)))
+    go true = tt
+    go false = by-placed n (firstPiece k) (t .parts) (h .1)
+
+-- the arguments of a measure
+run-in : (n : ℕ) (t : Thing) → ThingIn n t → PlacedIn n (measureRun t)
+run-in n t h = go (sameKind (t .kind) Kinds.Complex)
+  where
+    go : (b : Bool) → PlacedIn n (pick b (goodBy (firstPiece LengthMeasureWithUnit) (t .parts)) (good (some (t .run))))
+    go true = by-placed n (firstPiece LengthMeasureWithUnit) (t .parts) (h .1)
+    go false = tt
+
+-- `self_or`
+pub self-placed : (s : List ℕ) (k : Kind) (w : Row) → PlacedIn (length s) (onward (selfOr k) (thingOf s w))
+self-placed s k w = on-placed (length s) (ThingIn (length s)) (selfOr k) (thingOf s w) (thing-in s w) (self-in (length s) k)
+
+-- ---- units
+-- an SI part before a conversion
+unit-in : {A : Type 0} (n : ℕ) (si conversion : Span → Told A) (neither : A) (t : Thing) → ThingIn n t → ((r : Span) → PlacedIn n (si r)) → ((r : Span) → PlacedIn n (conversion r)) → PlacedIn n (unitBy si conversion neither t)
+unit-in n si conversion neither t h k l =
+    option-placed n (onward (optionBy (good neither) conversion) (selfOr ConversionBasedUnit t)) si (selfOr SiUnit t) (self-in n SiUnit t h)
+    (option-placed n (good neither) conversion (selfOr ConversionBasedUnit t) (self-in n ConversionBasedUnit t h) tt l)
+    k
+
+-- a measure's reference
+ref-placed : (s : List ℕ) (r : Span) → PlacedIn (length s) (measureRef s r)
+unfolding measureRef
+ref-placed s r =
+    any-placed (length s) (λ u. nextOf referenceOf s (skipOf s (r .start) (r .stop) .place) (r .stop) .answer) (skipOf s (r .start) (r .stop) .answer) (skip-placed s (r .start) (r .stop))
+    (λ u. next-placed referenceOf s (skipOf s (r .start) (r .stop) .place) (r .stop))
+
+-- one unit of a chain: 15 stands at the record's arguments
+link-in : (s : List ℕ) (left : ℕ) (t : Thing) → ThingIn (length s) t → PlacedIn (length s) (linkOf s left t)
+unfolding linkOf
+link-in s left t h = unit-in (length s) (λ r. good (known (siLength s r))) (conversionOf s left (t .run .start)) (known none) t h (λ r. tt) (λ r. go (eqb left 0) r)
+  where
+    go : (b : Bool) (r : Span) → PlacedIn (length s) (pick b (bad (refusal 15 0 (t .run .start))) (goodBy leads (measureRef s r)))
+    go true r = h .0
+    go false r = by-placed (length s) leads (measureRef s r) (ref-placed s r)
+
+-- a number that reads goes on, and 13 refuses at its own place
+read-placed : (n : ℕ) (x : Told ℕ) (k : ℕ → Told (Option ℕ)) → PlacedIn n x → ((v : ℕ) → PlacedIn n (k v)) → PlacedIn n (readOr x k)
+read-placed n (good v) k h l = l v
+read-placed n (bad q) k h l = go (eqb (q .number) 13)
+  where
+    go : (b : Bool) → PlacedIn {A = Option ℕ} n (pick b (bad q) (good none))
+    go true = h
+    go false = tt
+
+-- an unreadable base refuses nothing
+base-placed : (n : ℕ) (x : Told ℕ) (k : ℕ → Told (Option ℕ)) → ((v : ℕ) → PlacedIn n (k v)) → PlacedIn n (orNone x k)
+base-placed n (good v) k l = l v
+base-placed n (bad q) k l = tt
+
+module _ (s : List ℕ) (find : ℕ → Told (Option Thing)) (finds : (i : ℕ) → ToldIn (length s) (FoundIn (length s)) (find i)) where
+  -- what is made of a record that was found
+  found-placed : (f : Thing → Told (Option ℕ)) (i : ℕ) → ((t : Thing) → ThingIn (length s) t → PlacedIn (length s) (f t)) → PlacedIn (length s) (onward (optionBy (good none) f) (find i))
+  found-placed f i k = on-placed (length s) (FoundIn (length s)) (optionBy (good none) f) (find i) (finds i) go
+    where
+      go : (x : Option Thing) → FoundIn (length s) x → PlacedIn (length s) (optionBy (good none) f x)
+      go none h = tt
+      go (some t) h = k t h
+
+  -- a measure, where k gives the factor of its base
+  measure-in : (k : Thing → Told (Option ℕ)) → ((t : Thing) → ThingIn (length s) t → PlacedIn (length s) (k t)) → (i : ℕ) → PlacedIn (length s) (measureIn s find k i)
+  unfolding measureIn
+  measure-in k h i = found-placed (λ t. onward (optionBy (good none) (measureAt s find k)) (measureRun t)) i
+      (λ t l. option-placed (length s) (good none) (measureAt s find k) (measureRun t) (run-in (length s) t l) tt measure)
+    where
+      base : (v b : ℕ) → PlacedIn (length s) (onward (optionBy (good none) (λ t. scaledBy v (k t))) (find b))
+      base v b = found-placed (λ t. scaledBy v (k t)) b (λ t l. by-placed (length s) _ (k t) (h t l))
+
+      measure : (r : Span) → PlacedIn (length s) (measureAt s find k r)
+      measure r =
+          read-placed (length s) (nextOf measureOf s (r .start) (r .stop) .answer) (λ v. baseOf s find k v (nextOf measureOf s (r .start) (r .stop) .place) (r .stop)) (next-placed measureOf s (r .start) (r .stop))
+          (λ v. base-placed (length s) (nextOf referenceOf s (nextOf measureOf s (r .start) (r .stop) .place) (r .stop) .answer) (λ b. onward (optionBy (good none) (λ t. scaledBy v (k t))) (find b)) (base v))
+
+  -- a length unit
+  length-in : (left : ℕ) (t : Thing) → ThingIn (length s) t → PlacedIn (length s) (lengthOf s find left t)
+  unfolding lengthOf
+  length-in zero t h = any-placed (length s) (chained (λ i. good none)) (linkOf s zero t) (link-in s zero t h) go
+    where
+      go : (c : Chain) → PlacedIn (length s) (chained (λ i. good none) c)
+      go (known f) = tt
+      go (leads i) = tt
+  length-in (suc n) t h = any-placed (length s) (chained (measureIn s find (λ b. lengthOf s find n b))) (linkOf s (suc n) t) (link-in s (suc n) t h) (go (measure-in (λ b. lengthOf s find n b) (length-in n)))
+    where
+      go : ((i : ℕ) → PlacedIn (length s) (measureIn s find (λ b. lengthOf s find n b) i)) → (c : Chain) → PlacedIn (length s) (chained (measureIn s find (λ b. lengthOf s find n b)) c)
+      go k (known f) = tt
+      go k (leads i) = k i
+
+  -- an angle's number
+  number-in : (i : ℕ) → PlacedIn (length s) (numberIn s find i)
+  unfolding numberIn
+  number-in i = found-placed (λ t. readOr (nextOf measureOf s (t .run .start) (t .run .stop) .answer) (λ v. good (some v))) i
+      (λ t l. read-placed (length s) (nextOf measureOf s (t .run .start) (t .run .stop) .answer) (λ v. good (some v)) (next-placed measureOf s (t .run .start) (t .run .stop)) (λ v. tt))
+
+  -- an angle unit
+  angle-in : (t : Thing) → ThingIn (length s) t → PlacedIn (length s) (angleOf s find t)
+  unfolding angleOf
+  angle-in t h = unit-in (length s) (λ r. good (siAngle s r)) (λ r. onward (numberIn s find) (measureRef s r)) none t h (λ r. tt) (λ r. any-placed (length s) (numberIn s find) (measureRef s r) (ref-placed s r) number-in)
+
+module _ (s rows slots : List ℕ) (ids : Ids) (w : Row) where
+  -- `length_factor`
+  pub length-placed : (left : ℕ) → PlacedIn (length s) (onward (lengthOf s (findOf s rows slots ids) left) (thingOf s w))
+  length-placed left = on-placed (length s) (ThingIn (length s)) (lengthOf s (findOf s rows slots ids) left) (thingOf s w) (thing-in s w) (length-in s (findOf s rows slots ids) (find-in s rows slots ids) left)
+
+  -- `angle_factor`
+  pub angle-placed : PlacedIn (length s) (onward (angleOf s (findOf s rows slots ids)) (thingOf s w))
+  angle-placed = on-placed (length s) (ThingIn (length s)) (angleOf s (findOf s rows slots ids)) (thingOf s w) (thing-in s w) (angle-in s (findOf s rows slots ids) (find-in s rows slots ids))

@@ -1,0 +1,75 @@
+-- What the units see of a record: its kind, its arguments and, of a complex one, its parts or their fault; and the record of an id.
+-- Records, lookups and parts are those of the crates below. Assumes nothing.
+use Prim.Native.Nat.{ℕ}
+use mathlib.Core.Bool.{Bool, true, false}
+use mathlib.Core.List.{List, [], _∷_, map}
+use mathlib.Core.Option.{Option, none, some}
+use lib.Dec.{eqb}
+use lib.ListN.{length}
+use Rattle.error.specs.Refusal.{Refusal, refusal, Told, good, bad}
+use Rattle.lex.specs.Byte.{pick}
+use Rattle.statement.specs.Row.{Row, HeaderRow}
+use Rattle.kinds.specs.Kind.{kindOf, rankOf}
+use Rattle.kinds.specs.declared.Kind.{Kind}
+use Rattle.params.specs.Reader.{Span, span, onward}
+use Rattle.parts.specs.Part.{partsOf}
+use Rattle.index.specs.Search.{searched}
+use Rattle.index.specs.declared.Ids.{Ids}
+use Rattle.lookup.specs.Lookup.{cut, spanFine, kindIn, rowFound}
+
+-- an answer that is good, by f
+abbrev pub goodBy : {A B : Type 0} → (A → B) → Told A → Told B
+goodBy f (good a) = good (f a)
+goodBy f (bad q) = bad q
+
+-- two kinds are the same
+abbrev pub sameKind : Kind → Kind → Bool
+sameKind a b = eqb (rankOf a) (rankOf b)
+
+-- a part of a complex record: its kind and its arguments
+pub record Piece : Type 0 where
+  pub kind : Kind
+  pub run : Span
+
+-- a part of the file s by its row
+abbrev pub pieceOf : List ℕ → HeaderRow → Piece
+pieceOf s p = record { kind = kindOf (cut s (p .keyStart) (p .keyEnd)); run = span (p .argStart) (p .argEnd) }
+
+-- a record: its kind, its arguments, and its parts or the fault in them
+pub record Thing : Type 0 where
+  pub kind : Kind
+  pub run : Span
+  pub parts : Told (List Piece)
+
+-- the parts of a row of the file s; a simple record has none
+abbrev pub piecesOf : List ℕ → Row → Told (List Piece)
+piecesOf s w = pick (eqb (w .complex) 1) (goodBy (map (pieceOf s)) (partsOf s (w .argStart) (w .argEnd))) (good [])
+
+-- the record of a row whose arguments lie in the file
+abbrev pub thingAt : List ℕ → Row → Thing
+thingAt s w = record { kind = kindIn s w; run = span (w .argStart) (w .argEnd); parts = piecesOf s w }
+
+-- the record of a row; "9 span [..] outside the file or backwards"
+abbrev pub thingOf : List ℕ → Row → Told Thing
+thingOf s w =
+    pick (spanFine (length s) (w .argStart) (w .argEnd))
+    (good (thingAt s w))
+    (bad (refusal 9 0 0))
+
+-- the record of a row that was looked up, or none
+abbrev pub thingFound : List ℕ → Option Row → Told (Option Thing)
+thingFound s none = good none
+thingFound s (some w) = goodBy some (thingOf s w)
+
+-- the record that an id names, by the lookup in the lent tables
+unfoldable pub findOf : List ℕ → List ℕ → List ℕ → Ids → ℕ → Told (Option Thing)
+findOf s rows slots ids k = thingFound s (rowFound rows (searched rows slots ids k))
+
+-- the first part of a kind
+abbrev pub firstPiece : Kind → List Piece → Option Span
+firstPiece k [] = none
+firstPiece k (p ∷ ps) = pick (sameKind (p .kind) k) (some (p .run)) (firstPiece k ps)
+
+-- the arguments of a record of a kind, or of a complex record's first part of that kind, once all its parts have been read
+abbrev pub selfOr : Kind → Thing → Told (Option Span)
+selfOr k t = pick (sameKind (t .kind) k) (good (some (t .run))) (goodBy (firstPiece k) (t .parts))
