@@ -3,8 +3,11 @@
 // A pen says how far the buffer is used. Each function puts something behind what the buffer holds and answers the pen
 // after it; where the buffer is full, what it holds is written to standard output first. No contract can say what a
 // system call writes, so the contracts say what the buffer holds.
+mod digits;
 mod refusal;
 
+pub use digits::hex;
+pub use digits::pattern;
 pub use refusal::mark;
 pub use refusal::words;
 ghost use mathlib.Core.Path.{_≡_};
