@@ -1,7 +1,8 @@
-// Bytes and bit patterns in hex digits.
+// Signed numbers in decimal; bytes and bit patterns in hex digits.
 use crate::Pen;
 use crate::byte;
 use crate::bytes;
+use crate::decimal;
 
 // Puts two digits for each byte, and `-` where there are none.
 pub fn hex(buffer: &mut [u8], pen: Pen, t: &[u8]) -> Pen {
@@ -35,4 +36,13 @@ pub fn pattern(buffer: &mut [u8], pen: Pen, n: u64) -> Pen {
     let mut figures = [0u8; 16];
     let k = io::hex(n, 16, &mut figures);
     bytes(buffer, pen, &figures[..k])
+}
+
+// Puts a signed number in decimal, with its sign where it is negative.
+pub fn signed(buffer: &mut [u8], pen: Pen, n: i64) -> Pen {
+    if n < 0 {
+        let a = byte(buffer, pen, b'-');
+        return decimal(buffer, a, (-1 - n) as u64 + 1);
+    }
+    decimal(buffer, pen, n as u64)
 }
