@@ -9,6 +9,7 @@ mod refusal;
 pub use digits::hex;
 pub use digits::pattern;
 pub use digits::signed;
+pub use refusal::line;
 pub use refusal::mark;
 pub use refusal::words;
 ghost use mathlib.Core.Path.{_≡_};

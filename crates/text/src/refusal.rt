@@ -56,7 +56,7 @@ fn reason(buffer: &mut [u8], pen: Pen, why: u8) -> Pen {
 }
 
 // Puts the n-th line of a table, counted from 1, and nothing where it has no such line.
-fn line(buffer: &mut [u8], pen: Pen, table: &[u8], n: u8) -> Pen {
+pub fn line(buffer: &mut [u8], pen: Pen, table: &[u8], n: u8) -> Pen {
     let mut left = n;
     let mut start = 0;
     while left > 1 {
