@@ -10,15 +10,13 @@ use scalar_lines::label;
 use scalar_lines::refused;
 use text::Pen;
 
-// The lines from `ref_list` to `f64_list`, in the form's order. The rooms are lent for references, integers, reals and row ends,
-// which only grids have.
+// The lines from `ref_list` to `f64_list`, in the form's order. The rooms are lent for references, integers and reals.
 pub fn lines(
     file: &[u8],
     at: State,
     refs: &mut [u32],
     wholes: &mut [i64],
     reals: &mut [f64],
-    ends: &mut [usize],
     out: &mut [u8],
     pen: Pen,
 ) -> Pen {

@@ -27,6 +27,10 @@ pub const I64_LIST: u8 = 11;
 
 pub const F64_LIST: u8 = 12;
 
+pub const REF_GRID: u8 = 13;
+
+pub const F64_GRID: u8 = 14;
+
 pub const SKIP: u8 = 15;
 
 // Puts a reader's name.
