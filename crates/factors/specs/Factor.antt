@@ -2,21 +2,18 @@
 -- what refuses the whole answer. `find` gives the record of an id, or none. Assumes nothing.
 use Prim.Native.Nat.{ℕ, zero, suc}
 use Prim.Native.String.{String}
-use mathlib.Core.Bool.{Bool, true, false}
-use mathlib.Core.List.{List, [], _∷_}
+use mathlib.Core.List.{List, []}
 use mathlib.Core.Option.{Option, none, some}
 use lib.Dec.{eqb}
-use lib.ListN.{take, drop}
-use Rattle.error.specs.Refusal.{Refusal, refusal, Told, good, bad, told}
+use Rattle.error.specs.Refusal.{refusal, Told, good, bad}
 use Rattle.lex.specs.Byte.{pick}
 use Rattle.record.specs.Word.{isWord}
 use Rattle.record.specs.Form.{bytes}
 use Rattle.nearest.specs.Product.{product}
 use Rattle.reals.specs.Scalar.{referenceOf}
 use Rattle.reals.specs.Prefix.{factorOf, lengthFactorOf}
-use Rattle.kinds.specs.declared.Kind.{Kind}
 use Rattle.kinds.specs.declared.Kind.the-variants.{SiUnit, ConversionBasedUnit, LengthMeasureWithUnit, Complex}
-use Rattle.params.specs.Reader.{Read, reading, Span, span, mapped, onward, paramOf, skipOf}
+use Rattle.params.specs.Reader.{Read, Span, mapped, onward, paramOf, skipOf}
 use Rattle.scalars.specs.Scalars.{nextOf, measureOf}
 use Rattle.words.specs.Words.{partOf, nameAt}
 use Rattle.factors.specs.Thing.{goodBy, sameKind, Thing, firstPiece, selfOr}

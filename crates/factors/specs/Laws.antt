@@ -2,14 +2,14 @@
 use Prim.Native.Nat.{ℕ, zero, suc, _-_, _≤_}
 use Prim.Native.String.{String}
 use mathlib.Core.Path.{_≡_, refl, sym, _∙_, ap, subst}
-use mathlib.Core.Bool.{Bool, true, false, _&&_}
+use mathlib.Core.Bool.{Bool, true, false}
 use mathlib.Core.List.{List, [], _∷_, map}
 use mathlib.Core.Option.{Option, none, some}
 use native.Mathlib.Omega.{arith}
 use borrow.Author.Tests.{le-leb, le-ltb}
-use lib.Dec.{eqb, leb, ltb}
+use lib.Dec.{eqb}
 use lib.ListN.{length, take, drop}
-use Rattle.error.specs.Refusal.{Refusal, refusal, Told, good, bad, told}
+use Rattle.error.specs.Refusal.{Refusal, refusal, Told, good, bad}
 use Rattle.lex.specs.Byte.{pick}
 use Rattle.lex.specs.Right.Steps.{clash}
 use Rattle.record.specs.Turns.{bounds}
@@ -33,11 +33,11 @@ use Rattle.kinds.specs.declared.Kind.the-variants.{
   Other,
 }
 use Rattle.params.specs.Cut.{Cut, cut, unclosed, cutOf, started}
-use Rattle.params.specs.Reader.{Read, reading, Span, span, inFile, within, bounded, begun, onward, mapped, paramOf, skipOf}
+use Rattle.params.specs.Reader.{Read, reading, Span, span, inFile, bounded, begun, onward, paramOf, skipOf}
 use Rattle.scalars.specs.Scalars.{nextOf, measureOf}
 use Rattle.reals.specs.Scalar.{Answer, referenceOf}
 use Rattle.reals.specs.Prefix.{factorOf, lengthFactorOf}
-use Rattle.words.specs.Words.{nameAt, toldNextName}
+use Rattle.words.specs.Words.{toldNextName}
 use Rattle.words.specs.Places.{SpanIn, ToldIn, name-in}
 use Rattle.words.specs.declared.NextName as NextNameCode
 use Rattle.parts.specs.Part.{partOf, partsOf, firstKind, isKind}
@@ -45,35 +45,8 @@ use Rattle.index.specs.Search.{searched}
 use Rattle.index.specs.declared.Ids.{Ids}
 use Rattle.lookup.specs.Lookup.{spanFine, spanIn, kindIn, rowFound}
 use Rattle.lookup.specs.Lookup as Lookup
-use Rattle.factors.specs.Thing.{goodBy, sameKind, Piece, pieceOf, Thing, piecesOf, thingAt, thingOf, findOf, firstPiece, selfOr}
-use Rattle.factors.specs.Factor.{
-  nameOr,
-  nextName,
-  prefixIn,
-  unitIn,
-  named,
-  siLength,
-  siAngle,
-  measureRef,
-  optionBy,
-  unreadOf,
-  readOr,
-  scaledBy,
-  measureRun,
-  Chain,
-  known,
-  leads,
-  conversionOf,
-  unitBy,
-  linkOf,
-  chained,
-  baseOf,
-  measureAt,
-  measureIn,
-  lengthOf,
-  numberIn,
-  angleOf,
-}
+use Rattle.factors.specs.Thing.{goodBy, sameKind, pieceOf, Thing, thingAt, thingOf, findOf, firstPiece, selfOr}
+use Rattle.factors.specs.Factor.{nameOr, nextName, prefixIn, unitIn, siLength, siAngle, measureRef, optionBy, unreadOf, readOr, scaledBy, measureRun, Chain, known, leads, conversionOf, unitBy, linkOf, chained, baseOf, measureAt, measureIn, lengthOf, numberIn, angleOf}
 use Rattle.factors.specs.Code.{namedIn, isNamed}
 
 -- ---- a record's arguments
@@ -92,10 +65,6 @@ thing-out k s w {q} = go (spanFine (length s) (w .argStart) (w .argEnd))
     go : (b : Bool) → bad q ≡ pick b (good (Lookup.span (w .argStart) (w .argEnd))) (bad (refusal 9 0 0)) → bad (refusal 9 0 0) ≡ onward k (pick b (good (thingAt s w)) (bad (refusal 9 0 0)))
     go true h = clash (cc)
     go false h = refl
-
--- a row whose arguments were given is a record
-thing-good : (s : List ℕ) (w : Row) {p : Lookup.Span} → good p ≡ spanIn (length s) (w .argStart) (w .argEnd) → thingOf s w ≡ good (thingAt s w)
-thing-good s w h = rw (span-good (length s) (w .argStart) (w .argEnd) h .0) refl
 
 -- the arguments of a part
 abbrev pub runOf : Told (Option HeaderRow) → Told (Option Span)

@@ -1,17 +1,17 @@
 -- What the units see of a record: its kind, its arguments and, of a complex one, its parts or their fault; and the record of an id.
 -- Records, lookups and parts are those of the crates below. Assumes nothing.
 use Prim.Native.Nat.{ℕ}
-use mathlib.Core.Bool.{Bool, true, false}
+use mathlib.Core.Bool.{Bool}
 use mathlib.Core.List.{List, [], _∷_, map}
 use mathlib.Core.Option.{Option, none, some}
 use lib.Dec.{eqb}
 use lib.ListN.{length}
-use Rattle.error.specs.Refusal.{Refusal, refusal, Told, good, bad}
+use Rattle.error.specs.Refusal.{refusal, Told, good, bad}
 use Rattle.lex.specs.Byte.{pick}
 use Rattle.statement.specs.Row.{Row, HeaderRow}
 use Rattle.kinds.specs.Kind.{kindOf, rankOf}
 use Rattle.kinds.specs.declared.Kind.{Kind}
-use Rattle.params.specs.Reader.{Span, span, onward}
+use Rattle.params.specs.Reader.{Span, span}
 use Rattle.parts.specs.Part.{partsOf}
 use Rattle.index.specs.Search.{searched}
 use Rattle.index.specs.declared.Ids.{Ids}

@@ -1,11 +1,11 @@
 // The factor of one unit: how many millimetres or radians it has.
 //
-// As length_factor_to_mm, angle_factor_to_rad, measure_in_mm, unit_role, si_part and conversion_part of the Rust's units.rs. A factor
+// As length_factor_to_mm, angle_factor_to_rad, measure_in_mm, si_part and conversion_part of the Rust's units.rs. A factor
 // is an f64; some units have none, and some refuse the whole answer. The chain of conversions is followed by two functions that call
 // each other, the count of conversion units that are left falling.
 ghost use mathlib.Core.Path.{_≡_};
 ghost use lib.Ieee.{binary64, toBits};
-ghost use Rattle.error.specs.Refusal.{Told, good, bad};
+ghost use Rattle.error.specs.Refusal.{good};
 ghost use Rattle.statement.specs.Statement.{rowOf};
 ghost use Rattle.params.specs.Reader.{onward, span};
 ghost use Rattle.scalars.specs.Scalars.{toldNextReal};

@@ -2,11 +2,11 @@
 -- measure with n left calls its base unit with n, so the measure's number lies between: 2n for the unit, 2n + 1 for the measure.
 use borrow.Author.Needs.{needs}
 use native.Mathlib.Omega.{arith}
-use mathlib.Core.Path.{_≡_, refl, sym, _∙_, ap}
-use Prim.Native.Nat.{ℕ, _+_, _-_, _<_}
+use mathlib.Core.Path.{sym, _∙_, ap}
+use Prim.Native.Nat.{ℕ, _+_, _<_}
 use denote.Ref.{now}
 use lib.Ieee.{binary64, toBits}
-use Rattle.params.specs.Reader.{Read, span}
+use Rattle.params.specs.Reader.{Read}
 use Rattle.scalars.specs.Scalars.{toldNextReal, toldNextRef}
 use Rattle.statement.specs.Statement.{rowOf}
 use Rattle.lookup.specs.Lookup.{toldEntry}

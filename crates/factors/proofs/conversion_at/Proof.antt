@@ -1,7 +1,7 @@
 use borrow.Author.Needs.{needs}
-use mathlib.Core.Path.{_≡_, refl, sym, _∙_, ap}
+use mathlib.Core.Path.{sym, _∙_, ap}
 use denote.Ref.{now}
-use borrow.Author.Tests.{eq-eqb, ne-eqb}
+use borrow.Author.Tests.{ne-eqb}
 use Rattle.params.specs.Reader.{span}
 use Rattle.factors.specs.Code.{toldId}
 use Rattle.factors.specs.Laws.{conversion-deep, conversion-refused, conversion-leads}

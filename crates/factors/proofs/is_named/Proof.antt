@@ -1,9 +1,5 @@
 use borrow.Author.Needs.{needs}
-use mathlib.Core.Path.{_≡_, refl, sym, _∙_, ap}
-use mathlib.Core.List.{List}
-use Prim.Native.Nat.{ℕ}
-use denote.Ref.{now}
-use Rattle.record.specs.Word.{isWord}
+use mathlib.Core.Path.{refl, _∙_}
 use Rattle.factors.proofs.is_named.Statement.{statement}
 use Rattle.factors.proofs.is_named.Tie as tie
 use Rattle.factors.proofs.is_named.Reads as reads

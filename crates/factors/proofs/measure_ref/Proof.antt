@@ -1,7 +1,7 @@
 use borrow.Author.Needs.{needs}
-use mathlib.Core.Path.{_≡_, refl, sym, _∙_, ap}
+use mathlib.Core.Path.{sym, _∙_, ap}
 use denote.Ref.{now}
-use Rattle.params.specs.Reader.{Read, toldSkipped}
+use Rattle.params.specs.Reader.{toldSkipped}
 use Rattle.scalars.specs.Scalars.{toldNextRef}
 use Rattle.factors.specs.Laws.{ref-refused, ref-past}
 use Rattle.factors.proofs.measure_ref.Statement.{statement}

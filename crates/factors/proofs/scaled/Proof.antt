@@ -1,5 +1,5 @@
 use borrow.Author.Needs.{needs}
-use mathlib.Core.Path.{_≡_, refl, sym, _∙_, ap}
+use mathlib.Core.Path.{refl}
 use Rattle.factors.proofs.scaled.Statement.{statement}
 use Rattle.factors.proofs.scaled.Tie as tie
 use Rattle.factors.proofs.scaled.Reads as reads
