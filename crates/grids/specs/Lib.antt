@@ -1,3 +1,5 @@
 pub mod Grid
 pub mod Laws
 pub mod Rows
+pub mod GridRight
+pub mod Only

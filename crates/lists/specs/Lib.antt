@@ -5,3 +5,4 @@ pub mod Laws
 pub mod Fill
 pub mod ReadLaws
 pub mod Places
+pub mod Only

@@ -7,7 +7,7 @@ use mathlib.Core.List.{List, [], _∷_}
 use native.Mathlib.Omega.{arith}
 use lib.Dec.{eqb}
 use lib.ListN.{length, take, drop, getD, length-drop, length-take}
-use Rattle.error.specs.Refusal.{refusal, Told, good, bad}
+use Rattle.error.specs.Refusal.{Refusal, refusal, Told, good, bad}
 use Rattle.lex.specs.Byte.{pick, white, place, place-within}
 use Rattle.lex.specs.Walk.{stop, on, turned, walk}
 use Rattle.lex.specs.Right.Steps.{clash}
@@ -22,7 +22,7 @@ use Rattle.lists.specs.declared.Kind.{Kind}
 use Rattle.lists.specs.declared.Kind.the-variants.{References, Integers, Floats}
 use Rattle.lists.specs.declared.ReadList.{ReadList}
 use Rattle.lists.specs.declared.ReadList.the-variants.{Count, Wrong, Outside, Short}
-use Rattle.lists.specs.Items.{Fate, fine, faulty, shifted, fated, asFate, kindOf, boundOf, itemEnd, indent, itemBy, consed, headed, past-comma, itemsFrom, isNone, itemsBy, inside, bare, bodyOf, listed, listBy, roomed, nextBy, countOf, toldReadList, reached}
+use Rattle.lists.specs.Items.{Fate, fine, faulty, shifted, fated, asFate, kindOf, boundOf, itemEnd, indent, itemBy, consed, headed, past-comma, itemsFrom, isNone, itemsBy, inside, bare, bodyOf, listed, listBy, listOf, roomed, nextBy, fitsIn, countOf, toldReadList, reached}
 
 -- how far into a text its fault is; 0 where it has none
 abbrev pub offset : {A : Type 0} → Fate A → ℕ
@@ -200,6 +200,14 @@ next-inward {A} g inward fits s p e = let (h, k) = param-inward s p e in go (par
         let t = take (a .stop - a .start) (drop (a .start) s) in
         omega (arith, roomed-inward g inward fits (a .start) t, k a refl, length-take (a .stop - a .start) (drop (a .start) s), length-drop (a .start) s)
     go (bad q) h k = h
+
+-- the same of a refusal
+pub next-placed : {A : Type 0} (g : List ℕ → Fate A) → Inward g → (fits : A → Bool) (s : List ℕ) (p e : ℕ) (q : Refusal) → nextBy g fits s p e .answer ≡ bad q → q .place ≤ length s
+next-placed g inward fits s p e q h = omega (arith, ap placeOf h, next-inward g inward fits s p e)
+
+-- "a place from 0 to the input's length": every refusal of a reader of lists
+pub list-placed : {A : Type 0} (f : List ℕ → Answer A) (room : ℕ) (s : List ℕ) (p e : ℕ) (q : Refusal) → nextBy (listOf f) (fitsIn room) s p e .answer ≡ bad q → q .place ≤ length s
+list-placed f room s p e q h = next-placed (listOf f) (list-inward (λ u. asFate (f u)) (scalar-inward f)) (fitsIn room) s p e q h
 
 -- how far into the text the code's answer is
 pub read-inward : {A : Type 0} (g : List ℕ → Fate (List A)) → Inward g → (fits : List A → Bool) (t : List ℕ) (r : ReadList) → toldReadList r ≡ countOf (roomed fits 0 (g t)) → reached r ≤ length t

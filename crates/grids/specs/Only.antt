@@ -1,0 +1,24 @@
+-- "that two allowed answers coincide is proved": what the readers of grids tell is one answer of the code; a lent list of f64s is fixed
+-- by their bits (lists/specs/Only.antt). Assumes nothing.
+use Prim.Native.Nat.{ℕ}
+use mathlib.Core.Path.{_≡_, refl, sym, _∙_, ap}
+use Rattle.error.specs.Refusal.{Told, good, bad, faultOf, faultOf-told}
+use Rattle.params.specs.Reader.{Read}
+use Rattle.grids.specs.declared.NextGrid.{NextGrid}
+use Rattle.grids.specs.declared.NextGrid.the-variants as next
+use Rattle.grids.specs.Grid.{Size, toldNextGrid}
+
+-- the answer that tells this
+nextOf : Told Size → ℕ → ℕ → NextGrid
+nextOf (good s) p e = next.Count (s .rows) (s .numbers) (record { place = p; end = e })
+nextOf (bad q) p e = next.Refused (faultOf q) (record { place = p; end = e })
+
+-- it is the answer that was told
+next-back : (a : NextGrid) → nextOf (toldNextGrid a .answer) (toldNextGrid a .place) (toldNextGrid a .end) ≡ a
+unfolding nextOf
+next-back (next.Count r n t) = refl
+next-back (next.Refused f t) = ap (λ f. next.Refused f t) (faultOf-told f)
+
+-- `next_ref_grid`, `next_f64_grid`
+pub next-grid-only : (a b : NextGrid) → toldNextGrid a ≡ toldNextGrid b → a ≡ b
+next-grid-only a b e = sym (next-back a) ∙ ap (λ (r : Read Size). nextOf (r .answer) (r .place) (r .end)) e ∙ next-back b
