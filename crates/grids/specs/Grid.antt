@@ -44,7 +44,7 @@ size r n = record { rows = r; numbers = n }
 abbrev pub sizeOf : {A : Type 0} → List (List A) → Size
 sizeOf g = size (length g) (length (flat g))
 
--- "either list is too short", or neither: a lent list of so many numbers and one of so many row ends
+-- neither list is too short: a lent list of so many numbers and one of so many row ends
 abbrev pub sizeFits : ℕ → ℕ → Size → Bool
 sizeFits room ends s = leb (s .numbers) room && leb (s .rows) ends
 
@@ -96,7 +96,7 @@ toldReadGrid (ReadGridCode.the-variants.Wrong o) = bad (refusal 12 0 o)
 toldReadGrid (ReadGridCode.the-variants.Outside o) = bad (refusal 13 0 o)
 toldReadGrid ReadGridCode.the-variants.Short = bad (refusal 16 0 0)
 
--- how far into the text its place is
+-- how far into the text the place of a grid's refusal is
 abbrev pub reachedIn : ReadGridCode.ReadGrid → ℕ
 reachedIn (ReadGridCode.the-variants.Count r n) = 0
 reachedIn (ReadGridCode.the-variants.Wrong o) = o

@@ -46,7 +46,8 @@ abbrev pub asFate : {A : Type 0} → Answer A → Fate A
 asFate (read a) = fine a
 asFate (refused n) = faulty n 0
 
--- an item ends as a parameter does, and an open literal runs to the end of the list
+-- an item ends as a parameter does, and an open literal runs to the end of the list: the Rust; no list has one, since its parameter would
+-- have been 11
 abbrev pub boundOf : Cut → List ℕ
 boundOf (cut z b) = b
 boundOf (unclosed o) = []
@@ -84,12 +85,12 @@ itemsFrom zero g o xs = fine []
 itemsFrom (suc n) g o xs =
     headed (shifted o (itemBy g (before xs (itemEnd xs)))) (λ u. past-comma (itemEnd xs) (λ r. itemsFrom n g (o + (length xs - length r)) r))
 
--- "`()` has no item": nor has a list of whitespace alone
+-- whether nothing is left
 abbrev pub isNone : List ℕ → Bool
 isNone [] = true
 isNone (c ∷ r) = false
 
--- all items of a list's inside
+-- all items of a list's inside: "`()` has no item", nor has a list of whitespace alone
 unfoldable pub itemsBy : {A : Type 0} → (List ℕ → Fate A) → List ℕ → Fate (List A)
 itemsBy g b = pick (isNone (trimmed b)) (fine []) (itemsFrom (suc (length b)) g 0 b)
 
@@ -200,7 +201,7 @@ toldReadList (ReadListCode.the-variants.Wrong o) = bad (refusal 12 0 o)
 toldReadList (ReadListCode.the-variants.Outside o) = bad (refusal 13 0 o)
 toldReadList ReadListCode.the-variants.Short = bad (refusal 16 0 0)
 
--- how far into the text its place is
+-- how far into the text the place of a list's refusal is
 abbrev pub reached : ReadListCode.ReadList → ℕ
 reached (ReadListCode.the-variants.Count n) = 0
 reached (ReadListCode.the-variants.Wrong o) = o

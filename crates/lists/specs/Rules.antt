@@ -17,7 +17,7 @@ use Rattle.lists.specs.Items.{Fate, fine, faulty, shifted, consed}
 pub data Ends : List ℕ → List ℕ → Type 0 where
   -- as a parameter ends: at the first comma at depth 0 outside strings, binary literals and comments, or at the end
   cut : {xs z r : List ℕ} → Parameter xs z r → Ends xs r
-  -- a literal that is not closed runs to the end
+  -- a literal that is not closed runs to the end, as the Rust has it; no list has one, since its parameter would have been 11
   unclosed : {xs o : List ℕ} → Unclosed xs o → Ends xs []
 
 -- "items trimmed of whitespace only": the item that begins xs is whitespace f, its text t and whitespace, up to r; an item of

@@ -42,7 +42,8 @@ settled Quoted s here = here
 settled Remark s here = s
 settled Starred s here = s
 
--- what it reaches to after the byte c: whitespace is left out, and so is a slash, until it is known to open no comment
+-- what it reaches to after the byte c, where s is what it reaches to before the byte and k what it reached to when the last byte outside
+-- was read: whitespace is left out, and so is a slash, until it is known to open no comment
 abbrev pub solidAfter : {P : Type 0} → Bool → Bool → ℕ → P → P → P → P
 solidAfter out b c s k past = pick out (pick (white c || eqb c 47) s past) (pick b past k)
 
