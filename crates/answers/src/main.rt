@@ -2,23 +2,53 @@
 // the rooms for it (`ulimit -s`; the script `step` raises it), and of up to 256 KiB where it does not.
 use cases::Run;
 
-// What the large rooms take of the stack, with something over.
-const NEEDED: u64 = 12000000;
+// What the large rooms take of the stack beside the small ones, with something over.
+const NEEDED: u64 = 40000000;
 
-// Rooms for a case of 1 MiB, whatever it holds: a header record takes three bytes or more, a data record six.
+// Rooms for a case of 1 MiB, whatever it holds: a header record takes three bytes or more, a data record six; a byte of a string
+// gives three at most; a reference in a list takes three bytes, another number two, a row of a grid three.
 const LARGE_FILE: usize = 1048577;
 
-const LARGE_HEADERS: usize = 1398104;
+const LARGE_HEADS: usize = 1398104;
 
 const LARGE_ROWS: usize = 1048578;
+
+const LARGE_SLOTS: usize = 174763;
+
+const LARGE_CHARS: usize = 3145728;
+
+const LARGE_REFS: usize = 349526;
+
+const LARGE_NUMBERS: usize = 524289;
+
+const LARGE_ENDS: usize = 349526;
 
 // It calls itself where more cases follow than one run takes; and since it does, the compiler keeps its frame apart from
 // `main`'s, which else would have these rooms in every run of the program.
 fn large(limit: u64, chunk: &mut [u8], out: &mut [u8], run: Run) -> Run {
     let mut file = [0u8; LARGE_FILE];
-    let mut headers = [0u32; LARGE_HEADERS];
+    let mut heads = [0u32; LARGE_HEADS];
     let mut rows = [0u32; LARGE_ROWS];
-    let next = lend_large(chunk, &mut file, &mut headers, &mut rows, out, run);
+    let mut slots = [0u32; LARGE_SLOTS];
+    let mut chars = [0u8; LARGE_CHARS];
+    let mut refs = [0u32; LARGE_REFS];
+    let mut wholes = [0i64; LARGE_NUMBERS];
+    let mut reals = [0.0; LARGE_NUMBERS];
+    let mut ends = [0usize; LARGE_ENDS];
+    let next = lend_large(
+        chunk,
+        &mut file,
+        &mut heads,
+        &mut rows,
+        &mut slots,
+        &mut chars,
+        &mut refs,
+        &mut wholes,
+        &mut reals,
+        &mut ends,
+        out,
+        run,
+    );
     if limit < NEEDED {
         return next;
     }
@@ -32,12 +62,31 @@ fn large(limit: u64, chunk: &mut [u8], out: &mut [u8], run: Run) -> Run {
 fn lend_large(
     chunk: &mut [u8],
     file: &mut [u8; LARGE_FILE],
-    headers: &mut [u32; LARGE_HEADERS],
+    heads: &mut [u32; LARGE_HEADS],
     rows: &mut [u32; LARGE_ROWS],
+    slots: &mut [u32; LARGE_SLOTS],
+    chars: &mut [u8; LARGE_CHARS],
+    refs: &mut [u32; LARGE_REFS],
+    wholes: &mut [i64; LARGE_NUMBERS],
+    reals: &mut [f64; LARGE_NUMBERS],
+    ends: &mut [usize; LARGE_ENDS],
     out: &mut [u8],
     run: Run,
 ) -> Run {
-    cases::go_on(chunk, file, headers, rows, out, run)
+    cases::go_on(
+        chunk,
+        file,
+        heads,
+        rows,
+        slots,
+        chars,
+        refs,
+        wholes,
+        reals,
+        ends,
+        out,
+        run,
+    )
 }
 
 fn main() {

@@ -1,23 +1,79 @@
 // The answers about one case, line by line.
 use error::Fault;
-use scan::Scanned;
+use lookup::Tables;
+use store::Opened;
 use text::Pen;
 
-// Puts what the scan of the file answers.
-pub fn answer(file: &[u8], headers: &mut [u32], rows: &mut [u32], out: &mut [u8], pen: Pen) -> Pen {
-    let slots = rows.len() / 6;
-    match scan::scan(file, headers, rows, slots) {
-        Scanned::Refused(f) => refused(out, pen, f),
-        Scanned::Rows {
-            headers: h,
-            records: r,
-            max,
-        } => {
-            let a = scanned(out, pen, h as u64, r as u64, max as u64);
-            let b = lines(out, a, b'h', headers, 4, h);
-            lines(out, b, b'r', rows, 6, r)
-        }
+// Puts what the reader answers about a file. The rooms are lent for header rows, data rows, id slots, texts, references, integers,
+// reals and row ends.
+pub fn answer(
+    file: &[u8],
+    heads: &mut [u32],
+    rows: &mut [u32],
+    slots: &mut [u32],
+    chars: &mut [u8],
+    refs: &mut [u32],
+    wholes: &mut [i64],
+    reals: &mut [f64],
+    ends: &mut [usize],
+    out: &mut [u8],
+    pen: Pen,
+) -> Pen {
+    match tables(file, heads, rows, slots, chars, out, pen) {
+        Scan::Refused(said) => said,
+        Scan::Good(t, said) => walks::walks(
+            file,
+            heads,
+            rows,
+            t,
+            chars,
+            refs,
+            wholes,
+            reals,
+            ends,
+            out,
+            said,
+        ),
     }
+}
+
+// The tables' numbers and what was put, or a refusal that was put.
+enum Scan {
+    Good(Tables, Pen),
+    Refused(Pen),
+}
+
+// Fills the tables, and puts what they tell.
+fn tables(
+    file: &[u8],
+    heads: &mut [u32],
+    rows: &mut [u32],
+    slots: &mut [u32],
+    chars: &mut [u8],
+    out: &mut [u8],
+    pen: Pen,
+) -> Scan {
+    match store::open(file, heads, rows, slots) {
+        Opened::Refused(f) => Scan::Refused(refused(out, pen, f)),
+        Opened::Good(t) => Scan::Good(t, told_lines(file, heads, rows, slots, t, chars, out, pen)),
+    }
+}
+
+// The rows, the lookups and the texts.
+fn told_lines(
+    file: &[u8],
+    heads: &[u32],
+    rows: &[u32],
+    slots: &[u32],
+    t: Tables,
+    chars: &mut [u8],
+    out: &mut [u8],
+    pen: Pen,
+) -> Pen {
+    let a = told::row_lines(heads, rows, t, out, pen);
+    let b = told::id_lines(rows, slots, t, out, a);
+    let c = told::header_lines(file, heads, t, out, b);
+    told::text_lines(file, heads, t, chars, out, c)
 }
 
 // `refused NUMBER/REASON@PLACE`
@@ -25,43 +81,4 @@ fn refused(out: &mut [u8], pen: Pen, f: Fault) -> Pen {
     let a = text::bytes(out, pen, b"refused ");
     let b = text::mark(out, a, f);
     text::byte(out, b, b'\n')
-}
-
-// `scan H R MAX`
-fn scanned(out: &mut [u8], pen: Pen, h: u64, r: u64, max: u64) -> Pen {
-    let a = text::bytes(out, pen, b"scan");
-    let b = text::spaced(out, a, h);
-    let c = text::spaced(out, b, r);
-    let d = text::spaced(out, c, max);
-    text::byte(out, d, b'\n')
-}
-
-// A line for each of the first rows of a table, `width` numbers to a row. A table that has fewer rows has fewer lines.
-fn lines(out: &mut [u8], pen: Pen, letter: u8, table: &[u32], width: usize, count: usize) -> Pen {
-    let mut last = pen;
-    let mut at = 0;
-    let mut i = 0;
-    while i < count && width <= table.len() - at {
-        let end = at + width;
-        last = line(out, last, letter, i as u64, &table[at..end]);
-        at = end;
-        i += 1;
-    }
-    last
-}
-
-// A letter, the row's number and the row's numbers.
-fn line(out: &mut [u8], pen: Pen, letter: u8, i: u64, row: &[u32]) -> Pen {
-    let a = text::byte(out, pen, letter);
-    let mut last = text::spaced(out, a, i);
-    let mut k = 0;
-    while k < row.len() {
-        last = text::spaced(out, last, wide(row[k]));
-        k += 1;
-    }
-    text::byte(out, last, b'\n')
-}
-
-fn wide(n: u32) -> u64 {
-    n as u64
 }

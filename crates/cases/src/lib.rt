@@ -4,10 +4,11 @@
 // A case is its length in decimal, LF and so many bytes of standard input. Where the program has arguments, each names a
 // file that is one case. A room for a file has one byte more than the longest case that it takes.
 mod answer;
+mod next;
 
 use answer::answer;
 use input::Feed;
-use input::Line;
+use next::take;
 use text::Pen;
 
 pub struct Run {
@@ -30,232 +31,171 @@ pub fn start() -> Run {
     }
 }
 
-// Answers the next cases: all of them, or as many as 64 bits count.
+// Answers the next cases: all of them, or as many as 64 bits count. The rooms are lent for a chunk of the input, a file, its header
+// rows, data rows, id slots, texts, references, integers, reals and row ends, and for the output.
 pub fn go_on(
     chunk: &mut [u8],
     file: &mut [u8],
-    headers: &mut [u32],
+    heads: &mut [u32],
     rows: &mut [u32],
+    slots: &mut [u32],
+    chars: &mut [u8],
+    refs: &mut [u32],
+    wholes: &mut [i64],
+    reals: &mut [f64],
+    ends: &mut [usize],
     out: &mut [u8],
     run: Run,
 ) -> Run {
     let mut last = run;
     let mut turns = u64::MAX;
     while turns > 0 && last.over == 0 {
-        last = turn(chunk, file, headers, rows, out, last);
+        last = turn(
+            chunk,
+            file,
+            heads,
+            rows,
+            slots,
+            chars,
+            refs,
+            wholes,
+            reals,
+            ends,
+            out,
+            last,
+        );
         turns -= 1;
     }
     last
 }
 
-// Rooms for a case of 256 KiB, whatever it holds: a header record takes three bytes or more, a data record six.
+// Answers the next case, if there is one.
+fn turn(
+    chunk: &mut [u8],
+    file: &mut [u8],
+    heads: &mut [u32],
+    rows: &mut [u32],
+    slots: &mut [u32],
+    chars: &mut [u8],
+    refs: &mut [u32],
+    wholes: &mut [i64],
+    reals: &mut [f64],
+    ends: &mut [usize],
+    out: &mut [u8],
+    run: Run,
+) -> Run {
+    let got = take(chunk, file, out, run);
+    let next = got.run;
+    if got.found == 0 {
+        return next;
+    }
+    let n = got.count;
+    let t = &file[..n];
+    let pen = answer(
+        t,
+        heads,
+        rows,
+        slots,
+        chars,
+        refs,
+        wholes,
+        reals,
+        ends,
+        out,
+        next.pen,
+    );
+    written(next, pen)
+}
+
+// The run once more was put.
+fn written(run: Run, pen: Pen) -> Run {
+    let feed = run.feed;
+    Run {
+        feed,
+        number: run.number,
+        over: run.over,
+        pen,
+    }
+}
+
+// Rooms for a case of 256 KiB, whatever it holds: a header record takes three bytes or more, a data record six; a byte of a string
+// gives three at most; a reference in a list takes three bytes, another number two, a row of a grid three.
 const SMALL_FILE: usize = 262145;
 
-const SMALL_HEADERS: usize = 349528;
+const SMALL_HEADS: usize = 349528;
 
 const SMALL_ROWS: usize = 262146;
+
+const SMALL_SLOTS: usize = 43691;
+
+const SMALL_CHARS: usize = 786432;
+
+const SMALL_REFS: usize = 87382;
+
+const SMALL_NUMBERS: usize = 131073;
+
+const SMALL_ENDS: usize = 87382;
 
 // Answers the next cases, with rooms that fit a stack of 8 MiB.
 pub fn small(chunk: &mut [u8], out: &mut [u8], run: Run) -> Run {
     let mut file = [0u8; SMALL_FILE];
-    let mut headers = [0u32; SMALL_HEADERS];
+    let mut heads = [0u32; SMALL_HEADS];
     let mut rows = [0u32; SMALL_ROWS];
-    lend_small(chunk, &mut file, &mut headers, &mut rows, out, run)
+    let mut slots = [0u32; SMALL_SLOTS];
+    let mut chars = [0u8; SMALL_CHARS];
+    let mut refs = [0u32; SMALL_REFS];
+    let mut wholes = [0i64; SMALL_NUMBERS];
+    let mut reals = [0.0; SMALL_NUMBERS];
+    let mut ends = [0usize; SMALL_ENDS];
+    lend_small(
+        chunk,
+        &mut file,
+        &mut heads,
+        &mut rows,
+        &mut slots,
+        &mut chars,
+        &mut refs,
+        &mut wholes,
+        &mut reals,
+        &mut ends,
+        out,
+        run,
+    )
 }
 
 // An array behind a reference is lent as a slice with no proof of its length.
 fn lend_small(
     chunk: &mut [u8],
     file: &mut [u8; SMALL_FILE],
-    headers: &mut [u32; SMALL_HEADERS],
+    heads: &mut [u32; SMALL_HEADS],
     rows: &mut [u32; SMALL_ROWS],
+    slots: &mut [u32; SMALL_SLOTS],
+    chars: &mut [u8; SMALL_CHARS],
+    refs: &mut [u32; SMALL_REFS],
+    wholes: &mut [i64; SMALL_NUMBERS],
+    reals: &mut [f64; SMALL_NUMBERS],
+    ends: &mut [usize; SMALL_ENDS],
     out: &mut [u8],
     run: Run,
 ) -> Run {
-    go_on(chunk, file, headers, rows, out, run)
+    go_on(
+        chunk,
+        file,
+        heads,
+        rows,
+        slots,
+        chars,
+        refs,
+        wholes,
+        reals,
+        ends,
+        out,
+        run,
+    )
 }
 
 // Writes out what the buffer still holds.
 pub fn finish(out: &[u8], run: Run) {
     let pen = run.pen;
     text::finish(out, pen);
-}
-
-fn turn(
-    chunk: &mut [u8],
-    file: &mut [u8],
-    headers: &mut [u32],
-    rows: &mut [u32],
-    out: &mut [u8],
-    run: Run,
-) -> Run {
-    if os::arg_count() < 2 {
-        stream_case(chunk, file, headers, rows, out, run)
-    } else {
-        file_case(file, headers, rows, out, run)
-    }
-}
-
-// The next case of standard input.
-fn stream_case(
-    chunk: &mut [u8],
-    file: &mut [u8],
-    headers: &mut [u32],
-    rows: &mut [u32],
-    out: &mut [u8],
-    run: Run,
-) -> Run {
-    let feed = run.feed;
-    let pen = run.pen;
-    match input::number_line(chunk, feed) {
-        Line::Number(n, next) => {
-            let titled = title(out, pen, run.number);
-            let begun = Run {
-                feed: next,
-                number: run.number,
-                over: 0,
-                pen: titled,
-            };
-            case_of(chunk, file, headers, rows, out, n as usize, begun)
-        }
-        Line::End(next) => stopped(out, run.number, pen, next),
-        Line::Bad(next) => {
-            let said = text::bytes(
-                out,
-                pen,
-                b"malformed: the length of a case should stand here, in digits, and then LF\n",
-            );
-            stopped(out, run.number, said, next)
-        }
-    }
-}
-
-// `case I`
-fn title(out: &mut [u8], pen: Pen, number: usize) -> Pen {
-    let a = text::bytes(out, pen, b"case ");
-    let b = text::decimal(out, a, number as u64);
-    text::byte(out, b, b'\n')
-}
-
-// A case of n bytes that follow in the input.
-fn case_of(
-    chunk: &mut [u8],
-    file: &mut [u8],
-    headers: &mut [u32],
-    rows: &mut [u32],
-    out: &mut [u8],
-    n: usize,
-    run: Run,
-) -> Run {
-    let feed = run.feed;
-    let pen = run.pen;
-    if n < file.len() {
-        let got = input::bring(chunk, feed, n, file);
-        let count = got.count;
-        let next = got.feed;
-        if count < n {
-            return cut_short(out, run.number, pen, count, n, next);
-        }
-        let answered = answer(&file[..count], headers, rows, out, pen);
-        return done(run.number, answered, next);
-    }
-    let said = text::bytes(out, pen, b"too long for this program\n");
-    let got = input::skip(chunk, feed, n);
-    let next = got.feed;
-    if got.count < n {
-        return cut_short(out, run.number, said, got.count, n, next);
-    }
-    done(run.number, said, next)
-}
-
-// The run after the case of this number.
-fn done(number: usize, pen: Pen, feed: Feed) -> Run {
-    Run {
-        feed,
-        number: std::num::wrapping_add_usize(number, 1),
-        over: 0,
-        pen,
-    }
-}
-
-// The input ended inside a case.
-fn cut_short(out: &mut [u8], number: usize, pen: Pen, count: usize, n: usize, feed: Feed) -> Run {
-    let said = cut_words(out, pen, count as u64, n as u64);
-    stopped(out, number, said, feed)
-}
-
-fn cut_words(out: &mut [u8], pen: Pen, count: u64, n: u64) -> Pen {
-    let a = text::bytes(out, pen, b"malformed: the input ends after ");
-    let b = text::decimal(out, a, count);
-    let c = text::bytes(out, b, b" of the case's ");
-    let d = text::decimal(out, c, n);
-    text::bytes(out, d, b" bytes\n")
-}
-
-// The run is over. Where a read failed, it says so.
-fn stopped(out: &mut [u8], number: usize, pen: Pen, feed: Feed) -> Run {
-    if feed.failed == 0 {
-        return Run {
-            feed,
-            number,
-            over: 1,
-            pen,
-        };
-    }
-    os::fail(b"standard input");
-    let said = text::bytes(out, pen, b"standard input cannot be read\n");
-    Run {
-        feed,
-        number,
-        over: 1,
-        pen: said,
-    }
-}
-
-// The next argument's case.
-fn file_case(
-    file: &mut [u8],
-    headers: &mut [u32],
-    rows: &mut [u32],
-    out: &mut [u8],
-    run: Run,
-) -> Run {
-    let feed = run.feed;
-    let pen = run.pen;
-    let argument = std::num::wrapping_add_usize(run.number, 1);
-    if argument >= os::arg_count() {
-        return stopped(out, run.number, pen, feed);
-    }
-    let titled = title(out, pen, run.number);
-    let answered = named(argument, file, headers, rows, out, titled);
-    done(run.number, answered, feed)
-}
-
-// Answers the case that is the file of an argument.
-fn named(
-    argument: usize,
-    file: &mut [u8],
-    headers: &mut [u32],
-    rows: &mut [u32],
-    out: &mut [u8],
-    pen: Pen,
-) -> Pen {
-    let mut name = io::buffer();
-    let opened = input::open_argument(argument, &mut name);
-    let fd = opened.fd;
-    if fd < 0 {
-        return text::bytes(out, pen, b"cannot be opened\n");
-    }
-    let got = input::fill(fd, file);
-    if got.failed != 0 {
-        os::fail(b"read");
-        libc::close(fd);
-        return text::bytes(out, pen, b"cannot be read\n");
-    }
-    libc::close(fd);
-    let n = got.count;
-    if n == file.len() {
-        return text::bytes(out, pen, b"too long for this program\n");
-    }
-    answer(&file[..n], headers, rows, out, pen)
 }

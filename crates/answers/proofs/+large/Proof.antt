@@ -10,7 +10,7 @@ use Rattle.answers.proofs.lend_large.Reads as lend-large-reads
 use Rattle.answers.proofs.+large.{statement}
 use Rattle.answers.proofs.+large.Tie.{close}
 
-less : (limit t : ℕ) → limit ≡ t → 12000000 ≤ limit → limit - 12000000 < t
+less : (limit t : ℕ) → limit ≡ t → 40000000 ≤ limit → limit - 40000000 < t
 less limit t e h = omega arith
 
 abbrev μ-large : Measures 2 large-kinds.ps ℕ
@@ -22,7 +22,7 @@ large-at t = and 2 large-kinds.ps (is 2 large-kinds.ps μ-large t) large.Pre
 abbrev large-below : ℕ → In 2 large-kinds.ps
 large-below t = and 2 large-kinds.ps (falls 2 large-kinds.ps _<_ μ-large t) large.Pre
 
--- src/main.rt:21:9
+-- src/main.rt:38:9
 large-lend-large-requires : (t : ℕ) → large-lts.Need-lend-large-requires (
   lend-large-reads.Asked,
   lend-large-reads.Learnt,
@@ -31,7 +31,7 @@ large-lend-large-requires : (t : ℕ) → large-lts.Need-lend-large-requires (
 ) (large-at t) large.Post
 large-lend-large-requires t c κs = tt
 
--- src/main.rt:23:9
+-- src/main.rt:53:9
 large-same-length : (t : ℕ) → large-lts.Need-same-length (
   lend-large-reads.Asked,
   lend-large-reads.Learnt,
@@ -40,16 +40,16 @@ large-same-length : (t : ℕ) → large-lts.Need-same-length (
 ) (large-at t) large.Post
 large-same-length t c = c .before .before .before .before .before .lend-large .kept .0
 
--- src/main.rt:23:9
+-- src/main.rt:53:9
 large-same-length-2 : (t : ℕ) → large-lts.Need-same-length-2 (
   lend-large-reads.Asked,
   lend-large-reads.Learnt,
   large-below t,
   large.Post,
 ) (large-at t) large.Post
-large-same-length-2 t c = c .before .before .before .before .before .lend-large .kept .1 .1 .1 .1 .0
+large-same-length-2 t c = c .before .before .before .before .before .lend-large .kept .1 .1 .1 .1 .1 .1 .1 .1 .1 .1 .0
 
--- src/main.rt:23:9
+-- src/main.rt:53:9
 large-returns : (t : ℕ) → large-lts.Need-returns (
   lend-large-reads.Asked,
   lend-large-reads.Learnt,
@@ -58,16 +58,16 @@ large-returns : (t : ℕ) → large-lts.Need-returns (
 ) (large-at t) large.Post
 large-returns t c = tt
 
--- src/main.rt:26:9
+-- src/main.rt:56:9
 large-large-requires : (t : ℕ) → large-lts.Need-large-requires (
   lend-large-reads.Asked,
   lend-large-reads.Learnt,
   large-below t,
   large.Post,
 ) (large-at t) large.Post
-large-large-requires t c κs = (less (c .before .before .before .before .before .before .before .before .before .before .before .before .before .before .before .before .before .args .limit) t (c .before .before .before .before .before .before .before .before .before .before .before .before .before .before .before .before .before .pre .0) (c .before .before .before .before .if1 .left), tt)
+large-large-requires t c κs = (less (c .before .before .before .before .before .before .before .before .before .before .before .before .before .before .before .before .before .before .before .before .before .before .before .args .limit) t (c .before .before .before .before .before .before .before .before .before .before .before .before .before .before .before .before .before .before .before .before .before .before .before .pre .0) (c .before .before .before .before .if1 .left), tt)
 
--- src/main.rt:26:9
+-- src/main.rt:56:9
 large-same-length-3 : (t : ℕ) → large-lts.Need-same-length-3 (
   lend-large-reads.Asked,
   lend-large-reads.Learnt,
@@ -76,16 +76,16 @@ large-same-length-3 : (t : ℕ) → large-lts.Need-same-length-3 (
 ) (large-at t) large.Post
 large-same-length-3 t c = c .before .before .before .before .large .kept .1 .0 ∙ c .before .before .before .before .before .before .before .before .before .before .before .before .before .before .lend-large .kept .0
 
--- src/main.rt:26:9
+-- src/main.rt:56:9
 large-same-length-4 : (t : ℕ) → large-lts.Need-same-length-4 (
   lend-large-reads.Asked,
   lend-large-reads.Learnt,
   large-below t,
   large.Post,
 ) (large-at t) large.Post
-large-same-length-4 t c = c .before .before .before .before .large .kept .1 .1 .0 ∙ c .before .before .before .before .before .before .before .before .before .before .before .before .before .before .lend-large .kept .1 .1 .1 .1 .0
+large-same-length-4 t c = c .before .before .before .before .large .kept .1 .1 .0 ∙ c .before .before .before .before .before .before .before .before .before .before .before .before .before .before .lend-large .kept .1 .1 .1 .1 .1 .1 .1 .1 .1 .1 .0
 
--- src/main.rt:26:9
+-- src/main.rt:56:9
 large-returns-2 : (t : ℕ) → large-lts.Need-returns-2 (
   lend-large-reads.Asked,
   lend-large-reads.Learnt,
@@ -94,7 +94,7 @@ large-returns-2 : (t : ℕ) → large-lts.Need-returns-2 (
 ) (large-at t) large.Post
 large-returns-2 t c = tt
 
--- src/main.rt:17:1
+-- src/main.rt:28:1
 large-same-length-5 : (t : ℕ) → large-lts.Need-same-length-5 (
   lend-large-reads.Asked,
   lend-large-reads.Learnt,
@@ -103,16 +103,16 @@ large-same-length-5 : (t : ℕ) → large-lts.Need-same-length-5 (
 ) (large-at t) large.Post
 large-same-length-5 t c = c .before .before .before .before .before .before .before .lend-large .kept .0
 
--- src/main.rt:17:1
+-- src/main.rt:28:1
 large-same-length-6 : (t : ℕ) → large-lts.Need-same-length-6 (
   lend-large-reads.Asked,
   lend-large-reads.Learnt,
   large-below t,
   large.Post,
 ) (large-at t) large.Post
-large-same-length-6 t c = c .before .before .before .before .before .before .before .lend-large .kept .1 .1 .1 .1 .0
+large-same-length-6 t c = c .before .before .before .before .before .before .before .lend-large .kept .1 .1 .1 .1 .1 .1 .1 .1 .1 .1 .0
 
--- src/main.rt:17:1
+-- src/main.rt:28:1
 large-returns-3 : (t : ℕ) → large-lts.Need-returns-3 (
   lend-large-reads.Asked,
   lend-large-reads.Learnt,
