@@ -64,6 +64,7 @@ pub data Spells (t : List ℕ) : Type 0 where
   whole : {r : List ℕ} → Quotation (39 ∷ t) r → Spells t
   cut : OpenText (39 ∷ t) → Spells t
 
+-- every string comes to one of these
 pub spells : (t : List ℕ) → Spells t
 spells t = go (39 ∷ t) refl (tokens (39 ∷ t))
   where
@@ -80,6 +81,7 @@ pub data Remarks (t : List ℕ) : Type 0 where
   whole : {r : List ℕ} → Comment (47 ∷ 42 ∷ t) r → Remarks t
   cut : OpenRemark (47 ∷ 42 ∷ t) → Remarks t
 
+-- and every comment
 pub remarks : (t : List ℕ) → Remarks t
 remarks t = go (47 ∷ 42 ∷ t) refl (tokens (47 ∷ 42 ∷ t))
   where
