@@ -1,5 +1,5 @@
-// What the readers of grids say at one state, as text: all numbers, and then the row ends. The form of the lines is that by which this
-// reader is compared with the Rust original.
+// What the readers of lists and of grids say at one state, as text: of a grid all numbers, and then the row ends. The form of the lines is
+// that by which this reader is compared with the Rust original.
 use grids::NextGrid;
 use params::State;
 use scalar_lines::F64_GRID;
@@ -8,18 +8,20 @@ use scalar_lines::label;
 use scalar_lines::refused;
 use text::Pen;
 
-// The lines `ref_grid` and `f64_grid`. The rooms are lent for references, reals and row ends.
+// The lines from `ref_list` to `f64_grid`, in the form's order. The rooms are lent for references, integers, reals and row ends.
 pub fn lines(
     file: &[u8],
     at: State,
     refs: &mut [u32],
+    wholes: &mut [i64],
     reals: &mut [f64],
     ends: &mut [usize],
     out: &mut [u8],
     pen: Pen,
 ) -> Pen {
-    let a = ref_line(file, at, refs, ends, out, pen);
-    f64_line(file, at, reals, ends, out, a)
+    let a = list_lines::lines(file, at, refs, wholes, reals, out, pen);
+    let b = ref_line(file, at, refs, ends, out, a);
+    f64_line(file, at, reals, ends, out, b)
 }
 
 fn ref_line(

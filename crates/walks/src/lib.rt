@@ -64,10 +64,9 @@ fn turn(
     }
     let at = w.at;
     let a = scalar_lines::lines(file, at, chars, out, w.pen);
-    let b = list_lines::lines(file, at, refs, wholes, reals, out, a);
-    let c = grid_lines::lines(file, at, refs, reals, ends, out, b);
+    let b = grid_lines::lines(file, at, refs, wholes, reals, ends, out, a);
     let next = params::skip(file, at);
-    let pen = scalar_lines::skip_line(out, c, next);
+    let pen = scalar_lines::skip_line(out, b, next);
     records::stepped(w, after(next), is_past(next), pen)
 }
 

@@ -4,7 +4,7 @@ use Rattle.walks.proofs.turn.Statement.{statement}
 use Rattle.walks.proofs.turn.Tie as tie
 use Rattle.walks.proofs.turn.Reads as reads
 use Rattle.walks.proofs.turn.Lts as lts
-use Rattle.list_lines.proofs.lines.Reads as lines-reads
+use Rattle.grid_lines.proofs.lines.Reads as lines-reads
 use Rattle.params.proofs.skip.Reads as skip-reads
 use Rattle.scalar_lines.proofs.lines.Reads as lines-reads′
 use Rattle.scalar_lines.proofs.skip_line.Reads as skip-line-reads

@@ -1,0 +1,116 @@
+-- What the code's answers say. Assumes nothing.
+use Prim.Native.Nat.{ℕ, zero, suc, _≤_}
+use mathlib.Core.Path.{_≡_}
+use mathlib.Core.Bool.{Bool, true, false}
+use mathlib.Core.List.{List, [], _∷_}
+use mathlib.Core.Option.{Option, none, some}
+use lib.ListN.{length}
+use lib.Ieee.{binary64, toBits}
+use Rattle.error.specs.Refusal.{Told, good, bad, told}
+use Rattle.lex.specs.Byte.{pick}
+use Rattle.statement.specs.Row.{HeaderRow}
+use Rattle.reals.specs.Scalar.{referenceOf}
+use Rattle.kinds.specs.Kind.{kindOf}
+use Rattle.kinds.specs.declared.Kind.{Kind}
+use Rattle.kinds.specs.declared.Kind as KindCode
+use Rattle.params.specs.Reader.{span, onward}
+use Rattle.lists.specs.Items.{fine, asFate, itemsFrom, valuesOf}
+use Rattle.lookup.specs.Lookup.{cut, spanFine, rowNumbers}
+use Rattle.factors.specs.Thing.{sameKind, Thing, thingOf}
+use Rattle.factors.specs.Code.{toldRun}
+use Rattle.factors.specs.declared.Run as RunCode
+use Rattle.units.specs.Units as unit
+use Rattle.units.specs.Units.{Units, units, defaults, isContext, contextOf, refsIn, lengthRole, angleRole, solidRole}
+use Rattle.units.specs.declared.Values as ValuesCode
+use Rattle.units.specs.declared.Resolved as ResolvedCode
+use Rattle.units.specs.declared.Asked as AskedCode
+use Rattle.units.specs.declared.role.Role as RoleCode
+use Rattle.units.specs.declared.listed.Tolerance as ToleranceCode
+use Rattle.units.specs.declared.listed.Refs as RefsCode
+use Rattle.units.specs.declared.listed.Uncertain as UncertainCode
+
+-- four values, as patterns
+abbrev pub valuesIn : ValuesCode.Values → Units
+valuesIn v = units (toBits binary64 (v .length)) (toBits binary64 (v .angle)) (toBits binary64 (v .tolerance)) (v .resolved)
+
+-- four values, or a refusal
+abbrev pub toldUnits : ResolvedCode.Resolved → Told Units
+toldUnits (ResolvedCode.the-variants.Is v) = good (valuesIn v)
+toldUnits (ResolvedCode.the-variants.Refused f) = bad (told f)
+
+-- yes, no, or a refusal
+abbrev pub toldAsked : AskedCode.Asked → Told Bool
+toldAsked AskedCode.the-variants.Yes = good true
+toldAsked AskedCode.the-variants.No = good false
+toldAsked (AskedCode.the-variants.Refused f) = bad (told f)
+
+-- a context's units; those that are assumed for any other record
+unfoldable pub contextOr : List ℕ → (ℕ → Told (Option Thing)) → Thing → Told Units
+contextOr s find t = onward (λ c. pick c (contextOf s find t) (good defaults)) (isContext s t)
+
+-- an answer that decides: a refusal, or one with a length unit
+abbrev pub deciding : Told Units → Bool
+deciding (good u) = u .resolved
+deciding (bad q) = true
+
+-- the records of n rows from row k on
+unfoldable pub thingsFrom : List ℕ → List ℕ → ℕ → ℕ → List (Told Thing)
+thingsFrom s rows zero k = []
+thingsFrom s rows (suc n) k = thingOf s (rowNumbers rows k) ∷ thingsFrom s rows n (suc k)
+
+-- a role, none, or a refusal
+abbrev pub toldRole : RoleCode.Role → Told (Option unit.Role)
+toldRole RoleCode.the-variants.Length = good (some lengthRole)
+toldRole RoleCode.the-variants.Angle = good (some angleRole)
+toldRole RoleCode.the-variants.Solid = good (some solidRole)
+toldRole RoleCode.the-variants.Nothing = good none
+toldRole (RoleCode.the-variants.Refused f) = bad (told f)
+
+-- the code's role of a kind
+abbrev pub roleAfter : Kind → RoleCode.Role
+roleAfter k = pick (sameKind k KindCode.the-variants.LengthUnit) RoleCode.the-variants.Length (pick (sameKind k KindCode.the-variants.PlaneAngleUnit) RoleCode.the-variants.Angle (pick (sameKind k KindCode.the-variants.SolidAngleUnit) RoleCode.the-variants.Solid RoleCode.the-variants.Nothing))
+
+-- the role that was found before, or another
+abbrev pub keptRole : RoleCode.Role → RoleCode.Role → RoleCode.Role
+keptRole RoleCode.the-variants.Length r = RoleCode.the-variants.Length
+keptRole RoleCode.the-variants.Angle r = RoleCode.the-variants.Angle
+keptRole RoleCode.the-variants.Solid r = RoleCode.the-variants.Solid
+keptRole RoleCode.the-variants.Nothing r = r
+keptRole (RoleCode.the-variants.Refused f) r = RoleCode.the-variants.Refused f
+
+-- the kind of a part by its keyword; `Other` where that is not in the file
+abbrev pub kindAt : List ℕ → HeaderRow → Kind
+kindAt s p = pick (spanFine (length s) (p .keyStart) (p .keyEnd)) (kindOf (cut s (p .keyStart) (p .keyEnd))) KindCode.the-variants.Other
+
+-- the references of a list's inside that all read
+abbrev pub idsOf : List ℕ → List ℕ
+idsOf b = valuesOf (itemsFrom (suc (length b)) (λ u. asFate (referenceOf u)) 0 b)
+
+-- they all read
+abbrev pub ReadsAll : List ℕ → Type 0
+ReadsAll b = itemsFrom (suc (length b)) (λ u. asFate (referenceOf u)) 0 b ≡ fine (idsOf b)
+
+-- the references x of the file s: refused, none, or those of a list's inside
+abbrev pub RefsTo : List ℕ → Told (List ℕ) → RefsCode.Refs → Type 0
+RefsTo s x (RefsCode.the-variants.Refused f) = x ≡ bad (told f)
+RefsTo s x RefsCode.the-variants.Nothing = x ≡ good []
+RefsTo s x (RefsCode.the-variants.Inside a z) = (a ≤ z) × ((z ≤ length s) × (ReadsAll (cut s a z) × (x ≡ good (idsOf (cut s a z)))))
+
+-- the references that the arguments begin with
+abbrev pub RefsAt : List ℕ → RunCode.Run → RefsCode.Refs → Type 0
+RefsAt s run r = RefsTo s (onward (refsIn s) (toldRun run)) r
+
+-- the same of arguments from a up to z
+abbrev pub RefsBy : List ℕ → ℕ → ℕ → RefsCode.Refs → Type 0
+RefsBy s a z r = RefsTo s (refsIn s (some (span a z))) r
+
+-- a tolerance, or a refusal
+abbrev pub toldTolerance : ToleranceCode.Tolerance → Told ℕ
+toldTolerance (ToleranceCode.the-variants.Is v) = good (toBits binary64 v)
+toldTolerance (ToleranceCode.the-variants.Refused f) = bad (told f)
+
+-- what a listed uncertainty gives: a tolerance, none, or a refusal
+abbrev pub toldUncertain : UncertainCode.Uncertain → Told (Option ℕ)
+toldUncertain (UncertainCode.the-variants.Is v) = good (some (toBits binary64 v))
+toldUncertain UncertainCode.the-variants.Next = good none
+toldUncertain (UncertainCode.the-variants.Refused f) = bad (told f)

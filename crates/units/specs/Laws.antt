@@ -1,0 +1,630 @@
+-- Laws for the code: each way out of a function, over plain variables. Assumes nothing.
+use Prim.Native.Nat.{ℕ, zero, suc, _+_, _-_, _≤_, _<_, min}
+use mathlib.Core.Path.{_≡_, refl, sym, _∙_, ap, subst}
+use mathlib.Core.Bool.{Bool, true, false, _&&_}
+use mathlib.Core.List.{List, [], _∷_, map}
+use mathlib.Core.Option.{Option, none, some}
+use native.Mathlib.Omega.{arith}
+use native.Mathlib.Numerals.{add-one}
+use borrow.Author.Tests.{le-leb, lt-ltb, ltb-true}
+use lib.Dec.{eqb, ltb}
+use lib.IntN.{ℤ}
+use lib.Ieee.{binary64, toBits, ofBits, size}
+use lib.ListN.{length, take, drop, getD, length-drop}
+use lib.Seq.{take-take, drop-drop, length-take-le}
+use Rattle.error.specs.Refusal.{Refusal, refusal, Told, good, bad, told}
+use Rattle.error.specs.declared.Fault.{Fault}
+use Rattle.lex.specs.Byte.{pick}
+use Rattle.lex.specs.Right.Steps.{clash}
+use Rattle.record.specs.Turns.{bounds}
+use Rattle.record.specs.Word.{trimmed}
+use Rattle.nearest.specs.Near.{near, nearUnits}
+use Rattle.statement.specs.Row.{Row, HeaderRow}
+use Rattle.statement.specs.Statement.{headerRowOf}
+use Rattle.statement.specs.declared.HeaderSpan.{HeaderSpan}
+use Rattle.kinds.specs.declared.Kind.{Kind}
+use Rattle.kinds.specs.declared.Kind.the-variants.{GeometricRepresentationContext, GlobalUnitAssignedContext, GlobalUncertaintyAssignedContext, LengthUnit, PlaneAngleUnit, SolidAngleUnit, UncertaintyMeasureWithUnit}
+use Rattle.params.specs.Reader.{Read, reading, Span, span, onward, paramOf}
+use Rattle.scalars.specs.Scalars.{measureOf}
+use Rattle.scalars.specs.Scalars as Scalars
+use Rattle.reals.specs.Scalar.{wholeOf, referenceOf}
+use Rattle.parts.specs.Part.{nextOf, before, partsBy, partsFrom, partsOf}
+use Rattle.parts.specs.Laws.{next-ahead}
+use Rattle.lists.specs.declared.Item.{Item}
+use Rattle.lists.specs.Items.{Fate, fine, faulty, shifted, fated, mute, asFate, itemsFrom, isNone, itemsBy, Body, inside, bare, bodyOf, listed, listBy, roomed, nextBy, valuesOf, ItemAt}
+use Rattle.lists.specs.Laws.{item-in}
+use Rattle.lists.specs.ReadLaws.{count-mute}
+use Rattle.lists.specs.Fill.{fill-bad, fill-last, fill-more, fill-head}
+use Rattle.lookup.specs.Lookup.{cut, spanFine, spanIn, kindIn, tableRows, rowNumbers, rowIn}
+use Rattle.lookup.specs.Lookup as Lookup
+use Rattle.factors.specs.Thing.{goodBy, sameKind, pieceOf, Thing, thingOf, selfOr}
+use Rattle.factors.specs.Factor.{optionBy, lengthOf, angleOf}
+use Rattle.units.specs.Units as unit
+use Rattle.units.specs.Units.{Units, lengthRole, angleRole, solidRole, roleBy, firstRole, roleOf, withLength, withAngle, reads, readsInteger, isContext, unitOf, unitBy, unitsBy, uncertainBy, uncertaintyOf, uncertaintyBy, toleranceBy, defaults, withTolerance, refsIn, listedUnits, listedTolerance, contextOf, decided, recordOf, resolveOf}
+use Rattle.units.specs.Code.{toldRole, roleAfter, keptRole, kindAt, contextOr, deciding, thingsFrom, idsOf, ReadsAll, RefsTo}
+use Rattle.units.specs.declared.listed.Refs.{Refs}
+use Rattle.units.specs.declared.listed.Refs.the-variants as refs
+use Rattle.units.specs.declared.role.Role.{Role}
+use Rattle.units.specs.declared.role.Role.the-variants.{Length, Angle, Solid, Nothing, Refused}
+
+-- ---- what is assumed
+-- 1.0 is the f64 nearest to 1
+pub one-bits : toBits binary64 (ofBits binary64 4607182418800017408) ≡ near 1 1
+unfolding toBits ofBits near nearUnits size
+one-bits = refl
+
+-- 1e-3 is the f64 nearest to a thousandth
+pub thousandth-bits : toBits binary64 (ofBits binary64 4562254508917369340) ≡ near 1 1000
+unfolding toBits ofBits near nearUnits size
+thousandth-bits = refl
+
+-- ---- roles, the parts read one by one
+-- the role that was found so far
+abbrev pub roleIn : Role → Option unit.Role
+roleIn Length = some lengthRole
+roleIn Angle = some angleRole
+roleIn Solid = some solidRole
+roleIn Nothing = none
+roleIn (Refused f) = none
+
+-- nothing was refused so far
+abbrev pub Fine : Role → Type 0
+Fine Length = Unit {0}
+Fine Angle = Unit {0}
+Fine Solid = Unit {0}
+Fine Nothing = Unit {0}
+Fine (Refused f) = ⊥
+
+-- the role of the first part of those that gives one
+abbrev pub roleAmong : List ℕ → List HeaderRow → Option unit.Role
+roleAmong s ps = firstRole (map (pieceOf s) ps)
+
+-- where the reading stands at the place i: so many steps are enough, and what was found and what is left give the answer
+pub record Seeking (s : List ℕ) (start end i : ℕ) (got : Role) : Type 0 where
+  pub steps : ℕ
+  pub enough : length s < steps + i
+  pub inside : i ≤ length s
+  pub fine : Fine got
+  pub gives : goodBy (λ ps. optionBy (roleAmong s ps) some (roleIn got)) (partsFrom steps s i end) ≡ goodBy (roleAmong s) (partsOf s start end)
+
+-- what was found, told
+found-told : (got : Role) → Fine got → toldRole got ≡ good (optionBy none some (roleIn got))
+found-told Length h = refl
+found-told Angle h = refl
+found-told Solid h = refl
+found-told Nothing h = refl
+found-told (Refused f) h = absurd h
+
+-- no kind refuses
+after-fine : (k : Kind) → Fine (roleAfter k)
+after-fine k = go (sameKind k LengthUnit) (sameKind k PlaneAngleUnit) (sameKind k SolidAngleUnit)
+  where
+    go : (a b d : Bool) → Fine (pick a Length (pick b Angle (pick d Solid Nothing)))
+    go true b d = tt
+    go false true d = tt
+    go false false true = tt
+    go false false false = tt
+
+-- a part more leaves it fine
+fine-more : (got : Role) (k : Kind) → Fine got → Fine (keptRole got (roleAfter k))
+fine-more Length k h = tt
+fine-more Angle k h = tt
+fine-more Solid k h = tt
+fine-more Nothing k h = after-fine k
+fine-more (Refused f) k h = absurd h
+
+-- the code's role of a kind is the kind's
+after-is : (k : Kind) → roleIn (roleAfter k) ≡ roleBy k
+after-is k = go (sameKind k LengthUnit) (sameKind k PlaneAngleUnit) (sameKind k SolidAngleUnit)
+  where
+    go : (a b d : Bool) → roleIn (pick a Length (pick b Angle (pick d Solid Nothing))) ≡ pick a (some lengthRole) (pick b (some angleRole) (pick d (some solidRole) none))
+    go true b d = refl
+    go false true d = refl
+    go false false true = refl
+    go false false false = refl
+
+-- a part more, and the parts after it
+more-found : (got : Role) (k : Kind) (rest : Option unit.Role) → Fine got → optionBy rest some (roleIn (keptRole got (roleAfter k))) ≡ optionBy (optionBy rest some (roleBy k)) some (roleIn got)
+more-found Length k rest h = refl
+more-found Angle k rest h = refl
+more-found Solid k rest h = refl
+more-found Nothing k rest h = ap (optionBy rest some) (after-is k)
+more-found (Refused f) k rest h = absurd h
+
+module _ (s : List ℕ) (start end : ℕ) where
+  -- no part has been read
+  pub seek-starts : start ≤ length s → Seeking s start end start Nothing
+  seek-starts h = record { steps = suc (length s); enough = omega arith; inside = h; fine = tt; gives = refl }
+
+  module _ (i : ℕ) (got : Role) (f : Seeking s start end i got) where
+    -- the steps that are left after one
+    later : (n : ℕ) × (suc n ≡ f .steps) × (goodBy (λ ps. optionBy (roleAmong s ps) some (roleIn got)) (partsBy (nextOf s i end) (λ p. partsFrom n s (p .argEnd + 1) end)) ≡ goodBy (roleAmong s) (partsOf s start end))
+    unfolding partsFrom
+    later = go (f .steps) (f .enough) (f .gives)
+      where
+        go : (n : ℕ) → length s < n + i → goodBy (λ ps. optionBy (roleAmong s ps) some (roleIn got)) (partsFrom n s i end) ≡ goodBy (roleAmong s) (partsOf s start end)
+            → (m : ℕ) × (suc m ≡ n) × (goodBy (λ ps. optionBy (roleAmong s ps) some (roleIn got)) (partsBy (nextOf s i end) (λ p. partsFrom m s (p .argEnd + 1) end)) ≡ goodBy (roleAmong s) (partsOf s start end))
+        go zero l e = let w = f .inside in absurd (omega arith)
+        go (suc m) l e = (m, refl, e)
+
+    -- no part is left: what was found is the answer
+    pub seek-over : nextOf s i end ≡ good none → toldRole got ≡ goodBy (roleAmong s) (partsOf s start end)
+    seek-over e = found-told got (f .fine) ∙ (rw e at (later .2))
+
+    -- a fault refuses all
+    pub seek-refused : (q : Refusal) → nextOf s i end ≡ bad q → bad q ≡ goodBy (roleAmong s) (partsOf s start end)
+    seek-refused q e = rw e at (later .2)
+
+    -- one part more
+    pub seek-goes : (p : HeaderSpan) → nextOf s i end ≡ good (some (headerRowOf p)) → Seeking s start end (p .args .end + 1) (keptRole got (roleAfter (kindAt s (headerRowOf p))))
+    seek-goes p e =
+        let (n, c, g) = later in
+        let (a, b, d, h) = next-ahead s i end (headerRowOf p) e in
+        let w = f .enough in
+        record {
+          steps = n;
+          enough = omega arith;
+          inside = omega arith;
+          fine = fine-more got (kindAt s (headerRowOf p)) (f .fine);
+          gives = by (kind-is a b) (partsFrom n s (p .args .end + 1) end) ∙ (rw e at g);
+        }
+      where
+        kind-is : headerRowOf p .keyStart ≤ headerRowOf p .keyEnd → headerRowOf p .keyEnd ≤ length s → kindAt s (headerRowOf p) ≡ pieceOf s (headerRowOf p) .kind
+        kind-is a b = rw (le-leb (headerRowOf p .keyStart) (headerRowOf p .keyEnd) a, le-leb (headerRowOf p .keyEnd) (length s) b) refl
+
+        by : kindAt s (headerRowOf p) ≡ pieceOf s (headerRowOf p) .kind → (x : Told (List HeaderRow)) → goodBy (λ ps. optionBy (roleAmong s ps) some (roleIn (keptRole got (roleAfter (kindAt s (headerRowOf p)))))) x
+            ≡ goodBy (λ ps. optionBy (roleAmong s ps) some (roleIn got)) (before (headerRowOf p) x)
+        by k (good ps) = ap good (more-found got (kindAt s (headerRowOf p)) (roleAmong s ps) (f .fine) ∙ ap (λ (y : Kind). optionBy (optionBy (roleAmong s ps) some (roleBy y)) some (roleIn got)) k)
+        by k (bad q) = refl
+
+-- ---- records
+-- a span that was given lies in the file
+pub span-good : (n a z : ℕ) {p : Lookup.Span} → good p ≡ spanIn n a z → (spanFine n a z ≡ true) × (p ≡ Lookup.span a z)
+span-good n a z {p} = go (spanFine n a z)
+  where
+    go : (b : Bool) → good p ≡ pick b (good (Lookup.span a z)) (bad (refusal 9 0 0)) → (b ≡ true) × (p ≡ Lookup.span a z)
+    go true h = (refl, cc)
+    go false h = clash (cc)
+
+-- and begins in it
+pub span-starts : (n a z : ℕ) {p : Lookup.Span} → good p ≡ spanIn n a z → p .start ≤ n
+span-starts n a z h = let (f, g) = span-good n a z h in let (l, m) = bounds a z n f in rw g (omega (arith, l, m))
+
+module _ (s : List ℕ) (w : Row) {p : Lookup.Span} (given : good p ≡ spanIn (length s) (w .argStart) (w .argEnd)) where
+  -- "a simple record gives no factor there"
+  pub role-simple : eqb (w .complex) 1 ≡ false → good none ≡ onward roleOf (thingOf s w)
+  role-simple e = let (f, g) = span-good (length s) (w .argStart) (w .argEnd) given in rw (f, e) refl
+
+  -- a complex record's role, by its parts
+  pub role-parts : {x : Told (Option unit.Role)} → eqb (w .complex) 1 ≡ true → x ≡ goodBy (roleAmong s) (partsOf s (p .start) (p .end)) → x ≡ onward roleOf (thingOf s w)
+  role-parts e h = let (f, g) = span-good (length s) (w .argStart) (w .argEnd) given in rw (f, e) ((rw g at h) ∙ go (partsOf s (w .argStart) (w .argEnd)))
+    where
+      go : (x : Told (List HeaderRow)) → goodBy (roleAmong s) x ≡ goodBy firstRole (goodBy (map (pieceOf s)) x)
+      go (good ps) = refl
+      go (bad q) = refl
+
+-- ---- contexts
+module _ (s : List ℕ) where
+  -- whether a record is a context, by its arguments
+  pub context-is : (x : Told Thing) {y : Told (Option Span)} → y ≡ onward (selfOr GeometricRepresentationContext) x → goodBy (readsInteger s) y ≡ onward (isContext s) x
+  unfolding isContext
+  context-is (good t) h = ap (goodBy (readsInteger s)) h
+  context-is (bad q) h = ap (goodBy (readsInteger s)) h
+
+  -- whether its first parameter reads
+  pub whole-reads : (a z : ℕ) {x : Read ℤ} → x ≡ Scalars.nextOf wholeOf s a z → good (reads (x .answer)) ≡ goodBy (readsInteger s) (good (some (span a z)))
+  whole-reads a z h = ap (λ (y : Read ℤ). good (reads (y .answer))) h
+
+-- ---- listed units
+-- a refusal is the same whatever is told
+same-bad : {A B : Type 0} {q r : Refusal} → _≡_ {A = Told A} (bad q) (bad r) → _≡_ {A = Told B} (bad q) (bad r)
+same-bad {q} {r} h = let e : q ≡ r = cc in ap bad e
+
+module _ (s : List ℕ) (find : ℕ → Told (Option Thing)) (u : Units) where
+  -- no record has the id
+  pub unit-missing : (i : ℕ) → find i ≡ good none → good u ≡ unitBy s find u i
+  unfolding unitBy
+  unit-missing i h = rw h refl
+
+  -- the record that has it
+  pub unit-row : (i : ℕ) (t : Told Thing) {x : Told Units} → find i ≡ goodBy some t → x ≡ onward (unitOf s find u) t → x ≡ unitBy s find u i
+  unfolding unitBy
+  unit-row i (good t) h e = rw h e
+  unit-row i (bad r) h e = rw h e
+
+  -- a fault in its parts
+  pub role-refused : (t : Told Thing) {q : Refusal} → bad q ≡ onward roleOf t → bad q ≡ onward (unitOf s find u) t
+  role-refused (good t) h = rw (← h) refl
+  role-refused (bad r) h = same-bad h
+
+  -- none of the roles
+  pub role-none : (t : Told Thing) → good none ≡ onward roleOf t → good u ≡ onward (unitOf s find u) t
+  role-none (good t) h = rw (← h) refl
+  role-none (bad r) h = clash (cc)
+
+  -- a solid angle
+  pub role-solid : (t : Told Thing) → good (some solidRole) ≡ onward roleOf t → good u ≡ onward (unitOf s find u) t
+  role-solid (good t) h = rw (← h) refl
+  role-solid (bad r) h = clash (cc)
+
+  -- a length
+  pub role-length : (t : Told Thing) {x : Told Units} {y : Told (Option ℕ)} → good (some lengthRole) ≡ onward roleOf t → x ≡ goodBy (withLength u) y → y ≡ onward (lengthOf s find 16) t → x ≡ onward (unitOf s find u) t
+  role-length (good t) h e k = rw (← h) (e ∙ ap (goodBy (withLength u)) k)
+  role-length (bad r) h e k = clash (cc)
+
+  -- an angle
+  pub role-angle : (t : Told Thing) {x : Told Units} {y : Told (Option ℕ)} → good (some angleRole) ≡ onward roleOf t → x ≡ goodBy (withAngle u) y → y ≡ onward (angleOf s find) t → x ≡ onward (unitOf s find u) t
+  role-angle (good t) h e k = rw (← h) (e ∙ ap (goodBy (withAngle u)) k)
+  role-angle (bad r) h e k = clash (cc)
+
+  -- a unit that is refused refuses the list
+  pub units-bad : (i : ℕ) (l : List ℕ) {q : Refusal} → bad q ≡ unitBy s find u i → bad q ≡ unitsBy s find u (i ∷ l)
+  unfolding unitsBy
+  units-bad i l h = rw (← h) refl
+
+  -- after another the rest is gone through
+  pub units-more : (i : ℕ) {v : Units} → good v ≡ unitBy s find u i → (l : List ℕ) → unitsBy s find v l ≡ unitsBy s find u (i ∷ l)
+  unfolding unitsBy
+  units-more i h l = rw (← h) refl
+
+  -- the last one's values are the list's
+  pub units-last : (i : ℕ) {v : Units} → good v ≡ unitBy s find u i → good v ≡ unitsBy s find u (i ∷ [])
+  unfolding unitsBy
+  units-last i h = rw (← h) refl
+
+-- ---- listed uncertainties
+module _ (s : List ℕ) (find : ℕ → Told (Option Thing)) where
+  -- no record has the id
+  pub uncertain-missing : (i : ℕ) → find i ≡ good none → good none ≡ uncertaintyBy s find i
+  unfolding uncertaintyBy
+  uncertain-missing i h = rw h refl
+
+  -- the record that has it
+  pub uncertain-row : (i : ℕ) (t : Told Thing) {x : Told (Option ℕ)} → find i ≡ goodBy some t → x ≡ onward (uncertaintyOf s find) t → x ≡ uncertaintyBy s find i
+  unfolding uncertaintyBy
+  uncertain-row i (good t) h e = rw h e
+  uncertain-row i (bad r) h e = rw h e
+
+  module _ (w : Row) {p : Lookup.Span} (given : good p ≡ spanIn (length s) (w .argStart) (w .argEnd)) where
+    -- a record of another kind
+    pub uncertain-other : sameKind (kindIn s w) UncertaintyMeasureWithUnit ≡ false → good none ≡ onward (uncertaintyOf s find) (thingOf s w)
+    uncertain-other e = let (f, g) = span-good (length s) (w .argStart) (w .argEnd) given in rw (f, e) refl
+
+    -- one of this kind, by its measure
+    pub uncertain-own : {x : Told (Option ℕ)} {y : Read ℕ} → sameKind (kindIn s w) UncertaintyMeasureWithUnit ≡ true → x ≡ uncertainBy (y .answer) → y ≡ Scalars.nextOf measureOf s (p .start) (p .end) → x ≡ onward (uncertaintyOf s find) (thingOf s w)
+    uncertain-own e h k = let (f, g) = span-good (length s) (w .argStart) (w .argEnd) given in rw (f, e) (h ∙ ap (λ (y : Read ℕ). uncertainBy (y .answer)) (rw g at k))
+
+  -- "the first [..] that reads"
+  pub tolerance-is : (i : ℕ) (l : List ℕ) {v : ℕ} → good (some v) ≡ uncertaintyBy s find i → good v ≡ toleranceBy s find (i ∷ l)
+  unfolding toleranceBy
+  tolerance-is i l h = rw (← h) refl
+
+  -- a refusal refuses the list
+  pub tolerance-bad : (i : ℕ) (l : List ℕ) {q : Refusal} → bad q ≡ uncertaintyBy s find i → bad q ≡ toleranceBy s find (i ∷ l)
+  unfolding toleranceBy
+  tolerance-bad i l h = rw (← h) refl
+
+  -- after another the next one is asked
+  pub tolerance-more : (i : ℕ) → good none ≡ uncertaintyBy s find i → (l : List ℕ) → toleranceBy s find l ≡ toleranceBy s find (i ∷ l)
+  unfolding toleranceBy
+  tolerance-more i h l = rw (← h) refl
+
+  -- "else 1e-3"
+  pub tolerance-last : (i : ℕ) → good none ≡ uncertaintyBy s find i → good (near 1 1000) ≡ toleranceBy s find (i ∷ [])
+  unfolding toleranceBy
+  tolerance-last i h = rw (← h) refl
+
+-- ---- lists of references
+-- the inside of a list, and that it has both parentheses
+body-full : (t b : List ℕ) → bodyOf t ≡ inside b → (2 ≤ length t) × (b ≡ take (length t - 1 - 1) (drop 1 t))
+unfolding bodyOf
+body-full [] b e = clash (cc)
+body-full (c ∷ []) b e = go (eqb c 40) e
+  where
+    go : (k : Bool) → pick (k && eqb 0 41) (inside (take (0 - 1) [])) bare ≡ inside b → (2 ≤ 1) × (b ≡ take (1 - 1 - 1) [])
+    go true f = clash (cc)
+    go false f = clash (cc)
+body-full (c ∷ (d ∷ r)) b e = go (eqb c 40 && eqb (getD (d ∷ r) (length (d ∷ r) - 1) 0) 41) e
+  where
+    go : (k : Bool) → pick k (inside (take (length (d ∷ r) - 1) (d ∷ r))) bare ≡ inside b → (2 ≤ length (c ∷ (d ∷ r))) × (b ≡ take (length (c ∷ (d ∷ r)) - 1 - 1) (d ∷ r))
+    go true f =
+        let g : take (length (d ∷ r) - 1) (d ∷ r) ≡ b = cc in
+        let m : length (d ∷ r) - 1 ≡ length (c ∷ (d ∷ r)) - 1 - 1 = omega arith in
+        (omega arith, sym g ∙ ap (λ (k : ℕ). take k (d ∷ r)) m)
+    go false f = clash (cc)
+
+-- the items of a list that is not empty are those of its inside
+full-list : {A : Type 0} (g : List ℕ → Fate A) (t : List ℕ) (vs : List A) → listBy g t ≡ fine vs → (length vs ≡ 0 → ⊥)
+    → (2 ≤ length t) × (itemsFrom (suc (length (take (length t - 1 - 1) (drop 1 t)))) g 0 (take (length t - 1 - 1) (drop 1 t)) ≡ fine vs)
+unfolding listBy itemsBy
+full-list {A} g t vs h k = go (bodyOf t) refl h
+  where
+    unshift : (x : Fate (List A)) → shifted 1 x ≡ fine vs → x ≡ fine vs
+    unshift (fine ws) f = f
+    unshift (faulty n o) f = clash (cc)
+
+    by : (b : List ℕ) (j : Bool) → shifted 1 (pick j (fine []) (itemsFrom (suc (length b)) g 0 b)) ≡ fine vs → itemsFrom (suc (length b)) g 0 b ≡ fine vs
+    by b true f = let e : [] ≡ vs = cc in absurd (k (ap length (sym e)))
+    by b false f = unshift (itemsFrom (suc (length b)) g 0 b) f
+
+    go : (x : Body) → bodyOf t ≡ x → listed g x ≡ fine vs → (2 ≤ length t) × (itemsFrom (suc (length (take (length t - 1 - 1) (drop 1 t)))) g 0 (take (length t - 1 - 1) (drop 1 t)) ≡ fine vs)
+    go bare e f = clash (cc)
+    go (inside b) e f = let (n, m) = body-full t b e in (n, subst (λ (y : List ℕ). itemsFrom (suc (length y)) g 0 y ≡ fine vs) m (by b (isNone (trimmed b)) f))
+
+-- the first byte left out
+one-in : (m : ℕ) (l : List ℕ) → 1 ≤ length l → drop 1 (take (suc m) l) ≡ take m (drop 1 l)
+one-in m [] h = absurd (omega arith)
+one-in m (c ∷ l) h = refl
+
+-- the inside of a text of the file is one too
+inside-cut : (s : List ℕ) (x y : ℕ) → x ≤ y → y ≤ length s → 2 ≤ y - x → take (y - x - 1 - 1) (drop 1 (cut s x y)) ≡ cut s (x + 1) (y - 1)
+inside-cut s x y h k l =
+    let m : y - x ≡ suc (y - x - 1) = omega arith in
+    let n : 1 ≤ length (drop x s) = simp length-drop (omega arith) in
+    let d : drop 1 (cut s x y) ≡ take (y - x - 1) (drop (x + 1) s) = ap (λ (j : ℕ). drop 1 (take j (drop x s))) m ∙ one-in (y - x - 1) (drop x s) n ∙ ap (take (y - x - 1)) (drop-drop 1 x s) in
+    let e : y - x - 1 - 1 ≡ y - 1 - (x + 1) = omega arith in
+    ap (take (y - x - 1 - 1)) d ∙ take-take (y - x - 1 - 1) (y - x - 1) (drop (x + 1) s) (omega arith) ∙ ap (λ (j : ℕ). take j (drop (x + 1) s)) e
+
+-- how long such a text is
+pub cut-length : (s : List ℕ) (x y : ℕ) → x ≤ y → y ≤ length s → length (cut s x y) ≡ y - x
+cut-length s x y h k = length-take-le (y - x) (drop x s) (simp length-drop (omega arith))
+
+-- a count that is a refusal is the list's
+count-bad : {A : Type 0} (x : Fate (List A)) {n o : ℕ} → faulty n o ≡ fated length x → x ≡ faulty n o
+count-bad (fine vs) h = clash (cc)
+count-bad (faulty m p) {n} {o} h = let a : n ≡ m = cc in let b : o ≡ p = cc in ap (λ (j : ℕ). faulty j p) (sym a) ∙ ap (λ (j : ℕ). faulty n j) (sym b)
+
+-- a count of a list that reads
+count-fine : {A : Type 0} (x : Fate (List A)) {n : ℕ} → fine n ≡ fated length x → (vs : List A) × (x ≡ fine vs) × (n ≡ length vs)
+count-fine (fine vs) h = (vs, refl, cc)
+count-fine (faulty m p) h = clash (cc)
+
+-- the code's reader of a reference
+abbrev pub refer : List ℕ → Fate ℕ
+refer u = asFate (referenceOf u)
+
+-- no arguments
+pub refs-none : (s : List ℕ) → refsIn s none ≡ good []
+unfolding refsIn
+refs-none s = refl
+
+module _ (s : List ℕ) (a z : ℕ) where
+  -- no parameter is cut
+  pub refs-uncut : {q : Refusal} {p e : ℕ} → reading (bad q) p e ≡ paramOf s a z → refsIn s (some (span a z)) ≡ bad q
+  unfolding refsIn nextBy
+  refs-uncut h = rw (← h) refl
+
+  module _ (x y p e : ℕ) (given : reading (good (span x y)) p e ≡ paramOf s a z) where
+    -- the text of one
+    refs-cut : refsIn s (some (span a z)) ≡ roomed (λ vs. true) x (listBy refer (cut s x y))
+    unfolding refsIn nextBy
+    refs-cut = rw (← given) refl
+
+    -- a list that does not read
+    pub refs-bad : {n o : ℕ} → faulty n o ≡ fated length (listBy (λ u. mute (refer u)) (cut s x y)) → refsIn s (some (span a z)) ≡ bad (refusal n 0 (x + o))
+    refs-bad h = refs-cut ∙ ap (roomed (λ vs. true) x) (count-bad (listBy refer (cut s x y)) (h ∙ count-mute refer (cut s x y)))
+
+    -- a list without items
+    pub refs-empty : {n : ℕ} → fine n ≡ fated length (listBy (λ u. mute (refer u)) (cut s x y)) → n ≡ 0 → refsIn s (some (span a z)) ≡ good []
+    refs-empty {n} h k =
+        let (vs, f, l) = count-fine (listBy refer (cut s x y)) (h ∙ count-mute refer (cut s x y)) in
+        refs-cut ∙ ap (roomed (λ vs. true) x) (f ∙ ap fine (nothing vs (sym l ∙ k)))
+      where
+        nothing : (vs : List ℕ) → length vs ≡ 0 → vs ≡ []
+        nothing [] j = refl
+        nothing (v ∷ vs) j = absurd (omega (arith, j))
+
+    -- a list with items
+    pub refs-full : {n : ℕ} → x ≤ y → y ≤ length s → fine n ≡ fated length (listBy (λ u. mute (refer u)) (cut s x y)) → (n ≡ 0 → ⊥)
+        → (2 ≤ y - x) × (ReadsAll (cut s (x + 1) (y - 1)) × (refsIn s (some (span a z)) ≡ good (idsOf (cut s (x + 1) (y - 1)))))
+    refs-full {n} o r h k =
+        let (vs, f, l) = count-fine (listBy refer (cut s x y)) (h ∙ count-mute refer (cut s x y)) in
+        let (m, q) = full-list refer (cut s x y) vs f (λ j. k (l ∙ j)) in
+        let w = cut-length s x y o r in
+        let two : 2 ≤ y - x = omega (arith, w, m) in
+        let c : take (length (cut s x y) - 1 - 1) (drop 1 (cut s x y)) ≡ cut s (x + 1) (y - 1) = ap (λ (j : ℕ). take (j - 1 - 1) (drop 1 (cut s x y))) w ∙ inside-cut s x y o r two in
+        let i : itemsFrom (suc (length (cut s (x + 1) (y - 1)))) refer 0 (cut s (x + 1) (y - 1)) ≡ fine vs = subst (λ (b : List ℕ). itemsFrom (suc (length b)) refer 0 b ≡ fine vs) c q in
+        let v : vs ≡ idsOf (cut s (x + 1) (y - 1)) = sym (ap valuesOf i) in
+        (two, (i ∙ ap fine v, refs-cut ∙ ap (roomed (λ vs. true) x) f ∙ ap good v))
+
+-- ---- the references of a list's inside, one after another
+-- where the reading stands at the place i: so many references were passed, and what is left of them gives the answer
+pub record Reading {A : Type 0} (b : List ℕ) (left : List ℕ → Told A) (all : Told A) (i : ℕ) : Type 0 where
+  pub passed : ℕ
+  pub few : passed ≤ i
+  pub within : i ≤ length b
+  pub rest : itemsFrom (suc (length b) - passed) refer i (drop i b) ≡ fine (drop passed (idsOf b))
+  pub gives : left (drop passed (idsOf b)) ≡ all
+
+-- none is passed yet
+pub reading-starts : {A : Type 0} (b : List ℕ) (left : List ℕ → Told A) (all : Told A) → ReadsAll b → left (idsOf b) ≡ all → Reading b left all 0
+reading-starts b left all h e = let m : suc (length b) - 0 ≡ suc (length b) = omega arith in record {
+  passed = 0;
+  few = omega arith;
+  within = omega arith;
+  rest = ap (λ (n : ℕ). itemsFrom n refer 0 b) m ∙ h;
+  gives = e;
+}
+
+module _ {A : Type 0} (b : List ℕ) (left : List ℕ → Told A) (all : Told A) (i : ℕ) (f : Reading b left all i) (r : Item) (found : ItemAt b (min i (length b)) r) where
+  here : ItemAt b i r
+  here = item-in b i r (f .within) found
+
+  few-enough : f .passed ≤ length b
+  few-enough = omega (arith, f .few, f .within)
+
+  -- no item is bad
+  pub reading-bad : (k o : ℕ) → faulty k o ≡ refer (take (r .stop - r .start) (drop (r .start) b)) → ⊥
+  reading-bad k o e = fill-bad refer b i (f .passed) r here few-enough (idsOf b) (f .rest) k o e
+
+  module _ (v : ℕ) (e : fine v ≡ refer (take (r .stop - r .start) (drop (r .start) b))) where
+    -- a reference, and some after it
+    pub reading-here : (l : List ℕ) × (left (v ∷ l) ≡ all)
+    reading-here = let (l, k) = fill-head refer b i (f .passed) r here few-enough (idsOf b) (f .rest) v e in (l, ap left (sym k) ∙ f .gives)
+
+    -- the last one
+    pub reading-last : r .bound ≡ length b → left (v ∷ []) ≡ all
+    reading-last k = ap left (sym (fill-last refer b i (f .passed) r here few-enough (idsOf b) (f .rest) v e k)) ∙ f .gives
+
+    -- another one
+    pub reading-goes : (left′ : List ℕ → Told A) → ((l : List ℕ) → left′ l ≡ left (v ∷ l)) → r .bound < length b → Reading b left′ all (r .bound + 1)
+    reading-goes left′ g k =
+        let (q, s) = fill-more refer b i (f .passed) r here few-enough (idsOf b) (f .rest) v e k in
+        record {
+          passed = f .passed + 1;
+          few = omega (arith, f .few, here .above);
+          within = omega arith;
+          rest = s;
+          gives = g (drop (f .passed + 1) (idsOf b)) ∙ ap left (sym q) ∙ f .gives;
+        }
+
+-- what the code's answer says of the references
+pub refs-refused : (s : List ℕ) (x : Told (List ℕ)) (r : Refs) (f : Fault) → RefsTo s x r → r ≡ refs.Refused f → x ≡ bad (told f)
+refs-refused s x r f h e = subst (RefsTo s x) e h
+
+-- there are none
+pub refs-nothing : (s : List ℕ) (x : Told (List ℕ)) (r : Refs) → RefsTo s x r → r ≡ refs.Nothing → x ≡ good []
+refs-nothing s x r h e = subst (RefsTo s x) e h
+
+-- they are those of a list's inside
+pub refs-inside : (s : List ℕ) (x : Told (List ℕ)) (r : Refs) (a z : ℕ) → RefsTo s x r → r ≡ refs.Inside a z → (a ≤ z) × ((z ≤ length s) × (ReadsAll (cut s a z) × (x ≡ good (idsOf (cut s a z)))))
+refs-inside s x r a z h e = subst (RefsTo s x) e h
+
+-- ---- contexts, by their lists
+module _ (s : List ℕ) (find : ℕ → Told (Option Thing)) where
+  -- no unit is listed
+  pub units-none : (u : Units) → good u ≡ unitsBy s find u []
+  unfolding unitsBy
+  units-none u = refl
+
+  -- no uncertainty is
+  pub tolerance-none : good (near 1 1000) ≡ toleranceBy s find []
+  unfolding toleranceBy
+  tolerance-none = refl
+
+  -- the units of a context, by its arguments
+  pub listed-units-is : (x : Told Thing) {y : Told (Option Span)} → y ≡ onward (selfOr GlobalUnitAssignedContext) x → onward (unitsBy s find defaults) (onward (refsIn s) y) ≡ onward (listedUnits s find) x
+  unfolding listedUnits
+  listed-units-is (good t) h = ap (λ (y : Told (Option Span)). onward (unitsBy s find defaults) (onward (refsIn s) y)) h
+  listed-units-is (bad q) h = ap (λ (y : Told (Option Span)). onward (unitsBy s find defaults) (onward (refsIn s) y)) h
+
+  -- its tolerance
+  pub listed-tolerance-is : (x : Told Thing) {y : Told (Option Span)} → y ≡ onward (selfOr GlobalUncertaintyAssignedContext) x → onward (toleranceBy s find) (onward (refsIn s) y) ≡ onward (listedTolerance s find) x
+  unfolding listedTolerance
+  listed-tolerance-is (good t) h = ap (λ (y : Told (Option Span)). onward (toleranceBy s find) (onward (refsIn s) y)) h
+  listed-tolerance-is (bad q) h = ap (λ (y : Told (Option Span)). onward (toleranceBy s find) (onward (refsIn s) y)) h
+
+  -- units that are refused
+  pub context-refused : (x : Told Thing) {q : Refusal} → bad q ≡ onward (listedUnits s find) x → bad q ≡ onward (contextOf s find) x
+  unfolding contextOf
+  context-refused (good t) h = rw (← h) refl
+  context-refused (bad r) h = h
+
+  -- a tolerance that is refused
+  pub context-late : (x : Told Thing) {u : Units} {q : Refusal} → good u ≡ onward (listedUnits s find) x → bad q ≡ onward (listedTolerance s find) x → bad q ≡ onward (contextOf s find) x
+  unfolding contextOf
+  context-late (good t) h e = rw (← h, ← e) refl
+  context-late (bad r) h e = clash (cc)
+
+  -- both
+  pub context-both : (x : Told Thing) {u : Units} {v : ℕ} → good u ≡ onward (listedUnits s find) x → good v ≡ onward (listedTolerance s find) x → good (withTolerance u v) ≡ onward (contextOf s find) x
+  unfolding contextOf
+  context-both (good t) h e = rw (← h, ← e) refl
+  context-both (bad r) h e = clash (cc)
+
+  -- a fault in a record's parts
+  pub or-refused : (x : Told Thing) {q : Refusal} → bad q ≡ onward (isContext s) x → bad q ≡ onward (contextOr s find) x
+  unfolding contextOr
+  or-refused (good t) h = rw (← h) refl
+  or-refused (bad r) h = same-bad h
+
+  -- a record that is no context
+  pub or-other : (x : Told Thing) → good false ≡ onward (isContext s) x → good defaults ≡ onward (contextOr s find) x
+  unfolding contextOr
+  or-other (good t) h = rw (← h) refl
+  or-other (bad r) h = clash (cc)
+
+  -- a context
+  pub or-context : (x : Told Thing) {y : Told Units} → good true ≡ onward (isContext s) x → y ≡ onward (contextOf s find) x → y ≡ onward (contextOr s find) x
+  unfolding contextOr
+  or-context (good t) h e = rw (← h) e
+  or-context (bad r) h e = clash (cc)
+
+  -- ---- the records in file order
+  -- a record that decides
+  pub record-last : (k : Unit {0} → Told Units) (t : Told Thing) (x : Told Units) → x ≡ onward (contextOr s find) t → deciding x ≡ true → x ≡ onward (recordOf s find k) t
+  unfolding contextOr
+  record-last k (bad r) x h d = h
+  record-last k (good t) x h d = go (isContext s t) (contextOf s find t) h
+    where
+      go : (c : Told Bool) (y : Told Units) → x ≡ onward (λ c. pick c y (good defaults)) c → x ≡ onward (λ c. pick c (onward (decided s find k) y) (k tt)) c
+      go (bad q) y e = e
+      go (good false) y e = clash (cc (sym d ∙ ap deciding e))
+      go (good true) (bad q) e = e
+      go (good true) (good u) e = let r : u .resolved ≡ true = sym (ap deciding e) ∙ d in e ∙ ap (λ (b : Bool). pick b (good u) (k tt)) (sym r)
+
+  -- a record that does not
+  pub record-next : (k : Unit {0} → Told Units) (t : Told Thing) (x : Told Units) → x ≡ onward (contextOr s find) t → deciding x ≡ false → k tt ≡ onward (recordOf s find k) t
+  unfolding contextOr
+  record-next k (bad r) x h d = clash (cc (sym d ∙ ap deciding h))
+  record-next k (good t) x h d = go (isContext s t) (contextOf s find t) h
+    where
+      go : (c : Told Bool) (y : Told Units) → x ≡ onward (λ c. pick c y (good defaults)) c → k tt ≡ onward (λ c. pick c (onward (decided s find k) y) (k tt)) c
+      go (bad q) y e = clash (cc (sym d ∙ ap deciding e))
+      go (good false) y e = refl
+      go (good true) (bad q) e = clash (cc (sym d ∙ ap deciding e))
+      go (good true) (good u) e = let r : u .resolved ≡ false = sym (ap deciding e) ∙ d in rw r refl
+
+  module _ (rows : List ℕ) (records : ℕ) where
+    -- where the seeking stands at row k: what is left gives the answer
+    pub record Resolving (k : ℕ) : Type 0 where
+      pub most : k ≤ tableRows rows records
+      pub gives : resolveOf s find (thingsFrom s rows (tableRows rows records - k) k) ≡ resolveOf s find (thingsFrom s rows (tableRows rows records) 0)
+
+    -- no row has been seen
+    pub resolve-starts : Resolving 0
+    resolve-starts = let m : tableRows rows records - 0 ≡ tableRows rows records = omega arith in record {
+      most = omega arith;
+      gives = ap (λ (n : ℕ). resolveOf s find (thingsFrom s rows n 0)) m;
+    }
+
+    -- a row, and that it is one of the table
+    pub row-there : (k : ℕ) {w : Row} → some w ≡ rowIn rows records k → (k < tableRows rows records) × (rowNumbers rows k ≡ w)
+    row-there k {w} h = go (ltb k (tableRows rows records)) refl h
+      where
+        go : (b : Bool) → ltb k (tableRows rows records) ≡ b → some w ≡ pick b (some (rowNumbers rows k)) none → (k < tableRows rows records) × (rowNumbers rows k ≡ w)
+        go true e f = (ltb-true k (tableRows rows records) e, cc)
+        go false e f = clash (cc)
+
+    module _ (k : ℕ) (f : Resolving k) where
+      -- no row is left
+      pub resolve-over : none ≡ rowIn rows records k → good defaults ≡ resolveOf s find (thingsFrom s rows (tableRows rows records) 0)
+      unfolding resolveOf thingsFrom
+      resolve-over h = go (tableRows rows records - k) refl (f .gives)
+        where
+          go : (n : ℕ) → tableRows rows records - k ≡ n → resolveOf s find (thingsFrom s rows n k) ≡ resolveOf s find (thingsFrom s rows (tableRows rows records) 0) → good defaults ≡ resolveOf s find (thingsFrom s rows (tableRows rows records) 0)
+          go zero e g = g
+          go (suc n) e g = let l = lt-ltb k (tableRows rows records) (omega (arith, e)) in clash (cc (rw l at h))
+
+      module _ {w : Row} (row : some w ≡ rowIn rows records k) where
+        -- the row's record, and those after it
+        step : onward (recordOf s find (λ u. resolveOf s find (thingsFrom s rows (tableRows rows records - (k + 1)) (k + 1)))) (thingOf s w) ≡ resolveOf s find (thingsFrom s rows (tableRows rows records) 0)
+        unfolding resolveOf thingsFrom
+        step =
+            let (l, e) = row-there k row in
+            let m : tableRows rows records - k ≡ suc (tableRows rows records - (k + 1)) = omega (arith, l) in
+            let n : k + 1 ≡ suc k = add-one k in
+            ap (λ (j : ℕ). onward (recordOf s find (λ u. resolveOf s find (thingsFrom s rows (tableRows rows records - (k + 1)) j))) (thingOf s w)) n
+            ∙ ap (λ (y : Row). onward (recordOf s find (λ u. resolveOf s find (thingsFrom s rows (tableRows rows records - (k + 1)) (suc k)))) (thingOf s y)) (sym e)
+            ∙ ap (λ (j : ℕ). resolveOf s find (thingsFrom s rows j k)) (sym m) ∙ f .gives
+
+        -- it decides
+        pub resolve-last : {x : Told Units} → x ≡ onward (contextOr s find) (thingOf s w) → deciding x ≡ true → x ≡ resolveOf s find (thingsFrom s rows (tableRows rows records) 0)
+        resolve-last {x} h d = record-last (λ u. resolveOf s find (thingsFrom s rows (tableRows rows records - (k + 1)) (k + 1))) (thingOf s w) x h d ∙ step
+
+        -- it does not
+        pub resolve-goes : {x : Told Units} → x ≡ onward (contextOr s find) (thingOf s w) → deciding x ≡ false → Resolving (k + 1)
+        resolve-goes {x} h d = let (l, e) = row-there k row in record {
+          most = omega (arith, l);
+          gives = record-next (λ u. resolveOf s find (thingsFrom s rows (tableRows rows records - (k + 1)) (k + 1))) (thingOf s w) x h d ∙ step;
+        }
