@@ -1,6 +1,6 @@
 // Header records by keyword, over number columns: four numbers a header row.
 //
-// As `header_args` of the Rust's lib.rs. The search over a slice of structs stands above this one.
+// As `header_args` of the Rust's lib.rs. The search over a slice of structs is to come above this one.
 ghost use mathlib.Core.Path.{_≡_};
 ghost use Prim.Native.Nat.{_+_, _-_, _*_, _/_, _≤_, _<_, min};
 ghost use lib.ListN.{length};

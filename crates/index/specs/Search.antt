@@ -19,7 +19,7 @@ abbrev pub toldFound : Found → Option ℕ
 toldFound (At r) = some r
 toldFound Nothing = none
 
--- where a search stands: slots before lo hold ids up to the one sought, the last of them `under`; slots from hi on hold greater
+-- where a search stands: in the index, slots before lo hold ids up to the one sought, the last of them `under`; slots from hi on hold greater
 -- ids, the first of them `over`; so many guided probes are left
 pub record Bracket : Type 0 where
   pub lo : ℕ

@@ -1,4 +1,4 @@
--- Document 01: "Rows kept beside a file are these six as little-endian 32-bit numbers, in file order; for them 9 comes before 16,
+-- Document 01: "Rows kept beside a file are these six as little-endian 32-bit numbers, in file order [..]; for them 9 comes before 16,
 -- given exactly when the lent room is too short."
 -- Assumes nothing.
 use Prim.Native.Nat.{ℕ, zero, suc, _+_, _*_, _/_, _%_, _≤_, _<_, min}

@@ -72,7 +72,7 @@ argsBy len (some w) = spanIn len (w .argStart) (w .argEnd)
 abbrev pub cut : List ℕ → ℕ → ℕ → List ℕ
 cut s a z = take (z - a) (drop a s)
 
--- a row's kind: a complex record's own, else that of its keyword; one outside the file is of no kind
+-- a row's kind: a complex record's own, else that of its keyword; one outside the file is `Other`
 abbrev pub kindIn : List ℕ → Row → Kind
 kindIn s w = pick (eqb (w .complex) 1) Complex (pick (spanFine (length s) (w .keyStart) (w .keyEnd)) (kindOf (cut s (w .keyStart) (w .keyEnd))) Other)
 

@@ -1,5 +1,5 @@
--- What the header says of the file: "empty wherever the Rust's are" (no such header record, too few parameters, or a parameter that
--- is no string), and "16 where the text room is short". Assumes nothing.
+-- What the header says of the file: "empty wherever the Rust's are" (no such header record, too few parameters, a literal that is
+-- open, or a parameter that is no string), and "16 where the text room is short". Assumes nothing.
 use Prim.Native.Nat.{ℕ}
 use mathlib.Core.Path.{_≡_, refl, sym, _∙_, ap}
 use mathlib.Core.List.{List, [], _∷_}
@@ -25,7 +25,7 @@ abbrev pub asTitle : Told Shown → Told Shown
 asTitle (good x) = good x
 asTitle (bad q) = pick (eqb (q .number) 16) (bad q) (good empty)
 
--- the text after the parameters that were passed; the empty one where there are too few
+-- the text after the parameters that were passed; the empty one where there are too few, or a literal is open
 abbrev pub skipped : List ℕ → ℕ → Told (Unit {0}) → ℕ → ℕ → Told Shown
 skipped s n (good u) p e = asTitle (mapped (stringAt s n) (paramOf s p e) .answer)
 skipped s n (bad q) p e = good empty
