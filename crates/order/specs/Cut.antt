@@ -42,3 +42,14 @@ pub data Cuts (s : List ℕ) : Section → List ℕ → Cut → Type 0 where
   -- a data record: after g its text b, its `;` and the rest
   entry : {sec : Section} {xs g b r : List ℕ} {w : Row} {c : Cut} → xs ≡ g ++ (b ++ (59 ∷ r))
       → statement s sec xs ≡ record′ w (b ++ (59 ∷ r)) r → Cuts s InData r c → Cuts s sec xs (piece g b (led (59 ∷ []) c))
+
+-- the same texts in another order
+pub data Permuted : List (List ℕ) → List (List ℕ) → Type 0 where
+  -- nothing
+  none : Permuted [] []
+  -- one that stays in front of others in another order
+  front : {b : List ℕ} {ts us : List (List ℕ)} → Permuted ts us → Permuted (b ∷ ts) (b ∷ us)
+  -- the first two change places
+  swap : {a b : List ℕ} {ts : List (List ℕ)} → Permuted (a ∷ b ∷ ts) (b ∷ a ∷ ts)
+  -- one change after the other
+  then : {ts us vs : List (List ℕ)} → Permuted ts us → Permuted us vs → Permuted ts vs

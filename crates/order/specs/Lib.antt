@@ -1,3 +1,4 @@
 pub mod Cut
 pub mod Shape
 pub mod Cuts
+pub mod Accepted

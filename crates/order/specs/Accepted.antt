@@ -1,0 +1,187 @@
+-- "The new file is accepted with the same rooms": its rows are those of the texts in its records' places. Assumes nothing.
+use Prim.Native.Nat.{ℕ, _+_, _≤_}
+use mathlib.Core.Path.{_≡_, refl, sym, _∙_, ap, subst}
+use mathlib.Core.Bool.{Bool, true, false, not}
+use mathlib.Core.List.{List, [], _∷_, _++_, append-assoc}
+use native.Mathlib.Omega.{arith}
+use native.Mathlib.Decide.{ℕ-discrete}
+use borrow.Author.Tests.{eqb-true, ne-eqb}
+use lib.Dec.{eqb}
+use lib.ListN.{length, length-append}
+use Rattle.error.specs.Refusal.{Told, good, bad}
+use Rattle.lex.specs.Byte.{white}
+use Rattle.lex.specs.Right.Steps.{clash}
+use Rattle.record.specs.Form.{All, Free, bytes}
+use Rattle.record.specs.FormRight.Parts.{all-join, all-kind}
+use Rattle.statement.specs.Row.{Row, HeaderRow}
+use Rattle.statement.specs.Closed.{Closed}
+use Rattle.statement.specs.declared.Section.{Section}
+use Rattle.statement.specs.declared.Section.the-variants.{Outside, InHeader, InData}
+use Rattle.scan.specs.File.{Table, scanOf}
+use Rattle.scan.specs.Form.{Marked, Reads, Scans}
+use Rattle.scan.specs.FormRight.{scans-only, scans-is}
+use Rattle.scan.specs.Rooms.{scan-roomy, scan-fit}
+use Rattle.order.specs.Cut.{Cut, rest, piece, led, texts, filled, Cuts, Permuted}
+use Rattle.order.specs.Shape.{Fit, AllFit, AllSay, AllHead, Shape, led-filled, Read, read-filled}
+use Rattle.order.specs.Cuts.{cuts-one, filled-own, Shaped, closed-shaped}
+
+-- texts in another order are as many
+pub permuted-length : {ts us : List (List ℕ)} → Permuted ts us → length us ≡ length ts
+permuted-length Permuted.none = refl
+permuted-length (Permuted.front p) = omega (arith, permuted-length p)
+permuted-length Permuted.swap = refl
+permuted-length (Permuted.then p q) = permuted-length q ∙ permuted-length p
+
+-- and each of them fits where another stood
+pub permuted-fit : {ts us : List (List ℕ)} → Permuted ts us → AllFit ts → AllFit us
+permuted-fit Permuted.none a = a
+permuted-fit (Permuted.front p) (a, r) = (a, permuted-fit p r)
+permuted-fit Permuted.swap (a, (b, r)) = (b, (a, r))
+permuted-fit (Permuted.then p q) a = permuted-fit q (permuted-fit p a)
+
+-- all their bytes
+abbrev total : List (List ℕ) → ℕ
+total [] = 0
+total (b ∷ bs) = length b + total bs
+
+permuted-total : {ts us : List (List ℕ)} → Permuted ts us → total us ≡ total ts
+permuted-total Permuted.none = refl
+permuted-total (Permuted.front p) = omega (arith, permuted-total p)
+permuted-total Permuted.swap = omega arith
+permuted-total (Permuted.then p q) = permuted-total q ∙ permuted-total p
+
+-- the file's bytes are those of the texts and of what stands between
+filled-total : (c : Cut) (us : List (List ℕ)) → length us ≡ length (texts c) → length (filled c us) + total (texts c) ≡ length (filled c (texts c)) + total us
+filled-total (rest g) [] n = refl
+filled-total (rest g) (u ∷ us) n = absurd (omega (arith, n))
+filled-total (piece g b c) [] n = absurd (omega (arith, n))
+filled-total (piece g b c) (u ∷ us) n =
+    simp length-append (omega (arith, filled-total c us (omega (arith, n))))
+
+-- the new file is as long as the old one
+pub filled-length : {s : List ℕ} {c : Cut} {us : List (List ℕ)} → Cuts s Outside s c → Permuted (texts c) us → length (filled c us) ≡ length s
+filled-length {s} {c} {us} k p =
+    omega (arith, filled-total c us (permuted-length p), permuted-total p, ap length (filled-own k))
+
+-- bytes that are no `;` stand before a `;`
+free-front : (u r x y : List ℕ) → Free 59 u → u ++ r ≡ x ++ (59 ∷ y) → (v : List ℕ) × (x ≡ u ++ v)
+free-front [] r x y f e = (x, refl)
+free-front (a ∷ u) r [] y (f, g) e = clash (cc)
+free-front (a ∷ u) r (b ∷ x) y (f, g) e = let (v, p) = free-front u r x y g (cc) in (v, cc)
+
+-- whitespace is no `;`
+white-free : (w : List ℕ) → All white w → Free 59 w
+white-free w a = all-kind white (λ d. not (eqb d 59)) w (λ c h. go c h (ℕ-discrete c 59)) a
+  where
+    go : (c : ℕ) → white c ≡ true → Dec (c ≡ 59) → not (eqb c 59) ≡ true
+    go c h (yes p) = let f : white 59 ≡ true = rw p at h in clash (cc)
+    go c h (no n) = rw (ne-eqb c 59 n) refl
+
+-- nor is a byte of the marker
+marker-free : Free 59 (bytes "ISO-10303-21")
+marker-free = (refl, (refl, (refl, (refl, (refl, (refl, (refl, (refl, (refl, (refl, (refl, (refl, tt))))))))))))
+
+-- "The marker is `ISO-10303-21` after an optional EF BB BF and whitespace only": what follows the first `;` has no part in it
+marked-any : {s : List ℕ} → Marked s → (x y : List ℕ) → s ≡ x ++ (59 ∷ y) → (z : List ℕ) → Marked (x ++ (59 ∷ z))
+marked-any (Marked.plain w r a) x y e z =
+    let (v, p) = free-front (w ++ bytes "ISO-10303-21") r x y (all-join _ w _ (white-free w a) marker-free) (append-assoc w _ r ∙ e) in
+    rw (p, append-assoc (w ++ bytes "ISO-10303-21") v (59 ∷ z), append-assoc w (bytes "ISO-10303-21") (v ++ (59 ∷ z))) (Marked.plain w (v ++ (59 ∷ z)) a)
+marked-any (Marked.mark w r a) x y e z =
+    let (v, p) = free-front (239 ∷ 187 ∷ 191 ∷ (w ++ bytes "ISO-10303-21")) r x y (refl, (refl, (refl, all-join _ w _ (white-free w a) marker-free))) (cc (append-assoc w (bytes "ISO-10303-21") r)) in
+    rw (p, append-assoc (w ++ bytes "ISO-10303-21") v (59 ∷ z), append-assoc w (bytes "ISO-10303-21") (v ++ (59 ∷ z))) (Marked.mark w (v ++ (59 ∷ z)) a)
+
+-- so the new file is marked
+filled-marked : {c : Cut} {hs : List (List ℕ)} → Shape Outside c hs → (ts us : List (List ℕ)) → Marked (filled c ts) → Marked (filled c us)
+filled-marked (Shape.over e) ts us m = m
+filled-marked (Shape.turn {c} g e d) ts us m =
+    rw (led-filled (g ++ (59 ∷ [])) c us, append-assoc g (59 ∷ []) (filled c us))
+    (marked-any m g (filled c ts) (led-filled (g ++ (59 ∷ [])) c ts ∙ append-assoc g (59 ∷ []) _) (filled c us))
+
+-- a file of so many texts, and the rows that it is read to have
+pub record Accepted (f : List ℕ) (hs us : List (List ℕ)) (H R : ℕ) : Type 0 where
+  pub result : Table
+  pub scanned : scanOf f H R ≡ good result
+  pub rows : AllSay f (result .records) us
+  pub heads : AllHead f (result .headers) hs
+
+-- the rows that texts are read to have are as many
+say-length : (f : List ℕ) (ws : List Row) (us : List (List ℕ)) → AllSay f ws us → length ws ≡ length us
+say-length f [] [] a = refl
+say-length f [] (u ∷ us) a = absurd a
+say-length f (w ∷ ws) [] a = absurd a
+say-length f (w ∷ ws) (u ∷ us) (k, a) = omega (arith, say-length f ws us a)
+
+-- so are header rows
+head-length : (f : List ℕ) (ws : List HeaderRow) (us : List (List ℕ)) → AllHead f ws us → length ws ≡ length us
+head-length f [] [] a = refl
+head-length f [] (u ∷ us) a = absurd a
+head-length f (w ∷ ws) [] a = absurd a
+head-length f (w ∷ ws) (u ∷ us) (k, a) = omega (arith, head-length f ws us a)
+
+-- a file of fitting texts is accepted with one row for each
+accepted-tight : {c : Cut} {hs : List (List ℕ)} → Shape Outside c hs → (us : List (List ℕ)) → AllFit us → length us ≡ length (texts c)
+    → length (filled c us) ≤ 4294967295 → Marked (filled c us) → Accepted (filled c us) hs us (length hs) (length us)
+accepted-tight {c} {hs} d us a n l m =
+    let r = read-filled (filled c us) [] (length hs) (length us) d us a n refl 0 0 (omega arith) (omega arith) in
+    record { result = r .result; scanned = sym (scans-only (Scans.read l m (r .reads))); rows = r .rows; heads = r .heads }
+
+-- and with all rooms that have those rows
+accepted-roomy : {f : List ℕ} {hs us : List (List ℕ)} {H R : ℕ} → Accepted f hs us H R → (H' R' : ℕ) → length hs ≤ H' → length us ≤ R' → Accepted f hs us H' R'
+accepted-roomy {f} {hs} {us} {H} {R} a H' R' l m = record {
+  result = a .result;
+  scanned = scan-roomy f H R (a .result) (a .scanned) H' R' (omega (arith, head-length f (a .result .headers) hs (a .heads))) (omega (arith, say-length f (a .result .records) us (a .rows)));
+  rows = a .rows;
+  heads = a .heads;
+}
+
+-- what is accepted is marked and not too long
+accepted-file : (s : List ℕ) (H R : ℕ) {t : Table} → scanOf s H R ≡ good t → (length s ≤ 4294967295) × Marked s
+accepted-file s H R e = go (rw e at (scans-is s H R))
+  where
+    go : {t : Table} → Scans s H R (good t) → (length s ≤ 4294967295) × Marked s
+    go (Scans.read l m d) = (l, m)
+
+-- two answers of one file are the same, whatever the rooms
+tables-one : (s : List ℕ) (H R H' R' : ℕ) (t u : Table) → scanOf s H R ≡ good t → scanOf s H' R' ≡ good u → t ≡ u
+tables-one s H R H' R' t u e f =
+    let (a, b) = scan-fit s H R t e in
+    let (c, d) = scan-fit s H' R' u f in
+    let x : scanOf s (H + H') (R + R') ≡ good t = scan-roomy s H R t e (H + H') (R + R') (omega arith) (omega arith) in
+    let y : scanOf s (H + H') (R + R') ≡ good u = scan-roomy s H' R' u f (H + H') (R + R') (omega arith) (omega arith) in
+    cc
+
+-- an answer of a file whose texts are known
+accepted-as : (s : List ℕ) {hs ts : List (List ℕ)} {h r : ℕ} (H R : ℕ) (t : Table) → Accepted s hs ts h r → scanOf s H R ≡ good t
+    → AllSay s (t .records) ts × AllHead s (t .headers) hs
+accepted-as s {hs} {ts} {h} {r} H R t a e =
+    let q : a .result ≡ t = tables-one s h r H R (a .result) t (a .scanned) e in
+    (subst (λ (u : Table). AllSay s (u .records) ts) q (a .rows), subst (λ (u : Table). AllHead s (u .headers) hs) q (a .heads))
+
+-- an accepted closed file and the file with its texts in another order: both are accepted, with the same header records
+pub record Both (s : List ℕ) (t : Table) (c : Cut) (us : List (List ℕ)) (H R : ℕ) : Type 0 where
+  pub headings : List (List ℕ)
+  pub rows : AllSay s (t .records) (texts c)
+  pub heads : AllHead s (t .headers) headings
+  pub after : Accepted (filled c us) headings us H R
+
+pub both-accepted : (s : List ℕ) (H R : ℕ) (t : Table) → scanOf s H R ≡ good t → Closed s → (c : Cut) → Cuts s Outside s c
+    → (us : List (List ℕ)) → Permuted (texts c) us → Both s t c us H R
+both-accepted s H R t e k c d us p = go (closed-shaped k)
+  where
+    by : {hs : List (List ℕ)} → Shape Outside c hs → AllFit (texts c) → Both s t c us H R
+    by {hs} sh fit =
+        let (l, m) = accepted-file s H R e in
+        let o : filled c (texts c) ≡ s = filled-own d in
+        let a : Accepted s hs (texts c) (length hs) (length (texts c)) = rw o at (accepted-tight sh (texts c) fit refl (rw o l) (rw o m)) in
+        let (x, y) = accepted-as s H R t a e in
+        let (i, j) = scan-fit s H R t e in
+        let n = accepted-tight sh us (permuted-fit p fit) (permuted-length p) (omega (arith, filled-length d p)) (filled-marked sh (texts c) us (rw o m)) in
+        record {
+          headings = hs;
+          rows = x;
+          heads = y;
+          after = accepted-roomy n H R (omega (arith, head-length s (t .headers) hs y)) (omega (arith, permuted-length p, say-length s (t .records) (texts c) x));
+        }
+
+    go : Shaped s Outside s → Both s t c us H R
+    go z = let q : z .pieces ≡ c = cuts-one (z .cuts) d in by (rw q at (z .shape)) (rw q at (z .fit))
