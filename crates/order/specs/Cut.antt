@@ -1,7 +1,13 @@
 -- A file cut at its data records, by the reader itself, and the file with other records in their places. Assumes nothing.
 use Prim.Native.Nat.{ℕ}
 use mathlib.Core.Path.{_≡_}
+use mathlib.Core.Bool.{Bool, true, false}
 use mathlib.Core.List.{List, [], _∷_, _++_}
+use lib.Dec.{eqb}
+use Rattle.lex.specs.Byte.{pick}
+use Rattle.record.specs.Head.{dataHead}
+use Rattle.record.specs.declared.Head.{Head}
+use Rattle.record.specs.declared.Head.the-variants.{Bad, Complex, Simple}
 use Rattle.statement.specs.Row.{Row, HeaderRow}
 use Rattle.statement.specs.Statement.{ends, moved, header, record′, statement}
 use Rattle.statement.specs.declared.Section.{Section}
@@ -53,3 +59,14 @@ pub data Permuted : List (List ℕ) → List (List ℕ) → Type 0 where
   swap : {a b : List ℕ} {ts : List (List ℕ)} → Permuted (a ∷ b ∷ ts) (b ∷ a ∷ ts)
   -- one change after the other
   then : {ts us vs : List (List ℕ)} → Permuted ts us → Permuted us vs → Permuted ts vs
+
+-- a data record's text has the id k
+abbrev pub named : ℕ → Head → Bool
+named k (Bad why) = false
+named k (Complex i o) = eqb i k
+named k (Simple i a z o) = eqb i k
+
+-- "records with equal ids": the texts with the id k, in order
+unfoldable pub ofId : ℕ → List (List ℕ) → List (List ℕ)
+ofId k [] = []
+ofId k (b ∷ bs) = pick (named k (dataHead b)) (b ∷ ofId k bs) (ofId k bs)
