@@ -21,20 +21,20 @@ use Rattle.scan.specs.File.{Table, scanOf}
 use Rattle.scan.specs.Form.{Marked, Reads, Scans}
 use Rattle.scan.specs.FormRight.{scans-only, scans-is}
 use Rattle.scan.specs.Rooms.{scan-roomy, scan-fit}
-use Rattle.order.specs.Cut.{Cut, rest, piece, led, texts, filled, Cuts, Permuted}
+use Rattle.order.specs.Order.{Cut, rest, piece, led, texts, filled, Cuts, Permuted}
 use Rattle.order.specs.Shape.{Fit, AllFit, AllSay, AllHead, Shape, led-filled, Read, read-filled}
 use Rattle.order.specs.Cuts.{cuts-one, filled-own, Shaped, closed-shaped}
 
 -- texts in another order are as many
 pub permuted-length : {ts us : List (List ℕ)} → Permuted ts us → length us ≡ length ts
-permuted-length Permuted.none = refl
+permuted-length Permuted.empty = refl
 permuted-length (Permuted.front p) = omega (arith, permuted-length p)
 permuted-length Permuted.swap = refl
 permuted-length (Permuted.then p q) = permuted-length q ∙ permuted-length p
 
 -- and each of them fits where another stood
 pub permuted-fit : {ts us : List (List ℕ)} → Permuted ts us → AllFit ts → AllFit us
-permuted-fit Permuted.none a = a
+permuted-fit Permuted.empty a = a
 permuted-fit (Permuted.front p) (a, r) = (a, permuted-fit p r)
 permuted-fit Permuted.swap (a, (b, r)) = (b, (a, r))
 permuted-fit (Permuted.then p q) a = permuted-fit q (permuted-fit p a)
@@ -45,7 +45,7 @@ total [] = 0
 total (b ∷ bs) = length b + total bs
 
 permuted-total : {ts us : List (List ℕ)} → Permuted ts us → total us ≡ total ts
-permuted-total Permuted.none = refl
+permuted-total Permuted.empty = refl
 permuted-total (Permuted.front p) = omega (arith, permuted-total p)
 permuted-total Permuted.swap = omega arith
 permuted-total (Permuted.then p q) = permuted-total q ∙ permuted-total p
@@ -105,14 +105,14 @@ pub record Accepted (f : List ℕ) (hs us : List (List ℕ)) (H R : ℕ) : Type 
   pub heads : AllHead f (result .headers) hs
 
 -- the rows that texts are read to have are as many
-say-length : (f : List ℕ) (ws : List Row) (us : List (List ℕ)) → AllSay f ws us → length ws ≡ length us
+pub say-length : (f : List ℕ) (ws : List Row) (us : List (List ℕ)) → AllSay f ws us → length ws ≡ length us
 say-length f [] [] a = refl
 say-length f [] (u ∷ us) a = absurd a
 say-length f (w ∷ ws) [] a = absurd a
 say-length f (w ∷ ws) (u ∷ us) (k, a) = omega (arith, say-length f ws us a)
 
 -- so are header rows
-head-length : (f : List ℕ) (ws : List HeaderRow) (us : List (List ℕ)) → AllHead f ws us → length ws ≡ length us
+pub head-length : (f : List ℕ) (ws : List HeaderRow) (us : List (List ℕ)) → AllHead f ws us → length ws ≡ length us
 head-length f [] [] a = refl
 head-length f [] (u ∷ us) a = absurd a
 head-length f (w ∷ ws) [] a = absurd a

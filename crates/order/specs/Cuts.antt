@@ -9,7 +9,7 @@ use Rattle.statement.specs.Closed.{ClosedData, ClosedHeader, ClosedFrom}
 use Rattle.statement.specs.ClosedRight.Statements.{Stands, stands-any, Step, step, data-stands, header-stands}
 use Rattle.statement.specs.declared.Section.{Section}
 use Rattle.statement.specs.declared.Section.the-variants.{Outside, InHeader, InData}
-use Rattle.order.specs.Cut.{Cut, rest, piece, led, texts, filled, Cuts}
+use Rattle.order.specs.Order.{Cut, rest, piece, led, texts, filled, Cuts}
 use Rattle.order.specs.Shape.{Fit, AllFit, Shape, led-filled, led-texts}
 
 -- there is only one cut

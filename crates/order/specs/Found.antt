@@ -12,23 +12,13 @@ use Rattle.record.specs.Head.{dataHead}
 use Rattle.statement.specs.Row.{Row, recordOf}
 use Rattle.statement.specs.Closed.{ClosedData, Content, content}
 use Rattle.statement.specs.ClosedRight.{rowFrom, contentOf, record-row, record-content, alone, alone-is}
-use Rattle.order.specs.Cut.{named, ofId}
+use Rattle.order.specs.Order.{named, ofId, later, lastOf, contentFound}
 use Rattle.order.specs.Shape.{Says, AllSay}
-
--- the last of a list, or another where there is none
-abbrev pub later : {A : Type 0} → Option A → Option A → Option A
-later none x = x
-later (some a) x = some a
 
 -- the last text
 abbrev pub lastText : List (List ℕ) → Option (List ℕ)
 lastText [] = none
 lastText (b ∷ bs) = later (lastText bs) (some b)
-
--- "the last record of that id, or none"
-unfoldable pub lastOf : ℕ → List Row → Option Row
-lastOf k [] = none
-lastOf k (w ∷ ws) = later (lastOf k ws) (pick (eqb (w .id) k) (some w) none)
 
 -- the row that is served is that of a text, or there is neither
 abbrev pub FoundSay : List ℕ → Option Row → Option (List ℕ) → Type 0
@@ -74,11 +64,6 @@ found-says k f (w ∷ ws) (b ∷ bs) (y, a) = rw (says-id k y) (go (eqb (w .id) 
         → FoundSay f (later x (pick t (some w) none)) (lastText (pick t (b ∷ z) z))
     go true x z h = first x (lastText z) h
     go false x z h = other x (lastText z) h
-
--- "a record with the same keyword and argument bytes": what a row says of its file, or nothing
-abbrev pub contentFound : List ℕ → Option Row → Option Content
-contentFound f none = none
-contentFound f (some w) = some (content f w)
 
 -- what a row says is what its text says by itself
 pub says-content : {f : List ℕ} {w : Row} {b : List ℕ} → Says f w b → alone b ≡ good (content f w)

@@ -1,5 +1,6 @@
-pub mod Cut
+pub mod Order
 pub mod Shape
 pub mod Cuts
 pub mod Accepted
 pub mod Found
+pub mod Counted

@@ -19,7 +19,7 @@ use Rattle.statement.specs.declared.Section.the-variants.{Outside, InHeader, In
 use Rattle.scan.specs.File.{Table, table, withHeader, withRecord}
 use Rattle.scan.specs.Form.{StatementForm, Reads}
 use Rattle.scan.specs.FormRight.Statements.{statement-is}
-use Rattle.order.specs.Cut.{Cut, rest, piece, led, texts, filled, Cuts}
+use Rattle.order.specs.Order.{Cut, rest, piece, led, texts, filled, Cuts}
 
 -- a closed text that stands as a record somewhere, so that it may stand in the place of another
 pub record Fit (b : List ℕ) : Type 0 where

@@ -1,0 +1,158 @@
+-- Demand 3: "Take an accepted file that is closed, as 01 defines it. Rearrange its whole data records among their places, keeping the order
+-- of records with equal ids and the order of the unit contexts. The new file is accepted with the same rooms; under demand 2's definitions
+-- each id then yields a record with the same keyword and argument bytes, or none as before, and the unit answer is the same, or the same
+-- refusal number."
+--
+-- Accepted: `scanOf` (scan/specs/File.antt) gives a table. Closed: `Closed` (statement/specs/Closed.antt). What is rearranged, what is
+-- kept and what stays the same stands here; `Demand` is the whole sentence, and Right.antt proves it.
+-- Assumes nothing.
+use Prim.Native.Nat.{ℕ}
+use mathlib.Core.Path.{_≡_}
+use mathlib.Core.Bool.{Bool, true, false}
+use mathlib.Core.List.{List, [], _∷_, _++_, map}
+use mathlib.Core.Option.{Option, none, some}
+use lib.Dec.{eqb}
+use Rattle.error.specs.Refusal.{Told, good, bad}
+use Rattle.lex.specs.Byte.{pick}
+use Rattle.record.specs.Head.{dataHead}
+use Rattle.record.specs.declared.Head.{Head}
+use Rattle.record.specs.declared.Head.the-variants.{Bad, Complex, Simple}
+use Rattle.statement.specs.Row.{Row, HeaderRow, recordOf}
+use Rattle.statement.specs.Closed.{Closed, Content, content, HeaderContent, headerContent}
+use Rattle.statement.specs.Statement.{ends, moved, header, record′, statement}
+use Rattle.statement.specs.declared.Section.{Section}
+use Rattle.statement.specs.declared.Section.the-variants.{Outside, InHeader, InData}
+use Rattle.scan.specs.File.{Table, scanOf}
+use Rattle.scan.specs.Table.{countsOf}
+use Rattle.params.specs.Reader.{onward}
+use Rattle.factors.specs.Thing.{Thing, thingOf, thingFound}
+use Rattle.units.specs.Units.{Units, isContext, resolveOf}
+
+-- a file, cut: what stands up to the next data record, that record's text, from its `#` up to its `;`, and what follows, cut likewise;
+-- or what stands after the last record
+pub data Cut : Type 0 where
+  rest : List ℕ → Cut
+  piece : List ℕ → List ℕ → Cut → Cut
+
+-- bytes in front of what is cut
+abbrev pub led : List ℕ → Cut → Cut
+led g (rest h) = rest (g ++ h)
+led g (piece h b c) = piece (g ++ h) b c
+
+-- "its whole data records": their texts in file order
+abbrev pub texts : Cut → List (List ℕ)
+texts (rest g) = []
+texts (piece g b c) = b ∷ texts c
+
+-- "among their places": the file with these texts, one for each record, in the records' places; all else stays
+abbrev pub filled : Cut → List (List ℕ) → List ℕ
+filled (rest g) ts = g
+filled (piece g b c) [] = g ++ (b ++ filled c [])
+filled (piece g b c) (t ∷ ts) = g ++ (t ++ filled c ts)
+
+-- the reader's own cut of the file s, from the rest xs on in a section: a statement that is no data record stays in what stands between
+pub data Cuts (s : List ℕ) : Section → List ℕ → Cut → Type 0 where
+  -- the reading ends: "`END-ISO-10303-21` ends the reading", or the file does
+  over : {sec : Section} {xs : List ℕ} → statement s sec xs ≡ ends → Cuts s sec xs (rest xs)
+  -- a section word or a record that is ignored: g is the statement with what leads up to it
+  turn : {sec to : Section} {xs r : List ℕ} {c : Cut} (g : List ℕ) → xs ≡ g ++ r → statement s sec xs ≡ moved to r → Cuts s to r c
+      → Cuts s sec xs (led g c)
+  -- a header record likewise
+  heading : {sec : Section} {xs ys r : List ℕ} {w : HeaderRow} {c : Cut} (g : List ℕ) → xs ≡ g ++ r → statement s sec xs ≡ header w ys r
+      → Cuts s InHeader r c → Cuts s sec xs (led g c)
+  -- a data record: after g its text b, its `;` and the rest
+  entry : {sec : Section} {xs g b r : List ℕ} {w : Row} {c : Cut} → xs ≡ g ++ (b ++ (59 ∷ r))
+      → statement s sec xs ≡ record′ w (b ++ (59 ∷ r)) r → Cuts s InData r c → Cuts s sec xs (piece g b (led (59 ∷ []) c))
+
+-- the same texts in another order
+pub data Permuted : List (List ℕ) → List (List ℕ) → Type 0 where
+  -- nothing
+  empty : Permuted [] []
+  -- one that stays in front of others in another order
+  front : {b : List ℕ} {ts us : List (List ℕ)} → Permuted ts us → Permuted (b ∷ ts) (b ∷ us)
+  -- the first two change places
+  swap : {a b : List ℕ} {ts : List (List ℕ)} → Permuted (a ∷ b ∷ ts) (b ∷ a ∷ ts)
+  -- one change after the other
+  then : {ts us vs : List (List ℕ)} → Permuted ts us → Permuted us vs → Permuted ts vs
+
+-- a data record's text has the id k
+abbrev pub named : ℕ → Head → Bool
+named k (Bad why) = false
+named k (Complex i o) = eqb i k
+named k (Simple i a z o) = eqb i k
+
+-- "records with equal ids": the texts with the id k, in order
+unfoldable pub ofId : ℕ → List (List ℕ) → List (List ℕ)
+ofId k [] = []
+ofId k (b ∷ bs) = pick (named k (dataHead b)) (b ∷ ofId k bs) (ofId k bs)
+
+-- yes, where that is the answer
+abbrev pub truly : Told Bool → Bool
+truly (good b) = b
+truly (bad q) = false
+
+-- "A unit context is a GEOMETRIC_REPRESENTATION_CONTEXT record, or a complex one with that part, whose first parameter reads as an integer":
+-- a data record's text is one, read as a file of its own (that it is one in its file too: Contexts.antt)
+unfoldable pub contextText : List ℕ → Bool
+contextText b = truly (onward (λ w. onward (isContext b) (thingOf b w)) (recordOf b b b))
+
+-- "the unit contexts": their texts, in order
+unfoldable pub contextsIn : List (List ℕ) → List (List ℕ)
+contextsIn [] = []
+contextsIn (b ∷ bs) = pick (contextText b) (b ∷ contextsIn bs) (contextsIn bs)
+
+-- "Rearrange its whole data records among their places, keeping the order of records with equal ids and the order of the unit contexts":
+-- the texts ts, in file order, become us
+pub record Rearranged (ts us : List (List ℕ)) : Type 0 where
+  pub whole : Permuted ts us
+  pub ids : (k : ℕ) → ofId k ts ≡ ofId k us
+  pub contexts : contextsIn ts ≡ contextsIn us
+
+-- a later one, or else this
+abbrev pub later : {A : Type 0} → Option A → Option A → Option A
+later none x = x
+later (some a) x = some a
+
+-- "the last record of that id, or none"
+unfoldable pub lastOf : ℕ → List Row → Option Row
+lastOf k [] = none
+lastOf k (w ∷ ws) = later (lastOf k ws) (pick (eqb (w .id) k) (some w) none)
+
+-- what a record of the file says, or nothing
+abbrev pub contentFound : List ℕ → Option Row → Option Content
+contentFound s none = none
+contentFound s (some w) = some (content s w)
+
+-- "each id then yields a record with [..] keyword and argument bytes, or none": of the file s with the table t
+abbrev pub served : List ℕ → Table → ℕ → Option Content
+served s t k = contentFound s (lastOf k (t .records))
+
+-- "the unit answer": by demand 2's definition, over the records in file order and the lookup
+abbrev pub unitsOf : List ℕ → Table → Told Units
+unitsOf s t = resolveOf s (λ k. thingFound s (lastOf k (t .records))) (map (thingOf s) (t .records))
+
+-- "the unit answer is the same, or the same refusal number"
+abbrev pub SameUnits : Told Units → Told Units → Type 0
+SameUnits (good u) (good v) = u ≡ v
+SameUnits (good u) (bad q) = ⊥
+SameUnits (bad p) (good v) = ⊥
+SameUnits (bad p) (bad q) = p .number ≡ q .number
+
+-- what stays the same: s is the file, t its table, f the new file, and there is room for H header rows and R data rows
+pub record Same (s : List ℕ) (t : Table) (f : List ℕ) (H R : ℕ) : Type 0 where
+  pub after : Table
+  -- "The new file is accepted with the same rooms"
+  pub accepted : scanOf f H R ≡ good after
+  -- (besides, so many header and data rows, and the same largest id)
+  pub counted : countsOf t ≡ countsOf after
+  -- (and the header records say the same)
+  pub headed : map (headerContent s) (t .headers) ≡ map (headerContent f) (after .headers)
+  -- "each id then yields a record with the same keyword and argument bytes, or none as before"
+  pub found : (k : ℕ) → served s t k ≡ served f after k
+  -- "and the unit answer is the same, or the same refusal number"
+  pub units : SameUnits (unitsOf s t) (unitsOf f after)
+
+-- demand 3: s is an accepted file that is closed, c the reader's own cut of it, and us its records' texts rearranged
+abbrev pub Demand : Type 0
+Demand = (s : List ℕ) (H R : ℕ) (t : Table) → scanOf s H R ≡ good t → Closed s
+    → (c : Cut) → Cuts s Outside s c → (us : List (List ℕ)) → Rearranged (texts c) us → Same s t (filled c us) H R
