@@ -12,7 +12,7 @@ use Rattle.record.specs.Head.{dataHead}
 use Rattle.statement.specs.Row.{Row, recordOf}
 use Rattle.statement.specs.Closed.{ClosedData, Content, content}
 use Rattle.statement.specs.ClosedRight.{rowFrom, contentOf, record-row, record-content, alone, alone-is}
-use Rattle.order.specs.Order.{named, ofId, later, lastOf, contentFound}
+use Rattle.order.specs.Order.{named, those, ofId, later, lastOf, contentFound}
 use Rattle.order.specs.Shape.{Says, AllSay}
 
 -- the last text
@@ -44,7 +44,7 @@ says-id k {f} {w} {b} y = go (length (y .front)) (y .closed) (y .row)
 
 -- the record that is served for an id is that of the last text with the id
 pub found-says : (k : ℕ) (f : List ℕ) (ws : List Row) (bs : List (List ℕ)) → AllSay f ws bs → FoundSay f (lastOf k ws) (lastText (ofId k bs))
-unfolding lastOf ofId
+unfolding lastOf those
 found-says k f [] [] a = tt
 found-says k f [] (b ∷ bs) a = absurd a
 found-says k f (w ∷ ws) [] a = absurd a

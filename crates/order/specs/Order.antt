@@ -81,10 +81,14 @@ named k (Bad why) = false
 named k (Complex i o) = eqb i k
 named k (Simple i a z o) = eqb i k
 
+-- the texts of which a test holds, in order
+unfoldable pub those : (List ℕ → Bool) → List (List ℕ) → List (List ℕ)
+those p [] = []
+those p (b ∷ bs) = pick (p b) (b ∷ those p bs) (those p bs)
+
 -- "records with equal ids": the texts with the id k, in order
-unfoldable pub ofId : ℕ → List (List ℕ) → List (List ℕ)
-ofId k [] = []
-ofId k (b ∷ bs) = pick (named k (dataHead b)) (b ∷ ofId k bs) (ofId k bs)
+abbrev pub ofId : ℕ → List (List ℕ) → List (List ℕ)
+ofId k bs = those (λ b. named k (dataHead b)) bs
 
 -- yes, where that is the answer
 abbrev pub truly : Told Bool → Bool
@@ -97,9 +101,8 @@ unfoldable pub contextText : List ℕ → Bool
 contextText b = truly (onward (λ w. onward (isContext b) (thingOf b w)) (recordOf b b b))
 
 -- "the unit contexts": their texts, in order
-unfoldable pub contextsIn : List (List ℕ) → List (List ℕ)
-contextsIn [] = []
-contextsIn (b ∷ bs) = pick (contextText b) (b ∷ contextsIn bs) (contextsIn bs)
+abbrev pub contextsIn : List (List ℕ) → List (List ℕ)
+contextsIn bs = those contextText bs
 
 -- "Rearrange its whole data records among their places, keeping the order of records with equal ids and the order of the unit contexts":
 -- the texts ts, in file order, become us
