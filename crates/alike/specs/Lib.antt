@@ -1,2 +1,4 @@
 pub mod Shift
 pub mod Readers
+pub mod Alike
+pub mod Runs
