@@ -2,3 +2,4 @@ pub mod Shift
 pub mod Readers
 pub mod Alike
 pub mod Runs
+pub mod Factors
