@@ -3,3 +3,4 @@ pub mod Readers
 pub mod Alike
 pub mod Runs
 pub mod Factors
+pub mod Answers
