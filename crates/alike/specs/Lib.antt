@@ -4,3 +4,4 @@ pub mod Alike
 pub mod Runs
 pub mod Factors
 pub mod Answers
+pub mod Contexts
