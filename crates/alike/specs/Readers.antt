@@ -1,0 +1,110 @@
+-- What a reader makes of its next parameter depends only on the bytes that it reads: skipped, read as a scalar, as a name or as a list.
+-- In a part of the file it is the answer for those bytes alone, its places moved on by the part's start. Assumes nothing.
+use Prim.Native.Nat.{ℕ, _+_, _-_, _≤_}
+use mathlib.Core.Path.{_≡_, refl, sym, _∙_, ap}
+use mathlib.Core.Bool.{Bool, true, false}
+use mathlib.Core.List.{List}
+use native.Mathlib.Omega.{arith}
+use lib.ListN.{length}
+use Rattle.error.specs.Refusal.{refusal, Told, good, bad}
+use Rattle.lex.specs.Byte.{pick}
+use Rattle.lex.specs.Right.Steps.{clash}
+use Rattle.reals.specs.Scalar.{Answer, read, refused}
+use Rattle.params.specs.Reader.{Read, reading, Span, span, onward, mapped, paramOf, skipOf}
+use Rattle.params.specs.Places.{param-past}
+use Rattle.scalars.specs.Laws.{part-part}
+use Rattle.scalars.specs.Scalars.{answered, scalarAt, nextOf}
+use Rattle.words.specs.Words.{partOf, isName, nameAt}
+use Rattle.words.specs.Rules.{NameForm}
+use Rattle.words.specs.RulesRight.{part-long, nameform-is}
+use Rattle.words.specs.Places.{SpanIn, ToldIn, name-in}
+use Rattle.lists.specs.Items.{Fate, fine, faulty, roomed, nextBy}
+use Rattle.lookup.specs.Lookup.{cut}
+use Rattle.factors.specs.Factor.{nameOr, nextName}
+use Rattle.alike.specs.Shift.{ahead, toldAhead, shiftedRead, cut-length, param-shift}
+
+-- a value that has no place stays as it is
+abbrev pub kept : {A : Type 0} → A → A
+kept x = x
+
+-- ---- the bytes of the file s from a up to z
+module _ (s : List ℕ) (a z : ℕ) (az : a ≤ z) (zs : z ≤ length s) where
+  -- a part of them, by its bytes
+  pub part-shift : (b : Span) → SpanIn (length (cut s a z)) b → partOf s (ahead a b) ≡ partOf (cut s a z) b
+  part-shift b (h, k) = sym (part-part s a (z - a) (b .start) (b .stop) h (omega (arith, cut-length s a z az zs)))
+
+  -- a parameter that is read on: g in the file is f of the bytes, a bytes further on
+  pub mapped-shift : {A : Type 0} (v : A → A) (g f : Span → Told A) → ((b : Span) → SpanIn (length (cut s a z)) b → g (ahead a b) ≡ toldAhead v a (f b))
+      → (i : ℕ) → i ≤ z - a → mapped g (paramOf s (a + i) z) ≡ shiftedRead v a z (mapped f (paramOf (cut s a z) i (length (cut s a z))))
+  mapped-shift {A} v g f same i h = rw (param-shift s a z az zs i h) (ap (λ (x : Told A). reading x (a + paramOf u i (length u) .place) z) (go (paramOf u i (length u) .answer) refl))
+    where
+      u : List ℕ
+      u = cut s a z
+
+      go : (x : Told Span) → paramOf u i (length u) .answer ≡ x → onward g (toldAhead (ahead a) a x) ≡ toldAhead v a (onward f x)
+      go (bad q) e = refl
+      go (good b) e =
+          let (l, k) = param-past u i (length u) b e in
+          let m = k .passed in
+          let n = k .within in
+          same b (k .ordered, omega arith)
+
+  -- one that is skipped
+  pub skip-shift : (i : ℕ) → i ≤ z - a → skipOf s (a + i) z ≡ shiftedRead kept a z (skipOf (cut s a z) i (length (cut s a z)))
+  unfolding skipOf
+  skip-shift = mapped-shift kept (λ b. good tt) (λ b. good tt) (λ b h. refl)
+
+  -- one that is read as a scalar
+  pub next-shift : {A : Type 0} (f : List ℕ → Answer A) (i : ℕ) → i ≤ z - a → nextOf f s (a + i) z ≡ shiftedRead kept a z (nextOf f (cut s a z) i (length (cut s a z)))
+  unfolding nextOf
+  next-shift {A} f = mapped-shift kept (scalarAt f s) (scalarAt f (cut s a z)) (λ b h. ap (λ (t : List ℕ). answered (a + b .start) (f t)) (part-shift b h) ∙ go b (f (partOf (cut s a z) b)))
+    where
+      go : (b : Span) (x : Answer A) → answered (a + b .start) x ≡ toldAhead kept a (answered (b .start) x)
+      go b (read v) = refl
+      go b (refused n) = refl
+
+  -- one that is read as a list or a grid
+  pub list-shift : {A : Type 0} (g : List ℕ → Fate A) (fits : A → Bool) (i : ℕ) → i ≤ z - a → nextBy g fits s (a + i) z ≡ shiftedRead kept a z (nextBy g fits (cut s a z) i (length (cut s a z)))
+  unfolding nextBy
+  list-shift {A} g fits = mapped-shift kept (λ b. roomed fits (b .start) (g (partOf s b))) (λ b. roomed fits (b .start) (g (partOf (cut s a z) b)))
+      (λ b h. ap (λ (t : List ℕ). roomed fits (a + b .start) (g t)) (part-shift b h) ∙ go b (g (partOf (cut s a z) b)))
+    where
+      room : (b : Span) (v : A) (t : Bool) → pick t (good v) (bad (refusal 16 0 (a + b .start))) ≡ toldAhead kept a (pick t (good v) (bad (refusal 16 0 (b .start))))
+      room b v true = refl
+      room b v false = refl
+
+      go : (b : Span) (x : Fate A) → roomed fits (a + b .start) x ≡ toldAhead kept a (roomed fits (b .start) x)
+      go b (fine v) = room b v (fits v)
+      go b (faulty n o) = let e : a + b .start + o ≡ a + (b .start + o) = omega arith in ap (λ (k : ℕ). bad (refusal n 0 k)) e
+
+  -- a name has its two dots
+  name-long : (b : Span) → SpanIn (length (cut s a z)) b → isName (partOf (cut s a z) b) ≡ true → b .start + 2 ≤ b .stop
+  name-long b (h, k) e = go (nameform-is u b) (rw e refl)
+    where
+      u : List ℕ
+      u = cut s a z
+
+      go : {x : Told Span} → NameForm u b x → x ≡ good (span (b .start + 1) (b .stop - 1)) → b .start + 2 ≤ b .stop
+      go (NameForm.name {n} m) l = part-long u b n 46 46 h k (m .dots)
+      go (NameForm.other n) l = clash (cc)
+
+  -- one that is read as a name
+  pub name-shift : (i : ℕ) → i ≤ z - a → nextName s (a + i) z ≡ shiftedRead (ahead a) a z (nextName (cut s a z) i (length (cut s a z)))
+  name-shift = mapped-shift (ahead a) (nameAt s) (nameAt (cut s a z)) (λ b h. rw (part-shift b h) (go b h (isName (partOf (cut s a z) b)) refl))
+    where
+      go : (b : Span) → SpanIn (length (cut s a z)) b → (t : Bool) → isName (partOf (cut s a z) b) ≡ t
+          → pick t (good (span (a + b .start + 1) (a + b .stop - 1))) (bad (refusal 12 0 (a + b .start))) ≡ toldAhead (ahead a) a (pick t (good (span (b .start + 1) (b .stop - 1))) (bad (refusal 12 0 (b .start))))
+      go b h true e =
+          let l = name-long b h e in
+          let x : a + b .start + 1 ≡ a + (b .start + 1) = omega arith in
+          let y : a + b .stop - 1 ≡ a + (b .stop - 1) = omega arith in
+          ap (λ (k : ℕ). good (span k (a + b .stop - 1))) x ∙ ap (λ (k : ℕ). good (span (a + (b .start + 1)) k)) y
+      go b h false e = refl
+
+  -- and what the name is
+  pub named-shift : (other : List ℕ) (i : ℕ) → i ≤ z - a → nameOr other s (nextName s (a + i) z .answer) ≡ nameOr other (cut s a z) (nextName (cut s a z) i (length (cut s a z)) .answer)
+  named-shift other i h = ap (λ (r : Read Span). nameOr other s (r .answer)) (name-shift i h) ∙ go (nextName (cut s a z) i (length (cut s a z)) .answer) (name-in (cut s a z) i (length (cut s a z)))
+    where
+      go : (x : Told Span) → ToldIn (length (cut s a z)) (SpanIn (length (cut s a z))) x → nameOr other s (toldAhead (ahead a) a x) ≡ nameOr other (cut s a z) x
+      go (good b) k = part-shift b k
+      go (bad q) k = refl

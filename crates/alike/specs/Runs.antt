@@ -1,0 +1,102 @@
+-- A reader of two parts with the same bytes, in two files: its first and its second parameter read the same. Assumes nothing.
+use Prim.Native.Nat.{ℕ, _+_, _-_, _≤_}
+use mathlib.Core.Path.{_≡_, refl, sym, _∙_, ap}
+use mathlib.Core.List.{List}
+use native.Mathlib.Omega.{arith}
+use lib.ListN.{length}
+use Rattle.error.specs.Refusal.{Told, good, bad}
+use Rattle.params.specs.Reader.{Read, Span, paramOf}
+use Rattle.params.specs.Places.{param-stands}
+use Rattle.lookup.specs.Lookup.{cut}
+use Rattle.factors.specs.Factor.{nameOr, nextName}
+use Rattle.alike.specs.Shift.{toldAhead, shiftedRead, cut-length, param-shift}
+use Rattle.alike.specs.Readers.{kept, named-shift}
+use Rattle.alike.specs.Alike.{SameTold, AlikeRun}
+
+-- a reader's answer in a part of the file is that of the part's bytes alone, its places moved on by the part's start
+abbrev pub ByBytes : {A : Type 0} → (List ℕ → ℕ → ℕ → Read A) → Type 0
+ByBytes R = (s : List ℕ) (a z : ℕ) → a ≤ z → z ≤ length s → (i : ℕ) → i ≤ z - a → R s (a + i) z ≡ shiftedRead kept a z (R (cut s a z) i (length (cut s a z)))
+
+-- an answer moved on by two starts is the same
+ahead-same : {A : Type 0} (a b : ℕ) (x : Told A) → SameTold (toldAhead kept a x) (toldAhead kept b x)
+ahead-same a b (good v) = refl
+ahead-same a b (bad q) = (refl, refl)
+
+-- where the reader stands after the first parameter of a part of the file
+after-first : (s : List ℕ) (a z : ℕ) → a ≤ z → z ≤ length s → paramOf s a z .place ≡ a + paramOf (cut s a z) 0 (length (cut s a z)) .place
+after-first s a z h k =
+    let e : a ≡ a + 0 = omega arith in
+    ap (λ (i : ℕ). paramOf s i z .place) e ∙ ap (λ (r : Read Span). r .place) (param-shift s a z h k 0 (omega arith))
+
+-- it stands in that part
+step-within : (u : List ℕ) → paramOf u 0 (length u) .place ≤ length u
+step-within u = param-stands u 0 (length u) (omega arith, omega arith) .within
+
+module _ {s s′ : List ℕ} {r r′ : Span} (h : AlikeRun s s′ r r′) where
+  -- the bytes of both
+  abbrev text : List ℕ
+  text = cut s (r .start) (r .stop)
+
+  -- how many they are in the one file
+  size : length text ≡ r .stop - r .start
+  size = cut-length s (r .start) (r .stop) (h .ordered) (h .within)
+
+  -- and in the other
+  size′ : length text ≡ r′ .stop - r′ .start
+  size′ = ap length (h .same) ∙ cut-length s′ (r′ .start) (r′ .stop) (h .ordered′) (h .within′)
+
+  -- how far in a reader stands after the first parameter
+  abbrev step : ℕ
+  step = paramOf text 0 (length text) .place
+
+  -- in the one file
+  past-first : paramOf s (r .start) (r .stop) .place ≡ r .start + step
+  past-first = after-first s (r .start) (r .stop) (h .ordered) (h .within)
+
+  -- and in the other
+  past-first′ : paramOf s′ (r′ .start) (r′ .stop) .place ≡ r′ .start + step
+  past-first′ = after-first s′ (r′ .start) (r′ .stop) (h .ordered′) (h .within′) ∙ ap (λ (u : List ℕ). r′ .start + paramOf u 0 (length u) .place) (sym (h .same))
+
+  -- it is no further than the bytes
+  step-in : step ≤ length text
+  step-in = step-within text
+
+  module _ {A : Type 0} (R : List ℕ → ℕ → ℕ → Read A) (by : ByBytes R) where
+    -- the parameter from i bytes into the part
+    read-at : (i : ℕ) → i ≤ length text → SameTold (R s (r .start + i) (r .stop) .answer) (R s′ (r′ .start + i) (r′ .stop) .answer)
+    read-at i k =
+        let n = size in
+        let n′ = size′ in
+        rw (by s (r .start) (r .stop) (h .ordered) (h .within) i (omega arith), by s′ (r′ .start) (r′ .stop) (h .ordered′) (h .within′) i (omega arith), ← h .same)
+        (ahead-same (r .start) (r′ .start) (R text i (length text) .answer))
+
+    -- the first parameter
+    pub read-first : SameTold (R s (r .start) (r .stop) .answer) (R s′ (r′ .start) (r′ .stop) .answer)
+    read-first =
+        let e : r .start + 0 ≡ r .start = omega arith in
+        let e′ : r′ .start + 0 ≡ r′ .start = omega arith in
+        rw (e, e′) at (read-at 0 (omega arith))
+
+    -- the second parameter
+    pub read-second : SameTold (R s (paramOf s (r .start) (r .stop) .place) (r .stop) .answer) (R s′ (paramOf s′ (r′ .start) (r′ .stop) .place) (r′ .stop) .answer)
+    read-second = rw (past-first, past-first′) (read-at step step-in)
+
+  -- a name from i bytes into the part
+  name-at : (other : List ℕ) (i : ℕ) → i ≤ length text → nameOr other s (nextName s (r .start + i) (r .stop) .answer) ≡ nameOr other s′ (nextName s′ (r′ .start + i) (r′ .stop) .answer)
+  name-at other i k =
+      let n = size in
+      let n′ = size′ in
+      named-shift s (r .start) (r .stop) (h .ordered) (h .within) other i (omega arith)
+      ∙ ap (λ (u : List ℕ). nameOr other u (nextName u i (length u) .answer)) (h .same)
+      ∙ sym (named-shift s′ (r′ .start) (r′ .stop) (h .ordered′) (h .within′) other i (omega arith))
+
+  -- the first parameter as a name
+  pub name-first : (other : List ℕ) → nameOr other s (nextName s (r .start) (r .stop) .answer) ≡ nameOr other s′ (nextName s′ (r′ .start) (r′ .stop) .answer)
+  name-first other =
+      let e : r .start + 0 ≡ r .start = omega arith in
+      let e′ : r′ .start + 0 ≡ r′ .start = omega arith in
+      rw (e, e′) at (name-at other 0 (omega arith))
+
+  -- the second
+  pub name-second : (other : List ℕ) → nameOr other s (nextName s (paramOf s (r .start) (r .stop) .place) (r .stop) .answer) ≡ nameOr other s′ (nextName s′ (paramOf s′ (r′ .start) (r′ .stop) .place) (r′ .stop) .answer)
+  name-second other = rw (past-first, past-first′) (name-at other step step-in)
