@@ -5,3 +5,5 @@ pub mod Runs
 pub mod Factors
 pub mod Answers
 pub mod Contexts
+pub mod Parts
+pub mod Closed

@@ -5,3 +5,5 @@ pub mod Accepted
 pub mod Found
 pub mod Exchange
 pub mod Counted
+pub mod Contexts
+pub mod Right

@@ -1,0 +1,174 @@
+-- What the units see of a closed record depends on its text alone: "each id then yields a record with the same keyword and argument
+-- bytes" (demand 3), and so do its parts, of which none has a fault. q precedes the record's text b in the file, y follows it.
+-- Assumes nothing.
+use Prim.Native.Nat.{ℕ, _+_, _-_, _≤_}
+use mathlib.Core.Path.{_≡_, refl, sym, _∙_, ap}
+use mathlib.Core.Bool.{true}
+use mathlib.Core.List.{List, [], _∷_, _++_, map, append-assoc}
+use native.Mathlib.Omega.{arith}
+use borrow.Author.Tests.{le-leb}
+use lib.ListN.{length, take, drop, length-append, length-drop}
+use lib.Seq.{drop-append-add, drop-append-le, take-append-le, take-append-seam, drop-append-seam}
+use Rattle.error.specs.Refusal.{Told, good}
+use Rattle.record.specs.Head.{dataHead}
+use Rattle.record.specs.declared.Head.the-variants.{Simple}
+use Rattle.record.specs.FormRight.{headform-is}
+use Rattle.record.specs.Ordered.{simple-ordered}
+use Rattle.record.specs.Within.{data-within}
+use Rattle.statement.specs.Row.{HeaderRow}
+use Rattle.statement.specs.Closed.{ClosedAt, ClosedParts, ClosedData}
+use Rattle.statement.specs.ClosedRight.{rowFrom, contentOf, record-row}
+use Rattle.kinds.specs.Kind.{kindOf}
+use Rattle.kinds.specs.declared.Kind.{Kind}
+use Rattle.params.specs.Reader.{Span, span}
+use Rattle.words.specs.Places.{SpanIn}
+use Rattle.parts.specs.Part.{Window, partsOf}
+use Rattle.alike.specs.Parts.{shiftRow, RowsIn, parts-closed-good}
+use Rattle.lookup.specs.Lookup.{cut, spanFine, kindIn}
+use Rattle.alike.specs.Alike.{BothTold, BothList, AlikeRun, AlikePiece, AlikeThing}
+use Rattle.factors.specs.Thing.{goodBy, Piece, pieceOf, Thing, piecesOf, thingAt, thingOf}
+
+-- ---- bytes in the file
+-- a test that passes
+fine-in : (n : ℕ) (a : Span) → SpanIn n a → spanFine n (a .start) (a .stop) ≡ true
+fine-in n a (h, k) = rw (le-leb (a .start) (a .stop) h, le-leb (a .stop) n k)
+
+-- the bytes between two places of b, where b stands after q
+cut-after : (q b y : List ℕ) (a z : ℕ) → a ≤ z → z ≤ length b → cut (q ++ (b ++ y)) (length q + a) (length q + z) ≡ cut b a z
+cut-after q b y a z h k =
+    let n : length q + z - (length q + a) ≡ z - a = omega arith in
+    rw (n, drop-append-add q (b ++ y) a, drop-append-le a b y (omega arith)) (take-append-le (z - a) (drop a b) y (omega (arith, length-drop a b)))
+
+-- all bytes of b
+cut-whole : (q b y : List ℕ) → cut (q ++ (b ++ y)) (length q) (length q + length b) ≡ b
+cut-whole q b y =
+    let n : length q + length b - length q ≡ length b = omega arith in
+    rw (n, drop-append-seam q (b ++ y)) (take-append-seam b y)
+
+-- the bytes b of the file s, which stand from m up to n
+module _ {s b : List ℕ} {m n : ℕ} (w : Window s m n b) where
+  -- how long the file is
+  window-length : length s ≡ m + length b + length (w .back)
+  window-length = omega (arith, ap length (w .shape), length-append (w .front) (b ++ w .back), length-append b (w .back), w .starts)
+
+  -- they lie in the file
+  window-in : SpanIn (length s) (span m n)
+  window-in = (omega (arith, w .starts, w .ends), omega (arith, window-length, w .starts, w .ends))
+
+  -- they are what is cut out
+  window-cut : cut s m n ≡ b
+  window-cut = rw (w .shape, ← w .ends, ← w .starts) (cut-whole (w .front) b (w .back))
+
+  -- a part of them lies in the file
+  inner-in : (i j : ℕ) → i ≤ j → j ≤ length b → SpanIn (length s) (span (m + i) (m + j))
+  inner-in i j h k = (omega arith, omega (arith, window-length))
+
+  -- and is cut out of them
+  inner-cut : (i j : ℕ) → i ≤ j → j ≤ length b → cut s (m + i) (m + j) ≡ cut b i j
+  inner-cut i j h k = rw (w .shape, ← w .starts) (cut-after (w .front) b (w .back) i j h k)
+
+  -- their parts, where these depend on them alone
+  window-parts : (rel : List HeaderRow)
+      → ((q y : List ℕ) → partsOf (q ++ (b ++ y)) (length q) (length q + length b) ≡ good (map (shiftRow (length q)) rel))
+      → partsOf s m n ≡ good (map (shiftRow m) rel)
+  window-parts rel h = rw (w .shape, ← w .ends, ← w .starts) (h (w .front) (w .back))
+
+-- two parts of files that lie there and have the same bytes
+run-of : {s z : List ℕ} {a b : Span} → SpanIn (length s) a → SpanIn (length z) b → cut s (a .start) (a .stop) ≡ cut z (b .start) (b .stop) → AlikeRun s z a b
+run-of (h, k) (i, j) e = record { ordered = h; within = k; ordered′ = i; within′ = j; same = e }
+
+-- the same bytes at two places are alike
+runs-alike : {s z b : List ℕ} {i j m n : ℕ} → Window s i j b → Window z m n b → AlikeRun s z (span i j) (span m n)
+runs-alike v w = run-of (window-in v) (window-in w) (window-cut v ∙ sym (window-cut w))
+
+-- and so are their parts
+pieces-alike : {s z b : List ℕ} {i j m n : ℕ} → Window s i j b → Window z m n b → (rel : List HeaderRow) → RowsIn (length b) rel
+    → BothList (AlikePiece s z) (map (pieceOf s) (map (shiftRow i) rel)) (map (pieceOf z) (map (shiftRow m) rel))
+pieces-alike v w [] h = tt
+pieces-alike {s} {z} {b} {i} {j} {m} {n} v w (p ∷ ps) ((c, d, e, f), t) = (
+  (
+    ap kindOf (same (p .keyStart) (p .keyEnd) c d),
+    run-of (inner-in v (p .argStart) (p .argEnd) e f) (inner-in w (p .argStart) (p .argEnd) e f) (same (p .argStart) (p .argEnd) e f),
+  ),
+  pieces-alike v w ps t,
+)
+  where
+    same : (k l : ℕ) → k ≤ l → l ≤ length b → cut s (i + k) (i + l) ≡ cut z (m + k) (m + l)
+    same k l g h = inner-cut v k l g h ∙ sym (inner-cut w k l g h)
+
+-- ---- a closed record
+-- its arguments in the file
+args-window : {b : List ℕ} {o : ℕ} (c : ClosedAt b o) (q y : List ℕ)
+    → Window (q ++ (b ++ y)) (length q + (o + 1)) (length q + (o + 1 + length (c .args))) (c .args)
+args-window c q y =
+    let n : length (q ++ (c .front ++ (40 ∷ []))) ≡ length q + (length (c .front) + 1) =
+    length-append q (c .front ++ (40 ∷ [])) ∙ ap (λ (k : ℕ). length q + k) (length-append (c .front) (40 ∷ [])) in
+    record {
+      front = q ++ (c .front ++ (40 ∷ []));
+      back = 41 ∷ (c .back ++ y);
+      shape = rw (c .shape) (simp append-assoc);
+      starts = omega (arith, n, c .place);
+      ends = omega (arith, n, c .place);
+    }
+
+-- they lie there
+pub closed-run-in : {b : List ℕ} (c : ClosedData b) (q y : List ℕ)
+    → SpanIn (length (q ++ (b ++ y))) (span (rowFrom (length q) c .argStart) (rowFrom (length q) c .argEnd))
+closed-run-in (ClosedData.simple e c) q y = window-in (args-window c q y)
+closed-run-in (ClosedData.complex e c p) q y = window-in (args-window c q y)
+
+-- "the same [..] argument bytes": they are those of its text
+pub closed-run-cut : {b : List ℕ} (c : ClosedData b) (q y : List ℕ)
+    → cut (q ++ (b ++ y)) (rowFrom (length q) c .argStart) (rowFrom (length q) c .argEnd) ≡ contentOf c .args
+closed-run-cut (ClosedData.simple e c) q y = window-cut (args-window c q y)
+closed-run-cut (ClosedData.complex e c p) q y = window-cut (args-window c q y)
+
+-- no "span outside the file or backwards": the units see it
+pub closed-thing-good : {b : List ℕ} (c : ClosedData b) (q y : List ℕ)
+    → thingOf (q ++ (b ++ y)) (rowFrom (length q) c) ≡ good (thingAt (q ++ (b ++ y)) (rowFrom (length q) c))
+closed-thing-good {b} c q y =
+    rw (fine-in (length (q ++ (b ++ y))) (span (rowFrom (length q) c .argStart) (rowFrom (length q) c .argEnd)) (closed-run-in c q y))
+
+-- its kind is that of the keyword in its text
+simple-kind : {b : List ℕ} {i a z o : ℕ} (e : dataHead b ≡ Simple i a z o) (c : ClosedAt b o) (q y : List ℕ)
+    → kindIn (q ++ (b ++ y)) (rowFrom (length q) (ClosedData.simple e c)) ≡ kindOf (cut b a z)
+simple-kind {b} {i} {a} {z} {o} e c q y =
+    let (k, l, m) = simple-ordered (rw e at (headform-is b)) in
+    let w : (a ≤ length b) × (z ≤ length b) × (o ≤ length b) = rw e at (data-within b) in
+    let f : spanFine (length (q ++ (b ++ y))) (length q + a) (length q + z) ≡ true =
+    fine-in (length (q ++ (b ++ y))) (span (length q + a) (length q + z)) (omega arith, omega (arith, w .1, length-append q (b ++ y), length-append b y)) in
+    rw f (ap kindOf (cut-after q b y a z l (w .1)))
+
+-- its parts have no fault
+pub closed-parts-good : {b : List ℕ} (c : ClosedData b) (q y : List ℕ) → (ps : List Piece) × (thingAt (q ++ (b ++ y)) (rowFrom (length q) c) .parts ≡ good ps)
+closed-parts-good (ClosedData.simple e c) q y = ([], refl)
+closed-parts-good {b} (ClosedData.complex e c p) q y =
+    let (rel, i, n) = parts-closed-good p in
+    (_, ap (goodBy (map (pieceOf (q ++ (b ++ y))))) (window-parts (args-window c q y) rel n))
+
+-- what the units see of it, wherever it stands
+closed-alike : {b : List ℕ} (c : ClosedData b) (q y r z : List ℕ)
+    → AlikeThing (q ++ (b ++ y)) (r ++ (b ++ z)) (thingAt (q ++ (b ++ y)) (rowFrom (length q) c)) (thingAt (r ++ (b ++ z)) (rowFrom (length r) c))
+closed-alike (ClosedData.simple e c) q y r z = record {
+  kind = simple-kind e c q y ∙ sym (simple-kind e c r z);
+  run = runs-alike (args-window c q y) (args-window c r z);
+  parts = tt;
+}
+closed-alike {b} (ClosedData.complex e c p) q y r z =
+    let (rel, i, n) = parts-closed-good p in
+    let h = window-parts (args-window c q y) rel n in
+    let k = window-parts (args-window c r z) rel n in
+    record {
+      kind = refl;
+      run = runs-alike (args-window c q y) (args-window c r z);
+      parts = rw (h, k) (pieces-alike (args-window c q y) (args-window c r z) rel i);
+    }
+
+-- a text's row is one, however it is seen to be closed
+row-one : {b : List ℕ} (c d : ClosedData b) (q : List ℕ) → rowFrom (length q) c ≡ rowFrom (length q) d
+row-one c d q = let a = record-row c q [] in let b = record-row d q [] in cc
+
+-- "each id then yields a record with the same keyword and argument bytes": so it does for the units, with the same parts
+pub closed-things-alike : {b : List ℕ} (c d : ClosedData b) (q y r z : List ℕ)
+    → AlikeThing (q ++ (b ++ y)) (r ++ (b ++ z)) (thingAt (q ++ (b ++ y)) (rowFrom (length q) c)) (thingAt (r ++ (b ++ z)) (rowFrom (length r) d))
+closed-things-alike c d q y r z = rw (row-one d c r) (closed-alike c q y r z)

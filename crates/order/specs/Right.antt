@@ -1,0 +1,48 @@
+-- Demand 3 holds. Assumes nothing.
+use Prim.Native.Nat.{ℕ}
+use mathlib.Core.Path.{_≡_, refl, sym, _∙_, ap}
+use mathlib.Core.List.{List, map}
+use Rattle.error.specs.Refusal.{Told, good, bad}
+use Rattle.statement.specs.Row.{Row}
+use Rattle.scan.specs.File.{Table}
+use Rattle.factors.specs.Thing.{thingOf, thingFound}
+use Rattle.units.specs.Units.{Units}
+use Rattle.alike.specs.Alike.{SameTold}
+use Rattle.alike.specs.Contexts.{resolve-same}
+use Rattle.order.specs.Order.{Cut, texts, filled, ofId, contextsIn, Rearranged, lastOf, served, unitsOf, SameUnits, Same, Demand}
+use Rattle.order.specs.Shape.{AllSay}
+use Rattle.order.specs.Accepted.{Both, both-accepted}
+use Rattle.order.specs.Found.{lastText, found-says, same-content}
+use Rattle.order.specs.Counted.{same-counts, same-headers}
+use Rattle.order.specs.Contexts.{finds-alike, all-asked, contexts-alike}
+
+-- the same answer, or the same refusal's number
+units-number : (x y : Told Units) → SameTold x y → SameUnits x y
+units-number (good u) (good v) h = h
+units-number (good u) (bad q) h = absurd h
+units-number (bad p) (good v) h = absurd h
+units-number (bad p) (bad q) (h, k) = h
+
+-- the unit answers of two files whose rows are those of rearranged texts
+same-units : (s f : List ℕ) (t u : Table) (ts us : List (List ℕ)) → AllSay s (t .records) ts → AllSay f (u .records) us → Rearranged ts us
+    → SameUnits (unitsOf s t) (unitsOf f u)
+same-units s f t u ts us a b r =
+    units-number (unitsOf s t) (unitsOf f u)
+    (resolve-same (finds-alike s f (t .records) (u .records) ts us a b (r .ids)) (map (thingOf s) (t .records)) (map (thingOf f) (u .records))
+    (all-asked s (t .records) ts a) (all-asked f (u .records) us b) (contexts-alike s f (t .records) (u .records) ts us a b (r .contexts)))
+
+-- "The new file is accepted with the same rooms; [..] each id then yields a record with the same keyword and argument bytes, or none as
+-- before, and the unit answer is the same, or the same refusal number."
+pub order : Demand
+order s H R t e k c d us r =
+    let b = both-accepted s H R t e k c d us (r .whole) in
+    let u = b .after .result in
+    record {
+      after = u;
+      accepted = b .after .scanned;
+      counted = same-counts s (filled c us) t u (b .headings) (texts c) us (b .rows) (b .after .rows) (b .heads) (b .after .heads) (r .whole);
+      headed = same-headers s (filled c us) (t .headers) (u .headers) (b .headings) (b .heads) (b .after .heads);
+      found = λ i. same-content s (filled c us) (lastOf i (t .records)) (lastOf i (u .records)) (lastText (ofId i us))
+      (rw (r .ids i) at (found-says i s (t .records) (texts c) (b .rows))) (found-says i (filled c us) (u .records) us (b .after .rows));
+      units = same-units s (filled c us) t u (texts c) us (b .rows) (b .after .rows) r;
+    }
