@@ -1,3 +1,4 @@
 pub mod Store
 pub mod Few
 pub mod Laws
+pub mod Served
