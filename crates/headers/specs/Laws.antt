@@ -45,7 +45,7 @@ module _ (len : ℕ) (w : HeaderRow) where
 pub header-right : (s heads : List ℕ) (n : ℕ) (name : List ℕ) → FirstForm (isHeader s heads name) 0 (headerRows heads n) (headerFirst s heads n name)
 header-right s heads n name =
     let e : headerRows heads n - 0 ≡ headerRows heads n = omega arith in
-    subst (λ (z : ℕ). FirstForm (isHeader s heads name) 0 (headerRows heads n) (firstFrom (isHeader s heads name) z 0)) e (first-right (isHeader s heads name) (headerRows heads n) 0 (omega arith))
+    subst (λ (z : ℕ). FirstForm (isHeader s heads name) 0 (headerRows heads n) (firstFrom (isHeader s heads name) z 0)) e (first-right (isHeader s heads name) (headerRows heads n) 0)
 
 -- it lies in the table
 pub header-fits : (s heads : List ℕ) (n : ℕ) (name : List ℕ) (i : ℕ) → some i ≡ headerFirst s heads n name → i * 4 + 4 ≤ length heads

@@ -1,3 +1,4 @@
 pub mod Header
 pub mod Laws
+pub mod Records
 pub mod Only

@@ -11,7 +11,7 @@ use native.Mathlib.Numerals.{add-one}
 use lib.ListN.{length}
 use Rattle.lex.specs.Byte.{pick}
 use Rattle.lex.specs.Right.Steps.{clash}
-use Rattle.index.specs.Order.{tableRoom, idOf, ordered}
+use Rattle.index.specs.Order.{tableRoom, idOf, ordered, less-or}
 use Rattle.index.specs.Lookup.{lookupOf}
 use Rattle.index.specs.Index.{Built}
 use Rattle.index.specs.Search.{searched}
@@ -76,8 +76,12 @@ module _ (p : ℕ → Bool) where
       go (inr (inr l)) = clash (let q : false ≡ true = sym (f .3 m (g .0) l) ∙ g .2 in cc)
 
   -- `by_kind`: the first row from `from` on and before n, or none
-  pub first-right : (n from : ℕ) → from ≤ n → FirstForm p from n (firstFrom p (n - from) from)
-  first-right n from h = subst (λ (z : ℕ). FirstForm p from z (firstFrom p (n - from) from)) (omega arith) (first-is (n - from) from)
+  pub first-right : (n from : ℕ) → FirstForm p from n (firstFrom p (n - from) from)
+  first-right n from = go (less-or n from)
+    where
+      go : (n < from) ⊎ (from ≤ n) → FirstForm p from n (firstFrom p (n - from) from)
+      go (inl h) = subst (FirstForm p from n) (sym (first-ends n from (omega arith))) (λ j a b. absurd (omega arith))
+      go (inr h) = subst (λ (z : ℕ). FirstForm p from z (firstFrom p (n - from) from)) (omega arith) (first-is (n - from) from)
 
 -- the row that a lookup gives lies in the table
 pub found-fits : (rows slots : List ℕ) (b : Ids) (k r : ℕ) → some r ≡ searched rows slots b k → r * 6 + 6 ≤ length rows

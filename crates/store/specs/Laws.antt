@@ -25,7 +25,7 @@ recordsIn (good c) = c .records
 recordsIn (bad q) = 0
 
 -- a scan that gives rows gives a table
-counted : (a : Told Table) (h r m : ℕ) → good (counts h r m) ≡ mapped countsOf a → (t : Table) × (a ≡ good t) × (r ≡ length (t .records))
+pub counted : (a : Told Table) (h r m : ℕ) → good (counts h r m) ≡ mapped countsOf a → (t : Table) × (a ≡ good t) × (r ≡ length (t .records))
 unfolding recordsIn
 counted (good t) h r m e = (t, refl, ap recordsIn e)
 counted (bad q) h r m e = let z : _≡_ {A = ℕ} 0 1 = cc in absurd (omega arith)

@@ -3,8 +3,11 @@
 use Prim.Native.Nat.{ℕ}
 use mathlib.Core.Path.{_≡_}
 use mathlib.Core.List.{List}
+use lib.ListN.{length}
 use Rattle.error.specs.Refusal.{Told, good, bad, told}
-use Rattle.scan.specs.Table.{Counts, counts}
+use Rattle.statement.specs.Row.{mapped}
+use Rattle.scan.specs.File.{Table, scanOf}
+use Rattle.scan.specs.Table.{headerRoom, dataRoom, headersAfter, rowsAfter, Counts, counts, countsOf}
 use Rattle.index.specs.Order.{idOf}
 use Rattle.index.specs.Index.{Built}
 use Rattle.store.specs.declared.Opened.{Opened}
@@ -19,3 +22,14 @@ toldOpened (Refused f) = bad (told f)
 abbrev pub Indexed : Opened → List ℕ → List ℕ → List ℕ → Type 0
 Indexed (Good t) rows old new = Built (idOf rows) (t .records) old new (t .ids)
 Indexed (Refused f) rows old new = new ≡ old
+
+-- the scan of a file into these lent header rows, data rows and slots
+abbrev pub scanInto : List ℕ → List ℕ → List ℕ → List ℕ → Told Table
+scanInto s heads rows slots = scanOf s (headerRoom heads) (dataRoom rows (length slots))
+
+-- all that `open` promises of its answer and of the lent header rows, data rows and slots after it
+pub record Opens (s heads rows slots : List ℕ) (a : Opened) (heads′ rows′ slots′ : List ℕ) : Type 0 where
+  pub answer : toldOpened a ≡ mapped countsOf (scanInto s heads rows slots)
+  pub headers : heads′ ≡ headersAfter (scanInto s heads rows slots) heads
+  pub records : rows′ ≡ rowsAfter (scanInto s heads rows slots) rows
+  pub index : Indexed a rows′ slots slots′
