@@ -23,7 +23,7 @@ use Rattle.kinds.specs.declared.Kind.{Kind}
 use Rattle.params.specs.Reader.{Span, span}
 use Rattle.words.specs.Places.{SpanIn}
 use Rattle.parts.specs.Part.{Window, partsOf}
-use Rattle.alike.specs.Parts.{shiftRow, RowsIn, parts-closed-good}
+use Rattle.parts.specs.Closed.{shiftRow, RowsIn, parts-closed-good}
 use Rattle.lookup.specs.Lookup.{cut, spanFine, kindIn}
 use Rattle.alike.specs.Alike.{BothTold, BothList, AlikeRun, AlikePiece, AlikeThing}
 use Rattle.factors.specs.Thing.{goodBy, Piece, pieceOf, Thing, piecesOf, thingAt, thingOf}

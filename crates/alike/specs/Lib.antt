@@ -5,5 +5,4 @@ pub mod Runs
 pub mod Factors
 pub mod Answers
 pub mod Contexts
-pub mod Parts
 pub mod Closed

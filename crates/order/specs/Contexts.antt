@@ -16,7 +16,8 @@ use Rattle.units.specs.Units.{isContext}
 use Rattle.alike.specs.Alike.{BothTold, BothList, AlikeThing, AlikeFound, AlikeFind}
 use Rattle.alike.specs.Closed.{closed-thing-good, closed-parts-good, closed-things-alike}
 use Rattle.alike.specs.Contexts.{toldTrue, contextsOf, Asked, context-told, context-same}
-use Rattle.order.specs.Order.{those, ofId, contextText, contextsIn, lastOf}
+use Rattle.lookup.specs.Records.{lastOf}
+use Rattle.order.specs.Order.{those, ofId, contextText, contextsIn}
 use Rattle.order.specs.Shape.{Says, AllSay}
 use Rattle.order.specs.Found.{FoundSay, lastText, found-says}
 

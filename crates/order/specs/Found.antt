@@ -12,13 +12,14 @@ use Rattle.record.specs.Head.{dataHead}
 use Rattle.statement.specs.Row.{Row, recordOf}
 use Rattle.statement.specs.Closed.{ClosedData, Content, content}
 use Rattle.statement.specs.ClosedRight.{rowFrom, contentOf, record-row, record-content, alone, alone-is}
-use Rattle.order.specs.Order.{named, those, ofId, later, lastOf, contentFound}
+use Rattle.lookup.specs.Records.{lastOf, orElse}
+use Rattle.order.specs.Order.{named, those, ofId, contentFound}
 use Rattle.order.specs.Shape.{Says, AllSay}
 
 -- the last text
 abbrev pub lastText : List (List ℕ) → Option (List ℕ)
 lastText [] = none
-lastText (b ∷ bs) = later (lastText bs) (some b)
+lastText (b ∷ bs) = orElse (lastText bs) (some b)
 
 -- the row that is served is that of a text, or there is neither
 abbrev pub FoundSay : List ℕ → Option Row → Option (List ℕ) → Type 0
@@ -50,18 +51,18 @@ found-says k f [] (b ∷ bs) a = absurd a
 found-says k f (w ∷ ws) [] a = absurd a
 found-says k f (w ∷ ws) (b ∷ bs) (y, a) = rw (says-id k y) (go (eqb (w .id) k) (lastOf k ws) (ofId k bs) (found-says k f ws bs a))
   where
-    first : (x : Option Row) (z : Option (List ℕ)) → FoundSay f x z → FoundSay f (later x (some w)) (later z (some b))
+    first : (x : Option Row) (z : Option (List ℕ)) → FoundSay f x z → FoundSay f (orElse x (some w)) (orElse z (some b))
     first none none h = y
     first none (some c) h = absurd h
     first (some v) none h = absurd h
     first (some v) (some c) h = h
 
-    other : (x : Option Row) (z : Option (List ℕ)) → FoundSay f x z → FoundSay f (later x none) z
+    other : (x : Option Row) (z : Option (List ℕ)) → FoundSay f x z → FoundSay f (orElse x none) z
     other none z h = h
     other (some v) z h = h
 
     go : (t : Bool) (x : Option Row) (z : List (List ℕ)) → FoundSay f x (lastText z)
-        → FoundSay f (later x (pick t (some w) none)) (lastText (pick t (b ∷ z) z))
+        → FoundSay f (orElse x (pick t (some w) none)) (lastText (pick t (b ∷ z) z))
     go true x z h = first x (lastText z) h
     go false x z h = other x (lastText z) h
 

@@ -25,6 +25,7 @@ use Rattle.statement.specs.declared.Section.the-variants.{Outside, InHeader, In
 use Rattle.scan.specs.File.{Table, scanOf}
 use Rattle.scan.specs.Table.{countsOf}
 use Rattle.params.specs.Reader.{onward}
+use Rattle.lookup.specs.Records.{lastOf}
 use Rattle.factors.specs.Thing.{Thing, thingOf, thingFound}
 use Rattle.units.specs.Units.{Units, isContext, resolveOf}
 
@@ -111,22 +112,13 @@ pub record Rearranged (ts us : List (List ℕ)) : Type 0 where
   pub ids : (k : ℕ) → ofId k ts ≡ ofId k us
   pub contexts : contextsIn ts ≡ contextsIn us
 
--- a later one, or else this
-abbrev pub later : {A : Type 0} → Option A → Option A → Option A
-later none x = x
-later (some a) x = some a
-
--- "the last record of that id, or none"
-unfoldable pub lastOf : ℕ → List Row → Option Row
-lastOf k [] = none
-lastOf k (w ∷ ws) = later (lastOf k ws) (pick (eqb (w .id) k) (some w) none)
-
 -- what a record of the file says, or nothing
 abbrev pub contentFound : List ℕ → Option Row → Option Content
 contentFound s none = none
 contentFound s (some w) = some (content s w)
 
--- "each id then yields a record with [..] keyword and argument bytes, or none": of the file s with the table t
+-- "each id then yields a record with [..] keyword and argument bytes, or none": of the file s with the table t, by demand 2's lookup, "the
+-- last record of that id, or none"
 abbrev pub served : List ℕ → Table → ℕ → Option Content
 served s t k = contentFound s (lastOf k (t .records))
 

@@ -9,7 +9,8 @@ use Rattle.factors.specs.Thing.{thingOf, thingFound}
 use Rattle.units.specs.Units.{Units}
 use Rattle.alike.specs.Alike.{SameTold}
 use Rattle.alike.specs.Contexts.{resolve-same}
-use Rattle.order.specs.Order.{Cut, texts, filled, ofId, contextsIn, Rearranged, lastOf, served, unitsOf, SameUnits, Same, Demand}
+use Rattle.lookup.specs.Records.{lastOf}
+use Rattle.order.specs.Order.{Cut, texts, filled, ofId, contextsIn, Rearranged, served, unitsOf, SameUnits, Same, Demand}
 use Rattle.order.specs.Shape.{AllSay}
 use Rattle.order.specs.Accepted.{Both, both-accepted}
 use Rattle.order.specs.Found.{lastText, found-says, same-content}
