@@ -5,3 +5,6 @@ pub mod Accepted
 pub mod Found
 pub mod Exchange
 pub mod Counted
+pub mod Check
+pub mod Computed
+pub mod Needed
