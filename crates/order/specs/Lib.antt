@@ -8,3 +8,4 @@ pub mod Counted
 pub mod Check
 pub mod Computed
 pub mod Needed
+pub mod Concrete
