@@ -62,7 +62,7 @@ module _ (p : List ℕ → Bool) where
   those-not b bs h = rw h refl
 
   -- neighbours of which it does not hold at once
-  those-swap : (a b : List ℕ) (zs : List (List ℕ)) → (p a && p b) ≡ false → those p (a ∷ b ∷ zs) ≡ those p (b ∷ a ∷ zs)
+  pub those-swap : (a b : List ℕ) (zs : List (List ℕ)) → (p a && p b) ≡ false → those p (a ∷ b ∷ zs) ≡ those p (b ∷ a ∷ zs)
   unfolding those
   those-swap a b zs = go (p a) (p b)
     where

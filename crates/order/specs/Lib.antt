@@ -7,3 +7,8 @@ pub mod Exchange
 pub mod Counted
 pub mod Contexts
 pub mod Right
+pub mod Check
+pub mod Computed
+pub mod Needed
+pub mod Concrete
+pub mod Contracts

@@ -1,0 +1,44 @@
+-- What is unfolded where a file is computed: to unfold one of these is to unfold all that its line names. Assumes nothing.
+use lib.Ieee.{size}
+use Rattle.lex.specs.Walk.{walk}
+use Rattle.lex.specs.Search.{trivia, recordEnd, closing}
+use Rattle.record.specs.Text.{past, numberFrom, keyword, trail}
+use Rattle.record.specs.Word.{same, wordOf}
+use Rattle.record.specs.Head.{dataHead, headerHead}
+use Rattle.statement.specs.Row.{recordOf, headerOf}
+use Rattle.statement.specs.Statement.{statement}
+use Rattle.scan.specs.File.{readFrom, scanOf}
+use Rattle.kinds.specs.Kind.{kindOf}
+use Rattle.parts.specs.Part as Part
+use Rattle.params.specs.Cut.{cutOf, started}
+use Rattle.params.specs.Reader.{paramOf, skipOf}
+use Rattle.scalars.specs.Scalars.{kernelOf, measureOf, nextOf}
+use Rattle.reals.specs.Scalar.{parseOf, realOf, wholeOf, referenceOf}
+use Rattle.reals.specs.Prefix.{placeIn}
+use Rattle.lists.specs.Items.{itemEnd, itemBy, itemsFrom, itemsBy, bodyOf, listBy, nextBy}
+use Rattle.factors.specs.Factor.{siLength, siAngle, measureRef, linkOf, measureIn, lengthOf, numberIn, angleOf}
+use Rattle.units.specs.Units.{isContext, refsIn, unitBy, unitsBy, uncertaintyBy, toleranceBy, listedUnits, listedTolerance, contextOf, resolveOf}
+use Rattle.nearest.specs.Near.{near, nearUnits}
+use Rattle.nearest.specs.Product.{worthOf}
+use Rattle.nearest.specs.Units as Nearest
+use Rattle.tokens.specs.Leap.{fromByte, stringRest, commentRest}
+use Rattle.words.specs.Words.{isName}
+use Rattle.utf8.specs.Utf8.{validFrom, leadOf}
+use Rattle.lookup.specs.Records.{lastOf}
+use Rattle.order.specs.Order.{those, contextText}
+use Rattle.order.specs.Check.{clear, closedBy, argsAt, partsClosed, dataClosed, headerClosed, closedFrom, cutFrom}
+
+-- the reading of a file
+unfoldable pub reading : Unit {0}
+unfolding walk trivia recordEnd closing past numberFrom keyword trail same wordOf dataHead headerHead recordOf headerOf statement readFrom scanOf
+reading = tt
+
+-- its cut, and whether it is closed
+unfoldable pub checking : Unit {0}
+unfolding reading clear closedBy argsAt partsClosed dataClosed headerClosed closedFrom cutFrom
+checking = tt
+
+-- the unit answer, and which texts are unit contexts
+unfoldable pub resolving : Unit {0}
+unfolding reading those contextText lastOf kindOf Part.nextOf Part.partsFrom cutOf started paramOf skipOf kernelOf measureOf nextOf parseOf realOf wholeOf referenceOf placeIn itemEnd itemBy itemsFrom itemsBy bodyOf listBy nextBy siLength siAngle measureRef linkOf measureIn lengthOf numberIn angleOf isContext refsIn unitBy unitsBy uncertaintyBy toleranceBy listedUnits listedTolerance contextOf resolveOf size near nearUnits worthOf Nearest.unitsOf fromByte stringRest commentRest isName validFrom leadOf
+resolving = tt

@@ -1,0 +1,176 @@
+-- Demand 3's premises can be met: here is a file that meets them all, by computation. It has a header, blanks, comments between records,
+-- two data sections, two unit contexts of which the first gives its lengths in inches by a conversion, complex records and two records
+-- of one id; and six of its seven records change places, four of them for places in the other data section. Assumes nothing.
+use Prim.Native.Nat.{ℕ}
+use mathlib.Core.Path.{_≡_, refl, subst}
+use mathlib.Core.Bool.{Bool, true, false, _&&_}
+use mathlib.Core.List.{List, [], _∷_, _++_}
+use mathlib.Core.Option.{some}
+use lib.Dec.{eqb}
+use Rattle.error.specs.Refusal.{good}
+use Rattle.record.specs.Form.{bytes}
+use Rattle.statement.specs.Row.{row, headerRow}
+use Rattle.statement.specs.Closed.{Closed}
+use Rattle.statement.specs.declared.Section.the-variants.{Outside}
+use Rattle.scan.specs.File.{Table, table, scanOf}
+use Rattle.units.specs.Units.{units}
+use Rattle.order.specs.Order.{Cut, rest, piece, texts, filled, Cuts, contextText, contextsIn, Rearranged, served, unitsOf, Same, Demand}
+use Rattle.order.specs.Exchange.{rearranged-then, rearranged-swap, rearranged-lone}
+use Rattle.order.specs.Check.{closed-from, cut-from, HasId, ids-apart, lone-text}
+use Rattle.order.specs.Computed.{reading, checking, resolving}
+
+-- ---- the records
+-- a unit context, a complex record: its lengths are in inches
+unfoldable pub inches : List ℕ
+inches = bytes "#1=(GEOMETRIC_REPRESENTATION_CONTEXT(3)GLOBAL_UNIT_ASSIGNED_CONTEXT((#3)))"
+
+-- another: its lengths are in millimetres
+unfoldable pub millimetres : List ℕ
+millimetres = bytes "#2=(GEOMETRIC_REPRESENTATION_CONTEXT(3)GLOBAL_UNIT_ASSIGNED_CONTEXT((#5)))"
+
+-- the inch, a conversion unit
+unfoldable pub inch : List ℕ
+inch = bytes "#3=(CONVERSION_BASED_UNIT('INCH',#4)LENGTH_UNIT()NAMED_UNIT(*))"
+
+-- what it converts by: 25.4 of the next
+unfoldable pub measure : List ℕ
+measure = bytes "#4=LENGTH_MEASURE_WITH_UNIT(LENGTH_MEASURE(25.4),#5)"
+
+-- the millimetre
+unfoldable pub millimetre : List ℕ
+millimetre = bytes "#5=(LENGTH_UNIT()NAMED_UNIT(*)SI_UNIT(.MILLI.,.METRE.))"
+
+-- the earlier of two records with one id
+unfoldable pub earlier : List ℕ
+earlier = bytes "#6=A('x')"
+
+-- the later of them
+unfoldable pub later : List ℕ
+later = bytes "#6=B(';','/*')"
+
+-- all of them, where they are unfolded
+unfoldable pub known : Unit {0}
+unfolding inches millimetres inch measure millimetre earlier later
+known = tt
+
+-- ---- the file and its rearrangement
+-- the file
+abbrev pub file : List ℕ
+file = bytes "ISO-10303-21;\nHEADER;FILE_NAME('a;b');ENDSEC;\nDATA;\n#1=(GEOMETRIC_REPRESENTATION_CONTEXT(3)GLOBAL_UNIT_ASSIGNED_CONTEXT((#3)));\n/* #9=C(; */ #2=(GEOMETRIC_REPRESENTATION_CONTEXT(3)GLOBAL_UNIT_ASSIGNED_CONTEXT((#5)));\n  #3=(CONVERSION_BASED_UNIT('INCH',#4)LENGTH_UNIT()NAMED_UNIT(*));#4=LENGTH_MEASURE_WITH_UNIT(LENGTH_MEASURE(25.4),#5);ENDSEC;\nDATA;\n#5=(LENGTH_UNIT()NAMED_UNIT(*)SI_UNIT(.MILLI.,.METRE.));/* stays */#6=A('x');\n#6=B(';','/*');\nENDSEC;END-ISO-10303-21;\n"
+
+-- the new file
+abbrev pub newFile : List ℕ
+newFile = bytes "ISO-10303-21;\nHEADER;FILE_NAME('a;b');ENDSEC;\nDATA;\n#5=(LENGTH_UNIT()NAMED_UNIT(*)SI_UNIT(.MILLI.,.METRE.));\n/* #9=C(; */ #1=(GEOMETRIC_REPRESENTATION_CONTEXT(3)GLOBAL_UNIT_ASSIGNED_CONTEXT((#3)));\n  #6=A('x');#4=LENGTH_MEASURE_WITH_UNIT(LENGTH_MEASURE(25.4),#5);ENDSEC;\nDATA;\n#2=(GEOMETRIC_REPRESENTATION_CONTEXT(3)GLOBAL_UNIT_ASSIGNED_CONTEXT((#5)));/* stays */#6=B(';','/*');\n#3=(CONVERSION_BASED_UNIT('INCH',#4)LENGTH_UNIT()NAMED_UNIT(*));\nENDSEC;END-ISO-10303-21;\n"
+
+-- the table of the file
+abbrev pub fileRows : Table
+fileRows = table (headerRow 21 30 31 36 ∷ []) (row 1 0 0 56 125 1 ∷ row 2 0 0 145 214 1 ∷ row 3 0 0 223 281 1 ∷ row 4 286 310 311 334 0 ∷ row 5 0 0 354 404 1 ∷ row 6 420 421 422 425 0 ∷ row 6 431 432 433 441 0 ∷ [])
+
+-- the table of the new file
+abbrev pub newRows : Table
+newRows = table (headerRow 21 30 31 36 ∷ []) (row 5 0 0 56 106 1 ∷ row 1 0 0 126 195 1 ∷ row 6 203 204 205 208 0 ∷ row 4 213 237 238 261 0 ∷ row 2 0 0 281 350 1 ∷ row 6 366 367 368 376 0 ∷ row 3 0 0 383 441 1 ∷ [])
+
+-- the file's cut
+abbrev pub fileCut : Cut
+fileCut =
+    piece (bytes "ISO-10303-21;\nHEADER;FILE_NAME('a;b');ENDSEC;\nDATA;\n") inches
+    (piece (bytes ";\n/* #9=C(; */ ") millimetres
+    (piece (bytes ";\n  ") inch
+    (piece (bytes ";") measure
+    (piece (bytes ";ENDSEC;\nDATA;\n") millimetre
+    (piece (bytes ";/* stays */") earlier
+    (piece (bytes ";\n") later
+    (rest (bytes ";\nENDSEC;END-ISO-10303-21;\n"))))))))
+
+-- the texts rearranged
+abbrev pub moved : List (List ℕ)
+moved = millimetre ∷ inches ∷ earlier ∷ measure ∷ millimetres ∷ later ∷ inch ∷ []
+
+-- ---- the premises
+-- "an accepted file": with room for its one header row and seven data rows
+pub file-accepted : scanOf file 1 7 ≡ good fileRows
+unfolding reading
+file-accepted = refl
+
+-- "that is closed"
+pub file-closed : Closed file
+unfolding checking
+file-closed = closed-from 20 file Outside file refl
+
+-- "its whole data records"
+pub file-cut : Cuts file Outside file fileCut
+unfolding checking known
+file-cut = cut-from 20 file Outside file fileCut refl
+
+-- with the texts rearranged it is the new file
+pub file-filled : filled fileCut moved ≡ newFile
+unfolding known
+file-filled = refl
+
+-- the ids of its records
+pub ids-are : HasId inches 1 × HasId millimetres 2 × HasId inch 3 × HasId measure 4 × HasId millimetre 5 × HasId earlier 6 × HasId later 6
+unfolding reading known
+ids-are = (λ k. refl, λ k. refl, λ k. refl, λ k. refl, λ k. refl, λ k. refl, λ k. refl)
+
+-- the first two are unit contexts, and no other
+pub contexts-are : contextsIn (texts fileCut) ≡ inches ∷ millimetres ∷ []
+unfolding resolving known
+contexts-are = refl
+
+-- the others one by one
+plain : (contextText inch ≡ false) × (contextText measure ≡ false) × (contextText millimetre ≡ false) × (contextText earlier ≡ false) × (contextText later ≡ false)
+unfolding resolving known
+plain = (refl, refl, refl, refl, refl)
+
+-- the units change places: nobody else has their ids
+two : Rearranged (texts fileCut) (inches ∷ millimetres ∷ millimetre ∷ measure ∷ inch ∷ earlier ∷ later ∷ [])
+unfolding resolving known
+two =
+    rearranged-lone (inches ∷ millimetres ∷ []) inch (measure ∷ []) millimetre (earlier ∷ later ∷ [])
+    (lone-text 3 (ids-are .2) refl (plain .0)) (lone-text 5 (ids-are .4) refl (plain .2))
+
+-- a record that is no unit context goes before its neighbour of another id
+ahead : (xs : List (List ℕ)) (a b : List ℕ) (zs : List (List ℕ)) (i j : ℕ) → HasId a i → HasId b j → eqb i j ≡ false → contextText b ≡ false
+    → Rearranged (xs ++ (a ∷ b ∷ zs)) (xs ++ (b ∷ a ∷ zs))
+ahead xs a b zs i j h g e p = rearranged-swap xs a b zs (ids-apart a b i j h g e) (rw p (neither (contextText a)))
+  where
+    neither : (x : Bool) → (x && false) ≡ false
+    neither true = refl
+    neither false = refl
+
+-- "Rearrange its whole data records among their places, keeping the order of records with equal ids and the order of the unit contexts"
+pub file-rearranged : Rearranged (texts fileCut) moved
+file-rearranged =
+    rearranged-then two
+    (rearranged-then (ahead (inches ∷ []) millimetres millimetre (measure ∷ inch ∷ earlier ∷ later ∷ []) 2 5 (ids-are .1) (ids-are .4) refl (plain .2))
+    (rearranged-then (ahead [] inches millimetre (millimetres ∷ measure ∷ inch ∷ earlier ∷ later ∷ []) 1 5 (ids-are .0) (ids-are .4) refl (plain .2))
+    (rearranged-then (ahead (millimetre ∷ inches ∷ millimetres ∷ measure ∷ []) inch earlier (later ∷ []) 3 6 (ids-are .2) (ids-are .5) refl (plain .3))
+    (rearranged-then (ahead (millimetre ∷ inches ∷ millimetres ∷ []) measure earlier (inch ∷ later ∷ []) 4 6 (ids-are .3) (ids-are .5) refl (plain .3))
+    (rearranged-then (ahead (millimetre ∷ inches ∷ []) millimetres earlier (measure ∷ inch ∷ later ∷ []) 2 6 (ids-are .1) (ids-are .5) refl (plain .3))
+    (rearranged-then (ahead (millimetre ∷ inches ∷ earlier ∷ []) millimetres measure (inch ∷ later ∷ []) 2 4 (ids-are .1) (ids-are .3) refl (plain .1))
+    (ahead (millimetre ∷ inches ∷ earlier ∷ measure ∷ millimetres ∷ []) inch later [] 3 6 (ids-are .2) (ids-are .6) refl (plain .4))))))))
+
+-- ---- what it says
+-- of the two records with the id 6 the later is served
+pub file-served : served file fileRows 6 ≡ some (record { id = 6; keyword = bytes "B"; args = bytes "';','/*'"; complex = 0 })
+unfolding resolving
+file-served = refl
+
+-- its unit is resolved, by the first context and its conversion: lengths by 25.4, angles by 1.0, and the tolerance is 1e-3
+pub file-units : unitsOf file fileRows ≡ good (units 4627842682090579558 4607182418800017408 4562254508917369340 true)
+unfolding resolving
+file-units = refl
+
+-- so demand 3 speaks of this file
+pub concrete : Demand → Same file fileRows newFile 1 7
+concrete d = subst (λ (f : List ℕ). Same file fileRows f 1 7) file-filled (d file 1 7 fileRows file-accepted file-closed fileCut file-cut moved file-rearranged)
+
+-- and what it says of the new file is what is computed
+pub new-accepted : scanOf newFile 1 7 ≡ good newRows
+unfolding reading
+new-accepted = refl
+
+-- the unit answer is the same
+pub new-units : unitsOf newFile newRows ≡ good (units 4627842682090579558 4607182418800017408 4562254508917369340 true)
+unfolding resolving
+new-units = refl
