@@ -1,3 +1,4 @@
 pub mod Units
 pub mod Code
 pub mod Laws
+pub mod Records
