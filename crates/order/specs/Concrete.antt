@@ -14,7 +14,8 @@ use Rattle.statement.specs.Closed.{Closed}
 use Rattle.statement.specs.declared.Section.the-variants.{Outside}
 use Rattle.scan.specs.File.{Table, table, scanOf}
 use Rattle.units.specs.Units.{units}
-use Rattle.order.specs.Order.{Cut, rest, piece, texts, filled, Cuts, contextText, contextsIn, Rearranged, served, unitsOf, Same, Demand}
+use Rattle.order.specs.Order.{Cut, rest, piece, texts, filled, Cuts, contextText, contextsIn, Rearranged, served, unitsOf, Same}
+use Rattle.order.specs.Right.{order}
 use Rattle.order.specs.Exchange.{rearranged-then, rearranged-swap, rearranged-lone}
 use Rattle.order.specs.Check.{closed-from, cut-from, HasId, ids-apart, lone-text}
 use Rattle.order.specs.Computed.{reading, checking, resolving}
@@ -162,8 +163,8 @@ unfolding resolving
 file-units = refl
 
 -- so demand 3 speaks of this file
-pub concrete : Demand → Same file fileRows newFile 1 7
-concrete d = subst (λ (f : List ℕ). Same file fileRows f 1 7) file-filled (d file 1 7 fileRows file-accepted file-closed fileCut file-cut moved file-rearranged)
+pub concrete : Same file fileRows newFile 1 7
+concrete = subst (λ (f : List ℕ). Same file fileRows f 1 7) file-filled (order file 1 7 fileRows file-accepted file-closed fileCut file-cut moved file-rearranged)
 
 -- and what it says of the new file is what is computed
 pub new-accepted : scanOf newFile 1 7 ≡ good newRows

@@ -44,6 +44,6 @@ order s H R t e k c d us r =
       counted = same-counts s (filled c us) t u (b .headings) (texts c) us (b .rows) (b .after .rows) (b .heads) (b .after .heads) (r .whole);
       headed = same-headers s (filled c us) (t .headers) (u .headers) (b .headings) (b .heads) (b .after .heads);
       found = λ i. same-content s (filled c us) (lastOf i (t .records)) (lastOf i (u .records)) (lastText (ofId i us))
-      (rw (r .ids i) at (found-says i s (t .records) (texts c) (b .rows))) (found-says i (filled c us) (u .records) us (b .after .rows));
+          (rw (r .ids i) at (found-says i s (t .records) (texts c) (b .rows))) (found-says i (filled c us) (u .records) us (b .after .rows));
       units = same-units s (filled c us) t u (texts c) us (b .rows) (b .after .rows) r;
     }
