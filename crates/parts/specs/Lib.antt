@@ -1,4 +1,5 @@
 pub mod Part
 pub mod Laws
 pub mod PartRight
+pub mod Places
 pub mod Only

@@ -74,6 +74,15 @@ pub data NextForm (s : List ℕ) (from end : ℕ) : Told (Option HeaderRow) → 
   refused : {f v k w r : List ℕ} {q : Refusal} (m : Window s from end (f ++ v)) → Skipped separator f v → Keyword v k w r
       → Argued s (r ++ m .back) (bad q) → NextForm s from end (bad q)
 
+-- a part lies in a file of n bytes, not before the place `from`: keyword and arguments run forwards, its `(` stands between them
+-- and its `)` behind them
+pub record PartIn (n from : ℕ) (p : HeaderRow) : Type 0 where
+  pub ahead : from ≤ p .keyStart
+  pub key : p .keyStart ≤ p .keyEnd
+  pub opens : p .keyEnd < p .argStart
+  pub args : p .argStart ≤ p .argEnd
+  pub closes : p .argEnd < n
+
 -- "repeat": a part before the others
 abbrev pub before : HeaderRow → Told (List HeaderRow) → Told (List HeaderRow)
 before p (good ps) = good (p ∷ ps)
