@@ -130,6 +130,37 @@ partOf s from end complex k =
     (pick (ltb (length s) end) (bad (refusal 9 0 0)) (pick (ltb end from) (bad (refusal 9 0 0)) (mapped (firstKind s k) (partsOf s from end))))
     (good none)
 
+-- no part is of a kind, wherever the parts are cut around one
+abbrev pub NoPart : List ℕ → Kind → List HeaderRow → Type 0
+NoPart s k ps = (front back : List HeaderRow) (p : HeaderRow) → ps ≡ front ++ (p ∷ back) → isKind s k p ≡ false
+
+-- p is the first part of a kind: it stands among the parts, is of the kind, and no part before it is
+pub record IsFirstPart (s : List ℕ) (k : Kind) (ps : List HeaderRow) (p : HeaderRow) : Type 0 where
+  pub front : List HeaderRow
+  pub back : List HeaderRow
+  pub cut : ps ≡ front ++ (p ∷ back)
+  pub kind : isKind s k p ≡ true
+  pub before : NoPart s k front
+
+-- the first part of a kind, or that there is none
+abbrev pub FirstPart : List ℕ → Kind → List HeaderRow → Option HeaderRow → Type 0
+FirstPart s k ps none = NoPart s k ps
+FirstPart s k ps (some p) = IsFirstPart s k ps p
+
+-- `complex_part` without a loop, for a record whose mark is c
+pub data ComplexPart (s : List ℕ) (from end c : ℕ) (k : Kind) : Told (Option HeaderRow) → Type 0 where
+  -- a record that is not complex has no parts
+  simple : (c ≡ 1 → ⊥) → ComplexPart s from end c k (good none)
+  -- "9 span outside the file"
+  outside : c ≡ 1 → length s < end → ComplexPart s from end c k (bad (refusal 9 0 0))
+  -- "or backwards"
+  backwards : c ≡ 1 → end < from → ComplexPart s from end c k (bad (refusal 9 0 0))
+  -- a fault in any of the parts, also in one behind the part sought
+  fault : {q : Refusal} → c ≡ 1 → from ≤ end → end ≤ length s → PartsForm s end from (bad q) → ComplexPart s from end c k (bad q)
+  -- all parts are read, and the first of the kind is given
+  read : {ps : List HeaderRow} {o : Option HeaderRow} → c ≡ 1 → from ≤ end → end ≤ length s → PartsForm s end from (good ps) → FirstPart s k ps o
+      → ComplexPart s from end c k (good o)
+
 -- the part that was found before, or this one where it is of the kind
 abbrev pub firstOf : Next → HeaderSpan → Bool → Next
 firstOf (Is q) p hit = Is q
