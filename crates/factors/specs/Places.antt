@@ -6,17 +6,12 @@ use mathlib.Core.Bool.{Bool, true, false}
 use mathlib.Core.List.{List, [], map}
 use mathlib.Core.Option.{Option, none, some}
 use native.Mathlib.Omega.{arith}
-use lib.Dec.{eqb, ltb}
-use lib.ListN.{length, take, drop}
+use lib.Dec.{eqb}
+use lib.ListN.{length}
 use Rattle.error.specs.Refusal.{refusal, Told, good, bad}
-use Rattle.lex.specs.Byte.{pick, place}
-use Rattle.lex.specs.Search.{Sought, at, fault, closing, placed}
+use Rattle.lex.specs.Byte.{pick}
 use Rattle.record.specs.Turns.{bounds}
-use Rattle.record.specs.Text.{past}
-use Rattle.record.specs.Head.{headerHead}
-use Rattle.record.specs.declared.Head.{Head}
-use Rattle.record.specs.declared.Head.the-variants.{Bad, Complex, Simple}
-use Rattle.statement.specs.Row.{Row, HeaderRow, mapped}
+use Rattle.statement.specs.Row.{Row}
 use Rattle.kinds.specs.declared.Kind.{Kind}
 use Rattle.kinds.specs.declared.Kind.the-variants.{SiUnit, ConversionBasedUnit, LengthMeasureWithUnit}
 use Rattle.kinds.specs.declared.Kind.the-variants as Kinds
@@ -26,8 +21,8 @@ use Rattle.scalars.specs.Scalars.{nextOf, measureOf}
 use Rattle.scalars.specs.Places.{next-placed}
 use Rattle.reals.specs.Scalar.{referenceOf}
 use Rattle.words.specs.Places.{ToldIn}
-use Rattle.parts.specs.Part.{separator, partBy, partIn, partsBy, partsFrom, partsOf}
-use Rattle.parts.specs.Part as Part
+use Rattle.parts.specs.Part.{partsOf}
+use Rattle.parts.specs.Places.{AnswerIn, AllIn, parts-placed}
 use Rattle.index.specs.Search.{searched}
 use Rattle.index.specs.declared.Ids.{Ids}
 use Rattle.lookup.specs.Lookup.{spanFine, rowFound}
@@ -57,42 +52,10 @@ use Rattle.factors.specs.Factor.{
 }
 
 -- ---- the parts of a complex record
--- where a `)` is sought
-sought-placed : {A : Type 0} (s : List ℕ) (f : ℕ → A) (x : Sought) → PlacedIn (length s) (mapped f (placed s x))
-sought-placed s f (at r) = tt
-sought-placed s f (fault n o) = omega arith
-
--- the next part
-part-placed : (s : List ℕ) (from end : ℕ) → PlacedIn (length s) (Part.nextOf s from end)
-unfolding Part.nextOf
-part-placed s from end = go (ltb (length s) end)
-  where
-    m : List ℕ
-    m = take (end - from) (drop from s)
-
-    by : (a : ℕ) (h : Head) → PlacedIn (length s) (partBy s a h)
-    by a (Bad why) = tt
-    by a (Complex i o) = tt
-    by a (Simple i k z o) = sought-placed s _ (closing (drop (a + o) s))
-
-    go : (b : Bool) → PlacedIn (length s) (pick b (bad (refusal 9 0 0)) (partIn s from m))
-    go true = omega arith
-    go false = by (from + place m (past separator m)) (headerHead (past separator m))
-
--- all parts
-parts-placed : (n : ℕ) (s : List ℕ) (from end : ℕ) → PlacedIn (length s) (partsFrom n s from end)
-unfolding partsFrom
-parts-placed zero s from end = omega arith
-parts-placed (suc n) s from end = go (Part.nextOf s from end) (part-placed s from end) (λ p. parts-placed n s (p .argEnd + 1) end)
-  where
-    add : (p : HeaderRow) (x : Told (List HeaderRow)) → PlacedIn (length s) x → PlacedIn (length s) (Part.before p x)
-    add p (good ps) h = tt
-    add p (bad q) h = h
-
-    go : (x : Told (Option HeaderRow)) → PlacedIn (length s) x → ((p : HeaderRow) → PlacedIn (length s) (partsFrom n s (p .argEnd + 1) end)) → PlacedIn (length s) (partsBy x (λ p. partsFrom n s (p .argEnd + 1) end))
-    go (bad q) h k = h
-    go (good none) h k = tt
-    go (good (some p)) h k = add p (partsFrom n s (p .argEnd + 1) end) (k p)
+-- what refuses them lies in the file
+answer-placed : {A : Type 0} (n : ℕ) (F : A → Type 0) (x : Told A) → AnswerIn n F x → PlacedIn n x
+answer-placed n F (good a) h = tt
+answer-placed n F (bad q) h = h .1
 
 -- ---- answers put together
 module _ {A B : Type 0} (n : ℕ) where
@@ -132,7 +95,7 @@ pub thing-in : (s : List ℕ) (w : Row) → ToldIn (length s) (ThingIn (length s
 thing-in s w = go (spanFine (length s) (w .argStart) (w .argEnd)) refl
   where
     pieces : (b : Bool) → PlacedIn (length s) (pick b (goodBy (map (pieceOf s)) (partsOf s (w .argStart) (w .argEnd))) (good []))
-    pieces true = by-placed (length s) (map (pieceOf s)) (partsOf s (w .argStart) (w .argEnd)) (parts-placed (suc (length s)) s (w .argStart) (w .argEnd))
+    pieces true = by-placed (length s) (map (pieceOf s)) (partsOf s (w .argStart) (w .argEnd)) (answer-placed (length s) (AllIn (length s) (w .argStart)) (partsOf s (w .argStart) (w .argEnd)) (parts-placed s (w .argStart) (w .argEnd)))
     pieces false = tt
 
     go : (b : Bool) → spanFine (length s) (w .argStart) (w .argEnd) ≡ b → ToldIn (length s) (ThingIn (length s)) (pick b (good (thingAt s w)) (bad (refusal 9 0 0)))

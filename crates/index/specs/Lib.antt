@@ -6,4 +6,5 @@ pub mod Search
 pub mod Laws
 pub mod IndexRight
 pub mod SearchRight
+pub mod Looks
 pub mod Only

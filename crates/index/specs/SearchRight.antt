@@ -29,7 +29,7 @@ Turns P Q (on b) = Q b
 module _ (k : ℕ) (distinct : Bool) (g : ℕ → ℕ) (P : ℕ → Type 0) (Q : Bracket → Type 0) where
   -- by the tests of a turn: the bracket is empty; the slot holds the id; it holds a lesser one, or an equal one where ids may
   -- stand twice; it holds a greater one
-  turn-by : (b : Bracket)
+  pub turn-by : (b : Bracket)
       → (b .hi ≤ b .lo → P (b .lo))
       → (b .lo < b .hi → distinct ≡ true → g (probeOf k b) ≡ k → P (probeOf k b + 1))
       → (b .lo < b .hi → g (probeOf k b) ≤ k → Q (bracket (probeOf k b + 1) (b .hi) (g (probeOf k b)) (b .over) (b .guided - 1)))

@@ -10,6 +10,7 @@ use lib.Dec.{leb}
 use lib.ListN.{length, getD, take, drop, set}
 use lib.Seq.{drop-cons, set-at, take-suc, length-take-le, take-length, take-append-seam}
 use borrow.Author.Tests.{le-leb}
+use Rattle.error.specs.Refusal.{refusal, Told, good, bad}
 use Rattle.lex.specs.Byte.{pick}
 use Rattle.record.specs.Form.{bytes, Spelt}
 use Rattle.record.specs.Word.{same}
@@ -33,9 +34,14 @@ use Rattle.kinds.specs.declared.Kind.the-variants.{
 use Rattle.kinds.specs.declared.Name.{Name}
 use Rattle.kinds.specs.declared.Name.the-variants.{Bytes, Short}
 
--- how many bytes a name takes in this room, or that there is no room for it
-abbrev pub nameIn : List ℕ → List ℕ → Name
-nameIn name out = pick (leb (length name) (length out)) (Bytes (length name)) Short
+-- what the code's answer says: how many bytes; "16 output too short", at 0, since no parameter is read
+abbrev pub toldName : Name → Told ℕ
+toldName (Bytes n) = good n
+toldName Short = bad (refusal 16 0 0)
+
+-- how many bytes a name takes in this room; "16 output too short"
+abbrev pub nameIn : List ℕ → List ℕ → Told ℕ
+nameIn name out = pick (leb (length name) (length out)) (good (length name)) (bad (refusal 16 0 0))
 
 -- the room with the name at its start and its other bytes as they were; all as it was where there is no room for it
 abbrev pub nameAfter : List ℕ → List ℕ → List ℕ
@@ -84,11 +90,26 @@ name-next name old i h k =
     ∙ ap (λ (z : ℕ). take z name ++ drop z old) (sym (add-one i))
 
 -- all bytes of a name are put
-pub name-done : (name old out : List ℕ) (i : ℕ) → length name ≤ length old → i ≡ length name → out ≡ take i name ++ drop i old → (Bytes i ≡ nameIn name old) × (out ≡ nameAfter name old)
+pub name-done : (name old out : List ℕ) (i : ℕ) → length name ≤ length old → i ≡ length name → out ≡ take i name ++ drop i old → (toldName (Bytes i) ≡ nameIn name old) × (out ≡ nameAfter name old)
 name-done name old out i h e d =
     let l : leb (length name) (length old) ≡ true = le-leb (length name) (length old) h in
-    (rw l (ap Bytes e), rw l (d ∙ ap (λ (z : ℕ). take z name ++ drop z old) e ∙ ap (λ (z : List ℕ). z ++ drop (length name) old) (take-length name)))
+    (rw l (ap good e), rw l (d ∙ ap (λ (z : ℕ). take z name ++ drop z old) e ∙ ap (λ (z : List ℕ). z ++ drop (length name) old) (take-length name)))
 
 -- what is put for a kind, once the kind is told
-pub name-told : (k j : Kind) (old out : List ℕ) (r : Name) → k ≡ j → (r ≡ nameIn (bytes (nameOf j)) old) × (out ≡ nameAfter (bytes (nameOf j)) old) → (r ≡ nameIn (bytes (nameOf k)) old) × (out ≡ nameAfter (bytes (nameOf k)) old)
+pub name-told : (k j : Kind) (old out : List ℕ) (r : Told ℕ) → k ≡ j → (r ≡ nameIn (bytes (nameOf j)) old) × (out ≡ nameAfter (bytes (nameOf j)) old) → (r ≡ nameIn (bytes (nameOf k)) old) × (out ≡ nameAfter (bytes (nameOf k)) old)
 name-told k j old out r e h = subst (λ (z : Kind). (r ≡ nameIn (bytes (nameOf z)) old) × (out ≡ nameAfter (bytes (nameOf z)) old)) (sym e) h
+
+-- the answer that tells this
+nameBy : Told ℕ → Name
+nameBy (good n) = Bytes n
+nameBy (bad q) = Short
+
+-- it is the answer that told it
+name-back : (a : Name) → nameBy (toldName a) ≡ a
+unfolding nameBy
+name-back (Bytes n) = refl
+name-back Short = refl
+
+-- "that two allowed answers coincide is proved": `as_str`
+pub name-only : (a b : Name) → toldName a ≡ toldName b → a ≡ b
+name-only a b e = sym (name-back a) ∙ ap nameBy e ∙ name-back b

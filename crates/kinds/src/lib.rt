@@ -8,7 +8,7 @@ ghost use lib.Dec.{eqb};
 ghost use Rattle.record.specs.Form.{bytes};
 ghost use Rattle.record.specs.Word.{same, upper};
 ghost use Rattle.kinds.specs.Kind.{kindOf, nameOf, rankOf};
-ghost use Rattle.kinds.specs.Name.{nameIn, nameAfter};
+ghost use Rattle.kinds.specs.Name.{toldName, nameIn, nameAfter};
 
 pub enum Kind {
     GeometricRepresentationContext,
@@ -121,7 +121,7 @@ pub fn same_word(t: &[u8], w: &[u8]) -> bool
 
 // Puts a name at the start of `out`, where there is room for it.
 fn put_name(out: &mut [u8], name: &[u8]) -> Name
-    ensures { λ r. ⌜ r ≡ nameIn (now (name .entry)) (now (out .entry)) ⌝ }
+    ensures { λ r. ⌜ toldName r ≡ nameIn (now (name .entry)) (now (out .entry)) ⌝ }
     ensures { λ _. ⌜ now (out .exit) ≡ nameAfter (now (name .entry)) (now (out .entry)) ⌝ }
 {
     if out.len() < name.len() {
@@ -138,7 +138,7 @@ fn put_name(out: &mut [u8], name: &[u8]) -> Name
 // A kind's keyword in capitals; `(complex)` for a complex record, and the empty text for `Other`. As the Rust's `as_str`, into lent
 // memory.
 pub fn as_str(k: Kind, out: &mut [u8]) -> Name
-    ensures { λ r. ⌜ r ≡ nameIn (bytes (nameOf k)) (now (out .entry)) ⌝ }
+    ensures { λ r. ⌜ toldName r ≡ nameIn (bytes (nameOf k)) (now (out .entry)) ⌝ }
     ensures { λ _. ⌜ now (out .exit) ≡ nameAfter (bytes (nameOf k)) (now (out .entry)) ⌝ }
 {
     match k {

@@ -26,7 +26,7 @@ use Rattle.statement.specs.Row.{HeaderRow, headerRow, mapped, argued}
 use Rattle.statement.specs.Statement.{headerRowOf}
 use Rattle.statement.specs.declared.HeaderSpan.{HeaderSpan}
 use Rattle.kinds.specs.declared.Kind.{Kind}
-use Rattle.parts.specs.Part.{separator, partBy, partIn, nextOf, before, partsBy, partsFrom, partsOf, isKind, firstKind, firstOf, toldNext}
+use Rattle.parts.specs.Part.{separator, partBy, partIn, nextOf, PartIn, before, partsBy, partsFrom, partsOf, isKind, firstKind, firstOf, toldNext}
 use Rattle.parts.specs.declared.Next.{Next}
 use Rattle.parts.specs.declared.Next.the-variants.{Is, Over, Refused}
 
@@ -99,10 +99,10 @@ past-shorter m = let (f, e, k) = past-is separator m in let l : length m ≡ len
 window-fits : (s : List ℕ) (from end : ℕ) → length (take (end - from) (drop from s)) ≤ length s - from
 window-fits s from end = simp (length-take, length-drop) (omega arith)
 
--- a part's keyword runs forwards and lies in the file, and its `)` stands behind the place where it is sought
-pub next-ahead : (s : List ℕ) (from end : ℕ) (p : HeaderRow) → nextOf s from end ≡ good (some p) → (p .keyStart ≤ p .keyEnd) × (p .keyEnd ≤ length s) × (from ≤ p .argEnd) × (p .argEnd < length s)
+-- a part lies in the file, behind the place where it is sought
+pub next-in : (s : List ℕ) (from end : ℕ) (p : HeaderRow) → nextOf s from end ≡ good (some p) → PartIn (length s) from p
 unfolding nextOf
-next-ahead s from end p = go (ltb (length s) end)
+next-in s from end p = go (ltb (length s) end)
   where
     m : List ℕ
     m = take (end - from) (drop from s)
@@ -113,7 +113,7 @@ next-ahead s from end p = go (ltb (length s) end)
     fits : length m ≤ length s - from
     fits = window-fits s from end
 
-    by-head : (h : Head) → headerHead v ≡ h → partBy s (from + place m v) h ≡ good (some p) → (p .keyStart ≤ p .keyEnd) × (p .keyEnd ≤ length s) × (from ≤ p .argEnd) × (p .argEnd < length s)
+    by-head : (h : Head) → headerHead v ≡ h → partBy s (from + place m v) h ≡ good (some p) → PartIn (length s) from p
     by-head (Bad why) e f = let z : _≡_ {A = ℕ} 0 1 = cc in absurd (omega arith)
     by-head (Complex i o) e f = let z : _≡_ {A = ℕ} 0 1 = cc in absurd (omega arith)
     by-head (Simple i a z o) e f =
@@ -122,11 +122,17 @@ next-ahead s from end p = go (ltb (length s) end)
         let (q, c, d) = argued-end s (drop (from + place m v + o) s) (λ q. some (headerRow (from + place m v + a) (from + place m v + z) (from + place m v + o + 1) q)) (some p) f in
         let (g, k) = close-ahead s (from + place m v + o) q (omega (arith, fits)) c in
         let r : headerRow (from + place m v + a) (from + place m v + z) (from + place m v + o + 1) q ≡ p = cc in
-        subst (λ (x : HeaderRow). (x .keyStart ≤ x .keyEnd) × (x .keyEnd ≤ length s) × (from ≤ x .argEnd) × (x .argEnd < length s)) r (omega arith, omega (arith, fits), omega arith, k)
+        subst (PartIn (length s) from) r (record { ahead = omega arith; key = omega arith; opens = omega arith; args = omega arith; closes = k })
 
-    go : (t : Bool) → pick t (bad (refusal 9 0 0)) (partIn s from m) ≡ good (some p) → (p .keyStart ≤ p .keyEnd) × (p .keyEnd ≤ length s) × (from ≤ p .argEnd) × (p .argEnd < length s)
+    go : (t : Bool) → pick t (bad (refusal 9 0 0)) (partIn s from m) ≡ good (some p) → PartIn (length s) from p
     go true e = let z : _≡_ {A = ℕ} 0 1 = cc in absurd (omega arith)
     go false e = by-head (headerHead v) refl e
+
+-- a part's keyword runs forwards and lies in the file, and its `)` stands behind the place where it is sought
+pub next-ahead : (s : List ℕ) (from end : ℕ) (p : HeaderRow) → nextOf s from end ≡ good (some p) → (p .keyStart ≤ p .keyEnd) × (p .keyEnd ≤ length s) × (from ≤ p .argEnd) × (p .argEnd < length s)
+next-ahead s from end p e =
+    let h = next-in s from end p e in
+    (h .key, omega (arith, h .opens, h .args, h .closes), omega (arith, h .ahead, h .key, h .opens, h .args), h .closes)
 
 -- ---- all parts, read one by one, of which the first of a kind is kept
 

@@ -2,4 +2,5 @@ pub mod Part
 pub mod Laws
 pub mod PartRight
 pub mod Closed
+pub mod Places
 pub mod Only

@@ -74,6 +74,15 @@ pub data NextForm (s : List ℕ) (from end : ℕ) : Told (Option HeaderRow) → 
   refused : {f v k w r : List ℕ} {q : Refusal} (m : Window s from end (f ++ v)) → Skipped separator f v → Keyword v k w r
       → Argued s (r ++ m .back) (bad q) → NextForm s from end (bad q)
 
+-- a part lies in a file of n bytes, not before the place `from`: keyword and arguments run forwards, its `(` stands between them
+-- and its `)` behind them
+pub record PartIn (n from : ℕ) (p : HeaderRow) : Type 0 where
+  pub ahead : from ≤ p .keyStart
+  pub key : p .keyStart ≤ p .keyEnd
+  pub opens : p .keyEnd < p .argStart
+  pub args : p .argStart ≤ p .argEnd
+  pub closes : p .argEnd < n
+
 -- "repeat": a part before the others
 abbrev pub before : HeaderRow → Told (List HeaderRow) → Told (List HeaderRow)
 before p (good ps) = good (p ∷ ps)
@@ -120,6 +129,37 @@ partOf s from end complex k =
     pick (eqb complex 1)
     (pick (ltb (length s) end) (bad (refusal 9 0 0)) (pick (ltb end from) (bad (refusal 9 0 0)) (mapped (firstKind s k) (partsOf s from end))))
     (good none)
+
+-- no part is of a kind, wherever the parts are cut around one
+abbrev pub NoPart : List ℕ → Kind → List HeaderRow → Type 0
+NoPart s k ps = (front back : List HeaderRow) (p : HeaderRow) → ps ≡ front ++ (p ∷ back) → isKind s k p ≡ false
+
+-- p is the first part of a kind: it stands among the parts, is of the kind, and no part before it is
+pub record IsFirstPart (s : List ℕ) (k : Kind) (ps : List HeaderRow) (p : HeaderRow) : Type 0 where
+  pub front : List HeaderRow
+  pub back : List HeaderRow
+  pub cut : ps ≡ front ++ (p ∷ back)
+  pub kind : isKind s k p ≡ true
+  pub before : NoPart s k front
+
+-- the first part of a kind, or that there is none
+abbrev pub FirstPart : List ℕ → Kind → List HeaderRow → Option HeaderRow → Type 0
+FirstPart s k ps none = NoPart s k ps
+FirstPart s k ps (some p) = IsFirstPart s k ps p
+
+-- `complex_part` without a loop, for a record whose mark is c
+pub data ComplexPart (s : List ℕ) (from end c : ℕ) (k : Kind) : Told (Option HeaderRow) → Type 0 where
+  -- a record that is not complex has no parts
+  simple : (c ≡ 1 → ⊥) → ComplexPart s from end c k (good none)
+  -- "9 span outside the file"
+  outside : c ≡ 1 → length s < end → ComplexPart s from end c k (bad (refusal 9 0 0))
+  -- "or backwards"
+  backwards : c ≡ 1 → end < from → ComplexPart s from end c k (bad (refusal 9 0 0))
+  -- a fault in any of the parts, also in one behind the part sought
+  fault : {q : Refusal} → c ≡ 1 → from ≤ end → end ≤ length s → PartsForm s end from (bad q) → ComplexPart s from end c k (bad q)
+  -- all parts are read, and the first of the kind is given
+  read : {ps : List HeaderRow} {o : Option HeaderRow} → c ≡ 1 → from ≤ end → end ≤ length s → PartsForm s end from (good ps) → FirstPart s k ps o
+      → ComplexPart s from end c k (good o)
 
 -- the part that was found before, or this one where it is of the kind
 abbrev pub firstOf : Next → HeaderSpan → Bool → Next

@@ -10,7 +10,7 @@ use native.Mathlib.Decide.{decLt}
 use lib.Dec.{ltb, eqb}
 use lib.ListN.{length, take, drop, length-append, length-take, length-drop, take-append-drop}
 use lib.Seq.{take-at, drop-at, length-take-le}
-use borrow.Author.Tests.{lt-ltb, le-ltb}
+use borrow.Author.Tests.{lt-ltb, le-ltb, ltb-true, ltb-false, eqb-true, eqb-false, eq-eqb, ne-eqb}
 use Rattle.error.specs.Refusal.{Refusal, refusal, Told, good, bad}
 use Rattle.lex.specs.Byte.{pick, white, place}
 use Rattle.lex.specs.Search.{closing, placed}
@@ -25,7 +25,8 @@ use Rattle.record.specs.declared.Head.the-variants.{Bad, Simple}
 use Rattle.statement.specs.Row.{HeaderRow, headerRow, mapped, argued}
 use Rattle.scan.specs.Form.{Argued}
 use Rattle.scan.specs.FormRight.Statements.{argued-only, argued-is}
-use Rattle.parts.specs.Part.{separator, partBy, partIn, nextOf, Window, NextForm, before, partsBy, partsFrom, partsOf, PartsForm}
+use Rattle.kinds.specs.declared.Kind.{Kind}
+use Rattle.parts.specs.Part.{separator, partBy, partIn, nextOf, Window, NextForm, before, partsBy, partsFrom, partsOf, PartsForm, isKind, firstKind, partOf, NoPart, IsFirstPart, FirstPart, ComplexPart}
 use Rattle.parts.specs.Laws.{next-outside, next-done, next-ahead}
 
 -- what is not a separator is not white
@@ -153,3 +154,83 @@ parts-come (suc n) s from end h l = go (nextOf s from end) refl (next-is s from 
 -- all parts that are computed are so
 pub parts-are : (s : List ℕ) (from end : ℕ) → from ≤ length s → PartsForm s end from (partsOf s from end)
 parts-are s from end h = parts-come (suc (length s)) s from end h (omega arith)
+
+-- ---- the first part of a kind
+module _ (s : List ℕ) (k : Kind) where
+  -- there is none among no parts
+  no-nil : NoPart s k []
+  no-nil [] back p e = clash cc
+  no-nil (v ∷ front) back p e = clash cc
+
+  -- nor among one more that is not of the kind
+  no-more : (v : HeaderRow) (ps : List HeaderRow) → isKind s k v ≡ false → NoPart s k ps → NoPart s k (v ∷ ps)
+  no-more v ps d h [] back p e = let q : v ≡ p = cc in subst (λ (x : HeaderRow). isKind s k x ≡ false) q d
+  no-more v ps d h (u ∷ front) back p e = h front back p cc
+
+  -- nor among those after the first
+  no-less : (v : HeaderRow) (ps : List HeaderRow) → NoPart s k (v ∷ ps) → NoPart s k ps
+  no-less v ps h front back p e = h (v ∷ front) back p (ap (λ (x : List HeaderRow). v ∷ x) e)
+
+  -- a part in front that is not of the kind
+  first-more : (v : HeaderRow) (ps : List HeaderRow) (o : Option HeaderRow) → isKind s k v ≡ false → FirstPart s k ps o → FirstPart s k (v ∷ ps) o
+  first-more v ps none d h = no-more v ps d h
+  first-more v ps (some p) d h = record { front = v ∷ h .front; back = h .back; cut = ap (λ (x : List HeaderRow). v ∷ x) (h .cut); kind = h .kind; before = no-more v (h .front) d (h .before) }
+
+  -- the first part that is computed is so
+  pub first-part-is : (ps : List HeaderRow) → FirstPart s k ps (firstKind s k ps)
+  first-part-is [] = no-nil
+  first-part-is (v ∷ ps) = go (isKind s k v) refl (first-part-is ps)
+    where
+      go : (t : Bool) → isKind s k v ≡ t → FirstPart s k ps (firstKind s k ps) → FirstPart s k (v ∷ ps) (pick t (some v) (firstKind s k ps))
+      go true e h = record { front = []; back = ps; cut = refl; kind = e; before = no-nil }
+      go false e h = first-more v ps (firstKind s k ps) e h
+
+  -- and nothing else is
+  pub first-part-only : (ps : List HeaderRow) (o : Option HeaderRow) → FirstPart s k ps o → o ≡ firstKind s k ps
+  first-part-only [] none h = refl
+  first-part-only [] (some p) h = let z : false ≡ true = sym (no-nil (h .front) (h .back) p (h .cut)) ∙ h .kind in clash cc
+  first-part-only (v ∷ ps) none h = rw (h [] ps v refl) (first-part-only ps none (no-less v ps h))
+  first-part-only (v ∷ ps) (some p) h = go (h .front) (h .cut) (h .before) (λ o. first-part-only ps o)
+    where
+      go : (front : List HeaderRow) → v ∷ ps ≡ front ++ (p ∷ h .back) → NoPart s k front → ((o : Option HeaderRow) → FirstPart s k ps o → o ≡ firstKind s k ps)
+          → some p ≡ pick (isKind s k v) (some v) (firstKind s k ps)
+      go [] e n ih = let q : v ≡ p = cc in rw (q, h .kind) refl
+      go (u ∷ front) e n ih =
+          let q : u ≡ v = cc in
+          let r : ps ≡ front ++ (p ∷ h .back) = cc in
+          let d : isKind s k v ≡ false = subst (λ (x : HeaderRow). isKind s k x ≡ false) q (n [] front u refl) in
+          rw d (ih (some p) (record { front = front; back = h .back; cut = r; kind = h .kind; before = no-less u front n }))
+
+-- what `complex_part` computes is so
+pub complex-is : (s : List ℕ) (from end c : ℕ) (k : Kind) → ComplexPart s from end c k (partOf s from end c k)
+complex-is s from end c k = by-mark (eqb c 1) refl
+  where
+    by-parts : c ≡ 1 → from ≤ end → end ≤ length s → (x : Told (List HeaderRow)) → PartsForm s end from x → ComplexPart s from end c k (mapped (firstKind s k) x)
+    by-parts m a b (bad q) f = ComplexPart.fault m a b f
+    by-parts m a b (good ps) f = ComplexPart.read m a b f (first-part-is s k ps)
+
+    by-start : c ≡ 1 → end ≤ length s → (t : Bool) → ltb end from ≡ t → ComplexPart s from end c k (pick t (bad (refusal 9 0 0)) (mapped (firstKind s k) (partsOf s from end)))
+    by-start m b true e = ComplexPart.backwards m (ltb-true end from e)
+    by-start m b false e = let a = ltb-false end from e in by-parts m a b (partsOf s from end) (parts-are s from end (omega arith))
+
+    by-end : c ≡ 1 → (t : Bool) → ltb (length s) end ≡ t → ComplexPart s from end c k (pick t (bad (refusal 9 0 0)) (pick (ltb end from) (bad (refusal 9 0 0)) (mapped (firstKind s k) (partsOf s from end))))
+    by-end m true e = ComplexPart.outside m (ltb-true (length s) end e)
+    by-end m false e = by-start m (ltb-false (length s) end e) (ltb end from) refl
+
+    by-mark : (t : Bool) → eqb c 1 ≡ t → ComplexPart s from end c k (pick t (pick (ltb (length s) end) (bad (refusal 9 0 0)) (pick (ltb end from) (bad (refusal 9 0 0)) (mapped (firstKind s k) (partsOf s from end)))) (good none))
+    by-mark true e = by-end (eqb-true c 1 e) (ltb (length s) end) refl
+    by-mark false e = ComplexPart.simple (eqb-false c 1 e)
+
+-- and nothing else is
+pub complex-only : {s : List ℕ} {from end c : ℕ} {k : Kind} {a : Told (Option HeaderRow)} → ComplexPart s from end c k a → a ≡ partOf s from end c k
+complex-only {s} {from} {end} {c} {k} (ComplexPart.simple n) = rw (ne-eqb c 1 n) refl
+complex-only {s} {from} {end} {c} {k} (ComplexPart.outside m l) = rw (eq-eqb c 1 m, lt-ltb (length s) end l) refl
+complex-only {s} {from} {end} {c} {k} (ComplexPart.backwards m l) = rw (eq-eqb c 1 m, lt-ltb end from l) (go (ltb (length s) end))
+  where
+    go : (t : Bool) → _≡_ {A = Told (Option HeaderRow)} (bad (refusal 9 0 0)) (pick t (bad (refusal 9 0 0)) (bad (refusal 9 0 0)))
+    go true = refl
+    go false = refl
+complex-only {s} {from} {end} {c} {k} (ComplexPart.fault {q} m a b f) =
+    rw (eq-eqb c 1 m, le-ltb (length s) end b, le-ltb end from a) (ap (mapped (firstKind s k)) (parts-only f (omega arith)))
+complex-only {s} {from} {end} {c} {k} (ComplexPart.read {ps} {o} m a b f g) =
+    rw (eq-eqb c 1 m, le-ltb (length s) end b, le-ltb end from a) (ap good (first-part-only s k ps o g) ∙ ap (mapped (firstKind s k)) (parts-only f (omega arith)))

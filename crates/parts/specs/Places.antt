@@ -1,0 +1,116 @@
+-- "with a place from 0 to the input's length" (demand 1), for the parts of a complex record: what refuses them is 3, 4, 6 or 9, at a
+-- place in the file, and a part lies in the file. Whatever the lent tables hold. Assumes nothing.
+use Prim.Native.Nat.{ℕ, suc, _+_, _-_, _≤_, _<_}
+use mathlib.Core.Path.{_≡_, refl, sym, _∙_, ap}
+use mathlib.Core.Bool.{Bool, true, false}
+use mathlib.Core.List.{List, [], _∷_}
+use mathlib.Core.Option.{Option, none, some}
+use mathlib.Core.Logic.{_⊎_, inl, inr}
+use native.Mathlib.Omega.{arith}
+use native.Mathlib.Decide.{decLt}
+use lib.Dec.{ltb, eqb}
+use lib.ListN.{length}
+use Rattle.error.specs.Refusal.{Refusal, refusal, Told, good, bad}
+use Rattle.lex.specs.Byte.{pick}
+use Rattle.statement.specs.Row.{HeaderRow, mapped}
+use Rattle.scan.specs.Form.{Argued}
+use Rattle.kinds.specs.declared.Kind.{Kind}
+use Rattle.parts.specs.Part.{nextOf, NextForm, PartIn, before, partsBy, partsFrom, partsOf, PartsForm, isKind, firstKind, partOf}
+use Rattle.parts.specs.Laws.{next-in}
+use Rattle.parts.specs.PartRight.{next-is, next-only, parts-are}
+
+-- "3 comment open", "4 string open", "6 parenthesis open" or "9 span [..] outside the file or backwards", at a place in a file of n bytes
+abbrev pub FaultIn : ℕ → Refusal → Type 0
+FaultIn n q = ((q .number ≡ 3) ⊎ ((q .number ≡ 4) ⊎ ((q .number ≡ 6) ⊎ (q .number ≡ 9)))) × (q .place ≤ n)
+
+-- an answer about a file of n bytes: a value of which F holds, or such a refusal
+abbrev pub AnswerIn : {A : Type 0} → ℕ → (A → Type 0) → Told A → Type 0
+AnswerIn n F (good a) = F a
+AnswerIn n F (bad q) = FaultIn n q
+
+-- a part, if there is one, lies in the file
+abbrev pub SomeIn : ℕ → ℕ → Option HeaderRow → Type 0
+SomeIn n from none = Unit {0}
+SomeIn n from (some p) = PartIn n from p
+
+-- parts lie in the file, each behind the `)` of the one before
+abbrev pub AllIn : ℕ → ℕ → List HeaderRow → Type 0
+AllIn n from [] = Unit {0}
+AllIn n from (p ∷ ps) = PartIn n from p × AllIn n (p .argEnd + 1) ps
+
+-- what refuses where a `)` is sought
+argued-fault : {s t : List ℕ} {q : Refusal} → Argued s t (bad q) → FaultIn (length s) q
+argued-fault (Argued.text-open d o) = (inr (inl refl), omega arith)
+argued-fault (Argued.remark-open d o) = (inl refl, omega arith)
+argued-fault (Argued.unclosed d) = (inr (inr (inl refl)), omega arith)
+
+-- "9 span [..] outside the file or backwards, 0"
+nine-in : (n : ℕ) → FaultIn n (refusal 9 0 0)
+nine-in n = (inr (inr (inr refl)), omega arith)
+
+-- what refuses the next part
+next-fault : {s : List ℕ} {from end : ℕ} {q : Refusal} → NextForm s from end (bad q) → FaultIn (length s) q
+next-fault {s} (NextForm.outside h) = nine-in (length s)
+next-fault (NextForm.refused m p g t) = argued-fault t
+
+-- the next part
+pub next-placed : (s : List ℕ) (from end : ℕ) → AnswerIn (length s) (SomeIn (length s) from) (nextOf s from end)
+next-placed s from end = go (nextOf s from end) refl (next-is s from end)
+  where
+    go : (x : Told (Option HeaderRow)) → nextOf s from end ≡ x → NextForm s from end x → AnswerIn (length s) (SomeIn (length s) from) x
+    go (good none) e f = tt
+    go (good (some p)) e f = next-in s from end p e
+    go (bad q) e f = next-fault f
+
+-- one part more in front
+add-in : (n from : ℕ) (p : HeaderRow) (x : Told (List HeaderRow)) → PartIn n from p → AnswerIn n (AllIn n (p .argEnd + 1)) x → AnswerIn n (AllIn n from) (before p x)
+add-in n from p (good ps) h k = (h, k)
+add-in n from p (bad q) h k = k
+
+-- all parts by the rules
+parts-in : {s : List ℕ} {from end : ℕ} {a : Told (List HeaderRow)} → PartsForm s end from a → AnswerIn (length s) (AllIn (length s) from) a
+parts-in (PartsForm.over f) = tt
+parts-in (PartsForm.fault f) = next-fault f
+parts-in {s} {from} {end} (PartsForm.more {p = p} {a = a} f g) = add-in (length s) from p a (next-in s from end p (sym (next-only f))) (parts-in g)
+
+-- all parts
+pub parts-placed : (s : List ℕ) (from end : ℕ) → AnswerIn (length s) (AllIn (length s) from) (partsOf s from end)
+unfolding partsFrom
+parts-placed s from end = by (decLt (length s) from)
+  where
+    go : length s < from → (x : Told (Option HeaderRow)) → AnswerIn (length s) (SomeIn (length s) from) x → AnswerIn (length s) (AllIn (length s) from) (partsBy x (λ p. partsFrom (length s) s (p .argEnd + 1) end))
+    go l (good none) h = tt
+    go l (good (some p)) h = absurd (omega (arith, h .ahead, h .key, h .opens, h .args, h .closes))
+    go l (bad q) h = h
+
+    by : Dec (length s < from) → AnswerIn (length s) (AllIn (length s) from) (partsOf s from end)
+    by (yes l) = go l (nextOf s from end) (next-placed s from end)
+    by (no l) = parts-in (parts-are s from end (omega arith))
+
+-- a part that lies behind a place lies behind every earlier one
+in-less : (n a b : ℕ) (p : HeaderRow) → a ≤ b → PartIn n b p → PartIn n a p
+in-less n a b p l h = record { ahead = omega (arith, h .ahead); key = h .key; opens = h .opens; args = h .args; closes = h .closes }
+
+-- the first of a kind
+first-in : (s : List ℕ) (k : Kind) (n from : ℕ) (ps : List HeaderRow) → AllIn n from ps → SomeIn n from (firstKind s k ps)
+first-in s k n from [] h = tt
+first-in s k n from (p ∷ ps) h = go (isKind s k p) (firstKind s k ps) (first-in s k n (p .argEnd + 1) ps (h .1))
+  where
+    go : (t : Bool) (o : Option HeaderRow) → SomeIn n (p .argEnd + 1) o → SomeIn n from (pick t (some p) o)
+    go true o k = h .0
+    go false none k = tt
+    go false (some q) k = let f = h .0 in in-less n from (p .argEnd + 1) q (omega (arith, f .ahead, f .key, f .opens, f .args)) k
+
+-- `complex_part`
+pub complex-placed : (s : List ℕ) (from end c : ℕ) (k : Kind) → AnswerIn (length s) (SomeIn (length s) from) (partOf s from end c k)
+complex-placed s from end c k = by-mark (eqb c 1) (ltb (length s) end) (ltb end from)
+  where
+    by-parts : (x : Told (List HeaderRow)) → AnswerIn (length s) (AllIn (length s) from) x → AnswerIn (length s) (SomeIn (length s) from) (mapped (firstKind s k) x)
+    by-parts (good ps) h = first-in s k (length s) from ps h
+    by-parts (bad q) h = h
+
+    by-mark : (m o b : Bool) → AnswerIn (length s) (SomeIn (length s) from) (pick m (pick o (bad (refusal 9 0 0)) (pick b (bad (refusal 9 0 0)) (mapped (firstKind s k) (partsOf s from end)))) (good none))
+    by-mark false o b = tt
+    by-mark true true b = nine-in (length s)
+    by-mark true false true = nine-in (length s)
+    by-mark true false false = by-parts (partsOf s from end) (parts-placed s from end)
