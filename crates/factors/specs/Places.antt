@@ -60,22 +60,22 @@ answer-placed n F (bad q) h = h .1
 -- ---- answers put together
 module _ {A B : Type 0} (n : ℕ) where
   -- by a function
-  by-placed : (f : A → B) (x : Told A) → PlacedIn n x → PlacedIn n (goodBy f x)
+  pub by-placed : (f : A → B) (x : Told A) → PlacedIn n x → PlacedIn n (goodBy f x)
   by-placed f (good a) h = tt
   by-placed f (bad q) h = h
 
   -- read on
-  on-placed : (F : A → Type 0) (f : A → Told B) (x : Told A) → ToldIn n F x → ((a : A) → F a → PlacedIn n (f a)) → PlacedIn n (onward f x)
+  pub on-placed : (F : A → Type 0) (f : A → Told B) (x : Told A) → ToldIn n F x → ((a : A) → F a → PlacedIn n (f a)) → PlacedIn n (onward f x)
   on-placed F f (good a) h k = k a h
   on-placed F f (bad q) h k = h
 
   -- read on, whatever was told
-  any-placed : (f : A → Told B) (x : Told A) → PlacedIn n x → ((a : A) → PlacedIn n (f a)) → PlacedIn n (onward f x)
+  pub any-placed : (f : A → Told B) (x : Told A) → PlacedIn n x → ((a : A) → PlacedIn n (f a)) → PlacedIn n (onward f x)
   any-placed f (good a) h k = k a
   any-placed f (bad q) h k = h
 
   -- where there may be none
-  option-placed : (other : Told B) (f : A → Told B) (x : Told (Option A)) → PlacedIn n x → PlacedIn n other → ((a : A) → PlacedIn n (f a)) → PlacedIn n (onward (optionBy other f) x)
+  pub option-placed : (other : Told B) (f : A → Told B) (x : Told (Option A)) → PlacedIn n x → PlacedIn n other → ((a : A) → PlacedIn n (f a)) → PlacedIn n (onward (optionBy other f) x)
   option-placed other f (good none) h o k = o
   option-placed other f (good (some a)) h o k = k a
   option-placed other f (bad q) h o k = h
@@ -116,7 +116,7 @@ find-in s rows slots ids i = go (rowFound rows (searched rows slots ids i))
     go (some w) = one (thingOf s w) (thing-in s w)
 
 -- the arguments of a record of a kind, or of its first part of that kind
-self-in : (n : ℕ) (k : Kind) (t : Thing) → ThingIn n t → PlacedIn n (selfOr k t)
+pub self-in : (n : ℕ) (k : Kind) (t : Thing) → ThingIn n t → PlacedIn n (selfOr k t)
 self-in n k t h = go (sameKind (t .kind) k)
   where
     go : (b : Bool) → PlacedIn n (pick b (good (some (t .run))) (goodBy (firstPiece k) (t .parts)))
@@ -197,7 +197,7 @@ module _ (s : List ℕ) (find : ℕ → Told (Option Thing)) (finds : (i : ℕ) 
           (λ v. base-placed (length s) (nextOf referenceOf s (nextOf measureOf s (r .start) (r .stop) .place) (r .stop) .answer) (λ b. onward (optionBy (good none) (λ t. scaledBy v (k t))) (find b)) (base v))
 
   -- a length unit
-  length-in : (left : ℕ) (t : Thing) → ThingIn (length s) t → PlacedIn (length s) (lengthOf s find left t)
+  pub length-in : (left : ℕ) (t : Thing) → ThingIn (length s) t → PlacedIn (length s) (lengthOf s find left t)
   unfolding lengthOf
   length-in zero t h = any-placed (length s) (chained (λ i. good none)) (linkOf s zero t) (link-in s zero t h) go
     where
@@ -217,7 +217,7 @@ module _ (s : List ℕ) (find : ℕ → Told (Option Thing)) (finds : (i : ℕ) 
       (λ t l. read-placed (length s) (nextOf measureOf s (t .run .start) (t .run .stop) .answer) (λ v. good (some v)) (next-placed measureOf s (t .run .start) (t .run .stop)) (λ v. tt))
 
   -- an angle unit
-  angle-in : (t : Thing) → ThingIn (length s) t → PlacedIn (length s) (angleOf s find t)
+  pub angle-in : (t : Thing) → ThingIn (length s) t → PlacedIn (length s) (angleOf s find t)
   unfolding angleOf
   angle-in t h = unit-in (length s) (λ r. good (siAngle s r)) (λ r. onward (numberIn s find) (measureRef s r)) none t h (λ r. tt) (λ r. any-placed (length s) (numberIn s find) (measureRef s r) (ref-placed s r) number-in)
 

@@ -1,0 +1,154 @@
+-- "with a place from 0 to the input's length" (demand 1), for the unit answer: every refusal lies in the file, whatever the lent tables
+-- hold. Assumes nothing.
+use Prim.Native.Nat.{ℕ, zero, suc, _≤_}
+use mathlib.Core.Path.{_≡_, refl}
+use mathlib.Core.Bool.{Bool, true, false}
+use mathlib.Core.List.{List, [], _∷_}
+use mathlib.Core.Option.{Option, none, some}
+use lib.Dec.{eqb}
+use lib.ListN.{length}
+use Rattle.error.specs.Refusal.{Refusal, Told, good, bad}
+use Rattle.lex.specs.Byte.{pick}
+use Rattle.statement.specs.Row.{Row}
+use Rattle.kinds.specs.declared.Kind.the-variants.{GeometricRepresentationContext, GlobalUnitAssignedContext, GlobalUncertaintyAssignedContext, UncertaintyMeasureWithUnit}
+use Rattle.params.specs.Reader.{Span, onward}
+use Rattle.params.specs.Places.{PlacedIn}
+use Rattle.words.specs.Places.{ToldIn}
+use Rattle.scalars.specs.Scalars.{nextOf, measureOf}
+use Rattle.scalars.specs.Places.{next-placed}
+use Rattle.reals.specs.Scalar.{referenceOf}
+use Rattle.lists.specs.Items.{asFate, nextBy, listOf}
+use Rattle.lists.specs.Places.{scalar-inward, list-inward}
+use Rattle.lists.specs.Places as Lists
+use Rattle.index.specs.declared.Ids.{Ids}
+use Rattle.lookup.specs.Lookup.{rowNumbers}
+use Rattle.factors.specs.Thing.{goodBy, sameKind, Thing, thingOf, findOf, selfOr}
+use Rattle.factors.specs.Factor.{optionBy, lengthOf, angleOf}
+use Rattle.factors.specs.Places.{ThingIn, FoundIn, thing-in, find-in, by-placed, on-placed, any-placed, option-placed, self-in, length-in, angle-in}
+use Rattle.units.specs.Units.{Units, Role, lengthRole, angleRole, solidRole, firstRole, roleOf, withLength, withAngle, readsInteger, isContext, refsIn, uncertainBy, byRole, unitOf, unitBy, unitsBy, uncertaintyOf, uncertaintyBy, toleranceBy, listedUnits, listedTolerance, defaults, withTolerance, contextOf, decided, recordOf, resolveOf}
+use Rattle.units.specs.Code.{thingsFrom}
+
+-- a list of references
+refs-placed : (s : List ℕ) (x : Option Span) → PlacedIn (length s) (refsIn s x)
+unfolding refsIn
+refs-placed s none = tt
+refs-placed s (some r) = go (nextBy (listOf referenceOf) (λ vs. true) s (r .start) (r .stop) .answer) refl
+  where
+    go : (x : Told (List ℕ)) → nextBy (listOf referenceOf) (λ vs. true) s (r .start) (r .stop) .answer ≡ x → PlacedIn (length s) x
+    go (good vs) e = tt
+    go (bad q) e = Lists.next-placed (listOf referenceOf) (list-inward (λ u. asFate (referenceOf u)) (scalar-inward referenceOf)) (λ vs. true) s (r .start) (r .stop) q e
+
+-- whether a record is a context
+is-placed : (s : List ℕ) (t : Thing) → ThingIn (length s) t → PlacedIn (length s) (isContext s t)
+unfolding isContext
+is-placed s t h = by-placed (length s) (readsInteger s) (selfOr GeometricRepresentationContext t) (self-in (length s) GeometricRepresentationContext t h)
+
+-- a measure that does not read refuses with 13 alone, at its own place
+uncertain-placed : (n : ℕ) (x : Told ℕ) → PlacedIn n x → PlacedIn n (uncertainBy x)
+uncertain-placed n (good v) h = tt
+uncertain-placed n (bad q) h = go (eqb (q .number) 13)
+  where
+    go : (b : Bool) → PlacedIn {A = Option ℕ} n (pick b (bad q) (good none))
+    go true = h
+    go false = tt
+
+module _ (s : List ℕ) (find : ℕ → Told (Option Thing)) (finds : (i : ℕ) → ToldIn (length s) (FoundIn (length s)) (find i)) where
+  -- what is made of a record that was found
+  found-placed : {A : Type 0} (other : Told A) (f : Thing → Told A) (i : ℕ) → PlacedIn (length s) other
+      → ((t : Thing) → ThingIn (length s) t → PlacedIn (length s) (f t)) → PlacedIn (length s) (onward (optionBy other f) (find i))
+  found-placed other f i o k = on-placed (length s) (FoundIn (length s)) (optionBy other f) (find i) (finds i) go
+    where
+      go : (x : Option Thing) → FoundIn (length s) x → PlacedIn (length s) (optionBy other f x)
+      go none h = o
+      go (some t) h = k t h
+
+  -- a unit by its role
+  role-placed : (u : Units) (t : Thing) → ThingIn (length s) t → (r : Option Role) → PlacedIn (length s) (byRole s find u t r)
+  role-placed u t h none = tt
+  role-placed u t h (some lengthRole) = by-placed (length s) (withLength u) (lengthOf s find 16 t) (length-in s find finds 16 t h)
+  role-placed u t h (some angleRole) = by-placed (length s) (withAngle u) (angleOf s find t) (angle-in s find finds t h)
+  role-placed u t h (some solidRole) = tt
+
+  -- a unit by its id
+  unit-placed : (u : Units) (i : ℕ) → PlacedIn (length s) (unitBy s find u i)
+  unfolding unitBy
+  unit-placed u i =
+      found-placed (good u) (unitOf s find u) i tt
+      (λ t h. any-placed (length s) (byRole s find u t) (roleOf t) (by-placed (length s) firstRole (t .parts) (h .1)) (role-placed u t h))
+
+  -- the units of a list
+  units-placed : (u : Units) (is : List ℕ) → PlacedIn (length s) (unitsBy s find u is)
+  unfolding unitsBy
+  units-placed u [] = tt
+  units-placed u (i ∷ is) = any-placed (length s) (λ v. unitsBy s find v is) (unitBy s find u i) (unit-placed u i) (λ v. units-placed v is)
+
+  -- a listed uncertainty
+  uncertainty-placed : (i : ℕ) → PlacedIn (length s) (uncertaintyBy s find i)
+  unfolding uncertaintyBy
+  uncertainty-placed i = found-placed (good none) (uncertaintyOf s find) i tt (λ t h. go t (sameKind (t .kind) UncertaintyMeasureWithUnit))
+    where
+      go : (t : Thing) (b : Bool) → PlacedIn (length s) (pick b (uncertainBy (nextOf measureOf s (t .run .start) (t .run .stop) .answer)) (good none))
+      go t true = uncertain-placed (length s) (nextOf measureOf s (t .run .start) (t .run .stop) .answer) (next-placed measureOf s (t .run .start) (t .run .stop))
+      go t false = tt
+
+  -- the tolerance of a list
+  tolerance-placed : (is : List ℕ) → PlacedIn (length s) (toleranceBy s find is)
+  unfolding toleranceBy
+  tolerance-placed [] = tt
+  tolerance-placed (i ∷ is) =
+      option-placed (length s) (toleranceBy s find is) good (uncertaintyBy s find i) (uncertainty-placed i) (tolerance-placed is) (λ v. tt)
+
+  -- the units of a context
+  listed-placed : (t : Thing) → ThingIn (length s) t → PlacedIn (length s) (listedUnits s find t)
+  unfolding listedUnits
+  listed-placed t h =
+      any-placed (length s) (unitsBy s find defaults) (onward (refsIn s) (selfOr GlobalUnitAssignedContext t))
+      (any-placed (length s) (refsIn s) (selfOr GlobalUnitAssignedContext t) (self-in (length s) GlobalUnitAssignedContext t h) (refs-placed s))
+      (units-placed defaults)
+
+  -- its tolerance
+  bound-placed : (t : Thing) → ThingIn (length s) t → PlacedIn (length s) (listedTolerance s find t)
+  unfolding listedTolerance
+  bound-placed t h =
+      any-placed (length s) (toleranceBy s find) (onward (refsIn s) (selfOr GlobalUncertaintyAssignedContext t))
+      (any-placed (length s) (refsIn s) (selfOr GlobalUncertaintyAssignedContext t) (self-in (length s) GlobalUncertaintyAssignedContext t h) (refs-placed s))
+      tolerance-placed
+
+  -- all that a context declares
+  context-in : (t : Thing) → ThingIn (length s) t → PlacedIn (length s) (contextOf s find t)
+  unfolding contextOf
+  context-in t h =
+      any-placed (length s) (λ u. goodBy (withTolerance u) (listedTolerance s find t)) (listedUnits s find t) (listed-placed t h)
+      (λ u. by-placed (length s) (withTolerance u) (listedTolerance s find t) (bound-placed t h))
+
+  -- one record, where what comes after it lies in the file
+  record-placed : (k : Unit {0} → Told Units) → PlacedIn (length s) (k tt) → (t : Thing) → ThingIn (length s) t → PlacedIn (length s) (recordOf s find k t)
+  record-placed k l t h =
+      any-placed (length s) (λ c. pick c (onward (decided s find k) (contextOf s find t)) (k tt)) (isContext s t) (is-placed s t h) go
+    where
+      by : (u : Units) (b : Bool) → PlacedIn (length s) (pick b (good u) (k tt))
+      by u true = tt
+      by u false = l
+
+      go : (c : Bool) → PlacedIn (length s) (pick c (onward (decided s find k) (contextOf s find t)) (k tt))
+      go true = any-placed (length s) (decided s find k) (contextOf s find t) (context-in t h) (λ u. by u (u .resolved))
+      go false = l
+
+  -- the records of rows
+  rows-placed : (rows : List ℕ) (n k : ℕ) → PlacedIn (length s) (resolveOf s find (thingsFrom s rows n k))
+  unfolding resolveOf thingsFrom
+  rows-placed rows zero k = tt
+  rows-placed rows (suc n) k =
+      on-placed (length s) (ThingIn (length s)) (recordOf s find (λ u. resolveOf s find (thingsFrom s rows n (suc k)))) (thingOf s (rowNumbers rows k)) (thing-in s (rowNumbers rows k))
+      (record-placed (λ u. resolveOf s find (thingsFrom s rows n (suc k))) (rows-placed rows n (suc k)))
+
+module _ (s rows slots : List ℕ) (ids : Ids) where
+  -- `resolve`
+  pub resolve-placed : (n : ℕ) → PlacedIn (length s) (resolveOf s (findOf s rows slots ids) (thingsFrom s rows n 0))
+  resolve-placed n = rows-placed s (findOf s rows slots ids) (find-in s rows slots ids) rows n 0
+
+  -- `units_of_context`
+  pub context-placed : (w : Row) → PlacedIn (length s) (onward (contextOf s (findOf s rows slots ids)) (thingOf s w))
+  context-placed w =
+      on-placed (length s) (ThingIn (length s)) (contextOf s (findOf s rows slots ids)) (thingOf s w) (thing-in s w)
+      (context-in s (findOf s rows slots ids) (find-in s rows slots ids))
