@@ -224,9 +224,13 @@ def misread(answer, known):
 
 CONTEXT = b"#%d=(GEOMETRIC_REPRESENTATION_CONTEXT(3)GLOBAL_UNIT_ASSIGNED_CONTEXT(%s))"
 MILLIMETRE, METRE = b"#3=(LENGTH_UNIT()SI_UNIT(.MILLI.,.METRE.))", b"#4=(LENGTH_UNIT()SI_UNIT($,.METRE.))"
+# A context that is its own length unit.
+OWN = b"#%d=(GEOMETRIC_REPRESENTATION_CONTEXT(3)GLOBAL_UNIT_ASSIGNED_CONTEXT((#%d))LENGTH_UNIT()SI_UNIT(%s,.METRE.))"
+
 COUNTEREXAMPLES = [  # the premise, the records (the first two change places), what differs
     ("equal ids", [b"#1=A()", b"#1=B()"], ["served #1 B() -> A()"]),
     ("contexts", [CONTEXT % (1, b"(#3)"), CONTEXT % (2, b"(#4)"), MILLIMETRE, METRE], ["units 3ff0000000000000 3ff0000000000000 3f50624dd2f1a9fc 1 -> 408f400000000000 3ff0000000000000 3f50624dd2f1a9fc 1"]),
+    ("contexts", [OWN % (1, 1, b".MILLI."), OWN % (2, 2, b"$")], ["units 3ff0000000000000 3ff0000000000000 3f50624dd2f1a9fc 1 -> 408f400000000000 3ff0000000000000 3f50624dd2f1a9fc 1"]),
     ("contexts", [CONTEXT % (1, b""), CONTEXT % (2, b"$")], ["units refused 10 -> refused 12"]),
     ("closed", [b"#1=A((1)", b"#2=B(2))"], ["accepted yes -> refused 6/0@31"]),
     ("closed", [b"#1=A/*(*/", b"#2=B())"], ["accepted yes -> refused 6/0@32"]),
