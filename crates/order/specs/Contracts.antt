@@ -1,5 +1,5 @@
--- Demand 3 of the functions themselves: what `store::open`, `lookup::get` and `units::resolve` promise, of a closed file and of the
--- rearranged one. Hypotheses are their contracts, word for word. Assumes nothing.
+-- Demand 3 of the functions themselves: what `scan::scan`, `store::open`, `lookup::get` and `units::resolve` promise, of a closed file and
+-- of the rearranged one. Hypotheses are the equations of their contracts (`ensures` in src/lib.rt of each crate). Assumes nothing.
 use Prim.Native.Nat.{ℕ}
 use mathlib.Core.Path.{_≡_, refl, sym, _∙_, ap, subst, fun-ext}
 use mathlib.Core.List.{List, [], _∷_, _++_, map}
@@ -8,7 +8,9 @@ use native.Mathlib.Omega.{arith}
 use lib.ListN.{length}
 use Rattle.error.specs.Refusal.{Told, good, bad}
 use Rattle.statement.specs.Row.{Row, mapped}
-use Rattle.statement.specs.Closed.{Closed}
+use Rattle.statement.specs.Closed.{Closed, content}
+use Rattle.statement.specs.ClosedRight.{alone}
+use Rattle.lex.specs.Right.Steps.{clash}
 use Rattle.statement.specs.declared.Section.the-variants.{Outside}
 use Rattle.scan.specs.File.{Table, scanOf}
 use Rattle.scan.specs.Table.{headerRoom, dataRoom, rowsAfter, countsOf, toldScan}
@@ -29,6 +31,10 @@ use Rattle.units.specs.Code.{toldUnits, thingsFrom}
 use Rattle.units.specs.Records.{things-are}
 use Rattle.units.specs.declared.Resolved.{Resolved}
 use Rattle.order.specs.Order.{Cut, texts, filled, Cuts, Rearranged, contentFound, served, unitsOf, SameUnits, Same}
+use Rattle.order.specs.Shape.{AllSay}
+use Rattle.order.specs.Accepted.{both-accepted}
+use Rattle.order.specs.Found.{says-content}
+use Rattle.order.specs.Exchange.{Lone, rearranged-lone}
 use Rattle.order.specs.Right.{order}
 
 -- an accepted closed file s, cut by the reader, and its records' texts rearranged
@@ -56,68 +62,116 @@ scan-order s H R m a b e f =
     let k = kept m in
     e ∙ ap (mapped countsOf) (m .scanned) ∙ ap good (k .counted) ∙ sym (ap (mapped countsOf) (k .accepted)) ∙ sym f
 
--- the tables of both files, opened in lent memory of the same room
-module _ (s : List ℕ) (H R : ℕ) (m : Moved s H R)
-    (heads rows slots : List ℕ) (a : Opened) (heads′ rows′ slots′ : List ℕ) (opens : Opens s heads rows slots a heads′ rows′ slots′)
-    (room : headerRoom heads ≡ H) (rooms : dataRoom rows (length slots) ≡ R)
-    (heads₂ rows₂ slots₂ : List ℕ) (b : Opened) (heads₂′ rows₂′ slots₂′ : List ℕ) (opens₂ : Opens (newFile m) heads₂ rows₂ slots₂ b heads₂′ rows₂′ slots₂′)
-    (room₂ : headerRoom heads₂ ≡ H) (rooms₂ : dataRoom rows₂ (length slots₂) ≡ R) where
-  -- `open`: the answers for both files are the same
-  pub open-order : toldOpened a ≡ toldOpened b
-  open-order =
-      let k = kept m in
-      let x : scanInto s heads rows slots ≡ good (m .before) = rw (room, rooms) (m .scanned) in
-      let y : scanInto (newFile m) heads₂ rows₂ slots₂ ≡ good (k .after) = rw (room₂, rooms₂) (k .accepted) in
-      opens .answer ∙ ap (mapped countsOf) x ∙ ap good (k .counted) ∙ sym (ap (mapped countsOf) y) ∙ sym (opens₂ .answer)
+-- what the rows that the scan lays say: each data row of the new file says what its text says by itself (the rows' places are others)
+abbrev pub RowsSay : List ℕ → List Row → List (List ℕ) → Type 0
+RowsSay f [] [] = Unit {0}
+RowsSay f [] (b ∷ bs) = ⊥
+RowsSay f (w ∷ ws) [] = ⊥
+RowsSay f (w ∷ ws) (b ∷ bs) = (alone b ≡ good (content f w)) × RowsSay f ws bs
 
--- the tables that opening a file left
-module _ (s heads rows slots : List ℕ) (a : Tables) (heads′ rows′ slots′ : List ℕ) (opens : Opens s heads rows slots (Good a) heads′ rows′ slots′)
-    (t : Table) (scanned : scanInto s heads rows slots ≡ good t) where
+-- rows of closed texts do
+rows-say : (f : List ℕ) (ws : List Row) (bs : List (List ℕ)) → AllSay f ws bs → RowsSay f ws bs
+rows-say f [] [] a = tt
+rows-say f [] (b ∷ bs) a = a
+rows-say f (w ∷ ws) [] a = a
+rows-say f (w ∷ ws) (b ∷ bs) (k, a) = (says-content k, rows-say f ws bs a)
+
+-- `scan`: the rows of both files, each in its order
+pub scan-rows : (s : List ℕ) (H R : ℕ) (m : Moved s H R) (u : Table) → scanOf (newFile m) H R ≡ good u
+    → RowsSay s (m .before .records) (texts (m .cut)) × RowsSay (newFile m) (u .records) (m .texts′)
+scan-rows s H R m u e =
+    let b = both-accepted s H R (m .before) (m .scanned) (m .closed) (m .cut) (m .cuts) (m .texts′) (m .rearranged .whole) in
+    let q : b .after .result ≡ u = cc (b .after .scanned, e) in (
+      rows-say s (m .before .records) (texts (m .cut)) (b .rows),
+      subst (λ (v : Table). RowsSay (newFile m) (v .records) (m .texts′)) q (rows-say (newFile m) (b .after .result .records) (m .texts′) (b .after .rows)),
+    )
+
+-- a file that `open` opened in lent memory with room for H header rows and R data rows: the memory before and after, the answer's tables,
+-- and that these are what the contract of `open` promises
+pub record Lent (s : List ℕ) (H R : ℕ) : Type 0 where
+  pub heads : List ℕ
+  pub rows : List ℕ
+  pub slots : List ℕ
+  pub answer : Opened
+  pub heads′ : List ℕ
+  pub rows′ : List ℕ
+  pub slots′ : List ℕ
+  pub opens : Opens s heads rows slots answer heads′ rows′ slots′
+  pub room : headerRoom heads ≡ H
+  pub rooms : dataRoom rows (length slots) ≡ R
+
+-- the scan that it did
+lent-scan : {s : List ℕ} {H R : ℕ} (l : Lent s H R) (t : Table) → scanOf s H R ≡ good t → scanInto s (l .heads) (l .rows) (l .slots) ≡ good t
+lent-scan l t e = rw (l .room, l .rooms) e
+
+-- `open`: the answers for both files are the same
+pub open-order : (s : List ℕ) (H R : ℕ) (m : Moved s H R) (a : Lent s H R) (b : Lent (newFile m) H R) → toldOpened (a .answer) ≡ toldOpened (b .answer)
+open-order s H R m a b =
+    let k = kept m in
+    a .opens .answer ∙ ap (mapped countsOf) (lent-scan a (m .before) (m .scanned)) ∙ ap good (k .counted)
+    ∙ sym (ap (mapped countsOf) (lent-scan b (k .after) (k .accepted))) ∙ sym (b .opens .answer)
+
+-- an accepted file is opened
+pub open-good : {s : List ℕ} {H R : ℕ} (a : Lent s H R) (t : Table) → scanOf s H R ≡ good t → (x : Tables) × (a .answer ≡ Good x)
+open-good {s} {H} {R} a t e = go (a .answer) (a .opens .answer ∙ ap (mapped countsOf) (lent-scan a t e))
+  where
+    go : (x : Opened) → toldOpened x ≡ good (countsOf t) → (y : Tables) × (x ≡ Good y)
+    go (Good y) h = (y, refl)
+    go (Refused f) h = clash (cc)
+
+-- the tables that opening an accepted file left: a are the answer's
+module _ {s : List ℕ} {H R : ℕ} (l : Lent s H R) (a : Tables) (is : l .answer ≡ Good a) (t : Table) (scanned : scanOf s H R ≡ good t) where
+  -- what `open` promises of them
+  promised : Opens s (l .heads) (l .rows) (l .slots) (Good a) (l .heads′) (l .rows′) (l .slots′)
+  promised = rw is at (l .opens)
+
   -- the lookup over them is that of the file's records
-  lookups-are : (k : ℕ) → rowFound rows′ (searched rows′ slots′ (a .ids) k) ≡ lastOf k (t .records)
+  pub lookups-are : (k : ℕ) → rowFound (l .rows′) (searched (l .rows′) (l .slots′) (a .ids) k) ≡ lastOf k (t .records)
   lookups-are k =
-      let (u, e, h) = opened-served s heads rows slots a heads′ rows′ slots′ opens in
-      let q : u ≡ t = cc in
+      let (u, e, h) = opened-served s (l .heads) (l .rows) (l .slots) a (l .heads′) (l .rows′) (l .slots′) promised in
+      let q : u ≡ t = cc (e, lent-scan l t scanned) in
       h k ∙ ap (λ (v : Table). lastOf k (v .records)) q
 
-  -- "of two records with one id the later in the file is served, whatever stands around them": the last record of the id, or none
-  pub get-last : (k : ℕ) (x : Entry) → toldEntry x ≡ rowFound rows′ (searched rows′ slots′ (a .ids) k) → LastForm k (t .records) (toldEntry x)
+  -- `get`: "of two records with one id the later in the file is served, whatever stands around them": the last record of the id, or none
+  pub get-last : (k : ℕ) (x : Entry) → toldEntry x ≡ rowFound (l .rows′) (searched (l .rows′) (l .slots′) (a .ids) k) → LastForm k (t .records) (toldEntry x)
   get-last k x e = subst (LastForm k (t .records)) (sym (e ∙ lookups-are k)) (last-is k (t .records))
 
-  -- `resolve` answers the file's unit answer
-  resolve-is : (x : Resolved) → toldUnits x ≡ resolveOf s (findOf s rows′ slots′ (a .ids)) (thingsFrom s rows′ (tableRows rows′ (a .records)) 0)
+  -- `resolve` answers the file's unit answer, over its records in file order and the lookup
+  pub resolve-is : (x : Resolved)
+      → toldUnits x ≡ resolveOf s (findOf s (l .rows′) (l .slots′) (a .ids)) (thingsFrom s (l .rows′) (tableRows (l .rows′) (a .records)) 0)
       → toldUnits x ≡ unitsOf s t
   unfolding findOf
   resolve-is x e =
-      let (u, g, n) = counted (scanInto s heads rows slots) (a .headers) (a .records) (a .max) (opens .answer) in
-      let q : u ≡ t = cc in
+      let g = lent-scan l t scanned in
+      let (u, f, n) = counted (scanInto s (l .heads) (l .rows) (l .slots)) (a .headers) (a .records) (a .max) (promised .answer) in
+      let q : u ≡ t = cc (f, g) in
       let i : a .records ≡ length (t .records) = n ∙ ap (λ (v : Table). length (v .records)) q in
-      let r : rows′ ≡ rowsAfter (good t) rows = opens .records ∙ ap (λ (x : Told Table). rowsAfter x rows) scanned in
-      let w : thingsFrom s rows′ (tableRows rows′ (a .records)) 0 ≡ map (thingOf s) (t .records) = rw (i, r) (things-are s t rows) in
-      let f : findOf s rows′ slots′ (a .ids) ≡ (λ k. thingFound s (lastOf k (t .records))) = fun-ext (λ k. ap (thingFound s) (lookups-are k)) in
-      e ∙ ap (resolveOf s (findOf s rows′ slots′ (a .ids))) w ∙ ap (λ (h : ℕ → Told (Option Thing)). resolveOf s h (map (thingOf s) (t .records))) f
+      let r : l .rows′ ≡ rowsAfter (good t) (l .rows) = promised .records ∙ ap (λ (x : Told Table). rowsAfter x (l .rows)) g in
+      let w : thingsFrom s (l .rows′) (tableRows (l .rows′) (a .records)) 0 ≡ map (thingOf s) (t .records) = rw (i, r) (things-are s t (l .rows)) in
+      let h : findOf s (l .rows′) (l .slots′) (a .ids) ≡ (λ k. thingFound s (lastOf k (t .records))) = fun-ext (λ k. ap (thingFound s) (lookups-are k)) in
+      e ∙ ap (resolveOf s (findOf s (l .rows′) (l .slots′) (a .ids))) w ∙ ap (λ (y : ℕ → Told (Option Thing)). resolveOf s y (map (thingOf s) (t .records))) h
 
--- both files, opened in lent memory of the same room
-module _ (s : List ℕ) (H R : ℕ) (m : Moved s H R)
-    (heads rows slots : List ℕ) (a : Tables) (heads′ rows′ slots′ : List ℕ) (opens : Opens s heads rows slots (Good a) heads′ rows′ slots′)
-    (room : headerRoom heads ≡ H) (rooms : dataRoom rows (length slots) ≡ R)
-    (heads₂ rows₂ slots₂ : List ℕ) (b : Tables) (heads₂′ rows₂′ slots₂′ : List ℕ) (opens₂ : Opens (newFile m) heads₂ rows₂ slots₂ (Good b) heads₂′ rows₂′ slots₂′)
-    (room₂ : headerRoom heads₂ ≡ H) (rooms₂ : dataRoom rows₂ (length slots₂) ≡ R) where
+-- both files, opened
+module _ (s : List ℕ) (H R : ℕ) (m : Moved s H R) (l : Lent s H R) (a : Tables) (is : l .answer ≡ Good a) (n : Lent (newFile m) H R) (b : Tables) (is′ : n .answer ≡ Good b) where
   -- `get`: the records served for an id have the same keyword and argument bytes, or there is none in either
-  pub get-order : (k : ℕ) (x y : Entry) → toldEntry x ≡ rowFound rows′ (searched rows′ slots′ (a .ids) k)
-      → toldEntry y ≡ rowFound rows₂′ (searched rows₂′ slots₂′ (b .ids) k) → contentFound s (toldEntry x) ≡ contentFound (newFile m) (toldEntry y)
+  pub get-order : (k : ℕ) (x y : Entry) → toldEntry x ≡ rowFound (l .rows′) (searched (l .rows′) (l .slots′) (a .ids) k)
+      → toldEntry y ≡ rowFound (n .rows′) (searched (n .rows′) (n .slots′) (b .ids) k) → contentFound s (toldEntry x) ≡ contentFound (newFile m) (toldEntry y)
   get-order k x y e f =
-      let n = kept m in
-      let i = lookups-are s heads rows slots a heads′ rows′ slots′ opens (m .before) (rw (room, rooms) (m .scanned)) k in
-      let j = lookups-are (newFile m) heads₂ rows₂ slots₂ b heads₂′ rows₂′ slots₂′ opens₂ (n .after) (rw (room₂, rooms₂) (n .accepted)) k in
-      ap (contentFound s) (e ∙ i) ∙ n .found k ∙ sym (ap (contentFound (newFile m)) (f ∙ j))
+      let c = kept m in
+      ap (contentFound s) (e ∙ lookups-are l a is (m .before) (m .scanned) k) ∙ c .found k
+      ∙ sym (ap (contentFound (newFile m)) (f ∙ lookups-are n b is′ (c .after) (c .accepted) k))
 
   -- `resolve`: the unit answers are the same, bit for bit, or refused with the same number
-  pub resolve-order : (x y : Resolved) → toldUnits x ≡ resolveOf s (findOf s rows′ slots′ (a .ids)) (thingsFrom s rows′ (tableRows rows′ (a .records)) 0)
-      → toldUnits y ≡ resolveOf (newFile m) (findOf (newFile m) rows₂′ slots₂′ (b .ids)) (thingsFrom (newFile m) rows₂′ (tableRows rows₂′ (b .records)) 0)
+  pub resolve-order : (x y : Resolved)
+      → toldUnits x ≡ resolveOf s (findOf s (l .rows′) (l .slots′) (a .ids)) (thingsFrom s (l .rows′) (tableRows (l .rows′) (a .records)) 0)
+      → toldUnits y ≡ resolveOf (newFile m) (findOf (newFile m) (n .rows′) (n .slots′) (b .ids)) (thingsFrom (newFile m) (n .rows′) (tableRows (n .rows′) (b .records)) 0)
       → SameUnits (toldUnits x) (toldUnits y)
   resolve-order x y e f =
-      let n = kept m in
-      let i = resolve-is s heads rows slots a heads′ rows′ slots′ opens (m .before) (rw (room, rooms) (m .scanned)) x e in
-      let j = resolve-is (newFile m) heads₂ rows₂ slots₂ b heads₂′ rows₂′ slots₂′ opens₂ (n .after) (rw (room₂, rooms₂) (n .accepted)) y f in
-      rw (i, j) (n .units)
+      let c = kept m in
+      rw (resolve-is l a is (m .before) (m .scanned) x e, resolve-is n b is′ (c .after) (c .accepted) y f) (c .units)
+
+-- two records whose ids no other record has, and that are no unit contexts, exchanged: all stays the same
+pub lone-same : (s : List ℕ) (H R : ℕ) (t : Table) → scanOf s H R ≡ good t → Closed s → (c : Cut) → Cuts s Outside s c
+    → (xs : List (List ℕ)) (a : List ℕ) (ys : List (List ℕ)) (b : List ℕ) (zs : List (List ℕ)) → texts c ≡ xs ++ (a ∷ (ys ++ (b ∷ zs)))
+    → Lone a (xs ++ (ys ++ (b ∷ zs))) → Lone b (xs ++ (a ∷ (ys ++ zs))) → Same s t (filled c (xs ++ (b ∷ (ys ++ (a ∷ zs))))) H R
+lone-same s H R t e k c d xs a ys b zs q h l = order s H R t e k c d (xs ++ (b ∷ (ys ++ (a ∷ zs)))) (rw q (rearranged-lone xs a ys b zs h l))

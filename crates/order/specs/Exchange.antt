@@ -12,7 +12,7 @@ use Rattle.order.specs.Order.{Permuted, named, those, ofId, contextText,
 
 -- ---- the same texts in another order
 -- nothing changes places
-permuted-same : (ts : List (List ℕ)) → Permuted ts ts
+pub permuted-same : (ts : List (List ℕ)) → Permuted ts ts
 permuted-same [] = Permuted.empty
 permuted-same (b ∷ ts) = Permuted.front (permuted-same ts)
 

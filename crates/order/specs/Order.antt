@@ -51,7 +51,8 @@ filled (rest g) ts = g
 filled (piece g b c) [] = g ++ (b ++ filled c [])
 filled (piece g b c) (t ∷ ts) = g ++ (t ++ filled c ts)
 
--- the reader's own cut of the file s, from the rest xs on in a section: a statement that is no data record stays in what stands between
+-- the reader's own cut of the file s, from the rest xs on in a section: a statement that is no data record stays in what stands between.
+-- Every closed file has a cut, and only one (`closed-shaped`, `cuts-one` in Cuts.antt); with its own texts it is the file (`filled-own`)
 pub data Cuts (s : List ℕ) : Section → List ℕ → Cut → Type 0 where
   -- the reading ends: "`END-ISO-10303-21` ends the reading", or the file does
   over : {sec : Section} {xs : List ℕ} → statement s sec xs ≡ ends → Cuts s sec xs (rest xs)
@@ -106,7 +107,7 @@ abbrev pub contextsIn : List (List ℕ) → List (List ℕ)
 contextsIn bs = those contextText bs
 
 -- "Rearrange its whole data records among their places, keeping the order of records with equal ids and the order of the unit contexts":
--- the texts ts, in file order, become us
+-- the texts ts, in file order, become us. It can always be met (`rearranged-same` in Exchange.antt, and others there)
 pub record Rearranged (ts us : List (List ℕ)) : Type 0 where
   pub whole : Permuted ts us
   pub ids : (k : ℕ) → ofId k ts ≡ ofId k us

@@ -4,14 +4,17 @@ use mathlib.Core.Path.{_≡_, refl, sym, _∙_, ap}
 use mathlib.Core.List.{List, map}
 use Rattle.error.specs.Refusal.{Told, good, bad}
 use Rattle.statement.specs.Row.{Row}
-use Rattle.scan.specs.File.{Table}
+use Rattle.statement.specs.Closed.{Closed}
+use Rattle.scan.specs.File.{Table, scanOf}
 use Rattle.factors.specs.Thing.{thingOf, thingFound}
-use Rattle.units.specs.Units.{Units}
+use Rattle.units.specs.Units.{Units, resolveOf}
 use Rattle.alike.specs.Alike.{SameTold}
-use Rattle.alike.specs.Contexts.{resolve-same}
+use Rattle.alike.specs.Contexts.{contextsOf, resolve-contexts, resolve-same}
 use Rattle.lookup.specs.Records.{lastOf}
 use Rattle.order.specs.Order.{Cut, texts, filled, ofId, contextsIn, Rearranged, served, unitsOf, SameUnits, Same, Demand}
 use Rattle.order.specs.Shape.{AllSay}
+use Rattle.order.specs.Cuts.{closed-shaped}
+use Rattle.order.specs.Exchange.{permuted-same}
 use Rattle.order.specs.Accepted.{Both, both-accepted}
 use Rattle.order.specs.Found.{lastText, found-says, same-content}
 use Rattle.order.specs.Counted.{same-counts, same-headers}
@@ -47,3 +50,12 @@ order s H R t e k c d us r =
           (rw (r .ids i) at (found-says i s (t .records) (texts c) (b .rows))) (found-says i (filled c us) (u .records) us (b .after .rows));
       units = same-units s (filled c us) t u (texts c) us (b .rows) (b .after .rows) r;
     }
+
+-- "in a closed file no record's parts have a fault, so that there the answer depends on the lookup and on the contexts in order alone": the
+-- unit answer of an accepted closed file is that of its unit contexts
+pub closed-units : (s : List ℕ) (H R : ℕ) (t : Table) → scanOf s H R ≡ good t → Closed s
+    → unitsOf s t ≡ resolveOf s (λ k. thingFound s (lastOf k (t .records))) (contextsOf s (map (thingOf s) (t .records)))
+closed-units s H R t e k =
+    let z = closed-shaped k in
+    let b = both-accepted s H R t e k (z .pieces) (z .cuts) (texts (z .pieces)) (permuted-same (texts (z .pieces))) in
+    resolve-contexts s (λ i. thingFound s (lastOf i (t .records))) (map (thingOf s) (t .records)) (all-asked s (t .records) (texts (z .pieces)) (b .rows))
