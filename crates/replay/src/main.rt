@@ -3,6 +3,6 @@
 fn main() {
     let mut chunk = io::large_buffer();
     let mut out = io::large_buffer();
-    let run = cases::small(&mut chunk, &mut out, cases::start());
+    let run = cases::small(&mut chunk, &mut out, intake::start(), true);
     cases::finish(&out, run);
 }
