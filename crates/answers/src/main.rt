@@ -86,7 +86,7 @@ fn lend_large(
         ends,
         out,
         run,
-        true,
+        usize::MAX,
     )
 }
 
@@ -95,7 +95,7 @@ fn main() {
     let mut out = io::large_buffer();
     let limit = input::stack_limit();
     if limit < NEEDED {
-        let run = cases::small(&mut chunk, &mut out, intake::start(), true);
+        let run = cases::small(&mut chunk, &mut out, intake::start(), usize::MAX);
         cases::finish(&out, run);
         return;
     }

@@ -6,8 +6,8 @@ use answer::answer;
 use intake::Run;
 
 // Answers the next cases: all of them, or as many as 64 bits count. The rooms are lent for a chunk of the input, a file, its header
-// rows, data rows, id slots, texts, references, integers, reals and row ends, and for the output. `walks` says whether the walks of
-// the records' arguments are told, which is most of an answer.
+// rows, data rows, id slots, texts, references, integers, reals and row ends, and for the output. The first `walks` cases are told
+// with the walks of their records' arguments, which are most of an answer.
 pub fn go_on(
     chunk: &mut [u8],
     file: &mut [u8],
@@ -21,7 +21,7 @@ pub fn go_on(
     ends: &mut [usize],
     out: &mut [u8],
     run: Run,
-    walks: bool,
+    walks: usize,
 ) -> Run {
     let mut last = run;
     let mut turns = u64::MAX;
@@ -60,8 +60,9 @@ fn turn(
     ends: &mut [usize],
     out: &mut [u8],
     run: Run,
-    walks: bool,
+    walks: usize,
 ) -> Run {
+    let whole = run.number < walks;
     let got = intake::take(chunk, file, out, run);
     let next = got.run;
     if got.found == 0 {
@@ -81,7 +82,7 @@ fn turn(
         ends,
         out,
         next.pen,
-        walks,
+        whole,
     );
     intake::written(next, pen)
 }
@@ -105,7 +106,7 @@ const SMALL_NUMBERS: usize = 131073;
 const SMALL_ENDS: usize = 87382;
 
 // Answers the next cases, with rooms that fit a stack of 8 MiB.
-pub fn small(chunk: &mut [u8], out: &mut [u8], run: Run, walks: bool) -> Run {
+pub fn small(chunk: &mut [u8], out: &mut [u8], run: Run, walks: usize) -> Run {
     let mut file = [0u8; SMALL_FILE];
     let mut heads = [0u32; SMALL_HEADS];
     let mut rows = [0u32; SMALL_ROWS];
@@ -146,7 +147,7 @@ fn lend_small(
     ends: &mut [usize; SMALL_ENDS],
     out: &mut [u8],
     run: Run,
-    walks: bool,
+    walks: usize,
 ) -> Run {
     go_on(
         chunk,
