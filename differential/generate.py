@@ -8,9 +8,10 @@
     generate.py parameters N SEED        arguments that stress the argument reader
     generate.py lookups N SEED           ids, header records and texts, complex records
     generate.py units N SEED             unit contexts, units, measures and tolerances
+    generate.py unitrules                unit files written by hand, for each rule of the units
 
 Options: --skip S and --take T give a part of the run (each case depends on its number only, so parts join to the
-whole); --out FILE writes to a file instead of standard output; --count prints the number of cases and nothing else.
+whole); --most B leaves out the cases that are longer than B bytes; --out FILE writes to a file instead of standard output; --count prints the number of cases and nothing else.
 Only the standard library is used, and the numbers drawn depend on the seed and the case's number alone.
 """
 
@@ -23,6 +24,7 @@ from draw import BOM, D, H, M, Rng, damage  # noqa: E402
 from lookups import Lookups  # noqa: E402
 from parameters import Parameters  # noqa: E402
 from unitfiles import UnitFiles  # noqa: E402
+from unitrules import UnitRules  # noqa: E402
 
 
 # ---------------------------------------------------------------------------------------------------------------------
@@ -567,7 +569,7 @@ def main():
     parser = argparse.ArgumentParser(description="Writes runs of cases.")
     streams = parser.add_subparsers(dest="stream", required=True)
     drawn = {"generated": Generated, "parameters": Parameters, "lookups": Lookups, "units": UnitFiles}
-    for name in ("exhaustive", "damaged", "chosen", *drawn):
+    for name in ("exhaustive", "damaged", "chosen", "unitrules", *drawn):
         stream = streams.add_parser(name)
         if name == "damaged" or name in drawn:
             stream.add_argument("n", type=int)
@@ -576,6 +578,7 @@ def main():
             stream.add_argument("files", nargs="+")
         stream.add_argument("--skip", type=int, default=0)
         stream.add_argument("--take", type=int)
+        stream.add_argument("--most", type=int)
         stream.add_argument("--out")
         stream.add_argument("--count", action="store_true")
     a = parser.parse_args()
@@ -586,6 +589,8 @@ def main():
         cases = drawn[a.stream](a.n, a.seed)
     elif a.stream == "damaged":
         cases = Damaged(a.n, a.seed, a.files)
+    elif a.stream == "unitrules":
+        cases = UnitRules()
     else:
         cases = Chosen()
 
@@ -597,6 +602,8 @@ def main():
     with out:
         for i in range(a.skip, end):
             case = cases[i]
+            if a.most is not None and len(case) > a.most:
+                continue
             out.write(b"%d\n" % len(case) + case)
 
 

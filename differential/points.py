@@ -9,6 +9,10 @@ Each point is a file, the line that is looked at, and its answer. Prints each th
 import subprocess
 import sys
 
+sys.dont_write_bytecode = True
+
+from unitrules import RULES  # noqa: E402
+
 M = b"ISO-10303-21;"
 D = M + b"DATA;"
 
@@ -163,6 +167,10 @@ POINTS += [
     units(CONTEXT + b"#2=(LENGTH_UNIT()CONVERSION_BASED_UNIT(5,#3));", DEFAULT),
     units(CONTEXT + b"#2=(LENGTH_UNIT()CONVERSION_BASED_UNIT(5,6));", b"12/0@%d" % (len(D + CONTEXT) + 41)),
 ]
+
+
+# One file and more for each rule of 'Units'.
+POINTS += [(case, b"units ", answer) for case, answer in RULES]
 
 
 def main():

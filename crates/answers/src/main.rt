@@ -1,6 +1,6 @@
 // Answers a run of cases, for the comparison with the Rust original: each case of up to 1 MiB where the stack limit allows
 // the rooms for it (`ulimit -s`; the script `step` raises it), and of up to 256 KiB where it does not.
-use cases::Run;
+use intake::Run;
 
 // What the large rooms take of the stack beside the small ones, with something over.
 const NEEDED: u64 = 40000000;
@@ -86,6 +86,7 @@ fn lend_large(
         ends,
         out,
         run,
+        usize::MAX,
     )
 }
 
@@ -94,10 +95,10 @@ fn main() {
     let mut out = io::large_buffer();
     let limit = input::stack_limit();
     if limit < NEEDED {
-        let run = cases::small(&mut chunk, &mut out, cases::start());
+        let run = cases::small(&mut chunk, &mut out, intake::start(), usize::MAX);
         cases::finish(&out, run);
         return;
     }
-    let run = large(limit - NEEDED, &mut chunk, &mut out, cases::start());
+    let run = large(limit - NEEDED, &mut chunk, &mut out, intake::start());
     cases::finish(&out, run);
 }

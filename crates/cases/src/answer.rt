@@ -5,7 +5,7 @@ use store::Opened;
 use text::Pen;
 
 // Puts what the reader answers about a file. The rooms are lent for header rows, data rows, id slots, texts, references, integers,
-// reals and row ends.
+// reals and row ends. `walks` says whether the walks of the records' arguments are put too.
 pub fn answer(
     file: &[u8],
     heads: &mut [u32],
@@ -18,8 +18,9 @@ pub fn answer(
     ends: &mut [usize],
     out: &mut [u8],
     pen: Pen,
+    walks: bool,
 ) -> Pen {
-    match tables(file, heads, rows, slots, chars, out, pen) {
+    match tables(file, heads, rows, slots, chars, out, pen, walks) {
         Scan::Refused(said) => said,
         Scan::Good(t, said) => walks::walks(
             file,
@@ -37,7 +38,7 @@ pub fn answer(
     }
 }
 
-// The tables' numbers and what was put, or a refusal that was put.
+// The numbers of the tables that are to be walked and what was put, or a refusal that was put.
 enum Scan {
     Good(Tables, Pen),
     Refused(Pen),
@@ -52,14 +53,32 @@ fn tables(
     chars: &mut [u8],
     out: &mut [u8],
     pen: Pen,
+    walks: bool,
 ) -> Scan {
     match store::open(file, heads, rows, slots) {
         Opened::Refused(f) => Scan::Refused(refused(out, pen, f)),
-        Opened::Good(t) => Scan::Good(t, told_lines(file, heads, rows, slots, t, chars, out, pen)),
+        Opened::Good(t) => Scan::Good(
+            walked(t, walks),
+            told_lines(file, heads, rows, slots, t, chars, out, pen),
+        ),
     }
 }
 
-// The rows, the lookups and the texts.
+// The tables, or none of their rows.
+fn walked(t: Tables, walks: bool) -> Tables {
+    if walks {
+        return t;
+    }
+    let ids = t.ids;
+    Tables {
+        headers: 0,
+        records: 0,
+        max: t.max,
+        ids,
+    }
+}
+
+// The rows, the lookups, the texts and the units.
 fn told_lines(
     file: &[u8],
     heads: &[u32],
@@ -73,7 +92,8 @@ fn told_lines(
     let a = told::row_lines(heads, rows, t, out, pen);
     let b = told::id_lines(rows, slots, t, out, a);
     let c = told::header_lines(file, heads, t, out, b);
-    told::text_lines(file, heads, t, chars, out, c)
+    let d = told::text_lines(file, heads, t, chars, out, c);
+    unit_lines::unit_line(file, rows, slots, t, out, d)
 }
 
 // `refused NUMBER/REASON@PLACE`

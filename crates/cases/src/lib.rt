@@ -1,38 +1,13 @@
 // A run of cases, each answered in the text form by which this reader is compared with the Rust original: what the programs
 // `answers` and `replay` share. They differ in their rooms alone.
-//
-// A case is its length in decimal, LF and so many bytes of standard input. Where the program has arguments, each names a
-// file that is one case. A room for a file has one byte more than the longest case that it takes.
 mod answer;
-mod next;
 
 use answer::answer;
-use input::Feed;
-use next::take;
-use text::Pen;
-
-pub struct Run {
-    // Where standard input stands in the chunk that was read of it.
-    pub feed: Feed,
-    // The number of the next case.
-    pub number: usize,
-    // 1 once there is no further case, else 0.
-    pub over: usize,
-    pub pen: Pen,
-}
-
-// A run that has answered nothing yet.
-pub fn start() -> Run {
-    Run {
-        feed: input::start(),
-        number: 0,
-        over: 0,
-        pen: text::fresh(),
-    }
-}
+use intake::Run;
 
 // Answers the next cases: all of them, or as many as 64 bits count. The rooms are lent for a chunk of the input, a file, its header
-// rows, data rows, id slots, texts, references, integers, reals and row ends, and for the output.
+// rows, data rows, id slots, texts, references, integers, reals and row ends, and for the output. The first `walks` cases are told
+// with the walks of their records' arguments, which are most of an answer.
 pub fn go_on(
     chunk: &mut [u8],
     file: &mut [u8],
@@ -46,6 +21,7 @@ pub fn go_on(
     ends: &mut [usize],
     out: &mut [u8],
     run: Run,
+    walks: usize,
 ) -> Run {
     let mut last = run;
     let mut turns = u64::MAX;
@@ -63,6 +39,7 @@ pub fn go_on(
             ends,
             out,
             last,
+            walks,
         );
         turns -= 1;
     }
@@ -83,8 +60,10 @@ fn turn(
     ends: &mut [usize],
     out: &mut [u8],
     run: Run,
+    walks: usize,
 ) -> Run {
-    let got = take(chunk, file, out, run);
+    let whole = run.number < walks;
+    let got = intake::take(chunk, file, out, run);
     let next = got.run;
     if got.found == 0 {
         return next;
@@ -103,19 +82,9 @@ fn turn(
         ends,
         out,
         next.pen,
+        whole,
     );
-    written(next, pen)
-}
-
-// The run once more was put.
-fn written(run: Run, pen: Pen) -> Run {
-    let feed = run.feed;
-    Run {
-        feed,
-        number: run.number,
-        over: run.over,
-        pen,
-    }
+    intake::written(next, pen)
 }
 
 // Rooms for a case of 256 KiB, whatever it holds: a header record takes three bytes or more, a data record six; a byte of a string
@@ -137,7 +106,7 @@ const SMALL_NUMBERS: usize = 131073;
 const SMALL_ENDS: usize = 87382;
 
 // Answers the next cases, with rooms that fit a stack of 8 MiB.
-pub fn small(chunk: &mut [u8], out: &mut [u8], run: Run) -> Run {
+pub fn small(chunk: &mut [u8], out: &mut [u8], run: Run, walks: usize) -> Run {
     let mut file = [0u8; SMALL_FILE];
     let mut heads = [0u32; SMALL_HEADS];
     let mut rows = [0u32; SMALL_ROWS];
@@ -160,6 +129,7 @@ pub fn small(chunk: &mut [u8], out: &mut [u8], run: Run) -> Run {
         &mut ends,
         out,
         run,
+        walks,
     )
 }
 
@@ -177,6 +147,7 @@ fn lend_small(
     ends: &mut [usize; SMALL_ENDS],
     out: &mut [u8],
     run: Run,
+    walks: usize,
 ) -> Run {
     go_on(
         chunk,
@@ -191,6 +162,7 @@ fn lend_small(
         ends,
         out,
         run,
+        walks,
     )
 }
 

@@ -10,11 +10,11 @@ use Rattle.cases.proofs.go_on.Lts as lts
 use Rattle.cases.proofs.turn.Reads as turn-reads
 
 abbrev Inv-loop : tie.InvT-loop
-Inv-loop chunk₀ file₀ heads₀ rows₀ slots₀ chars₀ refs₀ wholes₀ reals₀ ends₀ out₀ last₀ turns₀ chunk file heads rows slots chars refs wholes reals ends out last turns =
+Inv-loop chunk₀ file₀ heads₀ rows₀ slots₀ chars₀ refs₀ wholes₀ reals₀ ends₀ out₀ walks last₀ turns₀ chunk file heads rows slots chars refs wholes reals ends out last turns =
     (length chunk ≡ length chunk₀) × (length file ≡ length file₀) × (length heads ≡ length heads₀) × (length rows ≡ length rows₀) × (length slots ≡ length slots₀) × (length chars ≡ length chars₀) × (length refs ≡ length refs₀) × (length wholes ≡ length wholes₀) × (length reals ≡ length reals₀) × (length ends ≡ length ends₀) × (length out ≡ length out₀)
 
 abbrev μ-loop : tie.MeasureT-loop
-μ-loop chunk₀ file₀ heads₀ rows₀ slots₀ chars₀ refs₀ wholes₀ reals₀ ends₀ out₀ last₀ turns₀ chunk file heads rows slots chars refs wholes reals ends out last turns = turns
+μ-loop chunk₀ file₀ heads₀ rows₀ slots₀ chars₀ refs₀ wholes₀ reals₀ ends₀ out₀ walks last₀ turns₀ chunk file heads rows slots chars refs wholes reals ends out last turns = turns
 
 -- src/lib.rt:52:5
 loop-holds : tie.Need-loop-holds Inv-loop μ-loop

@@ -7,8 +7,6 @@ use Rattle.cases.proofs.turn.Tie as tie
 use Rattle.cases.proofs.turn.Reads as reads
 use Rattle.cases.proofs.turn.Lts as lts
 use Rattle.cases.proofs.answer.answer.Reads as answer-reads
-use Rattle.cases.proofs.next.take.Reads as take-reads
-use Rattle.cases.proofs.written.Reads as written-reads
 
 -- src/lib.rt:87:9
 take-requires : tie.Need-take-requires

@@ -1,10 +1,43 @@
-// The next case of the run, brought into the room for a file.
+// The next case of a run, brought into the room for a file.
+//
+// A case is its length in decimal, LF and so many bytes of standard input. Where the program has arguments, each names a
+// file that is one case. A room for a file has one byte more than the longest case that it takes.
 ghost use Prim.Native.Nat.{_≤_};
 ghost use lib.ListN.{length};
-use crate::Run;
 use input::Feed;
 use input::Line;
 use text::Pen;
+
+pub struct Run {
+    // Where standard input stands in the chunk that was read of it.
+    pub feed: Feed,
+    // The number of the next case.
+    pub number: usize,
+    // 1 once there is no further case, else 0.
+    pub over: usize,
+    pub pen: Pen,
+}
+
+// A run that has answered nothing yet.
+pub fn start() -> Run {
+    Run {
+        feed: input::start(),
+        number: 0,
+        over: 0,
+        pen: text::fresh(),
+    }
+}
+
+// The run once more was put.
+pub fn written(run: Run, pen: Pen) -> Run {
+    let feed = run.feed;
+    Run {
+        feed,
+        number: run.number,
+        over: run.over,
+        pen,
+    }
+}
 
 // The run, and a case: so many bytes at the start of the room.
 pub struct Taken {
