@@ -169,7 +169,7 @@ fn from_file(
             pen,
         };
     }
-    let titled = show::title(out, pen, &name[..n]);
+    let titled = notices::title(out, pen, &name[..n]);
     let shown = show::opened(fd, file, headers, rows, out, titled);
     Run {
         argument: std::num::wrapping_add_usize(run.argument, 1),
