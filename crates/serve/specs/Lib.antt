@@ -1,0 +1,2 @@
+pub mod Serve
+pub mod Laws

@@ -1,0 +1,33 @@
+-- What a file serves, by its table: a record of an id, and its unit answer. Assumes nothing.
+use Prim.Native.Nat.{ℕ}
+use mathlib.Core.List.{List, map}
+use mathlib.Core.Option.{Option, none, some}
+use Rattle.error.specs.Refusal.{Told, good, bad, told}
+use Rattle.statement.specs.Row.{Row}
+use Rattle.statement.specs.Statement.{rowOf}
+use Rattle.scan.specs.File.{Table}
+use Rattle.lookup.specs.Records.{lastOf}
+use Rattle.store.specs.Store.{Opens}
+use Rattle.store.specs.declared.Opened.{Opened}
+use Rattle.factors.specs.Thing.{thingOf, thingFound}
+use Rattle.units.specs.Units.{Units, resolveOf}
+use Rattle.serve.specs.declared.Served.{Served}
+use Rattle.serve.specs.declared.Served.the-variants as served
+
+-- "the last record of that id, or none", of a file's table
+abbrev pub recordIn : ℕ → Table → Told (Option Row)
+recordIn k t = good (lastOf k (t .records))
+
+-- the unit answer of the file s with the table t, over its records in file order and the lookup
+abbrev pub unitsOf : List ℕ → Table → Told Units
+unitsOf s t = resolveOf s (λ k. thingFound s (lastOf k (t .records))) (map (thingOf s) (t .records))
+
+-- a row, none, or a refusal
+abbrev pub toldServed : Served → Told (Option Row)
+toldServed (served.Row w) = good (some (rowOf w))
+toldServed served.Nothing = good none
+toldServed (served.Refused f) = bad (told f)
+
+-- the lent memory after it: what opening the file leaves there, and that is one thing (`opened-only` of store/specs/Only)
+abbrev pub Left : List ℕ → List ℕ → List ℕ → List ℕ → List ℕ → List ℕ → List ℕ → Type 0
+Left s heads rows slots heads′ rows′ slots′ = (a : Opened) × Opens s heads rows slots a heads′ rows′ slots′
