@@ -117,12 +117,14 @@ module _ (s : List ℕ) (find : ℕ → Told (Option Thing)) where
   unfoldable pub measureIn : (Thing → Told (Option ℕ)) → ℕ → Told (Option ℕ)
   measureIn k i = onward (optionBy (good none) (λ t. onward (optionBy (good none) (measureAt k)) (measureRun t))) (find i)
 
-  -- "A conversion unit leads to a measure and the measure to its base unit": a length unit's factor, with so many conversion units left
+  -- "A conversion unit leads to a measure and the measure to its base unit": a length unit's factor, with so many conversion units left.
+  -- With none left no unit leads to a measure (`chain-left` in Laws), so that the `good none` there is never given
   unfoldable pub lengthOf : ℕ → Thing → Told (Option ℕ)
   lengthOf zero t = onward (chained (λ i. good none)) (linkOf s zero t)
   lengthOf (suc n) t = onward (chained (measureIn (λ b. lengthOf n b))) (linkOf s (suc n) t)
 
-  -- "An angle's conversion gives the measure's number alone."
+  -- "An angle's conversion gives the measure's number alone." Of a complex measure the whole run of parts is read as arguments (open
+  -- points, 3); they are not taken apart, so that a fault in them refuses nothing here (4)
   unfoldable pub numberIn : ℕ → Told (Option ℕ)
   numberIn i = onward (optionBy (good none) (λ t. readOr (nextOf measureOf s (t .run .start) (t .run .stop) .answer) (λ v. good (some v)))) (find i)
 

@@ -1,3 +1,4 @@
+pub mod Each
 pub mod Thing
 pub mod Factor
 pub mod Code

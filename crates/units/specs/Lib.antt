@@ -1,4 +1,6 @@
 pub mod Units
+pub mod Rules
+pub mod RulesRight
 pub mod Code
 pub mod Laws
 pub mod Only

@@ -28,7 +28,7 @@ pub record Units : Type 0 where
 abbrev pub units : ℕ → ℕ → ℕ → Bool → Units
 units l a t r = record { length = l; angle = a; tolerance = t; resolved = r }
 
--- "No such context: 1.0, 1.0, 1e-3, unresolved."
+-- "No such context: 1.0, 1.0, 1e-3, unresolved."; also what each context starts from: "(1.0 without one)", "else 1e-3"
 abbrev pub defaults : Units
 defaults = units (near 1 1) (near 1 1) (near 1 1000) false
 
@@ -61,11 +61,11 @@ abbrev pub withAngle : Units → Option ℕ → Units
 withAngle u none = u
 withAngle u (some f) = units (u .length) f (u .tolerance) (u .resolved)
 
--- "the tolerance"
+-- "Tolerance: the first listed [..], else 1e-3": units with the tolerance v
 abbrev pub withTolerance : Units → ℕ → Units
 withTolerance u v = units (u .length) (u .angle) v (u .resolved)
 
--- an integer reads
+-- what was read, reads: the answer is a value, of whatever type
 abbrev pub reads : {A : Type 0} → Told A → Bool
 reads (good a) = true
 reads (bad q) = false
@@ -92,7 +92,7 @@ uncertainBy (good v) = good (some v)
 uncertainBy (bad q) = pick (eqb (q .number) 13) (bad q) (good none)
 
 module _ (s : List ℕ) (find : ℕ → Told (Option Thing)) where
-  -- one unit of a unit list, by its role; a missing record gives nothing
+  -- "In a unit list the role is ..": one unit by its role; a solid angle, or no role, changes nothing
   abbrev pub byRole : Units → Thing → Option Role → Told Units
   byRole u t none = good u
   byRole u t (some lengthRole) = goodBy (withLength u) (lengthOf s find 16 t)
@@ -103,7 +103,7 @@ module _ (s : List ℕ) (find : ℕ → Told (Option Thing)) where
   abbrev pub unitOf : Units → Thing → Told Units
   unitOf u t = onward (byRole u t) (roleOf t)
 
-  -- a unit of the list by its id
+  -- a unit of the list by its id; "a missing record [..] gives no factor"
   unfoldable pub unitBy : Units → ℕ → Told Units
   unitBy u i = onward (optionBy (good u) (unitOf u)) (find i)
 
@@ -112,7 +112,8 @@ module _ (s : List ℕ) (find : ℕ → Told (Option Thing)) where
   unitsBy u [] = good u
   unitsBy u (i ∷ is) = onward (λ v. unitsBy v is) (unitBy u i)
 
-  -- one listed uncertainty: a "simple UNCERTAINTY_MEASURE_WITH_UNIT that reads", else none
+  -- one listed uncertainty: a "simple UNCERTAINTY_MEASURE_WITH_UNIT that reads", else none. A complex record is none whatever its parts
+  -- are: they are not looked at, so that a fault in them refuses nothing here (open points, 4)
   abbrev pub uncertaintyOf : Thing → Told (Option ℕ)
   uncertaintyOf t = pick (sameKind (t .kind) UncertaintyMeasureWithUnit) (uncertainBy (nextOf measureOf s (t .run .start) (t .run .stop) .answer)) (good none)
 
@@ -125,7 +126,8 @@ module _ (s : List ℕ) (find : ℕ → Told (Option Thing)) where
   toleranceBy [] = good (near 1 1000)
   toleranceBy (i ∷ is) = onward (optionBy (toleranceBy is) good) (uncertaintyBy i)
 
-  -- the units of a context; "units before uncertainties whatever their order"
+  -- the units of a context. That they come "before uncertainties whatever their order" is no sentence of document 01: the list of open
+  -- points says so of the Rust
   unfoldable pub listedUnits : Thing → Told Units
   listedUnits t = onward (unitsBy defaults) (onward (refsIn s) (selfOr GlobalUnitAssignedContext t))
 

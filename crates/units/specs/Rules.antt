@@ -1,0 +1,148 @@
+-- Document 01, 'Units', as rules that name no loop: which record of the file decides, the units of a context, its tolerance, and the role
+-- of a listed unit. A rule speaks of a list cut around one of its members (the crate factors, Each); what a single record or id gives is
+-- taken from Units.antt and the crates below. RulesRight.antt shows that Units.antt computes just this, and that there is no other
+-- answer. Assumes nothing.
+use Prim.Native.Nat.{ℕ}
+use mathlib.Core.Path.{_≡_}
+use mathlib.Core.Bool.{Bool, true, false}
+use mathlib.Core.List.{List}
+use mathlib.Core.Option.{Option, none, some}
+use Rattle.error.specs.Refusal.{Refusal, Told, good, bad}
+use Rattle.nearest.specs.Near.{near}
+use Rattle.kinds.specs.declared.Kind.{Kind}
+use Rattle.kinds.specs.declared.Kind.the-variants.{GlobalUnitAssignedContext, GlobalUncertaintyAssignedContext}
+use Rattle.params.specs.Reader.{onward}
+use Rattle.factors.specs.Each.{Each, IsFirst, LastForm}
+use Rattle.factors.specs.Thing.{goodBy, Piece, Thing, selfOr}
+use Rattle.factors.specs.Factor.{optionBy, lengthOf, angleOf}
+use Rattle.units.specs.Units.{Units, units, defaults, Role, lengthRole, angleRole, solidRole, roleBy, roleOf, withTolerance, isContext, refsIn, uncertaintyBy}
+
+-- ---- the role of a listed unit
+-- "the role is a complex record's first part of LENGTH_UNIT, PLANE_ANGLE_UNIT and SOLID_ANGLE_UNIT": over the record's parts
+pub data RoleForm (ps : List Piece) : Option Role → Type 0 where
+  -- the first part that is one of the three gives it
+  part : {r : Role} → IsFirst (λ p. roleBy (p .kind) ≡ none) (λ p r. roleBy (p .kind) ≡ some r) ps r → RoleForm ps (some r)
+  -- no part is one of them; "a simple record gives no factor there": it has no parts
+  roleless : Each (λ p. roleBy (p .kind) ≡ none) ps → RoleForm ps none
+
+-- ---- the units of a list
+-- what one listed unit gives: a length factor, an angle factor, or neither
+pub data Given : Type 0 where
+  aLength : ℕ → Given
+  anAngle : ℕ → Given
+  nothing : Given
+
+-- the length factor that was given, if it was one
+abbrev pub lengthGiven : Told Given → Option ℕ
+lengthGiven (good (aLength f)) = some f
+lengthGiven (good (anAngle f)) = none
+lengthGiven (good nothing) = none
+lengthGiven (bad q) = none
+
+-- the angle factor likewise
+abbrev pub angleGiven : Told Given → Option ℕ
+angleGiven (good (aLength f)) = none
+angleGiven (good (anAngle f)) = some f
+angleGiven (good nothing) = none
+angleGiven (bad q) = none
+
+-- "(1.0 without one)"
+abbrev pub orOne : Option ℕ → ℕ
+orOne (some f) = f
+orOne none = near 1 1
+
+-- "unresolved" without a length factor
+abbrev pub isGiven : Option ℕ → Bool
+isGiven (some f) = true
+isGiven none = false
+
+-- the units of a list, by its length factor and its angle factor; the tolerance is not yet looked for
+abbrev pub unitsWith : Option ℕ → Option ℕ → Units
+unitsWith l a = units (orOne l) (orOne a) (near 1 1000) (isGiven l)
+
+-- the list of references that a record has itself or in its first part of a kind; no references where it has no such part
+abbrev pub listIn : List ℕ → Kind → Thing → Told (List ℕ)
+listIn s k t = onward (refsIn s) (selfOr k t)
+
+module _ (s : List ℕ) (find : ℕ → Told (Option Thing)) where
+  -- "In a unit list the role is ..": what a record gives in that role; a solid angle, or no role, gives neither factor
+  abbrev pub givenAs : Thing → Option Role → Told Given
+  givenAs t (some lengthRole) = goodBy (optionBy nothing aLength) (lengthOf s find 16 t)
+  givenAs t (some angleRole) = goodBy (optionBy nothing anAngle) (angleOf s find t)
+  givenAs t (some solidRole) = good nothing
+  givenAs t none = good nothing
+
+  -- what the record of an id gives; "a missing record [..] gives no factor"
+  unfoldable pub givenBy : ℕ → Told Given
+  givenBy i = onward (optionBy (good nothing) (λ t. onward (givenAs t) (roleOf t))) (find i)
+
+  -- a listed unit does not refuse
+  abbrev pub Reads : ℕ → Type 0
+  Reads i = (g : Given) × (givenBy i ≡ good g)
+
+  -- the units of a list of ids
+  pub data UnitsForm (is : List ℕ) : Told Units → Type 0 where
+    -- "its later length unit overwrites an earlier, as with angles (1.0 without one)": the last listed unit that gives a length factor
+    -- gives the length, and the last that gives an angle factor the angle
+    read : (l a : Option ℕ) → Each Reads is → LastForm (λ i. lengthGiven (givenBy i)) is l → LastForm (λ i. angleGiven (givenBy i)) is a → UnitsForm is (good (unitsWith l a))
+    -- "An unreadable [..] conversion name or measure reference in any context tried, or a fault in the parts of a complex record met,
+    -- refuses the whole answer": the first listed unit that refuses
+    refused : {q : Refusal} → IsFirst Reads (λ i q. givenBy i ≡ bad q) is q → UnitsForm is (bad q)
+
+  -- ---- the tolerance
+  -- a listed uncertainty that ends the search: one that reads, or one that refuses
+  pub data Settles (i : ℕ) : Told ℕ → Type 0 where
+    -- a "simple UNCERTAINTY_MEASURE_WITH_UNIT that reads"
+    reads : {v : ℕ} → uncertaintyBy s find i ≡ good (some v) → Settles i (good v)
+    -- "13 inside units refuses the whole answer"
+    refuses : {q : Refusal} → uncertaintyBy s find i ≡ bad q → Settles i (bad q)
+
+  -- "Tolerance": over the listed ids
+  pub data ToleranceForm (is : List ℕ) : Told ℕ → Type 0 where
+    -- "the first listed simple UNCERTAINTY_MEASURE_WITH_UNIT that reads"
+    listed : {a : Told ℕ} → IsFirst (λ i. uncertaintyBy s find i ≡ good none) Settles is a → ToleranceForm is a
+    -- "else 1e-3"
+    assumed : Each (λ i. uncertaintyBy s find i ≡ good none) is → ToleranceForm is (good (near 1 1000))
+
+  -- ---- a context
+  -- the units that a record declares: as the Rust has it, "units before uncertainties whatever their order" (open points)
+  pub data ContextForm (t : Thing) : Told Units → Type 0 where
+    -- its unit list and then its uncertainty list
+    read : {is js : List ℕ} {u : Units} {v : ℕ} → listIn s GlobalUnitAssignedContext t ≡ good is → UnitsForm is (good u)
+        → listIn s GlobalUncertaintyAssignedContext t ≡ good js → ToleranceForm js (good v) → ContextForm t (good (withTolerance u v))
+    -- "An unreadable unit [..] list [..] refuses the whole answer."
+    unlisted : {q : Refusal} → listIn s GlobalUnitAssignedContext t ≡ bad q → ContextForm t (bad q)
+    -- so does a listed unit that refuses
+    unit : {is : List ℕ} {q : Refusal} → listIn s GlobalUnitAssignedContext t ≡ good is → UnitsForm is (bad q) → ContextForm t (bad q)
+    -- "An unreadable [..] uncertainty list [..] refuses the whole answer."
+    unbounded : {is : List ℕ} {u : Units} {q : Refusal} → listIn s GlobalUnitAssignedContext t ≡ good is → UnitsForm is (good u)
+        → listIn s GlobalUncertaintyAssignedContext t ≡ bad q → ContextForm t (bad q)
+    -- so does a listed uncertainty that refuses
+    uncertain : {is js : List ℕ} {u : Units} {q : Refusal} → listIn s GlobalUnitAssignedContext t ≡ good is → UnitsForm is (good u)
+        → listIn s GlobalUncertaintyAssignedContext t ≡ good js → ToleranceForm js (bad q) → ContextForm t (bad q)
+
+  -- ---- the records of the file
+  -- a record that is passed over
+  pub data Passed : Told Thing → Type 0 where
+    -- it is no "unit context"
+    other : {t : Thing} → isContext s t ≡ good false → Passed (good t)
+    -- it is one, all of it reads, and its units give no length factor
+    fruitless : {t : Thing} {u : Units} → isContext s t ≡ good true → ContextForm t (good u) → u .resolved ≡ false → Passed (good t)
+
+  -- a record that decides, and the answer
+  pub data Decides : Told Thing → Told Units → Type 0 where
+    -- a unit context "whose units give a length factor decides"
+    resolves : {t : Thing} {u : Units} → isContext s t ≡ good true → ContextForm t (good u) → u .resolved ≡ true → Decides (good t) (good u)
+    -- "An unreadable unit or uncertainty list, conversion name or measure reference in any context tried [..] refuses the whole answer."
+    refuses : {t : Thing} {q : Refusal} → isContext s t ≡ good true → ContextForm t (bad q) → Decides (good t) (bad q)
+    -- "a fault in the parts of a complex record met, refuses the whole answer"
+    faulty : {t : Thing} {q : Refusal} → isContext s t ≡ bad q → Decides (good t) (bad q)
+    -- "9 span [..] outside the file or backwards": a record whose arguments cannot be had
+    outside : {q : Refusal} → Decides (bad q) (bad q)
+
+  -- the unit answer of a file's records, in file order
+  pub data ResolveForm (ts : List (Told Thing)) : Told Units → Type 0 where
+    -- "The first, superseded ones included, whose units give a length factor decides": no record before it does, nor refuses
+    decided : {a : Told Units} → IsFirst Passed Decides ts a → ResolveForm ts a
+    -- "No such context: 1.0, 1.0, 1e-3, unresolved."
+    undecided : Each Passed ts → ResolveForm ts (good defaults)
