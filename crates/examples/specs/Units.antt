@@ -11,7 +11,7 @@ use Rattle.record.specs.Form.{bytes}
 use Rattle.params.specs.Reader.{onward}
 use Rattle.scan.specs.File.{scanOf}
 use Rattle.units.specs.Units.{Units, units}
-use Rattle.order.specs.Order.{unitsOf}
+use Rattle.serve.specs.Serve.{unitsOf}
 use Rattle.order.specs.Computed.{resolving}
 
 -- a file and the unit answer that is owed for it

@@ -14,7 +14,8 @@ use Rattle.statement.specs.Closed.{Closed}
 use Rattle.statement.specs.declared.Section.the-variants.{Outside}
 use Rattle.scan.specs.File.{Table, table, scanOf}
 use Rattle.units.specs.Units.{units}
-use Rattle.order.specs.Order.{Cut, rest, piece, texts, filled, Cuts, contextText, contextsIn, Rearranged, served, unitsOf, Same}
+use Rattle.serve.specs.Serve.{unitsOf}
+use Rattle.order.specs.Order.{Cut, rest, piece, texts, filled, Cuts, contextText, contextsIn, Rearranged, served, Same}
 use Rattle.order.specs.Right.{order}
 use Rattle.order.specs.Exchange.{rearranged-then, rearranged-swap, rearranged-lone}
 use Rattle.order.specs.Check.{closed-from, cut-from, HasId, ids-apart, lone-text}

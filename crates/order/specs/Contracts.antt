@@ -21,16 +21,18 @@ use Rattle.lookup.specs.Records.{lastOf, LastForm, last-is}
 use Rattle.lookup.specs.declared.Tables.{Tables}
 use Rattle.lookup.specs.declared.Entry.{Entry}
 use Rattle.store.specs.Store.{toldOpened, Indexed, scanInto, Opens}
-use Rattle.store.specs.Served.{opened-served}
-use Rattle.store.specs.Laws.{counted}
+use Rattle.params.specs.Reader.{onward}
+use Rattle.serve.specs.Serve.{recordIn, toldServed}
+use Rattle.serve.specs.Laws as Serve
+use Rattle.serve.specs.declared.Served.{Served}
 use Rattle.store.specs.declared.Opened.{Opened}
 use Rattle.store.specs.declared.Opened.the-variants.{Good, Refused}
 use Rattle.factors.specs.Thing.{Thing, thingOf, thingFound, findOf}
 use Rattle.units.specs.Units.{Units, resolveOf}
 use Rattle.units.specs.Code.{toldUnits, thingsFrom}
-use Rattle.units.specs.Records.{things-are}
 use Rattle.units.specs.declared.Resolved.{Resolved}
-use Rattle.order.specs.Order.{Cut, texts, filled, Cuts, Rearranged, contentFound, served, unitsOf, SameUnits, Same}
+use Rattle.serve.specs.Serve.{unitsOf}
+use Rattle.order.specs.Order.{Cut, texts, filled, Cuts, Rearranged, contentFound, served, SameUnits, Same}
 use Rattle.order.specs.Shape.{AllSay}
 use Rattle.order.specs.Accepted.{both-accepted}
 use Rattle.order.specs.Found.{says-content}
@@ -127,10 +129,7 @@ module _ {s : List ℕ} {H R : ℕ} (l : Lent s H R) (a : Tables) (is : l .answe
 
   -- the lookup over them is that of the file's records
   pub lookups-are : (k : ℕ) → rowFound (l .rows′) (searched (l .rows′) (l .slots′) (a .ids) k) ≡ lastOf k (t .records)
-  lookups-are k =
-      let (u, e, h) = opened-served s (l .heads) (l .rows) (l .slots) a (l .heads′) (l .rows′) (l .slots′) promised in
-      let q : u ≡ t = cc (e, lent-scan l t scanned) in
-      h k ∙ ap (λ (v : Table). lastOf k (v .records)) q
+  lookups-are k = Serve.lookups-are s (l .heads) (l .rows) (l .slots) a promised t (lent-scan l t scanned) k
 
   -- `get`: "of two records with one id the later in the file is served, whatever stands around them": the last record of the id, or none
   pub get-last : (k : ℕ) (x : Entry) → toldEntry x ≡ rowFound (l .rows′) (searched (l .rows′) (l .slots′) (a .ids) k) → LastForm k (t .records) (toldEntry x)
@@ -140,16 +139,7 @@ module _ {s : List ℕ} {H R : ℕ} (l : Lent s H R) (a : Tables) (is : l .answe
   pub resolve-is : (x : Resolved)
       → toldUnits x ≡ resolveOf s (findOf s (l .rows′) (l .slots′) (a .ids)) (thingsFrom s (l .rows′) (tableRows (l .rows′) (a .records)) 0)
       → toldUnits x ≡ unitsOf s t
-  unfolding findOf
-  resolve-is x e =
-      let g = lent-scan l t scanned in
-      let (u, f, n) = counted (scanInto s (l .heads) (l .rows) (l .slots)) (a .headers) (a .records) (a .max) (promised .answer) in
-      let q : u ≡ t = cc (f, g) in
-      let i : a .records ≡ length (t .records) = n ∙ ap (λ (v : Table). length (v .records)) q in
-      let r : l .rows′ ≡ rowsAfter (good t) (l .rows) = promised .records ∙ ap (λ (x : Told Table). rowsAfter x (l .rows)) g in
-      let w : thingsFrom s (l .rows′) (tableRows (l .rows′) (a .records)) 0 ≡ map (thingOf s) (t .records) = rw (i, r) (things-are s t (l .rows)) in
-      let h : findOf s (l .rows′) (l .slots′) (a .ids) ≡ (λ k. thingFound s (lastOf k (t .records))) = fun-ext (λ k. ap (thingFound s) (lookups-are k)) in
-      e ∙ ap (resolveOf s (findOf s (l .rows′) (l .slots′) (a .ids))) w ∙ ap (λ (y : ℕ → Told (Option Thing)). resolveOf s y (map (thingOf s) (t .records))) h
+  resolve-is x e = e ∙ Serve.units-are s (l .heads) (l .rows) (l .slots) a promised ∙ ap (onward (unitsOf s)) (lent-scan l t scanned)
 
 -- both files, opened
 module _ (s : List ℕ) (H R : ℕ) (m : Moved s H R) (l : Lent s H R) (a : Tables) (is : l .answer ≡ Good a) (n : Lent (newFile m) H R) (b : Tables) (is′ : n .answer ≡ Good b) where
@@ -175,3 +165,25 @@ pub lone-same : (s : List ℕ) (H R : ℕ) (t : Table) → scanOf s H R ≡ good
     → (xs : List (List ℕ)) (a : List ℕ) (ys : List (List ℕ)) (b : List ℕ) (zs : List (List ℕ)) → texts c ≡ xs ++ (a ∷ (ys ++ (b ∷ zs)))
     → Lone a (xs ++ (ys ++ (b ∷ zs))) → Lone b (xs ++ (a ∷ (ys ++ zs))) → Same s t (filled c (xs ++ (b ∷ (ys ++ (a ∷ zs))))) H R
 lone-same s H R t e k c d xs a ys b zs q h l = order s H R t e k c d (xs ++ (b ∷ (ys ++ (a ∷ zs)))) (rw q (rearranged-lone xs a ys b zs h l))
+
+-- both files, served in one call with lent memory of the same room: hypotheses are the contracts of `serve::record_of` and
+-- `serve::units_of`, which speak of the file alone
+module _ (s : List ℕ) (H R : ℕ) (m : Moved s H R) where
+  -- `record_of`: the records of an id have the same keyword and argument bytes, or there is none in either
+  pub record-order : (k : ℕ) (x y : Served) → toldServed x ≡ onward (recordIn k) (scanOf s H R) → toldServed y ≡ onward (recordIn k) (scanOf (newFile m) H R)
+      → (v w : Option Row) × (toldServed x ≡ good v) × (toldServed y ≡ good w) × (contentFound s v ≡ contentFound (newFile m) w)
+  record-order k x y e f =
+      let c = kept m in (
+        lastOf k (m .before .records),
+        lastOf k (c .after .records),
+        e ∙ ap (onward (recordIn k)) (m .scanned),
+        f ∙ ap (onward (recordIn k)) (c .accepted),
+        c .found k,
+      )
+
+  -- `units_of`: the unit answers are the same, bit for bit, or refused with the same number
+  pub units-order : (x y : Resolved) → toldUnits x ≡ onward (unitsOf s) (scanOf s H R) → toldUnits y ≡ onward (unitsOf (newFile m)) (scanOf (newFile m) H R)
+      → SameUnits (toldUnits x) (toldUnits y)
+  units-order x y e f =
+      let c = kept m in
+      rw (e ∙ ap (onward (unitsOf s)) (m .scanned), f ∙ ap (onward (unitsOf (newFile m))) (c .accepted)) (c .units)

@@ -14,7 +14,8 @@ use Rattle.statement.specs.Closed.{Closed, Content}
 use Rattle.statement.specs.declared.Section.the-variants.{Outside}
 use Rattle.units.specs.Units.{Units, units}
 use Rattle.scan.specs.File.{Table, table, scanOf}
-use Rattle.order.specs.Order.{Cut, rest, piece, texts, filled, Cuts, Permuted, named, ofId, contextsIn, Rearranged, served, unitsOf, SameUnits, Same}
+use Rattle.serve.specs.Serve.{unitsOf}
+use Rattle.order.specs.Order.{Cut, rest, piece, texts, filled, Cuts, Permuted, named, ofId, contextsIn, Rearranged, served, SameUnits, Same}
 use Rattle.order.specs.Exchange.{those-swap, rearranged-swap}
 use Rattle.order.specs.Check.{closed-from, cut-from, HasId, ids-apart}
 use Rattle.order.specs.Computed.{reading, checking, resolving}

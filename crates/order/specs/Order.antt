@@ -26,8 +26,9 @@ use Rattle.scan.specs.File.{Table, scanOf}
 use Rattle.scan.specs.Table.{countsOf}
 use Rattle.params.specs.Reader.{onward}
 use Rattle.lookup.specs.Records.{lastOf}
-use Rattle.factors.specs.Thing.{Thing, thingOf, thingFound}
-use Rattle.units.specs.Units.{Units, isContext, resolveOf}
+use Rattle.factors.specs.Thing.{thingOf}
+use Rattle.units.specs.Units.{Units, isContext}
+use Rattle.serve.specs.Serve.{unitsOf}
 
 -- a file, cut: what stands up to the next data record, that record's text, from its `#` up to its `;`, and what follows, cut likewise;
 -- or what stands after the last record
@@ -123,10 +124,6 @@ contentFound s (some w) = some (content s w)
 abbrev pub served : List ℕ → Table → ℕ → Option Content
 served s t k = contentFound s (lastOf k (t .records))
 
--- "the unit answer": by demand 2's definition, over the records in file order and the lookup
-abbrev pub unitsOf : List ℕ → Table → Told Units
-unitsOf s t = resolveOf s (λ k. thingFound s (lastOf k (t .records))) (map (thingOf s) (t .records))
-
 -- "the unit answer is the same, or the same refusal number"
 abbrev pub SameUnits : Told Units → Told Units → Type 0
 SameUnits (good u) (good v) = u ≡ v
@@ -145,7 +142,8 @@ pub record Same (s : List ℕ) (t : Table) (f : List ℕ) (H R : ℕ) : Type 0 w
   pub headed : map (headerContent s) (t .headers) ≡ map (headerContent f) (after .headers)
   -- "each id then yields a record with the same keyword and argument bytes, or none as before"
   pub found : (k : ℕ) → served s t k ≡ served f after k
-  -- "and the unit answer is the same, or the same refusal number"
+  -- "and the unit answer is the same, or the same refusal number": that of demand 2's definition, over the records in file order and the
+  -- lookup (serve/specs/Serve.antt)
   pub units : SameUnits (unitsOf s t) (unitsOf f after)
 
 -- demand 3: s is an accepted file that is closed, c the reader's own cut of it, and us its records' texts rearranged

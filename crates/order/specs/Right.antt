@@ -11,7 +11,8 @@ use Rattle.units.specs.Units.{Units, resolveOf}
 use Rattle.alike.specs.Alike.{SameTold}
 use Rattle.alike.specs.Contexts.{contextsOf, resolve-contexts, resolve-same}
 use Rattle.lookup.specs.Records.{lastOf}
-use Rattle.order.specs.Order.{Cut, texts, filled, ofId, contextsIn, Rearranged, served, unitsOf, SameUnits, Same, Demand}
+use Rattle.serve.specs.Serve.{unitsOf}
+use Rattle.order.specs.Order.{Cut, texts, filled, ofId, contextsIn, Rearranged, served, SameUnits, Same, Demand}
 use Rattle.order.specs.Shape.{AllSay}
 use Rattle.order.specs.Cuts.{closed-shaped}
 use Rattle.order.specs.Exchange.{permuted-same}

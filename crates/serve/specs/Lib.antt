@@ -1,2 +1,3 @@
 pub mod Serve
 pub mod Laws
+pub mod Only

@@ -21,7 +21,13 @@ pub enum Served {
 }
 
 // The record of an id in a file: the last of that id.
-pub fn record_of(file: &[u8], headers: &mut [u32], rows: &mut [u32], slots: &mut [u32], id: u32) -> Served
+pub fn record_of(
+    file: &[u8],
+    headers: &mut [u32],
+    rows: &mut [u32],
+    slots: &mut [u32],
+    id: u32,
+) -> Served
     ensures { λ r. ⌜ toldServed r ≡ onward (recordIn id) (scanInto (now (file .entry)) (now (headers .entry)) (now (rows .entry)) (now (slots .entry))) ⌝ }
     ensures { λ _. ⌜ Left (now (file .entry)) (now (headers .entry)) (now (rows .entry)) (now (slots .entry)) (now (headers .exit)) (now (rows .exit)) (now (slots .exit)) ⌝ }
 {

@@ -214,7 +214,7 @@ fn tolerance_from(file: &[u8], rows: &[u32], slots: &[u32], t: Tables, b: &[u8])
         let w = lists::item_at(b, i);
         let start = w.start;
         let stop = w.stop;
-        let bound = w.bound;
+        let comma = w.bound;
         let Reference::Value(id) = reals::parse_ref(&b[start..stop]) else {
             return Tolerance::Is(1e-3);
         };
@@ -223,10 +223,10 @@ fn tolerance_from(file: &[u8], rows: &[u32], slots: &[u32], t: Tables, b: &[u8])
             Uncertain::Refused(f) => return Tolerance::Refused(f),
             Uncertain::Next => {}
         }
-        if bound == b.len() {
+        if comma == b.len() {
             return Tolerance::Is(1e-3);
         }
-        i = bound + 1;
+        i = comma + 1;
     }
 }
 

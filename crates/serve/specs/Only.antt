@@ -1,0 +1,31 @@
+-- "that two allowed answers coincide is proved": what a served record tells is one answer of the code. The lent memory after it is one:
+-- `opened-only` of store/specs/Only; the units' answer: `units-only` of units/specs/Only. Assumes nothing.
+use mathlib.Core.Path.{_≡_, refl, sym, _∙_, ap}
+use mathlib.Core.Option.{Option, none, some}
+use Rattle.error.specs.Refusal.{Told, good, bad, faultOf, faultOf-told}
+use Rattle.statement.specs.Row.{Row}
+use Rattle.statement.specs.declared.RecordSpan.{RecordSpan}
+use Rattle.serve.specs.Serve.{toldServed}
+use Rattle.serve.specs.declared.Served.{Served}
+use Rattle.serve.specs.declared.Served.the-variants as served
+
+-- the row that has these numbers
+rowBack : Row → RecordSpan
+rowBack w = record { id = w .id; keyword = record { start = w .keyStart; end = w .keyEnd }; args = record { start = w .argStart; end = w .argEnd }; complex = w .complex }
+
+-- the answer that tells this
+servedBack : Told (Option Row) → Served
+servedBack (good (some w)) = served.Row (rowBack w)
+servedBack (good none) = served.Nothing
+servedBack (bad q) = served.Refused (faultOf q)
+
+-- it is the answer that told it
+served-told : (a : Served) → servedBack (toldServed a) ≡ a
+unfolding servedBack rowBack
+served-told (served.Row w) = refl
+served-told served.Nothing = refl
+served-told (served.Refused f) = ap served.Refused (faultOf-told f)
+
+-- `record_of`
+pub served-only : (a b : Served) → toldServed a ≡ toldServed b → a ≡ b
+served-only a b e = sym (served-told a) ∙ ap servedBack e ∙ served-told b
