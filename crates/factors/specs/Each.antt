@@ -1,6 +1,5 @@
 -- Lists told without a loop: that each member of a list is so, which one is the first to give an answer, and which one the last. A list
 -- is cut around a member into those before it and those after it. Assumes nothing.
-use Prim.Native.Nat.{ℕ}
 use mathlib.Core.Path.{_≡_, refl, sym, _∙_, ap, subst}
 use mathlib.Core.Logic.{_⊎_, inl, inr}
 use mathlib.Core.List.{List, [], _∷_, _++_}
