@@ -9,7 +9,8 @@ use Rattle.error.specs.Refusal.{Refusal, Told, good, bad}
 use Rattle.record.specs.FormRight.Parts.{sole}
 use Rattle.kinds.specs.declared.Kind.the-variants.{GlobalUnitAssignedContext, GlobalUncertaintyAssignedContext}
 use Rattle.params.specs.Reader.{onward}
-use Rattle.factors.specs.Each.{Each, IsFirst, each-head, each-less, first-comes, first-never, first-decides, orElse, lastBy, last-is, last-only}
+use Rattle.lookup.specs.Records.{orElse}
+use Rattle.factors.specs.Each.{Each, IsFirst, each-head, each-less, first-comes, first-never, first-decides, lastBy, last-is, last-only}
 use Rattle.factors.specs.Thing.{goodBy, Piece, Thing}
 use Rattle.factors.specs.Factor.{optionBy, lengthOf, angleOf}
 use Rattle.units.specs.Units.{Units, defaults, Role, lengthRole, angleRole, solidRole, roleBy, firstRole, roleOf, withLength, withAngle, isContext, byRole, unitOf, unitBy, unitsBy, uncertaintyBy, toleranceBy, listedUnits, listedTolerance, contextOf, resolveOf}
