@@ -1,11 +1,11 @@
 -- Lists told without a loop: that each member of a list is so, which one is the first to give an answer, and which one the last. A list
 -- is cut around a member into those before it and those after it. Assumes nothing.
-use Prim.Native.Nat.{ℕ}
 use mathlib.Core.Path.{_≡_, refl, sym, _∙_, ap, subst}
 use mathlib.Core.Logic.{_⊎_, inl, inr}
 use mathlib.Core.List.{List, [], _∷_, _++_}
 use mathlib.Core.Option.{Option, none, some}
 use Rattle.lex.specs.Right.Steps.{clash}
+use Rattle.lookup.specs.Records.{orElse}
 
 -- each member is so, wherever the list is cut around one
 abbrev pub Each : {A : Type 0} → (A → Type 0) → List A → Type 0
@@ -87,11 +87,6 @@ module _ {A R : Type 0} (Passed : A → Type 0) (Gives : A → R → Type 0) whe
     first-decides xs a h = first-behind (h .front) (h .one) (h .back) a (h .before) (h .gives) ∙ ap f (sym (h .cut))
 
 -- ---- the last
--- what was told, or else another
-abbrev pub orElse : {R : Type 0} → Option R → Option R → Option R
-orElse (some a) o = some a
-orElse none o = o
-
 -- what g tells of the last member, computed: that of the later members, or else of this one
 abbrev pub lastBy : {A R : Type 0} → (A → Option R) → List A → Option R
 lastBy g [] = none

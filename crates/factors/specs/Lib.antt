@@ -3,5 +3,8 @@ pub mod Thing
 pub mod Factor
 pub mod Code
 pub mod Laws
+pub mod Rules
+pub mod RulesRight
+pub mod Depth
 pub mod Only
 pub mod Places

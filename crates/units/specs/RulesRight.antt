@@ -1,17 +1,16 @@
 -- Rules.antt and what Units.antt computes are one: the answer that is computed is so, and nothing else is. Assumes nothing.
 use Prim.Native.Nat.{ℕ}
-use mathlib.Core.Path.{_≡_, refl, sym, _∙_, ap, subst}
+use mathlib.Core.Path.{_≡_, refl, sym, _∙_, ap}
 use mathlib.Core.Logic.{_⊎_, inl, inr}
 use mathlib.Core.Bool.{Bool, true, false}
 use mathlib.Core.List.{List, [], _∷_, _++_}
 use mathlib.Core.Option.{Option, none, some}
 use Rattle.error.specs.Refusal.{Refusal, Told, good, bad}
-use Rattle.lex.specs.Byte.{pick}
-use Rattle.lex.specs.Right.Steps.{clash}
 use Rattle.record.specs.FormRight.Parts.{sole}
 use Rattle.kinds.specs.declared.Kind.the-variants.{GlobalUnitAssignedContext, GlobalUncertaintyAssignedContext}
 use Rattle.params.specs.Reader.{onward}
-use Rattle.factors.specs.Each.{Each, IsFirst, LastForm, each-head, each-less, first-comes, first-never, first-decides, orElse, lastBy, last-is, last-only}
+use Rattle.lookup.specs.Records.{orElse}
+use Rattle.factors.specs.Each.{Each, IsFirst, each-head, each-less, first-comes, first-never, first-decides, lastBy, last-is, last-only}
 use Rattle.factors.specs.Thing.{goodBy, Piece, Thing}
 use Rattle.factors.specs.Factor.{optionBy, lengthOf, angleOf}
 use Rattle.units.specs.Units.{Units, defaults, Role, lengthRole, angleRole, solidRole, roleBy, firstRole, roleOf, withLength, withAngle, isContext, byRole, unitOf, unitBy, unitsBy, uncertaintyBy, toleranceBy, listedUnits, listedTolerance, contextOf, resolveOf}
