@@ -1,1 +1,5 @@
+pub mod Both
+pub mod Carry
+pub mod Counted
 pub mod Forward
+pub mod Lent

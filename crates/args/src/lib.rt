@@ -5,10 +5,15 @@
 // are thin, and what can be said without the struct stands below it.
 ghost use mathlib.Core.Path.{_≡_};
 ghost use Rattle.reals.specs.Scalar.{referenceOf, wholeOf, realOf};
-ghost use Rattle.params.specs.Reader.{toldSkipped, skipOf, toldEmptiness, emptyOf};
+ghost use Rattle.params.specs.Reader.{toldSkipped, skipOf, skipsOf, toldEmptiness, emptyOf};
 ghost use Rattle.scalars.specs.Scalars.{measureOf, optionOf, truthOf, nextOf, toldNextRef, toldNextOptRef, toldNextWhole, toldNextReal, toldNextOptReal, toldNextTruth};
-ghost use Rattle.words.specs.Words.{toldNextName};
-ghost use Rattle.args.specs.Carried.{Forwards, nextName};
+ghost use Rattle.words.specs.Words.{toldNextName, toldNextText};
+ghost use Rattle.lists.specs.Items.{toldNextList};
+ghost use Rattle.grids.specs.Grid.{toldNextGrid};
+ghost use Rattle.args.specs.Carried.{Forwards, Fills, FillsBoth};
+ghost use Rattle.args.specs.Core.{nextName, nextText, textRoom, nextList, listRoom, realRoom, nextGrid, gridRoom, realGridRoom, endsRoom};
+use grids::NextGrid;
+use lists::NextList;
 use params::Emptiness;
 use params::Skipped;
 use params::State;
@@ -19,6 +24,7 @@ use scalars::NextRef;
 use scalars::NextTruth;
 use scalars::NextWhole;
 use words::NextName;
+use words::NextText;
 
 pub struct Args<'a> {
     pub file: &'a [u8],
@@ -40,6 +46,15 @@ impl<'a> Args<'a> {
         ensures { λ r. ⌜ Forwards skipOf (now (self .entry)) (now (self .exit)) (toldSkipped r) ⌝ }
     {
         let answer = params::skip(self.file, self.at);
+        self.at = after::skipped(answer);
+        answer
+    }
+
+    // Goes past n parameters, or stops at the first refusal.
+    pub fn skip_n(&mut self, n: usize) -> Skipped
+        ensures { λ r. ⌜ Forwards (skipsOf n) (now (self .entry)) (now (self .exit)) (toldSkipped r) ⌝ }
+    {
+        let answer = params::skip_n(self.file, self.at, n);
         self.at = after::skipped(answer);
         answer
     }
@@ -105,6 +120,56 @@ impl<'a> Args<'a> {
     {
         let answer = words::next_enum(self.file, self.at);
         self.at = after::name(answer);
+        answer
+    }
+
+    // A text in the file, or in the lent room.
+    pub fn next_str(&mut self, out: &mut [u8]) -> NextText
+        ensures { λ r. ⌜ Fills nextText textRoom (now (self .entry)) (now (self .exit)) (now (out .entry)) (now (out .exit)) (toldNextText r) ⌝ }
+    {
+        let answer = words::next_str(self.file, self.at, out);
+        self.at = after::text(answer);
+        answer
+    }
+
+    pub fn next_ref_list(&mut self, out: &mut [u32]) -> NextList
+        ensures { λ r. ⌜ Fills (nextList referenceOf) (listRoom referenceOf) (now (self .entry)) (now (self .exit)) (now (out .entry)) (now (out .exit)) (toldNextList r) ⌝ }
+    {
+        let answer = lists::next_ref_list(self.file, self.at, out);
+        self.at = after::list(answer);
+        answer
+    }
+
+    pub fn next_i64_list(&mut self, out: &mut [i64]) -> NextList
+        ensures { λ r. ⌜ Fills (nextList wholeOf) (listRoom wholeOf) (now (self .entry)) (now (self .exit)) (now (out .entry)) (now (out .exit)) (toldNextList r) ⌝ }
+    {
+        let answer = lists::next_i64_list(self.file, self.at, out);
+        self.at = after::list(answer);
+        answer
+    }
+
+    pub fn next_f64_list(&mut self, out: &mut [f64]) -> NextList
+        ensures { λ r. ⌜ Fills (nextList realOf) realRoom (now (self .entry)) (now (self .exit)) (now (out .entry)) (now (out .exit)) (toldNextList r) ⌝ }
+    {
+        let answer = lists::next_f64_list(self.file, self.at, out);
+        self.at = after::list(answer);
+        answer
+    }
+
+    // A grid's numbers and, apart, its row ends.
+    pub fn next_ref_grid(&mut self, out: &mut [u32], ends: &mut [usize]) -> NextGrid
+        ensures { λ r. ⌜ FillsBoth (nextGrid referenceOf) (gridRoom referenceOf) (endsRoom referenceOf) (now (self .entry)) (now (self .exit)) (now (out .entry)) (now (out .exit)) (now (ends .entry)) (now (ends .exit)) (toldNextGrid r) ⌝ }
+    {
+        let answer = grids::next_ref_grid(self.file, self.at, out, ends);
+        self.at = after::grid(answer);
+        answer
+    }
+
+    pub fn next_f64_grid(&mut self, out: &mut [f64], ends: &mut [usize]) -> NextGrid
+        ensures { λ r. ⌜ FillsBoth (nextGrid realOf) realGridRoom (endsRoom realOf) (now (self .entry)) (now (self .exit)) (now (out .entry)) (now (out .exit)) (now (ends .entry)) (now (ends .exit)) (toldNextGrid r) ⌝ }
+    {
+        let answer = grids::next_f64_grid(self.file, self.at, out, ends);
+        self.at = after::grid(answer);
         answer
     }
 }

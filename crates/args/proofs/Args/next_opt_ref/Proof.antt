@@ -10,7 +10,8 @@ use Rattle.scalars.proofs.next_opt_ref.Symbol as core
 use Rattle.scalars.proofs.next_opt_ref.Met as core-thm
 use Rattle.after.proofs.opt_reference.Symbol as after
 use Rattle.after.proofs.opt_reference.Met as after-thm
-use Rattle.args.proofs.Forward.{Core, After, forwards}
+use Rattle.args.proofs.Carry.{After}
+use Rattle.args.proofs.Forward.{Core, forwards}
 use Rattle.args.proofs.Args.next_opt_ref.Key.{name as #next-opt-ref}
 use Rattle.args.proofs.Args.next_opt_ref as reader
 use Rattle.args.proofs.Args.next_opt_ref.Statement as stated
@@ -23,4 +24,4 @@ next-opt-ref-spec 𝓤 H 𝓜 𝓖 𝓡 =
     (tables 𝓤 H 𝓜 𝓡 code.env .C) (tables 𝓤 H 𝓜 𝓡 code.env .Λ) #next-opt-ref code.function (code.unfolded 𝓤 H 𝓜 𝓡)
     (forwards E.the-type toldNextOptRef (nextOf (optionOf referenceOf)) E′.the-laws E′.the-plain tt 𝓤 H (𝓖 .A) (givenOf 𝓤 H 𝓜 𝓖) core.name after.name (tablesOf 𝓤 H 𝓜 (tables 𝓤 H 𝓜 𝓡 code.env))
     (cited 𝓤 H (Core E.the-type toldNextOptRef (nextOf (optionOf referenceOf)) 𝓤 H (𝓖 .A)) 𝓜 𝓡 code.env core.name core.routine code.calls-scalars·next-opt-ref (core-thm.met 𝓤 H 𝓜 𝓖 𝓡))
-    (cited 𝓤 H (After E.the-type toldNextOptRef (nextOf (optionOf referenceOf)) 𝓤 H (𝓖 .A)) 𝓜 𝓡 code.env after.name after.routine code.calls-after·opt-reference (after-thm.met 𝓤 H 𝓜 𝓖 𝓡)))
+    (cited 𝓤 H (After E.the-type toldNextOptRef 𝓤 H (𝓖 .A)) 𝓜 𝓡 code.env after.name after.routine code.calls-after·opt-reference (after-thm.met 𝓤 H 𝓜 𝓖 𝓡)))
