@@ -1,13 +1,15 @@
 // Where an answer of the by-value core leaves the reader: one function for each of its enums. The carrying reader stores what they give.
-ghost use Rattle.params.specs.Reader.{toldSkipped, toldEmptiness};
+ghost use mathlib.Core.Path.{_≡_};
+ghost use Rattle.params.specs.Reader.{toldSkipped, toldEmptiness, toldOpened};
 ghost use Rattle.scalars.specs.Scalars.{toldNextRef, toldNextOptRef, toldNextWhole, toldNextReal, toldNextOptReal, toldNextTruth};
 ghost use Rattle.words.specs.Words.{toldNextName, toldNextText};
 ghost use Rattle.lists.specs.Items.{toldNextList};
 ghost use Rattle.grids.specs.Grid.{toldNextGrid};
-ghost use Rattle.after.specs.Leaving.{Leaves};
+ghost use Rattle.after.specs.Leaving.{Leaves, openedAt};
 use grids::NextGrid;
 use lists::NextList;
 use params::Emptiness;
+use params::Opened;
 use params::Skipped;
 use params::State;
 use scalars::NextOptReal;
@@ -18,6 +20,16 @@ use scalars::NextTruth;
 use scalars::NextWhole;
 use words::NextName;
 use words::NextText;
+
+// The reader that was opened; one at 0 that reads up to 0 where none was.
+pub fn opened(a: Opened) -> State
+    ensures { λ s. ⌜ (s .place ≡ openedAt (toldOpened a) .place) × (s .end ≡ openedAt (toldOpened a) .end) ⌝ }
+{
+    match a {
+        Opened::Reader(at) => at,
+        Opened::Refused(_) => State { place: 0, end: 0 },
+    }
+}
 
 pub fn emptiness(a: Emptiness) -> State
     ensures { λ s. ⌜ Leaves (toldEmptiness a) s ⌝ }

@@ -4,9 +4,11 @@ use Prim.Native.Nat.{ℕ}
 use mathlib.Core.Path.{_≡_}
 use mathlib.Core.List.{List}
 use lib.ListN.{length}
-use denote.Ref.{now}
-use Rattle.params.specs.Reader.{Read}
+use denote.Ref.{RefT, now}
+use Rattle.params.specs.Reader.{Read, toldOpened, openedOf}
+use Rattle.after.specs.Leaving.{openedAt}
 use Rattle.args.specs.declared.Args.{Args}
+use Rattle.args.specs.declared.Opening.{Opening}
 
 -- what a definition of the by-value core says of the file, the place and the end that the reader carries
 abbrev pub over : {A : Type 0} → (List ℕ → ℕ → ℕ → A) → Args → A
@@ -19,6 +21,10 @@ Says P w = P (now (w .file)) (w .at .place) (w .at .end)
 -- the reader where an answer leaves it, over the same file
 abbrev pub standing : {A : Type 0} → Args → Read A → Args
 standing w a = record { file = w .file; at = record { place = a .place; end = a .end } }
+
+-- a reader is opened as the by-value core opens one, over the slice that was passed
+abbrev pub Opens : RefT (List ℕ) → ℕ → ℕ → Opening → Type 0
+Opens file p e r = (toldOpened (r .opened) ≡ openedOf (now file) p e) × (r .args ≡ record { file = file; at = openedAt (toldOpened (r .opened)) })
 
 -- "forwarding to covered functions": the answer is the by-value core's, and the reader then stands where that answer leaves it
 abbrev pub Forwards : {A : Type 0} → (List ℕ → ℕ → ℕ → Read A) → Args → Args → Read A → Type 0

@@ -10,11 +10,12 @@ ghost use Rattle.scalars.specs.Scalars.{measureOf, optionOf, truthOf, nextOf, t
 ghost use Rattle.words.specs.Words.{toldNextName, toldNextText};
 ghost use Rattle.lists.specs.Items.{toldNextList};
 ghost use Rattle.grids.specs.Grid.{toldNextGrid};
-ghost use Rattle.args.specs.Carried.{Forwards, Fills, FillsBoth};
+ghost use Rattle.args.specs.Carried.{Opens, Forwards, Fills, FillsBoth};
 ghost use Rattle.args.specs.Core.{nextName, nextText, textRoom, nextList, listRoom, realRoom, nextGrid, gridRoom, realGridRoom, endsRoom};
 use grids::NextGrid;
 use lists::NextList;
 use params::Emptiness;
+use params::Opened;
 use params::Skipped;
 use params::State;
 use scalars::NextOptReal;
@@ -31,7 +32,32 @@ pub struct Args<'a> {
     pub at: State,
 }
 
+// What opening a reader answers, and the reader: after 9 one that has nothing to read. (An enum that holds a reader is refused.)
+pub struct Opening<'a> {
+    pub opened: Opened,
+    pub args: Args<'a>,
+}
+
 impl<'a> Args<'a> {
+    // A reader of the file from a place up to an end.
+    pub fn new(file: &'a [u8], place: usize, end: usize) -> Opening<'a>
+        ensures { λ r. ⌜ Opens (file .entry) place end r ⌝ }
+    {
+        let opened = params::new(file, place, end);
+        let args = Args {
+            file,
+            at: after::opened(opened),
+        };
+        Opening { opened, args }
+    }
+
+    // The reader's place.
+    pub fn offset(self) -> usize
+        ensures { λ r. ⌜ r ≡ self .entry .at .place ⌝ }
+    {
+        self.at.place
+    }
+
     // Whether no parameter is left; the reader goes past the trivia.
     pub fn is_empty(&mut self) -> Emptiness
         ensures { λ r. ⌜ Forwards emptyOf (now (self .entry)) (now (self .exit)) (toldEmptiness r) ⌝ }
