@@ -74,23 +74,23 @@ forward τ core after = record {
 
 -- what a walk is told of a reader: the enum of its answers, what an answer tells, and what it is to tell
 module _ (E : ED.Declared) {X : Type 0} (tell : E .D → Read X) (f : List ℕ → ℕ → ℕ → Read X) where
-  abbrev coreEnded : Ended
+  abbrev pub coreEnded : Ended
   coreEnded = record {
     signature = record { lifetimes = 1; outlives = []; params = SliceRefOf (0 ∷ []) tt (plain (λ κs. u8)) (λ κs. tt) ∷ plain (λ κs. St.the-row) ∷ []; result = plain (λ κs. ED.row E) };
     kept = (yes, (yes, tt));
   }
 
-  abbrev readerEnded : Ended
+  abbrev pub readerEnded : Ended
   readerEnded = record {
     signature = record { lifetimes = 2; outlives = record { long = 1; long-ok = tt; short = 0; short-ok = tt } ∷ []; params = RefMutOf (0 ∷ []) tt behind (λ κs. tt) ∷ []; result = plain (λ κs. ED.row E) };
     kept = (yes, tt);
   }
 
   module _ {M : Type 1} (𝓤 : URA M) where
-    abbrev coreClauses : Clauses 𝓤 coreEnded
+    abbrev pub coreClauses : Clauses 𝓤 coreEnded
     coreClauses = λ κs a. record { ghost = Unit {0}; requires = λ g. emp 𝓤; ensures = λ g r e. fact 𝓤 (tell r ≡ f (now (a .0)) (a .1 .0 .place) (a .1 .0 .end)) }
 
-    abbrev readerClauses : Clauses 𝓤 readerEnded
+    abbrev pub readerClauses : Clauses 𝓤 readerEnded
     readerClauses = λ κs a. record { ghost = Unit {0}; requires = λ g. emp 𝓤; ensures = λ g r e. fact 𝓤 (Forwards f (now (a .0)) (now (e .0)) (tell r)) }
 
   abbrev stayed : Stays (readerEnded .signature .params) (readerEnded .kept)
@@ -98,6 +98,9 @@ module _ (E : ED.Declared) {X : Type 0} (tell : E .D → Read X) (f : List ℕ �
 
   abbrev pub Core : {M : Type 1} (𝓤 : URA M) (H : Heap 𝓤) (A : Atoms 𝓤) → Contract 𝓤
   Core 𝓤 H A = tripleOf 𝓤 H A (coreEnded .signature) (closing 𝓤 H A coreEnded (coreClauses 𝓤))
+
+  abbrev pub Reader : {M : Type 1} (𝓤 : URA M) (H : Heap 𝓤) (A : Atoms 𝓤) → Contract 𝓤
+  Reader 𝓤 H A = tripleOf 𝓤 H A (readerEnded .signature) (closing 𝓤 H A readerEnded (readerClauses 𝓤))
 
   module _ (L : EL.Laws E) (pl : Plainss (ED.variants E)) (few : Few (ED.shape E)) where
     module _ {M : Type 1} (𝓤 : URA M) (H : Heap 𝓤) (A : Atoms 𝓤) (W : Given 𝓤 H A) (κ κ′ : Lft) (q q′ : Share) (bounds : AllOutlive 2 (readerEnded .signature .outlives) (κ, (κ′, tt))) (b o : ℕ) (γ : GName) (h : Args) where

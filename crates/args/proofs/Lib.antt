@@ -1,3 +1,4 @@
+pub mod Asked
 pub mod Both
 pub mod Carry
 pub mod Counted

@@ -199,3 +199,11 @@ impl<'a> Args<'a> {
         answer
     }
 }
+
+// The functions above with plain parameters: a reader is made, asked once and given up. Whoever calls them needs no walk.
+pub fn skip_at(file: &[u8], at: State) -> Skipped
+    ensures { λ r. ⌜ toldSkipped r ≡ skipOf (now (file .entry)) (at .place) (at .end) ⌝ }
+{
+    let mut args = Args { file, at };
+    args.skip()
+}
