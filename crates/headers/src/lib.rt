@@ -1,12 +1,12 @@
 // Header records by keyword, over number columns: four numbers a header row.
 //
-// As `header_args` of the Rust's lib.rs. The search over a slice of structs is to come above this one.
+// As `header_args` of the Rust's lib.rs. The search over a slice of structs is in the crate `headings`.
 ghost use mathlib.Core.Path.{_≡_};
 ghost use Prim.Native.Nat.{_+_, _-_, _*_, _/_, _≤_, _<_, min};
 ghost use lib.ListN.{length};
 ghost use mathlib.Core.Option.{some};
 ghost use Rattle.lookup.specs.Lookup.{toldPlace};
-ghost use Rattle.headers.specs.Header.{headerNumbers, isHeader, headerFirst, headerArgs, toldHeader};
+ghost use Rattle.headers.specs.Header.{headerNumbers, named, isHeader, headerFirst, headerArgs, toldHeader};
 ghost use Rattle.statement.specs.Statement.{headerRowOf};
 use error::Fault;
 use lookup::Place;
@@ -52,12 +52,10 @@ fn read_header(heads: &[u32], k: usize) -> HeaderSpan
     HeaderSpan { keyword, args }
 }
 
-// Whether header row k has this keyword, letters in either case. One whose keyword lies outside the file has none.
-fn is_named(file: &[u8], heads: &[u32], k: usize, name: &[u8]) -> bool
-    requires { ⌜ k * 4 + 4 ≤ length (now heads) ⌝ }
-    ensures { λ r. ⌜ r ≡ isHeader (now (file .entry)) (now (heads .entry)) (now (name .entry)) k ⌝ }
+// Whether a header record has this keyword, letters in either case. One whose keyword lies outside the file has none.
+pub fn span_named(file: &[u8], w: HeaderSpan, name: &[u8]) -> bool
+    ensures { λ r. ⌜ r ≡ named (now (file .entry)) (now (name .entry)) (headerRowOf w) ⌝ }
 {
-    let w = read_header(heads, k);
     let a = w.keyword.start;
     let z = w.keyword.end;
     if z < a {
@@ -67,6 +65,14 @@ fn is_named(file: &[u8], heads: &[u32], k: usize, name: &[u8]) -> bool
         return false;
     }
     kinds::same_word(&file[a..z], name)
+}
+
+// Whether header row k has it.
+fn is_named(file: &[u8], heads: &[u32], k: usize, name: &[u8]) -> bool
+    requires { ⌜ k * 4 + 4 ≤ length (now heads) ⌝ }
+    ensures { λ r. ⌜ r ≡ isHeader (now (file .entry)) (now (heads .entry)) (now (name .entry)) k ⌝ }
+{
+    span_named(file, read_header(heads, k), name)
 }
 
 // The first header row with this keyword.

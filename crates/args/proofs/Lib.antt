@@ -1,0 +1,6 @@
+pub mod Asked
+pub mod Both
+pub mod Carry
+pub mod Counted
+pub mod Forward
+pub mod Lent

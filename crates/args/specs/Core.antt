@@ -1,0 +1,47 @@
+-- What the contracts of the by-value core say, by the file, the place and the end alone: the carrying reader's contracts cite these.
+-- Where a reader writes to lent room of n places, its answer is by n, and what the room holds afterwards (ys) is by what it held (xs).
+-- Assumes nothing.
+use Prim.Native.Nat.{ℕ}
+use mathlib.Core.Path.{_≡_}
+use mathlib.Core.List.{List, map}
+use lib.ListN.{length}
+use lib.Ieee.{Float, binary64, toBits}
+use Rattle.reals.specs.Scalar.{Answer, realOf}
+use Rattle.params.specs.Reader.{Read, Span, mapped, paramOf}
+use Rattle.words.specs.Words.{Shown, nameAt, stringAt, roomOf}
+use Rattle.lists.specs.Items.{listOf, nextBy, fitsIn, howMany, written}
+use Rattle.grids.specs.Grid.{Size, gridOf, gridFits, howLarge, numbersOf, endsOf}
+
+-- `next_enum`
+abbrev pub nextName : List ℕ → ℕ → ℕ → Read Span
+nextName s p e = mapped (nameAt s) (paramOf s p e)
+
+-- `next_str`, and its room
+abbrev pub nextText : ℕ → List ℕ → ℕ → ℕ → Read Shown
+nextText n s p e = mapped (stringAt s n) (paramOf s p e)
+
+abbrev pub textRoom : List ℕ → List ℕ → List ℕ → ℕ → ℕ → Type 0
+textRoom xs ys s p e = ys ≡ roomOf s xs (paramOf s p e .answer)
+
+-- a list whose items are read by g, and its room: of numbers, and of reals by their bits
+abbrev pub nextList : {A : Type 0} → (List ℕ → Answer A) → ℕ → List ℕ → ℕ → ℕ → Read ℕ
+nextList g n s p e = howMany (nextBy (listOf g) (fitsIn n) s p e)
+
+abbrev pub listRoom : {A : Type 0} → (List ℕ → Answer A) → List A → List A → List ℕ → ℕ → ℕ → Type 0
+listRoom g xs ys s p e = ys ≡ written (nextBy (listOf g) (fitsIn (length xs)) s p e .answer) xs
+
+abbrev pub realRoom : List Float → List Float → List ℕ → ℕ → ℕ → Type 0
+realRoom xs ys s p e = map (toBits binary64) ys ≡ written (nextBy (listOf realOf) (fitsIn (length xs)) s p e .answer) (map (toBits binary64) xs)
+
+-- a grid whose items are read by g, and its two rooms, of numbers and of row ends; what either holds is by what both had
+abbrev pub nextGrid : {A : Type 0} → (List ℕ → Answer A) → ℕ → ℕ → List ℕ → ℕ → ℕ → Read Size
+nextGrid g n k s p e = howLarge (nextBy (gridOf g) (gridFits n k) s p e)
+
+abbrev pub gridRoom : {A : Type 0} → (List ℕ → Answer A) → List A → List ℕ → List A → List ℕ → ℕ → ℕ → Type 0
+gridRoom g xs es ys s p e = ys ≡ written (numbersOf (nextBy (gridOf g) (gridFits (length xs) (length es)) s p e .answer)) xs
+
+abbrev pub realGridRoom : List Float → List ℕ → List Float → List ℕ → ℕ → ℕ → Type 0
+realGridRoom xs es ys s p e = map (toBits binary64) ys ≡ written (numbersOf (nextBy (gridOf realOf) (gridFits (length xs) (length es)) s p e .answer)) (map (toBits binary64) xs)
+
+abbrev pub endsRoom : {A C : Type 0} → (List ℕ → Answer A) → List C → List ℕ → List ℕ → List ℕ → ℕ → ℕ → Type 0
+endsRoom g xs es ys s p e = ys ≡ written (endsOf (nextBy (gridOf g) (gridFits (length xs) (length es)) s p e .answer)) es
