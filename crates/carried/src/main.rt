@@ -1,6 +1,7 @@
-// What the carrying reader says of each parameter of a file's records, and what the by-value core says of it: two lines a parameter, the
-// first marked `c` and the second `v`. Each has what the parameter is as a reference, as an integer and as a real, and where the reader
-// stands once it is past it.
+// Prints what the carrying reader and the by-value core say of each parameter of a file's records.
+//
+// Two lines a parameter, the first marked `c` and the second `v`: what it is as a reference, as an integer and as a real, and where the
+// reader stands once it is past it.
 use error::Fault;
 use params::Skipped;
 use params::State;
@@ -104,9 +105,16 @@ fn parameter(file: &[u8], w: Walk, out: &mut [u8]) -> Walk {
         return w;
     }
     let at = w.at;
-    let next = args::skip_at(file, at);
-    let a = by_reader(file, at, out, w.pen);
-    let pen = by_value(file, at, out, a);
+    let pen = lines(file, at, out, w.pen);
+    stepped(args::skip_at(file, at), pen)
+}
+
+fn lines(file: &[u8], at: State, out: &mut [u8], pen: Pen) -> Pen {
+    let a = by_reader(file, at, out, pen);
+    by_value(file, at, out, a)
+}
+
+fn stepped(next: Skipped, pen: Pen) -> Walk {
     match next {
         Skipped::Past(to) => Walk {
             at: to,
