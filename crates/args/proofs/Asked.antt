@@ -58,7 +58,6 @@ use Rattle.args.specs.declared.Args.{Args}
 use Rattle.args.specs.Carried.{over, Forwards}
 use Rattle.args.proofs.Args as T
 use Rattle.args.proofs.Args.Laws as T′
-
 use Rattle.args.proofs.Carry.{α, B}
 use Rattle.args.proofs.Forward.{coreEnded, coreClauses, readerEnded, readerClauses, Core, Reader}
 

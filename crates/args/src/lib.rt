@@ -207,3 +207,24 @@ pub fn skip_at(file: &[u8], at: State) -> Skipped
     let mut args = Args { file, at };
     args.skip()
 }
+
+pub fn ref_at(file: &[u8], at: State) -> NextRef
+    ensures { λ r. ⌜ toldNextRef r ≡ nextOf referenceOf (now (file .entry)) (at .place) (at .end) ⌝ }
+{
+    let mut args = Args { file, at };
+    args.next_ref()
+}
+
+pub fn i64_at(file: &[u8], at: State) -> NextWhole
+    ensures { λ r. ⌜ toldNextWhole r ≡ nextOf wholeOf (now (file .entry)) (at .place) (at .end) ⌝ }
+{
+    let mut args = Args { file, at };
+    args.next_i64()
+}
+
+pub fn f64_at(file: &[u8], at: State) -> NextReal
+    ensures { λ r. ⌜ toldNextReal r ≡ nextOf realOf (now (file .entry)) (at .place) (at .end) ⌝ }
+{
+    let mut args = Args { file, at };
+    args.next_f64()
+}
