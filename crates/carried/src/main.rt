@@ -11,12 +11,14 @@ use scalars::NextWhole;
 use scan::Scanned;
 use text::Pen;
 
-// Rooms for a small file of at most 64 records.
-const FILE: usize = 65536;
+// Rooms for a file of at most 256 KiB and 8192 records.
+const FILE: usize = 262144;
 
 const HEADERS: usize = 256;
 
-const ROWS: usize = 384;
+const ROWS: usize = 49152;
+
+const SLOTS: usize = 8192;
 
 const OUT: usize = 4096;
 
@@ -56,7 +58,7 @@ fn from_input(file: &mut [u8], headers: &mut [u32], rows: &mut [u32], out: &mut 
 }
 
 fn scanned(file: &[u8], headers: &mut [u32], rows: &mut [u32], out: &mut [u8], pen: Pen) -> Pen {
-    match scan::scan(file, headers, rows, 64) {
+    match scan::scan(file, headers, rows, SLOTS) {
         Scanned::Refused(f) => refused(out, pen, f),
         Scanned::Rows {
             headers: _,
