@@ -3,10 +3,11 @@
 #
 #   units.sh SCALE_PROGRAM
 #
-# A figure is the least processor time of five runs, less that of a file with one record, in nanoseconds for each byte of the file.
+# A figure is the least processor time of five runs, less that of a file with one record, in milliseconds and in nanoseconds for each byte
+# of the file.
 # The last three kinds grow with the square of the length (docs/DECISIONS.md, 'What is not linear').
 set -eu
-[ $# -eq 1 ] || { sed -n '2,7s/^# \{0,1\}//p' "$0" >&2; exit 2; }
+[ $# -eq 1 ] || { sed -n '2,8s/^# \{0,1\}//p' "$0" >&2; exit 2; }
 here=$(CDPATH='' cd -- "$(dirname -- "$0")" && pwd)
 work=$(mktemp -d)
 trap 'rm -rf "$work"' EXIT

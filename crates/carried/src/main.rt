@@ -1,4 +1,4 @@
-// Prints what the carrying reader and the by-value core say of each parameter of a file's records.
+// Prints what the carrying reader and the by-value core say of the first sixteen parameters of each record of a file.
 //
 // Two lines a parameter, the first marked `c` and the second `v`: what it is as a reference, as an integer and as a real, and where the
 // reader stands once it is past it.
