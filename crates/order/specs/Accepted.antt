@@ -164,6 +164,7 @@ pub record Both (s : List ℕ) (t : Table) (c : Cut) (us : List (List ℕ)) (H R
   pub heads : AllHead s (t .headers) headings
   pub after : Accepted (filled c us) headings us H R
 
+-- "The new file is accepted with the same rooms": so both are, and the rows of each are those of its texts
 pub both-accepted : (s : List ℕ) (H R : ℕ) (t : Table) → scanOf s H R ≡ good t → Closed s → (c : Cut) → Cuts s Outside s c
     → (us : List (List ℕ)) → Permuted (texts c) us → Both s t c us H R
 both-accepted s H R t e k c d us p = go (closed-shaped k)
