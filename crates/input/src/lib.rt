@@ -53,7 +53,7 @@ pub struct Opened {
     pub name: usize,
 }
 
-// Opens the file that an argument names. Where that fails, standard error says why.
+// Opens the file that an argument names, `-` being standard input. Where that fails, standard error says why.
 pub fn open_argument(i: usize, name: &mut [u8]) -> Opened
     ensures { λ r. ⌜ Counts (r .name) (now (name .exit)) ⌝ }
 {
@@ -62,11 +62,24 @@ pub fn open_argument(i: usize, name: &mut [u8]) -> Opened
         os::fail(b"argument");
         return Opened { fd: -1, name: n };
     }
+    if is_dash(&name[..n]) {
+        return Opened {
+            fd: libc::STDIN_FILENO,
+            name: n,
+        };
+    }
     let fd = os::open_read(&name[..n]);
     if fd < 0 {
         os::fail(&name[..n]);
     }
     Opened { fd, name: n }
+}
+
+fn is_dash(name: &[u8]) -> bool {
+    if name.len() == 1 {
+        return name[0] == b'-';
+    }
+    false
 }
 
 // The size of what a descriptor reads, which stays where it stands. u64::MAX where that is not told, as of a pipe.

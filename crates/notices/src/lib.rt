@@ -1,18 +1,9 @@
-// What the programs say of a file beside its answer: its name, that it could not be read, that it is too large, that it is refused.
+// What the programs say of a file beside its answer: that it could not be read, that it is too large, that it is refused.
 use error::Fault;
 use text::Pen;
 
 // The most that the large rooms take.
 const MOST: usize = 67108864;
-
-// A line for a file's name, where there are several.
-pub fn title(out: &mut [u8], pen: Pen, name: &[u8]) -> Pen {
-    if os::arg_count() == 2 {
-        return pen;
-    }
-    let a = text::bytes(out, pen, name);
-    text::bytes(out, a, b":\n")
-}
 
 // A file of which so many bytes could be read.
 pub fn unread(out: &mut [u8], pen: Pen, n: u64) -> Pen {

@@ -1,0 +1,22 @@
+use mathlib.Core.Path.{refl}
+use borrow.Author.Tests.{eq-eqb, ne-eqb}
+use borrow.Author.Needs.{needs}
+use Rattle.spots.proofs.next_column.Statement.{statement}
+use Rattle.spots.proofs.next_column.Tie as tie
+use Rattle.spots.proofs.next_column.Reads as reads
+use Rattle.spots.proofs.next_column.Lts as lts
+
+-- src/lib.rt:26:32
+add-result : tie.Need-add-result
+add-result c = search needs
+
+-- src/lib.rt:22:1
+returns : tie.Need-returns
+returns c = rw (eq-eqb (c .before .args .b) 10 (c .if1 .taken)) refl
+
+-- src/lib.rt:22:1
+returns-2 : tie.Need-returns-2
+returns-2 c = rw (ne-eqb (c .before .args .b) 10 (c .if1 .left)) refl
+
+pub next-column-spec : {M : Type 1} → statement M
+next-column-spec = tie.close (tie.spec add-result returns returns-2)

@@ -1,0 +1,61 @@
+-- Lines and columns of a place. Assumes nothing.
+use Prim.Native.Nat.{ℕ, _+_, _<_, _≤_}
+use mathlib.Core.Path.{_≡_, refl, sym, _∙_, ap, subst}
+use mathlib.Core.Bool.{Bool, true, false}
+use mathlib.Core.List.{List, [], _∷_}
+use lib.ListN.{length, drop, getD, drop-of-length-le}
+use lib.Dec.{eqb}
+use lib.Seq.{drop-cons}
+use native.Mathlib.Numerals.{add-one}
+use native.Mathlib.Omega.{arith}
+
+-- One of two numbers.
+abbrev pub choice : Bool → ℕ → ℕ → ℕ
+choice true a b = a
+choice false a b = b
+
+pub choice-most : (t : Bool) (a b n : ℕ) → a ≤ n → b ≤ n → choice t a b ≤ n
+choice-most true a b n h k = h
+choice-most false a b n h k = k
+
+-- How many LFs there are, k of them before.
+unfoldable pub breaks : ℕ → List ℕ → ℕ
+breaks k [] = k
+breaks k (b ∷ r) = breaks (choice (eqb b 10) (k + 1) k) r
+
+-- How many bytes stand behind the last LF, k of them before: an LF begins a line anew.
+unfoldable pub trail : ℕ → List ℕ → ℕ
+trail k [] = k
+trail k (b ∷ r) = trail (choice (eqb b 10) 0 (k + 1)) r
+
+-- What a walk from the front knows at place i.
+pub record Counted (s : List ℕ) (line column i : ℕ) : Type 0 where
+  pub few : line ≤ i
+  pub short : column ≤ i
+  pub lines : breaks line (drop i s) ≡ breaks 0 s
+  pub columns : trail column (drop i s) ≡ trail 0 s
+
+split : (xs : List ℕ) (i : ℕ) → i < length xs → drop i xs ≡ getD xs i 0 ∷ drop (i + 1) xs
+split xs i h = rw (add-one, drop-cons xs i 0)
+
+pub counted-start : (s : List ℕ) → Counted s 0 0 0
+counted-start s = record { few = omega arith; short = omega arith; lines = refl; columns = refl }
+
+pub counted-next : (s : List ℕ) (l c i : ℕ) → i < length s → Counted s l c i
+    → Counted s (choice (eqb (getD s i 0) 10) (l + 1) l) (choice (eqb (getD s i 0) 10) 0 (c + 1)) (i + 1)
+unfolding breaks trail
+counted-next s l c i h k = record {
+  few = choice-most (eqb (getD s i 0) 10) (l + 1) l (i + 1) (omega arith) (omega arith);
+  short = choice-most (eqb (getD s i 0) 10) 0 (c + 1) (i + 1) (omega arith) (omega arith);
+  lines = sym (ap (breaks l) (split s i h)) ∙ k .lines;
+  columns = sym (ap (trail c) (split s i h)) ∙ k .columns;
+}
+
+pub counted-end : (s : List ℕ) (l c i : ℕ) → length s ≤ i → Counted s l c i → (l ≡ breaks 0 s) × (c ≡ trail 0 s)
+unfolding breaks trail
+counted-end s l c i h k = (sym (ap (breaks l) (drop-of-length-le s h)) ∙ k .lines, sym (ap (trail c) (drop-of-length-le s h)) ∙ k .columns)
+
+-- The same of a turn's own numbers.
+pub counted-again : (s : List ℕ) (l c i l' c' : ℕ) → i < length s → Counted s l c i
+    → l' ≡ choice (eqb (getD s i 0) 10) (l + 1) l → c' ≡ choice (eqb (getD s i 0) 10) 0 (c + 1) → Counted s l' c' (i + 1)
+counted-again s l c i l' c' h k p q = subst (λ (x : ℕ). Counted s x c' (i + 1)) (sym p) (subst (λ (x : ℕ). Counted s (choice (eqb (getD s i 0) 10) (l + 1) l) x (i + 1)) (sym q) (counted-next s l c i h k))
