@@ -96,6 +96,15 @@ fn around(name: String, inside: &[u8]) -> Case {
     Case { name, bytes }
 }
 
+/// So many short records, of the same length each.
+pub fn numbered(records: usize) -> Case {
+    let mut inside = Vec::with_capacity(records * 26);
+    for id in 1..=records {
+        inside.extend(format!("#{id:09}=A('',#{id:09});\n").bytes());
+    }
+    around(format!("{records} records"), &inside)
+}
+
 /// Files that try to make the time grow faster than the length, each at two or three lengths.
 pub fn hostile() -> Vec<Case> {
     let mut all = Vec::new();

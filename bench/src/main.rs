@@ -2,6 +2,7 @@
 //!
 //!   bench FILE..          the tables: real files, growth, hostile files
 //!   bench real FILE..     the table of real files alone
+//!   bench growth FILE     the tables of growth alone
 //!   bench once SIDE FILE  one scan by one side, `rust` or `proved`, for a count of instructions; `none` makes the rooms only
 mod clock;
 mod files;
@@ -141,12 +142,29 @@ fn large(all: &[Case]) -> &[Case] {
     &all[first.min(all.len() - 1)..]
 }
 
+/// By length, from 1 MB to 1 GB, and by the number of records.
+fn growth(seed: &[u8]) {
+    table(
+        &[1, 4, 16, 64, 256, 1_000].map(|megabytes| files::grown(seed, megabytes)),
+        ROUNDS,
+    );
+    println!();
+    table(
+        &[1_000, 10_000, 100_000, 1_000_000, 10_000_000].map(files::numbered),
+        ROUNDS,
+    );
+}
+
 fn main() {
     let arguments: Vec<String> = std::env::args().skip(1).collect();
     let words: Vec<&str> = arguments.iter().map(String::as_str).collect();
     match words.as_slice() {
         [] => panic!("files to read are wanted"),
         ["once", side, path] => return once(side, path),
+        ["growth", path] => {
+            clock::keep_memory();
+            return growth(&Case::read(path).bytes);
+        }
         ["real", ..] => {
             clock::keep_memory();
             return table(large(&read_all(&arguments[1..])), ROUNDS_REAL);
@@ -158,11 +176,7 @@ fn main() {
     println!("\n## Real files of 1 MB and more\n");
     table(large(&all), ROUNDS_REAL);
     println!("\n## Growth\n");
-    let seed = &all[all.len() - 1].bytes;
-    table(
-        &[1, 2, 4, 8, 16, 32, 64].map(|megabytes| files::grown(seed, megabytes)),
-        ROUNDS,
-    );
+    growth(&all[all.len() - 1].bytes);
     println!("\n## Hostile files\n");
     table(&files::hostile(), ROUNDS);
 }
