@@ -9,10 +9,10 @@ use native.Mathlib.Nat.{pow-suc, pow-le-pow-right, mul-le-mul, mul-div-cancel, d
 use lib.Dec.{ltb, leb, eqb}
 use lib.ListN.{length, getD, set, length-set}
 use lib.Seq.{getD-set-same, getD-set-other}
-use borrow.Author.Tests.{lt-ltb, le-ltb, le-leb, lt-leb}
+use borrow.Author.Tests.{lt-ltb, le-ltb, le-leb, lt-leb, eqb-true, eqb-false}
 use Rattle.lex.specs.Byte.{pick}
 use Rattle.lex.specs.Walk.{turned}
-use Rattle.index.specs.Order.{Rises, Steady, stepOf, ordered, less-or}
+use Rattle.index.specs.Order.{Rises, Steady, stepOf, Says, ordered, less-or}
 use Rattle.index.specs.Index.{Starts, IsShift, Passed}
 use Rattle.index.specs.IndexRight.{rises-far}
 use Rattle.index.specs.Search.{Bracket, bracket, looked, ended, opening, startAt, wide, ranged, among, rangeEnd, guideEnd, evenEnd, endOf}
@@ -109,6 +109,21 @@ module _ (f g : ℕ → ℕ) where
       let d : f (g (suc i)) - f (g i) ≡ stepOf f g = subst (λ (z : ℕ). f (g z) - f (g i) ≡ stepOf f g) q (r i (omega arith)) in
       let m : suc i * stepOf f g ≡ i * stepOf f g + stepOf f g = ap (λ (z : ℕ). z * stepOf f g) (sym q) ∙ add-mul i 1 (stepOf f g) ∙ omega arith in
       omega arith
+
+  -- whether they rise by one step, with one slot more
+  pub steady-more : (i : ℕ) (s t : Bool) → 1 ≤ i → Says s (Steady f g i) → eqb (f (g i) - f (g (i - 1))) (stepOf f g) ≡ t → Says (s && t) (Steady f g (i + 1))
+  steady-more i true true h r e = steady-next i h r (eqb-true (f (g i) - f (g (i - 1))) (stepOf f g) e)
+  steady-more i true false h r e = steady-not i (i + 1) h (omega arith) (eqb-false (f (g i) - f (g (i - 1))) (stepOf f g) e)
+  steady-more i false t h r e = λ w. r (steady-fewer (i + 1) i (omega arith) w)
+
+  -- whether they do once all slots are seen: one, where there is none
+  pub steady-all : (i n : ℕ) (s : Bool) → i ≡ max 1 n → Says s (Steady f g i) → Says s (Steady f g n)
+  steady-all i n true e r = steady-fewer i n (omega arith) r
+  steady-all i n false e r = λ w. r (go (less-or 0 n) w)
+    where
+      go : (0 < n) ⊎ (n ≤ 0) → Steady f g n → Steady f g i
+      go (inl l) w = let q : n ≡ i = omega arith in subst (λ (z : ℕ). Steady f g z) q w
+      go (inr l) w = let q : 1 ≡ i = omega arith in subst (λ (z : ℕ). Steady f g z) q steady-starts
 
 -- the place of an id among ids that rise by one step: as often as the step goes into its distance from the first
 pub even-place : (d top step : ℕ) → 0 < top → d * top / (top * step) ≡ d / step

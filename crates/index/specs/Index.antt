@@ -10,6 +10,7 @@ use lib.ListN.{length, getD, take, drop}
 use lib.Seq.{ext-getD, getD-drop}
 use Rattle.index.specs.Order.{idOf, rowAt, Before, Rises, Steady, Says, ordered, less-or, before-once, before-self}
 use Rattle.index.specs.declared.Ids.{Ids}
+use Rattle.index.specs.declared.Spacing.{Spacing}
 
 -- the slot that row r stands in
 pub record Stands (n r : ℕ) (xs : List ℕ) : Type 0 where
@@ -60,6 +61,11 @@ pub record Built (f : ℕ → ℕ) (n : ℕ) (before after : List ℕ) (b : Ids)
   pub distinct : Says (b .distinct) (Rises f (rowAt (b .direct) after) n)
   pub even : Says (b .even) (Steady f (rowAt (b .direct) after) n)
   pub shift : IsShift (b .last - b .first) n (b .shift)
+
+-- what is found of the ids along n slots: whether they rise, and whether by one step
+pub record Spaced (f g : ℕ → ℕ) (n : ℕ) (r : Spacing) : Type 0 where
+  pub rises : Says (r .rises) (Rises f g n)
+  pub even : Says (r .even) (Steady f g n)
 
 -- the numbers that stand beside n slots, with what was found of the ids
 pub record Beside (rows slots : List ℕ) (n : ℕ) (filed single level : Bool) (b : Ids) : Type 0 where
