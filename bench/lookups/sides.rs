@@ -239,10 +239,27 @@ impl Table {
     /// The search of crates/index/specs/Search.antt, with the lines that it touches.
     pub fn counted(&self, id: u32, lines: &mut Lines) -> Option<usize> {
         let mut seen = Seen::default();
-        let end = self.end_of(u64::from(id), &mut seen);
-        let found = (end > 0).then(|| self.row_at(end - 1, &mut seen)).filter(|&r| self.id_at(r, &mut seen) == id);
+        let found = self.first_row(id, &mut seen).filter(|&r| self.stands(r, id, &mut seen)).or_else(|| {
+            let end = self.end_of(u64::from(id), &mut seen);
+            (end > 0).then(|| self.row_at(end - 1, &mut seen)).filter(|&r| self.stands(r, id, &mut seen))
+        });
         lines.add(&seen);
         found
+    }
+
+    fn stands(&self, row: usize, id: u32, seen: &mut Seen) -> bool {
+        row < self.slots.len && self.id_at(row, seen) == id
+    }
+
+    /// The row to look at first, where ids are dense: as far from the first as the id is from the first id.
+    fn first_row(&self, id: u32, seen: &mut Seen) -> Option<usize> {
+        let [_, first, _, flags] = self.beside;
+        let dense = self.distinct() && flags / 8 == 0 && first <= u64::from(id);
+        let far = dense.then(|| (u64::from(id) - first) as usize)?;
+        if !self.direct() && self.slots.len <= far {
+            return Some(0);
+        }
+        Some(self.row_at(far, seen))
     }
 
     /// Where the slots that hold ids up to this one end: all, none, by the step, by the guide, or by the search through all.

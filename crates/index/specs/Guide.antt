@@ -9,13 +9,13 @@ use native.Mathlib.Nat.{pow-suc, pow-le-pow-right, mul-le-mul, mul-div-cancel, d
 use lib.Dec.{ltb, leb, eqb}
 use lib.ListN.{length, getD, set, length-set}
 use lib.Seq.{getD-set-same, getD-set-other}
-use borrow.Author.Tests.{lt-ltb, le-ltb, le-leb, lt-leb, eqb-true, eqb-false}
+use borrow.Author.Tests.{lt-ltb, le-ltb, le-leb, lt-leb, ltb-true, ltb-false, eqb-true, eqb-false}
 use Rattle.lex.specs.Byte.{pick}
 use Rattle.lex.specs.Walk.{turned}
-use Rattle.index.specs.Order.{Rises, Steady, stepOf, Says, ordered, less-or}
+use Rattle.index.specs.Order.{rowAt, tableRoom, Rises, Steady, stepOf, Says, ordered, less-or}
 use Rattle.index.specs.Index.{Starts, IsShift, Passed}
 use Rattle.index.specs.IndexRight.{rises-far}
-use Rattle.index.specs.Search.{Bracket, bracket, looked, ended, opening, startAt, wide, ranged, among, rangeEnd, guideEnd, evenEnd, endOf}
+use Rattle.index.specs.Search.{Bracket, bracket, looked, ended, opening, startAt, wide, ranged, among, rangeEnd, guideEnd, evenEnd, endOf, firstRow}
 use Rattle.index.specs.declared.Ids.{Ids}
 
 -- a range has ids
@@ -321,3 +321,42 @@ module _ (k : ℕ) (b : Ids) (slots : List ℕ) (g : ℕ → ℕ) (n : ℕ) wher
 
   pub end-whole : (r hi : ℕ) → k < b .last → b .first ≤ k → b .even ≡ false → b .direct ≡ false → hi ≡ n - 1 → r ≡ ended k (b .distinct) g (bracket 1 hi (b .first) (b .last) 6) → r ≡ endOf k b slots g n
   end-whole r hi h l e d f q = q ∙ ap (λ (z : ℕ). ended k (b .distinct) g (bracket 1 z (b .first) (b .last) 6)) f ∙ rw (lt-leb (b .last) k h, le-ltb k (b .first) l, e, d) refl
+
+-- a row is one of those that the index speaks of where it is below each of the bounds
+module _ (rows slots count r : ℕ) where
+  pub room-test : (((ltb r count && ltb r slots) && ltb r 1073741824) && ltb (r * 6 + 5) rows) ≡ ltb r (tableRoom rows slots count)
+  room-test = go (ltb r count) (ltb r slots) (ltb r 1073741824) (ltb (r * 6 + 5) rows) refl refl refl refl
+    where
+      go : (s t u v : Bool) → ltb r count ≡ s → ltb r slots ≡ t → ltb r 1073741824 ≡ u → ltb (r * 6 + 5) rows ≡ v → (((s && t) && u) && v) ≡ ltb r (tableRoom rows slots count)
+      go true true true true a b c d =
+          let h = ltb-true r count a in
+          let i = ltb-true r slots b in
+          let j = ltb-true r 1073741824 c in
+          let k = ltb-true (r * 6 + 5) rows d in
+          sym (lt-ltb r (tableRoom rows slots count) (omega (arith, h, i, j, k)))
+      go true true true false a b c d = let h = ltb-false (r * 6 + 5) rows d in sym (le-ltb r (tableRoom rows slots count) (omega (arith, h)))
+      go true true false v a b c d = let h = ltb-false r 1073741824 c in sym (le-ltb r (tableRoom rows slots count) (omega (arith, h)))
+      go true false u v a b c d = let h = ltb-false r slots b in sym (le-ltb r (tableRoom rows slots count) (omega (arith, h)))
+      go false t u v a b c d = let h = ltb-false r count a in sym (le-ltb r (tableRoom rows slots count) (omega (arith, h)))
+
+  -- the table has it then
+  pub room-holds : (((ltb r count && ltb r slots) && ltb r 1073741824) && ltb (r * 6 + 5) rows) ≡ true → r * 6 < rows
+  room-holds e = let h = ltb-true r (tableRoom rows slots count) (sym room-test ∙ e) in omega (arith, h)
+
+  -- and it stands there where it has the id
+  pub room-yes : (x : Bool) → (((ltb r count && ltb r slots) && ltb r 1073741824) && ltb (r * 6 + 5) rows) ≡ true → x ≡ (ltb r (tableRoom rows slots count) && x)
+  room-yes x e = rw (sym room-test ∙ e) refl
+
+  pub room-no : (x : Bool) → (((ltb r count && ltb r slots) && ltb r 1073741824) && ltb (r * 6 + 5) rows) ≡ false → false ≡ (ltb r (tableRoom rows slots count) && x)
+  room-no x e = rw (sym room-test ∙ e) refl
+
+-- the row to look at first, by its tests
+module _ (k : ℕ) (b : Ids) (slots : List ℕ) where
+  pub first-below : k < b .first → 4294967295 ≡ firstRow slots b k
+  first-below h = rw (lt-ltb k (b .first) h) refl
+
+  pub first-dense : (r : ℕ) → b .first ≤ k → (b .distinct && eqb (b .shift) 0) ≡ true → r ≡ rowAt (b .direct) slots (k - b .first) → r ≡ firstRow slots b k
+  first-dense r h e q = q ∙ rw (le-ltb k (b .first) h, e) refl
+
+  pub first-none : b .first ≤ k → (b .distinct && eqb (b .shift) 0) ≡ false → 4294967295 ≡ firstRow slots b k
+  first-none h e = rw (le-ltb k (b .first) h, e) refl

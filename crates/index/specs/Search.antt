@@ -115,14 +115,28 @@ evenEnd k n first last = (k - first) * (n - 1) / (last - first) + 1
 abbrev pub endOf : ℕ → Ids → List ℕ → (ℕ → ℕ) → ℕ → ℕ
 endOf k b slots g n = pick (leb (b .last) k) n (pick (ltb k (b .first)) 0 (pick (b .even) (evenEnd k n (b .first) (b .last)) (pick (b .direct) (guideEnd k (b .distinct) g slots n (b .first) (b .last) (b .shift)) (ended k (b .distinct) g (opening n (b .first) (b .last))))))
 
+-- row r is one of n, and has the id sought
+abbrev pub standing : List ℕ → ℕ → ℕ → ℕ → Bool
+standing rows n r k = ltb r n && eqb (idOf rows r) k
+
 -- the row before an end, where the table has it and its id is the one sought
 abbrev pub servedOf : List ℕ → List ℕ → Bool → ℕ → ℕ → ℕ → Option ℕ
-servedOf rows slots direct n k e = pick (eqb e 0) none (pick (ltb (rowAt direct slots (e - 1)) n && eqb (idOf rows (rowAt direct slots (e - 1))) k) (some (rowAt direct slots (e - 1))) none)
+servedOf rows slots direct n k e = pick (eqb e 0) none (pick (standing rows n (rowAt direct slots (e - 1)) k) (some (rowAt direct slots (e - 1))) none)
 
--- what a search answers, for any slots and any numbers beside them
-abbrev pub searched : List ℕ → List ℕ → Ids → ℕ → Option ℕ
-searched rows slots b k =
-    servedOf rows slots (b .direct) n k (endOf k b slots (λ i. idOf rows (rowAt (b .direct) slots i)) n)
+-- what the search through brackets answers
+abbrev pub sought : List ℕ → List ℕ → Ids → ℕ → Option ℕ
+sought rows slots b k = servedOf rows slots (b .direct) n k (endOf k b slots (λ i. idOf rows (rowAt (b .direct) slots i)) n)
   where
     n : ℕ
     n = tableRoom (length rows) (length slots) (b .count)
+
+-- the row to look at first: no id stands twice and each range has one id, so that ids are dense and an id's slot is as far from the first
+-- as it is from the first id; else a number that no row has
+abbrev pub firstRow : List ℕ → Ids → ℕ → ℕ
+firstRow slots b k = pick (ltb k (b .first)) 4294967295 (pick (b .distinct && eqb (b .shift) 0) (rowAt (b .direct) slots (k - b .first)) 4294967295)
+
+-- what a search answers, for any slots and any numbers beside them: the row that is looked at first, where it has the id, else what is
+-- sought
+abbrev pub searched : List ℕ → List ℕ → Ids → ℕ → Option ℕ
+searched rows slots b k =
+    pick (standing rows (tableRoom (length rows) (length slots) (b .count)) (firstRow slots b k) k) (some (firstRow slots b k)) (sought rows slots b k)

@@ -18,7 +18,7 @@ use Rattle.index.specs.Lookup.{lookupOf, LookupForm, IsLast, Missing, lo
 use Rattle.index.specs.Index.{Stands, IsIndex, Starts, Guides, Held, Built}
 use Rattle.index.specs.IndexRight.{rises-far, direct-index, upTo-at}
 use Rattle.index.specs.Sort.{upTo}
-use Rattle.index.specs.Search.{Bracket, bracket, probeOf, narrowed, looked, turnAt, turn, endFrom, ended, opening, startAt, wide, ranged, among, guideEnd, evenEnd, endOf, servedOf, searched}
+use Rattle.index.specs.Search.{Bracket, bracket, probeOf, narrowed, looked, turnAt, turn, endFrom, ended, opening, startAt, wide, ranged, among, guideEnd, evenEnd, endOf, standing, servedOf, sought, firstRow, searched}
 use Rattle.index.specs.Laws.{probe-low, probe-high}
 use Rattle.index.specs.Guide.{wide-pos, range-low, range-high, range-far, range-most, among-low, among-high, share-most, start-in, start-out, steady-at, even-place}
 use Rattle.index.specs.declared.Ids.{Ids}
@@ -504,18 +504,100 @@ built-right rows old slots n k b h = go (less-or 0 n)
         empty : (e : ℕ → ℕ) (j : ℕ) → none ≡ lookupOf e 0 j
         empty e j = sym (lookup-only e 0 j none (λ r u v. absurd (omega arith)))
 
+-- where no id stands twice, rows of one id are one row
+one-row : (f : ℕ → ℕ) (n : ℕ) (old slots : List ℕ) (b : Ids) → Built f n old slots b → b .distinct ≡ true → (i j : ℕ) → i < n → j < n → f i ≡ f j → i ≡ j
+one-row f n old slots b h d i j a c e = go (s .index .whole i a) (s .index .whole j c)
+  where
+    s : Sorts f n slots (b .direct)
+    s = sorts f n old slots b h
+
+    g : ℕ → ℕ
+    g = rowAt (b .direct) slots
+
+    rises : Rises f g n
+    rises = subst (λ (t : Bool). Says t (Rises f (rowAt (b .direct) slots) n)) d (h .distinct)
+
+    strict : (u v : ℕ) → u < v → v < n → f (g u) < f (g v)
+    strict u v l o = let q : u + suc (v - u - 1) ≡ v = omega arith in subst (λ (z : ℕ). f (g u) < f (g z)) q (rises-far f g n rises u (v - u - 1) (omega arith))
+
+    go : Stands n i (s .list) → Stands n j (s .list) → i ≡ j
+    go p q = by (ordered (p .slot) (q .slot))
+      where
+        x : g (p .slot) ≡ i
+        x = s .same (p .slot) (p .inside) ∙ p .holds
+
+        y : g (q .slot) ≡ j
+        y = s .same (q .slot) (q .inside) ∙ q .holds
+
+        same : f (g (p .slot)) ≡ f (g (q .slot))
+        same = ap f x ∙ e ∙ sym (ap f y)
+
+        by : (p .slot < q .slot) ⊎ ((p .slot ≡ q .slot) ⊎ (q .slot < p .slot)) → i ≡ j
+        by (inl l) = let o = strict (p .slot) (q .slot) l (q .inside) in absurd (omega (arith, o, same))
+        by (inr (inl l)) = sym x ∙ ap g l ∙ y
+        by (inr (inr l)) = let o = strict (q .slot) (p .slot) l (p .inside) in absurd (omega (arith, o, same))
+
+-- the row that is looked at first, where it has the id, is the map's
+first-right : (rows old slots : List ℕ) (n k : ℕ) (b : Ids) → n ≤ 1073741824 → Built (idOf rows) n old slots b → firstRow slots b k < n → idOf rows (firstRow slots b k) ≡ k → some (firstRow slots b k) ≡ lookupOf (idOf rows) n k
+first-right rows old slots n k b m h l e = sym (lookup-only (idOf rows) n k (some (firstRow slots b k)) (record { row = l; named = e; last = λ j a c d. let q = one-row (idOf rows) n old slots b h single (firstRow slots b k) j l c (e ∙ sym d) in omega arith }))
+  where
+    single : b .distinct ≡ true
+    single = go (ltb k (b .first)) (b .distinct) (eqb (b .shift) 0) refl refl refl
+      where
+        outside : firstRow slots b k ≡ 4294967295 → b .distinct ≡ true
+        outside q = absurd (omega (arith, q, l, m))
+
+        go : (s t u : Bool) → ltb k (b .first) ≡ s → b .distinct ≡ t → eqb (b .shift) 0 ≡ u → b .distinct ≡ true
+        go true t u p q r = outside (rw p refl)
+        go false true u p q r = q
+        go false false u p q r = outside (rw (p, q) refl)
+
 -- "Lookup of an id answers like a map written to in file order": `get` over what `build` left
 pub get-right : (rows old slots : List ℕ) (count k : ℕ) (b : Ids) → Built (idOf rows) (tableRoom (length rows) (length old) count) old slots b → searched rows slots b k ≡ lookupOf (idOf rows) (tableRoom (length rows) (length old) count) k
-get-right rows old slots count k b h =
-    let s : length slots ≡ length old = h .size in
-    let c : b .count ≡ tableRoom (length rows) (length old) count = h .count in
-    let q : tableRoom (length rows) (length slots) (b .count) ≡ tableRoom (length rows) (length old) count = omega arith in
-    ap (λ (z : ℕ). servedOf rows slots (b .direct) z k (endOf k b slots (λ i. idOf rows (rowAt (b .direct) slots i)) z)) q
-    ∙ built-right rows old slots (tableRoom (length rows) (length old) count) k b h
+get-right rows old slots count k b h = go (ltb (firstRow slots b k) m) (eqb (idOf rows (firstRow slots b k)) k) refl refl
+  where
+    n : ℕ
+    n = tableRoom (length rows) (length old) count
+
+    m : ℕ
+    m = tableRoom (length rows) (length slots) (b .count)
+
+    q : m ≡ n
+    q = let s : length slots ≡ length old = h .size in let c : b .count ≡ tableRoom (length rows) (length old) count = h .count in omega (arith, s, c)
+
+    found : sought rows slots b k ≡ lookupOf (idOf rows) n k
+    found = ap (λ (z : ℕ). servedOf rows slots (b .direct) z k (endOf k b slots (λ i. idOf rows (rowAt (b .direct) slots i)) z)) q ∙ built-right rows old slots n k b h
+
+    go : (s t : Bool) → ltb (firstRow slots b k) m ≡ s → eqb (idOf rows (firstRow slots b k)) k ≡ t → pick (s && t) (some (firstRow slots b k)) (sought rows slots b k) ≡ lookupOf (idOf rows) n k
+    go true true e f = first-right rows old slots n k b (omega arith) h (subst (λ (z : ℕ). firstRow slots b k < z) q (ltb-true (firstRow slots b k) m e)) (eqb-true (idOf rows (firstRow slots b k)) k f)
+    go true false e f = found
+    go false t e f = found
 
 -- whatever the slots and the numbers beside them, what is served lies in the table and has the id
 pub get-safe : (rows slots : List ℕ) (b : Ids) (k r : ℕ) → searched rows slots b k ≡ some r → (r < tableRoom (length rows) (length slots) (b .count)) × (idOf rows r ≡ k)
-get-safe rows slots b k r e = served-safe rows slots (b .direct) (tableRoom (length rows) (length slots) (b .count)) k (endOf k b slots (λ i. idOf rows (rowAt (b .direct) slots i)) (tableRoom (length rows) (length slots) (b .count))) r e
+get-safe rows slots b k r = go (ltb (firstRow slots b k) n) (eqb (idOf rows (firstRow slots b k)) k) refl refl
+  where
+    n : ℕ
+    n = tableRoom (length rows) (length slots) (b .count)
+
+    found : sought rows slots b k ≡ some r → (r < n) × (idOf rows r ≡ k)
+    found e = served-safe rows slots (b .direct) n k (endOf k b slots (λ i. idOf rows (rowAt (b .direct) slots i)) n) r e
+
+    go : (s t : Bool) → ltb (firstRow slots b k) n ≡ s → eqb (idOf rows (firstRow slots b k)) k ≡ t → pick (s && t) (some (firstRow slots b k)) (sought rows slots b k) ≡ some r → (r < n) × (idOf rows r ≡ k)
+    go true true a c d =
+        let q : firstRow slots b k ≡ r = cc in
+        (subst (λ (z : ℕ). z < n) q (ltb-true (firstRow slots b k) n a), subst (λ (z : ℕ). idOf rows z ≡ k) q (eqb-true (idOf rows (firstRow slots b k)) k c))
+    go true false a c d = found d
+    go false t a c d = found d
+
+module _ (rows slots : List ℕ) (b : Ids) (k : ℕ) where
+  -- the row that is looked at first has the id
+  pub get-first : (r : ℕ) → r ≡ firstRow slots b k → (t : Bool) → t ≡ standing rows (tableRoom (length rows) (length slots) (b .count)) r k → t ≡ true → some r ≡ searched rows slots b k
+  get-first r e t q h = subst (λ (z : ℕ). some r ≡ pick (standing rows (tableRoom (length rows) (length slots) (b .count)) z k) (some z) (sought rows slots b k)) e (rw (sym q ∙ h) refl)
+
+  -- it has not
+  pub get-later : (r : ℕ) → r ≡ firstRow slots b k → (t : Bool) → t ≡ standing rows (tableRoom (length rows) (length slots) (b .count)) r k → t ≡ false → sought rows slots b k ≡ searched rows slots b k
+  get-later r e t q h = subst (λ (z : ℕ). sought rows slots b k ≡ pick (standing rows (tableRoom (length rows) (length slots) (b .count)) z k) (some z) (sought rows slots b k)) e (rw (sym q ∙ h) refl)
 
 module _ (rows slots : List ℕ) (b : Ids) (k n e : ℕ) (room : n ≡ tableRoom (length rows) (length slots) (b .count)) (end : e ≡ endOf k b slots (λ i. idOf rows (rowAt (b .direct) slots i)) n) where
   -- an end is at most one past the slots
@@ -523,25 +605,22 @@ module _ (rows slots : List ℕ) (b : Ids) (k n e : ℕ) (room : n ≡ tableRoom
   end-small = let q = end-of-within k b slots (λ i. idOf rows (rowAt (b .direct) slots i)) n in omega (arith, room, end, q)
 
   -- the code's row count and end are the search's
-  searched-is : servedOf rows slots (b .direct) n k e ≡ searched rows slots b k
-  searched-is = ap (λ (z : ℕ). servedOf rows slots (b .direct) n k z) end ∙ ap (λ (z : ℕ). servedOf rows slots (b .direct) z k (endOf k b slots (λ i. idOf rows (rowAt (b .direct) slots i)) z)) room
+  sought-is : servedOf rows slots (b .direct) (tableRoom (length rows) (length slots) (b .count)) k e ≡ sought rows slots b k
+  sought-is = ap (λ (z : ℕ). servedOf rows slots (b .direct) (tableRoom (length rows) (length slots) (b .count)) k z) (end ∙ ap (λ (z : ℕ). endOf k b slots (λ i. idOf rows (rowAt (b .direct) slots i)) z) room)
 
   -- no slot holds an id up to the one sought
-  pub get-none : e ≡ 0 → none ≡ searched rows slots b k
-  get-none h = sym (rw (eq-eqb e 0 h) refl) ∙ searched-is
+  pub seek-none : e ≡ 0 → none ≡ sought rows slots b k
+  seek-none h = sym (rw (eq-eqb e 0 h) refl) ∙ sought-is
 
-  module _ (r : ℕ) (row : r ≡ rowAt (b .direct) slots (e - 1)) (some-slot : e ≡ 0 → ⊥) where
-    -- the last that does holds a row with it
-    pub get-hit : r < n → idOf rows r ≡ k → some r ≡ searched rows slots b k
-    get-hit h d = go (rowAt (b .direct) slots (e - 1)) row refl ∙ searched-is
-      where
-        go : (q : ℕ) → r ≡ q → rowAt (b .direct) slots (e - 1) ≡ q → some r ≡ servedOf rows slots (b .direct) n k e
-        go q p s = let t : rowAt (b .direct) slots (e - 1) ≡ r = s ∙ sym p in rw (ne-eqb e 0 some-slot, t, lt-ltb r n h, eq-eqb (idOf rows r) k d) refl
+  module _ (r : ℕ) (row : r ≡ rowAt (b .direct) slots (e - 1)) (some-slot : e ≡ 0 → ⊥) (t : Bool) (told : t ≡ standing rows (tableRoom (length rows) (length slots) (b .count)) r k) where
+    -- the last that does holds a row with it, or not
+    served : pick t (some r) none ≡ sought rows slots b k
+    served =
+        subst (λ (u : Bool). pick u (some r) none ≡ sought rows slots b k) (sym told)
+        (subst (λ (z : ℕ). pick (standing rows (tableRoom (length rows) (length slots) (b .count)) z k) (some z) none ≡ sought rows slots b k) (sym row) (sym (rw (ne-eqb e 0 some-slot) refl) ∙ sought-is))
 
-    -- or another id
-    pub get-other : r < n → (idOf rows r ≡ k → ⊥) → none ≡ searched rows slots b k
-    get-other h d = let t : rowAt (b .direct) slots (e - 1) ≡ r = sym row in sym (rw (ne-eqb e 0 some-slot, t, lt-ltb r n h, ne-eqb (idOf rows r) k d) refl) ∙ searched-is
+    pub seek-hit : t ≡ true → some r ≡ sought rows slots b k
+    seek-hit h = rw h at served
 
-    -- or a row outside the table
-    pub get-outside : n ≤ r → none ≡ searched rows slots b k
-    get-outside h = let t : rowAt (b .direct) slots (e - 1) ≡ r = sym row in sym (rw (ne-eqb e 0 some-slot, t, le-ltb r n h) refl) ∙ searched-is
+    pub seek-other : t ≡ false → none ≡ sought rows slots b k
+    seek-other h = rw h at served
