@@ -2,6 +2,7 @@
 //! lines of memory that it touches.
 use cad_step::StepFile;
 use cad_step::scan::Scan;
+use std::cmp::Ordering;
 
 unsafe extern "C" {
     fn hooflift_scan(
@@ -38,7 +39,9 @@ unsafe extern "C" {
 }
 
 const NONE: u32 = u32::MAX;
+/// Guided probes of a search through all slots, and of one that follows the guide's first look.
 const GUIDED: usize = 6;
+const AFTER: usize = 3;
 
 /// The table as the original's `from_bytes` makes it, without the rest.
 pub fn dense(found: &Scan) -> Vec<u32> {
@@ -195,15 +198,35 @@ impl Table {
         self.slots.len as u64 * 4 + 32
     }
 
+    /// What the build found of the ids.
+    fn direct(&self) -> bool {
+        self.beside[3] % 2 == 1
+    }
+
+    fn distinct(&self) -> bool {
+        self.beside[3] / 2 % 2 == 1
+    }
+
+    fn even(&self) -> bool {
+        self.beside[3] / 4 % 2 == 1
+    }
+
     pub fn order(&self) -> &'static str {
-        ["unsorted, repeated", "direct", "unsorted", "direct"][self.beside[3] as usize]
+        match (self.direct(), self.distinct(), self.even()) {
+            (true, _, true) => "direct, one step",
+            (true, _, false) => "direct",
+            (false, _, true) => "unsorted, one step",
+            (false, true, false) => "unsorted",
+            (false, false, false) => "unsorted, repeated",
+        }
     }
 
     /// The row in a slot, as crates/index reads it.
     fn row_at(&self, slot: usize, seen: &mut Seen) -> usize {
-        if self.beside[3] % 2 == 1 {
-            return slot;
-        }
+        if self.direct() { slot } else { self.slot(slot, seen) }
+    }
+
+    fn slot(&self, slot: usize, seen: &mut Seen) -> usize {
         seen.touch(1 << 40, slot * 4);
         self.slots.numbers()[slot] as usize
     }
@@ -216,25 +239,76 @@ impl Table {
     /// The search of crates/index/specs/Search.antt, with the lines that it touches.
     pub fn counted(&self, id: u32, lines: &mut Lines) -> Option<usize> {
         let mut seen = Seen::default();
-        let [_, first, last, _] = self.beside;
-        let end = if last <= u64::from(id) {
-            self.slots.len
-        } else if u64::from(id) < first {
-            0
-        } else {
-            self.end_from(id, &mut seen)
-        };
-        let found = (end > 0).then(|| self.row_at(end - 1, &mut seen)).filter(|&r| self.id_at(r, &mut seen) == id);
+        let found = self.first_row(id, &mut seen).filter(|&r| self.stands(r, id, &mut seen)).or_else(|| {
+            let end = self.end_of(u64::from(id), &mut seen);
+            (end > 0).then(|| self.row_at(end - 1, &mut seen)).filter(|&r| self.stands(r, id, &mut seen))
+        });
         lines.add(&seen);
         found
     }
 
-    /// Where the slots that hold ids up to this one end: even guesses, one step from an end, and then the middle.
-    fn end_from(&self, id: u32, seen: &mut Seen) -> usize {
-        let k = u64::from(id);
-        let [_, mut under, mut over, flags] = self.beside;
-        let (mut lo, mut hi) = (1, self.slots.len - 1);
-        let mut guided = GUIDED;
+    fn stands(&self, row: usize, id: u32, seen: &mut Seen) -> bool {
+        row < self.slots.len && self.id_at(row, seen) == id
+    }
+
+    /// The row to look at first, where ids are dense: as far from the first as the id is from the first id.
+    fn first_row(&self, id: u32, seen: &mut Seen) -> Option<usize> {
+        let [_, first, _, flags] = self.beside;
+        let dense = self.distinct() && flags / 8 == 0 && first <= u64::from(id);
+        let far = dense.then(|| (u64::from(id) - first) as usize)?;
+        if !self.direct() && self.slots.len <= far {
+            return Some(0);
+        }
+        Some(self.row_at(far, seen))
+    }
+
+    /// Where the slots that hold ids up to this one end: all, none, by the step, by the guide, or by the search through all.
+    fn end_of(&self, k: u64, seen: &mut Seen) -> usize {
+        let n = self.slots.len;
+        let [_, first, last, _] = self.beside;
+        if last <= k {
+            n
+        } else if k < first {
+            0
+        } else if self.even() {
+            ((k - first) * (n as u64 - 1) / (last - first)) as usize + 1
+        } else if self.direct() {
+            self.guide_end(k, seen)
+        } else {
+            self.end_from(k, (1, n - 1), (first, last), GUIDED, seen)
+        }
+    }
+
+    /// By the guide: one look where the id would stand if its range were filled evenly, and the search in what is left of the range.
+    fn guide_end(&self, k: u64, seen: &mut Seen) -> usize {
+        let n = self.slots.len;
+        let [_, first, last, flags] = self.beside;
+        let shift = flags / 8;
+        let range = (k - first) >> shift;
+        let (under, over) = (first + (range << shift), (first + ((range + 1) << shift)).min(last));
+        let lo = self.start_at(range as usize, seen).max(1);
+        let hi = self.start_at(range as usize + 1, seen).min(n - 1);
+        if hi <= lo {
+            return lo;
+        }
+        let m = lo + (((k - under) * (hi - lo) as u64) >> shift) as usize;
+        seen.looks += 1;
+        let there = u64::from(self.id_at(m, seen));
+        match there.cmp(&k) {
+            Ordering::Equal => m + 1,
+            Ordering::Less => self.end_from(k, (m + 1, hi), (there, over), AFTER, seen),
+            Ordering::Greater => self.end_from(k, (lo, m), (under, there), AFTER, seen),
+        }
+    }
+
+    fn start_at(&self, range: usize, seen: &mut Seen) -> usize {
+        if range < self.slots.len { self.slot(range, seen) } else { self.slots.len }
+    }
+
+    /// In a bracket of slots, with the ids at its ends: even guesses, one step from an end, and then the middle.
+    fn end_from(&self, k: u64, slots: (usize, usize), ids: (u64, u64), guides: usize, seen: &mut Seen) -> usize {
+        let ((mut lo, mut hi), (mut under, mut over)) = (slots, ids);
+        let mut guided = guides;
         while lo < hi {
             let guess = match guided {
                 0 => lo + (hi - lo) / 2,
@@ -246,7 +320,7 @@ impl Table {
             seen.looks += 1;
             let row = self.row_at(m, seen);
             let there = u64::from(self.id_at(row, seen));
-            if flags >= 2 && there == k {
+            if self.distinct() && there == k {
                 return m + 1;
             }
             if there <= k {

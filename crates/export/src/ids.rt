@@ -5,18 +5,22 @@ ghost use mathlib.Core.List.{[], _∷_};
 ghost use lib.ListN.{length};
 ghost use lib.Seq.{sets};
 ghost use Rattle.index.specs.Search.{searched};
-ghost use Rattle.export.specs.Ids.{flagsOf, idsBy, indexCode, Indexed, rowNumber};
+ghost use Rattle.export.specs.Ids.{bit, flagsOf, idsBy, indexCode, Indexed, rowNumber};
 use index::Found;
 use index::Ids;
 
-// What was found of the ids, as one number.
-fn flags_of(direct: bool, distinct: bool) -> u64
-    ensures { λ n. ⌜ n ≡ flagsOf direct distinct ⌝ }
+// 1 where something was found.
+fn bit_of(found: bool) -> u64
+    ensures { λ n. ⌜ n ≡ bit found ⌝ }
 {
-    if direct {
-        return if distinct { 3 } else { 1 };
-    }
-    if distinct { 2 } else { 0 }
+    if found { 1 } else { 0 }
+}
+
+// What was found of the ids and the shift, as one number.
+fn flags_of(direct: bool, distinct: bool, even: bool, shift: u32) -> u64
+    ensures { λ n. ⌜ n ≡ flagsOf direct distinct even shift ⌝ }
+{
+    bit_of(direct) + 2 * bit_of(distinct) + 4 * bit_of(even) + 8 * shift as u64
 }
 
 // Puts four numbers at the start of `ids`.
@@ -31,8 +35,8 @@ fn put_ids(ids: &mut [u64], count: u64, first: u64, last: u64, flags: u64)
 }
 
 // Builds the index of the first `count` rows in the slots: 0, with what stands beside them in the first four of `ids` (the count,
-// the least id, the greatest, and 1 where ids rise in file order plus 2 where none stands twice); or 16 where `ids` has no room
-// for four, and everything as it was.
+// the least id, the greatest, and 1 where ids rise in file order plus 2 where none stands twice plus 4 where they rise by one step
+// plus 8 times the shift); or 16 where `ids` has no room for four, and everything as it was.
 #[no_mangle]
 pub extern "C" fn hooflift_index(
     rows: &[u32],
@@ -52,7 +56,7 @@ pub extern "C" fn hooflift_index(
         b.count as u64,
         b.first as u64,
         b.last as u64,
-        flags_of(b.direct, b.distinct),
+        flags_of(b.direct, b.distinct, b.even, b.shift),
     );
     0
 }
@@ -76,6 +80,8 @@ pub extern "C" fn hooflift_get(
         last,
         direct: flags % 2 == 1,
         distinct: flags / 2 % 2 == 1,
+        even: flags / 4 % 2 == 1,
+        shift: flags / 8,
     };
     match index::get(rows, slots, b, id) {
         Found::At(r) => r,

@@ -1,6 +1,6 @@
 -- The id index: what the slots hold, and what stands beside them.
 -- Assumes nothing.
-use Prim.Native.Nat.{ℕ, zero, suc, _+_, _-_, _≤_, _<_}
+use Prim.Native.Nat.{ℕ, zero, suc, _+_, _-_, _*_, _/_, _^_, _≤_, _<_, max}
 use mathlib.Core.Path.{_≡_, refl, sym, _∙_, ap, subst}
 use mathlib.Core.Bool.{Bool, true, false}
 use mathlib.Core.List.{List, [], _∷_}
@@ -8,8 +8,9 @@ use mathlib.Core.Logic.{_⊎_, inl, inr}
 use native.Mathlib.Omega.{arith}
 use lib.ListN.{length, getD, take, drop}
 use lib.Seq.{ext-getD, getD-drop}
-use Rattle.index.specs.Order.{idOf, rowAt, Before, Rises, Says, ordered, less-or, before-once, before-self}
+use Rattle.index.specs.Order.{idOf, rowAt, Before, Rises, Steady, Says, ordered, less-or, before-once, before-self}
 use Rattle.index.specs.declared.Ids.{Ids}
+use Rattle.index.specs.declared.Spacing.{Spacing}
 
 -- the slot that row r stands in
 pub record Stands (n r : ℕ) (xs : List ℕ) : Type 0 where
@@ -23,10 +24,34 @@ pub record IsIndex (f : ℕ → ℕ) (n : ℕ) (xs : List ℕ) : Type 0 where
   pub whole : (r : ℕ) → r < n → Stands n r xs
   pub order : (i j : ℕ) → i < j → j < n → Before f (getD xs i 0) (getD xs j 0)
 
--- what `build` leaves for n rows: the index in the first n slots, the slots past it as they were, and beside them how many rows
--- there are, the ids of the first slot and of the last, whether ids rise in file order, and whether they rise along the slots
+-- in rows whose ids rise, those with ids from x on begin at row c: the rows before it have lesser ids, it and the rows behind it have not
+pub record Starts (f : ℕ → ℕ) (n x c : ℕ) : Type 0 where
+  pub inside : c ≤ n
+  pub below : (i : ℕ) → i < c → f i < x
+  pub from : (i : ℕ) → c ≤ i → i < n → x ≤ f i
+
+-- the slots xs are the guide to n rows whose ids rise: slot k holds the row where the ids from first + k * 2^shift on begin, which is how
+-- many rows have lesser ids
+abbrev pub Guides : (ℕ → ℕ) → ℕ → ℕ → ℕ → List ℕ → Type 0
+Guides f n first shift xs = (k : ℕ) → k < n → Starts f n (first + k * 2 ^ shift) (getD xs k 0)
+
+-- what n slots hold: the guide where ids rise in file order, else the index
+abbrev pub Held : Bool → (ℕ → ℕ) → ℕ → ℕ → ℕ → List ℕ → Type 0
+Held true f n first shift xs = Guides f n first shift xs
+Held false f n first shift xs = IsIndex f n xs
+
+-- the shift for n rows whose ids have this span: the least by which there are not more ranges of 2^s ids than rows (than two, where
+-- there are fewer rows); ids have 32 binary digits
+pub record IsShift (span n s : ℕ) : Type 0 where
+  pub fits : span / 2 ^ s < max 2 n
+  pub least : (t : ℕ) → t < s → max 2 n ≤ span / 2 ^ t
+  pub short : s < 32
+
+-- what `build` leaves for n rows: the guide or the index in the first n slots, the slots past it as they were, and beside them how many
+-- rows there are, the least id and the greatest, whether ids rise in file order, whether they rise once sorted and whether by one
+-- step, and the shift
 pub record Built (f : ℕ → ℕ) (n : ℕ) (before after : List ℕ) (b : Ids) : Type 0 where
-  pub index : IsIndex f n after
+  pub held : Held (b .direct) f n (b .first) (b .shift) after
   pub rest : drop n after ≡ drop n before
   pub size : length after ≡ length before
   pub count : b .count ≡ n
@@ -34,10 +59,30 @@ pub record Built (f : ℕ → ℕ) (n : ℕ) (before after : List ℕ) (b : Ids)
   pub last : b .last ≡ f (rowAt (b .direct) after (n - 1))
   pub direct : Says (b .direct) (Rises f (λ i. i) n)
   pub distinct : Says (b .distinct) (Rises f (rowAt (b .direct) after) n)
+  pub even : Says (b .even) (Steady f (rowAt (b .direct) after) n)
+  pub shift : IsShift (b .last - b .first) n (b .shift)
+
+-- what is found of the ids along n slots: whether they rise, and whether by one step
+pub record Spaced (f g : ℕ → ℕ) (n : ℕ) (r : Spacing) : Type 0 where
+  pub rises : Says (r .rises) (Rises f g n)
+  pub even : Says (r .even) (Steady f g n)
 
 -- the numbers that stand beside n slots, with what was found of the ids
-abbrev pub besideOf : List ℕ → List ℕ → ℕ → Bool → Bool → Ids
-besideOf rows slots n direct distinct = record { count = n; first = idOf rows (rowAt direct slots 0); last = idOf rows (rowAt direct slots (n - 1)); direct = direct; distinct = distinct }
+pub record Beside (rows slots : List ℕ) (n : ℕ) (filed single level : Bool) (b : Ids) : Type 0 where
+  pub count : b .count ≡ n
+  pub first : b .first ≡ idOf rows (rowAt filed slots 0)
+  pub last : b .last ≡ idOf rows (rowAt filed slots (n - 1))
+  pub direct : b .direct ≡ filed
+  pub distinct : b .distinct ≡ single
+  pub even : b .even ≡ level
+  pub shift : IsShift (b .last - b .first) n (b .shift)
+
+-- rows with ids below x are passed, from row r on: e is the first that has none, or n
+pub record Passed (f : ℕ → ℕ) (r n x e : ℕ) : Type 0 where
+  pub on : r ≤ e
+  pub inside : e ≤ n
+  pub below : (i : ℕ) → r ≤ i → i < e → f i < x
+  pub from : e < n → x ≤ f e
 
 -- of two rows one stands before the other, or they are one
 sided : (f : ℕ → ℕ) (x y : ℕ) → Before f x y ⊎ ((x ≡ y) ⊎ Before f y x)
@@ -96,16 +141,60 @@ joined n xs ys l e r = ext-getD 0 xs ys l (λ i h. go i (less-or i n))
     go i (inl h) = e i h
     go i (inr h) = let q : n + (i - n) ≡ i = omega arith in ap (λ (z : ℕ). getD xs z 0) (sym q) ∙ sym (getD-drop n xs (i - n) 0) ∙ ap (λ (z : List ℕ). getD z (i - n) 0) r ∙ getD-drop n ys (i - n) 0 ∙ ap (λ (z : ℕ). getD ys z 0) q
 
+-- rows begin at one place
+pub starts-one : (f : ℕ → ℕ) (n x c d : ℕ) → Starts f n x c → Starts f n x d → c ≡ d
+starts-one f n x c d h g = go (ordered c d)
+  where
+    go : (c < d) ⊎ ((c ≡ d) ⊎ (d < c)) → c ≡ d
+    go (inl l) = let i = g .inside in let u = h .from c (omega arith) (omega arith) in let v = g .below c l in absurd (omega arith)
+    go (inr (inl e)) = e
+    go (inr (inr l)) = let i = h .inside in let u = g .from d (omega arith) (omega arith) in let v = h .below d l in absurd (omega arith)
+
+-- there is one shift
+pub shift-one : (span n s t : ℕ) → IsShift span n s → IsShift span n t → s ≡ t
+shift-one span n s t h g = go (ordered s t)
+  where
+    go : (s < t) ⊎ ((s ≡ t) ⊎ (t < s)) → s ≡ t
+    go (inl l) = let u = h .fits in let v = g .least s l in absurd (omega arith)
+    go (inr (inl e)) = e
+    go (inr (inr l)) = let u = g .fits in let v = h .least t l in absurd (omega arith)
+
 -- what `build` leaves is one list of slots
 pub built-slots-only : (f : ℕ → ℕ) (n : ℕ) (old xs ys : List ℕ) (a b : Ids) → Built f n old xs a → Built f n old ys b → xs ≡ ys
-built-slots-only f n old xs ys a b h g = joined n xs ys (h .size ∙ sym (g .size)) (index-only f n xs ys (h .index) (g .index) n (omega arith)) (h .rest ∙ sym (g .rest))
+built-slots-only f n old xs ys a b h g = joined n xs ys (h .size ∙ sym (g .size)) (slots (b .direct) (says-one (Rises f (λ i. i) n) (a .direct) (b .direct) (h .direct) (g .direct)) refl) (h .rest ∙ sym (g .rest))
+  where
+    slots : (t : Bool) → a .direct ≡ t → b .direct ≡ t → (i : ℕ) → i < n → getD xs i 0 ≡ getD ys i 0
+    slots false p q = index-only f n xs ys (subst (λ (t : Bool). Held t f n (a .first) (a .shift) xs) p (h .held)) (subst (λ (t : Bool). Held t f n (b .first) (b .shift) ys) q (g .held)) n (omega arith)
+    slots true p q = λ i l. starts-one f n (b .first + i * 2 ^ b .shift) (getD xs i 0) (getD ys i 0) (here i l) (subst (λ (t : Bool). Held t f n (b .first) (b .shift) ys) q (g .held) i l)
+      where
+        first : a .first ≡ b .first
+        first = h .first ∙ ap (λ (t : Bool). f (rowAt t xs 0)) p ∙ sym (g .first ∙ ap (λ (t : Bool). f (rowAt t ys 0)) q)
+
+        last : a .last ≡ b .last
+        last = h .last ∙ ap (λ (t : Bool). f (rowAt t xs (n - 1))) p ∙ sym (g .last ∙ ap (λ (t : Bool). f (rowAt t ys (n - 1))) q)
+
+        shift : a .shift ≡ b .shift
+        shift = shift-one (b .last - b .first) n (a .shift) (b .shift) (subst (λ (x : ℕ). IsShift (x - b .first) n (a .shift)) last (subst (λ (x : ℕ). IsShift (a .last - x) n (a .shift)) first (h .shift))) (g .shift)
+
+        here : (i : ℕ) → i < n → Starts f n (b .first + i * 2 ^ b .shift) (getD xs i 0)
+        here i l = subst (λ (x : ℕ). Starts f n (x + i * 2 ^ b .shift) (getD xs i 0)) first (subst (λ (s : ℕ). Starts f n (a .first + i * 2 ^ s) (getD xs i 0)) shift (subst (λ (t : Bool). Held t f n (a .first) (a .shift) xs) p (h .held) i l))
 
 -- and one set of numbers beside them
 pub built-only : (f : ℕ → ℕ) (n : ℕ) (old xs : List ℕ) (a b : Ids) → Built f n old xs a → Built f n old xs b → a ≡ b
 built-only f n old xs a b h g = go (says-one (Rises f (λ i. i) n) (a .direct) (b .direct) (h .direct) (g .direct))
   where
     go : a .direct ≡ b .direct → a ≡ b
-    go e = same (h .count ∙ sym (g .count)) (h .first ∙ ap (λ (d : Bool). f (rowAt d xs 0)) e ∙ sym (g .first)) (h .last ∙ ap (λ (d : Bool). f (rowAt d xs (n - 1))) e ∙ sym (g .last)) e (says-one (Rises f (rowAt (b .direct) xs) n) (a .distinct) (b .distinct) (subst (λ (d : Bool). Says (a .distinct) (Rises f (rowAt d xs) n)) e (h .distinct)) (g .distinct))
+    go e =
+        same (h .count ∙ sym (g .count)) first last e
+        (says-one (Rises f (rowAt (b .direct) xs) n) (a .distinct) (b .distinct) (subst (λ (d : Bool). Says (a .distinct) (Rises f (rowAt d xs) n)) e (h .distinct)) (g .distinct))
+        (says-one (Steady f (rowAt (b .direct) xs) n) (a .even) (b .even) (subst (λ (d : Bool). Says (a .even) (Steady f (rowAt d xs) n)) e (h .even)) (g .even))
+        (shift-one (b .last - b .first) n (a .shift) (b .shift) (subst (λ (x : ℕ). IsShift (x - b .first) n (a .shift)) last (subst (λ (x : ℕ). IsShift (a .last - x) n (a .shift)) first (h .shift))) (g .shift))
       where
-        same : a .count ≡ b .count → a .first ≡ b .first → a .last ≡ b .last → a .direct ≡ b .direct → a .distinct ≡ b .distinct → a ≡ b
-        same p q r s t = λ i. record { count = p i; first = q i; last = r i; direct = s i; distinct = t i }
+        first : a .first ≡ b .first
+        first = h .first ∙ ap (λ (d : Bool). f (rowAt d xs 0)) e ∙ sym (g .first)
+
+        last : a .last ≡ b .last
+        last = h .last ∙ ap (λ (d : Bool). f (rowAt d xs (n - 1))) e ∙ sym (g .last)
+
+        same : a .count ≡ b .count → a .first ≡ b .first → a .last ≡ b .last → a .direct ≡ b .direct → a .distinct ≡ b .distinct → a .even ≡ b .even → a .shift ≡ b .shift → a ≡ b
+        same p q r s t u v = λ i. record { count = p i; first = q i; last = r i; direct = s i; distinct = t i; even = u i; shift = v i }

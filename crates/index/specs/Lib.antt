@@ -5,6 +5,7 @@ pub mod Sort
 pub mod Search
 pub mod Laws
 pub mod IndexRight
+pub mod Guide
 pub mod SearchRight
 pub mod Looks
 pub mod Only

@@ -1,17 +1,20 @@
--- "looked up in O(log n) at worst, on any ids": how many slots a search looks at, whatever the slots hold. The six guided probes
+-- "looked up in O(log n) at worst, on any ids": how many slots' ids a search looks at, whatever the slots hold. Six guided probes at most
 -- come first; after them each look halves what is left. Assumes nothing.
-use Prim.Native.Nat.{ℕ, zero, suc, _+_, _-_, _*_, _/_, _^_, _≤_, _<_, min, max}
+use Prim.Native.Nat.{ℕ, zero, suc, _+_, _-_, _*_, _/_, _%_, _^_, _≤_, _<_, min, max}
 use mathlib.Core.Path.{_≡_, refl, sym, _∙_, ap, subst}
 use mathlib.Core.Bool.{Bool, true, false, _&&_}
+use mathlib.Core.List.{List}
 use native.Mathlib.Omega.{arith}
-use native.Mathlib.Nat.{pow-suc}
+use native.Mathlib.Nat.{pow-suc, pow-le-pow-right}
 use lib.Dec.{ltb, leb, eqb}
 use borrow.Author.Tests.{eq-eqb, le-ltb}
 use Rattle.lex.specs.Byte.{pick}
 use Rattle.lex.specs.Walk.{Turn, stop, on, turned}
-use Rattle.index.specs.Search.{Bracket, probeOf, turn, endFrom, opening}
-use Rattle.index.specs.SearchRight.{Turns, turn-by}
+use Rattle.index.specs.Search.{Bracket, probeOf, turnAt, turn, endFrom, opening, startAt, wide, ranged, among}
+use Rattle.index.specs.SearchRight.{Turns, turn-by, guide-high}
 use Rattle.index.specs.Laws.{probe-low, probe-high}
+use Rattle.index.specs.Guide.{wide-pos, among-low}
+use Rattle.index.specs.declared.Ids.{Ids}
 
 -- what follows a look: nothing where the search stops there, else the looks at what is left
 abbrev looksAfter : Turn Bracket ℕ → (Bracket → ℕ) → ℕ
@@ -22,6 +25,20 @@ looksAfter (on c) go = go c
 unfoldable pub looksFrom : ℕ → ℕ → Bool → (ℕ → ℕ) → Bracket → ℕ
 looksFrom zero k distinct g b = 0
 looksFrom (suc n) k distinct g b = pick (ltb (b .lo) (b .hi)) (1 + looksAfter (turn k distinct g b) (λ c. looksFrom n k distinct g c)) 0
+
+-- how many rows the search by the guide looks at: the one that it looks at first, and those that follow
+unfoldable pub guideLooks : ℕ → Bool → (ℕ → ℕ) → List ℕ → ℕ → ℕ → ℕ → ℕ → ℕ
+guideLooks k distinct g slots n first last shift = pick (ltb (b .lo) (b .hi)) (1 + looksAfter (turnAt k distinct g b (among k w b)) (λ c. looksFrom (c .hi) k distinct g c)) 0
+  where
+    w : ℕ
+    w = wide shift
+
+    b : Bracket
+    b = ranged slots n first last w ((k - first) / w)
+
+-- how many slots' ids a search looks at, as `Search.endOf` goes; the row that is then served is read once more
+abbrev pub looksOf : ℕ → Ids → List ℕ → (ℕ → ℕ) → ℕ → ℕ
+looksOf k b slots g n = pick (leb (b .last) k) 0 (pick (ltb k (b .first)) 0 (pick (b .even) 0 (pick (b .direct) (guideLooks k (b .distinct) g slots n (b .first) (b .last) (b .shift)) (looksFrom (n - 1) k (b .distinct) g (opening n (b .first) (b .last))))))
 
 -- t turns are enough for a bracket: its guided probes, and then as many as halve it to nothing
 abbrev Enough : ℕ → Bracket → Type 0
@@ -51,7 +68,7 @@ module _ (k : ℕ) (distinct : Bool) (g : ℕ → ℕ) where
   -- a turn leaves a bracket for which one turn fewer is enough
   enough-turn : (t : ℕ) (b : Bracket) → Enough (suc t) b → Turns (λ e. Unit {0}) (Enough t) (turn k distinct g b)
   enough-turn t b h =
-      turn-by k distinct g (λ e. Unit {0}) (Enough t) b (λ _. tt) (λ _ _ _. tt)
+      turn-by k distinct g (λ e. Unit {0}) (Enough t) b (probeOf k b) (λ _. tt) (λ _ _ _. tt)
       (λ o _. let f = less o in (f .0, f .1 .0))
       (λ o _. let f = less o in (f .0, f .1 .1))
     where
@@ -97,21 +114,72 @@ module _ (k : ℕ) (distinct : Bool) (g : ℕ → ℕ) where
       by true r = omega arith
       by false r = omega arith
 
-  -- 6 + j turns are enough for 2^j slots
-  enough-open : (j n first last : ℕ) → n ≤ 2 ^ j → Enough (6 + j) (opening n first last)
-  enough-open j n first last h =
-      let e : 6 + j - 6 ≡ j = omega arith in
-      let z : 0 < 2 ^ j = pow-pos j in
-      (omega arith, rw e (omega arith))
+  -- q + j turns are enough for fewer than 2^j slots and q guided probes
+  enough-few : (q j : ℕ) (b : Bracket) → b .guided ≤ q → b .hi - b .lo < 2 ^ j → Enough (q + j) b
+  enough-few q j b u h =
+      let p : 2 ^ j ≤ 2 ^ (q + j - b .guided) = pow-le-pow-right {n = 2} (omega arith) {i = j} {j = q + j - b .guided} (omega arith) in
+      (omega arith, omega (arith, p, h))
+
+  -- of fewer than 2^j slots, whatever they hold, a search with q guided probes looks at no more than q + j
+  few-log : (q j m : ℕ) (b : Bracket) → b .guided ≤ q → b .hi - b .lo < 2 ^ j → looksFrom m k distinct g b ≤ q + j
+  few-log q j m b u h = looks-few (q + j) m b (enough-few q j b u h)
+
+  -- and has its answer then: that of `Search.ended`, whose turns are never all needed
+  pub end-log : (q j m : ℕ) (b : Bracket) → b .guided ≤ q → b .hi - b .lo < 2 ^ j → q + j ≤ m → endFrom m k distinct g b ≡ endFrom (q + j) k distinct g b
+  end-log q j m b u h l = end-settled (q + j) m b (enough-few q j b u h) l
+
+  -- n slots without the first and the last are fewer than 2^j
+  fewer-than : (j n lo hi : ℕ) → n ≤ 2 ^ j → 1 ≤ lo → hi ≤ n - 1 → hi - lo < 2 ^ j
+  fewer-than j n lo hi h a b = let z = wide-pos j in omega (arith, h, a, b, z)
+
+  -- by the guide: one look, three guided probes, and then halving
+  guide-log : (j n first last shift : ℕ) (slots : List ℕ) → n ≤ 2 ^ j → guideLooks k distinct g slots n first last shift ≤ 4 + j
+  unfolding guideLooks
+  guide-log j n first last shift slots h = by (ltb (b .lo) (b .hi)) (after (turnAt k distinct g b m) left)
     where
-      pow-pos : (i : ℕ) → 0 < 2 ^ i
-      pow-pos zero = omega arith
-      pow-pos (suc i) = let q : 2 ^ suc i ≡ 2 ^ i * 2 = pow-suc 2 i in let r = pow-pos i in omega arith
+      w : ℕ
+      w = wide shift
 
-  -- "O(log n) at worst": of 2^j slots, whatever they hold, a search looks at no more than 6 + j
-  pub looks-log : (j n first last m : ℕ) → n ≤ 2 ^ j → looksFrom m k distinct g (opening n first last) ≤ 6 + j
-  looks-log j n first last m h = looks-few (6 + j) m (opening n first last) (enough-open j n first last h)
+      b : Bracket
+      b = ranged slots n first last w ((k - first) / w)
 
-  -- and has its answer then: that of `Search.endOf`, whose n turns are never all needed
-  pub end-log : (j n first last m : ℕ) → n ≤ 2 ^ j → 6 + j ≤ m → endFrom m k distinct g (opening n first last) ≡ endFrom (6 + j) k distinct g (opening n first last)
-  end-log j n first last m h l = end-settled (6 + j) m (opening n first last) (enough-open j n first last h) l
+      m : ℕ
+      m = among k w b
+
+      Few : Bracket → Type 0
+      Few c = (c .guided ≤ 3) × (c .hi - c .lo < 2 ^ j)
+
+      left : Turns (λ e. Unit {0}) Few (turnAt k distinct g b m)
+      left =
+          turn-by k distinct g (λ e. Unit {0}) Few b m (λ _. tt) (λ _ _ _. tt)
+          (λ o _. (omega arith, fewer-than j n (m + 1) (b .hi) h (omega arith) (omega arith)))
+          (λ o _. let y : m < b .hi = guide-high k slots n first last w (wide-pos (shift % 32)) o in (omega arith, fewer-than j n (b .lo) m h (omega arith) (omega arith)))
+
+      after : (u : Turn Bracket ℕ) → Turns (λ e. Unit {0}) Few u → looksAfter u (λ c. looksFrom (c .hi) k distinct g c) ≤ 3 + j
+      after (stop e) r = omega arith
+      after (on c) r = few-log 3 j (c .hi) c (r .0) (r .1)
+
+      by : (o : Bool) → looksAfter (turnAt k distinct g b m) (λ c. looksFrom (c .hi) k distinct g c) ≤ 3 + j
+          → pick o (1 + looksAfter (turnAt k distinct g b m) (λ c. looksFrom (c .hi) k distinct g c)) 0 ≤ 4 + j
+      by true r = omega arith
+      by false r = omega arith
+
+-- "O(log n) at worst": of 2^j slots, whatever they hold, a search looks at no more than 6 + j, and by the guide at no more than 4 + j
+pub looks-log : (k : ℕ) (b : Ids) (slots : List ℕ) (g : ℕ → ℕ) (n j : ℕ) → n ≤ 2 ^ j → looksOf k b slots g n ≤ 6 + j
+looks-log k b slots g n j h = go (leb (b .last) k)
+  where
+    rest : (t : Bool) → pick t (guideLooks k (b .distinct) g slots n (b .first) (b .last) (b .shift)) (looksFrom (n - 1) k (b .distinct) g (opening n (b .first) (b .last))) ≤ 6 + j
+    rest true = let e = guide-log k (b .distinct) g j n (b .first) (b .last) (b .shift) slots h in omega arith
+    rest false = few-log k (b .distinct) g 6 j (n - 1) (opening n (b .first) (b .last)) (omega arith) (fewer-than k (b .distinct) g j n 1 (n - 1) h (omega arith) (omega arith))
+
+    steps : (t : Bool) → pick t 0 (pick (b .direct) (guideLooks k (b .distinct) g slots n (b .first) (b .last) (b .shift)) (looksFrom (n - 1) k (b .distinct) g (opening n (b .first) (b .last)))) ≤ 6 + j
+    steps true = omega arith
+    steps false = rest (b .direct)
+
+    inner : (t : Bool) → pick t 0 (pick (b .even) 0 (pick (b .direct) (guideLooks k (b .distinct) g slots n (b .first) (b .last) (b .shift)) (looksFrom (n - 1) k (b .distinct) g (opening n (b .first) (b .last))))) ≤ 6 + j
+    inner true = omega arith
+    inner false = steps (b .even)
+
+    go : (t : Bool) → pick t 0 (pick (ltb k (b .first)) 0 (pick (b .even) 0 (pick (b .direct) (guideLooks k (b .distinct) g slots n (b .first) (b .last) (b .shift)) (looksFrom (n - 1) k (b .distinct) g (opening n (b .first) (b .last)))))) ≤ 6 + j
+    go true = omega arith
+    go false = inner (ltb k (b .first))

@@ -1,24 +1,26 @@
 -- The search gives the map's answer, for the slots and the numbers that `build` leaves; and for any others what it serves lies in
 -- the table and has the id. Assumes nothing.
-use Prim.Native.Nat.{ℕ, zero, suc, _+_, _-_, _≤_, _<_}
+use Prim.Native.Nat.{ℕ, zero, suc, _+_, _-_, _*_, _/_, _%_, _^_, _≤_, _<_, min, max}
 use mathlib.Core.Path.{_≡_, refl, sym, _∙_, ap, subst}
 use mathlib.Core.Bool.{Bool, true, false, _&&_}
 use mathlib.Core.List.{List}
 use mathlib.Core.Option.{Option, none, some}
 use mathlib.Core.Logic.{_⊎_, inl, inr}
 use native.Mathlib.Omega.{arith}
+use native.Mathlib.Nat.{mod-eq-of-lt, mul-le-mul-right, div-mul-le-self, lt-div-mul-add, add-mul, mul-pos, lt-of-mul-lt-mul-right}
 use lib.Dec.{ltb, leb, eqb}
 use lib.ListN.{length, getD}
 use borrow.Author.Tests.{ltb-true, ltb-false, leb-true, leb-false, eqb-true, eqb-false, lt-ltb, le-ltb, eq-eqb, ne-eqb}
 use Rattle.lex.specs.Byte.{pick}
 use Rattle.lex.specs.Walk.{Turn, stop, on, turned}
-use Rattle.index.specs.Order.{idOf, rowAt, tableRoom, Before, Rises, Says, ordered, less-or}
+use Rattle.index.specs.Order.{idOf, rowAt, tableRoom, Before, Rises, Steady, stepOf, Says, ordered, less-or}
 use Rattle.index.specs.Lookup.{lookupOf, LookupForm, IsLast, Missing, lookup-only}
-use Rattle.index.specs.Index.{Stands, IsIndex, Built, index-only}
+use Rattle.index.specs.Index.{Stands, IsIndex, Starts, Guides, Held, Built}
 use Rattle.index.specs.IndexRight.{rises-far, direct-index, upTo-at}
 use Rattle.index.specs.Sort.{upTo}
-use Rattle.index.specs.Search.{Bracket, bracket, probeOf, narrowed, looked, turn, endFrom, opening, endOf, servedOf, searched}
+use Rattle.index.specs.Search.{Bracket, bracket, probeOf, narrowed, looked, turnAt, turn, endFrom, ended, opening, startAt, wide, ranged, among, guideEnd, evenEnd, endOf, standing, servedOf, sought, firstRow, searched}
 use Rattle.index.specs.Laws.{probe-low, probe-high}
+use Rattle.index.specs.Guide.{wide-pos, range-low, range-high, range-far, range-most, among-low, among-high, share-most, start-in, start-out, steady-at, even-place}
 use Rattle.index.specs.declared.Ids.{Ids}
 
 -- a fact of each answer of a turn: of the answer where it stops, of the bracket where it goes on
@@ -27,27 +29,27 @@ Turns P Q (stop e) = P e
 Turns P Q (on b) = Q b
 
 module _ (k : ℕ) (distinct : Bool) (g : ℕ → ℕ) (P : ℕ → Type 0) (Q : Bracket → Type 0) where
-  -- by the tests of a turn: the bracket is empty; the slot holds the id; it holds a lesser one, or an equal one where ids may
+  -- by the tests of a turn at slot m: the bracket is empty; the slot holds the id; it holds a lesser one, or an equal one where ids may
   -- stand twice; it holds a greater one
-  pub turn-by : (b : Bracket)
+  pub turn-by : (b : Bracket) (m : ℕ)
       → (b .hi ≤ b .lo → P (b .lo))
-      → (b .lo < b .hi → distinct ≡ true → g (probeOf k b) ≡ k → P (probeOf k b + 1))
-      → (b .lo < b .hi → g (probeOf k b) ≤ k → Q (bracket (probeOf k b + 1) (b .hi) (g (probeOf k b)) (b .over) (b .guided - 1)))
-      → (b .lo < b .hi → k < g (probeOf k b) → Q (bracket (b .lo) (probeOf k b) (b .under) (g (probeOf k b)) (b .guided - 1)))
-      → Turns P Q (turn k distinct g b)
-  turn-by b empty found low high = go (ltb (b .lo) (b .hi)) refl
+      → (b .lo < b .hi → distinct ≡ true → g m ≡ k → P (m + 1))
+      → (b .lo < b .hi → g m ≤ k → Q (bracket (m + 1) (b .hi) (g m) (b .over) (b .guided - 1)))
+      → (b .lo < b .hi → k < g m → Q (bracket (b .lo) m (b .under) (g m) (b .guided - 1)))
+      → Turns P Q (turnAt k distinct g b m)
+  turn-by b m empty found low high = go (ltb (b .lo) (b .hi)) refl
     where
-      by-id : b .lo < b .hi → (t : Bool) → leb (g (probeOf k b)) k ≡ t → Q (pick t (bracket (probeOf k b + 1) (b .hi) (g (probeOf k b)) (b .over) (b .guided - 1)) (bracket (b .lo) (probeOf k b) (b .under) (g (probeOf k b)) (b .guided - 1)))
-      by-id h true e = low h (leb-true (g (probeOf k b)) k e)
-      by-id h false e = high h (leb-false (g (probeOf k b)) k e)
+      by-id : b .lo < b .hi → (t : Bool) → leb (g m) k ≡ t → Q (pick t (bracket (m + 1) (b .hi) (g m) (b .over) (b .guided - 1)) (bracket (b .lo) m (b .under) (g m) (b .guided - 1)))
+      by-id h true e = low h (leb-true (g m) k e)
+      by-id h false e = high h (leb-false (g m) k e)
 
-      by-twice : b .lo < b .hi → (s t : Bool) → distinct ≡ s → eqb (g (probeOf k b)) k ≡ t → Turns P Q (pick (s && t) (stop (probeOf k b + 1)) (on (narrowed k b (probeOf k b) (g (probeOf k b)))))
-      by-twice h true true d e = found h d (eqb-true (g (probeOf k b)) k e)
-      by-twice h true false d e = by-id h (leb (g (probeOf k b)) k) refl
-      by-twice h false t d e = by-id h (leb (g (probeOf k b)) k) refl
+      by-twice : b .lo < b .hi → (s t : Bool) → distinct ≡ s → eqb (g m) k ≡ t → Turns P Q (pick (s && t) (stop (m + 1)) (on (narrowed k b m (g m))))
+      by-twice h true true d e = found h d (eqb-true (g m) k e)
+      by-twice h true false d e = by-id h (leb (g m) k) refl
+      by-twice h false t d e = by-id h (leb (g m) k) refl
 
-      go : (t : Bool) → ltb (b .lo) (b .hi) ≡ t → Turns P Q (pick t (looked k distinct b (probeOf k b) (g (probeOf k b))) (stop (b .lo)))
-      go true e = by-twice (ltb-true (b .lo) (b .hi) e) distinct (eqb (g (probeOf k b)) k) refl refl
+      go : (t : Bool) → ltb (b .lo) (b .hi) ≡ t → Turns P Q (pick t (looked k distinct b m (g m)) (stop (b .lo)))
+      go true e = by-twice (ltb-true (b .lo) (b .hi) e) distinct (eqb (g m) k) refl refl
       go false e = empty (ltb-false (b .lo) (b .hi) e)
 
 -- what each turn keeps, with one turn fewer left, holds of the search's answer
@@ -64,23 +66,76 @@ end-by k distinct g P Q z t (suc m) b q = go (turn k distinct g b) (t m b q) (λ
 pub end-within : (k : ℕ) (distinct : Bool) (g : ℕ → ℕ) (top m : ℕ) (b : Bracket) → b .lo ≤ top → b .hi ≤ top → endFrom m k distinct g b ≤ top
 end-within k distinct g top m b l h =
     end-by k distinct g (λ e. e ≤ top) (λ n c. (c .lo ≤ top) × (c .hi ≤ top)) (λ c q. q .0)
-    (λ n c q. turn-by k distinct g (λ e. e ≤ top) (λ d. (d .lo ≤ top) × (d .hi ≤ top)) c (λ _. q .0)
+    (λ n c q. turn-by k distinct g (λ e. e ≤ top) (λ d. (d .lo ≤ top) × (d .hi ≤ top)) c (probeOf k c) (λ _. q .0)
     (λ o _ _. let w = probe-high k c o in let y = q .1 in omega arith)
     (λ o _. let w = probe-high k c o in let y = q .1 in (omega arith, q .1))
     (λ o _. let w = probe-high k c o in let y = q .1 in (q .0, omega arith)))
     m b (l, h)
 
--- the end of n slots is at most one past them
-pub end-of-within : (k : ℕ) (distinct : Bool) (g : ℕ → ℕ) (n first last : ℕ) → endOf k distinct g n first last ≤ n + 1
-end-of-within k distinct g n first last = go (leb last k)
-  where
-    inner : (t : Bool) → pick t 0 (endFrom n k distinct g (opening n first last)) ≤ n + 1
-    inner true = omega arith
-    inner false = end-within k distinct g (n + 1) n (opening n first last) (omega arith) (omega arith)
+-- a fact of a turn and of what follows it
+pub turned-by : (P : ℕ → Type 0) (Q : Bracket → Type 0) (u : Turn Bracket ℕ) (after : Bracket → ℕ) → Turns P Q u → ((c : Bracket) → Q c → P (after c)) → P (turned u after)
+turned-by P Q (stop e) after h f = h
+turned-by P Q (on c) after h f = f c h
 
-    go : (t : Bool) → pick t n (pick (ltb k first) 0 (endFrom n k distinct g (opening n first last))) ≤ n + 1
-    go true = omega arith
-    go false = inner (ltb k first)
+-- the guide's first look lies in its range
+pub guide-high : (k : ℕ) (slots : List ℕ) (n first last w : ℕ) → 0 < w → (max 1 (startAt slots n ((k - first) / w)) < min (startAt slots n ((k - first) / w + 1)) (n - 1)) → among k w (ranged slots n first last w ((k - first) / w)) < min (startAt slots n ((k - first) / w + 1)) (n - 1)
+guide-high k slots n first last w pos h = among-high k w (ranged slots n first last w ((k - first) / w)) pos (range-far k first w pos) h
+
+-- the guide's end is at most one past the slots
+guide-within : (k : ℕ) (distinct : Bool) (g : ℕ → ℕ) (slots : List ℕ) (n first last shift : ℕ) → guideEnd k distinct g slots n first last shift ≤ n + 1
+unfolding guideEnd
+guide-within k distinct g slots n first last shift =
+    turned-by Low Near (turnAt k distinct g b m) (λ c. ended k distinct g c)
+    (turn-by k distinct g Low Near b m (λ _. low)
+    (λ o _ _. let y = high o in omega arith)
+    (λ o _. let y = high o in (omega arith, omega arith))
+    (λ o _. let y = high o in (low, omega arith)))
+    (λ c q. end-within k distinct g (n + 1) (c .hi) c (q .0) (q .1))
+  where
+    w : ℕ
+    w = wide shift
+
+    b : Bracket
+    b = ranged slots n first last w ((k - first) / w)
+
+    m : ℕ
+    m = among k w b
+
+    Low : ℕ → Type 0
+    Low e = e ≤ n + 1
+
+    Near : Bracket → Type 0
+    Near c = (c .lo ≤ n + 1) × (c .hi ≤ n + 1)
+
+    high : b .lo < b .hi → m < b .hi
+    high o = guide-high k slots n first last w (wide-pos (shift % 32)) o
+
+    low : b .lo ≤ n + 1
+    low = go (less-or ((k - first) / w) n)
+      where
+        go : ((k - first) / w < n) ⊎ (n ≤ (k - first) / w) → b .lo ≤ n + 1
+        go (inl l) = let e = start-in slots n ((k - first) / w) l in omega arith
+        go (inr l) = let e = start-out slots n ((k - first) / w) l in omega arith
+
+-- the end of n slots is at most one past them
+pub end-of-within : (k : ℕ) (b : Ids) (slots : List ℕ) (g : ℕ → ℕ) (n : ℕ) → endOf k b slots g n ≤ n + 1
+end-of-within k b slots g n = go (leb (b .last) k) refl
+  where
+    rest : (t : Bool) → pick t (guideEnd k (b .distinct) g slots n (b .first) (b .last) (b .shift)) (ended k (b .distinct) g (opening n (b .first) (b .last))) ≤ n + 1
+    rest true = guide-within k (b .distinct) g slots n (b .first) (b .last) (b .shift)
+    rest false = end-within k (b .distinct) g (n + 1) (n - 1) (opening n (b .first) (b .last)) (omega arith) (omega arith)
+
+    steps : k < b .last → (t : Bool) → pick t (evenEnd k n (b .first) (b .last)) (pick (b .direct) (guideEnd k (b .distinct) g slots n (b .first) (b .last) (b .shift)) (ended k (b .distinct) g (opening n (b .first) (b .last)))) ≤ n + 1
+    steps l true = let e = share-most (k - b .first) (n - 1) (b .last - b .first) (omega arith) in omega arith
+    steps l false = rest (b .direct)
+
+    inner : k < b .last → (t : Bool) → pick t 0 (pick (b .even) (evenEnd k n (b .first) (b .last)) (pick (b .direct) (guideEnd k (b .distinct) g slots n (b .first) (b .last) (b .shift)) (ended k (b .distinct) g (opening n (b .first) (b .last))))) ≤ n + 1
+    inner l true = omega arith
+    inner l false = steps l (b .even)
+
+    go : (t : Bool) → leb (b .last) k ≡ t → pick t n (pick (ltb k (b .first)) 0 (pick (b .even) (evenEnd k n (b .first) (b .last)) (pick (b .direct) (guideEnd k (b .distinct) g slots n (b .first) (b .last) (b .shift)) (ended k (b .distinct) g (opening n (b .first) (b .last)))))) ≤ n + 1
+    go true e = omega arith
+    go false e = inner (leb-false (b .last) k e) (ltb k (b .first))
 
 -- the slots that hold ids up to k end at e
 pub record Ends (g : ℕ → ℕ) (n k e : ℕ) : Type 0 where
@@ -99,59 +154,177 @@ module _ (k : ℕ) (distinct : Bool) (g : ℕ → ℕ) (n : ℕ)
     pub low : (i : ℕ) → i < b .lo → g i ≤ k
     pub high : (i : ℕ) → b .hi ≤ i → i < n → k < g i
 
-  -- one turn keeps it
-  between-turns : (m : ℕ) (b : Bracket) → Between (suc m) b → Turns (Ends g n k) (Between m) (turn k distinct g b)
-  between-turns m b q = turn-by k distinct g (Ends g n k) (Between m) b
+  -- one turn at slot p keeps it
+  between-turns : (m : ℕ) (b : Bracket) (p : ℕ) → b .lo ≤ p → (b .lo < b .hi → p < b .hi) → Between (suc m) b → Turns (Ends g n k) (Between m) (turnAt k distinct g b p)
+  between-turns m b p u v q = turn-by k distinct g (Ends g n k) (Between m) b p
       (λ h. record { inside = q .inside; low = q .low; high = λ i l o. q .high i (omega arith) o })
-      (λ h d e. let w = probe-high k b h in let r = q .room in
+      (λ h d e. let w = v h in let r = q .room in
       record {
         inside = omega arith;
-        low = λ i l. let z = mono i (probeOf k b) (omega arith) (omega arith) in omega arith;
-        high = λ i l o. let z = strict d (probeOf k b) i (omega arith) o in omega arith;
+        low = λ i l. let z = mono i p (omega arith) (omega arith) in omega arith;
+        high = λ i l o. let z = strict d p i (omega arith) o in omega arith;
       })
-      (λ h e. let w = probe-high k b h in let u = probe-low k b in let r = q .room in let y = q .enough in
+      (λ h e. let w = v h in let r = q .room in let y = q .enough in
       record {
         enough = omega arith;
         inside = omega arith;
         room = q .room;
-        low = λ i l. let z = mono i (probeOf k b) (omega arith) (omega arith) in omega arith;
+        low = λ i l. let z = mono i p (omega arith) (omega arith) in omega arith;
         high = q .high;
       })
-      (λ h e. let w = probe-high k b h in let u = probe-low k b in let r = q .room in let y = q .enough in
+      (λ h e. let w = v h in let r = q .room in let y = q .enough in
       record {
         enough = omega arith;
         inside = q .inside;
         room = omega arith;
         low = q .low;
-        high = λ i l o. let z = mono (probeOf k b) i l o in omega arith;
+        high = λ i l o. let z = mono p i l o in omega arith;
       })
 
-  -- so the search finds the end, from the ids beside the slots
-  pub end-right : (first last : ℕ) → 0 < n → first ≡ g 0 → last ≡ g (n - 1) → Ends g n k (endOf k distinct g n first last)
-  end-right first last h a z = go (leb last k) refl
-    where
-      inner : k < last → (t : Bool) → ltb k first ≡ t → Ends g n k (pick t 0 (endFrom n k distinct g (opening n first last)))
-      inner o true e =
-          let l = ltb-true k first e in
-          record { inside = omega arith; low = λ i b. absurd (omega arith); high = λ i _ b. let y = mono 0 i (omega arith) b in omega arith }
-      inner o false e =
-          let l = ltb-false k first e in
-          end-by k distinct g (Ends g n k) Between
-          (λ b q. let y = q .enough in record { inside = q .inside; low = q .low; high = λ i u v. q .high i (omega arith) v })
-          between-turns n (opening n first last)
-          (record {
-            enough = omega arith;
-            inside = omega arith;
-            room = omega arith;
-            low = λ i b. let y : i ≡ 0 = omega arith in subst (λ (x : ℕ). g x ≤ k) (sym y) (subst (λ (x : ℕ). x ≤ k) a l);
-            high = λ i u v. let y = mono (n - 1) i u v in omega arith;
-          })
+  -- so the search finds the end from such a bracket
+  ended-right : (b : Bracket) → Between (b .hi) b → Ends g n k (ended k distinct g b)
+  ended-right b q =
+      end-by k distinct g (Ends g n k) Between
+      (λ c r. let y = r .enough in record { inside = r .inside; low = r .low; high = λ i u v. r .high i (omega arith) v })
+      (λ m c r. between-turns m c (probeOf k c) (probe-low k c) (probe-high k c) r) (b .hi) b q
 
-      go : (t : Bool) → leb last k ≡ t → Ends g n k (pick t n (pick (ltb k first) 0 (endFrom n k distinct g (opening n first last))))
+  module _ (first last : ℕ) (some-row : 0 < n) (a : first ≡ g 0) (z : last ≡ g (n - 1)) (l : first ≤ k) (o : k < last) where
+    -- there are two rows then
+    two : 2 ≤ n
+    two = go (less-or 1 n)
+      where
+        go : (1 < n) ⊎ (n ≤ 1) → 2 ≤ n
+        go (inl h) = h
+        go (inr h) = let e : n - 1 ≡ 0 = omega arith in let f : g (n - 1) ≡ g 0 = ap g e in absurd (omega arith)
+
+    -- from the ids beside the slots
+    opening-right : Ends g n k (ended k distinct g (opening n first last))
+    opening-right =
+        ended-right (opening n first last)
+        (record {
+          enough = omega arith;
+          inside = omega arith;
+          room = omega arith;
+          low = λ i b. let y : i ≡ 0 = omega arith in subst (λ (x : ℕ). g x ≤ k) (sym y) (subst (λ (x : ℕ). x ≤ k) a l);
+          high = λ i u v. let y = mono (n - 1) i u v in omega arith;
+        })
+
+    -- by the step
+    even-right : Steady (λ x. x) g n → Ends g n k (evenEnd k n first last)
+    even-right r = by (even-place (k - first) (n - 1) step (omega (arith, two)))
+      where
+        step : ℕ
+        step = stepOf (λ x. x) g
+
+        at : (i : ℕ) → i < n → g i ≡ first + i * step
+        at i h = let e = steady-at (λ x. x) g n r i h in omega arith
+
+        span : last - first ≡ (n - 1) * step
+        span = let e = at (n - 1) (omega arith) in omega arith
+
+        by : (k - first) * (n - 1) / ((n - 1) * step) ≡ (k - first) / step → Ends g n k (evenEnd k n first last)
+        by e = subst (λ (x : ℕ). Ends g n k x) (sym (ap (λ (x : ℕ). (k - first) * (n - 1) / x + 1) span ∙ ap (λ (x : ℕ). x + 1) e)) (place ((k - first) / step) (div-mul-le-self (k - first) step) (lt-div-mul-add {a = k - first} {b = step} (omega arith)))
+          where
+            place : (q : ℕ) → q * step ≤ k - first → k - first < q * step + step → Ends g n k (q + 1)
+            place q u v =
+                record {
+                  inside = let t = inside (less-or q (n - 1)) in omega arith;
+                  low = λ i b. let y = at i (let t = inside (less-or q (n - 1)) in omega arith) in let x = mul-le-mul-right {m = i} {n = q} step (omega arith) in omega arith;
+                  high = λ i b c. let y = at i c in let x = mul-le-mul-right {m = q + 1} {n = i} step b in let w : (q + 1) * step ≡ q * step + step = add-mul q 1 step ∙ omega arith in omega arith;
+                }
+              where
+                inside : (q < n - 1) ⊎ (n - 1 ≤ q) → q < n - 1
+                inside (inl h) = h
+                inside (inr h) = let x = mul-le-mul-right {m = n - 1} {n = q} step h in absurd (omega (arith, x, u, span, o))
+
+    -- by the guide
+    guide-right : (slots : List ℕ) (shift : ℕ) → shift < 32 → (last - first) / 2 ^ shift < max 2 n → Guides g n first shift slots → Ends g n k (guideEnd k distinct g slots n first last shift)
+    unfolding guideEnd
+    guide-right slots shift short fits guides =
+        turned-by (Ends g n k) (Between n) (turnAt k distinct g b (among k w b)) (λ c. ended k distinct g c)
+        (between-turns n b (among k w b) (among-low k w b) (λ h. guide-high k slots n first last w (wide-pos (shift % 32)) h) between)
+        (λ c r. ended-right c (record { enough = omega arith; inside = r .inside; room = r .room; low = r .low; high = r .high }))
+      where
+        w : ℕ
+        w = wide shift
+
+        q : ℕ
+        q = (k - first) / w
+
+        b : Bracket
+        b = ranged slots n first last w q
+
+        same : w ≡ 2 ^ shift
+        same = ap (λ (x : ℕ). 2 ^ x) (mod-eq-of-lt {n = shift} {m = 32} short)
+
+        held : (i : ℕ) → i < n → Starts g n (first + i * w) (getD slots i 0)
+        held = subst (λ (x : ℕ). (i : ℕ) → i < n → Starts g n (first + i * x) (getD slots i 0)) (sym same) guides
+
+        ranges : (last - first) / w < max 2 n
+        ranges = subst (λ (x : ℕ). (last - first) / x < max 2 n) (sym same) fits
+
+        inside : q < n
+        inside = let e = range-most (k - first) (last - first) w (wide-pos (shift % 32)) (omega arith) in omega (arith, e, ranges, two)
+
+        here : Starts g n (first + q * w) (getD slots q 0)
+        here = held q inside
+
+        start : startAt slots n q ≡ getD slots q 0
+        start = let e = start-in slots n q inside in let f = here .inside in omega arith
+
+        low : (i : ℕ) → i < max 1 (startAt slots n q) → g i ≤ k
+        low i h = go (less-or i (getD slots q 0))
+          where
+            go : (i < getD slots q 0) ⊎ (getD slots q 0 ≤ i) → g i ≤ k
+            go (inl u) = let e = here .below i u in let f = range-low k first w (wide-pos (shift % 32)) l in omega (arith, e, f)
+            go (inr u) = let e : i ≡ 0 = omega (arith, start, h, u) in subst (λ (x : ℕ). g x ≤ k) (sym e) (subst (λ (x : ℕ). x ≤ k) a l)
+
+        next : (i : ℕ) → startAt slots n (q + 1) ≤ i → i < n → k < g i
+        next i h v = go (less-or (q + 1) n)
+          where
+            go : (q + 1 < n) ⊎ (n ≤ q + 1) → k < g i
+            go (inl u) =
+                let s = held (q + 1) u in
+                let e = start-in slots n (q + 1) u in
+                let c = s .inside in
+                let x = s .from i (omega (arith, e, c, h)) v in
+                let y = range-high k first w (wide-pos (shift % 32)) in
+                omega (arith, x, y)
+            go (inr u) = let e = start-out slots n (q + 1) u in absurd (omega (arith, e, h, v))
+
+        high : (i : ℕ) → min (startAt slots n (q + 1)) (n - 1) ≤ i → i < n → k < g i
+        high i h v = go (less-or i (n - 1))
+          where
+            go : (i < n - 1) ⊎ (n - 1 ≤ i) → k < g i
+            go (inl u) = next i (omega (arith, h, u)) v
+            go (inr u) = let y = mono (n - 1) i u v in omega arith
+
+        between : Between (suc n) b
+        between = record { enough = omega arith; inside = let e = here .inside in omega (arith, e, start, two); room = omega arith; low = low; high = high }
+
+  -- so the search finds the end, from what stands in the slots and beside them
+  pub end-right : (b : Ids) (slots : List ℕ) → b .distinct ≡ distinct → 0 < n → b .first ≡ g 0 → b .last ≡ g (n - 1) → (b .even ≡ true → Steady (λ x. x) g n) → (b .direct ≡ true → Guides g n (b .first) (b .shift) slots) → (b .last - b .first) / 2 ^ b .shift < max 2 n → b .shift < 32 → Ends g n k (endOf k b slots g n)
+  end-right b slots same h a z steady guides fits short = go (leb (b .last) k) refl
+    where
+      rest : b .first ≤ k → k < b .last → (t : Bool) → b .direct ≡ t → Ends g n k (pick t (guideEnd k (b .distinct) g slots n (b .first) (b .last) (b .shift)) (ended k (b .distinct) g (opening n (b .first) (b .last))))
+      rest l o true e = subst (λ (d : Bool). Ends g n k (guideEnd k d g slots n (b .first) (b .last) (b .shift))) (sym same) (guide-right (b .first) (b .last) h a z l o slots (b .shift) short fits (guides e))
+      rest l o false e = subst (λ (d : Bool). Ends g n k (ended k d g (opening n (b .first) (b .last)))) (sym same) (opening-right (b .first) (b .last) h a z l o)
+
+      steps : b .first ≤ k → k < b .last → (t : Bool) → b .even ≡ t → Ends g n k (pick t (evenEnd k n (b .first) (b .last)) (pick (b .direct) (guideEnd k (b .distinct) g slots n (b .first) (b .last) (b .shift)) (ended k (b .distinct) g (opening n (b .first) (b .last)))))
+      steps l o true e = even-right (b .first) (b .last) h a z l o (steady e)
+      steps l o false e = rest l o (b .direct) refl
+
+      inner : k < b .last → (t : Bool) → ltb k (b .first) ≡ t → Ends g n k (pick t 0 (pick (b .even) (evenEnd k n (b .first) (b .last)) (pick (b .direct) (guideEnd k (b .distinct) g slots n (b .first) (b .last) (b .shift)) (ended k (b .distinct) g (opening n (b .first) (b .last))))))
+      inner o true e =
+          let l = ltb-true k (b .first) e in
+          record { inside = omega arith; low = λ i c. absurd (omega arith); high = λ i _ c. let y = mono 0 i (omega arith) c in omega arith }
+      inner o false e = steps (ltb-false k (b .first) e) o (b .even) refl
+
+      go : (t : Bool) → leb (b .last) k ≡ t → Ends g n k (pick t n (pick (ltb k (b .first)) 0 (pick (b .even) (evenEnd k n (b .first) (b .last)) (pick (b .direct) (guideEnd k (b .distinct) g slots n (b .first) (b .last) (b .shift)) (ended k (b .distinct) g (opening n (b .first) (b .last)))))))
       go true e =
-          let l = leb-true last k e in
-          record { inside = omega arith; low = λ i b. let y = mono i (n - 1) (omega arith) (omega arith) in omega arith; high = λ i u v. absurd (omega arith) }
-      go false e = inner (leb-false last k e) (ltb k first) refl
+          let l = leb-true (b .last) k e in
+          record { inside = omega arith; low = λ i c. let y = mono i (n - 1) (omega arith) (omega arith) in omega arith; high = λ i u v. absurd (omega arith) }
+      go false e = inner (leb-false (b .last) k e) (ltb k (b .first)) refl
 
 module _ (rows slots : List ℕ) (direct : Bool) (n k : ℕ) where
   -- what is served lies in the table and has the id, whatever the slots hold
@@ -169,10 +342,10 @@ module _ (rows slots : List ℕ) (direct : Bool) (n k : ℕ) where
       go true d = let z : _≡_ {A = ℕ} 0 1 = cc in absurd (omega arith)
       go false d = at-row (ltb (rowAt direct slots (e - 1)) n) (eqb (idOf rows (rowAt direct slots (e - 1))) k) refl refl d
 
-  module _ (x : IsIndex (idOf rows) n slots) (same : (i : ℕ) → i < n → rowAt direct slots i ≡ getD slots i 0) (e : ℕ)
+  module _ (xs : List ℕ) (x : IsIndex (idOf rows) n xs) (same : (i : ℕ) → i < n → rowAt direct slots i ≡ getD xs i 0) (e : ℕ)
       (w : Ends (λ i. idOf rows (rowAt direct slots i)) n k e) where
     -- the slot of a row with the id lies before the end
-    before-end : (j : ℕ) → j < n → idOf rows j ≡ k → (s : Stands n j slots) → s .slot < e
+    before-end : (j : ℕ) → j < n → idOf rows j ≡ k → (s : Stands n j xs) → s .slot < e
     before-end j b d s = go (less-or (s .slot) e)
       where
         go : (s .slot < e) ⊎ (e ≤ s .slot) → s .slot < e
@@ -183,12 +356,12 @@ module _ (rows slots : List ℕ) (direct : Bool) (n k : ℕ) where
             absurd (omega arith)
 
     -- the row before the end, where it has the id, is the last that has it
-    served-last : 0 < e → idOf rows (getD slots (e - 1) 0) ≡ k → IsLast (idOf rows) n k (getD slots (e - 1) 0)
+    served-last : 0 < e → idOf rows (getD xs (e - 1) 0) ≡ k → IsLast (idOf rows) n k (getD xs (e - 1) 0)
     served-last h d =
         let y = w .inside in
         record { row = x .rows (e - 1) (omega arith); named = d; last = λ j a b c. later j a b c (x .whole j b) }
       where
-        later : (j : ℕ) → getD slots (e - 1) 0 < j → j < n → idOf rows j ≡ k → Stands n j slots → ⊥
+        later : (j : ℕ) → getD xs (e - 1) 0 < j → j < n → idOf rows j ≡ k → Stands n j xs → ⊥
         later j a b c s = go (ordered (s .slot) (e - 1))
           where
             y : e ≤ n
@@ -197,41 +370,41 @@ module _ (rows slots : List ℕ) (direct : Bool) (n k : ℕ) where
             t : s .slot < e
             t = before-end j b c s
 
-            last : Before (idOf rows) (getD slots (s .slot) 0) (getD slots (e - 1) 0) → ⊥
-            last (inl l) = let p : idOf rows (getD slots (s .slot) 0) ≡ k = ap (idOf rows) (s .holds) ∙ c in omega arith
-            last (inr l) = let p : getD slots (s .slot) 0 ≡ j = s .holds in let q = l .1 in omega arith
+            last : Before (idOf rows) (getD xs (s .slot) 0) (getD xs (e - 1) 0) → ⊥
+            last (inl l) = let p : idOf rows (getD xs (s .slot) 0) ≡ k = ap (idOf rows) (s .holds) ∙ c in omega arith
+            last (inr l) = let p : getD xs (s .slot) 0 ≡ j = s .holds in let q = l .1 in omega arith
 
             go : (s .slot < e - 1) ⊎ ((s .slot ≡ e - 1) ⊎ (e - 1 < s .slot)) → ⊥
             go (inl l) = last (x .order (s .slot) (e - 1) l (omega (arith, y)))
-            go (inr (inl l)) = let p : getD slots (e - 1) 0 ≡ j = ap (λ (z : ℕ). getD slots z 0) (sym l) ∙ s .holds in omega arith
+            go (inr (inl l)) = let p : getD xs (e - 1) 0 ≡ j = ap (λ (z : ℕ). getD xs z 0) (sym l) ∙ s .holds in omega arith
             go (inr (inr l)) = omega (arith, t)
 
     -- where it has not, no row has
-    served-missing : (0 < e → idOf rows (getD slots (e - 1) 0) ≡ k → ⊥) → Missing (idOf rows) n k
+    served-missing : (0 < e → idOf rows (getD xs (e - 1) 0) ≡ k → ⊥) → Missing (idOf rows) n k
     served-missing h j b c = go (x .whole j b)
       where
         y : e ≤ n
         y = w .inside
 
-        go : Stands n j slots → ⊥
+        go : Stands n j xs → ⊥
         go s = by (ordered (s .slot) (e - 1))
           where
             t : s .slot < e
             t = before-end j b c s
 
-            p : idOf rows (getD slots (s .slot) 0) ≡ k
+            p : idOf rows (getD xs (s .slot) 0) ≡ k
             p = ap (idOf rows) (s .holds) ∙ c
 
-            under : idOf rows (getD slots (e - 1) 0) ≤ k
+            under : idOf rows (getD xs (e - 1) 0) ≤ k
             under = subst (λ (z : ℕ). idOf rows z ≤ k) (same (e - 1) (omega (arith, t, y))) (w .low (e - 1) (omega (arith, t)))
 
-            last : Before (idOf rows) (getD slots (s .slot) 0) (getD slots (e - 1) 0) → ⊥
+            last : Before (idOf rows) (getD xs (s .slot) 0) (getD xs (e - 1) 0) → ⊥
             last (inl l) = omega (arith, p, under)
             last (inr l) = h (omega (arith, t)) (sym (l .0) ∙ p)
 
             by : (s .slot < e - 1) ⊎ ((s .slot ≡ e - 1) ⊎ (e - 1 < s .slot)) → ⊥
             by (inl l) = last (x .order (s .slot) (e - 1) l (omega (arith, t, y)))
-            by (inr (inl l)) = h (omega (arith, t)) (ap (λ (z : ℕ). idOf rows (getD slots z 0)) (sym l) ∙ p)
+            by (inr (inl l)) = h (omega (arith, t)) (ap (λ (z : ℕ). idOf rows (getD xs z 0)) (sym l) ∙ p)
             by (inr (inr l)) = omega (arith, t)
 
     -- so what is served is the last row of the id, or there is none
@@ -243,12 +416,12 @@ module _ (rows slots : List ℕ) (direct : Bool) (n k : ℕ) where
 
         at-row : 0 < e → (s t : Bool) → ltb (rowAt direct slots (e - 1)) n ≡ s → eqb (idOf rows (rowAt direct slots (e - 1))) k ≡ t → LookupForm (idOf rows) n k (pick (s && t) (some (rowAt direct slots (e - 1))) none)
         at-row h true true a b =
-            let q : rowAt direct slots (e - 1) ≡ getD slots (e - 1) 0 = same (e - 1) (omega (arith, y)) in
+            let q : rowAt direct slots (e - 1) ≡ getD xs (e - 1) 0 = same (e - 1) (omega (arith, y)) in
             subst (λ (z : ℕ). IsLast (idOf rows) n k z) (sym q) (served-last h (ap (idOf rows) (sym q) ∙ eqb-true (idOf rows (rowAt direct slots (e - 1))) k b))
         at-row h true false a b =
             served-missing (λ _ d. eqb-false (idOf rows (rowAt direct slots (e - 1))) k b (ap (idOf rows) (same (e - 1) (omega (arith, y))) ∙ d))
         at-row h false t a b =
-            let q : rowAt direct slots (e - 1) ≡ getD slots (e - 1) 0 = same (e - 1) (omega (arith, y)) in
+            let q : rowAt direct slots (e - 1) ≡ getD xs (e - 1) 0 = same (e - 1) (omega (arith, y)) in
             let o = ltb-false (rowAt direct slots (e - 1)) n a in
             let v = x .rows (e - 1) (omega (arith, y)) in
             absurd (omega arith)
@@ -265,34 +438,39 @@ served-none rows slots direct k e = go (eqb e 0)
     go true = refl
     go false = rw (le-ltb (rowAt direct slots (e - 1)) 0 (omega arith)) refl
 
--- the row of a slot is what the slot holds
-pub row-is : (f : ℕ → ℕ) (n : ℕ) (old slots : List ℕ) (b : Ids) → Built f n old slots b → (i : ℕ) → i < n → rowAt (b .direct) slots i ≡ getD slots i 0
-row-is f n old slots b h i l = go (b .direct) (h .direct)
+-- the rows in the order of their ids: the index in the slots, or the rows as they stand
+record Sorts (f : ℕ → ℕ) (n : ℕ) (slots : List ℕ) (direct : Bool) : Type 0 where
+  pub list : List ℕ
+  pub index : IsIndex f n list
+  pub same : (i : ℕ) → i < n → rowAt direct slots i ≡ getD list i 0
+
+sorts : (f : ℕ → ℕ) (n : ℕ) (old slots : List ℕ) (b : Ids) → Built f n old slots b → Sorts f n slots (b .direct)
+sorts f n old slots b h = go (b .direct) (h .direct) (h .held)
   where
-    go : (t : Bool) → Says t (Rises f (λ j. j) n) → rowAt t slots i ≡ getD slots i 0
-    go true r = sym (index-only f n slots (upTo n) (h .index) (direct-index f n (upTo n) (upTo-at n) r) n (omega arith) i l ∙ upTo-at n i l)
-    go false r = refl
+    go : (t : Bool) → Says t (Rises f (λ j. j) n) → Held t f n (b .first) (b .shift) slots → Sorts f n slots t
+    go true r w = record { list = upTo n; index = direct-index f n (upTo n) (upTo-at n) r; same = λ i l. sym (upTo-at n i l) }
+    go false r w = record { list = slots; index = w; same = λ i l. refl }
 
 -- what `build` leaves for n rows is searched like the map written to in file order
-built-right : (rows old slots : List ℕ) (n k : ℕ) (b : Ids) → Built (idOf rows) n old slots b → servedOf rows slots (b .direct) n k (endOf k (b .distinct) (λ i. idOf rows (rowAt (b .direct) slots i)) n (b .first) (b .last)) ≡ lookupOf (idOf rows) n k
+built-right : (rows old slots : List ℕ) (n k : ℕ) (b : Ids) → Built (idOf rows) n old slots b → servedOf rows slots (b .direct) n k (endOf k b slots (λ i. idOf rows (rowAt (b .direct) slots i)) n) ≡ lookupOf (idOf rows) n k
 built-right rows old slots n k b h = go (less-or 0 n)
   where
-    f : ℕ → ℕ
-    f = idOf rows
-
     g : ℕ → ℕ
     g i = idOf rows (rowAt (b .direct) slots i)
 
+    s : Sorts (idOf rows) n slots (b .direct)
+    s = sorts (idOf rows) n old slots b h
+
     near : (i j : ℕ) → i < j → j < n → g i ≤ g j
-    near i j l o = less (h .index .order i j l o)
+    near i j l o = less (s .index .order i j l o)
       where
-        p : g i ≡ idOf rows (getD slots i 0)
-        p = ap (idOf rows) (row-is (idOf rows) n old slots b h i (omega arith))
+        p : g i ≡ idOf rows (getD (s .list) i 0)
+        p = ap (idOf rows) (s .same i (omega arith))
 
-        q : g j ≡ idOf rows (getD slots j 0)
-        q = ap (idOf rows) (row-is (idOf rows) n old slots b h j o)
+        q : g j ≡ idOf rows (getD (s .list) j 0)
+        q = ap (idOf rows) (s .same j o)
 
-        less : Before (idOf rows) (getD slots i 0) (getD slots j 0) → g i ≤ g j
+        less : Before (idOf rows) (getD (s .list) i 0) (getD (s .list) j 0) → g i ≤ g j
         less (inl a) = omega (arith, p, q)
         less (inr a) = let c = a .0 in omega (arith, p, q)
 
@@ -310,51 +488,139 @@ built-right rows old slots n k b h = go (less-or 0 n)
         let q : i + suc (j - i - 1) ≡ j = omega arith in
         subst (λ (z : ℕ). g i < g z) q (rises-far (idOf rows) (rowAt (b .direct) slots) n r i (j - i - 1) (omega arith))
 
-    go : (0 < n) ⊎ (n ≤ 0) → servedOf rows slots (b .direct) n k (endOf k (b .distinct) g n (b .first) (b .last)) ≡ lookupOf (idOf rows) n k
-    go (inl l) = sym (lookup-only (idOf rows) n k (servedOf rows slots (b .direct) n k (endOf k (b .distinct) g n (b .first) (b .last))) (served-right rows slots (b .direct) n k (h .index) (row-is (idOf rows) n old slots b h) (endOf k (b .distinct) g n (b .first) (b .last)) (end-right k (b .distinct) g n mono strict (b .first) (b .last) l (h .first) (h .last))))
-    go (inr l) = let q : n ≡ 0 = omega arith in subst (λ (z : ℕ). servedOf rows slots (b .direct) z k (endOf k (b .distinct) g n (b .first) (b .last)) ≡ lookupOf (idOf rows) z k) (sym q) (served-none rows slots (b .direct) k (endOf k (b .distinct) g n (b .first) (b .last)) ∙ empty (idOf rows) k)
+    steady : b .even ≡ true → Steady (λ x. x) g n
+    steady d = subst (λ (t : Bool). Says t (Steady (idOf rows) (rowAt (b .direct) slots) n)) d (h .even)
+
+    guides : b .direct ≡ true → Guides g n (b .first) (b .shift) slots
+    guides d = subst (λ (t : Bool). Guides (λ i. idOf rows (rowAt t slots i)) n (b .first) (b .shift) slots) (sym d) (subst (λ (t : Bool). Held t (idOf rows) n (b .first) (b .shift) slots) d (h .held))
+
+    ends : 0 < n → Ends g n k (endOf k b slots g n)
+    ends l = end-right k (b .distinct) g n mono strict b slots refl l (h .first) (h .last) steady guides (h .shift .fits) (h .shift .short)
+
+    go : (0 < n) ⊎ (n ≤ 0) → servedOf rows slots (b .direct) n k (endOf k b slots g n) ≡ lookupOf (idOf rows) n k
+    go (inl l) = sym (lookup-only (idOf rows) n k (servedOf rows slots (b .direct) n k (endOf k b slots g n)) (served-right rows slots (b .direct) n k (s .list) (s .index) (s .same) (endOf k b slots g n) (ends l)))
+    go (inr l) = let q : n ≡ 0 = omega arith in subst (λ (z : ℕ). servedOf rows slots (b .direct) z k (endOf k b slots g n) ≡ lookupOf (idOf rows) z k) (sym q) (served-none rows slots (b .direct) k (endOf k b slots g n) ∙ empty (idOf rows) k)
       where
         empty : (e : ℕ → ℕ) (j : ℕ) → none ≡ lookupOf e 0 j
         empty e j = sym (lookup-only e 0 j none (λ r u v. absurd (omega arith)))
 
+-- where no id stands twice, rows of one id are one row
+one-row : (f : ℕ → ℕ) (n : ℕ) (old slots : List ℕ) (b : Ids) → Built f n old slots b → b .distinct ≡ true → (i j : ℕ) → i < n → j < n → f i ≡ f j → i ≡ j
+one-row f n old slots b h d i j a c e = go (s .index .whole i a) (s .index .whole j c)
+  where
+    s : Sorts f n slots (b .direct)
+    s = sorts f n old slots b h
+
+    g : ℕ → ℕ
+    g = rowAt (b .direct) slots
+
+    rises : Rises f g n
+    rises = subst (λ (t : Bool). Says t (Rises f (rowAt (b .direct) slots) n)) d (h .distinct)
+
+    strict : (u v : ℕ) → u < v → v < n → f (g u) < f (g v)
+    strict u v l o = let q : u + suc (v - u - 1) ≡ v = omega arith in subst (λ (z : ℕ). f (g u) < f (g z)) q (rises-far f g n rises u (v - u - 1) (omega arith))
+
+    go : Stands n i (s .list) → Stands n j (s .list) → i ≡ j
+    go p q = by (ordered (p .slot) (q .slot))
+      where
+        x : g (p .slot) ≡ i
+        x = s .same (p .slot) (p .inside) ∙ p .holds
+
+        y : g (q .slot) ≡ j
+        y = s .same (q .slot) (q .inside) ∙ q .holds
+
+        same : f (g (p .slot)) ≡ f (g (q .slot))
+        same = ap f x ∙ e ∙ sym (ap f y)
+
+        by : (p .slot < q .slot) ⊎ ((p .slot ≡ q .slot) ⊎ (q .slot < p .slot)) → i ≡ j
+        by (inl l) = let o = strict (p .slot) (q .slot) l (q .inside) in absurd (omega (arith, o, same))
+        by (inr (inl l)) = sym x ∙ ap g l ∙ y
+        by (inr (inr l)) = let o = strict (q .slot) (p .slot) l (p .inside) in absurd (omega (arith, o, same))
+
+-- the row that is looked at first, where it has the id, is the map's
+first-right : (rows old slots : List ℕ) (n k : ℕ) (b : Ids) → n ≤ 1073741824 → Built (idOf rows) n old slots b → firstRow slots b k < n → idOf rows (firstRow slots b k) ≡ k → some (firstRow slots b k) ≡ lookupOf (idOf rows) n k
+first-right rows old slots n k b m h l e = sym (lookup-only (idOf rows) n k (some (firstRow slots b k)) (record { row = l; named = e; last = λ j a c d. let q = one-row (idOf rows) n old slots b h single (firstRow slots b k) j l c (e ∙ sym d) in omega arith }))
+  where
+    single : b .distinct ≡ true
+    single = go (ltb k (b .first)) (b .distinct) (eqb (b .shift) 0) refl refl refl
+      where
+        outside : firstRow slots b k ≡ 4294967295 → b .distinct ≡ true
+        outside q = absurd (omega (arith, q, l, m))
+
+        go : (s t u : Bool) → ltb k (b .first) ≡ s → b .distinct ≡ t → eqb (b .shift) 0 ≡ u → b .distinct ≡ true
+        go true t u p q r = outside (rw p refl)
+        go false true u p q r = q
+        go false false u p q r = outside (rw (p, q) refl)
+
 -- "Lookup of an id answers like a map written to in file order": `get` over what `build` left
 pub get-right : (rows old slots : List ℕ) (count k : ℕ) (b : Ids) → Built (idOf rows) (tableRoom (length rows) (length old) count) old slots b → searched rows slots b k ≡ lookupOf (idOf rows) (tableRoom (length rows) (length old) count) k
-get-right rows old slots count k b h =
-    let s : length slots ≡ length old = h .size in
-    let c : b .count ≡ tableRoom (length rows) (length old) count = h .count in
-    let q : tableRoom (length rows) (length slots) (b .count) ≡ tableRoom (length rows) (length old) count = omega arith in
-    ap (λ (z : ℕ). servedOf rows slots (b .direct) z k (endOf k (b .distinct) (λ i. idOf rows (rowAt (b .direct) slots i)) z (b .first) (b .last))) q
-    ∙ built-right rows old slots (tableRoom (length rows) (length old) count) k b h
+get-right rows old slots count k b h = go (ltb (firstRow slots b k) m) (eqb (idOf rows (firstRow slots b k)) k) refl refl
+  where
+    n : ℕ
+    n = tableRoom (length rows) (length old) count
+
+    m : ℕ
+    m = tableRoom (length rows) (length slots) (b .count)
+
+    q : m ≡ n
+    q = let s : length slots ≡ length old = h .size in let c : b .count ≡ tableRoom (length rows) (length old) count = h .count in omega (arith, s, c)
+
+    found : sought rows slots b k ≡ lookupOf (idOf rows) n k
+    found = ap (λ (z : ℕ). servedOf rows slots (b .direct) z k (endOf k b slots (λ i. idOf rows (rowAt (b .direct) slots i)) z)) q ∙ built-right rows old slots n k b h
+
+    go : (s t : Bool) → ltb (firstRow slots b k) m ≡ s → eqb (idOf rows (firstRow slots b k)) k ≡ t → pick (s && t) (some (firstRow slots b k)) (sought rows slots b k) ≡ lookupOf (idOf rows) n k
+    go true true e f = first-right rows old slots n k b (omega arith) h (subst (λ (z : ℕ). firstRow slots b k < z) q (ltb-true (firstRow slots b k) m e)) (eqb-true (idOf rows (firstRow slots b k)) k f)
+    go true false e f = found
+    go false t e f = found
 
 -- whatever the slots and the numbers beside them, what is served lies in the table and has the id
 pub get-safe : (rows slots : List ℕ) (b : Ids) (k r : ℕ) → searched rows slots b k ≡ some r → (r < tableRoom (length rows) (length slots) (b .count)) × (idOf rows r ≡ k)
-get-safe rows slots b k r e = served-safe rows slots (b .direct) (tableRoom (length rows) (length slots) (b .count)) k (endOf k (b .distinct) (λ i. idOf rows (rowAt (b .direct) slots i)) (tableRoom (length rows) (length slots) (b .count)) (b .first) (b .last)) r e
+get-safe rows slots b k r = go (ltb (firstRow slots b k) n) (eqb (idOf rows (firstRow slots b k)) k) refl refl
+  where
+    n : ℕ
+    n = tableRoom (length rows) (length slots) (b .count)
 
-module _ (rows slots : List ℕ) (b : Ids) (k n e : ℕ) (room : n ≡ tableRoom (length rows) (length slots) (b .count)) (end : e ≡ endOf k (b .distinct) (λ i. idOf rows (rowAt (b .direct) slots i)) n (b .first) (b .last)) where
+    found : sought rows slots b k ≡ some r → (r < n) × (idOf rows r ≡ k)
+    found e = served-safe rows slots (b .direct) n k (endOf k b slots (λ i. idOf rows (rowAt (b .direct) slots i)) n) r e
+
+    go : (s t : Bool) → ltb (firstRow slots b k) n ≡ s → eqb (idOf rows (firstRow slots b k)) k ≡ t → pick (s && t) (some (firstRow slots b k)) (sought rows slots b k) ≡ some r → (r < n) × (idOf rows r ≡ k)
+    go true true a c d =
+        let q : firstRow slots b k ≡ r = cc in
+        (subst (λ (z : ℕ). z < n) q (ltb-true (firstRow slots b k) n a), subst (λ (z : ℕ). idOf rows z ≡ k) q (eqb-true (idOf rows (firstRow slots b k)) k c))
+    go true false a c d = found d
+    go false t a c d = found d
+
+module _ (rows slots : List ℕ) (b : Ids) (k : ℕ) where
+  -- the row that is looked at first has the id
+  pub get-first : (r : ℕ) → r ≡ firstRow slots b k → (t : Bool) → t ≡ standing rows (tableRoom (length rows) (length slots) (b .count)) r k → t ≡ true → some r ≡ searched rows slots b k
+  get-first r e t q h = subst (λ (z : ℕ). some r ≡ pick (standing rows (tableRoom (length rows) (length slots) (b .count)) z k) (some z) (sought rows slots b k)) e (rw (sym q ∙ h) refl)
+
+  -- it has not
+  pub get-later : (r : ℕ) → r ≡ firstRow slots b k → (t : Bool) → t ≡ standing rows (tableRoom (length rows) (length slots) (b .count)) r k → t ≡ false → sought rows slots b k ≡ searched rows slots b k
+  get-later r e t q h = subst (λ (z : ℕ). sought rows slots b k ≡ pick (standing rows (tableRoom (length rows) (length slots) (b .count)) z k) (some z) (sought rows slots b k)) e (rw (sym q ∙ h) refl)
+
+module _ (rows slots : List ℕ) (b : Ids) (k n e : ℕ) (room : n ≡ tableRoom (length rows) (length slots) (b .count)) (end : e ≡ endOf k b slots (λ i. idOf rows (rowAt (b .direct) slots i)) n) where
   -- an end is at most one past the slots
   pub end-small : e ≤ 1073741825
-  end-small = let q = end-of-within k (b .distinct) (λ i. idOf rows (rowAt (b .direct) slots i)) n (b .first) (b .last) in omega arith
+  end-small = let q = end-of-within k b slots (λ i. idOf rows (rowAt (b .direct) slots i)) n in omega (arith, room, end, q)
 
   -- the code's row count and end are the search's
-  searched-is : servedOf rows slots (b .direct) n k e ≡ searched rows slots b k
-  searched-is = ap (λ (z : ℕ). servedOf rows slots (b .direct) n k z) end ∙ ap (λ (z : ℕ). servedOf rows slots (b .direct) z k (endOf k (b .distinct) (λ i. idOf rows (rowAt (b .direct) slots i)) z (b .first) (b .last))) room
+  sought-is : servedOf rows slots (b .direct) (tableRoom (length rows) (length slots) (b .count)) k e ≡ sought rows slots b k
+  sought-is = ap (λ (z : ℕ). servedOf rows slots (b .direct) (tableRoom (length rows) (length slots) (b .count)) k z) (end ∙ ap (λ (z : ℕ). endOf k b slots (λ i. idOf rows (rowAt (b .direct) slots i)) z) room)
 
   -- no slot holds an id up to the one sought
-  pub get-none : e ≡ 0 → none ≡ searched rows slots b k
-  get-none h = sym (rw (eq-eqb e 0 h) refl) ∙ searched-is
+  pub seek-none : e ≡ 0 → none ≡ sought rows slots b k
+  seek-none h = sym (rw (eq-eqb e 0 h) refl) ∙ sought-is
 
-  module _ (r : ℕ) (row : r ≡ rowAt (b .direct) slots (e - 1)) (some-slot : e ≡ 0 → ⊥) where
-    -- the last that does holds a row with it
-    pub get-hit : r < n → idOf rows r ≡ k → some r ≡ searched rows slots b k
-    get-hit h d = go (rowAt (b .direct) slots (e - 1)) row refl ∙ searched-is
-      where
-        go : (q : ℕ) → r ≡ q → rowAt (b .direct) slots (e - 1) ≡ q → some r ≡ servedOf rows slots (b .direct) n k e
-        go q p s = let t : rowAt (b .direct) slots (e - 1) ≡ r = s ∙ sym p in rw (ne-eqb e 0 some-slot, t, lt-ltb r n h, eq-eqb (idOf rows r) k d) refl
+  module _ (r : ℕ) (row : r ≡ rowAt (b .direct) slots (e - 1)) (some-slot : e ≡ 0 → ⊥) (t : Bool) (told : t ≡ standing rows (tableRoom (length rows) (length slots) (b .count)) r k) where
+    -- the last that does holds a row with it, or not
+    served : pick t (some r) none ≡ sought rows slots b k
+    served =
+        subst (λ (u : Bool). pick u (some r) none ≡ sought rows slots b k) (sym told)
+        (subst (λ (z : ℕ). pick (standing rows (tableRoom (length rows) (length slots) (b .count)) z k) (some z) none ≡ sought rows slots b k) (sym row) (sym (rw (ne-eqb e 0 some-slot) refl) ∙ sought-is))
 
-    -- or another id
-    pub get-other : r < n → (idOf rows r ≡ k → ⊥) → none ≡ searched rows slots b k
-    get-other h d = let t : rowAt (b .direct) slots (e - 1) ≡ r = sym row in sym (rw (ne-eqb e 0 some-slot, t, lt-ltb r n h, ne-eqb (idOf rows r) k d) refl) ∙ searched-is
+    pub seek-hit : t ≡ true → some r ≡ sought rows slots b k
+    seek-hit h = rw h at served
 
-    -- or a row outside the table
-    pub get-outside : n ≤ r → none ≡ searched rows slots b k
-    get-outside h = let t : rowAt (b .direct) slots (e - 1) ≡ r = sym row in sym (rw (ne-eqb e 0 some-slot, t, le-ltb r n h) refl) ∙ searched-is
+    pub seek-other : t ≡ false → none ≡ sought rows slots b k
+    seek-other h = rw h at served
