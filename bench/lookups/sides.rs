@@ -29,10 +29,8 @@ unsafe extern "C" {
         rows_len: usize,
         slots: *const u32,
         slots_len: usize,
-        count: usize,
-        first: u32,
-        last: u32,
-        flags: u32,
+        ids: *const u64,
+        ids_len: usize,
         id: u32,
     ) -> u32;
 }
@@ -100,7 +98,7 @@ pub struct Table {
     headers: Room,
     rows: Room,
     slots: Room,
-    beside: [u64; 4],
+    beside: [u64; 8],
 }
 
 impl Table {
@@ -109,7 +107,7 @@ impl Table {
             headers: Room::new(headers * 4),
             rows: Room::new(records * 6),
             slots: Room::new(records),
-            beside: [0; 4],
+            beside: [0; 8],
         };
         table.scan(file);
         table.index();
@@ -145,14 +143,13 @@ impl Table {
                 self.slots.place_mut(),
                 self.slots.len,
                 self.beside.as_mut_ptr(),
-                4,
+                self.beside.len(),
             )
         };
         assert_eq!(code, 0);
     }
 
     pub fn get(&self, id: u32) -> Option<usize> {
-        let [count, first, last, flags] = self.beside;
         // SAFETY: each pointer goes with its room's length.
         let row = unsafe {
             hooflift_get(
@@ -160,10 +157,8 @@ impl Table {
                 self.rows.len,
                 self.slots.place(),
                 self.slots.len,
-                count as usize,
-                first as u32,
-                last as u32,
-                flags as u32,
+                self.beside.as_ptr(),
+                self.beside.len(),
                 id,
             )
         };
