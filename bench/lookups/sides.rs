@@ -185,7 +185,7 @@ impl Table {
         sum
     }
 
-    /// The bytes that finding ids takes beside the rows: the slots, and four numbers.
+    /// The bytes that finding ids takes beside the rows: the slots, and four of the numbers beside them.
     pub fn bytes(&self) -> u64 {
         self.slots.len as u64 * 4 + 32
     }
@@ -211,7 +211,7 @@ impl Table {
     /// The search of crates/index/specs/Search.antt, with the lines that it touches.
     pub fn counted(&self, id: u32, lines: &mut Lines) -> Option<usize> {
         let mut seen = Seen::default();
-        let [_, first, last, _] = self.beside;
+        let [_, first, last, ..] = self.beside;
         let end = if last <= u64::from(id) {
             self.slots.len
         } else if u64::from(id) < first {
@@ -227,7 +227,7 @@ impl Table {
     /// Where the slots that hold ids up to this one end: even guesses, one step from an end, and then the middle.
     fn end_from(&self, id: u32, seen: &mut Seen) -> usize {
         let k = u64::from(id);
-        let [_, mut under, mut over, flags] = self.beside;
+        let [_, mut under, mut over, flags, ..] = self.beside;
         let (mut lo, mut hi) = (1, self.slots.len - 1);
         let mut guided = GUIDED;
         while lo < hi {

@@ -5,6 +5,7 @@ use mathlib.Core.Path.{_≡_, refl, ap, subst}
 use mathlib.Core.Bool.{Bool, true, false}
 use mathlib.Core.Option.{Option, none, some}
 use Rattle.error.specs.Refusal.{Refusal, Told, good, bad}
+use Rattle.statement.specs.Row.{mapped}
 use Rattle.params.specs.Reader.{Read, reading}
 
 -- 0, or the number of the refusal
@@ -67,3 +68,13 @@ leaves-bad {A} {r} {q} {p} {z} {n} {w} old e g h = subst (λ (t : Read A). Leave
 -- what stands in a lent number after a reader's answer
 pub leaves-value : {A B : Type 0} (f : A → B) (old : B) {r s : Read A} → r ≡ s → readValue f (r .answer) old ≡ readValue f (s .answer) old
 leaves-value {A} f old e = ap (λ (t : Read A). readValue f (t .answer) old) e
+
+-- what is found, once it is read
+pub found-code : {A : Type 0} (r : Told A) → readCode r ≡ foundCode (mapped some r)
+found-code (good a) = refl
+found-code (bad q) = refl
+
+-- and what stands in a lent number then
+pub found-value : {A B : Type 0} (f : A → B) (r : Told A) (old : B) → readValue f r old ≡ foundValue f (mapped some r) old
+found-value f (good a) old = refl
+found-value f (bad q) old = refl

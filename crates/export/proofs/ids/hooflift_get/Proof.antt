@@ -29,14 +29,14 @@ enum-told c = search needs
 
 -- src/ids.rt:29:1
 returns : tie.Need-returns
-returns c = 
+returns c =
     let k = c .before .before .before in
     let a = k .before .before .before .before .before .args in
     ap rowNumber (ap toldFound (sym (c .before .r .given .1)) ∙ k .get .ensures ∙ ap (λ (b : Ids). searched (now (a .rows)) (now (a .slots)) b (a .id)) (k .before .ids-of .ensures))
 
 -- src/ids.rt:29:1
 returns-2 : tie.Need-returns-2
-returns-2 c = 
+returns-2 c =
     let k = c .before .before in
     let a = k .before .before .before .before .before .args in
     ap rowNumber (ap toldFound (sym (c .enum-told .given .1)) ∙ k .get .ensures ∙ ap (λ (b : Ids). searched (now (a .rows)) (now (a .slots)) b (a .id)) (k .before .ids-of .ensures))

@@ -33,7 +33,7 @@ same-length-2 c = search needs
 
 -- src/ids.rt:10:1
 returns-2 : tie.Need-returns-2
-returns-2 c = 
+returns-2 c =
     let p = c .before .before in
     let b = p .before .before .before .before in
     let s = b .before .before in
