@@ -78,3 +78,8 @@ found-code (bad q) = refl
 pub found-value : {A B : Type 0} (f : A → B) (r : Told A) (old : B) → readValue f r old ≡ foundValue f (mapped some r) old
 found-value f (good a) old = refl
 found-value f (bad q) old = refl
+
+-- and where a refusal stands
+pub found-fault : {A : Type 0} (r : Told A) (old : ℕ) → readFault r old ≡ readFault (mapped some r) old
+found-fault (good a) old = refl
+found-fault (bad q) old = refl

@@ -24,14 +24,14 @@ number-requires c κs = search needs
 
 -- src/lib.rt:25:1
 returns : tie.Need-returns
-returns c = 
+returns c =
     let e = ap toldSpan (sym (c .before .s .given .1)) in
     let a = c .before .before .before .args in
     (ap (λ (r : Told Span). readCode r) e, (ap (λ (r : Told Span). readValue (λ (x : Span). x .start) r (now (a .start))) e, ap (λ (r : Told Span). readValue (λ (x : Span). x .end) r (now (a .stop))) e))
 
 -- src/lib.rt:25:1
 returns-2 : tie.Need-returns-2
-returns-2 c = 
+returns-2 c =
     let e = ap toldSpan (sym (c .before .before .s2 .given .1)) in
     let a = c .before .before .before .before .args in
     (c .number .ensures ∙ ap (λ (r : Told Span). readCode r) e, (ap (λ (r : Told Span). readValue (λ (x : Span). x .start) r (now (a .start))) e, ap (λ (r : Told Span). readValue (λ (x : Span). x .end) r (now (a .stop))) e))

@@ -29,7 +29,7 @@ put-span-requires c κs = search needs
 
 -- src/by_id.rt:32:1
 returns : tie.Need-returns
-returns c = 
+returns c =
     let t = c .before .before .before .before in
     let a = t .before .before .before .before .before .args in
     let e = c .before .before .before .args2 .ensures ∙ ap (λ (b : Tables). argsBy (length (now (a .file))) (rowFound (now (a .rows)) (searched (now (a .rows)) (now (a .slots)) (b .ids) (a .id)))) (t .tables-of .ensures) in

@@ -27,7 +27,7 @@ kind-number-requires c κs = search needs
 
 -- src/by_id.rt:54:1
 returns : tie.Need-returns
-returns c = 
+returns c =
     let t = c .before .before in
     let a = t .before .before .before .before .before .args in
     c .kind-number .ensures ∙ ap rankOf (c .before .kind-of .ensures) ∙ ap (λ (b : Tables). rankOf (kindFound (now (a .file)) (rowFound (now (a .rows)) (searched (now (a .rows)) (now (a .slots)) (b .ids) (a .id))))) (t .tables-of .ensures)

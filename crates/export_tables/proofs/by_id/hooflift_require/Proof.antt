@@ -48,7 +48,7 @@ same-length c = search needs
 
 -- src/by_id.rt:14:1
 returns : tie.Need-returns
-returns c = 
+returns c =
     let k = c .before .before .before .before .before .before .before in
     let a = k .before .before .before .before .before .before .args in
     let e = ap toldRequired (sym (c .before .before .before .before .before .w .given .1)) ∙ k .require .ensures ∙ ap (λ (b : Tables). required (rowFound (now (a .rows)) (searched (now (a .rows)) (now (a .slots)) (b .ids) (a .id)))) (k .before .tables-of .ensures) in
@@ -57,7 +57,7 @@ returns c =
 
 -- src/by_id.rt:14:1
 returns-2 : tie.Need-returns-2
-returns-2 c = 
+returns-2 c =
     let k = c .before .before .before .before in
     let a = k .before .before .before .before .before .before .args in
     let e = ap toldRequired (sym (c .before .before .f .given .1)) ∙ k .require .ensures ∙ ap (λ (b : Tables). required (rowFound (now (a .rows)) (searched (now (a .rows)) (now (a .slots)) (b .ids) (a .id)))) (k .before .tables-of .ensures) in

@@ -39,7 +39,7 @@ enum-told c = search needs
 
 -- src/by_row.rt:94:1
 returns : tie.Need-returns
-returns c = 
+returns c =
     let k = c .before .before .before in
     let a = k .before .before .before .before .before .before .args in
     let t = k .before .before .tables-of in
@@ -48,7 +48,7 @@ returns c =
 
 -- src/by_row.rt:94:1
 returns-2 : tie.Need-returns-2
-returns-2 c = 
+returns-2 c =
     let k = c .before .before in
     let a = k .before .before .before .before .before .before .args in
     let t = k .before .before .tables-of in

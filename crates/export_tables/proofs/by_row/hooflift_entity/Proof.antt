@@ -42,7 +42,7 @@ same-length c = search needs
 
 -- src/by_row.rt:23:1
 returns : tie.Need-returns
-returns c = 
+returns c =
     let k = c .before .before .before .before .before .before .before in
     let a = k .before .before .before .before .before .args in
     let e = ap toldEntry (sym (c .before .before .before .before .before .w .given .1)) ∙ k .entity .ensures ∙ ap (λ (t : Tables). rowIn (now (a .rows)) (t .records) (a .k)) (k .before .tables-of .ensures) in
@@ -51,7 +51,7 @@ returns c =
 
 -- src/by_row.rt:23:1
 returns-2 : tie.Need-returns-2
-returns-2 c = 
+returns-2 c =
     let k = c .before .before in
     let a = k .before .before .before .before .before .args in
     let e = ap toldEntry (sym (c .enum-told .given .1)) ∙ k .entity .ensures ∙ ap (λ (t : Tables). rowIn (now (a .rows)) (t .records) (a .k)) (k .before .tables-of .ensures) in

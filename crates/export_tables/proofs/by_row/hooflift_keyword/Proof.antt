@@ -44,15 +44,14 @@ enum-told c = search needs
 
 -- src/by_row.rt:35:1
 returns : tie.Need-returns
-returns c = 
+returns c =
     let k = c .before .before .before .before .before .before .before in
     let a = k .before .before .before .before .before .args in
     let e = ap toldEntry (sym (c .before .before .before .before .before .w .given .1)) ∙ k .entity .ensures ∙ ap (λ (t : Tables). rowIn (now (a .rows)) (t .records) (a .k)) (k .before .tables-of .ensures) in
     let s = c .before .before .before .keyword .ensures in
     let n = length (now (a .file)) in
     let w = c .before .before .before .before .before .w .given .0 .0 in
-    let x = spanIn n (w .keyword .start) (w .keyword .end) in
-    (
+    let x = spanIn n (w .keyword .start) (w .keyword .end) in (
       c .put-span .ensures .0 ∙ ap (λ (r : Told Span). readCode r) s ∙ found-code x ∙ ap (λ (o : Option Row). foundCode (keySpan n o)) e,
       (
         c .put-span .ensures .1 .0 ∙ ap (λ (r : Told Span). readValue (λ (x : Span). x .start) r (now (a .start))) s ∙ found-value (λ (y : Span). y .start) x (now (a .start)) ∙ ap (λ (o : Option Row). foundValue (λ (x : Span). x .start) (keySpan n o) (now (a .start))) e,
@@ -62,7 +61,7 @@ returns c =
 
 -- src/by_row.rt:35:1
 returns-2 : tie.Need-returns-2
-returns-2 c = 
+returns-2 c =
     let k = c .before .before in
     let a = k .before .before .before .before .before .args in
     let e = ap toldEntry (sym (c .enum-told .given .1)) ∙ k .entity .ensures ∙ ap (λ (t : Tables). rowIn (now (a .rows)) (t .records) (a .k)) (k .before .tables-of .ensures) in
