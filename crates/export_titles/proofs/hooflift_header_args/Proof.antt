@@ -42,7 +42,7 @@ number-requires c κs = search needs
 
 -- src/lib.rt:36:1
 returns : tie.Need-returns
-returns c = 
+returns c =
     let k = c .before .before .before in
     let a = c .before .before .before .before .before .before .before .before .before .args in
     let e = ap toldHeader (sym (c .before .r .given .1)) ∙ k .header-args .ensures ∙ ap (λ (t : Tables). headerArgs (length (now (a .file))) (now (a .headers)) (headerFirst (now (a .file)) (now (a .headers)) (t .headers) (now (a .name)))) (k .before .tables-of .ensures) in
@@ -50,7 +50,7 @@ returns c =
 
 -- src/lib.rt:36:1
 returns-2 : tie.Need-returns-2
-returns-2 c = 
+returns-2 c =
     let k = c .before .before in
     let a = c .before .before .before .before .before .before .before .before .args in
     let e = ap toldHeader (sym (c .enum-told .given .1)) ∙ k .header-args .ensures ∙ ap (λ (t : Tables). headerArgs (length (now (a .file))) (now (a .headers)) (headerFirst (now (a .file)) (now (a .headers)) (t .headers) (now (a .name)))) (k .before .tables-of .ensures) in
@@ -58,7 +58,7 @@ returns-2 c =
 
 -- src/lib.rt:36:1
 returns-3 : tie.Need-returns-3
-returns-3 c = 
+returns-3 c =
     let k = c .before .before .before .before in
     let a = c .before .before .before .before .before .before .before .before .before .before .args in
     let e = ap toldHeader (sym (c .before .before .f .given .1)) ∙ k .header-args .ensures ∙ ap (λ (t : Tables). headerArgs (length (now (a .file))) (now (a .headers)) (headerFirst (now (a .file)) (now (a .headers)) (t .headers) (now (a .name)))) (k .before .tables-of .ensures) in

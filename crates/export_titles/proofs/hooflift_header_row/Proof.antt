@@ -33,7 +33,7 @@ enum-told c = search needs
 
 -- src/lib.rt:15:1
 returns : tie.Need-returns
-returns c = 
+returns c =
     let k = c .before .before .before in
     let a = c .before .before .before .before .before .before .before .before .before .args in
     let e = ap toldPlace (sym (c .before .i .given .1)) ∙ k .header-row .ensures ∙ ap (λ (t : Tables). headerFirst (now (a .file)) (now (a .headers)) (t .headers) (now (a .name))) (k .before .tables-of .ensures) in
@@ -41,7 +41,7 @@ returns c =
 
 -- src/lib.rt:15:1
 returns-2 : tie.Need-returns-2
-returns-2 c = 
+returns-2 c =
     let k = c .before .before in
     let a = c .before .before .before .before .before .before .before .before .args in
     let e = ap toldPlace (sym (c .enum-told .given .1)) ∙ k .header-row .ensures ∙ ap (λ (t : Tables). headerFirst (now (a .file)) (now (a .headers)) (t .headers) (now (a .name))) (k .before .tables-of .ensures) in

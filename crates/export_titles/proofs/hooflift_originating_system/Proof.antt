@@ -35,7 +35,7 @@ same-length c = search needs
 
 -- src/lib.rt:112:1
 returns : tie.Need-returns
-returns c = 
+returns c =
     let k = c .before .before .before .before .before .before .before in
     let a = c .before .before .before .before .before .before .before .before .before .before .before .before .before .before .args in
     let s = c .before .before .before .before .before .before .before .before .before .tables-of .ensures in

@@ -35,21 +35,21 @@ number-requires c κs = search needs
 
 -- src/lib.rt:61:1
 returns : tie.Need-returns
-returns c = 
+returns c =
     let a = c .before .before .before .args in
     let e = ap toldTitle (sym (c .before .t .given .1)) in
     (tells-good e, (ap (λ (r : Told Shown). readValue shownRoom r (now (a .room))) e, (ap (λ (r : Told Shown). readValue shownStart r (now (a .start))) e, ap (λ (r : Told Shown). readValue shownStop r (now (a .stop))) e)))
 
 -- src/lib.rt:61:1
 returns-2 : tie.Need-returns-2
-returns-2 c = 
+returns-2 c =
     let a = c .before .before .before .args in
     let e = ap toldTitle (sym (c .before .t2 .given .1)) in
     (tells-good e, (ap (λ (r : Told Shown). readValue shownRoom r (now (a .room))) e, (ap (λ (r : Told Shown). readValue shownStart r (now (a .start))) e, ap (λ (r : Told Shown). readValue shownStop r (now (a .stop))) e)))
 
 -- src/lib.rt:61:1
 returns-3 : tie.Need-returns-3
-returns-3 c = 
+returns-3 c =
     let a = c .before .before .before .before .before .args in
     let e = ap toldTitle (sym (c .before .before .before .t3 .given .1)) in
     (tells-bad (now (a .fault)) e (c .number .ensures) (c .before .place .ensures), (ap (λ (r : Told Shown). readValue shownRoom r (now (a .room))) e, (ap (λ (r : Told Shown). readValue shownStart r (now (a .start))) e, ap (λ (r : Told Shown). readValue shownStop r (now (a .stop))) e)))

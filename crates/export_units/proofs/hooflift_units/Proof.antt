@@ -31,7 +31,7 @@ put-units-requires c κs = search needs
 
 -- src/lib.rt:59:1
 returns : tie.Need-returns
-returns c = 
+returns c =
     let k = c .before .before .before .before .before .before in
     let a = c .before .before .before .before .before .before .before .before .before .before .before .before .args in
     let e = k .resolve .ensures ∙ ap (λ (t : Tables). resolveOf (now (a .file)) (findOf (now (a .file)) (now (a .rows)) (now (a .slots)) (t .ids)) (thingsFrom (now (a .file)) (now (a .rows)) (tableRows (now (a .rows)) (t .records)) 0)) (k .before .tables-of .ensures) in

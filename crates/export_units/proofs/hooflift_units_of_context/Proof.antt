@@ -49,7 +49,7 @@ enum-told c = search needs
 
 -- src/lib.rt:82:1
 returns : tie.Need-returns
-returns c = 
+returns c =
     let k = c .before .before .before .before .before .before .before .before .before .before in
     let u = c .before .before .before .before .before .before .units-of-context in
     let a = c .before .before .before .before .before .before .before .before .before .before .before .before .before .before .before .before .args in
@@ -62,7 +62,7 @@ returns c =
 
 -- src/lib.rt:82:1
 returns-2 : tie.Need-returns-2
-returns-2 c = 
+returns-2 c =
     let k = c .before .before in
     let a = c .before .before .before .before .before .before .before .before .args in
     let s = k .before .tables-of .ensures in

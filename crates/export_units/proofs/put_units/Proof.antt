@@ -36,14 +36,14 @@ number-requires c κs = search needs
 
 -- src/lib.rt:29:1
 returns : tie.Need-returns
-returns c = 
+returns c =
     let a = c .before .before .before .before .args in
     let e = ap toldUnits (sym (c .before .before .r .given .1)) in
     (tells-good e, (ap (λ (r : Told Units). readValue (λ (u : Units). u .length) r (toBits binary64 (now (a .mm)))) e, (ap (λ (r : Told Units). readValue (λ (u : Units). u .angle) r (toBits binary64 (now (a .rad)))) e, (ap (λ (r : Told Units). readValue (λ (u : Units). u .tolerance) r (toBits binary64 (now (a .tolerance)))) e, c .number-of .ensures ∙ ap (λ (r : Told Units). readValue (λ (u : Units). truthNumber (u .resolved)) r (now (a .resolved))) e))))
 
 -- src/lib.rt:29:1
 returns-2 : tie.Need-returns-2
-returns-2 c = 
+returns-2 c =
     let a = c .before .before .before .before .before .args in
     let e = ap toldUnits (sym (c .before .before .before .r2 .given .1)) in
     (tells-bad (now (a .fault)) e (c .number .ensures) (c .before .place .ensures), (ap (λ (r : Told Units). readValue (λ (u : Units). u .length) r (toBits binary64 (now (a .mm)))) e, (ap (λ (r : Told Units). readValue (λ (u : Units). u .angle) r (toBits binary64 (now (a .rad)))) e, (ap (λ (r : Told Units). readValue (λ (u : Units). u .tolerance) r (toBits binary64 (now (a .tolerance)))) e, ap (λ (r : Told Units). readValue (λ (u : Units). truthNumber (u .resolved)) r (now (a .resolved))) e))))

@@ -34,7 +34,7 @@ same-length c = search needs
 
 -- src/keeping.rt:9:1
 returns : tie.Need-returns
-returns c = 
+returns c =
     let k = c .before .before .before .before .before in
     let a = c .before .before .before .before .before .before .before .before .before .args in
     let e = ap toldKept (sym (c .before .n .given .1)) ∙ k .keep-rows .ensures .0 in
@@ -46,7 +46,7 @@ same-length-2 c = search needs
 
 -- src/keeping.rt:9:1
 returns-2 : tie.Need-returns-2
-returns-2 c = 
+returns-2 c =
     let k = c .before .before .before .before .before .before in
     let a = c .before .before .before .before .before .before .before .before .before .before .args in
     let e = ap toldKept (sym (c .before .before .f .given .1)) ∙ k .keep-rows .ensures .0 in

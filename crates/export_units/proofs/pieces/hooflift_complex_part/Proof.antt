@@ -35,7 +35,7 @@ same-length c = search needs
 
 -- src/pieces.rt:43:1
 returns : tie.Need-returns
-returns c = 
+returns c =
     let a = c .before .before .before .before .before .before .before .before .before .args in
     let e = c .before .before .before .before .before .complex-part .ensures ∙ ap (λ (q : Kind). partOf (now (a .file)) (a .start) (a .end) (a .complex) q) (c .before .before .before .before .before .before .kind-by .ensures) in
     (c .before .before .put-next .ensures .0 ∙ ap (λ (r : Told (Option HeaderRow)). outCode 4 (length (now (a .part))) r) e, (c .before .before .put-next .ensures .1 .0 ∙ ap (λ (r : Told (Option HeaderRow)). outAfter 4 fourOf r (now (a .part))) e, c .before .before .put-next .ensures .1 .1 ∙ ap (λ (r : Told (Option HeaderRow)). readFault r (now (a .fault))) e))

@@ -46,21 +46,21 @@ same-length c = search needs
 
 -- src/pieces.rt:10:1
 returns : tie.Need-returns
-returns c = 
+returns c =
     let a = c .before .before .before .before .before .before .before .before .args in
     let e = ap toldNext (sym (c .before .before .before .before .before .r .given .1)) in
     (c .before .before .put-part .ensures .0 ∙ ap (λ (r : Told (Option HeaderRow)). outCode 4 (length (now (a .part))) r) e, (c .before .before .put-part .ensures .1 ∙ ap (λ (r : Told (Option HeaderRow)). outAfter 4 fourOf r (now (a .part))) e, ap (λ (r : Told (Option HeaderRow)). readFault r (now (a .fault))) e))
 
 -- src/pieces.rt:10:1
 returns-2 : tie.Need-returns-2
-returns-2 c = 
+returns-2 c =
     let a = c .before .before .before .args in
     let e = ap toldNext (sym (c .enum-told .given .1)) in
     (ap (λ (r : Told (Option HeaderRow)). outCode 4 (length (now (a .part))) r) e, (ap (λ (r : Told (Option HeaderRow)). outAfter 4 fourOf r (now (a .part))) e, ap (λ (r : Told (Option HeaderRow)). readFault r (now (a .fault))) e))
 
 -- src/pieces.rt:10:1
 returns-3 : tie.Need-returns-3
-returns-3 c = 
+returns-3 c =
     let a = c .before .before .before .before .before .before .args in
     let e = ap toldNext (sym (c .before .before .before .r2 .given .1)) in
     (c .number .ensures ∙ ap (λ (r : Told (Option HeaderRow)). outCode 4 (length (now (a .part))) r) e, (ap (λ (r : Told (Option HeaderRow)). outAfter 4 fourOf r (now (a .part))) e, c .before .place .ensures ∙ ap (λ (r : Told (Option HeaderRow)). readFault r (now (a .fault))) e))
