@@ -41,7 +41,7 @@ enum-told c = search needs
 
 -- src/lib.rt:73:9
 returns : tie.Need-returns
-returns c = 
+returns c =
     let k = c .before .before .before .before in
     let a = c .before .before .before .before .before .before .before .before .args in
     needs-answered (now (a .file)) (toldScan (k .scan .result)) (k .scan .ensures .0) (λ q e n. good-not-bad q (rw (c .enum-told .given .1) at e))
@@ -52,7 +52,7 @@ number-requires c κs = search needs
 
 -- src/lib.rt:76:9
 returns-2 : tie.Need-returns-2
-returns-2 c = 
+returns-2 c =
     let k = c .before .before .before .before .before .before .before in
     let a = c .before .before .before .before .before .before .before .before .before .before .before .args in
     let v = c .before .before .before .r .given .1 in
@@ -64,7 +64,7 @@ pass-requires c κs = search needs
 
 -- src/lib.rt:66:1
 returns-3 : tie.Need-returns-3
-returns-3 c = 
+returns-3 c =
     let k = c .before .before .before .before .before .before .before .before in
     let a = c .before .before .before .before .before .before .before .before .before .before .before .before .args in
     let v = c .before .before .before .before .r .given .1 in

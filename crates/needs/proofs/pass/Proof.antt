@@ -38,7 +38,7 @@ rows-found-requires c κs = search needs
 
 -- src/lib.rt:43:27
 returns : tie.Need-returns Inv-loop μ-loop
-returns c = 
+returns c =
     let n = c .before .before .before in
     let t = n .before in
     let a = t .before .before .args in
@@ -51,7 +51,7 @@ enum-known-f c = search needs
 
 -- src/lib.rt:44:33
 returns-2 : tie.Need-returns-2 Inv-loop μ-loop
-returns-2 c = 
+returns-2 c =
     let n = c .before .before .before in
     let t = n .before in
     let a = t .before .before .args in
@@ -64,7 +64,7 @@ enum-known-to c = search needs
 
 -- src/lib.rt:41:5
 loop-less : tie.Need-loop-less Inv-loop μ-loop
-loop-less c = 
+loop-less c =
     let n = c .before .before .before in
     let t = n .before in
     let a = t .before .before .args in
@@ -74,7 +74,7 @@ loop-less c =
 
 -- src/lib.rt:41:5
 loop-again : tie.Need-loop-again Inv-loop μ-loop
-loop-again c = 
+loop-again c =
     let n = c .before .before .before in
     let t = n .before in
     let a = t .before .before .args in
@@ -88,7 +88,7 @@ enum-known-next c = search needs
 
 -- src/lib.rt:51:17
 add-h : tie.Need-add-h Inv-loop μ-loop
-add-h c = 
+add-h c =
     let n = c .before .before .before in
     let t = n .before in
     let a = t .before .before .args in
@@ -98,7 +98,7 @@ add-h c =
 
 -- src/lib.rt:41:5
 loop-less-2 : tie.Need-loop-less-2 Inv-loop μ-loop
-loop-less-2 c = 
+loop-less-2 c =
     let n = c .before .before .before in
     let t = n .before in
     let a = t .before .before .args in
@@ -108,7 +108,7 @@ loop-less-2 c =
 
 -- src/lib.rt:41:5
 loop-again-2 : tie.Need-loop-again-2 Inv-loop μ-loop
-loop-again-2 c = 
+loop-again-2 c =
     let n = c .before .before .before in
     let t = n .before in
     let a = t .before .before .args in
@@ -122,7 +122,7 @@ enum-known-span c = search needs
 
 -- src/lib.rt:56:17
 add-r : tie.Need-add-r Inv-loop μ-loop
-add-r c = 
+add-r c =
     let n = c .before .before .before in
     let t = n .before in
     let a = t .before .before .args in
@@ -136,7 +136,7 @@ greater-requires c κs = search needs
 
 -- src/lib.rt:41:5
 loop-less-3 : tie.Need-loop-less-3 Inv-loop μ-loop
-loop-less-3 c = 
+loop-less-3 c =
     let n = c .before .before .before .before in
     let t = n .before in
     let a = t .before .before .args in
@@ -146,7 +146,7 @@ loop-less-3 c =
 
 -- src/lib.rt:41:5
 loop-again-3 : tie.Need-loop-again-3 Inv-loop μ-loop
-loop-again-3 c = 
+loop-again-3 c =
     let n = c .before .before .before .before in
     let t = n .before in
     let a = t .before .before .args in
