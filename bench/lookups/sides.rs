@@ -30,10 +30,8 @@ unsafe extern "C" {
         rows_len: usize,
         slots: *const u32,
         slots_len: usize,
-        count: usize,
-        first: u32,
-        last: u32,
-        flags: u32,
+        ids: *const u64,
+        ids_len: usize,
         id: u32,
     ) -> u32;
 }
@@ -103,7 +101,7 @@ pub struct Table {
     headers: Room,
     rows: Room,
     slots: Room,
-    beside: [u64; 4],
+    beside: [u64; 8],
 }
 
 impl Table {
@@ -112,7 +110,7 @@ impl Table {
             headers: Room::new(headers * 4),
             rows: Room::new(records * 6),
             slots: Room::new(records),
-            beside: [0; 4],
+            beside: [0; 8],
         };
         table.scan(file);
         table.index();
@@ -148,14 +146,13 @@ impl Table {
                 self.slots.place_mut(),
                 self.slots.len,
                 self.beside.as_mut_ptr(),
-                4,
+                self.beside.len(),
             )
         };
         assert_eq!(code, 0);
     }
 
     pub fn get(&self, id: u32) -> Option<usize> {
-        let [count, first, last, flags] = self.beside;
         // SAFETY: each pointer goes with its room's length.
         let row = unsafe {
             hooflift_get(
@@ -163,10 +160,8 @@ impl Table {
                 self.rows.len,
                 self.slots.place(),
                 self.slots.len,
-                count as usize,
-                first as u32,
-                last as u32,
-                flags as u32,
+                self.beside.as_ptr(),
+                self.beside.len(),
                 id,
             )
         };
@@ -193,9 +188,9 @@ impl Table {
         sum
     }
 
-    /// The bytes that finding ids takes beside the rows: the slots, and four numbers.
+    /// The bytes that finding ids takes beside the rows: the slots, and six of the numbers beside them.
     pub fn bytes(&self) -> u64 {
-        self.slots.len as u64 * 4 + 32
+        self.slots.len as u64 * 4 + 48
     }
 
     /// What the build found of the ids.
@@ -208,7 +203,7 @@ impl Table {
     }
 
     fn even(&self) -> bool {
-        self.beside[3] / 4 % 2 == 1
+        self.beside[4] % 2 == 1
     }
 
     pub fn order(&self) -> &'static str {
@@ -253,8 +248,8 @@ impl Table {
 
     /// The row to look at first, where ids are dense: as far from the first as the id is from the first id.
     fn first_row(&self, id: u32, seen: &mut Seen) -> Option<usize> {
-        let [_, first, _, flags] = self.beside;
-        let dense = self.distinct() && flags / 8 == 0 && first <= u64::from(id);
+        let [_, first, _, _, _, shift, ..] = self.beside;
+        let dense = self.distinct() && shift == 0 && first <= u64::from(id);
         let far = dense.then(|| (u64::from(id) - first) as usize)?;
         if !self.direct() && self.slots.len <= far {
             return Some(0);
@@ -265,7 +260,7 @@ impl Table {
     /// Where the slots that hold ids up to this one end: all, none, by the step, by the guide, or by the search through all.
     fn end_of(&self, k: u64, seen: &mut Seen) -> usize {
         let n = self.slots.len;
-        let [_, first, last, _] = self.beside;
+        let [_, first, last, ..] = self.beside;
         if last <= k {
             n
         } else if k < first {
@@ -282,8 +277,7 @@ impl Table {
     /// By the guide: one look where the id would stand if its range were filled evenly, and the search in what is left of the range.
     fn guide_end(&self, k: u64, seen: &mut Seen) -> usize {
         let n = self.slots.len;
-        let [_, first, last, flags] = self.beside;
-        let shift = flags / 8;
+        let [_, first, last, _, _, shift, ..] = self.beside;
         let range = (k - first) >> shift;
         let (under, over) = (first + (range << shift), (first + ((range + 1) << shift)).min(last));
         let lo = self.start_at(range as usize, seen).max(1);

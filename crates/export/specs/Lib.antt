@@ -1,5 +1,4 @@
 pub mod Numbers
 pub mod Reals
 pub mod Texts
-pub mod Readers
 pub mod Ids

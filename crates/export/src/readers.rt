@@ -6,7 +6,7 @@ ghost use lib.Ieee.{binary64, toBits};
 ghost use Rattle.reals.specs.Scalar.{realOf};
 ghost use Rattle.params.specs.Reader.{skipOf};
 ghost use Rattle.lists.specs.Items.{nextBy, listOf, fitsIn, howMany, written};
-ghost use Rattle.export.specs.Readers.{readCode, readFault, readCount};
+ghost use Rattle.plain.specs.Answers.{Leaves, readValue};
 use lists::NextList;
 use params::Skipped;
 use params::State;
@@ -14,9 +14,7 @@ use params::State;
 // Goes past one parameter: 0, or the refusal's number, with its place in `fault`; `place` is where the reader then stands.
 #[no_mangle]
 pub extern "C" fn hooflift_skip(file: &[u8], place: &mut usize, end: usize, fault: &mut usize) -> u8
-    ensures { λ n. ⌜ n ≡ readCode (skipOf (now (file .entry)) (now (place .entry)) end .answer) ⌝ }
-    ensures { λ _. ⌜ now (place .exit) ≡ skipOf (now (file .entry)) (now (place .entry)) end .place ⌝ }
-    ensures { λ _. ⌜ now (fault .exit) ≡ readFault (skipOf (now (file .entry)) (now (place .entry)) end .answer) (now (fault .entry)) ⌝ }
+    ensures { λ n. ⌜ Leaves (skipOf (now (file .entry)) (now (place .entry)) end) (now (fault .entry)) n (now (place .exit)) (now (fault .exit)) ⌝ }
 {
     let at = State { place: *place, end };
     match params::skip(file, at) {
@@ -42,11 +40,9 @@ pub extern "C" fn hooflift_f64_list(
     count: &mut usize,
     fault: &mut usize,
 ) -> u8
-    ensures { λ n. ⌜ n ≡ readCode (howMany (nextBy (listOf realOf) (fitsIn (length (now (out .entry)))) (now (file .entry)) (now (place .entry)) end) .answer) ⌝ }
-    ensures { λ _. ⌜ now (place .exit) ≡ howMany (nextBy (listOf realOf) (fitsIn (length (now (out .entry)))) (now (file .entry)) (now (place .entry)) end) .place ⌝ }
+    ensures { λ n. ⌜ Leaves (howMany (nextBy (listOf realOf) (fitsIn (length (now (out .entry)))) (now (file .entry)) (now (place .entry)) end)) (now (fault .entry)) n (now (place .exit)) (now (fault .exit)) ⌝ }
     ensures { λ _. ⌜ map (toBits binary64) (now (out .exit)) ≡ written (nextBy (listOf realOf) (fitsIn (length (now (out .entry)))) (now (file .entry)) (now (place .entry)) end .answer) (map (toBits binary64) (now (out .entry))) ⌝ }
-    ensures { λ _. ⌜ now (count .exit) ≡ readCount (howMany (nextBy (listOf realOf) (fitsIn (length (now (out .entry)))) (now (file .entry)) (now (place .entry)) end) .answer) (now (count .entry)) ⌝ }
-    ensures { λ _. ⌜ now (fault .exit) ≡ readFault (howMany (nextBy (listOf realOf) (fitsIn (length (now (out .entry)))) (now (file .entry)) (now (place .entry)) end) .answer) (now (fault .entry)) ⌝ }
+    ensures { λ _. ⌜ now (count .exit) ≡ readValue (λ n. n) (howMany (nextBy (listOf realOf) (fitsIn (length (now (out .entry)))) (now (file .entry)) (now (place .entry)) end) .answer) (now (count .entry)) ⌝ }
 {
     let at = State { place: *place, end };
     match lists::next_f64_list(file, at, out) {

@@ -1,11 +1,10 @@
 use borrow.Author.Needs.{needs}
-use Rattle.params.specs.Reader.{Read, reading}
-use Rattle.lists.specs.Items.{toldNextList}
-use Rattle.export.specs.Readers.{readCode, readFault, readCount}
-use Rattle.error.specs.Refusal.{Refusal, Told, told}
 use denote.Ref.{now}
-use Prim.Native.Nat.{ℕ}
 use mathlib.Core.Path.{_≡_, _∙_, sym, ap}
+use Prim.Native.Nat.{ℕ}
+use Rattle.params.specs.Reader.{Read}
+use Rattle.plain.specs.Answers.{readValue, leaves-good, leaves-bad}
+use Rattle.lists.specs.Items.{toldNextList}
 use Rattle.export.proofs.readers.hooflift_f64_list.Statement.{statement}
 use Rattle.export.proofs.readers.hooflift_f64_list.Tie as tie
 use Rattle.export.proofs.readers.hooflift_f64_list.Reads as reads
@@ -40,10 +39,11 @@ same-length c = search needs
 
 -- src/readers.rt:36:1
 returns : tie.Need-returns
-returns c = let k = c .before .before .before .before .before in
+returns c =
+    let k = c .before .before .before .before .before in
     let a = k .before .before .before .before .before .args in
     let e = ap toldNextList (sym (c .before .n .given .1)) ∙ k .next-f64-list .ensures .0 in
-    (ap (λ (r : Read ℕ). readCode (r .answer)) e, (ap (λ (r : Read ℕ). r .place) e, (k .next-f64-list .ensures .1, (ap (λ (r : Read ℕ). readCount (r .answer) (now (a .count))) e, ap (λ (r : Read ℕ). readFault (r .answer) (now (a .fault))) e))))
+    (leaves-good e, (k .next-f64-list .ensures .1, ap (λ (r : Read ℕ). readValue (λ (n : ℕ). n) (r .answer) (now (a .count))) e))
 
 -- src/readers.rt:36:1
 same-length-2 : tie.Need-same-length-2
@@ -51,11 +51,11 @@ same-length-2 c = search needs
 
 -- src/readers.rt:36:1
 returns-2 : tie.Need-returns-2
-returns-2 c = let f = c .before .before .before in
-    let k = f .before .before .before .before in
+returns-2 c =
+    let k = c .before .before .before .before .before .before .before in
     let a = k .before .before .before .before .before .args in
-    let e = ap toldNextList (sym (f .f .given .1)) ∙ k .next-f64-list .ensures .0 in
-    (c .number .ensures ∙ ap (λ (r : Read ℕ). readCode (r .answer)) e, (ap (λ (r : Read ℕ). r .place) e, (k .next-f64-list .ensures .1, (ap (λ (r : Read ℕ). readCount (r .answer) (now (a .count))) e, c .before .place .ensures ∙ ap (λ (r : Read ℕ). readFault (r .answer) (now (a .fault))) e))))
+    let e = ap toldNextList (sym (c .before .before .before .f .given .1)) ∙ k .next-f64-list .ensures .0 in
+    (leaves-bad (now (a .fault)) e (c .number .ensures) (c .before .place .ensures), (k .next-f64-list .ensures .1, ap (λ (r : Read ℕ). readValue (λ (n : ℕ). n) (r .answer) (now (a .count))) e))
 
 pub hooflift-f64-list-spec : {M : Type 1} → statement M
 hooflift-f64-list-spec =

@@ -1,10 +1,8 @@
 use borrow.Author.Needs.{needs}
-use Rattle.params.specs.Reader.{Read, reading, toldSkipped, skipOf}
-use Rattle.export.specs.Readers.{readCode, readFault, readCount}
-use Rattle.error.specs.Refusal.{Refusal, Told, told}
 use denote.Ref.{now}
-use Prim.Native.Nat.{ℕ}
 use mathlib.Core.Path.{_≡_, _∙_, sym, ap}
+use Rattle.params.specs.Reader.{toldSkipped}
+use Rattle.plain.specs.Answers.{leaves-good, leaves-bad}
 use Rattle.export.proofs.readers.hooflift_skip.Statement.{statement}
 use Rattle.export.proofs.readers.hooflift_skip.Tie as tie
 use Rattle.export.proofs.readers.hooflift_skip.Reads as reads
@@ -35,18 +33,19 @@ number-requires c κs = search needs
 
 -- src/readers.rt:15:1
 returns : tie.Need-returns
-returns c = let k = c .before .before .before in
+returns c =
+    let k = c .before .before .before in
     let a = k .before .before .before .args in
     let e = ap toldSkipped (sym (c .before .to .given .1)) ∙ k .skip .ensures in
-    (ap (λ (r : Read (Unit {0})). readCode (r .answer)) e, (ap (λ (r : Read (Unit {0})). r .place) e, ap (λ (r : Read (Unit {0})). readFault (r .answer) (now (a .fault))) e))
+    leaves-good e
 
 -- src/readers.rt:15:1
 returns-2 : tie.Need-returns-2
-returns-2 c = let f = c .before .before .before in
-    let k = f .before .before in
+returns-2 c =
+    let k = c .before .before .before .before .before in
     let a = k .before .before .before .args in
-    let e = ap toldSkipped (sym (f .f .given .1)) ∙ k .skip .ensures in
-    (c .number .ensures ∙ ap (λ (r : Read (Unit {0})). readCode (r .answer)) e, (ap (λ (r : Read (Unit {0})). r .place) e, c .before .place .ensures ∙ ap (λ (r : Read (Unit {0})). readFault (r .answer) (now (a .fault))) e))
+    let e = ap toldSkipped (sym (c .before .before .before .f .given .1)) ∙ k .skip .ensures in
+    leaves-bad (now (a .fault)) e (c .number .ensures) (c .before .place .ensures)
 
 pub hooflift-skip-spec : {M : Type 1} → statement M
 hooflift-skip-spec =

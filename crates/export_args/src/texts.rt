@@ -1,0 +1,82 @@
+// A name or a text of a parameter.
+ghost use mathlib.Core.Path.{_≡_};
+ghost use lib.ListN.{length};
+ghost use Rattle.params.specs.Reader.{mapped, paramOf};
+ghost use Rattle.words.specs.Words.{nameAt, stringAt, roomOf};
+ghost use Rattle.plain.specs.Answers.{Leaves, readValue};
+ghost use Rattle.export_args.specs.Values.{shownRoom, shownStart, shownStop};
+use params::State;
+use words::NextName;
+use words::NextText;
+
+// The next parameter as a name between two dots: 0, with where the name begins and ends in the file, without its dots.
+#[no_mangle]
+pub extern "C" fn hooflift_enum(
+    file: &[u8],
+    place: &mut usize,
+    end: usize,
+    start: &mut usize,
+    stop: &mut usize,
+    fault: &mut usize,
+) -> u8
+    ensures { λ n. ⌜ Leaves (mapped (nameAt (now (file .entry))) (paramOf (now (file .entry)) (now (place .entry)) end)) (now (fault .entry)) n (now (place .exit)) (now (fault .exit)) ⌝ }
+    ensures { λ _. ⌜ now (start .exit) ≡ readValue (λ x. x .start) (mapped (nameAt (now (file .entry))) (paramOf (now (file .entry)) (now (place .entry)) end) .answer) (now (start .entry)) ⌝ }
+    ensures { λ _. ⌜ now (stop .exit) ≡ readValue (λ x. x .stop) (mapped (nameAt (now (file .entry))) (paramOf (now (file .entry)) (now (place .entry)) end) .answer) (now (stop .entry)) ⌝ }
+{
+    let at = State { place: *place, end };
+    match words::next_enum(file, at) {
+        NextName::Name(a, z, to) => {
+            *place = to.place;
+            *start = a;
+            *stop = z;
+            0
+        }
+        NextName::Refused(f, to) => {
+            *place = to.place;
+            *fault = error::place(f);
+            error::number(f)
+        }
+    }
+}
+
+// The next parameter as a text: 0, with where it begins and ends, in the file where `room` is then 0 and in `out` where it is 1.
+#[no_mangle]
+pub extern "C" fn hooflift_str(
+    file: &[u8],
+    place: &mut usize,
+    end: usize,
+    out: &mut [u8],
+    room: &mut u8,
+    start: &mut usize,
+    stop: &mut usize,
+    fault: &mut usize,
+) -> u8
+    ensures { λ n. ⌜ Leaves (mapped (stringAt (now (file .entry)) (length (now (out .entry)))) (paramOf (now (file .entry)) (now (place .entry)) end)) (now (fault .entry)) n (now (place .exit)) (now (fault .exit)) ⌝ }
+    ensures { λ _. ⌜ now (out .exit) ≡ roomOf (now (file .entry)) (now (out .entry)) (paramOf (now (file .entry)) (now (place .entry)) end .answer) ⌝ }
+    ensures { λ _. ⌜ now (room .exit) ≡ readValue (shownRoom) (mapped (stringAt (now (file .entry)) (length (now (out .entry)))) (paramOf (now (file .entry)) (now (place .entry)) end) .answer) (now (room .entry)) ⌝ }
+    ensures { λ _. ⌜ now (start .exit) ≡ readValue (shownStart) (mapped (stringAt (now (file .entry)) (length (now (out .entry)))) (paramOf (now (file .entry)) (now (place .entry)) end) .answer) (now (start .entry)) ⌝ }
+    ensures { λ _. ⌜ now (stop .exit) ≡ readValue (shownStop) (mapped (stringAt (now (file .entry)) (length (now (out .entry)))) (paramOf (now (file .entry)) (now (place .entry)) end) .answer) (now (stop .entry)) ⌝ }
+{
+    let at = State { place: *place, end };
+    match words::next_str(file, at, out) {
+        NextText::InFile(a, z, to) => {
+            *place = to.place;
+            *room = 0;
+            *start = a;
+            *stop = z;
+            0
+        }
+        NextText::InRoom(n, to) => {
+            *place = to.place;
+            *room = 1;
+            *start = 0;
+            *stop = n;
+            0
+        }
+        NextText::Refused(f, to) => {
+            *place = to.place;
+            *fault = error::place(f);
+            error::number(f)
+        }
+    }
+}

@@ -1,0 +1,229 @@
+// One value of a parameter: a reference, an integer, a real, a boolean.
+ghost use mathlib.Core.Path.{_≡_};
+ghost use lib.Ieee.{binary64, toBits};
+ghost use Rattle.reals.specs.Scalar.{referenceOf, wholeOf, realOf};
+ghost use Rattle.scalars.specs.Scalars.{nextOf, optionOf, measureOf, truthOf};
+ghost use Rattle.plain.specs.Answers.{Leaves, readValue};
+ghost use Rattle.export_args.specs.Values.{givenValue, givenSet, logicalNumber};
+use params::State;
+use scalars::NextOptReal;
+use scalars::NextOptRef;
+use scalars::NextReal;
+use scalars::NextRef;
+use scalars::NextTruth;
+use scalars::NextWhole;
+
+// The next parameter as a reference: 0, with its id in `value`.
+#[no_mangle]
+pub extern "C" fn hooflift_ref(
+    file: &[u8],
+    place: &mut usize,
+    end: usize,
+    value: &mut u32,
+    fault: &mut usize,
+) -> u8
+    ensures { λ n. ⌜ Leaves (nextOf referenceOf (now (file .entry)) (now (place .entry)) end) (now (fault .entry)) n (now (place .exit)) (now (fault .exit)) ⌝ }
+    ensures { λ _. ⌜ now (value .exit) ≡ readValue (λ x. x) (nextOf referenceOf (now (file .entry)) (now (place .entry)) end .answer) (now (value .entry)) ⌝ }
+{
+    let at = State { place: *place, end };
+    match scalars::next_ref(file, at) {
+        NextRef::Value(x, to) => {
+            *place = to.place;
+            *value = x;
+            0
+        }
+        NextRef::Refused(f, to) => {
+            *place = to.place;
+            *fault = error::place(f);
+            error::number(f)
+        }
+    }
+}
+
+// The next parameter as a reference or `$`: 0, with 1 in `set` and its id in `value`, or with 0 in `set`.
+#[no_mangle]
+pub extern "C" fn hooflift_opt_ref(
+    file: &[u8],
+    place: &mut usize,
+    end: usize,
+    value: &mut u32,
+    set: &mut u8,
+    fault: &mut usize,
+) -> u8
+    ensures { λ n. ⌜ Leaves (nextOf (optionOf referenceOf) (now (file .entry)) (now (place .entry)) end) (now (fault .entry)) n (now (place .exit)) (now (fault .exit)) ⌝ }
+    ensures { λ _. ⌜ now (value .exit) ≡ givenValue (nextOf (optionOf referenceOf) (now (file .entry)) (now (place .entry)) end .answer) (now (value .entry)) ⌝ }
+    ensures { λ _. ⌜ now (set .exit) ≡ readValue (givenSet) (nextOf (optionOf referenceOf) (now (file .entry)) (now (place .entry)) end .answer) (now (set .entry)) ⌝ }
+{
+    let at = State { place: *place, end };
+    match scalars::next_opt_ref(file, at) {
+        NextOptRef::Value(x, to) => {
+            *place = to.place;
+            *value = x;
+            *set = 1;
+            0
+        }
+        NextOptRef::Unset(to) => {
+            *place = to.place;
+            *set = 0;
+            0
+        }
+        NextOptRef::Refused(f, to) => {
+            *place = to.place;
+            *fault = error::place(f);
+            error::number(f)
+        }
+    }
+}
+
+// The next parameter as an integer: 0, with it in `value`.
+#[no_mangle]
+pub extern "C" fn hooflift_i64(
+    file: &[u8],
+    place: &mut usize,
+    end: usize,
+    value: &mut i64,
+    fault: &mut usize,
+) -> u8
+    ensures { λ n. ⌜ Leaves (nextOf wholeOf (now (file .entry)) (now (place .entry)) end) (now (fault .entry)) n (now (place .exit)) (now (fault .exit)) ⌝ }
+    ensures { λ _. ⌜ now (value .exit) ≡ readValue (λ x. x) (nextOf wholeOf (now (file .entry)) (now (place .entry)) end .answer) (now (value .entry)) ⌝ }
+{
+    let at = State { place: *place, end };
+    match scalars::next_i64(file, at) {
+        NextWhole::Value(x, to) => {
+            *place = to.place;
+            *value = x;
+            0
+        }
+        NextWhole::Refused(f, to) => {
+            *place = to.place;
+            *fault = error::place(f);
+            error::number(f)
+        }
+    }
+}
+
+// The next parameter as a real: 0, with its f64 in `value`.
+#[no_mangle]
+pub extern "C" fn hooflift_f64(
+    file: &[u8],
+    place: &mut usize,
+    end: usize,
+    value: &mut f64,
+    fault: &mut usize,
+) -> u8
+    ensures { λ n. ⌜ Leaves (nextOf realOf (now (file .entry)) (now (place .entry)) end) (now (fault .entry)) n (now (place .exit)) (now (fault .exit)) ⌝ }
+    ensures { λ _. ⌜ toBits binary64 (now (value .exit)) ≡ readValue (λ x. x) (nextOf realOf (now (file .entry)) (now (place .entry)) end .answer) (toBits binary64 (now (value .entry))) ⌝ }
+{
+    let at = State { place: *place, end };
+    match scalars::next_f64(file, at) {
+        NextReal::Value(x, to) => {
+            *place = to.place;
+            *value = x;
+            0
+        }
+        NextReal::Refused(f, to) => {
+            *place = to.place;
+            *fault = error::place(f);
+            error::number(f)
+        }
+    }
+}
+
+// The next parameter as a real or `$`: 0, with 1 in `set` and its f64 in `value`, or with 0 in `set`.
+#[no_mangle]
+pub extern "C" fn hooflift_opt_f64(
+    file: &[u8],
+    place: &mut usize,
+    end: usize,
+    value: &mut f64,
+    set: &mut u8,
+    fault: &mut usize,
+) -> u8
+    ensures { λ n. ⌜ Leaves (nextOf (optionOf realOf) (now (file .entry)) (now (place .entry)) end) (now (fault .entry)) n (now (place .exit)) (now (fault .exit)) ⌝ }
+    ensures { λ _. ⌜ toBits binary64 (now (value .exit)) ≡ givenValue (nextOf (optionOf realOf) (now (file .entry)) (now (place .entry)) end .answer) (toBits binary64 (now (value .entry))) ⌝ }
+    ensures { λ _. ⌜ now (set .exit) ≡ readValue (givenSet) (nextOf (optionOf realOf) (now (file .entry)) (now (place .entry)) end .answer) (now (set .entry)) ⌝ }
+{
+    let at = State { place: *place, end };
+    match scalars::next_opt_f64(file, at) {
+        NextOptReal::Value(x, to) => {
+            *place = to.place;
+            *value = x;
+            *set = 1;
+            0
+        }
+        NextOptReal::Unset(to) => {
+            *place = to.place;
+            *set = 0;
+            0
+        }
+        NextOptReal::Refused(f, to) => {
+            *place = to.place;
+            *fault = error::place(f);
+            error::number(f)
+        }
+    }
+}
+
+// The next parameter as a measure, a real or `KEYWORD(real)`: 0, with its f64 in `value`.
+#[no_mangle]
+pub extern "C" fn hooflift_measure(
+    file: &[u8],
+    place: &mut usize,
+    end: usize,
+    value: &mut f64,
+    fault: &mut usize,
+) -> u8
+    ensures { λ n. ⌜ Leaves (nextOf measureOf (now (file .entry)) (now (place .entry)) end) (now (fault .entry)) n (now (place .exit)) (now (fault .exit)) ⌝ }
+    ensures { λ _. ⌜ toBits binary64 (now (value .exit)) ≡ readValue (λ x. x) (nextOf measureOf (now (file .entry)) (now (place .entry)) end .answer) (toBits binary64 (now (value .entry))) ⌝ }
+{
+    let at = State { place: *place, end };
+    match scalars::next_measure_f64(file, at) {
+        NextReal::Value(x, to) => {
+            *place = to.place;
+            *value = x;
+            0
+        }
+        NextReal::Refused(f, to) => {
+            *place = to.place;
+            *fault = error::place(f);
+            error::number(f)
+        }
+    }
+}
+
+// The next parameter as a boolean: 0, with 0 in `value` for `.F.`, 1 for `.T.` and 2 for `.U.`.
+#[no_mangle]
+pub extern "C" fn hooflift_bool(
+    file: &[u8],
+    place: &mut usize,
+    end: usize,
+    value: &mut u8,
+    fault: &mut usize,
+) -> u8
+    ensures { λ n. ⌜ Leaves (nextOf truthOf (now (file .entry)) (now (place .entry)) end) (now (fault .entry)) n (now (place .exit)) (now (fault .exit)) ⌝ }
+    ensures { λ _. ⌜ now (value .exit) ≡ readValue (logicalNumber) (nextOf truthOf (now (file .entry)) (now (place .entry)) end .answer) (now (value .entry)) ⌝ }
+{
+    let at = State { place: *place, end };
+    match scalars::next_bool(file, at) {
+        NextTruth::False(to) => {
+            *place = to.place;
+            *value = 0;
+            0
+        }
+        NextTruth::True(to) => {
+            *place = to.place;
+            *value = 1;
+            0
+        }
+        NextTruth::Unknown(to) => {
+            *place = to.place;
+            *value = 2;
+            0
+        }
+        NextTruth::Refused(f, to) => {
+            *place = to.place;
+            *fault = error::place(f);
+            error::number(f)
+        }
+    }
+}

@@ -1,0 +1,82 @@
+use denote.Ref.{now}
+use mathlib.Core.Path.{_≡_, _∙_, sym, ap}
+use mathlib.Core.Option.{Option, some}
+use lib.ListN.{length}
+use Rattle.error.specs.Refusal.{Told, good}
+use Rattle.statement.specs.Row.{Row, mapped}
+use Rattle.lookup.specs.Lookup.{Span, spanIn, rowIn, toldEntry}
+use Rattle.lookup.specs.declared.Tables.{Tables}
+use Rattle.plain.specs.Answers.{readCode, readValue, foundCode, foundValue, found-code, found-value}
+use Rattle.export_tables.specs.Tables.{argSpan}
+use borrow.Author.Needs.{needs}
+use Rattle.export_tables.proofs.by_row.hooflift_args_of.Statement.{statement}
+use Rattle.export_tables.proofs.by_row.hooflift_args_of.Tie as tie
+use Rattle.export_tables.proofs.by_row.hooflift_args_of.Reads as reads
+use Rattle.export_tables.proofs.by_row.hooflift_args_of.Lts as lts
+use Rattle.export_tables.proofs.put_span.Reads as put-span-reads
+use Rattle.lookup.proofs.args_of.Reads as args-of-reads
+use Rattle.lookup.proofs.entity.Reads as entity-reads
+use Rattle.plain.proofs.tables_of.Reads as tables-of-reads
+
+-- src/by_row.rt:68:32
+tables-of-requires : tie.Need-tables-of-requires
+tables-of-requires c κs = search needs
+
+-- src/by_row.rt:68:11
+entity-requires : tie.Need-entity-requires
+entity-requires c κs = search needs
+
+-- src/by_row.rt:69:20
+enum-known-w : tie.Need-enum-known-w
+enum-known-w c = search needs
+
+-- src/by_row.rt:69:42
+args-of-requires : tie.Need-args-of-requires
+args-of-requires c κs = search needs
+
+-- src/by_row.rt:69:26
+put-span-requires : tie.Need-put-span-requires
+put-span-requires c κs = search needs
+
+-- src/by_row.rt:70:27
+enum-told : tie.Need-enum-told
+enum-told c = search needs
+
+-- src/by_row.rt:55:1
+returns : tie.Need-returns
+returns c =
+    let k = c .before .before .before .before .before .before .before in
+    let a = k .before .before .before .before .before .args in
+    let e = ap toldEntry (sym (c .before .before .before .before .before .w .given .1)) ∙ k .entity .ensures ∙ ap (λ (t : Tables). rowIn (now (a .rows)) (t .records) (a .k)) (k .before .tables-of .ensures) in
+    let s = c .before .before .before .args-of .ensures in
+    let n = length (now (a .file)) in
+    let w = c .before .before .before .before .before .w .given .0 .0 in
+    let x = spanIn n (w .args .start) (w .args .end) in (
+      c .put-span .ensures .0 ∙ ap (λ (r : Told Span). readCode r) s ∙ found-code x ∙ ap (λ (o : Option Row). foundCode (argSpan n o)) e,
+      (
+        c .put-span .ensures .1 .0 ∙ ap (λ (r : Told Span). readValue (λ (x : Span). x .start) r (now (a .start))) s ∙ found-value (λ (y : Span). y .start) x (now (a .start)) ∙ ap (λ (o : Option Row). foundValue (λ (x : Span). x .start) (argSpan n o) (now (a .start))) e,
+        c .put-span .ensures .1 .1 ∙ ap (λ (r : Told Span). readValue (λ (x : Span). x .end) r (now (a .stop))) s ∙ found-value (λ (y : Span). y .end) x (now (a .stop)) ∙ ap (λ (o : Option Row). foundValue (λ (x : Span). x .end) (argSpan n o) (now (a .stop))) e,
+      ),
+    )
+
+-- src/by_row.rt:55:1
+returns-2 : tie.Need-returns-2
+returns-2 c =
+    let k = c .before .before in
+    let a = k .before .before .before .before .before .args in
+    let e = ap toldEntry (sym (c .enum-told .given .1)) ∙ k .entity .ensures ∙ ap (λ (t : Tables). rowIn (now (a .rows)) (t .records) (a .k)) (k .before .tables-of .ensures) in
+    let n = length (now (a .file)) in
+    (ap (λ (o : Option Row). foundCode (argSpan n o)) e, (ap (λ (o : Option Row). foundValue (λ (x : Span). x .start) (argSpan n o) (now (a .start))) e, ap (λ (o : Option Row). foundValue (λ (x : Span). x .end) (argSpan n o) (now (a .stop))) e))
+
+pub hooflift-args-of-spec : {M : Type 1} → statement M
+hooflift-args-of-spec =
+    tie.close
+    (tie.spec
+    tables-of-requires
+    entity-requires
+    enum-known-w
+    args-of-requires
+    put-span-requires
+    enum-told
+    returns
+    returns-2)

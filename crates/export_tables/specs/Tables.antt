@@ -1,0 +1,41 @@
+-- A file's tables for a host in another language.
+-- Assumes nothing.
+use Prim.Native.Nat.{ℕ, _≤_, _<_}
+use mathlib.Core.Path.{_≡_}
+use mathlib.Core.List.{List}
+use mathlib.Core.Option.{Option, none, some}
+use lib.ListN.{length}
+use Rattle.error.specs.Refusal.{Refusal, Told, good, bad}
+use Rattle.statement.specs.Row.{Row, mapped}
+use Rattle.lookup.specs.Lookup.{Span, spanIn}
+use Rattle.store.specs.Store.{toldOpened, Opens}
+use Rattle.store.specs.declared.Opened.{Opened}
+use Rattle.store.specs.declared.Opened.the-variants.{Good, Refused}
+use Rattle.plain.specs.Answers.{readCode, readFault}
+use Rattle.plain.specs.Numbers.{tablesIn}
+
+-- the refusal's reason, or what stood there
+abbrev pub readReason : {A : Type 0} → Told A → ℕ → ℕ
+readReason (good a) old = old
+readReason (bad q) old = q .reason
+
+-- a host's sixteen numbers after opening a file; a refusal leaves them as they were
+abbrev pub openTables : Opened → List ℕ → List ℕ
+openTables (Good t) old = tablesIn t old
+openTables (Refused f) old = old
+
+-- what a host is told, and what it is left with: what opening the file answers and leaves; where there is no room for sixteen numbers,
+-- 16 and all as it was
+pub data Host (s heads rows slots tables : List ℕ) (reason fault code : ℕ) (heads′ rows′ slots′ tables′ : List ℕ) (reason′ fault′ : ℕ) : Type 0 where
+  short : length tables < 16 → code ≡ 16 → heads′ ≡ heads → rows′ ≡ rows → slots′ ≡ slots → tables′ ≡ tables → reason′ ≡ reason → fault′ ≡ fault → Host s heads rows slots tables reason fault code heads′ rows′ slots′ tables′ reason′ fault′
+  opened : 16 ≤ length tables → (a : Opened) → Opens s heads rows slots a heads′ rows′ slots′ → code ≡ readCode (toldOpened a) → tables′ ≡ openTables a tables → reason′ ≡ readReason (toldOpened a) reason → fault′ ≡ readFault (toldOpened a) fault → Host s heads rows slots tables reason fault code heads′ rows′ slots′ tables′ reason′ fault′
+
+-- where a row's keyword stands in a file of this length; none where there is no row; or 9
+abbrev pub keySpan : ℕ → Option Row → Told (Option Span)
+keySpan len none = good none
+keySpan len (some w) = mapped some (spanIn len (w .keyStart) (w .keyEnd))
+
+-- where its arguments stand
+abbrev pub argSpan : ℕ → Option Row → Told (Option Span)
+argSpan len none = good none
+argSpan len (some w) = mapped some (spanIn len (w .argStart) (w .argEnd))

@@ -1,0 +1,65 @@
+// Records by id: the last of an id.
+ghost use mathlib.Core.Path.{_≡_};
+ghost use mathlib.Core.Option.{some};
+ghost use lib.ListN.{length};
+ghost use Rattle.statement.specs.Row.{mapped};
+ghost use Rattle.kinds.specs.Kind.{rankOf};
+ghost use Rattle.index.specs.Search.{searched};
+ghost use Rattle.lookup.specs.Lookup.{rowFound, required, argsBy, kindFound};
+ghost use Rattle.plain.specs.Answers.{readCode, readValue};
+ghost use Rattle.plain.specs.Numbers.{tablesBy, sixOf, outCode, outAfter};
+use lookup::Required;
+
+// The last record with this id: 0, with its six numbers in `row`; or 14.
+#[no_mangle]
+pub extern "C" fn hooflift_require(
+    rows: &[u32],
+    slots: &[u32],
+    tables: &[u64],
+    id: u32,
+    row: &mut [u64],
+) -> u8
+    ensures { λ n. ⌜ n ≡ outCode 6 (length (now (row .entry))) (mapped some (required (rowFound (now (rows .entry)) (searched (now (rows .entry)) (now (slots .entry)) (tablesBy (now (tables .entry)) .ids) id)))) ⌝ }
+    ensures { λ _. ⌜ now (row .exit) ≡ outAfter 6 sixOf (mapped some (required (rowFound (now (rows .entry)) (searched (now (rows .entry)) (now (slots .entry)) (tablesBy (now (tables .entry)) .ids) id)))) (now (row .entry)) ⌝ }
+{
+    match lookup::require(rows, slots, plain::tables_of(tables), id) {
+        Required::Row(w) => plain::put_row(row, w),
+        Required::Refused(f) => error::number(f),
+    }
+}
+
+// Where the arguments of the last record with this id stand: 0, 9, or 14.
+#[no_mangle]
+pub extern "C" fn hooflift_args(
+    file: &[u8],
+    rows: &[u32],
+    slots: &[u32],
+    tables: &[u64],
+    id: u32,
+    start: &mut usize,
+    stop: &mut usize,
+) -> u8
+    ensures { λ n. ⌜ n ≡ readCode (argsBy (length (now (file .entry))) (rowFound (now (rows .entry)) (searched (now (rows .entry)) (now (slots .entry)) (tablesBy (now (tables .entry)) .ids) id))) ⌝ }
+    ensures { λ _. ⌜ now (start .exit) ≡ readValue (λ x. x .start) (argsBy (length (now (file .entry))) (rowFound (now (rows .entry)) (searched (now (rows .entry)) (now (slots .entry)) (tablesBy (now (tables .entry)) .ids) id))) (now (start .entry)) ⌝ }
+    ensures { λ _. ⌜ now (stop .exit) ≡ readValue (λ x. x .end) (argsBy (length (now (file .entry))) (rowFound (now (rows .entry)) (searched (now (rows .entry)) (now (slots .entry)) (tablesBy (now (tables .entry)) .ids) id))) (now (stop .entry)) ⌝ }
+{
+    crate::put_span(
+        lookup::args(file, rows, slots, plain::tables_of(tables), id),
+        start,
+        stop,
+    )
+}
+
+// The number of the kind of the last record with this id; that of `Other` where there is none.
+#[no_mangle]
+pub extern "C" fn hooflift_kind_of(
+    file: &[u8],
+    rows: &[u32],
+    slots: &[u32],
+    tables: &[u64],
+    id: u32,
+) -> u32
+    ensures { λ n. ⌜ n ≡ rankOf (kindFound (now (file .entry)) (rowFound (now (rows .entry)) (searched (now (rows .entry)) (now (slots .entry)) (tablesBy (now (tables .entry)) .ids) id))) ⌝ }
+{
+    plain::kind_number(lookup::kind_of(file, rows, slots, plain::tables_of(tables), id))
+}

@@ -1,0 +1,119 @@
+// Rows by number and by kind.
+ghost use mathlib.Core.Path.{_≡_};
+ghost use Prim.Native.Nat.{_-_};
+ghost use lib.ListN.{length};
+ghost use Rattle.error.specs.Refusal.{good};
+ghost use Rattle.kinds.specs.Kind.{kindOf, rankOf};
+ghost use Rattle.lookup.specs.Lookup.{tableRows, rowIn, kindFound, firstFrom, isKind};
+ghost use Rattle.plain.specs.Answers.{foundCode, foundValue};
+ghost use Rattle.plain.specs.Numbers.{tablesBy, sixOf, outCode, outAfter, kindBy};
+ghost use Rattle.export_tables.specs.Tables.{keySpan, argSpan};
+use lookup::Entry;
+use lookup::Place;
+
+// How many records there are.
+#[no_mangle]
+pub extern "C" fn hooflift_len(tables: &[u64]) -> usize
+    ensures { λ n. ⌜ n ≡ tablesBy (now (tables .entry)) .records ⌝ }
+{
+    lookup::len(plain::tables_of(tables))
+}
+
+// Row k in file order: 0, with its six numbers in `row`; 255 past the table.
+#[no_mangle]
+pub extern "C" fn hooflift_entity(rows: &[u32], tables: &[u64], k: usize, row: &mut [u64]) -> u8
+    ensures { λ n. ⌜ n ≡ outCode 6 (length (now (row .entry))) (good (rowIn (now (rows .entry)) (tablesBy (now (tables .entry)) .records) k)) ⌝ }
+    ensures { λ _. ⌜ now (row .exit) ≡ outAfter 6 sixOf (good (rowIn (now (rows .entry)) (tablesBy (now (tables .entry)) .records) k)) (now (row .entry)) ⌝ }
+{
+    match lookup::entity(rows, plain::tables_of(tables), k) {
+        Entry::Row(w) => plain::put_row(row, w),
+        Entry::Nothing => 255,
+    }
+}
+
+// Where row k's keyword stands: 0, 9, or 255 past the table.
+#[no_mangle]
+pub extern "C" fn hooflift_keyword(
+    file: &[u8],
+    rows: &[u32],
+    tables: &[u64],
+    k: usize,
+    start: &mut usize,
+    stop: &mut usize,
+) -> u8
+    ensures { λ n. ⌜ n ≡ foundCode (keySpan (length (now (file .entry))) (rowIn (now (rows .entry)) (tablesBy (now (tables .entry)) .records) k)) ⌝ }
+    ensures { λ _. ⌜ now (start .exit) ≡ foundValue (λ x. x .start) (keySpan (length (now (file .entry))) (rowIn (now (rows .entry)) (tablesBy (now (tables .entry)) .records) k)) (now (start .entry)) ⌝ }
+    ensures { λ _. ⌜ now (stop .exit) ≡ foundValue (λ x. x .end) (keySpan (length (now (file .entry))) (rowIn (now (rows .entry)) (tablesBy (now (tables .entry)) .records) k)) (now (stop .entry)) ⌝ }
+{
+    match lookup::entity(rows, plain::tables_of(tables), k) {
+        Entry::Row(w) => crate::put_span(lookup::keyword(file, w), start, stop),
+        Entry::Nothing => 255,
+    }
+}
+
+// Where row k's arguments stand: 0, 9, or 255 past the table.
+#[no_mangle]
+pub extern "C" fn hooflift_args_of(
+    file: &[u8],
+    rows: &[u32],
+    tables: &[u64],
+    k: usize,
+    start: &mut usize,
+    stop: &mut usize,
+) -> u8
+    ensures { λ n. ⌜ n ≡ foundCode (argSpan (length (now (file .entry))) (rowIn (now (rows .entry)) (tablesBy (now (tables .entry)) .records) k)) ⌝ }
+    ensures { λ _. ⌜ now (start .exit) ≡ foundValue (λ x. x .start) (argSpan (length (now (file .entry))) (rowIn (now (rows .entry)) (tablesBy (now (tables .entry)) .records) k)) (now (start .entry)) ⌝ }
+    ensures { λ _. ⌜ now (stop .exit) ≡ foundValue (λ x. x .end) (argSpan (length (now (file .entry))) (rowIn (now (rows .entry)) (tablesBy (now (tables .entry)) .records) k)) (now (stop .entry)) ⌝ }
+{
+    match lookup::entity(rows, plain::tables_of(tables), k) {
+        Entry::Row(w) => crate::put_span(lookup::args_of(file, w), start, stop),
+        Entry::Nothing => 255,
+    }
+}
+
+// The number of row k's kind; that of `Other` past the table.
+#[no_mangle]
+pub extern "C" fn hooflift_kind(file: &[u8], rows: &[u32], tables: &[u64], k: usize) -> u32
+    ensures { λ n. ⌜ n ≡ rankOf (kindFound (now (file .entry)) (rowIn (now (rows .entry)) (tablesBy (now (tables .entry)) .records) k)) ⌝ }
+{
+    match lookup::entity(rows, plain::tables_of(tables), k) {
+        Entry::Row(w) => plain::kind_number(lookup::kind_in(file, w)),
+        Entry::Nothing => 11,
+    }
+}
+
+// The number of a keyword's kind.
+#[no_mangle]
+pub extern "C" fn hooflift_intern(keyword: &[u8]) -> u32
+    ensures { λ n. ⌜ n ≡ rankOf (kindOf (now (keyword .entry))) ⌝ }
+{
+    plain::kind_number(kinds::intern(keyword))
+}
+
+// The next row of a kind from row `from` on, in file order: 0, with its number in `row`; 255 where there is none.
+#[no_mangle]
+pub extern "C" fn hooflift_by_kind(
+    file: &[u8],
+    rows: &[u32],
+    tables: &[u64],
+    kind: u32,
+    from: usize,
+    row: &mut usize,
+) -> u8
+    ensures { λ n. ⌜ n ≡ foundCode (good (firstFrom (isKind (now (file .entry)) (now (rows .entry)) (kindBy kind)) (tableRows (now (rows .entry)) (tablesBy (now (tables .entry)) .records) - from) from)) ⌝ }
+    ensures { λ _. ⌜ now (row .exit) ≡ foundValue (λ i. i) (good (firstFrom (isKind (now (file .entry)) (now (rows .entry)) (kindBy kind)) (tableRows (now (rows .entry)) (tablesBy (now (tables .entry)) .records) - from) from)) (now (row .entry)) ⌝ }
+{
+    match lookup::by_kind(
+        file,
+        rows,
+        plain::tables_of(tables),
+        plain::kind_by(kind),
+        from,
+    ) {
+        Place::At(i) => {
+            *row = i;
+            0
+        }
+        Place::Nothing => 255,
+    }
+}

@@ -1,0 +1,131 @@
+// Header records and their texts, for hosts in other languages: by keyword, and the file's name and the system that wrote it.
+ghost use mathlib.Core.Path.{_≡_};
+ghost use lib.ListN.{length};
+ghost use Rattle.error.specs.Refusal.{good};
+ghost use Rattle.headers.specs.Header.{headerFirst, headerArgs};
+ghost use Rattle.titles.specs.Title.{toldTitle, titleBy, roomBy, fileName};
+ghost use Rattle.plain.specs.Answers.{Tells, readValue, foundCode, foundValue};
+ghost use Rattle.plain.specs.Numbers.{tablesBy};
+ghost use Rattle.export_args.specs.Values.{shownRoom, shownStart, shownStop};
+use headers::HeaderFound;
+use lookup::Place;
+use titles::Title;
+
+// The first header record with this keyword, letters in either case: 0, with its row's number; 255 where there is none.
+#[no_mangle]
+pub extern "C" fn hooflift_header_row(
+    file: &[u8],
+    headers: &[u32],
+    tables: &[u64],
+    name: &[u8],
+    row: &mut usize,
+) -> u8
+    ensures { λ n. ⌜ n ≡ foundCode (good (headerFirst (now (file .entry)) (now (headers .entry)) (tablesBy (now (tables .entry)) .headers) (now (name .entry)))) ⌝ }
+    ensures { λ _. ⌜ now (row .exit) ≡ foundValue (λ i. i) (good (headerFirst (now (file .entry)) (now (headers .entry)) (tablesBy (now (tables .entry)) .headers) (now (name .entry)))) (now (row .entry)) ⌝ }
+{
+    match headers::header_row(file, headers, plain::tables_of(tables), name) {
+        Place::At(i) => {
+            *row = i;
+            0
+        }
+        Place::Nothing => 255,
+    }
+}
+
+// Where the arguments of the first header record with this keyword stand: 0, 9, or 255 where there is none.
+#[no_mangle]
+pub extern "C" fn hooflift_header_args(
+    file: &[u8],
+    headers: &[u32],
+    tables: &[u64],
+    name: &[u8],
+    start: &mut usize,
+    stop: &mut usize,
+) -> u8
+    ensures { λ n. ⌜ n ≡ foundCode (headerArgs (length (now (file .entry))) (now (headers .entry)) (headerFirst (now (file .entry)) (now (headers .entry)) (tablesBy (now (tables .entry)) .headers) (now (name .entry)))) ⌝ }
+    ensures { λ _. ⌜ now (start .exit) ≡ foundValue (λ x. x .start) (headerArgs (length (now (file .entry))) (now (headers .entry)) (headerFirst (now (file .entry)) (now (headers .entry)) (tablesBy (now (tables .entry)) .headers) (now (name .entry)))) (now (start .entry)) ⌝ }
+    ensures { λ _. ⌜ now (stop .exit) ≡ foundValue (λ x. x .end) (headerArgs (length (now (file .entry))) (now (headers .entry)) (headerFirst (now (file .entry)) (now (headers .entry)) (tablesBy (now (tables .entry)) .headers) (now (name .entry)))) (now (stop .entry)) ⌝ }
+{
+    match headers::header_args(file, headers, plain::tables_of(tables), name) {
+        HeaderFound::Span(r) => {
+            *start = r.start;
+            *stop = r.end;
+            0
+        }
+        HeaderFound::Nothing => 255,
+        HeaderFound::Refused(f) => error::number(f),
+    }
+}
+
+// Tells where a text stands: 0, or the refusal's number, with its place.
+fn put_title(t: Title, room: &mut u8, start: &mut usize, stop: &mut usize, fault: &mut usize) -> u8
+    ensures { λ n. ⌜ Tells (toldTitle t) (now (fault .entry)) n (now (fault .exit)) ⌝ }
+    ensures { λ _. ⌜ now (room .exit) ≡ readValue shownRoom (toldTitle t) (now (room .entry)) ⌝ }
+    ensures { λ _. ⌜ now (start .exit) ≡ readValue shownStart (toldTitle t) (now (start .entry)) ⌝ }
+    ensures { λ _. ⌜ now (stop .exit) ≡ readValue shownStop (toldTitle t) (now (stop .entry)) ⌝ }
+{
+    match t {
+        Title::InFile(a, z) => {
+            *room = 0;
+            *start = a;
+            *stop = z;
+            0
+        }
+        Title::InRoom(n) => {
+            *room = 1;
+            *start = 0;
+            *stop = n;
+            0
+        }
+        Title::Refused(f) => {
+            *fault = error::place(f);
+            error::number(f)
+        }
+    }
+}
+
+// The file's name, the first parameter of FILE_NAME: 0, with where it begins and ends, in the file where `room` is then 0 and in `out` where
+// it is 1; empty where there is none.
+#[no_mangle]
+pub extern "C" fn hooflift_file_name(
+    file: &[u8],
+    headers: &[u32],
+    tables: &[u64],
+    out: &mut [u8],
+    room: &mut u8,
+    start: &mut usize,
+    stop: &mut usize,
+    fault: &mut usize,
+) -> u8
+    ensures { λ n. ⌜ Tells (titleBy (now (file .entry)) (length (now (out .entry))) 0 (headerArgs (length (now (file .entry))) (now (headers .entry)) (headerFirst (now (file .entry)) (now (headers .entry)) (tablesBy (now (tables .entry)) .headers) fileName))) (now (fault .entry)) n (now (fault .exit)) ⌝ }
+    ensures { λ _. ⌜ now (out .exit) ≡ roomBy (now (file .entry)) (now (out .entry)) 0 (headerArgs (length (now (file .entry))) (now (headers .entry)) (headerFirst (now (file .entry)) (now (headers .entry)) (tablesBy (now (tables .entry)) .headers) fileName)) ⌝ }
+    ensures { λ _. ⌜ now (room .exit) ≡ readValue shownRoom (titleBy (now (file .entry)) (length (now (out .entry))) 0 (headerArgs (length (now (file .entry))) (now (headers .entry)) (headerFirst (now (file .entry)) (now (headers .entry)) (tablesBy (now (tables .entry)) .headers) fileName))) (now (room .entry)) ⌝ }
+    ensures { λ _. ⌜ now (start .exit) ≡ readValue shownStart (titleBy (now (file .entry)) (length (now (out .entry))) 0 (headerArgs (length (now (file .entry))) (now (headers .entry)) (headerFirst (now (file .entry)) (now (headers .entry)) (tablesBy (now (tables .entry)) .headers) fileName))) (now (start .entry)) ⌝ }
+    ensures { λ _. ⌜ now (stop .exit) ≡ readValue shownStop (titleBy (now (file .entry)) (length (now (out .entry))) 0 (headerArgs (length (now (file .entry))) (now (headers .entry)) (headerFirst (now (file .entry)) (now (headers .entry)) (tablesBy (now (tables .entry)) .headers) fileName))) (now (stop .entry)) ⌝ }
+{
+    let t = titles::file_name(file, headers, plain::tables_of(tables), out);
+    put_title(t, room, start, stop, fault)
+}
+
+// The system that wrote the file, the sixth parameter of FILE_NAME: 0, with where it begins and ends, in the file where `room` is then 0 and in `out` where
+// it is 1; empty where there is none.
+#[no_mangle]
+pub extern "C" fn hooflift_originating_system(
+    file: &[u8],
+    headers: &[u32],
+    tables: &[u64],
+    out: &mut [u8],
+    room: &mut u8,
+    start: &mut usize,
+    stop: &mut usize,
+    fault: &mut usize,
+) -> u8
+    ensures { λ n. ⌜ Tells (titleBy (now (file .entry)) (length (now (out .entry))) 5 (headerArgs (length (now (file .entry))) (now (headers .entry)) (headerFirst (now (file .entry)) (now (headers .entry)) (tablesBy (now (tables .entry)) .headers) fileName))) (now (fault .entry)) n (now (fault .exit)) ⌝ }
+    ensures { λ _. ⌜ now (out .exit) ≡ roomBy (now (file .entry)) (now (out .entry)) 5 (headerArgs (length (now (file .entry))) (now (headers .entry)) (headerFirst (now (file .entry)) (now (headers .entry)) (tablesBy (now (tables .entry)) .headers) fileName)) ⌝ }
+    ensures { λ _. ⌜ now (room .exit) ≡ readValue shownRoom (titleBy (now (file .entry)) (length (now (out .entry))) 5 (headerArgs (length (now (file .entry))) (now (headers .entry)) (headerFirst (now (file .entry)) (now (headers .entry)) (tablesBy (now (tables .entry)) .headers) fileName))) (now (room .entry)) ⌝ }
+    ensures { λ _. ⌜ now (start .exit) ≡ readValue shownStart (titleBy (now (file .entry)) (length (now (out .entry))) 5 (headerArgs (length (now (file .entry))) (now (headers .entry)) (headerFirst (now (file .entry)) (now (headers .entry)) (tablesBy (now (tables .entry)) .headers) fileName))) (now (start .entry)) ⌝ }
+    ensures { λ _. ⌜ now (stop .exit) ≡ readValue shownStop (titleBy (now (file .entry)) (length (now (out .entry))) 5 (headerArgs (length (now (file .entry))) (now (headers .entry)) (headerFirst (now (file .entry)) (now (headers .entry)) (tablesBy (now (tables .entry)) .headers) fileName))) (now (stop .entry)) ⌝ }
+{
+    let t = titles::originating_system(file, headers, plain::tables_of(tables), out);
+    put_title(t, room, start, stop, fault)
+}

@@ -1,0 +1,42 @@
+use denote.Ref.{now}
+use mathlib.Core.Path.{_≡_, _∙_, sym, ap}
+use lib.Ieee.{binary64, toBits}
+use Rattle.error.specs.Refusal.{Told, good}
+use Rattle.lookup.specs.Lookup.{tableRows}
+use Rattle.lookup.specs.declared.Tables.{Tables}
+use Rattle.factors.specs.Thing.{findOf}
+use Rattle.units.specs.Units.{Units, resolveOf}
+use Rattle.units.specs.Code.{thingsFrom}
+use Rattle.plain.specs.Answers.{readCode, readFault, readValue, truthNumber}
+use borrow.Author.Needs.{needs}
+use Rattle.export_units.proofs.hooflift_units.Statement.{statement}
+use Rattle.export_units.proofs.hooflift_units.Tie as tie
+use Rattle.export_units.proofs.hooflift_units.Reads as reads
+use Rattle.export_units.proofs.hooflift_units.Lts as lts
+use Rattle.export_units.proofs.put_units.Reads as put-units-reads
+use Rattle.plain.proofs.tables_of.Reads as tables-of-reads
+use Rattle.units.proofs.resolve.Reads as resolve-reads
+
+-- src/lib.rt:77:47
+tables-of-requires : tie.Need-tables-of-requires
+tables-of-requires c κs = search needs
+
+-- src/lib.rt:77:9
+resolve-requires : tie.Need-resolve-requires
+resolve-requires c κs = search needs
+
+-- src/lib.rt:78:5
+put-units-requires : tie.Need-put-units-requires
+put-units-requires c κs = search needs
+
+-- src/lib.rt:59:1
+returns : tie.Need-returns
+returns c =
+    let k = c .before .before .before .before .before .before in
+    let a = c .before .before .before .before .before .before .before .before .before .before .before .before .args in
+    let e = k .resolve .ensures ∙ ap (λ (t : Tables). resolveOf (now (a .file)) (findOf (now (a .file)) (now (a .rows)) (now (a .slots)) (t .ids)) (thingsFrom (now (a .file)) (now (a .rows)) (tableRows (now (a .rows)) (t .records)) 0)) (k .before .tables-of .ensures) in
+    ((c .put-units .ensures .0 .0 ∙ ap (λ (r : Told Units). readCode r) e, c .put-units .ensures .0 .1 ∙ ap (λ (r : Told Units). readFault r (now (a .fault))) e), (c .put-units .ensures .1 .0 ∙ ap (λ (r : Told Units). readValue (λ (u : Units). u .length) r (toBits binary64 (now (a .mm)))) e, (c .put-units .ensures .1 .1 .0 ∙ ap (λ (r : Told Units). readValue (λ (u : Units). u .angle) r (toBits binary64 (now (a .rad)))) e, (c .put-units .ensures .1 .1 .1 .0 ∙ ap (λ (r : Told Units). readValue (λ (u : Units). u .tolerance) r (toBits binary64 (now (a .tolerance)))) e, c .put-units .ensures .1 .1 .1 .1 ∙ ap (λ (r : Told Units). readValue (λ (u : Units). truthNumber (u .resolved)) r (now (a .resolved))) e))))
+
+pub hooflift-units-spec : {M : Type 1} → statement M
+hooflift-units-spec =
+    tie.close (tie.spec tables-of-requires resolve-requires put-units-requires returns)

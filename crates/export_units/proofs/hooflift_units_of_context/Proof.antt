@@ -1,0 +1,84 @@
+use denote.Ref.{now}
+use mathlib.Core.Path.{_≡_, _∙_, sym, ap}
+use lib.Ieee.{binary64, toBits}
+use mathlib.Core.Option.{Option, some}
+use Rattle.error.specs.Refusal.{Told, good}
+use Rattle.statement.specs.Row.{Row, mapped}
+use Rattle.statement.specs.Statement.{rowOf}
+use Rattle.lookup.specs.Lookup.{rowIn, toldEntry}
+use Rattle.lookup.specs.declared.Tables.{Tables}
+use Rattle.factors.specs.Thing.{findOf}
+use Rattle.units.specs.Units.{Units}
+use Rattle.units.specs.Code.{toldUnits}
+use Rattle.plain.specs.Answers.{readFault, foundCode, foundValue, truthNumber, found-code, found-value, found-fault}
+use Rattle.plain.specs.Numbers.{tablesBy}
+use Rattle.export_units.specs.Contexts.{unitsIn}
+use borrow.Author.Needs.{needs}
+use Rattle.export_units.proofs.hooflift_units_of_context.Statement.{statement}
+use Rattle.export_units.proofs.hooflift_units_of_context.Tie as tie
+use Rattle.export_units.proofs.hooflift_units_of_context.Reads as reads
+use Rattle.export_units.proofs.hooflift_units_of_context.Lts as lts
+use Rattle.export_units.proofs.put_units.Reads as put-units-reads
+use Rattle.lookup.proofs.entity.Reads as entity-reads
+use Rattle.plain.proofs.tables_of.Reads as tables-of-reads
+use Rattle.units.proofs.units_of_context.Reads as units-of-context-reads
+
+-- src/lib.rt:102:9
+tables-of-requires : tie.Need-tables-of-requires
+tables-of-requires c κs = search needs
+
+-- src/lib.rt:103:11
+entity-requires : tie.Need-entity-requires
+entity-requires c κs = search needs
+
+-- src/lib.rt:104:20
+enum-known-w : tie.Need-enum-known-w
+enum-known-w c = search needs
+
+-- src/lib.rt:105:17
+units-of-context-requires : tie.Need-units-of-context-requires
+units-of-context-requires c κs = search needs
+
+-- src/lib.rt:106:13
+put-units-requires : tie.Need-put-units-requires
+put-units-requires c κs = search needs
+
+-- src/lib.rt:108:27
+enum-told : tie.Need-enum-told
+enum-told c = search needs
+
+-- src/lib.rt:82:1
+returns : tie.Need-returns
+returns c =
+    let k = c .before .before .before .before .before .before .before .before .before .before in
+    let u = c .before .before .before .before .before .before .units-of-context in
+    let a = c .before .before .before .before .before .before .before .before .before .before .before .before .before .before .before .before .args in
+    let w = c .before .before .before .before .before .before .before .before .w .given .0 .0 in
+    let s = k .before .tables-of .ensures in
+    let e = ap toldEntry (sym (c .before .before .before .before .before .before .before .before .w .given .1)) ∙ k .entity .ensures ∙ ap (λ (t : Tables). rowIn (now (a .rows)) (t .records) (a .k)) s in
+    let r = toldUnits (u .result) in
+    let g = ap (λ (x : Told Units). mapped some x) (u .ensures) ∙ ap (λ (t : Tables). unitsIn (now (a .file)) (findOf (now (a .file)) (now (a .rows)) (now (a .slots)) (t .ids)) (some (rowOf w))) s ∙ ap (λ (o : Option Row). unitsIn (now (a .file)) (findOf (now (a .file)) (now (a .rows)) (now (a .slots)) ((tablesBy (now (a .tables))) .ids)) o) e in
+    (c .put-units .ensures .0 .0 ∙ found-code r ∙ ap (λ (x : Told (Option Units)). foundCode x) g, (c .put-units .ensures .0 .1 ∙ found-fault r (now (a .fault)) ∙ ap (λ (x : Told (Option Units)). readFault x (now (a .fault))) g, (c .put-units .ensures .1 .0 ∙ found-value (λ (u : Units). u .length) r (toBits binary64 (now (a .mm))) ∙ ap (λ (x : Told (Option Units)). foundValue (λ (u : Units). u .length) x (toBits binary64 (now (a .mm)))) g, (c .put-units .ensures .1 .1 .0 ∙ found-value (λ (u : Units). u .angle) r (toBits binary64 (now (a .rad))) ∙ ap (λ (x : Told (Option Units)). foundValue (λ (u : Units). u .angle) x (toBits binary64 (now (a .rad)))) g, (c .put-units .ensures .1 .1 .1 .0 ∙ found-value (λ (u : Units). u .tolerance) r (toBits binary64 (now (a .tolerance))) ∙ ap (λ (x : Told (Option Units)). foundValue (λ (u : Units). u .tolerance) x (toBits binary64 (now (a .tolerance)))) g, c .put-units .ensures .1 .1 .1 .1 ∙ found-value (λ (u : Units). truthNumber (u .resolved)) r (now (a .resolved)) ∙ ap (λ (x : Told (Option Units)). foundValue (λ (u : Units). truthNumber (u .resolved)) x (now (a .resolved))) g)))))
+
+-- src/lib.rt:82:1
+returns-2 : tie.Need-returns-2
+returns-2 c =
+    let k = c .before .before in
+    let a = c .before .before .before .before .before .before .before .before .args in
+    let s = k .before .tables-of .ensures in
+    let e = ap toldEntry (sym (c .enum-told .given .1)) ∙ k .entity .ensures ∙ ap (λ (t : Tables). rowIn (now (a .rows)) (t .records) (a .k)) s in
+    let g = ap (λ (o : Option Row). unitsIn (now (a .file)) (findOf (now (a .file)) (now (a .rows)) (now (a .slots)) ((tablesBy (now (a .tables))) .ids)) o) e in
+    (ap (λ (x : Told (Option Units)). foundCode x) g, (ap (λ (x : Told (Option Units)). readFault x (now (a .fault))) g, (ap (λ (x : Told (Option Units)). foundValue (λ (u : Units). u .length) x (toBits binary64 (now (a .mm)))) g, (ap (λ (x : Told (Option Units)). foundValue (λ (u : Units). u .angle) x (toBits binary64 (now (a .rad)))) g, (ap (λ (x : Told (Option Units)). foundValue (λ (u : Units). u .tolerance) x (toBits binary64 (now (a .tolerance)))) g, ap (λ (x : Told (Option Units)). foundValue (λ (u : Units). truthNumber (u .resolved)) x (now (a .resolved))) g)))))
+
+pub hooflift-units-of-context-spec : {M : Type 1} → statement M
+hooflift-units-of-context-spec =
+    tie.close
+    (tie.spec
+    tables-of-requires
+    entity-requires
+    enum-known-w
+    units-of-context-requires
+    put-units-requires
+    enum-told
+    returns
+    returns-2)

@@ -1,0 +1,15 @@
+-- The units of a context that a host names by its row.
+-- Assumes nothing.
+use mathlib.Core.List.{List}
+use mathlib.Core.Option.{Option, none, some}
+use Prim.Native.Nat.{ℕ}
+use Rattle.error.specs.Refusal.{Told, good}
+use Rattle.statement.specs.Row.{Row, mapped}
+use Rattle.params.specs.Reader.{onward}
+use Rattle.factors.specs.Thing.{Thing, thingOf}
+use Rattle.units.specs.Units.{Units, contextOf}
+
+-- none where there is no row; else the units of the context in it, or what refuses them. `find` gives the record of an id
+abbrev pub unitsIn : List ℕ → (ℕ → Told (Option Thing)) → Option Row → Told (Option Units)
+unitsIn s find none = good none
+unitsIn s find (some w) = mapped some (onward (contextOf s find) (thingOf s w))

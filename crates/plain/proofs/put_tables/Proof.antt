@@ -1,0 +1,65 @@
+use Prim.Native.Nat.{ℕ, _≤_}
+use mathlib.Core.List.{List, [], _∷_}
+use mathlib.Core.Path.{ap}
+use denote.Ref.{now}
+use lib.Seq.{sets}
+use lib.ListN.{length, length-set}
+use native.Mathlib.Omega.{arith}
+use borrow.Author.Tests.{le-leb, lt-leb}
+use mathlib.Core.Path.{refl}
+use borrow.Author.Needs.{needs}
+use Rattle.plain.proofs.put_tables.Statement.{statement}
+use Rattle.plain.proofs.put_tables.Tie as tie
+use Rattle.plain.proofs.put_tables.Reads as reads
+use Rattle.plain.proofs.put_tables.Lts as lts
+use Rattle.plain.proofs.put_ids.Reads as put-ids-reads
+
+-- src/lib.rt:94:9
+returns : tie.Need-returns
+returns c = rw (lt-leb _ _ (c .if1 .taken)) refl
+
+-- src/lib.rt:97:5
+put-ids-requires : tie.Need-put-ids-requires
+put-ids-requires c κs = search needs
+
+-- src/lib.rt:98:5
+slice-write-out : tie.Need-slice-write-out
+slice-write-out c = search needs
+
+-- src/lib.rt:99:5
+slice-write-out-2 : tie.Need-slice-write-out-2
+slice-write-out-2 c = simp length-set (omega arith)
+
+-- src/lib.rt:100:15
+cast-out : tie.Need-cast-out
+cast-out c = search needs
+
+-- src/lib.rt:100:5
+slice-write-out-3 : tie.Need-slice-write-out-3
+slice-write-out-3 c = simp length-set (omega arith)
+
+-- src/lib.rt:90:1
+same-length : tie.Need-same-length
+same-length c = search needs
+
+-- src/lib.rt:90:1
+returns-2 : tie.Need-returns-2
+returns-2 c =
+    let p = c .before .before .before in
+    let i = p .before .before .before in
+    let a = i .before .before .args in
+    let h : 16 ≤ length (now (a .out)) = i .if1 .left in
+    rw (le-leb 16 (length (now (a .out))) h) (ap (λ (xs : List ℕ). sets xs 8 (a .t .headers ∷ a .t .records ∷ a .t .max ∷ [])) (rw (le-leb 8 (length (now (a .out))) (omega arith)) at (p .put-ids .ensures)))
+
+pub put-tables-spec : {M : Type 1} → statement M
+put-tables-spec =
+    tie.close
+    (tie.spec
+    returns
+    put-ids-requires
+    slice-write-out
+    slice-write-out-2
+    cast-out
+    slice-write-out-3
+    same-length
+    returns-2)

@@ -1,0 +1,72 @@
+-- Numbers that come back say what they were made from.
+-- Assumes nothing.
+use Prim.Native.Nat.{ℕ, zero, suc, _/_, _%_, _≤_, _<_}
+use mathlib.Core.Path.{_≡_, refl, sym, _∙_, ap}
+use mathlib.Core.Bool.{Bool, true, false}
+use mathlib.Core.List.{List, [], _∷_}
+use native.Mathlib.Omega.{arith}
+use lib.Dec.{eqb}
+use lib.ListN.{length, getD, drop}
+use lib.Seq.{sets, sets-eq}
+use Rattle.lex.specs.Byte.{pick}
+use Rattle.index.specs.declared.Ids.{Ids}
+use Rattle.kinds.specs.Kind.{rankOf}
+use Rattle.kinds.specs.declared.Kind.{Kind}
+use Rattle.kinds.specs.declared.Kind.the-variants.{Other}
+use Rattle.lookup.specs.declared.Tables.{Tables}
+use Rattle.plain.specs.Numbers.{flagsOf, narrowAt, idsNumbers, idsBy, tablesBy, kindBy}
+
+-- what stands beside the slots, part by part
+pub ids-are : {count first last flags even shift : ℕ} (xs : List ℕ) → count ≡ getD xs 0 0 → first ≡ narrowAt xs 1 → last ≡ narrowAt xs 2 → flags ≡ getD xs 3 0
+    → even ≡ getD xs 4 0 → shift ≡ narrowAt xs 5
+    → _≡_ {A = Ids} (record { count = count; first = first; last = last; direct = eqb (flags % 2) 1; distinct = eqb (flags / 2 % 2) 1; even = eqb (even % 2) 1; shift = shift }) (idsBy xs)
+ids-are xs c f l g e s = λ i. record { count = c i; first = f i; last = l i; direct = eqb (g i % 2) 1; distinct = eqb (g i / 2 % 2) 1; even = eqb (e i % 2) 1; shift = s i }
+
+-- what goes with the tables, part by part
+pub tables-are : {headers records max : ℕ} {ids : Ids} (xs : List ℕ) → headers ≡ getD xs 8 0 → records ≡ getD xs 9 0 → max ≡ narrowAt xs 10 → ids ≡ idsBy xs
+    → _≡_ {A = Tables} (record { headers = headers; records = records; max = max; ids = ids }) (tablesBy xs)
+tables-are xs h r m b = λ i. record { headers = h i; records = r i; max = m i; ids = b i }
+
+-- a number that is none of the eleven is `Other`
+pub kind-other : (n : ℕ) → (n ≡ 0 → ⊥) → (n ≡ 1 → ⊥) → (n ≡ 2 → ⊥) → (n ≡ 3 → ⊥) → (n ≡ 4 → ⊥) → (n ≡ 5 → ⊥) → (n ≡ 6 → ⊥) → (n ≡ 7 → ⊥) → (n ≡ 8 → ⊥) → (n ≡ 9 → ⊥) → (n ≡ 10 → ⊥) → Other ≡ kindBy n
+kind-other zero a b c d e f g h i j k = absurd (a refl)
+kind-other (suc zero) a b c d e f g h i j k = absurd (b refl)
+kind-other (suc (suc zero)) a b c d e f g h i j k = absurd (c refl)
+kind-other (suc (suc (suc zero))) a b c d e f g h i j k = absurd (d refl)
+kind-other (suc (suc (suc (suc zero)))) a b c d e f g h i j k = absurd (e refl)
+kind-other (suc (suc (suc (suc (suc zero))))) a b c d e f g h i j k = absurd (f refl)
+kind-other (suc (suc (suc (suc (suc (suc zero)))))) a b c d e f g h i j k = absurd (g refl)
+kind-other (suc (suc (suc (suc (suc (suc (suc zero))))))) a b c d e f g h i j k = absurd (h refl)
+kind-other (suc (suc (suc (suc (suc (suc (suc (suc zero)))))))) a b c d e f g h i j k = absurd (i refl)
+kind-other (suc (suc (suc (suc (suc (suc (suc (suc (suc zero))))))))) a b c d e f g h i j k = absurd (j refl)
+kind-other (suc (suc (suc (suc (suc (suc (suc (suc (suc (suc zero)))))))))) a b c d e f g h i j k = absurd (k refl)
+kind-other (suc (suc (suc (suc (suc (suc (suc (suc (suc (suc (suc n))))))))))) a b c d e f g h i j k = refl
+
+-- six numbers put at the start stand there
+six-first : (ids : List ℕ) (a b c d e f : ℕ) → 6 ≤ length ids → sets ids 0 (a ∷ b ∷ c ∷ d ∷ e ∷ f ∷ []) ≡ a ∷ b ∷ c ∷ d ∷ e ∷ f ∷ drop 6 ids
+six-first ids a b c d e f h = sets-eq (a ∷ b ∷ c ∷ d ∷ e ∷ f ∷ []) ids 0 h
+
+-- ids fit into 32 bits, and so a remainder changes nothing
+small : (x : ℕ) → x < 4294967296 → x % 4294967296 ≡ x
+small x h = omega arith
+
+-- and so do the findings
+flags-back : (s t : Bool) → (eqb (flagsOf s t % 2) 1 ≡ s) × (eqb (flagsOf s t / 2 % 2) 1 ≡ t)
+flags-back true true = (refl, refl)
+flags-back true false = (refl, refl)
+flags-back false true = (refl, refl)
+flags-back false false = (refl, refl)
+
+bit-back : (s : Bool) → eqb (pick s 1 0 % 2) 1 ≡ s
+bit-back true = refl
+bit-back false = refl
+
+-- what stood beside the slots comes back
+pub ids-back : (b : Ids) (old : List ℕ) → 6 ≤ length old → b .first < 4294967296 → b .last < 4294967296 → b .shift < 4294967296 → idsBy (sets old 0 (idsNumbers b)) ≡ b
+ids-back b old h f l s = ap idsBy (six-first old (b .count) (b .first) (b .last) (flagsOf (b .direct) (b .distinct)) (pick (b .even) 1 0) (b .shift) h) ∙ whole
+  where
+    g : (eqb (flagsOf (b .direct) (b .distinct) % 2) 1 ≡ b .direct) × (eqb (flagsOf (b .direct) (b .distinct) / 2 % 2) 1 ≡ b .distinct)
+    g = flags-back (b .direct) (b .distinct)
+
+    whole : idsBy (b .count ∷ b .first ∷ b .last ∷ flagsOf (b .direct) (b .distinct) ∷ pick (b .even) 1 0 ∷ b .shift ∷ drop 6 old) ≡ b
+    whole = λ i. record { count = b .count; first = small (b .first) f i; last = small (b .last) l i; direct = g .0 i; distinct = g .1 i; even = bit-back (b .even) i; shift = small (b .shift) s i }
