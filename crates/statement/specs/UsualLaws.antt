@@ -15,6 +15,7 @@ use Rattle.lex.specs.Search.{Look, look, semicolon, paren, under}
 use Rattle.lex.specs.Seek.{under-less}
 use Rattle.lex.specs.Right.Steps.{clash, plainly, Passing, byte-step, string-step}
 use Rattle.record.specs.Text.{past, trail}
+use Rattle.record.specs.Turns.{past-stops, past-goes}
 use Rattle.record.specs.Form.{All, Free, NotLast, Skipped}
 use Rattle.record.specs.FormRight.{past-is, trail-only}
 use Rattle.record.specs.FormRight.Parts.{past-pass, all-kind, last-none}
@@ -183,16 +184,17 @@ space-at t from r h e =
     let n : take (length t - from) (drop from t) ≡ drop from t = take-all (length t - from) (drop from t) (omega (arith, length-drop from t)) in
     sym (drop-drop r from t) ∙ ap (drop r) (sym n) ∙ e ∙ ap (past white) n
 
--- neither of two tests holds
-pub or-left : (a b : Bool) → a || b ≡ false → a ≡ false
-or-left false b h = refl
-or-left true b h = h
-
-pub or-right : (a b : Bool) → a || b ≡ false → b ≡ false
-or-right false b h = h
-or-right true b h = clash (cc)
-
 -- where the walk stops at the closing `)`
 pub stop-at : (s : List ℕ) (from i j d : ℕ) → (j ≡ i) × (d ≡ 0) × (getD s i 0 ≡ 41) → from ≤ i → Way 0 d (drop from s) (drop i s)
     → (from ≤ j) × (getD s j 0 ≡ 41) × Way 0 0 (drop from s) (drop j s)
 stop-at s from i j d (e, z, g) h w = (omega arith, rw e g, rw e (rw z at w))
+
+-- One byte of a run of plain bytes, at a place.
+module _ (s : List ℕ) (i : ℕ) (h : i < length s) where
+  pub run-stops : mark (getD s i 0) ≡ true → drop i s ≡ past plain (drop i s)
+  unfolding past
+  run-stops e = past-stops s i h plain (past plain (drop i s)) (ap not e) refl
+
+  pub run-goes : mark (getD s i 0) ≡ false → past plain (drop (i + 1) s) ≡ past plain (drop i s)
+  unfolding past
+  run-goes e = past-goes s i h plain (past plain (drop i s)) (ap not e) refl

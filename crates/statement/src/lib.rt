@@ -207,8 +207,8 @@ fn wide(b: u8) -> u64
     b as u64
 }
 
-// The first marked place from `from` on, or the length. Two bytes a turn: a processor foresees the end of such a loop better.
-fn plain_run(s: &[u8], from: usize) -> usize
+// The first marked place from `from` on, or the length: the last bytes of a file.
+fn last_run(s: &[u8], from: usize) -> usize
     requires { ⌜ from ≤ length (now s) ⌝ }
     ensures { λ r. ⌜ drop r (now (s .entry)) ≡ past plain (drop from (now (s .entry))) ⌝ }
     ensures { λ r. ⌜ (from ≤ r) × (r ≤ length (now (s .entry))) ⌝ }
@@ -219,15 +219,37 @@ fn plain_run(s: &[u8], from: usize) -> usize
             return i;
         }
         i += 1;
-        if i == s.len() {
-            return i;
-        }
+    }
+    i
+}
+
+// The first marked place from `from` on, or the length. Four bytes a turn: less is counted, and a processor foresees better where
+// such a loop ends.
+fn plain_run(s: &[u8], from: usize) -> usize
+    requires { ⌜ from ≤ length (now s) ⌝ }
+    ensures { λ r. ⌜ drop r (now (s .entry)) ≡ past plain (drop from (now (s .entry))) ⌝ }
+    ensures { λ r. ⌜ (from ≤ r) × (r ≤ length (now (s .entry))) ⌝ }
+{
+    let mut i = from;
+    while 4 <= s.len() - i {
         if is_mark(s[i]) {
             return i;
         }
-        i += 1;
+        let second = i + 1;
+        if is_mark(s[second]) {
+            return second;
+        }
+        let third = second + 1;
+        if is_mark(s[third]) {
+            return third;
+        }
+        let fourth = third + 1;
+        if is_mark(s[fourth]) {
+            return fourth;
+        }
+        i = fourth + 1;
     }
-    i
+    last_run(s, i)
 }
 
 // A quote or a `;`.
@@ -275,7 +297,8 @@ fn string_step(s: &[u8], i: usize, depth: usize) -> Step
     Step::On(after, depth)
 }
 
-// What a walk does at a marked byte with so many open parentheses. A slash or a `;` is not usual; any byte but the five is passed over.
+// What a walk does at a marked byte with so many open parentheses. A slash or a `;` is not usual; the bytes from 64 on that share their
+// bits with the five are passed over.
 fn mark_step(s: &[u8], i: usize, depth: usize) -> Step
     requires { ⌜ (i < length (now s)) × (depth ≤ i) ⌝ }
     ensures { λ r. ⌜ Stepped (now (s .entry)) i depth r ⌝ }
@@ -293,7 +316,7 @@ fn mark_step(s: &[u8], i: usize, depth: usize) -> Step
     if c == b'\'' {
         return string_step(s, i, depth);
     }
-    if (c == b'/') | (c == b';') {
+    if c < 64 {
         return Step::Stop(s.len());
     }
     Step::On(i + 1, depth)

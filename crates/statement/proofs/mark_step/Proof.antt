@@ -1,9 +1,6 @@
-use lib.ListN.{getD}
-use lib.Dec.{eqb}
-use Rattle.statement.specs.UsualLaws.{open-at, close-at, other-at, or-left, or-right}
+use Rattle.statement.specs.UsualLaws.{open-at, close-at, other-at}
 use denote.Ref.{now}
 use native.Mathlib.Omega.{arith}
-use borrow.Author.Tests.{eqb-false}
 use borrow.Author.Needs.{needs}
 use Rattle.statement.proofs.mark_step.Statement.{statement}
 use Rattle.statement.proofs.mark_step.Tie as tie
@@ -58,19 +55,18 @@ returns-5 : tie.Need-returns-5
 returns-5 c = search needs
 
 -- src/lib.rt:299:14
-add-t16 : tie.Need-add-t16
-add-t16 c = search needs
+add-t14 : tie.Need-add-t14
+add-t14 c = search needs
 
 -- src/lib.rt:279:1
 returns-6 : tie.Need-returns-6
-returns-6 c = let b = c .before .before .before .before .before .before in
-    let x = getD (now (b .args .s)) (b .args .i) 0 in (
-      omega arith,
-      omega arith,
-      omega arith,
-      other-at (now (b .args .s)) (b .args .i) (b .args .depth) (b .pre .0) (c .before .if4 .left) (c .before .before .before .if1 .left) (c .before .before .if2 .left)
-          (eqb-false x 47 (or-left (eqb x 47) (eqb x 59) (c .if5 .left))) (eqb-false x 59 (or-right (eqb x 47) (eqb x 59) (c .if5 .left))),
-    )
+returns-6 c = let b = c .before .before .before .before .before .before in (
+  omega arith,
+  omega arith,
+  omega arith,
+  other-at (now (b .args .s)) (b .args .i) (b .args .depth) (b .pre .0) (c .before .if4 .left) (c .before .before .before .if1 .left)
+      (c .before .before .if2 .left) (λ e. omega arith) (λ e. omega arith),
+)
 
 pub mark-step-spec : {M : Type 1} → statement M
 mark-step-spec =
@@ -87,5 +83,5 @@ mark-step-spec =
     string-step-requires
     returns-4
     returns-5
-    add-t16
+    add-t14
     returns-6)
