@@ -1,6 +1,10 @@
 pub mod Row
 pub mod Statement
 pub mod Laws
+pub mod Usual
+pub mod UsualLaws
+pub mod UsualHead
+pub mod UsualRight
 pub mod Only
 pub mod Closed
 pub mod ClosedRight

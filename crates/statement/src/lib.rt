@@ -4,10 +4,14 @@
 // from a place in a section; whether there is a row left for it is for the scan to say.
 ghost use mathlib.Core.Path.{_≡_};
 ghost use Prim.Native.Nat.{_+_, _-_, _≤_, _<_};
-ghost use lib.ListN.{length, take, drop};
-ghost use Rattle.lex.specs.Search.{at};
+ghost use lib.ListN.{length, take, drop, getD};
+ghost use Rattle.lex.specs.Byte.{white};
+ghost use Rattle.lex.specs.Search.{at, trivia, placed, toldFound};
+ghost use Rattle.record.specs.Text.{past, trail, digit};
+ghost use Rattle.record.specs.Form.{Free};
 ghost use Rattle.statement.specs.Row.{row, headerRow, argued, recordOf, headerOf};
 ghost use Rattle.statement.specs.Statement.{toldRecord, toldHeader, toldSaid, Ahead, inSection, ended, begun, statement};
+ghost use Rattle.statement.specs.Usual.{mark, plain, stops, spoken, Stepped, Closed, IdAt, Headed, Walked, UsualSaid};
 use error::Fault;
 use lex::Found;
 use record::Head;
@@ -58,6 +62,24 @@ pub enum Said {
     Moves(Section, usize),
     Heads(HeaderSpan, usize, usize),
     Records(RecordSpan, usize, usize),
+}
+
+// A data record that was read in one walk, with the place after it; or one that is not usual.
+enum Usual {
+    Unusual,
+    Whole(RecordSpan, usize),
+}
+
+// An id and the place after its digits, or none that is usual.
+enum IdRead {
+    NoId,
+    IdIs(u32, usize),
+}
+
+// What a walk does next: it stops at a place, or goes on from a place with so many open parentheses.
+enum Step {
+    Stop(usize),
+    On(usize, usize),
 }
 
 // The row of a record whose `(` stands at `opening`: its arguments run up to the `)` that closes it.
@@ -171,8 +193,332 @@ fn record_said(s: &[u8], start: usize, end: usize, section: Section) -> Said
     }
 }
 
-// What the statement says that begins at start, the first byte after trivia.
-fn statement_at(s: &[u8], start: usize, section: Section) -> Said
+// A byte that a walk over a record has to look at: a quote, a parenthesis, a slash, a `;`. One bit of a number answers for each byte
+// modulo 64, so some bytes more are looked at, as `g`; none of the five is passed over.
+fn is_mark(b: u8) -> bool
+    ensures { λ r. ⌜ r ≡ mark b ⌝ }
+{
+    (576605338082476032u64 >> wide(b % 64)) % 2 == 1
+}
+
+fn wide(b: u8) -> u64
+    ensures { λ r. ⌜ r ≡ b ⌝ }
+{
+    b as u64
+}
+
+// The first marked place from `from` on, or the length: the last bytes of a file.
+fn last_run(s: &[u8], from: usize) -> usize
+    requires { ⌜ from ≤ length (now s) ⌝ }
+    ensures { λ r. ⌜ drop r (now (s .entry)) ≡ past plain (drop from (now (s .entry))) ⌝ }
+    ensures { λ r. ⌜ (from ≤ r) × (r ≤ length (now (s .entry))) ⌝ }
+{
+    let mut i = from;
+    while i < s.len() {
+        if is_mark(s[i]) {
+            return i;
+        }
+        i += 1;
+    }
+    i
+}
+
+// The first marked place from `from` on, or the length. Four bytes a turn: less is counted, and a processor foresees better where
+// such a loop ends.
+fn plain_run(s: &[u8], from: usize) -> usize
+    requires { ⌜ from ≤ length (now s) ⌝ }
+    ensures { λ r. ⌜ drop r (now (s .entry)) ≡ past plain (drop from (now (s .entry))) ⌝ }
+    ensures { λ r. ⌜ (from ≤ r) × (r ≤ length (now (s .entry))) ⌝ }
+{
+    let mut i = from;
+    while 4 <= s.len() - i {
+        if is_mark(s[i]) {
+            return i;
+        }
+        let second = i + 1;
+        if is_mark(s[second]) {
+            return second;
+        }
+        let third = second + 1;
+        if is_mark(s[third]) {
+            return third;
+        }
+        let fourth = third + 1;
+        if is_mark(s[fourth]) {
+            return fourth;
+        }
+        i = fourth + 1;
+    }
+    last_run(s, i)
+}
+
+// A quote or a `;`.
+fn is_stop(b: u8) -> bool
+    ensures { λ r. ⌜ r ≡ stops b ⌝ }
+{
+    (b == b'\'') | (b == b';')
+}
+
+// The first quote or `;` from `from` on, or the length.
+fn text_run(s: &[u8], from: usize) -> usize
+    requires { ⌜ from ≤ length (now s) ⌝ }
+    ensures { λ r. ⌜ drop r (now (s .entry)) ≡ past spoken (drop from (now (s .entry))) ⌝ }
+    ensures { λ r. ⌜ (from ≤ r) × (r ≤ length (now (s .entry))) ⌝ }
+{
+    let mut i = from;
+    while i < s.len() {
+        if is_stop(s[i]) {
+            return i;
+        }
+        i += 1;
+    }
+    i
+}
+
+// Past the string whose first quote stands at i, with so many open parentheses. One with a `;` or a doubled quote is not usual.
+fn string_step(s: &[u8], i: usize, depth: usize) -> Step
+    requires { ⌜ (i < length (now s)) × (getD (now s) i 0 ≡ 39) ⌝ }
+    ensures { λ r. ⌜ Stepped (now (s .entry)) i depth r ⌝ }
+{
+    let q = text_run(s, i + 1);
+    if s.len() <= q {
+        return Step::Stop(s.len());
+    }
+    if s[q] != b'\'' {
+        return Step::Stop(s.len());
+    }
+    let after = q + 1;
+    if s.len() <= after {
+        return Step::Stop(s.len());
+    }
+    if s[after] == b'\'' {
+        return Step::Stop(s.len());
+    }
+    Step::On(after, depth)
+}
+
+// What a walk does at a marked byte with so many open parentheses. A slash or a `;` is not usual; the bytes from 64 on that share their
+// bits with the five are passed over.
+fn mark_step(s: &[u8], i: usize, depth: usize) -> Step
+    requires { ⌜ (i < length (now s)) × (depth ≤ i) ⌝ }
+    ensures { λ r. ⌜ Stepped (now (s .entry)) i depth r ⌝ }
+{
+    let c = s[i];
+    if c == b'(' {
+        return Step::On(i + 1, depth + 1);
+    }
+    if c == b')' {
+        if depth == 0 {
+            return Step::Stop(i);
+        }
+        return Step::On(i + 1, depth - 1);
+    }
+    if c == b'\'' {
+        return string_step(s, i, depth);
+    }
+    if c < 64 {
+        return Step::Stop(s.len());
+    }
+    Step::On(i + 1, depth)
+}
+
+// The `)` that closes the `(` before `from`, or the length where something unusual is met first.
+fn usual_close(s: &[u8], from: usize) -> usize
+    requires { ⌜ from ≤ length (now s) ⌝ }
+    ensures { λ r. ⌜ Closed (now (s .entry)) from r ⌝ }
+{
+    let mut i = from;
+    let mut depth: usize = 0;
+    loop {
+        let m = plain_run(s, i);
+        if s.len() <= m {
+            return m;
+        }
+        match mark_step(s, m, depth) {
+            Step::Stop(at) => return at,
+            Step::On(next, d) => {
+                i = next;
+                depth = d;
+            }
+        }
+    }
+}
+
+fn is_digit(c: u8) -> bool
+    ensures { λ r. ⌜ r ≡ digit c ⌝ }
+{
+    (48 <= c) & (c <= 57)
+}
+
+// The id whose digits begin at `from`.
+fn id_at(t: &[u8], from: usize) -> IdRead
+    requires { ⌜ from ≤ length (now t) ⌝ }
+    ensures { λ r. ⌜ IdAt (now (t .entry)) from r ⌝ }
+{
+    let mut n: u64 = 0;
+    let mut i = from;
+    while i < t.len() {
+        let c = t[i];
+        if !is_digit(c) {
+            return IdRead::IdIs(n as u32, i);
+        }
+        n = n * 10 + ((c - 48) as u64);
+        if 4294967295 < n {
+            return IdRead::NoId;
+        }
+        i += 1;
+    }
+    IdRead::IdIs(n as u32, i)
+}
+
+// The place after the last byte from `from` on that is not white, or `from`; sought from the end.
+fn trim_at(t: &[u8], from: usize) -> usize
+    requires { ⌜ from ≤ length (now t) ⌝ }
+    ensures { λ r. ⌜ drop r (now (t .entry)) ≡ trail (drop from (now (t .entry))) ⌝ }
+    ensures { λ r. ⌜ (from ≤ r) × (r ≤ length (now (t .entry))) ⌝ }
+{
+    let mut z = t.len();
+    while from < z {
+        let last = z - 1;
+        if !lex::is_space(t[last]) {
+            return z;
+        }
+        z = last;
+    }
+    z
+}
+
+// What stands from the `=` on, before the `(`.
+fn value_before(t: &[u8], id: u32, from: usize) -> Head
+    requires { ⌜ Free 40 (now t) × IdAt (now t) 1 (IdRead.IdIs id from) × (1 < from) × (getD (now t) 0 0 ≡ 35) ⌝ }
+    ensures { λ r. ⌜ Headed (now (t .entry)) r ⌝ }
+{
+    let q = from + record::leading_space(&t[from..]);
+    if t.len() <= q {
+        return Head::Bad(5);
+    }
+    if t[q] != b'=' {
+        return Head::Bad(5);
+    }
+    let value = q + 1;
+    let a = value + record::leading_space(&t[value..]);
+    if t.len() <= a {
+        return Head::Complex(id, a);
+    }
+    Head::Simple(id, a, trim_at(t, a), t.len())
+}
+
+// The head of a data record by what stands before its first `(`.
+fn head_before(t: &[u8]) -> Head
+    requires { ⌜ Free 40 (now t) ⌝ }
+    ensures { λ r. ⌜ Headed (now (t .entry)) r ⌝ }
+{
+    if t.len() == 0 {
+        return Head::Bad(2);
+    }
+    if t[0] != b'#' {
+        return Head::Bad(2);
+    }
+    match id_at(t, 1) {
+        IdRead::NoId => Head::Bad(4),
+        IdRead::IdIs(id, at) => {
+            if at == 1 {
+                return Head::Bad(4);
+            }
+            value_before(t, id, at)
+        }
+    }
+}
+
+// The row of a usual record by its head, whose `(`, `)` and `;` stand at these places.
+fn usual_row(s: &[u8], head: Head, start: usize, opening: usize, close: usize, end: usize) -> Usual
+    requires { ⌜ Walked (now s) start opening close end × Headed (take (opening - start) (drop start (now s))) head ⌝ }
+    ensures { λ r. ⌜ UsualSaid (now (s .entry)) start Section.InData r ⌝ }
+{
+    let args = Range {
+        start: opening + 1,
+        end: close,
+    };
+    match head {
+        Head::Bad(_) => Usual::Unusual,
+        Head::Complex(id, _) => {
+            let keyword = Range { start: 0, end: 0 };
+            let complex = 1;
+            let span = RecordSpan {
+                id,
+                keyword,
+                args,
+                complex,
+            };
+            Usual::Whole(span, end + 1)
+        }
+        Head::Simple(id, a, z, _) => {
+            let keyword = Range {
+                start: start + a,
+                end: start + z,
+            };
+            let complex = 0;
+            let span = RecordSpan {
+                id,
+                keyword,
+                args,
+                complex,
+            };
+            Usual::Whole(span, end + 1)
+        }
+    }
+}
+
+// The data record that begins at start, read in one walk: to the first `(`, to the `)` that closes it, and to the `;`.
+fn usual_record(s: &[u8], start: usize) -> Usual
+    requires { ⌜ start < length (now s) ⌝ }
+    ensures { λ r. ⌜ UsualSaid (now (s .entry)) start Section.InData r ⌝ }
+{
+    if s[start] != b'#' {
+        return Usual::Unusual;
+    }
+    let opening = plain_run(s, start);
+    if s.len() <= opening {
+        return Usual::Unusual;
+    }
+    if s[opening] != b'(' {
+        return Usual::Unusual;
+    }
+    let close = usual_close(s, opening + 1);
+    if s.len() <= close {
+        return Usual::Unusual;
+    }
+    let end = plain_run(s, close + 1);
+    if s.len() <= end {
+        return Usual::Unusual;
+    }
+    if s[end] != b';' {
+        return Usual::Unusual;
+    }
+    usual_row(
+        s,
+        head_before(&s[start..opening]),
+        start,
+        opening,
+        close,
+        end,
+    )
+}
+
+// The statement that begins at start, where it is a usual data record.
+fn usual_at(s: &[u8], start: usize, section: Section) -> Usual
+    requires { ⌜ start < length (now s) ⌝ }
+    ensures { λ r. ⌜ UsualSaid (now (s .entry)) start section r ⌝ }
+{
+    match section {
+        Section::Outside => Usual::Unusual,
+        Section::InHeader => Usual::Unusual,
+        Section::InData => usual_record(s, start),
+    }
+}
+
+// What the statement says that begins at start, by a search for its end first.
+fn sought_at(s: &[u8], start: usize, section: Section) -> Said
     requires { ⌜ start < length (now s) ⌝ }
     ensures { λ r. ⌜ toldSaid (now (s .entry)) r ≡ begun (now (s .entry)) section (drop start (now (s .entry))) ⌝ }
     ensures { λ r. ⌜ Ahead start (length (now (s .entry))) r ⌝ }
@@ -183,6 +529,33 @@ fn statement_at(s: &[u8], start: usize, section: Section) -> Said
     }
 }
 
+// What the statement says that begins at start, the first byte after trivia. Nearly every one is a usual record.
+fn statement_at(s: &[u8], start: usize, section: Section) -> Said
+    requires { ⌜ start < length (now s) ⌝ }
+    ensures { λ r. ⌜ toldSaid (now (s .entry)) r ≡ begun (now (s .entry)) section (drop start (now (s .entry))) ⌝ }
+    ensures { λ r. ⌜ Ahead start (length (now (s .entry))) r ⌝ }
+{
+    match usual_at(s, start, section) {
+        Usual::Unusual => sought_at(s, start, section),
+        Usual::Whole(span, next) => Said::Records(span, start, next),
+    }
+}
+
+// Past trivia: in nearly every case whitespace alone, before a byte that opens no comment.
+fn lead_past(s: &[u8], i: usize) -> Found
+    requires { ⌜ i ≤ length (now s) ⌝ }
+    ensures { λ r. ⌜ toldFound r ≡ placed (now (s .entry)) (trivia (drop i (now (s .entry)))) ⌝ }
+{
+    let p = i + record::leading_space(&s[i..]);
+    if s.len() <= p {
+        return lex::skip_trivia(s, i);
+    }
+    if s[p] == b'/' {
+        return lex::skip_trivia(s, i);
+    }
+    Found::At(p)
+}
+
 // What the first statement says from the place i on, in this section; from the file's end on there is none.
 pub fn next_statement(s: &[u8], i: usize, section: Section) -> Said
     ensures { λ r. ⌜ toldSaid (now (s .entry)) r ≡ statement (now (s .entry)) section (drop i (now (s .entry))) ⌝ }
@@ -191,7 +564,7 @@ pub fn next_statement(s: &[u8], i: usize, section: Section) -> Said
     if s.len() <= i {
         return Said::Ends;
     }
-    match lex::skip_trivia(s, i) {
+    match lead_past(s, i) {
         Found::Refused(f) => Said::Refuses(f),
         Found::At(start) => {
             if s.len() <= start {

@@ -10,7 +10,7 @@ use Rattle.statement.proofs.next_statement.Statement.{statement}
 use Rattle.statement.proofs.next_statement.Tie as tie
 use Rattle.statement.proofs.next_statement.Reads as reads
 use Rattle.statement.proofs.next_statement.Lts as lts
-use Rattle.lex.proofs.skip_trivia.Reads as skip-trivia-reads
+use Rattle.statement.proofs.lead_past.Reads as lead-past-reads
 use Rattle.statement.proofs.statement_at.Reads as statement-at-reads
 
 -- src/lib.rt:192:9
@@ -19,8 +19,8 @@ returns c = let a = c .before .before .args in
     (statement-none (now (a .s)) (a .i) (a .section) (c .if1 .taken), tt)
 
 -- src/lib.rt:194:11
-skip-trivia-requires : tie.Need-skip-trivia-requires
-skip-trivia-requires c κs = search needs
+lead-past-requires : tie.Need-lead-past-requires
+lead-past-requires c κs = search needs
 
 -- src/lib.rt:195:24
 enum-known-f : tie.Need-enum-known-f
@@ -34,7 +34,7 @@ enum-known-start c = search needs
 returns-2 : tie.Need-returns-2
 returns-2 c = let t = c .before .before .before .before in
     let a = t .before .before .before .args in
-    (statement-over (now (a .s)) (a .i) (a .section) _ (omega arith) (sym (ap toldFound (c .before .before .start .given .1)) ∙ t .skip-trivia .ensures) (c .if2 .taken), tt)
+    (statement-over (now (a .s)) (a .i) (a .section) _ (omega arith) (sym (ap toldFound (c .before .before .start .given .1)) ∙ t .lead-past .ensures) (c .if2 .taken), tt)
 
 -- src/lib.rt:200:13
 statement-at-requires : tie.Need-statement-at-requires
@@ -44,13 +44,13 @@ statement-at-requires c κs = search needs
 returns-3 : tie.Need-returns-3
 returns-3 c = let t = c .before .before .before in
     let a = t .before .before .before .args in
-    (statement-refused (now (a .s)) (a .i) (a .section) _ (sym (ap toldFound (c .before .f .given .1)) ∙ t .skip-trivia .ensures), tt)
+    (statement-refused (now (a .s)) (a .i) (a .section) _ (sym (ap toldFound (c .before .f .given .1)) ∙ t .lead-past .ensures), tt)
 
 -- src/lib.rt:187:1
 returns-4 : tie.Need-returns-4
 returns-4 c = let t = c .before .before .before .before .before in
     let a = t .before .before .before .args in
-    let e = sym (ap toldFound (c .before .before .before .start .given .1)) ∙ t .skip-trivia .ensures in (
+    let e = sym (ap toldFound (c .before .before .before .start .given .1)) ∙ t .lead-past .ensures in (
       c .statement-at .ensures .0 ∙ statement-found (now (a .s)) (a .i) (a .section) _ (omega arith) e,
       ahead-from (a .i) _ (length (now (a .s))) (c .statement-at .result) (trivia-at (now (a .s)) (a .i) _ (omega arith) e .1) (c .statement-at .ensures .1),
     )
@@ -60,7 +60,7 @@ next-statement-spec =
     tie.close
     (tie.spec
     returns
-    skip-trivia-requires
+    lead-past-requires
     enum-known-f
     enum-known-start
     returns-2

@@ -1,0 +1,78 @@
+use Rattle.record.specs.Turns.{past-stops, past-goes}
+use Rattle.record.specs.Text.{past, pastTurn}
+use Rattle.statement.specs.Usual.{spoken}
+use Rattle.lex.specs.Walk.{walk, walk-ends, drop-end}
+use lib.ListN.{length, drop, getD}
+use denote.Ref.{now}
+use borrow.Author.Tests.{not-true, not-false}
+use borrow.Author.Needs.{needs}
+use native.Mathlib.Omega.{arith}
+use mathlib.Core.List.{List, [], _∷_}
+use mathlib.Core.Bool.{Bool, true, false, not}
+use mathlib.Core.Path.{_≡_, ap, sym, refl, _∙_}
+use Prim.Native.Nat.{ℕ, _+_, _-_, _≤_}
+use Rattle.statement.proofs.text_run.Statement.{statement}
+use Rattle.statement.proofs.text_run.Tie as tie
+use Rattle.statement.proofs.text_run.Reads as reads
+use Rattle.statement.proofs.text_run.Lts as lts
+use Rattle.statement.proofs.is_stop.Reads as is-stop-reads
+
+abbrev Inv-loop : tie.InvT-loop
+Inv-loop s from i₀ i = ((from ≤ i) × (i ≤ length s)) × (walk (pastTurn spoken) (λ u. []) tt (drop i s) ≡ past spoken (drop from s))
+
+abbrev μ-loop : tie.MeasureT-loop
+μ-loop s from i₀ i = length s - i
+
+-- src/lib.rt:247:5
+loop-holds : tie.Need-loop-holds Inv-loop μ-loop
+unfolding past
+loop-holds c = ((omega arith, omega arith), refl)
+
+-- src/lib.rt:248:20
+shared-slice-read-is-stop : tie.Need-shared-slice-read-is-stop Inv-loop μ-loop
+shared-slice-read-is-stop c = search needs
+
+-- src/lib.rt:248:12
+is-stop-requires : tie.Need-is-stop-requires Inv-loop μ-loop
+is-stop-requires c κs = search needs
+
+-- src/lib.rt:249:13
+returns : tie.Need-returns Inv-loop μ-loop
+returns c = let t = c .before .before .before .before in
+    let s = now (t .before .before .args .s) in
+    (past-stops s (t .loop .i) (omega arith) spoken _ (ap not (sym (c .before .is-stop .ensures) ∙ c .if1 .taken)) (t .loop .inv .1), (omega arith, omega arith))
+
+-- src/lib.rt:251:9
+add-i : tie.Need-add-i Inv-loop μ-loop
+add-i c = search needs
+
+-- src/lib.rt:247:5
+loop-less : tie.Need-loop-less Inv-loop μ-loop
+loop-less c = search needs
+
+-- src/lib.rt:247:5
+loop-again : tie.Need-loop-again Inv-loop μ-loop
+loop-again c = let t = c .before .before .before .before in
+    let s = now (t .before .before .args .s) in
+    ((omega arith, omega arith), past-goes s (t .loop .i) (omega arith) spoken _ (ap not (sym (c .before .is-stop .ensures) ∙ c .if1 .left)) (t .loop .inv .1))
+
+-- src/lib.rt:241:1
+returns-2 : tie.Need-returns-2 Inv-loop μ-loop
+returns-2 c = let t = c .before in
+    let s = now (t .before .before .args .s) in
+    (drop-end s (t .loop .i) (omega arith) ∙ sym (walk-ends (pastTurn spoken) (λ u. []) tt s (t .loop .i) (omega arith)) ∙ t .loop .inv .1, (omega arith, omega arith))
+
+pub text-run-spec : {M : Type 1} → statement M
+text-run-spec =
+    tie.close
+    (tie.spec
+    Inv-loop
+    μ-loop
+    loop-holds
+    shared-slice-read-is-stop
+    is-stop-requires
+    returns
+    add-i
+    loop-less
+    loop-again
+    returns-2)

@@ -1,0 +1,200 @@
+-- What the bytes of a usual record do to the searches: the laws that the walk's proofs cite. Assumes nothing.
+use Prim.Native.Nat.{ℕ, suc, _+_, _-_, _≤_, _<_}
+use mathlib.Core.Path.{_≡_, refl, sym, _∙_, ap}
+use mathlib.Core.Bool.{Bool, true, false, not, _||_}
+use mathlib.Core.List.{List, [], _∷_, _++_, append-assoc}
+use native.Mathlib.Omega.{arith}
+use lib.Dec.{eqb}
+use lib.ListN.{length, take, drop, getD, length-drop, length-append, take-append-drop}
+use lib.Seq.{drop-drop, take-all}
+use borrow.Author.Tests.{eqb-true, eqb-false, ne-eqb, not-true, not-false}
+use Rattle.lex.specs.Byte.{pick, white}
+use Rattle.lex.specs.Walk.{split, drop-end}
+use Rattle.lex.specs.Grammar.{Begins, Opens, Inside, Quotation}
+use Rattle.lex.specs.Search.{Look, look, semicolon, paren, under}
+use Rattle.lex.specs.Seek.{under-less}
+use Rattle.lex.specs.Right.Steps.{clash, plainly, Passing, byte-step, string-step}
+use Rattle.record.specs.Text.{past, trail}
+use Rattle.record.specs.Turns.{past-stops, past-goes}
+use Rattle.record.specs.Form.{All, Free, NotLast, Skipped}
+use Rattle.record.specs.FormRight.{past-is, trail-only}
+use Rattle.record.specs.FormRight.Parts.{past-pass, all-kind, last-none}
+use Rattle.statement.specs.Usual.{mark, plain, stops, spoken, Way}
+
+-- no marked byte is plain
+pub plain-other : (b c : ℕ) → mark b ≡ true → plain c ≡ true → c ≡ b → ⊥
+plain-other b c h k e = let g : mark c ≡ false = not-true (mark c) k in clash (cc)
+
+-- the five bytes are marked
+mark-quote : mark 39 ≡ true
+unfolding mark
+mark-quote = refl
+
+-- a `(` is
+pub mark-open : mark 40 ≡ true
+unfolding mark
+mark-open = refl
+
+mark-close : mark 41 ≡ true
+unfolding mark
+mark-close = refl
+
+mark-slash : mark 47 ≡ true
+unfolding mark
+mark-slash = refl
+
+mark-end : mark 59 ≡ true
+unfolding mark
+mark-end = refl
+
+-- nothing on the way
+pub way-none : (d : ℕ) (xs : List ℕ) → Way d d xs xs
+way-none d xs = record { ends = λ n w. refl; closes = λ n w. refl; first = refl }
+
+-- one way after another
+pub way-on : {d e f : ℕ} {xs ys zs : List ℕ} → Way d e xs ys → Way e f ys zs → Way d f xs zs
+way-on v u = record {
+  ends = λ n w. v .ends n w ∙ u .ends n w;
+  closes = λ n w. v .closes n w ∙ u .closes n w;
+  first = v .first ∙ u .first;
+}
+
+-- a byte that opens no string and no comment and ends nothing
+way-byte : (d e c : ℕ) (t : List ℕ) → (c ≡ 39 → ⊥) → (c ≡ 47 → ⊥) → (c ≡ 59 → ⊥) → paren d c ≡ look e → Way d e (c ∷ t) t
+way-byte d e c t h k l m = record {
+  ends = λ n w. byte-step semicolon n w 0 0 c t h (λ (r, g). k (cc)) (rw (ne-eqb c 59 l));
+  closes = λ n w. byte-step paren n w d e c t h (λ (r, g). k (cc)) m;
+  first = past-pass (λ b. not (eqb b 59)) (c ∷ []) t (rw (ne-eqb c 59 l) refl, tt);
+}
+
+-- a byte but the five leaves the depth as it is
+way-other : (d c : ℕ) (t : List ℕ) → (c ≡ 39 → ⊥) → (c ≡ 40 → ⊥) → (c ≡ 41 → ⊥) → (c ≡ 47 → ⊥) → (c ≡ 59 → ⊥) → Way d d (c ∷ t) t
+way-other d c t h i j k l = way-byte d d c t h k l (rw (ne-eqb c 40 i, ne-eqb c 41 j))
+
+-- plain bytes
+pub way-plain : (d : ℕ) (f r : List ℕ) → All plain f → Way d d (f ++ r) r
+way-plain d [] r h = way-none d r
+way-plain d (c ∷ f) r (h, t) = way-on
+    (way-other d c (f ++ r) (plain-other 39 c mark-quote h) (plain-other 40 c mark-open h) (plain-other 41 c mark-close h)
+    (plain-other 47 c mark-slash h) (plain-other 59 c mark-end h)) (way-plain d f r t)
+
+-- up to the first marked byte
+pub run-way : (d : ℕ) (xs : List ℕ) → Way d d xs (past plain xs)
+run-way d xs = let (f, e, k) = past-is plain xs in go f (past plain xs) e (k .all)
+  where
+    go : (f r : List ℕ) → xs ≡ f ++ r → All plain f → Way d d xs r
+    go f r e h = rw e (way-plain d f r h)
+
+-- up to the first marked byte, at places
+pub run-at : (d : ℕ) (s : List ℕ) (i r : ℕ) → drop r s ≡ past plain (drop i s) → Way d d (drop i s) (drop r s)
+run-at d s i r e = rw e (run-way d (drop i s))
+
+-- a `(`
+open-way : (d : ℕ) (t : List ℕ) → Way d (suc d) (40 ∷ t) t
+open-way d t = way-byte d (suc d) 40 t (eqb-false 40 39 refl) (eqb-false 40 47 refl) (eqb-false 40 59 refl) refl
+
+-- a `)` that closes what was opened on the way
+close-way : (d : ℕ) (t : List ℕ) → Way (suc d) d (41 ∷ t) t
+close-way d t = way-byte (suc d) d 41 t (eqb-false 41 39 refl) (eqb-false 41 47 refl) (eqb-false 41 59 refl) refl
+
+-- a byte of a string's inside is no quote and no `;`
+spoken-other : (c : ℕ) → spoken c ≡ true → (c ≡ 39 → ⊥) × (c ≡ 59 → ⊥)
+spoken-other c = go (eqb c 39) (eqb c 59) refl refl
+  where
+    go : (a b : Bool) → eqb c 39 ≡ a → eqb c 59 ≡ b → not (a || b) ≡ true → (c ≡ 39 → ⊥) × (c ≡ 59 → ⊥)
+    go false false p q h = (eqb-false c 39 p, eqb-false c 59 q)
+    go false true p q h = clash (cc)
+    go true b p q h = clash (cc)
+
+-- such bytes are a string's inside
+spoken-inside : (f : List ℕ) → All spoken f → Inside f
+spoken-inside [] h = Inside.none
+spoken-inside (c ∷ f) (h, t) = Inside.other (spoken-other c h .0) (spoken-inside f t)
+
+-- a string without a `;`
+pub string-way : (d : ℕ) (f r : List ℕ) → All spoken f → (Begins 39 r → ⊥) → Way d d (39 ∷ (f ++ (39 ∷ r))) r
+string-way d f r h k =
+    let q : Quotation (39 ∷ (f ++ (39 ∷ r))) r = record { body = f; inside = spoken-inside f h; shape = refl; single = k } in
+    let p : ℕ → Bool = λ b. not (eqb b 59) in
+    record {
+      ends = λ n w. string-step semicolon n w (record { quote = λ d. refl; slash = λ d. refl }) 0 q;
+      closes = λ n w. string-step paren n w (record { quote = λ d. refl; slash = λ d. refl }) d q;
+      first = past-pass p (39 ∷ []) (f ++ (39 ∷ r)) (refl, tt)
+          ∙ past-pass p f (39 ∷ r) (all-kind spoken p f (λ c e. rw (ne-eqb c 59 (spoken-other c e .1)) refl) h)
+          ∙ past-pass p (39 ∷ []) r (refl, tt);
+    }
+
+-- The same at places of the file.
+module _ (s : List ℕ) (i d : ℕ) (h : i < length s) where
+  pub open-at : getD s i 0 ≡ 40 → Way d (d + 1) (drop i s) (drop (i + 1) s)
+  open-at e = let n : d + 1 ≡ suc d = omega arith in rw (split s i h, e, n) (open-way d (drop (i + 1) s))
+
+  pub close-at : getD s i 0 ≡ 41 → (d ≡ 0 → ⊥) → Way d (d - 1) (drop i s) (drop (i + 1) s)
+  close-at e k = let n : suc (d - 1) ≡ d = omega arith in
+      rw (split s i h, e) (rw n at (close-way (d - 1) (drop (i + 1) s)))
+
+  pub other-at : (getD s i 0 ≡ 39 → ⊥) → (getD s i 0 ≡ 40 → ⊥) → (getD s i 0 ≡ 41 → ⊥) → (getD s i 0 ≡ 47 → ⊥) → (getD s i 0 ≡ 59 → ⊥) → Way d d (drop i s) (drop (i + 1) s)
+  other-at a b c e f = rw (split s i h) (way-other d (getD s i 0) (drop (i + 1) s) a b c e f)
+
+  pub string-at : (q : ℕ) → getD s i 0 ≡ 39 → drop q s ≡ past spoken (drop (i + 1) s) → q + 1 < length s → getD s q 0 ≡ 39
+      → (getD s (q + 1) 0 ≡ 39 → ⊥) → Way d d (drop i s) (drop (q + 1) s)
+  string-at q e p k g o =
+      let (f, x, y) = past-is spoken (drop (i + 1) s) in
+      let u : drop q s ≡ 39 ∷ drop (q + 1) s = split s q (omega arith) ∙ ap (λ (c : ℕ). c ∷ drop (q + 1) s) g in
+      let z : drop (i + 1) s ≡ f ++ (39 ∷ drop (q + 1) s) = x ∙ ap (λ (l : List ℕ). f ++ l) (sym p ∙ u) in
+      let v : drop i s ≡ 39 ∷ (f ++ (39 ∷ drop (q + 1) s)) = split s i h ∙ cc in
+      rw v (string-way d f (drop (q + 1) s) (y .all) (λ (r, w). o (let w' : getD s (q + 1) 0 ∷ drop (q + 1 + 1) s ≡ 39 ∷ r = sym (split s (q + 1) k) ∙ w in cc)))
+
+-- bytes with one more at the end that is not of the kind
+snoc-none : (f : List ℕ) (b : ℕ) → f ++ (b ∷ []) ≡ [] → ⊥
+snoc-none [] b e = clash (cc)
+snoc-none (a ∷ f) b e = clash (cc)
+
+-- such bytes do not end in one of the kind
+snoc-last : (p : ℕ → Bool) (f : List ℕ) (b : ℕ) → p b ≡ false → NotLast p (f ++ (b ∷ []))
+snoc-last p [] b h [] c e = ap p (cc) ∙ h
+snoc-last p [] b h (x ∷ r) c e = absurd (snoc-none r c (cc))
+snoc-last p (a ∷ f) b h [] c e = absurd (snoc-none f b (cc))
+snoc-last p (a ∷ f) b h (x ∷ r) c e = snoc-last p f b h r c (cc)
+
+-- The whitespace at the end, sought from the end.
+module _ (t : List ℕ) where
+  pub trim-more : (z : ℕ) → 0 < z → z ≤ length t → white (getD t (z - 1) 0) ≡ true → All white (drop z t) → All white (drop (z - 1) t)
+  trim-more z h k w a = let n : z - 1 + 1 ≡ z = omega arith in rw (split t (z - 1) (omega arith), n) (w, a)
+
+  pub trim-none : (from : ℕ) → All white (drop from t) → drop from t ≡ trail (drop from t)
+  trim-none from a = sym (trail-only [] (drop from t) (last-none white) a)
+
+  pub trim-here : (from z : ℕ) → from < z → z ≤ length t → white (getD t (z - 1) 0) ≡ false → All white (drop z t) → drop z t ≡ trail (drop from t)
+  trim-here from z h k w a =
+      let f : List ℕ = take (z - 1 - from) (drop from t) in
+      let b : ℕ = getD t (z - 1) 0 in
+      let n : z - 1 + 1 ≡ z = omega arith in
+      let m : from + (z - 1 - from) ≡ z - 1 = omega arith in
+      let e : drop (z - 1 - from) (drop from t) ≡ b ∷ drop z t =
+      drop-drop (z - 1 - from) from t ∙ ap (λ (k : ℕ). drop k t) m ∙ split t (z - 1) (omega arith) ∙ ap (λ (k : ℕ). b ∷ drop k t) n in
+      let g : drop from t ≡ (f ++ (b ∷ [])) ++ drop z t =
+      sym (take-append-drop (z - 1 - from) (drop from t)) ∙ ap (λ (l : List ℕ). f ++ l) e ∙ sym (append-assoc f (b ∷ []) (drop z t)) in
+      sym (ap trail g ∙ trail-only (f ++ (b ∷ [])) (drop z t) (snoc-last white f b w) a)
+
+-- past whitespace from a place on, where the bytes from there were handed on as a part
+pub space-at : (t : List ℕ) (from r : ℕ) → from ≤ length t → drop r (take (length t - from) (drop from t)) ≡ past white (take (length t - from) (drop from t))
+    → drop (from + r) t ≡ past white (drop from t)
+space-at t from r h e =
+    let n : take (length t - from) (drop from t) ≡ drop from t = take-all (length t - from) (drop from t) (omega (arith, length-drop from t)) in
+    sym (drop-drop r from t) ∙ ap (drop r) (sym n) ∙ e ∙ ap (past white) n
+
+-- where the walk stops at the closing `)`
+pub stop-at : (s : List ℕ) (from i j d : ℕ) → (j ≡ i) × (d ≡ 0) × (getD s i 0 ≡ 41) → from ≤ i → Way 0 d (drop from s) (drop i s)
+    → (from ≤ j) × (getD s j 0 ≡ 41) × Way 0 0 (drop from s) (drop j s)
+stop-at s from i j d (e, z, g) h w = (omega arith, rw e g, rw e (rw z at w))
+
+-- One byte of a run of plain bytes, at a place.
+module _ (s : List ℕ) (i : ℕ) (h : i < length s) where
+  pub run-stops : mark (getD s i 0) ≡ true → drop i s ≡ past plain (drop i s)
+  unfolding past
+  run-stops e = past-stops s i h plain (past plain (drop i s)) (ap not e) refl
+
+  pub run-goes : mark (getD s i 0) ≡ false → past plain (drop (i + 1) s) ≡ past plain (drop i s)
+  unfolding past
+  run-goes e = past-goes s i h plain (past plain (drop i s)) (ap not e) refl
