@@ -77,6 +77,13 @@ pub record Beside (rows slots : List ℕ) (n : ℕ) (filed single level : Bool) 
   pub even : b .even ≡ level
   pub shift : IsShift (b .last - b .first) n (b .shift)
 
+-- what laying the guide asks of n rows: their ids rise; and where a range has one id, each is one above the one before it
+pub record Guiding (f : ℕ → ℕ) (n first shift : ℕ) : Type 0 where
+  pub short : shift < 32
+  pub few : n ≤ 1073741824
+  pub rises : Rises f (λ i. i) n
+  pub dense : shift ≡ 0 → (i : ℕ) → i < n → f i ≡ first + i
+
 -- rows with ids below x are passed, from row r on: e is the first that has none, or n
 pub record Passed (f : ℕ → ℕ) (r n x e : ℕ) : Type 0 where
   pub on : r ≤ e

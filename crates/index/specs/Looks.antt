@@ -36,7 +36,8 @@ guideLooks k distinct g slots n first last shift = pick (ltb (b .lo) (b .hi)) (1
     b : Bracket
     b = ranged slots n first last w ((k - first) / w)
 
--- how many slots' ids a search looks at, as `Search.endOf` goes; the row that is then served is read once more
+-- how many slots' ids a search looks at, as `Search.endOf` goes; the row that is looked at first, where ids are dense, and the one that is
+-- served are read besides
 abbrev pub looksOf : ℕ → Ids → List ℕ → (ℕ → ℕ) → ℕ → ℕ
 looksOf k b slots g n = pick (leb (b .last) k) 0 (pick (ltb k (b .first)) 0 (pick (b .even) 0 (pick (b .direct) (guideLooks k (b .distinct) g slots n (b .first) (b .last) (b .shift)) (looksFrom (n - 1) k (b .distinct) g (opening n (b .first) (b .last))))))
 
