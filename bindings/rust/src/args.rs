@@ -148,12 +148,14 @@ impl<'f> Args<'f> {
 
     /// A text; an empty one for `$`. It is borrowed from the file where it stands there as it is.
     pub fn next_str(&mut self) -> Result<Cow<'f, str>> {
-        let (from, end, file) = (self.place, self.end, self.file);
-        let most = self.peek_len();
-        text(file, most, |room, side, start, stop, fault| {
-            self.place = from;
-            raw::hooflift_str(file, &mut self.place, end, room, side, start, stop, fault)
-        })
+        let mut ahead = *self;
+        let bytes = ahead.next_param().unwrap_or(&[]);
+        let body = bytes.get(1..bytes.len().saturating_sub(1)).unwrap_or(&[]);
+        let mut room = room(if is_plain(body) { 0 } else { raw::hooflift_text_length(body) }, 0)?;
+        let (mut side, mut start, mut stop, mut fault) = (0, 0, 0, 0);
+        let code = raw::hooflift_str(self.file, &mut self.place, self.end, &mut room, &mut side, &mut start, &mut stop, &mut fault);
+        told(code, fault)?;
+        Ok(shown(self.file, room, side, start, stop))
     }
 
     /// A list of references.
@@ -209,33 +211,18 @@ impl<'f> Args<'f> {
         let mut ahead = *self;
         ahead.next_param().map_or(0, |raw| raw.iter().filter(|&&b| b == b',').count() + 1)
     }
-
-    fn peek_len(&self) -> usize {
-        let mut ahead = *self;
-        ahead.next_param().map_or(0, <[u8]>::len)
-    }
 }
 
-/// A text of the file, or of a room that grows until it suffices: from nothing, for most texts stand in the file, to twice the string's
-/// bytes and on. `ask` answers a code, and tells the side, start and stop.
-pub(crate) fn text<'f>(
-    file: &'f [u8],
-    raw_len: usize,
-    mut ask: impl FnMut(&mut [u8], &mut u8, &mut usize, &mut usize, &mut usize) -> u8,
-) -> Result<Cow<'f, str>> {
-    let most = raw_len.saturating_mul(8).saturating_add(64);
-    let mut len = 0;
-    loop {
-        let mut bytes: Vec<u8> = room(len, 0)?;
-        let (mut side, mut start, mut stop, mut fault) = (0, 0, 0, 0);
-        match ask(&mut bytes, &mut side, &mut start, &mut stop, &mut fault) {
-            0 if side == 0 => return Ok(String::from_utf8_lossy(file.get(start..stop).unwrap_or(&[]))),
-            0 => {
-                bytes.truncate(stop);
-                return Ok(Cow::Owned(String::from_utf8(bytes).unwrap_or_else(|e| String::from_utf8_lossy(e.as_bytes()).into_owned())));
-            }
-            16 if len < most => len = len.saturating_mul(2).max(raw_len.saturating_mul(2)).max(64).min(most),
-            number => return Err(Error::refused(number, fault)),
-        }
+/// Whether a string's text stands in the file as it is: document 01 asks for no quote, backslash or high byte.
+fn is_plain(body: &[u8]) -> bool {
+    body.iter().all(|&b| b != b'\'' && b != b'\\' && b < 128)
+}
+
+/// The bytes of a text, in the file or in the room.
+pub(crate) fn shown(file: &[u8], mut room: Vec<u8>, side: u8, start: usize, stop: usize) -> Cow<'_, str> {
+    if side == 0 {
+        return String::from_utf8_lossy(file.get(start..stop).unwrap_or(&[]));
     }
+    room.truncate(stop);
+    Cow::Owned(String::from_utf8(room).unwrap_or_else(|e| String::from_utf8_lossy(e.as_bytes()).into_owned()))
 }

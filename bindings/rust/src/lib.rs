@@ -144,16 +144,26 @@ impl<'f> Step<'f> {
 
     /// The file's name, the first parameter of FILE_NAME; empty where there is none.
     pub fn file_name(&self) -> Result<Cow<'f, str>> {
-        args::text(self.file, self.file.len(), |room, side, start, stop, fault| {
-            raw::hooflift_file_name(self.file, &self.headers, &self.tables, room, side, start, stop, fault)
-        })
+        self.title(0)
     }
 
     /// The system that wrote it, the sixth parameter of FILE_NAME; empty where there is none.
     pub fn originating_system(&self) -> Result<Cow<'f, str>> {
-        args::text(self.file, self.file.len(), |room, side, start, stop, fault| {
-            raw::hooflift_originating_system(self.file, &self.headers, &self.tables, room, side, start, stop, fault)
-        })
+        self.title(5)
+    }
+
+    /// The text of FILE_NAME after so many parameters, 0 or 5, in a room of just its size.
+    fn title(&self, before: usize) -> Result<Cow<'f, str>> {
+        let needed = self.header("FILE_NAME")?.map_or(Ok(0), |mut args| match args.skip_n(before).and_then(|()| args.next_param()) {
+            Ok(bytes) => Ok(raw::hooflift_text_length(bytes)),
+            Err(Error::NoMemory) => Err(Error::NoMemory),
+            Err(Error::Refused(_)) => Ok(0),
+        })?;
+        let mut room = room(needed, 0)?;
+        let (mut side, mut start, mut stop, mut fault) = (0, 0, 0, 0);
+        let ask = if before == 0 { raw::hooflift_file_name } else { raw::hooflift_originating_system };
+        told(ask(self.file, &self.headers, &self.tables, &mut room, &mut side, &mut start, &mut stop, &mut fault), fault)?;
+        Ok(args::shown(self.file, room, side, start, stop))
     }
 
     /// What the file's numbers stand for.

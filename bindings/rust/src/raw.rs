@@ -68,6 +68,7 @@ boundary! {
     hooflift_bool(slice file: u8, out place: usize, by end: usize, out value: u8, out fault: usize) -> u8;
     hooflift_enum(slice file: u8, out place: usize, by end: usize, out start: usize, out stop: usize, out fault: usize) -> u8;
     hooflift_str(slice file: u8, out place: usize, by end: usize, room text: u8, out side: u8, out start: usize, out stop: usize, out fault: usize) -> u8;
+    hooflift_text_length(slice bytes: u8) -> usize;
     hooflift_ref_list(slice file: u8, out place: usize, by end: usize, room list: u32, out count: usize, out fault: usize) -> u8;
     hooflift_i64_list(slice file: u8, out place: usize, by end: usize, room list: i64, out count: usize, out fault: usize) -> u8;
     hooflift_f64_list(slice file: u8, out place: usize, by end: usize, room list: f64, out count: usize, out fault: usize) -> u8;
