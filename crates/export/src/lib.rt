@@ -11,6 +11,7 @@ pub use readers::hooflift_f64_list;
 pub use readers::hooflift_skip;
 pub use real::hooflift_real;
 pub use text::hooflift_text;
+pub use text::hooflift_text_length;
 ghost use mathlib.Core.Path.{_≡_};
 ghost use Prim.Native.Nat.{_/_, min};
 ghost use lib.ListN.{length};

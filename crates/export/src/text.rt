@@ -1,7 +1,10 @@
 // One string's text, for hosts in other languages.
 ghost use mathlib.Core.Path.{_≡_};
+ghost use Prim.Native.Nat.{min};
 ghost use lib.ListN.{length};
 ghost use Rattle.strings.specs.Code.{decodedOf, roomAfter};
+ghost use Rattle.strings.specs.Put.{most};
+ghost use Rattle.strings.specs.Text.{bytesOf};
 ghost use Rattle.export.specs.Texts.{textCode, textPlace, textCount};
 use strings::Decoded;
 
@@ -27,4 +30,12 @@ pub extern "C" fn hooflift_text(raw: &[u8], out: &mut [u8], place: &mut u64, cou
         }
         Decoded::Short => 16,
     }
+}
+
+// How many bytes a string's text has: what `hooflift_text` needs of `out` at most. 18446744073709551615 stands for more.
+#[no_mangle]
+pub extern "C" fn hooflift_text_length(raw: &[u8]) -> usize
+    ensures { λ n. ⌜ n ≡ min most (length (bytesOf (now (raw .entry)))) ⌝ }
+{
+    strings::text_length(raw)
 }

@@ -8,13 +8,6 @@ use params::Opened;
 use params::Skipped;
 use params::State;
 
-// A truth as a number.
-fn number_of(b: bool) -> u8
-    ensures { λ n. ⌜ n ≡ truthNumber b ⌝ }
-{
-    if b { 1 } else { 0 }
-}
-
 // Whether a reader from `place` up to `end` lies in the file: 0, or 9.
 #[no_mangle]
 pub extern "C" fn hooflift_new(file: &[u8], place: usize, end: usize) -> u8
@@ -72,7 +65,7 @@ pub extern "C" fn hooflift_is_empty(
     match params::is_empty(file, at) {
         Emptiness::Empty(b, to) => {
             *place = to.place;
-            *empty = number_of(b);
+            *empty = plain::number_of(b);
             0
         }
         Emptiness::Refused(f, to) => {

@@ -1,26 +1,28 @@
 // What a file needs of lent memory, for hosts in other languages.
 ghost use mathlib.Core.Path.{_≡_};
-ghost use mathlib.Core.List.{[], _∷_};
 ghost use Rattle.needs.specs.Needs.{needsOf};
 ghost use Rattle.plain.specs.Answers.{Tells};
 ghost use Rattle.plain.specs.Numbers.{putIn};
-ghost use Rattle.export_needs.specs.Needed.{needsAfter, needsReason};
-use scan::Scanned;
+ghost use Rattle.export_needs.specs.Needed.{needNumbers, needsAfter, needsReason};
+use needs::Needed;
+use needs::Needs;
 
-// Puts three counts at the start of `out`, where there is room for eight numbers.
-fn put_counts(out: &mut [u64], headers: u64, records: u64, max: u64)
-    ensures { λ _. ⌜ now (out .exit) ≡ putIn 8 (headers ∷ records ∷ max ∷ []) (now (out .entry)) ⌝ }
+// Puts what a file needs at the start of `out`, where there is room for eight numbers.
+fn put_needs(out: &mut [u64], n: Needs)
+    ensures { λ _. ⌜ now (out .exit) ≡ putIn 8 (needNumbers n) (now (out .entry)) ⌝ }
 {
     if out.len() < 8 {
         return;
     }
-    out[0] = headers;
-    out[1] = records;
-    out[2] = max;
+    out[0] = n.headers as u64;
+    out[1] = n.records as u64;
+    out[2] = n.max as u64;
+    out[3] = n.items as u64;
 }
 
-// Tells what a file needs: 0, with how many header rows, how many data rows, which is how many id slots, and the largest id in the first of
-// eight numbers; or the refusal's number, with its reason and place. Fewer than eight lent numbers stay as they were.
+// Tells what a file needs: 0, with how many header rows, how many data rows, which is how many id slots, the largest id, and how many numbers
+// or rows a list or a grid can have, in the first of eight numbers; or the refusal's number, with its reason and place. Fewer than eight lent
+// numbers stay as they were.
 #[no_mangle]
 pub extern "C" fn hooflift_needs(
     file: &[u8],
@@ -33,15 +35,11 @@ pub extern "C" fn hooflift_needs(
     ensures { λ _. ⌜ now (reason .exit) ≡ needsReason (needsOf (now (file .entry))) (now (reason .entry)) ⌝ }
 {
     match needs::count(file) {
-        Scanned::Rows {
-            headers,
-            records,
-            max,
-        } => {
-            put_counts(needs, headers as u64, records as u64, max as u64);
+        Needed::Is(n) => {
+            put_needs(needs, n);
             0
         }
-        Scanned::Refused(f) => {
+        Needed::Refused(f) => {
             *reason = error::reason(f);
             *fault = error::place(f);
             error::number(f)

@@ -18,13 +18,6 @@ ghost use Rattle.export_units.specs.Contexts.{unitsIn};
 use lookup::Entry;
 use units::Resolved;
 
-// A truth as a number.
-fn number_of(b: bool) -> u8
-    ensures { λ n. ⌜ n ≡ truthNumber b ⌝ }
-{
-    if b { 1 } else { 0 }
-}
-
 // Tells a unit answer: 0, or the refusal's number, with its place.
 fn put_units(
     r: Resolved,
@@ -45,7 +38,7 @@ fn put_units(
             *mm = v.length;
             *rad = v.angle;
             *tolerance = v.tolerance;
-            *resolved = number_of(v.resolved);
+            *resolved = plain::number_of(v.resolved);
             0
         }
         Resolved::Refused(f) => {

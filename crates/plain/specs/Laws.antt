@@ -5,16 +5,17 @@ use mathlib.Core.Path.{_≡_, refl, sym, _∙_, ap}
 use mathlib.Core.Bool.{Bool, true, false}
 use mathlib.Core.List.{List, [], _∷_}
 use native.Mathlib.Omega.{arith}
-use lib.Dec.{eqb}
+use lib.Dec.{eqb, leb}
 use lib.ListN.{length, getD, drop}
 use lib.Seq.{sets, sets-eq}
+use borrow.Author.Tests.{le-leb}
 use Rattle.lex.specs.Byte.{pick}
 use Rattle.index.specs.declared.Ids.{Ids}
 use Rattle.kinds.specs.Kind.{rankOf}
 use Rattle.kinds.specs.declared.Kind.{Kind}
 use Rattle.kinds.specs.declared.Kind.the-variants.{Other}
 use Rattle.lookup.specs.declared.Tables.{Tables}
-use Rattle.plain.specs.Numbers.{flagsOf, narrowAt, idsNumbers, idsBy, tablesBy, kindBy}
+use Rattle.plain.specs.Numbers.{flagsOf, narrowAt, idsNumbers, idsBy, tablesIn, tablesBy, kindBy}
 
 -- what stands beside the slots, part by part
 pub ids-are : {count first last flags even shift : ℕ} (xs : List ℕ) → count ≡ getD xs 0 0 → first ≡ narrowAt xs 1 → last ≡ narrowAt xs 2 → flags ≡ getD xs 3 0
@@ -70,3 +71,35 @@ ids-back b old h f l s = ap idsBy (six-first old (b .count) (b .first) (b .last)
 
     whole : idsBy (b .count ∷ b .first ∷ b .last ∷ flagsOf (b .direct) (b .distinct) ∷ pick (b .even) 1 0 ∷ b .shift ∷ drop 6 old) ≡ b
     whole = λ i. record { count = b .count; first = small (b .first) f i; last = small (b .last) l i; direct = g .0 i; distinct = g .1 i; even = bit-back (b .even) i; shift = small (b .shift) s i }
+
+-- a table's numbers, once they stand in eleven places
+tables-stand : (t : Tables) (a b c d e f g h i j k : ℕ) (r : List ℕ) → t .ids .first < 4294967296 → t .ids .last < 4294967296 → t .ids .shift < 4294967296 → t .max < 4294967296
+    → tablesBy (sets (sets (a ∷ b ∷ c ∷ d ∷ e ∷ f ∷ g ∷ h ∷ i ∷ j ∷ k ∷ r) 0 (idsNumbers (t .ids))) 8 (t .headers ∷ t .records ∷ t .max ∷ [])) ≡ t
+tables-stand t a b c d e f g h i j k r u v s w = λ x. record { headers = t .headers; records = t .records; max = small (t .max) w x; ids = ids x }
+  where
+    n : ℕ
+    n = flagsOf (t .ids .direct) (t .ids .distinct)
+
+    y : (eqb (n % 2) 1 ≡ t .ids .direct) × (eqb (n / 2 % 2) 1 ≡ t .ids .distinct)
+    y = flags-back (t .ids .direct) (t .ids .distinct)
+
+    ids : idsBy (t .ids .count ∷ t .ids .first ∷ t .ids .last ∷ n ∷ pick (t .ids .even) 1 0 ∷ t .ids .shift ∷ g ∷ h ∷ t .headers ∷ t .records ∷ t .max ∷ r) ≡ t .ids
+    ids = λ x. record { count = t .ids .count; first = small (t .ids .first) u x; last = small (t .ids .last) v x; direct = y .0 x; distinct = y .1 x; even = bit-back (t .ids .even) x; shift = small (t .ids .shift) s x }
+
+-- what goes with the tables comes back
+pub tables-back : (t : Tables) (old : List ℕ) → 16 ≤ length old → t .ids .first < 4294967296 → t .ids .last < 4294967296 → t .ids .shift < 4294967296 → t .max < 4294967296 → tablesBy (tablesIn t old) ≡ t
+tables-back t [] p u v s w = absurd (omega arith)
+tables-back t (a ∷ []) p u v s w = absurd (omega arith)
+tables-back t (a ∷ b ∷ []) p u v s w = absurd (omega arith)
+tables-back t (a ∷ b ∷ c ∷ []) p u v s w = absurd (omega arith)
+tables-back t (a ∷ b ∷ c ∷ d ∷ []) p u v s w = absurd (omega arith)
+tables-back t (a ∷ b ∷ c ∷ d ∷ e ∷ []) p u v s w = absurd (omega arith)
+tables-back t (a ∷ b ∷ c ∷ d ∷ e ∷ f ∷ []) p u v s w = absurd (omega arith)
+tables-back t (a ∷ b ∷ c ∷ d ∷ e ∷ f ∷ g ∷ []) p u v s w = absurd (omega arith)
+tables-back t (a ∷ b ∷ c ∷ d ∷ e ∷ f ∷ g ∷ h ∷ []) p u v s w = absurd (omega arith)
+tables-back t (a ∷ b ∷ c ∷ d ∷ e ∷ f ∷ g ∷ h ∷ i ∷ []) p u v s w = absurd (omega arith)
+tables-back t (a ∷ b ∷ c ∷ d ∷ e ∷ f ∷ g ∷ h ∷ i ∷ j ∷ []) p u v s w = absurd (omega arith)
+tables-back t (a ∷ b ∷ c ∷ d ∷ e ∷ f ∷ g ∷ h ∷ i ∷ j ∷ k ∷ r) p u v s w = ap tablesBy (put (length (a ∷ b ∷ c ∷ d ∷ e ∷ f ∷ g ∷ h ∷ i ∷ j ∷ k ∷ r)) p) ∙ tables-stand t a b c d e f g h i j k r u v s w
+  where
+    put : (n : ℕ) → 16 ≤ n → pick (leb 16 n) (sets (sets (a ∷ b ∷ c ∷ d ∷ e ∷ f ∷ g ∷ h ∷ i ∷ j ∷ k ∷ r) 0 (idsNumbers (t .ids))) 8 (t .headers ∷ t .records ∷ t .max ∷ [])) (a ∷ b ∷ c ∷ d ∷ e ∷ f ∷ g ∷ h ∷ i ∷ j ∷ k ∷ r) ≡ sets (sets (a ∷ b ∷ c ∷ d ∷ e ∷ f ∷ g ∷ h ∷ i ∷ j ∷ k ∷ r) 0 (idsNumbers (t .ids))) 8 (t .headers ∷ t .records ∷ t .max ∷ [])
+    put n q = rw (le-leb 16 n q) refl

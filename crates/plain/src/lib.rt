@@ -9,6 +9,7 @@ ghost use lib.Dec.{leb};
 ghost use Rattle.lex.specs.Byte.{pick};
 ghost use Rattle.kinds.specs.Kind.{rankOf};
 ghost use Rattle.statement.specs.Statement.{rowOf, headerRowOf};
+ghost use Rattle.plain.specs.Answers.{truthNumber};
 ghost use Rattle.plain.specs.Numbers.{putIn, flagsOf, idsNumbers, idsBy, tablesIn, tablesBy, sixOf, fourOf, kindBy};
 use index::Ids;
 use kinds::Kind;
@@ -143,6 +144,13 @@ pub fn put_part(out: &mut [u64], w: HeaderSpan) -> u8
     out[2] = w.args.start as u64;
     out[3] = w.args.end as u64;
     0
+}
+
+// A truth as a number.
+pub fn number_of(b: bool) -> u8
+    ensures { λ n. ⌜ n ≡ truthNumber b ⌝ }
+{
+    if b { 1 } else { 0 }
 }
 
 // A kind's number.

@@ -1,7 +1,8 @@
 use denote.Ref.{now}
 use mathlib.Core.Path.{_≡_, _∙_, sym, ap}
 use Rattle.error.specs.Refusal.{Told}
-use Rattle.scan.specs.Table.{Counts, toldScan}
+use Rattle.needs.specs.Needs.{toldNeeded}
+use Rattle.needs.specs.declared.Needs.{Needs}
 use Rattle.plain.specs.Answers.{tells-good, tells-bad}
 use Rattle.export_needs.specs.Needed.{needsAfter, needsReason}
 use borrow.Author.Needs.{needs}
@@ -12,69 +13,64 @@ use Rattle.export_needs.proofs.hooflift_needs.Lts as lts
 use Rattle.error.proofs.number.Reads as number-reads
 use Rattle.error.proofs.place.Reads as place-reads
 use Rattle.error.proofs.reason.Reads as reason-reads
-use Rattle.export_needs.proofs.put_counts.Reads as put-counts-reads
+use Rattle.export_needs.proofs.put_needs.Reads as put-needs-reads
 use Rattle.needs.proofs.count.Reads as count-reads
 
--- src/lib.rt:35:11
+-- src/lib.rt:37:11
 count-requires : tie.Need-count-requires
 count-requires c κs = search needs
 
--- src/lib.rt:37:13
-enum-known-headers : tie.Need-enum-known-headers
-enum-known-headers c = search needs
+-- src/lib.rt:38:20
+enum-known-n : tie.Need-enum-known-n
+enum-known-n c = search needs
 
--- src/lib.rt:41:63
-cast-put-counts : tie.Need-cast-put-counts
-cast-put-counts c = search needs
+-- src/lib.rt:39:13
+put-needs-requires : tie.Need-put-needs-requires
+put-needs-requires c κs = search needs
 
--- src/lib.rt:41:13
-put-counts-requires : tie.Need-put-counts-requires
-put-counts-requires c κs = search needs
-
--- src/lib.rt:44:26
+-- src/lib.rt:42:25
 enum-known-f : tie.Need-enum-known-f
 enum-known-f c = search needs
 
--- src/lib.rt:45:23
+-- src/lib.rt:43:23
 reason-requires : tie.Need-reason-requires
 reason-requires c κs = search needs
 
--- src/lib.rt:46:22
+-- src/lib.rt:44:22
 place-requires : tie.Need-place-requires
 place-requires c κs = search needs
 
--- src/lib.rt:47:13
+-- src/lib.rt:45:13
 number-requires : tie.Need-number-requires
 number-requires c κs = search needs
 
--- src/lib.rt:24:1
+-- src/lib.rt:26:1
 same-length : tie.Need-same-length
 same-length c = search needs
 
--- src/lib.rt:24:1
+-- src/lib.rt:26:1
 returns : tie.Need-returns
-returns c = 
+returns c =
     let k = c .before .before .before .before .before .before .before in
     let a = c .before .before .before .before .before .before .before .before .before .before .args in
-    let e = ap toldScan (sym (c .before .before .before .before .before .headers .given .1)) ∙ k .count .ensures in
-    (tells-good e, (c .before .before .put-counts .ensures ∙ ap (λ (r : Told Counts). needsAfter r (now (a .needs))) e, ap (λ (r : Told Counts). needsReason r (now (a .reason))) e))
+    let e = ap toldNeeded (sym (c .before .before .before .before .before .n .given .1)) ∙ k .count .ensures in
+    (tells-good e, (c .before .before .put-needs .ensures ∙ ap (λ (r : Told Needs). needsAfter r (now (a .needs))) e, ap (λ (r : Told Needs). needsReason r (now (a .reason))) e))
 
--- src/lib.rt:24:1
+-- src/lib.rt:26:1
 returns-2 : tie.Need-returns-2
-returns-2 c = 
+returns-2 c =
     let k = c .before .before .before .before .before .before in
     let a = c .before .before .before .before .before .before .before .before .before .args in
-    let e = ap toldScan (sym (c .before .before .before .before .f .given .1)) ∙ k .count .ensures in
-    (tells-bad (now (a .fault)) e (c .number .ensures) (c .before .place .ensures), (ap (λ (r : Told Counts). needsAfter r (now (a .needs))) e, c .before .before .reason .ensures ∙ ap (λ (r : Told Counts). needsReason r (now (a .reason))) e))
+    let e = ap toldNeeded (sym (c .before .before .before .before .f .given .1)) ∙ k .count .ensures in
+    (tells-bad (now (a .fault)) e (c .number .ensures) (c .before .place .ensures), (ap (λ (r : Told Needs). needsAfter r (now (a .needs))) e, c .before .before .reason .ensures ∙ ap (λ (r : Told Needs). needsReason r (now (a .reason))) e))
 
 pub hooflift-needs-spec : {M : Type 1} → statement M
 hooflift-needs-spec =
     tie.close
     (tie.spec
     count-requires
-    enum-known-headers
-    cast-put-counts
-    put-counts-requires
+    enum-known-n
+    put-needs-requires
     enum-known-f
     reason-requires
     place-requires

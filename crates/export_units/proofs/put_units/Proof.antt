@@ -12,7 +12,7 @@ use Rattle.export_units.proofs.put_units.Reads as reads
 use Rattle.export_units.proofs.put_units.Lts as lts
 use Rattle.error.proofs.number.Reads as number-reads
 use Rattle.error.proofs.place.Reads as place-reads
-use Rattle.export_units.proofs.number_of.Reads as number-of-reads
+use Rattle.plain.proofs.number_of.Reads as number-of-reads
 
 -- src/lib.rt:44:22
 enum-known-r : tie.Need-enum-known-r

@@ -10,59 +10,61 @@ use Rattle.needs.proofs.pass.Statement.{statement}
 use Rattle.needs.proofs.pass.Tie as tie
 use Rattle.needs.proofs.pass.Reads as reads
 use Rattle.needs.proofs.pass.Lts as lts
+use Rattle.needs.proofs.found.Reads as found-reads
 use Rattle.needs.proofs.greater.Reads as greater-reads
-use Rattle.needs.proofs.rows_found.Reads as rows-found-reads
+use Rattle.needs.proofs.items_in.Reads as items-in-reads
+use Rattle.needs.proofs.larger.Reads as larger-reads
 use Rattle.statement.proofs.next_statement.Reads as next-statement-reads
 
 abbrev Inv-loop : tie.InvT-loop
-Inv-loop s i₀ section₀ h₀ r₀ max₀ i section h r max = Counting s i section h r max
+Inv-loop s i₀ section₀ headers₀ records₀ max₀ items₀ i section headers records max items = Counting s i section headers records max items
 
 abbrev μ-loop : tie.MeasureT-loop
-μ-loop s i₀ section₀ h₀ r₀ max₀ i section h r max = length s - i
+μ-loop s i₀ section₀ headers₀ records₀ max₀ items₀ i section headers records max items = length s - i
 
--- src/lib.rt:41:5
+-- src/lib.rt:88:5
 loop-holds : tie.Need-loop-holds Inv-loop μ-loop
 loop-holds c = counting-starts (now (c .before .args .s))
 
--- src/lib.rt:42:15
+-- src/lib.rt:89:15
 next-statement-requires : tie.Need-next-statement-requires Inv-loop μ-loop
 next-statement-requires c κs = search needs
 
--- src/lib.rt:43:27
+-- src/lib.rt:90:27
 enum-told : tie.Need-enum-told Inv-loop μ-loop
 enum-told c = search needs
 
--- src/lib.rt:43:27
-rows-found-requires : tie.Need-rows-found-requires Inv-loop μ-loop
-rows-found-requires c κs = search needs
+-- src/lib.rt:90:27
+found-requires : tie.Need-found-requires Inv-loop μ-loop
+found-requires c κs = search needs
 
--- src/lib.rt:43:27
+-- src/lib.rt:90:27
 returns : tie.Need-returns Inv-loop μ-loop
 returns c =
     let n = c .before .before .before in
     let t = n .before in
     let a = t .before .before .args in
     let v = c .before .enum-told in
-    rw (c .rows-found .ensures) (counting-ends _ _ _ _ _ _ (t .loop .inv) (sym (ap (toldSaid (now (a .s))) (v .given .1)) ∙ n .next-statement .ensures .0))
+    rw (c .found .ensures) (counting-ends _ _ _ _ _ _ _ (t .loop .inv) (sym (ap (toldSaid (now (a .s))) (v .given .1)) ∙ n .next-statement .ensures .0))
 
--- src/lib.rt:44:27
+-- src/lib.rt:91:27
 enum-known-f : tie.Need-enum-known-f Inv-loop μ-loop
 enum-known-f c = search needs
 
--- src/lib.rt:44:33
+-- src/lib.rt:91:33
 returns-2 : tie.Need-returns-2 Inv-loop μ-loop
 returns-2 c =
     let n = c .before .before .before in
     let t = n .before in
     let a = t .before .before .args in
     let v = c .before .f in
-    counting-refused _ _ _ _ _ _ (t .loop .inv) _ (sym (ap (toldSaid (now (a .s))) (v .given .1)) ∙ n .next-statement .ensures .0)
+    counting-refused _ _ _ _ _ _ _ (t .loop .inv) _ (sym (ap (toldSaid (now (a .s))) (v .given .1)) ∙ n .next-statement .ensures .0)
 
--- src/lib.rt:45:25
+-- src/lib.rt:92:25
 enum-known-to : tie.Need-enum-known-to Inv-loop μ-loop
 enum-known-to c = search needs
 
--- src/lib.rt:41:5
+-- src/lib.rt:88:5
 loop-less : tie.Need-loop-less Inv-loop μ-loop
 loop-less c =
     let n = c .before .before .before in
@@ -72,7 +74,7 @@ loop-less c =
     let w = rw (v .given .1) at (n .next-statement .ensures .1) in
     omega arith
 
--- src/lib.rt:41:5
+-- src/lib.rt:88:5
 loop-again : tie.Need-loop-again Inv-loop μ-loop
 loop-again c =
     let n = c .before .before .before in
@@ -80,79 +82,95 @@ loop-again c =
     let a = t .before .before .args in
     let v = c .before .to in
     let w = rw (v .given .1) at (n .next-statement .ensures .1) in
-    counting-moves _ _ _ _ _ _ (t .loop .inv) _ _ (sym (ap (toldSaid (now (a .s))) (v .given .1)) ∙ n .next-statement .ensures .0) (w .0) (w .1)
+    counting-moves _ _ _ _ _ _ _ (t .loop .inv) _ _ (sym (ap (toldSaid (now (a .s))) (v .given .1)) ∙ n .next-statement .ensures .0) (w .0) (w .1)
 
--- src/lib.rt:49:31
-enum-known-next : tie.Need-enum-known-next Inv-loop μ-loop
-enum-known-next c = search needs
-
--- src/lib.rt:51:17
-add-h : tie.Need-add-h Inv-loop μ-loop
-add-h c =
-    let n = c .before .before .before in
-    let t = n .before in
-    let a = t .before .before .args in
-    let v = c .before .next in
-    let w = rw (v .given .1) at (n .next-statement .ensures .1) in
-    omega (arith, t .loop .inv .hroom)
-
--- src/lib.rt:41:5
-loop-less-2 : tie.Need-loop-less-2 Inv-loop μ-loop
-loop-less-2 c =
-    let n = c .before .before .before in
-    let t = n .before in
-    let a = t .before .before .args in
-    let v = c .before .next in
-    let w = rw (v .given .1) at (n .next-statement .ensures .1) in
-    omega arith
-
--- src/lib.rt:41:5
-loop-again-2 : tie.Need-loop-again-2 Inv-loop μ-loop
-loop-again-2 c =
-    let n = c .before .before .before in
-    let t = n .before in
-    let a = t .before .before .args in
-    let v = c .before .next in
-    let w = rw (v .given .1) at (n .next-statement .ensures .1) in
-    counting-header _ _ _ _ _ _ (t .loop .inv) _ (v .given .0 .1 .0) _ (sym (ap (toldSaid (now (a .s))) (v .given .1)) ∙ n .next-statement .ensures .0) (w .0) (w .2)
-
--- src/lib.rt:54:27
+-- src/lib.rt:96:25
 enum-known-span : tie.Need-enum-known-span Inv-loop μ-loop
 enum-known-span c = search needs
 
--- src/lib.rt:56:17
-add-r : tie.Need-add-r Inv-loop μ-loop
-add-r c =
+-- src/lib.rt:98:17
+add-headers : tie.Need-add-headers Inv-loop μ-loop
+add-headers c =
     let n = c .before .before .before in
     let t = n .before in
     let a = t .before .before .args in
     let v = c .before .span in
     let w = rw (v .given .1) at (n .next-statement .ensures .1) in
-    omega (arith, t .loop .inv .rroom)
+    omega (arith, t .loop .inv .hroom)
 
--- src/lib.rt:57:17
-greater-requires : tie.Need-greater-requires Inv-loop μ-loop
-greater-requires c κs = search needs
+-- src/lib.rt:99:39
+items-in-requires : tie.Need-items-in-requires Inv-loop μ-loop
+items-in-requires c κs = search needs
 
--- src/lib.rt:41:5
-loop-less-3 : tie.Need-loop-less-3 Inv-loop μ-loop
-loop-less-3 c =
-    let n = c .before .before .before .before in
+-- src/lib.rt:99:17
+larger-requires : tie.Need-larger-requires Inv-loop μ-loop
+larger-requires c κs = search needs
+
+-- src/lib.rt:88:5
+loop-less-2 : tie.Need-loop-less-2 Inv-loop μ-loop
+loop-less-2 c =
+    let n = c .before .before .before .before .before in
     let t = n .before in
     let a = t .before .before .args in
-    let v = c .before .before .span in
+    let v = c .before .before .before .span in
     let w = rw (v .given .1) at (n .next-statement .ensures .1) in
     omega arith
 
--- src/lib.rt:41:5
-loop-again-3 : tie.Need-loop-again-3 Inv-loop μ-loop
-loop-again-3 c =
-    let n = c .before .before .before .before in
+-- src/lib.rt:88:5
+loop-again-2 : tie.Need-loop-again-2 Inv-loop μ-loop
+loop-again-2 c =
+    let n = c .before .before .before .before .before in
     let t = n .before in
     let a = t .before .before .args in
-    let v = c .before .before .span in
+    let v = c .before .before .before .span in
     let w = rw (v .given .1) at (n .next-statement .ensures .1) in
-    rw (c .greater .ensures) (counting-record _ _ _ _ _ _ (t .loop .inv) _ (v .given .0 .1 .0) _ (sym (ap (toldSaid (now (a .s))) (v .given .1)) ∙ n .next-statement .ensures .0) (w .0) (w .2))
+    rw (c .larger .ensures, c .before .items-in .ensures) (counting-header _ _ _ _ _ _ _ (t .loop .inv) _ (v .given .0 .1 .0) _ (sym (ap (toldSaid (now (a .s))) (v .given .1)) ∙ n .next-statement .ensures .0) (w .0) (w .2))
+
+-- src/lib.rt:102:27
+enum-known-span-2 : tie.Need-enum-known-span-2 Inv-loop μ-loop
+enum-known-span-2 c = search needs
+
+-- src/lib.rt:104:17
+add-records : tie.Need-add-records Inv-loop μ-loop
+add-records c =
+    let n = c .before .before .before in
+    let t = n .before in
+    let a = t .before .before .args in
+    let v = c .before .span2 in
+    let w = rw (v .given .1) at (n .next-statement .ensures .1) in
+    omega (arith, t .loop .inv .rroom)
+
+-- src/lib.rt:105:17
+greater-requires : tie.Need-greater-requires Inv-loop μ-loop
+greater-requires c κs = search needs
+
+-- src/lib.rt:106:39
+items-in-requires-2 : tie.Need-items-in-requires-2 Inv-loop μ-loop
+items-in-requires-2 c κs = search needs
+
+-- src/lib.rt:106:17
+larger-requires-2 : tie.Need-larger-requires-2 Inv-loop μ-loop
+larger-requires-2 c κs = search needs
+
+-- src/lib.rt:88:5
+loop-less-3 : tie.Need-loop-less-3 Inv-loop μ-loop
+loop-less-3 c =
+    let n = c .before .before .before .before .before .before in
+    let t = n .before in
+    let a = t .before .before .args in
+    let v = c .before .before .before .before .span2 in
+    let w = rw (v .given .1) at (n .next-statement .ensures .1) in
+    omega arith
+
+-- src/lib.rt:88:5
+loop-again-3 : tie.Need-loop-again-3 Inv-loop μ-loop
+loop-again-3 c =
+    let n = c .before .before .before .before .before .before in
+    let t = n .before in
+    let a = t .before .before .args in
+    let v = c .before .before .before .before .span2 in
+    let w = rw (v .given .1) at (n .next-statement .ensures .1) in
+    rw (c .larger2 .ensures, c .before .items-in2 .ensures, c .before .before .greater .ensures) (counting-record _ _ _ _ _ _ _ (t .loop .inv) _ (v .given .0 .1 .0) _ (sym (ap (toldSaid (now (a .s))) (v .given .1)) ∙ n .next-statement .ensures .0) (w .0) (w .2))
 
 pub pass-spec : {M : Type 1} → statement M
 pass-spec =
@@ -163,19 +181,23 @@ pass-spec =
     loop-holds
     next-statement-requires
     enum-told
-    rows-found-requires
+    found-requires
     returns
     enum-known-f
     returns-2
     enum-known-to
     loop-less
     loop-again
-    enum-known-next
-    add-h
+    enum-known-span
+    add-headers
+    items-in-requires
+    larger-requires
     loop-less-2
     loop-again-2
-    enum-known-span
-    add-r
+    enum-known-span-2
+    add-records
     greater-requires
+    items-in-requires-2
+    larger-requires-2
     loop-less-3
     loop-again-3)

@@ -11,7 +11,7 @@ use Rattle.export_args.proofs.cuts.hooflift_is_empty.Reads as reads
 use Rattle.export_args.proofs.cuts.hooflift_is_empty.Lts as lts
 use Rattle.error.proofs.number.Reads as number-reads
 use Rattle.error.proofs.place.Reads as place-reads
-use Rattle.export_args.proofs.cuts.number_of.Reads as number-of-reads
+use Rattle.plain.proofs.number_of.Reads as number-of-reads
 use Rattle.params.proofs.is_empty.Reads as is-empty-reads
 
 -- src/cuts.rt:72:11

@@ -3,10 +3,10 @@ use native.Mathlib.Omega.{arith}
 use borrow.Author.Tests.{le-leb, lt-leb}
 use mathlib.Core.Path.{refl}
 use borrow.Author.Needs.{needs}
-use Rattle.export_needs.proofs.put_counts.Statement.{statement}
-use Rattle.export_needs.proofs.put_counts.Tie as tie
-use Rattle.export_needs.proofs.put_counts.Reads as reads
-use Rattle.export_needs.proofs.put_counts.Lts as lts
+use Rattle.export_needs.proofs.put_needs.Statement.{statement}
+use Rattle.export_needs.proofs.put_needs.Tie as tie
+use Rattle.export_needs.proofs.put_needs.Reads as reads
+use Rattle.export_needs.proofs.put_needs.Lts as lts
 
 -- src/lib.rt:15:9
 returns : tie.Need-returns
@@ -20,9 +20,17 @@ slice-write-out c = search needs
 slice-write-out-2 : tie.Need-slice-write-out-2
 slice-write-out-2 c = simp length-set (omega arith)
 
+-- src/lib.rt:19:14
+cast-out : tie.Need-cast-out
+cast-out c = search needs
+
 -- src/lib.rt:19:5
 slice-write-out-3 : tie.Need-slice-write-out-3
 slice-write-out-3 c = simp length-set (omega arith)
+
+-- src/lib.rt:20:5
+slice-write-out-4 : tie.Need-slice-write-out-4
+slice-write-out-4 c = simp length-set (omega arith)
 
 -- src/lib.rt:11:1
 same-length : tie.Need-same-length
@@ -30,9 +38,17 @@ same-length c = search needs
 
 -- src/lib.rt:11:1
 returns-2 : tie.Need-returns-2
-returns-2 c = rw (le-leb _ _ (c .if1 .left)) refl
+returns-2 c = rw (le-leb _ _ (c .before .if1 .left)) refl
 
-pub put-counts-spec : {M : Type 1} → statement M
-put-counts-spec =
+pub put-needs-spec : {M : Type 1} → statement M
+put-needs-spec =
     tie.close
-    (tie.spec returns slice-write-out slice-write-out-2 slice-write-out-3 same-length returns-2)
+    (tie.spec
+    returns
+    slice-write-out
+    slice-write-out-2
+    cast-out
+    slice-write-out-3
+    slice-write-out-4
+    same-length
+    returns-2)

@@ -1,0 +1,228 @@
+//! The argument reader.
+use std::borrow::Cow;
+
+use crate::error::{room, told, Error, Result};
+use crate::raw;
+
+/// A boolean of three values.
+#[derive(Debug, Clone, Copy, PartialEq, Eq)]
+pub enum Logical {
+    False,
+    True,
+    Unknown,
+}
+
+/// A list of lists: all numbers, and how many there are up to the end of each row.
+#[derive(Debug, Clone, PartialEq)]
+pub struct Grid<T> {
+    pub numbers: Vec<T>,
+    pub ends: Vec<usize>,
+}
+
+impl<T> Grid<T> {
+    /// The rows, one slice each.
+    pub fn rows(&self) -> impl Iterator<Item = &[T]> {
+        let starts = std::iter::once(0).chain(self.ends.iter().copied());
+        starts.zip(&self.ends).map(|(start, &end)| self.numbers.get(start..end).unwrap_or(&[]))
+    }
+}
+
+/// A reader of parameters: it carries the file, its place and its end. After an error it stands where document 01 says: past the parameter
+/// and its comma after 12, 13 and 16, at the parameter's start after 11.
+///
+/// ```
+/// let step = hooflift::Step::open(b"ISO-10303-21;DATA;#1=A(#2,1.5,'t',(1.,2.),$);ENDSEC;")?;
+/// let mut args = step.require(1)?.args()?;
+/// assert_eq!(args.next_ref()?, 2);
+/// assert_eq!(args.next_f64()?, 1.5);
+/// assert_eq!(args.next_str()?, "t");
+/// assert_eq!(args.next_f64_list()?, [1.0, 2.0]);
+/// assert_eq!(args.next_opt_ref()?, None);
+/// assert_eq!(args.next_i64().unwrap_err().to_string(), "refused 10/0@43: no parameter left");
+/// # Ok::<(), hooflift::Error>(())
+/// ```
+#[derive(Debug, Clone, Copy)]
+pub struct Args<'f> {
+    file: &'f [u8],
+    place: usize,
+    end: usize,
+}
+
+impl<'f> Args<'f> {
+    /// A reader of the file from a place up to an end; 9 where they do not lie in it in this order.
+    pub fn new(file: &'f [u8], place: usize, end: usize) -> Result<Args<'f>> {
+        told(raw::hooflift_new(file, place, end), 0)?;
+        Ok(Args { file, place, end })
+    }
+
+    /// Where it stands in the file.
+    pub fn offset(&self) -> usize {
+        self.place
+    }
+
+    /// Whether no parameter is left. The reader goes past the trivia.
+    pub fn is_empty(&mut self) -> Result<bool> {
+        let (mut empty, mut fault) = (0, 0);
+        told(raw::hooflift_is_empty(self.file, &mut self.place, self.end, &mut empty, &mut fault), fault)?;
+        Ok(empty == 1)
+    }
+
+    /// Goes past one parameter.
+    pub fn skip(&mut self) -> Result<()> {
+        let mut fault = 0;
+        told(raw::hooflift_skip(self.file, &mut self.place, self.end, &mut fault), fault)
+    }
+
+    /// Goes past so many, up to the first refusal.
+    pub fn skip_n(&mut self, count: usize) -> Result<()> {
+        let mut fault = 0;
+        told(raw::hooflift_skip_n(self.file, &mut self.place, self.end, count, &mut fault), fault)
+    }
+
+    /// The next parameter as it stands in the file.
+    pub fn next_param(&mut self) -> Result<&'f [u8]> {
+        let (mut start, mut stop, mut fault) = (0, 0, 0);
+        told(raw::hooflift_param(self.file, &mut self.place, self.end, &mut start, &mut stop, &mut fault), fault)?;
+        Ok(self.file.get(start..stop).unwrap_or(&[]))
+    }
+
+    /// A reference's id.
+    pub fn next_ref(&mut self) -> Result<u32> {
+        let (mut value, mut fault) = (0, 0);
+        told(raw::hooflift_ref(self.file, &mut self.place, self.end, &mut value, &mut fault), fault)?;
+        Ok(value)
+    }
+
+    /// A reference's id, or `None` for `$`.
+    pub fn next_opt_ref(&mut self) -> Result<Option<u32>> {
+        let (mut value, mut set, mut fault) = (0, 0, 0);
+        told(raw::hooflift_opt_ref(self.file, &mut self.place, self.end, &mut value, &mut set, &mut fault), fault)?;
+        Ok((set == 1).then_some(value))
+    }
+
+    /// An integer.
+    pub fn next_i64(&mut self) -> Result<i64> {
+        let (mut value, mut fault) = (0, 0);
+        told(raw::hooflift_i64(self.file, &mut self.place, self.end, &mut value, &mut fault), fault)?;
+        Ok(value)
+    }
+
+    /// A real.
+    pub fn next_f64(&mut self) -> Result<f64> {
+        let (mut value, mut fault) = (0.0, 0);
+        told(raw::hooflift_f64(self.file, &mut self.place, self.end, &mut value, &mut fault), fault)?;
+        Ok(value)
+    }
+
+    /// A real, or `None` for `$`.
+    pub fn next_opt_f64(&mut self) -> Result<Option<f64>> {
+        let (mut value, mut set, mut fault) = (0.0, 0, 0);
+        told(raw::hooflift_opt_f64(self.file, &mut self.place, self.end, &mut value, &mut set, &mut fault), fault)?;
+        Ok((set == 1).then_some(value))
+    }
+
+    /// A measure: a real, or `KEYWORD(real)`.
+    pub fn next_measure(&mut self) -> Result<f64> {
+        let (mut value, mut fault) = (0.0, 0);
+        told(raw::hooflift_measure(self.file, &mut self.place, self.end, &mut value, &mut fault), fault)?;
+        Ok(value)
+    }
+
+    /// `.T.`, `.F.` or `.U.`.
+    pub fn next_bool(&mut self) -> Result<Logical> {
+        let (mut value, mut fault) = (0, 0);
+        told(raw::hooflift_bool(self.file, &mut self.place, self.end, &mut value, &mut fault), fault)?;
+        Ok(match value {
+            0 => Logical::False,
+            1 => Logical::True,
+            _ => Logical::Unknown,
+        })
+    }
+
+    /// A name, without its dots.
+    pub fn next_enum(&mut self) -> Result<Cow<'f, str>> {
+        let (mut start, mut stop, mut fault) = (0, 0, 0);
+        told(raw::hooflift_enum(self.file, &mut self.place, self.end, &mut start, &mut stop, &mut fault), fault)?;
+        Ok(String::from_utf8_lossy(self.file.get(start..stop).unwrap_or(&[])))
+    }
+
+    /// A text; an empty one for `$`. It is borrowed from the file where it stands there as it is.
+    pub fn next_str(&mut self) -> Result<Cow<'f, str>> {
+        let mut ahead = *self;
+        let bytes = ahead.next_param().unwrap_or(&[]);
+        let body = bytes.get(1..bytes.len().saturating_sub(1)).unwrap_or(&[]);
+        let mut room = room(if is_plain(body) { 0 } else { raw::hooflift_text_length(body) }, 0)?;
+        let (mut side, mut start, mut stop, mut fault) = (0, 0, 0, 0);
+        let code = raw::hooflift_str(self.file, &mut self.place, self.end, &mut room, &mut side, &mut start, &mut stop, &mut fault);
+        told(code, fault)?;
+        Ok(shown(self.file, room, side, start, stop))
+    }
+
+    /// A list of references.
+    pub fn next_ref_list(&mut self) -> Result<Vec<u32>> {
+        let (mut list, mut count, mut fault) = (room(self.peek_items(), 0)?, 0, 0);
+        told(raw::hooflift_ref_list(self.file, &mut self.place, self.end, &mut list, &mut count, &mut fault), fault)?;
+        list.truncate(count);
+        Ok(list)
+    }
+
+    /// A list of integers.
+    pub fn next_i64_list(&mut self) -> Result<Vec<i64>> {
+        let (mut list, mut count, mut fault) = (room(self.peek_items(), 0)?, 0, 0);
+        told(raw::hooflift_i64_list(self.file, &mut self.place, self.end, &mut list, &mut count, &mut fault), fault)?;
+        list.truncate(count);
+        Ok(list)
+    }
+
+    /// A list of reals.
+    pub fn next_f64_list(&mut self) -> Result<Vec<f64>> {
+        let (mut list, mut count, mut fault) = (room(self.peek_items(), 0.0)?, 0, 0);
+        told(raw::hooflift_f64_list(self.file, &mut self.place, self.end, &mut list, &mut count, &mut fault), fault)?;
+        list.truncate(count);
+        Ok(list)
+    }
+
+    /// A list of lists of references.
+    pub fn next_ref_grid(&mut self) -> Result<Grid<u32>> {
+        let items = self.peek_items();
+        let (mut numbers, mut ends) = (room(items, 0)?, room(items, 0)?);
+        let (mut count, mut rows, mut fault) = (0, 0, 0);
+        let code = raw::hooflift_ref_grid(self.file, &mut self.place, self.end, &mut numbers, &mut ends, &mut count, &mut rows, &mut fault);
+        told(code, fault)?;
+        numbers.truncate(count);
+        ends.truncate(rows);
+        Ok(Grid { numbers, ends })
+    }
+
+    /// A list of lists of reals.
+    pub fn next_f64_grid(&mut self) -> Result<Grid<f64>> {
+        let items = self.peek_items();
+        let (mut numbers, mut ends) = (room(items, 0.0)?, room(items, 0)?);
+        let (mut count, mut rows, mut fault) = (0, 0, 0);
+        let code = raw::hooflift_f64_grid(self.file, &mut self.place, self.end, &mut numbers, &mut ends, &mut count, &mut rows, &mut fault);
+        told(code, fault)?;
+        numbers.truncate(count);
+        ends.truncate(rows);
+        Ok(Grid { numbers, ends })
+    }
+
+    /// How many items the next parameter has at most: they stand between commas.
+    fn peek_items(&self) -> usize {
+        let mut ahead = *self;
+        ahead.next_param().map_or(0, |raw| raw.iter().filter(|&&b| b == b',').count() + 1)
+    }
+}
+
+/// Whether a string's text stands in the file as it is: document 01 asks for no quote, backslash or high byte.
+fn is_plain(body: &[u8]) -> bool {
+    body.iter().all(|&b| b != b'\'' && b != b'\\' && b < 128)
+}
+
+/// The bytes of a text, in the file or in the room.
+pub(crate) fn shown(file: &[u8], mut room: Vec<u8>, side: u8, start: usize, stop: usize) -> Cow<'_, str> {
+    if side == 0 {
+        return String::from_utf8_lossy(file.get(start..stop).unwrap_or(&[]));
+    }
+    room.truncate(stop);
+    Cow::Owned(String::from_utf8(room).unwrap_or_else(|e| String::from_utf8_lossy(e.as_bytes()).into_owned()))
+}
