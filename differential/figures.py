@@ -74,9 +74,10 @@ def main():
     if os.path.exists(real):
         with open(real) as lines:
             for line in lines:
-                found = re.match(r"real: cases (\d+) differences (\d+) left out (\d+)", line)
+                # Every real file has data rows.
+                found = re.match(r"real: cases (\d+) differences (\d+) left out (\d+) \| accepted: (\d+)", line)
                 if found:
-                    counts = dict(zip(("cases", "differences", "out"), map(int, found.groups())))
+                    counts = dict(zip(("cases", "differences", "out", "rows"), map(int, found.groups())))
                     streams["real", "all"].update(counts)
     columns = "cases rows lines listed differences out".split()
     rows = [[s, p] + [number(c[k]) for k in columns] for (s, p), c in sorted(streams.items())]
