@@ -1,6 +1,6 @@
 //! Drives the Rust original over a run of cases and prints the text form of all answers.
 //!
-//!     oracle [--part PART,..] [--readers NAME,..] [FILE..]
+//!     oracle [--part PART,..] [--readers NAME,..] [--listed FILE] [FILE..]
 //!
 //! Without files, standard input is a run of cases: a length in decimal, LF, that many bytes. With files, each file is
 //! one case. `--part` names which lines are printed beside `case`, `refused`, `scan`, `h` and `r`, which every part has:
@@ -11,15 +11,19 @@
 //!     units     `units`
 //!     walks     `walk`, `part` and the readers' lines
 //!     all       all of them
+//!     asks      the lines of the program `asks`, and no others
 //!
-//! `--readers` names the readers whose lines a walk prints; `skip` is always printed.
+//! `--readers` names the readers whose lines a walk prints; `skip` is always printed. `--listed` writes to a file how often the
+//! original's own answer is another one than is printed (listed.rs).
 //!
 //! A reader in which the original panics prints its name and `panic`; a case in which it panics elsewhere prints its `case` line and
 //! the line `panic`. The run goes on. A line that begins with `driver` tells where the driver's own reading of document 01 and
 //! the original part inside the domain; none is wanted.
 
+mod asks;
 mod document;
 mod input;
+mod listed;
 mod lookup;
 mod parts;
 mod reader;
@@ -40,6 +44,7 @@ struct Wanted {
     texts: bool,
     units: bool,
     walks: bool,
+    asks: bool,
     readers: [bool; 15],
 }
 
@@ -48,13 +53,14 @@ impl Wanted {
         for name in names.split(',') {
             let all = name == "all";
             match name {
-                "rows" | "lookup" | "texts" | "units" | "walks" | "all" => {}
-                _ => fail("--part takes: rows, lookup, texts, units, walks, all"),
+                "rows" | "lookup" | "texts" | "units" | "walks" | "all" | "asks" => {}
+                _ => fail("--part takes: rows, lookup, texts, units, walks, all, asks"),
             }
             self.lookup |= all || name == "lookup";
             self.texts |= all || name == "texts";
             self.units |= all || name == "units";
             self.walks |= all || name == "walks";
+            self.asks |= name == "asks";
         }
     }
 
@@ -71,6 +77,10 @@ impl Wanted {
 
 /// The lines of one case after its `case` line.
 fn answer(wanted: &Wanted, file: &[u8], out: &mut String) {
+    if wanted.asks {
+        asks::print(file, out);
+        return;
+    }
     let Some(scan) = rows::print(file, out) else {
         return;
     };
@@ -105,6 +115,7 @@ fn main() {
         ..Wanted::default()
     };
     let mut files = Vec::new();
+    let mut counted = None;
     let mut arguments = std::env::args_os().skip(1);
     while let Some(argument) = arguments.next() {
         if argument == "--part" {
@@ -113,6 +124,8 @@ fn main() {
         } else if argument == "--readers" {
             let names = arguments.next().unwrap_or_default();
             wanted.readers(names.to_str().unwrap_or(""));
+        } else if argument == "--listed" {
+            counted = arguments.next();
         } else {
             files.push(argument);
         }
@@ -157,6 +170,11 @@ fn main() {
     }
     if out.flush().is_err() {
         std::process::exit(1);
+    }
+    if let Some(name) = counted
+        && std::fs::write(&name, listed::lines()).is_err()
+    {
+        fail("the counts cannot be written");
     }
 }
 

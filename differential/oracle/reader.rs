@@ -6,6 +6,7 @@
 //! is printed.
 
 use crate::document::{Answer, Document, Reader, bits, past_trivia};
+use crate::listed::{self, Listed};
 use crate::refusal::{self, Refusal};
 use cad_step::{Args, StepError};
 use std::cell::Cell;
@@ -130,7 +131,11 @@ pub fn tell_and_note(
         let mut refusal = refusal::of(&error);
         // `next_bool` gives the place after the parameter where the name is none of its three.
         if reader == Reader::Bool && refusal.number == 12 {
-            refusal.place = past_trivia(file, place, end);
+            let start = past_trivia(file, place, end);
+            if refusal.place != start {
+                listed::note(Listed::Place);
+            }
+            refusal.place = start;
         }
         refusal
     });
@@ -139,6 +144,13 @@ pub fn tell_and_note(
     }
     if outside.get() {
         noted.set(true);
+        if original != own {
+            listed::note(match &own {
+                Err(refusal) if refusal.number == 13 => Listed::Class,
+                Err(_) => Listed::Type,
+                Ok(_) => Listed::Value,
+            });
+        }
         return Told::Said(after, own);
     }
     if original != own {
@@ -207,34 +219,39 @@ fn put_answer(out: &mut String, answer: &Answer) {
     }
 }
 
+/// Prints a reader's line, and gives the place where a `skip` that is not refused stands.
+pub fn put_line(out: &mut String, name: &str, place: usize, told: Told) -> Option<usize> {
+    match told {
+        Told::Panicked => {
+            let _ = writeln!(out, "{name} panic");
+        }
+        Told::Parted(how) => {
+            let _ = writeln!(out, "driver {name} @{place} {how}");
+        }
+        Told::Said(after, Err(refusal)) => {
+            let _ = writeln!(out, "{name} @{after} {refusal}");
+        }
+        Told::Said(after, Ok(Answer::Skipped)) => {
+            let _ = writeln!(out, "{name} @{after}");
+            return Some(after);
+        }
+        Told::Said(after, Ok(answer)) => {
+            let _ = write!(out, "{name} @{after} ");
+            put_answer(out, &answer);
+            out.push('\n');
+        }
+    }
+    None
+}
+
 /// Prints the walk over the arguments from `start` to `end`, with those readers that `wanted` names.
 pub fn walk(file: &[u8], start: usize, end: usize, wanted: &[bool; 15], out: &mut String) {
     let mut place = start;
     loop {
         let mut next = None;
         for (k, (name, reader)) in READERS.iter().enumerate() {
-            if !wanted[k] && *reader != Reader::Skip {
-                continue;
-            }
-            match tell(*reader, file, place, end) {
-                Told::Panicked => {
-                    let _ = writeln!(out, "{name} panic");
-                }
-                Told::Parted(how) => {
-                    let _ = writeln!(out, "driver {name} @{place} {how}");
-                }
-                Told::Said(after, Err(refusal)) => {
-                    let _ = writeln!(out, "{name} @{after} {refusal}");
-                }
-                Told::Said(after, Ok(Answer::Skipped)) => {
-                    let _ = writeln!(out, "{name} @{after}");
-                    next = Some(after);
-                }
-                Told::Said(after, Ok(answer)) => {
-                    let _ = write!(out, "{name} @{after} ");
-                    put_answer(out, &answer);
-                    out.push('\n');
-                }
+            if wanted[k] || *reader == Reader::Skip {
+                next = put_line(out, name, place, tell(*reader, file, place, end));
             }
         }
         let Some(after) = next else {

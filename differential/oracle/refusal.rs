@@ -19,7 +19,7 @@
 //! | 11 | its quote | `param_span` gives the opening quote |
 //! | 12 | parameter or item start | the span's start, which is the parameter's or the item's; `next_bool` gives the place after the parameter instead, so the driver takes where the trivia end |
 //!
-//! 2, 13, 14, 15 are the driver's own: the original has no such bounds. 8 and 16 depend on lent rooms, which it has not either;
+//! 14 is the original's `DanglingRef`, which has no place. 2, 13, 15 are the driver's own: the original has no such bounds. 8 and 16 depend on lent rooms, which it has not either;
 //! 9 is not asked for in the text form.
 
 use cad_step::StepError;
@@ -90,6 +90,7 @@ pub fn of(error: &StepError) -> Refusal {
             };
             Refusal::new(number, *offset)
         }
+        StepError::DanglingRef { .. } => Refusal::new(14, 0),
         other => panic!("no number for: {other}"),
     }
 }

@@ -35,14 +35,21 @@ impl Step {
         self.renamed.is_empty()
     }
 
+    /// The id that the file has for this one.
+    pub fn id(&self, id: u32) -> u32 {
+        self.renamed.get(&id).copied().unwrap_or(id)
+    }
+
+    /// The number of a row of the file.
+    pub fn number(&self, row: &Entity) -> usize {
+        let base = self.file.entities().as_ptr() as usize;
+        (std::ptr::from_ref(row) as usize - base) / size_of::<Entity>()
+    }
+
     /// The row that the original's lookup finds. The ids asked for are the records', 0, 1 and such as lie past the largest: the
     /// new ids are none of these.
     pub fn row(&self, id: u32) -> Option<usize> {
-        let found = self
-            .file
-            .get(self.renamed.get(&id).copied().unwrap_or(id))?;
-        let base = self.file.entities().as_ptr() as usize;
-        Some((std::ptr::from_ref(found) as usize - base) / size_of::<Entity>())
+        Some(self.number(self.file.get(self.id(id))?))
     }
 }
 

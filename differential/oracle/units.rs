@@ -6,13 +6,14 @@
 //! seventeenth conversion unit of a chain, 13 for a real outside the class, no number for `inf`, `nan`, byte 0B and the like.
 
 use crate::document::{Answer, Reader, bits};
+use crate::listed::{self, Listed};
 use crate::lookup::last_rows;
 use crate::parts;
 use crate::reader::{Told, put_bits, tell_and_note};
 use crate::refusal::{self, Refusal};
 use crate::step::Step;
 use cad_step::scan::{RecordSpan, Scan};
-use cad_step::{Kind, units};
+use cad_step::{Kind, StepError, units};
 use std::cell::Cell;
 use std::collections::HashMap;
 use std::fmt::Write;
@@ -27,7 +28,7 @@ struct At {
     end: usize,
 }
 
-struct Way<'a> {
+pub struct Way<'a> {
     file: &'a [u8],
     rows: &'a [RecordSpan],
     last: HashMap<u32, usize>,
@@ -267,7 +268,6 @@ const PREFIXES: [(&str, f64); 16] = [
 ];
 
 fn put(out: &mut String, told: &Result<Units, Refusal>) {
-    out.push_str("units ");
     match told {
         Ok((length, angle, tolerance, resolved)) => {
             for number in [length, angle, tolerance] {
@@ -282,23 +282,25 @@ fn put(out: &mut String, told: &Result<Units, Refusal>) {
     }
 }
 
-pub fn print(file: &[u8], scan: &Scan, step: &Step, out: &mut String) {
-    let way = Way {
-        file,
-        rows: &scan.records,
-        last: last_rows(scan),
-        outside: Cell::new(false),
-    };
-    let Ok(own) = catch_unwind(AssertUnwindSafe(|| way.resolve())) else {
-        out.push_str("units panic\n");
+/// Prints what `own` says by document 01's words and `original` by the Rust: the latter inside the domain, where both must agree.
+fn tell(
+    way: &Way<'_>,
+    out: &mut String,
+    own: impl Fn() -> Result<Units, Refusal>,
+    original: impl Fn() -> Result<units::Units, StepError>,
+) {
+    way.outside.set(false);
+    let Ok(own) = catch_unwind(AssertUnwindSafe(own)) else {
+        out.push_str("panic\n");
         return;
     };
     if way.outside.get() {
+        listed::note(Listed::Units);
         put(out, &own);
         return;
     }
-    let Ok(told) = catch_unwind(AssertUnwindSafe(|| units::resolve(&step.file))) else {
-        out.push_str("units panic\n");
+    let Ok(told) = catch_unwind(AssertUnwindSafe(original)) else {
+        out.push_str("panic\n");
         return;
     };
     let told = told
@@ -313,7 +315,33 @@ pub fn print(file: &[u8], scan: &Scan, step: &Step, out: &mut String) {
         .map_err(|error| refusal::of(&error));
     put(out, &told);
     if told != own {
-        let _ = write!(out, "driver ");
+        out.push_str("driver units ");
         put(out, &own);
     }
+}
+
+/// The way over a file's rows.
+pub fn way<'a>(file: &'a [u8], scan: &'a Scan) -> Way<'a> {
+    Way {
+        file,
+        rows: &scan.records,
+        last: last_rows(scan),
+        outside: Cell::new(false),
+    }
+}
+
+pub fn print(file: &[u8], scan: &Scan, step: &Step, out: &mut String) {
+    let way = way(file, scan);
+    out.push_str("units ");
+    tell(&way, out, || way.resolve(), || units::resolve(&step.file));
+}
+
+/// Prints the units that row `i` declares as a context.
+pub fn print_context(way: &Way<'_>, step: &Step, i: usize, out: &mut String) {
+    tell(
+        way,
+        out,
+        || way.of_context(&way.rows[i]),
+        || units::units_of_context(&step.file, &step.file.entities()[i]),
+    );
 }

@@ -132,7 +132,8 @@ fn bool_line(file: &[u8], at: State, out: &mut [u8], pen: Pen) -> Pen {
     }
 }
 
-fn str_line(file: &[u8], at: State, chars: &mut [u8], out: &mut [u8], pen: Pen) -> Pen {
+// `str @P HEX`, or its refusal. The room is lent for a text that is not shown in the file.
+pub fn str_line(file: &[u8], at: State, chars: &mut [u8], out: &mut [u8], pen: Pen) -> Pen {
     let r = words::next_str(file, at, chars);
     match r {
         NextText::InFile(_, _, to) => {

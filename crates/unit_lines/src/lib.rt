@@ -18,7 +18,8 @@ pub fn unit_line(
     text::byte(out, b, b'\n')
 }
 
-fn resolved(out: &mut [u8], pen: Pen, r: Resolved) -> Pen {
+// The four values, or the refusal.
+pub fn resolved(out: &mut [u8], pen: Pen, r: Resolved) -> Pen {
     match r {
         Resolved::Is(u) => values(out, pen, u),
         Resolved::Refused(f) => text::mark(out, pen, f),

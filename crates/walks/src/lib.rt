@@ -7,6 +7,7 @@ use lookup::Tables;
 use params::Skipped;
 use params::State;
 use records::Walker;
+pub use records::header_args;
 use text::Pen;
 
 // Prints the walks of all header rows and then of all data rows. The rooms are lent for texts, references, integers, reals and row

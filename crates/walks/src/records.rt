@@ -105,7 +105,7 @@ fn after(n: usize) -> usize {
 }
 
 // The arguments of header row i; none where the table ends before it.
-fn header_args(heads: &[u32], i: usize) -> State {
+pub fn header_args(heads: &[u32], i: usize) -> State {
     if i < heads.len() / 4 {
         let at = i * 4;
         return State {
