@@ -1,4 +1,4 @@
--- What the guide and the step give for an id: a range of ids that has it, and a place among the rows. Assumes nothing.
+-- Laws of the guide and of the step, of the loops that find and lay them, and of each way that a search goes. Assumes nothing.
 use Prim.Native.Nat.{ℕ, zero, suc, _+_, _-_, _*_, _/_, _%_, _^_, _≤_, _<_, min, max}
 use mathlib.Core.Path.{_≡_, refl, sym, _∙_, ap, subst}
 use mathlib.Core.Bool.{Bool, true, false, _&&_}
