@@ -8,12 +8,11 @@ use lib.Dec.{leb}
 use lib.ListN.{length, take, drop, length-append}
 use borrow.Author.Tests.{leb-true}
 use Rattle.error.specs.Refusal.{Refusal, Told, good, bad}
-use Rattle.lex.specs.Right.Steps.{clash}
 use Rattle.params.specs.Reader.{reading, span, paramOf}
 use Rattle.lists.specs.Items.{Fate, fine, faulty, fated, mute, itemsFrom, listBy, kindOf, roomed, moved, nextBy, written, valuesOf, filled, ShapeAt}
 use Rattle.lists.specs.Laws.{tally, list-blank, shape-blank}
 use Rattle.lists.specs.ReadLaws.{fills-none, fills-full, list-map, count-mute, roomed-told, roomed-good, onward-bad, moved-told, moved-written, next-uncut, next-cut}
-use Rattle.lists.specs.Places.{Inward, offset, placeOf, list-inward, roomed-inward, told-inward, kind-inward, items-inward}
+use Rattle.lists.specs.Places.{Inward, placeOf, list-inward, roomed-inward, told-inward, told-place, kind-inward, items-inward}
 use Rattle.lists.specs.declared.Kind.{Kind}
 use Rattle.lists.specs.declared.Shape.{Shape}
 use Rattle.lists.specs.declared.Shape.the-variants.{NotList, Blank, Full}
@@ -121,11 +120,9 @@ row-inward kind = told-inward length (listBy (kindOf kind)) (list-inward (kindOf
 
 -- so has a grid's inside
 pub tally-inward : (kind : Kind) (b : List ℕ) (n o : ℕ) → faulty n o ≡ fated (tally addRow (size 0 0)) (itemsFrom (suc (length b)) (rowOf kind) 0 b) → o ≤ length b
-tally-inward kind b n o e = go (itemsFrom (suc (length b)) (rowOf kind) 0 b) e (items-inward (rowOf kind) (row-inward kind) (suc (length b)) 0 b)
-  where
-    go : (x : Fate (List ℕ)) → faulty n o ≡ fated (tally addRow (size 0 0)) x → offset x ≤ 0 + length b → o ≤ length b
-    go (fine ks) e h = clash (cc)
-    go (faulty m p) e h = let q : o ≡ p = cc in omega arith
+tally-inward kind b n o e =
+    told-place (tally addRow (size 0 0)) (itemsFrom (suc (length b)) (rowOf kind) 0 b) n o (length b) e
+    (omega (arith, items-inward (rowOf kind) (row-inward kind) (suc (length b)) 0 b))
 
 -- how far into the text the code's answer is
 pub grid-inward : {A : Type 0} (g : List ℕ → Fate (List (List A))) → Inward g → (fits : List (List A) → Bool) (t : List ℕ) (r : ReadGrid) → toldReadGrid r ≡ sizeTold (roomed fits 0 (g t)) → reachedIn r ≤ length t

@@ -1,6 +1,6 @@
 -- What one row does to a grid that reads and is written: the laws that the writing loops go by, for every kind of item.
 -- Assumes nothing.
-use Prim.Native.Nat.{ℕ, zero, suc, _+_, _-_, _≤_, _<_, min}
+use Prim.Native.Nat.{ℕ, suc, _+_, _-_, _≤_, _<_, min}
 use mathlib.Core.Path.{_≡_, refl, sym, _∙_, ap}
 use mathlib.Core.List.{List, [], _∷_, _++_, map, append-assoc, append-nil, map-append}
 use native.Mathlib.Omega.{arith}
@@ -11,6 +11,7 @@ use Rattle.error.specs.Refusal.{Told, good}
 use Rattle.lists.specs.declared.Item.{Item}
 use Rattle.lists.specs.Items.{Fate, fine, faulty, itemsFrom, listBy, roomed, fitsIn, countOf, written, ItemAt, valuesOf, filled}
 use Rattle.lists.specs.Laws.{item-in}
+use Rattle.lists.specs.Keep.{map-take, map-drop}
 use Rattle.lists.specs.Fill.{fill-bad, fill-last, fill-more, fill-head, fill-store, fill-ends}
 use Rattle.grids.specs.Grid.{flat, endsFrom, GridReady}
 
@@ -91,25 +92,15 @@ module _ {A : Type 0} (xs out : List A) (n : ℕ) (v l : List A) (here : drop n 
 
 -- Lists told by h, as a lent list of reals is by their bits: its parts, and a part of it written.
 module _ {A B : Type 0} (h : A → B) where
-  map-take : (n : ℕ) (l : List A) → map h (take n l) ≡ take n (map h l)
-  map-take zero l = refl
-  map-take (suc n) [] = refl
-  map-take (suc n) (a ∷ l) = ap (λ (x : List B). h a ∷ x) (map-take n l)
-
-  map-drop : (n : ℕ) (l : List A) → map h (drop n l) ≡ drop n (map h l)
-  map-drop zero l = refl
-  map-drop (suc n) [] = refl
-  map-drop (suc n) (a ∷ l) = map-drop n l
-
   -- the part of z from the n-th on
   pub map-part : (n z : ℕ) (l : List A) → map h (take z (drop n l)) ≡ take z (drop n (map h l))
-  map-part n z l = map-take z (drop n l) ∙ ap (take z) (map-drop n l)
+  map-part n z l = map-take h z (drop n l) ∙ ap (take z) (map-drop h n l)
 
   -- u in its place
   pub map-put : (n z : ℕ) (l u : List A) → map h (take n l ++ (u ++ drop z (drop n l))) ≡ take n (map h l) ++ (map h u ++ drop z (drop n (map h l)))
   map-put n z l u =
-      map-append h (take n l) (u ++ drop z (drop n l)) ∙ ap (λ (x : List B). x ++ map h (u ++ drop z (drop n l))) (map-take n l)
-      ∙ ap (λ (x : List B). take n (map h l) ++ x) (map-append h u (drop z (drop n l)) ∙ ap (λ (x : List B). map h u ++ x) (map-drop z (drop n l) ∙ ap (drop z) (map-drop n l)))
+      map-append h (take n l) (u ++ drop z (drop n l)) ∙ ap (λ (x : List B). x ++ map h (u ++ drop z (drop n l))) (map-take h n l)
+      ∙ ap (λ (x : List B). take n (map h l) ++ x) (map-append h u (drop z (drop n l)) ∙ ap (λ (x : List B). map h u ++ x) (map-drop h z (drop n l) ∙ ap (drop z) (map-drop h n l)))
 
 -- so many rows of a grid are written, n numbers in all: the lent lists were out₀ and ends₀ and are out and ends, and i is the place of
 -- the next row

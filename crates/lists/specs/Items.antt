@@ -225,3 +225,12 @@ Ready a room = (a ≡ fine (valuesOf a)) × (length (valuesOf a) ≤ room)
 -- the lent list with these numbers in front
 abbrev pub filled : {A : Type 0} → List A → List A → List A
 filled vs out = vs ++ drop (length vs) out
+
+-- the first values of a list that reads stand in a list beside it, which was old and is new, as far as that goes
+abbrev pub Kept : {A : Type 0} → Fate (List A) → List A → List A → Type 0
+Kept (fine vs) old new = new ≡ take (length old) (filled vs old)
+Kept (faulty n o) old new = Unit {0}
+
+-- a list no longer than that stands there whole
+abbrev pub Held : {A : Type 0} → Fate (List A) → List A → Type 0
+Held a first = length (valuesOf a) ≤ length first → take (length (valuesOf a)) first ≡ valuesOf a

@@ -6,3 +6,4 @@ pub mod Fill
 pub mod ReadLaws
 pub mod Places
 pub mod Only
+pub mod Keep

@@ -54,6 +54,11 @@ told-inward {A} h g inward t = go (g t) (inward t)
     go (fine a) k = k
     go (faulty n o) k = k
 
+-- where the fault is of which that is told
+pub told-place : {A B : Type 0} (h : A → B) (x : Fate A) (n o m : ℕ) → faulty n o ≡ fated h x → offset x ≤ m → o ≤ m
+told-place h (fine a) n o m e k = clash (cc)
+told-place h (faulty l p) n o m e k = let q : o ≡ p = cc in omega arith
+
 -- an item of a kind is refused at its start
 pub kind-inward : (kind : Kind) → Inward (kindOf kind)
 kind-inward References = told-inward (λ a. tt) (λ u. asFate (referenceOf u)) (scalar-inward referenceOf)

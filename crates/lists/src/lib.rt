@@ -1,18 +1,19 @@
 // The argument reader's lists: references, integers and reals into lent numbers.
 //
 // As the Rust's next_ref_list, next_i64_list and next_f64_list, with split_top_level and trim_span. A list is gone through twice: the
-// first time it is only counted, so that a refusal leaves the lent numbers alone, and the second time it is written. What a text says as
-// a list, and its items one after another, are there for the crates above, which read lists of lists and lists of any length.
+// first time it is only counted, so that a refusal leaves the lent numbers alone, and the second time it is written; short lists of reals
+// are kept from the first time. What a text says as a list, and its items one after another, are there for the crates above, which read
+// lists of lists and lists of any length.
 ghost use mathlib.Core.Path.{_≡_};
 ghost use Prim.Native.Nat.{_+_, _-_, _≤_, _<_, _^_, suc, min};
 ghost use lib.Dec.{leb};
 ghost use mathlib.Core.Bool.{true, false};
-ghost use mathlib.Core.List.{map};
-ghost use lib.ListN.{length, take, drop};
+ghost use mathlib.Core.List.{_++_, map};
+ghost use lib.ListN.{length, take, drop, set};
 ghost use lib.Ieee.{binary64, toBits};
 ghost use Rattle.params.specs.Reader.{reading};
 ghost use Rattle.reals.specs.Scalar.{referenceOf, wholeOf, realOf};
-ghost use Rattle.lists.specs.Items.{roomed, moved, countOf, reached, toldReadList, itemEnd, ItemAt, toldVerdict, CountedIn, ShapeAt, toldCounted, fated, kindOf, asFate, itemsFrom, listBy, listOf, Ready, valuesOf, filled, nextBy, fitsIn, howMany, written, toldNextList};
+ghost use Rattle.lists.specs.Items.{roomed, moved, countOf, reached, toldReadList, itemEnd, ItemAt, toldVerdict, CountedIn, ShapeAt, toldCounted, fated, kindOf, asFate, itemsFrom, listBy, listOf, Ready, valuesOf, filled, Kept, Held, nextBy, fitsIn, howMany, written, toldNextList};
 use error::Fault;
 use params::Cut;
 use params::Ended;
@@ -380,17 +381,103 @@ fn fill_reals(t: &[u8], out: &mut [f64]) -> usize
     }
 }
 
-// Reads the text of a list of reals into lent numbers.
+// Keeps a real at its place among the first ones, if there is such a place.
+fn keep_real(first: &mut [f64], n: usize, x: f64)
+    ensures { λ _. ⌜ now (first .exit) ≡ set (now (first .entry)) n x ⌝ }
+{
+    if n < first.len() {
+        first[n] = x;
+    }
+}
+
+// Reads the reals of a list's inside and keeps the first of them, or finds the first bad one.
+fn keep_real_items(b: &[u8], first: &mut [f64]) -> Counted
+    ensures { λ r. ⌜ toldCounted r ≡ fated length (itemsFrom (suc (length (now (b .entry)))) (λ u. asFate (realOf u)) 0 (now (b .entry))) ⌝ }
+    ensures { λ r. ⌜ Kept (itemsFrom (suc (length (now (b .entry)))) (λ u. asFate (realOf u)) 0 (now (b .entry))) (map (toBits binary64) (now (first .entry))) (map (toBits binary64) (now (first .exit))) ⌝ }
+{
+    let mut i: usize = 0;
+    let mut n: usize = 0;
+    loop {
+        let w = item_at(b, i);
+        let start = w.start;
+        let stop = w.stop;
+        let bound = w.bound;
+        match reals::parse_real(&b[start..stop]) {
+            Real::Value(x) => keep_real(first, n, x),
+            Real::Outside => return Counted::Outside(start),
+            Real::NotReal => return Counted::Wrong(start),
+        }
+        n += 1;
+        if bound == b.len() {
+            return Counted::All(n);
+        }
+        i = bound + 1;
+    }
+}
+
+// Reads the reals of a list and keeps the first of them, or finds what is wrong with it.
+fn keep_reals(t: &[u8], first: &mut [f64]) -> Counted
+    ensures { λ r. ⌜ toldCounted r ≡ fated length (listOf realOf (now (t .entry))) ⌝ }
+    ensures { λ r. ⌜ Kept (listOf realOf (now (t .entry))) (map (toBits binary64) (now (first .entry))) (map (toBits binary64) (now (first .exit))) ⌝ }
+{
+    match shape_of(t) {
+        Shape::NotList => Counted::Wrong(0),
+        Shape::Blank => Counted::All(0),
+        Shape::Full => {
+            let n = t.len();
+            match keep_real_items(&t[1..n - 1], first) {
+                Counted::All(k) => Counted::All(k),
+                Counted::Wrong(o) => Counted::Wrong(1 + o),
+                Counted::Outside(o) => Counted::Outside(1 + o),
+            }
+        }
+    }
+}
+
+// Writes the first n of the reals that were kept.
+fn lay_reals(first: &[f64], n: usize, out: &mut [f64])
+    requires { ⌜ (n ≤ length (now first)) × (n ≤ length (now out)) ⌝ }
+    ensures { λ _. ⌜ now (out .exit) ≡ take n (now (first .entry)) ++ drop n (now (out .entry)) ⌝ }
+{
+    let mut i: usize = 0;
+    while i < n {
+        out[i] = first[i];
+        i += 1;
+    }
+}
+
+// Writes the n reals of a list, the first of which were kept: only a list of more than those is gone through again.
+fn write_reals(t: &[u8], first: &[f64], n: usize, out: &mut [f64])
+    requires { ⌜ Ready (listOf realOf (now t)) (length (now out)) ⌝ }
+    requires { ⌜ n ≡ length (valuesOf (listOf realOf (now t))) ⌝ }
+    requires { ⌜ Held (listOf realOf (now t)) (map (toBits binary64) (now first)) ⌝ }
+    ensures { λ _. ⌜ map (toBits binary64) (now (out .exit)) ≡ filled (valuesOf (listOf realOf (now (t .entry)))) (map (toBits binary64) (now (out .entry))) ⌝ }
+{
+    if n <= first.len() {
+        lay_reals(first, n, out);
+        return;
+    }
+    fill_reals(t, out);
+}
+
+// Reads the text of a list of reals into lent numbers. Most lists are the coordinates of one point, and a real takes long to read: up to
+// sixteen are written from the first pass.
 pub fn read_reals(t: &[u8], out: &mut [f64]) -> ReadList
     ensures { λ r. ⌜ toldReadList r ≡ countOf (roomed (fitsIn (length (now (out .entry)))) 0 (listOf realOf (now (t .entry)))) ⌝ }
     ensures { λ r. ⌜ map (toBits binary64) (now (out .exit)) ≡ written (roomed (fitsIn (length (now (out .entry)))) 0 (listOf realOf (now (t .entry)))) (map (toBits binary64) (now (out .entry))) ⌝ }
 {
-    let r = room_for(t, Kind::Floats, out.len());
-    let ReadList::Count(_) = r else {
-        return r;
-    };
-    fill_reals(t, out);
-    r
+    let mut first = [0.0; 16];
+    match keep_reals(t, &mut first) {
+        Counted::Wrong(o) => ReadList::Wrong(o),
+        Counted::Outside(o) => ReadList::Outside(o),
+        Counted::All(n) => {
+            if out.len() < n {
+                return ReadList::Short;
+            }
+            write_reals(t, &first, n, out);
+            ReadList::Count(n)
+        }
+    }
 }
 
 // Reads a list of reals into lent numbers.

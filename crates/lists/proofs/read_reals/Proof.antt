@@ -1,55 +1,96 @@
 use borrow.Author.Needs.{needs}
-use Rattle.lists.specs.Items.{asFate, listOf, toldReadList}
+use Rattle.lists.specs.Keep.{kept-bad, kept-short, kept-fits, kept-ready}
+use Rattle.lists.specs.Items.{listOf, toldCounted}
 use Rattle.reals.specs.Scalar.{realOf}
+use native.Mathlib.Omega.{arith}
 use denote.Ref.{now}
-use lib.ListN.{length}
-use mathlib.Core.Path.{ap, sym, _∙_}
-use Rattle.lists.specs.ReadLaws.{read-told, room-fits, room-refused, room-written}
-use Rattle.lists.proofs.Laws.{refused-read}
 use lib.Ieee.{binary64, toBits}
+use lib.ListN.{length}
 use mathlib.Core.List.{map}
+use mathlib.Core.Path.{ap, sym, _∙_}
 use Rattle.lists.proofs.read_reals.Statement.{statement}
 use Rattle.lists.proofs.read_reals.Tie as tie
 use Rattle.lists.proofs.read_reals.Reads as reads
 use Rattle.lists.proofs.read_reals.Lts as lts
-use Rattle.lists.proofs.fill_reals.Reads as fill-reals-reads
-use Rattle.lists.proofs.room_for.Reads as room-for-reads
+use Rattle.lists.proofs.keep_reals.Reads as keep-reals-reads
+use Rattle.lists.proofs.write_reals.Reads as write-reals-reads
 
--- src/lib.rt:388:9
-room-for-requires : tie.Need-room-for-requires
-room-for-requires c κs = search needs
+-- src/lib.rt:468:25
+slice-aggregate-keep-reals : tie.Need-slice-aggregate-keep-reals
+slice-aggregate-keep-reals c = search needs
 
-enum-told : tie.Need-enum-told
-enum-told c = search needs
+-- src/lib.rt:468:11
+keep-reals-requires : tie.Need-keep-reals-requires
+keep-reals-requires c κs = search needs
 
--- src/lib.rt:390:9
+-- src/lib.rt:469:24
+enum-known-o : tie.Need-enum-known-o
+enum-known-o c = search needs
+
+-- src/lib.rt:470:26
+enum-known-o-2 : tie.Need-enum-known-o-2
+enum-known-o-2 c = search needs
+
+-- src/lib.rt:471:22
+enum-known-n : tie.Need-enum-known-n
+enum-known-n c = search needs
+
+-- src/lib.rt:473:17
 returns : tie.Need-returns
-returns c = let r = c .before .room-for in
-    let t = c .before .before .before .before in
-    let e = read-told (λ u. asFate (realOf u)) (now (t .args .t)) (length (now (t .args .out))) _ (r .ensures) in
-    let (q, k) = refused-read (r .result) (c .match .keys2) in
-    (e, room-refused (listOf realOf (now (t .args .t))) (length (now (t .args .out))) q (map (toBits binary64) (now (t .args .out))) (sym k ∙ e))
+returns c = let k = c .before .before .before .before .before in
+    let t = k .before .before .before .before .args in
+    let e = ap toldCounted (sym (c .before .before .n .given .1)) ∙ k .keep-reals .ensures .0 in
+    kept-short (listOf realOf (now (t .t))) (length (now (t .out))) (map (toBits binary64) (now (t .out))) _ e (c .if1 .taken)
 
--- src/lib.rt:392:5
-fill-reals-requires : tie.Need-fill-reals-requires
-fill-reals-requires c κs = let r = c .before .before .before .room-for in
-    let t = c .before .before .before .before .before .before in
-    let e = read-told (λ u. asFate (realOf u)) (now (t .args .t)) (length (now (t .args .out))) _ (r .ensures) in
-    room-fits (listOf realOf (now (t .args .t))) (length (now (t .args .out))) _ (ap toldReadList (sym (c .before .enum-told .given .1)) ∙ e)
+-- src/lib.rt:475:28
+slice-aggregate-write-reals : tie.Need-slice-aggregate-write-reals
+slice-aggregate-write-reals c = search needs
 
--- src/lib.rt:384:1
+-- src/lib.rt:475:13
+write-reals-requires : tie.Need-write-reals-requires
+write-reals-requires c κs = let k = c .before .before .before .before .before .before .before in
+    let t = k .before .before .before .before .args in
+    let e = ap toldCounted (sym (c .before .before .before .before .n .given .1)) ∙ k .keep-reals .ensures .0 in
+    kept-ready (listOf realOf (now (t .t))) (length (now (t .out))) _ _ _ e (omega (arith, c .before .before .if1 .left)) (k .keep-reals .ensures .1)
+
+-- src/lib.rt:463:1
+returns-2 : tie.Need-returns-2
+returns-2 c = let k = c .before .before .before .before in
+    let t = k .before .before .before .before .args in
+    let e = ap toldCounted (sym (c .before .o .given .1)) ∙ k .keep-reals .ensures .0 in
+    kept-bad (listOf realOf (now (t .t))) (length (now (t .out))) (map (toBits binary64) (now (t .out))) 12 _ e
+
+-- src/lib.rt:463:1
+returns-3 : tie.Need-returns-3
+returns-3 c = let k = c .before .before .before .before in
+    let t = k .before .before .before .before .args in
+    let e = ap toldCounted (sym (c .before .o2 .given .1)) ∙ k .keep-reals .ensures .0 in
+    kept-bad (listOf realOf (now (t .t))) (length (now (t .out))) (map (toBits binary64) (now (t .out))) 13 _ e
+
+-- src/lib.rt:463:1
 same-length : tie.Need-same-length
 same-length c = search needs
 
--- src/lib.rt:384:1
-returns-2 : tie.Need-returns-2
-returns-2 c = let i = c .before .before in
-    let r = i .before .before .before .before .room-for in
-    let t = i .before .before .before .before .before .before .before in
-    let e = read-told (λ u. asFate (realOf u)) (now (t .args .t)) (length (now (t .args .out))) _ (r .ensures) in
-    (e, room-written (listOf realOf (now (t .args .t))) (length (now (t .args .out))) _ (map (toBits binary64) (now (t .args .out))) _ (ap toldReadList (sym (i .before .before .enum-told .given .1)) ∙ e) (i .fill-reals .ensures .0))
+-- src/lib.rt:463:1
+returns-4 : tie.Need-returns-4
+returns-4 c = let k = c .before .before .before .before .before .before .before .before .before .before in
+    let t = k .before .before .before .before .args in
+    let e = ap toldCounted (sym (c .before .before .before .before .before .before .before .n .given .1)) ∙ k .keep-reals .ensures .0 in
+    kept-fits (listOf realOf (now (t .t))) (length (now (t .out))) (map (toBits binary64) (now (t .out))) _ _ e (omega (arith, c .before .before .before .before .before .if1 .left)) (c .before .before .write-reals .ensures)
 
 pub read-reals-spec : {M : Type 1} → statement M
 read-reals-spec =
     tie.close
-    (tie.spec room-for-requires enum-told returns fill-reals-requires same-length returns-2)
+    (tie.spec
+    slice-aggregate-keep-reals
+    keep-reals-requires
+    enum-known-o
+    enum-known-o-2
+    enum-known-n
+    returns
+    slice-aggregate-write-reals
+    write-reals-requires
+    returns-2
+    returns-3
+    same-length
+    returns-4)

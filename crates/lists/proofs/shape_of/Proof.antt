@@ -58,7 +58,7 @@ returns-4 : tie.Need-returns-4
 returns-4 c = let i = c .before .before .before .before in
     let t = now (i .before .before .before .before .before .before .args .t) in
     let m = c .before .before .trim in
-    (_, body-full t (omega arith) (i .before .before .if2 .left) (i .if3 .left), none-true _ _ _ (m .ensures .1 .0) (m .ensures .1 .1 .0) (m .ensures .1 .1 .1) (c .if4 .taken))
+    (_, body-full t (omega arith) (i .before .before .if2 .left) (i .if3 .left), none-true _ _ _ (m .ensures .1 .0) (m .ensures .1 .1 .0) (m .ensures .1 .1 .1) (omega (arith, c .if4 .taken)))
 
 -- src/lib.rt:81:1
 returns-5 : tie.Need-returns-5

@@ -1,0 +1,224 @@
+-- What one item does to a list that is read while its first values are kept beside it: the laws that the first pass goes by, for every
+-- kind of item. Assumes nothing.
+use Prim.Native.Nat.{ℕ, zero, suc, _+_, _-_, _≤_, _<_, min}
+use mathlib.Core.Path.{_≡_, refl, sym, _∙_, ap, subst}
+use mathlib.Core.Bool.{Bool}
+use mathlib.Core.List.{List, [], _∷_, _++_, map, map-append, append-assoc, append-nil}
+use native.Mathlib.Omega.{arith}
+use native.Mathlib.Decide.{decLe}
+use native.Mathlib.Numerals.{add-one}
+use lib.Dec.{leb}
+use borrow.Author.Tests.{le-leb, lt-leb}
+use lib.ListN.{length, take, drop, getD, set, length-drop, length-take, length-append, length-map}
+use lib.Seq.{take-all, take-length, take-take, take-at, take-suc, drop-cons, set-at, set-out, take-append-le, length-take-le}
+use Rattle.lex.specs.Right.Steps.{clash}
+use Rattle.error.specs.Refusal.{refusal, good, bad}
+use Rattle.lex.specs.Byte.{pick}
+use Rattle.lists.specs.declared.Item.{Item}
+use Rattle.lists.specs.declared.Shape.{Shape}
+use Rattle.lists.specs.declared.Shape.the-variants.{NotList, Blank, Full}
+use Rattle.lists.specs.Items.{Fate, fine, faulty, shifted, fated, itemsFrom, listBy, roomed, fitsIn, countOf, written, ItemAt, ShapeAt, valuesOf, Ready, filled, Kept, Held}
+use Rattle.lists.specs.Laws.{tally, tally-starts, tally-bad, tally-last, tally-more, list-none, list-blank, list-full, shape-none, shape-blank, shape-full, told-full}
+use Rattle.lists.specs.ReadLaws.{roomed-told, roomed-bad, room-refused, room-written}
+
+-- a value behind the others
+abbrev pub snoc : {A : Type 0} → List A → A → List A
+snoc ws v = ws ++ (v ∷ [])
+
+-- values taken in one behind the other
+tally-snoc : {A : Type 0} (ws vs : List A) → tally snoc ws vs ≡ ws ++ vs
+tally-snoc ws [] = sym (append-nil ws)
+tally-snoc ws (v ∷ vs) = tally-snoc (snoc ws v) vs ∙ append-assoc ws (v ∷ []) vs
+
+-- from the first on they are the list
+tally-whole : {A : Type 0} (x : Fate (List A)) → fated (tally snoc []) x ≡ x
+tally-whole (fine vs) = ap fine (tally-snoc [] vs)
+tally-whole (faulty n o) = refl
+
+module _ {A : Type 0} (ws old : List A) where
+  -- as long as the list beside
+  pub held-length : length (take (length old) (filled ws old)) ≡ length old
+  held-length = omega (arith, length-take (length old) (filled ws old), length-append ws (drop (length ws) old), length-drop (length ws) old)
+
+  -- a value more, at its place or at none
+  pub held-more : (v : A) → set (take (length old) (filled ws old)) (length ws) v ≡ take (length old) (filled (snoc ws v) old)
+  held-more v = go (decLe (length old) (length ws))
+    where
+      n : length (snoc ws v) ≡ length ws + 1
+      n = length-append ws (v ∷ [])
+
+      go : Dec (length old ≤ length ws) → set (take (length old) (filled ws old)) (length ws) v ≡ take (length old) (filled (snoc ws v) old)
+      go (yes h) =
+          set-out (take (length old) (filled ws old)) (length ws) v (omega (arith, h, held-length)) ∙ take-append-le (length old) ws (drop (length ws) old) h
+          ∙ sym (take-append-le (length old) (snoc ws v) (drop (length (snoc ws v)) old) (omega (arith, h, n)) ∙ take-append-le (length old) ws (v ∷ []) h)
+      go (no h) =
+          let a : take (length old) (filled ws old) ≡ filled ws old = take-all (length old) (filled ws old) (omega (arith, h, length-append ws (drop (length ws) old), length-drop (length ws) old)) in
+          let b : take (length old) (filled (snoc ws v) old) ≡ filled (snoc ws v) old =
+          take-all (length old) (filled (snoc ws v) old) (omega (arith, h, n, length-append (snoc ws v) (drop (length (snoc ws v)) old), length-drop (length (snoc ws v)) old)) in
+          let d : drop (length ws) old ≡ getD old (length ws) v ∷ drop (length ws + 1) old = rw add-one (drop-cons old (length ws) v (omega arith)) in
+          ap (λ (x : List A). set x (length ws) v) a ∙ ap (λ (x : List A). set (ws ++ x) (length ws) v) d
+          ∙ set-at ws (getD old (length ws) v) (drop (length ws + 1) old) v (length ws) refl
+          ∙ sym (b ∙ ap (λ (k : ℕ). snoc ws v ++ drop k old) n ∙ append-assoc ws (v ∷ []) (drop (length ws + 1) old))
+
+-- so many items were read, and their values are those in `kept`: the list beside was old and is new, and i is the place of the next item
+pub record Keeping {A : Type 0} (g : List ℕ → Fate A) (b : List ℕ) (old new : List A) (i n : ℕ) : Type 0 where
+  pub kept : List A
+  pub many : n ≡ length kept
+  pub few : n ≤ i
+  pub within : i ≤ length b
+  pub rest : fated (tally snoc kept) (itemsFrom (suc (length b) - n) g i (drop i b)) ≡ itemsFrom (suc (length b)) g 0 b
+  pub held : new ≡ take (length old) (filled kept old)
+
+-- none is read yet
+pub keeping-starts : {A : Type 0} (g : List ℕ → Fate A) (b : List ℕ) (old : List A) → Keeping g b old old 0 0
+keeping-starts g b old = record {
+  kept = [];
+  many = refl;
+  few = omega arith;
+  within = omega arith;
+  rest = tally-starts g snoc [] b ∙ tally-whole (itemsFrom (suc (length b)) g 0 b);
+  held = sym (take-length old);
+}
+
+-- the list beside is as long as it was
+pub keeping-length : {A : Type 0} (g : List ℕ → Fate A) (b : List ℕ) (old new : List A) (i n : ℕ) → Keeping g b old new i n → length new ≡ length old
+keeping-length g b old new i n f = ap length (f .held) ∙ held-length (f .kept) old
+
+module _ {A : Type 0} (g : List ℕ → Fate A) (b : List ℕ) (old new : List A) (i n : ℕ) (f : Keeping g b old new i n) (r : Item) (found : ItemAt b (min i (length b)) r) where
+  few-enough : n ≤ length b
+  few-enough = omega (arith, f .few, f .within)
+
+  -- a bad item
+  pub keeping-bad : (k o : ℕ) → faulty k o ≡ g (take (r .stop - r .start) (drop (r .start) b))
+      → (faulty k (r .start + o) ≡ fated length (itemsFrom (suc (length b)) g 0 b)) × Kept (itemsFrom (suc (length b)) g 0 b) old new
+  keeping-bad k o e =
+      let q = tally-bad g snoc b i n r found (f .within) few-enough (f .kept) _ (f .rest) k o e in
+      (ap (fated length) q, subst (λ (x : Fate (List A)). Kept x old new) q tt)
+
+  module _ (v : A) (e : fine v ≡ g (take (r .stop - r .start) (drop (r .start) b))) where
+    -- its value is kept
+    more : set new n v ≡ take (length old) (filled (snoc (f .kept) v) old)
+    more = ap (λ (x : List A). set x n v) (f .held) ∙ ap (λ (k : ℕ). set (take (length old) (filled (f .kept) old)) k v) (f .many) ∙ held-more (f .kept) old v
+
+    count : n + 1 ≡ length (snoc (f .kept) v)
+    count = omega (arith, f .many, length-append (f .kept) (v ∷ []))
+
+    -- the last item
+    pub keeping-last : r .bound ≡ length b → (fine (n + 1) ≡ fated length (itemsFrom (suc (length b)) g 0 b)) × Kept (itemsFrom (suc (length b)) g 0 b) old (set new n v)
+    keeping-last k =
+        let q = tally-last g snoc b i n r found (f .within) few-enough (f .kept) _ (f .rest) v e k in
+        (ap fine count ∙ ap (fated length) q, subst (λ (x : Fate (List A)). Kept x old (set new n v)) q more)
+
+    -- another item
+    pub keeping-goes : r .bound < length b → Keeping g b old (set new n v) (r .bound + 1) (n + 1)
+    keeping-goes k =
+        record {
+          kept = snoc (f .kept) v;
+          many = count;
+          few = omega (arith, f .few, found .above, f .within);
+          within = omega arith;
+          rest = tally-more g snoc b i n r found (f .within) few-enough (f .kept) _ (f .rest) v e k;
+          held = more;
+        }
+
+-- seen from further back
+kept-shifted : {A : Type 0} (k : ℕ) (x : Fate (List A)) (old new : List A) → Kept x old new → Kept (shifted k x) old new
+kept-shifted k (fine vs) old new h = h
+kept-shifted k (faulty n o) old new h = h
+
+-- What is kept of a list, by what its text is.
+module _ {A : Type 0} (g : List ℕ → Fate A) (t : List ℕ) (r : Shape) (h : ShapeAt t r) (old : List A) where
+  -- no list
+  pub kept-none : r ≡ NotList → (faulty 12 0 ≡ fated length (listBy g t)) × Kept (listBy g t) old old
+  kept-none e = let q = list-none g t (shape-none t r h e) in (ap (fated length) q, subst (λ (x : Fate (List A)). Kept x old old) q tt)
+
+  -- one without items
+  pub kept-blank : r ≡ Blank → (fine 0 ≡ fated length (listBy g t)) × Kept (listBy g t) old old
+  kept-blank e = let (b, f, o) = shape-blank t r h e in let q = list-blank g t b f o in (ap (fated length) q, subst (λ (x : Fate (List A)). Kept x old old) q (sym (take-length old)))
+
+  -- one with items
+  pub kept-full : r ≡ Full → (a : Fate ℕ) (new : List A) → a ≡ fated length (itemsFrom (suc (length (take (length t - 1 - 1) (drop 1 t)))) g 0 (take (length t - 1 - 1) (drop 1 t)))
+      → Kept (itemsFrom (suc (length (take (length t - 1 - 1) (drop 1 t)))) g 0 (take (length t - 1 - 1) (drop 1 t))) old new → (shifted 1 a ≡ fated length (listBy g t)) × Kept (listBy g t) old new
+  kept-full e a new k l =
+      let (n, f, o) = shape-full t r h e in
+      let q = list-full g t (take (length t - 1 - 1) (drop 1 t)) f o in
+      (told-full length g t r h e a k, subst (λ (x : Fate (List A)). Kept x old new) q (kept-shifted 1 (itemsFrom (suc (length (take (length t - 1 - 1) (drop 1 t)))) g 0 (take (length t - 1 - 1) (drop 1 t))) old new l))
+
+-- what is kept of a list that reads is its values, where there are no more of them
+pub kept-held : {A : Type 0} (x : Fate (List A)) (vs old new : List A) → x ≡ fine vs → Kept x old new → Held x new
+kept-held {A} x vs old new e k = subst (λ (y : Fate (List A)). Held y new) (sym e) (go (subst (λ (y : Fate (List A)). Kept y old new) e k))
+  where
+    go : new ≡ take (length old) (filled vs old) → length vs ≤ length new → take (length vs) new ≡ vs
+    go h l =
+        let m : length vs ≤ length old = omega (arith, l, ap length h, held-length vs old) in
+        ap (take (length vs)) h ∙ take-take (length vs) (length old) (filled vs old) m ∙ take-at vs (drop (length vs) old) (length vs) refl
+
+-- a list that is counted reads
+pub counted-reads : {A : Type 0} (x : Fate (List A)) (n : ℕ) → fine n ≡ fated length x → (vs : List A) × (x ≡ fine vs) × (n ≡ length vs)
+counted-reads (fine vs) n e = (vs, refl, cc)
+counted-reads (faulty k o) n e = clash (cc)
+
+-- What is told of a list from its count.
+module _ {A : Type 0} (x : Fate (List A)) (room : ℕ) (out : List A) where
+  -- its count, tested
+  tested : (a : Fate ℕ) → a ≡ fated length x → roomed (λ n. leb n room) 0 a ≡ countOf (roomed (fitsIn room) 0 x)
+  tested a e = ap (roomed (λ (n : ℕ). leb n room) 0) e ∙ roomed-told length (λ (n : ℕ). leb n room) 0 x
+
+  -- a bad item
+  pub kept-bad : (n o : ℕ) → faulty n o ≡ fated length x → (bad (refusal n 0 o) ≡ countOf (roomed (fitsIn room) 0 x)) × (out ≡ written (roomed (fitsIn room) 0 x) out)
+  kept-bad n o e =
+      let q = roomed-bad (λ (n : ℕ). leb n room) n o (fated length x) e ∙ tested (fated length x) refl in
+      (q, room-refused x room (refusal n 0 o) out q)
+
+  -- too many items
+  pub kept-short : (n : ℕ) → fine n ≡ fated length x → room < n → (bad (refusal 16 0 0) ≡ countOf (roomed (fitsIn room) 0 x)) × (out ≡ written (roomed (fitsIn room) 0 x) out)
+  kept-short n e h =
+      let q = ap (λ (k : Bool). pick k (good n) (bad (refusal 16 0 0))) (sym (lt-leb n room h)) ∙ tested (fine n) e in
+      (q, room-refused x room (refusal 16 0 0) out q)
+
+  -- a list that fits
+  pub kept-fits : (n : ℕ) (w : List A) → fine n ≡ fated length x → n ≤ room → w ≡ filled (valuesOf x) out → (good n ≡ countOf (roomed (fitsIn room) 0 x)) × (w ≡ written (roomed (fitsIn room) 0 x) out)
+  kept-fits n w e h k =
+      let q = ap (λ (k : Bool). pick k (good n) (bad (refusal 16 0 0))) (sym (le-leb n room h)) ∙ tested (fine n) e in
+      (q, room-written x room n out w q k)
+
+-- it is ready to be written, and what was kept of it is held
+pub kept-ready : {A : Type 0} (x : Fate (List A)) (room n : ℕ) (old new : List A) → fine n ≡ fated length x → n ≤ room → Kept x old new → Ready x room × ((n ≡ length (valuesOf x)) × Held x new)
+kept-ready x room n old new e h k =
+    let (vs, q, c) = counted-reads x n e in
+    let v : valuesOf x ≡ vs = ap valuesOf q in
+    ((q ∙ ap fine (sym v), omega (arith, c, ap length v)), (c ∙ sym (ap length v), kept-held x vs old new q k))
+
+-- one value more is copied
+pub copy-store : {A : Type 0} (s out : List A) (i : ℕ) (z : A) → i < length s → i < length out → set (take i s ++ drop i out) i (getD s i z) ≡ take (i + 1) s ++ drop (i + 1) out
+copy-store {A} s out i z h k =
+    let d : drop i out ≡ getD out i z ∷ drop (i + 1) out = rw add-one (drop-cons out i z k) in
+    let t : take (i + 1) s ≡ take i s ++ (getD s i z ∷ []) = rw add-one (take-suc s i z h) in
+    ap (λ (x : List A). set (take i s ++ x) i (getD s i z)) d
+    ∙ set-at (take i s) (getD out i z) (drop (i + 1) out) (getD s i z) i (length-take-le i s (omega arith))
+    ∙ sym (ap (λ (x : List A). x ++ drop (i + 1) out) t ∙ append-assoc (take i s) (getD s i z ∷ []) (drop (i + 1) out))
+
+-- the lent list is as long as it was
+pub copy-length : {A : Type 0} (s out w : List A) (i : ℕ) → i ≤ length s → i ≤ length out → w ≡ take i s ++ drop i out → length w ≡ length out
+copy-length s out w i h k e = ap length e ∙ length-append (take i s) (drop i out) ∙ omega (arith, h, k, length-take-le i s h, length-drop i out)
+
+-- Lists told by h, as a lent list of reals is by their bits.
+module _ {A B : Type 0} (h : A → B) where
+  -- its first values
+  pub map-take : (n : ℕ) (l : List A) → map h (take n l) ≡ take n (map h l)
+  map-take zero l = refl
+  map-take (suc n) [] = refl
+  map-take (suc n) (a ∷ l) = ap (λ (x : List B). h a ∷ x) (map-take n l)
+
+  -- the others
+  pub map-drop : (n : ℕ) (l : List A) → map h (drop n l) ≡ drop n (map h l)
+  map-drop zero l = refl
+  map-drop (suc n) [] = refl
+  map-drop (suc n) (a ∷ l) = map-drop n l
+
+  -- all values are copied from where they are held
+  pub copy-held : (x : Fate (List B)) (first out w : List A) (n : ℕ) → n ≡ length (valuesOf x) → n ≤ length first → Held x (map h first) → w ≡ take n first ++ drop n out → map h w ≡ filled (valuesOf x) (map h out)
+  copy-held x first out w n c l k e =
+      let t : take n (map h first) ≡ valuesOf x = ap (λ (m : ℕ). take m (map h first)) c ∙ k (omega (arith, length-map first h)) in
+      ap (map h) e ∙ map-append h (take n first) (drop n out) ∙ ap (λ (l : List B). l ++ map h (drop n out)) (map-take n first ∙ t)
+      ∙ ap (λ (l : List B). valuesOf x ++ l) (map-drop n out ∙ ap (λ (m : ℕ). drop m (map h out)) c)
