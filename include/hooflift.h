@@ -56,8 +56,8 @@ enum {
 /* ---- a file's tables */
 
 /* What a file needs: needs[0] header rows, needs[1] data rows, which is how many id slots, needs[2] the largest id, needs[3] how many numbers a
- * list or a grid of its records can have, and how many rows a grid; the others are free for later. Rooms of these sizes suffice, and fewer
- * rows do not. A file that no room helps is refused here as it is in `hooflift_open`, with the reason of refusal 7 in `reason`. `needs` of
+ * list or a grid of its records can have, and how many rows a grid, needs[4] how many bytes the longest text of a parameter has; the others
+ * are free for later. Rooms of these sizes suffice, and fewer rows do not. A file that no room helps is refused here as it is in `hooflift_open`, with the reason of refusal 7 in `reason`. `needs` of
  * fewer than HOOFLIFT_NEEDS numbers stays as it was.
  * 01: "8 is given exactly when a record has been read whole and the lent rows of its kind (or id slots, one a record) are already used up". */
 uint8_t hooflift_needs(const uint8_t *file, size_t file_len, uint64_t *needs, size_t needs_len, uint8_t *reason, size_t *fault);

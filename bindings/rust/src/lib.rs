@@ -45,6 +45,37 @@ pub struct Units {
     pub resolved: bool,
 }
 
+/// What a file needs: how many rows of each kind its tables take, and how large the rooms for its lists and texts.
+#[derive(Debug, Clone, Copy, PartialEq, Eq)]
+pub struct Needs {
+    pub headers: u64,
+    pub records: u64,
+    pub max_id: u64,
+    /// How many numbers a list or a grid can have, and how many rows a grid.
+    pub items: u64,
+    /// How many bytes the longest text has.
+    pub text: u64,
+}
+
+/// Tells what a file needs, without reading it into tables.
+///
+/// ```
+/// let needs = hooflift::needs(b"ISO-10303-21;DATA;#1=A((1.,2.,3.),'it''s');#2=(B('\\X\\C4')C());ENDSEC;")?;
+/// assert_eq!((needs.headers, needs.records, needs.items, needs.text), (0, 2, 4, 4));
+/// # Ok::<(), hooflift::Error>(())
+/// ```
+pub fn needs(file: &[u8]) -> Result<Needs> {
+    let mut numbers = [0; 8];
+    let (mut reason, mut place) = (0, 0);
+    match raw::hooflift_needs(file, &mut numbers, &mut reason, &mut place) {
+        0 => {
+            let [headers, records, max_id, items, text, ..] = numbers;
+            Ok(Needs { headers, records, max_id, items, text })
+        }
+        number => Err(Error::Refused(Refusal { number, reason, place })),
+    }
+}
+
 /// A file and its tables.
 #[derive(Debug, Clone)]
 pub struct Step<'f> {
@@ -63,20 +94,16 @@ impl<'f> Step<'f> {
     /// assert_eq!(error.to_string(), "refused 7/2@18: bad record: no #");
     /// ```
     pub fn open(file: &'f [u8]) -> Result<Step<'f>> {
-        let (mut needs, mut tables) = ([0; 8], [0; 16]);
+        let needs = needs(file)?;
+        let mut tables = [0; 16];
         let (mut reason, mut place) = (0, 0);
-        let refused = |number, reason, place| Err(Error::Refused(Refusal { number, reason, place }));
-        match raw::hooflift_needs(file, &mut needs, &mut reason, &mut place) {
-            0 => {}
-            number => return refused(number, reason, place),
-        }
         let size = |count: u64, each: usize| usize::try_from(count).ok().and_then(|n| n.checked_mul(each)).ok_or(Error::NoMemory);
-        let mut headers = room(size(needs[0], 4)?, 0)?;
-        let mut rows = room(size(needs[1], 6)?, 0)?;
-        let mut slots = room(size(needs[1], 1)?, 0)?;
+        let mut headers = room(size(needs.headers, 4)?, 0)?;
+        let mut rows = room(size(needs.records, 6)?, 0)?;
+        let mut slots = room(size(needs.records, 1)?, 0)?;
         match raw::hooflift_open(file, &mut headers, &mut rows, &mut slots, &mut tables, &mut reason, &mut place) {
             0 => Ok(Step { file, headers, rows, slots, tables }),
-            number => refused(number, reason, place),
+            number => Err(Error::Refused(Refusal { number, reason, place })),
         }
     }
 

@@ -6,9 +6,9 @@ use Rattle.error.specs.Refusal.{Refusal, Told, good, bad}
 use Rattle.needs.specs.declared.Needs.{Needs}
 use Rattle.plain.specs.Numbers.{putIn}
 
--- header rows, data rows, the largest id, and how many items a list or a grid can have
+-- header rows, data rows, the largest id, how many items a list or a grid can have, and the longest text
 abbrev pub needNumbers : Needs → List ℕ
-needNumbers c = c .headers ∷ c .records ∷ c .max ∷ c .items ∷ []
+needNumbers c = c .headers ∷ c .records ∷ c .max ∷ c .items ∷ c .text ∷ []
 
 -- the lent numbers afterwards: they need room for eight, and a refusal leaves them as they were
 abbrev pub needsAfter : Told Needs → List ℕ → List ℕ

@@ -18,11 +18,12 @@ fn put_needs(out: &mut [u64], n: Needs)
     out[1] = n.records as u64;
     out[2] = n.max as u64;
     out[3] = n.items as u64;
+    out[4] = n.text as u64;
 }
 
-// Tells what a file needs: 0, with how many header rows, how many data rows, which is how many id slots, the largest id, and how many numbers
-// or rows a list or a grid can have, in the first of eight numbers; or the refusal's number, with its reason and place. Fewer than eight lent
-// numbers stay as they were.
+// Tells what a file needs: 0, with how many header rows, how many data rows, which is how many id slots, the largest id, how many numbers or
+// rows a list or a grid can have, and how long a text, in the first of eight numbers; or the refusal's number, with its reason and place.
+// Fewer than eight lent numbers stay as they were.
 #[no_mangle]
 pub extern "C" fn hooflift_needs(
     file: &[u8],

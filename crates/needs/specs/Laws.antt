@@ -19,12 +19,13 @@ use Rattle.scan.specs.File.{Table, table, withHeader, withRecord, taken, readFr
 use Rattle.scan.specs.Table.{Counts, countsOf}
 use Rattle.scan.specs.Roomy.{refusal-roomy}
 use Rattle.lex.specs.Right.Steps.{clash}
+use Rattle.lengths.specs.Lengths.{recordTexts}
 use Rattle.needs.specs.declared.Needs.{Needs}
-use Rattle.needs.specs.Needs.{commasOf, itemsIn, headItems, rowItems, needs, needsIn, needsOf}
+use Rattle.needs.specs.Needs.{commasOf, itemsIn, headItems, rowItems, headTexts, rowTexts, needs, needsIn, needsOf}
 
 -- needs before those of the rest of the file
-abbrev pub plus : ℕ → ℕ → ℕ → ℕ → Needs → Needs
-plus h r m n c = needs (h + c .headers) (r + c .records) (max m (c .max)) (max n (c .items))
+abbrev pub plus : ℕ → ℕ → ℕ → ℕ → ℕ → Needs → Needs
+plus h r m n x c = needs (h + c .headers) (r + c .records) (max m (c .max)) (max n (c .items)) (max x (c .text))
 
 -- one turn of the reading, while statements may be left
 unrolled : (k : ℕ) (s : List ℕ) (H R : ℕ) (sec : Section) (h r : ℕ) (xs : List ℕ) → 0 < k
@@ -33,12 +34,12 @@ unfolding readFrom
 unrolled zero s H R sec h r xs p = absurd (omega arith)
 unrolled (suc k) s H R sec h r xs p = let e : suc k - 1 ≡ k = omega arith in rw e refl
 
--- the counting so far: h and r rows, the largest id and the most items up to the place i, and what is left gives the rest
-pub record Counting (s : List ℕ) (i : ℕ) (sec : Section) (h r m n : ℕ) : Type 0 where
+-- the counting so far: h and r rows, the largest id, the most items and the longest text up to the place i, and what is left gives the rest
+pub record Counting (s : List ℕ) (i : ℕ) (sec : Section) (h r m n x : ℕ) : Type 0 where
   pub fuel : ℕ
   pub within : i ≤ length s
   pub enough : length s - i < fuel
-  pub same : mapped (λ t. plus h r m n (needsIn s t)) (readFrom fuel s (length s) (length s) sec h r (drop i s)) ≡ mapped (needsIn s) (readingOf s (length s) (length s))
+  pub same : mapped (λ t. plus h r m n x (needsIn s t)) (readFrom fuel s (length s) (length s) sec h r (drop i s)) ≡ mapped (needsIn s) (readingOf s (length s) (length s))
   pub hroom : h ≤ i
   pub rroom : r ≤ i
 
@@ -47,37 +48,42 @@ max-none : (k : ℕ) → max 0 k ≡ k
 max-none k = omega arith
 
 -- needs that are the same number by number
-same-needs : {h r m n h′ r′ m′ n′ : ℕ} → h ≡ h′ → r ≡ r′ → m ≡ m′ → n ≡ n′ → needs h r m n ≡ needs h′ r′ m′ n′
-same-needs a b c d = λ i. record { headers = a i; records = b i; max = c i; items = d i }
+same-needs : {h r m n x h′ r′ m′ n′ x′ : ℕ} → h ≡ h′ → r ≡ r′ → m ≡ m′ → n ≡ n′ → x ≡ x′ → needs h r m n x ≡ needs h′ r′ m′ n′ x′
+same-needs a b c d e = λ i. record { headers = a i; records = b i; max = c i; items = d i; text = e i }
+
+-- the greatest of a header record's and of what follows, and of a data record's
+first-most : (n i a b : ℕ) → max n (max (max i a) b) ≡ max (max n i) (max a b)
+first-most n i a b = omega arith
+
+later-most : (n i a b : ℕ) → max n (max a (max i b)) ≡ max (max n i) (max a b)
+later-most n i a b = omega arith
 
 -- nothing before
-plus-none : (s : List ℕ) (x : Told Table) → mapped (λ t. plus 0 0 0 0 (needsIn s t)) x ≡ mapped (needsIn s) x
-plus-none s (good t) = ap good (same-needs (omega arith) (omega arith) (max-none (largest (t .records))) (max-none (max (headItems s (t .headers)) (rowItems s (t .records)))))
+plus-none : (s : List ℕ) (y : Told Table) → mapped (λ t. plus 0 0 0 0 0 (needsIn s t)) y ≡ mapped (needsIn s) y
+plus-none s (good t) = ap good (same-needs (omega arith) (omega arith) (max-none (largest (t .records))) (max-none (max (headItems s (t .headers)) (rowItems s (t .records)))) (max-none (max (headTexts s (t .headers)) (rowTexts s (t .records)))))
 plus-none s (bad q) = refl
 
 -- one header row more
-plus-header : (s : List ℕ) (h r m n : ℕ) (w : HeaderRow) (x : Told Table) → mapped (λ t. plus h r m n (needsIn s t)) (mapped (withHeader w) x) ≡ mapped (λ t. plus (h + 1) r m (max n (itemsIn s (w .argStart) (w .argEnd))) (needsIn s t)) x
-unfolding headItems
-plus-header s h r m n w (good t) = ap good (same-needs (omega arith) refl refl (most (itemsIn s (w .argStart) (w .argEnd)) (headItems s (t .headers)) (rowItems s (t .records))))
-  where
-    most : (i a b : ℕ) → max n (max (max i a) b) ≡ max (max n i) (max a b)
-    most i a b = omega arith
-plus-header s h r m n w (bad q) = refl
+plus-header : (s : List ℕ) (h r m n x : ℕ) (w : HeaderRow) (y : Told Table)
+    → mapped (λ t. plus h r m n x (needsIn s t)) (mapped (withHeader w) y) ≡ mapped (λ t. plus (h + 1) r m (max n (itemsIn s (w .argStart) (w .argEnd))) (max x (recordTexts s (w .argStart) (w .argEnd) 0)) (needsIn s t)) y
+unfolding headItems headTexts
+plus-header s h r m n x w (good t) =
+    ap good (same-needs (omega arith) refl refl (first-most n (itemsIn s (w .argStart) (w .argEnd)) (headItems s (t .headers)) (rowItems s (t .records))) (first-most x (recordTexts s (w .argStart) (w .argEnd) 0) (headTexts s (t .headers)) (rowTexts s (t .records))))
+plus-header s h r m n x w (bad q) = refl
 
 -- one data row more
-plus-record : (s : List ℕ) (h r m n : ℕ) (w : Row) (x : Told Table) → mapped (λ t. plus h r m n (needsIn s t)) (mapped (withRecord w) x) ≡ mapped (λ t. plus h (r + 1) (max m (w .id)) (max n (itemsIn s (w .argStart) (w .argEnd))) (needsIn s t)) x
-unfolding largest rowItems
-plus-record s h r m n w (good t) = ap good (same-needs refl (omega arith) (biggest (w .id) (largest (t .records))) (most (itemsIn s (w .argStart) (w .argEnd)) (headItems s (t .headers)) (rowItems s (t .records))))
+plus-record : (s : List ℕ) (h r m n x : ℕ) (w : Row) (y : Told Table)
+    → mapped (λ t. plus h r m n x (needsIn s t)) (mapped (withRecord w) y) ≡ mapped (λ t. plus h (r + 1) (max m (w .id)) (max n (itemsIn s (w .argStart) (w .argEnd))) (max x (recordTexts s (w .argStart) (w .argEnd) (w .complex))) (needsIn s t)) y
+unfolding largest rowItems rowTexts
+plus-record s h r m n x w (good t) =
+    ap good (same-needs refl (omega arith) (biggest (w .id) (largest (t .records))) (later-most n (itemsIn s (w .argStart) (w .argEnd)) (headItems s (t .headers)) (rowItems s (t .records))) (later-most x (recordTexts s (w .argStart) (w .argEnd) (w .complex)) (headTexts s (t .headers)) (rowTexts s (t .records))))
   where
     biggest : (i a : ℕ) → max m (max i a) ≡ max (max m i) a
     biggest i a = omega arith
-
-    most : (i a b : ℕ) → max n (max a (max i b)) ≡ max (max n i) (max a b)
-    most i a b = omega arith
-plus-record s h r m n w (bad q) = refl
+plus-record s h r m n x w (bad q) = refl
 
 -- where the loop begins
-pub counting-starts : (s : List ℕ) → Counting s 0 Outside 0 0 0 0
+pub counting-starts : (s : List ℕ) → Counting s 0 Outside 0 0 0 0 0
 counting-starts s = record {
   fuel = length s + 1;
   within = omega arith;
@@ -87,16 +93,16 @@ counting-starts s = record {
   rroom = omega arith;
 }
 
-module _ (s : List ℕ) (i : ℕ) (sec : Section) (h r m n : ℕ) (g : Counting s i sec h r m n) where
+module _ (s : List ℕ) (i : ℕ) (sec : Section) (h r m n x : ℕ) (g : Counting s i sec h r m n x) where
   -- the whole counting, by the next statement
-  turn : (x : Stmt) → x ≡ statement s sec (drop i s)
-      → mapped (λ t. plus h r m n (needsIn s t)) (taken s (length s) (length s) h r x (λ sec h r t. readFrom (g .fuel - 1) s (length s) (length s) sec h r t)) ≡ mapped (needsIn s) (readingOf s (length s) (length s))
-  turn x e = rw (e, ← unrolled (g .fuel) s (length s) (length s) sec h r (drop i s) (omega (arith, g .enough))) (g .same)
+  turn : (y : Stmt) → y ≡ statement s sec (drop i s)
+      → mapped (λ t. plus h r m n x (needsIn s t)) (taken s (length s) (length s) h r y (λ sec h r t. readFrom (g .fuel - 1) s (length s) (length s) sec h r t)) ≡ mapped (needsIn s) (readingOf s (length s) (length s))
+  turn y e = rw (e, ← unrolled (g .fuel) s (length s) (length s) sec h r (drop i s) (omega (arith, g .enough))) (g .same)
 
   -- the file ends
-  pub counting-ends : ends ≡ statement s sec (drop i s) → good (needs h r m n) ≡ mapped (needsIn s) (readingOf s (length s) (length s))
-  unfolding largest headItems rowItems
-  counting-ends e = ap good (same-needs (omega arith) (omega arith) (omega arith) (least n)) ∙ turn ends e
+  pub counting-ends : ends ≡ statement s sec (drop i s) → good (needs h r m n x) ≡ mapped (needsIn s) (readingOf s (length s) (length s))
+  unfolding largest headItems rowItems headTexts rowTexts
+  counting-ends e = ap good (same-needs (omega arith) (omega arith) (omega arith) (least n) (least x)) ∙ turn ends e
     where
       least : (k : ℕ) → k ≡ max k (max 0 0)
       least k = omega arith
@@ -106,7 +112,7 @@ module _ (s : List ℕ) (i : ℕ) (sec : Section) (h r m n : ℕ) (g : Counting 
   counting-refused q e = turn (refused q) e
 
   -- a section word, or a record that is ignored
-  pub counting-moves : (to : Section) (j : ℕ) → moved to (drop j s) ≡ statement s sec (drop i s) → i < j → j ≤ length s → Counting s j to h r m n
+  pub counting-moves : (to : Section) (j : ℕ) → moved to (drop j s) ≡ statement s sec (drop i s) → i < j → j ≤ length s → Counting s j to h r m n x
   counting-moves to j e p q = record {
     fuel = g .fuel - 1;
     within = q;
@@ -117,23 +123,23 @@ module _ (s : List ℕ) (i : ℕ) (sec : Section) (h r m n : ℕ) (g : Counting 
   }
 
   -- a header record: there are never more rows than bytes
-  pub counting-header : (w : HeaderRow) (p j : ℕ) → header w (drop p s) (drop j s) ≡ statement s sec (drop i s) → i < j → j ≤ length s → Counting s j InHeader (h + 1) r m (max n (itemsIn s (w .argStart) (w .argEnd)))
+  pub counting-header : (w : HeaderRow) (p j : ℕ) → header w (drop p s) (drop j s) ≡ statement s sec (drop i s) → i < j → j ≤ length s → Counting s j InHeader (h + 1) r m (max n (itemsIn s (w .argStart) (w .argEnd))) (max x (recordTexts s (w .argStart) (w .argEnd) 0))
   counting-header w p j e a b = record {
     fuel = g .fuel - 1;
     within = b;
     enough = omega (arith, g .enough);
-    same = sym (plus-header s h r m n w (readFrom (g .fuel - 1) s (length s) (length s) InHeader (h + 1) r (drop j s))) ∙ rw (lt-ltb h (length s) (omega (arith, g .hroom))) at (turn (header w (drop p s) (drop j s)) e);
+    same = sym (plus-header s h r m n x w (readFrom (g .fuel - 1) s (length s) (length s) InHeader (h + 1) r (drop j s))) ∙ rw (lt-ltb h (length s) (omega (arith, g .hroom))) at (turn (header w (drop p s) (drop j s)) e);
     hroom = omega (arith, g .hroom);
     rroom = omega (arith, g .rroom);
   }
 
   -- a data record
-  pub counting-record : (w : Row) (p j : ℕ) → record′ w (drop p s) (drop j s) ≡ statement s sec (drop i s) → i < j → j ≤ length s → Counting s j InData h (r + 1) (max m (w .id)) (max n (itemsIn s (w .argStart) (w .argEnd)))
+  pub counting-record : (w : Row) (p j : ℕ) → record′ w (drop p s) (drop j s) ≡ statement s sec (drop i s) → i < j → j ≤ length s → Counting s j InData h (r + 1) (max m (w .id)) (max n (itemsIn s (w .argStart) (w .argEnd))) (max x (recordTexts s (w .argStart) (w .argEnd) (w .complex)))
   counting-record w p j e a b = record {
     fuel = g .fuel - 1;
     within = b;
     enough = omega (arith, g .enough);
-    same = sym (plus-record s h r m n w (readFrom (g .fuel - 1) s (length s) (length s) InData h (r + 1) (drop j s))) ∙ rw (lt-ltb r (length s) (omega (arith, g .rroom))) at (turn (record′ w (drop p s) (drop j s)) e);
+    same = sym (plus-record s h r m n x w (readFrom (g .fuel - 1) s (length s) (length s) InData h (r + 1) (drop j s))) ∙ rw (lt-ltb r (length s) (omega (arith, g .rroom))) at (turn (record′ w (drop p s) (drop j s)) e);
     hroom = omega (arith, g .hroom);
     rroom = omega (arith, g .rroom);
   }

@@ -14,6 +14,7 @@ use Rattle.statement.specs.Row.{Row, HeaderRow, mapped}
 use Rattle.scan.specs.File.{Table, scanOf, largest}
 use Rattle.scan.specs.Table.{Counts, countsOf}
 use Rattle.scan.specs.Rooms.{scan-roomy, scan-fit}
+use Rattle.lengths.specs.Lengths.{recordTexts}
 use Rattle.needs.specs.declared.Needs.{Needs}
 use Rattle.needs.specs.declared.Needed as NeededCode
 
@@ -36,13 +37,24 @@ unfoldable pub rowItems : List ℕ → List Row → ℕ
 rowItems s [] = 0
 rowItems s (w ∷ ws) = max (itemsIn s (w .argStart) (w .argEnd)) (rowItems s ws)
 
--- such needs by their numbers
-abbrev pub needs : ℕ → ℕ → ℕ → ℕ → Needs
-needs h r m n = record { headers = h; records = r; max = m; items = n }
+-- the longest text of header records
+unfoldable pub headTexts : List ℕ → List HeaderRow → ℕ
+headTexts s [] = 0
+headTexts s (w ∷ ws) = max (recordTexts s (w .argStart) (w .argEnd) 0) (headTexts s ws)
 
--- what a table needs: its rows of both kinds, the largest id, and the most items that the arguments of any of its records can have
+-- the longest text of data records
+unfoldable pub rowTexts : List ℕ → List Row → ℕ
+rowTexts s [] = 0
+rowTexts s (w ∷ ws) = max (recordTexts s (w .argStart) (w .argEnd) (w .complex)) (rowTexts s ws)
+
+-- such needs by their numbers
+abbrev pub needs : ℕ → ℕ → ℕ → ℕ → ℕ → Needs
+needs h r m n x = record { headers = h; records = r; max = m; items = n; text = x }
+
+-- what a table needs: its rows of both kinds, the largest id, the most items that the arguments of any of its records can have, and the
+-- longest text of any of their parameters
 abbrev pub needsIn : List ℕ → Table → Needs
-needsIn s t = needs (length (t .headers)) (length (t .records)) (largest (t .records)) (max (headItems s (t .headers)) (rowItems s (t .records)))
+needsIn s t = needs (length (t .headers)) (length (t .records)) (largest (t .records)) (max (headItems s (t .headers)) (rowItems s (t .records))) (max (headTexts s (t .headers)) (rowTexts s (t .records)))
 
 -- what the code's answer says
 abbrev pub toldNeeded : NeededCode.Needed → Told Needs

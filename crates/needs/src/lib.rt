@@ -1,6 +1,6 @@
-// What a file needs of lent memory, told before anything is lent: its rows are counted and not written, and so are the items of its lists.
+// What a file needs of lent memory, told before anything is lent: its rows are counted and not written, and so are the items of its lists and the bytes of its texts.
 //
-// A host asks this once, lends tables and lists of just this size, and no function then answers 8, nor 16 for a list or a grid.
+// A host asks this once, lends tables and lists of just this size, and no function then answers 8, nor 16 for a list, a grid or a text.
 ghost use mathlib.Core.Path.{_≡_};
 ghost use Prim.Native.Nat.{_≤_, max};
 ghost use lib.ListN.{length};
@@ -14,12 +14,13 @@ use scan::Scanned;
 use statement::Said;
 use statement::Section;
 
-// How many header rows and data rows, the largest id, and how many items a list or a grid can have.
+// How many header rows and data rows, the largest id, how many items a list or a grid can have, and the longest text.
 pub struct Needs {
     pub headers: usize,
     pub records: usize,
     pub max: u32,
     pub items: usize,
+    pub text: usize,
 }
 
 // What a file needs, or why it is refused.
@@ -86,9 +87,10 @@ fn pass(s: &[u8]) -> Needed
     let mut records: usize = 0;
     let mut max: u32 = 0;
     let mut items: usize = 0;
+    let mut text: usize = 0;
     loop {
         match statement::next_statement(s, i, section) {
-            Said::Ends => return found(headers, records, max, items),
+            Said::Ends => return found(headers, records, max, items, text),
             Said::Refuses(f) => return Needed::Refused(f),
             Said::Moves(to, next) => {
                 section = to;
@@ -98,6 +100,10 @@ fn pass(s: &[u8]) -> Needed
                 section = Section::InHeader;
                 headers += 1;
                 items = larger(items, items_in(s, span.args.start, span.args.end));
+                text = larger(
+                    text,
+                    lengths::record_text(s, span.args.start, span.args.end, 0),
+                );
                 i = next;
             }
             Said::Records(span, _, next) => {
@@ -105,20 +111,25 @@ fn pass(s: &[u8]) -> Needed
                 records += 1;
                 max = greater(max, span.id);
                 items = larger(items, items_in(s, span.args.start, span.args.end));
+                text = larger(
+                    text,
+                    lengths::record_text(s, span.args.start, span.args.end, span.complex),
+                );
                 i = next;
             }
         }
     }
 }
 
-fn found(headers: usize, records: usize, max: u32, items: usize) -> Needed
-    ensures { λ r. ⌜ r ≡ Needed.Is (record { headers = headers; records = records; max = max; items = items }) ⌝ }
+fn found(headers: usize, records: usize, max: u32, items: usize, text: usize) -> Needed
+    ensures { λ r. ⌜ r ≡ Needed.Is (record { headers = headers; records = records; max = max; items = items; text = text }) ⌝ }
 {
     Needed::Is(Needs {
         headers,
         records,
         max,
         items,
+        text,
     })
 }
 

@@ -16,49 +16,49 @@ use Rattle.error.proofs.reason.Reads as reason-reads
 use Rattle.export_needs.proofs.put_needs.Reads as put-needs-reads
 use Rattle.needs.proofs.count.Reads as count-reads
 
--- src/lib.rt:37:11
+-- src/lib.rt:38:11
 count-requires : tie.Need-count-requires
 count-requires c κs = search needs
 
--- src/lib.rt:38:20
+-- src/lib.rt:39:20
 enum-known-n : tie.Need-enum-known-n
 enum-known-n c = search needs
 
--- src/lib.rt:39:13
+-- src/lib.rt:40:13
 put-needs-requires : tie.Need-put-needs-requires
 put-needs-requires c κs = search needs
 
--- src/lib.rt:42:25
+-- src/lib.rt:43:25
 enum-known-f : tie.Need-enum-known-f
 enum-known-f c = search needs
 
--- src/lib.rt:43:23
+-- src/lib.rt:44:23
 reason-requires : tie.Need-reason-requires
 reason-requires c κs = search needs
 
--- src/lib.rt:44:22
+-- src/lib.rt:45:22
 place-requires : tie.Need-place-requires
 place-requires c κs = search needs
 
--- src/lib.rt:45:13
+-- src/lib.rt:46:13
 number-requires : tie.Need-number-requires
 number-requires c κs = search needs
 
--- src/lib.rt:26:1
+-- src/lib.rt:27:1
 same-length : tie.Need-same-length
 same-length c = search needs
 
--- src/lib.rt:26:1
+-- src/lib.rt:27:1
 returns : tie.Need-returns
-returns c =
+returns c = 
     let k = c .before .before .before .before .before .before .before in
     let a = c .before .before .before .before .before .before .before .before .before .before .args in
     let e = ap toldNeeded (sym (c .before .before .before .before .before .n .given .1)) ∙ k .count .ensures in
     (tells-good e, (c .before .before .put-needs .ensures ∙ ap (λ (r : Told Needs). needsAfter r (now (a .needs))) e, ap (λ (r : Told Needs). needsReason r (now (a .reason))) e))
 
--- src/lib.rt:26:1
+-- src/lib.rt:27:1
 returns-2 : tie.Need-returns-2
-returns-2 c =
+returns-2 c = 
     let k = c .before .before .before .before .before .before in
     let a = c .before .before .before .before .before .before .before .before .before .args in
     let e = ap toldNeeded (sym (c .before .before .before .before .f .given .1)) ∙ k .count .ensures in

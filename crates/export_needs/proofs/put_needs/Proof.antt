@@ -32,6 +32,10 @@ slice-write-out-3 c = simp length-set (omega arith)
 slice-write-out-4 : tie.Need-slice-write-out-4
 slice-write-out-4 c = simp length-set (omega arith)
 
+-- src/lib.rt:21:5
+slice-write-out-5 : tie.Need-slice-write-out-5
+slice-write-out-5 c = simp length-set (omega arith)
+
 -- src/lib.rt:11:1
 same-length : tie.Need-same-length
 same-length c = search needs
@@ -50,5 +54,6 @@ put-needs-spec =
     cast-out
     slice-write-out-3
     slice-write-out-4
+    slice-write-out-5
     same-length
     returns-2)

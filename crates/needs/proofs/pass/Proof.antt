@@ -10,6 +10,7 @@ use Rattle.needs.proofs.pass.Statement.{statement}
 use Rattle.needs.proofs.pass.Tie as tie
 use Rattle.needs.proofs.pass.Reads as reads
 use Rattle.needs.proofs.pass.Lts as lts
+use Rattle.lengths.proofs.record_text.Reads as record-text-reads
 use Rattle.needs.proofs.found.Reads as found-reads
 use Rattle.needs.proofs.greater.Reads as greater-reads
 use Rattle.needs.proofs.items_in.Reads as items-in-reads
@@ -17,54 +18,54 @@ use Rattle.needs.proofs.larger.Reads as larger-reads
 use Rattle.statement.proofs.next_statement.Reads as next-statement-reads
 
 abbrev Inv-loop : tie.InvT-loop
-Inv-loop s i₀ section₀ headers₀ records₀ max₀ items₀ i section headers records max items = Counting s i section headers records max items
+Inv-loop s i₀ section₀ headers₀ records₀ max₀ items₀ text₀ i section headers records max items text = Counting s i section headers records max items text
 
 abbrev μ-loop : tie.MeasureT-loop
-μ-loop s i₀ section₀ headers₀ records₀ max₀ items₀ i section headers records max items = length s - i
+μ-loop s i₀ section₀ headers₀ records₀ max₀ items₀ text₀ i section headers records max items text = length s - i
 
--- src/lib.rt:88:5
+-- src/lib.rt:91:5
 loop-holds : tie.Need-loop-holds Inv-loop μ-loop
 loop-holds c = counting-starts (now (c .before .args .s))
 
--- src/lib.rt:89:15
+-- src/lib.rt:92:15
 next-statement-requires : tie.Need-next-statement-requires Inv-loop μ-loop
 next-statement-requires c κs = search needs
 
--- src/lib.rt:90:27
+-- src/lib.rt:93:27
 enum-told : tie.Need-enum-told Inv-loop μ-loop
 enum-told c = search needs
 
--- src/lib.rt:90:27
+-- src/lib.rt:93:27
 found-requires : tie.Need-found-requires Inv-loop μ-loop
 found-requires c κs = search needs
 
--- src/lib.rt:90:27
+-- src/lib.rt:93:27
 returns : tie.Need-returns Inv-loop μ-loop
 returns c =
     let n = c .before .before .before in
     let t = n .before in
     let a = t .before .before .args in
     let v = c .before .enum-told in
-    rw (c .found .ensures) (counting-ends _ _ _ _ _ _ _ (t .loop .inv) (sym (ap (toldSaid (now (a .s))) (v .given .1)) ∙ n .next-statement .ensures .0))
+    rw (c .found .ensures) (counting-ends _ _ _ _ _ _ _ _ (t .loop .inv) (sym (ap (toldSaid (now (a .s))) (v .given .1)) ∙ n .next-statement .ensures .0))
 
--- src/lib.rt:91:27
+-- src/lib.rt:94:27
 enum-known-f : tie.Need-enum-known-f Inv-loop μ-loop
 enum-known-f c = search needs
 
--- src/lib.rt:91:33
+-- src/lib.rt:94:33
 returns-2 : tie.Need-returns-2 Inv-loop μ-loop
 returns-2 c =
     let n = c .before .before .before in
     let t = n .before in
     let a = t .before .before .args in
     let v = c .before .f in
-    counting-refused _ _ _ _ _ _ _ (t .loop .inv) _ (sym (ap (toldSaid (now (a .s))) (v .given .1)) ∙ n .next-statement .ensures .0)
+    counting-refused _ _ _ _ _ _ _ _ (t .loop .inv) _ (sym (ap (toldSaid (now (a .s))) (v .given .1)) ∙ n .next-statement .ensures .0)
 
--- src/lib.rt:92:25
+-- src/lib.rt:95:25
 enum-known-to : tie.Need-enum-known-to Inv-loop μ-loop
 enum-known-to c = search needs
 
--- src/lib.rt:88:5
+-- src/lib.rt:91:5
 loop-less : tie.Need-loop-less Inv-loop μ-loop
 loop-less c =
     let n = c .before .before .before in
@@ -74,7 +75,7 @@ loop-less c =
     let w = rw (v .given .1) at (n .next-statement .ensures .1) in
     omega arith
 
--- src/lib.rt:88:5
+-- src/lib.rt:91:5
 loop-again : tie.Need-loop-again Inv-loop μ-loop
 loop-again c =
     let n = c .before .before .before in
@@ -82,13 +83,13 @@ loop-again c =
     let a = t .before .before .args in
     let v = c .before .to in
     let w = rw (v .given .1) at (n .next-statement .ensures .1) in
-    counting-moves _ _ _ _ _ _ _ (t .loop .inv) _ _ (sym (ap (toldSaid (now (a .s))) (v .given .1)) ∙ n .next-statement .ensures .0) (w .0) (w .1)
+    counting-moves _ _ _ _ _ _ _ _ (t .loop .inv) _ _ (sym (ap (toldSaid (now (a .s))) (v .given .1)) ∙ n .next-statement .ensures .0) (w .0) (w .1)
 
--- src/lib.rt:96:25
+-- src/lib.rt:99:25
 enum-known-span : tie.Need-enum-known-span Inv-loop μ-loop
 enum-known-span c = search needs
 
--- src/lib.rt:98:17
+-- src/lib.rt:101:17
 add-headers : tie.Need-add-headers Inv-loop μ-loop
 add-headers c =
     let n = c .before .before .before in
@@ -98,39 +99,47 @@ add-headers c =
     let w = rw (v .given .1) at (n .next-statement .ensures .1) in
     omega (arith, t .loop .inv .hroom)
 
--- src/lib.rt:99:39
+-- src/lib.rt:102:39
 items-in-requires : tie.Need-items-in-requires Inv-loop μ-loop
 items-in-requires c κs = search needs
 
--- src/lib.rt:99:17
+-- src/lib.rt:102:17
 larger-requires : tie.Need-larger-requires Inv-loop μ-loop
 larger-requires c κs = search needs
 
--- src/lib.rt:88:5
+-- src/lib.rt:105:21
+record-text-requires : tie.Need-record-text-requires Inv-loop μ-loop
+record-text-requires c κs = search needs
+
+-- src/lib.rt:103:17
+larger-requires-2 : tie.Need-larger-requires-2 Inv-loop μ-loop
+larger-requires-2 c κs = search needs
+
+-- src/lib.rt:91:5
 loop-less-2 : tie.Need-loop-less-2 Inv-loop μ-loop
 loop-less-2 c =
-    let n = c .before .before .before .before .before in
+    let n = c .before .before .before .before .before .before .before in
     let t = n .before in
     let a = t .before .before .args in
-    let v = c .before .before .before .span in
+    let v = c .before .before .before .before .before .span in
     let w = rw (v .given .1) at (n .next-statement .ensures .1) in
     omega arith
 
--- src/lib.rt:88:5
+-- src/lib.rt:91:5
 loop-again-2 : tie.Need-loop-again-2 Inv-loop μ-loop
 loop-again-2 c =
-    let n = c .before .before .before .before .before in
+    let n = c .before .before .before .before .before .before .before in
     let t = n .before in
     let a = t .before .before .args in
-    let v = c .before .before .before .span in
+    let v = c .before .before .before .before .before .span in
     let w = rw (v .given .1) at (n .next-statement .ensures .1) in
-    rw (c .larger .ensures, c .before .items-in .ensures) (counting-header _ _ _ _ _ _ _ (t .loop .inv) _ (v .given .0 .1 .0) _ (sym (ap (toldSaid (now (a .s))) (v .given .1)) ∙ n .next-statement .ensures .0) (w .0) (w .2))
+    rw (c .larger2 .ensures, c .before .record-text .ensures, c .before .before .larger .ensures, c .before .before .before .items-in .ensures) (counting-header _ _ _ _ _ _ _ _ (t .loop .inv) _ (v .given .0 .1 .0) _ (sym (ap (toldSaid (now (a .s))) (v .given .1)) ∙ n .next-statement .ensures .0) (w .0) (w .2))
 
--- src/lib.rt:102:27
+-- src/lib.rt:109:27
 enum-known-span-2 : tie.Need-enum-known-span-2 Inv-loop μ-loop
 enum-known-span-2 c = search needs
 
--- src/lib.rt:104:17
+-- src/lib.rt:111:17
 add-records : tie.Need-add-records Inv-loop μ-loop
 add-records c =
     let n = c .before .before .before in
@@ -140,37 +149,45 @@ add-records c =
     let w = rw (v .given .1) at (n .next-statement .ensures .1) in
     omega (arith, t .loop .inv .rroom)
 
--- src/lib.rt:105:17
+-- src/lib.rt:112:17
 greater-requires : tie.Need-greater-requires Inv-loop μ-loop
 greater-requires c κs = search needs
 
--- src/lib.rt:106:39
+-- src/lib.rt:113:39
 items-in-requires-2 : tie.Need-items-in-requires-2 Inv-loop μ-loop
 items-in-requires-2 c κs = search needs
 
--- src/lib.rt:106:17
-larger-requires-2 : tie.Need-larger-requires-2 Inv-loop μ-loop
-larger-requires-2 c κs = search needs
+-- src/lib.rt:113:17
+larger-requires-3 : tie.Need-larger-requires-3 Inv-loop μ-loop
+larger-requires-3 c κs = search needs
 
--- src/lib.rt:88:5
+-- src/lib.rt:116:21
+record-text-requires-2 : tie.Need-record-text-requires-2 Inv-loop μ-loop
+record-text-requires-2 c κs = search needs
+
+-- src/lib.rt:114:17
+larger-requires-4 : tie.Need-larger-requires-4 Inv-loop μ-loop
+larger-requires-4 c κs = search needs
+
+-- src/lib.rt:91:5
 loop-less-3 : tie.Need-loop-less-3 Inv-loop μ-loop
 loop-less-3 c =
-    let n = c .before .before .before .before .before .before in
+    let n = c .before .before .before .before .before .before .before .before in
     let t = n .before in
     let a = t .before .before .args in
-    let v = c .before .before .before .before .span2 in
+    let v = c .before .before .before .before .before .before .span2 in
     let w = rw (v .given .1) at (n .next-statement .ensures .1) in
     omega arith
 
--- src/lib.rt:88:5
+-- src/lib.rt:91:5
 loop-again-3 : tie.Need-loop-again-3 Inv-loop μ-loop
 loop-again-3 c =
-    let n = c .before .before .before .before .before .before in
+    let n = c .before .before .before .before .before .before .before .before in
     let t = n .before in
     let a = t .before .before .args in
-    let v = c .before .before .before .before .span2 in
+    let v = c .before .before .before .before .before .before .span2 in
     let w = rw (v .given .1) at (n .next-statement .ensures .1) in
-    rw (c .larger2 .ensures, c .before .items-in2 .ensures, c .before .before .greater .ensures) (counting-record _ _ _ _ _ _ _ (t .loop .inv) _ (v .given .0 .1 .0) _ (sym (ap (toldSaid (now (a .s))) (v .given .1)) ∙ n .next-statement .ensures .0) (w .0) (w .2))
+    rw (c .larger4 .ensures, c .before .record-text2 .ensures, c .before .before .larger3 .ensures, c .before .before .before .items-in2 .ensures, c .before .before .before .before .greater .ensures) (counting-record _ _ _ _ _ _ _ _ (t .loop .inv) _ (v .given .0 .1 .0) _ (sym (ap (toldSaid (now (a .s))) (v .given .1)) ∙ n .next-statement .ensures .0) (w .0) (w .2))
 
 pub pass-spec : {M : Type 1} → statement M
 pass-spec =
@@ -192,12 +209,16 @@ pass-spec =
     add-headers
     items-in-requires
     larger-requires
+    record-text-requires
+    larger-requires-2
     loop-less-2
     loop-again-2
     enum-known-span-2
     add-records
     greater-requires
     items-in-requires-2
-    larger-requires-2
+    larger-requires-3
+    record-text-requires-2
+    larger-requires-4
     loop-less-3
     loop-again-3)

@@ -1,0 +1,97 @@
+use borrow.Author.Needs.{needs}
+use Prim.Native.Nat.{max}
+use native.Mathlib.Omega.{arith}
+use mathlib.Core.Path.{_≡_, _∙_, sym, ap}
+use Rattle.parts.specs.Part.{toldNext}
+use Rattle.lengths.specs.Lengths.{partsFrom, partsOf, parts-more, parts-over, parts-bad, parts-none, part-end}
+use Rattle.lengths.proofs.parts_text.Statement.{statement}
+use Rattle.lengths.proofs.parts_text.Tie as tie
+use Rattle.lengths.proofs.parts_text.Reads as reads
+use Rattle.lengths.proofs.parts_text.Lts as lts
+use Rattle.lengths.proofs.args_text.Reads as args-text-reads
+use Rattle.lengths.proofs.larger.Reads as larger-reads
+use Rattle.parts.proofs.next_part.Reads as next-part-reads
+
+abbrev Inv-loop : tie.InvT-loop
+Inv-loop s place end at₀ most₀ left₀ at most left = max most (partsFrom left s at end) ≡ partsOf s place end
+
+abbrev μ-loop : tie.MeasureT-loop
+μ-loop s place end at₀ most₀ left₀ at most left = left
+
+-- src/lib.rt:59:5
+loop-holds : tie.Need-loop-holds Inv-loop μ-loop
+loop-holds c = omega arith
+
+-- src/lib.rt:60:15
+next-part-requires : tie.Need-next-part-requires Inv-loop μ-loop
+next-part-requires c κs = search needs
+
+-- src/lib.rt:61:27
+enum-told : tie.Need-enum-told Inv-loop μ-loop
+enum-told c = search needs
+
+-- src/lib.rt:61:27
+returns : tie.Need-returns Inv-loop μ-loop
+returns c = parts-over _ _ _ _ _ _ (c .before .before .before .before .loop .inv) (sym (ap toldNext (c .enum-told .given .1)) ∙ c .before .before .next-part .ensures)
+
+-- src/lib.rt:62:33
+enum-told-2 : tie.Need-enum-told-2 Inv-loop μ-loop
+enum-told-2 c = search needs
+
+-- src/lib.rt:62:33
+returns-2 : tie.Need-returns-2 Inv-loop μ-loop
+returns-2 c = parts-bad _ _ _ _ _ _ _ (c .before .before .before .before .loop .inv) (sym (ap toldNext (c .enum-told2 .given .1)) ∙ c .before .before .next-part .ensures)
+
+-- src/lib.rt:63:22
+enum-known-p : tie.Need-enum-known-p Inv-loop μ-loop
+enum-known-p c = search needs
+
+-- src/lib.rt:64:37
+args-text-requires : tie.Need-args-text-requires Inv-loop μ-loop
+args-text-requires c κs = search needs
+
+-- src/lib.rt:64:17
+larger-requires : tie.Need-larger-requires Inv-loop μ-loop
+larger-requires c κs = search needs
+
+-- src/lib.rt:65:22
+add-at : tie.Need-add-at Inv-loop μ-loop
+add-at c = let k = part-end _ _ _ _ (sym (ap toldNext (c .before .before .before .before .p .given .1)) ∙ c .before .before .before .before .before .before .next-part .ensures) in omega (arith, k)
+
+-- src/lib.rt:68:9
+sub-left : tie.Need-sub-left Inv-loop μ-loop
+sub-left c = omega (arith, c .before .before .before .before .before .before .before .loop-test .taken)
+
+-- src/lib.rt:59:5
+loop-less : tie.Need-loop-less Inv-loop μ-loop
+loop-less c = omega (arith, c .before .before .before .before .before .before .before .loop-test .taken)
+
+-- src/lib.rt:59:5
+loop-again : tie.Need-loop-again Inv-loop μ-loop
+loop-again c = rw (c .before .larger .ensures, c .before .before .args-text .ensures)
+    (parts-more _ _ _ _ _ _ _ (c .before .before .before .before .before .before .before .loop-test .taken) (c .before .before .before .before .before .before .before .before .loop .inv) (sym (ap toldNext (c .before .before .before .before .p .given .1)) ∙ c .before .before .before .before .before .before .next-part .ensures))
+
+-- src/lib.rt:53:1
+returns-3 : tie.Need-returns-3 Inv-loop μ-loop
+returns-3 c = parts-none _ _ _ _ _ _ (c .loop-test .left) (c .before .loop .inv)
+
+pub parts-text-spec : {M : Type 1} → statement M
+parts-text-spec =
+    tie.close
+    (tie.spec
+    Inv-loop
+    μ-loop
+    loop-holds
+    next-part-requires
+    enum-told
+    returns
+    enum-told-2
+    returns-2
+    enum-known-p
+    args-text-requires
+    larger-requires
+    add-at
+    sub-left
+    loop-less
+    loop-again
+    returns-3)
