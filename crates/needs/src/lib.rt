@@ -10,6 +10,7 @@ ghost use Rattle.statement.specs.Row.{mapped};
 ghost use Rattle.scan.specs.File.{readingOf};
 ghost use Rattle.needs.specs.Needs.{commasOf, itemsIn, needsIn, toldNeeded, needsOf};
 use error::Fault;
+use lengths::record_text;
 use scan::Scanned;
 use statement::Said;
 use statement::Section;
@@ -100,10 +101,7 @@ fn pass(s: &[u8]) -> Needed
                 section = Section::InHeader;
                 headers += 1;
                 items = larger(items, items_in(s, span.args.start, span.args.end));
-                text = larger(
-                    text,
-                    lengths::record_text(s, span.args.start, span.args.end, 0),
-                );
+                text = larger(text, record_text(s, span.args.start, span.args.end, 0));
                 i = next;
             }
             Said::Records(span, _, next) => {
@@ -113,7 +111,7 @@ fn pass(s: &[u8]) -> Needed
                 items = larger(items, items_in(s, span.args.start, span.args.end));
                 text = larger(
                     text,
-                    lengths::record_text(s, span.args.start, span.args.end, span.complex),
+                    record_text(s, span.args.start, span.args.end, span.complex),
                 );
                 i = next;
             }

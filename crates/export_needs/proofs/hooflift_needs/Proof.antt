@@ -50,7 +50,7 @@ same-length c = search needs
 
 -- src/lib.rt:27:1
 returns : tie.Need-returns
-returns c = 
+returns c =
     let k = c .before .before .before .before .before .before .before in
     let a = c .before .before .before .before .before .before .before .before .before .before .args in
     let e = ap toldNeeded (sym (c .before .before .before .before .before .n .given .1)) ∙ k .count .ensures in
@@ -58,7 +58,7 @@ returns c =
 
 -- src/lib.rt:27:1
 returns-2 : tie.Need-returns-2
-returns-2 c = 
+returns-2 c =
     let k = c .before .before .before .before .before .before in
     let a = c .before .before .before .before .before .before .before .before .before .args in
     let e = ap toldNeeded (sym (c .before .before .before .before .f .given .1)) ∙ k .count .ensures in
