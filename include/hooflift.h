@@ -6,9 +6,12 @@
  * function here has a precondition beyond this, and each is proved to answer for every input.
  *
  * Answers. Unless said otherwise a function answers 0; or the number of a refusal of document 01, 'Refusal numbers', 1 to 16; or
- * HOOFLIFT_NONE where there is nothing to tell. On a refusal, and on HOOFLIFT_NONE, all that the call would have told stays as it was,
- * but for `fault`, which is set to the refusal's place in the file ("A refusal returns only its number, reason and place; lent rows and
- * output keep their bytes, as does all room beyond an answer"). Functions without a `fault` refuse at place 0 alone.
+ * HOOFLIFT_NONE where there is nothing to tell. On a refusal, and on HOOFLIFT_NONE, all that the call would have told stays as it was
+ * ("A refusal returns only its number, reason and place; lent rows and output keep their bytes, as does all room beyond an answer"; of a
+ * lent float that is a NaN only that it is one). A refusal of document 01 sets `fault` to its place in the file, and `reason`, where
+ * there is one, to its reason, which is 0 but for 7; `hooflift_scan` puts both into `out`. Where a lent list of numbers (tables, ids, a row, a
+ * part) is shorter than the numbers that go into it, the answer is 16 and nothing at all is set: its place is 0, and so is that of
+ * every refusal of a function without a `fault`.
  *
  * Rows. A data row is six 32-bit numbers: id, keyword start and end (0, 0 if complex), argument start and end, complex 0 or 1. A header row
  * is four: keyword start and end, argument start and end. Places count bytes from the file's start, and an end is the place after the last.
@@ -112,7 +115,8 @@ uint32_t hooflift_kind(const uint8_t *file, size_t file_len, const uint32_t *row
                        size_t tables_len, size_t k);
 uint32_t hooflift_intern(const uint8_t *keyword, size_t keyword_len);
 
-/* The next row of a kind from row `from` on, in file order, by its number; HOOFLIFT_NONE where there is none. */
+/* The next row of a kind from row `from` on, in file order, by its number; HOOFLIFT_NONE where there is none. A kind's number above HOOFLIFT_OTHER
+ * means HOOFLIFT_OTHER, here and for parts. */
 uint8_t hooflift_by_kind(const uint8_t *file, size_t file_len, const uint32_t *rows, size_t rows_len, const uint64_t *tables,
                          size_t tables_len, uint32_t kind, size_t from, size_t *row);
 
@@ -202,7 +206,8 @@ size_t hooflift_text_length(const uint8_t *raw, size_t raw_len);
 
 /* ---- parts of complex records */
 
-/* The next part of a complex record from the place `at` on, whose arguments end at `end`: keyword start and end, argument start and end, in
+/* The next part of a complex record (one whose row[5] is 1; a simple record has no parts, and this is not for it) from the place `at` on, whose
+ * arguments end at `end`: keyword start and end, argument start and end, in
  * four numbers; the one after it begins after part[3]. HOOFLIFT_NONE where there is none; 16 where `part` is shorter than 4.
  * 01: "Complex parts: skip whitespace and commas; the next `(` byte before the arguments' end ends the keyword [..]; its `)` ends the part". */
 uint8_t hooflift_next_part(const uint8_t *file, size_t file_len, size_t at, size_t end, uint64_t *part, size_t part_len, size_t *fault);
@@ -227,7 +232,7 @@ uint8_t hooflift_units_of_context(const uint8_t *file, size_t file_len, const ui
 
 /* ---- kept rows */
 
-/* Writes the first `count` rows of a file of `len` bytes, 24 bytes a row, with how many in `kept`; 9 where a row does not fit the file, 16
+/* Writes the first `count` rows of a file of `len` bytes (all of them where the table has fewer), 24 bytes a row, with how many in `kept`; 9 where a row does not fit the file, 16
  * where `out` is too short. 01: "Rows kept beside a file are these six as little-endian 32-bit numbers, in file order [..]; for them 9
  * comes before 16". */
 uint8_t hooflift_keep_rows(size_t len, const uint32_t *rows, size_t rows_len, size_t count, uint8_t *out, size_t out_len, size_t *kept);
