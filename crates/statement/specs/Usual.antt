@@ -9,9 +9,7 @@ use lib.Dec.{eqb}
 use lib.ListN.{length, take, drop, getD}
 use Rattle.lex.specs.Search.{at, recordEnd, closing, semicolon, paren}
 use Rattle.lex.specs.Right.Steps.{plainly}
-use Rattle.lex.specs.Byte.{white}
 use Rattle.record.specs.Text.{past, digits, numberFrom}
-use Rattle.record.specs.Form.{NotFirst, Lead}
 use Rattle.record.specs.Head.{dataHead}
 use Rattle.record.specs.declared.Head.{Head}
 use Rattle.record.specs.declared.Head.the-variants.{Bad, Complex, Simple}
@@ -81,17 +79,6 @@ pub record Walked (s : List ℕ) (p o c e : ℕ) : Type 0 where
   pub over : o < c
   pub upto : c < e
   pub within : e < length s
-
--- what stands before the value at a, in a record from p on: `#`, the id's digits, whitespace, `=`, whitespace
-pub record Fronted (s : List ℕ) (p id a : ℕ) : Type 0 where
-  pub front : List ℕ
-  pub shape : drop p s ≡ front ++ drop a s
-  pub leads : (v : List ℕ) → NotFirst white v → Lead front id v
-  pub over : NotFirst white (drop a s)
-  pub way : Way 0 0 (drop p s) (drop a s)
-  pub hash : getD s p 0 ≡ 35
-  pub behind : p ≤ a
-  pub inside : a ≤ length s
 
 -- a usual record is the statement that begins at p
 abbrev pub UsualSaid : List ℕ → ℕ → Section → Usual → Type 0

@@ -68,7 +68,7 @@ way-byte d e c t h k l m = record {
 }
 
 -- a byte but the five leaves the depth as it is
-pub way-other : (d c : ℕ) (t : List ℕ) → (c ≡ 39 → ⊥) → (c ≡ 40 → ⊥) → (c ≡ 41 → ⊥) → (c ≡ 47 → ⊥) → (c ≡ 59 → ⊥) → Way d d (c ∷ t) t
+way-other : (d c : ℕ) (t : List ℕ) → (c ≡ 39 → ⊥) → (c ≡ 40 → ⊥) → (c ≡ 41 → ⊥) → (c ≡ 47 → ⊥) → (c ≡ 59 → ⊥) → Way d d (c ∷ t) t
 way-other d c t h i j k l = way-byte d d c t h k l (rw (ne-eqb c 40 i, ne-eqb c 41 j))
 
 -- plain bytes

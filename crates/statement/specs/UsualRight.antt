@@ -18,11 +18,10 @@ use Rattle.lex.specs.Local.{seek-halts}
 use Rattle.lex.specs.Right.{trivia-only}
 use Rattle.lex.specs.Right.Steps.{clash, plainly}
 use Rattle.lex.specs.declared.Mode.the-variants.{Plain}
-use Rattle.record.specs.Text.{past, digit, trail}
-use Rattle.record.specs.Turns.{bounds}
-use Rattle.record.specs.Form.{All, Free, Lead}
+use Rattle.record.specs.Text.{past}
+use Rattle.record.specs.Form.{All, Free}
 use Rattle.record.specs.FormRight.{past-is}
-use Rattle.record.specs.FormRight.Parts.{all-kind, all-join}
+use Rattle.record.specs.FormRight.Parts.{all-kind}
 use Rattle.record.specs.Head.{dataHead}
 use Rattle.record.specs.HashOther.{hash-word}
 use Rattle.record.specs.Word.{wordOf}
@@ -32,18 +31,17 @@ use Rattle.record.specs.declared.Word.the-variants.{Other}
 use Rattle.statement.specs.Row.{Row, row, mapped, argued, recordOf}
 use Rattle.statement.specs.Statement.{Stmt, record′, begun}
 use Rattle.statement.specs.Laws.{text-length, record-complex, record-simple, section-data, worded-at, begun-found}
-use Rattle.statement.specs.Usual.{plain, Way, Headed, Walked, Fronted}
+use Rattle.statement.specs.Usual.{plain, Way, Headed, Walked}
 use Rattle.statement.specs.UsualLaws.{plain-other, mark-open, way-on, run-at, open-at, close-at}
-use Rattle.statement.specs.UsualHead.{Before, before-at, head-complex, head-simple}
 use Rattle.statement.specs.declared.Section.the-variants.{InData}
 
 -- what the walk finds is what the searches find
-pub walked : (s : List ℕ) (p id a o c e : ℕ) → Fronted s p id a → drop o s ≡ past plain (drop a s) → a ≤ o → o < length s → getD s o 0 ≡ 40
+pub walked : (s : List ℕ) (p o c e : ℕ) → getD s p 0 ≡ 35 → drop o s ≡ past plain (drop p s) → p ≤ o → o < length s → getD s o 0 ≡ 40
     → (o + 1 ≤ c) × (getD s c 0 ≡ 41) × Way 0 0 (drop (o + 1) s) (drop c s) → c < length s
     → drop e s ≡ past plain (drop (c + 1) s) → c + 1 ≤ e → e < length s → getD s e 0 ≡ 59 → Walked s p o c e
 unfolding recordEnd closing
-walked s p id a o c e front run ao hos opn (oc, cls, way) hcs last ce hes fin =
-    let w1 : Way 0 0 (drop p s) (drop o s) = way-on (front .way) (run-at 0 s a o run) in
+walked s p o c e hash run po hos opn (oc, cls, way) hcs last ce hes fin =
+    let w1 : Way 0 0 (drop p s) (drop o s) = run-at 0 s p o run in
     let w2 : Way 0 1 (drop o s) (drop (o + 1) s) = open-at s o 0 hos opn in
     let w3 : Way 1 0 (drop c s) (drop (c + 1) s) = close-at s c 1 hcs cls (λ z. omega arith) in
     let w4 : Way 0 0 (drop (c + 1) s) (drop e s) = run-at 0 s (c + 1) e last in
@@ -52,13 +50,13 @@ walked s p id a o c e front run ao hos opn (oc, cls, way) hcs last ce hes fin =
     let dc : drop c s ≡ 41 ∷ drop (c + 1) s = split s c hcs ∙ ap (λ (b : ℕ). b ∷ drop (c + 1) s) cls in
     let od : drop 1 (drop o s) ≡ drop (o + 1) s = drop-drop 1 o s in
     record {
-      hash = front .hash;
+      hash = hash;
       opens = opn;
       closed = ap (λ (l : List ℕ). plainly paren 6 (drop o s) 0 l) od ∙ way .closes 6 (drop o s)
           ∙ ap (λ (l : List ℕ). plainly paren 6 (drop o s) 0 l) dc ∙ seek-halts paren (missed 6 (drop o s)) Plain 0 (41 ∷ drop (c + 1) s) 41 (drop (c + 1) s) refl refl ∙ ap at (sym dc);
       found = w1 .ends 5 w ∙ w2 .ends 5 w ∙ way .ends 5 w ∙ w3 .ends 5 w ∙ w4 .ends 5 w
           ∙ ap (λ (l : List ℕ). plainly semicolon 5 w 0 l) de ∙ seek-halts semicolon (missed 5 w) Plain 0 (59 ∷ drop (e + 1) s) 59 (drop (e + 1) s) refl refl ∙ ap at (sym de);
-      from = omega (arith, front .behind);
+      from = po;
       over = omega arith;
       upto = omega arith;
       within = hes;
@@ -74,24 +72,6 @@ run-free s p o e h k = let (f, x, y) = past-is plain (drop p s) in go f (x ∙ a
         let n : o - p ≡ length f = omega (arith, length-drop p s, length-drop o s) in
         let t : take (o - p) (drop p s) ≡ f = ap (λ (m : ℕ). take m (drop p s)) n ∙ ap (take (length f)) x ∙ take-append-seam f (drop o s) in
         rw t (all-kind plain (λ d. not (eqb d 40)) f (λ c q. rw (ne-eqb c 40 (plain-other 40 c mark-open q)) refl) a)
-
--- nor in what stands before the value
-front-free : {v : List ℕ} (p : List ℕ) (n : ℕ) → Lead p n v → Free 40 p
-front-free p n (Lead.lead ds w u v i a k) =
-    let g : (q : ℕ → Bool) (f : List ℕ) → ((x : ℕ) → q x ≡ true → x ≡ 40 → ⊥) → All q f → Free 40 f =
-    λ q f h y. all-kind q (λ d. not (eqb d 40)) f (λ x z. rw (ne-eqb x 40 (h x z)) refl) y in (
-      refl,
-      all-join _ ds (w ++ (61 ∷ u)) (g digit ds (λ x z e. let b = bounds 48 x 57 z in omega (arith, b .0)) (i .all))
-          (all-join _ w (61 ∷ u) (g white w (λ x z e. clash (cc)) a) (refl, g white u (λ x z e. clash (cc)) (k .all))),
-    )
-
--- in all that stands before the `(`
-free-before : (s : List ℕ) (p id a o : ℕ) → Fronted s p id a → a ≤ o → o ≤ length s → Free 40 (take (o - a) (drop a s)) → Free 40 (take (o - p) (drop p s))
-free-before s p id a o f h k g =
-    let x = before-at s p id a o f h k in
-    let b = x .0 in
-    let q : take (o - p) (drop p s) ≡ b .front ++ take (o - a) (drop a s) = b .shape ∙ ap (λ (l : List ℕ). b .front ++ l) (x .1) in
-    rw q (all-join _ (b .front) (take (o - a) (drop a s)) (front-free (b .front) id (b .leads [] (λ c r e. clash (cc)))) g)
 
 module _ (s : List ℕ) (p o c e : ℕ) (w : Walked s p o c e) where
   -- the record's text begins with what stands before its `(`
@@ -149,29 +129,12 @@ module _ (s : List ℕ) (p o c e : ℕ) (w : Walked s p o c e) where
       said (row i (p + x) (p + y) (o + 1) c 0) (argued-is (λ q. row i (p + x) (p + y) (o + 1) q 0)
       ∙ (rw m at (record-simple s (take (e - p) (drop p s)) p i x y k (omega arith) (omega arith) (omega arith) (ap dataHead body-is ∙ sym (h _)))))
 
--- a usual record by what stands before its value at a: a complex one, or a keyword up to the last byte that is not white
-module _ (s : List ℕ) (p id a o c e : ℕ) (w : Walked s p o c e) (f : Fronted s p id a) (h : a ≤ o) where
-  pub complex-row : o ≡ a → record′ (row id 0 0 (o + 1) c 1) (drop p s) (drop (e + 1) s) ≡ begun s InData (drop p s)
-  complex-row z =
-      let b = f .behind in let d = w .over in let g = w .upto in let k = w .within in
+  -- the head's places lie before the `(`
+  pub head-fits : (i x y k : ℕ) → Headed (take (o - p) (drop p s)) (Simple i x y k) → (p + x ≤ o) × (p + y ≤ o)
+  head-fits i x y k (u, v, z, h) =
+      let a = w .from in let b = w .over in let d = w .upto in let f = w .within in
       let l : length (take (o - p) (drop p s)) ≡ o - p = length-take (o - p) (drop p s) ∙ omega (arith, length-drop p s) in
-      let x = before-at s p id a o f h (omega arith) in
-      complex-said s p o c e w id (a - p) (omega arith, head-complex (take (o - p) (drop p s)) id (a - p) (x .0) (omega arith) (omega arith))
-
-  pub simple-row : (r : ℕ) → (o ≡ a → ⊥) → drop o s ≡ past plain (drop a s) → r ≤ o - a → drop r (take (o - a) (drop a s)) ≡ trail (take (o - a) (drop a s))
-      → record′ (row id a (a + r) (o + 1) c 0) (drop p s) (drop (e + 1) s) ≡ begun s InData (drop p s)
-  simple-row r z run u v =
-      let b = f .behind in let d = w .over in let g = w .upto in let k = w .within in
-      let t : List ℕ = take (o - p) (drop p s) in
-      let l : length t ≡ o - p = length-take (o - p) (drop p s) ∙ omega (arith, length-drop p s) in
-      let x = before-at s p id a o f h (omega arith) in
-      let y : drop (a - p + r) t ≡ trail (drop (a - p) t) = sym (drop-drop r (a - p) t) ∙ ap (drop r) (x .1) ∙ v ∙ ap trail (sym (x .1)) in
-      let free : Free 40 (take (o - a) (drop a s)) = run-free s a o run h (omega arith) in
-      let whole : Free 40 t = free-before s p id a o f h (omega arith) free in
-      let m : p + (a - p) ≡ a = omega arith in
-      let n : p + (a - p + r) ≡ a + r = omega arith in
-      rw (m, n) at (simple-said s p o c e w id (a - p) (a - p + r) (length t)
-      (omega arith, omega arith, refl, head-simple t id (a - p) (a - p + r) whole (x .0) (omega arith) (omega arith) y))
+      (omega arith, omega arith)
 
 -- whitespace is trivia
 blanks : (f r : List ℕ) → All white f → Trivia (f ++ r) r

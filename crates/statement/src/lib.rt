@@ -8,9 +8,10 @@ ghost use lib.ListN.{length, take, drop, getD};
 ghost use Rattle.lex.specs.Byte.{white};
 ghost use Rattle.lex.specs.Search.{at, trivia, placed, toldFound};
 ghost use Rattle.record.specs.Text.{past, trail, digit};
+ghost use Rattle.record.specs.Form.{Free};
 ghost use Rattle.statement.specs.Row.{row, headerRow, argued, recordOf, headerOf};
 ghost use Rattle.statement.specs.Statement.{toldRecord, toldHeader, toldSaid, Ahead, inSection, ended, begun, statement};
-ghost use Rattle.statement.specs.Usual.{mark, plain, stops, spoken, Stepped, Closed, IdAt, Walked, Fronted, UsualSaid};
+ghost use Rattle.statement.specs.Usual.{mark, plain, stops, spoken, Stepped, Closed, IdAt, Headed, Walked, UsualSaid};
 use error::Fault;
 use lex::Found;
 use record::Head;
@@ -349,25 +350,25 @@ fn is_digit(c: u8) -> bool
     (48 <= c) & (c <= 57)
 }
 
-// The id whose digits begin at `from`. One with more digits behind 429496729 is not usual, so that no sum is too large.
+// The id whose digits begin at `from`.
 fn id_at(t: &[u8], from: usize) -> IdRead
     requires { ⌜ from ≤ length (now t) ⌝ }
     ensures { λ r. ⌜ IdAt (now (t .entry)) from r ⌝ }
 {
-    let mut n: u32 = 0;
+    let mut n: u64 = 0;
     let mut i = from;
     while i < t.len() {
         let c = t[i];
         if !is_digit(c) {
-            return IdRead::IdIs(n, i);
+            return IdRead::IdIs(n as u32, i);
         }
-        if 429496728 < n {
+        n = n * 10 + ((c - 48) as u64);
+        if 4294967295 < n {
             return IdRead::NoId;
         }
-        n = n * 10 + ((c - 48) as u32);
         i += 1;
     }
-    IdRead::NoId
+    IdRead::IdIs(n as u32, i)
 }
 
 // The place after the last byte from `from` on that is not white, or `from`; sought from the end.
@@ -387,54 +388,96 @@ fn trim_at(t: &[u8], from: usize) -> usize
     z
 }
 
-// The row of a usual record whose value begins at a, and whose `(`, `)` and `;` stand at these places.
-fn usual_row(
-    s: &[u8],
-    start: usize,
-    id: u32,
-    a: usize,
-    opening: usize,
-    close: usize,
-    end: usize,
-) -> Usual
-    requires { ⌜ Walked (now s) start opening close end × Fronted (now s) start id a × (a ≤ opening) × (drop opening (now s) ≡ past plain (drop a (now s))) ⌝ }
+// What stands from the `=` on, before the `(`.
+fn value_before(t: &[u8], id: u32, from: usize) -> Head
+    requires { ⌜ Free 40 (now t) × IdAt (now t) 1 (IdRead.IdIs id from) × (1 < from) × (getD (now t) 0 0 ≡ 35) ⌝ }
+    ensures { λ r. ⌜ Headed (now (t .entry)) r ⌝ }
+{
+    let q = from + record::leading_space(&t[from..]);
+    if t.len() <= q {
+        return Head::Bad(5);
+    }
+    if t[q] != b'=' {
+        return Head::Bad(5);
+    }
+    let value = q + 1;
+    let a = value + record::leading_space(&t[value..]);
+    if t.len() <= a {
+        return Head::Complex(id, a);
+    }
+    Head::Simple(id, a, trim_at(t, a), t.len())
+}
+
+// The head of a data record by what stands before its first `(`.
+fn head_before(t: &[u8]) -> Head
+    requires { ⌜ Free 40 (now t) ⌝ }
+    ensures { λ r. ⌜ Headed (now (t .entry)) r ⌝ }
+{
+    if t.len() == 0 {
+        return Head::Bad(2);
+    }
+    if t[0] != b'#' {
+        return Head::Bad(2);
+    }
+    match id_at(t, 1) {
+        IdRead::NoId => Head::Bad(4),
+        IdRead::IdIs(id, at) => {
+            if at == 1 {
+                return Head::Bad(4);
+            }
+            value_before(t, id, at)
+        }
+    }
+}
+
+// The row of a usual record by its head, whose `(`, `)` and `;` stand at these places.
+fn usual_row(s: &[u8], head: Head, start: usize, opening: usize, close: usize, end: usize) -> Usual
+    requires { ⌜ Walked (now s) start opening close end × Headed (take (opening - start) (drop start (now s))) head ⌝ }
     ensures { λ r. ⌜ UsualSaid (now (s .entry)) start Section.InData r ⌝ }
 {
     let args = Range {
         start: opening + 1,
         end: close,
     };
-    if opening == a {
-        let keyword = Range { start: 0, end: 0 };
-        let complex = 1;
-        let span = RecordSpan {
-            id,
-            keyword,
-            args,
-            complex,
-        };
-        return Usual::Whole(span, end + 1);
+    match head {
+        Head::Bad(_) => Usual::Unusual,
+        Head::Complex(id, _) => {
+            let keyword = Range { start: 0, end: 0 };
+            let complex = 1;
+            let span = RecordSpan {
+                id,
+                keyword,
+                args,
+                complex,
+            };
+            Usual::Whole(span, end + 1)
+        }
+        Head::Simple(id, a, z, _) => {
+            let keyword = Range {
+                start: start + a,
+                end: start + z,
+            };
+            let complex = 0;
+            let span = RecordSpan {
+                id,
+                keyword,
+                args,
+                complex,
+            };
+            Usual::Whole(span, end + 1)
+        }
     }
-    let keyword = Range {
-        start: a,
-        end: a + trim_at(&s[a..opening], 0),
-    };
-    let complex = 0;
-    let span = RecordSpan {
-        id,
-        keyword,
-        args,
-        complex,
-    };
-    Usual::Whole(span, end + 1)
 }
 
-// The usual record whose value begins at a: to the first `(`, to the `)` that closes it, and to the `;`.
-fn usual_value(s: &[u8], start: usize, id: u32, a: usize) -> Usual
-    requires { ⌜ Fronted (now s) start id a × (a ≤ length (now s)) ⌝ }
+// The data record that begins at start, read in one walk: to the first `(`, to the `)` that closes it, and to the `;`.
+fn usual_record(s: &[u8], start: usize) -> Usual
+    requires { ⌜ start < length (now s) ⌝ }
     ensures { λ r. ⌜ UsualSaid (now (s .entry)) start Section.InData r ⌝ }
 {
-    let opening = plain_run(s, a);
+    if s[start] != b'#' {
+        return Usual::Unusual;
+    }
+    let opening = plain_run(s, start);
     if s.len() <= opening {
         return Usual::Unusual;
     }
@@ -452,44 +495,14 @@ fn usual_value(s: &[u8], start: usize, id: u32, a: usize) -> Usual
     if s[end] != b';' {
         return Usual::Unusual;
     }
-    usual_row(s, start, id, a, opening, close, end)
-}
-
-// The usual record whose id's digits end at `from`.
-fn usual_equal(s: &[u8], start: usize, id: u32, from: usize) -> Usual
-    requires { ⌜ IdAt (now s) (start + 1) (IdRead.IdIs id from) × (start + 1 < from) × (getD (now s) start 0 ≡ 35) ⌝ }
-    ensures { λ r. ⌜ UsualSaid (now (s .entry)) start Section.InData r ⌝ }
-{
-    let q = from + record::leading_space(&s[from..]);
-    if s.len() <= q {
-        return Usual::Unusual;
-    }
-    if s[q] != b'=' {
-        return Usual::Unusual;
-    }
-    let value = q + 1;
-    let a = value + record::leading_space(&s[value..]);
-    usual_value(s, start, id, a)
-}
-
-// The data record that begins at start, read in one walk.
-fn usual_record(s: &[u8], start: usize) -> Usual
-    requires { ⌜ start < length (now s) ⌝ }
-    ensures { λ r. ⌜ UsualSaid (now (s .entry)) start Section.InData r ⌝ }
-{
-    if s[start] != b'#' {
-        return Usual::Unusual;
-    }
-    let digits = start + 1;
-    match id_at(s, digits) {
-        IdRead::NoId => Usual::Unusual,
-        IdRead::IdIs(id, at) => {
-            if at == digits {
-                return Usual::Unusual;
-            }
-            usual_equal(s, start, id, at)
-        }
-    }
+    usual_row(
+        s,
+        head_before(&s[start..opening]),
+        start,
+        opening,
+        close,
+        end,
+    )
 }
 
 // The statement that begins at start, where it is a usual data record.
