@@ -90,9 +90,34 @@ fn lend_large(
     )
 }
 
+// Whether the first argument asks for help.
+fn wants_help() -> bool {
+    let mut word = io::buffer();
+    let n = os::arg(1, &mut word);
+    is_help(&word[..n])
+}
+
+fn is_help(word: &[u8]) -> bool {
+    record::same_bytes(word, b"-h") || record::same_bytes(word, b"--help")
+}
+
+fn help(out: &mut [u8]) {
+    let said = text::bytes(
+        out,
+        text::fresh(),
+        b"usage: answers [FILE..]: prints all that the reader answers about each file, the name - being standard input, in the text form of the comparison\n\
+        without a file standard input is a run of cases: a length in decimal, LF and so many bytes, again and again\n",
+    );
+    text::finish(out, said);
+}
+
 fn main() {
     let mut chunk = io::large_buffer();
     let mut out = io::large_buffer();
+    if wants_help() {
+        help(&mut out);
+        return;
+    }
     let limit = input::stack_limit();
     if limit < NEEDED {
         let run = cases::small(&mut chunk, &mut out, intake::start(), usize::MAX);
