@@ -1,7 +1,7 @@
 //! The argument reader.
 use std::borrow::Cow;
 
-use crate::error::{room, told, Error, Result};
+use crate::error::{room, told, Result};
 use crate::raw;
 
 /// A boolean of three values.
