@@ -67,7 +67,7 @@ export ORACLE MANY ANSWERS ASKS TALLY DIFFERENCES
 cp "$here/found.run" "$work/found.run"
 if [ "${FUZZ:-120}" -gt 0 ]; then
     for name in answers asks; do
-        SECONDS_EACH=${FUZZ:-120} SEED=$seed "$here/fuzz.sh" "$name" "$work/found.$name" "$work/fuzz" >&2
+        SECONDS_EACH=${FUZZ:-120} SEED=$seed NATIVE=$work/native "$here/fuzz.sh" "$name" "$work/found.$name" "$work/fuzz" >&2
     done
     "$MANY" union "$work/found.answers" "$work/found.asks" >"$work/found.run"
 fi

@@ -10,9 +10,10 @@
 #   SECONDS_EACH  how long the search lasts (default 120)
 #   MOST          the longest case (default 600 bytes)
 #   SEED          libFuzzer's seed (default 1)
+#   NATIVE        where the module is proved and kept (default: a folder in WORK_FOLDER)
 #   CLANG         a clang with libFuzzer's library (default: clang-14, else clang; installed from Debian if need be)
 set -eu
-[ $# -ge 2 ] || { sed -n '2,15s/^# \{0,1\}//p' "$0" >&2; exit 2; }
+[ $# -ge 2 ] || { sed -n '2,16s/^# \{0,1\}//p' "$0" >&2; exit 2; }
 here=$(CDPATH='' cd -- "$(dirname -- "$0")" && pwd)
 program=$1
 found=$2
@@ -35,16 +36,17 @@ fi
 
 # The module as it is handed to the kit's clang, proved in a copy; what is proved already here is not proved again.
 if [ ! -x "$work/$program-fuzz" ]; then
-    mkdir -p "$work/native/repo"
-    if [ -d "$here/../target" ] && [ ! -d "$work/native/repo/target" ]; then
-        cp -a "$here/../target" "$work/native/repo/target"
+    native=${NATIVE:-$work/native}
+    mkdir -p "$native/repo"
+    if [ -d "$here/../target" ] && [ ! -d "$native/repo/target" ]; then
+        cp -a "$here/../target" "$native/repo/target"
     fi
-    sh "$here/../../shared/perf/native.sh" -w "$work/native" "$here/.." "$program" >&2
+    sh "$here/../../shared/perf/native.sh" -w "$native" "$here/.." "$program" >&2
     home=${RATTLE_HOME:-$(cd "$(dirname "$(readlink -f "$(command -v rt)")")/.." && pwd -P)}
     machine=$(uname -m)
     "$home/on/$machine/toolchain/bin/clang" --target="$machine-unknown-linux-gnu" --no-default-config -fPIC -O2 \
         -mllvm -trap-unreachable -mllvm -no-trap-after-noreturn \
-        -fsanitize-coverage=inline-8bit-counters,pc-table,trace-cmp -x ir "$work/native/$program.ll" -c -o "$work/$program.o"
+        -fsanitize-coverage=inline-8bit-counters,pc-table,trace-cmp -x ir "$native/$program.ll" -c -o "$work/$program.o"
     objcopy --redefine-sym main=program_main --redefine-sym read=program_read --redefine-sym write=program_write \
         "$work/$program.o" "$work/$program-fuzz.o"
     "$clang" -O2 -fsanitize=fuzzer -o "$work/$program-fuzz" "$here/fuzz.c" "$work/$program-fuzz.o" >&2
