@@ -21,7 +21,7 @@ unsafe extern "C" {
         rows: *const u32,
         rows_len: usize,
         count: usize,
-        slots: *mut u32,
+        slots: *mut u64,
         slots_len: usize,
         ids: *mut u64,
         ids_len: usize,
@@ -147,7 +147,7 @@ fn most_rows(file: &[u8]) -> usize {
 fn proved(file: &[u8], rows: usize) -> String {
     let mut headers = vec![0u32; 4096];
     let mut table = vec![0u32; rows * 6];
-    let mut slots = vec![0u32; rows];
+    let mut slots = vec![0u64; rows];
     let mut out = [0u64; 3];
     let mut ids = [0u64; 8];
     // SAFETY: each pointer goes with the length of its slice, and no two of the slices overlap.

@@ -70,7 +70,7 @@ uint8_t hooflift_needs(const uint8_t *file, size_t file_len, uint64_t *needs, si
  * `hooflift_index`. 16 where `tables` is shorter, before anything is read.
  * 01, 'Reading the file': "the file is read in order and the first fault is given". */
 uint8_t hooflift_open(const uint8_t *file, size_t file_len, uint32_t *headers, size_t headers_len, uint32_t *rows, size_t rows_len,
-                      uint32_t *slots, size_t slots_len, uint64_t *tables, size_t tables_len, uint8_t *reason, size_t *fault);
+                      uint64_t *slots, size_t slots_len, uint64_t *tables, size_t tables_len, uint8_t *reason, size_t *fault);
 
 /* The same without the index: the rows alone, for so many id slots. out[0] header rows, out[1] data rows, out[2] the largest id; on a
  * refusal out[0] its reason and out[1] its place. `out` of fewer than 3 numbers stays as it was. */
@@ -78,23 +78,23 @@ uint8_t hooflift_scan(const uint8_t *file, size_t file_len, uint32_t *headers, s
                       size_t slots, uint64_t *out, size_t out_len);
 
 /* Indexes the first `count` rows by id in the slots, and tells what stands beside them in HOOFLIFT_IDS numbers; 16 where `ids` is shorter. */
-uint8_t hooflift_index(const uint32_t *rows, size_t rows_len, size_t count, uint32_t *slots, size_t slots_len, uint64_t *ids, size_t ids_len);
+uint8_t hooflift_index(const uint32_t *rows, size_t rows_len, size_t count, uint64_t *slots, size_t slots_len, uint64_t *ids, size_t ids_len);
 
 /* The number of the last row with this id, or HOOFLIFT_NO_ROW. `ids` is what `hooflift_index` or `hooflift_open` told.
  * 01: "Lookup of an id answers like a map written to in file order: the last record of that id, or none." */
-uint32_t hooflift_get(const uint32_t *rows, size_t rows_len, const uint32_t *slots, size_t slots_len, const uint64_t *ids, size_t ids_len,
+uint32_t hooflift_get(const uint32_t *rows, size_t rows_len, const uint64_t *slots, size_t slots_len, const uint64_t *ids, size_t ids_len,
                       uint32_t id);
 
 /* The same as a row of HOOFLIFT_ROW numbers; 14 where there is none, 16 where `row` is shorter. 01: "14 arguments asked of an id with no record". */
-uint8_t hooflift_require(const uint32_t *rows, size_t rows_len, const uint32_t *slots, size_t slots_len, const uint64_t *tables,
+uint8_t hooflift_require(const uint32_t *rows, size_t rows_len, const uint64_t *slots, size_t slots_len, const uint64_t *tables,
                          size_t tables_len, uint32_t id, uint64_t *row, size_t row_len);
 
 /* Where the arguments of the last record with this id stand; 14 where there is none, 9 where they lie outside the file. */
-uint8_t hooflift_args(const uint8_t *file, size_t file_len, const uint32_t *rows, size_t rows_len, const uint32_t *slots, size_t slots_len,
+uint8_t hooflift_args(const uint8_t *file, size_t file_len, const uint32_t *rows, size_t rows_len, const uint64_t *slots, size_t slots_len,
                       const uint64_t *tables, size_t tables_len, uint32_t id, size_t *start, size_t *stop);
 
 /* The kind of the last record with this id; HOOFLIFT_OTHER where there is none. Answers the kind's number. */
-uint32_t hooflift_kind_of(const uint8_t *file, size_t file_len, const uint32_t *rows, size_t rows_len, const uint32_t *slots,
+uint32_t hooflift_kind_of(const uint8_t *file, size_t file_len, const uint32_t *rows, size_t rows_len, const uint64_t *slots,
                           size_t slots_len, const uint64_t *tables, size_t tables_len, uint32_t id);
 
 /* How many records there are. Answers the count. */
@@ -221,12 +221,12 @@ uint8_t hooflift_complex_part(const uint8_t *file, size_t file_len, size_t start
 /* What the file's numbers stand for: millimetres for a unit of length, radians for a unit of angle, the tolerance, and 1 in `resolved` where a
  * context says so. 01, 'Units': "The first [context] [..] whose units give a length factor decides"; "No such context: 1.0, 1.0, 1e-3,
  * unresolved." */
-uint8_t hooflift_units(const uint8_t *file, size_t file_len, const uint32_t *rows, size_t rows_len, const uint32_t *slots, size_t slots_len,
+uint8_t hooflift_units(const uint8_t *file, size_t file_len, const uint32_t *rows, size_t rows_len, const uint64_t *slots, size_t slots_len,
                        const uint64_t *tables, size_t tables_len, double *mm, double *rad, double *tolerance, uint8_t *resolved,
                        size_t *fault);
 
 /* The same of the context in row k alone; HOOFLIFT_NONE past the table. */
-uint8_t hooflift_units_of_context(const uint8_t *file, size_t file_len, const uint32_t *rows, size_t rows_len, const uint32_t *slots,
+uint8_t hooflift_units_of_context(const uint8_t *file, size_t file_len, const uint32_t *rows, size_t rows_len, const uint64_t *slots,
                                   size_t slots_len, const uint64_t *tables, size_t tables_len, size_t k, double *mm, double *rad,
                                   double *tolerance, uint8_t *resolved, size_t *fault);
 

@@ -3,6 +3,7 @@
 use cad_step::StepFile;
 use cad_step::scan::Scan;
 use std::cmp::Ordering;
+use std::marker::PhantomData;
 
 unsafe extern "C" {
     fn hooflift_scan(
@@ -20,7 +21,7 @@ unsafe extern "C" {
         rows: *const u32,
         rows_len: usize,
         count: usize,
-        slots: *mut u32,
+        slots: *mut u64,
         slots_len: usize,
         ids: *mut u64,
         ids_len: usize,
@@ -28,7 +29,7 @@ unsafe extern "C" {
     fn hooflift_get(
         rows: *const u32,
         rows_len: usize,
-        slots: *const u32,
+        slots: *const u64,
         slots_len: usize,
         ids: *const u64,
         ids_len: usize,
@@ -37,6 +38,8 @@ unsafe extern "C" {
 }
 
 const NONE: u32 = u32::MAX;
+/// Where the id begins in a slot: above the row.
+const ROWS: u64 = 1 << 30;
 /// Guided probes of a search through all slots, and of one that follows the guide's first look.
 const GUIDED: usize = 6;
 const AFTER: usize = 3;
@@ -69,38 +72,39 @@ pub fn rust_chain(file: &StepFile, asked: &[u32], mask: u32) -> u64 {
 /// A line of memory.
 #[repr(align(64))]
 #[derive(Clone)]
-struct Line(#[allow(dead_code)] [u32; 16]);
+struct Line(#[allow(dead_code)] [u64; 8]);
 
 /// Numbers that begin a line.
-struct Room {
+struct Room<T> {
     lines: Vec<Line>,
     len: usize,
+    numbers: PhantomData<T>,
 }
 
-impl Room {
-    fn new(len: usize) -> Room {
-        Room { lines: vec![Line([7; 16]); len.div_ceil(16)], len }
+impl<T: From<u32> + Copy> Room<T> {
+    fn new(len: usize) -> Room<T> {
+        Room { lines: vec![Line([7; 8]); (len * size_of::<T>()).div_ceil(64)], len, numbers: PhantomData }
     }
 
-    fn numbers(&self) -> &[u32] {
+    fn numbers(&self) -> &[T] {
         // SAFETY: the lines hold at least so many numbers, one after the other.
         unsafe { std::slice::from_raw_parts(self.place(), self.len) }
     }
 
-    fn place(&self) -> *const u32 {
+    fn place(&self) -> *const T {
         self.lines.as_ptr().cast()
     }
 
-    fn place_mut(&mut self) -> *mut u32 {
+    fn place_mut(&mut self) -> *mut T {
         self.lines.as_mut_ptr().cast()
     }
 }
 
 /// What is lent to the proved side, and what it left there.
 pub struct Table {
-    headers: Room,
-    rows: Room,
-    slots: Room,
+    headers: Room<u32>,
+    rows: Room<u32>,
+    slots: Room<u64>,
     beside: [u64; 8],
 }
 
@@ -190,7 +194,7 @@ impl Table {
 
     /// The bytes that finding ids takes beside the rows: the slots, and six of the numbers beside them.
     pub fn bytes(&self) -> u64 {
-        self.slots.len as u64 * 4 + 48
+        self.slots.len as u64 * 8 + 48
     }
 
     /// What the build found of the ids.
@@ -218,12 +222,17 @@ impl Table {
 
     /// The row in a slot, as crates/index reads it.
     fn row_at(&self, slot: usize, seen: &mut Seen) -> usize {
-        if self.direct() { slot } else { self.slot(slot, seen) }
+        if self.direct() { slot } else { (self.slot(slot, seen) % ROWS) as usize }
     }
 
-    fn slot(&self, slot: usize, seen: &mut Seen) -> usize {
-        seen.touch(1 << 40, slot * 4);
-        self.slots.numbers()[slot] as usize
+    /// The id in a slot: above the row in it, or the row's own where the rows are their own index.
+    fn slot_id(&self, slot: usize, seen: &mut Seen) -> u64 {
+        if self.direct() { u64::from(self.id_at(slot, seen)) } else { self.slot(slot, seen) / ROWS }
+    }
+
+    fn slot(&self, slot: usize, seen: &mut Seen) -> u64 {
+        seen.touch(1 << 40, slot * 8);
+        self.slots.numbers()[slot]
     }
 
     fn id_at(&self, row: usize, seen: &mut Seen) -> u32 {
@@ -296,7 +305,7 @@ impl Table {
     }
 
     fn start_at(&self, range: usize, seen: &mut Seen) -> usize {
-        if range < self.slots.len { self.slot(range, seen) } else { self.slots.len }
+        if range < self.slots.len { self.slot(range, seen) as usize } else { self.slots.len }
     }
 
     /// In a bracket of slots, with the ids at its ends: even guesses, one step from an end, and then the middle.
@@ -312,8 +321,7 @@ impl Table {
             let m = guess.min(hi - 1).max(lo);
             guided = guided.saturating_sub(1);
             seen.looks += 1;
-            let row = self.row_at(m, seen);
-            let there = u64::from(self.id_at(row, seen));
+            let there = self.slot_id(m, seen);
             if self.distinct() && there == k {
                 return m + 1;
             }

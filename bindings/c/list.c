@@ -41,7 +41,7 @@ static void print_rows(const uint8_t *file, const uint32_t *rows, size_t count) 
     }
 }
 
-/* All that is lent, in one allocation: the header rows, the data rows and the id slots. Sized by records, never by ids. */
+/* All that is lent, in one allocation: the id slots, the header rows and the data rows. Sized by records, never by ids. */
 static int list(const uint8_t *file, size_t len) {
     uint64_t needs[HOOFLIFT_NEEDS], tables[HOOFLIFT_TABLES];
     struct refusal why = {0, 0, 0};
@@ -51,13 +51,13 @@ static int list(const uint8_t *file, size_t len) {
         return 0;
     }
     size_t headers_len = needs[0] * HOOFLIFT_HEADER_ROW, rows_len = needs[1] * HOOFLIFT_ROW, slots_len = needs[1];
-    uint32_t *lent = malloc((headers_len + rows_len + slots_len + 1) * sizeof *lent);
-    if (!lent) {
+    uint64_t *slots = malloc((slots_len + 1) * sizeof *slots + (headers_len + rows_len) * sizeof(uint32_t));
+    if (!slots) {
         fputs("no memory\n", stderr);
         return 1;
     }
-    uint32_t *rows = lent + headers_len, *slots = rows + rows_len;
-    why.number = hooflift_open(file, len, lent, headers_len, rows, rows_len, slots, slots_len, tables, HOOFLIFT_TABLES, &why.reason,
+    uint32_t *headers = (uint32_t *)(slots + slots_len), *rows = headers + headers_len;
+    why.number = hooflift_open(file, len, headers, headers_len, rows, rows_len, slots, slots_len, tables, HOOFLIFT_TABLES, &why.reason,
         &why.place);
     if (why.number) {
         refuse(why);
@@ -65,7 +65,7 @@ static int list(const uint8_t *file, size_t len) {
         printf("records %" PRIu64 " max %" PRIu64 "\n", tables[9], tables[10]);
         print_rows(file, rows, hooflift_len(tables, HOOFLIFT_TABLES));
     }
-    free(lent);
+    free(slots);
     return 0;
 }
 

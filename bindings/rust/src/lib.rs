@@ -82,7 +82,7 @@ pub struct Step<'f> {
     file: &'f [u8],
     headers: Vec<u32>,
     rows: Vec<u32>,
-    slots: Vec<u32>,
+    slots: Vec<u64>,
     tables: [u64; 16],
 }
 

@@ -41,9 +41,9 @@ macro_rules! boundary {
 
 boundary! {
     hooflift_needs(slice file: u8, room needs: u64, out reason: u8, out fault: usize) -> u8;
-    hooflift_open(slice file: u8, room headers: u32, room rows: u32, room slots: u32, room tables: u64, out reason: u8, out fault: usize) -> u8;
-    hooflift_get(slice rows: u32, slice slots: u32, slice ids: u64, by id: u32) -> u32;
-    hooflift_kind_of(slice file: u8, slice rows: u32, slice slots: u32, slice tables: u64, by id: u32) -> u32;
+    hooflift_open(slice file: u8, room headers: u32, room rows: u32, room slots: u64, room tables: u64, out reason: u8, out fault: usize) -> u8;
+    hooflift_get(slice rows: u32, slice slots: u64, slice ids: u64, by id: u32) -> u32;
+    hooflift_kind_of(slice file: u8, slice rows: u32, slice slots: u64, slice tables: u64, by id: u32) -> u32;
     hooflift_len(slice tables: u64) -> usize;
     hooflift_entity(slice rows: u32, slice tables: u64, by k: usize, room row: u64) -> u8;
     hooflift_keyword(slice file: u8, slice rows: u32, slice tables: u64, by k: usize, out start: usize, out stop: usize) -> u8;
@@ -76,8 +76,8 @@ boundary! {
     hooflift_f64_grid(slice file: u8, out place: usize, by end: usize, room list: f64, room ends: usize, out count: usize, out rows: usize, out fault: usize) -> u8;
     hooflift_next_part(slice file: u8, by at: usize, by end: usize, room part: u64, out fault: usize) -> u8;
     hooflift_complex_part(slice file: u8, by start: usize, by end: usize, by complex: u32, by kind: u32, room part: u64, out fault: usize) -> u8;
-    hooflift_units(slice file: u8, slice rows: u32, slice slots: u32, slice tables: u64, out mm: f64, out rad: f64, out tolerance: f64, out resolved: u8, out fault: usize) -> u8;
-    hooflift_units_of_context(slice file: u8, slice rows: u32, slice slots: u32, slice tables: u64, by k: usize, out mm: f64, out rad: f64, out tolerance: f64, out resolved: u8, out fault: usize) -> u8;
+    hooflift_units(slice file: u8, slice rows: u32, slice slots: u64, slice tables: u64, out mm: f64, out rad: f64, out tolerance: f64, out resolved: u8, out fault: usize) -> u8;
+    hooflift_units_of_context(slice file: u8, slice rows: u32, slice slots: u64, slice tables: u64, by k: usize, out mm: f64, out rad: f64, out tolerance: f64, out resolved: u8, out fault: usize) -> u8;
     hooflift_keep_rows(by len: usize, slice rows: u32, by count: usize, room bytes: u8, out kept: usize) -> u8;
     hooflift_read_rows(by len: usize, slice bytes: u8, room rows: u32, out count: usize) -> u8;
 }

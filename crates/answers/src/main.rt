@@ -29,7 +29,7 @@ fn large(limit: u64, chunk: &mut [u8], out: &mut [u8], run: Run) -> Run {
     let mut file = [0u8; LARGE_FILE];
     let mut heads = [0u32; LARGE_HEADS];
     let mut rows = [0u32; LARGE_ROWS];
-    let mut slots = [0u32; LARGE_SLOTS];
+    let mut slots = [0u64; LARGE_SLOTS];
     let mut chars = [0u8; LARGE_CHARS];
     let mut refs = [0u32; LARGE_REFS];
     let mut wholes = [0i64; LARGE_NUMBERS];
@@ -64,7 +64,7 @@ fn lend_large(
     file: &mut [u8; LARGE_FILE],
     heads: &mut [u32; LARGE_HEADS],
     rows: &mut [u32; LARGE_ROWS],
-    slots: &mut [u32; LARGE_SLOTS],
+    slots: &mut [u64; LARGE_SLOTS],
     chars: &mut [u8; LARGE_CHARS],
     refs: &mut [u32; LARGE_REFS],
     wholes: &mut [i64; LARGE_NUMBERS],

@@ -9,7 +9,7 @@ use statement::RecordSpan;
 use text::Pen;
 
 // The lines `c` and `u` of each row.
-pub fn lines(file: &[u8], rows: &[u32], slots: &[u32], t: Tables, out: &mut [u8], pen: Pen) -> Pen {
+pub fn lines(file: &[u8], rows: &[u32], slots: &[u64], t: Tables, out: &mut [u8], pen: Pen) -> Pen {
     let mut last = pen;
     let mut i = 0;
     while i < t.records {
@@ -22,7 +22,7 @@ pub fn lines(file: &[u8], rows: &[u32], slots: &[u32], t: Tables, out: &mut [u8]
 fn row_lines(
     file: &[u8],
     rows: &[u32],
-    slots: &[u32],
+    slots: &[u64],
     t: Tables,
     i: usize,
     out: &mut [u8],
@@ -70,7 +70,7 @@ fn span(out: &mut [u8], pen: Pen, p: HeaderSpan) -> Pen {
 fn unit_line(
     file: &[u8],
     rows: &[u32],
-    slots: &[u32],
+    slots: &[u64],
     t: Tables,
     i: usize,
     w: RecordSpan,

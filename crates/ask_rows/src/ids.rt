@@ -16,7 +16,7 @@ const NAME: usize = 40;
 pub fn id_lines(
     file: &[u8],
     rows: &[u32],
-    slots: &[u32],
+    slots: &[u64],
     t: Tables,
     out: &mut [u8],
     pen: Pen,
@@ -28,7 +28,7 @@ pub fn id_lines(
     id_line(file, rows, slots, t, u32::MAX, out, d)
 }
 
-fn own_ids(file: &[u8], rows: &[u32], slots: &[u32], t: Tables, out: &mut [u8], pen: Pen) -> Pen {
+fn own_ids(file: &[u8], rows: &[u32], slots: &[u64], t: Tables, out: &mut [u8], pen: Pen) -> Pen {
     let mut last = pen;
     let mut i = 0;
     while i < t.records {
@@ -41,7 +41,7 @@ fn own_ids(file: &[u8], rows: &[u32], slots: &[u32], t: Tables, out: &mut [u8], 
 fn own_id(
     file: &[u8],
     rows: &[u32],
-    slots: &[u32],
+    slots: &[u64],
     t: Tables,
     i: usize,
     out: &mut [u8],
@@ -54,7 +54,7 @@ fn own_id(
 }
 
 // The line of the id past the largest, where there is one.
-fn past_line(file: &[u8], rows: &[u32], slots: &[u32], t: Tables, out: &mut [u8], pen: Pen) -> Pen {
+fn past_line(file: &[u8], rows: &[u32], slots: &[u64], t: Tables, out: &mut [u8], pen: Pen) -> Pen {
     if t.max == u32::MAX {
         return pen;
     }
@@ -65,7 +65,7 @@ fn past_line(file: &[u8], rows: &[u32], slots: &[u32], t: Tables, out: &mut [u8]
 fn id_line(
     file: &[u8],
     rows: &[u32],
-    slots: &[u32],
+    slots: &[u64],
     t: Tables,
     id: u32,
     out: &mut [u8],
@@ -81,7 +81,7 @@ fn id_line(
 fn record(
     file: &[u8],
     rows: &[u32],
-    slots: &[u32],
+    slots: &[u64],
     t: Tables,
     id: u32,
     out: &mut [u8],

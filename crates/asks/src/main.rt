@@ -25,7 +25,7 @@ fn main() {
     let mut file = [0u8; FILE];
     let mut heads = [0u32; HEADS];
     let mut rows = [0u32; ROWS];
-    let mut slots = [0u32; SLOTS];
+    let mut slots = [0u64; SLOTS];
     let mut bytes = [0u8; BYTES];
     let mut again = [0u32; ROWS];
     let run = lend(
@@ -48,7 +48,7 @@ fn lend(
     file: &mut [u8; FILE],
     heads: &mut [u32; HEADS],
     rows: &mut [u32; ROWS],
-    slots: &mut [u32; SLOTS],
+    slots: &mut [u64; SLOTS],
     bytes: &mut [u8; BYTES],
     again: &mut [u32; ROWS],
     out: &mut [u8],
@@ -72,7 +72,7 @@ fn go_on(
     file: &mut [u8],
     heads: &mut [u32],
     rows: &mut [u32],
-    slots: &mut [u32],
+    slots: &mut [u64],
     bytes: &mut [u8],
     again: &mut [u32],
     out: &mut [u8],
@@ -93,7 +93,7 @@ fn turn(
     file: &mut [u8],
     heads: &mut [u32],
     rows: &mut [u32],
-    slots: &mut [u32],
+    slots: &mut [u64],
     bytes: &mut [u8],
     again: &mut [u32],
     out: &mut [u8],
@@ -114,7 +114,7 @@ fn answer(
     file: &[u8],
     heads: &mut [u32],
     rows: &mut [u32],
-    slots: &mut [u32],
+    slots: &mut [u64],
     bytes: &mut [u8],
     again: &mut [u32],
     out: &mut [u8],
@@ -130,7 +130,7 @@ fn lines(
     file: &[u8],
     heads: &mut [u32],
     rows: &mut [u32],
-    slots: &mut [u32],
+    slots: &mut [u64],
     t: Tables,
     bytes: &mut [u8],
     again: &mut [u32],
@@ -154,7 +154,7 @@ fn told_rows(
     file: &[u8],
     heads: &[u32],
     rows: &[u32],
-    slots: &[u32],
+    slots: &[u64],
     t: Tables,
     out: &mut [u8],
     pen: Pen,
@@ -164,7 +164,7 @@ fn told_rows(
     by_readers(file, heads, rows, t, out, b)
 }
 
-fn by_tables(file: &[u8], rows: &[u32], slots: &[u32], t: Tables, out: &mut [u8], pen: Pen) -> Pen {
+fn by_tables(file: &[u8], rows: &[u32], slots: &[u64], t: Tables, out: &mut [u8], pen: Pen) -> Pen {
     let a = ask_rows::count_line(t, out, pen);
     let b = ask_rows::id_lines(file, rows, slots, t, out, a);
     let c = ask_rows::keyword_lines(file, rows, t, out, b);

@@ -13,7 +13,7 @@ pub fn go_on(
     file: &mut [u8],
     heads: &mut [u32],
     rows: &mut [u32],
-    slots: &mut [u32],
+    slots: &mut [u64],
     chars: &mut [u8],
     refs: &mut [u32],
     wholes: &mut [i64],
@@ -52,7 +52,7 @@ fn turn(
     file: &mut [u8],
     heads: &mut [u32],
     rows: &mut [u32],
-    slots: &mut [u32],
+    slots: &mut [u64],
     chars: &mut [u8],
     refs: &mut [u32],
     wholes: &mut [i64],
@@ -110,7 +110,7 @@ pub fn small(chunk: &mut [u8], out: &mut [u8], run: Run, walks: usize) -> Run {
     let mut file = [0u8; SMALL_FILE];
     let mut heads = [0u32; SMALL_HEADS];
     let mut rows = [0u32; SMALL_ROWS];
-    let mut slots = [0u32; SMALL_SLOTS];
+    let mut slots = [0u64; SMALL_SLOTS];
     let mut chars = [0u8; SMALL_CHARS];
     let mut refs = [0u32; SMALL_REFS];
     let mut wholes = [0i64; SMALL_NUMBERS];
@@ -139,7 +139,7 @@ fn lend_small(
     file: &mut [u8; SMALL_FILE],
     heads: &mut [u32; SMALL_HEADS],
     rows: &mut [u32; SMALL_ROWS],
-    slots: &mut [u32; SMALL_SLOTS],
+    slots: &mut [u64; SMALL_SLOTS],
     chars: &mut [u8; SMALL_CHARS],
     refs: &mut [u32; SMALL_REFS],
     wholes: &mut [i64; SMALL_NUMBERS],

@@ -48,7 +48,7 @@ pub fn go_on(
     file: &mut [u8],
     headers: &mut [u32],
     rows: &mut [u32],
-    slots: &mut [u32],
+    slots: &mut [u64],
     out: &mut [u8],
     run: Run,
 ) -> Run {
@@ -68,7 +68,7 @@ fn turn(
     file: &mut [u8],
     headers: &mut [u32],
     rows: &mut [u32],
-    slots: &mut [u32],
+    slots: &mut [u64],
     out: &mut [u8],
     run: Run,
 ) -> Run {

@@ -23,7 +23,7 @@ pub const SHOW: usize = 2;
 pub const INSPECT: usize = 3;
 
 // What the large rooms take of the stack, with something over.
-const NEEDED: u64 = 160000000;
+const NEEDED: u64 = 172000000;
 
 // Rooms for a file of 1 MiB with as many records as it can hold, and 4,096 header records.
 const SMALL_FILE: usize = 1048577;
@@ -38,7 +38,7 @@ fn small(task: Task, grows: bool, out: &mut [u8], run: Run) -> Run {
     let mut file = [0u8; SMALL_FILE];
     let mut headers = [0u32; SMALL_HEADERS];
     let mut rows = [0u32; SMALL_ROWS];
-    let mut slots = [0u32; SMALL_SLOTS];
+    let mut slots = [0u64; SMALL_SLOTS];
     lend_small(
         task,
         grows,
@@ -58,7 +58,7 @@ fn lend_small(
     file: &mut [u8; SMALL_FILE],
     headers: &mut [u32; SMALL_HEADERS],
     rows: &mut [u32; SMALL_ROWS],
-    slots: &mut [u32; SMALL_SLOTS],
+    slots: &mut [u64; SMALL_SLOTS],
     out: &mut [u8],
     run: Run,
 ) -> Run {
@@ -80,7 +80,7 @@ fn large(limit: u64, task: Task, out: &mut [u8], run: Run) -> Run {
     let mut file = [0u8; LARGE_FILE];
     let mut headers = [0u32; LARGE_HEADERS];
     let mut rows = [0u32; LARGE_ROWS];
-    let mut slots = [0u32; LARGE_SLOTS];
+    let mut slots = [0u64; LARGE_SLOTS];
     let next = lend_large(
         task,
         &mut file,
@@ -104,7 +104,7 @@ fn lend_large(
     file: &mut [u8; LARGE_FILE],
     headers: &mut [u32; LARGE_HEADERS],
     rows: &mut [u32; LARGE_ROWS],
-    slots: &mut [u32; LARGE_SLOTS],
+    slots: &mut [u64; LARGE_SLOTS],
     out: &mut [u8],
     run: Run,
 ) -> Run {

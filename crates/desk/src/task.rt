@@ -100,7 +100,7 @@ pub fn lines(
     file: &[u8],
     headers: &mut [u32],
     rows: &mut [u32],
-    slots: &mut [u32],
+    slots: &mut [u64],
     out: &mut [u8],
     pen: Pen,
 ) -> Pen {

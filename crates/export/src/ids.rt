@@ -11,7 +11,7 @@ use index::Found;
 pub extern "C" fn hooflift_index(
     rows: &[u32],
     count: usize,
-    slots: &mut [u32],
+    slots: &mut [u64],
     ids: &mut [u64],
 ) -> u8
     ensures { λ n. ⌜ n ≡ indexCode (now (ids .entry)) ⌝ }
@@ -27,7 +27,7 @@ pub extern "C" fn hooflift_index(
 
 // The last row with this id, by the slots and the eight numbers that `hooflift_index` left; or 4294967295 where there is none.
 #[no_mangle]
-pub extern "C" fn hooflift_get(rows: &[u32], slots: &[u32], ids: &[u64], id: u32) -> u32
+pub extern "C" fn hooflift_get(rows: &[u32], slots: &[u64], ids: &[u64], id: u32) -> u32
     ensures { λ r. ⌜ r ≡ rowNumber (searched (now (rows .entry)) (now (slots .entry)) (idsBy (now (ids .entry))) id) ⌝ }
 {
     let b = plain::ids_of(ids);

@@ -14,7 +14,7 @@ use lookup::Required;
 #[no_mangle]
 pub extern "C" fn hooflift_require(
     rows: &[u32],
-    slots: &[u32],
+    slots: &[u64],
     tables: &[u64],
     id: u32,
     row: &mut [u64],
@@ -33,7 +33,7 @@ pub extern "C" fn hooflift_require(
 pub extern "C" fn hooflift_args(
     file: &[u8],
     rows: &[u32],
-    slots: &[u32],
+    slots: &[u64],
     tables: &[u64],
     id: u32,
     start: &mut usize,
@@ -55,7 +55,7 @@ pub extern "C" fn hooflift_args(
 pub extern "C" fn hooflift_kind_of(
     file: &[u8],
     rows: &[u32],
-    slots: &[u32],
+    slots: &[u64],
     tables: &[u64],
     id: u32,
 ) -> u32

@@ -9,7 +9,7 @@ pub extern "C" fn hooflift_open(
     file: &[u8],
     headers: &mut [u32],
     rows: &mut [u32],
-    slots: &mut [u32],
+    slots: &mut [u64],
     tables: &mut [u64],
     reason: &mut u8,
     fault: &mut usize,

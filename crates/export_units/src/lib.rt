@@ -53,7 +53,7 @@ fn put_units(
 pub extern "C" fn hooflift_units(
     file: &[u8],
     rows: &[u32],
-    slots: &[u32],
+    slots: &[u64],
     tables: &[u64],
     mm: &mut f64,
     rad: &mut f64,
@@ -76,7 +76,7 @@ pub extern "C" fn hooflift_units(
 pub extern "C" fn hooflift_units_of_context(
     file: &[u8],
     rows: &[u32],
-    slots: &[u32],
+    slots: &[u64],
     tables: &[u64],
     k: usize,
     mm: &mut f64,

@@ -220,7 +220,7 @@ fn conversion_at(file: &[u8], row: RecordSpan, a: usize, z: usize, left: usize) 
 fn length_at(
     file: &[u8],
     rows: &[u32],
-    slots: &[u32],
+    slots: &[u64],
     t: Tables,
     row: RecordSpan,
     left: usize,
@@ -237,7 +237,7 @@ fn length_at(
 fn measure_in_mm(
     file: &[u8],
     rows: &[u32],
-    slots: &[u32],
+    slots: &[u64],
     t: Tables,
     id: u32,
     left: usize,
@@ -267,14 +267,14 @@ fn measure_in_mm(
 }
 
 // The factor of a length unit, in millimetres.
-pub fn length_factor(file: &[u8], rows: &[u32], slots: &[u32], t: Tables, row: RecordSpan) -> Factor
+pub fn length_factor(file: &[u8], rows: &[u32], slots: &[u64], t: Tables, row: RecordSpan) -> Factor
     ensures { λ r. ⌜ toldFactor r ≡ onward (lengthOf (now (file .entry)) (findOf (now (file .entry)) (now (rows .entry)) (now (slots .entry)) (t .ids)) 16) (thingOf (now (file .entry)) (rowOf row)) ⌝ }
 {
     length_at(file, rows, slots, t, row, 16)
 }
 
 // The number of an angle's measure, alone.
-fn measure_number(file: &[u8], rows: &[u32], slots: &[u32], t: Tables, id: u32) -> Factor
+fn measure_number(file: &[u8], rows: &[u32], slots: &[u64], t: Tables, id: u32) -> Factor
     ensures { λ r. ⌜ toldFactor r ≡ numberIn (now (file .entry)) (findOf (now (file .entry)) (now (rows .entry)) (now (slots .entry)) (t .ids)) id ⌝ }
 {
     let Entry::Row(w) = lookup::get(rows, slots, t, id) else {
@@ -300,7 +300,7 @@ fn measure_number(file: &[u8], rows: &[u32], slots: &[u32], t: Tables, id: u32) 
 fn angle_converted(
     file: &[u8],
     rows: &[u32],
-    slots: &[u32],
+    slots: &[u64],
     t: Tables,
     a: usize,
     z: usize,
@@ -314,7 +314,7 @@ fn angle_converted(
 }
 
 // The factor of an angle unit, in radians.
-pub fn angle_factor(file: &[u8], rows: &[u32], slots: &[u32], t: Tables, row: RecordSpan) -> Factor
+pub fn angle_factor(file: &[u8], rows: &[u32], slots: &[u64], t: Tables, row: RecordSpan) -> Factor
     ensures { λ r. ⌜ toldFactor r ≡ onward (angleOf (now (file .entry)) (findOf (now (file .entry)) (now (rows .entry)) (now (slots .entry)) (t .ids))) (thingOf (now (file .entry)) (rowOf row)) ⌝ }
 {
     match self_or(file, row, Kind::SiUnit) {

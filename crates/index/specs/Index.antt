@@ -8,21 +8,27 @@ use mathlib.Core.Logic.{_⊎_, inl, inr}
 use native.Mathlib.Omega.{arith}
 use lib.ListN.{length, getD, take, drop}
 use lib.Seq.{ext-getD, getD-drop}
-use Rattle.index.specs.Order.{idOf, rowAt, Before, Rises, Steady, Says, ordered, less-or, before-once, before-self}
+use Rattle.index.specs.Order.{idOf, keyOf, rowAt, Rises, Steady, Says, ordered, less-or}
 use Rattle.index.specs.declared.Ids.{Ids}
 use Rattle.index.specs.declared.Spacing.{Spacing}
 
--- the slot that row r stands in
-pub record Stands (n r : ℕ) (xs : List ℕ) : Type 0 where
+-- the slot that holds the key of row r
+pub record Stands (f : ℕ → ℕ) (n r : ℕ) (xs : List ℕ) : Type 0 where
   pub slot : ℕ
   pub inside : slot < n
-  pub holds : getD xs slot 0 ≡ r
+  pub holds : getD xs slot 0 ≡ keyOf f r
 
--- the slots xs are the index of n rows: each holds a row, each row stands in one, and they are in order
+-- the row, one of n, whose key this is
+pub record Keeps (f : ℕ → ℕ) (n s : ℕ) : Type 0 where
+  pub row : ℕ
+  pub inside : row < n
+  pub key : s ≡ keyOf f row
+
+-- the slots xs are the index of n rows: each holds the key of a row, each row's key stands in one, and they rise
 pub record IsIndex (f : ℕ → ℕ) (n : ℕ) (xs : List ℕ) : Type 0 where
-  pub rows : (i : ℕ) → i < n → getD xs i 0 < n
-  pub whole : (r : ℕ) → r < n → Stands n r xs
-  pub order : (i j : ℕ) → i < j → j < n → Before f (getD xs i 0) (getD xs j 0)
+  pub keys : (i : ℕ) → i < n → Keeps f n (getD xs i 0)
+  pub whole : (r : ℕ) → r < n → Stands f n r xs
+  pub order : (i j : ℕ) → i < j → j < n → getD xs i 0 < getD xs j 0
 
 -- in rows whose ids rise, those with ids from x on begin at row c: the rows before it have lesser ids, it and the rows behind it have not
 pub record Starts (f : ℕ → ℕ) (n x c : ℕ) : Type 0 where
@@ -91,41 +97,38 @@ pub record Passed (f : ℕ → ℕ) (r n x e : ℕ) : Type 0 where
   pub below : (i : ℕ) → r ≤ i → i < e → f i < x
   pub from : e < n → x ≤ f e
 
--- of two rows one stands before the other, or they are one
-sided : (f : ℕ → ℕ) (x y : ℕ) → Before f x y ⊎ ((x ≡ y) ⊎ Before f y x)
-sided f x y = go (ordered (f x) (f y)) (ordered x y)
+-- where the slots before i agree, the key in slot i of one index is not below the key in slot i of the other
+not-below : (f : ℕ → ℕ) (n : ℕ) (xs ys : List ℕ) → IsIndex f n xs → IsIndex f n ys → (i : ℕ) → i < n → ((j : ℕ) → j < i → getD xs j 0 ≡ getD ys j 0) → getD xs i 0 < getD ys i 0 → ⊥
+not-below f n xs ys a b i h e l = go (a .keys i h)
   where
-    go : (f x < f y) ⊎ ((f x ≡ f y) ⊎ (f y < f x)) → (x < y) ⊎ ((x ≡ y) ⊎ (y < x)) → Before f x y ⊎ ((x ≡ y) ⊎ Before f y x)
-    go (inl l) _ = inl (inl l)
-    go (inr (inr l)) _ = inr (inr (inl l))
-    go (inr (inl e)) (inl l) = inl (inr (e, l))
-    go (inr (inl e)) (inr (inl d)) = inr (inl d)
-    go (inr (inl e)) (inr (inr l)) = inr (inr (inr (sym e, l)))
+    on : (k : Keeps f n (getD xs i 0)) → (s : Stands f n (k .row) ys) → (s .slot < i) ⊎ ((s .slot ≡ i) ⊎ (i < s .slot)) → ⊥
+    on k s (inl m) =
+        let p : getD xs (s .slot) 0 ≡ getD xs i 0 = e (s .slot) m ∙ s .holds ∙ sym (k .key) in
+        let o = a .order (s .slot) i m h in
+        omega (arith, p, o)
+    on k s (inr (inl m)) =
+        let p : getD ys i 0 ≡ getD xs i 0 = ap (λ (z : ℕ). getD ys z 0) (sym m) ∙ s .holds ∙ sym (k .key) in
+        omega (arith, p, l)
+    on k s (inr (inr m)) =
+        let p : getD ys (s .slot) 0 ≡ getD xs i 0 = s .holds ∙ sym (k .key) in
+        let o = b .order i (s .slot) m (s .inside) in
+        omega (arith, p, o, l)
 
--- where the slots before i agree, the row in slot i of one index does not stand before the row in slot i of the other
-not-before : (f : ℕ → ℕ) (n : ℕ) (xs ys : List ℕ) → IsIndex f n xs → IsIndex f n ys → (i : ℕ) → i < n → ((j : ℕ) → j < i → getD xs j 0 ≡ getD ys j 0) → Before f (getD xs i 0) (getD ys i 0) → ⊥
-not-before f n xs ys a b i h e l = go (b .whole (getD xs i 0) (a .rows i h))
-  where
-    on : (s : Stands n (getD xs i 0) ys) → (s .slot < i) ⊎ ((s .slot ≡ i) ⊎ (i < s .slot)) → ⊥
-    on s (inl m) = before-self f (getD xs i 0) (subst (λ (z : ℕ). Before f z (getD xs i 0)) (e (s .slot) m ∙ s .holds) (a .order (s .slot) i m h))
-    on s (inr (inl m)) = before-self f (getD xs i 0) (subst (λ (z : ℕ). Before f (getD xs i 0) z) (ap (λ (z : ℕ). getD ys z 0) (sym m) ∙ s .holds) l)
-    on s (inr (inr m)) = before-once f (getD xs i 0) (getD ys i 0) l (subst (λ (z : ℕ). Before f (getD ys i 0) z) (s .holds) (b .order i (s .slot) m (s .inside)))
-
-    go : Stands n (getD xs i 0) ys → ⊥
-    go s = on s (ordered (s .slot) i)
+    go : Keeps f n (getD xs i 0) → ⊥
+    go k = let s = b .whole (k .row) (k .inside) in on k s (ordered (s .slot) i)
 
 -- where the slots before m agree, those up to m agree
 slot-next : (f : ℕ → ℕ) (n : ℕ) (xs ys : List ℕ) → IsIndex f n xs → IsIndex f n ys → (m : ℕ) → m < n → ((j : ℕ) → j < m → getD xs j 0 ≡ getD ys j 0) → (i : ℕ) → i < suc m → getD xs i 0 ≡ getD ys i 0
 slot-next f n xs ys a b m h below i l = go (ordered i m)
   where
-    here : Before f (getD xs m 0) (getD ys m 0) ⊎ ((getD xs m 0 ≡ getD ys m 0) ⊎ Before f (getD ys m 0) (getD xs m 0)) → getD xs m 0 ≡ getD ys m 0
-    here (inl k) = absurd (not-before f n xs ys a b m h below k)
+    here : (getD xs m 0 < getD ys m 0) ⊎ ((getD xs m 0 ≡ getD ys m 0) ⊎ (getD ys m 0 < getD xs m 0)) → getD xs m 0 ≡ getD ys m 0
+    here (inl k) = absurd (not-below f n xs ys a b m h below k)
     here (inr (inl e)) = e
-    here (inr (inr k)) = absurd (not-before f n ys xs b a m h (λ j o. sym (below j o)) k)
+    here (inr (inr k)) = absurd (not-below f n ys xs b a m h (λ j o. sym (below j o)) k)
 
     go : (i < m) ⊎ ((i ≡ m) ⊎ (m < i)) → getD xs i 0 ≡ getD ys i 0
     go (inl k) = below i k
-    go (inr (inl e)) = rw e (here (sided f (getD xs m 0) (getD ys m 0)))
+    go (inr (inl e)) = rw e (here (ordered (getD xs m 0) (getD ys m 0)))
     go (inr (inr k)) = absurd (omega arith)
 
 -- there is one index of n rows: each slot is fixed

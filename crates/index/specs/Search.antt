@@ -9,7 +9,7 @@ use lib.Dec.{ltb, leb, eqb}
 use lib.ListN.{length, getD}
 use Rattle.lex.specs.Byte.{pick}
 use Rattle.lex.specs.Walk.{Turn, stop, on, turned}
-use Rattle.index.specs.Order.{idOf, rowAt, tableRoom}
+use Rattle.index.specs.Order.{idOf, rowAt, slotId, tableRoom}
 use Rattle.index.specs.declared.Ids.{Ids}
 use Rattle.index.specs.declared.Found.{Found}
 use Rattle.index.specs.declared.Found.the-variants.{At, Nothing}
@@ -125,7 +125,7 @@ servedOf rows slots direct n k e = pick (eqb e 0) none (pick (standing rows n (r
 
 -- what the search through brackets answers
 abbrev pub sought : List ℕ → List ℕ → Ids → ℕ → Option ℕ
-sought rows slots b k = servedOf rows slots (b .direct) n k (endOf k b slots (λ i. idOf rows (rowAt (b .direct) slots i)) n)
+sought rows slots b k = servedOf rows slots (b .direct) n k (endOf k b slots (slotId rows (b .direct) slots) n)
   where
     n : ℕ
     n = tableRoom (length rows) (length slots) (b .count)

@@ -13,11 +13,10 @@ use lib.ListN.{length, getD}
 use borrow.Author.Tests.{ltb-true, ltb-false, leb-true, leb-false, eqb-true, eqb-false, lt-ltb, le-ltb, eq-eqb, ne-eqb}
 use Rattle.lex.specs.Byte.{pick}
 use Rattle.lex.specs.Walk.{Turn, stop, on, turned}
-use Rattle.index.specs.Order.{idOf, rowAt, tableRoom, Before, Rises, Steady, stepOf, Says, ordered, less-or}
+use Rattle.index.specs.Order.{idOf, rowAt, slotId, tableRoom, Before, Rises, Steady, stepOf, Says, ordered, less-or}
 use Rattle.index.specs.Lookup.{lookupOf, LookupForm, IsLast, Missing, lookup-only}
-use Rattle.index.specs.Index.{Stands, IsIndex, Starts, Guides, Held, Built}
-use Rattle.index.specs.IndexRight.{rises-far, direct-index, upTo-at}
-use Rattle.index.specs.Sort.{upTo}
+use Rattle.index.specs.Index.{Starts, Guides, Held, Built}
+use Rattle.index.specs.IndexRight.{Along, Ranks, rises-far, direct-ranks, index-ranks, index-id, steady-same}
 use Rattle.index.specs.Search.{Bracket, bracket, probeOf, narrowed, looked, turnAt, turn, endFrom, ended, opening, startAt, wide, ranged, among, guideEnd, evenEnd, endOf, standing, servedOf, sought, firstRow, searched}
 use Rattle.index.specs.Laws.{probe-low, probe-high}
 use Rattle.index.specs.Guide.{wide-pos, range-low, range-high, range-far, range-most, among-low, among-high, share-most, start-in, start-out, steady-at, even-place}
@@ -342,26 +341,26 @@ module _ (rows slots : List ℕ) (direct : Bool) (n k : ℕ) where
       go true d = let z : _≡_ {A = ℕ} 0 1 = cc in absurd (omega arith)
       go false d = at-row (ltb (rowAt direct slots (e - 1)) n) (eqb (idOf rows (rowAt direct slots (e - 1))) k) refl refl d
 
-  module _ (xs : List ℕ) (x : IsIndex (idOf rows) n xs) (same : (i : ℕ) → i < n → rowAt direct slots i ≡ getD xs i 0) (e : ℕ)
-      (w : Ends (λ i. idOf rows (rowAt direct slots i)) n k e) where
+  module _ (x : Ranks (idOf rows) n (rowAt direct slots)) (same : (i : ℕ) → i < n → slotId rows direct slots i ≡ idOf rows (rowAt direct slots i)) (e : ℕ)
+      (w : Ends (slotId rows direct slots) n k e) where
     -- the slot of a row with the id lies before the end
-    before-end : (j : ℕ) → j < n → idOf rows j ≡ k → (s : Stands n j xs) → s .slot < e
+    before-end : (j : ℕ) → j < n → idOf rows j ≡ k → (s : Along n j (rowAt direct slots)) → s .slot < e
     before-end j b d s = go (less-or (s .slot) e)
       where
         go : (s .slot < e) ⊎ (e ≤ s .slot) → s .slot < e
         go (inl l) = l
         go (inr l) =
-            let o : k < idOf rows (rowAt direct slots (s .slot)) = w .high (s .slot) l (s .inside) in
-            let q : idOf rows (rowAt direct slots (s .slot)) ≡ k = ap (idOf rows) (same (s .slot) (s .inside) ∙ s .holds) ∙ d in
-            absurd (omega arith)
+            let o : k < slotId rows direct slots (s .slot) = w .high (s .slot) l (s .inside) in
+            let q : slotId rows direct slots (s .slot) ≡ k = same (s .slot) (s .inside) ∙ ap (idOf rows) (s .holds) ∙ d in
+            absurd (omega (arith, o, q))
 
     -- the row before the end, where it has the id, is the last that has it
-    served-last : 0 < e → idOf rows (getD xs (e - 1) 0) ≡ k → IsLast (idOf rows) n k (getD xs (e - 1) 0)
+    served-last : 0 < e → idOf rows (rowAt direct slots (e - 1)) ≡ k → IsLast (idOf rows) n k (rowAt direct slots (e - 1))
     served-last h d =
         let y = w .inside in
         record { row = x .rows (e - 1) (omega arith); named = d; last = λ j a b c. later j a b c (x .whole j b) }
       where
-        later : (j : ℕ) → getD xs (e - 1) 0 < j → j < n → idOf rows j ≡ k → Stands n j xs → ⊥
+        later : (j : ℕ) → rowAt direct slots (e - 1) < j → j < n → idOf rows j ≡ k → Along n j (rowAt direct slots) → ⊥
         later j a b c s = go (ordered (s .slot) (e - 1))
           where
             y : e ≤ n
@@ -370,41 +369,41 @@ module _ (rows slots : List ℕ) (direct : Bool) (n k : ℕ) where
             t : s .slot < e
             t = before-end j b c s
 
-            last : Before (idOf rows) (getD xs (s .slot) 0) (getD xs (e - 1) 0) → ⊥
-            last (inl l) = let p : idOf rows (getD xs (s .slot) 0) ≡ k = ap (idOf rows) (s .holds) ∙ c in omega arith
-            last (inr l) = let p : getD xs (s .slot) 0 ≡ j = s .holds in let q = l .1 in omega arith
+            last : Before (idOf rows) (rowAt direct slots (s .slot)) (rowAt direct slots (e - 1)) → ⊥
+            last (inl l) = let p : idOf rows (rowAt direct slots (s .slot)) ≡ k = ap (idOf rows) (s .holds) ∙ c in omega arith
+            last (inr l) = let p : rowAt direct slots (s .slot) ≡ j = s .holds in let q = l .1 in omega arith
 
             go : (s .slot < e - 1) ⊎ ((s .slot ≡ e - 1) ⊎ (e - 1 < s .slot)) → ⊥
             go (inl l) = last (x .order (s .slot) (e - 1) l (omega (arith, y)))
-            go (inr (inl l)) = let p : getD xs (e - 1) 0 ≡ j = ap (λ (z : ℕ). getD xs z 0) (sym l) ∙ s .holds in omega arith
+            go (inr (inl l)) = let p : rowAt direct slots (e - 1) ≡ j = ap (λ (z : ℕ). rowAt direct slots z) (sym l) ∙ s .holds in omega arith
             go (inr (inr l)) = omega (arith, t)
 
     -- where it has not, no row has
-    served-missing : (0 < e → idOf rows (getD xs (e - 1) 0) ≡ k → ⊥) → Missing (idOf rows) n k
+    served-missing : (0 < e → idOf rows (rowAt direct slots (e - 1)) ≡ k → ⊥) → Missing (idOf rows) n k
     served-missing h j b c = go (x .whole j b)
       where
         y : e ≤ n
         y = w .inside
 
-        go : Stands n j xs → ⊥
+        go : Along n j (rowAt direct slots) → ⊥
         go s = by (ordered (s .slot) (e - 1))
           where
             t : s .slot < e
             t = before-end j b c s
 
-            p : idOf rows (getD xs (s .slot) 0) ≡ k
+            p : idOf rows (rowAt direct slots (s .slot)) ≡ k
             p = ap (idOf rows) (s .holds) ∙ c
 
-            under : idOf rows (getD xs (e - 1) 0) ≤ k
-            under = subst (λ (z : ℕ). idOf rows z ≤ k) (same (e - 1) (omega (arith, t, y))) (w .low (e - 1) (omega (arith, t)))
+            under : idOf rows (rowAt direct slots (e - 1)) ≤ k
+            under = subst (λ (z : ℕ). z ≤ k) (same (e - 1) (omega (arith, t, y))) (w .low (e - 1) (omega (arith, t)))
 
-            last : Before (idOf rows) (getD xs (s .slot) 0) (getD xs (e - 1) 0) → ⊥
+            last : Before (idOf rows) (rowAt direct slots (s .slot)) (rowAt direct slots (e - 1)) → ⊥
             last (inl l) = omega (arith, p, under)
             last (inr l) = h (omega (arith, t)) (sym (l .0) ∙ p)
 
             by : (s .slot < e - 1) ⊎ ((s .slot ≡ e - 1) ⊎ (e - 1 < s .slot)) → ⊥
             by (inl l) = last (x .order (s .slot) (e - 1) l (omega (arith, t, y)))
-            by (inr (inl l)) = h (omega (arith, t)) (ap (λ (z : ℕ). idOf rows (getD xs z 0)) (sym l) ∙ p)
+            by (inr (inl l)) = h (omega (arith, t)) (ap (λ (z : ℕ). idOf rows (rowAt direct slots z)) (sym l) ∙ p)
             by (inr (inr l)) = omega (arith, t)
 
     -- so what is served is the last row of the id, or there is none
@@ -416,15 +415,13 @@ module _ (rows slots : List ℕ) (direct : Bool) (n k : ℕ) where
 
         at-row : 0 < e → (s t : Bool) → ltb (rowAt direct slots (e - 1)) n ≡ s → eqb (idOf rows (rowAt direct slots (e - 1))) k ≡ t → LookupForm (idOf rows) n k (pick (s && t) (some (rowAt direct slots (e - 1))) none)
         at-row h true true a b =
-            let q : rowAt direct slots (e - 1) ≡ getD xs (e - 1) 0 = same (e - 1) (omega (arith, y)) in
-            subst (λ (z : ℕ). IsLast (idOf rows) n k z) (sym q) (served-last h (ap (idOf rows) (sym q) ∙ eqb-true (idOf rows (rowAt direct slots (e - 1))) k b))
+            served-last h (eqb-true (idOf rows (rowAt direct slots (e - 1))) k b)
         at-row h true false a b =
-            served-missing (λ _ d. eqb-false (idOf rows (rowAt direct slots (e - 1))) k b (ap (idOf rows) (same (e - 1) (omega (arith, y))) ∙ d))
+            served-missing (λ _ d. eqb-false (idOf rows (rowAt direct slots (e - 1))) k b d)
         at-row h false t a b =
-            let q : rowAt direct slots (e - 1) ≡ getD xs (e - 1) 0 = same (e - 1) (omega (arith, y)) in
             let o = ltb-false (rowAt direct slots (e - 1)) n a in
-            let v = x .rows (e - 1) (omega (arith, y)) in
-            absurd (omega arith)
+            let v = x .rows (e - 1) (omega (arith, y, h)) in
+            absurd (omega (arith, o, v))
 
         go : (t : Bool) → eqb e 0 ≡ t → LookupForm (idOf rows) n k (pick t none (pick (ltb (rowAt direct slots (e - 1)) n && eqb (idOf rows (rowAt direct slots (e - 1))) k) (some (rowAt direct slots (e - 1))) none))
         go true d = let q : e ≡ 0 = eqb-true e 0 d in served-missing (λ h _. omega arith)
@@ -438,41 +435,46 @@ served-none rows slots direct k e = go (eqb e 0)
     go true = refl
     go false = rw (le-ltb (rowAt direct slots (e - 1)) 0 (omega arith)) refl
 
--- the rows in the order of their ids: the index in the slots, or the rows as they stand
-record Sorts (f : ℕ → ℕ) (n : ℕ) (slots : List ℕ) (direct : Bool) : Type 0 where
-  pub list : List ℕ
-  pub index : IsIndex f n list
-  pub same : (i : ℕ) → i < n → rowAt direct slots i ≡ getD list i 0
-
-sorts : (f : ℕ → ℕ) (n : ℕ) (old slots : List ℕ) (b : Ids) → Built f n old slots b → Sorts f n slots (b .direct)
-sorts f n old slots b h = go (b .direct) (h .direct) (h .held)
+-- what `build` leaves gives the rows in order, and the ids in the slots are theirs
+sorts : (f : ℕ → ℕ) (n : ℕ) (old slots : List ℕ) (b : Ids) → n ≤ 1073741824 → Built f n old slots b → Ranks f n (rowAt (b .direct) slots)
+sorts f n old slots b m h = go (b .direct) (h .direct) (h .held)
   where
-    go : (t : Bool) → Says t (Rises f (λ j. j) n) → Held t f n (b .first) (b .shift) slots → Sorts f n slots t
-    go true r w = record { list = upTo n; index = direct-index f n (upTo n) (upTo-at n) r; same = λ i l. sym (upTo-at n i l) }
-    go false r w = record { list = slots; index = w; same = λ i l. refl }
+    go : (t : Bool) → Says t (Rises f (λ j. j) n) → Held t f n (b .first) (b .shift) slots → Ranks f n (rowAt t slots)
+    go true r w = direct-ranks f n r
+    go false r w = index-ranks f n slots m w
+
+named : (rows : List ℕ) (n : ℕ) (old slots : List ℕ) (b : Ids) → n ≤ 1073741824 → Built (idOf rows) n old slots b → (i : ℕ) → i < n → slotId rows (b .direct) slots i ≡ idOf rows (rowAt (b .direct) slots i)
+named rows n old slots b m h = go (b .direct) (h .held)
+  where
+    go : (t : Bool) → Held t (idOf rows) n (b .first) (b .shift) slots → (i : ℕ) → i < n → slotId rows t slots i ≡ idOf rows (rowAt t slots i)
+    go true w i l = refl
+    go false w i l = index-id (idOf rows) n slots m w i l
 
 -- what `build` leaves for n rows is searched like the map written to in file order
-built-right : (rows old slots : List ℕ) (n k : ℕ) (b : Ids) → Built (idOf rows) n old slots b → servedOf rows slots (b .direct) n k (endOf k b slots (λ i. idOf rows (rowAt (b .direct) slots i)) n) ≡ lookupOf (idOf rows) n k
-built-right rows old slots n k b h = go (less-or 0 n)
+built-right : (rows old slots : List ℕ) (n k : ℕ) (b : Ids) → n ≤ 1073741824 → Built (idOf rows) n old slots b → servedOf rows slots (b .direct) n k (endOf k b slots (slotId rows (b .direct) slots) n) ≡ lookupOf (idOf rows) n k
+built-right rows old slots n k b m h = go (less-or 0 n)
   where
     g : ℕ → ℕ
-    g i = idOf rows (rowAt (b .direct) slots i)
+    g = slotId rows (b .direct) slots
 
-    s : Sorts (idOf rows) n slots (b .direct)
-    s = sorts (idOf rows) n old slots b h
+    s : Ranks (idOf rows) n (rowAt (b .direct) slots)
+    s = sorts (idOf rows) n old slots b m h
+
+    same : (i : ℕ) → i < n → g i ≡ idOf rows (rowAt (b .direct) slots i)
+    same = named rows n old slots b m h
 
     near : (i j : ℕ) → i < j → j < n → g i ≤ g j
-    near i j l o = less (s .index .order i j l o)
+    near i j l o = less (s .order i j l o)
       where
-        p : g i ≡ idOf rows (getD (s .list) i 0)
-        p = ap (idOf rows) (s .same i (omega arith))
+        p : g i ≡ idOf rows (rowAt (b .direct) slots i)
+        p = same i (omega arith)
 
-        q : g j ≡ idOf rows (getD (s .list) j 0)
-        q = ap (idOf rows) (s .same j o)
+        q : g j ≡ idOf rows (rowAt (b .direct) slots j)
+        q = same j o
 
-        less : Before (idOf rows) (getD (s .list) i 0) (getD (s .list) j 0) → g i ≤ g j
-        less (inl a) = omega (arith, p, q)
-        less (inr a) = let c = a .0 in omega (arith, p, q)
+        less : Before (idOf rows) (rowAt (b .direct) slots i) (rowAt (b .direct) slots j) → g i ≤ g j
+        less (inl a) = omega (arith, p, q, a)
+        less (inr a) = let c = a .0 in omega (arith, p, q, c)
 
     mono : (i j : ℕ) → i ≤ j → j < n → g i ≤ g j
     mono i j l o = by (ordered i j)
@@ -486,30 +488,33 @@ built-right rows old slots n k b h = go (less-or 0 n)
     strict d i j l o =
         let r : Rises (idOf rows) (rowAt (b .direct) slots) n = subst (λ (t : Bool). Says t (Rises (idOf rows) (rowAt (b .direct) slots) n)) d (h .distinct) in
         let q : i + suc (j - i - 1) ≡ j = omega arith in
-        subst (λ (z : ℕ). g i < g z) q (rises-far (idOf rows) (rowAt (b .direct) slots) n r i (j - i - 1) (omega arith))
+        let e = subst (λ (z : ℕ). idOf rows (rowAt (b .direct) slots i) < idOf rows (rowAt (b .direct) slots z)) q (rises-far (idOf rows) (rowAt (b .direct) slots) n r i (j - i - 1) (omega arith)) in
+        let u = same i (omega arith) in
+        let v = same j o in
+        omega (arith, e, u, v)
 
     steady : b .even ≡ true → Steady (λ x. x) g n
-    steady d = subst (λ (t : Bool). Says t (Steady (idOf rows) (rowAt (b .direct) slots) n)) d (h .even)
+    steady d = steady-same (idOf rows) (rowAt (b .direct) slots) g n same (subst (λ (t : Bool). Says t (Steady (idOf rows) (rowAt (b .direct) slots) n)) d (h .even))
 
     guides : b .direct ≡ true → Guides g n (b .first) (b .shift) slots
-    guides d = subst (λ (t : Bool). Guides (λ i. idOf rows (rowAt t slots i)) n (b .first) (b .shift) slots) (sym d) (subst (λ (t : Bool). Held t (idOf rows) n (b .first) (b .shift) slots) d (h .held))
+    guides d = subst (λ (t : Bool). Guides (slotId rows t slots) n (b .first) (b .shift) slots) (sym d) (subst (λ (t : Bool). Held t (idOf rows) n (b .first) (b .shift) slots) d (h .held))
 
     ends : 0 < n → Ends g n k (endOf k b slots g n)
-    ends l = end-right k (b .distinct) g n mono strict b slots refl l (h .first) (h .last) steady guides (h .shift .fits) (h .shift .short)
+    ends l = end-right k (b .distinct) g n mono strict b slots refl l (h .first ∙ sym (same 0 l)) (h .last ∙ sym (same (n - 1) (omega arith))) steady guides (h .shift .fits) (h .shift .short)
 
     go : (0 < n) ⊎ (n ≤ 0) → servedOf rows slots (b .direct) n k (endOf k b slots g n) ≡ lookupOf (idOf rows) n k
-    go (inl l) = sym (lookup-only (idOf rows) n k (servedOf rows slots (b .direct) n k (endOf k b slots g n)) (served-right rows slots (b .direct) n k (s .list) (s .index) (s .same) (endOf k b slots g n) (ends l)))
+    go (inl l) = sym (lookup-only (idOf rows) n k (servedOf rows slots (b .direct) n k (endOf k b slots g n)) (served-right rows slots (b .direct) n k s same (endOf k b slots g n) (ends l)))
     go (inr l) = let q : n ≡ 0 = omega arith in subst (λ (z : ℕ). servedOf rows slots (b .direct) z k (endOf k b slots g n) ≡ lookupOf (idOf rows) z k) (sym q) (served-none rows slots (b .direct) k (endOf k b slots g n) ∙ empty (idOf rows) k)
       where
         empty : (e : ℕ → ℕ) (j : ℕ) → none ≡ lookupOf e 0 j
         empty e j = sym (lookup-only e 0 j none (λ r u v. absurd (omega arith)))
 
 -- where no id stands twice, rows of one id are one row
-one-row : (f : ℕ → ℕ) (n : ℕ) (old slots : List ℕ) (b : Ids) → Built f n old slots b → b .distinct ≡ true → (i j : ℕ) → i < n → j < n → f i ≡ f j → i ≡ j
-one-row f n old slots b h d i j a c e = go (s .index .whole i a) (s .index .whole j c)
+one-row : (f : ℕ → ℕ) (n : ℕ) (old slots : List ℕ) (b : Ids) → n ≤ 1073741824 → Built f n old slots b → b .distinct ≡ true → (i j : ℕ) → i < n → j < n → f i ≡ f j → i ≡ j
+one-row f n old slots b m h d i j a c e = go (s .whole i a) (s .whole j c)
   where
-    s : Sorts f n slots (b .direct)
-    s = sorts f n old slots b h
+    s : Ranks f n (rowAt (b .direct) slots)
+    s = sorts f n old slots b m h
 
     g : ℕ → ℕ
     g = rowAt (b .direct) slots
@@ -520,14 +525,14 @@ one-row f n old slots b h d i j a c e = go (s .index .whole i a) (s .index .whol
     strict : (u v : ℕ) → u < v → v < n → f (g u) < f (g v)
     strict u v l o = let q : u + suc (v - u - 1) ≡ v = omega arith in subst (λ (z : ℕ). f (g u) < f (g z)) q (rises-far f g n rises u (v - u - 1) (omega arith))
 
-    go : Stands n i (s .list) → Stands n j (s .list) → i ≡ j
+    go : Along n i g → Along n j g → i ≡ j
     go p q = by (ordered (p .slot) (q .slot))
       where
         x : g (p .slot) ≡ i
-        x = s .same (p .slot) (p .inside) ∙ p .holds
+        x = p .holds
 
         y : g (q .slot) ≡ j
-        y = s .same (q .slot) (q .inside) ∙ q .holds
+        y = q .holds
 
         same : f (g (p .slot)) ≡ f (g (q .slot))
         same = ap f x ∙ e ∙ sym (ap f y)
@@ -539,7 +544,7 @@ one-row f n old slots b h d i j a c e = go (s .index .whole i a) (s .index .whol
 
 -- the row that is looked at first, where it has the id, is the map's
 first-right : (rows old slots : List ℕ) (n k : ℕ) (b : Ids) → n ≤ 1073741824 → Built (idOf rows) n old slots b → firstRow slots b k < n → idOf rows (firstRow slots b k) ≡ k → some (firstRow slots b k) ≡ lookupOf (idOf rows) n k
-first-right rows old slots n k b m h l e = sym (lookup-only (idOf rows) n k (some (firstRow slots b k)) (record { row = l; named = e; last = λ j a c d. let q = one-row (idOf rows) n old slots b h single (firstRow slots b k) j l c (e ∙ sym d) in omega arith }))
+first-right rows old slots n k b m h l e = sym (lookup-only (idOf rows) n k (some (firstRow slots b k)) (record { row = l; named = e; last = λ j a c d. let q = one-row (idOf rows) n old slots b m h single (firstRow slots b k) j l c (e ∙ sym d) in omega arith }))
   where
     single : b .distinct ≡ true
     single = go (ltb k (b .first)) (b .distinct) (eqb (b .shift) 0) refl refl refl
@@ -566,7 +571,7 @@ get-right rows old slots count k b h = go (ltb (firstRow slots b k) m) (eqb (idO
     q = let s : length slots ≡ length old = h .size in let c : b .count ≡ tableRoom (length rows) (length old) count = h .count in omega (arith, s, c)
 
     found : sought rows slots b k ≡ lookupOf (idOf rows) n k
-    found = ap (λ (z : ℕ). servedOf rows slots (b .direct) z k (endOf k b slots (λ i. idOf rows (rowAt (b .direct) slots i)) z)) q ∙ built-right rows old slots n k b h
+    found = ap (λ (z : ℕ). servedOf rows slots (b .direct) z k (endOf k b slots (slotId rows (b .direct) slots) z)) q ∙ built-right rows old slots n k b (omega arith) h
 
     go : (s t : Bool) → ltb (firstRow slots b k) m ≡ s → eqb (idOf rows (firstRow slots b k)) k ≡ t → pick (s && t) (some (firstRow slots b k)) (sought rows slots b k) ≡ lookupOf (idOf rows) n k
     go true true e f = first-right rows old slots n k b (omega arith) h (subst (λ (z : ℕ). firstRow slots b k < z) q (ltb-true (firstRow slots b k) m e)) (eqb-true (idOf rows (firstRow slots b k)) k f)
@@ -581,7 +586,7 @@ get-safe rows slots b k r = go (ltb (firstRow slots b k) n) (eqb (idOf rows (fir
     n = tableRoom (length rows) (length slots) (b .count)
 
     found : sought rows slots b k ≡ some r → (r < n) × (idOf rows r ≡ k)
-    found e = served-safe rows slots (b .direct) n k (endOf k b slots (λ i. idOf rows (rowAt (b .direct) slots i)) n) r e
+    found e = served-safe rows slots (b .direct) n k (endOf k b slots (slotId rows (b .direct) slots) n) r e
 
     go : (s t : Bool) → ltb (firstRow slots b k) n ≡ s → eqb (idOf rows (firstRow slots b k)) k ≡ t → pick (s && t) (some (firstRow slots b k)) (sought rows slots b k) ≡ some r → (r < n) × (idOf rows r ≡ k)
     go true true a c d =
@@ -599,14 +604,14 @@ module _ (rows slots : List ℕ) (b : Ids) (k : ℕ) where
   pub get-later : (r : ℕ) → r ≡ firstRow slots b k → (t : Bool) → t ≡ standing rows (tableRoom (length rows) (length slots) (b .count)) r k → t ≡ false → sought rows slots b k ≡ searched rows slots b k
   get-later r e t q h = subst (λ (z : ℕ). sought rows slots b k ≡ pick (standing rows (tableRoom (length rows) (length slots) (b .count)) z k) (some z) (sought rows slots b k)) e (rw (sym q ∙ h) refl)
 
-module _ (rows slots : List ℕ) (b : Ids) (k n e : ℕ) (room : n ≡ tableRoom (length rows) (length slots) (b .count)) (end : e ≡ endOf k b slots (λ i. idOf rows (rowAt (b .direct) slots i)) n) where
+module _ (rows slots : List ℕ) (b : Ids) (k n e : ℕ) (room : n ≡ tableRoom (length rows) (length slots) (b .count)) (end : e ≡ endOf k b slots (slotId rows (b .direct) slots) n) where
   -- an end is at most one past the slots
   pub end-small : e ≤ 1073741825
-  end-small = let q = end-of-within k b slots (λ i. idOf rows (rowAt (b .direct) slots i)) n in omega (arith, room, end, q)
+  end-small = let q = end-of-within k b slots (slotId rows (b .direct) slots) n in omega (arith, room, end, q)
 
   -- the code's row count and end are the search's
   sought-is : servedOf rows slots (b .direct) (tableRoom (length rows) (length slots) (b .count)) k e ≡ sought rows slots b k
-  sought-is = ap (λ (z : ℕ). servedOf rows slots (b .direct) (tableRoom (length rows) (length slots) (b .count)) k z) (end ∙ ap (λ (z : ℕ). endOf k b slots (λ i. idOf rows (rowAt (b .direct) slots i)) z) room)
+  sought-is = ap (λ (z : ℕ). servedOf rows slots (b .direct) (tableRoom (length rows) (length slots) (b .count)) k z) (end ∙ ap (λ (z : ℕ). endOf k b slots (slotId rows (b .direct) slots) z) room)
 
   -- no slot holds an id up to the one sought
   pub seek-none : e ≡ 0 → none ≡ sought rows slots b k

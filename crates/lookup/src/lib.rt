@@ -111,7 +111,7 @@ pub fn entity(rows: &[u32], t: Tables, k: usize) -> Entry
 }
 
 // The last record with this id, or none.
-pub fn get(rows: &[u32], slots: &[u32], t: Tables, id: u32) -> Entry
+pub fn get(rows: &[u32], slots: &[u64], t: Tables, id: u32) -> Entry
     ensures { λ r. ⌜ toldEntry r ≡ rowFound (now (rows .entry)) (searched (now (rows .entry)) (now (slots .entry)) (t .ids) id) ⌝ }
 {
     let ids = t.ids;
@@ -122,7 +122,7 @@ pub fn get(rows: &[u32], slots: &[u32], t: Tables, id: u32) -> Entry
 }
 
 // The same, or 14.
-pub fn require(rows: &[u32], slots: &[u32], t: Tables, id: u32) -> Required
+pub fn require(rows: &[u32], slots: &[u64], t: Tables, id: u32) -> Required
     ensures { λ r. ⌜ toldRequired r ≡ required (rowFound (now (rows .entry)) (searched (now (rows .entry)) (now (slots .entry)) (t .ids) id)) ⌝ }
 {
     match get(rows, slots, t, id) {
@@ -163,7 +163,7 @@ pub fn args_of(file: &[u8], row: RecordSpan) -> Spanned
 }
 
 // The arguments of the last record with this id; 14 where there is none.
-pub fn args(file: &[u8], rows: &[u32], slots: &[u32], t: Tables, id: u32) -> Spanned
+pub fn args(file: &[u8], rows: &[u32], slots: &[u64], t: Tables, id: u32) -> Spanned
     ensures { λ r. ⌜ toldSpan r ≡ argsBy (length (now (file .entry))) (rowFound (now (rows .entry)) (searched (now (rows .entry)) (now (slots .entry)) (t .ids) id)) ⌝ }
 {
     match get(rows, slots, t, id) {
@@ -188,7 +188,7 @@ pub fn kind_in(file: &[u8], row: RecordSpan) -> Kind
 }
 
 // The kind of the last record with this id; `Other` where there is none.
-pub fn kind_of(file: &[u8], rows: &[u32], slots: &[u32], t: Tables, id: u32) -> Kind
+pub fn kind_of(file: &[u8], rows: &[u32], slots: &[u64], t: Tables, id: u32) -> Kind
     ensures { λ r. ⌜ r ≡ kindFound (now (file .entry)) (rowFound (now (rows .entry)) (searched (now (rows .entry)) (now (slots .entry)) (t .ids) id)) ⌝ }
 {
     match get(rows, slots, t, id) {

@@ -10,7 +10,7 @@ pub fn lines(
     file: &[u8],
     headers: &mut [u32],
     rows: &mut [u32],
-    slots: &mut [u32],
+    slots: &mut [u64],
     out: &mut [u8],
     pen: Pen,
 ) -> Pen {
@@ -20,7 +20,7 @@ pub fn lines(
     }
 }
 
-fn resolved(file: &[u8], rows: &[u32], slots: &[u32], t: Tables, out: &mut [u8], pen: Pen) -> Pen {
+fn resolved(file: &[u8], rows: &[u32], slots: &[u64], t: Tables, out: &mut [u8], pen: Pen) -> Pen {
     match units::resolve(file, rows, slots, t) {
         Resolved::Refused(f) => notices::refused(out, pen, f),
         Resolved::Is(u) => values(out, pen, u),

@@ -25,7 +25,7 @@ pub fn record_of(
     file: &[u8],
     headers: &mut [u32],
     rows: &mut [u32],
-    slots: &mut [u32],
+    slots: &mut [u64],
     id: u32,
 ) -> Served
     ensures { λ r. ⌜ toldServed r ≡ onward (recordIn id) (scanInto (now (file .entry)) (now (headers .entry)) (now (rows .entry)) (now (slots .entry))) ⌝ }
@@ -41,7 +41,7 @@ pub fn record_of(
 }
 
 // The unit answer of a file.
-pub fn units_of(file: &[u8], headers: &mut [u32], rows: &mut [u32], slots: &mut [u32]) -> Resolved
+pub fn units_of(file: &[u8], headers: &mut [u32], rows: &mut [u32], slots: &mut [u64]) -> Resolved
     ensures { λ r. ⌜ toldUnits r ≡ onward (unitsOf (now (file .entry))) (scanInto (now (file .entry)) (now (headers .entry)) (now (rows .entry)) (now (slots .entry))) ⌝ }
     ensures { λ _. ⌜ Left (now (file .entry)) (now (headers .entry)) (now (rows .entry)) (now (slots .entry)) (now (headers .exit)) (now (rows .exit)) (now (slots .exit)) ⌝ }
 {

@@ -15,7 +15,7 @@ pub fn lines(
     id: u32,
     headers: &mut [u32],
     rows: &mut [u32],
-    slots: &mut [u32],
+    slots: &mut [u64],
     out: &mut [u8],
     pen: Pen,
 ) -> Pen {
@@ -30,7 +30,7 @@ fn served(
     file: &[u8],
     id: u32,
     rows: &[u32],
-    slots: &[u32],
+    slots: &[u64],
     t: Tables,
     out: &mut [u8],
     pen: Pen,

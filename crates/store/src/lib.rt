@@ -18,7 +18,7 @@ pub enum Opened {
 }
 
 // Scans a file into lent rows and indexes its ids in the lent slots, one a record. A refusal changes nothing that was lent.
-pub fn open(file: &[u8], headers: &mut [u32], rows: &mut [u32], slots: &mut [u32]) -> Opened
+pub fn open(file: &[u8], headers: &mut [u32], rows: &mut [u32], slots: &mut [u64]) -> Opened
     ensures { λ r. ⌜ toldOpened r ≡ mapped countsOf (scanOf (now (file .entry)) (headerRoom (now (headers .entry))) (dataRoom (now (rows .entry)) (length (now (slots .entry))))) ⌝ }
     ensures { λ _. ⌜ now (headers .exit) ≡ headersAfter (scanOf (now (file .entry)) (headerRoom (now (headers .entry))) (dataRoom (now (rows .entry)) (length (now (slots .entry))))) (now (headers .entry)) ⌝ }
     ensures { λ _. ⌜ now (rows .exit) ≡ rowsAfter (scanOf (now (file .entry)) (headerRoom (now (headers .entry))) (dataRoom (now (rows .entry)) (length (now (slots .entry))))) (now (rows .entry)) ⌝ }

@@ -8,7 +8,7 @@ use text::Pen;
 use titles::Title;
 
 // The row of each record's id, in file order; then of 0, 1, the largest id and one, and the largest number there is.
-pub fn id_lines(rows: &[u32], slots: &[u32], t: Tables, out: &mut [u8], pen: Pen) -> Pen {
+pub fn id_lines(rows: &[u32], slots: &[u64], t: Tables, out: &mut [u8], pen: Pen) -> Pen {
     let ids = t.ids;
     let a = own_ids(rows, slots, t, out, pen);
     let b = id_line(rows, slots, ids, 0, out, a);
@@ -17,7 +17,7 @@ pub fn id_lines(rows: &[u32], slots: &[u32], t: Tables, out: &mut [u8], pen: Pen
     id_line(rows, slots, ids, u32::MAX, out, d)
 }
 
-fn own_ids(rows: &[u32], slots: &[u32], t: Tables, out: &mut [u8], pen: Pen) -> Pen {
+fn own_ids(rows: &[u32], slots: &[u64], t: Tables, out: &mut [u8], pen: Pen) -> Pen {
     let mut last = pen;
     let mut i = 0;
     while i < t.records {
@@ -27,7 +27,7 @@ fn own_ids(rows: &[u32], slots: &[u32], t: Tables, out: &mut [u8], pen: Pen) -> 
     last
 }
 
-fn own_id(rows: &[u32], slots: &[u32], t: Tables, i: usize, out: &mut [u8], pen: Pen) -> Pen {
+fn own_id(rows: &[u32], slots: &[u64], t: Tables, i: usize, out: &mut [u8], pen: Pen) -> Pen {
     let ids = t.ids;
     match lookup::entity(rows, t, i) {
         Entry::Nothing => pen,
@@ -36,7 +36,7 @@ fn own_id(rows: &[u32], slots: &[u32], t: Tables, i: usize, out: &mut [u8], pen:
 }
 
 // The line of the id past the largest, where there is one.
-fn past_line(rows: &[u32], slots: &[u32], t: Tables, out: &mut [u8], pen: Pen) -> Pen {
+fn past_line(rows: &[u32], slots: &[u64], t: Tables, out: &mut [u8], pen: Pen) -> Pen {
     if t.max == u32::MAX {
         return pen;
     }
@@ -44,7 +44,7 @@ fn past_line(rows: &[u32], slots: &[u32], t: Tables, out: &mut [u8], pen: Pen) -
 }
 
 // `l ID J`, or `l ID none`
-fn id_line(rows: &[u32], slots: &[u32], ids: Ids, id: u32, out: &mut [u8], pen: Pen) -> Pen {
+fn id_line(rows: &[u32], slots: &[u64], ids: Ids, id: u32, out: &mut [u8], pen: Pen) -> Pen {
     let a = text::byte(out, pen, b'l');
     let b = text::spaced(out, a, id as u64);
     match index::get(rows, slots, ids, id) {

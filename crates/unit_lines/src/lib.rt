@@ -8,7 +8,7 @@ use units::Values;
 pub fn unit_line(
     file: &[u8],
     rows: &[u32],
-    slots: &[u32],
+    slots: &[u64],
     t: Tables,
     out: &mut [u8],
     pen: Pen,

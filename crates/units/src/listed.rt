@@ -111,7 +111,7 @@ fn with_angle(u: Values, f: Factor) -> Resolved
 }
 
 // One unit of a list, by its id.
-fn one_unit(file: &[u8], rows: &[u32], slots: &[u32], t: Tables, u: Values, id: u32) -> Resolved
+fn one_unit(file: &[u8], rows: &[u32], slots: &[u64], t: Tables, u: Values, id: u32) -> Resolved
     ensures { λ r. ⌜ toldUnits r ≡ unitBy (now (file .entry)) (findOf (now (file .entry)) (now (rows .entry)) (now (slots .entry)) (t .ids)) (valuesIn u) id ⌝ }
 {
     let Entry::Row(w) = lookup::get(rows, slots, t, id) else {
@@ -127,7 +127,7 @@ fn one_unit(file: &[u8], rows: &[u32], slots: &[u32], t: Tables, u: Values, id: 
 }
 
 // The units of the list whose inside is b.
-fn units_from(file: &[u8], rows: &[u32], slots: &[u32], t: Tables, b: &[u8]) -> Resolved
+fn units_from(file: &[u8], rows: &[u32], slots: &[u64], t: Tables, b: &[u8]) -> Resolved
     requires { ⌜ ReadsAll (now b) ⌝ }
     ensures { λ r. ⌜ toldUnits r ≡ unitsBy (now (file .entry)) (findOf (now (file .entry)) (now (rows .entry)) (now (slots .entry)) (t .ids)) defaults (idsOf (now (b .entry))) ⌝ }
 {
@@ -154,7 +154,7 @@ fn units_from(file: &[u8], rows: &[u32], slots: &[u32], t: Tables, b: &[u8]) -> 
 }
 
 // The units that a context lists.
-fn listed_units(file: &[u8], rows: &[u32], slots: &[u32], t: Tables, row: RecordSpan) -> Resolved
+fn listed_units(file: &[u8], rows: &[u32], slots: &[u64], t: Tables, row: RecordSpan) -> Resolved
     ensures { λ r. ⌜ toldUnits r ≡ onward (listedUnits (now (file .entry)) (findOf (now (file .entry)) (now (rows .entry)) (now (slots .entry)) (t .ids))) (thingOf (now (file .entry)) (rowOf row)) ⌝ }
 {
     match refs_in(
@@ -168,7 +168,7 @@ fn listed_units(file: &[u8], rows: &[u32], slots: &[u32], t: Tables, row: Record
 }
 
 // One listed uncertainty: a simple UNCERTAINTY_MEASURE_WITH_UNIT that reads.
-fn one_uncertainty(file: &[u8], rows: &[u32], slots: &[u32], t: Tables, id: u32) -> Uncertain
+fn one_uncertainty(file: &[u8], rows: &[u32], slots: &[u64], t: Tables, id: u32) -> Uncertain
     ensures { λ r. ⌜ toldUncertain r ≡ uncertaintyBy (now (file .entry)) (findOf (now (file .entry)) (now (rows .entry)) (now (slots .entry)) (t .ids)) id ⌝ }
 {
     let Entry::Row(w) = lookup::get(rows, slots, t, id) else {
@@ -205,7 +205,7 @@ fn uncertain_by(n: NextReal) -> Uncertain
 }
 
 // The tolerance of the list whose inside is b.
-fn tolerance_from(file: &[u8], rows: &[u32], slots: &[u32], t: Tables, b: &[u8]) -> Tolerance
+fn tolerance_from(file: &[u8], rows: &[u32], slots: &[u64], t: Tables, b: &[u8]) -> Tolerance
     requires { ⌜ ReadsAll (now b) ⌝ }
     ensures { λ r. ⌜ toldTolerance r ≡ toleranceBy (now (file .entry)) (findOf (now (file .entry)) (now (rows .entry)) (now (slots .entry)) (t .ids)) (idsOf (now (b .entry))) ⌝ }
 {
@@ -234,7 +234,7 @@ fn tolerance_from(file: &[u8], rows: &[u32], slots: &[u32], t: Tables, b: &[u8])
 fn listed_tolerance(
     file: &[u8],
     rows: &[u32],
-    slots: &[u32],
+    slots: &[u64],
     t: Tables,
     row: RecordSpan,
 ) -> Tolerance
@@ -254,7 +254,7 @@ fn listed_tolerance(
 pub fn units_of_context(
     file: &[u8],
     rows: &[u32],
-    slots: &[u32],
+    slots: &[u64],
     t: Tables,
     row: RecordSpan,
 ) -> Resolved
