@@ -51,6 +51,7 @@ fn agree(c: &Case, asked: &[u32]) -> Lines {
     for &id in asked {
         let row = c.table.get(id);
         assert_eq!(row, map.get(&id).copied(), "#{id} of {}", c.name);
+        assert_eq!(row, c.table.get_many(&[id])[0], "one of many, #{id} of {}", c.name);
         assert_eq!(row, c.table.counted(id, &mut lines), "the counting search, #{id} of {}", c.name);
         if let Some(file) = &c.rust {
             let entity = file.get(id).map(|e| std::ptr::from_ref(e));
@@ -60,16 +61,29 @@ fn agree(c: &Case, asked: &[u32]) -> Lines {
     lines
 }
 
-/// Nanoseconds a lookup, each side's least. `mask` is 0; where a lookup waits for the one before, the id that was found is hidden in
-/// the next one by it.
-fn lookups(c: &Case, asked: &[u32], waits: bool) -> (Option<f64>, f64) {
+/// Nanoseconds a lookup, the least of each: the original's, the proved one by a call for each id, and by one call for many.
+fn lookups(c: &Case, asked: &[u32]) -> (Option<f64>, f64, f64) {
+    let (mut a, mut b, mut m) = (u64::MAX, u64::MAX, u64::MAX);
+    for _ in 0..ROUNDS {
+        if let Some(file) = &c.rust {
+            least(&mut a, || rust_gets(file, asked));
+        }
+        least(&mut b, || c.table.gets(asked));
+        least(&mut m, || c.table.gets_many(asked));
+    }
+    let each = |t: u64| t as f64 / asked.len() as f64;
+    (c.rust.is_some().then_some(each(a)), each(b), each(m))
+}
+
+/// The same where a lookup waits for the one before, each side's least: the id that was found is hidden in the next one by the mask, which is 0.
+fn waiting(c: &Case, asked: &[u32]) -> (Option<f64>, f64) {
     let (mut a, mut b) = (u64::MAX, u64::MAX);
     let mask = std::hint::black_box(0);
     for _ in 0..ROUNDS {
         if let Some(file) = &c.rust {
-            least(&mut a, || if waits { rust_chain(file, asked, mask) } else { rust_gets(file, asked) });
+            least(&mut a, || rust_chain(file, asked, mask));
         }
-        least(&mut b, || if waits { c.table.chain(asked, mask) } else { c.table.gets(asked) });
+        least(&mut b, || c.table.chain(asked, mask));
     }
     let each = |t: u64| t as f64 / asked.len() as f64;
     (c.rust.is_some().then_some(each(a)), each(b))
@@ -114,6 +128,12 @@ fn columns(x: (Option<f64>, f64)) -> String {
     format!("{} | {:.1} | {ratio}", told(x.0), x.1)
 }
 
+/// Five columns: each side's time and the ratio, and the time of one call for many with its ratio.
+fn more_columns(x: (Option<f64>, f64, f64)) -> String {
+    let ratio = x.0.map_or("-".to_string(), |v| format!("{:.2}", x.2 / v));
+    format!("{} | {:.1} | {ratio}", columns((x.0, x.1)), x.2)
+}
+
 fn counts(c: &Case, first: &Lines, second: &Lines) -> String {
     let bytes = (spelt(c.rust_bytes), spelt(c.table.bytes()));
     format!("| {} | {} | {} | {} | {} | {} | {} |\n", c.name, c.table.order(), first.looks(), first.told(), second.told(), bytes.0, bytes.1)
@@ -128,14 +148,16 @@ fn generated() {
         let mut draw = Draw::new();
         let (there, not) = (present(&ids, ASKED, &mut draw), absent(&ids, ASKED, &mut draw));
         touched += &counts(&c, &agree(&c, &there), &agree(&c, &not));
-        let (free, chained, missed) = (lookups(&c, &there, false), lookups(&c, &there, true), lookups(&c, &not, false));
+        let (free, chained, missed) = (lookups(&c, &there), waiting(&c, &there), lookups(&c, &not));
         let built = builds(&mut c);
         let ms = |t: u64| t as f64 / 1e6;
         times += &format!("| {} | {} | {:.1} |", c.name, told(built.0.map(ms)), ms(built.1));
-        times += &format!(" {} | {} | {} |\n", columns(free), columns(chained), columns(missed));
+        times += &format!(" {} | {} | {} |\n", more_columns(free), columns(chained), more_columns(missed));
     }
-    println!("| 1,000,000 records with ids | Rust build ms | proved | Rust ns a lookup | proved | ratio | waiting: Rust | proved | ratio | absent: Rust | proved | ratio |");
-    println!("|---|---|---|---|---|---|---|---|---|---|---|---|\n{times}");
+    println!(
+        "| 1,000,000 records with ids | Rust build ms | proved | Rust ns a lookup | proved | ratio | many | ratio | waiting: Rust | proved | ratio | absent: Rust | proved | ratio | many | ratio |"
+    );
+    println!("|---|---|---|---|---|---|---|---|---|---|---|---|---|---|---|---|\n{times}");
     println!("| ids | found by the build | looks | lines a lookup | lines, absent | Rust bytes | proved bytes |");
     println!("|---|---|---|---|---|---|---|\n{touched}");
 }
@@ -152,14 +174,16 @@ fn real(names: &[String]) {
         let drawn = present(&ids, ASKED, &mut Draw::new());
         let met = ids::references(&c.file);
         touched += &counts(&c, &agree(&c, &drawn), &agree(&c, &met));
-        let (free, chained) = (lookups(&c, &met, false), lookups(&c, &met, true));
+        let (free, chained) = (lookups(&c, &met), waiting(&c, &met));
         let (built, opened) = (builds(&mut c), opens(&mut c));
         let us = |t: u64| t as f64 / 1e3;
         times += &format!("| {} | {} | {} | {:.1} |", c.name, c.records, told(built.0.map(us)), us(built.1));
-        times += &format!(" {} | {} | {} |\n", columns((Some(us(opened.0)), us(opened.1))), columns(free), columns(chained));
+        times += &format!(" {} | {} | {} |\n", columns((Some(us(opened.0)), us(opened.1))), more_columns(free), columns(chained));
     }
-    println!("| file | records | Rust build µs | proved | Rust open µs | proved | ratio | references: Rust ns | proved | ratio | waiting: Rust | proved | ratio |");
-    println!("|---|---|---|---|---|---|---|---|---|---|---|---|---|\n{times}");
+    println!(
+        "| file | records | Rust build µs | proved | Rust open µs | proved | ratio | references: Rust ns | proved | ratio | many | ratio | waiting: Rust | proved | ratio |"
+    );
+    println!("|---|---|---|---|---|---|---|---|---|---|---|---|---|---|---|\n{times}");
     println!("| file | found by the build | looks | lines a lookup, drawn | lines, references | Rust bytes | proved bytes |");
     println!("|---|---|---|---|---|---|---|\n{touched}");
 }

@@ -77,7 +77,8 @@ uint8_t hooflift_open(const uint8_t *file, size_t file_len, uint32_t *headers, s
 uint8_t hooflift_scan(const uint8_t *file, size_t file_len, uint32_t *headers, size_t headers_len, uint32_t *rows, size_t rows_len,
                       size_t slots, uint64_t *out, size_t out_len);
 
-/* Indexes the first `count` rows by id in the slots, and tells what stands beside them in HOOFLIFT_IDS numbers; 16 where `ids` is shorter. */
+/* Indexes the first `count` rows by id in the slots, and tells what stands beside them in HOOFLIFT_IDS numbers; 16 where `ids` is shorter, or where
+ * there are fewer slots than rows to index, and nothing is written: no row is left out unseen. */
 uint8_t hooflift_index(const uint32_t *rows, size_t rows_len, size_t count, uint64_t *slots, size_t slots_len, uint64_t *ids, size_t ids_len);
 
 /* The number of the last row with this id, or HOOFLIFT_NO_ROW. `ids` is what `hooflift_index` or `hooflift_open` told.
@@ -85,7 +86,12 @@ uint8_t hooflift_index(const uint32_t *rows, size_t rows_len, size_t count, uint
 uint32_t hooflift_get(const uint32_t *rows, size_t rows_len, const uint64_t *slots, size_t slots_len, const uint64_t *ids, size_t ids_len,
                       uint32_t id);
 
-/* The same as a row of HOOFLIFT_ROW numbers; 14 where there is none, 16 where `row` is shorter. 01: "14 arguments asked of an id with no record". */
+/* The same for each of many ids: found[k] is the number of the last row of ids[k], or HOOFLIFT_NO_ROW; 16 where `found` is shorter than `ids`, and
+ * nothing is written. A call for many costs less than a call for each. */
+uint8_t hooflift_get_all(const uint32_t *rows, size_t rows_len, const uint64_t *slots, size_t slots_len, const uint64_t *beside, size_t beside_len,
+                         const uint32_t *ids, size_t ids_len, uint32_t *found, size_t found_len);
+
+/* The last record with this id as a row of HOOFLIFT_ROW numbers; 14 where there is none, 16 where `row` is shorter. 01: "14 arguments asked of an id with no record". */
 uint8_t hooflift_require(const uint32_t *rows, size_t rows_len, const uint64_t *slots, size_t slots_len, const uint64_t *tables,
                          size_t tables_len, uint32_t id, uint64_t *row, size_t row_len);
 

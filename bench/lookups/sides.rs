@@ -35,7 +35,22 @@ unsafe extern "C" {
         ids_len: usize,
         id: u32,
     ) -> u32;
+    fn hooflift_get_all(
+        rows: *const u32,
+        rows_len: usize,
+        slots: *const u64,
+        slots_len: usize,
+        beside: *const u64,
+        beside_len: usize,
+        ids: *const u32,
+        ids_len: usize,
+        found: *mut u32,
+        found_len: usize,
+    ) -> u8;
 }
+
+/// How many ids are asked for in one call.
+const MANY: usize = 256;
 
 const NONE: u32 = u32::MAX;
 /// Where the id begins in a slot: above the row.
@@ -174,6 +189,42 @@ impl Table {
 
     pub fn id(&self, row: usize) -> u32 {
         self.rows.numbers()[row * 6]
+    }
+
+    fn get_into(&self, asked: &[u32], found: &mut [u32]) {
+        // SAFETY: each pointer goes with its room's length.
+        let code = unsafe {
+            hooflift_get_all(
+                self.rows.place(),
+                self.rows.len,
+                self.slots.place(),
+                self.slots.len,
+                self.beside.as_ptr(),
+                self.beside.len(),
+                asked.as_ptr(),
+                asked.len(),
+                found.as_mut_ptr(),
+                found.len(),
+            )
+        };
+        assert_eq!(code, 0);
+    }
+
+    pub fn get_many(&self, asked: &[u32]) -> Vec<Option<usize>> {
+        let mut found = vec![0; asked.len()];
+        self.get_into(asked, &mut found);
+        found.into_iter().map(|row| (row != NONE).then_some(row as usize)).collect()
+    }
+
+    /// As `rust_gets`, by one call for many ids.
+    pub fn gets_many(&self, asked: &[u32]) -> u64 {
+        let mut found = [0; MANY];
+        let mut sum = 0;
+        for ids in asked.chunks(MANY) {
+            self.get_into(ids, &mut found);
+            sum += found[..ids.len()].iter().map(|&r| if r == NONE { 0 } else { u64::from(self.id(r as usize)) + 1 }).sum::<u64>();
+        }
+        sum
     }
 
     /// As `rust_gets`.

@@ -149,6 +149,21 @@ impl<'f> Step<'f> {
         }
     }
 
+    /// For each id the number of its last record, as `record` takes it, or none. One call for many ids costs less than `get` for each.
+    ///
+    /// ```
+    /// let file = b"ISO-10303-21;DATA;#7=A();#9=B();#7=C();ENDSEC;END-ISO-10303-21;";
+    /// let step = hooflift::Step::open(file)?;
+    /// assert_eq!(step.numbers_of(&[7, 8, 9]), [Some(2), None, Some(1)]);
+    /// # Ok::<(), hooflift::Error>(())
+    /// ```
+    pub fn numbers_of(&self, ids: &[u32]) -> Vec<Option<usize>> {
+        let mut found = vec![NO_ROW; ids.len()];
+        // There is room for all, so that it answers 0.
+        raw::hooflift_get_all(&self.rows, &self.slots, &self.tables, ids, &mut found);
+        found.into_iter().map(|row| if row == NO_ROW { None } else { usize::try_from(row).ok() }).collect()
+    }
+
     /// The last record of an id; 14 where there is none.
     pub fn require(&self, id: u32) -> Result<Record<'_, 'f>> {
         self.get(id).ok_or(Error::refused(14, 0))

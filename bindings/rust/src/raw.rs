@@ -43,6 +43,7 @@ boundary! {
     hooflift_needs(slice file: u8, room needs: u64, out reason: u8, out fault: usize) -> u8;
     hooflift_open(slice file: u8, room headers: u32, room rows: u32, room slots: u64, room tables: u64, out reason: u8, out fault: usize) -> u8;
     hooflift_get(slice rows: u32, slice slots: u64, slice ids: u64, by id: u32) -> u32;
+    hooflift_get_all(slice rows: u32, slice slots: u64, slice beside: u64, slice ids: u32, room found: u32) -> u8;
     hooflift_kind_of(slice file: u8, slice rows: u32, slice slots: u64, slice tables: u64, by id: u32) -> u32;
     hooflift_len(slice tables: u64) -> usize;
     hooflift_entity(slice rows: u32, slice tables: u64, by k: usize, room row: u64) -> u8;

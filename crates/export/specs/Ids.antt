@@ -1,12 +1,13 @@
 -- The id index as plain numbers, for a host in another language.
 -- Assumes nothing.
-use Prim.Native.Nat.{ℕ, _*_, _-_, _≤_, _<_}
+use Prim.Native.Nat.{ℕ, _*_, _/_, _-_, _≤_, _<_, min}
 use mathlib.Core.Path.{_≡_, refl, sym, _∙_, ap, subst}
-use mathlib.Core.Bool.{Bool, true, false}
+use mathlib.Core.Bool.{Bool, true, false, _&&_}
 use mathlib.Core.List.{List, [], _∷_}
-use mathlib.Core.Option.{Option, none, some}
+use mathlib.Core.Option.{some}
 use native.Mathlib.Omega.{arith}
 use lib.Dec.{leb}
+use borrow.Author.Tests.{leb-true}
 use lib.ListN.{length, getD}
 use lib.Seq.{sets}
 use Rattle.lex.specs.Byte.{pick}
@@ -16,29 +17,43 @@ use Rattle.index.specs.Index.{Built, built-slots-only, built-only}
 use Rattle.index.specs.Search.{searched}
 use Rattle.index.specs.SearchRight.{get-right, get-safe}
 use Rattle.index.specs.declared.Ids.{Ids}
+use Rattle.finds.specs.Finds.{rowNumber, Told}
 use Rattle.plain.specs.Numbers.{idsNumbers, idsBy}
 use Rattle.plain.specs.Laws.{ids-back}
 
--- 0, or 16 where there is no room for eight numbers
-abbrev pub indexCode : List ℕ → ℕ
-indexCode ids = pick (leb 8 (length ids)) 0 16
+-- what a host lends for the index of so many records suffices: there is room for eight numbers, and a slot for each record that the rows, of
+-- this many numbers, have
+abbrev pub lentEnough : ℕ → ℕ → ℕ → ℕ → Bool
+lentEnough rows count slots ids = leb 8 ids && leb (min count (rows / 6)) slots
 
--- what a host is left with: the index in the slots, and what stands beside them in the lent numbers; where there is no room
--- for eight, all as it was
+-- 0, or 16 where what is lent does not suffice
+abbrev pub indexCode : List ℕ → ℕ → List ℕ → List ℕ → ℕ
+indexCode rows count slots ids = pick (lentEnough (length rows) count (length slots) (length ids)) 0 16
+
+-- what a host is left with: the index in the slots, and what stands beside them in the lent numbers; where what is lent does not
+-- suffice, all as it was
 pub data Indexed (rows : List ℕ) (count : ℕ) (slots after ids told : List ℕ) : Type 0 where
-  short : length ids < 8 → after ≡ slots → told ≡ ids → Indexed rows count slots after ids told
-  built : 8 ≤ length ids → (b : Ids) → Built (idOf rows) (tableRoom (length rows) (length slots) count) slots after b → told ≡ sets ids 0 (idsNumbers b) → Indexed rows count slots after ids told
+  short : lentEnough (length rows) count (length slots) (length ids) ≡ false → after ≡ slots → told ≡ ids → Indexed rows count slots after ids told
+  built : lentEnough (length rows) count (length slots) (length ids) ≡ true → (b : Ids) → Built (idOf rows) (tableRoom (length rows) (length slots) count) slots after b → told ≡ sets ids 0 (idsNumbers b) → Indexed rows count slots after ids told
 
--- a row's number, or a number that no row has
-abbrev pub rowNumber : Option ℕ → ℕ
-rowNumber none = 4294967295
-rowNumber (some r) = r
+-- it does not both suffice and not
+lent-once : (t : Bool) → t ≡ true → t ≡ false → ⊥
+lent-once true e f = let q : _≡_ {A = ℕ} 0 1 = cc in omega arith
+lent-once false e f = let q : _≡_ {A = ℕ} 0 1 = cc in omega arith
+
+-- what suffices has room for eight numbers
+pub lent-eight : (rows count slots ids : ℕ) → lentEnough rows count slots ids ≡ true → 8 ≤ ids
+lent-eight rows count slots ids e = go (leb 8 ids) refl e
+  where
+    go : (t : Bool) → leb 8 ids ≡ t → (t && leb (min count (rows / 6)) slots) ≡ true → 8 ≤ ids
+    go true q e = leb-true 8 ids q
+    go false q e = absurd (lent-once false e refl)
 
 -- what two such answers leave is the same
 pub indexed-only : {rows : List ℕ} {count : ℕ} {slots xs ys ids us vs : List ℕ} → Indexed rows count slots xs ids us → Indexed rows count slots ys ids vs → (xs ≡ ys) × (us ≡ vs)
 indexed-only (short h e f) (short k p q) = (e ∙ sym p, f ∙ sym q)
-indexed-only (short h e f) (built k b p q) = absurd (omega arith)
-indexed-only (built h a e f) (short k p q) = absurd (omega arith)
+indexed-only (short h e f) (built k b p q) = absurd (lent-once _ k h)
+indexed-only (built h a e f) (short k p q) = absurd (lent-once _ h k)
 indexed-only {rows} {count} {slots} {xs} {ys} {ids} (built h a e f) (built k b p q) = (same, f ∙ ap (λ (c : Ids). sets ids 0 (idsNumbers c)) (built-only (idOf rows) n slots ys a b (subst (λ (zs : List ℕ). Built (idOf rows) n slots zs a) same e) p) ∙ sym q)
   where
     n : ℕ
@@ -52,10 +67,10 @@ id-small : (rows : List ℕ) → ((i : ℕ) → getD rows i 0 < 4294967296) → 
 id-small rows h r = h (r * 6)
 
 -- a host's lookup, by the slots and the numbers that the index left with it, answers like the map
-pub host-right : {rows slots after ids told : List ℕ} {count : ℕ} → 8 ≤ length ids → ((i : ℕ) → getD rows i 0 < 4294967296) → Indexed rows count slots after ids told → (k : ℕ)
+pub host-right : {rows slots after ids told : List ℕ} {count : ℕ} → lentEnough (length rows) count (length slots) (length ids) ≡ true → ((i : ℕ) → getD rows i 0 < 4294967296) → Indexed rows count slots after ids told → (k : ℕ)
     → searched rows after (idsBy told) k ≡ lookupOf (idOf rows) (tableRoom (length rows) (length slots) count) k
-host-right h w (short g e f) k = absurd (omega arith)
-host-right {rows} {slots} {after} {ids} {told} {count} h w (built g b e f) k = ap (λ (c : Ids). searched rows after c k) (ap idsBy f ∙ ids-back b ids (omega arith) (small (b .first) (rowAt (b .direct) after 0) (e .first)) (small (b .last) (rowAt (b .direct) after ((tableRoom (length rows) (length slots) count) - 1)) (e .last)) (let s = e .shift .short in omega arith)) ∙ get-right rows slots after count k b e
+host-right h w (short g e f) k = absurd (lent-once _ h g)
+host-right {rows} {slots} {after} {ids} {told} {count} h w (built g b e f) k = ap (λ (c : Ids). searched rows after c k) (ap idsBy f ∙ ids-back b ids (let q = lent-eight (length rows) count (length slots) (length ids) h in omega (arith, q)) (small (b .first) (rowAt (b .direct) after 0) (e .first)) (small (b .last) (rowAt (b .direct) after ((tableRoom (length rows) (length slots) count) - 1)) (e .last)) (let s = e .shift .short in omega arith)) ∙ get-right rows slots after count k b e
   where
     small : (x r : ℕ) → x ≡ idOf rows r → x < 4294967296
     small x r q = subst (λ (y : ℕ). y < 4294967296) (sym q) (id-small rows w r)
@@ -63,3 +78,7 @@ host-right {rows} {slots} {after} {ids} {told} {count} h w (built g b e f) k = a
 -- no row has the number that says that there is none
 pub row-told : (rows slots : List ℕ) (b : Ids) (k r : ℕ) → searched rows slots b k ≡ some r → r < 4294967295
 row-told rows slots b k r e = let h = get-safe rows slots b k r e .0 in omega arith
+
+-- what is told of many ids goes by what stands beside the slots
+pub told-by : (rows slots ids before after : List ℕ) (b c : Ids) → b ≡ c → Told (λ k. rowNumber (searched rows slots b k)) ids before after → Told (λ k. rowNumber (searched rows slots c k)) ids before after
+told-by rows slots ids before after b c e h = subst (λ (d : Ids). Told (λ k. rowNumber (searched rows slots d k)) ids before after) e h

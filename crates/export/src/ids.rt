@@ -1,12 +1,22 @@
 // The id index, for hosts in other languages: what stands beside the slots goes through eight lent numbers.
 ghost use mathlib.Core.Path.{_≡_};
+ghost use lib.Dec.{leb};
+ghost use lib.ListN.{length};
+ghost use Rattle.lex.specs.Byte.{pick};
 ghost use Rattle.index.specs.Search.{searched};
 ghost use Rattle.plain.specs.Numbers.{idsBy};
-ghost use Rattle.export.specs.Ids.{indexCode, Indexed, rowNumber};
-use index::Found;
+ghost use Rattle.finds.specs.Finds.{rowNumber, Told};
+ghost use Rattle.export.specs.Ids.{lentEnough, indexCode, Indexed};
+
+// Whether slots and numbers of these lengths suffice for so many records of a table.
+fn enough(rows: usize, count: usize, slots: usize, ids: usize) -> bool
+    ensures { λ r. ⌜ r ≡ lentEnough rows count slots ids ⌝ }
+{
+    (8 <= ids) & (lex::within(count, rows / 6) <= slots)
+}
 
 // Builds the index of the first `count` rows in the slots: 0, with what stands beside them in the first of eight numbers; or 16 where
-// `ids` has no room for eight, and everything as it was.
+// `ids` has no room for eight or a record would have no slot, and everything as it was.
 #[no_mangle]
 pub extern "C" fn hooflift_index(
     rows: &[u32],
@@ -14,15 +24,15 @@ pub extern "C" fn hooflift_index(
     slots: &mut [u64],
     ids: &mut [u64],
 ) -> u8
-    ensures { λ n. ⌜ n ≡ indexCode (now (ids .entry)) ⌝ }
+    ensures { λ n. ⌜ n ≡ indexCode (now (rows .entry)) count (now (slots .entry)) (now (ids .entry)) ⌝ }
     ensures { λ _. ⌜ Indexed (now (rows .entry)) count (now (slots .entry)) (now (slots .exit)) (now (ids .entry)) (now (ids .exit)) ⌝ }
 {
-    if ids.len() < 8 {
-        return 16;
+    if enough(rows.len(), count, slots.len(), ids.len()) {
+        let b = index::build(rows, count, slots);
+        plain::put_ids(ids, b);
+        return 0;
     }
-    let b = index::build(rows, count, slots);
-    plain::put_ids(ids, b);
-    0
+    16
 }
 
 // The last row with this id, by the slots and the eight numbers that `hooflift_index` left; or 4294967295 where there is none.
@@ -31,8 +41,25 @@ pub extern "C" fn hooflift_get(rows: &[u32], slots: &[u64], ids: &[u64], id: u32
     ensures { λ r. ⌜ r ≡ rowNumber (searched (now (rows .entry)) (now (slots .entry)) (idsBy (now (ids .entry))) id) ⌝ }
 {
     let b = plain::ids_of(ids);
-    match index::get(rows, slots, b, id) {
-        Found::At(r) => r,
-        Found::Nothing => 4294967295,
+    finds::number_of(index::get(rows, slots, b, id))
+}
+
+// The last row of each id, or 4294967295 where there is none, at the start of `found`, in the order of the ids: 0. Or 16 where `found` is
+// shorter than the ids, and everything as it was.
+#[no_mangle]
+pub extern "C" fn hooflift_get_all(
+    rows: &[u32],
+    slots: &[u64],
+    beside: &[u64],
+    ids: &[u32],
+    found: &mut [u32],
+) -> u8
+    ensures { λ n. ⌜ n ≡ pick (leb (length (now (ids .entry))) (length (now (found .entry)))) 0 16 ⌝ }
+    ensures { λ _. ⌜ Told (λ k. rowNumber (searched (now (rows .entry)) (now (slots .entry)) (idsBy (now (beside .entry))) k)) (now (ids .entry)) (now (found .entry)) (now (found .exit)) ⌝ }
+{
+    let b = plain::ids_of(beside);
+    if finds::get_all(rows, slots, b, ids, found) {
+        return 0;
     }
+    16
 }

@@ -6,6 +6,7 @@ mod real;
 mod text;
 
 pub use ids::hooflift_get;
+pub use ids::hooflift_get_all;
 pub use ids::hooflift_index;
 pub use readers::hooflift_f64_list;
 pub use readers::hooflift_skip;
