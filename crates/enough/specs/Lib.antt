@@ -1,2 +1,1 @@
 pub mod Enough
-pub mod Texts
