@@ -3,18 +3,22 @@
 -- Assumes nothing.
 use Prim.Native.Nat.{ℕ, _+_, _-_, _≤_, min}
 use mathlib.Core.Path.{_≡_, refl, sym, _∙_, ap, subst}
-use mathlib.Core.Bool.{Bool, true}
+use mathlib.Core.Bool.{Bool, true, _&&_}
 use mathlib.Core.List.{List, [], _∷_, _++_, map}
 use native.Mathlib.Omega.{arith}
+use borrow.Author.Tests.{le-leb}
+use lib.Dec.{leb}
 use lib.ListN.{length, take, drop, length-map, length-append}
+use Rattle.error.specs.Refusal.{refusal, Told, good, bad}
 use Rattle.lex.specs.Byte.{pick}
+use Rattle.params.specs.Reader.{Span, onward, paramOf}
 use Rattle.reals.specs.Scalar.{Answer}
 use Rattle.strings.specs.Put.{most}
 use Rattle.strings.specs.Text.{bytesOf}
-use Rattle.words.specs.Words.{isString}
-use Rattle.lists.specs.Items.{Fate, fine, asFate, listOf, valuesOf}
+use Rattle.words.specs.Words.{isString, partOf}
+use Rattle.lists.specs.Items.{Fate, fine, asFate, listOf, valuesOf, roomed, nextBy, fitsIn}
 use Rattle.lists.specs.Any.{list-counted, rows-counted}
-use Rattle.grids.specs.Grid.{flat, gridOf}
+use Rattle.grids.specs.Grid.{flat, gridOf, gridFits}
 use Rattle.lengths.specs.Lengths.{textLen, itemsLen, numbersLen, rowsLen, rowsIn}
 use Rattle.lengths.specs.Greatest.{Greatest}
 use Rattle.needs.specs.declared.Needs.{Needs}
@@ -74,3 +78,23 @@ module _ (s : List ℕ) (c : Needs) (b : Behind s c) where
     pub text-enough : isString t ≡ true → min most (length (bytesOf (take (length t - 1 - 1) (drop 1 t)))) ≤ c .text
     unfolding textLen
     text-enough h = subst (λ (k : Bool). pick k (min most (length (bytesOf (take (length t - 1 - 1) (drop 1 t))))) 0 ≤ c .text) h (text-exact .all t d)
+
+    -- so where the parameter that a reader finds is a list that reads, it is answered, and never 16, with a room of that size or more
+    pub list-answered : {A : Type 0} (f : List ℕ → Answer A) (vs : List A) → listOf f t ≡ fine vs → (p e : ℕ) (a : Span) → paramOf s p e .answer ≡ good a → partOf s a ≡ t
+        → (room : ℕ) → c .items ≤ room → nextBy (listOf f) (fitsIn room) s p e .answer ≡ good vs
+    unfolding nextBy
+    list-answered {A} f vs h p e a g w room k =
+        ap (onward (λ (x : Span). roomed (fitsIn room) (x .start) (listOf f (partOf s x)))) g ∙ ap (λ (u : List ℕ). roomed (fitsIn room) (a .start) (listOf f u)) w ∙ ap (roomed (fitsIn room) (a .start)) h
+        ∙ ap (λ (z : Bool). pick z (good vs) (bad (refusal 16 0 (a .start)))) (le-leb (length vs) room (omega (arith, list-enough f vs h)))
+
+    -- and so is a grid, with row ends for that many rows or more
+    pub grid-answered : {A : Type 0} (f : List ℕ → Answer A) (vs : List (List A)) → gridOf f t ≡ fine vs → (p e : ℕ) (a : Span) → paramOf s p e .answer ≡ good a → partOf s a ≡ t
+        → (room ends : ℕ) → c .items ≤ room → c .rows ≤ ends → nextBy (gridOf f) (gridFits room ends) s p e .answer ≡ good vs
+    unfolding nextBy
+    grid-answered {A} f vs h p e a g w room ends k l =
+        let n = grid-enough f vs h in
+        let i : length (flat vs) ≤ room = omega (arith, n .0) in
+        let j : length vs ≤ ends = omega (arith, n .1) in
+        ap (onward (λ (x : Span). roomed (gridFits room ends) (x .start) (gridOf f (partOf s x)))) g ∙ ap (λ (u : List ℕ). roomed (gridFits room ends) (a .start) (gridOf f u)) w ∙ ap (roomed (gridFits room ends) (a .start)) h
+        ∙ ap (λ (z : Bool). pick (z && leb (length vs) ends) (good vs) (bad (refusal 16 0 (a .start)))) (le-leb (length (flat vs)) room i)
+        ∙ ap (λ (z : Bool). pick (true && z) (good vs) (bad (refusal 16 0 (a .start)))) (le-leb (length vs) ends j)
