@@ -1,21 +1,29 @@
 -- What a file is said to need suffices, and less does not: no list, grid or text that a reader finds among the parameters of a record has more
 -- than is told, so a room of just that size is never too short; and some parameter has just so much.
 -- Assumes nothing.
-use Prim.Native.Nat.{ℕ, _+_, _-_, _≤_, min}
+use Prim.Native.Nat.{ℕ, _+_, _-_, _≤_, _<_, min}
 use mathlib.Core.Path.{_≡_, refl, sym, _∙_, ap, subst}
-use mathlib.Core.Bool.{Bool, true, _&&_}
+use mathlib.Core.Bool.{Bool, true, false, _&&_}
 use mathlib.Core.List.{List, [], _∷_, _++_, map}
 use native.Mathlib.Omega.{arith}
 use borrow.Author.Tests.{le-leb}
 use lib.Dec.{leb}
 use lib.ListN.{length, take, drop, length-map, length-append}
-use Rattle.error.specs.Refusal.{refusal, Told, good, bad}
+use lib.Seq.{take-all}
+use Rattle.error.specs.Refusal.{Refusal, refusal, Told, good, bad}
 use Rattle.lex.specs.Byte.{pick}
-use Rattle.params.specs.Reader.{Span, onward, paramOf}
+use Rattle.lex.specs.Right.Steps.{clash}
+use Rattle.scalars.specs.Scalars.{isUnset}
+use Rattle.params.specs.Reader.{Span, span, onward, paramOf}
+use Rattle.params.specs.Places.{param-past}
 use Rattle.reals.specs.Scalar.{Answer}
 use Rattle.strings.specs.Put.{most}
-use Rattle.strings.specs.Text.{bytesOf}
-use Rattle.words.specs.Words.{isString, partOf}
+use Rattle.strings.specs.Text.{plain, bytesOf}
+use Rattle.strings.specs.Code.{decodedOf}
+use Rattle.strings.specs.declared.Decoded.the-variants.{Plain, Written, Short}
+use Rattle.words.specs.Words.{isString, partOf, bodyOf, inFile, decodedAt, stringAt}
+use Rattle.words.specs.Rules.{Quoted}
+use Rattle.words.specs.RulesRight.{quoted-is, quoted-body}
 use Rattle.lists.specs.Items.{Fate, fine, asFate, listOf, valuesOf, roomed, nextBy, fitsIn}
 use Rattle.lists.specs.Any.{list-counted, rows-counted}
 use Rattle.grids.specs.Grid.{flat, gridOf, gridFits}
@@ -44,6 +52,10 @@ grid-numbers {A} f t vs e = sym (flat-length (λ (a : A). tt {0}) vs) ∙ ap (λ
 pub grid-rows : {A : Type 0} (f : List ℕ → Answer A) (t : List ℕ) (vs : List (List A)) → gridOf f t ≡ fine vs → length vs ≡ rowsLen t
 unfolding rowsLen
 grid-rows {A} f t vs e = sym (length-map vs (map (λ (a : A). tt {0}))) ∙ ap (λ (x : Fate (List (List (Unit {0})))). length (valuesOf x)) (sym (rows-counted (λ u. asFate (f u)) t vs e))
+
+-- "its text lies between first and last byte"
+text-body : (t b : List ℕ) → Quoted t b → take (length t - 1 - 1) (drop 1 t) ≡ b
+text-body t b d = quoted-body t (span 0 (length t)) b (omega arith) (omega arith) (subst (λ (u : List ℕ). Quoted u b) (sym (take-all (length t - 0) t (omega arith))) d)
 
 -- ---- a file: c is what it is said to need, of the table that its scan gives (needs/specs/Needs.behind)
 module _ (s : List ℕ) (c : Needs) (b : Behind s c) where
@@ -98,3 +110,37 @@ module _ (s : List ℕ) (c : Needs) (b : Behind s c) where
         ap (onward (λ (x : Span). roomed (gridFits room ends) (x .start) (gridOf f (partOf s x)))) g ∙ ap (λ (u : List ℕ). roomed (gridFits room ends) (a .start) (gridOf f u)) w ∙ ap (roomed (gridFits room ends) (a .start)) h
         ∙ ap (λ (z : Bool). pick (z && leb (length vs) ends) (good vs) (bad (refusal 16 0 (a .start)))) (le-leb (length (flat vs)) room i)
         ∙ ap (λ (z : Bool). pick (true && z) (good vs) (bad (refusal 16 0 (a .start)))) (le-leb (length vs) ends j)
+
+    -- and a text of it is never 16, in a room of that many bytes or more: only what is no string is refused. A lent room has fewer than 2^64
+    -- bytes
+    pub text-answered : (p e : ℕ) (a : Span) → paramOf s p e .answer ≡ good a → partOf s a ≡ t → (room : ℕ) → c .text ≤ room → room < most → (q : Refusal) → stringAt s room a ≡ bad q → q .number ≡ 12
+    unfolding stringAt
+    text-answered p e a g w room k m q h = go (isUnset (partOf s a)) (isString (partOf s a)) refl h
+      where
+        -- it lies in the file
+        inside : (a .start ≤ a .stop) × (a .stop ≤ length s)
+        inside = let (i, u) = param-past s p e a g in let b = u .ordered in let x = u .passed in let y = u .within in let z = i .1 in (omega arith, omega arith)
+
+        -- what is written fits
+        fits : isString (partOf s a) ≡ true → leb (length (bytesOf (bodyOf s a))) room ≡ true
+        fits v =
+            let (b, d) = quoted-is (partOf s a) v in
+            let x = quoted-body s a b (inside .0) (inside .1) d in
+            let y = text-body t b (subst (λ (u : List ℕ). Quoted u b) w d) in
+            let z = text-enough (sym (ap isString w) ∙ v) in
+            let o : length (bytesOf (take (length t - 1 - 1) (drop 1 t))) ≡ length (bytesOf (bodyOf s a)) = ap (λ (u : List ℕ). length (bytesOf u)) (y ∙ sym x) in
+            le-leb (length (bytesOf (bodyOf s a))) room (below (length (bytesOf (bodyOf s a))) (subst (λ (n : ℕ). min most n ≤ c .text) o z))
+          where
+            below : (n : ℕ) → min most n ≤ c .text → n ≤ room
+            below n j = omega arith
+
+        -- a string
+        shown : (x y : Bool) → y ≡ true → decodedAt a (pick x Plain (pick y (Written (length (bytesOf (bodyOf s a)))) Short)) ≡ bad q → q .number ≡ 12
+        shown true y f j = clash (cc)
+        shown false true f j = clash (cc)
+        shown false false f j = clash (cc)
+
+        go : (u v : Bool) → isString (partOf s a) ≡ v → pick u (good (inFile (span (a .start) (a .start)))) (pick v (decodedAt a (decodedOf (bodyOf s a) room)) (bad (refusal 12 0 (a .start)))) ≡ bad q → q .number ≡ 12
+        go true v f j = clash (cc)
+        go false true f j = shown (plain (bodyOf s a)) (leb (length (bytesOf (bodyOf s a))) room) (fits f) j
+        go false false f j = let x : refusal 12 0 (a .start) ≡ q = cc in sym (ap (λ (z : Refusal). z .number) x)
