@@ -61,9 +61,9 @@ enum {
 /* What a file needs: needs[0] header rows, needs[1] data rows, which is how many id slots, needs[2] the largest id, needs[3] how many numbers
  * the longest list or grid of its records has, needs[4] how many bytes the longest text of a parameter has, needs[5] how many rows the longest
  * grid has, for its row ends; the others are free for later and stay as they were. Rooms of these sizes suffice, and fewer rows do not. Items
- * are counted whatever they read as, in all parameters that a reader comes to, those of a complex record's parts included. A file that no room
- * helps is refused here as it is in `hooflift_open`, with the reason of refusal 7 in `reason`. 16 where `needs` is shorter than HOOFLIFT_NEEDS,
- * before anything is read.
+ * are counted whatever they read as, in all parameters that a reader comes to which begins with the arguments of a record or of a part. A file
+ * that no room helps is refused here as it is in `hooflift_open`, with the reason of refusal 7 in `reason`. 16 where `needs` is shorter than
+ * HOOFLIFT_NEEDS, before anything is read.
  * 01: "8 is given exactly when a record has been read whole and the lent rows of its kind (or id slots, one a record) are already used up";
  * "16 comes only if all read and either list is too short"; "16 exactly when a text of this second kind is longer than the output". */
 uint8_t hooflift_needs(const uint8_t *file, size_t file_len, uint64_t *needs, size_t needs_len, uint8_t *reason, size_t *fault);
