@@ -1,1 +1,2 @@
 pub mod Enough
+pub mod Example
