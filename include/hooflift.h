@@ -10,7 +10,7 @@
  * ("A refusal returns only its number, reason and place; lent rows and output keep their bytes, as does all room beyond an answer"; of a
  * lent float that is a NaN only that it is one). A refusal of document 01 sets `fault` to its place in the file, and `reason`, where
  * there is one, to its reason, which is 0 but for 7; `hooflift_scan` puts both into `out`. Where a lent list of numbers (tables, ids, a row, a
- * part) is shorter than the numbers that go into it, the answer is 16 and nothing at all is set: its place is 0, and so is that of
+ * part, needs) is shorter than the numbers that go into it, the answer is 16 and nothing at all is set: its place is 0, and so is that of
  * every refusal of a function without a `fault`.
  *
  * Rows. A data row is six 32-bit numbers: id, keyword start and end (0, 0 if complex), argument start and end, complex 0 or 1. A header row
@@ -58,11 +58,14 @@ enum {
 
 /* ---- a file's tables */
 
-/* What a file needs: needs[0] header rows, needs[1] data rows, which is how many id slots, needs[2] the largest id, needs[3] how many numbers a
- * list or a grid of its records can have, and how many rows a grid, needs[4] how many bytes the longest text of a parameter has; the others
- * are free for later. Rooms of these sizes suffice, and fewer rows do not. A file that no room helps is refused here as it is in `hooflift_open`, with the reason of refusal 7 in `reason`. `needs` of
- * fewer than HOOFLIFT_NEEDS numbers stays as it was.
- * 01: "8 is given exactly when a record has been read whole and the lent rows of its kind (or id slots, one a record) are already used up". */
+/* What a file needs: needs[0] header rows, needs[1] data rows, which is how many id slots, needs[2] the largest id, needs[3] how many numbers
+ * the longest list or grid of its records has, needs[4] how many bytes the longest text of a parameter has, needs[5] how many rows the longest
+ * grid has, for its row ends; the others are free for later and stay as they were. Rooms of these sizes suffice, and fewer rows do not. Items
+ * are counted whatever they read as, in all parameters that a reader comes to which begins with the arguments of a record or of a part. A file
+ * that no room helps is refused here as it is in `hooflift_open`, with the reason of refusal 7 in `reason`. 16 where `needs` is shorter than
+ * HOOFLIFT_NEEDS, before anything is read.
+ * 01: "8 is given exactly when a record has been read whole and the lent rows of its kind (or id slots, one a record) are already used up";
+ * "16 comes only if all read and either list is too short"; "16 exactly when a text of this second kind is longer than the output". */
 uint8_t hooflift_needs(const uint8_t *file, size_t file_len, uint64_t *needs, size_t needs_len, uint8_t *reason, size_t *fault);
 
 /* Reads a file into header rows, data rows and id slots, one a record, and tells what goes with them in HOOFLIFT_TABLES numbers, which the

@@ -51,17 +51,19 @@ pub struct Needs {
     pub headers: u64,
     pub records: u64,
     pub max_id: u64,
-    /// How many numbers a list or a grid can have, and how many rows a grid.
+    /// How many numbers the longest list or grid has.
     pub items: u64,
     /// How many bytes the longest text has.
     pub text: u64,
+    /// How many rows the longest grid has.
+    pub rows: u64,
 }
 
 /// Tells what a file needs, without reading it into tables.
 ///
 /// ```
-/// let needs = hooflift::needs(b"ISO-10303-21;DATA;#1=A((1.,2.,3.),'it''s');#2=(B('\\X\\C4')C());ENDSEC;")?;
-/// assert_eq!((needs.headers, needs.records, needs.items, needs.text), (0, 2, 4, 4));
+/// let needs = hooflift::needs(b"ISO-10303-21;DATA;#1=A((1.,2.,3.),'it''s',4);#2=(B('\\X\\C4')C(((1,2),(3,4),())));ENDSEC;")?;
+/// assert_eq!((needs.headers, needs.records, needs.items, needs.text, needs.rows), (0, 2, 4, 4, 3));
 /// # Ok::<(), hooflift::Error>(())
 /// ```
 pub fn needs(file: &[u8]) -> Result<Needs> {
@@ -69,8 +71,8 @@ pub fn needs(file: &[u8]) -> Result<Needs> {
     let (mut reason, mut place) = (0, 0);
     match raw::hooflift_needs(file, &mut numbers, &mut reason, &mut place) {
         0 => {
-            let [headers, records, max_id, items, text, ..] = numbers;
-            Ok(Needs { headers, records, max_id, items, text })
+            let [headers, records, max_id, items, text, rows, ..] = numbers;
+            Ok(Needs { headers, records, max_id, items, text, rows })
         }
         number => Err(Error::Refused(Refusal { number, reason, place })),
     }

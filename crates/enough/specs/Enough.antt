@@ -1,177 +1,146 @@
--- What a file is said to need suffices: no list and no grid that a reader finds among a record's arguments has more numbers, and no grid
--- more rows, than one more than the commas of these arguments; so a room of as many numbers as `needs` tells is never too short.
+-- What a file is said to need suffices, and less does not: no list, grid or text that a reader finds among the parameters of a record has more
+-- than is told, so a room of just that size is never too short; and some parameter has just so much.
 -- Assumes nothing.
-use Prim.Native.Nat.{ℕ, zero, suc, _+_, _-_, _≤_, _<_, max}
+use Prim.Native.Nat.{ℕ, _+_, _-_, _≤_, _<_, min}
 use mathlib.Core.Path.{_≡_, refl, sym, _∙_, ap, subst}
 use mathlib.Core.Bool.{Bool, true, false, _&&_}
-use mathlib.Core.List.{List, [], _∷_, _++_}
+use mathlib.Core.List.{List, [], _∷_, _++_, map}
 use native.Mathlib.Omega.{arith}
 use borrow.Author.Tests.{le-leb}
-use lib.Dec.{eqb, leb}
-use lib.ListN.{length, take, drop, length-append}
-use lib.Seq.{take-take, drop-drop}
-use Rattle.error.specs.Refusal.{Told, good, bad}
+use lib.Dec.{leb}
+use lib.ListN.{length, take, drop, length-map, length-append}
+use lib.Seq.{take-all}
+use Rattle.error.specs.Refusal.{Refusal, refusal, Told, good, bad}
 use Rattle.lex.specs.Byte.{pick}
-use Rattle.statement.specs.Row.{Row, HeaderRow}
-use Rattle.reals.specs.Scalar.{Answer}
-use Rattle.params.specs.Reader.{Span, paramOf}
+use Rattle.lex.specs.Right.Steps.{clash}
+use Rattle.scalars.specs.Scalars.{isUnset}
+use Rattle.params.specs.Reader.{Span, span, onward, paramOf}
 use Rattle.params.specs.Places.{param-past}
-use Rattle.lists.specs.Items.{Fate, fine, faulty, shifted, consed, listOf}
-use Rattle.lists.specs.Rules.{Item, Items, Listed, Scalar}
-use Rattle.lists.specs.RulesRight.{list-is, grid-is}
-use Rattle.grids.specs.Grid.{flat, gridOf}
-use Rattle.needs.specs.Needs.{commasOf, itemsIn, headItems, rowItems}
+use Rattle.reals.specs.Scalar.{Answer}
+use Rattle.strings.specs.Put.{most}
+use Rattle.strings.specs.Text.{plain, bytesOf}
+use Rattle.strings.specs.Code.{decodedOf}
+use Rattle.strings.specs.declared.Decoded.the-variants.{Plain, Written, Short}
+use Rattle.words.specs.Words.{isString, partOf, bodyOf, inFile, decodedAt, stringAt}
+use Rattle.words.specs.Rules.{Quoted}
+use Rattle.words.specs.RulesRight.{quoted-is, quoted-body}
+use Rattle.lists.specs.Items.{Fate, fine, asFate, listOf, valuesOf, roomed, nextBy, fitsIn}
+use Rattle.lists.specs.Any.{list-counted, rows-counted}
+use Rattle.grids.specs.Grid.{flat, gridOf, gridFits}
+use Rattle.lengths.specs.Lengths.{textLen, itemsLen, numbersLen, rowsLen, rowsIn}
+use Rattle.lengths.specs.Greatest.{Greatest}
+use Rattle.needs.specs.declared.Needs.{Needs}
+use Rattle.needs.specs.Needs.{Behind}
+use Rattle.needs.specs.Most.{Among, text-most, items-most, rows-most}
 
--- ---- commas of parts
-commas-append : (xs ys : List ℕ) → commasOf (xs ++ ys) ≡ commasOf xs + commasOf ys
-unfolding commasOf
-commas-append [] ys = omega arith
-commas-append (x ∷ xs) ys = let ih = commas-append xs ys in omega arith
+-- ---- a parameter
+-- as many numbers as before, whatever they are told as
+flat-length : {A B : Type 0} (h : A → B) (vs : List (List A)) → length (flat (map (map h) vs)) ≡ length (flat vs)
+flat-length h [] = refl
+flat-length h (r ∷ rs) = omega (arith, length-append (map h r) (flat (map (map h) rs)), length-append r (flat rs), length-map r h, flat-length h rs)
 
-commas-take : (n : ℕ) (xs : List ℕ) → commasOf (take n xs) ≤ commasOf xs
-unfolding commasOf
-commas-take zero xs = omega arith
-commas-take (suc n) [] = omega arith
-commas-take (suc n) (x ∷ xs) = let ih = commas-take n xs in omega arith
+-- a list that any reader reads has as many numbers as it has items
+pub list-len : {A : Type 0} (f : List ℕ → Answer A) (t : List ℕ) (vs : List A) → listOf f t ≡ fine vs → length vs ≡ itemsLen t
+unfolding itemsLen
+list-len {A} f t vs e = sym (length-map vs (λ (a : A). tt {0})) ∙ ap (λ (x : Fate (List (Unit {0}))). length (valuesOf x)) (sym (list-counted (λ u. asFate (f u)) t vs e))
 
-commas-drop : (n : ℕ) (xs : List ℕ) → commasOf (drop n xs) ≤ commasOf xs
-unfolding commasOf
-commas-drop zero xs = omega arith
-commas-drop (suc n) [] = omega arith
-commas-drop (suc n) (x ∷ xs) = let ih = commas-drop n xs in omega arith
+-- a grid that any reader reads has as many numbers as its rows have items
+pub grid-numbers : {A : Type 0} (f : List ℕ → Answer A) (t : List ℕ) (vs : List (List A)) → gridOf f t ≡ fine vs → length (flat vs) ≡ length (flat (rowsIn t))
+grid-numbers {A} f t vs e = sym (flat-length (λ (a : A). tt {0}) vs) ∙ ap (λ (x : Fate (List (List (Unit {0})))). length (flat (valuesOf x))) (sym (rows-counted (λ u. asFate (f u)) t vs e))
 
--- a comma and what follows
-commas-comma : (r : List ℕ) → commasOf (44 ∷ r) ≡ 1 + commasOf r
-unfolding commasOf
-commas-comma r = refl
+-- and as many rows
+pub grid-rows : {A : Type 0} (f : List ℕ → Answer A) (t : List ℕ) (vs : List (List A)) → gridOf f t ≡ fine vs → length vs ≡ rowsLen t
+unfolding rowsLen
+grid-rows {A} f t vs e = sym (length-map vs (map (λ (a : A). tt {0}))) ∙ ap (λ (x : Fate (List (List (Unit {0})))). length (valuesOf x)) (sym (rows-counted (λ u. asFate (f u)) t vs e))
 
--- an item's text has no more commas than what it stands in before its comma
-item-commas : {xs f t r : List ℕ} → Item xs f t r → commasOf t + commasOf r ≤ commasOf xs
-item-commas {xs} {f} {t} {r} i =
-    let e = ap (λ (l : List ℕ). commasOf l) (i .shape) in
-    omega (arith, e, commas-append (f ++ (t ++ i .back)) r, commas-append f (t ++ i .back), commas-append t (i .back))
+-- "its text lies between first and last byte"
+text-body : (t b : List ℕ) → Quoted t b → take (length t - 1 - 1) (drop 1 t) ≡ b
+text-body t b d = quoted-body t (span 0 (length t)) b (omega arith) (omega arith) (subst (λ (u : List ℕ). Quoted u b) (sym (take-all (length t - 0) t (omega arith))) d)
 
--- the text of a list has the commas of its inside
-body-commas : (b : List ℕ) → commasOf b ≤ commasOf (40 ∷ (b ++ (41 ∷ [])))
-unfolding commasOf
-body-commas b = omega (arith, commas-append b (41 ∷ []))
+-- ---- a file: c is what it is said to need, of the table that its scan gives (needs/specs/Needs.behind)
+module _ (s : List ℕ) (c : Needs) (b : Behind s c) where
+  -- a parameter of one of its records, or of one of a complex record's parts
+  abbrev pub Parameter : List ℕ → Type 0
+  Parameter t = Among s (b .table) t
 
--- ---- lists
--- at most n values, where they are read
-abbrev Few : {A : Type 0} → ℕ → Fate (List A) → Type 0
-Few n (fine vs) = length vs ≤ n
-Few n (faulty k o) = Unit {0}
+  -- the longest text; there is no other such number (lengths/specs/Greatest.greatest-only)
+  pub text-exact : Greatest Parameter textLen (c .text)
+  text-exact = subst (λ (x : Needs). Greatest Parameter textLen (x .text)) (b .counted) (text-most s (b .table))
 
-few-shift : {A : Type 0} (n k : ℕ) (a : Fate (List A)) → Few n a → Few n (shifted k a)
-few-shift n k (fine vs) h = h
-few-shift n k (faulty m o) h = tt
+  -- the most numbers of a list or a grid
+  pub items-exact : Greatest Parameter numbersLen (c .items)
+  items-exact = subst (λ (x : Needs). Greatest Parameter numbersLen (x .items)) (b .counted) (items-most s (b .table))
 
-few-more : {A : Type 0} (n m : ℕ) (a : Fate (List A)) → n ≤ m → Few n a → Few m a
-few-more n m (fine vs) l h = omega arith
-few-more n m (faulty k o) l h = tt
+  -- the most rows of a grid
+  pub rows-exact : Greatest Parameter rowsLen (c .rows)
+  rows-exact = subst (λ (x : Needs). Greatest Parameter rowsLen (x .rows)) (b .counted) (rows-most s (b .table))
 
-few-cons : {A : Type 0} (n k : ℕ) (v : A) (a : Fate (List A)) → Few n a → Few (n + 1) (consed v (shifted k a))
-few-cons n k v (fine vs) h = omega arith
-few-cons n k v (faulty m o) h = tt
+  module _ (t : List ℕ) (d : Parameter t) where
+    -- a list's numbers fit
+    pub list-enough : {A : Type 0} (f : List ℕ → Answer A) (vs : List A) → listOf f t ≡ fine vs → length vs ≤ c .items
+    unfolding numbersLen
+    list-enough f vs h = omega (arith, items-exact .all t d, list-len f t vs h)
 
-module _ {A : Type 0} (P : List ℕ → Fate A → Type 0) where
-  -- items stand between commas
-  items-few : {xs : List ℕ} {a : Fate (List A)} → Items P xs a → Few (commasOf xs + 1) a
-  items-few (Items.last i p) = omega arith
-  items-few (Items.next w {r} {v} {a} i p q) =
-      few-more (commasOf r + 1 + 1) (commasOf (w ++ (44 ∷ r)) + 1) (consed v (shifted (suc (length w)) a)) (omega (arith, commas-append w (44 ∷ r), commas-comma r)) (few-cons (commasOf r + 1) (suc (length w)) v a (items-few q))
-  items-few (Items.bad i p) = tt
+    -- a grid's numbers fit, and its row ends
+    pub grid-enough : {A : Type 0} (f : List ℕ → Answer A) (vs : List (List A)) → gridOf f t ≡ fine vs → (length (flat vs) ≤ c .items) × (length vs ≤ c .rows)
+    unfolding numbersLen
+    grid-enough f vs h = (omega (arith, items-exact .all t d, grid-numbers f t vs h), omega (arith, rows-exact .all t d, grid-rows f t vs h))
 
-  listed-few : {t : List ℕ} {a : Fate (List A)} → Listed P t a → Few (commasOf t + 1) a
-  listed-few (Listed.none b h) = omega arith
-  listed-few (Listed.items b {a} n q) = few-shift (commasOf (40 ∷ (b ++ (41 ∷ []))) + 1) 1 a (few-more (commasOf b + 1) (commasOf (40 ∷ (b ++ (41 ∷ []))) + 1) a (omega (arith, body-commas b)) (items-few q))
-  listed-few (Listed.other h) = tt
+    -- a string's text fits
+    pub text-enough : isString t ≡ true → min most (length (bytesOf (take (length t - 1 - 1) (drop 1 t)))) ≤ c .text
+    unfolding textLen
+    text-enough h = subst (λ (k : Bool). pick k (min most (length (bytesOf (take (length t - 1 - 1) (drop 1 t))))) 0 ≤ c .text) h (text-exact .all t d)
 
--- ---- grids
-abbrev FlatFew : {A : Type 0} → ℕ → Fate (List (List A)) → Type 0
-FlatFew n (fine vs) = length (flat vs) ≤ n
-FlatFew n (faulty k o) = Unit {0}
+    -- so where the parameter that a reader finds is a list that reads, it is answered, and never 16, with a room of that size or more
+    pub list-answered : {A : Type 0} (f : List ℕ → Answer A) (vs : List A) → listOf f t ≡ fine vs → (p e : ℕ) (a : Span) → paramOf s p e .answer ≡ good a → partOf s a ≡ t
+        → (room : ℕ) → c .items ≤ room → nextBy (listOf f) (fitsIn room) s p e .answer ≡ good vs
+    unfolding nextBy
+    list-answered {A} f vs h p e a g w room k =
+        ap (onward (λ (x : Span). roomed (fitsIn room) (x .start) (listOf f (partOf s x)))) g ∙ ap (λ (u : List ℕ). roomed (fitsIn room) (a .start) (listOf f u)) w ∙ ap (roomed (fitsIn room) (a .start)) h
+        ∙ ap (λ (z : Bool). pick z (good vs) (bad (refusal 16 0 (a .start)))) (le-leb (length vs) room (omega (arith, list-enough f vs h)))
 
-flat-shift : {A : Type 0} (n k : ℕ) (a : Fate (List (List A))) → FlatFew n a → FlatFew n (shifted k a)
-flat-shift n k (fine vs) h = h
-flat-shift n k (faulty m o) h = tt
+    -- and so is a grid, with row ends for that many rows or more
+    pub grid-answered : {A : Type 0} (f : List ℕ → Answer A) (vs : List (List A)) → gridOf f t ≡ fine vs → (p e : ℕ) (a : Span) → paramOf s p e .answer ≡ good a → partOf s a ≡ t
+        → (room ends : ℕ) → c .items ≤ room → c .rows ≤ ends → nextBy (gridOf f) (gridFits room ends) s p e .answer ≡ good vs
+    unfolding nextBy
+    grid-answered {A} f vs h p e a g w room ends k l =
+        let n = grid-enough f vs h in
+        let i : length (flat vs) ≤ room = omega (arith, n .0) in
+        let j : length vs ≤ ends = omega (arith, n .1) in
+        ap (onward (λ (x : Span). roomed (gridFits room ends) (x .start) (gridOf f (partOf s x)))) g ∙ ap (λ (u : List ℕ). roomed (gridFits room ends) (a .start) (gridOf f u)) w ∙ ap (roomed (gridFits room ends) (a .start)) h
+        ∙ ap (λ (z : Bool). pick (z && leb (length vs) ends) (good vs) (bad (refusal 16 0 (a .start)))) (le-leb (length (flat vs)) room i)
+        ∙ ap (λ (z : Bool). pick (true && z) (good vs) (bad (refusal 16 0 (a .start)))) (le-leb (length vs) ends j)
 
-flat-more : {A : Type 0} (n m : ℕ) (a : Fate (List (List A))) → n ≤ m → FlatFew n a → FlatFew m a
-flat-more n m (fine vs) l h = omega arith
-flat-more n m (faulty k o) l h = tt
+    -- and a text of it is never 16, in a room of that many bytes or more: only what is no string is refused. A lent room has fewer than 2^64
+    -- bytes
+    pub text-answered : (p e : ℕ) (a : Span) → paramOf s p e .answer ≡ good a → partOf s a ≡ t → (room : ℕ) → c .text ≤ room → room < most → (q : Refusal) → stringAt s room a ≡ bad q → q .number ≡ 12
+    unfolding stringAt
+    text-answered p e a g w room k m q h = go (isUnset (partOf s a)) (isString (partOf s a)) refl h
+      where
+        -- it lies in the file
+        inside : (a .start ≤ a .stop) × (a .stop ≤ length s)
+        inside = let (i, u) = param-past s p e a g in let b = u .ordered in let x = u .passed in let y = u .within in let z = i .1 in (omega arith, omega arith)
 
-flat-cons : {A : Type 0} (n m k : ℕ) (v : List A) (a : Fate (List (List A))) → length v ≤ m → FlatFew n a → FlatFew (m + n) (consed v (shifted k a))
-flat-cons n m k v (fine vs) l h = omega (arith, length-append v (flat vs))
-flat-cons n m k v (faulty j o) l h = tt
+        -- what is written fits
+        fits : isString (partOf s a) ≡ true → leb (length (bytesOf (bodyOf s a))) room ≡ true
+        fits v =
+            let (b, d) = quoted-is (partOf s a) v in
+            let x = quoted-body s a b (inside .0) (inside .1) d in
+            let y = text-body t b (subst (λ (u : List ℕ). Quoted u b) w d) in
+            let z = text-enough (sym (ap isString w) ∙ v) in
+            let o : length (bytesOf (take (length t - 1 - 1) (drop 1 t))) ≡ length (bytesOf (bodyOf s a)) = ap (λ (u : List ℕ). length (bytesOf u)) (y ∙ sym x) in
+            le-leb (length (bytesOf (bodyOf s a))) room (below (length (bytesOf (bodyOf s a))) (subst (λ (n : ℕ). min most n ≤ c .text) o z))
+          where
+            below : (n : ℕ) → min most n ≤ c .text → n ≤ room
+            below n j = omega arith
 
-module _ {A : Type 0} (P : List ℕ → Fate (List A) → Type 0) (row : (t : List ℕ) (a : Fate (List A)) → P t a → Few (commasOf t + 1) a) where
-  grid-items : {xs : List ℕ} {a : Fate (List (List A))} → Items P xs a → FlatFew (commasOf xs + 1) a
-  grid-items (Items.last {t} {v} i p) = let k = row t (fine v) p in omega (arith, item-commas i, length-append v [])
-  grid-items (Items.next w {t} {r} {v} {a} i p q) =
-      let k = row t (fine v) p in
-      let l = item-commas i in
-      flat-more (commasOf t + 1 + (commasOf r + 1)) (commasOf (w ++ (44 ∷ r)) + 1) (consed v (shifted (suc (length w)) a)) (omega (arith, l, commas-comma r)) (flat-cons (commasOf r + 1) (commasOf t + 1) (suc (length w)) v a k (grid-items q))
-  grid-items (Items.bad i p) = tt
+        -- a string
+        shown : (x y : Bool) → y ≡ true → decodedAt a (pick x Plain (pick y (Written (length (bytesOf (bodyOf s a)))) Short)) ≡ bad q → q .number ≡ 12
+        shown true y f j = clash (cc)
+        shown false true f j = clash (cc)
+        shown false false f j = clash (cc)
 
-  grid-few : {t : List ℕ} {a : Fate (List (List A))} → Listed P t a → FlatFew (commasOf t + 1) a
-  grid-few (Listed.none b h) = omega arith
-  grid-few (Listed.items b {a} n q) = flat-shift (commasOf (40 ∷ (b ++ (41 ∷ []))) + 1) 1 a (flat-more (commasOf b + 1) (commasOf (40 ∷ (b ++ (41 ∷ []))) + 1) a (omega (arith, body-commas b)) (grid-items q))
-  grid-few (Listed.other h) = tt
-
--- ---- readers
--- the bytes of a parameter
-abbrev bytesIn : List ℕ → Span → List ℕ
-bytesIn s a = take (a .stop - a .start) (drop (a .start) s)
-
--- a part of what a list begins with has no more commas
-window : (n j m : ℕ) (xs : List ℕ) → j + n ≤ m → commasOf (take n (drop j xs)) ≤ commasOf (take m xs)
-unfolding commasOf
-window n zero m xs h = subst (λ (l : List ℕ). commasOf l ≤ commasOf (take m xs)) (take-take n m xs (omega arith)) (commas-take n (take m xs))
-window n (suc j) m [] h = let k = commas-take n [] in omega arith
-window n (suc j) zero (x ∷ xs) h = absurd (omega arith)
-window n (suc j) (suc m) (x ∷ xs) h = let ih = window n j m xs (omega arith) in omega arith
-
--- a part of a part has no more commas
-part-commas : (s : List ℕ) (A Z a z : ℕ) → A ≤ a → a ≤ z → z ≤ Z → commasOf (take (z - a) (drop a s)) ≤ commasOf (take (Z - A) (drop A s))
-part-commas s A Z a z h i k =
-    let e : A + (a - A) ≡ a = omega arith in
-    subst (λ (l : List ℕ). commasOf (take (z - a) l) ≤ commasOf (take (Z - A) (drop A s))) (drop-drop (a - A) A s ∙ ap (λ (j : ℕ). drop j s) e) (window (z - a) (a - A) (Z - A) (drop A s) (omega arith))
-
--- a reader that stands among a record's arguments, which run from A up to Z, and the parameter that it finds
-module _ (s : List ℕ) (A Z p e : ℕ) (a : Span) (h : A ≤ p) (k : e ≤ Z) (l : Z ≤ length s) (m : paramOf s p e .answer ≡ good a) where
-  -- it has no more items than are told of these arguments
-  inside-items : commasOf (bytesIn s a) + 1 ≤ itemsIn s A Z
-  inside-items =
-      let (i, u) = param-past s p e a m in
-      let b = u .starts in
-      let o = u .ordered in
-      let q = u .passed in
-      let w = u .within in
-      let c = part-commas s A Z (a .start) (a .stop) (omega arith) o (omega arith) in
-      rw (le-leb A Z (omega arith), le-leb Z (length s) l) (omega arith)
-
-  -- a list's numbers
-  pub list-enough : {B : Type 0} (P : List ℕ → Answer B → Type 0) (f : List ℕ → Answer B) → ((t : List ℕ) → P t (f t)) → (vs : List B) → listOf f (bytesIn s a) ≡ fine vs → length vs ≤ itemsIn s A Z
-  list-enough {B} P f is vs g =
-      let w = subst (λ (x : Fate (List B)). Few (commasOf (bytesIn s a) + 1) x) g (listed-few (Scalar P) (list-is P f is (bytesIn s a))) in
-      omega (arith, inside-items)
-
-  -- a grid's numbers, and its rows
-  pub grid-enough : {B : Type 0} (P : List ℕ → Answer B → Type 0) (f : List ℕ → Answer B) → ((t : List ℕ) → P t (f t)) → (vs : List (List B)) → gridOf f (bytesIn s a) ≡ fine vs
-      → (length (flat vs) ≤ itemsIn s A Z) × (length vs ≤ itemsIn s A Z)
-  grid-enough {B} P f is vs g =
-      let d = grid-is P f is (bytesIn s a) in
-      let w = subst (λ (x : Fate (List (List B))). FlatFew (commasOf (bytesIn s a) + 1) x) g (grid-few (Listed (Scalar P)) (λ t x. listed-few (Scalar P)) d) in
-      let v = subst (λ (x : Fate (List (List B))). Few (commasOf (bytesIn s a) + 1) x) g (listed-few (Listed (Scalar P)) d) in
-      (omega (arith, inside-items), omega (arith, inside-items))
-
--- and what is told of a file is at least what is told of each of its records
-pub record-items : (s : List ℕ) (vs : List Row) (w : Row) (ws : List Row) → itemsIn s (w .argStart) (w .argEnd) ≤ rowItems s (vs ++ (w ∷ ws))
-unfolding rowItems
-record-items s [] w ws = omega arith
-record-items s (v ∷ vs) w ws = let ih = record-items s vs w ws in omega arith
-
-pub header-items : (s : List ℕ) (vs : List HeaderRow) (w : HeaderRow) (ws : List HeaderRow) → itemsIn s (w .argStart) (w .argEnd) ≤ headItems s (vs ++ (w ∷ ws))
-unfolding headItems
-header-items s [] w ws = omega arith
-header-items s (v ∷ vs) w ws = let ih = header-items s vs w ws in omega arith
+        go : (u v : Bool) → isString (partOf s a) ≡ v → pick u (good (inFile (span (a .start) (a .start)))) (pick v (decodedAt a (decodedOf (bodyOf s a) room)) (bad (refusal 12 0 (a .start)))) ≡ bad q → q .number ≡ 12
+        go true v f j = clash (cc)
+        go false true f j = shown (plain (bodyOf s a)) (leb (length (bytesOf (bodyOf s a))) room) (fits f) j
+        go false false f j = let x : refusal 12 0 (a .start) ≡ q = cc in sym (ap (λ (z : Refusal). z .number) x)

@@ -1,2 +1,2 @@
 pub mod Enough
-pub mod Texts
+pub mod Example

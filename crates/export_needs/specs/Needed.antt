@@ -1,21 +1,39 @@
 -- What a file needs, as plain numbers.
 -- Assumes nothing.
-use Prim.Native.Nat.{ℕ}
+use Prim.Native.Nat.{ℕ, _≤_, _<_}
+use mathlib.Core.Path.{_≡_, sym, _∙_}
 use mathlib.Core.List.{List, [], _∷_}
+use native.Mathlib.Omega.{arith}
+use lib.ListN.{length}
+use lib.Seq.{sets}
 use Rattle.error.specs.Refusal.{Refusal, Told, good, bad}
 use Rattle.needs.specs.declared.Needs.{Needs}
-use Rattle.plain.specs.Numbers.{putIn}
+use Rattle.needs.specs.Needs.{needsOf}
+use Rattle.plain.specs.Answers.{readCode, readFault}
 
--- header rows, data rows, the largest id, how many items a list or a grid can have, and the longest text
+-- header rows, data rows, the largest id, the most numbers of a list or a grid, the longest text, and the most rows of a grid
 abbrev pub needNumbers : Needs → List ℕ
-needNumbers c = c .headers ∷ c .records ∷ c .max ∷ c .items ∷ c .text ∷ []
+needNumbers c = c .headers ∷ c .records ∷ c .max ∷ c .items ∷ c .text ∷ c .rows ∷ []
 
--- the lent numbers afterwards: they need room for eight, and a refusal leaves them as they were
+-- the lent numbers afterwards: a refusal leaves them as they were
 abbrev pub needsAfter : Told Needs → List ℕ → List ℕ
-needsAfter (good c) old = putIn 8 (needNumbers c) old
+needsAfter (good c) old = sets old 0 (needNumbers c)
 needsAfter (bad q) old = old
 
 -- the refusal's reason, or what stood there
 abbrev pub needsReason : Told Needs → ℕ → ℕ
 needsReason (good c) old = old
 needsReason (bad q) old = q .reason
+
+-- what a host is told, and what stands in its numbers, its reason and its place then: "16 output too short" where it lends fewer than eight
+-- numbers, and nothing is set; else what the file needs, or its refusal
+pub data Needing (s needs : List ℕ) (reason fault code : ℕ) (needs′ : List ℕ) (reason′ fault′ : ℕ) : Type 0 where
+  short : length needs < 8 → code ≡ 16 → needs′ ≡ needs → reason′ ≡ reason → fault′ ≡ fault → Needing s needs reason fault code needs′ reason′ fault′
+  told : 8 ≤ length needs → code ≡ readCode (needsOf s) → needs′ ≡ needsAfter (needsOf s) needs → reason′ ≡ needsReason (needsOf s) reason → fault′ ≡ readFault (needsOf s) fault → Needing s needs reason fault code needs′ reason′ fault′
+
+-- "that two allowed answers coincide is proved"
+pub needing-only : {s needs : List ℕ} {reason fault m n : ℕ} {a b : List ℕ} {x y f g : ℕ} → Needing s needs reason fault m a x f → Needing s needs reason fault n b y g → (m ≡ n) × (a ≡ b) × (x ≡ y) × (f ≡ g)
+needing-only (Needing.short k c d e h) (Needing.short l i j o p) = (c ∙ sym i, d ∙ sym j, e ∙ sym o, h ∙ sym p)
+needing-only (Needing.short k c d e h) (Needing.told l i j o p) = absurd (omega arith)
+needing-only (Needing.told k c d e h) (Needing.short l i j o p) = absurd (omega arith)
+needing-only (Needing.told k c d e h) (Needing.told l i j o p) = (c ∙ sym i, d ∙ sym j, e ∙ sym o, h ∙ sym p)

@@ -1,29 +1,28 @@
 // What a file needs of lent memory, for hosts in other languages.
 ghost use mathlib.Core.Path.{_≡_};
-ghost use Rattle.needs.specs.Needs.{needsOf};
-ghost use Rattle.plain.specs.Answers.{Tells};
-ghost use Rattle.plain.specs.Numbers.{putIn};
-ghost use Rattle.export_needs.specs.Needed.{needNumbers, needsAfter, needsReason};
+ghost use Prim.Native.Nat.{_≤_};
+ghost use lib.ListN.{length};
+ghost use lib.Seq.{sets};
+ghost use Rattle.export_needs.specs.Needed.{needNumbers, Needing};
 use needs::Needed;
 use needs::Needs;
 
-// Puts what a file needs at the start of `out`, where there is room for eight numbers.
+// Puts what a file needs at the start of `out`.
 fn put_needs(out: &mut [u64], n: Needs)
-    ensures { λ _. ⌜ now (out .exit) ≡ putIn 8 (needNumbers n) (now (out .entry)) ⌝ }
+    requires { ⌜ 8 ≤ length (now out) ⌝ }
+    ensures { λ _. ⌜ now (out .exit) ≡ sets (now (out .entry)) 0 (needNumbers n) ⌝ }
 {
-    if out.len() < 8 {
-        return;
-    }
     out[0] = n.headers as u64;
     out[1] = n.records as u64;
     out[2] = n.max as u64;
     out[3] = n.items as u64;
     out[4] = n.text as u64;
+    out[5] = n.rows as u64;
 }
 
-// Tells what a file needs: 0, with how many header rows, how many data rows, which is how many id slots, the largest id, how many numbers or
-// rows a list or a grid can have, and how long a text, in the first of eight numbers; or the refusal's number, with its reason and place.
-// Fewer than eight lent numbers stay as they were.
+// Tells what a file needs: 0, with how many header rows, how many data rows, which is how many id slots, the largest id, the most numbers of a
+// list or a grid, the longest text and the most rows of a grid in the first of eight numbers; or the refusal's number, with its reason and
+// place; or 16 where there is no room for eight, before anything is read.
 #[no_mangle]
 pub extern "C" fn hooflift_needs(
     file: &[u8],
@@ -31,10 +30,11 @@ pub extern "C" fn hooflift_needs(
     reason: &mut u8,
     fault: &mut usize,
 ) -> u8
-    ensures { λ n. ⌜ Tells (needsOf (now (file .entry))) (now (fault .entry)) n (now (fault .exit)) ⌝ }
-    ensures { λ _. ⌜ now (needs .exit) ≡ needsAfter (needsOf (now (file .entry))) (now (needs .entry)) ⌝ }
-    ensures { λ _. ⌜ now (reason .exit) ≡ needsReason (needsOf (now (file .entry))) (now (reason .entry)) ⌝ }
+    ensures { λ n. ⌜ Needing (now (file .entry)) (now (needs .entry)) (now (reason .entry)) (now (fault .entry)) n (now (needs .exit)) (now (reason .exit)) (now (fault .exit)) ⌝ }
 {
+    if needs.len() < 8 {
+        return 16;
+    }
     match needs::count(file) {
         Needed::Is(n) => {
             put_needs(needs, n);

@@ -3,10 +3,15 @@
 use Prim.Native.Nat.{ℕ}
 use mathlib.Core.Path.{_≡_, refl, sym, _∙_, ap}
 use Rattle.error.specs.Refusal.{Told, good, bad, faultOf, faultOf-told}
+use lib.Dec.{eqb}
+use Rattle.lex.specs.Byte.{pick}
 use Rattle.params.specs.Reader.{Read}
+use Rattle.lists.specs.Items.{Fate, fine, faulty}
+use Rattle.grids.specs.declared.Tally.{Tally}
+use Rattle.grids.specs.declared.Tally.the-variants as counted
 use Rattle.grids.specs.declared.NextGrid.{NextGrid}
 use Rattle.grids.specs.declared.NextGrid.the-variants as next
-use Rattle.grids.specs.Grid.{Size, toldNextGrid}
+use Rattle.grids.specs.Grid.{Size, toldNextGrid, toldTally}
 
 -- the answer that tells this
 nextOf : Told Size → ℕ → ℕ → NextGrid
@@ -22,3 +27,19 @@ next-back (next.Refused f t) = ap (λ f. next.Refused f t) (faultOf-told f)
 -- `next_ref_grid`, `next_f64_grid`
 pub next-grid-only : (a b : NextGrid) → toldNextGrid a ≡ toldNextGrid b → a ≡ b
 next-grid-only a b e = sym (next-back a) ∙ ap (λ (r : Read Size). nextOf (r .answer) (r .place) (r .end)) e ∙ next-back b
+
+-- the count that tells this
+tallyOf : Fate Size → Tally
+tallyOf (fine s) = counted.All (s .rows) (s .numbers)
+tallyOf (faulty n o) = pick (eqb n 13) (counted.Outside o) (counted.Wrong o)
+
+-- it is the count that was told
+tally-back : (a : Tally) → tallyOf (toldTally a) ≡ a
+unfolding tallyOf
+tally-back (counted.All r n) = refl
+tally-back (counted.Wrong o) = refl
+tally-back (counted.Outside o) = refl
+
+-- `count_grid`
+pub tally-only : (a b : Tally) → toldTally a ≡ toldTally b → a ≡ b
+tally-only a b e = sym (tally-back a) ∙ ap tallyOf e ∙ tally-back b

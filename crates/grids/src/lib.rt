@@ -22,7 +22,7 @@ use params::Cut;
 use params::State;
 
 // How many rows and numbers there are, or how far into the text the first bad row or item is: 12, or 13.
-enum Tally {
+pub enum Tally {
     All(usize, usize),
     Wrong(usize),
     Outside(usize),
@@ -68,7 +68,7 @@ fn count_rows(b: &[u8], kind: Kind) -> Tally
 }
 
 // Counts the rows of a grid and their numbers, or finds what is wrong with it.
-fn count_grid(t: &[u8], kind: Kind) -> Tally
+pub fn count_grid(t: &[u8], kind: Kind) -> Tally
     ensures { λ r. ⌜ toldTally r ≡ fated (tally addRow (size 0 0)) (listBy (rowOf kind) (now (t .entry))) ⌝ }
 {
     match lists::shape_of(t) {

@@ -1,1 +1,3 @@
 pub mod Lengths
+pub mod Laws
+pub mod Greatest

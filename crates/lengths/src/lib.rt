@@ -1,18 +1,40 @@
-// The longest text among a record's arguments: what a host lends for texts.
+// What the parameters of a record need of lent memory: the longest text, the most numbers of a list or a grid, and the most rows of a grid.
 //
-// The arguments are walked as the argument reader walks them, and those of a complex record part by part.
+// The arguments are walked as the argument reader walks them, and those of a complex record part by part too. Items are counted whatever
+// they read as.
 ghost use mathlib.Core.Path.{_≡_};
 ghost use Prim.Native.Nat.{max};
-ghost use Rattle.lengths.specs.Lengths.{textLen, textsOf, partsOf, recordTexts};
+ghost use Rattle.lengths.specs.Lengths.{textLen, itemsLen, gridLen, sizesOf, both, argsOf, partsOf, recordOf};
+use grids::Tally;
+use lists::Counted;
+use lists::Kind;
 use params::Cut;
 use params::State;
 use parts::Next;
+
+// The bytes of a text, the numbers of a list or a grid, and the rows of a grid.
+pub struct Sizes {
+    pub text: usize,
+    pub items: usize,
+    pub rows: usize,
+}
 
 // The greater of two lengths.
 fn larger(a: usize, b: usize) -> usize
     ensures { λ r. ⌜ r ≡ max a b ⌝ }
 {
     if a < b { b } else { a }
+}
+
+// The greater of each.
+pub fn larger_each(a: Sizes, b: Sizes) -> Sizes
+    ensures { λ r. ⌜ r ≡ both a b ⌝ }
+{
+    Sizes {
+        text: larger(a.text, b.text),
+        items: larger(a.items, b.items),
+        rows: larger(a.rows, b.rows),
+    }
 }
 
 // The length of a string parameter's text; 0 for any other.
@@ -29,18 +51,73 @@ fn string_len(t: &[u8]) -> usize
     strings::text_length(&t[1..z])
 }
 
-// The longest text of the parameters from a place up to an end. There are never more than bytes.
-fn args_text(s: &[u8], place: usize, end: usize) -> usize
-    ensures { λ r. ⌜ r ≡ textsOf (now (s .entry)) place end ⌝ }
+// How many items a list has; 0 for what is none.
+fn list_len(t: &[u8]) -> usize
+    ensures { λ r. ⌜ r ≡ itemsLen (now (t .entry)) ⌝ }
+{
+    match lists::count_list(t, Kind::Any) {
+        Counted::All(n) => n,
+        Counted::Wrong(_) => 0,
+        Counted::Outside(_) => 0,
+    }
+}
+
+// How many numbers and rows a list of lists has; 0 for what is none.
+fn grid_len(t: &[u8]) -> Sizes
+    ensures { λ r. ⌜ r ≡ gridLen (now (t .entry)) ⌝ }
+{
+    match grids::count_grid(t, Kind::Any) {
+        Tally::All(rows, numbers) => Sizes {
+            text: 0,
+            items: numbers,
+            rows,
+        },
+        Tally::Wrong(_) => Sizes {
+            text: 0,
+            items: 0,
+            rows: 0,
+        },
+        Tally::Outside(_) => Sizes {
+            text: 0,
+            items: 0,
+            rows: 0,
+        },
+    }
+}
+
+// What a parameter needs.
+fn sizes_of(t: &[u8]) -> Sizes
+    ensures { λ r. ⌜ r ≡ sizesOf (now (t .entry)) ⌝ }
+{
+    let text = string_len(t);
+    let items = list_len(t);
+    let grid = grid_len(t);
+    larger_each(
+        Sizes {
+            text,
+            items,
+            rows: 0,
+        },
+        grid,
+    )
+}
+
+// What the parameters from a place up to an end need. There are never more than bytes.
+fn args_sizes(s: &[u8], place: usize, end: usize) -> Sizes
+    ensures { λ r. ⌜ r ≡ argsOf (now (s .entry)) place end ⌝ }
 {
     let mut at = place;
-    let mut most = 0;
+    let mut most = Sizes {
+        text: 0,
+        items: 0,
+        rows: 0,
+    };
     let mut left = s.len();
     while 0 < left {
         match params::param_span(s, State { place: at, end }) {
             Cut::Refused(_, _) => return most,
             Cut::Span(a, z, to) => {
-                most = larger(most, string_len(&s[a..z]));
+                most = larger_each(most, sizes_of(&s[a..z]));
                 at = to.place;
             }
         }
@@ -49,19 +126,23 @@ fn args_text(s: &[u8], place: usize, end: usize) -> usize
     most
 }
 
-// The longest text of the parts from a place up to an end.
-fn parts_text(s: &[u8], place: usize, end: usize) -> usize
+// What the parts from a place up to an end need.
+fn parts_sizes(s: &[u8], place: usize, end: usize) -> Sizes
     ensures { λ r. ⌜ r ≡ partsOf (now (s .entry)) place end ⌝ }
 {
     let mut at = place;
-    let mut most = 0;
+    let mut most = Sizes {
+        text: 0,
+        items: 0,
+        rows: 0,
+    };
     let mut left = s.len();
     while 0 < left {
         match parts::next_part(s, at, end) {
             Next::Over => return most,
             Next::Refused(_) => return most,
             Next::Is(p) => {
-                most = larger(most, args_text(s, p.args.start, p.args.end));
+                most = larger_each(most, args_sizes(s, p.args.start, p.args.end));
                 at = p.args.end + 1;
             }
         }
@@ -70,12 +151,13 @@ fn parts_text(s: &[u8], place: usize, end: usize) -> usize
     most
 }
 
-// The longest text of a record whose arguments run from a place up to an end and whose mark is `complex`.
-pub fn record_text(s: &[u8], place: usize, end: usize, complex: u32) -> usize
-    ensures { λ r. ⌜ r ≡ recordTexts (now (s .entry)) place end complex ⌝ }
+// What a record needs whose arguments run from a place up to an end and whose mark is `complex`.
+pub fn record_sizes(s: &[u8], place: usize, end: usize, complex: u32) -> Sizes
+    ensures { λ r. ⌜ r ≡ recordOf (now (s .entry)) place end complex ⌝ }
 {
+    let whole = args_sizes(s, place, end);
     if complex == 1 {
-        return parts_text(s, place, end);
+        return larger_each(whole, parts_sizes(s, place, end));
     }
-    args_text(s, place, end)
+    whole
 }

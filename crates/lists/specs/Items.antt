@@ -193,6 +193,7 @@ abbrev pub kindOf : Kind → List ℕ → Fate (Unit {0})
 kindOf KindCode.the-variants.References t = mute (asFate (referenceOf t))
 kindOf KindCode.the-variants.Integers t = mute (asFate (wholeOf t))
 kindOf KindCode.the-variants.Floats t = mute (asFate (realOf t))
+kindOf KindCode.the-variants.Any t = fine tt
 
 -- what the readers of a list's text answer: places are told from the text's start, and so 16 is at 0
 abbrev pub toldReadList : ReadListCode.ReadList → Told ℕ

@@ -7,3 +7,4 @@ pub mod ReadLaws
 pub mod Places
 pub mod Only
 pub mod Keep
+pub mod Any

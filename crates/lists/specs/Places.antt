@@ -19,7 +19,7 @@ use Rattle.reals.specs.Scalar.{Answer, read, refused, referenceOf, wholeOf, rea
 use Rattle.params.specs.Cut.{Cut, cut, unclosed, Stand, outside, settled, passed, cutTurn, over, cutEnd, cutOf, started}
 use Rattle.params.specs.Reader.{reading, Span, span, inFile, bounded, begun, onward, paramOf}
 use Rattle.lists.specs.declared.Kind.{Kind}
-use Rattle.lists.specs.declared.Kind.the-variants.{References, Integers, Floats}
+use Rattle.lists.specs.declared.Kind.the-variants.{References, Integers, Floats, Any}
 use Rattle.lists.specs.declared.ReadList.{ReadList}
 use Rattle.lists.specs.declared.ReadList.the-variants.{Count, Wrong, Outside, Short}
 use Rattle.lists.specs.Items.{Fate, fine, faulty, shifted, fated, asFate, kindOf, boundOf, itemEnd, indent, itemBy, consed, headed, past-comma, itemsFrom, isNone, itemsBy, inside, bare, bodyOf, listed, listBy, listOf, roomed, nextBy, fitsIn, countOf, toldReadList, reached}
@@ -64,6 +64,7 @@ pub kind-inward : (kind : Kind) → Inward (kindOf kind)
 kind-inward References = told-inward (λ a. tt) (λ u. asFate (referenceOf u)) (scalar-inward referenceOf)
 kind-inward Integers = told-inward (λ a. tt) (λ u. asFate (wholeOf u)) (scalar-inward wholeOf)
 kind-inward Floats = told-inward (λ a. tt) (λ u. asFate (realOf u)) (scalar-inward realOf)
+kind-inward Any = λ t. omega arith
 
 -- past bytes of a kind no more is left
 past-short : (p : ℕ → Bool) (xs : List ℕ) → length (past p xs) ≤ length xs

@@ -36,11 +36,12 @@ pub enum Shape {
     Full,
 }
 
-// What the items of a list are to be.
+// What the items of a list are to be: anything, where they are only counted.
 pub enum Kind {
     References,
     Integers,
     Floats,
+    Any,
 }
 
 // Whether an item reads: yes, or 12, or 13.
@@ -135,6 +136,7 @@ fn verdict_of(kind: Kind, t: &[u8]) -> Verdict
             Real::Outside => Verdict::Outside,
             Real::NotReal => Verdict::Wrong,
         },
+        Kind::Any => Verdict::Reads,
     }
 }
 

@@ -3,12 +3,11 @@
 use Prim.Native.Nat.{ℕ, zero, suc, _+_, _-_, _≤_, _<_, max}
 use mathlib.Core.Path.{_≡_, refl, sym, _∙_, ap, subst}
 use mathlib.Core.Bool.{Bool, true, false}
-use mathlib.Core.List.{List, [], _∷_, _++_, append-assoc, append-nil}
+use mathlib.Core.List.{List, [], _∷_}
 use native.Mathlib.Omega.{arith}
-use borrow.Author.Tests.{lt-ltb, le-ltb}
-use lib.Dec.{ltb, eqb}
-use lib.ListN.{length, take, drop, getD}
-use lib.Seq.{take-all}
+use borrow.Author.Tests.{lt-ltb}
+use lib.Dec.{ltb}
+use lib.ListN.{length, drop}
 use Rattle.error.specs.Refusal.{Refusal, refusal, Told, good, bad}
 use Rattle.lex.specs.Byte.{pick}
 use Rattle.statement.specs.Row.{Row, HeaderRow, mapped}
@@ -19,13 +18,15 @@ use Rattle.scan.specs.File.{Table, table, withHeader, withRecord, taken, readFr
 use Rattle.scan.specs.Table.{Counts, countsOf}
 use Rattle.scan.specs.Roomy.{refusal-roomy}
 use Rattle.lex.specs.Right.Steps.{clash}
-use Rattle.lengths.specs.Lengths.{recordTexts}
+use Rattle.lengths.specs.declared.Sizes.{Sizes}
+use Rattle.lengths.specs.Lengths.{both, nothing, recordOf}
+use Rattle.lengths.specs.Laws.{same-sizes, both-nothing, nothing-both}
 use Rattle.needs.specs.declared.Needs.{Needs}
-use Rattle.needs.specs.Needs.{commasOf, itemsIn, headItems, rowItems, headTexts, rowTexts, needs, needsIn, needsOf}
+use Rattle.needs.specs.Needs.{mostOf, headSizes, rowSizes, needs, needsIn, needsOf}
 
--- needs before those of the rest of the file
-abbrev pub plus : ℕ → ℕ → ℕ → ℕ → ℕ → Needs → Needs
-plus h r m n x c = needs (h + c .headers) (r + c .records) (max m (c .max)) (max n (c .items)) (max x (c .text))
+-- needs before those of the table that the rest of the file has
+abbrev pub plus : List ℕ → ℕ → ℕ → ℕ → Sizes → Table → Needs
+plus s h r m z t = needs (h + length (t .headers)) (r + length (t .records)) (max m (largest (t .records))) (both z (both (headSizes s (t .headers)) (rowSizes s (t .records))))
 
 -- one turn of the reading, while statements may be left
 unrolled : (k : ℕ) (s : List ℕ) (H R : ℕ) (sec : Section) (h r : ℕ) (xs : List ℕ) → 0 < k
@@ -34,12 +35,12 @@ unfolding readFrom
 unrolled zero s H R sec h r xs p = absurd (omega arith)
 unrolled (suc k) s H R sec h r xs p = let e : suc k - 1 ≡ k = omega arith in rw e refl
 
--- the counting so far: h and r rows, the largest id, the most items and the longest text up to the place i, and what is left gives the rest
-pub record Counting (s : List ℕ) (i : ℕ) (sec : Section) (h r m n x : ℕ) : Type 0 where
+-- the counting so far: h and r rows, the largest id and the sizes up to the place i, and what is left gives the rest
+pub record Counting (s : List ℕ) (i : ℕ) (sec : Section) (h r m : ℕ) (z : Sizes) : Type 0 where
   pub fuel : ℕ
   pub within : i ≤ length s
   pub enough : length s - i < fuel
-  pub same : mapped (λ t. plus h r m n x (needsIn s t)) (readFrom fuel s (length s) (length s) sec h r (drop i s)) ≡ mapped (needsIn s) (readingOf s (length s) (length s))
+  pub same : mapped (plus s h r m z) (readFrom fuel s (length s) (length s) sec h r (drop i s)) ≡ mapped (needsIn s) (readingOf s (length s) (length s))
   pub hroom : h ≤ i
   pub rroom : r ≤ i
 
@@ -48,42 +49,49 @@ max-none : (k : ℕ) → max 0 k ≡ k
 max-none k = omega arith
 
 -- needs that are the same number by number
-same-needs : {h r m n x h′ r′ m′ n′ x′ : ℕ} → h ≡ h′ → r ≡ r′ → m ≡ m′ → n ≡ n′ → x ≡ x′ → needs h r m n x ≡ needs h′ r′ m′ n′ x′
-same-needs a b c d e = λ i. record { headers = a i; records = b i; max = c i; items = d i; text = e i }
+same-needs : {h r m h′ r′ m′ : ℕ} {z z′ : Sizes} → h ≡ h′ → r ≡ r′ → m ≡ m′ → z ≡ z′ → needs h r m z ≡ needs h′ r′ m′ z′
+same-needs a b c d = λ i. record { headers = a i; records = b i; max = c i; items = d i .items; text = d i .text; rows = d i .rows }
 
--- the greatest of a header record's and of what follows, and of a data record's
-first-most : (n i a b : ℕ) → max n (max (max i a) b) ≡ max (max n i) (max a b)
-first-most n i a b = omega arith
+-- the greatest of a header record's and of what follows
+first-most : (z i a b : Sizes) → both z (both (both i a) b) ≡ both (both z i) (both a b)
+first-most z i a b = same-sizes (one (z .text) (i .text) (a .text) (b .text)) (one (z .items) (i .items) (a .items) (b .items)) (one (z .rows) (i .rows) (a .rows) (b .rows))
+  where
+    one : (j k l n : ℕ) → max j (max (max k l) n) ≡ max (max j k) (max l n)
+    one j k l n = omega arith
 
-later-most : (n i a b : ℕ) → max n (max a (max i b)) ≡ max (max n i) (max a b)
-later-most n i a b = omega arith
+-- and of a data record's
+later-most : (z i a b : Sizes) → both z (both a (both i b)) ≡ both (both z i) (both a b)
+later-most z i a b = same-sizes (one (z .text) (i .text) (a .text) (b .text)) (one (z .items) (i .items) (a .items) (b .items)) (one (z .rows) (i .rows) (a .rows) (b .rows))
+  where
+    one : (j k l n : ℕ) → max j (max l (max k n)) ≡ max (max j k) (max l n)
+    one j k l n = omega arith
 
 -- nothing before
-plus-none : (s : List ℕ) (y : Told Table) → mapped (λ t. plus 0 0 0 0 0 (needsIn s t)) y ≡ mapped (needsIn s) y
-plus-none s (good t) = ap good (same-needs (omega arith) (omega arith) (max-none (largest (t .records))) (max-none (max (headItems s (t .headers)) (rowItems s (t .records)))) (max-none (max (headTexts s (t .headers)) (rowTexts s (t .records)))))
+plus-none : (s : List ℕ) (y : Told Table) → mapped (plus s 0 0 0 nothing) y ≡ mapped (needsIn s) y
+plus-none s (good t) = ap good (same-needs (omega arith) (omega arith) (max-none (largest (t .records))) (nothing-both (both (headSizes s (t .headers)) (rowSizes s (t .records)))))
 plus-none s (bad q) = refl
 
 -- one header row more
-plus-header : (s : List ℕ) (h r m n x : ℕ) (w : HeaderRow) (y : Told Table)
-    → mapped (λ t. plus h r m n x (needsIn s t)) (mapped (withHeader w) y) ≡ mapped (λ t. plus (h + 1) r m (max n (itemsIn s (w .argStart) (w .argEnd))) (max x (recordTexts s (w .argStart) (w .argEnd) 0)) (needsIn s t)) y
-unfolding headItems headTexts
-plus-header s h r m n x w (good t) =
-    ap good (same-needs (omega arith) refl refl (first-most n (itemsIn s (w .argStart) (w .argEnd)) (headItems s (t .headers)) (rowItems s (t .records))) (first-most x (recordTexts s (w .argStart) (w .argEnd) 0) (headTexts s (t .headers)) (rowTexts s (t .records))))
-plus-header s h r m n x w (bad q) = refl
+plus-header : (s : List ℕ) (h r m : ℕ) (z : Sizes) (w : HeaderRow) (y : Told Table)
+    → mapped (plus s h r m z) (mapped (withHeader w) y) ≡ mapped (plus s (h + 1) r m (both z (recordOf s (w .argStart) (w .argEnd) 0))) y
+unfolding mostOf
+plus-header s h r m z w (good t) =
+    ap good (same-needs (omega arith) refl refl (first-most z (recordOf s (w .argStart) (w .argEnd) 0) (headSizes s (t .headers)) (rowSizes s (t .records))))
+plus-header s h r m z w (bad q) = refl
 
 -- one data row more
-plus-record : (s : List ℕ) (h r m n x : ℕ) (w : Row) (y : Told Table)
-    → mapped (λ t. plus h r m n x (needsIn s t)) (mapped (withRecord w) y) ≡ mapped (λ t. plus h (r + 1) (max m (w .id)) (max n (itemsIn s (w .argStart) (w .argEnd))) (max x (recordTexts s (w .argStart) (w .argEnd) (w .complex))) (needsIn s t)) y
-unfolding largest rowItems rowTexts
-plus-record s h r m n x w (good t) =
-    ap good (same-needs refl (omega arith) (biggest (w .id) (largest (t .records))) (later-most n (itemsIn s (w .argStart) (w .argEnd)) (headItems s (t .headers)) (rowItems s (t .records))) (later-most x (recordTexts s (w .argStart) (w .argEnd) (w .complex)) (headTexts s (t .headers)) (rowTexts s (t .records))))
+plus-record : (s : List ℕ) (h r m : ℕ) (z : Sizes) (w : Row) (y : Told Table)
+    → mapped (plus s h r m z) (mapped (withRecord w) y) ≡ mapped (plus s h (r + 1) (max m (w .id)) (both z (recordOf s (w .argStart) (w .argEnd) (w .complex)))) y
+unfolding largest mostOf
+plus-record s h r m z w (good t) =
+    ap good (same-needs refl (omega arith) (biggest (w .id) (largest (t .records))) (later-most z (recordOf s (w .argStart) (w .argEnd) (w .complex)) (headSizes s (t .headers)) (rowSizes s (t .records))))
   where
     biggest : (i a : ℕ) → max m (max i a) ≡ max (max m i) a
     biggest i a = omega arith
-plus-record s h r m n x w (bad q) = refl
+plus-record s h r m z w (bad q) = refl
 
 -- where the loop begins
-pub counting-starts : (s : List ℕ) → Counting s 0 Outside 0 0 0 0 0
+pub counting-starts : (s : List ℕ) → Counting s 0 Outside 0 0 0 nothing
 counting-starts s = record {
   fuel = length s + 1;
   within = omega arith;
@@ -93,26 +101,23 @@ counting-starts s = record {
   rroom = omega arith;
 }
 
-module _ (s : List ℕ) (i : ℕ) (sec : Section) (h r m n x : ℕ) (g : Counting s i sec h r m n x) where
+module _ (s : List ℕ) (i : ℕ) (sec : Section) (h r m : ℕ) (z : Sizes) (g : Counting s i sec h r m z) where
   -- the whole counting, by the next statement
   turn : (y : Stmt) → y ≡ statement s sec (drop i s)
-      → mapped (λ t. plus h r m n x (needsIn s t)) (taken s (length s) (length s) h r y (λ sec h r t. readFrom (g .fuel - 1) s (length s) (length s) sec h r t)) ≡ mapped (needsIn s) (readingOf s (length s) (length s))
+      → mapped (plus s h r m z) (taken s (length s) (length s) h r y (λ sec h r t. readFrom (g .fuel - 1) s (length s) (length s) sec h r t)) ≡ mapped (needsIn s) (readingOf s (length s) (length s))
   turn y e = rw (e, ← unrolled (g .fuel) s (length s) (length s) sec h r (drop i s) (omega (arith, g .enough))) (g .same)
 
   -- the file ends
-  pub counting-ends : ends ≡ statement s sec (drop i s) → good (needs h r m n x) ≡ mapped (needsIn s) (readingOf s (length s) (length s))
-  unfolding largest headItems rowItems headTexts rowTexts
-  counting-ends e = ap good (same-needs (omega arith) (omega arith) (omega arith) (least n) (least x)) ∙ turn ends e
-    where
-      least : (k : ℕ) → k ≡ max k (max 0 0)
-      least k = omega arith
+  pub counting-ends : ends ≡ statement s sec (drop i s) → good (needs h r m z) ≡ mapped (needsIn s) (readingOf s (length s) (length s))
+  unfolding largest mostOf
+  counting-ends e = ap good (same-needs (omega arith) (omega arith) (omega arith) (sym (both-nothing z))) ∙ turn ends e
 
   -- a refusal
   pub counting-refused : (q : Refusal) → refused q ≡ statement s sec (drop i s) → bad q ≡ mapped (needsIn s) (readingOf s (length s) (length s))
   counting-refused q e = turn (refused q) e
 
   -- a section word, or a record that is ignored
-  pub counting-moves : (to : Section) (j : ℕ) → moved to (drop j s) ≡ statement s sec (drop i s) → i < j → j ≤ length s → Counting s j to h r m n x
+  pub counting-moves : (to : Section) (j : ℕ) → moved to (drop j s) ≡ statement s sec (drop i s) → i < j → j ≤ length s → Counting s j to h r m z
   counting-moves to j e p q = record {
     fuel = g .fuel - 1;
     within = q;
@@ -123,23 +128,23 @@ module _ (s : List ℕ) (i : ℕ) (sec : Section) (h r m n x : ℕ) (g : Countin
   }
 
   -- a header record: there are never more rows than bytes
-  pub counting-header : (w : HeaderRow) (p j : ℕ) → header w (drop p s) (drop j s) ≡ statement s sec (drop i s) → i < j → j ≤ length s → Counting s j InHeader (h + 1) r m (max n (itemsIn s (w .argStart) (w .argEnd))) (max x (recordTexts s (w .argStart) (w .argEnd) 0))
+  pub counting-header : (w : HeaderRow) (p j : ℕ) → header w (drop p s) (drop j s) ≡ statement s sec (drop i s) → i < j → j ≤ length s → Counting s j InHeader (h + 1) r m (both z (recordOf s (w .argStart) (w .argEnd) 0))
   counting-header w p j e a b = record {
     fuel = g .fuel - 1;
     within = b;
     enough = omega (arith, g .enough);
-    same = sym (plus-header s h r m n x w (readFrom (g .fuel - 1) s (length s) (length s) InHeader (h + 1) r (drop j s))) ∙ rw (lt-ltb h (length s) (omega (arith, g .hroom))) at (turn (header w (drop p s) (drop j s)) e);
+    same = sym (plus-header s h r m z w (readFrom (g .fuel - 1) s (length s) (length s) InHeader (h + 1) r (drop j s))) ∙ rw (lt-ltb h (length s) (omega (arith, g .hroom))) at (turn (header w (drop p s) (drop j s)) e);
     hroom = omega (arith, g .hroom);
     rroom = omega (arith, g .rroom);
   }
 
   -- a data record
-  pub counting-record : (w : Row) (p j : ℕ) → record′ w (drop p s) (drop j s) ≡ statement s sec (drop i s) → i < j → j ≤ length s → Counting s j InData h (r + 1) (max m (w .id)) (max n (itemsIn s (w .argStart) (w .argEnd))) (max x (recordTexts s (w .argStart) (w .argEnd) (w .complex)))
+  pub counting-record : (w : Row) (p j : ℕ) → record′ w (drop p s) (drop j s) ≡ statement s sec (drop i s) → i < j → j ≤ length s → Counting s j InData h (r + 1) (max m (w .id)) (both z (recordOf s (w .argStart) (w .argEnd) (w .complex)))
   counting-record w p j e a b = record {
     fuel = g .fuel - 1;
     within = b;
     enough = omega (arith, g .enough);
-    same = sym (plus-record s h r m n x w (readFrom (g .fuel - 1) s (length s) (length s) InData h (r + 1) (drop j s))) ∙ rw (lt-ltb r (length s) (omega (arith, g .rroom))) at (turn (record′ w (drop p s) (drop j s)) e);
+    same = sym (plus-record s h r m z w (readFrom (g .fuel - 1) s (length s) (length s) InData h (r + 1) (drop j s))) ∙ rw (lt-ltb r (length s) (omega (arith, g .rroom))) at (turn (record′ w (drop p s) (drop j s)) e);
     hroom = omega (arith, g .hroom);
     rroom = omega (arith, g .rroom);
   }
@@ -173,33 +178,3 @@ needs-read s n = go (ltb 4294967295 (length s)) (marked s) refl refl
     go true b p t = let k : _≡_ {A = ℕ} 2 8 = n (refusal 2 0 0) (rw p refl) in absurd (omega arith)
     go false true p t = rw (p, t) refl
     go false false p t = let k : _≡_ {A = ℕ} 1 8 = n (refusal 1 0 0) (rw (p, t) refl) in absurd (omega arith)
-
--- the commas of the bytes up to i, and of one more
-commas-next : (xs : List ℕ) (i : ℕ) → i < length xs → commasOf (take (suc i) xs) ≡ commasOf (take i xs) + pick (eqb (getD xs i 0) 44) 1 0
-unfolding commasOf
-commas-next [] i h = absurd (omega arith)
-commas-next (x ∷ xs) zero h = omega arith
-commas-next (x ∷ xs) (suc i) h = let ih = commas-next xs i (omega arith) in omega arith
-
--- the same, as the loop has it
-pub commas-more : (xs : List ℕ) (i n k : ℕ) → i < length xs → n ≡ commasOf (take i xs) → k ≡ pick (eqb (getD xs i 0) 44) 1 0 → n + k ≡ commasOf (take (i + 1) xs)
-commas-more xs i n k h e f = let w = commas-next xs i h in let j : i + 1 ≡ suc i = omega arith in rw (j, e, f) (sym w)
-
--- so many bytes are all of them
-pub commas-all : (xs : List ℕ) (i n : ℕ) → length xs ≤ i → n ≡ commasOf (take i xs) → n ≡ commasOf xs
-commas-all xs i n h e = e ∙ ap (λ (l : List ℕ). commasOf l) (take-all i xs h)
-
--- there are no more commas than bytes
-pub commas-few : (xs : List ℕ) → commasOf xs ≤ length xs
-unfolding commasOf
-commas-few [] = omega arith
-commas-few (x ∷ xs) = go (eqb x 44) (commas-few xs)
-  where
-    go : (b : Bool) → commasOf xs ≤ length xs → pick b 1 0 + commasOf xs ≤ suc (length xs)
-    go true k = omega arith
-    go false k = omega arith
-
--- no bytes have no commas
-pub commas-nothing : (xs : List ℕ) → _≡_ {A = ℕ} 0 (commasOf (take 0 xs))
-unfolding commasOf
-commas-nothing xs = refl

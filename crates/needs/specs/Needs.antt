@@ -1,60 +1,40 @@
 -- What a file needs of lent memory.
 -- Assumes nothing.
-use Prim.Native.Nat.{ℕ, _+_, _-_, _≤_, max}
+use Prim.Native.Nat.{ℕ, _≤_}
 use mathlib.Core.Path.{_≡_, refl, sym, _∙_, ap, subst}
-use mathlib.Core.Bool.{_&&_}
 use mathlib.Core.List.{List, [], _∷_}
 use native.Mathlib.Omega.{arith}
-use lib.Dec.{eqb, leb}
-use lib.ListN.{length, take, drop}
+use lib.ListN.{length}
 use Rattle.error.specs.Refusal.{Refusal, Told, good, bad, told}
-use Rattle.lex.specs.Byte.{pick}
 use Rattle.lex.specs.Right.Steps.{clash}
 use Rattle.statement.specs.Row.{Row, HeaderRow, mapped}
 use Rattle.scan.specs.File.{Table, scanOf, largest}
-use Rattle.scan.specs.Table.{Counts, countsOf}
 use Rattle.scan.specs.Rooms.{scan-roomy, scan-fit}
-use Rattle.lengths.specs.Lengths.{recordTexts}
+use Rattle.lengths.specs.declared.Sizes.{Sizes}
+use Rattle.lengths.specs.Lengths.{both, nothing, recordOf}
 use Rattle.needs.specs.declared.Needs.{Needs}
 use Rattle.needs.specs.declared.Needed as NeededCode
 
--- how many commas a text has
-unfoldable pub commasOf : List ℕ → ℕ
-commasOf [] = 0
-commasOf (c ∷ r) = pick (eqb c 44) 1 0 + commasOf r
+-- the most that any of a list of rows needs, each as g says
+unfoldable pub mostOf : {R : Type 0} → (R → Sizes) → List R → Sizes
+mostOf g [] = nothing
+mostOf g (w ∷ ws) = both (g w) (mostOf g ws)
 
--- one more than the commas of the arguments from a up to z of the file s: items stand between commas. None for places outside the file
-abbrev pub itemsIn : List ℕ → ℕ → ℕ → ℕ
-itemsIn s a z = pick (leb a z && leb z (length s)) (commasOf (take (z - a) (drop a s)) + 1) 0
+-- what the header records need
+abbrev pub headSizes : List ℕ → List HeaderRow → Sizes
+headSizes s ws = mostOf (λ (w : HeaderRow). recordOf s (w .argStart) (w .argEnd) 0) ws
 
--- the greatest over header records
-unfoldable pub headItems : List ℕ → List HeaderRow → ℕ
-headItems s [] = 0
-headItems s (w ∷ ws) = max (itemsIn s (w .argStart) (w .argEnd)) (headItems s ws)
-
--- the greatest over data records
-unfoldable pub rowItems : List ℕ → List Row → ℕ
-rowItems s [] = 0
-rowItems s (w ∷ ws) = max (itemsIn s (w .argStart) (w .argEnd)) (rowItems s ws)
-
--- the longest text of header records
-unfoldable pub headTexts : List ℕ → List HeaderRow → ℕ
-headTexts s [] = 0
-headTexts s (w ∷ ws) = max (recordTexts s (w .argStart) (w .argEnd) 0) (headTexts s ws)
-
--- the longest text of data records
-unfoldable pub rowTexts : List ℕ → List Row → ℕ
-rowTexts s [] = 0
-rowTexts s (w ∷ ws) = max (recordTexts s (w .argStart) (w .argEnd) (w .complex)) (rowTexts s ws)
+-- what the data records need
+abbrev pub rowSizes : List ℕ → List Row → Sizes
+rowSizes s ws = mostOf (λ (w : Row). recordOf s (w .argStart) (w .argEnd) (w .complex)) ws
 
 -- such needs by their numbers
-abbrev pub needs : ℕ → ℕ → ℕ → ℕ → ℕ → Needs
-needs h r m n x = record { headers = h; records = r; max = m; items = n; text = x }
+abbrev pub needs : ℕ → ℕ → ℕ → Sizes → Needs
+needs h r m z = record { headers = h; records = r; max = m; items = z .items; text = z .text; rows = z .rows }
 
--- what a table needs: its rows of both kinds, the largest id, the most items that the arguments of any of its records can have, and the
--- longest text of any of their parameters
+-- what a table needs: its rows of both kinds, the largest id, and the most that any parameter of any of its records needs
 abbrev pub needsIn : List ℕ → Table → Needs
-needsIn s t = needs (length (t .headers)) (length (t .records)) (largest (t .records)) (max (headItems s (t .headers)) (rowItems s (t .records))) (max (headTexts s (t .headers)) (rowTexts s (t .records)))
+needsIn s t = needs (length (t .headers)) (length (t .records)) (largest (t .records)) (both (headSizes s (t .headers)) (rowSizes s (t .records)))
 
 -- what the code's answer says
 abbrev pub toldNeeded : NeededCode.Needed → Told Needs

@@ -1,27 +1,28 @@
-// What a file needs of lent memory, told before anything is lent: its rows are counted and not written, and so are the items of its lists and the bytes of its texts.
+// What a file needs of lent memory, told before anything is lent: its rows are counted and not written, and so are the numbers of its lists and
+// grids, the rows of its grids and the bytes of its texts.
 //
 // A host asks this once, lends tables and lists of just this size, and no function then answers 8, nor 16 for a list, a grid or a text.
 ghost use mathlib.Core.Path.{_≡_};
-ghost use Prim.Native.Nat.{_≤_, max};
+ghost use Prim.Native.Nat.{max};
 ghost use lib.ListN.{length};
-ghost use lib.Dec.{eqb};
-ghost use Rattle.lex.specs.Byte.{pick};
 ghost use Rattle.statement.specs.Row.{mapped};
 ghost use Rattle.scan.specs.File.{readingOf};
-ghost use Rattle.needs.specs.Needs.{commasOf, itemsIn, needsIn, toldNeeded, needsOf};
+ghost use Rattle.lengths.specs.Lengths.{both, recordOf};
+ghost use Rattle.needs.specs.Needs.{needs, needsIn, toldNeeded, needsOf};
 use error::Fault;
-use lengths::record_text;
+use lengths::Sizes;
 use scan::Scanned;
 use statement::Said;
 use statement::Section;
 
-// How many header rows and data rows, the largest id, how many items a list or a grid can have, and the longest text.
+// How many header rows and data rows, the largest id, the most numbers of a list or a grid, the longest text, and the most rows of a grid.
 pub struct Needs {
     pub headers: usize,
     pub records: usize,
     pub max: u32,
     pub items: usize,
     pub text: usize,
+    pub rows: usize,
 }
 
 // What a file needs, or why it is refused.
@@ -37,45 +38,11 @@ fn greater(a: u32, b: u32) -> u32
     if a < b { b } else { a }
 }
 
-// The greater of two counts.
-fn larger(a: usize, b: usize) -> usize
-    ensures { λ r. ⌜ r ≡ max a b ⌝ }
+// What is needed so far, and by one record more.
+fn with_record(most: Sizes, s: &[u8], place: usize, end: usize, complex: u32) -> Sizes
+    ensures { λ r. ⌜ r ≡ both most (recordOf (now (s .entry)) place end complex) ⌝ }
 {
-    if a < b { b } else { a }
-}
-
-// 1 for a comma, and 0 for any other byte.
-fn one_for(b: u8) -> usize
-    ensures { λ r. ⌜ r ≡ pick (eqb b 44) 1 0 ⌝ }
-    ensures { λ r. ⌜ r ≤ 1 ⌝ }
-{
-    if b == b',' { 1 } else { 0 }
-}
-
-// How many commas there are.
-fn commas(t: &[u8]) -> usize
-    ensures { λ r. ⌜ r ≡ commasOf (now (t .entry)) ⌝ }
-    ensures { λ r. ⌜ r ≤ length (now (t .entry)) ⌝ }
-{
-    let mut n = 0;
-    let mut i = 0;
-    while i < t.len() {
-        n += one_for(t[i]);
-        i += 1;
-    }
-    n
-}
-
-// How many items the arguments from a place up to another can have.
-fn items_in(s: &[u8], a: usize, z: usize) -> usize
-    ensures { λ r. ⌜ r ≡ itemsIn (now (s .entry)) a z ⌝ }
-{
-    if a <= z {
-        if z <= s.len() {
-            return commas(&s[a..z]) + 1;
-        }
-    }
-    0
+    lengths::larger_each(most, lengths::record_sizes(s, place, end, complex))
 }
 
 // Reads the file in order and counts. There are never more rows than bytes.
@@ -87,11 +54,14 @@ fn pass(s: &[u8]) -> Needed
     let mut headers: usize = 0;
     let mut records: usize = 0;
     let mut max: u32 = 0;
-    let mut items: usize = 0;
-    let mut text: usize = 0;
+    let mut most = Sizes {
+        text: 0,
+        items: 0,
+        rows: 0,
+    };
     loop {
         match statement::next_statement(s, i, section) {
-            Said::Ends => return found(headers, records, max, items, text),
+            Said::Ends => return found(headers, records, max, most),
             Said::Refuses(f) => return Needed::Refused(f),
             Said::Moves(to, next) => {
                 section = to;
@@ -100,34 +70,30 @@ fn pass(s: &[u8]) -> Needed
             Said::Heads(span, _, next) => {
                 section = Section::InHeader;
                 headers += 1;
-                items = larger(items, items_in(s, span.args.start, span.args.end));
-                text = larger(text, record_text(s, span.args.start, span.args.end, 0));
+                most = with_record(most, s, span.args.start, span.args.end, 0);
                 i = next;
             }
             Said::Records(span, _, next) => {
                 section = Section::InData;
                 records += 1;
                 max = greater(max, span.id);
-                items = larger(items, items_in(s, span.args.start, span.args.end));
-                text = larger(
-                    text,
-                    record_text(s, span.args.start, span.args.end, span.complex),
-                );
+                most = with_record(most, s, span.args.start, span.args.end, span.complex);
                 i = next;
             }
         }
     }
 }
 
-fn found(headers: usize, records: usize, max: u32, items: usize, text: usize) -> Needed
-    ensures { λ r. ⌜ r ≡ Needed.Is (record { headers = headers; records = records; max = max; items = items; text = text }) ⌝ }
+fn found(headers: usize, records: usize, max: u32, most: Sizes) -> Needed
+    ensures { λ r. ⌜ r ≡ Needed.Is (needs headers records max most) ⌝ }
 {
     Needed::Is(Needs {
         headers,
         records,
         max,
-        items,
-        text,
+        items: most.items,
+        text: most.text,
+        rows: most.rows,
     })
 }
 

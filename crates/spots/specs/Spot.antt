@@ -1,4 +1,4 @@
--- Lines and columns of a place. Assumes nothing.
+-- Lines and columns of a place, computed; Lines.antt says what they are. Assumes nothing.
 use Prim.Native.Nat.{ℕ, _+_, _<_, _≤_}
 use mathlib.Core.Path.{_≡_, refl, sym, _∙_, ap, subst}
 use mathlib.Core.Bool.{Bool, true, false}
@@ -14,6 +14,7 @@ abbrev pub choice : Bool → ℕ → ℕ → ℕ
 choice true a b = a
 choice false a b = b
 
+-- Neither is more than n, so the one is not.
 pub choice-most : (t : Bool) (a b n : ℕ) → a ≤ n → b ≤ n → choice t a b ≤ n
 choice-most true a b n h k = h
 choice-most false a b n h k = k
@@ -35,12 +36,15 @@ pub record Counted (s : List ℕ) (line column i : ℕ) : Type 0 where
   pub lines : breaks line (drop i s) ≡ breaks 0 s
   pub columns : trail column (drop i s) ≡ trail 0 s
 
+-- The byte at a place, and what follows it.
 split : (xs : List ℕ) (i : ℕ) → i < length xs → drop i xs ≡ getD xs i 0 ∷ drop (i + 1) xs
 split xs i h = rw (add-one, drop-cons xs i 0)
 
+-- Where the walk begins.
 pub counted-start : (s : List ℕ) → Counted s 0 0 0
 counted-start s = record { few = omega arith; short = omega arith; lines = refl; columns = refl }
 
+-- One byte further.
 pub counted-next : (s : List ℕ) (l c i : ℕ) → i < length s → Counted s l c i
     → Counted s (choice (eqb (getD s i 0) 10) (l + 1) l) (choice (eqb (getD s i 0) 10) 0 (c + 1)) (i + 1)
 unfolding breaks trail
@@ -51,6 +55,7 @@ counted-next s l c i h k = record {
   columns = sym (ap (trail c) (split s i h)) ∙ k .columns;
 }
 
+-- Where it ends.
 pub counted-end : (s : List ℕ) (l c i : ℕ) → length s ≤ i → Counted s l c i → (l ≡ breaks 0 s) × (c ≡ trail 0 s)
 unfolding breaks trail
 counted-end s l c i h k = (sym (ap (breaks l) (drop-of-length-le s h)) ∙ k .lines, sym (ap (trail c) (drop-of-length-le s h)) ∙ k .columns)

@@ -1,6 +1,6 @@
 use mathlib.Core.Path.{_∙_}
 use denote.Ref.{now}
-use Rattle.lengths.specs.Lengths.{len-short, len-other, len-string}
+use Rattle.lengths.specs.Laws.{len-short, len-other, len-string}
 use borrow.Author.Needs.{needs}
 use Rattle.lengths.proofs.string_len.Statement.{statement}
 use Rattle.lengths.proofs.string_len.Tie as tie

@@ -1,7 +1,7 @@
 use borrow.Author.Needs.{needs}
 use Rattle.reals.specs.Scalar.{Answer, toldReference, toldWhole, toldReal}
 use Rattle.lists.specs.Items.{mute, asFate}
-use mathlib.Core.Path.{ap, sym, _∙_}
+use mathlib.Core.Path.{refl, ap, sym, _∙_}
 use Prim.Native.Nat.{ℕ}
 use lib.IntN.{ℤ}
 use Rattle.lists.proofs.verdict_of.Statement.{statement}
@@ -64,6 +64,10 @@ enum-told-9 c = search needs
 enum-told-10 : tie.Need-enum-told-10
 enum-told-10 c = search needs
 
+-- src/lib.rt:126:22
+enum-told-11 : tie.Need-enum-told-11
+enum-told-11 c = search needs
+
 -- src/lib.rt:109:1
 returns : tie.Need-returns
 returns c = rw (c .before .before .before .enum-told .given .1) (ap (λ (a : Answer ℕ). mute (asFate a)) (ap toldReference (sym (c .enum-told2 .given .1)) ∙ c .before .before .parse-ref .ensures))
@@ -92,6 +96,10 @@ returns-6 c = rw (c .before .before .before .enum-told7 .given .1) (ap (λ (a : 
 returns-7 : tie.Need-returns-7
 returns-7 c = rw (c .before .before .before .enum-told7 .given .1) (ap (λ (a : Answer ℕ). mute (asFate a)) (ap toldReal (sym (c .enum-told10 .given .1)) ∙ c .before .before .parse-real .ensures))
 
+-- src/lib.rt:109:1
+returns-8 : tie.Need-returns-8
+returns-8 c = rw (c .enum-told11 .given .1) refl
+
 pub verdict-of-spec : {M : Type 1} → statement M
 verdict-of-spec =
     tie.close
@@ -109,10 +117,12 @@ verdict-of-spec =
     enum-told-8
     enum-told-9
     enum-told-10
+    enum-told-11
     returns
     returns-2
     returns-3
     returns-4
     returns-5
     returns-6
-    returns-7)
+    returns-7
+    returns-8)

@@ -10,18 +10,16 @@ use Rattle.needs.proofs.pass.Statement.{statement}
 use Rattle.needs.proofs.pass.Tie as tie
 use Rattle.needs.proofs.pass.Reads as reads
 use Rattle.needs.proofs.pass.Lts as lts
-use Rattle.lengths.proofs.record_text.Reads as record-text-reads
 use Rattle.needs.proofs.found.Reads as found-reads
 use Rattle.needs.proofs.greater.Reads as greater-reads
-use Rattle.needs.proofs.items_in.Reads as items-in-reads
-use Rattle.needs.proofs.larger.Reads as larger-reads
+use Rattle.needs.proofs.with_record.Reads as with-record-reads
 use Rattle.statement.proofs.next_statement.Reads as next-statement-reads
 
 abbrev Inv-loop : tie.InvT-loop
-Inv-loop s i₀ section₀ headers₀ records₀ max₀ items₀ text₀ i section headers records max items text = Counting s i section headers records max items text
+Inv-loop s i₀ section₀ headers₀ records₀ max₀ most₀ i section headers records max most = Counting s i section headers records max most
 
 abbrev μ-loop : tie.MeasureT-loop
-μ-loop s i₀ section₀ headers₀ records₀ max₀ items₀ text₀ i section headers records max items text = length s - i
+μ-loop s i₀ section₀ headers₀ records₀ max₀ most₀ i section headers records max most = length s - i
 
 -- src/lib.rt:91:5
 loop-holds : tie.Need-loop-holds Inv-loop μ-loop
@@ -46,7 +44,7 @@ returns c =
     let t = n .before in
     let a = t .before .before .args in
     let v = c .before .enum-told in
-    rw (c .found .ensures) (counting-ends _ _ _ _ _ _ _ _ (t .loop .inv) (sym (ap (toldSaid (now (a .s))) (v .given .1)) ∙ n .next-statement .ensures .0))
+    rw (c .found .ensures) (counting-ends _ _ _ _ _ _ _ (t .loop .inv) (sym (ap (toldSaid (now (a .s))) (v .given .1)) ∙ n .next-statement .ensures .0))
 
 -- src/lib.rt:94:27
 enum-known-f : tie.Need-enum-known-f Inv-loop μ-loop
@@ -59,7 +57,7 @@ returns-2 c =
     let t = n .before in
     let a = t .before .before .args in
     let v = c .before .f in
-    counting-refused _ _ _ _ _ _ _ _ (t .loop .inv) _ (sym (ap (toldSaid (now (a .s))) (v .given .1)) ∙ n .next-statement .ensures .0)
+    counting-refused _ _ _ _ _ _ _ (t .loop .inv) _ (sym (ap (toldSaid (now (a .s))) (v .given .1)) ∙ n .next-statement .ensures .0)
 
 -- src/lib.rt:95:25
 enum-known-to : tie.Need-enum-known-to Inv-loop μ-loop
@@ -83,7 +81,7 @@ loop-again c =
     let a = t .before .before .args in
     let v = c .before .to in
     let w = rw (v .given .1) at (n .next-statement .ensures .1) in
-    counting-moves _ _ _ _ _ _ _ _ (t .loop .inv) _ _ (sym (ap (toldSaid (now (a .s))) (v .given .1)) ∙ n .next-statement .ensures .0) (w .0) (w .1)
+    counting-moves _ _ _ _ _ _ _ (t .loop .inv) _ _ (sym (ap (toldSaid (now (a .s))) (v .given .1)) ∙ n .next-statement .ensures .0) (w .0) (w .1)
 
 -- src/lib.rt:99:25
 enum-known-span : tie.Need-enum-known-span Inv-loop μ-loop
@@ -99,41 +97,29 @@ add-headers c =
     let w = rw (v .given .1) at (n .next-statement .ensures .1) in
     omega (arith, t .loop .inv .hroom)
 
--- src/lib.rt:102:39
-items-in-requires : tie.Need-items-in-requires Inv-loop μ-loop
-items-in-requires c κs = search needs
-
--- src/lib.rt:102:17
-larger-requires : tie.Need-larger-requires Inv-loop μ-loop
-larger-requires c κs = search needs
-
--- src/lib.rt:105:21
-record-text-requires : tie.Need-record-text-requires Inv-loop μ-loop
-record-text-requires c κs = search needs
-
--- src/lib.rt:103:17
-larger-requires-2 : tie.Need-larger-requires-2 Inv-loop μ-loop
-larger-requires-2 c κs = search needs
+-- src/lib.rt:102:24
+with-record-requires : tie.Need-with-record-requires Inv-loop μ-loop
+with-record-requires c κs = search needs
 
 -- src/lib.rt:91:5
 loop-less-2 : tie.Need-loop-less-2 Inv-loop μ-loop
 loop-less-2 c =
-    let n = c .before .before .before .before .before .before .before in
+    let n = c .before .before .before .before in
     let t = n .before in
     let a = t .before .before .args in
-    let v = c .before .before .before .before .before .span in
+    let v = c .before .before .span in
     let w = rw (v .given .1) at (n .next-statement .ensures .1) in
     omega arith
 
 -- src/lib.rt:91:5
 loop-again-2 : tie.Need-loop-again-2 Inv-loop μ-loop
 loop-again-2 c =
-    let n = c .before .before .before .before .before .before .before in
+    let n = c .before .before .before .before in
     let t = n .before in
     let a = t .before .before .args in
-    let v = c .before .before .before .before .before .span in
+    let v = c .before .before .span in
     let w = rw (v .given .1) at (n .next-statement .ensures .1) in
-    rw (c .larger2 .ensures, c .before .record-text .ensures, c .before .before .larger .ensures, c .before .before .before .items-in .ensures) (counting-header _ _ _ _ _ _ _ _ (t .loop .inv) _ (v .given .0 .1 .0) _ (sym (ap (toldSaid (now (a .s))) (v .given .1)) ∙ n .next-statement .ensures .0) (w .0) (w .2))
+    rw (c .with-record .ensures) (counting-header _ _ _ _ _ _ _ (t .loop .inv) _ (v .given .0 .1 .0) _ (sym (ap (toldSaid (now (a .s))) (v .given .1)) ∙ n .next-statement .ensures .0) (w .0) (w .2))
 
 -- src/lib.rt:109:27
 enum-known-span-2 : tie.Need-enum-known-span-2 Inv-loop μ-loop
@@ -153,41 +139,29 @@ add-records c =
 greater-requires : tie.Need-greater-requires Inv-loop μ-loop
 greater-requires c κs = search needs
 
--- src/lib.rt:113:39
-items-in-requires-2 : tie.Need-items-in-requires-2 Inv-loop μ-loop
-items-in-requires-2 c κs = search needs
-
--- src/lib.rt:113:17
-larger-requires-3 : tie.Need-larger-requires-3 Inv-loop μ-loop
-larger-requires-3 c κs = search needs
-
--- src/lib.rt:116:21
-record-text-requires-2 : tie.Need-record-text-requires-2 Inv-loop μ-loop
-record-text-requires-2 c κs = search needs
-
--- src/lib.rt:114:17
-larger-requires-4 : tie.Need-larger-requires-4 Inv-loop μ-loop
-larger-requires-4 c κs = search needs
+-- src/lib.rt:109:24
+with-record-requires-2 : tie.Need-with-record-requires-2 Inv-loop μ-loop
+with-record-requires-2 c κs = search needs
 
 -- src/lib.rt:91:5
 loop-less-3 : tie.Need-loop-less-3 Inv-loop μ-loop
 loop-less-3 c =
-    let n = c .before .before .before .before .before .before .before .before in
+    let n = c .before .before .before .before .before in
     let t = n .before in
     let a = t .before .before .args in
-    let v = c .before .before .before .before .before .before .span2 in
+    let v = c .before .before .before .span2 in
     let w = rw (v .given .1) at (n .next-statement .ensures .1) in
     omega arith
 
 -- src/lib.rt:91:5
 loop-again-3 : tie.Need-loop-again-3 Inv-loop μ-loop
 loop-again-3 c =
-    let n = c .before .before .before .before .before .before .before .before in
+    let n = c .before .before .before .before .before in
     let t = n .before in
     let a = t .before .before .args in
-    let v = c .before .before .before .before .before .before .span2 in
+    let v = c .before .before .before .span2 in
     let w = rw (v .given .1) at (n .next-statement .ensures .1) in
-    rw (c .larger4 .ensures, c .before .record-text2 .ensures, c .before .before .larger3 .ensures, c .before .before .before .items-in2 .ensures, c .before .before .before .before .greater .ensures) (counting-record _ _ _ _ _ _ _ _ (t .loop .inv) _ (v .given .0 .1 .0) _ (sym (ap (toldSaid (now (a .s))) (v .given .1)) ∙ n .next-statement .ensures .0) (w .0) (w .2))
+    rw (c .with-record2 .ensures, c .before .greater .ensures) (counting-record _ _ _ _ _ _ _ (t .loop .inv) _ (v .given .0 .1 .0) _ (sym (ap (toldSaid (now (a .s))) (v .given .1)) ∙ n .next-statement .ensures .0) (w .0) (w .2))
 
 pub pass-spec : {M : Type 1} → statement M
 pass-spec =
@@ -207,18 +181,12 @@ pass-spec =
     loop-again
     enum-known-span
     add-headers
-    items-in-requires
-    larger-requires
-    record-text-requires
-    larger-requires-2
+    with-record-requires
     loop-less-2
     loop-again-2
     enum-known-span-2
     add-records
     greater-requires
-    items-in-requires-2
-    larger-requires-3
-    record-text-requires-2
-    larger-requires-4
+    with-record-requires-2
     loop-less-3
     loop-again-3)

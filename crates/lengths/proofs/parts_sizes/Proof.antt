@@ -1,26 +1,26 @@
 use borrow.Author.Needs.{needs}
-use Prim.Native.Nat.{max}
 use native.Mathlib.Omega.{arith}
 use mathlib.Core.Path.{_≡_, _∙_, sym, ap}
 use Rattle.parts.specs.Part.{toldNext}
-use Rattle.lengths.specs.Lengths.{partsFrom, partsOf, parts-more, parts-over, parts-bad, parts-none, part-end}
-use Rattle.lengths.proofs.parts_text.Statement.{statement}
-use Rattle.lengths.proofs.parts_text.Tie as tie
-use Rattle.lengths.proofs.parts_text.Reads as reads
-use Rattle.lengths.proofs.parts_text.Lts as lts
-use Rattle.lengths.proofs.args_text.Reads as args-text-reads
-use Rattle.lengths.proofs.larger.Reads as larger-reads
+use Rattle.lengths.specs.Lengths.{both, partsFrom, partsOf}
+use Rattle.lengths.specs.Laws.{parts-more, parts-over, parts-bad, parts-none, part-end, nothing-both}
+use Rattle.lengths.proofs.parts_sizes.Statement.{statement}
+use Rattle.lengths.proofs.parts_sizes.Tie as tie
+use Rattle.lengths.proofs.parts_sizes.Reads as reads
+use Rattle.lengths.proofs.parts_sizes.Lts as lts
+use Rattle.lengths.proofs.args_sizes.Reads as args-sizes-reads
+use Rattle.lengths.proofs.larger_each.Reads as larger-each-reads
 use Rattle.parts.proofs.next_part.Reads as next-part-reads
 
 abbrev Inv-loop : tie.InvT-loop
-Inv-loop s place end at₀ most₀ left₀ at most left = max most (partsFrom left s at end) ≡ partsOf s place end
+Inv-loop s place end at₀ most₀ left₀ at most left = both most (partsFrom left s at end) ≡ partsOf s place end
 
 abbrev μ-loop : tie.MeasureT-loop
 μ-loop s place end at₀ most₀ left₀ at most left = left
 
 -- src/lib.rt:59:5
 loop-holds : tie.Need-loop-holds Inv-loop μ-loop
-loop-holds c = omega arith
+loop-holds c = nothing-both _
 
 -- src/lib.rt:60:15
 next-part-requires : tie.Need-next-part-requires Inv-loop μ-loop
@@ -47,12 +47,12 @@ enum-known-p : tie.Need-enum-known-p Inv-loop μ-loop
 enum-known-p c = search needs
 
 -- src/lib.rt:64:37
-args-text-requires : tie.Need-args-text-requires Inv-loop μ-loop
-args-text-requires c κs = search needs
+args-sizes-requires : tie.Need-args-sizes-requires Inv-loop μ-loop
+args-sizes-requires c κs = search needs
 
 -- src/lib.rt:64:17
-larger-requires : tie.Need-larger-requires Inv-loop μ-loop
-larger-requires c κs = search needs
+larger-each-requires : tie.Need-larger-each-requires Inv-loop μ-loop
+larger-each-requires c κs = search needs
 
 -- src/lib.rt:65:22
 add-at : tie.Need-add-at Inv-loop μ-loop
@@ -68,15 +68,15 @@ loop-less c = omega (arith, c .before .before .before .before .before .before .b
 
 -- src/lib.rt:59:5
 loop-again : tie.Need-loop-again Inv-loop μ-loop
-loop-again c = rw (c .before .larger .ensures, c .before .before .args-text .ensures)
+loop-again c = rw (c .before .larger-each .ensures, c .before .before .args-sizes .ensures)
     (parts-more _ _ _ _ _ _ _ (c .before .before .before .before .before .before .before .loop-test .taken) (c .before .before .before .before .before .before .before .before .loop .inv) (sym (ap toldNext (c .before .before .before .before .p .given .1)) ∙ c .before .before .before .before .before .before .next-part .ensures))
 
 -- src/lib.rt:53:1
 returns-3 : tie.Need-returns-3 Inv-loop μ-loop
 returns-3 c = parts-none _ _ _ _ _ _ (c .loop-test .left) (c .before .loop .inv)
 
-pub parts-text-spec : {M : Type 1} → statement M
-parts-text-spec =
+pub parts-sizes-spec : {M : Type 1} → statement M
+parts-sizes-spec =
     tie.close
     (tie.spec
     Inv-loop
@@ -88,8 +88,8 @@ parts-text-spec =
     enum-told-2
     returns-2
     enum-known-p
-    args-text-requires
-    larger-requires
+    args-sizes-requires
+    larger-each-requires
     add-at
     sub-left
     loop-less

@@ -1,0 +1,28 @@
+-- What a file needs by example: a list beside a string and a number, a grid in a part of a complex record after another part, and a complex
+-- record whose arguments are a list as they stand. Assumes nothing.
+use mathlib.Core.Path.{_≡_, refl}
+use Rattle.error.specs.Refusal.{good}
+use Rattle.lex.specs.Walk.{walk}
+use Rattle.lex.specs.Search.{trivia, recordEnd, closing}
+use Rattle.record.specs.Form.{bytes}
+use Rattle.record.specs.Text.{past, numberFrom, keyword, trail}
+use Rattle.record.specs.Word.{same, wordOf}
+use Rattle.record.specs.Head.{dataHead, headerHead}
+use Rattle.statement.specs.Row as Row
+use Rattle.statement.specs.Statement.{statement}
+use Rattle.scan.specs.File.{largest, readFrom, scanOf}
+use Rattle.parts.specs.Part as Part
+use Rattle.params.specs.Cut.{cutOf, started}
+use Rattle.params.specs.Reader.{paramOf}
+use Rattle.utf8.specs.Utf8.{encode, encodeAll, leadOf}
+use Rattle.strings.specs.Text.{groupTwo, groupFour, groupsFrom, directiveOf, pieceOf, textFrom, textOf, bytesOf}
+use Rattle.tokens.specs.Leap.{fromByte, stringRest, commentRest}
+use Rattle.words.specs.Words.{isString}
+use Rattle.lists.specs.Items.{itemEnd, itemBy, itemsFrom, itemsBy, bodyOf, listBy}
+use Rattle.lengths.specs.Lengths.{textLen, itemsLen, numbersLen, rowsLen, argsFrom, partsFrom, recordOf, sizes}
+use Rattle.needs.specs.Needs.{mostOf, needs, needsOf}
+
+-- no header row and three data rows, the largest id 3, a list of five, the text `it's` and a grid of three rows with four numbers
+pub example : needsOf (bytes "ISO-10303-21;DATA;#1=A((1.,2.,3.),'it''s',4);#2=(B()C(((1,2),(3,4),())));#3=((1,2,3,4,5));") ≡ good (needs 0 3 3 (sizes 4 5 3))
+unfolding walk trivia recordEnd closing past numberFrom keyword trail same wordOf dataHead headerHead Row.recordOf Row.headerOf statement largest readFrom scanOf Part.nextOf cutOf started paramOf encode encodeAll leadOf groupTwo groupFour groupsFrom directiveOf pieceOf textFrom textOf bytesOf fromByte stringRest commentRest isString itemEnd itemBy itemsFrom itemsBy bodyOf listBy textLen itemsLen numbersLen rowsLen argsFrom partsFrom recordOf mostOf needsOf
+example = refl

@@ -1,0 +1,250 @@
+-- The greatest text, list and grid of a record without a walk: no parameter that a reader of its arguments finds has more, and one has just
+-- so much. With the proof that Lengths.antt computes just this, and that there is no other number.
+-- Assumes nothing.
+use Prim.Native.Nat.{ℕ, zero, suc, _+_, _≤_, _<_, max}
+use mathlib.Core.Path.{_≡_, refl, sym, _∙_, ap, subst}
+use mathlib.Core.Bool.{Bool, true, false}
+use mathlib.Core.List.{List}
+use mathlib.Core.Logic.{_⊎_, inl, inr}
+use mathlib.Core.Option.{Option, none, some}
+use native.Mathlib.Omega.{arith}
+use borrow.Author.Tests.{leb-true, leb-false, eqb-true, eqb-false, eq-eqb, ne-eqb}
+use lib.Dec.{leb, eqb}
+use lib.ListN.{length}
+use Rattle.error.specs.Refusal.{Told, good, bad}
+use Rattle.lex.specs.Byte.{pick}
+use Rattle.statement.specs.Row.{HeaderRow}
+use Rattle.params.specs.Reader.{Span, paramOf}
+use Rattle.params.specs.Places.{param-past}
+use Rattle.words.specs.Words.{partOf}
+use Rattle.parts.specs.Part.{nextOf, PartIn}
+use Rattle.parts.specs.Places.{AnswerIn, SomeIn, next-placed}
+use Rattle.lengths.specs.declared.Sizes.{Sizes}
+use Rattle.lengths.specs.Lengths.{textLen, numbersLen, rowsLen, sizesOf, both, nothing, argsBy, argsFrom, argsOf, partsBy, partsFrom, partsOf, recordOf}
+use Rattle.lengths.specs.Laws.{after}
+
+-- ---- what a reader finds
+-- a reader that stood at p and reads up to e now stands at q, past n parameters
+pub data Passes (s : List ℕ) (e : ℕ) : ℕ → ℕ → ℕ → Type 0 where
+  here : {p : ℕ} → Passes s e 0 p p
+  past : {n p q : ℕ} (a : Span) → paramOf s p e .answer ≡ good a → Passes s e n (paramOf s p e .place) q → Passes s e (suc n) p q
+
+-- t is a parameter of the arguments from p up to e: the argument reader comes to it
+pub record Param (s : List ℕ) (p e : ℕ) (t : List ℕ) : Type 0 where
+  pub count : ℕ
+  pub place : ℕ
+  pub passes : Passes s e count p place
+  pub span : Span
+  pub found : paramOf s place e .answer ≡ good span
+  pub text : partOf s span ≡ t
+
+-- parts are sought from p up to e, and after n of them from q
+pub data Seeks (s : List ℕ) (e : ℕ) : ℕ → ℕ → ℕ → Type 0 where
+  first : {p : ℕ} → Seeks s e 0 p p
+  later : {n p q : ℕ} (w : HeaderRow) → nextOf s p e ≡ good (some w) → Seeks s e n (w .argEnd + 1) q → Seeks s e (suc n) p q
+
+-- w is a part of a complex record whose arguments run from p up to e
+pub record Part (s : List ℕ) (p e : ℕ) (w : HeaderRow) : Type 0 where
+  pub count : ℕ
+  pub place : ℕ
+  pub seeks : Seeks s e count p place
+  pub found : nextOf s place e ≡ good (some w)
+
+-- t is a parameter of a record: of its arguments as they stand, or of one of its parts where it is complex
+pub data Arg (s : List ℕ) (p e complex : ℕ) (t : List ℕ) : Type 0 where
+  plain : Param s p e t → Arg s p e complex t
+  inPart : complex ≡ 1 → (w : HeaderRow) → Part s p e w → Param s (w .argStart) (w .argEnd) t → Arg s p e complex t
+
+-- ---- the greatest
+-- one of which P holds has just so much, or l is 0
+abbrev pub Found : (List ℕ → ℕ) → (List ℕ → Type 0) → ℕ → Type 0
+Found f P l = (l ≡ 0) ⊎ ((t : List ℕ) × P t × (f t ≡ l))
+
+-- l is the greatest f of those of which P holds: none has more, and one has just so much
+pub record Greatest (P : List ℕ → Type 0) (f : List ℕ → ℕ) (l : ℕ) : Type 0 where
+  pub all : (t : List ℕ) → P t → f t ≤ l
+  pub one : Found f P l
+
+-- there is only one
+pub greatest-only : {P : List ℕ → Type 0} {f : List ℕ → ℕ} {l m : ℕ} → Greatest P f l → Greatest P f m → l ≡ m
+greatest-only {P} {f} {l} {m} a b = omega (arith, under l m (a .one) (b .all), under m l (b .one) (a .all))
+  where
+    under : (i j : ℕ) → Found f P i → ((t : List ℕ) → P t → f t ≤ j) → i ≤ j
+    under i j (inl z) h = omega arith
+    under i j (inr (t, p, q)) h = omega (arith, h t p)
+
+-- the greater of two is one of them
+pub either : (f : List ℕ → ℕ) (P : List ℕ → Type 0) (i j l : ℕ) → l ≡ max i j → Found f P i → Found f P j → Found f P l
+either f P i j l e a b = go (leb i j) refl a b
+  where
+    go : (k : Bool) → leb i j ≡ k → Found f P i → Found f P j → Found f P l
+    go true h x (inl z) = let w = leb-true i j h in inl (omega arith)
+    go true h x (inr (t, p, q)) = let w = leb-true i j h in inr (t, p, omega arith)
+    go false h (inl z) y = let w = leb-false i j h in inl (omega arith)
+    go false h (inr (t, p, q)) y = let w = leb-false i j h in inr (t, p, omega arith)
+
+-- what is found of these is found of those
+pub found-also : (f : List ℕ → ℕ) (P Q : List ℕ → Type 0) (l : ℕ) → ((t : List ℕ) → P t → Q t) → Found f P l → Found f Q l
+found-also f P Q l h (inl z) = inl z
+found-also f P Q l h (inr (t, d, q)) = inr (t, h t d, q)
+
+-- ---- the computed ones are such
+-- each parameter takes a byte at least
+passes-far : {s : List ℕ} {e n p q : ℕ} → Passes s e n p q → p + n ≤ q
+passes-far here = omega arith
+passes-far {s} {e} {p} (past a g d) =
+    let (i, u) = param-past s p e a g in
+    let b = u .starts in
+    let c = u .moved in
+    let k = passes-far d in
+    omega arith
+
+-- a part lies in the file, behind where it was sought from
+part-in : (s : List ℕ) (p e : ℕ) (w : HeaderRow) → nextOf s p e ≡ good (some w) → PartIn (length s) p w
+part-in s p e w g = subst (λ (x : Told (Option HeaderRow)). AnswerIn (length s) (SomeIn (length s) p) x) g (next-placed s p e)
+
+-- each part takes a byte at least
+seeks-far : {s : List ℕ} {e n p q : ℕ} → Seeks s e n p q → p + n ≤ q
+seeks-far first = omega arith
+seeks-far {s} {e} {p} (later w g d) =
+    let u = part-in s p e w g in
+    let a = u .ahead in
+    let b = u .key in
+    let c = u .opens in
+    let o = u .args in
+    let k = seeks-far d in
+    omega arith
+
+-- one of the sizes, π, which is the number f of a parameter
+module _ (π : Sizes → ℕ) (f : List ℕ → ℕ) (least : π nothing ≡ 0) (join : (a b : Sizes) → π (both a b) ≡ max (π a) (π b)) (own : (t : List ℕ) → π (sizesOf t) ≡ f t) (s : List ℕ) where
+  -- a turn over parameters
+  args-turn : (p e k : ℕ) (a : Span) → paramOf s p e .answer ≡ good a → π (argsFrom (suc k) s p e) ≡ max (f (partOf s a)) (π (argsFrom k s (paramOf s p e .place) e))
+  unfolding argsFrom
+  args-turn p e k a g =
+      ap (λ (t : Told Span). π (argsBy s t (argsFrom k s (paramOf s p e .place) e))) g ∙ join (sizesOf (partOf s a)) (argsFrom k s (paramOf s p e .place) e)
+      ∙ ap (λ (n : ℕ). max n (π (argsFrom k s (paramOf s p e .place) e))) (own (partOf s a))
+
+  -- a parameter that is found, where the walk goes on for more than n
+  args-passed : {e n p q : ℕ} (k : ℕ) (a : Span) → Passes s e n p q → n < k → paramOf s q e .answer ≡ good a → f (partOf s a) ≤ π (argsFrom k s p e)
+  args-passed zero a d l g = absurd (omega arith)
+  args-passed {e} {p} (suc k) a here l g = omega (arith, args-turn p e k a g)
+  args-passed {e} {p} (suc k) a (past b h d) l g = let ih = args-passed k a d (omega arith) g in omega (arith, ih, args-turn p e k b h)
+
+  -- no parameter has more than is told
+  args-all : (p e : ℕ) (t : List ℕ) → Param s p e t → f t ≤ π (argsOf s p e)
+  args-all p e t d =
+      let (i, u) = param-past s (d .place) e (d .span) (d .found) in
+      let b = u .starts in
+      let c = u .moved in
+      let w = u .within in
+      let o = i .1 in
+      let k = passes-far (d .passes) in
+      subst (λ (x : List ℕ). f x ≤ π (argsOf s p e)) (d .text) (args-passed (length s) (d .span) (d .passes) (omega arith) (d .found))
+
+  -- one parameter further
+  further : (p e : ℕ) (a : Span) → paramOf s p e .answer ≡ good a → (t : List ℕ) → Param s (paramOf s p e .place) e t → Param s p e t
+  further p e a g t d = record { count = suc (d .count); place = d .place; passes = past a g (d .passes); span = d .span; found = d .found; text = d .text }
+
+  -- one parameter has as much as is told
+  args-one : (k p e : ℕ) → Found f (Param s p e) (π (argsFrom k s p e))
+  unfolding argsFrom
+  args-one zero p e = inl least
+  args-one (suc k) p e = go (paramOf s p e .answer) refl (args-one k (paramOf s p e .place) e)
+    where
+      go : (t : Told Span) → paramOf s p e .answer ≡ t → Found f (Param s (paramOf s p e .place) e) (π (argsFrom k s (paramOf s p e .place) e)) → Found f (Param s p e) (π (argsBy s (paramOf s p e .answer) (argsFrom k s (paramOf s p e .place) e)))
+      go (good a) g rest =
+          either f (Param s p e) (f (partOf s a)) (π (argsFrom k s (paramOf s p e .place) e)) (π (argsBy s (paramOf s p e .answer) (argsFrom k s (paramOf s p e .place) e))) (args-turn p e k a g)
+          (inr (partOf s a, record { count = 0; place = p; passes = here; span = a; found = g; text = refl }, refl))
+          (found-also f (Param s (paramOf s p e .place) e) (Param s p e) (π (argsFrom k s (paramOf s p e .place) e)) (further p e a g) rest)
+      go (bad q) g rest = inl (ap (λ (t : Told Span). π (argsBy s t (argsFrom k s (paramOf s p e .place) e))) g ∙ least)
+
+  -- a turn over parts
+  parts-turn : (p e k : ℕ) (w : HeaderRow) → nextOf s p e ≡ good (some w) → π (partsFrom (suc k) s p e) ≡ max (π (argsOf s (w .argStart) (w .argEnd))) (π (partsFrom k s (w .argEnd + 1) e))
+  unfolding partsFrom
+  parts-turn p e k w g = ap (λ (x : Told (Option HeaderRow)). π (after k s e x)) g ∙ join (argsOf s (w .argStart) (w .argEnd)) (partsFrom k s (w .argEnd + 1) e)
+
+  -- a part that is found, where the walk goes on for more than n
+  parts-passed : {e n p q : ℕ} (k : ℕ) (w : HeaderRow) → Seeks s e n p q → n < k → nextOf s q e ≡ good (some w) → π (argsOf s (w .argStart) (w .argEnd)) ≤ π (partsFrom k s p e)
+  parts-passed zero w d l g = absurd (omega arith)
+  parts-passed {e} {p} (suc k) w first l g = omega (arith, parts-turn p e k w g)
+  parts-passed {e} {p} (suc k) w (later v h d) l g = let ih = parts-passed k w d (omega arith) g in omega (arith, ih, parts-turn p e k v h)
+
+  -- no part has more than is told, the parts after the first included
+  parts-all : (p e : ℕ) (w : HeaderRow) (t : List ℕ) → Part s p e w → Param s (w .argStart) (w .argEnd) t → f t ≤ π (partsOf s p e)
+  parts-all p e w t d h =
+      let u = part-in s (d .place) e w (d .found) in
+      let a = u .ahead in
+      let b = u .key in
+      let c = u .opens in
+      let o = u .args in
+      let z = u .closes in
+      let k = seeks-far (d .seeks) in
+      let m = parts-passed (length s) w (d .seeks) (omega arith) (d .found) in
+      omega (arith, m, args-all (w .argStart) (w .argEnd) t h)
+
+  -- a parameter of a part
+  abbrev InPart : ℕ → ℕ → List ℕ → Type 0
+  InPart p e t = (w : HeaderRow) × Part s p e w × Param s (w .argStart) (w .argEnd) t
+
+  -- one of this part
+  of-part : (p e : ℕ) (w : HeaderRow) → nextOf s p e ≡ good (some w) → (t : List ℕ) → Param s (w .argStart) (w .argEnd) t → InPart p e t
+  of-part p e w g t d = (w, record { count = 0; place = p; seeks = first; found = g }, d)
+
+  -- one of a part after it
+  of-later : (p e : ℕ) (w : HeaderRow) → nextOf s p e ≡ good (some w) → (t : List ℕ) → InPart (w .argEnd + 1) e t → InPart p e t
+  of-later p e w g t (v, h, d) = (v, record { count = suc (h .count); place = h .place; seeks = later w g (h .seeks); found = h .found }, d)
+
+  -- a parameter of one part has as much as is told
+  parts-one : (k p e : ℕ) → Found f (InPart p e) (π (partsFrom k s p e))
+  unfolding partsFrom
+  parts-one zero p e = inl least
+  parts-one (suc k) p e = go (nextOf s p e) refl (λ w. parts-one k (w .argEnd + 1) e)
+    where
+      go : (x : Told (Option HeaderRow)) → nextOf s p e ≡ x → ((w : HeaderRow) → Found f (InPart (w .argEnd + 1) e) (π (partsFrom k s (w .argEnd + 1) e))) → Found f (InPart p e) (π (after k s e (nextOf s p e)))
+      go (good none) g rest = inl (ap (λ (x : Told (Option HeaderRow)). π (after k s e x)) g ∙ least)
+      go (good (some w)) g rest =
+          either f (InPart p e) (π (argsOf s (w .argStart) (w .argEnd))) (π (partsFrom k s (w .argEnd + 1) e)) (π (after k s e (nextOf s p e))) (parts-turn p e k w g)
+          (found-also f (Param s (w .argStart) (w .argEnd)) (InPart p e) (π (argsOf s (w .argStart) (w .argEnd))) (of-part p e w g) (args-one (length s) (w .argStart) (w .argEnd)))
+          (found-also f (InPart (w .argEnd + 1) e) (InPart p e) (π (partsFrom k s (w .argEnd + 1) e)) (of-later p e w g) (rest w))
+      go (bad q) g rest = inl (ap (λ (x : Told (Option HeaderRow)). π (after k s e x)) g ∙ least)
+
+  -- a record's, by its mark
+  record-all : (p e complex : ℕ) (t : List ℕ) → Arg s p e complex t → f t ≤ π (recordOf s p e complex)
+  unfolding recordOf
+  record-all p e complex t (Arg.plain d) = go (eqb complex 1)
+    where
+      go : (b : Bool) → f t ≤ π (pick b (both (argsOf s p e) (partsOf s p e)) (argsOf s p e))
+      go true = omega (arith, args-all p e t d, join (argsOf s p e) (partsOf s p e))
+      go false = args-all p e t d
+  record-all p e complex t (Arg.inPart c w h d) = rw (eq-eqb complex 1 c) (omega (arith, parts-all p e w t h d, join (argsOf s p e) (partsOf s p e)))
+
+  -- of a part
+  as-part : (p e complex : ℕ) → complex ≡ 1 → (t : List ℕ) → InPart p e t → Arg s p e complex t
+  as-part p e complex c t (w, h, d) = Arg.inPart c w h d
+
+  -- one has as much as is told
+  record-one : (p e complex : ℕ) → Found f (Arg s p e complex) (π (recordOf s p e complex))
+  unfolding recordOf
+  record-one p e complex = go (eqb complex 1) refl
+    where
+      go : (b : Bool) → eqb complex 1 ≡ b → Found f (Arg s p e complex) (π (pick b (both (argsOf s p e) (partsOf s p e)) (argsOf s p e)))
+      go true h =
+          either f (Arg s p e complex) (π (argsOf s p e)) (π (partsOf s p e)) (π (both (argsOf s p e) (partsOf s p e))) (join (argsOf s p e) (partsOf s p e)) (found-also f (Param s p e) (Arg s p e complex) (π (argsOf s p e)) (λ t. Arg.plain) (args-one (length s) p e))
+          (found-also f (InPart p e) (Arg s p e complex) (π (partsOf s p e)) (as-part p e complex (eqb-true complex 1 h)) (parts-one (length s) p e))
+      go false h = found-also f (Param s p e) (Arg s p e complex) (π (argsOf s p e)) (λ t. Arg.plain) (args-one (length s) p e)
+
+  -- the record's number is the greatest
+  record-greatest : (p e complex : ℕ) → Greatest (Arg s p e complex) f (π (recordOf s p e complex))
+  record-greatest p e complex = record { all = record-all p e complex; one = record-one p e complex }
+
+-- the longest text of a record
+pub text-greatest : (s : List ℕ) (p e complex : ℕ) → Greatest (Arg s p e complex) textLen (recordOf s p e complex .text)
+text-greatest s p e complex = record-greatest (λ a. a .text) textLen refl (λ a b. refl) (λ t. refl) s p e complex
+
+-- the most numbers of a list or a grid
+pub items-greatest : (s : List ℕ) (p e complex : ℕ) → Greatest (Arg s p e complex) numbersLen (recordOf s p e complex .items)
+items-greatest s p e complex = record-greatest (λ a. a .items) numbersLen refl (λ a b. refl) (λ t. refl) s p e complex
+
+-- the most rows of a grid
+pub rows-greatest : (s : List ℕ) (p e complex : ℕ) → Greatest (Arg s p e complex) rowsLen (recordOf s p e complex .rows)
+rows-greatest s p e complex = record-greatest (λ a. a .rows) rowsLen refl (λ a b. refl) (λ t. refl) s p e complex
