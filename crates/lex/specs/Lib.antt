@@ -1,6 +1,7 @@
 pub mod Byte
 pub mod Walk
 pub mod Lexer
+pub mod Leap
 pub mod Search
 pub mod Seek
 pub mod Grammar

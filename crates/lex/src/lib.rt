@@ -3,11 +3,12 @@
 // As the first half of the Rust's scan.rs, with one mode a byte in place of nested loops: `next` says what a byte does, and
 // each search is one loop over it. No function has a `requires`: a start past the file's end counts as the end.
 ghost use mathlib.Core.Path.{_≡_};
-ghost use Prim.Native.Nat.{_+_, _<_, _^_, min};
+ghost use Prim.Native.Nat.{_+_, _≤_, _<_, _^_, min};
 ghost use mathlib.Core.Bool.{true, false};
-ghost use lib.ListN.{drop};
+ghost use lib.ListN.{length, drop};
 ghost use Rattle.lex.specs.Byte.{white, pick};
 ghost use Rattle.lex.specs.Lexer.{calm, fresh, next};
+ghost use Rattle.lex.specs.Leap.{Lacks, Without, Stopped, Leapt};
 ghost use Rattle.lex.specs.Search.{recordEnd, closing, trivia, placed, toldFound, unclosedFault, paren, lookOf, leadAt, trailedAt};
 use error::Fault;
 
@@ -107,6 +108,79 @@ fn unclosed_at(m: Mode, own: Fault, since: usize) -> Fault
     }
 }
 
+// Whether one of the 64 bytes from `at` on is b. It only notes a hit, so that the compiler looks at many bytes at once.
+fn block_has(s: &[u8], at: usize, b: u8) -> bool
+    requires { ⌜ at + 64 ≤ length (now s) ⌝ }
+    ensures { λ r. ⌜ (r ≡ false → Lacks b (now (s .entry)) at (at + 64)) ⌝ }
+{
+    let mut hit = false;
+    let mut k = 0;
+    while k < 64 {
+        hit = hit | (s[at + k] == b);
+        k += 1;
+    }
+    hit
+}
+
+// Past all blocks of 64 bytes that lack b, from `from` on.
+fn pass_blocks(s: &[u8], from: usize, b: u8) -> usize
+    requires { ⌜ from ≤ length (now s) ⌝ }
+    ensures { λ r. ⌜ Without b (now (s .entry)) from r ⌝ }
+{
+    let mut i = from;
+    while s.len() - i >= 64 {
+        if block_has(s, i, b) {
+            return i;
+        }
+        i += 64;
+    }
+    i
+}
+
+// Past the bytes that are not b, from `from` on and before `end`.
+fn pass_bytes(s: &[u8], from: usize, end: usize, b: u8) -> usize
+    requires { ⌜ (from ≤ end) × (end ≤ length (now s)) ⌝ }
+    ensures { λ r. ⌜ Stopped b (now (s .entry)) from end r ⌝ }
+{
+    let mut i = from;
+    while i < end {
+        if s[i] == b {
+            return i;
+        }
+        i += 1;
+    }
+    i
+}
+
+// The first place from `start` on that has the byte b, or the length. Most are near; what is far is sought by blocks.
+pub fn find(s: &[u8], start: usize, b: u8) -> usize
+    ensures { λ r. ⌜ Stopped b (now (s .entry)) (min start (length (now (s .entry)))) (length (now (s .entry))) r ⌝ }
+{
+    let from = within(start, s.len());
+    let near = within(from + 16, s.len());
+    let i = pass_bytes(s, from, near, b);
+    if i < near {
+        return i;
+    }
+    let far = pass_blocks(s, i, b);
+    pass_bytes(s, far, s.len(), b)
+}
+
+// Past the bytes, from i on, that leave a search as it is: in a string those that are no quote, in a comment those that are no `*`.
+fn leap(s: &[u8], m: Mode, i: usize) -> usize
+    requires { ⌜ i ≤ length (now s) ⌝ }
+    ensures { λ r. ⌜ Leapt m (now (s .entry)) i r ⌝ }
+{
+    match m {
+        Mode::Plain => i,
+        Mode::Slash => i,
+        Mode::Text => find(s, i, b'\''),
+        Mode::Quoted => i,
+        Mode::Remark => find(s, i, b'*'),
+        Mode::Starred => i,
+    }
+}
+
 // Finds the `;` that ends the record that begins at `start`.
 pub fn find_record_end(s: &[u8], start: usize) -> Found
     ensures { λ r. ⌜ toldFound r ≡ placed (now (s .entry)) (recordEnd (drop start (now (s .entry)))) ⌝ }
@@ -124,7 +198,7 @@ pub fn find_record_end(s: &[u8], start: usize) -> Found
             since = i;
         }
         m = next_mode(m, b);
-        i += 1;
+        i = leap(s, m, i + 1);
     }
     Found::Refused(unclosed_at(m, Fault::NoEnd(from), since))
 }
@@ -171,7 +245,7 @@ pub fn matching_paren(s: &[u8], opening: usize) -> Found
             since = i;
         }
         m = next_mode(m, b);
-        i += 1;
+        i = leap(s, m, i + 1);
     }
     Found::Refused(unclosed_at(m, Fault::OpenParen(from), since))
 }
@@ -242,7 +316,7 @@ pub fn skip_trivia(s: &[u8], start: usize) -> Found
         } else {
             m = next_mode(m, b);
         }
-        i += 1;
+        i = leap(s, m, i + 1);
     }
     trailed_at(m, since, s.len())
 }

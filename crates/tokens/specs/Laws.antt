@@ -1,7 +1,7 @@
 -- A string and a comment as the scan's grammar has them end just where they are said to end; and the laws of the code's loops.
 -- Assumes nothing.
-use Prim.Native.Nat.{ℕ, suc, _+_, _-_, _≤_, _<_, min}
-use mathlib.Core.Path.{_≡_, refl, sym, _∙_, ap}
+use Prim.Native.Nat.{ℕ, zero, suc, _+_, _-_, _≤_, _<_, min}
+use mathlib.Core.Path.{_≡_, refl, sym, _∙_, ap, subst}
 use mathlib.Core.Bool.{Bool, true, false, not}
 use mathlib.Core.List.{List, [], _∷_, _++_}
 use native.Mathlib.Omega.{arith}
@@ -12,6 +12,8 @@ use borrow.Author.Tests.{eqb-true, eqb-false, eq-eqb, ne-eqb, leb-true, leb-fals
 use Rattle.lex.specs.Byte.{pick}
 use Rattle.lex.specs.Walk.{walk, split, drop-end}
 use Rattle.lex.specs.Lexer.{calm, next}
+use Rattle.lex.specs.Leap.{Lacks, Stopped}
+use Rattle.lex.specs.Seek.{drop-within}
 use Rattle.lex.specs.Grammar.{Begins, Opens, Comment, Quotation, OpenText, OpenRemark}
 use Rattle.lex.specs.Right.Steps.{clash, Deaf, remark-shut, remark-open, text-ends, text-over}
 use Rattle.lex.specs.Right.Tokens.{open-text, open-remark, Reads, tokens}
@@ -139,6 +141,34 @@ byte-next b s i h e = rw (split s i h) (rw (ne-eqb (getD s i 0) b e) refl)
 pub byte-none : (b : ℕ) (s : List ℕ) (i : ℕ) → length s ≤ i → drop i s ≡ fromByte b (drop i s)
 unfolding fromByte
 byte-none b s i h = rw (drop-end s i h) refl
+
+-- bytes that are not b are passed
+byte-lacks : (b : ℕ) (s : List ℕ) (n i : ℕ) → i + n ≤ length s → Lacks b s i (i + n) → fromByte b (drop (i + n) s) ≡ fromByte b (drop i s)
+unfolding Lacks
+byte-lacks b s zero i h f = let e : i + 0 ≡ i = omega arith in ap (λ (k : ℕ). fromByte b (drop k s)) e
+byte-lacks b s (suc n) i h f =
+    let e : i + suc n ≡ i + n + 1 = omega arith in
+    ap (λ (k : ℕ). fromByte b (drop k s)) e
+    ∙ byte-next b s (i + n) (omega arith) (f (i + n) (omega arith) (omega arith))
+    ∙ byte-lacks b s n i (omega arith) (λ j p q. f j p (omega arith))
+
+-- the first place that has b, or the end, is where the rest from the first b on begins
+pub byte-stopped : (b : ℕ) (s : List ℕ) (start r : ℕ) → Stopped b s (min start (length s)) (length s) r → drop r s ≡ fromByte b (drop start s)
+byte-stopped b s start r h = here (leb (length s) r) refl ∙ passed ∙ ap (fromByte b) (drop-within s start)
+  where
+    i : ℕ
+    i = min start (length s)
+
+    here : (t : Bool) → leb (length s) r ≡ t → drop r s ≡ fromByte b (drop r s)
+    here true e = byte-none b s r (leb-true (length s) r e)
+    here false e = let l : r < length s = leb-false (length s) r e in byte-here b s r l (h .here l)
+
+    passed : fromByte b (drop r s) ≡ fromByte b (drop i s)
+    passed =
+        let p : i ≤ r = h .on in
+        let q : r ≤ length s = h .inside in
+        let e : i + (r - i) ≡ r = omega arith in
+        ap (λ (k : ℕ). fromByte b (drop k s)) (sym e) ∙ byte-lacks b s (r - i) i (omega arith) (subst (λ (k : ℕ). Lacks b s i k) (sym e) (h .lacks))
 
 -- what is found begins with the byte
 pub byte-found : (b : ℕ) (xs : List ℕ) (c : ℕ) (r : List ℕ) → fromByte b xs ≡ c ∷ r → c ≡ b

@@ -18,14 +18,7 @@ pub fn find_byte(s: &[u8], start: usize, b: u8) -> usize
     ensures { λ r. ⌜ drop r (now (s .entry)) ≡ fromByte b (drop start (now (s .entry))) ⌝ }
     ensures { λ r. ⌜ (min start (length (now (s .entry))) ≤ r) × (r ≤ length (now (s .entry))) ⌝ }
 {
-    let mut i = lex::within(start, s.len());
-    while i < s.len() {
-        if s[i] == b {
-            return i;
-        }
-        i += 1;
-    }
-    i
+    lex::find(s, start, b)
 }
 
 // Whether the byte b stands at i.

@@ -1,5 +1,6 @@
 use Rattle.lex.specs.Search.{placed}
 use Rattle.lex.specs.Seek.{drop-within, seek-halts, seek-looks, seek-passes, missed-told}
+use Rattle.lex.specs.Leap.{seek-leaps}
 use Rattle.lex.specs.Walk.{walk-ends}
 use Rattle.lex.specs.Byte.{place-drop}
 use Rattle.error.specs.Refusal.{good, bad, told}
@@ -17,13 +18,14 @@ use borrow.Author.Needs.{needs}
 use native.Mathlib.Omega.{arith}
 use mathlib.Core.List.{List}
 use mathlib.Core.Path.{_≡_}
-use Prim.Native.Nat.{_-_}
+use Prim.Native.Nat.{_+_, _-_}
 use Rattle.lex.proofs.find_record_end.Statement.{statement}
 use Rattle.lex.proofs.find_record_end.Tie as tie
 use Rattle.lex.proofs.find_record_end.Reads as reads
 use Rattle.lex.proofs.find_record_end.Lts as lts
 use Rattle.lex.proofs.is_calm.Reads as is-calm-reads
 use Rattle.lex.proofs.next_mode.Reads as next-mode-reads
+use Rattle.lex.proofs.leap.Reads as leap-reads
 use Rattle.lex.proofs.unclosed_at.Reads as unclosed-at-reads
 use Rattle.lex.proofs.within.Reads as within-reads
 
@@ -64,31 +66,35 @@ returns c = let t = c .before .before .before .before .before in
 next-mode-requires : tie.Need-next-mode-requires Inv-loop μ-loop
 next-mode-requires c κs = search needs
 
--- src/lib.rt:124:9
-add-i : tie.Need-add-i Inv-loop μ-loop
-add-i c = search needs
+add-leap : tie.Need-add-leap Inv-loop μ-loop
+add-leap c = search needs
+
+leap-requires : tie.Need-leap-requires Inv-loop μ-loop
+leap-requires c κs = search needs
 
 -- src/lib.rt:115:5
 loop-less : tie.Need-loop-less Inv-loop μ-loop
-loop-less c = search needs
+loop-less c = let h = c .leap .ensures .on in let k = c .leap .ensures .inside in omega arith
 
 -- src/lib.rt:115:5
 loop-again : tie.Need-loop-again Inv-loop μ-loop
-loop-again c = let t = c .before .before .before .before .before in
+loop-again c = let t = c .before .before .before .before .before .before in
     let s = now (t .before .before .before .args .s) in
     let i = t .loop .i in
     ⊎-elim
     (λ w. (
       omega arith,
-      seek-looks semicolon (missed 5 (drop (t .before .within .result) s)) s i (omega arith) (t .loop .m) 0 (t .loop .since) _ _ 0 _
-          (sym (c .before .before .is-calm .ensures) ∙ w .0 .taken) (simp (ne-eqb _ _ (w .1 .left))) (c .next-mode .ensures) (w .2) (t .loop .inv .1),
+      sym (seek-leaps semicolon _ s _ _ _ (t .loop .i + 1) _ (c .leap .ensures))
+          ∙ seek-looks semicolon (missed 5 (drop (t .before .within .result) s)) s i (omega arith) (t .loop .m) 0 (t .loop .since) _ _ 0 _
+          (sym (c .before .before .before .is-calm .ensures) ∙ w .0 .taken) (simp (ne-eqb _ _ (w .1 .left))) (c .before .next-mode .ensures) (w .2) (t .loop .inv .1),
     ))
     (λ w. (
       omega arith,
-      seek-passes semicolon (missed 5 (drop (t .before .within .result) s)) s i (omega arith) (t .loop .m) 0 (t .loop .since) _ _ _
-          (sym (c .before .before .is-calm .ensures) ∙ w .0 .left) (c .next-mode .ensures) (w .1) (t .loop .inv .1),
+      sym (seek-leaps semicolon _ s _ _ _ (t .loop .i + 1) _ (c .leap .ensures))
+          ∙ seek-passes semicolon (missed 5 (drop (t .before .within .result) s)) s i (omega arith) (t .loop .m) 0 (t .loop .since) _ _ _
+          (sym (c .before .before .before .is-calm .ensures) ∙ w .0 .left) (c .before .next-mode .ensures) (w .1) (t .loop .inv .1),
     ))
-    (c .before .if1 .came)
+    (c .before .before .if1 .came)
 
 -- src/lib.rt:126:20
 unclosed-at-requires : tie.Need-unclosed-at-requires Inv-loop μ-loop
@@ -114,7 +120,8 @@ find-record-end-spec =
     is-calm-requires
     returns
     next-mode-requires
-    add-i
+    add-leap
+    leap-requires
     loop-less
     loop-again
     unclosed-at-requires

@@ -3,6 +3,7 @@ use Rattle.lex.specs.Search.{look}
 use Rattle.lex.specs.declared.Mode.the-variants.{Plain}
 use Rattle.lex.specs.Seek.{drop-within, seek-halts, seek-looks, seek-passes, missed-told, paren-up}
 use Rattle.lex.specs.Search.{seen, seekTurn, paren, missed, closing, placed, lookOf}
+use Rattle.lex.specs.Leap.{seek-leaps}
 use Rattle.lex.specs.Walk.{walk, walk-ends}
 use Rattle.lex.specs.Byte.{place-drop}
 use Rattle.error.specs.Refusal.{good, bad, told}
@@ -22,6 +23,7 @@ use Rattle.lex.proofs.matching_paren.Lts as lts
 use Rattle.lex.proofs.depth_after.Reads as depth-after-reads
 use Rattle.lex.proofs.is_calm.Reads as is-calm-reads
 use Rattle.lex.proofs.next_mode.Reads as next-mode-reads
+use Rattle.lex.proofs.leap.Reads as leap-reads
 use Rattle.lex.proofs.unclosed_at.Reads as unclosed-at-reads
 use Rattle.lex.proofs.within.Reads as within-reads
 
@@ -87,36 +89,41 @@ returns c = let t = c .before .before .before .before .before .before .before in
 next-mode-requires : tie.Need-next-mode-requires Inv-loop μ-loop
 next-mode-requires c κs = search needs
 
--- src/lib.rt:170:9
-add-i : tie.Need-add-i Inv-loop μ-loop
-add-i c = search needs
+add-leap : tie.Need-add-leap Inv-loop μ-loop
+add-leap c = search needs
+
+leap-requires : tie.Need-leap-requires Inv-loop μ-loop
+leap-requires c κs = search needs
 
 -- src/lib.rt:160:5
 loop-less : tie.Need-loop-less Inv-loop μ-loop
-loop-less c = search needs
+loop-less c = let h = c .leap .ensures .on in let k = c .leap .ensures .inside in omega arith
 
 -- src/lib.rt:160:5
 loop-again : tie.Need-loop-again Inv-loop μ-loop
-loop-again c = let t = c .before .before .before .before .before in
+loop-again c = let t = c .before .before .before .before .before .before in
+    let on = c .leap .ensures .on in
     let s = now (t .before .before .before .before .args .s) in
     let z = missed 6 (drop (t .before .before .within .result) s) in
     ⊎-elim
     (λ w.
-    let e : paren (t .loop .depth) (getD s (t .loop .i) 0) ≡ look (c .before .if1 .depth) =
+    let e : paren (t .loop .depth) (getD s (t .loop .i) 0) ≡ look (c .before .before .if1 .depth) =
     sym (w .1 .ensures) ∙ ap lookOf (w .3 .given .1) ∙ ap look (sym (w .6)) in
-    let up = paren-up (t .loop .depth) (getD s (t .loop .i) 0) (c .before .if1 .depth) e in (
+    let up = paren-up (t .loop .depth) (getD s (t .loop .i) 0) (c .before .before .if1 .depth) e in (
       omega arith,
       omega arith,
-      seek-looks paren z s (t .loop .i) (omega arith) (t .loop .m) (t .loop .depth) (t .loop .since) _ _ _ _
-          (sym (c .before .before .is-calm .ensures) ∙ w .0 .taken) e (c .next-mode .ensures) (w .5) (t .loop .inv .2),
+      sym (seek-leaps paren z s _ _ _ (t .loop .i + 1) _ (c .leap .ensures))
+          ∙ seek-looks paren z s (t .loop .i) (omega arith) (t .loop .m) (t .loop .depth) (t .loop .since) _ _ _ _
+          (sym (c .before .before .before .is-calm .ensures) ∙ w .0 .taken) e (c .before .next-mode .ensures) (w .5) (t .loop .inv .2),
     ))
     (λ w. (
       omega arith,
       omega arith,
-      rw (w .2) (seek-passes paren z s (t .loop .i) (omega arith) (t .loop .m) (t .loop .depth) (t .loop .since) _ _ _
-          (sym (c .before .before .is-calm .ensures) ∙ w .0 .left) (c .next-mode .ensures) (w .1) (t .loop .inv .2)),
+      sym (seek-leaps paren z s _ _ _ (t .loop .i + 1) _ (c .leap .ensures))
+          ∙ rw (w .2) (seek-passes paren z s (t .loop .i) (omega arith) (t .loop .m) (t .loop .depth) (t .loop .since) _ _ _
+          (sym (c .before .before .before .is-calm .ensures) ∙ w .0 .left) (c .before .next-mode .ensures) (w .1) (t .loop .inv .2)),
     ))
-    (c .before .if1 .came)
+    (c .before .before .if1 .came)
 
 -- src/lib.rt:172:20
 unclosed-at-requires : tie.Need-unclosed-at-requires Inv-loop μ-loop
@@ -148,7 +155,8 @@ matching-paren-spec =
     enum-told
     returns
     next-mode-requires
-    add-i
+    add-leap
+    leap-requires
     loop-less
     loop-again
     unclosed-at-requires

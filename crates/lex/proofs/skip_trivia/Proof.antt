@@ -2,6 +2,7 @@ use Rattle.lex.specs.declared.Lead.the-variants.{Goes}
 use Rattle.lex.specs.declared.Mode.the-variants.{Plain}
 use Rattle.lex.specs.Seek.{drop-within, trivia-stops, trivia-goes, trivia-passes, trailed-told, lead-within}
 use Rattle.lex.specs.Search.{seen, triviaTurn, triviaEnd, trivia, placed, toldFound}
+use Rattle.lex.specs.Leap.{trivia-leaps}
 use Rattle.lex.specs.Walk.{walk, walk-ends}
 use Rattle.lex.specs.Byte.{place-drop}
 use Rattle.error.specs.Refusal.{good, bad, told}
@@ -20,6 +21,7 @@ use Rattle.lex.proofs.skip_trivia.Lts as lts
 use Rattle.lex.proofs.is_calm.Reads as is-calm-reads
 use Rattle.lex.proofs.lead_at.Reads as lead-at-reads
 use Rattle.lex.proofs.next_mode.Reads as next-mode-reads
+use Rattle.lex.proofs.leap.Reads as leap-reads
 use Rattle.lex.proofs.trailed_at.Reads as trailed-at-reads
 use Rattle.lex.proofs.within.Reads as within-reads
 
@@ -74,30 +76,34 @@ enum-known-to c = search needs
 next-mode-requires : tie.Need-next-mode-requires Inv-loop μ-loop
 next-mode-requires c κs = search needs
 
--- src/lib.rt:230:9
-add-i : tie.Need-add-i Inv-loop μ-loop
-add-i c = search needs
+add-leap : tie.Need-add-leap Inv-loop μ-loop
+add-leap c = search needs
+
+leap-requires : tie.Need-leap-requires Inv-loop μ-loop
+leap-requires c κs = search needs
 
 -- src/lib.rt:219:5
 loop-less : tie.Need-loop-less Inv-loop μ-loop
-loop-less c = search needs
+loop-less c = let h = c .leap .ensures .on in let k = c .leap .ensures .inside in omega arith
 
 -- src/lib.rt:219:5
 loop-again : tie.Need-loop-again Inv-loop μ-loop
-loop-again c = let t = c .before .before .before .before in
+loop-again c = let t = c .before .before .before .before .before in
     let s = now (t .before .before .before .args .s) in
     ⊎-elim
     (λ w. (
       omega arith,
-      trivia-goes s (t .loop .i) (omega arith) (t .loop .m) (t .loop .since) _ _ _
-          (sym (c .before .is-calm .ensures) ∙ w .0 .taken) (sym (w .1 .ensures) ∙ w .3 .given .1 ∙ ap Goes (sym (w .6))) (w .5) (t .loop .inv .1),
+      sym (trivia-leaps s _ _ (t .loop .i + 1) _ (c .leap .ensures))
+          ∙ trivia-goes s (t .loop .i) (omega arith) (t .loop .m) (t .loop .since) _ _ _
+          (sym (c .before .before .is-calm .ensures) ∙ w .0 .taken) (sym (w .1 .ensures) ∙ w .3 .given .1 ∙ ap Goes (sym (w .6))) (w .5) (t .loop .inv .1),
     ))
     (λ w. (
       omega arith,
-      trivia-passes s (t .loop .i) (omega arith) (t .loop .m) (t .loop .since) _ _ _
-          (sym (c .before .is-calm .ensures) ∙ w .0 .left) (w .3 ∙ w .1 .ensures) (w .2) (t .loop .inv .1),
+      sym (trivia-leaps s _ _ (t .loop .i + 1) _ (c .leap .ensures))
+          ∙ trivia-passes s (t .loop .i) (omega arith) (t .loop .m) (t .loop .since) _ _ _
+          (sym (c .before .before .is-calm .ensures) ∙ w .0 .left) (w .3 ∙ w .1 .ensures) (w .2) (t .loop .inv .1),
     ))
-    (c .if1 .came)
+    (c .before .if1 .came)
 
 -- src/lib.rt:232:5
 trailed-at-requires : tie.Need-trailed-at-requires Inv-loop μ-loop
@@ -126,7 +132,8 @@ skip-trivia-spec =
     returns
     enum-known-to
     next-mode-requires
-    add-i
+    add-leap
+    leap-requires
     loop-less
     loop-again
     trailed-at-requires

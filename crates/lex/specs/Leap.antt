@@ -1,0 +1,157 @@
+-- Leaps: bytes that a search passes without looking at each. A byte is sought; and in a string or a comment a search stays as it is until
+-- a quote or a `*`. Assumes nothing.
+use Prim.Native.Nat.{ℕ, zero, suc, _+_, _-_, _≤_, _<_, min}
+use mathlib.Core.Path.{_≡_, refl, sym, _∙_, ap, subst}
+use mathlib.Core.Bool.{Bool, true, false, _||_}
+use mathlib.Core.List.{List}
+use mathlib.Core.Logic.{_⊎_, inl, inr}
+use native.Mathlib.Omega.{arith}
+use lib.Dec.{eqb, ltb}
+use lib.ListN.{length, drop, getD}
+use borrow.Author.Tests.{ne-eqb, eqb-false, ltb-true, ltb-false}
+use Rattle.lex.specs.Byte.{pick}
+use Rattle.lex.specs.Walk.{Turn, on, walk, walk-goes}
+use Rattle.lex.specs.Lexer.{calm, next}
+use Rattle.lex.specs.Search.{Sought, Seen, seen, Look, seekTurn, triviaTurn, triviaEnd}
+use Rattle.lex.specs.declared.Mode.{Mode}
+use Rattle.lex.specs.declared.Mode.the-variants.{Plain, Slash, Text, Quoted, Remark, Starred}
+
+-- none of the bytes from i on and before r is b
+unfoldable pub Lacks : ℕ → List ℕ → ℕ → ℕ → Type 0
+Lacks b xs i r = (j : ℕ) → i ≤ j → j < r → getD xs j 0 ≡ b → ⊥
+
+-- r lies from i on and in the bytes, and none between is b
+pub record Without (b : ℕ) (xs : List ℕ) (i r : ℕ) : Type 0 where
+  pub on : i ≤ r
+  pub inside : r ≤ length xs
+  pub lacks : Lacks b xs i r
+
+-- r is the first place from i on and before the end that has b, or the end
+pub record Stopped (b : ℕ) (xs : List ℕ) (i end r : ℕ) : Type 0 where
+  pub on : i ≤ r
+  pub inside : r ≤ end
+  pub lacks : Lacks b xs i r
+  pub here : r < end → getD xs r 0 ≡ b
+
+-- a search in mode m that reads the bytes from i on and before r stays as it is
+pub record Leapt (m : Mode) (xs : List ℕ) (i r : ℕ) : Type 0 where
+  pub on : i ≤ r
+  pub inside : r ≤ length xs
+  pub same : (j : ℕ) → i ≤ j → j < r → next m (getD xs j 0) ≡ m
+  pub quiet : (j : ℕ) → i ≤ j → j < r → calm m (getD xs j 0) ≡ false
+
+-- of two numbers one is less, or the other is at most it
+less-or : (a b : ℕ) → (a < b) ⊎ (b ≤ a)
+less-or a b = go (ltb a b) refl
+  where
+    go : (t : Bool) → ltb a b ≡ t → (a < b) ⊎ (b ≤ a)
+    go true e = inl (ltb-true a b e)
+    go false e = inr (ltb-false a b e)
+
+-- no bytes are none
+pub lacks-none : (b : ℕ) (xs : List ℕ) (i r : ℕ) → r ≤ i → Lacks b xs i r
+unfolding Lacks
+lacks-none b xs i r q j h l e = omega arith
+
+-- bytes that lack b, and then others
+pub lacks-on : (b : ℕ) (xs : List ℕ) (i k r : ℕ) → Lacks b xs i k → Lacks b xs k r → Lacks b xs i r
+unfolding Lacks
+lacks-on b xs i k r f g j h l e = go (less-or j k)
+  where
+    go : (j < k) ⊎ (k ≤ j) → ⊥
+    go (inl m) = f j h m e
+    go (inr m) = g j m l e
+
+-- bytes that lack b, and then one
+pub lacks-next : (b : ℕ) (xs : List ℕ) (i k : ℕ) → Lacks b xs i k → (getD xs k 0 ≡ b → ⊥) → Lacks b xs i (k + 1)
+unfolding Lacks
+lacks-next b xs i k f g = lacks-on b xs i k (k + 1) f (λ j h l e. let q : j ≡ k = omega arith in g (subst (λ (n : ℕ). getD xs n 0 ≡ b) q e))
+
+-- a walk whose turns leave its state passes over bytes
+module _ {S A : Type 0} (t : S → ℕ → List ℕ → Turn S A) (z : S → A) (s : S) (xs : List ℕ) where
+  pub walk-stays : (n i : ℕ) → i + n ≤ length xs → ((j : ℕ) → i ≤ j → j < i + n → t s (getD xs j 0) (drop (j + 1) xs) ≡ on s) → walk t z s (drop i xs) ≡ walk t z s (drop (i + n) xs)
+  walk-stays zero i h f = let e : i + 0 ≡ i = omega arith in ap (λ (k : ℕ). walk t z s (drop k xs)) (sym e)
+  walk-stays (suc n) i h f =
+      let e : i + 1 + n ≡ i + suc n = omega arith in
+      walk-goes t z s s xs i (omega arith) (f i (omega arith) (omega arith))
+      ∙ walk-stays n (i + 1) (omega arith) (λ j a b. f j (omega arith) (omega arith))
+      ∙ ap (λ (k : ℕ). walk t z s (drop k xs)) e
+
+-- a leap leaves what a search for what f looks for will find
+pub seek-leaps : (f : ℕ → ℕ → Look) (z : Seen → Sought) (xs : List ℕ) (m : Mode) (d : ℕ) (o : List ℕ) (i r : ℕ) → Leapt m xs i r → walk (seekTurn f) z (seen m d o) (drop i xs) ≡ walk (seekTurn f) z (seen m d o) (drop r xs)
+seek-leaps f z xs m d o i r h =
+    let a : i ≤ r = h .on in
+    let b : r ≤ length xs = h .inside in
+    let e : i + (r - i) ≡ r = omega arith in
+    walk-stays (seekTurn f) z (seen m d o) xs (r - i) i (omega arith) (λ j p q. rw (h .quiet j p (omega arith), h .same j p (omega arith)) refl)
+    ∙ ap (λ (k : ℕ). walk (seekTurn f) z (seen m d o) (drop k xs)) e
+
+-- and what a search for the end of trivia will
+pub trivia-leaps : (xs : List ℕ) (m : Mode) (o : List ℕ) (i r : ℕ) → Leapt m xs i r → walk triviaTurn triviaEnd (seen m 0 o) (drop i xs) ≡ walk triviaTurn triviaEnd (seen m 0 o) (drop r xs)
+trivia-leaps xs m o i r h =
+    let a : i ≤ r = h .on in
+    let b : r ≤ length xs = h .inside in
+    let e : i + (r - i) ≡ r = omega arith in
+    walk-stays triviaTurn triviaEnd (seen m 0 o) xs (r - i) i (omega arith) (λ j p q. rw (h .quiet j p (omega arith), h .same j p (omega arith)) refl)
+    ∙ ap (λ (k : ℕ). walk triviaTurn triviaEnd (seen m 0 o) (drop k xs)) e
+
+-- no leap is one
+pub leapt-none : (m : Mode) (xs : List ℕ) (i r : ℕ) → r ≡ i → i ≤ length xs → Leapt m xs i r
+leapt-none m xs i r e h = record { on = omega arith; inside = omega arith; same = λ j p q. absurd (omega arith); quiet = λ j p q. absurd (omega arith) }
+
+-- in a string, to a quote
+pub leapt-text : (xs : List ℕ) (i r : ℕ) → i ≤ length xs → Stopped 39 xs (min i (length xs)) (length xs) r → Leapt Text xs i r
+unfolding Lacks
+leapt-text xs i r h s =
+    let a : min i (length xs) ≤ r = s .on in
+    let b : r ≤ length xs = s .inside in
+    record { on = omega arith; inside = b; same = λ j p q. rw (ne-eqb (getD xs j 0) 39 (s .lacks j (omega arith) q)) refl; quiet = λ j p q. refl }
+
+-- in a comment, to a `*`
+pub leapt-remark : (xs : List ℕ) (i r : ℕ) → i ≤ length xs → Stopped 42 xs (min i (length xs)) (length xs) r → Leapt Remark xs i r
+unfolding Lacks
+leapt-remark xs i r h s =
+    let a : min i (length xs) ≤ r = s .on in
+    let b : r ≤ length xs = s .inside in
+    record { on = omega arith; inside = b; same = λ j p q. rw (ne-eqb (getD xs j 0) 42 (s .lacks j (omega arith) q)) refl; quiet = λ j p q. refl }
+
+-- a note of hits, with one byte more
+pub noted-next : (b : ℕ) (xs : List ℕ) (at k : ℕ) (hit hit′ : Bool) → (hit ≡ false → Lacks b xs at (at + k)) → hit′ ≡ (hit || eqb (getD xs (at + k) 0) b) → hit′ ≡ false → Lacks b xs at (at + (k + 1))
+noted-next b xs at k hit hit′ f e g = go hit (eqb (getD xs (at + k) 0) b) refl f (sym e ∙ g)
+  where
+    go : (h t : Bool) → eqb (getD xs (at + k) 0) b ≡ t → (h ≡ false → Lacks b xs at (at + k)) → (h || t) ≡ false → Lacks b xs at (at + (k + 1))
+    go true t q f e = absurd (let q : _≡_ {A = ℕ} 0 1 = cc in omega arith)
+    go false true q f e = absurd (let q : _≡_ {A = ℕ} 0 1 = cc in omega arith)
+    go false false q f e = let r : at + k + 1 ≡ at + (k + 1) = omega arith in subst (λ (n : ℕ). Lacks b xs at n) r (lacks-next b xs at (at + k) (f refl) (eqb-false (getD xs (at + k) 0) b q))
+
+-- the first place before a nearer end, where there is one, is the first of all
+pub stopped-near : (b : ℕ) (xs : List ℕ) (i near end r : ℕ) → Stopped b xs i near r → r < near → near ≤ end → Stopped b xs i end r
+stopped-near b xs i near end r s l h =
+    let a : r ≤ near = s .inside in
+    record { on = s .on; inside = omega arith; lacks = s .lacks; here = λ _. s .here l }
+
+-- and where there is none it is sought on from what lacks b
+pub stopped-far : (b : ℕ) (xs : List ℕ) (i k far end r : ℕ) → i ≤ k → Lacks b xs i k → Without b xs k far → Stopped b xs far end r → Stopped b xs i end r
+stopped-far b xs i k far end r h l w s =
+    let p : k ≤ far = w .on in
+    let q : far ≤ r = s .on in
+    record { on = omega arith; inside = s .inside; lacks = lacks-on b xs i k r l (lacks-on b xs k far r (w .lacks) (s .lacks)); here = s .here }
+
+-- what a leap is in each mode: to a quote, to a `*`, or none
+pub leapt-mode : (m u : Mode) (xs : List ℕ) (i r : ℕ) → m ≡ u → Leapt u xs i r → Leapt m xs i r
+leapt-mode m u xs i r e h = subst (λ (v : Mode). Leapt v xs i r) (sym e) h
+
+-- two places that `Stopped` allows are one
+pub stopped-only : (b : ℕ) (xs : List ℕ) (i end p q : ℕ) → Stopped b xs i end p → Stopped b xs i end q → p ≡ q
+unfolding Lacks
+stopped-only b xs i end p q s t = go (less-or p q) (less-or q p)
+  where
+    never : (a c : ℕ) → Stopped b xs i end a → Stopped b xs i end c → a < c → ⊥
+    never a c u v l =
+        let m : c ≤ end = v .inside in
+        v .lacks a (u .on) l (u .here (omega arith))
+
+    go : (p < q) ⊎ (q ≤ p) → (q < p) ⊎ (p ≤ q) → p ≡ q
+    go (inl l) _ = absurd (never p q s t l)
+    go (inr h) (inl l) = absurd (never q p t s l)
+    go (inr h) (inr k) = omega arith
