@@ -4,7 +4,7 @@
 #
 #   bindings/test.sh [FILE..]      further files that the C example lists
 #
-# The library is x86-64 code. On such a machine this needs the Rattle kit, a C compiler (CC, or cc) and cargo; nothing is downloaded. On
+# The library is x86-64 code. On such a machine this needs the Rattle kit, a C compiler (CC, or cc) and cargo, 1.70 or newer; nothing is downloaded. On
 # another one it needs Debian's gcc-x86-64-linux-gnu for the C example, which then runs under the kit's emulator (../shared/perf/host.sh does
 # the same for one crate), and for the Rust crate the target x86_64-unknown-linux-gnu of rustup; where that is not there, its tests are
 # left out, which is said.
@@ -39,6 +39,7 @@ printf 'ISO-10303-21;/*/;' >"$work/comment.stp"
 printf 'ISO-10303-21;DATA;#1=A(1);#1=A(2);#4294967295=B();ENDSEC;' >"$work/ids.stp"
 printf 'ISO-10303-21;DATA;#1=A((1);#2=B(2));' >"$work/deep.stp"
 printf 'ISO-10303-21;DATA;#4294967296=A();' >"$work/large.stp"
+printf 'ISO-10303-21;DATA;#1=A\n\tB(1);' >"$work/lines.stp"
 for file in "$work"/*.stp "$@"; do
     "$root/step" list "$file" >"$work/expected"
     ${emulator:+"$emulator"} "$work/list" "$file" >"$work/printed"

@@ -3,7 +3,8 @@
 #
 #   all.sh [WORK_FOLDER]
 #
-# WORK_FOLDER is kept (default: a folder under the system's temp folder). What is wanted is installed from Debian where it is lacking.
+# WORK_FOLDER is kept (default: a folder under the system's temp folder). What is wanted is installed from Debian where it is lacking, but
+# for cargo and rustc, 1.88 or newer, which Debian has not.
 # Environment:
 #   ANSWERS, ASKS  the two programs (default: those of target/bin, or on another processor than x86-64 built by ../shared/perf/native.sh; proved and
 #                  built first where they are not there)
@@ -18,7 +19,7 @@
 # The last lines are the figures; the status is 0 only where nothing differs that docs/DIFFERENCES.md does not list, and each answer that
 # figures.py names occurred.
 set -eu
-case ${1:-} in -*) sed -n '2,21s/^# \{0,1\}//p' "$0" >&2; exit 2 ;; esac
+case ${1:-} in -*) sed -n '2,22s/^# \{0,1\}//p' "$0" >&2; exit 2 ;; esac
 here=$(CDPATH='' cd -- "$(dirname -- "$0")" && pwd)
 root=$(CDPATH='' cd -- "$here/.." && pwd)
 work=${1:-${TMPDIR:-$(dirname "$(mktemp -u)")}/differential-all}
@@ -31,9 +32,7 @@ chunk=${CHUNK:-100000}
 jobs=${JOBS:-$(nproc)}
 
 # What is wanted.
-for tool in python3 cargo; do
-    command -v "$tool" >/dev/null || apt-get install -y -qq "$tool" >&2
-done
+command -v python3 >/dev/null || "$here/install.sh" python3
 ORACLE=${ORACLE:-}
 [ -n "$ORACLE" ] || ORACLE=$("$here/build.sh" "$work/oracle")
 MANY=${MANY:-}

@@ -14,8 +14,14 @@ build=${1:-${TMPDIR:-$(dirname "$(mktemp -u)")}/differential-oracle}
 say() { echo "build.sh: $*" >&2; }
 
 for tool in cargo rustc; do
-    command -v "$tool" >/dev/null || { say "$tool is wanted"; exit 1; }
+    command -v "$tool" >/dev/null || { say "$tool is wanted, 1.88 or newer, which Debian has not: rustup has it"; exit 1; }
 done
+release=$(rustc --version | cut -d' ' -f2)
+minor=${release#*.}
+if [ "${release%%.*}" -eq 1 ] && [ "${minor%%.*}" -lt 88 ]; then
+    say "rustc 1.88 or newer is wanted (edition 2024, let chains), and this is $release: rustup has a newer one than Debian"
+    exit 1
+fi
 [ -f "$original/scan.rs" ] || { say "the original is not at $original (set ORIGINAL)"; exit 1; }
 
 # The three crates that the original leans on, as Debian packages.
@@ -26,7 +32,7 @@ for package in $packages; do
 done
 if [ -n "$lacking" ]; then
     # shellcheck disable=SC2086
-    if ! { apt-get install -y -qq $lacking || { apt-get update -qq && apt-get install -y -qq $lacking; }; } >&2; then
+    if ! "$here/install.sh" $lacking; then
         say "these Debian packages are wanted, and could not be installed:$lacking"
         exit 1
     fi

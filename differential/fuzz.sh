@@ -26,12 +26,12 @@ many=${MANY:-}
 
 clang=${CLANG:-}
 if [ -z "$clang" ]; then
-    command -v clang-14 >/dev/null || command -v clang >/dev/null || apt-get install -y -qq clang >&2
+    command -v clang-14 >/dev/null || command -v clang >/dev/null || "$here/install.sh" clang
     clang=$(command -v clang-14 || command -v clang)
 fi
 if ! echo 'int LLVMFuzzerTestOneInput(const char *b, unsigned long n) { return 0; }' |
     "$clang" -x c - -fsanitize=fuzzer -o "$work/probe" 2>/dev/null; then
-    apt-get install -y -qq libclang-rt-14-dev >&2 || apt-get install -y -qq libclang-rt-dev >&2
+    "$here/install.sh" libclang-rt-14-dev || "$here/install.sh" libclang-rt-dev
 fi
 
 # The module as it is handed to the kit's clang, proved in a copy; what is proved already here is not proved again.

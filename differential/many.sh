@@ -5,7 +5,7 @@
 set -eu
 here=$(CDPATH='' cd -- "$(dirname -- "$0")" && pwd)
 build=${1:-${TMPDIR:-$(dirname "$(mktemp -u)")}/differential-many}
-command -v rustc >/dev/null || apt-get install -y -qq rustc >&2
+command -v rustc >/dev/null || "$here/install.sh" rustc
 mkdir -p "$build"
 rustc --edition 2021 -C opt-level=3 -o "$build/many" "$here/many/main.rs" >&2
 echo "$build/many"

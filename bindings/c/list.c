@@ -28,6 +28,12 @@ static void refuse(struct refusal why) {
     printf(why.reason ? ": %s\n" : "%s\n", reasons[why.reason]);
 }
 
+/* A byte below a space, and 127, as \x and two hex digits: a line end in a keyword ends no line. */
+static void print_part(const uint8_t *bytes, size_t count) {
+    for (size_t i = 0; i < count; i++)
+        printf(bytes[i] < ' ' || bytes[i] == 127 ? "\\x%02x" : "%c", bytes[i]);
+}
+
 /* One line a record: id, keyword, and where its arguments begin and end. */
 static void print_rows(const uint8_t *file, const uint32_t *rows, size_t count) {
     for (size_t k = 0; k < count; k++) {
@@ -36,7 +42,7 @@ static void print_rows(const uint8_t *file, const uint32_t *rows, size_t count) 
         if (row[5] == 1)
             fputs("(complex)", stdout);
         else
-            fwrite(file + row[1], 1, row[2] - row[1], stdout);
+            print_part(file + row[1], row[2] - row[1]);
         printf(" %" PRIu32 " %" PRIu32 "\n", row[3], row[4]);
     }
 }

@@ -5,6 +5,7 @@ ghost use Rattle.io.specs.Counts.{Counts};
 use crate::task;
 use crate::task::Task;
 use input::Opened;
+use notices::Said;
 use text::Pen;
 
 // What `over` of a run says.
@@ -12,13 +13,15 @@ pub const GOES_ON: usize = 0;
 
 pub const ENDED: usize = 1;
 
-// The next file may be too large for these rooms, and larger ones can be had.
+// The next file, or its records, may be too many for these rooms, and larger ones can be had.
 pub const WAITS: usize = 2;
 
 pub struct Run {
     // The next argument.
     pub argument: usize,
     pub over: usize,
+    // 1 where its file's name was put already, else 0.
+    pub titled: usize,
     pub pen: Pen,
 }
 
@@ -27,6 +30,7 @@ pub fn start(task: Task, pen: Pen) -> Run {
     Run {
         argument: task.first,
         over: GOES_ON,
+        titled: 0,
         pen,
     }
 }
@@ -37,6 +41,7 @@ pub fn again(run: Run) -> Run {
     Run {
         argument: run.argument,
         over: GOES_ON,
+        titled: run.titled,
         pen,
     }
 }
@@ -79,10 +84,65 @@ fn turn(
     }
     let n = got.count;
     let t = &file[..n];
-    let pen = task::lines(task, t, headers, rows, slots, out, next.pen);
+    let said = task::lines(task, t, headers, rows, slots, out, next.pen);
+    let rooms = Rooms {
+        headers: headers.len(),
+        rows: rows.len(),
+        grows,
+    };
+    told(task, t, rooms, said, out, run, got)
+}
+
+// How many numbers the rooms have for header rows and data rows, and whether larger ones can be had.
+struct Rooms {
+    headers: usize,
+    rows: usize,
+    grows: bool,
+}
+
+// The run after what came of a file, with a refusal told. Where the rooms ended and larger ones can be had, nothing is told yet.
+fn told(
+    task: Task,
+    t: &[u8],
+    rooms: Rooms,
+    said: Said,
+    out: &mut [u8],
+    run: Run,
+    got: Taken,
+) -> Run {
+    let next = got.run;
+    match said {
+        Said::Put(pen) => past(next, pen),
+        Said::Refused(f) => {
+            if rooms.grows && error::number(f) == 8 {
+                return waiting(run, got);
+            }
+            let pen = task::refused(task, t, f, rooms.headers, rooms.rows, out, next.pen);
+            past(next, pen)
+        }
+    }
+}
+
+// The run once all is said of a file.
+fn past(next: Run, pen: Pen) -> Run {
     Run {
         argument: next.argument,
-        over: next.over,
+        over: GOES_ON,
+        titled: 0,
+        pen,
+    }
+}
+
+// The run before a file that has more records than these rooms, with its name put. Standard input goes back to where it stood.
+fn waiting(run: Run, got: Taken) -> Run {
+    let pen = got.run.pen;
+    if got.here >= 0 {
+        libc::lseek(libc::STDIN_FILENO, got.here, libc::SEEK_SET);
+    }
+    Run {
+        argument: run.argument,
+        over: WAITS,
+        titled: 1,
         pen,
     }
 }
@@ -92,6 +152,8 @@ struct Taken {
     run: Run,
     count: usize,
     found: usize,
+    // Where standard input stood before, and -1 for a file that can be opened again.
+    here: i64,
 }
 
 // No file to do the task over.
@@ -102,10 +164,12 @@ fn nothing(argument: usize, over: usize, pen: Pen) -> Taken
         run: Run {
             argument,
             over,
+            titled: 0,
             pen,
         },
         count: 0,
         found: 0,
+        here: -1,
     }
 }
 
@@ -125,7 +189,7 @@ fn brought(task: Task, grows: bool, file: &mut [u8], out: &mut [u8], run: Run) -
         shut(fd);
         return nothing(run.argument, WAITS, pen);
     }
-    let titled = title(task, out, pen, &name[..n]);
+    let titled = title(task, run.titled, out, pen, &name[..n]);
     let next = std::num::wrapping_add_usize(run.argument, 1);
     read(fd, file, out, next, titled)
 }
@@ -156,8 +220,8 @@ fn is_larger(fd: i32, room: usize) -> bool {
 }
 
 // The file's name, before each verdict, and on a line of its own where there are several.
-fn title(task: Task, out: &mut [u8], pen: Pen, name: &[u8]) -> Pen {
-    if name.len() == 0 {
+fn title(task: Task, titled: usize, out: &mut [u8], pen: Pen, name: &[u8]) -> Pen {
+    if titled == 1 || name.len() == 0 {
         return pen;
     }
     if task.what == crate::INSPECT {
@@ -178,6 +242,7 @@ fn read(fd: i32, file: &mut [u8], out: &mut [u8], next: usize, pen: Pen) -> Take
     if fd < 0 {
         return nothing(next, GOES_ON, text::bytes(out, pen, b"cannot be opened\n"));
     }
+    let here = standing(fd);
     let got = input::fill(fd, file);
     let count = got.count;
     let said = unread(fd, count, got.failed, file.len(), out, pen);
@@ -189,11 +254,21 @@ fn read(fd: i32, file: &mut [u8], out: &mut [u8], next: usize, pen: Pen) -> Take
         run: Run {
             argument: next,
             over: GOES_ON,
+            titled: 0,
             pen: said,
         },
         count,
         found: 1,
+        here,
     }
+}
+
+// Where standard input stands, and -1 for another descriptor.
+fn standing(fd: i32) -> i64 {
+    if fd != libc::STDIN_FILENO {
+        return -1;
+    }
+    libc::lseek(fd, 0, libc::SEEK_CUR)
 }
 
 // Says why a file is not read whole, where it is not.

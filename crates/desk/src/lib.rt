@@ -1,8 +1,8 @@
 // A task over files, with the rooms that it takes: of standard input, or of each file that an argument names. What the programs
 // `list`, `scale`, `show` and `inspect` share.
 //
-// It begins with rooms for a file of 1 MiB. From the first file on that is larger, or of which the size is not told, it goes
-// on with rooms for 64 MiB, where the stack limit allows them (`ulimit -s`; the script `step` raises it).
+// It begins with rooms for a file of 1 MiB. From the first file on that is larger, or has more records than these rooms, or of which
+// the size is not told, it goes on with rooms for 64 MiB, where the stack limit allows them (`ulimit -s`; the script `step` raises it).
 mod files;
 mod task;
 
@@ -23,7 +23,7 @@ pub const SHOW: usize = 2;
 pub const INSPECT: usize = 3;
 
 // What the large rooms take of the stack, with something over.
-const NEEDED: u64 = 172000000;
+const NEEDED: u64 = 188000000;
 
 // Rooms for a file of 1 MiB with as many records as it can hold, and 4,096 header records.
 const SMALL_FILE: usize = 1048577;
@@ -65,10 +65,10 @@ fn lend_small(
     go_on(task, grows, file, headers, rows, slots, out, run)
 }
 
-// Rooms for a file of 64 MiB with a record for every 24 bytes, and 65,536 header records.
+// Rooms for a file of 64 MiB with a record for every 24 bytes, and 1,048,576 header records.
 const LARGE_FILE: usize = 67108865;
 
-const LARGE_HEADERS: usize = 262144;
+const LARGE_HEADERS: usize = 4194304;
 
 const LARGE_ROWS: usize = 16777218;
 

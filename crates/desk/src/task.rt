@@ -1,4 +1,6 @@
 // What is asked of a program, and which crate answers it.
+use error::Fault;
+use notices::Said;
 use reals::Reference;
 use text::Pen;
 
@@ -103,7 +105,7 @@ pub fn lines(
     slots: &mut [u64],
     out: &mut [u8],
     pen: Pen,
-) -> Pen {
+) -> Said {
     if task.what == crate::LIST {
         return listing::lines(file, headers, rows, out, pen);
     }
@@ -114,4 +116,24 @@ pub fn lines(
         return showing::lines(file, task.id, headers, rows, slots, out, pen);
     }
     inspection::line(file, headers, rows, out, pen)
+}
+
+// Says that a file is refused; of 8, which speaks of rows that were lent, that the rooms end, which have so many numbers for header
+// rows and data rows.
+pub fn refused(
+    task: Task,
+    file: &[u8],
+    f: Fault,
+    headers: usize,
+    rows: usize,
+    out: &mut [u8],
+    pen: Pen,
+) -> Pen {
+    if error::number(f) == 8 {
+        return notices::too_many(error::place(f), headers, rows, out, pen);
+    }
+    if task.what == crate::INSPECT {
+        return inspection::refused(file, f, out, pen);
+    }
+    notices::refused(out, pen, f)
 }

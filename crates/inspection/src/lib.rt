@@ -1,19 +1,23 @@
 // What is to be said of a file in one line: accepted, with its counts; or refused, with the number, the place as a byte, a line and
 // a column, and the words. What the program `inspect` prints.
 use error::Fault;
+use notices::Said;
 use scan::Scanned;
 use text::Pen;
 
 // The line of a file's bytes. The rooms are lent for header rows and data rows.
-pub fn line(file: &[u8], headers: &mut [u32], rows: &mut [u32], out: &mut [u8], pen: Pen) -> Pen {
+pub fn line(file: &[u8], headers: &mut [u32], rows: &mut [u32], out: &mut [u8], pen: Pen) -> Said {
     let slots = rows.len() / 6;
     match scan::scan(file, headers, rows, slots) {
-        Scanned::Refused(f) => refused(file, f, out, pen),
+        Scanned::Refused(f) => Said::Refused(f),
         Scanned::Rows {
             headers: h,
             records: n,
             max,
-        } => accepted(file.len() as u64, h as u64, n as u64, max as u64, out, pen),
+        } => {
+            let a = accepted(file.len() as u64, h as u64, n as u64, max as u64, out, pen);
+            Said::Put(a)
+        }
     }
 }
 
@@ -44,7 +48,7 @@ fn counted(out: &mut [u8], pen: Pen, n: u64, what: &[u8], behind: &[u8]) -> Pen 
 }
 
 // `refused NUMBER/REASON@PLACE, line L column C: WORDS`
-fn refused(file: &[u8], f: Fault, out: &mut [u8], pen: Pen) -> Pen {
+pub fn refused(file: &[u8], f: Fault, out: &mut [u8], pen: Pen) -> Pen {
     let a = text::bytes(out, pen, b"refused ");
     let b = text::mark(out, a, f);
     let c = text::bytes(out, b, b", ");

@@ -1,19 +1,20 @@
-// A file's list: how many records and the largest id, then a line a record; or why there is none. What the program `list` prints.
+// A file's list: how many records and the largest id, then a line a record. What the program `list` prints.
+use notices::Said;
 use scan::Scanned;
 use text::Pen;
 
 // The list of a file's bytes. The rooms are lent for header rows and data rows.
-pub fn lines(file: &[u8], headers: &mut [u32], rows: &mut [u32], out: &mut [u8], pen: Pen) -> Pen {
+pub fn lines(file: &[u8], headers: &mut [u32], rows: &mut [u32], out: &mut [u8], pen: Pen) -> Said {
     let slots = rows.len() / 6;
     match scan::scan(file, headers, rows, slots) {
-        Scanned::Refused(f) => notices::refused(out, pen, f),
+        Scanned::Refused(f) => Said::Refused(f),
         Scanned::Rows {
             headers: _,
             records: n,
             max,
         } => {
             let a = counts(out, pen, n as u64, max as u64);
-            records(file, rows, n, out, a)
+            Said::Put(records(file, rows, n, out, a))
         }
     }
 }
@@ -55,7 +56,7 @@ fn keyword(file: &[u8], row: &[u32], out: &mut [u8], pen: Pen) -> Pen {
     if number(row, 5) == 1 {
         return text::bytes(out, next, b"(complex)");
     }
-    part(file, number(row, 1), number(row, 2), out, next)
+    notices::part(file, number(row, 1), number(row, 2), out, next)
 }
 
 // A number of a row, 0 past its end.
@@ -65,14 +66,4 @@ fn number(row: &[u32], k: usize) -> usize {
 
 fn wide(n: u32) -> usize {
     n as usize
-}
-
-// The bytes of the file from a start up to an end.
-fn part(file: &[u8], start: usize, end: usize, out: &mut [u8], pen: Pen) -> Pen {
-    if start <= end {
-        if end <= file.len() {
-            return text::bytes(out, pen, &file[start..end]);
-        }
-    }
-    pen
 }

@@ -142,12 +142,24 @@ fn fifteen_at(x: f64, i: usize) -> Digits {
 }
 
 fn fifteen_of(y: f64, up: usize, down: usize) -> Digits {
-    if y >= 1e14 {
-        if y < 999999999999999.0 {
-            return Digits::Are(counted(whole(y)), up, down);
-        }
+    if y < 1e14 {
+        return Digits::Nothing;
+    }
+    if y < 999999999999999.5 {
+        return Digits::Are(counted(whole(y)), up, down);
+    }
+    if y < 1e15 {
+        return next_power(up, down);
     }
     Digits::Nothing
+}
+
+// What is rounded up to 10^15, in fifteen digits: ten times 10^14.
+fn next_power(up: usize, down: usize) -> Digits {
+    if down > 0 {
+        return Digits::Are(100000000000000, up, down - 1);
+    }
+    Digits::Are(100000000000000, std::num::wrapping_add_usize(up, 1), 0)
 }
 
 // 2^52: between it and its double an f64 is a whole number, and its bits count up by one.

@@ -1,5 +1,6 @@
-// A file's units: what a length, an angle and the tolerance stand for; or why they are refused. What the program `scale` prints.
+// A file's units: what a length, an angle and the tolerance stand for. What the program `scale` prints.
 use lookup::Tables;
+use notices::Said;
 use store::Opened;
 use text::Pen;
 use units::Resolved;
@@ -13,17 +14,17 @@ pub fn lines(
     slots: &mut [u64],
     out: &mut [u8],
     pen: Pen,
-) -> Pen {
+) -> Said {
     match store::open(file, headers, rows, slots) {
-        Opened::Refused(f) => notices::refused(out, pen, f),
+        Opened::Refused(f) => Said::Refused(f),
         Opened::Good(t) => resolved(file, rows, slots, t, out, pen),
     }
 }
 
-fn resolved(file: &[u8], rows: &[u32], slots: &[u64], t: Tables, out: &mut [u8], pen: Pen) -> Pen {
+fn resolved(file: &[u8], rows: &[u32], slots: &[u64], t: Tables, out: &mut [u8], pen: Pen) -> Said {
     match units::resolve(file, rows, slots, t) {
-        Resolved::Refused(f) => notices::refused(out, pen, f),
-        Resolved::Is(u) => values(out, pen, u),
+        Resolved::Refused(f) => Said::Refused(f),
+        Resolved::Is(u) => Said::Put(values(out, pen, u)),
     }
 }
 

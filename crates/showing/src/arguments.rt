@@ -61,7 +61,7 @@ fn parameter(file: &[u8], number: u64, start: usize, end: usize, out: &mut [u8],
 // `: BYTES`
 fn content(file: &[u8], start: usize, end: usize, out: &mut [u8], pen: Pen) -> Pen {
     let a = text::bytes(out, pen, b": ");
-    let b = part(file, start, end, out, a);
+    let b = notices::part(file, start, end, out, a);
     text::byte(out, b, b'\n')
 }
 
@@ -130,7 +130,7 @@ fn no_more(number: u64, out: &mut [u8], pen: Pen) -> Pen {
 // `part KEYWORD, arguments START to END` and its parameters.
 fn one_part(file: &[u8], p: HeaderSpan, out: &mut [u8], pen: Pen) -> Pen {
     let a = text::bytes(out, pen, b"part ");
-    let b = part(file, p.keyword.start, p.keyword.end, out, a);
+    let b = notices::part(file, p.keyword.start, p.keyword.end, out, a);
     let c = text::bytes(out, b, b", ");
     let d = span(out, c, p.args.start, p.args.end);
     inside(file, p, out, d)
@@ -147,14 +147,4 @@ pub fn span(out: &mut [u8], pen: Pen, start: usize, end: usize) -> Pen {
     let b = text::decimal(out, a, start as u64);
     let c = text::bytes(out, b, b" to ");
     text::decimal(out, c, end as u64)
-}
-
-// The bytes of the file from a start up to an end.
-pub fn part(file: &[u8], start: usize, end: usize, out: &mut [u8], pen: Pen) -> Pen {
-    if start <= end {
-        if end <= file.len() {
-            return text::bytes(out, pen, &file[start..end]);
-        }
-    }
-    pen
 }

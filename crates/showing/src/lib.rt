@@ -1,10 +1,12 @@
 // One record, by its id: its keyword, where it stands, its parameters and, of a complex one, its parts. What the program `show` prints.
 mod arguments;
 
+ghost use Rattle.showing.specs.Superseded.{Superseded};
 use arguments::parameters;
 use arguments::parts;
 use lookup::Entry;
 use lookup::Tables;
+use notices::Said;
 use statement::RecordSpan;
 use store::Opened;
 use text::Pen;
@@ -18,10 +20,10 @@ pub fn lines(
     slots: &mut [u64],
     out: &mut [u8],
     pen: Pen,
-) -> Pen {
+) -> Said {
     match store::open(file, headers, rows, slots) {
-        Opened::Refused(f) => notices::refused(out, pen, f),
-        Opened::Good(t) => served(file, id, rows, slots, t, out, pen),
+        Opened::Refused(f) => Said::Refused(f),
+        Opened::Good(t) => Said::Put(served(file, id, rows, slots, t, out, pen)),
     }
 }
 
@@ -66,7 +68,7 @@ fn keyword(file: &[u8], w: RecordSpan, out: &mut [u8], pen: Pen) -> Pen {
     if w.complex == 1 {
         return text::bytes(out, pen, b"(complex)");
     }
-    arguments::part(file, w.keyword.start, w.keyword.end, out, pen)
+    notices::part(file, w.keyword.start, w.keyword.end, out, pen)
 }
 
 // `arguments START to END, line L column C`
@@ -78,7 +80,9 @@ fn standing(file: &[u8], w: RecordSpan, out: &mut [u8], pen: Pen) -> Pen {
 }
 
 // Where an id stands more than once, that its last record is shown.
-fn superseded(out: &mut [u8], pen: Pen, n: usize) -> Pen {
+fn superseded(out: &mut [u8], pen: Pen, n: usize) -> Pen
+    ensures { λ r. ⌜ Superseded (now (out .entry)) (pen .used) n (now (out .exit)) (r .used) ⌝ }
+{
     if n < 2 {
         return pen;
     }
