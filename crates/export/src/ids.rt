@@ -35,13 +35,18 @@ pub extern "C" fn hooflift_index(
     16
 }
 
-// The last row with this id, by the slots and the eight numbers that `hooflift_index` left; or 4294967295 where there is none.
+// The last row with this id, by the slots and the eight numbers that `hooflift_index` left; or 4294967295 where there is none. It is
+// `finds::row_of`, written out: the search is then called from two places, so that the compiler leaves it out of the first look's way.
 #[no_mangle]
 pub extern "C" fn hooflift_get(rows: &[u32], slots: &[u64], ids: &[u64], id: u32) -> u32
     ensures { λ r. ⌜ r ≡ rowNumber (searched (now (rows .entry)) (now (slots .entry)) (idsBy (now (ids .entry))) id) ⌝ }
 {
     let b = plain::ids_of(ids);
-    finds::number_of(index::get(rows, slots, b, id))
+    let r = index::first_row(slots, b, id);
+    if index::stands(rows, slots.len(), b.count, r, id) {
+        return r;
+    }
+    finds::number_of(index::seek(rows, slots, b, id))
 }
 
 // The last row of each id, or 4294967295 where there is none, at the start of `found`, in the order of the ids: 0. Or 16 where `found` is
