@@ -7,11 +7,11 @@ use mathlib.Core.List.{List, [], _∷_, map}
 use native.Mathlib.Omega.{arith}
 use native.Mathlib.Nat.{le-refl}
 use lib.Dec.{eqb, leb}
-use borrow.Author.Tests.{leb-true}
+use borrow.Author.Tests.{leb-true, ne-eqb}
 use lib.ListN.{length, drop, getD}
 use Rattle.lex.specs.Byte.{pick, white}
 use Rattle.lex.specs.Walk.{Turn, stop, on, turned, walk, split, walk-ends, walk-stops, walk-goes}
-use Rattle.record.specs.Text.{pastTurn, digit, Digits, digits, digitTurn, numberFrom, Keyed, opened, unopened, keyTurn, trailTurn}
+use Rattle.record.specs.Text.{pastTurn, digit, Digits, digits, digitTurn, numberFrom, Keyed, opened, unopened, keyTurn, keyword, trailTurn}
 use Rattle.record.specs.Word.{same}
 
 module _ (b : List ℕ) (i : ℕ) (h : i < length b) where
@@ -35,6 +35,15 @@ module _ (b : List ℕ) (i : ℕ) (h : i < length b) where
 
   pub trail-goes : (e k : ℕ) (a : List ℕ) → pick (white (getD b i 0)) (drop e b) (drop (i + 1) b) ≡ drop k b → walk trailTurn (λ l. l) (drop e b) (drop i b) ≡ a → walk trailTurn (λ l. l) (drop k b) (drop (i + 1) b) ≡ a
   trail-goes e k a w inv = sym (walk-goes trailTurn (λ l. l) (drop e b) (drop k b) b i h (ap on w)) ∙ inv
+
+  -- a byte above a space is not white
+  pub above-white : 32 < getD b i 0 → white (getD b i 0) ≡ false
+  above-white l = rw (ne-eqb (getD b i 0) 32 (λ e. omega arith), ne-eqb (getD b i 0) 9 (λ e. omega arith), ne-eqb (getD b i 0) 10 (λ e. omega arith), ne-eqb (getD b i 0) 12 (λ e. omega arith), ne-eqb (getD b i 0) 13 (λ e. omega arith)) refl
+
+  -- a byte above `(` is no `(` and not white: the keyword is sought on from the next
+  pub key-solid : 40 < getD b i 0 → keyword (drop (i + 1) b) ≡ keyword (drop i b)
+  unfolding keyword
+  key-solid l = key-goes i (i + 1) (keyword (drop i b)) (ne-eqb (getD b i 0) 40 (λ e. omega arith)) (rw (above-white (omega arith)) refl) refl
 
 -- further digits make no number smaller
 pub number-grows : (n : ℕ) (xs : List ℕ) → n ≤ numberFrom n xs .value

@@ -7,7 +7,7 @@ ghost use mathlib.Core.Bool.{true, false};
 ghost use Prim.Native.Nat.{_≤_, _<_};
 ghost use lib.ListN.{length, drop};
 ghost use Rattle.lex.specs.Byte.{white};
-ghost use Rattle.record.specs.Text.{past, digit, trail, Numbered, KeyedAt};
+ghost use Rattle.record.specs.Text.{past, digit, trail, keyword, Numbered, KeyedAt};
 ghost use Rattle.record.specs.Word.{upper, same, isWord, opensData, wordIn, wordOf};
 ghost use Rattle.record.specs.Head.{dataHead, equalHead, valueHead, headerHead};
 
@@ -37,7 +37,11 @@ fn past_space(b: &[u8], from: usize) -> usize
 {
     let mut i = from;
     while i < b.len() {
-        if !lex::is_space(b[i]) {
+        let c = b[i];
+        if b' ' < c {
+            return i;
+        }
+        if !lex::is_space(c) {
             return i;
         }
         i += 1;
@@ -83,12 +87,28 @@ enum Key {
     Found(usize, usize),
 }
 
+// The first byte from `from` on that may be white or a `(`, or the length: the bytes above `(`, as those of a name, are neither.
+fn name_run(b: &[u8], from: usize) -> usize
+    requires { ⌜ from ≤ length (now b) ⌝ }
+    ensures { λ r. ⌜ keyword (drop r (now (b .entry))) ≡ keyword (drop from (now (b .entry))) ⌝ }
+    ensures { λ r. ⌜ (from ≤ r) × (r ≤ length (now (b .entry))) ⌝ }
+{
+    let mut i = from;
+    while i < b.len() {
+        if b[i] <= b'(' {
+            return i;
+        }
+        i += 1;
+    }
+    i
+}
+
 fn keyword_at(b: &[u8], from: usize) -> Key
     requires { ⌜ from ≤ length (now b) ⌝ }
     ensures { λ r. ⌜ KeyedAt (now (b .entry)) from r ⌝ }
 {
-    let mut end = from;
-    let mut i = from;
+    let mut end = name_run(b, from);
+    let mut i = end;
     while i < b.len() {
         let c = b[i];
         if c == b'(' {

@@ -1,6 +1,7 @@
 pub mod File
 pub mod Table
 pub mod Laws
+pub mod Neat
 pub mod Fits
 pub mod Scan
 pub mod Only

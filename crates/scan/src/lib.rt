@@ -5,22 +5,27 @@
 ghost use mathlib.Core.Path.{_≡_};
 ghost use mathlib.Core.Bool.{true, false};
 ghost use Prim.Native.Nat.{_+_, _*_, _/_, _≤_, _<_, min, max};
-ghost use lib.ListN.{length, take};
+ghost use lib.ListN.{length, take, drop};
 ghost use lib.Seq.{sets};
 ghost use Rattle.lex.specs.Byte.{pick, white};
 ghost use Rattle.record.specs.Text.{past};
 ghost use Rattle.record.specs.Word.{same, marker};
 ghost use Rattle.statement.specs.Row.{mapped};
-ghost use Rattle.statement.specs.Statement.{rowOf, headerRowOf};
+ghost use Rattle.statement.specs.Statement.{rowOf, headerRowOf, toldSaid, Ahead, statement};
+ghost use Rattle.statement.specs.Tidy.{tidy, TidyAhead};
+ghost use Rattle.statement.specs.declared.Section.the-variants.{Outside};
 ghost use Rattle.scan.specs.File.{scanOf, marked, readingOf};
 ghost use Rattle.scan.specs.Table.{headerRoom, dataRoom, six, four, headerNumbers, recordNumbers, toldScan, countsOf, headersAfter, rowsAfter};
 ghost use Rattle.scan.specs.Laws.{Written};
+ghost use Rattle.scan.specs.Neat.{Neat, toldPassed, NeatTold, QuickSaid};
 ghost use Rattle.scan.specs.Fits.{HeaderFits, RecordFits};
 use error::Fault;
 use statement::HeaderSpan;
+use statement::Noted;
 use statement::RecordSpan;
 use statement::Said;
 use statement::Section;
+use statement::Tidied;
 
 // How many header rows and data rows there are, and the largest id; or why there are none.
 pub enum Scanned {
@@ -30,6 +35,13 @@ pub enum Scanned {
         max: u32,
     },
     Refused(Fault),
+}
+
+// What a pass finds: how many header rows and data rows there are, the largest id, and whether every data record is tidy; or why there are
+// none.
+enum Passed {
+    Counted(usize, usize, u32, bool),
+    Stopped(Fault),
 }
 
 // Whether a text begins with these bytes.
@@ -120,32 +132,75 @@ fn rows_found(headers: usize, records: usize, max: u32) -> Scanned
     }
 }
 
+// The data record from the place i on, by its first `;` alone, where it is known that this gives what the statement says.
+fn quick_at(s: &[u8], i: usize, section: Section, known: bool) -> Tidied
+    requires { ⌜ (known ≡ true → tidy (now s) (statement (now s) section (drop i (now s))) ≡ true) ⌝ }
+    ensures { λ r. ⌜ QuickSaid (now (s .entry)) i section r ⌝ }
+    ensures { λ r. ⌜ TidyAhead i (length (now (s .entry))) r ⌝ }
+{
+    if !known {
+        return Tidied::Untidy;
+    }
+    match section {
+        Section::Outside => Tidied::Untidy,
+        Section::InHeader => Tidied::Untidy,
+        Section::InData => statement::tidy_record(s, i),
+    }
+}
+
+// What the statement says from the place i on, and whether it is tidy, which may be known.
+fn said_at(s: &[u8], i: usize, section: Section, known: bool) -> Noted
+    requires { ⌜ (known ≡ true → tidy (now s) (statement (now s) section (drop i (now s))) ≡ true) ⌝ }
+    ensures { λ r. ⌜ toldSaid (now (s .entry)) (r .said) ≡ statement (now (s .entry)) section (drop i (now (s .entry))) ⌝ }
+    ensures { λ r. ⌜ Ahead i (length (now (s .entry))) (r .said) ⌝ }
+    ensures { λ r. ⌜ r .tidy ≡ tidy (now (s .entry)) (statement (now (s .entry)) section (drop i (now (s .entry)))) ⌝ }
+{
+    match quick_at(s, i, section, known) {
+        Tidied::Untidy => statement::noted_statement(s, i, section),
+        Tidied::Tidy(span, start, next) => Noted {
+            said: Said::Records(span, start, next),
+            tidy: true,
+        },
+    }
+}
+
 // Reads the file in order: counts, and where `write` is set stores each row. What is stored before a refusal stays, so
-// the scan writes only where an earlier pass has found none.
-fn pass(s: &[u8], headers: &mut [u32], rows: &mut [u32], slots: usize, write: bool) -> Scanned
-    requires { ⌜ length (now s) ≤ 4294967295 ⌝ }
-    ensures { λ r. ⌜ toldScan r ≡ mapped countsOf (readingOf (now (s .entry)) (headerRoom (now (headers .entry))) (dataRoom (now (rows .entry)) slots)) ⌝ }
+// the scan writes only where an earlier pass has found none. Where every data record is known to be tidy nothing of it is tested again.
+fn pass(
+    s: &[u8],
+    headers: &mut [u32],
+    rows: &mut [u32],
+    slots: usize,
+    write: bool,
+    known: bool,
+) -> Passed
+    requires { ⌜ (length (now s) ≤ 4294967295) × (known ≡ true → Neat (now s) Outside (now s)) ⌝ }
+    ensures { λ r. ⌜ toldPassed r ≡ mapped countsOf (readingOf (now (s .entry)) (headerRoom (now (headers .entry))) (dataRoom (now (rows .entry)) slots)) ⌝ }
     ensures { λ _. ⌜ Written write (readingOf (now (s .entry)) (headerRoom (now (headers .entry))) (dataRoom (now (rows .entry)) slots)) headerNumbers (now (headers .entry)) (now (headers .exit)) ⌝ }
     ensures { λ _. ⌜ Written write (readingOf (now (s .entry)) (headerRoom (now (headers .entry))) (dataRoom (now (rows .entry)) slots)) recordNumbers (now (rows .entry)) (now (rows .exit)) ⌝ }
+    ensures { λ r. ⌜ NeatTold (now (s .entry)) r ⌝ }
 {
-    let hroom = headers.len() / 4;
     let room = least(rows.len() / 6, slots);
     let mut i = 0;
     let mut section = Section::Outside;
     let mut h: usize = 0;
     let mut r: usize = 0;
     let mut max: u32 = 0;
+    let mut all = true;
     loop {
-        match statement::next_statement(s, i, section) {
-            Said::Ends => return rows_found(h, r, max),
-            Said::Refuses(f) => return Scanned::Refused(f),
+        let n = said_at(s, i, section, known);
+        let said = n.said;
+        all = all & n.tidy;
+        match said {
+            Said::Ends => return Passed::Counted(h, r, max, all),
+            Said::Refuses(f) => return Passed::Stopped(f),
             Said::Moves(to, next) => {
                 section = to;
                 i = next;
             }
             Said::Heads(span, start, next) => {
-                if hroom <= h {
-                    return Scanned::Refused(Fault::NoRow(start));
+                if headers.len() / 4 <= h {
+                    return Passed::Stopped(Fault::NoRow(start));
                 }
                 put_header(headers, h, span, write);
                 section = Section::InHeader;
@@ -154,7 +209,7 @@ fn pass(s: &[u8], headers: &mut [u32], rows: &mut [u32], slots: usize, write: bo
             }
             Said::Records(span, start, next) => {
                 if room <= r {
-                    return Scanned::Refused(Fault::NoRow(start));
+                    return Passed::Stopped(Fault::NoRow(start));
                 }
                 put_record(rows, r, span, write);
                 section = Section::InData;
@@ -179,12 +234,11 @@ pub fn scan(file: &[u8], headers: &mut [u32], rows: &mut [u32], slots: usize) ->
     if !is_marked(file) {
         return Scanned::Refused(Fault::NoMarker);
     }
-    match pass(file, headers, rows, slots, false) {
-        Scanned::Refused(f) => Scanned::Refused(f),
-        Scanned::Rows {
-            headers: _,
-            records: _,
-            max: _,
-        } => pass(file, headers, rows, slots, true),
+    match pass(file, headers, rows, slots, false, false) {
+        Passed::Stopped(f) => Scanned::Refused(f),
+        Passed::Counted(_, _, _, tidy) => match pass(file, headers, rows, slots, true, tidy) {
+            Passed::Stopped(f) => Scanned::Refused(f),
+            Passed::Counted(h, r, max, _) => rows_found(h, r, max),
+        },
     }
 }

@@ -77,7 +77,7 @@ module _ (s : List ℕ) (p e : ℕ) (h : p ≤ e) (k : e < length s) where
       (omega arith, omega arith, omega arith)
 
 -- a record's text, as the bytes before its `;`
-before-at : (s : List ℕ) (p e : ℕ) → p ≤ e → e ≤ length s → before (drop p s) (drop e s) ≡ take (e - p) (drop p s)
+pub before-at : (s : List ℕ) (p e : ℕ) → p ≤ e → e ≤ length s → before (drop p s) (drop e s) ≡ take (e - p) (drop p s)
 before-at s p e h k =
     let n : length (drop p s) - length (drop e s) ≡ e - p = omega (arith, length-drop p s, length-drop e s) in
     ap (λ (m : ℕ). take m (drop p s)) n

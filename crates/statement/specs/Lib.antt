@@ -1,6 +1,9 @@
 pub mod Row
 pub mod Statement
+pub mod Tidy
 pub mod Laws
+pub mod TidyLaws
+pub mod TidyRight
 pub mod Usual
 pub mod UsualLaws
 pub mod UsualHead

@@ -14,6 +14,7 @@ use Rattle.record.specs.Head.{dataHead}
 use Rattle.record.specs.declared.Head.{Head}
 use Rattle.record.specs.declared.Head.the-variants.{Bad, Complex, Simple}
 use Rattle.statement.specs.Statement.{rowOf, begun, Stmt, record′}
+use Rattle.statement.specs.Tidy.{unended, tidy}
 use Rattle.statement.specs.declared.Section.{Section}
 use Rattle.statement.specs.declared.IdRead.{IdRead}
 use Rattle.statement.specs.declared.IdRead.the-variants.{NoId, IdIs}
@@ -47,7 +48,7 @@ spoken c = not (stops c)
 pub record Way (d e : ℕ) (xs ys : List ℕ) : Type 0 where
   pub ends : (n : ℕ) (w : List ℕ) → plainly semicolon n w 0 xs ≡ plainly semicolon n w 0 ys
   pub closes : (n : ℕ) (w : List ℕ) → plainly paren n w d xs ≡ plainly paren n w e ys
-  pub first : past (λ c. not (eqb c 59)) xs ≡ past (λ c. not (eqb c 59)) ys
+  pub first : past unended xs ≡ past unended ys
 
 -- what a step of the walk answers: it stops at the closing `)`, or at the length where something unusual is met; or goes on
 abbrev pub Stepped : List ℕ → ℕ → ℕ → Step → Type 0
@@ -69,18 +70,20 @@ Headed t (Bad why) = Unit {0}
 Headed t (Complex i o) = (o ≡ length t) × ((r : List ℕ) → Complex i o ≡ dataHead (t ++ (40 ∷ r)))
 Headed t (Simple i a z o) = (a ≤ length t) × (z ≤ length t) × (o ≡ length t) × ((r : List ℕ) → Simple i a z o ≡ dataHead (t ++ (40 ∷ r)))
 
--- a record from p on whose first `(` stands at o, the `)` that closes it at c and its `;` at e
+-- a record from p on whose first `(` stands at o, the `)` that closes it at c and its `;`, the first one at all, at e
 pub record Walked (s : List ℕ) (p o c e : ℕ) : Type 0 where
   pub hash : getD s p 0 ≡ 35
   pub opens : getD s o 0 ≡ 40
   pub closed : closing (drop o s) ≡ at (drop c s)
   pub found : recordEnd (drop p s) ≡ at (drop e s)
+  pub first : past unended (drop p s) ≡ drop e s
   pub from : p ≤ o
   pub over : o < c
   pub upto : c < e
   pub within : e < length s
 
--- a usual record is the statement that begins at p
+-- a usual record is the statement that begins at p, and it is told whether it is tidy
 abbrev pub UsualSaid : List ℕ → ℕ → Section → Usual → Type 0
 UsualSaid s p sec Unusual = Unit {0}
-UsualSaid s p sec (Whole span n) = (record′ (rowOf span) (drop p s) (drop n s) ≡ begun s sec (drop p s)) × (p < n) × (n ≤ length s)
+UsualSaid s p sec (Whole span n b) =
+    (record′ (rowOf span) (drop p s) (drop n s) ≡ begun s sec (drop p s)) × (p < n) × (n ≤ length s) × (b ≡ tidy s (record′ (rowOf span) (drop p s) (drop n s)))

@@ -8,7 +8,7 @@ use lib.ListN.{length, take, drop, getD, length-drop, length-take, length-append
 use lib.Seq.{drop-drop, take-append-add, take-append-seam}
 use lib.Dec.{eqb}
 use mathlib.Core.Bool.{Bool, true, false, not}
-use borrow.Author.Tests.{ne-eqb}
+use borrow.Author.Tests.{ne-eqb, eq-eqb}
 use Rattle.error.specs.Refusal.{Told, good, bad}
 use Rattle.lex.specs.Byte.{white, place, place-drop}
 use Rattle.lex.specs.Walk.{split, walk}
@@ -31,6 +31,8 @@ use Rattle.record.specs.declared.Word.the-variants.{Other}
 use Rattle.statement.specs.Row.{Row, row, mapped, argued, recordOf}
 use Rattle.statement.specs.Statement.{Stmt, record′, begun}
 use Rattle.statement.specs.Laws.{text-length, record-complex, record-simple, section-data, worded-at, begun-found}
+use Rattle.statement.specs.Tidy.{unended, tidy}
+use Rattle.statement.specs.TidyLaws.{end-stops}
 use Rattle.statement.specs.Usual.{plain, Way, Headed, Walked}
 use Rattle.statement.specs.UsualLaws.{plain-other, mark-open, way-on, run-at, open-at, close-at}
 use Rattle.statement.specs.declared.Section.the-variants.{InData}
@@ -56,6 +58,7 @@ walked s p o c e hash run po hos opn (oc, cls, way) hcs last ce hes fin =
           ∙ ap (λ (l : List ℕ). plainly paren 6 (drop o s) 0 l) dc ∙ seek-halts paren (missed 6 (drop o s)) Plain 0 (41 ∷ drop (c + 1) s) 41 (drop (c + 1) s) refl refl ∙ ap at (sym dc);
       found = w1 .ends 5 w ∙ w2 .ends 5 w ∙ way .ends 5 w ∙ w3 .ends 5 w ∙ w4 .ends 5 w
           ∙ ap (λ (l : List ℕ). plainly semicolon 5 w 0 l) de ∙ seek-halts semicolon (missed 5 w) Plain 0 (59 ∷ drop (e + 1) s) 59 (drop (e + 1) s) refl refl ∙ ap at (sym de);
+      first = w1 .first ∙ w2 .first ∙ way .first ∙ w3 .first ∙ w4 .first ∙ sym (end-stops s e hes fin);
       from = po;
       over = omega arith;
       upto = omega arith;
@@ -111,6 +114,11 @@ module _ (s : List ℕ) (p o c e : ℕ) (w : Walked s p o c e) where
   argued-is f = let a = w .upto in let b = w .within in
       sym (ap (λ (x : Sought). mapped f (placed s x)) (w .closed) ∙ ap (λ (k : ℕ). good (f k)) (place-drop s c (omega arith)))
 
+  -- it is tidy where its `)` stands just before its `;`, whatever else is in its row
+  pub tidy-walked : eqb (c + 1) e ≡ tidy s (record′ (row 0 0 0 0 c 0) (drop p s) (drop (e + 1) s))
+  tidy-walked = let d = w .within in
+      rw (w .first, place-drop s e (omega arith), place-drop s (e + 1) (omega arith), eq-eqb (e + 1) (e + 1) refl) refl
+
   -- a complex record
   pub complex-said : (i k : ℕ) → Headed (take (o - p) (drop p s)) (Complex i k) → record′ (row i 0 0 (o + 1) c 1) (drop p s) (drop (e + 1) s) ≡ begun s InData (drop p s)
   complex-said i k (z, h) =
@@ -137,7 +145,7 @@ module _ (s : List ℕ) (p o c e : ℕ) (w : Walked s p o c e) where
       (omega arith, omega arith)
 
 -- whitespace is trivia
-blanks : (f r : List ℕ) → All white f → Trivia (f ++ r) r
+pub blanks : (f r : List ℕ) → All white f → Trivia (f ++ r) r
 blanks [] r h = Trivia.none
 blanks (c ∷ f) r (h, t) = Trivia.blank h (blanks f r t)
 

@@ -3,14 +3,18 @@
 // As the middle of the Rust's scan.rs: the body of the loop of `scan`, and the records that it reads. A statement is read
 // from a place in a section; whether there is a row left for it is for the scan to say.
 ghost use mathlib.Core.Path.{_≡_};
+ghost use mathlib.Core.Bool.{true, false};
 ghost use Prim.Native.Nat.{_+_, _-_, _≤_, _<_};
+ghost use lib.Dec.{eqb};
 ghost use lib.ListN.{length, take, drop, getD};
 ghost use Rattle.lex.specs.Byte.{white};
 ghost use Rattle.lex.specs.Search.{at, trivia, placed, toldFound};
 ghost use Rattle.record.specs.Text.{past, trail, digit};
 ghost use Rattle.record.specs.Form.{Free};
+ghost use Rattle.record.specs.Head.{dataHead};
 ghost use Rattle.statement.specs.Row.{row, headerRow, argued, recordOf, headerOf};
 ghost use Rattle.statement.specs.Statement.{toldRecord, toldHeader, toldSaid, Ahead, inSection, ended, begun, statement};
+ghost use Rattle.statement.specs.Tidy.{unended, tidy, tidyBy, tidyRecord, toldTidied, TidyAhead};
 ghost use Rattle.statement.specs.Usual.{mark, plain, stops, spoken, Stepped, Closed, IdAt, Headed, Walked, UsualSaid};
 use error::Fault;
 use lex::Found;
@@ -64,10 +68,22 @@ pub enum Said {
     Records(RecordSpan, usize, usize),
 }
 
-// A data record that was read in one walk, with the place after it; or one that is not usual.
+// What a statement says, and whether its first `;` alone would have given that.
+pub struct Noted {
+    pub said: Said,
+    pub tidy: bool,
+}
+
+// A data record that was read by its first `;` alone, with its start and the place after it; or none.
+pub enum Tidied {
+    Untidy,
+    Tidy(RecordSpan, usize, usize),
+}
+
+// A data record that was read in one walk, with the place after it and whether it is tidy; or one that is not usual.
 enum Usual {
     Unusual,
-    Whole(RecordSpan, usize),
+    Whole(RecordSpan, usize, bool),
 }
 
 // An id and the place after its digits, or none that is usual.
@@ -450,7 +466,7 @@ fn usual_row(s: &[u8], head: Head, start: usize, opening: usize, close: usize, e
                 args,
                 complex,
             };
-            Usual::Whole(span, end + 1)
+            Usual::Whole(span, end + 1, close + 1 == end)
         }
         Head::Simple(id, a, z, _) => {
             let keyword = Range {
@@ -464,7 +480,7 @@ fn usual_row(s: &[u8], head: Head, start: usize, opening: usize, close: usize, e
                 args,
                 complex,
             };
-            Usual::Whole(span, end + 1)
+            Usual::Whole(span, end + 1, close + 1 == end)
         }
     }
 }
@@ -529,15 +545,103 @@ fn sought_at(s: &[u8], start: usize, section: Section) -> Said
     }
 }
 
+// Whether one of the sixteen bytes from i on is a `;`. A loop that only notes a hit is done on all of them at once.
+fn has_end(s: &[u8], i: usize) -> bool
+    requires { ⌜ i + 16 ≤ length (now s) ⌝ }
+    ensures { λ r. ⌜ (r ≡ false → past unended (drop (i + 16) (now (s .entry))) ≡ past unended (drop i (now (s .entry)))) ⌝ }
+{
+    let mut hit = false;
+    let mut k: usize = 0;
+    while k < 16 {
+        hit = hit | (s[i + k] == b';');
+        k += 1;
+    }
+    hit
+}
+
+// The first `;` from `from` on, or the length, byte by byte.
+fn near_end(s: &[u8], from: usize) -> usize
+    requires { ⌜ from ≤ length (now s) ⌝ }
+    ensures { λ r. ⌜ drop r (now (s .entry)) ≡ past unended (drop from (now (s .entry))) ⌝ }
+    ensures { λ r. ⌜ (from ≤ r) × (r ≤ length (now (s .entry))) ⌝ }
+{
+    let mut i = from;
+    while i < s.len() {
+        if s[i] == b';' {
+            return i;
+        }
+        i += 1;
+    }
+    i
+}
+
+// Whether sixteen bytes follow the place i, none of them a `;`.
+fn is_open(s: &[u8], i: usize) -> bool
+    requires { ⌜ i ≤ length (now s) ⌝ }
+    ensures { λ r. ⌜ (r ≡ true → (i + 16 ≤ length (now (s .entry))) × (past unended (drop (i + 16) (now (s .entry))) ≡ past unended (drop i (now (s .entry))))) ⌝ }
+{
+    if s.len() - i < 16 {
+        return false;
+    }
+    !has_end(s, i)
+}
+
+// The first `;` from `from` on, or the length.
+fn first_end(s: &[u8], from: usize) -> usize
+    requires { ⌜ from ≤ length (now s) ⌝ }
+    ensures { λ r. ⌜ drop r (now (s .entry)) ≡ past unended (drop from (now (s .entry))) ⌝ }
+    ensures { λ r. ⌜ (from ≤ r) × (r ≤ length (now (s .entry))) ⌝ }
+{
+    let mut i = from;
+    while is_open(s, i) {
+        i += 16;
+    }
+    near_end(s, i)
+}
+
+// Whether b is the place after a.
+fn just_before(a: usize, b: usize) -> bool
+    ensures { λ r. ⌜ r ≡ eqb (a + 1) b ⌝ }
+{
+    if b <= a {
+        return false;
+    }
+    b - a == 1
+}
+
+// What was said of a statement, and whether it is tidy.
+fn note(s: &[u8], said: Said, i: usize) -> Noted
+    requires { ⌜ Ahead i (length (now s)) said ⌝ }
+    ensures { λ r. ⌜ (r .said ≡ said) × (r .tidy ≡ tidy (now (s .entry)) (toldSaid (now (s .entry)) said)) ⌝ }
+{
+    match said {
+        Said::Ends => Noted { said, tidy: true },
+        Said::Refuses(_) => Noted { said, tidy: false },
+        Said::Moves(_, _) => Noted { said, tidy: true },
+        Said::Heads(_, _, _) => Noted { said, tidy: true },
+        Said::Records(span, start, next) => {
+            let end = first_end(s, start);
+            Noted {
+                said,
+                tidy: just_before(end, next) & just_before(span.args.end, end),
+            }
+        }
+    }
+}
+
 // What the statement says that begins at start, the first byte after trivia. Nearly every one is a usual record.
-fn statement_at(s: &[u8], start: usize, section: Section) -> Said
+fn statement_at(s: &[u8], start: usize, section: Section) -> Noted
     requires { ⌜ start < length (now s) ⌝ }
-    ensures { λ r. ⌜ toldSaid (now (s .entry)) r ≡ begun (now (s .entry)) section (drop start (now (s .entry))) ⌝ }
-    ensures { λ r. ⌜ Ahead start (length (now (s .entry))) r ⌝ }
+    ensures { λ r. ⌜ toldSaid (now (s .entry)) (r .said) ≡ begun (now (s .entry)) section (drop start (now (s .entry))) ⌝ }
+    ensures { λ r. ⌜ Ahead start (length (now (s .entry))) (r .said) ⌝ }
+    ensures { λ r. ⌜ r .tidy ≡ tidy (now (s .entry)) (begun (now (s .entry)) section (drop start (now (s .entry)))) ⌝ }
 {
     match usual_at(s, start, section) {
-        Usual::Unusual => sought_at(s, start, section),
-        Usual::Whole(span, next) => Said::Records(span, start, next),
+        Usual::Unusual => note(s, sought_at(s, start, section), start),
+        Usual::Whole(span, next, tidy) => Noted {
+            said: Said::Records(span, start, next),
+            tidy,
+        },
     }
 }
 
@@ -556,21 +660,100 @@ fn lead_past(s: &[u8], i: usize) -> Found
     Found::At(p)
 }
 
-// What the first statement says from the place i on, in this section; from the file's end on there is none.
-pub fn next_statement(s: &[u8], i: usize, section: Section) -> Said
-    ensures { λ r. ⌜ toldSaid (now (s .entry)) r ≡ statement (now (s .entry)) section (drop i (now (s .entry))) ⌝ }
-    ensures { λ r. ⌜ Ahead i (length (now (s .entry))) r ⌝ }
+// What the first statement says from the place i on, in this section; from the file's end on there is none. And whether it is tidy.
+pub fn noted_statement(s: &[u8], i: usize, section: Section) -> Noted
+    ensures { λ r. ⌜ toldSaid (now (s .entry)) (r .said) ≡ statement (now (s .entry)) section (drop i (now (s .entry))) ⌝ }
+    ensures { λ r. ⌜ Ahead i (length (now (s .entry))) (r .said) ⌝ }
+    ensures { λ r. ⌜ r .tidy ≡ tidy (now (s .entry)) (statement (now (s .entry)) section (drop i (now (s .entry)))) ⌝ }
 {
     if s.len() <= i {
-        return Said::Ends;
+        return Noted {
+            said: Said::Ends,
+            tidy: true,
+        };
     }
     match lead_past(s, i) {
-        Found::Refused(f) => Said::Refuses(f),
+        Found::Refused(f) => Noted {
+            said: Said::Refuses(f),
+            tidy: false,
+        },
         Found::At(start) => {
             if s.len() <= start {
-                return Said::Ends;
+                return Noted {
+                    said: Said::Ends,
+                    tidy: true,
+                };
             }
             statement_at(s, start, section)
         }
     }
+}
+
+// The same without the note.
+pub fn next_statement(s: &[u8], i: usize, section: Section) -> Said
+    ensures { λ r. ⌜ toldSaid (now (s .entry)) r ≡ statement (now (s .entry)) section (drop i (now (s .entry))) ⌝ }
+    ensures { λ r. ⌜ Ahead i (length (now (s .entry))) r ⌝ }
+{
+    noted_statement(s, i, section).said
+}
+
+// The record from start on whose `;` stands at end, by its head, with its `)` just before the `;`.
+fn tidy_at(s: &[u8], start: usize, end: usize) -> Tidied
+    requires { ⌜ (start ≤ end) × (end < length (now s)) ⌝ }
+    ensures { λ r. ⌜ toldTidied (now (s .entry)) r ≡ tidyBy (now (s .entry)) (drop start (now (s .entry))) (drop end (now (s .entry))) (dataHead (take (end - start) (drop start (now (s .entry))))) ⌝ }
+    ensures { λ r. ⌜ TidyAhead start (length (now (s .entry))) r ⌝ }
+{
+    match record::data_head(&s[start..end]) {
+        Head::Bad(_) => Tidied::Untidy,
+        Head::Complex(id, o) => {
+            let keyword = Range { start: 0, end: 0 };
+            let args = Range {
+                start: start + o + 1,
+                end: end - 1,
+            };
+            let complex = 1;
+            let span = RecordSpan {
+                id,
+                keyword,
+                args,
+                complex,
+            };
+            Tidied::Tidy(span, start, end + 1)
+        }
+        Head::Simple(id, key, blank, o) => {
+            let keyword = Range {
+                start: start + key,
+                end: start + blank,
+            };
+            let args = Range {
+                start: start + o + 1,
+                end: end - 1,
+            };
+            let complex = 0;
+            let span = RecordSpan {
+                id,
+                keyword,
+                args,
+                complex,
+            };
+            Tidied::Tidy(span, start, end + 1)
+        }
+    }
+}
+
+// The data record from the place i on, after whitespace, as its first `;` gives it: what the statement says where that is tidy. A caller who
+// knows that reads it with nothing tested again.
+pub fn tidy_record(s: &[u8], i: usize) -> Tidied
+    ensures { λ r. ⌜ toldTidied (now (s .entry)) r ≡ tidyRecord (now (s .entry)) (drop i (now (s .entry))) ⌝ }
+    ensures { λ r. ⌜ TidyAhead i (length (now (s .entry))) r ⌝ }
+{
+    if s.len() <= i {
+        return Tidied::Untidy;
+    }
+    let start = i + record::leading_space(&s[i..]);
+    let end = first_end(s, start);
+    if s.len() <= end {
+        return Tidied::Untidy;
+    }
+    tidy_at(s, start, end)
 }

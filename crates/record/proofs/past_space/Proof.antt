@@ -1,4 +1,4 @@
-use Rattle.record.specs.Turns.{past-stops, past-goes}
+use Rattle.record.specs.Turns.{past-stops, past-goes, above-white}
 use Rattle.record.specs.Text.{past, pastTurn}
 use Rattle.lex.specs.Byte.{white}
 use Rattle.lex.specs.Walk.{walk, walk-ends, drop-end}
@@ -28,21 +28,27 @@ loop-holds : tie.Need-loop-holds Inv-loop μ-loop
 unfolding past
 loop-holds c = ((omega arith, omega arith), refl)
 
--- src/lib.rt:40:27
-shared-slice-read-is-space : tie.Need-shared-slice-read-is-space Inv-loop μ-loop
-shared-slice-read-is-space c = search needs
+-- src/lib.rt:40:17
+shared-slice-read-c : tie.Need-shared-slice-read-c Inv-loop μ-loop
+shared-slice-read-c c = search needs
 
--- src/lib.rt:40:13
+-- src/lib.rt:42:13
+returns : tie.Need-returns Inv-loop μ-loop
+returns c = let t = c .before .before .before in
+    let b = now (t .before .before .args .b) in
+    (past-stops b (t .loop .i) (omega arith) white _ (above-white b (t .loop .i) (omega arith) (c .if1 .taken)) (t .loop .inv .1), (omega arith, omega arith))
+
+-- src/lib.rt:44:13
 is-space-requires : tie.Need-is-space-requires Inv-loop μ-loop
 is-space-requires c κs = search needs
 
--- src/lib.rt:41:13
-returns : tie.Need-returns Inv-loop μ-loop
-returns c = let t = c .before .before .before .before in
+-- src/lib.rt:45:13
+returns-2 : tie.Need-returns-2 Inv-loop μ-loop
+returns-2 c = let t = c .before .before .before .before .before in
     let b = now (t .before .before .args .b) in
-    (past-stops b (t .loop .i) (omega arith) white _ (sym (c .before .is-space .ensures) ∙ not-true _ (c .if1 .taken)) (t .loop .inv .1), (omega arith, omega arith))
+    (past-stops b (t .loop .i) (omega arith) white _ (sym (c .before .is-space .ensures) ∙ not-true _ (c .if2 .taken)) (t .loop .inv .1), (omega arith, omega arith))
 
--- src/lib.rt:43:9
+-- src/lib.rt:47:9
 add-i : tie.Need-add-i Inv-loop μ-loop
 add-i c = search needs
 
@@ -52,13 +58,13 @@ loop-less c = search needs
 
 -- src/lib.rt:39:5
 loop-again : tie.Need-loop-again Inv-loop μ-loop
-loop-again c = let t = c .before .before .before .before in
+loop-again c = let t = c .before .before .before .before .before in
     let b = now (t .before .before .args .b) in
-    ((omega arith, omega arith), past-goes b (t .loop .i) (omega arith) white _ (sym (c .before .is-space .ensures) ∙ not-false _ (c .if1 .left)) (t .loop .inv .1))
+    ((omega arith, omega arith), past-goes b (t .loop .i) (omega arith) white _ (sym (c .before .is-space .ensures) ∙ not-false _ (c .if2 .left)) (t .loop .inv .1))
 
--- src/lib.rt:33:1
-returns-2 : tie.Need-returns-2 Inv-loop μ-loop
-returns-2 c = let t = c .before in
+-- src/lib.rt:32:1
+returns-3 : tie.Need-returns-3 Inv-loop μ-loop
+returns-3 c = let t = c .before in
     let b = now (t .before .before .args .b) in
     (drop-end b (t .loop .i) (omega arith) ∙ sym (walk-ends (pastTurn white) (λ u. []) tt b (t .loop .i) (omega arith)) ∙ t .loop .inv .1, (omega arith, omega arith))
 
@@ -69,10 +75,11 @@ past-space-spec =
     Inv-loop
     μ-loop
     loop-holds
-    shared-slice-read-is-space
-    is-space-requires
+    shared-slice-read-c
     returns
+    is-space-requires
+    returns-2
     add-i
     loop-less
     loop-again
-    returns-2)
+    returns-3)

@@ -1,5 +1,6 @@
 use Rattle.scan.specs.Scan.{scan-long, scan-unmarked, scan-refused, scan-done}
-use Rattle.scan.specs.Table.{toldScan}
+use Rattle.scan.specs.Neat.{toldPassed}
+use Rattle.lex.specs.Right.Steps.{clash}
 use denote.Ref.{now}
 use borrow.Author.Tests.{not-true, not-false}
 use native.Mathlib.Omega.{arith}
@@ -11,70 +12,104 @@ use Rattle.scan.proofs.scan.Reads as reads
 use Rattle.scan.proofs.scan.Lts as lts
 use Rattle.scan.proofs.is_marked.Reads as is-marked-reads
 use Rattle.scan.proofs.pass.Reads as pass-reads
+use Rattle.scan.proofs.rows_found.Reads as rows-found-reads
 
--- src/lib.rt:173:9
+-- src/lib.rt:225:9
 returns : tie.Need-returns
 returns c = let a = c .before .before .before .before .args in
     scan-long (now (a .file)) _ _ (now (a .headers)) (now (a .rows)) (c .if1 .taken)
 
--- src/lib.rt:175:9
+-- src/lib.rt:227:9
 is-marked-requires : tie.Need-is-marked-requires
 is-marked-requires c κs = search needs
 
--- src/lib.rt:176:9
+-- src/lib.rt:228:9
 returns-2 : tie.Need-returns-2
 returns-2 c = let a = c .before .before .before .before .before .before .args in
     scan-unmarked (now (a .file)) _ _ (now (a .headers)) (now (a .rows)) (omega arith) (sym (c .before .is-marked .ensures) ∙ not-true _ (c .if2 .taken))
 
--- src/lib.rt:178:11
+-- src/lib.rt:230:11
 pass-requires : tie.Need-pass-requires
-pass-requires c κs = search needs
+pass-requires c κs = (omega arith, λ z. clash (cc))
 
--- src/lib.rt:179:26
+-- src/lib.rt:231:25
 enum-known-f : tie.Need-enum-known-f
 enum-known-f c = search needs
 
--- src/lib.rt:184:25
-enum-told : tie.Need-enum-told
-enum-told c = search needs
+-- src/lib.rt:232:34
+enum-known-tidy : tie.Need-enum-known-tidy
+enum-known-tidy c = search needs
 
--- src/lib.rt:184:14
+-- src/lib.rt:232:49
 pass-requires-2 : tie.Need-pass-requires-2
-pass-requires-2 c κs = search needs
+pass-requires-2 c κs = (omega arith, rw (c .before .before .before .tidy .given .1) at (c .before .before .before .before .before .before .before .before .before .pass .ensures .1 .1 .1))
 
--- src/lib.rt:167:1
+-- src/lib.rt:233:29
+enum-known-f-2 : tie.Need-enum-known-f-2
+enum-known-f-2 c = search needs
+
+-- src/lib.rt:234:29
+enum-known-h : tie.Need-enum-known-h
+enum-known-h c = search needs
+
+-- src/lib.rt:234:46
+rows-found-requires : tie.Need-rows-found-requires
+rows-found-requires c κs = search needs
+
+-- src/lib.rt:219:1
 same-length : tie.Need-same-length
 same-length c = search needs
 
--- src/lib.rt:167:1
+-- src/lib.rt:219:1
 same-length-2 : tie.Need-same-length-2
 same-length-2 c = search needs
 
--- src/lib.rt:167:1
+-- src/lib.rt:219:1
 returns-3 : tie.Need-returns-3
 returns-3 c = let p = c .before .before .before .before .before .before .before in
-    let m = p .before .before .before in
-    let a = m .before .before .before .before .before .before .args in
+    let m = c .before .before .before .before .before .before .before .before .before .before in
+    let a = c .before .before .before .before .before .before .before .before .before .before .before .before .before .before .before .before .args in
     scan-refused (now (a .file)) _ _ (now (a .headers)) (now (a .rows)) (omega arith) (sym (m .before .is-marked .ensures) ∙ not-false _ (m .if2 .left)) _ _ _
-    (sym (ap toldScan (c .before .f .given .1)) ∙ p .pass .ensures .0, p .pass .ensures .1)
+    (sym (ap toldPassed (c .before .f .given .1)) ∙ p .pass .ensures .0, (p .pass .ensures .1 .0, p .pass .ensures .1 .1 .0))
 
--- src/lib.rt:167:1
+-- src/lib.rt:219:1
 same-length-3 : tie.Need-same-length-3
 same-length-3 c = search needs
 
--- src/lib.rt:167:1
+-- src/lib.rt:219:1
 same-length-4 : tie.Need-same-length-4
 same-length-4 c = search needs
 
--- src/lib.rt:167:1
+-- src/lib.rt:219:1
 returns-4 : tie.Need-returns-4
-returns-4 c = let q = c .before .before .before .before in
-    let t = q .before .before .before in
-    let p = t .before .before .before .before .before .before in
-    let m = p .before .before .before in
-    let a = m .before .before .before .before .before .before .args in
+returns-4 c = let q = c .before .before .before .before .before .before .before in
+    let t = c .before .before .before .before .before .before .before .before .before .before .before in
+    let p = c .before .before .before .before .before .before .before .before .before .before .before .before .before .before .before .before .before in
+    let m = c .before .before .before .before .before .before .before .before .before .before .before .before .before .before .before .before .before .before .before .before in
+    let a = c .before .before .before .before .before .before .before .before .before .before .before .before .before .before .before .before .before .before .before .before .before .before .before .before .before .before .args in
+    let z = rw (p .pass .ensures .1 .0, p .pass .ensures .1 .1 .0) at (q .pass2 .ensures) in
     scan-done (now (a .file)) _ _ (now (a .headers)) (now (a .rows)) (omega arith) (sym (m .before .is-marked .ensures) ∙ not-false _ (m .if2 .left)) _ _ _ _
-    (sym (ap toldScan (t .enum-told .given .1)) ∙ p .pass .ensures .0) (rw (p .pass .ensures .1 .0, p .pass .ensures .1 .1) at (q .pass2 .ensures))
+    (sym (ap toldPassed (t .tidy .given .1)) ∙ p .pass .ensures .0) (sym (ap toldPassed (c .before .f2 .given .1)) ∙ z .0, (z .1 .0, z .1 .1 .0))
+
+-- src/lib.rt:219:1
+same-length-5 : tie.Need-same-length-5
+same-length-5 c = search needs
+
+-- src/lib.rt:219:1
+same-length-6 : tie.Need-same-length-6
+same-length-6 c = search needs
+
+-- src/lib.rt:219:1
+returns-5 : tie.Need-returns-5
+returns-5 c = let q = c .before .before .before .before .before .before .before .before in
+    let t = c .before .before .before .before .before .before .before .before .before .before .before .before in
+    let p = c .before .before .before .before .before .before .before .before .before .before .before .before .before .before .before .before .before .before in
+    let m = c .before .before .before .before .before .before .before .before .before .before .before .before .before .before .before .before .before .before .before .before .before in
+    let a = c .before .before .before .before .before .before .before .before .before .before .before .before .before .before .before .before .before .before .before .before .before .before .before .before .before .before .before .args in
+    let z = rw (p .pass .ensures .1 .0, p .pass .ensures .1 .1 .0) at (q .pass2 .ensures) in
+    rw (c .rows-found .ensures)
+    (scan-done (now (a .file)) _ _ (now (a .headers)) (now (a .rows)) (omega arith) (sym (m .before .is-marked .ensures) ∙ not-false _ (m .if2 .left)) _ _ _ _
+    (sym (ap toldPassed (t .tidy .given .1)) ∙ p .pass .ensures .0) (sym (ap toldPassed (c .before .before .h .given .1)) ∙ z .0, (z .1 .0, z .1 .1 .0)))
 
 pub scan-spec : {M : Type 1} → statement M
 scan-spec =
@@ -85,11 +120,17 @@ scan-spec =
     returns-2
     pass-requires
     enum-known-f
-    enum-told
+    enum-known-tidy
     pass-requires-2
+    enum-known-f-2
+    enum-known-h
+    rows-found-requires
     same-length
     same-length-2
     returns-3
     same-length-3
     same-length-4
-    returns-4)
+    returns-4
+    same-length-5
+    same-length-6
+    returns-5)

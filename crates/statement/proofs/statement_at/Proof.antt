@@ -1,8 +1,14 @@
+use Rattle.statement.specs.Statement.{toldSaid, Ahead}
+use Rattle.statement.specs.Tidy.{tidy}
+use lib.ListN.{length}
+use denote.Ref.{now}
+use mathlib.Core.Path.{_≡_, sym, _∙_, ap}
 use borrow.Author.Needs.{needs}
 use Rattle.statement.proofs.statement_at.Statement.{statement}
 use Rattle.statement.proofs.statement_at.Tie as tie
 use Rattle.statement.proofs.statement_at.Reads as reads
 use Rattle.statement.proofs.statement_at.Lts as lts
+use Rattle.statement.proofs.note.Reads as note-reads
 use Rattle.statement.proofs.sought_at.Reads as sought-at-reads
 use Rattle.statement.proofs.usual_at.Reads as usual-at-reads
 
@@ -22,16 +28,24 @@ sought-at-requires c κs = search needs
 enum-known-span : tie.Need-enum-known-span
 enum-known-span c = search needs
 
--- src/lib.rt:493:1
+-- what was sought, and the note of it
 returns : tie.Need-returns
-returns c = search needs
+returns c = let a = c .before .before .before .before .before .before .args in
+    let n = c .note .ensures in
+    let k = c .before .sought-at in
+    (rw (n .0) (k .ensures .0), (rw (n .0) (k .ensures .1), n .1 ∙ ap (tidy (now (a .s))) (k .ensures .0)))
 
--- src/lib.rt:493:1
+-- a usual record
 returns-2 : tie.Need-returns-2
-returns-2 c = let e = rw (c .before .span .given .1) at (c .before .before .before .usual-at .ensures) in
-    (e .0, (e .1, e .1, e .2))
+returns-2 c = let a = c .before .before .before .before .before .args in
+    let e = rw (c .before .span .given .1) at (c .before .before .before .usual-at .ensures) in
+    (e .0, ((e .1, e .1, e .2), e .3 ∙ ap (tidy (now (a .s))) (e .0)))
+
+-- src/lib.rt
+note-requires : tie.Need-note-requires
+note-requires c κs = search needs
 
 pub statement-at-spec : {M : Type 1} → statement M
 statement-at-spec =
     tie.close
-    (tie.spec usual-at-requires enum-told sought-at-requires enum-known-span returns returns-2)
+    (tie.spec usual-at-requires enum-told sought-at-requires note-requires enum-known-span returns returns-2)

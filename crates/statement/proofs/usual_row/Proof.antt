@@ -1,4 +1,4 @@
-use Rattle.statement.specs.UsualRight.{complex-said, simple-said, head-fits}
+use Rattle.statement.specs.UsualRight.{complex-said, simple-said, head-fits, tidy-walked}
 use denote.Ref.{now}
 use native.Mathlib.Omega.{arith}
 use borrow.Author.Needs.{needs}
@@ -7,63 +7,79 @@ use Rattle.statement.proofs.usual_row.Tie as tie
 use Rattle.statement.proofs.usual_row.Reads as reads
 use Rattle.statement.proofs.usual_row.Lts as lts
 
--- src/lib.rt:416:16
+-- src/lib.rt:455:16
 add-t18 : tie.Need-add-t18
 add-t18 c = search needs
 
--- src/lib.rt:420:25
+-- src/lib.rt:459:25
 enum-told : tie.Need-enum-told
 enum-told c = search needs
 
--- src/lib.rt:421:23
+-- src/lib.rt:460:23
 enum-known-head : tie.Need-enum-known-head
 enum-known-head c = search needs
 
--- src/lib.rt:425:32
+-- src/lib.rt:469:32
 add-t20 : tie.Need-add-t20
 add-t20 c = search needs
 
--- src/lib.rt:427:22
+-- src/lib.rt:469:41
+add-t21 : tie.Need-add-t21
+add-t21 c = search needs
+
+-- src/lib.rt:471:22
 enum-known-head-2 : tie.Need-enum-known-head-2
 enum-known-head-2 c = search needs
 
--- src/lib.rt:429:24
-add-t21 : tie.Need-add-t21
-add-t21 c = let b = c .before .before .before in
+-- src/lib.rt:473:24
+add-t23 : tie.Need-add-t23
+add-t23 c = let b = c .before .before .before in
     let a = b .args in
     let w = b .pre .0 in
     let f = head-fits (now (a .s)) (a .start) (a .opening) (a .close) (a .end) w _ _ _ _ (rw (c .before .head2 .given .1) at (b .pre .1)) in
     record { fits = omega (arith, f .0, f .1, w .over, w .upto, w .within) }
 
--- src/lib.rt:430:22
-add-t22 : tie.Need-add-t22
-add-t22 c = let b = c .before .before .before in
+-- src/lib.rt:474:22
+add-t24 : tie.Need-add-t24
+add-t24 c = let b = c .before .before .before in
     let a = b .args in
     let w = b .pre .0 in
     let f = head-fits (now (a .s)) (a .start) (a .opening) (a .close) (a .end) w _ _ _ _ (rw (c .before .head2 .given .1) at (b .pre .1)) in
     record { fits = omega (arith, f .0, f .1, w .over, w .upto, w .within) }
 
--- src/lib.rt:434:32
-add-t21-2 : tie.Need-add-t21-2
-add-t21-2 c = search needs
+-- src/lib.rt:483:32
+add-t23-2 : tie.Need-add-t23-2
+add-t23-2 c = search needs
 
--- src/lib.rt:411:1
+-- src/lib.rt:483:41
+add-t24-2 : tie.Need-add-t24-2
+add-t24-2 c = search needs
+
+-- src/lib.rt:450:1
 returns : tie.Need-returns
 returns c = search needs
 
--- src/lib.rt:411:1
+-- src/lib.rt:450:1
 returns-2 : tie.Need-returns-2
 returns-2 c = let b = c .before .before .before in
     let a = b .args in
-    let w = b .pre .0 in
-    (complex-said (now (a .s)) (a .start) (a .opening) (a .close) (a .end) w _ _ (rw (c .before .head .given .1) at (b .pre .1)), omega (arith, w .from, w .over, w .upto, w .within), omega (arith, w .within))
+    let w = b .pre .0 in (
+      complex-said (now (a .s)) (a .start) (a .opening) (a .close) (a .end) w _ _ (rw (c .before .head .given .1) at (b .pre .1)),
+      omega (arith, w .from, w .over, w .upto, w .within),
+      omega (arith, w .within),
+      tidy-walked (now (a .s)) (a .start) (a .opening) (a .close) (a .end) w,
+    )
 
--- src/lib.rt:411:1
+-- src/lib.rt:450:1
 returns-3 : tie.Need-returns-3
 returns-3 c = let b = c .before .before .before in
     let a = b .args in
-    let w = b .pre .0 in
-    (simple-said (now (a .s)) (a .start) (a .opening) (a .close) (a .end) w _ _ _ _ (rw (c .before .head2 .given .1) at (b .pre .1)), omega (arith, w .from, w .over, w .upto, w .within), omega (arith, w .within))
+    let w = b .pre .0 in (
+      simple-said (now (a .s)) (a .start) (a .opening) (a .close) (a .end) w _ _ _ _ (rw (c .before .head2 .given .1) at (b .pre .1)),
+      omega (arith, w .from, w .over, w .upto, w .within),
+      omega (arith, w .within),
+      tidy-walked (now (a .s)) (a .start) (a .opening) (a .close) (a .end) w,
+    )
 
 pub usual-row-spec : {M : Type 1} → statement M
 usual-row-spec =
@@ -73,10 +89,12 @@ usual-row-spec =
     enum-told
     enum-known-head
     add-t20
-    enum-known-head-2
     add-t21
-    add-t22
-    add-t21-2
+    enum-known-head-2
+    add-t23
+    add-t24
+    add-t23-2
+    add-t24-2
     returns
     returns-2
     returns-3)

@@ -1,4 +1,5 @@
 use Rattle.statement.specs.Laws.{statement-none, statement-found, statement-over, statement-refused, ahead-from}
+use Rattle.statement.specs.Tidy.{tidy}
 use Rattle.lex.specs.At.{trivia-at}
 use Rattle.lex.specs.Search.{toldFound}
 use denote.Ref.{now}
@@ -6,17 +7,17 @@ use lib.ListN.{length}
 use native.Mathlib.Omega.{arith}
 use mathlib.Core.Path.{_≡_, sym, _∙_, ap}
 use borrow.Author.Needs.{needs}
-use Rattle.statement.proofs.next_statement.Statement.{statement}
-use Rattle.statement.proofs.next_statement.Tie as tie
-use Rattle.statement.proofs.next_statement.Reads as reads
-use Rattle.statement.proofs.next_statement.Lts as lts
+use Rattle.statement.proofs.noted_statement.Statement.{statement}
+use Rattle.statement.proofs.noted_statement.Tie as tie
+use Rattle.statement.proofs.noted_statement.Reads as reads
+use Rattle.statement.proofs.noted_statement.Lts as lts
 use Rattle.statement.proofs.lead_past.Reads as lead-past-reads
 use Rattle.statement.proofs.statement_at.Reads as statement-at-reads
 
 -- src/lib.rt:192:9
 returns : tie.Need-returns
 returns c = let a = c .before .before .args in
-    (statement-none (now (a .s)) (a .i) (a .section) (c .if1 .taken), tt)
+    let e = statement-none (now (a .s)) (a .i) (a .section) (c .if1 .taken) in (e, (tt, ap (tidy (now (a .s))) e))
 
 -- src/lib.rt:194:11
 lead-past-requires : tie.Need-lead-past-requires
@@ -34,7 +35,7 @@ enum-known-start c = search needs
 returns-2 : tie.Need-returns-2
 returns-2 c = let t = c .before .before .before .before in
     let a = t .before .before .before .args in
-    (statement-over (now (a .s)) (a .i) (a .section) _ (omega arith) (sym (ap toldFound (c .before .before .start .given .1)) ∙ t .lead-past .ensures) (c .if2 .taken), tt)
+    let e = statement-over (now (a .s)) (a .i) (a .section) _ (omega arith) (sym (ap toldFound (c .before .before .start .given .1)) ∙ t .lead-past .ensures) (c .if2 .taken) in (e, (tt, ap (tidy (now (a .s))) e))
 
 -- src/lib.rt:200:13
 statement-at-requires : tie.Need-statement-at-requires
@@ -44,19 +45,23 @@ statement-at-requires c κs = search needs
 returns-3 : tie.Need-returns-3
 returns-3 c = let t = c .before .before .before in
     let a = t .before .before .before .args in
-    (statement-refused (now (a .s)) (a .i) (a .section) _ (sym (ap toldFound (c .before .f .given .1)) ∙ t .lead-past .ensures), tt)
+    let e = statement-refused (now (a .s)) (a .i) (a .section) _ (sym (ap toldFound (c .before .f .given .1)) ∙ t .lead-past .ensures) in (e, (tt, ap (tidy (now (a .s))) e))
 
 -- src/lib.rt:187:1
 returns-4 : tie.Need-returns-4
 returns-4 c = let t = c .before .before .before .before .before in
     let a = t .before .before .before .args in
-    let e = sym (ap toldFound (c .before .before .before .start .given .1)) ∙ t .lead-past .ensures in (
-      c .statement-at .ensures .0 ∙ statement-found (now (a .s)) (a .i) (a .section) _ (omega arith) e,
-      ahead-from (a .i) _ (length (now (a .s))) (c .statement-at .result) (trivia-at (now (a .s)) (a .i) _ (omega arith) e .1) (c .statement-at .ensures .1),
+    let e = sym (ap toldFound (c .before .before .before .start .given .1)) ∙ t .lead-past .ensures in
+    let g = statement-found (now (a .s)) (a .i) (a .section) _ (omega arith) e in (
+      c .statement-at .ensures .0 ∙ g,
+      (
+        ahead-from (a .i) _ (length (now (a .s))) (c .statement-at .result .said) (trivia-at (now (a .s)) (a .i) _ (omega arith) e .1) (c .statement-at .ensures .1 .0),
+        c .statement-at .ensures .1 .1 ∙ ap (tidy (now (a .s))) g,
+      ),
     )
 
-pub next-statement-spec : {M : Type 1} → statement M
-next-statement-spec =
+pub noted-statement-spec : {M : Type 1} → statement M
+noted-statement-spec =
     tie.close
     (tie.spec
     returns

@@ -1,0 +1,123 @@
+-- A file whose data records are all tidy (statement/specs/Tidy): the deciding pass finds out whether it is one, and the writing pass then
+-- reads each record by its first `;`. No contract of a public function cites these. Assumes nothing.
+use Prim.Native.Nat.{ℕ, _+_, _≤_, _<_}
+use mathlib.Core.Path.{_≡_, refl, sym, _∙_, ap}
+use mathlib.Core.Bool.{Bool, true, false, _&&_}
+use mathlib.Core.List.{List, [], _∷_}
+use native.Mathlib.Omega.{arith}
+use lib.ListN.{drop}
+use Rattle.error.specs.Refusal.{Told, good, bad, told}
+use Rattle.lex.specs.Right.Steps.{clash}
+use Rattle.statement.specs.Row.{Row, HeaderRow}
+use Rattle.statement.specs.Statement.{Stmt, ends, refused, moved, header, record′, rowOf, statement}
+use Rattle.statement.specs.Tidy.{tidy, tidyRecord, toldTidied}
+use Rattle.statement.specs.TidyRight.{tidy-said}
+use Rattle.statement.specs.declared.Section.{Section}
+use Rattle.statement.specs.declared.Section.the-variants.{Outside, InHeader, InData}
+use Rattle.statement.specs.declared.Tidied.{Tidied}
+use Rattle.statement.specs.declared.Tidied.the-variants.{Untidy, Tidy}
+use Rattle.scan.specs.Table.{Counts, counts}
+use Rattle.scan.specs.declared.Passed.{Passed}
+use Rattle.scan.specs.declared.Passed.the-variants.{Counted, Stopped}
+
+-- from the rest xs on, in a section, nothing is refused and each data record is tidy, up to where the reading ends
+pub data Neat (s : List ℕ) : Section → List ℕ → Type 0 where
+  over : {sec : Section} {xs : List ℕ} → ends ≡ statement s sec xs → Neat s sec xs
+  on : {sec : Section} {xs : List ℕ} (to : Section) (t : List ℕ) → moved to t ≡ statement s sec xs → Neat s to t → Neat s sec xs
+  head : {sec : Section} {xs : List ℕ} (w : HeaderRow) (ys t : List ℕ) → header w ys t ≡ statement s sec xs → Neat s InHeader t → Neat s sec xs
+  row : {sec : Section} {xs : List ℕ} (w : Row) (ys t : List ℕ) → record′ w ys t ≡ statement s sec xs → tidy s (record′ w ys t) ≡ true → Neat s InData t
+      → Neat s sec xs
+
+-- what a pass tells
+abbrev pub toldPassed : Passed → Told Counts
+toldPassed (Counted h r m b) = good (counts h r m)
+toldPassed (Stopped f) = bad (told f)
+
+-- and of what kind the file is
+abbrev pub NeatTold : List ℕ → Passed → Type 0
+NeatTold s (Counted h r m b) = b ≡ true → Neat s Outside s
+NeatTold s (Stopped f) = Unit {0}
+
+-- a record that was read by its first `;` is what the statement says, and tidy
+abbrev pub QuickSaid : List ℕ → ℕ → Section → Tidied → Type 0
+QuickSaid s i sec Untidy = Unit {0}
+QuickSaid s i sec (Tidy r p n) = (record′ (rowOf r) (drop p s) (drop n s) ≡ statement s sec (drop i s)) × (tidy s (statement s sec (drop i s)) ≡ true)
+
+-- such a record by what `tidy_record` answers
+pub quick-said : (s : List ℕ) (i : ℕ) (r : Tidied) → toldTidied s r ≡ tidyRecord s (drop i s) → tidy s (statement s InData (drop i s)) ≡ true → QuickSaid s i InData r
+quick-said s i Untidy q h = tt
+quick-said s i (Tidy r p n) q h = (tidy-said s i (rowOf r) (drop p s) (drop n s) q h, h)
+
+-- the pass at the place i: where all was tidy so far, the whole file is neat if what is left is; and what is left is, where that was known
+pub record Tidying (s : List ℕ) (known all : Bool) (i : ℕ) (sec : Section) : Type 0 where
+  pub back : all ≡ true → Neat s sec (drop i s) → Neat s Outside s
+  pub ahead : known ≡ true → Neat s sec (drop i s)
+
+-- two tests that both hold
+both : (a b : Bool) → a && b ≡ true → (a ≡ true) × (b ≡ true)
+both true b e = (refl, e)
+both false b e = clash (cc)
+
+module _ (s : List ℕ) (sec : Section) (xs : List ℕ) where
+  -- each statement of a neat file is tidy
+  neat-tidy : Neat s sec xs → tidy s (statement s sec xs) ≡ true
+  neat-tidy (Neat.over q) = ap (tidy s) (sym q)
+  neat-tidy (Neat.on to t q n) = ap (tidy s) (sym q)
+  neat-tidy (Neat.head w ys t q n) = ap (tidy s) (sym q)
+  neat-tidy (Neat.row w ys t q h n) = ap (tidy s) (sym q) ∙ h
+
+  -- what follows a section word
+  neat-on : (to : Section) (t : List ℕ) → moved to t ≡ statement s sec xs → Neat s sec xs → Neat s to t
+  neat-on to t e (Neat.over q) = clash (cc)
+  neat-on to t e (Neat.on to' t' q n) = let a : to' ≡ to = cc in let b : t' ≡ t = cc in rw (← a, ← b) n
+  neat-on to t e (Neat.head w ys t' q n) = clash (cc)
+  neat-on to t e (Neat.row w ys t' q h n) = clash (cc)
+
+  -- what follows a header record
+  neat-head : (w : HeaderRow) (ys t : List ℕ) → header w ys t ≡ statement s sec xs → Neat s sec xs → Neat s InHeader t
+  neat-head w ys t e (Neat.over q) = clash (cc)
+  neat-head w ys t e (Neat.on to' t' q n) = clash (cc)
+  neat-head w ys t e (Neat.head w' ys' t' q n) = let b : t' ≡ t = cc in rw (← b) n
+  neat-head w ys t e (Neat.row w' ys' t' q h n) = clash (cc)
+
+  -- what follows a data record
+  neat-row : (w : Row) (ys t : List ℕ) → record′ w ys t ≡ statement s sec xs → Neat s sec xs → Neat s InData t
+  neat-row w ys t e (Neat.over q) = clash (cc)
+  neat-row w ys t e (Neat.on to' t' q n) = clash (cc)
+  neat-row w ys t e (Neat.head w' ys' t' q n) = clash (cc)
+  neat-row w ys t e (Neat.row w' ys' t' q h n) = let b : t' ≡ t = cc in rw (← b) n
+
+-- where the loop begins
+pub tidying-starts : (s : List ℕ) (known : Bool) → (known ≡ true → Neat s Outside s) → Tidying s known true 0 Outside
+tidying-starts s known h = record { back = λ z n. n; ahead = h }
+
+module _ (s : List ℕ) (known all : Bool) (i : ℕ) (sec : Section) (g : Tidying s known all i sec) where
+  -- what is read by its first `;` may be
+  pub tidying-known : known ≡ true → tidy s (statement s sec (drop i s)) ≡ true
+  tidying-known k = neat-tidy s sec (drop i s) (g .ahead k)
+
+  module _ (b : Bool) (e : b ≡ tidy s (statement s sec (drop i s))) where
+    -- the file ends
+    pub tidying-ends : ends ≡ statement s sec (drop i s) → all && b ≡ true → Neat s Outside s
+    tidying-ends q z = g .back (both all b z .0) (Neat.over q)
+
+    -- a section word, or a record that is ignored
+    pub tidying-moves : (to : Section) (n : ℕ) → moved to (drop n s) ≡ statement s sec (drop i s) → Tidying s known (all && b) n to
+    tidying-moves to n q = record {
+      back = λ z m. g .back (both all b z .0) (Neat.on to (drop n s) q m);
+      ahead = λ k. neat-on s sec (drop i s) to (drop n s) q (g .ahead k);
+    }
+
+    -- a header record
+    pub tidying-header : (w : HeaderRow) (p n : ℕ) → header w (drop p s) (drop n s) ≡ statement s sec (drop i s) → Tidying s known (all && b) n InHeader
+    tidying-header w p n q = record {
+      back = λ z m. g .back (both all b z .0) (Neat.head w (drop p s) (drop n s) q m);
+      ahead = λ k. neat-head s sec (drop i s) w (drop p s) (drop n s) q (g .ahead k);
+    }
+
+    -- a data record
+    pub tidying-record : (w : Row) (p n : ℕ) → record′ w (drop p s) (drop n s) ≡ statement s sec (drop i s) → Tidying s known (all && b) n InData
+    tidying-record w p n q = record {
+      back = λ z m. g .back (both all b z .0) (Neat.row w (drop p s) (drop n s) q (ap (tidy s) q ∙ sym e ∙ both all b z .1) m);
+      ahead = λ k. neat-row s sec (drop i s) w (drop p s) (drop n s) q (g .ahead k);
+    }
