@@ -12,3 +12,4 @@ pub mod Rests
 pub mod Ordered
 pub mod Roomy
 pub mod Points
+pub mod Run

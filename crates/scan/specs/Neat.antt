@@ -9,13 +9,10 @@ use lib.ListN.{drop}
 use Rattle.error.specs.Refusal.{Told, good, bad, told}
 use Rattle.lex.specs.Right.Steps.{clash}
 use Rattle.statement.specs.Row.{Row, HeaderRow}
-use Rattle.statement.specs.Statement.{Stmt, ends, refused, moved, header, record′, rowOf, statement}
-use Rattle.statement.specs.Tidy.{tidy, tidyRecord, toldTidied}
-use Rattle.statement.specs.TidyRight.{tidy-said}
+use Rattle.statement.specs.Statement.{ends, moved, header, record′, statement}
+use Rattle.statement.specs.Tidy.{tidy}
 use Rattle.statement.specs.declared.Section.{Section}
 use Rattle.statement.specs.declared.Section.the-variants.{Outside, InHeader, InData}
-use Rattle.statement.specs.declared.Tidied.{Tidied}
-use Rattle.statement.specs.declared.Tidied.the-variants.{Untidy, Tidy}
 use Rattle.scan.specs.Table.{Counts, counts}
 use Rattle.scan.specs.declared.Passed.{Passed}
 use Rattle.scan.specs.declared.Passed.the-variants.{Counted, Stopped}
@@ -38,29 +35,19 @@ abbrev pub NeatTold : List ℕ → Passed → Type 0
 NeatTold s (Counted h r m b) = b ≡ true → Neat s Outside s
 NeatTold s (Stopped f) = Unit {0}
 
--- a record that was read by its first `;` is what the statement says, and tidy
-abbrev pub QuickSaid : List ℕ → ℕ → Section → Tidied → Type 0
-QuickSaid s i sec Untidy = Unit {0}
-QuickSaid s i sec (Tidy r p n) = (record′ (rowOf r) (drop p s) (drop n s) ≡ statement s sec (drop i s)) × (tidy s (statement s sec (drop i s)) ≡ true)
-
--- such a record by what `tidy_record` answers
-pub quick-said : (s : List ℕ) (i : ℕ) (r : Tidied) → toldTidied s r ≡ tidyRecord s (drop i s) → tidy s (statement s InData (drop i s)) ≡ true → QuickSaid s i InData r
-quick-said s i Untidy q h = tt
-quick-said s i (Tidy r p n) q h = (tidy-said s i (rowOf r) (drop p s) (drop n s) q h, h)
-
 -- the pass at the place i: where all was tidy so far, the whole file is neat if what is left is; and what is left is, where that was known
 pub record Tidying (s : List ℕ) (known all : Bool) (i : ℕ) (sec : Section) : Type 0 where
   pub back : all ≡ true → Neat s sec (drop i s) → Neat s Outside s
   pub ahead : known ≡ true → Neat s sec (drop i s)
 
 -- two tests that both hold
-both : (a b : Bool) → a && b ≡ true → (a ≡ true) × (b ≡ true)
+pub both : (a b : Bool) → a && b ≡ true → (a ≡ true) × (b ≡ true)
 both true b e = (refl, e)
 both false b e = clash (cc)
 
 module _ (s : List ℕ) (sec : Section) (xs : List ℕ) where
   -- each statement of a neat file is tidy
-  neat-tidy : Neat s sec xs → tidy s (statement s sec xs) ≡ true
+  pub neat-tidy : Neat s sec xs → tidy s (statement s sec xs) ≡ true
   neat-tidy (Neat.over q) = ap (tidy s) (sym q)
   neat-tidy (Neat.on to t q n) = ap (tidy s) (sym q)
   neat-tidy (Neat.head w ys t q n) = ap (tidy s) (sym q)
@@ -81,7 +68,7 @@ module _ (s : List ℕ) (sec : Section) (xs : List ℕ) where
   neat-head w ys t e (Neat.row w' ys' t' q h n) = clash (cc)
 
   -- what follows a data record
-  neat-row : (w : Row) (ys t : List ℕ) → record′ w ys t ≡ statement s sec xs → Neat s sec xs → Neat s InData t
+  pub neat-row : (w : Row) (ys t : List ℕ) → record′ w ys t ≡ statement s sec xs → Neat s sec xs → Neat s InData t
   neat-row w ys t e (Neat.over q) = clash (cc)
   neat-row w ys t e (Neat.on to' t' q n) = clash (cc)
   neat-row w ys t e (Neat.head w' ys' t' q n) = clash (cc)

@@ -13,15 +13,15 @@ ghost use Rattle.record.specs.Word.{same, marker};
 ghost use Rattle.statement.specs.Row.{mapped};
 ghost use Rattle.statement.specs.Statement.{rowOf, headerRowOf, toldSaid, Ahead, statement};
 ghost use Rattle.statement.specs.Tidy.{tidy, TidyAhead};
-ghost use Rattle.statement.specs.declared.Section.the-variants.{Outside};
+ghost use Rattle.statement.specs.declared.Section.the-variants.{Outside, InData};
 ghost use Rattle.scan.specs.File.{scanOf, marked, readingOf};
 ghost use Rattle.scan.specs.Table.{headerRoom, dataRoom, six, four, headerNumbers, recordNumbers, toldScan, countsOf, headersAfter, rowsAfter};
 ghost use Rattle.scan.specs.Laws.{Written};
-ghost use Rattle.scan.specs.Neat.{Neat, toldPassed, NeatTold, QuickSaid};
+ghost use Rattle.scan.specs.Neat.{Neat, toldPassed, NeatTold};
+ghost use Rattle.scan.specs.Run.{Ran};
 ghost use Rattle.scan.specs.Fits.{HeaderFits, RecordFits};
 use error::Fault;
 use statement::HeaderSpan;
-use statement::Noted;
 use statement::RecordSpan;
 use statement::Said;
 use statement::Section;
@@ -132,40 +132,45 @@ fn rows_found(headers: usize, records: usize, max: u32) -> Scanned
     }
 }
 
-// The data record from the place i on, by its first `;` alone, where it is known that this gives what the statement says.
-fn quick_at(s: &[u8], i: usize, section: Section, known: bool) -> Tidied
-    requires { ⌜ (known ≡ true → tidy (now s) (statement (now s) section (drop i (now s))) ≡ true) ⌝ }
-    ensures { λ r. ⌜ QuickSaid (now (s .entry)) i section r ⌝ }
-    ensures { λ r. ⌜ TidyAhead i (length (now (s .entry))) r ⌝ }
-{
-    if !known {
-        return Tidied::Untidy;
-    }
-    match section {
-        Section::Outside => Tidied::Untidy,
-        Section::InHeader => Tidied::Untidy,
-        Section::InData => statement::tidy_record(s, i),
-    }
+// Where a run of records ended: the place, how many rows there are, and the largest id.
+pub struct Reached {
+    pub place: usize,
+    pub count: usize,
+    pub max: u32,
 }
 
-// What the statement says from the place i on, and whether it is tidy, which may be known.
-fn said_at(s: &[u8], i: usize, section: Section, known: bool) -> Noted
-    requires { ⌜ (known ≡ true → tidy (now s) (statement (now s) section (drop i (now s))) ≡ true) ⌝ }
-    ensures { λ r. ⌜ toldSaid (now (s .entry)) (r .said) ≡ statement (now (s .entry)) section (drop i (now (s .entry))) ⌝ }
-    ensures { λ r. ⌜ Ahead i (length (now (s .entry))) (r .said) ⌝ }
-    ensures { λ r. ⌜ r .tidy ≡ tidy (now (s .entry)) (statement (now (s .entry)) section (drop i (now (s .entry)))) ⌝ }
+// Stores the data records from a place on, each read by its first `;` alone, where it is known that all are tidy; up to the first
+// statement that is no data record, and as long as rows are left.
+fn run(
+    s: &[u8],
+    rows: &mut [u32],
+    room: usize,
+    from: usize,
+    stored: usize,
+    largest: u32,
+    known: bool,
+) -> Reached
+    requires { ⌜ (length (now s) ≤ 4294967295) × (from ≤ length (now s)) × (room ≤ length (now rows) / 6) × (known ≡ true → Neat (now s) InData (drop from (now s))) ⌝ }
+    ensures { λ t. ⌜ Ran (now (s .entry)) room known from stored largest (now (rows .entry)) (t .place) (t .count) (t .max) (now (rows .exit)) ⌝ }
 {
-    match quick_at(s, i, section, known) {
-        Tidied::Untidy => statement::noted_statement(s, i, section),
-        Tidied::Tidy(span, start, next) => Noted {
-            said: Said::Records(span, start, next),
-            tidy: true,
-        },
+    let mut place = from;
+    let mut count = stored;
+    let mut max = largest;
+    while known & (count < room) {
+        let Tidied::Tidy(span, _, next) = statement::tidy_record(s, place) else {
+            return Reached { place, count, max };
+        };
+        put_record(rows, count, span, true);
+        count += 1;
+        max = greater(max, span.id);
+        place = next;
     }
+    Reached { place, count, max }
 }
 
 // Reads the file in order: counts, and where `write` is set stores each row. What is stored before a refusal stays, so
-// the scan writes only where an earlier pass has found none. Where every data record is known to be tidy nothing of it is tested again.
+// the scan writes only where an earlier pass has found none. Where every data record is known to be tidy nothing of those that follow
+// the first of a section is tested again.
 fn pass(
     s: &[u8],
     headers: &mut [u32],
@@ -174,7 +179,7 @@ fn pass(
     write: bool,
     known: bool,
 ) -> Passed
-    requires { ⌜ (length (now s) ≤ 4294967295) × (known ≡ true → Neat (now s) Outside (now s)) ⌝ }
+    requires { ⌜ (length (now s) ≤ 4294967295) × (known ≡ true → write ≡ true) × (known ≡ true → Neat (now s) Outside (now s)) ⌝ }
     ensures { λ r. ⌜ toldPassed r ≡ mapped countsOf (readingOf (now (s .entry)) (headerRoom (now (headers .entry))) (dataRoom (now (rows .entry)) slots)) ⌝ }
     ensures { λ _. ⌜ Written write (readingOf (now (s .entry)) (headerRoom (now (headers .entry))) (dataRoom (now (rows .entry)) slots)) headerNumbers (now (headers .entry)) (now (headers .exit)) ⌝ }
     ensures { λ _. ⌜ Written write (readingOf (now (s .entry)) (headerRoom (now (headers .entry))) (dataRoom (now (rows .entry)) slots)) recordNumbers (now (rows .entry)) (now (rows .exit)) ⌝ }
@@ -188,7 +193,7 @@ fn pass(
     let mut max: u32 = 0;
     let mut all = true;
     loop {
-        let n = said_at(s, i, section, known);
+        let n = statement::noted_statement(s, i, section);
         let said = n.said;
         all = all & n.tidy;
         match said {
@@ -213,9 +218,10 @@ fn pass(
                 }
                 put_record(rows, r, span, write);
                 section = Section::InData;
-                r += 1;
-                max = greater(max, span.id);
-                i = next;
+                let t = run(s, rows, room, next, r + 1, greater(max, span.id), known);
+                r = t.count;
+                max = t.max;
+                i = t.place;
             }
         }
     }

@@ -1,6 +1,7 @@
 use Rattle.scan.specs.Fits.{StmtFits, statement-fits, header-fits-more, record-fits-more}
 use Rattle.scan.specs.Laws.{Going, going-starts, going-refused, going-moves, header-full, record-full, going-header, going-record, done, failed}
-use Rattle.scan.specs.Neat.{Tidying, tidying-starts, tidying-known, tidying-ends, tidying-moves, tidying-header, tidying-record}
+use Rattle.scan.specs.Run.{ran-on, ran-in, ran-length, going-ran, tidying-ran}
+use Rattle.scan.specs.Neat.{Tidying, tidying-starts, tidying-ends, tidying-moves, tidying-header, tidying-record}
 use Rattle.statement.specs.Statement.{toldSaid, headerRowOf, rowOf}
 use lib.ListN.{length, drop}
 use denote.Ref.{now}
@@ -16,7 +17,8 @@ use Rattle.scan.proofs.greater.Reads as greater-reads
 use Rattle.scan.proofs.least.Reads as least-reads
 use Rattle.scan.proofs.put_header.Reads as put-header-reads
 use Rattle.scan.proofs.put_record.Reads as put-record-reads
-use Rattle.scan.proofs.said_at.Reads as said-at-reads
+use Rattle.scan.proofs.run.Reads as run-reads
+use Rattle.statement.proofs.noted_statement.Reads as noted-statement-reads
 
 abbrev Inv-loop : tie.InvT-loop
 Inv-loop s headers₀ rows₀ slots write known room i₀ section₀ h₀ r₀ max₀ all₀ headers rows i section h r max all =
@@ -36,12 +38,12 @@ loop-holds c = let b = c .before .before .before .before in
       refl,
       refl,
       going-starts (now (a .s)) (length (now (a .headers)) / 4) (c .least .result) (a .write) (now (a .headers)) (now (a .rows)),
-      tidying-starts (now (a .s)) (a .known) (b .pre .1),
+      tidying-starts (now (a .s)) (a .known) (b .pre .2),
     )
 
 -- src/lib.rt:184:13
-said-at-requires : tie.Need-said-at-requires Inv-loop μ-loop
-said-at-requires c κs = tidying-known _ _ _ _ _ (c .loop .inv .3)
+noted-statement-requires : tie.Need-noted-statement-requires Inv-loop μ-loop
+noted-statement-requires c κs = search needs
 
 -- src/lib.rt:188:27
 enum-told : tie.Need-enum-told Inv-loop μ-loop
@@ -61,10 +63,10 @@ returns c = let n = c .before .before .before in
     let t = n .before in
     let a = c .before .before .before .before .before .before .before .before .before .args in
     let v = c .enum-told in
-    let e = sym (ap (toldSaid (now (a .s))) (v .given .1)) ∙ n .said-at .ensures .0 in
+    let e = sym (ap (toldSaid (now (a .s))) (v .given .1)) ∙ n .noted-statement .ensures .0 in
     let g = t .loop .inv .2 in
     let y = t .loop .inv .3 in
-    let b = n .said-at .ensures .1 .1 in
+    let b = n .noted-statement .ensures .1 .1 in
     let l = done _ _ _ _ _ _ _ _ _ _ _ _ _ g _ (t .before .least .ensures) e in
     (l .0, (l .1 .0, (l .1 .1, tidying-ends _ _ _ _ _ y _ b e)))
 
@@ -86,10 +88,10 @@ returns-2 c = let n = c .before .before .before .before in
     let t = n .before in
     let a = c .before .before .before .before .before .before .before .before .before .before .args in
     let v = c .before .said in
-    let e = sym (ap (toldSaid (now (a .s))) (v .given .1)) ∙ n .said-at .ensures .0 in
+    let e = sym (ap (toldSaid (now (a .s))) (v .given .1)) ∙ n .noted-statement .ensures .0 in
     let g = t .loop .inv .2 in
     let y = t .loop .inv .3 in
-    let b = n .said-at .ensures .1 .1 in
+    let b = n .noted-statement .ensures .1 .1 in
     let l = failed _ _ _ _ _ _ _ _ _ _ _ _ _ g _ (t .before .least .ensures) _ (going-refused _ _ _ _ _ _ _ _ _ _ _ _ _ g _ e) in
     (l .0, (l .1 .0, (l .1 .1, tt)))
 
@@ -103,11 +105,11 @@ loop-less c = let n = c .before .before .before .before in
     let t = n .before in
     let a = c .before .before .before .before .before .before .before .before .before .before .args in
     let v = c .before .said2 in
-    let e = sym (ap (toldSaid (now (a .s))) (v .given .1)) ∙ n .said-at .ensures .0 in
-    let w = rw (v .given .1) at (n .said-at .ensures .1 .0) in
+    let e = sym (ap (toldSaid (now (a .s))) (v .given .1)) ∙ n .noted-statement .ensures .0 in
+    let w = rw (v .given .1) at (n .noted-statement .ensures .1 .0) in
     let g = t .loop .inv .2 in
     let y = t .loop .inv .3 in
-    let b = n .said-at .ensures .1 .1 in
+    let b = n .noted-statement .ensures .1 .1 in
     omega arith
 
 -- src/lib.rt:183:5
@@ -116,11 +118,11 @@ loop-again c = let n = c .before .before .before .before in
     let t = n .before in
     let a = c .before .before .before .before .before .before .before .before .before .before .args in
     let v = c .before .said2 in
-    let e = sym (ap (toldSaid (now (a .s))) (v .given .1)) ∙ n .said-at .ensures .0 in
-    let w = rw (v .given .1) at (n .said-at .ensures .1 .0) in
+    let e = sym (ap (toldSaid (now (a .s))) (v .given .1)) ∙ n .noted-statement .ensures .0 in
+    let w = rw (v .given .1) at (n .noted-statement .ensures .1 .0) in
     let g = t .loop .inv .2 in
     let y = t .loop .inv .3 in
-    let b = n .said-at .ensures .1 .1 in
+    let b = n .noted-statement .ensures .1 .1 in
     (t .loop .inv .0, t .loop .inv .1, going-moves _ _ _ _ _ _ _ _ _ _ _ _ _ g _ _ e (w .0) (w .1), tidying-moves _ _ _ _ _ y _ b _ _ e)
 
 -- src/lib.rt:194:25
@@ -141,11 +143,11 @@ returns-3 c = let n = c .before .before .before .before .before in
     let t = n .before in
     let a = c .before .before .before .before .before .before .before .before .before .before .before .args in
     let v = c .before .before .said3 in
-    let e = sym (ap (toldSaid (now (a .s))) (v .given .1)) ∙ n .said-at .ensures .0 in
-    let w = rw (v .given .1) at (n .said-at .ensures .1 .0) in
+    let e = sym (ap (toldSaid (now (a .s))) (v .given .1)) ∙ n .noted-statement .ensures .0 in
+    let w = rw (v .given .1) at (n .noted-statement .ensures .1 .0) in
     let g = t .loop .inv .2 in
     let y = t .loop .inv .3 in
-    let b = n .said-at .ensures .1 .1 in
+    let b = n .noted-statement .ensures .1 .1 in
     let l = failed _ _ _ _ _ _ _ _ _ _ _ _ _ g _ (t .before .least .ensures) _ (header-full _ _ _ _ _ _ _ _ _ _ _ _ _ g _ (v .given .0 .1 .0) (v .given .0 .1 .1 .0) (omega arith) e (omega (arith, c .if1 .taken, t .loop .inv .0))) in
     (l .0, (l .1 .0, (l .1 .1, tt)))
 
@@ -155,11 +157,11 @@ put-header-requires c κs = let n = c .before .before .before .before .before .b
     let t = n .before in
     let a = c .before .before .before .before .before .before .before .before .before .before .before .before .args in
     let v = c .before .before .before .said3 in
-    let e = sym (ap (toldSaid (now (a .s))) (v .given .1)) ∙ n .said-at .ensures .0 in
-    let w = rw (v .given .1) at (n .said-at .ensures .1 .0) in
+    let e = sym (ap (toldSaid (now (a .s))) (v .given .1)) ∙ n .noted-statement .ensures .0 in
+    let w = rw (v .given .1) at (n .noted-statement .ensures .1 .0) in
     let g = t .loop .inv .2 in
     let y = t .loop .inv .3 in
-    let b = n .said-at .ensures .1 .1 in
+    let b = n .noted-statement .ensures .1 .1 in
     (omega arith, header-fits-more (length (now (a .s))) 4294967295 _ (omega arith) (rw (sym e) at (statement-fits (now (a .s)) (t .loop .section) (drop (t .loop .i) (now (a .s))))))
 
 -- src/lib.rt:200:17
@@ -172,11 +174,11 @@ loop-less-2 c = let n = c .before .before .before .before .before .before .befor
     let t = n .before in
     let a = c .before .before .before .before .before .before .before .before .before .before .before .before .before .before .before .args in
     let v = c .before .before .before .before .before .before .said3 in
-    let e = sym (ap (toldSaid (now (a .s))) (v .given .1)) ∙ n .said-at .ensures .0 in
-    let w = rw (v .given .1) at (n .said-at .ensures .1 .0) in
+    let e = sym (ap (toldSaid (now (a .s))) (v .given .1)) ∙ n .noted-statement .ensures .0 in
+    let w = rw (v .given .1) at (n .noted-statement .ensures .1 .0) in
     let g = t .loop .inv .2 in
     let y = t .loop .inv .3 in
-    let b = n .said-at .ensures .1 .1 in
+    let b = n .noted-statement .ensures .1 .1 in
     omega arith
 
 -- src/lib.rt:183:5
@@ -185,11 +187,11 @@ loop-again-2 c = let n = c .before .before .before .before .before .before .befo
     let t = n .before in
     let a = c .before .before .before .before .before .before .before .before .before .before .before .before .before .before .before .args in
     let v = c .before .before .before .before .before .before .said3 in
-    let e = sym (ap (toldSaid (now (a .s))) (v .given .1)) ∙ n .said-at .ensures .0 in
-    let w = rw (v .given .1) at (n .said-at .ensures .1 .0) in
+    let e = sym (ap (toldSaid (now (a .s))) (v .given .1)) ∙ n .noted-statement .ensures .0 in
+    let w = rw (v .given .1) at (n .noted-statement .ensures .1 .0) in
     let g = t .loop .inv .2 in
     let y = t .loop .inv .3 in
-    let b = n .said-at .ensures .1 .1 in
+    let b = n .noted-statement .ensures .1 .1 in
     let p = c .before .before .put-header in (
       p .kept .0 ∙ t .loop .inv .0,
       t .loop .inv .1,
@@ -215,11 +217,11 @@ returns-4 c = let n = c .before .before .before .before .before in
     let t = n .before in
     let a = c .before .before .before .before .before .before .before .before .before .before .before .args in
     let v = c .before .before .said4 in
-    let e = sym (ap (toldSaid (now (a .s))) (v .given .1)) ∙ n .said-at .ensures .0 in
-    let w = rw (v .given .1) at (n .said-at .ensures .1 .0) in
+    let e = sym (ap (toldSaid (now (a .s))) (v .given .1)) ∙ n .noted-statement .ensures .0 in
+    let w = rw (v .given .1) at (n .noted-statement .ensures .1 .0) in
     let g = t .loop .inv .2 in
     let y = t .loop .inv .3 in
-    let b = n .said-at .ensures .1 .1 in
+    let b = n .noted-statement .ensures .1 .1 in
     let l = failed _ _ _ _ _ _ _ _ _ _ _ _ _ g _ (t .before .least .ensures) _ (record-full _ _ _ _ _ _ _ _ _ _ _ _ _ g _ (v .given .0 .1 .0) (v .given .0 .1 .1 .0) (omega arith) e (c .if2 .taken)) in
     (l .0, (l .1 .0, (l .1 .1, tt)))
 
@@ -229,50 +231,72 @@ put-record-requires c κs = let n = c .before .before .before .before .before .b
     let t = n .before in
     let a = c .before .before .before .before .before .before .before .before .before .before .before .before .args in
     let v = c .before .before .before .said4 in
-    let e = sym (ap (toldSaid (now (a .s))) (v .given .1)) ∙ n .said-at .ensures .0 in
-    let w = rw (v .given .1) at (n .said-at .ensures .1 .0) in
+    let e = sym (ap (toldSaid (now (a .s))) (v .given .1)) ∙ n .noted-statement .ensures .0 in
+    let w = rw (v .given .1) at (n .noted-statement .ensures .1 .0) in
     let g = t .loop .inv .2 in
     let y = t .loop .inv .3 in
-    let b = n .said-at .ensures .1 .1 in
+    let b = n .noted-statement .ensures .1 .1 in
     (omega (arith, t .before .least .ensures), record-fits-more (length (now (a .s))) 4294967295 _ (omega arith) (rw (sym e) at (statement-fits (now (a .s)) (t .loop .section) (drop (t .loop .i) (now (a .s))))))
 
 -- src/lib.rt:209:17
-add-r : tie.Need-add-r Inv-loop μ-loop
-add-r c = let t = c .before .before .before .before .before .before .before .before .before .before in omega (arith, t .before .least .ensures)
+add-run : tie.Need-add-run Inv-loop μ-loop
+add-run c = let t = c .before .before .before .before .before .before .before .before .before .before .before in omega (arith, t .before .least .ensures)
 
 -- src/lib.rt:210:17
 greater-requires : tie.Need-greater-requires Inv-loop μ-loop
 greater-requires c κs = search needs
 
--- src/lib.rt:183:5
-loop-less-3 : tie.Need-loop-less-3 Inv-loop μ-loop
-loop-less-3 c = let n = c .before .before .before .before .before .before .before .before .before .before in
+run-requires : tie.Need-run-requires Inv-loop μ-loop
+run-requires c κs = let n = c .before .before .before .before .before .before .before .before .before .before .before in
     let t = n .before in
-    let a = c .before .before .before .before .before .before .before .before .before .before .before .before .before .before .before .before .args in
-    let v = c .before .before .before .before .before .before .before .said4 in
-    let e = sym (ap (toldSaid (now (a .s))) (v .given .1)) ∙ n .said-at .ensures .0 in
-    let w = rw (v .given .1) at (n .said-at .ensures .1 .0) in
+    let b = c .before .before .before .before .before .before .before .before .before .before .before .before .before .before .before .before .before in
+    let a = b .args in
+    let v = c .before .before .before .before .before .before .before .before .said4 in
+    let e = sym (ap (toldSaid (now (a .s))) (v .given .1)) ∙ n .noted-statement .ensures .0 in
+    let w = rw (v .given .1) at (n .noted-statement .ensures .1 .0) in
     let g = t .loop .inv .2 in
     let y = t .loop .inv .3 in
-    let b = n .said-at .ensures .1 .1 in
-    omega arith
+    let d = n .noted-statement .ensures .1 .1 in
+    let p = c .before .before .before .before .put-record in
+    let l = p .kept .0 ∙ t .loop .inv .1 in
+    (b .pre .0, w .2, omega (arith, l, t .before .least .ensures), tidying-record _ _ _ _ _ y _ d _ (v .given .0 .1 .0) (v .given .0 .1 .1 .0) e .ahead)
+
+-- src/lib.rt:183:5
+loop-less-3 : tie.Need-loop-less-3 Inv-loop μ-loop
+loop-less-3 c = let n = c .before .before .before .before .before .before .before .before .before .before .before .before .before .before in
+    let t = n .before in
+    let b = c .before .before .before .before .before .before .before .before .before .before .before .before .before .before .before .before .before .before .before .before in
+    let a = b .args in
+    let v = c .before .before .before .before .before .before .before .before .before .before .before .said4 in
+    let e = sym (ap (toldSaid (now (a .s))) (v .given .1)) ∙ n .noted-statement .ensures .0 in
+    let w = rw (v .given .1) at (n .noted-statement .ensures .1 .0) in
+    let g = t .loop .inv .2 in
+    let y = t .loop .inv .3 in
+    let d = n .noted-statement .ensures .1 .1 in
+    let o = ran-on _ _ _ _ _ _ _ (c .before .before .run .ensures) in
+    omega (arith, w, o)
 
 -- src/lib.rt:183:5
 loop-again-3 : tie.Need-loop-again-3 Inv-loop μ-loop
-loop-again-3 c = let n = c .before .before .before .before .before .before .before .before .before .before in
+loop-again-3 c = let n = c .before .before .before .before .before .before .before .before .before .before .before .before .before .before in
     let t = n .before in
-    let a = c .before .before .before .before .before .before .before .before .before .before .before .before .before .before .before .before .args in
-    let v = c .before .before .before .before .before .before .before .said4 in
-    let e = sym (ap (toldSaid (now (a .s))) (v .given .1)) ∙ n .said-at .ensures .0 in
-    let w = rw (v .given .1) at (n .said-at .ensures .1 .0) in
+    let b = c .before .before .before .before .before .before .before .before .before .before .before .before .before .before .before .before .before .before .before .before in
+    let a = b .args in
+    let v = c .before .before .before .before .before .before .before .before .before .before .before .said4 in
+    let e = sym (ap (toldSaid (now (a .s))) (v .given .1)) ∙ n .noted-statement .ensures .0 in
+    let w = rw (v .given .1) at (n .noted-statement .ensures .1 .0) in
     let g = t .loop .inv .2 in
     let y = t .loop .inv .3 in
-    let b = n .said-at .ensures .1 .1 in
-    let p = c .before .before .before .put-record in (
+    let d = n .noted-statement .ensures .1 .1 in
+    let p = c .before .before .before .before .before .before .before .put-record in
+    let u = c .before .before .run in
+    let l = ran-length _ _ _ _ _ _ _ (u .ensures) in (
       t .loop .inv .0,
-      p .kept .0 ∙ t .loop .inv .1,
-      rw (p .ensures, c .greater .ensures) (going-record _ _ _ _ _ _ _ _ _ _ _ _ _ g _ (v .given .0 .1 .0) _ e (w .0) (w .2) (omega arith) (omega (arith, t .before .least .ensures))),
-      tidying-record _ _ _ _ _ y _ b _ (v .given .0 .1 .0) _ e,
+      l ∙ p .kept .0 ∙ t .loop .inv .1,
+      going-ran _ _ _ _ _ _ _ _ _ _ _ _ _ (omega (arith, t .before .least .ensures)) (b .pre .1)
+          (rw (p .ensures, c .before .before .before .greater .ensures) (going-record _ _ _ _ _ _ _ _ _ _ _ _ _ g _ (v .given .0 .1 .0) _ e (w .0) (w .2) (c .before .before .before .before .before .before .before .before .before .if2 .left) (omega (arith, c .before .before .before .before .before .before .before .before .before .if2 .left, t .before .least .ensures))))
+          (u .ensures),
+      tidying-ran _ _ _ _ _ _ _ _ (tidying-record _ _ _ _ _ y _ d _ (v .given .0 .1 .0) _ e) (u .ensures),
     )
 
 pub pass-spec : {M : Type 1} → statement M
@@ -283,7 +307,7 @@ pass-spec =
     μ-loop
     least-requires
     loop-holds
-    said-at-requires
+    noted-statement-requires
     enum-told
     same-length
     same-length-2
@@ -308,7 +332,8 @@ pass-spec =
     same-length-8
     returns-4
     put-record-requires
-    add-r
+    add-run
     greater-requires
+    run-requires
     loop-less-3
     loop-again-3)

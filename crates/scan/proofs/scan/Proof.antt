@@ -30,7 +30,7 @@ returns-2 c = let a = c .before .before .before .before .before .before .args in
 
 -- src/lib.rt:230:11
 pass-requires : tie.Need-pass-requires
-pass-requires c κs = (omega arith, λ z. clash (cc))
+pass-requires c κs = (omega arith, λ z. clash (cc), λ z. clash (cc))
 
 -- src/lib.rt:231:25
 enum-known-f : tie.Need-enum-known-f
@@ -42,7 +42,7 @@ enum-known-tidy c = search needs
 
 -- src/lib.rt:232:49
 pass-requires-2 : tie.Need-pass-requires-2
-pass-requires-2 c κs = (omega arith, rw (c .before .before .before .tidy .given .1) at (c .before .before .before .before .before .before .before .before .before .pass .ensures .1 .1 .1))
+pass-requires-2 c κs = (omega arith, λ z. refl, rw (c .before .before .before .tidy .given .1) at (c .before .before .before .before .before .before .before .before .before .pass .ensures .1 .1 .1))
 
 -- src/lib.rt:233:29
 enum-known-f-2 : tie.Need-enum-known-f-2
