@@ -6,8 +6,8 @@
 #
 # The library is x86-64 code. On such a machine this needs the Rattle kit, a C compiler (CC, or cc) and cargo, 1.70 or newer; nothing is downloaded. On
 # another one it needs Debian's gcc-x86-64-linux-gnu for the C example, which then runs under the kit's emulator (../shared/perf/host.sh does
-# the same for one crate), and for the Rust crate the target x86_64-unknown-linux-gnu of rustup; where that is not there, its tests are
-# left out, which is said.
+# the same for one crate), and for the Rust crate the target x86_64-unknown-linux-gnu of rustup; where that is not there, the proved modules are
+# built for this machine (../shared/perf/native.sh), and the crate's tests and doc examples run natively.
 set -eu
 root=$(CDPATH='' cd -- "$(dirname -- "$0")/.." && pwd -P)
 say() { echo "test.sh: $*" >&2; }
@@ -58,6 +58,15 @@ elif rustc --print target-libdir --target x86_64-unknown-linux-gnu 2>/dev/null |
     CARGO_TARGET_X86_64_UNKNOWN_LINUX_GNU_LINKER=$compiler CARGO_TARGET_X86_64_UNKNOWN_LINUX_GNU_RUNNER=$emulator \
         RUSTFLAGS='-C target-feature=+crt-static' cargo test --offline --quiet --target x86_64-unknown-linux-gnu --tests
 else
-    say "the Rust crate's tests are left out: rustup has no target x86_64-unknown-linux-gnu here"
+    say "no x86-64 target for Rust: building the library for this machine (some minutes)"
+    mkdir -p "$work/native/repo/target" "$work/lib"
+    for part in rlib stamp log; do cp -a "$root/target/$part" "$work/native/repo/target/"; done
+    echo 'int main(void) { return 0; }' >"$work/none.c"
+    for crate in $(sed -n 's/^\(export[a-z_]*\):.*/\1/p' "$root/crates.txt"); do
+        sh "$root/../shared/perf/native.sh" -w "$work/native" -o "$work/none" "$root" "$crate" "$work/none.c" >"$work/$crate.log" 2>&1 ||
+            { tail -n 20 "$work/$crate.log" >&2; exit 1; }
+        ar rcs "$work/lib/libhooflift.a" "$work/native/$crate.o"
+    done
+    HOOFLIFT_LIB=$work/lib cargo test --offline --quiet
 fi
 say "all well"
