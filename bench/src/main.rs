@@ -165,6 +165,10 @@ fn main() {
             clock::keep_memory();
             return growth(&Case::read(path).bytes);
         }
+        ["hostile"] => {
+            clock::keep_memory();
+            return table(&files::hostile(), ROUNDS);
+        }
         ["real", ..] => {
             clock::keep_memory();
             return table(large(&read_all(&arguments[1..])), ROUNDS_REAL);
