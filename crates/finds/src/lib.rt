@@ -1,12 +1,18 @@
 // The rows of many ids in one call: what a host asks that follows all references of a record, or of a file.
 //
-// Each answer is `index::get`'s. One call for many ids costs a host less than a call for each: what stands beside the slots is read once,
-// and the processor looks up the next ids while it waits for the rows of the last.
+// Each answer is `index::get`'s, but not each in turn: in a part of the ids the rows that can be told without reading one come first, then
+// all of these are looked at, and the search follows for the ids that are left. A loop that reads and never jumps by what it read lets
+// the processor wait for many lines of memory at once; a search waits for one.
 ghost use mathlib.Core.Path.{_≡_};
-ghost use lib.Dec.{leb};
-ghost use lib.ListN.{length};
-ghost use Rattle.index.specs.Search.{searched, toldFound};
+ghost use mathlib.Core.Bool.{true, false, _&&_};
+ghost use Prim.Native.Nat.{_+_, _-_, _*_, _/_, _%_, _≤_, _<_, min, max};
+ghost use lib.Dec.{leb, eqb};
+ghost use lib.ListN.{length, getD};
+ghost use Rattle.index.specs.Order.{tableRoom};
+ghost use Rattle.index.specs.Search.{searched, standing, toldFound, wide};
 ghost use Rattle.finds.specs.Finds.{rowNumber, Told};
+ghost use Rattle.finds.specs.Looks.{roomOf, rowOf, Hint, EvenRow, startNear, NearRow, Stepped, Guided};
+ghost use Rattle.finds.specs.Sweep.{Swept, AllStand};
 use index::Found;
 use index::Ids;
 
@@ -20,8 +26,7 @@ pub fn number_of(f: Found) -> u32
     }
 }
 
-// The row of an id by its number, as `index::get` finds it. The search stands apart, so that the loop over many ids holds the first look
-// alone.
+// The row of an id by its number, as `index::get` finds it.
 pub fn row_of(rows: &[u32], slots: &[u64], b: Ids, id: u32) -> u32
     ensures { λ r. ⌜ r ≡ rowNumber (searched (now (rows .entry)) (now (slots .entry)) b id) ⌝ }
 {
@@ -32,6 +37,415 @@ pub fn row_of(rows: &[u32], slots: &[u64], b: Ids, id: u32) -> u32
     number_of(index::seek(rows, slots, b, id))
 }
 
+// Whether ids are dense in file order and the row as far from the first as this id is from the first id has it.
+fn is_dense(rows: &[u32], slots: usize, b: Ids, id: u32) -> bool
+    ensures { λ r. ⌜ (r ≡ true → (b .first ≤ id) × (standing (now (rows .entry)) (tableRoom (length (now (rows .entry))) slots (b .count)) (id - b .first) id ≡ true)) ⌝ }
+{
+    if id < b.first {
+        return false;
+    }
+    let row = (id - b.first) as usize;
+    if index::room(rows.len(), slots, b.count) <= row {
+        return false;
+    }
+    rows[row * 6] == id
+}
+
+// The rows of dense ids, up to the first id that none has: its place. Nothing is to be told apart, so that ids which are all there cost
+// one look each.
+fn dense_run(
+    rows: &[u32],
+    slots: &[u64],
+    b: Ids,
+    ids: &[u32],
+    found: &mut [u32],
+    from: usize,
+) -> usize
+    requires { ⌜ (from ≤ length (now ids)) × (length (now ids) ≤ length (now found)) × (b .direct ≡ true) × ((b .distinct && eqb (b .shift) 0) ≡ true) ⌝ }
+    ensures { λ to. ⌜ (to ≤ length (now (ids .entry))) × (from ≤ to) × Swept (λ k v. v ≡ rowOf (now (rows .entry)) (now (slots .entry)) b k) (now (ids .entry)) (now (found .entry)) from to (now (found .exit)) ⌝ }
+{
+    let mut i = from;
+    while i < ids.len() {
+        let id = ids[i];
+        if is_dense(rows, slots.len(), b, id) {
+            found[i] = id - b.first;
+            i += 1;
+        } else {
+            return i;
+        }
+    }
+    i
+}
+
+// The rows that a search looks at first, where there are such; they are not read.
+fn slot_near(
+    rows: &[u32],
+    slots: &[u64],
+    b: Ids,
+    ids: &[u32],
+    found: &mut [u32],
+    from: usize,
+    to: usize,
+)
+    requires { ⌜ (from ≤ to) × (to ≤ length (now ids)) × (to ≤ length (now found)) ⌝ }
+    ensures { λ _. ⌜ Swept (Hint (now (rows .entry)) (now (slots .entry)) b) (now (ids .entry)) (now (found .entry)) from to (now (found .exit)) ⌝ }
+{
+    let mut i = from;
+    while i < to {
+        found[i] = index::first_row(slots, b, ids[i]);
+        i += 1;
+    }
+}
+
+// The step by which n ids rise from the first to the last, or 0 where there is none.
+fn step_of(n: usize, first: u32, last: u32) -> u32
+    requires { ⌜ 1 < n ⌝ }
+    ensures { λ s. ⌜ (0 < s → s * (n - 1) ≡ last - first) ⌝ }
+{
+    if last <= first {
+        return 0;
+    }
+    let span = (last - first) as usize;
+    let step = span / (n - 1);
+    if step * (n - 1) == span {
+        step as u32
+    } else {
+        0
+    }
+}
+
+// The step by which the ids of n rows rise in file order, where the rows are told by it; else 0.
+fn step_for(b: Ids, n: usize) -> u32
+    ensures { λ s. ⌜ (0 < s → Stepped b n s) ⌝ }
+{
+    if n < 2 {
+        return 0;
+    }
+    if b.distinct & (b.shift == 0) {
+        return 0;
+    }
+    if b.direct & b.even {
+        return step_of(n, b.first, b.last);
+    }
+    0
+}
+
+// Whether the rows are told by the guide.
+fn is_guided(b: Ids, n: usize) -> bool
+    ensures { λ r. ⌜ (r ≡ true → Guided b n) ⌝ }
+{
+    if n < 2 {
+        return false;
+    }
+    if b.shift == 0 {
+        return false;
+    }
+    if b.even {
+        return false;
+    }
+    b.direct & b.distinct
+}
+
+// The row of an id where ids rise by one step. `scale` is 2^32 by the step, rounded up: a product serves for a division, and is tested.
+fn even_row(first: u32, step: u32, scale: u64, id: u32) -> u32
+    requires { ⌜ scale ≤ 4294967296 ⌝ }
+    ensures { λ r. ⌜ EvenRow first step id r ⌝ }
+{
+    if id < first {
+        return 4294967295;
+    }
+    let far = (id - first) as u64;
+    let q = far * scale / 4294967296;
+    if q * (step as u64) == far {
+        q as u32
+    } else {
+        4294967295
+    }
+}
+
+// The rows of ids that rise by one step; they are not read.
+fn even_near(
+    rows: &[u32],
+    slots: &[u64],
+    b: Ids,
+    step: u32,
+    ids: &[u32],
+    found: &mut [u32],
+    from: usize,
+    to: usize,
+)
+    requires { ⌜ (from ≤ to) × (to ≤ length (now ids)) × (to ≤ length (now found)) × (0 < step) × Stepped b (roomOf (now rows) (now slots) b) step ⌝ }
+    ensures { λ _. ⌜ Swept (Hint (now (rows .entry)) (now (slots .entry)) b) (now (ids .entry)) (now (found .entry)) from to (now (found .exit)) ⌝ }
+{
+    let scale = 4294967295 / (step as u64) + 1;
+    let mut i = from;
+    while i < to {
+        found[i] = even_row(b.first, step, scale, ids[i]);
+        i += 1;
+    }
+}
+
+// By how much an id is above the first.
+fn far_of(first: u32, id: u32) -> u32
+    ensures { λ r. ⌜ r ≡ id - first ⌝ }
+{
+    if id < first { 0 } else { id - first }
+}
+
+// The lesser of two numbers.
+fn least(a: u64, b: usize) -> usize
+    ensures { λ r. ⌜ r ≡ min a b ⌝ }
+{
+    if a < b as u64 { a as usize } else { b }
+}
+
+// Where an id's range begins by the guide to n rows; the last range has no end of its own, and an id in it counts as in the one before.
+fn range_start(slots: &[u64], n: usize, b: Ids, id: u32) -> u32
+    requires { ⌜ (1 < n) × (n ≤ length (now slots)) × (n ≤ 1073741824) ⌝ }
+    ensures { λ r. ⌜ r ≡ startNear (now (slots .entry)) n b id ⌝ }
+{
+    let q = lex::within(index::range_of(far_of(b.first, id), b.shift), n - 2);
+    least(slots[q], n) as u32
+}
+
+// How many of a range's rows stand before an id so far above its first, if they fill it evenly.
+fn share(far: u32, rows: usize, shift: u32) -> usize
+    requires { ⌜ rows ≤ 1073741824 ⌝ }
+    ensures { λ r. ⌜ r ≡ far * rows / wide shift ⌝ }
+{
+    far as usize * rows >> (shift % 32)
+}
+
+// A row's number, or 1.
+fn one_at_least(r: u32) -> usize
+    ensures { λ m. ⌜ m ≡ max 1 r ⌝ }
+{
+    if r == 0 { 1 } else { r as usize }
+}
+
+// How far an id that is so far above the first stands in its range.
+fn inside_of(far: u32, shift: u32) -> u32
+    ensures { λ r. ⌜ r ≡ far % wide shift ⌝ }
+{
+    far % (1u32 << (shift % 32))
+}
+
+// The row of an id by the guide, where it would stand if its range, which begins at `start`, were filled evenly; 4294967295 where the guide
+// tells none.
+fn near_row(slots: &[u64], n: usize, b: Ids, start: u32, id: u32) -> u32
+    requires { ⌜ (1 < n) × (n ≤ length (now slots)) × (n ≤ 1073741824) × (start ≡ startNear (now slots) n b id) ⌝ }
+    ensures { λ r. ⌜ NearRow (now (slots .entry)) n b id r ⌝ }
+{
+    if id < b.first {
+        return 4294967295;
+    }
+    if b.last <= id {
+        return 4294967295;
+    }
+    let far = id - b.first;
+    let q = index::range_of(far, b.shift);
+    if n - 1 <= q {
+        return 4294967295;
+    }
+    let lo = one_at_least(start);
+    let hi = least(slots[q + 1], n - 1);
+    if hi <= lo {
+        return 4294967295;
+    }
+    (lo + share(inside_of(far, b.shift), hi - lo, b.shift)) as u32
+}
+
+// Where the ranges of ids begin by the guide.
+fn starts(slots: &[u64], n: usize, b: Ids, ids: &[u32], found: &mut [u32], from: usize, to: usize)
+    requires { ⌜ (from ≤ to) × (to ≤ length (now ids)) × (to ≤ length (now found)) × (1 < n) × (n ≤ length (now slots)) × (n ≤ 1073741824) ⌝ }
+    ensures { λ _. ⌜ Swept (λ k v. v ≡ startNear (now (slots .entry)) n b k) (now (ids .entry)) (now (found .entry)) from to (now (found .exit)) ⌝ }
+{
+    let mut i = from;
+    while i < to {
+        found[i] = range_start(slots, n, b, ids[i]);
+        i += 1;
+    }
+}
+
+// The rows of ids by the guide, whose ranges begin where they are told to; the rows are not read.
+fn nears(slots: &[u64], n: usize, b: Ids, ids: &[u32], found: &mut [u32], from: usize, to: usize)
+    requires { ⌜ (from ≤ to) × (to ≤ length (now ids)) × (to ≤ length (now found)) × (1 < n) × (n ≤ length (now slots)) × (n ≤ 1073741824) × ((i : _) → from ≤ i → i < to → getD (now found) i 0 ≡ startNear (now slots) n b (getD (now ids) i 0)) ⌝ }
+    ensures { λ _. ⌜ Swept (NearRow (now (slots .entry)) n b) (now (ids .entry)) (now (found .entry)) from to (now (found .exit)) ⌝ }
+{
+    let mut i = from;
+    while i < to {
+        found[i] = near_row(slots, n, b, found[i], ids[i]);
+        i += 1;
+    }
+}
+
+// The rows of ids by the guide. The slots of all are read before any is made use of, so that their lines are fetched side by side.
+fn guide_near(
+    rows: &[u32],
+    slots: &[u64],
+    b: Ids,
+    ids: &[u32],
+    found: &mut [u32],
+    from: usize,
+    to: usize,
+)
+    requires { ⌜ (from ≤ to) × (to ≤ length (now ids)) × (to ≤ length (now found)) × Guided b (roomOf (now rows) (now slots) b) ⌝ }
+    ensures { λ _. ⌜ Swept (Hint (now (rows .entry)) (now (slots .entry)) b) (now (ids .entry)) (now (found .entry)) from to (now (found .exit)) ⌝ }
+{
+    let n = index::room(rows.len(), slots.len(), b.count);
+    starts(slots, n, b, ids, found, from, to);
+    nears(slots, n, b, ids, found, from, to);
+}
+
+// The rows that can be told without reading one: by the step, by the guide, or where a search looks first.
+fn near(rows: &[u32], slots: &[u64], b: Ids, ids: &[u32], found: &mut [u32], from: usize, to: usize)
+    requires { ⌜ (from ≤ to) × (to ≤ length (now ids)) × (to ≤ length (now found)) ⌝ }
+    ensures { λ _. ⌜ Swept (Hint (now (rows .entry)) (now (slots .entry)) b) (now (ids .entry)) (now (found .entry)) from to (now (found .exit)) ⌝ }
+{
+    let n = index::room(rows.len(), slots.len(), b.count);
+    let step = step_for(b, n);
+    if 0 < step {
+        even_near(rows, slots, b, step, ids, found, from, to);
+        return;
+    }
+    if is_guided(b, n) {
+        guide_near(rows, slots, b, ids, found, from, to);
+        return;
+    }
+    slot_near(rows, slots, b, ids, found, from, to);
+}
+
+// The lesser of a row's number and the last row's.
+fn at_most(r: u32, last: usize) -> usize
+    ensures { λ m. ⌜ m ≡ min r last ⌝ }
+{
+    if (r as usize) < last {
+        r as usize
+    } else {
+        last
+    }
+}
+
+// Whether all rows that are told have their ids. It only notes one that has not, so that no jump waits for a row.
+fn all_stand(rows: &[u32], n: usize, ids: &[u32], found: &[u32], from: usize, to: usize) -> bool
+    requires { ⌜ (from ≤ to) × (to ≤ length (now ids)) × (to ≤ length (now found)) × (n * 6 ≤ length (now rows)) ⌝ }
+    ensures { λ r. ⌜ (r ≡ true → AllStand (now (rows .entry)) n (now (ids .entry)) (now (found .entry)) from to) ⌝ }
+{
+    if n == 0 {
+        return false;
+    }
+    let mut good = true;
+    let mut i = from;
+    while i < to {
+        let at = at_most(found[i], n - 1);
+        good = good & (at == found[i] as usize) & (rows[at * 6] == ids[i]);
+        i += 1;
+    }
+    good
+}
+
+// The row of an id: the one that is told, where it has the id, else what is sought.
+fn settled(rows: &[u32], slots: &[u64], b: Ids, r: u32, id: u32) -> u32
+    requires { ⌜ Hint (now rows) (now slots) b id r ⌝ }
+    ensures { λ v. ⌜ v ≡ rowOf (now (rows .entry)) (now (slots .entry)) b id ⌝ }
+{
+    if index::stands(rows, slots.len(), b.count, r, id) {
+        return r;
+    }
+    row_of(rows, slots, b, id)
+}
+
+// Looks at the rows that are told, one by one, and seeks what they are not.
+fn settle(
+    rows: &[u32],
+    slots: &[u64],
+    b: Ids,
+    ids: &[u32],
+    found: &mut [u32],
+    from: usize,
+    to: usize,
+)
+    requires { ⌜ (from ≤ to) × (to ≤ length (now ids)) × (to ≤ length (now found)) × ((i : _) → from ≤ i → i < to → Hint (now rows) (now slots) b (getD (now ids) i 0) (getD (now found) i 0)) ⌝ }
+    ensures { λ _. ⌜ Swept (λ k v. v ≡ rowOf (now (rows .entry)) (now (slots .entry)) b k) (now (ids .entry)) (now (found .entry)) from to (now (found .exit)) ⌝ }
+{
+    let mut i = from;
+    while i < to {
+        found[i] = settled(rows, slots, b, found[i], ids[i]);
+        i += 1;
+    }
+}
+
+// The rows of a part of the ids: what can be told is told, then all of it is looked at; where all have their ids that is all.
+fn get_part(
+    rows: &[u32],
+    slots: &[u64],
+    b: Ids,
+    ids: &[u32],
+    found: &mut [u32],
+    from: usize,
+    to: usize,
+)
+    requires { ⌜ (from ≤ to) × (to ≤ length (now ids)) × (to ≤ length (now found)) ⌝ }
+    ensures { λ _. ⌜ Swept (λ k v. v ≡ rowOf (now (rows .entry)) (now (slots .entry)) b k) (now (ids .entry)) (now (found .entry)) from to (now (found .exit)) ⌝ }
+{
+    near(rows, slots, b, ids, found, from, to);
+    let n = index::room(rows.len(), slots.len(), b.count);
+    if all_stand(rows, n, ids, found, from, to) {
+        return;
+    }
+    settle(rows, slots, b, ids, found, from, to);
+}
+
+// The rows of some ids from a place on, and the place behind them: as many as are dense and one more, or a part of 128, so that the
+// lines which one sweep over a part fetched are still near for the next.
+fn get_some(
+    rows: &[u32],
+    slots: &[u64],
+    b: Ids,
+    ids: &[u32],
+    found: &mut [u32],
+    from: usize,
+) -> usize
+    requires { ⌜ (from < length (now ids)) × (length (now ids) ≤ length (now found)) ⌝ }
+    ensures { λ to. ⌜ (from < to) × (to ≤ length (now (ids .entry))) × Swept (λ k v. v ≡ rowOf (now (rows .entry)) (now (slots .entry)) b k) (now (ids .entry)) (now (found .entry)) from to (now (found .exit)) ⌝ }
+{
+    let dense = b.distinct & (b.shift == 0);
+    if b.direct & dense {
+        let at = dense_run(rows, slots, b, ids, found, from);
+        if at < ids.len() {
+            found[at] = row_of(rows, slots, b, ids[at]);
+            return at + 1;
+        }
+        return at;
+    }
+    let to = from + lex::within(ids.len() - from, 128);
+    get_part(rows, slots, b, ids, found, from, to);
+    to
+}
+
+// The rows of the ids up to the first that is not dense, and its place. Most lists of ids end here, in a loop of its own.
+fn first_run(rows: &[u32], slots: &[u64], b: Ids, ids: &[u32], found: &mut [u32]) -> usize
+    requires { ⌜ length (now ids) ≤ length (now found) ⌝ }
+    ensures { λ to. ⌜ (to ≤ length (now (ids .entry))) × Swept (λ k v. v ≡ rowOf (now (rows .entry)) (now (slots .entry)) b k) (now (ids .entry)) (now (found .entry)) 0 to (now (found .exit)) ⌝ }
+{
+    let dense = b.distinct & (b.shift == 0);
+    if b.direct & dense {
+        return dense_run(rows, slots, b, ids, found, 0);
+    }
+    0
+}
+
+// The rows of the ids from a place on.
+fn get_rest(rows: &[u32], slots: &[u64], b: Ids, ids: &[u32], found: &mut [u32], from: usize)
+    requires { ⌜ (from ≤ length (now ids)) × (length (now ids) ≤ length (now found)) ⌝ }
+    ensures { λ _. ⌜ Swept (λ k v. v ≡ rowOf (now (rows .entry)) (now (slots .entry)) b k) (now (ids .entry)) (now (found .entry)) from (length (now (ids .entry))) (now (found .exit)) ⌝ }
+{
+    let mut i = from;
+    while i < ids.len() {
+        i = get_some(rows, slots, b, ids, found, i);
+    }
+}
+
 // The row of each id, at the start of `found`; true. Where `found` is shorter than the ids, false, and it keeps its numbers.
 pub fn get_all(rows: &[u32], slots: &[u64], b: Ids, ids: &[u32], found: &mut [u32]) -> bool
     ensures { λ r. ⌜ r ≡ leb (length (now (ids .entry))) (length (now (found .entry))) ⌝ }
@@ -40,10 +454,7 @@ pub fn get_all(rows: &[u32], slots: &[u64], b: Ids, ids: &[u32], found: &mut [u3
     if found.len() < ids.len() {
         return false;
     }
-    let mut i = 0;
-    while i < ids.len() {
-        found[i] = row_of(rows, slots, b, ids[i]);
-        i += 1;
-    }
+    let at = first_run(rows, slots, b, ids, found);
+    get_rest(rows, slots, b, ids, found, at);
     true
 }

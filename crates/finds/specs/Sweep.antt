@@ -1,0 +1,127 @@
+-- A sweep over a part of the lent list: what each of its numbers then is, all others being as they were.
+-- Assumes nothing.
+use Prim.Native.Nat.{ℕ, _+_, _-_, _*_, _≤_, _<_, min}
+use mathlib.Core.Path.{_≡_, refl, sym, _∙_, subst}
+use mathlib.Core.Bool.{Bool, true, _&&_}
+use mathlib.Core.List.{List}
+use mathlib.Core.Logic.{_⊎_, inl, inr}
+use native.Mathlib.Omega.{arith}
+use lib.Dec.{eqb}
+use lib.ListN.{length, getD, set, length-set}
+use lib.Seq.{getD-set-same, getD-set-other}
+use borrow.Author.Tests.{eqb-true, lt-ltb}
+use Rattle.index.specs.Order.{ordered, less-or}
+use Rattle.finds.specs.Finds.{Told, full}
+use Rattle.finds.specs.Looks.{roomOf, rowOf, Hint, hint-row, both}
+use Rattle.index.specs.declared.Ids.{Ids}
+use Rattle.index.specs.Search.{standing}
+
+-- the numbers from `from` up to `to` stand to the ids as P says, all others are as they were
+pub record Swept (P : ℕ → ℕ → Type 0) (ids before : List ℕ) (from to : ℕ) (after : List ℕ) : Type 0 where
+  pub size : length after ≡ length before
+  pub each : (i : ℕ) → from ≤ i → i < to → P (getD ids i 0) (getD after i 0)
+  pub front : (i : ℕ) → i < from → getD after i 0 ≡ getD before i 0
+  pub rest : (i : ℕ) → to ≤ i → getD after i 0 ≡ getD before i 0
+
+module _ (P : ℕ → ℕ → Type 0) (ids before : List ℕ) (from : ℕ) where
+  -- nothing is swept yet
+  pub swept-none : Swept P ids before from from before
+  swept-none = record { size = refl; each = λ i h l. absurd (omega arith); front = λ i h. refl; rest = λ i h. refl }
+
+  module _ (m : ℕ) (after : List ℕ) (h : Swept P ids before from m after) (f : from ≤ m) where
+    -- the next number is what it was
+    pub swept-kept : P (getD ids m 0) (getD after m 0) → Swept P ids before from (m + 1) after
+    swept-kept p = record { size = h .size; each = each; front = h .front; rest = λ i l. h .rest i (omega arith) }
+      where
+        each : (i : ℕ) → from ≤ i → i < m + 1 → P (getD ids i 0) (getD after i 0)
+        each i a l = go (ordered i m)
+          where
+            go : (i < m) ⊎ ((i ≡ m) ⊎ (m < i)) → P (getD ids i 0) (getD after i 0)
+            go (inl o) = h .each i a o
+            go (inr (inl o)) = subst (λ (z : ℕ). P (getD ids z 0) (getD after z 0)) (sym o) p
+            go (inr (inr o)) = absurd (omega arith)
+
+    -- the next number is written
+    pub swept-next : (x : ℕ) → m < length before → P (getD ids m 0) x → Swept P ids before from (m + 1) (set after m x)
+    swept-next x l p = record { size = length-set after m x ∙ h .size; each = each; front = front; rest = rest }
+      where
+        here : getD (set after m x) m 0 ≡ x
+        here = let s = h .size in getD-set-same after m x 0 (omega (arith, s, l))
+
+        each : (i : ℕ) → from ≤ i → i < m + 1 → P (getD ids i 0) (getD (set after m x) i 0)
+        each i a o = go (ordered i m)
+          where
+            go : (i < m) ⊎ ((i ≡ m) ⊎ (m < i)) → P (getD ids i 0) (getD (set after m x) i 0)
+            go (inl u) = subst (λ (z : ℕ). P (getD ids i 0) z) (sym (getD-set-other after m i x 0 (λ z. omega arith))) (h .each i a u)
+            go (inr (inl u)) = subst (λ (z : ℕ). P (getD ids z 0) (getD (set after m x) z 0)) (sym u) (subst (λ (z : ℕ). P (getD ids m 0) z) (sym here) p)
+            go (inr (inr u)) = absurd (omega arith)
+
+        front : (i : ℕ) → i < from → getD (set after m x) i 0 ≡ getD before i 0
+        front i a = getD-set-other after m i x 0 (λ z. omega arith) ∙ h .front i a
+
+        rest : (i : ℕ) → m + 1 ≤ i → getD (set after m x) i 0 ≡ getD before i 0
+        rest i a = getD-set-other after m i x 0 (λ z. omega arith) ∙ h .rest i (omega arith)
+
+-- a sweep that has come to the part's end
+pub swept-end : (P : ℕ → ℕ → Type 0) (ids before after : List ℕ) (from m to : ℕ) → Swept P ids before from m after → m ≡ to → Swept P ids before from to after
+swept-end P ids before after from m to h e = subst (λ (z : ℕ). Swept P ids before from z after) e h
+
+-- a sweep after a sweep over the same part
+pub swept-then : (P Q : ℕ → ℕ → Type 0) (ids xs ys zs : List ℕ) (from to : ℕ) → Swept P ids xs from to ys → Swept Q ids ys from to zs → Swept Q ids xs from to zs
+swept-then P Q ids xs ys zs from to a b =
+    record { size = b .size ∙ a .size; each = b .each; front = λ i h. b .front i h ∙ a .front i h; rest = λ i h. b .rest i h ∙ a .rest i h }
+
+-- what is less said
+pub swept-map : (P Q : ℕ → ℕ → Type 0) (ids xs ys : List ℕ) (from to : ℕ) → ((k v : ℕ) → P k v → Q k v) → Swept P ids xs from to ys → Swept Q ids xs from to ys
+swept-map P Q ids xs ys from to f a = record { size = a .size; each = λ i h l. f (getD ids i 0) (getD ys i 0) (a .each i h l); front = a .front; rest = a .rest }
+
+-- what stands beside the next id before it is swept is what stood there
+pub swept-old : (P Q : ℕ → ℕ → Type 0) (ids before after : List ℕ) (from m to : ℕ) → Swept P ids before from m after → from ≤ m → m < to → ((i : ℕ) → from ≤ i → i < to → Q (getD ids i 0) (getD before i 0)) → Q (getD ids m 0) (getD after m 0)
+swept-old P Q ids before after from m to h f l q = subst (λ (z : ℕ). Q (getD ids m 0) z) (sym (h .rest m (omega arith))) (q m f l)
+
+-- each of the rows that are told for the ids of a part is one of n, and has its id
+abbrev pub AllStand : List ℕ → ℕ → List ℕ → List ℕ → ℕ → ℕ → Type 0
+AllStand rows n ids found from to = (i : ℕ) → from ≤ i → i < to → standing rows n (getD found i 0) (getD ids i 0) ≡ true
+
+-- the next one too
+pub stand-next : (rows : List ℕ) (n : ℕ) (ids found : List ℕ) (from m at : ℕ) (good : Bool) → (good ≡ true → AllStand rows n ids found from m) → 0 < n → at ≡ min (getD found m 0) (n - 1)
+    → ((good && eqb at (getD found m 0)) && eqb (getD rows (at * 6) 0) (getD ids m 0)) ≡ true → AllStand rows n ids found from (m + 1)
+stand-next rows n ids found from m at good h pos low e i a l = go (ordered i m)
+  where
+    x : ((good && eqb at (getD found m 0)) ≡ true) × (eqb (getD rows (at * 6) 0) (getD ids m 0) ≡ true)
+    x = both (good && eqb at (getD found m 0)) (eqb (getD rows (at * 6) 0) (getD ids m 0)) e
+
+    y : (good ≡ true) × (eqb at (getD found m 0) ≡ true)
+    y = both good (eqb at (getD found m 0)) (x .0)
+
+    here : standing rows n (getD found m 0) (getD ids m 0) ≡ true
+    here =
+        let p : at ≡ getD found m 0 = eqb-true at (getD found m 0) (y .1) in
+        let q : getD found m 0 < n = omega (arith, p, low, pos) in
+        rw (lt-ltb (getD found m 0) n q) (subst (λ (z : ℕ). eqb (getD rows (z * 6) 0) (getD ids m 0) ≡ true) p (x .1))
+
+    go : (i < m) ⊎ ((i ≡ m) ⊎ (m < i)) → standing rows n (getD found i 0) (getD ids i 0) ≡ true
+    go (inl o) = h (y .0) i a o
+    go (inr (inl o)) = subst (λ (z : ℕ). standing rows n (getD found z 0) (getD ids z 0) ≡ true) (sym o) here
+    go (inr (inr o)) = absurd (omega arith)
+
+-- hints that all have their ids are what the search tells
+pub swept-stood : (rows slots : List ℕ) (b : Ids) (n : ℕ) (ids xs ys : List ℕ) (from to : ℕ) → n ≡ roomOf rows slots b → Swept (Hint rows slots b) ids xs from to ys → AllStand rows n ids ys from to → Swept (λ k v. v ≡ rowOf rows slots b k) ids xs from to ys
+swept-stood rows slots b n ids xs ys from to room h s =
+    record { size = h .size; each = λ i a l. hint-row rows slots b (getD ids i 0) (getD ys i 0) (h .each i a l) (subst (λ (m : ℕ). standing rows m (getD ys i 0) (getD ids i 0) ≡ true) room (s i a l)); front = h .front; rest = h .rest }
+
+-- a sweep and one from where it ended
+pub swept-more : (P : ℕ → ℕ → Type 0) (ids xs ys zs : List ℕ) (from m to : ℕ) → from ≤ m → m ≤ to → Swept P ids xs from m ys → Swept P ids ys m to zs → Swept P ids xs from to zs
+swept-more P ids xs ys zs from m to l o a b =
+    record { size = b .size ∙ a .size; each = each; front = λ i h. b .front i (omega arith) ∙ a .front i h; rest = λ i h. b .rest i h ∙ a .rest i (omega arith) }
+  where
+    each : (i : ℕ) → from ≤ i → i < to → P (getD ids i 0) (getD zs i 0)
+    each i h k = go (less-or i m)
+      where
+        go : (i < m) ⊎ (m ≤ i) → P (getD ids i 0) (getD zs i 0)
+        go (inl u) = subst (λ (z : ℕ). P (getD ids i 0) z) (sym (b .front i u)) (a .each i h u)
+        go (inr u) = b .each i u k
+
+-- a sweep over all ids is what is told of them
+pub swept-told : (f : ℕ → ℕ) (ids before after : List ℕ) → length ids ≤ length before → Swept (λ k v. v ≡ f k) ids before 0 (length ids) after → Told f ids before after
+swept-told f ids before after l s = full l (record { size = s .size; tells = λ i h. s .each i (omega arith) h; rest = s .rest })
