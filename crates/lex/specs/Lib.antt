@@ -7,5 +7,6 @@ pub mod Seek
 pub mod Grammar
 pub mod Local
 pub mod Right
+pub mod Past
 pub mod At
 pub mod Only

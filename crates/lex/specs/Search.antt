@@ -13,8 +13,7 @@ use Rattle.lex.specs.Walk.{Turn, stop, on, walk}
 use Rattle.lex.specs.Lexer.{calm, next}
 use Rattle.lex.specs.declared.Mode.{Mode}
 use Rattle.lex.specs.declared.Mode.the-variants.{Plain, Slash, Text, Quoted, Remark, Starred}
-use Rattle.error.specs.declared.Fault.{Fault}
-use Rattle.error.specs.declared.Fault.the-variants.{OpenComment, OpenString}
+use Rattle.error.specs.declared.Fault.the-variants.{OpenComment}
 use Rattle.lex.specs.declared.Level.{Level}
 use Rattle.lex.specs.declared.Level.the-variants.{Closed, Open}
 use Rattle.lex.specs.declared.Lead.{Lead}
@@ -129,15 +128,6 @@ placed s (fault n r) = bad (refusal n 0 (place s r))
 abbrev pub toldFound : Found → Told ℕ
 toldFound (At p) = good p
 toldFound (Refused f) = bad (told f)
-
--- `unclosed` of the code: what is wrong where the file ends in a mode
-abbrev pub unclosedFault : Mode → Fault → ℕ → Fault
-unclosedFault Plain own o = own
-unclosedFault Slash own o = own
-unclosedFault Text own o = OpenString o
-unclosedFault Quoted own o = own
-unclosedFault Remark own o = OpenComment o
-unclosedFault Starred own o = OpenComment o
 
 -- `paren` of the code: what its answer says
 abbrev pub lookOf : Level → Look

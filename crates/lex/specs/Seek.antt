@@ -9,11 +9,10 @@ use native.Mathlib.Decide.{decLe}
 use lib.Dec.{eqb}
 use lib.ListN.{length, drop, getD, drop-of-length-le}
 use Rattle.error.specs.Refusal.{Told, good, bad, refusal, told}
-use Rattle.error.specs.declared.Fault.{Fault}
 use Rattle.lex.specs.Byte.{pick, white, place, place-drop}
 use Rattle.lex.specs.Walk.{Turn, stop, on, walk, split, walk-stops, walk-goes}
 use Rattle.lex.specs.Lexer.{calm, next}
-use Rattle.lex.specs.Search.{Sought, at, fault, Seen, seen, Look, halt, look, seekTurn, looked, missed, placed, unclosedFault, under, paren, triviaTurn, triviaEnd, lead, leadAt, trailed, trailedAt, toldFound}
+use Rattle.lex.specs.Search.{Sought, at, fault, Seen, seen, Look, halt, look, seekTurn, looked, placed, under, paren, triviaTurn, triviaEnd, lead, leadAt, trailed, trailedAt, toldFound}
 use Rattle.lex.specs.declared.Lead.{Lead}
 use Rattle.lex.specs.declared.Lead.the-variants.{Ends, Goes}
 use Rattle.lex.specs.declared.Mode.{Mode}
@@ -30,7 +29,7 @@ drop-within xs i = go (decLe i (length xs))
         let b : length xs ≤ i = omega arith in
         drop-of-length-le xs a ∙ sym (drop-of-length-le xs b)
 
--- One turn of a loop that keeps a search's state in numbers: the byte at i halts the search, is looked at, or is passed over.
+-- A search halts at the byte at i.
 module _ (f : ℕ → ℕ → Look) (z : Seen → Sought) (xs : List ℕ) (i : ℕ) (h : i < length xs) (m : Mode) (d since : ℕ) (a : Sought) where
   pub seek-halts : calm m (getD xs i 0) ≡ true → f d (getD xs i 0) ≡ halt → walk (seekTurn f) z (seen m d (drop since xs)) (drop i xs) ≡ a → at (drop i xs) ≡ a
   seek-halts e g inv =
@@ -38,28 +37,6 @@ module _ (f : ℕ → ℕ → Look) (z : Seen → Sought) (xs : List ℕ) (i : �
       (walk-stops (seekTurn f) z (seen m d (drop since xs)) xs i (at (drop i xs)) h
       (rw (e, g) (ap (λ (l : List ℕ). stop (at l)) (sym (split xs i h)))))
       ∙ inv
-
-  pub seek-looks : (m′ : Mode) (d′ since′ : ℕ) → calm m (getD xs i 0) ≡ true → f d (getD xs i 0) ≡ look d′ → m′ ≡ next m (getD xs i 0) → since′ ≡ i → walk (seekTurn f) z (seen m d (drop since xs)) (drop i xs) ≡ a → walk (seekTurn f) z (seen m′ d′ (drop since′ xs)) (drop (i + 1) xs) ≡ a
-  seek-looks m′ d′ since′ e g p q inv =
-      rw (p, q)
-      (sym
-      (walk-goes (seekTurn f) z (seen m d (drop since xs)) (seen (next m (getD xs i 0)) d′ (drop i xs)) xs i h
-      (rw (e, g) (ap (λ (l : List ℕ). on (seen (next m (getD xs i 0)) d′ l)) (sym (split xs i h)))))
-      ∙ inv)
-
-  pub seek-passes : (m′ : Mode) (since′ : ℕ) → calm m (getD xs i 0) ≡ false → m′ ≡ next m (getD xs i 0) → since′ ≡ since → walk (seekTurn f) z (seen m d (drop since xs)) (drop i xs) ≡ a → walk (seekTurn f) z (seen m′ d (drop since′ xs)) (drop (i + 1) xs) ≡ a
-  seek-passes m′ since′ e p q inv =
-      rw (p, q)
-      (sym (walk-goes (seekTurn f) z (seen m d (drop since xs)) (seen (next m (getD xs i 0)) d (drop since xs)) xs i h (rw e refl)) ∙ inv)
-
--- the code's refusal where the bytes ended is the search's
-pub missed-told : (xs whole : List ℕ) (n since d : ℕ) (m : Mode) (own : Fault) → since ≤ length xs → told own ≡ refusal n 0 (place xs whole) → bad (told (unclosedFault m own since)) ≡ placed xs (missed n whole (seen m d (drop since xs)))
-missed-told xs whole n since d Plain own h e = ap bad e
-missed-told xs whole n since d Slash own h e = ap bad e
-missed-told xs whole n since d Text own h e = rw (place-drop xs since h) refl
-missed-told xs whole n since d Quoted own h e = ap bad e
-missed-told xs whole n since d Remark own h e = rw (place-drop xs since h) refl
-missed-told xs whole n since d Starred own h e = rw (place-drop xs since h) refl
 
 -- a byte opens one parenthesis at most
 pub paren-up : (d c d′ : ℕ) → paren d c ≡ look d′ → d′ ≤ d + 1

@@ -1,15 +1,17 @@
 // The lexer under the scan: past trivia, to a record's `;`, to the `)` that closes a `(`.
 //
-// As the first half of the Rust's scan.rs, with one mode a byte in place of nested loops: `next` says what a byte does, and
-// each search is one loop over it. No function has a `requires`: a start past the file's end counts as the end.
+// As the first half of the Rust's scan.rs. Trivia are read with one mode a byte in place of nested loops: `next` says what a byte does. The
+// searches for a `;` and a `)` pass a string or a comment at one go, and plain bytes by blocks where there are many.
+// No public function has a `requires`: a start past the file's end counts as the end.
 ghost use mathlib.Core.Path.{_≡_};
 ghost use Prim.Native.Nat.{_+_, _≤_, _<_, _^_, min};
-ghost use mathlib.Core.Bool.{true, false};
+ghost use mathlib.Core.Bool.{true, false, _||_};
 ghost use lib.ListN.{length, drop};
 ghost use Rattle.lex.specs.Byte.{white, pick};
 ghost use Rattle.lex.specs.Lexer.{calm, fresh, next};
 ghost use Rattle.lex.specs.Leap.{Lacks, Without, Stopped, Leapt};
-ghost use Rattle.lex.specs.Search.{recordEnd, closing, trivia, placed, toldFound, unclosedFault, paren, lookOf, leadAt, trailedAt};
+ghost use Rattle.lex.specs.Past.{IsAt, Shut, Onward, Quiet, Counted, Stood};
+ghost use Rattle.lex.specs.Search.{recordEnd, closing, trivia, placed, toldFound, paren, lookOf, leadAt, trailedAt};
 use error::Fault;
 
 // Where the lexer stands: outside strings and comments; after a slash there; in a string; after a quote in one; in a
@@ -94,20 +96,6 @@ pub fn within(start: usize, n: usize) -> usize
     if start < n { start } else { n }
 }
 
-// What is wrong where the file ends in this mode: a string or a comment is open since then, or the search's own fault.
-fn unclosed_at(m: Mode, own: Fault, since: usize) -> Fault
-    ensures { λ r. ⌜ r ≡ unclosedFault m own since ⌝ }
-{
-    match m {
-        Mode::Plain => own,
-        Mode::Slash => own,
-        Mode::Text => Fault::OpenString(since),
-        Mode::Quoted => own,
-        Mode::Remark => Fault::OpenComment(since),
-        Mode::Starred => Fault::OpenComment(since),
-    }
-}
-
 // Whether one of the 64 bytes from `at` on is b. It only notes a hit, so that the compiler looks at many bytes at once.
 fn block_has(s: &[u8], at: usize, b: u8) -> bool
     requires { ⌜ at + 64 ≤ length (now s) ⌝ }
@@ -181,26 +169,148 @@ fn leap(s: &[u8], m: Mode, i: usize) -> usize
     }
 }
 
-// Finds the `;` that ends the record that begins at `start`.
+// Whether the byte b stands at i.
+fn is_at(s: &[u8], i: usize, b: u8) -> bool
+    ensures { λ r. ⌜ IsAt b (now (s .entry)) i r ⌝ }
+{
+    if i < s.len() {
+        return s[i] == b;
+    }
+    false
+}
+
+// Past the string whose first quote stands at q, from a place in it on: it ends at a quote that no quote follows.
+fn far_text(s: &[u8], q: usize, from: usize) -> Found
+    requires { ⌜ (q < from) × (from ≤ length (now s)) ⌝ }
+    ensures { λ r. ⌜ Shut (now (s .entry)) Mode.Text q from r ⌝ }
+{
+    let mut i = from;
+    loop {
+        let e = find(s, i, b'\'');
+        if s.len() <= e {
+            return Found::Refused(Fault::OpenString(q));
+        }
+        if !is_at(s, e + 1, b'\'') {
+            return Found::At(e + 1);
+        }
+        i = e + 2;
+    }
+}
+
+// Past the string whose first quote stands at q. Most are short: the first bytes are looked at one by one.
+fn past_text(s: &[u8], q: usize) -> Found
+    requires { ⌜ q < length (now s) ⌝ }
+    ensures { λ r. ⌜ Shut (now (s .entry)) Mode.Text q (q + 1) r ⌝ }
+{
+    let near = within(q + 32, s.len());
+    let mut i = q + 1;
+    while i < near {
+        if s[i] == b'\'' {
+            if !is_at(s, i + 1, b'\'') {
+                return Found::At(i + 1);
+            }
+            i += 1;
+        }
+        i += 1;
+    }
+    far_text(s, q, i)
+}
+
+// Past the comment whose `/` stands at q and its `*` after it.
+fn past_remark(s: &[u8], q: usize) -> Found
+    requires { ⌜ q + 2 ≤ length (now s) ⌝ }
+    ensures { λ r. ⌜ Shut (now (s .entry)) Mode.Remark q (q + 2) r ⌝ }
+{
+    let mut i = q + 2;
+    loop {
+        let e = find(s, i, b'*');
+        if s.len() <= e {
+            return Found::Refused(Fault::OpenComment(q));
+        }
+        if is_at(s, e + 1, b'/') {
+            return Found::At(e + 2);
+        }
+        i = e + 1;
+    }
+}
+
+// Past what stands at i outside strings and comments: a string, a comment, or a byte.
+fn past(s: &[u8], i: usize) -> Found
+    requires { ⌜ i < length (now s) ⌝ }
+    ensures { λ r. ⌜ Onward (now (s .entry)) i r ⌝ }
+{
+    let c = s[i];
+    if c == b'\'' {
+        return past_text(s, i);
+    }
+    if c != b'/' {
+        return Found::At(i + 1);
+    }
+    if !is_at(s, i + 1, b'*') {
+        return Found::At(i + 1);
+    }
+    past_remark(s, i)
+}
+
+// Whether one of the 64 bytes from `at` on is a quote, a slash or a `;`. Each is noted for itself: where all go into one note, the
+// compiler does not look at many bytes at once.
+fn block_ends(s: &[u8], at: usize) -> bool
+    requires { ⌜ at + 64 ≤ length (now s) ⌝ }
+    ensures { λ r. ⌜ (r ≡ false → Quiet (now (s .entry)) at (at + 64)) ⌝ }
+{
+    let mut quote = false;
+    let mut slash = false;
+    let mut end = false;
+    let mut k = 0;
+    while k < 64 {
+        let b = s[at + k];
+        quote = quote | (b == b'\'');
+        slash = slash | (b == b'/');
+        end = end | (b == b';');
+        k += 1;
+    }
+    quote | slash | end
+}
+
+// Past all blocks of 64 bytes, from `from` on, in which a search for a `;` finds nothing to look at.
+fn pass_quiet(s: &[u8], from: usize) -> usize
+    requires { ⌜ from ≤ length (now s) ⌝ }
+    ensures { λ r. ⌜ Quiet (now (s .entry)) from r ⌝ }
+    ensures { λ r. ⌜ (from ≤ r) × (r ≤ length (now (s .entry))) ⌝ }
+{
+    let mut i = from;
+    while s.len() - i >= 64 {
+        if block_ends(s, i) {
+            return i;
+        }
+        i += 64;
+    }
+    i
+}
+
+// Finds the `;` that ends the record that begins at `start`. The bytes are looked at one by one up to `near`, then by blocks while that passes
+// any: most records are short.
 pub fn find_record_end(s: &[u8], start: usize) -> Found
     ensures { λ r. ⌜ toldFound r ≡ placed (now (s .entry)) (recordEnd (drop start (now (s .entry)))) ⌝ }
 {
     let from = within(start, s.len());
     let mut i = from;
-    let mut since = from;
-    let mut m = Mode::Plain;
+    let mut near = from + 64;
     while i < s.len() {
-        let b = s[i];
-        if is_calm(m, b) {
-            if b == b';' {
+        if near <= i {
+            i = pass_quiet(s, i);
+            near = i + 64;
+        } else {
+            if s[i] == b';' {
                 return Found::At(i);
             }
-            since = i;
+            match past(s, i) {
+                Found::At(next) => i = next,
+                Found::Refused(f) => return Found::Refused(f),
+            }
         }
-        m = next_mode(m, b);
-        i = leap(s, m, i + 1);
     }
-    Found::Refused(unclosed_at(m, Fault::NoEnd(from), since))
+    Found::Refused(Fault::NoEnd(from))
 }
 
 // What a byte outside strings and comments does to the open parentheses: it closes the one sought, or so many are open.
@@ -225,29 +335,108 @@ fn depth_after(depth: usize, b: u8) -> Level
     Level::Open(depth - 1)
 }
 
-// Finds the `)` that closes the `(` at `opening`; what byte stands there is not looked at.
+// How many `(` and `)` some bytes have, and whether one of them is a quote or a slash.
+struct Tally {
+    quote: bool,
+    slash: bool,
+    up: u8,
+    down: u8,
+}
+
+// Where a search for a `)` stands outside strings and comments, and how many parentheses are open there.
+struct Stand {
+    at: usize,
+    depth: usize,
+}
+
+// A test as a number to be added.
+fn one_if(t: bool) -> u8
+    ensures { λ r. ⌜ r ≡ pick t 1 0 ⌝ }
+    ensures { λ r. ⌜ r ≤ 1 ⌝ }
+{
+    if t { 1 } else { 0 }
+}
+
+// A byte as a place.
+fn wide(n: u8) -> usize
+    ensures { λ r. ⌜ r ≡ n ⌝ }
+{
+    n as usize
+}
+
+// What the 64 bytes from `at` on do to a search for a `)`. The counts are bytes, so that the compiler counts in many of them at once.
+fn block_tally(s: &[u8], at: usize) -> Tally
+    requires { ⌜ at + 64 ≤ length (now s) ⌝ }
+    ensures { λ r. ⌜ (r .up ≤ 64) × (r .down ≤ 64) ⌝ }
+    ensures { λ r. ⌜ ((r .quote || r .slash) ≡ false → Counted (now (s .entry)) at (at + 64) (r .up) (r .down)) ⌝ }
+{
+    let mut quote = false;
+    let mut slash = false;
+    let mut up: u8 = 0;
+    let mut down: u8 = 0;
+    let mut k = 0;
+    while k < 64 {
+        let b = s[at + k];
+        quote = quote | (b == b'\'');
+        slash = slash | (b == b'/');
+        up = up + one_if(b == b'(');
+        down = down + one_if(b == b')');
+        k += 1;
+    }
+    Tally {
+        quote,
+        slash,
+        up,
+        down,
+    }
+}
+
+// Past all blocks of 64 bytes, from `from` on with so many open parentheses, that have no string, no comment and no more `)` than are open: none
+// of these closes the one sought.
+fn pass_calm(s: &[u8], from: usize, opened: usize) -> Stand
+    requires { ⌜ (opened ≤ from) × (from ≤ length (now s)) ⌝ }
+    ensures { λ r. ⌜ Stood (now (s .entry)) from opened r ⌝ }
+{
+    let mut i = from;
+    let mut depth = opened;
+    while s.len() - i >= 64 {
+        let t = block_tally(s, i);
+        let down = wide(t.down);
+        if t.quote | t.slash | (depth < down) {
+            return Stand { at: i, depth };
+        }
+        depth = depth + wide(t.up) - down;
+        i += 64;
+    }
+    Stand { at: i, depth }
+}
+
+// Finds the `)` that closes the `(` at `opening`; what byte stands there is not looked at. By bytes and blocks as the search for a `;`.
 pub fn matching_paren(s: &[u8], opening: usize) -> Found
     ensures { λ r. ⌜ toldFound r ≡ placed (now (s .entry)) (closing (drop opening (now (s .entry)))) ⌝ }
 {
     let from = within(opening, s.len());
-    let first = within(from + 1, s.len());
-    let mut i = first;
-    let mut since = first;
+    let mut i = within(from + 1, s.len());
     let mut depth: usize = 0;
-    let mut m = Mode::Plain;
+    let mut near = i + 64;
     while i < s.len() {
-        let b = s[i];
-        if is_calm(m, b) {
-            let Level::Open(d) = depth_after(depth, b) else {
+        if near <= i {
+            let t = pass_calm(s, i, depth);
+            i = t.at;
+            depth = t.depth;
+            near = i + 64;
+        } else {
+            let Level::Open(d) = depth_after(depth, s[i]) else {
                 return Found::At(i);
             };
+            match past(s, i) {
+                Found::At(next) => i = next,
+                Found::Refused(f) => return Found::Refused(f),
+            }
             depth = d;
-            since = i;
         }
-        m = next_mode(m, b);
-        i = leap(s, m, i + 1);
     }
-    Found::Refused(unclosed_at(m, Fault::OpenParen(from), since))
+    Found::Refused(Fault::OpenParen(from))
 }
 
 // What a byte outside comments does to the trivia: they end at a place, or go on in a mode.

@@ -90,19 +90,21 @@ fn greater(a: u32, b: u32) -> u32
     if a < b { b } else { a }
 }
 
-// Stores a header row as row k, where the pass writes.
-fn put_header(out: &mut [u32], k: usize, span: HeaderSpan, write: bool)
+// Stores a header row as row k, where the pass writes, and answers the next row's number.
+fn put_header(out: &mut [u32], k: usize, span: HeaderSpan, write: bool) -> usize
     requires { ⌜ (k * 4 + 4 ≤ length (now out)) × HeaderFits 4294967295 (headerRowOf span) ⌝ }
     ensures { λ _. ⌜ now (out .exit) ≡ pick write (sets (now (out .entry)) (k * 4) (four (headerRowOf span))) (now (out .entry)) ⌝ }
+    ensures { λ r. ⌜ r ≡ k + 1 ⌝ }
 {
     if !write {
-        return;
+        return k + 1;
     }
     let at = k * 4;
     out[at] = span.keyword.start as u32;
     out[at + 1] = span.keyword.end as u32;
     out[at + 2] = span.args.start as u32;
     out[at + 3] = span.args.end as u32;
+    k + 1
 }
 
 // Stores a data row as row k, where the pass writes.
@@ -207,9 +209,8 @@ fn pass(
                 if headers.len() / 4 <= h {
                     return Passed::Stopped(Fault::NoRow(start));
                 }
-                put_header(headers, h, span, write);
+                h = put_header(headers, h, span, write);
                 section = Section::InHeader;
-                h += 1;
                 i = next;
             }
             Said::Records(span, start, next) => {

@@ -4,12 +4,13 @@ use mathlib.Core.Path.{_≡_, refl, sym, _∙_, ap}
 use mathlib.Core.Bool.{Bool, true, false, not, _||_}
 use mathlib.Core.List.{List, [], _∷_, _++_, append-assoc}
 use native.Mathlib.Omega.{arith}
+use native.Mathlib.Decide.{decLe}
 use lib.Dec.{eqb}
 use lib.ListN.{length, take, drop, getD, length-drop, length-append, take-append-drop}
 use lib.Seq.{drop-drop, take-all}
 use borrow.Author.Tests.{eqb-true, eqb-false, ne-eqb, not-true, not-false}
 use Rattle.lex.specs.Byte.{pick, white}
-use Rattle.lex.specs.Walk.{split, drop-end}
+use Rattle.lex.specs.Walk.{split, drop-end, walk}
 use Rattle.lex.specs.Grammar.{Begins, Opens, Inside, Quotation}
 use Rattle.lex.specs.Search.{Look, look, semicolon, paren, under}
 use Rattle.lex.specs.Seek.{under-less}
@@ -46,6 +47,42 @@ mark-slash = refl
 mark-end : mark 59 ≡ true
 unfolding mark
 mark-end = refl
+
+-- One byte of the walk over a string's inside, at a place.
+module _ (s : List ℕ) (i : ℕ) (h : i < length s) where
+  pub spoken-stops : stops (getD s i 0) ≡ true → drop i s ≡ past spoken (drop i s)
+  unfolding past
+  spoken-stops e = past-stops s i h spoken (past spoken (drop i s)) (ap not e) refl
+
+  pub spoken-goes : stops (getD s i 0) ≡ false → past spoken (drop (i + 1) s) ≡ past spoken (drop i s)
+  unfolding past
+  spoken-goes e = past-goes s i h spoken (past spoken (drop i s)) (ap not e) refl
+
+-- the bytes end in the string
+pub spoken-none : (s : List ℕ) (i : ℕ) → length s ≤ i → drop i s ≡ past spoken (drop i s)
+unfolding past walk
+spoken-none s i h = rw (drop-end s i h) refl
+
+-- a place that stops the walk where it lies before the end
+pub spoken-last : (s : List ℕ) (i : ℕ) → (i < length s → drop i s ≡ past spoken (drop i s)) → drop i s ≡ past spoken (drop i s)
+spoken-last s i h = go (decLe (length s) i)
+  where
+    go : Dec (length s ≤ i) → drop i s ≡ past spoken (drop i s)
+    go (yes l) = spoken-none s i l
+    go (no l) = h (omega arith)
+
+-- one byte more of a block in which neither a quote nor a `;` was noted
+pub spoken-on : (s : List ℕ) (i k : ℕ) (quote end : Bool) → i + k < length s → ((quote || end) ≡ false → past spoken (drop (i + k) s) ≡ past spoken (drop i s))
+    → ((quote || eqb (getD s (i + k) 0) 39) || (end || eqb (getD s (i + k) 0) 59)) ≡ false → past spoken (drop (i + (k + 1)) s) ≡ past spoken (drop i s)
+spoken-on s i k quote end h p e = go quote end (eqb (getD s (i + k) 0) 39) (eqb (getD s (i + k) 0) 59) refl refl p e
+  where
+    go : (x y a b : Bool) → eqb (getD s (i + k) 0) 39 ≡ a → eqb (getD s (i + k) 0) 59 ≡ b → ((x || y) ≡ false → past spoken (drop (i + k) s) ≡ past spoken (drop i s))
+        → ((x || a) || (y || b)) ≡ false → past spoken (drop (i + (k + 1)) s) ≡ past spoken (drop i s)
+    go true y a b l m p e = clash (cc)
+    go false y true b l m p e = clash (cc)
+    go false true false b l m p e = clash (cc)
+    go false false false true l m p e = clash (cc)
+    go false false false false l m p e = let n : i + (k + 1) ≡ i + k + 1 = omega arith in rw n (spoken-goes s (i + k) h (rw (l, m) refl) ∙ p refl)
 
 -- nothing on the way
 pub way-none : (d : ℕ) (xs : List ℕ) → Way d d xs xs

@@ -275,20 +275,70 @@ fn is_stop(b: u8) -> bool
     (b == b'\'') | (b == b';')
 }
 
-// The first quote or `;` from `from` on, or the length.
-fn text_run(s: &[u8], from: usize) -> usize
+// Whether one of the 64 bytes from i on is a quote or a `;`. It only notes hits, each of the two for itself: so the compiler looks at many
+// bytes at once, which it does not where both go into one note.
+fn block_stops(s: &[u8], i: usize) -> bool
+    requires { ⌜ i + 64 ≤ length (now s) ⌝ }
+    ensures { λ r. ⌜ (r ≡ false → past spoken (drop (i + 64) (now (s .entry))) ≡ past spoken (drop i (now (s .entry)))) ⌝ }
+{
+    let mut quote = false;
+    let mut end = false;
+    let mut k: usize = 0;
+    while k < 64 {
+        let b = s[i + k];
+        quote = quote | (b == b'\'');
+        end = end | (b == b';');
+        k += 1;
+    }
+    quote | end
+}
+
+// Past all blocks of 64 bytes without a quote or a `;`, from `from` on.
+fn text_blocks(s: &[u8], from: usize) -> usize
     requires { ⌜ from ≤ length (now s) ⌝ }
-    ensures { λ r. ⌜ drop r (now (s .entry)) ≡ past spoken (drop from (now (s .entry))) ⌝ }
+    ensures { λ r. ⌜ past spoken (drop r (now (s .entry))) ≡ past spoken (drop from (now (s .entry))) ⌝ }
     ensures { λ r. ⌜ (from ≤ r) × (r ≤ length (now (s .entry))) ⌝ }
 {
     let mut i = from;
-    while i < s.len() {
+    while s.len() - i >= 64 {
+        if block_stops(s, i) {
+            return i;
+        }
+        i += 64;
+    }
+    i
+}
+
+// The first quote or `;` from `from` on and before `end`, or `end`.
+fn text_bytes(s: &[u8], from: usize, end: usize) -> usize
+    requires { ⌜ (from ≤ end) × (end ≤ length (now s)) ⌝ }
+    ensures { λ r. ⌜ past spoken (drop r (now (s .entry))) ≡ past spoken (drop from (now (s .entry))) ⌝ }
+    ensures { λ r. ⌜ (from ≤ r) × (r ≤ end) ⌝ }
+    ensures { λ r. ⌜ (r < end → drop r (now (s .entry)) ≡ past spoken (drop r (now (s .entry)))) ⌝ }
+{
+    let mut i = from;
+    while i < end {
         if is_stop(s[i]) {
             return i;
         }
         i += 1;
     }
     i
+}
+
+// The first quote or `;` from `from` on, or the length. Most strings are short; what is far is sought by blocks.
+fn text_run(s: &[u8], from: usize) -> usize
+    requires { ⌜ from ≤ length (now s) ⌝ }
+    ensures { λ r. ⌜ drop r (now (s .entry)) ≡ past spoken (drop from (now (s .entry))) ⌝ }
+    ensures { λ r. ⌜ (from ≤ r) × (r ≤ length (now (s .entry))) ⌝ }
+{
+    let near = lex::within(from + 32, s.len());
+    let i = text_bytes(s, from, near);
+    if i < near {
+        return i;
+    }
+    let far = text_blocks(s, i);
+    text_bytes(s, far, s.len())
 }
 
 // Past the string whose first quote stands at i, with so many open parentheses. One with a `;` or a doubled quote is not usual.

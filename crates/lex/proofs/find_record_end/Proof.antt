@@ -1,112 +1,114 @@
-use Rattle.lex.specs.Search.{placed}
-use Rattle.lex.specs.Seek.{drop-within, seek-halts, seek-looks, seek-passes, missed-told}
-use Rattle.lex.specs.Leap.{seek-leaps}
+use Rattle.lex.specs.Past.{ahead, blocks-less, bytes-less, Quiet, Onward}
+use Rattle.lex.specs.Seek.{drop-within, seek-halts}
+use Rattle.lex.specs.Search.{seen, seekTurn, semicolon, missed, recordEnd, placed}
 use Rattle.lex.specs.Walk.{walk-ends}
 use Rattle.lex.specs.Byte.{place-drop}
-use Rattle.error.specs.Refusal.{good, bad, told}
-use Prim.Native.Nat.{ℕ}
-use denote.Ref.{now}
-use borrow.Author.Tests.{eq-eqb, ne-eqb}
-use mathlib.Core.Logic.{⊎-elim}
-use mathlib.Core.Path.{ap, sym, refl, _∙_}
-use Prim.Native.Nat.{_≤_}
+use Rattle.lex.specs.Right.Steps.{plainly}
+use Rattle.error.specs.Refusal.{good, bad, refusal}
 use Rattle.lex.specs.declared.Mode.the-variants.{Plain}
-use Rattle.lex.specs.Search.{seen, seekTurn, semicolon, missed, recordEnd}
-use Rattle.lex.specs.Walk.{walk}
-use lib.ListN.{length, drop}
-use borrow.Author.Needs.{needs}
+use borrow.Author.Tests.{eq-eqb, ne-eqb}
+use lib.ListN.{length, drop, getD}
+use mathlib.Core.Path.{_≡_, refl, sym, _∙_, ap}
+use Prim.Native.Nat.{ℕ, _+_, _-_, _≤_}
+use denote.Ref.{now}
 use native.Mathlib.Omega.{arith}
-use mathlib.Core.List.{List}
-use mathlib.Core.Path.{_≡_}
-use Prim.Native.Nat.{_+_, _-_}
+use borrow.Author.Needs.{needs}
 use Rattle.lex.proofs.find_record_end.Statement.{statement}
 use Rattle.lex.proofs.find_record_end.Tie as tie
 use Rattle.lex.proofs.find_record_end.Reads as reads
 use Rattle.lex.proofs.find_record_end.Lts as lts
-use Rattle.lex.proofs.is_calm.Reads as is-calm-reads
-use Rattle.lex.proofs.next_mode.Reads as next-mode-reads
-use Rattle.lex.proofs.leap.Reads as leap-reads
-use Rattle.lex.proofs.unclosed_at.Reads as unclosed-at-reads
+use Rattle.lex.proofs.pass_quiet.Reads as pass-quiet-reads
+use Rattle.lex.proofs.past.Reads as past-reads
 use Rattle.lex.proofs.within.Reads as within-reads
 
 abbrev Inv-loop : tie.InvT-loop
-Inv-loop s start from i₀ since₀ m₀ i since m = (since ≤ length s) × (walk (seekTurn semicolon) (missed 5 (drop from s)) (seen m 0 (drop since s)) (drop i s) ≡ recordEnd (drop start s))
+Inv-loop s start from i₀ near₀ i near = (i ≤ length s) × (plainly semicolon 5 (drop from s) 0 (drop i s) ≡ recordEnd (drop start s))
 
 abbrev μ-loop : tie.MeasureT-loop
-μ-loop s start from i₀ since₀ m₀ i since m = length s - i
+μ-loop s start from i₀ near₀ i near = ahead (length s) i near
 
--- src/lib.rt:111:9
+-- src/lib.rt:295:9
 within-requires : tie.Need-within-requires Inv-loop μ-loop
 within-requires c κs = search needs
 
--- src/lib.rt:115:5
+-- src/lib.rt:297:20
+add-near : tie.Need-add-near Inv-loop μ-loop
+add-near c = omega (arith, c .within .ensures)
+
+-- src/lib.rt:298:5
 loop-holds : tie.Need-loop-holds Inv-loop μ-loop
 unfolding recordEnd
 loop-holds c = let s = now (c .before .before .args .s) in
     (omega (arith, c .within .ensures), ap recordEnd (ap (λ (k : ℕ). drop k s) (c .within .ensures) ∙ drop-within s (c .before .before .args .start)))
 
--- src/lib.rt:116:17
-shared-slice-read-b : tie.Need-shared-slice-read-b Inv-loop μ-loop
-shared-slice-read-b c = search needs
+-- src/lib.rt:300:13
+pass-quiet-requires : tie.Need-pass-quiet-requires Inv-loop μ-loop
+pass-quiet-requires c κs = search needs
 
--- src/lib.rt:117:12
-is-calm-requires : tie.Need-is-calm-requires Inv-loop μ-loop
-is-calm-requires c κs = search needs
+-- src/lib.rt:301:20
+add-near-2 : tie.Need-add-near-2 Inv-loop μ-loop
+add-near-2 c = search needs
 
--- src/lib.rt:119:17
-returns : tie.Need-returns Inv-loop μ-loop
-returns c = let t = c .before .before .before .before .before in
-    let s = now (t .before .before .before .args .s) in
-    ap good (sym (place-drop s (t .loop .i) (omega arith)))
-    ∙ ap (placed s)
-    (seek-halts semicolon (missed 5 (drop (t .before .within .result) s)) s (t .loop .i) (omega arith) (t .loop .m) 0 (t .loop .since) _
-    (sym (c .before .before .is-calm .ensures) ∙ c .before .if1 .taken) (simp (eq-eqb _ _ (c .if2 .taken))) (t .loop .inv .1))
-
--- src/lib.rt:123:9
-next-mode-requires : tie.Need-next-mode-requires Inv-loop μ-loop
-next-mode-requires c κs = search needs
-
-add-leap : tie.Need-add-leap Inv-loop μ-loop
-add-leap c = search needs
-
-leap-requires : tie.Need-leap-requires Inv-loop μ-loop
-leap-requires c κs = search needs
-
--- src/lib.rt:115:5
+-- src/lib.rt:298:5
 loop-less : tie.Need-loop-less Inv-loop μ-loop
-loop-less c = let h = c .leap .ensures .on in let k = c .leap .ensures .inside in omega arith
+loop-less c = let l = c .before .before .before .loop in blocks-less _ (l .i) (l .near) (c .pass-quiet .result) (omega arith) (c .pass-quiet .ensures .1 .0)
 
--- src/lib.rt:115:5
+-- src/lib.rt:298:5
 loop-again : tie.Need-loop-again Inv-loop μ-loop
-loop-again c = let t = c .before .before .before .before .before .before in
-    let s = now (t .before .before .before .args .s) in
-    let i = t .loop .i in
-    ⊎-elim
-    (λ w. (
-      omega arith,
-      sym (seek-leaps semicolon _ s _ _ _ (t .loop .i + 1) _ (c .leap .ensures))
-          ∙ seek-looks semicolon (missed 5 (drop (t .before .within .result) s)) s i (omega arith) (t .loop .m) 0 (t .loop .since) _ _ 0 _
-          (sym (c .before .before .before .is-calm .ensures) ∙ w .0 .taken) (simp (ne-eqb _ _ (w .1 .left))) (c .before .next-mode .ensures) (w .2) (t .loop .inv .1),
-    ))
-    (λ w. (
-      omega arith,
-      sym (seek-leaps semicolon _ s _ _ _ (t .loop .i + 1) _ (c .leap .ensures))
-          ∙ seek-passes semicolon (missed 5 (drop (t .before .within .result) s)) s i (omega arith) (t .loop .m) 0 (t .loop .since) _ _ _
-          (sym (c .before .before .before .is-calm .ensures) ∙ w .0 .left) (c .before .next-mode .ensures) (w .1) (t .loop .inv .1),
-    ))
-    (c .before .before .if1 .came)
+loop-again c = let l = c .before .before .before .loop in
+    let s = now (c .before .before .before .before .before .before .args .s) in
+    (omega arith, sym (c .pass-quiet .ensures .0 5 (drop (c .before .before .before .before .within .result) s)) ∙ l .inv .1)
 
--- src/lib.rt:126:20
-unclosed-at-requires : tie.Need-unclosed-at-requires Inv-loop μ-loop
-unclosed-at-requires c κs = search needs
+-- src/lib.rt:303:16
+shared-slice-read-if2 : tie.Need-shared-slice-read-if2 Inv-loop μ-loop
+shared-slice-read-if2 c = search needs
 
--- src/lib.rt:108:1
+-- src/lib.rt:304:17
+returns : tie.Need-returns Inv-loop μ-loop
+returns c = let l = c .before .before .before .before .loop in
+    let s = now (c .before .before .before .before .before .before .before .args .s) in
+    ap good (sym (place-drop s (l .i) (omega arith)))
+    ∙ ap (placed s)
+    (seek-halts semicolon (missed 5 (drop (c .before .before .before .before .before .within .result) s)) s (l .i) (omega arith) Plain 0 (l .i) _ refl (simp (eq-eqb _ _ (c .if2 .taken))) (l .inv .1))
+
+-- src/lib.rt:306:19
+past-requires : tie.Need-past-requires Inv-loop μ-loop
+past-requires c κs = search needs
+
+-- src/lib.rt:307:27
+enum-known-next : tie.Need-enum-known-next Inv-loop μ-loop
+enum-known-next c = search needs
+
+-- src/lib.rt:298:5
+loop-less-2 : tie.Need-loop-less-2 Inv-loop μ-loop
+loop-less-2 c = let e = rw (c .before .next .given .1) at (c .before .before .before .past .ensures) in
+    let l = c .before .before .before .before .before .before .before .before .loop in bytes-less _ (l .i) (l .near) _ (omega arith) (e .0) (e .1)
+
+-- src/lib.rt:298:5
+loop-again-2 : tie.Need-loop-again-2 Inv-loop μ-loop
+loop-again-2 c = let l = c .before .before .before .before .before .before .before .before .loop in
+    let s = now (c .before .before .before .before .before .before .before .before .before .before .before .args .s) in
+    let e = rw (c .before .next .given .1) at (c .before .before .before .past .ensures) in
+    (omega (arith, e .1), sym (e .2 semicolon 5 (drop (c .before .before .before .before .before .before .before .before .before .within .result) s) 0 0 (simp (ne-eqb _ _ (c .before .before .before .before .if2 .left)))) ∙ l .inv .1)
+
+-- src/lib.rt:308:32
+enum-known-f : tie.Need-enum-known-f Inv-loop μ-loop
+enum-known-f c = search needs
+
+-- src/lib.rt:308:38
 returns-2 : tie.Need-returns-2 Inv-loop μ-loop
-returns-2 c = let t = c .before .before in
-    let s = now (t .before .before .before .args .s) in
-    ap (λ f. bad (told f)) (c .unclosed-at .ensures)
-    ∙ missed-told s (drop (t .before .within .result) s) 5 (t .loop .since) 0 (t .loop .m) _ (t .loop .inv .0) (rw (place-drop s (t .before .within .result) (omega (arith, t .before .within .ensures))) refl)
-    ∙ ap (placed s) (sym (walk-ends (seekTurn semicolon) (missed 5 (drop (t .before .within .result) s)) (seen (t .loop .m) 0 (drop (t .loop .since) s)) s (t .loop .i) (omega arith)) ∙ t .loop .inv .1)
+returns-2 c = let l = c .before .before .before .before .before .before .before .before .loop in
+    let s = now (c .before .before .before .before .before .before .before .before .before .before .before .args .s) in
+    let e = rw (c .before .f .given .1) at (c .before .before .before .past .ensures) in
+    sym (e semicolon 5 (drop (c .before .before .before .before .before .before .before .before .before .within .result) s) 0 0 (simp (ne-eqb _ _ (c .before .before .before .before .if2 .left)))) ∙ ap (placed s) (l .inv .1)
+
+-- src/lib.rt:292:1
+returns-3 : tie.Need-returns-3 Inv-loop μ-loop
+returns-3 c = let l = c .before .loop in
+    let s = now (c .before .before .before .before .args .s) in
+    let from = c .before .before .within .result in
+    ap (λ (k : ℕ). bad (refusal 5 0 k)) (sym (place-drop s from (omega (arith, c .before .before .within .ensures))))
+    ∙ ap (placed s) (sym (walk-ends (seekTurn semicolon) (missed 5 (drop from s)) (seen Plain 0 (drop (l .i) s)) s (l .i) (omega arith)) ∙ l .inv .1)
 
 pub find-record-end-spec : {M : Type 1} → statement M
 find-record-end-spec =
@@ -115,14 +117,18 @@ find-record-end-spec =
     Inv-loop
     μ-loop
     within-requires
+    add-near
     loop-holds
-    shared-slice-read-b
-    is-calm-requires
-    returns
-    next-mode-requires
-    add-leap
-    leap-requires
+    pass-quiet-requires
+    add-near-2
     loop-less
     loop-again
-    unclosed-at-requires
-    returns-2)
+    shared-slice-read-if2
+    returns
+    past-requires
+    enum-known-next
+    loop-less-2
+    loop-again-2
+    enum-known-f
+    returns-2
+    returns-3)

@@ -44,7 +44,7 @@ pub record Deaf {S A : Type 0} (t : S → ℕ → List ℕ → Turn S A) (z : S 
 
 module _ {S A : Type 0} (t : S → ℕ → List ℕ → Turn S A) (z : S → A) (st : Mode → S) (deaf : Deaf t z st) where
   -- a star that no slash follows
-  unstarred : (xs : List ℕ) → (Begins 47 xs → ⊥) → walk t z (st Starred) xs ≡ walk t z (st Remark) xs
+  pub unstarred : (xs : List ℕ) → (Begins 47 xs → ⊥) → walk t z (st Starred) xs ≡ walk t z (st Remark) xs
   unfolding walk
   unstarred [] h = deaf .starred
   unstarred (c ∷ r) h = rw (deaf .quiet Starred c r refl, deaf .quiet Remark c r refl, ne-eqb c 47 (λ e. h (r, cc)))
@@ -100,25 +100,25 @@ plainly f n w d xs = seek f (missed n w) Plain d xs xs
 
 module _ (f : ℕ → ℕ → Look) (n : ℕ) (w : List ℕ) where
   -- outside strings and comments, where the last byte outside stood has no part in the answer
-  unopened : (d : ℕ) (o p xs : List ℕ) → seek f (missed n w) Plain d o xs ≡ seek f (missed n w) Plain d p xs
+  pub unopened : (d : ℕ) (o p xs : List ℕ) → seek f (missed n w) Plain d o xs ≡ seek f (missed n w) Plain d p xs
   unfolding walk
   unopened d o p [] = refl
   unopened d o p (c ∷ r) = refl
 
   -- a slash that no star follows
-  unslashed : (d : ℕ) (o p xs : List ℕ) → (Begins 42 xs → ⊥) → seek f (missed n w) Slash d o xs ≡ seek f (missed n w) Plain d p xs
+  pub unslashed : (d : ℕ) (o p xs : List ℕ) → (Begins 42 xs → ⊥) → seek f (missed n w) Slash d o xs ≡ seek f (missed n w) Plain d p xs
   unfolding walk
   unslashed d o p [] h = refl
   unslashed d o p (c ∷ r) h = rw (ne-eqb c 42 (λ e. h (r, cc)))
 
   -- a quote that no quote follows
-  unquoted : (d : ℕ) (o p xs : List ℕ) → (Begins 39 xs → ⊥) → seek f (missed n w) Quoted d o xs ≡ seek f (missed n w) Plain d p xs
+  pub unquoted : (d : ℕ) (o p xs : List ℕ) → (Begins 39 xs → ⊥) → seek f (missed n w) Quoted d o xs ≡ seek f (missed n w) Plain d p xs
   unfolding walk
   unquoted d o p [] h = refl
   unquoted d o p (c ∷ r) h = rw (ne-eqb c 39 (λ e. h (r, cc)))
 
   -- in strings and comments a search is deaf
-  seek-deaf : (d : ℕ) (o : List ℕ) → Deaf (seekTurn f) (missed n w) (λ m. seen m d o)
+  pub seek-deaf : (d : ℕ) (o : List ℕ) → Deaf (seekTurn f) (missed n w) (λ m. seen m d o)
   seek-deaf d o = record { quiet = λ m c r h. rw h; starred = refl }
 
   -- a string that ends

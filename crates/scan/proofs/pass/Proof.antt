@@ -164,10 +164,6 @@ put-header-requires c κs = let n = c .before .before .before .before .before .b
     let b = n .noted-statement .ensures .1 .1 in
     (omega arith, header-fits-more (length (now (a .s))) 4294967295 _ (omega arith) (rw (sym e) at (statement-fits (now (a .s)) (t .loop .section) (drop (t .loop .i) (now (a .s))))))
 
--- src/lib.rt:200:17
-add-h : tie.Need-add-h Inv-loop μ-loop
-add-h c = omega arith
-
 -- src/lib.rt:183:5
 loop-less-2 : tie.Need-loop-less-2 Inv-loop μ-loop
 loop-less-2 c = let n = c .before .before .before .before .before .before .before .before .before in
@@ -195,7 +191,7 @@ loop-again-2 c = let n = c .before .before .before .before .before .before .befo
     let p = c .before .before .put-header in (
       p .kept .0 ∙ t .loop .inv .0,
       t .loop .inv .1,
-      rw (p .ensures) (going-header _ _ _ _ _ _ _ _ _ _ _ _ _ g _ (v .given .0 .1 .0) _ e (w .0) (w .2) (omega arith) (omega arith)),
+      rw (p .ensures .0, p .ensures .1) (going-header _ _ _ _ _ _ _ _ _ _ _ _ _ g _ (v .given .0 .1 .0) _ e (w .0) (w .2) (omega arith) (omega arith)),
       tidying-header _ _ _ _ _ y _ b _ (v .given .0 .1 .0) _ e,
     )
 
@@ -324,7 +320,6 @@ pass-spec =
     same-length-6
     returns-3
     put-header-requires
-    add-h
     loop-less-2
     loop-again-2
     enum-known-said-4

@@ -1,78 +1,49 @@
-use Rattle.record.specs.Turns.{past-stops, past-goes}
-use Rattle.record.specs.Text.{past, pastTurn}
+use Rattle.record.specs.Text.{past}
 use Rattle.statement.specs.Usual.{spoken}
-use Rattle.lex.specs.Walk.{walk, walk-ends, drop-end}
-use lib.ListN.{length, drop, getD}
+use Rattle.statement.specs.UsualLaws.{spoken-last}
+use lib.ListN.{length, drop}
 use denote.Ref.{now}
-use borrow.Author.Tests.{not-true, not-false}
-use borrow.Author.Needs.{needs}
 use native.Mathlib.Omega.{arith}
-use mathlib.Core.List.{List, [], _∷_}
-use mathlib.Core.Bool.{Bool, true, false, not}
-use mathlib.Core.Path.{_≡_, ap, sym, refl, _∙_}
-use Prim.Native.Nat.{ℕ, _+_, _-_, _≤_}
+use mathlib.Core.Path.{_≡_, _∙_}
+use borrow.Author.Needs.{needs}
 use Rattle.statement.proofs.text_run.Statement.{statement}
 use Rattle.statement.proofs.text_run.Tie as tie
 use Rattle.statement.proofs.text_run.Reads as reads
 use Rattle.statement.proofs.text_run.Lts as lts
-use Rattle.statement.proofs.is_stop.Reads as is-stop-reads
+use Rattle.statement.proofs.text_blocks.Reads as text-blocks-reads
+use Rattle.statement.proofs.text_bytes.Reads as text-bytes-reads
 
-abbrev Inv-loop : tie.InvT-loop
-Inv-loop s from i₀ i = ((from ≤ i) × (i ≤ length s)) × (walk (pastTurn spoken) (λ u. []) tt (drop i s) ≡ past spoken (drop from s))
+add-within : tie.Need-add-within
+add-within c = search needs
 
-abbrev μ-loop : tie.MeasureT-loop
-μ-loop s from i₀ i = length s - i
+within-requires : tie.Need-within-requires
+within-requires c κs = search needs
 
--- src/lib.rt:247:5
-loop-holds : tie.Need-loop-holds Inv-loop μ-loop
-unfolding past
-loop-holds c = ((omega arith, omega arith), refl)
+text-bytes-requires : tie.Need-text-bytes-requires
+text-bytes-requires c κs = search needs
 
--- src/lib.rt:248:20
-shared-slice-read-is-stop : tie.Need-shared-slice-read-is-stop Inv-loop μ-loop
-shared-slice-read-is-stop c = search needs
+returns : tie.Need-returns
+returns c = let t = c .before .text-bytes in (t .ensures .1 .1 (c .if1 .taken) ∙ t .ensures .0, (omega arith, omega (arith, c .before .before .within .ensures)))
 
--- src/lib.rt:248:12
-is-stop-requires : tie.Need-is-stop-requires Inv-loop μ-loop
-is-stop-requires c κs = search needs
+text-blocks-requires : tie.Need-text-blocks-requires
+text-blocks-requires c κs = search needs
 
--- src/lib.rt:249:13
-returns : tie.Need-returns Inv-loop μ-loop
-returns c = let t = c .before .before .before .before in
-    let s = now (t .before .before .args .s) in
-    (past-stops s (t .loop .i) (omega arith) spoken _ (ap not (sym (c .before .is-stop .ensures) ∙ c .if1 .taken)) (t .loop .inv .1), (omega arith, omega arith))
+text-bytes-requires-2 : tie.Need-text-bytes-requires-2
+text-bytes-requires-2 c κs = search needs
 
--- src/lib.rt:251:9
-add-i : tie.Need-add-i Inv-loop μ-loop
-add-i c = search needs
-
--- src/lib.rt:247:5
-loop-less : tie.Need-loop-less Inv-loop μ-loop
-loop-less c = search needs
-
--- src/lib.rt:247:5
-loop-again : tie.Need-loop-again Inv-loop μ-loop
-loop-again c = let t = c .before .before .before .before in
-    let s = now (t .before .before .args .s) in
-    ((omega arith, omega arith), past-goes s (t .loop .i) (omega arith) spoken _ (ap not (sym (c .before .is-stop .ensures) ∙ c .if1 .left)) (t .loop .inv .1))
-
--- src/lib.rt:241:1
-returns-2 : tie.Need-returns-2 Inv-loop μ-loop
-returns-2 c = let t = c .before in
-    let s = now (t .before .before .args .s) in
-    (drop-end s (t .loop .i) (omega arith) ∙ sym (walk-ends (pastTurn spoken) (λ u. []) tt s (t .loop .i) (omega arith)) ∙ t .loop .inv .1, (omega arith, omega arith))
+returns-2 : tie.Need-returns-2
+returns-2 c = let t = c .before .before .before .text-bytes in
+    let s = now (c .before .before .before .before .before .before .args .s) in
+    (spoken-last s (c .text-bytes2 .result) (c .text-bytes2 .ensures .1 .1) ∙ c .text-bytes2 .ensures .0 ∙ c .before .text-blocks .ensures .0 ∙ t .ensures .0, (omega arith, omega arith))
 
 pub text-run-spec : {M : Type 1} → statement M
 text-run-spec =
     tie.close
     (tie.spec
-    Inv-loop
-    μ-loop
-    loop-holds
-    shared-slice-read-is-stop
-    is-stop-requires
+    add-within
+    within-requires
+    text-bytes-requires
     returns
-    add-i
-    loop-less
-    loop-again
+    text-blocks-requires
+    text-bytes-requires-2
     returns-2)

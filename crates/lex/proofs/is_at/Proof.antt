@@ -1,0 +1,27 @@
+use Rattle.lex.specs.Past.{IsAt}
+use borrow.Author.Tests.{eq-eqb, eqb-true, eqb-false}
+use mathlib.Core.Path.{_≡_, refl, sym, _∙_}
+use mathlib.Core.Bool.{Bool, true, false}
+use Rattle.lex.specs.Right.Steps.{clash}
+use denote.Ref.{now}
+use native.Mathlib.Omega.{arith}
+use borrow.Author.Needs.{needs}
+use Rattle.lex.proofs.is_at.Statement.{statement}
+use Rattle.lex.proofs.is_at.Tie as tie
+use Rattle.lex.proofs.is_at.Reads as reads
+use Rattle.lex.proofs.is_at.Lts as lts
+
+-- src/lib.rt:176:16
+shared-slice-read-result : tie.Need-shared-slice-read-result
+shared-slice-read-result c = search needs
+
+-- src/lib.rt:176:9
+returns : tie.Need-returns
+returns c = let a = c .before .before .args in record { here = λ e. (omega arith, eqb-true _ _ e); away = λ e h. eqb-false _ _ e }
+
+-- src/lib.rt:172:1
+returns-2 : tie.Need-returns-2
+returns-2 c = record { here = λ e. clash (cc); away = λ e h k. omega arith }
+
+pub is-at-spec : {M : Type 1} → statement M
+is-at-spec = tie.close (tie.spec shared-slice-read-result returns returns-2)

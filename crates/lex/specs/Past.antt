@@ -1,0 +1,255 @@
+-- What the code passes at one go on its way to a record's `;` and to a closing `)`: a string, a comment, a byte outside both, and blocks of
+-- bytes in which nothing is to be looked at one by one. All is said of `plainly`, the search outside strings and comments, for which it does not
+-- matter where the last byte outside stood. No contract of a public function cites these. Assumes nothing.
+use Prim.Native.Nat.{ℕ, suc, _+_, _-_, _≤_, _<_, min}
+use mathlib.Core.Path.{_≡_, refl, sym, _∙_, ap}
+use mathlib.Core.Bool.{Bool, true, false, _||_}
+use mathlib.Core.List.{List, [], _∷_}
+use native.Mathlib.Omega.{arith}
+use native.Mathlib.Decide.{decLe}
+use lib.Dec.{eqb}
+use lib.ListN.{length, drop, getD}
+use borrow.Author.Tests.{eq-eqb, ne-eqb, eqb-true, eqb-false}
+use Rattle.error.specs.Refusal.{Told, bad, refusal, told}
+use Rattle.lex.specs.Byte.{pick, place-drop}
+use Rattle.lex.specs.Walk.{on, walk, split, drop-end, walk-ends, walk-goes}
+use Rattle.lex.specs.Lexer.{fresh}
+use Rattle.lex.specs.Search.{Look, look, seen, seekTurn, missed, semicolon, paren, placed}
+use Rattle.lex.specs.Leap.{Stopped, seek-leaps, leapt-text, leapt-remark}
+use Rattle.lex.specs.Grammar.{Begins}
+use Rattle.lex.specs.Local.{seek}
+use Rattle.lex.specs.Right.Steps.{clash, plainly, unstarred, unopened, unslashed, unquoted, seek-deaf}
+use Rattle.lex.specs.declared.Found.{Found}
+use Rattle.lex.specs.declared.Found.the-variants.{At, Refused}
+use Rattle.lex.specs.declared.Stand.{Stand}
+use Rattle.lex.specs.declared.Mode.{Mode}
+use Rattle.lex.specs.declared.Mode.the-variants.{Plain, Slash, Text, Quoted, Remark, Starred}
+
+-- whether the byte b stands at i
+pub record IsAt (b : ℕ) (s : List ℕ) (i : ℕ) (r : Bool) : Type 0 where
+  pub here : r ≡ true → (i < length s) × (getD s i 0 ≡ b)
+  pub away : r ≡ false → i < length s → getD s i 0 ≡ b → ⊥
+
+-- a search in mode m, in a string or a comment that began at q, goes on from j as from i
+abbrev pub Held : List ℕ → Mode → ℕ → ℕ → ℕ → Type 0
+Held s m q i j = (f : ℕ → ℕ → Look) (n : ℕ) (w : List ℕ) (d : ℕ) → seek f (missed n w) m d (drop q s) (drop i s) ≡ seek f (missed n w) m d (drop q s) (drop j s)
+
+-- such a search from i on leaves the string or the comment at p
+abbrev pub Left : List ℕ → Mode → ℕ → ℕ → ℕ → Type 0
+Left s m q i p = (f : ℕ → ℕ → Look) (n : ℕ) (w : List ℕ) (d : ℕ) → seek f (missed n w) m d (drop q s) (drop i s) ≡ plainly f n w d (drop p s)
+
+-- such a search from i on leaves the string or the comment at a place, or is refused
+abbrev pub Shut : List ℕ → Mode → ℕ → ℕ → Found → Type 0
+Shut s m q i (At p) = (i ≤ p) × (p ≤ length s) × Left s m q i p
+Shut s m q i (Refused g) = (f : ℕ → ℕ → Look) (n : ℕ) (w : List ℕ) (d : ℕ) → placed s (seek f (missed n w) m d (drop q s) (drop i s)) ≡ bad (told g)
+
+-- a search outside strings and comments that does not halt at the byte at i is outside again at a place after it, or is refused
+abbrev pub Onward : List ℕ → ℕ → Found → Type 0
+Onward s i (At p) =
+    (i < p) × (p ≤ length s) × ((f : ℕ → ℕ → Look) (n : ℕ) (w : List ℕ) (d e : ℕ) → f d (getD s i 0) ≡ look e → plainly f n w d (drop i s) ≡ plainly f n w e (drop p s))
+Onward s i (Refused g) = (f : ℕ → ℕ → Look) (n : ℕ) (w : List ℕ) (d e : ℕ) → f d (getD s i 0) ≡ look e → placed s (plainly f n w d (drop i s)) ≡ bad (told g)
+
+-- a search for a record's `;` goes on from j as from i
+abbrev pub Quiet : List ℕ → ℕ → ℕ → Type 0
+Quiet s i j = (n : ℕ) (w : List ℕ) → plainly semicolon n w 0 (drop i s) ≡ plainly semicolon n w 0 (drop j s)
+
+-- a search for a `)` with d open parentheses goes on from j with e, where no more than d are closed between
+abbrev pub Counted : List ℕ → ℕ → ℕ → ℕ → ℕ → Type 0
+Counted s i j up down = (n : ℕ) (w : List ℕ) (d e : ℕ) → down ≤ d → e + down ≡ d + up → plainly paren n w d (drop i s) ≡ plainly paren n w e (drop j s)
+
+-- a search for a `)` with d open parentheses goes on from t as from i
+pub record Stood (s : List ℕ) (i d : ℕ) (t : Stand) : Type 0 where
+  pub on : i ≤ t .at
+  pub inside : t .at ≤ length s
+  pub low : t .depth ≤ t .at
+  pub same : (n : ℕ) (w : List ℕ) → plainly paren n w d (drop i s) ≡ plainly paren n w (t .depth) (drop (t .at) s)
+
+-- what is left for a search at i among n bytes that looks at them one by one up to `near`: less after each byte, and after blocks were tried
+abbrev pub ahead : ℕ → ℕ → ℕ → ℕ
+ahead n i near = n - i + (n - i) + (1 - (near - i))
+
+-- blocks were tried
+pub blocks-less : (n i near r : ℕ) → near ≤ i → i ≤ r → ahead n r (r + 64) < ahead n i near
+blocks-less n i near r h k = let a : near - i ≡ 0 = omega arith in
+    let b : 1 - (r + 64 - r) ≡ 0 = omega arith in rw (a, b) (omega arith)
+
+-- bytes were passed
+pub bytes-less : (n i near r : ℕ) → i < near → i < r → r ≤ n → ahead n r near < ahead n i near
+bytes-less n i near r h k l = let a : 1 - (near - i) ≡ 0 = omega arith in rw a (omega arith)
+
+-- where the byte c does not stand, the rest does not begin with it
+unbegun : (s : List ℕ) (j c : ℕ) → (j < length s → getD s j 0 ≡ c → ⊥) → Begins c (drop j s) → ⊥
+unbegun s j c h (r, e) = go (decLe (length s) j)
+  where
+    go : Dec (length s ≤ j) → ⊥
+    go (yes l) = clash (cc (drop-end s j l))
+    go (no l) = let k : j < length s = omega arith in h k (cc (split s j k))
+
+-- One piece of a string or of a comment that began at q.
+module _ (s : List ℕ) (q i : ℕ) where
+  -- a byte of a string that is no quote
+  pub text-byte : i < length s → (getD s i 0 ≡ 39 → ⊥) → Held s Text q i (i + 1)
+  text-byte h k f n w d = walk-goes (seekTurn f) (missed n w) (seen Text d (drop q s)) (seen Text d (drop q s)) s i h (rw (ne-eqb (getD s i 0) 39 k) refl)
+
+  -- the first of two quotes, or the one that ends the string
+  text-quote : i < length s → getD s i 0 ≡ 39 → (f : ℕ → ℕ → Look) (n : ℕ) (w : List ℕ) (d : ℕ)
+      → seek f (missed n w) Text d (drop q s) (drop i s) ≡ seek f (missed n w) Quoted d (drop q s) (drop (i + 1) s)
+  text-quote h a f n w d = walk-goes (seekTurn f) (missed n w) (seen Text d (drop q s)) (seen Quoted d (drop q s)) s i h (rw (eq-eqb (getD s i 0) 39 a) refl)
+
+  -- two quotes in a string
+  pub text-twice : (j : ℕ) → j ≡ i + 2 → i + 1 < length s → getD s i 0 ≡ 39 → getD s (i + 1) 0 ≡ 39 → Held s Text q i j
+  text-twice j g h a b f n w d =
+      let e : i + 1 + 1 ≡ j = omega arith in
+      text-quote (omega arith) a f n w d
+      ∙ walk-goes (seekTurn f) (missed n w) (seen Quoted d (drop q s)) (seen Text d (drop q s)) s (i + 1) h (rw (eq-eqb (getD s (i + 1) 0) 39 b) refl)
+      ∙ ap (λ (k : ℕ). seek f (missed n w) Text d (drop q s) (drop k s)) e
+
+  -- a quote that no quote follows
+  pub text-last : i < length s → getD s i 0 ≡ 39 → (i + 1 < length s → getD s (i + 1) 0 ≡ 39 → ⊥) → Left s Text q i (i + 1)
+  text-last h a b f n w d = text-quote h a f n w d ∙ unquoted f n w d (drop q s) (drop (i + 1) s) (drop (i + 1) s) (unbegun s (i + 1) 39 b)
+
+  -- the bytes end in a string
+  pub text-none : length s ≤ i → q ≤ length s → (f : ℕ → ℕ → Look) (n : ℕ) (w : List ℕ) (d : ℕ)
+      → placed s (seek f (missed n w) Text d (drop q s) (drop i s)) ≡ bad (refusal 4 0 q)
+  text-none h k f n w d = rw (walk-ends (seekTurn f) (missed n w) (seen Text d (drop q s)) s i h, place-drop s q k) refl
+
+  -- to the first quote
+  pub text-found : (r : ℕ) → i ≤ length s → Stopped 39 s (min i (length s)) (length s) r → Held s Text q i r
+  text-found r h t f n w d = seek-leaps f (missed n w) s Text d (drop q s) i r (leapt-text s i r h t)
+
+  -- to the first star
+  pub remark-found : (r : ℕ) → i ≤ length s → Stopped 42 s (min i (length s)) (length s) r → Held s Remark q i r
+  remark-found r h t f n w d = seek-leaps f (missed n w) s Remark d (drop q s) i r (leapt-remark s i r h t)
+
+  -- a star in a comment
+  remark-star : i < length s → getD s i 0 ≡ 42 → (f : ℕ → ℕ → Look) (n : ℕ) (w : List ℕ) (d : ℕ)
+      → seek f (missed n w) Remark d (drop q s) (drop i s) ≡ seek f (missed n w) Starred d (drop q s) (drop (i + 1) s)
+  remark-star h a f n w d = walk-goes (seekTurn f) (missed n w) (seen Remark d (drop q s)) (seen Starred d (drop q s)) s i h (rw (eq-eqb (getD s i 0) 42 a) refl)
+
+  -- a star that no slash follows
+  pub remark-byte : i < length s → getD s i 0 ≡ 42 → (i + 1 < length s → getD s (i + 1) 0 ≡ 47 → ⊥) → Held s Remark q i (i + 1)
+  remark-byte h a b f n w d =
+      remark-star h a f n w d
+      ∙ unstarred (seekTurn f) (missed n w) (λ m. seen m d (drop q s)) (seek-deaf f n w d (drop q s)) (drop (i + 1) s) (unbegun s (i + 1) 47 b)
+
+  -- a star and a slash
+  pub remark-last : (j : ℕ) → j ≡ i + 2 → i + 1 < length s → getD s i 0 ≡ 42 → getD s (i + 1) 0 ≡ 47 → Left s Remark q i j
+  remark-last j g h a b f n w d =
+      let e : i + 1 + 1 ≡ j = omega arith in
+      remark-star (omega arith) a f n w d
+      ∙ walk-goes (seekTurn f) (missed n w) (seen Starred d (drop q s)) (seen Plain d (drop q s)) s (i + 1) h (rw (eq-eqb (getD s (i + 1) 0) 47 b) refl)
+      ∙ unopened f n w d (drop q s) (drop (i + 1 + 1) s) (drop (i + 1 + 1) s)
+      ∙ ap (λ (k : ℕ). plainly f n w d (drop k s)) e
+
+  -- the bytes end in a comment
+  pub remark-none : length s ≤ i → q ≤ length s → (f : ℕ → ℕ → Look) (n : ℕ) (w : List ℕ) (d : ℕ)
+      → placed s (seek f (missed n w) Remark d (drop q s) (drop i s)) ≡ bad (refusal 3 0 q)
+  remark-none h k f n w d = rw (walk-ends (seekTurn f) (missed n w) (seen Remark d (drop q s)) s i h, place-drop s q k) refl
+
+-- one piece after another
+pub held-on : (s : List ℕ) (m : Mode) (q i j k : ℕ) → Held s m q i j → Held s m q j k → Held s m q i k
+held-on s m q i j k a b f n w d = a f n w d ∙ b f n w d
+
+-- a piece, and then the end
+pub left-on : (s : List ℕ) (m : Mode) (q i j p : ℕ) → Held s m q i j → Left s m q j p → Left s m q i p
+left-on s m q i j p a b f n w d = a f n w d ∙ b f n w d
+
+-- a piece, and then what follows it
+pub shut-on : (s : List ℕ) (m : Mode) (q i j : ℕ) (r : Found) → i ≤ j → Held s m q i j → Shut s m q j r → Shut s m q i r
+shut-on s m q i j (At p) h a (x, y, b) = (omega arith, y, left-on s m q i j p a b)
+shut-on s m q i j (Refused g) h a b = λ f n w d. ap (placed s) (a f n w d) ∙ b f n w d
+
+-- What stands at i outside strings and comments.
+module _ (s : List ℕ) (i : ℕ) (h : i < length s) where
+  -- the byte there
+  first : (f : ℕ → ℕ → Look) (n : ℕ) (w : List ℕ) (d e : ℕ) → f d (getD s i 0) ≡ look e
+      → plainly f n w d (drop i s) ≡ seek f (missed n w) (fresh (getD s i 0)) e (drop i s) (drop (i + 1) s)
+  first f n w d e l =
+      walk-goes (seekTurn f) (missed n w) (seen Plain d (drop i s)) (seen (fresh (getD s i 0)) e (drop i s)) s i h
+      (rw l (ap (λ (x : List ℕ). on (seen (fresh (getD s i 0)) e x)) (sym (split s i h))))
+
+  -- a byte that opens nothing
+  pub onward-byte : (getD s i 0 ≡ 39 → ⊥) → (getD s i 0 ≡ 47 → ⊥) → Onward s i (At (i + 1))
+  onward-byte a b = (
+    omega arith,
+    omega arith,
+    λ f n w d e l. first f n w d e l ∙ rw (ne-eqb (getD s i 0) 39 a, ne-eqb (getD s i 0) 47 b) (unopened f n w e (drop i s) (drop (i + 1) s) (drop (i + 1) s)),
+  )
+
+  -- a slash that no star follows
+  pub onward-slash : getD s i 0 ≡ 47 → (i + 1 < length s → getD s (i + 1) 0 ≡ 42 → ⊥) → Onward s i (At (i + 1))
+  onward-slash a b = (
+    omega arith,
+    omega arith,
+    λ f n w d e l. first f n w d e l ∙ rw (eq-eqb (getD s i 0) 47 a, ne-eqb (getD s i 0) 39 (λ z. omega arith)) (unslashed f n w e (drop i s) (drop (i + 1) s) (drop (i + 1) s) (unbegun s (i + 1) 42 b)),
+  )
+
+  -- a string
+  pub onward-text : getD s i 0 ≡ 39 → (r : Found) → Shut s Text i (i + 1) r → Onward s i r
+  onward-text a (At p) (x, y, b) = (omega arith, y, λ f n w d e l. first f n w d e l ∙ rw (eq-eqb (getD s i 0) 39 a) (b f n w e))
+  onward-text a (Refused g) b = λ f n w d e l. ap (placed s) (first f n w d e l) ∙ rw (eq-eqb (getD s i 0) 39 a) (b f n w e)
+
+  -- a slash and a star open a comment
+  opens : getD s i 0 ≡ 47 → i + 1 < length s → getD s (i + 1) 0 ≡ 42 → (f : ℕ → ℕ → Look) (n : ℕ) (w : List ℕ) (d e : ℕ) → f d (getD s i 0) ≡ look e
+      → plainly f n w d (drop i s) ≡ seek f (missed n w) Remark e (drop i s) (drop (i + 2) s)
+  opens a k b f n w d e l =
+      let g : i + 1 + 1 ≡ i + 2 = omega arith in
+      first f n w d e l
+      ∙ rw (eq-eqb (getD s i 0) 47 a, ne-eqb (getD s i 0) 39 (λ z. omega arith))
+      (walk-goes (seekTurn f) (missed n w) (seen Slash e (drop i s)) (seen Remark e (drop i s)) s (i + 1) k (rw (eq-eqb (getD s (i + 1) 0) 42 b) refl))
+      ∙ ap (λ (j : ℕ). seek f (missed n w) Remark e (drop i s) (drop j s)) g
+
+  -- a comment
+  pub onward-remark : getD s i 0 ≡ 47 → i + 1 < length s → getD s (i + 1) 0 ≡ 42 → (r : Found) → Shut s Remark i (i + 2) r → Onward s i r
+  onward-remark a k b (At p) (x, y, c) = (omega arith, y, λ f n w d e l. opens a k b f n w d e l ∙ c f n w e)
+  onward-remark a k b (Refused g) c = λ f n w d e l. ap (placed s) (opens a k b f n w d e l) ∙ c f n w e
+
+-- one byte more of a block in which neither a quote nor a slash nor a `;` was noted
+pub quiet-next : (s : List ℕ) (i j : ℕ) (quote slash end : Bool) → j < length s → (((quote || slash) || end) ≡ false → Quiet s i j)
+    → (((quote || eqb (getD s j 0) 39) || (slash || eqb (getD s j 0) 47)) || (end || eqb (getD s j 0) 59)) ≡ false → Quiet s i (j + 1)
+quiet-next s i j quote slash end h p e = go quote slash end (eqb (getD s j 0) 39) (eqb (getD s j 0) 47) (eqb (getD s j 0) 59) refl refl refl p e
+  where
+    go : (x y z a b c : Bool) → eqb (getD s j 0) 39 ≡ a → eqb (getD s j 0) 47 ≡ b → eqb (getD s j 0) 59 ≡ c → (((x || y) || z) ≡ false → Quiet s i j)
+        → (((x || a) || (y || b)) || (z || c)) ≡ false → Quiet s i (j + 1)
+    go true y z a b c k l m p e = clash (cc)
+    go false y z true b c k l m p e = clash (cc)
+    go false true z false b c k l m p e = clash (cc)
+    go false false z false true c k l m p e = clash (cc)
+    go false false true false false c k l m p e = clash (cc)
+    go false false false false false true k l m p e = clash (cc)
+    go false false false false false false k l m p e =
+        λ n w. p refl n w ∙ onward-byte s j h (eqb-false (getD s j 0) 39 k) (eqb-false (getD s j 0) 47 l) .2 semicolon n w 0 0 (rw m refl)
+
+-- no block
+pub counted-none : (s : List ℕ) (i j : ℕ) → j ≡ i → Counted s i j 0 0
+counted-none s i j g n w d e h k = let x : e ≡ d = omega arith in rw (g, x) refl
+
+-- two tests of which none holds
+pub neither : (a b : Bool) → (a || b) ≡ false → (a ≡ false) × (b ≡ false)
+neither true b e = clash (cc)
+neither false b e = (refl, e)
+
+-- one byte more of a block in which neither a quote nor a slash was noted
+pub counted-next : (s : List ℕ) (i j up down : ℕ) (quote slash : Bool) → j < length s → ((quote || slash) ≡ false → Counted s i j up down)
+    → ((quote || eqb (getD s j 0) 39) || (slash || eqb (getD s j 0) 47)) ≡ false
+    → Counted s i (j + 1) (up + pick (eqb (getD s j 0) 40) 1 0) (down + pick (eqb (getD s j 0) 41) 1 0)
+counted-next s i j up down quote slash h p e = go quote slash (eqb (getD s j 0) 39) (eqb (getD s j 0) 47) refl refl p e
+  where
+    step : (m e n : ℕ) (w : List ℕ) → (getD s j 0 ≡ 39 → ⊥) → (getD s j 0 ≡ 47 → ⊥) → paren m (getD s j 0) ≡ look e → plainly paren n w m (drop j s) ≡ plainly paren n w e (drop (j + 1) s)
+    step m e n w a b l = onward-byte s j h a b .2 paren n w m e l
+
+    by : (x y : Bool) → eqb (getD s j 0) 40 ≡ x → eqb (getD s j 0) 41 ≡ y → (getD s j 0 ≡ 39 → ⊥) → (getD s j 0 ≡ 47 → ⊥) → Counted s i j up down
+        → Counted s i (j + 1) (up + pick x 1 0) (down + pick y 1 0)
+    by true true k l a b c n w d e u v = let x = eqb-true (getD s j 0) 40 k in let y = eqb-true (getD s j 0) 41 l in absurd (omega arith)
+    by true false k l a b c n w d e u v =
+        let x : suc (e - 1) ≡ e = omega arith in c n w d (e - 1) (omega arith) (omega arith) ∙ step (e - 1) e n w a b (rw (k, x) refl)
+    by false true k l a b c n w d e u v = c n w d (suc e) (omega arith) (omega arith) ∙ step (suc e) e n w a b (rw (k, l) refl)
+    by false false k l a b c n w d e u v = c n w d e (omega arith) (omega arith) ∙ step e e n w a b (rw (k, l) refl)
+
+    go : (x y a b : Bool) → eqb (getD s j 0) 39 ≡ a → eqb (getD s j 0) 47 ≡ b → ((x || y) ≡ false → Counted s i j up down)
+        → ((x || a) || (y || b)) ≡ false → Counted s i (j + 1) (up + pick (eqb (getD s j 0) 40) 1 0) (down + pick (eqb (getD s j 0) 41) 1 0)
+    go true y a b k l p e = clash (cc)
+    go false y true b k l p e = clash (cc)
+    go false true false b k l p e = clash (cc)
+    go false false false true k l p e = clash (cc)
+    go false false false false k l p e = by (eqb (getD s j 0) 40) (eqb (getD s j 0) 41) refl refl (eqb-false (getD s j 0) 39 k) (eqb-false (getD s j 0) 47 l) (p refl)

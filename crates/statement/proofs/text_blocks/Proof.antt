@@ -1,0 +1,57 @@
+use Rattle.record.specs.Text.{past}
+use Rattle.statement.specs.Usual.{spoken}
+use lib.ListN.{length, drop}
+use native.Mathlib.Omega.{arith}
+use mathlib.Core.Path.{_≡_, refl, _∙_}
+use Prim.Native.Nat.{_-_, _≤_}
+use borrow.Author.Needs.{needs}
+use Rattle.statement.proofs.text_blocks.Statement.{statement}
+use Rattle.statement.proofs.text_blocks.Tie as tie
+use Rattle.statement.proofs.text_blocks.Reads as reads
+use Rattle.statement.proofs.text_blocks.Lts as lts
+use Rattle.statement.proofs.block_stops.Reads as block-stops-reads
+
+abbrev Inv-loop : tie.InvT-loop
+Inv-loop s from i₀ i = ((from ≤ i) × (i ≤ length s)) × (past spoken (drop i s) ≡ past spoken (drop from s))
+
+abbrev μ-loop : tie.MeasureT-loop
+μ-loop s from i₀ i = length s - i
+
+loop-holds : tie.Need-loop-holds Inv-loop μ-loop
+loop-holds c = ((omega arith, omega arith), refl)
+
+sub-loop : tie.Need-sub-loop Inv-loop μ-loop
+sub-loop c = search needs
+
+block-stops-requires : tie.Need-block-stops-requires Inv-loop μ-loop
+block-stops-requires c κs = search needs
+
+returns : tie.Need-returns Inv-loop μ-loop
+returns c = let l = c .before .before .before .loop in (l .inv .1, (omega arith, omega arith))
+
+add-i : tie.Need-add-i Inv-loop μ-loop
+add-i c = search needs
+
+loop-less : tie.Need-loop-less Inv-loop μ-loop
+loop-less c = search needs
+
+loop-again : tie.Need-loop-again Inv-loop μ-loop
+loop-again c = let l = c .before .before .before .loop in ((omega arith, omega arith), c .before .block-stops .ensures (c .if1 .left) ∙ l .inv .1)
+
+returns-2 : tie.Need-returns-2 Inv-loop μ-loop
+returns-2 c = let l = c .before .loop in (l .inv .1, (omega arith, omega arith))
+
+pub text-blocks-spec : {M : Type 1} → statement M
+text-blocks-spec =
+    tie.close
+    (tie.spec
+    Inv-loop
+    μ-loop
+    loop-holds
+    sub-loop
+    block-stops-requires
+    returns
+    add-i
+    loop-less
+    loop-again
+    returns-2)
