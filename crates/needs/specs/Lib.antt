@@ -1,3 +1,4 @@
 pub mod Needs
 pub mod Laws
 pub mod Most
+pub mod Only
