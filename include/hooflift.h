@@ -80,8 +80,9 @@ uint8_t hooflift_open(const uint8_t *file, size_t file_len, uint32_t *headers, s
 uint8_t hooflift_scan(const uint8_t *file, size_t file_len, uint32_t *headers, size_t headers_len, uint32_t *rows, size_t rows_len,
                       size_t slots, uint64_t *out, size_t out_len);
 
-/* Indexes the first `count` rows by id in the slots, and tells what stands beside them in HOOFLIFT_IDS numbers; 16 where `ids` is shorter, or where
- * there are fewer slots than rows to index, and nothing is written: no row is left out unseen. */
+/* Indexes the first `count` rows by id in the slots, and tells what stands beside them in HOOFLIFT_IDS numbers; 16 where `ids` is shorter, where
+ * there are fewer slots than rows to index, or where these are more than 1073741824 (2^30, which no file has that is read here), and nothing is
+ * written: no row is left out unseen. */
 uint8_t hooflift_index(const uint32_t *rows, size_t rows_len, size_t count, uint64_t *slots, size_t slots_len, uint64_t *ids, size_t ids_len);
 
 /* The number of the last row with this id, or HOOFLIFT_NO_ROW. `ids` is what `hooflift_index` or `hooflift_open` told.
