@@ -6,14 +6,14 @@ use mathlib.Core.Bool.{Bool, true, false, _&&_}
 use mathlib.Core.List.{List, [], _∷_}
 use mathlib.Core.Option.{some}
 use native.Mathlib.Omega.{arith}
-use lib.Dec.{leb}
+use lib.Dec.{leb, eqb}
 use borrow.Author.Tests.{leb-true}
 use lib.ListN.{length, getD}
 use lib.Seq.{sets}
 use Rattle.lex.specs.Byte.{pick}
 use Rattle.index.specs.Order.{idOf, rowAt, tableRoom}
 use Rattle.index.specs.Lookup.{lookupOf}
-use Rattle.index.specs.Index.{Built, built-slots-only, built-only}
+use Rattle.index.specs.Index.{Built, endId, built-slots-only, built-only}
 use Rattle.index.specs.Search.{searched}
 use Rattle.index.specs.SearchRight.{get-right, get-safe}
 use Rattle.index.specs.declared.Ids.{Ids}
@@ -84,8 +84,15 @@ pub host-right : {rows slots after ids told : List ℕ} {count : ℕ} → lentEn
 host-right h w (short g e f) k = absurd (lent-once _ h g)
 host-right {rows} {slots} {after} {ids} {told} {count} h w (built g b e f) k = ap (λ (c : Ids). searched rows after c k) (ap idsBy f ∙ ids-back b ids (let q = lent-eight (length rows) count (length slots) (length ids) h in omega (arith, q)) (small (b .first) (rowAt (b .direct) after 0) (e .first)) (small (b .last) (rowAt (b .direct) after ((tableRoom (length rows) (length slots) count) - 1)) (e .last)) (let s = e .shift .short in omega arith)) ∙ get-right rows slots after count k b e ∙ ap (λ (n : ℕ). lookupOf (idOf rows) n k) (lent-all (length rows) count (length slots) (length ids) h)
   where
-    small : (x r : ℕ) → x ≡ idOf rows r → x < 4294967296
-    small x r q = subst (λ (y : ℕ). y < 4294967296) (sym q) (id-small rows w r)
+    room : ℕ
+    room = tableRoom (length rows) (length slots) count
+
+    either : (t : Bool) (r : ℕ) → pick t 0 (idOf rows r) < 4294967296
+    either true r = omega arith
+    either false r = id-small rows w r
+
+    small : (x r : ℕ) → x ≡ endId (idOf rows) room r → x < 4294967296
+    small x r q = subst (λ (y : ℕ). y < 4294967296) (sym q) (either (eqb room 0) r)
 
 -- no row has the number that says that there is none
 pub row-told : (rows slots : List ℕ) (b : Ids) (k r : ℕ) → searched rows slots b k ≡ some r → r < 4294967295
