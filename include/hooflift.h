@@ -9,9 +9,11 @@
  * HOOFLIFT_NONE where there is nothing to tell. On a refusal, and on HOOFLIFT_NONE, all that the call would have told stays as it was
  * ("A refusal returns only its number, reason and place; lent rows and output keep their bytes, as does all room beyond an answer"; of a
  * lent float that is a NaN only that it is one). A refusal of document 01 sets `fault` to its place in the file, and `reason`, where
- * there is one, to its reason, which is 0 but for 7; `hooflift_scan` puts both into `out`. Where a lent list of numbers (tables, ids, a row, a
- * part, needs) is shorter than the numbers that go into it, the answer is 16 and nothing at all is set: its place is 0, and so is that of
- * every refusal of a function without a `fault`.
+ * there is one, to its reason, which is 0 but for 7; `hooflift_scan` puts both into `out`. Where a list of numbers that is lent for writing is
+ * too short, the answer is 16 and nothing at all is set: `tables` of fewer than HOOFLIFT_TABLES numbers, `ids` of fewer than HOOFLIFT_IDS and
+ * `needs` of fewer than HOOFLIFT_NEEDS, though not all of these are told so far, before anything else; a `row` of fewer than HOOFLIFT_ROW and a
+ * `part` of fewer than 4 only where there is one to tell, so that every other refusal and HOOFLIFT_NONE come first. The place of this 16 is 0,
+ * and so is that of every refusal of a function without a `fault`.
  *
  * Rows. A data row is six 32-bit numbers: id, keyword start and end (0, 0 if complex), argument start and end, complex 0 or 1. A header row
  * is four: keyword start and end, argument start and end. Places count bytes from the file's start, and an end is the place after the last.
@@ -60,10 +62,12 @@ enum {
 
 /* What a file needs: needs[0] header rows, needs[1] data rows, which is how many id slots, needs[2] the largest id, needs[3] how many numbers
  * the longest list or grid of its records has, needs[4] how many bytes the longest text of a parameter has, needs[5] how many rows the longest
- * grid has, for its row ends; the others are free for later and stay as they were. Rooms of these sizes suffice, and fewer rows do not. Items
- * are counted whatever they read as, in all parameters that a reader comes to which begins with the arguments of a record or of a part. A file
+ * grid has, for its row ends; the others are free for later and stay as they were. Rooms of these sizes suffice, and fewer header rows, data rows
+ * or id slots do not. Items are counted whatever they read as, in all parameters that a reader comes to which begins with the arguments of a
+ * record or of a part; not what a reader comes to that a host sets into a list: how long a string there is `hooflift_text_length` tells. A file
  * that no room helps is refused here as it is in `hooflift_open`, with the reason of refusal 7 in `reason`. 16 where `needs` is shorter than
- * HOOFLIFT_NEEDS, before anything is read.
+ * HOOFLIFT_NEEDS, before anything is read. The time grows with the square of the file's length where many complex records have a `(` in a string
+ * or a comment, as `#1=('(');`: each takes it for a part's and seeks its `)` as far as the file's end (docs/DECISIONS.md, 'What is not linear').
  * 01: "8 is given exactly when a record has been read whole and the lent rows of its kind (or id slots, one a record) are already used up";
  * "16 comes only if all read and either list is too short"; "16 exactly when a text of this second kind is longer than the output". */
 uint8_t hooflift_needs(const uint8_t *file, size_t file_len, uint64_t *needs, size_t needs_len, uint8_t *reason, size_t *fault);
@@ -80,8 +84,9 @@ uint8_t hooflift_open(const uint8_t *file, size_t file_len, uint32_t *headers, s
 uint8_t hooflift_scan(const uint8_t *file, size_t file_len, uint32_t *headers, size_t headers_len, uint32_t *rows, size_t rows_len,
                       size_t slots, uint64_t *out, size_t out_len);
 
-/* Indexes the first `count` rows by id in the slots, and tells what stands beside them in HOOFLIFT_IDS numbers; 16 where `ids` is shorter, or where
- * there are fewer slots than rows to index, and nothing is written: no row is left out unseen. */
+/* Indexes the first `count` rows by id in the slots, and tells what stands beside them in HOOFLIFT_IDS numbers; 16 where `ids` is shorter, where
+ * there are fewer slots than rows to index, or where these are more than 1073741824 (2^30, which no file has that is read here), and nothing is
+ * written: no row is left out unseen. */
 uint8_t hooflift_index(const uint32_t *rows, size_t rows_len, size_t count, uint64_t *slots, size_t slots_len, uint64_t *ids, size_t ids_len);
 
 /* The number of the last row with this id, or HOOFLIFT_NO_ROW. `ids` is what `hooflift_index` or `hooflift_open` told.
@@ -161,14 +166,15 @@ uint8_t hooflift_skip(const uint8_t *file, size_t file_len, size_t *place, size_
 uint8_t hooflift_skip_n(const uint8_t *file, size_t file_len, size_t *place, size_t end, size_t count, size_t *fault);
 uint8_t hooflift_param(const uint8_t *file, size_t file_len, size_t *place, size_t end, size_t *start, size_t *stop, size_t *fault);
 
-/* A reference. 01: "`#` and digits up to 4294967295". The second takes `$` too: 1 in `set` where there is a value, 0 for `$`. */
+/* A reference. 01: "`#` and digits up to 4294967295". The second takes `$` too: 1 in `set` where there is a value; 0 for
+ * `$`, and `value` stays as it was. */
 uint8_t hooflift_ref(const uint8_t *file, size_t file_len, size_t *place, size_t end, uint32_t *value, size_t *fault);
 uint8_t hooflift_opt_ref(const uint8_t *file, size_t file_len, size_t *place, size_t end, uint32_t *value, uint8_t *set, size_t *fault);
 
 /* An integer. 01: "integers with optional sign, in the signed 64-bit range". */
 uint8_t hooflift_i64(const uint8_t *file, size_t file_len, size_t *place, size_t end, int64_t *value, size_t *fault);
 
-/* A real, and a real or `$`; a measure. 01, 'Real class': "The answer is the f64 nearest to m·10^e, ties to even, sign kept at zero"; "A
+/* A real, and a real or `$`, which is told as above; a measure. 01, 'Real class': "The answer is the f64 nearest to m·10^e, ties to even, sign kept at zero"; "A
  * measure is a real or `KEYWORD(real)`". 13 where the real is outside the class. */
 uint8_t hooflift_f64(const uint8_t *file, size_t file_len, size_t *place, size_t end, double *value, size_t *fault);
 uint8_t hooflift_opt_f64(const uint8_t *file, size_t file_len, size_t *place, size_t end, double *value, uint8_t *set, size_t *fault);
@@ -217,7 +223,7 @@ size_t hooflift_text_length(const uint8_t *raw, size_t raw_len);
 
 /* The next part of a complex record (one whose row[5] is 1; a simple record has no parts, and this is not for it) from the place `at` on, whose
  * arguments end at `end`: keyword start and end, argument start and end, in
- * four numbers; the one after it begins after part[3]. HOOFLIFT_NONE where there is none; 16 where `part` is shorter than 4.
+ * four numbers; the one after it is that from part[3] + 1 on. HOOFLIFT_NONE where there is none; 16 where `part` is shorter than 4.
  * 01: "Complex parts: skip whitespace and commas; the next `(` byte before the arguments' end ends the keyword [..]; its `)` ends the part". */
 uint8_t hooflift_next_part(const uint8_t *file, size_t file_len, size_t at, size_t end, uint64_t *part, size_t part_len, size_t *fault);
 

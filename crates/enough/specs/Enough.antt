@@ -1,5 +1,6 @@
--- What a file is said to need suffices, and less does not: no list, grid or text that a reader finds among the parameters of a record has more
--- than is told, so a room of just that size is never too short; and some parameter has just so much.
+-- What a file is said to need suffices: no list, grid or text that a reader finds among the parameters of a record has more than is told, so a
+-- room of just that size is never too short; and some parameter has just so much. Less can suffice: a text that stands in the file as it is
+-- takes no room (of `#1=A('a');` 1 is told), and items count whatever they read as (of `#1=A(('a','b','c'));` 3 are told, which no reader reads).
 -- Assumes nothing.
 use Prim.Native.Nat.{ℕ, _+_, _-_, _≤_, _<_, min}
 use mathlib.Core.Path.{_≡_, refl, sym, _∙_, ap, subst}

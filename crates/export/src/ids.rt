@@ -8,15 +8,16 @@ ghost use Rattle.plain.specs.Numbers.{idsBy};
 ghost use Rattle.finds.specs.Finds.{rowNumber, Told};
 ghost use Rattle.export.specs.Ids.{lentEnough, indexCode, Indexed};
 
-// Whether slots and numbers of these lengths suffice for so many records of a table.
+// Whether slots and numbers of these lengths suffice for so many records of a table, and the index can hold them.
 fn enough(rows: usize, count: usize, slots: usize, ids: usize) -> bool
     ensures { λ r. ⌜ r ≡ lentEnough rows count slots ids ⌝ }
 {
-    (8 <= ids) & (lex::within(count, rows / 6) <= slots)
+    let records = lex::within(count, rows / 6);
+    (8 <= ids) & (records <= slots) & (records <= 1073741824)
 }
 
 // Builds the index of the first `count` rows in the slots: 0, with what stands beside them in the first of eight numbers; or 16 where
-// `ids` has no room for eight or a record would have no slot, and everything as it was.
+// `ids` has no room for eight, a record would have no slot or there are more than 2^30, and everything as it was.
 #[no_mangle]
 pub extern "C" fn hooflift_index(
     rows: &[u32],

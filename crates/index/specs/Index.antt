@@ -6,8 +6,11 @@ use mathlib.Core.Bool.{Bool, true, false}
 use mathlib.Core.List.{List, [], _∷_}
 use mathlib.Core.Logic.{_⊎_, inl, inr}
 use native.Mathlib.Omega.{arith}
+use lib.Dec.{eqb}
+use borrow.Author.Tests.{ne-eqb}
 use lib.ListN.{length, getD, take, drop}
 use lib.Seq.{ext-getD, getD-drop}
+use Rattle.lex.specs.Byte.{pick}
 use Rattle.index.specs.Order.{idOf, keyOf, rowAt, Rises, Steady, Says, ordered, less-or}
 use Rattle.index.specs.declared.Ids.{Ids}
 use Rattle.index.specs.declared.Spacing.{Spacing}
@@ -53,16 +56,24 @@ pub record IsShift (span n s : ℕ) : Type 0 where
   pub least : (t : ℕ) → t < s → max 2 n ≤ span / 2 ^ t
   pub short : s < 32
 
+-- the id of row r, which stands at an end of n slots; 0 where there are none, so that no memory is told that was never written
+abbrev pub endId : (ℕ → ℕ) → ℕ → ℕ → ℕ
+endId f n r = pick (eqb n 0) 0 (f r)
+
+-- where there are some it is that row's
+pub end-some : (f : ℕ → ℕ) (n r : ℕ) → 0 < n → endId f n r ≡ f r
+end-some f n r h = rw (ne-eqb n 0 (λ e. omega arith)) refl
+
 -- what `build` leaves for n rows: the guide or the index in the first n slots, the slots past it as they were, and beside them how many
--- rows there are, the least id and the greatest, whether ids rise in file order, whether they rise once sorted and whether by one
--- step, and the shift
+-- rows there are, the least id and the greatest (0 where there are none), whether ids rise in file order, whether they rise once sorted and
+-- whether by one step, and the shift
 pub record Built (f : ℕ → ℕ) (n : ℕ) (before after : List ℕ) (b : Ids) : Type 0 where
   pub held : Held (b .direct) f n (b .first) (b .shift) after
   pub rest : drop n after ≡ drop n before
   pub size : length after ≡ length before
   pub count : b .count ≡ n
-  pub first : b .first ≡ f (rowAt (b .direct) after 0)
-  pub last : b .last ≡ f (rowAt (b .direct) after (n - 1))
+  pub first : b .first ≡ endId f n (rowAt (b .direct) after 0)
+  pub last : b .last ≡ endId f n (rowAt (b .direct) after (n - 1))
   pub direct : Says (b .direct) (Rises f (λ i. i) n)
   pub distinct : Says (b .distinct) (Rises f (rowAt (b .direct) after) n)
   pub even : Says (b .even) (Steady f (rowAt (b .direct) after) n)
@@ -76,8 +87,8 @@ pub record Spaced (f g : ℕ → ℕ) (n : ℕ) (r : Spacing) : Type 0 where
 -- the numbers that stand beside n slots, with what was found of the ids
 pub record Beside (rows slots : List ℕ) (n : ℕ) (filed single level : Bool) (b : Ids) : Type 0 where
   pub count : b .count ≡ n
-  pub first : b .first ≡ idOf rows (rowAt filed slots 0)
-  pub last : b .last ≡ idOf rows (rowAt filed slots (n - 1))
+  pub first : b .first ≡ endId (idOf rows) n (rowAt filed slots 0)
+  pub last : b .last ≡ endId (idOf rows) n (rowAt filed slots (n - 1))
   pub direct : b .direct ≡ filed
   pub distinct : b .distinct ≡ single
   pub even : b .even ≡ level
@@ -178,10 +189,10 @@ built-slots-only f n old xs ys a b h g = joined n xs ys (h .size ∙ sym (g .siz
     slots true p q = λ i l. starts-one f n (b .first + i * 2 ^ b .shift) (getD xs i 0) (getD ys i 0) (here i l) (subst (λ (t : Bool). Held t f n (b .first) (b .shift) ys) q (g .held) i l)
       where
         first : a .first ≡ b .first
-        first = h .first ∙ ap (λ (t : Bool). f (rowAt t xs 0)) p ∙ sym (g .first ∙ ap (λ (t : Bool). f (rowAt t ys 0)) q)
+        first = h .first ∙ ap (λ (t : Bool). endId f n (rowAt t xs 0)) p ∙ sym (g .first ∙ ap (λ (t : Bool). endId f n (rowAt t ys 0)) q)
 
         last : a .last ≡ b .last
-        last = h .last ∙ ap (λ (t : Bool). f (rowAt t xs (n - 1))) p ∙ sym (g .last ∙ ap (λ (t : Bool). f (rowAt t ys (n - 1))) q)
+        last = h .last ∙ ap (λ (t : Bool). endId f n (rowAt t xs (n - 1))) p ∙ sym (g .last ∙ ap (λ (t : Bool). endId f n (rowAt t ys (n - 1))) q)
 
         shift : a .shift ≡ b .shift
         shift = shift-one (b .last - b .first) n (a .shift) (b .shift) (subst (λ (x : ℕ). IsShift (x - b .first) n (a .shift)) last (subst (λ (x : ℕ). IsShift (a .last - x) n (a .shift)) first (h .shift))) (g .shift)
@@ -201,10 +212,10 @@ built-only f n old xs a b h g = go (says-one (Rises f (λ i. i) n) (a .direct) (
         (shift-one (b .last - b .first) n (a .shift) (b .shift) (subst (λ (x : ℕ). IsShift (x - b .first) n (a .shift)) last (subst (λ (x : ℕ). IsShift (a .last - x) n (a .shift)) first (h .shift))) (g .shift))
       where
         first : a .first ≡ b .first
-        first = h .first ∙ ap (λ (d : Bool). f (rowAt d xs 0)) e ∙ sym (g .first)
+        first = h .first ∙ ap (λ (d : Bool). endId f n (rowAt d xs 0)) e ∙ sym (g .first)
 
         last : a .last ≡ b .last
-        last = h .last ∙ ap (λ (d : Bool). f (rowAt d xs (n - 1))) e ∙ sym (g .last)
+        last = h .last ∙ ap (λ (d : Bool). endId f n (rowAt d xs (n - 1))) e ∙ sym (g .last)
 
         same : a .count ≡ b .count → a .first ≡ b .first → a .last ≡ b .last → a .direct ≡ b .direct → a .distinct ≡ b .distinct → a .even ≡ b .even → a .shift ≡ b .shift → a ≡ b
         same p q r s t u v = λ i. record { count = p i; first = q i; last = r i; direct = s i; distinct = t i; even = u i; shift = v i }

@@ -1,6 +1,7 @@
 -- "looked up in O(log n) at worst, on any ids": how many slots' ids a search looks at, whatever the slots hold. Six guided probes at most
--- come first; after them each look halves what is left. And how many of these looks may be at a cache line of their own: eight slots of
--- 64 bits fill one, so that what lies between two slots at most eight apart lies in their lines. Assumes nothing.
+-- come first; after them each look halves what is left. And how many looks at slots may be at a cache line of their own: eight slots of
+-- 64 bits fill one, so that what lies between two slots at most eight apart lies in their lines. By the guide rows of 24 bytes are looked at,
+-- and each may be at a line of its own. Assumes nothing.
 use Prim.Native.Nat.{ℕ, zero, suc, _+_, _-_, _*_, _/_, _%_, _^_, _≤_, _<_, min, max}
 use mathlib.Core.Path.{_≡_, refl, sym, _∙_, ap, subst}
 use mathlib.Core.Bool.{Bool, true, false, _&&_}
@@ -193,7 +194,8 @@ module _ (k : ℕ) (distinct : Bool) (g : ℕ → ℕ) where
       by false r = omega arith
 
 -- "O(log n) at worst": of 2^j slots, whatever they hold, a search looks at no more than 6 + j, and by the guide at no more than 4 + j: this
--- with i = 0. With i = 3 the looks that may be at a line of their own (`line-near`): of 2^(3 + j) slots no more than 6 + j
+-- with i = 0. With i = 3 the looks at slots that may be at a line of their own (`line-near`): of 2^(3 + j) slots no more than 6 + j. Of the
+-- rows that the guide looks at `line-near` says nothing: there it is i = 0 that counts the lines
 pub looks-log : (i k : ℕ) (b : Ids) (slots : List ℕ) (g : ℕ → ℕ) (n j : ℕ) → n ≤ 2 ^ (i + j) → looksOf i k b slots g n ≤ 6 + j
 looks-log i k b slots g n j h = go (leb (b .last) k)
   where

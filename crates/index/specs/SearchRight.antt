@@ -15,7 +15,7 @@ use Rattle.lex.specs.Byte.{pick}
 use Rattle.lex.specs.Walk.{Turn, stop, on, turned}
 use Rattle.index.specs.Order.{idOf, rowAt, slotId, tableRoom, Before, Rises, Steady, stepOf, Says, ordered, less-or}
 use Rattle.index.specs.Lookup.{lookupOf, LookupForm, IsLast, Missing, lookup-only}
-use Rattle.index.specs.Index.{Starts, Guides, Held, Built}
+use Rattle.index.specs.Index.{Starts, Guides, Held, Built, end-some}
 use Rattle.index.specs.IndexRight.{Along, Ranks, rises-far, direct-ranks, index-ranks, index-id, steady-same}
 use Rattle.index.specs.Search.{Bracket, bracket, probeOf, narrowed, looked, turnAt, turn, endFrom, ended, opening, startAt, wide, ranged, among, guideEnd, evenEnd, endOf, standing, servedOf, sought, firstRow, searched}
 use Rattle.index.specs.Laws.{probe-low, probe-high}
@@ -500,7 +500,7 @@ built-right rows old slots n k b m h = go (less-or 0 n)
     guides d = subst (λ (t : Bool). Guides (slotId rows t slots) n (b .first) (b .shift) slots) (sym d) (subst (λ (t : Bool). Held t (idOf rows) n (b .first) (b .shift) slots) d (h .held))
 
     ends : 0 < n → Ends g n k (endOf k b slots g n)
-    ends l = end-right k (b .distinct) g n mono strict b slots refl l (h .first ∙ sym (same 0 l)) (h .last ∙ sym (same (n - 1) (omega arith))) steady guides (h .shift .fits) (h .shift .short)
+    ends l = end-right k (b .distinct) g n mono strict b slots refl l (h .first ∙ end-some (idOf rows) n (rowAt (b .direct) slots 0) l ∙ sym (same 0 l)) (h .last ∙ end-some (idOf rows) n (rowAt (b .direct) slots (n - 1)) l ∙ sym (same (n - 1) (omega arith))) steady guides (h .shift .fits) (h .shift .short)
 
     go : (0 < n) ⊎ (n ≤ 0) → servedOf rows slots (b .direct) n k (endOf k b slots g n) ≡ lookupOf (idOf rows) n k
     go (inl l) = sym (lookup-only (idOf rows) n k (servedOf rows slots (b .direct) n k (endOf k b slots g n)) (served-right rows slots (b .direct) n k s same (endOf k b slots g n) (ends l)))

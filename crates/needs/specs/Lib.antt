@@ -1,3 +1,5 @@
 pub mod Needs
+pub mod Rooms
 pub mod Laws
 pub mod Most
+pub mod Only

@@ -1,6 +1,6 @@
 -- What a file needs of lent memory.
 -- Assumes nothing.
-use Prim.Native.Nat.{ℕ, _≤_}
+use Prim.Native.Nat.{ℕ, _≤_, max}
 use mathlib.Core.Path.{_≡_, refl, sym, _∙_, ap, subst}
 use mathlib.Core.List.{List, [], _∷_}
 use native.Mathlib.Omega.{arith}
@@ -69,11 +69,14 @@ needs-enough s c e H R h r =
     ap (mapped (needsIn s)) (scan-roomy s (length s) (length s) (b .table) (b .scanned) H R k l) ∙ ap good (b .counted)
 
 -- and with fewer it does not: where the scan answers at all, so many rows of each kind were lent
-pub needs-least : (s : List ℕ) (c : Needs) → needsOf s ≡ good c → (H R : ℕ) (t : Table) → scanOf s H R ≡ good t → H ≤ length s → R ≤ length s → (c .headers ≤ H) × (c .records ≤ R)
-needs-least s c e H R t p h r =
+pub needs-least : (s : List ℕ) (c : Needs) → needsOf s ≡ good c → (H R : ℕ) (t : Table) → scanOf s H R ≡ good t → (c .headers ≤ H) × (c .records ≤ R)
+needs-least s c e H R t p =
     let b = behind s c e in
     let k = scan-fit s H R t p in
-    let w : good (b .table) ≡ good t = sym (b .scanned) ∙ scan-roomy s H R t p (length s) (length s) (omega arith) (omega arith) in
+    let l = scan-fit s (length s) (length s) (b .table) (b .scanned) in
+    let m : scanOf s (max H (length s)) (max R (length s)) ≡ good (b .table) = scan-roomy s (length s) (length s) (b .table) (b .scanned) (max H (length s)) (max R (length s)) (omega arith) (omega arith) in
+    let n : scanOf s (max H (length s)) (max R (length s)) ≡ good t = scan-roomy s H R t p (max H (length s)) (max R (length s)) (omega arith) (omega arith) in
+    let w : good (b .table) ≡ good t = sym m ∙ n in
     let v : b .table ≡ t = cc in
     let f = b .counted in
     (subst (λ (n : ℕ). n ≤ H) (ap (λ (x : Needs). x .headers) f) (subst (λ (u : Table). length (u .headers) ≤ H) (sym v) (k .0)), subst (λ (n : ℕ). n ≤ R) (ap (λ (x : Needs). x .records) f) (subst (λ (u : Table). length (u .records) ≤ R) (sym v) (k .1)))

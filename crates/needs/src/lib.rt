@@ -1,7 +1,8 @@
 // What a file needs of lent memory, told before anything is lent: its rows are counted and not written, and so are the numbers of its lists and
 // grids, the rows of its grids and the bytes of its texts.
 //
-// A host asks this once, lends tables and lists of just this size, and no function then answers 8, nor 16 for a list, a grid or a text.
+// A host asks this once, lends tables and lists of just this size, and no function then answers 8, nor 16 for a list, a grid or a text; what a
+// reader finds that is set into a list aside, as the strings inside lists, for which a host asks `hooflift_text_length`.
 ghost use mathlib.Core.Path.{_≡_};
 ghost use Prim.Native.Nat.{max};
 ghost use lib.ListN.{length};

@@ -9,10 +9,13 @@ use Rattle.error.specs.Refusal.{faultOf, faultOf-told}
 use Rattle.lex.specs.Byte.{place, place-drop}
 use Rattle.statement.specs.Row.{Row, HeaderRow}
 use Rattle.statement.specs.Statement.{Stmt, ends, refused, moved, header, record′, toldSaid, Ahead}
+use Rattle.statement.specs.Tidy.{toldTidied, TidyAhead}
 use Rattle.statement.specs.declared.Said.{Said}
 use Rattle.statement.specs.declared.HeaderSpan.{HeaderSpan}
 use Rattle.statement.specs.declared.RecordSpan.{RecordSpan}
 use Rattle.statement.specs.declared.Said.the-variants.{Ends, Refuses, Moves, Heads, Records}
+use Rattle.statement.specs.declared.Tidied.{Tidied}
+use Rattle.statement.specs.declared.Tidied.the-variants.{Untidy, Tidy}
 
 -- the spans of a row
 abbrev spanOf : Row → RecordSpan
@@ -48,3 +51,20 @@ said-back s i (Records w o p) h = rw (place-drop s o (omega arith), place-drop s
 -- `next_statement`
 pub said-only : (s : List ℕ) (i : ℕ) (a b : Said) → Ahead i (length s) a → Ahead i (length s) b → toldSaid s a ≡ toldSaid s b → a ≡ b
 said-only s i a b h k e = sym (said-back s i a h) ∙ ap (saidOf s) e ∙ said-back s i b k
+
+-- the answer that a record is had so, or not
+tidiedOf : List ℕ → Stmt → Tidied
+tidiedOf s ends = Untidy
+tidiedOf s (refused q) = Untidy
+tidiedOf s (moved sec r) = Untidy
+tidiedOf s (header w ys r) = Untidy
+tidiedOf s (record′ w ys r) = Tidy (spanOf w) (place s ys) (place s r)
+
+tidied-back : (s : List ℕ) (i : ℕ) (a : Tidied) → TidyAhead i (length s) a → tidiedOf s (toldTidied s a) ≡ a
+unfolding tidiedOf
+tidied-back s i Untidy h = refl
+tidied-back s i (Tidy w o p) h = rw (place-drop s o (omega arith), place-drop s p (omega arith)) refl
+
+-- `tidy_record`
+pub tidied-only : (s : List ℕ) (i : ℕ) (a b : Tidied) → TidyAhead i (length s) a → TidyAhead i (length s) b → toldTidied s a ≡ toldTidied s b → a ≡ b
+tidied-only s i a b h k e = sym (tidied-back s i a h) ∙ ap (tidiedOf s) e ∙ tidied-back s i b k

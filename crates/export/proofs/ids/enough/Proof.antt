@@ -15,7 +15,7 @@ within-requires c κs = search needs
 
 -- src/ids.rt:12:1
 returns : tie.Need-returns
-returns c = let a = c .before .args in ap (λ (k : ℕ). leb 8 (a .ids) && leb k (a .slots)) (c .within .ensures)
+returns c = let a = c .before .args in ap (λ (k : ℕ). (leb 8 (a .ids) && leb k (a .slots)) && leb k 1073741824) (c .within .ensures)
 
 pub enough-spec : {M : Type 1} → statement M
 enough-spec = tie.close (tie.spec within-requires returns)
