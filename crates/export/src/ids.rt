@@ -36,18 +36,20 @@ pub extern "C" fn hooflift_index(
     16
 }
 
-// The last row with this id, by the slots and the eight numbers that `hooflift_index` left; or 4294967295 where there is none. It is
-// `finds::row_of`, written out: the search is then called from two places, so that the compiler leaves it out of the first look's way.
+// The last row with this id, by the slots and the eight numbers that `hooflift_index` left; or 4294967295 where there is none. Dense ids
+// are looked up with what that takes alone; the numbers are taken apart once more for the search, so that they wait in no memory before.
 #[no_mangle]
 pub extern "C" fn hooflift_get(rows: &[u32], slots: &[u64], ids: &[u64], id: u32) -> u32
     ensures { λ r. ⌜ r ≡ rowNumber (searched (now (rows .entry)) (now (slots .entry)) (idsBy (now (ids .entry))) id) ⌝ }
 {
     let b = plain::ids_of(ids);
-    let r = index::first_row(slots, b, id);
-    if index::stands(rows, slots.len(), b.count, r, id) {
-        return r;
+    let dense = b.distinct & (b.shift == 0);
+    if b.direct & dense {
+        if finds::is_dense(rows, slots.len(), b, id) {
+            return id - b.first;
+        }
     }
-    finds::number_of(index::seek(rows, slots, b, id))
+    finds::row_of(rows, slots, plain::ids_of(ids), id)
 }
 
 // The last row of each id, or 4294967295 where there is none, at the start of `found`, in the order of the ids: 0. Or 16 where `found` is

@@ -9,15 +9,20 @@ use mathlib.Core.Logic.{_⊎_, inl, inr}
 use mathlib.Core.Option.{some}
 use native.Mathlib.Omega.{arith}
 use native.Mathlib.Nat.{mul-le-mul-right, mul-div-cancel, div-add-mod'}
-use lib.Dec.{ltb, eqb}
+use lib.Dec.{ltb, leb, eqb}
 use lib.ListN.{length, getD}
-use borrow.Author.Tests.{ltb-true, le-ltb, ne-eqb}
+use borrow.Author.Tests.{leb-true, ltb-true, le-ltb, ne-eqb}
 use Rattle.index.specs.Order.{idOf, slotId, tableRoom, less-or}
 use Rattle.index.specs.Search.{bracket, wide, rangeEnd, endOf, standing, firstRow, searched}
 use Rattle.index.specs.Guide.{start-in, end-all, end-even, end-guide, guide-is, range-finds, first-dense, first-none, even-place}
 use Rattle.index.specs.SearchRight.{get-first, get-later, seek-hit}
 use Rattle.index.specs.declared.Ids.{Ids}
 use Rattle.finds.specs.Finds.{rowNumber}
+
+-- both of two
+pub both : (s t : Bool) → (s && t) ≡ true → (s ≡ true) × (t ≡ true)
+both true t e = (refl, e)
+both false t e = absurd (let z : _≡_ {A = ℕ} 0 1 = cc in omega arith)
 
 -- how many rows the index speaks of
 abbrev pub roomOf : List ℕ → List ℕ → Ids → ℕ
@@ -30,6 +35,10 @@ rowOf rows slots b k = rowNumber (searched rows slots b k)
 -- a row that is what the search finds of an id, if it has that id
 abbrev pub Hint : List ℕ → List ℕ → Ids → ℕ → ℕ → Type 0
 Hint rows slots b k r = standing rows (roomOf rows slots b) r k ≡ true → some r ≡ searched rows slots b k
+
+-- the row, one of n, that is as far from the first as an id is from the first id has it
+abbrev pub denseStands : List ℕ → ℕ → Ids → ℕ → Bool
+denseStands rows n b k = leb (b .first) k && standing rows n (k - b .first) k
 
 -- no row of a table is numbered 4294967295
 out-of-room : (rows slots : List ℕ) (b : Ids) (k : ℕ) → false ≡ standing rows (roomOf rows slots b) 4294967295 k
@@ -198,11 +207,7 @@ pub record Guided (b : Ids) (n : ℕ) : Type 0 where
   pub even : b .even ≡ false
   pub distinct : b .distinct ≡ true
 
--- both of two, and neither
-pub both : (s t : Bool) → (s && t) ≡ true → (s ≡ true) × (t ≡ true)
-both true t e = (refl, e)
-both false t e = absurd (let z : _≡_ {A = ℕ} 0 1 = cc in omega arith)
-
+-- a shift of more than no digits tells ids that are not dense
 pub apart-by : (s : Bool) (n : ℕ) → (n ≡ 0 → ⊥) → (s && eqb n 0) ≡ false
 apart-by true n h = ne-eqb n 0 h
 apart-by false n h = refl
@@ -217,3 +222,13 @@ module _ (rows slots : List ℕ) (b : Ids) where
   pub step-hint : (step : ℕ) → 0 < step → Stepped b (roomOf rows slots b) step → (k r : ℕ) → EvenRow (b .first) step k r → Hint rows slots b k r
   step-hint step pos h k r (inl z) = none-hint rows slots b k r z
   step-hint step pos h k r (inr z) = even-hint rows slots b k r (z .0) (h .direct) (h .apart) step pos (h .span) (h .two) (h .even) (z .1)
+
+-- where ids are dense in file order the row that is as far from the first as an id is from the first id is what the search tells, if it has it
+pub dense-row : (rows slots : List ℕ) (b : Ids) (k : ℕ) → b .direct ≡ true → (b .distinct && eqb (b .shift) 0) ≡ true → denseStands rows (roomOf rows slots b) b k ≡ true → (b .first ≤ k) × (k - b .first ≡ rowOf rows slots b k)
+dense-row rows slots b k d e h = (from, hint-row rows slots b k (k - b .first) (dense-hint rows slots b k (k - b .first) from d e refl) (x .1))
+  where
+    x : (leb (b .first) k ≡ true) × (standing rows (roomOf rows slots b) (k - b .first) k ≡ true)
+    x = both (leb (b .first) k) (standing rows (roomOf rows slots b) (k - b .first) k) h
+
+    from : b .first ≤ k
+    from = leb-true (b .first) k (x .0)

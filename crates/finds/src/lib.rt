@@ -9,9 +9,9 @@ ghost use Prim.Native.Nat.{_+_, _-_, _*_, _/_, _%_, _≤_, _<_, min, max};
 ghost use lib.Dec.{leb, eqb};
 ghost use lib.ListN.{length, getD};
 ghost use Rattle.index.specs.Order.{tableRoom};
-ghost use Rattle.index.specs.Search.{searched, standing, toldFound, wide};
+ghost use Rattle.index.specs.Search.{searched, toldFound, wide};
 ghost use Rattle.finds.specs.Finds.{rowNumber, Told};
-ghost use Rattle.finds.specs.Looks.{roomOf, rowOf, Hint, EvenRow, startNear, NearRow, Stepped, Guided};
+ghost use Rattle.finds.specs.Looks.{roomOf, rowOf, Hint, denseStands, EvenRow, startNear, NearRow, Stepped, Guided};
 ghost use Rattle.finds.specs.Sweep.{Swept, AllStand};
 use index::Found;
 use index::Ids;
@@ -37,9 +37,9 @@ pub fn row_of(rows: &[u32], slots: &[u64], b: Ids, id: u32) -> u32
     number_of(index::seek(rows, slots, b, id))
 }
 
-// Whether ids are dense in file order and the row as far from the first as this id is from the first id has it.
-fn is_dense(rows: &[u32], slots: usize, b: Ids, id: u32) -> bool
-    ensures { λ r. ⌜ (r ≡ true → (b .first ≤ id) × (standing (now (rows .entry)) (tableRoom (length (now (rows .entry))) slots (b .count)) (id - b .first) id ≡ true)) ⌝ }
+// Whether the row that is as far from the first as an id is from the first id has it. Where ids are dense in file order that is its row.
+pub fn is_dense(rows: &[u32], slots: usize, b: Ids, id: u32) -> bool
+    ensures { λ r. ⌜ r ≡ denseStands (now (rows .entry)) (tableRoom (length (now (rows .entry))) slots (b .count)) b id ⌝ }
 {
     if id < b.first {
         return false;

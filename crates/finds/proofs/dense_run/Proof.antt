@@ -1,9 +1,9 @@
-use Rattle.finds.specs.Looks.{rowOf, hint-row, dense-hint}
+use Rattle.finds.specs.Looks.{rowOf, dense-row}
 use Rattle.finds.specs.Sweep.{Swept, swept-none, swept-next}
-use mathlib.Core.Path.{_≡_, refl}
+use mathlib.Core.Path.{_≡_, sym, _∙_}
 use borrow.Author.Needs.{needs}
 use lib.ListN.{length, getD}
-use Prim.Native.Nat.{ℕ, _-_, _≤_}
+use Prim.Native.Nat.{_-_, _≤_}
 use native.Mathlib.Omega.{arith}
 use Rattle.finds.proofs.dense_run.Statement.{statement}
 use Rattle.finds.proofs.dense_run.Tie as tie
@@ -35,7 +35,7 @@ is-dense-requires c κs = search needs
 
 -- src/lib.rt:71:24
 sub-found : tie.Need-sub-found Inv-loop μ-loop
-sub-found c = let h = c .before .before .is-dense .ensures (c .before .if1 .taken) .0 in omega (arith, h)
+sub-found c = let a = c .before .before .before .before .before .before .before .before .before .before .args in let p = c .before .before .before .before .before .before .before .before .before .before .pre in let l = c .before .before .before .before .before .loop in let h = dense-row (a .rows .now) (a .slots .now) (a .b) (getD (a .ids .now) (l .i) 0) (p .2) (p .3) (sym (c .before .before .is-dense .ensures) ∙ c .before .if1 .taken) in let f = h .0 in omega (arith, f)
 
 -- src/lib.rt:71:13
 mul-found : tie.Need-mul-found Inv-loop μ-loop
@@ -55,7 +55,7 @@ loop-less c = search needs
 
 -- src/lib.rt:68:5
 loop-again : tie.Need-loop-again Inv-loop μ-loop
-loop-again c = let a = c .before .before .before .before .before .before .before .before .before .before .args in let p = c .before .before .before .before .before .before .before .before .before .before .pre in let l = c .before .before .before .before .before .loop in let n = l .inv .3 .size in let k : ℕ = getD (a .ids .now) (l .i) 0 in let h = c .before .before .is-dense .ensures (c .before .if1 .taken) in (omega arith, omega arith, l .inv .2, swept-next _ _ _ _ (l .i) _ (l .inv .3) (l .inv .0) _ (omega arith) (hint-row (a .rows .now) (a .slots .now) (a .b) k (k - a .b .first) (dense-hint (a .rows .now) (a .slots .now) (a .b) k (k - a .b .first) (h .0) (p .2) (p .3) refl) (h .1)))
+loop-again c = let a = c .before .before .before .before .before .before .before .before .before .before .args in let p = c .before .before .before .before .before .before .before .before .before .before .pre in let l = c .before .before .before .before .before .loop in let h = dense-row (a .rows .now) (a .slots .now) (a .b) (getD (a .ids .now) (l .i) 0) (p .2) (p .3) (sym (c .before .before .is-dense .ensures) ∙ c .before .if1 .taken) in let n = l .inv .3 .size in (omega arith, omega arith, l .inv .2, swept-next _ _ _ _ (l .i) _ (l .inv .3) (l .inv .0) _ (omega arith) (h .1))
 
 -- src/lib.rt:74:13
 same-length : tie.Need-same-length Inv-loop μ-loop

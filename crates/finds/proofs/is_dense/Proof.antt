@@ -1,8 +1,8 @@
-use mathlib.Core.Path.{_≡_}
 use Rattle.index.specs.Order.{tableRoom}
-use borrow.Author.Tests.{lt-ltb}
+use borrow.Author.Tests.{lt-ltb, le-ltb, lt-leb, le-leb}
+use mathlib.Core.Path.{refl, sym}
 use lib.ListN.{length}
-use Prim.Native.Nat.{ℕ, _-_}
+use Prim.Native.Nat.{_-_}
 use native.Mathlib.Omega.{arith}
 use borrow.Author.Needs.{needs}
 use Rattle.finds.proofs.is_dense.Statement.{statement}
@@ -13,7 +13,7 @@ use Rattle.index.proofs.room.Reads as room-reads
 
 -- src/lib.rt:45:9
 returns : tie.Need-returns
-returns c = λ h. absurd (let z : _≡_ {A = ℕ} 0 1 = cc in omega arith)
+returns c = let a = c .before .before .before .args in sym (rw (lt-leb (a .b .first) (a .id) (c .if1 .taken)) refl)
 
 -- src/lib.rt:47:15
 cast-row : tie.Need-cast-row
@@ -25,7 +25,7 @@ room-requires c κs = search needs
 
 -- src/lib.rt:49:9
 returns-2 : tie.Need-returns-2
-returns-2 c = λ h. absurd (let z : _≡_ {A = ℕ} 0 1 = cc in omega arith)
+returns-2 c = let a = c .before .before .before .before .before .before .args in let e = c .before .room .ensures in let f = c .if2 .taken in sym (rw (le-leb (a .b .first) (a .id) (c .before .before .before .if1 .left), le-ltb (a .id - a .b .first) (tableRoom (length (a .rows .now)) (a .slots) (a .b .count)) (omega (arith, e, f))) refl)
 
 -- src/lib.rt:51:10
 mul-result : tie.Need-mul-result
@@ -41,7 +41,7 @@ shared-slice-read-result c = omega (arith, c .before .before .room .ensures)
 
 -- src/lib.rt:41:1
 returns-3 : tie.Need-returns-3
-returns-3 c = let a = c .before .before .before .before .before .before .before .args in let e = c .before .before .room .ensures in let f = c .before .if2 .left in λ h. (c .before .before .before .before .if1 .left, rw (lt-ltb (a .id - a .b .first) (tableRoom (length (a .rows .now)) (a .slots) (a .b .count)) (omega (arith, e, f))) h)
+returns-3 c = let a = c .before .before .before .before .before .before .before .args in let e = c .before .before .room .ensures in let f = c .before .if2 .left in sym (rw (le-leb (a .b .first) (a .id) (c .before .before .before .before .if1 .left), lt-ltb (a .id - a .b .first) (tableRoom (length (a .rows .now)) (a .slots) (a .b .count)) (omega (arith, e, f))) refl)
 
 pub is-dense-spec : {M : Type 1} → statement M
 is-dense-spec =
