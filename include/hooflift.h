@@ -9,11 +9,11 @@
  * HOOFLIFT_NONE where there is nothing to tell. On a refusal, and on HOOFLIFT_NONE, all that the call would have told stays as it was
  * ("A refusal returns only its number, reason and place; lent rows and output keep their bytes, as does all room beyond an answer"; of a
  * lent float that is a NaN only that it is one). A refusal of document 01 sets `fault` to its place in the file, and `reason`, where
- * there is one, to its reason, which is 0 but for 7; `hooflift_scan` puts both into `out`. Where a list of numbers that is lent for writing is
- * too short, the answer is 16 and nothing at all is set: `tables` of fewer than HOOFLIFT_TABLES numbers, `ids` of fewer than HOOFLIFT_IDS and
- * `needs` of fewer than HOOFLIFT_NEEDS, though not all of these are told so far, before anything else; a `row` of fewer than HOOFLIFT_ROW and a
- * `part` of fewer than 4 only where there is one to tell, so that every other refusal and HOOFLIFT_NONE come first. The place of this 16 is 0,
- * and so is that of every refusal of a function without a `fault`.
+ * there is one, to its reason, which is 0 but for 7; `hooflift_scan` puts both into `out`. Where one of these lists
+ * that are lent for writing is too short, the answer is 16 and nothing at all is set: `tables` of fewer than HOOFLIFT_TABLES numbers, `ids` of
+ * fewer than HOOFLIFT_IDS and `needs` of fewer than HOOFLIFT_NEEDS, though not all of these are told so far, and `found` of fewer than there are
+ * ids, before anything else; a `row` of fewer than HOOFLIFT_ROW and a `part` of fewer than 4 only where there is one to tell, so that every other
+ * refusal and HOOFLIFT_NONE come first. The place of this 16 is 0, and so is that of every refusal of a function without a `fault`.
  *
  * Rows. A data row is six 32-bit numbers: id, keyword start and end (0, 0 if complex), argument start and end, complex 0 or 1. A header row
  * is four: keyword start and end, argument start and end. Places count bytes from the file's start, and an end is the place after the last.
@@ -84,7 +84,7 @@ uint8_t hooflift_open(const uint8_t *file, size_t file_len, uint32_t *headers, s
 uint8_t hooflift_scan(const uint8_t *file, size_t file_len, uint32_t *headers, size_t headers_len, uint32_t *rows, size_t rows_len,
                       size_t slots, uint64_t *out, size_t out_len);
 
-/* Indexes the first `count` rows by id in the slots, and tells what stands beside them in HOOFLIFT_IDS numbers; 16 where `ids` is shorter, where
+/* Indexes the first `count` rows by id in the slots, or all where the table has fewer, and tells what stands beside them in HOOFLIFT_IDS numbers; 16 where `ids` is shorter, where
  * there are fewer slots than rows to index, or where these are more than 1073741824 (2^30, which no file has that is read here), and nothing is
  * written: no row is left out unseen. */
 uint8_t hooflift_index(const uint32_t *rows, size_t rows_len, size_t count, uint64_t *slots, size_t slots_len, uint64_t *ids, size_t ids_len);

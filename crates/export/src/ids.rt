@@ -36,15 +36,14 @@ pub extern "C" fn hooflift_index(
     16
 }
 
-// The last row with this id, by the slots and the eight numbers that `hooflift_index` left; or 4294967295 where there is none. Dense ids
-// are looked up with what that takes alone; the numbers are taken apart once more for the search, so that they wait in no memory before.
+// The last row with this id, by the slots and the eight numbers that `hooflift_index` left; or 4294967295 where there is none. A dense id
+// is looked at before anything is made ready for the search, which takes the numbers from the host's once more.
 #[no_mangle]
 pub extern "C" fn hooflift_get(rows: &[u32], slots: &[u64], ids: &[u64], id: u32) -> u32
     ensures { λ r. ⌜ r ≡ rowNumber (searched (now (rows .entry)) (now (slots .entry)) (idsBy (now (ids .entry))) id) ⌝ }
 {
     let b = plain::ids_of(ids);
-    let dense = b.distinct & (b.shift == 0);
-    if b.direct & dense {
+    if finds::filed(b) {
         if finds::is_dense(rows, slots.len(), b, id) {
             return id - b.first;
         }

@@ -140,10 +140,11 @@ rangeNear b k = (k - b .first) / wide (b .shift)
 abbrev pub startNear : List ℕ → ℕ → Ids → ℕ → ℕ
 startNear slots n b k = min (getD slots (min (rangeNear b k) (n - 2)) 0) n
 
--- the first row of an id's range, and the row behind its last, of those between the first row of all and the last
+-- the first row of an id's range, of those between the first row of all and the last
 abbrev pub lowNear : List ℕ → ℕ → Ids → ℕ → ℕ
 lowNear slots n b k = max 1 (min (getD slots (rangeNear b k) 0) n)
 
+-- the row behind the last row of an id's range, of those too
 abbrev pub highNear : List ℕ → ℕ → Ids → ℕ → ℕ
 highNear slots n b k = min (min (getD slots (rangeNear b k + 1) 0) n) (n - 1)
 
@@ -191,7 +192,7 @@ evenly-is slots n b k q lo hi d sh from below range inside low high filled far s
     rest : (k - b .first) % wide (b .shift) ≡ span
     rest = let e = div-add-mod' (k - b .first) (wide (b .shift)) in omega (arith, e, from)
 
--- the ids of n rows rise by so many in file order, and are not dense
+-- the numbers beside the slots say that the ids of n rows rise by so many in file order, and are not dense
 pub record Stepped (b : Ids) (n step : ℕ) : Type 0 where
   pub direct : b .direct ≡ true
   pub apart : (b .distinct && eqb (b .shift) 0) ≡ false
@@ -199,7 +200,7 @@ pub record Stepped (b : Ids) (n step : ℕ) : Type 0 where
   pub two : 1 < n
   pub span : step * (n - 1) ≡ b .last - b .first
 
--- there is a guide to n rows whose ids rise in file order by no one step
+-- the numbers beside the slots say that there is a guide to n rows, whose ids rise in file order by no one step
 pub record Guided (b : Ids) (n : ℕ) : Type 0 where
   pub two : 1 < n
   pub direct : b .direct ≡ true
@@ -207,7 +208,7 @@ pub record Guided (b : Ids) (n : ℕ) : Type 0 where
   pub even : b .even ≡ false
   pub distinct : b .distinct ≡ true
 
--- a shift of more than no digits tells ids that are not dense
+-- where a range has more than one id, ids do not count as dense
 pub apart-by : (s : Bool) (n : ℕ) → (n ≡ 0 → ⊥) → (s && eqb n 0) ≡ false
 apart-by true n h = ne-eqb n 0 h
 apart-by false n h = refl

@@ -29,18 +29,6 @@ module _ (P : ℕ → ℕ → Type 0) (ids before : List ℕ) (from : ℕ) where
   swept-none = record { size = refl; each = λ i h l. absurd (omega arith); front = λ i h. refl; rest = λ i h. refl }
 
   module _ (m : ℕ) (after : List ℕ) (h : Swept P ids before from m after) (f : from ≤ m) where
-    -- the next number is what it was
-    pub swept-kept : P (getD ids m 0) (getD after m 0) → Swept P ids before from (m + 1) after
-    swept-kept p = record { size = h .size; each = each; front = h .front; rest = λ i l. h .rest i (omega arith) }
-      where
-        each : (i : ℕ) → from ≤ i → i < m + 1 → P (getD ids i 0) (getD after i 0)
-        each i a l = go (ordered i m)
-          where
-            go : (i < m) ⊎ ((i ≡ m) ⊎ (m < i)) → P (getD ids i 0) (getD after i 0)
-            go (inl o) = h .each i a o
-            go (inr (inl o)) = subst (λ (z : ℕ). P (getD ids z 0) (getD after z 0)) (sym o) p
-            go (inr (inr o)) = absurd (omega arith)
-
     -- the next number is written
     pub swept-next : (x : ℕ) → m < length before → P (getD ids m 0) x → Swept P ids before from (m + 1) (set after m x)
     swept-next x l p = record { size = length-set after m x ∙ h .size; each = each; front = front; rest = rest }

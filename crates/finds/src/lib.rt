@@ -37,6 +37,14 @@ pub fn row_of(rows: &[u32], slots: &[u64], b: Ids, id: u32) -> u32
     number_of(index::seek(rows, slots, b, id))
 }
 
+// Whether the numbers beside the slots say that ids are dense in file order.
+pub fn filed(b: Ids) -> bool
+    ensures { λ r. ⌜ r ≡ (b .direct && (b .distinct && eqb (b .shift) 0)) ⌝ }
+{
+    let dense = b.distinct & (b.shift == 0);
+    b.direct & dense
+}
+
 // Whether the row that is as far from the first as an id is from the first id has it. Where ids are dense in file order that is its row.
 pub fn is_dense(rows: &[u32], slots: usize, b: Ids, id: u32) -> bool
     ensures { λ r. ⌜ r ≡ denseStands (now (rows .entry)) (tableRoom (length (now (rows .entry))) slots (b .count)) b id ⌝ }
@@ -216,7 +224,7 @@ fn share(far: u32, rows: usize, shift: u32) -> usize
     far as usize * rows >> (shift % 32)
 }
 
-// A row's number, or 1.
+// A row's number, and 1 for row 0.
 fn one_at_least(r: u32) -> usize
     ensures { λ m. ⌜ m ≡ max 1 r ⌝ }
 {
@@ -326,7 +334,8 @@ fn at_most(r: u32, last: usize) -> usize
     }
 }
 
-// Whether all rows that are told have their ids. It only notes one that has not, so that no jump waits for a row.
+// Whether all rows that are told have their ids. It only notes one that has not, so that no jump waits for a row: where one has not, as
+// by the guide nearly always, the rows are near at least when they are looked at one by one.
 fn all_stand(rows: &[u32], n: usize, ids: &[u32], found: &[u32], from: usize, to: usize) -> bool
     requires { ⌜ (from ≤ to) × (to ≤ length (now ids)) × (to ≤ length (now found)) × (n * 6 ≤ length (now rows)) ⌝ }
     ensures { λ r. ⌜ (r ≡ true → AllStand (now (rows .entry)) n (now (ids .entry)) (now (found .entry)) from to) ⌝ }
@@ -409,8 +418,7 @@ fn get_some(
     requires { ⌜ (from < length (now ids)) × (length (now ids) ≤ length (now found)) ⌝ }
     ensures { λ to. ⌜ (from < to) × (to ≤ length (now (ids .entry))) × Swept (λ k v. v ≡ rowOf (now (rows .entry)) (now (slots .entry)) b k) (now (ids .entry)) (now (found .entry)) from to (now (found .exit)) ⌝ }
 {
-    let dense = b.distinct & (b.shift == 0);
-    if b.direct & dense {
+    if filed(b) {
         let at = dense_run(rows, slots, b, ids, found, from);
         if at < ids.len() {
             found[at] = row_of(rows, slots, b, ids[at]);
@@ -428,8 +436,7 @@ fn first_run(rows: &[u32], slots: &[u64], b: Ids, ids: &[u32], found: &mut [u32]
     requires { ⌜ length (now ids) ≤ length (now found) ⌝ }
     ensures { λ to. ⌜ (to ≤ length (now (ids .entry))) × Swept (λ k v. v ≡ rowOf (now (rows .entry)) (now (slots .entry)) b k) (now (ids .entry)) (now (found .entry)) 0 to (now (found .exit)) ⌝ }
 {
-    let dense = b.distinct & (b.shift == 0);
-    if b.direct & dense {
+    if filed(b) {
         return dense_run(rows, slots, b, ids, found, 0);
     }
     0
