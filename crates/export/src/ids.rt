@@ -36,17 +36,16 @@ pub extern "C" fn hooflift_index(
     16
 }
 
-// The last row with this id, by the slots and the eight numbers that `hooflift_index` left; or 4294967295 where there is none. A dense id
-// is looked at before anything is made ready for the search, which takes the numbers from the host's once more.
+// The last row with this id, by the slots and the eight numbers that `hooflift_index` left; or 4294967295 where there is none. The row that
+// is looked at first is looked at before anything is made ready for the search, which takes the numbers from the host's once more.
 #[no_mangle]
 pub extern "C" fn hooflift_get(rows: &[u32], slots: &[u64], ids: &[u64], id: u32) -> u32
     ensures { λ r. ⌜ r ≡ rowNumber (searched (now (rows .entry)) (now (slots .entry)) (idsBy (now (ids .entry))) id) ⌝ }
 {
     let b = plain::ids_of(ids);
-    if finds::filed(b) {
-        if finds::is_dense(rows, slots.len(), b, id) {
-            return id - b.first;
-        }
+    let r = index::first_row(slots, b, id);
+    if index::stands(rows, slots.len(), b.count, r, id) {
+        return r;
     }
     finds::row_of(rows, slots, plain::ids_of(ids), id)
 }

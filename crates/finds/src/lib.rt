@@ -38,7 +38,7 @@ pub fn row_of(rows: &[u32], slots: &[u64], b: Ids, id: u32) -> u32
 }
 
 // Whether the numbers beside the slots say that ids are dense in file order.
-pub fn filed(b: Ids) -> bool
+fn filed(b: Ids) -> bool
     ensures { λ r. ⌜ r ≡ (b .direct && (b .distinct && eqb (b .shift) 0)) ⌝ }
 {
     let dense = b.distinct & (b.shift == 0);
@@ -46,7 +46,7 @@ pub fn filed(b: Ids) -> bool
 }
 
 // Whether the row that is as far from the first as an id is from the first id has it. Where ids are dense in file order that is its row.
-pub fn is_dense(rows: &[u32], slots: usize, b: Ids, id: u32) -> bool
+fn is_dense(rows: &[u32], slots: usize, b: Ids, id: u32) -> bool
     ensures { λ r. ⌜ r ≡ denseStands (now (rows .entry)) (tableRoom (length (now (rows .entry))) slots (b .count)) b id ⌝ }
 {
     if id < b.first {
