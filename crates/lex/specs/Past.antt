@@ -4,15 +4,15 @@
 use Prim.Native.Nat.{ℕ, suc, _+_, _-_, _≤_, _<_, min}
 use mathlib.Core.Path.{_≡_, refl, sym, _∙_, ap}
 use mathlib.Core.Bool.{Bool, true, false, _||_}
-use mathlib.Core.List.{List, [], _∷_}
+use mathlib.Core.List.{List}
 use native.Mathlib.Omega.{arith}
 use native.Mathlib.Decide.{decLe}
 use lib.Dec.{eqb}
 use lib.ListN.{length, drop, getD}
 use borrow.Author.Tests.{eq-eqb, ne-eqb, eqb-true, eqb-false}
-use Rattle.error.specs.Refusal.{Told, bad, refusal, told}
+use Rattle.error.specs.Refusal.{bad, refusal, told}
 use Rattle.lex.specs.Byte.{pick, place-drop}
-use Rattle.lex.specs.Walk.{on, walk, split, drop-end, walk-ends, walk-goes}
+use Rattle.lex.specs.Walk.{on, split, drop-end, walk-ends, walk-goes}
 use Rattle.lex.specs.Lexer.{fresh}
 use Rattle.lex.specs.Search.{Look, look, seen, seekTurn, missed, semicolon, paren, placed}
 use Rattle.lex.specs.Leap.{Stopped, seek-leaps, leapt-text, leapt-remark}

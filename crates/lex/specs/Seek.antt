@@ -3,16 +3,16 @@
 use Prim.Native.Nat.{ℕ, zero, suc, _+_, _-_, _<_, _≤_, min}
 use mathlib.Core.Path.{_≡_, refl, sym, _∙_, ap}
 use mathlib.Core.Bool.{Bool, true, false}
-use mathlib.Core.List.{List, [], _∷_}
+use mathlib.Core.List.{List}
 use native.Mathlib.Omega.{arith}
 use native.Mathlib.Decide.{decLe}
 use lib.Dec.{eqb}
 use lib.ListN.{length, drop, getD, drop-of-length-le}
-use Rattle.error.specs.Refusal.{Told, good, bad, refusal, told}
+use Rattle.error.specs.Refusal.{good}
 use Rattle.lex.specs.Byte.{pick, white, place, place-drop}
 use Rattle.lex.specs.Walk.{Turn, stop, on, walk, split, walk-stops, walk-goes}
 use Rattle.lex.specs.Lexer.{calm, next}
-use Rattle.lex.specs.Search.{Sought, at, fault, Seen, seen, Look, halt, look, seekTurn, looked, placed, under, paren, triviaTurn, triviaEnd, lead, leadAt, trailed, trailedAt, toldFound}
+use Rattle.lex.specs.Search.{Sought, at, Seen, seen, Look, halt, look, seekTurn, placed, under, paren, triviaTurn, triviaEnd, lead, leadAt, trailed, trailedAt, toldFound}
 use Rattle.lex.specs.declared.Lead.{Lead}
 use Rattle.lex.specs.declared.Lead.the-variants.{Ends, Goes}
 use Rattle.lex.specs.declared.Mode.{Mode}

@@ -154,7 +154,8 @@ pub fn find(s: &[u8], start: usize, b: u8) -> usize
     pass_bytes(s, far, s.len(), b)
 }
 
-// Past the bytes, from i on, that leave a search as it is: in a string those that are no quote, in a comment those that are no `*`.
+// Past the bytes, from i on, that leave a search as it is: in a string those that are no quote, in a comment those that are no `*`. Only
+// the search past trivia leaps so, which meets no string; that mode answers for the match to be whole.
 fn leap(s: &[u8], m: Mode, i: usize) -> usize
     requires { ⌜ i ≤ length (now s) ⌝ }
     ensures { λ r. ⌜ Leapt m (now (s .entry)) i r ⌝ }

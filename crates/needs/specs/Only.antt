@@ -12,6 +12,7 @@ neededOf : Told Needs → Needed
 neededOf (good n) = Is n
 neededOf (bad q) = Refused (faultOf q)
 
+-- it is the answer that said it
 needed-back : (a : Needed) → neededOf (toldNeeded a) ≡ a
 unfolding neededOf
 needed-back (Is n) = refl

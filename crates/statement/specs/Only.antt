@@ -60,6 +60,7 @@ tidiedOf s (moved sec r) = Untidy
 tidiedOf s (header w ys r) = Untidy
 tidiedOf s (record′ w ys r) = Tidy (spanOf w) (place s ys) (place s r)
 
+-- it is the answer that said it
 tidied-back : (s : List ℕ) (i : ℕ) (a : Tidied) → TidyAhead i (length s) a → tidiedOf s (toldTidied s a) ≡ a
 unfolding tidiedOf
 tidied-back s i Untidy h = refl

@@ -50,10 +50,12 @@ mark-end = refl
 
 -- One byte of the walk over a string's inside, at a place.
 module _ (s : List ℕ) (i : ℕ) (h : i < length s) where
+  -- it ends at a quote or a `;`
   pub spoken-stops : stops (getD s i 0) ≡ true → drop i s ≡ past spoken (drop i s)
   unfolding past
   spoken-stops e = past-stops s i h spoken (past spoken (drop i s)) (ap not e) refl
 
+  -- and goes on at any other byte
   pub spoken-goes : stops (getD s i 0) ≡ false → past spoken (drop (i + 1) s) ≡ past spoken (drop i s)
   unfolding past
   spoken-goes e = past-goes s i h spoken (past spoken (drop i s)) (ap not e) refl

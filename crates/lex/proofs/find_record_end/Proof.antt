@@ -1,4 +1,4 @@
-use Rattle.lex.specs.Past.{ahead, blocks-less, bytes-less, Quiet, Onward}
+use Rattle.lex.specs.Past.{ahead, blocks-less, bytes-less}
 use Rattle.lex.specs.Seek.{drop-within, seek-halts}
 use Rattle.lex.specs.Search.{seen, seekTurn, semicolon, missed, recordEnd, placed}
 use Rattle.lex.specs.Walk.{walk-ends}
@@ -7,9 +7,9 @@ use Rattle.lex.specs.Right.Steps.{plainly}
 use Rattle.error.specs.Refusal.{good, bad, refusal}
 use Rattle.lex.specs.declared.Mode.the-variants.{Plain}
 use borrow.Author.Tests.{eq-eqb, ne-eqb}
-use lib.ListN.{length, drop, getD}
+use lib.ListN.{length, drop}
 use mathlib.Core.Path.{_≡_, refl, sym, _∙_, ap}
-use Prim.Native.Nat.{ℕ, _+_, _-_, _≤_}
+use Prim.Native.Nat.{ℕ, _≤_}
 use denote.Ref.{now}
 use native.Mathlib.Omega.{arith}
 use borrow.Author.Needs.{needs}

@@ -1,9 +1,5 @@
-use Rattle.lex.specs.Past.{IsAt}
-use borrow.Author.Tests.{eq-eqb, eqb-true, eqb-false}
-use mathlib.Core.Path.{_≡_, refl, sym, _∙_}
-use mathlib.Core.Bool.{Bool, true, false}
+use borrow.Author.Tests.{eqb-true, eqb-false}
 use Rattle.lex.specs.Right.Steps.{clash}
-use denote.Ref.{now}
 use native.Mathlib.Omega.{arith}
 use borrow.Author.Needs.{needs}
 use Rattle.lex.proofs.is_at.Statement.{statement}

@@ -1,6 +1,6 @@
-use Rattle.lex.specs.Past.{ahead, blocks-less, bytes-less, Onward, Stood}
+use Rattle.lex.specs.Past.{ahead, blocks-less, bytes-less}
 use Rattle.lex.specs.Seek.{drop-within, seek-halts, paren-up}
-use Rattle.lex.specs.Search.{seen, seekTurn, paren, missed, closing, placed, lookOf, look}
+use Rattle.lex.specs.Search.{seen, seekTurn, paren, missed, closing, placed, lookOf}
 use Rattle.lex.specs.Walk.{walk-ends}
 use Rattle.lex.specs.Byte.{place-drop}
 use Rattle.lex.specs.Right.Steps.{plainly}
@@ -9,7 +9,7 @@ use Rattle.lex.specs.declared.Mode.the-variants.{Plain}
 use lib.Seq.{drop-drop}
 use lib.ListN.{length, drop, getD}
 use mathlib.Core.Path.{_≡_, refl, sym, _∙_, ap}
-use Prim.Native.Nat.{ℕ, _+_, _-_, _≤_}
+use Prim.Native.Nat.{ℕ, _+_, _≤_}
 use denote.Ref.{now}
 use native.Mathlib.Omega.{arith}
 use borrow.Author.Needs.{needs}

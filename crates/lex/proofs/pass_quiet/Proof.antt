@@ -1,8 +1,7 @@
 use Rattle.lex.specs.Past.{Quiet}
-use lib.ListN.{length, drop}
-use mathlib.Core.Path.{_≡_, refl, _∙_}
-use Prim.Native.Nat.{ℕ, _+_, _-_, _≤_}
-use denote.Ref.{now}
+use lib.ListN.{length}
+use mathlib.Core.Path.{refl, _∙_}
+use Prim.Native.Nat.{_-_, _≤_}
 use native.Mathlib.Omega.{arith}
 use borrow.Author.Needs.{needs}
 use Rattle.lex.proofs.pass_quiet.Statement.{statement}

@@ -1,8 +1,5 @@
 use Rattle.lex.specs.Past.{onward-byte, onward-slash, onward-text, onward-remark}
-use mathlib.Core.Path.{_≡_}
-use lib.ListN.{getD}
 use borrow.Author.Tests.{not-true, not-false}
-use Prim.Native.Nat.{ℕ, _+_}
 use denote.Ref.{now}
 use native.Mathlib.Omega.{arith}
 use borrow.Author.Needs.{needs}

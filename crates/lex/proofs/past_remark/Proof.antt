@@ -1,9 +1,7 @@
-use Rattle.lex.specs.Past.{Held, Shut, held-on, left-on, remark-found, remark-none, remark-last, remark-byte}
-use Rattle.lex.specs.Leap.{Stopped}
-use mathlib.Core.Path.{_≡_, refl, sym, _∙_, ap}
-use lib.ListN.{length, drop, getD}
-use borrow.Author.Tests.{not-true, not-false}
-use Prim.Native.Nat.{ℕ, _+_, _-_, _≤_, _<_}
+use Rattle.lex.specs.Past.{Held, held-on, left-on, remark-found, remark-none, remark-last, remark-byte}
+use mathlib.Core.Path.{refl, _∙_, ap}
+use lib.ListN.{length}
+use Prim.Native.Nat.{_+_, _-_, _≤_}
 use Rattle.lex.specs.Search.{placed}
 use Rattle.lex.specs.declared.Mode.the-variants.{Remark}
 use denote.Ref.{now}

@@ -2,11 +2,11 @@ use Rattle.record.specs.Text.{past}
 use Rattle.statement.specs.Usual.{spoken}
 use Rattle.statement.specs.UsualLaws.{spoken-on}
 use Rattle.statement.specs.TidyLaws.{add-none}
-use lib.ListN.{length, drop}
+use lib.ListN.{drop}
 use denote.Ref.{now}
 use native.Mathlib.Omega.{arith}
 use mathlib.Core.Path.{_≡_, ap}
-use mathlib.Core.Bool.{true, false, _||_}
+use mathlib.Core.Bool.{false, _||_}
 use Prim.Native.Nat.{ℕ, _+_, _-_, _≤_}
 use borrow.Author.Needs.{needs}
 use Rattle.statement.proofs.block_stops.Statement.{statement}

@@ -1,7 +1,7 @@
 use Rattle.record.specs.Text.{past}
 use Rattle.statement.specs.Usual.{spoken}
 use Rattle.statement.specs.UsualLaws.{spoken-stops, spoken-goes}
-use lib.ListN.{length, drop}
+use lib.ListN.{drop}
 use denote.Ref.{now}
 use borrow.Author.Needs.{needs}
 use native.Mathlib.Omega.{arith}

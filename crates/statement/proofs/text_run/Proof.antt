@@ -1,10 +1,7 @@
-use Rattle.record.specs.Text.{past}
-use Rattle.statement.specs.Usual.{spoken}
 use Rattle.statement.specs.UsualLaws.{spoken-last}
-use lib.ListN.{length, drop}
 use denote.Ref.{now}
 use native.Mathlib.Omega.{arith}
-use mathlib.Core.Path.{_≡_, _∙_}
+use mathlib.Core.Path.{_∙_}
 use borrow.Author.Needs.{needs}
 use Rattle.statement.proofs.text_run.Statement.{statement}
 use Rattle.statement.proofs.text_run.Tie as tie
