@@ -8,9 +8,9 @@
 # Environment:
 #   ANSWERS, ASKS  the two programs (default: those of target/bin, or on another processor than x86-64 built by ../shared/perf/native.sh; proved and
 #                  built first where they are not there)
-#   STREAMS        which streams run (default: exhaustive grammar damaged found chosen parameters lookups units unitrules real)
+#   STREAMS        which streams run (default: exhaustive grammar long damaged found chosen parameters lookups units unitrules real)
 #   EXHAUSTIVE     most cases of `exhaustive` (default: all, 5,094,318)
-#   GRAMMAR, DAMAGED  cases of these two (default 3700000 and 1300000)
+#   GRAMMAR, LONG, DAMAGED  cases of these three (default 3700000, 300000 and 1300000)
 #   DRAWN          cases of each of `parameters`, `lookups` and `units`, which generate.py makes (default 20000)
 #   ASKED          of so many chunks one is answered by `asks` too (default 8); the streams that are no chunks are always
 #   FUZZ           seconds of coverage-guided search by each program (default 120; 0: the cases that are kept alone)
@@ -26,7 +26,7 @@ work=${1:-${TMPDIR:-$(dirname "$(mktemp -u)")}/differential-all}
 mkdir -p "$work"
 work=$(CDPATH='' cd -- "$work" && pwd)
 say() { echo "all.sh: $*" >&2; }
-streams=${STREAMS:-exhaustive grammar damaged found chosen parameters lookups units unitrules real}
+streams=${STREAMS:-exhaustive grammar long damaged found chosen parameters lookups units unitrules real}
 seed=${SEED:-1}
 chunk=${CHUNK:-100000}
 jobs=${JOBS:-$(nproc)}
@@ -90,6 +90,7 @@ for stream in $streams; do
     case $stream in
         exhaustive) chunks exhaustive "$("$MANY" exhaustive --take "${EXHAUSTIVE:-10000000}" --count)" "$asked" "$MANY" exhaustive ;;
         grammar) chunks grammar "${GRAMMAR:-3700000}" "$asked" "$MANY" grammar "${GRAMMAR:-3700000}" "$seed" ;;
+        long) chunks long "${LONG:-300000}" "$asked" "$MANY" long "${LONG:-300000}" "$seed" ;;
         damaged)
             find "$real" -type f -size -3000k | LC_ALL=C sort >"$work/names"
             # shellcheck disable=SC2046

@@ -2,6 +2,7 @@
 //!
 //!     many exhaustive                       all short inputs of each shape
 //!     many grammar COUNT SEED               files of a grammar, a quarter of them damaged
+//!     many long COUNT SEED                  files with long strings, comments and runs of other bytes, one in eight damaged
 //!     many damaged COUNT SEED FILE..        cuts of the given files, two thirds of them damaged
 //!     many files FILE..                     the files themselves, in the order given
 //!     many run FILE                         the cases of a run that is there already
@@ -9,7 +10,7 @@
 //!     many split FOLDER                     a file for each case of the run on standard input
 //!     many compare EXPECTED ACTUAL          compares two answers as they are read, and counts them
 //!
-//! Options of the first six: `--skip S`, `--take T` give a part of the run, `--count` its number of cases. A case depends on the
+//! Options of the first seven: `--skip S`, `--take T` give a part of the run, `--count` its number of cases. A case depends on the
 //! seed and its number alone.
 //!
 //! `compare` prints `lines N`, `cases N` and how often each answer occurred in EXPECTED, one to a line: the line's first word and
@@ -20,6 +21,7 @@ mod damaged;
 mod draw;
 mod exhaustive;
 mod grammar;
+mod long;
 mod units;
 
 use std::io::{BufWriter, Read, Write};
@@ -59,6 +61,10 @@ fn main() {
             let seed = seed();
             write(&part, count(), |i, out| grammar::case(seed, i, out));
         }
+        Some("long") => {
+            let seed = seed();
+            write(&part, count(), |i, out| long::case(seed, i, out));
+        }
         Some("damaged") => {
             let seed = seed();
             let files: Vec<Vec<u8>> = words[3..].iter().map(|name| read(name)).collect();
@@ -87,7 +93,7 @@ fn main() {
         }
         Some("split") if words.len() == 2 => split(&words[1]),
         Some("compare") if words.len() == 3 => compare::compare(&words[1], &words[2]),
-        _ => fail("exhaustive, grammar, damaged, files or compare is wanted"),
+        _ => fail("exhaustive, grammar, long, damaged, files or compare is wanted"),
     }
 }
 
