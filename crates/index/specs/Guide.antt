@@ -54,6 +54,7 @@ range-most d span w pos h =
 pub among-low : (k w : ℕ) (b : Bracket) → b .lo ≤ among k w b
 among-low k w b = omega arith
 
+-- and before its end, where it has rows
 pub among-high : (k w : ℕ) (b : Bracket) → 0 < w → k - b .under < w → b .lo < b .hi → among k w b < b .hi
 among-high k w b pos f h =
     let m : (k - b .under) * (b .hi - b .lo) < w * (b .hi - b .lo) = mul-lt-mul-of-pos-right {m = k - b .under} {n = w} {k = b .hi - b .lo} f (omega arith) in
@@ -69,6 +70,7 @@ share-most x y z h = div-le-of-le-mul z (mul-le-mul-right {m = x} {n = z} y h)
 pub start-in : (slots : List ℕ) (n i : ℕ) → i < n → startAt slots n i ≡ min (getD slots i 0) n
 start-in slots n i h = rw (lt-ltb i n h) refl
 
+-- past the slots it is the end of all rows
 pub start-out : (slots : List ℕ) (n i : ℕ) → n ≤ i → startAt slots n i ≡ n
 start-out slots n i h = rw (le-ltb i n h) refl
 
@@ -188,6 +190,7 @@ shift-ends span n left s h l = let b : s ≤ 31 = h .short in record { fits = su
 pub wide-fits : (s : ℕ) → s < 32 → 2 ^ s ≤ 2147483648
 wide-fits s h = pow-le-pow-right {n = 2} (omega arith) {i = s} {j = 31} (omega arith)
 
+-- as many ranges as there are ids
 pub ranges-fit : (q s : ℕ) → q ≤ 4294967296 → s < 32 → q * 2 ^ s ≤ 9223372036854775808
 ranges-fit q s h l = mul-le-mul {n₁ = q} {m₁ = 2 ^ s} {n₂ = 4294967296} {m₂ = 2147483648} h (wide-fits s l)
 

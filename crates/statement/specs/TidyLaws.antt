@@ -106,6 +106,7 @@ end-none s i h = rw (drop-end s i h) refl
 pub next-not : (a b : ℕ) → b ≤ a → false ≡ eqb (a + 1) b
 next-not a b h = sym (ne-eqb (a + 1) b (λ e. omega arith))
 
+-- where it is behind, by the distance
 pub next-is : (a b : ℕ) → a < b → eqb (b - a) 1 ≡ eqb (a + 1) b
 next-is a b h = go (eqb (a + 1) b) refl
   where
