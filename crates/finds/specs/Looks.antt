@@ -36,10 +36,6 @@ rowOf rows slots b k = rowNumber (searched rows slots b k)
 abbrev pub Hint : List ℕ → List ℕ → Ids → ℕ → ℕ → Type 0
 Hint rows slots b k r = standing rows (roomOf rows slots b) r k ≡ true → some r ≡ searched rows slots b k
 
--- the row, one of n, that is as far from the first as an id is from the first id has it
-abbrev pub denseStands : List ℕ → ℕ → Ids → ℕ → Bool
-denseStands rows n b k = leb (b .first) k && standing rows n (k - b .first) k
-
 -- no row of a table is numbered 4294967295
 out-of-room : (rows slots : List ℕ) (b : Ids) (k : ℕ) → false ≡ standing rows (roomOf rows slots b) 4294967295 k
 out-of-room rows slots b k = sym (rw (le-ltb 4294967295 (roomOf rows slots b) (omega arith)) refl)
@@ -126,6 +122,10 @@ module _ (rows slots : List ℕ) (b : Ids) (k : ℕ) where
 
           found : r + 1 ≡ rangeEnd k (b .distinct) g (bracket lo hi (b .first + q * wide (b .shift)) (min (b .first + (q + 1) * wide (b .shift)) (b .last)) 4) (wide (b .shift))
           found = range-finds k (b .distinct) g (bracket lo hi (b .first + q * wide (b .shift)) (min (b .first + (q + 1) * wide (b .shift)) (b .last)) 4) (wide (b .shift)) r (g r) there refl rows-left has
+
+-- the row of an id where ids are dense: a number that no row has, or the one that is as far from the first as the id is from the first id
+abbrev pub DenseRow : ℕ → ℕ → ℕ → Type 0
+DenseRow first k r = (r ≡ 4294967295) ⊎ ((first ≤ k) × (r ≡ k - first))
 
 -- the row of an id where ids rise by one step from the first: a number that no row has, or one that is so many steps from the first as the
 -- id is from the first id
@@ -224,12 +224,7 @@ module _ (rows slots : List ℕ) (b : Ids) where
   step-hint step pos h k r (inl z) = none-hint rows slots b k r z
   step-hint step pos h k r (inr z) = even-hint rows slots b k r (z .0) (h .direct) (h .apart) step pos (h .span) (h .two) (h .even) (z .1)
 
--- where ids are dense in file order the row that is as far from the first as an id is from the first id is what the search tells, if it has it
-pub dense-row : (rows slots : List ℕ) (b : Ids) (k : ℕ) → b .direct ≡ true → (b .distinct && eqb (b .shift) 0) ≡ true → denseStands rows (roomOf rows slots b) b k ≡ true → (b .first ≤ k) × (k - b .first ≡ rowOf rows slots b k)
-dense-row rows slots b k d e h = (from, hint-row rows slots b k (k - b .first) (dense-hint rows slots b k (k - b .first) from d e refl) (x .1))
-  where
-    x : (leb (b .first) k ≡ true) × (standing rows (roomOf rows slots b) (k - b .first) k ≡ true)
-    x = both (leb (b .first) k) (standing rows (roomOf rows slots b) (k - b .first) k) h
-
-    from : b .first ≤ k
-    from = leb-true (b .first) k (x .0)
+  -- and what is told by the distance from the first, where ids are dense in file order
+  pub far-hint : b .direct ≡ true → (b .distinct && eqb (b .shift) 0) ≡ true → (k r : ℕ) → DenseRow (b .first) k r → Hint rows slots b k r
+  far-hint d e k r (inl z) = none-hint rows slots b k r z
+  far-hint d e k r (inr z) = dense-hint rows slots b k r (z .0) d e (z .1)

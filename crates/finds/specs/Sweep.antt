@@ -9,7 +9,7 @@ use native.Mathlib.Omega.{arith}
 use lib.Dec.{eqb}
 use lib.ListN.{length, getD, set, length-set}
 use lib.Seq.{getD-set-same, getD-set-other}
-use borrow.Author.Tests.{eqb-true, lt-ltb}
+use borrow.Author.Tests.{lt-ltb, eq-eqb}
 use Rattle.index.specs.Order.{ordered, less-or}
 use Rattle.finds.specs.Finds.{Told, full}
 use Rattle.finds.specs.Looks.{roomOf, rowOf, Hint, hint-row, both}
@@ -71,27 +71,28 @@ swept-old P Q ids before after from m to h f l q = subst (λ (z : ℕ). Q (getD 
 abbrev pub AllStand : List ℕ → ℕ → List ℕ → List ℕ → ℕ → ℕ → Type 0
 AllStand rows n ids found from to = (i : ℕ) → from ≤ i → i < to → standing rows n (getD found i 0) (getD ids i 0) ≡ true
 
--- the next one too
-pub stand-next : (rows : List ℕ) (n : ℕ) (ids found : List ℕ) (from m at : ℕ) (good : Bool) → (good ≡ true → AllStand rows n ids found from m) → 0 < n → at ≡ min (getD found m 0) (n - 1)
-    → ((good && eqb at (getD found m 0)) && eqb (getD rows (at * 6) 0) (getD ids m 0)) ≡ true → AllStand rows n ids found from (m + 1)
-stand-next rows n ids found from m at good h pos low e i a l = go (ordered i m)
+-- each of the numbers of a part is below n
+abbrev pub AllBelow : ℕ → List ℕ → ℕ → ℕ → Type 0
+AllBelow n found from to = (i : ℕ) → from ≤ i → i < to → getD found i 0 < n
+
+-- the next one too, where the bound is none lower
+pub below-next : (n m : ℕ) (found : List ℕ) (from at : ℕ) → AllBelow n found from at → n ≤ m → getD found at 0 < m → AllBelow m found from (at + 1)
+below-next n m found from at h o e i a l = go (less-or i at)
   where
-    x : ((good && eqb at (getD found m 0)) ≡ true) × (eqb (getD rows (at * 6) 0) (getD ids m 0) ≡ true)
-    x = both (good && eqb at (getD found m 0)) (eqb (getD rows (at * 6) 0) (getD ids m 0)) e
+    go : (i < at) ⊎ (at ≤ i) → getD found i 0 < m
+    go (inl u) = let q = h i a u in omega (arith, q, o)
+    go (inr u) = let p : at ≡ i = omega arith in subst (λ (z : ℕ). getD found z 0 < m) p e
 
-    y : (good ≡ true) × (eqb at (getD found m 0) ≡ true)
-    y = both good (eqb at (getD found m 0)) (x .0)
-
+-- where a further row has its id too
+pub stand-next : (rows : List ℕ) (n : ℕ) (ids found : List ℕ) (from m : ℕ) → AllStand rows n ids found from m → getD found m 0 < n → getD rows (getD found m 0 * 6) 0 ≡ getD ids m 0 → AllStand rows n ids found from (m + 1)
+stand-next rows n ids found from m h q e i a l = go (less-or i m)
+  where
     here : standing rows n (getD found m 0) (getD ids m 0) ≡ true
-    here =
-        let p : at ≡ getD found m 0 = eqb-true at (getD found m 0) (y .1) in
-        let q : getD found m 0 < n = omega (arith, p, low, pos) in
-        rw (lt-ltb (getD found m 0) n q) (subst (λ (z : ℕ). eqb (getD rows (z * 6) 0) (getD ids m 0) ≡ true) p (x .1))
+    here = rw (lt-ltb (getD found m 0) n q) (eq-eqb (getD rows (getD found m 0 * 6) 0) (getD ids m 0) e)
 
-    go : (i < m) ⊎ ((i ≡ m) ⊎ (m < i)) → standing rows n (getD found i 0) (getD ids i 0) ≡ true
-    go (inl o) = h (y .0) i a o
-    go (inr (inl o)) = subst (λ (z : ℕ). standing rows n (getD found z 0) (getD ids z 0) ≡ true) (sym o) here
-    go (inr (inr o)) = absurd (omega arith)
+    go : (i < m) ⊎ (m ≤ i) → standing rows n (getD found i 0) (getD ids i 0) ≡ true
+    go (inl o) = h i a o
+    go (inr o) = let p : m ≡ i = omega arith in subst (λ (z : ℕ). standing rows n (getD found z 0) (getD ids z 0) ≡ true) p here
 
 -- hints that all have their ids are what the search tells
 pub swept-stood : (rows slots : List ℕ) (b : Ids) (n : ℕ) (ids xs ys : List ℕ) (from to : ℕ) → n ≡ roomOf rows slots b → Swept (Hint rows slots b) ids xs from to ys → AllStand rows n ids ys from to → Swept (λ k v. v ≡ rowOf rows slots b k) ids xs from to ys

@@ -11,8 +11,8 @@ ghost use lib.ListN.{length, getD};
 ghost use Rattle.index.specs.Order.{tableRoom};
 ghost use Rattle.index.specs.Search.{searched, toldFound, wide};
 ghost use Rattle.finds.specs.Finds.{rowNumber, Told};
-ghost use Rattle.finds.specs.Looks.{roomOf, rowOf, Hint, denseStands, EvenRow, startNear, NearRow, Stepped, Guided};
-ghost use Rattle.finds.specs.Sweep.{Swept, AllStand};
+ghost use Rattle.finds.specs.Looks.{roomOf, rowOf, Hint, DenseRow, EvenRow, startNear, NearRow, Stepped, Guided};
+ghost use Rattle.finds.specs.Sweep.{Swept, AllStand, AllBelow};
 use index::Found;
 use index::Ids;
 
@@ -45,44 +45,31 @@ fn filed(b: Ids) -> bool
     b.direct & dense
 }
 
-// Whether the row that is as far from the first as an id is from the first id has it. Where ids are dense in file order that is its row.
-fn is_dense(rows: &[u32], slots: usize, b: Ids, id: u32) -> bool
-    ensures { λ r. ⌜ r ≡ denseStands (now (rows .entry)) (tableRoom (length (now (rows .entry))) slots (b .count)) b id ⌝ }
+// The row that is as far from the first as an id is from the first id; 4294967295 for an id before the first.
+fn dense_row(first: u32, id: u32) -> u32
+    ensures { λ r. ⌜ DenseRow first id r ⌝ }
 {
-    if id < b.first {
-        return false;
-    }
-    let row = (id - b.first) as usize;
-    if index::room(rows.len(), slots, b.count) <= row {
-        return false;
-    }
-    rows[row * 6] == id
+    if id < first { 4294967295 } else { id - first }
 }
 
-// The rows of dense ids, up to the first id that none has: its place. Nothing is to be told apart, so that ids which are all there cost
-// one look each.
-fn dense_run(
+// The rows of ids that are dense in file order; they are not read.
+fn dense_near(
     rows: &[u32],
     slots: &[u64],
     b: Ids,
     ids: &[u32],
     found: &mut [u32],
     from: usize,
-) -> usize
-    requires { ⌜ (from ≤ length (now ids)) × (length (now ids) ≤ length (now found)) × (b .direct ≡ true) × ((b .distinct && eqb (b .shift) 0) ≡ true) ⌝ }
-    ensures { λ to. ⌜ (to ≤ length (now (ids .entry))) × (from ≤ to) × Swept (λ k v. v ≡ rowOf (now (rows .entry)) (now (slots .entry)) b k) (now (ids .entry)) (now (found .entry)) from to (now (found .exit)) ⌝ }
+    to: usize,
+)
+    requires { ⌜ (from ≤ to) × (to ≤ length (now ids)) × (to ≤ length (now found)) × (b .direct ≡ true) × ((b .distinct && eqb (b .shift) 0) ≡ true) ⌝ }
+    ensures { λ _. ⌜ Swept (Hint (now (rows .entry)) (now (slots .entry)) b) (now (ids .entry)) (now (found .entry)) from to (now (found .exit)) ⌝ }
 {
     let mut i = from;
-    while i < ids.len() {
-        let id = ids[i];
-        if is_dense(rows, slots.len(), b, id) {
-            found[i] = id - b.first;
-            i += 1;
-        } else {
-            return i;
-        }
+    while i < to {
+        found[i] = dense_row(b.first, ids[i]);
+        i += 1;
     }
-    i
 }
 
 // The rows that a search looks at first, where there are such; they are not read.
@@ -305,11 +292,15 @@ fn guide_near(
     nears(slots, n, b, ids, found, from, to);
 }
 
-// The rows that can be told without reading one: by the step, by the guide, or where a search looks first.
+// The rows that can be told without reading one: by the distance, the step or the guide, or where a search looks first.
 fn near(rows: &[u32], slots: &[u64], b: Ids, ids: &[u32], found: &mut [u32], from: usize, to: usize)
     requires { ⌜ (from ≤ to) × (to ≤ length (now ids)) × (to ≤ length (now found)) ⌝ }
     ensures { λ _. ⌜ Swept (Hint (now (rows .entry)) (now (slots .entry)) b) (now (ids .entry)) (now (found .entry)) from to (now (found .exit)) ⌝ }
 {
+    if filed(b) {
+        dense_near(rows, slots, b, ids, found, from, to);
+        return;
+    }
     let n = index::room(rows.len(), slots.len(), b.count);
     let step = step_for(b, n);
     if 0 < step {
@@ -323,34 +314,59 @@ fn near(rows: &[u32], slots: &[u64], b: Ids, ids: &[u32], found: &mut [u32], fro
     slot_near(rows, slots, b, ids, found, from, to);
 }
 
-// The lesser of a row's number and the last row's.
-fn at_most(r: u32, last: usize) -> usize
-    ensures { λ m. ⌜ m ≡ min r last ⌝ }
+// The greater of two numbers.
+fn greater(a: u32, b: u32) -> u32
+    ensures { λ r. ⌜ r ≡ max a b ⌝ }
 {
-    if (r as usize) < last {
-        r as usize
-    } else {
-        last
-    }
+    if a < b { b } else { a }
 }
 
-// Whether all rows that are told have their ids. It only notes one that has not, so that no jump waits for a row: where one has not, as
-// by the guide nearly always, the rows are near at least when they are looked at one by one.
+// The highest of the numbers of a part, or 0.
+fn highest(found: &[u32], from: usize, to: usize) -> u32
+    requires { ⌜ (from ≤ to) × (to ≤ length (now found)) ⌝ }
+    ensures { λ r. ⌜ AllBelow (r + 1) (now (found .entry)) from to ⌝ }
+{
+    let mut top = 0;
+    let mut i = from;
+    while i < to {
+        top = greater(top, found[i]);
+        i += 1;
+    }
+    top
+}
+
+// 1 where two numbers differ.
+fn differs(a: u32, b: u32) -> usize
+    ensures { λ r. ⌜ (r ≤ 1) × (r ≡ 0 → a ≡ b) ⌝ }
+{
+    if a == b { 0 } else { 1 }
+}
+
+// How many of the rows that are told have not their ids. It only counts them, so that no jump waits for a row.
+fn misses(rows: &[u32], n: usize, ids: &[u32], found: &[u32], from: usize, to: usize) -> usize
+    requires { ⌜ (from ≤ to) × (to ≤ length (now ids)) × (to ≤ length (now found)) × (n * 6 ≤ length (now rows)) × AllBelow n (now found) from to ⌝ }
+    ensures { λ r. ⌜ (r ≡ 0 → AllStand (now (rows .entry)) n (now (ids .entry)) (now (found .entry)) from to) ⌝ }
+{
+    let mut missed = 0;
+    let mut i = from;
+    while i < to {
+        let row = found[i] as usize;
+        missed += differs(rows[row * 6], ids[i]);
+        i += 1;
+    }
+    missed
+}
+
+// Whether all rows that are told are some of n, and have their ids. Where one has not, as by the guide nearly always, the rows are near at
+// least when they are looked at one by one.
 fn all_stand(rows: &[u32], n: usize, ids: &[u32], found: &[u32], from: usize, to: usize) -> bool
     requires { ⌜ (from ≤ to) × (to ≤ length (now ids)) × (to ≤ length (now found)) × (n * 6 ≤ length (now rows)) ⌝ }
     ensures { λ r. ⌜ (r ≡ true → AllStand (now (rows .entry)) n (now (ids .entry)) (now (found .entry)) from to) ⌝ }
 {
-    if n == 0 {
+    if n <= highest(found, from, to) as usize {
         return false;
     }
-    let mut good = true;
-    let mut i = from;
-    while i < to {
-        let at = at_most(found[i], n - 1);
-        good = good & (at == found[i] as usize) & (rows[at * 6] == ids[i]);
-        i += 1;
-    }
-    good
+    misses(rows, n, ids, found, from, to) == 0
 }
 
 // The row of an id: the one that is told, where it has the id, else what is sought.
@@ -405,51 +421,16 @@ fn get_part(
     settle(rows, slots, b, ids, found, from, to);
 }
 
-// The rows of some ids from a place on, and the place behind them: as many as are dense and one more, or a part of 128, so that the
-// lines which one sweep over a part fetched are still near for the next.
-fn get_some(
-    rows: &[u32],
-    slots: &[u64],
-    b: Ids,
-    ids: &[u32],
-    found: &mut [u32],
-    from: usize,
-) -> usize
-    requires { ⌜ (from < length (now ids)) × (length (now ids) ≤ length (now found)) ⌝ }
-    ensures { λ to. ⌜ (from < to) × (to ≤ length (now (ids .entry))) × Swept (λ k v. v ≡ rowOf (now (rows .entry)) (now (slots .entry)) b k) (now (ids .entry)) (now (found .entry)) from to (now (found .exit)) ⌝ }
-{
-    if filed(b) {
-        let at = dense_run(rows, slots, b, ids, found, from);
-        if at < ids.len() {
-            found[at] = row_of(rows, slots, b, ids[at]);
-            return at + 1;
-        }
-        return at;
-    }
-    let to = from + lex::within(ids.len() - from, 128);
-    get_part(rows, slots, b, ids, found, from, to);
-    to
-}
-
-// The rows of the ids up to the first that is not dense, and its place. Most lists of ids end here, in a loop of its own.
-fn first_run(rows: &[u32], slots: &[u64], b: Ids, ids: &[u32], found: &mut [u32]) -> usize
+// The rows of all ids, 128 at a time, so that the lines which one sweep over a part fetched are still near for the next.
+fn get_parts(rows: &[u32], slots: &[u64], b: Ids, ids: &[u32], found: &mut [u32])
     requires { ⌜ length (now ids) ≤ length (now found) ⌝ }
-    ensures { λ to. ⌜ (to ≤ length (now (ids .entry))) × Swept (λ k v. v ≡ rowOf (now (rows .entry)) (now (slots .entry)) b k) (now (ids .entry)) (now (found .entry)) 0 to (now (found .exit)) ⌝ }
+    ensures { λ _. ⌜ Swept (λ k v. v ≡ rowOf (now (rows .entry)) (now (slots .entry)) b k) (now (ids .entry)) (now (found .entry)) 0 (length (now (ids .entry))) (now (found .exit)) ⌝ }
 {
-    if filed(b) {
-        return dense_run(rows, slots, b, ids, found, 0);
-    }
-    0
-}
-
-// The rows of the ids from a place on.
-fn get_rest(rows: &[u32], slots: &[u64], b: Ids, ids: &[u32], found: &mut [u32], from: usize)
-    requires { ⌜ (from ≤ length (now ids)) × (length (now ids) ≤ length (now found)) ⌝ }
-    ensures { λ _. ⌜ Swept (λ k v. v ≡ rowOf (now (rows .entry)) (now (slots .entry)) b k) (now (ids .entry)) (now (found .entry)) from (length (now (ids .entry))) (now (found .exit)) ⌝ }
-{
-    let mut i = from;
+    let mut i: usize = 0;
     while i < ids.len() {
-        i = get_some(rows, slots, b, ids, found, i);
+        let to = i + lex::within(ids.len() - i, 128);
+        get_part(rows, slots, b, ids, found, i, to);
+        i = to;
     }
 }
 
@@ -461,7 +442,6 @@ pub fn get_all(rows: &[u32], slots: &[u64], b: Ids, ids: &[u32], found: &mut [u3
     if found.len() < ids.len() {
         return false;
     }
-    let at = first_run(rows, slots, b, ids, found);
-    get_rest(rows, slots, b, ids, found, at);
+    get_parts(rows, slots, b, ids, found);
     true
 }
