@@ -14,6 +14,7 @@ use Rattle.params.proofs.param_end.Tie as tie
 use Rattle.params.proofs.param_end.Reads as reads
 use Rattle.params.proofs.param_end.Lts as lts
 use Rattle.lex.proofs.within.Reads as within-reads
+use Rattle.params.proofs.past_plain.Reads as past-plain-reads
 use Rattle.params.proofs.token_at.Reads as token-at-reads
 
 abbrev Inv-loop : tie.InvT-loop
@@ -41,19 +42,27 @@ loop-holds c = let s = now (c .before .before .args .part) in
 shared-slice-read-if1 : tie.Need-shared-slice-read-if1 Inv-loop μ-loop
 shared-slice-read-if1 c = search needs
 
--- src/lib.rt:159:13
-add-i : tie.Need-add-i Inv-loop μ-loop
-add-i c = search needs
+-- src/lib.rt:177:28
+add-past-plain : tie.Need-add-past-plain Inv-loop μ-loop
+add-past-plain c = search needs
 
--- src/lib.rt:157:5
+-- src/lib.rt:177:17
+past-plain-requires : tie.Need-past-plain-requires Inv-loop μ-loop
+past-plain-requires c κs = search needs
+
+-- src/lib.rt:175:5
 loop-less : tie.Need-loop-less Inv-loop μ-loop
-loop-less c = search needs
+loop-less c = let r = c .past-plain .ensures .0 in let n = c .past-plain .ensures .1 in omega (arith, r, n)
 
--- src/lib.rt:157:5
+-- src/lib.rt:175:5
 loop-again : tie.Need-loop-again Inv-loop μ-loop
-loop-again c = let l = c .before .before .before .loop in
-    let s = now (c .before .before .before .before .before .before .args .part) in
-    (omega arith, omega arith, omega arith, omega arith, sym (step-plain s (l .i) (l .solid) (l .depth) (omega arith) (c .if1 .taken)) ∙ l .inv .4)
+loop-again c = let l = c .before .before .before .before .loop in
+    let s = now (c .before .before .before .before .before .before .before .args .part) in
+    let r = c .past-plain .ensures .0 in
+    let f = l .inv .0 in
+    let o = l .inv .1 in
+    let d = l .inv .3 in
+    (omega (arith, r, f, o), omega arith, c .past-plain .ensures .1, omega (arith, r, d), sym (c .past-plain .ensures .2 (l .depth)) ∙ sym (step-plain s (l .i) (l .solid) (l .depth) (omega arith) (c .before .if1 .taken)) ∙ l .inv .4)
 
 -- src/lib.rt:162:19
 token-at-requires : tie.Need-token-at-requires Inv-loop μ-loop
@@ -121,7 +130,8 @@ param-end-spec =
     within-requires
     loop-holds
     shared-slice-read-if1
-    add-i
+    add-past-plain
+    past-plain-requires
     loop-less
     loop-again
     token-at-requires
