@@ -8,7 +8,7 @@
 ghost use mathlib.Core.Path.{_≡_};
 ghost use mathlib.Core.List.{[], _∷_};
 ghost use mathlib.Core.Bool.{false};
-ghost use Prim.Native.Nat.{_≤_, min};
+ghost use Prim.Native.Nat.{_+_, _≤_, min};
 ghost use lib.Dec.{eqb};
 ghost use lib.ListN.{length, drop};
 ghost use Rattle.lex.specs.Byte.{pick};
@@ -164,11 +164,40 @@ fn closing_len(s: &[u8]) -> usize
     0
 }
 
+// Whether one of 64 bytes is not the text as it stands. It only notes one, so that the compiler takes many bytes at a time.
+fn block_differs(s: &[u8], at: usize) -> bool
+    requires { ⌜ at + 64 ≤ length (now s) ⌝ }
+    ensures { λ r. ⌜ (r ≡ false → plain (drop at (now (s .entry))) ≡ plain (drop (at + 64) (now (s .entry)))) ⌝ }
+{
+    let mut hit = false;
+    let mut k = 0;
+    while k < 64 {
+        let b = s[at + k];
+        hit = hit | ((b == 39) | ((b == 92) | (128 <= b)));
+        k += 1;
+    }
+    hit
+}
+
+// Past the blocks of 64 bytes that are the text as they stand, from the start on.
+fn plain_blocks(s: &[u8]) -> usize
+    ensures { λ r. ⌜ (plain (now (s .entry)) ≡ plain (drop r (now (s .entry)))) × (r ≤ length (now (s .entry))) ⌝ }
+{
+    let mut i = 0;
+    while s.len() - i >= 64 {
+        if block_differs(s, i) {
+            return i;
+        }
+        i += 64;
+    }
+    i
+}
+
 // Whether the bytes are the text as they stand.
 fn is_plain(s: &[u8]) -> bool
     ensures { λ r. ⌜ r ≡ plain (now (s .entry)) ⌝ }
 {
-    let mut i = 0;
+    let mut i = plain_blocks(s);
     while i < s.len() {
         let b = s[i];
         if (b == 39) | ((b == 92) | (128 <= b)) {

@@ -1,0 +1,64 @@
+use Rattle.strings.specs.Text.{plain}
+use Prim.Native.Nat.{_-_, _≤_}
+use lib.ListN.{length, drop}
+use mathlib.Core.Path.{_≡_, refl, _∙_}
+use native.Mathlib.Omega.{arith}
+use borrow.Author.Needs.{needs}
+use Rattle.strings.proofs.plain_blocks.Statement.{statement}
+use Rattle.strings.proofs.plain_blocks.Tie as tie
+use Rattle.strings.proofs.plain_blocks.Reads as reads
+use Rattle.strings.proofs.plain_blocks.Lts as lts
+use Rattle.strings.proofs.block_differs.Reads as block-differs-reads
+
+abbrev Inv-loop : tie.InvT-loop
+Inv-loop s i₀ i = (plain s ≡ plain (drop i s)) × (i ≤ length s)
+
+abbrev μ-loop : tie.MeasureT-loop
+μ-loop s i₀ i = length s - i
+
+-- src/lib.rt:187:5
+loop-holds : tie.Need-loop-holds Inv-loop μ-loop
+loop-holds c = (refl, omega arith)
+
+-- src/lib.rt:187:11
+sub-loop : tie.Need-sub-loop Inv-loop μ-loop
+sub-loop c = search needs
+
+-- src/lib.rt:188:12
+block-differs-requires : tie.Need-block-differs-requires Inv-loop μ-loop
+block-differs-requires c κs = search needs
+
+-- src/lib.rt:189:13
+returns : tie.Need-returns Inv-loop μ-loop
+returns c = c .before .before .before .loop .inv
+
+-- src/lib.rt:191:9
+add-i : tie.Need-add-i Inv-loop μ-loop
+add-i c = search needs
+
+-- src/lib.rt:187:5
+loop-less : tie.Need-loop-less Inv-loop μ-loop
+loop-less c = search needs
+
+-- src/lib.rt:187:5
+loop-again : tie.Need-loop-again Inv-loop μ-loop
+loop-again c = let l = c .before .before .before .loop in (l .inv .0 ∙ c .before .block-differs .ensures (c .if1 .left), omega arith)
+
+-- src/lib.rt:183:1
+returns-2 : tie.Need-returns-2 Inv-loop μ-loop
+returns-2 c = c .before .loop .inv
+
+pub plain-blocks-spec : {M : Type 1} → statement M
+plain-blocks-spec =
+    tie.close
+    (tie.spec
+    Inv-loop
+    μ-loop
+    loop-holds
+    sub-loop
+    block-differs-requires
+    returns
+    add-i
+    loop-less
+    loop-again
+    returns-2)
