@@ -11,8 +11,8 @@ use scalars::NextWhole;
 use scan::Scanned;
 use text::Pen;
 
-// Rooms for a file of at most 256 KiB and 8192 records.
-const FILE: usize = 262144;
+// Rooms for a file of at most 256 KiB, 64 header records and 8192 records; a file that fills the byte more is too large.
+const FILE: usize = 262145;
 
 const HEADERS: usize = 256;
 
@@ -53,6 +53,15 @@ fn lend(
 fn from_input(file: &mut [u8], headers: &mut [u32], rows: &mut [u32], out: &mut [u8]) {
     let got = input::fill(0, file);
     let n = got.count;
+    if n == file.len() {
+        let said = text::bytes(
+            out,
+            text::fresh(),
+            b"too large: there is room for 262144 bytes\n",
+        );
+        text::finish(out, said);
+        return;
+    }
     let pen = scanned(&file[..n], headers, rows, out, text::fresh());
     text::finish(out, pen);
 }
