@@ -5,7 +5,7 @@
 // once, and the crate `nearest` says what that gives.
 ghost use mathlib.Core.Path.{_≡_};
 ghost use Prim.Native.Nat.{_+_, _*_, _-_, _≤_, _<_, _^_, min};
-ghost use mathlib.Core.Bool.{true, false};
+ghost use mathlib.Core.Bool.{true, false, _&&_};
 ghost use lib.ListN.{length, drop};
 ghost use lib.Ieee.{binary64, toBits};
 ghost use Rattle.record.specs.Text.{digit};
@@ -13,6 +13,7 @@ ghost use Rattle.nearest.specs.Near.{near};
 ghost use Rattle.nearest.specs.Round.{signed};
 ghost use Rattle.nearest.specs.Product.{worthOf, finite};
 ghost use Rattle.reals.specs.Scalar.{toldReal, realOf, toldWhole, wholeOf, ranged, toldReference, referenceOf, unsigned, minus, NumberAt, PlainAt, DecimalAt, TensAt, ClassOf};
+ghost use Rattle.reals.specs.Parts.{Reading, FourAt};
 ghost use Rattle.reals.specs.Prefix.{prefixes, placeIn, factorOf, lengthFactorOf};
 
 pub enum Real {
@@ -111,6 +112,79 @@ fn digits_from(t: &[u8], at: usize, from: u64, cap: u64) -> Number
     Number { value: n, next: i }
 }
 
+// Whether four bytes are digits.
+fn are_digits(a: u8, b: u8, c: u8, d: u8) -> bool
+    ensures { λ r. ⌜ r ≡ (digit a && digit b) && (digit c && digit d) ⌝ }
+{
+    (is_digit(a) & is_digit(b)) & (is_digit(c) & is_digit(d))
+}
+
+// The number that four digits make; `0` is 48, so that 53328 is what four of them have too much.
+fn four_value(a: u8, b: u8, c: u8, d: u8) -> u64
+    requires { ⌜ (48 ≤ a) × (48 ≤ b) × (48 ≤ c) × (48 ≤ d) ⌝ }
+    ensures { λ r. ⌜ r ≡ (a - 48) * 1000 + (b - 48) * 100 + (c - 48) * 10 + (d - 48) ⌝ }
+{
+    (a as u64 * 1000 + b as u64 * 100) + (c as u64 * 10 + d as u64) - 53328
+}
+
+// The number of four digits from a place, or 10000 where one is no digit. They do not wait for each other, as digits one by one do.
+fn four_at(t: &[u8], at: usize) -> u64
+    requires { ⌜ at + 4 ≤ length (now t) ⌝ }
+    ensures { λ r. ⌜ (r < 10000 → FourAt (now (t .entry)) at r) ⌝ }
+{
+    let a = t[at];
+    let b = t[at + 1];
+    let c = t[at + 2];
+    let d = t[at + 3];
+    if are_digits(a, b, c, d) {
+        return four_value(a, b, c, d);
+    }
+    10000
+}
+
+// A number with four digits more, or the cap.
+fn with_four(n: u64, v: u64, cap: u64) -> u64
+    requires { ⌜ (v < 10000) × (n ≤ cap) ⌝ }
+    ensures { λ r. ⌜ r ≡ min cap (n * 10000 + v) ⌝ }
+{
+    if n < cap / 10000 {
+        return n * 10000 + v;
+    }
+    if n == cap / 10000 {
+        if v < cap % 10000 {
+            return n * 10000 + v;
+        }
+    }
+    cap
+}
+
+// Reads on with the digits from a place, as long as four stand together.
+fn fours_from(t: &[u8], at: usize, from: u64, cap: u64) -> Number
+    requires { ⌜ (at ≤ length (now t)) × (from ≤ cap) ⌝ }
+    ensures { λ r. ⌜ Reading (now (t .entry)) at from cap (r .value) (r .next) ⌝ }
+{
+    let mut n = from;
+    let mut i = at;
+    while t.len() - i >= 4 {
+        let v = four_at(t, i);
+        if 10000 <= v {
+            return Number { value: n, next: i };
+        }
+        n = with_four(n, v, cap);
+        i += 4;
+    }
+    Number { value: n, next: i }
+}
+
+// Reads on with the digits from a place, of which there may be many, as in a fraction.
+fn many_digits_from(t: &[u8], at: usize, from: u64, cap: u64) -> Number
+    requires { ⌜ (at ≤ length (now t)) × (from ≤ cap) ⌝ }
+    ensures { λ r. ⌜ NumberAt (now (t .entry)) at from cap r ⌝ }
+{
+    let g = fours_from(t, at, from, cap);
+    digits_from(t, g.next, g.value, cap)
+}
+
 // All digits' number, how many stand after the point, and the place after them.
 struct Decimal {
     value: u64,
@@ -125,7 +199,7 @@ fn fraction_from(t: &[u8], at: usize, from: u64) -> Decimal
 {
     if at < t.len() {
         if t[at] == b'.' {
-            let r = digits_from(t, at + 1, from, MOST);
+            let r = many_digits_from(t, at + 1, from, MOST);
             return Decimal {
                 value: r.value,
                 places: r.next - (at + 1),
