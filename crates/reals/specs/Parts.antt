@@ -3,6 +3,7 @@ use Prim.Native.Nat.{ℕ, zero, suc, _+_, _*_, _-_, _≤_, _<_, min}
 use mathlib.Core.Path.{_≡_, refl, sym, _∙_, ap, subst}
 use mathlib.Core.Bool.{Bool, true, false, _||_, _&&_}
 use mathlib.Core.List.{List, [], _∷_}
+use native.Mathlib.Nat.{le-trans}
 use native.Mathlib.Omega.{arith}
 use borrow.Author.Tests.{lt-ltb, le-ltb, eq-eqb, ne-eqb, ltb-true, ltb-false, eqb-true, eqb-false}
 use lib.Dec.{eqb, ltb}
@@ -27,14 +28,14 @@ pub record Reading (t : List ℕ) (at from cap value i : ℕ) : Type 0 where
   pub held : value ≤ cap
   pub so-far : (n : ℕ) → (k : ℕ) × (numberFrom k (drop i t) ≡ numberFrom n (drop at t)) × (from ≡ min cap n → value ≡ min cap k)
 
+-- a digit more, where the number is held up to the cap
+one-more : (cap v k d : ℕ) → v ≡ min cap k → min cap (v * 10 + d) ≡ min cap (k * 10 + d)
+one-more cap v k d e = omega arith
+
 module _ (t : List ℕ) (at from cap : ℕ) where
   -- before the first digit
   pub reading-starts : at ≤ length t → from ≤ cap → Reading t at from cap from at
   reading-starts h l = record { above = omega arith; within = h; held = l; so-far = λ n. (n, refl, λ e. e) }
-
-  -- a digit more, where the number is held up to the cap
-  one-more : (v k d : ℕ) → v ≡ min cap k → min cap (v * 10 + d) ≡ min cap (k * 10 + d)
-  one-more v k d e = omega arith
 
   -- a digit is read
   pub reading-goes : (value i next : ℕ) → i < length t → digit (getD t i 0) ≡ true → next ≡ min cap (value * 10 + (getD t i 0 - 48)) → Reading t at from cap value i → Reading t at from cap next (i + 1)
@@ -47,7 +48,7 @@ module _ (t : List ℕ) (at from cap : ℕ) where
         let s = r .so-far n in (
           s .0 * 10 + (getD t i 0 - 48),
           digit-goes t i l (s .0) (numberFrom n (drop at t)) d (s .1),
-          λ h. e ∙ one-more value (s .0) (getD t i 0 - 48) (s .2 h),
+          λ h. e ∙ one-more cap value (s .0) (getD t i 0 - 48) (s .2 h),
         );
   }
 
@@ -70,6 +71,55 @@ module _ (t : List ℕ) (at from cap : ℕ) where
   unfolding numberFrom
   reading-ends value i l r =
       made value i (λ k. walk-ends digitTurn (λ m. digits m []) k t i l ∙ ap (digits k) (sym (drop-end t i l))) r
+
+-- ---- four digits at once
+-- four digits stand at the place, and v is the number that they make
+pub record FourAt (t : List ℕ) (at v : ℕ) : Type 0 where
+  pub first : digit (getD t at 0) ≡ true
+  pub second : digit (getD t (at + 1) 0) ≡ true
+  pub third : digit (getD t (at + 2) 0) ≡ true
+  pub fourth : digit (getD t (at + 3) 0) ≡ true
+  pub makes : v ≡ (getD t at 0 - 48) * 1000 + (getD t (at + 1) 0 - 48) * 100 + (getD t (at + 2) 0 - 48) * 10 + (getD t (at + 3) 0 - 48)
+
+-- four digits after a number, one by one and at once
+shifted : (n a b c d : ℕ) → (((n * 10 + a) * 10 + b) * 10 + c) * 10 + d ≡ n * 10000 + (a * 1000 + b * 100 + c * 10 + d)
+shifted n a b c d = omega arith
+
+-- held up to the cap after each of four digits, or once after all of them
+four-capped : (cap n a b c d : ℕ) → min cap (min cap (min cap (min cap (n * 10 + a) * 10 + b) * 10 + c) * 10 + d) ≡ min cap (n * 10000 + (a * 1000 + b * 100 + c * 10 + d))
+four-capped cap n a b c d =
+    let k = n * 10 + a in
+    let two : min cap (min cap k * 10 + b) ≡ min cap (k * 10 + b) = one-more cap (min cap k) k b refl in
+    let three = one-more cap (min cap (min cap k * 10 + b)) (k * 10 + b) c two in
+    one-more cap (min cap (min cap (min cap k * 10 + b) * 10 + c)) ((k * 10 + b) * 10 + c) d three ∙ ap (min cap) (shifted n a b c d)
+
+module _ (t : List ℕ) (at from cap : ℕ) where
+  -- four digits are read
+  pub reading-four : (value i next v : ℕ) → i + 4 ≤ length t → FourAt t i v → next ≡ min cap (value * 10000 + v) → Reading t at from cap value i → Reading t at from cap next (i + 4)
+  reading-four value i next v l f e r =
+      let a = getD t i 0 - 48 in
+      let b = getD t (i + 1) 0 - 48 in
+      let c = getD t (i + 2) 0 - 48 in
+      let d = getD t (i + 3) 0 - 48 in
+      let m1 = min cap (value * 10 + a) in
+      let m2 = min cap (m1 * 10 + b) in
+      let m3 = min cap (m2 * 10 + c) in
+      let g1 = reading-goes t at from cap value i m1 (omega arith) (f .first) refl r in
+      let g2 : Reading t at from cap m2 (i + 2) = on-to (omega arith) (reading-goes t at from cap m1 (i + 1) m2 (omega arith) (f .second) refl g1) in
+      let g3 : Reading t at from cap m3 (i + 3) = on-to (omega arith) (reading-goes t at from cap m2 (i + 2) m3 (omega arith) (f .third) refl g2) in
+      on-to (omega arith) (reading-goes t at from cap m3 (i + 3) next (omega arith) (f .fourth) (e ∙ ap (λ (w : ℕ). min cap (value * 10000 + w)) (f .makes) ∙ sym (four-capped cap value a b c d)) g3)
+    where
+      on-to : {v p q : ℕ} → p ≡ q → Reading t at from cap v p → Reading t at from cap v q
+      on-to {v} e g = subst (λ (p : ℕ). Reading t at from cap v p) e g
+
+  -- what is read on from where some digits were read is what is read from the start
+  pub reading-then : (value i : ℕ) (r : Number) → Reading t at from cap value i → NumberAt t i value cap r → NumberAt t at from cap r
+  reading-then value i r g n = record {
+    value = λ k e. let s = g .so-far k in n .value (s .0) (s .2 e) ∙ ap (λ (d : Digits). min cap (d .value)) (s .1);
+    rest = λ k. let s = g .so-far k in ap (λ (d : Digits). d .rest) (sym (s .1)) ∙ n .rest (s .0);
+    above = le-trans (g .above) (n .above);
+    within = n .within;
+  }
 
 -- ---- one byte of the text, or its end
 module _ (t : List ℕ) (i : ℕ) where

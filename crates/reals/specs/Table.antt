@@ -85,3 +85,7 @@ power-worth k h =
     let A = eqb (unitsOf (toBits binary64 x)) (10 ^ k * 2 ^ 1074) in
     let B = ltb (toBits binary64 x) infinity in
     plain (toBits binary64 x) (10 ^ k * 2 ^ 1074) (eqb→eq (unitsOf (toBits binary64 x)) (10 ^ k * 2 ^ 1074) (and-l A B t)) (ltb→lt (toBits binary64 x) infinity (and-r A B t))
+
+-- the same of the entry that a test has found
+pub power-found : (k j : ℕ) → k ≡ j → j < 23 → worthOf (toBits binary64 (getD powers j nan)) ≡ finite false (10 ^ k * 2 ^ 1074)
+power-found k j e h = power-worth j h ∙ ap (λ (n : ℕ). finite false (10 ^ n * 2 ^ 1074)) (sym e)

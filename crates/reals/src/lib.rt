@@ -5,13 +5,15 @@
 // once, and the crate `nearest` says what that gives.
 ghost use mathlib.Core.Path.{_≡_};
 ghost use Prim.Native.Nat.{_+_, _*_, _-_, _≤_, _<_, _^_, min};
-ghost use mathlib.Core.Bool.{true, false};
+ghost use mathlib.Core.Bool.{true, false, _&&_};
 ghost use lib.ListN.{length, drop};
 ghost use lib.Ieee.{binary64, toBits};
+ghost use Rattle.record.specs.Text.{digit};
 ghost use Rattle.nearest.specs.Near.{near};
 ghost use Rattle.nearest.specs.Round.{signed};
 ghost use Rattle.nearest.specs.Product.{worthOf, finite};
 ghost use Rattle.reals.specs.Scalar.{toldReal, realOf, toldWhole, wholeOf, ranged, toldReference, referenceOf, unsigned, minus, NumberAt, PlainAt, DecimalAt, TensAt, ClassOf};
+ghost use Rattle.reals.specs.Parts.{Reading, FourAt};
 
 pub enum Real {
     Value(f64),
@@ -103,6 +105,79 @@ fn digits_from(t: &[u8], at: usize, from: u64, cap: u64) -> Number
     Number { value: n, next: i }
 }
 
+// Whether four bytes are digits.
+fn are_digits(a: u8, b: u8, c: u8, d: u8) -> bool
+    ensures { λ r. ⌜ r ≡ (digit a && digit b) && (digit c && digit d) ⌝ }
+{
+    (record::is_digit(a) & record::is_digit(b)) & (record::is_digit(c) & record::is_digit(d))
+}
+
+// The number that four digits make; `0` is 48, so that 53328 is what four of them have too much.
+fn four_value(a: u8, b: u8, c: u8, d: u8) -> u64
+    requires { ⌜ (48 ≤ a) × (48 ≤ b) × (48 ≤ c) × (48 ≤ d) ⌝ }
+    ensures { λ r. ⌜ r ≡ (a - 48) * 1000 + (b - 48) * 100 + (c - 48) * 10 + (d - 48) ⌝ }
+{
+    (a as u64 * 1000 + b as u64 * 100) + (c as u64 * 10 + d as u64) - 53328
+}
+
+// The number of four digits from a place, or 10000 where one is no digit. They do not wait for each other, as digits one by one do.
+fn four_at(t: &[u8], at: usize) -> u64
+    requires { ⌜ at + 4 ≤ length (now t) ⌝ }
+    ensures { λ r. ⌜ (r < 10000 → FourAt (now (t .entry)) at r) ⌝ }
+{
+    let a = t[at];
+    let b = t[at + 1];
+    let c = t[at + 2];
+    let d = t[at + 3];
+    if are_digits(a, b, c, d) {
+        return four_value(a, b, c, d);
+    }
+    10000
+}
+
+// A number with four digits more, or the cap.
+fn with_four(n: u64, v: u64, cap: u64) -> u64
+    requires { ⌜ (v < 10000) × (n ≤ cap) ⌝ }
+    ensures { λ r. ⌜ r ≡ min cap (n * 10000 + v) ⌝ }
+{
+    if n < cap / 10000 {
+        return n * 10000 + v;
+    }
+    if n == cap / 10000 {
+        if v < cap % 10000 {
+            return n * 10000 + v;
+        }
+    }
+    cap
+}
+
+// Reads on with the digits from a place, as long as four stand together.
+fn fours_from(t: &[u8], at: usize, from: u64, cap: u64) -> Number
+    requires { ⌜ (at ≤ length (now t)) × (from ≤ cap) ⌝ }
+    ensures { λ r. ⌜ Reading (now (t .entry)) at from cap (r .value) (r .next) ⌝ }
+{
+    let mut n = from;
+    let mut i = at;
+    while t.len() - i >= 4 {
+        let v = four_at(t, i);
+        if 10000 <= v {
+            return Number { value: n, next: i };
+        }
+        n = with_four(n, v, cap);
+        i += 4;
+    }
+    Number { value: n, next: i }
+}
+
+// Reads on with the digits from a place, of which there may be many, as in a fraction.
+fn many_digits_from(t: &[u8], at: usize, from: u64, cap: u64) -> Number
+    requires { ⌜ (at ≤ length (now t)) × (from ≤ cap) ⌝ }
+    ensures { λ r. ⌜ NumberAt (now (t .entry)) at from cap r ⌝ }
+{
+    let g = fours_from(t, at, from, cap);
+    digits_from(t, g.next, g.value, cap)
+}
+
 // All digits' number, how many stand after the point, and the place after them.
 struct Decimal {
     value: u64,
@@ -117,7 +192,7 @@ fn fraction_from(t: &[u8], at: usize, from: u64) -> Decimal
 {
     if at < t.len() {
         if t[at] == b'.' {
-            let r = digits_from(t, at + 1, from, MOST);
+            let r = many_digits_from(t, at + 1, from, MOST);
             return Decimal {
                 value: r.value,
                 places: r.next - (at + 1),
@@ -174,38 +249,36 @@ fn tens_from(t: &[u8], at: usize) -> Tens
     Tens::Malformed
 }
 
-// The powers of ten that an f64 holds exactly: entry k is 10^k.
-const POWERS: [f64; 23] = [
-    1e0,
-    1e1,
-    1e2,
-    1e3,
-    1e4,
-    1e5,
-    1e6,
-    1e7,
-    1e8,
-    1e9,
-    1e10,
-    1e11,
-    1e12,
-    1e13,
-    1e14,
-    1e15,
-    1e16,
-    1e17,
-    1e18,
-    1e19,
-    1e20,
-    1e21,
-    1e22,
-];
-
+// The powers of ten that an f64 holds exactly. An array of them would be laid on the stack at each use; a match is a table of the program's.
 fn power_of_ten(k: usize) -> f64
     requires { ⌜ k < 23 ⌝ }
     ensures { λ r. ⌜ worthOf (toBits binary64 r) ≡ finite false (10 ^ k * 2 ^ 1074) ⌝ }
 {
-    POWERS[k]
+    match k {
+        0 => 1e0,
+        1 => 1e1,
+        2 => 1e2,
+        3 => 1e3,
+        4 => 1e4,
+        5 => 1e5,
+        6 => 1e6,
+        7 => 1e7,
+        8 => 1e8,
+        9 => 1e9,
+        10 => 1e10,
+        11 => 1e11,
+        12 => 1e12,
+        13 => 1e13,
+        14 => 1e14,
+        15 => 1e15,
+        16 => 1e16,
+        17 => 1e17,
+        18 => 1e18,
+        19 => 1e19,
+        20 => 1e20,
+        21 => 1e21,
+        _ => 1e22,
+    }
 }
 
 // The number with its sign, which zero has too.

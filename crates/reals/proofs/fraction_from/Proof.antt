@@ -11,11 +11,11 @@ use Rattle.reals.proofs.fraction_from.Tie as tie
 shared-slice-read-if2 : tie.Need-shared-slice-read-if2
 shared-slice-read-if2 c = search needs
 
-add-digits-from : tie.Need-add-digits-from
-add-digits-from c = search needs
+add-many-digits-from : tie.Need-add-many-digits-from
+add-many-digits-from c = search needs
 
-digits-from-requires : tie.Need-digits-from-requires
-digits-from-requires c κs = search needs
+many-digits-from-requires : tie.Need-many-digits-from-requires
+many-digits-from-requires c κs = search needs
 
 add-t10 : tie.Need-add-t10
 add-t10 c = search needs
@@ -27,7 +27,7 @@ returns : tie.Need-returns
 returns c =
     let b = c .before .before in
     let a = b .before .before .before .before .args in
-    decimal-pointed (now (a .t)) (a .at) (a .from) (c .before .digits-from .result) (omega arith) (eq-eqb (getD (now (a .t)) (a .at) 0) 46 (b .if2 .taken)) (c .before .digits-from .ensures)
+    decimal-pointed (now (a .t)) (a .at) (a .from) (c .before .many-digits-from .result) (omega arith) (eq-eqb (getD (now (a .t)) (a .at) 0) 46 (b .if2 .taken)) (c .before .many-digits-from .ensures)
 
 returns-2 : tie.Need-returns-2
 returns-2 c =
@@ -42,8 +42,8 @@ fraction-from-spec =
     tie.close
     (tie.spec
     shared-slice-read-if2
-    add-digits-from
-    digits-from-requires
+    add-many-digits-from
+    many-digits-from-requires
     add-t10
     sub-t11
     returns
