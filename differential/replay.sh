@@ -28,8 +28,8 @@ die() {
 cases=$(($(python3 "$here/generate.py" chosen --count) + 1100 + 150))
 answered=$(grep -c '^case ' "$1/stdout")
 [ "$answered" -eq "$cases" ] || die "$cases cases, $answered answers"
-# What the program `replay` tells with the walks.
-grep -q "WALKS: usize = $cases;" "$here/../crates/replay/src/main.rt" || die "crates/replay tells other cases than the first $cases with walks"
+# What the program `answers` tells with the walks in the gate's run.
+grep -q "WALKS: usize = $cases;" "$here/../crates/answers/src/main.rt" || die "crates/answers tells other cases than the first $cases with walks"
 # Each refusal and reason occurs many times, and so do accepted files.
 for answer in 'refused 1/0' 'refused 3/0' 'refused 4/0' 'refused 5/0' 'refused 6/0' 'refused 7/1' 'refused 7/2' \
     'refused 7/3' 'refused 7/4' 'refused 7/5' 'refused 7/6' 'refused 7/7' scan; do

@@ -1,6 +1,12 @@
 // Answers a run of cases, for the comparison with the Rust original: each case of up to 1 MiB where the stack limit allows
 // the rooms for it (`ulimit -s`; the script `step` raises it), and of up to 256 KiB where it does not.
+mod answer;
+mod cases;
+
 use intake::Run;
+
+// How many cases of the gate's run are told with the walks: unit files follow, which have many parameters.
+const WALKS: usize = 4219;
 
 // What the large rooms take of the stack beside the small ones, with something over.
 const NEEDED: u64 = 40000000;
@@ -86,8 +92,13 @@ fn lend_large(
         ends,
         out,
         run,
-        usize::MAX,
+        walks(),
     )
+}
+
+// How many cases are told with the walks: all, but in the gate's run.
+fn walks() -> usize {
+    if intake::replays() { WALKS } else { usize::MAX }
 }
 
 // Whether the first argument asks for help.
@@ -120,7 +131,7 @@ fn main() {
     }
     let limit = input::stack_limit();
     if limit < NEEDED {
-        let run = cases::small(&mut chunk, &mut out, intake::start(), usize::MAX);
+        let run = cases::small(&mut chunk, &mut out, intake::start(), walks());
         cases::finish(&out, run);
         return;
     }

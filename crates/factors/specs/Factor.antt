@@ -11,7 +11,7 @@ use Rattle.record.specs.Word.{isWord}
 use Rattle.record.specs.Form.{bytes}
 use Rattle.nearest.specs.Product.{product}
 use Rattle.reals.specs.Scalar.{referenceOf}
-use Rattle.reals.specs.Prefix.{factorOf, lengthFactorOf}
+use Rattle.prefixes.specs.Prefix.{factorOf, lengthFactorOf}
 use Rattle.kinds.specs.declared.Kind.the-variants.{SiUnit, ConversionBasedUnit, LengthMeasureWithUnit, Complex}
 use Rattle.params.specs.Reader.{Read, Span, mapped, onward, paramOf, skipOf}
 use Rattle.scalars.specs.Scalars.{nextOf, measureOf}

@@ -116,7 +116,7 @@ fn si_length(file: &[u8], a: usize, z: usize) -> Factor
     if !is_named(file, second, b"METRE") {
         return Factor::Nothing;
     }
-    Factor::Is(reals::length_factor(name_in(file, first)))
+    Factor::Is(prefixes::length_factor(name_in(file, first)))
 }
 
 // The same for RADIAN.
@@ -128,7 +128,7 @@ fn si_angle(file: &[u8], a: usize, z: usize) -> Factor
     if !is_named(file, second, b"RADIAN") {
         return Factor::Nothing;
     }
-    Factor::Is(reals::prefix_factor(name_in(file, first)))
+    Factor::Is(prefixes::prefix_factor(name_in(file, first)))
 }
 
 // The reference of the measure in the arguments of a conversion unit, behind its name.

@@ -2,7 +2,7 @@
 //
 // As `header_args` of the Rust's lib.rs. The search over a slice of structs is in the crate `headings`.
 ghost use mathlib.Core.Path.{_≡_};
-ghost use Prim.Native.Nat.{_+_, _-_, _*_, _/_, _≤_, _<_, min};
+ghost use Prim.Native.Nat.{_+_, _-_, _*_, _/_, _≤_, _<_};
 ghost use lib.ListN.{length};
 ghost use mathlib.Core.Option.{some};
 ghost use Rattle.lookup.specs.Lookup.{toldPlace};
@@ -19,13 +19,6 @@ pub enum HeaderFound {
     Span(Range),
     Nothing,
     Refused(Fault),
-}
-
-// The lesser of two numbers.
-fn least(a: usize, b: usize) -> usize
-    ensures { λ r. ⌜ r ≡ min a b ⌝ }
-{
-    if a < b { a } else { b }
 }
 
 // A number of 32 bits as a place.
@@ -79,7 +72,7 @@ fn is_named(file: &[u8], heads: &[u32], k: usize, name: &[u8]) -> bool
 pub fn header_row(file: &[u8], heads: &[u32], t: Tables, name: &[u8]) -> Place
     ensures { λ r. ⌜ toldPlace r ≡ headerFirst (now (file .entry)) (now (heads .entry)) (t .headers) (now (name .entry)) ⌝ }
 {
-    let n = least(t.headers, heads.len() / 4);
+    let n = lex::within(t.headers, heads.len() / 4);
     let mut i = 0;
     while i < n {
         if is_named(file, heads, i, name) {

@@ -1,7 +1,8 @@
 // The next case of a run, brought into the room for a file.
 //
 // A case is its length in decimal, LF and so many bytes of standard input. Where the program has arguments, each names a
-// file that is one case. A room for a file has one byte more than the longest case that it takes.
+// file that is one case; but the word `--replay` says that the run is the gate's, of standard input. A room for a file has one byte
+// more than the longest case that it takes.
 ghost use Prim.Native.Nat.{_≤_};
 ghost use lib.ListN.{length};
 use input::Feed;
@@ -51,11 +52,18 @@ pub struct Taken {
 pub fn take(chunk: &mut [u8], file: &mut [u8], out: &mut [u8], run: Run) -> Taken
     ensures { λ r. ⌜ r .count ≤ length (now (file .exit)) ⌝ }
 {
-    if os::arg_count() < 2 {
+    if os::arg_count() < 2 || replays() {
         stream_case(chunk, file, out, run)
     } else {
         file_case(file, out, run)
     }
+}
+
+// Whether the first argument says that the run is the gate's.
+pub fn replays() -> bool {
+    let mut word = io::buffer();
+    let n = os::arg(1, &mut word);
+    record::same_bytes(&word[..n], b"--replay")
 }
 
 // No case to be answered.

@@ -4,7 +4,7 @@
 // 9 comes before 16.
 ghost use mathlib.Core.Path.{_≡_};
 ghost use mathlib.Core.Bool.{true};
-ghost use Prim.Native.Nat.{_+_, _*_, _/_, _≤_, _<_, min};
+ghost use Prim.Native.Nat.{_+_, _*_, _/_, _≤_, _<_};
 ghost use lib.ListN.{length, take, drop, getD};
 ghost use lib.Seq.{sets};
 ghost use Rattle.kept.specs.Kept.{little, four, littles, numberAt, numbersOf, fineSpans, fineAll, tableRows, toldKept, keepOf, bytesAfter, keptAfter, readOf, rowsAfter, readAfter};
@@ -125,20 +125,13 @@ fn get_numbers(bytes: &[u8], m: usize, rows: &mut [u32])
     }
 }
 
-// The lesser of two numbers.
-fn least(a: usize, b: usize) -> usize
-    ensures { λ r. ⌜ r ≡ min a b ⌝ }
-{
-    if a < b { a } else { b }
-}
-
 // Writes the first `count` rows of a table, for a file of this length. 9 where a span lies outside the file or runs backwards, or a
 // mark is neither 0 nor 1; then 16 where the bytes do not suffice.
 pub fn keep_rows(len: usize, rows: &[u32], count: usize, out: &mut [u8]) -> Kept
     ensures { λ r. ⌜ toldKept r ≡ keepOf len (now (rows .entry)) count (length (now (out .entry))) ⌝ }
     ensures { λ _. ⌜ now (out .exit) ≡ keptAfter (now (rows .entry)) (keepOf len (now (rows .entry)) count (length (now (out .entry)))) (now (out .entry)) ⌝ }
 {
-    let n = least(count, rows.len() / 6);
+    let n = lex::within(count, rows.len() / 6);
     if !fine_table(len, rows, n) {
         return Kept::Refused(Fault::OutOfFile);
     }

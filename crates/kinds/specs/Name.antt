@@ -1,12 +1,12 @@
 -- A kind's name in lent memory, and that it is the kind's own.
 -- Assumes nothing.
-use Prim.Native.Nat.{ℕ, suc, _+_, _≤_, _<_}
+use Prim.Native.Nat.{ℕ, suc, _+_, _-_, _≤_, _<_}
 use mathlib.Core.Path.{_≡_, refl, sym, _∙_, ap, subst}
 use mathlib.Core.Bool.{true}
 use mathlib.Core.List.{List, [], _∷_, _++_, append-assoc}
 use native.Mathlib.Numerals.{add-one}
 use native.Mathlib.Omega.{arith}
-use lib.Dec.{leb}
+use lib.Dec.{leb, lit≤}
 use lib.ListN.{length, getD, take, drop, set}
 use lib.Seq.{drop-cons, set-at, take-suc, length-take-le, take-length, take-append-seam}
 use borrow.Author.Tests.{le-leb}
@@ -14,7 +14,7 @@ use Rattle.error.specs.Refusal.{refusal, Told, good, bad}
 use Rattle.lex.specs.Byte.{pick}
 use Rattle.record.specs.Form.{bytes, Spelt}
 use Rattle.record.specs.Word.{same}
-use Rattle.kinds.specs.Kind.{nameOf, Named, kindOf, kind-only}
+use Rattle.kinds.specs.Kind.{nameOf, rankOf, Named, kindOf, kind-only}
 use Rattle.kinds.specs.Kind.KindForm.{spelt}
 use Rattle.kinds.specs.declared.Kind.{Kind}
 use Rattle.kinds.specs.declared.Kind.the-variants.{
@@ -95,9 +95,38 @@ name-done name old out i h e d =
     let l : leb (length name) (length old) ≡ true = le-leb (length name) (length old) h in
     (rw l (ap good e), rw l (d ∙ ap (λ (z : ℕ). take z name ++ drop z old) e ∙ ap (λ (z : List ℕ). z ++ drop (length name) old) (take-length name)))
 
--- what is put for a kind, once the kind is told
-pub name-told : (k j : Kind) (old out : List ℕ) (r : Told ℕ) → k ≡ j → (r ≡ nameIn (bytes (nameOf j)) old) × (out ≡ nameAfter (bytes (nameOf j)) old) → (r ≡ nameIn (bytes (nameOf k)) old) × (out ≡ nameAfter (bytes (nameOf k)) old)
-name-told k j old out r e h = subst (λ (z : Kind). (r ≡ nameIn (bytes (nameOf z)) old) × (out ≡ nameAfter (bytes (nameOf z)) old)) (sym e) h
+-- all names, one after another
+abbrev pub names : List ℕ
+names = bytes "GEOMETRIC_REPRESENTATION_CONTEXTGLOBAL_UNIT_ASSIGNED_CONTEXTGLOBAL_UNCERTAINTY_ASSIGNED_CONTEXTLENGTH_UNITPLANE_ANGLE_UNITSOLID_ANGLE_UNITSI_UNITCONVERSION_BASED_UNITUNCERTAINTY_MEASURE_WITH_UNITLENGTH_MEASURE_WITH_UNIT(complex)"
+
+-- where each name begins, and where the last ends
+abbrev pub starts : List ℕ
+starts = 0 ∷ 32 ∷ 60 ∷ 95 ∷ 106 ∷ 122 ∷ 138 ∷ 145 ∷ 166 ∷ 195 ∷ 219 ∷ 228 ∷ 228 ∷ []
+
+-- the part of `names` at a kind's place is the kind's name
+pub record Part (k : Kind) (n : ℕ) : Type 0 where
+  pub row : n < 12
+  pub order : getD starts n 0 ≤ getD starts (n + 1) 0
+  pub inside : getD starts (n + 1) 0 ≤ 228
+  pub named : take (getD starts (n + 1) 0 - getD starts n 0) (drop (getD starts n 0) names) ≡ bytes (nameOf k)
+
+-- the same by the place
+pub part-at : (k : Kind) (n : ℕ) → n ≡ rankOf k → Part k n
+part-at k n e = subst (Part k) (sym e) (go k)
+  where
+    go : (k : Kind) → Part k (rankOf k)
+    go GeometricRepresentationContext = record { row = lit≤ tt; order = lit≤ tt; inside = lit≤ tt; named = refl }
+    go GlobalUnitAssignedContext = record { row = lit≤ tt; order = lit≤ tt; inside = lit≤ tt; named = refl }
+    go GlobalUncertaintyAssignedContext = record { row = lit≤ tt; order = lit≤ tt; inside = lit≤ tt; named = refl }
+    go LengthUnit = record { row = lit≤ tt; order = lit≤ tt; inside = lit≤ tt; named = refl }
+    go PlaneAngleUnit = record { row = lit≤ tt; order = lit≤ tt; inside = lit≤ tt; named = refl }
+    go SolidAngleUnit = record { row = lit≤ tt; order = lit≤ tt; inside = lit≤ tt; named = refl }
+    go SiUnit = record { row = lit≤ tt; order = lit≤ tt; inside = lit≤ tt; named = refl }
+    go ConversionBasedUnit = record { row = lit≤ tt; order = lit≤ tt; inside = lit≤ tt; named = refl }
+    go UncertaintyMeasureWithUnit = record { row = lit≤ tt; order = lit≤ tt; inside = lit≤ tt; named = refl }
+    go LengthMeasureWithUnit = record { row = lit≤ tt; order = lit≤ tt; inside = lit≤ tt; named = refl }
+    go Complex = record { row = lit≤ tt; order = lit≤ tt; inside = lit≤ tt; named = refl }
+    go Other = record { row = lit≤ tt; order = lit≤ tt; inside = lit≤ tt; named = refl }
 
 -- the answer that tells this
 nameBy : Told ℕ → Name

@@ -95,13 +95,6 @@ pub fn same_kind(a: Kind, b: Kind) -> bool
     rank(a) == rank(b)
 }
 
-// A small letter as its capital.
-fn capital(c: u8) -> u8
-    ensures { λ r. ⌜ r ≡ upper c ⌝ }
-{
-    if (97 <= c) & (c <= 122) { c - 32 } else { c }
-}
-
 // Whether two texts are the same word, letters in either case.
 pub fn same_word(t: &[u8], w: &[u8]) -> bool
     ensures { λ r. ⌜ r ≡ same (map upper (now (t .entry))) (map upper (now (w .entry))) ⌝ }
@@ -111,7 +104,7 @@ pub fn same_word(t: &[u8], w: &[u8]) -> bool
     }
     let mut i = 0;
     while i < t.len() {
-        if capital(t[i]) != capital(w[i]) {
+        if record::upper_of(t[i]) != record::upper_of(w[i]) {
             return false;
         }
         i += 1;
@@ -135,27 +128,23 @@ fn put_name(out: &mut [u8], name: &[u8]) -> Name
     Name::Bytes(i)
 }
 
+// All names in the order of `rank`, one after another.
+const NAMES: [u8; 228] =
+    *b"GEOMETRIC_REPRESENTATION_CONTEXTGLOBAL_UNIT_ASSIGNED_CONTEXTGLOBAL_UNCERTAINTY_ASSIGNED_CONTEXTLENGTH_UNITPLANE_ANGLE_UNITSOLID_ANGLE_UNITSI_UNITCONVERSION_BASED_UNITUNCERTAINTY_MEASURE_WITH_UNITLENGTH_MEASURE_WITH_UNIT(complex)";
+
+// Where each name begins, and where the last ends.
+const STARTS: [usize; 13] = [0, 32, 60, 95, 106, 122, 138, 145, 166, 195, 219, 228, 228];
+
 // A kind's keyword in capitals; `(complex)` for a complex record, and the empty text for `Other`. As the Rust's `as_str`, into lent
 // memory.
 pub fn as_str(k: Kind, out: &mut [u8]) -> Name
     ensures { λ r. ⌜ toldName r ≡ nameIn (bytes (nameOf k)) (now (out .entry)) ⌝ }
     ensures { λ _. ⌜ now (out .exit) ≡ nameAfter (bytes (nameOf k)) (now (out .entry)) ⌝ }
 {
-    match k {
-        Kind::GeometricRepresentationContext => put_name(out, b"GEOMETRIC_REPRESENTATION_CONTEXT"),
-        Kind::GlobalUnitAssignedContext => put_name(out, b"GLOBAL_UNIT_ASSIGNED_CONTEXT"),
-        Kind::GlobalUncertaintyAssignedContext => put_name(
-            out,
-            b"GLOBAL_UNCERTAINTY_ASSIGNED_CONTEXT",
-        ),
-        Kind::LengthUnit => put_name(out, b"LENGTH_UNIT"),
-        Kind::PlaneAngleUnit => put_name(out, b"PLANE_ANGLE_UNIT"),
-        Kind::SolidAngleUnit => put_name(out, b"SOLID_ANGLE_UNIT"),
-        Kind::SiUnit => put_name(out, b"SI_UNIT"),
-        Kind::ConversionBasedUnit => put_name(out, b"CONVERSION_BASED_UNIT"),
-        Kind::UncertaintyMeasureWithUnit => put_name(out, b"UNCERTAINTY_MEASURE_WITH_UNIT"),
-        Kind::LengthMeasureWithUnit => put_name(out, b"LENGTH_MEASURE_WITH_UNIT"),
-        Kind::Complex => put_name(out, b"(complex)"),
-        Kind::Other => put_name(out, b""),
-    }
+    let names = NAMES;
+    let starts = STARTS;
+    let row = rank(k) as usize;
+    let a = starts[row];
+    let e = starts[row + 1];
+    put_name(out, &names[a..e])
 }

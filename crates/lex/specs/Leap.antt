@@ -12,9 +12,9 @@ use borrow.Author.Tests.{ne-eqb, eqb-false, ltb-true, ltb-false}
 use Rattle.lex.specs.Byte.{pick}
 use Rattle.lex.specs.Walk.{Turn, on, walk, walk-goes}
 use Rattle.lex.specs.Lexer.{calm, next}
-use Rattle.lex.specs.Search.{Sought, Seen, seen, Look, seekTurn, triviaTurn, triviaEnd}
+use Rattle.lex.specs.Search.{Sought, Seen, seen, Look, seekTurn}
 use Rattle.lex.specs.declared.Mode.{Mode}
-use Rattle.lex.specs.declared.Mode.the-variants.{Plain, Slash, Text, Quoted, Remark, Starred}
+use Rattle.lex.specs.declared.Mode.the-variants.{Text, Remark}
 
 -- none of the bytes from i on and before r is b
 unfoldable pub Lacks : ℕ → List ℕ → ℕ → ℕ → Type 0
@@ -86,19 +86,6 @@ seek-leaps f z xs m d o i r h =
     walk-stays (seekTurn f) z (seen m d o) xs (r - i) i (omega arith) (λ j p q. rw (h .quiet j p (omega arith), h .same j p (omega arith)) refl)
     ∙ ap (λ (k : ℕ). walk (seekTurn f) z (seen m d o) (drop k xs)) e
 
--- and what a search for the end of trivia will
-pub trivia-leaps : (xs : List ℕ) (m : Mode) (o : List ℕ) (i r : ℕ) → Leapt m xs i r → walk triviaTurn triviaEnd (seen m 0 o) (drop i xs) ≡ walk triviaTurn triviaEnd (seen m 0 o) (drop r xs)
-trivia-leaps xs m o i r h =
-    let a : i ≤ r = h .on in
-    let b : r ≤ length xs = h .inside in
-    let e : i + (r - i) ≡ r = omega arith in
-    walk-stays triviaTurn triviaEnd (seen m 0 o) xs (r - i) i (omega arith) (λ j p q. rw (h .quiet j p (omega arith), h .same j p (omega arith)) refl)
-    ∙ ap (λ (k : ℕ). walk triviaTurn triviaEnd (seen m 0 o) (drop k xs)) e
-
--- no leap is one
-pub leapt-none : (m : Mode) (xs : List ℕ) (i r : ℕ) → r ≡ i → i ≤ length xs → Leapt m xs i r
-leapt-none m xs i r e h = record { on = omega arith; inside = omega arith; same = λ j p q. absurd (omega arith); quiet = λ j p q. absurd (omega arith) }
-
 -- in a string, to a quote
 pub leapt-text : (xs : List ℕ) (i r : ℕ) → i ≤ length xs → Stopped 39 xs (min i (length xs)) (length xs) r → Leapt Text xs i r
 unfolding Lacks
@@ -136,10 +123,6 @@ stopped-far b xs i k far end r h l w s =
     let p : k ≤ far = w .on in
     let q : far ≤ r = s .on in
     record { on = omega arith; inside = s .inside; lacks = lacks-on b xs i k r l (lacks-on b xs k far r (w .lacks) (s .lacks)); here = s .here }
-
--- what a leap is in each mode: to a quote, to a `*`, or none
-pub leapt-mode : (m u : Mode) (xs : List ℕ) (i r : ℕ) → m ≡ u → Leapt u xs i r → Leapt m xs i r
-leapt-mode m u xs i r e h = subst (λ (v : Mode). Leapt v xs i r) (sym e) h
 
 -- two places that `Stopped` allows are one
 pub stopped-only : (b : ℕ) (xs : List ℕ) (i end p q : ℕ) → Stopped b xs i end p → Stopped b xs i end q → p ≡ q

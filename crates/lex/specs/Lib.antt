@@ -8,5 +8,6 @@ pub mod Grammar
 pub mod Local
 pub mod Right
 pub mod Past
+pub mod Blank
 pub mod At
 pub mod Only

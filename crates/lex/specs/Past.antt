@@ -78,7 +78,7 @@ pub bytes-less : (n i near r : ℕ) → i < near → i < r → r ≤ n → ahead
 bytes-less n i near r h k l = let a : 1 - (near - i) ≡ 0 = omega arith in rw a (omega arith)
 
 -- where the byte c does not stand, the rest does not begin with it
-unbegun : (s : List ℕ) (j c : ℕ) → (j < length s → getD s j 0 ≡ c → ⊥) → Begins c (drop j s) → ⊥
+pub unbegun : (s : List ℕ) (j c : ℕ) → (j < length s → getD s j 0 ≡ c → ⊥) → Begins c (drop j s) → ⊥
 unbegun s j c h (r, e) = go (decLe (length s) j)
   where
     go : Dec (length s ≤ j) → ⊥

@@ -24,11 +24,11 @@ use Tokens.{open-text, open-remark, Reads, tokens}
 use Answer.{Outcome, further, Answers, found-is, fault-is}
 
 -- past trivia, from a mode
-abbrev past : Mode → List ℕ → List ℕ → Sought
+abbrev pub past : Mode → List ℕ → List ℕ → Sought
 past m o xs = walk triviaTurn triviaEnd (seen m 0 o) xs
 
 -- where the last byte outside comments stood has no part in the answer
-past-any : (o p xs : List ℕ) → past Plain o xs ≡ past Plain p xs
+pub past-any : (o p xs : List ℕ) → past Plain o xs ≡ past Plain p xs
 unfolding walk
 past-any o p [] = refl
 past-any o p (c ∷ r) = refl
@@ -38,12 +38,12 @@ trivia-deaf : (o : List ℕ) → Deaf triviaTurn triviaEnd (λ m. seen m 0 o)
 trivia-deaf o = record { quiet = λ m c r h. rw h; starred = refl }
 
 -- whitespace is passed over
-blank-step : (c : ℕ) (t : List ℕ) → white c ≡ true → trivia (c ∷ t) ≡ trivia t
+pub blank-step : (c : ℕ) (t : List ℕ) → white c ≡ true → trivia (c ∷ t) ≡ trivia t
 unfolding trivia walk
 blank-step c t h = rw h (past-any (c ∷ t) t t)
 
 -- a slash and a star open a comment
-past-start : (t : List ℕ) → trivia (47 ∷ 42 ∷ t) ≡ past Remark (47 ∷ 42 ∷ t) t
+pub past-start : (t : List ℕ) → trivia (47 ∷ 42 ∷ t) ≡ past Remark (47 ∷ 42 ∷ t) t
 unfolding trivia walk
 past-start t = refl
 
@@ -65,7 +65,7 @@ slash-stops o [] h = refl
 slash-stops o (c ∷ r) h = rw (ne-eqb c 42 (λ e. h (r, cc)))
 
 -- where no trivia begins the search stops
-led-stops : (ys : List ℕ) → ((c : ℕ) → white c ≡ true → Begins c ys → ⊥) → (Opens ys → ⊥) → trivia ys ≡ at ys
+pub led-stops : (ys : List ℕ) → ((c : ℕ) → white c ≡ true → Begins c ys → ⊥) → (Opens ys → ⊥) → trivia ys ≡ at ys
 unfolding trivia walk
 led-stops [] h k = refl
 led-stops (c ∷ t) h k = go (white c) (eqb c 47) refl refl

@@ -13,11 +13,8 @@ use Rattle.lex.specs.Walk.{Turn, stop, on, walk}
 use Rattle.lex.specs.Lexer.{calm, next}
 use Rattle.lex.specs.declared.Mode.{Mode}
 use Rattle.lex.specs.declared.Mode.the-variants.{Plain, Slash, Text, Quoted, Remark, Starred}
-use Rattle.error.specs.declared.Fault.the-variants.{OpenComment}
 use Rattle.lex.specs.declared.Level.{Level}
 use Rattle.lex.specs.declared.Level.the-variants.{Closed, Open}
-use Rattle.lex.specs.declared.Lead.{Lead}
-use Rattle.lex.specs.declared.Lead.the-variants.{Ends, Goes}
 use Rattle.lex.specs.declared.Found.{Found}
 use Rattle.lex.specs.declared.Found.the-variants.{At, Refused}
 
@@ -133,21 +130,3 @@ toldFound (Refused f) = bad (told f)
 abbrev pub lookOf : Level → Look
 lookOf Closed = halt
 lookOf (Open d) = look d
-
--- `lead` of the code, with places for rests
-abbrev pub leadAt : Mode → ℕ → ℕ → ℕ → Lead
-leadAt Plain b o i = pick (white b) (Goes Plain) (pick (eqb b 47) (Goes Slash) (Ends i))
-leadAt Slash b o i = Ends o
-leadAt Text b o i = Ends o
-leadAt Quoted b o i = Ends o
-leadAt Remark b o i = Ends o
-leadAt Starred b o i = Ends o
-
--- `trailed` of the code, with places for rests
-abbrev pub trailedAt : Mode → ℕ → ℕ → Found
-trailedAt Plain o n = At n
-trailedAt Slash o n = At o
-trailedAt Text o n = At n
-trailedAt Quoted o n = At n
-trailedAt Remark o n = Refused (OpenComment o)
-trailedAt Starred o n = Refused (OpenComment o)

@@ -1,20 +1,19 @@
 // The lexer under the scan: past trivia, to a record's `;`, to the `)` that closes a `(`.
 //
-// As the first half of the Rust's scan.rs. Trivia are read with one mode a byte in place of nested loops: `next` says what a byte does. The
-// searches for a `;` and a `)` pass a string or a comment at one go, and plain bytes by blocks where there are many.
+// As the first half of the Rust's scan.rs. All searches pass a comment at one go; those for a `;` and a `)` a string too, and plain bytes by
+// blocks where there are many.
 // No public function has a `requires`: a start past the file's end counts as the end.
 ghost use mathlib.Core.Path.{_≡_};
 ghost use Prim.Native.Nat.{_+_, _≤_, _<_, _^_, min};
 ghost use mathlib.Core.Bool.{true, false, _||_};
 ghost use lib.ListN.{length, drop};
 ghost use Rattle.lex.specs.Byte.{white, pick};
-ghost use Rattle.lex.specs.Lexer.{calm, fresh, next};
-ghost use Rattle.lex.specs.Leap.{Lacks, Without, Stopped, Leapt};
+ghost use Rattle.lex.specs.Leap.{Lacks, Without, Stopped};
 ghost use Rattle.lex.specs.Past.{IsAt, Shut, Onward, Quiet, Counted, Stood};
-ghost use Rattle.lex.specs.Search.{recordEnd, closing, trivia, placed, toldFound, paren, lookOf, leadAt, trailedAt};
+ghost use Rattle.lex.specs.Search.{recordEnd, closing, trivia, placed, toldFound, paren, lookOf};
 use error::Fault;
 
-// Where the lexer stands: outside strings and comments; after a slash there; in a string; after a quote in one; in a
+// Where the lexer of the definitions stands: outside strings and comments; after a slash there; in a string; after a quote in one; in a
 // comment; after a `*` in one.
 pub enum Mode {
     Plain,
@@ -35,58 +34,6 @@ pub fn is_space(b: u8) -> bool
     ensures { λ r. ⌜ r ≡ white b ⌝ }
 {
     (b == 32) | (b == 9) | (b == 10) | (b == 12) | (b == 13)
-}
-
-// Whether a byte that is read in this mode stands outside strings and comments.
-pub fn is_calm(m: Mode, b: u8) -> bool
-    ensures { λ r. ⌜ r ≡ calm m b ⌝ }
-{
-    match m {
-        Mode::Plain => true,
-        Mode::Slash => b != b'*',
-        Mode::Text => false,
-        Mode::Quoted => b != b'\'',
-        Mode::Remark => false,
-        Mode::Starred => false,
-    }
-}
-
-// The mode after a byte outside strings and comments.
-fn fresh_mode(b: u8) -> Mode
-    ensures { λ r. ⌜ r ≡ fresh b ⌝ }
-{
-    if b == b'\'' {
-        return Mode::Text;
-    }
-    if b == b'/' {
-        return Mode::Slash;
-    }
-    Mode::Plain
-}
-
-// The mode after a byte in the others: one of two by a test.
-fn either(test: bool, yes: Mode, other: Mode) -> Mode
-    ensures { λ r. ⌜ r ≡ pick test yes other ⌝ }
-{
-    if test { yes } else { other }
-}
-
-// The mode after the byte b.
-pub fn next_mode(m: Mode, b: u8) -> Mode
-    ensures { λ r. ⌜ r ≡ next m b ⌝ }
-{
-    match m {
-        Mode::Plain => fresh_mode(b),
-        Mode::Slash => either(b == b'*', Mode::Remark, fresh_mode(b)),
-        Mode::Text => either(b == b'\'', Mode::Quoted, Mode::Text),
-        Mode::Quoted => either(b == b'\'', Mode::Text, fresh_mode(b)),
-        Mode::Remark => either(b == b'*', Mode::Starred, Mode::Remark),
-        Mode::Starred => either(
-            b == b'/',
-            Mode::Plain,
-            either(b == b'*', Mode::Starred, Mode::Remark),
-        ),
-    }
 }
 
 // A start, or the file's end where the start lies past it.
@@ -152,22 +99,6 @@ pub fn find(s: &[u8], start: usize, b: u8) -> usize
     }
     let far = pass_blocks(s, i, b);
     pass_bytes(s, far, s.len(), b)
-}
-
-// Past the bytes, from i on, that leave a search as it is: in a string those that are no quote, in a comment those that are no `*`. Only
-// the search past trivia leaps so, which meets no string; that mode answers for the match to be whole.
-fn leap(s: &[u8], m: Mode, i: usize) -> usize
-    requires { ⌜ i ≤ length (now s) ⌝ }
-    ensures { λ r. ⌜ Leapt m (now (s .entry)) i r ⌝ }
-{
-    match m {
-        Mode::Plain => i,
-        Mode::Slash => i,
-        Mode::Text => find(s, i, b'\''),
-        Mode::Quoted => i,
-        Mode::Remark => find(s, i, b'*'),
-        Mode::Starred => i,
-    }
 }
 
 // Whether the byte b stands at i.
@@ -440,73 +371,27 @@ pub fn matching_paren(s: &[u8], opening: usize) -> Found
     Found::Refused(Fault::OpenParen(from))
 }
 
-// What a byte outside comments does to the trivia: they end at a place, or go on in a mode.
-enum Lead {
-    Ends(usize),
-    Goes(Mode),
-}
-
-fn plain_lead(b: u8, i: usize) -> Lead
-    ensures { λ r. ⌜ r ≡ leadAt Mode.Plain b 0 i ⌝ }
-{
-    if is_space(b) {
-        return Lead::Goes(Mode::Plain);
-    }
-    if b == b'/' {
-        return Lead::Goes(Mode::Slash);
-    }
-    Lead::Ends(i)
-}
-
-// Only the first two modes meet a byte outside comments here; the others answer for the match to be whole.
-// A slash that was no comment's is the first byte after the trivia, and so is any byte that is neither white nor a slash.
-fn lead_at(m: Mode, b: u8, since: usize, i: usize) -> Lead
-    ensures { λ r. ⌜ r ≡ leadAt m b since i ⌝ }
-{
-    match m {
-        Mode::Plain => plain_lead(b, i),
-        Mode::Slash => Lead::Ends(since),
-        Mode::Text => Lead::Ends(since),
-        Mode::Quoted => Lead::Ends(since),
-        Mode::Remark => Lead::Ends(since),
-        Mode::Starred => Lead::Ends(since),
-    }
-}
-
-// Where the trivia end that the file ends in; no string is open in trivia, and its modes answer as the plain one.
-fn trailed_at(m: Mode, since: usize, n: usize) -> Found
-    ensures { λ r. ⌜ r ≡ trailedAt m since n ⌝ }
-{
-    match m {
-        Mode::Plain => Found::At(n),
-        Mode::Slash => Found::At(since),
-        Mode::Text => Found::At(n),
-        Mode::Quoted => Found::At(n),
-        Mode::Remark => Found::Refused(Fault::OpenComment(since)),
-        Mode::Starred => Found::Refused(Fault::OpenComment(since)),
-    }
-}
-
 // Goes past whitespace and comments: the place of the first byte that is neither, or the file's end.
 pub fn skip_trivia(s: &[u8], start: usize) -> Found
     ensures { λ r. ⌜ toldFound r ≡ placed (now (s .entry)) (trivia (drop start (now (s .entry)))) ⌝ }
 {
-    let from = within(start, s.len());
-    let mut i = from;
-    let mut since = from;
-    let mut m = Mode::Plain;
+    let mut i = within(start, s.len());
     while i < s.len() {
-        let b = s[i];
-        if is_calm(m, b) {
-            match lead_at(m, b, since, i) {
-                Lead::Ends(at) => return Found::At(at),
-                Lead::Goes(to) => m = to,
-            }
-            since = i;
+        let c = s[i];
+        if is_space(c) {
+            i += 1;
         } else {
-            m = next_mode(m, b);
+            if c != b'/' {
+                return Found::At(i);
+            }
+            if !is_at(s, i + 1, b'*') {
+                return Found::At(i);
+            }
+            match past_remark(s, i) {
+                Found::At(next) => i = next,
+                Found::Refused(f) => return Found::Refused(f),
+            }
         }
-        i = leap(s, m, i + 1);
     }
-    trailed_at(m, since, s.len())
+    Found::At(i)
 }

@@ -4,7 +4,7 @@
 // and what goes with them is one struct by value. Tables that are not what the scan and the index left are answered too: what is
 // served lies in the table, and a span outside the file is 9.
 ghost use mathlib.Core.Path.{_≡_};
-ghost use Prim.Native.Nat.{_+_, _-_, _*_, _/_, _≤_, _<_, min};
+ghost use Prim.Native.Nat.{_+_, _-_, _*_, _/_, _≤_, _<_};
 ghost use lib.Dec.{eqb};
 ghost use lib.ListN.{length};
 ghost use Rattle.index.specs.Search.{searched};
@@ -63,13 +63,6 @@ pub fn is_empty(t: Tables) -> bool
     t.records == 0
 }
 
-// The lesser of two numbers.
-fn least(a: usize, b: usize) -> usize
-    ensures { λ r. ⌜ r ≡ min a b ⌝ }
-{
-    if a < b { a } else { b }
-}
-
 // Row k of the table.
 fn read_row(rows: &[u32], k: usize) -> RecordSpan
     requires { ⌜ k * 6 + 6 ≤ length (now rows) ⌝ }
@@ -103,7 +96,7 @@ fn wide(x: u32) -> usize
 pub fn entity(rows: &[u32], t: Tables, k: usize) -> Entry
     ensures { λ r. ⌜ toldEntry r ≡ rowIn (now (rows .entry)) (t .records) k ⌝ }
 {
-    let n = least(t.records, rows.len() / 6);
+    let n = lex::within(t.records, rows.len() / 6);
     if n <= k {
         return Entry::Nothing;
     }
@@ -201,7 +194,7 @@ pub fn kind_of(file: &[u8], rows: &[u32], slots: &[u64], t: Tables, id: u32) -> 
 pub fn by_kind(file: &[u8], rows: &[u32], t: Tables, kind: Kind, from: usize) -> Place
     ensures { λ r. ⌜ toldPlace r ≡ firstFrom (isKind (now (file .entry)) (now (rows .entry)) kind) (tableRows (now (rows .entry)) (t .records) - from) from ⌝ }
 {
-    let n = least(t.records, rows.len() / 6);
+    let n = lex::within(t.records, rows.len() / 6);
     let mut i = from;
     while i < n {
         let k = kind_in(file, read_row(rows, i));

@@ -14,7 +14,7 @@ use Rattle.params.specs.Cut.{cutOf, started}
 use Rattle.params.specs.Reader.{paramOf, skipOf}
 use Rattle.scalars.specs.Scalars.{kernelOf, measureOf, nextOf}
 use Rattle.reals.specs.Scalar.{parseOf, realOf, wholeOf, referenceOf}
-use Rattle.reals.specs.Prefix.{placeIn}
+use Rattle.prefixes.specs.Prefix.{placeIn}
 use Rattle.lists.specs.Items.{itemEnd, itemBy, itemsFrom, itemsBy, bodyOf, listBy, nextBy}
 use Rattle.factors.specs.Factor.{siLength, siAngle, measureRef, linkOf, measureIn, lengthOf, numberIn, angleOf}
 use Rattle.units.specs.Units.{isContext, refsIn, unitBy, unitsBy, uncertaintyBy, toleranceBy, listedUnits, listedTolerance, contextOf, resolveOf}

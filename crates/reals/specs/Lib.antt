@@ -8,6 +8,4 @@ pub mod Whole
 pub mod Form
 pub mod FormRight
 pub mod WholeRight
-pub mod Prefix
-pub mod PrefixRight
 pub mod Examples

@@ -1,6 +1,6 @@
-// Scalars of a parameter: reals, integers, references, and the SI prefixes' factors.
+// Scalars of a parameter: reals, integers and references.
 //
-// Each takes the trimmed bytes of one parameter or item. As the Rust's parse_f64, parse_i64, parse_ref and si_prefix_factor, with
+// Each takes the trimmed bytes of one parameter or item. As the Rust's parse_f64, parse_i64 and parse_ref, with
 // the float's reading as own code: in document 01's class a real is one product or quotient of two exact f64s, so it is rounded
 // once, and the crate `nearest` says what that gives.
 ghost use mathlib.Core.Path.{_≡_};
@@ -14,7 +14,6 @@ ghost use Rattle.nearest.specs.Round.{signed};
 ghost use Rattle.nearest.specs.Product.{worthOf, finite};
 ghost use Rattle.reals.specs.Scalar.{toldReal, realOf, toldWhole, wholeOf, ranged, toldReference, referenceOf, unsigned, minus, NumberAt, PlainAt, DecimalAt, TensAt, ClassOf};
 ghost use Rattle.reals.specs.Parts.{Reading, FourAt};
-ghost use Rattle.reals.specs.Prefix.{prefixes, placeIn, factorOf, lengthFactorOf};
 
 pub enum Real {
     Value(f64),
@@ -41,12 +40,6 @@ const MOST: u64 = 1000000000000000;
 
 // Exponents from here on count as this one: no text is long enough for its fraction to make up for it.
 const LARGEST: u64 = 0xffff_ffff_ffff_ffff;
-
-fn is_digit(c: u8) -> bool
-    ensures { λ r. ⌜ r ≡ digit c ⌝ }
-{
-    (48 <= c) & (c <= 57)
-}
 
 fn minus_at(t: &[u8], at: usize) -> bool
     ensures { λ r. ⌜ r ≡ minus (drop at (now (t .entry))) ⌝ }
@@ -103,7 +96,7 @@ fn digits_from(t: &[u8], at: usize, from: u64, cap: u64) -> Number
     let mut i = at;
     while i < t.len() {
         let c = t[i];
-        if !is_digit(c) {
+        if !record::is_digit(c) {
             return Number { value: n, next: i };
         }
         n = with_digit(n, c, cap);
@@ -116,7 +109,7 @@ fn digits_from(t: &[u8], at: usize, from: u64, cap: u64) -> Number
 fn are_digits(a: u8, b: u8, c: u8, d: u8) -> bool
     ensures { λ r. ⌜ r ≡ (digit a && digit b) && (digit c && digit d) ⌝ }
 {
-    (is_digit(a) & is_digit(b)) & (is_digit(c) & is_digit(d))
+    (record::is_digit(a) & record::is_digit(b)) & (record::is_digit(c) & record::is_digit(d))
 }
 
 // The number that four digits make; `0` is 48, so that 53328 is what four of them have too much.
@@ -415,80 +408,4 @@ pub fn parse_ref(t: &[u8]) -> Reference
         return Reference::Value(n as u32);
     }
     Reference::NotReference
-}
-
-// The sixteen SI prefixes' names in a row, EXA to ATTO as document 01 lists them, and where each begins.
-const NAMES: [u8; 68] = *b"EXAPETATERAGIGAMEGAKILOHECTODECADECICENTIMILLIMICRONANOPICOFEMTOATTO";
-
-const STARTS: [usize; 17] = [
-    0,
-    3,
-    7,
-    11,
-    15,
-    19,
-    23,
-    28,
-    32,
-    36,
-    41,
-    46,
-    51,
-    55,
-    59,
-    64,
-    68,
-];
-
-// Their factors, and for any other name 1.0.
-const FACTORS: [f64; 17] = [
-    1e18,
-    1e15,
-    1e12,
-    1e9,
-    1e6,
-    1e3,
-    1e2,
-    1e1,
-    1e-1,
-    1e-2,
-    1e-3,
-    1e-6,
-    1e-9,
-    1e-12,
-    1e-15,
-    1e-18,
-    1.0,
-];
-
-// The row of the prefix that is named so, letters in either case; 16 where there is none.
-fn prefix_row(name: &[u8]) -> usize
-    ensures { λ r. ⌜ r ≡ placeIn prefixes (now (name .entry)) ⌝ }
-{
-    let names = NAMES;
-    let starts = STARTS;
-    let mut k: usize = 0;
-    while k < 16 {
-        let a = starts[k];
-        let e = starts[k + 1];
-        if record::is_word(name, &names[a..e]) {
-            return k;
-        }
-        k += 1;
-    }
-    16
-}
-
-// An SI prefix's factor.
-pub fn prefix_factor(name: &[u8]) -> f64
-    ensures { λ r. ⌜ toBits binary64 r ≡ factorOf (now (name .entry)) ⌝ }
-{
-    FACTORS[prefix_row(name)]
-}
-
-// Millimetres in a metre with this prefix. The factor is rounded before it is multiplied, as the Rust has it.
-pub fn length_factor(name: &[u8]) -> f64
-    ensures { λ r. ⌜ toBits binary64 r ≡ lengthFactorOf (now (name .entry)) ⌝ }
-{
-    nearest::times(1000.0, prefix_factor(name))
 }

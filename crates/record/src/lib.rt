@@ -49,7 +49,8 @@ fn past_space(b: &[u8], from: usize) -> usize
     i
 }
 
-fn is_digit(c: u8) -> bool
+// Whether a byte is a digit.
+pub fn is_digit(c: u8) -> bool
     ensures { λ r. ⌜ r ≡ digit c ⌝ }
 {
     (48 <= c) & (c <= 57)
@@ -141,7 +142,8 @@ fn trail_at(b: &[u8], from: usize) -> usize
     end
 }
 
-fn upper_of(c: u8) -> u8
+// A small letter as its capital.
+pub fn upper_of(c: u8) -> u8
     ensures { λ r. ⌜ r ≡ upper c ⌝ }
 {
     if (97 <= c) & (c <= 122) { c - 32 } else { c }

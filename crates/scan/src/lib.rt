@@ -4,7 +4,7 @@
 // changes nothing that was lent. Nothing is sized by an id: a record takes one row and one id slot, whatever its number.
 ghost use mathlib.Core.Path.{_≡_};
 ghost use mathlib.Core.Bool.{true, false};
-ghost use Prim.Native.Nat.{_+_, _*_, _/_, _≤_, _<_, min, max};
+ghost use Prim.Native.Nat.{_+_, _*_, _/_, _≤_, _<_, max};
 ghost use lib.ListN.{length, take, drop};
 ghost use lib.Seq.{sets};
 ghost use Rattle.lex.specs.Byte.{pick, white};
@@ -74,13 +74,6 @@ fn is_marked(s: &[u8]) -> bool
         return is_marker(&s[3..]);
     }
     is_marker(s)
-}
-
-// The lesser of two numbers.
-fn least(a: usize, b: usize) -> usize
-    ensures { λ r. ⌜ r ≡ min a b ⌝ }
-{
-    if a < b { a } else { b }
 }
 
 // The greater of two ids.
@@ -187,7 +180,7 @@ fn pass(
     ensures { λ _. ⌜ Written write (readingOf (now (s .entry)) (headerRoom (now (headers .entry))) (dataRoom (now (rows .entry)) slots)) recordNumbers (now (rows .entry)) (now (rows .exit)) ⌝ }
     ensures { λ r. ⌜ NeatTold (now (s .entry)) r ⌝ }
 {
-    let room = least(rows.len() / 6, slots);
+    let room = lex::within(rows.len() / 6, slots);
     let mut i = 0;
     let mut section = Section::Outside;
     let mut h: usize = 0;

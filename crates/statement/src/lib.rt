@@ -9,7 +9,7 @@ ghost use lib.Dec.{eqb};
 ghost use lib.ListN.{length, take, drop, getD};
 ghost use Rattle.lex.specs.Byte.{white};
 ghost use Rattle.lex.specs.Search.{at, trivia, placed, toldFound};
-ghost use Rattle.record.specs.Text.{past, trail, digit};
+ghost use Rattle.record.specs.Text.{past, trail};
 ghost use Rattle.record.specs.Form.{Free};
 ghost use Rattle.record.specs.Head.{dataHead};
 ghost use Rattle.statement.specs.Row.{row, headerRow, argued, recordOf, headerOf};
@@ -410,12 +410,6 @@ fn usual_close(s: &[u8], from: usize) -> usize
     }
 }
 
-fn is_digit(c: u8) -> bool
-    ensures { λ r. ⌜ r ≡ digit c ⌝ }
-{
-    (48 <= c) & (c <= 57)
-}
-
 // The id whose digits begin at `from`.
 fn id_at(t: &[u8], from: usize) -> IdRead
     requires { ⌜ from ≤ length (now t) ⌝ }
@@ -425,7 +419,7 @@ fn id_at(t: &[u8], from: usize) -> IdRead
     let mut i = from;
     while i < t.len() {
         let c = t[i];
-        if !is_digit(c) {
+        if !record::is_digit(c) {
             return IdRead::IdIs(n as u32, i);
         }
         n = n * 10 + ((c - 48) as u64);

@@ -2,7 +2,7 @@ use borrow.Author.Needs.{needs}
 use mathlib.Core.Path.{sym, _∙_, ap}
 use denote.Ref.{now}
 use borrow.Author.Tests.{not-true, not-false}
-use Rattle.reals.specs.Prefix.{factorOf}
+use Rattle.prefixes.specs.Prefix.{factorOf}
 use Rattle.factors.specs.Laws.{angle-other, angle-is}
 use Rattle.factors.proofs.si_angle.Statement.{statement}
 use Rattle.factors.proofs.si_angle.Tie as tie
@@ -11,7 +11,7 @@ use Rattle.factors.proofs.si_angle.Lts as lts
 use Rattle.factors.proofs.after.Reads as after-reads
 use Rattle.factors.proofs.is_named.Reads as is-named-reads
 use Rattle.factors.proofs.name_in.Reads as name-in-reads
-use Rattle.reals.proofs.prefix_factor.Reads as prefix-factor-reads
+use Rattle.prefixes.proofs.prefix_factor.Reads as prefix-factor-reads
 use Rattle.words.proofs.next_enum.Reads as next-enum-reads
 
 -- src/lib.rt:127:9

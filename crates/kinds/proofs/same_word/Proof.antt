@@ -14,7 +14,7 @@ use Rattle.kinds.proofs.same_word.Statement.{statement}
 use Rattle.kinds.proofs.same_word.Tie as tie
 use Rattle.kinds.proofs.same_word.Reads as reads
 use Rattle.kinds.proofs.same_word.Lts as lts
-use Rattle.kinds.proofs.capital.Reads as capital-reads
+use Rattle.record.proofs.upper_of.Reads as upper-of-reads
 
 abbrev Inv-loop : tie.InvT-loop
 Inv-loop t w i₀ i = (i ≤ length t) × (same (map upper (drop i t)) (map upper (drop i w)) ≡ same (map upper t) (map upper w))
@@ -34,25 +34,25 @@ loop-holds : tie.Need-loop-holds Inv-loop μ-loop
 loop-holds c = (omega arith, refl)
 
 -- src/lib.rt:106:20
-shared-slice-read-capital : tie.Need-shared-slice-read-capital Inv-loop μ-loop
-shared-slice-read-capital c = search needs
+shared-slice-read-upper-of : tie.Need-shared-slice-read-upper-of Inv-loop μ-loop
+shared-slice-read-upper-of c = search needs
 
 -- src/lib.rt:106:12
-capital-requires : tie.Need-capital-requires Inv-loop μ-loop
-capital-requires c κs = search needs
+upper-of-requires : tie.Need-upper-of-requires Inv-loop μ-loop
+upper-of-requires c κs = search needs
 
 -- src/lib.rt:106:37
-shared-slice-read-capital-2 : tie.Need-shared-slice-read-capital-2 Inv-loop μ-loop
-shared-slice-read-capital-2 c = search needs
+shared-slice-read-upper-of-2 : tie.Need-shared-slice-read-upper-of-2 Inv-loop μ-loop
+shared-slice-read-upper-of-2 c = search needs
 
 -- src/lib.rt:106:29
-capital-requires-2 : tie.Need-capital-requires-2 Inv-loop μ-loop
-capital-requires-2 c κs = search needs
+upper-of-requires-2 : tie.Need-upper-of-requires-2 Inv-loop μ-loop
+upper-of-requires-2 c κs = search needs
 
 -- src/lib.rt:107:13
 returns-2 : tie.Need-returns-2 Inv-loop μ-loop
 returns-2 c =
-    both-stops (now (c .before .before .before .before .before .before .before .before .before .before .args .t)) (now (c .before .before .before .before .before .before .before .before .before .before .args .w)) (c .before .before .before .before .before .before .loop .i) _ (omega arith) (omega arith) (ne-eqb _ _ (λ e. c .if2 .taken (c .before .before .before .capital .ensures ∙ e ∙ sym (c .before .capital2 .ensures)))) (c .before .before .before .before .before .before .loop .inv .1)
+    both-stops (now (c .before .before .before .before .before .before .before .before .before .before .args .t)) (now (c .before .before .before .before .before .before .before .before .before .before .args .w)) (c .before .before .before .before .before .before .loop .i) _ (omega arith) (omega arith) (ne-eqb _ _ (λ e. c .if2 .taken (c .before .before .before .upper-of .ensures ∙ e ∙ sym (c .before .upper-of2 .ensures)))) (c .before .before .before .before .before .before .loop .inv .1)
 
 -- src/lib.rt:109:9
 add-i : tie.Need-add-i Inv-loop μ-loop
@@ -65,7 +65,7 @@ loop-less c = search needs
 -- src/lib.rt:105:5
 loop-again : tie.Need-loop-again Inv-loop μ-loop
 loop-again c =
-    (omega arith, both-goes (now (c .before .before .before .before .before .before .before .before .before .before .args .t)) (now (c .before .before .before .before .before .before .before .before .before .before .args .w)) (c .before .before .before .before .before .before .loop .i) _ (omega arith) (omega arith) (eq-eqb _ _ (sym (c .before .before .before .capital .ensures) ∙ c .if2 .left ∙ c .before .capital2 .ensures)) (c .before .before .before .before .before .before .loop .inv .1))
+    (omega arith, both-goes (now (c .before .before .before .before .before .before .before .before .before .before .args .t)) (now (c .before .before .before .before .before .before .before .before .before .before .args .w)) (c .before .before .before .before .before .before .loop .i) _ (omega arith) (omega arith) (eq-eqb _ _ (sym (c .before .before .before .upper-of .ensures) ∙ c .if2 .left ∙ c .before .upper-of2 .ensures)) (c .before .before .before .before .before .before .loop .inv .1))
 
 -- src/lib.rt:98:1
 returns-3 : tie.Need-returns-3 Inv-loop μ-loop
@@ -81,10 +81,10 @@ same-word-spec =
     μ-loop
     returns
     loop-holds
-    shared-slice-read-capital
-    capital-requires
-    shared-slice-read-capital-2
-    capital-requires-2
+    shared-slice-read-upper-of
+    upper-of-requires
+    shared-slice-read-upper-of-2
+    upper-of-requires-2
     returns-2
     add-i
     loop-less

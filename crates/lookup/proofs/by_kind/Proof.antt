@@ -19,7 +19,7 @@ use Rattle.lookup.proofs.by_kind.Reads as reads
 use Rattle.lookup.proofs.by_kind.Lts as lts
 use Rattle.kinds.proofs.same_kind.Reads as same-kind-reads
 use Rattle.lookup.proofs.kind_in.Reads as kind-in-reads
-use Rattle.lookup.proofs.least.Reads as least-reads
+use Rattle.lex.proofs.within.Reads as within-reads
 use Rattle.lookup.proofs.read_row.Reads as read-row-reads
 
 abbrev Inv-loop : tie.InvT-loop
@@ -29,8 +29,8 @@ abbrev μ-loop : tie.MeasureT-loop
 μ-loop file rows kind from n i₀ i = n - i
 
 -- src/lib.rt:211:9
-least-requires : tie.Need-least-requires Inv-loop μ-loop
-least-requires c κs = search needs
+within-requires : tie.Need-within-requires Inv-loop μ-loop
+within-requires c κs = search needs
 
 -- src/lib.rt:213:5
 loop-holds : tie.Need-loop-holds Inv-loop μ-loop
@@ -39,7 +39,7 @@ loop-holds c = refl
 -- src/lib.rt:214:31
 read-row-requires : tie.Need-read-row-requires Inv-loop μ-loop
 read-row-requires c κs =
-    let e = c .before .before .least .ensures in
+    let e = c .before .before .within .ensures in
     omega arith
 
 -- src/lib.rt:214:13
@@ -52,7 +52,7 @@ same-kind-requires c κs = search needs
 
 -- src/lib.rt:216:13
 returns : tie.Need-returns Inv-loop μ-loop
-returns c = sym (first-stops (isKind (now (c .before .before .before .before .before .before .before .before .before .args .file)) (now (c .before .before .before .before .before .before .before .before .before .args .rows)) (c .before .before .before .before .before .before .before .before .before .args .kind)) (c .before .before .before .before .before .before .least .result) (c .before .before .before .before .before .loop .i) (c .before .before .before .before .loop-test .taken) (sym (c .before .same-kind .ensures ∙ ap (λ (k : Kind). eqb (rankOf k) (rankOf (c .before .before .before .before .before .before .before .before .before .args .kind))) (c .before .before .kind-in .ensures ∙ ap (kindIn (now (c .before .before .before .before .before .before .before .before .before .args .file))) (c .before .before .before .read-row .ensures))) ∙ c .if1 .taken)) ∙ c .before .before .before .before .before .loop .inv ∙ ap (λ (z : ℕ). firstFrom (isKind (now (c .before .before .before .before .before .before .before .before .before .args .file)) (now (c .before .before .before .before .before .before .before .before .before .args .rows)) (c .before .before .before .before .before .before .before .before .before .args .kind)) (z - c .before .before .before .before .before .before .before .before .before .args .from) (c .before .before .before .before .before .before .before .before .before .args .from)) (c .before .before .before .before .before .before .least .ensures)
+returns c = sym (first-stops (isKind (now (c .before .before .before .before .before .before .before .before .before .args .file)) (now (c .before .before .before .before .before .before .before .before .before .args .rows)) (c .before .before .before .before .before .before .before .before .before .args .kind)) (c .before .before .before .before .before .before .within .result) (c .before .before .before .before .before .loop .i) (c .before .before .before .before .loop-test .taken) (sym (c .before .same-kind .ensures ∙ ap (λ (k : Kind). eqb (rankOf k) (rankOf (c .before .before .before .before .before .before .before .before .before .args .kind))) (c .before .before .kind-in .ensures ∙ ap (kindIn (now (c .before .before .before .before .before .before .before .before .before .args .file))) (c .before .before .before .read-row .ensures))) ∙ c .if1 .taken)) ∙ c .before .before .before .before .before .loop .inv ∙ ap (λ (z : ℕ). firstFrom (isKind (now (c .before .before .before .before .before .before .before .before .before .args .file)) (now (c .before .before .before .before .before .before .before .before .before .args .rows)) (c .before .before .before .before .before .before .before .before .before .args .kind)) (z - c .before .before .before .before .before .before .before .before .before .args .from) (c .before .before .before .before .before .before .before .before .before .args .from)) (c .before .before .before .before .before .before .within .ensures)
 
 -- src/lib.rt:218:9
 add-i : tie.Need-add-i Inv-loop μ-loop
@@ -64,11 +64,11 @@ loop-less c = search needs
 
 -- src/lib.rt:213:5
 loop-again : tie.Need-loop-again Inv-loop μ-loop
-loop-again c = sym (first-goes (isKind (now (c .before .before .before .before .before .before .before .before .before .args .file)) (now (c .before .before .before .before .before .before .before .before .before .args .rows)) (c .before .before .before .before .before .before .before .before .before .args .kind)) (c .before .before .before .before .before .before .least .result) (c .before .before .before .before .before .loop .i) (c .before .before .before .before .loop-test .taken) (sym (c .before .same-kind .ensures ∙ ap (λ (k : Kind). eqb (rankOf k) (rankOf (c .before .before .before .before .before .before .before .before .before .args .kind))) (c .before .before .kind-in .ensures ∙ ap (kindIn (now (c .before .before .before .before .before .before .before .before .before .args .file))) (c .before .before .before .read-row .ensures))) ∙ c .if1 .left)) ∙ c .before .before .before .before .before .loop .inv
+loop-again c = sym (first-goes (isKind (now (c .before .before .before .before .before .before .before .before .before .args .file)) (now (c .before .before .before .before .before .before .before .before .before .args .rows)) (c .before .before .before .before .before .before .before .before .before .args .kind)) (c .before .before .before .before .before .before .within .result) (c .before .before .before .before .before .loop .i) (c .before .before .before .before .loop-test .taken) (sym (c .before .same-kind .ensures ∙ ap (λ (k : Kind). eqb (rankOf k) (rankOf (c .before .before .before .before .before .before .before .before .before .args .kind))) (c .before .before .kind-in .ensures ∙ ap (kindIn (now (c .before .before .before .before .before .before .before .before .before .args .file))) (c .before .before .before .read-row .ensures))) ∙ c .if1 .left)) ∙ c .before .before .before .before .before .loop .inv
 
 -- src/lib.rt:208:1
 returns-2 : tie.Need-returns-2 Inv-loop μ-loop
-returns-2 c = sym (first-ends (isKind (now (c .before .before .before .before .before .args .file)) (now (c .before .before .before .before .before .args .rows)) (c .before .before .before .before .before .args .kind)) (c .before .before .least .result) (c .before .loop .i) (c .loop-test .left)) ∙ c .before .loop .inv ∙ ap (λ (z : ℕ). firstFrom (isKind (now (c .before .before .before .before .before .args .file)) (now (c .before .before .before .before .before .args .rows)) (c .before .before .before .before .before .args .kind)) (z - c .before .before .before .before .before .args .from) (c .before .before .before .before .before .args .from)) (c .before .before .least .ensures)
+returns-2 c = sym (first-ends (isKind (now (c .before .before .before .before .before .args .file)) (now (c .before .before .before .before .before .args .rows)) (c .before .before .before .before .before .args .kind)) (c .before .before .within .result) (c .before .loop .i) (c .loop-test .left)) ∙ c .before .loop .inv ∙ ap (λ (z : ℕ). firstFrom (isKind (now (c .before .before .before .before .before .args .file)) (now (c .before .before .before .before .before .args .rows)) (c .before .before .before .before .before .args .kind)) (z - c .before .before .before .before .before .args .from) (c .before .before .before .before .before .args .from)) (c .before .before .within .ensures)
 
 pub by-kind-spec : {M : Type 1} → statement M
 by-kind-spec =
@@ -76,7 +76,7 @@ by-kind-spec =
     (tie.spec
     Inv-loop
     μ-loop
-    least-requires
+    within-requires
     loop-holds
     read-row-requires
     kind-in-requires

@@ -14,7 +14,7 @@ use Rattle.scan.proofs.pass.Tie as tie
 use Rattle.scan.proofs.pass.Reads as reads
 use Rattle.scan.proofs.pass.Lts as lts
 use Rattle.scan.proofs.greater.Reads as greater-reads
-use Rattle.scan.proofs.least.Reads as least-reads
+use Rattle.lex.proofs.within.Reads as within-reads
 use Rattle.scan.proofs.put_header.Reads as put-header-reads
 use Rattle.scan.proofs.put_record.Reads as put-record-reads
 use Rattle.scan.proofs.run.Reads as run-reads
@@ -28,8 +28,8 @@ abbrev μ-loop : tie.MeasureT-loop
 μ-loop s headers₀ rows₀ slots write known room i₀ section₀ h₀ r₀ max₀ all₀ headers rows i section h r max all = length s - i
 
 -- src/lib.rt:176:9
-least-requires : tie.Need-least-requires Inv-loop μ-loop
-least-requires c κs = search needs
+within-requires : tie.Need-within-requires Inv-loop μ-loop
+within-requires c κs = search needs
 
 -- src/lib.rt:183:5
 loop-holds : tie.Need-loop-holds Inv-loop μ-loop
@@ -37,7 +37,7 @@ loop-holds c = let b = c .before .before .before .before in
     let a = b .args in (
       refl,
       refl,
-      going-starts (now (a .s)) (length (now (a .headers)) / 4) (c .least .result) (a .write) (now (a .headers)) (now (a .rows)),
+      going-starts (now (a .s)) (length (now (a .headers)) / 4) (c .within .result) (a .write) (now (a .headers)) (now (a .rows)),
       tidying-starts (now (a .s)) (a .known) (b .pre .2),
     )
 
@@ -67,7 +67,7 @@ returns c = let n = c .before .before .before in
     let g = t .loop .inv .2 in
     let y = t .loop .inv .3 in
     let b = n .noted-statement .ensures .1 .1 in
-    let l = done _ _ _ _ _ _ _ _ _ _ _ _ _ g _ (t .before .least .ensures) e in
+    let l = done _ _ _ _ _ _ _ _ _ _ _ _ _ g _ (t .before .within .ensures) e in
     (l .0, (l .1 .0, (l .1 .1, tidying-ends _ _ _ _ _ y _ b e)))
 
 -- src/lib.rt:189:27
@@ -92,7 +92,7 @@ returns-2 c = let n = c .before .before .before .before in
     let g = t .loop .inv .2 in
     let y = t .loop .inv .3 in
     let b = n .noted-statement .ensures .1 .1 in
-    let l = failed _ _ _ _ _ _ _ _ _ _ _ _ _ g _ (t .before .least .ensures) _ (going-refused _ _ _ _ _ _ _ _ _ _ _ _ _ g _ e) in
+    let l = failed _ _ _ _ _ _ _ _ _ _ _ _ _ g _ (t .before .within .ensures) _ (going-refused _ _ _ _ _ _ _ _ _ _ _ _ _ g _ e) in
     (l .0, (l .1 .0, (l .1 .1, tt)))
 
 -- src/lib.rt:190:25
@@ -148,7 +148,7 @@ returns-3 c = let n = c .before .before .before .before .before in
     let g = t .loop .inv .2 in
     let y = t .loop .inv .3 in
     let b = n .noted-statement .ensures .1 .1 in
-    let l = failed _ _ _ _ _ _ _ _ _ _ _ _ _ g _ (t .before .least .ensures) _ (header-full _ _ _ _ _ _ _ _ _ _ _ _ _ g _ (v .given .0 .1 .0) (v .given .0 .1 .1 .0) (omega arith) e (omega (arith, c .if1 .taken, t .loop .inv .0))) in
+    let l = failed _ _ _ _ _ _ _ _ _ _ _ _ _ g _ (t .before .within .ensures) _ (header-full _ _ _ _ _ _ _ _ _ _ _ _ _ g _ (v .given .0 .1 .0) (v .given .0 .1 .1 .0) (omega arith) e (omega (arith, c .if1 .taken, t .loop .inv .0))) in
     (l .0, (l .1 .0, (l .1 .1, tt)))
 
 -- src/lib.rt:198:17
@@ -218,7 +218,7 @@ returns-4 c = let n = c .before .before .before .before .before in
     let g = t .loop .inv .2 in
     let y = t .loop .inv .3 in
     let b = n .noted-statement .ensures .1 .1 in
-    let l = failed _ _ _ _ _ _ _ _ _ _ _ _ _ g _ (t .before .least .ensures) _ (record-full _ _ _ _ _ _ _ _ _ _ _ _ _ g _ (v .given .0 .1 .0) (v .given .0 .1 .1 .0) (omega arith) e (c .if2 .taken)) in
+    let l = failed _ _ _ _ _ _ _ _ _ _ _ _ _ g _ (t .before .within .ensures) _ (record-full _ _ _ _ _ _ _ _ _ _ _ _ _ g _ (v .given .0 .1 .0) (v .given .0 .1 .1 .0) (omega arith) e (c .if2 .taken)) in
     (l .0, (l .1 .0, (l .1 .1, tt)))
 
 -- src/lib.rt:207:17
@@ -232,11 +232,11 @@ put-record-requires c κs = let n = c .before .before .before .before .before .b
     let g = t .loop .inv .2 in
     let y = t .loop .inv .3 in
     let b = n .noted-statement .ensures .1 .1 in
-    (omega (arith, t .before .least .ensures), record-fits-more (length (now (a .s))) 4294967295 _ (omega arith) (rw (sym e) at (statement-fits (now (a .s)) (t .loop .section) (drop (t .loop .i) (now (a .s))))))
+    (omega (arith, t .before .within .ensures), record-fits-more (length (now (a .s))) 4294967295 _ (omega arith) (rw (sym e) at (statement-fits (now (a .s)) (t .loop .section) (drop (t .loop .i) (now (a .s))))))
 
 -- src/lib.rt:209:17
 add-run : tie.Need-add-run Inv-loop μ-loop
-add-run c = let t = c .before .before .before .before .before .before .before .before .before .before .before in omega (arith, t .before .least .ensures)
+add-run c = let t = c .before .before .before .before .before .before .before .before .before .before .before in omega (arith, t .before .within .ensures)
 
 -- src/lib.rt:210:17
 greater-requires : tie.Need-greater-requires Inv-loop μ-loop
@@ -255,7 +255,7 @@ run-requires c κs = let n = c .before .before .before .before .before .before .
     let d = n .noted-statement .ensures .1 .1 in
     let p = c .before .before .before .before .put-record in
     let l = p .kept .0 ∙ t .loop .inv .1 in
-    (b .pre .0, w .2, omega (arith, l, t .before .least .ensures), tidying-record _ _ _ _ _ y _ d _ (v .given .0 .1 .0) (v .given .0 .1 .1 .0) e .ahead)
+    (b .pre .0, w .2, omega (arith, l, t .before .within .ensures), tidying-record _ _ _ _ _ y _ d _ (v .given .0 .1 .0) (v .given .0 .1 .1 .0) e .ahead)
 
 -- src/lib.rt:183:5
 loop-less-3 : tie.Need-loop-less-3 Inv-loop μ-loop
@@ -289,8 +289,8 @@ loop-again-3 c = let n = c .before .before .before .before .before .before .befo
     let l = ran-length _ _ _ _ _ _ _ (u .ensures) in (
       t .loop .inv .0,
       l ∙ p .kept .0 ∙ t .loop .inv .1,
-      going-ran _ _ _ _ _ _ _ _ _ _ _ _ _ (omega (arith, t .before .least .ensures)) (b .pre .1)
-          (rw (p .ensures, c .before .before .before .greater .ensures) (going-record _ _ _ _ _ _ _ _ _ _ _ _ _ g _ (v .given .0 .1 .0) _ e (w .0) (w .2) (c .before .before .before .before .before .before .before .before .before .if2 .left) (omega (arith, c .before .before .before .before .before .before .before .before .before .if2 .left, t .before .least .ensures))))
+      going-ran _ _ _ _ _ _ _ _ _ _ _ _ _ (omega (arith, t .before .within .ensures)) (b .pre .1)
+          (rw (p .ensures, c .before .before .before .greater .ensures) (going-record _ _ _ _ _ _ _ _ _ _ _ _ _ g _ (v .given .0 .1 .0) _ e (w .0) (w .2) (c .before .before .before .before .before .before .before .before .before .if2 .left) (omega (arith, c .before .before .before .before .before .before .before .before .before .if2 .left, t .before .within .ensures))))
           (u .ensures),
       tidying-ran _ _ _ _ _ _ _ _ (tidying-record _ _ _ _ _ y _ d _ (v .given .0 .1 .0) _ e) (u .ensures),
     )
@@ -301,7 +301,7 @@ pass-spec =
     (tie.spec
     Inv-loop
     μ-loop
-    least-requires
+    within-requires
     loop-holds
     noted-statement-requires
     enum-told

@@ -14,7 +14,7 @@ use Rattle.statement.proofs.id_at.Statement.{statement}
 use Rattle.statement.proofs.id_at.Tie as tie
 use Rattle.statement.proofs.id_at.Reads as reads
 use Rattle.statement.proofs.id_at.Lts as lts
-use Rattle.statement.proofs.is_digit.Reads as is-digit-reads
+use Rattle.record.proofs.is_digit.Reads as is-digit-reads
 
 abbrev Inv-loop : tie.InvT-loop
 Inv-loop t from n₀ i₀ n i = (from ≤ i) × (i ≤ length t) × (n ≤ 4294967295) × (walk digitTurn (λ m. digits m []) n (drop i t) ≡ numberFrom 0 (drop from t))

@@ -1,13 +1,13 @@
--- `reals::length_factor` meets its contract: one product of 1000.0 and the factor. Assumes nothing.
+-- `prefixes::length_factor` meets its contract: one product of 1000.0 and the factor. Assumes nothing.
 use Prim.Native.Nat.{ℕ}
 use mathlib.Core.Path.{_∙_, ap}
 use borrow.Author.Needs.{needs}
 use lib.Ieee.{binary64, toBits}
 use Rattle.nearest.specs.Near.{near}
 use Rattle.nearest.specs.Product.{product}
-use Rattle.reals.specs.Prefix.{thousand}
-use Rattle.reals.proofs.length_factor.Statement.{statement}
-use Rattle.reals.proofs.length_factor.Tie as tie
+use Rattle.prefixes.specs.Prefix.{thousand}
+use Rattle.prefixes.proofs.length_factor.Statement.{statement}
+use Rattle.prefixes.proofs.length_factor.Tie as tie
 
 prefix-factor-requires : tie.Need-prefix-factor-requires
 prefix-factor-requires c κs = search needs

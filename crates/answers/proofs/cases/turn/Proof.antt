@@ -2,11 +2,11 @@ use borrow.Author.Needs.{needs}
 use mathlib.Core.Path.{_∙_}
 use lib.ListN.{length-take}
 use native.Mathlib.Omega.{arith}
-use Rattle.cases.proofs.turn.Statement.{statement}
-use Rattle.cases.proofs.turn.Tie as tie
-use Rattle.cases.proofs.turn.Reads as reads
-use Rattle.cases.proofs.turn.Lts as lts
-use Rattle.cases.proofs.answer.answer.Reads as answer-reads
+use Rattle.answers.proofs.cases.turn.Statement.{statement}
+use Rattle.answers.proofs.cases.turn.Tie as tie
+use Rattle.answers.proofs.cases.turn.Reads as reads
+use Rattle.answers.proofs.cases.turn.Lts as lts
+use Rattle.answers.proofs.answer.answer.Reads as answer-reads
 
 -- src/lib.rt:87:9
 take-requires : tie.Need-take-requires

@@ -16,7 +16,7 @@ use Rattle.record.specs.Form.{bytes, Spelt}
 use Rattle.record.specs.FormRight.{spelt-is, spelt-only}
 use Rattle.nearest.specs.Nearest.{IsNearest}
 use Rattle.nearest.specs.Near.{near, near-is, near-only}
-use Rattle.reals.specs.Prefix.{Prefix, row, prefixes, unity, tenUp, tenDown, placeIn, prefixOf, factorOf, place-most}
+use Rattle.prefixes.specs.Prefix.{Prefix, row, prefixes, unity, tenUp, tenDown, placeIn, prefixOf, factorOf, place-most}
 
 -- "Prefixes: [..]; any other 1.0", "all in either case": the nearest f64 to the power of ten of the one row that is named so
 pub data PrefixForm : List ℕ → ℕ → Type 0 where

@@ -1,8 +1,5 @@
-// A run of cases, each answered in the text form by which this reader is compared with the Rust original: what the programs
-// `answers` and `replay` share. They differ in their rooms alone.
-mod answer;
-
-use answer::answer;
+// A run of cases, each answered in the text form by which this reader is compared with the Rust original.
+use crate::answer::answer;
 use intake::Run;
 
 // Answers the next cases: all of them, or as many as 64 bits count. The rooms are lent for a chunk of the input, a file, its header

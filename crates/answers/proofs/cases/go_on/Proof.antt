@@ -3,11 +3,11 @@ use lib.ListN.{length}
 use mathlib.Core.Path.{_≡_, _∙_}
 use borrow.Author.Needs.{needs}
 use native.Mathlib.Omega.{arith}
-use Rattle.cases.proofs.go_on.Statement.{statement}
-use Rattle.cases.proofs.go_on.Tie as tie
-use Rattle.cases.proofs.go_on.Reads as reads
-use Rattle.cases.proofs.go_on.Lts as lts
-use Rattle.cases.proofs.turn.Reads as turn-reads
+use Rattle.answers.proofs.cases.go_on.Statement.{statement}
+use Rattle.answers.proofs.cases.go_on.Tie as tie
+use Rattle.answers.proofs.cases.go_on.Reads as reads
+use Rattle.answers.proofs.cases.go_on.Lts as lts
+use Rattle.answers.proofs.cases.turn.Reads as turn-reads
 
 abbrev Inv-loop : tie.InvT-loop
 Inv-loop chunk₀ file₀ heads₀ rows₀ slots₀ chars₀ refs₀ wholes₀ reals₀ ends₀ out₀ walks last₀ turns₀ chunk file heads rows slots chars refs wholes reals ends out last turns =

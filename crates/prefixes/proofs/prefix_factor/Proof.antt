@@ -1,4 +1,4 @@
--- `reals::prefix_factor` meets its contract: the table's rule at the row that was found. Assumes nothing.
+-- `prefixes::prefix_factor` meets its contract: the table's rule at the row that was found. Assumes nothing.
 use Prim.Native.Nat.{ℕ, _≤_}
 use mathlib.Core.Path.{_≡_, sym, subst}
 use native.Mathlib.Omega.{arith}
@@ -7,9 +7,9 @@ use denote.Ref.{now}
 use lib.ListN.{getD}
 use lib.Ieee.{binary64, toBits, nan}
 use Rattle.nearest.specs.Near.{near}
-use Rattle.reals.specs.Prefix.{place-most, factor-at, factors, tenUp, tenDown, prefixes, unity}
-use Rattle.reals.proofs.prefix_factor.Statement.{statement}
-use Rattle.reals.proofs.prefix_factor.Tie as tie
+use Rattle.prefixes.specs.Prefix.{place-most, factor-at, factors, tenUp, tenDown, prefixes, unity}
+use Rattle.prefixes.proofs.prefix_factor.Statement.{statement}
+use Rattle.prefixes.proofs.prefix_factor.Tie as tie
 
 prefix-row-requires : tie.Need-prefix-row-requires
 prefix-row-requires c κs = search needs

@@ -1,9 +1,9 @@
 use borrow.Author.Needs.{needs}
-use Rattle.cases.proofs.answer.answer.Statement.{statement}
-use Rattle.cases.proofs.answer.answer.Tie as tie
-use Rattle.cases.proofs.answer.answer.Reads as reads
-use Rattle.cases.proofs.answer.answer.Lts as lts
-use Rattle.cases.proofs.answer.tables.Reads as tables-reads
+use Rattle.answers.proofs.answer.answer.Statement.{statement}
+use Rattle.answers.proofs.answer.answer.Tie as tie
+use Rattle.answers.proofs.answer.answer.Reads as reads
+use Rattle.answers.proofs.answer.answer.Lts as lts
+use Rattle.answers.proofs.answer.tables.Reads as tables-reads
 use Rattle.walks.proofs.walks.Reads as walks-reads
 
 -- src/answer.rt:22:11
