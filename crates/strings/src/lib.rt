@@ -7,8 +7,8 @@
 // length.
 ghost use mathlib.Core.Path.{_≡_};
 ghost use mathlib.Core.List.{[], _∷_};
-ghost use mathlib.Core.Bool.{false};
-ghost use Prim.Native.Nat.{_+_, _≤_, min};
+ghost use mathlib.Core.Bool.{true, false};
+ghost use Prim.Native.Nat.{_+_, _*_, _≤_, _<_, min};
 ghost use lib.Dec.{eqb};
 ghost use lib.ListN.{length, drop};
 ghost use Rattle.lex.specs.Byte.{pick};
@@ -16,9 +16,6 @@ ghost use Rattle.utf8.specs.Utf8.{byteAt, encodeAll};
 ghost use Rattle.strings.specs.Text.{hexDigit, hexValue, twoAt, twoOf, fourAt, fourOf, groupTwo, groupFour, groupOf, closing, plain, shown, joined, longOf, directiveOf, pieceOf, extended, groupsFrom, bytesOf};
 ghost use Rattle.strings.specs.Code.{toldGroup, oneView, viewOf, Moved, decodedOf, roomAfter, shownOf, toldText, answerOf};
 ghost use Rattle.strings.specs.Put.{most, Laid};
-
-// What a hex digit's place gives where no hex digit stands.
-const NO_DIGIT: u32 = 16;
 
 // The byte at a place, or 256, which is no byte, past the end.
 fn byte_at(s: &[u8], k: usize) -> u32
@@ -30,20 +27,27 @@ fn byte_at(s: &[u8], k: usize) -> u32
     256
 }
 
-// A hex digit's value, or 16.
-fn hex_value(b: u32) -> u32
-    ensures { λ r. ⌜ r ≡ pick (hexDigit b) (hexValue b) 16 ⌝ }
+// Whether a byte is a hex digit.
+fn is_hex(b: u32) -> bool
+    ensures { λ r. ⌜ r ≡ hexDigit b ⌝ }
 {
-    if (48 <= b) & (b <= 57) {
-        return b - 48;
-    }
-    if (65 <= b) & (b <= 70) {
-        return b - 55;
-    }
-    if (97 <= b) & (b <= 102) {
-        return b - 87;
-    }
-    NO_DIGIT
+    ((48 <= b) & (b <= 57)) | (((65 <= b) & (b <= 70)) | ((97 <= b) & (b <= 102)))
+}
+
+// A hex digit's value, without a jump: a processor cannot foresee which digits are letters.
+fn hex_value(b: u32) -> u32
+    requires { ⌜ hexDigit b ≡ true ⌝ }
+    ensures { λ r. ⌜ r ≡ hexValue b ⌝ }
+{
+    b % 16 + b / 64 * 9
+}
+
+// The number of two hex digits.
+fn pair_value(a: u32, b: u32) -> u32
+    requires { ⌜ (hexDigit a ≡ true) × (hexDigit b ≡ true) ⌝ }
+    ensures { λ r. ⌜ (r ≡ hexValue a * 16 + hexValue b) × (r < 256) ⌝ }
+{
+    hex_value(a) * 16 + hex_value(b)
 }
 
 // The number of two hex digits, or 256 where they are not.
@@ -51,23 +55,31 @@ fn hex_two(s: &[u8], k: usize) -> u32
     requires { ⌜ k ≤ 8 ⌝ }
     ensures { λ r. ⌜ r ≡ pick (twoAt (now (s .entry)) k) (twoOf (now (s .entry)) k) 256 ⌝ }
 {
-    let a = hex_value(byte_at(s, k));
-    let b = hex_value(byte_at(s, k + 1));
-    if (a < 16) & (b < 16) {
-        return a * 16 + b;
+    if s.len() < k + 2 {
+        return 256;
+    }
+    let a = s[k] as u32;
+    let b = s[k + 1] as u32;
+    if is_hex(a) & is_hex(b) {
+        return pair_value(a, b);
     }
     256
 }
 
-// The number of four hex digits, or 65536 where they are not.
+// The number of four hex digits, or 65536 where they are not: one test tells, once all four are read.
 fn hex_four(s: &[u8], k: usize) -> u32
     requires { ⌜ k ≤ 4 ⌝ }
     ensures { λ r. ⌜ r ≡ pick (fourAt (now (s .entry)) k) (fourOf (now (s .entry)) k) 65536 ⌝ }
 {
-    let a = hex_two(s, k);
-    let b = hex_two(s, k + 2);
-    if (a < 256) & (b < 256) {
-        return a * 256 + b;
+    if s.len() < k + 4 {
+        return 65536;
+    }
+    let a = s[k] as u32;
+    let b = s[k + 1] as u32;
+    let c = s[k + 2] as u32;
+    let d = s[k + 3] as u32;
+    if (is_hex(a) & is_hex(b)) & (is_hex(c) & is_hex(d)) {
+        return pair_value(a, b) * 256 + pair_value(c, d);
     }
     65536
 }
