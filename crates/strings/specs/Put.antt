@@ -4,12 +4,12 @@ use mathlib.Core.Path.{_≡_, refl, sym, _∙_, ap}
 use mathlib.Core.Bool.{Bool, true, false, _&&_, _||_}
 use mathlib.Core.List.{List, [], _∷_, _++_, append-assoc, append-nil}
 use native.Mathlib.Omega.{arith}
-use borrow.Author.Tests.{le-leb}
+use borrow.Author.Tests.{le-leb, leb-true}
 use lib.Dec.{leb}
 use lib.ListN.{length, take, drop, length-append, length-drop}
 use lib.Seq.{drop-drop, take-append-seam, drop-append-add}
 use Rattle.lex.specs.Byte.{pick}
-use Rattle.utf8.specs.Utf8.{encode, encodeAll, putAt}
+use Rattle.utf8.specs.Utf8.{encode, encodeAll, putAt, putWidth}
 
 -- the largest number of 64 bits
 abbrev pub most : ℕ
@@ -69,3 +69,12 @@ put-laid a o bs p e h k = record { counted = k; laid = go }
 pub put-one : (a : ℕ) (o : List ℕ) (c w e : ℕ) (p : List ℕ) → w ≡ length (encode c) → p ≡ putAt a (encode c) o → e ≡ min most (a + w) → Laid a o (encodeAll (c ∷ [])) e p
 unfolding encodeAll putAt
 put-one a o c w e p h k l = rw (append-nil (encode c)) (put-laid a o (encode c) p e k (l ∙ ap (λ (z : ℕ). min most (a + z)) h))
+
+-- a width that was put is the encoding's, and the encoding fits
+pub put-some : (a : ℕ) (o e : List ℕ) (u : ℕ) → u ≡ putWidth a e o → (u ≡ 0 → ⊥) → (u ≡ length e) × (a + u ≤ length o)
+unfolding putWidth
+put-some a o e u h n = go (leb (a + length e) (length o)) refl h
+  where
+    go : (t : Bool) → leb (a + length e) (length o) ≡ t → u ≡ pick t (length e) 0 → (u ≡ length e) × (a + u ≤ length o)
+    go true p k = let l = leb-true (a + length e) (length o) p in (k, omega arith)
+    go false p k = absurd (n k)

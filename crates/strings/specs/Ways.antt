@@ -15,15 +15,15 @@ use Rattle.strings.specs.Text
 use Rattle.strings.specs.declared.Char.{Char}
 use Rattle.strings.specs.Code.{View, viewOf, oneView, Moved}
 use Rattle.strings.specs.Put.{most, Laid, laid-nothing, laid-chars}
-use Rattle.strings.specs.Hex.{both, two-below}
+use Rattle.strings.specs.Hex.{both, found, missed, two-below}
 use Rattle.strings.specs.Steps.{is-within, piece-fits, text-goes, text-ends}
 
--- a number below its bound is one that is there
-pub bounded : (t : Bool) (w n v : ℕ) → (t ≡ true → w < n) → v ≡ pick t w n → ltb v n ≡ t
-bounded true w n v f e = lt-ltb v n (rw e (f refl))
-bounded false w n v f e = le-ltb v n (omega arith)
+-- two tests that fail together fail with a third
+and-false : (a b t : Bool) → a && b ≡ false → a && (b && t) ≡ false
+and-false true b t h = rw h refl
+and-false false b t h = refl
 
-module _ (s : List ℕ) (x y z v : ℕ) (ex : x ≡ byteAt s 1) (ey : y ≡ byteAt s 2) (ez : z ≡ byteAt s 3) (ev : v ≡ pick (Text.twoAt s 3) (Text.twoOf s 3) 256) where
+module _ (s : List ℕ) (x y z : ℕ) (ex : x ≡ byteAt s 1) (ey : y ≡ byteAt s 2) (ez : z ≡ byteAt s 3) where
   -- the byte after the backslash, as the code tests it
   first : (a : ℕ) (t : Bool) → eqb x a ≡ t → Text.is s 1 a ≡ t
   first a t h = rw (sym ex) h
@@ -39,12 +39,6 @@ module _ (s : List ℕ) (x y z v : ℕ) (ex : x ≡ byteAt s 1) (ey : y ≡ byte
   -- `S`, a backslash and a byte, as the code tests it
   shifted : (t : Bool) → eqb x 83 && (eqb y 92 && leb 4 (length s)) ≡ t → Text.is s 1 83 && (Text.is s 2 92 && leb 4 (length s)) ≡ t
   shifted t h = rw (sym ex, sym ey) h
-
-  -- `X`, a backslash and two hex digits, as the code tests it
-  octet : (t : Bool) → eqb x 88 && (eqb y 92 && ltb v 256) ≡ t → Text.is s 1 88 && (Text.is s 2 92 && Text.twoAt s 3) ≡ t
-  octet t h =
-      let u : ltb v 256 ≡ Text.twoAt s 3 = bounded (Text.twoAt s 3) (Text.twoOf s 3) 256 v (two-below s 3) ev in
-      rw (sym ex, sym ey, sym u) h
 
   -- "`\\` a backslash"
   pub is-backslash : eqb x 92 ≡ true → oneView 92 2 ≡ viewOf (Text.directiveOf s)
@@ -76,18 +70,27 @@ module _ (s : List ℕ) (x y z v : ℕ) (ex : x ≡ byteAt s 1) (ey : y ≡ byte
           is-shift h = rw (first 92 false n1, slashed 78 false n2, slashed 84 false n3, paged false n4, shifted true h, ez) refl
 
           module _ (n5 : eqb x 83 && (eqb y 92 && leb 4 (length s)) ≡ false) where
-            -- "`\X\HH` one octet"
-            pub is-octet : eqb x 88 && (eqb y 92 && ltb v 256) ≡ true → v < 256 → oneView v 5 ≡ viewOf (Text.directiveOf s)
-            unfolding Text.directiveOf
-            is-octet h k =
-                let t : Text.twoAt s 3 ≡ true = sym (bounded (Text.twoAt s 3) (Text.twoOf s 3) 256 v (two-below s 3) ev) ∙ lt-ltb v 256 k in
-                let w : v ≡ Text.twoOf s 3 = ev ∙ rw t refl in
-                rw (first 92 false n1, slashed 78 false n2, slashed 84 false n3, paged false n4, shifted false n5, octet true h, w) refl
+            module _ (v : ℕ) (ev : v ≡ pick (Text.twoAt s 3) (Text.twoOf s 3) 256) (h : eqb x 88 && eqb y 92 ≡ true) where
+              -- `X` and a backslash, as the code tests them
+              octet : (Text.is s 1 88 ≡ true) × (Text.is s 2 92 ≡ true)
+              octet = both (Text.is s 1 88) (Text.is s 2 92) (slashed 88 true h)
+
+              -- "`\X\HH` one octet"
+              pub is-octet : v < 256 → oneView v 5 ≡ viewOf (Text.directiveOf s)
+              unfolding Text.directiveOf
+              is-octet k =
+                  let f = found (Text.twoAt s 3) (Text.twoOf s 3) 256 v ev k in
+                  rw (first 92 false n1, slashed 78 false n2, slashed 84 false n3, paged false n4, shifted false n5, octet .0, octet .1, f .0, f .1) refl
+
+              -- no two hex digits
+              pub no-octet : 256 ≤ v → viewOf (Text.longOf s) ≡ viewOf (Text.directiveOf s)
+              unfolding Text.directiveOf
+              no-octet k = rw (first 92 false n1, slashed 78 false n2, slashed 84 false n3, paged false n4, shifted false n5, octet .0, octet .1, missed (Text.twoAt s 3) (Text.twoOf s 3) 256 v (two-below s 3) ev k) refl
 
             -- none of them
-            pub is-long : eqb x 88 && (eqb y 92 && ltb v 256) ≡ false → viewOf (Text.longOf s) ≡ viewOf (Text.directiveOf s)
+            pub is-long : eqb x 88 && eqb y 92 ≡ false → viewOf (Text.longOf s) ≡ viewOf (Text.directiveOf s)
             unfolding Text.directiveOf
-            is-long h = rw (first 92 false n1, slashed 78 false n2, slashed 84 false n3, paged false n4, shifted false n5, octet false h) refl
+            is-long h = rw (first 92 false n1, slashed 78 false n2, slashed 84 false n3, paged false n4, shifted false n5, and-false (Text.is s 1 88) (Text.is s 2 92) (Text.twoAt s 3) (slashed 88 false h)) refl
 
 module _ (s : List ℕ) (n0 : eqb (byteAt s 0) 92 ≡ false) (b d : ℕ) (eb : b ≡ byteAt s 0) (ed : d ≡ byteAt s 1) where
   -- two quotes, as the code tests it

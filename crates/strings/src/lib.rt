@@ -230,7 +230,6 @@ fn short(s: &[u8]) -> Char
     let x = byte_at(s, 1);
     let y = byte_at(s, 2);
     let z = byte_at(s, 3);
-    let v = hex_two(s, 3);
     if x == 92 {
         return Char { code: 92, used: 2 };
     }
@@ -252,8 +251,12 @@ fn short(s: &[u8]) -> Char
             used: 4,
         };
     }
-    if (x == 88) & ((y == 92) & (v < 256)) {
-        return Char { code: v, used: 5 };
+    if (x == 88) & (y == 92) {
+        let v = hex_two(s, 3);
+        if v < 256 {
+            return Char { code: v, used: 5 };
+        }
+        return Char { code: 0, used: 0 };
     }
     Char { code: 0, used: 0 }
 }
@@ -284,8 +287,11 @@ fn ordinary(s: &[u8]) -> Char
 fn put_char(out: &mut [u8], at: usize, code: u32) -> usize
     ensures { λ r. ⌜ Laid at (now (out .entry)) (encodeAll (code ∷ [])) r (now (out .exit)) ⌝ }
 {
+    let u = utf8::put(out, at, code);
+    if u != 0 {
+        return at + u;
+    }
     let w = utf8::width(code);
-    utf8::put(out, at, code);
     if 18446744073709551615 - at < w {
         return 18446744073709551615;
     }
