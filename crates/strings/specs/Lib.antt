@@ -3,6 +3,7 @@ pub mod Code
 pub mod Hex
 pub mod Put
 pub mod Steps
+pub mod Runs
 pub mod Ways
 pub mod Decoded
 pub mod Iso

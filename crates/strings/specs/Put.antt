@@ -7,7 +7,7 @@ use native.Mathlib.Omega.{arith}
 use borrow.Author.Tests.{le-leb, leb-true}
 use lib.Dec.{leb}
 use lib.ListN.{length, take, drop, length-append, length-drop}
-use lib.Seq.{drop-drop, take-append-seam, drop-append-add}
+use lib.Seq.{drop-drop, take-append-seam, drop-append-add, length-take-le, paste}
 use Rattle.lex.specs.Byte.{pick}
 use Rattle.utf8.specs.Utf8.{encode, encodeAll, putAt, putWidth}
 
@@ -78,3 +78,9 @@ put-some a o e u h n = go (leb (a + length e) (length o)) refl h
     go : (t : Bool) → leb (a + length e) (length o) ≡ t → u ≡ pick t (length e) 0 → (u ≡ length e) × (a + u ≤ length o)
     go true p k = let l = leb-true (a + length e) (length o) p in (k, omega arith)
     go false p k = absurd (n k)
+
+-- plain bytes put where they fit, and counted wherever they stand
+pub put-run : (a : ℕ) (o s : List ℕ) (n e : ℕ) (p : List ℕ) → n ≤ length s → p ≡ pick (leb (a + n) (length o)) (paste o a s n) o → e ≡ min most (a + n) → Laid a o (take n s) e p
+put-run a o s n e p h k l =
+    let w : length (take n s) ≡ n = length-take-le n s h in
+    put-laid a o (take n s) p e (rw w k) (rw w l)

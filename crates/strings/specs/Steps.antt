@@ -184,21 +184,6 @@ piece-fits s h =
     go (valid c k) e = used-within s c k e
     go invalid e = (omega arith, omega arith)
 
--- nothing is left: plain
-pub plain-ends : (s : List ℕ) (i : ℕ) → length s ≤ i → Text.plain (drop i s) ≡ true
-unfolding Text.plain
-plain-ends s i h = rw (drop-of-length-le s h) refl
-
--- a quote, a backslash or a high byte
-pub plain-stops : (s : List ℕ) (i : ℕ) → i < length s → eqb (getD s i 0) 39 || (eqb (getD s i 0) 92 || leb 128 (getD s i 0)) ≡ true → Text.plain (drop i s) ≡ false
-unfolding Text.plain
-plain-stops s i h e = rw (split s i h, e) refl
-
--- another byte
-pub plain-goes : (s : List ℕ) (i : ℕ) → i < length s → eqb (getD s i 0) 39 || (eqb (getD s i 0) 92 || leb 128 (getD s i 0)) ≡ false → Text.plain (drop i s) ≡ Text.plain (drop (i + 1) s)
-unfolding Text.plain
-plain-goes s i h e = rw (split s i h, e) refl
-
 -- the piece of a directive whose groups are read up to place i, the characters cs among them
 abbrev pub onward : List ℕ → ℕ → Text.Groups → Text.Piece
 onward cs i (Text.ended ds n) = Text.gives (cs ++ ds) (i + n)

@@ -6,16 +6,17 @@ use mathlib.Core.List.{List, [], _∷_, _++_, append-assoc, append-nil}
 use native.Mathlib.Omega.{arith}
 use borrow.Author.Tests.{ltb-true, lt-ltb, le-ltb, eq-eqb, ne-eqb}
 use lib.Dec.{eqb, leb, ltb}
-use lib.ListN.{length, drop, length-drop}
+use lib.ListN.{length, take, drop, length-drop}
 use lib.Seq.{drop-drop}
 use Rattle.lex.specs.Byte.{pick}
 use Rattle.utf8.specs.Utf8.{byteAt, Lead, valid, invalid, leadOf, codeOfLead, usedOfLead, encode, encodeAll}
 use Rattle.utf8.specs.Laws.{used-none, used-some}
 use Rattle.strings.specs.Text
 use Rattle.strings.specs.declared.Char.{Char}
-use Rattle.strings.specs.Code.{View, viewOf, oneView, Moved}
-use Rattle.strings.specs.Put.{most, Laid, laid-nothing, laid-chars}
+use Rattle.strings.specs.Code.{View, viewOf, oneView, Moved, Turned}
+use Rattle.strings.specs.Put.{most, Laid, laid-nothing, laid-then, laid-chars}
 use Rattle.strings.specs.Hex.{both, found, missed, two-below}
+use Rattle.strings.specs.Runs.{text-plain, encode-plain, bytes-plain}
 use Rattle.strings.specs.Steps.{is-within, piece-fits, text-goes, text-ends}
 
 -- two tests that fail together fail with a third
@@ -175,44 +176,54 @@ pub no-directive : (s : List ℕ) (b : ℕ) → b ≡ byteAt s 0 → (b ≡ 92 �
 no-directive s b e h = ne-eqb (byteAt s 0) 92 (λ k. h (e ∙ k))
 
 -- the text is read up to place i, and its characters put
-pub record Running (s o₀ : List ℕ) (i a : ℕ) (o : List ℕ) : Type 0 where
+pub record Running (s : List ℕ) (a₀ : ℕ) (o₀ : List ℕ) (i a : ℕ) (o : List ℕ) : Type 0 where
   pub done : List ℕ
   pub within : i ≤ length s
   pub ahead : Text.textOf s ≡ done ++ Text.textOf (drop i s)
-  pub put : Laid 0 o₀ (encodeAll done) a o
+  pub put : Laid a₀ o₀ (encodeAll done) a o
   pub kept : length o ≡ length o₀
 
 -- at the start
-pub running-starts : (s o : List ℕ) → Running s o 0 0 o
-running-starts s o = record { done = []; within = omega arith; ahead = refl; put = laid-nothing 0 o (omega arith); kept = refl }
+pub running-starts : (s : List ℕ) (a : ℕ) (o : List ℕ) → a ≤ most → Running s a o 0 a o
+running-starts s a o m = record { done = []; within = omega arith; ahead = refl; put = laid-nothing a o m; kept = refl }
 
--- a piece is read
-pub running-goes : (s o₀ : List ℕ) (i a : ℕ) (o t : List ℕ) (e k : ℕ) (p : List ℕ) → length o₀ ≤ most → i < length s → t ≡ drop i s → Running s o₀ i a o → Moved (Text.pieceOf t) a o e k p → length p ≡ length o → Running s o₀ (i + k) e p
-running-goes s o₀ i a o t e k p m h q r v j =
-    let n : 0 < length (drop i s) = omega (arith, length-drop i s) in
-    let w : k ≡ Text.pieceOf (drop i s) .used = v .read ∙ ap (λ (z : List ℕ). Text.pieceOf z .used) q in
-    let l : Laid a o (encodeAll (Text.pieceOf (drop i s) .chars)) e p = rw (sym q) (v .put) in
-    let f = piece-fits (drop i s) n in
-    let g : Text.textOf (drop i s) ≡ Text.pieceOf (drop i s) .chars ++ Text.textOf (drop k (drop i s)) = text-goes (drop i s) k n w (omega arith) in
+-- a piece and the plain bytes after it
+pub turned : (s : List ℕ) (a : ℕ) (o : List ℕ) (e k : ℕ) (p t : List ℕ) (n f : ℕ) (q : List ℕ) → length o ≤ most → 0 < length s → t ≡ drop k s → Moved (Text.pieceOf s) a o e k p → n ≤ length t → Text.plain (take n t) ≡ true → Laid e p (take n t) f q → Turned s a o f (k + n) q
+turned s a o e k p t n f q m h w v l g y =
+    let z = piece-fits s h in
+    let x : Text.textOf s ≡ Text.pieceOf s .chars ++ Text.textOf t = text-goes s k h (v .read) (omega (arith, v .read)) ∙ ap (λ (u : List ℕ). Text.pieceOf s .chars ++ Text.textOf u) (sym w) in
+    let d : drop n t ≡ drop (k + n) s = ap (drop n) w ∙ drop-drop n k s in
     record {
-      done = r .done ++ Text.pieceOf (drop i s) .chars;
-      within = omega (arith, length-drop i s);
-      ahead = r .ahead ∙ ap (λ (z : List ℕ). r .done ++ z) g ∙ sym (append-assoc (r .done) (Text.pieceOf (drop i s) .chars) (Text.textOf (drop k (drop i s)))) ∙ ap (λ (z : List ℕ). r .done ++ Text.pieceOf (drop i s) .chars ++ Text.textOf z) (drop-drop k i s);
-      put = laid-chars 0 o₀ (r .done) a o (Text.pieceOf (drop i s) .chars) e p m (r .put) l;
+      chars = Text.pieceOf s .chars ++ take n t;
+      put = laid-chars a o (Text.pieceOf s .chars) e p (take n t) f q m (v .put) (rw (encode-plain (take n t) g) y);
+      ahead = x ∙ ap (λ (u : List ℕ). Text.pieceOf s .chars ++ u) (text-plain n t l g) ∙ sym (append-assoc (Text.pieceOf s .chars) (take n t) (Text.textOf (drop n t))) ∙ ap (λ (u : List ℕ). Text.pieceOf s .chars ++ take n t ++ Text.textOf u) d;
+      some = omega (arith, v .read);
+      within = omega (arith, v .read, length-drop k s, ap length w);
+    }
+
+-- pieces are read
+pub running-goes : (s : List ℕ) (a₀ : ℕ) (o₀ : List ℕ) (i a : ℕ) (o t : List ℕ) (e k : ℕ) (p : List ℕ) → length o₀ ≤ most → t ≡ drop i s → Running s a₀ o₀ i a o → Turned t a o e k p → length p ≡ length o → Running s a₀ o₀ (i + k) e p
+running-goes s a₀ o₀ i a o t e k p m q r v j =
+    let d : drop k t ≡ drop (i + k) s = ap (drop k) q ∙ drop-drop k i s in
+    record {
+      done = r .done ++ v .chars;
+      within = omega (arith, length-drop i s, ap length q, v .within, v .some);
+      ahead = r .ahead ∙ ap (λ (z : List ℕ). r .done ++ Text.textOf z) (sym q) ∙ ap (λ (z : List ℕ). r .done ++ z) (v .ahead) ∙ sym (append-assoc (r .done) (v .chars) (Text.textOf (drop k t))) ∙ ap (λ (z : List ℕ). r .done ++ v .chars ++ Text.textOf z) d;
+      put = laid-chars a₀ o₀ (r .done) a o (v .chars) e p m (r .put) (v .put);
       kept = j ∙ r .kept;
     }
 
--- the bytes of a piece are there
-pub moved-fits : (s : List ℕ) (i a : ℕ) (o t : List ℕ) (e k : ℕ) (p : List ℕ) → i < length s → t ≡ drop i s → Moved (Text.pieceOf t) a o e k p → (0 < k) × (i + k ≤ length s)
-moved-fits s i a o t e k p h q v =
-    let n : 0 < length (drop i s) = omega (arith, length-drop i s) in
-    let w : k ≡ Text.pieceOf (drop i s) .used = v .read ∙ ap (λ (z : List ℕ). Text.pieceOf z .used) q in
-    let f = piece-fits (drop i s) n in
-    (omega arith, omega (arith, length-drop i s))
+-- the bytes of pieces are there
+pub turned-fits : (s : List ℕ) (i a : ℕ) (o t : List ℕ) (e k : ℕ) (p : List ℕ) → t ≡ drop i s → Turned t a o e k p → (0 < k) × (i + k ≤ length s)
+turned-fits s i a o t e k p q v = (v .some, omega (arith, length-drop i s, ap length q, v .within, v .some))
 
 -- no byte is left
-pub running-ends : (s o₀ : List ℕ) (i a : ℕ) (o : List ℕ) → length s ≤ i → Running s o₀ i a o → Laid 0 o₀ (Text.bytesOf s) a o
+pub running-ends : (s : List ℕ) (a₀ : ℕ) (o₀ : List ℕ) (i a : ℕ) (o : List ℕ) → length s ≤ i → Running s a₀ o₀ i a o → Laid a₀ o₀ (Text.bytesOf s) a o
 unfolding Text.bytesOf
-running-ends s o₀ i a o h r =
+running-ends s a₀ o₀ i a o h r =
     let e : Text.textOf s ≡ r .done = r .ahead ∙ ap (λ (z : List ℕ). r .done ++ z) (text-ends s i h) ∙ append-nil (r .done) in
     rw e (r .put)
+
+-- plain bytes, and the text after them
+pub run-whole : (s o : List ℕ) (n e : ℕ) (p t : List ℕ) (f : ℕ) (q : List ℕ) → length o ≤ most → n ≤ length s → Text.plain (take n s) ≡ true → t ≡ drop n s → Laid 0 o (take n s) e p → Laid e p (Text.bytesOf t) f q → Laid 0 o (Text.bytesOf s) f q
+run-whole s o n e p t f q m h g w x y = rw (bytes-plain n s h g, sym w) (laid-then 0 o (take n s) e p (Text.bytesOf t) f q m x y)

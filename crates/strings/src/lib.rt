@@ -10,11 +10,12 @@ ghost use mathlib.Core.List.{[], _∷_};
 ghost use mathlib.Core.Bool.{true, false};
 ghost use Prim.Native.Nat.{_+_, _*_, _≤_, _<_, min};
 ghost use lib.Dec.{eqb};
-ghost use lib.ListN.{length, drop};
+ghost use lib.ListN.{length, take, drop};
+ghost use lib.Seq.{paste};
 ghost use Rattle.lex.specs.Byte.{pick};
 ghost use Rattle.utf8.specs.Utf8.{byteAt, encodeAll};
 ghost use Rattle.strings.specs.Text.{hexDigit, hexValue, twoAt, twoOf, fourAt, fourOf, groupTwo, groupFour, groupOf, closing, plain, shown, joined, longOf, directiveOf, pieceOf, extended, groupsFrom, bytesOf};
-ghost use Rattle.strings.specs.Code.{toldGroup, oneView, viewOf, Moved, decodedOf, roomAfter, shownOf, toldText, answerOf};
+ghost use Rattle.strings.specs.Code.{toldGroup, oneView, viewOf, Moved, Passed, Turned, decodedOf, roomAfter, shownOf, toldText, answerOf};
 ghost use Rattle.strings.specs.Put.{most, Laid};
 
 // The byte at a place, or 256, which is no byte, past the end.
@@ -179,7 +180,7 @@ fn closing_len(s: &[u8]) -> usize
 // Whether one of 64 bytes is not the text as it stands. It only notes one, so that the compiler takes many bytes at a time.
 fn block_differs(s: &[u8], at: usize) -> bool
     requires { ⌜ at + 64 ≤ length (now s) ⌝ }
-    ensures { λ r. ⌜ (r ≡ false → plain (drop at (now (s .entry))) ≡ plain (drop (at + 64) (now (s .entry)))) ⌝ }
+    ensures { λ r. ⌜ (r ≡ false → plain (take at (now (s .entry))) ≡ true → plain (take (at + 64) (now (s .entry))) ≡ true) ⌝ }
 {
     let mut hit = false;
     let mut k = 0;
@@ -191,11 +192,12 @@ fn block_differs(s: &[u8], at: usize) -> bool
     hit
 }
 
-// Past the blocks of 64 bytes that are the text as they stand, from the start on.
-fn plain_blocks(s: &[u8]) -> usize
-    ensures { λ r. ⌜ (plain (now (s .entry)) ≡ plain (drop r (now (s .entry)))) × (r ≤ length (now (s .entry))) ⌝ }
+// Past the blocks of 64 bytes that are the text as they stand, from a place on.
+fn plain_blocks(s: &[u8], from: usize) -> usize
+    requires { ⌜ (from ≤ length (now s)) × (plain (take from (now s)) ≡ true) ⌝ }
+    ensures { λ r. ⌜ (r ≤ length (now (s .entry))) × (plain (take r (now (s .entry))) ≡ true) ⌝ }
 {
-    let mut i = 0;
+    let mut i = from;
     while s.len() - i >= 64 {
         if block_differs(s, i) {
             return i;
@@ -205,19 +207,70 @@ fn plain_blocks(s: &[u8]) -> usize
     i
 }
 
-// Whether the bytes are the text as they stand.
-fn is_plain(s: &[u8]) -> bool
-    ensures { λ r. ⌜ r ≡ plain (now (s .entry)) ⌝ }
+// Past the bytes that are the text as they stand, one by one from a place up to another.
+fn plain_to(s: &[u8], from: usize, to: usize) -> usize
+    requires { ⌜ (from ≤ to) × (to ≤ length (now s)) × (plain (take from (now s)) ≡ true) ⌝ }
+    ensures { λ r. ⌜ Passed (now (s .entry)) to r ⌝ }
 {
-    let mut i = plain_blocks(s);
-    while i < s.len() {
+    let mut i = from;
+    while i < to {
         let b = s[i];
         if (b == 39) | ((b == 92) | (128 <= b)) {
-            return false;
+            return i;
         }
         i += 1;
     }
-    true
+    i
+}
+
+// How many bytes from the start on are the text as they stand. A short run is found without the blocks.
+fn plain_len(s: &[u8]) -> usize
+    ensures { λ r. ⌜ Passed (now (s .entry)) (length (now (s .entry))) r ⌝ }
+{
+    let n = s.len();
+    if n < 64 {
+        return plain_to(s, 0, n);
+    }
+    let i = plain_to(s, 0, 16);
+    if i < 16 {
+        return i;
+    }
+    plain_to(s, plain_blocks(s, i), n)
+}
+
+// Copies the first bytes of a part of the file to a place of the room, where they fit.
+fn copy(s: &[u8], n: usize, out: &mut [u8], at: usize)
+    requires { ⌜ (n ≤ length (now s)) × (at + n ≤ length (now out)) ⌝ }
+    ensures { λ _. ⌜ now (out .exit) ≡ paste (now (out .entry)) at (now (s .entry)) n ⌝ }
+{
+    let mut k = 0;
+    while k < n {
+        out[at + k] = s[k];
+        k += 1;
+    }
+}
+
+// A place so many bytes further; the largest number where that is none.
+fn plus(at: usize, n: usize) -> usize
+    ensures { λ r. ⌜ r ≡ min most (at + n) ⌝ }
+{
+    if 18446744073709551615 - at < n {
+        return 18446744073709551615;
+    }
+    at + n
+}
+
+// Puts the first bytes where they fit, and counts them wherever they stand.
+fn lay(s: &[u8], n: usize, out: &mut [u8], at: usize) -> usize
+    requires { ⌜ n ≤ length (now s) ⌝ }
+    ensures { λ r. ⌜ Laid at (now (out .entry)) (take n (now (s .entry))) r (now (out .exit)) ⌝ }
+{
+    let end = plus(at, n);
+    if end <= out.len() {
+        copy(s, n, out, at);
+        return end;
+    }
+    end
 }
 
 // A number that is no character: it has no encoding.
@@ -291,11 +344,7 @@ fn put_char(out: &mut [u8], at: usize, code: u32) -> usize
     if u != 0 {
         return at + u;
     }
-    let w = utf8::width(code);
-    if 18446744073709551615 - at < w {
-        return 18446744073709551615;
-    }
-    at + w
+    plus(at, utf8::width(code))
 }
 
 // The bytes counted so far, and how many bytes of the string were read for a piece.
@@ -376,18 +425,42 @@ fn step(s: &[u8], out: &mut [u8], at: usize) -> Reached
     }
 }
 
-// Counts the bytes of the text, and writes them where they fit.
-fn run(raw: &[u8], out: &mut [u8]) -> usize
-    ensures { λ r. ⌜ Laid 0 (now (out .entry)) (bytesOf (now (raw .entry))) r (now (out .exit)) ⌝ }
+// A piece of the text and the plain bytes after it.
+fn turn(s: &[u8], out: &mut [u8], at: usize) -> Reached
+    requires { ⌜ 0 < length (now s) ⌝ }
+    ensures { λ r. ⌜ Turned (now (s .entry)) at (now (out .entry)) (r .at) (r .used) (now (out .exit)) ⌝ }
 {
-    let mut at = 0;
+    let r = step(s, out, at);
+    let used = r.used;
+    let t = &s[used..];
+    let n = plain_len(t);
+    Reached {
+        at: lay(t, n, out, r.at),
+        used: used + n,
+    }
+}
+
+// Counts the bytes of the text behind so many, and writes them where they fit.
+fn turns(s: &[u8], out: &mut [u8], from: usize) -> usize
+    ensures { λ r. ⌜ Laid from (now (out .entry)) (bytesOf (now (s .entry))) r (now (out .exit)) ⌝ }
+{
+    let mut at = from;
     let mut i = 0;
-    while i < raw.len() {
-        let r = step(&raw[i..], out, at);
+    while i < s.len() {
+        let r = turn(&s[i..], out, at);
         at = r.at;
         i += r.used;
     }
     at
+}
+
+// Counts the bytes of the text, whose first bytes are plain, and writes them where they fit.
+fn run(raw: &[u8], n: usize, out: &mut [u8]) -> usize
+    requires { ⌜ (n ≤ length (now raw)) × (plain (take n (now raw)) ≡ true) ⌝ }
+    ensures { λ r. ⌜ Laid 0 (now (out .entry)) (bytesOf (now (raw .entry))) r (now (out .exit)) ⌝ }
+{
+    let at = lay(raw, n, out, 0);
+    turns(&raw[n..], out, at)
 }
 
 // Where a string's text is: it is the string's bytes, or so many bytes of the lent room; or the room is too short.
@@ -401,8 +474,9 @@ pub enum Decoded {
 pub fn text_length(raw: &[u8]) -> usize
     ensures { λ r. ⌜ r ≡ min most (length (bytesOf (now (raw .entry)))) ⌝ }
 {
+    let p = plain_len(raw);
     let mut none = [0u8; 1];
-    run(raw, &mut none)
+    run(raw, p, &mut none)
 }
 
 // Finds a string's text, and writes it where it is not the string itself and fits.
@@ -411,14 +485,15 @@ pub fn decode_string(raw: &[u8], out: &mut [u8]) -> Decoded
     ensures { λ _. ⌜ now (out .exit) ≡ roomAfter (now (raw .entry)) (now (out .entry)) ⌝ }
     ensures { λ r. ⌜ toldText (now (raw .entry)) (now (out .exit)) r ≡ answerOf (now (raw .entry)) (length (now (out .entry))) ⌝ }
 {
-    if is_plain(raw) {
+    let p = plain_len(raw);
+    if p == raw.len() {
         return Decoded::Plain;
     }
     let n = text_length(raw);
     if out.len() < n {
         return Decoded::Short;
     }
-    run(raw, out);
+    run(raw, p, out);
     Decoded::Written(n)
 }
 

@@ -1,4 +1,5 @@
 use native.Mathlib.Omega.{arith}
+use mathlib.Core.Path.{_∙_, ap}
 use denote.Ref.{now}
 use Rattle.utf8.specs.Utf8.{encode}
 use Rattle.strings.specs.Put.{put-one, put-some}
@@ -7,14 +8,15 @@ use Rattle.strings.proofs.put_char.Statement.{statement}
 use Rattle.strings.proofs.put_char.Tie as tie
 use Rattle.strings.proofs.put_char.Reads as reads
 use Rattle.strings.proofs.put_char.Lts as lts
+use Rattle.strings.proofs.plus.Reads as plus-reads
 use Rattle.utf8.proofs.put.Reads as put-reads
 use Rattle.utf8.proofs.width.Reads as width-reads
 
--- src/lib.rt:290:9
+-- src/lib.rt:343:9
 put-requires : tie.Need-put-requires
 put-requires c κs = search needs
 
--- src/lib.rt:292:16
+-- src/lib.rt:345:16
 add-result : tie.Need-add-result
 add-result c =
     let p = c .before .before .before in
@@ -22,11 +24,11 @@ add-result c =
     let u = put-some (a .at) (now (a .out)) (encode (a .code)) (p .put .result) (p .put .ensures .0) (omega arith) in
     omega arith
 
--- src/lib.rt:292:9
+-- src/lib.rt:345:9
 same-length : tie.Need-same-length
 same-length c = search needs
 
--- src/lib.rt:292:9
+-- src/lib.rt:345:9
 returns : tie.Need-returns
 returns c =
     let p = c .before .before .before in
@@ -34,39 +36,24 @@ returns c =
     let u = put-some (a .at) (now (a .out)) (encode (a .code)) (p .put .result) (p .put .ensures .0) (omega arith) in
     put-one (a .at) (now (a .out)) (a .code) (p .put .result) _ (p .put .last .0) (u .0) (p .put .ensures .1) (omega arith)
 
--- src/lib.rt:294:9
+-- src/lib.rt:347:14
 width-requires : tie.Need-width-requires
 width-requires c κs = search needs
 
--- src/lib.rt:295:8
-sub-if2 : tie.Need-sub-if2
-sub-if2 c = search needs
+-- src/lib.rt:347:5
+plus-requires : tie.Need-plus-requires
+plus-requires c κs = search needs
 
--- src/lib.rt:296:9
+-- src/lib.rt:340:1
 same-length-2 : tie.Need-same-length-2
 same-length-2 c = search needs
 
--- src/lib.rt:296:9
+-- src/lib.rt:340:1
 returns-2 : tie.Need-returns-2
 returns-2 c =
     let p = c .before .before .before .before .before in
     let a = p .before .before .before .args in
-    put-one (a .at) (now (a .out)) (a .code) (c .before .width .result) 18446744073709551615 (p .put .last .0) (c .before .width .ensures) (p .put .ensures .1) (omega arith)
-
--- src/lib.rt:298:5
-add-result-2 : tie.Need-add-result-2
-add-result-2 c = search needs
-
--- src/lib.rt:287:1
-same-length-3 : tie.Need-same-length-3
-same-length-3 c = search needs
-
--- src/lib.rt:287:1
-returns-3 : tie.Need-returns-3
-returns-3 c =
-    let p = c .before .before .before .before .before in
-    let a = p .before .before .before .args in
-    put-one (a .at) (now (a .out)) (a .code) (c .before .width .result) _ (p .put .last .0) (c .before .width .ensures) (p .put .ensures .1) (omega arith)
+    put-one (a .at) (now (a .out)) (a .code) (c .before .width .result) _ (p .put .last .0) (c .before .width .ensures) (p .put .ensures .1) (c .plus .ensures)
 
 pub put-char-spec : {M : Type 1} → statement M
 put-char-spec =
@@ -77,9 +64,6 @@ put-char-spec =
     same-length
     returns
     width-requires
-    sub-if2
+    plus-requires
     same-length-2
-    returns-2
-    add-result-2
-    same-length-3
-    returns-3)
+    returns-2)
