@@ -4,6 +4,7 @@ pub mod Hex
 pub mod Put
 pub mod Steps
 pub mod Runs
+pub mod Ample
 pub mod Ways
 pub mod Decoded
 pub mod Iso

@@ -1,8 +1,9 @@
 // The text of a string: document 01's 'Strings', as the Rust's decode_string.
 //
-// A text without a quote, a backslash or a high byte is shown as it stands in the file. Any other is put into lent room, in UTF-8: a
-// first run counts its bytes and a second one writes them, so that a room that is too short keeps what it had. A piece of the text is
-// read from a slice that starts at it and is not looked at again, but for the groups before a bad one: these are hex digits alone,
+// A text without a quote, a backslash or a high byte is shown as it stands in the file. Any other is put into lent room, in UTF-8: at
+// once where the room has twice the string's bytes, which no text exceeds (specs/Ample.antt), and else a first run counts its bytes and a
+// second one writes them, so that a room that is too short keeps what it had. Plain bytes are passed a run at a time. A piece of the text
+// is read from a slice that starts at it and is not looked at again, but for the groups before a bad one: these are hex digits alone,
 // and no directive begins with a backslash and a hex digit, so that they are read twice and no more, and the time grows with the
 // length.
 ghost use mathlib.Core.Path.{_≡_};
@@ -488,6 +489,10 @@ pub fn decode_string(raw: &[u8], out: &mut [u8]) -> Decoded
     let p = plain_len(raw);
     if p == raw.len() {
         return Decoded::Plain;
+    }
+    if raw.len() <= out.len() / 2 {
+        let n = run(raw, p, out);
+        return Decoded::Written(n);
     }
     let n = text_length(raw);
     if out.len() < n {

@@ -1,7 +1,7 @@
 use native.Mathlib.Omega.{arith}
 use denote.Ref.{now}
 use Rattle.strings.specs.Runs.{plain-whole}
-use Rattle.strings.specs.Decoded.{decoded-plain, decoded-short, decoded-written}
+use Rattle.strings.specs.Decoded.{decoded-plain, decoded-short, decoded-written, decoded-ample}
 use borrow.Author.Needs.{needs}
 use Rattle.strings.proofs.decode_string.Statement.{statement}
 use Rattle.strings.proofs.decode_string.Tie as tie
@@ -19,35 +19,58 @@ plain-len-requires c κs = search needs
 returns : tie.Need-returns
 returns c =
     let k = c .before in
-    let a = k .before .before .before .args in
-    decoded-plain (now (a .raw)) (now (a .out)) (plain-whole (now (a .raw)) (k .plain-len .result) (omega arith) (k .plain-len .ensures .plainly))
+    let b = k .before .before .before in
+    let s = now (b .args .raw) in
+    let o = now (b .args .out) in
+    decoded-plain s o (plain-whole s (k .plain-len .result) (omega arith) (k .plain-len .ensures .plainly))
 
--- src/lib.rt:492:9
-text-length-requires : tie.Need-text-length-requires
-text-length-requires c κs = search needs
+-- src/lib.rt:493:13
+run-requires : tie.Need-run-requires
+run-requires c κs = search needs
+
+-- src/lib.rt:494:9
+same-length : tie.Need-same-length
+same-length c = search needs
 
 -- src/lib.rt:494:9
 returns-2 : tie.Need-returns-2
 returns-2 c =
-    let k = c .before .before .before in
-    let a = k .before .before .before .args in
-    decoded-short (now (a .raw)) (now (a .out)) (c .before .text-length .result) (k .plain-len .ensures .stops (omega (arith, k .plain-len .ensures .within))) (c .before .text-length .ensures) (omega arith)
+    let k = c .before .before .before .before .before .before in
+    let b = k .before .before .before in
+    let s = now (b .args .raw) in
+    let o = now (b .args .out) in
+    decoded-ample s o (c .before .before .run .last .1 .1 .0) (c .before .before .run .result) (k .plain-len .ensures .stops (omega (arith, k .plain-len .ensures .within))) (λ i. omega (arith, k .before .before .shared-slice-known .given i)) (omega arith) (omega (arith, b .good .1 .0 .1)) (c .before .before .run .ensures)
 
--- src/lib.rt:496:5
-run-requires : tie.Need-run-requires
-run-requires c κs = search needs
+-- src/lib.rt:496:9
+text-length-requires : tie.Need-text-length-requires
+text-length-requires c κs = search needs
 
--- src/lib.rt:483:1
-same-length : tie.Need-same-length
-same-length c = search needs
-
--- src/lib.rt:483:1
+-- src/lib.rt:498:9
 returns-3 : tie.Need-returns-3
 returns-3 c =
-    let t = c .before .before .before .before .before in
-    let k = t .before .before in
+    let k = c .before .before .before .before in
     let b = k .before .before .before in
-    decoded-written (now (b .args .raw)) (now (b .args .out)) (c .before .before .run .last .1 .1 .0) (t .text-length .result) _ (k .plain-len .ensures .stops (omega (arith, k .plain-len .ensures .within))) (t .text-length .ensures) (omega arith) (omega (arith, b .good .1 .0 .1)) (c .before .before .run .ensures)
+    let s = now (b .args .raw) in
+    let o = now (b .args .out) in
+    decoded-short s o (c .before .text-length .result) (k .plain-len .ensures .stops (omega (arith, k .plain-len .ensures .within))) (c .before .text-length .ensures) (omega arith)
+
+-- src/lib.rt:500:5
+run-requires-2 : tie.Need-run-requires-2
+run-requires-2 c κs = search needs
+
+-- src/lib.rt:483:1
+same-length-2 : tie.Need-same-length-2
+same-length-2 c = search needs
+
+-- src/lib.rt:483:1
+returns-4 : tie.Need-returns-4
+returns-4 c =
+    let k = c .before .before .before .before .before .before .before .before in
+    let b = k .before .before .before in
+    let s = now (b .args .raw) in
+    let o = now (b .args .out) in
+    let t = c .before .before .before .before .before in
+    decoded-written s o (c .before .before .run2 .last .1 .1 .0) (t .text-length .result) _ (k .plain-len .ensures .stops (omega (arith, k .plain-len .ensures .within))) (t .text-length .ensures) (omega arith) (omega (arith, b .good .1 .0 .1)) (c .before .before .run2 .ensures)
 
 pub decode-string-spec : {M : Type 1} → statement M
 decode-string-spec =
@@ -55,8 +78,11 @@ decode-string-spec =
     (tie.spec
     plain-len-requires
     returns
-    text-length-requires
-    returns-2
     run-requires
     same-length
-    returns-3)
+    returns-2
+    text-length-requires
+    returns-3
+    run-requires-2
+    same-length-2
+    returns-4)
