@@ -41,6 +41,12 @@ pub record Passed (s : List ℕ) (to n : ℕ) : Type 0 where
   pub plainly : plain (take n s) ≡ true
   pub stops : n < to → plain s ≡ false
 
+-- plain bytes at the start are put from place a on
+pub record Ran (s : List ℕ) (a : ℕ) (o : List ℕ) (e k : ℕ) (q : List ℕ) : Type 0 where
+  pub within : k ≤ length s
+  pub plainly : plain (take k s) ≡ true
+  pub put : Laid a o (take k s) e q
+
 -- pieces have been read, at least one byte of them: their bytes are put from place a on, and the text goes on k bytes further
 pub record Turned (s : List ℕ) (a : ℕ) (o : List ℕ) (e k : ℕ) (q : List ℕ) : Type 0 where
   pub chars : List ℕ

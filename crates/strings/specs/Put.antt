@@ -4,10 +4,11 @@ use mathlib.Core.Path.{_≡_, refl, sym, _∙_, ap}
 use mathlib.Core.Bool.{Bool, true, false, _&&_, _||_}
 use mathlib.Core.List.{List, [], _∷_, _++_, append-assoc, append-nil}
 use native.Mathlib.Omega.{arith}
+use native.Mathlib.Numerals.{add-one}
 use borrow.Author.Tests.{le-leb, leb-true}
 use lib.Dec.{leb}
-use lib.ListN.{length, take, drop, length-append, length-drop}
-use lib.Seq.{drop-drop, take-append-seam, drop-append-add, length-take-le, paste}
+use lib.ListN.{length, take, drop, set, getD, length-append, length-drop}
+use lib.Seq.{drop-drop, take-append-seam, drop-append-add, length-take-le, paste, paste-zero, paste-suc}
 use Rattle.lex.specs.Byte.{pick}
 use Rattle.utf8.specs.Utf8.{encode, encodeAll, putAt, putWidth}
 
@@ -84,3 +85,12 @@ pub put-run : (a : ℕ) (o s : List ℕ) (n e : ℕ) (p : List ℕ) → n ≤ le
 put-run a o s n e p h k l =
     let w : length (take n s) ≡ n = length-take-le n s h in
     put-laid a o (take n s) p e (rw w k) (rw w l)
+
+-- a turn of a loop that copies
+pub paste-more : (o : List ℕ) (a : ℕ) (s : List ℕ) (k : ℕ) (p : List ℕ) → a + k < length o → k < length s → p ≡ paste o a s k → set p (a + k) (getD s k 0) ≡ paste o a s (k + 1)
+paste-more o a s k p h l e = rw (add-one, e) (paste-suc o a s k 0 h l)
+
+-- plain bytes that fit are put
+pub put-part : (a : ℕ) (o s : List ℕ) (k : ℕ) (p : List ℕ) → a ≤ most → length o ≤ most → k ≤ length s → k ≤ length o - a → p ≡ paste o a s k → Laid a o (take k s) (a + k) p
+put-part a o s zero p m n h l e = let q : a + 0 ≡ a = omega arith in rw (q, e ∙ sym (paste-zero o a s)) (laid-none a o m)
+put-part a o s (suc k) p m n h l e = put-run a o s (suc k) (a + suc k) p h (rw (le-leb (a + suc k) (length o) (omega arith)) e) (omega arith)

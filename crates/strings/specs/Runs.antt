@@ -7,14 +7,15 @@ use native.Mathlib.Omega.{arith}
 use native.Mathlib.Numerals.{add-one}
 use borrow.Author.Tests.{leb-false, lt-ltb}
 use lib.Dec.{eqb, leb, ltb}
-use lib.ListN.{length, take, drop, getD}
-use lib.Seq.{take-all}
+use lib.ListN.{length, take, drop, getD, length-drop}
+use lib.Seq.{take-all, take-add}
 use Rattle.lex.specs.Byte.{pick}
 use Rattle.utf8.specs.Utf8.{encode, encodeAll}
 use Rattle.utf8.specs.Laws.{encode-one}
 use Rattle.strings.specs.Text
 use Rattle.strings.specs.Hex.{neither}
-use Rattle.strings.specs.Put.{encode-append}
+use Rattle.strings.specs.Put.{most, Laid, laid-then, encode-append}
+use Rattle.strings.specs.Code.{Ran}
 use Rattle.strings.specs.Steps.{text-goes}
 
 -- a quote, a backslash or a high byte
@@ -69,6 +70,22 @@ plain-hit (b ∷ r) (suc i) h e = go (special b) (plain-hit r i (omega arith) e)
 -- plain up to the end is plain
 pub plain-whole : (s : List ℕ) (n : ℕ) → length s ≤ n → Text.plain (take n s) ≡ true → Text.plain s ≡ true
 plain-whole s n h p = rw (take-all n s h) at p
+
+-- plain bytes, and then further plain bytes
+plain-append : (xs ys : List ℕ) → Text.plain xs ≡ true → Text.plain ys ≡ true → Text.plain (xs ++ ys) ≡ true
+unfolding Text.plain
+plain-append [] ys p q = q
+plain-append (b ∷ r) ys p q = let z = plain-parts b r p in rw (z .0) (plain-append r ys (z .1) q)
+
+-- a run is put, and then the rest of it
+pub ran-on : (s : List ℕ) (a : ℕ) (o : List ℕ) (k e : ℕ) (p t : List ℕ) (n f : ℕ) (q : List ℕ) → length o ≤ most → k ≤ length s → t ≡ drop k s → Text.plain (take k s) ≡ true → Laid a o (take k s) e p → n ≤ length t → Text.plain (take n t) ≡ true → Laid e p (take n t) f q → Ran s a o f (k + n) q
+ran-on s a o k e p t n f q m h w g x l i y =
+    let z : take (k + n) s ≡ take k s ++ take n t = take-add k n s ∙ ap (λ (u : List ℕ). take k s ++ take n u) (sym w) in
+    record {
+      within = omega (arith, length-drop k s, ap length w);
+      plainly = rw z (plain-append (take k s) (take n t) g i);
+      put = rw z (laid-then a o (take k s) e p (take n t) f q m x y);
+    }
 
 -- plain bytes are their own characters, and the text goes on after them
 pub text-plain : (n : ℕ) (s : List ℕ) → n ≤ length s → Text.plain (take n s) ≡ true → Text.textOf s ≡ take n s ++ Text.textOf (drop n s)

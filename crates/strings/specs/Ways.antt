@@ -13,7 +13,7 @@ use Rattle.utf8.specs.Utf8.{byteAt, Lead, valid, invalid, leadOf, codeOfLead, u
 use Rattle.utf8.specs.Laws.{used-none, used-some}
 use Rattle.strings.specs.Text
 use Rattle.strings.specs.declared.Char.{Char}
-use Rattle.strings.specs.Code.{View, viewOf, oneView, Moved, Turned}
+use Rattle.strings.specs.Code.{View, viewOf, oneView, Moved, Ran, Turned}
 use Rattle.strings.specs.Put.{most, Laid, laid-nothing, laid-then, laid-chars}
 use Rattle.strings.specs.Hex.{both, found, missed, two-below}
 use Rattle.strings.specs.Runs.{text-plain, encode-plain, bytes-plain}
@@ -188,17 +188,17 @@ pub running-starts : (s : List ℕ) (a : ℕ) (o : List ℕ) → a ≤ most → 
 running-starts s a o m = record { done = []; within = omega arith; ahead = refl; put = laid-nothing a o m; kept = refl }
 
 -- a piece and the plain bytes after it
-pub turned : (s : List ℕ) (a : ℕ) (o : List ℕ) (e k : ℕ) (p t : List ℕ) (n f : ℕ) (q : List ℕ) → length o ≤ most → 0 < length s → t ≡ drop k s → Moved (Text.pieceOf s) a o e k p → n ≤ length t → Text.plain (take n t) ≡ true → Laid e p (take n t) f q → Turned s a o f (k + n) q
-turned s a o e k p t n f q m h w v l g y =
+pub turned : (s : List ℕ) (a : ℕ) (o : List ℕ) (e k : ℕ) (p t : List ℕ) (n f : ℕ) (q : List ℕ) → length o ≤ most → 0 < length s → t ≡ drop k s → Moved (Text.pieceOf s) a o e k p → Ran t e p f n q → Turned s a o f (k + n) q
+turned s a o e k p t n f q m h w v y =
     let z = piece-fits s h in
     let x : Text.textOf s ≡ Text.pieceOf s .chars ++ Text.textOf t = text-goes s k h (v .read) (omega (arith, v .read)) ∙ ap (λ (u : List ℕ). Text.pieceOf s .chars ++ Text.textOf u) (sym w) in
     let d : drop n t ≡ drop (k + n) s = ap (drop n) w ∙ drop-drop n k s in
     record {
       chars = Text.pieceOf s .chars ++ take n t;
-      put = laid-chars a o (Text.pieceOf s .chars) e p (take n t) f q m (v .put) (rw (encode-plain (take n t) g) y);
-      ahead = x ∙ ap (λ (u : List ℕ). Text.pieceOf s .chars ++ u) (text-plain n t l g) ∙ sym (append-assoc (Text.pieceOf s .chars) (take n t) (Text.textOf (drop n t))) ∙ ap (λ (u : List ℕ). Text.pieceOf s .chars ++ take n t ++ Text.textOf u) d;
+      put = laid-chars a o (Text.pieceOf s .chars) e p (take n t) f q m (v .put) (rw (encode-plain (take n t) (y .plainly)) (y .put));
+      ahead = x ∙ ap (λ (u : List ℕ). Text.pieceOf s .chars ++ u) (text-plain n t (y .within) (y .plainly)) ∙ sym (append-assoc (Text.pieceOf s .chars) (take n t) (Text.textOf (drop n t))) ∙ ap (λ (u : List ℕ). Text.pieceOf s .chars ++ take n t ++ Text.textOf u) d;
       some = omega (arith, v .read);
-      within = omega (arith, v .read, length-drop k s, ap length w);
+      within = omega (arith, v .read, length-drop k s, ap length w, y .within);
     }
 
 -- pieces are read

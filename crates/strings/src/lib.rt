@@ -9,14 +9,14 @@
 ghost use mathlib.Core.Path.{_≡_};
 ghost use mathlib.Core.List.{[], _∷_};
 ghost use mathlib.Core.Bool.{true, false};
-ghost use Prim.Native.Nat.{_+_, _*_, _≤_, _<_, min};
+ghost use Prim.Native.Nat.{_+_, _*_, _-_, _≤_, _<_, min};
 ghost use lib.Dec.{eqb};
 ghost use lib.ListN.{length, take, drop};
 ghost use lib.Seq.{paste};
 ghost use Rattle.lex.specs.Byte.{pick};
 ghost use Rattle.utf8.specs.Utf8.{byteAt, encodeAll};
 ghost use Rattle.strings.specs.Text.{hexDigit, hexValue, twoAt, twoOf, fourAt, fourOf, groupTwo, groupFour, groupOf, closing, plain, shown, joined, longOf, directiveOf, pieceOf, extended, groupsFrom, bytesOf};
-ghost use Rattle.strings.specs.Code.{toldGroup, oneView, viewOf, Moved, Passed, Turned, decodedOf, roomAfter, shownOf, toldText, answerOf};
+ghost use Rattle.strings.specs.Code.{toldGroup, oneView, viewOf, Moved, Passed, Ran, Turned, decodedOf, roomAfter, shownOf, toldText, answerOf};
 ghost use Rattle.strings.specs.Put.{most, Laid};
 
 // The byte at a place, or 256, which is no byte, past the end.
@@ -426,6 +426,57 @@ fn step(s: &[u8], out: &mut [u8], at: usize) -> Reached
     }
 }
 
+// How many of so many bytes fit from a place on.
+fn fitting(room: usize, at: usize, n: usize) -> usize
+    ensures { λ r. ⌜ (r ≤ n) × (r ≤ room - at) ⌝ }
+{
+    if room < at {
+        return 0;
+    }
+    if n < room - at {
+        return n;
+    }
+    room - at
+}
+
+// Copies plain bytes up to one that is not, or so many.
+fn follow(s: &[u8], m: usize, out: &mut [u8], at: usize) -> usize
+    requires { ⌜ (m ≤ length (now s)) × (m ≤ length (now out) - at) ⌝ }
+    ensures { λ r. ⌜ (r ≤ m) × (plain (take r (now (s .entry))) ≡ true) × (now (out .exit) ≡ paste (now (out .entry)) at (now (s .entry)) r) ⌝ }
+{
+    let mut k = 0;
+    while k < m {
+        let b = s[k];
+        if (b == 39) | ((b == 92) | (128 <= b)) {
+            return k;
+        }
+        out[at + k] = b;
+        k += 1;
+    }
+    k
+}
+
+// The plain bytes at the start: copied while they are found, as a run between two pieces is mostly short; where no room is left they are
+// found and counted.
+fn plain_run(s: &[u8], out: &mut [u8], at: usize) -> Reached
+    ensures { λ r. ⌜ Ran (now (s .entry)) at (now (out .entry)) (r .at) (r .used) (now (out .exit)) ⌝ }
+{
+    let m = fitting(out.len(), at, s.len());
+    let k = follow(s, m, out, at);
+    if k < m {
+        return Reached {
+            at: at + k,
+            used: k,
+        };
+    }
+    let t = &s[k..];
+    let n = plain_len(t);
+    Reached {
+        at: lay(t, n, out, at + k),
+        used: k + n,
+    }
+}
+
 // A piece of the text and the plain bytes after it.
 fn turn(s: &[u8], out: &mut [u8], at: usize) -> Reached
     requires { ⌜ 0 < length (now s) ⌝ }
@@ -433,11 +484,10 @@ fn turn(s: &[u8], out: &mut [u8], at: usize) -> Reached
 {
     let r = step(s, out, at);
     let used = r.used;
-    let t = &s[used..];
-    let n = plain_len(t);
+    let q = plain_run(&s[used..], out, r.at);
     Reached {
-        at: lay(t, n, out, r.at),
-        used: used + n,
+        at: q.at,
+        used: used + q.used,
     }
 }
 

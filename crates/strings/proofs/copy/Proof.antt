@@ -1,11 +1,11 @@
-use Prim.Native.Nat.{ℕ, suc, _+_, _-_, _≤_}
+use Prim.Native.Nat.{ℕ, _+_, _-_, _≤_}
 use native.Mathlib.Omega.{arith}
 use borrow.Author.Needs.{needs}
-use mathlib.Core.Path.{_≡_, refl, _∙_, ap, subst}
-use mathlib.Core.List.{List}
+use mathlib.Core.Path.{_≡_, refl, _∙_, subst}
 use denote.Ref.{now}
-use lib.ListN.{length, set, getD, length-set}
-use lib.Seq.{paste, paste-zero, paste-suc}
+use lib.ListN.{length, getD, length-set}
+use lib.Seq.{paste, paste-zero}
+use Rattle.strings.specs.Put.{paste-more}
 use Rattle.strings.proofs.copy.Statement.{statement}
 use Rattle.strings.proofs.copy.Tie as tie
 use Rattle.strings.proofs.copy.Reads as reads
@@ -47,8 +47,7 @@ loop-again c =
     let l = c .before .before .loop in
     let a = c .before .before .before .args in
     let s = now (a .s) in
-    let e : suc (l .k) ≡ l .k + 1 = omega arith in
-    (omega arith, (length-set (l .out) (a .at + l .k) (getD s (l .k) 0) ∙ l .inv .1 .0, ap (λ (z : List ℕ). set z (a .at + l .k) (getD s (l .k) 0)) (l .inv .1 .1) ∙ paste-suc (now (a .out)) (a .at) s (l .k) 0 (omega arith) (omega arith) ∙ ap (λ (m : ℕ). paste (now (a .out)) (a .at) s m) e))
+    (omega arith, (length-set (l .out) (a .at + l .k) (getD s (l .k) 0) ∙ l .inv .1 .0, paste-more (now (a .out)) (a .at) s (l .k) (l .out) (omega arith) (omega arith) (l .inv .1 .1)))
 
 -- src/lib.rt:242:1
 same-length : tie.Need-same-length Inv-loop μ-loop
