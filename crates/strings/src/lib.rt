@@ -384,7 +384,7 @@ fn groups(s: &[u8], width: usize, out: &mut [u8], at: usize) -> Reached
     Reached { at: n, used: i }
 }
 
-// A directive, or a literal backslash.
+// A directive, or a literal backslash. What `groups` answers is made anew, so that the other answers need not go through memory.
 fn directive(s: &[u8], out: &mut [u8], at: usize) -> Reached
     ensures { λ r. ⌜ Moved (directiveOf (now (s .entry))) at (now (out .entry)) (r .at) (r .used) (now (out .exit)) ⌝ }
 {
@@ -400,10 +400,18 @@ fn directive(s: &[u8], out: &mut [u8], at: usize) -> Reached
     let y = byte_at(s, 2);
     let z = byte_at(s, 3);
     if (x == 88) & ((y == 50) & (z == 92)) {
-        return groups(s, 4, out, at);
+        let g = groups(s, 4, out, at);
+        return Reached {
+            at: g.at,
+            used: g.used,
+        };
     }
     if (x == 88) & ((y == 52) & (z == 92)) {
-        return groups(s, 8, out, at);
+        let g = groups(s, 8, out, at);
+        return Reached {
+            at: g.at,
+            used: g.used,
+        };
     }
     Reached {
         at: put_char(out, at, 92),
