@@ -1,16 +1,16 @@
 -- A text has at most twice as many bytes as its string. Every piece has, but for a bad group's, which gives characters whose digits are
 -- read again: these digits give one byte each then, and no more than one byte each before. Assumes nothing.
-use Prim.Native.Nat.{ℕ, zero, suc, _+_, _*_, _-_, _≤_, _<_, min}
+use Prim.Native.Nat.{ℕ, zero, suc, _+_, _-_, _≤_, _<_}
 use mathlib.Core.Path.{_≡_, refl, sym, _∙_, ap}
 use mathlib.Core.Bool.{Bool, true, false, _&&_, _||_}
 use mathlib.Core.List.{List, [], _∷_, _++_, append-nil}
 use native.Mathlib.Omega.{arith}
-use borrow.Author.Tests.{ltb-true, ltb-false, lt-ltb, lt-leb, eqb-true, ne-eqb}
+use borrow.Author.Tests.{ltb-true, ltb-false, lt-leb, eqb-true, ne-eqb}
 use lib.Dec.{eqb, leb, ltb}
 use lib.ListN.{length, take, drop, getD, length-append}
-use lib.Seq.{length-take-le}
+use lib.Seq.{length-take-le, getD-drop}
 use Rattle.lex.specs.Byte.{pick}
-use Rattle.utf8.specs.Utf8.{byteAt, encode, encodeAll, Lead, valid, invalid, leadOf}
+use Rattle.utf8.specs.Utf8.{byteAt, encode, encodeAll, Lead, leadOf}
 use Rattle.utf8.specs.Laws.{encode-one, encode-two, sized, Leads, led-one, led-two, led-three, led-four, led-none, leads}
 use Rattle.strings.specs.Text
 use Rattle.strings.specs.Hex.{both, Digit, decimal, capital, small, digit, four-within}
@@ -59,16 +59,24 @@ digits-fit : {k : ℕ} {t : List ℕ} → Digits k t → k ≤ length t
 digits-fit none = omega arith
 digits-fit (more h d) = let k = digits-fit d in omega arith
 
--- no hex digit is a quote, a backslash or a high byte
-hex-plain : (b : ℕ) → Text.hexDigit b ≡ true → special b ≡ false
-hex-plain b e = go (digit b e)
-  where
-    go : Digit b → special b ≡ false
-    go (decimal l h) = rw (ne-eqb b 39 (λ z. omega arith), ne-eqb b 92 (λ z. omega arith), lt-leb 128 b (omega arith)) refl
-    go (capital l h) = rw (ne-eqb b 39 (λ z. omega arith), ne-eqb b 92 (λ z. omega arith), lt-leb 128 b (omega arith)) refl
-    go (small l h) = rw (ne-eqb b 39 (λ z. omega arith), ne-eqb b 92 (λ z. omega arith), lt-leb 128 b (omega arith)) refl
+-- a hex digit is no byte that is none
+hex-other : (b c : ℕ) → Text.hexDigit b ≡ true → Text.hexDigit c ≡ false → eqb b c ≡ false
+hex-other b c e n = ne-eqb b c (λ z. let w : _≡_ {A = Bool} true false = sym e ∙ ap Text.hexDigit z ∙ n in let u : _≡_ {A = ℕ} 0 1 = ap (λ (t : Bool). pick t 0 1) w in omega arith)
 
--- so they are plain
+-- nor a high byte
+hex-low : (b : ℕ) → Text.hexDigit b ≡ true → b < 128
+hex-low b e = go (digit b e)
+  where
+    go : Digit b → b < 128
+    go (decimal l h) = omega arith
+    go (capital l h) = omega arith
+    go (small l h) = omega arith
+
+-- so it is plain
+hex-plain : (b : ℕ) → Text.hexDigit b ≡ true → special b ≡ false
+hex-plain b e = rw (hex-other b 39 e refl, hex-other b 92 e refl, lt-leb 128 b (hex-low b e)) refl
+
+-- and so are many
 digits-plain : {k : ℕ} {t : List ℕ} → Digits k t → Text.plain (take k t) ≡ true
 unfolding Text.plain
 digits-plain none = refl
@@ -94,14 +102,7 @@ digits-four (a ∷ b ∷ c ∷ d ∷ r) e =
 
 -- eight
 digits-eight : (s : List ℕ) → Text.fourAt s 0 ≡ true → Text.fourAt s 4 ≡ true → Digits 8 s
-digits-eight s e f = digits-join 4 8 (omega arith) (digits-four s e) (after s e f)
-  where
-    after : (s : List ℕ) → Text.fourAt s 0 ≡ true → Text.fourAt s 4 ≡ true → Digits 4 (drop 4 s)
-    after [] e f = absurd (omega (arith, four-within [] 0 e))
-    after (a ∷ []) e f = absurd (omega (arith, four-within (a ∷ []) 0 e))
-    after (a ∷ b ∷ []) e f = absurd (omega (arith, four-within (a ∷ b ∷ []) 0 e))
-    after (a ∷ b ∷ c ∷ []) e f = absurd (omega (arith, four-within (a ∷ b ∷ c ∷ []) 0 e))
-    after (a ∷ b ∷ c ∷ d ∷ r) e f = digits-four r f
+digits-eight s e f = digits-join 4 8 (omega arith) (digits-four s e) (digits-four (drop 4 s) (simp getD-drop f))
 
 -- a group is so many digits, four at least
 abbrev Held : List ℕ → Text.Group → Type 0
@@ -230,10 +231,7 @@ piece-weighs s h =
 -- a backslash before a hex digit is itself
 lone-piece : (b : ℕ) (r : List ℕ) → Text.hexDigit b ≡ true → Text.pieceOf (92 ∷ b ∷ r) ≡ Text.gives (92 ∷ []) 1
 unfolding Text.pieceOf Text.directiveOf
-lone-piece b r e = rw (other 92 refl, other 78 refl, other 84 refl, other 80 refl, other 83 refl, other 88 refl) refl
-  where
-    other : (c : ℕ) → Text.hexDigit c ≡ false → eqb b c ≡ false
-    other c n = ne-eqb b c (λ z. let w : _≡_ {A = Bool} true false = sym e ∙ ap Text.hexDigit z ∙ n in let u : _≡_ {A = ℕ} 0 1 = ap (λ (t : Bool). pick t 0 1) w in omega arith)
+lone-piece b r e = rw (hex-other b 92 e refl, hex-other b 78 e refl, hex-other b 84 e refl, hex-other b 80 e refl, hex-other b 83 e refl, hex-other b 88 e refl) refl
 
 -- the bytes of a text from a place on, where the bytes before it are plain
 width-plain : (n : ℕ) (s : List ℕ) → n ≤ length s → Text.plain (take n s) ≡ true → width (Text.textOf s) ≡ n + width (Text.textOf (drop n s))

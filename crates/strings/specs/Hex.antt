@@ -47,23 +47,22 @@ digit b e = go (leb 48 b && leb b 57) (leb 65 b && leb b 70) (leb 97 b && leb b 
     go false false true p q r = let k = both (leb 97 b) (leb b 102) r in small (leb-true 97 b (k .0)) (leb-true b 102 (k .1))
     go false false false p q r = let w : _≡_ {A = Bool} false true = sym (rw (p, q, r) refl) ∙ e in let u : _≡_ {A = ℕ} 0 1 = ap (λ (t : Bool). pick t 1 0) w in absurd (omega arith)
 
+-- a hex digit's value, and the code's sum for it
+hex-both : (b : ℕ) → hexDigit b ≡ true → (hexValue b < 16) × (b % 16 + b / 64 * 9 ≡ hexValue b)
+hex-both b e = go (digit b e)
+  where
+    go : Digit b → (hexValue b < 16) × (b % 16 + b / 64 * 9 ≡ hexValue b)
+    go (decimal l h) = rw (le-leb b 57 h) (omega arith, omega arith)
+    go (capital l h) = rw (lt-leb b 57 (omega arith), le-leb b 70 h) (omega arith, omega arith)
+    go (small l h) = rw (lt-leb b 57 (omega arith), lt-leb b 70 (omega arith)) (omega arith, omega arith)
+
 -- a hex digit's value is below 16
 pub hex-below : (b : ℕ) → hexDigit b ≡ true → hexValue b < 16
-hex-below b e = go (digit b e)
-  where
-    go : Digit b → hexValue b < 16
-    go (decimal l h) = rw (le-leb b 57 h) (omega arith)
-    go (capital l h) = rw (lt-leb b 57 (omega arith), le-leb b 70 h) (omega arith)
-    go (small l h) = rw (lt-leb b 57 (omega arith), lt-leb b 70 (omega arith)) (omega arith)
+hex-below b e = hex-both b e .0
 
 -- the code's sum is a hex digit's value
 pub hex-sum : (b : ℕ) → hexDigit b ≡ true → b % 16 + b / 64 * 9 ≡ hexValue b
-hex-sum b e = go (digit b e)
-  where
-    go : Digit b → b % 16 + b / 64 * 9 ≡ hexValue b
-    go (decimal l h) = rw (le-leb b 57 h) (omega arith)
-    go (capital l h) = rw (lt-leb b 57 (omega arith), le-leb b 70 h) (omega arith)
-    go (small l h) = rw (lt-leb b 57 (omega arith), lt-leb b 70 (omega arith)) (omega arith)
+hex-sum b e = hex-both b e .1
 
 -- a hex digit stands within the list
 pub hex-within : (s : List ℕ) (k : ℕ) → hexDigit (byteAt s k) ≡ true → k < length s

@@ -1,16 +1,16 @@
 -- Runs of plain bytes, which are the text as they stand: found byte by byte, and passed at one go. Assumes nothing.
 use Prim.Native.Nat.{ℕ, zero, suc, _+_, _≤_, _<_}
 use mathlib.Core.Path.{_≡_, refl, sym, _∙_, ap}
-use mathlib.Core.Bool.{Bool, true, false, _&&_, _||_}
+use mathlib.Core.Bool.{Bool, true, false, _||_}
 use mathlib.Core.List.{List, [], _∷_, _++_}
 use native.Mathlib.Omega.{arith}
 use native.Mathlib.Numerals.{add-one}
 use borrow.Author.Tests.{leb-false, lt-ltb}
-use lib.Dec.{eqb, leb, ltb}
+use lib.Dec.{eqb, leb}
 use lib.ListN.{length, take, drop, getD, length-drop}
 use lib.Seq.{take-all, take-add}
 use Rattle.lex.specs.Byte.{pick}
-use Rattle.utf8.specs.Utf8.{encode, encodeAll}
+use Rattle.utf8.specs.Utf8.{encodeAll}
 use Rattle.utf8.specs.Laws.{encode-one}
 use Rattle.strings.specs.Text
 use Rattle.strings.specs.Hex.{neither}

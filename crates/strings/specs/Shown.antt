@@ -17,7 +17,7 @@ use Rattle.utf8.specs.Agree.{Scalars, all-valid, lead-is}
 use Rattle.strings.specs.declared.Decoded.{Decoded}
 use Rattle.strings.specs.declared.Decoded.the-variants.{Plain, Written, Short}
 use Rattle.strings.specs.Text
-use Rattle.strings.specs.Hex.{both, neither, two-below}
+use Rattle.strings.specs.Hex.{both, two-below}
 use Rattle.strings.specs.Steps.{text-skip}
 use Rattle.strings.specs.Runs.{plain-piece}
 use Rattle.strings.specs.Code.{decodedOf, roomAfter, shownOf, Answer, text, refused, toldText, answerOf}

@@ -1,5 +1,4 @@
 use native.Mathlib.Omega.{arith}
-use mathlib.Core.Path.{_∙_, ap}
 use denote.Ref.{now}
 use Rattle.utf8.specs.Utf8.{encode}
 use Rattle.strings.specs.Put.{put-one, put-some}
