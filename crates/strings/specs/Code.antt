@@ -1,5 +1,5 @@
 -- What the numbers that the code hands on stand for, and the answers of the public functions. Assumes nothing.
-use Prim.Native.Nat.{ℕ, zero, suc, _+_, _*_, _-_, _≤_, min}
+use Prim.Native.Nat.{ℕ, zero, suc, _+_, _*_, _-_, _≤_, _<_, min}
 use mathlib.Core.Path.{_≡_}
 use mathlib.Core.Bool.{Bool, true, false, _&&_, _||_}
 use mathlib.Core.List.{List, [], _∷_, _++_}
@@ -10,7 +10,7 @@ use Rattle.utf8.specs.Utf8.{encodeAll}
 use Rattle.strings.specs.declared.Char.{Char}
 use Rattle.strings.specs.declared.Decoded.{Decoded}
 use Rattle.strings.specs.declared.Decoded.the-variants.{Plain, Written, Short}
-use Rattle.strings.specs.Text.{Group, char, wrong, Piece, plain, bytesOf}
+use Rattle.strings.specs.Text.{Group, char, wrong, Piece, plain, textOf, bytesOf}
 use Rattle.strings.specs.Put.{Laid}
 
 -- a group that took no byte is a bad one
@@ -34,6 +34,26 @@ oneView c k = record { written = encodeAll (c ∷ []); used = k }
 pub record Moved (p : Piece) (a : ℕ) (o : List ℕ) (e k : ℕ) (q : List ℕ) : Type 0 where
   pub put : Laid a o (encodeAll (p .chars)) e q
   pub read : k ≡ p .used
+
+-- the first n bytes are plain, and where n is before a place, plain is not all
+pub record Passed (s : List ℕ) (to n : ℕ) : Type 0 where
+  pub within : n ≤ to
+  pub plainly : plain (take n s) ≡ true
+  pub stops : n < to → plain s ≡ false
+
+-- plain bytes at the start are put from place a on
+pub record Ran (s : List ℕ) (a : ℕ) (o : List ℕ) (e k : ℕ) (q : List ℕ) : Type 0 where
+  pub within : k ≤ length s
+  pub plainly : plain (take k s) ≡ true
+  pub put : Laid a o (take k s) e q
+
+-- pieces have been read, at least one byte of them: their bytes are put from place a on, and the text goes on k bytes further
+pub record Turned (s : List ℕ) (a : ℕ) (o : List ℕ) (e k : ℕ) (q : List ℕ) : Type 0 where
+  pub chars : List ℕ
+  pub put : Laid a o (encodeAll chars) e q
+  pub ahead : textOf s ≡ chars ++ textOf (drop k s)
+  pub some : 0 < k
+  pub within : k ≤ length s
 
 -- "If no quote, backslash or high byte occurs, the text shown is that part of the file; otherwise a part of the lent output. 16
 -- exactly when a text of this second kind is longer than the output."

@@ -6,7 +6,7 @@ use mathlib.Core.List.{List, [], _∷_, _++_}
 use native.Mathlib.Omega.{arith}
 use borrow.Author.Tests.{le-leb, lt-leb}
 use lib.Dec.{leb}
-use lib.ListN.{length, drop}
+use lib.ListN.{length, drop, getD}
 use lib.Seq.{take-all}
 use Rattle.lex.specs.Byte.{pick}
 use Rattle.strings.specs.declared.Decoded.{Decoded}
@@ -14,6 +14,7 @@ use Rattle.strings.specs.declared.Decoded.the-variants.{Plain, Written, 
 use Rattle.strings.specs.Text.{plain, bytesOf}
 use Rattle.strings.specs.Put.{most, Laid}
 use Rattle.strings.specs.Code.{decodedOf, roomAfter, shownOf, toldText, answerOf}
+use Rattle.strings.specs.Ample.{text-ample}
 use Rattle.strings.specs.Shown.{told-text}
 
 -- what `decode_string` owes: the answer, the room, and what the two tell
@@ -38,6 +39,10 @@ decoded-written s o p n r h e l m d =
     let q : n ≡ length (bytesOf s) = omega arith in
     let k = le-leb (length (bytesOf s)) (length o) (omega arith) in
     answered s o p (Written n) (rw (h, k) (ap Written q)) (rw (h, k) (d .laid [] o refl refl (omega arith)))
+
+-- the text is put into a room of twice the string's bytes, which surely suffices
+pub decoded-ample : (s o p : List ℕ) (r : ℕ) → plain s ≡ false → ((i : ℕ) → getD s i 0 < 256) → length s + length s ≤ length o → length o < most → Laid 0 o (bytesOf s) r p → Answered s o p (Written r)
+decoded-ample s o p r h b l m d = let k = text-ample s b in decoded-written s o p r r h (omega (arith, d .counted)) (omega (arith, d .counted)) m d
 
 -- a number of bytes past the room's end shows the whole room
 pub shown-all : (s o : List ℕ) (d : Decoded) (n : ℕ) → d ≡ Written n → length o ≤ n → o ≡ shownOf s o d

@@ -1,5 +1,5 @@
 -- Hex digits and groups, as the code computes them: one law for each way out. Assumes nothing.
-use Prim.Native.Nat.{ℕ, zero, suc, _+_, _*_, _-_, _≤_, _<_, min}
+use Prim.Native.Nat.{ℕ, zero, suc, _+_, _*_, _-_, _/_, _%_, _≤_, _<_, min}
 use mathlib.Core.Path.{_≡_, refl, sym, _∙_, ap}
 use mathlib.Core.Bool.{Bool, true, false, _&&_, _||_}
 use mathlib.Core.List.{List, [], _∷_, _++_}
@@ -31,37 +31,93 @@ neither false b e = (refl, e)
 pub byte-past : (s : List ℕ) (k : ℕ) → length s ≤ k → 256 ≡ byteAt s k
 byte-past s k h = sym (List·getD-eq-default s 256 h)
 
--- a decimal digit's value
-pub hex-decimal : (b : ℕ) → leb 48 b && leb b 57 ≡ true → b - 48 ≡ pick (hexDigit b) (hexValue b) 16
-hex-decimal b e = rw (e, both (leb 48 b) (leb b 57) e .1) refl
+-- what a hex digit is
+pub data Digit (b : ℕ) : Type 0 where
+  decimal : 48 ≤ b → b ≤ 57 → Digit b
+  capital : 65 ≤ b → b ≤ 70 → Digit b
+  small : 97 ≤ b → b ≤ 102 → Digit b
 
--- a capital's
-pub hex-capital : (b : ℕ) → leb 48 b && leb b 57 ≡ false → leb 65 b && leb b 70 ≡ true → b - 55 ≡ pick (hexDigit b) (hexValue b) 16
-hex-capital b n e =
-    let k = both (leb 65 b) (leb b 70) e in
-    let l = leb-true 65 b (k .0) in
-    rw (n, e, lt-leb b 57 (omega arith), k .1) refl
+-- every hex digit is one of the three
+pub digit : (b : ℕ) → hexDigit b ≡ true → Digit b
+digit b e = go (leb 48 b && leb b 57) (leb 65 b && leb b 70) (leb 97 b && leb b 102) refl refl refl
+  where
+    go : (x y z : Bool) → leb 48 b && leb b 57 ≡ x → leb 65 b && leb b 70 ≡ y → leb 97 b && leb b 102 ≡ z → Digit b
+    go true y z p q r = let k = both (leb 48 b) (leb b 57) p in decimal (leb-true 48 b (k .0)) (leb-true b 57 (k .1))
+    go false true z p q r = let k = both (leb 65 b) (leb b 70) q in capital (leb-true 65 b (k .0)) (leb-true b 70 (k .1))
+    go false false true p q r = let k = both (leb 97 b) (leb b 102) r in small (leb-true 97 b (k .0)) (leb-true b 102 (k .1))
+    go false false false p q r = let w : _≡_ {A = Bool} false true = sym (rw (p, q, r) refl) ∙ e in let u : _≡_ {A = ℕ} 0 1 = ap (λ (t : Bool). pick t 1 0) w in absurd (omega arith)
 
--- a small letter's
-pub hex-small : (b : ℕ) → leb 48 b && leb b 57 ≡ false → leb 65 b && leb b 70 ≡ false → leb 97 b && leb b 102 ≡ true → b - 87 ≡ pick (hexDigit b) (hexValue b) 16
-hex-small b n m e =
-    let k = both (leb 97 b) (leb b 102) e in
-    let l = leb-true 97 b (k .0) in
-    rw (n, m, e, lt-leb b 57 (omega arith), lt-leb b 70 (omega arith)) refl
-
--- no hex digit
-pub hex-none : (b : ℕ) → leb 48 b && leb b 57 ≡ false → leb 65 b && leb b 70 ≡ false → leb 97 b && leb b 102 ≡ false → 16 ≡ pick (hexDigit b) (hexValue b) 16
-hex-none b n m e = rw (n, m, e) refl
+-- a hex digit's value, and the code's sum for it
+hex-both : (b : ℕ) → hexDigit b ≡ true → (hexValue b < 16) × (b % 16 + b / 64 * 9 ≡ hexValue b)
+hex-both b e = go (digit b e)
+  where
+    go : Digit b → (hexValue b < 16) × (b % 16 + b / 64 * 9 ≡ hexValue b)
+    go (decimal l h) = rw (le-leb b 57 h) (omega arith, omega arith)
+    go (capital l h) = rw (lt-leb b 57 (omega arith), le-leb b 70 h) (omega arith, omega arith)
+    go (small l h) = rw (lt-leb b 57 (omega arith), lt-leb b 70 (omega arith)) (omega arith, omega arith)
 
 -- a hex digit's value is below 16
 pub hex-below : (b : ℕ) → hexDigit b ≡ true → hexValue b < 16
-hex-below b e = go (leb 48 b && leb b 57) (leb 65 b && leb b 70) (leb 97 b && leb b 102) refl refl refl
+hex-below b e = hex-both b e .0
+
+-- the code's sum is a hex digit's value
+pub hex-sum : (b : ℕ) → hexDigit b ≡ true → b % 16 + b / 64 * 9 ≡ hexValue b
+hex-sum b e = hex-both b e .1
+
+-- a hex digit stands within the list
+pub hex-within : (s : List ℕ) (k : ℕ) → hexDigit (byteAt s k) ≡ true → k < length s
+hex-within s k e = go (ltb k (length s)) refl
   where
-    go : (x y z : Bool) → leb 48 b && leb b 57 ≡ x → leb 65 b && leb b 70 ≡ y → leb 97 b && leb b 102 ≡ z → hexValue b < 16
-    go true y z p q r = let k = both (leb 48 b) (leb b 57) p in let l = leb-true 48 b (k .0) in let m = leb-true b 57 (k .1) in rw (k .1) (omega arith)
-    go false true z p q r = let k = both (leb 65 b) (leb b 70) q in let l = leb-true 65 b (k .0) in let m = leb-true b 70 (k .1) in rw (lt-leb b 57 (omega arith), k .1) (omega arith)
-    go false false true p q r = let k = both (leb 97 b) (leb b 102) r in let l = leb-true 97 b (k .0) in let m = leb-true b 102 (k .1) in rw (lt-leb b 57 (omega arith), lt-leb b 70 (omega arith)) (omega arith)
-    go false false false p q r = let w : _≡_ {A = Bool} false true = sym (rw (p, q, r) refl) ∙ e in let u : _≡_ {A = ℕ} 0 1 = ap (λ (t : Bool). pick t 1 0) w in absurd (omega arith)
+    go : (t : Bool) → ltb k (length s) ≡ t → k < length s
+    go true p = ltb-true k (length s) p
+    go false p =
+        let z : _≡_ {A = Bool} false true = ap hexDigit (sym (List·getD-eq-default s 256 (ltb-false k (length s) p))) ∙ e in
+        let w : _≡_ {A = ℕ} 0 1 = ap (λ (t : Bool). pick t 1 0) z in
+        absurd (omega arith)
+
+-- four hex digits stand within the list
+pub four-within : (s : List ℕ) (k : ℕ) → fourAt s k ≡ true → k + 4 ≤ length s
+four-within s k e =
+    let x = both (twoAt s k) (twoAt s (k + 2)) e in
+    let y = both (hexDigit (byteAt s (k + 2))) (hexDigit (byteAt s (k + 2 + 1))) (x .1) in
+    let z = hex-within s (k + 2 + 1) (y .1) in
+    omega arith
+
+-- what would hold only within the list does not hold past its end
+pub not-past : (t : Bool) (v n e l : ℕ) → (t ≡ true → e ≤ l) → l < e → n ≡ pick t v n
+not-past true v n e l f h = let k = f refl in absurd (omega arith)
+not-past false v n e l f h = refl
+
+-- fewer than two bytes are no two hex digits
+pub two-past : (s : List ℕ) (k : ℕ) → length s < k + 2 → 256 ≡ pick (twoAt s k) (twoOf s k) 256
+two-past s k = not-past (twoAt s k) (twoOf s k) 256 (k + 2) (length s) (λ e. let z = hex-within s (k + 1) (both (hexDigit (byteAt s k)) (hexDigit (byteAt s (k + 1))) e .1) in omega arith)
+
+-- fewer than four bytes are no four
+pub four-past : (s : List ℕ) (k : ℕ) → length s < k + 4 → 65536 ≡ pick (fourAt s k) (fourOf s k) 65536
+four-past s k = not-past (fourAt s k) (fourOf s k) 65536 (k + 4) (length s) (four-within s k)
+
+-- two bytes of a list, as the code reads them
+module _ (s : List ℕ) (k a b : ℕ) (ea : a ≡ byteAt s k) (eb : b ≡ byteAt s (k + 1)) where
+  -- they are hex digits
+  pub two-is : (v : ℕ) → hexDigit a && hexDigit b ≡ true → v ≡ hexValue a * 16 + hexValue b → v ≡ pick (twoAt s k) (twoOf s k) 256
+  two-is v h e = rw (sym ea, sym eb, h) e
+
+  -- they are not
+  pub two-not : hexDigit a && hexDigit b ≡ false → 256 ≡ pick (twoAt s k) (twoOf s k) 256
+  two-not h = rw (sym ea, sym eb, h) refl
+
+  -- four bytes of it
+  module _ (c d : ℕ) (ec : c ≡ byteAt s (k + 2)) (ed : d ≡ byteAt s (k + 3)) where
+    last : d ≡ byteAt s (k + 2 + 1)
+    last = let e : k + 3 ≡ k + 2 + 1 = omega arith in ed ∙ ap (byteAt s) e
+
+    -- they are hex digits
+    pub four-is : (v w : ℕ) → (hexDigit a && hexDigit b) && (hexDigit c && hexDigit d) ≡ true → v ≡ hexValue a * 16 + hexValue b → w ≡ hexValue c * 16 + hexValue d → v * 256 + w ≡ pick (fourAt s k) (fourOf s k) 65536
+    four-is v w h e f = rw (sym ea, sym eb, sym ec, sym last, h, e, f) refl
+
+    -- they are not
+    pub four-not : (hexDigit a && hexDigit b) && (hexDigit c && hexDigit d) ≡ false → 65536 ≡ pick (fourAt s k) (fourOf s k) 65536
+    four-not h = rw (sym ea, sym eb, sym ec, sym last, h) refl
 
 -- a value below the bound is one that was there
 pub there : (t : Bool) (v n : ℕ) → pick t v n < n → t ≡ true
@@ -72,27 +128,6 @@ there false v n h = absurd (omega arith)
 pub absent : (t : Bool) (v n : ℕ) → (t ≡ true → v < n) → n ≤ pick t v n → t ≡ false
 absent true v n k h = let l = k refl in absurd (omega arith)
 absent false v n k h = refl
-
--- two numbers that are there, one after the other in base n
-pub pair-is : (t u : Bool) (v w a b n m : ℕ) → a ≡ pick t v n → b ≡ pick u w n → ltb a n && ltb b n ≡ true → a * n + b ≡ pick (t && u) (v * n + w) m
-pair-is t u v w a b n m e f k =
-    let j = both (ltb a n) (ltb b n) k in
-    let x = there t v n (rw (sym e) (ltb-true a n (j .0))) in
-    let y = there u w n (rw (sym f) (ltb-true b n (j .1))) in
-    let p : a ≡ v = e ∙ rw x refl in
-    let q : b ≡ w = f ∙ rw y refl in
-    rw (x, y, p, q) refl
-
--- two of which one is not there
-pub pair-not : (t u : Bool) (v w a b n m : ℕ) → (t ≡ true → v < n) → (u ≡ true → w < n) → a ≡ pick t v n → b ≡ pick u w n → ltb a n && ltb b n ≡ false → m ≡ pick (t && u) (v * n + w) m
-pair-not true true v w a b n m h i e f k =
-    let x : a < n = rw e (h refl) in
-    let y : b < n = rw f (i refl) in
-    let z : _≡_ {A = Bool} true false = sym (rw (lt-ltb a n x, lt-ltb b n y) refl) ∙ k in
-    let z2 : _≡_ {A = ℕ} 0 1 = ap (λ (o : Bool). pick o 0 1) z in
-    absurd (omega arith)
-pair-not true false v w a b n m h i e f k = refl
-pair-not false u v w a b n m h i e f k = refl
 
 -- the number of two hex digits is below 256
 pub two-below : (s : List ℕ) (k : ℕ) → twoAt s k ≡ true → twoOf s k < 256
@@ -176,10 +211,6 @@ four-char s a b e f h =
     let x = found (fourAt s 0) (fourOf s 0) 65536 a e (leb-false 65536 a (k .0)) in
     let y = found (fourAt s 4) (fourOf s 4) 65536 b f (leb-false 65536 b (k .1)) in
     rw (x .0, y .0, x .1, y .1) refl
-
--- a hex digit's value, or 16
-abbrev pub hexOr : ℕ → ℕ
-hexOr b = pick (hexDigit b) (hexValue b) 16
 
 -- no byte is above 256, nor is what stands for none
 pub byte-small : (s : List ℕ) (k : ℕ) → getD s k 0 < 256 → byteAt s k ≤ 256

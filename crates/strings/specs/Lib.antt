@@ -3,6 +3,8 @@ pub mod Code
 pub mod Hex
 pub mod Put
 pub mod Steps
+pub mod Runs
+pub mod Ample
 pub mod Ways
 pub mod Decoded
 pub mod Iso

@@ -4,12 +4,13 @@ use mathlib.Core.Path.{_≡_, refl, sym, _∙_, ap}
 use mathlib.Core.Bool.{Bool, true, false, _&&_, _||_}
 use mathlib.Core.List.{List, [], _∷_, _++_, append-assoc, append-nil}
 use native.Mathlib.Omega.{arith}
-use borrow.Author.Tests.{le-leb}
+use native.Mathlib.Numerals.{add-one}
+use borrow.Author.Tests.{le-leb, leb-true}
 use lib.Dec.{leb}
-use lib.ListN.{length, take, drop, length-append, length-drop}
-use lib.Seq.{drop-drop, take-append-seam, drop-append-add}
+use lib.ListN.{length, take, drop, set, getD, length-append, length-drop}
+use lib.Seq.{drop-drop, take-append-seam, drop-append-add, length-take-le, paste, paste-zero, paste-suc}
 use Rattle.lex.specs.Byte.{pick}
-use Rattle.utf8.specs.Utf8.{encode, encodeAll, putAt}
+use Rattle.utf8.specs.Utf8.{encode, encodeAll, putAt, putWidth}
 
 -- the largest number of 64 bits
 abbrev pub most : ℕ
@@ -69,3 +70,27 @@ put-laid a o bs p e h k = record { counted = k; laid = go }
 pub put-one : (a : ℕ) (o : List ℕ) (c w e : ℕ) (p : List ℕ) → w ≡ length (encode c) → p ≡ putAt a (encode c) o → e ≡ min most (a + w) → Laid a o (encodeAll (c ∷ [])) e p
 unfolding encodeAll putAt
 put-one a o c w e p h k l = rw (append-nil (encode c)) (put-laid a o (encode c) p e k (l ∙ ap (λ (z : ℕ). min most (a + z)) h))
+
+-- a width that was put is the encoding's, and the encoding fits
+pub put-some : (a : ℕ) (o e : List ℕ) (u : ℕ) → u ≡ putWidth a e o → (u ≡ 0 → ⊥) → (u ≡ length e) × (a + u ≤ length o)
+unfolding putWidth
+put-some a o e u h n = go (leb (a + length e) (length o)) refl h
+  where
+    go : (t : Bool) → leb (a + length e) (length o) ≡ t → u ≡ pick t (length e) 0 → (u ≡ length e) × (a + u ≤ length o)
+    go true p k = let l = leb-true (a + length e) (length o) p in (k, omega arith)
+    go false p k = absurd (n k)
+
+-- plain bytes put where they fit, and counted wherever they stand
+pub put-run : (a : ℕ) (o s : List ℕ) (n e : ℕ) (p : List ℕ) → n ≤ length s → p ≡ pick (leb (a + n) (length o)) (paste o a s n) o → e ≡ min most (a + n) → Laid a o (take n s) e p
+put-run a o s n e p h k l =
+    let w : length (take n s) ≡ n = length-take-le n s h in
+    put-laid a o (take n s) p e (rw w k) (rw w l)
+
+-- a turn of a loop that copies
+pub paste-more : (o : List ℕ) (a : ℕ) (s : List ℕ) (k : ℕ) (p : List ℕ) → a + k < length o → k < length s → p ≡ paste o a s k → set p (a + k) (getD s k 0) ≡ paste o a s (k + 1)
+paste-more o a s k p h l e = rw (add-one, e) (paste-suc o a s k 0 h l)
+
+-- plain bytes that fit are put
+pub put-part : (a : ℕ) (o s : List ℕ) (k : ℕ) (p : List ℕ) → a ≤ most → length o ≤ most → k ≤ length s → k ≤ length o - a → p ≡ paste o a s k → Laid a o (take k s) (a + k) p
+put-part a o s zero p m n h l e = let q : a + 0 ≡ a = omega arith in rw (q, e ∙ sym (paste-zero o a s)) (laid-none a o m)
+put-part a o s (suc k) p m n h l e = put-run a o s (suc k) (a + suc k) p h (rw (le-leb (a + suc k) (length o) (omega arith)) e) (omega arith)

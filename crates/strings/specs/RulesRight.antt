@@ -17,8 +17,8 @@ use Rattle.utf8.specs.Table.{Encoded, line-one, line-two, line-three, line-four
 use Rattle.utf8.specs.Laws.{scalar-low, scalar-high, scalar-between, scalar-above, encode-one}
 use Rattle.utf8.specs.Agree.{table-is, table-only, encode-leads, lead-is}
 use Rattle.strings.specs.Text
-use Rattle.strings.specs.Hex.{both, neither}
-use Rattle.strings.specs.Steps.{hex-within, is-within, four-within, ends, groups-stop, groups-wrong, groups-char, piece-fits, text-goes}
+use Rattle.strings.specs.Hex.{both, neither, hex-within, four-within}
+use Rattle.strings.specs.Steps.{is-within, ends, groups-stop, groups-wrong, groups-char, piece-fits, text-goes}
 use Rattle.strings.specs.Rules
 
 -- a test that holds does not fail

@@ -17,8 +17,9 @@ use Rattle.utf8.specs.Agree.{Scalars, all-valid, lead-is}
 use Rattle.strings.specs.declared.Decoded.{Decoded}
 use Rattle.strings.specs.declared.Decoded.the-variants.{Plain, Written, Short}
 use Rattle.strings.specs.Text
-use Rattle.strings.specs.Hex.{both, neither, two-below}
+use Rattle.strings.specs.Hex.{both, two-below}
 use Rattle.strings.specs.Steps.{text-skip}
+use Rattle.strings.specs.Runs.{plain-piece}
 use Rattle.strings.specs.Code.{decodedOf, roomAfter, shownOf, Answer, text, refused, toldText, answerOf}
 
 -- every number of the list is a byte
@@ -153,15 +154,6 @@ text-scalars zero (b ∷ r) (h, t) = scalars-append (Text.pieceOf (b ∷ r) .cha
 pub text-valid : (s : List ℕ) → Bytes s → Valid (Text.bytesOf s)
 unfolding Text.bytesOf Text.textOf
 text-valid s h = all-valid (Text.textFrom 0 s) (text-scalars 0 s h)
-
--- a byte of a plain string is its own piece
-plain-piece : (b : ℕ) (r : List ℕ) → eqb b 39 || (eqb b 92 || leb 128 b) ≡ false → (Text.pieceOf (b ∷ r) ≡ Text.gives (b ∷ []) 1) × (b < 128)
-unfolding Text.pieceOf
-plain-piece b r h =
-    let x = neither (eqb b 39) (eqb b 92 || leb 128 b) h in
-    let y = neither (eqb b 92) (leb 128 b) (x .1) in
-    let z = leb-false 128 b (y .1) in
-    (rw (y .0, x .0, lt-ltb b 128 z) refl, z)
 
 -- a plain string is its own text
 pub plain-text : (s : List ℕ) → Text.plain s ≡ true → Text.bytesOf s ≡ s

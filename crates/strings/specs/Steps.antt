@@ -13,22 +13,11 @@ use Rattle.lex.specs.Byte.{pick}
 use Rattle.utf8.specs.Utf8.{byteAt, Lead, valid, invalid, leadOf, encodeAll}
 use Rattle.lex.specs.Walk.{split}
 use Rattle.strings.specs.Text
-use Rattle.strings.specs.Hex.{both, neither}
+use Rattle.strings.specs.Hex.{both, neither, hex-within, four-within}
 use Rattle.utf8.specs.Laws.{used-within}
 use Rattle.strings.specs.Put.{most, Laid, laid-nothing, laid-chars}
 use Rattle.strings.specs.Code.{Moved, toldGroup}
 use Rattle.strings.specs.declared.Char.{Char}
-
--- a hex digit stands within the list
-pub hex-within : (s : List ℕ) (k : ℕ) → Text.hexDigit (byteAt s k) ≡ true → k < length s
-hex-within s k e = go (ltb k (length s)) refl
-  where
-    go : (t : Bool) → ltb k (length s) ≡ t → k < length s
-    go true p = ltb-true k (length s) p
-    go false p =
-        let z : _≡_ {A = Bool} false true = ap Text.hexDigit (sym (List·getD-eq-default s 256 (ltb-false k (length s) p))) ∙ e in
-        let w : _≡_ {A = ℕ} 0 1 = ap (λ (t : Bool). pick t 1 0) z in
-        absurd (omega arith)
 
 -- a byte that is told stands within the list
 pub is-within : (s : List ℕ) (k b : ℕ) → b < 256 → Text.is s k b ≡ true → k < length s
@@ -40,14 +29,6 @@ is-within s k b h e = go (ltb k (length s)) refl
         let z : byteAt s k ≡ 256 = List·getD-eq-default s 256 (ltb-false k (length s) p) in
         let w : byteAt s k ≡ b = eqb-true (byteAt s k) b e in
         absurd (omega arith)
-
--- four hex digits stand within the list
-pub four-within : (s : List ℕ) (k : ℕ) → Text.fourAt s k ≡ true → k + 4 ≤ length s
-four-within s k e =
-    let x = both (Text.twoAt s k) (Text.twoAt s (k + 2)) e in
-    let y = both (Text.hexDigit (byteAt s (k + 2))) (Text.hexDigit (byteAt s (k + 2 + 1))) (x .1) in
-    let z = hex-within s (k + 2 + 1) (y .1) in
-    omega arith
 
 -- how many bytes a group took
 abbrev pub taken : Text.Group → ℕ
@@ -202,21 +183,6 @@ piece-fits s h =
     go : (l : Lead) → leadOf s ≡ l → Fits s (Text.rawOf (byteAt s 0) l)
     go (valid c k) e = used-within s c k e
     go invalid e = (omega arith, omega arith)
-
--- nothing is left: plain
-pub plain-ends : (s : List ℕ) (i : ℕ) → length s ≤ i → Text.plain (drop i s) ≡ true
-unfolding Text.plain
-plain-ends s i h = rw (drop-of-length-le s h) refl
-
--- a quote, a backslash or a high byte
-pub plain-stops : (s : List ℕ) (i : ℕ) → i < length s → eqb (getD s i 0) 39 || (eqb (getD s i 0) 92 || leb 128 (getD s i 0)) ≡ true → Text.plain (drop i s) ≡ false
-unfolding Text.plain
-plain-stops s i h e = rw (split s i h, e) refl
-
--- another byte
-pub plain-goes : (s : List ℕ) (i : ℕ) → i < length s → eqb (getD s i 0) 39 || (eqb (getD s i 0) 92 || leb 128 (getD s i 0)) ≡ false → Text.plain (drop i s) ≡ Text.plain (drop (i + 1) s)
-unfolding Text.plain
-plain-goes s i h e = rw (split s i h, e) refl
 
 -- the piece of a directive whose groups are read up to place i, the characters cs among them
 abbrev pub onward : List ℕ → ℕ → Text.Groups → Text.Piece

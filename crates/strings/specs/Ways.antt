@@ -6,24 +6,25 @@ use mathlib.Core.List.{List, [], _∷_, _++_, append-assoc, append-nil}
 use native.Mathlib.Omega.{arith}
 use borrow.Author.Tests.{ltb-true, lt-ltb, le-ltb, eq-eqb, ne-eqb}
 use lib.Dec.{eqb, leb, ltb}
-use lib.ListN.{length, drop, length-drop}
+use lib.ListN.{length, take, drop, length-drop}
 use lib.Seq.{drop-drop}
 use Rattle.lex.specs.Byte.{pick}
 use Rattle.utf8.specs.Utf8.{byteAt, Lead, valid, invalid, leadOf, codeOfLead, usedOfLead, encode, encodeAll}
 use Rattle.utf8.specs.Laws.{used-none, used-some}
 use Rattle.strings.specs.Text
 use Rattle.strings.specs.declared.Char.{Char}
-use Rattle.strings.specs.Code.{View, viewOf, oneView, Moved}
-use Rattle.strings.specs.Put.{most, Laid, laid-nothing, laid-chars}
-use Rattle.strings.specs.Hex.{both, two-below}
+use Rattle.strings.specs.Code.{View, viewOf, oneView, Moved, Ran, Turned}
+use Rattle.strings.specs.Put.{most, Laid, laid-nothing, laid-then, laid-chars}
+use Rattle.strings.specs.Hex.{both, found, missed, two-below}
+use Rattle.strings.specs.Runs.{text-plain, encode-plain, bytes-plain}
 use Rattle.strings.specs.Steps.{is-within, piece-fits, text-goes, text-ends}
 
--- a number below its bound is one that is there
-pub bounded : (t : Bool) (w n v : ℕ) → (t ≡ true → w < n) → v ≡ pick t w n → ltb v n ≡ t
-bounded true w n v f e = lt-ltb v n (rw e (f refl))
-bounded false w n v f e = le-ltb v n (omega arith)
+-- two tests that fail together fail with a third
+and-false : (a b t : Bool) → a && b ≡ false → a && (b && t) ≡ false
+and-false true b t h = rw h refl
+and-false false b t h = refl
 
-module _ (s : List ℕ) (x y z v : ℕ) (ex : x ≡ byteAt s 1) (ey : y ≡ byteAt s 2) (ez : z ≡ byteAt s 3) (ev : v ≡ pick (Text.twoAt s 3) (Text.twoOf s 3) 256) where
+module _ (s : List ℕ) (x y z : ℕ) (ex : x ≡ byteAt s 1) (ey : y ≡ byteAt s 2) (ez : z ≡ byteAt s 3) where
   -- the byte after the backslash, as the code tests it
   first : (a : ℕ) (t : Bool) → eqb x a ≡ t → Text.is s 1 a ≡ t
   first a t h = rw (sym ex) h
@@ -39,12 +40,6 @@ module _ (s : List ℕ) (x y z v : ℕ) (ex : x ≡ byteAt s 1) (ey : y ≡ byte
   -- `S`, a backslash and a byte, as the code tests it
   shifted : (t : Bool) → eqb x 83 && (eqb y 92 && leb 4 (length s)) ≡ t → Text.is s 1 83 && (Text.is s 2 92 && leb 4 (length s)) ≡ t
   shifted t h = rw (sym ex, sym ey) h
-
-  -- `X`, a backslash and two hex digits, as the code tests it
-  octet : (t : Bool) → eqb x 88 && (eqb y 92 && ltb v 256) ≡ t → Text.is s 1 88 && (Text.is s 2 92 && Text.twoAt s 3) ≡ t
-  octet t h =
-      let u : ltb v 256 ≡ Text.twoAt s 3 = bounded (Text.twoAt s 3) (Text.twoOf s 3) 256 v (two-below s 3) ev in
-      rw (sym ex, sym ey, sym u) h
 
   -- "`\\` a backslash"
   pub is-backslash : eqb x 92 ≡ true → oneView 92 2 ≡ viewOf (Text.directiveOf s)
@@ -76,18 +71,27 @@ module _ (s : List ℕ) (x y z v : ℕ) (ex : x ≡ byteAt s 1) (ey : y ≡ byte
           is-shift h = rw (first 92 false n1, slashed 78 false n2, slashed 84 false n3, paged false n4, shifted true h, ez) refl
 
           module _ (n5 : eqb x 83 && (eqb y 92 && leb 4 (length s)) ≡ false) where
-            -- "`\X\HH` one octet"
-            pub is-octet : eqb x 88 && (eqb y 92 && ltb v 256) ≡ true → v < 256 → oneView v 5 ≡ viewOf (Text.directiveOf s)
-            unfolding Text.directiveOf
-            is-octet h k =
-                let t : Text.twoAt s 3 ≡ true = sym (bounded (Text.twoAt s 3) (Text.twoOf s 3) 256 v (two-below s 3) ev) ∙ lt-ltb v 256 k in
-                let w : v ≡ Text.twoOf s 3 = ev ∙ rw t refl in
-                rw (first 92 false n1, slashed 78 false n2, slashed 84 false n3, paged false n4, shifted false n5, octet true h, w) refl
+            module _ (v : ℕ) (ev : v ≡ pick (Text.twoAt s 3) (Text.twoOf s 3) 256) (h : eqb x 88 && eqb y 92 ≡ true) where
+              -- `X` and a backslash, as the code tests them
+              octet : (Text.is s 1 88 ≡ true) × (Text.is s 2 92 ≡ true)
+              octet = both (Text.is s 1 88) (Text.is s 2 92) (slashed 88 true h)
+
+              -- "`\X\HH` one octet"
+              pub is-octet : v < 256 → oneView v 5 ≡ viewOf (Text.directiveOf s)
+              unfolding Text.directiveOf
+              is-octet k =
+                  let f = found (Text.twoAt s 3) (Text.twoOf s 3) 256 v ev k in
+                  rw (first 92 false n1, slashed 78 false n2, slashed 84 false n3, paged false n4, shifted false n5, octet .0, octet .1, f .0, f .1) refl
+
+              -- no two hex digits
+              pub no-octet : 256 ≤ v → viewOf (Text.longOf s) ≡ viewOf (Text.directiveOf s)
+              unfolding Text.directiveOf
+              no-octet k = rw (first 92 false n1, slashed 78 false n2, slashed 84 false n3, paged false n4, shifted false n5, octet .0, octet .1, missed (Text.twoAt s 3) (Text.twoOf s 3) 256 v (two-below s 3) ev k) refl
 
             -- none of them
-            pub is-long : eqb x 88 && (eqb y 92 && ltb v 256) ≡ false → viewOf (Text.longOf s) ≡ viewOf (Text.directiveOf s)
+            pub is-long : eqb x 88 && eqb y 92 ≡ false → viewOf (Text.longOf s) ≡ viewOf (Text.directiveOf s)
             unfolding Text.directiveOf
-            is-long h = rw (first 92 false n1, slashed 78 false n2, slashed 84 false n3, paged false n4, shifted false n5, octet false h) refl
+            is-long h = rw (first 92 false n1, slashed 78 false n2, slashed 84 false n3, paged false n4, shifted false n5, and-false (Text.is s 1 88) (Text.is s 2 92) (Text.twoAt s 3) (slashed 88 false h)) refl
 
 module _ (s : List ℕ) (n0 : eqb (byteAt s 0) 92 ≡ false) (b d : ℕ) (eb : b ≡ byteAt s 0) (ed : d ≡ byteAt s 1) where
   -- two quotes, as the code tests it
@@ -172,44 +176,54 @@ pub no-directive : (s : List ℕ) (b : ℕ) → b ≡ byteAt s 0 → (b ≡ 92 �
 no-directive s b e h = ne-eqb (byteAt s 0) 92 (λ k. h (e ∙ k))
 
 -- the text is read up to place i, and its characters put
-pub record Running (s o₀ : List ℕ) (i a : ℕ) (o : List ℕ) : Type 0 where
+pub record Running (s : List ℕ) (a₀ : ℕ) (o₀ : List ℕ) (i a : ℕ) (o : List ℕ) : Type 0 where
   pub done : List ℕ
   pub within : i ≤ length s
   pub ahead : Text.textOf s ≡ done ++ Text.textOf (drop i s)
-  pub put : Laid 0 o₀ (encodeAll done) a o
+  pub put : Laid a₀ o₀ (encodeAll done) a o
   pub kept : length o ≡ length o₀
 
 -- at the start
-pub running-starts : (s o : List ℕ) → Running s o 0 0 o
-running-starts s o = record { done = []; within = omega arith; ahead = refl; put = laid-nothing 0 o (omega arith); kept = refl }
+pub running-starts : (s : List ℕ) (a : ℕ) (o : List ℕ) → a ≤ most → Running s a o 0 a o
+running-starts s a o m = record { done = []; within = omega arith; ahead = refl; put = laid-nothing a o m; kept = refl }
 
--- a piece is read
-pub running-goes : (s o₀ : List ℕ) (i a : ℕ) (o t : List ℕ) (e k : ℕ) (p : List ℕ) → length o₀ ≤ most → i < length s → t ≡ drop i s → Running s o₀ i a o → Moved (Text.pieceOf t) a o e k p → length p ≡ length o → Running s o₀ (i + k) e p
-running-goes s o₀ i a o t e k p m h q r v j =
-    let n : 0 < length (drop i s) = omega (arith, length-drop i s) in
-    let w : k ≡ Text.pieceOf (drop i s) .used = v .read ∙ ap (λ (z : List ℕ). Text.pieceOf z .used) q in
-    let l : Laid a o (encodeAll (Text.pieceOf (drop i s) .chars)) e p = rw (sym q) (v .put) in
-    let f = piece-fits (drop i s) n in
-    let g : Text.textOf (drop i s) ≡ Text.pieceOf (drop i s) .chars ++ Text.textOf (drop k (drop i s)) = text-goes (drop i s) k n w (omega arith) in
+-- a piece and the plain bytes after it
+pub turned : (s : List ℕ) (a : ℕ) (o : List ℕ) (e k : ℕ) (p t : List ℕ) (n f : ℕ) (q : List ℕ) → length o ≤ most → 0 < length s → t ≡ drop k s → Moved (Text.pieceOf s) a o e k p → Ran t e p f n q → Turned s a o f (k + n) q
+turned s a o e k p t n f q m h w v y =
+    let z = piece-fits s h in
+    let x : Text.textOf s ≡ Text.pieceOf s .chars ++ Text.textOf t = text-goes s k h (v .read) (omega (arith, v .read)) ∙ ap (λ (u : List ℕ). Text.pieceOf s .chars ++ Text.textOf u) (sym w) in
+    let d : drop n t ≡ drop (k + n) s = ap (drop n) w ∙ drop-drop n k s in
     record {
-      done = r .done ++ Text.pieceOf (drop i s) .chars;
-      within = omega (arith, length-drop i s);
-      ahead = r .ahead ∙ ap (λ (z : List ℕ). r .done ++ z) g ∙ sym (append-assoc (r .done) (Text.pieceOf (drop i s) .chars) (Text.textOf (drop k (drop i s)))) ∙ ap (λ (z : List ℕ). r .done ++ Text.pieceOf (drop i s) .chars ++ Text.textOf z) (drop-drop k i s);
-      put = laid-chars 0 o₀ (r .done) a o (Text.pieceOf (drop i s) .chars) e p m (r .put) l;
+      chars = Text.pieceOf s .chars ++ take n t;
+      put = laid-chars a o (Text.pieceOf s .chars) e p (take n t) f q m (v .put) (rw (encode-plain (take n t) (y .plainly)) (y .put));
+      ahead = x ∙ ap (λ (u : List ℕ). Text.pieceOf s .chars ++ u) (text-plain n t (y .within) (y .plainly)) ∙ sym (append-assoc (Text.pieceOf s .chars) (take n t) (Text.textOf (drop n t))) ∙ ap (λ (u : List ℕ). Text.pieceOf s .chars ++ take n t ++ Text.textOf u) d;
+      some = omega (arith, v .read);
+      within = omega (arith, v .read, length-drop k s, ap length w, y .within);
+    }
+
+-- pieces are read
+pub running-goes : (s : List ℕ) (a₀ : ℕ) (o₀ : List ℕ) (i a : ℕ) (o t : List ℕ) (e k : ℕ) (p : List ℕ) → length o₀ ≤ most → t ≡ drop i s → Running s a₀ o₀ i a o → Turned t a o e k p → length p ≡ length o → Running s a₀ o₀ (i + k) e p
+running-goes s a₀ o₀ i a o t e k p m q r v j =
+    let d : drop k t ≡ drop (i + k) s = ap (drop k) q ∙ drop-drop k i s in
+    record {
+      done = r .done ++ v .chars;
+      within = omega (arith, length-drop i s, ap length q, v .within, v .some);
+      ahead = r .ahead ∙ ap (λ (z : List ℕ). r .done ++ Text.textOf z) (sym q) ∙ ap (λ (z : List ℕ). r .done ++ z) (v .ahead) ∙ sym (append-assoc (r .done) (v .chars) (Text.textOf (drop k t))) ∙ ap (λ (z : List ℕ). r .done ++ v .chars ++ Text.textOf z) d;
+      put = laid-chars a₀ o₀ (r .done) a o (v .chars) e p m (r .put) (v .put);
       kept = j ∙ r .kept;
     }
 
--- the bytes of a piece are there
-pub moved-fits : (s : List ℕ) (i a : ℕ) (o t : List ℕ) (e k : ℕ) (p : List ℕ) → i < length s → t ≡ drop i s → Moved (Text.pieceOf t) a o e k p → (0 < k) × (i + k ≤ length s)
-moved-fits s i a o t e k p h q v =
-    let n : 0 < length (drop i s) = omega (arith, length-drop i s) in
-    let w : k ≡ Text.pieceOf (drop i s) .used = v .read ∙ ap (λ (z : List ℕ). Text.pieceOf z .used) q in
-    let f = piece-fits (drop i s) n in
-    (omega arith, omega (arith, length-drop i s))
+-- the bytes of pieces are there
+pub turned-fits : (s : List ℕ) (i a : ℕ) (o t : List ℕ) (e k : ℕ) (p : List ℕ) → t ≡ drop i s → Turned t a o e k p → (0 < k) × (i + k ≤ length s)
+turned-fits s i a o t e k p q v = (v .some, omega (arith, length-drop i s, ap length q, v .within, v .some))
 
 -- no byte is left
-pub running-ends : (s o₀ : List ℕ) (i a : ℕ) (o : List ℕ) → length s ≤ i → Running s o₀ i a o → Laid 0 o₀ (Text.bytesOf s) a o
+pub running-ends : (s : List ℕ) (a₀ : ℕ) (o₀ : List ℕ) (i a : ℕ) (o : List ℕ) → length s ≤ i → Running s a₀ o₀ i a o → Laid a₀ o₀ (Text.bytesOf s) a o
 unfolding Text.bytesOf
-running-ends s o₀ i a o h r =
+running-ends s a₀ o₀ i a o h r =
     let e : Text.textOf s ≡ r .done = r .ahead ∙ ap (λ (z : List ℕ). r .done ++ z) (text-ends s i h) ∙ append-nil (r .done) in
     rw e (r .put)
+
+-- plain bytes, and the text after them
+pub run-whole : (s o : List ℕ) (n e : ℕ) (p t : List ℕ) (f : ℕ) (q : List ℕ) → length o ≤ most → n ≤ length s → Text.plain (take n s) ≡ true → t ≡ drop n s → Laid 0 o (take n s) e p → Laid e p (Text.bytesOf t) f q → Laid 0 o (Text.bytesOf s) f q
+run-whole s o n e p t f q m h g w x y = rw (bytes-plain n s h g, sym w) (laid-then 0 o (take n s) e p (Text.bytesOf t) f q m x y)

@@ -1,24 +1,23 @@
 // The text of a string: document 01's 'Strings', as the Rust's decode_string.
 //
-// A text without a quote, a backslash or a high byte is shown as it stands in the file. Any other is put into lent room, in UTF-8: a
-// first run counts its bytes and a second one writes them, so that a room that is too short keeps what it had. A piece of the text is
-// read from a slice that starts at it and is not looked at again, but for the groups before a bad one: these are hex digits alone,
+// A text without a quote, a backslash or a high byte is shown as it stands in the file. Any other is put into lent room, in UTF-8: at
+// once where the room has twice the string's bytes, which no text exceeds (specs/Ample.antt), and else a first run counts its bytes and a
+// second one writes them, so that a room that is too short keeps what it had. Plain bytes are passed a run at a time. A piece of the text
+// is read from a slice that starts at it and is not looked at again, but for the groups before a bad one: these are hex digits alone,
 // and no directive begins with a backslash and a hex digit, so that they are read twice and no more, and the time grows with the
 // length.
 ghost use mathlib.Core.Path.{_≡_};
 ghost use mathlib.Core.List.{[], _∷_};
-ghost use mathlib.Core.Bool.{false};
-ghost use Prim.Native.Nat.{_+_, _≤_, min};
+ghost use mathlib.Core.Bool.{true, false};
+ghost use Prim.Native.Nat.{_+_, _*_, _-_, _≤_, _<_, min};
 ghost use lib.Dec.{eqb};
-ghost use lib.ListN.{length, drop};
+ghost use lib.ListN.{length, take, drop};
+ghost use lib.Seq.{paste};
 ghost use Rattle.lex.specs.Byte.{pick};
 ghost use Rattle.utf8.specs.Utf8.{byteAt, encodeAll};
 ghost use Rattle.strings.specs.Text.{hexDigit, hexValue, twoAt, twoOf, fourAt, fourOf, groupTwo, groupFour, groupOf, closing, plain, shown, joined, longOf, directiveOf, pieceOf, extended, groupsFrom, bytesOf};
-ghost use Rattle.strings.specs.Code.{toldGroup, oneView, viewOf, Moved, decodedOf, roomAfter, shownOf, toldText, answerOf};
+ghost use Rattle.strings.specs.Code.{toldGroup, oneView, viewOf, Moved, Passed, Ran, Turned, decodedOf, roomAfter, shownOf, toldText, answerOf};
 ghost use Rattle.strings.specs.Put.{most, Laid};
-
-// What a hex digit's place gives where no hex digit stands.
-const NO_DIGIT: u32 = 16;
 
 // The byte at a place, or 256, which is no byte, past the end.
 fn byte_at(s: &[u8], k: usize) -> u32
@@ -30,20 +29,27 @@ fn byte_at(s: &[u8], k: usize) -> u32
     256
 }
 
-// A hex digit's value, or 16.
-fn hex_value(b: u32) -> u32
-    ensures { λ r. ⌜ r ≡ pick (hexDigit b) (hexValue b) 16 ⌝ }
+// Whether a byte is a hex digit.
+fn is_hex(b: u32) -> bool
+    ensures { λ r. ⌜ r ≡ hexDigit b ⌝ }
 {
-    if (48 <= b) & (b <= 57) {
-        return b - 48;
-    }
-    if (65 <= b) & (b <= 70) {
-        return b - 55;
-    }
-    if (97 <= b) & (b <= 102) {
-        return b - 87;
-    }
-    NO_DIGIT
+    ((48 <= b) & (b <= 57)) | (((65 <= b) & (b <= 70)) | ((97 <= b) & (b <= 102)))
+}
+
+// A hex digit's value, without a jump: a processor cannot foresee which digits are letters.
+fn hex_value(b: u32) -> u32
+    requires { ⌜ hexDigit b ≡ true ⌝ }
+    ensures { λ r. ⌜ r ≡ hexValue b ⌝ }
+{
+    b % 16 + b / 64 * 9
+}
+
+// The number of two hex digits.
+fn pair_value(a: u32, b: u32) -> u32
+    requires { ⌜ (hexDigit a ≡ true) × (hexDigit b ≡ true) ⌝ }
+    ensures { λ r. ⌜ (r ≡ hexValue a * 16 + hexValue b) × (r < 256) ⌝ }
+{
+    hex_value(a) * 16 + hex_value(b)
 }
 
 // The number of two hex digits, or 256 where they are not.
@@ -51,23 +57,31 @@ fn hex_two(s: &[u8], k: usize) -> u32
     requires { ⌜ k ≤ 8 ⌝ }
     ensures { λ r. ⌜ r ≡ pick (twoAt (now (s .entry)) k) (twoOf (now (s .entry)) k) 256 ⌝ }
 {
-    let a = hex_value(byte_at(s, k));
-    let b = hex_value(byte_at(s, k + 1));
-    if (a < 16) & (b < 16) {
-        return a * 16 + b;
+    if s.len() < k + 2 {
+        return 256;
+    }
+    let a = s[k] as u32;
+    let b = s[k + 1] as u32;
+    if is_hex(a) & is_hex(b) {
+        return pair_value(a, b);
     }
     256
 }
 
-// The number of four hex digits, or 65536 where they are not.
+// The number of four hex digits, or 65536 where they are not: one test tells, once all four are read.
 fn hex_four(s: &[u8], k: usize) -> u32
     requires { ⌜ k ≤ 4 ⌝ }
     ensures { λ r. ⌜ r ≡ pick (fourAt (now (s .entry)) k) (fourOf (now (s .entry)) k) 65536 ⌝ }
 {
-    let a = hex_two(s, k);
-    let b = hex_two(s, k + 2);
-    if (a < 256) & (b < 256) {
-        return a * 256 + b;
+    if s.len() < k + 4 {
+        return 65536;
+    }
+    let a = s[k] as u32;
+    let b = s[k + 1] as u32;
+    let c = s[k + 2] as u32;
+    let d = s[k + 3] as u32;
+    if (is_hex(a) & is_hex(b)) & (is_hex(c) & is_hex(d)) {
+        return pair_value(a, b) * 256 + pair_value(c, d);
     }
     65536
 }
@@ -167,7 +181,7 @@ fn closing_len(s: &[u8]) -> usize
 // Whether one of 64 bytes is not the text as it stands. It only notes one, so that the compiler takes many bytes at a time.
 fn block_differs(s: &[u8], at: usize) -> bool
     requires { ⌜ at + 64 ≤ length (now s) ⌝ }
-    ensures { λ r. ⌜ (r ≡ false → plain (drop at (now (s .entry))) ≡ plain (drop (at + 64) (now (s .entry)))) ⌝ }
+    ensures { λ r. ⌜ (r ≡ false → plain (take at (now (s .entry))) ≡ true → plain (take (at + 64) (now (s .entry))) ≡ true) ⌝ }
 {
     let mut hit = false;
     let mut k = 0;
@@ -179,11 +193,12 @@ fn block_differs(s: &[u8], at: usize) -> bool
     hit
 }
 
-// Past the blocks of 64 bytes that are the text as they stand, from the start on.
-fn plain_blocks(s: &[u8]) -> usize
-    ensures { λ r. ⌜ (plain (now (s .entry)) ≡ plain (drop r (now (s .entry)))) × (r ≤ length (now (s .entry))) ⌝ }
+// Past the blocks of 64 bytes that are the text as they stand, from a place on.
+fn plain_blocks(s: &[u8], from: usize) -> usize
+    requires { ⌜ (from ≤ length (now s)) × (plain (take from (now s)) ≡ true) ⌝ }
+    ensures { λ r. ⌜ (r ≤ length (now (s .entry))) × (plain (take r (now (s .entry))) ≡ true) ⌝ }
 {
-    let mut i = 0;
+    let mut i = from;
     while s.len() - i >= 64 {
         if block_differs(s, i) {
             return i;
@@ -193,19 +208,70 @@ fn plain_blocks(s: &[u8]) -> usize
     i
 }
 
-// Whether the bytes are the text as they stand.
-fn is_plain(s: &[u8]) -> bool
-    ensures { λ r. ⌜ r ≡ plain (now (s .entry)) ⌝ }
+// Past the bytes that are the text as they stand, one by one from a place up to another.
+fn plain_to(s: &[u8], from: usize, to: usize) -> usize
+    requires { ⌜ (from ≤ to) × (to ≤ length (now s)) × (plain (take from (now s)) ≡ true) ⌝ }
+    ensures { λ r. ⌜ Passed (now (s .entry)) to r ⌝ }
 {
-    let mut i = plain_blocks(s);
-    while i < s.len() {
+    let mut i = from;
+    while i < to {
         let b = s[i];
         if (b == 39) | ((b == 92) | (128 <= b)) {
-            return false;
+            return i;
         }
         i += 1;
     }
-    true
+    i
+}
+
+// How many bytes from the start on are the text as they stand. A short run is found without the blocks.
+fn plain_len(s: &[u8]) -> usize
+    ensures { λ r. ⌜ Passed (now (s .entry)) (length (now (s .entry))) r ⌝ }
+{
+    let n = s.len();
+    if n < 64 {
+        return plain_to(s, 0, n);
+    }
+    let i = plain_to(s, 0, 16);
+    if i < 16 {
+        return i;
+    }
+    plain_to(s, plain_blocks(s, i), n)
+}
+
+// Copies the first bytes of a part of the file to a place of the room, where they fit.
+fn copy(s: &[u8], n: usize, out: &mut [u8], at: usize)
+    requires { ⌜ (n ≤ length (now s)) × (at + n ≤ length (now out)) ⌝ }
+    ensures { λ _. ⌜ now (out .exit) ≡ paste (now (out .entry)) at (now (s .entry)) n ⌝ }
+{
+    let mut k = 0;
+    while k < n {
+        out[at + k] = s[k];
+        k += 1;
+    }
+}
+
+// A place so many bytes further; the largest number where that is none.
+fn plus(at: usize, n: usize) -> usize
+    ensures { λ r. ⌜ r ≡ min most (at + n) ⌝ }
+{
+    if 18446744073709551615 - at < n {
+        return 18446744073709551615;
+    }
+    at + n
+}
+
+// Puts the first bytes where they fit, and counts them wherever they stand.
+fn lay(s: &[u8], n: usize, out: &mut [u8], at: usize) -> usize
+    requires { ⌜ n ≤ length (now s) ⌝ }
+    ensures { λ r. ⌜ Laid at (now (out .entry)) (take n (now (s .entry))) r (now (out .exit)) ⌝ }
+{
+    let end = plus(at, n);
+    if end <= out.len() {
+        copy(s, n, out, at);
+        return end;
+    }
+    end
 }
 
 // A number that is no character: it has no encoding.
@@ -218,7 +284,6 @@ fn short(s: &[u8]) -> Char
     let x = byte_at(s, 1);
     let y = byte_at(s, 2);
     let z = byte_at(s, 3);
-    let v = hex_two(s, 3);
     if x == 92 {
         return Char { code: 92, used: 2 };
     }
@@ -240,8 +305,12 @@ fn short(s: &[u8]) -> Char
             used: 4,
         };
     }
-    if (x == 88) & ((y == 92) & (v < 256)) {
-        return Char { code: v, used: 5 };
+    if (x == 88) & (y == 92) {
+        let v = hex_two(s, 3);
+        if v < 256 {
+            return Char { code: v, used: 5 };
+        }
+        return Char { code: 0, used: 0 };
     }
     Char { code: 0, used: 0 }
 }
@@ -272,12 +341,11 @@ fn ordinary(s: &[u8]) -> Char
 fn put_char(out: &mut [u8], at: usize, code: u32) -> usize
     ensures { λ r. ⌜ Laid at (now (out .entry)) (encodeAll (code ∷ [])) r (now (out .exit)) ⌝ }
 {
-    let w = utf8::width(code);
-    utf8::put(out, at, code);
-    if 18446744073709551615 - at < w {
-        return 18446744073709551615;
+    let u = utf8::put(out, at, code);
+    if u != 0 {
+        return at + u;
     }
-    at + w
+    plus(at, utf8::width(code))
 }
 
 // The bytes counted so far, and how many bytes of the string were read for a piece.
@@ -316,7 +384,7 @@ fn groups(s: &[u8], width: usize, out: &mut [u8], at: usize) -> Reached
     Reached { at: n, used: i }
 }
 
-// A directive, or a literal backslash.
+// A directive, or a literal backslash. What `groups` answers is made anew, so that the other answers need not go through memory.
 fn directive(s: &[u8], out: &mut [u8], at: usize) -> Reached
     ensures { λ r. ⌜ Moved (directiveOf (now (s .entry))) at (now (out .entry)) (r .at) (r .used) (now (out .exit)) ⌝ }
 {
@@ -332,10 +400,18 @@ fn directive(s: &[u8], out: &mut [u8], at: usize) -> Reached
     let y = byte_at(s, 2);
     let z = byte_at(s, 3);
     if (x == 88) & ((y == 50) & (z == 92)) {
-        return groups(s, 4, out, at);
+        let g = groups(s, 4, out, at);
+        return Reached {
+            at: g.at,
+            used: g.used,
+        };
     }
     if (x == 88) & ((y == 52) & (z == 92)) {
-        return groups(s, 8, out, at);
+        let g = groups(s, 8, out, at);
+        return Reached {
+            at: g.at,
+            used: g.used,
+        };
     }
     Reached {
         at: put_char(out, at, 92),
@@ -358,18 +434,92 @@ fn step(s: &[u8], out: &mut [u8], at: usize) -> Reached
     }
 }
 
-// Counts the bytes of the text, and writes them where they fit.
-fn run(raw: &[u8], out: &mut [u8]) -> usize
-    ensures { λ r. ⌜ Laid 0 (now (out .entry)) (bytesOf (now (raw .entry))) r (now (out .exit)) ⌝ }
+// How many of so many bytes fit from a place on.
+fn fitting(room: usize, at: usize, n: usize) -> usize
+    ensures { λ r. ⌜ (r ≤ n) × (r ≤ room - at) ⌝ }
 {
-    let mut at = 0;
+    if room < at {
+        return 0;
+    }
+    if n < room - at {
+        return n;
+    }
+    room - at
+}
+
+// Copies plain bytes up to one that is not, or so many.
+fn follow(s: &[u8], m: usize, out: &mut [u8], at: usize) -> usize
+    requires { ⌜ (m ≤ length (now s)) × (m ≤ length (now out) - at) ⌝ }
+    ensures { λ r. ⌜ (r ≤ m) × (plain (take r (now (s .entry))) ≡ true) × (now (out .exit) ≡ paste (now (out .entry)) at (now (s .entry)) r) ⌝ }
+{
+    let mut k = 0;
+    while k < m {
+        let b = s[k];
+        if (b == 39) | ((b == 92) | (128 <= b)) {
+            return k;
+        }
+        out[at + k] = b;
+        k += 1;
+    }
+    k
+}
+
+// The plain bytes at the start: copied while they are found, as a run between two pieces is mostly short; where no room is left they are
+// found and counted.
+fn plain_run(s: &[u8], out: &mut [u8], at: usize) -> Reached
+    ensures { λ r. ⌜ Ran (now (s .entry)) at (now (out .entry)) (r .at) (r .used) (now (out .exit)) ⌝ }
+{
+    let m = fitting(out.len(), at, s.len());
+    let k = follow(s, m, out, at);
+    if k < m {
+        return Reached {
+            at: at + k,
+            used: k,
+        };
+    }
+    let t = &s[k..];
+    let n = plain_len(t);
+    Reached {
+        at: lay(t, n, out, at + k),
+        used: k + n,
+    }
+}
+
+// A piece of the text and the plain bytes after it.
+fn turn(s: &[u8], out: &mut [u8], at: usize) -> Reached
+    requires { ⌜ 0 < length (now s) ⌝ }
+    ensures { λ r. ⌜ Turned (now (s .entry)) at (now (out .entry)) (r .at) (r .used) (now (out .exit)) ⌝ }
+{
+    let r = step(s, out, at);
+    let used = r.used;
+    let q = plain_run(&s[used..], out, r.at);
+    Reached {
+        at: q.at,
+        used: used + q.used,
+    }
+}
+
+// Counts the bytes of the text behind so many, and writes them where they fit.
+fn turns(s: &[u8], out: &mut [u8], from: usize) -> usize
+    ensures { λ r. ⌜ Laid from (now (out .entry)) (bytesOf (now (s .entry))) r (now (out .exit)) ⌝ }
+{
+    let mut at = from;
     let mut i = 0;
-    while i < raw.len() {
-        let r = step(&raw[i..], out, at);
+    while i < s.len() {
+        let r = turn(&s[i..], out, at);
         at = r.at;
         i += r.used;
     }
     at
+}
+
+// Counts the bytes of the text, whose first bytes are plain, and writes them where they fit.
+fn run(raw: &[u8], n: usize, out: &mut [u8]) -> usize
+    requires { ⌜ (n ≤ length (now raw)) × (plain (take n (now raw)) ≡ true) ⌝ }
+    ensures { λ r. ⌜ Laid 0 (now (out .entry)) (bytesOf (now (raw .entry))) r (now (out .exit)) ⌝ }
+{
+    let at = lay(raw, n, out, 0);
+    turns(&raw[n..], out, at)
 }
 
 // Where a string's text is: it is the string's bytes, or so many bytes of the lent room; or the room is too short.
@@ -383,8 +533,9 @@ pub enum Decoded {
 pub fn text_length(raw: &[u8]) -> usize
     ensures { λ r. ⌜ r ≡ min most (length (bytesOf (now (raw .entry)))) ⌝ }
 {
+    let p = plain_len(raw);
     let mut none = [0u8; 1];
-    run(raw, &mut none)
+    run(raw, p, &mut none)
 }
 
 // Finds a string's text, and writes it where it is not the string itself and fits.
@@ -393,14 +544,19 @@ pub fn decode_string(raw: &[u8], out: &mut [u8]) -> Decoded
     ensures { λ _. ⌜ now (out .exit) ≡ roomAfter (now (raw .entry)) (now (out .entry)) ⌝ }
     ensures { λ r. ⌜ toldText (now (raw .entry)) (now (out .exit)) r ≡ answerOf (now (raw .entry)) (length (now (out .entry))) ⌝ }
 {
-    if is_plain(raw) {
+    let p = plain_len(raw);
+    if p == raw.len() {
         return Decoded::Plain;
+    }
+    if raw.len() <= out.len() / 2 {
+        let n = run(raw, p, out);
+        return Decoded::Written(n);
     }
     let n = text_length(raw);
     if out.len() < n {
         return Decoded::Short;
     }
-    run(raw, out);
+    run(raw, p, out);
     Decoded::Written(n)
 }
 

@@ -1,52 +1,60 @@
-use Rattle.strings.specs.Text.{plain}
-use Rattle.strings.specs.Steps.{plain-goes}
-use Rattle.strings.specs.Hex.{neither}
 use Prim.Native.Nat.{ℕ, _+_, _-_, _≤_}
-use lib.Dec.{eqb, leb}
-use lib.ListN.{drop, getD}
-use mathlib.Core.Bool.{false, _||_}
-use mathlib.Core.Path.{_≡_, refl, _∙_, ap, subst}
 use native.Mathlib.Omega.{arith}
 use borrow.Author.Needs.{needs}
+use mathlib.Core.Path.{_≡_, subst}
+use mathlib.Core.Bool.{true, false}
 use denote.Ref.{now}
+use lib.ListN.{take, getD}
+use Rattle.strings.specs.Text.{plain}
+use Rattle.strings.specs.Hex.{neither}
+use Rattle.strings.specs.Runs.{special, plain-more}
 use Rattle.strings.proofs.block_differs.Statement.{statement}
 use Rattle.strings.proofs.block_differs.Tie as tie
 use Rattle.strings.proofs.block_differs.Reads as reads
 use Rattle.strings.proofs.block_differs.Lts as lts
 
 abbrev Inv-loop : tie.InvT-loop
-Inv-loop s at hit₀ k₀ hit k = (k ≤ 64) × (hit ≡ false → plain (drop at s) ≡ plain (drop (at + k) s))
+Inv-loop s at hit₀ k₀ hit k = (k ≤ 64) × (hit ≡ false → plain (take at s) ≡ true → plain (take (at + k) s) ≡ true)
 
 abbrev μ-loop : tie.MeasureT-loop
 μ-loop s at hit₀ k₀ hit k = 64 - k
 
--- src/lib.rt:174:5
+-- src/lib.rt:187:5
 loop-holds : tie.Need-loop-holds Inv-loop μ-loop
-loop-holds c = let s = now (c .args .s) in let e : c .args .at ≡ c .args .at + 0 = omega arith in (omega arith, λ _. ap (λ (n : ℕ). plain (drop n s)) e)
+loop-holds c = let a = c .args in let e : a .at ≡ a .at + 0 = omega arith in (omega arith, λ _ p. subst (λ (n : ℕ). plain (take n (now (a .s))) ≡ true) e p)
 
--- src/lib.rt:175:19
+-- src/lib.rt:188:19
 add-b : tie.Need-add-b Inv-loop μ-loop
 add-b c = search needs
 
--- src/lib.rt:175:17
+-- src/lib.rt:188:17
 shared-slice-read-b : tie.Need-shared-slice-read-b Inv-loop μ-loop
 shared-slice-read-b c = search needs
 
--- src/lib.rt:177:9
+-- src/lib.rt:190:9
 add-k : tie.Need-add-k Inv-loop μ-loop
 add-k c = search needs
 
--- src/lib.rt:174:5
+-- src/lib.rt:187:5
 loop-less : tie.Need-loop-less Inv-loop μ-loop
 loop-less c = search needs
 
--- src/lib.rt:174:5
+-- src/lib.rt:187:5
 loop-again : tie.Need-loop-again Inv-loop μ-loop
-loop-again c = let a = c .before .before .before .args in let s = now (a .s) in let l = c .before .before .loop in let x = getD s (a .at + l .k) 0 in (omega arith, λ h. let n = neither (l .hit) (eqb x 39 || (eqb x 92 || leb 128 x)) h in let e : a .at + l .k + 1 ≡ a .at + (l .k + 1) = omega arith in l .inv .1 (n .0) ∙ plain-goes s (a .at + l .k) (omega arith) (n .1) ∙ ap (λ (m : ℕ). plain (drop m s)) e)
+loop-again c =
+    let a = c .before .before .before .args in
+    let s = now (a .s) in
+    let l = c .before .before .loop in
+    let e : a .at + l .k + 1 ≡ a .at + (l .k + 1) = omega arith in
+    (omega arith, λ h p. let n = neither (l .hit) (special (getD s (a .at + l .k) 0)) h in subst (λ (m : ℕ). plain (take m s) ≡ true) e (plain-more s (a .at + l .k) (omega arith) (n .1) (l .inv .1 (n .0) p)))
 
--- src/lib.rt:168:1
+-- src/lib.rt:181:1
 returns : tie.Need-returns Inv-loop μ-loop
-returns c = let a = c .before .before .args in let s = now (a .s) in let l = c .before .loop in let e : l .k ≡ 64 = omega (arith, l .inv .0) in λ h. subst (λ (n : ℕ). plain (drop (a .at) s) ≡ plain (drop (a .at + n) s)) e (l .inv .1 h)
+returns c =
+    let a = c .before .before .args in
+    let l = c .before .loop in
+    let e : l .k ≡ 64 = omega (arith, l .inv .0) in
+    λ h p. subst (λ (n : ℕ). plain (take (a .at + n) (now (a .s))) ≡ true) e (l .inv .1 h p)
 
 pub block-differs-spec : {M : Type 1} → statement M
 block-differs-spec =

@@ -1,52 +1,88 @@
-use borrow.Author.Needs.{needs}
 use native.Mathlib.Omega.{arith}
-use mathlib.Core.Path.{sym, _∙_}
 use denote.Ref.{now}
-use Rattle.strings.specs.Decoded.{decoded-plain, decoded-short, decoded-written}
+use Rattle.strings.specs.Runs.{plain-whole}
+use Rattle.strings.specs.Decoded.{decoded-plain, decoded-short, decoded-written, decoded-ample}
+use borrow.Author.Needs.{needs}
 use Rattle.strings.proofs.decode_string.Statement.{statement}
 use Rattle.strings.proofs.decode_string.Tie as tie
 use Rattle.strings.proofs.decode_string.Reads as reads
 use Rattle.strings.proofs.decode_string.Lts as lts
-use Rattle.strings.proofs.is_plain.Reads as is-plain-reads
+use Rattle.strings.proofs.plain_len.Reads as plain-len-reads
 use Rattle.strings.proofs.run.Reads as run-reads
 use Rattle.strings.proofs.text_length.Reads as text-length-reads
 
--- src/lib.rt:365:8
-is-plain-requires : tie.Need-is-plain-requires
-is-plain-requires c κs = search needs
+-- src/lib.rt:488:9
+plain-len-requires : tie.Need-plain-len-requires
+plain-len-requires c κs = search needs
 
--- src/lib.rt:366:9
+-- src/lib.rt:490:9
 returns : tie.Need-returns
-returns c = let k = c .before in let a = k .before .before .before .args in decoded-plain (now (a .raw)) (now (a .out)) (sym (k .is-plain .ensures) ∙ c .if1 .taken)
+returns c =
+    let k = c .before in
+    let b = k .before .before .before in
+    let s = now (b .args .raw) in
+    let o = now (b .args .out) in
+    decoded-plain s o (plain-whole s (k .plain-len .result) (omega arith) (k .plain-len .ensures .plainly))
 
--- src/lib.rt:368:9
-text-length-requires : tie.Need-text-length-requires
-text-length-requires c κs = search needs
-
--- src/lib.rt:370:9
-returns-2 : tie.Need-returns-2
-returns-2 c = let k = c .before .before .before in let a = k .before .before .before .args in decoded-short (now (a .raw)) (now (a .out)) (c .before .text-length .result) (sym (k .is-plain .ensures) ∙ c .before .before .if1 .left) (c .before .text-length .ensures) (omega arith)
-
--- src/lib.rt:372:5
+-- src/lib.rt:493:13
 run-requires : tie.Need-run-requires
 run-requires c κs = search needs
 
--- src/lib.rt:361:1
+-- src/lib.rt:494:9
 same-length : tie.Need-same-length
 same-length c = search needs
 
--- src/lib.rt:361:1
+-- src/lib.rt:494:9
+returns-2 : tie.Need-returns-2
+returns-2 c =
+    let k = c .before .before .before .before .before .before in
+    let b = k .before .before .before in
+    let s = now (b .args .raw) in
+    let o = now (b .args .out) in
+    decoded-ample s o (c .before .before .run .last .1 .1 .0) (c .before .before .run .result) (k .plain-len .ensures .stops (omega (arith, k .plain-len .ensures .within))) (λ i. omega (arith, k .before .before .shared-slice-known .given i)) (omega arith) (omega (arith, b .good .1 .0 .1)) (c .before .before .run .ensures)
+
+-- src/lib.rt:496:9
+text-length-requires : tie.Need-text-length-requires
+text-length-requires c κs = search needs
+
+-- src/lib.rt:498:9
 returns-3 : tie.Need-returns-3
-returns-3 c = let t = c .before .before .before .before .before in let k = t .before .before in let b = k .before .before .before in decoded-written (now (b .args .raw)) (now (b .args .out)) (c .before .before .run .last .1 .0) (t .text-length .result) _ (sym (k .is-plain .ensures) ∙ t .before .if1 .left) (t .text-length .ensures) (omega arith) (omega (arith, b .good .1 .0 .1)) (c .before .before .run .ensures)
+returns-3 c =
+    let k = c .before .before .before .before in
+    let b = k .before .before .before in
+    let s = now (b .args .raw) in
+    let o = now (b .args .out) in
+    decoded-short s o (c .before .text-length .result) (k .plain-len .ensures .stops (omega (arith, k .plain-len .ensures .within))) (c .before .text-length .ensures) (omega arith)
+
+-- src/lib.rt:500:5
+run-requires-2 : tie.Need-run-requires-2
+run-requires-2 c κs = search needs
+
+-- src/lib.rt:483:1
+same-length-2 : tie.Need-same-length-2
+same-length-2 c = search needs
+
+-- src/lib.rt:483:1
+returns-4 : tie.Need-returns-4
+returns-4 c =
+    let k = c .before .before .before .before .before .before .before .before in
+    let b = k .before .before .before in
+    let s = now (b .args .raw) in
+    let o = now (b .args .out) in
+    let t = c .before .before .before .before .before in
+    decoded-written s o (c .before .before .run2 .last .1 .1 .0) (t .text-length .result) _ (k .plain-len .ensures .stops (omega (arith, k .plain-len .ensures .within))) (t .text-length .ensures) (omega arith) (omega (arith, b .good .1 .0 .1)) (c .before .before .run2 .ensures)
 
 pub decode-string-spec : {M : Type 1} → statement M
 decode-string-spec =
     tie.close
     (tie.spec
-    is-plain-requires
+    plain-len-requires
     returns
-    text-length-requires
-    returns-2
     run-requires
     same-length
-    returns-3)
+    returns-2
+    text-length-requires
+    returns-3
+    run-requires-2
+    same-length-2
+    returns-4)

@@ -1,76 +1,94 @@
-use borrow.Author.Needs.{needs}
 use native.Mathlib.Omega.{arith}
-use mathlib.Core.Path.{_∙_, _≡_}
-use mathlib.Core.Bool.{Bool, true}
-use Prim.Native.Nat.{_+_, _<_}
-use lib.Dec.{ltb}
-use borrow.Author.Tests.{ltb-true}
+use mathlib.Core.Path.{_≡_, sym}
+use mathlib.Core.Bool.{true, false, _&&_}
+use Prim.Native.Nat.{_+_}
+use lib.ListN.{getD}
 use denote.Ref.{now}
-use Rattle.lex.specs.Byte.{pick}
-use Rattle.utf8.specs.Utf8.{byteAt}
-use Rattle.strings.specs.Text.{hexDigit, hexValue}
-use Rattle.strings.specs.Hex.{both, hex-below, pair-is, pair-not}
-use mathlib.Core.Path.{ap}
-use Rattle.strings.specs.Hex.{hexOr}
+use Rattle.utf8.specs.Laws.{byte-at}
+use Rattle.strings.specs.Text.{hexDigit}
+use Rattle.strings.specs.Hex.{both, two-past, two-is, two-not}
+use borrow.Author.Needs.{needs}
 use Rattle.strings.proofs.hex_two.Statement.{statement}
 use Rattle.strings.proofs.hex_two.Tie as tie
 use Rattle.strings.proofs.hex_two.Reads as reads
 use Rattle.strings.proofs.hex_two.Lts as lts
-use Rattle.strings.proofs.byte_at.Reads as byte-at-reads
-use Rattle.strings.proofs.hex_value.Reads as hex-value-reads
+use Rattle.strings.proofs.is_hex.Reads as is-hex-reads
+use Rattle.strings.proofs.pair_value.Reads as pair-value-reads
 
--- src/lib.rt:50:23
-byte-at-requires : tie.Need-byte-at-requires
-byte-at-requires c κs = search needs
+-- src/lib.rt:58:18
+add-if1 : tie.Need-add-if1
+add-if1 c = search needs
 
--- src/lib.rt:50:9
-hex-value-requires : tie.Need-hex-value-requires
-hex-value-requires c κs = search needs
-
--- src/lib.rt:51:34
-add-byte-at : tie.Need-add-byte-at
-add-byte-at c = search needs
-
--- src/lib.rt:51:23
-byte-at-requires-2 : tie.Need-byte-at-requires-2
-byte-at-requires-2 c κs = search needs
-
--- src/lib.rt:51:9
-hex-value-requires-2 : tie.Need-hex-value-requires-2
-hex-value-requires-2 c κs = search needs
-
--- src/lib.rt:53:16
-mul-result : tie.Need-mul-result
-mul-result c = let a = c .before .before .before .hex-value .result in let h = ltb-true a 16 (both (ltb a 16) (ltb (c .before .hex-value2 .result) 16) (c .if1 .taken) .0) in omega arith
-
--- src/lib.rt:53:16
-add-result : tie.Need-add-result
-add-result c = let a = c .before .before .before .hex-value .result in let b = c .before .hex-value2 .result in let k = both (ltb a 16) (ltb b 16) (c .if1 .taken) in let h = ltb-true a 16 (k .0) in let l = ltb-true b 16 (k .1) in omega arith
-
--- src/lib.rt:53:9
+-- src/lib.rt:59:9
 returns : tie.Need-returns
-returns c = let d = c .before .before .before .before .before .before .args in
-    let x = byteAt (now (d .s)) (d .k) in
-    let y = byteAt (now (d .s)) (d .k + 1) in
-    pair-is (hexDigit x) (hexDigit y) (hexValue x) (hexValue y) (c .before .before .before .hex-value .result) (c .before .hex-value2 .result) 16 256 (c .before .before .before .hex-value .ensures ∙ ap hexOr (c .before .before .before .before .byte-at .ensures)) (c .before .hex-value2 .ensures ∙ ap hexOr (c .before .before .byte-at2 .ensures)) (c .if1 .taken)
+returns c = let a = c .before .before .args in two-past (now (a .s)) (a .k) (omega arith)
 
--- src/lib.rt:46:1
+-- src/lib.rt:61:13
+shared-slice-read-a : tie.Need-shared-slice-read-a
+shared-slice-read-a c = search needs
+
+-- src/lib.rt:61:13
+cast-a : tie.Need-cast-a
+cast-a c = omega (arith, c .shared-slice-known2 .given (c .before .before .before .args .k))
+
+-- src/lib.rt:62:15
+add-b : tie.Need-add-b
+add-b c = search needs
+
+-- src/lib.rt:62:13
+shared-slice-read-b : tie.Need-shared-slice-read-b
+shared-slice-read-b c = search needs
+
+-- src/lib.rt:62:13
+cast-b : tie.Need-cast-b
+cast-b c = omega (arith, c .shared-slice-known3 .given (c .before .before .before .before .args .k + 1))
+
+-- src/lib.rt:63:8
+is-hex-requires : tie.Need-is-hex-requires
+is-hex-requires c κs = search needs
+
+-- src/lib.rt:63:20
+is-hex-requires-2 : tie.Need-is-hex-requires-2
+is-hex-requires-2 c κs = search needs
+
+-- src/lib.rt:64:9
+pair-value-requires : tie.Need-pair-value-requires
+pair-value-requires c κs =
+    let i = c .before .before in
+    let a = i .before .before .before .before .before .args in
+    both (hexDigit (getD (now (a .s)) (a .k) 0)) (hexDigit (getD (now (a .s)) (a .k + 1) 0)) (rw (sym (i .is-hex .ensures), sym (c .before .is-hex2 .ensures)) (c .if2 .taken))
+
+-- src/lib.rt:64:9
 returns-2 : tie.Need-returns-2
-returns-2 c = let d = c .before .before .before .before .before .before .args in
-    let x = byteAt (now (d .s)) (d .k) in
-    let y = byteAt (now (d .s)) (d .k + 1) in
-    pair-not (hexDigit x) (hexDigit y) (hexValue x) (hexValue y) (c .before .before .before .hex-value .result) (c .before .hex-value2 .result) 16 256 (hex-below x) (hex-below y) (c .before .before .before .hex-value .ensures ∙ ap hexOr (c .before .before .before .before .byte-at .ensures)) (c .before .hex-value2 .ensures ∙ ap hexOr (c .before .before .byte-at2 .ensures)) (c .if1 .left)
+returns-2 c =
+    let i = c .before .before .before in
+    let a = i .before .before .before .before .before .args in
+    let s = now (a .s) in
+    let h : hexDigit (getD s (a .k) 0) && hexDigit (getD s (a .k + 1) 0) ≡ true = rw (sym (i .is-hex .ensures), sym (c .before .before .is-hex2 .ensures)) (c .before .if2 .taken) in
+    two-is s (a .k) _ _ (byte-at s (a .k) 0 (omega arith)) (byte-at s (a .k + 1) 0 (omega arith)) _ h (c .pair-value .ensures .0)
+
+-- src/lib.rt:54:1
+returns-3 : tie.Need-returns-3
+returns-3 c =
+    let i = c .before .before in
+    let a = i .before .before .before .before .before .args in
+    let s = now (a .s) in
+    let h : hexDigit (getD s (a .k) 0) && hexDigit (getD s (a .k + 1) 0) ≡ false = rw (sym (i .is-hex .ensures), sym (c .before .is-hex2 .ensures)) (c .if2 .left) in
+    two-not s (a .k) _ _ (byte-at s (a .k) 0 (omega arith)) (byte-at s (a .k + 1) 0 (omega arith)) h
 
 pub hex-two-spec : {M : Type 1} → statement M
 hex-two-spec =
     tie.close
     (tie.spec
-    byte-at-requires
-    hex-value-requires
-    add-byte-at
-    byte-at-requires-2
-    hex-value-requires-2
-    mul-result
-    add-result
+    add-if1
     returns
-    returns-2)
+    shared-slice-read-a
+    cast-a
+    add-b
+    shared-slice-read-b
+    cast-b
+    is-hex-requires
+    is-hex-requires-2
+    pair-value-requires
+    returns-2
+    returns-3)

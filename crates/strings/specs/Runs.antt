@@ -1,0 +1,110 @@
+-- Runs of plain bytes, which are the text as they stand: found byte by byte, and passed at one go. Assumes nothing.
+use Prim.Native.Nat.{ℕ, zero, suc, _+_, _≤_, _<_}
+use mathlib.Core.Path.{_≡_, refl, sym, _∙_, ap}
+use mathlib.Core.Bool.{Bool, true, false, _||_}
+use mathlib.Core.List.{List, [], _∷_, _++_}
+use native.Mathlib.Omega.{arith}
+use native.Mathlib.Numerals.{add-one}
+use borrow.Author.Tests.{leb-false, lt-ltb}
+use lib.Dec.{eqb, leb}
+use lib.ListN.{length, take, drop, getD, length-drop}
+use lib.Seq.{take-all, take-add}
+use Rattle.lex.specs.Byte.{pick}
+use Rattle.utf8.specs.Utf8.{encodeAll}
+use Rattle.utf8.specs.Laws.{encode-one}
+use Rattle.strings.specs.Text
+use Rattle.strings.specs.Hex.{neither}
+use Rattle.strings.specs.Put.{most, Laid, laid-then, encode-append}
+use Rattle.strings.specs.Code.{Ran}
+use Rattle.strings.specs.Steps.{text-goes}
+
+-- a quote, a backslash or a high byte
+abbrev pub special : ℕ → Bool
+special b = eqb b 39 || (eqb b 92 || leb 128 b)
+
+-- any other byte is its own piece
+pub plain-piece : (b : ℕ) (r : List ℕ) → special b ≡ false → (Text.pieceOf (b ∷ r) ≡ Text.gives (b ∷ []) 1) × (b < 128)
+unfolding Text.pieceOf
+plain-piece b r h =
+    let x = neither (eqb b 39) (eqb b 92 || leb 128 b) h in
+    let y = neither (eqb b 92) (leb 128 b) (x .1) in
+    let z = leb-false 128 b (y .1) in
+    (rw (y .0, x .0, lt-ltb b 128 z) refl, z)
+
+-- the first byte of a plain list and the others
+plain-parts : (b : ℕ) (r : List ℕ) → Text.plain (b ∷ r) ≡ true → (special b ≡ false) × (Text.plain r ≡ true)
+unfolding Text.plain
+plain-parts b r h = go (special b) refl h
+  where
+    go : (t : Bool) → special b ≡ t → pick t false (Text.plain r) ≡ true → (special b ≡ false) × (Text.plain r ≡ true)
+    go true p q = let z : _≡_ {A = ℕ} 0 1 = ap (λ (t : Bool). pick t 1 0) q in absurd (omega arith)
+    go false p q = (p, q)
+
+-- no byte is plain
+pub plain-none : (s : List ℕ) → Text.plain (take 0 s) ≡ true
+unfolding Text.plain
+plain-none s = refl
+
+-- one plain byte more, counted from zero
+plain-suc : (s : List ℕ) (i : ℕ) → i < length s → special (getD s i 0) ≡ false → Text.plain (take i s) ≡ true → Text.plain (take (suc i) s) ≡ true
+unfolding Text.plain
+plain-suc [] i h e p = absurd (omega arith)
+plain-suc (b ∷ r) zero h e p = rw e refl
+plain-suc (b ∷ r) (suc i) h e p = let q = plain-parts b (take i r) p in rw (q .0) (plain-suc r i (omega arith) e (q .1))
+
+-- one plain byte more
+pub plain-more : (s : List ℕ) (i : ℕ) → i < length s → special (getD s i 0) ≡ false → Text.plain (take i s) ≡ true → Text.plain (take (i + 1) s) ≡ true
+plain-more s i h e p = rw add-one (plain-suc s i h e p)
+
+-- a list with another byte is not plain
+pub plain-hit : (s : List ℕ) (i : ℕ) → i < length s → special (getD s i 0) ≡ true → Text.plain s ≡ false
+unfolding Text.plain
+plain-hit [] i h e = absurd (omega arith)
+plain-hit (b ∷ r) zero h e = rw e refl
+plain-hit (b ∷ r) (suc i) h e = go (special b) (plain-hit r i (omega arith) e)
+  where
+    go : (t : Bool) → Text.plain r ≡ false → pick t false (Text.plain r) ≡ false
+    go true k = refl
+    go false k = k
+
+-- plain up to the end is plain
+pub plain-whole : (s : List ℕ) (n : ℕ) → length s ≤ n → Text.plain (take n s) ≡ true → Text.plain s ≡ true
+plain-whole s n h p = rw (take-all n s h) at p
+
+-- plain bytes, and then further plain bytes
+plain-append : (xs ys : List ℕ) → Text.plain xs ≡ true → Text.plain ys ≡ true → Text.plain (xs ++ ys) ≡ true
+unfolding Text.plain
+plain-append [] ys p q = q
+plain-append (b ∷ r) ys p q = let z = plain-parts b r p in rw (z .0) (plain-append r ys (z .1) q)
+
+-- a run is put, and then the rest of it
+pub ran-on : (s : List ℕ) (a : ℕ) (o : List ℕ) (k e : ℕ) (p t : List ℕ) (n f : ℕ) (q : List ℕ) → length o ≤ most → k ≤ length s → t ≡ drop k s → Text.plain (take k s) ≡ true → Laid a o (take k s) e p → n ≤ length t → Text.plain (take n t) ≡ true → Laid e p (take n t) f q → Ran s a o f (k + n) q
+ran-on s a o k e p t n f q m h w g x l i y =
+    let z : take (k + n) s ≡ take k s ++ take n t = take-add k n s ∙ ap (λ (u : List ℕ). take k s ++ take n u) (sym w) in
+    record {
+      within = omega (arith, length-drop k s, ap length w);
+      plainly = rw z (plain-append (take k s) (take n t) g i);
+      put = rw z (laid-then a o (take k s) e p (take n t) f q m x y);
+    }
+
+-- plain bytes are their own characters, and the text goes on after them
+pub text-plain : (n : ℕ) (s : List ℕ) → n ≤ length s → Text.plain (take n s) ≡ true → Text.textOf s ≡ take n s ++ Text.textOf (drop n s)
+text-plain zero s h p = refl
+text-plain (suc n) [] h p = absurd (omega arith)
+text-plain (suc n) (b ∷ r) h p =
+    let q = plain-parts b (take n r) p in
+    let x = plain-piece b r (q .0) .0 in
+    text-goes (b ∷ r) 1 (omega arith) (sym (ap (λ (z : Text.Piece). z .used) x)) (omega arith) ∙ rw x (ap (λ (z : List ℕ). b ∷ z) (text-plain n r (omega arith) (q .1)))
+
+-- and their own encoding
+pub encode-plain : (s : List ℕ) → Text.plain s ≡ true → encodeAll s ≡ s
+unfolding encodeAll
+encode-plain [] p = refl
+encode-plain (b ∷ r) p =
+    let q = plain-parts b r p in
+    rw (encode-one b (plain-piece b r (q .0) .1)) (ap (λ (z : List ℕ). b ∷ z) (encode-plain r (q .1)))
+
+-- and so the bytes of the text
+pub bytes-plain : (n : ℕ) (s : List ℕ) → n ≤ length s → Text.plain (take n s) ≡ true → Text.bytesOf s ≡ take n s ++ Text.bytesOf (drop n s)
+unfolding Text.bytesOf
+bytes-plain n s h p = ap encodeAll (text-plain n s h p) ∙ encode-append (take n s) (Text.textOf (drop n s)) ∙ ap (λ (z : List ℕ). z ++ encodeAll (Text.textOf (drop n s))) (encode-plain (take n s) p)
