@@ -538,13 +538,24 @@ pub fn text_length(raw: &[u8]) -> usize
     run(raw, p, &mut none)
 }
 
+// As `plain_len`; for a short string, as most are, it is one loop, which the compiler puts where it is asked for.
+fn first_plain(s: &[u8]) -> usize
+    ensures { λ r. ⌜ Passed (now (s .entry)) (length (now (s .entry))) r ⌝ }
+{
+    let n = s.len();
+    if n < 64 {
+        return plain_to(s, 0, n);
+    }
+    plain_len(s)
+}
+
 // Finds a string's text, and writes it where it is not the string itself and fits.
 pub fn decode_string(raw: &[u8], out: &mut [u8]) -> Decoded
     ensures { λ r. ⌜ r ≡ decodedOf (now (raw .entry)) (length (now (out .entry))) ⌝ }
     ensures { λ _. ⌜ now (out .exit) ≡ roomAfter (now (raw .entry)) (now (out .entry)) ⌝ }
     ensures { λ r. ⌜ toldText (now (raw .entry)) (now (out .exit)) r ≡ answerOf (now (raw .entry)) (length (now (out .entry))) ⌝ }
 {
-    let p = plain_len(raw);
+    let p = first_plain(raw);
     if p == raw.len() {
         return Decoded::Plain;
     }

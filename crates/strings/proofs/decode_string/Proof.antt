@@ -7,13 +7,13 @@ use Rattle.strings.proofs.decode_string.Statement.{statement}
 use Rattle.strings.proofs.decode_string.Tie as tie
 use Rattle.strings.proofs.decode_string.Reads as reads
 use Rattle.strings.proofs.decode_string.Lts as lts
-use Rattle.strings.proofs.plain_len.Reads as plain-len-reads
+use Rattle.strings.proofs.first_plain.Reads as first-plain-reads
 use Rattle.strings.proofs.run.Reads as run-reads
 use Rattle.strings.proofs.text_length.Reads as text-length-reads
 
 -- src/lib.rt:488:9
-plain-len-requires : tie.Need-plain-len-requires
-plain-len-requires c κs = search needs
+first-plain-requires : tie.Need-first-plain-requires
+first-plain-requires c κs = search needs
 
 -- src/lib.rt:490:9
 returns : tie.Need-returns
@@ -22,7 +22,7 @@ returns c =
     let b = k .before .before .before in
     let s = now (b .args .raw) in
     let o = now (b .args .out) in
-    decoded-plain s o (plain-whole s (k .plain-len .result) (omega arith) (k .plain-len .ensures .plainly))
+    decoded-plain s o (plain-whole s (k .first-plain .result) (omega arith) (k .first-plain .ensures .plainly))
 
 -- src/lib.rt:493:13
 run-requires : tie.Need-run-requires
@@ -39,7 +39,7 @@ returns-2 c =
     let b = k .before .before .before in
     let s = now (b .args .raw) in
     let o = now (b .args .out) in
-    decoded-ample s o (c .before .before .run .last .1 .1 .0) (c .before .before .run .result) (k .plain-len .ensures .stops (omega (arith, k .plain-len .ensures .within))) (λ i. omega (arith, k .before .before .shared-slice-known .given i)) (omega arith) (omega (arith, b .good .1 .0 .1)) (c .before .before .run .ensures)
+    decoded-ample s o (c .before .before .run .last .1 .1 .0) (c .before .before .run .result) (k .first-plain .ensures .stops (omega (arith, k .first-plain .ensures .within))) (λ i. omega (arith, k .before .before .shared-slice-known .given i)) (omega arith) (omega (arith, b .good .1 .0 .1)) (c .before .before .run .ensures)
 
 -- src/lib.rt:496:9
 text-length-requires : tie.Need-text-length-requires
@@ -52,7 +52,7 @@ returns-3 c =
     let b = k .before .before .before in
     let s = now (b .args .raw) in
     let o = now (b .args .out) in
-    decoded-short s o (c .before .text-length .result) (k .plain-len .ensures .stops (omega (arith, k .plain-len .ensures .within))) (c .before .text-length .ensures) (omega arith)
+    decoded-short s o (c .before .text-length .result) (k .first-plain .ensures .stops (omega (arith, k .first-plain .ensures .within))) (c .before .text-length .ensures) (omega arith)
 
 -- src/lib.rt:500:5
 run-requires-2 : tie.Need-run-requires-2
@@ -70,13 +70,13 @@ returns-4 c =
     let s = now (b .args .raw) in
     let o = now (b .args .out) in
     let t = c .before .before .before .before .before in
-    decoded-written s o (c .before .before .run2 .last .1 .1 .0) (t .text-length .result) _ (k .plain-len .ensures .stops (omega (arith, k .plain-len .ensures .within))) (t .text-length .ensures) (omega arith) (omega (arith, b .good .1 .0 .1)) (c .before .before .run2 .ensures)
+    decoded-written s o (c .before .before .run2 .last .1 .1 .0) (t .text-length .result) _ (k .first-plain .ensures .stops (omega (arith, k .first-plain .ensures .within))) (t .text-length .ensures) (omega arith) (omega (arith, b .good .1 .0 .1)) (c .before .before .run2 .ensures)
 
 pub decode-string-spec : {M : Type 1} → statement M
 decode-string-spec =
     tie.close
     (tie.spec
-    plain-len-requires
+    first-plain-requires
     returns
     run-requires
     same-length
