@@ -10,8 +10,6 @@ use Rattle.strings.specs.Hex.{neither}
 use Rattle.strings.specs.Runs.{special, plain-more}
 use Rattle.strings.proofs.block_differs.Statement.{statement}
 use Rattle.strings.proofs.block_differs.Tie as tie
-use Rattle.strings.proofs.block_differs.Reads as reads
-use Rattle.strings.proofs.block_differs.Lts as lts
 
 abbrev Inv-loop : tie.InvT-loop
 Inv-loop s at hit₀ k₀ hit k = (k ≤ 64) × (hit ≡ false → plain (take at s) ≡ true → plain (take (at + k) s) ≡ true)
@@ -19,27 +17,21 @@ Inv-loop s at hit₀ k₀ hit k = (k ≤ 64) × (hit ≡ false → plain (take a
 abbrev μ-loop : tie.MeasureT-loop
 μ-loop s at hit₀ k₀ hit k = 64 - k
 
--- src/lib.rt:187:5
 loop-holds : tie.Need-loop-holds Inv-loop μ-loop
 loop-holds c = let a = c .args in let e : a .at ≡ a .at + 0 = omega arith in (omega arith, λ _ p. subst (λ (n : ℕ). plain (take n (now (a .s))) ≡ true) e p)
 
--- src/lib.rt:188:19
 add-b : tie.Need-add-b Inv-loop μ-loop
 add-b c = search needs
 
--- src/lib.rt:188:17
 shared-slice-read-b : tie.Need-shared-slice-read-b Inv-loop μ-loop
 shared-slice-read-b c = search needs
 
--- src/lib.rt:190:9
 add-k : tie.Need-add-k Inv-loop μ-loop
 add-k c = search needs
 
--- src/lib.rt:187:5
 loop-less : tie.Need-loop-less Inv-loop μ-loop
 loop-less c = search needs
 
--- src/lib.rt:187:5
 loop-again : tie.Need-loop-again Inv-loop μ-loop
 loop-again c =
     let a = c .before .before .before .args in
@@ -48,7 +40,6 @@ loop-again c =
     let e : a .at + l .k + 1 ≡ a .at + (l .k + 1) = omega arith in
     (omega arith, λ h p. let n = neither (l .hit) (special (getD s (a .at + l .k) 0)) h in subst (λ (m : ℕ). plain (take m s) ≡ true) e (plain-more s (a .at + l .k) (omega arith) (n .1) (l .inv .1 (n .0) p)))
 
--- src/lib.rt:181:1
 returns : tie.Need-returns Inv-loop μ-loop
 returns c =
     let a = c .before .before .args in

@@ -5,22 +5,16 @@ use Rattle.utf8.specs.Laws.{byte-at}
 use Rattle.strings.specs.Hex.{byte-past}
 use Rattle.strings.proofs.byte_at.Statement.{statement}
 use Rattle.strings.proofs.byte_at.Tie as tie
-use Rattle.strings.proofs.byte_at.Reads as reads
-use Rattle.strings.proofs.byte_at.Lts as lts
 
--- src/lib.rt:10:16
 shared-slice-read-result : tie.Need-shared-slice-read-result
 shared-slice-read-result c = search needs
 
--- src/lib.rt:10:16
 cast-result : tie.Need-cast-result
 cast-result c = omega (arith, c .shared-slice-known .given (c .before .before .args .k))
 
--- src/lib.rt:10:9
 returns : tie.Need-returns
 returns c = byte-at (now (c .before .before .args .s)) (c .before .before .args .k) 0 (omega arith)
 
--- src/lib.rt:6:1
 returns-2 : tie.Need-returns-2
 returns-2 c = byte-past (now (c .before .args .s)) (c .before .args .k) (omega arith)
 

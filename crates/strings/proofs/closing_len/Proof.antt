@@ -7,23 +7,16 @@ use denote.Ref.{now}
 use Rattle.utf8.specs.Utf8.{byteAt}
 use Rattle.strings.proofs.closing_len.Statement.{statement}
 use Rattle.strings.proofs.closing_len.Tie as tie
-use Rattle.strings.proofs.closing_len.Reads as reads
-use Rattle.strings.proofs.closing_len.Lts as lts
-use Rattle.strings.proofs.byte_at.Reads as byte-at-reads
 
--- src/lib.rt:154:9
 byte-at-requires : tie.Need-byte-at-requires
 byte-at-requires c κs = search needs
 
--- src/lib.rt:154:34
 byte-at-requires-2 : tie.Need-byte-at-requires-2
 byte-at-requires-2 c κs = search needs
 
--- src/lib.rt:154:58
 byte-at-requires-3 : tie.Need-byte-at-requires-3
 byte-at-requires-3 c κs = search needs
 
--- src/lib.rt:156:13
 returns : tie.Need-returns
 returns c =
     let k = c .before .before in
@@ -31,7 +24,6 @@ returns c =
     let t : eqb (byteAt s 0) 92 && (eqb (byteAt s 1) 88 && eqb (byteAt s 2) 48) ≡ true = rw (sym (k .before .before .byte-at .ensures), sym (k .before .byte-at2 .ensures), sym (k .byte-at3 .ensures)) (c .before .if1 .taken) in
     rw t (omega arith)
 
--- src/lib.rt:158:9
 returns-2 : tie.Need-returns-2
 returns-2 c =
     let k = c .before .before in
@@ -39,7 +31,6 @@ returns-2 c =
     let t : eqb (byteAt s 0) 92 && (eqb (byteAt s 1) 88 && eqb (byteAt s 2) 48) ≡ true = rw (sym (k .before .before .byte-at .ensures), sym (k .before .byte-at2 .ensures), sym (k .byte-at3 .ensures)) (c .before .if1 .taken) in
     rw t (omega arith)
 
--- src/lib.rt:151:1
 returns-3 : tie.Need-returns-3
 returns-3 c =
     let k = c .before in

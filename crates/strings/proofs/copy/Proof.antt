@@ -8,8 +8,6 @@ use lib.Seq.{paste, paste-zero}
 use Rattle.strings.specs.Put.{paste-more}
 use Rattle.strings.proofs.copy.Statement.{statement}
 use Rattle.strings.proofs.copy.Tie as tie
-use Rattle.strings.proofs.copy.Reads as reads
-use Rattle.strings.proofs.copy.Lts as lts
 
 abbrev Inv-loop : tie.InvT-loop
 Inv-loop s n out₀ at k₀ out k = (k ≤ n) × ((length out ≡ length out₀) × (out ≡ paste out₀ at s k))
@@ -17,31 +15,24 @@ Inv-loop s n out₀ at k₀ out k = (k ≤ n) × ((length out ≡ length out₀)
 abbrev μ-loop : tie.MeasureT-loop
 μ-loop s n out₀ at k₀ out k = n - k
 
--- src/lib.rt:247:5
 loop-holds : tie.Need-loop-holds Inv-loop μ-loop
 loop-holds c = let a = c .args in (omega arith, (refl, paste-zero (now (a .out)) (a .at) (now (a .s))))
 
--- src/lib.rt:248:23
 shared-slice-read-out : tie.Need-shared-slice-read-out Inv-loop μ-loop
 shared-slice-read-out c = search needs
 
--- src/lib.rt:248:13
 add-out : tie.Need-add-out Inv-loop μ-loop
 add-out c = search needs
 
--- src/lib.rt:248:9
 slice-write-out : tie.Need-slice-write-out Inv-loop μ-loop
 slice-write-out c = search needs
 
--- src/lib.rt:249:9
 add-k : tie.Need-add-k Inv-loop μ-loop
 add-k c = search needs
 
--- src/lib.rt:247:5
 loop-less : tie.Need-loop-less Inv-loop μ-loop
 loop-less c = search needs
 
--- src/lib.rt:247:5
 loop-again : tie.Need-loop-again Inv-loop μ-loop
 loop-again c =
     let l = c .before .before .loop in
@@ -49,11 +40,9 @@ loop-again c =
     let s = now (a .s) in
     (omega arith, (length-set (l .out) (a .at + l .k) (getD s (l .k) 0) ∙ l .inv .1 .0, paste-more (now (a .out)) (a .at) s (l .k) (l .out) (omega arith) (omega arith) (l .inv .1 .1)))
 
--- src/lib.rt:242:1
 same-length : tie.Need-same-length Inv-loop μ-loop
 same-length c = c .before .loop .inv .1 .0
 
--- src/lib.rt:242:1
 returns : tie.Need-returns Inv-loop μ-loop
 returns c =
     let l = c .before .loop in

@@ -5,17 +5,10 @@ use Rattle.strings.specs.Decoded.{decoded-plain, decoded-short, decoded-
 use borrow.Author.Needs.{needs}
 use Rattle.strings.proofs.decode_string.Statement.{statement}
 use Rattle.strings.proofs.decode_string.Tie as tie
-use Rattle.strings.proofs.decode_string.Reads as reads
-use Rattle.strings.proofs.decode_string.Lts as lts
-use Rattle.strings.proofs.first_plain.Reads as first-plain-reads
-use Rattle.strings.proofs.run.Reads as run-reads
-use Rattle.strings.proofs.text_length.Reads as text-length-reads
 
--- src/lib.rt:488:9
 first-plain-requires : tie.Need-first-plain-requires
 first-plain-requires c κs = search needs
 
--- src/lib.rt:490:9
 returns : tie.Need-returns
 returns c =
     let k = c .before in
@@ -24,15 +17,12 @@ returns c =
     let o = now (b .args .out) in
     decoded-plain s o (plain-whole s (k .first-plain .result) (omega arith) (k .first-plain .ensures .plainly))
 
--- src/lib.rt:493:13
 run-requires : tie.Need-run-requires
 run-requires c κs = search needs
 
--- src/lib.rt:494:9
 same-length : tie.Need-same-length
 same-length c = search needs
 
--- src/lib.rt:494:9
 returns-2 : tie.Need-returns-2
 returns-2 c =
     let k = c .before .before .before .before .before .before in
@@ -41,11 +31,9 @@ returns-2 c =
     let o = now (b .args .out) in
     decoded-ample s o (c .before .before .run .last .1 .1 .0) (c .before .before .run .result) (k .first-plain .ensures .stops (omega (arith, k .first-plain .ensures .within))) (λ i. omega (arith, k .before .before .shared-slice-known .given i)) (omega arith) (omega (arith, b .good .1 .0 .1)) (c .before .before .run .ensures)
 
--- src/lib.rt:496:9
 text-length-requires : tie.Need-text-length-requires
 text-length-requires c κs = search needs
 
--- src/lib.rt:498:9
 returns-3 : tie.Need-returns-3
 returns-3 c =
     let k = c .before .before .before .before in
@@ -54,15 +42,12 @@ returns-3 c =
     let o = now (b .args .out) in
     decoded-short s o (c .before .text-length .result) (k .first-plain .ensures .stops (omega (arith, k .first-plain .ensures .within))) (c .before .text-length .ensures) (omega arith)
 
--- src/lib.rt:500:5
 run-requires-2 : tie.Need-run-requires-2
 run-requires-2 c κs = search needs
 
--- src/lib.rt:483:1
 same-length-2 : tie.Need-same-length-2
 same-length-2 c = search needs
 
--- src/lib.rt:483:1
 returns-4 : tie.Need-returns-4
 returns-4 c =
     let k = c .before .before .before .before .before .before .before .before in

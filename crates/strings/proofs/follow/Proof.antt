@@ -11,8 +11,6 @@ use Rattle.strings.specs.Put.{paste-more}
 use Rattle.strings.specs.Runs.{plain-none, plain-more}
 use Rattle.strings.proofs.follow.Statement.{statement}
 use Rattle.strings.proofs.follow.Tie as tie
-use Rattle.strings.proofs.follow.Reads as reads
-use Rattle.strings.proofs.follow.Lts as lts
 
 abbrev Inv-loop : tie.InvT-loop
 Inv-loop s m out₀ at k₀ out k = (k ≤ m) × (length out ≡ length out₀) × (plain (take k s) ≡ true) × (out ≡ paste out₀ at s k)
@@ -20,39 +18,30 @@ Inv-loop s m out₀ at k₀ out k = (k ≤ m) × (length out ≡ length out₀) 
 abbrev μ-loop : tie.MeasureT-loop
 μ-loop s m out₀ at k₀ out k = m - k
 
--- src/lib.rt:448:5
 loop-holds : tie.Need-loop-holds Inv-loop μ-loop
 loop-holds c = let a = c .args in (omega arith, refl, plain-none (now (a .s)), paste-zero (now (a .out)) (a .at) (now (a .s)))
 
--- src/lib.rt:449:17
 shared-slice-read-b : tie.Need-shared-slice-read-b Inv-loop μ-loop
 shared-slice-read-b c = search needs
 
--- src/lib.rt:451:13
 same-length : tie.Need-same-length Inv-loop μ-loop
 same-length c = c .before .before .before .loop .inv .1
 
--- src/lib.rt:451:13
 returns : tie.Need-returns Inv-loop μ-loop
 returns c = let i = c .before .before .before .loop .inv in (i .0, i .2, i .3)
 
--- src/lib.rt:453:13
 add-out : tie.Need-add-out Inv-loop μ-loop
 add-out c = search needs
 
--- src/lib.rt:453:9
 slice-write-out : tie.Need-slice-write-out Inv-loop μ-loop
 slice-write-out c = search needs
 
--- src/lib.rt:454:9
 add-k : tie.Need-add-k Inv-loop μ-loop
 add-k c = search needs
 
--- src/lib.rt:448:5
 loop-less : tie.Need-loop-less Inv-loop μ-loop
 loop-less c = search needs
 
--- src/lib.rt:448:5
 loop-again : tie.Need-loop-again Inv-loop μ-loop
 loop-again c =
     let l = c .before .before .before .loop in
@@ -60,11 +49,9 @@ loop-again c =
     let s = now (b .args .s) in
     (omega arith, length-set (l .out) (b .args .at + l .k) (getD s (l .k) 0) ∙ l .inv .1, plain-more s (l .k) (omega arith) (c .if1 .left) (l .inv .2), paste-more (now (b .args .out)) (b .args .at) s (l .k) (l .out) (omega arith) (omega arith) (l .inv .3))
 
--- src/lib.rt:443:1
 same-length-2 : tie.Need-same-length-2 Inv-loop μ-loop
 same-length-2 c = c .before .loop .inv .1
 
--- src/lib.rt:443:1
 returns-2 : tie.Need-returns-2 Inv-loop μ-loop
 returns-2 c = let i = c .before .loop .inv in (i .0, i .2, i .3)
 

@@ -4,24 +4,16 @@ use mathlib.Core.Path.{_∙_, sym}
 use borrow.Author.Tests.{eq-eqb, ne-eqb}
 use Rattle.strings.proofs.group.Statement.{statement}
 use Rattle.strings.proofs.group.Tie as tie
-use Rattle.strings.proofs.group.Reads as reads
-use Rattle.strings.proofs.group.Lts as lts
-use Rattle.strings.proofs.group_four.Reads as group-four-reads
-use Rattle.strings.proofs.group_two.Reads as group-two-reads
 
--- src/lib.rt:145:9
 group-two-requires : tie.Need-group-two-requires
 group-two-requires c κs = search needs
 
--- src/lib.rt:145:9
 returns : tie.Need-returns
 returns c = rw (eq-eqb (c .before .before .before .args .width) 4 (omega arith)) (c .group-two .ensures)
 
--- src/lib.rt:147:5
 group-four-requires : tie.Need-group-four-requires
 group-four-requires c κs = search needs
 
--- src/lib.rt:141:1
 returns-2 : tie.Need-returns-2
 returns-2 c = rw (ne-eqb (c .before .before .before .args .width) 4 (omega arith)) (c .group-four .ensures)
 

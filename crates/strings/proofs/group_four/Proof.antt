@@ -9,36 +9,25 @@ use Rattle.strings.specs.Text.{char}
 use Rattle.strings.specs.Hex.{neither, four-wrong, four-char}
 use Rattle.strings.proofs.group_four.Statement.{statement}
 use Rattle.strings.proofs.group_four.Tie as tie
-use Rattle.strings.proofs.group_four.Reads as reads
-use Rattle.strings.proofs.group_four.Lts as lts
-use Rattle.strings.proofs.hex_four.Reads as hex-four-reads
-use Rattle.strings.proofs.shown_code.Reads as shown-code-reads
 
--- src/lib.rt:129:9
 hex-four-requires : tie.Need-hex-four-requires
 hex-four-requires c κs = search needs
 
--- src/lib.rt:130:9
 hex-four-requires-2 : tie.Need-hex-four-requires-2
 hex-four-requires-2 c κs = search needs
 
--- src/lib.rt:132:9
 returns : tie.Need-returns
 returns c = four-wrong (now (c .before .before .before .before .args .s)) (c .before .before .hex-four .result) (c .before .hex-four2 .result) (c .before .before .hex-four .ensures) (c .before .hex-four2 .ensures) (c .if1 .taken)
 
--- src/lib.rt:135:26
 mul-shown-code : tie.Need-mul-shown-code
 mul-shown-code c = let a = c .before .before .hex-four .result in let h = leb-false 65536 a (neither (leb 65536 a) (leb 65536 (c .before .hex-four2 .result)) (c .if1 .left) .0) in omega arith
 
--- src/lib.rt:135:26
 add-shown-code : tie.Need-add-shown-code
 add-shown-code c = let a = c .before .before .hex-four .result in let b = c .before .hex-four2 .result in let k = neither (leb 65536 a) (leb 65536 b) (c .if1 .left) in let h = leb-false 65536 a (k .0) in let l = leb-false 65536 b (k .1) in omega arith
 
--- src/lib.rt:135:15
 shown-code-requires : tie.Need-shown-code-requires
 shown-code-requires c κs = search needs
 
--- src/lib.rt:126:1
 returns-2 : tie.Need-returns-2
 returns-2 c = let k = c .before in ap (λ (z : ℕ). char z 8) (c .shown-code .ensures) ∙ four-char (now (k .before .before .before .before .args .s)) (k .before .before .hex-four .result) (k .before .hex-four2 .result) (k .before .before .hex-four .ensures) (k .before .hex-four2 .ensures) (k .if1 .left)
 

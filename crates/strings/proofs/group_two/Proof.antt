@@ -9,41 +9,28 @@ use Rattle.strings.specs.Text.{char}
 use Rattle.strings.specs.Hex.{both, two-wrong, two-single, two-pair, two-alone}
 use Rattle.strings.proofs.group_two.Statement.{statement}
 use Rattle.strings.proofs.group_two.Tie as tie
-use Rattle.strings.proofs.group_two.Reads as reads
-use Rattle.strings.proofs.group_two.Lts as lts
-use Rattle.strings.proofs.hex_four.Reads as hex-four-reads
-use Rattle.strings.proofs.joined_code.Reads as joined-code-reads
-use Rattle.strings.proofs.shown_code.Reads as shown-code-reads
 
--- src/lib.rt:105:9
 hex-four-requires : tie.Need-hex-four-requires
 hex-four-requires c κs = search needs
 
--- src/lib.rt:107:9
 returns : tie.Need-returns
 returns c = two-wrong (now (c .before .before .before .args .s)) (c .before .hex-four .result) (c .before .hex-four .ensures) (omega arith)
 
--- src/lib.rt:110:13
 hex-four-requires-2 : tie.Need-hex-four-requires-2
 hex-four-requires-2 c κs = search needs
 
--- src/lib.rt:112:13
 returns-2 : tie.Need-returns-2
 returns-2 c = let k = c .before .before .before .before in two-single (now (k .before .before .args .s)) (k .hex-four .result) (c .before .hex-four2 .result) (k .hex-four .ensures) (omega arith) (c .before .before .if2 .taken) (c .before .hex-four2 .ensures) (omega arith)
 
--- src/lib.rt:115:19
 joined-code-requires : tie.Need-joined-code-requires
 joined-code-requires c κs = let a = c .before .before .before .before .hex-four .result in let k = both (leb 55296 a) (ltb a 56320) (c .before .before .if2 .taken) in let h = leb-true 55296 a (k .0) in let l = ltb-true a 56320 (k .1) in (omega arith, omega arith)
 
--- src/lib.rt:114:9
 returns-3 : tie.Need-returns-3
 returns-3 c = let k = c .before .before .before .before .before in ap (λ (z : ℕ). char z 8) (c .joined-code .ensures) ∙ two-pair (now (k .before .before .args .s)) (k .hex-four .result) (c .before .before .hex-four2 .result) (k .hex-four .ensures) (omega arith) (c .before .before .before .if2 .taken) (c .before .before .hex-four2 .ensures) (omega arith)
 
--- src/lib.rt:120:15
 shown-code-requires : tie.Need-shown-code-requires
 shown-code-requires c κs = search needs
 
--- src/lib.rt:102:1
 returns-4 : tie.Need-returns-4
 returns-4 c = let k = c .before .before .before in ap (λ (z : ℕ). char z 4) (c .shown-code .ensures) ∙ two-alone (now (k .before .before .args .s)) (k .hex-four .result) (k .hex-four .ensures) (omega arith) (c .before .if2 .left)
 

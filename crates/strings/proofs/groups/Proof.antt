@@ -16,12 +16,6 @@ use Rattle.strings.specs.Steps.{told-char, told-wrong, ends, closing-fit
 use Rattle.strings.specs.Steps.{used-fits}
 use Rattle.strings.proofs.groups.Statement.{statement}
 use Rattle.strings.proofs.groups.Tie as tie
-use Rattle.strings.proofs.groups.Reads as reads
-use Rattle.strings.proofs.groups.Lts as lts
-use Rattle.strings.proofs.byte_at.Reads as byte-at-reads
-use Rattle.strings.proofs.closing_len.Reads as closing-len-reads
-use Rattle.strings.proofs.group.Reads as group-reads
-use Rattle.strings.proofs.put_char.Reads as put-char-reads
 
 abbrev Inv-loop : tie.InvT-loop
 Inv-loop s width out₀ at i₀ n₀ out i n = Reading width s at out₀ i n out
@@ -29,31 +23,24 @@ Inv-loop s width out₀ at i₀ n₀ out i n = Reading width s at out₀ i n out
 abbrev μ-loop : tie.MeasureT-loop
 μ-loop s width out₀ at i₀ n₀ out i n = length s - i
 
--- src/lib.rt:267:5
 loop-holds : tie.Need-loop-holds Inv-loop μ-loop
 loop-holds c = let a = c .before .before .args in reading-starts (a .width) (now (a .s)) (a .at) (now (a .out)) (omega (arith, c .before .before .pre)) (omega arith)
 
--- src/lib.rt:268:17
 sub-t : tie.Need-sub-t Inv-loop μ-loop
 sub-t c = search needs
 
--- src/lib.rt:268:17
 part-t-start : tie.Need-part-t-start Inv-loop μ-loop
 part-t-start c = search needs
 
--- src/lib.rt:268:17
 part-t-end : tie.Need-part-t-end Inv-loop μ-loop
 part-t-end c = search needs
 
--- src/lib.rt:269:33
 byte-at-requires : tie.Need-byte-at-requires Inv-loop μ-loop
 byte-at-requires c κs = search needs
 
--- src/lib.rt:272:27
 closing-len-requires : tie.Need-closing-len-requires Inv-loop μ-loop
 closing-len-requires c κs = search needs
 
--- src/lib.rt:272:23
 add-t18 : tie.Need-add-t18 Inv-loop μ-loop
 add-t18 c =
     let l = c .before .before .before .before .before in
@@ -62,11 +49,9 @@ add-t18 c =
     let f = closing-fits (drop (l .loop .i) s) in
     omega (arith, length-drop (l .loop .i) s)
 
--- src/lib.rt:270:13
 same-length : tie.Need-same-length Inv-loop μ-loop
 same-length c = c .before .before .before .before .before .loop .inv .kept
 
--- src/lib.rt:270:13
 returns : tie.Need-returns Inv-loop μ-loop
 returns c =
     let l = c .before .before .before .before .before in
@@ -76,19 +61,15 @@ returns c =
     let k : c .closing-len .result ≡ closing (drop (l .loop .i) s) = c .closing-len .ensures ∙ ap closing (rest-is s (l .loop .i)) in
     rw k (reading-stops (a .width) s (a .at) (now (a .out)) (l .loop .i) (l .loop .n) (l .loop .out) (l .loop .inv) (omega arith) e)
 
--- src/lib.rt:275:13
 group-requires : tie.Need-group-requires Inv-loop μ-loop
 group-requires c κs = search needs
 
--- src/lib.rt:279:21
 put-char-requires : tie.Need-put-char-requires Inv-loop μ-loop
 put-char-requires c κs = search needs
 
--- src/lib.rt:278:13
 same-length-2 : tie.Need-same-length-2 Inv-loop μ-loop
 same-length-2 c = c .before .before .put-char .kept .0 ∙ c .before .before .before .before .before .before .before .before .before .before .loop .inv .kept
 
--- src/lib.rt:278:13
 returns-2 : tie.Need-returns-2 Inv-loop μ-loop
 returns-2 c =
     let k = c .before .before .before .before .before in
@@ -98,11 +79,9 @@ returns-2 c =
     let e : ends (a .width) (drop (l .loop .i) s) ≡ false = rw (sym (rest-is s (l .loop .i)), sym (k .before .before .byte-at .ensures)) (k .before .if1 .left) in
     reading-breaks (a .width) s (a .at) (now (a .out)) (l .loop .i) (l .loop .n) (l .loop .out) (l .loop .inv) (c .before .before .put-char .result) (c .before .before .put-char .last .0) (omega arith) (omega arith) e (told-wrong (a .width) (drop (l .loop .i) s) (take (length s - l .loop .i) (drop (l .loop .i) s)) (k .group .result) (rest-is s (l .loop .i)) (k .group .ensures) (omega arith)) (c .before .before .put-char .ensures)
 
--- src/lib.rt:283:9
 put-char-requires-2 : tie.Need-put-char-requires-2 Inv-loop μ-loop
 put-char-requires-2 c κs = search needs
 
--- src/lib.rt:284:9
 add-i : tie.Need-add-i Inv-loop μ-loop
 add-i c =
     let k = c .before .before .before .before .before in
@@ -111,13 +90,11 @@ add-i c =
     let f = used-fits (l .before .before .before .args .width) (drop (l .loop .i) s) (take (length s - l .loop .i) (drop (l .loop .i) s)) (k .group .result) (rest-is s (l .loop .i)) (k .group .ensures) in
     omega (arith, length-drop (l .loop .i) s)
 
--- src/lib.rt:267:5
 loop-less : tie.Need-loop-less Inv-loop μ-loop
 loop-less c =
     let k = c .before .before .before .before .before in
     omega arith
 
--- src/lib.rt:267:5
 loop-again : tie.Need-loop-again Inv-loop μ-loop
 loop-again c =
     let k = c .before .before .before .before .before in
@@ -127,11 +104,9 @@ loop-again c =
     let e : ends (a .width) (drop (l .loop .i) s) ≡ false = rw (sym (rest-is s (l .loop .i)), sym (k .before .before .byte-at .ensures)) (k .before .if1 .left) in
     reading-goes (a .width) s (a .at) (now (a .out)) (l .loop .i) (l .loop .n) (l .loop .out) (l .loop .inv) (c .before .before .put-char2 .result) (c .before .before .put-char2 .last .0) (omega arith) (omega arith) e (k .group .result .code) (k .group .result .used) (told-char (a .width) (drop (l .loop .i) s) (take (length s - l .loop .i) (drop (l .loop .i) s)) (k .group .result) (rest-is s (l .loop .i)) (k .group .ensures) (omega arith)) (omega arith) (c .before .before .put-char2 .ensures) (c .before .before .put-char2 .kept .0)
 
--- src/lib.rt:261:1
 same-length-3 : tie.Need-same-length-3 Inv-loop μ-loop
 same-length-3 c = c .before .loop .inv .kept
 
--- src/lib.rt:261:1
 returns-3 : tie.Need-returns-3 Inv-loop μ-loop
 returns-3 c = let l = c .before in let a = l .before .before .before .args in reading-ends (a .width) (now (a .s)) (a .at) (now (a .out)) (l .loop .i) (l .loop .n) (l .loop .out) (l .loop .inv) (omega arith)
 

@@ -11,10 +11,6 @@ use Rattle.strings.specs.Hex.{both, four-past, four-is, four-not}
 use borrow.Author.Needs.{needs}
 use Rattle.strings.proofs.hex_four.Statement.{statement}
 use Rattle.strings.proofs.hex_four.Tie as tie
-use Rattle.strings.proofs.hex_four.Reads as reads
-use Rattle.strings.proofs.hex_four.Lts as lts
-use Rattle.strings.proofs.is_hex.Reads as is-hex-reads
-use Rattle.strings.proofs.pair_value.Reads as pair-value-reads
 
 -- whether a hex digit stands at a place
 abbrev digit : List ℕ → ℕ → Bool
@@ -24,75 +20,57 @@ digit s k = hexDigit (getD s k 0)
 abbrev four : List ℕ → ℕ → Bool
 four s k = (digit s k && digit s (k + 1)) && (digit s (k + 2) && digit s (k + 3))
 
--- src/lib.rt:74:18
 add-if1 : tie.Need-add-if1
 add-if1 c = search needs
 
--- src/lib.rt:75:9
 returns : tie.Need-returns
 returns c = let a = c .before .before .args in four-past (now (a .s)) (a .k) (omega arith)
 
--- src/lib.rt:77:13
 shared-slice-read-a : tie.Need-shared-slice-read-a
 shared-slice-read-a c = search needs
 
--- src/lib.rt:77:13
 cast-a : tie.Need-cast-a
 cast-a c = omega (arith, c .shared-slice-known2 .given (c .before .before .before .args .k))
 
--- src/lib.rt:78:15
 add-b : tie.Need-add-b
 add-b c = search needs
 
--- src/lib.rt:78:13
 shared-slice-read-b : tie.Need-shared-slice-read-b
 shared-slice-read-b c = search needs
 
--- src/lib.rt:78:13
 cast-b : tie.Need-cast-b
 cast-b c = omega (arith, c .shared-slice-known3 .given (c .before .before .before .before .args .k + 1))
 
--- src/lib.rt:79:15
 add-c : tie.Need-add-c
 add-c c = search needs
 
--- src/lib.rt:79:13
 shared-slice-read-c : tie.Need-shared-slice-read-c
 shared-slice-read-c c = search needs
 
--- src/lib.rt:79:13
 cast-c : tie.Need-cast-c
 cast-c c = omega (arith, c .shared-slice-known4 .given (c .before .before .before .before .before .args .k + 2))
 
--- src/lib.rt:80:15
 add-d : tie.Need-add-d
 add-d c = search needs
 
--- src/lib.rt:80:13
 shared-slice-read-d : tie.Need-shared-slice-read-d
 shared-slice-read-d c = search needs
 
--- src/lib.rt:80:13
 cast-d : tie.Need-cast-d
 cast-d c = omega (arith, c .shared-slice-known5 .given (c .before .before .before .before .before .before .args .k + 3))
 
--- src/lib.rt:81:9
 is-hex-requires : tie.Need-is-hex-requires
 is-hex-requires c κs = search needs
 
--- src/lib.rt:81:21
 is-hex-requires-2 : tie.Need-is-hex-requires-2
 is-hex-requires-2 c κs = search needs
 
--- src/lib.rt:81:35
 is-hex-requires-3 : tie.Need-is-hex-requires-3
 is-hex-requires-3 c κs = search needs
 
--- src/lib.rt:81:47
 is-hex-requires-4 : tie.Need-is-hex-requires-4
 is-hex-requires-4 c κs = search needs
 
--- src/lib.rt:82:16
 pair-value-requires : tie.Need-pair-value-requires
 pair-value-requires c κs =
     let i = c .before in
@@ -101,11 +79,9 @@ pair-value-requires c κs =
     let h : four s (a .k) ≡ true = rw (sym (i .before .before .before .is-hex .ensures), sym (i .before .before .is-hex2 .ensures), sym (i .before .is-hex3 .ensures), sym (i .is-hex4 .ensures)) (c .if2 .taken) in
     both (digit s (a .k)) (digit s (a .k + 1)) (both (digit s (a .k) && digit s (a .k + 1)) (digit s (a .k + 2) && digit s (a .k + 3)) h .0)
 
--- src/lib.rt:82:16
 mul-result : tie.Need-mul-result
 mul-result c = search needs
 
--- src/lib.rt:82:41
 pair-value-requires-2 : tie.Need-pair-value-requires-2
 pair-value-requires-2 c κs =
     let i = c .before .before in
@@ -114,11 +90,9 @@ pair-value-requires-2 c κs =
     let h : four s (a .k) ≡ true = rw (sym (i .before .before .before .is-hex .ensures), sym (i .before .before .is-hex2 .ensures), sym (i .before .is-hex3 .ensures), sym (i .is-hex4 .ensures)) (c .before .if2 .taken) in
     both (digit s (a .k + 2)) (digit s (a .k + 3)) (both (digit s (a .k) && digit s (a .k + 1)) (digit s (a .k + 2) && digit s (a .k + 3)) h .1)
 
--- src/lib.rt:82:16
 add-result : tie.Need-add-result
 add-result c = search needs
 
--- src/lib.rt:82:9
 returns-2 : tie.Need-returns-2
 returns-2 c =
     let i = c .before .before .before in
@@ -127,7 +101,6 @@ returns-2 c =
     let h : four s (a .k) ≡ true = rw (sym (i .before .before .before .is-hex .ensures), sym (i .before .before .is-hex2 .ensures), sym (i .before .is-hex3 .ensures), sym (i .is-hex4 .ensures)) (c .before .before .if2 .taken) in
     four-is s (a .k) _ _ (byte-at s (a .k) 0 (omega arith)) (byte-at s (a .k + 1) 0 (omega arith)) _ _ (byte-at s (a .k + 2) 0 (omega arith)) (byte-at s (a .k + 3) 0 (omega arith)) _ _ h (c .before .pair-value .ensures .0) (c .pair-value2 .ensures .0)
 
--- src/lib.rt:70:1
 returns-3 : tie.Need-returns-3
 returns-3 c =
     let i = c .before in

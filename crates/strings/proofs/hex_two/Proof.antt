@@ -10,55 +10,40 @@ use Rattle.strings.specs.Hex.{both, two-past, two-is, two-not}
 use borrow.Author.Needs.{needs}
 use Rattle.strings.proofs.hex_two.Statement.{statement}
 use Rattle.strings.proofs.hex_two.Tie as tie
-use Rattle.strings.proofs.hex_two.Reads as reads
-use Rattle.strings.proofs.hex_two.Lts as lts
-use Rattle.strings.proofs.is_hex.Reads as is-hex-reads
-use Rattle.strings.proofs.pair_value.Reads as pair-value-reads
 
--- src/lib.rt:58:18
 add-if1 : tie.Need-add-if1
 add-if1 c = search needs
 
--- src/lib.rt:59:9
 returns : tie.Need-returns
 returns c = let a = c .before .before .args in two-past (now (a .s)) (a .k) (omega arith)
 
--- src/lib.rt:61:13
 shared-slice-read-a : tie.Need-shared-slice-read-a
 shared-slice-read-a c = search needs
 
--- src/lib.rt:61:13
 cast-a : tie.Need-cast-a
 cast-a c = omega (arith, c .shared-slice-known2 .given (c .before .before .before .args .k))
 
--- src/lib.rt:62:15
 add-b : tie.Need-add-b
 add-b c = search needs
 
--- src/lib.rt:62:13
 shared-slice-read-b : tie.Need-shared-slice-read-b
 shared-slice-read-b c = search needs
 
--- src/lib.rt:62:13
 cast-b : tie.Need-cast-b
 cast-b c = omega (arith, c .shared-slice-known3 .given (c .before .before .before .before .args .k + 1))
 
--- src/lib.rt:63:8
 is-hex-requires : tie.Need-is-hex-requires
 is-hex-requires c κs = search needs
 
--- src/lib.rt:63:20
 is-hex-requires-2 : tie.Need-is-hex-requires-2
 is-hex-requires-2 c κs = search needs
 
--- src/lib.rt:64:9
 pair-value-requires : tie.Need-pair-value-requires
 pair-value-requires c κs =
     let i = c .before .before in
     let a = i .before .before .before .before .before .args in
     both (hexDigit (getD (now (a .s)) (a .k) 0)) (hexDigit (getD (now (a .s)) (a .k + 1) 0)) (rw (sym (i .is-hex .ensures), sym (c .before .is-hex2 .ensures)) (c .if2 .taken))
 
--- src/lib.rt:64:9
 returns-2 : tie.Need-returns-2
 returns-2 c =
     let i = c .before .before .before in
@@ -67,7 +52,6 @@ returns-2 c =
     let h : hexDigit (getD s (a .k) 0) && hexDigit (getD s (a .k + 1) 0) ≡ true = rw (sym (i .is-hex .ensures), sym (c .before .before .is-hex2 .ensures)) (c .before .if2 .taken) in
     two-is s (a .k) _ _ (byte-at s (a .k) 0 (omega arith)) (byte-at s (a .k + 1) 0 (omega arith)) _ h (c .pair-value .ensures .0)
 
--- src/lib.rt:54:1
 returns-3 : tie.Need-returns-3
 returns-3 c =
     let i = c .before .before in

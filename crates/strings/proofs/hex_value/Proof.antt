@@ -2,18 +2,13 @@ use Rattle.strings.specs.Hex.{hex-sum}
 use borrow.Author.Needs.{needs}
 use Rattle.strings.proofs.hex_value.Statement.{statement}
 use Rattle.strings.proofs.hex_value.Tie as tie
-use Rattle.strings.proofs.hex_value.Reads as reads
-use Rattle.strings.proofs.hex_value.Lts as lts
 
--- src/lib.rt:42:14
 mul-result : tie.Need-mul-result
 mul-result c = search needs
 
--- src/lib.rt:42:5
 add-result : tie.Need-add-result
 add-result c = search needs
 
--- src/lib.rt:38:1
 returns : tie.Need-returns
 returns c = hex-sum (c .args .b) (c .pre)
 

@@ -6,34 +6,25 @@ use borrow.Author.Tests.{leb-true, ltb-true}
 use Rattle.strings.specs.Hex.{both}
 use Rattle.strings.proofs.joined_code.Statement.{statement}
 use Rattle.strings.proofs.joined_code.Tie as tie
-use Rattle.strings.proofs.joined_code.Reads as reads
-use Rattle.strings.proofs.joined_code.Lts as lts
 
--- src/lib.rt:96:25
 sub-result : tie.Need-sub-result
 sub-result c = search needs
 
--- src/lib.rt:96:24
 mul-result : tie.Need-mul-result
 mul-result c = search needs
 
--- src/lib.rt:96:16
 add-result : tie.Need-add-result
 add-result c = search needs
 
--- src/lib.rt:96:46
 sub-result-2 : tie.Need-sub-result-2
 sub-result-2 c = let l = c .before .args .l in let h = leb-true 56320 l (both (leb 56320 l) (ltb l 57344) (c .if1 .taken) .0) in omega arith
 
--- src/lib.rt:96:16
 add-result-2 : tie.Need-add-result-2
 add-result-2 c = let l = c .before .args .l in let h = ltb-true l 57344 (both (leb 56320 l) (ltb l 57344) (c .if1 .taken) .1) in omega arith
 
--- src/lib.rt:96:9
 returns : tie.Need-returns
 returns c = rw (c .if1 .taken) refl
 
--- src/lib.rt:91:1
 returns-2 : tie.Need-returns-2
 returns-2 c = rw (c .if1 .left) refl
 

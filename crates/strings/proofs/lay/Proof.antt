@@ -8,24 +8,16 @@ use Rattle.strings.specs.Put.{put-run}
 use borrow.Author.Needs.{needs}
 use Rattle.strings.proofs.lay.Statement.{statement}
 use Rattle.strings.proofs.lay.Tie as tie
-use Rattle.strings.proofs.lay.Reads as reads
-use Rattle.strings.proofs.lay.Lts as lts
-use Rattle.strings.proofs.copy.Reads as copy-reads
-use Rattle.strings.proofs.plus.Reads as plus-reads
 
--- src/lib.rt:268:9
 plus-requires : tie.Need-plus-requires
 plus-requires c κs = search needs
 
--- src/lib.rt:270:9
 copy-requires : tie.Need-copy-requires
 copy-requires c κs = search needs
 
--- src/lib.rt:271:9
 same-length : tie.Need-same-length
 same-length c = search needs
 
--- src/lib.rt:271:9
 returns : tie.Need-returns
 returns c =
     let k = c .before .before in
@@ -35,7 +27,6 @@ returns c =
     let f : a .at + a .n ≤ length o = omega (arith, u .plus .ensures) in
     put-run (a .at) o (now (a .s)) (a .n) (u .plus .result) (k .copy .last .1 .1 .0) (omega arith) (rw (le-leb (a .at + a .n) (length o) f) (k .copy .ensures)) (u .plus .ensures)
 
--- src/lib.rt:264:1
 returns-2 : tie.Need-returns-2
 returns-2 c =
     let u = c .before in

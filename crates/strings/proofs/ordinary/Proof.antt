@@ -5,36 +5,25 @@ use denote.Ref.{now}
 use Rattle.strings.specs.Ways.{is-quote, is-ascii, is-latin, is-sequence}
 use Rattle.strings.proofs.ordinary.Statement.{statement}
 use Rattle.strings.proofs.ordinary.Tie as tie
-use Rattle.strings.proofs.ordinary.Reads as reads
-use Rattle.strings.proofs.ordinary.Lts as lts
-use Rattle.strings.proofs.byte_at.Reads as byte-at-reads
-use Rattle.utf8.proofs.sequence.Reads as sequence-reads
 
--- src/lib.rt:224:9
 byte-at-requires : tie.Need-byte-at-requires
 byte-at-requires c κs = search needs
 
--- src/lib.rt:225:21
 byte-at-requires-2 : tie.Need-byte-at-requires-2
 byte-at-requires-2 c κs = search needs
 
--- src/lib.rt:226:9
 returns : tie.Need-returns
 returns c = let q = c .before .before in is-quote (now (q .before .before .args .s)) (q .before .before .pre) (q .byte-at .result) (c .before .byte-at2 .result) (q .byte-at .ensures) (c .before .byte-at2 .ensures) (c .if1 .taken)
 
--- src/lib.rt:229:9
 returns-2 : tie.Need-returns-2
 returns-2 c = let q = c .before .before .before in is-ascii (now (q .before .before .args .s)) (q .before .before .pre) (q .byte-at .result) (c .before .before .byte-at2 .result) (q .byte-at .ensures) (c .before .before .byte-at2 .ensures) (c .before .if1 .left) (omega arith)
 
--- src/lib.rt:231:9
 sequence-requires : tie.Need-sequence-requires
 sequence-requires c κs = search needs
 
--- src/lib.rt:233:9
 returns-3 : tie.Need-returns-3
 returns-3 c = let k = c .before .before .before .before .before in let q = k .before in is-latin (now (q .before .before .args .s)) (q .before .before .pre) (q .byte-at .result) (k .byte-at2 .result) (q .byte-at .ensures) (k .byte-at2 .ensures) (c .before .before .before .before .if1 .left) (omega arith) (omega (arith, c .before .before .sequence .ensures .1))
 
--- src/lib.rt:220:1
 returns-4 : tie.Need-returns-4
 returns-4 c = let k = c .before .before .before .before .before in let q = k .before in is-sequence (now (q .before .before .args .s)) (q .before .before .pre) (q .byte-at .result) (k .byte-at2 .result) (q .byte-at .ensures) (k .byte-at2 .ensures) (c .before .before .before .before .if1 .left) _ _ (omega arith) (c .before .before .sequence .ensures .0) (c .before .before .sequence .ensures .1) (omega arith)
 

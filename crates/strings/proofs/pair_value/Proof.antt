@@ -3,27 +3,19 @@ use Rattle.strings.specs.Hex.{hex-below}
 use borrow.Author.Needs.{needs}
 use Rattle.strings.proofs.pair_value.Statement.{statement}
 use Rattle.strings.proofs.pair_value.Tie as tie
-use Rattle.strings.proofs.pair_value.Reads as reads
-use Rattle.strings.proofs.pair_value.Lts as lts
-use Rattle.strings.proofs.hex_value.Reads as hex-value-reads
 
--- src/lib.rt:50:5
 hex-value-requires : tie.Need-hex-value-requires
 hex-value-requires c κs = search needs
 
--- src/lib.rt:50:5
 mul-result : tie.Need-mul-result
 mul-result c = let d = c .before in omega (arith, hex-below (d .args .a) (d .pre .0))
 
--- src/lib.rt:50:25
 hex-value-requires-2 : tie.Need-hex-value-requires-2
 hex-value-requires-2 c κs = search needs
 
--- src/lib.rt:50:5
 add-result : tie.Need-add-result
 add-result c = let d = c .before .before in omega (arith, hex-below (d .args .a) (d .pre .0), hex-below (d .args .b) (d .pre .1))
 
--- src/lib.rt:46:1
 returns : tie.Need-returns
 returns c = let d = c .before .before in let e = c .before .hex-value .ensures in let f = c .hex-value2 .ensures in (omega arith, omega (arith, hex-below (d .args .a) (d .pre .0), hex-below (d .args .b) (d .pre .1)))
 

@@ -7,9 +7,6 @@ use lib.ListN.{length, take}
 use Rattle.strings.specs.Text.{plain}
 use Rattle.strings.proofs.plain_blocks.Statement.{statement}
 use Rattle.strings.proofs.plain_blocks.Tie as tie
-use Rattle.strings.proofs.plain_blocks.Reads as reads
-use Rattle.strings.proofs.plain_blocks.Lts as lts
-use Rattle.strings.proofs.block_differs.Reads as block-differs-reads
 
 abbrev Inv-loop : tie.InvT-loop
 Inv-loop s from i₀ i = (i ≤ length s) × (plain (take i s) ≡ true)
@@ -17,35 +14,27 @@ Inv-loop s from i₀ i = (i ≤ length s) × (plain (take i s) ≡ true)
 abbrev μ-loop : tie.MeasureT-loop
 μ-loop s from i₀ i = length s - i
 
--- src/lib.rt:201:5
 loop-holds : tie.Need-loop-holds Inv-loop μ-loop
 loop-holds c = c .before .pre
 
--- src/lib.rt:201:11
 sub-loop : tie.Need-sub-loop Inv-loop μ-loop
 sub-loop c = search needs
 
--- src/lib.rt:202:12
 block-differs-requires : tie.Need-block-differs-requires Inv-loop μ-loop
 block-differs-requires c κs = search needs
 
--- src/lib.rt:203:13
 returns : tie.Need-returns Inv-loop μ-loop
 returns c = c .before .before .before .loop .inv
 
--- src/lib.rt:205:9
 add-i : tie.Need-add-i Inv-loop μ-loop
 add-i c = search needs
 
--- src/lib.rt:201:5
 loop-less : tie.Need-loop-less Inv-loop μ-loop
 loop-less c = search needs
 
--- src/lib.rt:201:5
 loop-again : tie.Need-loop-again Inv-loop μ-loop
 loop-again c = let l = c .before .before .before .loop in (omega arith, c .before .block-differs .ensures (c .if1 .left) (l .inv .1))
 
--- src/lib.rt:196:1
 returns-2 : tie.Need-returns-2 Inv-loop μ-loop
 returns-2 c = c .before .loop .inv
 

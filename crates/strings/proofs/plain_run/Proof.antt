@@ -8,30 +8,19 @@ use Rattle.strings.specs.Steps.{rest-is}
 use borrow.Author.Needs.{needs}
 use Rattle.strings.proofs.plain_run.Statement.{statement}
 use Rattle.strings.proofs.plain_run.Tie as tie
-use Rattle.strings.proofs.plain_run.Reads as reads
-use Rattle.strings.proofs.plain_run.Lts as lts
-use Rattle.strings.proofs.fitting.Reads as fitting-reads
-use Rattle.strings.proofs.follow.Reads as follow-reads
-use Rattle.strings.proofs.lay.Reads as lay-reads
-use Rattle.strings.proofs.plain_len.Reads as plain-len-reads
 
--- src/lib.rt:464:9
 fitting-requires : tie.Need-fitting-requires
 fitting-requires c κs = search needs
 
--- src/lib.rt:465:9
 follow-requires : tie.Need-follow-requires
 follow-requires c κs = search needs
 
--- src/lib.rt:468:17
 add-t13 : tie.Need-add-t13
 add-t13 c = search needs
 
--- src/lib.rt:467:9
 same-length : tie.Need-same-length
 same-length c = search needs
 
--- src/lib.rt:467:9
 returns : tie.Need-returns
 returns c =
     let f = c .before .before .before in
@@ -42,39 +31,30 @@ returns c =
     let l = put-part (a .at) (now (a .out)) s k (f .follow .last .1 .1 .0) (omega arith) (omega arith) (omega (arith, f .follow .ensures .0, g .fitting .ensures .0)) (omega (arith, f .follow .ensures .0, g .fitting .ensures .1)) (f .follow .ensures .2) in
     record { within = omega (arith, f .follow .ensures .0, g .fitting .ensures .0); plainly = f .follow .ensures .1; put = l }
 
--- src/lib.rt:472:13
 sub-t : tie.Need-sub-t
 sub-t c = search needs
 
--- src/lib.rt:472:13
 part-t-start : tie.Need-part-t-start
 part-t-start c = search needs
 
--- src/lib.rt:472:13
 part-t-end : tie.Need-part-t-end
 part-t-end c = search needs
 
--- src/lib.rt:473:9
 plain-len-requires : tie.Need-plain-len-requires
 plain-len-requires c κs = search needs
 
--- src/lib.rt:475:28
 add-lay : tie.Need-add-lay
 add-lay c = search needs
 
--- src/lib.rt:475:13
 lay-requires : tie.Need-lay-requires
 lay-requires c κs = search needs
 
--- src/lib.rt:476:15
 add-t18 : tie.Need-add-t18
 add-t18 c = search needs
 
--- src/lib.rt:461:1
 same-length-2 : tie.Need-same-length-2
 same-length-2 c = search needs
 
--- src/lib.rt:461:1
 returns-2 : tie.Need-returns-2
 returns-2 c =
     let f = c .before .before .before .before .before .before .before .before .before in

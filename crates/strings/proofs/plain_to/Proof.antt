@@ -9,8 +9,6 @@ use Rattle.strings.specs.Text.{plain}
 use Rattle.strings.specs.Runs.{plain-more, plain-hit}
 use Rattle.strings.proofs.plain_to.Statement.{statement}
 use Rattle.strings.proofs.plain_to.Tie as tie
-use Rattle.strings.proofs.plain_to.Reads as reads
-use Rattle.strings.proofs.plain_to.Lts as lts
 
 abbrev Inv-loop : tie.InvT-loop
 Inv-loop s from to i₀ i = (i ≤ to) × (plain (take i s) ≡ true)
@@ -18,35 +16,28 @@ Inv-loop s from to i₀ i = (i ≤ to) × (plain (take i s) ≡ true)
 abbrev μ-loop : tie.MeasureT-loop
 μ-loop s from to i₀ i = to - i
 
--- src/lib.rt:216:5
 loop-holds : tie.Need-loop-holds Inv-loop μ-loop
 loop-holds c = (c .pre .0, c .pre .2)
 
--- src/lib.rt:217:17
 shared-slice-read-b : tie.Need-shared-slice-read-b Inv-loop μ-loop
 shared-slice-read-b c = search needs
 
--- src/lib.rt:219:13
 returns : tie.Need-returns Inv-loop μ-loop
 returns c =
     let l = c .before .before .before in
     record { within = l .loop .inv .0; plainly = l .loop .inv .1; stops = λ h. plain-hit (now (l .before .args .s)) (l .loop .i) (omega arith) (c .if1 .taken) }
 
--- src/lib.rt:221:9
 add-i : tie.Need-add-i Inv-loop μ-loop
 add-i c = search needs
 
--- src/lib.rt:216:5
 loop-less : tie.Need-loop-less Inv-loop μ-loop
 loop-less c = search needs
 
--- src/lib.rt:216:5
 loop-again : tie.Need-loop-again Inv-loop μ-loop
 loop-again c =
     let l = c .before .before .before in
     (omega arith, plain-more (now (l .before .args .s)) (l .loop .i) (omega arith) (c .if1 .left) (l .loop .inv .1))
 
--- src/lib.rt:211:1
 returns-2 : tie.Need-returns-2 Inv-loop μ-loop
 returns-2 c = let l = c .before .loop in record { within = l .inv .0; plainly = l .inv .1; stops = λ h. absurd (omega arith) }
 

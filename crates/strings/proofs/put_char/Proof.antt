@@ -5,17 +5,10 @@ use Rattle.strings.specs.Put.{put-one, put-some}
 use borrow.Author.Needs.{needs}
 use Rattle.strings.proofs.put_char.Statement.{statement}
 use Rattle.strings.proofs.put_char.Tie as tie
-use Rattle.strings.proofs.put_char.Reads as reads
-use Rattle.strings.proofs.put_char.Lts as lts
-use Rattle.strings.proofs.plus.Reads as plus-reads
-use Rattle.utf8.proofs.put.Reads as put-reads
-use Rattle.utf8.proofs.width.Reads as width-reads
 
--- src/lib.rt:343:9
 put-requires : tie.Need-put-requires
 put-requires c κs = search needs
 
--- src/lib.rt:345:16
 add-result : tie.Need-add-result
 add-result c =
     let p = c .before .before .before in
@@ -23,11 +16,9 @@ add-result c =
     let u = put-some (a .at) (now (a .out)) (encode (a .code)) (p .put .result) (p .put .ensures .0) (omega arith) in
     omega arith
 
--- src/lib.rt:345:9
 same-length : tie.Need-same-length
 same-length c = search needs
 
--- src/lib.rt:345:9
 returns : tie.Need-returns
 returns c =
     let p = c .before .before .before in
@@ -35,19 +26,15 @@ returns c =
     let u = put-some (a .at) (now (a .out)) (encode (a .code)) (p .put .result) (p .put .ensures .0) (omega arith) in
     put-one (a .at) (now (a .out)) (a .code) (p .put .result) _ (p .put .last .0) (u .0) (p .put .ensures .1) (omega arith)
 
--- src/lib.rt:347:14
 width-requires : tie.Need-width-requires
 width-requires c κs = search needs
 
--- src/lib.rt:347:5
 plus-requires : tie.Need-plus-requires
 plus-requires c κs = search needs
 
--- src/lib.rt:340:1
 same-length-2 : tie.Need-same-length-2
 same-length-2 c = search needs
 
--- src/lib.rt:340:1
 returns-2 : tie.Need-returns-2
 returns-2 c =
     let p = c .before .before .before .before .before in

@@ -5,36 +5,25 @@ use Rattle.strings.specs.Ways.{run-whole}
 use borrow.Author.Needs.{needs}
 use Rattle.strings.proofs.run.Statement.{statement}
 use Rattle.strings.proofs.run.Tie as tie
-use Rattle.strings.proofs.run.Reads as reads
-use Rattle.strings.proofs.run.Lts as lts
-use Rattle.strings.proofs.lay.Reads as lay-reads
-use Rattle.strings.proofs.turns.Reads as turns-reads
 
--- src/lib.rt:462:9
 lay-requires : tie.Need-lay-requires
 lay-requires c κs = search needs
 
--- src/lib.rt:463:11
 sub-turns : tie.Need-sub-turns
 sub-turns c = search needs
 
--- src/lib.rt:463:11
 part-turns-start : tie.Need-part-turns-start
 part-turns-start c = search needs
 
--- src/lib.rt:463:11
 part-turns-end : tie.Need-part-turns-end
 part-turns-end c = search needs
 
--- src/lib.rt:463:5
 turns-requires : tie.Need-turns-requires
 turns-requires c κs = search needs
 
--- src/lib.rt:458:1
 same-length : tie.Need-same-length
 same-length c = search needs
 
--- src/lib.rt:458:1
 returns : tie.Need-returns
 returns c =
     let t = c .before .before in

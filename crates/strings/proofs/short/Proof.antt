@@ -6,81 +6,64 @@ use Rattle.strings.specs.Ways.{is-backslash, is-newline, is-tab, is-page
 use borrow.Author.Needs.{needs}
 use Rattle.strings.proofs.short.Statement.{statement}
 use Rattle.strings.proofs.short.Tie as tie
-use Rattle.strings.proofs.short.Reads as reads
-use Rattle.strings.proofs.short.Lts as lts
-use Rattle.strings.proofs.byte_at.Reads as byte-at-reads
-use Rattle.strings.proofs.hex_two.Reads as hex-two-reads
 
--- src/lib.rt:230:9
 byte-at-requires : tie.Need-byte-at-requires
 byte-at-requires c κs = search needs
 
--- src/lib.rt:231:9
 byte-at-requires-2 : tie.Need-byte-at-requires-2
 byte-at-requires-2 c κs = search needs
 
--- src/lib.rt:232:9
 byte-at-requires-3 : tie.Need-byte-at-requires-3
 byte-at-requires-3 c κs = search needs
 
--- src/lib.rt:234:9
 returns : tie.Need-returns
 returns c =
     let q = c .before in
     let x = q .before .before .byte-at .result in
     is-backslash (now (q .before .before .before .before .args .s)) x (q .before .byte-at2 .result) (q .byte-at3 .result) (q .before .before .byte-at .ensures) (q .before .byte-at2 .ensures) (q .byte-at3 .ensures) (eq-eqb x 92 (omega arith))
 
--- src/lib.rt:237:9
 returns-2 : tie.Need-returns-2
 returns-2 c =
     let q = c .before .before in
     let x = q .before .before .byte-at .result in
     is-newline (now (q .before .before .before .before .args .s)) x (q .before .byte-at2 .result) (q .byte-at3 .result) (q .before .before .byte-at .ensures) (q .before .byte-at2 .ensures) (q .byte-at3 .ensures) (ne-eqb x 92 (omega arith)) (c .if2 .taken)
 
--- src/lib.rt:240:9
 returns-3 : tie.Need-returns-3
 returns-3 c =
     let q = c .before .before .before in
     let x = q .before .before .byte-at .result in
     is-tab (now (q .before .before .before .before .args .s)) x (q .before .byte-at2 .result) (q .byte-at3 .result) (q .before .before .byte-at .ensures) (q .before .byte-at2 .ensures) (q .byte-at3 .ensures) (ne-eqb x 92 (omega arith)) (c .before .if2 .left) (c .if3 .taken)
 
--- src/lib.rt:243:9
 returns-4 : tie.Need-returns-4
 returns-4 c =
     let q = c .before .before .before .before in
     let x = q .before .before .byte-at .result in
     is-page (now (q .before .before .before .before .args .s)) x (q .before .byte-at2 .result) (q .byte-at3 .result) (q .before .before .byte-at .ensures) (q .before .byte-at2 .ensures) (q .byte-at3 .ensures) (ne-eqb x 92 (omega arith)) (c .before .before .if2 .left) (c .before .if3 .left) (c .if4 .taken)
 
--- src/lib.rt:250:19
 add-t12 : tie.Need-add-t12
 add-t12 c = let q = c .before .before .before .before .before in let k = byte-small (now (q .before .before .before .before .args .s)) 3 (omega (arith, q .before .before .before .shared-slice-known .given 3)) in omega (arith, q .byte-at3 .ensures)
 
--- src/lib.rt:249:9
 returns-5 : tie.Need-returns-5
 returns-5 c =
     let q = c .before .before .before .before .before in
     let x = q .before .before .byte-at .result in
     is-shift (now (q .before .before .before .before .args .s)) x (q .before .byte-at2 .result) (q .byte-at3 .result) (q .before .before .byte-at .ensures) (q .before .byte-at2 .ensures) (q .byte-at3 .ensures) (ne-eqb x 92 (omega arith)) (c .before .before .before .if2 .left) (c .before .before .if3 .left) (c .before .if4 .left) (c .if5 .taken)
 
--- src/lib.rt:255:13
 hex-two-requires : tie.Need-hex-two-requires
 hex-two-requires c κs = search needs
 
--- src/lib.rt:257:13
 returns-6 : tie.Need-returns-6
 returns-6 c =
     let q = c .before .before .before .before .before .before .before .before in
     let x = q .before .before .byte-at .result in
     is-octet (now (q .before .before .before .before .args .s)) x (q .before .byte-at2 .result) (q .byte-at3 .result) (q .before .before .byte-at .ensures) (q .before .byte-at2 .ensures) (q .byte-at3 .ensures) (ne-eqb x 92 (omega arith)) (c .before .before .before .before .before .before .if2 .left) (c .before .before .before .before .before .if3 .left) (c .before .before .before .before .if4 .left) (c .before .before .before .if5 .left) (c .before .hex-two .result) (c .before .hex-two .ensures) (c .before .before .if6 .taken) (omega arith)
 
--- src/lib.rt:259:9
 returns-7 : tie.Need-returns-7
 returns-7 c =
     let q = c .before .before .before .before .before .before .before .before in
     let x = q .before .before .byte-at .result in
     no-octet (now (q .before .before .before .before .args .s)) x (q .before .byte-at2 .result) (q .byte-at3 .result) (q .before .before .byte-at .ensures) (q .before .byte-at2 .ensures) (q .byte-at3 .ensures) (ne-eqb x 92 (omega arith)) (c .before .before .before .before .before .before .if2 .left) (c .before .before .before .before .before .if3 .left) (c .before .before .before .before .if4 .left) (c .before .before .before .if5 .left) (c .before .hex-two .result) (c .before .hex-two .ensures) (c .before .before .if6 .taken) (omega arith)
 
--- src/lib.rt:227:1
 returns-8 : tie.Need-returns-8
 returns-8 c =
     let q = c .before .before .before .before .before .before in

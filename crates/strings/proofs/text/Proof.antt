@@ -6,42 +6,31 @@ use lib.Seq.{length-take-le, take-all}
 use Rattle.strings.specs.Decoded.{shown-all}
 use Rattle.strings.proofs.text.Statement.{statement}
 use Rattle.strings.proofs.text.Tie as tie
-use Rattle.strings.proofs.text.Reads as reads
-use Rattle.strings.proofs.text.Lts as lts
 
--- src/lib.rt:382:13
 enum-told : tie.Need-enum-told
 enum-told c = search needs
 
--- src/lib.rt:382:13
 returns : tie.Need-returns
 returns c = search needs
 
--- src/lib.rt:384:26
 enum-known-answer : tie.Need-enum-known-answer
 enum-known-answer c = search needs
 
--- src/lib.rt:386:17
 slice-aggregate-result : tie.Need-slice-aggregate-result
 slice-aggregate-result c = sym (length-take-le _ (now (c .before .before .before .before .before .args .out)) (omega arith))
 
--- src/lib.rt:386:17
 returns-2 : tie.Need-returns-2
 returns-2 c = rw (c .before .before .before .answer .given .1) refl
 
--- src/lib.rt:388:13
 returns-3 : tie.Need-returns-3
 returns-3 c = let a = c .before .before .before .before .args in shown-all (now (a .raw)) (now (a .out)) (a .answer) (c .before .before .answer .given .0 .0) (c .before .before .answer .given .1) (omega arith)
 
--- src/lib.rt:391:20
 enum-told-2 : tie.Need-enum-told-2
 enum-told-2 c = search needs
 
--- src/lib.rt:391:13
 slice-aggregate-result-2 : tie.Need-slice-aggregate-result-2
 slice-aggregate-result-2 c = search needs
 
--- src/lib.rt:391:13
 returns-4 : tie.Need-returns-4
 returns-4 c = search needs
 

@@ -7,40 +7,28 @@ use Rattle.strings.specs.Ways.{turned}
 use borrow.Author.Needs.{needs}
 use Rattle.strings.proofs.turn.Statement.{statement}
 use Rattle.strings.proofs.turn.Tie as tie
-use Rattle.strings.proofs.turn.Reads as reads
-use Rattle.strings.proofs.turn.Lts as lts
-use Rattle.strings.proofs.plain_run.Reads as plain-run-reads
-use Rattle.strings.proofs.step.Reads as step-reads
 
--- src/lib.rt:485:9
 step-requires : tie.Need-step-requires
 step-requires c κs = search needs
 
--- src/lib.rt:487:23
 sub-plain-run : tie.Need-sub-plain-run
 sub-plain-run c = let k = c .before .before in let b = k .before .before .before .before in omega (arith, k .step .ensures .read, piece-fits (now (b .args .s)) (b .pre))
 
--- src/lib.rt:487:23
 part-plain-run-start : tie.Need-part-plain-run-start
 part-plain-run-start c = let k = c .before .before in let b = k .before .before .before .before in omega (arith, k .step .ensures .read, piece-fits (now (b .args .s)) (b .pre))
 
--- src/lib.rt:487:23
 part-plain-run-end : tie.Need-part-plain-run-end
 part-plain-run-end c = search needs
 
--- src/lib.rt:487:9
 plain-run-requires : tie.Need-plain-run-requires
 plain-run-requires c κs = search needs
 
--- src/lib.rt:490:15
 add-t10 : tie.Need-add-t10
 add-t10 c = search needs
 
--- src/lib.rt:481:1
 same-length : tie.Need-same-length
 same-length c = search needs
 
--- src/lib.rt:481:1
 returns : tie.Need-returns
 returns c =
     let y = c .before .before .before in

@@ -7,9 +7,6 @@ use Rattle.strings.specs.Steps.{rest-is}
 use Rattle.strings.specs.Ways.{Running, running-starts, running-goes, running-ends, turned-fits}
 use Rattle.strings.proofs.turns.Statement.{statement}
 use Rattle.strings.proofs.turns.Tie as tie
-use Rattle.strings.proofs.turns.Reads as reads
-use Rattle.strings.proofs.turns.Lts as lts
-use Rattle.strings.proofs.turn.Reads as turn-reads
 
 abbrev Inv-loop : tie.InvT-loop
 Inv-loop s out₀ from at₀ i₀ out at i = Running s from out₀ i at out
@@ -17,27 +14,21 @@ Inv-loop s out₀ from at₀ i₀ out at i = Running s from out₀ i at out
 abbrev μ-loop : tie.MeasureT-loop
 μ-loop s out₀ from at₀ i₀ out at i = length s - i
 
--- src/lib.rt:449:5
 loop-holds : tie.Need-loop-holds Inv-loop μ-loop
 loop-holds c = let a = c .before .before .args in running-starts (now (a .s)) (a .from) (now (a .out)) (omega arith)
 
--- src/lib.rt:450:22
 sub-turn : tie.Need-sub-turn Inv-loop μ-loop
 sub-turn c = search needs
 
--- src/lib.rt:450:22
 part-turn-start : tie.Need-part-turn-start Inv-loop μ-loop
 part-turn-start c = search needs
 
--- src/lib.rt:450:22
 part-turn-end : tie.Need-part-turn-end Inv-loop μ-loop
 part-turn-end c = search needs
 
--- src/lib.rt:450:13
 turn-requires : tie.Need-turn-requires Inv-loop μ-loop
 turn-requires c κs = search needs
 
--- src/lib.rt:452:9
 add-i : tie.Need-add-i Inv-loop μ-loop
 add-i c =
     let k = c .before .before .before in
@@ -48,7 +39,6 @@ add-i c =
     let f = turned-fits s (l .loop .i) (l .loop .at) (l .loop .out) t _ _ _ (rest-is s (l .loop .i)) (k .turn .ensures) in
     omega arith
 
--- src/lib.rt:449:5
 loop-less : tie.Need-loop-less Inv-loop μ-loop
 loop-less c =
     let k = c .before .before .before in
@@ -59,7 +49,6 @@ loop-less c =
     let f = turned-fits s (l .loop .i) (l .loop .at) (l .loop .out) t _ _ _ (rest-is s (l .loop .i)) (k .turn .ensures) in
     omega arith
 
--- src/lib.rt:449:5
 loop-again : tie.Need-loop-again Inv-loop μ-loop
 loop-again c =
     let k = c .before .before .before in
@@ -69,11 +58,9 @@ loop-again c =
     let t = take (length s - l .loop .i) (drop (l .loop .i) s) in
     running-goes s (a .from) (now (a .out)) (l .loop .i) (l .loop .at) (l .loop .out) t _ _ _ (omega arith) (rest-is s (l .loop .i)) (l .loop .inv) (k .turn .ensures) (k .turn .kept .1 .0)
 
--- src/lib.rt:444:1
 same-length : tie.Need-same-length Inv-loop μ-loop
 same-length c = c .before .loop .inv .kept
 
--- src/lib.rt:444:1
 returns : tie.Need-returns Inv-loop μ-loop
 returns c = let l = c .before in let a = l .before .before .before .args in running-ends (now (a .s)) (a .from) (now (a .out)) (l .loop .i) (l .loop .at) (l .loop .out) (omega arith) (l .loop .inv)
 
