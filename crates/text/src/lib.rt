@@ -4,11 +4,14 @@
 // after it; where the buffer is full, what it holds is written to standard output first. No contract can say what a
 // system call writes, so the contracts say what the buffer holds.
 mod digits;
+mod patterns;
 mod refusal;
 
 pub use digits::hex;
 pub use digits::pattern;
 pub use digits::signed;
+pub use patterns::Line;
+pub use patterns::form;
 pub use refusal::line;
 pub use refusal::mark;
 pub use refusal::words;

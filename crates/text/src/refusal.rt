@@ -16,8 +16,17 @@ pub fn mark(buffer: &mut [u8], pen: Pen, f: Fault) -> Pen {
     decimal(buffer, d, error::place(f) as u64)
 }
 
-// Puts the words of document 01's table of refusals, the n-th line for number n, and those of the reason where there is one.
+// Puts the words of document 01's table of refusals, and those of the reason where there is one.
 pub fn words(buffer: &mut [u8], pen: Pen, f: Fault) -> Pen {
+    because(buffer, pen, wide(error::number(f)), wide(error::reason(f)))
+}
+
+fn wide(n: u8) -> usize {
+    n as usize
+}
+
+// The words of a refusal's number, which is its line in the table, and of its reason.
+pub fn because(buffer: &mut [u8], pen: Pen, number: usize, why: usize) -> Pen {
     let table = b"no Part 21 marker\n\
         file too long\n\
         comment open\n\
@@ -34,45 +43,51 @@ pub fn words(buffer: &mut [u8], pen: Pen, f: Fault) -> Pen {
         no record with this id\n\
         unit chain too deep\n\
         output too short";
-    let named = line(buffer, pen, table, error::number(f));
-    let why = error::reason(f);
+    let named = line(buffer, pen, table, number);
     if why == 0 {
         return named;
     }
-    let next = bytes(buffer, named, b": ");
-    reason(buffer, next, why)
+    reason(buffer, named, why)
 }
 
-// The reasons of refusal 7.
-fn reason(buffer: &mut [u8], pen: Pen, why: u8) -> Pen {
-    let table = b"header record without (\n\
-        no #\n\
-        id above 4294967295\n\
-        no digits\n\
-        no =\n\
-        nothing after =\n\
-        no (";
+// `: ` and the reason of refusal 7.
+fn reason(buffer: &mut [u8], pen: Pen, why: usize) -> Pen {
+    let table = b": header record without (\n\
+        : no #\n\
+        : id above 4294967295\n\
+        : no digits\n\
+        : no =\n\
+        : nothing after =\n\
+        : no (";
     line(buffer, pen, table, why)
 }
 
 // Puts the n-th line of a table, counted from 1, and nothing where it has no such line.
-pub fn line(buffer: &mut [u8], pen: Pen, table: &[u8], n: u8) -> Pen {
+pub fn line(buffer: &mut [u8], pen: Pen, table: &[u8], n: usize) -> Pen {
+    let start = line_start(table, n);
+    let end = line_end(table, start);
+    bytes(buffer, pen, &table[start..end])
+}
+
+// Where the n-th line begins, counted from 1, and the table's end where it has no such line.
+pub fn line_start(table: &[u8], n: usize) -> usize
+    ensures { λ r. ⌜ r ≤ length (now (table .entry)) ⌝ }
+{
     let mut left = n;
     let mut start = 0;
     while left > 1 {
         let end = line_end(table, start);
         if end == table.len() {
-            return pen;
+            return end;
         }
         start = end + 1;
         left -= 1;
     }
-    let end = line_end(table, start);
-    bytes(buffer, pen, &table[start..end])
+    start
 }
 
 // Where the line ends that begins at a start.
-fn line_end(table: &[u8], start: usize) -> usize
+pub fn line_end(table: &[u8], start: usize) -> usize
     requires { ⌜ start ≤ length (now table) ⌝ }
     ensures { λ r. ⌜ (start ≤ r) × (r ≤ length (now (table .entry))) ⌝ }
 {
