@@ -1,8 +1,8 @@
 use denote.Ref.{now}
-use mathlib.Core.Path.{_≡_, _∙_, sym, ap}
+use mathlib.Core.Path.{_∙_, sym, ap}
 use Prim.Native.Nat.{ℕ}
-use mathlib.Core.Option.{Option, some}
-use Rattle.error.specs.Refusal.{Told, good}
+use mathlib.Core.Option.{Option}
+use Rattle.error.specs.Refusal.{good}
 use Rattle.lookup.specs.Lookup.{toldPlace}
 use Rattle.headers.specs.Header.{headerFirst}
 use Rattle.lookup.specs.declared.Tables.{Tables}
@@ -10,28 +10,19 @@ use Rattle.plain.specs.Answers.{foundCode, foundValue}
 use borrow.Author.Needs.{needs}
 use Rattle.export_titles.proofs.hooflift_header_row.Statement.{statement}
 use Rattle.export_titles.proofs.hooflift_header_row.Tie as tie
-use Rattle.export_titles.proofs.hooflift_header_row.Reads as reads
-use Rattle.export_titles.proofs.hooflift_header_row.Lts as lts
-use Rattle.headers.proofs.header_row.Reads as header-row-reads
-use Rattle.plain.proofs.tables_of.Reads as tables-of-reads
 
--- src/lib.rt:26:46
 tables-of-requires : tie.Need-tables-of-requires
 tables-of-requires c κs = search needs
 
--- src/lib.rt:26:11
 header-row-requires : tie.Need-header-row-requires
 header-row-requires c κs = search needs
 
--- src/lib.rt:27:19
 enum-known-i : tie.Need-enum-known-i
 enum-known-i c = search needs
 
--- src/lib.rt:31:27
 enum-told : tie.Need-enum-told
 enum-told c = search needs
 
--- src/lib.rt:15:1
 returns : tie.Need-returns
 returns c =
     let k = c .before .before .before in
@@ -39,7 +30,6 @@ returns c =
     let e = ap toldPlace (sym (c .before .i .given .1)) ∙ k .header-row .ensures ∙ ap (λ (t : Tables). headerFirst (now (a .file)) (now (a .headers)) (t .headers) (now (a .name))) (k .before .tables-of .ensures) in
     (ap (λ (o : Option ℕ). foundCode (good o)) e, ap (λ (o : Option ℕ). foundValue (λ (i : ℕ). i) (good o) (now (a .row))) e)
 
--- src/lib.rt:15:1
 returns-2 : tie.Need-returns-2
 returns-2 c =
     let k = c .before .before in

@@ -1,39 +1,29 @@
 use denote.Ref.{now}
-use mathlib.Core.Path.{_≡_, _∙_, sym, ap}
+use mathlib.Core.Path.{_∙_, ap}
 use lib.ListN.{length}
-use Rattle.error.specs.Refusal.{Told, good}
+use Rattle.error.specs.Refusal.{Told}
 use Rattle.words.specs.Words.{Shown}
 use Rattle.headers.specs.Header.{headerFirst, headerArgs}
-use Rattle.titles.specs.Title.{toldTitle, titleBy, roomBy, fileName}
+use Rattle.titles.specs.Title.{titleBy, roomBy, fileName}
 use Rattle.lookup.specs.declared.Tables.{Tables}
 use Rattle.plain.specs.Answers.{readCode, readFault, readValue}
 use Rattle.export_args.specs.Values.{shownRoom, shownStart, shownStop}
 use borrow.Author.Needs.{needs}
 use Rattle.export_titles.proofs.hooflift_originating_system.Statement.{statement}
 use Rattle.export_titles.proofs.hooflift_originating_system.Tie as tie
-use Rattle.export_titles.proofs.hooflift_originating_system.Reads as reads
-use Rattle.export_titles.proofs.hooflift_originating_system.Lts as lts
-use Rattle.export_titles.proofs.put_title.Reads as put-title-reads
-use Rattle.plain.proofs.tables_of.Reads as tables-of-reads
-use Rattle.titles.proofs.originating_system.Reads as originating-system-reads
 
--- src/lib.rt:129:55
 tables-of-requires : tie.Need-tables-of-requires
 tables-of-requires c κs = search needs
 
--- src/lib.rt:129:9
 originating-system-requires : tie.Need-originating-system-requires
 originating-system-requires c κs = search needs
 
--- src/lib.rt:130:5
 put-title-requires : tie.Need-put-title-requires
 put-title-requires c κs = search needs
 
--- src/lib.rt:112:1
 same-length : tie.Need-same-length
 same-length c = search needs
 
--- src/lib.rt:112:1
 returns : tie.Need-returns
 returns c =
     let k = c .before .before .before .before .before .before .before in

@@ -1,7 +1,7 @@
 use denote.Ref.{now}
-use mathlib.Core.Path.{_≡_, _∙_, sym, ap}
+use mathlib.Core.Path.{_∙_, ap}
 use lib.Ieee.{binary64, toBits}
-use Rattle.error.specs.Refusal.{Told, good}
+use Rattle.error.specs.Refusal.{Told}
 use Rattle.lookup.specs.Lookup.{tableRows}
 use Rattle.lookup.specs.declared.Tables.{Tables}
 use Rattle.factors.specs.Thing.{findOf}
@@ -11,25 +11,16 @@ use Rattle.plain.specs.Answers.{readCode, readFault, readValue, truthNumber}
 use borrow.Author.Needs.{needs}
 use Rattle.export_units.proofs.hooflift_units.Statement.{statement}
 use Rattle.export_units.proofs.hooflift_units.Tie as tie
-use Rattle.export_units.proofs.hooflift_units.Reads as reads
-use Rattle.export_units.proofs.hooflift_units.Lts as lts
-use Rattle.export_units.proofs.put_units.Reads as put-units-reads
-use Rattle.plain.proofs.tables_of.Reads as tables-of-reads
-use Rattle.units.proofs.resolve.Reads as resolve-reads
 
--- src/lib.rt:77:47
 tables-of-requires : tie.Need-tables-of-requires
 tables-of-requires c κs = search needs
 
--- src/lib.rt:77:9
 resolve-requires : tie.Need-resolve-requires
 resolve-requires c κs = search needs
 
--- src/lib.rt:78:5
 put-units-requires : tie.Need-put-units-requires
 put-units-requires c κs = search needs
 
--- src/lib.rt:59:1
 returns : tie.Need-returns
 returns c =
     let k = c .before .before .before .before .before .before in

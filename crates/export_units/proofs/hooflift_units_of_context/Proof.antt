@@ -1,8 +1,8 @@
 use denote.Ref.{now}
-use mathlib.Core.Path.{_≡_, _∙_, sym, ap}
+use mathlib.Core.Path.{_∙_, sym, ap}
 use lib.Ieee.{binary64, toBits}
 use mathlib.Core.Option.{Option, some}
-use Rattle.error.specs.Refusal.{Told, good}
+use Rattle.error.specs.Refusal.{Told}
 use Rattle.statement.specs.Row.{Row, mapped}
 use Rattle.statement.specs.Statement.{rowOf}
 use Rattle.lookup.specs.Lookup.{rowIn, toldEntry}
@@ -16,38 +16,25 @@ use Rattle.export_units.specs.Contexts.{unitsIn}
 use borrow.Author.Needs.{needs}
 use Rattle.export_units.proofs.hooflift_units_of_context.Statement.{statement}
 use Rattle.export_units.proofs.hooflift_units_of_context.Tie as tie
-use Rattle.export_units.proofs.hooflift_units_of_context.Reads as reads
-use Rattle.export_units.proofs.hooflift_units_of_context.Lts as lts
-use Rattle.export_units.proofs.put_units.Reads as put-units-reads
-use Rattle.lookup.proofs.entity.Reads as entity-reads
-use Rattle.plain.proofs.tables_of.Reads as tables-of-reads
-use Rattle.units.proofs.units_of_context.Reads as units-of-context-reads
 
--- src/lib.rt:102:9
 tables-of-requires : tie.Need-tables-of-requires
 tables-of-requires c κs = search needs
 
--- src/lib.rt:103:11
 entity-requires : tie.Need-entity-requires
 entity-requires c κs = search needs
 
--- src/lib.rt:104:20
 enum-known-w : tie.Need-enum-known-w
 enum-known-w c = search needs
 
--- src/lib.rt:105:17
 units-of-context-requires : tie.Need-units-of-context-requires
 units-of-context-requires c κs = search needs
 
--- src/lib.rt:106:13
 put-units-requires : tie.Need-put-units-requires
 put-units-requires c κs = search needs
 
--- src/lib.rt:108:27
 enum-told : tie.Need-enum-told
 enum-told c = search needs
 
--- src/lib.rt:82:1
 returns : tie.Need-returns
 returns c =
     let k = c .before .before .before .before .before .before .before .before .before .before in
@@ -60,7 +47,6 @@ returns c =
     let g = ap (λ (x : Told Units). mapped some x) (u .ensures) ∙ ap (λ (t : Tables). unitsIn (now (a .file)) (findOf (now (a .file)) (now (a .rows)) (now (a .slots)) (t .ids)) (some (rowOf w))) s ∙ ap (λ (o : Option Row). unitsIn (now (a .file)) (findOf (now (a .file)) (now (a .rows)) (now (a .slots)) ((tablesBy (now (a .tables))) .ids)) o) e in
     (c .put-units .ensures .0 .0 ∙ found-code r ∙ ap (λ (x : Told (Option Units)). foundCode x) g, (c .put-units .ensures .0 .1 ∙ found-fault r (now (a .fault)) ∙ ap (λ (x : Told (Option Units)). readFault x (now (a .fault))) g, (c .put-units .ensures .1 .0 ∙ found-value (λ (u : Units). u .length) r (toBits binary64 (now (a .mm))) ∙ ap (λ (x : Told (Option Units)). foundValue (λ (u : Units). u .length) x (toBits binary64 (now (a .mm)))) g, (c .put-units .ensures .1 .1 .0 ∙ found-value (λ (u : Units). u .angle) r (toBits binary64 (now (a .rad))) ∙ ap (λ (x : Told (Option Units)). foundValue (λ (u : Units). u .angle) x (toBits binary64 (now (a .rad)))) g, (c .put-units .ensures .1 .1 .1 .0 ∙ found-value (λ (u : Units). u .tolerance) r (toBits binary64 (now (a .tolerance))) ∙ ap (λ (x : Told (Option Units)). foundValue (λ (u : Units). u .tolerance) x (toBits binary64 (now (a .tolerance)))) g, c .put-units .ensures .1 .1 .1 .1 ∙ found-value (λ (u : Units). truthNumber (u .resolved)) r (now (a .resolved)) ∙ ap (λ (x : Told (Option Units)). foundValue (λ (u : Units). truthNumber (u .resolved)) x (now (a .resolved))) g)))))
 
--- src/lib.rt:82:1
 returns-2 : tie.Need-returns-2
 returns-2 c =
     let k = c .before .before in

@@ -1,47 +1,35 @@
 use denote.Ref.{now}
-use mathlib.Core.Path.{_≡_, _∙_, sym, ap}
+use mathlib.Core.Path.{_∙_, sym, ap}
 use lib.Ieee.{binary64, toBits}
-use Rattle.error.specs.Refusal.{Told, good}
+use Rattle.error.specs.Refusal.{Told}
 use Rattle.units.specs.Units.{Units}
 use Rattle.units.specs.Code.{toldUnits}
 use Rattle.plain.specs.Answers.{readValue, truthNumber, tells-good, tells-bad}
 use borrow.Author.Needs.{needs}
 use Rattle.export_units.proofs.put_units.Statement.{statement}
 use Rattle.export_units.proofs.put_units.Tie as tie
-use Rattle.export_units.proofs.put_units.Reads as reads
-use Rattle.export_units.proofs.put_units.Lts as lts
-use Rattle.error.proofs.number.Reads as number-reads
-use Rattle.error.proofs.place.Reads as place-reads
-use Rattle.plain.proofs.number_of.Reads as number-of-reads
 
--- src/lib.rt:44:22
 enum-known-r : tie.Need-enum-known-r
 enum-known-r c = search needs
 
--- src/lib.rt:48:25
 number-of-requires : tie.Need-number-of-requires
 number-of-requires c κs = search needs
 
--- src/lib.rt:51:27
 enum-known-r-2 : tie.Need-enum-known-r-2
 enum-known-r-2 c = search needs
 
--- src/lib.rt:52:22
 place-requires : tie.Need-place-requires
 place-requires c κs = search needs
 
--- src/lib.rt:53:13
 number-requires : tie.Need-number-requires
 number-requires c κs = search needs
 
--- src/lib.rt:29:1
 returns : tie.Need-returns
 returns c =
     let a = c .before .before .before .before .args in
     let e = ap toldUnits (sym (c .before .before .r .given .1)) in
     (tells-good e, (ap (λ (r : Told Units). readValue (λ (u : Units). u .length) r (toBits binary64 (now (a .mm)))) e, (ap (λ (r : Told Units). readValue (λ (u : Units). u .angle) r (toBits binary64 (now (a .rad)))) e, (ap (λ (r : Told Units). readValue (λ (u : Units). u .tolerance) r (toBits binary64 (now (a .tolerance)))) e, c .number-of .ensures ∙ ap (λ (r : Told Units). readValue (λ (u : Units). truthNumber (u .resolved)) r (now (a .resolved))) e))))
 
--- src/lib.rt:29:1
 returns-2 : tie.Need-returns-2
 returns-2 c =
     let a = c .before .before .before .before .before .args in

@@ -13,22 +13,7 @@ use Rattle.lookup.specs.Lookup.{toldEntry}
 use Rattle.factors.specs.Thing.{thingOf, findOf}
 use Rattle.factors.specs.Factor.{lengthOf}
 use Rattle.factors.specs.Code.{toldRun, toldFactor, toldLink}
-use Rattle.factors.specs.Laws.{
-  chain-known,
-  chain-leads,
-  chain-left,
-  find-none,
-  find-row,
-  measure-missing,
-  measure-refused,
-  measure-none,
-  measure-some,
-  at-unread,
-  at-read,
-  base-unread,
-  base-missing,
-  base-row,
-}
+use Rattle.factors.specs.Laws.{chain-known, chain-leads, chain-left, find-none, find-row, measure-missing, measure-refused, measure-none, measure-some, at-unread, at-read, base-unread, base-missing, base-row}
 use borrow.Fn.Kinds.{In}
 use borrow.Fn.PlainCycle.{Measures, is, falls, and}
 use Rattle.factors.proofs.length_at.Reads as length-at
@@ -100,90 +85,70 @@ measure-in-mm-calls t = (
   scaled-reads.Learnt,
 )
 
--- src/lib.rt:223:11
 length-at-link-at-requires : (t : ℕ) → length-at-lts.Need-link-at-requires (length-at-calls t) (length-at-at t) length-at.Post
 length-at-link-at-requires t c κs = search needs
 
--- src/lib.rt:224:21
 length-at-enum-known-f : (t : ℕ) → length-at-lts.Need-enum-known-f (length-at-calls t) (length-at-at t) length-at.Post
 length-at-enum-known-f t c = search needs
 
--- src/lib.rt:225:23
 length-at-enum-known-id : (t : ℕ) → length-at-lts.Need-enum-known-id (length-at-calls t) (length-at-at t) length-at.Post
 length-at-enum-known-id t c = search needs
 
--- src/lib.rt:225:70
 length-at-sub-measure-in-mm : (t : ℕ) → length-at-lts.Need-sub-measure-in-mm (length-at-calls t) (length-at-at t) length-at.Post
 length-at-sub-measure-in-mm t c = let a = c .before .before .before .before .before .before .before .args in
     chain-left (now (a .file)) (a .left) (thingOf (now (a .file)) (rowOf (a .row))) (ap toldLink (sym (c .before .id .given .1)) ∙ c .before .before .before .link-at .ensures)
 
--- src/lib.rt:225:30
 length-at-measure-in-mm-requires : (t : ℕ) → length-at-lts.Need-measure-in-mm-requires (length-at-calls t) (length-at-at t) length-at.Post
 length-at-measure-in-mm-requires t c κs = let a = c .before .before .before .before .before .before .before .args in
     let l = chain-left (now (a .file)) (a .left) (thingOf (now (a .file)) (rowOf (a .row))) (ap toldLink (sym (c .before .id .given .1)) ∙ c .before .before .before .link-at .ensures) in
     (omega (arith, c .before .before .before .before .before .before .before .pre .0, l), tt)
 
--- src/lib.rt:220:1
 length-at-returns : (t : ℕ) → length-at-lts.Need-returns (length-at-calls t) (length-at-at t) length-at.Post
 length-at-returns t c = let a = c .before .before .before .before .before .before .before .args in
     chain-known (now (a .file)) (findOf (now (a .file)) (now (a .rows)) (now (a .slots)) (a .t .ids)) (a .left) (thingOf (now (a .file)) (rowOf (a .row))) (toldFactor (c .before .f .given .0 .0)) (ap toldLink (sym (c .before .f .given .1)) ∙ c .before .before .before .link-at .ensures)
 
--- src/lib.rt:220:1
 length-at-returns-2 : (t : ℕ) → length-at-lts.Need-returns-2 (length-at-calls t) (length-at-at t) length-at.Post
 length-at-returns-2 t c = let a = c .before .before .before .before .before .before .before .before .args in
     chain-leads (now (a .file)) (findOf (now (a .file)) (now (a .rows)) (now (a .slots)) (a .t .ids)) (a .left) (thingOf (now (a .file)) (rowOf (a .row))) (ap toldLink (sym (c .before .before .id .given .1)) ∙ c .before .before .before .before .link-at .ensures) (c .measure-in-mm .ensures)
 
--- src/lib.rt:233:25
 measure-in-mm-get-requires : (t : ℕ) → measure-in-mm-lts.Need-get-requires (measure-in-mm-calls t) (measure-in-mm-at t) measure-in-mm.Post
 measure-in-mm-get-requires t c κs = search needs
 
--- src/lib.rt:233:20
 measure-in-mm-enum-known-w : (t : ℕ) → measure-in-mm-lts.Need-enum-known-w (measure-in-mm-calls t) (measure-in-mm-at t) measure-in-mm.Post
 measure-in-mm-enum-known-w t c = search needs
 
--- src/lib.rt:234:9
 measure-in-mm-enum-told : (t : ℕ) → measure-in-mm-lts.Need-enum-told (measure-in-mm-calls t) (measure-in-mm-at t) measure-in-mm.Post
 measure-in-mm-enum-told t c = search needs
 
--- src/lib.rt:234:9
 measure-in-mm-returns : (t : ℕ) → measure-in-mm-lts.Need-returns (measure-in-mm-calls t) (measure-in-mm-at t) measure-in-mm.Post
 measure-in-mm-returns t c = let a = c .before .before .before .before .before .before .args in
     let find = findOf (now (a .file)) (now (a .rows)) (now (a .slots)) (a .t .ids) in
     measure-missing (now (a .file)) find (lengthOf (now (a .file)) find (a .left)) (a .id) (find-none (now (a .file)) (now (a .rows)) (now (a .slots)) (a .t .ids) (a .id) (ap toldEntry (sym (c .enum-told .given .1)) ∙ c .before .before .get .ensures))
 
--- src/lib.rt:236:11
 measure-in-mm-measure-run-requires : (t : ℕ) → measure-in-mm-lts.Need-measure-run-requires (measure-in-mm-calls t) (measure-in-mm-at t) measure-in-mm.Post
 measure-in-mm-measure-run-requires t c κs = search needs
 
--- src/lib.rt:237:22
 measure-in-mm-enum-known-f : (t : ℕ) → measure-in-mm-lts.Need-enum-known-f (measure-in-mm-calls t) (measure-in-mm-at t) measure-in-mm.Post
 measure-in-mm-enum-known-f t c = search needs
 
--- src/lib.rt:238:25
 measure-in-mm-enum-told-2 : (t : ℕ) → measure-in-mm-lts.Need-enum-told-2 (measure-in-mm-calls t) (measure-in-mm-at t) measure-in-mm.Post
 measure-in-mm-enum-told-2 t c = search needs
 
--- src/lib.rt:239:19
 measure-in-mm-enum-known-a : (t : ℕ) → measure-in-mm-lts.Need-enum-known-a (measure-in-mm-calls t) (measure-in-mm-at t) measure-in-mm.Post
 measure-in-mm-enum-known-a t c = search needs
 
--- src/lib.rt:240:17
 measure-in-mm-next-measure-f64-requires : (t : ℕ) → measure-in-mm-lts.Need-next-measure-f64-requires (measure-in-mm-calls t) (measure-in-mm-at t) measure-in-mm.Post
 measure-in-mm-next-measure-f64-requires t c κs = search needs
 
--- src/lib.rt:241:33
 measure-in-mm-enum-known-number : (t : ℕ) → measure-in-mm-lts.Need-enum-known-number (measure-in-mm-calls t) (measure-in-mm-at t) measure-in-mm.Post
 measure-in-mm-enum-known-number t c = search needs
 
--- src/lib.rt:242:17
 measure-in-mm-enum-told-3 : (t : ℕ) → measure-in-mm-lts.Need-enum-told-3 (measure-in-mm-calls t) (measure-in-mm-at t) measure-in-mm.Post
 measure-in-mm-enum-told-3 t c = search needs
 
--- src/lib.rt:242:17
 measure-in-mm-unread-requires : (t : ℕ) → measure-in-mm-lts.Need-unread-requires (measure-in-mm-calls t) (measure-in-mm-at t) measure-in-mm.Post
 measure-in-mm-unread-requires t c κs = search needs
 
--- src/lib.rt:242:17
 measure-in-mm-returns-2 : (t : ℕ) → measure-in-mm-lts.Need-returns-2 (measure-in-mm-calls t) (measure-in-mm-at t) measure-in-mm.Post
 measure-in-mm-returns-2 t c = let a = c .before .before .before .before .before .before .before .before .before .before .before .before .before .before .before .args in
     let find = findOf (now (a .file)) (now (a .rows)) (now (a .slots)) (a .t .ids) in
@@ -191,19 +156,15 @@ measure-in-mm-returns-2 t c = let a = c .before .before .before .before .before 
     ∙ at-unread (now (a .file)) find (lengthOf (now (a .file)) find (a .left)) (c .before .before .before .before .before .a .given .0 .0) (c .before .before .before .before .before .a .given .0 .1 .0) (c .before .before .before .next-measure-f64 .ensures) (ap (λ (x : Read ℕ). x .answer) (ap toldNextReal (c .before .enum-told3 .given .1)))
     ∙ sym (measure-some (now (a .file)) find (lengthOf (now (a .file)) find (a .left)) (a .id) (thingOf (now (a .file)) (rowOf (c .before .before .before .before .before .before .before .before .before .w .given .0 .0))) (find-row (now (a .file)) (now (a .rows)) (now (a .slots)) (a .t .ids) (a .id) (ap toldEntry (sym (c .before .before .before .before .before .before .before .before .before .w .given .1)) ∙ c .before .before .before .before .before .before .before .before .before .before .before .get .ensures)) (ap toldRun (sym (c .before .before .before .before .before .a .given .1)) ∙ c .before .before .before .before .before .before .before .measure-run .ensures))
 
--- src/lib.rt:244:43
 measure-in-mm-next-ref-requires : (t : ℕ) → measure-in-mm-lts.Need-next-ref-requires (measure-in-mm-calls t) (measure-in-mm-at t) measure-in-mm.Post
 measure-in-mm-next-ref-requires t c κs = search needs
 
--- src/lib.rt:244:32
 measure-in-mm-enum-known-base : (t : ℕ) → measure-in-mm-lts.Need-enum-known-base (measure-in-mm-calls t) (measure-in-mm-at t) measure-in-mm.Post
 measure-in-mm-enum-known-base t c = search needs
 
--- src/lib.rt:245:17
 measure-in-mm-enum-told-4 : (t : ℕ) → measure-in-mm-lts.Need-enum-told-4 (measure-in-mm-calls t) (measure-in-mm-at t) measure-in-mm.Post
 measure-in-mm-enum-told-4 t c = search needs
 
--- src/lib.rt:245:17
 measure-in-mm-returns-3 : (t : ℕ) → measure-in-mm-lts.Need-returns-3 (measure-in-mm-calls t) (measure-in-mm-at t) measure-in-mm.Post
 measure-in-mm-returns-3 t c = let a = c .before .before .before .before .before .before .before .before .before .before .before .before .before .before .before .before .before .before .args in
     let find = findOf (now (a .file)) (now (a .rows)) (now (a .slots)) (a .t .ids) in
@@ -212,19 +173,15 @@ measure-in-mm-returns-3 t c = let a = c .before .before .before .before .before 
     ∙ sym (at-read (now (a .file)) find (lengthOf (now (a .file)) find (a .left)) (c .before .before .before .before .before .before .before .before .a .given .0 .0) (c .before .before .before .before .before .before .before .before .a .given .0 .1 .0) (ap toldNextReal (sym (c .before .before .before .before .number .given .1)) ∙ c .before .before .before .before .before .before .next-measure-f64 .ensures))
     ∙ sym (measure-some (now (a .file)) find (lengthOf (now (a .file)) find (a .left)) (a .id) (thingOf (now (a .file)) (rowOf (c .before .before .before .before .before .before .before .before .before .before .before .before .w .given .0 .0))) (find-row (now (a .file)) (now (a .rows)) (now (a .slots)) (a .t .ids) (a .id) (ap toldEntry (sym (c .before .before .before .before .before .before .before .before .before .before .before .before .w .given .1)) ∙ c .before .before .before .before .before .before .before .before .before .before .before .before .before .before .get .ensures)) (ap toldRun (sym (c .before .before .before .before .before .before .before .before .a .given .1)) ∙ c .before .before .before .before .before .before .before .before .before .before .measure-run .ensures))
 
--- src/lib.rt:247:33
 measure-in-mm-get-requires-2 : (t : ℕ) → measure-in-mm-lts.Need-get-requires-2 (measure-in-mm-calls t) (measure-in-mm-at t) measure-in-mm.Post
 measure-in-mm-get-requires-2 t c κs = search needs
 
--- src/lib.rt:247:28
 measure-in-mm-enum-known-b : (t : ℕ) → measure-in-mm-lts.Need-enum-known-b (measure-in-mm-calls t) (measure-in-mm-at t) measure-in-mm.Post
 measure-in-mm-enum-known-b t c = search needs
 
--- src/lib.rt:248:17
 measure-in-mm-enum-told-5 : (t : ℕ) → measure-in-mm-lts.Need-enum-told-5 (measure-in-mm-calls t) (measure-in-mm-at t) measure-in-mm.Post
 measure-in-mm-enum-told-5 t c = search needs
 
--- src/lib.rt:248:17
 measure-in-mm-returns-4 : (t : ℕ) → measure-in-mm-lts.Need-returns-4 (measure-in-mm-calls t) (measure-in-mm-at t) measure-in-mm.Post
 measure-in-mm-returns-4 t c = let a = c .before .before .before .before .before .before .before .before .before .before .before .before .before .before .before .before .before .before .before .before .before .before .args in
     let find = findOf (now (a .file)) (now (a .rows)) (now (a .slots)) (a .t .ids) in
@@ -233,27 +190,22 @@ measure-in-mm-returns-4 t c = let a = c .before .before .before .before .before 
     ∙ sym (at-read (now (a .file)) find (lengthOf (now (a .file)) find (a .left)) (c .before .before .before .before .before .before .before .before .before .before .before .before .a .given .0 .0) (c .before .before .before .before .before .before .before .before .before .before .before .before .a .given .0 .1 .0) (ap toldNextReal (sym (c .before .before .before .before .before .before .before .before .number .given .1)) ∙ c .before .before .before .before .before .before .before .before .before .before .next-measure-f64 .ensures))
     ∙ sym (measure-some (now (a .file)) find (lengthOf (now (a .file)) find (a .left)) (a .id) (thingOf (now (a .file)) (rowOf (c .before .before .before .before .before .before .before .before .before .before .before .before .before .before .before .before .w .given .0 .0))) (find-row (now (a .file)) (now (a .rows)) (now (a .slots)) (a .t .ids) (a .id) (ap toldEntry (sym (c .before .before .before .before .before .before .before .before .before .before .before .before .before .before .before .before .w .given .1)) ∙ c .before .before .before .before .before .before .before .before .before .before .before .before .before .before .before .before .before .before .get .ensures)) (ap toldRun (sym (c .before .before .before .before .before .before .before .before .before .before .before .before .a .given .1)) ∙ c .before .before .before .before .before .before .before .before .before .before .before .before .before .before .measure-run .ensures))
 
--- src/lib.rt:250:23
 measure-in-mm-length-at-requires : (t : ℕ) → measure-in-mm-lts.Need-length-at-requires (measure-in-mm-calls t) (measure-in-mm-at t) measure-in-mm.Post
 measure-in-mm-length-at-requires t c κs = (omega (arith, c .before .before .before .before .before .before .before .before .before .before .before .before .before .before .before .before .before .before .before .before .before .before .before .pre .0), tt)
 
--- src/lib.rt:250:13
 measure-in-mm-scaled-requires : (t : ℕ) → measure-in-mm-lts.Need-scaled-requires (measure-in-mm-calls t) (measure-in-mm-at t) measure-in-mm.Post
 measure-in-mm-scaled-requires t c κs = search needs
 
--- src/lib.rt:230:1
 measure-in-mm-returns-5 : (t : ℕ) → measure-in-mm-lts.Need-returns-5 (measure-in-mm-calls t) (measure-in-mm-at t) measure-in-mm.Post
 measure-in-mm-returns-5 t c = let a = c .before .before .before .before .before .before .before .before .before .before .before .args in
     let find = findOf (now (a .file)) (now (a .rows)) (now (a .slots)) (a .t .ids) in
     measure-refused (now (a .file)) find (lengthOf (now (a .file)) find (a .left)) (a .id) (thingOf (now (a .file)) (rowOf (c .before .before .before .before .before .w .given .0 .0))) (find-row (now (a .file)) (now (a .rows)) (now (a .slots)) (a .t .ids) (a .id) (ap toldEntry (sym (c .before .before .before .before .before .w .given .1)) ∙ c .before .before .before .before .before .before .before .get .ensures)) (ap toldRun (sym (c .before .f .given .1)) ∙ c .before .before .before .measure-run .ensures)
 
--- src/lib.rt:230:1
 measure-in-mm-returns-6 : (t : ℕ) → measure-in-mm-lts.Need-returns-6 (measure-in-mm-calls t) (measure-in-mm-at t) measure-in-mm.Post
 measure-in-mm-returns-6 t c = let a = c .before .before .before .before .before .before .before .before .before .before .args in
     let find = findOf (now (a .file)) (now (a .rows)) (now (a .slots)) (a .t .ids) in
     measure-none (now (a .file)) find (lengthOf (now (a .file)) find (a .left)) (a .id) (thingOf (now (a .file)) (rowOf (c .before .before .before .before .w .given .0 .0))) (find-row (now (a .file)) (now (a .rows)) (now (a .slots)) (a .t .ids) (a .id) (ap toldEntry (sym (c .before .before .before .before .w .given .1)) ∙ c .before .before .before .before .before .before .get .ensures)) (ap toldRun (sym (c .enum-told2 .given .1)) ∙ c .before .before .measure-run .ensures)
 
--- src/lib.rt:230:1
 measure-in-mm-returns-7 : (t : ℕ) → measure-in-mm-lts.Need-returns-7 (measure-in-mm-calls t) (measure-in-mm-at t) measure-in-mm.Post
 measure-in-mm-returns-7 t c = let a = c .before .before .before .before .before .before .before .before .before .before .before .before .before .before .before .before .before .before .before .before .before .before .before .before .before .args in
     let find = findOf (now (a .file)) (now (a .rows)) (now (a .slots)) (a .t .ids) in

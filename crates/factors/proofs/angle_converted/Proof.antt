@@ -9,33 +9,23 @@ use Rattle.factors.specs.Factor.{numberIn}
 use Rattle.factors.specs.Code.{toldId}
 use Rattle.factors.proofs.angle_converted.Statement.{statement}
 use Rattle.factors.proofs.angle_converted.Tie as tie
-use Rattle.factors.proofs.angle_converted.Reads as reads
-use Rattle.factors.proofs.angle_converted.Lts as lts
-use Rattle.factors.proofs.measure_number.Reads as measure-number-reads
-use Rattle.factors.proofs.measure_ref.Reads as measure-ref-reads
 
--- src/lib.rt:290:11
 measure-ref-requires : tie.Need-measure-ref-requires
 measure-ref-requires c κs = search needs
 
--- src/lib.rt:291:24
 enum-known-f : tie.Need-enum-known-f
 enum-known-f c = search needs
 
--- src/lib.rt:292:19
 enum-known-id : tie.Need-enum-known-id
 enum-known-id c = search needs
 
--- src/lib.rt:292:26
 measure-number-requires : tie.Need-measure-number-requires
 measure-number-requires c κs = search needs
 
--- src/lib.rt:287:1
 returns : tie.Need-returns
 returns c = let a = c .before .before .before .before .before .before .before .args in
     ap (λ (x : Told ℕ). onward (numberIn (now (a .file)) (findOf (now (a .file)) (now (a .rows)) (now (a .slots)) (a .t .ids))) x) (ap toldId (sym (c .before .f .given .1)) ∙ c .before .before .before .measure-ref .ensures)
 
--- src/lib.rt:287:1
 returns-2 : tie.Need-returns-2
 returns-2 c = let a = c .before .before .before .before .before .before .before .before .args in
     c .measure-number .ensures ∙ ap (λ (x : Told ℕ). onward (numberIn (now (a .file)) (findOf (now (a .file)) (now (a .rows)) (now (a .slots)) (a .t .ids))) x) (ap toldId (sym (c .before .before .id .given .1)) ∙ c .before .before .before .before .measure-ref .ensures)

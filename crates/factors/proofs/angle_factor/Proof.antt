@@ -7,73 +7,53 @@ use Rattle.factors.specs.Code.{toldRun}
 use Rattle.factors.specs.Laws.{angle-refused, angle-si, angle-late, angle-neither, angle-conversion}
 use Rattle.factors.proofs.angle_factor.Statement.{statement}
 use Rattle.factors.proofs.angle_factor.Tie as tie
-use Rattle.factors.proofs.angle_factor.Reads as reads
-use Rattle.factors.proofs.angle_factor.Lts as lts
-use Rattle.factors.proofs.angle_converted.Reads as angle-converted-reads
-use Rattle.factors.proofs.self_or.Reads as self-or-reads
-use Rattle.factors.proofs.si_angle.Reads as si-angle-reads
 
--- src/lib.rt:300:11
 self-or-requires : tie.Need-self-or-requires
 self-or-requires c κs = search needs
 
--- src/lib.rt:301:22
 enum-known-f : tie.Need-enum-known-f
 enum-known-f c = search needs
 
--- src/lib.rt:302:19
 enum-known-a : tie.Need-enum-known-a
 enum-known-a c = search needs
 
--- src/lib.rt:302:28
 si-angle-requires : tie.Need-si-angle-requires
 si-angle-requires c κs = search needs
 
--- src/lib.rt:303:50
 enum-told : tie.Need-enum-told
 enum-told c = search needs
 
--- src/lib.rt:303:31
 self-or-requires-2 : tie.Need-self-or-requires-2
 self-or-requires-2 c κs = search needs
 
--- src/lib.rt:304:26
 enum-known-f-2 : tie.Need-enum-known-f-2
 enum-known-f-2 c = search needs
 
--- src/lib.rt:305:29
 enum-told-2 : tie.Need-enum-told-2
 enum-told-2 c = search needs
 
--- src/lib.rt:306:23
 enum-known-a-2 : tie.Need-enum-known-a-2
 enum-known-a-2 c = search needs
 
--- src/lib.rt:306:32
 angle-converted-requires : tie.Need-angle-converted-requires
 angle-converted-requires c κs = search needs
 
--- src/lib.rt:297:1
 returns : tie.Need-returns
 returns c = let a = c .before .before .before .before .before .before .before .args in
     angle-refused (now (a .file)) (findOf (now (a .file)) (now (a .rows)) (now (a .slots)) (a .t .ids)) (thingOf (now (a .file)) (rowOf (a .row))) (ap toldRun (sym (c .before .f .given .1)) ∙ c .before .before .before .self-or .ensures)
 
--- src/lib.rt:297:1
 returns-2 : tie.Need-returns-2
 returns-2 c = let a = c .before .before .before .before .before .before .before .before .args in
     angle-si (now (a .file)) (findOf (now (a .file)) (now (a .rows)) (now (a .slots)) (a .t .ids)) (thingOf (now (a .file)) (rowOf (a .row))) (ap toldRun (sym (c .before .before .a .given .1)) ∙ c .before .before .before .before .self-or .ensures) (c .si-angle .ensures)
 
--- src/lib.rt:297:1
 returns-3 : tie.Need-returns-3
 returns-3 c = let a = c .before .before .before .before .before .before .before .before .before .before .args in
     angle-late (now (a .file)) (findOf (now (a .file)) (now (a .rows)) (now (a .slots)) (a .t .ids)) (thingOf (now (a .file)) (rowOf (a .row))) (ap toldRun (sym (c .before .before .before .before .enum-told .given .1)) ∙ c .before .before .before .before .before .before .self-or .ensures) (ap toldRun (sym (c .before .f2 .given .1)) ∙ c .before .before .before .self-or2 .ensures)
 
--- src/lib.rt:297:1
 returns-4 : tie.Need-returns-4
 returns-4 c = let a = c .before .before .before .before .before .before .before .before .before .args in
     angle-neither (now (a .file)) (findOf (now (a .file)) (now (a .rows)) (now (a .slots)) (a .t .ids)) (thingOf (now (a .file)) (rowOf (a .row))) (ap toldRun (sym (c .before .before .before .enum-told .given .1)) ∙ c .before .before .before .before .before .self-or .ensures) (ap toldRun (sym (c .enum-told2 .given .1)) ∙ c .before .before .self-or2 .ensures)
 
--- src/lib.rt:297:1
 returns-5 : tie.Need-returns-5
 returns-5 c = let a = c .before .before .before .before .before .before .before .before .before .before .before .args in
     angle-conversion (now (a .file)) (findOf (now (a .file)) (now (a .rows)) (now (a .slots)) (a .t .ids)) (rowOf (a .row)) (ap toldRun (sym (c .before .before .before .before .before .enum-told .given .1)) ∙ c .before .before .before .before .before .before .before .self-or .ensures) (ap toldRun (sym (c .before .before .a2 .given .1)) ∙ c .before .before .before .before .self-or2 .ensures) (c .angle-converted .ensures)

@@ -7,31 +7,22 @@ use Rattle.factors.specs.Code.{toldId}
 use Rattle.factors.specs.Laws.{conversion-deep, conversion-refused, conversion-leads}
 use Rattle.factors.proofs.conversion_at.Statement.{statement}
 use Rattle.factors.proofs.conversion_at.Tie as tie
-use Rattle.factors.proofs.conversion_at.Reads as reads
-use Rattle.factors.proofs.conversion_at.Lts as lts
-use Rattle.factors.proofs.measure_ref.Reads as measure-ref-reads
 
--- src/lib.rt:212:9
 returns : tie.Need-returns
 returns c = let a = c .before .before .args in conversion-deep (now (a .file)) (a .left) (a .row .args .start) (span (a .a) (a .z)) (c .if1 .taken)
 
--- src/lib.rt:214:11
 measure-ref-requires : tie.Need-measure-ref-requires
 measure-ref-requires c κs = search needs
 
--- src/lib.rt:215:24
 enum-known-f : tie.Need-enum-known-f
 enum-known-f c = search needs
 
--- src/lib.rt:216:19
 enum-known-id : tie.Need-enum-known-id
 enum-known-id c = search needs
 
--- src/lib.rt:208:1
 returns-2 : tie.Need-returns-2
 returns-2 c = let a = c .before .before .before .before .before .before .args in conversion-refused (now (a .file)) (a .left) (a .row .args .start) (span (a .a) (a .z)) (ne-eqb _ _ (c .before .before .before .before .if1 .left)) (ap toldId (sym (c .before .f .given .1)) ∙ c .before .before .before .measure-ref .ensures)
 
--- src/lib.rt:208:1
 returns-3 : tie.Need-returns-3
 returns-3 c = let a = c .before .before .before .before .before .before .args in conversion-leads (now (a .file)) (a .left) (a .row .args .start) (span (a .a) (a .z)) (ne-eqb _ _ (c .before .before .before .before .if1 .left)) (ap toldId (sym (c .before .id .given .1)) ∙ c .before .before .before .measure-ref .ensures)
 

@@ -7,73 +7,53 @@ use Rattle.factors.specs.Code.{toldRun}
 use Rattle.factors.specs.Laws.{link-refused, link-si, link-late, link-neither, link-conversion}
 use Rattle.factors.proofs.link_at.Statement.{statement}
 use Rattle.factors.proofs.link_at.Tie as tie
-use Rattle.factors.proofs.link_at.Reads as reads
-use Rattle.factors.proofs.link_at.Lts as lts
-use Rattle.factors.proofs.conversion_at.Reads as conversion-at-reads
-use Rattle.factors.proofs.self_or.Reads as self-or-reads
-use Rattle.factors.proofs.si_length.Reads as si-length-reads
 
--- src/lib.rt:196:11
 self-or-requires : tie.Need-self-or-requires
 self-or-requires c κs = search needs
 
--- src/lib.rt:197:22
 enum-known-f : tie.Need-enum-known-f
 enum-known-f c = search needs
 
--- src/lib.rt:198:19
 enum-known-a : tie.Need-enum-known-a
 enum-known-a c = search needs
 
--- src/lib.rt:198:40
 si-length-requires : tie.Need-si-length-requires
 si-length-requires c κs = search needs
 
--- src/lib.rt:199:50
 enum-told : tie.Need-enum-told
 enum-told c = search needs
 
--- src/lib.rt:199:31
 self-or-requires-2 : tie.Need-self-or-requires-2
 self-or-requires-2 c κs = search needs
 
--- src/lib.rt:200:26
 enum-known-f-2 : tie.Need-enum-known-f-2
 enum-known-f-2 c = search needs
 
--- src/lib.rt:201:41
 enum-told-2 : tie.Need-enum-told-2
 enum-told-2 c = search needs
 
--- src/lib.rt:202:23
 enum-known-a-2 : tie.Need-enum-known-a-2
 enum-known-a-2 c = search needs
 
--- src/lib.rt:202:32
 conversion-at-requires : tie.Need-conversion-at-requires
 conversion-at-requires c κs = search needs
 
--- src/lib.rt:193:1
 returns : tie.Need-returns
 returns c = let a = c .before .before .before .before .before .args in
     link-refused (now (a .file)) (a .left) (thingOf (now (a .file)) (rowOf (a .row))) (ap toldRun (sym (c .before .f .given .1)) ∙ c .before .before .before .self-or .ensures)
 
--- src/lib.rt:193:1
 returns-2 : tie.Need-returns-2
 returns-2 c = let a = c .before .before .before .before .before .before .args in
     link-si (now (a .file)) (a .left) (thingOf (now (a .file)) (rowOf (a .row))) (ap toldRun (sym (c .before .before .a .given .1)) ∙ c .before .before .before .before .self-or .ensures) (c .si-length .ensures)
 
--- src/lib.rt:193:1
 returns-3 : tie.Need-returns-3
 returns-3 c = let a = c .before .before .before .before .before .before .before .before .args in
     link-late (now (a .file)) (a .left) (thingOf (now (a .file)) (rowOf (a .row))) (ap toldRun (sym (c .before .before .before .before .enum-told .given .1)) ∙ c .before .before .before .before .before .before .self-or .ensures) (ap toldRun (sym (c .before .f2 .given .1)) ∙ c .before .before .before .self-or2 .ensures)
 
--- src/lib.rt:193:1
 returns-4 : tie.Need-returns-4
 returns-4 c = let a = c .before .before .before .before .before .before .before .args in
     link-neither (now (a .file)) (a .left) (thingOf (now (a .file)) (rowOf (a .row))) (ap toldRun (sym (c .before .before .before .enum-told .given .1)) ∙ c .before .before .before .before .before .self-or .ensures) (ap toldRun (sym (c .enum-told2 .given .1)) ∙ c .before .before .self-or2 .ensures)
 
--- src/lib.rt:193:1
 returns-5 : tie.Need-returns-5
 returns-5 c = let a = c .before .before .before .before .before .before .before .before .before .args in
     link-conversion (now (a .file)) (a .left) (rowOf (a .row)) (ap toldRun (sym (c .before .before .before .before .before .enum-told .given .1)) ∙ c .before .before .before .before .before .before .before .self-or .ensures) (ap toldRun (sym (c .before .before .a2 .given .1)) ∙ c .before .before .before .before .self-or2 .ensures) (c .conversion-at .ensures)

@@ -10,66 +10,47 @@ use Rattle.factors.specs.Thing.{findOf}
 use Rattle.factors.specs.Laws.{find-none, find-row, number-missing, number-out, number-unread, number-read}
 use Rattle.factors.proofs.measure_number.Statement.{statement}
 use Rattle.factors.proofs.measure_number.Tie as tie
-use Rattle.factors.proofs.measure_number.Reads as reads
-use Rattle.factors.proofs.measure_number.Lts as lts
-use Rattle.factors.proofs.unread.Reads as unread-reads
-use Rattle.lookup.proofs.args_of.Reads as args-of-reads
-use Rattle.lookup.proofs.get.Reads as get-reads
-use Rattle.scalars.proofs.next_measure_f64.Reads as next-measure-f64-reads
 
--- src/lib.rt:273:25
 get-requires : tie.Need-get-requires
 get-requires c κs = search needs
 
--- src/lib.rt:273:20
 enum-known-w : tie.Need-enum-known-w
 enum-known-w c = search needs
 
--- src/lib.rt:274:9
 enum-told : tie.Need-enum-told
 enum-told c = search needs
 
--- src/lib.rt:274:9
 returns : tie.Need-returns
 returns c = let a = c .before .before .before .before .before .before .args in
     number-missing (now (a .file)) (findOf (now (a .file)) (now (a .rows)) (now (a .slots)) (a .t .ids)) (a .id) (find-none (now (a .file)) (now (a .rows)) (now (a .slots)) (a .t .ids) (a .id) (ap toldEntry (sym (c .enum-told .given .1)) ∙ c .before .before .get .ensures))
 
--- src/lib.rt:276:28
 args-of-requires : tie.Need-args-of-requires
 args-of-requires c κs = search needs
 
--- src/lib.rt:276:23
 enum-known-a : tie.Need-enum-known-a
 enum-known-a c = search needs
 
--- src/lib.rt:277:32
 enum-told-2 : tie.Need-enum-told-2
 enum-told-2 c = search needs
 
--- src/lib.rt:277:9
 returns-2 : tie.Need-returns-2
 returns-2 c = let a = c .before .before .before .before .before .before .before .before .before .before .args in
     number-out (now (a .file)) (findOf (now (a .file)) (now (a .rows)) (now (a .slots)) (a .t .ids)) (a .id) (rowOf (c .before .before .before .before .w .given .0 .0))
     (find-row (now (a .file)) (now (a .rows)) (now (a .slots)) (a .t .ids) (a .id) (ap toldEntry (sym (c .before .before .before .before .w .given .1)) ∙ c .before .before .before .before .before .before .get .ensures))
     (ap toldSpan (sym (c .enum-told2 .given .1)) ∙ c .before .before .args-of .ensures)
 
--- src/lib.rt:279:9
 next-measure-f64-requires : tie.Need-next-measure-f64-requires
 next-measure-f64-requires c κs = search needs
 
--- src/lib.rt:280:25
 enum-known-number : tie.Need-enum-known-number
 enum-known-number c = search needs
 
--- src/lib.rt:281:9
 enum-told-3 : tie.Need-enum-told-3
 enum-told-3 c = search needs
 
--- src/lib.rt:281:9
 unread-requires : tie.Need-unread-requires
 unread-requires c κs = search needs
 
--- src/lib.rt:281:9
 returns-3 : tie.Need-returns-3
 returns-3 c = let a = c .before .before .before .before .before .before .before .before .before .before .before .before .before .before .before .args in
     c .unread .ensures ∙
@@ -79,7 +60,6 @@ returns-3 c = let a = c .before .before .before .before .before .before .before 
     (c .before .before .before .next-measure-f64 .ensures)
     (ap (λ (x : Read ℕ). x .answer) (ap toldNextReal (c .before .enum-told3 .given .1)))
 
--- src/lib.rt:270:1
 returns-4 : tie.Need-returns-4
 returns-4 c = let a = c .before .before .before .before .before .before .before .before .before .before .before .before .before .before .before .args in
     number-read (now (a .file)) (findOf (now (a .file)) (now (a .rows)) (now (a .slots)) (a .t .ids)) (a .id) (rowOf (c .before .before .before .before .before .before .before .before .before .w .given .0 .0))

@@ -6,44 +6,31 @@ use Rattle.scalars.specs.Scalars.{toldNextRef}
 use Rattle.factors.specs.Laws.{ref-refused, ref-past}
 use Rattle.factors.proofs.measure_ref.Statement.{statement}
 use Rattle.factors.proofs.measure_ref.Tie as tie
-use Rattle.factors.proofs.measure_ref.Reads as reads
-use Rattle.factors.proofs.measure_ref.Lts as lts
-use Rattle.params.proofs.skip.Reads as skip-reads
-use Rattle.scalars.proofs.next_ref.Reads as next-ref-reads
 
--- src/lib.rt:139:11
 skip-requires : tie.Need-skip-requires
 skip-requires c κs = search needs
 
--- src/lib.rt:140:26
 enum-known-f : tie.Need-enum-known-f
 enum-known-f c = search needs
 
--- src/lib.rt:141:23
 enum-known-to : tie.Need-enum-known-to
 enum-known-to c = search needs
 
--- src/lib.rt:141:36
 next-ref-requires : tie.Need-next-ref-requires
 next-ref-requires c κs = search needs
 
--- src/lib.rt:142:30
 enum-known-f-2 : tie.Need-enum-known-f-2
 enum-known-f-2 c = search needs
 
--- src/lib.rt:143:28
 enum-known-id : tie.Need-enum-known-id
 enum-known-id c = search needs
 
--- src/lib.rt:136:1
 returns : tie.Need-returns
 returns c = let a = c .before .before .before .before .before .args in ref-refused (now (a .file)) (a .a) (a .z) (ap toldSkipped (sym (c .before .f .given .1)) ∙ c .before .before .before .skip .ensures)
 
--- src/lib.rt:136:1
 returns-2 : tie.Need-returns-2
 returns-2 c = let a = c .before .before .before .before .before .before .before .before .before .args in ref-past (now (a .file)) (a .a) (a .z) (ap toldSkipped (sym (c .before .before .before .before .before .to .given .1)) ∙ c .before .before .before .before .before .before .before .skip .ensures) (ap toldNextRef (sym (c .before .f2 .given .1)) ∙ c .before .before .before .next-ref .ensures)
 
--- src/lib.rt:136:1
 returns-3 : tie.Need-returns-3
 returns-3 c = let a = c .before .before .before .before .before .before .before .before .before .args in ref-past (now (a .file)) (a .a) (a .z) (ap toldSkipped (sym (c .before .before .before .before .before .to .given .1)) ∙ c .before .before .before .before .before .before .before .skip .ensures) (ap toldNextRef (sym (c .before .id .given .1)) ∙ c .before .before .before .next-ref .ensures)
 

@@ -9,56 +9,40 @@ use Rattle.factors.specs.Factor.{measureRun}
 use Rattle.factors.specs.Laws.{thing-out, measure-own, measure-part}
 use Rattle.factors.proofs.measure_run.Statement.{statement}
 use Rattle.factors.proofs.measure_run.Tie as tie
-use Rattle.factors.proofs.measure_run.Reads as reads
-use Rattle.factors.proofs.measure_run.Lts as lts
-use Rattle.lookup.proofs.args_of.Reads as args-of-reads
-use Rattle.parts.proofs.complex_part.Reads as complex-part-reads
 
--- src/lib.rt:178:28
 args-of-requires : tie.Need-args-of-requires
 args-of-requires c κs = search needs
 
--- src/lib.rt:178:23
 enum-known-a : tie.Need-enum-known-a
 enum-known-a c = search needs
 
--- src/lib.rt:179:29
 enum-told : tie.Need-enum-told
 enum-told c = search needs
 
--- src/lib.rt:179:9
 returns : tie.Need-returns
 returns c = thing-out measureRun (now (c .before .before .before .before .args .file)) (rowOf (c .before .before .before .before .args .row)) (ap toldSpan (sym (c .enum-told .given .1)) ∙ c .before .before .args-of .ensures)
 
--- src/lib.rt:182:9
 returns-2 : tie.Need-returns-2
 returns-2 c = measure-own (now (c .before .before .before .before .before .before .before .args .file)) (rowOf (c .before .before .before .before .before .before .before .args .row)) (ap toldSpan (sym (c .before .before .before .a .given .1)) ∙ c .before .before .before .before .before .args-of .ensures) (ne-eqb _ _ (c .if1 .taken))
 
--- src/lib.rt:184:11
 complex-part-requires : tie.Need-complex-part-requires
 complex-part-requires c κs = search needs
 
--- src/lib.rt:185:18
 enum-known-p : tie.Need-enum-known-p
 enum-known-p c = search needs
 
--- src/lib.rt:186:23
 enum-told-2 : tie.Need-enum-told-2
 enum-told-2 c = search needs
 
--- src/lib.rt:187:23
 enum-known-f : tie.Need-enum-known-f
 enum-known-f c = search needs
 
--- src/lib.rt:175:1
 returns-3 : tie.Need-returns-3
 returns-3 c = measure-part (now (c .before .before .before .before .before .before .before .before .before .before .before .args .file)) (rowOf (c .before .before .before .before .before .before .before .before .before .before .before .args .row)) (ap toldSpan (sym (c .before .before .before .before .before .before .before .a .given .1)) ∙ c .before .before .before .before .before .before .before .before .before .args-of .ensures) (eq-eqb _ _ (c .before .before .before .before .if1 .left)) (ap toldNext (sym (c .before .p .given .1)) ∙ c .before .before .before .complex-part .ensures)
 
--- src/lib.rt:175:1
 returns-4 : tie.Need-returns-4
 returns-4 c = measure-part (now (c .before .before .before .before .before .before .before .before .before .before .args .file)) (rowOf (c .before .before .before .before .before .before .before .before .before .before .args .row)) (ap toldSpan (sym (c .before .before .before .before .before .before .a .given .1)) ∙ c .before .before .before .before .before .before .before .before .args-of .ensures) (eq-eqb _ _ (c .before .before .before .if1 .left)) (ap toldNext (sym (c .enum-told2 .given .1)) ∙ c .before .before .complex-part .ensures)
 
--- src/lib.rt:175:1
 returns-5 : tie.Need-returns-5
 returns-5 c = measure-part (now (c .before .before .before .before .before .before .before .before .before .before .before .args .file)) (rowOf (c .before .before .before .before .before .before .before .before .before .before .before .args .row)) (ap toldSpan (sym (c .before .before .before .before .before .before .before .a .given .1)) ∙ c .before .before .before .before .before .before .before .before .before .args-of .ensures) (eq-eqb _ _ (c .before .before .before .before .if1 .left)) (ap toldNext (sym (c .before .f .given .1)) ∙ c .before .before .before .complex-part .ensures)
 

@@ -6,46 +6,34 @@ use lib.ListN.{length}
 use Rattle.record.specs.Turns.{bounds}
 use Rattle.factors.proofs.name_in.Statement.{statement}
 use Rattle.factors.proofs.name_in.Tie as tie
-use Rattle.factors.proofs.name_in.Reads as reads
-use Rattle.factors.proofs.name_in.Lts as lts
 
--- src/lib.rt:88:24
 enum-known-n : tie.Need-enum-known-n
 enum-known-n c = search needs
 
--- src/lib.rt:90:24
 sub-result : tie.Need-sub-result
 sub-result c = bounds _ _ _ (c .if1 .taken) .0
 
--- src/lib.rt:90:24
 part-result-start : tie.Need-part-result-start
 part-result-start c = let g = c .before .before .n .given .0 in let k = bounds (g .0) (g .1 .0) (length (now (c .before .before .before .before .args .file))) (c .if1 .taken) in omega (arith, k .0, k .1)
 
--- src/lib.rt:90:24
 part-result-end : tie.Need-part-result-end
 part-result-end c = let g = c .before .before .n .given .0 in let k = bounds (g .0) (g .1 .0) (length (now (c .before .before .before .before .args .file))) (c .if1 .taken) in omega (arith, k .0, k .1)
 
--- src/lib.rt:90:17
 returns : tie.Need-returns
 returns c = rw (c .before .before .before .n .given .1, c .before .if1 .taken) refl
 
--- src/lib.rt:92:13
 slice-aggregate-result : tie.Need-slice-aggregate-result
 slice-aggregate-result c = search needs
 
--- src/lib.rt:92:13
 returns-2 : tie.Need-returns-2
 returns-2 c = rw (c .before .before .before .n .given .1, c .before .if1 .left) refl
 
--- src/lib.rt:95:20
 enum-told : tie.Need-enum-told
 enum-told c = search needs
 
--- src/lib.rt:95:13
 slice-aggregate-result-2 : tie.Need-slice-aggregate-result-2
 slice-aggregate-result-2 c = search needs
 
--- src/lib.rt:95:13
 returns-3 : tie.Need-returns-3
 returns-3 c = search needs
 

@@ -2,35 +2,25 @@ use borrow.Author.Needs.{needs}
 use mathlib.Core.Path.{refl}
 use Rattle.factors.proofs.scaled.Statement.{statement}
 use Rattle.factors.proofs.scaled.Tie as tie
-use Rattle.factors.proofs.scaled.Reads as reads
-use Rattle.factors.proofs.scaled.Lts as lts
-use Rattle.nearest.proofs.times.Reads as times-reads
 
--- src/lib.rt:168:20
 enum-known-f : tie.Need-enum-known-f
 enum-known-f c = search needs
 
--- src/lib.rt:168:37
 times-requires : tie.Need-times-requires
 times-requires c κs = search needs
 
--- src/lib.rt:169:28
 enum-told : tie.Need-enum-told
 enum-told c = search needs
 
--- src/lib.rt:170:25
 enum-known-f-2 : tie.Need-enum-known-f-2
 enum-known-f-2 c = search needs
 
--- src/lib.rt:164:1
 returns : tie.Need-returns
 returns c = rw (c .before .before .f .given .1, c .times .ensures) refl
 
--- src/lib.rt:164:1
 returns-2 : tie.Need-returns-2
 returns-2 c = rw (c .enum-told .given .1) refl
 
--- src/lib.rt:164:1
 returns-3 : tie.Need-returns-3
 returns-3 c = rw (c .before .f2 .given .1) refl
 

@@ -11,72 +11,52 @@ use Rattle.factors.specs.Thing.{selfOr}
 use Rattle.factors.specs.Laws.{thing-out, self-own, self-part}
 use Rattle.factors.proofs.self_or.Statement.{statement}
 use Rattle.factors.proofs.self_or.Tie as tie
-use Rattle.factors.proofs.self_or.Reads as reads
-use Rattle.factors.proofs.self_or.Lts as lts
-use Rattle.kinds.proofs.same_kind.Reads as same-kind-reads
-use Rattle.lookup.proofs.args_of.Reads as args-of-reads
-use Rattle.lookup.proofs.kind_in.Reads as kind-in-reads
-use Rattle.parts.proofs.complex_part.Reads as complex-part-reads
 
--- src/lib.rt:60:28
 args-of-requires : tie.Need-args-of-requires
 args-of-requires c κs = search needs
 
--- src/lib.rt:60:23
 enum-known-a : tie.Need-enum-known-a
 enum-known-a c = search needs
 
--- src/lib.rt:61:29
 enum-told : tie.Need-enum-told
 enum-told c = search needs
 
--- src/lib.rt:61:9
 returns : tie.Need-returns
 returns c = let a = c .before .before .before .before .args in thing-out (selfOr (a .kind)) (now (a .file)) (rowOf (a .row)) (ap toldSpan (sym (c .enum-told .given .1)) ∙ c .before .before .args-of .ensures)
 
--- src/lib.rt:63:25
 kind-in-requires : tie.Need-kind-in-requires
 kind-in-requires c κs = search needs
 
--- src/lib.rt:63:8
 same-kind-requires : tie.Need-same-kind-requires
 same-kind-requires c κs = search needs
 
--- src/lib.rt:64:9
 returns-2 : tie.Need-returns-2
 returns-2 c = let a = c .before .before .before .before .before .before .before .before .args in
     let k = ap (λ (x : Kind). eqb (rankOf x) (rankOf (a .kind))) (sym (c .before .before .kind-in .ensures)) ∙ sym (c .before .same-kind .ensures) ∙ c .if1 .taken in
     self-own (now (a .file)) (rowOf (a .row)) (ap toldSpan (sym (c .before .before .before .before .a .given .1)) ∙ c .before .before .before .before .before .before .args-of .ensures) (a .kind) k
 
--- src/lib.rt:66:11
 complex-part-requires : tie.Need-complex-part-requires
 complex-part-requires c κs = search needs
 
--- src/lib.rt:67:18
 enum-known-p : tie.Need-enum-known-p
 enum-known-p c = search needs
 
--- src/lib.rt:68:23
 enum-told-2 : tie.Need-enum-told-2
 enum-told-2 c = search needs
 
--- src/lib.rt:69:23
 enum-known-f : tie.Need-enum-known-f
 enum-known-f c = search needs
 
--- src/lib.rt:57:1
 returns-3 : tie.Need-returns-3
 returns-3 c = let a = c .before .before .before .before .before .before .before .before .before .before .before .before .args in
     let k = ap (λ (x : Kind). eqb (rankOf x) (rankOf (a .kind))) (sym (c .before .before .before .before .before .before .kind-in .ensures)) ∙ sym (c .before .before .before .before .before .same-kind .ensures) ∙ c .before .before .before .before .if1 .left in
     self-part (now (a .file)) (rowOf (a .row)) (ap toldSpan (sym (c .before .before .before .before .before .before .before .before .a .given .1)) ∙ c .before .before .before .before .before .before .before .before .before .before .args-of .ensures) (a .kind) k (ap toldNext (sym (c .before .p .given .1)) ∙ c .before .before .before .complex-part .ensures)
 
--- src/lib.rt:57:1
 returns-4 : tie.Need-returns-4
 returns-4 c = let a = c .before .before .before .before .before .before .before .before .before .before .before .args in
     let k = ap (λ (x : Kind). eqb (rankOf x) (rankOf (a .kind))) (sym (c .before .before .before .before .before .kind-in .ensures)) ∙ sym (c .before .before .before .before .same-kind .ensures) ∙ c .before .before .before .if1 .left in
     self-part (now (a .file)) (rowOf (a .row)) (ap toldSpan (sym (c .before .before .before .before .before .before .before .a .given .1)) ∙ c .before .before .before .before .before .before .before .before .before .args-of .ensures) (a .kind) k (ap toldNext (sym (c .enum-told2 .given .1)) ∙ c .before .before .complex-part .ensures)
 
--- src/lib.rt:57:1
 returns-5 : tie.Need-returns-5
 returns-5 c = let a = c .before .before .before .before .before .before .before .before .before .before .before .before .args in
     let k = ap (λ (x : Kind). eqb (rankOf x) (rankOf (a .kind))) (sym (c .before .before .before .before .before .before .kind-in .ensures)) ∙ sym (c .before .before .before .before .before .same-kind .ensures) ∙ c .before .before .before .before .if1 .left in

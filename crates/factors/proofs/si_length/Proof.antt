@@ -6,47 +6,31 @@ use Rattle.prefixes.specs.Prefix.{lengthFactorOf}
 use Rattle.factors.specs.Laws.{length-other, length-is}
 use Rattle.factors.proofs.si_length.Statement.{statement}
 use Rattle.factors.proofs.si_length.Tie as tie
-use Rattle.factors.proofs.si_length.Reads as reads
-use Rattle.factors.proofs.si_length.Lts as lts
-use Rattle.factors.proofs.after.Reads as after-reads
-use Rattle.factors.proofs.is_named.Reads as is-named-reads
-use Rattle.factors.proofs.name_in.Reads as name-in-reads
-use Rattle.prefixes.proofs.length_factor.Reads as length-factor-reads
-use Rattle.words.proofs.next_enum.Reads as next-enum-reads
 
--- src/lib.rt:115:9
 next-enum-requires : tie.Need-next-enum-requires
 next-enum-requires c κs = search needs
 
--- src/lib.rt:116:41
 after-requires : tie.Need-after-requires
 after-requires c κs = search needs
 
--- src/lib.rt:116:9
 next-enum-requires-2 : tie.Need-next-enum-requires-2
 next-enum-requires-2 c κs = search needs
 
--- src/lib.rt:117:32
 slice-aggregate-is-named : tie.Need-slice-aggregate-is-named
 slice-aggregate-is-named c = search needs
 
--- src/lib.rt:117:9
 is-named-requires : tie.Need-is-named-requires
 is-named-requires c κs = search needs
 
--- src/lib.rt:118:9
 returns : tie.Need-returns
 returns c = let a = c .before .before .before .before .before .before .before .args in length-other (now (a .file)) (a .a) (a .z) (c .before .before .before .before .before .next-enum .result) (c .before .before .before .next-enum2 .result) (c .before .before .before .before .before .next-enum .ensures) (c .before .before .before .before .after .ensures .0) (c .before .before .before .before .after .ensures .1) (c .before .before .before .next-enum2 .ensures) (sym (c .before .is-named .ensures) ∙ not-true _ (c .if1 .taken))
 
--- src/lib.rt:120:37
 name-in-requires : tie.Need-name-in-requires
 name-in-requires c κs = search needs
 
--- src/lib.rt:120:16
 length-factor-requires : tie.Need-length-factor-requires
 length-factor-requires c κs = search needs
 
--- src/lib.rt:112:1
 returns-2 : tie.Need-returns-2
 returns-2 c = let a = c .before .before .before .before .before .before .before .before .before .args in length-is (now (a .file)) (a .a) (a .z) (c .before .before .before .before .before .before .before .next-enum .result) (c .before .before .before .before .before .next-enum2 .result) (c .before .before .before .before .before .before .before .next-enum .ensures) (c .before .before .before .before .before .before .after .ensures .0) (c .before .before .before .before .before .before .after .ensures .1) (c .before .before .before .before .before .next-enum2 .ensures) (sym (c .before .before .before .is-named .ensures) ∙ not-false _ (c .before .before .if1 .left)) (c .length-factor .ensures ∙ ap lengthFactorOf (c .before .name-in .ensures))
 

@@ -5,28 +5,19 @@ use borrow.Author.Tests.{eqb-true}
 use borrow.Author.Needs.{needs}
 use Rattle.finds.proofs.all_stand.Statement.{statement}
 use Rattle.finds.proofs.all_stand.Tie as tie
-use Rattle.finds.proofs.all_stand.Reads as reads
-use Rattle.finds.proofs.all_stand.Lts as lts
-use Rattle.finds.proofs.highest.Reads as highest-reads
-use Rattle.finds.proofs.misses.Reads as misses-reads
 
--- src/lib.rt:366:13
 highest-requires : tie.Need-highest-requires
 highest-requires c κs = search needs
 
--- src/lib.rt:366:13
 cast-if1 : tie.Need-cast-if1
 cast-if1 c = search needs
 
--- src/lib.rt:367:9
 returns : tie.Need-returns
 returns c = λ h. absurd (let z : _≡_ {A = ℕ} 0 1 = cc in omega arith)
 
--- src/lib.rt:369:5
 misses-requires : tie.Need-misses-requires
 misses-requires c κs = let p = c .before .before .before .before .before .pre in let h = c .if1 .left in (p .0, p .1, p .2, p .3, λ j x y. let q = c .before .highest .ensures j x y in omega (arith, q, h))
 
--- src/lib.rt:362:1
 returns-2 : tie.Need-returns-2
 returns-2 c = λ h. c .misses .ensures (eqb-true (c .misses .result) 0 h)
 

@@ -6,9 +6,6 @@ use lib.ListN.{length, getD}
 use Prim.Native.Nat.{_-_, _≤_}
 use Rattle.finds.proofs.dense_near.Statement.{statement}
 use Rattle.finds.proofs.dense_near.Tie as tie
-use Rattle.finds.proofs.dense_near.Reads as reads
-use Rattle.finds.proofs.dense_near.Lts as lts
-use Rattle.finds.proofs.dense_row.Reads as dense-row-reads
 
 abbrev Inv-loop : tie.InvT-loop
 Inv-loop rows slots b ids found₀ from to i₀ found i = (from ≤ i) × (i ≤ to) × (to ≤ length ids) × (to ≤ length found₀) × Swept (Hint rows slots b) ids found₀ from i found
@@ -16,47 +13,36 @@ Inv-loop rows slots b ids found₀ from to i₀ found i = (from ≤ i) × (i ≤
 abbrev μ-loop : tie.MeasureT-loop
 μ-loop rows slots b ids found₀ from to i₀ found i = to - i
 
--- src/lib.rt:69:5
 loop-holds : tie.Need-loop-holds Inv-loop μ-loop
 loop-holds c = (omega arith, omega arith, omega arith, omega arith, swept-none _ _ _ _)
 
--- src/lib.rt:70:39
 mul-dense-row : tie.Need-mul-dense-row Inv-loop μ-loop
 mul-dense-row c = search needs
 
--- src/lib.rt:70:39
 shared-slice-read-dense-row : tie.Need-shared-slice-read-dense-row Inv-loop μ-loop
 shared-slice-read-dense-row c = search needs
 
--- src/lib.rt:70:20
 dense-row-requires : tie.Need-dense-row-requires Inv-loop μ-loop
 dense-row-requires c κs = search needs
 
--- src/lib.rt:70:9
 mul-found : tie.Need-mul-found Inv-loop μ-loop
 mul-found c = search needs
 
--- src/lib.rt:70:9
 slice-write-found : tie.Need-slice-write-found Inv-loop μ-loop
 slice-write-found c = let l = c .before .before .before .loop in let n = l .inv .4 .size in omega (arith, n)
 
--- src/lib.rt:71:9
 add-i : tie.Need-add-i Inv-loop μ-loop
 add-i c = search needs
 
--- src/lib.rt:69:5
 loop-less : tie.Need-loop-less Inv-loop μ-loop
 loop-less c = search needs
 
--- src/lib.rt:69:5
 loop-again : tie.Need-loop-again Inv-loop μ-loop
 loop-again c = let l = c .before .before .before .loop in let n = l .inv .4 .size in let a = c .before .before .before .before .before .before .before .before .args in let p = c .before .before .before .before .before .before .before .before .pre in (omega arith, omega arith, l .inv .2, l .inv .3, swept-next _ _ _ _ (l .i) _ (l .inv .4) (l .inv .0) _ (omega arith) (far-hint (a .rows .now) (a .slots .now) (a .b) (p .3) (p .4) (getD (a .ids .now) (l .i) 0) (c .dense-row .result) (c .dense-row .ensures)))
 
--- src/lib.rt:56:1
 same-length : tie.Need-same-length Inv-loop μ-loop
 same-length c = c .before .loop .inv .4 .size
 
--- src/lib.rt:56:1
 returns : tie.Need-returns Inv-loop μ-loop
 returns c = let l = c .before .loop in swept-end _ _ _ _ _ _ _ (l .inv .4) (omega arith)
 

@@ -2,14 +2,10 @@ use mathlib.Core.Logic.{inl, inr}
 use mathlib.Core.Path.{refl}
 use Rattle.finds.proofs.dense_row.Statement.{statement}
 use Rattle.finds.proofs.dense_row.Tie as tie
-use Rattle.finds.proofs.dense_row.Reads as reads
-use Rattle.finds.proofs.dense_row.Lts as lts
 
--- src/lib.rt:49:1
 returns : tie.Need-returns
 returns c = inl refl
 
--- src/lib.rt:49:1
 returns-2 : tie.Need-returns-2
 returns-2 c = inr (c .if1 .left, refl)
 

@@ -7,9 +7,6 @@ use Prim.Native.Nat.{_-_, _≤_}
 use native.Mathlib.Omega.{arith}
 use Rattle.finds.proofs.even_near.Statement.{statement}
 use Rattle.finds.proofs.even_near.Tie as tie
-use Rattle.finds.proofs.even_near.Reads as reads
-use Rattle.finds.proofs.even_near.Lts as lts
-use Rattle.finds.proofs.even_row.Reads as even-row-reads
 
 abbrev Inv-loop : tie.InvT-loop
 Inv-loop rows slots b step ids found₀ from to scale i₀ found i = (from ≤ i) × (i ≤ to) × (to ≤ length ids) × (to ≤ length found₀) × (scale ≤ 4294967296) × Swept (Hint rows slots b) ids found₀ from i found
@@ -17,55 +14,42 @@ Inv-loop rows slots b step ids found₀ from to scale i₀ found i = (from ≤ i
 abbrev μ-loop : tie.MeasureT-loop
 μ-loop rows slots b step ids found₀ from to scale i₀ found i = to - i
 
--- src/lib.rt:210:17
 div-scale : tie.Need-div-scale Inv-loop μ-loop
 div-scale c = search needs
 
--- src/lib.rt:210:17
 add-scale : tie.Need-add-scale Inv-loop μ-loop
 add-scale c = let a = c .before .before .before .before .args in let q = div-le-self 4294967295 (a .step) in record { fits = omega (arith, q) }
 
--- src/lib.rt:212:5
 loop-holds : tie.Need-loop-holds Inv-loop μ-loop
 loop-holds c = let a = c .before .before .before .before .args in let q = div-le-self 4294967295 (a .step) in (omega arith, omega arith, omega arith, omega arith, omega (arith, q), swept-none _ _ _ _)
 
--- src/lib.rt:213:51
 mul-even-row : tie.Need-mul-even-row Inv-loop μ-loop
 mul-even-row c = search needs
 
--- src/lib.rt:213:51
 shared-slice-read-even-row : tie.Need-shared-slice-read-even-row Inv-loop μ-loop
 shared-slice-read-even-row c = search needs
 
--- src/lib.rt:213:20
 even-row-requires : tie.Need-even-row-requires Inv-loop μ-loop
 even-row-requires c κs = search needs
 
--- src/lib.rt:213:9
 mul-found : tie.Need-mul-found Inv-loop μ-loop
 mul-found c = search needs
 
--- src/lib.rt:213:9
 slice-write-found : tie.Need-slice-write-found Inv-loop μ-loop
 slice-write-found c = let l = c .before .before .before .loop in let n = l .inv .5 .size in omega (arith, n)
 
--- src/lib.rt:214:9
 add-i : tie.Need-add-i Inv-loop μ-loop
 add-i c = search needs
 
--- src/lib.rt:212:5
 loop-less : tie.Need-loop-less Inv-loop μ-loop
 loop-less c = search needs
 
--- src/lib.rt:212:5
 loop-again : tie.Need-loop-again Inv-loop μ-loop
 loop-again c = let l = c .before .before .before .loop in let n = l .inv .5 .size in let a = c .before .before .before .before .before .before .before .before .args in let p = c .before .before .before .before .before .before .before .before .pre in (omega arith, omega arith, l .inv .2, l .inv .3, l .inv .4, swept-next _ _ _ _ (l .i) _ (l .inv .5) (l .inv .0) _ (omega arith) (step-hint (a .rows .now) (a .slots .now) (a .b) (a .step) (p .3) (p .4) (getD (a .ids .now) (l .i) 0) (c .even-row .result) (c .even-row .ensures)))
 
--- src/lib.rt:197:1
 same-length : tie.Need-same-length Inv-loop μ-loop
 same-length c = c .before .loop .inv .5 .size
 
--- src/lib.rt:197:1
 returns : tie.Need-returns Inv-loop μ-loop
 returns c = let l = c .before .loop in swept-end _ _ _ _ _ _ _ (l .inv .5) (omega arith)
 

@@ -6,34 +6,25 @@ use native.Mathlib.Omega.{arith}
 use borrow.Author.Needs.{needs}
 use Rattle.finds.proofs.even_row.Statement.{statement}
 use Rattle.finds.proofs.even_row.Tie as tie
-use Rattle.finds.proofs.even_row.Reads as reads
-use Rattle.finds.proofs.even_row.Lts as lts
 
--- src/lib.rt:157:9
 returns : tie.Need-returns
 returns c = inl refl
 
--- src/lib.rt:159:15
 cast-far : tie.Need-cast-far
 cast-far c = search needs
 
--- src/lib.rt:160:13
 mul-q : tie.Need-mul-q
 mul-q c = let a = c .before .args in let p = mul-le-mul {n₁ = a .id - a .first} {m₁ = a .scale} {n₂ = 4294967295} {m₂ = 4294967296} (omega arith) (c .before .pre) in record { fits = omega (arith, p) }
 
--- src/lib.rt:161:8
 mul-if2 : tie.Need-mul-if2
 mul-if2 c = let a = c .before .args in let p = mul-le-mul {n₁ = a .id - a .first} {m₁ = a .scale} {n₂ = 4294967295} {m₂ = 4294967296} (omega arith) (c .before .pre) in let q = mul-le-mul {n₁ = (a .id - a .first) * a .scale / 4294967296} {m₁ = a .step} {n₂ = 4294967295} {m₂ = 4294967295} (omega (arith, p)) (omega arith) in record { fits = omega (arith, q) }
 
--- src/lib.rt:162:9
 cast-result : tie.Need-cast-result
 cast-result c = let a = c .before .before .args in let p = mul-le-mul {n₁ = a .id - a .first} {m₁ = a .scale} {n₂ = 4294967295} {m₂ = 4294967296} (omega arith) (c .before .before .pre) in omega (arith, p)
 
--- src/lib.rt:152:1
 returns-2 : tie.Need-returns-2
 returns-2 c = inr (c .before .if1 .left, c .if2 .taken)
 
--- src/lib.rt:152:1
 returns-3 : tie.Need-returns-3
 returns-3 c = inl refl
 

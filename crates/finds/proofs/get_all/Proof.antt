@@ -7,23 +7,16 @@ use lib.ListN.{length}
 use borrow.Author.Needs.{needs}
 use Rattle.finds.proofs.get_all.Statement.{statement}
 use Rattle.finds.proofs.get_all.Tie as tie
-use Rattle.finds.proofs.get_all.Reads as reads
-use Rattle.finds.proofs.get_all.Lts as lts
-use Rattle.finds.proofs.get_parts.Reads as get-parts-reads
 
--- src/lib.rt:443:9
 returns : tie.Need-returns
 returns c = let a = c .before .before .before .before .before .args in (sym (lt-leb (length (now (a .ids))) (length (now (a .found))) (c .if1 .taken)), short (c .if1 .taken) refl)
 
--- src/lib.rt:445:5
 get-parts-requires : tie.Need-get-parts-requires
 get-parts-requires c κs = search needs
 
--- src/lib.rt:438:1
 same-length : tie.Need-same-length
 same-length c = search needs
 
--- src/lib.rt:438:1
 returns-2 : tie.Need-returns-2
 returns-2 c = let a = c .before .before .before .before .before .before .before .before .before .args in let h = c .before .before .before .before .if1 .left in (sym (le-leb (length (now (a .ids))) (length (now (a .found))) h), swept-told _ _ _ _ h (c .before .before .get-parts .ensures))
 

@@ -3,42 +3,28 @@ use native.Mathlib.Omega.{arith}
 use borrow.Author.Needs.{needs}
 use Rattle.finds.proofs.get_part.Statement.{statement}
 use Rattle.finds.proofs.get_part.Tie as tie
-use Rattle.finds.proofs.get_part.Reads as reads
-use Rattle.finds.proofs.get_part.Lts as lts
-use Rattle.finds.proofs.all_stand.Reads as all-stand-reads
-use Rattle.finds.proofs.near.Reads as near-reads
-use Rattle.finds.proofs.settle.Reads as settle-reads
-use Rattle.index.proofs.room.Reads as room-reads
 
--- src/lib.rt:391:5
 near-requires : tie.Need-near-requires
 near-requires c κs = search needs
 
--- src/lib.rt:392:9
 room-requires : tie.Need-room-requires
 room-requires c κs = search needs
 
--- src/lib.rt:393:8
 all-stand-requires : tie.Need-all-stand-requires
 all-stand-requires c κs = let p = c .before .before .before .before .before .before .before .before .before .before .pre in let s = c .before .before .before .before .near .ensures .size in let e = c .before .room .ensures in (p .0, p .1, omega (arith, s), omega (arith, e))
 
--- src/lib.rt:394:9
 same-length : tie.Need-same-length
 same-length c = c .before .before .before .before .before .before .near .ensures .size
 
--- src/lib.rt:394:9
 returns : tie.Need-returns
 returns c = let a = c .before .before .before .before .before .before .before .before .before .before .before .before .args in swept-stood (a .rows .now) (a .slots .now) (a .b) (c .before .before .before .room .result) _ _ _ _ _ (c .before .before .before .room .ensures) (c .before .before .before .before .before .before .near .ensures) (c .before .all-stand .ensures (c .if1 .taken))
 
--- src/lib.rt:396:5
 settle-requires : tie.Need-settle-requires
 settle-requires c κs = let p = c .before .before .before .before .before .before .before .before .before .before .before .before .before .pre in let s = c .before .before .before .before .before .before .before .near .ensures .size in (p .0, p .1, omega (arith, s), c .before .before .before .before .before .before .before .near .ensures .each)
 
--- src/lib.rt:379:1
 same-length-2 : tie.Need-same-length-2
 same-length-2 c = search needs
 
--- src/lib.rt:379:1
 returns-2 : tie.Need-returns-2
 returns-2 c = swept-then _ _ _ _ _ _ _ _ (c .before .before .before .before .before .before .before .before .before .before .near .ensures) (c .before .before .settle .ensures)
 

@@ -7,10 +7,6 @@ use lib.ListN.{length}
 use Prim.Native.Nat.{_-_, _≤_}
 use Rattle.finds.proofs.get_parts.Statement.{statement}
 use Rattle.finds.proofs.get_parts.Tie as tie
-use Rattle.finds.proofs.get_parts.Reads as reads
-use Rattle.finds.proofs.get_parts.Lts as lts
-use Rattle.finds.proofs.get_part.Reads as get-part-reads
-use Rattle.lex.proofs.within.Reads as within-reads
 
 abbrev Inv-loop : tie.InvT-loop
 Inv-loop rows slots b ids found₀ i₀ found i = (i ≤ length ids) × (length ids ≤ length found₀) × Swept (λ k v. v ≡ rowOf rows slots b k) ids found₀ 0 i found
@@ -18,39 +14,30 @@ Inv-loop rows slots b ids found₀ i₀ found i = (i ≤ length ids) × (length 
 abbrev μ-loop : tie.MeasureT-loop
 μ-loop rows slots b ids found₀ i₀ found i = length ids - i
 
--- src/lib.rt:430:5
 loop-holds : tie.Need-loop-holds Inv-loop μ-loop
 loop-holds c = (omega arith, omega arith, swept-none _ _ _ _)
 
--- src/lib.rt:431:34
 sub-within : tie.Need-sub-within Inv-loop μ-loop
 sub-within c = search needs
 
--- src/lib.rt:431:22
 within-requires : tie.Need-within-requires Inv-loop μ-loop
 within-requires c κs = search needs
 
--- src/lib.rt:431:18
 add-to : tie.Need-add-to Inv-loop μ-loop
 add-to c = let w = c .within .ensures in record { fits = omega (arith, w) }
 
--- src/lib.rt:432:9
 get-part-requires : tie.Need-get-part-requires Inv-loop μ-loop
 get-part-requires c κs = let l = c .before .before .before .loop in let n = l .inv .2 .size in let o = l .inv .1 in let w = c .before .within .ensures in (omega arith, omega (arith, w), omega (arith, w, n, o))
 
--- src/lib.rt:430:5
 loop-less : tie.Need-loop-less Inv-loop μ-loop
 loop-less c = let w = c .before .before .before .before .within .ensures in omega (arith, w)
 
--- src/lib.rt:430:5
 loop-again : tie.Need-loop-again Inv-loop μ-loop
 loop-again c = let l = c .before .before .before .before .before .before .loop in let w = c .before .before .before .before .within .ensures in (omega (arith, w), l .inv .1, swept-more _ _ _ _ _ _ _ _ (omega arith) (omega arith) (l .inv .2) (c .before .before .get-part .ensures))
 
--- src/lib.rt:425:1
 same-length : tie.Need-same-length Inv-loop μ-loop
 same-length c = c .before .loop .inv .2 .size
 
--- src/lib.rt:425:1
 returns : tie.Need-returns Inv-loop μ-loop
 returns c = let l = c .before .loop in let p = l .inv .0 in swept-end _ _ _ _ _ _ _ (l .inv .2) (omega (arith, p))
 

@@ -3,29 +3,19 @@ use Rattle.finds.specs.Sweep.{swept-then, swept-map}
 use borrow.Author.Needs.{needs}
 use Rattle.finds.proofs.guide_near.Statement.{statement}
 use Rattle.finds.proofs.guide_near.Tie as tie
-use Rattle.finds.proofs.guide_near.Reads as reads
-use Rattle.finds.proofs.guide_near.Lts as lts
-use Rattle.finds.proofs.nears.Reads as nears-reads
-use Rattle.finds.proofs.starts.Reads as starts-reads
-use Rattle.index.proofs.room.Reads as room-reads
 
--- src/lib.rt:325:9
 room-requires : tie.Need-room-requires
 room-requires c κs = search needs
 
--- src/lib.rt:326:5
 starts-requires : tie.Need-starts-requires
 starts-requires c κs = search needs
 
--- src/lib.rt:327:5
 nears-requires : tie.Need-nears-requires
 nears-requires c κs = search needs
 
--- src/lib.rt:313:1
 same-length : tie.Need-same-length
 same-length c = search needs
 
--- src/lib.rt:313:1
 returns : tie.Need-returns
 returns c = let a = c .before .before .before .before .before .before .before .before .before .before .before .before .before .args in swept-map _ _ _ _ _ _ _ (near-hint (a .rows .now) (a .slots .now) (a .b) (c .before .before .before .before .before .before .before .before .room .result) (c .before .before .before .before .before .before .before .before .room .ensures) (c .before .before .before .before .before .before .before .before .before .before .before .before .before .pre .3)) (swept-then _ _ _ _ _ _ _ _ (c .before .before .before .before .before .before .starts .ensures) (c .before .before .nears .ensures))
 

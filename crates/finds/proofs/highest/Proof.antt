@@ -4,9 +4,6 @@ use Rattle.finds.specs.Sweep.{AllBelow, below-next}
 use Prim.Native.Nat.{_+_, _-_, _≤_}
 use Rattle.finds.proofs.highest.Statement.{statement}
 use Rattle.finds.proofs.highest.Tie as tie
-use Rattle.finds.proofs.highest.Reads as reads
-use Rattle.finds.proofs.highest.Lts as lts
-use Rattle.finds.proofs.greater.Reads as greater-reads
 
 abbrev Inv-loop : tie.InvT-loop
 Inv-loop found from to top₀ i₀ top i = (from ≤ i) × (i ≤ to) × AllBelow (top + 1) found from i
@@ -14,35 +11,27 @@ Inv-loop found from to top₀ i₀ top i = (from ≤ i) × (i ≤ to) × AllBelo
 abbrev μ-loop : tie.MeasureT-loop
 μ-loop found from to top₀ i₀ top i = to - i
 
--- src/lib.rt:331:5
 loop-holds : tie.Need-loop-holds Inv-loop μ-loop
 loop-holds c = (omega arith, omega arith, λ j x y. absurd (omega arith))
 
--- src/lib.rt:332:28
 mul-greater : tie.Need-mul-greater Inv-loop μ-loop
 mul-greater c = search needs
 
--- src/lib.rt:332:28
 shared-slice-read-greater : tie.Need-shared-slice-read-greater Inv-loop μ-loop
 shared-slice-read-greater c = search needs
 
--- src/lib.rt:332:9
 greater-requires : tie.Need-greater-requires Inv-loop μ-loop
 greater-requires c κs = search needs
 
--- src/lib.rt:333:9
 add-i : tie.Need-add-i Inv-loop μ-loop
 add-i c = search needs
 
--- src/lib.rt:331:5
 loop-less : tie.Need-loop-less Inv-loop μ-loop
 loop-less c = search needs
 
--- src/lib.rt:331:5
 loop-again : tie.Need-loop-again Inv-loop μ-loop
 loop-again c = let a = c .before .before .before .before .before .args in let l = c .before .before .before .loop in let e = c .greater .ensures in (omega arith, omega arith, below-next (l .top + 1) (c .greater .result + 1) (a .found .now) (a .from) (l .i) (l .inv .2) (omega (arith, e)) (omega (arith, e)))
 
--- src/lib.rt:325:1
 returns : tie.Need-returns Inv-loop μ-loop
 returns c = let a = c .before .before .before .args in let l = c .before .loop in λ j x y. l .inv .2 j x (omega arith)
 

@@ -4,22 +4,16 @@ use Prim.Native.Nat.{ℕ}
 use native.Mathlib.Omega.{arith}
 use Rattle.finds.proofs.is_guided.Statement.{statement}
 use Rattle.finds.proofs.is_guided.Tie as tie
-use Rattle.finds.proofs.is_guided.Reads as reads
-use Rattle.finds.proofs.is_guided.Lts as lts
 
--- src/lib.rt:168:9
 returns : tie.Need-returns
 returns c = λ h. absurd (let z : _≡_ {A = ℕ} 0 1 = cc in omega arith)
 
--- src/lib.rt:171:9
 returns-2 : tie.Need-returns-2
 returns-2 c = λ h. absurd (let z : _≡_ {A = ℕ} 0 1 = cc in omega arith)
 
--- src/lib.rt:174:9
 returns-3 : tie.Need-returns-3
 returns-3 c = λ h. absurd (let z : _≡_ {A = ℕ} 0 1 = cc in omega arith)
 
--- src/lib.rt:164:1
 returns-4 : tie.Need-returns-4
 returns-4 c = let a = c .before .before .before .before .before .args in λ h. let t = both _ _ h in record { two = omega arith; direct = t .0; apart = apart-by (a .b .distinct) (a .b .shift) (c .before .before .if2 .left); even = c .before .if3 .left; distinct = t .1 }
 

@@ -5,9 +5,6 @@ use mathlib.Core.Path.{_≡_}
 use Prim.Native.Nat.{_+_, _-_, _≤_}
 use Rattle.finds.proofs.misses.Statement.{statement}
 use Rattle.finds.proofs.misses.Tie as tie
-use Rattle.finds.proofs.misses.Reads as reads
-use Rattle.finds.proofs.misses.Lts as lts
-use Rattle.finds.proofs.differs.Reads as differs-reads
 
 abbrev Inv-loop : tie.InvT-loop
 Inv-loop rows n ids found from to missed₀ i₀ missed i = (from ≤ i) × (i ≤ to) × (missed + from ≤ i) × (missed ≡ 0 → AllStand rows n ids found from i)
@@ -15,63 +12,48 @@ Inv-loop rows n ids found from to missed₀ i₀ missed i = (from ≤ i) × (i �
 abbrev μ-loop : tie.MeasureT-loop
 μ-loop rows n ids found from to missed₀ i₀ missed i = to - i
 
--- src/lib.rt:352:5
 loop-holds : tie.Need-loop-holds Inv-loop μ-loop
 loop-holds c = (omega arith, omega arith, omega arith, λ _ j x y. absurd (omega arith))
 
--- src/lib.rt:353:19
 mul-row : tie.Need-mul-row Inv-loop μ-loop
 mul-row c = search needs
 
--- src/lib.rt:353:19
 shared-slice-read-row : tie.Need-shared-slice-read-row Inv-loop μ-loop
 shared-slice-read-row c = search needs
 
--- src/lib.rt:353:19
 cast-row : tie.Need-cast-row Inv-loop μ-loop
 cast-row c = let l = c .before .before .loop in omega (arith, c .shared-slice-known4 .given (l .i))
 
--- src/lib.rt:354:32
 mul-differs : tie.Need-mul-differs Inv-loop μ-loop
 mul-differs c = let l = c .before .before .loop in let p = c .before .before .before .before .before .before .pre in let q = p .4 (l .i) (l .inv .0) (omega arith) in record { fits = omega (arith, q) }
 
--- src/lib.rt:354:27
 mul-differs-2 : tie.Need-mul-differs-2 Inv-loop μ-loop
 mul-differs-2 c = let l = c .before .before .loop in let p = c .before .before .before .before .before .before .pre in let q = p .4 (l .i) (l .inv .0) (omega arith) in record { fits = omega (arith, q) }
 
--- src/lib.rt:354:27
 shared-slice-read-differs : tie.Need-shared-slice-read-differs Inv-loop μ-loop
 shared-slice-read-differs c = let l = c .before .before .before .loop in let p = c .before .before .before .before .before .before .before .pre in let q = p .4 (l .i) (l .inv .0) (omega arith) in omega (arith, q)
 
--- src/lib.rt:354:42
 mul-differs-3 : tie.Need-mul-differs-3 Inv-loop μ-loop
 mul-differs-3 c = search needs
 
--- src/lib.rt:354:42
 shared-slice-read-differs-2 : tie.Need-shared-slice-read-differs-2 Inv-loop μ-loop
 shared-slice-read-differs-2 c = search needs
 
--- src/lib.rt:354:19
 differs-requires : tie.Need-differs-requires Inv-loop μ-loop
 differs-requires c κs = search needs
 
--- src/lib.rt:354:9
 add-missed : tie.Need-add-missed Inv-loop μ-loop
 add-missed c = let l = c .before .before .before .before .before .loop in let e = c .differs .ensures .0 in let m = l .inv .2 in record { fits = omega (arith, e, m) }
 
--- src/lib.rt:355:9
 add-i : tie.Need-add-i Inv-loop μ-loop
 add-i c = search needs
 
--- src/lib.rt:352:5
 loop-less : tie.Need-loop-less Inv-loop μ-loop
 loop-less c = search needs
 
--- src/lib.rt:352:5
 loop-again : tie.Need-loop-again Inv-loop μ-loop
 loop-again c = let a = c .before .before .before .before .before .before .before .before .before .args in let p = c .before .before .before .before .before .before .before .before .before .pre in let l = c .before .before .before .before .before .loop in let e = c .differs .ensures .0 in let m = l .inv .2 in (omega arith, omega arith, omega (arith, e, m), λ z. stand-next (a .rows .now) (a .n) (a .ids .now) (a .found .now) (a .from) (l .i) (l .inv .3 (omega (arith, z))) (p .4 (l .i) (l .inv .0) (omega arith)) (c .differs .ensures .1 (omega (arith, z))))
 
--- src/lib.rt:346:1
 returns : tie.Need-returns Inv-loop μ-loop
 returns c = let a = c .before .before .before .before .before .args in let l = c .before .loop in λ z j x y. l .inv .3 z j x (omega arith)
 

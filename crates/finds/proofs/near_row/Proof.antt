@@ -9,83 +9,58 @@ use native.Mathlib.Omega.{arith}
 use borrow.Author.Needs.{needs}
 use Rattle.finds.proofs.near_row.Statement.{statement}
 use Rattle.finds.proofs.near_row.Tie as tie
-use Rattle.finds.proofs.near_row.Reads as reads
-use Rattle.finds.proofs.near_row.Lts as lts
-use Rattle.finds.proofs.inside_of.Reads as inside-of-reads
-use Rattle.finds.proofs.least.Reads as least-reads
-use Rattle.finds.proofs.one_at_least.Reads as one-at-least-reads
-use Rattle.finds.proofs.share.Reads as share-reads
-use Rattle.index.proofs.range_of.Reads as range-of-reads
 
--- src/lib.rt:238:9
 returns : tie.Need-returns
 returns c = inl refl
 
--- src/lib.rt:241:9
 returns-2 : tie.Need-returns-2
 returns-2 c = inl refl
 
--- src/lib.rt:244:9
 range-of-requires : tie.Need-range-of-requires
 range-of-requires c κs = search needs
 
--- src/lib.rt:245:8
 sub-if3 : tie.Need-sub-if3
 sub-if3 c = search needs
 
--- src/lib.rt:246:9
 returns-3 : tie.Need-returns-3
 returns-3 c = inl refl
 
--- src/lib.rt:248:9
 one-at-least-requires : tie.Need-one-at-least-requires
 one-at-least-requires c κs = search needs
 
--- src/lib.rt:249:26
 add-least : tie.Need-add-least
 add-least c = search needs
 
--- src/lib.rt:249:20
 mul-least : tie.Need-mul-least
 mul-least c = search needs
 
--- src/lib.rt:249:20
 shared-slice-read-least : tie.Need-shared-slice-read-least
 shared-slice-read-least c = search needs
 
--- src/lib.rt:249:34
 sub-least : tie.Need-sub-least
 sub-least c = search needs
 
--- src/lib.rt:249:9
 least-requires : tie.Need-least-requires
 least-requires c κs = search needs
 
--- src/lib.rt:251:9
 returns-4 : tie.Need-returns-4
 returns-4 c = inl refl
 
--- src/lib.rt:253:17
 inside-of-requires : tie.Need-inside-of-requires
 inside-of-requires c κs = search needs
 
--- src/lib.rt:253:42
 sub-share : tie.Need-sub-share
 sub-share c = search needs
 
--- src/lib.rt:253:11
 share-requires : tie.Need-share-requires
 share-requires c κs = search needs
 
--- src/lib.rt:253:6
 add-result : tie.Need-add-result
 add-result c = let a = c .before .before .before .before .before .before .before .before .before .before .before .before .before .before .args in let e = c .share .ensures in let h = c .before .before .before .least .ensures in let d = c .before .inside-of .ensures in let w = wide-pos (a .b .shift % 32) in let t = mod-lt (a .id - a .b .first) w in let m = share-most (c .before .inside-of .result) (c .before .before .before .least .result - c .before .before .before .before .before .one-at-least .result) (wide (a .b .shift)) (omega (arith, d, t)) in record { fits = omega (arith, e, h, m) }
 
--- src/lib.rt:253:5
 cast-result : tie.Need-cast-result
 cast-result c = let a = c .before .before .before .before .before .before .before .before .before .before .before .before .before .before .args in let e = c .share .ensures in let h = c .before .before .before .least .ensures in let d = c .before .inside-of .ensures in let w = wide-pos (a .b .shift % 32) in let t = mod-lt (a .id - a .b .first) w in let m = share-most (c .before .inside-of .result) (c .before .before .before .least .result - c .before .before .before .before .before .one-at-least .result) (wide (a .b .shift)) (omega (arith, d, t)) in omega (arith, e, h, m)
 
--- src/lib.rt:233:1
 returns-5 : tie.Need-returns-5
 returns-5 c = let a = c .before .before .before .before .before .before .before .before .before .before .before .before .before .before .args in inr (evenly-is (a .slots .now) (a .n) (a .b) (a .id) (c .before .before .before .before .before .before .before .range-of .result) (c .before .before .before .before .before .one-at-least .result) (c .before .before .before .least .result) (c .before .inside-of .result) (c .share .result) (c .before .before .before .before .before .before .before .before .before .before .before .if1 .left) (c .before .before .before .before .before .before .before .before .before .if2 .left) (c .before .before .before .before .before .before .before .range-of .ensures) (let h = c .before .before .before .before .before .before .if3 .left in omega (arith, h)) (c .before .before .before .before .before .one-at-least .ensures ∙ ap (λ (z : ℕ). max 1 z) (c .before .before .before .before .before .before .before .before .before .before .before .before .before .before .pre .3)) (c .before .before .before .least .ensures) (c .before .before .if4 .left) (c .before .inside-of .ensures) (c .share .ensures))
 

@@ -7,9 +7,6 @@ use Prim.Native.Nat.{_-_, _≤_}
 use native.Mathlib.Omega.{arith}
 use Rattle.finds.proofs.nears.Statement.{statement}
 use Rattle.finds.proofs.nears.Tie as tie
-use Rattle.finds.proofs.nears.Reads as reads
-use Rattle.finds.proofs.nears.Lts as lts
-use Rattle.finds.proofs.near_row.Reads as near-row-reads
 
 abbrev Inv-loop : tie.InvT-loop
 Inv-loop slots n b ids found₀ from to i₀ found i = (from ≤ i) × (i ≤ to) × (to ≤ length ids) × (to ≤ length found₀) × Swept (NearRow slots n b) ids found₀ from i found
@@ -17,55 +14,42 @@ Inv-loop slots n b ids found₀ from to i₀ found i = (from ≤ i) × (i ≤ to
 abbrev μ-loop : tie.MeasureT-loop
 μ-loop slots n b ids found₀ from to i₀ found i = to - i
 
--- src/lib.rt:266:5
 loop-holds : tie.Need-loop-holds Inv-loop μ-loop
 loop-holds c = (omega arith, omega arith, omega arith, omega arith, swept-none _ _ _ _)
 
--- src/lib.rt:267:42
 mul-near-row : tie.Need-mul-near-row Inv-loop μ-loop
 mul-near-row c = search needs
 
--- src/lib.rt:267:42
 slice-read-near-row : tie.Need-slice-read-near-row Inv-loop μ-loop
 slice-read-near-row c = let l = c .before .before .loop in let n = l .inv .4 .size in omega (arith, n)
 
--- src/lib.rt:267:52
 mul-near-row-2 : tie.Need-mul-near-row-2 Inv-loop μ-loop
 mul-near-row-2 c = search needs
 
--- src/lib.rt:267:52
 shared-slice-read-near-row : tie.Need-shared-slice-read-near-row Inv-loop μ-loop
 shared-slice-read-near-row c = search needs
 
--- src/lib.rt:267:20
 near-row-requires : tie.Need-near-row-requires Inv-loop μ-loop
 near-row-requires c κs = let l = c .before .before .before .loop in let a = c .before .before .before .before .before .before .before .args in let p = c .before .before .before .before .before .before .before .pre in (p .3, p .4, p .5, swept-old _ (λ k v. v ≡ startNear (a .slots .now) (a .n) (a .b) k) _ _ _ _ (l .i) _ (l .inv .4) (l .inv .0) (omega arith) (p .6))
 
--- src/lib.rt:267:9
 mul-found : tie.Need-mul-found Inv-loop μ-loop
 mul-found c = search needs
 
--- src/lib.rt:267:9
 slice-write-found : tie.Need-slice-write-found Inv-loop μ-loop
 slice-write-found c = let l = c .before .before .before .before .loop in let n = l .inv .4 .size in omega (arith, n)
 
--- src/lib.rt:268:9
 add-i : tie.Need-add-i Inv-loop μ-loop
 add-i c = search needs
 
--- src/lib.rt:266:5
 loop-less : tie.Need-loop-less Inv-loop μ-loop
 loop-less c = search needs
 
--- src/lib.rt:266:5
 loop-again : tie.Need-loop-again Inv-loop μ-loop
 loop-again c = let l = c .before .before .before .before .loop in let n = l .inv .4 .size in (omega arith, omega arith, l .inv .2, l .inv .3, swept-next _ _ _ _ (l .i) _ (l .inv .4) (l .inv .0) _ (omega arith) (c .near-row .ensures))
 
--- src/lib.rt:261:1
 same-length : tie.Need-same-length Inv-loop μ-loop
 same-length c = c .before .loop .inv .4 .size
 
--- src/lib.rt:261:1
 returns : tie.Need-returns Inv-loop μ-loop
 returns c = let l = c .before .loop in swept-end _ _ _ _ _ _ _ (l .inv .4) (omega arith)
 

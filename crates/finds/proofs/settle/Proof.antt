@@ -7,9 +7,6 @@ use Prim.Native.Nat.{_-_, _≤_}
 use native.Mathlib.Omega.{arith}
 use Rattle.finds.proofs.settle.Statement.{statement}
 use Rattle.finds.proofs.settle.Tie as tie
-use Rattle.finds.proofs.settle.Reads as reads
-use Rattle.finds.proofs.settle.Lts as lts
-use Rattle.finds.proofs.settled.Reads as settled-reads
 
 abbrev Inv-loop : tie.InvT-loop
 Inv-loop rows slots b ids found₀ from to i₀ found i = (from ≤ i) × (i ≤ to) × (to ≤ length ids) × (to ≤ length found₀) × Swept (λ k v. v ≡ rowOf rows slots b k) ids found₀ from i found
@@ -17,55 +14,42 @@ Inv-loop rows slots b ids found₀ from to i₀ found i = (from ≤ i) × (i ≤
 abbrev μ-loop : tie.MeasureT-loop
 μ-loop rows slots b ids found₀ from to i₀ found i = to - i
 
--- src/lib.rt:372:5
 loop-holds : tie.Need-loop-holds Inv-loop μ-loop
 loop-holds c = (omega arith, omega arith, omega arith, omega arith, swept-none _ _ _ _)
 
--- src/lib.rt:373:44
 mul-settled : tie.Need-mul-settled Inv-loop μ-loop
 mul-settled c = search needs
 
--- src/lib.rt:373:44
 slice-read-settled : tie.Need-slice-read-settled Inv-loop μ-loop
 slice-read-settled c = let l = c .before .before .loop in let n = l .inv .4 .size in omega (arith, n)
 
--- src/lib.rt:373:54
 mul-settled-2 : tie.Need-mul-settled-2 Inv-loop μ-loop
 mul-settled-2 c = search needs
 
--- src/lib.rt:373:54
 shared-slice-read-settled : tie.Need-shared-slice-read-settled Inv-loop μ-loop
 shared-slice-read-settled c = search needs
 
--- src/lib.rt:373:20
 settled-requires : tie.Need-settled-requires Inv-loop μ-loop
 settled-requires c κs = let l = c .before .before .before .loop in let a = c .before .before .before .before .before .before .before .before .args in let p = c .before .before .before .before .before .before .before .before .pre in swept-old _ (Hint (a .rows .now) (a .slots .now) (a .b)) _ _ _ _ (l .i) _ (l .inv .4) (l .inv .0) (omega arith) (p .3)
 
--- src/lib.rt:373:9
 mul-found : tie.Need-mul-found Inv-loop μ-loop
 mul-found c = search needs
 
--- src/lib.rt:373:9
 slice-write-found : tie.Need-slice-write-found Inv-loop μ-loop
 slice-write-found c = let l = c .before .before .before .before .loop in let n = l .inv .4 .size in omega (arith, n)
 
--- src/lib.rt:374:9
 add-i : tie.Need-add-i Inv-loop μ-loop
 add-i c = search needs
 
--- src/lib.rt:372:5
 loop-less : tie.Need-loop-less Inv-loop μ-loop
 loop-less c = search needs
 
--- src/lib.rt:372:5
 loop-again : tie.Need-loop-again Inv-loop μ-loop
 loop-again c = let l = c .before .before .before .before .loop in let n = l .inv .4 .size in (omega arith, omega arith, l .inv .2, l .inv .3, swept-next _ _ _ _ (l .i) _ (l .inv .4) (l .inv .0) _ (omega arith) (c .settled .ensures))
 
--- src/lib.rt:359:1
 same-length : tie.Need-same-length Inv-loop μ-loop
 same-length c = c .before .loop .inv .4 .size
 
--- src/lib.rt:359:1
 returns : tie.Need-returns Inv-loop μ-loop
 returns c = let l = c .before .loop in swept-end _ _ _ _ _ _ _ (l .inv .4) (omega arith)
 

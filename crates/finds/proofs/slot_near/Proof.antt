@@ -6,9 +6,6 @@ use Prim.Native.Nat.{_-_, _≤_}
 use native.Mathlib.Omega.{arith}
 use Rattle.finds.proofs.slot_near.Statement.{statement}
 use Rattle.finds.proofs.slot_near.Tie as tie
-use Rattle.finds.proofs.slot_near.Reads as reads
-use Rattle.finds.proofs.slot_near.Lts as lts
-use Rattle.index.proofs.first_row.Reads as first-row-reads
 
 abbrev Inv-loop : tie.InvT-loop
 Inv-loop rows slots b ids found₀ from to i₀ found i = (from ≤ i) × (i ≤ to) × (to ≤ length ids) × (to ≤ length found₀) × Swept (Hint rows slots b) ids found₀ from i found
@@ -16,47 +13,36 @@ Inv-loop rows slots b ids found₀ from to i₀ found i = (from ≤ i) × (i ≤
 abbrev μ-loop : tie.MeasureT-loop
 μ-loop rows slots b ids found₀ from to i₀ found i = to - i
 
--- src/lib.rt:128:5
 loop-holds : tie.Need-loop-holds Inv-loop μ-loop
 loop-holds c = (omega arith, omega arith, omega arith, omega arith, swept-none _ _ _ _)
 
--- src/lib.rt:129:47
 mul-first-row : tie.Need-mul-first-row Inv-loop μ-loop
 mul-first-row c = search needs
 
--- src/lib.rt:129:47
 shared-slice-read-first-row : tie.Need-shared-slice-read-first-row Inv-loop μ-loop
 shared-slice-read-first-row c = search needs
 
--- src/lib.rt:129:20
 first-row-requires : tie.Need-first-row-requires Inv-loop μ-loop
 first-row-requires c κs = search needs
 
--- src/lib.rt:129:9
 mul-found : tie.Need-mul-found Inv-loop μ-loop
 mul-found c = search needs
 
--- src/lib.rt:129:9
 slice-write-found : tie.Need-slice-write-found Inv-loop μ-loop
 slice-write-found c = let l = c .before .before .before .loop in let n = l .inv .4 .size in omega (arith, n)
 
--- src/lib.rt:130:9
 add-i : tie.Need-add-i Inv-loop μ-loop
 add-i c = search needs
 
--- src/lib.rt:128:5
 loop-less : tie.Need-loop-less Inv-loop μ-loop
 loop-less c = search needs
 
--- src/lib.rt:128:5
 loop-again : tie.Need-loop-again Inv-loop μ-loop
 loop-again c = let l = c .before .before .before .loop in let n = l .inv .4 .size in let a = c .before .before .before .before .before .before .before .before .args in (omega arith, omega arith, l .inv .2, l .inv .3, swept-next _ _ _ _ (l .i) _ (l .inv .4) (l .inv .0) _ (omega arith) (first-hint (a .rows .now) (a .slots .now) (a .b) (getD (a .ids .now) (l .i) 0) (c .first-row .result) (c .first-row .ensures)))
 
--- src/lib.rt:115:1
 same-length : tie.Need-same-length Inv-loop μ-loop
 same-length c = c .before .loop .inv .4 .size
 
--- src/lib.rt:115:1
 returns : tie.Need-returns Inv-loop μ-loop
 returns c = let l = c .before .loop in swept-end _ _ _ _ _ _ _ (l .inv .4) (omega arith)
 

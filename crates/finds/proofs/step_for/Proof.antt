@@ -3,27 +3,19 @@ use native.Mathlib.Omega.{arith}
 use borrow.Author.Needs.{needs}
 use Rattle.finds.proofs.step_for.Statement.{statement}
 use Rattle.finds.proofs.step_for.Tie as tie
-use Rattle.finds.proofs.step_for.Reads as reads
-use Rattle.finds.proofs.step_for.Lts as lts
-use Rattle.finds.proofs.step_of.Reads as step-of-reads
 
--- src/lib.rt:152:9
 returns : tie.Need-returns
 returns c = λ h. absurd (omega arith)
 
--- src/lib.rt:155:9
 returns-2 : tie.Need-returns-2
 returns-2 c = λ h. absurd (omega arith)
 
--- src/lib.rt:158:9
 step-of-requires : tie.Need-step-of-requires
 step-of-requires c κs = search needs
 
--- src/lib.rt:158:9
 returns-3 : tie.Need-returns-3
 returns-3 c = let a = c .before .before .before .before .before .before .before .args in λ h. let t = both _ _ (c .before .if3 .taken) in record { direct = t .0; apart = c .before .before .before .if2 .left; even = t .1; two = omega arith; span = c .step-of .ensures h }
 
--- src/lib.rt:148:1
 returns-4 : tie.Need-returns-4
 returns-4 c = λ h. absurd (omega arith)
 

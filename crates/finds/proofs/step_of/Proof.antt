@@ -4,46 +4,34 @@ use native.Mathlib.Omega.{arith}
 use borrow.Author.Needs.{needs}
 use Rattle.finds.proofs.step_of.Statement.{statement}
 use Rattle.finds.proofs.step_of.Tie as tie
-use Rattle.finds.proofs.step_of.Reads as reads
-use Rattle.finds.proofs.step_of.Lts as lts
 
--- src/lib.rt:140:9
 returns : tie.Need-returns
 returns c = search needs
 
--- src/lib.rt:142:17
 sub-span : tie.Need-sub-span
 sub-span c = search needs
 
--- src/lib.rt:142:16
 cast-span : tie.Need-cast-span
 cast-span c = search needs
 
--- src/lib.rt:143:24
 sub-step : tie.Need-sub-step
 sub-step c = search needs
 
--- src/lib.rt:143:16
 div-step : tie.Need-div-step
 div-step c = search needs
 
--- src/lib.rt:144:16
 sub-if2 : tie.Need-sub-if2
 sub-if2 c = search needs
 
--- src/lib.rt:144:8
 mul-if2 : tie.Need-mul-if2
 mul-if2 c = let a = c .before .args in let q = div-mul-le-self (a .last - a .first) (a .n - 1) in record { fits = omega (arith, q) }
 
--- src/lib.rt:145:9
 cast-result : tie.Need-cast-result
 cast-result c = let a = c .before .before .args in let q = div-le-self (a .last - a .first) (a .n - 1) in omega (arith, q)
 
--- src/lib.rt:135:1
 returns-2 : tie.Need-returns-2
 returns-2 c = search needs
 
--- src/lib.rt:135:1
 returns-3 : tie.Need-returns-3
 returns-3 c = search needs
 

@@ -7,46 +7,34 @@ use mathlib.Core.Path.{_≡_, refl, ap}
 use Prim.Native.Nat.{ℕ, _+_}
 use Rattle.grids.proofs.answer_of.Statement.{statement}
 use Rattle.grids.proofs.answer_of.Tie as tie
-use Rattle.grids.proofs.answer_of.Reads as reads
-use Rattle.grids.proofs.answer_of.Lts as lts
 
--- src/lib.rt:110:25
 enum-known-r : tie.Need-enum-known-r
 enum-known-r c = search needs
 
--- src/lib.rt:111:25
 enum-known-r-2 : tie.Need-enum-known-r-2
 enum-known-r-2 c = search needs
 
--- src/lib.rt:111:66
 add-t9 : tie.Need-add-t9
 add-t9 c = omega (arith, c .before .before .before .pre, ap reachedIn (c .before .r2 .given .1))
 
--- src/lib.rt:112:27
 enum-known-r-3 : tie.Need-enum-known-r-3
 enum-known-r-3 c = search needs
 
--- src/lib.rt:112:71
 add-t11 : tie.Need-add-t11
 add-t11 c = omega (arith, c .before .before .before .pre, ap reachedIn (c .before .r3 .given .1))
 
--- src/lib.rt:113:46
 enum-told : tie.Need-enum-told
 enum-told c = search needs
 
--- src/lib.rt:105:1
 returns : tie.Need-returns
 returns c = rw (c .before .r .given .1) refl
 
--- src/lib.rt:105:1
 returns-2 : tie.Need-returns-2
 returns-2 c = rw (c .before .r2 .given .1) refl
 
--- src/lib.rt:105:1
 returns-3 : tie.Need-returns-3
 returns-3 c = rw (c .before .r3 .given .1) refl
 
--- src/lib.rt:105:1
 returns-4 : tie.Need-returns-4
 returns-4 c = let t = c .before .before .args in
     let e : t .start ≡ t .start + 0 = omega arith in

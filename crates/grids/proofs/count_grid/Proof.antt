@@ -10,99 +10,76 @@ use lib.ListN.{length, take, drop}
 use Prim.Native.Nat.{_-_}
 use Rattle.grids.proofs.count_grid.Statement.{statement}
 use Rattle.grids.proofs.count_grid.Tie as tie
-use Rattle.grids.proofs.count_grid.Reads as reads
-use Rattle.grids.proofs.count_grid.Lts as lts
-use Rattle.grids.proofs.count_rows.Reads as count-rows-reads
-use Rattle.lists.proofs.shape_of.Reads as shape-of-reads
 
--- src/lib.rt:74:11
 shape-of-requires : tie.Need-shape-of-requires
 shape-of-requires c κs = search needs
 
--- src/lib.rt:75:27
 enum-told : tie.Need-enum-told
 enum-told c = search needs
 
--- src/lib.rt:76:25
 enum-told-2 : tie.Need-enum-told-2
 enum-told-2 c = search needs
 
--- src/lib.rt:78:17
 enum-told-3 : tie.Need-enum-told-3
 enum-told-3 c = search needs
 
--- src/lib.rt:79:36
 sub-count-rows : tie.Need-sub-count-rows
 sub-count-rows c = let (n, f, o) = shape-full _ _ (c .before .before .shape-of .ensures) (c .enum-told3 .given .1) in omega (arith, n)
 
--- src/lib.rt:79:30
 sub-count-rows-2 : tie.Need-sub-count-rows-2
 sub-count-rows-2 c = let (n, f, o) = shape-full _ _ (c .before .before .shape-of .ensures) (c .enum-told3 .given .1) in omega (arith, n)
 
--- src/lib.rt:79:30
 part-count-rows-start : tie.Need-part-count-rows-start
 part-count-rows-start c = let (n, f, o) = shape-full _ _ (c .before .before .shape-of .ensures) (c .enum-told3 .given .1) in omega (arith, n)
 
--- src/lib.rt:79:30
 part-count-rows-end : tie.Need-part-count-rows-end
 part-count-rows-end c = search needs
 
--- src/lib.rt:79:19
 count-rows-requires : tie.Need-count-rows-requires
 count-rows-requires c κs = search needs
 
--- src/lib.rt:80:28
 enum-known-rows : tie.Need-enum-known-rows
 enum-known-rows c = search needs
 
--- src/lib.rt:81:30
 enum-known-o : tie.Need-enum-known-o
 enum-known-o c = search needs
 
--- src/lib.rt:81:49
 add-t17 : tie.Need-add-t17
 add-t17 c = let s = c .before .before .before .before .before in
     let t = s .before .before .before .before .args in
     let (n, f, o) = shape-full (now (t .t)) _ (s .before .before .shape-of .ensures) (s .enum-told3 .given .1) in
     omega (arith, n, body-length (now (t .t)) n, tally-inward (t .kind) (take (length (now (t .t)) - 1 - 1) (drop 1 (now (t .t)))) 12 (c .before .o .given .0 .0) (ap toldTally (sym (c .before .o .given .1)) ∙ c .before .before .before .count-rows .ensures))
 
--- src/lib.rt:82:32
 enum-known-o-2 : tie.Need-enum-known-o-2
 enum-known-o-2 c = search needs
 
--- src/lib.rt:82:53
 add-t18 : tie.Need-add-t18
 add-t18 c = let s = c .before .before .before .before .before in
     let t = s .before .before .before .before .args in
     let (n, f, o) = shape-full (now (t .t)) _ (s .before .before .shape-of .ensures) (s .enum-told3 .given .1) in
     omega (arith, n, body-length (now (t .t)) n, tally-inward (t .kind) (take (length (now (t .t)) - 1 - 1) (drop 1 (now (t .t)))) 13 (c .before .o2 .given .0 .0) (ap toldTally (sym (c .before .o2 .given .1)) ∙ c .before .before .before .count-rows .ensures))
 
--- src/lib.rt:71:1
 returns : tie.Need-returns
 returns c = let s = c .before .before in
     let t = s .before .before .args in
     ap (fated (tally addRow (size 0 0))) (list-none (rowOf (t .kind)) (now (t .t)) (shape-none (now (t .t)) _ (s .shape-of .ensures) (c .enum-told .given .1)))
 
--- src/lib.rt:71:1
 returns-2 : tie.Need-returns-2
 returns-2 c = let s = c .before .before in
     let t = s .before .before .args in
     let (b, e, h) = shape-blank (now (t .t)) _ (s .shape-of .ensures) (c .enum-told2 .given .1) in
     ap (fated (tally addRow (size 0 0))) (list-blank (rowOf (t .kind)) (now (t .t)) b e h)
 
--- src/lib.rt:71:1
 returns-3 : tie.Need-returns-3
 returns-3 c = let s = c .before .before .before .before .before in
     let t = s .before .before .before .before .args in
     told-full (tally addRow (size 0 0)) (rowOf (t .kind)) (now (t .t)) _ (s .before .before .shape-of .ensures) (s .enum-told3 .given .1) _ (ap toldTally (sym (c .before .rows .given .1)) ∙ c .before .before .before .count-rows .ensures)
 
--- src/lib.rt:71:1
 returns-4 : tie.Need-returns-4
 returns-4 c = let s = c .before .before .before .before .before in
     let t = s .before .before .before .before .args in
     told-full (tally addRow (size 0 0)) (rowOf (t .kind)) (now (t .t)) _ (s .before .before .shape-of .ensures) (s .enum-told3 .given .1) _ (ap toldTally (sym (c .before .o .given .1)) ∙ c .before .before .before .count-rows .ensures)
 
--- src/lib.rt:71:1
 returns-5 : tie.Need-returns-5
 returns-5 c = let s = c .before .before .before .before .before in
     let t = s .before .before .before .before .args in

@@ -10,10 +10,6 @@ use mathlib.Core.Path.{_≡_, ap, sym, _∙_}
 use Prim.Native.Nat.{suc, _-_, _≤_}
 use Rattle.grids.proofs.count_rows.Statement.{statement}
 use Rattle.grids.proofs.count_rows.Tie as tie
-use Rattle.grids.proofs.count_rows.Reads as reads
-use Rattle.grids.proofs.count_rows.Lts as lts
-use Rattle.lists.proofs.count_list.Reads as count-list-reads
-use Rattle.lists.proofs.item_at.Reads as item-at-reads
 
 abbrev Inv-loop : tie.InvT-loop
 Inv-loop b kind i₀ rows₀ numbers₀ i rows numbers = (rows ≤ i) × (numbers ≤ i) × (i ≤ length b) × (fated (tally addRow (size rows numbers)) (itemsFrom (suc (length b) - rows) (rowOf kind) i (drop i b)) ≡ fated (tally addRow (size 0 0)) (itemsFrom (suc (length b)) (rowOf kind) 0 b))
@@ -21,35 +17,27 @@ Inv-loop b kind i₀ rows₀ numbers₀ i rows numbers = (rows ≤ i) × (number
 abbrev μ-loop : tie.MeasureT-loop
 μ-loop b kind i₀ rows₀ numbers₀ i rows numbers = length b - i
 
--- src/lib.rt:52:5
 loop-holds : tie.Need-loop-holds Inv-loop μ-loop
 loop-holds c = (omega arith, omega arith, omega arith, tally-starts (rowOf (c .before .args .kind)) addRow (size 0 0) (now (c .before .args .b)))
 
--- src/lib.rt:53:13
 item-at-requires : tie.Need-item-at-requires Inv-loop μ-loop
 item-at-requires c κs = search needs
 
--- src/lib.rt:57:33
 sub-count-list : tie.Need-sub-count-list Inv-loop μ-loop
 sub-count-list c = c .item-at .ensures .ordered
 
--- src/lib.rt:57:33
 part-count-list-start : tie.Need-part-count-list-start Inv-loop μ-loop
 part-count-list-start c = omega (arith, c .item-at .ensures .ordered, c .item-at .ensures .short, c .item-at .ensures .within)
 
--- src/lib.rt:57:33
 part-count-list-end : tie.Need-part-count-list-end Inv-loop μ-loop
 part-count-list-end c = omega (arith, c .item-at .ensures .ordered, c .item-at .ensures .short, c .item-at .ensures .within)
 
--- src/lib.rt:57:15
 count-list-requires : tie.Need-count-list-requires Inv-loop μ-loop
 count-list-requires c κs = search needs
 
--- src/lib.rt:58:26
 enum-known-k : tie.Need-enum-known-k Inv-loop μ-loop
 enum-known-k c = search needs
 
--- src/lib.rt:58:32
 add-numbers : tie.Need-add-numbers Inv-loop μ-loop
 add-numbers c = let i = c .before .before .before in
     let m = i .before .before in
@@ -58,11 +46,9 @@ add-numbers c = let i = c .before .before .before in
     let w = length-take-le (m .item-at .result .stop - m .item-at .result .start) (drop (m .item-at .result .start) (now (t .args .b))) (omega (arith, m .item-at .ensures .short, m .item-at .ensures .within, length-drop (m .item-at .result .start) (now (t .args .b)))) in
     omega (arith, w, m .item-at .ensures .ordered, m .item-at .ensures .short, m .item-at .ensures .within, m .item-at .ensures .begins, counted-all _ _ _ (i .count-list .ensures .1) (c .before .k .given .1))
 
--- src/lib.rt:59:28
 enum-known-o : tie.Need-enum-known-o Inv-loop μ-loop
 enum-known-o c = search needs
 
--- src/lib.rt:59:54
 add-t18 : tie.Need-add-t18 Inv-loop μ-loop
 add-t18 c = let i = c .before .before .before in
     let m = i .before .before in
@@ -71,7 +57,6 @@ add-t18 c = let i = c .before .before .before in
     let w = length-take-le (m .item-at .result .stop - m .item-at .result .start) (drop (m .item-at .result .start) (now (t .args .b))) (omega (arith, m .item-at .ensures .short, m .item-at .ensures .within, length-drop (m .item-at .result .start) (now (t .args .b)))) in
     omega (arith, w, m .item-at .ensures .ordered, m .item-at .ensures .short, m .item-at .ensures .within, m .item-at .ensures .begins, counted-wrong _ _ _ (i .count-list .ensures .1) (c .before .o .given .1))
 
--- src/lib.rt:59:34
 returns : tie.Need-returns Inv-loop μ-loop
 returns c = let i = c .before .before .before in
     let m = i .before .before in
@@ -80,11 +65,9 @@ returns c = let i = c .before .before .before in
     let w = length-take-le (m .item-at .result .stop - m .item-at .result .start) (drop (m .item-at .result .start) (now (t .args .b))) (omega (arith, m .item-at .ensures .short, m .item-at .ensures .within, length-drop (m .item-at .result .start) (now (t .args .b)))) in
     tally-bad (rowOf (t .args .kind)) addRow (now (t .args .b)) (l .loop .i) (l .loop .rows) (m .item-at .result) (m .item-at .ensures) (omega arith) (omega arith) (size (l .loop .rows) (l .loop .numbers)) _ (l .loop .inv .3) 12 _ (ap toldCounted (sym (c .before .o .given .1)) ∙ i .count-list .ensures .0)
 
--- src/lib.rt:60:30
 enum-known-o-2 : tie.Need-enum-known-o-2 Inv-loop μ-loop
 enum-known-o-2 c = search needs
 
--- src/lib.rt:60:58
 add-t19 : tie.Need-add-t19 Inv-loop μ-loop
 add-t19 c = let i = c .before .before .before in
     let m = i .before .before in
@@ -93,7 +76,6 @@ add-t19 c = let i = c .before .before .before in
     let w = length-take-le (m .item-at .result .stop - m .item-at .result .start) (drop (m .item-at .result .start) (now (t .args .b))) (omega (arith, m .item-at .ensures .short, m .item-at .ensures .within, length-drop (m .item-at .result .start) (now (t .args .b)))) in
     omega (arith, w, m .item-at .ensures .ordered, m .item-at .ensures .short, m .item-at .ensures .within, m .item-at .ensures .begins, counted-outside _ _ _ (i .count-list .ensures .1) (c .before .o2 .given .1))
 
--- src/lib.rt:60:36
 returns-2 : tie.Need-returns-2 Inv-loop μ-loop
 returns-2 c = let i = c .before .before .before in
     let m = i .before .before in
@@ -102,11 +84,9 @@ returns-2 c = let i = c .before .before .before in
     let w = length-take-le (m .item-at .result .stop - m .item-at .result .start) (drop (m .item-at .result .start) (now (t .args .b))) (omega (arith, m .item-at .ensures .short, m .item-at .ensures .within, length-drop (m .item-at .result .start) (now (t .args .b)))) in
     tally-bad (rowOf (t .args .kind)) addRow (now (t .args .b)) (l .loop .i) (l .loop .rows) (m .item-at .result) (m .item-at .ensures) (omega arith) (omega arith) (size (l .loop .rows) (l .loop .numbers)) _ (l .loop .inv .3) 13 _ (ap toldCounted (sym (c .before .o2 .given .1)) ∙ i .count-list .ensures .0)
 
--- src/lib.rt:62:9
 add-rows : tie.Need-add-rows Inv-loop μ-loop
 add-rows c = omega arith
 
--- src/lib.rt:64:13
 returns-3 : tie.Need-returns-3 Inv-loop μ-loop
 returns-3 c = let i = c .before .before .before .before in
     let m = i .before .before in
@@ -115,15 +95,12 @@ returns-3 c = let i = c .before .before .before .before in
     let w = length-take-le (m .item-at .result .stop - m .item-at .result .start) (drop (m .item-at .result .start) (now (t .args .b))) (omega (arith, m .item-at .ensures .short, m .item-at .ensures .within, length-drop (m .item-at .result .start) (now (t .args .b)))) in
     tally-last (rowOf (t .args .kind)) addRow (now (t .args .b)) (l .loop .i) (l .loop .rows) (m .item-at .result) (m .item-at .ensures) (omega arith) (omega arith) (size (l .loop .rows) (l .loop .numbers)) _ (l .loop .inv .3) _ (ap toldCounted (sym (c .before .before .k .given .1)) ∙ i .count-list .ensures .0) (c .if1 .taken)
 
--- src/lib.rt:66:13
 add-i : tie.Need-add-i Inv-loop μ-loop
 add-i c = omega (arith, c .before .before .before .before .before .before .item-at .ensures .within)
 
--- src/lib.rt:52:5
 loop-less : tie.Need-loop-less Inv-loop μ-loop
 loop-less c = let m = c .before .before .before .before .before .before in omega (arith, m .item-at .ensures .within, m .item-at .ensures .above, c .if1 .left)
 
--- src/lib.rt:52:5
 loop-again : tie.Need-loop-again Inv-loop μ-loop
 loop-again c = let i = c .before .before .before .before in
     let m = i .before .before in

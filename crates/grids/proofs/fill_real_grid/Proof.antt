@@ -13,12 +13,7 @@ use mathlib.Core.Path.{ap, sym, _∙_}
 use Prim.Native.Nat.{ℕ}
 use Rattle.grids.proofs.fill_real_grid.Statement.{statement}
 use Rattle.grids.proofs.fill_real_grid.Tie as tie
-use Rattle.grids.proofs.fill_real_grid.Reads as reads
-use Rattle.grids.proofs.fill_real_grid.Lts as lts
-use Rattle.grids.proofs.fill_real_rows.Reads as fill-real-rows-reads
-use Rattle.lists.proofs.shape_of.Reads as shape-of-reads
 
--- src/lib.rt:223:11
 shape-of-requires : tie.Need-shape-of-requires
 shape-of-requires c κs = search needs
 
@@ -28,53 +23,42 @@ enum-told c = search needs
 enum-told-2 : tie.Need-enum-told-2
 enum-told-2 c = search needs
 
--- src/lib.rt:227:17
 enum-told-3 : tie.Need-enum-told-3
 enum-told-3 c = search needs
 
--- src/lib.rt:228:34
 sub-fill-real-rows : tie.Need-sub-fill-real-rows
 sub-fill-real-rows c = let (n, f, o) = shape-full _ _ (c .before .before .shape-of .ensures) (c .enum-told3 .given .1) in omega (arith, n)
 
--- src/lib.rt:228:28
 sub-fill-real-rows-2 : tie.Need-sub-fill-real-rows-2
 sub-fill-real-rows-2 c = let (n, f, o) = shape-full _ _ (c .before .before .shape-of .ensures) (c .enum-told3 .given .1) in omega (arith, n)
 
--- src/lib.rt:228:28
 part-fill-real-rows-start : tie.Need-part-fill-real-rows-start
 part-fill-real-rows-start c = let (n, f, o) = shape-full _ _ (c .before .before .shape-of .ensures) (c .enum-told3 .given .1) in omega (arith, n)
 
--- src/lib.rt:228:28
 part-fill-real-rows-end : tie.Need-part-fill-real-rows-end
 part-fill-real-rows-end c = search needs
 
--- src/lib.rt:228:13
 fill-real-rows-requires : tie.Need-fill-real-rows-requires
 fill-real-rows-requires c κs = let s = c .before .before .before in
     let t = s .before .before .before .before .before .before in
     grid-full (λ x. asFate (realOf x)) (now (t .args .t)) _ (s .before .before .shape-of .ensures) _ _ (t .pre) (s .enum-told3 .given .1) .1
 
--- src/lib.rt:218:1
 returns : tie.Need-returns
 returns c = let s = c .before .before in
     let t = s .before .before .before .before in
     absurd (grid-none (λ x. asFate (realOf x)) (now (t .args .t)) _ (s .shape-of .ensures) _ _ (t .pre) (c .enum-told .given .1))
 
--- src/lib.rt:218:1
 returns-2 : tie.Need-returns-2
 returns-2 c = let s = c .before .before in
     let t = s .before .before .before .before in
     grid-blank (λ x. asFate (realOf x)) (now (t .args .t)) _ (s .shape-of .ensures) (map (toBits binary64) (now (t .args .out))) (now (t .args .ends)) (c .enum-told2 .given .1)
 
--- src/lib.rt:218:1
 same-length : tie.Need-same-length
 same-length c = search needs
 
--- src/lib.rt:218:1
 same-length-2 : tie.Need-same-length-2
 same-length-2 c = search needs
 
--- src/lib.rt:218:1
 returns-3 : tie.Need-returns-3
 returns-3 c = let i = c .before .before .before .before in
     let s = i .before .before .before .before in

@@ -14,10 +14,6 @@ use mathlib.Core.Path.{_≡_, ap, sym, _∙_, subst}
 use Prim.Native.Nat.{ℕ, _+_, _-_}
 use Rattle.grids.proofs.fill_real_rows.Statement.{statement}
 use Rattle.grids.proofs.fill_real_rows.Tie as tie
-use Rattle.grids.proofs.fill_real_rows.Reads as reads
-use Rattle.grids.proofs.fill_real_rows.Lts as lts
-use Rattle.lists.proofs.item_at.Reads as item-at-reads
-use Rattle.lists.proofs.read_reals.Reads as read-reals-reads
 
 abbrev Inv-loop : tie.InvT-loop
 Inv-loop b out₀ ends₀ i₀ rows₀ reals₀ out ends i rows reals = Gridding (λ u. asFate (realOf u)) b (map (toBits binary64) out₀) (map (toBits binary64) out) ends₀ ends i rows reals
@@ -25,61 +21,49 @@ Inv-loop b out₀ ends₀ i₀ rows₀ reals₀ out ends i rows reals = Gridding
 abbrev μ-loop : tie.MeasureT-loop
 μ-loop b out₀ ends₀ i₀ rows₀ reals₀ out ends i rows reals = length b - i
 
--- src/lib.rt:199:5
 loop-holds : tie.Need-loop-holds Inv-loop μ-loop
 loop-holds c = let t = c .before .before .before in
     gridding-starts (λ u. asFate (realOf u)) (now (t .args .b)) (map (toBits binary64) (now (t .args .out))) (now (t .args .ends)) (t .pre .0, omega (arith, t .pre .1, length-map (now (t .args .out)) (toBits binary64)), t .pre .2)
 
--- src/lib.rt:200:13
 item-at-requires : tie.Need-item-at-requires Inv-loop μ-loop
 item-at-requires c κs = search needs
 
--- src/lib.rt:204:52
 sub-read-reals : tie.Need-sub-read-reals Inv-loop μ-loop
 sub-read-reals c = c .item-at .ensures .ordered
 
--- src/lib.rt:204:52
 part-read-reals-start : tie.Need-part-read-reals-start Inv-loop μ-loop
 part-read-reals-start c = omega (arith, c .item-at .ensures .ordered, c .item-at .ensures .short, c .item-at .ensures .within)
 
--- src/lib.rt:204:52
 part-read-reals-end : tie.Need-part-read-reals-end Inv-loop μ-loop
 part-read-reals-end c = omega (arith, c .item-at .ensures .ordered, c .item-at .ensures .short, c .item-at .ensures .within)
 
--- src/lib.rt:204:69
 mul-read-reals : tie.Need-mul-read-reals Inv-loop μ-loop
 mul-read-reals c = let l = c .before .before in
     let t = l .before .before .before .before in
     let (p, q) = gridding-room (λ x. asFate (realOf x)) (now (t .args .b)) _ _ _ _ _ _ _ (l .loop .inv) in
     omega (arith, p, q, length-map (l .loop .out) (toBits binary64), length-map (now (t .args .out)) (toBits binary64))
 
--- src/lib.rt:204:69
 sub-read-reals-2 : tie.Need-sub-read-reals-2 Inv-loop μ-loop
 sub-read-reals-2 c = let l = c .before .before in
     let t = l .before .before .before .before in
     let (p, q) = gridding-room (λ x. asFate (realOf x)) (now (t .args .b)) _ _ _ _ _ _ _ (l .loop .inv) in
     omega (arith, p, q, length-map (l .loop .out) (toBits binary64), length-map (now (t .args .out)) (toBits binary64))
 
--- src/lib.rt:204:69
 part-read-reals-start-2 : tie.Need-part-read-reals-start-2 Inv-loop μ-loop
 part-read-reals-start-2 c = let l = c .before .before in
     let t = l .before .before .before .before in
     let (p, q) = gridding-room (λ x. asFate (realOf x)) (now (t .args .b)) _ _ _ _ _ _ _ (l .loop .inv) in
     omega (arith, p, q, length-map (l .loop .out) (toBits binary64), length-map (now (t .args .out)) (toBits binary64))
 
--- src/lib.rt:204:69
 part-read-reals-end-2 : tie.Need-part-read-reals-end-2 Inv-loop μ-loop
 part-read-reals-end-2 c = omega arith
 
--- src/lib.rt:204:34
 read-reals-requires : tie.Need-read-reals-requires Inv-loop μ-loop
 read-reals-requires c κs = search needs
 
--- src/lib.rt:204:29
 enum-known-k : tie.Need-enum-known-k Inv-loop μ-loop
 enum-known-k c = search needs
 
--- src/lib.rt:205:13
 same-length : tie.Need-same-length Inv-loop μ-loop
 same-length c = let i = c .before .before .before in
     let m = i .before .before .before in
@@ -91,7 +75,6 @@ same-length c = let i = c .before .before .before in
     let (q, w) = refused-read (i .read-reals .result) (c .match .keys2) in
     clash (cc (h, w))
 
--- src/lib.rt:205:13
 same-length-2 : tie.Need-same-length-2 Inv-loop μ-loop
 same-length-2 c = let i = c .before .before .before in
     let m = i .before .before .before in
@@ -103,7 +86,6 @@ same-length-2 c = let i = c .before .before .before in
     let (q, w) = refused-read (i .read-reals .result) (c .match .keys2) in
     clash (cc (h, w))
 
--- src/lib.rt:205:13
 returns : tie.Need-returns Inv-loop μ-loop
 returns c = let i = c .before .before .before in
     let m = i .before .before .before in
@@ -115,7 +97,6 @@ returns c = let i = c .before .before .before in
     let (q, w) = refused-read (i .read-reals .result) (c .match .keys2) in
     clash (cc (h, w))
 
--- src/lib.rt:207:9
 add-reals : tie.Need-add-reals Inv-loop μ-loop
 add-reals c = let i = c .before .before .before .before .before in
     let m = i .before .before .before in
@@ -129,7 +110,6 @@ add-reals c = let i = c .before .before .before .before .before in
     let (x, y) = row-place (λ x. asFate (realOf x)) (now (t .args .b)) _ _ _ _ _ _ _ (l .loop .inv) (m .item-at .result) (m .item-at .ensures) v e _ z s w in
     omega (arith, j, x, length-map (now (t .args .out)) (toBits binary64))
 
--- src/lib.rt:208:9
 mul-ends : tie.Need-mul-ends Inv-loop μ-loop
 mul-ends c = let i = c .before .before .before .before .before in
     let m = i .before .before .before in
@@ -142,7 +122,6 @@ mul-ends c = let i = c .before .before .before .before .before in
     let (x, y) = row-place (λ x. asFate (realOf x)) (now (t .args .b)) _ _ _ _ _ _ _ (l .loop .inv) (m .item-at .result) (m .item-at .ensures) v e _ z s w in
     omega (arith, y .0)
 
--- src/lib.rt:208:9
 slice-write-ends : tie.Need-slice-write-ends Inv-loop μ-loop
 slice-write-ends c = let i = c .before .before .before .before .before in
     let m = i .before .before .before in
@@ -155,11 +134,9 @@ slice-write-ends c = let i = c .before .before .before .before .before in
     let (x, y) = row-place (λ x. asFate (realOf x)) (now (t .args .b)) _ _ _ _ _ _ _ (l .loop .inv) (m .item-at .result) (m .item-at .ensures) v e _ z s w in
     omega (arith, y .0, y .1)
 
--- src/lib.rt:209:9
 add-rows : tie.Need-add-rows Inv-loop μ-loop
 add-rows c = let l = c .before .before .before .before .before .before .before .before .before in omega (arith, l .loop .inv .few, l .loop .inv .within)
 
--- src/lib.rt:211:13
 same-length-3 : tie.Need-same-length-3 Inv-loop μ-loop
 same-length-3 c = let i = c .before .before .before .before .before .before in
     let m = i .before .before .before in
@@ -171,7 +148,6 @@ same-length-3 c = let i = c .before .before .before .before .before .before in
     let w = k ∙ ap (λ (x : List ℕ). v ++ drop (length v) x) (map-part (toBits binary64) (l .loop .reals) z (l .loop .out)) in
     sym (length-map (take (l .loop .reals) (l .loop .out) ++ (i .read-reals .last .1 .0 ++ drop z (drop (l .loop .reals) (l .loop .out)))) (toBits binary64)) ∙ ap length (map-put (toBits binary64) (l .loop .reals) z (l .loop .out) (i .read-reals .last .1 .0)) ∙ row-length (λ x. asFate (realOf x)) (now (t .args .b)) _ _ _ _ _ _ _ (l .loop .inv) (m .item-at .result) (m .item-at .ensures) v e _ z s w ∙ length-map (now (t .args .out)) (toBits binary64)
 
--- src/lib.rt:211:13
 same-length-4 : tie.Need-same-length-4 Inv-loop μ-loop
 same-length-4 c = let i = c .before .before .before .before .before .before in
     let m = i .before .before .before in
@@ -184,7 +160,6 @@ same-length-4 c = let i = c .before .before .before .before .before .before in
     let (x, y) = row-place (λ x. asFate (realOf x)) (now (t .args .b)) _ _ _ _ _ _ _ (l .loop .inv) (m .item-at .result) (m .item-at .ensures) v e _ z s w in
     length-set (l .loop .ends) (l .loop .rows) _ ∙ y .1
 
--- src/lib.rt:211:13
 returns-2 : tie.Need-returns-2 Inv-loop μ-loop
 returns-2 c = let i = c .before .before .before .before .before .before in
     let m = i .before .before .before in
@@ -198,15 +173,12 @@ returns-2 c = let i = c .before .before .before .before .before .before in
     let (x, y) = row-last (λ x. asFate (realOf x)) (now (t .args .b)) _ _ _ _ _ _ _ (l .loop .inv) (m .item-at .result) (m .item-at .ensures) v e _ z s w (c .if1 .taken) in
     (map-put (toBits binary64) (l .loop .reals) z (l .loop .out) (i .read-reals .last .1 .0) ∙ x, ap (λ (d : ℕ). set (l .loop .ends) (l .loop .rows) (l .loop .reals + d)) j ∙ y)
 
--- src/lib.rt:213:13
 add-i : tie.Need-add-i Inv-loop μ-loop
 add-i c = omega (arith, c .before .before .before .before .before .before .before .before .before .item-at .ensures .within)
 
--- src/lib.rt:199:5
 loop-less : tie.Need-loop-less Inv-loop μ-loop
 loop-less c = let m = c .before .before .before .before .before .before .before .before .before in omega (arith, m .item-at .ensures .within, m .item-at .ensures .above, c .if1 .left)
 
--- src/lib.rt:199:5
 loop-again : tie.Need-loop-again Inv-loop μ-loop
 loop-again c = let i = c .before .before .before .before .before .before in
     let m = i .before .before .before in

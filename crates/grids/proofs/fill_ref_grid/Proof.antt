@@ -11,12 +11,7 @@ use mathlib.Core.Path.{ap, sym, _∙_}
 use Prim.Native.Nat.{ℕ}
 use Rattle.grids.proofs.fill_ref_grid.Statement.{statement}
 use Rattle.grids.proofs.fill_ref_grid.Tie as tie
-use Rattle.grids.proofs.fill_ref_grid.Reads as reads
-use Rattle.grids.proofs.fill_ref_grid.Lts as lts
-use Rattle.grids.proofs.fill_ref_rows.Reads as fill-ref-rows-reads
-use Rattle.lists.proofs.shape_of.Reads as shape-of-reads
 
--- src/lib.rt:150:11
 shape-of-requires : tie.Need-shape-of-requires
 shape-of-requires c κs = search needs
 
@@ -26,53 +21,42 @@ enum-told c = search needs
 enum-told-2 : tie.Need-enum-told-2
 enum-told-2 c = search needs
 
--- src/lib.rt:154:17
 enum-told-3 : tie.Need-enum-told-3
 enum-told-3 c = search needs
 
--- src/lib.rt:155:33
 sub-fill-ref-rows : tie.Need-sub-fill-ref-rows
 sub-fill-ref-rows c = let (n, f, o) = shape-full _ _ (c .before .before .shape-of .ensures) (c .enum-told3 .given .1) in omega (arith, n)
 
--- src/lib.rt:155:27
 sub-fill-ref-rows-2 : tie.Need-sub-fill-ref-rows-2
 sub-fill-ref-rows-2 c = let (n, f, o) = shape-full _ _ (c .before .before .shape-of .ensures) (c .enum-told3 .given .1) in omega (arith, n)
 
--- src/lib.rt:155:27
 part-fill-ref-rows-start : tie.Need-part-fill-ref-rows-start
 part-fill-ref-rows-start c = let (n, f, o) = shape-full _ _ (c .before .before .shape-of .ensures) (c .enum-told3 .given .1) in omega (arith, n)
 
--- src/lib.rt:155:27
 part-fill-ref-rows-end : tie.Need-part-fill-ref-rows-end
 part-fill-ref-rows-end c = search needs
 
--- src/lib.rt:155:13
 fill-ref-rows-requires : tie.Need-fill-ref-rows-requires
 fill-ref-rows-requires c κs = let s = c .before .before .before in
     let t = s .before .before .before .before .before .before in
     grid-full (λ x. asFate (referenceOf x)) (now (t .args .t)) _ (s .before .before .shape-of .ensures) _ _ (t .pre) (s .enum-told3 .given .1) .1
 
--- src/lib.rt:145:1
 returns : tie.Need-returns
 returns c = let s = c .before .before in
     let t = s .before .before .before .before in
     absurd (grid-none (λ x. asFate (referenceOf x)) (now (t .args .t)) _ (s .shape-of .ensures) _ _ (t .pre) (c .enum-told .given .1))
 
--- src/lib.rt:145:1
 returns-2 : tie.Need-returns-2
 returns-2 c = let s = c .before .before in
     let t = s .before .before .before .before in
     grid-blank (λ x. asFate (referenceOf x)) (now (t .args .t)) _ (s .shape-of .ensures) (now (t .args .out)) (now (t .args .ends)) (c .enum-told2 .given .1)
 
--- src/lib.rt:145:1
 same-length : tie.Need-same-length
 same-length c = search needs
 
--- src/lib.rt:145:1
 same-length-2 : tie.Need-same-length-2
 same-length-2 c = search needs
 
--- src/lib.rt:145:1
 returns-3 : tie.Need-returns-3
 returns-3 c = let i = c .before .before .before .before in
     let s = i .before .before .before .before in

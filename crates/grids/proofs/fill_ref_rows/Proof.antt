@@ -18,10 +18,6 @@ use Prim.Native.Nat.{ℕ, _+_}
 use Rattle.grids.specs.Rows.{gridding-room, row-length, row-read, row-place, row-last, row-goes}
 use Rattle.grids.proofs.fill_ref_rows.Statement.{statement}
 use Rattle.grids.proofs.fill_ref_rows.Tie as tie
-use Rattle.grids.proofs.fill_ref_rows.Reads as reads
-use Rattle.grids.proofs.fill_ref_rows.Lts as lts
-use Rattle.lists.proofs.item_at.Reads as item-at-reads
-use Rattle.lists.proofs.read_refs.Reads as read-refs-reads
 
 abbrev Inv-loop : tie.InvT-loop
 Inv-loop b out₀ ends₀ i₀ rows₀ refs₀ out ends i rows refs = Gridding (λ u. asFate (referenceOf u)) b out₀ out ends₀ ends i rows refs
@@ -29,58 +25,46 @@ Inv-loop b out₀ ends₀ i₀ rows₀ refs₀ out ends i rows refs = Gridding (
 abbrev μ-loop : tie.MeasureT-loop
 μ-loop b out₀ ends₀ i₀ rows₀ refs₀ out ends i rows refs = length b - i
 
--- src/lib.rt:126:5
 loop-holds : tie.Need-loop-holds Inv-loop μ-loop
 loop-holds c = let t = c .before .before .before in gridding-starts (λ u. asFate (referenceOf u)) (now (t .args .b)) (now (t .args .out)) (now (t .args .ends)) (t .pre)
 
--- src/lib.rt:127:13
 item-at-requires : tie.Need-item-at-requires Inv-loop μ-loop
 item-at-requires c κs = search needs
 
--- src/lib.rt:131:51
 sub-read-refs : tie.Need-sub-read-refs Inv-loop μ-loop
 sub-read-refs c = c .item-at .ensures .ordered
 
--- src/lib.rt:131:51
 part-read-refs-start : tie.Need-part-read-refs-start Inv-loop μ-loop
 part-read-refs-start c = omega (arith, c .item-at .ensures .ordered, c .item-at .ensures .short, c .item-at .ensures .within)
 
--- src/lib.rt:131:51
 part-read-refs-end : tie.Need-part-read-refs-end Inv-loop μ-loop
 part-read-refs-end c = omega (arith, c .item-at .ensures .ordered, c .item-at .ensures .short, c .item-at .ensures .within)
 
--- src/lib.rt:131:68
 mul-read-refs : tie.Need-mul-read-refs Inv-loop μ-loop
 mul-read-refs c = let l = c .before .before in
     let t = l .before .before .before .before in
     let (p, q) = gridding-room (λ x. asFate (referenceOf x)) (now (t .args .b)) _ _ _ _ _ _ _ (l .loop .inv) in
     omega (arith, p, q)
 
--- src/lib.rt:131:68
 sub-read-refs-2 : tie.Need-sub-read-refs-2 Inv-loop μ-loop
 sub-read-refs-2 c = let l = c .before .before in
     let t = l .before .before .before .before in
     gridding-room (λ x. asFate (referenceOf x)) (now (t .args .b)) _ _ _ _ _ _ _ (l .loop .inv) .0
 
--- src/lib.rt:131:68
 part-read-refs-start-2 : tie.Need-part-read-refs-start-2 Inv-loop μ-loop
 part-read-refs-start-2 c = let l = c .before .before in
     let t = l .before .before .before .before in
     gridding-room (λ x. asFate (referenceOf x)) (now (t .args .b)) _ _ _ _ _ _ _ (l .loop .inv) .0
 
--- src/lib.rt:131:68
 part-read-refs-end-2 : tie.Need-part-read-refs-end-2 Inv-loop μ-loop
 part-read-refs-end-2 c = omega arith
 
--- src/lib.rt:131:34
 read-refs-requires : tie.Need-read-refs-requires Inv-loop μ-loop
 read-refs-requires c κs = search needs
 
--- src/lib.rt:131:29
 enum-known-k : tie.Need-enum-known-k Inv-loop μ-loop
 enum-known-k c = search needs
 
--- src/lib.rt:132:13
 same-length : tie.Need-same-length Inv-loop μ-loop
 same-length c = let i = c .before .before .before in
     let m = i .before .before .before in
@@ -90,7 +74,6 @@ same-length c = let i = c .before .before .before in
     let (q, w) = refused-read (i .read-refs .result) (c .match .keys2) in
     clash (cc (h, w))
 
--- src/lib.rt:132:13
 same-length-2 : tie.Need-same-length-2 Inv-loop μ-loop
 same-length-2 c = let i = c .before .before .before in
     let m = i .before .before .before in
@@ -100,7 +83,6 @@ same-length-2 c = let i = c .before .before .before in
     let (q, w) = refused-read (i .read-refs .result) (c .match .keys2) in
     clash (cc (h, w))
 
--- src/lib.rt:132:13
 returns : tie.Need-returns Inv-loop μ-loop
 returns c = let i = c .before .before .before in
     let m = i .before .before .before in
@@ -110,7 +92,6 @@ returns c = let i = c .before .before .before in
     let (q, w) = refused-read (i .read-refs .result) (c .match .keys2) in
     clash (cc (h, w))
 
--- src/lib.rt:134:9
 add-refs : tie.Need-add-refs Inv-loop μ-loop
 add-refs c = let i = c .before .before .before .before .before in
     let m = i .before .before .before in
@@ -121,7 +102,6 @@ add-refs c = let i = c .before .before .before .before .before in
     let (x, y) = row-place (λ x. asFate (referenceOf x)) (now (t .args .b)) _ _ _ _ _ _ _ (l .loop .inv) (m .item-at .result) (m .item-at .ensures) v e _ _ refl k in
     omega (arith, j, x)
 
--- src/lib.rt:135:9
 mul-ends : tie.Need-mul-ends Inv-loop μ-loop
 mul-ends c = let i = c .before .before .before .before .before in
     let m = i .before .before .before in
@@ -131,7 +111,6 @@ mul-ends c = let i = c .before .before .before .before .before in
     let (x, y) = row-place (λ x. asFate (referenceOf x)) (now (t .args .b)) _ _ _ _ _ _ _ (l .loop .inv) (m .item-at .result) (m .item-at .ensures) v e _ _ refl k in
     omega (arith, y .0)
 
--- src/lib.rt:135:9
 slice-write-ends : tie.Need-slice-write-ends Inv-loop μ-loop
 slice-write-ends c = let i = c .before .before .before .before .before in
     let m = i .before .before .before in
@@ -141,7 +120,6 @@ slice-write-ends c = let i = c .before .before .before .before .before in
     let (x, y) = row-place (λ x. asFate (referenceOf x)) (now (t .args .b)) _ _ _ _ _ _ _ (l .loop .inv) (m .item-at .result) (m .item-at .ensures) v e _ _ refl k in
     omega (arith, y .0, y .1)
 
--- src/lib.rt:136:9
 add-rows : tie.Need-add-rows Inv-loop μ-loop
 add-rows c = let i = c .before .before .before .before .before in
     let m = i .before .before .before in
@@ -150,7 +128,6 @@ add-rows c = let i = c .before .before .before .before .before in
     let (v, e, h, k) = row-read (λ x. asFate (referenceOf x)) (now (t .args .b)) _ _ _ _ _ _ _ (l .loop .inv) (m .item-at .result) (m .item-at .ensures) _ _ _ _ (length-take-le (length (l .loop .out) - l .loop .refs) (drop (l .loop .refs) (l .loop .out)) (omega (arith, length-drop (l .loop .refs) (l .loop .out)))) (i .read-refs .ensures .0) (i .read-refs .ensures .1) in
     omega (arith, l .loop .inv .few, l .loop .inv .within)
 
--- src/lib.rt:138:13
 same-length-3 : tie.Need-same-length-3 Inv-loop μ-loop
 same-length-3 c = let i = c .before .before .before .before .before .before in
     let m = i .before .before .before in
@@ -159,7 +136,6 @@ same-length-3 c = let i = c .before .before .before .before .before .before in
     let (v, e, h, k) = row-read (λ x. asFate (referenceOf x)) (now (t .args .b)) _ _ _ _ _ _ _ (l .loop .inv) (m .item-at .result) (m .item-at .ensures) _ _ _ _ (length-take-le (length (l .loop .out) - l .loop .refs) (drop (l .loop .refs) (l .loop .out)) (omega (arith, length-drop (l .loop .refs) (l .loop .out)))) (i .read-refs .ensures .0) (i .read-refs .ensures .1) in
     row-length (λ x. asFate (referenceOf x)) (now (t .args .b)) _ _ _ _ _ _ _ (l .loop .inv) (m .item-at .result) (m .item-at .ensures) v e _ _ refl k
 
--- src/lib.rt:138:13
 same-length-4 : tie.Need-same-length-4 Inv-loop μ-loop
 same-length-4 c = let i = c .before .before .before .before .before .before in
     let m = i .before .before .before in
@@ -169,7 +145,6 @@ same-length-4 c = let i = c .before .before .before .before .before .before in
     let (x, y) = row-place (λ x. asFate (referenceOf x)) (now (t .args .b)) _ _ _ _ _ _ _ (l .loop .inv) (m .item-at .result) (m .item-at .ensures) v e _ _ refl k in
     length-set (l .loop .ends) (l .loop .rows) _ ∙ y .1
 
--- src/lib.rt:138:13
 returns-2 : tie.Need-returns-2 Inv-loop μ-loop
 returns-2 c = let i = c .before .before .before .before .before .before in
     let m = i .before .before .before in
@@ -180,15 +155,12 @@ returns-2 c = let i = c .before .before .before .before .before .before in
     let (x, y) = row-last (λ x. asFate (referenceOf x)) (now (t .args .b)) _ _ _ _ _ _ _ (l .loop .inv) (m .item-at .result) (m .item-at .ensures) v e _ _ refl k (c .if1 .taken) in
     (x, ap (λ (d : ℕ). set (l .loop .ends) (l .loop .rows) (l .loop .refs + d)) j ∙ y)
 
--- src/lib.rt:140:13
 add-i : tie.Need-add-i Inv-loop μ-loop
 add-i c = omega (arith, c .before .before .before .before .before .before .before .before .before .item-at .ensures .within)
 
--- src/lib.rt:126:5
 loop-less : tie.Need-loop-less Inv-loop μ-loop
 loop-less c = let m = c .before .before .before .before .before .before .before .before .before in omega (arith, m .item-at .ensures .within, m .item-at .ensures .above, c .if1 .left)
 
--- src/lib.rt:126:5
 loop-again : tie.Need-loop-again Inv-loop μ-loop
 loop-again c = let i = c .before .before .before .before .before .before in
     let m = i .before .before .before in

@@ -15,41 +15,28 @@ use mathlib.Core.Path.{ap, sym, _∙_}
 use Prim.Native.Nat.{_-_}
 use Rattle.grids.proofs.next_f64_grid.Statement.{statement}
 use Rattle.grids.proofs.next_f64_grid.Tie as tie
-use Rattle.grids.proofs.next_f64_grid.Reads as reads
-use Rattle.grids.proofs.next_f64_grid.Lts as lts
-use Rattle.grids.proofs.answer_of.Reads as answer-of-reads
-use Rattle.grids.proofs.read_real_grid.Reads as read-real-grid-reads
-use Rattle.params.proofs.param_span.Reads as param-span-reads
 
--- src/lib.rt:253:11
 param-span-requires : tie.Need-param-span-requires
 param-span-requires c κs = search needs
 
--- src/lib.rt:254:22
 enum-known-f : tie.Need-enum-known-f
 enum-known-f c = search needs
 
--- src/lib.rt:255:19
 enum-known-start : tie.Need-enum-known-start
 enum-known-start c = search needs
 
--- src/lib.rt:256:28
 sub-read-real-grid : tie.Need-sub-read-real-grid
 sub-read-real-grid c = let (u, v) = cut-places _ _ _ _ _ (c .before .before .before .param-span .ensures .1) (c .before .start .given .1) in u
 
--- src/lib.rt:256:28
 part-read-real-grid-start : tie.Need-part-read-real-grid-start
 part-read-real-grid-start c = let (u, v) = cut-places _ _ _ _ _ (c .before .before .before .param-span .ensures .1) (c .before .start .given .1) in omega (arith, u, v)
 
--- src/lib.rt:256:28
 part-read-real-grid-end : tie.Need-part-read-real-grid-end
 part-read-real-grid-end c = let (u, v) = cut-places _ _ _ _ _ (c .before .before .before .param-span .ensures .1) (c .before .start .given .1) in omega (arith, u, v)
 
--- src/lib.rt:256:13
 read-real-grid-requires : tie.Need-read-real-grid-requires
 read-real-grid-requires c κs = search needs
 
--- src/lib.rt:255:39
 answer-of-requires : tie.Need-answer-of-requires
 answer-of-requires c κs = let i = c .before .before .before .before in
     let g = i .before .before .before .before .before in
@@ -61,20 +48,16 @@ answer-of-requires c κs = let i = c .before .before .before .before in
     let h = grid-inward (gridOf realOf) (list-inward (listOf realOf) (list-inward (λ x. asFate (realOf x)) (scalar-inward realOf))) (gridFits (length (now (t .args .out))) (length (now (t .args .ends)))) (take (z - a) (drop a s)) (i .read-real-grid .result) (i .read-real-grid .ensures .0) in
     omega (arith, u, v, h, length-take (z - a) (drop a s), length-drop a s)
 
--- src/lib.rt:248:1
 returns : tie.Need-returns
 returns c = let t = c .before .before .before .before .before .before .before in
     grids-uncut (gridOf realOf) (map (toBits binary64) (now (t .args .out))) (now (t .args .ends)) (length (now (t .args .out))) (length (now (t .args .ends))) (now (t .args .file)) (t .args .at .place) (t .args .at .end) _ _ _ (ap toldCut (sym (c .before .f .given .1)) ∙ c .before .before .before .param-span .ensures .0)
 
--- src/lib.rt:248:1
 same-length : tie.Need-same-length
 same-length c = search needs
 
--- src/lib.rt:248:1
 same-length-2 : tie.Need-same-length-2
 same-length-2 c = search needs
 
--- src/lib.rt:248:1
 returns-2 : tie.Need-returns-2
 returns-2 c = let i = c .before .before .before .before .before in
     let g = i .before .before .before .before .before in

@@ -13,41 +13,28 @@ use mathlib.Core.Path.{ap, sym, _∙_}
 use Prim.Native.Nat.{_-_}
 use Rattle.grids.proofs.next_ref_grid.Statement.{statement}
 use Rattle.grids.proofs.next_ref_grid.Tie as tie
-use Rattle.grids.proofs.next_ref_grid.Reads as reads
-use Rattle.grids.proofs.next_ref_grid.Lts as lts
-use Rattle.grids.proofs.answer_of.Reads as answer-of-reads
-use Rattle.grids.proofs.read_ref_grid.Reads as read-ref-grid-reads
-use Rattle.params.proofs.param_span.Reads as param-span-reads
 
--- src/lib.rt:180:11
 param-span-requires : tie.Need-param-span-requires
 param-span-requires c κs = search needs
 
--- src/lib.rt:181:22
 enum-known-f : tie.Need-enum-known-f
 enum-known-f c = search needs
 
--- src/lib.rt:182:19
 enum-known-start : tie.Need-enum-known-start
 enum-known-start c = search needs
 
--- src/lib.rt:182:63
 sub-read-ref-grid : tie.Need-sub-read-ref-grid
 sub-read-ref-grid c = let (u, v) = cut-places _ _ _ _ _ (c .before .before .before .param-span .ensures .1) (c .before .start .given .1) in u
 
--- src/lib.rt:182:63
 part-read-ref-grid-start : tie.Need-part-read-ref-grid-start
 part-read-ref-grid-start c = let (u, v) = cut-places _ _ _ _ _ (c .before .before .before .param-span .ensures .1) (c .before .start .given .1) in omega (arith, u, v)
 
--- src/lib.rt:182:63
 part-read-ref-grid-end : tie.Need-part-read-ref-grid-end
 part-read-ref-grid-end c = let (u, v) = cut-places _ _ _ _ _ (c .before .before .before .param-span .ensures .1) (c .before .start .given .1) in omega (arith, u, v)
 
--- src/lib.rt:182:49
 read-ref-grid-requires : tie.Need-read-ref-grid-requires
 read-ref-grid-requires c κs = search needs
 
--- src/lib.rt:182:39
 answer-of-requires : tie.Need-answer-of-requires
 answer-of-requires c κs = let i = c .before .before .before .before in
     let g = i .before .before .before .before .before in
@@ -59,20 +46,16 @@ answer-of-requires c κs = let i = c .before .before .before .before in
     let h = grid-inward (gridOf referenceOf) (list-inward (listOf referenceOf) (list-inward (λ x. asFate (referenceOf x)) (scalar-inward referenceOf))) (gridFits (length (now (t .args .out))) (length (now (t .args .ends)))) (take (z - a) (drop a s)) (i .read-ref-grid .result) (i .read-ref-grid .ensures .0) in
     omega (arith, u, v, h, length-take (z - a) (drop a s), length-drop a s)
 
--- src/lib.rt:175:1
 returns : tie.Need-returns
 returns c = let t = c .before .before .before .before .before .before .before in
     grids-uncut (gridOf referenceOf) (now (t .args .out)) (now (t .args .ends)) (length (now (t .args .out))) (length (now (t .args .ends))) (now (t .args .file)) (t .args .at .place) (t .args .at .end) _ _ _ (ap toldCut (sym (c .before .f .given .1)) ∙ c .before .before .before .param-span .ensures .0)
 
--- src/lib.rt:175:1
 same-length : tie.Need-same-length
 same-length c = search needs
 
--- src/lib.rt:175:1
 same-length-2 : tie.Need-same-length-2
 same-length-2 c = search needs
 
--- src/lib.rt:175:1
 returns-2 : tie.Need-returns-2
 returns-2 c = let i = c .before .before .before .before .before in
     let g = i .before .before .before .before .before in

@@ -11,19 +11,13 @@ use lib.ListN.{length}
 use mathlib.Core.Path.{ap, sym, _∙_}
 use Rattle.grids.proofs.read_real_grid.Statement.{statement}
 use Rattle.grids.proofs.read_real_grid.Tie as tie
-use Rattle.grids.proofs.read_real_grid.Reads as reads
-use Rattle.grids.proofs.read_real_grid.Lts as lts
-use Rattle.grids.proofs.fill_real_grid.Reads as fill-real-grid-reads
-use Rattle.grids.proofs.room_for.Reads as room-for-reads
 
--- src/lib.rt:239:9
 room-for-requires : tie.Need-room-for-requires
 room-for-requires c κs = search needs
 
 enum-told : tie.Need-enum-told
 enum-told c = search needs
 
--- src/lib.rt:241:9
 returns : tie.Need-returns
 returns c = let r = c .before .room-for in
     let t = c .before .before .before .before .before in
@@ -31,22 +25,18 @@ returns c = let r = c .before .room-for in
     let (q, k) = refused-grid (r .result) (c .match .keys2) in
     (e, grid-refused (gridOf realOf (now (t .args .t))) (length (now (t .args .out))) (length (now (t .args .ends))) q (map (toBits binary64) (now (t .args .out))) (now (t .args .ends)) (sym k ∙ e))
 
--- src/lib.rt:243:5
 fill-real-grid-requires : tie.Need-fill-real-grid-requires
 fill-real-grid-requires c κs = let r = c .before .before .before .before .room-for in
     let t = c .before .before .before .before .before .before .before .before in
     let e = grid-told (λ x. asFate (realOf x)) (now (t .args .t)) (length (now (t .args .out))) (length (now (t .args .ends))) _ (r .ensures) in
     grid-fits (gridOf realOf (now (t .args .t))) (length (now (t .args .out))) (length (now (t .args .ends))) _ (ap toldReadGrid (sym (c .before .before .enum-told .given .1)) ∙ e)
 
--- src/lib.rt:234:1
 same-length : tie.Need-same-length
 same-length c = search needs
 
--- src/lib.rt:234:1
 same-length-2 : tie.Need-same-length-2
 same-length-2 c = search needs
 
--- src/lib.rt:234:1
 returns-2 : tie.Need-returns-2
 returns-2 c = let i = c .before .before .before .before in
     let r = i .before .before .before .before .before .room-for in

@@ -9,46 +9,35 @@ use Rattle.lex.specs.Byte.{pick}
 use mathlib.Core.Bool.{Bool}
 use Rattle.grids.proofs.room_for.Statement.{statement}
 use Rattle.grids.proofs.room_for.Tie as tie
-use Rattle.grids.proofs.room_for.Reads as reads
-use Rattle.grids.proofs.room_for.Lts as lts
-use Rattle.grids.proofs.count_grid.Reads as count-grid-reads
 
--- src/lib.rt:92:11
 count-grid-requires : tie.Need-count-grid-requires
 count-grid-requires c κs = search needs
 
--- src/lib.rt:93:22
 enum-known-o : tie.Need-enum-known-o
 enum-known-o c = search needs
 
--- src/lib.rt:94:24
 enum-known-o-2 : tie.Need-enum-known-o-2
 enum-known-o-2 c = search needs
 
--- src/lib.rt:95:20
 enum-known-rows : tie.Need-enum-known-rows
 enum-known-rows c = search needs
 
--- src/lib.rt:97:17
 returns : tie.Need-returns
 returns c = let l = c .before .before .before .before in
     let t = l .before .before .args in
     let s = size (c .before .before .rows .given .0 .0) (c .before .before .rows .given .0 .1 .0) in
     ap (λ (k : Bool). pick k (good s) (bad (refusal 16 0 0))) (sym (c .if1 .taken)) ∙ ap (roomed (sizeFits (t .room) (t .ends)) 0) (ap toldTally (sym (c .before .before .rows .given .1)) ∙ l .count-grid .ensures)
 
--- src/lib.rt:89:1
 returns-2 : tie.Need-returns-2
 returns-2 c = let l = c .before .before .before in
     let t = l .before .before .args in
     roomed-bad (sizeFits (t .room) (t .ends)) 12 _ _ (ap toldTally (sym (c .before .o .given .1)) ∙ l .count-grid .ensures)
 
--- src/lib.rt:89:1
 returns-3 : tie.Need-returns-3
 returns-3 c = let l = c .before .before .before in
     let t = l .before .before .args in
     roomed-bad (sizeFits (t .room) (t .ends)) 13 _ _ (ap toldTally (sym (c .before .o2 .given .1)) ∙ l .count-grid .ensures)
 
--- src/lib.rt:89:1
 returns-4 : tie.Need-returns-4
 returns-4 c = let l = c .before .before .before .before in
     let t = l .before .before .args in

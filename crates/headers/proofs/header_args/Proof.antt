@@ -1,6 +1,5 @@
 use borrow.Author.Needs.{needs}
-use native.Mathlib.Omega.{arith}
-use mathlib.Core.Path.{_≡_, refl, sym, _∙_, ap}
+use mathlib.Core.Path.{sym, _∙_, ap}
 use denote.Ref.{now}
 use lib.ListN.{length}
 use Rattle.lookup.specs.Lookup.{toldPlace}
@@ -8,32 +7,22 @@ use Rattle.headers.specs.Header.{headerArgs}
 use Rattle.headers.specs.Laws.{header-fits}
 use Rattle.headers.proofs.header_args.Statement.{statement}
 use Rattle.headers.proofs.header_args.Tie as tie
-use Rattle.headers.proofs.header_args.Reads as reads
-use Rattle.headers.proofs.header_args.Lts as lts
-use Rattle.headers.proofs.header_row.Reads as header-row-reads
-use Rattle.headers.proofs.named_args.Reads as named-args-reads
 
--- src/lib.rt:108:11
 header-row-requires : tie.Need-header-row-requires
 header-row-requires c κs = search needs
 
--- src/lib.rt:109:27
 enum-told : tie.Need-enum-told
 enum-told c = search needs
 
--- src/lib.rt:110:19
 enum-known-i : tie.Need-enum-known-i
 enum-known-i c = search needs
 
--- src/lib.rt:110:25
 named-args-requires : tie.Need-named-args-requires
 named-args-requires c κs = header-fits (now (c .before .before .before .before .before .before .before .args .file)) (now (c .before .before .before .before .before .before .before .args .heads)) (c .before .before .before .before .before .before .before .args .t .headers) (now (c .before .before .before .before .before .before .before .args .name)) (c .before .i .given .0 .0) (sym (ap toldPlace (c .before .i .given .1)) ∙ c .before .before .before .header-row .ensures)
 
--- src/lib.rt:105:1
 returns : tie.Need-returns
 returns c = ap (headerArgs (length (now (c .before .before .before .before .before .before .args .file))) (now (c .before .before .before .before .before .before .args .heads))) (sym (ap toldPlace (c .enum-told .given .1)) ∙ c .before .before .header-row .ensures)
 
--- src/lib.rt:105:1
 returns-2 : tie.Need-returns-2
 returns-2 c = c .named-args .ensures ∙ ap (headerArgs (length (now (c .before .before .before .before .before .before .before .before .args .file))) (now (c .before .before .before .before .before .before .before .before .args .heads))) (sym (ap toldPlace (c .before .before .i .given .1)) ∙ c .before .before .before .before .header-row .ensures)
 

@@ -1,21 +1,13 @@
 use native.Mathlib.Omega.{arith}
-use mathlib.Core.Path.{_≡_, refl, sym, _∙_, ap}
-use mathlib.Core.Bool.{Bool, true, false}
-use mathlib.Core.Option.{Option, none, some}
-use Prim.Native.Nat.{ℕ, _+_, _*_, _-_, _≤_}
+use mathlib.Core.Path.{_≡_, sym, _∙_, ap}
+use Prim.Native.Nat.{ℕ, _-_}
 use borrow.Author.Needs.{needs}
 use denote.Ref.{now}
-use lib.ListN.{length, take, drop, getD}
-use Rattle.statement.specs.Statement.{headerRowOf}
 use Rattle.lookup.specs.Lookup.{firstFrom}
 use Rattle.lookup.specs.Laws.{first-stops, first-goes, first-ends}
 use Rattle.headers.specs.Header.{isHeader}
 use Rattle.headers.proofs.header_row.Statement.{statement}
 use Rattle.headers.proofs.header_row.Tie as tie
-use Rattle.headers.proofs.header_row.Reads as reads
-use Rattle.headers.proofs.header_row.Lts as lts
-use Rattle.headers.proofs.is_named.Reads as is-named-reads
-use Rattle.lex.proofs.within.Reads as within-reads
 
 abbrev Inv-loop : tie.InvT-loop
 Inv-loop file heads name n i₀ i = firstFrom (isHeader file heads name) (n - i) i ≡ firstFrom (isHeader file heads name) n 0
@@ -23,39 +15,31 @@ Inv-loop file heads name n i₀ i = firstFrom (isHeader file heads name) (n - i)
 abbrev μ-loop : tie.MeasureT-loop
 μ-loop file heads name n i₀ i = n - i
 
--- src/lib.rt:76:9
 within-requires : tie.Need-within-requires Inv-loop μ-loop
 within-requires c κs = search needs
 
--- src/lib.rt:78:5
 loop-holds : tie.Need-loop-holds Inv-loop μ-loop
 loop-holds c =
     let e : c .within .result - 0 ≡ c .within .result = omega arith in
     ap (λ (z : ℕ). firstFrom (isHeader (now (c .before .before .before .before .args .file)) (now (c .before .before .before .before .args .heads)) (now (c .before .before .before .before .args .name))) z 0) e
 
--- src/lib.rt:79:12
 is-named-requires : tie.Need-is-named-requires Inv-loop μ-loop
 is-named-requires c κs =
     let e = c .before .before .within .ensures in
     omega arith
 
--- src/lib.rt:80:13
 returns : tie.Need-returns Inv-loop μ-loop
 returns c = sym (first-stops (isHeader (now (c .before .before .before .before .before .before .before .before .args .file)) (now (c .before .before .before .before .before .before .before .before .args .heads)) (now (c .before .before .before .before .before .before .before .before .args .name))) (c .before .before .before .before .within .result) (c .before .before .before .loop .i) (c .before .before .loop-test .taken) (sym (c .before .is-named .ensures) ∙ c .if1 .taken)) ∙ c .before .before .before .loop .inv ∙ ap (λ (z : ℕ). firstFrom (isHeader (now (c .before .before .before .before .before .before .before .before .args .file)) (now (c .before .before .before .before .before .before .before .before .args .heads)) (now (c .before .before .before .before .before .before .before .before .args .name))) z 0) (c .before .before .before .before .within .ensures)
 
--- src/lib.rt:82:9
 add-i : tie.Need-add-i Inv-loop μ-loop
 add-i c = search needs
 
--- src/lib.rt:78:5
 loop-less : tie.Need-loop-less Inv-loop μ-loop
 loop-less c = search needs
 
--- src/lib.rt:78:5
 loop-again : tie.Need-loop-again Inv-loop μ-loop
 loop-again c = sym (first-goes (isHeader (now (c .before .before .before .before .before .before .before .before .args .file)) (now (c .before .before .before .before .before .before .before .before .args .heads)) (now (c .before .before .before .before .before .before .before .before .args .name))) (c .before .before .before .before .within .result) (c .before .before .before .loop .i) (c .before .before .loop-test .taken) (sym (c .before .is-named .ensures) ∙ c .if1 .left)) ∙ c .before .before .before .loop .inv
 
--- src/lib.rt:73:1
 returns-2 : tie.Need-returns-2 Inv-loop μ-loop
 returns-2 c = sym (first-ends (isHeader (now (c .before .before .before .before .before .before .args .file)) (now (c .before .before .before .before .before .before .args .heads)) (now (c .before .before .before .before .before .before .args .name))) (c .before .before .within .result) (c .before .loop .i) (c .loop-test .left)) ∙ c .before .loop .inv ∙ ap (λ (z : ℕ). firstFrom (isHeader (now (c .before .before .before .before .before .before .args .file)) (now (c .before .before .before .before .before .before .args .heads)) (now (c .before .before .before .before .before .before .args .name))) z 0) (c .before .before .within .ensures)
 

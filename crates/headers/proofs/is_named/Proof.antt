@@ -4,20 +4,13 @@ use denote.Ref.{now}
 use Rattle.headers.specs.Header.{named}
 use Rattle.headers.proofs.is_named.Statement.{statement}
 use Rattle.headers.proofs.is_named.Tie as tie
-use Rattle.headers.proofs.is_named.Reads as reads
-use Rattle.headers.proofs.is_named.Lts as lts
-use Rattle.headers.proofs.read_header.Reads as read-header-reads
-use Rattle.headers.proofs.span_named.Reads as span-named-reads
 
--- src/lib.rt:75:22
 read-header-requires : tie.Need-read-header-requires
 read-header-requires c κs = search needs
 
--- src/lib.rt:75:5
 span-named-requires : tie.Need-span-named-requires
 span-named-requires c κs = search needs
 
--- src/lib.rt:71:1
 returns : tie.Need-returns
 returns c = c .span-named .ensures ∙ ap (named (now (c .before .before .before .before .before .args .file)) (now (c .before .before .before .before .before .args .name))) (c .before .read-header .ensures)
 

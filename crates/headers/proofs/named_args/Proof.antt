@@ -1,33 +1,23 @@
 use borrow.Author.Needs.{needs}
-use native.Mathlib.Omega.{arith}
-use mathlib.Core.Path.{_≡_, refl, sym, _∙_, ap}
-use mathlib.Core.Bool.{Bool, true, false}
-use mathlib.Core.Option.{Option, none, some}
-use Prim.Native.Nat.{ℕ, _+_, _*_, _-_, _≤_}
+use mathlib.Core.Path.{_∙_, ap}
+use Prim.Native.Nat.{_-_}
 use denote.Ref.{now}
-use lib.ListN.{length, take, drop, getD}
+use lib.ListN.{length}
 use Rattle.statement.specs.Statement.{headerRowOf}
 use Rattle.headers.specs.Header.{argued}
 use Rattle.headers.specs.Laws.{argued-backwards, argued-outside, argued-by}
 use Rattle.headers.proofs.named_args.Statement.{statement}
 use Rattle.headers.proofs.named_args.Tie as tie
-use Rattle.headers.proofs.named_args.Reads as reads
-use Rattle.headers.proofs.named_args.Lts as lts
-use Rattle.headers.proofs.read_header.Reads as read-header-reads
 
--- src/lib.rt:92:9
 read-header-requires : tie.Need-read-header-requires
 read-header-requires c κs = search needs
 
--- src/lib.rt:96:9
 returns : tie.Need-returns
 returns c = argued-backwards (length (now (c .before .before .before .before .args .file))) (headerRowOf (c .before .read-header .result)) (c .if1 .taken) ∙ ap (argued (length (now (c .before .before .before .before .args .file)))) (c .before .read-header .ensures)
 
--- src/lib.rt:99:9
 returns-2 : tie.Need-returns-2
 returns-2 c = argued-outside (length (now (c .before .before .before .before .before .args .file))) (headerRowOf (c .before .before .read-header .result)) (c .before .if1 .left) (c .if2 .taken) ∙ ap (argued (length (now (c .before .before .before .before .before .args .file)))) (c .before .before .read-header .ensures)
 
--- src/lib.rt:88:1
 returns-3 : tie.Need-returns-3
 returns-3 c = argued-by (length (now (c .before .before .before .before .before .args .file))) (headerRowOf (c .before .before .read-header .result)) (c .before .if1 .left) (c .if2 .left) ∙ ap (argued (length (now (c .before .before .before .before .before .args .file)))) (c .before .before .read-header .ensures)
 

@@ -5,31 +5,22 @@ use Rattle.statement.specs.Statement.{headerRowOf}
 use Rattle.headers.specs.Laws.{named-backwards, named-outside, named-by}
 use Rattle.headers.proofs.span_named.Statement.{statement}
 use Rattle.headers.proofs.span_named.Tie as tie
-use Rattle.headers.proofs.span_named.Reads as reads
-use Rattle.headers.proofs.span_named.Lts as lts
-use Rattle.kinds.proofs.same_word.Reads as same-word-reads
 
--- src/lib.rt:62:9
 returns : tie.Need-returns
 returns c = named-backwards (now (c .before .before .before .args .file)) (now (c .before .before .before .args .name)) (headerRowOf (c .before .before .before .args .w)) (c .if1 .taken)
 
--- src/lib.rt:65:9
 returns-2 : tie.Need-returns-2
 returns-2 c = named-outside (now (c .before .before .before .before .args .file)) (now (c .before .before .before .before .args .name)) (headerRowOf (c .before .before .before .before .args .w)) (c .before .if1 .left) (c .if2 .taken)
 
--- src/lib.rt:67:22
 part-same-word-start : tie.Need-part-same-word-start
 part-same-word-start c = search needs
 
--- src/lib.rt:67:22
 part-same-word-end : tie.Need-part-same-word-end
 part-same-word-end c = search needs
 
--- src/lib.rt:67:5
 same-word-requires : tie.Need-same-word-requires
 same-word-requires c κs = search needs
 
--- src/lib.rt:56:1
 returns-3 : tie.Need-returns-3
 returns-3 c = c .same-word .ensures ∙ named-by (now (c .before .before .before .before .before .before .args .file)) (now (c .before .before .before .before .before .before .args .name)) (headerRowOf (c .before .before .before .before .before .before .args .w)) (c .before .before .before .if1 .left) (c .before .before .if2 .left)
 

@@ -1,7 +1,7 @@
 -- `headings::row_at` meets its contract: a walk of its code. The slice is Copy: what it owns is had twice, one copy is kept for the exit, and the other is looked into.
 -- Assumes nothing.
-use mathlib.Core.Path.{_≡_, refl, sym}
-use Prim.Native.Nat.{ℕ, _<_, _^_, _*_, _+_}
+use mathlib.Core.Path.{refl, sym}
+use Prim.Native.Nat.{ℕ, _<_, _^_, _*_}
 use mathlib.Core.List.{List, [], _∷_}
 use native.Mathlib.Omega.{arith}
 use lib.ListN.{length}

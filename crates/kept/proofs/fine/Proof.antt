@@ -2,10 +2,7 @@
 use borrow.Author.Needs.{needs}
 use Rattle.kept.proofs.fine.Statement.{statement}
 use Rattle.kept.proofs.fine.Tie as tie
-use Rattle.kept.proofs.fine.Reads as reads
-use Rattle.kept.proofs.fine.Lts as lts
 
--- src/lib.rt:20:1
 returns : tie.Need-returns
 returns c = search needs
 

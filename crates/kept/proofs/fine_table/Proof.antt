@@ -1,18 +1,14 @@
 use native.Mathlib.Omega.{arith}
-use mathlib.Core.Path.{_≡_, refl, sym, _∙_, ap}
-use mathlib.Core.Bool.{Bool, true, false}
-use Prim.Native.Nat.{ℕ, _+_, _*_, _-_, _≤_}
+use mathlib.Core.Path.{_≡_, sym, _∙_, ap}
+use mathlib.Core.Bool.{true}
+use Prim.Native.Nat.{_-_, _≤_}
 use borrow.Author.Needs.{needs}
 use borrow.Author.Tests.{not-true, not-false}
 use denote.Ref.{now}
-use lib.ListN.{length, take, drop, getD}
 use Rattle.kept.specs.Kept.{fineAll}
 use Rattle.kept.specs.Laws.{fine-none, fine-more, fine-not}
 use Rattle.kept.proofs.fine_table.Statement.{statement}
 use Rattle.kept.proofs.fine_table.Tie as tie
-use Rattle.kept.proofs.fine_table.Reads as reads
-use Rattle.kept.proofs.fine_table.Lts as lts
-use Rattle.kept.proofs.fine.Reads as fine-reads
 
 abbrev Inv-loop : tie.InvT-loop
 Inv-loop len rows n k₀ k = (k ≤ n) × (fineAll len rows k ≡ true)
@@ -20,95 +16,72 @@ Inv-loop len rows n k₀ k = (k ≤ n) × (fineAll len rows k ≡ true)
 abbrev μ-loop : tie.MeasureT-loop
 μ-loop len rows n k₀ k = n - k
 
--- src/lib.rt:32:5
 loop-holds : tie.Need-loop-holds Inv-loop μ-loop
 loop-holds c = (omega arith, fine-none (c .before .args .len) (now (c .before .args .rows)))
 
--- src/lib.rt:33:18
 mul-at : tie.Need-mul-at Inv-loop μ-loop
 mul-at c = search needs
 
--- src/lib.rt:36:18
 add-fine : tie.Need-add-fine Inv-loop μ-loop
 add-fine c = search needs
 
--- src/lib.rt:36:13
 mul-fine : tie.Need-mul-fine Inv-loop μ-loop
 mul-fine c = search needs
 
--- src/lib.rt:36:13
 shared-slice-read-fine : tie.Need-shared-slice-read-fine Inv-loop μ-loop
 shared-slice-read-fine c = search needs
 
--- src/lib.rt:37:18
 add-fine-2 : tie.Need-add-fine-2 Inv-loop μ-loop
 add-fine-2 c = search needs
 
--- src/lib.rt:37:13
 mul-fine-2 : tie.Need-mul-fine-2 Inv-loop μ-loop
 mul-fine-2 c = search needs
 
--- src/lib.rt:37:13
 shared-slice-read-fine-2 : tie.Need-shared-slice-read-fine-2 Inv-loop μ-loop
 shared-slice-read-fine-2 c = search needs
 
--- src/lib.rt:38:18
 add-fine-3 : tie.Need-add-fine-3 Inv-loop μ-loop
 add-fine-3 c = search needs
 
--- src/lib.rt:38:13
 mul-fine-3 : tie.Need-mul-fine-3 Inv-loop μ-loop
 mul-fine-3 c = search needs
 
--- src/lib.rt:38:13
 shared-slice-read-fine-3 : tie.Need-shared-slice-read-fine-3 Inv-loop μ-loop
 shared-slice-read-fine-3 c = search needs
 
--- src/lib.rt:39:18
 add-fine-4 : tie.Need-add-fine-4 Inv-loop μ-loop
 add-fine-4 c = search needs
 
--- src/lib.rt:39:13
 mul-fine-4 : tie.Need-mul-fine-4 Inv-loop μ-loop
 mul-fine-4 c = search needs
 
--- src/lib.rt:39:13
 shared-slice-read-fine-4 : tie.Need-shared-slice-read-fine-4 Inv-loop μ-loop
 shared-slice-read-fine-4 c = search needs
 
--- src/lib.rt:40:18
 add-fine-5 : tie.Need-add-fine-5 Inv-loop μ-loop
 add-fine-5 c = search needs
 
--- src/lib.rt:40:13
 mul-fine-5 : tie.Need-mul-fine-5 Inv-loop μ-loop
 mul-fine-5 c = search needs
 
--- src/lib.rt:40:13
 shared-slice-read-fine-5 : tie.Need-shared-slice-read-fine-5 Inv-loop μ-loop
 shared-slice-read-fine-5 c = search needs
 
--- src/lib.rt:34:13
 fine-requires : tie.Need-fine-requires Inv-loop μ-loop
 fine-requires c κs = search needs
 
--- src/lib.rt:42:13
 returns : tie.Need-returns Inv-loop μ-loop
 returns c = sym (fine-not (c .before .before .before .before .before .before .before .before .before .before .args .len) (now (c .before .before .before .before .before .before .before .before .before .before .args .rows)) (c .before .before .before .before .before .before .before .before .loop .k) (c .before .before .before .before .before .before .before .before .before .before .args .n) (c .before .before .before .before .before .before .before .loop-test .taken) (sym (c .before .fine .ensures) ∙ not-true _ (c .if1 .taken)))
 
--- src/lib.rt:44:9
 add-k : tie.Need-add-k Inv-loop μ-loop
 add-k c = search needs
 
--- src/lib.rt:32:5
 loop-less : tie.Need-loop-less Inv-loop μ-loop
 loop-less c = search needs
 
--- src/lib.rt:32:5
 loop-again : tie.Need-loop-again Inv-loop μ-loop
 loop-again c = (omega arith, fine-more (c .before .before .before .before .before .before .before .before .before .before .args .len) (now (c .before .before .before .before .before .before .before .before .before .before .args .rows)) (c .before .before .before .before .before .before .before .before .loop .k) (c .before .before .before .before .before .before .before .before .loop .inv .1) (sym (c .before .fine .ensures) ∙ not-false _ (c .if1 .left)))
 
--- src/lib.rt:27:1
 returns-2 : tie.Need-returns-2 Inv-loop μ-loop
 returns-2 c =
     let e : c .before .loop .k ≡ c .before .before .before .args .n = omega arith in

@@ -3,83 +3,61 @@ use borrow.Author.Needs.{needs}
 use native.Mathlib.Omega.{arith}
 use Rattle.kept.proofs.number_at.Statement.{statement}
 use Rattle.kept.proofs.number_at.Tie as tie
-use Rattle.kept.proofs.number_at.Reads as reads
-use Rattle.kept.proofs.number_at.Lts as lts
-use Rattle.kept.proofs.wide.Reads as wide-reads
 
--- src/lib.rt:61:14
 mul-at : tie.Need-mul-at
 mul-at c = search needs
 
--- src/lib.rt:62:18
 shared-slice-read-wide : tie.Need-shared-slice-read-wide
 shared-slice-read-wide c = search needs
 
--- src/lib.rt:62:9
 wide-requires : tie.Need-wide-requires
 wide-requires c κs = search needs
 
--- src/lib.rt:63:24
 add-wide : tie.Need-add-wide
 add-wide c = search needs
 
--- src/lib.rt:63:18
 shared-slice-read-wide-2 : tie.Need-shared-slice-read-wide-2
 shared-slice-read-wide-2 c = search needs
 
--- src/lib.rt:63:9
 wide-requires-2 : tie.Need-wide-requires-2
 wide-requires-2 c κs = search needs
 
--- src/lib.rt:64:24
 add-wide-2 : tie.Need-add-wide-2
 add-wide-2 c = search needs
 
--- src/lib.rt:64:18
 shared-slice-read-wide-3 : tie.Need-shared-slice-read-wide-3
 shared-slice-read-wide-3 c = search needs
 
--- src/lib.rt:64:9
 wide-requires-3 : tie.Need-wide-requires-3
 wide-requires-3 c κs = search needs
 
--- src/lib.rt:65:24
 add-wide-3 : tie.Need-add-wide-3
 add-wide-3 c = search needs
 
--- src/lib.rt:65:18
 shared-slice-read-wide-4 : tie.Need-shared-slice-read-wide-4
 shared-slice-read-wide-4 c = search needs
 
--- src/lib.rt:65:9
 wide-requires-4 : tie.Need-wide-requires-4
 wide-requires-4 c κs = search needs
 
--- src/lib.rt:66:9
 mul-result : tie.Need-mul-result
 mul-result c = search needs
 
--- src/lib.rt:66:5
 add-result : tie.Need-add-result
 add-result c = search needs
 
--- src/lib.rt:66:19
 mul-result-2 : tie.Need-mul-result-2
 mul-result-2 c = search needs
 
--- src/lib.rt:66:5
 add-result-2 : tie.Need-add-result-2
 add-result-2 c = search needs
 
--- src/lib.rt:66:31
 mul-result-3 : tie.Need-mul-result-3
 mul-result-3 c = search needs
 
--- src/lib.rt:66:5
 add-result-3 : tie.Need-add-result-3
 add-result-3 c = search needs
 
--- src/lib.rt:57:1
 returns : tie.Need-returns
 returns c = omega arith
 

@@ -1,60 +1,46 @@
 use borrow.Author.Needs.{needs}
 use native.Mathlib.Omega.{arith}
-use mathlib.Core.Path.{_≡_, refl, sym, _∙_, ap}
-use mathlib.Core.Bool.{Bool, true, false}
-use Prim.Native.Nat.{ℕ, _+_, _*_, _-_, _≤_}
+use mathlib.Core.Path.{sym, _∙_, ap}
+use Prim.Native.Nat.{ℕ, _-_}
 use borrow.Author.Tests.{not-true, not-false}
 use denote.Ref.{now}
-use lib.ListN.{length, take, drop, getD}
+use lib.ListN.{length}
 use Rattle.error.specs.Refusal.{Told}
 use Rattle.kept.specs.Kept.{readAfter}
 use Rattle.kept.specs.Laws.{read-over, read-nine, read-short, read-good}
 use Rattle.kept.proofs.read_rows.Statement.{statement}
 use Rattle.kept.proofs.read_rows.Tie as tie
-use Rattle.kept.proofs.read_rows.Reads as reads
-use Rattle.kept.proofs.read_rows.Lts as lts
-use Rattle.kept.proofs.fine_bytes.Reads as fine-bytes-reads
-use Rattle.kept.proofs.get_numbers.Reads as get-numbers-reads
 
--- src/lib.rt:159:9
 returns : tie.Need-returns
 returns c =
     let e = read-over (c .before .before .before .args .len) (now (c .before .before .before .args .bytes)) (length (now (c .before .before .before .args .rows))) (λ e. c .if1 .taken (omega arith)) in
     (sym e, sym (ap (λ (t : Told ℕ). readAfter (now (c .before .before .before .args .bytes)) t (now (c .before .before .before .args .rows))) e))
 
--- src/lib.rt:162:9
 fine-bytes-requires : tie.Need-fine-bytes-requires
 fine-bytes-requires c κs = search needs
 
--- src/lib.rt:163:9
 returns-2 : tie.Need-returns-2
 returns-2 c =
     let e = read-nine (c .before .before .before .before .before .args .len) (now (c .before .before .before .before .before .args .bytes)) (length (now (c .before .before .before .before .before .args .rows))) (c .before .before .if1 .left) (sym (c .before .fine-bytes .ensures) ∙ not-true _ (c .if2 .taken)) in
     (sym e, sym (ap (λ (t : Told ℕ). readAfter (now (c .before .before .before .before .before .args .bytes)) t (now (c .before .before .before .before .before .args .rows))) e))
 
--- src/lib.rt:165:21
 mul-if3 : tie.Need-mul-if3
 mul-if3 c = search needs
 
--- src/lib.rt:166:9
 returns-3 : tie.Need-returns-3
 returns-3 c =
     let e = read-short (c .before .before .before .before .before .before .args .len) (now (c .before .before .before .before .before .before .args .bytes)) (length (now (c .before .before .before .before .before .before .args .rows))) (c .before .before .before .if1 .left) (sym (c .before .before .fine-bytes .ensures) ∙ not-false _ (c .before .if2 .left)) (c .if3 .taken) in
     (sym e, sym (ap (λ (t : Told ℕ). readAfter (now (c .before .before .before .before .before .before .args .bytes)) t (now (c .before .before .before .before .before .before .args .rows))) e))
 
--- src/lib.rt:168:24
 mul-get-numbers : tie.Need-mul-get-numbers
 mul-get-numbers c = search needs
 
--- src/lib.rt:168:5
 get-numbers-requires : tie.Need-get-numbers-requires
 get-numbers-requires c κs = search needs
 
--- src/lib.rt:154:1
 same-length : tie.Need-same-length
 same-length c = search needs
 
--- src/lib.rt:154:1
 returns-4 : tie.Need-returns-4
 returns-4 c =
     let e = read-good (c .before .before .before .before .before .before .before .before .before .before .args .len) (now (c .before .before .before .before .before .before .before .before .before .before .args .bytes)) (length (now (c .before .before .before .before .before .before .before .before .before .before .args .rows))) (c .before .before .before .before .before .before .before .if1 .left) (sym (c .before .before .before .before .before .before .fine-bytes .ensures) ∙ not-false _ (c .before .before .before .before .before .if2 .left)) (c .before .before .before .before .if3 .left) in

@@ -7,60 +7,43 @@ use Rattle.kinds.specs.Name.{nameIn, nameAfter, part-at}
 use borrow.Author.Needs.{needs}
 use Rattle.kinds.proofs.as_str.Statement.{statement}
 use Rattle.kinds.proofs.as_str.Tie as tie
-use Rattle.kinds.proofs.as_str.Reads as reads
-use Rattle.kinds.proofs.as_str.Lts as lts
-use Rattle.kinds.proofs.put_name.Reads as put-name-reads
-use Rattle.kinds.proofs.rank.Reads as rank-reads
 
--- src/lib.rt:146:15
 rank-requires : tie.Need-rank-requires
 rank-requires c κs = search needs
 
--- src/lib.rt:146:15
 cast-row : tie.Need-cast-row
 cast-row c = search needs
 
--- src/lib.rt:147:13
 mul-a : tie.Need-mul-a
 mul-a c = search needs
 
--- src/lib.rt:147:13
 array-read-a : tie.Need-array-read-a
 array-read-a c = let p = part-at (c .before .before .args .k) (c .rank .result) (c .rank .ensures) in omega (arith, p .row)
 
--- src/lib.rt:148:20
 add-e : tie.Need-add-e
 add-e c = search needs
 
--- src/lib.rt:148:13
 mul-e : tie.Need-mul-e
 mul-e c = search needs
 
--- src/lib.rt:148:13
 array-read-e : tie.Need-array-read-e
 array-read-e c = let p = part-at (c .before .before .args .k) (c .rank .result) (c .rank .ensures) in omega (arith, p .row)
 
--- src/lib.rt:149:19
 sub-put-name : tie.Need-sub-put-name
 sub-put-name c = part-at (c .before .before .before .args .k) (c .before .rank .result) (c .before .rank .ensures) .order
 
--- src/lib.rt:149:19
 part-put-name-start : tie.Need-part-put-name-start
 part-put-name-start c = part-at (c .before .before .before .before .args .k) (c .before .before .rank .result) (c .before .before .rank .ensures) .order
 
--- src/lib.rt:149:19
 part-put-name-end : tie.Need-part-put-name-end
 part-put-name-end c = part-at (c .before .before .before .before .args .k) (c .before .before .rank .result) (c .before .before .rank .ensures) .inside
 
--- src/lib.rt:149:5
 put-name-requires : tie.Need-put-name-requires
 put-name-requires c κs = search needs
 
--- src/lib.rt:140:1
 same-length : tie.Need-same-length
 same-length c = search needs
 
--- src/lib.rt:140:1
 returns : tie.Need-returns
 returns c = let e = part-at (c .before .before .before .before .before .before .before .before .args .k) (c .before .before .before .before .before .before .rank .result) (c .before .before .before .before .before .before .rank .ensures) .named in
     let out = now (c .before .before .before .before .before .before .before .before .args .out) in

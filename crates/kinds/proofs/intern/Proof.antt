@@ -3,141 +3,107 @@ use mathlib.Core.Path.{_∙_, sym, refl}
 use Rattle.kinds.specs.Kind.{kindOf}
 use Rattle.kinds.proofs.intern.Statement.{statement}
 use Rattle.kinds.proofs.intern.Tie as tie
-use Rattle.kinds.proofs.intern.Reads as reads
-use Rattle.kinds.proofs.intern.Lts as lts
-use Rattle.record.proofs.is_word.Reads as is-word-reads
 
--- src/lib.rt:30:28
 slice-aggregate-is-word : tie.Need-slice-aggregate-is-word
 slice-aggregate-is-word c = search needs
 
--- src/lib.rt:30:8
 is-word-requires : tie.Need-is-word-requires
 is-word-requires c κs = search needs
 
--- src/lib.rt:31:9
 returns : tie.Need-returns
 unfolding kindOf
 returns c = rw (sym (c .before .is-word .ensures) ∙ c .if1 .taken) refl
 
--- src/lib.rt:33:28
 slice-aggregate-is-word-2 : tie.Need-slice-aggregate-is-word-2
 slice-aggregate-is-word-2 c = search needs
 
--- src/lib.rt:33:8
 is-word-requires-2 : tie.Need-is-word-requires-2
 is-word-requires-2 c κs = search needs
 
--- src/lib.rt:34:9
 returns-2 : tie.Need-returns-2
 unfolding kindOf
 returns-2 c = rw (sym (c .before .before .before .before .is-word .ensures) ∙ c .before .before .before .if1 .left, sym (c .before .is-word2 .ensures) ∙ c .if2 .taken) refl
 
--- src/lib.rt:36:28
 slice-aggregate-is-word-3 : tie.Need-slice-aggregate-is-word-3
 slice-aggregate-is-word-3 c = search needs
 
--- src/lib.rt:36:8
 is-word-requires-3 : tie.Need-is-word-requires-3
 is-word-requires-3 c κs = search needs
 
--- src/lib.rt:37:9
 returns-3 : tie.Need-returns-3
 unfolding kindOf
 returns-3 c = rw (sym (c .before .before .before .before .before .before .before .is-word .ensures) ∙ c .before .before .before .before .before .before .if1 .left, sym (c .before .before .before .before .is-word2 .ensures) ∙ c .before .before .before .if2 .left, sym (c .before .is-word3 .ensures) ∙ c .if3 .taken) refl
 
--- src/lib.rt:39:28
 slice-aggregate-is-word-4 : tie.Need-slice-aggregate-is-word-4
 slice-aggregate-is-word-4 c = search needs
 
--- src/lib.rt:39:8
 is-word-requires-4 : tie.Need-is-word-requires-4
 is-word-requires-4 c κs = search needs
 
--- src/lib.rt:40:9
 returns-4 : tie.Need-returns-4
 unfolding kindOf
 returns-4 c = rw (sym (c .before .before .before .before .before .before .before .before .before .before .is-word .ensures) ∙ c .before .before .before .before .before .before .before .before .before .if1 .left, sym (c .before .before .before .before .before .before .before .is-word2 .ensures) ∙ c .before .before .before .before .before .before .if2 .left, sym (c .before .before .before .before .is-word3 .ensures) ∙ c .before .before .before .if3 .left, sym (c .before .is-word4 .ensures) ∙ c .if4 .taken) refl
 
--- src/lib.rt:42:28
 slice-aggregate-is-word-5 : tie.Need-slice-aggregate-is-word-5
 slice-aggregate-is-word-5 c = search needs
 
--- src/lib.rt:42:8
 is-word-requires-5 : tie.Need-is-word-requires-5
 is-word-requires-5 c κs = search needs
 
--- src/lib.rt:43:9
 returns-5 : tie.Need-returns-5
 unfolding kindOf
 returns-5 c = rw (sym (c .before .before .before .before .before .before .before .before .before .before .before .before .before .is-word .ensures) ∙ c .before .before .before .before .before .before .before .before .before .before .before .before .if1 .left, sym (c .before .before .before .before .before .before .before .before .before .before .is-word2 .ensures) ∙ c .before .before .before .before .before .before .before .before .before .if2 .left, sym (c .before .before .before .before .before .before .before .is-word3 .ensures) ∙ c .before .before .before .before .before .before .if3 .left, sym (c .before .before .before .before .is-word4 .ensures) ∙ c .before .before .before .if4 .left, sym (c .before .is-word5 .ensures) ∙ c .if5 .taken) refl
 
--- src/lib.rt:45:28
 slice-aggregate-is-word-6 : tie.Need-slice-aggregate-is-word-6
 slice-aggregate-is-word-6 c = search needs
 
--- src/lib.rt:45:8
 is-word-requires-6 : tie.Need-is-word-requires-6
 is-word-requires-6 c κs = search needs
 
--- src/lib.rt:46:9
 returns-6 : tie.Need-returns-6
 unfolding kindOf
 returns-6 c = rw (sym (c .before .before .before .before .before .before .before .before .before .before .before .before .before .before .before .before .is-word .ensures) ∙ c .before .before .before .before .before .before .before .before .before .before .before .before .before .before .before .if1 .left, sym (c .before .before .before .before .before .before .before .before .before .before .before .before .before .is-word2 .ensures) ∙ c .before .before .before .before .before .before .before .before .before .before .before .before .if2 .left, sym (c .before .before .before .before .before .before .before .before .before .before .is-word3 .ensures) ∙ c .before .before .before .before .before .before .before .before .before .if3 .left, sym (c .before .before .before .before .before .before .before .is-word4 .ensures) ∙ c .before .before .before .before .before .before .if4 .left, sym (c .before .before .before .before .is-word5 .ensures) ∙ c .before .before .before .if5 .left, sym (c .before .is-word6 .ensures) ∙ c .if6 .taken) refl
 
--- src/lib.rt:48:28
 slice-aggregate-is-word-7 : tie.Need-slice-aggregate-is-word-7
 slice-aggregate-is-word-7 c = search needs
 
--- src/lib.rt:48:8
 is-word-requires-7 : tie.Need-is-word-requires-7
 is-word-requires-7 c κs = search needs
 
--- src/lib.rt:49:9
 returns-7 : tie.Need-returns-7
 unfolding kindOf
 returns-7 c = rw (sym (c .before .before .before .before .before .before .before .before .before .before .before .before .before .before .before .before .before .before .before .is-word .ensures) ∙ c .before .before .before .before .before .before .before .before .before .before .before .before .before .before .before .before .before .before .if1 .left, sym (c .before .before .before .before .before .before .before .before .before .before .before .before .before .before .before .before .is-word2 .ensures) ∙ c .before .before .before .before .before .before .before .before .before .before .before .before .before .before .before .if2 .left, sym (c .before .before .before .before .before .before .before .before .before .before .before .before .before .is-word3 .ensures) ∙ c .before .before .before .before .before .before .before .before .before .before .before .before .if3 .left, sym (c .before .before .before .before .before .before .before .before .before .before .is-word4 .ensures) ∙ c .before .before .before .before .before .before .before .before .before .if4 .left, sym (c .before .before .before .before .before .before .before .is-word5 .ensures) ∙ c .before .before .before .before .before .before .if5 .left, sym (c .before .before .before .before .is-word6 .ensures) ∙ c .before .before .before .if6 .left, sym (c .before .is-word7 .ensures) ∙ c .if7 .taken) refl
 
--- src/lib.rt:51:28
 slice-aggregate-is-word-8 : tie.Need-slice-aggregate-is-word-8
 slice-aggregate-is-word-8 c = search needs
 
--- src/lib.rt:51:8
 is-word-requires-8 : tie.Need-is-word-requires-8
 is-word-requires-8 c κs = search needs
 
--- src/lib.rt:52:9
 returns-8 : tie.Need-returns-8
 unfolding kindOf
 returns-8 c = rw (sym (c .before .before .before .before .before .before .before .before .before .before .before .before .before .before .before .before .before .before .before .before .before .before .is-word .ensures) ∙ c .before .before .before .before .before .before .before .before .before .before .before .before .before .before .before .before .before .before .before .before .before .if1 .left, sym (c .before .before .before .before .before .before .before .before .before .before .before .before .before .before .before .before .before .before .before .is-word2 .ensures) ∙ c .before .before .before .before .before .before .before .before .before .before .before .before .before .before .before .before .before .before .if2 .left, sym (c .before .before .before .before .before .before .before .before .before .before .before .before .before .before .before .before .is-word3 .ensures) ∙ c .before .before .before .before .before .before .before .before .before .before .before .before .before .before .before .if3 .left, sym (c .before .before .before .before .before .before .before .before .before .before .before .before .before .is-word4 .ensures) ∙ c .before .before .before .before .before .before .before .before .before .before .before .before .if4 .left, sym (c .before .before .before .before .before .before .before .before .before .before .is-word5 .ensures) ∙ c .before .before .before .before .before .before .before .before .before .if5 .left, sym (c .before .before .before .before .before .before .before .is-word6 .ensures) ∙ c .before .before .before .before .before .before .if6 .left, sym (c .before .before .before .before .is-word7 .ensures) ∙ c .before .before .before .if7 .left, sym (c .before .is-word8 .ensures) ∙ c .if8 .taken) refl
 
--- src/lib.rt:54:28
 slice-aggregate-is-word-9 : tie.Need-slice-aggregate-is-word-9
 slice-aggregate-is-word-9 c = search needs
 
--- src/lib.rt:54:8
 is-word-requires-9 : tie.Need-is-word-requires-9
 is-word-requires-9 c κs = search needs
 
--- src/lib.rt:55:9
 returns-9 : tie.Need-returns-9
 unfolding kindOf
 returns-9 c = rw (sym (c .before .before .before .before .before .before .before .before .before .before .before .before .before .before .before .before .before .before .before .before .before .before .before .before .before .is-word .ensures) ∙ c .before .before .before .before .before .before .before .before .before .before .before .before .before .before .before .before .before .before .before .before .before .before .before .before .if1 .left, sym (c .before .before .before .before .before .before .before .before .before .before .before .before .before .before .before .before .before .before .before .before .before .before .is-word2 .ensures) ∙ c .before .before .before .before .before .before .before .before .before .before .before .before .before .before .before .before .before .before .before .before .before .if2 .left, sym (c .before .before .before .before .before .before .before .before .before .before .before .before .before .before .before .before .before .before .before .is-word3 .ensures) ∙ c .before .before .before .before .before .before .before .before .before .before .before .before .before .before .before .before .before .before .if3 .left, sym (c .before .before .before .before .before .before .before .before .before .before .before .before .before .before .before .before .is-word4 .ensures) ∙ c .before .before .before .before .before .before .before .before .before .before .before .before .before .before .before .if4 .left, sym (c .before .before .before .before .before .before .before .before .before .before .before .before .before .is-word5 .ensures) ∙ c .before .before .before .before .before .before .before .before .before .before .before .before .if5 .left, sym (c .before .before .before .before .before .before .before .before .before .before .is-word6 .ensures) ∙ c .before .before .before .before .before .before .before .before .before .if6 .left, sym (c .before .before .before .before .before .before .before .is-word7 .ensures) ∙ c .before .before .before .before .before .before .if7 .left, sym (c .before .before .before .before .is-word8 .ensures) ∙ c .before .before .before .if8 .left, sym (c .before .is-word9 .ensures) ∙ c .if9 .taken) refl
 
--- src/lib.rt:57:28
 slice-aggregate-is-word-10 : tie.Need-slice-aggregate-is-word-10
 slice-aggregate-is-word-10 c = search needs
 
--- src/lib.rt:57:8
 is-word-requires-10 : tie.Need-is-word-requires-10
 is-word-requires-10 c κs = search needs
 
--- src/lib.rt:58:9
 returns-10 : tie.Need-returns-10
 unfolding kindOf
 returns-10 c = rw (sym (c .before .before .before .before .before .before .before .before .before .before .before .before .before .before .before .before .before .before .before .before .before .before .before .before .before .before .before .before .is-word .ensures) ∙ c .before .before .before .before .before .before .before .before .before .before .before .before .before .before .before .before .before .before .before .before .before .before .before .before .before .before .before .if1 .left, sym (c .before .before .before .before .before .before .before .before .before .before .before .before .before .before .before .before .before .before .before .before .before .before .before .before .before .is-word2 .ensures) ∙ c .before .before .before .before .before .before .before .before .before .before .before .before .before .before .before .before .before .before .before .before .before .before .before .before .if2 .left, sym (c .before .before .before .before .before .before .before .before .before .before .before .before .before .before .before .before .before .before .before .before .before .before .is-word3 .ensures) ∙ c .before .before .before .before .before .before .before .before .before .before .before .before .before .before .before .before .before .before .before .before .before .if3 .left, sym (c .before .before .before .before .before .before .before .before .before .before .before .before .before .before .before .before .before .before .before .is-word4 .ensures) ∙ c .before .before .before .before .before .before .before .before .before .before .before .before .before .before .before .before .before .before .if4 .left, sym (c .before .before .before .before .before .before .before .before .before .before .before .before .before .before .before .before .is-word5 .ensures) ∙ c .before .before .before .before .before .before .before .before .before .before .before .before .before .before .before .if5 .left, sym (c .before .before .before .before .before .before .before .before .before .before .before .before .before .is-word6 .ensures) ∙ c .before .before .before .before .before .before .before .before .before .before .before .before .if6 .left, sym (c .before .before .before .before .before .before .before .before .before .before .is-word7 .ensures) ∙ c .before .before .before .before .before .before .before .before .before .if7 .left, sym (c .before .before .before .before .before .before .before .is-word8 .ensures) ∙ c .before .before .before .before .before .before .if8 .left, sym (c .before .before .before .before .is-word9 .ensures) ∙ c .before .before .before .if9 .left, sym (c .before .is-word10 .ensures) ∙ c .if10 .taken) refl
 
--- src/lib.rt:27:1
 returns-11 : tie.Need-returns-11
 unfolding kindOf
 returns-11 c = rw (sym (c .before .before .before .before .before .before .before .before .before .before .before .before .before .before .before .before .before .before .before .before .before .before .before .before .before .before .before .before .is-word .ensures) ∙ c .before .before .before .before .before .before .before .before .before .before .before .before .before .before .before .before .before .before .before .before .before .before .before .before .before .before .before .if1 .left, sym (c .before .before .before .before .before .before .before .before .before .before .before .before .before .before .before .before .before .before .before .before .before .before .before .before .before .is-word2 .ensures) ∙ c .before .before .before .before .before .before .before .before .before .before .before .before .before .before .before .before .before .before .before .before .before .before .before .before .if2 .left, sym (c .before .before .before .before .before .before .before .before .before .before .before .before .before .before .before .before .before .before .before .before .before .before .is-word3 .ensures) ∙ c .before .before .before .before .before .before .before .before .before .before .before .before .before .before .before .before .before .before .before .before .before .if3 .left, sym (c .before .before .before .before .before .before .before .before .before .before .before .before .before .before .before .before .before .before .before .is-word4 .ensures) ∙ c .before .before .before .before .before .before .before .before .before .before .before .before .before .before .before .before .before .before .if4 .left, sym (c .before .before .before .before .before .before .before .before .before .before .before .before .before .before .before .before .is-word5 .ensures) ∙ c .before .before .before .before .before .before .before .before .before .before .before .before .before .before .before .if5 .left, sym (c .before .before .before .before .before .before .before .before .before .before .before .before .before .is-word6 .ensures) ∙ c .before .before .before .before .before .before .before .before .before .before .before .before .if6 .left, sym (c .before .before .before .before .before .before .before .before .before .before .is-word7 .ensures) ∙ c .before .before .before .before .before .before .before .before .before .if7 .left, sym (c .before .before .before .before .before .before .before .is-word8 .ensures) ∙ c .before .before .before .before .before .before .if8 .left, sym (c .before .before .before .before .is-word9 .ensures) ∙ c .before .before .before .if9 .left, sym (c .before .is-word10 .ensures) ∙ c .if10 .left) refl

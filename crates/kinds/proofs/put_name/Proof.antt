@@ -9,8 +9,6 @@ use lib.ListN.{length, getD, take, drop, set, length-set}
 use Rattle.kinds.specs.Name.{name-next, name-done}
 use Rattle.kinds.proofs.put_name.Statement.{statement}
 use Rattle.kinds.proofs.put_name.Tie as tie
-use Rattle.kinds.proofs.put_name.Reads as reads
-use Rattle.kinds.proofs.put_name.Lts as lts
 
 abbrev Inv-loop : tie.InvT-loop
 Inv-loop out₀ name i₀ out i = (out ≡ take i name ++ drop i out₀) × (i ≤ length name) × (length out ≡ length out₀)
@@ -18,41 +16,32 @@ Inv-loop out₀ name i₀ out i = (out ≡ take i name ++ drop i out₀) × (i �
 abbrev μ-loop : tie.MeasureT-loop
 μ-loop out₀ name i₀ out i = length name - i
 
--- src/lib.rt:129:9
 returns : tie.Need-returns Inv-loop μ-loop
 returns c = (rw (lt-leb _ _ (c .if1 .taken)) refl, rw (lt-leb _ _ (c .if1 .taken)) refl)
 
--- src/lib.rt:132:5
 loop-holds : tie.Need-loop-holds Inv-loop μ-loop
 loop-holds c = (refl, omega arith, refl)
 
--- src/lib.rt:133:18
 shared-slice-read-out : tie.Need-shared-slice-read-out Inv-loop μ-loop
 shared-slice-read-out c = search needs
 
--- src/lib.rt:133:9
 slice-write-out : tie.Need-slice-write-out Inv-loop μ-loop
 slice-write-out c = omega arith
 
--- src/lib.rt:134:9
 add-i : tie.Need-add-i Inv-loop μ-loop
 add-i c = search needs
 
--- src/lib.rt:132:5
 loop-less : tie.Need-loop-less Inv-loop μ-loop
 loop-less c = omega arith
 
--- src/lib.rt:132:5
 loop-again : tie.Need-loop-again Inv-loop μ-loop
 loop-again c = let l = c .before .before .loop in
     let a = c .before .before .before .before .args in
     (ap (λ (z : List ℕ). set z (l .i) (getD (now (a .name)) (l .i) 0)) (l .inv .0) ∙ name-next (now (a .name)) (a .out .now) (l .i) (omega arith) (omega arith), omega arith, length-set (l .out) (l .i) (getD (now (a .name)) (l .i) 0) ∙ l .inv .2)
 
--- src/lib.rt:124:1
 same-length : tie.Need-same-length Inv-loop μ-loop
 same-length c = search needs
 
--- src/lib.rt:124:1
 returns-2 : tie.Need-returns-2 Inv-loop μ-loop
 returns-2 c = let l = c .before .loop in
     let a = c .before .before .before .args in

@@ -1,23 +1,15 @@
 use borrow.Author.Needs.{needs}
-use mathlib.Core.Path.{_∙_, sym, refl}
-use Prim.Native.Nat.{ℕ}
 use mathlib.Core.Path.{ap₂}
 use lib.Dec.{eqb}
 use Rattle.kinds.proofs.same_kind.Statement.{statement}
 use Rattle.kinds.proofs.same_kind.Tie as tie
-use Rattle.kinds.proofs.same_kind.Reads as reads
-use Rattle.kinds.proofs.same_kind.Lts as lts
-use Rattle.kinds.proofs.rank.Reads as rank-reads
 
--- src/lib.rt:87:5
 rank-requires : tie.Need-rank-requires
 rank-requires c κs = search needs
 
--- src/lib.rt:87:16
 rank-requires-2 : tie.Need-rank-requires-2
 rank-requires-2 c κs = search needs
 
--- src/lib.rt:84:1
 returns : tie.Need-returns
 returns c = ap₂ eqb (c .before .rank .ensures) (c .rank2 .ensures)
 

@@ -2,19 +2,16 @@ use Rattle.lex.specs.Walk.{drop-end}
 use Rattle.record.specs.Turns.{same-lengths}
 use Rattle.record.specs.Word.{same, upper}
 use Rattle.kinds.specs.Words.{both-stops, both-goes}
-use lib.ListN.{length, drop, getD, length-map}
+use lib.ListN.{length, drop, length-map}
 use denote.Ref.{now}
 use borrow.Author.Tests.{eq-eqb, ne-eqb}
 use borrow.Author.Needs.{needs}
 use native.Mathlib.Omega.{arith}
 use mathlib.Core.List.{map}
-use mathlib.Core.Path.{_≡_, ap, sym, refl, _∙_}
-use Prim.Native.Nat.{ℕ, _+_, _-_, _≤_}
+use mathlib.Core.Path.{_≡_, sym, refl, _∙_}
+use Prim.Native.Nat.{_-_, _≤_}
 use Rattle.kinds.proofs.same_word.Statement.{statement}
 use Rattle.kinds.proofs.same_word.Tie as tie
-use Rattle.kinds.proofs.same_word.Reads as reads
-use Rattle.kinds.proofs.same_word.Lts as lts
-use Rattle.record.proofs.upper_of.Reads as upper-of-reads
 
 abbrev Inv-loop : tie.InvT-loop
 Inv-loop t w i₀ i = (i ≤ length t) × (same (map upper (drop i t)) (map upper (drop i w)) ≡ same (map upper t) (map upper w))
@@ -22,52 +19,41 @@ Inv-loop t w i₀ i = (i ≤ length t) × (same (map upper (drop i t)) (map uppe
 abbrev μ-loop : tie.MeasureT-loop
 μ-loop t w i₀ i = length t - i
 
--- src/lib.rt:102:9
 returns : tie.Need-returns Inv-loop μ-loop
 returns c =
     let t = now (c .before .before .before .args .t) in
     let w = now (c .before .before .before .args .w) in
     sym (same-lengths (map upper t) (map upper w) (λ e. c .if1 .taken (sym (length-map t upper) ∙ e ∙ length-map w upper)))
 
--- src/lib.rt:105:5
 loop-holds : tie.Need-loop-holds Inv-loop μ-loop
 loop-holds c = (omega arith, refl)
 
--- src/lib.rt:106:20
 shared-slice-read-upper-of : tie.Need-shared-slice-read-upper-of Inv-loop μ-loop
 shared-slice-read-upper-of c = search needs
 
--- src/lib.rt:106:12
 upper-of-requires : tie.Need-upper-of-requires Inv-loop μ-loop
 upper-of-requires c κs = search needs
 
--- src/lib.rt:106:37
 shared-slice-read-upper-of-2 : tie.Need-shared-slice-read-upper-of-2 Inv-loop μ-loop
 shared-slice-read-upper-of-2 c = search needs
 
--- src/lib.rt:106:29
 upper-of-requires-2 : tie.Need-upper-of-requires-2 Inv-loop μ-loop
 upper-of-requires-2 c κs = search needs
 
--- src/lib.rt:107:13
 returns-2 : tie.Need-returns-2 Inv-loop μ-loop
 returns-2 c =
     both-stops (now (c .before .before .before .before .before .before .before .before .before .before .args .t)) (now (c .before .before .before .before .before .before .before .before .before .before .args .w)) (c .before .before .before .before .before .before .loop .i) _ (omega arith) (omega arith) (ne-eqb _ _ (λ e. c .if2 .taken (c .before .before .before .upper-of .ensures ∙ e ∙ sym (c .before .upper-of2 .ensures)))) (c .before .before .before .before .before .before .loop .inv .1)
 
--- src/lib.rt:109:9
 add-i : tie.Need-add-i Inv-loop μ-loop
 add-i c = search needs
 
--- src/lib.rt:105:5
 loop-less : tie.Need-loop-less Inv-loop μ-loop
 loop-less c = search needs
 
--- src/lib.rt:105:5
 loop-again : tie.Need-loop-again Inv-loop μ-loop
 loop-again c =
     (omega arith, both-goes (now (c .before .before .before .before .before .before .before .before .before .before .args .t)) (now (c .before .before .before .before .before .before .before .before .before .before .args .w)) (c .before .before .before .before .before .before .loop .i) _ (omega arith) (omega arith) (eq-eqb _ _ (sym (c .before .before .before .upper-of .ensures) ∙ c .if2 .left ∙ c .before .upper-of2 .ensures)) (c .before .before .before .before .before .before .loop .inv .1))
 
--- src/lib.rt:98:1
 returns-3 : tie.Need-returns-3 Inv-loop μ-loop
 unfolding same
 returns-3 c =

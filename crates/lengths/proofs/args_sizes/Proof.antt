@@ -6,11 +6,6 @@ use Rattle.lengths.specs.Lengths.{both, argsFrom, argsOf}
 use Rattle.lengths.specs.Laws.{args-more, args-over, args-none, nothing-both}
 use Rattle.lengths.proofs.args_sizes.Statement.{statement}
 use Rattle.lengths.proofs.args_sizes.Tie as tie
-use Rattle.lengths.proofs.args_sizes.Reads as reads
-use Rattle.lengths.proofs.args_sizes.Lts as lts
-use Rattle.lengths.proofs.larger_each.Reads as larger-each-reads
-use Rattle.lengths.proofs.sizes_of.Reads as sizes-of-reads
-use Rattle.params.proofs.param_span.Reads as param-span-reads
 
 abbrev Inv-loop : tie.InvT-loop
 Inv-loop s place end at₀ most₀ left₀ at most left = both most (argsFrom left s at end) ≡ argsOf s place end
@@ -18,60 +13,46 @@ Inv-loop s place end at₀ most₀ left₀ at most left = both most (argsFrom le
 abbrev μ-loop : tie.MeasureT-loop
 μ-loop s place end at₀ most₀ left₀ at most left = left
 
--- src/lib.rt:39:5
 loop-holds : tie.Need-loop-holds Inv-loop μ-loop
 loop-holds c = nothing-both _
 
--- src/lib.rt:40:15
 param-span-requires : tie.Need-param-span-requires Inv-loop μ-loop
 param-span-requires c κs = search needs
 
--- src/lib.rt:41:35
 enum-told : tie.Need-enum-told Inv-loop μ-loop
 enum-told c = search needs
 
--- src/lib.rt:41:35
 returns : tie.Need-returns Inv-loop μ-loop
 returns c = args-over _ _ _ _ _ _ _ _ _ (c .before .before .before .before .loop .inv) (sym (ap toldCut (c .enum-told .given .1)) ∙ c .before .before .param-span .ensures .0)
 
--- src/lib.rt:42:23
 enum-known-a : tie.Need-enum-known-a Inv-loop μ-loop
 enum-known-a c = search needs
 
--- src/lib.rt:43:48
 sub-sizes-of : tie.Need-sub-sizes-of Inv-loop μ-loop
 sub-sizes-of c = let w = rw (c .before .a .given .1) at (c .before .before .before .param-span .ensures .1) in omega arith
 
--- src/lib.rt:43:48
 part-sizes-of-start : tie.Need-part-sizes-of-start Inv-loop μ-loop
 part-sizes-of-start c = let w = rw (c .before .a .given .1) at (c .before .before .before .param-span .ensures .1) in omega arith
 
--- src/lib.rt:43:48
 part-sizes-of-end : tie.Need-part-sizes-of-end Inv-loop μ-loop
 part-sizes-of-end c = let w = rw (c .before .a .given .1) at (c .before .before .before .param-span .ensures .1) in omega arith
 
--- src/lib.rt:43:37
 sizes-of-requires : tie.Need-sizes-of-requires Inv-loop μ-loop
 sizes-of-requires c κs = search needs
 
--- src/lib.rt:43:17
 larger-each-requires : tie.Need-larger-each-requires Inv-loop μ-loop
 larger-each-requires c κs = search needs
 
--- src/lib.rt:47:9
 sub-left : tie.Need-sub-left Inv-loop μ-loop
 sub-left c = omega (arith, c .before .before .before .before .before .before .before .loop-test .taken)
 
--- src/lib.rt:39:5
 loop-less : tie.Need-loop-less Inv-loop μ-loop
 loop-less c = omega (arith, c .before .before .before .before .before .before .before .loop-test .taken)
 
--- src/lib.rt:39:5
 loop-again : tie.Need-loop-again Inv-loop μ-loop
 loop-again c = rw (c .larger-each .ensures, c .before .sizes-of .ensures)
     (args-more _ _ _ _ _ _ _ _ _ _ (c .before .before .before .before .before .before .before .loop-test .taken) (c .before .before .before .before .before .before .before .before .loop .inv) (sym (ap toldCut (c .before .before .before .before .a .given .1)) ∙ c .before .before .before .before .before .before .param-span .ensures .0))
 
--- src/lib.rt:33:1
 returns-2 : tie.Need-returns-2 Inv-loop μ-loop
 returns-2 c = args-none _ _ _ _ _ _ (c .loop-test .left) (c .before .loop .inv)
 

@@ -1,5 +1,4 @@
 use mathlib.Core.Path.{_∙_, sym, ap}
-use denote.Ref.{now}
 use Rattle.lists.specs.Any.{anything}
 use Rattle.grids.specs.Grid.{toldTally}
 use Rattle.grids.specs.Laws.{size-told}
@@ -7,35 +6,25 @@ use Rattle.lengths.specs.Laws.{grid-all, grid-none}
 use borrow.Author.Needs.{needs}
 use Rattle.lengths.proofs.grid_len.Statement.{statement}
 use Rattle.lengths.proofs.grid_len.Tie as tie
-use Rattle.lengths.proofs.grid_len.Reads as reads
-use Rattle.lengths.proofs.grid_len.Lts as lts
-use Rattle.grids.proofs.count_grid.Reads as count-grid-reads
 
--- src/lib.rt:69:11
 count-grid-requires : tie.Need-count-grid-requires
 count-grid-requires c κs = search needs
 
--- src/lib.rt:70:20
 enum-known-rows : tie.Need-enum-known-rows
 enum-known-rows c = search needs
 
--- src/lib.rt:75:28
 enum-told : tie.Need-enum-told
 enum-told c = search needs
 
--- src/lib.rt:80:30
 enum-told-2 : tie.Need-enum-told-2
 enum-told-2 c = search needs
 
--- src/lib.rt:66:1
 returns : tie.Need-returns
 returns c = grid-all _ _ _ (sym (ap toldTally (c .before .rows .given .1)) ∙ c .before .before .before .count-grid .ensures ∙ size-told anything _)
 
--- src/lib.rt:66:1
 returns-2 : tie.Need-returns-2
 returns-2 c = grid-none _ _ _ (sym (ap toldTally (c .enum-told .given .1)) ∙ c .before .before .count-grid .ensures ∙ size-told anything _)
 
--- src/lib.rt:66:1
 returns-3 : tie.Need-returns-3
 returns-3 c = grid-none _ _ _ (sym (ap toldTally (c .enum-told2 .given .1)) ∙ c .before .before .count-grid .ensures ∙ size-told anything _)
 

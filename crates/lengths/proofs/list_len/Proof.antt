@@ -4,35 +4,25 @@ use Rattle.lengths.specs.Laws.{items-all, items-none}
 use borrow.Author.Needs.{needs}
 use Rattle.lengths.proofs.list_len.Statement.{statement}
 use Rattle.lengths.proofs.list_len.Tie as tie
-use Rattle.lengths.proofs.list_len.Reads as reads
-use Rattle.lengths.proofs.list_len.Lts as lts
-use Rattle.lists.proofs.count_list.Reads as count-list-reads
 
--- src/lib.rt:58:11
 count-list-requires : tie.Need-count-list-requires
 count-list-requires c κs = search needs
 
--- src/lib.rt:59:22
 enum-known-n : tie.Need-enum-known-n
 enum-known-n c = search needs
 
--- src/lib.rt:60:30
 enum-told : tie.Need-enum-told
 enum-told c = search needs
 
--- src/lib.rt:61:32
 enum-told-2 : tie.Need-enum-told-2
 enum-told-2 c = search needs
 
--- src/lib.rt:55:1
 returns : tie.Need-returns
 returns c = items-all _ _ (sym (ap toldCounted (c .before .n .given .1)) ∙ c .before .before .before .count-list .ensures .0)
 
--- src/lib.rt:55:1
 returns-2 : tie.Need-returns-2
 returns-2 c = items-none _ _ _ (sym (ap toldCounted (c .enum-told .given .1)) ∙ c .before .before .count-list .ensures .0)
 
--- src/lib.rt:55:1
 returns-3 : tie.Need-returns-3
 returns-3 c = items-none _ _ _ (sym (ap toldCounted (c .enum-told2 .given .1)) ∙ c .before .before .count-list .ensures .0)
 

@@ -6,11 +6,6 @@ use Rattle.lengths.specs.Lengths.{both, partsFrom, partsOf}
 use Rattle.lengths.specs.Laws.{parts-more, parts-over, parts-bad, parts-none, part-end, nothing-both}
 use Rattle.lengths.proofs.parts_sizes.Statement.{statement}
 use Rattle.lengths.proofs.parts_sizes.Tie as tie
-use Rattle.lengths.proofs.parts_sizes.Reads as reads
-use Rattle.lengths.proofs.parts_sizes.Lts as lts
-use Rattle.lengths.proofs.args_sizes.Reads as args-sizes-reads
-use Rattle.lengths.proofs.larger_each.Reads as larger-each-reads
-use Rattle.parts.proofs.next_part.Reads as next-part-reads
 
 abbrev Inv-loop : tie.InvT-loop
 Inv-loop s place end at₀ most₀ left₀ at most left = both most (partsFrom left s at end) ≡ partsOf s place end
@@ -18,60 +13,46 @@ Inv-loop s place end at₀ most₀ left₀ at most left = both most (partsFrom l
 abbrev μ-loop : tie.MeasureT-loop
 μ-loop s place end at₀ most₀ left₀ at most left = left
 
--- src/lib.rt:59:5
 loop-holds : tie.Need-loop-holds Inv-loop μ-loop
 loop-holds c = nothing-both _
 
--- src/lib.rt:60:15
 next-part-requires : tie.Need-next-part-requires Inv-loop μ-loop
 next-part-requires c κs = search needs
 
--- src/lib.rt:61:27
 enum-told : tie.Need-enum-told Inv-loop μ-loop
 enum-told c = search needs
 
--- src/lib.rt:61:27
 returns : tie.Need-returns Inv-loop μ-loop
 returns c = parts-over _ _ _ _ _ _ (c .before .before .before .before .loop .inv) (sym (ap toldNext (c .enum-told .given .1)) ∙ c .before .before .next-part .ensures)
 
--- src/lib.rt:62:33
 enum-told-2 : tie.Need-enum-told-2 Inv-loop μ-loop
 enum-told-2 c = search needs
 
--- src/lib.rt:62:33
 returns-2 : tie.Need-returns-2 Inv-loop μ-loop
 returns-2 c = parts-bad _ _ _ _ _ _ _ (c .before .before .before .before .loop .inv) (sym (ap toldNext (c .enum-told2 .given .1)) ∙ c .before .before .next-part .ensures)
 
--- src/lib.rt:63:22
 enum-known-p : tie.Need-enum-known-p Inv-loop μ-loop
 enum-known-p c = search needs
 
--- src/lib.rt:64:37
 args-sizes-requires : tie.Need-args-sizes-requires Inv-loop μ-loop
 args-sizes-requires c κs = search needs
 
--- src/lib.rt:64:17
 larger-each-requires : tie.Need-larger-each-requires Inv-loop μ-loop
 larger-each-requires c κs = search needs
 
--- src/lib.rt:65:22
 add-at : tie.Need-add-at Inv-loop μ-loop
 add-at c = let k = part-end _ _ _ _ (sym (ap toldNext (c .before .before .before .before .p .given .1)) ∙ c .before .before .before .before .before .before .next-part .ensures) in omega (arith, k)
 
--- src/lib.rt:68:9
 sub-left : tie.Need-sub-left Inv-loop μ-loop
 sub-left c = omega (arith, c .before .before .before .before .before .before .before .loop-test .taken)
 
--- src/lib.rt:59:5
 loop-less : tie.Need-loop-less Inv-loop μ-loop
 loop-less c = omega (arith, c .before .before .before .before .before .before .before .loop-test .taken)
 
--- src/lib.rt:59:5
 loop-again : tie.Need-loop-again Inv-loop μ-loop
 loop-again c = rw (c .before .larger-each .ensures, c .before .before .args-sizes .ensures)
     (parts-more _ _ _ _ _ _ _ (c .before .before .before .before .before .before .before .loop-test .taken) (c .before .before .before .before .before .before .before .before .loop .inv) (sym (ap toldNext (c .before .before .before .before .p .given .1)) ∙ c .before .before .before .before .before .before .next-part .ensures))
 
--- src/lib.rt:53:1
 returns-3 : tie.Need-returns-3 Inv-loop μ-loop
 returns-3 c = parts-none _ _ _ _ _ _ (c .loop-test .left) (c .before .loop .inv)
 

@@ -2,29 +2,19 @@ use Rattle.lengths.specs.Laws.{record-complex, record-simple}
 use borrow.Author.Needs.{needs}
 use Rattle.lengths.proofs.record_sizes.Statement.{statement}
 use Rattle.lengths.proofs.record_sizes.Tie as tie
-use Rattle.lengths.proofs.record_sizes.Reads as reads
-use Rattle.lengths.proofs.record_sizes.Lts as lts
-use Rattle.lengths.proofs.args_sizes.Reads as args-sizes-reads
-use Rattle.lengths.proofs.larger_each.Reads as larger-each-reads
-use Rattle.lengths.proofs.parts_sizes.Reads as parts-sizes-reads
 
--- src/lib.rt:158:9
 args-sizes-requires : tie.Need-args-sizes-requires
 args-sizes-requires c κs = search needs
 
--- src/lib.rt:160:35
 parts-sizes-requires : tie.Need-parts-sizes-requires
 parts-sizes-requires c κs = search needs
 
--- src/lib.rt:160:9
 larger-each-requires : tie.Need-larger-each-requires
 larger-each-requires c κs = search needs
 
--- src/lib.rt:160:9
 returns : tie.Need-returns
 returns c = rw (c .larger-each .ensures, c .before .parts-sizes .ensures, c .before .before .before .args-sizes .ensures) (record-complex _ _ _ _ (c .before .before .if1 .taken))
 
--- src/lib.rt:155:1
 returns-2 : tie.Need-returns-2
 returns-2 c = rw (c .before .args-sizes .ensures) (record-simple _ _ _ _ (c .if1 .left))
 

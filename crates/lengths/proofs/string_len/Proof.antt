@@ -4,43 +4,31 @@ use Rattle.lengths.specs.Laws.{len-short, len-other, len-string}
 use borrow.Author.Needs.{needs}
 use Rattle.lengths.proofs.string_len.Statement.{statement}
 use Rattle.lengths.proofs.string_len.Tie as tie
-use Rattle.lengths.proofs.string_len.Reads as reads
-use Rattle.lengths.proofs.string_len.Lts as lts
-use Rattle.strings.proofs.text_length.Reads as text-length-reads
 
--- src/lib.rt:23:9
 returns : tie.Need-returns
 returns c = len-short (now (c .before .before .args .t)) (c .if1 .taken)
 
--- src/lib.rt:25:8
 shared-slice-read-if2 : tie.Need-shared-slice-read-if2
 shared-slice-read-if2 c = search needs
 
--- src/lib.rt:26:9
 returns-2 : tie.Need-returns-2
 returns-2 c = len-other (now (c .before .before .before .before .args .t)) (c .before .before .if1 .left) (c .if2 .taken)
 
--- src/lib.rt:28:13
 sub-z : tie.Need-sub-z
 sub-z c = search needs
 
--- src/lib.rt:29:26
 sub-text-length : tie.Need-sub-text-length
 sub-text-length c = search needs
 
--- src/lib.rt:29:26
 part-text-length-start : tie.Need-part-text-length-start
 part-text-length-start c = search needs
 
--- src/lib.rt:29:26
 part-text-length-end : tie.Need-part-text-length-end
 part-text-length-end c = search needs
 
--- src/lib.rt:29:5
 text-length-requires : tie.Need-text-length-requires
 text-length-requires c κs = search needs
 
--- src/lib.rt:19:1
 returns-3 : tie.Need-returns-3
 returns-3 c = c .text-length .ensures ∙ len-string (now (c .before .before .before .before .before .before .args .t)) (c .before .before .before .before .if1 .left) (c .before .before .if2 .left)
 

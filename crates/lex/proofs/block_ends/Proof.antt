@@ -7,8 +7,6 @@ use native.Mathlib.Omega.{arith}
 use borrow.Author.Needs.{needs}
 use Rattle.lex.proofs.block_ends.Statement.{statement}
 use Rattle.lex.proofs.block_ends.Tie as tie
-use Rattle.lex.proofs.block_ends.Reads as reads
-use Rattle.lex.proofs.block_ends.Lts as lts
 
 abbrev Inv-loop : tie.InvT-loop
 Inv-loop s at quote₀ slash₀ end₀ k₀ quote slash end k = (k ≤ 64) × (((quote || slash) || end) ≡ false → Quiet s at (at + k))
@@ -16,34 +14,27 @@ Inv-loop s at quote₀ slash₀ end₀ k₀ quote slash end k = (k ≤ 64) × ((
 abbrev μ-loop : tie.MeasureT-loop
 μ-loop s at quote₀ slash₀ end₀ k₀ quote slash end k = 64 - k
 
--- src/lib.rt:264:5
 loop-holds : tie.Need-loop-holds Inv-loop μ-loop
 loop-holds c = let e : c .args .at + 0 ≡ c .args .at = omega arith in (omega arith, λ z n w. rw e refl)
 
--- src/lib.rt:265:19
 add-b : tie.Need-add-b Inv-loop μ-loop
 add-b c = search needs
 
--- src/lib.rt:265:17
 shared-slice-read-b : tie.Need-shared-slice-read-b Inv-loop μ-loop
 shared-slice-read-b c = search needs
 
--- src/lib.rt:269:9
 add-k : tie.Need-add-k Inv-loop μ-loop
 add-k c = search needs
 
--- src/lib.rt:264:5
 loop-less : tie.Need-loop-less Inv-loop μ-loop
 loop-less c = search needs
 
--- src/lib.rt:264:5
 loop-again : tie.Need-loop-again Inv-loop μ-loop
 loop-again c = let l = c .before .before .loop in
     let a = c .before .before .before .args in
     let e : a .at + (l .k + 1) ≡ a .at + l .k + 1 = omega arith in
     (omega arith, λ z. rw e (quiet-next (now (a .s)) (a .at) (a .at + l .k) (l .quote) (l .slash) (l .end) (omega arith) (l .inv .1) z))
 
--- src/lib.rt:256:1
 returns : tie.Need-returns Inv-loop μ-loop
 returns c = let l = c .before .loop in let e : l .k ≡ 64 = omega (arith, l .inv .0) in λ z. rw e at (l .inv .1 z)
 

@@ -1,14 +1,12 @@
 use Rattle.lex.specs.Leap.{Lacks, lacks-none, noted-next}
 use Prim.Native.Nat.{ℕ, _+_, _-_, _≤_}
-use mathlib.Core.Path.{_≡_, refl, ap, sym, subst}
-use mathlib.Core.Bool.{Bool, false}
+use mathlib.Core.Path.{_≡_, refl, subst}
+use mathlib.Core.Bool.{false}
 use native.Mathlib.Omega.{arith}
 use borrow.Author.Needs.{needs}
 use denote.Ref.{now}
 use Rattle.lex.proofs.block_has.Statement.{statement}
 use Rattle.lex.proofs.block_has.Tie as tie
-use Rattle.lex.proofs.block_has.Reads as reads
-use Rattle.lex.proofs.block_has.Lts as lts
 
 abbrev Inv-loop : tie.InvT-loop
 Inv-loop s at b hit₀ k₀ hit k = (k ≤ 64) × (hit ≡ false → Lacks b s at (at + k))
@@ -16,31 +14,24 @@ Inv-loop s at b hit₀ k₀ hit k = (k ≤ 64) × (hit ≡ false → Lacks b s a
 abbrev μ-loop : tie.MeasureT-loop
 μ-loop s at b hit₀ k₀ hit k = 64 - k
 
--- src/lib.rt:118:5
 loop-holds : tie.Need-loop-holds Inv-loop μ-loop
 loop-holds c = (omega arith, λ _. lacks-none _ _ _ _ (omega arith))
 
--- src/lib.rt:119:24
 add-hit : tie.Need-add-hit Inv-loop μ-loop
 add-hit c = search needs
 
--- src/lib.rt:119:22
 shared-slice-read-hit : tie.Need-shared-slice-read-hit Inv-loop μ-loop
 shared-slice-read-hit c = search needs
 
--- src/lib.rt:120:9
 add-k : tie.Need-add-k Inv-loop μ-loop
 add-k c = search needs
 
--- src/lib.rt:118:5
 loop-less : tie.Need-loop-less Inv-loop μ-loop
 loop-less c = search needs
 
--- src/lib.rt:118:5
 loop-again : tie.Need-loop-again Inv-loop μ-loop
 loop-again c = let l = c .before .before .loop in (omega arith, noted-next _ _ _ _ (l .hit) _ (l .inv .1) refl)
 
--- src/lib.rt:112:1
 returns : tie.Need-returns Inv-loop μ-loop
 returns c = let l = c .before .loop in
     let e : l .k ≡ 64 = omega (arith, l .inv .0) in

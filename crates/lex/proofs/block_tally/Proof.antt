@@ -7,9 +7,6 @@ use native.Mathlib.Omega.{arith}
 use borrow.Author.Needs.{needs}
 use Rattle.lex.proofs.block_tally.Statement.{statement}
 use Rattle.lex.proofs.block_tally.Tie as tie
-use Rattle.lex.proofs.block_tally.Reads as reads
-use Rattle.lex.proofs.block_tally.Lts as lts
-use Rattle.lex.proofs.one_if.Reads as one-if-reads
 
 abbrev Inv-loop : tie.InvT-loop
 Inv-loop s at quote₀ slash₀ up₀ down₀ k₀ quote slash up down k = (k ≤ 64) × (up ≤ k) × (down ≤ k) × ((quote || slash) ≡ false → Counted s at (at + k) up down)
@@ -17,43 +14,33 @@ Inv-loop s at quote₀ slash₀ up₀ down₀ k₀ quote slash up down k = (k �
 abbrev μ-loop : tie.MeasureT-loop
 μ-loop s at quote₀ slash₀ up₀ down₀ k₀ quote slash up down k = 64 - k
 
--- src/lib.rt:374:5
 loop-holds : tie.Need-loop-holds Inv-loop μ-loop
 loop-holds c = (omega arith, omega arith, omega arith, λ z. counted-none (now (c .before .args .s)) (c .before .args .at) (c .before .args .at + 0) (omega arith))
 
--- src/lib.rt:375:19
 add-b : tie.Need-add-b Inv-loop μ-loop
 add-b c = search needs
 
--- src/lib.rt:375:17
 shared-slice-read-b : tie.Need-shared-slice-read-b Inv-loop μ-loop
 shared-slice-read-b c = search needs
 
--- src/lib.rt:378:19
 one-if-requires : tie.Need-one-if-requires Inv-loop μ-loop
 one-if-requires c κs = search needs
 
--- src/lib.rt:378:14
 add-up : tie.Need-add-up Inv-loop μ-loop
 add-up c = search needs
 
--- src/lib.rt:379:23
 one-if-requires-2 : tie.Need-one-if-requires-2 Inv-loop μ-loop
 one-if-requires-2 c κs = search needs
 
--- src/lib.rt:379:16
 add-down : tie.Need-add-down Inv-loop μ-loop
 add-down c = search needs
 
--- src/lib.rt:380:9
 add-k : tie.Need-add-k Inv-loop μ-loop
 add-k c = search needs
 
--- src/lib.rt:374:5
 loop-less : tie.Need-loop-less Inv-loop μ-loop
 loop-less c = search needs
 
--- src/lib.rt:374:5
 loop-again : tie.Need-loop-again Inv-loop μ-loop
 loop-again c = let l = c .before .before .before .before .loop in
     let a = c .before .before .before .before .before .before .args in
@@ -64,7 +51,6 @@ loop-again c = let l = c .before .before .before .before .loop in
       λ z. rw (e, c .before .one-if .ensures .0, c .one-if2 .ensures .0) (counted-next (now (a .s)) (a .at) (a .at + l .k) (l .up) (l .down) (l .quote) (l .slash) (omega arith) (l .inv .3) z),
     )
 
--- src/lib.rt:364:1
 returns : tie.Need-returns Inv-loop μ-loop
 returns c = let l = c .before .loop in
     let e : l .k ≡ 64 = omega (arith, l .inv .0) in ((omega (arith, l .inv .1), omega (arith, l .inv .2)), λ z. rw e at (l .inv .3 z))

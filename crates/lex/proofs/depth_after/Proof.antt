@@ -1,35 +1,25 @@
 use Rattle.lex.specs.Seek.{under-less}
-use native.Mathlib.Omega.{arith}
 use native.Mathlib.Numerals.{add-one}
 use borrow.Author.Tests.{eq-eqb, ne-eqb}
-use mathlib.Core.Path.{refl, sym, ap}
 use borrow.Author.Needs.{needs}
 use Rattle.lex.proofs.depth_after.Statement.{statement}
 use Rattle.lex.proofs.depth_after.Tie as tie
-use Rattle.lex.proofs.depth_after.Reads as reads
-use Rattle.lex.proofs.depth_after.Lts as lts
 
--- src/lib.rt:139:28
 add-t4 : tie.Need-add-t4
 add-t4 c = search needs
 
--- src/lib.rt:139:9
 returns : tie.Need-returns
 returns c = simp (eq-eqb _ _ (c .if1 .taken), add-one)
 
--- src/lib.rt:142:9
 returns-2 : tie.Need-returns-2
 returns-2 c = simp (ne-eqb _ _ (c .before .if1 .left), ne-eqb _ _ (c .if2 .taken))
 
--- src/lib.rt:145:9
 returns-3 : tie.Need-returns-3
 returns-3 c = simp (ne-eqb _ _ (c .before .before .if1 .left), eq-eqb _ _ (c .before .if2 .left), c .if3 .taken)
 
--- src/lib.rt:147:17
 sub-t5 : tie.Need-sub-t5
 sub-t5 c = search needs
 
--- src/lib.rt:134:1
 returns-4 : tie.Need-returns-4
 returns-4 c = simp (ne-eqb _ _ (c .before .before .if1 .left), eq-eqb _ _ (c .before .if2 .left)) (under-less _ (c .if3 .left))
 

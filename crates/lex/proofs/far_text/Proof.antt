@@ -10,10 +10,6 @@ use native.Mathlib.Omega.{arith}
 use borrow.Author.Needs.{needs}
 use Rattle.lex.proofs.far_text.Statement.{statement}
 use Rattle.lex.proofs.far_text.Tie as tie
-use Rattle.lex.proofs.far_text.Reads as reads
-use Rattle.lex.proofs.far_text.Lts as lts
-use Rattle.lex.proofs.find.Reads as find-reads
-use Rattle.lex.proofs.is_at.Reads as is-at-reads
 
 abbrev Inv-loop : tie.InvT-loop
 Inv-loop s q from i₀ i = ((from ≤ i) × (i ≤ length s)) × Held s Text q from i
@@ -21,15 +17,12 @@ Inv-loop s q from i₀ i = ((from ≤ i) × (i ≤ length s)) × Held s Text q f
 abbrev μ-loop : tie.MeasureT-loop
 μ-loop s q from i₀ i = length s - i
 
--- src/lib.rt:187:5
 loop-holds : tie.Need-loop-holds Inv-loop μ-loop
 loop-holds c = ((omega arith, omega arith), λ f n w d. refl)
 
--- src/lib.rt:188:13
 find-requires : tie.Need-find-requires Inv-loop μ-loop
 find-requires c κs = search needs
 
--- src/lib.rt:190:13
 returns : tie.Need-returns Inv-loop μ-loop
 returns c = let l = c .before .before .loop in
     let a = c .before .before .before .before .args in
@@ -39,19 +32,15 @@ returns c = let l = c .before .before .loop in
     let g = held-on s Text (a .q) (a .from) (l .i) e (l .inv .1) (text-found s (a .q) (l .i) e (omega arith) t) in
     λ f n w d. ap (placed s) (g f n w d) ∙ text-none s (a .q) e (omega arith) (omega arith) f n w d
 
--- src/lib.rt:192:22
 add-is-at : tie.Need-add-is-at Inv-loop μ-loop
 add-is-at c = omega (arith, c .before .find .ensures .inside)
 
--- src/lib.rt:192:13
 is-at-requires : tie.Need-is-at-requires Inv-loop μ-loop
 is-at-requires c κs = search needs
 
--- src/lib.rt:193:30
 add-t10 : tie.Need-add-t10 Inv-loop μ-loop
 add-t10 c = omega (arith, c .before .before .before .find .ensures .inside)
 
--- src/lib.rt:193:13
 returns-2 : tie.Need-returns-2 Inv-loop μ-loop
 returns-2 c = let l = c .before .before .before .before .loop in
     let a = c .before .before .before .before .before .before .args in
@@ -62,15 +51,12 @@ returns-2 c = let l = c .before .before .before .before .loop in
     let g = held-on s Text (a .q) (a .from) (l .i) e (l .inv .1) (text-found s (a .q) (l .i) e (omega arith) t) in
     (omega arith, omega arith, left-on s Text (a .q) (a .from) e (e + 1) g (text-last s (a .q) e (omega arith) (t .here (omega arith)) (c .before .is-at .ensures .away (not-true _ (c .if2 .taken)))))
 
--- src/lib.rt:195:13
 add-i : tie.Need-add-i Inv-loop μ-loop
 add-i c = let k = c .before .is-at .ensures .here (not-false _ (c .if2 .left)) in omega arith
 
--- src/lib.rt:187:5
 loop-less : tie.Need-loop-less Inv-loop μ-loop
 loop-less c = let t = c .before .before .before .find .ensures in let k = c .before .is-at .ensures .here (not-false _ (c .if2 .left)) in omega (arith, t .on)
 
--- src/lib.rt:187:5
 loop-again : tie.Need-loop-again Inv-loop μ-loop
 loop-again c = let l = c .before .before .before .before .loop in
     let a = c .before .before .before .before .before .before .args in

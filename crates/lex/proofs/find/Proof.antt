@@ -1,35 +1,25 @@
-use Rattle.lex.specs.Leap.{Stopped, Without, stopped-near, stopped-far}
-use Prim.Native.Nat.{ℕ, _≤_, min}
+use Rattle.lex.specs.Leap.{Stopped, stopped-near, stopped-far}
+use Prim.Native.Nat.{ℕ}
 use lib.ListN.{length}
-use mathlib.Core.Path.{_≡_, subst}
+use mathlib.Core.Path.{subst}
 use native.Mathlib.Omega.{arith}
 use denote.Ref.{now}
 use borrow.Author.Needs.{needs}
 use Rattle.lex.proofs.find.Statement.{statement}
 use Rattle.lex.proofs.find.Tie as tie
-use Rattle.lex.proofs.find.Reads as reads
-use Rattle.lex.proofs.find.Lts as lts
-use Rattle.lex.proofs.pass_blocks.Reads as pass-blocks-reads
-use Rattle.lex.proofs.pass_bytes.Reads as pass-bytes-reads
-use Rattle.lex.proofs.within.Reads as within-reads
 
--- src/lib.rt:159:9
 within-requires : tie.Need-within-requires
 within-requires c κs = search needs
 
--- src/lib.rt:160:23
 add-within : tie.Need-add-within
 add-within c = search needs
 
--- src/lib.rt:160:9
 within-requires-2 : tie.Need-within-requires-2
 within-requires-2 c κs = search needs
 
--- src/lib.rt:161:9
 pass-bytes-requires : tie.Need-pass-bytes-requires
 pass-bytes-requires c κs = search needs
 
--- src/lib.rt:163:9
 returns : tie.Need-returns
 returns c = let a = c .before .before .before .before .before .args in
     let n = length (now (a .s)) in
@@ -38,15 +28,12 @@ returns c = let a = c .before .before .before .before .before .args in
     subst (λ (k : ℕ). Stopped (a .b) (now (a .s)) k n (c .before .pass-bytes .result)) w
     (stopped-near _ _ _ _ n _ (c .before .pass-bytes .ensures) (c .if1 .taken) (omega (arith, v)))
 
--- src/lib.rt:165:9
 pass-blocks-requires : tie.Need-pass-blocks-requires
 pass-blocks-requires c κs = search needs
 
--- src/lib.rt:166:5
 pass-bytes-requires-2 : tie.Need-pass-bytes-requires-2
 pass-bytes-requires-2 c κs = search needs
 
--- src/lib.rt:156:1
 returns-2 : tie.Need-returns-2
 returns-2 c = let a = c .before .before .before .before .before .before .before .args in
     let n = length (now (a .s)) in

@@ -15,11 +15,6 @@ use native.Mathlib.Omega.{arith}
 use borrow.Author.Needs.{needs}
 use Rattle.lex.proofs.find_record_end.Statement.{statement}
 use Rattle.lex.proofs.find_record_end.Tie as tie
-use Rattle.lex.proofs.find_record_end.Reads as reads
-use Rattle.lex.proofs.find_record_end.Lts as lts
-use Rattle.lex.proofs.pass_quiet.Reads as pass-quiet-reads
-use Rattle.lex.proofs.past.Reads as past-reads
-use Rattle.lex.proofs.within.Reads as within-reads
 
 abbrev Inv-loop : tie.InvT-loop
 Inv-loop s start from i₀ near₀ i near = (i ≤ length s) × (plainly semicolon 5 (drop from s) 0 (drop i s) ≡ recordEnd (drop start s))
@@ -27,43 +22,34 @@ Inv-loop s start from i₀ near₀ i near = (i ≤ length s) × (plainly semicol
 abbrev μ-loop : tie.MeasureT-loop
 μ-loop s start from i₀ near₀ i near = ahead (length s) i near
 
--- src/lib.rt:295:9
 within-requires : tie.Need-within-requires Inv-loop μ-loop
 within-requires c κs = search needs
 
--- src/lib.rt:297:20
 add-near : tie.Need-add-near Inv-loop μ-loop
 add-near c = omega (arith, c .within .ensures)
 
--- src/lib.rt:298:5
 loop-holds : tie.Need-loop-holds Inv-loop μ-loop
 unfolding recordEnd
 loop-holds c = let s = now (c .before .before .args .s) in
     (omega (arith, c .within .ensures), ap recordEnd (ap (λ (k : ℕ). drop k s) (c .within .ensures) ∙ drop-within s (c .before .before .args .start)))
 
--- src/lib.rt:300:13
 pass-quiet-requires : tie.Need-pass-quiet-requires Inv-loop μ-loop
 pass-quiet-requires c κs = search needs
 
--- src/lib.rt:301:20
 add-near-2 : tie.Need-add-near-2 Inv-loop μ-loop
 add-near-2 c = search needs
 
--- src/lib.rt:298:5
 loop-less : tie.Need-loop-less Inv-loop μ-loop
 loop-less c = let l = c .before .before .before .loop in blocks-less _ (l .i) (l .near) (c .pass-quiet .result) (omega arith) (c .pass-quiet .ensures .1 .0)
 
--- src/lib.rt:298:5
 loop-again : tie.Need-loop-again Inv-loop μ-loop
 loop-again c = let l = c .before .before .before .loop in
     let s = now (c .before .before .before .before .before .before .args .s) in
     (omega arith, sym (c .pass-quiet .ensures .0 5 (drop (c .before .before .before .before .within .result) s)) ∙ l .inv .1)
 
--- src/lib.rt:303:16
 shared-slice-read-if2 : tie.Need-shared-slice-read-if2 Inv-loop μ-loop
 shared-slice-read-if2 c = search needs
 
--- src/lib.rt:304:17
 returns : tie.Need-returns Inv-loop μ-loop
 returns c = let l = c .before .before .before .before .loop in
     let s = now (c .before .before .before .before .before .before .before .args .s) in
@@ -71,38 +57,31 @@ returns c = let l = c .before .before .before .before .loop in
     ∙ ap (placed s)
     (seek-halts semicolon (missed 5 (drop (c .before .before .before .before .before .within .result) s)) s (l .i) (omega arith) Plain 0 (l .i) _ refl (simp (eq-eqb _ _ (c .if2 .taken))) (l .inv .1))
 
--- src/lib.rt:306:19
 past-requires : tie.Need-past-requires Inv-loop μ-loop
 past-requires c κs = search needs
 
--- src/lib.rt:307:27
 enum-known-next : tie.Need-enum-known-next Inv-loop μ-loop
 enum-known-next c = search needs
 
--- src/lib.rt:298:5
 loop-less-2 : tie.Need-loop-less-2 Inv-loop μ-loop
 loop-less-2 c = let e = rw (c .before .next .given .1) at (c .before .before .before .past .ensures) in
     let l = c .before .before .before .before .before .before .before .before .loop in bytes-less _ (l .i) (l .near) _ (omega arith) (e .0) (e .1)
 
--- src/lib.rt:298:5
 loop-again-2 : tie.Need-loop-again-2 Inv-loop μ-loop
 loop-again-2 c = let l = c .before .before .before .before .before .before .before .before .loop in
     let s = now (c .before .before .before .before .before .before .before .before .before .before .before .args .s) in
     let e = rw (c .before .next .given .1) at (c .before .before .before .past .ensures) in
     (omega (arith, e .1), sym (e .2 semicolon 5 (drop (c .before .before .before .before .before .before .before .before .before .within .result) s) 0 0 (simp (ne-eqb _ _ (c .before .before .before .before .if2 .left)))) ∙ l .inv .1)
 
--- src/lib.rt:308:32
 enum-known-f : tie.Need-enum-known-f Inv-loop μ-loop
 enum-known-f c = search needs
 
--- src/lib.rt:308:38
 returns-2 : tie.Need-returns-2 Inv-loop μ-loop
 returns-2 c = let l = c .before .before .before .before .before .before .before .before .loop in
     let s = now (c .before .before .before .before .before .before .before .before .before .before .before .args .s) in
     let e = rw (c .before .f .given .1) at (c .before .before .before .past .ensures) in
     sym (e semicolon 5 (drop (c .before .before .before .before .before .before .before .before .before .within .result) s) 0 0 (simp (ne-eqb _ _ (c .before .before .before .before .if2 .left)))) ∙ ap (placed s) (l .inv .1)
 
--- src/lib.rt:292:1
 returns-3 : tie.Need-returns-3 Inv-loop μ-loop
 returns-3 c = let l = c .before .loop in
     let s = now (c .before .before .before .before .args .s) in

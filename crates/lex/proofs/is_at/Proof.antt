@@ -4,18 +4,13 @@ use native.Mathlib.Omega.{arith}
 use borrow.Author.Needs.{needs}
 use Rattle.lex.proofs.is_at.Statement.{statement}
 use Rattle.lex.proofs.is_at.Tie as tie
-use Rattle.lex.proofs.is_at.Reads as reads
-use Rattle.lex.proofs.is_at.Lts as lts
 
--- src/lib.rt:176:16
 shared-slice-read-result : tie.Need-shared-slice-read-result
 shared-slice-read-result c = search needs
 
--- src/lib.rt:176:9
 returns : tie.Need-returns
 returns c = let a = c .before .before .args in record { here = λ e. (omega arith, eqb-true _ _ e); away = λ e h. eqb-false _ _ e }
 
--- src/lib.rt:172:1
 returns-2 : tie.Need-returns-2
 returns-2 c = record { here = λ e. clash (cc); away = λ e h k. omega arith }
 

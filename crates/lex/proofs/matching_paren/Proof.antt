@@ -15,12 +15,6 @@ use native.Mathlib.Omega.{arith}
 use borrow.Author.Needs.{needs}
 use Rattle.lex.proofs.matching_paren.Statement.{statement}
 use Rattle.lex.proofs.matching_paren.Tie as tie
-use Rattle.lex.proofs.matching_paren.Reads as reads
-use Rattle.lex.proofs.matching_paren.Lts as lts
-use Rattle.lex.proofs.depth_after.Reads as depth-after-reads
-use Rattle.lex.proofs.pass_calm.Reads as pass-calm-reads
-use Rattle.lex.proofs.past.Reads as past-reads
-use Rattle.lex.proofs.within.Reads as within-reads
 
 abbrev Inv-loop : tie.InvT-loop
 Inv-loop s opening from i₀ depth₀ near₀ i depth near = ((i ≤ length s) × (depth ≤ i)) × (plainly paren 6 (drop from s) depth (drop i s) ≡ closing (drop opening s))
@@ -28,23 +22,18 @@ Inv-loop s opening from i₀ depth₀ near₀ i depth near = ((i ≤ length s) �
 abbrev μ-loop : tie.MeasureT-loop
 μ-loop s opening from i₀ depth₀ near₀ i depth near = ahead (length s) i near
 
--- src/lib.rt:415:9
 within-requires : tie.Need-within-requires Inv-loop μ-loop
 within-requires c κs = search needs
 
--- src/lib.rt:416:24
 add-within : tie.Need-add-within Inv-loop μ-loop
 add-within c = omega (arith, c .within .ensures)
 
--- src/lib.rt:416:9
 within-requires-2 : tie.Need-within-requires-2 Inv-loop μ-loop
 within-requires-2 c κs = search needs
 
--- src/lib.rt:418:20
 add-near : tie.Need-add-near Inv-loop μ-loop
 add-near c = omega (arith, c .within2 .ensures)
 
--- src/lib.rt:419:5
 loop-holds : tie.Need-loop-holds Inv-loop μ-loop
 unfolding closing
 loop-holds c = let s = now (c .before .before .before .args .s) in
@@ -55,42 +44,33 @@ loop-holds c = let s = now (c .before .before .before .args .s) in
     ap (λ (k : ℕ). drop k s) (c .within2 .ensures) ∙ drop-within s (from + 1) ∙ sym (drop-drop 1 from s) in
     ((omega (arith, c .within2 .ensures), omega arith), rw f (ap closing e))
 
--- src/lib.rt:421:17
 pass-calm-requires : tie.Need-pass-calm-requires Inv-loop μ-loop
 pass-calm-requires c κs = search needs
 
--- src/lib.rt:424:20
 add-near-2 : tie.Need-add-near-2 Inv-loop μ-loop
 add-near-2 c = let t = c .pass-calm .ensures in omega (arith, t .inside)
 
--- src/lib.rt:419:5
 loop-less : tie.Need-loop-less Inv-loop μ-loop
 loop-less c = let l = c .before .before .before .loop in blocks-less _ (l .i) (l .near) (c .pass-calm .result .at) (omega arith) (c .pass-calm .ensures .on)
 
--- src/lib.rt:419:5
 loop-again : tie.Need-loop-again Inv-loop μ-loop
 loop-again c = let l = c .before .before .before .loop in
     let s = now (c .before .before .before .before .before .before .before .args .s) in
     let t = c .pass-calm .ensures in
     ((omega (arith, t .inside), omega (arith, t .low)), sym (t .same 6 (drop (c .before .before .before .before .before .within .result) s)) ∙ l .inv .1)
 
--- src/lib.rt:426:53
 shared-slice-read-depth-after : tie.Need-shared-slice-read-depth-after Inv-loop μ-loop
 shared-slice-read-depth-after c = search needs
 
--- src/lib.rt:426:34
 depth-after-requires : tie.Need-depth-after-requires Inv-loop μ-loop
 depth-after-requires c κs = search needs
 
--- src/lib.rt:426:29
 enum-known-d : tie.Need-enum-known-d Inv-loop μ-loop
 enum-known-d c = search needs
 
--- src/lib.rt:427:17
 enum-told : tie.Need-enum-told Inv-loop μ-loop
 enum-told c = search needs
 
--- src/lib.rt:427:17
 returns : tie.Need-returns Inv-loop μ-loop
 returns c = let l = c .before .before .before .before .before .before .loop in
     let s = now (c .before .before .before .before .before .before .before .before .before .before .args .s) in
@@ -99,19 +79,15 @@ returns c = let l = c .before .before .before .before .before .before .loop in
     (seek-halts paren (missed 6 (drop (c .before .before .before .before .before .before .before .before .within .result) s)) s (l .i) (omega arith) Plain (l .depth) (l .i) _ refl
     (sym (c .before .before .depth-after .ensures) ∙ ap lookOf (c .enum-told .given .1)) (l .inv .1))
 
--- src/lib.rt:429:19
 past-requires : tie.Need-past-requires Inv-loop μ-loop
 past-requires c κs = search needs
 
--- src/lib.rt:430:27
 enum-known-next : tie.Need-enum-known-next Inv-loop μ-loop
 enum-known-next c = search needs
 
--- src/lib.rt:431:32
 enum-known-f : tie.Need-enum-known-f Inv-loop μ-loop
 enum-known-f c = search needs
 
--- src/lib.rt:431:38
 returns-2 : tie.Need-returns-2 Inv-loop μ-loop
 returns-2 c = let l = c .before .before .before .before .before .before .before .before .before .before .before .loop in
     let s = now (c .before .before .before .before .before .before .before .before .before .before .before .before .before .before .before .args .s) in
@@ -119,12 +95,10 @@ returns-2 c = let l = c .before .before .before .before .before .before .before 
     let k = sym (c .before .before .before .before .before .before .before .depth-after .ensures) ∙ ap lookOf (c .before .before .before .before .before .d .given .1) in
     sym (e paren 6 (drop (c .before .before .before .before .before .before .before .before .before .before .before .before .before .within .result) s) (l .depth) _ k) ∙ ap (placed s) (l .inv .1)
 
--- src/lib.rt:419:5
 loop-less-2 : tie.Need-loop-less-2 Inv-loop μ-loop
 loop-less-2 c = let e = rw (c .before .next .given .1) at (c .before .before .before .past .ensures) in
     let l = c .before .before .before .before .before .before .before .before .before .before .before .loop in bytes-less _ (l .i) (l .near) _ (omega arith) (e .0) (e .1)
 
--- src/lib.rt:419:5
 loop-again-2 : tie.Need-loop-again-2 Inv-loop μ-loop
 loop-again-2 c = let l = c .before .before .before .before .before .before .before .before .before .before .before .loop in
     let s = now (c .before .before .before .before .before .before .before .before .before .before .before .before .before .before .before .args .s) in
@@ -133,7 +107,6 @@ loop-again-2 c = let l = c .before .before .before .before .before .before .befo
     let up = paren-up (l .depth) (getD s (l .i) 0) _ k in
     ((omega (arith, e .1), omega (arith, e .0, up)), sym (e .2 paren 6 (drop (c .before .before .before .before .before .before .before .before .before .before .before .before .before .within .result) s) (l .depth) _ k) ∙ l .inv .1)
 
--- src/lib.rt:412:1
 returns-3 : tie.Need-returns-3 Inv-loop μ-loop
 returns-3 c = let l = c .before .loop in
     let s = now (c .before .before .before .before .before .args .s) in

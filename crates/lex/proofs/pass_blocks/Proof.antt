@@ -1,15 +1,10 @@
-use Rattle.lex.specs.Leap.{Lacks, Without, lacks-none, lacks-on}
+use Rattle.lex.specs.Leap.{Lacks, lacks-none, lacks-on}
 use lib.ListN.{length}
-use Prim.Native.Nat.{ℕ, _+_, _-_, _≤_}
-use mathlib.Core.Path.{_≡_, _∙_, sym}
+use Prim.Native.Nat.{_-_, _≤_}
 use native.Mathlib.Omega.{arith}
 use borrow.Author.Needs.{needs}
-use denote.Ref.{now}
 use Rattle.lex.proofs.pass_blocks.Statement.{statement}
 use Rattle.lex.proofs.pass_blocks.Tie as tie
-use Rattle.lex.proofs.pass_blocks.Reads as reads
-use Rattle.lex.proofs.pass_blocks.Lts as lts
-use Rattle.lex.proofs.block_has.Reads as block-has-reads
 
 abbrev Inv-loop : tie.InvT-loop
 Inv-loop s from b i₀ i = (from ≤ i) × (i ≤ length s) × Lacks b s from i
@@ -17,37 +12,29 @@ Inv-loop s from b i₀ i = (from ≤ i) × (i ≤ length s) × Lacks b s from i
 abbrev μ-loop : tie.MeasureT-loop
 μ-loop s from b i₀ i = length s - i
 
--- src/lib.rt:131:5
 loop-holds : tie.Need-loop-holds Inv-loop μ-loop
 loop-holds c = (omega arith, omega arith, lacks-none _ _ _ _ (omega arith))
 
--- src/lib.rt:131:11
 sub-loop : tie.Need-sub-loop Inv-loop μ-loop
 sub-loop c = search needs
 
--- src/lib.rt:132:12
 block-has-requires : tie.Need-block-has-requires Inv-loop μ-loop
 block-has-requires c κs = search needs
 
--- src/lib.rt:133:13
 returns : tie.Need-returns Inv-loop μ-loop
 returns c = let l = c .before .before .before .loop in
     record { on = l .inv .0; inside = l .inv .1; lacks = l .inv .2 }
 
--- src/lib.rt:135:9
 add-i : tie.Need-add-i Inv-loop μ-loop
 add-i c = search needs
 
--- src/lib.rt:131:5
 loop-less : tie.Need-loop-less Inv-loop μ-loop
 loop-less c = search needs
 
--- src/lib.rt:131:5
 loop-again : tie.Need-loop-again Inv-loop μ-loop
 loop-again c = let l = c .before .before .before .loop in
     (omega (arith, l .inv .0), omega arith, lacks-on _ _ _ (l .i) _ (l .inv .2) (c .before .block-has .ensures (c .if1 .left)))
 
--- src/lib.rt:126:1
 returns-2 : tie.Need-returns-2 Inv-loop μ-loop
 returns-2 c = let l = c .before .loop in
     record { on = l .inv .0; inside = l .inv .1; lacks = l .inv .2 }

@@ -1,13 +1,9 @@
-use Rattle.lex.specs.Leap.{Lacks, Stopped, lacks-none, lacks-next}
-use lib.ListN.{length}
-use Prim.Native.Nat.{ℕ, _-_, _≤_}
+use Rattle.lex.specs.Leap.{Lacks, lacks-none, lacks-next}
+use Prim.Native.Nat.{_-_, _≤_}
 use native.Mathlib.Omega.{arith}
 use borrow.Author.Needs.{needs}
-use denote.Ref.{now}
 use Rattle.lex.proofs.pass_bytes.Statement.{statement}
 use Rattle.lex.proofs.pass_bytes.Tie as tie
-use Rattle.lex.proofs.pass_bytes.Reads as reads
-use Rattle.lex.proofs.pass_bytes.Lts as lts
 
 abbrev Inv-loop : tie.InvT-loop
 Inv-loop s from end b i₀ i = (from ≤ i) × (i ≤ end) × Lacks b s from i
@@ -15,33 +11,26 @@ Inv-loop s from end b i₀ i = (from ≤ i) × (i ≤ end) × Lacks b s from i
 abbrev μ-loop : tie.MeasureT-loop
 μ-loop s from end b i₀ i = end - i
 
--- src/lib.rt:146:5
 loop-holds : tie.Need-loop-holds Inv-loop μ-loop
 loop-holds c = (omega arith, omega arith, lacks-none _ _ _ _ (omega arith))
 
--- src/lib.rt:147:12
 shared-slice-read-if1 : tie.Need-shared-slice-read-if1 Inv-loop μ-loop
 shared-slice-read-if1 c = search needs
 
--- src/lib.rt:148:13
 returns : tie.Need-returns Inv-loop μ-loop
 returns c = let l = c .before .before .before .loop in
     record { on = l .inv .0; inside = l .inv .1; lacks = l .inv .2; here = λ _. c .if1 .taken }
 
--- src/lib.rt:150:9
 add-i : tie.Need-add-i Inv-loop μ-loop
 add-i c = search needs
 
--- src/lib.rt:146:5
 loop-less : tie.Need-loop-less Inv-loop μ-loop
 loop-less c = search needs
 
--- src/lib.rt:146:5
 loop-again : tie.Need-loop-again Inv-loop μ-loop
 loop-again c = let l = c .before .before .before .loop in
     (omega (arith, l .inv .0), omega arith, lacks-next _ _ _ _ (l .inv .2) (c .if1 .left))
 
--- src/lib.rt:141:1
 returns-2 : tie.Need-returns-2 Inv-loop μ-loop
 returns-2 c = let l = c .before .loop in
     record { on = l .inv .0; inside = l .inv .1; lacks = l .inv .2; here = λ h. absurd (omega arith) }

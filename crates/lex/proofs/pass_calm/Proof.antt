@@ -13,10 +13,6 @@ use native.Mathlib.Omega.{arith}
 use borrow.Author.Needs.{needs}
 use Rattle.lex.proofs.pass_calm.Statement.{statement}
 use Rattle.lex.proofs.pass_calm.Tie as tie
-use Rattle.lex.proofs.pass_calm.Reads as reads
-use Rattle.lex.proofs.pass_calm.Lts as lts
-use Rattle.lex.proofs.block_tally.Reads as block-tally-reads
-use Rattle.lex.proofs.wide.Reads as wide-reads
 
 abbrev Inv-loop : tie.InvT-loop
 Inv-loop s from opened i₀ depth₀ i depth = ((from ≤ i) × (i ≤ length s) × (depth ≤ i)) × ((n : ℕ) (w : List ℕ) → plainly paren n w opened (drop from s) ≡ plainly paren n w depth (drop i s))
@@ -24,51 +20,40 @@ Inv-loop s from opened i₀ depth₀ i depth = ((from ≤ i) × (i ≤ length s)
 abbrev μ-loop : tie.MeasureT-loop
 μ-loop s from opened i₀ depth₀ i depth = length s - i
 
--- src/lib.rt:398:5
 loop-holds : tie.Need-loop-holds Inv-loop μ-loop
 loop-holds c = ((omega arith, omega arith, omega arith), λ n w. refl)
 
--- src/lib.rt:398:11
 sub-loop : tie.Need-sub-loop Inv-loop μ-loop
 sub-loop c = search needs
 
--- src/lib.rt:399:13
 block-tally-requires : tie.Need-block-tally-requires Inv-loop μ-loop
 block-tally-requires c κs = search needs
 
--- src/lib.rt:400:13
 wide-requires : tie.Need-wide-requires Inv-loop μ-loop
 wide-requires c κs = search needs
 
--- src/lib.rt:402:13
 returns : tie.Need-returns Inv-loop μ-loop
 returns c = let l = c .before .before .before .before .before .loop in
     record { on = omega arith; inside = omega arith; low = omega arith; same = l .inv .1 }
 
--- src/lib.rt:404:25
 wide-requires-2 : tie.Need-wide-requires-2 Inv-loop μ-loop
 wide-requires-2 c κs = search needs
 
--- src/lib.rt:404:17
 add-depth : tie.Need-add-depth Inv-loop μ-loop
 add-depth c = let b = c .before .before .before .before .block-tally .ensures .0 in omega (arith, c .wide2 .ensures)
 
--- src/lib.rt:404:17
 sub-depth : tie.Need-sub-depth Inv-loop μ-loop
 sub-depth c = let t = c .before .before .before .before .block-tally .result in
     let w = c .before .before .before .wide in
     let d = c .before .before .before .before .before .before .loop .depth in
     omega (arith, ltb-false d (w .result) (neither (t .quote || t .slash) (ltb d (w .result)) (c .before .if1 .left) .1))
 
--- src/lib.rt:405:9
 add-i : tie.Need-add-i Inv-loop μ-loop
 add-i c = search needs
 
--- src/lib.rt:398:5
 loop-less : tie.Need-loop-less Inv-loop μ-loop
 loop-less c = search needs
 
--- src/lib.rt:398:5
 loop-again : tie.Need-loop-again Inv-loop μ-loop
 loop-again c = let l = c .before .before .before .before .before .before .loop in
     let a = c .before .before .before .before .before .before .before .before .args in
@@ -84,7 +69,6 @@ loop-again c = let l = c .before .before .before .before .before .before .loop i
       λ n w. l .inv .1 n w ∙ t .ensures .1 (k .0) n w (l .depth) _ (omega arith) (omega arith),
     )
 
--- src/lib.rt:392:1
 returns-2 : tie.Need-returns-2 Inv-loop μ-loop
 returns-2 c = let l = c .before .loop in
     record { on = omega arith; inside = omega arith; low = omega arith; same = l .inv .1 }

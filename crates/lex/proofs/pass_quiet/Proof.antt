@@ -6,9 +6,6 @@ use native.Mathlib.Omega.{arith}
 use borrow.Author.Needs.{needs}
 use Rattle.lex.proofs.pass_quiet.Statement.{statement}
 use Rattle.lex.proofs.pass_quiet.Tie as tie
-use Rattle.lex.proofs.pass_quiet.Reads as reads
-use Rattle.lex.proofs.pass_quiet.Lts as lts
-use Rattle.lex.proofs.block_ends.Reads as block-ends-reads
 
 abbrev Inv-loop : tie.InvT-loop
 Inv-loop s from i₀ i = ((from ≤ i) × (i ≤ length s)) × Quiet s from i
@@ -16,35 +13,27 @@ Inv-loop s from i₀ i = ((from ≤ i) × (i ≤ length s)) × Quiet s from i
 abbrev μ-loop : tie.MeasureT-loop
 μ-loop s from i₀ i = length s - i
 
--- src/lib.rt:281:5
 loop-holds : tie.Need-loop-holds Inv-loop μ-loop
 loop-holds c = ((omega arith, omega arith), λ n w. refl)
 
--- src/lib.rt:281:11
 sub-loop : tie.Need-sub-loop Inv-loop μ-loop
 sub-loop c = search needs
 
--- src/lib.rt:282:12
 block-ends-requires : tie.Need-block-ends-requires Inv-loop μ-loop
 block-ends-requires c κs = search needs
 
--- src/lib.rt:283:13
 returns : tie.Need-returns Inv-loop μ-loop
 returns c = let l = c .before .before .before .loop in (l .inv .1, (omega arith, omega arith))
 
--- src/lib.rt:285:9
 add-i : tie.Need-add-i Inv-loop μ-loop
 add-i c = search needs
 
--- src/lib.rt:281:5
 loop-less : tie.Need-loop-less Inv-loop μ-loop
 loop-less c = search needs
 
--- src/lib.rt:281:5
 loop-again : tie.Need-loop-again Inv-loop μ-loop
 loop-again c = let l = c .before .before .before .loop in ((omega arith, omega arith), λ n w. l .inv .1 n w ∙ c .before .block-ends .ensures (c .if1 .left) n w)
 
--- src/lib.rt:275:1
 returns-2 : tie.Need-returns-2 Inv-loop μ-loop
 returns-2 c = let l = c .before .loop in (l .inv .1, (omega arith, omega arith))
 

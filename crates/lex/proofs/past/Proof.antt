@@ -5,54 +5,38 @@ use native.Mathlib.Omega.{arith}
 use borrow.Author.Needs.{needs}
 use Rattle.lex.proofs.past.Statement.{statement}
 use Rattle.lex.proofs.past.Tie as tie
-use Rattle.lex.proofs.past.Reads as reads
-use Rattle.lex.proofs.past.Lts as lts
-use Rattle.lex.proofs.is_at.Reads as is-at-reads
-use Rattle.lex.proofs.past_remark.Reads as past-remark-reads
-use Rattle.lex.proofs.past_text.Reads as past-text-reads
 
--- src/lib.rt:241:13
 shared-slice-read-c : tie.Need-shared-slice-read-c
 shared-slice-read-c c = search needs
 
--- src/lib.rt:243:9
 past-text-requires : tie.Need-past-text-requires
 past-text-requires c κs = search needs
 
--- src/lib.rt:243:9
 returns : tie.Need-returns
 returns c = let a = c .before .before .before .before .args in onward-text (now (a .s)) (a .i) (omega arith) (c .before .if1 .taken) (c .past-text .result) (c .past-text .ensures)
 
--- src/lib.rt:246:26
 add-t7 : tie.Need-add-t7
 add-t7 c = search needs
 
--- src/lib.rt:246:9
 returns-2 : tie.Need-returns-2
 returns-2 c = let a = c .before .before .before .before .args in onward-byte (now (a .s)) (a .i) (omega arith) (c .before .if1 .left) (c .if2 .taken)
 
--- src/lib.rt:248:18
 add-is-at : tie.Need-add-is-at
 add-is-at c = search needs
 
--- src/lib.rt:248:9
 is-at-requires : tie.Need-is-at-requires
 is-at-requires c κs = search needs
 
--- src/lib.rt:249:26
 add-t10 : tie.Need-add-t10
 add-t10 c = search needs
 
--- src/lib.rt:249:9
 returns-3 : tie.Need-returns-3
 returns-3 c = let a = c .before .before .before .before .before .before .args in
     onward-slash (now (a .s)) (a .i) (omega arith) (c .before .before .if2 .left) (c .before .is-at .ensures .away (not-true _ (c .if3 .taken)))
 
--- src/lib.rt:251:5
 past-remark-requires : tie.Need-past-remark-requires
 past-remark-requires c κs = let k = c .before .is-at .ensures .here (not-false _ (c .if3 .left)) in omega arith
 
--- src/lib.rt:237:1
 returns-4 : tie.Need-returns-4
 returns-4 c = let a = c .before .before .before .before .before .before .before .args in
     let k = c .before .before .is-at .ensures .here (not-false _ (c .before .if3 .left)) in

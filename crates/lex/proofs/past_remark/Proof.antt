@@ -9,10 +9,6 @@ use native.Mathlib.Omega.{arith}
 use borrow.Author.Needs.{needs}
 use Rattle.lex.proofs.past_remark.Statement.{statement}
 use Rattle.lex.proofs.past_remark.Tie as tie
-use Rattle.lex.proofs.past_remark.Reads as reads
-use Rattle.lex.proofs.past_remark.Lts as lts
-use Rattle.lex.proofs.find.Reads as find-reads
-use Rattle.lex.proofs.is_at.Reads as is-at-reads
 
 abbrev Inv-loop : tie.InvT-loop
 Inv-loop s q i₀ i = ((q + 2 ≤ i) × (i ≤ length s)) × Held s Remark q (q + 2) i
@@ -20,19 +16,15 @@ Inv-loop s q i₀ i = ((q + 2 ≤ i) × (i ≤ length s)) × Held s Remark q (q 
 abbrev μ-loop : tie.MeasureT-loop
 μ-loop s q i₀ i = length s - i
 
--- src/lib.rt:223:17
 add-i : tie.Need-add-i Inv-loop μ-loop
 add-i c = search needs
 
--- src/lib.rt:224:5
 loop-holds : tie.Need-loop-holds Inv-loop μ-loop
 loop-holds c = ((omega arith, omega arith), λ f n w d. refl)
 
--- src/lib.rt:225:13
 find-requires : tie.Need-find-requires Inv-loop μ-loop
 find-requires c κs = search needs
 
--- src/lib.rt:227:13
 returns : tie.Need-returns Inv-loop μ-loop
 returns c = let l = c .before .before .loop in
     let a = c .before .before .before .before .args in
@@ -42,19 +34,15 @@ returns c = let l = c .before .before .loop in
     let g = held-on s Remark (a .q) (a .q + 2) (l .i) e (l .inv .1) (remark-found s (a .q) (l .i) e (omega arith) t) in
     λ f n w d. ap (placed s) (g f n w d) ∙ remark-none s (a .q) e (omega arith) (omega arith) f n w d
 
--- src/lib.rt:229:21
 add-is-at : tie.Need-add-is-at Inv-loop μ-loop
 add-is-at c = omega (arith, c .before .find .ensures .inside)
 
--- src/lib.rt:229:12
 is-at-requires : tie.Need-is-at-requires Inv-loop μ-loop
 is-at-requires c κs = search needs
 
--- src/lib.rt:230:30
 add-t9 : tie.Need-add-t9 Inv-loop μ-loop
 add-t9 c = omega (arith, c .before .before .before .find .ensures .inside)
 
--- src/lib.rt:230:13
 returns-2 : tie.Need-returns-2 Inv-loop μ-loop
 returns-2 c = let l = c .before .before .before .before .loop in
     let a = c .before .before .before .before .before .before .args in
@@ -66,15 +54,12 @@ returns-2 c = let l = c .before .before .before .before .loop in
     let g = held-on s Remark (a .q) (a .q + 2) (l .i) e (l .inv .1) (remark-found s (a .q) (l .i) e (omega arith) t) in
     (omega arith, omega arith, left-on s Remark (a .q) (a .q + 2) e (e + 2) g (remark-last s (a .q) e (e + 2) (omega arith) (k .0) (t .here (omega arith)) (k .1)))
 
--- src/lib.rt:232:13
 add-i-2 : tie.Need-add-i-2 Inv-loop μ-loop
 add-i-2 c = search needs
 
--- src/lib.rt:224:5
 loop-less : tie.Need-loop-less Inv-loop μ-loop
 loop-less c = let t = c .before .before .before .find .ensures in omega (arith, t .on)
 
--- src/lib.rt:224:5
 loop-again : tie.Need-loop-again Inv-loop μ-loop
 loop-again c = let l = c .before .before .before .before .loop in
     let a = c .before .before .before .before .before .before .args in

@@ -10,11 +10,6 @@ use native.Mathlib.Omega.{arith}
 use borrow.Author.Needs.{needs}
 use Rattle.lex.proofs.past_text.Statement.{statement}
 use Rattle.lex.proofs.past_text.Tie as tie
-use Rattle.lex.proofs.past_text.Reads as reads
-use Rattle.lex.proofs.past_text.Lts as lts
-use Rattle.lex.proofs.far_text.Reads as far-text-reads
-use Rattle.lex.proofs.is_at.Reads as is-at-reads
-use Rattle.lex.proofs.within.Reads as within-reads
 
 abbrev Inv-loop : tie.InvT-loop
 Inv-loop s q near i₀ i = ((q + 1 ≤ i) × (i ≤ length s)) × Held s Text q (q + 1) i
@@ -22,58 +17,45 @@ Inv-loop s q near i₀ i = ((q + 1 ≤ i) × (i ≤ length s)) × Held s Text q 
 abbrev μ-loop : tie.MeasureT-loop
 μ-loop s q near i₀ i = near - i
 
--- src/lib.rt:204:23
 add-within : tie.Need-add-within Inv-loop μ-loop
 add-within c = search needs
 
--- src/lib.rt:204:9
 within-requires : tie.Need-within-requires Inv-loop μ-loop
 within-requires c κs = search needs
 
--- src/lib.rt:205:17
 add-i : tie.Need-add-i Inv-loop μ-loop
 add-i c = search needs
 
--- src/lib.rt:206:5
 loop-holds : tie.Need-loop-holds Inv-loop μ-loop
 loop-holds c = ((omega arith, omega arith), λ f n w d. refl)
 
--- src/lib.rt:207:12
 shared-slice-read-if1 : tie.Need-shared-slice-read-if1 Inv-loop μ-loop
 shared-slice-read-if1 c = search needs
 
--- src/lib.rt:208:26
 add-is-at : tie.Need-add-is-at Inv-loop μ-loop
 add-is-at c = search needs
 
--- src/lib.rt:208:17
 is-at-requires : tie.Need-is-at-requires Inv-loop μ-loop
 is-at-requires c κs = search needs
 
--- src/lib.rt:209:34
 add-t13 : tie.Need-add-t13 Inv-loop μ-loop
 add-t13 c = search needs
 
--- src/lib.rt:209:17
 returns : tie.Need-returns Inv-loop μ-loop
 returns c = let l = c .before .before .before .before .before .loop in
     let a = c .before .before .before .before .before .before .before .before .args in
     let s = now (a .s) in
     (omega arith, omega arith, left-on s Text (a .q) (a .q + 1) (l .i) (l .i + 1) (l .inv .1) (text-last s (a .q) (l .i) (omega arith) (c .before .before .if1 .taken) (c .before .is-at .ensures .away (not-true _ (c .if2 .taken)))))
 
--- src/lib.rt:211:13
 add-i-2 : tie.Need-add-i-2 Inv-loop μ-loop
 add-i-2 c = search needs
 
--- src/lib.rt:213:9
 add-i-3 : tie.Need-add-i-3 Inv-loop μ-loop
 add-i-3 c = ⊎-elim (λ w. let k = w .1 .ensures .here (not-false _ (w .2 .left)) in omega arith) (λ w. omega arith) (c .before .if1 .came)
 
--- src/lib.rt:206:5
 loop-less : tie.Need-loop-less Inv-loop μ-loop
 loop-less c = ⊎-elim (λ w. omega arith) (λ w. omega arith) (c .before .if1 .came)
 
--- src/lib.rt:206:5
 loop-again : tie.Need-loop-again Inv-loop μ-loop
 loop-again c = let l = c .before .before .before .before .loop in
     let a = c .before .before .before .before .before .before .before .args in
@@ -88,11 +70,9 @@ loop-again c = let l = c .before .before .before .before .loop in
     ((omega arith, omega (arith, h)), rw e (held-on s Text (a .q) (a .q + 1) (l .i) (l .i + 1) (l .inv .1) (text-byte s (a .q) (l .i) (omega (arith, h)) (w .0 .left)))))
     (c .before .if1 .came)
 
--- src/lib.rt:215:5
 far-text-requires : tie.Need-far-text-requires Inv-loop μ-loop
 far-text-requires c κs = search needs
 
--- src/lib.rt:200:1
 returns-2 : tie.Need-returns-2 Inv-loop μ-loop
 returns-2 c = let l = c .before .before .loop in
     let a = c .before .before .before .before .before .args in

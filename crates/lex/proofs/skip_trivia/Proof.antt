@@ -12,12 +12,6 @@ use native.Mathlib.Omega.{arith}
 use borrow.Author.Needs.{needs}
 use Rattle.lex.proofs.skip_trivia.Statement.{statement}
 use Rattle.lex.proofs.skip_trivia.Tie as tie
-use Rattle.lex.proofs.skip_trivia.Reads as reads
-use Rattle.lex.proofs.skip_trivia.Lts as lts
-use Rattle.lex.proofs.is_at.Reads as is-at-reads
-use Rattle.lex.proofs.is_space.Reads as is-space-reads
-use Rattle.lex.proofs.past_remark.Reads as past-remark-reads
-use Rattle.lex.proofs.within.Reads as within-reads
 
 abbrev Inv-loop : tie.InvT-loop
 Inv-loop s start i₀ i = (i ≤ length s) × (trivia (drop i s) ≡ trivia (drop start s))
@@ -25,68 +19,54 @@ Inv-loop s start i₀ i = (i ≤ length s) × (trivia (drop i s) ≡ trivia (dro
 abbrev μ-loop : tie.MeasureT-loop
 μ-loop s start i₀ i = length s - i
 
--- src/lib.rt:378:9
 within-requires : tie.Need-within-requires Inv-loop μ-loop
 within-requires c κs = search needs
 
--- src/lib.rt:379:5
 loop-holds : tie.Need-loop-holds Inv-loop μ-loop
 loop-holds c = let s = now (c .before .before .args .s) in
     (omega (arith, c .within .ensures), ap trivia (ap (λ (k : ℕ). drop k s) (c .within .ensures) ∙ drop-within s (c .before .before .args .start)))
 
--- src/lib.rt:380:17
 shared-slice-read-c : tie.Need-shared-slice-read-c Inv-loop μ-loop
 shared-slice-read-c c = search needs
 
--- src/lib.rt:381:12
 is-space-requires : tie.Need-is-space-requires Inv-loop μ-loop
 is-space-requires c κs = search needs
 
--- src/lib.rt:382:13
 add-i : tie.Need-add-i Inv-loop μ-loop
 add-i c = search needs
 
--- src/lib.rt:379:5
 loop-less : tie.Need-loop-less Inv-loop μ-loop
 loop-less c = search needs
 
--- src/lib.rt:379:5
 loop-again : tie.Need-loop-again Inv-loop μ-loop
 loop-again c = let s = now (c .before .before .before .before .before .before .before .args .s) in
     let l = c .before .before .before .before .loop in
     (omega arith, sym (trivia-blank s (l .i) (omega arith) (sym (c .before .is-space .ensures) ∙ c .if1 .taken)) ∙ l .inv .1)
 
--- src/lib.rt:385:17
 returns : tie.Need-returns Inv-loop μ-loop
 returns c = let s = now (c .before .before .before .before .before .before .before .before .args .s) in
     let l = c .before .before .before .before .before .loop in
     ap good (sym (place-drop s (l .i) (omega arith)))
     ∙ ap (placed s) (sym (trivia-here s (l .i) (omega arith) (sym (c .before .before .is-space .ensures) ∙ c .before .if1 .left) (λ e _ _. absurd (c .if2 .taken e))) ∙ l .inv .1)
 
--- src/lib.rt:387:26
 add-is-at : tie.Need-add-is-at Inv-loop μ-loop
 add-is-at c = search needs
 
--- src/lib.rt:387:17
 is-at-requires : tie.Need-is-at-requires Inv-loop μ-loop
 is-at-requires c κs = search needs
 
--- src/lib.rt:388:17
 returns-2 : tie.Need-returns-2 Inv-loop μ-loop
 returns-2 c = let s = now (c .before .before .before .before .before .before .before .before .before .before .args .s) in
     let l = c .before .before .before .before .before .before .before .loop in
     ap good (sym (place-drop s (l .i) (omega arith)))
     ∙ ap (placed s) (sym (trivia-here s (l .i) (omega arith) (sym (c .before .before .before .before .is-space .ensures) ∙ c .before .before .before .if1 .left) (λ _. c .before .is-at .ensures .away (not-true _ (c .if3 .taken)))) ∙ l .inv .1)
 
--- src/lib.rt:390:19
 past-remark-requires : tie.Need-past-remark-requires Inv-loop μ-loop
 past-remark-requires c κs = let k = c .before .is-at .ensures .here (not-false _ (c .if3 .left)) in omega arith
 
--- src/lib.rt:391:27
 enum-known-next : tie.Need-enum-known-next Inv-loop μ-loop
 enum-known-next c = search needs
 
--- src/lib.rt:379:5
 loop-less-2 : tie.Need-loop-less-2 Inv-loop μ-loop
 loop-less-2 c = let s = now (c .before .before .before .before .before .before .before .before .before .before .before .before .before .before .args .s) in
     let l = c .before .before .before .before .before .before .before .before .before .before .before .loop in
@@ -94,7 +74,6 @@ loop-less-2 c = let s = now (c .before .before .before .before .before .before .
     let e = rw (c .before .next .given .1) at (trivia-remark s (l .i) (omega arith) (c .before .before .before .before .before .before .if2 .left) (k .0) (k .1) (c .before .before .before .past-remark .result) (c .before .before .before .past-remark .ensures)) in
     omega (arith, e .0, e .1)
 
--- src/lib.rt:379:5
 loop-again-2 : tie.Need-loop-again-2 Inv-loop μ-loop
 loop-again-2 c = let s = now (c .before .before .before .before .before .before .before .before .before .before .before .before .before .before .args .s) in
     let l = c .before .before .before .before .before .before .before .before .before .before .before .loop in
@@ -102,11 +81,9 @@ loop-again-2 c = let s = now (c .before .before .before .before .before .before 
     let e = rw (c .before .next .given .1) at (trivia-remark s (l .i) (omega arith) (c .before .before .before .before .before .before .if2 .left) (k .0) (k .1) (c .before .before .before .past-remark .result) (c .before .before .before .past-remark .ensures)) in
     (omega (arith, e .1), sym (e .2) ∙ l .inv .1)
 
--- src/lib.rt:392:32
 enum-known-f : tie.Need-enum-known-f Inv-loop μ-loop
 enum-known-f c = search needs
 
--- src/lib.rt:392:38
 returns-3 : tie.Need-returns-3 Inv-loop μ-loop
 returns-3 c = let s = now (c .before .before .before .before .before .before .before .before .before .before .before .before .before .before .args .s) in
     let l = c .before .before .before .before .before .before .before .before .before .before .before .loop in
@@ -114,7 +91,6 @@ returns-3 c = let s = now (c .before .before .before .before .before .before .be
     let e = rw (c .before .f .given .1) at (trivia-remark s (l .i) (omega arith) (c .before .before .before .before .before .before .if2 .left) (k .0) (k .1) (c .before .before .before .past-remark .result) (c .before .before .before .past-remark .ensures)) in
     sym e ∙ ap (placed s) (l .inv .1)
 
--- src/lib.rt:375:1
 returns-4 : tie.Need-returns-4 Inv-loop μ-loop
 returns-4 c = let s = now (c .before .before .before .before .args .s) in
     let l = c .before .loop in

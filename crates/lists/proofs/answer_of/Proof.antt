@@ -7,46 +7,34 @@ use mathlib.Core.Path.{_≡_, refl, ap}
 use Prim.Native.Nat.{ℕ, _+_}
 use Rattle.lists.proofs.answer_of.Statement.{statement}
 use Rattle.lists.proofs.answer_of.Tie as tie
-use Rattle.lists.proofs.answer_of.Reads as reads
-use Rattle.lists.proofs.answer_of.Lts as lts
 
--- src/lib.rt:259:25
 enum-known-r : tie.Need-enum-known-r
 enum-known-r c = search needs
 
--- src/lib.rt:260:25
 enum-known-r-2 : tie.Need-enum-known-r-2
 enum-known-r-2 c = search needs
 
--- src/lib.rt:260:66
 add-t8 : tie.Need-add-t8
 add-t8 c = omega (arith, c .before .before .before .pre, ap reached (c .before .r2 .given .1))
 
--- src/lib.rt:261:27
 enum-known-r-3 : tie.Need-enum-known-r-3
 enum-known-r-3 c = search needs
 
--- src/lib.rt:261:71
 add-t10 : tie.Need-add-t10
 add-t10 c = omega (arith, c .before .before .before .pre, ap reached (c .before .r3 .given .1))
 
--- src/lib.rt:262:46
 enum-told : tie.Need-enum-told
 enum-told c = search needs
 
--- src/lib.rt:254:1
 returns : tie.Need-returns
 returns c = rw (c .before .r .given .1) refl
 
--- src/lib.rt:254:1
 returns-2 : tie.Need-returns-2
 returns-2 c = rw (c .before .r2 .given .1) refl
 
--- src/lib.rt:254:1
 returns-3 : tie.Need-returns-3
 returns-3 c = rw (c .before .r3 .given .1) refl
 
--- src/lib.rt:254:1
 returns-4 : tie.Need-returns-4
 returns-4 c = let t = c .before .before .args in
     let e : t .start ≡ t .start + 0 = omega arith in

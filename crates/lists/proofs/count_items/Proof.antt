@@ -8,10 +8,6 @@ use mathlib.Core.Path.{_≡_, ap, sym, _∙_}
 use Prim.Native.Nat.{suc, _-_, _≤_}
 use Rattle.lists.proofs.count_items.Statement.{statement}
 use Rattle.lists.proofs.count_items.Tie as tie
-use Rattle.lists.proofs.count_items.Reads as reads
-use Rattle.lists.proofs.count_items.Lts as lts
-use Rattle.lists.proofs.item_at.Reads as item-at-reads
-use Rattle.lists.proofs.verdict_of.Reads as verdict-of-reads
 
 abbrev Inv-loop : tie.InvT-loop
 Inv-loop b kind i₀ n₀ i n = (n ≤ i) × (i ≤ length b) × (fated (tally oneMore n) (itemsFrom (suc (length b) - n) (kindOf kind) i (drop i b)) ≡ fated length (itemsFrom (suc (length b)) (kindOf kind) 0 b))
@@ -19,43 +15,33 @@ Inv-loop b kind i₀ n₀ i n = (n ≤ i) × (i ≤ length b) × (fated (tally o
 abbrev μ-loop : tie.MeasureT-loop
 μ-loop b kind i₀ n₀ i n = length b - i
 
--- src/lib.rt:136:5
 loop-holds : tie.Need-loop-holds Inv-loop μ-loop
 loop-holds c = (omega arith, omega arith, count-starts (kindOf (c .before .args .kind)) (now (c .before .args .b)))
 
--- src/lib.rt:137:13
 item-at-requires : tie.Need-item-at-requires Inv-loop μ-loop
 item-at-requires c κs = search needs
 
--- src/lib.rt:141:32
 sub-verdict-of : tie.Need-sub-verdict-of Inv-loop μ-loop
 sub-verdict-of c = c .item-at .ensures .ordered
 
--- src/lib.rt:141:32
 part-verdict-of-start : tie.Need-part-verdict-of-start Inv-loop μ-loop
 part-verdict-of-start c = omega (arith, c .item-at .ensures .ordered, c .item-at .ensures .short, c .item-at .ensures .within)
 
--- src/lib.rt:141:32
 part-verdict-of-end : tie.Need-part-verdict-of-end Inv-loop μ-loop
 part-verdict-of-end c = omega (arith, c .item-at .ensures .ordered, c .item-at .ensures .short, c .item-at .ensures .within)
 
--- src/lib.rt:141:15
 verdict-of-requires : tie.Need-verdict-of-requires Inv-loop μ-loop
 verdict-of-requires c κs = search needs
 
--- src/lib.rt:142:31
 enum-told : tie.Need-enum-told Inv-loop μ-loop
 enum-told c = search needs
 
--- src/lib.rt:142:31
 add-n : tie.Need-add-n Inv-loop μ-loop
 add-n c = omega arith
 
--- src/lib.rt:143:31
 enum-told-2 : tie.Need-enum-told-2 Inv-loop μ-loop
 enum-told-2 c = search needs
 
--- src/lib.rt:143:31
 returns : tie.Need-returns Inv-loop μ-loop
 returns c = let m = c .before .before .before .before in
     let l = m .before in
@@ -65,11 +51,9 @@ returns c = let m = c .before .before .before .before in
       omega (arith, m .item-at .ensures .ordered, m .item-at .ensures .short, m .item-at .ensures .within),
     )
 
--- src/lib.rt:144:33
 enum-told-3 : tie.Need-enum-told-3 Inv-loop μ-loop
 enum-told-3 c = search needs
 
--- src/lib.rt:144:33
 returns-2 : tie.Need-returns-2 Inv-loop μ-loop
 returns-2 c = let m = c .before .before .before .before in
     let l = m .before in
@@ -79,7 +63,6 @@ returns-2 c = let m = c .before .before .before .before in
       omega (arith, m .item-at .ensures .ordered, m .item-at .ensures .short, m .item-at .ensures .within),
     )
 
--- src/lib.rt:147:13
 returns-3 : tie.Need-returns-3 Inv-loop μ-loop
 returns-3 c = let m = c .before .before .before .before .before in
     let l = m .before in
@@ -89,15 +72,12 @@ returns-3 c = let m = c .before .before .before .before .before in
       omega arith,
     )
 
--- src/lib.rt:149:13
 add-i : tie.Need-add-i Inv-loop μ-loop
 add-i c = omega (arith, c .before .before .before .before .before .item-at .ensures .within)
 
--- src/lib.rt:136:5
 loop-less : tie.Need-loop-less Inv-loop μ-loop
 loop-less c = let m = c .before .before .before .before .before in omega (arith, m .item-at .ensures .within, m .item-at .ensures .above, c .if1 .left)
 
--- src/lib.rt:136:5
 loop-again : tie.Need-loop-again Inv-loop μ-loop
 loop-again c = let m = c .before .before .before .before .before in
     let l = m .before in

@@ -8,87 +8,66 @@ use mathlib.Core.Path.{ap, sym, _∙_}
 use Prim.Native.Nat.{_-_}
 use Rattle.lists.proofs.count_list.Statement.{statement}
 use Rattle.lists.proofs.count_list.Tie as tie
-use Rattle.lists.proofs.count_list.Reads as reads
-use Rattle.lists.proofs.count_list.Lts as lts
-use Rattle.lists.proofs.count_items.Reads as count-items-reads
-use Rattle.lists.proofs.shape_of.Reads as shape-of-reads
 
--- src/lib.rt:158:11
 shape-of-requires : tie.Need-shape-of-requires
 shape-of-requires c κs = search needs
 
--- src/lib.rt:159:27
 enum-told : tie.Need-enum-told
 enum-told c = search needs
 
--- src/lib.rt:160:25
 enum-told-2 : tie.Need-enum-told-2
 enum-told-2 c = search needs
 
--- src/lib.rt:162:17
 enum-told-3 : tie.Need-enum-told-3
 enum-told-3 c = search needs
 
--- src/lib.rt:163:37
 sub-count-items : tie.Need-sub-count-items
 sub-count-items c = let (n, f, o) = shape-full _ _ (c .before .before .shape-of .ensures) (c .enum-told3 .given .1) in omega (arith, n)
 
--- src/lib.rt:163:31
 sub-count-items-2 : tie.Need-sub-count-items-2
 sub-count-items-2 c = let (n, f, o) = shape-full _ _ (c .before .before .shape-of .ensures) (c .enum-told3 .given .1) in omega (arith, n)
 
--- src/lib.rt:163:31
 part-count-items-start : tie.Need-part-count-items-start
 part-count-items-start c = let (n, f, o) = shape-full _ _ (c .before .before .shape-of .ensures) (c .enum-told3 .given .1) in omega (arith, n)
 
--- src/lib.rt:163:31
 part-count-items-end : tie.Need-part-count-items-end
 part-count-items-end c = let (n, f, o) = shape-full _ _ (c .before .before .shape-of .ensures) (c .enum-told3 .given .1) in omega (arith, n)
 
--- src/lib.rt:163:19
 count-items-requires : tie.Need-count-items-requires
 count-items-requires c κs = search needs
 
--- src/lib.rt:164:30
 enum-known-k : tie.Need-enum-known-k
 enum-known-k c = search needs
 
--- src/lib.rt:165:32
 enum-known-o : tie.Need-enum-known-o
 enum-known-o c = search needs
 
--- src/lib.rt:165:53
 add-t16 : tie.Need-add-t16
 add-t16 c = let s = c .before .before .before .before .before in
     let t = now (s .before .before .before .before .args .t) in
     let (n, f, o) = shape-full t _ (s .before .before .shape-of .ensures) (s .enum-told3 .given .1) in
     omega (arith, n, body-length t n, counted-wrong _ _ _ (c .before .before .before .count-items .ensures .1) (c .before .o .given .1))
 
--- src/lib.rt:166:34
 enum-known-o-2 : tie.Need-enum-known-o-2
 enum-known-o-2 c = search needs
 
--- src/lib.rt:166:57
 add-t17 : tie.Need-add-t17
 add-t17 c = let s = c .before .before .before .before .before in
     let t = now (s .before .before .before .before .args .t) in
     let (n, f, o) = shape-full t _ (s .before .before .shape-of .ensures) (s .enum-told3 .given .1) in
     omega (arith, n, body-length t n, counted-outside _ _ _ (c .before .before .before .count-items .ensures .1) (c .before .o2 .given .1))
 
--- src/lib.rt:154:1
 returns : tie.Need-returns
 returns c = let s = c .before .before in
     let t = now (s .before .before .args .t) in
     (ap (fated length) (list-none (kindOf (s .before .before .args .kind)) t (shape-none t _ (s .shape-of .ensures) (c .enum-told .given .1))), omega arith)
 
--- src/lib.rt:154:1
 returns-2 : tie.Need-returns-2
 returns-2 c = let s = c .before .before in
     let t = now (s .before .before .args .t) in
     let (b, e, h) = shape-blank t _ (s .shape-of .ensures) (c .enum-told2 .given .1) in
     (ap (fated length) (list-blank (kindOf (s .before .before .args .kind)) t b e h), omega arith)
 
--- src/lib.rt:154:1
 returns-3 : tie.Need-returns-3
 returns-3 c = let s = c .before .before .before .before .before in
     let t = now (s .before .before .before .before .args .t) in
@@ -98,7 +77,6 @@ returns-3 c = let s = c .before .before .before .before .before in
       omega (arith, n, body-length t n, counted-all _ _ _ (i .ensures .1) (c .before .k .given .1)),
     )
 
--- src/lib.rt:154:1
 returns-4 : tie.Need-returns-4
 returns-4 c = let s = c .before .before .before .before .before in
     let t = now (s .before .before .before .before .args .t) in
@@ -108,7 +86,6 @@ returns-4 c = let s = c .before .before .before .before .before in
       omega (arith, n, body-length t n, counted-wrong _ _ _ (i .ensures .1) (c .before .o .given .1)),
     )
 
--- src/lib.rt:154:1
 returns-5 : tie.Need-returns-5
 returns-5 c = let s = c .before .before .before .before .before in
     let t = now (s .before .before .before .before .args .t) in

@@ -18,10 +18,6 @@ use Rattle.reals.specs.declared.Real.the-variants.{Value, Outside, NotReal}
 use Rattle.reals.proofs.Real.{the-type}
 use Rattle.lists.proofs.fill_real_items.Statement.{statement}
 use Rattle.lists.proofs.fill_real_items.Tie as tie
-use Rattle.lists.proofs.fill_real_items.Reads as reads
-use Rattle.lists.proofs.fill_real_items.Lts as lts
-use Rattle.lists.proofs.item_at.Reads as item-at-reads
-use Rattle.reals.proofs.parse_real.Reads as parse-real-reads
 
 -- what is read as no value is refused, by one number or the other
 bad-real : (r : Real) (u : List ℕ) → OneOf (1 ∷ 2 ∷ []) (tagOf the-type r) → toldReal r ≡ realOf u → (k : ℕ) × (faulty k 0 ≡ asFate (realOf u))
@@ -36,36 +32,28 @@ Inv-loop b out₀ i₀ n₀ out i n = Filling (λ u. asFate (realOf u)) b (map (
 abbrev μ-loop : tie.MeasureT-loop
 μ-loop b out₀ i₀ n₀ out i n = length b - i
 
--- src/lib.rt:326:5
 loop-holds : tie.Need-loop-holds Inv-loop μ-loop
 loop-holds c = let t = c .before .before in
     filling-starts (λ u. asFate (realOf u)) (now (t .args .b)) (map (toBits binary64) (now (t .args .out))) (t .pre .0, omega (arith, t .pre .1, length-map (now (t .args .out)) (toBits binary64)))
 
--- src/lib.rt:327:13
 item-at-requires : tie.Need-item-at-requires Inv-loop μ-loop
 item-at-requires c κs = search needs
 
--- src/lib.rt:331:48
 sub-parse-real : tie.Need-sub-parse-real Inv-loop μ-loop
 sub-parse-real c = c .item-at .ensures .ordered
 
--- src/lib.rt:331:48
 part-parse-real-start : tie.Need-part-parse-real-start Inv-loop μ-loop
 part-parse-real-start c = omega (arith, c .item-at .ensures .ordered, c .item-at .ensures .short, c .item-at .ensures .within)
 
--- src/lib.rt:331:48
 part-parse-real-end : tie.Need-part-parse-real-end Inv-loop μ-loop
 part-parse-real-end c = omega (arith, c .item-at .ensures .ordered, c .item-at .ensures .short, c .item-at .ensures .within)
 
--- src/lib.rt:331:30
 parse-real-requires : tie.Need-parse-real-requires Inv-loop μ-loop
 parse-real-requires c κs = search needs
 
--- src/lib.rt:331:25
 enum-known-v : tie.Need-enum-known-v Inv-loop μ-loop
 enum-known-v c = search needs
 
--- src/lib.rt:332:13
 same-length : tie.Need-same-length Inv-loop μ-loop
 same-length c = let m = c .before .before .before in
     let l = m .before in
@@ -73,7 +61,6 @@ same-length c = let m = c .before .before .before in
     let (k, e) = bad-real (c .before .parse-real .result) _ (c .match .keys2) (c .before .parse-real .ensures) in
     absurd (filling-bad (λ u. asFate (realOf u)) (now (t .args .b)) _ _ _ _ (l .loop .inv) (m .item-at .result) (m .item-at .ensures) k 0 e)
 
--- src/lib.rt:332:13
 returns : tie.Need-returns Inv-loop μ-loop
 returns c = let m = c .before .before .before in
     let l = m .before in
@@ -81,7 +68,6 @@ returns c = let m = c .before .before .before in
     let (k, e) = bad-real (c .before .parse-real .result) _ (c .match .keys2) (c .before .parse-real .ensures) in
     absurd (filling-bad (λ u. asFate (realOf u)) (now (t .args .b)) _ _ _ _ (l .loop .inv) (m .item-at .result) (m .item-at .ensures) k 0 e)
 
--- src/lib.rt:334:9
 mul-out : tie.Need-mul-out Inv-loop μ-loop
 mul-out c = let m = c .before .before .before .before .before in
     let l = m .before in
@@ -89,7 +75,6 @@ mul-out c = let m = c .before .before .before .before .before in
     let (p, q) = filling-place (λ u. asFate (realOf u)) (now (t .args .b)) _ _ _ _ (l .loop .inv) (m .item-at .result) (m .item-at .ensures) _ (ap (λ (a : Answer ℕ). asFate a) (ap toldReal (sym (c .before .v .given .1)) ∙ c .before .before .before .parse-real .ensures)) in
     omega (arith, p, length-map (now (t .args .out)) (toBits binary64))
 
--- src/lib.rt:334:9
 slice-write-out : tie.Need-slice-write-out Inv-loop μ-loop
 slice-write-out c = let m = c .before .before .before .before .before in
     let l = m .before in
@@ -97,13 +82,11 @@ slice-write-out c = let m = c .before .before .before .before .before in
     let (p, q) = filling-place (λ u. asFate (realOf u)) (now (t .args .b)) _ _ _ _ (l .loop .inv) (m .item-at .result) (m .item-at .ensures) _ (ap (λ (a : Answer ℕ). asFate a) (ap toldReal (sym (c .before .v .given .1)) ∙ c .before .before .before .parse-real .ensures)) in
     omega (arith, p, q, length-map (now (t .args .out)) (toBits binary64), length-map (l .loop .out) (toBits binary64))
 
--- src/lib.rt:335:9
 add-n : tie.Need-add-n Inv-loop μ-loop
 add-n c = let m = c .before .before .before .before .before in
     let l = m .before in
     omega (arith, l .loop .inv .few, l .loop .inv .within)
 
--- src/lib.rt:337:13
 same-length-2 : tie.Need-same-length-2 Inv-loop μ-loop
 same-length-2 c = let m = c .before .before .before .before .before .before in
     let l = m .before in
@@ -111,7 +94,6 @@ same-length-2 c = let m = c .before .before .before .before .before .before in
     let (p, q) = filling-place (λ u. asFate (realOf u)) (now (t .args .b)) _ _ _ _ (l .loop .inv) (m .item-at .result) (m .item-at .ensures) _ (ap (λ (a : Answer ℕ). asFate a) (ap toldReal (sym (c .before .before .v .given .1)) ∙ c .before .before .before .before .parse-real .ensures)) in
     length-set (l .loop .out) (l .loop .n) _ ∙ sym (length-map (l .loop .out) (toBits binary64)) ∙ q ∙ length-map (now (t .args .out)) (toBits binary64)
 
--- src/lib.rt:337:13
 returns-2 : tie.Need-returns-2 Inv-loop μ-loop
 returns-2 c = let m = c .before .before .before .before .before .before in
     let l = m .before in
@@ -119,15 +101,12 @@ returns-2 c = let m = c .before .before .before .before .before .before in
     let (p, q) = filling-last (λ u. asFate (realOf u)) (now (t .args .b)) _ _ _ _ (l .loop .inv) (m .item-at .result) (m .item-at .ensures) _ (ap (λ (a : Answer ℕ). asFate a) (ap toldReal (sym (c .before .before .v .given .1)) ∙ c .before .before .before .before .parse-real .ensures)) (c .if1 .taken) in
     (map-set (toBits binary64) (l .loop .out) (l .loop .n) _ ∙ p, q)
 
--- src/lib.rt:339:13
 add-i : tie.Need-add-i Inv-loop μ-loop
 add-i c = omega (arith, c .before .before .before .before .before .before .item-at .ensures .within)
 
--- src/lib.rt:326:5
 loop-less : tie.Need-loop-less Inv-loop μ-loop
 loop-less c = let m = c .before .before .before .before .before .before in omega (arith, m .item-at .ensures .within, m .item-at .ensures .above, c .if1 .left)
 
--- src/lib.rt:326:5
 loop-again : tie.Need-loop-again Inv-loop μ-loop
 loop-again c = let m = c .before .before .before .before .before .before in
     let l = m .before in

@@ -12,66 +12,49 @@ use mathlib.Core.Path.{ap, sym, _∙_}
 use Prim.Native.Nat.{ℕ, _-_}
 use Rattle.lists.proofs.fill_reals.Statement.{statement}
 use Rattle.lists.proofs.fill_reals.Tie as tie
-use Rattle.lists.proofs.fill_reals.Reads as reads
-use Rattle.lists.proofs.fill_reals.Lts as lts
-use Rattle.lists.proofs.fill_real_items.Reads as fill-real-items-reads
-use Rattle.lists.proofs.shape_of.Reads as shape-of-reads
 
--- src/lib.rt:349:11
 shape-of-requires : tie.Need-shape-of-requires
 shape-of-requires c κs = search needs
 
--- src/lib.rt:350:27
 enum-told : tie.Need-enum-told
 enum-told c = search needs
 
--- src/lib.rt:351:25
 enum-told-2 : tie.Need-enum-told-2
 enum-told-2 c = search needs
 
--- src/lib.rt:353:17
 enum-told-3 : tie.Need-enum-told-3
 enum-told-3 c = search needs
 
--- src/lib.rt:354:35
 sub-fill-real-items : tie.Need-sub-fill-real-items
 sub-fill-real-items c = let (n, f, o) = shape-full _ _ (c .before .before .shape-of .ensures) (c .enum-told3 .given .1) in omega (arith, n)
 
--- src/lib.rt:354:29
 sub-fill-real-items-2 : tie.Need-sub-fill-real-items-2
 sub-fill-real-items-2 c = let (n, f, o) = shape-full _ _ (c .before .before .shape-of .ensures) (c .enum-told3 .given .1) in omega (arith, n)
 
--- src/lib.rt:354:29
 part-fill-real-items-start : tie.Need-part-fill-real-items-start
 part-fill-real-items-start c = let (n, f, o) = shape-full _ _ (c .before .before .shape-of .ensures) (c .enum-told3 .given .1) in omega (arith, n)
 
--- src/lib.rt:354:29
 part-fill-real-items-end : tie.Need-part-fill-real-items-end
 part-fill-real-items-end c = let (n, f, o) = shape-full _ _ (c .before .before .shape-of .ensures) (c .enum-told3 .given .1) in omega (arith, n)
 
--- src/lib.rt:354:13
 fill-real-items-requires : tie.Need-fill-real-items-requires
 fill-real-items-requires c κs = let s = c .before .before in
     let t = s .before .before .before .before .before in
     fills-full (λ u. asFate (realOf u)) (now (t .args .t)) _ (s .before .before .shape-of .ensures) _ (t .pre) (s .enum-told3 .given .1) .1
 
--- src/lib.rt:344:1
 returns : tie.Need-returns
 returns c = let s = c .before .before in
     let t = s .before .before .before in
     absurd (fills-none (λ u. asFate (realOf u)) (now (t .args .t)) _ (s .shape-of .ensures) _ (t .pre) (c .enum-told .given .1))
 
--- src/lib.rt:344:1
 returns-2 : tie.Need-returns-2
 returns-2 c = let s = c .before .before in
     let t = s .before .before .before in
     fills-blank (λ u. asFate (realOf u)) (now (t .args .t)) _ (s .shape-of .ensures) _ (t .pre) (map (toBits binary64) (now (t .args .out))) (c .enum-told2 .given .1)
 
--- src/lib.rt:344:1
 same-length : tie.Need-same-length
 same-length c = search needs
 
--- src/lib.rt:344:1
 returns-3 : tie.Need-returns-3
 returns-3 c = let i = c .before .before in
     let s = i .before .before .before in

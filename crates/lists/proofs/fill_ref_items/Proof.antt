@@ -10,10 +10,6 @@ use Rattle.lists.specs.Fill.{Filling, filling-starts, filling-bad, filli
 use lib.ListN.{length-set}
 use Rattle.lists.proofs.fill_ref_items.Statement.{statement}
 use Rattle.lists.proofs.fill_ref_items.Tie as tie
-use Rattle.lists.proofs.fill_ref_items.Reads as reads
-use Rattle.lists.proofs.fill_ref_items.Lts as lts
-use Rattle.lists.proofs.item_at.Reads as item-at-reads
-use Rattle.reals.proofs.parse_ref.Reads as parse-ref-reads
 
 abbrev Inv-loop : tie.InvT-loop
 Inv-loop b out₀ i₀ n₀ out i n = Filling (λ u. asFate (referenceOf u)) b out₀ out i n
@@ -21,53 +17,42 @@ Inv-loop b out₀ i₀ n₀ out i n = Filling (λ u. asFate (referenceOf u)) b o
 abbrev μ-loop : tie.MeasureT-loop
 μ-loop b out₀ i₀ n₀ out i n = length b - i
 
--- src/lib.rt:180:5
 loop-holds : tie.Need-loop-holds Inv-loop μ-loop
 loop-holds c = filling-starts (λ u. asFate (referenceOf u)) (now (c .before .before .args .b)) (now (c .before .before .args .out)) (c .before .before .pre)
 
--- src/lib.rt:181:13
 item-at-requires : tie.Need-item-at-requires Inv-loop μ-loop
 item-at-requires c κs = search needs
 
--- src/lib.rt:185:52
 sub-parse-ref : tie.Need-sub-parse-ref Inv-loop μ-loop
 sub-parse-ref c = c .item-at .ensures .ordered
 
--- src/lib.rt:185:52
 part-parse-ref-start : tie.Need-part-parse-ref-start Inv-loop μ-loop
 part-parse-ref-start c = omega (arith, c .item-at .ensures .ordered, c .item-at .ensures .short, c .item-at .ensures .within)
 
--- src/lib.rt:185:52
 part-parse-ref-end : tie.Need-part-parse-ref-end Inv-loop μ-loop
 part-parse-ref-end c = omega (arith, c .item-at .ensures .ordered, c .item-at .ensures .short, c .item-at .ensures .within)
 
--- src/lib.rt:185:35
 parse-ref-requires : tie.Need-parse-ref-requires Inv-loop μ-loop
 parse-ref-requires c κs = search needs
 
--- src/lib.rt:185:30
 enum-known-v : tie.Need-enum-known-v Inv-loop μ-loop
 enum-known-v c = search needs
 
--- src/lib.rt:186:13
 enum-told : tie.Need-enum-told Inv-loop μ-loop
 enum-told c = search needs
 
--- src/lib.rt:186:13
 same-length : tie.Need-same-length Inv-loop μ-loop
 same-length c = let m = c .before .before .before .before in
     let l = m .before in
     let t = l .before .before .before in
     absurd (filling-bad (λ u. asFate (referenceOf u)) (now (t .args .b)) _ _ _ _ (l .loop .inv) (m .item-at .result) (m .item-at .ensures) 12 0 (ap (λ (a : Answer ℕ). asFate a) (ap toldReference (sym (c .enum-told .given .1)) ∙ c .before .before .parse-ref .ensures)))
 
--- src/lib.rt:186:13
 returns : tie.Need-returns Inv-loop μ-loop
 returns c = let m = c .before .before .before .before in
     let l = m .before in
     let t = l .before .before .before in
     absurd (filling-bad (λ u. asFate (referenceOf u)) (now (t .args .b)) _ _ _ _ (l .loop .inv) (m .item-at .result) (m .item-at .ensures) 12 0 (ap (λ (a : Answer ℕ). asFate a) (ap toldReference (sym (c .enum-told .given .1)) ∙ c .before .before .parse-ref .ensures)))
 
--- src/lib.rt:188:9
 mul-out : tie.Need-mul-out Inv-loop μ-loop
 mul-out c = let m = c .before .before .before .before .before in
     let l = m .before in
@@ -75,7 +60,6 @@ mul-out c = let m = c .before .before .before .before .before in
     let (p, q) = filling-place (λ u. asFate (referenceOf u)) (now (t .args .b)) _ _ _ _ (l .loop .inv) (m .item-at .result) (m .item-at .ensures) _ (ap (λ (a : Answer ℕ). asFate a) (ap toldReference (sym (c .before .v .given .1)) ∙ c .before .before .before .parse-ref .ensures)) in
     omega (arith, p)
 
--- src/lib.rt:188:9
 slice-write-out : tie.Need-slice-write-out Inv-loop μ-loop
 slice-write-out c = let m = c .before .before .before .before .before in
     let l = m .before in
@@ -83,13 +67,11 @@ slice-write-out c = let m = c .before .before .before .before .before in
     let (p, q) = filling-place (λ u. asFate (referenceOf u)) (now (t .args .b)) _ _ _ _ (l .loop .inv) (m .item-at .result) (m .item-at .ensures) _ (ap (λ (a : Answer ℕ). asFate a) (ap toldReference (sym (c .before .v .given .1)) ∙ c .before .before .before .parse-ref .ensures)) in
     omega (arith, p, q)
 
--- src/lib.rt:189:9
 add-n : tie.Need-add-n Inv-loop μ-loop
 add-n c = let m = c .before .before .before .before .before in
     let l = m .before in
     omega (arith, l .loop .inv .few, l .loop .inv .within)
 
--- src/lib.rt:191:13
 same-length-2 : tie.Need-same-length-2 Inv-loop μ-loop
 same-length-2 c = let m = c .before .before .before .before .before .before in
     let l = m .before in
@@ -97,7 +79,6 @@ same-length-2 c = let m = c .before .before .before .before .before .before in
     let (p, q) = filling-place (λ u. asFate (referenceOf u)) (now (t .args .b)) _ _ _ _ (l .loop .inv) (m .item-at .result) (m .item-at .ensures) _ (ap (λ (a : Answer ℕ). asFate a) (ap toldReference (sym (c .before .before .v .given .1)) ∙ c .before .before .before .before .parse-ref .ensures)) in
     length-set (l .loop .out) (l .loop .n) (c .before .before .v .given .0 .0) ∙ q
 
--- src/lib.rt:191:13
 returns-2 : tie.Need-returns-2 Inv-loop μ-loop
 returns-2 c = let m = c .before .before .before .before .before .before in
     let l = m .before in
@@ -105,15 +86,12 @@ returns-2 c = let m = c .before .before .before .before .before .before in
     let (p, q) = filling-last (λ u. asFate (referenceOf u)) (now (t .args .b)) _ _ _ _ (l .loop .inv) (m .item-at .result) (m .item-at .ensures) _ (ap (λ (a : Answer ℕ). asFate a) (ap toldReference (sym (c .before .before .v .given .1)) ∙ c .before .before .before .before .parse-ref .ensures)) (c .if1 .taken) in
     (p, q)
 
--- src/lib.rt:193:13
 add-i : tie.Need-add-i Inv-loop μ-loop
 add-i c = omega (arith, c .before .before .before .before .before .before .item-at .ensures .within)
 
--- src/lib.rt:180:5
 loop-less : tie.Need-loop-less Inv-loop μ-loop
 loop-less c = let m = c .before .before .before .before .before .before in omega (arith, m .item-at .ensures .within, m .item-at .ensures .above, c .if1 .left)
 
--- src/lib.rt:180:5
 loop-again : tie.Need-loop-again Inv-loop μ-loop
 loop-again c = let m = c .before .before .before .before .before .before in
     let l = m .before in

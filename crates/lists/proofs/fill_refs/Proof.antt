@@ -11,66 +11,49 @@ use mathlib.Core.Path.{ap, sym, _∙_}
 use Prim.Native.Nat.{ℕ, _-_}
 use Rattle.lists.proofs.fill_refs.Statement.{statement}
 use Rattle.lists.proofs.fill_refs.Tie as tie
-use Rattle.lists.proofs.fill_refs.Reads as reads
-use Rattle.lists.proofs.fill_refs.Lts as lts
-use Rattle.lists.proofs.fill_ref_items.Reads as fill-ref-items-reads
-use Rattle.lists.proofs.shape_of.Reads as shape-of-reads
 
--- src/lib.rt:210:11
 shape-of-requires : tie.Need-shape-of-requires
 shape-of-requires c κs = search needs
 
--- src/lib.rt:211:27
 enum-told : tie.Need-enum-told
 enum-told c = search needs
 
--- src/lib.rt:212:25
 enum-told-2 : tie.Need-enum-told-2
 enum-told-2 c = search needs
 
--- src/lib.rt:214:17
 enum-told-3 : tie.Need-enum-told-3
 enum-told-3 c = search needs
 
--- src/lib.rt:215:34
 sub-fill-ref-items : tie.Need-sub-fill-ref-items
 sub-fill-ref-items c = let (n, f, o) = shape-full _ _ (c .before .before .shape-of .ensures) (c .enum-told3 .given .1) in omega (arith, n)
 
--- src/lib.rt:215:28
 sub-fill-ref-items-2 : tie.Need-sub-fill-ref-items-2
 sub-fill-ref-items-2 c = let (n, f, o) = shape-full _ _ (c .before .before .shape-of .ensures) (c .enum-told3 .given .1) in omega (arith, n)
 
--- src/lib.rt:215:28
 part-fill-ref-items-start : tie.Need-part-fill-ref-items-start
 part-fill-ref-items-start c = let (n, f, o) = shape-full _ _ (c .before .before .shape-of .ensures) (c .enum-told3 .given .1) in omega (arith, n)
 
--- src/lib.rt:215:28
 part-fill-ref-items-end : tie.Need-part-fill-ref-items-end
 part-fill-ref-items-end c = let (n, f, o) = shape-full _ _ (c .before .before .shape-of .ensures) (c .enum-told3 .given .1) in omega (arith, n)
 
--- src/lib.rt:215:13
 fill-ref-items-requires : tie.Need-fill-ref-items-requires
 fill-ref-items-requires c κs = let s = c .before .before in
     let t = s .before .before .before .before .before in
     fills-full (λ u. asFate (referenceOf u)) (now (t .args .t)) _ (s .before .before .shape-of .ensures) _ (t .pre) (s .enum-told3 .given .1) .1
 
--- src/lib.rt:205:1
 returns : tie.Need-returns
 returns c = let s = c .before .before in
     let t = s .before .before .before in
     absurd (fills-none (λ u. asFate (referenceOf u)) (now (t .args .t)) _ (s .shape-of .ensures) _ (t .pre) (c .enum-told .given .1))
 
--- src/lib.rt:205:1
 returns-2 : tie.Need-returns-2
 returns-2 c = let s = c .before .before in
     let t = s .before .before .before in
     fills-blank (λ u. asFate (referenceOf u)) (now (t .args .t)) _ (s .shape-of .ensures) _ (t .pre) (now (t .args .out)) (c .enum-told2 .given .1)
 
--- src/lib.rt:205:1
 same-length : tie.Need-same-length
 same-length c = search needs
 
--- src/lib.rt:205:1
 returns-3 : tie.Need-returns-3
 returns-3 c = let i = c .before .before in
     let s = i .before .before .before in

@@ -13,10 +13,6 @@ use Rattle.lists.specs.Fill.{Filling, filling-starts, filling-bad, filli
 use lib.ListN.{length-set}
 use Rattle.lists.proofs.fill_whole_items.Statement.{statement}
 use Rattle.lists.proofs.fill_whole_items.Tie as tie
-use Rattle.lists.proofs.fill_whole_items.Reads as reads
-use Rattle.lists.proofs.fill_whole_items.Lts as lts
-use Rattle.lists.proofs.item_at.Reads as item-at-reads
-use Rattle.reals.proofs.parse_int.Reads as parse-int-reads
 
 abbrev Inv-loop : tie.InvT-loop
 Inv-loop b out₀ i₀ n₀ out i n = Filling (λ u. asFate (wholeOf u)) b out₀ out i n
@@ -24,53 +20,42 @@ Inv-loop b out₀ i₀ n₀ out i n = Filling (λ u. asFate (wholeOf u)) b out�
 abbrev μ-loop : tie.MeasureT-loop
 μ-loop b out₀ i₀ n₀ out i n = length b - i
 
--- src/lib.rt:265:5
 loop-holds : tie.Need-loop-holds Inv-loop μ-loop
 loop-holds c = filling-starts (λ u. asFate (wholeOf u)) (now (c .before .args .b)) (now (c .before .args .out)) (c .before .pre)
 
--- src/lib.rt:266:13
 item-at-requires : tie.Need-item-at-requires Inv-loop μ-loop
 item-at-requires c κs = search needs
 
--- src/lib.rt:270:48
 sub-parse-int : tie.Need-sub-parse-int Inv-loop μ-loop
 sub-parse-int c = c .item-at .ensures .ordered
 
--- src/lib.rt:270:48
 part-parse-int-start : tie.Need-part-parse-int-start Inv-loop μ-loop
 part-parse-int-start c = omega (arith, c .item-at .ensures .ordered, c .item-at .ensures .short, c .item-at .ensures .within)
 
--- src/lib.rt:270:48
 part-parse-int-end : tie.Need-part-parse-int-end Inv-loop μ-loop
 part-parse-int-end c = omega (arith, c .item-at .ensures .ordered, c .item-at .ensures .short, c .item-at .ensures .within)
 
--- src/lib.rt:270:31
 parse-int-requires : tie.Need-parse-int-requires Inv-loop μ-loop
 parse-int-requires c κs = search needs
 
--- src/lib.rt:270:26
 enum-known-v : tie.Need-enum-known-v Inv-loop μ-loop
 enum-known-v c = search needs
 
--- src/lib.rt:271:13
 enum-told : tie.Need-enum-told Inv-loop μ-loop
 enum-told c = search needs
 
--- src/lib.rt:271:13
 same-length : tie.Need-same-length Inv-loop μ-loop
 same-length c = let m = c .before .before .before .before in
     let l = m .before in
     let t = l .before .before in
     absurd (filling-bad (λ u. asFate (wholeOf u)) (now (t .args .b)) _ _ _ _ (l .loop .inv) (m .item-at .result) (m .item-at .ensures) 12 0 (ap (λ (a : Answer ℤ). asFate a) (ap toldWhole (sym (c .enum-told .given .1)) ∙ c .before .before .parse-int .ensures)))
 
--- src/lib.rt:271:13
 returns : tie.Need-returns Inv-loop μ-loop
 returns c = let m = c .before .before .before .before in
     let l = m .before in
     let t = l .before .before in
     absurd (filling-bad (λ u. asFate (wholeOf u)) (now (t .args .b)) _ _ _ _ (l .loop .inv) (m .item-at .result) (m .item-at .ensures) 12 0 (ap (λ (a : Answer ℤ). asFate a) (ap toldWhole (sym (c .enum-told .given .1)) ∙ c .before .before .parse-int .ensures)))
 
--- src/lib.rt:273:9
 mul-v : tie.Need-mul-v Inv-loop μ-loop
 mul-v c = let m = c .before .before .before .before .before in
     let l = m .before in
@@ -78,7 +63,6 @@ mul-v c = let m = c .before .before .before .before .before in
     let (p, q) = filling-place (λ u. asFate (wholeOf u)) (now (t .args .b)) _ _ _ _ (l .loop .inv) (m .item-at .result) (m .item-at .ensures) _ (ap (λ (a : Answer ℤ). asFate a) (ap toldWhole (sym (c .before .v .given .1)) ∙ c .before .before .before .parse-int .ensures)) in
     omega (arith, p)
 
--- src/lib.rt:273:9
 slice-set-from-v : tie.Need-slice-set-from-v Inv-loop μ-loop
 slice-set-from-v c = let m = c .before .before .before .before .before in
     let l = m .before in
@@ -86,13 +70,11 @@ slice-set-from-v c = let m = c .before .before .before .before .before in
     let (p, q) = filling-place (λ u. asFate (wholeOf u)) (now (t .args .b)) _ _ _ _ (l .loop .inv) (m .item-at .result) (m .item-at .ensures) _ (ap (λ (a : Answer ℤ). asFate a) (ap toldWhole (sym (c .before .v .given .1)) ∙ c .before .before .before .parse-int .ensures)) in
     omega (arith, p, q)
 
--- src/lib.rt:274:9
 add-n : tie.Need-add-n Inv-loop μ-loop
 add-n c = let m = c .before .before .before .before .before in
     let l = m .before in
     omega (arith, l .loop .inv .few, l .loop .inv .within)
 
--- src/lib.rt:276:13
 same-length-2 : tie.Need-same-length-2 Inv-loop μ-loop
 same-length-2 c = let m = c .before .before .before .before .before .before in
     let l = m .before in
@@ -100,7 +82,6 @@ same-length-2 c = let m = c .before .before .before .before .before .before in
     let (p, q) = filling-place (λ u. asFate (wholeOf u)) (now (t .args .b)) _ _ _ _ (l .loop .inv) (m .item-at .result) (m .item-at .ensures) _ (ap (λ (a : Answer ℤ). asFate a) (ap toldWhole (sym (c .before .before .v .given .1)) ∙ c .before .before .before .before .parse-int .ensures)) in
     length-set (l .loop .out) (l .loop .n) _ ∙ q
 
--- src/lib.rt:276:13
 returns-2 : tie.Need-returns-2 Inv-loop μ-loop
 returns-2 c = let m = c .before .before .before .before .before .before in
     let l = m .before in
@@ -108,15 +89,12 @@ returns-2 c = let m = c .before .before .before .before .before .before in
     let (p, q) = filling-last (λ u. asFate (wholeOf u)) (now (t .args .b)) _ _ _ _ (l .loop .inv) (m .item-at .result) (m .item-at .ensures) _ (ap fine (toZ-ofZ w64 (c .before .before .v .given .0 .0) record { sfits = c .before .known-told .given .0 .1 }) ∙ ap (λ (a : Answer ℤ). asFate a) (ap toldWhole (sym (c .before .before .v .given .1)) ∙ c .before .before .before .before .parse-int .ensures)) (c .if1 .taken) in
     (p, q)
 
--- src/lib.rt:278:13
 add-i : tie.Need-add-i Inv-loop μ-loop
 add-i c = omega (arith, c .before .before .before .before .before .before .item-at .ensures .within)
 
--- src/lib.rt:265:5
 loop-less : tie.Need-loop-less Inv-loop μ-loop
 loop-less c = let m = c .before .before .before .before .before .before in omega (arith, m .item-at .ensures .within, m .item-at .ensures .above, c .if1 .left)
 
--- src/lib.rt:265:5
 loop-again : tie.Need-loop-again Inv-loop μ-loop
 loop-again c = let m = c .before .before .before .before .before .before in
     let l = m .before in

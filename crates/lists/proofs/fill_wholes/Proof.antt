@@ -12,66 +12,49 @@ use mathlib.Core.Path.{ap, sym, _∙_}
 use Prim.Native.Nat.{_-_}
 use Rattle.lists.proofs.fill_wholes.Statement.{statement}
 use Rattle.lists.proofs.fill_wholes.Tie as tie
-use Rattle.lists.proofs.fill_wholes.Reads as reads
-use Rattle.lists.proofs.fill_wholes.Lts as lts
-use Rattle.lists.proofs.fill_whole_items.Reads as fill-whole-items-reads
-use Rattle.lists.proofs.shape_of.Reads as shape-of-reads
 
--- src/lib.rt:288:11
 shape-of-requires : tie.Need-shape-of-requires
 shape-of-requires c κs = search needs
 
--- src/lib.rt:289:27
 enum-told : tie.Need-enum-told
 enum-told c = search needs
 
--- src/lib.rt:290:25
 enum-told-2 : tie.Need-enum-told-2
 enum-told-2 c = search needs
 
--- src/lib.rt:292:17
 enum-told-3 : tie.Need-enum-told-3
 enum-told-3 c = search needs
 
--- src/lib.rt:293:36
 sub-fill-whole-items : tie.Need-sub-fill-whole-items
 sub-fill-whole-items c = let (n, f, o) = shape-full _ _ (c .before .before .shape-of .ensures) (c .enum-told3 .given .1) in omega (arith, n)
 
--- src/lib.rt:293:30
 sub-fill-whole-items-2 : tie.Need-sub-fill-whole-items-2
 sub-fill-whole-items-2 c = let (n, f, o) = shape-full _ _ (c .before .before .shape-of .ensures) (c .enum-told3 .given .1) in omega (arith, n)
 
--- src/lib.rt:293:30
 part-fill-whole-items-start : tie.Need-part-fill-whole-items-start
 part-fill-whole-items-start c = let (n, f, o) = shape-full _ _ (c .before .before .shape-of .ensures) (c .enum-told3 .given .1) in omega (arith, n)
 
--- src/lib.rt:293:30
 part-fill-whole-items-end : tie.Need-part-fill-whole-items-end
 part-fill-whole-items-end c = let (n, f, o) = shape-full _ _ (c .before .before .shape-of .ensures) (c .enum-told3 .given .1) in omega (arith, n)
 
--- src/lib.rt:293:13
 fill-whole-items-requires : tie.Need-fill-whole-items-requires
 fill-whole-items-requires c κs = let s = c .before .before in
     let t = s .before .before .before .before in
     fills-full (λ u. asFate (wholeOf u)) (now (t .args .t)) _ (s .before .before .shape-of .ensures) _ (t .pre) (s .enum-told3 .given .1) .1
 
--- src/lib.rt:283:1
 returns : tie.Need-returns
 returns c = let s = c .before .before in
     let t = s .before .before in
     absurd (fills-none (λ u. asFate (wholeOf u)) (now (t .args .t)) _ (s .shape-of .ensures) _ (t .pre) (c .enum-told .given .1))
 
--- src/lib.rt:283:1
 returns-2 : tie.Need-returns-2
 returns-2 c = let s = c .before .before in
     let t = s .before .before in
     fills-blank (λ u. asFate (wholeOf u)) (now (t .args .t)) _ (s .shape-of .ensures) _ (t .pre) (now (t .args .out)) (c .enum-told2 .given .1)
 
--- src/lib.rt:283:1
 same-length : tie.Need-same-length
 same-length c = search needs
 
--- src/lib.rt:283:1
 returns-3 : tie.Need-returns-3
 returns-3 c = let i = c .before in
     let s = i .before .before .before in

@@ -6,45 +6,31 @@ use denote.Ref.{now}
 use Prim.Native.Nat.{ℕ, _+_}
 use Rattle.lists.proofs.item_at.Statement.{statement}
 use Rattle.lists.proofs.item_at.Tie as tie
-use Rattle.lists.proofs.item_at.Reads as reads
-use Rattle.lists.proofs.item_at.Lts as lts
-use Rattle.lex.proofs.within.Reads as within-reads
-use Rattle.lists.proofs.item_end.Reads as item-end-reads
-use Rattle.scalars.proofs.trim.Reads as trim-reads
 
--- src/lib.rt:89:9
 within-requires : tie.Need-within-requires
 within-requires c κs = search needs
 
--- src/lib.rt:90:9
 item-end-requires : tie.Need-item-end-requires
 item-end-requires c κs = search needs
 
--- src/lib.rt:91:27
 sub-trim : tie.Need-sub-trim
 sub-trim c = search needs
 
--- src/lib.rt:91:27
 part-trim-start : tie.Need-part-trim-start
 part-trim-start c = search needs
 
--- src/lib.rt:91:27
 part-trim-end : tie.Need-part-trim-end
 part-trim-end c = search needs
 
--- src/lib.rt:91:9
 trim-requires : tie.Need-trim-requires
 trim-requires c κs = search needs
 
--- src/lib.rt:93:16
 add-t6 : tie.Need-add-t6
 add-t6 c = search needs
 
--- src/lib.rt:94:15
 add-t10 : tie.Need-add-t10
 add-t10 c = search needs
 
--- src/lib.rt:86:1
 returns : tie.Need-returns
 returns c = let e = c .before .before .before .before .item-end in
     let w = c .before .before .before .before .before .within in

@@ -6,23 +6,16 @@ use lib.ListN.{length}
 use Prim.Native.Nat.{min}
 use Rattle.lists.proofs.item_end.Statement.{statement}
 use Rattle.lists.proofs.item_end.Tie as tie
-use Rattle.lists.proofs.item_end.Reads as reads
-use Rattle.lists.proofs.item_end.Lts as lts
-use Rattle.params.proofs.param_end.Reads as param-end-reads
 
--- src/lib.rt:61:11
 param-end-requires : tie.Need-param-end-requires
 param-end-requires c κs = search needs
 
--- src/lib.rt:62:22
 enum-known-p : tie.Need-enum-known-p
 enum-known-p c = search needs
 
--- src/lib.rt:63:27
 enum-told : tie.Need-enum-told
 enum-told c = search needs
 
--- src/lib.rt:56:1
 returns : tie.Need-returns
 returns c = let t = c .before .before .before .before .before in
     let b = now (t .args .b) in
@@ -30,7 +23,6 @@ returns c = let t = c .before .before .before .before .before in
     let (u, v, w) = found-in (min (t .args .i) (length b)) (length b) _ _ _ (p .ensures .1) (c .before .p .given .1) in
     (end-found b (t .args .i) _ _ _ (p .ensures .0) (c .before .p .given .1), (omega (arith, u, v, w), w))
 
--- src/lib.rt:56:1
 returns-2 : tie.Need-returns-2
 returns-2 c = let t = c .before .before .before .before in
     let b = now (t .args .b) in

@@ -12,11 +12,6 @@ use mathlib.Core.Path.{_≡_, ap, sym, _∙_, subst}
 use Prim.Native.Nat.{ℕ, suc, _+_, _-_}
 use Rattle.lists.proofs.keep_real_items.Statement.{statement}
 use Rattle.lists.proofs.keep_real_items.Tie as tie
-use Rattle.lists.proofs.keep_real_items.Reads as reads
-use Rattle.lists.proofs.keep_real_items.Lts as lts
-use Rattle.lists.proofs.item_at.Reads as item-at-reads
-use Rattle.lists.proofs.keep_real.Reads as keep-real-reads
-use Rattle.reals.proofs.parse_real.Reads as parse-real-reads
 
 abbrev Inv-loop : tie.InvT-loop
 Inv-loop b first₀ i₀ n₀ first i n = Keeping (λ u. asFate (realOf u)) b (map (toBits binary64) first₀) (map (toBits binary64) first) i n
@@ -24,43 +19,33 @@ Inv-loop b first₀ i₀ n₀ first i n = Keeping (λ u. asFate (realOf u)) b (m
 abbrev μ-loop : tie.MeasureT-loop
 μ-loop b first₀ i₀ n₀ first i n = length b - i
 
--- src/lib.rt:399:5
 loop-holds : tie.Need-loop-holds Inv-loop μ-loop
 loop-holds c = let t = c .before .before in keeping-starts (λ u. asFate (realOf u)) (now (t .args .b)) (map (toBits binary64) (now (t .args .first)))
 
--- src/lib.rt:400:13
 item-at-requires : tie.Need-item-at-requires Inv-loop μ-loop
 item-at-requires c κs = search needs
 
--- src/lib.rt:404:33
 sub-parse-real : tie.Need-sub-parse-real Inv-loop μ-loop
 sub-parse-real c = c .item-at .ensures .ordered
 
--- src/lib.rt:404:33
 part-parse-real-start : tie.Need-part-parse-real-start Inv-loop μ-loop
 part-parse-real-start c = omega (arith, c .item-at .ensures .ordered, c .item-at .ensures .short, c .item-at .ensures .within)
 
--- src/lib.rt:404:33
 part-parse-real-end : tie.Need-part-parse-real-end Inv-loop μ-loop
 part-parse-real-end c = omega (arith, c .item-at .ensures .ordered, c .item-at .ensures .short, c .item-at .ensures .within)
 
--- src/lib.rt:404:15
 parse-real-requires : tie.Need-parse-real-requires Inv-loop μ-loop
 parse-real-requires c κs = search needs
 
--- src/lib.rt:405:25
 enum-known-x : tie.Need-enum-known-x Inv-loop μ-loop
 enum-known-x c = search needs
 
--- src/lib.rt:405:31
 keep-real-requires : tie.Need-keep-real-requires Inv-loop μ-loop
 keep-real-requires c κs = search needs
 
--- src/lib.rt:406:30
 enum-told : tie.Need-enum-told Inv-loop μ-loop
 enum-told c = search needs
 
--- src/lib.rt:406:30
 same-length : tie.Need-same-length Inv-loop μ-loop
 same-length c = let p = c .before .before in
     let m = p .before .before in
@@ -68,7 +53,6 @@ same-length c = let p = c .before .before in
     let t = l .before .before .before in
     sym (length-map (l .loop .first) (toBits binary64)) ∙ keeping-length (λ x. asFate (realOf x)) (now (t .args .b)) _ _ _ _ (l .loop .inv) ∙ length-map (now (t .args .first)) (toBits binary64)
 
--- src/lib.rt:406:30
 returns : tie.Need-returns Inv-loop μ-loop
 returns c = let p = c .before .before in
     let m = p .before .before in
@@ -78,11 +62,9 @@ returns c = let p = c .before .before in
     let (x, y) = keeping-bad (λ x. asFate (realOf x)) (now (t .args .b)) _ _ _ _ (l .loop .inv) (m .item-at .result) (m .item-at .ensures) 13 0 (ap (λ (a : Answer ℕ). asFate a) (ap toldReal (sym (c .enum-told .given .1)) ∙ p .parse-real .ensures)) in
     (ap (faulty 13) e ∙ x, y)
 
--- src/lib.rt:407:30
 enum-told-2 : tie.Need-enum-told-2 Inv-loop μ-loop
 enum-told-2 c = search needs
 
--- src/lib.rt:407:30
 same-length-2 : tie.Need-same-length-2 Inv-loop μ-loop
 same-length-2 c = let p = c .before .before in
     let m = p .before .before in
@@ -90,7 +72,6 @@ same-length-2 c = let p = c .before .before in
     let t = l .before .before .before in
     sym (length-map (l .loop .first) (toBits binary64)) ∙ keeping-length (λ x. asFate (realOf x)) (now (t .args .b)) _ _ _ _ (l .loop .inv) ∙ length-map (now (t .args .first)) (toBits binary64)
 
--- src/lib.rt:407:30
 returns-2 : tie.Need-returns-2 Inv-loop μ-loop
 returns-2 c = let p = c .before .before in
     let m = p .before .before in
@@ -100,11 +81,9 @@ returns-2 c = let p = c .before .before in
     let (x, y) = keeping-bad (λ x. asFate (realOf x)) (now (t .args .b)) _ _ _ _ (l .loop .inv) (m .item-at .result) (m .item-at .ensures) 12 0 (ap (λ (a : Answer ℕ). asFate a) (ap toldReal (sym (c .enum-told2 .given .1)) ∙ p .parse-real .ensures)) in
     (ap (faulty 12) e ∙ x, y)
 
--- src/lib.rt:409:9
 add-n : tie.Need-add-n Inv-loop μ-loop
 add-n c = let l = c .before .before .before .before .before .before .before .before .before .before in omega (arith, l .loop .inv .few, l .loop .inv .within)
 
--- src/lib.rt:411:13
 same-length-3 : tie.Need-same-length-3 Inv-loop μ-loop
 same-length-3 c = let p = c .before .before .before .before .before .before .before .before in
     let m = p .before .before in
@@ -112,7 +91,6 @@ same-length-3 c = let p = c .before .before .before .before .before .before .bef
     let t = l .before .before .before in
     ap length (c .before .before .before .keep-real .ensures) ∙ length-set (l .loop .first) (l .loop .n) _ ∙ sym (length-map (l .loop .first) (toBits binary64)) ∙ keeping-length (λ x. asFate (realOf x)) (now (t .args .b)) _ _ _ _ (l .loop .inv) ∙ length-map (now (t .args .first)) (toBits binary64)
 
--- src/lib.rt:411:13
 returns-3 : tie.Need-returns-3 Inv-loop μ-loop
 returns-3 c = let p = c .before .before .before .before .before .before .before .before in
     let m = p .before .before in
@@ -122,15 +100,12 @@ returns-3 c = let p = c .before .before .before .before .before .before .before 
     let (x, y) = keeping-last (λ x. asFate (realOf x)) (now (t .args .b)) _ _ _ _ (l .loop .inv) (m .item-at .result) (m .item-at .ensures) _ (ap (λ (a : Answer ℕ). asFate a) (ap toldReal (sym (c .before .before .before .before .before .before .x .given .1)) ∙ p .parse-real .ensures)) (c .if1 .taken) in
     (x, subst (λ (w : List ℕ). Kept (itemsFrom (suc (length (now (t .args .b)))) (λ u. asFate (realOf u)) 0 (now (t .args .b))) (map (toBits binary64) (now (t .args .first))) w) (sym q) y)
 
--- src/lib.rt:413:13
 add-i : tie.Need-add-i Inv-loop μ-loop
 add-i c = omega (arith, c .before .before .before .before .before .before .before .before .before .before .item-at .ensures .within)
 
--- src/lib.rt:399:5
 loop-less : tie.Need-loop-less Inv-loop μ-loop
 loop-less c = let m = c .before .before .before .before .before .before .before .before .before .before in omega (arith, m .item-at .ensures .within, m .item-at .ensures .above, c .if1 .left)
 
--- src/lib.rt:399:5
 loop-again : tie.Need-loop-again Inv-loop μ-loop
 loop-again c = let p = c .before .before .before .before .before .before .before .before in
     let m = p .before .before in

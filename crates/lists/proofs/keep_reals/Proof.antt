@@ -13,56 +13,40 @@ use mathlib.Core.Path.{ap, sym, _∙_}
 use Prim.Native.Nat.{suc, _+_, _-_}
 use Rattle.lists.proofs.keep_reals.Statement.{statement}
 use Rattle.lists.proofs.keep_reals.Tie as tie
-use Rattle.lists.proofs.keep_reals.Reads as reads
-use Rattle.lists.proofs.keep_reals.Lts as lts
-use Rattle.lists.proofs.keep_real_items.Reads as keep-real-items-reads
-use Rattle.lists.proofs.shape_of.Reads as shape-of-reads
 
--- src/lib.rt:422:11
 shape-of-requires : tie.Need-shape-of-requires
 shape-of-requires c κs = search needs
 
--- src/lib.rt:423:27
 enum-told : tie.Need-enum-told
 enum-told c = search needs
 
--- src/lib.rt:424:25
 enum-told-2 : tie.Need-enum-told-2
 enum-told-2 c = search needs
 
--- src/lib.rt:426:17
 enum-told-3 : tie.Need-enum-told-3
 enum-told-3 c = search needs
 
--- src/lib.rt:427:41
 sub-keep-real-items : tie.Need-sub-keep-real-items
 sub-keep-real-items c = let (n, f, o) = shape-full _ _ (c .before .before .shape-of .ensures) (c .enum-told3 .given .1) in omega (arith, n)
 
--- src/lib.rt:427:35
 sub-keep-real-items-2 : tie.Need-sub-keep-real-items-2
 sub-keep-real-items-2 c = let (n, f, o) = shape-full _ _ (c .before .before .shape-of .ensures) (c .enum-told3 .given .1) in omega (arith, n)
 
--- src/lib.rt:427:35
 part-keep-real-items-start : tie.Need-part-keep-real-items-start
 part-keep-real-items-start c = let (n, f, o) = shape-full _ _ (c .before .before .shape-of .ensures) (c .enum-told3 .given .1) in omega (arith, n)
 
--- src/lib.rt:427:35
 part-keep-real-items-end : tie.Need-part-keep-real-items-end
 part-keep-real-items-end c = search needs
 
--- src/lib.rt:427:19
 keep-real-items-requires : tie.Need-keep-real-items-requires
 keep-real-items-requires c κs = search needs
 
--- src/lib.rt:428:30
 enum-known-k : tie.Need-enum-known-k
 enum-known-k c = search needs
 
--- src/lib.rt:429:32
 enum-known-o : tie.Need-enum-known-o
 enum-known-o c = search needs
 
--- src/lib.rt:429:53
 add-t18 : tie.Need-add-t18
 add-t18 c = let i = c .before .before .before .before .before in
     let s = i .before .before .before in
@@ -72,11 +56,9 @@ add-t18 c = let i = c .before .before .before .before .before in
     let p = told-place length (itemsFrom (suc (length b)) (λ u. asFate (realOf u)) 0 b) 12 (c .before .o .given .0 .0) (0 + length b) (ap toldCounted (sym (c .before .o .given .1)) ∙ i .keep-real-items .ensures .0) (items-inward (λ u. asFate (realOf u)) (scalar-inward realOf) (suc (length b)) 0 b) in
     omega (arith, n, body-length t n, p)
 
--- src/lib.rt:430:34
 enum-known-o-2 : tie.Need-enum-known-o-2
 enum-known-o-2 c = search needs
 
--- src/lib.rt:430:57
 add-t19 : tie.Need-add-t19
 add-t19 c = let i = c .before .before .before .before .before in
     let s = i .before .before .before in
@@ -86,45 +68,37 @@ add-t19 c = let i = c .before .before .before .before .before in
     let p = told-place length (itemsFrom (suc (length b)) (λ u. asFate (realOf u)) 0 b) 13 (c .before .o2 .given .0 .0) (0 + length b) (ap toldCounted (sym (c .before .o2 .given .1)) ∙ i .keep-real-items .ensures .0) (items-inward (λ u. asFate (realOf u)) (scalar-inward realOf) (suc (length b)) 0 b) in
     omega (arith, n, body-length t n, p)
 
--- src/lib.rt:418:1
 returns : tie.Need-returns
 returns c = let s = c .before .before in
     let t = s .before .before .before .args in
     kept-none (λ u. asFate (realOf u)) (now (t .t)) _ (s .shape-of .ensures) (map (toBits binary64) (now (t .first))) (c .enum-told .given .1)
 
--- src/lib.rt:418:1
 returns-2 : tie.Need-returns-2
 returns-2 c = let s = c .before .before in
     let t = s .before .before .before .args in
     kept-blank (λ u. asFate (realOf u)) (now (t .t)) _ (s .shape-of .ensures) (map (toBits binary64) (now (t .first))) (c .enum-told2 .given .1)
 
--- src/lib.rt:418:1
 same-length : tie.Need-same-length
 same-length c = search needs
 
--- src/lib.rt:418:1
 returns-3 : tie.Need-returns-3
 returns-3 c = let i = c .before .before .before .before .before in
     let s = i .before .before .before in
     let t = s .before .before .before .before .before .args in
     kept-full (λ u. asFate (realOf u)) (now (t .t)) _ (s .before .before .shape-of .ensures) (map (toBits binary64) (now (t .first))) (s .enum-told3 .given .1) _ _ (ap toldCounted (sym (c .before .k .given .1)) ∙ i .keep-real-items .ensures .0) (i .keep-real-items .ensures .1)
 
--- src/lib.rt:418:1
 same-length-2 : tie.Need-same-length-2
 same-length-2 c = search needs
 
--- src/lib.rt:418:1
 returns-4 : tie.Need-returns-4
 returns-4 c = let i = c .before .before .before .before .before in
     let s = i .before .before .before in
     let t = s .before .before .before .before .before .args in
     kept-full (λ u. asFate (realOf u)) (now (t .t)) _ (s .before .before .shape-of .ensures) (map (toBits binary64) (now (t .first))) (s .enum-told3 .given .1) _ _ (ap toldCounted (sym (c .before .o .given .1)) ∙ i .keep-real-items .ensures .0) (i .keep-real-items .ensures .1)
 
--- src/lib.rt:418:1
 same-length-3 : tie.Need-same-length-3
 same-length-3 c = search needs
 
--- src/lib.rt:418:1
 returns-5 : tie.Need-returns-5
 returns-5 c = let i = c .before .before .before .before .before in
     let s = i .before .before .before in

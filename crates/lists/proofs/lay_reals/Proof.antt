@@ -9,8 +9,6 @@ use Prim.Native.Nat.{ℕ, _+_, _-_, _≤_}
 use lib.Ieee.{Float, nan}
 use Rattle.lists.proofs.lay_reals.Statement.{statement}
 use Rattle.lists.proofs.lay_reals.Tie as tie
-use Rattle.lists.proofs.lay_reals.Reads as reads
-use Rattle.lists.proofs.lay_reals.Lts as lts
 
 abbrev Inv-loop : tie.InvT-loop
 Inv-loop first n out₀ i₀ out i = (i ≤ n) × (out ≡ take i first ++ drop i out₀)
@@ -18,49 +16,39 @@ Inv-loop first n out₀ i₀ out i = (i ≤ n) × (out ≡ take i first ++ drop 
 abbrev μ-loop : tie.MeasureT-loop
 μ-loop first n out₀ i₀ out i = n - i
 
--- src/lib.rt:442:5
 loop-holds : tie.Need-loop-holds Inv-loop μ-loop
 loop-holds c = (omega arith, refl)
 
--- src/lib.rt:443:18
 mul-out : tie.Need-mul-out Inv-loop μ-loop
 mul-out c = let t = c .before .before in omega (arith, t .pre .0, c .loop-test .taken)
 
--- src/lib.rt:443:18
 shared-slice-read-out : tie.Need-shared-slice-read-out Inv-loop μ-loop
 shared-slice-read-out c = let t = c .before .before .before in omega (arith, t .pre .0, c .before .loop-test .taken)
 
--- src/lib.rt:443:9
 mul-out-2 : tie.Need-mul-out-2 Inv-loop μ-loop
 mul-out-2 c = let t = c .before .before .before in omega (arith, t .pre .0, c .before .loop-test .taken)
 
--- src/lib.rt:443:9
 slice-write-out : tie.Need-slice-write-out Inv-loop μ-loop
 slice-write-out c = let t = c .before .before .before in
     let l = c .before .before in
     omega (arith, t .pre .0, t .pre .1, c .before .loop-test .taken, copy-length (now (t .args .first)) (now (t .args .out)) (l .loop .out) (l .loop .i) (omega (arith, t .pre .0)) (omega (arith, t .pre .1)) (l .loop .inv .1))
 
--- src/lib.rt:444:9
 add-i : tie.Need-add-i Inv-loop μ-loop
 add-i c = omega arith
 
--- src/lib.rt:442:5
 loop-less : tie.Need-loop-less Inv-loop μ-loop
 loop-less c = omega (arith, c .before .loop-test .taken)
 
--- src/lib.rt:442:5
 loop-again : tie.Need-loop-again Inv-loop μ-loop
 loop-again c = let t = c .before .before .before in
     let l = c .before .before in
     (omega (arith, c .before .loop-test .taken), ap (λ (x : List Float). set x (l .loop .i) (getD (now (t .args .first)) (l .loop .i) nan)) (l .loop .inv .1) ∙ copy-store (now (t .args .first)) (now (t .args .out)) (l .loop .i) nan (omega (arith, t .pre .0, c .before .loop-test .taken)) (omega (arith, t .pre .1, c .before .loop-test .taken)))
 
--- src/lib.rt:437:1
 same-length : tie.Need-same-length Inv-loop μ-loop
 same-length c = let t = c .before .before in
     let l = c .before in
     copy-length (now (t .args .first)) (now (t .args .out)) (l .loop .out) (l .loop .i) (omega (arith, t .pre .0)) (omega (arith, t .pre .1)) (l .loop .inv .1)
 
--- src/lib.rt:437:1
 returns : tie.Need-returns Inv-loop μ-loop
 returns c = let t = c .before .before in
     let l = c .before in

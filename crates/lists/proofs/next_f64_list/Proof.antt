@@ -14,41 +14,28 @@ use lib.Ieee.{binary64, toBits}
 use mathlib.Core.List.{map}
 use Rattle.lists.proofs.next_f64_list.Statement.{statement}
 use Rattle.lists.proofs.next_f64_list.Tie as tie
-use Rattle.lists.proofs.next_f64_list.Reads as reads
-use Rattle.lists.proofs.next_f64_list.Lts as lts
-use Rattle.lists.proofs.answer_of.Reads as answer-of-reads
-use Rattle.lists.proofs.read_reals.Reads as read-reals-reads
-use Rattle.params.proofs.param_span.Reads as param-span-reads
 
--- src/lib.rt:401:11
 param-span-requires : tie.Need-param-span-requires
 param-span-requires c κs = search needs
 
--- src/lib.rt:402:22
 enum-known-f : tie.Need-enum-known-f
 enum-known-f c = search needs
 
--- src/lib.rt:403:19
 enum-known-start : tie.Need-enum-known-start
 enum-known-start c = search needs
 
--- src/lib.rt:403:60
 sub-read-reals : tie.Need-sub-read-reals
 sub-read-reals c = let (u, v) = cut-places _ _ _ _ _ (c .before .before .before .param-span .ensures .1) (c .before .start .given .1) in u
 
--- src/lib.rt:403:60
 part-read-reals-start : tie.Need-part-read-reals-start
 part-read-reals-start c = let (u, v) = cut-places _ _ _ _ _ (c .before .before .before .param-span .ensures .1) (c .before .start .given .1) in omega (arith, u, v)
 
--- src/lib.rt:403:60
 part-read-reals-end : tie.Need-part-read-reals-end
 part-read-reals-end c = let (u, v) = cut-places _ _ _ _ _ (c .before .before .before .param-span .ensures .1) (c .before .start .given .1) in omega (arith, u, v)
 
--- src/lib.rt:403:49
 read-reals-requires : tie.Need-read-reals-requires
 read-reals-requires c κs = search needs
 
--- src/lib.rt:403:39
 answer-of-requires : tie.Need-answer-of-requires
 answer-of-requires c κs = let i = c .before .before in
     let g = i .before .before .before .before in
@@ -60,16 +47,13 @@ answer-of-requires c κs = let i = c .before .before in
     let h = read-inward (listOf realOf) (list-inward (λ x. asFate (realOf x)) (scalar-inward realOf)) (fitsIn (length (now (t .args .out)))) (take (z - a) (drop a s)) (i .read-reals .result) (i .read-reals .ensures .0) in
     omega (arith, u, v, h, length-take (z - a) (drop a s), length-drop a s)
 
--- src/lib.rt:397:1
 returns : tie.Need-returns
 returns c = let t = c .before .before .before .before .before .before in
     lists-uncut (listOf realOf) (map (toBits binary64) (now (t .args .out))) (length (now (t .args .out))) (now (t .args .file)) (t .args .at .place) (t .args .at .end) _ _ _ (ap toldCut (sym (c .before .f .given .1)) ∙ c .before .before .before .param-span .ensures .0)
 
--- src/lib.rt:397:1
 same-length : tie.Need-same-length
 same-length c = search needs
 
--- src/lib.rt:397:1
 returns-2 : tie.Need-returns-2
 returns-2 c = let i = c .before .before .before in
     let g = i .before .before .before .before in

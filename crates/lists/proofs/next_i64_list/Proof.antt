@@ -12,41 +12,28 @@ use mathlib.Core.Path.{ap, sym, _∙_}
 use Prim.Native.Nat.{_-_}
 use Rattle.lists.proofs.next_i64_list.Statement.{statement}
 use Rattle.lists.proofs.next_i64_list.Tie as tie
-use Rattle.lists.proofs.next_i64_list.Reads as reads
-use Rattle.lists.proofs.next_i64_list.Lts as lts
-use Rattle.lists.proofs.answer_of.Reads as answer-of-reads
-use Rattle.lists.proofs.read_wholes.Reads as read-wholes-reads
-use Rattle.params.proofs.param_span.Reads as param-span-reads
 
--- src/lib.rt:336:11
 param-span-requires : tie.Need-param-span-requires
 param-span-requires c κs = search needs
 
--- src/lib.rt:337:22
 enum-known-f : tie.Need-enum-known-f
 enum-known-f c = search needs
 
--- src/lib.rt:338:19
 enum-known-start : tie.Need-enum-known-start
 enum-known-start c = search needs
 
--- src/lib.rt:338:61
 sub-read-wholes : tie.Need-sub-read-wholes
 sub-read-wholes c = let (u, v) = cut-places _ _ _ _ _ (c .before .before .before .param-span .ensures .1) (c .before .start .given .1) in u
 
--- src/lib.rt:338:61
 part-read-wholes-start : tie.Need-part-read-wholes-start
 part-read-wholes-start c = let (u, v) = cut-places _ _ _ _ _ (c .before .before .before .param-span .ensures .1) (c .before .start .given .1) in omega (arith, u, v)
 
--- src/lib.rt:338:61
 part-read-wholes-end : tie.Need-part-read-wholes-end
 part-read-wholes-end c = let (u, v) = cut-places _ _ _ _ _ (c .before .before .before .param-span .ensures .1) (c .before .start .given .1) in omega (arith, u, v)
 
--- src/lib.rt:338:49
 read-wholes-requires : tie.Need-read-wholes-requires
 read-wholes-requires c κs = search needs
 
--- src/lib.rt:338:39
 answer-of-requires : tie.Need-answer-of-requires
 answer-of-requires c κs = let i = c .before in
     let g = i .before .before .before .before in
@@ -58,16 +45,13 @@ answer-of-requires c κs = let i = c .before in
     let h = read-inward (listOf wholeOf) (list-inward (λ x. asFate (wholeOf x)) (scalar-inward wholeOf)) (fitsIn (length (now (t .args .out)))) (take (z - a) (drop a s)) (i .read-wholes .result) (i .read-wholes .ensures .0) in
     omega (arith, u, v, h, length-take (z - a) (drop a s), length-drop a s)
 
--- src/lib.rt:332:1
 returns : tie.Need-returns
 returns c = let t = c .before .before .before .before .before in
     lists-uncut (listOf wholeOf) (now (t .args .out)) (length (now (t .args .out))) (now (t .args .file)) (t .args .at .place) (t .args .at .end) _ _ _ (ap toldCut (sym (c .before .f .given .1)) ∙ c .before .before .before .param-span .ensures .0)
 
--- src/lib.rt:332:1
 same-length : tie.Need-same-length
 same-length c = search needs
 
--- src/lib.rt:332:1
 returns-2 : tie.Need-returns-2
 returns-2 c = let i = c .before .before in
     let g = i .before .before .before .before in

@@ -8,19 +8,13 @@ use Rattle.lists.specs.ReadLaws.{read-told, room-fits, room-refused, roo
 use Rattle.lists.proofs.Laws.{refused-read}
 use Rattle.lists.proofs.read_wholes.Statement.{statement}
 use Rattle.lists.proofs.read_wholes.Tie as tie
-use Rattle.lists.proofs.read_wholes.Reads as reads
-use Rattle.lists.proofs.read_wholes.Lts as lts
-use Rattle.lists.proofs.fill_wholes.Reads as fill-wholes-reads
-use Rattle.lists.proofs.room_for.Reads as room-for-reads
 
--- src/lib.rt:323:9
 room-for-requires : tie.Need-room-for-requires
 room-for-requires c κs = search needs
 
 enum-told : tie.Need-enum-told
 enum-told c = search needs
 
--- src/lib.rt:325:9
 returns : tie.Need-returns
 returns c = let r = c .before .room-for in
     let t = c .before .before .before in
@@ -28,18 +22,15 @@ returns c = let r = c .before .room-for in
     let (q, k) = refused-read (r .result) (c .match .keys2) in
     (e, room-refused (listOf wholeOf (now (t .args .t))) (length (now (t .args .out))) q (now (t .args .out)) (sym k ∙ e))
 
--- src/lib.rt:327:5
 fill-wholes-requires : tie.Need-fill-wholes-requires
 fill-wholes-requires c κs = let r = c .before .before .before .room-for in
     let t = c .before .before .before .before .before in
     let e = read-told (λ u. asFate (wholeOf u)) (now (t .args .t)) (length (now (t .args .out))) _ (r .ensures) in
     room-fits (listOf wholeOf (now (t .args .t))) (length (now (t .args .out))) _ (ap toldReadList (sym (c .before .enum-told .given .1)) ∙ e)
 
--- src/lib.rt:319:1
 same-length : tie.Need-same-length
 same-length c = search needs
 
--- src/lib.rt:319:1
 returns-2 : tie.Need-returns-2
 returns-2 c = let i = c .before in
     let r = i .before .before .before .before .room-for in

@@ -8,44 +8,33 @@ use Prim.Native.Nat.{ℕ}
 use Rattle.lists.specs.ReadLaws.{roomed-bad}
 use Rattle.lists.proofs.room_for.Statement.{statement}
 use Rattle.lists.proofs.room_for.Tie as tie
-use Rattle.lists.proofs.room_for.Reads as reads
-use Rattle.lists.proofs.room_for.Lts as lts
-use Rattle.lists.proofs.count_list.Reads as count-list-reads
 
--- src/lib.rt:228:11
 count-list-requires : tie.Need-count-list-requires
 count-list-requires c κs = search needs
 
--- src/lib.rt:229:24
 enum-known-o : tie.Need-enum-known-o
 enum-known-o c = search needs
 
--- src/lib.rt:230:26
 enum-known-o-2 : tie.Need-enum-known-o-2
 enum-known-o-2 c = search needs
 
--- src/lib.rt:231:22
 enum-known-n : tie.Need-enum-known-n
 enum-known-n c = search needs
 
--- src/lib.rt:233:17
 returns : tie.Need-returns
 returns c = let l = c .before .before .before .before in
     let t = l .before .before in
     let e = ap toldCounted (sym (c .before .before .n .given .1)) ∙ l .count-list .ensures .0 in
     rw (← e) (rw (le-leb (c .before .before .n .given .0 .0) (t .args .room) (omega (arith, c .if1 .taken))) refl)
 
--- src/lib.rt:225:1
 returns-2 : tie.Need-returns-2
 returns-2 c = let l = c .before .before .before in
     roomed-bad (λ (n : ℕ). leb n (l .before .before .args .room)) 12 _ _ (ap toldCounted (sym (c .before .o .given .1)) ∙ l .count-list .ensures .0)
 
--- src/lib.rt:225:1
 returns-3 : tie.Need-returns-3
 returns-3 c = let l = c .before .before .before in
     roomed-bad (λ (n : ℕ). leb n (l .before .before .args .room)) 13 _ _ (ap toldCounted (sym (c .before .o2 .given .1)) ∙ l .count-list .ensures .0)
 
--- src/lib.rt:225:1
 returns-4 : tie.Need-returns-4
 returns-4 c = let l = c .before .before .before .before in
     let t = l .before .before in

@@ -6,33 +6,23 @@ use denote.Ref.{now}
 use lib.Ieee.{binary64, toBits}
 use Rattle.lists.proofs.write_reals.Statement.{statement}
 use Rattle.lists.proofs.write_reals.Tie as tie
-use Rattle.lists.proofs.write_reals.Reads as reads
-use Rattle.lists.proofs.write_reals.Lts as lts
-use Rattle.lists.proofs.fill_reals.Reads as fill-reals-reads
-use Rattle.lists.proofs.lay_reals.Reads as lay-reals-reads
 
--- src/lib.rt:456:9
 lay-reals-requires : tie.Need-lay-reals-requires
 lay-reals-requires c κs = search needs
 
--- src/lib.rt:457:9
 same-length : tie.Need-same-length
 same-length c = search needs
 
--- src/lib.rt:457:9
 returns : tie.Need-returns
 returns c = let t = c .before .before .before .before .before .before .before .before in
     copy-held (toBits binary64) (listOf realOf (now (t .args .t))) (now (t .args .first)) (now (t .args .out)) _ (t .args .n) (t .pre .1 .0) (c .before .before .before .before .if1 .taken) (t .pre .1 .1) (c .before .before .lay-reals .ensures)
 
--- src/lib.rt:459:5
 fill-reals-requires : tie.Need-fill-reals-requires
 fill-reals-requires c κs = search needs
 
--- src/lib.rt:449:1
 same-length-2 : tie.Need-same-length-2
 same-length-2 c = search needs
 
--- src/lib.rt:449:1
 returns-2 : tie.Need-returns-2
 returns-2 c = search needs
 

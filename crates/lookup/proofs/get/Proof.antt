@@ -1,51 +1,36 @@
 use borrow.Author.Needs.{needs}
 use native.Mathlib.Omega.{arith}
-use mathlib.Core.Path.{_≡_, refl, sym, _∙_, ap}
-use mathlib.Core.Bool.{Bool, true, false}
-use mathlib.Core.Option.{Option, none, some}
-use Prim.Native.Nat.{ℕ, _+_, _*_, _-_, _≤_}
-use borrow.Author.Tests.{not-true, not-false, lt-ltb, le-ltb, eq-eqb, ne-eqb}
+use mathlib.Core.Path.{sym, _∙_, ap}
+use mathlib.Core.Option.{some}
+use Prim.Native.Nat.{_-_}
 use denote.Ref.{now}
-use lib.ListN.{length, take, drop, getD}
 use Rattle.index.specs.Search.{toldFound}
 use Rattle.lookup.specs.Lookup.{rowFound, rowNumbers}
 use Rattle.lookup.specs.Laws.{found-fits}
 use Rattle.lookup.proofs.get.Statement.{statement}
 use Rattle.lookup.proofs.get.Tie as tie
-use Rattle.lookup.proofs.get.Reads as reads
-use Rattle.lookup.proofs.get.Lts as lts
-use Rattle.index.proofs.get.Reads as get-reads
-use Rattle.lookup.proofs.read_row.Reads as read-row-reads
-use Rattle.lookup.proofs.wide.Reads as wide-reads
 
--- src/lib.rt:125:11
 get-requires : tie.Need-get-requires
 get-requires c κs = search needs
 
--- src/lib.rt:126:27
 enum-told : tie.Need-enum-told
 enum-told c = search needs
 
--- src/lib.rt:127:19
 enum-known-r : tie.Need-enum-known-r
 enum-known-r c = search needs
 
--- src/lib.rt:127:51
 wide-requires : tie.Need-wide-requires
 wide-requires c κs = search needs
 
--- src/lib.rt:127:36
 read-row-requires : tie.Need-read-row-requires
 read-row-requires c κs =
     let h = found-fits (now (c .before .before .before .before .before .before .before .before .args .rows)) (now (c .before .before .before .before .before .before .before .before .args .slots)) (c .before .before .before .before .before .before .before .before .args .t .ids) (c .before .before .before .before .before .before .before .before .args .id) (c .before .before .r .given .0 .0) (sym (ap toldFound (c .before .before .r .given .1)) ∙ c .before .before .before .before .get .ensures) in
     let e = c .wide .ensures in
     omega arith
 
--- src/lib.rt:121:1
 returns : tie.Need-returns
 returns c = ap (rowFound (now (c .before .before .before .before .before .before .args .rows))) (sym (ap toldFound (c .enum-told .given .1)) ∙ c .before .before .get .ensures)
 
--- src/lib.rt:121:1
 returns-2 : tie.Need-returns-2
 returns-2 c = ap some (c .read-row .ensures ∙ ap (rowNumbers (now (c .before .before .before .before .before .before .before .before .before .args .rows))) (c .before .wide .ensures)) ∙ ap (rowFound (now (c .before .before .before .before .before .before .before .before .before .args .rows))) (sym (ap toldFound (c .before .before .before .r .given .1)) ∙ c .before .before .before .before .before .get .ensures)
 

@@ -1,49 +1,34 @@
 use borrow.Author.Needs.{needs}
-use native.Mathlib.Omega.{arith}
-use mathlib.Core.Path.{_≡_, refl, sym, _∙_, ap}
-use mathlib.Core.Bool.{Bool, true, false}
-use mathlib.Core.Option.{Option, none, some}
-use Prim.Native.Nat.{ℕ, _+_, _*_, _-_, _≤_}
-use borrow.Author.Tests.{not-true, not-false, lt-ltb, le-ltb, eq-eqb, ne-eqb}
+use mathlib.Core.Path.{refl, sym, _∙_}
+use Prim.Native.Nat.{_-_}
+use borrow.Author.Tests.{not-true, not-false, eq-eqb, ne-eqb}
 use denote.Ref.{now}
-use lib.ListN.{length, take, drop, getD}
+use lib.ListN.{length}
 use Rattle.record.specs.Turns.{bounds}
 use Rattle.lookup.proofs.kind_in.Statement.{statement}
 use Rattle.lookup.proofs.kind_in.Tie as tie
-use Rattle.lookup.proofs.kind_in.Reads as reads
-use Rattle.lookup.proofs.kind_in.Lts as lts
-use Rattle.kinds.proofs.intern.Reads as intern-reads
-use Rattle.lookup.proofs.fits.Reads as fits-reads
 
--- src/lib.rt:187:9
 returns : tie.Need-returns
 returns c = sym (rw (eq-eqb _ _ (c .if1 .taken)) refl)
 
--- src/lib.rt:191:9
 fits-requires : tie.Need-fits-requires
 fits-requires c κs = search needs
 
--- src/lib.rt:192:9
 returns-2 : tie.Need-returns-2
 returns-2 c = sym (rw (ne-eqb _ _ (c .before .before .if1 .left), sym (c .before .fits2 .ensures) ∙ not-true _ (c .if2 .taken)) refl)
 
--- src/lib.rt:194:19
 sub-intern : tie.Need-sub-intern
 sub-intern c = bounds (c .before .before .before .before .before .args .row .keyword .start) (c .before .before .before .before .before .args .row .keyword .end) (length (now (c .before .before .before .before .before .args .file))) (sym (c .before .fits2 .ensures) ∙ not-false _ (c .if2 .left)) .0
 
--- src/lib.rt:194:19
 part-intern-start : tie.Need-part-intern-start
 part-intern-start c = bounds (c .before .before .before .before .before .args .row .keyword .start) (c .before .before .before .before .before .args .row .keyword .end) (length (now (c .before .before .before .before .before .args .file))) (sym (c .before .fits2 .ensures) ∙ not-false _ (c .if2 .left)) .0
 
--- src/lib.rt:194:19
 part-intern-end : tie.Need-part-intern-end
 part-intern-end c = bounds (c .before .before .before .before .before .args .row .keyword .start) (c .before .before .before .before .before .args .row .keyword .end) (length (now (c .before .before .before .before .before .args .file))) (sym (c .before .fits2 .ensures) ∙ not-false _ (c .if2 .left)) .1
 
--- src/lib.rt:194:5
 intern-requires : tie.Need-intern-requires
 intern-requires c κs = search needs
 
--- src/lib.rt:183:1
 returns-3 : tie.Need-returns-3
 returns-3 c = c .intern .ensures ∙ sym (rw (ne-eqb _ _ (c .before .before .before .before .if1 .left), sym (c .before .before .before .fits2 .ensures) ∙ not-false _ (c .before .before .if2 .left)) refl)
 

@@ -1,6 +1,6 @@
 -- `nearest::bits` meets its contract: only a NaN differs from itself, and its pattern is the fixed one. Assumes nothing.
 use mathlib.Core.Path.{_≡_, refl, sym, ap, subst, _∙_}
-use mathlib.Core.Bool.{Bool, true, false, not}
+use mathlib.Core.Bool.{true, false, not}
 use lib.Dec.{T}
 use lib.Ieee.{Float, nan, inf, fin, binary64, toBits, ne, isNan}
 use lib.Ieee.Compare.{differs-from-itself, nan-differs}

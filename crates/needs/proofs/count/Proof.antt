@@ -5,45 +5,31 @@ use Rattle.needs.specs.Laws.{needs-refused, needs-read, refused-number, 
 use borrow.Author.Needs.{needs}
 use Rattle.needs.proofs.count.Statement.{statement}
 use Rattle.needs.proofs.count.Tie as tie
-use Rattle.needs.proofs.count.Reads as reads
-use Rattle.needs.proofs.count.Lts as lts
-use Rattle.error.proofs.number.Reads as number-reads
-use Rattle.needs.proofs.pass.Reads as pass-reads
-use Rattle.scan.proofs.scan.Reads as scan-reads
 
--- src/lib.rt:132:30
 array-borrow-prefix-headers : tie.Need-array-borrow-prefix-headers
 array-borrow-prefix-headers c = search needs
 
--- src/lib.rt:132:30
 slice-aggregate-scan : tie.Need-slice-aggregate-scan
 slice-aggregate-scan c = search needs
 
--- src/lib.rt:132:49
 array-borrow-prefix-rows : tie.Need-array-borrow-prefix-rows
 array-borrow-prefix-rows c = search needs
 
--- src/lib.rt:132:49
 slice-aggregate-scan-2 : tie.Need-slice-aggregate-scan-2
 slice-aggregate-scan-2 c = search needs
 
--- src/lib.rt:132:9
 scan-requires : tie.Need-scan-requires
 scan-requires c κs = search needs
 
--- src/lib.rt:133:26
 enum-known-r : tie.Need-enum-known-r
 enum-known-r c = search needs
 
--- src/lib.rt:134:9
 enum-told : tie.Need-enum-told
 enum-told c = search needs
 
--- src/lib.rt:134:9
 pass-requires : tie.Need-pass-requires
 pass-requires c κs = search needs
 
--- src/lib.rt:134:9
 returns : tie.Need-returns
 returns c =
     let k = c .before .before .before .before .before in
@@ -51,11 +37,9 @@ returns c =
     let v = c .before .enum-told .given .1 in
     c .pass .ensures ∙ needs-read (now (a .file)) (λ q e. absurd (good-not-bad q (sym (ap toldScan v) ∙ k .scan .ensures .0 ∙ sym e)))
 
--- src/lib.rt:136:8
 number-requires : tie.Need-number-requires
 number-requires c κs = search needs
 
--- src/lib.rt:137:9
 returns-2 : tie.Need-returns-2
 returns-2 c =
     let k = c .before .before .before .before .before .before .before in
@@ -63,11 +47,9 @@ returns-2 c =
     let v = c .before .before .before .r .given .1 in
     needs-refused (now (a .file)) _ (sym (ap toldScan v) ∙ k .scan .ensures .0) (λ n. c .if1 .taken (c .before .number .ensures ∙ n))
 
--- src/lib.rt:139:5
 pass-requires-2 : tie.Need-pass-requires-2
 pass-requires-2 c κs = search needs
 
--- src/lib.rt:127:1
 returns-3 : tie.Need-returns-3
 returns-3 c =
     let k = c .before .before .before .before .before .before .before .before in

@@ -8,12 +8,6 @@ use Rattle.statement.specs.Statement.{toldSaid}
 use Rattle.needs.specs.Laws.{Counting, counting-starts, counting-ends, counting-refused, counting-moves, counting-header, counting-record}
 use Rattle.needs.proofs.pass.Statement.{statement}
 use Rattle.needs.proofs.pass.Tie as tie
-use Rattle.needs.proofs.pass.Reads as reads
-use Rattle.needs.proofs.pass.Lts as lts
-use Rattle.needs.proofs.found.Reads as found-reads
-use Rattle.needs.proofs.greater.Reads as greater-reads
-use Rattle.needs.proofs.with_record.Reads as with-record-reads
-use Rattle.statement.proofs.next_statement.Reads as next-statement-reads
 
 abbrev Inv-loop : tie.InvT-loop
 Inv-loop s i₀ section₀ headers₀ records₀ max₀ most₀ i section headers records max most = Counting s i section headers records max most
@@ -21,23 +15,18 @@ Inv-loop s i₀ section₀ headers₀ records₀ max₀ most₀ i section header
 abbrev μ-loop : tie.MeasureT-loop
 μ-loop s i₀ section₀ headers₀ records₀ max₀ most₀ i section headers records max most = length s - i
 
--- src/lib.rt:91:5
 loop-holds : tie.Need-loop-holds Inv-loop μ-loop
 loop-holds c = counting-starts (now (c .before .args .s))
 
--- src/lib.rt:92:15
 next-statement-requires : tie.Need-next-statement-requires Inv-loop μ-loop
 next-statement-requires c κs = search needs
 
--- src/lib.rt:93:27
 enum-told : tie.Need-enum-told Inv-loop μ-loop
 enum-told c = search needs
 
--- src/lib.rt:93:27
 found-requires : tie.Need-found-requires Inv-loop μ-loop
 found-requires c κs = search needs
 
--- src/lib.rt:93:27
 returns : tie.Need-returns Inv-loop μ-loop
 returns c =
     let n = c .before .before .before in
@@ -46,11 +35,9 @@ returns c =
     let v = c .before .enum-told in
     rw (c .found .ensures) (counting-ends _ _ _ _ _ _ _ (t .loop .inv) (sym (ap (toldSaid (now (a .s))) (v .given .1)) ∙ n .next-statement .ensures .0))
 
--- src/lib.rt:94:27
 enum-known-f : tie.Need-enum-known-f Inv-loop μ-loop
 enum-known-f c = search needs
 
--- src/lib.rt:94:33
 returns-2 : tie.Need-returns-2 Inv-loop μ-loop
 returns-2 c =
     let n = c .before .before .before in
@@ -59,11 +46,9 @@ returns-2 c =
     let v = c .before .f in
     counting-refused _ _ _ _ _ _ _ (t .loop .inv) _ (sym (ap (toldSaid (now (a .s))) (v .given .1)) ∙ n .next-statement .ensures .0)
 
--- src/lib.rt:95:25
 enum-known-to : tie.Need-enum-known-to Inv-loop μ-loop
 enum-known-to c = search needs
 
--- src/lib.rt:91:5
 loop-less : tie.Need-loop-less Inv-loop μ-loop
 loop-less c =
     let n = c .before .before .before in
@@ -73,7 +58,6 @@ loop-less c =
     let w = rw (v .given .1) at (n .next-statement .ensures .1) in
     omega arith
 
--- src/lib.rt:91:5
 loop-again : tie.Need-loop-again Inv-loop μ-loop
 loop-again c =
     let n = c .before .before .before in
@@ -83,11 +67,9 @@ loop-again c =
     let w = rw (v .given .1) at (n .next-statement .ensures .1) in
     counting-moves _ _ _ _ _ _ _ (t .loop .inv) _ _ (sym (ap (toldSaid (now (a .s))) (v .given .1)) ∙ n .next-statement .ensures .0) (w .0) (w .1)
 
--- src/lib.rt:99:25
 enum-known-span : tie.Need-enum-known-span Inv-loop μ-loop
 enum-known-span c = search needs
 
--- src/lib.rt:101:17
 add-headers : tie.Need-add-headers Inv-loop μ-loop
 add-headers c =
     let n = c .before .before .before in
@@ -97,11 +79,9 @@ add-headers c =
     let w = rw (v .given .1) at (n .next-statement .ensures .1) in
     omega (arith, t .loop .inv .hroom)
 
--- src/lib.rt:102:24
 with-record-requires : tie.Need-with-record-requires Inv-loop μ-loop
 with-record-requires c κs = search needs
 
--- src/lib.rt:91:5
 loop-less-2 : tie.Need-loop-less-2 Inv-loop μ-loop
 loop-less-2 c =
     let n = c .before .before .before .before in
@@ -111,7 +91,6 @@ loop-less-2 c =
     let w = rw (v .given .1) at (n .next-statement .ensures .1) in
     omega arith
 
--- src/lib.rt:91:5
 loop-again-2 : tie.Need-loop-again-2 Inv-loop μ-loop
 loop-again-2 c =
     let n = c .before .before .before .before in
@@ -121,11 +100,9 @@ loop-again-2 c =
     let w = rw (v .given .1) at (n .next-statement .ensures .1) in
     rw (c .with-record .ensures) (counting-header _ _ _ _ _ _ _ (t .loop .inv) _ (v .given .0 .1 .0) _ (sym (ap (toldSaid (now (a .s))) (v .given .1)) ∙ n .next-statement .ensures .0) (w .0) (w .2))
 
--- src/lib.rt:109:27
 enum-known-span-2 : tie.Need-enum-known-span-2 Inv-loop μ-loop
 enum-known-span-2 c = search needs
 
--- src/lib.rt:111:17
 add-records : tie.Need-add-records Inv-loop μ-loop
 add-records c =
     let n = c .before .before .before in
@@ -135,15 +112,12 @@ add-records c =
     let w = rw (v .given .1) at (n .next-statement .ensures .1) in
     omega (arith, t .loop .inv .rroom)
 
--- src/lib.rt:112:17
 greater-requires : tie.Need-greater-requires Inv-loop μ-loop
 greater-requires c κs = search needs
 
--- src/lib.rt:109:24
 with-record-requires-2 : tie.Need-with-record-requires-2 Inv-loop μ-loop
 with-record-requires-2 c κs = search needs
 
--- src/lib.rt:91:5
 loop-less-3 : tie.Need-loop-less-3 Inv-loop μ-loop
 loop-less-3 c =
     let n = c .before .before .before .before .before in
@@ -153,7 +127,6 @@ loop-less-3 c =
     let w = rw (v .given .1) at (n .next-statement .ensures .1) in
     omega arith
 
--- src/lib.rt:91:5
 loop-again-3 : tie.Need-loop-again-3 Inv-loop μ-loop
 loop-again-3 c =
     let n = c .before .before .before .before .before in

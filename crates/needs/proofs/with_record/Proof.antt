@@ -3,20 +3,13 @@ use Rattle.lengths.specs.Lengths.{both}
 use borrow.Author.Needs.{needs}
 use Rattle.needs.proofs.with_record.Statement.{statement}
 use Rattle.needs.proofs.with_record.Tie as tie
-use Rattle.needs.proofs.with_record.Reads as reads
-use Rattle.needs.proofs.with_record.Lts as lts
-use Rattle.lengths.proofs.larger_each.Reads as larger-each-reads
-use Rattle.lengths.proofs.record_sizes.Reads as record-sizes-reads
 
--- src/lib.rt:45:32
 record-sizes-requires : tie.Need-record-sizes-requires
 record-sizes-requires c κs = search needs
 
--- src/lib.rt:45:5
 larger-each-requires : tie.Need-larger-each-requires
 larger-each-requires c κs = search needs
 
--- src/lib.rt:42:1
 returns : tie.Need-returns
 returns c = c .larger-each .ensures ∙ ap (both _) (c .before .record-sizes .ensures)
 

@@ -5,37 +5,28 @@ use lib.ListN.{length}
 use lib.Seq.{length-take-le}
 use borrow.Author.Tests.{not-true, not-false}
 use denote.Ref.{now}
-use mathlib.Core.Path.{refl, _∙_, sym, ap}
+use mathlib.Core.Path.{refl, _∙_, sym}
 use native.Mathlib.Omega.{arith}
 use Rattle.params.proofs.is_empty.Statement.{statement}
 use Rattle.params.proofs.is_empty.Tie as tie
-use Rattle.params.proofs.is_empty.Reads as reads
-use Rattle.params.proofs.is_empty.Lts as lts
-use Rattle.params.proofs.in_file.Reads as in-file-reads
-use Rattle.params.proofs.past_trivia.Reads as past-trivia-reads
 
--- src/lib.rt:263:9
 in-file-requires : tie.Need-in-file-requires
 in-file-requires c κs = search needs
 
--- src/lib.rt:264:9
 returns : tie.Need-returns
 unfolding emptyOf
 returns c = rw (← c .before .in-file .ensures, not-true (c .before .in-file .result) (c .if1 .taken)) refl
 
--- src/lib.rt:266:29
 slice-aggregate-past-trivia : tie.Need-slice-aggregate-past-trivia
 slice-aggregate-past-trivia c = let t = c .before .before .before .before in
     let h = in-true _ _ _ (sym (c .before .before .in-file .ensures) ∙ not-false _ (c .before .if1 .left)) in
     sym (length-take-le (t .args .at .end) (now (t .args .file)) (h .1))
 
--- src/lib.rt:266:9
 past-trivia-requires : tie.Need-past-trivia-requires
 past-trivia-requires c κs = let t = c .before .before .before .before in
     let h = in-true (length (now (t .args .file))) (t .args .at .place) (t .args .at .end) (sym (c .before .before .in-file .ensures) ∙ not-false _ (c .before .if1 .left)) in
     omega (arith, h .0, length-take-le (t .args .at .end) (now (t .args .file)) (h .1))
 
--- src/lib.rt:258:1
 returns-2 : tie.Need-returns-2
 returns-2 c = let t = c .before .before .before .before .before in
     let k = sym (c .before .before .before .in-file .ensures) ∙ not-false _ (c .before .before .if1 .left) in

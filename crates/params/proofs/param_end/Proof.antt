@@ -1,21 +1,15 @@
-use Rattle.params.specs.Seek.{Standing, Stands, Stepped, onward, step-comma, step-nested, step-opening, step-closing, step-string, step-open, step-binary, step-binary-open, step-blank, step-plain, step-slash, step-other, onward-over, onward-starts, text-past, text-never, comment-past, comment-stuck, on-byte, endedAt, EndedIn}
-use Rattle.params.specs.Cut.{cut, cutOf}
-use lib.ListN.{length, drop, getD}
-use Prim.Native.Nat.{ℕ, _-_, _≤_, _+_}
-use mathlib.Core.Path.{_≡_, refl, _∙_, sym, ap}
+use Rattle.params.specs.Seek.{Stepped, onward, step-plain, onward-over, onward-starts}
+use Rattle.params.specs.Cut.{cutOf}
+use lib.ListN.{length, drop}
+use Prim.Native.Nat.{ℕ, _-_, _≤_}
+use mathlib.Core.Path.{_≡_, _∙_, sym, ap}
 use native.Mathlib.Omega.{arith}
-use borrow.Author.Tests.{not-true, not-false}
 use borrow.Author.Needs.{needs}
 use denote.Ref.{now}
 use Rattle.params.specs.declared.Step as StepCode
 use Rattle.lex.specs.Seek.{drop-within}
 use Rattle.params.proofs.param_end.Statement.{statement}
 use Rattle.params.proofs.param_end.Tie as tie
-use Rattle.params.proofs.param_end.Reads as reads
-use Rattle.params.proofs.param_end.Lts as lts
-use Rattle.lex.proofs.within.Reads as within-reads
-use Rattle.params.proofs.past_plain.Reads as past-plain-reads
-use Rattle.params.proofs.token_at.Reads as token-at-reads
 
 abbrev Inv-loop : tie.InvT-loop
 Inv-loop part start from i₀ solid₀ depth₀ i solid depth = (from ≤ solid) × (solid ≤ i) × (i ≤ length part) × (depth ≤ i) × (onward part i solid depth ≡ cutOf (drop start part))
@@ -23,11 +17,9 @@ Inv-loop part start from i₀ solid₀ depth₀ i solid depth = (from ≤ solid)
 abbrev μ-loop : tie.MeasureT-loop
 μ-loop part start from i₀ solid₀ depth₀ i solid depth = length part - i
 
--- src/lib.rt:153:9
 within-requires : tie.Need-within-requires Inv-loop μ-loop
 within-requires c κs = search needs
 
--- src/lib.rt:157:5
 loop-holds : tie.Need-loop-holds Inv-loop μ-loop
 loop-holds c = let s = now (c .before .before .args .part) in
     let w = c .within .ensures in (
@@ -38,23 +30,18 @@ loop-holds c = let s = now (c .before .before .args .part) in
       onward-starts s (c .before .before .args .start) (c .within .result) (ap (λ (k : ℕ). drop k s) w ∙ drop-within s (c .before .before .args .start)),
     )
 
--- src/lib.rt:158:12
 shared-slice-read-if1 : tie.Need-shared-slice-read-if1 Inv-loop μ-loop
 shared-slice-read-if1 c = search needs
 
--- src/lib.rt:177:28
 add-past-plain : tie.Need-add-past-plain Inv-loop μ-loop
 add-past-plain c = search needs
 
--- src/lib.rt:177:17
 past-plain-requires : tie.Need-past-plain-requires Inv-loop μ-loop
 past-plain-requires c κs = search needs
 
--- src/lib.rt:175:5
 loop-less : tie.Need-loop-less Inv-loop μ-loop
 loop-less c = let r = c .past-plain .ensures .0 in let n = c .past-plain .ensures .1 in omega (arith, r, n)
 
--- src/lib.rt:175:5
 loop-again : tie.Need-loop-again Inv-loop μ-loop
 loop-again c = let l = c .before .before .before .before .loop in
     let s = now (c .before .before .before .before .before .before .before .args .part) in
@@ -64,7 +51,6 @@ loop-again c = let l = c .before .before .before .before .loop in
     let d = l .inv .3 in
     (omega (arith, r, f, o), omega arith, c .past-plain .ensures .1, omega (arith, r, d), sym (c .past-plain .ensures .2 (l .depth)) ∙ sym (step-plain s (l .i) (l .solid) (l .depth) (omega arith) (c .before .if1 .taken)) ∙ l .inv .4)
 
--- src/lib.rt:162:19
 token-at-requires : tie.Need-token-at-requires Inv-loop μ-loop
 token-at-requires c κs = let l = c .before .before .before .loop in record {
   place = omega arith;
@@ -73,33 +59,27 @@ token-at-requires c κs = let l = c .before .before .before .loop in record {
   bounded = omega (arith, c .before .before .before .before .before .before .good .0 .1);
 }
 
--- src/lib.rt:163:32
 enum-told : tie.Need-enum-told Inv-loop μ-loop
 enum-told c = search needs
 
--- src/lib.rt:163:32
 returns : tie.Need-returns Inv-loop μ-loop
 returns c = let t = c .before .before in
     let l = t .before .before .before .before .loop in
     let k : Stepped (now (t .before .before .before .before .before .before .before .args .part)) (l .i) (l .solid) (l .depth) StepCode.the-variants.Comma = rw (c .enum-told .given .1) at (t .token-at .ensures) in
     (sym k ∙ l .inv .4, (omega (arith, t .before .before .before .before .before .within .ensures), omega arith, omega arith))
 
--- src/lib.rt:164:31
 enum-told-2 : tie.Need-enum-told-2 Inv-loop μ-loop
 enum-told-2 c = search needs
 
--- src/lib.rt:164:31
 returns-2 : tie.Need-returns-2 Inv-loop μ-loop
 returns-2 c = let t = c .before .before in
     let l = t .before .before .before .before .loop in
     let k : Stepped (now (t .before .before .before .before .before .before .before .args .part)) (l .i) (l .solid) (l .depth) StepCode.the-variants.Open = rw (c .enum-told2 .given .1) at (t .token-at .ensures) in
     (sym k ∙ l .inv .4, (omega (arith, t .before .before .before .before .before .within .ensures), omega arith))
 
--- src/lib.rt:165:26
 enum-known-j : tie.Need-enum-known-j Inv-loop μ-loop
 enum-known-j c = search needs
 
--- src/lib.rt:157:5
 loop-less-2 : tie.Need-loop-less-2 Inv-loop μ-loop
 loop-less-2 c = let t = c .before .before .before in
     let l = t .before .before .before .before .loop in
@@ -107,7 +87,6 @@ loop-less-2 c = let t = c .before .before .before in
     let k : Stepped (now (t .before .before .before .before .before .before .before .args .part)) (l .i) (l .solid) (l .depth) (StepCode.the-variants.On (g .0 .0) (g .0 .1 .0) (g .0 .1 .1 .0)) = rw (g .1) at (t .token-at .ensures) in
     omega (arith, k .1, k .2)
 
--- src/lib.rt:157:5
 loop-again-2 : tie.Need-loop-again-2 Inv-loop μ-loop
 loop-again-2 c = let t = c .before .before .before in
     let l = t .before .before .before .before .loop in
@@ -115,7 +94,6 @@ loop-again-2 c = let t = c .before .before .before in
     let k : Stepped (now (t .before .before .before .before .before .before .before .args .part)) (l .i) (l .solid) (l .depth) (StepCode.the-variants.On (g .0 .0) (g .0 .1 .0) (g .0 .1 .1 .0)) = rw (g .1) at (t .token-at .ensures) in
     (omega (arith, k .3), omega (arith, k .4), omega (arith, k .2), omega (arith, k .1, k .5), sym (k .0) ∙ l .inv .4)
 
--- src/lib.rt:149:1
 returns-3 : tie.Need-returns-3 Inv-loop μ-loop
 returns-3 c = let l = c .before .loop in
     let s = now (c .before .before .before .before .args .part) in

@@ -8,40 +8,29 @@ use lib.ListN.{length, take}
 use lib.Seq.{length-take-le}
 use borrow.Author.Tests.{not-true, not-false}
 use denote.Ref.{now}
-use Prim.Native.Nat.{ℕ, _≤_, _<_, min}
+use Prim.Native.Nat.{ℕ, _≤_, min}
 use mathlib.Core.Path.{_≡_, refl, _∙_, sym, ap, subst}
 use native.Mathlib.Omega.{arith}
 use Rattle.params.proofs.param_span.Statement.{statement}
 use Rattle.params.proofs.param_span.Tie as tie
-use Rattle.params.proofs.param_span.Reads as reads
-use Rattle.params.proofs.param_span.Lts as lts
-use Rattle.params.proofs.in_file.Reads as in-file-reads
-use Rattle.params.proofs.param_end.Reads as param-end-reads
-use Rattle.params.proofs.past_comma.Reads as past-comma-reads
-use Rattle.params.proofs.past_trivia.Reads as past-trivia-reads
 
--- src/lib.rt:219:9
 in-file-requires : tie.Need-in-file-requires
 in-file-requires c κs = search needs
 
--- src/lib.rt:220:9
 returns : tie.Need-returns
 unfolding paramOf
 returns c = (rw (← c .before .in-file .ensures, not-true (c .before .in-file .result) (c .if1 .taken)) refl, tt)
 
--- src/lib.rt:222:9
 slice-aggregate-part : tie.Need-slice-aggregate-part
 slice-aggregate-part c = let t = c .before .before .before .before in
     let h = in-true (length (now (t .args .file))) (t .args .at .place) (t .args .at .end) (sym (c .before .before .in-file .ensures) ∙ not-false _ (c .before .if1 .left)) in
     sym (length-take-le (t .args .at .end) (now (t .args .file)) (h .1))
 
--- src/lib.rt:223:9
 past-trivia-requires : tie.Need-past-trivia-requires
 past-trivia-requires c κs = let t = c .before .before .before .before in
     let h = in-true (length (now (t .args .file))) (t .args .at .place) (t .args .at .end) (sym (c .before .before .in-file .ensures) ∙ not-false _ (c .before .if1 .left)) in
     omega (arith, h .0, length-take-le (t .args .at .end) (now (t .args .file)) (h .1))
 
--- src/lib.rt:225:9
 returns-2 : tie.Need-returns-2
 returns-2 c = let t = c .before .before .before .before .before .before in
     let k = sym (c .before .before .before .before .in-file .ensures) ∙ not-false _ (c .before .before .before .if1 .left) in
@@ -52,26 +41,21 @@ returns-2 c = let t = c .before .before .before .before .before .before in
       tt,
     )
 
--- src/lib.rt:227:11
 param-end-requires : tie.Need-param-end-requires
 param-end-requires c κs = search needs
 
--- src/lib.rt:228:21
 enum-known-quote : tie.Need-enum-known-quote
 enum-known-quote c = search needs
 
--- src/lib.rt:229:19
 enum-known-stop : tie.Need-enum-known-stop
 enum-known-stop c = search needs
 
--- src/lib.rt:233:24
 past-comma-requires : tie.Need-past-comma-requires
 past-comma-requires c κs = let t = c .before .before .before .before .before .before .before .before .before .before in
     let k = sym (c .before .before .before .before .before .before .before .before .in-file .ensures) ∙ not-false _ (c .before .before .before .before .before .before .before .if1 .left) in
     let h = in-true (length (now (t .args .file))) (t .args .at .place) (t .args .at .end) k in
     omega (arith, h .1)
 
--- src/lib.rt:213:1
 returns-3 : tie.Need-returns-3
 returns-3 c = let d = c .before .before .before in
     let g = d .before .before in
@@ -89,7 +73,6 @@ returns-3 c = let d = c .before .before .before in
       tt,
     )
 
--- src/lib.rt:213:1
 returns-4 : tie.Need-returns-4
 returns-4 c = let d = c .before .before .before .before in
     let g = d .before .before in

@@ -7,8 +7,6 @@ use borrow.Author.Needs.{needs}
 use denote.Ref.{now}
 use Rattle.params.proofs.past_plain.Statement.{statement}
 use Rattle.params.proofs.past_plain.Tie as tie
-use Rattle.params.proofs.past_plain.Reads as reads
-use Rattle.params.proofs.past_plain.Lts as lts
 
 abbrev Inv-loop : tie.InvT-loop
 Inv-loop part i j₀ j = (i ≤ j) × (j ≤ length part) × ((d : ℕ) → onward part i i d ≡ onward part j j d)
@@ -16,31 +14,24 @@ Inv-loop part i j₀ j = (i ≤ j) × (j ≤ length part) × ((d : ℕ) → onwa
 abbrev μ-loop : tie.MeasureT-loop
 μ-loop part i j₀ j = length part - j
 
--- src/lib.rt:155:5
 loop-holds : tie.Need-loop-holds Inv-loop μ-loop
 loop-holds c = (omega arith, c .pre, λ d. refl)
 
--- src/lib.rt:156:12
 shared-slice-read-if1 : tie.Need-shared-slice-read-if1 Inv-loop μ-loop
 shared-slice-read-if1 c = search needs
 
--- src/lib.rt:157:13
 add-j : tie.Need-add-j Inv-loop μ-loop
 add-j c = search needs
 
--- src/lib.rt:155:5
 loop-less : tie.Need-loop-less Inv-loop μ-loop
 loop-less c = search needs
 
--- src/lib.rt:155:5
 loop-again : tie.Need-loop-again Inv-loop μ-loop
 loop-again c = let s = now (c .before .before .before .before .args .part) in let l = c .before .before .before .loop in (omega arith, omega arith, λ d. l .inv .2 d ∙ step-plain s (l .j) (l .j) d (omega arith) (c .if1 .taken))
 
--- src/lib.rt:159:13
 returns : tie.Need-returns Inv-loop μ-loop
 returns c = c .before .before .before .loop .inv
 
--- src/lib.rt:150:1
 returns-2 : tie.Need-returns-2 Inv-loop μ-loop
 returns-2 c = c .before .loop .inv
 

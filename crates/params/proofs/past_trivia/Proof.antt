@@ -6,38 +6,27 @@ use mathlib.Core.Path.{_∙_, sym, ap}
 use native.Mathlib.Omega.{arith}
 use Rattle.params.proofs.past_trivia.Statement.{statement}
 use Rattle.params.proofs.past_trivia.Tie as tie
-use Rattle.params.proofs.past_trivia.Reads as reads
-use Rattle.params.proofs.past_trivia.Lts as lts
-use Rattle.lex.proofs.skip_trivia.Reads as skip-trivia-reads
-use Rattle.params.proofs.is_dark.Reads as is-dark-reads
 
--- src/lib.rt:192:8
 is-dark-requires : tie.Need-is-dark-requires
 is-dark-requires c κs = search needs
 
--- src/lib.rt:193:9
 returns : tie.Need-returns
 returns c = let (a, b) = c .before .is-dark .ensures (c .if1 .taken) in (sym b, (omega arith, omega (arith, a)))
 
--- src/lib.rt:195:11
 skip-trivia-requires : tie.Need-skip-trivia-requires
 skip-trivia-requires c κs = search needs
 
--- src/lib.rt:196:19
 enum-known-p : tie.Need-enum-known-p
 enum-known-p c = search needs
 
--- src/lib.rt:197:30
 enum-told : tie.Need-enum-told
 enum-told c = search needs
 
--- src/lib.rt:187:1
 returns-2 : tie.Need-returns-2
 returns-2 c = let t = c .before .before .before .before .before .before .before in
     let (a, b, d) = started-at (now (t .args .part)) (t .args .place) (c .before .p .given .0 .0) (omega arith) (ap toldFound (sym (c .before .p .given .1)) ∙ c .before .before .before .skip-trivia .ensures) in
     (a, (b, d))
 
--- src/lib.rt:187:1
 returns-3 : tie.Need-returns-3
 returns-3 c = let t = c .before .before .before .before .before .before in
     (started-open (now (t .args .part)) (t .args .place) _ (ap toldFound (sym (c .enum-told .given .1)) ∙ c .before .before .skip-trivia .ensures), (omega arith, omega arith))

@@ -1,5 +1,5 @@
-use Rattle.params.specs.Reader.{skipOf, skipFrom, skipsOf, toldSkipped, within}
-use mathlib.Core.Path.{_≡_, refl, _∙_, sym, ap, subst}
+use Rattle.params.specs.Reader.{skipFrom, skipsOf, toldSkipped}
+use mathlib.Core.Path.{_≡_, refl, _∙_, sym, ap}
 use borrow.Author.Tests.{not-true, not-false}
 use native.Mathlib.Omega.{arith}
 use borrow.Author.Needs.{needs}
@@ -8,10 +8,6 @@ use Rattle.params.specs.ReaderLaws.{skip-stops, skip-goes, skip-ends}
 use Rattle.params.specs.ReaderLaws.{skips-in}
 use Rattle.params.proofs.skip_n.Statement.{statement}
 use Rattle.params.proofs.skip_n.Tie as tie
-use Rattle.params.proofs.skip_n.Reads as reads
-use Rattle.params.proofs.skip_n.Lts as lts
-use Rattle.params.proofs.in_file.Reads as in-file-reads
-use Rattle.params.proofs.skip.Reads as skip-reads
 
 abbrev Inv-loop : tie.InvT-loop
 Inv-loop file n here₀ left₀ here left = skipFrom left file (here .place) (here .end) ≡ skipFrom n file (here₀ .place) (here₀ .end)
@@ -19,28 +15,22 @@ Inv-loop file n here₀ left₀ here left = skipFrom left file (here .place) (he
 abbrev μ-loop : tie.MeasureT-loop
 μ-loop file n here₀ left₀ here left = left
 
--- src/lib.rt:284:9
 in-file-requires : tie.Need-in-file-requires Inv-loop μ-loop
 in-file-requires c κs = search needs
 
--- src/lib.rt:285:9
 returns : tie.Need-returns Inv-loop μ-loop
 unfolding skipsOf
 returns c = rw (← c .before .in-file .ensures, not-true (c .before .in-file .result) (c .if1 .taken)) refl
 
--- src/lib.rt:289:5
 loop-holds : tie.Need-loop-holds Inv-loop μ-loop
 loop-holds c = refl
 
--- src/lib.rt:290:15
 skip-requires : tie.Need-skip-requires Inv-loop μ-loop
 skip-requires c κs = search needs
 
--- src/lib.rt:291:30
 enum-known-f : tie.Need-enum-known-f Inv-loop μ-loop
 enum-known-f c = search needs
 
--- src/lib.rt:291:40
 returns-2 : tie.Need-returns-2 Inv-loop μ-loop
 returns-2 c = let d = c .before .before .before in
     let l = d .before .before .loop in
@@ -48,26 +38,21 @@ returns-2 c = let d = c .before .before .before in
     skip-stops (l .left) (now (t .args .file)) (l .here .place) (l .here .end) _ _ _ (omega arith) (ap toldSkipped (sym (c .before .f .given .1)) ∙ d .skip .ensures)
     ∙ l .inv ∙ skips-in (t .args .n) (now (t .args .file)) (t .args .at .place) (t .args .at .end) (sym (d .before .before .before .before .in-file .ensures) ∙ not-false _ (d .before .before .before .if1 .left))
 
--- src/lib.rt:292:27
 enum-known-to : tie.Need-enum-known-to Inv-loop μ-loop
 enum-known-to c = search needs
 
--- src/lib.rt:294:9
 sub-left : tie.Need-sub-left Inv-loop μ-loop
 sub-left c = search needs
 
--- src/lib.rt:289:5
 loop-less : tie.Need-loop-less Inv-loop μ-loop
 loop-less c = search needs
 
--- src/lib.rt:289:5
 loop-again : tie.Need-loop-again Inv-loop μ-loop
 loop-again c = let d = c .before .before .before in
     let l = d .before .before .loop in
     let t = d .before .before .before .before .before .before in
     skip-goes (l .left) (now (t .args .file)) (l .here .place) (l .here .end) _ _ (omega arith) (ap toldSkipped (sym (c .before .to .given .1)) ∙ d .skip .ensures) ∙ l .inv
 
--- src/lib.rt:281:1
 returns-3 : tie.Need-returns-3 Inv-loop μ-loop
 returns-3 c = let l = c .before .loop in
     let t = c .before .before .before .before .before in

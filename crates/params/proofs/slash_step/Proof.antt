@@ -1,58 +1,42 @@
 use borrow.Author.Needs.{needs}
-use Rattle.params.specs.Seek.{Standing, Stands, Stepped, onward, step-comma, step-nested, step-opening, step-closing, step-string, step-open, step-binary, step-binary-open, step-blank, step-plain, step-slash, step-other, onward-over, onward-starts, text-past, text-never, comment-past, comment-stuck, on-byte, endedAt, EndedIn}
-use Rattle.params.specs.Cut.{cut, cutOf}
-use lib.ListN.{length, drop, getD}
-use Prim.Native.Nat.{ℕ, _-_, _≤_, _+_}
-use mathlib.Core.Path.{_≡_, refl, _∙_, sym, ap}
+use Rattle.params.specs.Seek.{step-slash, comment-past, comment-stuck, on-byte}
+use Prim.Native.Nat.{_-_}
+use mathlib.Core.Path.{_∙_, sym}
 use native.Mathlib.Omega.{arith}
 use borrow.Author.Tests.{not-true, not-false}
 use denote.Ref.{now}
 use Rattle.params.proofs.slash_step.Statement.{statement}
 use Rattle.params.proofs.slash_step.Tie as tie
-use Rattle.params.proofs.slash_step.Reads as reads
-use Rattle.params.proofs.slash_step.Lts as lts
-use Rattle.tokens.proofs.comment_end.Reads as comment-end-reads
-use Rattle.tokens.proofs.is_at.Reads as is-at-reads
 
--- src/lib.rt:109:29
 add-is-at : tie.Need-add-is-at
 add-is-at c = search needs
 
--- src/lib.rt:109:9
 is-at-requires : tie.Need-is-at-requires
 is-at-requires c κs = search needs
 
--- src/lib.rt:110:25
 add-t9 : tie.Need-add-t9
 add-t9 c = search needs
 
--- src/lib.rt:110:32
 add-t10 : tie.Need-add-t10
 add-t10 c = search needs
 
--- src/lib.rt:110:9
 returns : tie.Need-returns
 returns c = let t = c .before .before .before in
     let p = t .pre in
     on-byte (now (t .args .part)) (t .args .i) (t .args .solid) (t .args .depth) (t .args .depth) (p .standing) (step-slash (now (t .args .part)) (t .args .i) (t .args .solid) (t .args .depth) (p .standing .place) (p .byte) (sym (not-true _ (c .if1 .taken)) ∙ c .before .is-at .ensures)) (omega arith)
 
--- src/lib.rt:112:37
 add-comment-end : tie.Need-add-comment-end
 add-comment-end c = search needs
 
--- src/lib.rt:112:11
 comment-end-requires : tie.Need-comment-end-requires
 comment-end-requires c κs = search needs
 
--- src/lib.rt:113:18
 enum-known-j : tie.Need-enum-known-j
 enum-known-j c = search needs
 
--- src/lib.rt:114:33
 enum-told : tie.Need-enum-told
 enum-told c = search needs
 
--- src/lib.rt:105:1
 returns-2 : tie.Need-returns-2
 returns-2 c = let m = c .before .before in
     let e = m .before in
@@ -60,7 +44,6 @@ returns-2 c = let m = c .before .before in
     let t = f .before .before in
     comment-past (now (t .args .part)) (t .args .i) (t .args .solid) (t .args .depth) (e .comment-end .result) _ (t .pre) (sym (f .is-at .ensures) ∙ not-false _ (e .before .if1 .left)) (e .comment-end .ensures .0) (e .comment-end .ensures .1) (c .before .j .given .1)
 
--- src/lib.rt:105:1
 returns-3 : tie.Need-returns-3
 returns-3 c = let m = c .before in
     let e = m .before in

@@ -1,113 +1,79 @@
 use borrow.Author.Needs.{needs}
-use Rattle.params.specs.Seek.{Standing, Stands, Stepped, onward, step-comma, step-nested, step-opening, step-closing, step-string, step-open, step-binary, step-binary-open, step-blank, step-plain, step-slash, step-other, onward-over, onward-starts, text-past, text-never, comment-past, comment-stuck, on-byte, endedAt, EndedIn}
-use Rattle.params.specs.Cut.{cut, cutOf}
-use lib.ListN.{length, drop, getD}
-use Prim.Native.Nat.{ℕ, _-_, _≤_, _+_}
-use mathlib.Core.Path.{_≡_, refl, _∙_, sym, ap}
+use Rattle.params.specs.Seek.{onward, step-opening, step-closing, step-blank, step-other, on-byte}
+use Prim.Native.Nat.{_-_, _+_}
+use mathlib.Core.Path.{_∙_, sym, ap}
 use native.Mathlib.Omega.{arith}
-use borrow.Author.Tests.{not-true, not-false}
 use denote.Ref.{now}
 use Rattle.params.proofs.token_at.Statement.{statement}
 use Rattle.params.proofs.token_at.Tie as tie
-use Rattle.params.proofs.token_at.Reads as reads
-use Rattle.params.proofs.token_at.Lts as lts
-use Rattle.lex.proofs.is_space.Reads as is-space-reads
-use Rattle.params.proofs.binary_step.Reads as binary-step-reads
-use Rattle.params.proofs.comma_step.Reads as comma-step-reads
-use Rattle.params.proofs.lowered.Reads as lowered-reads
-use Rattle.params.proofs.slash_step.Reads as slash-step-reads
-use Rattle.params.proofs.text_step.Reads as text-step-reads
 
--- src/lib.rt:123:13
 shared-slice-read-b : tie.Need-shared-slice-read-b
 shared-slice-read-b c = omega (arith, c .before .before .pre .place)
 
--- src/lib.rt:125:9
 comma-step-requires : tie.Need-comma-step-requires
 comma-step-requires c κs = record { standing = c .before .before .before .pre; byte = omega (arith, c .if1 .taken) }
 
--- src/lib.rt:125:9
 returns : tie.Need-returns
 returns c = search needs
 
--- src/lib.rt:128:25
 add-t9 : tie.Need-add-t9
 add-t9 c = omega (arith, c .before .before .before .before .pre .place, c .before .before .before .before .pre .bounded)
 
--- src/lib.rt:128:32
 add-t10 : tie.Need-add-t10
 add-t10 c = omega (arith, c .before .before .before .before .pre .place, c .before .before .before .before .pre .bounded)
 
--- src/lib.rt:128:39
 add-t11 : tie.Need-add-t11
 add-t11 c = omega (arith, c .before .before .before .before .pre .place, c .before .before .before .before .pre .few, c .before .before .before .before .pre .bounded)
 
--- src/lib.rt:128:9
 returns-2 : tie.Need-returns-2
 returns-2 c = on-byte (now (c .before .before .before .before .args .part)) (c .before .before .before .before .args .i) (c .before .before .before .before .args .solid) (c .before .before .before .before .args .depth) (c .before .before .before .before .args .depth + 1) (c .before .before .before .before .pre) (step-opening (now (c .before .before .before .before .args .part)) (c .before .before .before .before .args .i) (c .before .before .before .before .args .solid) (c .before .before .before .before .args .depth) (c .before .before .before .before .pre .place) (c .if2 .taken)) (omega arith)
 
--- src/lib.rt:131:25
 add-t12 : tie.Need-add-t12
 add-t12 c = omega (arith, c .before .before .before .before .before .pre .place, c .before .before .before .before .before .pre .bounded)
 
--- src/lib.rt:131:32
 add-t13 : tie.Need-add-t13
 add-t13 c = omega (arith, c .before .before .before .before .before .pre .place, c .before .before .before .before .before .pre .bounded)
 
--- src/lib.rt:131:39
 lowered-requires : tie.Need-lowered-requires
 lowered-requires c κs = search needs
 
--- src/lib.rt:131:9
 returns-3 : tie.Need-returns-3
 returns-3 c = on-byte (now (c .before .before .before .before .before .before .args .part)) (c .before .before .before .before .before .before .args .i) (c .before .before .before .before .before .before .args .solid) (c .before .before .before .before .before .before .args .depth) (c .lowered .result) (c .before .before .before .before .before .before .pre) (step-closing (now (c .before .before .before .before .before .before .args .part)) (c .before .before .before .before .before .before .args .i) (c .before .before .before .before .before .before .args .solid) (c .before .before .before .before .before .before .args .depth) (c .before .before .before .before .before .before .pre .place) (c .before .if3 .taken) ∙ ap (onward (now (c .before .before .before .before .before .before .args .part)) (c .before .before .before .before .before .before .args .i + 1) (c .before .before .before .before .before .before .args .i + 1)) (sym (c .lowered .ensures))) (omega (arith, c .lowered .ensures))
 
--- src/lib.rt:134:9
 text-step-requires : tie.Need-text-step-requires
 text-step-requires c κs = record { standing = c .before .before .before .before .before .before .pre; byte = omega (arith, c .if4 .taken) }
 
--- src/lib.rt:134:9
 returns-4 : tie.Need-returns-4
 returns-4 c = search needs
 
--- src/lib.rt:137:9
 binary-step-requires : tie.Need-binary-step-requires
 binary-step-requires c κs = record { standing = c .before .before .before .before .before .before .before .pre; byte = omega (arith, c .if5 .taken) }
 
--- src/lib.rt:137:9
 returns-5 : tie.Need-returns-5
 returns-5 c = search needs
 
--- src/lib.rt:140:9
 slash-step-requires : tie.Need-slash-step-requires
 slash-step-requires c κs = record { standing = c .before .before .before .before .before .before .before .before .pre; byte = omega (arith, c .if6 .taken) }
 
--- src/lib.rt:140:9
 returns-6 : tie.Need-returns-6
 returns-6 c = search needs
 
--- src/lib.rt:142:8
 is-space-requires : tie.Need-is-space-requires
 is-space-requires c κs = search needs
 
--- src/lib.rt:143:25
 add-t16 : tie.Need-add-t16
 add-t16 c = omega (arith, c .before .before .before .before .before .before .before .before .before .before .pre .place, c .before .before .before .before .before .before .before .before .before .before .pre .bounded)
 
--- src/lib.rt:143:9
 returns-7 : tie.Need-returns-7
 returns-7 c = let k = c .before .before .before .before .before .before .before .before .before .before .pre in
     (step-blank (now (c .before .before .before .before .before .before .before .before .before .before .args .part)) (c .before .before .before .before .before .before .before .before .before .before .args .i) (c .before .before .before .before .before .before .before .before .before .before .args .solid) (c .before .before .before .before .before .before .before .before .before .before .args .depth) (k .place) (sym (c .before .is-space .ensures) ∙ c .if7 .taken), omega arith, omega (arith, k .place), omega arith, omega (arith, k .reach), omega arith)
 
--- src/lib.rt:145:14
 add-t17 : tie.Need-add-t17
 add-t17 c = omega (arith, c .before .before .before .before .before .before .before .before .before .before .pre .place, c .before .before .before .before .before .before .before .before .before .before .pre .bounded)
 
--- src/lib.rt:145:21
 add-t18 : tie.Need-add-t18
 add-t18 c = omega (arith, c .before .before .before .before .before .before .before .before .before .before .pre .place, c .before .before .before .before .before .before .before .before .before .before .pre .bounded)
 
--- src/lib.rt:119:1
 returns-8 : tie.Need-returns-8
 returns-8 c = on-byte (now (c .before .before .before .before .before .before .before .before .before .before .args .part)) (c .before .before .before .before .before .before .before .before .before .before .args .i) (c .before .before .before .before .before .before .before .before .before .before .args .solid) (c .before .before .before .before .before .before .before .before .before .before .args .depth) (c .before .before .before .before .before .before .before .before .before .before .args .depth) (c .before .before .before .before .before .before .before .before .before .before .pre) (step-other (now (c .before .before .before .before .before .before .before .before .before .before .args .part)) (c .before .before .before .before .before .before .before .before .before .before .args .i) (c .before .before .before .before .before .before .before .before .before .before .args .solid) (c .before .before .before .before .before .before .before .before .before .before .args .depth) (c .before .before .before .before .before .before .before .before .before .before .pre .place) (c .before .before .before .before .before .before .before .if1 .left) (c .before .before .before .before .before .before .if2 .left) (c .before .before .before .before .before .if3 .left) (c .before .before .before .before .if4 .left) (c .before .before .before .if5 .left) (c .before .before .if6 .left) (sym (c .before .is-space .ensures) ∙ c .if7 .left)) (omega arith)
 

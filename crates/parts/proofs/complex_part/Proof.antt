@@ -1,29 +1,21 @@
 use borrow.Author.Needs.{needs}
-use mathlib.Core.Path.{refl, sym, _∙_, ap}
+use mathlib.Core.Path.{refl, sym}
 use borrow.Author.Tests.{eq-eqb, ne-eqb, lt-ltb, le-ltb}
 use Rattle.parts.proofs.complex_part.Statement.{statement}
 use Rattle.parts.proofs.complex_part.Tie as tie
-use Rattle.parts.proofs.complex_part.Reads as reads
-use Rattle.parts.proofs.complex_part.Lts as lts
-use Rattle.parts.proofs.find_part.Reads as find-part-reads
 
--- src/lib.rt:142:9
 returns : tie.Need-returns
 returns c = sym (rw (ne-eqb _ _ (c .if1 .taken)) refl)
 
--- src/lib.rt:145:9
 returns-2 : tie.Need-returns-2
 returns-2 c = sym (rw (eq-eqb _ _ (c .before .if1 .left), lt-ltb _ _ (c .if2 .taken)) refl)
 
--- src/lib.rt:148:9
 returns-3 : tie.Need-returns-3
 returns-3 c = sym (rw (eq-eqb _ _ (c .before .before .if1 .left), le-ltb _ _ (c .before .if2 .left), lt-ltb _ _ (c .if3 .taken)) refl)
 
--- src/lib.rt:150:5
 find-part-requires : tie.Need-find-part-requires
 find-part-requires c κs = search needs
 
--- src/lib.rt:138:1
 returns-4 : tie.Need-returns-4
 returns-4 c = rw (eq-eqb _ _ (c .before .before .before .if1 .left), le-ltb _ _ (c .before .before .if2 .left), le-ltb _ _ (c .before .if3 .left)) (c .find-part .ensures)
 

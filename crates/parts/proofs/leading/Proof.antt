@@ -2,19 +2,16 @@ use Rattle.record.specs.Turns.{past-stops, past-goes}
 use Rattle.record.specs.Text.{past, pastTurn}
 use Rattle.parts.specs.Part.{separator}
 use Rattle.lex.specs.Walk.{walk, walk-ends, drop-end}
-use lib.ListN.{length, drop, getD}
+use lib.ListN.{length, drop}
 use denote.Ref.{now}
 use borrow.Author.Tests.{not-true, not-false}
 use borrow.Author.Needs.{needs}
 use native.Mathlib.Omega.{arith}
-use mathlib.Core.List.{List, [], _∷_}
-use mathlib.Core.Path.{_≡_, ap, sym, refl, _∙_}
-use Prim.Native.Nat.{ℕ, _+_, _-_, _≤_}
+use mathlib.Core.List.{[]}
+use mathlib.Core.Path.{_≡_, sym, refl, _∙_}
+use Prim.Native.Nat.{_-_, _≤_}
 use Rattle.parts.proofs.leading.Statement.{statement}
 use Rattle.parts.proofs.leading.Tie as tie
-use Rattle.parts.proofs.leading.Reads as reads
-use Rattle.parts.proofs.leading.Lts as lts
-use Rattle.parts.proofs.separates.Reads as separates-reads
 
 abbrev Inv-loop : tie.InvT-loop
 Inv-loop t i₀ i = (i ≤ length t) × (walk (pastTurn separator) (λ u. []) tt (drop i t) ≡ past separator t)
@@ -22,36 +19,28 @@ Inv-loop t i₀ i = (i ≤ length t) × (walk (pastTurn separator) (λ u. []) tt
 abbrev μ-loop : tie.MeasureT-loop
 μ-loop t i₀ i = length t - i
 
--- src/lib.rt:38:5
 loop-holds : tie.Need-loop-holds Inv-loop μ-loop
 unfolding past
 loop-holds c = (omega arith, refl)
 
--- src/lib.rt:39:23
 shared-slice-read-separates : tie.Need-shared-slice-read-separates Inv-loop μ-loop
 shared-slice-read-separates c = search needs
 
--- src/lib.rt:39:13
 separates-requires : tie.Need-separates-requires Inv-loop μ-loop
 separates-requires c κs = search needs
 
--- src/lib.rt:40:13
 returns : tie.Need-returns Inv-loop μ-loop
 returns c = (past-stops (now (c .before .before .before .before .before .before .args .t)) (c .before .before .before .before .loop .i) (omega arith) separator _ (sym (c .before .separates .ensures) ∙ not-true _ (c .if1 .taken)) (c .before .before .before .before .loop .inv .1), omega arith)
 
--- src/lib.rt:42:9
 add-i : tie.Need-add-i Inv-loop μ-loop
 add-i c = search needs
 
--- src/lib.rt:38:5
 loop-less : tie.Need-loop-less Inv-loop μ-loop
 loop-less c = search needs
 
--- src/lib.rt:38:5
 loop-again : tie.Need-loop-again Inv-loop μ-loop
 loop-again c = (omega arith, past-goes (now (c .before .before .before .before .before .before .args .t)) (c .before .before .before .before .loop .i) (omega arith) separator _ (sym (c .before .separates .ensures) ∙ not-false _ (c .if1 .left)) (c .before .before .before .before .loop .inv .1))
 
--- src/lib.rt:33:1
 returns-2 : tie.Need-returns-2 Inv-loop μ-loop
 returns-2 c = (drop-end (now (c .before .before .before .args .t)) (c .before .loop .i) (omega arith) ∙ sym (walk-ends (pastTurn separator) (λ u. []) tt (now (c .before .before .before .args .t)) (c .before .loop .i) (omega arith)) ∙ c .before .loop .inv .1, omega arith)
 

@@ -1,77 +1,56 @@
 use borrow.Author.Needs.{needs}
-use mathlib.Core.Path.{_≡_, refl, sym, _∙_, ap}
+use mathlib.Core.Path.{_≡_, sym, _∙_, ap}
 use native.Mathlib.Omega.{arith}
 use Prim.Native.Nat.{_+_, _-_}
 use denote.Ref.{now}
 use lib.ListN.{length, take, drop, length-take, length-drop}
-use Rattle.record.specs.declared.Head.{Head}
 use Rattle.parts.specs.Part.{partBy}
 use Rattle.parts.specs.Laws.{next-outside, next-done, next-by, head-places}
 use Rattle.parts.proofs.next_part.Statement.{statement}
 use Rattle.parts.proofs.next_part.Tie as tie
-use Rattle.parts.proofs.next_part.Reads as reads
-use Rattle.parts.proofs.next_part.Lts as lts
-use Rattle.parts.proofs.leading.Reads as leading-reads
-use Rattle.parts.proofs.part_at.Reads as part-at-reads
-use Rattle.record.proofs.header_head.Reads as header-head-reads
 
--- src/lib.rt:77:9
 returns : tie.Need-returns
 returns c = next-outside (now (c .before .before .args .s)) (c .before .before .args .at) (c .before .before .args .end) (c .if1 .taken)
 
--- src/lib.rt:80:9
 returns-2 : tie.Need-returns-2
 returns-2 c = next-done (now (c .before .before .before .args .s)) (c .before .before .before .args .at) (c .before .before .before .args .end) (c .before .if1 .left) (c .if2 .taken)
 
--- src/lib.rt:82:13
 sub-t : tie.Need-sub-t
 sub-t c = search needs
 
--- src/lib.rt:82:13
 part-t-start : tie.Need-part-t-start
 part-t-start c = search needs
 
--- src/lib.rt:82:13
 part-t-end : tie.Need-part-t-end
 part-t-end c = search needs
 
--- src/lib.rt:83:9
 leading-requires : tie.Need-leading-requires
 leading-requires c κs = search needs
 
--- src/lib.rt:84:31
 sub-header-head : tie.Need-sub-header-head
 sub-header-head c = search needs
 
--- src/lib.rt:84:31
 part-header-head-start : tie.Need-part-header-head-start
 part-header-head-start c = search needs
 
--- src/lib.rt:84:31
 part-header-head-end : tie.Need-part-header-head-end
 part-header-head-end c = search needs
 
--- src/lib.rt:84:11
 header-head-requires : tie.Need-header-head-requires
 header-head-requires c κs = search needs
 
--- src/lib.rt:85:25
 enum-told : tie.Need-enum-told
 enum-told c = search needs
 
--- src/lib.rt:86:32
 enum-told-2 : tie.Need-enum-told-2
 enum-told-2 c = search needs
 
--- src/lib.rt:87:25
 enum-known-k : tie.Need-enum-known-k
 enum-known-k c = search needs
 
--- src/lib.rt:87:48
 add-part-at : tie.Need-add-part-at
 add-part-at c = search needs
 
--- src/lib.rt:87:37
 part-at-requires : tie.Need-part-at-requires
 part-at-requires c κs =
     let b = c .before .before .before .before .before .before .before .before .before .before .args in
@@ -82,15 +61,12 @@ part-at-requires c κs =
     let (p, q, r) = head-places (take (length m - a) (drop a m)) _ _ _ _ (sym (c .before .before .before .header-head .ensures) ∙ c .before .k .given .1) in
     (p, q, omega arith)
 
--- src/lib.rt:73:1
 returns-3 : tie.Need-returns-3
 returns-3 c = sym (next-by (now (c .before .before .before .before .before .before .before .before .before .args .s)) (c .before .before .before .before .before .before .before .before .before .args .at) (c .before .before .before .before .before .before .before .before .before .args .end) (c .before .before .before .before .leading .result) (omega arith) (c .before .before .before .before .leading .ensures .0) (c .before .before .before .before .leading .ensures .1) ∙ ap (partBy (now (c .before .before .before .before .before .before .before .before .before .args .s)) (c .before .before .before .before .before .before .before .before .before .args .at + c .before .before .before .before .leading .result)) (sym (c .before .before .header-head .ensures) ∙ c .enum-told .given .1))
 
--- src/lib.rt:73:1
 returns-4 : tie.Need-returns-4
 returns-4 c = sym (next-by (now (c .before .before .before .before .before .before .before .before .before .args .s)) (c .before .before .before .before .before .before .before .before .before .args .at) (c .before .before .before .before .before .before .before .before .before .args .end) (c .before .before .before .before .leading .result) (omega arith) (c .before .before .before .before .leading .ensures .0) (c .before .before .before .before .leading .ensures .1) ∙ ap (partBy (now (c .before .before .before .before .before .before .before .before .before .args .s)) (c .before .before .before .before .before .before .before .before .before .args .at + c .before .before .before .before .leading .result)) (sym (c .before .before .header-head .ensures) ∙ c .enum-told2 .given .1))
 
--- src/lib.rt:73:1
 returns-5 : tie.Need-returns-5
 returns-5 c = c .part-at .ensures ∙ sym (next-by (now (c .before .before .before .before .before .before .before .before .before .before .before .args .s)) (c .before .before .before .before .before .before .before .before .before .before .before .args .at) (c .before .before .before .before .before .before .before .before .before .before .before .args .end) (c .before .before .before .before .before .before .leading .result) (omega arith) (c .before .before .before .before .before .before .leading .ensures .0) (c .before .before .before .before .before .before .leading .ensures .1) ∙ ap (partBy (now (c .before .before .before .before .before .before .before .before .before .before .before .args .s)) (c .before .before .before .before .before .before .before .before .before .before .before .args .at + c .before .before .before .before .before .before .leading .result)) (sym (c .before .before .before .before .header-head .ensures) ∙ c .before .before .k .given .1))
 

@@ -1,53 +1,40 @@
 use borrow.Author.Needs.{needs}
 use Rattle.statement.specs.Row.{mapped}
 use Rattle.lex.specs.Search.{toldFound}
-use mathlib.Core.Path.{refl, sym, _∙_, ap}
+use mathlib.Core.Path.{sym, _∙_, ap}
 use Prim.Native.Nat.{ℕ, _+_}
 use mathlib.Core.Option.{some}
 use Rattle.statement.specs.Row.{headerRow}
 use Rattle.parts.proofs.part_at.Statement.{statement}
 use Rattle.parts.proofs.part_at.Tie as tie
-use Rattle.parts.proofs.part_at.Reads as reads
-use Rattle.parts.proofs.part_at.Lts as lts
-use Rattle.lex.proofs.matching_paren.Reads as matching-paren-reads
 
--- src/lib.rt:53:34
 add-matching-paren : tie.Need-add-matching-paren
 add-matching-paren c = search needs
 
--- src/lib.rt:53:11
 matching-paren-requires : tie.Need-matching-paren-requires
 matching-paren-requires c κs = search needs
 
--- src/lib.rt:54:24
 enum-known-f : tie.Need-enum-known-f
 enum-known-f c = search needs
 
--- src/lib.rt:55:19
 enum-known-close : tie.Need-enum-known-close
 enum-known-close c = search needs
 
--- src/lib.rt:57:24
 add-t13 : tie.Need-add-t13
 add-t13 c = search needs
 
--- src/lib.rt:58:22
 add-t14 : tie.Need-add-t14
 add-t14 c = search needs
 
--- src/lib.rt:61:24
 add-t13-2 : tie.Need-add-t13-2
 add-t13-2 c = search needs
 
--- src/lib.rt:61:24
 add-t14-2 : tie.Need-add-t14-2
 add-t14-2 c = search needs
 
--- src/lib.rt:49:1
 returns : tie.Need-returns
 returns c = ap (mapped _) (sym (ap toldFound (c .before .f .given .1)) ∙ c .before .before .before .matching-paren .ensures)
 
--- src/lib.rt:49:1
 returns-2 : tie.Need-returns-2
 returns-2 c = let a = c .before .before .before .before .before .args in
     ap (mapped (λ (q : ℕ). some (headerRow (a .a + a .k) (a .a + a .z) (a .a + a .o + 1) q))) (sym (ap toldFound (c .before .close .given .1)) ∙ c .before .before .before .matching-paren .ensures)

@@ -4,15 +4,10 @@ use mathlib.Core.Bool.{Bool, _||_}
 use lib.Dec.{eqb}
 use Rattle.parts.proofs.separates.Statement.{statement}
 use Rattle.parts.proofs.separates.Tie as tie
-use Rattle.parts.proofs.separates.Reads as reads
-use Rattle.parts.proofs.separates.Lts as lts
-use Rattle.lex.proofs.is_space.Reads as is-space-reads
 
--- src/lib.rt:29:5
 is-space-requires : tie.Need-is-space-requires
 is-space-requires c κs = search needs
 
--- src/lib.rt:26:1
 returns : tie.Need-returns
 returns c = ap (λ (t : Bool). t || eqb (c .before .args .b) 44) (c .is-space .ensures)
 

@@ -1,22 +1,16 @@
 use mathlib.Core.Path.{refl}
 use Rattle.plain.proofs.flags_of.Statement.{statement}
 use Rattle.plain.proofs.flags_of.Tie as tie
-use Rattle.plain.proofs.flags_of.Reads as reads
-use Rattle.plain.proofs.flags_of.Lts as lts
 
--- src/lib.rt:38:9
 returns : tie.Need-returns
 returns c = rw (c .before .if1 .taken, c .if2 .taken) refl
 
--- src/lib.rt:38:9
 returns-2 : tie.Need-returns-2
 returns-2 c = rw (c .before .if1 .taken, c .if2 .left) refl
 
--- src/lib.rt:34:1
 returns-3 : tie.Need-returns-3
 returns-3 c = rw (c .before .if1 .left, c .if3 .taken) refl
 
--- src/lib.rt:34:1
 returns-4 : tie.Need-returns-4
 returns-4 c = rw (c .before .if1 .left, c .if3 .left) refl
 

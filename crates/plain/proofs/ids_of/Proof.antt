@@ -5,48 +5,34 @@ use Rattle.plain.specs.Laws.{ids-are}
 use borrow.Author.Needs.{needs}
 use Rattle.plain.proofs.ids_of.Statement.{statement}
 use Rattle.plain.proofs.ids_of.Tie as tie
-use Rattle.plain.proofs.ids_of.Reads as reads
-use Rattle.plain.proofs.ids_of.Lts as lts
-use Rattle.plain.proofs.narrow.Reads as narrow-reads
-use Rattle.plain.proofs.number_at.Reads as number-at-reads
 
--- src/lib.rt:54:17
 number-at-requires : tie.Need-number-at-requires
 number-at-requires c κs = search needs
 
--- src/lib.rt:55:24
 number-at-requires-2 : tie.Need-number-at-requires-2
 number-at-requires-2 c κs = search needs
 
--- src/lib.rt:55:9
 narrow-requires : tie.Need-narrow-requires
 narrow-requires c κs = search needs
 
--- src/lib.rt:56:23
 number-at-requires-3 : tie.Need-number-at-requires-3
 number-at-requires-3 c κs = search needs
 
--- src/lib.rt:56:9
 narrow-requires-2 : tie.Need-narrow-requires-2
 narrow-requires-2 c κs = search needs
 
--- src/lib.rt:57:9
 number-at-requires-4 : tie.Need-number-at-requires-4
 number-at-requires-4 c κs = search needs
 
--- src/lib.rt:58:9
 number-at-requires-5 : tie.Need-number-at-requires-5
 number-at-requires-5 c κs = search needs
 
--- src/lib.rt:59:24
 number-at-requires-6 : tie.Need-number-at-requires-6
 number-at-requires-6 c κs = search needs
 
--- src/lib.rt:59:9
 narrow-requires-3 : tie.Need-narrow-requires-3
 narrow-requires-3 c κs = search needs
 
--- src/lib.rt:51:1
 returns : tie.Need-returns
 returns c =
     let n1 = c .before .before .before .before .before .before .before .before in

@@ -2,54 +2,40 @@ use Rattle.plain.specs.Laws.{kind-other}
 use borrow.Author.Needs.{needs}
 use Rattle.plain.proofs.kind_by.Statement.{statement}
 use Rattle.plain.proofs.kind_by.Tie as tie
-use Rattle.plain.proofs.kind_by.Reads as reads
-use Rattle.plain.proofs.kind_by.Lts as lts
 
--- src/lib.rt:156:1
 returns : tie.Need-returns
 returns c = search needs
 
--- src/lib.rt:156:1
 returns-2 : tie.Need-returns-2
 returns-2 c = search needs
 
--- src/lib.rt:156:1
 returns-3 : tie.Need-returns-3
 returns-3 c = search needs
 
--- src/lib.rt:156:1
 returns-4 : tie.Need-returns-4
 returns-4 c = search needs
 
--- src/lib.rt:156:1
 returns-5 : tie.Need-returns-5
 returns-5 c = search needs
 
--- src/lib.rt:156:1
 returns-6 : tie.Need-returns-6
 returns-6 c = search needs
 
--- src/lib.rt:156:1
 returns-7 : tie.Need-returns-7
 returns-7 c = search needs
 
--- src/lib.rt:156:1
 returns-8 : tie.Need-returns-8
 returns-8 c = search needs
 
--- src/lib.rt:156:1
 returns-9 : tie.Need-returns-9
 returns-9 c = search needs
 
--- src/lib.rt:156:1
 returns-10 : tie.Need-returns-10
 returns-10 c = search needs
 
--- src/lib.rt:156:1
 returns-11 : tie.Need-returns-11
 returns-11 c = search needs
 
--- src/lib.rt:156:1
 returns-12 : tie.Need-returns-12
 returns-12 c = let r = c .match .rest in kind-other _ (r .0 .0 .0 .0 .0 .0 .0 .0 .0 .0 .1) (r .0 .0 .0 .0 .0 .0 .0 .0 .0 .1) (r .0 .0 .0 .0 .0 .0 .0 .0 .1) (r .0 .0 .0 .0 .0 .0 .0 .1) (r .0 .0 .0 .0 .0 .0 .1) (r .0 .0 .0 .0 .0 .1) (r .0 .0 .0 .0 .1) (r .0 .0 .0 .1) (r .0 .0 .1) (r .0 .1) (r .1)
 

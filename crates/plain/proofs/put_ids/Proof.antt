@@ -8,64 +8,46 @@ use mathlib.Core.Path.{refl}
 use borrow.Author.Needs.{needs}
 use Rattle.plain.proofs.put_ids.Statement.{statement}
 use Rattle.plain.proofs.put_ids.Tie as tie
-use Rattle.plain.proofs.put_ids.Reads as reads
-use Rattle.plain.proofs.put_ids.Lts as lts
-use Rattle.plain.proofs.bit_of.Reads as bit-of-reads
-use Rattle.plain.proofs.flags_of.Reads as flags-of-reads
 
--- src/lib.rt:92:9
 returns : tie.Need-returns
 returns c = rw (lt-leb _ _ (c .if1 .taken)) refl
 
--- src/lib.rt:94:5
 slice-write-out : tie.Need-slice-write-out
 slice-write-out c = search needs
 
--- src/lib.rt:95:14
 cast-out : tie.Need-cast-out
 cast-out c = search needs
 
--- src/lib.rt:95:5
 slice-write-out-2 : tie.Need-slice-write-out-2
 slice-write-out-2 c = simp length-set (omega arith)
 
--- src/lib.rt:96:14
 cast-out-2 : tie.Need-cast-out-2
 cast-out-2 c = search needs
 
--- src/lib.rt:96:5
 slice-write-out-3 : tie.Need-slice-write-out-3
 slice-write-out-3 c = simp length-set (omega arith)
 
--- src/lib.rt:97:14
 flags-of-requires : tie.Need-flags-of-requires
 flags-of-requires c κs = search needs
 
--- src/lib.rt:97:5
 slice-write-out-4 : tie.Need-slice-write-out-4
 slice-write-out-4 c = simp length-set (omega arith)
 
--- src/lib.rt:98:14
 bit-of-requires : tie.Need-bit-of-requires
 bit-of-requires c κs = search needs
 
--- src/lib.rt:98:5
 slice-write-out-5 : tie.Need-slice-write-out-5
 slice-write-out-5 c = simp length-set (omega arith)
 
--- src/lib.rt:99:14
 cast-out-3 : tie.Need-cast-out-3
 cast-out-3 c = search needs
 
--- src/lib.rt:99:5
 slice-write-out-6 : tie.Need-slice-write-out-6
 slice-write-out-6 c = simp length-set (omega arith)
 
--- src/lib.rt:88:1
 same-length : tie.Need-same-length
 same-length c = search needs
 
--- src/lib.rt:88:1
 returns-2 : tie.Need-returns-2
 returns-2 c =
     let p = c .before .before .before .before .before in

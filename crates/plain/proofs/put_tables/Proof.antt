@@ -10,39 +10,28 @@ use mathlib.Core.Path.{refl}
 use borrow.Author.Needs.{needs}
 use Rattle.plain.proofs.put_tables.Statement.{statement}
 use Rattle.plain.proofs.put_tables.Tie as tie
-use Rattle.plain.proofs.put_tables.Reads as reads
-use Rattle.plain.proofs.put_tables.Lts as lts
-use Rattle.plain.proofs.put_ids.Reads as put-ids-reads
 
--- src/lib.rt:94:9
 returns : tie.Need-returns
 returns c = rw (lt-leb _ _ (c .if1 .taken)) refl
 
--- src/lib.rt:97:5
 put-ids-requires : tie.Need-put-ids-requires
 put-ids-requires c κs = search needs
 
--- src/lib.rt:98:5
 slice-write-out : tie.Need-slice-write-out
 slice-write-out c = search needs
 
--- src/lib.rt:99:5
 slice-write-out-2 : tie.Need-slice-write-out-2
 slice-write-out-2 c = simp length-set (omega arith)
 
--- src/lib.rt:100:15
 cast-out : tie.Need-cast-out
 cast-out c = search needs
 
--- src/lib.rt:100:5
 slice-write-out-3 : tie.Need-slice-write-out-3
 slice-write-out-3 c = simp length-set (omega arith)
 
--- src/lib.rt:90:1
 same-length : tie.Need-same-length
 same-length c = search needs
 
--- src/lib.rt:90:1
 returns-2 : tie.Need-returns-2
 returns-2 c =
     let p = c .before .before .before in

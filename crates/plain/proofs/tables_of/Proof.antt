@@ -5,33 +5,22 @@ use Rattle.plain.specs.Laws.{tables-are}
 use borrow.Author.Needs.{needs}
 use Rattle.plain.proofs.tables_of.Statement.{statement}
 use Rattle.plain.proofs.tables_of.Tie as tie
-use Rattle.plain.proofs.tables_of.Reads as reads
-use Rattle.plain.proofs.tables_of.Lts as lts
-use Rattle.plain.proofs.ids_of.Reads as ids-of-reads
-use Rattle.plain.proofs.narrow.Reads as narrow-reads
-use Rattle.plain.proofs.number_at.Reads as number-at-reads
 
--- src/lib.rt:64:19
 number-at-requires : tie.Need-number-at-requires
 number-at-requires c κs = search needs
 
--- src/lib.rt:65:19
 number-at-requires-2 : tie.Need-number-at-requires-2
 number-at-requires-2 c κs = search needs
 
--- src/lib.rt:66:22
 number-at-requires-3 : tie.Need-number-at-requires-3
 number-at-requires-3 c κs = search needs
 
--- src/lib.rt:66:9
 narrow-requires : tie.Need-narrow-requires
 narrow-requires c κs = search needs
 
--- src/lib.rt:67:9
 ids-of-requires : tie.Need-ids-of-requires
 ids-of-requires c κs = search needs
 
--- src/lib.rt:61:1
 returns : tie.Need-returns
 returns c =
     let n3 = c .before .before in

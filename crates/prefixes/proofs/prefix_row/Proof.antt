@@ -1,11 +1,11 @@
 -- `prefixes::prefix_row` meets its contract: the rows before `k` have other names, and each row's part of `names` is its name.
 -- Assumes nothing.
-use Prim.Native.Nat.{_-_, _<_}
-use mathlib.Core.Path.{_≡_, refl, sym, _∙_}
+use Prim.Native.Nat.{_-_}
+use mathlib.Core.Path.{sym, _∙_}
 use native.Mathlib.Omega.{arith}
 use borrow.Author.Needs.{needs}
 use denote.Ref.{now}
-use Rattle.prefixes.specs.Prefix.{Searching, order-at, within-at, word-at, search-finds, search-goes, search-ends, placeIn}
+use Rattle.prefixes.specs.Prefix.{Searching, order-at, within-at, word-at, search-finds, search-goes, search-ends}
 use Rattle.prefixes.proofs.prefix_row.Statement.{statement}
 use Rattle.prefixes.proofs.prefix_row.Tie as tie
 

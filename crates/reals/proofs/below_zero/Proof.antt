@@ -1,5 +1,5 @@
 -- `reals::below_zero` meets its contract: the step from -1 down fits, and is the negative. Assumes nothing.
-use Prim.Native.Nat.{ℕ, zero, suc, _+_, _-_, _<_, _≤_, _^_}
+use Prim.Native.Nat.{ℕ, zero, suc, _-_, _<_, _≤_, _^_}
 use mathlib.Core.Path.{_≡_, refl, sym, ap, _∙_, subst}
 use mathlib.Core.Bool.{true}
 use native.Mathlib.Nat.{zero-add}
@@ -10,7 +10,7 @@ use lib.IntN.{ℤ, pos, negsuc, negℤ, _-ℤ_}
 use mir.Syntax.{w64}
 use mir.Val.{SFits, toZ, ofZ}
 use mir.ValLaws.{toZ-pos, toZ-ofZ}
-use Rattle.reals.specs.Scalar.{Answer, read, refused, ranged}
+use Rattle.reals.specs.Scalar.{read, ranged}
 use Rattle.reals.proofs.below_zero.Statement.{statement}
 use Rattle.reals.proofs.below_zero.Tie as tie
 

@@ -1,9 +1,8 @@
 -- `reals::exact` meets its contract: a whole number of at most 53 binary digits is an f64, and so is its negative. Assumes nothing.
 use Prim.Native.Nat.{_≤_, _^_}
-use mathlib.Core.Path.{_≡_, sym, subst, _∙_, ap}
+use mathlib.Core.Path.{sym, _∙_, ap}
 use mathlib.Core.Bool.{Bool}
 use native.Mathlib.Omega.{arith}
-use borrow.Author.Needs.{needs}
 use lib.Dec.{T, le→leb}
 use lib.IntN.{pos}
 use lib.Ieee.{binary64, inFloat}

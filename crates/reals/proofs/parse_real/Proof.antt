@@ -1,6 +1,5 @@
 -- `reals::parse_real` meets its contract: what its parts promise, put together by the laws of Read.antt. Assumes nothing.
-use Prim.Native.Nat.{_≤_}
-use mathlib.Core.Path.{_≡_, refl}
+use mathlib.Core.Path.{refl}
 use native.Mathlib.Omega.{arith}
 use borrow.Author.Needs.{needs}
 use denote.Ref.{now}

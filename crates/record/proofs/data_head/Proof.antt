@@ -5,53 +5,39 @@ use native.Mathlib.Omega.{arith}
 use borrow.Author.Needs.{needs}
 use Rattle.record.proofs.data_head.Statement.{statement}
 use Rattle.record.proofs.data_head.Tie as tie
-use Rattle.record.proofs.data_head.Reads as reads
-use Rattle.record.proofs.data_head.Lts as lts
-use Rattle.record.proofs.digits_at.Reads as digits-at-reads
-use Rattle.record.proofs.equal_head.Reads as equal-head-reads
 
--- src/lib.rt:229:9
 returns : tie.Need-returns
 returns c = data-none (now (c .before .before .args .b)) (c .if1 .taken)
 
--- src/lib.rt:231:8
 shared-slice-read-if2 : tie.Need-shared-slice-read-if2
 shared-slice-read-if2 c = search needs
 
--- src/lib.rt:232:9
 returns-2 : tie.Need-returns-2
 returns-2 c = data-other (now (c .before .before .before .before .args .b)) (omega arith) (c .if2 .taken)
 
--- src/lib.rt:234:11
 digits-at-requires : tie.Need-digits-at-requires
 digits-at-requires c κs = search needs
 
--- src/lib.rt:235:25
 enum-told : tie.Need-enum-told
 enum-told c = search needs
 
--- src/lib.rt:236:23
 enum-known-id : tie.Need-enum-known-id
 enum-known-id c = search needs
 
--- src/lib.rt:238:17
 returns-3 : tie.Need-returns-3
 returns-3 c = let d = c .before .before .before .before in
     let k = rw (c .before .before .id .given .1) at (d .digits-at .ensures) in
     data-empty (now (d .before .before .before .before .before .args .b)) (omega arith) _ (d .before .if2 .left) (rw (c .if3 .taken) at (k .0)) (k .3)
 
--- src/lib.rt:240:13
 equal-head-requires : tie.Need-equal-head-requires
 equal-head-requires c κs = let d = c .before .before .before .before in
     let k = rw (c .before .before .id .given .1) at (d .digits-at .ensures) in k .2
 
--- src/lib.rt:225:1
 returns-4 : tie.Need-returns-4
 returns-4 c = let d = c .before .before in
     let k = rw (c .enum-told .given .1) at (d .digits-at .ensures) in
     data-over (now (d .before .before .before .before .before .args .b)) (omega arith) (d .before .if2 .left) k
 
--- src/lib.rt:225:1
 returns-5 : tie.Need-returns-5
 returns-5 c = let d = c .before .before .before .before .before in
     let k = rw (c .before .before .before .id .given .1) at (d .digits-at .ensures) in

@@ -5,39 +5,28 @@ use mathlib.Core.Path.{_∙_}
 use borrow.Author.Needs.{needs}
 use Rattle.record.proofs.equal_head.Statement.{statement}
 use Rattle.record.proofs.equal_head.Tie as tie
-use Rattle.record.proofs.equal_head.Reads as reads
-use Rattle.record.proofs.equal_head.Lts as lts
-use Rattle.record.proofs.past_space.Reads as past-space-reads
-use Rattle.record.proofs.value_head.Reads as value-head-reads
 
--- src/lib.rt:214:9
 past-space-requires : tie.Need-past-space-requires
 past-space-requires c κs = search needs
 
--- src/lib.rt:216:9
 returns : tie.Need-returns
 returns c = let a = c .before .before .before .args in
     equal-none (now (a .b)) (a .id) (c .before .past-space .result) _ (c .before .past-space .ensures .0) (c .if1 .taken)
 
--- src/lib.rt:218:8
 shared-slice-read-if2 : tie.Need-shared-slice-read-if2
 shared-slice-read-if2 c = search needs
 
--- src/lib.rt:219:9
 returns-2 : tie.Need-returns-2
 returns-2 c = let p = c .before .before .before in
     let a = p .before .before .args in
     equal-other (now (a .b)) (a .id) (p .past-space .result) _ (p .past-space .ensures .0) (omega arith) (c .if2 .taken)
 
--- src/lib.rt:221:23
 add-value-head : tie.Need-add-value-head
 add-value-head c = search needs
 
--- src/lib.rt:221:5
 value-head-requires : tie.Need-value-head-requires
 value-head-requires c κs = search needs
 
--- src/lib.rt:210:1
 returns-3 : tie.Need-returns-3
 returns-3 c = let p = c .before .before .before .before in
     let a = p .before .before .args in

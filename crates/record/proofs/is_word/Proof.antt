@@ -1,19 +1,16 @@
 use Rattle.lex.specs.Walk.{drop-end}
 use Rattle.record.specs.Turns.{same-lengths, same-stops, same-goes}
 use Rattle.record.specs.Word.{same, upper, isWord}
-use lib.ListN.{length, drop, getD, length-map}
+use lib.ListN.{length, drop, length-map}
 use denote.Ref.{now}
 use borrow.Author.Tests.{eq-eqb, ne-eqb}
 use borrow.Author.Needs.{needs}
 use native.Mathlib.Omega.{arith}
 use mathlib.Core.List.{map}
-use mathlib.Core.Path.{_≡_, ap, sym, refl, _∙_}
-use Prim.Native.Nat.{ℕ, _+_, _-_, _≤_}
+use mathlib.Core.Path.{_≡_, sym, refl, _∙_}
+use Prim.Native.Nat.{_-_, _≤_}
 use Rattle.record.proofs.is_word.Statement.{statement}
 use Rattle.record.proofs.is_word.Tie as tie
-use Rattle.record.proofs.is_word.Reads as reads
-use Rattle.record.proofs.is_word.Lts as lts
-use Rattle.record.proofs.upper_of.Reads as upper-of-reads
 
 abbrev Inv-loop : tie.InvT-loop
 Inv-loop t w i₀ i = (i ≤ length t) × (same (map upper (drop i t)) (drop i w) ≡ isWord t w)
@@ -21,49 +18,39 @@ Inv-loop t w i₀ i = (i ≤ length t) × (same (map upper (drop i t)) (drop i w
 abbrev μ-loop : tie.MeasureT-loop
 μ-loop t w i₀ i = length t - i
 
--- src/lib.rt:135:9
 returns : tie.Need-returns Inv-loop μ-loop
 returns c = let t = now (c .before .before .before .args .t) in
     let w = now (c .before .before .before .args .w) in
     sym (same-lengths (map upper t) w (λ e. c .if1 .taken (sym (length-map t upper) ∙ e)))
 
--- src/lib.rt:138:5
 loop-holds : tie.Need-loop-holds Inv-loop μ-loop
 loop-holds c = (omega arith, refl)
 
--- src/lib.rt:139:21
 shared-slice-read-upper-of : tie.Need-shared-slice-read-upper-of Inv-loop μ-loop
 shared-slice-read-upper-of c = search needs
 
--- src/lib.rt:139:12
 upper-of-requires : tie.Need-upper-of-requires Inv-loop μ-loop
 upper-of-requires c κs = search needs
 
--- src/lib.rt:139:30
 shared-slice-read-if2 : tie.Need-shared-slice-read-if2 Inv-loop μ-loop
 shared-slice-read-if2 c = search needs
 
--- src/lib.rt:140:13
 returns-2 : tie.Need-returns-2 Inv-loop μ-loop
 returns-2 c = let t = c .before .before .before .before .before in
     let a = t .before .before .before .before .args in
     same-stops upper (now (a .t)) (now (a .w)) (t .loop .i) _ (omega arith) (omega arith) (ne-eqb _ _ (λ e. c .if2 .taken (c .before .before .upper-of .ensures ∙ e))) (t .loop .inv .1)
 
--- src/lib.rt:142:9
 add-i : tie.Need-add-i Inv-loop μ-loop
 add-i c = search needs
 
--- src/lib.rt:138:5
 loop-less : tie.Need-loop-less Inv-loop μ-loop
 loop-less c = search needs
 
--- src/lib.rt:138:5
 loop-again : tie.Need-loop-again Inv-loop μ-loop
 loop-again c = let t = c .before .before .before .before .before in
     let a = t .before .before .before .before .args in
     (omega arith, same-goes upper (now (a .t)) (now (a .w)) (t .loop .i) _ (omega arith) (omega arith) (eq-eqb _ _ (sym (c .before .before .upper-of .ensures) ∙ c .if2 .left)) (t .loop .inv .1))
 
--- src/lib.rt:131:1
 returns-3 : tie.Need-returns-3 Inv-loop μ-loop
 unfolding same
 returns-3 c = let t = c .before in

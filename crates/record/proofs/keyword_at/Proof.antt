@@ -1,22 +1,15 @@
 use Rattle.record.specs.Turns.{key-stops, key-goes}
 use Rattle.record.specs.Text.{keyword, keyTurn, unopened}
-use Rattle.lex.specs.Byte.{white}
 use Rattle.lex.specs.Walk.{walk, walk-ends}
-use lib.ListN.{length, drop, getD}
+use lib.ListN.{length, drop}
 use denote.Ref.{now}
 use borrow.Author.Tests.{eq-eqb, ne-eqb, not-true, not-false}
 use borrow.Author.Needs.{needs}
 use native.Mathlib.Omega.{arith}
-use mathlib.Core.List.{List, [], _∷_}
-use mathlib.Core.Bool.{true, false}
-use mathlib.Core.Path.{_≡_, ap, sym, refl, _∙_}
-use Prim.Native.Nat.{ℕ, _+_, _-_, _≤_}
+use mathlib.Core.Path.{_≡_, sym, refl, _∙_}
+use Prim.Native.Nat.{_+_, _-_, _≤_}
 use Rattle.record.proofs.keyword_at.Statement.{statement}
 use Rattle.record.proofs.keyword_at.Tie as tie
-use Rattle.record.proofs.keyword_at.Reads as reads
-use Rattle.record.proofs.keyword_at.Lts as lts
-use Rattle.lex.proofs.is_space.Reads as is-space-reads
-use Rattle.record.proofs.name_run.Reads as name-run-reads
 
 abbrev Inv-loop : tie.InvT-loop
 Inv-loop b from end₀ i₀ end i = (end ≤ i) × (i ≤ length b) × (walk keyTurn (λ l. unopened) (drop end b) (drop i b) ≡ keyword (drop from b))
@@ -28,50 +21,40 @@ abbrev μ-loop : tie.MeasureT-loop
 name-run-requires : tie.Need-name-run-requires Inv-loop μ-loop
 name-run-requires c κs = search needs
 
--- src/lib.rt:92:5
 loop-holds : tie.Need-loop-holds Inv-loop μ-loop
 unfolding keyword
 loop-holds c = (omega arith, omega arith, c .name-run .ensures .0)
 
--- src/lib.rt:93:17
 shared-slice-read-c : tie.Need-shared-slice-read-c Inv-loop μ-loop
 shared-slice-read-c c = search needs
 
--- src/lib.rt:95:13
 returns : tie.Need-returns Inv-loop μ-loop
 returns c = let t = c .before .before .before in
     let b = now (t .before .before .before .args .b) in
     (sym (key-stops b (t .loop .i) (omega arith) (t .loop .end) _ (eq-eqb _ _ (c .if1 .taken)) (t .loop .inv .2)), omega arith, omega arith)
 
--- src/lib.rt:97:9
 add-i : tie.Need-add-i Inv-loop μ-loop
 add-i c = search needs
 
--- src/lib.rt:98:13
 is-space-requires : tie.Need-is-space-requires Inv-loop μ-loop
 is-space-requires c κs = search needs
 
--- src/lib.rt:92:5
 loop-less : tie.Need-loop-less Inv-loop μ-loop
 loop-less c = search needs
 
--- src/lib.rt:92:5
 loop-again : tie.Need-loop-again Inv-loop μ-loop
 loop-again c = let t = c .before .before .before .before .before in
     let b = now (t .before .before .before .args .b) in
     (omega arith, omega arith, key-goes b (t .loop .i) (omega arith) (t .loop .end) (t .loop .i + 1) _ (ne-eqb _ _ (c .before .before .if1 .left)) (rw (sym (c .before .is-space .ensures) ∙ not-true _ (c .if2 .taken)) refl) (t .loop .inv .2))
 
--- src/lib.rt:92:5
 loop-less-2 : tie.Need-loop-less-2 Inv-loop μ-loop
 loop-less-2 c = search needs
 
--- src/lib.rt:92:5
 loop-again-2 : tie.Need-loop-again-2 Inv-loop μ-loop
 loop-again-2 c = let t = c .before .before .before .before .before in
     let b = now (t .before .before .before .args .b) in
     (omega arith, omega arith, key-goes b (t .loop .i) (omega arith) (t .loop .end) (t .loop .end) _ (ne-eqb _ _ (c .before .before .if1 .left)) (rw (sym (c .before .is-space .ensures) ∙ not-false _ (c .if2 .left)) refl) (t .loop .inv .2))
 
--- src/lib.rt:86:1
 returns-2 : tie.Need-returns-2 Inv-loop μ-loop
 returns-2 c = let t = c .before in
     let b = now (t .before .before .before .args .b) in

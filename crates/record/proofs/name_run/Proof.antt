@@ -8,8 +8,6 @@ use Prim.Native.Nat.{_-_, _≤_}
 use borrow.Author.Needs.{needs}
 use Rattle.record.proofs.name_run.Statement.{statement}
 use Rattle.record.proofs.name_run.Tie as tie
-use Rattle.record.proofs.name_run.Reads as reads
-use Rattle.record.proofs.name_run.Lts as lts
 
 abbrev Inv-loop : tie.InvT-loop
 Inv-loop b from i₀ i = ((from ≤ i) × (i ≤ length b)) × (keyword (drop i b) ≡ keyword (drop from b))
@@ -17,33 +15,26 @@ Inv-loop b from i₀ i = ((from ≤ i) × (i ≤ length b)) × (keyword (drop i 
 abbrev μ-loop : tie.MeasureT-loop
 μ-loop b from i₀ i = length b - i
 
--- src/lib.rt:93:5
 loop-holds : tie.Need-loop-holds Inv-loop μ-loop
 loop-holds c = ((omega arith, omega arith), refl)
 
--- src/lib.rt:94:12
 shared-slice-read-if1 : tie.Need-shared-slice-read-if1 Inv-loop μ-loop
 shared-slice-read-if1 c = search needs
 
--- src/lib.rt:95:13
 returns : tie.Need-returns Inv-loop μ-loop
 returns c = (c .before .before .before .loop .inv .1, (omega arith, omega arith))
 
--- src/lib.rt:97:9
 add-i : tie.Need-add-i Inv-loop μ-loop
 add-i c = search needs
 
--- src/lib.rt:93:5
 loop-less : tie.Need-loop-less Inv-loop μ-loop
 loop-less c = search needs
 
--- src/lib.rt:93:5
 loop-again : tie.Need-loop-again Inv-loop μ-loop
 loop-again c = let t = c .before .before .before in
     let b = now (t .before .args .b) in
     ((omega arith, omega arith), key-solid b (t .loop .i) (omega arith) (omega arith) ∙ t .loop .inv .1)
 
--- src/lib.rt:87:1
 returns-2 : tie.Need-returns-2 Inv-loop μ-loop
 returns-2 c = (c .before .loop .inv .1, (omega arith, omega arith))
 

@@ -2,20 +2,16 @@ use Rattle.record.specs.Turns.{past-stops, past-goes, above-white}
 use Rattle.record.specs.Text.{past, pastTurn}
 use Rattle.lex.specs.Byte.{white}
 use Rattle.lex.specs.Walk.{walk, walk-ends, drop-end}
-use lib.ListN.{length, drop, getD}
+use lib.ListN.{length, drop}
 use denote.Ref.{now}
-use borrow.Author.Tests.{eq-eqb, ne-eqb, not-true, not-false}
+use borrow.Author.Tests.{not-true, not-false}
 use borrow.Author.Needs.{needs}
 use native.Mathlib.Omega.{arith}
-use mathlib.Core.List.{List, [], _∷_}
-use mathlib.Core.Bool.{true, false}
-use mathlib.Core.Path.{_≡_, ap, sym, refl, _∙_}
-use Prim.Native.Nat.{ℕ, _+_, _-_, _≤_}
+use mathlib.Core.List.{[]}
+use mathlib.Core.Path.{_≡_, sym, refl, _∙_}
+use Prim.Native.Nat.{_-_, _≤_}
 use Rattle.record.proofs.past_space.Statement.{statement}
 use Rattle.record.proofs.past_space.Tie as tie
-use Rattle.record.proofs.past_space.Reads as reads
-use Rattle.record.proofs.past_space.Lts as lts
-use Rattle.lex.proofs.is_space.Reads as is-space-reads
 
 abbrev Inv-loop : tie.InvT-loop
 Inv-loop b from i₀ i = ((from ≤ i) × (i ≤ length b)) × (walk (pastTurn white) (λ u. []) tt (drop i b) ≡ past white (drop from b))
@@ -23,46 +19,37 @@ Inv-loop b from i₀ i = ((from ≤ i) × (i ≤ length b)) × (walk (pastTurn w
 abbrev μ-loop : tie.MeasureT-loop
 μ-loop b from i₀ i = length b - i
 
--- src/lib.rt:39:5
 loop-holds : tie.Need-loop-holds Inv-loop μ-loop
 unfolding past
 loop-holds c = ((omega arith, omega arith), refl)
 
--- src/lib.rt:40:17
 shared-slice-read-c : tie.Need-shared-slice-read-c Inv-loop μ-loop
 shared-slice-read-c c = search needs
 
--- src/lib.rt:42:13
 returns : tie.Need-returns Inv-loop μ-loop
 returns c = let t = c .before .before .before in
     let b = now (t .before .before .args .b) in
     (past-stops b (t .loop .i) (omega arith) white _ (above-white b (t .loop .i) (omega arith) (c .if1 .taken)) (t .loop .inv .1), (omega arith, omega arith))
 
--- src/lib.rt:44:13
 is-space-requires : tie.Need-is-space-requires Inv-loop μ-loop
 is-space-requires c κs = search needs
 
--- src/lib.rt:45:13
 returns-2 : tie.Need-returns-2 Inv-loop μ-loop
 returns-2 c = let t = c .before .before .before .before .before in
     let b = now (t .before .before .args .b) in
     (past-stops b (t .loop .i) (omega arith) white _ (sym (c .before .is-space .ensures) ∙ not-true _ (c .if2 .taken)) (t .loop .inv .1), (omega arith, omega arith))
 
--- src/lib.rt:47:9
 add-i : tie.Need-add-i Inv-loop μ-loop
 add-i c = search needs
 
--- src/lib.rt:39:5
 loop-less : tie.Need-loop-less Inv-loop μ-loop
 loop-less c = search needs
 
--- src/lib.rt:39:5
 loop-again : tie.Need-loop-again Inv-loop μ-loop
 loop-again c = let t = c .before .before .before .before .before in
     let b = now (t .before .before .args .b) in
     ((omega arith, omega arith), past-goes b (t .loop .i) (omega arith) white _ (sym (c .before .is-space .ensures) ∙ not-false _ (c .if2 .left)) (t .loop .inv .1))
 
--- src/lib.rt:32:1
 returns-3 : tie.Need-returns-3 Inv-loop μ-loop
 returns-3 c = let t = c .before in
     let b = now (t .before .before .args .b) in

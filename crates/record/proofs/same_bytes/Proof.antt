@@ -8,11 +8,9 @@ use borrow.Author.Needs.{needs}
 use native.Mathlib.Omega.{arith}
 use mathlib.Core.List.{map, map-id}
 use mathlib.Core.Path.{_≡_, ap, sym, refl, _∙_}
-use Prim.Native.Nat.{ℕ, _+_, _-_, _≤_}
+use Prim.Native.Nat.{ℕ, _-_, _≤_}
 use Rattle.record.proofs.same_bytes.Statement.{statement}
 use Rattle.record.proofs.same_bytes.Tie as tie
-use Rattle.record.proofs.same_bytes.Reads as reads
-use Rattle.record.proofs.same_bytes.Lts as lts
 
 abbrev Inv-loop : tie.InvT-loop
 Inv-loop x y i₀ i = (i ≤ length x) × (same (map (λ (c : ℕ). c) (drop i x)) (drop i y) ≡ same x y)
@@ -20,44 +18,35 @@ Inv-loop x y i₀ i = (i ≤ length x) × (same (map (λ (c : ℕ). c) (drop i x
 abbrev μ-loop : tie.MeasureT-loop
 μ-loop x y i₀ i = length x - i
 
--- src/lib.rt:262:9
 returns : tie.Need-returns Inv-loop μ-loop
 returns c = sym (same-lengths _ _ (c .if1 .taken))
 
--- src/lib.rt:265:5
 loop-holds : tie.Need-loop-holds Inv-loop μ-loop
 loop-holds c = let x = now (c .before .args .x) in
     (omega arith, ap (λ l. same l (now (c .before .args .y))) (map-id x))
 
--- src/lib.rt:266:12
 shared-slice-read-if2 : tie.Need-shared-slice-read-if2 Inv-loop μ-loop
 shared-slice-read-if2 c = search needs
 
--- src/lib.rt:266:20
 shared-slice-read-if2-2 : tie.Need-shared-slice-read-if2-2 Inv-loop μ-loop
 shared-slice-read-if2-2 c = search needs
 
--- src/lib.rt:267:13
 returns-2 : tie.Need-returns-2 Inv-loop μ-loop
 returns-2 c = let t = c .before .before .before .before in
     let a = t .before .before .args in
     same-stops (λ (b : ℕ). b) (now (a .x)) (now (a .y)) (t .loop .i) _ (omega arith) (omega arith) (ne-eqb _ _ (c .if2 .taken)) (t .loop .inv .1)
 
--- src/lib.rt:269:9
 add-i : tie.Need-add-i Inv-loop μ-loop
 add-i c = search needs
 
--- src/lib.rt:265:5
 loop-less : tie.Need-loop-less Inv-loop μ-loop
 loop-less c = search needs
 
--- src/lib.rt:265:5
 loop-again : tie.Need-loop-again Inv-loop μ-loop
 loop-again c = let t = c .before .before .before .before in
     let a = t .before .before .args in
     (omega arith, same-goes (λ (b : ℕ). b) (now (a .x)) (now (a .y)) (t .loop .i) _ (omega arith) (omega arith) (eq-eqb _ _ (c .if2 .left)) (t .loop .inv .1))
 
--- src/lib.rt:258:1
 returns-3 : tie.Need-returns-3 Inv-loop μ-loop
 unfolding same
 returns-3 c = let t = c .before in

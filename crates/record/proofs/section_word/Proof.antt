@@ -7,49 +7,34 @@ use mathlib.Core.Path.{_∙_, ap}
 use borrow.Author.Needs.{needs}
 use Rattle.record.proofs.section_word.Statement.{statement}
 use Rattle.record.proofs.section_word.Tie as tie
-use Rattle.record.proofs.section_word.Reads as reads
-use Rattle.record.proofs.section_word.Lts as lts
-use Rattle.record.proofs.past_space.Reads as past-space-reads
-use Rattle.record.proofs.trail_at.Reads as trail-at-reads
-use Rattle.record.proofs.word_in.Reads as word-in-reads
 
--- src/lib.rt:188:9
 returns : tie.Need-returns
 returns c = empty-word (now (c .before .before .args .b)) (c .if1 .taken)
 
--- src/lib.rt:190:8
 shared-slice-read-if2 : tie.Need-shared-slice-read-if2
 shared-slice-read-if2 c = search needs
 
--- src/lib.rt:191:9
 returns-2 : tie.Need-returns-2
 returns-2 c = hash-word (now (c .before .before .before .before .args .b)) (omega arith) (c .if2 .taken)
 
--- src/lib.rt:193:9
 past-space-requires : tie.Need-past-space-requires
 past-space-requires c κs = search needs
 
--- src/lib.rt:194:9
 trail-at-requires : tie.Need-trail-at-requires
 trail-at-requires c κs = search needs
 
--- src/lib.rt:195:13
 sub-word-in : tie.Need-sub-word-in
 sub-word-in c = search needs
 
--- src/lib.rt:195:13
 part-word-in-start : tie.Need-part-word-in-start
 part-word-in-start c = search needs
 
--- src/lib.rt:195:13
 part-word-in-end : tie.Need-part-word-in-end
 part-word-in-end c = search needs
 
--- src/lib.rt:195:5
 word-in-requires : tie.Need-word-in-requires
 word-in-requires c κs = search needs
 
--- src/lib.rt:184:1
 returns-3 : tie.Need-returns-3
 unfolding wordOf
 returns-3 c = let t = c .before .before in

@@ -1,21 +1,15 @@
 use Rattle.record.specs.Turns.{trail-goes}
 use Rattle.record.specs.Text.{trail, trailTurn}
-use Rattle.lex.specs.Byte.{white}
 use Rattle.lex.specs.Walk.{walk, walk-ends}
-use lib.ListN.{length, drop, getD}
+use lib.ListN.{length, drop}
 use denote.Ref.{now}
-use borrow.Author.Tests.{eq-eqb, ne-eqb, not-true, not-false}
+use borrow.Author.Tests.{not-true, not-false}
 use borrow.Author.Needs.{needs}
 use native.Mathlib.Omega.{arith}
-use mathlib.Core.List.{List, [], _∷_}
-use mathlib.Core.Bool.{true, false}
-use mathlib.Core.Path.{_≡_, ap, sym, refl, _∙_}
-use Prim.Native.Nat.{ℕ, _+_, _-_, _≤_}
+use mathlib.Core.Path.{_≡_, sym, refl, _∙_}
+use Prim.Native.Nat.{_+_, _-_, _≤_}
 use Rattle.record.proofs.trail_at.Statement.{statement}
 use Rattle.record.proofs.trail_at.Tie as tie
-use Rattle.record.proofs.trail_at.Reads as reads
-use Rattle.record.proofs.trail_at.Lts as lts
-use Rattle.lex.proofs.is_space.Reads as is-space-reads
 
 abbrev Inv-loop : tie.InvT-loop
 Inv-loop b from end₀ i₀ end i = (from ≤ end) × (end ≤ i) × (i ≤ length b) × (walk trailTurn (λ l. l) (drop end b) (drop i b) ≡ trail (drop from b))
@@ -23,44 +17,35 @@ Inv-loop b from end₀ i₀ end i = (from ≤ end) × (end ≤ i) × (i ≤ leng
 abbrev μ-loop : tie.MeasureT-loop
 μ-loop b from end₀ i₀ end i = length b - i
 
--- src/lib.rt:114:5
 loop-holds : tie.Need-loop-holds Inv-loop μ-loop
 unfolding trail
 loop-holds c = (omega arith, omega arith, omega arith, refl)
 
--- src/lib.rt:115:17
 shared-slice-read-c : tie.Need-shared-slice-read-c Inv-loop μ-loop
 shared-slice-read-c c = search needs
 
--- src/lib.rt:116:9
 add-i : tie.Need-add-i Inv-loop μ-loop
 add-i c = search needs
 
--- src/lib.rt:117:13
 is-space-requires : tie.Need-is-space-requires Inv-loop μ-loop
 is-space-requires c κs = search needs
 
--- src/lib.rt:114:5
 loop-less : tie.Need-loop-less Inv-loop μ-loop
 loop-less c = search needs
 
--- src/lib.rt:114:5
 loop-again : tie.Need-loop-again Inv-loop μ-loop
 loop-again c = let t = c .before .before .before .before in
     let b = now (t .before .before .args .b) in
     (omega arith, omega arith, omega arith, trail-goes b (t .loop .i) (omega arith) (t .loop .end) (t .loop .i + 1) _ (rw (sym (c .before .is-space .ensures) ∙ not-true _ (c .if1 .taken)) refl) (t .loop .inv .3))
 
--- src/lib.rt:114:5
 loop-less-2 : tie.Need-loop-less-2 Inv-loop μ-loop
 loop-less-2 c = search needs
 
--- src/lib.rt:114:5
 loop-again-2 : tie.Need-loop-again-2 Inv-loop μ-loop
 loop-again-2 c = let t = c .before .before .before .before in
     let b = now (t .before .before .args .b) in
     (omega arith, omega arith, omega arith, trail-goes b (t .loop .i) (omega arith) (t .loop .end) (t .loop .end) _ (rw (sym (c .before .is-space .ensures) ∙ not-false _ (c .if1 .left)) refl) (t .loop .inv .3))
 
--- src/lib.rt:106:1
 returns : tie.Need-returns Inv-loop μ-loop
 returns c = let t = c .before in
     let b = now (t .before .before .args .b) in

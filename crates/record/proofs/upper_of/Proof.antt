@@ -3,18 +3,13 @@ use native.Mathlib.Omega.{arith}
 use mathlib.Core.Path.{refl}
 use Rattle.record.proofs.upper_of.Statement.{statement}
 use Rattle.record.proofs.upper_of.Tie as tie
-use Rattle.record.proofs.upper_of.Reads as reads
-use Rattle.record.proofs.upper_of.Lts as lts
 
--- src/lib.rt:127:33
 sub-result : tie.Need-sub-result
 sub-result c = let k = bounds 97 (c .before .args .c) 122 (c .if1 .taken) in omega arith
 
--- src/lib.rt:124:1
 returns : tie.Need-returns
 returns c = rw (c .if1 .taken) refl
 
--- src/lib.rt:124:1
 returns-2 : tie.Need-returns-2
 returns-2 c = rw (c .if1 .left) refl
 

@@ -1,49 +1,35 @@
 use Rattle.record.specs.HeadLaws.{value-none, value-complex, value-keyed, keyed-absent, keyed-found}
-use Rattle.record.specs.Text.{keyword, KeyedAt}
-use lib.ListN.{drop}
 use denote.Ref.{now}
 use native.Mathlib.Omega.{arith}
 use mathlib.Core.Path.{_∙_}
 use borrow.Author.Needs.{needs}
 use Rattle.record.proofs.value_head.Statement.{statement}
 use Rattle.record.proofs.value_head.Tie as tie
-use Rattle.record.proofs.value_head.Reads as reads
-use Rattle.record.proofs.value_head.Lts as lts
-use Rattle.record.proofs.keyword_at.Reads as keyword-at-reads
-use Rattle.record.proofs.past_space.Reads as past-space-reads
 
--- src/lib.rt:196:9
 past-space-requires : tie.Need-past-space-requires
 past-space-requires c κs = search needs
 
--- src/lib.rt:198:9
 returns : tie.Need-returns
 returns c = let a = c .before .before .before .args in
     value-none (now (a .b)) (a .id) (c .before .past-space .result) _ (c .before .past-space .ensures .0) (c .if1 .taken)
 
--- src/lib.rt:200:8
 shared-slice-read-if2 : tie.Need-shared-slice-read-if2
 shared-slice-read-if2 c = search needs
 
--- src/lib.rt:201:9
 returns-2 : tie.Need-returns-2
 returns-2 c = let p = c .before .before .before in
     let a = p .before .before .args in
     value-complex (now (a .b)) (a .id) (p .past-space .result) _ (p .past-space .ensures .0) (omega arith) (c .if2 .taken)
 
--- src/lib.rt:203:11
 keyword-at-requires : tie.Need-keyword-at-requires
 keyword-at-requires c κs = search needs
 
--- src/lib.rt:204:24
 enum-told : tie.Need-enum-told
 enum-told c = search needs
 
--- src/lib.rt:205:20
 enum-known-e : tie.Need-enum-known-e
 enum-known-e c = search needs
 
--- src/lib.rt:192:1
 returns-3 : tie.Need-returns-3
 returns-3 c = let p = c .before .before .before .before .before .before in
     let a = p .before .before .args in
@@ -51,7 +37,6 @@ returns-3 c = let p = c .before .before .before .before .before .before in
     keyed-absent (now (a .b)) (a .id) (p .past-space .result) _ k
     ∙ value-keyed (now (a .b)) (a .id) (p .past-space .result) _ (p .past-space .ensures .0) (omega arith) (c .before .before .before .if2 .left)
 
--- src/lib.rt:192:1
 returns-4 : tie.Need-returns-4
 returns-4 c = let p = c .before .before .before .before .before .before .before in
     let a = p .before .before .args in

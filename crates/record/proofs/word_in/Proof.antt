@@ -2,59 +2,43 @@ use mathlib.Core.Path.{_∙_, sym, refl}
 use borrow.Author.Needs.{needs}
 use Rattle.record.proofs.word_in.Statement.{statement}
 use Rattle.record.proofs.word_in.Tie as tie
-use Rattle.record.proofs.word_in.Reads as reads
-use Rattle.record.proofs.word_in.Lts as lts
-use Rattle.record.proofs.is_word.Reads as is-word-reads
-use Rattle.record.proofs.opens_data.Reads as opens-data-reads
 
--- src/lib.rt:167:19
 slice-aggregate-is-word : tie.Need-slice-aggregate-is-word
 slice-aggregate-is-word c = search needs
 
--- src/lib.rt:167:8
 is-word-requires : tie.Need-is-word-requires
 is-word-requires c κs = search needs
 
--- src/lib.rt:168:9
 returns : tie.Need-returns
 returns c = rw (sym (c .before .is-word .ensures) ∙ c .if1 .taken) refl
 
--- src/lib.rt:170:19
 slice-aggregate-is-word-2 : tie.Need-slice-aggregate-is-word-2
 slice-aggregate-is-word-2 c = search needs
 
--- src/lib.rt:170:8
 is-word-requires-2 : tie.Need-is-word-requires-2
 is-word-requires-2 c κs = search needs
 
--- src/lib.rt:171:9
 returns-2 : tie.Need-returns-2
 returns-2 c = rw (sym (c .before .before .before .before .is-word .ensures) ∙ c .before .before .before .if1 .left, sym (c .before .is-word2 .ensures) ∙ c .if2 .taken) refl
 
--- src/lib.rt:173:8
 opens-data-requires : tie.Need-opens-data-requires
 opens-data-requires c κs = search needs
 
--- src/lib.rt:174:9
 returns-3 : tie.Need-returns-3
 returns-3 c = let d = c .before .before in
     rw (sym (d .before .before .before .before .is-word .ensures) ∙ d .before .before .before .if1 .left, sym (d .before .is-word2 .ensures) ∙ d .if2 .left, sym (c .before .opens-data .ensures) ∙ c .if3 .taken) refl
 
--- src/lib.rt:176:19
 slice-aggregate-is-word-3 : tie.Need-slice-aggregate-is-word-3
 slice-aggregate-is-word-3 c = search needs
 
--- src/lib.rt:176:8
 is-word-requires-3 : tie.Need-is-word-requires-3
 is-word-requires-3 c κs = search needs
 
--- src/lib.rt:177:9
 returns-4 : tie.Need-returns-4
 returns-4 c = let e = c .before .before .before in
     let d = e .before .before in
     rw (sym (d .before .before .before .before .is-word .ensures) ∙ d .before .before .before .if1 .left, sym (d .before .is-word2 .ensures) ∙ d .if2 .left, sym (e .before .opens-data .ensures) ∙ e .if3 .left, sym (c .before .is-word3 .ensures) ∙ c .if4 .taken) refl
 
--- src/lib.rt:164:1
 returns-5 : tie.Need-returns-5
 returns-5 c = let e = c .before .before .before in
     let d = e .before .before in

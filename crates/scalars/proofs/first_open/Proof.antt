@@ -7,16 +7,13 @@ use borrow.Author.Needs.{needs}
 use mathlib.Core.Path.{_≡_, refl, _∙_, sym, ap}
 use mathlib.Core.Bool.{not}
 use native.Mathlib.Omega.{arith}
-use lib.ListN.{length, drop, getD}
-use lib.Dec.{eqb}
-use Prim.Native.Nat.{ℕ, _-_, _≤_}
+use lib.ListN.{length, drop}
+use Prim.Native.Nat.{_-_, _≤_}
 use denote.Ref.{now}
-use mathlib.Core.List.{List, []}
+use mathlib.Core.List.{[]}
 use Rattle.lex.specs.Walk.{drop-end}
 use Rattle.scalars.proofs.first_open.Statement.{statement}
 use Rattle.scalars.proofs.first_open.Tie as tie
-use Rattle.scalars.proofs.first_open.Reads as reads
-use Rattle.scalars.proofs.first_open.Lts as lts
 
 abbrev Inv-loop : tie.InvT-loop
 Inv-loop t i₀ i = (i ≤ length t) × (walk (pastTurn unopening) (λ u. []) tt (drop i t) ≡ past unopening t)
@@ -24,36 +21,29 @@ Inv-loop t i₀ i = (i ≤ length t) × (walk (pastTurn unopening) (λ u. []) tt
 abbrev μ-loop : tie.MeasureT-loop
 μ-loop t i₀ i = length t - i
 
--- src/lib.rt:102:5
 loop-holds : tie.Need-loop-holds Inv-loop μ-loop
 unfolding past
 loop-holds c = (omega arith, refl)
 
--- src/lib.rt:103:12
 shared-slice-read-if1 : tie.Need-shared-slice-read-if1 Inv-loop μ-loop
 shared-slice-read-if1 c = search needs
 
--- src/lib.rt:104:13
 returns : tie.Need-returns Inv-loop μ-loop
 returns c = let t = c .before .before .before in
     let b = now (t .before .args .t) in
     (past-stops b (t .loop .i) (omega arith) unopening _ (ap not (eq-eqb _ _ (c .if1 .taken))) (t .loop .inv .1), omega arith)
 
--- src/lib.rt:106:9
 add-i : tie.Need-add-i Inv-loop μ-loop
 add-i c = search needs
 
--- src/lib.rt:102:5
 loop-less : tie.Need-loop-less Inv-loop μ-loop
 loop-less c = search needs
 
--- src/lib.rt:102:5
 loop-again : tie.Need-loop-again Inv-loop μ-loop
 loop-again c = let t = c .before .before .before in
     let b = now (t .before .args .t) in
     (omega arith, past-goes b (t .loop .i) (omega arith) unopening _ (ap not (ne-eqb _ _ (c .if1 .left))) (t .loop .inv .1))
 
--- src/lib.rt:97:1
 returns-2 : tie.Need-returns-2 Inv-loop μ-loop
 returns-2 c = let l = c .before .loop in
     let b = now (c .before .before .args .t) in

@@ -1,84 +1,63 @@
 use borrow.Author.Needs.{needs}
 use Rattle.scalars.specs.Laws.{part-part, kernel-short, kernel-other, kernel-part}
 use Rattle.scalars.specs.Scalars.{inside}
-use mathlib.Core.Path.{_≡_, refl, _∙_, sym, ap}
+use mathlib.Core.Path.{_≡_, _∙_, sym, ap}
 use native.Mathlib.Omega.{arith}
 use lib.ListN.{length, take, drop, length-drop, length-take}
 use denote.Ref.{now}
-use Prim.Native.Nat.{ℕ, _+_, _-_, _≤_}
+use Prim.Native.Nat.{_+_, _-_, _≤_}
 use Rattle.scalars.proofs.inner_of.Statement.{statement}
 use Rattle.scalars.proofs.inner_of.Tie as tie
-use Rattle.scalars.proofs.inner_of.Reads as reads
-use Rattle.scalars.proofs.inner_of.Lts as lts
-use Rattle.scalars.proofs.first_open.Reads as first-open-reads
-use Rattle.scalars.proofs.trim.Reads as trim-reads
 
--- src/lib.rt:122:9
 first-open-requires : tie.Need-first-open-requires
 first-open-requires c κs = search needs
 
--- src/lib.rt:124:8
 sub-if1 : tie.Need-sub-if1
 sub-if1 c = search needs
 
--- src/lib.rt:125:9
 returns : tie.Need-returns
 returns c = kernel-short (now (c .before .before .before .args .t)) (c .before .first-open .result) (c .before .first-open .ensures .0) (c .before .first-open .ensures .1) (omega (arith, c .if1 .taken))
 
--- src/lib.rt:127:10
 sub-if2 : tie.Need-sub-if2
 sub-if2 c = search needs
 
--- src/lib.rt:127:8
 shared-slice-read-if2 : tie.Need-shared-slice-read-if2
 shared-slice-read-if2 c = search needs
 
--- src/lib.rt:128:9
 returns-2 : tie.Need-returns-2
 returns-2 c = let f = c .before .before .before in
     kernel-other (now (f .before .before .args .t)) (f .first-open .result) (f .first-open .ensures .0) (f .first-open .ensures .1) (omega arith) (c .if2 .taken)
 
--- src/lib.rt:130:21
 add-trim : tie.Need-add-trim
 add-trim c = search needs
 
--- src/lib.rt:130:28
 sub-trim : tie.Need-sub-trim
 sub-trim c = search needs
 
--- src/lib.rt:130:18
 sub-trim-2 : tie.Need-sub-trim-2
 sub-trim-2 c = search needs
 
--- src/lib.rt:130:18
 part-trim-start : tie.Need-part-trim-start
 part-trim-start c = search needs
 
--- src/lib.rt:130:18
 part-trim-end : tie.Need-part-trim-end
 part-trim-end c = search needs
 
--- src/lib.rt:130:9
 trim-requires : tie.Need-trim-requires
 trim-requires c κs = search needs
 
--- src/lib.rt:131:19
 add-t5 : tie.Need-add-t5
 add-t5 c = search needs
 
--- src/lib.rt:131:19
 add-t11 : tie.Need-add-t11
 add-t11 c = search needs
 
--- src/lib.rt:131:36
 add-t9 : tie.Need-add-t9
 add-t9 c = search needs
 
--- src/lib.rt:131:36
 add-t14 : tie.Need-add-t14
 add-t14 c = search needs
 
--- src/lib.rt:119:1
 returns-3 : tie.Need-returns-3
 returns-3 c = let m = c .before .before .trim in
     let i = c .before .before .before .before in

@@ -3,56 +3,40 @@ use Rattle.scalars.specs.Laws.{next-refused, next-read}
 use Rattle.params.specs.ReaderLaws.{cut-places}
 use Rattle.params.specs.Reader.{toldCut}
 use Rattle.scalars.specs.Scalars.{truthOf}
-use mathlib.Core.Path.{_≡_, refl, _∙_, sym, ap}
+use mathlib.Core.Path.{_∙_, sym, ap}
 use native.Mathlib.Omega.{arith}
-use lib.ListN.{length}
 use denote.Ref.{now}
 use Rattle.scalars.proofs.next_bool.Statement.{statement}
 use Rattle.scalars.proofs.next_bool.Tie as tie
-use Rattle.scalars.proofs.next_bool.Reads as reads
-use Rattle.scalars.proofs.next_bool.Lts as lts
-use Rattle.params.proofs.param_span.Reads as param-span-reads
-use Rattle.scalars.proofs.parse_truth.Reads as parse-truth-reads
-use Rattle.scalars.proofs.truth_read.Reads as truth-read-reads
 
--- src/lib.rt:303:11
 param-span-requires : tie.Need-param-span-requires
 param-span-requires c κs = search needs
 
--- src/lib.rt:304:22
 enum-known-f : tie.Need-enum-known-f
 enum-known-f c = search needs
 
--- src/lib.rt:305:19
 enum-known-start : tie.Need-enum-known-start
 enum-known-start c = search needs
 
--- src/lib.rt:305:62
 sub-parse-truth : tie.Need-sub-parse-truth
 sub-parse-truth c = let w = cut-places _ _ _ _ _ (c .before .before .before .param-span .ensures .1) (c .before .start .given .1) in w .0
 
--- src/lib.rt:305:62
 part-parse-truth-start : tie.Need-part-parse-truth-start
 part-parse-truth-start c = let (u, v) = cut-places _ _ _ _ _ (c .before .before .before .param-span .ensures .1) (c .before .start .given .1) in omega (arith, u, v)
 
--- src/lib.rt:305:62
 part-parse-truth-end : tie.Need-part-parse-truth-end
 part-parse-truth-end c = let (u, v) = cut-places _ _ _ _ _ (c .before .before .before .param-span .ensures .1) (c .before .start .given .1) in omega (arith, u, v)
 
--- src/lib.rt:305:50
 parse-truth-requires : tie.Need-parse-truth-requires
 parse-truth-requires c κs = search needs
 
--- src/lib.rt:305:39
 truth-read-requires : tie.Need-truth-read-requires
 truth-read-requires c κs = search needs
 
--- src/lib.rt:300:1
 returns : tie.Need-returns
 returns c = let a = c .before .before .before .before .before .args in
     next-refused truthOf (now (a .file)) (a .at .place) (a .at .end) _ _ _ (ap toldCut (sym (c .before .f .given .1)) ∙ c .before .before .before .param-span .ensures .0)
 
--- src/lib.rt:300:1
 returns-2 : tie.Need-returns-2
 returns-2 c = let g = c .before .before .before .before in
     let a = g .before .before .before .before .args in

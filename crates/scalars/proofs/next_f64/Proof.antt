@@ -3,56 +3,40 @@ use Rattle.scalars.specs.Laws.{next-refused, next-read}
 use Rattle.params.specs.ReaderLaws.{cut-places}
 use Rattle.params.specs.Reader.{toldCut}
 use Rattle.reals.specs.Scalar.{realOf}
-use mathlib.Core.Path.{_≡_, refl, _∙_, sym, ap}
+use mathlib.Core.Path.{_∙_, sym, ap}
 use native.Mathlib.Omega.{arith}
-use lib.ListN.{length}
 use denote.Ref.{now}
 use Rattle.scalars.proofs.next_f64.Statement.{statement}
 use Rattle.scalars.proofs.next_f64.Tie as tie
-use Rattle.scalars.proofs.next_f64.Reads as reads
-use Rattle.scalars.proofs.next_f64.Lts as lts
-use Rattle.params.proofs.param_span.Reads as param-span-reads
-use Rattle.reals.proofs.parse_real.Reads as parse-real-reads
-use Rattle.scalars.proofs.real_read.Reads as real-read-reads
 
--- src/lib.rt:246:11
 param-span-requires : tie.Need-param-span-requires
 param-span-requires c κs = search needs
 
--- src/lib.rt:247:22
 enum-known-f : tie.Need-enum-known-f
 enum-known-f c = search needs
 
--- src/lib.rt:248:19
 enum-known-start : tie.Need-enum-known-start
 enum-known-start c = search needs
 
--- src/lib.rt:248:67
 sub-parse-real : tie.Need-sub-parse-real
 sub-parse-real c = let w = cut-places _ _ _ _ _ (c .before .before .before .param-span .ensures .1) (c .before .start .given .1) in w .0
 
--- src/lib.rt:248:67
 part-parse-real-start : tie.Need-part-parse-real-start
 part-parse-real-start c = let (u, v) = cut-places _ _ _ _ _ (c .before .before .before .param-span .ensures .1) (c .before .start .given .1) in omega (arith, u, v)
 
--- src/lib.rt:248:67
 part-parse-real-end : tie.Need-part-parse-real-end
 part-parse-real-end c = let (u, v) = cut-places _ _ _ _ _ (c .before .before .before .param-span .ensures .1) (c .before .start .given .1) in omega (arith, u, v)
 
--- src/lib.rt:248:49
 parse-real-requires : tie.Need-parse-real-requires
 parse-real-requires c κs = search needs
 
--- src/lib.rt:248:39
 real-read-requires : tie.Need-real-read-requires
 real-read-requires c κs = search needs
 
--- src/lib.rt:243:1
 returns : tie.Need-returns
 returns c = let a = c .before .before .before .before .before .args in
     next-refused realOf (now (a .file)) (a .at .place) (a .at .end) _ _ _ (ap toldCut (sym (c .before .f .given .1)) ∙ c .before .before .before .param-span .ensures .0)
 
--- src/lib.rt:243:1
 returns-2 : tie.Need-returns-2
 returns-2 c = let g = c .before .before .before .before in
     let a = g .before .before .before .before .args in

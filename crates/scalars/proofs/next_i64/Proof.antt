@@ -3,56 +3,40 @@ use Rattle.scalars.specs.Laws.{next-refused, next-read}
 use Rattle.params.specs.ReaderLaws.{cut-places}
 use Rattle.params.specs.Reader.{toldCut}
 use Rattle.reals.specs.Scalar.{wholeOf}
-use mathlib.Core.Path.{_≡_, refl, _∙_, sym, ap}
+use mathlib.Core.Path.{_∙_, sym, ap}
 use native.Mathlib.Omega.{arith}
-use lib.ListN.{length}
 use denote.Ref.{now}
 use Rattle.scalars.proofs.next_i64.Statement.{statement}
 use Rattle.scalars.proofs.next_i64.Tie as tie
-use Rattle.scalars.proofs.next_i64.Reads as reads
-use Rattle.scalars.proofs.next_i64.Lts as lts
-use Rattle.params.proofs.param_span.Reads as param-span-reads
-use Rattle.reals.proofs.parse_int.Reads as parse-int-reads
-use Rattle.scalars.proofs.whole_read.Reads as whole-read-reads
 
--- src/lib.rt:226:11
 param-span-requires : tie.Need-param-span-requires
 param-span-requires c κs = search needs
 
--- src/lib.rt:227:22
 enum-known-f : tie.Need-enum-known-f
 enum-known-f c = search needs
 
--- src/lib.rt:228:19
 enum-known-start : tie.Need-enum-known-start
 enum-known-start c = search needs
 
--- src/lib.rt:228:67
 sub-parse-int : tie.Need-sub-parse-int
 sub-parse-int c = let w = cut-places _ _ _ _ _ (c .before .before .before .param-span .ensures .1) (c .before .start .given .1) in w .0
 
--- src/lib.rt:228:67
 part-parse-int-start : tie.Need-part-parse-int-start
 part-parse-int-start c = let (u, v) = cut-places _ _ _ _ _ (c .before .before .before .param-span .ensures .1) (c .before .start .given .1) in omega (arith, u, v)
 
--- src/lib.rt:228:67
 part-parse-int-end : tie.Need-part-parse-int-end
 part-parse-int-end c = let (u, v) = cut-places _ _ _ _ _ (c .before .before .before .param-span .ensures .1) (c .before .start .given .1) in omega (arith, u, v)
 
--- src/lib.rt:228:50
 parse-int-requires : tie.Need-parse-int-requires
 parse-int-requires c κs = search needs
 
--- src/lib.rt:228:39
 whole-read-requires : tie.Need-whole-read-requires
 whole-read-requires c κs = search needs
 
--- src/lib.rt:223:1
 returns : tie.Need-returns
 returns c = let a = c .before .before .before .before .before .args in
     next-refused wholeOf (now (a .file)) (a .at .place) (a .at .end) _ _ _ (ap toldCut (sym (c .before .f .given .1)) ∙ c .before .before .before .param-span .ensures .0)
 
--- src/lib.rt:223:1
 returns-2 : tie.Need-returns-2
 returns-2 c = let g = c .before .before .before .before in
     let a = g .before .before .before .before .args in

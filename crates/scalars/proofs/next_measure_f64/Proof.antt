@@ -3,56 +3,40 @@ use Rattle.scalars.specs.Laws.{next-refused, next-read}
 use Rattle.params.specs.ReaderLaws.{cut-places}
 use Rattle.params.specs.Reader.{toldCut}
 use Rattle.scalars.specs.Scalars.{measureOf}
-use mathlib.Core.Path.{_≡_, refl, _∙_, sym, ap}
+use mathlib.Core.Path.{_∙_, sym, ap}
 use native.Mathlib.Omega.{arith}
-use lib.ListN.{length}
 use denote.Ref.{now}
 use Rattle.scalars.proofs.next_measure_f64.Statement.{statement}
 use Rattle.scalars.proofs.next_measure_f64.Tie as tie
-use Rattle.scalars.proofs.next_measure_f64.Reads as reads
-use Rattle.scalars.proofs.next_measure_f64.Lts as lts
-use Rattle.params.proofs.param_span.Reads as param-span-reads
-use Rattle.scalars.proofs.parse_measure.Reads as parse-measure-reads
-use Rattle.scalars.proofs.real_read.Reads as real-read-reads
 
--- src/lib.rt:282:11
 param-span-requires : tie.Need-param-span-requires
 param-span-requires c κs = search needs
 
--- src/lib.rt:283:22
 enum-known-f : tie.Need-enum-known-f
 enum-known-f c = search needs
 
--- src/lib.rt:284:19
 enum-known-start : tie.Need-enum-known-start
 enum-known-start c = search needs
 
--- src/lib.rt:284:63
 sub-parse-measure : tie.Need-sub-parse-measure
 sub-parse-measure c = let w = cut-places _ _ _ _ _ (c .before .before .before .param-span .ensures .1) (c .before .start .given .1) in w .0
 
--- src/lib.rt:284:63
 part-parse-measure-start : tie.Need-part-parse-measure-start
 part-parse-measure-start c = let (u, v) = cut-places _ _ _ _ _ (c .before .before .before .param-span .ensures .1) (c .before .start .given .1) in omega (arith, u, v)
 
--- src/lib.rt:284:63
 part-parse-measure-end : tie.Need-part-parse-measure-end
 part-parse-measure-end c = let (u, v) = cut-places _ _ _ _ _ (c .before .before .before .param-span .ensures .1) (c .before .start .given .1) in omega (arith, u, v)
 
--- src/lib.rt:284:49
 parse-measure-requires : tie.Need-parse-measure-requires
 parse-measure-requires c κs = search needs
 
--- src/lib.rt:284:39
 real-read-requires : tie.Need-real-read-requires
 real-read-requires c κs = search needs
 
--- src/lib.rt:279:1
 returns : tie.Need-returns
 returns c = let a = c .before .before .before .before .before .args in
     next-refused measureOf (now (a .file)) (a .at .place) (a .at .end) _ _ _ (ap toldCut (sym (c .before .f .given .1)) ∙ c .before .before .before .param-span .ensures .0)
 
--- src/lib.rt:279:1
 returns-2 : tie.Need-returns-2
 returns-2 c = let g = c .before .before .before .before in
     let a = g .before .before .before .before .args in

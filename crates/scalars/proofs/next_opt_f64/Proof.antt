@@ -4,68 +4,49 @@ use Rattle.scalars.specs.Scalars.{optionOf}
 use Rattle.params.specs.ReaderLaws.{cut-places}
 use Rattle.params.specs.Reader.{toldCut}
 use Rattle.reals.specs.Scalar.{realOf}
-use mathlib.Core.Path.{_≡_, refl, _∙_, sym, ap}
+use mathlib.Core.Path.{_∙_, sym, ap}
 use native.Mathlib.Omega.{arith}
-use lib.ListN.{length}
 use denote.Ref.{now}
 use Rattle.scalars.proofs.next_opt_f64.Statement.{statement}
 use Rattle.scalars.proofs.next_opt_f64.Tie as tie
-use Rattle.scalars.proofs.next_opt_f64.Reads as reads
-use Rattle.scalars.proofs.next_opt_f64.Lts as lts
-use Rattle.params.proofs.param_span.Reads as param-span-reads
-use Rattle.reals.proofs.parse_real.Reads as parse-real-reads
-use Rattle.scalars.proofs.is_unset.Reads as is-unset-reads
-use Rattle.scalars.proofs.opt_real_read.Reads as opt-real-read-reads
 
--- src/lib.rt:266:11
 param-span-requires : tie.Need-param-span-requires
 param-span-requires c κs = search needs
 
--- src/lib.rt:267:22
 enum-known-f : tie.Need-enum-known-f
 enum-known-f c = search needs
 
--- src/lib.rt:268:19
 enum-known-start : tie.Need-enum-known-start
 enum-known-start c = search needs
 
--- src/lib.rt:269:21
 sub-t : tie.Need-sub-t
 sub-t c = let w = cut-places _ _ _ _ _ (c .before .before .before .param-span .ensures .1) (c .before .start .given .1) in w .0
 
--- src/lib.rt:269:21
 part-t-start : tie.Need-part-t-start
 part-t-start c = let (u, v) = cut-places _ _ _ _ _ (c .before .before .before .param-span .ensures .1) (c .before .start .given .1) in omega (arith, u, v)
 
--- src/lib.rt:269:21
 part-t-end : tie.Need-part-t-end
 part-t-end c = let (u, v) = cut-places _ _ _ _ _ (c .before .before .before .param-span .ensures .1) (c .before .start .given .1) in omega (arith, u, v)
 
--- src/lib.rt:270:16
 is-unset-requires : tie.Need-is-unset-requires
 is-unset-requires c κs = search needs
 
--- src/lib.rt:271:17
 returns : tie.Need-returns
 returns c = let g = c .before .before .before .before in
     let a = g .before .before .before .before .args in
     next-read (optionOf realOf) (now (a .file)) (a .at .place) (a .at .end) _ _ _ _ _ (ap toldCut (sym (g .start .given .1)) ∙ g .before .before .param-span .ensures .0)
     (option-unset realOf _ (sym (c .before .is-unset .ensures) ∙ c .if1 .taken))
 
--- src/lib.rt:273:27
 parse-real-requires : tie.Need-parse-real-requires
 parse-real-requires c κs = search needs
 
--- src/lib.rt:273:13
 opt-real-read-requires : tie.Need-opt-real-read-requires
 opt-real-read-requires c κs = search needs
 
--- src/lib.rt:263:1
 returns-2 : tie.Need-returns-2
 returns-2 c = let a = c .before .before .before .before .before .args in
     next-refused (optionOf realOf) (now (a .file)) (a .at .place) (a .at .end) _ _ _ (ap toldCut (sym (c .before .f .given .1)) ∙ c .before .before .before .param-span .ensures .0)
 
--- src/lib.rt:263:1
 returns-3 : tie.Need-returns-3
 returns-3 c = let i = c .before .before in
     let g = i .before .before .before .before in

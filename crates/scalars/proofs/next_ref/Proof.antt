@@ -3,56 +3,40 @@ use Rattle.scalars.specs.Laws.{next-refused, next-read}
 use Rattle.params.specs.ReaderLaws.{cut-places}
 use Rattle.params.specs.Reader.{toldCut}
 use Rattle.reals.specs.Scalar.{referenceOf}
-use mathlib.Core.Path.{_≡_, refl, _∙_, sym, ap}
+use mathlib.Core.Path.{_∙_, sym, ap}
 use native.Mathlib.Omega.{arith}
-use lib.ListN.{length}
 use denote.Ref.{now}
 use Rattle.scalars.proofs.next_ref.Statement.{statement}
 use Rattle.scalars.proofs.next_ref.Tie as tie
-use Rattle.scalars.proofs.next_ref.Reads as reads
-use Rattle.scalars.proofs.next_ref.Lts as lts
-use Rattle.params.proofs.param_span.Reads as param-span-reads
-use Rattle.reals.proofs.parse_ref.Reads as parse-ref-reads
-use Rattle.scalars.proofs.ref_read.Reads as ref-read-reads
 
--- src/lib.rt:180:11
 param-span-requires : tie.Need-param-span-requires
 param-span-requires c κs = search needs
 
--- src/lib.rt:181:22
 enum-known-f : tie.Need-enum-known-f
 enum-known-f c = search needs
 
--- src/lib.rt:182:19
 enum-known-start : tie.Need-enum-known-start
 enum-known-start c = search needs
 
--- src/lib.rt:182:65
 sub-parse-ref : tie.Need-sub-parse-ref
 sub-parse-ref c = let w = cut-places _ _ _ _ _ (c .before .before .before .param-span .ensures .1) (c .before .start .given .1) in w .0
 
--- src/lib.rt:182:65
 part-parse-ref-start : tie.Need-part-parse-ref-start
 part-parse-ref-start c = let (u, v) = cut-places _ _ _ _ _ (c .before .before .before .param-span .ensures .1) (c .before .start .given .1) in omega (arith, u, v)
 
--- src/lib.rt:182:65
 part-parse-ref-end : tie.Need-part-parse-ref-end
 part-parse-ref-end c = let (u, v) = cut-places _ _ _ _ _ (c .before .before .before .param-span .ensures .1) (c .before .start .given .1) in omega (arith, u, v)
 
--- src/lib.rt:182:48
 parse-ref-requires : tie.Need-parse-ref-requires
 parse-ref-requires c κs = search needs
 
--- src/lib.rt:182:39
 ref-read-requires : tie.Need-ref-read-requires
 ref-read-requires c κs = search needs
 
--- src/lib.rt:177:1
 returns : tie.Need-returns
 returns c = let a = c .before .before .before .before .before .args in
     next-refused referenceOf (now (a .file)) (a .at .place) (a .at .end) _ _ _ (ap toldCut (sym (c .before .f .given .1)) ∙ c .before .before .before .param-span .ensures .0)
 
--- src/lib.rt:177:1
 returns-2 : tie.Need-returns-2
 returns-2 c = let g = c .before .before .before .before in
     let a = g .before .before .before .before .args in

@@ -2,22 +2,16 @@ use borrow.Author.Needs.{needs}
 use mathlib.Core.Path.{refl}
 use Rattle.scalars.proofs.opt_ref_read.Statement.{statement}
 use Rattle.scalars.proofs.opt_ref_read.Tie as tie
-use Rattle.scalars.proofs.opt_ref_read.Reads as reads
-use Rattle.scalars.proofs.opt_ref_read.Lts as lts
 
--- src/lib.rt:192:26
 enum-known-v : tie.Need-enum-known-v
 enum-known-v c = search needs
 
--- src/lib.rt:193:56
 enum-told : tie.Need-enum-told
 enum-told c = search needs
 
--- src/lib.rt:188:1
 returns : tie.Need-returns
 returns c = rw (c .before .v .given .1) refl
 
--- src/lib.rt:188:1
 returns-2 : tie.Need-returns-2
 returns-2 c = rw (c .enum-told .given .1) refl
 

@@ -3,53 +3,40 @@ use mathlib.Core.Path.{refl}
 use Rattle.scalars.specs.Scalars.{truthOf}
 use Rattle.scalars.proofs.parse_truth.Statement.{statement}
 use Rattle.scalars.proofs.parse_truth.Tie as tie
-use Rattle.scalars.proofs.parse_truth.Reads as reads
-use Rattle.scalars.proofs.parse_truth.Lts as lts
-use Rattle.record.proofs.same_bytes.Reads as same-bytes-reads
 
--- src/lib.rt:157:30
 slice-aggregate-same-bytes : tie.Need-slice-aggregate-same-bytes
 slice-aggregate-same-bytes c = search needs
 
--- src/lib.rt:157:8
 same-bytes-requires : tie.Need-same-bytes-requires
 same-bytes-requires c κs = search needs
 
--- src/lib.rt:158:9
 returns : tie.Need-returns
 unfolding truthOf
 returns c = rw (← c .before .same-bytes .ensures, c .if1 .taken) refl
 
--- src/lib.rt:160:30
 slice-aggregate-same-bytes-2 : tie.Need-slice-aggregate-same-bytes-2
 slice-aggregate-same-bytes-2 c = search needs
 
--- src/lib.rt:160:8
 same-bytes-requires-2 : tie.Need-same-bytes-requires-2
 same-bytes-requires-2 c κs = search needs
 
--- src/lib.rt:161:9
 returns-2 : tie.Need-returns-2
 unfolding truthOf
 returns-2 c = let d = c .before .before in
     rw (← d .before .before .same-bytes .ensures, d .before .if1 .left, ← c .before .same-bytes2 .ensures, c .if2 .taken) refl
 
--- src/lib.rt:163:30
 slice-aggregate-same-bytes-3 : tie.Need-slice-aggregate-same-bytes-3
 slice-aggregate-same-bytes-3 c = search needs
 
--- src/lib.rt:163:8
 same-bytes-requires-3 : tie.Need-same-bytes-requires-3
 same-bytes-requires-3 c κs = search needs
 
--- src/lib.rt:164:9
 returns-3 : tie.Need-returns-3
 unfolding truthOf
 returns-3 c = let d = c .before .before in
     let g = d .before .before .before in
     rw (← g .before .before .same-bytes .ensures, g .before .if1 .left, ← d .before .before .same-bytes2 .ensures, d .before .if2 .left, ← c .before .same-bytes3 .ensures, c .if3 .taken) refl
 
--- src/lib.rt:154:1
 returns-4 : tie.Need-returns-4
 unfolding truthOf
 returns-4 c = let d = c .before .before in

@@ -2,30 +2,22 @@ use borrow.Author.Needs.{needs}
 use mathlib.Core.Path.{refl}
 use Rattle.scalars.proofs.real_read.Statement.{statement}
 use Rattle.scalars.proofs.real_read.Tie as tie
-use Rattle.scalars.proofs.real_read.Reads as reads
-use Rattle.scalars.proofs.real_read.Lts as lts
 
--- src/lib.rt:236:21
 enum-known-v : tie.Need-enum-known-v
 enum-known-v c = search needs
 
--- src/lib.rt:237:44
 enum-told : tie.Need-enum-told
 enum-told c = search needs
 
--- src/lib.rt:238:44
 enum-told-2 : tie.Need-enum-told-2
 enum-told-2 c = search needs
 
--- src/lib.rt:232:1
 returns : tie.Need-returns
 returns c = rw (c .before .v .given .1) refl
 
--- src/lib.rt:232:1
 returns-2 : tie.Need-returns-2
 returns-2 c = rw (c .enum-told .given .1) refl
 
--- src/lib.rt:232:1
 returns-3 : tie.Need-returns-3
 returns-3 c = rw (c .enum-told2 .given .1) refl
 

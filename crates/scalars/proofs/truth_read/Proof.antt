@@ -2,38 +2,28 @@ use borrow.Author.Needs.{needs}
 use mathlib.Core.Path.{refl}
 use Rattle.scalars.proofs.truth_read.Statement.{statement}
 use Rattle.scalars.proofs.truth_read.Tie as tie
-use Rattle.scalars.proofs.truth_read.Reads as reads
-use Rattle.scalars.proofs.truth_read.Lts as lts
 
--- src/lib.rt:292:24
 enum-told : tie.Need-enum-told
 enum-told c = search needs
 
--- src/lib.rt:293:25
 enum-told-2 : tie.Need-enum-told-2
 enum-told-2 c = search needs
 
--- src/lib.rt:294:27
 enum-told-3 : tie.Need-enum-told-3
 enum-told-3 c = search needs
 
--- src/lib.rt:295:47
 enum-told-4 : tie.Need-enum-told-4
 enum-told-4 c = search needs
 
--- src/lib.rt:288:1
 returns : tie.Need-returns
 returns c = rw (c .enum-told .given .1) refl
 
--- src/lib.rt:288:1
 returns-2 : tie.Need-returns-2
 returns-2 c = rw (c .enum-told2 .given .1) refl
 
--- src/lib.rt:288:1
 returns-3 : tie.Need-returns-3
 returns-3 c = rw (c .enum-told3 .given .1) refl
 
--- src/lib.rt:288:1
 returns-4 : tie.Need-returns-4
 returns-4 c = rw (c .enum-told4 .given .1) refl
 

@@ -8,22 +8,16 @@ use Rattle.error.specs.Refusal.{good}
 use mathlib.Core.Path.{ap}
 use Rattle.scalars.proofs.whole_read.Statement.{statement}
 use Rattle.scalars.proofs.whole_read.Tie as tie
-use Rattle.scalars.proofs.whole_read.Reads as reads
-use Rattle.scalars.proofs.whole_read.Lts as lts
 
--- src/lib.rt:217:22
 enum-known-v : tie.Need-enum-known-v
 enum-known-v c = search needs
 
--- src/lib.rt:218:47
 enum-told : tie.Need-enum-told
 enum-told c = search needs
 
--- src/lib.rt:213:1
 returns : tie.Need-returns
 returns c = rw (c .before .v .given .1) (ap (λ (z : ℤ). reading (good z) (c .before .before .before .args .to .place) (c .before .before .before .args .to .end)) (toZ-ofZ w64 (c .before .v .given .0 .0) record { sfits = c .known-told .given .0 .1 }))
 
--- src/lib.rt:213:1
 returns-2 : tie.Need-returns-2
 returns-2 c = rw (c .enum-told .given .1) refl
 

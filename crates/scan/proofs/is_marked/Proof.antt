@@ -2,62 +2,47 @@ use Rattle.scan.specs.File.{mark}
 use Rattle.record.specs.Turns.{same-lengths}
 use lib.Seq.{take-all}
 use lib.ListN.{length, take, drop, length-drop, length-take}
-use Prim.Native.Nat.{ℕ, _-_}
+use Prim.Native.Nat.{_-_}
 use denote.Ref.{now}
 use native.Mathlib.Omega.{arith}
-use mathlib.Core.Path.{sym, ap, _∙_, refl}
+use mathlib.Core.Path.{sym, _∙_}
 use borrow.Author.Needs.{needs}
 use Rattle.scan.proofs.is_marked.Statement.{statement}
 use Rattle.scan.proofs.is_marked.Tie as tie
-use Rattle.scan.proofs.is_marked.Reads as reads
-use Rattle.scan.proofs.is_marked.Lts as lts
-use Rattle.scan.proofs.is_marker.Reads as is-marker-reads
-use Rattle.scan.proofs.starts_with.Reads as starts-with-reads
 
--- src/lib.rt:58:9
 is-marker-requires : tie.Need-is-marker-requires
 is-marker-requires c κs = search needs
 
--- src/lib.rt:58:9
 returns : tie.Need-returns
 returns c = let s = now (c .before .before .before .args .s) in
     rw (same-lengths (take 3 s) mark (λ e. omega (arith, length-take 3 s))) (c .is-marker .ensures)
 
--- src/lib.rt:60:23
 slice-aggregate-starts-with : tie.Need-slice-aggregate-starts-with
 slice-aggregate-starts-with c = search needs
 
--- src/lib.rt:60:8
 starts-with-requires : tie.Need-starts-with-requires
 starts-with-requires c κs = search needs
 
--- src/lib.rt:61:26
 sub-is-marker : tie.Need-sub-is-marker
 sub-is-marker c = search needs
 
--- src/lib.rt:61:26
 part-is-marker-start : tie.Need-part-is-marker-start
 part-is-marker-start c = search needs
 
--- src/lib.rt:61:26
 part-is-marker-end : tie.Need-part-is-marker-end
 part-is-marker-end c = search needs
 
--- src/lib.rt:61:9
 is-marker-requires-2 : tie.Need-is-marker-requires-2
 is-marker-requires-2 c κs = search needs
 
--- src/lib.rt:61:9
 returns-2 : tie.Need-returns-2
 returns-2 c = let s = now (c .before .before .before .before .before .before .before .args .s) in
     rw (sym (c .before .before .before .starts-with .ensures) ∙ c .before .before .if2 .taken)
     (rw (take-all (length s - 3) (drop 3 s) (omega (arith, length-drop 3 s))) at (c .is-marker2 .ensures))
 
--- src/lib.rt:63:5
 is-marker-requires-3 : tie.Need-is-marker-requires-3
 is-marker-requires-3 c κs = search needs
 
--- src/lib.rt:54:1
 returns-3 : tie.Need-returns-3
 returns-3 c = rw (sym (c .before .before .starts-with .ensures) ∙ c .before .if2 .left) (c .is-marker3 .ensures)
 

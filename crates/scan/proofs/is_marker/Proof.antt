@@ -5,40 +5,29 @@ use mathlib.Core.List.{List}
 use Prim.Native.Nat.{ℕ, _-_}
 use denote.Ref.{now}
 use native.Mathlib.Omega.{arith}
-use mathlib.Core.Path.{sym, ap, _∙_}
+use mathlib.Core.Path.{ap, _∙_}
 use borrow.Author.Needs.{needs}
 use Rattle.scan.proofs.is_marker.Statement.{statement}
 use Rattle.scan.proofs.is_marker.Tie as tie
-use Rattle.scan.proofs.is_marker.Reads as reads
-use Rattle.scan.proofs.is_marker.Lts as lts
-use Rattle.record.proofs.leading_space.Reads as leading-space-reads
-use Rattle.scan.proofs.starts_with.Reads as starts-with-reads
 
--- src/lib.rt:49:9
 leading-space-requires : tie.Need-leading-space-requires
 leading-space-requires c κs = search needs
 
--- src/lib.rt:50:17
 sub-starts-with : tie.Need-sub-starts-with
 sub-starts-with c = search needs
 
--- src/lib.rt:50:17
 part-starts-with-start : tie.Need-part-starts-with-start
 part-starts-with-start c = search needs
 
--- src/lib.rt:50:17
 part-starts-with-end : tie.Need-part-starts-with-end
 part-starts-with-end c = search needs
 
--- src/lib.rt:50:26
 slice-aggregate-starts-with : tie.Need-slice-aggregate-starts-with
 slice-aggregate-starts-with c = search needs
 
--- src/lib.rt:50:5
 starts-with-requires : tie.Need-starts-with-requires
 starts-with-requires c κs = search needs
 
--- src/lib.rt:46:1
 returns : tie.Need-returns
 returns c = let b = c .before .before .before in
     let t = now (b .before .before .args .t) in

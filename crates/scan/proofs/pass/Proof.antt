@@ -1,24 +1,16 @@
-use Rattle.scan.specs.Fits.{StmtFits, statement-fits, header-fits-more, record-fits-more}
+use Rattle.scan.specs.Fits.{statement-fits, header-fits-more, record-fits-more}
 use Rattle.scan.specs.Laws.{Going, going-starts, going-refused, going-moves, header-full, record-full, going-header, going-record, done, failed}
-use Rattle.scan.specs.Run.{ran-on, ran-in, ran-length, going-ran, tidying-ran}
+use Rattle.scan.specs.Run.{ran-on, ran-length, going-ran, tidying-ran}
 use Rattle.scan.specs.Neat.{Tidying, tidying-starts, tidying-ends, tidying-moves, tidying-header, tidying-record}
-use Rattle.statement.specs.Statement.{toldSaid, headerRowOf, rowOf}
+use Rattle.statement.specs.Statement.{toldSaid}
 use lib.ListN.{length, drop}
 use denote.Ref.{now}
 use borrow.Author.Needs.{needs}
 use native.Mathlib.Omega.{arith}
 use mathlib.Core.Path.{_≡_, ap, sym, refl, _∙_}
-use Prim.Native.Nat.{ℕ, _+_, _*_, _/_, _-_, _≤_}
+use Prim.Native.Nat.{_/_, _-_}
 use Rattle.scan.proofs.pass.Statement.{statement}
 use Rattle.scan.proofs.pass.Tie as tie
-use Rattle.scan.proofs.pass.Reads as reads
-use Rattle.scan.proofs.pass.Lts as lts
-use Rattle.scan.proofs.greater.Reads as greater-reads
-use Rattle.lex.proofs.within.Reads as within-reads
-use Rattle.scan.proofs.put_header.Reads as put-header-reads
-use Rattle.scan.proofs.put_record.Reads as put-record-reads
-use Rattle.scan.proofs.run.Reads as run-reads
-use Rattle.statement.proofs.noted_statement.Reads as noted-statement-reads
 
 abbrev Inv-loop : tie.InvT-loop
 Inv-loop s headers₀ rows₀ slots write known room i₀ section₀ h₀ r₀ max₀ all₀ headers rows i section h r max all =
@@ -27,11 +19,9 @@ Inv-loop s headers₀ rows₀ slots write known room i₀ section₀ h₀ r₀ m
 abbrev μ-loop : tie.MeasureT-loop
 μ-loop s headers₀ rows₀ slots write known room i₀ section₀ h₀ r₀ max₀ all₀ headers rows i section h r max all = length s - i
 
--- src/lib.rt:176:9
 within-requires : tie.Need-within-requires Inv-loop μ-loop
 within-requires c κs = search needs
 
--- src/lib.rt:183:5
 loop-holds : tie.Need-loop-holds Inv-loop μ-loop
 loop-holds c = let b = c .before .before .before .before in
     let a = b .args in (
@@ -41,23 +31,18 @@ loop-holds c = let b = c .before .before .before .before in
       tidying-starts (now (a .s)) (a .known) (b .pre .2),
     )
 
--- src/lib.rt:184:13
 noted-statement-requires : tie.Need-noted-statement-requires Inv-loop μ-loop
 noted-statement-requires c κs = search needs
 
--- src/lib.rt:188:27
 enum-told : tie.Need-enum-told Inv-loop μ-loop
 enum-told c = search needs
 
--- src/lib.rt:188:27
 same-length : tie.Need-same-length Inv-loop μ-loop
 same-length c = search needs
 
--- src/lib.rt:188:27
 same-length-2 : tie.Need-same-length-2 Inv-loop μ-loop
 same-length-2 c = search needs
 
--- src/lib.rt:188:27
 returns : tie.Need-returns Inv-loop μ-loop
 returns c = let n = c .before .before .before in
     let t = n .before in
@@ -70,19 +55,15 @@ returns c = let n = c .before .before .before in
     let l = done _ _ _ _ _ _ _ _ _ _ _ _ _ g _ (t .before .within .ensures) e in
     (l .0, (l .1 .0, (l .1 .1, tidying-ends _ _ _ _ _ y _ b e)))
 
--- src/lib.rt:189:27
 enum-known-said : tie.Need-enum-known-said Inv-loop μ-loop
 enum-known-said c = search needs
 
--- src/lib.rt:189:33
 same-length-3 : tie.Need-same-length-3 Inv-loop μ-loop
 same-length-3 c = search needs
 
--- src/lib.rt:189:33
 same-length-4 : tie.Need-same-length-4 Inv-loop μ-loop
 same-length-4 c = search needs
 
--- src/lib.rt:189:33
 returns-2 : tie.Need-returns-2 Inv-loop μ-loop
 returns-2 c = let n = c .before .before .before .before in
     let t = n .before in
@@ -95,11 +76,9 @@ returns-2 c = let n = c .before .before .before .before in
     let l = failed _ _ _ _ _ _ _ _ _ _ _ _ _ g _ (t .before .within .ensures) _ (going-refused _ _ _ _ _ _ _ _ _ _ _ _ _ g _ e) in
     (l .0, (l .1 .0, (l .1 .1, tt)))
 
--- src/lib.rt:190:25
 enum-known-said-2 : tie.Need-enum-known-said-2 Inv-loop μ-loop
 enum-known-said-2 c = search needs
 
--- src/lib.rt:183:5
 loop-less : tie.Need-loop-less Inv-loop μ-loop
 loop-less c = let n = c .before .before .before .before in
     let t = n .before in
@@ -112,7 +91,6 @@ loop-less c = let n = c .before .before .before .before in
     let b = n .noted-statement .ensures .1 .1 in
     omega arith
 
--- src/lib.rt:183:5
 loop-again : tie.Need-loop-again Inv-loop μ-loop
 loop-again c = let n = c .before .before .before .before in
     let t = n .before in
@@ -125,19 +103,15 @@ loop-again c = let n = c .before .before .before .before in
     let b = n .noted-statement .ensures .1 .1 in
     (t .loop .inv .0, t .loop .inv .1, going-moves _ _ _ _ _ _ _ _ _ _ _ _ _ g _ _ e (w .0) (w .1), tidying-moves _ _ _ _ _ y _ b _ _ e)
 
--- src/lib.rt:194:25
 enum-known-said-3 : tie.Need-enum-known-said-3 Inv-loop μ-loop
 enum-known-said-3 c = search needs
 
--- src/lib.rt:196:21
 same-length-5 : tie.Need-same-length-5 Inv-loop μ-loop
 same-length-5 c = search needs
 
--- src/lib.rt:196:21
 same-length-6 : tie.Need-same-length-6 Inv-loop μ-loop
 same-length-6 c = search needs
 
--- src/lib.rt:196:21
 returns-3 : tie.Need-returns-3 Inv-loop μ-loop
 returns-3 c = let n = c .before .before .before .before .before in
     let t = n .before in
@@ -151,7 +125,6 @@ returns-3 c = let n = c .before .before .before .before .before in
     let l = failed _ _ _ _ _ _ _ _ _ _ _ _ _ g _ (t .before .within .ensures) _ (header-full _ _ _ _ _ _ _ _ _ _ _ _ _ g _ (v .given .0 .1 .0) (v .given .0 .1 .1 .0) (omega arith) e (omega (arith, c .if1 .taken, t .loop .inv .0))) in
     (l .0, (l .1 .0, (l .1 .1, tt)))
 
--- src/lib.rt:198:17
 put-header-requires : tie.Need-put-header-requires Inv-loop μ-loop
 put-header-requires c κs = let n = c .before .before .before .before .before .before in
     let t = n .before in
@@ -164,7 +137,6 @@ put-header-requires c κs = let n = c .before .before .before .before .before .b
     let b = n .noted-statement .ensures .1 .1 in
     (omega arith, header-fits-more (length (now (a .s))) 4294967295 _ (omega arith) (rw (sym e) at (statement-fits (now (a .s)) (t .loop .section) (drop (t .loop .i) (now (a .s))))))
 
--- src/lib.rt:183:5
 loop-less-2 : tie.Need-loop-less-2 Inv-loop μ-loop
 loop-less-2 c = let n = c .before .before .before .before .before .before .before .before .before in
     let t = n .before in
@@ -177,7 +149,6 @@ loop-less-2 c = let n = c .before .before .before .before .before .before .befor
     let b = n .noted-statement .ensures .1 .1 in
     omega arith
 
--- src/lib.rt:183:5
 loop-again-2 : tie.Need-loop-again-2 Inv-loop μ-loop
 loop-again-2 c = let n = c .before .before .before .before .before .before .before .before .before in
     let t = n .before in
@@ -195,19 +166,15 @@ loop-again-2 c = let n = c .before .before .before .before .before .before .befo
       tidying-header _ _ _ _ _ y _ b _ (v .given .0 .1 .0) _ e,
     )
 
--- src/lib.rt:203:27
 enum-known-said-4 : tie.Need-enum-known-said-4 Inv-loop μ-loop
 enum-known-said-4 c = search needs
 
--- src/lib.rt:205:21
 same-length-7 : tie.Need-same-length-7 Inv-loop μ-loop
 same-length-7 c = search needs
 
--- src/lib.rt:205:21
 same-length-8 : tie.Need-same-length-8 Inv-loop μ-loop
 same-length-8 c = search needs
 
--- src/lib.rt:205:21
 returns-4 : tie.Need-returns-4 Inv-loop μ-loop
 returns-4 c = let n = c .before .before .before .before .before in
     let t = n .before in
@@ -221,7 +188,6 @@ returns-4 c = let n = c .before .before .before .before .before in
     let l = failed _ _ _ _ _ _ _ _ _ _ _ _ _ g _ (t .before .within .ensures) _ (record-full _ _ _ _ _ _ _ _ _ _ _ _ _ g _ (v .given .0 .1 .0) (v .given .0 .1 .1 .0) (omega arith) e (c .if2 .taken)) in
     (l .0, (l .1 .0, (l .1 .1, tt)))
 
--- src/lib.rt:207:17
 put-record-requires : tie.Need-put-record-requires Inv-loop μ-loop
 put-record-requires c κs = let n = c .before .before .before .before .before .before in
     let t = n .before in
@@ -234,11 +200,9 @@ put-record-requires c κs = let n = c .before .before .before .before .before .b
     let b = n .noted-statement .ensures .1 .1 in
     (omega (arith, t .before .within .ensures), record-fits-more (length (now (a .s))) 4294967295 _ (omega arith) (rw (sym e) at (statement-fits (now (a .s)) (t .loop .section) (drop (t .loop .i) (now (a .s))))))
 
--- src/lib.rt:209:17
 add-run : tie.Need-add-run Inv-loop μ-loop
 add-run c = let t = c .before .before .before .before .before .before .before .before .before .before .before in omega (arith, t .before .within .ensures)
 
--- src/lib.rt:210:17
 greater-requires : tie.Need-greater-requires Inv-loop μ-loop
 greater-requires c κs = search needs
 
@@ -257,7 +221,6 @@ run-requires c κs = let n = c .before .before .before .before .before .before .
     let l = p .kept .0 ∙ t .loop .inv .1 in
     (b .pre .0, w .2, omega (arith, l, t .before .within .ensures), tidying-record _ _ _ _ _ y _ d _ (v .given .0 .1 .0) (v .given .0 .1 .1 .0) e .ahead)
 
--- src/lib.rt:183:5
 loop-less-3 : tie.Need-loop-less-3 Inv-loop μ-loop
 loop-less-3 c = let n = c .before .before .before .before .before .before .before .before .before .before .before .before .before .before in
     let t = n .before in
@@ -272,7 +235,6 @@ loop-less-3 c = let n = c .before .before .before .before .before .before .befor
     let o = ran-on _ _ _ _ _ _ _ (c .before .before .run .ensures) in
     omega (arith, w, o)
 
--- src/lib.rt:183:5
 loop-again-3 : tie.Need-loop-again-3 Inv-loop μ-loop
 loop-again-3 c = let n = c .before .before .before .before .before .before .before .before .before .before .before .before .before .before in
     let t = n .before in

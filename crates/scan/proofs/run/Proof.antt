@@ -1,6 +1,6 @@
 use Rattle.scan.specs.Fits.{statement-fits, record-fits-more}
 use Rattle.scan.specs.Neat.{Neat, both, neat-tidy, neat-row}
-use Rattle.scan.specs.Run.{Ran, ran-in, ran-length}
+use Rattle.scan.specs.Run.{Ran, ran-length}
 use Rattle.statement.specs.Statement.{rowOf}
 use Rattle.statement.specs.Tidy.{toldTidied}
 use Rattle.statement.specs.TidyRight.{tidy-said}
@@ -10,16 +10,11 @@ use denote.Ref.{now}
 use borrow.Author.Needs.{needs}
 use borrow.Author.Tests.{ltb-true}
 use native.Mathlib.Omega.{arith}
-use mathlib.Core.Path.{_≡_, ap, sym, refl, _∙_}
+use mathlib.Core.Path.{_≡_, ap, sym, _∙_}
 use mathlib.Core.Bool.{true}
-use Prim.Native.Nat.{ℕ, _+_, _*_, _/_, _-_, _≤_}
+use Prim.Native.Nat.{_-_}
 use Rattle.scan.proofs.run.Statement.{statement}
 use Rattle.scan.proofs.run.Tie as tie
-use Rattle.scan.proofs.run.Reads as reads
-use Rattle.scan.proofs.run.Lts as lts
-use Rattle.scan.proofs.greater.Reads as greater-reads
-use Rattle.scan.proofs.put_record.Reads as put-record-reads
-use Rattle.statement.proofs.tidy_record.Reads as tidy-record-reads
 
 abbrev Inv-loop : tie.InvT-loop
 Inv-loop s rows₀ room from stored largest known place₀ count₀ max₀ rows place count max =
@@ -28,31 +23,24 @@ Inv-loop s rows₀ room from stored largest known place₀ count₀ max₀ rows 
 abbrev μ-loop : tie.MeasureT-loop
 μ-loop s rows₀ room from stored largest known place₀ count₀ max₀ rows place count max = length s - place
 
--- src/lib.rt:159:5
 loop-holds : tie.Need-loop-holds Inv-loop μ-loop
 loop-holds c = (Ran.none, c .before .before .pre .3)
 
--- src/lib.rt:160:43
 tidy-record-requires : tie.Need-tidy-record-requires Inv-loop μ-loop
 tidy-record-requires c κs = search needs
 
--- src/lib.rt:160:26
 enum-known-span : tie.Need-enum-known-span Inv-loop μ-loop
 enum-known-span c = search needs
 
--- src/lib.rt:161:13
 enum-told : tie.Need-enum-told Inv-loop μ-loop
 enum-told c = search needs
 
--- src/lib.rt:161:13
 same-length : tie.Need-same-length Inv-loop μ-loop
 same-length c = ran-length _ _ _ _ _ _ _ (c .before .before .before .before .loop .inv .0)
 
--- src/lib.rt:161:13
 returns : tie.Need-returns Inv-loop μ-loop
 returns c = c .before .before .before .before .loop .inv .0
 
--- src/lib.rt:163:9
 put-record-requires : tie.Need-put-record-requires Inv-loop μ-loop
 put-record-requires c κs = let b = c .before .before .before .before .before .before .before .before .before in
     let a = b .args in
@@ -68,7 +56,6 @@ put-record-requires c κs = let b = c .before .before .before .before .before .b
     let f = ltb-true (t .count) (a .room) (both (a .known) _ (c .before .before .before .before .before .loop-test .taken) .1) in
     (omega (arith, u, f, b .pre .2), record-fits-more (length x) 4294967295 _ (b .pre .0) (rw (sym q) at (statement-fits x InData (drop (t .place) x))))
 
--- src/lib.rt:164:9
 add-count : tie.Need-add-count Inv-loop μ-loop
 add-count c = let b = c .before .before .before .before .before .before .before .before .before .before .before .before in
     let a = b .args in
@@ -84,11 +71,9 @@ add-count c = let b = c .before .before .before .before .before .before .before 
     let f = ltb-true (t .count) (a .room) (both (a .known) _ (c .before .before .before .before .before .before .before .before .loop-test .taken) .1) in
     record { fits = omega (arith, f) }
 
--- src/lib.rt:165:9
 greater-requires : tie.Need-greater-requires Inv-loop μ-loop
 greater-requires c κs = search needs
 
--- src/lib.rt:159:5
 loop-less : tie.Need-loop-less Inv-loop μ-loop
 loop-less c = let b = c .before .before .before .before .before .before .before .before .before .before .before .before .before in
     let a = b .args in
@@ -104,7 +89,6 @@ loop-less c = let b = c .before .before .before .before .before .before .before 
     let f = ltb-true (t .count) (a .room) (both (a .known) _ (c .before .before .before .before .before .before .before .before .before .loop-test .taken) .1) in
     omega (arith, w)
 
--- src/lib.rt:159:5
 loop-again : tie.Need-loop-again Inv-loop μ-loop
 loop-again c = let b = c .before .before .before .before .before .before .before .before .before .before .before .before .before in
     let a = b .args in
@@ -123,11 +107,9 @@ loop-again c = let b = c .before .before .before .before .before .before .before
       λ y. neat-row x InData (drop (t .place) x) (rowOf (v .given .0 .0)) (drop (v .given .0 .1 .0) x) (drop (v .given .0 .1 .1 .0) x) q (t .inv .1 y),
     )
 
--- src/lib.rt:144:1
 same-length-2 : tie.Need-same-length-2 Inv-loop μ-loop
 same-length-2 c = ran-length _ _ _ _ _ _ _ (c .before .loop .inv .0)
 
--- src/lib.rt:144:1
 returns-2 : tie.Need-returns-2 Inv-loop μ-loop
 returns-2 c = c .before .loop .inv .0
 

@@ -4,67 +4,49 @@ use Rattle.lex.specs.Right.Steps.{clash}
 use denote.Ref.{now}
 use borrow.Author.Tests.{not-true, not-false}
 use native.Mathlib.Omega.{arith}
-use mathlib.Core.Path.{_≡_, ap, sym, refl, _∙_}
+use mathlib.Core.Path.{ap, sym, refl, _∙_}
 use borrow.Author.Needs.{needs}
 use Rattle.scan.proofs.scan.Statement.{statement}
 use Rattle.scan.proofs.scan.Tie as tie
-use Rattle.scan.proofs.scan.Reads as reads
-use Rattle.scan.proofs.scan.Lts as lts
-use Rattle.scan.proofs.is_marked.Reads as is-marked-reads
-use Rattle.scan.proofs.pass.Reads as pass-reads
-use Rattle.scan.proofs.rows_found.Reads as rows-found-reads
 
--- src/lib.rt:225:9
 returns : tie.Need-returns
 returns c = let a = c .before .before .before .before .args in
     scan-long (now (a .file)) _ _ (now (a .headers)) (now (a .rows)) (c .if1 .taken)
 
--- src/lib.rt:227:9
 is-marked-requires : tie.Need-is-marked-requires
 is-marked-requires c κs = search needs
 
--- src/lib.rt:228:9
 returns-2 : tie.Need-returns-2
 returns-2 c = let a = c .before .before .before .before .before .before .args in
     scan-unmarked (now (a .file)) _ _ (now (a .headers)) (now (a .rows)) (omega arith) (sym (c .before .is-marked .ensures) ∙ not-true _ (c .if2 .taken))
 
--- src/lib.rt:230:11
 pass-requires : tie.Need-pass-requires
 pass-requires c κs = (omega arith, λ z. clash (cc), λ z. clash (cc))
 
--- src/lib.rt:231:25
 enum-known-f : tie.Need-enum-known-f
 enum-known-f c = search needs
 
--- src/lib.rt:232:34
 enum-known-tidy : tie.Need-enum-known-tidy
 enum-known-tidy c = search needs
 
--- src/lib.rt:232:49
 pass-requires-2 : tie.Need-pass-requires-2
 pass-requires-2 c κs = (omega arith, λ z. refl, rw (c .before .before .before .tidy .given .1) at (c .before .before .before .before .before .before .before .before .before .pass .ensures .1 .1 .1))
 
--- src/lib.rt:233:29
 enum-known-f-2 : tie.Need-enum-known-f-2
 enum-known-f-2 c = search needs
 
--- src/lib.rt:234:29
 enum-known-h : tie.Need-enum-known-h
 enum-known-h c = search needs
 
--- src/lib.rt:234:46
 rows-found-requires : tie.Need-rows-found-requires
 rows-found-requires c κs = search needs
 
--- src/lib.rt:219:1
 same-length : tie.Need-same-length
 same-length c = search needs
 
--- src/lib.rt:219:1
 same-length-2 : tie.Need-same-length-2
 same-length-2 c = search needs
 
--- src/lib.rt:219:1
 returns-3 : tie.Need-returns-3
 returns-3 c = let p = c .before .before .before .before .before .before .before in
     let m = c .before .before .before .before .before .before .before .before .before .before in
@@ -72,15 +54,12 @@ returns-3 c = let p = c .before .before .before .before .before .before .before 
     scan-refused (now (a .file)) _ _ (now (a .headers)) (now (a .rows)) (omega arith) (sym (m .before .is-marked .ensures) ∙ not-false _ (m .if2 .left)) _ _ _
     (sym (ap toldPassed (c .before .f .given .1)) ∙ p .pass .ensures .0, (p .pass .ensures .1 .0, p .pass .ensures .1 .1 .0))
 
--- src/lib.rt:219:1
 same-length-3 : tie.Need-same-length-3
 same-length-3 c = search needs
 
--- src/lib.rt:219:1
 same-length-4 : tie.Need-same-length-4
 same-length-4 c = search needs
 
--- src/lib.rt:219:1
 returns-4 : tie.Need-returns-4
 returns-4 c = let q = c .before .before .before .before .before .before .before in
     let t = c .before .before .before .before .before .before .before .before .before .before .before in
@@ -91,15 +70,12 @@ returns-4 c = let q = c .before .before .before .before .before .before .before 
     scan-done (now (a .file)) _ _ (now (a .headers)) (now (a .rows)) (omega arith) (sym (m .before .is-marked .ensures) ∙ not-false _ (m .if2 .left)) _ _ _ _
     (sym (ap toldPassed (t .tidy .given .1)) ∙ p .pass .ensures .0) (sym (ap toldPassed (c .before .f2 .given .1)) ∙ z .0, (z .1 .0, z .1 .1 .0))
 
--- src/lib.rt:219:1
 same-length-5 : tie.Need-same-length-5
 same-length-5 c = search needs
 
--- src/lib.rt:219:1
 same-length-6 : tie.Need-same-length-6
 same-length-6 c = search needs
 
--- src/lib.rt:219:1
 returns-5 : tie.Need-returns-5
 returns-5 c = let q = c .before .before .before .before .before .before .before .before in
     let t = c .before .before .before .before .before .before .before .before .before .before .before .before in

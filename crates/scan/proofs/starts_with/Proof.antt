@@ -6,24 +6,17 @@ use mathlib.Core.Path.{sym}
 use borrow.Author.Needs.{needs}
 use Rattle.scan.proofs.starts_with.Statement.{statement}
 use Rattle.scan.proofs.starts_with.Tie as tie
-use Rattle.scan.proofs.starts_with.Reads as reads
-use Rattle.scan.proofs.starts_with.Lts as lts
-use Rattle.record.proofs.same_bytes.Reads as same-bytes-reads
 
--- src/lib.rt:40:9
 returns : tie.Need-returns
 returns c = let a = c .before .before .before .args in
     sym (same-lengths _ (now (a .w)) (λ e. omega (arith, length-take (length (now (a .w))) (now (a .t)))))
 
--- src/lib.rt:42:24
 slice-aggregate-same-bytes : tie.Need-slice-aggregate-same-bytes
 slice-aggregate-same-bytes c = simp length-take (omega arith)
 
--- src/lib.rt:42:5
 same-bytes-requires : tie.Need-same-bytes-requires
 same-bytes-requires c κs = search needs
 
--- src/lib.rt:35:1
 returns-2 : tie.Need-returns-2
 returns-2 c = search needs
 

@@ -1,63 +1,44 @@
 use borrow.Author.Needs.{needs}
 use Rattle.serve.proofs.units_of.Statement.{statement}
 use Rattle.serve.proofs.units_of.Tie as tie
-use Rattle.serve.proofs.units_of.Reads as reads
-use Rattle.serve.proofs.units_of.Lts as lts
-use Rattle.store.proofs.open.Reads as open-reads
-use Rattle.units.proofs.resolve.Reads as resolve-reads
 use denote.Ref.{now}
-use mathlib.Core.Path.{_≡_, refl, sym, _∙_, ap}
-use Rattle.statement.specs.Statement.{rowOf}
-use Rattle.lookup.specs.Lookup.{toldEntry}
 use Rattle.units.specs.Code.{toldUnits}
-use Rattle.serve.specs.Serve.{recordIn, unitsOf}
-use Rattle.serve.specs.Laws.{promised, refused-out, units-out, record-out}
+use Rattle.serve.specs.Serve.{unitsOf}
+use Rattle.serve.specs.Laws.{promised, refused-out, units-out}
 
--- src/lib.rt:42:11
 open-requires : tie.Need-open-requires
 open-requires c κs = search needs
 
--- src/lib.rt:43:25
 enum-known-f : tie.Need-enum-known-f
 enum-known-f c = search needs
 
--- src/lib.rt:44:22
 enum-known-t : tie.Need-enum-known-t
 enum-known-t c = search needs
 
--- src/lib.rt:44:28
 resolve-requires : tie.Need-resolve-requires
 resolve-requires c κs = search needs
 
--- src/lib.rt:38:1
 same-length : tie.Need-same-length
 same-length c = search needs
 
--- src/lib.rt:38:1
 same-length-2 : tie.Need-same-length-2
 same-length-2 c = search needs
 
--- src/lib.rt:38:1
 same-length-3 : tie.Need-same-length-3
 same-length-3 c = search needs
 
--- src/lib.rt:38:1
 returns : tie.Need-returns
 returns c = refused-out (unitsOf (now (c .before .before .before .before .before .before .before .before .before .before .before .before .before .before .before .before .before .args .file))) (c .before .f .given .0 .0) (promised (now (c .before .before .before .before .before .before .before .before .before .before .before .before .before .before .before .before .before .args .file)) (now (c .before .before .before .before .before .before .before .before .before .before .before .before .before .before .before .before .before .args .headers)) (now (c .before .before .before .before .before .before .before .before .before .before .before .before .before .before .before .before .before .args .rows)) (now (c .before .before .before .before .before .before .before .before .before .before .before .before .before .before .before .before .before .args .slots)) (c .before .f .given .1) (c .before .before .before .before .before .before .before .before .before .«open» .ensures .0) (c .before .before .before .before .before .before .before .before .before .«open» .ensures .1 .0) (c .before .before .before .before .before .before .before .before .before .«open» .ensures .1 .1 .0) (c .before .before .before .before .before .before .before .before .before .«open» .ensures .1 .1 .1))
 
--- src/lib.rt:38:1
 same-length-4 : tie.Need-same-length-4
 same-length-4 c = search needs
 
--- src/lib.rt:38:1
 same-length-5 : tie.Need-same-length-5
 same-length-5 c = search needs
 
--- src/lib.rt:38:1
 same-length-6 : tie.Need-same-length-6
 same-length-6 c = search needs
 
--- src/lib.rt:38:1
 returns-2 : tie.Need-returns-2
 returns-2 c = units-out (c .before .before .before .before .t .given .0 .0) (promised (now (c .before .before .before .before .before .before .before .before .before .before .before .before .before .before .before .before .before .before .before .before .args .file)) (now (c .before .before .before .before .before .before .before .before .before .before .before .before .before .before .before .before .before .before .before .before .args .headers)) (now (c .before .before .before .before .before .before .before .before .before .before .before .before .before .before .before .before .before .before .before .before .args .rows)) (now (c .before .before .before .before .before .before .before .before .before .before .before .before .before .before .before .before .before .before .before .before .args .slots)) (c .before .before .before .before .t .given .1) (c .before .before .before .before .before .before .before .before .before .before .before .before .«open» .ensures .0) (c .before .before .before .before .before .before .before .before .before .before .before .before .«open» .ensures .1 .0) (c .before .before .before .before .before .before .before .before .before .before .before .before .«open» .ensures .1 .1 .0) (c .before .before .before .before .before .before .before .before .before .before .before .before .«open» .ensures .1 .1 .1)) (toldUnits (c .resolve .result)) (c .resolve .ensures)
 

@@ -3,18 +3,13 @@ use borrow.Author.Tests.{eq-eqb, ne-eqb}
 use borrow.Author.Needs.{needs}
 use Rattle.spots.proofs.next_line.Statement.{statement}
 use Rattle.spots.proofs.next_line.Tie as tie
-use Rattle.spots.proofs.next_line.Reads as reads
-use Rattle.spots.proofs.next_line.Lts as lts
 
--- src/lib.rt:18:21
 add-result : tie.Need-add-result
 add-result c = search needs
 
--- src/lib.rt:14:1
 returns : tie.Need-returns
 returns c = rw (eq-eqb (c .before .args .b) 10 (c .if1 .taken)) refl
 
--- src/lib.rt:14:1
 returns-2 : tie.Need-returns-2
 returns-2 c = rw (ne-eqb (c .before .args .b) 10 (c .if1 .left)) refl
 

@@ -1,15 +1,10 @@
 use Prim.Native.Nat.{_-_}
-use native.Mathlib.Omega.{arith}
 use borrow.Author.Needs.{needs}
 use denote.Ref.{now}
 use lib.ListN.{length}
 use Rattle.spots.specs.Spot.{Counted, counted-start, counted-again, counted-end}
 use Rattle.spots.proofs.spot.Statement.{statement}
 use Rattle.spots.proofs.spot.Tie as tie
-use Rattle.spots.proofs.spot.Reads as reads
-use Rattle.spots.proofs.spot.Lts as lts
-use Rattle.spots.proofs.next_column.Reads as next-column-reads
-use Rattle.spots.proofs.next_line.Reads as next-line-reads
 
 abbrev Inv-loop : tie.InvT-loop
 Inv-loop before line₀ column₀ i₀ line column i = Counted before line column i
@@ -17,35 +12,27 @@ Inv-loop before line₀ column₀ i₀ line column i = Counted before line colum
 abbrev μ-loop : tie.MeasureT-loop
 μ-loop before line₀ column₀ i₀ line column i = length before - i
 
--- src/lib.rt:37:5
 loop-holds : tie.Need-loop-holds Inv-loop μ-loop
 loop-holds c = counted-start (now (c .before .args .before))
 
--- src/lib.rt:38:17
 shared-slice-read-b : tie.Need-shared-slice-read-b Inv-loop μ-loop
 shared-slice-read-b c = search needs
 
--- src/lib.rt:39:9
 next-line-requires : tie.Need-next-line-requires Inv-loop μ-loop
 next-line-requires c κs = search needs
 
--- src/lib.rt:40:9
 next-column-requires : tie.Need-next-column-requires Inv-loop μ-loop
 next-column-requires c κs = search needs
 
--- src/lib.rt:41:9
 add-i : tie.Need-add-i Inv-loop μ-loop
 add-i c = search needs
 
--- src/lib.rt:37:5
 loop-less : tie.Need-loop-less Inv-loop μ-loop
 loop-less c = search needs
 
--- src/lib.rt:37:5
 loop-again : tie.Need-loop-again Inv-loop μ-loop
 loop-again c = counted-again (now (c .before .before .before .before .before .before .args .before)) (c .before .before .before .before .loop .line) (c .before .before .before .before .loop .column) (c .before .before .before .before .loop .i) (c .before .next-line .result) (c .next-column .result) (c .before .before .before .loop-test .taken) (c .before .before .before .before .loop .inv) (c .before .next-line .ensures) (c .next-column .ensures)
 
--- src/lib.rt:30:1
 returns : tie.Need-returns Inv-loop μ-loop
 returns c = counted-end (now (c .before .before .before .args .before)) (c .before .loop .line) (c .before .loop .column) (c .before .loop .i) (c .loop-test .left) (c .before .loop .inv)
 

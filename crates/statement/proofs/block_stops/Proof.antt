@@ -11,8 +11,6 @@ use Prim.Native.Nat.{ℕ, _+_, _-_, _≤_}
 use borrow.Author.Needs.{needs}
 use Rattle.statement.proofs.block_stops.Statement.{statement}
 use Rattle.statement.proofs.block_stops.Tie as tie
-use Rattle.statement.proofs.block_stops.Reads as reads
-use Rattle.statement.proofs.block_stops.Lts as lts
 
 abbrev Inv-loop : tie.InvT-loop
 Inv-loop s i quote₀ end₀ k₀ quote end k = (k ≤ 64) × ((quote || end) ≡ false → past spoken (drop (i + k) s) ≡ past spoken (drop i s))
@@ -20,33 +18,26 @@ Inv-loop s i quote₀ end₀ k₀ quote end k = (k ≤ 64) × ((quote || end) �
 abbrev μ-loop : tie.MeasureT-loop
 μ-loop s i quote₀ end₀ k₀ quote end k = 64 - k
 
--- src/lib.rt:287:5
 loop-holds : tie.Need-loop-holds Inv-loop μ-loop
 loop-holds c = (omega arith, λ z. ap (λ (j : ℕ). past spoken (drop j (now (c .args .s)))) (add-none (c .args .i)))
 
--- src/lib.rt:288:19
 add-b : tie.Need-add-b Inv-loop μ-loop
 add-b c = search needs
 
--- src/lib.rt:288:17
 shared-slice-read-b : tie.Need-shared-slice-read-b Inv-loop μ-loop
 shared-slice-read-b c = search needs
 
--- src/lib.rt:291:9
 add-k : tie.Need-add-k Inv-loop μ-loop
 add-k c = search needs
 
--- src/lib.rt:287:5
 loop-less : tie.Need-loop-less Inv-loop μ-loop
 loop-less c = search needs
 
--- src/lib.rt:287:5
 loop-again : tie.Need-loop-again Inv-loop μ-loop
 loop-again c = let t = c .before .before in
     let a = t .before .args in
     (omega arith, λ z. spoken-on (now (a .s)) (a .i) (t .loop .k) (t .loop .quote) (t .loop .end) (omega arith) (t .loop .inv .1) z)
 
--- src/lib.rt:280:1
 returns : tie.Need-returns Inv-loop μ-loop
 returns c = let t = c .before in
     let n : t .loop .k ≡ 64 = omega arith in λ z. rw n at (t .loop .inv .1 z)

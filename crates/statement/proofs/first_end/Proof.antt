@@ -7,10 +7,6 @@ use Prim.Native.Nat.{_-_, _≤_}
 use borrow.Author.Needs.{needs}
 use Rattle.statement.proofs.first_end.Statement.{statement}
 use Rattle.statement.proofs.first_end.Tie as tie
-use Rattle.statement.proofs.first_end.Reads as reads
-use Rattle.statement.proofs.first_end.Lts as lts
-use Rattle.statement.proofs.is_open.Reads as is-open-reads
-use Rattle.statement.proofs.near_end.Reads as near-end-reads
 
 abbrev Inv-loop : tie.InvT-loop
 Inv-loop s from i₀ i = ((from ≤ i) × (i ≤ length s)) × (past unended (drop i s) ≡ past unended (drop from s))
@@ -18,32 +14,25 @@ Inv-loop s from i₀ i = ((from ≤ i) × (i ≤ length s)) × (past unended (dr
 abbrev μ-loop : tie.MeasureT-loop
 μ-loop s from i₀ i = length s - i
 
--- src/lib.rt:596:5
 loop-holds : tie.Need-loop-holds Inv-loop μ-loop
 loop-holds c = ((omega arith, omega arith), refl)
 
--- src/lib.rt:596:11
 is-open-requires : tie.Need-is-open-requires Inv-loop μ-loop
 is-open-requires c κs = search needs
 
--- src/lib.rt:597:9
 add-i : tie.Need-add-i Inv-loop μ-loop
 add-i c = let w = c .before .is-open .ensures (c .if1 .taken) in omega arith
 
--- src/lib.rt:596:5
 loop-less : tie.Need-loop-less Inv-loop μ-loop
 loop-less c = let w = c .before .is-open .ensures (c .if1 .taken) in omega arith
 
--- src/lib.rt:596:5
 loop-again : tie.Need-loop-again Inv-loop μ-loop
 loop-again c = let t = c .before .before in
     let w = c .before .is-open .ensures (c .if1 .taken) in ((omega arith, omega arith), w .1 ∙ t .loop .inv .1)
 
--- src/lib.rt:599:5
 near-end-requires : tie.Need-near-end-requires Inv-loop μ-loop
 near-end-requires c κs = search needs
 
--- src/lib.rt:590:1
 returns : tie.Need-returns Inv-loop μ-loop
 returns c = (c .near-end .ensures .0 ∙ c .before .before .before .loop .inv .1, (omega arith, omega arith))
 

@@ -1,17 +1,15 @@
 use Rattle.record.specs.Text.{past}
 use Rattle.statement.specs.Tidy.{unended}
 use Rattle.statement.specs.TidyLaws.{block-on, add-none}
-use lib.ListN.{length, drop}
+use lib.ListN.{drop}
 use denote.Ref.{now}
 use native.Mathlib.Omega.{arith}
 use mathlib.Core.Path.{_≡_, ap}
-use mathlib.Core.Bool.{true, false}
+use mathlib.Core.Bool.{false}
 use Prim.Native.Nat.{ℕ, _+_, _-_, _≤_}
 use borrow.Author.Needs.{needs}
 use Rattle.statement.proofs.has_end.Statement.{statement}
 use Rattle.statement.proofs.has_end.Tie as tie
-use Rattle.statement.proofs.has_end.Reads as reads
-use Rattle.statement.proofs.has_end.Lts as lts
 
 abbrev Inv-loop : tie.InvT-loop
 Inv-loop s i hit₀ k₀ hit k = (k ≤ 16) × (hit ≡ false → past unended (drop (i + k) s) ≡ past unended (drop i s))
@@ -19,33 +17,26 @@ Inv-loop s i hit₀ k₀ hit k = (k ≤ 16) × (hit ≡ false → past unended (
 abbrev μ-loop : tie.MeasureT-loop
 μ-loop s i hit₀ k₀ hit k = 16 - k
 
--- src/lib.rt:555:5
 loop-holds : tie.Need-loop-holds Inv-loop μ-loop
 loop-holds c = (omega arith, λ z. ap (λ (j : ℕ). past unended (drop j (now (c .args .s)))) (add-none (c .args .i)))
 
--- src/lib.rt:556:24
 add-hit : tie.Need-add-hit Inv-loop μ-loop
 add-hit c = search needs
 
--- src/lib.rt:556:22
 shared-slice-read-hit : tie.Need-shared-slice-read-hit Inv-loop μ-loop
 shared-slice-read-hit c = search needs
 
--- src/lib.rt:557:9
 add-k : tie.Need-add-k Inv-loop μ-loop
 add-k c = search needs
 
--- src/lib.rt:555:5
 loop-less : tie.Need-loop-less Inv-loop μ-loop
 loop-less c = search needs
 
--- src/lib.rt:555:5
 loop-again : tie.Need-loop-again Inv-loop μ-loop
 loop-again c = let t = c .before .before in
     let a = t .before .args in
     (omega arith, λ z. block-on (now (a .s)) (a .i) (t .loop .k) (t .loop .hit) (omega arith) (t .loop .inv .1) z)
 
--- src/lib.rt:549:1
 returns : tie.Need-returns Inv-loop μ-loop
 returns c = let t = c .before in
     let a = t .before .args in

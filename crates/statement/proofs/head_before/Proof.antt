@@ -1,52 +1,37 @@
-use denote.Ref.{now}
 use native.Mathlib.Omega.{arith}
 use borrow.Author.Needs.{needs}
 use Rattle.statement.proofs.head_before.Statement.{statement}
 use Rattle.statement.proofs.head_before.Tie as tie
-use Rattle.statement.proofs.head_before.Reads as reads
-use Rattle.statement.proofs.head_before.Lts as lts
-use Rattle.statement.proofs.id_at.Reads as id-at-reads
-use Rattle.statement.proofs.value_before.Reads as value-before-reads
 
--- src/lib.rt:394:9
 returns : tie.Need-returns
 returns c = search needs
 
--- src/lib.rt:396:8
 shared-slice-read-if2 : tie.Need-shared-slice-read-if2
 shared-slice-read-if2 c = search needs
 
--- src/lib.rt:397:9
 returns-2 : tie.Need-returns-2
 returns-2 c = search needs
 
--- src/lib.rt:399:11
 id-at-requires : tie.Need-id-at-requires
 id-at-requires c κs = search needs
 
--- src/lib.rt:400:25
 enum-told : tie.Need-enum-told
 enum-told c = search needs
 
--- src/lib.rt:401:22
 enum-known-id : tie.Need-enum-known-id
 enum-known-id c = search needs
 
--- src/lib.rt:403:17
 returns-3 : tie.Need-returns-3
 returns-3 c = search needs
 
--- src/lib.rt:405:13
 value-before-requires : tie.Need-value-before-requires
 value-before-requires c κs = let k = c .before .before .before .before in
     let e = rw (c .before .before .id .given .1) at (k .id-at .ensures) in
     (k .before .before .before .before .before .pre, e, omega (arith, e .1), k .before .if2 .left)
 
--- src/lib.rt:389:1
 returns-4 : tie.Need-returns-4
 returns-4 c = search needs
 
--- src/lib.rt:389:1
 returns-5 : tie.Need-returns-5
 returns-5 c = search needs
 

@@ -1,20 +1,16 @@
-use Rattle.record.specs.Turns.{digit-stops, digit-goes, number-grows, bounds}
+use Rattle.record.specs.Turns.{digit-stops, digit-goes, bounds}
 use Rattle.record.specs.Text.{digitTurn, digits, numberFrom}
 use Rattle.lex.specs.Walk.{walk, walk-ends, drop-end}
 use lib.ListN.{length, drop, getD}
 use denote.Ref.{now}
-use borrow.Author.Tests.{eq-eqb, ne-eqb, not-true, not-false}
+use borrow.Author.Tests.{not-true, not-false}
 use borrow.Author.Needs.{needs}
 use native.Mathlib.Omega.{arith}
-use mathlib.Core.List.{List, [], _∷_}
-use mathlib.Core.Bool.{true, false}
+use mathlib.Core.List.{[]}
 use mathlib.Core.Path.{_≡_, ap, sym, refl, _∙_}
-use Prim.Native.Nat.{ℕ, _+_, _-_, _*_, _≤_}
+use Prim.Native.Nat.{_-_, _≤_}
 use Rattle.statement.proofs.id_at.Statement.{statement}
 use Rattle.statement.proofs.id_at.Tie as tie
-use Rattle.statement.proofs.id_at.Reads as reads
-use Rattle.statement.proofs.id_at.Lts as lts
-use Rattle.record.proofs.is_digit.Reads as is-digit-reads
 
 abbrev Inv-loop : tie.InvT-loop
 Inv-loop t from n₀ i₀ n i = (from ≤ i) × (i ≤ length t) × (n ≤ 4294967295) × (walk digitTurn (λ m. digits m []) n (drop i t) ≡ numberFrom 0 (drop from t))
@@ -22,76 +18,61 @@ Inv-loop t from n₀ i₀ n i = (from ≤ i) × (i ≤ length t) × (n ≤ 42949
 abbrev μ-loop : tie.MeasureT-loop
 μ-loop t from n₀ i₀ n i = length t - i
 
--- src/lib.rt:66:5
 loop-holds : tie.Need-loop-holds Inv-loop μ-loop
 unfolding numberFrom
 loop-holds c = (omega arith, omega arith, omega arith, refl)
 
--- src/lib.rt:67:17
 shared-slice-read-c : tie.Need-shared-slice-read-c Inv-loop μ-loop
 shared-slice-read-c c = search needs
 
--- src/lib.rt:68:13
 is-digit-requires : tie.Need-is-digit-requires Inv-loop μ-loop
 is-digit-requires c κs = search needs
 
--- src/lib.rt:69:34
 cast-t11 : tie.Need-cast-t11 Inv-loop μ-loop
 cast-t11 c = search needs
 
--- src/lib.rt:69:13
 returns : tie.Need-returns Inv-loop μ-loop
 returns c = let t = c .before .before .before .before in
     let b = now (t .before .before .args .t) in
     (sym (digit-stops b (t .loop .i) (omega arith) (t .loop .n) _ (sym (c .before .is-digit .ensures) ∙ not-true _ (c .if1 .taken)) (t .loop .inv .3)), omega arith, omega arith, omega arith)
 
--- src/lib.rt:71:13
 mul-n : tie.Need-mul-n Inv-loop μ-loop
 mul-n c = omega arith
 
--- src/lib.rt:71:24
 sub-n : tie.Need-sub-n Inv-loop μ-loop
 sub-n c = let t = c .before .before .before .before in
     let b = now (t .before .before .args .t) in
     bounds 48 (getD b (t .loop .i) 0) 57 (sym (c .before .is-digit .ensures) ∙ not-false _ (c .if1 .left)) .0
 
--- src/lib.rt:71:23
 cast-n : tie.Need-cast-n Inv-loop μ-loop
 cast-n c = let t = c .before .before .before .before in
     let b = now (t .before .before .args .t) in
     let k = bounds 48 (getD b (t .loop .i) 0) 57 (sym (c .before .is-digit .ensures) ∙ not-false _ (c .if1 .left)) in
     omega arith
 
--- src/lib.rt:71:13
 add-n : tie.Need-add-n Inv-loop μ-loop
 add-n c = let t = c .before .before .before .before in
     let b = now (t .before .before .args .t) in
     let k = bounds 48 (getD b (t .loop .i) 0) 57 (sym (c .before .is-digit .ensures) ∙ not-false _ (c .if1 .left)) in
     omega arith
 
--- src/lib.rt:73:13
 returns-2 : tie.Need-returns-2 Inv-loop μ-loop
 returns-2 c = tt
 
--- src/lib.rt:75:9
 add-i : tie.Need-add-i Inv-loop μ-loop
 add-i c = search needs
 
--- src/lib.rt:66:5
 loop-less : tie.Need-loop-less Inv-loop μ-loop
 loop-less c = search needs
 
--- src/lib.rt:66:5
 loop-again : tie.Need-loop-again Inv-loop μ-loop
 loop-again c = let t = c .before .before .before .before .before in
     let b = now (t .before .before .args .t) in
     (omega arith, omega arith, omega arith, digit-goes b (t .loop .i) (omega arith) (t .loop .n) _ (sym (c .before .before .is-digit .ensures) ∙ not-false _ (c .before .if1 .left)) (t .loop .inv .3))
 
--- src/lib.rt:77:19
 cast-t14 : tie.Need-cast-t14 Inv-loop μ-loop
 cast-t14 c = search needs
 
--- src/lib.rt:60:1
 returns-3 : tie.Need-returns-3 Inv-loop μ-loop
 returns-3 c = let t = c .before in
     let b = now (t .before .before .args .t) in

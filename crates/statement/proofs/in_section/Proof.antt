@@ -2,69 +2,51 @@ use Rattle.statement.specs.Laws.{section-outside, section-header, sectio
 use Rattle.statement.specs.Statement.{toldHeader, toldRecord}
 use denote.Ref.{now}
 use native.Mathlib.Omega.{arith}
-use mathlib.Core.Path.{_≡_, sym, _∙_, ap}
+use mathlib.Core.Path.{sym, _∙_, ap}
 use borrow.Author.Needs.{needs}
 use Rattle.statement.proofs.in_section.Statement.{statement}
 use Rattle.statement.proofs.in_section.Tie as tie
-use Rattle.statement.proofs.in_section.Reads as reads
-use Rattle.statement.proofs.in_section.Lts as lts
-use Rattle.statement.proofs.scan_data_record.Reads as scan-data-record-reads
-use Rattle.statement.proofs.scan_header_record.Reads as scan-header-record-reads
 
--- src/lib.rt:147:41
 enum-told : tie.Need-enum-told
 enum-told c = search needs
 
--- src/lib.rt:147:59
 add-t11 : tie.Need-add-t11
 add-t11 c = search needs
 
--- src/lib.rt:148:36
 enum-told-2 : tie.Need-enum-told-2
 enum-told-2 c = search needs
 
--- src/lib.rt:148:36
 scan-header-record-requires : tie.Need-scan-header-record-requires
 scan-header-record-requires c κs = search needs
 
--- src/lib.rt:149:34
 enum-known-span : tie.Need-enum-known-span
 enum-known-span c = search needs
 
--- src/lib.rt:149:68
 add-t14 : tie.Need-add-t14
 add-t14 c = search needs
 
--- src/lib.rt:150:34
 enum-known-f : tie.Need-enum-known-f
 enum-known-f c = search needs
 
--- src/lib.rt:152:34
 enum-told-3 : tie.Need-enum-told-3
 enum-told-3 c = search needs
 
--- src/lib.rt:152:34
 scan-data-record-requires : tie.Need-scan-data-record-requires
 scan-data-record-requires c κs = search needs
 
--- src/lib.rt:153:34
 enum-known-span-2 : tie.Need-enum-known-span-2
 enum-known-span-2 c = search needs
 
--- src/lib.rt:153:70
 add-t17 : tie.Need-add-t17
 add-t17 c = search needs
 
--- src/lib.rt:154:34
 enum-known-f-2 : tie.Need-enum-known-f-2
 enum-known-f-2 c = search needs
 
--- src/lib.rt:141:1
 returns : tie.Need-returns
 returns c = let a = c .before .before .before .args in
     (rw (c .enum-told .given .1) (section-outside (now (a .s)) (a .start) (a .end) (omega arith) (omega arith)), (omega arith, omega arith))
 
--- src/lib.rt:141:1
 returns-2 : tie.Need-returns-2
 returns-2 c = let a = c .before .before .before .before .before .before .before .args in (
   rw (c .before .before .before .before .enum-told2 .given .1) (section-header (now (a .s)) (a .start) (a .end) (omega arith) (omega arith) _
@@ -72,7 +54,6 @@ returns-2 c = let a = c .before .before .before .before .before .before .before 
   (omega arith, omega arith, omega arith),
 )
 
--- src/lib.rt:141:1
 returns-3 : tie.Need-returns-3
 returns-3 c = let a = c .before .before .before .before .before .before .before .args in (
   rw (c .before .before .before .before .enum-told2 .given .1) (section-header (now (a .s)) (a .start) (a .end) (omega arith) (omega arith) _
@@ -80,7 +61,6 @@ returns-3 c = let a = c .before .before .before .before .before .before .before 
   tt,
 )
 
--- src/lib.rt:141:1
 returns-4 : tie.Need-returns-4
 returns-4 c = let a = c .before .before .before .before .before .before .before .args in (
   rw (c .before .before .before .before .enum-told3 .given .1) (section-data (now (a .s)) (a .start) (a .end) (omega arith) (omega arith) _
@@ -88,7 +68,6 @@ returns-4 c = let a = c .before .before .before .before .before .before .before 
   (omega arith, omega arith, omega arith),
 )
 
--- src/lib.rt:141:1
 returns-5 : tie.Need-returns-5
 returns-5 c = let a = c .before .before .before .before .before .before .before .args in (
   rw (c .before .before .before .before .enum-told3 .given .1) (section-data (now (a .s)) (a .start) (a .end) (omega arith) (omega arith) _

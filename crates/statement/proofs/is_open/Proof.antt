@@ -1,27 +1,19 @@
 use native.Mathlib.Omega.{arith}
-use mathlib.Core.Path.{sym, _∙_}
 use borrow.Author.Tests.{not-true}
 use Rattle.lex.specs.Right.Steps.{clash}
 use borrow.Author.Needs.{needs}
 use Rattle.statement.proofs.is_open.Statement.{statement}
 use Rattle.statement.proofs.is_open.Tie as tie
-use Rattle.statement.proofs.is_open.Reads as reads
-use Rattle.statement.proofs.is_open.Lts as lts
-use Rattle.statement.proofs.has_end.Reads as has-end-reads
 
--- src/lib.rt:583:8
 sub-if1 : tie.Need-sub-if1
 sub-if1 c = search needs
 
--- src/lib.rt:584:9
 returns : tie.Need-returns
 returns c = λ z. clash (cc)
 
--- src/lib.rt:586:6
 has-end-requires : tie.Need-has-end-requires
 has-end-requires c κs = search needs
 
--- src/lib.rt:579:1
 returns-2 : tie.Need-returns-2
 returns-2 c = λ z. (omega arith, c .has-end .ensures (not-true _ z))
 

@@ -2,20 +2,16 @@ use Rattle.record.specs.Turns.{past-stops, past-goes}
 use Rattle.record.specs.Text.{past, pastTurn}
 use Rattle.statement.specs.Usual.{plain}
 use Rattle.lex.specs.Walk.{walk, walk-ends, drop-end}
-use lib.ListN.{length, drop, getD}
+use lib.ListN.{length, drop}
 use denote.Ref.{now}
-use borrow.Author.Tests.{not-true, not-false}
 use borrow.Author.Needs.{needs}
 use native.Mathlib.Omega.{arith}
-use mathlib.Core.List.{List, [], _∷_}
-use mathlib.Core.Bool.{Bool, true, false, not}
+use mathlib.Core.List.{[]}
+use mathlib.Core.Bool.{not}
 use mathlib.Core.Path.{_≡_, ap, sym, refl, _∙_}
-use Prim.Native.Nat.{ℕ, _+_, _-_, _≤_}
+use Prim.Native.Nat.{_-_, _≤_}
 use Rattle.statement.proofs.last_run.Statement.{statement}
 use Rattle.statement.proofs.last_run.Tie as tie
-use Rattle.statement.proofs.last_run.Reads as reads
-use Rattle.statement.proofs.last_run.Lts as lts
-use Rattle.statement.proofs.is_mark.Reads as is-mark-reads
 
 abbrev Inv-loop : tie.InvT-loop
 Inv-loop s from i₀ i = ((from ≤ i) × (i ≤ length s)) × (walk (pastTurn plain) (λ u. []) tt (drop i s) ≡ past plain (drop from s))
@@ -23,40 +19,32 @@ Inv-loop s from i₀ i = ((from ≤ i) × (i ≤ length s)) × (walk (pastTurn p
 abbrev μ-loop : tie.MeasureT-loop
 μ-loop s from i₀ i = length s - i
 
--- src/lib.rt:247:5
 loop-holds : tie.Need-loop-holds Inv-loop μ-loop
 unfolding past
 loop-holds c = ((omega arith, omega arith), refl)
 
--- src/lib.rt:248:20
 shared-slice-read-is-mark : tie.Need-shared-slice-read-is-mark Inv-loop μ-loop
 shared-slice-read-is-mark c = search needs
 
--- src/lib.rt:248:12
 is-mark-requires : tie.Need-is-mark-requires Inv-loop μ-loop
 is-mark-requires c κs = search needs
 
--- src/lib.rt:249:13
 returns : tie.Need-returns Inv-loop μ-loop
 returns c = let t = c .before .before .before .before in
     let s = now (t .before .before .args .s) in
     (past-stops s (t .loop .i) (omega arith) plain _ (ap not (sym (c .before .is-mark .ensures) ∙ c .if1 .taken)) (t .loop .inv .1), (omega arith, omega arith))
 
--- src/lib.rt:251:9
 add-i : tie.Need-add-i Inv-loop μ-loop
 add-i c = search needs
 
--- src/lib.rt:247:5
 loop-less : tie.Need-loop-less Inv-loop μ-loop
 loop-less c = search needs
 
--- src/lib.rt:247:5
 loop-again : tie.Need-loop-again Inv-loop μ-loop
 loop-again c = let t = c .before .before .before .before in
     let s = now (t .before .before .args .s) in
     ((omega arith, omega arith), past-goes s (t .loop .i) (omega arith) plain _ (ap not (sym (c .before .is-mark .ensures) ∙ c .if1 .left)) (t .loop .inv .1))
 
--- src/lib.rt:241:1
 returns-2 : tie.Need-returns-2 Inv-loop μ-loop
 returns-2 c = let t = c .before in
     let s = now (t .before .before .args .s) in

@@ -4,61 +4,45 @@ use native.Mathlib.Omega.{arith}
 use borrow.Author.Needs.{needs}
 use Rattle.statement.proofs.mark_step.Statement.{statement}
 use Rattle.statement.proofs.mark_step.Tie as tie
-use Rattle.statement.proofs.mark_step.Reads as reads
-use Rattle.statement.proofs.mark_step.Lts as lts
-use Rattle.statement.proofs.string_step.Reads as string-step-reads
 
--- src/lib.rt:283:13
 shared-slice-read-c : tie.Need-shared-slice-read-c
 shared-slice-read-c c = search needs
 
--- src/lib.rt:285:25
 add-t8 : tie.Need-add-t8
 add-t8 c = search needs
 
--- src/lib.rt:285:32
 add-t9 : tie.Need-add-t9
 add-t9 c = search needs
 
--- src/lib.rt:285:9
 returns : tie.Need-returns
 returns c = let b = c .before .before .before in
     (omega arith, omega arith, omega arith, open-at (now (b .args .s)) (b .args .i) (b .args .depth) (b .pre .0) (c .if1 .taken))
 
--- src/lib.rt:289:13
 returns-2 : tie.Need-returns-2
 returns-2 c = search needs
 
--- src/lib.rt:291:25
 add-t11 : tie.Need-add-t11
 add-t11 c = search needs
 
--- src/lib.rt:291:32
 sub-t12 : tie.Need-sub-t12
 sub-t12 c = search needs
 
--- src/lib.rt:291:9
 returns-3 : tie.Need-returns-3
 returns-3 c = let b = c .before .before .before .before .before in
     (omega arith, omega arith, omega arith, close-at (now (b .args .s)) (b .args .i) (b .args .depth) (b .pre .0) (c .before .if2 .taken) (c .if3 .left))
 
--- src/lib.rt:294:9
 string-step-requires : tie.Need-string-step-requires
 string-step-requires c κs = search needs
 
--- src/lib.rt:294:9
 returns-4 : tie.Need-returns-4
 returns-4 c = search needs
 
--- src/lib.rt:297:9
 returns-5 : tie.Need-returns-5
 returns-5 c = search needs
 
--- src/lib.rt:299:14
 add-t14 : tie.Need-add-t14
 add-t14 c = search needs
 
--- src/lib.rt:279:1
 returns-6 : tie.Need-returns-6
 returns-6 c = let b = c .before .before .before .before .before .before in (
   omega arith,

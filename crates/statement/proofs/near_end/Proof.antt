@@ -4,13 +4,11 @@ use Rattle.statement.specs.TidyLaws.{end-stops, end-goes, end-none}
 use lib.ListN.{length, drop}
 use denote.Ref.{now}
 use native.Mathlib.Omega.{arith}
-use mathlib.Core.Path.{_≡_, refl, sym, _∙_}
+use mathlib.Core.Path.{_≡_, refl, _∙_}
 use Prim.Native.Nat.{_-_, _≤_}
 use borrow.Author.Needs.{needs}
 use Rattle.statement.proofs.near_end.Statement.{statement}
 use Rattle.statement.proofs.near_end.Tie as tie
-use Rattle.statement.proofs.near_end.Reads as reads
-use Rattle.statement.proofs.near_end.Lts as lts
 
 abbrev Inv-loop : tie.InvT-loop
 Inv-loop s from i₀ i = ((from ≤ i) × (i ≤ length s)) × (past unended (drop i s) ≡ past unended (drop from s))
@@ -18,35 +16,28 @@ Inv-loop s from i₀ i = ((from ≤ i) × (i ≤ length s)) × (past unended (dr
 abbrev μ-loop : tie.MeasureT-loop
 μ-loop s from i₀ i = length s - i
 
--- src/lib.rt:569:5
 loop-holds : tie.Need-loop-holds Inv-loop μ-loop
 loop-holds c = ((omega arith, omega arith), refl)
 
--- src/lib.rt:570:12
 shared-slice-read-if1 : tie.Need-shared-slice-read-if1 Inv-loop μ-loop
 shared-slice-read-if1 c = search needs
 
--- src/lib.rt:571:13
 returns : tie.Need-returns Inv-loop μ-loop
 returns c = let t = c .before .before .before in
     let s = now (t .before .args .s) in
     (end-stops s (t .loop .i) (omega arith) (c .if1 .taken) ∙ t .loop .inv .1, (omega arith, omega arith))
 
--- src/lib.rt:573:9
 add-i : tie.Need-add-i Inv-loop μ-loop
 add-i c = search needs
 
--- src/lib.rt:569:5
 loop-less : tie.Need-loop-less Inv-loop μ-loop
 loop-less c = search needs
 
--- src/lib.rt:569:5
 loop-again : tie.Need-loop-again Inv-loop μ-loop
 loop-again c = let t = c .before .before .before in
     let s = now (t .before .args .s) in
     ((omega arith, omega arith), end-goes s (t .loop .i) (omega arith) (c .if1 .left) ∙ t .loop .inv .1)
 
--- src/lib.rt:563:1
 returns-2 : tie.Need-returns-2 Inv-loop μ-loop
 returns-2 c = let t = c .before in
     let s = now (t .before .args .s) in

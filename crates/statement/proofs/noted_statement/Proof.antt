@@ -5,49 +5,37 @@ use Rattle.lex.specs.Search.{toldFound}
 use denote.Ref.{now}
 use lib.ListN.{length}
 use native.Mathlib.Omega.{arith}
-use mathlib.Core.Path.{_≡_, sym, _∙_, ap}
+use mathlib.Core.Path.{sym, _∙_, ap}
 use borrow.Author.Needs.{needs}
 use Rattle.statement.proofs.noted_statement.Statement.{statement}
 use Rattle.statement.proofs.noted_statement.Tie as tie
-use Rattle.statement.proofs.noted_statement.Reads as reads
-use Rattle.statement.proofs.noted_statement.Lts as lts
-use Rattle.statement.proofs.lead_past.Reads as lead-past-reads
-use Rattle.statement.proofs.statement_at.Reads as statement-at-reads
 
--- src/lib.rt:192:9
 returns : tie.Need-returns
 returns c = let a = c .before .before .args in
     let e = statement-none (now (a .s)) (a .i) (a .section) (c .if1 .taken) in (e, (tt, ap (tidy (now (a .s))) e))
 
--- src/lib.rt:194:11
 lead-past-requires : tie.Need-lead-past-requires
 lead-past-requires c κs = search needs
 
--- src/lib.rt:195:24
 enum-known-f : tie.Need-enum-known-f
 enum-known-f c = search needs
 
--- src/lib.rt:196:19
 enum-known-start : tie.Need-enum-known-start
 enum-known-start c = search needs
 
--- src/lib.rt:198:17
 returns-2 : tie.Need-returns-2
 returns-2 c = let t = c .before .before .before .before in
     let a = t .before .before .before .args in
     let e = statement-over (now (a .s)) (a .i) (a .section) _ (omega arith) (sym (ap toldFound (c .before .before .start .given .1)) ∙ t .lead-past .ensures) (c .if2 .taken) in (e, (tt, ap (tidy (now (a .s))) e))
 
--- src/lib.rt:200:13
 statement-at-requires : tie.Need-statement-at-requires
 statement-at-requires c κs = search needs
 
--- src/lib.rt:187:1
 returns-3 : tie.Need-returns-3
 returns-3 c = let t = c .before .before .before in
     let a = t .before .before .before .args in
     let e = statement-refused (now (a .s)) (a .i) (a .section) _ (sym (ap toldFound (c .before .f .given .1)) ∙ t .lead-past .ensures) in (e, (tt, ap (tidy (now (a .s))) e))
 
--- src/lib.rt:187:1
 returns-4 : tie.Need-returns-4
 returns-4 c = let t = c .before .before .before .before .before in
     let a = t .before .before .before .args in

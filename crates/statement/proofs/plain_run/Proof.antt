@@ -1,19 +1,14 @@
 use Rattle.statement.specs.UsualLaws.{run-stops, run-goes}
 use Rattle.statement.specs.Usual.{plain}
 use Rattle.record.specs.Text.{past}
-use lib.ListN.{length, drop, getD}
+use lib.ListN.{length, drop}
 use denote.Ref.{now}
 use borrow.Author.Needs.{needs}
 use native.Mathlib.Omega.{arith}
-use mathlib.Core.List.{List}
 use mathlib.Core.Path.{_≡_, sym, refl, _∙_}
-use Prim.Native.Nat.{ℕ, _+_, _-_, _≤_}
+use Prim.Native.Nat.{_+_, _-_, _≤_}
 use Rattle.statement.proofs.plain_run.Statement.{statement}
 use Rattle.statement.proofs.plain_run.Tie as tie
-use Rattle.statement.proofs.plain_run.Reads as reads
-use Rattle.statement.proofs.plain_run.Lts as lts
-use Rattle.statement.proofs.is_mark.Reads as is-mark-reads
-use Rattle.statement.proofs.last_run.Reads as last-run-reads
 
 abbrev Inv-loop : tie.InvT-loop
 Inv-loop s from i₀ i = ((from ≤ i) × (i ≤ length s)) × (past plain (drop i s) ≡ past plain (drop from s))
@@ -21,42 +16,33 @@ Inv-loop s from i₀ i = ((from ≤ i) × (i ≤ length s)) × (past plain (drop
 abbrev μ-loop : tie.MeasureT-loop
 μ-loop s from i₀ i = length s - i
 
--- src/lib.rt:234:5
 loop-holds : tie.Need-loop-holds Inv-loop μ-loop
 loop-holds c = ((omega arith, omega arith), refl)
 
--- src/lib.rt:234:16
 sub-loop : tie.Need-sub-loop Inv-loop μ-loop
 sub-loop c = search needs
 
--- src/lib.rt:235:20
 shared-slice-read-is-mark : tie.Need-shared-slice-read-is-mark Inv-loop μ-loop
 shared-slice-read-is-mark c = search needs
 
--- src/lib.rt:235:12
 is-mark-requires : tie.Need-is-mark-requires Inv-loop μ-loop
 is-mark-requires c κs = search needs
 
--- src/lib.rt:236:13
 returns : tie.Need-returns Inv-loop μ-loop
 returns c = let l = c .before .before .before .before in
     let s = now (l .before .before .args .s) in
     let i = l .loop .i in
     (run-stops s (i) (omega arith) (sym (c .before .is-mark .ensures) ∙ c .if1 .taken) ∙ l .loop .inv .1, (omega arith, omega arith))
 
--- src/lib.rt:238:22
 add-second : tie.Need-add-second Inv-loop μ-loop
 add-second c = search needs
 
--- src/lib.rt:239:20
 shared-slice-read-is-mark-2 : tie.Need-shared-slice-read-is-mark-2 Inv-loop μ-loop
 shared-slice-read-is-mark-2 c = search needs
 
--- src/lib.rt:239:12
 is-mark-requires-2 : tie.Need-is-mark-requires-2 Inv-loop μ-loop
 is-mark-requires-2 c κs = search needs
 
--- src/lib.rt:240:13
 returns-2 : tie.Need-returns-2 Inv-loop μ-loop
 returns-2 c = let l = c .before .before .before .before .before .before .before in
     let s = now (l .before .before .args .s) in
@@ -64,19 +50,15 @@ returns-2 c = let l = c .before .before .before .before .before .before .before 
     let e1 = run-goes s (i) (omega arith) (sym (c .before .before .before .before .is-mark .ensures) ∙ c .before .before .before .if1 .left) ∙ l .loop .inv .1 in
     (run-stops s (i + 1) (omega arith) (sym (c .before .is-mark2 .ensures) ∙ c .if2 .taken) ∙ e1, (omega arith, omega arith))
 
--- src/lib.rt:242:21
 add-third : tie.Need-add-third Inv-loop μ-loop
 add-third c = search needs
 
--- src/lib.rt:243:20
 shared-slice-read-is-mark-3 : tie.Need-shared-slice-read-is-mark-3 Inv-loop μ-loop
 shared-slice-read-is-mark-3 c = search needs
 
--- src/lib.rt:243:12
 is-mark-requires-3 : tie.Need-is-mark-requires-3 Inv-loop μ-loop
 is-mark-requires-3 c κs = search needs
 
--- src/lib.rt:244:13
 returns-3 : tie.Need-returns-3 Inv-loop μ-loop
 returns-3 c = let l = c .before .before .before .before .before .before .before .before .before .before in
     let s = now (l .before .before .args .s) in
@@ -85,19 +67,15 @@ returns-3 c = let l = c .before .before .before .before .before .before .before 
     let e2 = run-goes s (i + 1) (omega arith) (sym (c .before .before .before .before .is-mark2 .ensures) ∙ c .before .before .before .if2 .left) ∙ e1 in
     (run-stops s (i + 1 + 1) (omega arith) (sym (c .before .is-mark3 .ensures) ∙ c .if3 .taken) ∙ e2, (omega arith, omega arith))
 
--- src/lib.rt:246:22
 add-fourth : tie.Need-add-fourth Inv-loop μ-loop
 add-fourth c = search needs
 
--- src/lib.rt:247:20
 shared-slice-read-is-mark-4 : tie.Need-shared-slice-read-is-mark-4 Inv-loop μ-loop
 shared-slice-read-is-mark-4 c = search needs
 
--- src/lib.rt:247:12
 is-mark-requires-4 : tie.Need-is-mark-requires-4 Inv-loop μ-loop
 is-mark-requires-4 c κs = search needs
 
--- src/lib.rt:248:13
 returns-4 : tie.Need-returns-4 Inv-loop μ-loop
 returns-4 c = let l = c .before .before .before .before .before .before .before .before .before .before .before .before .before in
     let s = now (l .before .before .args .s) in
@@ -107,15 +85,12 @@ returns-4 c = let l = c .before .before .before .before .before .before .before 
     let e3 = run-goes s (i + 1 + 1) (omega arith) (sym (c .before .before .before .before .is-mark3 .ensures) ∙ c .before .before .before .if3 .left) ∙ e2 in
     (run-stops s (i + 1 + 1 + 1) (omega arith) (sym (c .before .is-mark4 .ensures) ∙ c .if4 .taken) ∙ e3, (omega arith, omega arith))
 
--- src/lib.rt:250:13
 add-i : tie.Need-add-i Inv-loop μ-loop
 add-i c = search needs
 
--- src/lib.rt:234:5
 loop-less : tie.Need-loop-less Inv-loop μ-loop
 loop-less c = search needs
 
--- src/lib.rt:234:5
 loop-again : tie.Need-loop-again Inv-loop μ-loop
 loop-again c = let l = c .before .before .before .before .before .before .before .before .before .before .before .before .before in
     let s = now (l .before .before .args .s) in
@@ -125,11 +100,9 @@ loop-again c = let l = c .before .before .before .before .before .before .before
     let e3 = run-goes s (i + 1 + 1) (omega arith) (sym (c .before .before .before .before .is-mark3 .ensures) ∙ c .before .before .before .if3 .left) ∙ e2 in
     ((omega arith, omega arith), run-goes s (i + 1 + 1 + 1) (omega arith) (sym (c .before .is-mark4 .ensures) ∙ c .if4 .left) ∙ e3)
 
--- src/lib.rt:252:5
 last-run-requires : tie.Need-last-run-requires Inv-loop μ-loop
 last-run-requires c κs = search needs
 
--- src/lib.rt:228:1
 returns-5 : tie.Need-returns-5 Inv-loop μ-loop
 returns-5 c = let l = c .before .before in
     (c .last-run .ensures .0 ∙ l .loop .inv .1, (omega (arith, c .last-run .ensures .1), c .last-run .ensures .1 .1))

@@ -1,34 +1,25 @@
 use Rattle.statement.specs.Row.{mapped}
 use Rattle.lex.specs.Search.{toldFound}
-use mathlib.Core.Path.{refl, sym, _∙_, ap}
+use mathlib.Core.Path.{sym, _∙_, ap}
 use borrow.Author.Needs.{needs}
 use Rattle.statement.proofs.record_args.Statement.{statement}
 use Rattle.statement.proofs.record_args.Tie as tie
-use Rattle.statement.proofs.record_args.Reads as reads
-use Rattle.statement.proofs.record_args.Lts as lts
-use Rattle.lex.proofs.matching_paren.Reads as matching-paren-reads
 
--- src/lib.rt:68:11
 matching-paren-requires : tie.Need-matching-paren-requires
 matching-paren-requires c κs = search needs
 
--- src/lib.rt:69:24
 enum-known-f : tie.Need-enum-known-f
 enum-known-f c = search needs
 
--- src/lib.rt:70:19
 enum-known-close : tie.Need-enum-known-close
 enum-known-close c = search needs
 
--- src/lib.rt:72:24
 add-t11 : tie.Need-add-t11
 add-t11 c = search needs
 
--- src/lib.rt:64:1
 returns : tie.Need-returns
 returns c = ap (mapped _) (sym (ap toldFound (c .before .f .given .1)) ∙ c .before .before .before .matching-paren .ensures)
 
--- src/lib.rt:64:1
 returns-2 : tie.Need-returns-2
 returns-2 c = ap (mapped _) (sym (ap toldFound (c .before .close .given .1)) ∙ c .before .before .before .matching-paren .ensures)
 

@@ -2,68 +2,50 @@ use Rattle.statement.specs.declared.Section.the-variants.{Outside, InHea
 use Rattle.statement.specs.Laws.{worded-at, moved-at}
 use denote.Ref.{now}
 use native.Mathlib.Omega.{arith}
-use mathlib.Core.Path.{_≡_, sym, _∙_, ap}
+use mathlib.Core.Path.{sym, _∙_}
 use borrow.Author.Needs.{needs}
 use Rattle.statement.proofs.record_said.Statement.{statement}
 use Rattle.statement.proofs.record_said.Tie as tie
-use Rattle.statement.proofs.record_said.Reads as reads
-use Rattle.statement.proofs.record_said.Lts as lts
-use Rattle.record.proofs.section_word.Reads as section-word-reads
-use Rattle.statement.proofs.in_section.Reads as in-section-reads
 
--- src/lib.rt:165:32
 sub-section-word : tie.Need-sub-section-word
 sub-section-word c = search needs
 
--- src/lib.rt:165:32
 part-section-word-start : tie.Need-part-section-word-start
 part-section-word-start c = search needs
 
--- src/lib.rt:165:32
 part-section-word-end : tie.Need-part-section-word-end
 part-section-word-end c = search needs
 
--- src/lib.rt:165:11
 section-word-requires : tie.Need-section-word-requires
 section-word-requires c κs = search needs
 
--- src/lib.rt:166:41
 enum-told : tie.Need-enum-told
 enum-told c = search needs
 
--- src/lib.rt:166:59
 add-t12 : tie.Need-add-t12
 add-t12 c = search needs
 
--- src/lib.rt:167:37
 enum-told-2 : tie.Need-enum-told-2
 enum-told-2 c = search needs
 
--- src/lib.rt:167:56
 add-t14 : tie.Need-add-t14
 add-t14 c = search needs
 
--- src/lib.rt:168:35
 enum-told-3 : tie.Need-enum-told-3
 enum-told-3 c = search needs
 
--- src/lib.rt:168:52
 add-t16 : tie.Need-add-t16
 add-t16 c = search needs
 
--- src/lib.rt:169:26
 enum-told-4 : tie.Need-enum-told-4
 enum-told-4 c = search needs
 
--- src/lib.rt:170:24
 enum-told-5 : tie.Need-enum-told-5
 enum-told-5 c = search needs
 
--- src/lib.rt:170:24
 in-section-requires : tie.Need-in-section-requires
 in-section-requires c κs = search needs
 
--- src/lib.rt:160:1
 returns : tie.Need-returns
 returns c = let a = c .before .before .before .before .before .args in (
   moved-at (now (a .s)) (a .start) (a .end) (omega arith) (omega arith) Outside ∙ worded-at (now (a .s)) (a .start) (a .end) (omega arith) (omega arith) (a .section) _
@@ -71,7 +53,6 @@ returns c = let a = c .before .before .before .before .before .args in (
   (omega arith, omega arith),
 )
 
--- src/lib.rt:160:1
 returns-2 : tie.Need-returns-2
 returns-2 c = let a = c .before .before .before .before .before .args in (
   moved-at (now (a .s)) (a .start) (a .end) (omega arith) (omega arith) InHeader ∙ worded-at (now (a .s)) (a .start) (a .end) (omega arith) (omega arith) (a .section) _
@@ -79,7 +60,6 @@ returns-2 c = let a = c .before .before .before .before .before .args in (
   (omega arith, omega arith),
 )
 
--- src/lib.rt:160:1
 returns-3 : tie.Need-returns-3
 returns-3 c = let a = c .before .before .before .before .before .args in (
   moved-at (now (a .s)) (a .start) (a .end) (omega arith) (omega arith) InData ∙ worded-at (now (a .s)) (a .start) (a .end) (omega arith) (omega arith) (a .section) _
@@ -87,7 +67,6 @@ returns-3 c = let a = c .before .before .before .before .before .args in (
   (omega arith, omega arith),
 )
 
--- src/lib.rt:160:1
 returns-4 : tie.Need-returns-4
 returns-4 c = let a = c .before .before .before .before .before .args in (
   worded-at (now (a .s)) (a .start) (a .end) (omega arith) (omega arith) (a .section) _
@@ -95,7 +74,6 @@ returns-4 c = let a = c .before .before .before .before .before .args in (
   tt,
 )
 
--- src/lib.rt:160:1
 returns-5 : tie.Need-returns-5
 returns-5 c = let a = c .before .before .before .before .before .before .args in (
   c .in-section .ensures .0 ∙ worded-at (now (a .s)) (a .start) (a .end) (omega arith) (omega arith) (a .section) _

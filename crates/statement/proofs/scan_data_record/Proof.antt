@@ -3,80 +3,60 @@ use lib.ListN.{take, drop}
 use Prim.Native.Nat.{_-_}
 use denote.Ref.{now}
 use native.Mathlib.Omega.{arith}
-use mathlib.Core.Path.{_≡_, sym, _∙_}
+use mathlib.Core.Path.{sym, _∙_}
 use borrow.Author.Needs.{needs}
 use Rattle.statement.proofs.scan_data_record.Statement.{statement}
 use Rattle.statement.proofs.scan_data_record.Tie as tie
-use Rattle.statement.proofs.scan_data_record.Reads as reads
-use Rattle.statement.proofs.scan_data_record.Lts as lts
-use Rattle.record.proofs.data_head.Reads as data-head-reads
-use Rattle.statement.proofs.record_args.Reads as record-args-reads
 
--- src/lib.rt:106:29
 sub-data-head : tie.Need-sub-data-head
 sub-data-head c = search needs
 
--- src/lib.rt:106:29
 part-data-head-start : tie.Need-part-data-head-start
 part-data-head-start c = search needs
 
--- src/lib.rt:106:29
 part-data-head-end : tie.Need-part-data-head-end
 part-data-head-end c = search needs
 
--- src/lib.rt:106:11
 data-head-requires : tie.Need-data-head-requires
 data-head-requires c κs = search needs
 
--- src/lib.rt:107:19
 enum-known-why : tie.Need-enum-known-why
 enum-known-why c = search needs
 
--- src/lib.rt:108:23
 enum-known-id : tie.Need-enum-known-id
 enum-known-id c = search needs
 
--- src/lib.rt:110:38
 add-record-args : tie.Need-add-record-args
 add-record-args c = let a = c .before .before .before .before .before .before .args in let w = complex-fits (now (a .s)) (a .start) (a .end) (omega arith) (omega arith) _ _ (sym (c .before .before .before .data-head .ensures) ∙ c .before .id .given .1) in omega arith
 
--- src/lib.rt:110:13
 record-args-requires : tie.Need-record-args-requires
 record-args-requires c κs = let a = c .before .before .before .before .before .before .args in let w = complex-fits (now (a .s)) (a .start) (a .end) (omega arith) (omega arith) _ _ (sym (c .before .before .before .data-head .ensures) ∙ c .before .id .given .1) in omega arith
 
--- src/lib.rt:112:22
 enum-known-id-2 : tie.Need-enum-known-id-2
 enum-known-id-2 c = search needs
 
--- src/lib.rt:114:24
 add-record-args-2 : tie.Need-add-record-args-2
 add-record-args-2 c = let a = c .before .before .before .before .before .before .args in let w = simple-fits (now (a .s)) (a .start) (a .end) (omega arith) (omega arith) _ _ _ _ (sym (c .before .before .before .data-head .ensures) ∙ c .before .id2 .given .1) in omega arith
 
--- src/lib.rt:115:22
 add-t22 : tie.Need-add-t22
 add-t22 c = let a = c .before .before .before .before .before .before .args in let w = simple-fits (now (a .s)) (a .start) (a .end) (omega arith) (omega arith) _ _ _ _ (sym (c .before .before .before .data-head .ensures) ∙ c .before .id2 .given .1) in omega arith
 
--- src/lib.rt:117:41
 add-record-args-3 : tie.Need-add-record-args-3
 add-record-args-3 c = let a = c .before .before .before .before .before .before .args in let w = simple-fits (now (a .s)) (a .start) (a .end) (omega arith) (omega arith) _ _ _ _ (sym (c .before .before .before .data-head .ensures) ∙ c .before .id2 .given .1) in omega arith
 
--- src/lib.rt:117:13
 record-args-requires-2 : tie.Need-record-args-requires-2
 record-args-requires-2 c κs = let a = c .before .before .before .before .before .before .args in let w = simple-fits (now (a .s)) (a .start) (a .end) (omega arith) (omega arith) _ _ _ _ (sym (c .before .before .before .data-head .ensures) ∙ c .before .id2 .given .1) in omega arith
 
--- src/lib.rt:102:1
 returns : tie.Need-returns
 returns c = let a = c .before .before .before .before .before .before .args in
     record-bad (now (a .s)) (take (a .end - a .start) (drop (a .start) (now (a .s)))) (a .start) _ (omega arith) (sym (c .before .before .before .data-head .ensures) ∙ c .before .why .given .1)
 
--- src/lib.rt:102:1
 returns-2 : tie.Need-returns-2
 returns-2 c = let a = c .before .before .before .before .before .before .before .args in
     let e = sym (c .before .before .before .before .data-head .ensures) ∙ c .before .before .id .given .1 in
     let w = complex-fits (now (a .s)) (a .start) (a .end) (omega arith) (omega arith) _ _ e in
     c .record-args .ensures ∙ record-complex (now (a .s)) (take (a .end - a .start) (drop (a .start) (now (a .s)))) (a .start) _ _ (omega arith) e
 
--- src/lib.rt:102:1
 returns-3 : tie.Need-returns-3
 returns-3 c = let a = c .before .before .before .before .before .before .before .args in
     let e = sym (c .before .before .before .before .data-head .ensures) ∙ c .before .before .id2 .given .1 in

@@ -4,69 +4,51 @@ use lib.ListN.{take, drop}
 use Prim.Native.Nat.{_-_}
 use denote.Ref.{now}
 use native.Mathlib.Omega.{arith}
-use mathlib.Core.Path.{_≡_, sym, _∙_}
+use mathlib.Core.Path.{sym, _∙_}
 use borrow.Author.Needs.{needs}
 use Rattle.statement.proofs.scan_header_record.Statement.{statement}
 use Rattle.statement.proofs.scan_header_record.Tie as tie
-use Rattle.statement.proofs.scan_header_record.Reads as reads
-use Rattle.statement.proofs.scan_header_record.Lts as lts
-use Rattle.record.proofs.header_head.Reads as header-head-reads
-use Rattle.statement.proofs.header_args.Reads as header-args-reads
 
--- src/lib.rt:126:31
 sub-header-head : tie.Need-sub-header-head
 sub-header-head c = search needs
 
--- src/lib.rt:126:31
 part-header-head-start : tie.Need-part-header-head-start
 part-header-head-start c = search needs
 
--- src/lib.rt:126:31
 part-header-head-end : tie.Need-part-header-head-end
 part-header-head-end c = search needs
 
--- src/lib.rt:126:11
 header-head-requires : tie.Need-header-head-requires
 header-head-requires c κs = search needs
 
--- src/lib.rt:127:19
 enum-known-why : tie.Need-enum-known-why
 enum-known-why c = search needs
 
--- src/lib.rt:128:53
 enum-told : tie.Need-enum-told
 enum-told c = search needs
 
--- src/lib.rt:129:25
 enum-known-a : tie.Need-enum-known-a
 enum-known-a c = search needs
 
--- src/lib.rt:131:24
 add-header-args : tie.Need-add-header-args
 add-header-args c = let a = c .before .before .before .before .before .before .args in let w = header-fits (now (a .s)) (a .start) (a .end) (omega arith) (omega arith) _ _ _ _ (sym (c .before .before .before .header-head .ensures) ∙ c .before .a .given .1) in omega arith
 
--- src/lib.rt:132:22
 add-t18 : tie.Need-add-t18
 add-t18 c = let a = c .before .before .before .before .before .before .args in let w = header-fits (now (a .s)) (a .start) (a .end) (omega arith) (omega arith) _ _ _ _ (sym (c .before .before .before .header-head .ensures) ∙ c .before .a .given .1) in omega arith
 
--- src/lib.rt:134:37
 add-header-args-2 : tie.Need-add-header-args-2
 add-header-args-2 c = let a = c .before .before .before .before .before .before .args in let w = header-fits (now (a .s)) (a .start) (a .end) (omega arith) (omega arith) _ _ _ _ (sym (c .before .before .before .header-head .ensures) ∙ c .before .a .given .1) in omega arith
 
--- src/lib.rt:134:13
 header-args-requires : tie.Need-header-args-requires
 header-args-requires c κs = let a = c .before .before .before .before .before .before .args in let w = header-fits (now (a .s)) (a .start) (a .end) (omega arith) (omega arith) _ _ _ _ (sym (c .before .before .before .header-head .ensures) ∙ c .before .a .given .1) in omega arith
 
--- src/lib.rt:122:1
 returns : tie.Need-returns
 returns c = let a = c .before .before .before .before .before .before .args in
     header-bad (now (a .s)) (take (a .end - a .start) (drop (a .start) (now (a .s)))) (a .start) _ (omega arith) (sym (c .before .before .before .header-head .ensures) ∙ c .before .why .given .1)
 
--- src/lib.rt:122:1
 returns-2 : tie.Need-returns-2
 returns-2 c = absurd (header-never _ _ _ (sym (c .before .before .header-head .ensures) ∙ c .enum-told .given .1))
 
--- src/lib.rt:122:1
 returns-3 : tie.Need-returns-3
 returns-3 c = let a = c .before .before .before .before .before .before .before .args in
     let e = sym (c .before .before .before .before .header-head .ensures) ∙ c .before .before .a .given .1 in

@@ -3,39 +3,29 @@ use Rattle.lex.specs.At.{end-at}
 use Rattle.lex.specs.Search.{toldFound}
 use denote.Ref.{now}
 use native.Mathlib.Omega.{arith}
-use mathlib.Core.Path.{_≡_, sym, _∙_, ap}
+use mathlib.Core.Path.{sym, _∙_, ap}
 use borrow.Author.Needs.{needs}
 use Rattle.statement.proofs.sought_at.Statement.{statement}
 use Rattle.statement.proofs.sought_at.Tie as tie
-use Rattle.statement.proofs.sought_at.Reads as reads
-use Rattle.statement.proofs.sought_at.Lts as lts
-use Rattle.lex.proofs.find_record_end.Reads as find-record-end-reads
-use Rattle.statement.proofs.record_said.Reads as record-said-reads
 
--- src/lib.rt:180:11
 find-record-end-requires : tie.Need-find-record-end-requires
 find-record-end-requires c κs = search needs
 
--- src/lib.rt:181:19
 enum-known-end : tie.Need-enum-known-end
 enum-known-end c = search needs
 
--- src/lib.rt:181:27
 record-said-requires : tie.Need-record-said-requires
 record-said-requires c κs = let a = c .before .before .before .before .before .args in
     let e = end-at (now (a .s)) (a .start) _ (omega arith) (sym (ap toldFound (c .before .end .given .1)) ∙ c .before .before .before .find-record-end .ensures) in
     (e .1, e .2)
 
--- src/lib.rt:182:24
 enum-known-f : tie.Need-enum-known-f
 enum-known-f c = search needs
 
--- src/lib.rt:175:1
 returns : tie.Need-returns
 returns c = let a = c .before .before .before .before .before .before .args in
     (c .record-said .ensures .0 ∙ begun-found (now (a .s)) (a .start) (a .section) (omega arith) _ (sym (ap toldFound (c .before .before .end .given .1)) ∙ c .before .before .before .before .find-record-end .ensures), c .record-said .ensures .1)
 
--- src/lib.rt:175:1
 returns-2 : tie.Need-returns-2
 returns-2 c = let a = c .before .before .before .before .before .args in
     (begun-refused (now (a .s)) (a .start) (a .section) (omega arith) _ (sym (ap toldFound (c .before .f .given .1)) ∙ c .before .before .before .find-record-end .ensures), tt)

@@ -1,30 +1,19 @@
-use Rattle.statement.specs.Statement.{toldSaid, Ahead}
 use Rattle.statement.specs.Tidy.{tidy}
-use lib.ListN.{length}
 use denote.Ref.{now}
-use mathlib.Core.Path.{_≡_, sym, _∙_, ap}
+use mathlib.Core.Path.{_∙_, ap}
 use borrow.Author.Needs.{needs}
 use Rattle.statement.proofs.statement_at.Statement.{statement}
 use Rattle.statement.proofs.statement_at.Tie as tie
-use Rattle.statement.proofs.statement_at.Reads as reads
-use Rattle.statement.proofs.statement_at.Lts as lts
-use Rattle.statement.proofs.note.Reads as note-reads
-use Rattle.statement.proofs.sought_at.Reads as sought-at-reads
-use Rattle.statement.proofs.usual_at.Reads as usual-at-reads
 
--- src/lib.rt:498:11
 usual-at-requires : tie.Need-usual-at-requires
 usual-at-requires c κs = search needs
 
--- src/lib.rt:499:27
 enum-told : tie.Need-enum-told
 enum-told c = search needs
 
--- src/lib.rt:499:27
 sought-at-requires : tie.Need-sought-at-requires
 sought-at-requires c κs = search needs
 
--- src/lib.rt:500:22
 enum-known-span : tie.Need-enum-known-span
 enum-known-span c = search needs
 

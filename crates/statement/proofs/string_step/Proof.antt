@@ -4,47 +4,34 @@ use native.Mathlib.Omega.{arith}
 use borrow.Author.Needs.{needs}
 use Rattle.statement.proofs.string_step.Statement.{statement}
 use Rattle.statement.proofs.string_step.Tie as tie
-use Rattle.statement.proofs.string_step.Reads as reads
-use Rattle.statement.proofs.string_step.Lts as lts
-use Rattle.statement.proofs.text_run.Reads as text-run-reads
 
--- src/lib.rt:261:25
 add-text-run : tie.Need-add-text-run
 add-text-run c = search needs
 
--- src/lib.rt:261:9
 text-run-requires : tie.Need-text-run-requires
 text-run-requires c κs = search needs
 
--- src/lib.rt:263:9
 returns : tie.Need-returns
 returns c = search needs
 
--- src/lib.rt:265:8
 shared-slice-read-if2 : tie.Need-shared-slice-read-if2
 shared-slice-read-if2 c = search needs
 
--- src/lib.rt:266:9
 returns-2 : tie.Need-returns-2
 returns-2 c = search needs
 
--- src/lib.rt:268:17
 add-after : tie.Need-add-after
 add-after c = search needs
 
--- src/lib.rt:270:9
 returns-3 : tie.Need-returns-3
 returns-3 c = search needs
 
--- src/lib.rt:272:8
 shared-slice-read-if4 : tie.Need-shared-slice-read-if4
 shared-slice-read-if4 c = search needs
 
--- src/lib.rt:273:9
 returns-4 : tie.Need-returns-4
 returns-4 c = search needs
 
--- src/lib.rt:257:1
 returns-5 : tie.Need-returns-5
 returns-5 c = let r = c .before .before .before .before .before .before .text-run in
     let a = c .before .before .before .before .before .before .before .before .args in

@@ -7,9 +7,6 @@ use Prim.Native.Nat.{_-_, _≤_}
 use borrow.Author.Needs.{needs}
 use Rattle.statement.proofs.text_blocks.Statement.{statement}
 use Rattle.statement.proofs.text_blocks.Tie as tie
-use Rattle.statement.proofs.text_blocks.Reads as reads
-use Rattle.statement.proofs.text_blocks.Lts as lts
-use Rattle.statement.proofs.block_stops.Reads as block-stops-reads
 
 abbrev Inv-loop : tie.InvT-loop
 Inv-loop s from i₀ i = ((from ≤ i) × (i ≤ length s)) × (past spoken (drop i s) ≡ past spoken (drop from s))

@@ -9,9 +9,6 @@ use mathlib.Core.Path.{_≡_, refl, sym, _∙_}
 use Prim.Native.Nat.{_-_, _≤_}
 use Rattle.statement.proofs.text_bytes.Statement.{statement}
 use Rattle.statement.proofs.text_bytes.Tie as tie
-use Rattle.statement.proofs.text_bytes.Reads as reads
-use Rattle.statement.proofs.text_bytes.Lts as lts
-use Rattle.statement.proofs.is_stop.Reads as is-stop-reads
 
 abbrev Inv-loop : tie.InvT-loop
 Inv-loop s from end i₀ i = ((from ≤ i) × (i ≤ end)) × (past spoken (drop i s) ≡ past spoken (drop from s))
@@ -19,39 +16,31 @@ Inv-loop s from end i₀ i = ((from ≤ i) × (i ≤ end)) × (past spoken (drop
 abbrev μ-loop : tie.MeasureT-loop
 μ-loop s from end i₀ i = end - i
 
--- src/lib.rt:320:5
 loop-holds : tie.Need-loop-holds Inv-loop μ-loop
 loop-holds c = ((omega arith, omega arith), refl)
 
--- src/lib.rt:321:20
 shared-slice-read-is-stop : tie.Need-shared-slice-read-is-stop Inv-loop μ-loop
 shared-slice-read-is-stop c = search needs
 
--- src/lib.rt:321:12
 is-stop-requires : tie.Need-is-stop-requires Inv-loop μ-loop
 is-stop-requires c κs = search needs
 
--- src/lib.rt:322:13
 returns : tie.Need-returns Inv-loop μ-loop
 returns c = let t = c .before .before .before .before in
     let s = now (t .before .before .args .s) in
     (t .loop .inv .1, ((omega arith, omega arith), λ z. spoken-stops s (t .loop .i) (omega arith) (sym (c .before .is-stop .ensures) ∙ c .if1 .taken)))
 
--- src/lib.rt:324:9
 add-i : tie.Need-add-i Inv-loop μ-loop
 add-i c = search needs
 
--- src/lib.rt:320:5
 loop-less : tie.Need-loop-less Inv-loop μ-loop
 loop-less c = search needs
 
--- src/lib.rt:320:5
 loop-again : tie.Need-loop-again Inv-loop μ-loop
 loop-again c = let t = c .before .before .before .before in
     let s = now (t .before .before .args .s) in
     ((omega arith, omega arith), spoken-goes s (t .loop .i) (omega arith) (sym (c .before .is-stop .ensures) ∙ c .if1 .left) ∙ t .loop .inv .1)
 
--- src/lib.rt:313:1
 returns-2 : tie.Need-returns-2 Inv-loop μ-loop
 returns-2 c = let t = c .before in (t .loop .inv .1, ((omega arith, omega arith), λ z. absurd (omega arith)))
 

@@ -5,10 +5,6 @@ use mathlib.Core.Path.{_∙_}
 use borrow.Author.Needs.{needs}
 use Rattle.statement.proofs.text_run.Statement.{statement}
 use Rattle.statement.proofs.text_run.Tie as tie
-use Rattle.statement.proofs.text_run.Reads as reads
-use Rattle.statement.proofs.text_run.Lts as lts
-use Rattle.statement.proofs.text_blocks.Reads as text-blocks-reads
-use Rattle.statement.proofs.text_bytes.Reads as text-bytes-reads
 
 add-within : tie.Need-add-within
 add-within c = search needs

@@ -4,39 +4,29 @@ use lib.ListN.{take, drop}
 use Prim.Native.Nat.{_-_}
 use denote.Ref.{now}
 use native.Mathlib.Omega.{arith}
-use mathlib.Core.Path.{_≡_, sym, _∙_}
+use mathlib.Core.Path.{sym, _∙_}
 use borrow.Author.Needs.{needs}
 use Rattle.statement.proofs.tidy_at.Statement.{statement}
 use Rattle.statement.proofs.tidy_at.Tie as tie
-use Rattle.statement.proofs.tidy_at.Reads as reads
-use Rattle.statement.proofs.tidy_at.Lts as lts
-use Rattle.record.proofs.data_head.Reads as data-head-reads
 
--- src/lib.rt:706:29
 sub-data-head : tie.Need-sub-data-head
 sub-data-head c = search needs
 
--- src/lib.rt:706:29
 part-data-head-start : tie.Need-part-data-head-start
 part-data-head-start c = search needs
 
--- src/lib.rt:706:29
 part-data-head-end : tie.Need-part-data-head-end
 part-data-head-end c = search needs
 
--- src/lib.rt:706:11
 data-head-requires : tie.Need-data-head-requires
 data-head-requires c κs = search needs
 
--- src/lib.rt:707:25
 enum-told : tie.Need-enum-told
 enum-told c = search needs
 
--- src/lib.rt:708:23
 enum-known-id : tie.Need-enum-known-id
 enum-known-id c = search needs
 
--- src/lib.rt:711:24
 add-t24 : tie.Need-add-t24
 add-t24 c = let a = c .before .before .before .before .before .before .args in
     let e = sym (c .before .before .before .data-head .ensures) ∙ c .before .id .given .1 in
@@ -44,7 +34,6 @@ add-t24 c = let a = c .before .before .before .before .before .before .args in
     let l = head-after (now (a .s)) (a .start) (a .end) _ (omega arith) (omega arith) tt e in
     omega arith
 
--- src/lib.rt:711:24
 add-t25 : tie.Need-add-t25
 add-t25 c = let a = c .before .before .before .before .before .before .args in
     let e = sym (c .before .before .before .data-head .ensures) ∙ c .before .id .given .1 in
@@ -52,7 +41,6 @@ add-t25 c = let a = c .before .before .before .before .before .before .args in
     let l = head-after (now (a .s)) (a .start) (a .end) _ (omega arith) (omega arith) tt e in
     omega arith
 
--- src/lib.rt:712:22
 sub-t26 : tie.Need-sub-t26
 sub-t26 c = let a = c .before .before .before .before .before .before .args in
     let e = sym (c .before .before .before .data-head .ensures) ∙ c .before .id .given .1 in
@@ -60,15 +48,12 @@ sub-t26 c = let a = c .before .before .before .before .before .before .args in
     let l = head-after (now (a .s)) (a .start) (a .end) _ (omega arith) (omega arith) tt e in
     omega arith
 
--- src/lib.rt:721:39
 add-t24-2 : tie.Need-add-t24-2
 add-t24-2 c = search needs
 
--- src/lib.rt:723:22
 enum-known-id-2 : tie.Need-enum-known-id-2
 enum-known-id-2 c = search needs
 
--- src/lib.rt:725:24
 add-t27 : tie.Need-add-t27
 add-t27 c = let a = c .before .before .before .before .before .before .args in
     let e = sym (c .before .before .before .data-head .ensures) ∙ c .before .id2 .given .1 in
@@ -76,7 +61,6 @@ add-t27 c = let a = c .before .before .before .before .before .before .args in
     let l = head-after (now (a .s)) (a .start) (a .end) _ (omega arith) (omega arith) tt e in
     omega arith
 
--- src/lib.rt:726:22
 add-t28 : tie.Need-add-t28
 add-t28 c = let a = c .before .before .before .before .before .before .args in
     let e = sym (c .before .before .before .data-head .ensures) ∙ c .before .id2 .given .1 in
@@ -84,7 +68,6 @@ add-t28 c = let a = c .before .before .before .before .before .before .args in
     let l = head-after (now (a .s)) (a .start) (a .end) _ (omega arith) (omega arith) tt e in
     omega arith
 
--- src/lib.rt:729:24
 add-t27-2 : tie.Need-add-t27-2
 add-t27-2 c = let a = c .before .before .before .before .before .before .args in
     let e = sym (c .before .before .before .data-head .ensures) ∙ c .before .id2 .given .1 in
@@ -92,7 +75,6 @@ add-t27-2 c = let a = c .before .before .before .before .before .before .args in
     let l = head-after (now (a .s)) (a .start) (a .end) _ (omega arith) (omega arith) tt e in
     omega arith
 
--- src/lib.rt:729:24
 add-t28-2 : tie.Need-add-t28-2
 add-t28-2 c = let a = c .before .before .before .before .before .before .args in
     let e = sym (c .before .before .before .data-head .ensures) ∙ c .before .id2 .given .1 in
@@ -100,7 +82,6 @@ add-t28-2 c = let a = c .before .before .before .before .before .before .args in
     let l = head-after (now (a .s)) (a .start) (a .end) _ (omega arith) (omega arith) tt e in
     omega arith
 
--- src/lib.rt:730:22
 sub-t29 : tie.Need-sub-t29
 sub-t29 c = let a = c .before .before .before .before .before .before .args in
     let e = sym (c .before .before .before .data-head .ensures) ∙ c .before .id2 .given .1 in
@@ -108,17 +89,14 @@ sub-t29 c = let a = c .before .before .before .before .before .before .args in
     let l = head-after (now (a .s)) (a .start) (a .end) _ (omega arith) (omega arith) tt e in
     omega arith
 
--- src/lib.rt:739:39
 add-t27-3 : tie.Need-add-t27-3
 add-t27-3 c = search needs
 
--- src/lib.rt:701:1
 returns : tie.Need-returns
 returns c = let a = c .before .before .before .before .before .args in
     let e = sym (c .before .before .data-head .ensures) ∙ c .enum-told .given .1 in
     (tidy-none (now (a .s)) (a .start) (a .end) (take (a .end - a .start) (drop (a .start) (now (a .s)))) (omega arith) (omega arith) _ e, tt)
 
--- src/lib.rt:701:1
 returns-2 : tie.Need-returns-2
 returns-2 c = let a = c .before .before .before .before .before .before .args in
     let e = sym (c .before .before .before .data-head .ensures) ∙ c .before .id .given .1 in
@@ -126,7 +104,6 @@ returns-2 c = let a = c .before .before .before .before .before .before .args in
     let l = head-after (now (a .s)) (a .start) (a .end) _ (omega arith) (omega arith) tt e in
     (tidy-complex (now (a .s)) (a .start) (a .end) (take (a .end - a .start) (drop (a .start) (now (a .s)))) (omega arith) (omega arith) _ _ (omega arith) e, (omega arith, omega arith, omega arith))
 
--- src/lib.rt:701:1
 returns-3 : tie.Need-returns-3
 returns-3 c = let a = c .before .before .before .before .before .before .args in
     let e = sym (c .before .before .before .data-head .ensures) ∙ c .before .id2 .given .1 in

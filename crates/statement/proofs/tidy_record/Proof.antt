@@ -4,57 +4,42 @@ use Prim.Native.Nat.{_+_}
 use lib.ListN.{length}
 use denote.Ref.{now}
 use native.Mathlib.Omega.{arith}
-use mathlib.Core.Path.{_≡_, sym, _∙_}
+use mathlib.Core.Path.{_∙_}
 use borrow.Author.Needs.{needs}
 use Rattle.statement.proofs.tidy_record.Statement.{statement}
 use Rattle.statement.proofs.tidy_record.Tie as tie
-use Rattle.statement.proofs.tidy_record.Reads as reads
-use Rattle.statement.proofs.tidy_record.Lts as lts
-use Rattle.record.proofs.leading_space.Reads as leading-space-reads
-use Rattle.statement.proofs.first_end.Reads as first-end-reads
-use Rattle.statement.proofs.tidy_at.Reads as tidy-at-reads
 
--- src/lib.rt:751:9
 returns : tie.Need-returns
 returns c = let a = c .before .before .args in
     (tidy-past (now (a .s)) (a .i) (c .if1 .taken), tt)
 
--- src/lib.rt:753:43
 sub-leading-space : tie.Need-sub-leading-space
 sub-leading-space c = search needs
 
--- src/lib.rt:753:43
 part-leading-space-start : tie.Need-part-leading-space-start
 part-leading-space-start c = search needs
 
--- src/lib.rt:753:43
 part-leading-space-end : tie.Need-part-leading-space-end
 part-leading-space-end c = search needs
 
--- src/lib.rt:753:21
 leading-space-requires : tie.Need-leading-space-requires
 leading-space-requires c κs = search needs
 
--- src/lib.rt:753:17
 add-start : tie.Need-add-start
 add-start c = search needs
 
--- src/lib.rt:754:9
 first-end-requires : tie.Need-first-end-requires
 first-end-requires c κs = search needs
 
--- src/lib.rt:756:9
 returns-2 : tie.Need-returns-2
 returns-2 c = let a = c .before .before .before .before .before .before .args in
     let r = c .before .before .leading-space in
     let f = c .before .first-end in
     (tidy-over (now (a .s)) (a .i) (a .i + r .result) (f .result) (space-at (now (a .s)) (a .i) (r .result) (omega arith) (r .ensures .0)) (f .ensures .0) (c .if2 .taken), tt)
 
--- src/lib.rt:758:5
 tidy-at-requires : tie.Need-tidy-at-requires
 tidy-at-requires c κs = search needs
 
--- src/lib.rt:746:1
 returns-3 : tie.Need-returns-3
 returns-3 c = let a = c .before .before .before .before .before .before .before .args in
     let r = c .before .before .before .leading-space in

@@ -1,38 +1,25 @@
-use Rattle.statement.specs.Usual.{UsualSaid}
-use denote.Ref.{now}
-use mathlib.Core.Path.{_≡_}
 use borrow.Author.Needs.{needs}
 use Rattle.statement.proofs.usual_at.Statement.{statement}
 use Rattle.statement.proofs.usual_at.Tie as tie
-use Rattle.statement.proofs.usual_at.Reads as reads
-use Rattle.statement.proofs.usual_at.Lts as lts
-use Rattle.statement.proofs.usual_record.Reads as usual-record-reads
 
--- src/lib.rt:474:29
 enum-told : tie.Need-enum-told
 enum-told c = search needs
 
--- src/lib.rt:475:30
 enum-told-2 : tie.Need-enum-told-2
 enum-told-2 c = search needs
 
--- src/lib.rt:476:28
 enum-told-3 : tie.Need-enum-told-3
 enum-told-3 c = search needs
 
--- src/lib.rt:476:28
 usual-record-requires : tie.Need-usual-record-requires
 usual-record-requires c κs = search needs
 
--- src/lib.rt:469:1
 returns : tie.Need-returns
 returns c = search needs
 
--- src/lib.rt:469:1
 returns-2 : tie.Need-returns-2
 returns-2 c = search needs
 
--- src/lib.rt:469:1
 returns-3 : tie.Need-returns-3
 returns-3 c = rw (c .before .enum-told3 .given .1) (c .usual-record .ensures)
 

@@ -1,18 +1,12 @@
 use Rattle.statement.specs.UsualLaws.{way-none, way-on, run-at, stop-at}
-use Rattle.statement.specs.Usual.{Way, Stepped}
-use Prim.Native.Nat.{ℕ, _+_, _-_, _≤_}
-use lib.ListN.{length, drop, getD}
+use Rattle.statement.specs.Usual.{Way}
+use Prim.Native.Nat.{_-_, _≤_}
+use lib.ListN.{length, drop}
 use denote.Ref.{now}
-use mathlib.Core.List.{List}
-use mathlib.Core.Path.{_≡_, ap, sym, _∙_}
 use native.Mathlib.Omega.{arith}
 use borrow.Author.Needs.{needs}
 use Rattle.statement.proofs.usual_close.Statement.{statement}
 use Rattle.statement.proofs.usual_close.Tie as tie
-use Rattle.statement.proofs.usual_close.Reads as reads
-use Rattle.statement.proofs.usual_close.Lts as lts
-use Rattle.statement.proofs.mark_step.Reads as mark-step-reads
-use Rattle.statement.proofs.plain_run.Reads as plain-run-reads
 
 abbrev Inv-loop : tie.InvT-loop
 Inv-loop s from i₀ depth₀ i depth = (from ≤ i) × (i ≤ length s) × (depth ≤ i) × Way 0 depth (drop from s) (drop i s)
@@ -20,27 +14,21 @@ Inv-loop s from i₀ depth₀ i depth = (from ≤ i) × (i ≤ length s) × (dep
 abbrev μ-loop : tie.MeasureT-loop
 μ-loop s from i₀ depth₀ i depth = length s - i
 
--- src/lib.rt:309:5
 loop-holds : tie.Need-loop-holds Inv-loop μ-loop
 loop-holds c = let a = c .before .args in (omega arith, omega arith, omega arith, way-none 0 (drop (a .from) (now (a .s))))
 
--- src/lib.rt:310:13
 plain-run-requires : tie.Need-plain-run-requires Inv-loop μ-loop
 plain-run-requires c κs = search needs
 
--- src/lib.rt:312:13
 returns : tie.Need-returns Inv-loop μ-loop
 returns c = λ h. absurd (omega arith)
 
--- src/lib.rt:314:15
 mark-step-requires : tie.Need-mark-step-requires Inv-loop μ-loop
 mark-step-requires c κs = (omega arith, omega (arith, c .before .plain-run .ensures .1))
 
--- src/lib.rt:315:24
 enum-known-at : tie.Need-enum-known-at Inv-loop μ-loop
 enum-known-at c = search needs
 
--- src/lib.rt:315:31
 returns-2 : tie.Need-returns-2 Inv-loop μ-loop
 returns-2 c = λ h.
     let k = c .before .before .before in
@@ -50,17 +38,14 @@ returns-2 c = λ h.
     let e = (rw (c .before .at .given .1) at (k .mark-step .ensures)) h in
     stop-at s (k .before .before .before .before .before .args .from) (r .result) _ (l .depth) e (omega (arith, r .ensures .1)) (way-on (l .inv .3) (run-at (l .depth) s (l .i) (r .result) (r .ensures .0)))
 
--- src/lib.rt:316:22
 enum-known-next : tie.Need-enum-known-next Inv-loop μ-loop
 enum-known-next c = search needs
 
--- src/lib.rt:309:5
 loop-less : tie.Need-loop-less Inv-loop μ-loop
 loop-less c = let k = c .before .before .before in
     let e = rw (c .before .next .given .1) at (k .mark-step .ensures) in
     omega (arith, k .before .before .plain-run .ensures .1, e .0, e .1)
 
--- src/lib.rt:309:5
 loop-again : tie.Need-loop-again Inv-loop μ-loop
 loop-again c = let k = c .before .before .before in
     let l = k .before .before .before .loop in

@@ -4,88 +4,63 @@ use native.Mathlib.Omega.{arith}
 use borrow.Author.Needs.{needs}
 use Rattle.statement.proofs.usual_record.Statement.{statement}
 use Rattle.statement.proofs.usual_record.Tie as tie
-use Rattle.statement.proofs.usual_record.Reads as reads
-use Rattle.statement.proofs.usual_record.Lts as lts
-use Rattle.statement.proofs.head_before.Reads as head-before-reads
-use Rattle.statement.proofs.plain_run.Reads as plain-run-reads
-use Rattle.statement.proofs.usual_close.Reads as usual-close-reads
-use Rattle.statement.proofs.usual_row.Reads as usual-row-reads
 
--- src/lib.rt:444:8
 shared-slice-read-if1 : tie.Need-shared-slice-read-if1
 shared-slice-read-if1 c = search needs
 
--- src/lib.rt:445:9
 returns : tie.Need-returns
 returns c = search needs
 
--- src/lib.rt:447:9
 plain-run-requires : tie.Need-plain-run-requires
 plain-run-requires c κs = search needs
 
--- src/lib.rt:449:9
 returns-2 : tie.Need-returns-2
 returns-2 c = search needs
 
--- src/lib.rt:451:8
 shared-slice-read-if3 : tie.Need-shared-slice-read-if3
 shared-slice-read-if3 c = search needs
 
--- src/lib.rt:452:9
 returns-3 : tie.Need-returns-3
 returns-3 c = search needs
 
--- src/lib.rt:454:32
 add-usual-close : tie.Need-add-usual-close
 add-usual-close c = search needs
 
--- src/lib.rt:454:9
 usual-close-requires : tie.Need-usual-close-requires
 usual-close-requires c κs = search needs
 
--- src/lib.rt:456:9
 returns-4 : tie.Need-returns-4
 returns-4 c = search needs
 
--- src/lib.rt:458:28
 add-plain-run : tie.Need-add-plain-run
 add-plain-run c = search needs
 
--- src/lib.rt:458:9
 plain-run-requires-2 : tie.Need-plain-run-requires-2
 plain-run-requires-2 c κs = search needs
 
--- src/lib.rt:460:9
 returns-5 : tie.Need-returns-5
 returns-5 c = search needs
 
--- src/lib.rt:462:8
 shared-slice-read-if6 : tie.Need-shared-slice-read-if6
 shared-slice-read-if6 c = search needs
 
--- src/lib.rt:463:9
 returns-6 : tie.Need-returns-6
 returns-6 c = search needs
 
--- src/lib.rt:465:30
 sub-head-before : tie.Need-sub-head-before
 sub-head-before c = search needs
 
--- src/lib.rt:465:30
 part-head-before-start : tie.Need-part-head-before-start
 part-head-before-start c = search needs
 
--- src/lib.rt:465:30
 part-head-before-end : tie.Need-part-head-before-end
 part-head-before-end c = search needs
 
--- src/lib.rt:465:18
 head-before-requires : tie.Need-head-before-requires
 head-before-requires c κs = let a = c .before .before .before .before .before .before .before .before .before .before .before .before .before .before .args in
     let r = c .before .before .before .before .before .before .before .before .before .before .plain-run in
     run-free (now (a .s)) (a .start) (r .result) (r .ensures .0) (r .ensures .1 .0) (r .ensures .1 .1)
 
--- src/lib.rt:465:5
 usual-row-requires : tie.Need-usual-row-requires
 usual-row-requires c κs = let a = c .before .before .before .before .before .before .before .before .before .before .before .before .before .before .before .args in
     let r = c .before .before .before .before .before .before .before .before .before .before .before .plain-run in
@@ -96,7 +71,6 @@ usual-row-requires c κs = let a = c .before .before .before .before .before .be
       c .head-before .ensures,
     )
 
--- src/lib.rt:440:1
 returns-7 : tie.Need-returns-7
 returns-7 c = search needs
 

@@ -4,34 +4,25 @@ use native.Mathlib.Omega.{arith}
 use borrow.Author.Needs.{needs}
 use Rattle.statement.proofs.usual_row.Statement.{statement}
 use Rattle.statement.proofs.usual_row.Tie as tie
-use Rattle.statement.proofs.usual_row.Reads as reads
-use Rattle.statement.proofs.usual_row.Lts as lts
 
--- src/lib.rt:455:16
 add-t18 : tie.Need-add-t18
 add-t18 c = search needs
 
--- src/lib.rt:459:25
 enum-told : tie.Need-enum-told
 enum-told c = search needs
 
--- src/lib.rt:460:23
 enum-known-head : tie.Need-enum-known-head
 enum-known-head c = search needs
 
--- src/lib.rt:469:32
 add-t20 : tie.Need-add-t20
 add-t20 c = search needs
 
--- src/lib.rt:469:41
 add-t21 : tie.Need-add-t21
 add-t21 c = search needs
 
--- src/lib.rt:471:22
 enum-known-head-2 : tie.Need-enum-known-head-2
 enum-known-head-2 c = search needs
 
--- src/lib.rt:473:24
 add-t23 : tie.Need-add-t23
 add-t23 c = let b = c .before .before .before in
     let a = b .args in
@@ -39,7 +30,6 @@ add-t23 c = let b = c .before .before .before in
     let f = head-fits (now (a .s)) (a .start) (a .opening) (a .close) (a .end) w _ _ _ _ (rw (c .before .head2 .given .1) at (b .pre .1)) in
     record { fits = omega (arith, f .0, f .1, w .over, w .upto, w .within) }
 
--- src/lib.rt:474:22
 add-t24 : tie.Need-add-t24
 add-t24 c = let b = c .before .before .before in
     let a = b .args in
@@ -47,19 +37,15 @@ add-t24 c = let b = c .before .before .before in
     let f = head-fits (now (a .s)) (a .start) (a .opening) (a .close) (a .end) w _ _ _ _ (rw (c .before .head2 .given .1) at (b .pre .1)) in
     record { fits = omega (arith, f .0, f .1, w .over, w .upto, w .within) }
 
--- src/lib.rt:483:32
 add-t23-2 : tie.Need-add-t23-2
 add-t23-2 c = search needs
 
--- src/lib.rt:483:41
 add-t24-2 : tie.Need-add-t24-2
 add-t24-2 c = search needs
 
--- src/lib.rt:450:1
 returns : tie.Need-returns
 returns c = search needs
 
--- src/lib.rt:450:1
 returns-2 : tie.Need-returns-2
 returns-2 c = let b = c .before .before .before in
     let a = b .args in
@@ -70,7 +56,6 @@ returns-2 c = let b = c .before .before .before in
       tidy-walked (now (a .s)) (a .start) (a .opening) (a .close) (a .end) w,
     )
 
--- src/lib.rt:450:1
 returns-3 : tie.Need-returns-3
 returns-3 c = let b = c .before .before .before in
     let a = b .args in

@@ -1,74 +1,54 @@
 use Prim.Native.Nat.{_+_}
 use Rattle.statement.specs.UsualLaws.{space-at}
 use Rattle.statement.specs.UsualHead.{Fronted, fronted, head-complex, head-simple}
-use lib.ListN.{length, length-drop, length-take}
 use denote.Ref.{now}
 use native.Mathlib.Omega.{arith}
 use borrow.Author.Needs.{needs}
 use Rattle.statement.proofs.value_before.Statement.{statement}
 use Rattle.statement.proofs.value_before.Tie as tie
-use Rattle.statement.proofs.value_before.Reads as reads
-use Rattle.statement.proofs.value_before.Lts as lts
-use Rattle.record.proofs.leading_space.Reads as leading-space-reads
-use Rattle.statement.proofs.trim_at.Reads as trim-at-reads
 
--- src/lib.rt:373:42
 sub-leading-space : tie.Need-sub-leading-space
 sub-leading-space c = search needs
 
--- src/lib.rt:373:42
 part-leading-space-start : tie.Need-part-leading-space-start
 part-leading-space-start c = search needs
 
--- src/lib.rt:373:42
 part-leading-space-end : tie.Need-part-leading-space-end
 part-leading-space-end c = search needs
 
--- src/lib.rt:373:20
 leading-space-requires : tie.Need-leading-space-requires
 leading-space-requires c κs = search needs
 
--- src/lib.rt:373:13
 add-q : tie.Need-add-q
 add-q c = search needs
 
--- src/lib.rt:375:9
 returns : tie.Need-returns
 returns c = search needs
 
--- src/lib.rt:377:8
 shared-slice-read-if2 : tie.Need-shared-slice-read-if2
 shared-slice-read-if2 c = search needs
 
--- src/lib.rt:378:9
 returns-2 : tie.Need-returns-2
 returns-2 c = search needs
 
--- src/lib.rt:380:17
 add-value : tie.Need-add-value
 add-value c = search needs
 
--- src/lib.rt:381:43
 sub-leading-space-2 : tie.Need-sub-leading-space-2
 sub-leading-space-2 c = search needs
 
--- src/lib.rt:381:43
 part-leading-space-start-2 : tie.Need-part-leading-space-start-2
 part-leading-space-start-2 c = search needs
 
--- src/lib.rt:381:43
 part-leading-space-end-2 : tie.Need-part-leading-space-end-2
 part-leading-space-end-2 c = search needs
 
--- src/lib.rt:381:21
 leading-space-requires-2 : tie.Need-leading-space-requires-2
 leading-space-requires-2 c κs = search needs
 
--- src/lib.rt:381:13
 add-a : tie.Need-add-a
 add-a c = search needs
 
--- src/lib.rt:383:9
 returns-3 : tie.Need-returns-3
 returns-3 c = let b = c .before .before .before .before .before .before .before .before .before in
     let t = now (b .args .t) in
@@ -80,11 +60,9 @@ returns-3 c = let b = c .before .before .before .before .before .before .before 
     (space-at t (q + 1) _ (omega arith) (c .before .leading-space2 .ensures .0)) in
     (omega arith, head-complex t (b .args .id) a f (c .if3 .taken) (omega arith))
 
--- src/lib.rt:385:25
 trim-at-requires : tie.Need-trim-at-requires
 trim-at-requires c κs = search needs
 
--- src/lib.rt:369:1
 returns-4 : tie.Need-returns-4
 returns-4 c = let b = c .before .before .before .before .before .before .before .before .before .before in
     let t = now (b .args .t) in

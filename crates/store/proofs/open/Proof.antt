@@ -9,52 +9,37 @@ use Rattle.index.specs.Index.{Built}
 use Rattle.store.specs.Laws.{all-indexed}
 use Rattle.store.proofs.open.Statement.{statement}
 use Rattle.store.proofs.open.Tie as tie
-use Rattle.store.proofs.open.Reads as reads
-use Rattle.store.proofs.open.Lts as lts
-use Rattle.index.proofs.build.Reads as build-reads
-use Rattle.scan.proofs.scan.Reads as scan-reads
 
--- src/lib.rt:28:11
 scan-requires : tie.Need-scan-requires
 scan-requires c κs = search needs
 
--- src/lib.rt:29:26
 enum-known-f : tie.Need-enum-known-f
 enum-known-f c = search needs
 
--- src/lib.rt:31:22
 enum-known-h : tie.Need-enum-known-h
 enum-known-h c = search needs
 
--- src/lib.rt:35:17
 build-requires : tie.Need-build-requires
 build-requires c κs = search needs
 
--- src/lib.rt:21:1
 same-length : tie.Need-same-length
 same-length c = search needs
 
--- src/lib.rt:21:1
 same-length-2 : tie.Need-same-length-2
 same-length-2 c = search needs
 
--- src/lib.rt:21:1
 returns : tie.Need-returns
 returns c = (sym (ap toldScan (c .before .f .given .1)) ∙ c .before .before .before .before .before .before .before .scan .ensures .0, (c .before .before .before .before .before .before .before .scan .ensures .1 .0, (c .before .before .before .before .before .before .before .scan .ensures .1 .1, refl)))
 
--- src/lib.rt:21:1
 same-length-3 : tie.Need-same-length-3
 same-length-3 c = search needs
 
--- src/lib.rt:21:1
 same-length-4 : tie.Need-same-length-4
 same-length-4 c = search needs
 
--- src/lib.rt:21:1
 same-length-5 : tie.Need-same-length-5
 same-length-5 c = search needs
 
--- src/lib.rt:21:1
 returns-2 : tie.Need-returns-2
 returns-2 c =
     let told = sym (ap toldScan (c .before .before .before .before .before .before .h .given .1)) ∙ c .before .before .before .before .before .before .before .before .before .before .before .before .scan .ensures .0 in

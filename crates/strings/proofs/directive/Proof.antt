@@ -1,10 +1,9 @@
 use borrow.Author.Needs.{needs}
 use native.Mathlib.Omega.{arith}
-use mathlib.Core.Path.{_≡_, refl, sym, _∙_, ap}
-use mathlib.Core.List.{[], _∷_}
+use mathlib.Core.Path.{_∙_, ap}
 use denote.Ref.{now}
 use lib.ListN.{drop}
-use Rattle.strings.specs.Text.{directiveOf, longOf, extended, groupsFrom, gives, Piece}
+use Rattle.strings.specs.Text.{directiveOf, extended, groupsFrom}
 use Rattle.strings.specs.Code.{viewOf}
 use Rattle.strings.specs.Ways.{moved-view, moved-one, short-some, short-none, marked-four, long-two, long-four, long-none}
 use Rattle.strings.proofs.directive.Statement.{statement}

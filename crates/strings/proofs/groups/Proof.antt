@@ -5,12 +5,8 @@ use lib.ListN.{length, drop}
 use Rattle.strings.specs.Steps.{Reading, rest-is, reading-starts, reading-ends, reading-stops, reading-breaks, reading-goes}
 use borrow.Author.Needs.{needs}
 use mathlib.Core.Path.{_≡_, sym, _∙_, ap}
-use mathlib.Core.Bool.{true, false, _||_}
-use mathlib.Core.List.{List}
-use Prim.Native.Nat.{ℕ, _<_, _≤_, _+_}
+use mathlib.Core.Bool.{true, false}
 use lib.ListN.{take, length-drop}
-use lib.Dec.{ltb, eqb}
-use Rattle.utf8.specs.Utf8.{byteAt}
 use Rattle.strings.specs.Text.{closing}
 use Rattle.strings.specs.Steps.{told-char, told-wrong, ends, closing-fits}
 use Rattle.strings.specs.Steps.{used-fits}

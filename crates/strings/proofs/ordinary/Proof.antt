@@ -1,6 +1,5 @@
 use borrow.Author.Needs.{needs}
 use native.Mathlib.Omega.{arith}
-use mathlib.Core.Path.{sym, _∙_}
 use denote.Ref.{now}
 use Rattle.strings.specs.Ways.{is-quote, is-ascii, is-latin, is-sequence}
 use Rattle.strings.proofs.ordinary.Statement.{statement}

@@ -1,8 +1,8 @@
 use borrow.Author.Needs.{needs}
 use native.Mathlib.Omega.{arith}
-use mathlib.Core.Path.{_≡_, refl, sym, _∙_, ap}
+use mathlib.Core.Path.{sym}
 use denote.Ref.{now}
-use Rattle.strings.specs.Text.{directiveOf, pieceOf}
+use Rattle.strings.specs.Text.{pieceOf}
 use Rattle.strings.specs.Ways.{moved-one, piece-directive, no-directive}
 use Rattle.strings.proofs.step.Statement.{statement}
 use Rattle.strings.proofs.step.Tie as tie

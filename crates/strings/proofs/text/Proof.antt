@@ -1,8 +1,8 @@
 use borrow.Author.Needs.{needs}
 use native.Mathlib.Omega.{arith}
-use mathlib.Core.Path.{refl, sym, _∙_}
+use mathlib.Core.Path.{refl, sym}
 use denote.Ref.{now}
-use lib.Seq.{length-take-le, take-all}
+use lib.Seq.{length-take-le}
 use Rattle.strings.specs.Decoded.{shown-all}
 use Rattle.strings.proofs.text.Statement.{statement}
 use Rattle.strings.proofs.text.Tie as tie

@@ -10,9 +10,6 @@ use Rattle.text.specs.Put.{Put}
 use Rattle.text.proofs.Laws.{put-start, put-more}
 use Rattle.text.proofs.bytes.Statement.{statement}
 use Rattle.text.proofs.bytes.Tie as tie
-use Rattle.text.proofs.bytes.Reads as reads
-use Rattle.text.proofs.bytes.Lts as lts
-use Rattle.text.proofs.byte.Reads as byte-reads
 
 abbrev Inv-loop : tie.InvT-loop
 Inv-loop buffer₀ words last₀ i₀ buffer last i =

@@ -1,47 +1,34 @@
 use borrow.Author.Needs.{needs}
-use mathlib.Core.Path.{_≡_, refl, sym, _∙_, ap}
+use mathlib.Core.Path.{sym, _∙_, ap}
 use denote.Ref.{now}
 use lib.ListN.{length}
 use Rattle.params.specs.Reader.{toldSkipped}
 use Rattle.titles.specs.Title.{title-few, title-read}
 use Rattle.titles.proofs.title_at.Statement.{statement}
 use Rattle.titles.proofs.title_at.Tie as tie
-use Rattle.titles.proofs.title_at.Reads as reads
-use Rattle.titles.proofs.title_at.Lts as lts
-use Rattle.params.proofs.skip_n.Reads as skip-n-reads
-use Rattle.titles.proofs.titled.Reads as titled-reads
-use Rattle.words.proofs.next_str.Reads as next-str-reads
 
--- src/lib.rt:47:11
 skip-n-requires : tie.Need-skip-n-requires
 skip-n-requires c κs = search needs
 
--- src/lib.rt:48:35
 enum-told : tie.Need-enum-told
 enum-told c = search needs
 
--- src/lib.rt:49:23
 enum-known-to : tie.Need-enum-known-to
 enum-known-to c = search needs
 
--- src/lib.rt:49:37
 next-str-requires : tie.Need-next-str-requires
 next-str-requires c κs = search needs
 
--- src/lib.rt:49:30
 titled-requires : tie.Need-titled-requires
 titled-requires c κs = search needs
 
--- src/lib.rt:43:1
 returns : tie.Need-returns
 returns c = let k = c .before .before in let a = k .before .before .before .args in
     title-few (now (a .file)) (now (a .out)) (length (now (a .out))) (a .before) (a .place) (a .end) _ _ _ (ap toldSkipped (sym (c .enum-told .given .1)) ∙ k .skip-n .ensures)
 
--- src/lib.rt:43:1
 same-length : tie.Need-same-length
 same-length c = search needs
 
--- src/lib.rt:43:1
 returns-2 : tie.Need-returns-2
 returns-2 c = let n = c .before .before .before in let t = n .before .before .before in let a = t .before .before .before .before .before .args in
     title-read (now (a .file)) (now (a .out)) (length (now (a .out))) (a .before) (a .place) (a .end) _ _ _ _ _ (ap toldSkipped (sym (t .to .given .1)) ∙ t .before .before .skip-n .ensures) (n .next-str .ensures .0) (n .next-str .ensures .1) (c .titled .ensures)

@@ -1,55 +1,41 @@
 use borrow.Author.Needs.{needs}
-use mathlib.Core.Path.{_≡_, refl, sym, _∙_, ap}
+use mathlib.Core.Path.{refl, sym, _∙_, ap}
 use denote.Ref.{now}
 use lib.ListN.{length}
 use Rattle.headers.specs.Header.{toldHeader}
 use Rattle.titles.specs.Title.{title-by}
 use Rattle.titles.proofs.title_of.Statement.{statement}
 use Rattle.titles.proofs.title_of.Tie as tie
-use Rattle.titles.proofs.title_of.Reads as reads
-use Rattle.titles.proofs.title_of.Lts as lts
-use Rattle.headers.proofs.header_args.Reads as header-args-reads
-use Rattle.titles.proofs.title_at.Reads as title-at-reads
 
--- src/lib.rt:58:48
 slice-aggregate-header-args : tie.Need-slice-aggregate-header-args
 slice-aggregate-header-args c = search needs
 
--- src/lib.rt:58:11
 header-args-requires : tie.Need-header-args-requires
 header-args-requires c κs = search needs
 
--- src/lib.rt:59:33
 enum-told : tie.Need-enum-told
 enum-told c = search needs
 
--- src/lib.rt:60:30
 enum-known-f : tie.Need-enum-known-f
 enum-known-f c = search needs
 
--- src/lib.rt:61:27
 enum-known-r : tie.Need-enum-known-r
 enum-known-r c = search needs
 
--- src/lib.rt:61:33
 title-at-requires : tie.Need-title-at-requires
 title-at-requires c κs = search needs
 
--- src/lib.rt:54:1
 returns : tie.Need-returns
 returns c = let k = c .before .before in let a = k .before .before .before .before .before .args in
     title-by (now (a .file)) (now (a .out)) (length (now (a .out))) (a .before) _ _ _ _ (ap toldHeader (sym (c .enum-told .given .1)) ∙ k .header-args .ensures) refl refl
 
--- src/lib.rt:54:1
 returns-2 : tie.Need-returns-2
 returns-2 c = let k = c .before .before .before in let a = k .before .before .before .before .before .args in
     title-by (now (a .file)) (now (a .out)) (length (now (a .out))) (a .before) _ _ _ _ (ap toldHeader (sym (c .before .f .given .1)) ∙ k .header-args .ensures) refl refl
 
--- src/lib.rt:54:1
 same-length : tie.Need-same-length
 same-length c = search needs
 
--- src/lib.rt:54:1
 returns-3 : tie.Need-returns-3
 returns-3 c = let t = c .before .before .before .before .before in let k = t .before .before in let a = k .before .before .before .before .before .args in
     title-by (now (a .file)) (now (a .out)) (length (now (a .out))) (a .before) _ _ _ _ (ap toldHeader (sym (t .r .given .1)) ∙ k .header-args .ensures) (c .before .before .title-at .ensures .0) (c .before .before .title-at .ensures .1)

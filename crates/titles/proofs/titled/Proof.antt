@@ -1,43 +1,32 @@
 use borrow.Author.Needs.{needs}
 use native.Mathlib.Omega.{arith}
-use mathlib.Core.Path.{_≡_, refl, sym, _∙_, ap}
+use mathlib.Core.Path.{refl}
 use borrow.Author.Tests.{eq-eqb, ne-eqb}
 use Rattle.error.specs.Refusal.{told}
 use Rattle.titles.proofs.titled.Statement.{statement}
 use Rattle.titles.proofs.titled.Tie as tie
-use Rattle.titles.proofs.titled.Reads as reads
-use Rattle.titles.proofs.titled.Lts as lts
-use Rattle.error.proofs.number.Reads as number-reads
 
--- src/lib.rt:31:26
 enum-known-r : tie.Need-enum-known-r
 enum-known-r c = search needs
 
--- src/lib.rt:32:26
 enum-known-r-2 : tie.Need-enum-known-r-2
 enum-known-r-2 c = search needs
 
--- src/lib.rt:33:27
 enum-known-r-3 : tie.Need-enum-known-r-3
 enum-known-r-3 c = search needs
 
--- src/lib.rt:34:16
 number-requires : tie.Need-number-requires
 number-requires c κs = search needs
 
--- src/lib.rt:35:17
 returns : tie.Need-returns
 returns c = rw (c .before .before .before .r3 .given .1, eq-eqb (told (c .before .before .before .r3 .given .0 .0) .number) 16 (omega (arith, c .before .number .ensures))) refl
 
--- src/lib.rt:27:1
 returns-2 : tie.Need-returns-2
 returns-2 c = rw (c .before .r .given .1) refl
 
--- src/lib.rt:27:1
 returns-3 : tie.Need-returns-3
 returns-3 c = rw (c .before .r2 .given .1) refl
 
--- src/lib.rt:27:1
 returns-4 : tie.Need-returns-4
 returns-4 c = rw (c .before .before .before .r3 .given .1, ne-eqb (told (c .before .before .before .r3 .given .0 .0) .number) 16 (omega (arith, c .before .number .ensures))) refl
 

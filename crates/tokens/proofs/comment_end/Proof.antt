@@ -1,22 +1,14 @@
-use Rattle.tokens.specs.Leap.{fromByte, heads}
-use Rattle.tokens.specs.Laws.{byte-here, byte-next, byte-none, heads-at, heads-past}
 use Rattle.lex.specs.Seek.{drop-within}
-use lib.ListN.{length, drop, getD}
+use lib.ListN.{length, drop}
 use Prim.Native.Nat.{ℕ, _-_, _≤_, min, _+_}
-use mathlib.Core.Path.{_≡_, refl, _∙_, sym, ap}
+use mathlib.Core.Path.{_≡_, _∙_, sym, ap}
 use native.Mathlib.Omega.{arith}
 use borrow.Author.Needs.{needs}
 use denote.Ref.{now}
 use Rattle.tokens.specs.Laws.{comment-none, comment-last, comment-more, heads-short}
-use Rattle.tokens.specs.Leap.{commentRest, ends}
-use mathlib.Core.Bool.{Bool, true, false}
+use Rattle.tokens.specs.Leap.{commentRest}
 use Rattle.tokens.proofs.comment_end.Statement.{statement}
 use Rattle.tokens.proofs.comment_end.Tie as tie
-use Rattle.tokens.proofs.comment_end.Reads as reads
-use Rattle.tokens.proofs.comment_end.Lts as lts
-use Rattle.lex.proofs.within.Reads as within-reads
-use Rattle.tokens.proofs.find_byte.Reads as find-byte-reads
-use Rattle.tokens.proofs.is_at.Reads as is-at-reads
 
 abbrev Inv-loop : tie.InvT-loop
 Inv-loop s start i₀ i = (min start (length s) ≤ i) × (i ≤ length s) × (commentRest (drop i s) ≡ commentRest (drop start s))
@@ -24,11 +16,9 @@ Inv-loop s start i₀ i = (min start (length s) ≤ i) × (i ≤ length s) × (c
 abbrev μ-loop : tie.MeasureT-loop
 μ-loop s start i₀ i = length s - i
 
--- src/lib.rt:64:9
 within-requires : tie.Need-within-requires Inv-loop μ-loop
 within-requires c κs = search needs
 
--- src/lib.rt:65:5
 loop-holds : tie.Need-loop-holds Inv-loop μ-loop
 loop-holds c = let s = now (c .before .before .args .s) in (
   omega (arith, c .within .ensures),
@@ -36,29 +26,23 @@ loop-holds c = let s = now (c .before .before .args .s) in (
   ap commentRest (ap (λ (k : ℕ). drop k s) (c .within .ensures) ∙ drop-within s (c .before .before .args .start)),
 )
 
--- src/lib.rt:66:13
 find-byte-requires : tie.Need-find-byte-requires Inv-loop μ-loop
 find-byte-requires c κs = search needs
 
--- src/lib.rt:68:13
 returns : tie.Need-returns Inv-loop μ-loop
 returns c = let l = c .before .before .loop in
     let s = now (c .before .before .before .before .before .args .s) in
     (sym (comment-none s (l .i) (c .before .find-byte .result) (c .before .find-byte .ensures .0) (omega arith)) ∙ l .inv .2, tt)
 
--- src/lib.rt:70:21
 add-is-at : tie.Need-add-is-at Inv-loop μ-loop
 add-is-at c = omega (arith, c .before .find-byte .ensures .1)
 
--- src/lib.rt:70:12
 is-at-requires : tie.Need-is-at-requires Inv-loop μ-loop
 is-at-requires c κs = search needs
 
--- src/lib.rt:71:29
 add-t9 : tie.Need-add-t9 Inv-loop μ-loop
 add-t9 c = omega (arith, c .before .before .before .find-byte .ensures .1)
 
--- src/lib.rt:71:13
 returns-2 : tie.Need-returns-2 Inv-loop μ-loop
 returns-2 c = let p = c .before .before .before in
     let l = p .before .loop in
@@ -69,15 +53,12 @@ returns-2 c = let p = c .before .before .before in
     let m = heads-short 47 s (q + 1) e in
     (sym (comment-last s (l .i) q (p .find-byte .ensures .0) (omega arith) e) ∙ l .inv .2, (omega (arith, k), omega (arith, m)))
 
--- src/lib.rt:73:13
 add-i : tie.Need-add-i Inv-loop μ-loop
 add-i c = omega (arith, c .before .before .before .find-byte .ensures .1)
 
--- src/lib.rt:65:5
 loop-less : tie.Need-loop-less Inv-loop μ-loop
 loop-less c = omega (arith, c .before .before .before .find-byte .ensures .1)
 
--- src/lib.rt:65:5
 loop-again : tie.Need-loop-again Inv-loop μ-loop
 loop-again c = let p = c .before .before .before in
     let l = p .before .loop in

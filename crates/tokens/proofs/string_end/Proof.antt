@@ -1,23 +1,15 @@
 use borrow.Author.Tests.{not-true, not-false}
-use Rattle.tokens.specs.Leap.{fromByte, heads}
-use Rattle.tokens.specs.Laws.{byte-here, byte-next, byte-none, heads-at, heads-past}
 use Rattle.lex.specs.Seek.{drop-within}
-use lib.ListN.{length, drop, getD}
+use lib.ListN.{length, drop}
 use Prim.Native.Nat.{ℕ, _-_, _≤_, min, _+_}
-use mathlib.Core.Path.{_≡_, refl, _∙_, sym, ap}
+use mathlib.Core.Path.{_≡_, _∙_, sym, ap}
 use native.Mathlib.Omega.{arith}
 use borrow.Author.Needs.{needs}
 use denote.Ref.{now}
 use Rattle.tokens.specs.Laws.{string-none, string-last, string-more, heads-short}
-use Rattle.tokens.specs.Leap.{stringRest, ends}
-use mathlib.Core.Bool.{Bool, true, false}
+use Rattle.tokens.specs.Leap.{stringRest}
 use Rattle.tokens.proofs.string_end.Statement.{statement}
 use Rattle.tokens.proofs.string_end.Tie as tie
-use Rattle.tokens.proofs.string_end.Reads as reads
-use Rattle.tokens.proofs.string_end.Lts as lts
-use Rattle.lex.proofs.within.Reads as within-reads
-use Rattle.tokens.proofs.find_byte.Reads as find-byte-reads
-use Rattle.tokens.proofs.is_at.Reads as is-at-reads
 
 abbrev Inv-loop : tie.InvT-loop
 Inv-loop s start i₀ i = (min start (length s) ≤ i) × (i ≤ length s) × (stringRest (drop i s) ≡ stringRest (drop start s))
@@ -25,11 +17,9 @@ Inv-loop s start i₀ i = (min start (length s) ≤ i) × (i ≤ length s) × (s
 abbrev μ-loop : tie.MeasureT-loop
 μ-loop s start i₀ i = length s - i
 
--- src/lib.rt:46:9
 within-requires : tie.Need-within-requires Inv-loop μ-loop
 within-requires c κs = search needs
 
--- src/lib.rt:47:5
 loop-holds : tie.Need-loop-holds Inv-loop μ-loop
 loop-holds c = let s = now (c .before .before .args .s) in (
   omega (arith, c .within .ensures),
@@ -37,29 +27,23 @@ loop-holds c = let s = now (c .before .before .args .s) in (
   ap stringRest (ap (λ (k : ℕ). drop k s) (c .within .ensures) ∙ drop-within s (c .before .before .args .start)),
 )
 
--- src/lib.rt:48:13
 find-byte-requires : tie.Need-find-byte-requires Inv-loop μ-loop
 find-byte-requires c κs = search needs
 
--- src/lib.rt:50:13
 returns : tie.Need-returns Inv-loop μ-loop
 returns c = let l = c .before .before .loop in
     let s = now (c .before .before .before .before .before .args .s) in
     (sym (string-none s (l .i) (c .before .find-byte .result) (c .before .find-byte .ensures .0) (omega arith)) ∙ l .inv .2, tt)
 
--- src/lib.rt:52:22
 add-is-at : tie.Need-add-is-at Inv-loop μ-loop
 add-is-at c = omega (arith, c .before .find-byte .ensures .1)
 
--- src/lib.rt:52:13
 is-at-requires : tie.Need-is-at-requires Inv-loop μ-loop
 is-at-requires c κs = search needs
 
--- src/lib.rt:53:29
 add-t9 : tie.Need-add-t9 Inv-loop μ-loop
 add-t9 c = omega (arith, c .before .before .before .find-byte .ensures .1)
 
--- src/lib.rt:53:13
 returns-2 : tie.Need-returns-2 Inv-loop μ-loop
 returns-2 c = let p = c .before .before .before in
     let l = p .before .loop in
@@ -68,15 +52,12 @@ returns-2 c = let p = c .before .before .before in
     let k = p .find-byte .ensures .1 in
     (sym (string-last s (l .i) q (p .find-byte .ensures .0) (omega arith) (sym (c .before .is-at .ensures) ∙ not-true _ (c .if2 .taken))) ∙ l .inv .2, (omega (arith, k), omega arith))
 
--- src/lib.rt:55:13
 add-i : tie.Need-add-i Inv-loop μ-loop
 add-i c = omega (arith, c .before .before .before .find-byte .ensures .1)
 
--- src/lib.rt:47:5
 loop-less : tie.Need-loop-less Inv-loop μ-loop
 loop-less c = omega (arith, c .before .before .before .find-byte .ensures .1)
 
--- src/lib.rt:47:5
 loop-again : tie.Need-loop-again Inv-loop μ-loop
 loop-again c = let p = c .before .before .before in
     let l = p .before .loop in

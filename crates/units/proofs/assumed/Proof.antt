@@ -7,10 +7,7 @@ use Rattle.units.specs.Units.{units}
 use Rattle.units.specs.Laws.{one-bits, thousandth-bits}
 use Rattle.units.proofs.assumed.Statement.{statement}
 use Rattle.units.proofs.assumed.Tie as tie
-use Rattle.units.proofs.assumed.Reads as reads
-use Rattle.units.proofs.assumed.Lts as lts
 
--- src/lib.rt:47:1
 returns : tie.Need-returns
 returns c = ap (λ (x : ℕ). units x x (toBits binary64 (ofBits binary64 4562254508917369340)) false) one-bits ∙ ap (λ (x : ℕ). units (near 1 1) (near 1 1) x false) thousandth-bits
 

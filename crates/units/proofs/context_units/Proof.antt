@@ -8,45 +8,31 @@ use Rattle.units.specs.Code.{toldAsked}
 use Rattle.units.specs.Laws.{or-refused, or-other, or-context}
 use Rattle.units.proofs.context_units.Statement.{statement}
 use Rattle.units.proofs.context_units.Tie as tie
-use Rattle.units.proofs.context_units.Reads as reads
-use Rattle.units.proofs.context_units.Lts as lts
-use Rattle.units.proofs.assumed.Reads as assumed-reads
-use Rattle.units.proofs.is_context.Reads as is-context-reads
-use Rattle.units.proofs.listed.units_of_context.Reads as units-of-context-reads
 
--- src/lib.rt:76:11
 is-context-requires : tie.Need-is-context-requires
 is-context-requires c κs = search needs
 
--- src/lib.rt:77:24
 enum-known-f : tie.Need-enum-known-f
 enum-known-f c = search needs
 
--- src/lib.rt:78:35
 enum-told : tie.Need-enum-told
 enum-told c = search needs
 
--- src/lib.rt:78:35
 assumed-requires : tie.Need-assumed-requires
 assumed-requires c κs = search needs
 
--- src/lib.rt:79:23
 enum-told-2 : tie.Need-enum-told-2
 enum-told-2 c = search needs
 
--- src/lib.rt:79:23
 units-of-context-requires : tie.Need-units-of-context-requires
 units-of-context-requires c κs = search needs
 
--- src/lib.rt:73:1
 returns : tie.Need-returns
 returns c = let a = c .before .before .before .before .before .before .before .args in let s = now (a .file) in let find = findOf s (now (a .rows)) (now (a .slots)) (a .t .ids) in let t = thingOf s (rowOf (a .row)) in or-refused s find t (ap toldAsked (sym (c .before .f .given .1)) ∙ c .before .before .before .is-context .ensures)
 
--- src/lib.rt:73:1
 returns-2 : tie.Need-returns-2
 returns-2 c = let a = c .before .before .before .before .before .before .before .args in let s = now (a .file) in let find = findOf s (now (a .rows)) (now (a .slots)) (a .t .ids) in let t = thingOf s (rowOf (a .row)) in ap good (c .assumed .ensures) ∙ or-other s find t (ap toldAsked (sym (c .before .enum-told .given .1)) ∙ c .before .before .before .is-context .ensures)
 
--- src/lib.rt:73:1
 returns-3 : tie.Need-returns-3
 returns-3 c = let a = c .before .before .before .before .before .before .before .args in let s = now (a .file) in let find = findOf s (now (a .rows)) (now (a .slots)) (a .t .ids) in let t = thingOf s (rowOf (a .row)) in or-context s find t (ap toldAsked (sym (c .before .enum-told2 .given .1)) ∙ c .before .before .before .is-context .ensures) (c .units-of-context .ensures)
 

@@ -11,52 +11,37 @@ use Rattle.units.specs.Units.{readsInteger}
 use Rattle.units.specs.Laws.{context-is, whole-reads}
 use Rattle.units.proofs.is_context.Statement.{statement}
 use Rattle.units.proofs.is_context.Tie as tie
-use Rattle.units.proofs.is_context.Reads as reads
-use Rattle.units.proofs.is_context.Lts as lts
-use Rattle.factors.proofs.self_or.Reads as self-or-reads
-use Rattle.scalars.proofs.next_i64.Reads as next-i64-reads
 
--- src/lib.rt:62:11
 self-or-requires : tie.Need-self-or-requires
 self-or-requires c κs = search needs
 
--- src/lib.rt:63:22
 enum-known-f : tie.Need-enum-known-f
 enum-known-f c = search needs
 
--- src/lib.rt:64:25
 enum-told : tie.Need-enum-told
 enum-told c = search needs
 
--- src/lib.rt:65:19
 enum-known-a : tie.Need-enum-known-a
 enum-known-a c = search needs
 
--- src/lib.rt:65:34
 next-i64-requires : tie.Need-next-i64-requires
 next-i64-requires c κs = search needs
 
--- src/lib.rt:66:39
 enum-told-2 : tie.Need-enum-told-2
 enum-told-2 c = search needs
 
--- src/lib.rt:67:41
 enum-told-3 : tie.Need-enum-told-3
 enum-told-3 c = search needs
 
--- src/lib.rt:59:1
 returns : tie.Need-returns
 returns c = let a = c .before .before .before .before .before .args in ap (λ (x : Run). goodBy (readsInteger (now (a .file))) (toldRun x)) (sym (c .before .f .given .1)) ∙ context-is (now (a .file)) (thingOf (now (a .file)) (rowOf (a .row))) (c .before .before .before .self-or .ensures)
 
--- src/lib.rt:59:1
 returns-2 : tie.Need-returns-2
 returns-2 c = let a = c .before .before .before .before .args in ap (λ (x : Run). goodBy (readsInteger (now (a .file))) (toldRun x)) (sym (c .enum-told .given .1)) ∙ context-is (now (a .file)) (thingOf (now (a .file)) (rowOf (a .row))) (c .before .before .self-or .ensures)
 
--- src/lib.rt:59:1
 returns-3 : tie.Need-returns-3
 returns-3 c = let a = c .before .before .before .before .before .before .before .before .args in whole-reads (now (a .file)) _ _ (ap (λ (x : NextWhole). toldNextWhole x) (sym (c .enum-told2 .given .1)) ∙ c .before .before .next-i64 .ensures) ∙ ap (λ (x : Run). goodBy (readsInteger (now (a .file))) (toldRun x)) (sym (c .before .before .before .before .a .given .1)) ∙ context-is (now (a .file)) (thingOf (now (a .file)) (rowOf (a .row))) (c .before .before .before .before .before .before .self-or .ensures)
 
--- src/lib.rt:59:1
 returns-4 : tie.Need-returns-4
 returns-4 c = let a = c .before .before .before .before .before .before .before .before .args in whole-reads (now (a .file)) _ _ (ap (λ (x : NextWhole). toldNextWhole x) (sym (c .enum-told3 .given .1)) ∙ c .before .before .next-i64 .ensures) ∙ ap (λ (x : Run). goodBy (readsInteger (now (a .file))) (toldRun x)) (sym (c .before .before .before .before .a .given .1)) ∙ context-is (now (a .file)) (thingOf (now (a .file)) (rowOf (a .row))) (c .before .before .before .before .before .before .self-or .ensures)
 

@@ -9,12 +9,6 @@ use Rattle.factors.specs.Thing.{findOf}
 use Rattle.units.specs.Laws.{Resolving, resolve-starts, resolve-over, row-there, resolve-last, resolve-goes}
 use Rattle.units.proofs.resolve.Statement.{statement}
 use Rattle.units.proofs.resolve.Tie as tie
-use Rattle.units.proofs.resolve.Reads as reads
-use Rattle.units.proofs.resolve.Lts as lts
-use Rattle.lookup.proofs.entity.Reads as entity-reads
-use Rattle.units.proofs.assumed.Reads as assumed-reads
-use Rattle.units.proofs.context_units.Reads as context-units-reads
-use Rattle.units.proofs.is_last.Reads as is-last-reads
 
 abbrev Inv-loop : tie.InvT-loop
 Inv-loop file rows slots t k₀ k = Resolving file (findOf file rows slots (t .ids)) rows (t .records) k
@@ -22,51 +16,39 @@ Inv-loop file rows slots t k₀ k = Resolving file (findOf file rows slots (t .i
 abbrev μ-loop : tie.MeasureT-loop
 μ-loop file rows slots t k₀ k = tableRows rows (t .records) - k
 
--- src/lib.rt:88:5
 loop-holds : tie.Need-loop-holds Inv-loop μ-loop
 loop-holds c = let a = c .before .before .before .args in let s = now (a .file) in let rows = now (a .rows) in let find = findOf s rows (now (a .slots)) (a .t .ids) in resolve-starts s find rows (a .t .records)
 
--- src/lib.rt:89:29
 entity-requires : tie.Need-entity-requires Inv-loop μ-loop
 entity-requires c κs = search needs
 
--- src/lib.rt:89:24
 enum-known-w : tie.Need-enum-known-w Inv-loop μ-loop
 enum-known-w c = search needs
 
--- src/lib.rt:90:33
 enum-told : tie.Need-enum-told Inv-loop μ-loop
 enum-told c = search needs
 
--- src/lib.rt:90:33
 assumed-requires : tie.Need-assumed-requires Inv-loop μ-loop
 assumed-requires c κs = search needs
 
--- src/lib.rt:90:13
 returns : tie.Need-returns Inv-loop μ-loop
 returns c = let a = c .before .before .before .before .before .before .before .before .args in let s = now (a .file) in let rows = now (a .rows) in let find = findOf s rows (now (a .slots)) (a .t .ids) in ap good (c .assumed .ensures) ∙ resolve-over s find rows (a .t .records) (c .before .before .before .before .loop .k) (c .before .before .before .before .loop .inv) (ap toldEntry (sym (c .before .enum-told .given .1)) ∙ c .before .before .before .entity .ensures)
 
--- src/lib.rt:92:13
 context-units-requires : tie.Need-context-units-requires Inv-loop μ-loop
 context-units-requires c κs = search needs
 
--- src/lib.rt:93:12
 is-last-requires : tie.Need-is-last-requires Inv-loop μ-loop
 is-last-requires c κs = search needs
 
--- src/lib.rt:94:13
 returns-2 : tie.Need-returns-2 Inv-loop μ-loop
 returns-2 c = let a = c .before .before .before .before .before .before .before .before .before .before .before .args in let s = now (a .file) in let rows = now (a .rows) in let find = findOf s rows (now (a .slots)) (a .t .ids) in resolve-last s find rows (a .t .records) (c .before .before .before .before .before .before .before .loop .k) (c .before .before .before .before .before .before .before .loop .inv) (ap toldEntry (sym (c .before .before .before .before .w .given .1)) ∙ c .before .before .before .before .before .before .entity .ensures) (c .before .before .context-units .ensures) (sym (c .before .is-last .ensures) ∙ c .if1 .taken)
 
--- src/lib.rt:96:9
 add-k : tie.Need-add-k Inv-loop μ-loop
 add-k c = let a = c .before .before .before .before .before .before .before .before .before .before .before .args in let s = now (a .file) in let rows = now (a .rows) in let find = findOf s rows (now (a .slots)) (a .t .ids) in let (l, e) = row-there s find rows (a .t .records) (c .before .before .before .before .before .before .before .loop .k) (ap toldEntry (sym (c .before .before .before .before .w .given .1)) ∙ c .before .before .before .before .before .before .entity .ensures) in omega (arith, l)
 
--- src/lib.rt:88:5
 loop-less : tie.Need-loop-less Inv-loop μ-loop
 loop-less c = let a = c .before .before .before .before .before .before .before .before .before .before .before .args in let s = now (a .file) in let rows = now (a .rows) in let find = findOf s rows (now (a .slots)) (a .t .ids) in let (l, e) = row-there s find rows (a .t .records) (c .before .before .before .before .before .before .before .loop .k) (ap toldEntry (sym (c .before .before .before .before .w .given .1)) ∙ c .before .before .before .before .before .before .entity .ensures) in omega (arith, l)
 
--- src/lib.rt:88:5
 loop-again : tie.Need-loop-again Inv-loop μ-loop
 loop-again c = let a = c .before .before .before .before .before .before .before .before .before .before .before .args in let s = now (a .file) in let rows = now (a .rows) in let find = findOf s rows (now (a .slots)) (a .t .ids) in resolve-goes s find rows (a .t .records) (c .before .before .before .before .before .before .before .loop .k) (c .before .before .before .before .before .before .before .loop .inv) (ap toldEntry (sym (c .before .before .before .before .w .given .1)) ∙ c .before .before .before .before .before .before .entity .ensures) (c .before .before .context-units .ensures) (sym (c .before .is-last .ensures) ∙ c .if1 .left)
 

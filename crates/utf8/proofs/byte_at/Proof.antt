@@ -6,22 +6,16 @@ use mathlib.Core.Path.{sym}
 use Rattle.utf8.specs.Laws.{byte-at}
 use Rattle.utf8.proofs.byte_at.Statement.{statement}
 use Rattle.utf8.proofs.byte_at.Tie as tie
-use Rattle.utf8.proofs.byte_at.Reads as reads
-use Rattle.utf8.proofs.byte_at.Lts as lts
 
--- src/lib.rt:43:9
 shared-slice-read-result : tie.Need-shared-slice-read-result
 shared-slice-read-result c = search needs
 
--- src/lib.rt:43:9
 cast-result : tie.Need-cast-result
 cast-result c = omega (arith, c .shared-slice-known .given (c .before .before .args .k))
 
--- src/lib.rt:39:1
 returns : tie.Need-returns
 returns c = byte-at (now (c .before .before .args .bytes)) (c .before .before .args .k) 0 (omega arith)
 
--- src/lib.rt:39:1
 returns-2 : tie.Need-returns-2
 returns-2 c = sym (List·getD-eq-default (now (c .before .args .bytes)) 256 (c .if1 .left))
 

@@ -1,76 +1,55 @@
 use borrow.Author.Needs.{needs}
 use native.Mathlib.Omega.{arith}
-use mathlib.Core.Path.{sym, _∙_, refl}
+use mathlib.Core.Path.{refl}
 use Rattle.utf8.specs.Laws.{four-tests}
 use Rattle.utf8.proofs.four.Statement.{statement}
 use Rattle.utf8.proofs.four.Tie as tie
-use Rattle.utf8.proofs.four.Reads as reads
-use Rattle.utf8.proofs.four.Lts as lts
-use Rattle.utf8.proofs.is_second.Reads as is-second-reads
-use Rattle.utf8.proofs.is_tail.Reads as is-tail-reads
-use Rattle.utf8.proofs.nothing.Reads as nothing-reads
 
--- src/lib.rt:112:8
 is-second-requires : tie.Need-is-second-requires
 is-second-requires c κs = search needs
 
--- src/lib.rt:112:26
 is-tail-requires : tie.Need-is-tail-requires
 is-tail-requires c κs = search needs
 
--- src/lib.rt:112:39
 is-tail-requires-2 : tie.Need-is-tail-requires-2
 is-tail-requires-2 c κs = search needs
 
--- src/lib.rt:114:20
 sub-t10 : tie.Need-sub-t10
 sub-t10 c = search needs
 
--- src/lib.rt:114:19
 mul-t11 : tie.Need-mul-t11
 mul-t11 c = search needs
 
--- src/lib.rt:114:41
 sub-t12 : tie.Need-sub-t12
 sub-t12 c = omega (arith, four-tests (c .before .before .before .before .args .a) (c .before .before .before .before .args .b) (c .before .before .before .before .args .c) (c .before .before .before .before .args .d) (c .before .before .before .is-second .result) (c .before .before .is-tail .result) (c .before .is-tail2 .result) (c .before .before .before .is-second .ensures) (c .before .before .is-tail .ensures) (c .before .is-tail2 .ensures) (c .if1 .taken))
 
--- src/lib.rt:114:40
 mul-t13 : tie.Need-mul-t13
 mul-t13 c = omega (arith, four-tests (c .before .before .before .before .args .a) (c .before .before .before .before .args .b) (c .before .before .before .before .args .c) (c .before .before .before .before .args .d) (c .before .before .before .is-second .result) (c .before .before .is-tail .result) (c .before .is-tail2 .result) (c .before .before .before .is-second .ensures) (c .before .before .is-tail .ensures) (c .before .is-tail2 .ensures) (c .if1 .taken))
 
--- src/lib.rt:114:19
 add-t14 : tie.Need-add-t14
 add-t14 c = omega (arith, four-tests (c .before .before .before .before .args .a) (c .before .before .before .before .args .b) (c .before .before .before .before .args .c) (c .before .before .before .before .args .d) (c .before .before .before .is-second .result) (c .before .before .is-tail .result) (c .before .is-tail2 .result) (c .before .before .before .is-second .ensures) (c .before .before .is-tail .ensures) (c .before .is-tail2 .ensures) (c .if1 .taken))
 
--- src/lib.rt:114:60
 sub-t15 : tie.Need-sub-t15
 sub-t15 c = omega (arith, four-tests (c .before .before .before .before .args .a) (c .before .before .before .before .args .b) (c .before .before .before .before .args .c) (c .before .before .before .before .args .d) (c .before .before .before .is-second .result) (c .before .before .is-tail .result) (c .before .is-tail2 .result) (c .before .before .before .is-second .ensures) (c .before .before .is-tail .ensures) (c .before .is-tail2 .ensures) (c .if1 .taken))
 
--- src/lib.rt:114:59
 mul-t16 : tie.Need-mul-t16
 mul-t16 c = omega (arith, four-tests (c .before .before .before .before .args .a) (c .before .before .before .before .args .b) (c .before .before .before .before .args .c) (c .before .before .before .before .args .d) (c .before .before .before .is-second .result) (c .before .before .is-tail .result) (c .before .is-tail2 .result) (c .before .before .before .is-second .ensures) (c .before .before .is-tail .ensures) (c .before .is-tail2 .ensures) (c .if1 .taken))
 
--- src/lib.rt:114:19
 add-t17 : tie.Need-add-t17
 add-t17 c = omega (arith, four-tests (c .before .before .before .before .args .a) (c .before .before .before .before .args .b) (c .before .before .before .before .args .c) (c .before .before .before .before .args .d) (c .before .before .before .is-second .result) (c .before .before .is-tail .result) (c .before .is-tail2 .result) (c .before .before .before .is-second .ensures) (c .before .before .is-tail .ensures) (c .before .is-tail2 .ensures) (c .if1 .taken))
 
--- src/lib.rt:114:77
 sub-t18 : tie.Need-sub-t18
 sub-t18 c = omega (arith, four-tests (c .before .before .before .before .args .a) (c .before .before .before .before .args .b) (c .before .before .before .before .args .c) (c .before .before .before .before .args .d) (c .before .before .before .is-second .result) (c .before .before .is-tail .result) (c .before .is-tail2 .result) (c .before .before .before .is-second .ensures) (c .before .before .is-tail .ensures) (c .before .is-tail2 .ensures) (c .if1 .taken))
 
--- src/lib.rt:114:19
 add-t19 : tie.Need-add-t19
 add-t19 c = omega (arith, four-tests (c .before .before .before .before .args .a) (c .before .before .before .before .args .b) (c .before .before .before .before .args .c) (c .before .before .before .before .args .d) (c .before .before .before .is-second .result) (c .before .before .is-tail .result) (c .before .is-tail2 .result) (c .before .before .before .is-second .ensures) (c .before .before .is-tail .ensures) (c .before .is-tail2 .ensures) (c .if1 .taken))
 
--- src/lib.rt:113:9
 returns : tie.Need-returns
 returns c = rw (four-tests (c .before .before .before .before .args .a) (c .before .before .before .before .args .b) (c .before .before .before .before .args .c) (c .before .before .before .before .args .d) (c .before .before .before .is-second .result) (c .before .before .is-tail .result) (c .before .is-tail2 .result) (c .before .before .before .is-second .ensures) (c .before .before .is-tail .ensures) (c .before .is-tail2 .ensures) (c .if1 .taken) .0) (refl, refl)
 
--- src/lib.rt:118:5
 nothing-requires : tie.Need-nothing-requires
 nothing-requires c κs = search needs
 
--- src/lib.rt:108:1
 returns-2 : tie.Need-returns-2
 returns-2 c = rw (← c .before .before .before .before .is-second .ensures, ← c .before .before .before .is-tail .ensures, ← c .before .before .is-tail2 .ensures, c .before .if1 .left) (c .nothing .ensures)
 

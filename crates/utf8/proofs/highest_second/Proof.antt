@@ -1,18 +1,13 @@
 use borrow.Author.Tests.{eq-eqb, ne-eqb}
 use Rattle.utf8.proofs.highest_second.Statement.{statement}
 use Rattle.utf8.proofs.highest_second.Tie as tie
-use Rattle.utf8.proofs.highest_second.Reads as reads
-use Rattle.utf8.proofs.highest_second.Lts as lts
 
--- src/lib.rt:73:9
 returns : tie.Need-returns
 returns c = rw (eq-eqb (c .before .args .a) 237 (c .if1 .taken))
 
--- src/lib.rt:76:9
 returns-2 : tie.Need-returns-2
 returns-2 c = rw (ne-eqb (c .before .before .args .a) 237 (c .before .if1 .left), eq-eqb (c .before .before .args .a) 244 (c .if2 .taken))
 
--- src/lib.rt:69:1
 returns-3 : tie.Need-returns-3
 returns-3 c = rw (ne-eqb (c .before .before .args .a) 237 (c .before .if1 .left), ne-eqb (c .before .before .args .a) 244 (c .if2 .left))
 

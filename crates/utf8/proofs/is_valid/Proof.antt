@@ -1,18 +1,13 @@
 use native.Mathlib.Omega.{arith}
 use denote.Ref.{now}
-use Prim.Native.Nat.{_+_, _-_, _≤_}
-use mathlib.Core.Path.{_≡_, refl, sym, _∙_, ap}
-use mathlib.Core.Logic.{⊎-elim}
-use lib.ListN.{length, take, drop, length-drop}
-use lib.Seq.{take-all, drop-drop}
-use Rattle.utf8.specs.Utf8.{validOf, leadOf, usedOfLead}
+use Prim.Native.Nat.{_-_, _≤_}
+use mathlib.Core.Path.{_≡_, refl, sym, _∙_}
+use lib.ListN.{length, drop}
+use Rattle.utf8.specs.Utf8.{validOf}
 use Rattle.utf8.specs.Laws.{valid-one, valid-ends, valid-here, valid-fails}
 use borrow.Author.Needs.{needs}
 use Rattle.utf8.proofs.is_valid.Statement.{statement}
 use Rattle.utf8.proofs.is_valid.Tie as tie
-use Rattle.utf8.proofs.is_valid.Reads as reads
-use Rattle.utf8.proofs.is_valid.Lts as lts
-use Rattle.utf8.proofs.sequence.Reads as sequence-reads
 
 abbrev Inv-loop : tie.InvT-loop
 Inv-loop bytes i₀ i = (i ≤ length bytes) × (validOf (drop i bytes) ≡ validOf bytes)
@@ -20,68 +15,54 @@ Inv-loop bytes i₀ i = (i ≤ length bytes) × (validOf (drop i bytes) ≡ vali
 abbrev μ-loop : tie.MeasureT-loop
 μ-loop bytes i₀ i = length bytes - i
 
--- src/lib.rt:205:5
 loop-holds : tie.Need-loop-holds Inv-loop μ-loop
 loop-holds c = (omega arith, refl)
 
--- src/lib.rt:206:12
 shared-slice-read-if1 : tie.Need-shared-slice-read-if1 Inv-loop μ-loop
 shared-slice-read-if1 c = search needs
 
--- src/lib.rt:207:13
 add-i : tie.Need-add-i Inv-loop μ-loop
 add-i c = search needs
 
--- src/lib.rt:205:5
 loop-less : tie.Need-loop-less Inv-loop μ-loop
 loop-less c = search needs
 
--- src/lib.rt:205:5
 loop-again : tie.Need-loop-again Inv-loop μ-loop
 loop-again c = let t = c .before .before .before in
     let s = now (t .before .before .args .bytes) in
     (omega arith, sym (valid-one s (t .loop .i) (omega arith) (c .if1 .taken)) ∙ t .loop .inv .1)
 
--- src/lib.rt:209:33
 sub-sequence : tie.Need-sub-sequence Inv-loop μ-loop
 sub-sequence c = search needs
 
--- src/lib.rt:209:33
 part-sequence-start : tie.Need-part-sequence-start Inv-loop μ-loop
 part-sequence-start c = search needs
 
--- src/lib.rt:209:33
 part-sequence-end : tie.Need-part-sequence-end Inv-loop μ-loop
 part-sequence-end c = search needs
 
--- src/lib.rt:209:24
 sequence-requires : tie.Need-sequence-requires Inv-loop μ-loop
 sequence-requires c κs = search needs
 
--- src/lib.rt:211:17
 returns : tie.Need-returns Inv-loop μ-loop
 returns c = let t = c .before .before .before .before .before .before in
     let s = now (t .before .before .args .bytes) in
     sym (valid-fails s (t .loop .i) (c .before .sequence .result .used) (omega arith) (c .before .sequence .ensures .1) (c .if2 .taken)) ∙ t .loop .inv .1
 
--- src/lib.rt:213:13
 add-i-2 : tie.Need-add-i-2 Inv-loop μ-loop
 add-i-2 c = let t = c .before .before .before .before .before .before in
     let s = now (t .before .before .args .bytes) in
     omega (arith, valid-here s (t .loop .i) (c .before .sequence .result .used) (omega arith) (c .before .sequence .ensures .1) (c .if2 .left) .0)
 
--- src/lib.rt:205:5
 loop-less-2 : tie.Need-loop-less-2 Inv-loop μ-loop
 loop-less-2 c = search needs
 
--- src/lib.rt:205:5
 loop-again-2 : tie.Need-loop-again-2 Inv-loop μ-loop
 loop-again-2 c = let t = c .before .before .before .before .before .before in
     let s = now (t .before .before .args .bytes) in
     let (l, e) = valid-here s (t .loop .i) (c .before .sequence .result .used) (omega arith) (c .before .sequence .ensures .1) (c .if2 .left) in
     (l, sym e ∙ t .loop .inv .1)
 
--- src/lib.rt:201:1
 returns-2 : tie.Need-returns-2 Inv-loop μ-loop
 returns-2 c = valid-ends (now (c .before .before .before .args .bytes)) (c .before .loop .i) (omega arith) ∙ c .before .loop .inv .1
 

@@ -8,83 +8,60 @@ use Rattle.utf8.specs.Laws.{sized, put-short, put-fits}
 use mathlib.Core.Path.{_≡_}
 use Rattle.utf8.proofs.put.Statement.{statement}
 use Rattle.utf8.proofs.put.Tie as tie
-use Rattle.utf8.proofs.put.Reads as reads
-use Rattle.utf8.proofs.put.Lts as lts
-use Rattle.utf8.proofs.put_four.Reads as put-four-reads
-use Rattle.utf8.proofs.put_one.Reads as put-one-reads
-use Rattle.utf8.proofs.put_three.Reads as put-three-reads
-use Rattle.utf8.proofs.put_two.Reads as put-two-reads
-use Rattle.utf8.proofs.width.Reads as width-reads
 
--- src/lib.rt:180:9
 width-requires : tie.Need-width-requires
 width-requires c κs = search needs
 
--- src/lib.rt:183:9
 returns : tie.Need-returns
 returns c = put-short (c .before .before .before .args .at) (encode (c .before .before .before .args .code)) (now (c .before .before .before .args .out)) (omega arith)
 
--- src/lib.rt:186:9
 returns-2 : tie.Need-returns-2
 returns-2 c = put-short (c .before .before .before .before .args .at) (encode (c .before .before .before .before .args .code)) (now (c .before .before .before .before .args .out)) (omega (arith, c .before .before .width .ensures))
 
--- src/lib.rt:189:9
 put-one-requires : tie.Need-put-one-requires
 put-one-requires c κs = (omega arith, sized (c .before .before .before .before .before .before .args .code) (c .before .before .before .before .width .result) (c .before .before .before .before .width .ensures) .at-one (c .before .if3 .taken))
 
--- src/lib.rt:191:9
 put-two-requires : tie.Need-put-two-requires
 put-two-requires c κs = let (l, h) = sized (c .before .before .before .before .before .before .before .args .code) (c .before .before .before .before .before .width .result) (c .before .before .before .before .before .width .ensures) .at-two (c .before .if4 .taken) in (omega arith, l, h)
 
--- src/lib.rt:193:9
 put-three-requires : tie.Need-put-three-requires
 put-three-requires c κs = let (l, h, e) = sized (c .before .before .before .before .before .before .before .before .args .code) (c .before .before .before .before .before .before .width .result) (c .before .before .before .before .before .before .width .ensures) .at-three (c .before .if5 .taken) in (omega arith, l, h, e)
 
--- src/lib.rt:195:9
 put-four-requires : tie.Need-put-four-requires
 put-four-requires c κs = let (l, h) = sized (c .before .before .before .before .before .before .before .before .before .args .code) (c .before .before .before .before .before .before .before .width .result) (c .before .before .before .before .before .before .before .width .ensures) .at-four (c .before .if6 .taken) in (omega arith, l, h)
 
--- src/lib.rt:176:1
 same-length : tie.Need-same-length
 same-length c = search needs
 
--- src/lib.rt:176:1
 returns-3 : tie.Need-returns-3
 returns-3 c = let o = now (c .before .before .before .before .before .before .before .before .before .args .out) in
     let (w, p) = put-fits (c .before .before .before .before .before .before .before .before .before .args .at) (encode (c .before .before .before .before .before .before .before .before .before .args .code)) o (omega (arith, c .before .before .before .before .before .before .before .width .ensures)) in
     (c .before .before .before .before .before .before .before .width .ensures ∙ w, c .before .before .put-one .ensures ∙ p)
 
--- src/lib.rt:176:1
 same-length-2 : tie.Need-same-length-2
 same-length-2 c = search needs
 
--- src/lib.rt:176:1
 returns-4 : tie.Need-returns-4
 returns-4 c = let o = now (c .before .before .before .before .before .before .before .before .before .before .args .out) in
     let (w, p) = put-fits (c .before .before .before .before .before .before .before .before .before .before .args .at) (encode (c .before .before .before .before .before .before .before .before .before .before .args .code)) o (omega (arith, c .before .before .before .before .before .before .before .before .width .ensures)) in
     (c .before .before .before .before .before .before .before .before .width .ensures ∙ w, c .before .before .put-two .ensures ∙ p)
 
--- src/lib.rt:176:1
 same-length-3 : tie.Need-same-length-3
 same-length-3 c = search needs
 
--- src/lib.rt:176:1
 returns-5 : tie.Need-returns-5
 returns-5 c = let o = now (c .before .before .before .before .before .before .before .before .before .before .before .args .out) in
     let (w, p) = put-fits (c .before .before .before .before .before .before .before .before .before .before .before .args .at) (encode (c .before .before .before .before .before .before .before .before .before .before .before .args .code)) o (omega (arith, c .before .before .before .before .before .before .before .before .before .width .ensures)) in
     (c .before .before .before .before .before .before .before .before .before .width .ensures ∙ w, c .before .before .put-three .ensures ∙ p)
 
--- src/lib.rt:176:1
 same-length-4 : tie.Need-same-length-4
 same-length-4 c = search needs
 
--- src/lib.rt:176:1
 returns-6 : tie.Need-returns-6
 returns-6 c = let o = now (c .before .before .before .before .before .before .before .before .before .before .before .before .args .out) in
     let (w, p) = put-fits (c .before .before .before .before .before .before .before .before .before .before .before .before .args .at) (encode (c .before .before .before .before .before .before .before .before .before .before .before .before .args .code)) o (omega (arith, c .before .before .before .before .before .before .before .before .before .before .width .ensures)) in
     (c .before .before .before .before .before .before .before .before .before .before .width .ensures ∙ w, c .before .before .put-four .ensures ∙ p)
 
--- src/lib.rt:176:1
 returns-7 : tie.Need-returns-7
 returns-7 c = let o = now (c .before .before .before .before .before .before .before .before .args .out) in
     let n : c .before .before .before .before .before .before .width .result ≡ 0 = omega (arith, sized (c .before .before .before .before .before .before .before .before .args .code) (c .before .before .before .before .before .before .width .result) (c .before .before .before .before .before .before .width .ensures) .at-most) in

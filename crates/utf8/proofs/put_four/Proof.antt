@@ -5,74 +5,55 @@ use native.Mathlib.Omega.{arith}
 use Rattle.utf8.specs.Laws.{encode-four}
 use Rattle.utf8.proofs.put_four.Statement.{statement}
 use Rattle.utf8.proofs.put_four.Tie as tie
-use Rattle.utf8.proofs.put_four.Reads as reads
-use Rattle.utf8.proofs.put_four.Lts as lts
 
--- src/lib.rt:169:16
 add-out : tie.Need-add-out
 add-out c = search needs
 
--- src/lib.rt:169:15
 cast-out : tie.Need-cast-out
 cast-out c = omega arith
 
--- src/lib.rt:169:5
 slice-write-out : tie.Need-slice-write-out
 slice-write-out c = search needs
 
--- src/lib.rt:170:20
 add-out-2 : tie.Need-add-out-2
 add-out-2 c = search needs
 
--- src/lib.rt:170:19
 cast-out-2 : tie.Need-cast-out-2
 cast-out-2 c = search needs
 
--- src/lib.rt:170:9
 add-out-3 : tie.Need-add-out-3
 add-out-3 c = search needs
 
--- src/lib.rt:170:5
 slice-write-out-2 : tie.Need-slice-write-out-2
 slice-write-out-2 c = simp length-set (omega arith)
 
--- src/lib.rt:171:20
 add-out-4 : tie.Need-add-out-4
 add-out-4 c = search needs
 
--- src/lib.rt:171:19
 cast-out-3 : tie.Need-cast-out-3
 cast-out-3 c = search needs
 
--- src/lib.rt:171:9
 add-out-5 : tie.Need-add-out-5
 add-out-5 c = search needs
 
--- src/lib.rt:171:5
 slice-write-out-3 : tie.Need-slice-write-out-3
 slice-write-out-3 c = simp length-set (omega arith)
 
--- src/lib.rt:172:20
 add-out-6 : tie.Need-add-out-6
 add-out-6 c = search needs
 
--- src/lib.rt:172:19
 cast-out-4 : tie.Need-cast-out-4
 cast-out-4 c = search needs
 
--- src/lib.rt:172:9
 add-out-7 : tie.Need-add-out-7
 add-out-7 c = search needs
 
--- src/lib.rt:172:5
 slice-write-out-4 : tie.Need-slice-write-out-4
 slice-write-out-4 c = simp length-set (omega arith)
 
--- src/lib.rt:165:1
 same-length : tie.Need-same-length
 same-length c = search needs
 
--- src/lib.rt:165:1
 returns : tie.Need-returns
 returns c = rw (encode-four (c .args .code) (c .pre .1) (c .pre .2)) (simp towards-suc)
 

@@ -2,22 +2,16 @@ use borrow.Author.Needs.{needs}
 use Rattle.utf8.specs.Laws.{encode-one}
 use Rattle.utf8.proofs.put_one.Statement.{statement}
 use Rattle.utf8.proofs.put_one.Tie as tie
-use Rattle.utf8.proofs.put_one.Reads as reads
-use Rattle.utf8.proofs.put_one.Lts as lts
 
--- src/lib.rt:145:15
 cast-out : tie.Need-cast-out
 cast-out c = search needs
 
--- src/lib.rt:145:5
 slice-write-out : tie.Need-slice-write-out
 slice-write-out c = search needs
 
--- src/lib.rt:141:1
 same-length : tie.Need-same-length
 same-length c = search needs
 
--- src/lib.rt:141:1
 returns : tie.Need-returns
 returns c = rw (encode-one (c .args .code) (c .pre .1))
 

@@ -5,58 +5,43 @@ use native.Mathlib.Omega.{arith}
 use Rattle.utf8.specs.Laws.{encode-three}
 use Rattle.utf8.proofs.put_three.Statement.{statement}
 use Rattle.utf8.proofs.put_three.Tie as tie
-use Rattle.utf8.proofs.put_three.Reads as reads
-use Rattle.utf8.proofs.put_three.Lts as lts
 
--- src/lib.rt:160:16
 add-out : tie.Need-add-out
 add-out c = search needs
 
--- src/lib.rt:160:15
 cast-out : tie.Need-cast-out
 cast-out c = omega arith
 
--- src/lib.rt:160:5
 slice-write-out : tie.Need-slice-write-out
 slice-write-out c = search needs
 
--- src/lib.rt:161:20
 add-out-2 : tie.Need-add-out-2
 add-out-2 c = search needs
 
--- src/lib.rt:161:19
 cast-out-2 : tie.Need-cast-out-2
 cast-out-2 c = search needs
 
--- src/lib.rt:161:9
 add-out-3 : tie.Need-add-out-3
 add-out-3 c = search needs
 
--- src/lib.rt:161:5
 slice-write-out-2 : tie.Need-slice-write-out-2
 slice-write-out-2 c = simp length-set (omega arith)
 
--- src/lib.rt:162:20
 add-out-4 : tie.Need-add-out-4
 add-out-4 c = search needs
 
--- src/lib.rt:162:19
 cast-out-3 : tie.Need-cast-out-3
 cast-out-3 c = search needs
 
--- src/lib.rt:162:9
 add-out-5 : tie.Need-add-out-5
 add-out-5 c = search needs
 
--- src/lib.rt:162:5
 slice-write-out-3 : tie.Need-slice-write-out-3
 slice-write-out-3 c = simp length-set (omega arith)
 
--- src/lib.rt:156:1
 same-length : tie.Need-same-length
 same-length c = search needs
 
--- src/lib.rt:156:1
 returns : tie.Need-returns
 returns c = rw (encode-three (c .args .code) (c .pre .1) (c .pre .2) (c .pre .3)) (simp towards-suc)
 

@@ -5,42 +5,31 @@ use native.Mathlib.Omega.{arith}
 use Rattle.utf8.specs.Laws.{encode-two}
 use Rattle.utf8.proofs.put_two.Statement.{statement}
 use Rattle.utf8.proofs.put_two.Tie as tie
-use Rattle.utf8.proofs.put_two.Reads as reads
-use Rattle.utf8.proofs.put_two.Lts as lts
 
--- src/lib.rt:152:16
 add-out : tie.Need-add-out
 add-out c = search needs
 
--- src/lib.rt:152:15
 cast-out : tie.Need-cast-out
 cast-out c = search needs
 
--- src/lib.rt:152:5
 slice-write-out : tie.Need-slice-write-out
 slice-write-out c = search needs
 
--- src/lib.rt:153:20
 add-out-2 : tie.Need-add-out-2
 add-out-2 c = search needs
 
--- src/lib.rt:153:19
 cast-out-2 : tie.Need-cast-out-2
 cast-out-2 c = search needs
 
--- src/lib.rt:153:9
 add-out-3 : tie.Need-add-out-3
 add-out-3 c = search needs
 
--- src/lib.rt:153:5
 slice-write-out-2 : tie.Need-slice-write-out-2
 slice-write-out-2 c = simp length-set (omega arith)
 
--- src/lib.rt:148:1
 same-length : tie.Need-same-length
 same-length c = search needs
 
--- src/lib.rt:148:1
 returns : tie.Need-returns
 returns c = rw (encode-two (c .args .code) (c .pre .1) (c .pre .2)) (simp towards-suc)
 

@@ -5,82 +5,59 @@ use Rattle.utf8.specs.Utf8.{codeOfLead, usedOfLead}
 use Rattle.utf8.specs.Laws.{bounds, lead-one, lead-two, lead-three, lead-four, lead-none}
 use Rattle.utf8.proofs.sequence.Statement.{statement}
 use Rattle.utf8.proofs.sequence.Tie as tie
-use Rattle.utf8.proofs.sequence.Reads as reads
-use Rattle.utf8.proofs.sequence.Lts as lts
-use Rattle.utf8.proofs.byte_at.Reads as byte-at-reads
-use Rattle.utf8.proofs.four.Reads as four-reads
-use Rattle.utf8.proofs.nothing.Reads as nothing-reads
-use Rattle.utf8.proofs.three.Reads as three-reads
-use Rattle.utf8.proofs.two.Reads as two-reads
 
--- src/lib.rt:125:9
 byte-at-requires : tie.Need-byte-at-requires
 byte-at-requires c κs = search needs
 
--- src/lib.rt:127:9
 returns : tie.Need-returns
 returns c = let e = lead-one (now (c .before .before .before .args .bytes)) (c .before .byte-at .result) (c .before .byte-at .ensures) (c .if1 .taken) in
     (ap codeOfLead e, ap usedOfLead e)
 
--- src/lib.rt:130:23
 byte-at-requires-2 : tie.Need-byte-at-requires-2
 byte-at-requires-2 c κs = search needs
 
--- src/lib.rt:130:9
 two-requires : tie.Need-two-requires
 two-requires c κs = bounds 194 (c .before .before .before .byte-at .result) 223 (c .before .if2 .taken)
 
--- src/lib.rt:130:9
 returns-2 : tie.Need-returns-2
 returns-2 c = let s = now (c .before .before .before .before .before .before .args .bytes) in
     let e = lead-two s _ _ (c .before .before .before .before .byte-at .ensures) (c .before .byte-at2 .ensures) (c .before .before .if2 .taken) in
     (c .two .ensures .0 ∙ ap codeOfLead e, c .two .ensures .1 ∙ ap usedOfLead e)
 
--- src/lib.rt:133:25
 byte-at-requires-3 : tie.Need-byte-at-requires-3
 byte-at-requires-3 c κs = search needs
 
--- src/lib.rt:133:44
 byte-at-requires-4 : tie.Need-byte-at-requires-4
 byte-at-requires-4 c κs = search needs
 
--- src/lib.rt:133:9
 three-requires : tie.Need-three-requires
 three-requires c κs = bounds 224 (c .before .before .before .before .before .byte-at .result) 239 (c .before .before .if3 .taken)
 
--- src/lib.rt:133:9
 returns-3 : tie.Need-returns-3
 returns-3 c = let s = now (c .before .before .before .before .before .before .before .before .args .bytes) in
     let e = lead-three s _ _ _ (c .before .before .before .before .before .before .byte-at .ensures) (c .before .before .byte-at3 .ensures) (c .before .byte-at4 .ensures) (c .before .before .before .if3 .taken) in
     (c .three .ensures .0 ∙ ap codeOfLead e, c .three .ensures .1 ∙ ap usedOfLead e)
 
--- src/lib.rt:136:24
 byte-at-requires-5 : tie.Need-byte-at-requires-5
 byte-at-requires-5 c κs = search needs
 
--- src/lib.rt:136:43
 byte-at-requires-6 : tie.Need-byte-at-requires-6
 byte-at-requires-6 c κs = search needs
 
--- src/lib.rt:136:62
 byte-at-requires-7 : tie.Need-byte-at-requires-7
 byte-at-requires-7 c κs = search needs
 
--- src/lib.rt:136:9
 four-requires : tie.Need-four-requires
 four-requires c κs = bounds 240 (c .before .before .before .before .before .before .before .byte-at .result) 244 (c .before .before .before .if4 .taken)
 
--- src/lib.rt:136:9
 returns-4 : tie.Need-returns-4
 returns-4 c = let s = now (c .before .before .before .before .before .before .before .before .before .before .args .bytes) in
     let e = lead-four s _ _ _ _ (c .before .before .before .before .before .before .before .before .byte-at .ensures) (c .before .before .before .byte-at5 .ensures) (c .before .before .byte-at6 .ensures) (c .before .byte-at7 .ensures) (c .before .before .before .before .if4 .taken) in
     (c .four .ensures .0 ∙ ap codeOfLead e, c .four .ensures .1 ∙ ap usedOfLead e)
 
--- src/lib.rt:138:5
 nothing-requires : tie.Need-nothing-requires
 nothing-requires c κs = search needs
 
--- src/lib.rt:122:1
 returns-5 : tie.Need-returns-5
 returns-5 c = let s = now (c .before .before .before .before .before .before .before .args .bytes) in
     let e = lead-none s _ (c .before .before .before .before .before .byte-at .ensures) (c .before .before .before .before .if1 .left) (c .before .before .before .if2 .left) (c .before .before .if3 .left) (c .before .if4 .left) in

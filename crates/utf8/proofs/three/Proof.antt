@@ -1,60 +1,43 @@
 use borrow.Author.Needs.{needs}
 use native.Mathlib.Omega.{arith}
-use mathlib.Core.Path.{sym, _∙_, refl}
+use mathlib.Core.Path.{refl}
 use Rattle.utf8.specs.Laws.{three-tests}
 use Rattle.utf8.proofs.three.Statement.{statement}
 use Rattle.utf8.proofs.three.Tie as tie
-use Rattle.utf8.proofs.three.Reads as reads
-use Rattle.utf8.proofs.three.Lts as lts
-use Rattle.utf8.proofs.is_second.Reads as is-second-reads
-use Rattle.utf8.proofs.is_tail.Reads as is-tail-reads
-use Rattle.utf8.proofs.nothing.Reads as nothing-reads
 
--- src/lib.rt:99:8
 is-second-requires : tie.Need-is-second-requires
 is-second-requires c κs = search needs
 
--- src/lib.rt:99:26
 is-tail-requires : tie.Need-is-tail-requires
 is-tail-requires c κs = search needs
 
--- src/lib.rt:101:20
 sub-t7 : tie.Need-sub-t7
 sub-t7 c = search needs
 
--- src/lib.rt:101:19
 mul-t8 : tie.Need-mul-t8
 mul-t8 c = search needs
 
--- src/lib.rt:101:39
 sub-t9 : tie.Need-sub-t9
 sub-t9 c = omega (arith, three-tests (c .before .before .before .args .a) (c .before .before .before .args .b) (c .before .before .before .args .c) (c .before .before .is-second .result) (c .before .is-tail .result) (c .before .before .is-second .ensures) (c .before .is-tail .ensures) (c .if1 .taken))
 
--- src/lib.rt:101:38
 mul-t10 : tie.Need-mul-t10
 mul-t10 c = omega (arith, three-tests (c .before .before .before .args .a) (c .before .before .before .args .b) (c .before .before .before .args .c) (c .before .before .is-second .result) (c .before .is-tail .result) (c .before .before .is-second .ensures) (c .before .is-tail .ensures) (c .if1 .taken))
 
--- src/lib.rt:101:19
 add-t11 : tie.Need-add-t11
 add-t11 c = omega (arith, three-tests (c .before .before .before .args .a) (c .before .before .before .args .b) (c .before .before .before .args .c) (c .before .before .is-second .result) (c .before .is-tail .result) (c .before .before .is-second .ensures) (c .before .is-tail .ensures) (c .if1 .taken))
 
--- src/lib.rt:101:56
 sub-t12 : tie.Need-sub-t12
 sub-t12 c = omega (arith, three-tests (c .before .before .before .args .a) (c .before .before .before .args .b) (c .before .before .before .args .c) (c .before .before .is-second .result) (c .before .is-tail .result) (c .before .before .is-second .ensures) (c .before .is-tail .ensures) (c .if1 .taken))
 
--- src/lib.rt:101:19
 add-t13 : tie.Need-add-t13
 add-t13 c = omega (arith, three-tests (c .before .before .before .args .a) (c .before .before .before .args .b) (c .before .before .before .args .c) (c .before .before .is-second .result) (c .before .is-tail .result) (c .before .before .is-second .ensures) (c .before .is-tail .ensures) (c .if1 .taken))
 
--- src/lib.rt:100:9
 returns : tie.Need-returns
 returns c = rw (three-tests (c .before .before .before .args .a) (c .before .before .before .args .b) (c .before .before .before .args .c) (c .before .before .is-second .result) (c .before .is-tail .result) (c .before .before .is-second .ensures) (c .before .is-tail .ensures) (c .if1 .taken) .0) (refl, refl)
 
--- src/lib.rt:105:5
 nothing-requires : tie.Need-nothing-requires
 nothing-requires c κs = search needs
 
--- src/lib.rt:95:1
 returns-2 : tie.Need-returns-2
 returns-2 c = rw (← c .before .before .before .is-second .ensures, ← c .before .before .is-tail .ensures, c .before .if1 .left) (c .nothing .ensures)
 

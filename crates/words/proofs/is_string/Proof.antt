@@ -7,19 +7,14 @@ use lib.ListN.{length}
 use Rattle.words.specs.Words.{isString}
 use Rattle.words.proofs.is_string.Statement.{statement}
 use Rattle.words.proofs.is_string.Tie as tie
-use Rattle.words.proofs.is_string.Reads as reads
-use Rattle.words.proofs.is_string.Lts as lts
 
--- src/lib.rt:68:9
 returns : tie.Need-returns
 unfolding isString
 returns c = rw (lt-leb 2 (length (now (c .before .args .t))) (omega arith)) refl
 
--- src/lib.rt:70:5
 shared-slice-read-result : tie.Need-shared-slice-read-result
 shared-slice-read-result c = search needs
 
--- src/lib.rt:64:1
 returns-2 : tie.Need-returns-2
 unfolding isString
 returns-2 c = rw (le-leb 2 (length (now (c .before .before .args .t))) (omega arith)) refl

@@ -2,38 +2,29 @@ use borrow.Author.Needs.{needs}
 use native.Mathlib.Omega.{arith}
 use mathlib.Core.Path.{refl, sym, _∙_, _≡_}
 use mathlib.Core.Bool.{true, false}
-use Prim.Native.Nat.{_-_, _≤_}
-use lib.ListN.{take, drop, length}
+use Prim.Native.Nat.{_-_}
+use lib.ListN.{take, drop}
 use denote.Ref.{now}
 use Rattle.words.specs.Words.{isName}
 use Rattle.words.specs.Laws.{name-two, part-length}
 use Rattle.words.proofs.name_at.Statement.{statement}
 use Rattle.words.proofs.name_at.Tie as tie
-use Rattle.words.proofs.name_at.Reads as reads
-use Rattle.words.proofs.name_at.Lts as lts
-use Rattle.words.proofs.is_name.Reads as is-name-reads
 
--- src/lib.rt:57:16
 sub-is-name : tie.Need-sub-is-name
 sub-is-name c = search needs
 
--- src/lib.rt:57:16
 part-is-name-start : tie.Need-part-is-name-start
 part-is-name-start c = search needs
 
--- src/lib.rt:57:16
 part-is-name-end : tie.Need-part-is-name-end
 part-is-name-end c = search needs
 
--- src/lib.rt:57:8
 is-name-requires : tie.Need-is-name-requires
 is-name-requires c κs = search needs
 
--- src/lib.rt:58:31
 add-t10 : tie.Need-add-t10
 add-t10 c = search needs
 
--- src/lib.rt:58:42
 sub-t11 : tie.Need-sub-t11
 sub-t11 c =
     let a = c .before .before .before .before .args in
@@ -42,14 +33,12 @@ sub-t11 c =
     let l = part-length (now (a .file)) (a .start) (a .stop) (omega arith) (omega arith) in
     omega arith
 
--- src/lib.rt:58:9
 returns : tie.Need-returns
 returns c =
     let a = c .before .before .before .before .args in
     let h : isName (take (a .stop - a .start) (drop (a .start) (now (a .file)))) ≡ true = sym (c .before .is-name .ensures) ∙ c .if1 .taken in
     rw h refl
 
--- src/lib.rt:53:1
 returns-2 : tie.Need-returns-2
 returns-2 c =
     let a = c .before .before .before .before .args in

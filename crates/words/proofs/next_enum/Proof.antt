@@ -1,39 +1,28 @@
 use borrow.Author.Needs.{needs}
-use native.Mathlib.Omega.{arith}
-use mathlib.Core.Path.{_≡_, refl, _∙_, sym, ap}
+use mathlib.Core.Path.{_∙_, sym, ap}
 use denote.Ref.{now}
 use Rattle.params.specs.ReaderLaws.{cut-places}
 use Rattle.params.specs.Reader.{toldCut}
 use Rattle.words.specs.Laws.{name-next, name-refused}
 use Rattle.words.proofs.next_enum.Statement.{statement}
 use Rattle.words.proofs.next_enum.Tie as tie
-use Rattle.words.proofs.next_enum.Reads as reads
-use Rattle.words.proofs.next_enum.Lts as lts
-use Rattle.params.proofs.param_span.Reads as param-span-reads
-use Rattle.words.proofs.name_at.Reads as name-at-reads
 
--- src/lib.rt:47:11
 param-span-requires : tie.Need-param-span-requires
 param-span-requires c κs = search needs
 
--- src/lib.rt:48:22
 enum-known-f : tie.Need-enum-known-f
 enum-known-f c = search needs
 
--- src/lib.rt:49:19
 enum-known-start : tie.Need-enum-known-start
 enum-known-start c = search needs
 
--- src/lib.rt:49:39
 name-at-requires : tie.Need-name-at-requires
 name-at-requires c κs = cut-places _ _ _ _ _ (c .before .before .before .param-span .ensures .1) (c .before .start .given .1)
 
--- src/lib.rt:44:1
 returns : tie.Need-returns
 returns c = let a = c .before .before .before .before .before .args in
     name-refused (now (a .file)) _ _ _ _ (ap toldCut (sym (c .before .f .given .1)) ∙ c .before .before .before .param-span .ensures .0)
 
--- src/lib.rt:44:1
 returns-2 : tie.Need-returns-2
 returns-2 c = let g = c .before .before in
     let a = g .before .before .before .before .args in

@@ -1,6 +1,5 @@
 use borrow.Author.Needs.{needs}
-use native.Mathlib.Omega.{arith}
-use mathlib.Core.Path.{_≡_, refl, _∙_, sym, ap}
+use mathlib.Core.Path.{_∙_, sym, ap}
 use denote.Ref.{now}
 use Rattle.params.specs.ReaderLaws.{cut-places}
 use Rattle.params.specs.Reader.{toldCut}
@@ -8,37 +7,26 @@ use Rattle.words.specs.Laws.{text-next, text-refused}
 use lib.ListN.{length}
 use Rattle.words.proofs.next_str.Statement.{statement}
 use Rattle.words.proofs.next_str.Tie as tie
-use Rattle.words.proofs.next_str.Reads as reads
-use Rattle.words.proofs.next_str.Lts as lts
-use Rattle.params.proofs.param_span.Reads as param-span-reads
-use Rattle.words.proofs.text_at.Reads as text-at-reads
 
--- src/lib.rt:98:11
 param-span-requires : tie.Need-param-span-requires
 param-span-requires c κs = search needs
 
--- src/lib.rt:99:22
 enum-known-f : tie.Need-enum-known-f
 enum-known-f c = search needs
 
--- src/lib.rt:100:19
 enum-known-start : tie.Need-enum-known-start
 enum-known-start c = search needs
 
--- src/lib.rt:100:39
 text-at-requires : tie.Need-text-at-requires
 text-at-requires c κs = cut-places _ _ _ _ _ (c .before .before .before .before .param-span .ensures .1) (c .before .before .start .given .1)
 
--- src/lib.rt:94:1
 returns : tie.Need-returns
 returns c = let a = c .before .before .before .before .before .before .args in
     text-refused (now (a .file)) (now (a .out)) (length (now (a .out))) _ _ _ _ (ap toldCut (sym (c .before .f .given .1)) ∙ c .before .before .before .param-span .ensures .0)
 
--- src/lib.rt:94:1
 same-length : tie.Need-same-length
 same-length c = search needs
 
--- src/lib.rt:94:1
 returns-2 : tie.Need-returns-2
 returns-2 c = let g = c .before .before .before .before .before in
     let a = g .before .before .before .before .before .args in

@@ -1,6 +1,6 @@
 use borrow.Author.Needs.{needs}
 use native.Mathlib.Omega.{arith}
-use mathlib.Core.Path.{_≡_, refl, _∙_, sym, ap}
+use mathlib.Core.Path.{refl, sym}
 use denote.Ref.{now}
 use borrow.Author.Tests.{le-leb, lt-leb}
 use lib.ListN.{length}
@@ -8,66 +8,49 @@ use lib.Seq.{length-take-le}
 use Rattle.record.specs.Turns.{bounds}
 use Rattle.words.proofs.shown.Statement.{statement}
 use Rattle.words.proofs.shown.Tie as tie
-use Rattle.words.proofs.shown.Reads as reads
-use Rattle.words.proofs.shown.Lts as lts
 
--- src/lib.rt:109:26
 enum-known-answer : tie.Need-enum-known-answer
 enum-known-answer c = search needs
 
--- src/lib.rt:111:24
 sub-result : tie.Need-sub-result
 sub-result c = bounds _ _ _ (c .if1 .taken) .0
 
--- src/lib.rt:111:24
 part-result-start : tie.Need-part-result-start
 part-result-start c = let g = c .before .before .answer .given .0 in let k = bounds (g .0) (g .1 .0) (length (now (c .before .before .before .before .args .file))) (c .if1 .taken) in omega (arith, k .0, k .1)
 
--- src/lib.rt:111:24
 part-result-end : tie.Need-part-result-end
 part-result-end c = let g = c .before .before .answer .given .0 in let k = bounds (g .0) (g .1 .0) (length (now (c .before .before .before .before .args .file))) (c .if1 .taken) in omega (arith, k .0, k .1)
 
--- src/lib.rt:111:17
 returns : tie.Need-returns
 returns c = rw (c .before .before .before .answer .given .1, c .before .if1 .taken) refl
 
--- src/lib.rt:113:13
 slice-aggregate-result : tie.Need-slice-aggregate-result
 slice-aggregate-result c = search needs
 
--- src/lib.rt:113:13
 returns-2 : tie.Need-returns-2
 returns-2 c = rw (c .before .before .before .answer .given .1, c .before .if1 .left) refl
 
--- src/lib.rt:115:26
 enum-known-answer-2 : tie.Need-enum-known-answer-2
 enum-known-answer-2 c = search needs
 
--- src/lib.rt:117:17
 slice-aggregate-result-2 : tie.Need-slice-aggregate-result-2
 slice-aggregate-result-2 c = sym (length-take-le _ (now (c .before .before .before .before .before .args .out)) (omega arith))
 
--- src/lib.rt:117:17
 returns-3 : tie.Need-returns-3
 returns-3 c = rw (c .before .before .before .answer2 .given .1, le-leb (c .before .before .before .answer2 .given .0 .0) (length (now (c .before .before .before .before .before .args .out))) (omega arith)) refl
 
--- src/lib.rt:119:13
 slice-aggregate-result-3 : tie.Need-slice-aggregate-result-3
 slice-aggregate-result-3 c = search needs
 
--- src/lib.rt:119:13
 returns-4 : tie.Need-returns-4
 returns-4 c = rw (c .before .before .before .answer2 .given .1, lt-leb (c .before .before .before .answer2 .given .0 .0) (length (now (c .before .before .before .before .before .args .out))) (omega arith)) refl
 
--- src/lib.rt:122:20
 enum-told : tie.Need-enum-told
 enum-told c = search needs
 
--- src/lib.rt:122:13
 slice-aggregate-result-4 : tie.Need-slice-aggregate-result-4
 slice-aggregate-result-4 c = search needs
 
--- src/lib.rt:122:13
 returns-5 : tie.Need-returns-5
 returns-5 c = search needs
 

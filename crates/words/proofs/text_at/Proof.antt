@@ -1,9 +1,9 @@
 use borrow.Author.Needs.{needs}
 use native.Mathlib.Omega.{arith}
-use mathlib.Core.Path.{_≡_, refl, _∙_, sym, ap}
-use mathlib.Core.Bool.{true, false}
-use Prim.Native.Nat.{_-_, _≤_}
-use lib.ListN.{take, drop, length}
+use mathlib.Core.Path.{_≡_, _∙_, sym, ap}
+use mathlib.Core.Bool.{true}
+use Prim.Native.Nat.{_-_}
+use lib.ListN.{take, drop}
 use borrow.Author.Tests.{not-true, not-false}
 use denote.Ref.{now}
 use Rattle.scalars.specs.Scalars.{isUnset}
@@ -13,44 +13,31 @@ use Rattle.params.specs.Reader.{span}
 use Rattle.words.specs.Words.{decodedAt}
 use Rattle.words.proofs.text_at.Statement.{statement}
 use Rattle.words.proofs.text_at.Tie as tie
-use Rattle.words.proofs.text_at.Reads as reads
-use Rattle.words.proofs.text_at.Lts as lts
-use Rattle.record.proofs.same_bytes.Reads as same-bytes-reads
-use Rattle.strings.proofs.decode_string.Reads as decode-string-reads
-use Rattle.words.proofs.is_string.Reads as is-string-reads
 
--- src/lib.rt:79:13
 sub-t : tie.Need-sub-t
 sub-t c = search needs
 
--- src/lib.rt:79:13
 part-t-start : tie.Need-part-t-start
 part-t-start c = search needs
 
--- src/lib.rt:79:13
 part-t-end : tie.Need-part-t-end
 part-t-end c = search needs
 
--- src/lib.rt:80:30
 slice-aggregate-same-bytes : tie.Need-slice-aggregate-same-bytes
 slice-aggregate-same-bytes c = search needs
 
--- src/lib.rt:80:8
 same-bytes-requires : tie.Need-same-bytes-requires
 same-bytes-requires c κs = search needs
 
--- src/lib.rt:81:9
 returns : tie.Need-returns
 unfolding isUnset
 returns c =
     let a = c .before .before .before .before .before .before .args in
     text-unset (now (a .file)) (now (a .out)) (a .start) (a .stop) (a .to .place) (a .to .end) (sym (c .before .same-bytes .ensures) ∙ c .if1 .taken)
 
--- src/lib.rt:83:9
 is-string-requires : tie.Need-is-string-requires
 is-string-requires c κs = search needs
 
--- src/lib.rt:84:9
 returns-2 : tie.Need-returns-2
 unfolding isUnset
 returns-2 c =
@@ -58,11 +45,9 @@ returns-2 c =
     let a = k .before .before .before .before .before .before .args in
     text-wrong (now (a .file)) (now (a .out)) (a .start) (a .stop) (a .to .place) (a .to .end) (sym (k .before .same-bytes .ensures) ∙ k .if1 .left) (sym (c .before .is-string .ensures) ∙ not-true _ (c .if2 .taken))
 
--- src/lib.rt:86:40
 add-decode-string : tie.Need-add-decode-string
 add-decode-string c = search needs
 
--- src/lib.rt:86:51
 sub-decode-string : tie.Need-sub-decode-string
 sub-decode-string c =
     let a = c .before .before .before .before .before .before .before .before .args in
@@ -71,7 +56,6 @@ sub-decode-string c =
     let l = part-length (now (a .file)) (a .start) (a .stop) (omega arith) (omega arith) in
     omega arith
 
--- src/lib.rt:86:34
 sub-decode-string-2 : tie.Need-sub-decode-string-2
 sub-decode-string-2 c =
     let a = c .before .before .before .before .before .before .before .before .args in
@@ -80,7 +64,6 @@ sub-decode-string-2 c =
     let l = part-length (now (a .file)) (a .start) (a .stop) (omega arith) (omega arith) in
     omega arith
 
--- src/lib.rt:86:34
 part-decode-string-start : tie.Need-part-decode-string-start
 part-decode-string-start c =
     let a = c .before .before .before .before .before .before .before .before .args in
@@ -89,23 +72,18 @@ part-decode-string-start c =
     let l = part-length (now (a .file)) (a .start) (a .stop) (omega arith) (omega arith) in
     omega arith
 
--- src/lib.rt:86:34
 part-decode-string-end : tie.Need-part-decode-string-end
 part-decode-string-end c = search needs
 
--- src/lib.rt:86:11
 decode-string-requires : tie.Need-decode-string-requires
 decode-string-requires c κs = search needs
 
--- src/lib.rt:87:44
 enum-told : tie.Need-enum-told
 enum-told c = search needs
 
--- src/lib.rt:87:44
 add-t27 : tie.Need-add-t27
 add-t27 c = search needs
 
--- src/lib.rt:87:55
 sub-t28 : tie.Need-sub-t28
 sub-t28 c =
     let i = c .before .before .before .before .before .before .before in
@@ -115,19 +93,15 @@ sub-t28 c =
     let l = part-length (now (a .file)) (a .start) (a .stop) (omega arith) (omega arith) in
     omega arith
 
--- src/lib.rt:88:26
 enum-known-n : tie.Need-enum-known-n
 enum-known-n c = search needs
 
--- src/lib.rt:89:45
 enum-told-2 : tie.Need-enum-told-2
 enum-told-2 c = search needs
 
--- src/lib.rt:74:1
 same-length : tie.Need-same-length
 same-length c = search needs
 
--- src/lib.rt:74:1
 returns-3 : tie.Need-returns-3
 unfolding isUnset
 returns-3 c =
@@ -137,11 +111,9 @@ returns-3 c =
     let a = u .before .before .before .before .before .before .args in
     text-read (now (a .file)) (now (a .out)) (a .start) (a .stop) (a .to .place) (a .to .end) (sym (u .before .same-bytes .ensures) ∙ u .if1 .left) (d .decode-string .result) (d .decode-string .last .1 .0) _ (sym (i .before .is-string .ensures) ∙ not-false _ (i .if2 .left)) (d .decode-string .ensures .0) (d .decode-string .ensures .1 .0) (ap (decodedAt (span (a .start) (a .stop))) (sym (c .enum-told .given .1)))
 
--- src/lib.rt:74:1
 same-length-2 : tie.Need-same-length-2
 same-length-2 c = search needs
 
--- src/lib.rt:74:1
 returns-4 : tie.Need-returns-4
 unfolding isUnset
 returns-4 c =
@@ -151,11 +123,9 @@ returns-4 c =
     let a = u .before .before .before .before .before .before .args in
     text-read (now (a .file)) (now (a .out)) (a .start) (a .stop) (a .to .place) (a .to .end) (sym (u .before .same-bytes .ensures) ∙ u .if1 .left) (d .decode-string .result) (d .decode-string .last .1 .0) _ (sym (i .before .is-string .ensures) ∙ not-false _ (i .if2 .left)) (d .decode-string .ensures .0) (d .decode-string .ensures .1 .0) (ap (decodedAt (span (a .start) (a .stop))) (sym (c .before .n .given .1)))
 
--- src/lib.rt:74:1
 same-length-3 : tie.Need-same-length-3
 same-length-3 c = search needs
 
--- src/lib.rt:74:1
 returns-5 : tie.Need-returns-5
 unfolding isUnset
 returns-5 c =

@@ -5,15 +5,10 @@ use lib.Dec.{leb}
 use borrow.Author.Needs.{needs}
 use Rattle.export.proofs.ids.enough.Statement.{statement}
 use Rattle.export.proofs.ids.enough.Tie as tie
-use Rattle.export.proofs.ids.enough.Reads as reads
-use Rattle.export.proofs.ids.enough.Lts as lts
-use Rattle.lex.proofs.within.Reads as within-reads
 
--- src/ids.rt:15:19
 within-requires : tie.Need-within-requires
 within-requires c κs = search needs
 
--- src/ids.rt:12:1
 returns : tie.Need-returns
 returns c = let a = c .before .args in ap (λ (k : ℕ). (leb 8 (a .ids) && leb k (a .slots)) && leb k 1073741824) (c .within .ensures)
 

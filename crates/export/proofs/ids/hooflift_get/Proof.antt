@@ -7,38 +7,25 @@ use mathlib.Core.Path.{_∙_, ap}
 use borrow.Author.Needs.{needs}
 use Rattle.export.proofs.ids.hooflift_get.Statement.{statement}
 use Rattle.export.proofs.ids.hooflift_get.Tie as tie
-use Rattle.export.proofs.ids.hooflift_get.Reads as reads
-use Rattle.export.proofs.ids.hooflift_get.Lts as lts
-use Rattle.finds.proofs.row_of.Reads as row-of-reads
-use Rattle.index.proofs.first_row.Reads as first-row-reads
-use Rattle.index.proofs.stands.Reads as stands-reads
-use Rattle.plain.proofs.ids_of.Reads as ids-of-reads
 
--- src/ids.rt:45:9
 ids-of-requires : tie.Need-ids-of-requires
 ids-of-requires c κs = search needs
 
--- src/ids.rt:46:9
 first-row-requires : tie.Need-first-row-requires
 first-row-requires c κs = search needs
 
--- src/ids.rt:47:8
 stands-requires : tie.Need-stands-requires
 stands-requires c κs = search needs
 
--- src/ids.rt:48:9
 returns : tie.Need-returns
 returns c = let a = c .before .before .before .before .before .before .before .args in let b : Ids = c .before .before .before .ids-of .result in ap rowNumber (get-first (now (a .rows)) (now (a .slots)) b (a .id) (c .before .before .first-row .result) (c .before .before .first-row .ensures) (c .before .stands .result) (c .before .stands .ensures) (c .if1 .taken)) ∙ ap (λ (z : Ids). rowNumber (searched (now (a .rows)) (now (a .slots)) z (a .id))) (c .before .before .before .ids-of .ensures)
 
--- src/ids.rt:50:32
 ids-of-requires-2 : tie.Need-ids-of-requires-2
 ids-of-requires-2 c κs = search needs
 
--- src/ids.rt:50:5
 row-of-requires : tie.Need-row-of-requires
 row-of-requires c κs = search needs
 
--- src/ids.rt:41:1
 returns-2 : tie.Need-returns-2
 returns-2 c = let a = c .before .before .before .before .before .before .before .before .before .args in c .row-of .ensures ∙ ap (λ (z : Ids). rowNumber (searched (now (a .rows)) (now (a .slots)) z (a .id))) (c .before .ids-of2 .ensures)
 

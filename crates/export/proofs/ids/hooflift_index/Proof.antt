@@ -8,40 +8,28 @@ use Rattle.export.specs.Ids.Indexed.{short, built}
 use borrow.Author.Needs.{needs}
 use Rattle.export.proofs.ids.hooflift_index.Statement.{statement}
 use Rattle.export.proofs.ids.hooflift_index.Tie as tie
-use Rattle.export.proofs.ids.hooflift_index.Reads as reads
-use Rattle.export.proofs.ids.hooflift_index.Lts as lts
-use Rattle.export.proofs.ids.enough.Reads as enough-reads
-use Rattle.index.proofs.build.Reads as build-reads
-use Rattle.plain.proofs.put_ids.Reads as put-ids-reads
 
--- src/ids.rt:30:8
 enough-requires : tie.Need-enough-requires
 enough-requires c κs = search needs
 
--- src/ids.rt:31:13
 build-requires : tie.Need-build-requires
 build-requires c κs = search needs
 
--- src/ids.rt:32:9
 put-ids-requires : tie.Need-put-ids-requires
 put-ids-requires c κs = search needs
 
--- src/ids.rt:33:9
 same-length : tie.Need-same-length
 same-length c = search needs
 
--- src/ids.rt:33:9
 same-length-2 : tie.Need-same-length-2
 same-length-2 c = search needs
 
--- src/ids.rt:33:9
 returns : tie.Need-returns
 returns c = let a = c .before .before .before .before .before .before .before .before .before .before .before .before .before .args in
     let q : lentEnough (length (now (a .rows))) (a .count) (length (now (a .slots))) (length (now (a .ids))) ≡ true = sym (c .before .before .before .before .before .before .before .before .before .enough .ensures) ∙ c .before .before .before .before .before .before .before .before .if1 .taken in
     let h = lent-eight (length (now (a .rows))) (a .count) (length (now (a .slots))) (length (now (a .ids))) q in
     (rw q refl, built q (c .before .before .before .before .before .before .build .result) (c .before .before .before .before .before .before .build .ensures) (rw (le-leb 8 (length (now (a .ids))) h) at (c .before .before .put-ids .ensures)))
 
--- src/ids.rt:20:1
 returns-2 : tie.Need-returns-2
 returns-2 c = let a = c .before .before .before .before .before .args in
     let q : lentEnough (length (now (a .rows))) (a .count) (length (now (a .slots))) (length (now (a .ids))) ≡ false = sym (c .before .enough .ensures) ∙ c .if1 .left in

@@ -1,43 +1,31 @@
 use borrow.Author.Needs.{needs}
 use denote.Ref.{now}
-use mathlib.Core.Path.{_≡_, _∙_, sym, ap}
+use mathlib.Core.Path.{_∙_, sym, ap}
 use Prim.Native.Nat.{ℕ}
 use Rattle.params.specs.Reader.{Read}
 use Rattle.plain.specs.Answers.{readValue, leaves-good, leaves-bad}
 use Rattle.lists.specs.Items.{toldNextList}
 use Rattle.export.proofs.readers.hooflift_f64_list.Statement.{statement}
 use Rattle.export.proofs.readers.hooflift_f64_list.Tie as tie
-use Rattle.export.proofs.readers.hooflift_f64_list.Reads as reads
-use Rattle.export.proofs.readers.hooflift_f64_list.Lts as lts
-use Rattle.error.proofs.number.Reads as number-reads
-use Rattle.error.proofs.place.Reads as place-reads
-use Rattle.lists.proofs.next_f64_list.Reads as next-f64-list-reads
 
--- src/readers.rt:52:11
 next-f64-list-requires : tie.Need-next-f64-list-requires
 next-f64-list-requires c κs = search needs
 
--- src/readers.rt:53:25
 enum-known-n : tie.Need-enum-known-n
 enum-known-n c = search needs
 
--- src/readers.rt:58:27
 enum-known-f : tie.Need-enum-known-f
 enum-known-f c = search needs
 
--- src/readers.rt:60:22
 place-requires : tie.Need-place-requires
 place-requires c κs = search needs
 
--- src/readers.rt:61:13
 number-requires : tie.Need-number-requires
 number-requires c κs = search needs
 
--- src/readers.rt:36:1
 same-length : tie.Need-same-length
 same-length c = search needs
 
--- src/readers.rt:36:1
 returns : tie.Need-returns
 returns c =
     let k = c .before .before .before .before .before in
@@ -45,11 +33,9 @@ returns c =
     let e = ap toldNextList (sym (c .before .n .given .1)) ∙ k .next-f64-list .ensures .0 in
     (leaves-good e, (k .next-f64-list .ensures .1, ap (λ (r : Read ℕ). readValue (λ (n : ℕ). n) (r .answer) (now (a .count))) e))
 
--- src/readers.rt:36:1
 same-length-2 : tie.Need-same-length-2
 same-length-2 c = search needs
 
--- src/readers.rt:36:1
 returns-2 : tie.Need-returns-2
 returns-2 c =
     let k = c .before .before .before .before .before .before .before in

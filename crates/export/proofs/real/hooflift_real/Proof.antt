@@ -1,6 +1,6 @@
 -- `export::real::hooflift_real` meets its contract: the answer's case is told by the variant that was matched. Assumes nothing.
 use Prim.Native.Nat.{ℕ}
-use mathlib.Core.Path.{_≡_, refl, sym, subst}
+use mathlib.Core.Path.{_≡_, refl, subst}
 use denote.Ref.{now}
 use Rattle.reals.specs.Scalar.{Answer}
 use Rattle.export.specs.Reals.{realCode, realBits}

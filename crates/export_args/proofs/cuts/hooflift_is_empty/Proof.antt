@@ -1,44 +1,31 @@
 use borrow.Author.Needs.{needs}
 use denote.Ref.{now}
-use mathlib.Core.Path.{_≡_, _∙_, sym, ap}
+use mathlib.Core.Path.{_∙_, sym, ap}
 use Rattle.params.specs.Reader.{toldEmptiness}
 use mathlib.Core.Bool.{Bool}
 use Rattle.params.specs.Reader.{Read}
 use Rattle.plain.specs.Answers.{readValue, truthNumber, leaves-good, leaves-bad}
 use Rattle.export_args.proofs.cuts.hooflift_is_empty.Statement.{statement}
 use Rattle.export_args.proofs.cuts.hooflift_is_empty.Tie as tie
-use Rattle.export_args.proofs.cuts.hooflift_is_empty.Reads as reads
-use Rattle.export_args.proofs.cuts.hooflift_is_empty.Lts as lts
-use Rattle.error.proofs.number.Reads as number-reads
-use Rattle.error.proofs.place.Reads as place-reads
-use Rattle.plain.proofs.number_of.Reads as number-of-reads
-use Rattle.params.proofs.is_empty.Reads as is-empty-reads
 
--- src/cuts.rt:72:11
 is-empty-requires : tie.Need-is-empty-requires
 is-empty-requires c κs = search needs
 
--- src/cuts.rt:73:26
 enum-known-b : tie.Need-enum-known-b
 enum-known-b c = search needs
 
--- src/cuts.rt:75:22
 number-of-requires : tie.Need-number-of-requires
 number-of-requires c κs = search needs
 
--- src/cuts.rt:78:28
 enum-known-f : tie.Need-enum-known-f
 enum-known-f c = search needs
 
--- src/cuts.rt:80:22
 place-requires : tie.Need-place-requires
 place-requires c κs = search needs
 
--- src/cuts.rt:81:13
 number-requires : tie.Need-number-requires
 number-requires c κs = search needs
 
--- src/cuts.rt:60:1
 returns : tie.Need-returns
 returns c =
     let k = c .before .before .before .before in
@@ -46,7 +33,6 @@ returns c =
     let e = ap toldEmptiness (sym (c .before .before .b .given .1)) ∙ k .is-empty .ensures in
     (leaves-good e, c .number-of .ensures ∙ ap (λ (r : Read Bool). readValue truthNumber (r .answer) (now (a .empty))) e)
 
--- src/cuts.rt:60:1
 returns-2 : tie.Need-returns-2
 returns-2 c =
     let k = c .before .before .before .before .before in

@@ -1,38 +1,27 @@
 use borrow.Author.Needs.{needs}
 use denote.Ref.{now}
-use mathlib.Core.Path.{_≡_, _∙_, sym, ap}
+use mathlib.Core.Path.{_∙_, sym, ap}
 use Rattle.params.specs.Reader.{toldCut}
 use Rattle.params.specs.Reader.{Read, Span}
 use Rattle.plain.specs.Answers.{readValue, leaves-good, leaves-bad}
 use Rattle.export_args.proofs.cuts.hooflift_param.Statement.{statement}
 use Rattle.export_args.proofs.cuts.hooflift_param.Tie as tie
-use Rattle.export_args.proofs.cuts.hooflift_param.Reads as reads
-use Rattle.export_args.proofs.cuts.hooflift_param.Lts as lts
-use Rattle.error.proofs.number.Reads as number-reads
-use Rattle.error.proofs.place.Reads as place-reads
-use Rattle.params.proofs.param_span.Reads as param-span-reads
 
--- src/cuts.rt:44:11
 param-span-requires : tie.Need-param-span-requires
 param-span-requires c κs = search needs
 
--- src/cuts.rt:45:19
 enum-known-a : tie.Need-enum-known-a
 enum-known-a c = search needs
 
--- src/cuts.rt:51:22
 enum-known-f : tie.Need-enum-known-f
 enum-known-f c = search needs
 
--- src/cuts.rt:53:22
 place-requires : tie.Need-place-requires
 place-requires c κs = search needs
 
--- src/cuts.rt:54:13
 number-requires : tie.Need-number-requires
 number-requires c κs = search needs
 
--- src/cuts.rt:30:1
 returns : tie.Need-returns
 returns c =
     let k = c .before .before .before in
@@ -40,7 +29,6 @@ returns c =
     let e = ap toldCut (sym (c .before .a .given .1)) ∙ k .param-span .ensures .0 in
     (leaves-good e, (ap (λ (r : Read Span). readValue (λ (x : Span). x .start) (r .answer) (now (a .start))) e, ap (λ (r : Read Span). readValue (λ (x : Span). x .stop) (r .answer) (now (a .stop))) e))
 
--- src/cuts.rt:30:1
 returns-2 : tie.Need-returns-2
 returns-2 c =
     let k = c .before .before .before .before .before in

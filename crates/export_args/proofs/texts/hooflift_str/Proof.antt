@@ -1,6 +1,6 @@
 use borrow.Author.Needs.{needs}
 use denote.Ref.{now}
-use mathlib.Core.Path.{_≡_, _∙_, sym, ap}
+use mathlib.Core.Path.{_∙_, sym, ap}
 use Rattle.words.specs.Words.{toldNextText}
 use Rattle.params.specs.Reader.{Read}
 use Rattle.plain.specs.Answers.{readValue, leaves-good, leaves-bad}
@@ -8,41 +8,28 @@ use Rattle.words.specs.Words.{Shown}
 use Rattle.export_args.specs.Values.{shownRoom, shownStart, shownStop}
 use Rattle.export_args.proofs.texts.hooflift_str.Statement.{statement}
 use Rattle.export_args.proofs.texts.hooflift_str.Tie as tie
-use Rattle.export_args.proofs.texts.hooflift_str.Reads as reads
-use Rattle.export_args.proofs.texts.hooflift_str.Lts as lts
-use Rattle.error.proofs.number.Reads as number-reads
-use Rattle.error.proofs.place.Reads as place-reads
-use Rattle.words.proofs.next_str.Reads as next-str-reads
 
--- src/texts.rt:61:11
 next-str-requires : tie.Need-next-str-requires
 next-str-requires c κs = search needs
 
--- src/texts.rt:62:26
 enum-known-a : tie.Need-enum-known-a
 enum-known-a c = search needs
 
--- src/texts.rt:69:26
 enum-known-n : tie.Need-enum-known-n
 enum-known-n c = search needs
 
--- src/texts.rt:76:27
 enum-known-f : tie.Need-enum-known-f
 enum-known-f c = search needs
 
--- src/texts.rt:78:22
 place-requires : tie.Need-place-requires
 place-requires c κs = search needs
 
--- src/texts.rt:79:13
 number-requires : tie.Need-number-requires
 number-requires c κs = search needs
 
--- src/texts.rt:43:1
 same-length : tie.Need-same-length
 same-length c = search needs
 
--- src/texts.rt:43:1
 returns : tie.Need-returns
 returns c =
     let k = c .before .before .before .before .before in
@@ -50,11 +37,9 @@ returns c =
     let e = ap toldNextText (sym (c .before .a .given .1)) ∙ k .next-str .ensures .0 in
     (leaves-good e, (k .next-str .ensures .1, (ap (λ (r : Read Shown). readValue shownRoom (r .answer) (now (a .room))) e, (ap (λ (r : Read Shown). readValue shownStart (r .answer) (now (a .start))) e, ap (λ (r : Read Shown). readValue shownStop (r .answer) (now (a .stop))) e))))
 
--- src/texts.rt:43:1
 same-length-2 : tie.Need-same-length-2
 same-length-2 c = search needs
 
--- src/texts.rt:43:1
 returns-2 : tie.Need-returns-2
 returns-2 c =
     let k = c .before .before .before .before .before in
@@ -62,11 +47,9 @@ returns-2 c =
     let e = ap toldNextText (sym (c .before .n .given .1)) ∙ k .next-str .ensures .0 in
     (leaves-good e, (k .next-str .ensures .1, (ap (λ (r : Read Shown). readValue shownRoom (r .answer) (now (a .room))) e, (ap (λ (r : Read Shown). readValue shownStart (r .answer) (now (a .start))) e, ap (λ (r : Read Shown). readValue shownStop (r .answer) (now (a .stop))) e))))
 
--- src/texts.rt:43:1
 same-length-3 : tie.Need-same-length-3
 same-length-3 c = search needs
 
--- src/texts.rt:43:1
 returns-3 : tie.Need-returns-3
 returns-3 c =
     let k = c .before .before .before .before .before .before .before in

@@ -1,6 +1,6 @@
 use borrow.Author.Needs.{needs}
 use denote.Ref.{now}
-use mathlib.Core.Path.{_≡_, _∙_, sym, ap}
+use mathlib.Core.Path.{_∙_, sym, ap}
 use Rattle.scalars.specs.Scalars.{toldNextTruth}
 use Rattle.params.specs.Reader.{Read}
 use Rattle.plain.specs.Answers.{readValue, leaves-good, leaves-bad}
@@ -8,41 +8,28 @@ use Rattle.export_args.specs.Values.{logicalNumber}
 use Rattle.scalars.specs.Scalars.{Logical}
 use Rattle.export_args.proofs.values.hooflift_bool.Statement.{statement}
 use Rattle.export_args.proofs.values.hooflift_bool.Tie as tie
-use Rattle.export_args.proofs.values.hooflift_bool.Reads as reads
-use Rattle.export_args.proofs.values.hooflift_bool.Lts as lts
-use Rattle.error.proofs.number.Reads as number-reads
-use Rattle.error.proofs.place.Reads as place-reads
-use Rattle.scalars.proofs.next_bool.Reads as next-bool-reads
 
--- src/values.rt:207:11
 next-bool-requires : tie.Need-next-bool-requires
 next-bool-requires c κs = search needs
 
--- src/values.rt:208:26
 enum-known-to : tie.Need-enum-known-to
 enum-known-to c = search needs
 
--- src/values.rt:213:25
 enum-known-to-2 : tie.Need-enum-known-to-2
 enum-known-to-2 c = search needs
 
--- src/values.rt:218:28
 enum-known-to-3 : tie.Need-enum-known-to-3
 enum-known-to-3 c = search needs
 
--- src/values.rt:223:28
 enum-known-f : tie.Need-enum-known-f
 enum-known-f c = search needs
 
--- src/values.rt:225:22
 place-requires : tie.Need-place-requires
 place-requires c κs = search needs
 
--- src/values.rt:226:13
 number-requires : tie.Need-number-requires
 number-requires c κs = search needs
 
--- src/values.rt:195:1
 returns : tie.Need-returns
 returns c =
     let k = c .before .before .before in
@@ -50,7 +37,6 @@ returns c =
     let e = ap toldNextTruth (sym (c .before .to .given .1)) ∙ k .next-bool .ensures in
     (leaves-good e, ap (λ (r : Read Logical). readValue logicalNumber (r .answer) (now (a .value))) e)
 
--- src/values.rt:195:1
 returns-2 : tie.Need-returns-2
 returns-2 c =
     let k = c .before .before .before in
@@ -58,7 +44,6 @@ returns-2 c =
     let e = ap toldNextTruth (sym (c .before .to2 .given .1)) ∙ k .next-bool .ensures in
     (leaves-good e, ap (λ (r : Read Logical). readValue logicalNumber (r .answer) (now (a .value))) e)
 
--- src/values.rt:195:1
 returns-3 : tie.Need-returns-3
 returns-3 c =
     let k = c .before .before .before in
@@ -66,7 +51,6 @@ returns-3 c =
     let e = ap toldNextTruth (sym (c .before .to3 .given .1)) ∙ k .next-bool .ensures in
     (leaves-good e, ap (λ (r : Read Logical). readValue logicalNumber (r .answer) (now (a .value))) e)
 
--- src/values.rt:195:1
 returns-4 : tie.Need-returns-4
 returns-4 c =
     let k = c .before .before .before .before .before in

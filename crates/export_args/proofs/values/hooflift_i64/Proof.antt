@@ -2,40 +2,29 @@ use borrow.Author.Needs.{needs}
 use denote.Ref.{now}
 use mir.Syntax.{w64}
 use mir.ValLaws.{toZ-ofZ}
-use mathlib.Core.Path.{_≡_, _∙_, sym, ap}
+use mathlib.Core.Path.{_∙_, sym, ap}
 use Rattle.scalars.specs.Scalars.{toldNextWhole}
 use lib.IntN.{ℤ}
 use Rattle.params.specs.Reader.{Read}
 use Rattle.plain.specs.Answers.{readValue, leaves-good, leaves-bad}
 use Rattle.export_args.proofs.values.hooflift_i64.Statement.{statement}
 use Rattle.export_args.proofs.values.hooflift_i64.Tie as tie
-use Rattle.export_args.proofs.values.hooflift_i64.Reads as reads
-use Rattle.export_args.proofs.values.hooflift_i64.Lts as lts
-use Rattle.error.proofs.number.Reads as number-reads
-use Rattle.error.proofs.place.Reads as place-reads
-use Rattle.scalars.proofs.next_i64.Reads as next-i64-reads
 
--- src/values.rt:91:11
 next-i64-requires : tie.Need-next-i64-requires
 next-i64-requires c κs = search needs
 
--- src/values.rt:92:26
 enum-known-x : tie.Need-enum-known-x
 enum-known-x c = search needs
 
--- src/values.rt:97:28
 enum-known-f : tie.Need-enum-known-f
 enum-known-f c = search needs
 
--- src/values.rt:99:22
 place-requires : tie.Need-place-requires
 place-requires c κs = search needs
 
--- src/values.rt:100:13
 number-requires : tie.Need-number-requires
 number-requires c κs = search needs
 
--- src/values.rt:79:1
 returns : tie.Need-returns
 returns c =
     let k = c .before .before .before in
@@ -43,7 +32,6 @@ returns c =
     let e = ap toldNextWhole (sym (c .before .x .given .1)) ∙ k .next-i64 .ensures in
     (leaves-good e, toZ-ofZ w64 (c .before .x .given .0 .0) (record { sfits = c .known-told .given .0 .1 }) ∙ ap (λ (r : Read ℤ). readValue (λ (x : ℤ). x) (r .answer) (now (a .value))) e)
 
--- src/values.rt:79:1
 returns-2 : tie.Need-returns-2
 returns-2 c =
     let k = c .before .before .before .before .before in

@@ -1,6 +1,6 @@
 use borrow.Author.Needs.{needs}
 use denote.Ref.{now}
-use mathlib.Core.Path.{_≡_, _∙_, sym, ap}
+use mathlib.Core.Path.{_∙_, sym, ap}
 use Rattle.scalars.specs.Scalars.{toldNextReal}
 use Prim.Native.Nat.{ℕ}
 use lib.Ieee.{binary64, toBits}
@@ -8,33 +8,22 @@ use Rattle.params.specs.Reader.{Read}
 use Rattle.plain.specs.Answers.{readValue, leaves-good, leaves-bad}
 use Rattle.export_args.proofs.values.hooflift_measure.Statement.{statement}
 use Rattle.export_args.proofs.values.hooflift_measure.Tie as tie
-use Rattle.export_args.proofs.values.hooflift_measure.Reads as reads
-use Rattle.export_args.proofs.values.hooflift_measure.Lts as lts
-use Rattle.error.proofs.number.Reads as number-reads
-use Rattle.error.proofs.place.Reads as place-reads
-use Rattle.scalars.proofs.next_measure_f64.Reads as next-measure-f64-reads
 
--- src/values.rt:180:11
 next-measure-f64-requires : tie.Need-next-measure-f64-requires
 next-measure-f64-requires c κs = search needs
 
--- src/values.rt:181:25
 enum-known-x : tie.Need-enum-known-x
 enum-known-x c = search needs
 
--- src/values.rt:186:27
 enum-known-f : tie.Need-enum-known-f
 enum-known-f c = search needs
 
--- src/values.rt:188:22
 place-requires : tie.Need-place-requires
 place-requires c κs = search needs
 
--- src/values.rt:189:13
 number-requires : tie.Need-number-requires
 number-requires c κs = search needs
 
--- src/values.rt:168:1
 returns : tie.Need-returns
 returns c =
     let k = c .before .before .before in
@@ -42,7 +31,6 @@ returns c =
     let e = ap toldNextReal (sym (c .before .x .given .1)) ∙ k .next-measure-f64 .ensures in
     (leaves-good e, ap (λ (r : Read ℕ). readValue (λ (x : ℕ). x) (r .answer) (toBits binary64 (now (a .value)))) e)
 
--- src/values.rt:168:1
 returns-2 : tie.Need-returns-2
 returns-2 c =
     let k = c .before .before .before .before .before in

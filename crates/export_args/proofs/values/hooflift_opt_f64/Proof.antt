@@ -1,6 +1,6 @@
 use borrow.Author.Needs.{needs}
 use denote.Ref.{now}
-use mathlib.Core.Path.{_≡_, _∙_, sym, ap}
+use mathlib.Core.Path.{_∙_, sym, ap}
 use Rattle.scalars.specs.Scalars.{toldNextOptReal}
 use Prim.Native.Nat.{ℕ}
 use lib.Ieee.{binary64, toBits}
@@ -10,37 +10,25 @@ use Rattle.export_args.specs.Values.{givenValue, givenSet}
 use Rattle.scalars.specs.Scalars.{Given}
 use Rattle.export_args.proofs.values.hooflift_opt_f64.Statement.{statement}
 use Rattle.export_args.proofs.values.hooflift_opt_f64.Tie as tie
-use Rattle.export_args.proofs.values.hooflift_opt_f64.Reads as reads
-use Rattle.export_args.proofs.values.hooflift_opt_f64.Lts as lts
-use Rattle.error.proofs.number.Reads as number-reads
-use Rattle.error.proofs.place.Reads as place-reads
-use Rattle.scalars.proofs.next_opt_f64.Reads as next-opt-f64-reads
 
--- src/values.rt:147:11
 next-opt-f64-requires : tie.Need-next-opt-f64-requires
 next-opt-f64-requires c κs = search needs
 
--- src/values.rt:148:28
 enum-known-x : tie.Need-enum-known-x
 enum-known-x c = search needs
 
--- src/values.rt:154:28
 enum-known-to : tie.Need-enum-known-to
 enum-known-to c = search needs
 
--- src/values.rt:159:30
 enum-known-f : tie.Need-enum-known-f
 enum-known-f c = search needs
 
--- src/values.rt:161:22
 place-requires : tie.Need-place-requires
 place-requires c κs = search needs
 
--- src/values.rt:162:13
 number-requires : tie.Need-number-requires
 number-requires c κs = search needs
 
--- src/values.rt:133:1
 returns : tie.Need-returns
 returns c =
     let k = c .before .before .before in
@@ -48,7 +36,6 @@ returns c =
     let e = ap toldNextOptReal (sym (c .before .x .given .1)) ∙ k .next-opt-f64 .ensures in
     (leaves-good e, (ap (λ (r : Read (Given ℕ)). givenValue (r .answer) (toBits binary64 (now (a .value)))) e, ap (λ (r : Read (Given ℕ)). readValue givenSet (r .answer) (now (a .set))) e))
 
--- src/values.rt:133:1
 returns-2 : tie.Need-returns-2
 returns-2 c =
     let k = c .before .before .before in
@@ -56,7 +43,6 @@ returns-2 c =
     let e = ap toldNextOptReal (sym (c .before .to .given .1)) ∙ k .next-opt-f64 .ensures in
     (leaves-good e, (ap (λ (r : Read (Given ℕ)). givenValue (r .answer) (toBits binary64 (now (a .value)))) e, ap (λ (r : Read (Given ℕ)). readValue givenSet (r .answer) (now (a .set))) e))
 
--- src/values.rt:133:1
 returns-3 : tie.Need-returns-3
 returns-3 c =
     let k = c .before .before .before .before .before in

@@ -1,7 +1,7 @@
 use denote.Ref.{now}
-use mathlib.Core.Path.{_≡_, _∙_, sym, ap}
+use mathlib.Core.Path.{_∙_, ap}
 use lib.ListN.{length}
-use Rattle.error.specs.Refusal.{Told, good}
+use Rattle.error.specs.Refusal.{Told}
 use Rattle.index.specs.Search.{searched}
 use Rattle.lookup.specs.Lookup.{Span, rowFound, argsBy}
 use Rattle.lookup.specs.declared.Tables.{Tables}
@@ -9,25 +9,16 @@ use Rattle.plain.specs.Answers.{readCode, readValue}
 use borrow.Author.Needs.{needs}
 use Rattle.export_tables.proofs.by_id.hooflift_args.Statement.{statement}
 use Rattle.export_tables.proofs.by_id.hooflift_args.Tie as tie
-use Rattle.export_tables.proofs.by_id.hooflift_args.Reads as reads
-use Rattle.export_tables.proofs.by_id.hooflift_args.Lts as lts
-use Rattle.export_tables.proofs.put_span.Reads as put-span-reads
-use Rattle.lookup.proofs.args.Reads as args-reads
-use Rattle.plain.proofs.tables_of.Reads as tables-of-reads
 
--- src/by_id.rt:47:41
 tables-of-requires : tie.Need-tables-of-requires
 tables-of-requires c κs = search needs
 
--- src/by_id.rt:47:9
 args-requires : tie.Need-args-requires
 args-requires c κs = search needs
 
--- src/by_id.rt:46:5
 put-span-requires : tie.Need-put-span-requires
 put-span-requires c κs = search needs
 
--- src/by_id.rt:32:1
 returns : tie.Need-returns
 returns c =
     let t = c .before .before .before .before in

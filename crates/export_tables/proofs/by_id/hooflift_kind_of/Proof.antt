@@ -1,5 +1,5 @@
 use denote.Ref.{now}
-use mathlib.Core.Path.{_≡_, _∙_, sym, ap}
+use mathlib.Core.Path.{_∙_, ap}
 use Rattle.index.specs.Search.{searched}
 use Rattle.lookup.specs.Lookup.{rowFound, kindFound}
 use Rattle.lookup.specs.declared.Tables.{Tables}
@@ -7,25 +7,16 @@ use Rattle.kinds.specs.Kind.{rankOf}
 use borrow.Author.Needs.{needs}
 use Rattle.export_tables.proofs.by_id.hooflift_kind_of.Statement.{statement}
 use Rattle.export_tables.proofs.by_id.hooflift_kind_of.Tie as tie
-use Rattle.export_tables.proofs.by_id.hooflift_kind_of.Reads as reads
-use Rattle.export_tables.proofs.by_id.hooflift_kind_of.Lts as lts
-use Rattle.lookup.proofs.kind_of.Reads as kind-of-reads
-use Rattle.plain.proofs.kind_number.Reads as kind-number-reads
-use Rattle.plain.proofs.tables_of.Reads as tables-of-reads
 
--- src/by_id.rt:64:59
 tables-of-requires : tie.Need-tables-of-requires
 tables-of-requires c κs = search needs
 
--- src/by_id.rt:64:24
 kind-of-requires : tie.Need-kind-of-requires
 kind-of-requires c κs = search needs
 
--- src/by_id.rt:64:5
 kind-number-requires : tie.Need-kind-number-requires
 kind-number-requires c κs = search needs
 
--- src/by_id.rt:54:1
 returns : tie.Need-returns
 returns c =
     let t = c .before .before in

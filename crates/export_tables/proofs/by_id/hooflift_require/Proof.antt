@@ -1,8 +1,8 @@
 use denote.Ref.{now}
-use mathlib.Core.Path.{_≡_, _∙_, sym, ap}
-use mathlib.Core.Option.{Option, some}
+use mathlib.Core.Path.{_∙_, sym, ap}
+use mathlib.Core.Option.{some}
 use lib.ListN.{length}
-use Rattle.error.specs.Refusal.{Told, good}
+use Rattle.error.specs.Refusal.{Told}
 use Rattle.statement.specs.Row.{Row, mapped}
 use Rattle.index.specs.Search.{searched}
 use Rattle.lookup.specs.Lookup.{rowFound, required, toldRequired}
@@ -11,42 +11,28 @@ use Rattle.plain.specs.Numbers.{sixOf, outCode, outAfter}
 use borrow.Author.Needs.{needs}
 use Rattle.export_tables.proofs.by_id.hooflift_require.Statement.{statement}
 use Rattle.export_tables.proofs.by_id.hooflift_require.Tie as tie
-use Rattle.export_tables.proofs.by_id.hooflift_require.Reads as reads
-use Rattle.export_tables.proofs.by_id.hooflift_require.Lts as lts
-use Rattle.error.proofs.number.Reads as number-reads
-use Rattle.lookup.proofs.require.Reads as require-reads
-use Rattle.plain.proofs.put_row.Reads as put-row-reads
-use Rattle.plain.proofs.tables_of.Reads as tables-of-reads
 
--- src/by_id.rt:25:40
 tables-of-requires : tie.Need-tables-of-requires
 tables-of-requires c κs = search needs
 
--- src/by_id.rt:25:11
 require-requires : tie.Need-require-requires
 require-requires c κs = search needs
 
--- src/by_id.rt:26:23
 enum-known-w : tie.Need-enum-known-w
 enum-known-w c = search needs
 
--- src/by_id.rt:26:29
 put-row-requires : tie.Need-put-row-requires
 put-row-requires c κs = search needs
 
--- src/by_id.rt:27:27
 enum-known-f : tie.Need-enum-known-f
 enum-known-f c = search needs
 
--- src/by_id.rt:27:33
 number-requires : tie.Need-number-requires
 number-requires c κs = search needs
 
--- src/by_id.rt:14:1
 same-length : tie.Need-same-length
 same-length c = search needs
 
--- src/by_id.rt:14:1
 returns : tie.Need-returns
 returns c =
     let k = c .before .before .before .before .before .before .before in
@@ -55,7 +41,6 @@ returns c =
     let p = c .before .before in
     (p .put-row .ensures .0 ∙ ap (λ (r : Told Row). outCode 6 (length (now (a .row))) (mapped some r)) e, p .put-row .ensures .1 ∙ ap (λ (r : Told Row). outAfter 6 sixOf (mapped some r) (now (a .row))) e)
 
--- src/by_id.rt:14:1
 returns-2 : tie.Need-returns-2
 returns-2 c =
     let k = c .before .before .before .before in

@@ -1,9 +1,9 @@
 use denote.Ref.{now}
-use mathlib.Core.Path.{_≡_, _∙_, sym, ap}
-use mathlib.Core.Option.{Option, some}
+use mathlib.Core.Path.{_∙_, sym, ap}
+use mathlib.Core.Option.{Option}
 use lib.ListN.{length}
-use Rattle.error.specs.Refusal.{Told, good}
-use Rattle.statement.specs.Row.{Row, mapped}
+use Rattle.error.specs.Refusal.{Told}
+use Rattle.statement.specs.Row.{Row}
 use Rattle.lookup.specs.Lookup.{Span, spanIn, rowIn, toldEntry}
 use Rattle.lookup.specs.declared.Tables.{Tables}
 use Rattle.plain.specs.Answers.{readCode, readValue, foundCode, foundValue, found-code, found-value}
@@ -11,38 +11,25 @@ use Rattle.export_tables.specs.Tables.{argSpan}
 use borrow.Author.Needs.{needs}
 use Rattle.export_tables.proofs.by_row.hooflift_args_of.Statement.{statement}
 use Rattle.export_tables.proofs.by_row.hooflift_args_of.Tie as tie
-use Rattle.export_tables.proofs.by_row.hooflift_args_of.Reads as reads
-use Rattle.export_tables.proofs.by_row.hooflift_args_of.Lts as lts
-use Rattle.export_tables.proofs.put_span.Reads as put-span-reads
-use Rattle.lookup.proofs.args_of.Reads as args-of-reads
-use Rattle.lookup.proofs.entity.Reads as entity-reads
-use Rattle.plain.proofs.tables_of.Reads as tables-of-reads
 
--- src/by_row.rt:68:32
 tables-of-requires : tie.Need-tables-of-requires
 tables-of-requires c κs = search needs
 
--- src/by_row.rt:68:11
 entity-requires : tie.Need-entity-requires
 entity-requires c κs = search needs
 
--- src/by_row.rt:69:20
 enum-known-w : tie.Need-enum-known-w
 enum-known-w c = search needs
 
--- src/by_row.rt:69:42
 args-of-requires : tie.Need-args-of-requires
 args-of-requires c κs = search needs
 
--- src/by_row.rt:69:26
 put-span-requires : tie.Need-put-span-requires
 put-span-requires c κs = search needs
 
--- src/by_row.rt:70:27
 enum-told : tie.Need-enum-told
 enum-told c = search needs
 
--- src/by_row.rt:55:1
 returns : tie.Need-returns
 returns c =
     let k = c .before .before .before .before .before .before .before in
@@ -59,7 +46,6 @@ returns c =
       ),
     )
 
--- src/by_row.rt:55:1
 returns-2 : tie.Need-returns-2
 returns-2 c =
     let k = c .before .before in

@@ -1,8 +1,8 @@
 use denote.Ref.{now}
-use mathlib.Core.Path.{_≡_, _∙_, sym, ap}
+use mathlib.Core.Path.{_∙_, sym, ap}
 use Prim.Native.Nat.{ℕ, _-_}
-use mathlib.Core.Option.{Option, some}
-use Rattle.error.specs.Refusal.{Told, good}
+use mathlib.Core.Option.{Option}
+use Rattle.error.specs.Refusal.{good}
 use Rattle.lookup.specs.Lookup.{tableRows, firstFrom, isKind, toldPlace}
 use Rattle.lookup.specs.declared.Tables.{Tables}
 use Rattle.kinds.specs.declared.Kind.{Kind}
@@ -11,33 +11,22 @@ use Rattle.plain.specs.Numbers.{kindBy}
 use borrow.Author.Needs.{needs}
 use Rattle.export_tables.proofs.by_row.hooflift_by_kind.Statement.{statement}
 use Rattle.export_tables.proofs.by_row.hooflift_by_kind.Tie as tie
-use Rattle.export_tables.proofs.by_row.hooflift_by_kind.Reads as reads
-use Rattle.export_tables.proofs.by_row.hooflift_by_kind.Lts as lts
-use Rattle.lookup.proofs.by_kind.Reads as by-kind-reads
-use Rattle.plain.proofs.kind_by.Reads as kind-by-reads
-use Rattle.plain.proofs.tables_of.Reads as tables-of-reads
 
--- src/by_row.rt:109:9
 tables-of-requires : tie.Need-tables-of-requires
 tables-of-requires c κs = search needs
 
--- src/by_row.rt:110:9
 kind-by-requires : tie.Need-kind-by-requires
 kind-by-requires c κs = search needs
 
--- src/by_row.rt:106:11
 by-kind-requires : tie.Need-by-kind-requires
 by-kind-requires c κs = search needs
 
--- src/by_row.rt:113:19
 enum-known-i : tie.Need-enum-known-i
 enum-known-i c = search needs
 
--- src/by_row.rt:117:27
 enum-told : tie.Need-enum-told
 enum-told c = search needs
 
--- src/by_row.rt:94:1
 returns : tie.Need-returns
 returns c =
     let k = c .before .before .before in
@@ -46,7 +35,6 @@ returns c =
     let e = ap toldPlace (sym (c .before .i .given .1)) ∙ k .by-kind .ensures ∙ ap (λ (q : Kind). firstFrom (isKind (now (a .file)) (now (a .rows)) q) (tableRows (now (a .rows)) (t .result .records) - a .«from») (a .«from»)) (k .before .kind-by .ensures) ∙ ap (λ (b : Tables). firstFrom (isKind (now (a .file)) (now (a .rows)) (kindBy (a .kind))) (tableRows (now (a .rows)) (b .records) - a .«from») (a .«from»)) (t .ensures) in
     (ap (λ (o : Option ℕ). foundCode (good o)) e, ap (λ (o : Option ℕ). foundValue (λ (i : ℕ). i) (good o) (now (a .row))) e)
 
--- src/by_row.rt:94:1
 returns-2 : tie.Need-returns-2
 returns-2 c =
     let k = c .before .before in

@@ -1,46 +1,34 @@
 use denote.Ref.{now}
-use mathlib.Core.Path.{_≡_, _∙_, sym, ap}
-use mathlib.Core.Option.{Option, some}
+use mathlib.Core.Path.{_∙_, sym, ap}
+use mathlib.Core.Option.{Option}
 use lib.ListN.{length}
-use Rattle.error.specs.Refusal.{Told, good}
-use Rattle.statement.specs.Row.{Row, mapped}
+use Rattle.error.specs.Refusal.{good}
+use Rattle.statement.specs.Row.{Row}
 use Rattle.lookup.specs.Lookup.{rowIn, toldEntry}
 use Rattle.lookup.specs.declared.Tables.{Tables}
 use Rattle.plain.specs.Numbers.{sixOf, outCode, outAfter}
 use borrow.Author.Needs.{needs}
 use Rattle.export_tables.proofs.by_row.hooflift_entity.Statement.{statement}
 use Rattle.export_tables.proofs.by_row.hooflift_entity.Tie as tie
-use Rattle.export_tables.proofs.by_row.hooflift_entity.Reads as reads
-use Rattle.export_tables.proofs.by_row.hooflift_entity.Lts as lts
-use Rattle.lookup.proofs.entity.Reads as entity-reads
-use Rattle.plain.proofs.put_row.Reads as put-row-reads
-use Rattle.plain.proofs.tables_of.Reads as tables-of-reads
 
--- src/by_row.rt:28:32
 tables-of-requires : tie.Need-tables-of-requires
 tables-of-requires c κs = search needs
 
--- src/by_row.rt:28:11
 entity-requires : tie.Need-entity-requires
 entity-requires c κs = search needs
 
--- src/by_row.rt:29:20
 enum-known-w : tie.Need-enum-known-w
 enum-known-w c = search needs
 
--- src/by_row.rt:29:26
 put-row-requires : tie.Need-put-row-requires
 put-row-requires c κs = search needs
 
--- src/by_row.rt:30:27
 enum-told : tie.Need-enum-told
 enum-told c = search needs
 
--- src/by_row.rt:23:1
 same-length : tie.Need-same-length
 same-length c = search needs
 
--- src/by_row.rt:23:1
 returns : tie.Need-returns
 returns c =
     let k = c .before .before .before .before .before .before .before in
@@ -49,7 +37,6 @@ returns c =
     let p = c .before .before in
     (p .put-row .ensures .0 ∙ ap (λ (o : Option Row). outCode 6 (length (now (a .row))) (good o)) e, p .put-row .ensures .1 ∙ ap (λ (o : Option Row). outAfter 6 sixOf (good o) (now (a .row))) e)
 
--- src/by_row.rt:23:1
 returns-2 : tie.Need-returns-2
 returns-2 c =
     let k = c .before .before in

@@ -1,5 +1,5 @@
 use denote.Ref.{now}
-use mathlib.Core.Path.{_≡_, refl, _∙_, sym, ap}
+use mathlib.Core.Path.{refl, _∙_, sym, ap}
 use Rattle.store.specs.Store.{toldOpened}
 use Rattle.store.specs.declared.Opened.{Opened}
 use Rattle.plain.specs.Answers.{readCode, readFault}
@@ -8,63 +8,43 @@ use Rattle.export_tables.specs.Tables.Host.{short, opened}
 use borrow.Author.Needs.{needs}
 use Rattle.export_tables.proofs.opening.hooflift_open.Statement.{statement}
 use Rattle.export_tables.proofs.opening.hooflift_open.Tie as tie
-use Rattle.export_tables.proofs.opening.hooflift_open.Reads as reads
-use Rattle.export_tables.proofs.opening.hooflift_open.Lts as lts
-use Rattle.error.proofs.number.Reads as number-reads
-use Rattle.error.proofs.place.Reads as place-reads
-use Rattle.error.proofs.reason.Reads as reason-reads
-use Rattle.plain.proofs.put_tables.Reads as put-tables-reads
-use Rattle.store.proofs.open.Reads as open-reads
 
--- src/opening.rt:20:9
 returns : tie.Need-returns
 returns c = short (c .if1 .taken) refl refl refl refl refl refl refl
 
--- src/opening.rt:22:11
 open-requires : tie.Need-open-requires
 open-requires c κs = search needs
 
--- src/opening.rt:23:22
 enum-known-t : tie.Need-enum-known-t
 enum-known-t c = search needs
 
--- src/opening.rt:24:13
 put-tables-requires : tie.Need-put-tables-requires
 put-tables-requires c κs = search needs
 
--- src/opening.rt:27:25
 enum-known-f : tie.Need-enum-known-f
 enum-known-f c = search needs
 
--- src/opening.rt:28:23
 reason-requires : tie.Need-reason-requires
 reason-requires c κs = search needs
 
--- src/opening.rt:29:22
 place-requires : tie.Need-place-requires
 place-requires c κs = search needs
 
--- src/opening.rt:30:13
 number-requires : tie.Need-number-requires
 number-requires c κs = search needs
 
--- src/opening.rt:7:1
 same-length : tie.Need-same-length
 same-length c = search needs
 
--- src/opening.rt:7:1
 same-length-2 : tie.Need-same-length-2
 same-length-2 c = search needs
 
--- src/opening.rt:7:1
 same-length-3 : tie.Need-same-length-3
 same-length-3 c = search needs
 
--- src/opening.rt:7:1
 same-length-4 : tie.Need-same-length-4
 same-length-4 c = search needs
 
--- src/opening.rt:7:1
 returns-2 : tie.Need-returns-2
 returns-2 c =
     let k = c .before .before .before .before .before .before .before .before .before .before .before .before .before in
@@ -73,19 +53,15 @@ returns-2 c =
     let e = sym (c .before .before .before .before .before .t .given .1) in
     opened (c .before .before .before .before .before .before .before .before .before .before .before .before .before .before .before .before .before .if1 .left) (k .«open» .result) (record { answer = o .0; headers = o .1 .0; records = o .1 .1 .0; index = o .1 .1 .1 }) (ap (λ (x : Opened). readCode (toldOpened x)) e) (c .before .before .put-tables .ensures ∙ ap (λ (x : Opened). openTables x (now (a .tables))) e) (ap (λ (x : Opened). readReason (toldOpened x) (now (a .reason))) e) (ap (λ (x : Opened). readFault (toldOpened x) (now (a .fault))) e)
 
--- src/opening.rt:7:1
 same-length-5 : tie.Need-same-length-5
 same-length-5 c = search needs
 
--- src/opening.rt:7:1
 same-length-6 : tie.Need-same-length-6
 same-length-6 c = search needs
 
--- src/opening.rt:7:1
 same-length-7 : tie.Need-same-length-7
 same-length-7 c = search needs
 
--- src/opening.rt:7:1
 returns-3 : tie.Need-returns-3
 returns-3 c =
     let k = c .before .before .before .before .before .before .before .before .before .before .before .before in

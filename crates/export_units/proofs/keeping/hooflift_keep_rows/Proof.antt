@@ -1,38 +1,28 @@
 use denote.Ref.{now}
-use mathlib.Core.Path.{_≡_, _∙_, sym, ap}
+use mathlib.Core.Path.{_∙_, sym, ap}
 use Prim.Native.Nat.{ℕ}
-use Rattle.error.specs.Refusal.{Told, good}
+use Rattle.error.specs.Refusal.{Told}
 use Rattle.kept.specs.Kept.{toldKept}
 use Rattle.plain.specs.Answers.{readCode, readValue}
 use borrow.Author.Needs.{needs}
 use Rattle.export_units.proofs.keeping.hooflift_keep_rows.Statement.{statement}
 use Rattle.export_units.proofs.keeping.hooflift_keep_rows.Tie as tie
-use Rattle.export_units.proofs.keeping.hooflift_keep_rows.Reads as reads
-use Rattle.export_units.proofs.keeping.hooflift_keep_rows.Lts as lts
-use Rattle.error.proofs.number.Reads as number-reads
-use Rattle.kept.proofs.keep_rows.Reads as keep-rows-reads
 
--- src/keeping.rt:21:11
 keep-rows-requires : tie.Need-keep-rows-requires
 keep-rows-requires c κs = search needs
 
--- src/keeping.rt:22:20
 enum-known-n : tie.Need-enum-known-n
 enum-known-n c = search needs
 
--- src/keeping.rt:26:23
 enum-known-f : tie.Need-enum-known-f
 enum-known-f c = search needs
 
--- src/keeping.rt:26:29
 number-requires : tie.Need-number-requires
 number-requires c κs = search needs
 
--- src/keeping.rt:9:1
 same-length : tie.Need-same-length
 same-length c = search needs
 
--- src/keeping.rt:9:1
 returns : tie.Need-returns
 returns c =
     let k = c .before .before .before .before .before in
@@ -40,11 +30,9 @@ returns c =
     let e = ap toldKept (sym (c .before .n .given .1)) ∙ k .keep-rows .ensures .0 in
     (ap (λ (r : Told ℕ). readCode r) e, (k .keep-rows .ensures .1, ap (λ (r : Told ℕ). readValue (λ (x : ℕ). x) r (now (a .kept))) e))
 
--- src/keeping.rt:9:1
 same-length-2 : tie.Need-same-length-2
 same-length-2 c = search needs
 
--- src/keeping.rt:9:1
 returns-2 : tie.Need-returns-2
 returns-2 c =
     let k = c .before .before .before .before .before .before in

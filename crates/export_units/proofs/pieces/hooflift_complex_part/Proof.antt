@@ -1,8 +1,8 @@
 use denote.Ref.{now}
-use mathlib.Core.Path.{_≡_, _∙_, sym, ap}
+use mathlib.Core.Path.{_∙_, ap}
 use lib.ListN.{length}
-use mathlib.Core.Option.{Option, some}
-use Rattle.error.specs.Refusal.{Told, good}
+use mathlib.Core.Option.{Option}
+use Rattle.error.specs.Refusal.{Told}
 use Rattle.statement.specs.Row.{HeaderRow}
 use Rattle.plain.specs.Answers.{readFault}
 use Rattle.plain.specs.Numbers.{fourOf, outCode, outAfter}
@@ -11,29 +11,19 @@ use Rattle.parts.specs.Part.{partOf}
 use borrow.Author.Needs.{needs}
 use Rattle.export_units.proofs.pieces.hooflift_complex_part.Statement.{statement}
 use Rattle.export_units.proofs.pieces.hooflift_complex_part.Tie as tie
-use Rattle.export_units.proofs.pieces.hooflift_complex_part.Reads as reads
-use Rattle.export_units.proofs.pieces.hooflift_complex_part.Lts as lts
-use Rattle.export_units.proofs.pieces.put_next.Reads as put-next-reads
-use Rattle.parts.proofs.complex_part.Reads as complex-part-reads
-use Rattle.plain.proofs.kind_by.Reads as kind-by-reads
 
--- src/pieces.rt:58:56
 kind-by-requires : tie.Need-kind-by-requires
 kind-by-requires c κs = search needs
 
--- src/pieces.rt:58:9
 complex-part-requires : tie.Need-complex-part-requires
 complex-part-requires c κs = search needs
 
--- src/pieces.rt:57:5
 put-next-requires : tie.Need-put-next-requires
 put-next-requires c κs = search needs
 
--- src/pieces.rt:43:1
 same-length : tie.Need-same-length
 same-length c = search needs
 
--- src/pieces.rt:43:1
 returns : tie.Need-returns
 returns c =
     let a = c .before .before .before .before .before .before .before .before .before .args in

@@ -1,32 +1,24 @@
 use denote.Ref.{now}
-use mathlib.Core.Path.{_≡_, _∙_, sym, ap}
+use mathlib.Core.Path.{_∙_, ap}
 use lib.ListN.{length}
-use mathlib.Core.Option.{Option, some}
-use Rattle.error.specs.Refusal.{Told, good}
+use mathlib.Core.Option.{Option}
+use Rattle.error.specs.Refusal.{Told}
 use Rattle.statement.specs.Row.{HeaderRow}
 use Rattle.plain.specs.Answers.{readFault}
 use Rattle.plain.specs.Numbers.{fourOf, outCode, outAfter}
 use borrow.Author.Needs.{needs}
 use Rattle.export_units.proofs.pieces.hooflift_next_part.Statement.{statement}
 use Rattle.export_units.proofs.pieces.hooflift_next_part.Tie as tie
-use Rattle.export_units.proofs.pieces.hooflift_next_part.Reads as reads
-use Rattle.export_units.proofs.pieces.hooflift_next_part.Lts as lts
-use Rattle.export_units.proofs.pieces.put_next.Reads as put-next-reads
-use Rattle.parts.proofs.next_part.Reads as next-part-reads
 
--- src/pieces.rt:39:14
 next-part-requires : tie.Need-next-part-requires
 next-part-requires c κs = search needs
 
--- src/pieces.rt:39:5
 put-next-requires : tie.Need-put-next-requires
 put-next-requires c κs = search needs
 
--- src/pieces.rt:27:1
 same-length : tie.Need-same-length
 same-length c = search needs
 
--- src/pieces.rt:27:1
 returns : tie.Need-returns
 returns c =
     let a = c .before .before .before .before .before .before .before .before .args in

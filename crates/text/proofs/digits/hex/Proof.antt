@@ -4,10 +4,6 @@ use mathlib.Core.Path.{_≡_}
 use borrow.Author.Needs.{needs}
 use Rattle.text.proofs.digits.hex.Statement.{statement}
 use Rattle.text.proofs.digits.hex.Tie as tie
-use Rattle.text.proofs.digits.hex.Reads as reads
-use Rattle.text.proofs.digits.hex.Lts as lts
-use Rattle.text.proofs.byte.Reads as byte-reads
-use Rattle.text.proofs.digits.pair.Reads as pair-reads
 
 abbrev Inv-loop : tie.InvT-loop
 Inv-loop buffer₀ t last₀ i₀ buffer last i = (i ≤ length t) × (length buffer ≡ length buffer₀)
@@ -15,47 +11,36 @@ Inv-loop buffer₀ t last₀ i₀ buffer last i = (i ≤ length t) × (length bu
 abbrev μ-loop : tie.MeasureT-loop
 μ-loop buffer₀ t last₀ i₀ buffer last i = length t - i
 
--- src/digits.rt:9:9
 byte-requires : tie.Need-byte-requires Inv-loop μ-loop
 byte-requires c κs = search needs
 
--- src/digits.rt:9:9
 same-length : tie.Need-same-length Inv-loop μ-loop
 same-length c = search needs
 
--- src/digits.rt:9:9
 returns : tie.Need-returns Inv-loop μ-loop
 returns c = search needs
 
--- src/digits.rt:13:5
 loop-holds : tie.Need-loop-holds Inv-loop μ-loop
 loop-holds c = search needs
 
--- src/digits.rt:14:35
 shared-slice-read-pair : tie.Need-shared-slice-read-pair Inv-loop μ-loop
 shared-slice-read-pair c = search needs
 
--- src/digits.rt:14:9
 pair-requires : tie.Need-pair-requires Inv-loop μ-loop
 pair-requires c κs = search needs
 
--- src/digits.rt:15:9
 add-i : tie.Need-add-i Inv-loop μ-loop
 add-i c = search needs
 
--- src/digits.rt:13:5
 loop-less : tie.Need-loop-less Inv-loop μ-loop
 loop-less c = search needs
 
--- src/digits.rt:13:5
 loop-again : tie.Need-loop-again Inv-loop μ-loop
 loop-again c = search needs
 
--- src/digits.rt:7:1
 same-length-2 : tie.Need-same-length-2 Inv-loop μ-loop
 same-length-2 c = search needs
 
--- src/digits.rt:7:1
 returns-2 : tie.Need-returns-2 Inv-loop μ-loop
 returns-2 c = search needs
 

@@ -1,5 +1,5 @@
 use Prim.Native.Nat.{ℕ, suc, _+_, _-_, _<_, _^_}
-use mathlib.Core.Path.{_≡_, refl, ap, _∙_, subst⁻¹}
+use mathlib.Core.Path.{_≡_, ap, _∙_, subst⁻¹}
 use mathlib.Core.Bool.{Bool, true, false, cond}
 use native.Mathlib.Omega.{arith}
 use borrow.Author.Tests.{ltb-true, le-ltb}
@@ -12,10 +12,6 @@ use mir.ValLaws.{toZ-ofZ}
 use borrow.Author.Needs.{needs}
 use Rattle.text.proofs.digits.signed.Statement.{statement}
 use Rattle.text.proofs.digits.signed.Tie as tie
-use Rattle.text.proofs.digits.signed.Reads as reads
-use Rattle.text.proofs.digits.signed.Lts as lts
-use Rattle.text.proofs.byte.Reads as byte-reads
-use Rattle.text.proofs.decimal.Reads as decimal-reads
 
 -- how far a negative number lies below -1
 under : (z : ℤ) → ltZ z (pos 0) ≡ true → negsuc 0 -ℤ z ≡ pos (mag z)
@@ -47,47 +43,36 @@ above z h k =
     let e : toZ w64 (ofZ w64 z) ≡ z = toZ-ofZ w64 z k in
     subst⁻¹ (λ (y : ℤ). T (nonNeg y) × Fits w64 (natAbs y)) e (small z (rw e at h) (k .sfits))
 
--- src/digits.rt:44:13
 byte-requires : tie.Need-byte-requires
 byte-requires c κs = search needs
 
--- src/digits.rt:45:36
 sub-decimal : tie.Need-sub-decimal
 sub-decimal c = below (c .before .before .before .before .before .before .before .args .n) (c .before .before .before .before .before .if1 .taken) (record { sfits = c .before .before .before .before .before .before .before .good .1 .1 .0 }) .0
 
--- src/digits.rt:45:35
 cast-decimal : tie.Need-cast-decimal
 cast-decimal c = below (c .before .before .before .before .before .before .before .args .n) (c .before .before .before .before .before .if1 .taken) (record { sfits = c .before .before .before .before .before .before .before .good .1 .1 .0 }) .1 .0
 
--- src/digits.rt:45:35
 add-decimal : tie.Need-add-decimal
 add-decimal c = below (c .before .before .before .before .before .before .before .args .n) (c .before .before .before .before .before .if1 .taken) (record { sfits = c .before .before .before .before .before .before .before .good .1 .1 .0 }) .1 .1
 
--- src/digits.rt:45:9
 decimal-requires : tie.Need-decimal-requires
 decimal-requires c κs = search needs
 
--- src/digits.rt:45:9
 same-length : tie.Need-same-length
 same-length c = search needs
 
--- src/digits.rt:45:9
 returns : tie.Need-returns
 returns c = search needs
 
--- src/digits.rt:47:26
 cast-decimal-2 : tie.Need-cast-decimal-2
 cast-decimal-2 c = above (c .before .before .before .args .n) (c .before .if1 .left) (record { sfits = c .before .before .before .good .1 .1 .0 })
 
--- src/digits.rt:47:5
 decimal-requires-2 : tie.Need-decimal-requires-2
 decimal-requires-2 c κs = search needs
 
--- src/digits.rt:42:1
 same-length-2 : tie.Need-same-length-2
 same-length-2 c = search needs
 
--- src/digits.rt:42:1
 returns-2 : tie.Need-returns-2
 returns-2 c = search needs
 

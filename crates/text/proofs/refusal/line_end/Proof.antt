@@ -3,8 +3,6 @@ use lib.ListN.{length}
 use borrow.Author.Needs.{needs}
 use Rattle.text.proofs.refusal.line_end.Statement.{statement}
 use Rattle.text.proofs.refusal.line_end.Tie as tie
-use Rattle.text.proofs.refusal.line_end.Reads as reads
-use Rattle.text.proofs.refusal.line_end.Lts as lts
 
 abbrev Inv-loop : tie.InvT-loop
 Inv-loop table start at₀ at = (start ≤ at) × (at ≤ length table)
@@ -12,31 +10,24 @@ Inv-loop table start at₀ at = (start ≤ at) × (at ≤ length table)
 abbrev μ-loop : tie.MeasureT-loop
 μ-loop table start at₀ at = length table - at
 
--- src/refusal.rt:80:5
 loop-holds : tie.Need-loop-holds Inv-loop μ-loop
 loop-holds c = search needs
 
--- src/refusal.rt:81:12
 shared-slice-read-if1 : tie.Need-shared-slice-read-if1 Inv-loop μ-loop
 shared-slice-read-if1 c = search needs
 
--- src/refusal.rt:82:13
 returns : tie.Need-returns Inv-loop μ-loop
 returns c = search needs
 
--- src/refusal.rt:84:9
 add-at : tie.Need-add-at Inv-loop μ-loop
 add-at c = search needs
 
--- src/refusal.rt:80:5
 loop-less : tie.Need-loop-less Inv-loop μ-loop
 loop-less c = search needs
 
--- src/refusal.rt:80:5
 loop-again : tie.Need-loop-again Inv-loop μ-loop
 loop-again c = search needs
 
--- src/refusal.rt:75:1
 returns-2 : tie.Need-returns-2 Inv-loop μ-loop
 returns-2 c = search needs
 

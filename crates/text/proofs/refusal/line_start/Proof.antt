@@ -1,6 +1,5 @@
 use Prim.Native.Nat.{_≤_, _-_}
 use lib.ListN.{length}
-use mathlib.Core.Path.{_≡_}
 use borrow.Author.Needs.{needs}
 use Rattle.text.proofs.refusal.line_start.Statement.{statement}
 use Rattle.text.proofs.refusal.line_start.Tie as tie

@@ -11,64 +11,45 @@ use Rattle.units.specs.Units.{refsIn, defaults, unitsBy}
 use Rattle.units.specs.Laws.{refs-refused, refs-nothing, refs-inside, units-none, listed-units-is}
 use Rattle.units.proofs.listed.listed_units.Statement.{statement}
 use Rattle.units.proofs.listed.listed_units.Tie as tie
-use Rattle.units.proofs.listed.listed_units.Reads as reads
-use Rattle.units.proofs.listed.listed_units.Lts as lts
-use Rattle.factors.proofs.self_or.Reads as self-or-reads
-use Rattle.units.proofs.assumed.Reads as assumed-reads
-use Rattle.units.proofs.listed.refs_in.Reads as refs-in-reads
-use Rattle.units.proofs.listed.units_from.Reads as units-from-reads
 
--- src/listed.rt:157:25
 self-or-requires : tie.Need-self-or-requires
 self-or-requires c κs = search needs
 
--- src/listed.rt:157:11
 refs-in-requires : tie.Need-refs-in-requires
 refs-in-requires c κs = search needs
 
--- src/listed.rt:158:23
 enum-known-f : tie.Need-enum-known-f
 enum-known-f c = search needs
 
--- src/listed.rt:159:39
 enum-told : tie.Need-enum-told
 enum-told c = search needs
 
--- src/listed.rt:159:39
 assumed-requires : tie.Need-assumed-requires
 assumed-requires c κs = search needs
 
--- src/listed.rt:160:22
 enum-known-a : tie.Need-enum-known-a
 enum-known-a c = search needs
 
--- src/listed.rt:160:64
 sub-units-from : tie.Need-sub-units-from
 sub-units-from c = let a = c .before .before .before .before .before .before .before .before .args in let s = now (a .file) in let find = findOf s (now (a .rows)) (now (a .slots)) (a .t .ids) in let t = thingOf s (rowOf (a .row)) in let h = refs-inside s (onward (refsIn s) (toldRun (c .before .before .before .before .self-or .result))) (c .before .before .before .refs-in .result) (c .before .a .given .0 .0) (c .before .a .given .0 .1 .0) (c .before .before .before .refs-in .ensures) (c .before .a .given .1) in h .0
 
--- src/listed.rt:160:64
 part-units-from-start : tie.Need-part-units-from-start
 part-units-from-start c = let a = c .before .before .before .before .before .before .before .before .args in let s = now (a .file) in let find = findOf s (now (a .rows)) (now (a .slots)) (a .t .ids) in let t = thingOf s (rowOf (a .row)) in let h = refs-inside s (onward (refsIn s) (toldRun (c .before .before .before .before .self-or .result))) (c .before .before .before .refs-in .result) (c .before .a .given .0 .0) (c .before .a .given .0 .1 .0) (c .before .before .before .refs-in .ensures) (c .before .a .given .1) in omega (arith, h .0, h .1 .0)
 
--- src/listed.rt:160:64
 part-units-from-end : tie.Need-part-units-from-end
 part-units-from-end c = let a = c .before .before .before .before .before .before .before .before .args in let s = now (a .file) in let find = findOf s (now (a .rows)) (now (a .slots)) (a .t .ids) in let t = thingOf s (rowOf (a .row)) in let h = refs-inside s (onward (refsIn s) (toldRun (c .before .before .before .before .self-or .result))) (c .before .before .before .refs-in .result) (c .before .a .given .0 .0) (c .before .a .given .0 .1 .0) (c .before .before .before .refs-in .ensures) (c .before .a .given .1) in omega (arith, h .0, h .1 .0)
 
--- src/listed.rt:160:31
 units-from-requires : tie.Need-units-from-requires
 units-from-requires c κs = let a = c .before .before .before .before .before .before .before .before .before .args in let s = now (a .file) in let find = findOf s (now (a .rows)) (now (a .slots)) (a .t .ids) in let t = thingOf s (rowOf (a .row)) in let h = refs-inside s (onward (refsIn s) (toldRun (c .before .before .before .before .before .self-or .result))) (c .before .before .before .before .refs-in .result) (c .before .before .a .given .0 .0) (c .before .before .a .given .0 .1 .0) (c .before .before .before .before .refs-in .ensures) (c .before .before .a .given .1) in h .1 .1 .0
 
--- src/listed.rt:154:1
 returns : tie.Need-returns
 returns c = let a = c .before .before .before .before .before .before .before .before .args in let s = now (a .file) in let find = findOf s (now (a .rows)) (now (a .slots)) (a .t .ids) in let t = thingOf s (rowOf (a .row)) in
     ap (onward (unitsBy s find defaults)) (sym (refs-refused s (onward (refsIn s) (toldRun (c .before .before .before .before .self-or .result))) (c .before .before .before .refs-in .result) (c .before .f .given .0 .0) (c .before .before .before .refs-in .ensures) (c .before .f .given .1))) ∙ listed-units-is s find t (c .before .before .before .before .self-or .ensures)
 
--- src/listed.rt:154:1
 returns-2 : tie.Need-returns-2
 returns-2 c = let a = c .before .before .before .before .before .before .before .before .args in let s = now (a .file) in let find = findOf s (now (a .rows)) (now (a .slots)) (a .t .ids) in let t = thingOf s (rowOf (a .row)) in
     ap good (c .assumed .ensures) ∙ units-none s find defaults ∙ ap (onward (unitsBy s find defaults)) (sym (refs-nothing s (onward (refsIn s) (toldRun (c .before .before .before .before .self-or .result))) (c .before .before .before .refs-in .result) (c .before .before .before .refs-in .ensures) (c .before .enum-told .given .1))) ∙ listed-units-is s find t (c .before .before .before .before .self-or .ensures)
 
--- src/listed.rt:154:1
 returns-3 : tie.Need-returns-3
 returns-3 c = let a = c .before .before .before .before .before .before .before .before .before .before .args in let s = now (a .file) in let find = findOf s (now (a .rows)) (now (a .slots)) (a .t .ids) in let t = thingOf s (rowOf (a .row)) in let h = refs-inside s (onward (refsIn s) (toldRun (c .before .before .before .before .before .before .self-or .result))) (c .before .before .before .before .before .refs-in .result) (c .before .before .before .a .given .0 .0) (c .before .before .before .a .given .0 .1 .0) (c .before .before .before .before .before .refs-in .ensures) (c .before .before .before .a .given .1) in
     c .units-from .ensures ∙ ap (onward (unitsBy s find defaults)) (sym (h .1 .1 .1)) ∙ listed-units-is s find t (c .before .before .before .before .before .before .self-or .ensures)

@@ -14,74 +14,52 @@ use Rattle.units.specs.Units.{uncertaintyOf}
 use Rattle.units.specs.Laws.{uncertain-missing, uncertain-row, uncertain-other, uncertain-own}
 use Rattle.units.proofs.listed.one_uncertainty.Statement.{statement}
 use Rattle.units.proofs.listed.one_uncertainty.Tie as tie
-use Rattle.units.proofs.listed.one_uncertainty.Reads as reads
-use Rattle.units.proofs.listed.one_uncertainty.Lts as lts
-use Rattle.kinds.proofs.same_kind.Reads as same-kind-reads
-use Rattle.lookup.proofs.args_of.Reads as args-of-reads
-use Rattle.lookup.proofs.get.Reads as get-reads
-use Rattle.lookup.proofs.kind_in.Reads as kind-in-reads
-use Rattle.scalars.proofs.next_measure_f64.Reads as next-measure-f64-reads
-use Rattle.units.proofs.listed.uncertain_by.Reads as uncertain-by-reads
 
--- src/listed.rt:173:25
 get-requires : tie.Need-get-requires
 get-requires c κs = search needs
 
--- src/listed.rt:173:20
 enum-known-w : tie.Need-enum-known-w
 enum-known-w c = search needs
 
--- src/listed.rt:174:9
 enum-told : tie.Need-enum-told
 enum-told c = search needs
 
--- src/listed.rt:174:9
 returns : tie.Need-returns
 returns c = let a = c .before .before .before .before .before .before .args in let s = now (a .file) in let find = findOf s (now (a .rows)) (now (a .slots)) (a .t .ids) in
     uncertain-missing s find (a .id) (find-none s (now (a .rows)) (now (a .slots)) (a .t .ids) (a .id) (ap toldEntry (sym (c .enum-told .given .1)) ∙ c .before .before .get .ensures))
 
--- src/listed.rt:176:28
 args-of-requires : tie.Need-args-of-requires
 args-of-requires c κs = search needs
 
--- src/listed.rt:176:23
 enum-known-a : tie.Need-enum-known-a
 enum-known-a c = search needs
 
--- src/listed.rt:177:35
 enum-told-2 : tie.Need-enum-told-2
 enum-told-2 c = search needs
 
--- src/listed.rt:177:9
 returns-2 : tie.Need-returns-2
 returns-2 c = let a = c .before .before .before .before .before .before .before .before .before .before .args in let s = now (a .file) in let find = findOf s (now (a .rows)) (now (a .slots)) (a .t .ids) in let w = rowOf (c .before .before .before .before .w .given .0 .0) in
     uncertain-row s find (a .id) (thingOf s w) (find-row s (now (a .rows)) (now (a .slots)) (a .t .ids) (a .id) (ap toldEntry (sym (c .before .before .before .before .w .given .1)) ∙ c .before .before .before .before .before .before .get .ensures))
     (thing-out (uncertaintyOf s find) s w (ap toldSpan (sym (c .enum-told2 .given .1)) ∙ c .before .before .args-of .ensures))
 
--- src/listed.rt:179:26
 kind-in-requires : tie.Need-kind-in-requires
 kind-in-requires c κs = search needs
 
--- src/listed.rt:179:9
 same-kind-requires : tie.Need-same-kind-requires
 same-kind-requires c κs = search needs
 
--- src/listed.rt:180:9
 returns-3 : tie.Need-returns-3
 returns-3 c = let a = c .before .before .before .before .before .before .before .before .before .before .before .before .before .before .args in let s = now (a .file) in let find = findOf s (now (a .rows)) (now (a .slots)) (a .t .ids) in let w = rowOf (c .before .before .before .before .before .before .before .before .w .given .0 .0) in
     let k = ap (λ (x : Kind). eqb (rankOf x) (rankOf UncertaintyMeasureWithUnit)) (sym (c .before .before .kind-in .ensures)) ∙ sym (c .before .same-kind .ensures) ∙ not-true _ (c .if1 .taken) in
     uncertain-row s find (a .id) (thingOf s w) (find-row s (now (a .rows)) (now (a .slots)) (a .t .ids) (a .id) (ap toldEntry (sym (c .before .before .before .before .before .before .before .before .w .given .1)) ∙ c .before .before .before .before .before .before .before .before .before .before .get .ensures))
     (uncertain-other s find w (ap toldSpan (sym (c .before .before .before .before .a .given .1)) ∙ c .before .before .before .before .before .before .args-of .ensures) k)
 
--- src/listed.rt:182:18
 next-measure-f64-requires : tie.Need-next-measure-f64-requires
 next-measure-f64-requires c κs = search needs
 
--- src/listed.rt:182:5
 uncertain-by-requires : tie.Need-uncertain-by-requires
 uncertain-by-requires c κs = search needs
 
--- src/listed.rt:170:1
 returns-4 : tie.Need-returns-4
 returns-4 c = let a = c .before .before .before .before .before .before .before .before .before .before .before .before .before .before .before .before .args in let s = now (a .file) in let find = findOf s (now (a .rows)) (now (a .slots)) (a .t .ids) in let w = rowOf (c .before .before .before .before .before .before .before .before .before .before .w .given .0 .0) in
     let k = ap (λ (x : Kind). eqb (rankOf x) (rankOf UncertaintyMeasureWithUnit)) (sym (c .before .before .before .before .kind-in .ensures)) ∙ sym (c .before .before .before .same-kind .ensures) ∙ not-false _ (c .before .before .if1 .left) in

@@ -9,97 +9,70 @@ use Rattle.units.specs.Code.{valuesIn, toldRole}
 use Rattle.units.specs.Laws.{unit-missing, unit-row, role-refused, role-none, role-solid, role-length, role-angle}
 use Rattle.units.proofs.listed.one_unit.Statement.{statement}
 use Rattle.units.proofs.listed.one_unit.Tie as tie
-use Rattle.units.proofs.listed.one_unit.Reads as reads
-use Rattle.units.proofs.listed.one_unit.Lts as lts
-use Rattle.factors.proofs.angle_factor.Reads as angle-factor-reads
-use Rattle.factors.proofs.length_factor.Reads as length-factor-reads
-use Rattle.lookup.proofs.get.Reads as get-reads
-use Rattle.units.proofs.listed.with_angle.Reads as with-angle-reads
-use Rattle.units.proofs.listed.with_length.Reads as with-length-reads
-use Rattle.units.proofs.role.role_of.Reads as role-of-reads
 
--- src/listed.rt:119:25
 get-requires : tie.Need-get-requires
 get-requires c κs = search needs
 
--- src/listed.rt:119:20
 enum-known-w : tie.Need-enum-known-w
 enum-known-w c = search needs
 
--- src/listed.rt:120:9
 enum-told : tie.Need-enum-told
 enum-told c = search needs
 
--- src/listed.rt:120:9
 returns : tie.Need-returns
 returns c = let a = c .before .before .before .before .before .before .args in let s = now (a .file) in let find = findOf s (now (a .rows)) (now (a .slots)) (a .t .ids) in
     unit-missing s find (valuesIn (a .u)) (a .id) (find-none s (now (a .rows)) (now (a .slots)) (a .t .ids) (a .id) (ap toldEntry (sym (c .enum-told .given .1)) ∙ c .before .before .get .ensures))
 
--- src/listed.rt:122:11
 role-of-requires : tie.Need-role-of-requires
 role-of-requires c κs = search needs
 
--- src/listed.rt:123:23
 enum-known-f : tie.Need-enum-known-f
 enum-known-f c = search needs
 
--- src/listed.rt:124:26
 enum-told-2 : tie.Need-enum-told-2
 enum-told-2 c = search needs
 
--- src/listed.rt:125:24
 enum-told-3 : tie.Need-enum-told-3
 enum-told-3 c = search needs
 
--- src/listed.rt:126:40
 enum-told-4 : tie.Need-enum-told-4
 enum-told-4 c = search needs
 
--- src/listed.rt:126:40
 length-factor-requires : tie.Need-length-factor-requires
 length-factor-requires c κs = search needs
 
--- src/listed.rt:126:25
 with-length-requires : tie.Need-with-length-requires
 with-length-requires c κs = search needs
 
--- src/listed.rt:127:38
 enum-told-5 : tie.Need-enum-told-5
 enum-told-5 c = search needs
 
--- src/listed.rt:127:38
 angle-factor-requires : tie.Need-angle-factor-requires
 angle-factor-requires c κs = search needs
 
--- src/listed.rt:127:24
 with-angle-requires : tie.Need-with-angle-requires
 with-angle-requires c κs = search needs
 
--- src/listed.rt:116:1
 returns-2 : tie.Need-returns-2
 returns-2 c = let a = c .before .before .before .before .before .before .before .before .before .before .before .args in let s = now (a .file) in let find = findOf s (now (a .rows)) (now (a .slots)) (a .t .ids) in let t = thingOf s (rowOf (c .before .before .before .before .before .w .given .0 .0)) in
     unit-row s find (valuesIn (a .u)) (a .id) t (find-row s (now (a .rows)) (now (a .slots)) (a .t .ids) (a .id) (ap toldEntry (sym (c .before .before .before .before .before .w .given .1)) ∙ c .before .before .before .before .before .before .before .get .ensures))
     (role-refused s find (valuesIn (a .u)) t (ap toldRole (sym (c .before .f .given .1)) ∙ c .before .before .before .role-of .ensures))
 
--- src/listed.rt:116:1
 returns-3 : tie.Need-returns-3
 returns-3 c = let a = c .before .before .before .before .before .before .before .before .before .before .args in let s = now (a .file) in let find = findOf s (now (a .rows)) (now (a .slots)) (a .t .ids) in let t = thingOf s (rowOf (c .before .before .before .before .w .given .0 .0)) in
     unit-row s find (valuesIn (a .u)) (a .id) t (find-row s (now (a .rows)) (now (a .slots)) (a .t .ids) (a .id) (ap toldEntry (sym (c .before .before .before .before .w .given .1)) ∙ c .before .before .before .before .before .before .get .ensures))
     (role-none s find (valuesIn (a .u)) t (ap toldRole (sym (c .enum-told2 .given .1)) ∙ c .before .before .role-of .ensures))
 
--- src/listed.rt:116:1
 returns-4 : tie.Need-returns-4
 returns-4 c = let a = c .before .before .before .before .before .before .before .before .before .before .args in let s = now (a .file) in let find = findOf s (now (a .rows)) (now (a .slots)) (a .t .ids) in let t = thingOf s (rowOf (c .before .before .before .before .w .given .0 .0)) in
     unit-row s find (valuesIn (a .u)) (a .id) t (find-row s (now (a .rows)) (now (a .slots)) (a .t .ids) (a .id) (ap toldEntry (sym (c .before .before .before .before .w .given .1)) ∙ c .before .before .before .before .before .before .get .ensures))
     (role-solid s find (valuesIn (a .u)) t (ap toldRole (sym (c .enum-told3 .given .1)) ∙ c .before .before .role-of .ensures))
 
--- src/listed.rt:116:1
 returns-5 : tie.Need-returns-5
 returns-5 c = let a = c .before .before .before .before .before .before .before .before .before .before .before .before .args in let s = now (a .file) in let find = findOf s (now (a .rows)) (now (a .slots)) (a .t .ids) in let t = thingOf s (rowOf (c .before .before .before .before .before .before .w .given .0 .0)) in
     unit-row s find (valuesIn (a .u)) (a .id) t (find-row s (now (a .rows)) (now (a .slots)) (a .t .ids) (a .id) (ap toldEntry (sym (c .before .before .before .before .before .before .w .given .1)) ∙ c .before .before .before .before .before .before .before .before .get .ensures))
     (role-length s find (valuesIn (a .u)) t (ap toldRole (sym (c .before .before .enum-told4 .given .1)) ∙ c .before .before .before .before .role-of .ensures) (c .with-length .ensures) (c .before .length-factor .ensures))
 
--- src/listed.rt:116:1
 returns-6 : tie.Need-returns-6
 returns-6 c = let a = c .before .before .before .before .before .before .before .before .before .before .before .before .args in let s = now (a .file) in let find = findOf s (now (a .rows)) (now (a .slots)) (a .t .ids) in let t = thingOf s (rowOf (c .before .before .before .before .before .before .w .given .0 .0)) in
     unit-row s find (valuesIn (a .u)) (a .id) t (find-row s (now (a .rows)) (now (a .slots)) (a .t .ids) (a .id) (ap toldEntry (sym (c .before .before .before .before .before .before .w .given .1)) ∙ c .before .before .before .before .before .before .before .before .get .ensures))

@@ -11,94 +11,71 @@ use Rattle.lookup.specs.Lookup.{cut}
 use Rattle.units.specs.Laws.{cut-length, refs-uncut, refs-bad, refs-empty, refs-full}
 use Rattle.units.proofs.listed.refs_at.Statement.{statement}
 use Rattle.units.proofs.listed.refs_at.Tie as tie
-use Rattle.units.proofs.listed.refs_at.Reads as reads
-use Rattle.units.proofs.listed.refs_at.Lts as lts
-use Rattle.lists.proofs.count_list.Reads as count-list-reads
-use Rattle.params.proofs.param_span.Reads as param-span-reads
 
--- src/listed.rt:63:11
 param-span-requires : tie.Need-param-span-requires
 param-span-requires c κs = search needs
 
--- src/listed.rt:64:22
 enum-known-f : tie.Need-enum-known-f
 enum-known-f c = search needs
 
--- src/listed.rt:65:19
 enum-known-start : tie.Need-enum-known-start
 enum-known-start c = search needs
 
--- src/listed.rt:65:62
 sub-count-list : tie.Need-sub-count-list
 sub-count-list c = let (u, v) = cut-places _ _ _ _ _ (c .before .before .before .param-span .ensures .1) (c .before .start .given .1) in u
 
--- src/listed.rt:65:62
 part-count-list-start : tie.Need-part-count-list-start
 part-count-list-start c = let (u, v) = cut-places _ _ _ _ _ (c .before .before .before .param-span .ensures .1) (c .before .start .given .1) in omega (arith, u, v)
 
--- src/listed.rt:65:62
 part-count-list-end : tie.Need-part-count-list-end
 part-count-list-end c = let (u, v) = cut-places _ _ _ _ _ (c .before .before .before .param-span .ensures .1) (c .before .start .given .1) in omega (arith, u, v)
 
--- src/listed.rt:65:44
 count-list-requires : tie.Need-count-list-requires
 count-list-requires c κs = search needs
 
--- src/listed.rt:66:28
 enum-known-o : tie.Need-enum-known-o
 enum-known-o c = search needs
 
--- src/listed.rt:66:65
 add-t20 : tie.Need-add-t20
 add-t20 c = let s = now (c .before .before .before .before .before .before .before .before .before .before .args .file) in let x = c .before .before .before .before .before .before .start .given .0 .0 in let y = c .before .before .before .before .before .before .start .given .0 .1 .0 in
     let (u, v) = cut-places (length s) (c .before .before .before .before .before .before .before .before .param-span .result) x y (c .before .before .before .before .before .before .start .given .0 .1 .1 .0) (c .before .before .before .before .before .before .before .before .param-span .ensures .1) (c .before .before .before .before .before .before .start .given .1) in
     omega (arith, u, v, cut-length s x y u v, counted-wrong (length (cut s x y)) (c .before .o .given .0 .0) (c .before .before .before .count-list .result) (c .before .before .before .count-list .ensures .1) (c .before .o .given .1))
 
--- src/listed.rt:67:30
 enum-known-o-2 : tie.Need-enum-known-o-2
 enum-known-o-2 c = search needs
 
--- src/listed.rt:67:70
 add-t22 : tie.Need-add-t22
 add-t22 c = let s = now (c .before .before .before .before .before .before .before .before .before .before .args .file) in let x = c .before .before .before .before .before .before .start .given .0 .0 in let y = c .before .before .before .before .before .before .start .given .0 .1 .0 in
     let (u, v) = cut-places (length s) (c .before .before .before .before .before .before .before .before .param-span .result) x y (c .before .before .before .before .before .before .start .given .0 .1 .1 .0) (c .before .before .before .before .before .before .before .before .param-span .ensures .1) (c .before .before .before .before .before .before .start .given .1) in
     omega (arith, u, v, cut-length s x y u v, counted-outside (length (cut s x y)) (c .before .o2 .given .0 .0) (c .before .before .before .count-list .result) (c .before .before .before .count-list .ensures .1) (c .before .o2 .given .1))
 
--- src/listed.rt:68:26
 enum-known-n : tie.Need-enum-known-n
 enum-known-n c = search needs
 
--- src/listed.rt:70:21
 returns : tie.Need-returns
 returns c = let a = c .before .before .before .before .before .before .before .before .before .before .before .args in refs-empty (now (a .file)) (a .a) (a .z) (c .before .before .before .before .before .before .before .start .given .0 .0) (c .before .before .before .before .before .before .before .start .given .0 .1 .0) _ _ (ap toldCut (sym (c .before .before .before .before .before .before .before .start .given .1)) ∙ c .before .before .before .before .before .before .before .before .before .param-span .ensures .0) (ap toldCounted (sym (c .before .before .n .given .1)) ∙ c .before .before .before .before .count-list .ensures .0) (c .if1 .taken)
 
--- src/listed.rt:72:30
 add-t25 : tie.Need-add-t25
 add-t25 c = let a = c .before .before .before .before .before .before .before .before .before .before .before .args in let s = now (a .file) in let x = c .before .before .before .before .before .before .before .start .given .0 .0 in let y = c .before .before .before .before .before .before .before .start .given .0 .1 .0 in
     let (u, v) = cut-places (length s) (c .before .before .before .before .before .before .before .before .before .param-span .result) x y (c .before .before .before .before .before .before .before .start .given .0 .1 .1 .0) (c .before .before .before .before .before .before .before .before .before .param-span .ensures .1) (c .before .before .before .before .before .before .before .start .given .1) in
     let h = refs-full s (a .a) (a .z) x y _ _ (ap toldCut (sym (c .before .before .before .before .before .before .before .start .given .1)) ∙ c .before .before .before .before .before .before .before .before .before .param-span .ensures .0) u v (ap toldCounted (sym (c .before .before .n .given .1)) ∙ c .before .before .before .before .count-list .ensures .0) (c .if1 .left) in
     omega (arith, u, v, h .0)
 
--- src/listed.rt:72:41
 sub-t26 : tie.Need-sub-t26
 sub-t26 c = let a = c .before .before .before .before .before .before .before .before .before .before .before .args in let s = now (a .file) in let x = c .before .before .before .before .before .before .before .start .given .0 .0 in let y = c .before .before .before .before .before .before .before .start .given .0 .1 .0 in
     let (u, v) = cut-places (length s) (c .before .before .before .before .before .before .before .before .before .param-span .result) x y (c .before .before .before .before .before .before .before .start .given .0 .1 .1 .0) (c .before .before .before .before .before .before .before .before .before .param-span .ensures .1) (c .before .before .before .before .before .before .before .start .given .1) in
     let h = refs-full s (a .a) (a .z) x y _ _ (ap toldCut (sym (c .before .before .before .before .before .before .before .start .given .1)) ∙ c .before .before .before .before .before .before .before .before .before .param-span .ensures .0) u v (ap toldCounted (sym (c .before .before .n .given .1)) ∙ c .before .before .before .before .count-list .ensures .0) (c .if1 .left) in
     omega (arith, u, v, h .0)
 
--- src/listed.rt:60:1
 returns-2 : tie.Need-returns-2
 returns-2 c = let a = c .before .before .before .before .before .args in refs-uncut (now (a .file)) (a .a) (a .z) (ap toldCut (sym (c .before .f .given .1)) ∙ c .before .before .before .param-span .ensures .0)
 
--- src/listed.rt:60:1
 returns-3 : tie.Need-returns-3
 returns-3 c = let a = c .before .before .before .before .before .before .before .before .before .before .args in refs-bad (now (a .file)) (a .a) (a .z) (c .before .before .before .before .before .before .start .given .0 .0) (c .before .before .before .before .before .before .start .given .0 .1 .0) _ _ (ap toldCut (sym (c .before .before .before .before .before .before .start .given .1)) ∙ c .before .before .before .before .before .before .before .before .param-span .ensures .0) (ap toldCounted (sym (c .before .o .given .1)) ∙ c .before .before .before .count-list .ensures .0)
 
--- src/listed.rt:60:1
 returns-4 : tie.Need-returns-4
 returns-4 c = let a = c .before .before .before .before .before .before .before .before .before .before .args in refs-bad (now (a .file)) (a .a) (a .z) (c .before .before .before .before .before .before .start .given .0 .0) (c .before .before .before .before .before .before .start .given .0 .1 .0) _ _ (ap toldCut (sym (c .before .before .before .before .before .before .start .given .1)) ∙ c .before .before .before .before .before .before .before .before .param-span .ensures .0) (ap toldCounted (sym (c .before .o2 .given .1)) ∙ c .before .before .before .count-list .ensures .0)
 
--- src/listed.rt:60:1
 returns-5 : tie.Need-returns-5
 returns-5 c = let a = c .before .before .before .before .before .before .before .before .before .before .before .args in let s = now (a .file) in let x = c .before .before .before .before .before .before .before .start .given .0 .0 in let y = c .before .before .before .before .before .before .before .start .given .0 .1 .0 in
     let (u, v) = cut-places (length s) (c .before .before .before .before .before .before .before .before .before .param-span .result) x y (c .before .before .before .before .before .before .before .start .given .0 .1 .1 .0) (c .before .before .before .before .before .before .before .before .before .param-span .ensures .1) (c .before .before .before .before .before .before .before .start .given .1) in

@@ -13,11 +13,6 @@ use Rattle.units.specs.Code.{toldUncertain, idsOf}
 use Rattle.units.specs.Laws.{Reading, reading-starts, reading-bad, reading-here, reading-last, reading-goes, thousandth-bits, tolerance-is, tolerance-bad, tolerance-more, tolerance-last}
 use Rattle.units.proofs.listed.tolerance_from.Statement.{statement}
 use Rattle.units.proofs.listed.tolerance_from.Tie as tie
-use Rattle.units.proofs.listed.tolerance_from.Reads as reads
-use Rattle.units.proofs.listed.tolerance_from.Lts as lts
-use Rattle.lists.proofs.item_at.Reads as item-at-reads
-use Rattle.reals.proofs.parse_ref.Reads as parse-ref-reads
-use Rattle.units.proofs.listed.one_uncertainty.Reads as one-uncertainty-reads
 
 abbrev Inv-loop : tie.InvT-loop
 Inv-loop file rows slots t b i₀ i = Reading b (toleranceBy file (findOf file rows slots (t .ids))) (toleranceBy file (findOf file rows slots (t .ids)) (idsOf b)) i
@@ -25,63 +20,49 @@ Inv-loop file rows slots t b i₀ i = Reading b (toleranceBy file (findOf file r
 abbrev μ-loop : tie.MeasureT-loop
 μ-loop file rows slots t b i₀ i = length b - i
 
--- src/listed.rt:206:5
 loop-holds : tie.Need-loop-holds Inv-loop μ-loop
 loop-holds c = let a = c .before .before .before .before .args in let s = now (a .file) in let b = now (a .b) in let find = findOf s (now (a .rows)) (now (a .slots)) (a .t .ids) in
     reading-starts b (toleranceBy s find) (toleranceBy s find (idsOf b)) (c .before .before .before .before .pre) refl
 
--- src/listed.rt:207:13
 item-at-requires : tie.Need-item-at-requires Inv-loop μ-loop
 item-at-requires c κs = search needs
 
--- src/listed.rt:211:53
 sub-parse-ref : tie.Need-sub-parse-ref Inv-loop μ-loop
 sub-parse-ref c = c .item-at .ensures .ordered
 
--- src/listed.rt:211:53
 part-parse-ref-start : tie.Need-part-parse-ref-start Inv-loop μ-loop
 part-parse-ref-start c = omega (arith, c .item-at .ensures .ordered, c .item-at .ensures .short, c .item-at .ensures .within)
 
--- src/listed.rt:211:53
 part-parse-ref-end : tie.Need-part-parse-ref-end Inv-loop μ-loop
 part-parse-ref-end c = omega (arith, c .item-at .ensures .ordered, c .item-at .ensures .short, c .item-at .ensures .within)
 
--- src/listed.rt:211:36
 parse-ref-requires : tie.Need-parse-ref-requires Inv-loop μ-loop
 parse-ref-requires c κs = search needs
 
--- src/listed.rt:211:30
 enum-known-id : tie.Need-enum-known-id Inv-loop μ-loop
 enum-known-id c = search needs
 
--- src/listed.rt:212:13
 enum-told : tie.Need-enum-told Inv-loop μ-loop
 enum-told c = search needs
 
--- src/listed.rt:212:13
 returns : tie.Need-returns Inv-loop μ-loop
 returns c = let a = c .before .before .before .before .before .before .before .before .before .before .args in let s = now (a .file) in let b = now (a .b) in let find = findOf s (now (a .rows)) (now (a .slots)) (a .t .ids) in
     absurd (reading-bad b (toleranceBy s find) (toleranceBy s find (idsOf b)) (c .before .before .before .before .before .loop .i) (c .before .before .before .before .before .loop .inv) (c .before .before .before .before .item-at .result) (c .before .before .before .before .item-at .ensures) 12 0 (ap (λ (x : Answer ℕ). asFate x) (ap toldReference (sym (c .enum-told .given .1)) ∙ c .before .before .parse-ref .ensures)))
 
--- src/listed.rt:214:15
 one-uncertainty-requires : tie.Need-one-uncertainty-requires Inv-loop μ-loop
 one-uncertainty-requires c κs = search needs
 
--- src/listed.rt:215:27
 enum-known-v : tie.Need-enum-known-v Inv-loop μ-loop
 enum-known-v c = search needs
 
--- src/listed.rt:215:33
 returns-2 : tie.Need-returns-2 Inv-loop μ-loop
 returns-2 c = let a = c .before .before .before .before .before .before .before .before .before .before .before .before .before .before .before .args in let s = now (a .file) in let b = now (a .b) in let find = findOf s (now (a .rows)) (now (a .slots)) (a .t .ids) in
     let (l, k) = reading-here b (toleranceBy s find) (toleranceBy s find (idsOf b)) (c .before .before .before .before .before .before .before .before .before .before .loop .i) (c .before .before .before .before .before .before .before .before .before .before .loop .inv) (c .before .before .before .before .before .before .before .before .before .item-at .result) (c .before .before .before .before .before .before .before .before .before .item-at .ensures) (c .before .before .before .before .before .id .given .0 .0) (ap (λ (x : Answer ℕ). asFate x) (ap toldReference (sym (c .before .before .before .before .before .id .given .1)) ∙ c .before .before .before .before .before .before .before .parse-ref .ensures)) in
     tolerance-is s find (c .before .before .before .before .before .id .given .0 .0) l (ap toldUncertain (sym (c .before .v .given .1)) ∙ c .before .before .before .one-uncertainty .ensures) ∙ k
 
--- src/listed.rt:216:32
 enum-known-f : tie.Need-enum-known-f Inv-loop μ-loop
 enum-known-f c = search needs
 
--- src/listed.rt:216:38
 returns-3 : tie.Need-returns-3 Inv-loop μ-loop
 returns-3 c = let a = c .before .before .before .before .before .before .before .before .before .before .before .before .before .before .before .args in let s = now (a .file) in let b = now (a .b) in let find = findOf s (now (a .rows)) (now (a .slots)) (a .t .ids) in
     let (l, k) = reading-here b (toleranceBy s find) (toleranceBy s find (idsOf b)) (c .before .before .before .before .before .before .before .before .before .before .loop .i) (c .before .before .before .before .before .before .before .before .before .before .loop .inv) (c .before .before .before .before .before .before .before .before .before .item-at .result) (c .before .before .before .before .before .before .before .before .before .item-at .ensures) (c .before .before .before .before .before .id .given .0 .0) (ap (λ (x : Answer ℕ). asFate x) (ap toldReference (sym (c .before .before .before .before .before .id .given .1)) ∙ c .before .before .before .before .before .before .before .parse-ref .ensures)) in
@@ -90,20 +71,16 @@ returns-3 c = let a = c .before .before .before .before .before .before .before 
 enum-told-2 : tie.Need-enum-told-2 Inv-loop μ-loop
 enum-told-2 c = search needs
 
--- src/listed.rt:220:13
 returns-4 : tie.Need-returns-4 Inv-loop μ-loop
 returns-4 c = let a = c .before .before .before .before .before .before .before .before .before .before .before .before .before .before .before .args in let s = now (a .file) in let b = now (a .b) in let find = findOf s (now (a .rows)) (now (a .slots)) (a .t .ids) in
     ap good thousandth-bits ∙ tolerance-last s find (c .before .before .before .before .before .id .given .0 .0) (ap toldUncertain (sym (c .before .enum-told2 .given .1)) ∙ c .before .before .before .one-uncertainty .ensures) ∙ reading-last b (toleranceBy s find) (toleranceBy s find (idsOf b)) (c .before .before .before .before .before .before .before .before .before .before .loop .i) (c .before .before .before .before .before .before .before .before .before .before .loop .inv) (c .before .before .before .before .before .before .before .before .before .item-at .result) (c .before .before .before .before .before .before .before .before .before .item-at .ensures) (c .before .before .before .before .before .id .given .0 .0) (ap (λ (x : Answer ℕ). asFate x) (ap toldReference (sym (c .before .before .before .before .before .id .given .1)) ∙ c .before .before .before .before .before .before .before .parse-ref .ensures)) (c .if1 .taken)
 
--- src/listed.rt:222:13
 add-i : tie.Need-add-i Inv-loop μ-loop
 add-i c = omega (arith, c .before .before .before .before .before .before .before .before .before .item-at .ensures .within)
 
--- src/listed.rt:206:5
 loop-less : tie.Need-loop-less Inv-loop μ-loop
 loop-less c = omega (arith, c .before .before .before .before .before .before .before .before .before .item-at .ensures .within, c .before .before .before .before .before .before .before .before .before .item-at .ensures .above, c .if1 .left)
 
--- src/listed.rt:206:5
 loop-again : tie.Need-loop-again Inv-loop μ-loop
 loop-again c = let a = c .before .before .before .before .before .before .before .before .before .before .before .before .before .before .before .args in let s = now (a .file) in let b = now (a .b) in let find = findOf s (now (a .rows)) (now (a .slots)) (a .t .ids) in
     reading-goes b (toleranceBy s find) (toleranceBy s find (idsOf b)) (c .before .before .before .before .before .before .before .before .before .before .loop .i) (c .before .before .before .before .before .before .before .before .before .before .loop .inv) (c .before .before .before .before .before .before .before .before .before .item-at .result) (c .before .before .before .before .before .before .before .before .before .item-at .ensures) (c .before .before .before .before .before .id .given .0 .0) (ap (λ (x : Answer ℕ). asFate x) (ap toldReference (sym (c .before .before .before .before .before .id .given .1)) ∙ c .before .before .before .before .before .before .before .parse-ref .ensures)) (toleranceBy s find) (tolerance-more s find (c .before .before .before .before .before .id .given .0 .0) (ap toldUncertain (sym (c .before .enum-told2 .given .1)) ∙ c .before .before .before .one-uncertainty .ensures)) (omega (arith, c .before .before .before .before .before .before .before .before .before .item-at .ensures .within, c .if1 .left))

@@ -12,12 +12,6 @@ use Rattle.units.specs.Code.{valuesIn, toldUnits, idsOf}
 use Rattle.units.specs.Laws.{Reading, reading-starts, reading-bad, reading-here, reading-last, reading-goes, units-bad, units-more, units-last}
 use Rattle.units.proofs.listed.units_from.Statement.{statement}
 use Rattle.units.proofs.listed.units_from.Tie as tie
-use Rattle.units.proofs.listed.units_from.Reads as reads
-use Rattle.units.proofs.listed.units_from.Lts as lts
-use Rattle.lists.proofs.item_at.Reads as item-at-reads
-use Rattle.reals.proofs.parse_ref.Reads as parse-ref-reads
-use Rattle.units.proofs.assumed.Reads as assumed-reads
-use Rattle.units.proofs.listed.one_unit.Reads as one-unit-reads
 
 abbrev Inv-loop : tie.InvT-loop
 Inv-loop file rows slots t b u₀ i₀ u i = Reading b (unitsBy file (findOf file rows slots (t .ids)) (valuesIn u)) (unitsBy file (findOf file rows slots (t .ids)) defaults (idsOf b)) i
@@ -25,80 +19,62 @@ Inv-loop file rows slots t b u₀ i₀ u i = Reading b (unitsBy file (findOf fil
 abbrev μ-loop : tie.MeasureT-loop
 μ-loop file rows slots t b u₀ i₀ u i = length b - i
 
--- src/listed.rt:136:9
 assumed-requires : tie.Need-assumed-requires Inv-loop μ-loop
 assumed-requires c κs = search needs
 
--- src/listed.rt:138:5
 loop-holds : tie.Need-loop-holds Inv-loop μ-loop
 loop-holds c = let a = c .before .before .before .before .before .args in let s = now (a .file) in let b = now (a .b) in let find = findOf s (now (a .rows)) (now (a .slots)) (a .t .ids) in
     reading-starts b (unitsBy s find (valuesIn (c .assumed .result))) (unitsBy s find defaults (idsOf b)) (c .before .before .before .before .before .pre) (ap (λ (u : Units). unitsBy s find u (idsOf b)) (c .assumed .ensures))
 
--- src/listed.rt:139:13
 item-at-requires : tie.Need-item-at-requires Inv-loop μ-loop
 item-at-requires c κs = search needs
 
--- src/listed.rt:143:53
 sub-parse-ref : tie.Need-sub-parse-ref Inv-loop μ-loop
 sub-parse-ref c = c .item-at .ensures .ordered
 
--- src/listed.rt:143:53
 part-parse-ref-start : tie.Need-part-parse-ref-start Inv-loop μ-loop
 part-parse-ref-start c = omega (arith, c .item-at .ensures .ordered, c .item-at .ensures .short, c .item-at .ensures .within)
 
--- src/listed.rt:143:53
 part-parse-ref-end : tie.Need-part-parse-ref-end Inv-loop μ-loop
 part-parse-ref-end c = omega (arith, c .item-at .ensures .ordered, c .item-at .ensures .short, c .item-at .ensures .within)
 
--- src/listed.rt:143:36
 parse-ref-requires : tie.Need-parse-ref-requires Inv-loop μ-loop
 parse-ref-requires c κs = search needs
 
--- src/listed.rt:143:30
 enum-known-id : tie.Need-enum-known-id Inv-loop μ-loop
 enum-known-id c = search needs
 
--- src/listed.rt:144:13
 enum-told : tie.Need-enum-told Inv-loop μ-loop
 enum-told c = search needs
 
--- src/listed.rt:144:13
 returns : tie.Need-returns Inv-loop μ-loop
 returns c = let a = c .before .before .before .before .before .before .before .before .before .before .before .args in let s = now (a .file) in let b = now (a .b) in let find = findOf s (now (a .rows)) (now (a .slots)) (a .t .ids) in
     absurd (reading-bad b (unitsBy s find (valuesIn (c .before .before .before .before .before .loop .u))) (unitsBy s find defaults (idsOf b)) (c .before .before .before .before .before .loop .i) (c .before .before .before .before .before .loop .inv) (c .before .before .before .before .item-at .result) (c .before .before .before .before .item-at .ensures) 12 0 (ap (λ (x : Answer ℕ). asFate x) (ap toldReference (sym (c .enum-told .given .1)) ∙ c .before .before .parse-ref .ensures)))
 
--- src/listed.rt:146:13
 one-unit-requires : tie.Need-one-unit-requires Inv-loop μ-loop
 one-unit-requires c κs = search needs
 
--- src/listed.rt:147:26
 enum-known-r : tie.Need-enum-known-r Inv-loop μ-loop
 enum-known-r c = search needs
 
--- src/listed.rt:148:13
 enum-told-2 : tie.Need-enum-told-2 Inv-loop μ-loop
 enum-told-2 c = search needs
 
--- src/listed.rt:148:13
 returns-2 : tie.Need-returns-2 Inv-loop μ-loop
 returns-2 c = let a = c .before .before .before .before .before .before .before .before .before .before .before .before .before .before .before .args in let s = now (a .file) in let b = now (a .b) in let find = findOf s (now (a .rows)) (now (a .slots)) (a .t .ids) in
     let (l, k) = reading-here b (unitsBy s find (valuesIn (c .before .before .before .before .before .before .before .before .before .loop .u))) (unitsBy s find defaults (idsOf b)) (c .before .before .before .before .before .before .before .before .before .loop .i) (c .before .before .before .before .before .before .before .before .before .loop .inv) (c .before .before .before .before .before .before .before .before .item-at .result) (c .before .before .before .before .before .before .before .before .item-at .ensures) (c .before .before .before .before .id .given .0 .0) (ap (λ (x : Answer ℕ). asFate x) (ap toldReference (sym (c .before .before .before .before .id .given .1)) ∙ c .before .before .before .before .before .before .parse-ref .ensures)) in
     ap toldUnits (c .enum-told2 .given .1) ∙ units-bad s find (valuesIn (c .before .before .before .before .before .before .before .before .before .loop .u)) (c .before .before .before .before .id .given .0 .0) l (ap toldUnits (sym (c .enum-told2 .given .1)) ∙ c .before .before .one-unit .ensures) ∙ k
 
--- src/listed.rt:152:13
 returns-3 : tie.Need-returns-3 Inv-loop μ-loop
 returns-3 c = let a = c .before .before .before .before .before .before .before .before .before .before .before .before .before .before .before .before .before .args in let s = now (a .file) in let b = now (a .b) in let find = findOf s (now (a .rows)) (now (a .slots)) (a .t .ids) in
     units-last s find (valuesIn (c .before .before .before .before .before .before .before .before .before .before .before .loop .u)) (c .before .before .before .before .before .before .id .given .0 .0) (ap toldUnits (sym (c .before .before .r .given .1)) ∙ c .before .before .before .before .one-unit .ensures) ∙ reading-last b (unitsBy s find (valuesIn (c .before .before .before .before .before .before .before .before .before .before .before .loop .u))) (unitsBy s find defaults (idsOf b)) (c .before .before .before .before .before .before .before .before .before .before .before .loop .i) (c .before .before .before .before .before .before .before .before .before .before .before .loop .inv) (c .before .before .before .before .before .before .before .before .before .before .item-at .result) (c .before .before .before .before .before .before .before .before .before .before .item-at .ensures) (c .before .before .before .before .before .before .id .given .0 .0) (ap (λ (x : Answer ℕ). asFate x) (ap toldReference (sym (c .before .before .before .before .before .before .id .given .1)) ∙ c .before .before .before .before .before .before .before .before .parse-ref .ensures)) (c .if1 .taken)
 
--- src/listed.rt:154:13
 add-i : tie.Need-add-i Inv-loop μ-loop
 add-i c = omega (arith, c .before .before .before .before .before .before .before .before .before .before .item-at .ensures .within, c .before .before .before .before .before .before .before .before .before .before .before .before .before .before .before .before .before .good .1 .1 .1 .1 .0 .1)
 
--- src/listed.rt:138:5
 loop-less : tie.Need-loop-less Inv-loop μ-loop
 loop-less c = omega (arith, c .before .before .before .before .before .before .before .before .before .before .item-at .ensures .within, c .before .before .before .before .before .before .before .before .before .before .item-at .ensures .above, c .if1 .left)
 
--- src/listed.rt:138:5
 loop-again : tie.Need-loop-again Inv-loop μ-loop
 loop-again c = let a = c .before .before .before .before .before .before .before .before .before .before .before .before .before .before .before .before .before .args in let s = now (a .file) in let b = now (a .b) in let find = findOf s (now (a .rows)) (now (a .slots)) (a .t .ids) in
     reading-goes b (unitsBy s find (valuesIn (c .before .before .before .before .before .before .before .before .before .before .before .loop .u))) (unitsBy s find defaults (idsOf b)) (c .before .before .before .before .before .before .before .before .before .before .before .loop .i) (c .before .before .before .before .before .before .before .before .before .before .before .loop .inv) (c .before .before .before .before .before .before .before .before .before .before .item-at .result) (c .before .before .before .before .before .before .before .before .before .before .item-at .ensures) (c .before .before .before .before .before .before .id .given .0 .0) (ap (λ (x : Answer ℕ). asFate x) (ap toldReference (sym (c .before .before .before .before .before .before .id .given .1)) ∙ c .before .before .before .before .before .before .before .before .parse-ref .ensures)) (unitsBy s find (valuesIn (c .before .before .r .given .0 .0))) (units-more s find (valuesIn (c .before .before .before .before .before .before .before .before .before .before .before .loop .u)) (c .before .before .before .before .before .before .id .given .0 .0) (ap toldUnits (sym (c .before .before .r .given .1)) ∙ c .before .before .before .before .one-unit .ensures)) (omega (arith, c .before .before .before .before .before .before .before .before .before .before .item-at .ensures .within, c .if1 .left))

@@ -7,44 +7,31 @@ use Rattle.units.specs.Code.{toldUnits, toldTolerance}
 use Rattle.units.specs.Laws.{context-refused, context-late, context-both}
 use Rattle.units.proofs.listed.units_of_context.Statement.{statement}
 use Rattle.units.proofs.listed.units_of_context.Tie as tie
-use Rattle.units.proofs.listed.units_of_context.Reads as reads
-use Rattle.units.proofs.listed.units_of_context.Lts as lts
-use Rattle.units.proofs.listed.listed_tolerance.Reads as listed-tolerance-reads
-use Rattle.units.proofs.listed.listed_units.Reads as listed-units-reads
 
--- src/listed.rt:236:11
 listed-units-requires : tie.Need-listed-units-requires
 listed-units-requires c κs = search needs
 
--- src/listed.rt:237:27
 enum-known-f : tie.Need-enum-known-f
 enum-known-f c = search needs
 
--- src/listed.rt:238:22
 enum-known-u : tie.Need-enum-known-u
 enum-known-u c = search needs
 
--- src/listed.rt:238:34
 listed-tolerance-requires : tie.Need-listed-tolerance-requires
 listed-tolerance-requires c κs = search needs
 
--- src/listed.rt:239:32
 enum-known-f-2 : tie.Need-enum-known-f-2
 enum-known-f-2 c = search needs
 
--- src/listed.rt:240:27
 enum-known-v : tie.Need-enum-known-v
 enum-known-v c = search needs
 
--- src/listed.rt:233:1
 returns : tie.Need-returns
 returns c = let a = c .before .before .before .before .before .before .before .args in let s = now (a .file) in let find = findOf s (now (a .rows)) (now (a .slots)) (a .t .ids) in let t = thingOf s (rowOf (a .row)) in context-refused s find t (ap toldUnits (sym (c .before .f .given .1)) ∙ c .before .before .before .listed-units .ensures)
 
--- src/listed.rt:233:1
 returns-2 : tie.Need-returns-2
 returns-2 c = let a = c .before .before .before .before .before .before .before .before .before .before .before .args in let s = now (a .file) in let find = findOf s (now (a .rows)) (now (a .slots)) (a .t .ids) in let t = thingOf s (rowOf (a .row)) in context-late s find t (ap toldUnits (sym (c .before .before .before .before .before .u .given .1)) ∙ c .before .before .before .before .before .before .before .listed-units .ensures) (ap toldTolerance (sym (c .before .f2 .given .1)) ∙ c .before .before .before .listed-tolerance .ensures)
 
--- src/listed.rt:233:1
 returns-3 : tie.Need-returns-3
 returns-3 c = let a = c .before .before .before .before .before .before .before .before .before .before .before .args in let s = now (a .file) in let find = findOf s (now (a .rows)) (now (a .slots)) (a .t .ids) in let t = thingOf s (rowOf (a .row)) in context-both s find t (ap toldUnits (sym (c .before .before .before .before .before .u .given .1)) ∙ c .before .before .before .before .before .before .before .listed-units .ensures) (ap toldTolerance (sym (c .before .v .given .1)) ∙ c .before .before .before .listed-tolerance .ensures)
 

@@ -7,30 +7,22 @@ use Rattle.units.specs.Units.{withAngle}
 use Rattle.units.specs.Code.{valuesIn}
 use Rattle.units.proofs.listed.with_angle.Statement.{statement}
 use Rattle.units.proofs.listed.with_angle.Tie as tie
-use Rattle.units.proofs.listed.with_angle.Reads as reads
-use Rattle.units.proofs.listed.with_angle.Lts as lts
 
--- src/listed.rt:104:25
 enum-known-f : tie.Need-enum-known-f
 enum-known-f c = search needs
 
--- src/listed.rt:105:28
 enum-told : tie.Need-enum-told
 enum-told c = search needs
 
--- src/listed.rt:106:20
 enum-known-f-2 : tie.Need-enum-known-f-2
 enum-known-f-2 c = search needs
 
--- src/listed.rt:100:1
 returns : tie.Need-returns
 returns c = ap (λ (x : Factor). goodBy (withAngle (valuesIn (c .before .before .before .args .u))) (toldFactor x)) (sym (c .before .f .given .1))
 
--- src/listed.rt:100:1
 returns-2 : tie.Need-returns-2
 returns-2 c = ap (λ (x : Factor). goodBy (withAngle (valuesIn (c .before .before .args .u))) (toldFactor x)) (sym (c .enum-told .given .1))
 
--- src/listed.rt:100:1
 returns-3 : tie.Need-returns-3
 returns-3 c = ap (λ (x : Factor). goodBy (withAngle (valuesIn (c .before .before .before .args .u))) (toldFactor x)) (sym (c .before .f2 .given .1))
 

@@ -4,46 +4,34 @@ use Rattle.units.specs.Code.{keptRole}
 use Rattle.units.specs.declared.role.Role.{Role}
 use Rattle.units.proofs.role.kept.Statement.{statement}
 use Rattle.units.proofs.role.kept.Tie as tie
-use Rattle.units.proofs.role.kept.Reads as reads
-use Rattle.units.proofs.role.kept.Lts as lts
 
--- src/role.rt:62:25
 enum-told : tie.Need-enum-told
 enum-told c = search needs
 
--- src/role.rt:63:24
 enum-told-2 : tie.Need-enum-told-2
 enum-told-2 c = search needs
 
--- src/role.rt:64:24
 enum-told-3 : tie.Need-enum-told-3
 enum-told-3 c = search needs
 
--- src/role.rt:65:26
 enum-told-4 : tie.Need-enum-told-4
 enum-told-4 c = search needs
 
--- src/role.rt:66:23
 enum-known-before : tie.Need-enum-known-before
 enum-known-before c = search needs
 
--- src/role.rt:58:1
 returns : tie.Need-returns
 returns c = ap (λ (x : Role). keptRole x (c .before .before .args .now)) (sym (c .enum-told .given .1))
 
--- src/role.rt:58:1
 returns-2 : tie.Need-returns-2
 returns-2 c = ap (λ (x : Role). keptRole x (c .before .before .args .now)) (sym (c .enum-told2 .given .1))
 
--- src/role.rt:58:1
 returns-3 : tie.Need-returns-3
 returns-3 c = ap (λ (x : Role). keptRole x (c .before .before .args .now)) (sym (c .enum-told3 .given .1))
 
--- src/role.rt:58:1
 returns-4 : tie.Need-returns-4
 returns-4 c = ap (λ (x : Role). keptRole x (c .before .before .args .now)) (sym (c .enum-told4 .given .1))
 
--- src/role.rt:58:1
 returns-5 : tie.Need-returns-5
 returns-5 c = ap (λ (x : Role). keptRole x (c .before .before .before .args .now)) (sym (c .before .before2 .given .1))
 

@@ -6,31 +6,22 @@ use lib.ListN.{length}
 use Rattle.record.specs.Turns.{bounds}
 use Rattle.units.proofs.role.part_kind.Statement.{statement}
 use Rattle.units.proofs.role.part_kind.Tie as tie
-use Rattle.units.proofs.role.part_kind.Reads as reads
-use Rattle.units.proofs.role.part_kind.Lts as lts
-use Rattle.kinds.proofs.intern.Reads as intern-reads
 
--- src/role.rt:48:30
 sub-intern : tie.Need-sub-intern
 sub-intern c = bounds _ _ _ (c .if1 .taken) .0
 
--- src/role.rt:48:30
 part-intern-start : tie.Need-part-intern-start
 part-intern-start c = let k = bounds (c .before .before .args .p .keyword .start) (c .before .before .args .p .keyword .end) (length (now (c .before .before .args .file))) (c .if1 .taken) in omega (arith, k .0, k .1)
 
--- src/role.rt:48:30
 part-intern-end : tie.Need-part-intern-end
 part-intern-end c = let k = bounds (c .before .before .args .p .keyword .start) (c .before .before .args .p .keyword .end) (length (now (c .before .before .args .file))) (c .if1 .taken) in omega (arith, k .0, k .1)
 
--- src/role.rt:48:9
 intern-requires : tie.Need-intern-requires
 intern-requires c κs = search needs
 
--- src/role.rt:48:9
 returns : tie.Need-returns
 returns c = rw (c .before .before .if1 .taken) (c .intern .ensures)
 
--- src/role.rt:42:1
 returns-2 : tie.Need-returns-2
 returns-2 c = rw (c .if1 .left) refl
 

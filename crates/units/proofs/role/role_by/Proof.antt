@@ -2,35 +2,25 @@ use borrow.Author.Needs.{needs}
 use mathlib.Core.Path.{sym, refl, _∙_}
 use Rattle.units.proofs.role.role_by.Statement.{statement}
 use Rattle.units.proofs.role.role_by.Tie as tie
-use Rattle.units.proofs.role.role_by.Reads as reads
-use Rattle.units.proofs.role.role_by.Lts as lts
-use Rattle.kinds.proofs.same_kind.Reads as same-kind-reads
 
--- src/role.rt:33:8
 same-kind-requires : tie.Need-same-kind-requires
 same-kind-requires c κs = search needs
 
--- src/role.rt:34:9
 returns : tie.Need-returns
 returns c = rw (sym (c .before .same-kind .ensures) ∙ c .if1 .taken) refl
 
--- src/role.rt:36:8
 same-kind-requires-2 : tie.Need-same-kind-requires-2
 same-kind-requires-2 c κs = search needs
 
--- src/role.rt:37:9
 returns-2 : tie.Need-returns-2
 returns-2 c = rw (sym (c .before .before .before .same-kind .ensures) ∙ c .before .before .if1 .left, sym (c .before .same-kind2 .ensures) ∙ c .if2 .taken) refl
 
--- src/role.rt:39:8
 same-kind-requires-3 : tie.Need-same-kind-requires-3
 same-kind-requires-3 c κs = search needs
 
--- src/role.rt:40:9
 returns-3 : tie.Need-returns-3
 returns-3 c = rw (sym (c .before .before .before .before .before .same-kind .ensures) ∙ c .before .before .before .before .if1 .left, sym (c .before .before .before .same-kind2 .ensures) ∙ c .before .before .if2 .left, sym (c .before .same-kind3 .ensures) ∙ c .if3 .taken) refl
 
--- src/role.rt:30:1
 returns-4 : tie.Need-returns-4
 returns-4 c = rw (sym (c .before .before .before .before .before .same-kind .ensures) ∙ c .before .before .before .before .if1 .left, sym (c .before .before .before .same-kind2 .ensures) ∙ c .before .before .if2 .left, sym (c .before .same-kind3 .ensures) ∙ c .if3 .left) refl
 

@@ -14,12 +14,6 @@ use Rattle.units.specs.Laws.{Seeking, seek-starts, seek-over, seek-refus
 use Rattle.units.specs.declared.role.Role.{Role}
 use Rattle.units.proofs.role.role_from.Statement.{statement}
 use Rattle.units.proofs.role.role_from.Tie as tie
-use Rattle.units.proofs.role.role_from.Reads as reads
-use Rattle.units.proofs.role.role_from.Lts as lts
-use Rattle.parts.proofs.next_part.Reads as next-part-reads
-use Rattle.units.proofs.role.kept.Reads as kept-reads
-use Rattle.units.proofs.role.part_kind.Reads as part-kind-reads
-use Rattle.units.proofs.role.role_by.Reads as role-by-reads
 
 abbrev Inv-loop : tie.InvT-loop
 Inv-loop file start end i₀ got₀ i got = Seeking file start end i got
@@ -27,58 +21,45 @@ Inv-loop file start end i₀ got₀ i got = Seeking file start end i got
 abbrev μ-loop : tie.MeasureT-loop
 μ-loop file start end i₀ got₀ i got = length file + 1 - i
 
--- src/role.rt:77:5
 loop-holds : tie.Need-loop-holds Inv-loop μ-loop
 loop-holds c = seek-starts (now (c .before .args .file)) (c .before .args .start) (c .before .args .end) (c .before .pre)
 
--- src/role.rt:78:15
 next-part-requires : tie.Need-next-part-requires Inv-loop μ-loop
 next-part-requires c κs = tt
 
--- src/role.rt:79:27
 enum-told : tie.Need-enum-told Inv-loop μ-loop
 enum-told c = search needs
 
--- src/role.rt:79:27
 returns : tie.Need-returns Inv-loop μ-loop
 returns c = seek-over (now (c .before .before .before .before .before .args .file)) (c .before .before .before .before .before .args .start) (c .before .before .before .before .before .args .end) (c .before .before .before .loop .i) (c .before .before .before .loop .got) (c .before .before .before .loop .inv) (sym (c .before .before .next-part .ensures) ∙ ap toldNext (c .enum-told .given .1))
 
--- src/role.rt:80:27
 enum-known-f : tie.Need-enum-known-f Inv-loop μ-loop
 enum-known-f c = search needs
 
--- src/role.rt:80:33
 returns-2 : tie.Need-returns-2 Inv-loop μ-loop
 returns-2 c = seek-refused (now (c .before .before .before .before .before .before .args .file)) (c .before .before .before .before .before .before .args .start) (c .before .before .before .before .before .before .args .end) (c .before .before .before .before .loop .i) (c .before .before .before .before .loop .got) (c .before .before .before .before .loop .inv) (told (c .before .f .given .0 .0)) (sym (c .before .before .before .next-part .ensures) ∙ ap toldNext (c .before .f .given .1))
 
--- src/role.rt:81:22
 enum-known-p : tie.Need-enum-known-p Inv-loop μ-loop
 enum-known-p c = search needs
 
--- src/role.rt:82:41
 part-kind-requires : tie.Need-part-kind-requires Inv-loop μ-loop
 part-kind-requires c κs = search needs
 
--- src/role.rt:82:33
 role-by-requires : tie.Need-role-by-requires Inv-loop μ-loop
 role-by-requires c κs = search needs
 
--- src/role.rt:82:17
 kept-requires : tie.Need-kept-requires Inv-loop μ-loop
 kept-requires c κs = search needs
 
--- src/role.rt:83:21
 add-i : tie.Need-add-i Inv-loop μ-loop
 add-i c = let (a, b, d, e) = next-ahead (now (c .before .before .before .before .before .before .before .before .before .before .args .file)) (c .before .before .before .before .before .before .before .before .loop .i) (c .before .before .before .before .before .before .before .before .before .before .args .end) (headerRowOf (c .before .before .before .before .before .p .given .0 .0)) (sym (c .before .before .before .before .before .before .before .next-part .ensures) ∙ ap toldNext (c .before .before .before .before .before .p .given .1)) in
     record { fits = omega arith }
 
--- src/role.rt:77:5
 loop-less : tie.Need-loop-less Inv-loop μ-loop
 loop-less c = let (a, b, d, e) = next-ahead (now (c .before .before .before .before .before .before .before .before .before .before .args .file)) (c .before .before .before .before .before .before .before .before .loop .i) (c .before .before .before .before .before .before .before .before .before .before .args .end) (headerRowOf (c .before .before .before .before .before .p .given .0 .0)) (sym (c .before .before .before .before .before .before .before .next-part .ensures) ∙ ap toldNext (c .before .before .before .before .before .p .given .1)) in
     let w : c .before .before .before .before .before .before .before .before .loop .i ≤ length (now (c .before .before .before .before .before .before .before .before .before .before .args .file)) = c .before .before .before .before .before .before .before .before .loop .inv .inside in
     omega arith
 
--- src/role.rt:77:5
 loop-again : tie.Need-loop-again Inv-loop μ-loop
 loop-again c = let p = c .before .before .before .before .before .p .given .0 .0 in
     let k = c .before .kept .ensures ∙ ap (keptRole (c .before .before .before .before .before .before .before .before .loop .got)) (c .before .before .role-by .ensures ∙ ap (λ (x : Kind). roleAfter x) (c .before .before .before .part-kind .ensures)) in

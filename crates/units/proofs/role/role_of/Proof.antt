@@ -10,36 +10,25 @@ use Rattle.units.specs.Units.{roleOf}
 use Rattle.units.specs.Laws.{span-starts, role-simple, role-parts}
 use Rattle.units.proofs.role.role_of.Statement.{statement}
 use Rattle.units.proofs.role.role_of.Tie as tie
-use Rattle.units.proofs.role.role_of.Reads as reads
-use Rattle.units.proofs.role.role_of.Lts as lts
-use Rattle.lookup.proofs.args_of.Reads as args-of-reads
-use Rattle.units.proofs.role.role_from.Reads as role-from-reads
 
--- src/role.rt:86:28
 args-of-requires : tie.Need-args-of-requires
 args-of-requires c κs = search needs
 
--- src/role.rt:86:23
 enum-known-a : tie.Need-enum-known-a
 enum-known-a c = search needs
 
--- src/role.rt:87:30
 enum-told : tie.Need-enum-told
 enum-told c = search needs
 
--- src/role.rt:87:9
 returns : tie.Need-returns
 returns c = let a = c .before .before .before .before .args in thing-out roleOf (now (a .file)) (rowOf (a .row)) (ap toldSpan (sym (c .enum-told .given .1)) ∙ c .before .before .args-of .ensures)
 
--- src/role.rt:90:9
 returns-2 : tie.Need-returns-2
 returns-2 c = let a = c .before .before .before .before .before .before .before .args in role-simple (now (a .file)) (rowOf (a .row)) (ap toldSpan (sym (c .before .before .before .a .given .1)) ∙ c .before .before .before .before .before .args-of .ensures) (ne-eqb (a .row .complex) 1 (c .if1 .taken))
 
--- src/role.rt:92:5
 role-from-requires : tie.Need-role-from-requires
 role-from-requires c κs = let a = c .before .before .before .before .before .before .before .args in span-starts (length (now (a .file))) (a .row .args .start) (a .row .args .end) (ap toldSpan (sym (c .before .before .before .a .given .1)) ∙ c .before .before .before .before .before .args-of .ensures)
 
--- src/role.rt:83:1
 returns-3 : tie.Need-returns-3
 returns-3 c = let a = c .before .before .before .before .before .before .before .before .args in role-parts (now (a .file)) (rowOf (a .row)) (ap toldSpan (sym (c .before .before .before .before .a .given .1)) ∙ c .before .before .before .before .before .before .args-of .ensures) (eq-eqb (a .row .complex) 1 (c .before .if1 .left)) (c .role-from .ensures)
 
