@@ -18,10 +18,8 @@ cd "$root"
 set --
 for crate in $crates; do
     archive=$out/lib$crate.a
-    # the folders of the crate and of all that it is built on
-    folders=$(sed -n "s/^$crate://p" crates.txt | tr ' ' '\n' | sed -n 's,^\(..*\)$,crates/\1,p')
-    # shellcheck disable=SC2086
-    if [ ! -f "$archive" ] || [ -n "$(find "crates/$crate" $folders -type f -newer "$archive" | head -n 1)" ]; then
+    # shellcheck disable=SC2046
+    if [ ! -f "$archive" ] || [ -n "$(find $(tools/built_on.sh "$crate") -type f -newer "$archive" | head -n 1)" ]; then
         echo "library.sh: proving $crate" >&2
         "$rt" staticlib "$crate" >"$out/$crate.log" 2>&1 || { tail -n 20 "$out/$crate.log" >&2; exit 1; }
         touch "$archive"
