@@ -19,12 +19,21 @@ const FAILED: usize = 5;
 
 const NOTHING: usize = 6;
 
+// Answers the lines: all of them, or as many as 64 bits count.
 fn main() {
     let mut chunk = io::large_buffer();
     let mut line = io::buffer();
     let mut out = io::large_buffer();
     let table = patterns();
-    answer_lines(&mut chunk, &mut line, &mut out, &table);
+    let mut feed = input::start();
+    let mut pen = text::fresh();
+    let mut left = u64::MAX;
+    while left > 0 {
+        feed = input::pass(&mut chunk, feed, usize::MAX, input::LF, &mut line);
+        left = input::left(left, feed);
+        pen = text::form(&mut out, pen, &table, &table, said(&line, feed, left));
+    }
+    text::finish(&out, pen);
 }
 
 fn patterns() -> [u8; 74] {
@@ -33,19 +42,6 @@ fn patterns() -> [u8; 74] {
         13%n\n\
         too long for this program%n\n\
         standard input cannot be read%n"
-}
-
-// Answers the lines: all of them, or as many as 64 bits count.
-fn answer_lines(chunk: &mut [u8], line: &mut [u8], out: &mut [u8], table: &[u8]) {
-    let mut feed = input::start();
-    let mut pen = text::fresh();
-    let mut left = u64::MAX;
-    while left > 0 {
-        feed = input::pass(chunk, feed, usize::MAX, input::LF, line);
-        left = input::left(left, feed);
-        pen = text::form(out, pen, table, table, said(line, feed, left));
-    }
-    text::finish(out, pen);
 }
 
 // What is said of a line. Where none is left, there was no line.

@@ -7,27 +7,29 @@
 mod answer;
 mod asked;
 
+// Answers the lines: all of them, or as many as 64 bits count.
 fn main() {
     let mut chunk = io::large_buffer();
     let mut line = io::large_buffer();
     let mut room = io::large_buffer();
     let mut out = io::large_buffer();
     let table = answer::patterns();
-    answer_lines(&mut chunk, &mut line, &mut room, &mut out, &table);
-}
-
-// Answers the lines: all of them, or as many as 64 bits count.
-fn answer_lines(chunk: &mut [u8], line: &mut [u8], room: &mut [u8], out: &mut [u8], table: &[u8]) {
     let mut feed = input::start();
     let mut pen = text::fresh();
     let mut left = u64::MAX;
     while left > 0 {
-        feed = input::pass(chunk, feed, usize::MAX, input::LF, line);
+        feed = input::pass(&mut chunk, feed, usize::MAX, input::LF, &mut line);
         left = input::left(left, feed);
-        let said = answer::said(line, room, feed, left);
-        pen = text::form(out, pen, table, shown(line, room, said.pattern), said);
+        let said = answer::said(&mut line, &mut room, feed, left);
+        pen = text::form(
+            &mut out,
+            pen,
+            &table,
+            shown(&line, &room, said.pattern),
+            said,
+        );
     }
-    text::finish(out, pen);
+    text::finish(&out, pen);
 }
 
 // The bytes that a pattern shows: the string's, or the text's in the room.
