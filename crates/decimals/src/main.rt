@@ -2,70 +2,78 @@
 // is no real, `13` where it is a real outside the class. For the comparison with Rust's own reading of decimals.
 //
 // A line is all bytes up to an LF, blanks included; the last one may lack its LF. A line of more than 4,096 bytes is not read.
-mod answer;
+use input::Feed;
+use reals::Real;
+use text::Line;
 
-use input::Lines;
-use text::Pen;
+// The patterns of the lines that are printed, by their place in the table. NOTHING is in none.
+const VALUE: usize = 1;
 
-struct Run {
-    lines: Lines,
-    pen: Pen,
-}
+const NOT_REAL: usize = 2;
+
+const OUTSIDE: usize = 3;
+
+const LONG: usize = 4;
+
+const FAILED: usize = 5;
+
+const NOTHING: usize = 6;
 
 // Answers the lines: all of them, or as many as 64 bits count.
-fn go_on(room: &mut [u8], out: &mut [u8], run: Run) -> Run {
-    let mut last = run;
-    let mut turns = u64::MAX;
-    while turns > 0 && goes_on(last) {
-        last = turn(room, out, last);
-        turns -= 1;
-    }
-    last
-}
-
-fn goes_on(run: Run) -> bool {
-    let lines = run.lines;
-    lines.found < input::OVER
-}
-
-fn turn(room: &mut [u8], out: &mut [u8], run: Run) -> Run {
-    let pen = run.pen;
-    let lines = input::next_line(room, run.lines);
-    let start = lines.start;
-    let end = lines.end;
-    let found = lines.found;
-    if found == input::LINE {
-        return Run {
-            lines,
-            pen: answer::line(&room[start..end], out, pen),
-        };
-    }
-    Run {
-        lines,
-        pen: no_line(found, out, pen),
-    }
-}
-
-// Says why there is no line to answer; at the input's end there is nothing to say.
-fn no_line(found: usize, out: &mut [u8], pen: Pen) -> Pen {
-    if found == input::LONG {
-        return answer::too_long(out, pen);
-    }
-    if found == input::FAILED {
-        os::fail(b"standard input");
-        return text::bytes(out, pen, b"standard input cannot be read\n");
-    }
-    pen
-}
-
 fn main() {
-    let mut room = io::large_buffer();
+    let mut chunk = io::large_buffer();
+    let mut line = io::buffer();
     let mut out = io::large_buffer();
-    let begun = Run {
-        lines: input::no_line(),
-        pen: text::fresh(),
-    };
-    let end = go_on(&mut room, &mut out, begun);
-    let pen = end.pen;
+    let table = patterns();
+    let mut feed = input::start();
+    let mut pen = text::fresh();
+    let mut left = u64::MAX;
+    while left > 0 {
+        feed = input::pass(&mut chunk, feed, usize::MAX, input::LF, &mut line);
+        left = input::left(left, feed);
+        pen = text::form(&mut out, pen, &table, &table, said(&line, feed, left));
+    }
     text::finish(&out, pen);
+}
+
+fn patterns() -> [u8; 74] {
+    *b"%x%n\n\
+        12%n\n\
+        13%n\n\
+        too long for this program%n\n\
+        standard input cannot be read%n"
+}
+
+// What is said of a line. Where none is left, there was no line.
+fn said(line: &[u8], feed: Feed, left: u64) -> Line {
+    if left == 0 {
+        return put(if feed.failed == 0 { NOTHING } else { FAILED }, 0);
+    }
+    let count = feed.count;
+    if count > line.len() {
+        return put(LONG, 0);
+    }
+    answer(&line[..count])
+}
+
+fn answer(t: &[u8]) -> Line {
+    match reals::parse_real(t) {
+        Real::Value(x) => put(VALUE, nearest::bits(x)),
+        Real::Outside => put(OUTSIDE, 0),
+        Real::NotReal => put(NOT_REAL, 0),
+    }
+}
+
+fn put(pattern: usize, bits: u64) -> Line {
+    Line {
+        pattern,
+        a: bits,
+        b: 0,
+        c: 0,
+        d: 0,
+        e: 0,
+        f: 0,
+        g: 0,
+        h: 0,
+    }
 }

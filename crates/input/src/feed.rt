@@ -1,8 +1,9 @@
 // Standard input by way of a lent chunk: one system call for many small reads.
-ghost use Prim.Native.Nat.{_≤_};
+ghost use Prim.Native.Nat.{_≤_, _-_};
 ghost use lib.ListN.{length};
 ghost use Rattle.io.specs.Counts.{Counts};
-use crate::digit;
+use crate::digits;
+use crate::read;
 
 // The bytes of the chunk from `at` up to `end` were read and are not used yet.
 pub struct Feed {
@@ -10,7 +11,17 @@ pub struct Feed {
     pub end: usize,
     // 1 where the last read failed, else 0.
     pub failed: usize,
+    // How many bytes `pass` went past.
+    pub count: usize,
+    // The last byte that was used, and what it may end: LF, or END where there was none.
+    pub stop: usize,
+    pub byte: u8,
 }
+
+// What ends the bytes that are used: an LF, or the input's end.
+pub const LF: usize = 1;
+
+pub const END: usize = 2;
 
 // A number in decimal, and the line end behind it.
 pub enum Line {
@@ -29,169 +40,133 @@ pub struct Brought {
 
 // A feed of which nothing was read yet.
 pub fn start() -> Feed {
-    Feed {
-        at: 0,
-        end: 0,
-        failed: 0,
-    }
+    fresh(0, 0)
 }
 
-// The feed with a byte at hand, after a read where all of the chunk is used. At the end of the input there is none.
-fn ready(chunk: &mut [u8], feed: Feed) -> Feed
-    ensures { λ r. ⌜ (r .at ≤ r .end) × (r .end ≤ length (now (chunk .exit))) ⌝ }
+// A feed of which so many bytes were read and none is used.
+pub fn fresh(end: usize, failed: usize) -> Feed
+    ensures { λ r. ⌜ r .end ≤ end ⌝ }
 {
-    let at = feed.at;
-    let end = feed.end;
-    if at < end {
-        if end <= chunk.len() {
-            return feed;
-        }
-    }
-    let got = libc::read(libc::STDIN_FILENO, chunk);
-    let n = io::count(got, chunk);
-    if got < 0 {
-        return Feed {
-            at: 0,
-            end: n,
-            failed: 1,
-        };
-    }
     Feed {
         at: 0,
-        end: n,
-        failed: 0,
+        end,
+        failed,
+        count: 0,
+        stop: 0,
+        byte: 0,
     }
 }
 
-// The next byte, or 0 at the end of the input.
-fn next_byte(chunk: &[u8], feed: Feed) -> u8 {
+// The feed after the next byte. Where all of the chunk is used, more is read.
+fn next_byte(chunk: &mut [u8], feed: Feed) -> Feed {
+    let mut last = feed;
+    if last.at >= last.end {
+        last = read(libc::STDIN_FILENO, chunk);
+    }
+    taken(chunk, last)
+}
+
+// The feed after the next byte that is at hand.
+fn taken(chunk: &[u8], feed: Feed) -> Feed {
+    let mut last = feed;
     let at = feed.at;
+    last.stop = END;
     if at < feed.end {
         if at < chunk.len() {
-            return chunk[at];
+            let byte = chunk[at];
+            last.at = at + 1;
+            last.byte = byte;
+            last.stop = (byte == b'\n') as usize;
         }
     }
-    0
+    last
 }
 
-// The feed after the next byte.
-fn passed(feed: Feed) -> Feed {
-    let at = feed.at;
-    if at < feed.end {
-        return Feed {
-            at: at + 1,
-            end: feed.end,
-            failed: feed.failed,
-        };
+// Goes past bytes, n at most, up to a stop and past it, and puts those that fit at the start of the room.
+pub fn pass(chunk: &mut [u8], feed: Feed, n: usize, stop: usize, room: &mut [u8]) -> Feed
+    ensures { λ r. ⌜ r .count ≤ n ⌝ }
+{
+    let mut last = feed;
+    let mut count = 0;
+    while count < n {
+        last = next_byte(chunk, last);
+        if last.stop >= stop {
+            break;
+        }
+        if count < room.len() {
+            room[count] = last.byte;
+        }
+        count += 1;
     }
-    feed
+    last.count = count;
+    last
 }
 
 // Reads a number of at most fifteen digits and its line end.
 pub fn number_line(chunk: &mut [u8], feed: Feed) -> Line {
-    let mut last = ready(chunk, feed);
-    if last.at == last.end {
-        return Line::End(last);
-    }
-    let mut n: u64 = 0;
-    let mut digits: usize = 0;
-    while digits < 16 && n < 1000000000000000 {
-        let b = next_byte(chunk, last);
-        if b == b'\n' && digits > 0 {
-            return Line::Number(n, passed(last));
-        }
-        let d = digit(b);
-        if d > 9 {
-            return Line::Bad(last);
-        }
-        n = n * 10 + d;
-        digits += 1;
-        last = ready(chunk, passed(last));
-    }
-    Line::Bad(last)
+    let mut room = [0u8; 16];
+    let last = pass(chunk, feed, 16, LF, &mut room);
+    number(&room, last)
 }
 
-fn least(a: usize, b: usize) -> usize
-    ensures { λ r. ⌜ (r ≤ a) × (r ≤ b) ⌝ }
-{
-    if a < b { a } else { b }
-}
-
-// Copies as much as fits.
-fn copy(from: &[u8], to: &mut [u8]) {
-    let n = least(from.len(), to.len());
-    let mut i = 0;
-    while i < n {
-        to[i] = from[i];
-        i += 1;
+// The number that a line is.
+fn number(t: &[u8], feed: Feed) -> Line {
+    let n = digits(t, 0);
+    match kind(feed.stop, feed.count, n.end) {
+        LF => Line::Number(n.number, feed),
+        END => Line::End(feed),
+        _ => Line::Bad(feed),
     }
 }
 
-// Brings what is at hand, as much as fits.
-fn bring_some(chunk: &mut [u8], feed: Feed, room: &mut [u8]) -> Brought
-    ensures { λ r. ⌜ r .count ≤ length (now (room .exit)) ⌝ }
-{
-    let at_hand = ready(chunk, feed);
-    let at = at_hand.at;
-    let n = least(at_hand.end - at, room.len());
-    let end = at + n;
-    copy(&chunk[at..end], room);
-    Brought {
-        count: n,
-        feed: Feed {
-            at: end,
-            end: at_hand.end,
-            failed: at_hand.failed,
-        },
+// What a line is of which so many bytes are digits, by what ended it: LF for a number, END for no line.
+fn kind(stop: usize, count: usize, digits: usize) -> usize {
+    if count == 0 {
+        return if stop == END { END } else { 0 };
     }
+    if count == digits { stop % 2 } else { 0 }
 }
 
 // Puts the next n bytes at the start of the room, as far as the input and the room go.
 pub fn bring(chunk: &mut [u8], feed: Feed, n: usize, room: &mut [u8]) -> Brought
     ensures { λ r. ⌜ Counts (r .count) (now (room .exit)) ⌝ }
 {
-    let end = least(n, room.len());
-    let mut last = feed;
-    let mut count = 0;
-    while count < end {
-        let more = bring_some(chunk, last, &mut room[count..end]);
-        last = more.feed;
-        if more.count == 0 {
-            break;
-        }
-        count += more.count;
+    let last = pass(chunk, feed, least(n, room.len()), END, room);
+    Brought {
+        count: last.count,
+        feed: last,
     }
-    Brought { count, feed: last }
 }
 
-// Goes past what is at hand, n bytes at most.
-fn skip_some(chunk: &mut [u8], feed: Feed, n: usize) -> Brought
-    ensures { λ r. ⌜ r .count ≤ n ⌝ }
+fn least(a: usize, b: usize) -> usize
+    ensures { λ r. ⌜ r ≤ b ⌝ }
 {
-    let at_hand = ready(chunk, feed);
-    let at = at_hand.at;
-    let count = least(at_hand.end - at, n);
-    Brought {
-        count,
-        feed: Feed {
-            at: at + count,
-            end: at_hand.end,
-            failed: at_hand.failed,
-        },
-    }
+    if a < b { a } else { b }
 }
 
 // Goes past n bytes, as far as the input goes.
 pub fn skip(chunk: &mut [u8], feed: Feed, n: usize) -> Brought {
-    let mut last = feed;
-    let mut count = 0;
-    while count < n {
-        let more = skip_some(chunk, last, n - count);
-        last = more.feed;
-        if more.count == 0 {
-            break;
-        }
-        count += more.count;
+    let mut none = [0u8; 1];
+    let last = pass(chunk, feed, n, END, &mut none);
+    Brought {
+        count: last.count,
+        feed: last,
     }
-    Brought { count, feed: last }
+}
+
+// How many more lines a loop over lines may ask for, of so many before the one that `pass` brought: none where there was no line, so that
+// the loop ends. The last line may lack its LF. Where a read failed, standard error says why.
+pub fn left(before: u64, feed: Feed) -> u64
+    ensures { λ r. ⌜ r ≤ before - 1 ⌝ }
+{
+    if feed.failed != 0 {
+        os::fail(b"standard input");
+        return 0;
+    }
+    if feed.stop == END {
+        if feed.count == 0 {
+            return 0;
+        }
+    }
+    if before == 0 { 0 } else { before - 1 }
 }

@@ -1,23 +1,19 @@
 // What the programs are given: files that arguments name, standard input, and how much stack they may use.
 mod feed;
 mod limit;
-mod lines;
 
 pub use feed::Brought;
+pub use feed::END;
 pub use feed::Feed;
+pub use feed::LF;
 pub use feed::Line;
 pub use feed::bring;
+pub use feed::left;
 pub use feed::number_line;
+pub use feed::pass;
 pub use feed::skip;
 pub use feed::start;
 pub use limit::stack_limit;
-pub use lines::FAILED;
-pub use lines::LINE;
-pub use lines::LONG;
-pub use lines::Lines;
-pub use lines::OVER;
-pub use lines::next_line;
-pub use lines::no_line;
 ghost use Prim.Native.Nat.{_≤_};
 ghost use lib.ListN.{length};
 ghost use Rattle.io.specs.Counts.{Counts};
@@ -34,16 +30,24 @@ pub fn fill(fd: i32, room: &mut [u8]) -> Filled
     ensures { λ r. ⌜ Counts (r .count) (now (room .exit)) ⌝ }
 {
     let mut count = 0;
+    let mut failed = 0;
     while count < room.len() {
-        let got = libc::read(fd, &mut room[count..]);
-        let more = io::count(got, &room[count..]);
-        if more == 0 {
-            let failed = if got < 0 { 1 } else { 0 };
-            return Filled { count, failed };
+        let got = read(fd, &mut room[count..]);
+        failed = got.failed;
+        if got.end == 0 {
+            break;
         }
-        count += more;
+        count += got.end;
     }
-    Filled { count, failed: 0 }
+    Filled { count, failed }
+}
+
+// What one read brings, none of it used.
+fn read(fd: i32, room: &mut [u8]) -> Feed
+    ensures { λ r. ⌜ r .end ≤ length (now (room .exit)) ⌝ }
+{
+    let got = libc::read(fd, room);
+    feed::fresh(io::count(got, room), (got < 0) as usize)
 }
 
 pub struct Opened {
@@ -58,21 +62,24 @@ pub fn open_argument(i: usize, name: &mut [u8]) -> Opened
     ensures { λ r. ⌜ Counts (r .name) (now (name .exit)) ⌝ }
 {
     let n = os::arg(i, name);
+    let fd = open(&name[..n]);
+    Opened { fd, name: n }
+}
+
+// Opens the file of a name that was just fetched, or says why not.
+fn open(name: &[u8]) -> i32 {
     if os::errno() != 0 {
         os::fail(b"argument");
-        return Opened { fd: -1, name: n };
+        return -1;
     }
-    if is_dash(&name[..n]) {
-        return Opened {
-            fd: libc::STDIN_FILENO,
-            name: n,
-        };
+    if is_dash(name) {
+        return libc::STDIN_FILENO;
     }
-    let fd = os::open_read(&name[..n]);
+    let fd = os::open_read(name);
     if fd < 0 {
-        os::fail(&name[..n]);
+        os::fail(name);
     }
-    Opened { fd, name: n }
+    fd
 }
 
 fn is_dash(name: &[u8]) -> bool {
@@ -93,15 +100,33 @@ pub fn size(fd: i32) -> u64 {
     if end < 0 { u64::MAX } else { end as u64 }
 }
 
-// What a byte is worth as a decimal digit, and 10 where it is none.
+pub struct Value {
+    pub number: u64,
+    // The place behind the last digit.
+    pub end: usize,
+}
+
+// The number that the digits at a place are, sixteen of them at most.
+pub fn digits(s: &[u8], start: usize) -> Value {
+    let mut number: u64 = 0;
+    let mut end = start;
+    while end < s.len() {
+        let d = digit(s[end]);
+        if d > 9 {
+            break;
+        }
+        if number > 999999999999999 {
+            break;
+        }
+        number = number * 10 + d;
+        end += 1;
+    }
+    Value { number, end }
+}
+
+// What a byte is worth as a decimal digit, and more than 9 where it is none.
 fn digit(b: u8) -> u64
-    ensures { λ r. ⌜ r ≤ 10 ⌝ }
+    ensures { λ r. ⌜ r ≤ 255 ⌝ }
 {
-    if b < b'0' {
-        return 10;
-    }
-    if b > b'9' {
-        return 10;
-    }
-    (b - b'0') as u64
+    std::num::wrapping_sub_u8(b, b'0') as u64
 }

@@ -1,89 +1,133 @@
-// The answer to one line.
-ghost use Prim.Native.Nat.{_≤_};
+// The answer to one line, by the number of its pattern.
+ghost use Prim.Native.Nat.{_≤_, _+_, _*_};
 ghost use lib.ListN.{length};
 use crate::asked;
+use crate::asked::Asked;
+use input::Feed;
 use strings::Decoded;
-use text::Pen;
+use text::Line;
+
+// The patterns, by their place in the table. NOTHING is in none. Those of a string and of a text have a second one, for no bytes.
+pub const PLAIN: usize = 1;
+
+const TEXT: usize = 2;
+
+const EMPTY: usize = 2;
+
+const SHORT: usize = 5;
+
+const CHANGED: usize = 6;
+
+pub const NO_ROOM: usize = 7;
+
+pub const NOT_HEX: usize = 8;
+
+pub const LONG: usize = 9;
+
+pub const FAILED: usize = 10;
+
+pub const NOTHING: usize = 11;
+
+pub fn patterns() -> [u8; 258] {
+    *b"plain %h%n\n\
+        text %h%n\n\
+        plain %n\n\
+        text %n\n\
+        16%n\n\
+        line %d: the room was changed where no text stands%n\n\
+        line %d: no room of at most 65536 bytes before the colon%n\n\
+        line %d: not hex digits in pairs%n\n\
+        line %d: too long for this program%n\n\
+        standard input cannot be read%n"
+}
 
 // What the room is filled with: a byte that no UTF-8 has.
 const MARK: u8 = 255;
 
-pub fn line(
-    t: &[u8],
-    number: u64,
-    raw: &mut [u8],
-    room: &mut [u8],
-    out: &mut [u8],
-    pen: Pen,
-) -> Pen {
-    let at = asked::colon(t);
-    if at == t.len() {
-        let n = asked::bytes(t, raw);
-        return decoded(number, raw, n, room, enough(n), out, pen);
+// What is said of a line.
+pub fn said(line: &mut [u8], room: &mut [u8], feed: Feed, left: u64) -> Line {
+    let ask = asked::by(line, feed, left);
+    let why = put_bytes(line, ask);
+    if why != 0 {
+        return bad(why, left);
     }
-    let lent = asked::number(&t[..at]);
-    if lent > room.len() {
-        return bad(
-            out,
-            pen,
-            number,
-            b"no room of at most 65536 bytes before the colon",
-        );
-    }
-    let rest = at + 1;
-    let n = asked::bytes(&t[rest..], raw);
-    decoded(number, raw, n, room, lent, out, pen)
+    let n = ask.pairs;
+    let lent = asked::least(ask.lent, room.len());
+    decoded(&line[..n], &mut room[..lent], left)
 }
 
-// A room that suffices for the text of n bytes: each gives at most two.
-fn enough(n: usize) -> usize {
-    if n > 1000000000 {
-        return 0;
-    }
-    2 * n
+// What is said of a line by its number, from 1, which so many lines left tell.
+fn bad(pattern: usize, left: u64) -> Line {
+    values(pattern, u64::MAX - left, 0)
 }
 
-// `line NUMBER: WORDS`
-pub fn bad(out: &mut [u8], pen: Pen, number: u64, words: &[u8]) -> Pen {
-    let a = text::bytes(out, pen, b"line ");
-    let b = text::decimal(out, a, number);
-    let c = text::bytes(out, b, b": ");
-    let d = text::bytes(out, c, words);
-    text::byte(out, d, b'\n')
+fn values(pattern: usize, a: u64, b: u64) -> Line {
+    Line {
+        pattern,
+        a,
+        b,
+        c: 0,
+        d: 0,
+        e: 0,
+        f: 0,
+        g: 0,
+        h: 0,
+    }
 }
 
-// Answers for the first n bytes with so much room.
-fn decoded(
-    number: u64,
-    raw: &[u8],
-    n: usize,
-    room: &mut [u8],
-    lent: usize,
-    out: &mut [u8],
-    pen: Pen,
-) -> Pen {
-    if n > raw.len() {
-        return bad(out, pen, number, b"not hex digits in pairs");
+// Puts the bytes of pairs of hex digits in place of them, and answers the pattern of what is said at once, or 0.
+fn put_bytes(line: &mut [u8], ask: Asked) -> usize
+    requires { ⌜ ask .start + 2 * ask .pairs ≤ length (now line) ⌝ }
+{
+    let mut k = 0;
+    while k < ask.pairs {
+        let i = ask.start + 2 * k;
+        let v = pair(digit(line[i]), digit(line[i + 1]));
+        if v > 255 {
+            return NOT_HEX;
+        }
+        line[k] = v as u8;
+        k += 1;
     }
-    if lent > room.len() {
-        return bad(out, pen, number, b"too long for this program");
-    }
-    shown(number, &raw[..n], &mut room[..lent], out, pen)
+    ask.why
 }
 
-fn shown(number: u64, raw: &[u8], room: &mut [u8], out: &mut [u8], pen: Pen) -> Pen {
+// The byte of two digits, and more where one is none.
+fn pair(a: usize, b: usize) -> usize {
+    if a > 15 {
+        return 256;
+    }
+    if b > 15 {
+        return 256;
+    }
+    a * 16 + b
+}
+
+// What a byte is worth as a hex digit, and more than 15 where it is none.
+fn digit(b: u8) -> usize {
+    if b <= b'9' {
+        return wide(std::num::wrapping_sub_u8(b, b'0'));
+    }
+    if b >= b'a' {
+        return wide(std::num::wrapping_sub_u8(b, b'a' - 10));
+    }
+    if b < b'A' {
+        return 16;
+    }
+    wide(std::num::wrapping_sub_u8(b, b'A' - 10))
+}
+
+fn wide(b: u8) -> usize {
+    b as usize
+}
+
+fn decoded(raw: &[u8], room: &mut [u8], left: u64) -> Line {
     mark(room);
     let answer = strings::decode_string(raw, room);
-    let said = put_answer(raw, room, answer, out, pen);
     if is_marked(room, written(answer)) {
-        return said;
+        return shown(answer, raw.len() as u64);
     }
-    bad(
-        out,
-        said,
-        number,
-        b"the room was changed where no text stands",
-    )
+    bad(CHANGED, left)
 }
 
 // How many bytes of the room a text takes.
@@ -95,40 +139,20 @@ fn written(answer: Decoded) -> usize {
     }
 }
 
-fn put_answer<'a>(raw: &'a [u8], room: &'a [u8], answer: Decoded, out: &mut [u8], pen: Pen) -> Pen {
-    let t = strings::text(raw, room, answer);
+fn shown(answer: Decoded, raw: u64) -> Line {
     match answer {
-        Decoded::Plain => {
-            let next = text::bytes(out, pen, b"plain ");
-            hex(t, out, next)
-        }
-        Decoded::Written(_) => {
-            let next = text::bytes(out, pen, b"text ");
-            hex(t, out, next)
-        }
-        Decoded::Short => text::bytes(out, pen, b"16\n"),
+        Decoded::Plain => bytes(PLAIN, raw),
+        Decoded::Written(n) => bytes(TEXT, n as u64),
+        Decoded::Short => values(SHORT, 0, 0),
     }
 }
 
-// Two digits for each byte, and LF.
-fn hex(t: &[u8], out: &mut [u8], pen: Pen) -> Pen {
-    let mut last = pen;
-    let mut i = 0;
-    while i < t.len() {
-        last = two(wide(t[i]), out, last);
-        i += 1;
+// The first n bytes, in hex.
+fn bytes(pattern: usize, n: u64) -> Line {
+    if n == 0 {
+        return values(std::num::wrapping_add_usize(pattern, EMPTY), 0, 0);
     }
-    text::byte(out, last, b'\n')
-}
-
-fn two(b: u64, out: &mut [u8], pen: Pen) -> Pen {
-    let mut figures = [0u8; 16];
-    let k = io::hex(b, 2, &mut figures);
-    text::bytes(out, pen, &figures[..k])
-}
-
-fn wide(b: u8) -> u64 {
-    b as u64
+    values(pattern, 0, n)
 }
 
 fn mark(room: &mut [u8]) {

@@ -7,71 +7,32 @@
 mod answer;
 mod asked;
 
-use input::Lines;
-use text::Pen;
-
-struct Run {
-    lines: Lines,
-    pen: Pen,
-}
-
 // Answers the lines: all of them, or as many as 64 bits count.
-fn go_on(chunk: &mut [u8], raw: &mut [u8], room: &mut [u8], out: &mut [u8], run: Run) -> Run {
-    let mut last = run;
-    let mut turns = u64::MAX;
-    while turns > 0 && goes_on(last) {
-        last = turn(chunk, raw, room, out, last);
-        turns -= 1;
-    }
-    last
-}
-
-fn goes_on(run: Run) -> bool {
-    let lines = run.lines;
-    lines.found < input::OVER
-}
-
-fn turn(chunk: &mut [u8], raw: &mut [u8], room: &mut [u8], out: &mut [u8], run: Run) -> Run {
-    let pen = run.pen;
-    let lines = input::next_line(chunk, run.lines);
-    let start = lines.start;
-    let end = lines.end;
-    let found = lines.found;
-    let number = lines.number;
-    if found == input::LINE {
-        return Run {
-            lines,
-            pen: answer::line(&chunk[start..end], number, raw, room, out, pen),
-        };
-    }
-    Run {
-        lines,
-        pen: no_line(found, number, out, pen),
-    }
-}
-
-// Says why there is no line to answer; at the input's end there is nothing to say.
-fn no_line(found: usize, number: u64, out: &mut [u8], pen: Pen) -> Pen {
-    if found == input::LONG {
-        return answer::bad(out, pen, number, b"too long for this program");
-    }
-    if found == input::FAILED {
-        os::fail(b"standard input");
-        return text::bytes(out, pen, b"standard input cannot be read\n");
-    }
-    pen
-}
-
 fn main() {
     let mut chunk = io::large_buffer();
-    let mut raw = io::large_buffer();
+    let mut line = io::large_buffer();
     let mut room = io::large_buffer();
     let mut out = io::large_buffer();
-    let begun = Run {
-        lines: input::no_line(),
-        pen: text::fresh(),
-    };
-    let end = go_on(&mut chunk, &mut raw, &mut room, &mut out, begun);
-    let pen = end.pen;
+    let table = answer::patterns();
+    let mut feed = input::start();
+    let mut pen = text::fresh();
+    let mut left = u64::MAX;
+    while left > 0 {
+        feed = input::pass(&mut chunk, feed, usize::MAX, input::LF, &mut line);
+        left = input::left(left, feed);
+        let said = answer::said(&mut line, &mut room, feed, left);
+        pen = text::form(
+            &mut out,
+            pen,
+            &table,
+            shown(&line, &room, said.pattern),
+            said,
+        );
+    }
     text::finish(&out, pen);
+}
+
+// The bytes that a pattern shows: the string's, or the text's in the room.
+fn shown<'a>(line: &'a [u8], room: &'a [u8], pattern: usize) -> &'a [u8] {
+    if pattern == answer::PLAIN { line } else { room }
 }

@@ -1,6 +1,6 @@
 use Prim.Native.Nat.{ℕ, _<_, _^_}
 use mathlib.Core.Path.{_≡_, subst⁻¹}
-use mathlib.Core.Bool.{true, false}
+use mathlib.Core.Bool.{false}
 use native.Mathlib.Omega.{arith}
 use lib.Dec.{T}
 use lib.IntN.{ℤ, pos, negsuc, natAbs}
@@ -11,9 +11,6 @@ use mir.ValLaws.{toZ-ofZ}
 use borrow.Author.Needs.{needs}
 use Rattle.input.proofs.size.Statement.{statement}
 use Rattle.input.proofs.size.Tie as tie
-use Rattle.input.proofs.size.Reads as reads
-use Rattle.input.proofs.size.Lts as lts
-use Rattle.libc.proofs.lseek.Reads as lseek-reads
 
 -- a number that fits 64 bits with a sign, and is not below 0, fits them without
 small : (z : ℤ) → ltZ z (pos 0) ≡ false → mag z < 2 ^ 63 → T (nonNeg z) × Fits w64 (natAbs z)
@@ -25,31 +22,24 @@ not-negative z h k =
     let e : toZ w64 (ofZ w64 z) ≡ z = toZ-ofZ w64 z k in
     subst⁻¹ (λ (y : ℤ). T (nonNeg y) × Fits w64 (natAbs y)) e (small z (rw e at h) (k .sfits))
 
--- src/lib.rt:66:9
 lseek-requires : tie.Need-lseek-requires
 lseek-requires c κs = search needs
 
--- src/lib.rt:68:9
 returns : tie.Need-returns
 returns c = search needs
 
--- src/lib.rt:70:9
 lseek-requires-2 : tie.Need-lseek-requires-2
 lseek-requires-2 c κs = search needs
 
--- src/lib.rt:71:5
 lseek-requires-3 : tie.Need-lseek-requires-3
 lseek-requires-3 c κs = search needs
 
--- src/lib.rt:72:36
 cast-result : tie.Need-cast-result
 cast-result c = not-negative (c .before .before .lseek2 .result) (c .if2 .left) (record { sfits = c .before .before .lseek2 .ok })
 
--- src/lib.rt:65:1
 returns-2 : tie.Need-returns-2
 returns-2 c = search needs
 
--- src/lib.rt:65:1
 returns-3 : tie.Need-returns-3
 returns-3 c = search needs
 
