@@ -164,7 +164,13 @@ fn split(buffer: &mut [u8], pen: Pen, t: &[u8], behind: usize) -> Pen {
 fn point(buffer: &mut [u8], pen: Pen, bare: bool, zeros: usize) -> Pen {
     let all = b"0.0000000000000000000000";
     let start = if bare { 0 } else { 1 };
-    part(buffer, pen, all, start, std::num::wrapping_add_usize(zeros, 2))
+    part(
+        buffer,
+        pen,
+        all,
+        start,
+        std::num::wrapping_add_usize(zeros, 2),
+    )
 }
 
 // A part on one line. What is no part of the bytes puts nothing.
