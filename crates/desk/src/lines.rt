@@ -2,7 +2,7 @@
 ghost use Rattle.desk.specs.Superseded.{Superseded};
 use crate::command::Word;
 use crate::walk;
-use crate::walk::Walk;
+use crate::walk::Step;
 use text::Line;
 use text::Pen;
 
@@ -21,82 +21,80 @@ pub const RECORD: usize = 6;
 
 pub const COMPLEX_RECORD: usize = 7;
 
-pub const STANDING: usize = 8;
+pub const NO_PARAMETERS: usize = 8;
 
-pub const NO_PARAMETERS: usize = 9;
+pub const NO_PARTS: usize = 9;
 
-pub const NO_PARTS: usize = 10;
+pub const NO_RECORD: usize = 10;
 
-pub const NO_RECORD: usize = 11;
+pub const REFUSED: usize = 11;
 
-pub const REFUSED: usize = 12;
+pub const REFUSED_AT: usize = 12;
 
-pub const REFUSED_AT: usize = 13;
+pub const ACCEPTED: usize = 13;
 
-pub const ACCEPTED: usize = 14;
+pub const DIGITS: usize = 14;
 
-pub const DIGITS: usize = 15;
+pub const EXPONENT: usize = 15;
 
-pub const EXPONENT: usize = 16;
+pub const IN_WORDS: usize = 16;
 
-pub const IN_WORDS: usize = 17;
+pub const RESOLVED: usize = 17;
 
-pub const RESOLVED: usize = 18;
+pub const UNRESOLVED: usize = 18;
 
-pub const UNRESOLVED: usize = 19;
+pub const UNREAD: usize = 19;
 
-pub const UNREAD: usize = 20;
+pub const UNOPENED: usize = 20;
 
-pub const UNOPENED: usize = 21;
+pub const TOO_LARGE: usize = 21;
 
-pub const TOO_LARGE: usize = 22;
+pub const TOO_LARGE_HERE: usize = 22;
 
-pub const TOO_LARGE_HERE: usize = 23;
+pub const TOO_MANY: usize = 23;
 
-pub const TOO_MANY: usize = 24;
+pub const TOO_MANY_HERE: usize = 24;
 
-pub const TOO_MANY_HERE: usize = 25;
+const USAGE: usize = 25;
 
-const USAGE: usize = 26;
-
-const ALL_USAGE: usize = 27;
+const ALL_USAGE: usize = 26;
 
 // A line that is empty.
-pub const NOTHING: usize = 33;
+pub const NOTHING: usize = 32;
 
 // The words that stand in patterns. From `ZEROS` on so many zeros, up to six; from `WHATS` and `UNITS` on those of a length, an angle and the
 // tolerance.
-const USAGES: u64 = 28;
+const USAGES: u64 = 27;
 
-pub const ZEROS: u64 = 33;
+pub const ZEROS: u64 = 32;
 
-pub const EMPTY: u64 = 33;
+pub const EMPTY: u64 = 32;
 
-pub const PLURAL: u64 = 40;
+pub const PLURAL: u64 = 39;
 
-pub const OR_MORE: u64 = 41;
+pub const OR_MORE: u64 = 40;
 
-pub const MINUS: u64 = 42;
+pub const MINUS: u64 = 41;
 
-pub const ABOUT: u64 = 43;
+pub const ABOUT: u64 = 42;
 
-pub const MINUS_ABOUT: u64 = 44;
+pub const MINUS_ABOUT: u64 = 43;
 
-pub const WHATS: u64 = 45;
+pub const WHATS: u64 = 44;
 
-pub const UNITS: u64 = 48;
+pub const UNITS: u64 = 47;
 
-pub const NOT_A_NUMBER: u64 = 51;
+pub const NOT_A_NUMBER: u64 = 50;
 
-pub const INFINITE: u64 = 52;
+pub const INFINITE: u64 = 51;
 
-pub const TOO_FAR: u64 = 53;
+pub const TOO_FAR: u64 = 52;
 
-// Puts the lines of a walk over a file and its rows.
-pub fn say(file: &[u8], rows: &[u32], start: Walk, out: &mut [u8], pen: Pen) -> Pen {
+// Puts a line and those behind it, of a file and its rows.
+pub fn say(file: &[u8], rows: &[u32], first: Step, out: &mut [u8], pen: Pen) -> Pen {
     let table =
-        b"%d %s %d %d%n\n%d (complex) %d %d%n\n  %d at %d: %s%n\npart %s, arguments %d to %d%n\nrecords %d max %d%n\n#%d %s%n\n#%d (complex)%n\n\
-        arguments %d to %d, line %d column %d%n\n  no parameters%n\nno parts%n\nno record #%d%n\n\
+        b"%d %s %d %d%n\n%d (complex) %d %d%n\n  %d at %d: %s%n\npart %s, arguments %d to %d%n\nrecords %d max %d%n\n#%d %s%narguments %d to %d, line %d column %d%n\n\
+        #%d (complex)%narguments %d to %d, line %d column %d%n\n  no parameters%n\nno parts%n\nno record #%d%n\n\
         refused %d/%d@%d: %f%n\nrefused %d/%d@%d, line %d column %d: %f%n\n\
         accepted: %d header record%w, %d data record%w, largest id %d, %d byte%w%n\n\
         %w%w%p%w%w (0x%x)%n\n%w%w%dE%d%w (0x%x)%n\n%w%w%w%w (0x%x)%n\n\
@@ -117,13 +115,16 @@ pub fn say(file: &[u8], rows: &[u32], start: Walk, out: &mut [u8], pen: Pen) -> 
         length \nangle \ntolerance \n mm per unit\n rad per unit\n\n\
         not a number\ninfinite\ntoo far from one to be put in decimal";
     let mut last = pen;
-    let mut at = start;
+    let mut step = first;
     let mut turns = u64::MAX;
-    while turns > 0 && !walk::is_over(at) {
-        let step = walk::next(file, rows, at);
+    while turns > 0 {
         let put = text::form(out, last, table, file, step.line);
         last = superseded(out, put, step.times);
-        at = step.walk;
+        let walk = step.walk;
+        if walk::is_over(walk) {
+            return last;
+        }
+        step = walk::next(file, rows, walk);
         turns -= 1;
     }
     last
@@ -131,7 +132,7 @@ pub fn say(file: &[u8], rows: &[u32], start: Walk, out: &mut [u8], pen: Pen) -> 
 
 // Puts one line that speaks of no bytes of a file.
 pub fn told(l: Line, out: &mut [u8], pen: Pen) -> Pen {
-    say(b"", &[0u32; 1], Walk::Line(l), out, pen)
+    say(b"", &[0u32; 1], walk::last(l), out, pen)
 }
 
 // Where an id stands more than once, that its last record is shown.

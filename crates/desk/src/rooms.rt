@@ -4,8 +4,11 @@
 // into rooms for 64 MiB, where the stack limit allows them (`ulimit -s`; the script `step` raises it).
 use crate::command::Task;
 use crate::lines;
-use crate::walk::Walk;
+use crate::walk;
+use crate::walk::Step;
 use crate::work;
+use crate::work::Found;
+use error::Fault;
 use text::Line;
 use text::Pen;
 
@@ -157,13 +160,26 @@ fn within(
     if got.failed != 0 || n == file.len() {
         return Said::Put(lines::told(unread(fd, got.failed, n), out, pen));
     }
-    let t = &file[..n];
-    let found = work::found(task, t, headers, rows, slots);
+    answered(grows, task, &file[..n], headers, rows, slots, out, pen)
+}
+
+// The same over a file's bytes.
+fn answered(
+    grows: bool,
+    task: Task,
+    t: &[u8],
+    headers: &mut [u32],
+    rows: &mut [u32],
+    slots: &mut [u64],
+    out: &mut [u8],
+    pen: Pen,
+) -> Said {
+    let found = work::answer(task, t, headers, rows, slots);
     if grows && is_outgrown(found) {
         return Said::Outgrown;
     }
-    let told = settled(task, t, headers.len(), rows.len(), found);
-    Said::Put(lines::say(t, rows, told, out, pen))
+    let first = settled(task, t, headers.len(), rows.len(), found);
+    Said::Put(lines::say(t, rows, first, out, pen))
 }
 
 // Why a file is not read whole: a read failed, or the room for it is full, which is for one byte less.
@@ -191,26 +207,31 @@ fn too_large(size: u64, more: u64, most: u64) -> Line {
 }
 
 // Whether it is that the rooms for rows end.
-fn is_outgrown(found: Walk) -> bool {
+fn is_outgrown(found: Found) -> bool {
     match found {
-        Walk::Refused(f) => error::number(f) == 8,
-        _ => false,
+        Found::Refused(f) => error::number(f) == 8,
+        Found::Is(_) => false,
     }
 }
 
-// What is told, once it is: of 8, which speaks of rows that were lent, that the program's room ends and the file may be a good one; of
-// another refusal, where a verdict is asked, the line and the column.
-fn settled(task: Task, file: &[u8], headers: usize, rows: usize, found: Walk) -> Walk {
-    let Walk::Refused(f) = found else {
-        return found;
-    };
+// What is told of it.
+fn settled(task: Task, file: &[u8], headers: usize, rows: usize, found: Found) -> Step {
+    match found {
+        Found::Is(first) => first,
+        Found::Refused(f) => walk::last(refused(task, file, headers, rows, f)),
+    }
+}
+
+// A refusal: of 8, which speaks of rows that were lent, that the program's room ends and the file may be a good one; of another, where a
+// verdict is asked, with the line and the column.
+fn refused(task: Task, file: &[u8], headers: usize, rows: usize, f: Fault) -> Line {
     if error::number(f) == 8 {
-        return Walk::Line(too_many(error::place(f), headers / 4, rows / 6));
+        return too_many(error::place(f), headers / 4, rows / 6);
     }
     if let Task::Inspect = task {
-        return Walk::Line(work::refused_at(file, f));
+        return work::refused_at(file, f);
     }
-    found
+    work::refused(f)
 }
 
 fn too_many(place: usize, headers: usize, records: usize) -> Line {
