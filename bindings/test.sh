@@ -32,7 +32,7 @@ diff "$work/declared" "$work/there" >&2 || { say "the header and the library dif
 
 "$compiler" -O2 -std=c11 -D_POSIX_C_SOURCE=200809L -Wall -Wextra -Werror -pedantic -static -I"$root/include" \
     -o "$work/list" "$root/bindings/c/list.c" "$library"
-cp "$root/crates/list/stdin" "$work/example.stp"
+cp "$root/crates/desk/data/one.stp" "$work/example.stp"
 : >"$work/empty.stp"
 printf 'ISO-10303-21;DATA;;' >"$work/reason.stp"
 printf 'ISO-10303-21;/*/;' >"$work/comment.stp"

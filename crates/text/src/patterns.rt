@@ -1,9 +1,10 @@
 // Lines by pattern: a table has the patterns, one to a line, and what is put is told by a pattern's number and the numbers that stand in
 // it. What a program says is then plain values, and is put in one place.
 //
-// In a pattern `%d` stands for a number in decimal, `%x` for one in 16 hex digits, `%n` for a line end, `%w` for the table's line of that
-// number, `%s` for a part of the bytes lent beside it, kept on one line, `%h` for a part of them in hex digits, and `%f` for a refusal's
-// words. A part takes two numbers, where it starts and where it ends; so do words, the refusal's number and its reason.
+// In a pattern `%d` stands for a number in decimal, `%p` for one with a point in it, `%x` for one in 16 hex digits, `%n` for a line end,
+// `%w` for the table's line of that number, `%s` for a part of the bytes lent beside it, kept on one line, `%b` for a part of them as it
+// is, `%h` for a part of them in hex digits, and `%f` for a refusal's words. A part takes two numbers, where it starts and where it ends;
+// so do words, the refusal's number and its reason; and a number with a point, which has so many of its digits behind it.
 use crate::Pen;
 use crate::byte;
 use crate::bytes;
@@ -85,7 +86,7 @@ fn piece(buffer: &mut [u8], w: Way, b: u8, table: &[u8], t: &[u8], l: Line) -> W
 fn taken(b: u8) -> usize {
     match b {
         b'd' | b'x' | b'w' => 1,
-        b's' | b'h' | b'f' => 2,
+        b's' | b'b' | b'h' | b'f' | b'p' => 2,
         _ => 0,
     }
 }
@@ -112,6 +113,8 @@ fn stood(buffer: &mut [u8], pen: Pen, b: u8, m: u64, n: u64, table: &[u8], t: &[
         b'n' => byte(buffer, pen, b'\n'),
         b'w' => line(buffer, pen, table, m as usize),
         b's' => shown(buffer, pen, t, m as usize, n as usize),
+        b'b' => part(buffer, pen, t, m as usize, n as usize),
+        b'p' => pointed(buffer, pen, m, n as usize),
         b'h' => figures(buffer, pen, t, m as usize, n as usize),
         b'f' => because(buffer, pen, m as usize, n as usize),
         _ => byte(buffer, pen, b),
@@ -126,6 +129,48 @@ fn figures(buffer: &mut [u8], pen: Pen, t: &[u8], start: usize, end: usize) -> P
         }
     }
     pen
+}
+
+// A part as it is. What is no part of the bytes puts nothing.
+fn part(buffer: &mut [u8], pen: Pen, t: &[u8], start: usize, end: usize) -> Pen {
+    if start <= end {
+        if end <= t.len() {
+            return bytes(buffer, pen, &t[start..end]);
+        }
+    }
+    pen
+}
+
+// A number's digits with so many of them, 22 at most, behind a point, and zeros where it has too few.
+fn pointed(buffer: &mut [u8], pen: Pen, n: u64, behind: usize) -> Pen {
+    let mut digits = [0u8; 20];
+    let k = io::decimal(n, &mut digits);
+    if behind == 0 {
+        return bytes(buffer, pen, &digits[..k]);
+    }
+    split(buffer, pen, &digits[..k], behind)
+}
+
+fn split(buffer: &mut [u8], pen: Pen, t: &[u8], behind: usize) -> Pen {
+    let later = least(behind, t.len());
+    let zeros = std::num::wrapping_sub_usize(behind, later);
+    let cut = std::num::wrapping_sub_usize(t.len(), later);
+    let a = part(buffer, pen, t, 0, cut);
+    let b = point(buffer, a, cut == 0, zeros);
+    part(buffer, b, t, cut, t.len())
+}
+
+// A point, with a zero before it where no digit stands there, and so many zeros behind it.
+fn point(buffer: &mut [u8], pen: Pen, bare: bool, zeros: usize) -> Pen {
+    let all = b"0.0000000000000000000000";
+    let start = if bare { 0 } else { 1 };
+    part(
+        buffer,
+        pen,
+        all,
+        start,
+        std::num::wrapping_add_usize(zeros, 2),
+    )
 }
 
 // A part on one line. What is no part of the bytes puts nothing.

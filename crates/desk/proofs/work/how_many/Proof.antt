@@ -1,0 +1,49 @@
+use Prim.Native.Nat.{_-_, _≤_}
+use borrow.Author.Needs.{needs}
+use Rattle.desk.proofs.work.how_many.Statement.{statement}
+use Rattle.desk.proofs.work.how_many.Tie as tie
+
+abbrev Inv-loop : tie.InvT-loop
+Inv-loop id rows n count₀ at₀ k₀ count at k = k ≤ n
+
+abbrev μ-loop : tie.MeasureT-loop
+μ-loop id rows n count₀ at₀ k₀ count at k = n - k
+
+loop-holds : tie.Need-loop-holds Inv-loop μ-loop
+loop-holds c = search needs
+
+number-requires : tie.Need-number-requires Inv-loop μ-loop
+number-requires c κs = search needs
+
+wrapping-add-usize-requires : tie.Need-wrapping-add-usize-requires Inv-loop μ-loop
+wrapping-add-usize-requires c κs = search needs
+
+wrapping-add-usize-requires-2 : tie.Need-wrapping-add-usize-requires-2 Inv-loop μ-loop
+wrapping-add-usize-requires-2 c κs = search needs
+
+add-k : tie.Need-add-k Inv-loop μ-loop
+add-k c = search needs
+
+loop-less : tie.Need-loop-less Inv-loop μ-loop
+loop-less c = search needs
+
+loop-again : tie.Need-loop-again Inv-loop μ-loop
+loop-again c = search needs
+
+returns : tie.Need-returns Inv-loop μ-loop
+returns c = search needs
+
+pub how-many-spec : {M : Type 1} → statement M
+how-many-spec =
+    tie.close
+    (tie.spec
+    Inv-loop
+    μ-loop
+    loop-holds
+    number-requires
+    wrapping-add-usize-requires
+    wrapping-add-usize-requires-2
+    add-k
+    loop-less
+    loop-again
+    returns)

@@ -1,0 +1,229 @@
+// The tasks that a command line asks for, and the files of each.
+//
+// A task's word begins a task, and the arguments up to the next such word are its files; `show` takes a record's id before them. A task
+// without a file reads standard input.
+ghost use Prim.Native.Nat.{_≤_};
+
+pub enum Task {
+    List,
+    Scale,
+    // The record of an id.
+    Show(u32),
+    Inspect,
+    // Its usage is told in its place, and its files are passed over.
+    Nothing,
+}
+
+// What is to be done next.
+pub enum Job {
+    Usage(Word),
+    // The task over the file that an argument names, or over standard input where that is 0.
+    File(usize),
+    Over,
+}
+
+pub struct Course {
+    pub job: Job,
+    pub task: Task,
+    // Whether the task has several files.
+    pub several: bool,
+    // The argument that is looked at next.
+    pub next: usize,
+}
+
+// What an argument may be.
+pub enum Word {
+    List,
+    Scale,
+    Show,
+    Inspect,
+    Help,
+    Other,
+    Missing,
+}
+
+enum Id {
+    Is(u32),
+    Bad,
+}
+
+// What the first argument asks for. Where it is no task's word, all usage is told, and nothing else is done.
+pub fn start() -> Course {
+    let first = argument(1);
+    if is_task(first) {
+        return begun(1, first);
+    }
+    usage(Word::Other, usize::MAX)
+}
+
+// What comes after.
+pub fn after(last: Course) -> Course {
+    let at = last.next;
+    let word = argument(at);
+    if is_task(word) {
+        return begun(at, word);
+    }
+    let task = last.task;
+    Course {
+        job: if is_file(word) {
+            Job::File(at)
+        } else {
+            Job::Over
+        },
+        task,
+        several: last.several,
+        next: std::num::wrapping_add_usize(at, 1),
+    }
+}
+
+pub fn is_over(at: Course) -> bool {
+    let job = at.job;
+    match job {
+        Job::Over => true,
+        _ => false,
+    }
+}
+
+// The task whose word an argument is.
+fn begun(at: usize, word: Word) -> Course {
+    let first = std::num::wrapping_add_usize(at, 1);
+    let behind = argument(first);
+    if let Word::Help = behind {
+        return usage(word, first);
+    }
+    match word {
+        Word::List => of(Task::List, first),
+        Word::Scale => of(Task::Scale, first),
+        Word::Inspect => of(Task::Inspect, first),
+        _ => shown(first),
+    }
+}
+
+// The usage of a task's word, or of all. What follows up to the next such word is passed over.
+fn usage(word: Word, next: usize) -> Course {
+    Course {
+        job: Job::Usage(word),
+        task: Task::Nothing,
+        several: false,
+        next,
+    }
+}
+
+// A task whose first file may be an argument.
+fn of(task: Task, first: usize) -> Course {
+    let second = std::num::wrapping_add_usize(first, 1);
+    if is_file(argument(first)) {
+        return Course {
+            job: Job::File(first),
+            task,
+            several: is_file(argument(second)),
+            next: second,
+        };
+    }
+    Course {
+        job: Job::File(0),
+        task,
+        several: false,
+        next: first,
+    }
+}
+
+// The task to show a record whose id an argument gives.
+fn shown(at: usize) -> Course {
+    let mut room = io::buffer();
+    let n = os::arg(at, &mut room);
+    match identified(&room[..n]) {
+        Id::Is(id) => of(Task::Show(id), std::num::wrapping_add_usize(at, 1)),
+        Id::Bad => usage(Word::Show, at),
+    }
+}
+
+// The id that is given as `12` or `#12`.
+fn identified(t: &[u8]) -> Id {
+    if t.len() < 2 {
+        return numbered(t);
+    }
+    if t[0] == b'#' {
+        return numbered(&t[1..]);
+    }
+    numbered(t)
+}
+
+// The id that digits are, 4294967295 at most.
+fn numbered(t: &[u8]) -> Id {
+    let mut n: u64 = 0;
+    let mut i = 0;
+    while i < t.len() {
+        let d = digit(t[i]);
+        if d > 9 {
+            return Id::Bad;
+        }
+        if n > 429496729 {
+            return Id::Bad;
+        }
+        n = n * 10 + d;
+        i += 1;
+    }
+    if t.len() == 0 {
+        return Id::Bad;
+    }
+    if n > 4294967295 {
+        return Id::Bad;
+    }
+    Id::Is(n as u32)
+}
+
+// What a byte is worth as a decimal digit, and 10 where it is none.
+fn digit(b: u8) -> u64
+    ensures { λ r. ⌜ r ≤ 10 ⌝ }
+{
+    if b < b'0' {
+        return 10;
+    }
+    if b > b'9' {
+        return 10;
+    }
+    (b - b'0') as u64
+}
+
+fn argument(at: usize) -> Word {
+    let mut room = io::buffer();
+    let n = os::arg(at, &mut room);
+    if os::arg_count() <= at {
+        return Word::Missing;
+    }
+    named(&room[..n])
+}
+
+fn named(t: &[u8]) -> Word {
+    if record::same_bytes(t, b"list") {
+        return Word::List;
+    }
+    if record::same_bytes(t, b"scale") {
+        return Word::Scale;
+    }
+    if record::same_bytes(t, b"show") {
+        return Word::Show;
+    }
+    if record::same_bytes(t, b"inspect") {
+        return Word::Inspect;
+    }
+    if record::same_bytes(t, b"-h") || record::same_bytes(t, b"--help") {
+        return Word::Help;
+    }
+    Word::Other
+}
+
+fn is_task(word: Word) -> bool {
+    match word {
+        Word::List | Word::Scale | Word::Show | Word::Inspect => true,
+        _ => false,
+    }
+}
+
+fn is_file(word: Word) -> bool {
+    match word {
+        Word::Help | Word::Other => true,
+        _ => false,
+    }
+}

@@ -1,0 +1,253 @@
+// The rooms that a file and its rows are read into, which stand on the stack.
+//
+// A file is read into rooms for 1 MiB. One that is larger, or has more records than these rooms, or of which the size is not told, is read
+// into rooms for 64 MiB, where the stack limit allows them (`ulimit -s`; the script `step` raises it).
+use crate::command::Task;
+use crate::lines;
+use crate::walk;
+use crate::walk::Step;
+use crate::work;
+use crate::work::Found;
+use error::Fault;
+use text::Line;
+use text::Pen;
+
+// What the large rooms take of the stack, with something over.
+const NEEDED: u64 = 188000000;
+
+// Rooms for a file of 1 MiB with as many records as it can hold, and 4,096 header records.
+const SMALL_FILE: usize = 1048577;
+
+const SMALL_HEADERS: usize = 16384;
+
+const SMALL_ROWS: usize = 1048578;
+
+const SMALL_SLOTS: usize = 174763;
+
+// Rooms for a file of 64 MiB with a record for every 24 bytes, and 1,048,576 header records.
+const LARGE_FILE: usize = 67108865;
+
+const LARGE_HEADERS: usize = 4194304;
+
+const LARGE_ROWS: usize = 16777218;
+
+const LARGE_SLOTS: usize = 2796203;
+
+// What came of a file: all is said, or it has more records than the rooms and nothing was said yet.
+enum Said {
+    Put(Pen),
+    Outgrown,
+}
+
+// Does a task over what a descriptor reads, which is below 0 where nothing could be opened.
+pub fn read(limit: u64, task: Task, fd: i32, out: &mut [u8], pen: Pen) -> Pen {
+    if fd < 0 {
+        return lines::told(lines::bare(lines::UNOPENED), out, pen);
+    }
+    if limit >= NEEDED {
+        return grown(limit - NEEDED, task, fd, out, pen);
+    }
+    match small(false, task, fd, out, pen) {
+        Said::Put(last) => last,
+        Said::Outgrown => pen,
+    }
+}
+
+// The same where there are large rooms for a file that outgrows the small ones.
+fn grown(limit: u64, task: Task, fd: i32, out: &mut [u8], pen: Pen) -> Pen {
+    if input::size(fd) >= SMALL_FILE as u64 {
+        return large(limit, task, fd, out, pen);
+    }
+    let here = libc::lseek(fd, 0, libc::SEEK_CUR);
+    match small(true, task, fd, out, pen) {
+        Said::Put(last) => last,
+        Said::Outgrown => {
+            libc::lseek(fd, here, libc::SEEK_SET);
+            large(limit, task, fd, out, pen)
+        }
+    }
+}
+
+fn small(grows: bool, task: Task, fd: i32, out: &mut [u8], pen: Pen) -> Said {
+    let mut file = [0u8; SMALL_FILE];
+    let mut headers = [0u32; SMALL_HEADERS];
+    let mut rows = [0u32; SMALL_ROWS];
+    let mut slots = [0u64; SMALL_SLOTS];
+    lend_small(
+        grows,
+        task,
+        fd,
+        &mut file,
+        &mut headers,
+        &mut rows,
+        &mut slots,
+        out,
+        pen,
+    )
+}
+
+// An array behind a reference is lent as a slice with no proof of its length.
+fn lend_small(
+    grows: bool,
+    task: Task,
+    fd: i32,
+    file: &mut [u8; SMALL_FILE],
+    headers: &mut [u32; SMALL_HEADERS],
+    rows: &mut [u32; SMALL_ROWS],
+    slots: &mut [u64; SMALL_SLOTS],
+    out: &mut [u8],
+    pen: Pen,
+) -> Said {
+    within(grows, task, fd, file, headers, rows, slots, out, pen)
+}
+
+// No descriptor is the largest number, so it never calls itself; but since it might, the compiler keeps its frame apart from its caller's,
+// which else would have these rooms in every run of the program.
+fn large(limit: u64, task: Task, fd: i32, out: &mut [u8], pen: Pen) -> Pen {
+    let mut file = [0u8; LARGE_FILE];
+    let mut headers = [0u32; LARGE_HEADERS];
+    let mut rows = [0u32; LARGE_ROWS];
+    let mut slots = [0u64; LARGE_SLOTS];
+    let last = lend_large(
+        task,
+        fd,
+        &mut file,
+        &mut headers,
+        &mut rows,
+        &mut slots,
+        out,
+        pen,
+    );
+    if limit < NEEDED {
+        return last;
+    }
+    if fd == i32::MAX {
+        return large(limit - NEEDED, task, fd, out, last);
+    }
+    last
+}
+
+fn lend_large(
+    task: Task,
+    fd: i32,
+    file: &mut [u8; LARGE_FILE],
+    headers: &mut [u32; LARGE_HEADERS],
+    rows: &mut [u32; LARGE_ROWS],
+    slots: &mut [u64; LARGE_SLOTS],
+    out: &mut [u8],
+    pen: Pen,
+) -> Pen {
+    match within(false, task, fd, file, headers, rows, slots, out, pen) {
+        Said::Put(last) => last,
+        Said::Outgrown => pen,
+    }
+}
+
+// Does the task within these rooms, which larger ones may follow.
+fn within(
+    grows: bool,
+    task: Task,
+    fd: i32,
+    file: &mut [u8],
+    headers: &mut [u32],
+    rows: &mut [u32],
+    slots: &mut [u64],
+    out: &mut [u8],
+    pen: Pen,
+) -> Said {
+    let got = input::fill(fd, file);
+    let n = got.count;
+    if got.failed != 0 || n == file.len() {
+        return Said::Put(lines::told(unread(fd, got.failed, n), out, pen));
+    }
+    answered(grows, task, &file[..n], headers, rows, slots, out, pen)
+}
+
+// The same over a file's bytes.
+fn answered(
+    grows: bool,
+    task: Task,
+    t: &[u8],
+    headers: &mut [u32],
+    rows: &mut [u32],
+    slots: &mut [u64],
+    out: &mut [u8],
+    pen: Pen,
+) -> Said {
+    let found = work::answer(task, t, headers, rows, slots);
+    if grows && is_outgrown(found) {
+        return Said::Outgrown;
+    }
+    let first = settled(task, t, headers.len(), rows.len(), found);
+    Said::Put(lines::say(t, rows, first, out, pen))
+}
+
+// Why a file is not read whole: a read failed, or the room for it is full, which is for one byte less.
+fn unread(fd: i32, failed: usize, n: usize) -> Line {
+    if failed != 0 {
+        os::fail(b"read");
+        return lines::of(lines::UNREAD, n as u64, 0);
+    }
+    let most = std::num::wrapping_sub_usize(n, 1) as u64;
+    let size = input::size(fd);
+    if size < u64::MAX {
+        return too_large(size, lines::EMPTY, most);
+    }
+    too_large(n as u64, lines::OR_MORE, most)
+}
+
+fn too_large(size: u64, more: u64, most: u64) -> Line {
+    let largest = LARGE_FILE as u64 - 1;
+    let pattern = if most < largest {
+        lines::TOO_LARGE_HERE
+    } else {
+        lines::TOO_LARGE
+    };
+    lines::line(pattern, size, more, most, largest, 0, 0, 0)
+}
+
+// Whether it is that the rooms for rows end.
+fn is_outgrown(found: Found) -> bool {
+    match found {
+        Found::Refused(f) => error::number(f) == 8,
+        Found::Is(_) => false,
+    }
+}
+
+// What is told of it.
+fn settled(task: Task, file: &[u8], headers: usize, rows: usize, found: Found) -> Step {
+    match found {
+        Found::Is(first) => first,
+        Found::Refused(f) => walk::last(refused(task, file, headers, rows, f)),
+    }
+}
+
+// A refusal: of 8, which speaks of rows that were lent, that the program's room ends and the file may be a good one; of another, where a
+// verdict is asked, with the line and the column.
+fn refused(task: Task, file: &[u8], headers: usize, rows: usize, f: Fault) -> Line {
+    if error::number(f) == 8 {
+        return too_many(error::place(f), headers / 4, rows / 6);
+    }
+    if let Task::Inspect = task {
+        return work::refused_at(file, f);
+    }
+    work::refused(f)
+}
+
+fn too_many(place: usize, headers: usize, records: usize) -> Line {
+    let pattern = if records < LARGE_ROWS / 6 {
+        lines::TOO_MANY_HERE
+    } else {
+        lines::TOO_MANY
+    };
+    lines::line(
+        pattern,
+        place as u64,
+        headers as u64,
+        records as u64,
+        LARGE_HEADERS as u64 / 4,
+        LARGE_ROWS as u64 / 6,
+        0,
+        0,
+    )
+}
