@@ -1,48 +1,50 @@
-// Answers a run of cases, for the comparison with the Rust original: each case of up to 1 MiB where the stack limit allows
-// the rooms for it (`ulimit -s`; the script `step` raises it), and of up to 256 KiB where it does not.
-mod answer;
-mod cases;
-
-use intake::Run;
+// Answers a run of cases of up to 1 MiB, for the comparison with the Rust original.
+use turns::Run;
 
 // How many cases of the gate's run are told with the walks: unit files follow, which have many parameters.
 const WALKS: usize = 4219;
 
-// What the large rooms take of the stack beside the small ones, with something over.
-const NEEDED: u64 = 40000000;
+// All rooms fit a stack of 8 MiB. A file has up to 1 MiB; beside it there is room for whatever a case of 256 KiB can hold: a header record
+// takes three bytes or more, a data record six; a byte of a string gives three at most; a reference in a list takes three bytes, another
+// number two, a row of a grid three. So a larger file may hold 87,382 header records and 43,691 data records, a text of 786,432 bytes,
+// and in one list or grid 87,382 references or 131,073 other numbers in 87,382 rows.
+const FILE: usize = 1048577;
 
-// Rooms for a case of 1 MiB, whatever it holds: a header record takes three bytes or more, a data record six; a byte of a string
-// gives three at most; a reference in a list takes three bytes, another number two, a row of a grid three.
-const LARGE_FILE: usize = 1048577;
+const HEADS: usize = 349528;
 
-const LARGE_HEADS: usize = 1398104;
+const ROWS: usize = 262146;
 
-const LARGE_ROWS: usize = 1048578;
+const SLOTS: usize = 43691;
 
-const LARGE_SLOTS: usize = 174763;
+const CHARS: usize = 786432;
 
-const LARGE_CHARS: usize = 3145728;
+const REFS: usize = 87382;
 
-const LARGE_REFS: usize = 349526;
+const NUMBERS: usize = 131073;
 
-const LARGE_NUMBERS: usize = 524289;
+const ENDS: usize = 87382;
 
-const LARGE_ENDS: usize = 349526;
+// What is read of standard input at once, and written of standard output.
+const CHUNK: usize = 65536;
 
-// It calls itself where more cases follow than one run takes; and since it does, the compiler keeps its frame apart from
-// `main`'s, which else would have these rooms in every run of the program.
-fn large(limit: u64, chunk: &mut [u8], out: &mut [u8], run: Run) -> Run {
-    let mut file = [0u8; LARGE_FILE];
-    let mut heads = [0u32; LARGE_HEADS];
-    let mut rows = [0u32; LARGE_ROWS];
-    let mut slots = [0u64; LARGE_SLOTS];
-    let mut chars = [0u8; LARGE_CHARS];
-    let mut refs = [0u32; LARGE_REFS];
-    let mut wholes = [0i64; LARGE_NUMBERS];
-    let mut reals = [0.0; LARGE_NUMBERS];
-    let mut ends = [0usize; LARGE_ENDS];
-    let next = lend_large(
-        chunk,
+fn main() {
+    let mut chunk = [0u8; CHUNK];
+    let mut out = [0u8; CHUNK];
+    let mut file = [0u8; FILE];
+    let mut heads = [0u32; HEADS];
+    let mut rows = [0u32; ROWS];
+    let mut slots = [0u64; SLOTS];
+    let mut chars = [0u8; CHARS];
+    let mut refs = [0u32; REFS];
+    let mut wholes = [0i64; NUMBERS];
+    let mut reals = [0.0; NUMBERS];
+    let mut ends = [0usize; ENDS];
+    if wants_help() {
+        help(&mut out);
+        return;
+    }
+    go_on(
+        &mut chunk,
         &mut file,
         &mut heads,
         &mut rows,
@@ -52,48 +54,49 @@ fn large(limit: u64, chunk: &mut [u8], out: &mut [u8], run: Run) -> Run {
         &mut wholes,
         &mut reals,
         &mut ends,
-        out,
-        run,
+        &mut out,
+        turns::start(lines::SCANNED, walks()),
     );
-    if limit < NEEDED {
-        return next;
-    }
-    if next.over == 0 {
-        return large(limit - NEEDED, chunk, out, next);
-    }
-    next
 }
 
-// An array behind a reference is lent as a slice with no proof of its length.
-fn lend_large(
-    chunk: &mut [u8],
-    file: &mut [u8; LARGE_FILE],
-    heads: &mut [u32; LARGE_HEADS],
-    rows: &mut [u32; LARGE_ROWS],
-    slots: &mut [u64; LARGE_SLOTS],
-    chars: &mut [u8; LARGE_CHARS],
-    refs: &mut [u32; LARGE_REFS],
-    wholes: &mut [i64; LARGE_NUMBERS],
-    reals: &mut [f64; LARGE_NUMBERS],
-    ends: &mut [usize; LARGE_ENDS],
-    out: &mut [u8],
+// Answers all cases, or as many lines as 64 bits count. An array behind a reference is lent as a slice with no proof of its length.
+fn go_on(
+    chunk: &mut [u8; CHUNK],
+    file: &mut [u8; FILE],
+    heads: &mut [u32; HEADS],
+    rows: &mut [u32; ROWS],
+    slots: &mut [u64; SLOTS],
+    chars: &mut [u8; CHARS],
+    refs: &mut [u32; REFS],
+    wholes: &mut [i64; NUMBERS],
+    reals: &mut [f64; NUMBERS],
+    ends: &mut [usize; ENDS],
+    out: &mut [u8; CHUNK],
     run: Run,
-) -> Run {
-    cases::go_on(
-        chunk,
-        file,
-        heads,
-        rows,
-        slots,
-        chars,
-        refs,
-        wholes,
-        reals,
-        ends,
-        out,
-        run,
-        walks(),
-    )
+) {
+    let mut last = run;
+    let mut left = u64::MAX;
+    while left > 0 && turns::goes_on(last) {
+        left -= 1;
+        if turns::takes(last) {
+            last = turns::begin(chunk, file, heads, rows, slots, out, last);
+        } else {
+            last = turns::told(
+                file,
+                heads,
+                rows,
+                slots,
+                chars,
+                refs,
+                wholes,
+                reals,
+                ends,
+                out,
+                last,
+            );
+        }
+    }
+    turns::finish(out, last);
 }
 
 // How many cases are told with the walks: all, but in the gate's run.
@@ -112,7 +115,7 @@ fn is_help(word: &[u8]) -> bool {
     record::same_bytes(word, b"-h") || record::same_bytes(word, b"--help")
 }
 
-fn help(out: &mut [u8]) {
+fn help(out: &mut [u8; CHUNK]) {
     let said = text::bytes(
         out,
         text::fresh(),
@@ -120,21 +123,4 @@ fn help(out: &mut [u8]) {
         without a file standard input is a run of cases: a length in decimal, LF and so many bytes, again and again\n",
     );
     text::finish(out, said);
-}
-
-fn main() {
-    let mut chunk = io::large_buffer();
-    let mut out = io::large_buffer();
-    if wants_help() {
-        help(&mut out);
-        return;
-    }
-    let limit = input::stack_limit();
-    if limit < NEEDED {
-        let run = cases::small(&mut chunk, &mut out, intake::start(), walks());
-        cases::finish(&out, run);
-        return;
-    }
-    let run = large(limit - NEEDED, &mut chunk, &mut out, intake::start());
-    cases::finish(&out, run);
 }

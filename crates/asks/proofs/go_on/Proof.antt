@@ -1,115 +1,55 @@
-use Prim.Native.Nat.{_≤_, _-_}
-use lib.ListN.{length}
-use mathlib.Core.Path.{_≡_, _∙_}
-use borrow.Author.Needs.{needs}
 use native.Mathlib.Omega.{arith}
+use Prim.Native.Nat.{_≤_}
+use borrow.Author.Needs.{needs}
 use Rattle.asks.proofs.go_on.Statement.{statement}
 use Rattle.asks.proofs.go_on.Tie as tie
-use Rattle.asks.proofs.go_on.Reads as reads
-use Rattle.asks.proofs.go_on.Lts as lts
-use Rattle.asks.proofs.turn.Reads as turn-reads
 
 abbrev Inv-loop : tie.InvT-loop
-Inv-loop chunk₀ file₀ heads₀ rows₀ slots₀ bytes₀ again₀ out₀ last₀ turns₀ chunk file heads rows slots bytes again out last turns =
-    (length chunk ≡ length chunk₀) × (length file ≡ length file₀) × (length heads ≡ length heads₀) × (length rows ≡ length rows₀) × (length slots ≡ length slots₀) × (length bytes ≡ length bytes₀) × (length again ≡ length again₀) × (length out ≡ length out₀)
+Inv-loop chunk₀ file₀ heads₀ rows₀ slots₀ bytes₀ again₀ wholes₀ reals₀ ends₀ out₀ last₀ left₀ chunk file heads rows slots bytes again wholes reals ends out last left =
+    0 ≤ left
 
 abbrev μ-loop : tie.MeasureT-loop
-μ-loop chunk₀ file₀ heads₀ rows₀ slots₀ bytes₀ again₀ out₀ last₀ turns₀ chunk file heads rows slots bytes again out last turns = turns
+μ-loop chunk₀ file₀ heads₀ rows₀ slots₀ bytes₀ again₀ wholes₀ reals₀ ends₀ out₀ last₀ left₀ chunk file heads rows slots bytes again wholes reals ends out last left =
+    left
 
--- src/main.rt:83:5
+start-requires : tie.Need-start-requires Inv-loop μ-loop
+start-requires c κs = search needs
+
 loop-holds : tie.Need-loop-holds Inv-loop μ-loop
 loop-holds c = search needs
 
--- src/main.rt:84:9
-turn-requires : tie.Need-turn-requires Inv-loop μ-loop
-turn-requires c κs = search needs
+goes-on-requires : tie.Need-goes-on-requires Inv-loop μ-loop
+goes-on-requires c κs = search needs
 
--- src/main.rt:85:9
-sub-turns : tie.Need-sub-turns Inv-loop μ-loop
-sub-turns c = let h = c .before .before .before .before .before .before .before .before .before .before .before .before .before .before .before .before .before .before .before .before .before .before .before .before .before .before .before .loop-test in omega arith
+sub-left : tie.Need-sub-left Inv-loop μ-loop
+sub-left c = search needs
 
--- src/main.rt:83:5
+takes-requires : tie.Need-takes-requires Inv-loop μ-loop
+takes-requires c κs = search needs
+
+begin-requires : tie.Need-begin-requires Inv-loop μ-loop
+begin-requires c κs = search needs
+
 loop-less : tie.Need-loop-less Inv-loop μ-loop
-loop-less c = let h = c .before .before .before .before .before .before .before .before .before .before .before .before .before .before .before .before .before .before .before .before .before .before .before .before .before .before .before .loop-test in omega arith
+loop-less c = search needs
 
--- src/main.rt:83:5
 loop-again : tie.Need-loop-again Inv-loop μ-loop
-loop-again c =
-    let k = c .before .before .before .before .before .before .before .before .before .before .before .before .before .before .before .before .turn .kept in
-    let v = c .before .before .before .before .before .before .before .before .before .before .before .before .before .before .before .before .before .before .before .before .before .before .before .before .before .before .before .before .loop .inv in
-    (k .0 ∙ v .0, k .1 .0 ∙ v .1, k .1 .1 .0 ∙ v .2, k .1 .1 .1 .0 ∙ v .3, k .1 .1 .1 .1 .0 ∙ v .4, k .1 .1 .1 .1 .1 .0 ∙ v .5, k .1 .1 .1 .1 .1 .1 .0 ∙ v .6, k .1 .1 .1 .1 .1 .1 .1 .0 ∙ v .7)
+loop-again c = search needs
 
--- src/main.rt:70:1
-same-length : tie.Need-same-length Inv-loop μ-loop
-same-length c = search needs
+told-requires : tie.Need-told-requires Inv-loop μ-loop
+told-requires c κs = search needs
 
--- src/main.rt:70:1
-same-length-2 : tie.Need-same-length-2 Inv-loop μ-loop
-same-length-2 c = search needs
+loop-less-2 : tie.Need-loop-less-2 Inv-loop μ-loop
+loop-less-2 c = let h = c .before .before .before .before .before .before .before .before .before .before .before .before .before .before .before .before .loop-test in omega arith
 
--- src/main.rt:70:1
-same-length-3 : tie.Need-same-length-3 Inv-loop μ-loop
-same-length-3 c = search needs
+loop-again-2 : tie.Need-loop-again-2 Inv-loop μ-loop
+loop-again-2 c = search needs
 
--- src/main.rt:70:1
-same-length-4 : tie.Need-same-length-4 Inv-loop μ-loop
-same-length-4 c = search needs
+finish-requires : tie.Need-finish-requires Inv-loop μ-loop
+finish-requires c κs = search needs
 
--- src/main.rt:70:1
-same-length-5 : tie.Need-same-length-5 Inv-loop μ-loop
-same-length-5 c = search needs
-
--- src/main.rt:70:1
-same-length-6 : tie.Need-same-length-6 Inv-loop μ-loop
-same-length-6 c = search needs
-
--- src/main.rt:70:1
-same-length-7 : tie.Need-same-length-7 Inv-loop μ-loop
-same-length-7 c = search needs
-
--- src/main.rt:70:1
-same-length-8 : tie.Need-same-length-8 Inv-loop μ-loop
-same-length-8 c = search needs
-
--- src/main.rt:70:1
 returns : tie.Need-returns Inv-loop μ-loop
 returns c = search needs
-
--- src/main.rt:70:1
-same-length-9 : tie.Need-same-length-9 Inv-loop μ-loop
-same-length-9 c = search needs
-
--- src/main.rt:70:1
-same-length-10 : tie.Need-same-length-10 Inv-loop μ-loop
-same-length-10 c = search needs
-
--- src/main.rt:70:1
-same-length-11 : tie.Need-same-length-11 Inv-loop μ-loop
-same-length-11 c = search needs
-
--- src/main.rt:70:1
-same-length-12 : tie.Need-same-length-12 Inv-loop μ-loop
-same-length-12 c = search needs
-
--- src/main.rt:70:1
-same-length-13 : tie.Need-same-length-13 Inv-loop μ-loop
-same-length-13 c = search needs
-
--- src/main.rt:70:1
-same-length-14 : tie.Need-same-length-14 Inv-loop μ-loop
-same-length-14 c = search needs
-
--- src/main.rt:70:1
-same-length-15 : tie.Need-same-length-15 Inv-loop μ-loop
-same-length-15 c = search needs
-
--- src/main.rt:70:1
-same-length-16 : tie.Need-same-length-16 Inv-loop μ-loop
-same-length-16 c = search needs
-
--- src/main.rt:70:1
-returns-2 : tie.Need-returns-2 Inv-loop μ-loop
-returns-2 c = search needs
 
 pub go-on-spec : {M : Type 1} → statement M
 go-on-spec =
@@ -117,26 +57,16 @@ go-on-spec =
     (tie.spec
     Inv-loop
     μ-loop
+    start-requires
     loop-holds
-    turn-requires
-    sub-turns
+    goes-on-requires
+    sub-left
+    takes-requires
+    begin-requires
     loop-less
     loop-again
-    same-length
-    same-length-2
-    same-length-3
-    same-length-4
-    same-length-5
-    same-length-6
-    same-length-7
-    same-length-8
-    returns
-    same-length-9
-    same-length-10
-    same-length-11
-    same-length-12
-    same-length-13
-    same-length-14
-    same-length-15
-    same-length-16
-    returns-2)
+    told-requires
+    loop-less-2
+    loop-again-2
+    finish-requires
+    returns)
