@@ -1,8 +1,9 @@
-// A file's tables, for hosts in other languages: opened into lent memory, and looked up by id, by number and by kind.
+// A file's tables, for hosts in other languages: what they need of lent memory, opened into it, and looked up by id, by number and by kind.
 //
 // Each function answers 0 or a refusal's number, and 255 where there is none; what it would have told stays as it was then.
 mod by_id;
 mod by_row;
+mod needing;
 mod opening;
 
 pub use by_id::hooflift_args;
@@ -15,6 +16,7 @@ pub use by_row::hooflift_intern;
 pub use by_row::hooflift_keyword;
 pub use by_row::hooflift_kind;
 pub use by_row::hooflift_len;
+pub use needing::hooflift_needs;
 pub use opening::hooflift_open;
 ghost use mathlib.Core.Path.{_≡_};
 ghost use Rattle.lookup.specs.Lookup.{toldSpan};

@@ -1,7 +1,12 @@
-// Parts of complex records, units and kept rows, for hosts in other languages.
+// Header records and their texts, units, parts of complex records and kept rows, for hosts in other languages.
+mod header;
 mod keeping;
 mod pieces;
 
+pub use header::hooflift_file_name;
+pub use header::hooflift_header_args;
+pub use header::hooflift_header_row;
+pub use header::hooflift_originating_system;
 pub use keeping::hooflift_keep_rows;
 pub use keeping::hooflift_read_rows;
 pub use pieces::hooflift_complex_part;

@@ -1,0 +1,58 @@
+use borrow.Author.Needs.{needs}
+use denote.Ref.{now}
+use mathlib.Core.Path.{_∙_, sym, ap}
+use Prim.Native.Nat.{ℕ}
+use Rattle.params.specs.Reader.{Read}
+use Rattle.plain.specs.Answers.{readValue, leaves-good, leaves-bad}
+use Rattle.lists.specs.Items.{toldNextList}
+use Rattle.export_args.proofs.arrays.hooflift_ref_list.Statement.{statement}
+use Rattle.export_args.proofs.arrays.hooflift_ref_list.Tie as tie
+
+next-ref-list-requires : tie.Need-next-ref-list-requires
+next-ref-list-requires c κs = search needs
+
+enum-known-n : tie.Need-enum-known-n
+enum-known-n c = search needs
+
+enum-known-f : tie.Need-enum-known-f
+enum-known-f c = search needs
+
+place-requires : tie.Need-place-requires
+place-requires c κs = search needs
+
+number-requires : tie.Need-number-requires
+number-requires c κs = search needs
+
+same-length : tie.Need-same-length
+same-length c = search needs
+
+returns : tie.Need-returns
+returns c =
+    let k = c .before .before .before .before .before in
+    let a = k .before .before .before .before .before .args in
+    let e = ap toldNextList (sym (c .before .n .given .1)) ∙ k .next-ref-list .ensures .0 in
+    (leaves-good e, (k .next-ref-list .ensures .1, ap (λ (r : Read ℕ). readValue (λ (n : ℕ). n) (r .answer) (now (a .count))) e))
+
+same-length-2 : tie.Need-same-length-2
+same-length-2 c = search needs
+
+returns-2 : tie.Need-returns-2
+returns-2 c =
+    let k = c .before .before .before .before .before .before .before in
+    let a = k .before .before .before .before .before .args in
+    let e = ap toldNextList (sym (c .before .before .before .f .given .1)) ∙ k .next-ref-list .ensures .0 in
+    (leaves-bad (now (a .fault)) e (c .number .ensures) (c .before .place .ensures), (k .next-ref-list .ensures .1, ap (λ (r : Read ℕ). readValue (λ (n : ℕ). n) (r .answer) (now (a .count))) e))
+
+pub hooflift-ref-list-spec : {M : Type 1} → statement M
+hooflift-ref-list-spec =
+    tie.close
+    (tie.spec
+    next-ref-list-requires
+    enum-known-n
+    enum-known-f
+    place-requires
+    number-requires
+    same-length
+    returns
+    same-length-2
+    returns-2)
