@@ -7,8 +7,6 @@ use crate::lines;
 use crate::walk;
 use crate::walk::Step;
 use crate::work;
-use crate::work::Found;
-use error::Fault;
 use text::Line;
 use text::Pen;
 
@@ -207,34 +205,33 @@ fn too_large(size: u64, more: u64, most: u64) -> Line {
 }
 
 // Whether it is that the rooms for rows end.
-fn is_outgrown(found: Found) -> bool {
-    match found {
-        Found::Refused(f) => error::number(f) == 8,
-        Found::Is(_) => false,
-    }
+fn is_outgrown(s: Step) -> bool {
+    let l = s.line;
+    l.pattern == lines::REFUSED && l.a == 8
 }
 
 // What is told of it.
-fn settled(task: Task, file: &[u8], headers: usize, rows: usize, found: Found) -> Step {
-    match found {
-        Found::Is(first) => first,
-        Found::Refused(f) => walk::last(refused(task, file, headers, rows, f)),
+fn settled(task: Task, file: &[u8], headers: usize, rows: usize, s: Step) -> Step {
+    let l = s.line;
+    if l.pattern == lines::REFUSED {
+        return walk::only(refused(task, file, headers, rows, l));
     }
+    s
 }
 
 // A refusal: of 8, which speaks of rows that were lent, that the program's room ends and the file may be a good one; of another, where a
 // verdict is asked, with the line and the column.
-fn refused(task: Task, file: &[u8], headers: usize, rows: usize, f: Fault) -> Line {
-    if error::number(f) == 8 {
-        return too_many(error::place(f), headers / 4, rows / 6);
+fn refused(task: Task, file: &[u8], headers: usize, rows: usize, l: Line) -> Line {
+    if l.a == 8 {
+        return too_many(l.c, headers / 4, rows / 6);
     }
     if let Task::Inspect = task {
-        return work::refused_at(file, f);
+        return work::refused_at(file, l);
     }
-    work::refused(f)
+    l
 }
 
-fn too_many(place: usize, headers: usize, records: usize) -> Line {
+fn too_many(place: u64, headers: usize, records: usize) -> Line {
     let pattern = if records < LARGE_ROWS / 6 {
         lines::TOO_MANY_HERE
     } else {
@@ -242,7 +239,7 @@ fn too_many(place: usize, headers: usize, records: usize) -> Line {
     };
     lines::line(
         pattern,
-        place as u64,
+        place,
         headers as u64,
         records as u64,
         LARGE_HEADERS as u64 / 4,
