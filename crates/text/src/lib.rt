@@ -14,7 +14,6 @@ pub use patterns::Line;
 pub use patterns::form;
 pub use refusal::line;
 pub use refusal::mark;
-pub use refusal::words;
 ghost use mathlib.Core.Path.{_≡_};
 ghost use mathlib.Core.List.{_∷_, []};
 ghost use Prim.Native.Nat.{_<_, _≤_};
