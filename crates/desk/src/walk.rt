@@ -162,29 +162,20 @@ fn parameter(file: &[u8], place: u64, end: u64, number: u64, stop: u64, told: u6
         end: end as usize,
     };
     match params::param_span(file, at) {
-        Cut::Span(a, z, next) => lines::all(
-            PARAMETER,
-            number,
-            a as u64,
-            a as u64,
-            z as u64,
-            next.place as u64,
-            end,
-            stop,
-            told,
-        ),
-        Cut::Refused(f, _) => no_parameter(
-            f,
-            number,
-            std::num::wrapping_add_u64(end, 1),
-            stop,
-            told,
-        ),
+        Cut::Span(a, z, next) => parameter_line(number, a as u64, z as u64, next, stop, told),
+        Cut::Refused(f, _) => no_parameter(f, number, end, stop, told),
     }
 }
 
-// Why there is no further parameter, where there is more to say than that they are over.
-fn no_parameter(f: Fault, number: u64, place: u64, stop: u64, told: u64) -> Line {
+fn parameter_line(number: u64, a: u64, z: u64, next: State, stop: u64, told: u64) -> Line {
+    let place = next.place as u64;
+    let end = next.end as u64;
+    lines::all(PARAMETER, number, a, a, z, place, end, stop, told)
+}
+
+// Why there is no further parameter, where there is more to say than that they are over. A part's next one stands behind its end.
+fn no_parameter(f: Fault, number: u64, end: u64, stop: u64, told: u64) -> Line {
+    let place = std::num::wrapping_add_u64(end, 1);
     if error::number(f) != 10 {
         return work::refused(f, place, stop, told);
     }
@@ -203,13 +194,17 @@ fn next_part(file: &[u8], place: u64, stop: u64, told: u64) -> Line {
 fn part(file: &[u8], place: u64, stop: u64, number: u64) -> Line {
     match parts::next_part(file, place as usize, stop as usize) {
         Next::Is(p) => part_line(p, stop, number),
-        Next::Over => lines::bare(if number == 1 {
-            lines::NO_PARTS
-        } else {
-            NOTHING
-        }),
-        Next::Refused(f) => work::refused(f, 0, 0, 0),
+        Next::Over => no_part(number),
+        Next::Refused(f) => work::refusal(f),
     }
+}
+
+fn no_part(number: u64) -> Line {
+    lines::bare(if number == 1 {
+        lines::NO_PARTS
+    } else {
+        NOTHING
+    })
 }
 
 // `part KEYWORD, arguments START to END`

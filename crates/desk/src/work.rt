@@ -1,5 +1,5 @@
 // What a task finds in a file's bytes: the first line of what is said of it, with what it takes to find those behind it.
-use crate::command::Task;
+use crate::command::Word;
 use crate::lines;
 use crate::walk;
 use crate::walk::Step;
@@ -13,21 +13,23 @@ use units::Resolved;
 
 // What the task finds. The rooms are lent for header rows, data rows and id slots.
 pub fn answer(
-    task: Task,
+    task: Word,
+    id: u32,
     file: &[u8],
     headers: &mut [u32],
     rows: &mut [u32],
     slots: &mut [u64],
 ) -> Step {
-    if let Task::Scale = task {
+    if let Word::Scale = task {
         return valued(serve::units_of(file, headers, rows, slots));
     }
-    walk::only(scanned(task, file, headers, rows, slots))
+    walk::only(scanned(task, id, file, headers, rows, slots))
 }
 
 // What a scan finds, or the record that is asked for.
 fn scanned(
-    task: Task,
+    task: Word,
+    id: u32,
     file: &[u8],
     headers: &mut [u32],
     rows: &mut [u32],
@@ -35,7 +37,7 @@ fn scanned(
 ) -> Line {
     let most = rows.len() / 6;
     let counts = scan::scan(file, headers, rows, most);
-    if let Task::Show(id) = task {
+    if let Word::Show = task {
         let n = times(id, rows, counts);
         return shown(
             id,
@@ -49,7 +51,7 @@ fn scanned(
 
 fn valued(u: Resolved) -> Step {
     match u {
-        Resolved::Refused(f) => walk::only(refused(f, 0, 0, 0)),
+        Resolved::Refused(f) => walk::only(refusal(f)),
         Resolved::Is(v) => walk::values(v),
     }
 }
@@ -84,7 +86,7 @@ fn how_many(id: u32, rows: &[u32], n: usize) -> usize {
 // The record that is served for an id that so many have.
 fn shown(id: u32, n: usize, file: &[u8], s: Served) -> Line {
     match s {
-        Served::Refused(f) => refused(f, 0, 0, 0),
+        Served::Refused(f) => refusal(f),
         Served::Nothing => lines::of(lines::NO_RECORD, id as u64, 0),
         Served::Row(w) => titled(file, w, n as u64),
     }
@@ -128,20 +130,22 @@ fn wide(n: u32) -> usize {
 }
 
 // What a scan counts: `records N max M`, or that the file is accepted.
-fn counted(task: Task, length: usize, counts: Scanned) -> Line {
+fn counted(task: Word, length: usize, counts: Scanned) -> Line {
     match counts {
-        Scanned::Refused(f) => refused(f, 0, 0, 0),
+        Scanned::Refused(f) => refusal(f),
         Scanned::Rows {
             headers: h,
             records: n,
             max,
-        } => {
-            if let Task::List = task {
-                return lines::of(lines::COUNTS, n as u64, max as u64);
-            }
-            accepted(h as u64, n as u64, max as u64, length as u64)
-        }
+        } => accounted(task, h as u64, n as u64, max as u64, length as u64),
     }
+}
+
+fn accounted(task: Word, h: u64, n: u64, max: u64, length: u64) -> Line {
+    if let Word::List = task {
+        return lines::of(lines::COUNTS, n, max);
+    }
+    accepted(h, n, max, length)
 }
 
 // `accepted: H header records, N data records, largest id M, L bytes`
@@ -160,6 +164,11 @@ fn accepted(h: u64, n: u64, max: u64, length: u64) -> Line {
 
 fn plural(n: u64) -> u64 {
     if n == 1 { lines::EMPTY } else { lines::PLURAL }
+}
+
+// A refusal with nothing told behind it.
+pub fn refusal(f: Fault) -> Line {
+    refused(f, 0, 0, 0)
 }
 
 // `refused NUMBER/REASON@PLACE: WORDS`, and what is told behind it: the next part, or nothing.
