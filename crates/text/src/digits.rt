@@ -1,13 +1,7 @@
-// Signed numbers in decimal; bytes and bit patterns in hex digits.
+// Bytes and bit patterns in hex digits.
 use crate::Pen;
 use crate::byte;
 use crate::bytes;
-use crate::decimal;
-
-// Puts two digits for each byte, and `-` where there are none.
-pub fn hex(buffer: &mut [u8], pen: Pen, t: &[u8]) -> Pen {
-    spelt(buffer, pen, t, b'h')
-}
 
 // Puts bytes by a pattern's letter: for `h` in hex digits, and `-` where there are none; for `s` those that are hidden as `\x` and their
 // digits, and the others as they are; for `b` all as they are.
@@ -77,13 +71,4 @@ pub fn pattern(buffer: &mut [u8], pen: Pen, n: u64) -> Pen {
     let mut figures = [0u8; 16];
     let k = io::hex(n, 16, &mut figures);
     bytes(buffer, pen, &figures[..k])
-}
-
-// Puts a signed number in decimal, with its sign where it is negative.
-pub fn signed(buffer: &mut [u8], pen: Pen, n: i64) -> Pen {
-    if n < 0 {
-        let a = byte(buffer, pen, b'-');
-        return decimal(buffer, a, (-1 - n) as u64 + 1);
-    }
-    decimal(buffer, pen, n as u64)
 }

@@ -1,36 +1,11 @@
-// A refusal as text: its number, reason and place, and what it means in words.
+// What a refusal means in words, and the lines of a table.
 ghost use Prim.Native.Nat.{_≤_};
 ghost use lib.ListN.{length};
-use crate::Pen;
-use crate::bytes;
-use crate::digits::cut;
-use crate::patterns::Line;
-use crate::patterns::form;
-use error::Fault;
 
 // A part of some bytes, up to end.
 pub struct Span {
     pub start: usize,
     pub end: usize,
-}
-
-// Puts `NUMBER/REASON@PLACE`.
-pub fn mark(buffer: &mut [u8], pen: Pen, f: Fault) -> Pen {
-    form(buffer, pen, b"%d/%d@%d", b"", told(f))
-}
-
-fn told(f: Fault) -> Line {
-    Line {
-        pattern: 1,
-        a: error::number(f) as u64,
-        b: error::reason(f) as u64,
-        c: error::place(f) as u64,
-        d: 0,
-        e: 0,
-        f: 0,
-        g: 0,
-        h: 0,
-    }
 }
 
 // The words of document 01's table of refusals, by their numbers, and then those of refusal 7 with its reason. The first line is empty, so
@@ -69,12 +44,6 @@ pub fn words_span(number: usize, why: usize) -> Span {
         return line_span(&words, std::num::wrapping_add_usize(number, 1));
     }
     line_span(&words, std::num::wrapping_add_usize(why, 17))
-}
-
-// Puts the n-th line of a table, counted from 1, and nothing where it has no such line.
-pub fn line(buffer: &mut [u8], pen: Pen, table: &[u8], n: usize) -> Pen {
-    let s = line_span(table, n);
-    bytes(buffer, pen, cut(table, s.start, s.end))
 }
 
 // Where the n-th line stands, counted from 1; of no bytes at the table's end where it has no such line.
