@@ -4,27 +4,24 @@
 // without a file reads standard input.
 ghost use Prim.Native.Nat.{_≤_};
 
-pub enum Task {
-    List,
-    Scale,
-    // The record of an id.
-    Show(u32),
-    Inspect,
-    // Its usage is told in its place, and its files are passed over.
-    Nothing,
-}
-
 // What is to be done next.
 pub enum Job {
-    Usage(Word),
-    // The task over the file that an argument names, or over standard input where that is 0.
-    File(usize),
+    // To tell the usage of the task's word.
+    Usage,
+    // To do the task over a file.
+    File,
+    // Nothing: the file of a task whose usage was told is passed over.
+    Passed,
     Over,
 }
 
 pub struct Course {
     pub job: Job,
-    pub task: Task,
+    pub task: Word,
+    // The id of the record to show.
+    pub id: u32,
+    // The argument that names the file; standard input is read where it is 0.
+    pub argument: usize,
     // Whether the task has several files.
     pub several: bool,
     // The argument that is looked at next.
@@ -63,16 +60,26 @@ pub fn after(last: Course) -> Course {
     if is_task(word) {
         return begun(at, word);
     }
+    let job = last.job;
     let task = last.task;
     Course {
-        job: if is_file(word) {
-            Job::File(at)
-        } else {
-            Job::Over
-        },
+        job: behind(job, word),
         task,
+        id: last.id,
+        argument: at,
         several: last.several,
         next: std::num::wrapping_add_usize(at, 1),
+    }
+}
+
+// What is done with an argument that is no task's word.
+fn behind(last: Job, word: Word) -> Job {
+    if !is_file(word) {
+        return Job::Over;
+    }
+    match last {
+        Job::Usage | Job::Passed => Job::Passed,
+        _ => Job::File,
     }
 }
 
@@ -92,39 +99,40 @@ fn begun(at: usize, word: Word) -> Course {
         return usage(word, first);
     }
     match word {
-        Word::List => of(Task::List, first),
-        Word::Scale => of(Task::Scale, first),
-        Word::Inspect => of(Task::Inspect, first),
-        _ => shown(first),
+        Word::Show => shown(first),
+        _ => of(word, 0, first),
     }
 }
 
 // The usage of a task's word, or of all. What follows up to the next such word is passed over.
 fn usage(word: Word, next: usize) -> Course {
     Course {
-        job: Job::Usage(word),
-        task: Task::Nothing,
+        job: Job::Usage,
+        task: word,
+        id: 0,
+        argument: 0,
         several: false,
         next,
     }
 }
 
 // A task whose first file may be an argument.
-fn of(task: Task, first: usize) -> Course {
-    let second = std::num::wrapping_add_usize(first, 1);
+fn of(task: Word, id: u32, first: usize) -> Course {
     if is_file(argument(first)) {
-        return Course {
-            job: Job::File(first),
-            task,
-            several: is_file(argument(second)),
-            next: second,
-        };
+        let second = std::num::wrapping_add_usize(first, 1);
+        return over(task, id, first, is_file(argument(second)), second);
     }
+    over(task, id, 0, false, first)
+}
+
+fn over(task: Word, id: u32, argument: usize, several: bool, next: usize) -> Course {
     Course {
-        job: Job::File(0),
+        job: Job::File,
         task,
-        several: false,
-        next: first,
+        id,
+        argument,
+        several,
+        next,
     }
 }
 
@@ -133,7 +141,7 @@ fn shown(at: usize) -> Course {
     let mut room = io::buffer();
     let n = os::arg(at, &mut room);
     match identified(&room[..n]) {
-        Id::Is(id) => of(Task::Show(id), std::num::wrapping_add_usize(at, 1)),
+        Id::Is(id) => of(Word::Show, id, std::num::wrapping_add_usize(at, 1)),
         Id::Bad => usage(Word::Show, at),
     }
 }
@@ -196,6 +204,13 @@ fn argument(at: usize) -> Word {
 }
 
 fn named(t: &[u8]) -> Word {
+    if record::same_bytes(t, b"-h") || record::same_bytes(t, b"--help") {
+        return Word::Help;
+    }
+    task_named(t)
+}
+
+fn task_named(t: &[u8]) -> Word {
     if record::same_bytes(t, b"list") {
         return Word::List;
     }
@@ -207,9 +222,6 @@ fn named(t: &[u8]) -> Word {
     }
     if record::same_bytes(t, b"inspect") {
         return Word::Inspect;
-    }
-    if record::same_bytes(t, b"-h") || record::same_bytes(t, b"--help") {
-        return Word::Help;
     }
     Word::Other
 }

@@ -15,7 +15,7 @@ mod work;
 ghost use Rattle.io.specs.Counts.{Counts};
 use command::Course;
 use command::Job;
-use command::Task;
+use command::Word;
 use input::Opened;
 use text::Line;
 use text::Pen;
@@ -43,35 +43,26 @@ fn turn(limit: u64, at: Course, out: &mut [u8], pen: Pen) -> Pen {
     let job = at.job;
     let task = at.task;
     match job {
-        Job::Usage(what) => lines::told(lines::usage(what), out, pen),
-        Job::File(argument) => over_file(limit, task, argument, at.several, out, pen),
-        Job::Over => pen,
+        Job::Usage => lines::told(lines::usage(task), out, pen),
+        Job::File => over_file(limit, at, out, pen),
+        _ => pen,
     }
 }
 
 // Does a task over the file that an argument names, or over standard input where that is 0.
-fn over_file(
-    limit: u64,
-    task: Task,
-    argument: usize,
-    several: bool,
-    out: &mut [u8],
-    pen: Pen,
-) -> Pen {
-    if let Task::Nothing = task {
-        return pen;
-    }
+fn over_file(limit: u64, at: Course, out: &mut [u8], pen: Pen) -> Pen {
+    let task = at.task;
     let mut name = io::buffer();
-    let opened = open(argument, &mut name);
+    let opened = open(at.argument, &mut name);
     let n = opened.name;
     let titled = text::form(
         out,
         pen,
         b"%b:%n\n%b: ",
         &name[..n],
-        title(task, several, n),
+        title(task, at.several, n),
     );
-    let said = rooms::read(limit, task, opened.fd, out, titled);
+    let said = rooms::read(limit, task, at.id, opened.fd, out, titled);
     shut(opened.fd);
     said
 }
@@ -96,11 +87,11 @@ fn shut(fd: i32) {
 }
 
 // A file's name: before each verdict, and on a line of its own where there are several. A pattern 3 there is not.
-fn title(task: Task, several: bool, n: usize) -> Line {
+fn title(task: Word, several: bool, n: usize) -> Line {
     if n == 0 {
         return lines::of(3, 0, 0);
     }
-    if let Task::Inspect = task {
+    if let Word::Inspect = task {
         return lines::of(2, 0, n as u64);
     }
     if several {

@@ -3,6 +3,7 @@
 // What is put is the decimal with the fewest digits, fifteen at most, among those m * 10^e, with e from -22 to 22, that the f64 is
 // nearest to. m and the power of ten are f64s themselves, so that one product or quotient, rounded once, tells whether it is.
 // Where there is none, `about` and fifteen digits are put. The bits beside it are what counts.
+ghost use Prim.Native.Nat.{_≤_};
 use crate::lines;
 use text::Line;
 
@@ -97,8 +98,62 @@ fn written(what: u64, before: u64, m: u64, up: usize, down: usize, bits: u64) ->
     if up > 6 {
         return lines::line(lines::EXPONENT, a, before, m, up as u64, unit, bits, 0);
     }
+    if down > 0 {
+        return pointed(a, before, m, down, unit, bits);
+    }
     let zeros = std::num::wrapping_add_u64(lines::ZEROS, up as u64);
-    lines::line(lines::DIGITS, a, before, m, down as u64, zeros, unit, bits)
+    lines::line(lines::DIGITS, a, before, m, zeros, unit, bits, 0)
+}
+
+// Fifteen digits at most, of which so many stand behind the point, with zeros before them where they are too few.
+fn pointed(a: u64, before: u64, m: u64, down: usize, unit: u64, bits: u64) -> Line {
+    let one = tens(down);
+    let behind = m % one;
+    let zeros = std::num::wrapping_sub_usize(down, width(behind)) as u64;
+    lines::line(
+        lines::POINTED,
+        a,
+        before,
+        m / one,
+        std::num::wrapping_add_u64(lines::ZEROS, zeros),
+        behind,
+        unit,
+        bits,
+    )
+}
+
+// How many digits a number has, of fifteen at most.
+fn width(n: u64) -> usize {
+    for k in 1..15 {
+        if n < tens(k) {
+            return k;
+        }
+    }
+    15
+}
+
+// 10^k, and 10^15 from there on: above every number of fifteen digits.
+fn tens(k: usize) -> u64
+    ensures { λ r. ⌜ 1 ≤ r ⌝ }
+{
+    match k {
+        0 => 1,
+        1 => 10,
+        2 => 100,
+        3 => 1000,
+        4 => 10000,
+        5 => 100000,
+        6 => 1000000,
+        7 => 10000000,
+        8 => 100000000,
+        9 => 1000000000,
+        10 => 10000000000,
+        11 => 100000000000,
+        12 => 1000000000000,
+        13 => 10000000000000,
+        14 => 100000000000000,
+        _ => 1000000000000000,
+    }
 }
 
 // The digits of a number that is not negative.

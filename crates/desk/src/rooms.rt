@@ -2,13 +2,11 @@
 //
 // A file is read into rooms for 1 MiB. One that is larger, or has more records than these rooms, or of which the size is not told, is read
 // into rooms for 64 MiB, where the stack limit allows them (`ulimit -s`; the script `step` raises it).
-use crate::command::Task;
+use crate::command::Word;
 use crate::lines;
 use crate::walk;
 use crate::walk::Step;
 use crate::work;
-use crate::work::Found;
-use error::Fault;
 use text::Line;
 use text::Pen;
 
@@ -34,41 +32,38 @@ const LARGE_ROWS: usize = 16777218;
 const LARGE_SLOTS: usize = 2796203;
 
 // What came of a file: all is said, or it has more records than the rooms and nothing was said yet.
-enum Said {
-    Put(Pen),
-    Outgrown,
+struct Said {
+    pen: Pen,
+    outgrown: bool,
 }
 
 // Does a task over what a descriptor reads, which is below 0 where nothing could be opened.
-pub fn read(limit: u64, task: Task, fd: i32, out: &mut [u8], pen: Pen) -> Pen {
+pub fn read(limit: u64, task: Word, id: u32, fd: i32, out: &mut [u8], pen: Pen) -> Pen {
     if fd < 0 {
         return lines::told(lines::bare(lines::UNOPENED), out, pen);
     }
     if limit >= NEEDED {
-        return grown(limit - NEEDED, task, fd, out, pen);
+        return grown(limit - NEEDED, task, id, fd, out, pen);
     }
-    match small(false, task, fd, out, pen) {
-        Said::Put(last) => last,
-        Said::Outgrown => pen,
-    }
+    let said = small(false, task, id, fd, out, pen);
+    said.pen
 }
 
 // The same where there are large rooms for a file that outgrows the small ones.
-fn grown(limit: u64, task: Task, fd: i32, out: &mut [u8], pen: Pen) -> Pen {
+fn grown(limit: u64, task: Word, id: u32, fd: i32, out: &mut [u8], pen: Pen) -> Pen {
     if input::size(fd) >= SMALL_FILE as u64 {
-        return large(limit, task, fd, out, pen);
+        return large(limit, task, id, fd, out, pen);
     }
     let here = libc::lseek(fd, 0, libc::SEEK_CUR);
-    match small(true, task, fd, out, pen) {
-        Said::Put(last) => last,
-        Said::Outgrown => {
-            libc::lseek(fd, here, libc::SEEK_SET);
-            large(limit, task, fd, out, pen)
-        }
+    let said = small(true, task, id, fd, out, pen);
+    if said.outgrown {
+        libc::lseek(fd, here, libc::SEEK_SET);
+        return large(limit, task, id, fd, out, pen);
     }
+    said.pen
 }
 
-fn small(grows: bool, task: Task, fd: i32, out: &mut [u8], pen: Pen) -> Said {
+fn small(grows: bool, task: Word, id: u32, fd: i32, out: &mut [u8], pen: Pen) -> Said {
     let mut file = [0u8; SMALL_FILE];
     let mut headers = [0u32; SMALL_HEADERS];
     let mut rows = [0u32; SMALL_ROWS];
@@ -76,6 +71,7 @@ fn small(grows: bool, task: Task, fd: i32, out: &mut [u8], pen: Pen) -> Said {
     lend_small(
         grows,
         task,
+        id,
         fd,
         &mut file,
         &mut headers,
@@ -89,7 +85,8 @@ fn small(grows: bool, task: Task, fd: i32, out: &mut [u8], pen: Pen) -> Said {
 // An array behind a reference is lent as a slice with no proof of its length.
 fn lend_small(
     grows: bool,
-    task: Task,
+    task: Word,
+    id: u32,
     fd: i32,
     file: &mut [u8; SMALL_FILE],
     headers: &mut [u32; SMALL_HEADERS],
@@ -98,18 +95,19 @@ fn lend_small(
     out: &mut [u8],
     pen: Pen,
 ) -> Said {
-    within(grows, task, fd, file, headers, rows, slots, out, pen)
+    within(grows, task, id, fd, file, headers, rows, slots, out, pen)
 }
 
 // No descriptor is the largest number, so it never calls itself; but since it might, the compiler keeps its frame apart from its caller's,
 // which else would have these rooms in every run of the program.
-fn large(limit: u64, task: Task, fd: i32, out: &mut [u8], pen: Pen) -> Pen {
+fn large(limit: u64, task: Word, id: u32, fd: i32, out: &mut [u8], pen: Pen) -> Pen {
     let mut file = [0u8; LARGE_FILE];
     let mut headers = [0u32; LARGE_HEADERS];
     let mut rows = [0u32; LARGE_ROWS];
     let mut slots = [0u64; LARGE_SLOTS];
     let last = lend_large(
         task,
+        id,
         fd,
         &mut file,
         &mut headers,
@@ -122,13 +120,14 @@ fn large(limit: u64, task: Task, fd: i32, out: &mut [u8], pen: Pen) -> Pen {
         return last;
     }
     if fd == i32::MAX {
-        return large(limit - NEEDED, task, fd, out, last);
+        return large(limit - NEEDED, task, id, fd, out, last);
     }
     last
 }
 
 fn lend_large(
-    task: Task,
+    task: Word,
+    id: u32,
     fd: i32,
     file: &mut [u8; LARGE_FILE],
     headers: &mut [u32; LARGE_HEADERS],
@@ -137,16 +136,15 @@ fn lend_large(
     out: &mut [u8],
     pen: Pen,
 ) -> Pen {
-    match within(false, task, fd, file, headers, rows, slots, out, pen) {
-        Said::Put(last) => last,
-        Said::Outgrown => pen,
-    }
+    let said = within(false, task, id, fd, file, headers, rows, slots, out, pen);
+    said.pen
 }
 
 // Does the task within these rooms, which larger ones may follow.
 fn within(
     grows: bool,
-    task: Task,
+    task: Word,
+    id: u32,
     fd: i32,
     file: &mut [u8],
     headers: &mut [u32],
@@ -158,15 +156,19 @@ fn within(
     let got = input::fill(fd, file);
     let n = got.count;
     if got.failed != 0 || n == file.len() {
-        return Said::Put(lines::told(unread(fd, got.failed, n), out, pen));
+        return Said {
+            pen: lines::told(unread(fd, got.failed, n), out, pen),
+            outgrown: false,
+        };
     }
-    answered(grows, task, &file[..n], headers, rows, slots, out, pen)
+    answered(grows, task, id, &file[..n], headers, rows, slots, out, pen)
 }
 
 // The same over a file's bytes.
 fn answered(
     grows: bool,
-    task: Task,
+    task: Word,
+    id: u32,
     t: &[u8],
     headers: &mut [u32],
     rows: &mut [u32],
@@ -174,12 +176,18 @@ fn answered(
     out: &mut [u8],
     pen: Pen,
 ) -> Said {
-    let found = work::answer(task, t, headers, rows, slots);
+    let found = work::answer(task, id, t, headers, rows, slots);
     if grows && is_outgrown(found) {
-        return Said::Outgrown;
+        return Said {
+            pen,
+            outgrown: true,
+        };
     }
     let first = settled(task, t, headers.len(), rows.len(), found);
-    Said::Put(lines::say(t, rows, first, out, pen))
+    Said {
+        pen: lines::say(t, rows, first, out, pen),
+        outgrown: false,
+    }
 }
 
 // Why a file is not read whole: a read failed, or the room for it is full, which is for one byte less.
@@ -207,34 +215,33 @@ fn too_large(size: u64, more: u64, most: u64) -> Line {
 }
 
 // Whether it is that the rooms for rows end.
-fn is_outgrown(found: Found) -> bool {
-    match found {
-        Found::Refused(f) => error::number(f) == 8,
-        Found::Is(_) => false,
-    }
+fn is_outgrown(s: Step) -> bool {
+    let l = s.line;
+    l.pattern == lines::REFUSED && l.a == 8
 }
 
 // What is told of it.
-fn settled(task: Task, file: &[u8], headers: usize, rows: usize, found: Found) -> Step {
-    match found {
-        Found::Is(first) => first,
-        Found::Refused(f) => walk::last(refused(task, file, headers, rows, f)),
+fn settled(task: Word, file: &[u8], headers: usize, rows: usize, s: Step) -> Step {
+    let l = s.line;
+    if l.pattern == lines::REFUSED {
+        return walk::only(refused(task, file, headers, rows, l));
     }
+    s
 }
 
 // A refusal: of 8, which speaks of rows that were lent, that the program's room ends and the file may be a good one; of another, where a
 // verdict is asked, with the line and the column.
-fn refused(task: Task, file: &[u8], headers: usize, rows: usize, f: Fault) -> Line {
-    if error::number(f) == 8 {
-        return too_many(error::place(f), headers / 4, rows / 6);
+fn refused(task: Word, file: &[u8], headers: usize, rows: usize, l: Line) -> Line {
+    if l.a == 8 {
+        return too_many(l.c, headers / 4, rows / 6);
     }
-    if let Task::Inspect = task {
-        return work::refused_at(file, f);
+    if let Word::Inspect = task {
+        return work::refused_at(file, l);
     }
-    work::refused(f)
+    l
 }
 
-fn too_many(place: usize, headers: usize, records: usize) -> Line {
+fn too_many(place: u64, headers: usize, records: usize) -> Line {
     let pattern = if records < LARGE_ROWS / 6 {
         lines::TOO_MANY_HERE
     } else {
@@ -242,7 +249,7 @@ fn too_many(place: usize, headers: usize, records: usize) -> Line {
     };
     lines::line(
         pattern,
-        place as u64,
+        place,
         headers as u64,
         records as u64,
         LARGE_HEADERS as u64 / 4,

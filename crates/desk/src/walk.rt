@@ -1,5 +1,31 @@
 // A walk over what is to be said of a file: line by line, as values.
+//
+// A line holds, behind the numbers that its pattern puts, what it takes to find the next one:
+//   ROW, COMPLEX_ROW                 f  its place in the table of rows
+//                                    g  how many rows are left behind it
+//   RECORD, COMPLEX_RECORD           h  how many records have its id
+//   PART                             g  where the record ends
+//                                    h  the part's number, from 1
+//   PARAMETER                        e  where the next parameter is read
+//                                    f  where the arguments end
+//                                    g, h  of the part that it is in; h is 0 of a record that is not complex
+//   REFUSED, NO_PARAMETERS, NOTHING  f  where the next part is read
+//                                    g, h  of the part that is told; h is 0 where nothing is left
 use crate::lines;
+use crate::lines::COMPLEX_RECORD;
+use crate::lines::COMPLEX_ROW;
+use crate::lines::COUNTS;
+use crate::lines::DIGITS;
+use crate::lines::EXPONENT;
+use crate::lines::IN_WORDS;
+use crate::lines::NO_PARAMETERS;
+use crate::lines::NOTHING;
+use crate::lines::PARAMETER;
+use crate::lines::PART;
+use crate::lines::POINTED;
+use crate::lines::RECORD;
+use crate::lines::REFUSED;
+use crate::lines::ROW;
 use crate::numerals;
 use crate::work;
 use error::Fault;
@@ -10,111 +36,72 @@ use statement::HeaderSpan;
 use text::Line;
 use units::Values;
 
-// What is still to be said behind a line.
-pub enum Walk {
-    Over,
-    // The place of the next row in the table, and how many rows are left.
-    Rows(usize, usize),
-    // Units, of which so many values are told.
-    Values(Values, u64),
-    // A record's parameters and parts.
-    Inside(Inside),
-}
-
-// How far a record is told.
-pub struct Inside {
-    // Where its next parameter is read, and that one's number, from 1; 0 where a part is read next.
-    pub at: State,
-    pub number: u64,
-    // Where its next part is read, and that one's number, from 1; 0 of a record that is not complex.
-    pub part: State,
-    pub parts: u64,
-}
-
-// A line, how many records have the id where that is told behind it, and what is said then.
+// A line, and the values of units that are told behind it.
 pub struct Step {
     pub line: Line,
-    pub times: usize,
-    pub walk: Walk,
+    // The next value and the one after it.
+    pub x: f64,
+    pub y: f64,
+    // Whether the file gives them.
+    pub resolved: bool,
 }
 
-pub fn is_over(w: Walk) -> bool {
-    match w {
-        Walk::Over => true,
-        _ => false,
-    }
-}
-
-pub fn next(file: &[u8], rows: &[u32], w: Walk) -> Step {
-    match w {
-        Walk::Over => last(lines::bare(lines::NOTHING)),
-        Walk::Rows(at, left) => row(rows, at, left),
-        Walk::Values(v, k) => value(v, k),
-        Walk::Inside(i) => next_inside(file, i),
-    }
-}
-
-// A line, and what is said behind it.
-pub fn to(line: Line, walk: Walk) -> Step {
+// A line with no values behind it.
+pub fn only(line: Line) -> Step {
     Step {
         line,
-        times: 0,
-        walk,
+        x: 0.0,
+        y: 0.0,
+        resolved: false,
     }
 }
 
-// A line with nothing behind it.
-pub fn last(line: Line) -> Step {
-    to(line, Walk::Over)
+pub fn is_over(s: Step) -> bool {
+    let l = s.line;
+    l.pattern == NOTHING && l.h == 0
 }
 
-pub fn rows_from(at: usize, left: usize) -> Walk {
-    if left == 0 {
-        return Walk::Over;
+// How many records have the id, where a record's line is told.
+pub fn times(s: Step) -> usize {
+    let l = s.line;
+    let pattern = l.pattern;
+    match pattern {
+        RECORD | COMPLEX_RECORD => l.h as usize,
+        _ => 0,
     }
-    Walk::Rows(at, left)
 }
 
-fn row(rows: &[u32], at: usize, left: usize) -> Step {
-    let next = rows_from(
-        std::num::wrapping_add_usize(at, 6),
-        std::num::wrapping_sub_usize(left, 1),
-    );
-    to(row_line(rows, at), next)
-}
-
-// `ID KEYWORD START END`, the last two of the arguments.
-fn row_line(rows: &[u32], at: usize) -> Line {
-    let id = column(rows, at, 0);
-    let start = column(rows, at, 3);
-    let end = column(rows, at, 4);
-    if column(rows, at, 5) == 1 {
-        return lines::line(lines::COMPLEX_ROW, id, start, end, 0, 0, 0, 0);
+pub fn next(file: &[u8], rows: &[u32], s: Step) -> Step {
+    let l = s.line;
+    let pattern = l.pattern;
+    match pattern {
+        DIGITS | POINTED | EXPONENT | IN_WORDS => next_value(s),
+        COUNTS | ROW | COMPLEX_ROW => only(next_row(rows, l)),
+        _ => only(next_inside(file, l)),
     }
-    let a = column(rows, at, 1);
-    let z = column(rows, at, 2);
-    lines::line(lines::ROW, id, a, z, start, end, 0, 0)
-}
-
-// Number k of the row at a place.
-fn column(rows: &[u32], at: usize, k: usize) -> u64 {
-    work::number(rows, std::num::wrapping_add_usize(at, k)) as u64
 }
 
 // The three values, and whether the file gives them.
-pub fn value(v: Values, k: u64) -> Step {
-    if k > 2 {
-        return last(resolution(v.resolved));
+pub fn values(v: Values) -> Step {
+    Step {
+        line: numerals::line(0, v.length),
+        x: v.angle,
+        y: v.tolerance,
+        resolved: v.resolved,
     }
-    let next = std::num::wrapping_add_u64(k, 1);
-    to(numerals::line(k, valued(v, k)), Walk::Values(v, next))
 }
 
-fn valued(v: Values, k: u64) -> f64 {
-    match k {
-        0 => v.length,
-        1 => v.angle,
-        _ => v.tolerance,
+fn next_value(s: Step) -> Step {
+    let l = s.line;
+    let what = std::num::wrapping_sub_u64(std::num::wrapping_add_u64(l.a, 1), lines::WHATS);
+    if what > 2 {
+        return only(resolution(s.resolved));
+    }
+    Step {
+        line: numerals::line(what, s.x),
+        x: s.y,
+        y: 0.0,
+        resolved: s.resolved,
     }
 }
 
@@ -125,107 +112,114 @@ fn resolution(resolved: bool) -> Line {
     lines::bare(lines::UNRESOLVED)
 }
 
-// A record's arguments before the first of its parameters, or of its parts.
-pub fn entered(at: State, complex: u32) -> Walk {
-    if complex == 1 {
-        return told(at, 0, at, 1);
+// The first row behind the counts, or the one behind a row.
+fn next_row(rows: &[u32], l: Line) -> Line {
+    if l.pattern == COUNTS {
+        return row(rows, 0, l.a);
     }
-    told(at, 1, at, 0)
+    row(rows, std::num::wrapping_add_u64(l.f, 6), l.g)
 }
 
-fn told(at: State, number: u64, part: State, parts: u64) -> Walk {
-    Walk::Inside(Inside {
-        at,
-        number,
-        part,
-        parts,
+// `ID KEYWORD START END`, the last two of the arguments. So many rows are left with it.
+fn row(rows: &[u32], at: u64, left: u64) -> Line {
+    if left == 0 {
+        return lines::bare(NOTHING);
+    }
+    let id = column(rows, at, 0);
+    let start = column(rows, at, 3);
+    let end = column(rows, at, 4);
+    let behind = std::num::wrapping_sub_u64(left, 1);
+    if column(rows, at, 5) == 1 {
+        return lines::line(COMPLEX_ROW, id, start, end, 0, 0, at, behind);
+    }
+    let a = column(rows, at, 1);
+    let z = column(rows, at, 2);
+    lines::line(ROW, id, a, z, start, end, at, behind)
+}
+
+// Number k of the row at a place.
+fn column(rows: &[u32], at: u64, k: u64) -> u64 {
+    work::number(rows, std::num::wrapping_add_u64(at, k) as usize) as u64
+}
+
+// What follows within a record.
+fn next_inside(file: &[u8], l: Line) -> Line {
+    let pattern = l.pattern;
+    match pattern {
+        RECORD => parameter(file, l.d, l.e, 1, 0, 0),
+        COMPLEX_RECORD => part(file, l.b, l.c, 1),
+        PART => parameter(file, l.c, l.d, 1, l.g, l.h),
+        PARAMETER => parameter(file, l.e, l.f, std::num::wrapping_add_u64(l.a, 1), l.g, l.h),
+        REFUSED | NO_PARAMETERS | NOTHING => next_part(file, l.f, l.g, l.h),
+        _ => lines::bare(NOTHING),
+    }
+}
+
+// `  NUMBER at START: BYTES`, of the parameter that is read at a place up to an end.
+fn parameter(file: &[u8], place: u64, end: u64, number: u64, stop: u64, told: u64) -> Line {
+    let at = State {
+        place: place as usize,
+        end: end as usize,
+    };
+    match params::param_span(file, at) {
+        Cut::Span(a, z, next) => parameter_line(number, a as u64, z as u64, next, stop, told),
+        Cut::Refused(f, _) => no_parameter(f, number, end, stop, told),
+    }
+}
+
+fn parameter_line(number: u64, a: u64, z: u64, next: State, stop: u64, told: u64) -> Line {
+    let place = next.place as u64;
+    let end = next.end as u64;
+    lines::all(PARAMETER, number, a, a, z, place, end, stop, told)
+}
+
+// Why there is no further parameter, where there is more to say than that they are over. A part's next one stands behind its end.
+fn no_parameter(f: Fault, number: u64, end: u64, stop: u64, told: u64) -> Line {
+    let place = std::num::wrapping_add_u64(end, 1);
+    if error::number(f) != 10 {
+        return work::refused(f, place, stop, told);
+    }
+    let pattern = if number == 1 { NO_PARAMETERS } else { NOTHING };
+    lines::all(pattern, 0, 0, 0, 0, 0, place, stop, told)
+}
+
+// The part that is read at a place, where one is told.
+fn next_part(file: &[u8], place: u64, stop: u64, told: u64) -> Line {
+    if told == 0 {
+        return lines::bare(NOTHING);
+    }
+    part(file, place, stop, std::num::wrapping_add_u64(told, 1))
+}
+
+fn part(file: &[u8], place: u64, stop: u64, number: u64) -> Line {
+    match parts::next_part(file, place as usize, stop as usize) {
+        Next::Is(p) => part_line(p, stop, number),
+        Next::Over => no_part(number),
+        Next::Refused(f) => work::refusal(f),
+    }
+}
+
+fn no_part(number: u64) -> Line {
+    lines::bare(if number == 1 {
+        lines::NO_PARTS
+    } else {
+        NOTHING
     })
 }
 
-fn next_inside(file: &[u8], i: Inside) -> Step {
-    let at = i.at;
-    let part = i.part;
-    if i.number == 0 {
-        return complex_part(file, part, i.parts);
-    }
-    parameter(file, at, i.number, part, i.parts)
-}
-
-fn parameter(file: &[u8], at: State, number: u64, part: State, parts: u64) -> Step {
-    match params::param_span(file, at) {
-        Cut::Span(a, z, next) => to(
-            parameter_line(number, a as u64, z as u64),
-            told(next, std::num::wrapping_add_u64(number, 1), part, parts),
-        ),
-        Cut::Refused(f, _) => to(no_parameter(f, number), behind(part, parts)),
-    }
-}
-
-// `  NUMBER at START: BYTES`
-fn parameter_line(number: u64, a: u64, z: u64) -> Line {
-    lines::line(lines::PARAMETER, number, a, a, z, 0, 0, 0)
-}
-
-// Why there is no further parameter, where there is more to say than that they are over.
-fn no_parameter(f: Fault, number: u64) -> Line {
-    if error::number(f) != 10 {
-        return work::refused(f);
-    }
-    if number == 1 {
-        return lines::bare(lines::NO_PARAMETERS);
-    }
-    lines::bare(lines::NOTHING)
-}
-
-// Behind the last parameter.
-fn behind(part: State, parts: u64) -> Walk {
-    if parts == 0 {
-        return Walk::Over;
-    }
-    told(part, 0, part, parts)
-}
-
-fn complex_part(file: &[u8], at: State, parts: u64) -> Step {
-    match parts::next_part(file, at.place, at.end) {
-        Next::Is(p) => to(part_line(p), within(p, at.end, parts)),
-        Next::Over => last(no_part(parts)),
-        Next::Refused(f) => last(work::refused(f)),
-    }
-}
-
 // `part KEYWORD, arguments START to END`
-fn part_line(p: HeaderSpan) -> Line {
+fn part_line(p: HeaderSpan, stop: u64, number: u64) -> Line {
     let word = p.keyword;
     let args = p.args;
-    lines::line(
-        lines::PART,
+    lines::all(
+        PART,
         word.start as u64,
         word.end as u64,
         args.start as u64,
         args.end as u64,
         0,
         0,
-        0,
+        stop,
+        number,
     )
-}
-
-fn no_part(parts: u64) -> Line {
-    if parts == 1 {
-        return lines::bare(lines::NO_PARTS);
-    }
-    lines::bare(lines::NOTHING)
-}
-
-// A part's parameters, with what follows them up to the record's end.
-fn within(p: HeaderSpan, end: usize, parts: u64) -> Walk {
-    let args = p.args;
-    let at = State {
-        place: args.start,
-        end: args.end,
-    };
-    let part = State {
-        place: std::num::wrapping_add_usize(args.end, 1),
-        end,
-    };
-    told(at, 1, part, std::num::wrapping_add_u64(parts, 1))
 }

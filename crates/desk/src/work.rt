@@ -1,10 +1,9 @@
-// What a task finds in a file's bytes: the first line of what is said of it, and what is said behind that.
-use crate::command::Task;
+// What a task finds in a file's bytes: the first line of what is said of it, with what it takes to find those behind it.
+use crate::command::Word;
 use crate::lines;
 use crate::walk;
 use crate::walk::Step;
 use error::Fault;
-use params::State;
 use scan::Scanned;
 use serve::Served;
 use spots::Place;
@@ -12,26 +11,33 @@ use statement::RecordSpan;
 use text::Line;
 use units::Resolved;
 
-// What came of a task.
-pub enum Found {
-    Is(Step),
-    Refused(Fault),
-}
-
 // What the task finds. The rooms are lent for header rows, data rows and id slots.
 pub fn answer(
-    task: Task,
+    task: Word,
+    id: u32,
     file: &[u8],
     headers: &mut [u32],
     rows: &mut [u32],
     slots: &mut [u64],
-) -> Found {
-    if let Task::Scale = task {
+) -> Step {
+    if let Word::Scale = task {
         return valued(serve::units_of(file, headers, rows, slots));
     }
+    walk::only(scanned(task, id, file, headers, rows, slots))
+}
+
+// What a scan finds, or the record that is asked for.
+fn scanned(
+    task: Word,
+    id: u32,
+    file: &[u8],
+    headers: &mut [u32],
+    rows: &mut [u32],
+    slots: &mut [u64],
+) -> Line {
     let most = rows.len() / 6;
     let counts = scan::scan(file, headers, rows, most);
-    if let Task::Show(id) = task {
+    if let Word::Show = task {
         let n = times(id, rows, counts);
         return shown(
             id,
@@ -43,10 +49,10 @@ pub fn answer(
     counted(task, file.len(), counts)
 }
 
-fn valued(u: Resolved) -> Found {
+fn valued(u: Resolved) -> Step {
     match u {
-        Resolved::Refused(f) => Found::Refused(f),
-        Resolved::Is(v) => Found::Is(walk::value(v, 0)),
+        Resolved::Refused(f) => walk::only(refusal(f)),
+        Resolved::Is(v) => walk::values(v),
     }
 }
 
@@ -78,29 +84,16 @@ fn how_many(id: u32, rows: &[u32], n: usize) -> usize {
 }
 
 // The record that is served for an id that so many have.
-fn shown(id: u32, n: usize, file: &[u8], s: Served) -> Found {
+fn shown(id: u32, n: usize, file: &[u8], s: Served) -> Line {
     match s {
-        Served::Refused(f) => Found::Refused(f),
-        Served::Nothing => Found::Is(walk::last(lines::of(lines::NO_RECORD, id as u64, 0))),
-        Served::Row(w) => Found::Is(entered(w, n, titled(file, w))),
-    }
-}
-
-fn entered(w: RecordSpan, times: usize, line: Line) -> Step {
-    let args = w.args;
-    let at = State {
-        place: args.start,
-        end: args.end,
-    };
-    Step {
-        line,
-        times,
-        walk: walk::entered(at, w.complex),
+        Served::Refused(f) => refusal(f),
+        Served::Nothing => lines::of(lines::NO_RECORD, id as u64, 0),
+        Served::Row(w) => titled(file, w, n as u64),
     }
 }
 
 // `#ID KEYWORD`, and on the next line `arguments START to END, line L column C`.
-fn titled(file: &[u8], w: RecordSpan) -> Line {
+fn titled(file: &[u8], w: RecordSpan, times: u64) -> Line {
     let word = w.keyword;
     let args = w.args;
     let s = spot(file, args.start);
@@ -110,11 +103,21 @@ fn titled(file: &[u8], w: RecordSpan) -> Line {
     let column = from_one(s.column);
     let id = w.id as u64;
     if w.complex == 1 {
-        return lines::line(lines::COMPLEX_RECORD, id, start, end, row, column, 0, 0);
+        return lines::all(
+            lines::COMPLEX_RECORD,
+            id,
+            start,
+            end,
+            row,
+            column,
+            0,
+            0,
+            times,
+        );
     }
     let a = word.start as u64;
     let z = word.end as u64;
-    lines::line(lines::RECORD, id, a, z, start, end, row, column)
+    lines::all(lines::RECORD, id, a, z, start, end, row, column, times)
 }
 
 // A number of a table, 0 past its end.
@@ -126,28 +129,23 @@ fn wide(n: u32) -> usize {
     n as usize
 }
 
-fn counted(task: Task, length: usize, counts: Scanned) -> Found {
+// What a scan counts: `records N max M`, or that the file is accepted.
+fn counted(task: Word, length: usize, counts: Scanned) -> Line {
     match counts {
-        Scanned::Refused(f) => Found::Refused(f),
+        Scanned::Refused(f) => refusal(f),
         Scanned::Rows {
             headers: h,
             records: n,
             max,
-        } => {
-            if let Task::List = task {
-                return Found::Is(listed(n, max as u64));
-            }
-            Found::Is(walk::last(accepted(h as u64, n as u64, max as u64, length as u64)))
-        }
+        } => accounted(task, h as u64, n as u64, max as u64, length as u64),
     }
 }
 
-// `records N max M`, and then the rows.
-fn listed(n: usize, max: u64) -> Step {
-    walk::to(
-        lines::of(lines::COUNTS, n as u64, max),
-        walk::rows_from(0, n),
-    )
+fn accounted(task: Word, h: u64, n: u64, max: u64, length: u64) -> Line {
+    if let Word::List = task {
+        return lines::of(lines::COUNTS, n, max);
+    }
+    accepted(h, n, max, length)
 }
 
 // `accepted: H header records, N data records, largest id M, L bytes`
@@ -168,38 +166,25 @@ fn plural(n: u64) -> u64 {
     if n == 1 { lines::EMPTY } else { lines::PLURAL }
 }
 
-// `refused NUMBER/REASON@PLACE: WORDS`
-pub fn refused(f: Fault) -> Line {
-    let no = error::number(f) as u64;
-    let why = error::reason(f) as u64;
-    lines::line(
-        lines::REFUSED,
-        no,
-        why,
-        error::place(f) as u64,
-        no,
-        why,
-        0,
-        0,
-    )
+// A refusal with nothing told behind it.
+pub fn refusal(f: Fault) -> Line {
+    refused(f, 0, 0, 0)
 }
 
-// `refused NUMBER/REASON@PLACE, line L column C: WORDS`
-pub fn refused_at(file: &[u8], f: Fault) -> Line {
+// `refused NUMBER/REASON@PLACE: WORDS`, and what is told behind it: the next part, or nothing.
+pub fn refused(f: Fault, next: u64, stop: u64, told: u64) -> Line {
     let no = error::number(f) as u64;
     let why = error::reason(f) as u64;
-    let place = error::place(f);
-    let s = spot(file, place);
-    lines::line(
-        lines::REFUSED_AT,
-        no,
-        why,
-        place as u64,
-        from_one(s.line),
-        from_one(s.column),
-        no,
-        why,
-    )
+    let place = error::place(f) as u64;
+    lines::all(lines::REFUSED, no, why, place, no, why, next, stop, told)
+}
+
+// `refused NUMBER/REASON@PLACE, line L column C: WORDS`, of such a line.
+pub fn refused_at(file: &[u8], l: Line) -> Line {
+    let s = spot(file, l.c as usize);
+    let row = from_one(s.line);
+    let column = from_one(s.column);
+    lines::line(lines::REFUSED_AT, l.a, l.b, l.c, row, column, l.a, l.b)
 }
 
 // Where a place stands, by line and column.

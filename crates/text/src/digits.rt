@@ -1,26 +1,61 @@
-// Signed numbers in decimal; bytes and bit patterns in hex digits.
+// Bytes and bit patterns in hex digits.
 use crate::Pen;
 use crate::byte;
 use crate::bytes;
-use crate::decimal;
 
-// Puts two digits for each byte, and `-` where there are none.
-pub fn hex(buffer: &mut [u8], pen: Pen, t: &[u8]) -> Pen {
-    if t.len() == 0 {
+// Puts bytes by a pattern's letter: for `h` in hex digits, and `-` where there are none; for `s` those that are hidden as `\x` and their
+// digits, and the others as they are; for `b` all as they are.
+pub fn spelt(buffer: &mut [u8], pen: Pen, t: &[u8], letter: u8) -> Pen {
+    if letter == b'h' && t.len() == 0 {
         return byte(buffer, pen, b'-');
     }
     let mut last = pen;
     let mut i = 0;
     while i < t.len() {
-        last = pair(buffer, last, t[i]);
+        let b = t[i];
+        let ways = spellings(b);
+        last = bytes(buffer, last, cut(&ways, first(b, letter), stop(b, letter)));
         i += 1;
     }
     last
 }
 
-fn pair(buffer: &mut [u8], pen: Pen, b: u8) -> Pen {
-    let a = byte(buffer, pen, digit(b / 16));
-    byte(buffer, a, digit(b % 16))
+// The ways to put a byte, one behind the other: `\x` and its two hex digits, of which these may stand alone, and the byte itself.
+fn spellings(b: u8) -> [u8; 5] {
+    [b'\\', b'x', digit(b / 16), digit(b % 16), b]
+}
+
+// Where the way begins that a byte is put.
+fn first(b: u8, letter: u8) -> usize {
+    match letter {
+        b'h' => 2,
+        b's' => if is_hidden(b) { 0 } else { 4 },
+        _ => 4,
+    }
+}
+
+// Where it ends.
+fn stop(b: u8, letter: u8) -> usize {
+    match letter {
+        b'h' => 4,
+        b's' => if is_hidden(b) { 4 } else { 5 },
+        _ => 5,
+    }
+}
+
+// Whether a byte is below a space, or 127: a line end in a file ends no line.
+fn is_hidden(b: u8) -> bool {
+    b < b' ' || b == 127
+}
+
+// From start up to end, and nothing where that is no part of the bytes.
+pub fn cut<'a>(t: &'a [u8], start: usize, end: usize) -> &'a [u8] {
+    if start <= end {
+        if end <= t.len() {
+            return &t[start..end];
+        }
+    }
+    &t[..0]
 }
 
 // A hex digit, of a number below 16.
@@ -36,13 +71,4 @@ pub fn pattern(buffer: &mut [u8], pen: Pen, n: u64) -> Pen {
     let mut figures = [0u8; 16];
     let k = io::hex(n, 16, &mut figures);
     bytes(buffer, pen, &figures[..k])
-}
-
-// Puts a signed number in decimal, with its sign where it is negative.
-pub fn signed(buffer: &mut [u8], pen: Pen, n: i64) -> Pen {
-    if n < 0 {
-        let a = byte(buffer, pen, b'-');
-        return decimal(buffer, a, (-1 - n) as u64 + 1);
-    }
-    decimal(buffer, pen, n as u64)
 }

@@ -7,14 +7,8 @@ mod digits;
 mod patterns;
 mod refusal;
 
-pub use digits::hex;
-pub use digits::pattern;
-pub use digits::signed;
 pub use patterns::Line;
 pub use patterns::form;
-pub use refusal::line;
-pub use refusal::mark;
-pub use refusal::words;
 ghost use mathlib.Core.Path.{_≡_};
 ghost use mathlib.Core.List.{_∷_, []};
 ghost use Prim.Native.Nat.{_<_, _≤_};
@@ -102,12 +96,6 @@ pub fn decimal(buffer: &mut [u8], pen: Pen, n: u64) -> Pen
     let mut figures = [0u8; 20];
     let k = io::decimal(n, &mut figures);
     bytes(buffer, pen, &figures[..k])
-}
-
-// Puts a space and a number in decimal.
-pub fn spaced(buffer: &mut [u8], pen: Pen, n: u64) -> Pen {
-    let next = byte(buffer, pen, b' ');
-    decimal(buffer, next, n)
 }
 
 // Writes out what the buffer still holds at a program's end, and says so where something could not be written.

@@ -1,21 +1,24 @@
 // Lines by pattern: a table has the patterns, one to a line, and what is put is told by a pattern's number and the numbers that stand in
 // it. What a program says is then plain values, and is put in one place.
 //
-// In a pattern `%d` stands for a number in decimal, `%p` for one with a point in it, `%x` for one in 16 hex digits, `%n` for a line end,
-// `%w` for the table's line of that number, `%s` for a part of the bytes lent beside it, kept on one line, `%b` for a part of them as it
-// is, `%h` for a part of them in hex digits, and `%f` for a refusal's words. A part takes two numbers, where it starts and where it ends;
-// so do words, the refusal's number and its reason; and a number with a point, which has so many of its digits behind it.
+// In a pattern `%d` stands for a number in decimal, `%x` for one in 16 hex digits, `%n` for a line end, `%w` for the table's line of that
+// number, `%s` for a part of the bytes lent beside it, kept on one line, `%b` for a part of them as it is, `%h` for a part of them in hex
+// digits, and `%f` for a refusal's words. A part takes two numbers, where it starts and where it ends; so do words, the refusal's number
+// and its reason. A `%` before any other byte is left out.
+//
+// What a byte of a pattern puts is found by value first, so that few functions have the buffer lent.
 use crate::Pen;
-use crate::byte;
 use crate::bytes;
 use crate::decimal;
-use crate::digits::hex;
+use crate::digits::cut;
 use crate::digits::pattern;
-use crate::least;
-use crate::refusal::because;
-use crate::refusal::line;
+use crate::digits::spelt;
+use crate::refusal::Span;
 use crate::refusal::line_end;
+use crate::refusal::line_span;
 use crate::refusal::line_start;
+use crate::refusal::words_span;
+use crate::refusal::words_table;
 
 pub struct Line {
     // The pattern's number in its table, from 1.
@@ -30,55 +33,77 @@ pub struct Line {
     pub h: u64,
 }
 
-// How far a line is put.
+// The letter of a part of the table itself, from m to n.
+const AS_IS: u8 = 0;
+
+// What a byte of a pattern puts, and how far the line is put with it.
 struct Way {
-    // Whether the byte before was a `%`.
+    letter: u8,
+    // The two numbers that the letter takes, or may take.
+    m: u64,
+    n: u64,
+    // Whether the byte was a `%`.
     marked: bool,
     // Which of the line's numbers is next, from 0.
     next: usize,
-    pen: Pen,
 }
 
 // Puts a line. A pattern that its table does not have puts nothing.
 pub fn form(buffer: &mut [u8], pen: Pen, table: &[u8], t: &[u8], l: Line) -> Pen {
+    let numbers = [l.a, l.b, l.c, l.d, l.e, l.f, l.g, l.h];
     let start = line_start(table, l.pattern);
     let end = line_end(table, start);
-    let mut last = Way {
-        marked: false,
-        next: 0,
-        pen,
-    };
+    let mut last = pen;
+    let mut way = unmarked(0, 0, 0);
     let mut i = start;
     while i < end {
-        last = piece(buffer, last, table[i], table, t, l);
+        way = after(table[i], i as u64, &numbers, way);
+        let place = span(table, way.letter, way.m, way.n);
+        last = put(buffer, last, table, t, way.letter, way.m, place);
         i += 1;
     }
-    last.pen
+    last
 }
 
-// Puts what the next byte of a pattern stands for.
-fn piece(buffer: &mut [u8], w: Way, b: u8, table: &[u8], t: &[u8], l: Line) -> Way {
-    let pen = w.pen;
-    let next = w.next;
-    if w.marked {
-        let after = std::num::wrapping_add_usize(next, 1);
-        return Way {
-            marked: false,
-            next: std::num::wrapping_add_usize(next, taken(b)),
-            pen: stood(buffer, pen, b, number(l, next), number(l, after), table, t),
-        };
-    }
-    if b == b'%' {
-        return Way {
-            marked: true,
-            next,
-            pen,
-        };
-    }
+// A part of the table, and which of the line's numbers is next.
+fn unmarked(m: u64, n: u64, next: usize) -> Way {
     Way {
+        letter: AS_IS,
+        m,
+        n,
         marked: false,
         next,
-        pen: byte(buffer, pen, b),
+    }
+}
+
+// What the byte at a place of the table puts.
+fn after(b: u8, place: u64, numbers: &[u64], w: Way) -> Way {
+    let next = w.next;
+    if w.marked && is_letter(b) {
+        return Way {
+            letter: b,
+            m: number(numbers, next),
+            n: number(numbers, std::num::wrapping_add_usize(next, 1)),
+            marked: false,
+            next: std::num::wrapping_add_usize(next, taken(b)),
+        };
+    }
+    if !w.marked && b == b'%' {
+        return Way {
+            letter: AS_IS,
+            m: 0,
+            n: 0,
+            marked: true,
+            next,
+        };
+    }
+    unmarked(place, std::num::wrapping_add_u64(place, 1), next)
+}
+
+fn is_letter(b: u8) -> bool {
+    match b {
+        b'd' | b'x' | b'w' | b's' | b'b' | b'h' | b'f' | b'n' => true,
+        _ => false,
     }
 }
 
@@ -86,113 +111,41 @@ fn piece(buffer: &mut [u8], w: Way, b: u8, table: &[u8], t: &[u8], l: Line) -> W
 fn taken(b: u8) -> usize {
     match b {
         b'd' | b'x' | b'w' => 1,
-        b's' | b'b' | b'h' | b'f' | b'p' => 2,
-        _ => 0,
+        b'n' => 0,
+        _ => 2,
     }
 }
 
-fn number(l: Line, k: usize) -> u64 {
-    match k {
-        0 => l.a,
-        1 => l.b,
-        2 => l.c,
-        3 => l.d,
-        4 => l.e,
-        5 => l.f,
-        6 => l.g,
-        7 => l.h,
-        _ => 0,
+fn number(numbers: &[u64], k: usize) -> u64 {
+    if k < numbers.len() { numbers[k] } else { 0 }
+}
+
+// Where the bytes stand that a letter speaks of: in the table, in the bytes beside it, or in the table of words. A number's are not asked.
+fn span(table: &[u8], letter: u8, m: u64, n: u64) -> Span {
+    match letter {
+        b'w' => line_span(table, m as usize),
+        b'f' => words_span(m as usize, n as usize),
+        b'n' => Span { start: 0, end: 1 },
+        _ => Span {
+            start: m as usize,
+            end: n as usize,
+        },
     }
 }
 
-// Puts what a letter of a pattern stands for.
-fn stood(buffer: &mut [u8], pen: Pen, b: u8, m: u64, n: u64, table: &[u8], t: &[u8]) -> Pen {
-    match b {
-        b'd' => decimal(buffer, pen, m),
-        b'x' => pattern(buffer, pen, m),
-        b'n' => byte(buffer, pen, b'\n'),
-        b'w' => line(buffer, pen, table, m as usize),
-        b's' => shown(buffer, pen, t, m as usize, n as usize),
-        b'b' => part(buffer, pen, t, m as usize, n as usize),
-        b'p' => pointed(buffer, pen, m, n as usize),
-        b'h' => figures(buffer, pen, t, m as usize, n as usize),
-        b'f' => because(buffer, pen, m as usize, n as usize),
-        _ => byte(buffer, pen, b),
+// Puts what a letter stands for: a number, or bytes.
+fn put(buffer: &mut [u8], pen: Pen, table: &[u8], t: &[u8], letter: u8, n: u64, s: Span) -> Pen {
+    match letter {
+        b'd' => decimal(buffer, pen, n),
+        b'x' => pattern(buffer, pen, n),
+        b's' | b'b' | b'h' => spelt(buffer, pen, cut(t, s.start, s.end), letter),
+        b'f' | b'n' => own(buffer, pen, s),
+        _ => bytes(buffer, pen, cut(table, s.start, s.end)),
     }
 }
 
-// A part in hex digits. What is no part of the bytes puts nothing.
-fn figures(buffer: &mut [u8], pen: Pen, t: &[u8], start: usize, end: usize) -> Pen {
-    if start <= end {
-        if end <= t.len() {
-            return hex(buffer, pen, &t[start..end]);
-        }
-    }
-    pen
-}
-
-// A part as it is. What is no part of the bytes puts nothing.
-fn part(buffer: &mut [u8], pen: Pen, t: &[u8], start: usize, end: usize) -> Pen {
-    if start <= end {
-        if end <= t.len() {
-            return bytes(buffer, pen, &t[start..end]);
-        }
-    }
-    pen
-}
-
-// A number's digits with so many of them, 22 at most, behind a point, and zeros where it has too few.
-fn pointed(buffer: &mut [u8], pen: Pen, n: u64, behind: usize) -> Pen {
-    let mut digits = [0u8; 20];
-    let k = io::decimal(n, &mut digits);
-    if behind == 0 {
-        return bytes(buffer, pen, &digits[..k]);
-    }
-    split(buffer, pen, &digits[..k], behind)
-}
-
-fn split(buffer: &mut [u8], pen: Pen, t: &[u8], behind: usize) -> Pen {
-    let later = least(behind, t.len());
-    let zeros = std::num::wrapping_sub_usize(behind, later);
-    let cut = std::num::wrapping_sub_usize(t.len(), later);
-    let a = part(buffer, pen, t, 0, cut);
-    let b = point(buffer, a, cut == 0, zeros);
-    part(buffer, b, t, cut, t.len())
-}
-
-// A point, with a zero before it where no digit stands there, and so many zeros behind it.
-fn point(buffer: &mut [u8], pen: Pen, bare: bool, zeros: usize) -> Pen {
-    let all = b"0.0000000000000000000000";
-    let start = if bare { 0 } else { 1 };
-    part(
-        buffer,
-        pen,
-        all,
-        start,
-        std::num::wrapping_add_usize(zeros, 2),
-    )
-}
-
-// A part on one line. What is no part of the bytes puts nothing.
-fn shown(buffer: &mut [u8], pen: Pen, t: &[u8], start: usize, end: usize) -> Pen {
-    let stop = least(end, t.len());
-    let mut last = pen;
-    let mut i = start;
-    while i < stop {
-        last = visible(buffer, last, t[i]);
-        i += 1;
-    }
-    last
-}
-
-// A byte as it is, but one below a space, and 127, as `\x` and its two hex digits: a line end in a file ends no line.
-fn visible(buffer: &mut [u8], pen: Pen, b: u8) -> Pen {
-    if b >= b' ' {
-        if b != 127 {
-            return byte(buffer, pen, b);
-        }
-    }
-    let a = bytes(buffer, pen, b"\\x");
-    let one = [b];
-    hex(buffer, a, &one)
+// A part of the table of words.
+fn own(buffer: &mut [u8], pen: Pen, s: Span) -> Pen {
+    let words = words_table();
+    bytes(buffer, pen, cut(&words, s.start, s.end))
 }

@@ -1,33 +1,18 @@
-// A refusal as text: its number, reason and place, and what it means in words.
+// What a refusal means in words, and the lines of a table.
 ghost use Prim.Native.Nat.{_≤_};
 ghost use lib.ListN.{length};
-use crate::Pen;
-use crate::byte;
-use crate::bytes;
-use crate::decimal;
-use error::Fault;
 
-// Puts `NUMBER/REASON@PLACE`.
-pub fn mark(buffer: &mut [u8], pen: Pen, f: Fault) -> Pen {
-    let a = decimal(buffer, pen, error::number(f) as u64);
-    let b = byte(buffer, a, b'/');
-    let c = decimal(buffer, b, error::reason(f) as u64);
-    let d = byte(buffer, c, b'@');
-    decimal(buffer, d, error::place(f) as u64)
+// A part of some bytes, up to end.
+pub struct Span {
+    pub start: usize,
+    pub end: usize,
 }
 
-// Puts the words of document 01's table of refusals, and those of the reason where there is one.
-pub fn words(buffer: &mut [u8], pen: Pen, f: Fault) -> Pen {
-    because(buffer, pen, wide(error::number(f)), wide(error::reason(f)))
-}
-
-fn wide(n: u8) -> usize {
-    n as usize
-}
-
-// The words of a refusal's number, which is its line in the table, and of its reason.
-pub fn because(buffer: &mut [u8], pen: Pen, number: usize, why: usize) -> Pen {
-    let table = b"no Part 21 marker\n\
+// The words of document 01's table of refusals, by their numbers, and then those of refusal 7 with its reason. The first line is empty, so
+// that the first byte is a line end.
+pub fn words_table() -> [u8; 485] {
+    *b"\n\
+        no Part 21 marker\n\
         file too long\n\
         comment open\n\
         string open\n\
@@ -42,37 +27,41 @@ pub fn because(buffer: &mut [u8], pen: Pen, number: usize, why: usize) -> Pen {
         real outside the class\n\
         no record with this id\n\
         unit chain too deep\n\
-        output too short";
-    let named = line(buffer, pen, table, number);
+        output too short\n\
+        bad record: header record without (\n\
+        bad record: no #\n\
+        bad record: id above 4294967295\n\
+        bad record: no digits\n\
+        bad record: no =\n\
+        bad record: nothing after =\n\
+        bad record: no ("
+}
+
+// Where that table has the words of a refusal, by its number and its reason, which only refusal 7 has.
+pub fn words_span(number: usize, why: usize) -> Span {
+    let words = words_table();
     if why == 0 {
-        return named;
+        return line_span(&words, std::num::wrapping_add_usize(number, 1));
     }
-    reason(buffer, named, why)
+    line_span(&words, std::num::wrapping_add_usize(why, 17))
 }
 
-// `: ` and the reason of refusal 7.
-fn reason(buffer: &mut [u8], pen: Pen, why: usize) -> Pen {
-    let table = b": header record without (\n\
-        : no #\n\
-        : id above 4294967295\n\
-        : no digits\n\
-        : no =\n\
-        : nothing after =\n\
-        : no (";
-    line(buffer, pen, table, why)
-}
-
-// Puts the n-th line of a table, counted from 1, and nothing where it has no such line.
-pub fn line(buffer: &mut [u8], pen: Pen, table: &[u8], n: usize) -> Pen {
+// Where the n-th line stands, counted from 1; of no bytes at the table's end where it has no such line.
+pub fn line_span(table: &[u8], n: usize) -> Span {
     let start = line_start(table, n);
-    let end = line_end(table, start);
-    bytes(buffer, pen, &table[start..end])
+    Span {
+        start,
+        end: line_end(table, start),
+    }
 }
 
 // Where the n-th line begins, counted from 1, and the table's end where it has no such line.
 pub fn line_start(table: &[u8], n: usize) -> usize
     ensures { λ r. ⌜ r ≤ length (now (table .entry)) ⌝ }
 {
+    if n == 0 {
+        return table.len();
+    }
     let mut left = n;
     let mut start = 0;
     while left > 1 {

@@ -6,10 +6,10 @@ use Rattle.text.proofs.patterns.form.Statement.{statement}
 use Rattle.text.proofs.patterns.form.Tie as tie
 
 abbrev Inv-loop : tie.InvT-loop
-Inv-loop buffer₀ table t l start end last₀ i₀ buffer last i = (i ≤ length table) × (length buffer ≡ length buffer₀)
+Inv-loop buffer₀ table t numbers start end last₀ way₀ i₀ buffer last way i = (i ≤ length table) × (length buffer ≡ length buffer₀)
 
 abbrev μ-loop : tie.MeasureT-loop
-μ-loop buffer₀ table t l start end last₀ i₀ buffer last i = length table - i
+μ-loop buffer₀ table t numbers start end last₀ way₀ i₀ buffer last way i = length table - i
 
 line-start-requires : tie.Need-line-start-requires Inv-loop μ-loop
 line-start-requires c κs = search needs
@@ -17,14 +17,26 @@ line-start-requires c κs = search needs
 line-end-requires : tie.Need-line-end-requires Inv-loop μ-loop
 line-end-requires c κs = search needs
 
+unmarked-requires : tie.Need-unmarked-requires Inv-loop μ-loop
+unmarked-requires c κs = search needs
+
 loop-holds : tie.Need-loop-holds Inv-loop μ-loop
 loop-holds c = search needs
 
-shared-slice-read-piece : tie.Need-shared-slice-read-piece Inv-loop μ-loop
-shared-slice-read-piece c = search needs
+shared-slice-read-after : tie.Need-shared-slice-read-after Inv-loop μ-loop
+shared-slice-read-after c = search needs
 
-piece-requires : tie.Need-piece-requires Inv-loop μ-loop
-piece-requires c κs = search needs
+slice-aggregate-after : tie.Need-slice-aggregate-after Inv-loop μ-loop
+slice-aggregate-after c = search needs
+
+after-requires : tie.Need-after-requires Inv-loop μ-loop
+after-requires c κs = search needs
+
+span-requires : tie.Need-span-requires Inv-loop μ-loop
+span-requires c κs = search needs
+
+put-requires : tie.Need-put-requires Inv-loop μ-loop
+put-requires c κs = search needs
 
 add-i : tie.Need-add-i Inv-loop μ-loop
 add-i c = search needs
@@ -49,9 +61,13 @@ form-spec =
     μ-loop
     line-start-requires
     line-end-requires
+    unmarked-requires
     loop-holds
-    shared-slice-read-piece
-    piece-requires
+    shared-slice-read-after
+    slice-aggregate-after
+    after-requires
+    span-requires
+    put-requires
     add-i
     loop-less
     loop-again
