@@ -1,6 +1,7 @@
 // What a refusal means in words, and the lines of a table.
 ghost use Prim.Native.Nat.{_≤_};
 ghost use lib.ListN.{length};
+use crate::least;
 
 // A part of some bytes, up to end.
 pub struct Span {
@@ -75,12 +76,11 @@ pub fn line_start(table: &[u8], n: usize) -> usize
     start
 }
 
-// Where the line ends that begins at a start.
+// Where the line ends that begins at a start; a start past the end counts as the end.
 pub fn line_end(table: &[u8], start: usize) -> usize
-    requires { ⌜ start ≤ length (now table) ⌝ }
-    ensures { λ r. ⌜ (start ≤ r) × (r ≤ length (now (table .entry))) ⌝ }
+    ensures { λ r. ⌜ r ≤ length (now (table .entry)) ⌝ }
 {
-    let mut at = start;
+    let mut at = least(start, table.len());
     while at < table.len() {
         if table[at] == b'\n' {
             return at;

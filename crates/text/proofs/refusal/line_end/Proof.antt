@@ -5,10 +5,13 @@ use Rattle.text.proofs.refusal.line_end.Statement.{statement}
 use Rattle.text.proofs.refusal.line_end.Tie as tie
 
 abbrev Inv-loop : tie.InvT-loop
-Inv-loop table start at₀ at = (start ≤ at) × (at ≤ length table)
+Inv-loop table start at₀ at = at ≤ length table
 
 abbrev μ-loop : tie.MeasureT-loop
 μ-loop table start at₀ at = length table - at
+
+least-requires : tie.Need-least-requires Inv-loop μ-loop
+least-requires c κs = search needs
 
 loop-holds : tie.Need-loop-holds Inv-loop μ-loop
 loop-holds c = search needs
@@ -37,6 +40,7 @@ line-end-spec =
     (tie.spec
     Inv-loop
     μ-loop
+    least-requires
     loop-holds
     shared-slice-read-if1
     returns
