@@ -6,31 +6,31 @@ use Rattle.turns.proofs.cases.case.Statement.{statement}
 use Rattle.turns.proofs.cases.case.Tie as tie
 
 told-of-requires : tie.Need-told-of-requires
-told-of-requires c κs = search needs
+told-of-requires c κs = tt
 
 least-requires : tie.Need-least-requires
-least-requires c κs = search needs
+least-requires c κs = tt
 
 slice-aggregate-s : tie.Need-slice-aggregate-s
 slice-aggregate-s c = simp length-take (omega arith)
 
 open-requires : tie.Need-open-requires
-open-requires c κs = search needs
+open-requires c κs = tt
 
 title-requires : tie.Need-title-requires
-title-requires c κs = search needs
+title-requires c κs = tt
 
 put-requires : tie.Need-put-requires
-put-requires c κs = search needs
+put-requires c κs = tt
 
 tables-of-requires : tie.Need-tables-of-requires
-tables-of-requires c κs = search needs
+tables-of-requires c κs = tt
 
 course-of-requires : tie.Need-course-of-requires
-course-of-requires c κs = search needs
+course-of-requires c κs = tt
 
 tell-requires : tie.Need-tell-requires
-tell-requires c κs = search needs
+tell-requires c κs = tt
 
 same-length : tie.Need-same-length
 same-length c = c .before .before .before .before .before .before .before .before .before .before .before .before .before .before .before .before .before .tell .kept .1 .0 ∙ c .before .before .before .before .before .before .before .before .before .before .before .before .before .before .before .before .before .before .before .before .before .before .before .before .before .before .before .before .before .before .before .before .before .before .before .before .before .before .before .before .«open» .kept .1 .0
@@ -42,19 +42,19 @@ same-length-3 : tie.Need-same-length-3
 same-length-3 c = c .before .before .before .before .before .before .before .before .before .before .before .before .before .before .before .before .before .tell .kept .1 .1 .1 .0 ∙ c .before .before .before .before .before .before .before .before .before .before .before .before .before .before .before .before .before .before .before .before .before .before .before .before .before .before .before .before .before .before .before .before .before .before .before .before .before .before .before .before .«open» .kept .1 .1 .1 .0
 
 same-length-4 : tie.Need-same-length-4
-same-length-4 c = search needs
+same-length-4 c = c .before .before .before .before .before .before .before .before .before .before .before .before .before .before .before .before .before .tell .kept .1 .1 .1 .1 .0
 
 same-length-5 : tie.Need-same-length-5
-same-length-5 c = search needs
+same-length-5 c = c .before .before .before .before .before .before .before .before .before .before .before .before .before .before .before .before .before .tell .kept .1 .1 .1 .1 .1 .0
 
 same-length-6 : tie.Need-same-length-6
-same-length-6 c = search needs
+same-length-6 c = c .before .before .before .before .before .before .before .before .before .before .before .before .before .before .before .before .before .tell .kept .1 .1 .1 .1 .1 .1 .0
 
 same-length-7 : tie.Need-same-length-7
-same-length-7 c = search needs
+same-length-7 c = c .before .before .before .before .before .before .before .before .before .before .before .before .before .before .before .before .before .tell .kept .1 .1 .1 .1 .1 .1 .1 .0
 
 same-length-8 : tie.Need-same-length-8
-same-length-8 c = search needs
+same-length-8 c = c .before .before .before .before .before .before .before .before .before .before .before .before .before .before .before .before .before .tell .kept .1 .1 .1 .1 .1 .1 .1 .1 .0
 
 same-length-9 : tie.Need-same-length-9
 same-length-9 c = c .before .before .before .before .before .before .before .before .before .before .before .before .before .before .before .before .before .tell .kept .1 .1 .1 .1 .1 .1 .1 .1 .1 .0 ∙ c .before .before .before .before .before .before .before .before .before .before .before .before .before .before .before .before .before .before .before .before .before .before .before .before .before .before .before .before .before .before .before .put .kept .0
