@@ -13,7 +13,7 @@ import sys
 ROOT = os.path.dirname(os.path.dirname(os.path.abspath(__file__)))
 KIT = ['io', 'libc', 'os', 'bytes', 'check']
 # Crates that declare a type of which a function has a value and no name: the fields of `r` are read in `HeaderFound::Span(r)`.
-REACHED = {'export_units': ['statement'], 'turns': ['error', 'params']}
+REACHED = {'export_units': ['statement'], 'turns': ['error', 'input']}
 
 
 def text_of(crate):

@@ -1,49 +1,76 @@
-// Answers a run of cases of up to 1 MiB, for the comparison with the Rust original.
-use turns::Run;
+// Answers a run of cases, for the comparison with the Rust original: each case of up to 1 MiB where the stack limit allows the rooms for it
+// (`ulimit -s`; the script `step` raises it), and of up to 256 KiB where it does not.
 
 // How many cases of the gate's run are told with the walks: unit files follow, which have many parameters.
 const WALKS: usize = 4219;
 
-// All rooms fit a stack of 8 MiB. A file has up to 1 MiB; beside it there is room for whatever a case of 256 KiB can hold: a header record
-// takes three bytes or more, a data record six; a byte of a string gives three at most; a reference in a list takes three bytes, another
-// number two, a row of a grid three. So a larger file may hold 87,382 header records and 43,691 data records, a text of 786,432 bytes,
-// and in one list or grid 87,382 references or 131,073 other numbers in 87,382 rows.
-const FILE: usize = 1048577;
-
-const HEADS: usize = 349528;
-
-const ROWS: usize = 262146;
-
-const SLOTS: usize = 43691;
-
-const CHARS: usize = 786432;
-
-const REFS: usize = 87382;
-
-const NUMBERS: usize = 131073;
-
-const ENDS: usize = 87382;
-
 // What is read of standard input at once, and written of standard output.
 const CHUNK: usize = 65536;
 
+// Rooms for a case of 256 KiB, whatever it holds, which fit a stack of 8 MiB: a header record takes three bytes or more, a data record six;
+// a byte of a string gives three at most; a reference in a list takes three bytes, another number two, a row of a grid three.
+const SMALL_FILE: usize = 262145;
+
+const SMALL_HEADS: usize = 349528;
+
+const SMALL_ROWS: usize = 262146;
+
+const SMALL_SLOTS: usize = 43691;
+
+const SMALL_CHARS: usize = 786432;
+
+const SMALL_REFS: usize = 87382;
+
+const SMALL_NUMBERS: usize = 131073;
+
+const SMALL_ENDS: usize = 87382;
+
+// The same for a case of 1 MiB.
+const LARGE_FILE: usize = 1048577;
+
+const LARGE_HEADS: usize = 1398104;
+
+const LARGE_ROWS: usize = 1048578;
+
+const LARGE_SLOTS: usize = 174763;
+
+const LARGE_CHARS: usize = 3145728;
+
+const LARGE_REFS: usize = 349526;
+
+const LARGE_NUMBERS: usize = 524289;
+
+const LARGE_ENDS: usize = 349526;
+
+// What the large rooms take of the stack beside the small ones, with something over.
+const NEEDED: u64 = 40000000;
+
 fn main() {
-    let mut chunk = [0u8; CHUNK];
-    let mut out = [0u8; CHUNK];
-    let mut file = [0u8; FILE];
-    let mut heads = [0u32; HEADS];
-    let mut rows = [0u32; ROWS];
-    let mut slots = [0u64; SLOTS];
-    let mut chars = [0u8; CHARS];
-    let mut refs = [0u32; REFS];
-    let mut wholes = [0i64; NUMBERS];
-    let mut reals = [0.0; NUMBERS];
-    let mut ends = [0usize; ENDS];
     if wants_help() {
-        help(&mut out);
+        help();
         return;
     }
-    go_on(
+    let limit = input::stack_limit();
+    if limit < NEEDED {
+        small();
+        return;
+    }
+    large(limit - NEEDED);
+}
+
+fn small() {
+    let mut chunk = [0u8; CHUNK];
+    let mut out = [0u8; CHUNK];
+    let mut file = [0u8; SMALL_FILE];
+    let mut heads = [0u32; SMALL_HEADS];
+    let mut rows = [0u32; SMALL_ROWS];
+    let mut slots = [0u64; SMALL_SLOTS];
+    let mut chars = [0u8; SMALL_CHARS];
+    let mut refs = [0u32; SMALL_REFS];
+    let mut ints = [0i64; SMALL_NUMBERS];
+    let mut reals = [0.0; SMALL_NUMBERS];
+    let mut ends = [0usize; SMALL_ENDS];
+    lend_small(
         &mut chunk,
         &mut file,
         &mut heads,
@@ -51,52 +78,107 @@ fn main() {
         &mut slots,
         &mut chars,
         &mut refs,
-        &mut wholes,
+        &mut ints,
         &mut reals,
         &mut ends,
         &mut out,
-        turns::start(lines::SCANNED, walks()),
     );
 }
 
-// Answers all cases, or as many lines as 64 bits count. An array behind a reference is lent as a slice with no proof of its length.
-fn go_on(
+// An array behind a reference is lent as a slice with no proof of its length.
+fn lend_small(
     chunk: &mut [u8; CHUNK],
-    file: &mut [u8; FILE],
-    heads: &mut [u32; HEADS],
-    rows: &mut [u32; ROWS],
-    slots: &mut [u64; SLOTS],
-    chars: &mut [u8; CHARS],
-    refs: &mut [u32; REFS],
-    wholes: &mut [i64; NUMBERS],
-    reals: &mut [f64; NUMBERS],
-    ends: &mut [usize; ENDS],
+    file: &mut [u8; SMALL_FILE],
+    heads: &mut [u32; SMALL_HEADS],
+    rows: &mut [u32; SMALL_ROWS],
+    slots: &mut [u64; SMALL_SLOTS],
+    chars: &mut [u8; SMALL_CHARS],
+    refs: &mut [u32; SMALL_REFS],
+    ints: &mut [i64; SMALL_NUMBERS],
+    reals: &mut [f64; SMALL_NUMBERS],
+    ends: &mut [usize; SMALL_ENDS],
     out: &mut [u8; CHUNK],
-    run: Run,
 ) {
-    let mut last = run;
-    let mut left = u64::MAX;
-    while left > 0 && turns::goes_on(last) {
-        left -= 1;
-        if turns::takes(last) {
-            last = turns::begin(chunk, file, heads, rows, slots, out, last);
-        } else {
-            last = turns::told(
-                file,
-                heads,
-                rows,
-                slots,
-                chars,
-                refs,
-                wholes,
-                reals,
-                ends,
-                out,
-                last,
-            );
-        }
+    turns::all(
+        chunk,
+        file,
+        heads,
+        rows,
+        slots,
+        chars,
+        refs,
+        ints,
+        reals,
+        ends,
+        out,
+        lines::SCANNED,
+        walks(),
+    );
+}
+
+// No program has so many arguments, so it never calls itself; but since it might, the compiler keeps its frame apart from `main`'s, which
+// else would have these rooms in every run of the program.
+fn large(limit: u64) {
+    let mut chunk = [0u8; CHUNK];
+    let mut out = [0u8; CHUNK];
+    let mut file = [0u8; LARGE_FILE];
+    let mut heads = [0u32; LARGE_HEADS];
+    let mut rows = [0u32; LARGE_ROWS];
+    let mut slots = [0u64; LARGE_SLOTS];
+    let mut chars = [0u8; LARGE_CHARS];
+    let mut refs = [0u32; LARGE_REFS];
+    let mut ints = [0i64; LARGE_NUMBERS];
+    let mut reals = [0.0; LARGE_NUMBERS];
+    let mut ends = [0usize; LARGE_ENDS];
+    lend_large(
+        &mut chunk,
+        &mut file,
+        &mut heads,
+        &mut rows,
+        &mut slots,
+        &mut chars,
+        &mut refs,
+        &mut ints,
+        &mut reals,
+        &mut ends,
+        &mut out,
+    );
+    if limit < NEEDED {
+        return;
     }
-    turns::finish(out, last);
+    if os::arg_count() == usize::MAX {
+        large(limit - NEEDED);
+    }
+}
+
+fn lend_large(
+    chunk: &mut [u8; CHUNK],
+    file: &mut [u8; LARGE_FILE],
+    heads: &mut [u32; LARGE_HEADS],
+    rows: &mut [u32; LARGE_ROWS],
+    slots: &mut [u64; LARGE_SLOTS],
+    chars: &mut [u8; LARGE_CHARS],
+    refs: &mut [u32; LARGE_REFS],
+    ints: &mut [i64; LARGE_NUMBERS],
+    reals: &mut [f64; LARGE_NUMBERS],
+    ends: &mut [usize; LARGE_ENDS],
+    out: &mut [u8; CHUNK],
+) {
+    turns::all(
+        chunk,
+        file,
+        heads,
+        rows,
+        slots,
+        chars,
+        refs,
+        ints,
+        reals,
+        ends,
+        out,
+        lines::SCANNED,
+        walks(),
+    );
 }
 
 // How many cases are told with the walks: all, but in the gate's run.
@@ -115,12 +197,7 @@ fn is_help(word: &[u8]) -> bool {
     record::same_bytes(word, b"-h") || record::same_bytes(word, b"--help")
 }
 
-fn help(out: &mut [u8; CHUNK]) {
-    let said = text::bytes(
-        out,
-        text::fresh(),
-        b"usage: answers [FILE..]: prints all that the reader answers about each file, the name - being standard input, in the text form of the comparison\n\
-        without a file standard input is a run of cases: a length in decimal, LF and so many bytes, again and again\n",
-    );
-    text::finish(out, said);
+fn help() {
+    let mut out = io::buffer();
+    turns::help(&mut out);
 }

@@ -26,10 +26,10 @@ fn main() {
     let mut slots = [0u64; SLOTS];
     let mut bytes = [0u8; BYTES];
     let mut again = [0u32; ROWS];
-    let mut wholes = [0i64; 1];
+    let mut ints = [0i64; 1];
     let mut reals = [0.0; 1];
     let mut ends = [0usize; 1];
-    go_on(
+    lend(
         &mut chunk,
         &mut file,
         &mut heads,
@@ -37,15 +37,15 @@ fn main() {
         &mut slots,
         &mut bytes,
         &mut again,
-        &mut wholes,
+        &mut ints,
         &mut reals,
         &mut ends,
         &mut out,
     );
 }
 
-// Answers all cases, or as many lines as 64 bits count. An array behind a reference is lent as a slice with no proof of its length.
-fn go_on(
+// An array behind a reference is lent as a slice with no proof of its length.
+fn lend(
     chunk: &mut [u8; CHUNK],
     file: &mut [u8; FILE],
     heads: &mut [u32; HEADS],
@@ -53,32 +53,24 @@ fn go_on(
     slots: &mut [u64; SLOTS],
     bytes: &mut [u8; BYTES],
     again: &mut [u32; ROWS],
-    wholes: &mut [i64; 1],
+    ints: &mut [i64; 1],
     reals: &mut [f64; 1],
     ends: &mut [usize; 1],
     out: &mut [u8; CHUNK],
 ) {
-    let mut last = turns::start(lines::COUNTS, 0);
-    let mut left = u64::MAX;
-    while left > 0 && turns::goes_on(last) {
-        left -= 1;
-        if turns::takes(last) {
-            last = turns::begin(chunk, file, heads, rows, slots, out, last);
-        } else {
-            last = turns::told(
-                file,
-                heads,
-                rows,
-                slots,
-                bytes,
-                again,
-                wholes,
-                reals,
-                ends,
-                out,
-                last,
-            );
-        }
-    }
-    turns::finish(out, last);
+    turns::all(
+        chunk,
+        file,
+        heads,
+        rows,
+        slots,
+        bytes,
+        again,
+        ints,
+        reals,
+        ends,
+        out,
+        lines::COUNTS,
+        0,
+    );
 }

@@ -35,7 +35,7 @@ pub struct Taken {
 }
 
 // Whether the cases are the files that the arguments name.
-pub fn named() -> bool {
+fn named() -> bool {
     os::arg_count() > 1 && !replays()
 }
 
@@ -46,8 +46,27 @@ pub fn replays() -> bool {
     record::same_bytes(&word[..n], b"--replay")
 }
 
+// Before the first case.
+pub fn start() -> Taken {
+    none(input::start(), GOOD)
+}
+
+// Whether standard input could not be read.
+pub fn failed(t: Taken) -> bool {
+    let feed = t.feed;
+    feed.failed != 0
+}
+
+// Takes the case of this number, which is the next one.
+pub fn take(chunk: &mut [u8], file: &mut [u8], feed: Feed, number: usize) -> Taken {
+    if named() {
+        return take_named(file, feed, std::num::wrapping_add_usize(number, 1));
+    }
+    follow(chunk, file, feed)
+}
+
 // Takes the next case of standard input.
-pub fn take(chunk: &mut [u8], file: &mut [u8], feed: Feed) -> Taken {
+fn follow(chunk: &mut [u8], file: &mut [u8], feed: Feed) -> Taken {
     match input::number_line(chunk, feed) {
         Line::Number(n, next) => case_of(chunk, file, n as usize, next),
         Line::End(next) => none(next, OVER),
@@ -85,7 +104,7 @@ fn brought(got: Brought, n: usize, all: usize, cut: usize) -> Taken {
 }
 
 // Takes the case that is an argument's file.
-pub fn take_named(file: &mut [u8], feed: Feed, argument: usize) -> Taken {
+fn take_named(file: &mut [u8], feed: Feed, argument: usize) -> Taken {
     if argument >= os::arg_count() {
         return none(feed, OVER);
     }

@@ -76,16 +76,16 @@ pub fn by_id(file: &[u8], rows: &[u32], slots: &[u64], t: Tables, i: usize, k: u
     match id_wanted(rows, t, i) {
         Wanted::Over => none(),
         Wanted::Id(id) => if k == 1 {
-            required(lookup::require(rows, slots, t, id))
+            required(rows, slots, t, id)
         } else {
-            spanned(lookup::args(file, rows, slots, t, id))
+            spanned(file, rows, slots, t, id)
         },
     }
 }
 
 // A row's numbers but for its id, or the refusal.
-fn required(r: Required) -> Line {
-    match r {
+fn required(rows: &[u32], slots: &[u64], t: Tables, id: u32) -> Line {
+    match lookup::require(rows, slots, t, id) {
         Required::Row(w) => eight(
             REQUIRED,
             w.keyword.start,
@@ -101,8 +101,8 @@ fn required(r: Required) -> Line {
     }
 }
 
-fn spanned(r: Spanned) -> Line {
-    match r {
+fn spanned(file: &[u8], rows: &[u32], slots: &[u64], t: Tables, id: u32) -> Line {
+    match lookup::args(file, rows, slots, t, id) {
         Spanned::Span(s) => two(SPAN, s.start, s.end),
         Spanned::Refused(f) => mark(MARK_END, f),
     }
@@ -112,12 +112,12 @@ fn spanned(r: Spanned) -> Line {
 pub fn keyword(file: &[u8], rows: &[u32], t: Tables, i: usize) -> Line {
     match lookup::entity(rows, t, i) {
         Entry::Nothing => none(),
-        Entry::Row(r) => keyword_line(i, lookup::keyword(file, r)),
+        Entry::Row(r) => keyword_line(file, i, r),
     }
 }
 
-fn keyword_line(i: usize, r: Spanned) -> Line {
-    match r {
+fn keyword_line(file: &[u8], i: usize, r: RecordSpan) -> Line {
+    match lookup::keyword(file, r) {
         Spanned::Span(s) => three(KEYWORD, i, s.start, s.end),
         Spanned::Refused(f) => mark_after(KEYWORD_REFUSED, i, f),
     }
@@ -152,7 +152,7 @@ pub fn record(file: &[u8], rows: &[u32], slots: &[u64], t: Tables, i: usize, k: 
         Entry::Row(r) => match k {
             0 => two(PARTS, i, 0),
             13 => two(LINE_END, 0, 0),
-            14 => record_units(i, units::units_of_context(file, rows, slots, t, r)),
+            14 => record_units(file, rows, slots, t, i, r),
             _ => part(file, r, kind_at(std::num::wrapping_sub_usize(k, 1))),
         },
     }
@@ -166,8 +166,15 @@ fn part(file: &[u8], r: RecordSpan, kind: Kind) -> Line {
     }
 }
 
-fn record_units(i: usize, r: Resolved) -> Line {
-    match r {
+fn record_units(
+    file: &[u8],
+    rows: &[u32],
+    slots: &[u64],
+    t: Tables,
+    i: usize,
+    r: RecordSpan,
+) -> Line {
+    match units::units_of_context(file, rows, slots, t, r) {
         Resolved::Is(u) => values(RECORD_UNITS, i, u),
         Resolved::Refused(f) => mark_after(UNITS_REFUSED, i, f),
     }

@@ -10,9 +10,7 @@ use crate::readers::REF;
 use crate::readers::SKIP;
 use text::Line;
 
-// The next case is taken; the run is over.
-pub const TAKE: usize = 0;
-
+// All is told.
 pub const OVER: usize = 1;
 
 // `answers`: the tables' rows, the row of each id, the header's searches, its texts, the units; then the walks.
@@ -104,8 +102,8 @@ fn after(n: usize) -> usize {
 // The stage after one that is over.
 fn stage_after(stage: usize, walks: bool) -> usize {
     match stage {
-        UNITS => if walks { HEAD_WALKS } else { TAKE },
-        ROW_WALKS | FULL => TAKE,
+        UNITS => if walks { HEAD_WALKS } else { OVER },
+        ROW_WALKS | FULL => OVER,
         _ => after(stage),
     }
 }

@@ -35,31 +35,27 @@ use course::ROWS;
 use course::ROWS_AGAIN;
 pub use course::SCANNED;
 use course::SCANNED_AGAIN;
-pub use course::TAKE;
 use course::UNITS;
 pub use course::on;
 pub use course::onward;
-use lookup::Entry;
 use lookup::Tables;
 use params::State;
 pub use patterns::CASE;
 pub use patterns::CUT;
-use patterns::HEAD_SHORT;
-use patterns::HEAD_SKIPS;
+pub use patterns::HELP;
 use patterns::LINE_END;
 pub use patterns::LONG;
 pub use patterns::LONG_CUT;
 pub use patterns::MALFORMED;
 pub use patterns::NO_INPUT;
 pub use patterns::NO_SCAN;
-use patterns::ROW_SHORT;
-use patterns::ROW_SKIPS;
+pub use patterns::SILENT;
 pub use patterns::SIZE;
-pub use patterns::TABLE;
 pub use patterns::UNOPENED;
 pub use patterns::UNREAD;
 pub use patterns::mark_after;
 pub use patterns::none;
+pub use patterns::table;
 pub use patterns::three;
 use patterns::two;
 pub use pieces::in_room;
@@ -157,17 +153,15 @@ fn read_line_at(
     i: usize,
     k: usize,
 ) -> Line {
-    let at = rooms::row_args(heads, rows, t, stage, i);
-    if stage == HEAD_READS {
-        if i >= t.headers {
-            return none();
-        }
-        return reads::reads(file, at, i, k, HEAD_SKIPS, HEAD_SHORT);
+    let end = if stage == HEAD_READS {
+        t.headers
+    } else {
+        t.records
+    };
+    if i >= end {
+        return none();
     }
-    match lookup::entity(rows, t, i) {
-        Entry::Nothing => none(),
-        Entry::Row(_) => reads::reads(file, at, i, k, ROW_SKIPS, ROW_SHORT),
-    }
+    reads::reads(file, rooms::row_args(heads, rows, t, stage, i), stage, i, k)
 }
 
 fn asked_line(

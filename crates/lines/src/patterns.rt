@@ -184,9 +184,11 @@ pub const UNREAD: usize = 112;
 
 pub const NO_INPUT: usize = 113;
 
-pub const SIZE: usize = 1313;
+pub const HELP: usize = 114;
 
-pub const TABLE: [u8; SIZE] =
+pub const SIZE: usize = 1569;
+
+pub fn table() -> [u8; SIZE] {
     *b"ref\nopt_ref\ni64\nf64\nopt_f64\nmeasure\nenum\nbool\nstr\nref_list\ni64_list\nf64_list\nref_grid\nf64_grid\nskip\n%d\n\
     ,%d\n-%d\n,-%d\n%x\n,%x\nnan\n,nan\n|%d\n-\n|-\n%n\n%w @%d %d/%d@%d%n\n%w @%d %d%n\n%w @%d -%d%n\n%w @%d %x%n\n\
     %w @%d %w%n\n%w @%d %h%n\n%w @%d%n\n%w @%d \n%w @%d %h%n\n%w %h%n\ni %d %s\n%w %d %h%n\n\nT\nF\nU\n$\n\x20@%d,%d@%d\n\
@@ -200,7 +202,11 @@ pub const TABLE: [u8; SIZE] =
     case %d%nmalformed: the input ends after %d of the case's %d bytes%n\n\
     case %d%ntoo long for this program%nmalformed: the input ends after %d of the case's %d bytes%n\n\
     malformed: the length of a case should stand here, in digits, and then LF%n\ncase %d%ncannot be opened%n\n\
-    case %d%ncannot be read%n\nstandard input cannot be read%n";
+    case %d%ncannot be read%n\nstandard input cannot be read%n\n\
+    usage: answers [FILE..]: prints all that the reader answers about each file, the name - being standard input, in the text form of the comparison%n\
+    without a file standard input is a run of cases: a length in decimal, LF and so many bytes, again and again%n"
+}
+
 // The pattern of no line, which the table does not have.
 pub const SILENT: usize = 1000;
 

@@ -68,14 +68,7 @@ fn ends_shown(l: Line) -> usize {
 }
 
 // Piece k. A list's line has its reader, its place, and how many numbers and row ends are in the rooms.
-pub fn piece(
-    l: Line,
-    k: usize,
-    refs: &[u32],
-    wholes: &[i64],
-    reals: &[f64],
-    ends: &[usize],
-) -> Line {
+pub fn piece(l: Line, k: usize, refs: &[u32], ints: &[i64], reals: &[f64], ends: &[usize]) -> Line {
     if k == 0 {
         return l;
     }
@@ -85,7 +78,7 @@ pub fn piece(
     let j = k - 1;
     let n = shown(l.c as usize);
     if j < n {
-        return item(l, j, refs, wholes, reals);
+        return item(l, j, refs, ints, reals);
     }
     row_end(l, j - n, ends)
 }
@@ -105,7 +98,7 @@ fn real_value(b: u64) -> Line {
 }
 
 // Number j of a list, behind a comma where it is not the first; `-` where there is none.
-fn item(l: Line, j: usize, refs: &[u32], wholes: &[i64], reals: &[f64]) -> Line {
+fn item(l: Line, j: usize, refs: &[u32], ints: &[i64], reals: &[f64]) -> Line {
     if l.c == 0 {
         return one(NO_ITEM, 0);
     }
@@ -113,7 +106,7 @@ fn item(l: Line, j: usize, refs: &[u32], wholes: &[i64], reals: &[f64]) -> Line 
     let reader = l.a as usize;
     match reader {
         REF_LIST | REF_GRID => one(more(ITEM, comma), reference(refs, j)),
-        I64_LIST => whole(wholes, j, comma),
+        I64_LIST => whole(ints, j, comma),
         _ => real(reals, j, comma),
     }
 }
@@ -126,8 +119,8 @@ fn wide(n: u32) -> u64 {
     n as u64
 }
 
-fn whole(wholes: &[i64], j: usize, comma: usize) -> Line {
-    let n = if j < wholes.len() { wholes[j] } else { 0 };
+fn whole(ints: &[i64], j: usize, comma: usize) -> Line {
+    let n = if j < ints.len() { ints[j] } else { 0 };
     let pattern = if n < 0 { BELOW_ITEM } else { ITEM };
     one(more(pattern, comma), size(n))
 }

@@ -71,110 +71,116 @@ pub const SKIP: usize = 15;
 // What a reader says that needs no room.
 pub fn told(file: &[u8], at: State, reader: usize) -> Line {
     match reader {
-        REF => reference(scalars::next_ref(file, at)),
-        OPT_REF => opt_reference(scalars::next_opt_ref(file, at)),
-        I64 => whole(scalars::next_i64(file, at)),
-        F64 => real(F64, scalars::next_f64(file, at)),
-        OPT_F64 => opt_real(scalars::next_opt_f64(file, at)),
-        MEASURE => real(MEASURE, scalars::next_measure_f64(file, at)),
-        ENUM => name(words::next_enum(file, at)),
-        BOOL => truth(scalars::next_bool(file, at)),
-        _ => skipped(params::skip(file, at)),
+        REF => reference(file, at),
+        OPT_REF => opt_reference(file, at),
+        I64 => whole(file, at),
+        F64 | MEASURE => real(file, at, reader),
+        OPT_F64 => opt_real(file, at),
+        ENUM => name(file, at),
+        BOOL => truth(file, at),
+        _ => skipped(file, at),
     }
 }
 
-fn refused(reader: usize, to: State, f: Fault) -> Line {
-    mark_behind(REFUSED, reader, to.place, f)
+fn refused(reader: usize, place: usize, f: Fault) -> Line {
+    mark_behind(REFUSED, reader, place, f)
 }
 
-fn counted(reader: usize, to: State, n: u32) -> Line {
-    three(COUNTED, reader, to.place, n as usize)
+fn counted(reader: usize, place: usize, n: u32) -> Line {
+    three(COUNTED, reader, place, n as usize)
 }
 
-fn worded(reader: usize, to: State, word: usize) -> Line {
-    three(WORDED, reader, to.place, word)
+fn worded(reader: usize, place: usize, word: usize) -> Line {
+    three(WORDED, reader, place, word)
 }
 
-fn measured(reader: usize, to: State, x: f64) -> Line {
+fn measured(reader: usize, place: usize, x: f64) -> Line {
     let b = bits(x);
     if b == NAN {
-        return worded(reader, to, NAN_ITEM);
+        return worded(reader, place, NAN_ITEM);
     }
-    bits_after(BITS, reader, to.place, b)
+    bits_after(BITS, reader, place, b)
 }
 
-fn spelt(pattern: usize, reader: usize, to: State, start: usize, stop: usize) -> Line {
-    eight(pattern, reader, to.place, start, stop, 0, 0, 0, 0)
+fn spelt(pattern: usize, reader: usize, place: usize, start: usize, stop: usize) -> Line {
+    eight(pattern, reader, place, start, stop, 0, 0, 0, 0)
 }
 
-fn reference(r: NextRef) -> Line {
-    match r {
-        NextRef::Value(n, to) => counted(REF, to, n),
-        NextRef::Refused(f, to) => refused(REF, to, f),
-    }
-}
-
-fn opt_reference(r: NextOptRef) -> Line {
-    match r {
-        NextOptRef::Value(n, to) => counted(OPT_REF, to, n),
-        NextOptRef::Unset(to) => worded(OPT_REF, to, UNSET),
-        NextOptRef::Refused(f, to) => refused(OPT_REF, to, f),
+fn reference(file: &[u8], at: State) -> Line {
+    match scalars::next_ref(file, at) {
+        NextRef::Value(n, to) => counted(REF, to.place, n),
+        NextRef::Refused(f, to) => refused(REF, to.place, f),
     }
 }
 
-fn whole(r: NextWhole) -> Line {
-    match r {
-        NextWhole::Value(n, to) => {
-            bits_after(if n < 0 { BELOW } else { COUNTED }, I64, to.place, size(n))
-        }
-        NextWhole::Refused(f, to) => refused(I64, to, f),
+fn opt_reference(file: &[u8], at: State) -> Line {
+    match scalars::next_opt_ref(file, at) {
+        NextOptRef::Value(n, to) => counted(OPT_REF, to.place, n),
+        NextOptRef::Unset(to) => worded(OPT_REF, to.place, UNSET),
+        NextOptRef::Refused(f, to) => refused(OPT_REF, to.place, f),
     }
 }
 
-fn real(reader: usize, r: NextReal) -> Line {
-    match r {
-        NextReal::Value(x, to) => measured(reader, to, x),
-        NextReal::Refused(f, to) => refused(reader, to, f),
+fn whole(file: &[u8], at: State) -> Line {
+    match scalars::next_i64(file, at) {
+        NextWhole::Value(n, to) => signed(to.place, n),
+        NextWhole::Refused(f, to) => refused(I64, to.place, f),
     }
 }
 
-fn opt_real(r: NextOptReal) -> Line {
+fn signed(place: usize, n: i64) -> Line {
+    bits_after(if n < 0 { BELOW } else { COUNTED }, I64, place, size(n))
+}
+
+fn real(file: &[u8], at: State, reader: usize) -> Line {
+    let r = if reader == F64 {
+        scalars::next_f64(file, at)
+    } else {
+        scalars::next_measure_f64(file, at)
+    };
     match r {
-        NextOptReal::Value(x, to) => measured(OPT_F64, to, x),
-        NextOptReal::Unset(to) => worded(OPT_F64, to, UNSET),
-        NextOptReal::Refused(f, to) => refused(OPT_F64, to, f),
+        NextReal::Value(x, to) => measured(reader, to.place, x),
+        NextReal::Refused(f, to) => refused(reader, to.place, f),
     }
 }
 
-fn name(r: NextName) -> Line {
-    match r {
-        NextName::Name(start, stop, to) => spelt(SPELT, ENUM, to, start, stop),
-        NextName::Refused(f, to) => refused(ENUM, to, f),
+fn opt_real(file: &[u8], at: State) -> Line {
+    match scalars::next_opt_f64(file, at) {
+        NextOptReal::Value(x, to) => measured(OPT_F64, to.place, x),
+        NextOptReal::Unset(to) => worded(OPT_F64, to.place, UNSET),
+        NextOptReal::Refused(f, to) => refused(OPT_F64, to.place, f),
     }
 }
 
-fn truth(r: NextTruth) -> Line {
-    match r {
-        NextTruth::True(to) => worded(BOOL, to, YES),
-        NextTruth::False(to) => worded(BOOL, to, NO),
-        NextTruth::Unknown(to) => worded(BOOL, to, UNKNOWN),
-        NextTruth::Refused(f, to) => refused(BOOL, to, f),
+fn name(file: &[u8], at: State) -> Line {
+    match words::next_enum(file, at) {
+        NextName::Name(start, stop, to) => spelt(SPELT, ENUM, to.place, start, stop),
+        NextName::Refused(f, to) => refused(ENUM, to.place, f),
     }
 }
 
-fn skipped(r: Skipped) -> Line {
-    match r {
+fn truth(file: &[u8], at: State) -> Line {
+    match scalars::next_bool(file, at) {
+        NextTruth::True(to) => worded(BOOL, to.place, YES),
+        NextTruth::False(to) => worded(BOOL, to.place, NO),
+        NextTruth::Unknown(to) => worded(BOOL, to.place, UNKNOWN),
+        NextTruth::Refused(f, to) => refused(BOOL, to.place, f),
+    }
+}
+
+fn skipped(file: &[u8], at: State) -> Line {
+    match params::skip(file, at) {
         Skipped::Past(to) => two(STANDS, SKIP, to.place),
-        Skipped::Refused(f, to) => refused(SKIP, to, f),
+        Skipped::Refused(f, to) => refused(SKIP, to.place, f),
     }
 }
 
 // What a text says that was read into a room, or is shown in the file.
 pub fn text_line(r: NextText) -> Line {
     match r {
-        NextText::InFile(start, stop, to) => spelt(SPELT, STR, to, start, stop),
-        NextText::InRoom(n, to) => spelt(SPELT_IN_ROOM, STR, to, 0, n),
-        NextText::Refused(f, to) => refused(STR, to, f),
+        NextText::InFile(start, stop, to) => spelt(SPELT, STR, to.place, start, stop),
+        NextText::InRoom(n, to) => spelt(SPELT_IN_ROOM, STR, to.place, 0, n),
+        NextText::Refused(f, to) => refused(STR, to.place, f),
     }
 }
 
@@ -182,13 +188,13 @@ pub fn text_line(r: NextText) -> Line {
 pub fn list_line(reader: usize, r: NextList) -> Line {
     match r {
         NextList::Count(n, to) => three(LISTED, reader, to.place, n),
-        NextList::Refused(f, to) => refused(reader, to, f),
+        NextList::Refused(f, to) => refused(reader, to.place, f),
     }
 }
 
 pub fn grid_line(reader: usize, r: NextGrid) -> Line {
     match r {
         NextGrid::Count(rows, n, to) => eight(LISTED, reader, to.place, n, rows, 0, 0, 0, 0),
-        NextGrid::Refused(f, to) => refused(reader, to, f),
+        NextGrid::Refused(f, to) => refused(reader, to.place, f),
     }
 }

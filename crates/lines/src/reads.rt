@@ -1,20 +1,22 @@
 // The lines `n`, `short` and `nine`: `skip_n` and `is_empty` at the start of each row's arguments, readers in rooms for one, and what is
 // answered of spans that lie outside the file or run backwards.
 use crate::asked::flag;
+use crate::course::HEAD_READS;
 use crate::patterns::ANSWERED;
+use crate::patterns::HEAD_SHORT;
+use crate::patterns::HEAD_SKIPS;
 use crate::patterns::LINE_END;
 use crate::patterns::MARK;
 use crate::patterns::NINE;
+use crate::patterns::ROW_SHORT;
+use crate::patterns::ROW_SKIPS;
 use crate::patterns::SKIPPED;
 use crate::patterns::SKIPPED_REFUSED;
 use crate::patterns::STOPPED;
 use crate::patterns::STOPPED_REFUSED;
-use crate::patterns::eight;
 use crate::patterns::mark;
 use crate::patterns::mark_after;
 use crate::patterns::none;
-use crate::patterns::number;
-use crate::patterns::reason;
 use crate::patterns::three;
 use crate::patterns::two;
 use error::Fault;
@@ -32,59 +34,55 @@ use text::Line;
 
 // `n h I` or `n r I`, and what is said of 0, 1, 2 and 5 parameters; then `short h I` or `short r I`, behind which the readers are told
 // that need a room.
-pub fn reads(file: &[u8], at: State, i: usize, k: usize, title: usize, short: usize) -> Line {
+pub fn reads(file: &[u8], at: State, stage: usize, i: usize, k: usize) -> Line {
     match k {
-        0 => two(title, i, 0),
+        0 => two(of_head(stage, HEAD_SKIPS, ROW_SKIPS), i, 0),
         1 => skips(file, at, 0),
         2 => skips(file, at, 1),
         3 => skips(file, at, 2),
         4 => skips(file, at, 5),
         5 => two(LINE_END, 0, 0),
-        _ => two(short, i, 0),
+        _ => two(of_head(stage, HEAD_SHORT, ROW_SHORT), i, 0),
     }
+}
+
+// One pattern for a header row, another for a data row.
+fn of_head(stage: usize, head: usize, row: usize) -> usize {
+    if stage == HEAD_READS { head } else { row }
 }
 
 // ` @P`, and `!NO/REASON@PLACE` where it is refused: n parameters skipped. Then, from there, whether none is left.
 fn skips(file: &[u8], at: State, n: usize) -> Line {
     match params::skip_n(file, at, n) {
-        Skipped::Past(to) => past(to, params::is_empty(file, to)),
-        Skipped::Refused(f, to) => stopped(f, to, params::is_empty(file, to)),
+        Skipped::Past(to) => past(file, to),
+        Skipped::Refused(f, to) => stopped(past(file, to), f),
     }
 }
 
 // `,1@P` where no parameter is left, `,0@P` where one is, and where the reader then stands.
-fn past(at: State, r: Emptiness) -> Line {
-    match r {
+fn past(file: &[u8], at: State) -> Line {
+    match params::is_empty(file, at) {
         Emptiness::Empty(yes, to) => three(SKIPPED, at.place, flag(yes), to.place),
         Emptiness::Refused(f, _) => mark_after(SKIPPED_REFUSED, at.place, f),
     }
 }
 
-fn stopped(f: Fault, at: State, r: Emptiness) -> Line {
-    let p = error::place(f);
-    match r {
-        Emptiness::Empty(yes, to) => eight(
-            STOPPED,
-            at.place,
-            number(f),
-            reason(f),
-            p,
-            flag(yes),
-            to.place,
-            0,
-            0,
-        ),
-        Emptiness::Refused(g, _) => eight(
-            STOPPED_REFUSED,
-            at.place,
-            number(f),
-            reason(f),
-            p,
-            number(g),
-            reason(g),
-            error::place(g),
-            0,
-        ),
+// The same behind the refusal.
+fn stopped(l: Line, f: Fault) -> Line {
+    Line {
+        pattern: if l.pattern == SKIPPED {
+            STOPPED
+        } else {
+            STOPPED_REFUSED
+        },
+        a: l.a,
+        b: error::number(f) as u64,
+        c: error::reason(f) as u64,
+        d: error::place(f) as u64,
+        e: l.b,
+        f: l.c,
+        g: l.d,
+        h: 0,
     }
 }
 
@@ -114,13 +112,12 @@ pub fn outside(file: &[u8], i: usize) -> Line {
 
 fn answer(file: &[u8], at: State, k: usize) -> Line {
     match k {
-        1 => opened(params::new(file, at.place, at.end)),
-        2 => skipped(params::skip_n(file, at, 0)),
-        3 => emptiness(params::is_empty(file, at)),
-        4 => reference(scalars::next_ref(file, at)),
-        5 => spanned(lookup::args_of(file, row_of(at))),
-        6 => spanned(lookup::keyword(file, row_of(at))),
-        _ => part(parts::complex_part(file, at.place, at.end, 1, Kind::Other)),
+        1 => opened(file, at),
+        2 => skipped(file, at),
+        3 => emptiness(file, at),
+        4 => reference(file, at),
+        5 | 6 => spanned(file, row_of(at), k),
+        _ => part(file, at),
     }
 }
 
@@ -143,43 +140,48 @@ pub fn answered() -> Line {
     two(ANSWERED, 0, 0)
 }
 
-fn opened(r: Opened) -> Line {
-    match r {
+fn opened(file: &[u8], at: State) -> Line {
+    match params::new(file, at.place, at.end) {
         Opened::Reader(_) => answered(),
         Opened::Refused(f) => mark(MARK, f),
     }
 }
 
-fn skipped(r: Skipped) -> Line {
-    match r {
+fn skipped(file: &[u8], at: State) -> Line {
+    match params::skip_n(file, at, 0) {
         Skipped::Past(_) => answered(),
         Skipped::Refused(f, _) => mark(MARK, f),
     }
 }
 
-fn emptiness(r: Emptiness) -> Line {
-    match r {
+fn emptiness(file: &[u8], at: State) -> Line {
+    match params::is_empty(file, at) {
         Emptiness::Empty(_, _) => answered(),
         Emptiness::Refused(f, _) => mark(MARK, f),
     }
 }
 
-fn reference(r: NextRef) -> Line {
-    match r {
+fn reference(file: &[u8], at: State) -> Line {
+    match scalars::next_ref(file, at) {
         NextRef::Value(_, _) => answered(),
         NextRef::Refused(f, _) => mark(MARK, f),
     }
 }
 
-fn spanned(r: Spanned) -> Line {
+fn spanned(file: &[u8], row: RecordSpan, k: usize) -> Line {
+    let r = if k == 5 {
+        lookup::args_of(file, row)
+    } else {
+        lookup::keyword(file, row)
+    };
     match r {
         Spanned::Span(_) => answered(),
         Spanned::Refused(f) => mark(MARK, f),
     }
 }
 
-fn part(r: Next) -> Line {
-    match r {
+fn part(file: &[u8], at: State) -> Line {
+    match parts::complex_part(file, at.place, at.end, 1, Kind::Other) {
         Next::Over => answered(),
         Next::Is(_) => answered(),
         Next::Refused(f) => mark(MARK, f),

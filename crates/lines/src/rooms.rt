@@ -59,28 +59,32 @@ pub const FOR_READ: usize = 5;
 
 pub const FOR_TABLES: usize = 6;
 
-pub fn needed(c: Course, t: Tables) -> usize {
+pub fn needed(c: Course, records: usize) -> usize {
     let stage = c.stage;
     let i = c.i;
     let k = c.k;
     match stage {
-        HEAD_WALKS | ROW_WALKS | PART_WALKS => where_so(k >= STR && k < SKIP, FOR_VALUES),
-        HEAD_READS | ROW_READS => where_so(k >= FIRST_SHORT, FOR_VALUES),
-        TITLES => where_so(i < 2, FOR_TITLE),
-        KINDS => where_so(k == 0, FOR_KIND),
-        KEEPS => where_so(i < 3, FOR_KEPT),
-        READS => where_so(i < read_lines(t), FOR_READ),
-        FULL => where_so(i >= 1 && i <= 3, FOR_TABLES),
+        HEAD_WALKS | ROW_WALKS | PART_WALKS => within(k, STR, SKIP, FOR_VALUES),
+        HEAD_READS | ROW_READS => within(k, FIRST_SHORT, usize::MAX, FOR_VALUES),
+        TITLES => within(i, 0, 2, FOR_TITLE),
+        KINDS => within(k, 0, 1, FOR_KIND),
+        KEEPS => within(i, 0, 3, FOR_KEPT),
+        READS => within(i, 0, read_lines(records), FOR_READ),
+        FULL => within(i, 1, 4, FOR_TABLES),
         _ => NO_ROOM,
     }
 }
 
-fn where_so(yes: bool, room: usize) -> usize {
-    if yes { room } else { NO_ROOM }
+// A room for the numbers from one up to another.
+fn within(n: usize, from: usize, to: usize, room: usize) -> usize {
+    if n < from {
+        return NO_ROOM;
+    }
+    if n < to { room } else { NO_ROOM }
 }
 
-fn read_lines(t: Tables) -> usize {
-    if t.records == 0 { 1 } else { 4 }
+fn read_lines(records: usize) -> usize {
+    if records == 0 { 1 } else { 4 }
 }
 
 // The piece of a row's lines behind `short` that is the first reader's.
@@ -192,37 +196,35 @@ pub fn read_share(len: usize, n: usize, i: usize) -> Share {
 }
 
 // `kept N HEX`: the rows as they are kept. Of other lines how many, or the refusal; `-` where no room is too short.
-pub fn kept_line(n: usize, i: usize, r: Kept) -> Line {
+pub fn kept_line(i: usize, r: Kept) -> Line {
     let word = std::num::wrapping_add_usize(KEPT, i);
-    if i == 1 && n == 0 {
-        return two(KEPT_NONE, word, 0);
-    }
-    match r {
-        Kept::Refused(f) => mark_after(TITLE_REFUSED, word, f),
-        Kept::Rows(m) => eight(
-            if i == 0 { KEPT_BYTES } else { KEPT_COUNT },
-            word,
-            m,
-            0,
-            size(m),
-            0,
-            0,
-            0,
-            0,
-        ),
+    match i {
+        0 => told(word, KEPT_BYTES, KEPT_BYTES, r),
+        1 => told(word, KEPT_COUNT, KEPT_NONE, r),
+        _ => told(word, KEPT_COUNT, KEPT_COUNT, r),
     }
 }
 
 // `read N`: the rows as they are read again, `-` where there is none to be read.
-pub fn read_line(n: usize, i: usize, r: Kept) -> Line {
-    let word = std::num::wrapping_add_usize(READ, i);
-    if n == 0 {
-        return two(KEPT_NONE, word, 0);
-    }
+pub fn read_line(i: usize, r: Kept) -> Line {
+    told(
+        std::num::wrapping_add_usize(READ, i),
+        KEPT_COUNT,
+        KEPT_NONE,
+        r,
+    )
+}
+
+// A line of one pattern, of another where there are no rows.
+fn told(word: usize, pattern: usize, bare: usize, r: Kept) -> Line {
     match r {
         Kept::Refused(f) => mark_after(TITLE_REFUSED, word, f),
-        Kept::Rows(m) => two(KEPT_COUNT, word, m),
+        Kept::Rows(n) => counted(if n == 0 { bare } else { pattern }, word, n),
     }
+}
+
+fn counted(pattern: usize, word: usize, n: usize) -> Line {
+    eight(pattern, word, n, 0, size(n), 0, 0, 0, 0)
 }
 
 // What is lent for the tables: numbers of header rows, of data rows, and slots.

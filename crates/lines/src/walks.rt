@@ -28,13 +28,12 @@ pub fn head(heads: &[u32], t: Tables, i: usize) -> Line {
 pub fn row(rows: &[u32], t: Tables, i: usize) -> Line {
     match lookup::entity(rows, t, i) {
         Entry::Nothing => none(),
-        Entry::Row(r) => three(
-            if r.complex == 1 { EMPTY } else { WALK_ROW },
-            i,
-            r.args.start,
-            r.args.end,
-        ),
+        Entry::Row(r) => three(row_title(r.complex), i, r.args.start, r.args.end),
     }
+}
+
+fn row_title(complex: u32) -> usize {
+    if complex == 1 { EMPTY } else { WALK_ROW }
 }
 
 // `part I K KS KE AS AE`, or `part I NO/REASON@PLACE`

@@ -1,7 +1,6 @@
 // From case to case.
-ghost use Prim.Native.Nat.{_≤_};
+use crate::rooms::tell;
 use index::Ids;
-use input::Feed;
 use intake::CUT;
 use intake::GOOD;
 use intake::LONG;
@@ -15,81 +14,113 @@ use lookup::Tables;
 use store::Opened;
 use text::Line;
 use text::Pen;
+ghost use Prim.Native.Nat.{_≤_};
 
-pub struct Run {
-    // Where standard input stands in the chunk that was read of it, and how far the output's buffer is used.
-    pub feed: Feed,
-    pub pen: Pen,
-    // The number of the next case; how many bytes this one has, its tables, and at which line it stands.
+// A case as it was taken, and how it is told.
+pub struct Order {
     pub number: usize,
+    pub why: usize,
     pub count: usize,
-    pub t: Tables,
-    pub course: Course,
-    // The stage of a case's first line, which is the program's; how many cases are told with the walks of their records' arguments.
+    pub size: usize,
+    // The stage of its first line, which is the program's, and whether the walks of its records' arguments are told.
     pub first: usize,
-    pub walks: usize,
-    // Whether the cases are files that arguments name.
-    pub named: bool,
+    pub walks: bool,
 }
 
-// A run that has taken nothing yet.
-pub fn start(first: usize, walks: usize) -> Run {
-    Run {
-        feed: input::start(),
-        pen: text::fresh(),
-        number: 0,
-        count: 0,
-        t: no_tables(),
-        course: lines::on(lines::TAKE, false),
-        first,
-        walks,
-        named: intake::named(),
-    }
-}
-
-fn no_tables() -> Tables {
-    Tables {
-        headers: 0,
-        records: 0,
-        max: 0,
-        ids: Ids {
-            count: 0,
-            first: 0,
-            last: 0,
-            direct: false,
-            distinct: false,
-            even: false,
-            shift: 0,
-        },
-    }
-}
-
-// Whether there may be more to tell, and whether that is a case to be taken.
-pub fn goes_on(r: Run) -> bool {
-    r.course.stage != lines::OVER
-}
-
-pub fn takes(r: Run) -> bool {
-    r.course.stage == lines::TAKE
-}
-
-// Takes the next case, opens it and tells its number; or tells why it is not told. The rooms are lent for a chunk of the input, the file,
-// its header rows, data rows and id slots, and for the output.
-pub fn begin(
+// Tells all cases, or as many as 64 bits count; so many of them with the walks. The rooms are lent for a chunk of the input, the file, its
+// header rows, data rows and id slots, for texts, references, integers, reals and row ends, and for the output.
+pub fn all(
     chunk: &mut [u8],
     file: &mut [u8],
     heads: &mut [u32],
     rows: &mut [u32],
     slots: &mut [u64],
+    chars: &mut [u8],
+    refs: &mut [u32],
+    ints: &mut [i64],
+    reals: &mut [f64],
+    ends: &mut [usize],
     out: &mut [u8],
-    r: Run,
-) -> Run {
-    let got = taken(chunk, file, r.feed, r.number, r.named);
-    let n = least(told_of(got), file.len());
-    let opened = store::open(&file[..n], heads, rows, slots);
-    let table = lines::TABLE;
-    let pen = text::form(out, r.pen, &table, b"", title(got, r.number, opened));
-    begun(r, got, opened, pen)
+    first: usize,
+    walks: usize,
+) {
+    let mut got = intake::start();
+    let mut pen = text::fresh();
+    let mut number = 0;
+    while number < usize::MAX && goes_on(got.why) {
+        got = intake::take(chunk, file, got.feed, number);
+        pen = case(
+            file,
+            heads,
+            rows,
+            slots,
+            chars,
+            refs,
+            ints,
+            reals,
+            ends,
+            out,
+            pen,
+            order_of(got, number, first, walks),
+        );
+        number += 1;
+    }
+    finish(out, pen, intake::failed(got));
+}
+
+// Whether there may be another case.
+fn goes_on(why: usize) -> bool {
+    match why {
+        OVER | MALFORMED | CUT | LONG_CUT => false,
+        _ => true,
+    }
+}
+
+fn order_of(got: Taken, number: usize, first: usize, walks: usize) -> Order {
+    Order {
+        number,
+        why: got.why,
+        count: got.count,
+        size: got.size,
+        first,
+        walks: number < walks,
+    }
+}
+
+// Opens a case, tells its number and then its lines; or tells why it is not told.
+fn case(
+    file: &[u8],
+    heads: &mut [u32],
+    rows: &mut [u32],
+    slots: &mut [u64],
+    chars: &mut [u8],
+    refs: &mut [u32],
+    ints: &mut [i64],
+    reals: &mut [f64],
+    ends: &mut [usize],
+    out: &mut [u8],
+    pen: Pen,
+    k: Order,
+) -> Pen {
+    let n = least(told_of(k), file.len());
+    let s = &file[..n];
+    let opened = store::open(s, heads, rows, slots);
+    let titled = put(out, pen, title(k, opened));
+    tell(
+        s,
+        heads,
+        rows,
+        slots,
+        chars,
+        refs,
+        ints,
+        reals,
+        ends,
+        out,
+        titled,
+        tables_of(opened),
+        course_of(k, opened),
+    )
 }
 
 pub fn least(a: usize, b: usize) -> usize
@@ -98,32 +129,22 @@ pub fn least(a: usize, b: usize) -> usize
     if a < b { a } else { b }
 }
 
-fn taken(chunk: &mut [u8], file: &mut [u8], feed: Feed, number: usize, named: bool) -> Taken {
-    if named {
-        return intake::take_named(file, feed, after(number));
-    }
-    intake::take(chunk, file, feed)
-}
-
 // How many bytes of the room are a case that is told.
-fn told_of(got: Taken) -> usize {
-    if got.why == GOOD { got.count } else { 0 }
-}
-
-fn after(n: usize) -> usize {
-    std::num::wrapping_add_usize(n, 1)
+fn told_of(k: Order) -> usize {
+    if k.why == GOOD { k.count } else { 0 }
 }
 
 // `case I`, and the refusal of the scan, or what else became of the case.
-fn title(got: Taken, number: usize, r: Opened) -> Line {
-    let why = got.why;
+fn title(k: Order, r: Opened) -> Line {
+    let why = k.why;
+    let number = k.number;
     match why {
         GOOD => opened_line(number, r),
         OVER => lines::none(),
         MALFORMED => lines::three(lines::MALFORMED, 0, 0, 0),
-        CUT => lines::three(lines::CUT, number, got.count, got.size),
+        CUT => lines::three(lines::CUT, number, k.count, k.size),
         LONG => lines::three(lines::LONG, number, 0, 0),
-        LONG_CUT => lines::three(lines::LONG_CUT, number, got.count, got.size),
+        LONG_CUT => lines::three(lines::LONG_CUT, number, k.count, k.size),
         UNOPENED => lines::three(lines::UNOPENED, number, 0, 0),
         _ => lines::three(lines::UNREAD, number, 0, 0),
     }
@@ -136,65 +157,62 @@ fn opened_line(number: usize, r: Opened) -> Line {
     }
 }
 
-// The run once a case is taken: at its first line where it is told, else at the next case, or over.
-fn begun(r: Run, got: Taken, o: Opened, pen: Pen) -> Run {
-    let feed = got.feed;
-    let stage = stage_of(got.why, o, r.first);
-    Run {
-        feed,
-        pen,
-        number: after(r.number),
-        count: got.count,
-        t: tables_of(o),
-        course: lines::on(stage, r.number < r.walks),
-        first: r.first,
-        walks: r.walks,
-        named: r.named,
+// At the first line of a case that is told, else over.
+fn course_of(k: Order, r: Opened) -> Course {
+    match r {
+        Opened::Good(_) => lines::on(if k.why == GOOD { k.first } else { lines::OVER }, k.walks),
+        Opened::Refused(_) => lines::on(lines::OVER, false),
     }
 }
 
-fn stage_of(why: usize, o: Opened, first: usize) -> usize {
-    match why {
-        GOOD => match o {
-            Opened::Good(_) => first,
-            Opened::Refused(_) => lines::TAKE,
-        },
-        OVER | MALFORMED | CUT | LONG_CUT => lines::OVER,
-        _ => lines::TAKE,
-    }
-}
-
-fn tables_of(o: Opened) -> Tables {
-    match o {
+fn tables_of(r: Opened) -> Tables {
+    match r {
         Opened::Good(t) => t,
-        Opened::Refused(_) => no_tables(),
+        Opened::Refused(_) => Tables {
+            headers: 0,
+            records: 0,
+            max: 0,
+            ids: Ids {
+                count: 0,
+                first: 0,
+                last: 0,
+                direct: false,
+                distinct: false,
+                even: false,
+                shift: 0,
+            },
+        },
     }
 }
 
-// The run once a line is put.
-pub fn put(r: Run, pen: Pen, course: Course) -> Run {
-    let mut v = r;
-    v.pen = pen;
-    v.course = course;
-    v
+// Puts a line that shows no part of a file.
+fn put(out: &mut [u8], pen: Pen, l: Line) -> Pen {
+    let table = lines::table();
+    text::form(out, pen, &table, b"", l)
 }
 
 // Writes out what the buffer still holds. Where standard input could not be read, it says so.
-pub fn finish(out: &mut [u8], r: Run) {
-    let feed = r.feed;
-    let pen = r.pen;
-    if feed.failed == 0 {
-        text::finish(out, pen);
-        return;
+fn finish(out: &mut [u8], pen: Pen, failed: bool) {
+    if failed {
+        os::fail(b"standard input");
     }
-    os::fail(b"standard input");
-    let table = lines::TABLE;
-    let said = text::form(
+    end(
         out,
         pen,
-        &table,
-        b"",
-        lines::three(lines::NO_INPUT, 0, 0, 0),
+        if failed {
+            lines::NO_INPUT
+        } else {
+            lines::SILENT
+        },
     );
+}
+
+fn end(out: &mut [u8], pen: Pen, pattern: usize) {
+    let said = put(out, pen, lines::three(pattern, 0, 0, 0));
     text::finish(out, said);
+}
+
+// Says how `answers` is used.
+pub fn help(out: &mut [u8]) {
+    end(out, text::fresh(), lines::HELP);
 }

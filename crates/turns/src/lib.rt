@@ -3,10 +3,5 @@
 mod cases;
 mod rooms;
 
-pub use cases::Run;
-pub use cases::begin;
-pub use cases::finish;
-pub use cases::goes_on;
-pub use cases::start;
-pub use cases::takes;
-pub use rooms::told;
+pub use cases::all;
+pub use cases::help;

@@ -1,7 +1,6 @@
-// The next line of a case, with the rooms that it may need.
-use crate::cases::Run;
+// The lines of a case, with the rooms that they may need.
 use crate::cases::least;
-use crate::cases::put;
+use grids::NextGrid;
 use lines::Course;
 use lines::F64_LIST;
 use lines::FOR_KEPT;
@@ -16,97 +15,149 @@ use lines::REF_LIST;
 use lines::Reading;
 use lines::STR;
 use lines::Wanted;
+use lists::NextList;
 use lookup::Tables;
+use params::State;
 use text::Line;
 use text::Pen;
 
-// Tells the next line. The rooms are lent for the file, its header rows, data rows and id slots, for texts, references, integers, reals and
-// row ends, and for the output. Rows are kept in the room for texts, and read again into that for references.
-pub fn told(
-    file: &[u8],
+// Tells all lines of a case, or as many as 64 bits count. Rows are kept in the room for texts, and read again into that for references.
+pub fn tell(
+    s: &[u8],
     heads: &mut [u32],
     rows: &mut [u32],
     slots: &mut [u64],
     chars: &mut [u8],
     refs: &mut [u32],
-    wholes: &mut [i64],
+    ints: &mut [i64],
     reals: &mut [f64],
     ends: &mut [usize],
     out: &mut [u8],
-    r: Run,
-) -> Run {
-    let n = least(r.count, file.len());
-    let s = &file[..n];
-    let line = next_line(
-        s,
-        heads,
-        rows,
-        slots,
-        chars,
-        refs,
-        wholes,
-        reals,
-        ends,
-        r.t,
-        r.course,
-    );
-    let shown = source(s, &chars[..], lines::in_room(line));
-    let table = lines::TABLE;
-    let pen = put_line(&table, shown, refs, wholes, reals, ends, out, r.pen, line);
-    put(r, pen, lines::onward(r.course, line))
+    pen: Pen,
+    t: Tables,
+    course: Course,
+) -> Pen {
+    let table = lines::table();
+    let mut last = pen;
+    let mut c = course;
+    let mut left = u64::MAX;
+    while left > 0 && c.stage != lines::OVER {
+        left -= 1;
+        let line = next_line(s, heads, rows, slots, chars, refs, ints, reals, ends, t, c);
+        let shown = source(s, &chars[..], lines::in_room(line));
+        last = put_line(&table, shown, refs, ints, reals, ends, out, last, line);
+        c = lines::onward(c, line);
+    }
+    last
 }
 
 // The next line: by itself, or of what is read into the rooms.
 fn next_line(
-    file: &[u8],
+    s: &[u8],
     heads: &mut [u32],
     rows: &mut [u32],
     slots: &mut [u64],
     chars: &mut [u8],
     refs: &mut [u32],
-    wholes: &mut [i64],
+    ints: &mut [i64],
     reals: &mut [f64],
     ends: &mut [usize],
     t: Tables,
     c: Course,
 ) -> Line {
-    let room = lines::needed(c, t);
+    let room = lines::needed(c, t.records);
     match room {
-        NO_ROOM => lines::next(file, heads, rows, slots, refs, t, c),
-        FOR_VALUES => {
-            let r = lines::reading_next(heads, rows, t, c);
-            read(file, r, chars, refs, wholes, reals, ends)
-        }
-        FOR_TITLE => title(file, heads, t, c.i, chars),
-        FOR_KIND => kind(file, rows, slots, t, c.i, chars),
-        FOR_TABLES => opened(file, t, c.i, heads, rows, slots),
-        _ => kept_rows(file.len(), rows, t.records, room, c.i, chars, refs),
+        NO_ROOM => lines::next(s, heads, rows, slots, refs, t, c),
+        FOR_VALUES => read(
+            s,
+            lines::reading_next(heads, rows, t, c),
+            chars,
+            refs,
+            ints,
+            reals,
+            ends,
+        ),
+        _ => special(s, heads, rows, slots, chars, refs, t, room, c.i),
     }
 }
 
 // A text, a list or a grid at a parameter.
 fn read(
-    file: &[u8],
+    s: &[u8],
     r: Reading,
     chars: &mut [u8],
     refs: &mut [u32],
-    wholes: &mut [i64],
+    ints: &mut [i64],
     reals: &mut [f64],
     ends: &mut [usize],
 ) -> Line {
-    let at = r.at;
     let reader = r.reader;
-    let n = least(r.room, chars.len());
-    let m = least(r.room, refs.len());
     match reader {
-        STR => lines::text_line(words::next_str(file, at, &mut chars[..n])),
-        REF_LIST => lines::list_line(reader, lists::next_ref_list(file, at, &mut refs[..m])),
-        I64_LIST => lines::list_line(reader, lists::next_i64_list(file, at, wholes)),
-        F64_LIST => lines::list_line(reader, lists::next_f64_list(file, at, reals)),
-        REF_GRID => {
-            lines::grid_line(reader, grids::next_ref_grid(file, at, &mut refs[..m], ends))
+        STR => text(s, r.at, r.room, chars),
+        REF_LIST | I64_LIST | F64_LIST => {
+            lines::list_line(reader, list(s, r.at, reader, r.room, refs, ints, reals))
         }
-        _ => lines::grid_line(reader, grids::next_f64_grid(file, at, reals, ends)),
+        _ => lines::grid_line(reader, grid(s, r.at, reader, r.room, refs, reals, ends)),
+    }
+}
+
+fn text(s: &[u8], at: State, room: usize, chars: &mut [u8]) -> Line {
+    let n = least(room, chars.len());
+    lines::text_line(words::next_str(s, at, &mut chars[..n]))
+}
+
+fn list(
+    s: &[u8],
+    at: State,
+    reader: usize,
+    room: usize,
+    refs: &mut [u32],
+    ints: &mut [i64],
+    reals: &mut [f64],
+) -> NextList {
+    match reader {
+        REF_LIST => {
+            let n = least(room, refs.len());
+            lists::next_ref_list(s, at, &mut refs[..n])
+        }
+        I64_LIST => lists::next_i64_list(s, at, ints),
+        _ => lists::next_f64_list(s, at, reals),
+    }
+}
+
+fn grid(
+    s: &[u8],
+    at: State,
+    reader: usize,
+    room: usize,
+    refs: &mut [u32],
+    reals: &mut [f64],
+    ends: &mut [usize],
+) -> NextGrid {
+    if reader == REF_GRID {
+        let n = least(room, refs.len());
+        return grids::next_ref_grid(s, at, &mut refs[..n], ends);
+    }
+    grids::next_f64_grid(s, at, reals, ends)
+}
+
+// What else needs a room.
+fn special(
+    s: &[u8],
+    heads: &mut [u32],
+    rows: &mut [u32],
+    slots: &mut [u64],
+    chars: &mut [u8],
+    refs: &mut [u32],
+    t: Tables,
+    room: usize,
+    i: usize,
+) -> Line {
+    match room {
+        FOR_TITLE => title(s, heads, t, i, chars),
+        FOR_KIND => kind(s, rows, slots, t, i, chars),
+        FOR_TABLES => opened(s, t, i, heads, rows, slots),
+        _ => kept_rows(s.len(), rows, t.records, room, i, chars, refs),
     }
 }
 
@@ -159,7 +210,6 @@ fn kept_rows(
         let share = lines::keep_share(len, records, i);
         let n = least(share.bytes, chars.len());
         return lines::kept_line(
-            records,
             i,
             kept::keep_rows(share.len, rows, records, &mut chars[..n]),
         );
@@ -167,11 +217,7 @@ fn kept_rows(
     let share = lines::read_share(len, records, i);
     let n = least(share.bytes, chars.len());
     let m = least(share.numbers, refs.len());
-    lines::read_line(
-        records,
-        i,
-        kept::read_rows(share.len, &chars[..n], &mut refs[..m]),
-    )
+    lines::read_line(i, kept::read_rows(share.len, &chars[..n], &mut refs[..m]))
 }
 
 // Puts a line, piece by piece. It shows a part of these bytes, or none.
@@ -179,7 +225,7 @@ fn put_line(
     table: &[u8],
     shown: &[u8],
     refs: &[u32],
-    wholes: &[i64],
+    ints: &[i64],
     reals: &[f64],
     ends: &[usize],
     out: &mut [u8],
@@ -190,7 +236,7 @@ fn put_line(
     let mut last = pen;
     let mut k = 0;
     while k < n {
-        let next = lines::piece(l, k, refs, wholes, reals, ends);
+        let next = lines::piece(l, k, refs, ints, reals, ends);
         last = text::form(out, last, table, shown, next);
         k += 1;
     }

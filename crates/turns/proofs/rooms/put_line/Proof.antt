@@ -6,10 +6,10 @@ use Rattle.turns.proofs.rooms.put_line.Statement.{statement}
 use Rattle.turns.proofs.rooms.put_line.Tie as tie
 
 abbrev Inv-loop : tie.InvT-loop
-Inv-loop table shown refs wholes reals ends out₀ l n last₀ k₀ out last k = (k ≤ n) × (length out ≡ length out₀)
+Inv-loop table shown refs ints reals ends out₀ l n last₀ k₀ out last k = (k ≤ n) × (length out ≡ length out₀)
 
 abbrev μ-loop : tie.MeasureT-loop
-μ-loop table shown refs wholes reals ends out₀ l n last₀ k₀ out last k = n - k
+μ-loop table shown refs ints reals ends out₀ l n last₀ k₀ out last k = n - k
 
 piece-count-requires : tie.Need-piece-count-requires Inv-loop μ-loop
 piece-count-requires c κs = search needs
