@@ -1,7 +1,7 @@
 #!/bin/sh
-# Times the program `scale` on hostile unit files, each kind at three lengths, and prints a table in markdown.
+# Times the task `scale` of the program desk on hostile unit files, each kind at three lengths, and prints a table in markdown.
 #
-#   units.sh SCALE_PROGRAM
+#   units.sh DESK_PROGRAM
 #
 # A figure is the least processor time of five runs, less that of a file with one record, in milliseconds and in nanoseconds for each byte
 # of the file.
@@ -17,7 +17,7 @@ ulimit -s 1000000
 
 # Milliseconds of processor time, the least of five runs.
 spent() {
-    python3 - "$1" "$2" <<'END'
+    python3 - "$@" <<'END'
 import os, subprocess, sys
 least = None
 for _ in range(5):
@@ -31,15 +31,15 @@ END
 }
 
 printf 'ISO-10303-21;DATA;#1=A();' >"$work/one"
-floor=$(spent "$1" "$work/one")
+floor=$(spent "$1" scale "$work/one")
 echo "| kind | N | bytes | answer | ms | ns a byte |"
 echo "|---|---|---|---|---|---|"
 while read -r kind sizes; do
     for n in $sizes; do
         python3 "$here/units.py" "$kind" "$n" >"$work/file"
         bytes=$(wc -c <"$work/file")
-        answer=$("$1" "$work/file" | head -n 1)
-        took=$(($(spent "$1" "$work/file") - floor))
+        answer=$("$1" scale "$work/file" | head -n 1)
+        took=$(($(spent "$1" scale "$work/file") - floor))
         echo "| $kind | $n | $bytes | $answer | $took | $((took * 1000000 / bytes)) |"
     done
 done <<END

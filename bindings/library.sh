@@ -19,7 +19,7 @@ set --
 for crate in $crates; do
     archive=$out/lib$crate.a
     # shellcheck disable=SC2046
-    if [ ! -f "$archive" ] || [ -n "$(find $(tools/built_on.sh "$crate") -type f -newer "$archive" | head -n 1)" ]; then
+    if [ ! -f "$archive" ] || [ -n "$(find $(tools/built_on.sh "$crate") crates.txt -type f -newer "$archive" | head -n 1)" ]; then
         echo "library.sh: proving $crate" >&2
         "$rt" staticlib "$crate" >"$out/$crate.log" 2>&1 || { tail -n 20 "$out/$crate.log" >&2; exit 1; }
         touch "$archive"

@@ -3,7 +3,8 @@
 
 A crate's line in crates.txt lists the crates that its own files name, in paths of Rattle (`scan::scan`, `use scan::..`) and of antt
 (`Rattle.scan.`), and no others: the kit finds what these are built on by itself, and whatever a line lists besides is read again for
-nothing. A type whose values a crate reaches without naming it counts as named (REACHED). Prints each line that differs; the status is then 1. With --write it writes them, each line's crates in the order in which crates.txt has them.
+nothing. A type whose values a crate reaches without naming it counts as named (REACHED). Prints each line that differs; the status is
+then 1. With --write it writes them, each line's crates in the order in which crates.txt has them.
 """
 import glob
 import os

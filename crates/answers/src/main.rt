@@ -1,46 +1,26 @@
 // Answers a run of cases, for the comparison with the Rust original: each case of up to 1 MiB where the stack limit allows the rooms for it
 // (`ulimit -s`; the script `step` raises it), and of up to 256 KiB where it does not.
 
+use input::CHUNK;
+use input::MIDDLE_CHARS;
+use input::MIDDLE_ENDS;
+use input::MIDDLE_FILE;
+use input::MIDDLE_HEADERS;
+use input::MIDDLE_NUMBERS;
+use input::MIDDLE_REFS;
+use input::MIDDLE_ROWS;
+use input::MIDDLE_SLOTS;
+use input::SMALL_CHARS;
+use input::SMALL_ENDS;
+use input::SMALL_FILE;
+use input::SMALL_HEADERS;
+use input::SMALL_NUMBERS;
+use input::SMALL_REFS;
+use input::SMALL_ROWS;
+use input::SMALL_SLOTS;
+
 // How many cases of the gate's run are told with the walks: unit files follow, which have many parameters.
 const WALKS: usize = 4219;
-
-// What is read of standard input at once, and written of standard output.
-const CHUNK: usize = 65536;
-
-// Rooms for a case of 256 KiB, whatever it holds, which fit a stack of 8 MiB: a header record takes three bytes or more, a data record six;
-// a byte of a string gives three at most; a reference in a list takes three bytes, another number two, a row of a grid three.
-const SMALL_FILE: usize = 262145;
-
-const SMALL_HEADS: usize = 349528;
-
-const SMALL_ROWS: usize = 262146;
-
-const SMALL_SLOTS: usize = 43691;
-
-const SMALL_CHARS: usize = 786432;
-
-const SMALL_REFS: usize = 87382;
-
-const SMALL_NUMBERS: usize = 131073;
-
-const SMALL_ENDS: usize = 87382;
-
-// The same for a case of 1 MiB.
-const LARGE_FILE: usize = 1048577;
-
-const LARGE_HEADS: usize = 1398104;
-
-const LARGE_ROWS: usize = 1048578;
-
-const LARGE_SLOTS: usize = 174763;
-
-const LARGE_CHARS: usize = 3145728;
-
-const LARGE_REFS: usize = 349526;
-
-const LARGE_NUMBERS: usize = 524289;
-
-const LARGE_ENDS: usize = 349526;
 
 // What the large rooms take of the stack beside the small ones, with something over.
 const NEEDED: u64 = 40000000;
@@ -62,7 +42,7 @@ fn small() {
     let mut chunk = [0u8; CHUNK];
     let mut out = [0u8; CHUNK];
     let mut file = [0u8; SMALL_FILE];
-    let mut heads = [0u32; SMALL_HEADS];
+    let mut heads = [0u32; SMALL_HEADERS];
     let mut rows = [0u32; SMALL_ROWS];
     let mut slots = [0u64; SMALL_SLOTS];
     let mut chars = [0u8; SMALL_CHARS];
@@ -89,7 +69,7 @@ fn small() {
 fn lend_small(
     chunk: &mut [u8; CHUNK],
     file: &mut [u8; SMALL_FILE],
-    heads: &mut [u32; SMALL_HEADS],
+    heads: &mut [u32; SMALL_HEADERS],
     rows: &mut [u32; SMALL_ROWS],
     slots: &mut [u64; SMALL_SLOTS],
     chars: &mut [u8; SMALL_CHARS],
@@ -121,15 +101,15 @@ fn lend_small(
 fn large(limit: u64) {
     let mut chunk = [0u8; CHUNK];
     let mut out = [0u8; CHUNK];
-    let mut file = [0u8; LARGE_FILE];
-    let mut heads = [0u32; LARGE_HEADS];
-    let mut rows = [0u32; LARGE_ROWS];
-    let mut slots = [0u64; LARGE_SLOTS];
-    let mut chars = [0u8; LARGE_CHARS];
-    let mut refs = [0u32; LARGE_REFS];
-    let mut ints = [0i64; LARGE_NUMBERS];
-    let mut reals = [0.0; LARGE_NUMBERS];
-    let mut ends = [0usize; LARGE_ENDS];
+    let mut file = [0u8; MIDDLE_FILE];
+    let mut heads = [0u32; MIDDLE_HEADERS];
+    let mut rows = [0u32; MIDDLE_ROWS];
+    let mut slots = [0u64; MIDDLE_SLOTS];
+    let mut chars = [0u8; MIDDLE_CHARS];
+    let mut refs = [0u32; MIDDLE_REFS];
+    let mut ints = [0i64; MIDDLE_NUMBERS];
+    let mut reals = [0.0; MIDDLE_NUMBERS];
+    let mut ends = [0usize; MIDDLE_ENDS];
     lend_large(
         &mut chunk,
         &mut file,
@@ -153,15 +133,15 @@ fn large(limit: u64) {
 
 fn lend_large(
     chunk: &mut [u8; CHUNK],
-    file: &mut [u8; LARGE_FILE],
-    heads: &mut [u32; LARGE_HEADS],
-    rows: &mut [u32; LARGE_ROWS],
-    slots: &mut [u64; LARGE_SLOTS],
-    chars: &mut [u8; LARGE_CHARS],
-    refs: &mut [u32; LARGE_REFS],
-    ints: &mut [i64; LARGE_NUMBERS],
-    reals: &mut [f64; LARGE_NUMBERS],
-    ends: &mut [usize; LARGE_ENDS],
+    file: &mut [u8; MIDDLE_FILE],
+    heads: &mut [u32; MIDDLE_HEADERS],
+    rows: &mut [u32; MIDDLE_ROWS],
+    slots: &mut [u64; MIDDLE_SLOTS],
+    chars: &mut [u8; MIDDLE_CHARS],
+    refs: &mut [u32; MIDDLE_REFS],
+    ints: &mut [i64; MIDDLE_NUMBERS],
+    reals: &mut [f64; MIDDLE_NUMBERS],
+    ends: &mut [usize; MIDDLE_ENDS],
     out: &mut [u8; CHUNK],
 ) {
     turns::all(

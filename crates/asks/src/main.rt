@@ -2,30 +2,23 @@
 // record, 14, `skip_n` and `is_empty`, rooms that are too short, spans outside the file, kept rows. The rows are shown as they are read
 // again from what was kept. Its lines are compared with those of the Rust original's driver (differential/README.md, `asks`).
 
-// Rooms for a case of 256 KiB, whatever it holds: a header record takes three bytes or more, a data record six, and 24 bytes where it
-// is kept. Of lists and grids one number is read.
-const FILE: usize = 262145;
+use input::CHUNK;
+use input::SMALL_FILE;
+use input::SMALL_HEADERS;
+use input::SMALL_KEPT;
+use input::SMALL_ROWS;
+use input::SMALL_SLOTS;
 
-const HEADS: usize = 349528;
-
-const ROWS: usize = 262146;
-
-const SLOTS: usize = 43691;
-
-const BYTES: usize = 1048584;
-
-// What is read of standard input at once, and written of standard output.
-const CHUNK: usize = 65536;
-
+// Of lists and grids one number is read.
 fn main() {
     let mut chunk = [0u8; CHUNK];
     let mut out = [0u8; CHUNK];
-    let mut file = [0u8; FILE];
-    let mut heads = [0u32; HEADS];
-    let mut rows = [0u32; ROWS];
-    let mut slots = [0u64; SLOTS];
-    let mut bytes = [0u8; BYTES];
-    let mut again = [0u32; ROWS];
+    let mut file = [0u8; SMALL_FILE];
+    let mut heads = [0u32; SMALL_HEADERS];
+    let mut rows = [0u32; SMALL_ROWS];
+    let mut slots = [0u64; SMALL_SLOTS];
+    let mut bytes = [0u8; SMALL_KEPT];
+    let mut again = [0u32; SMALL_ROWS];
     let mut ints = [0i64; 1];
     let mut reals = [0.0; 1];
     let mut ends = [0usize; 1];
@@ -47,12 +40,12 @@ fn main() {
 // An array behind a reference is lent as a slice with no proof of its length.
 fn lend(
     chunk: &mut [u8; CHUNK],
-    file: &mut [u8; FILE],
-    heads: &mut [u32; HEADS],
-    rows: &mut [u32; ROWS],
-    slots: &mut [u64; SLOTS],
-    bytes: &mut [u8; BYTES],
-    again: &mut [u32; ROWS],
+    file: &mut [u8; SMALL_FILE],
+    heads: &mut [u32; SMALL_HEADERS],
+    rows: &mut [u32; SMALL_ROWS],
+    slots: &mut [u64; SMALL_SLOTS],
+    bytes: &mut [u8; SMALL_KEPT],
+    again: &mut [u32; SMALL_ROWS],
     ints: &mut [i64; 1],
     reals: &mut [f64; 1],
     ends: &mut [usize; 1],

@@ -61,7 +61,7 @@ const USAGE: usize = 26;
 
 const ALL_USAGE: usize = 27;
 
-// A line that is empty.
+// A line that is empty. It is also the word of no zeros, and the empty word.
 pub const NOTHING: usize = 33;
 
 // The words that stand in patterns. From `ZEROS` on so many zeros, up to 21; from `WHATS` and `UNITS` on those of a length, an angle and the

@@ -86,16 +86,23 @@ fn shut(fd: i32) {
     }
 }
 
-// A file's name: before each verdict, and on a line of its own where there are several. A pattern 3 there is not.
+// The patterns of a file's name: on a line of its own, and before what is said. 0 is no pattern's number.
+const ALONE: usize = 1;
+
+const BEFORE: usize = 2;
+
+const UNTOLD: usize = 0;
+
+// A file's name: before each verdict, and on a line of its own where there are several.
 fn title(task: Word, several: bool, n: usize) -> Line {
     if n == 0 {
-        return lines::of(3, 0, 0);
+        return lines::of(UNTOLD, 0, 0);
     }
     if let Word::Inspect = task {
-        return lines::of(2, 0, n as u64);
+        return lines::of(BEFORE, 0, n as u64);
     }
     if several {
-        return lines::of(1, 0, n as u64);
+        return lines::of(ALONE, 0, n as u64);
     }
-    lines::of(3, 0, 0)
+    lines::of(UNTOLD, 0, 0)
 }

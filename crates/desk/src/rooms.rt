@@ -7,29 +7,19 @@ use crate::lines;
 use crate::walk;
 use crate::walk::Step;
 use crate::work;
+use input::FEW_HEADERS;
+use input::LARGE_FILE;
+use input::LARGE_HEADERS;
+use input::LARGE_ROWS;
+use input::LARGE_SLOTS;
+use input::MIDDLE_FILE;
+use input::MIDDLE_ROWS;
+use input::MIDDLE_SLOTS;
 use text::Line;
 use text::Pen;
 
 // What the large rooms take of the stack, with something over.
 const NEEDED: u64 = 188000000;
-
-// Rooms for a file of 1 MiB with as many records as it can hold, and 4,096 header records.
-const SMALL_FILE: usize = 1048577;
-
-const SMALL_HEADERS: usize = 16384;
-
-const SMALL_ROWS: usize = 1048578;
-
-const SMALL_SLOTS: usize = 174763;
-
-// Rooms for a file of 64 MiB with a record for every 24 bytes, and 1,048,576 header records.
-const LARGE_FILE: usize = 67108865;
-
-const LARGE_HEADERS: usize = 4194304;
-
-const LARGE_ROWS: usize = 16777218;
-
-const LARGE_SLOTS: usize = 2796203;
 
 // What came of a file: all is said, or it has more records than the rooms and nothing was said yet.
 struct Said {
@@ -51,7 +41,7 @@ pub fn read(limit: u64, task: Word, id: u32, fd: i32, out: &mut [u8], pen: Pen) 
 
 // The same where there are large rooms for a file that outgrows the small ones.
 fn grown(limit: u64, task: Word, id: u32, fd: i32, out: &mut [u8], pen: Pen) -> Pen {
-    if input::size(fd) >= SMALL_FILE as u64 {
+    if input::size(fd) >= MIDDLE_FILE as u64 {
         return large(limit, task, id, fd, out, pen);
     }
     let here = libc::lseek(fd, 0, libc::SEEK_CUR);
@@ -64,10 +54,10 @@ fn grown(limit: u64, task: Word, id: u32, fd: i32, out: &mut [u8], pen: Pen) -> 
 }
 
 fn small(grows: bool, task: Word, id: u32, fd: i32, out: &mut [u8], pen: Pen) -> Said {
-    let mut file = [0u8; SMALL_FILE];
-    let mut headers = [0u32; SMALL_HEADERS];
-    let mut rows = [0u32; SMALL_ROWS];
-    let mut slots = [0u64; SMALL_SLOTS];
+    let mut file = [0u8; MIDDLE_FILE];
+    let mut headers = [0u32; FEW_HEADERS];
+    let mut rows = [0u32; MIDDLE_ROWS];
+    let mut slots = [0u64; MIDDLE_SLOTS];
     lend_small(
         grows,
         task,
@@ -88,10 +78,10 @@ fn lend_small(
     task: Word,
     id: u32,
     fd: i32,
-    file: &mut [u8; SMALL_FILE],
-    headers: &mut [u32; SMALL_HEADERS],
-    rows: &mut [u32; SMALL_ROWS],
-    slots: &mut [u64; SMALL_SLOTS],
+    file: &mut [u8; MIDDLE_FILE],
+    headers: &mut [u32; FEW_HEADERS],
+    rows: &mut [u32; MIDDLE_ROWS],
+    slots: &mut [u64; MIDDLE_SLOTS],
     out: &mut [u8],
     pen: Pen,
 ) -> Said {

@@ -1,6 +1,7 @@
-// What the programs are given: files that arguments name, standard input, and how much stack they may use.
+// What the programs are given: files that arguments name, standard input, how much stack they may use, and the sizes of their rooms there.
 mod feed;
 mod limit;
+mod sizes;
 
 pub use feed::Brought;
 pub use feed::END;
@@ -14,6 +15,29 @@ pub use feed::pass;
 pub use feed::skip;
 pub use feed::start;
 pub use limit::stack_limit;
+pub use sizes::CHUNK;
+pub use sizes::FEW_HEADERS;
+pub use sizes::LARGE_FILE;
+pub use sizes::LARGE_HEADERS;
+pub use sizes::LARGE_ROWS;
+pub use sizes::LARGE_SLOTS;
+pub use sizes::MIDDLE_CHARS;
+pub use sizes::MIDDLE_ENDS;
+pub use sizes::MIDDLE_FILE;
+pub use sizes::MIDDLE_HEADERS;
+pub use sizes::MIDDLE_NUMBERS;
+pub use sizes::MIDDLE_REFS;
+pub use sizes::MIDDLE_ROWS;
+pub use sizes::MIDDLE_SLOTS;
+pub use sizes::SMALL_CHARS;
+pub use sizes::SMALL_ENDS;
+pub use sizes::SMALL_FILE;
+pub use sizes::SMALL_HEADERS;
+pub use sizes::SMALL_KEPT;
+pub use sizes::SMALL_NUMBERS;
+pub use sizes::SMALL_REFS;
+pub use sizes::SMALL_ROWS;
+pub use sizes::SMALL_SLOTS;
 ghost use Prim.Native.Nat.{_≤_};
 ghost use lib.ListN.{length};
 ghost use Rattle.io.specs.Counts.{Counts};

@@ -139,54 +139,52 @@ pub const KEYWORD: usize = 85;
 
 pub const KEYWORD_REFUSED: usize = 86;
 
-pub const NO_KEYWORD: usize = 87;
+pub const KINDS: usize = 87;
 
-pub const KINDS: usize = 88;
+pub const PARTS: usize = 88;
 
-pub const PARTS: usize = 89;
+pub const RECORD_UNITS: usize = 89;
 
-pub const RECORD_UNITS: usize = 90;
+pub const UNITS_REFUSED: usize = 90;
 
-pub const UNITS_REFUSED: usize = 91;
+pub const HEAD_SKIPS: usize = 91;
 
-pub const HEAD_SKIPS: usize = 92;
+pub const ROW_SKIPS: usize = 92;
 
-pub const ROW_SKIPS: usize = 93;
+pub const HEAD_SHORT: usize = 93;
 
-pub const HEAD_SHORT: usize = 94;
+pub const ROW_SHORT: usize = 94;
 
-pub const ROW_SHORT: usize = 95;
+pub const NINE: usize = 95;
 
-pub const NINE: usize = 96;
-
-pub const FULL: usize = 97;
+pub const FULL: usize = 96;
 
 // Rows as they are kept, and as they are read again.
-pub const KEPT: usize = 98;
+pub const KEPT: usize = 97;
 
-pub const READ: usize = 101;
+pub const READ: usize = 100;
 
-pub const KEPT_COUNT: usize = 105;
+pub const KEPT_COUNT: usize = 104;
 
-pub const KEPT_NONE: usize = 106;
+pub const KEPT_NONE: usize = 105;
 
-pub const LONG: usize = 107;
+pub const LONG: usize = 106;
 
-pub const CUT: usize = 108;
+pub const CUT: usize = 107;
 
-pub const LONG_CUT: usize = 109;
+pub const LONG_CUT: usize = 108;
 
-pub const MALFORMED: usize = 110;
+pub const MALFORMED: usize = 109;
 
-pub const UNOPENED: usize = 111;
+pub const UNOPENED: usize = 110;
 
-pub const UNREAD: usize = 112;
+pub const UNREAD: usize = 111;
 
-pub const NO_INPUT: usize = 113;
+pub const NO_INPUT: usize = 112;
 
-pub const HELP: usize = 114;
+pub const HELP: usize = 113;
 
-pub const SIZE: usize = 1569;
+pub const SIZE: usize = 1561;
 
 pub fn table() -> [u8; SIZE] {
     *b"ref\nopt_ref\ni64\nf64\nopt_f64\nmeasure\nenum\nbool\nstr\nref_list\ni64_list\nf64_list\nref_grid\nf64_grid\nskip\n%d\n\
@@ -197,7 +195,7 @@ pub fn table() -> [u8; SIZE] {
     r %d %d %d %d %d %d %d%n\nl %d %d%n\nl %d none%n\nwalk h %d%n\nwalk r %d%n\npart %d %d %d %d %d %d%n\n\
     part %d %d/%d@%d%n\nunits\n%w %h%n\n%w %d/%d@%d%n\nFILE_NAME\nfile_schema\nFile_Description\nNOPE\nf %w %d%n\n\
     f %w none%n\nname\nsystem\ncount %d %d%n\ni %d -\ni %d ?\n\x20%d %d %d %d %d\n\x20%d %d%n\n\x20%d/%d@%d%n\nw %d %h%n\n\
-    w %d %d/%d@%d%n\nw %d %n\ny\nc %d\nu %d\nu %d %d/%d@%d%n\nn h %d\nn r %d\nshort h %d%n\nshort r %d%n\nnine\nfull\nkept\n\
+    w %d %d/%d@%d%n\ny\nc %d\nu %d\nu %d %d/%d@%d%n\nn h %d\nn r %d\nshort h %d%n\nshort r %d%n\nnine\nfull\nkept\n\
     kept short\nkept far\nread\nread cut\nread short\nread far\n%w %d%n\n%w -%n\ncase %d%ntoo long for this program%n\n\
     case %d%nmalformed: the input ends after %d of the case's %d bytes%n\n\
     case %d%ntoo long for this program%nmalformed: the input ends after %d of the case's %d bytes%n\n\
@@ -207,8 +205,8 @@ pub fn table() -> [u8; SIZE] {
     without a file standard input is a run of cases: a length in decimal, LF and so many bytes, again and again%n"
 }
 
-// The pattern of no line, which the table does not have.
-pub const SILENT: usize = 1000;
+// The pattern of no line: those of the table count from 1.
+pub const SILENT: usize = 0;
 
 // A line of a pattern's number and the numbers that stand in it.
 pub fn eight(

@@ -75,7 +75,7 @@ pub fn needed(c: Course, records: usize) -> usize {
     }
 }
 
-// A room for the numbers from one up to another.
+// That room for a number from one up to another, and none for others.
 fn within(n: usize, from: usize, to: usize, room: usize) -> usize {
     if n < from {
         return NO_ROOM;

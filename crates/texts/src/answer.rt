@@ -7,11 +7,12 @@ use input::Feed;
 use strings::Decoded;
 use text::Line;
 
-// The patterns, by their place in the table. NOTHING is in none. Those of a string and of a text have a second one, for no bytes.
+// The patterns, by their place in the table. NOTHING is in none.
 pub const PLAIN: usize = 1;
 
 const TEXT: usize = 2;
 
+// How much further on the pattern for no bytes stands, of either.
 const EMPTY: usize = 2;
 
 const SHORT: usize = 5;
