@@ -7,7 +7,7 @@ use Rattle.turns.proofs.rooms.tell.Tie as tie
 
 abbrev Inv-loop : tie.InvT-loop
 Inv-loop s heads₀ rows₀ slots₀ chars₀ refs₀ ints₀ reals₀ ends₀ out₀ t table last₀ c₀ left₀ heads rows slots chars refs ints reals ends out last c left =
-    (length heads ≡ length heads₀) × (length rows ≡ length rows₀) × (length slots ≡ length slots₀) × (length chars ≡ length chars₀) × (length refs ≡ length refs₀) × (length ints ≡ length ints₀) × (length reals ≡ length reals₀) × (length ends ≡ length ends₀) × (length out ≡ length out₀) × (1569 ≡ length table)
+    (length heads ≡ length heads₀) × (length rows ≡ length rows₀) × (length slots ≡ length slots₀) × (length chars ≡ length chars₀) × (length refs ≡ length refs₀) × (length ints ≡ length ints₀) × (length reals ≡ length reals₀) × (length ends ≡ length ends₀) × (length out ≡ length out₀) × (1561 ≡ length table)
 
 abbrev μ-loop : tie.MeasureT-loop
 μ-loop s heads₀ rows₀ slots₀ chars₀ refs₀ ints₀ reals₀ ends₀ out₀ t table last₀ c₀ left₀ heads rows slots chars refs ints reals ends out last c left =
