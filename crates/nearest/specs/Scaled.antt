@@ -11,7 +11,7 @@ use Rattle.nearest.specs.Units.{infinity}
 use Rattle.nearest.specs.Near.{Cmp, cmp, near, near-digits}
 
 -- what `compare` answers is told by the order
-order-is : (o p : Ordering) (a b : ℕ) → Cmp o a b → Cmp p a b → o ≡ p
+pub order-is : (o p : Ordering) (a b : ℕ) → Cmp o a b → Cmp p a b → o ≡ p
 order-is Ordering·lt Ordering·lt a b h k = refl
 order-is Ordering·lt Ordering·eq a b h k = absurd (omega arith)
 order-is Ordering·lt Ordering·gt a b h k = absurd (omega arith)

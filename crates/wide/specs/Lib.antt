@@ -1,0 +1,5 @@
+pub mod Cut
+pub mod Told
+pub mod Long
+pub mod Pattern
+pub mod Tens

@@ -1,0 +1,176 @@
+-- Long multiplication and long division in whole numbers, and moving a number up to a known length. Assumes nothing.
+use Prim.Native.Nat.{ℕ, zero, suc, _+_, _-_, _*_, _/_, _%_, _^_, _≤_, _<_}
+use mathlib.Core.Path.{_≡_, refl, sym, _∙_, ap, subst}
+use native.Mathlib.Nat.{add-assoc, add-comm, add-left-comm, mul-assoc, mul-comm, mul-left-comm, mul-right-comm, mul-add, add-mul, mul-le-mul, mul-le-mul-left, mul-le-mul-right, mod-lt, mod-eq-of-lt, div-add-mod', div-lt-iff-lt-mul, le-of-lt, le-trans, lt-of-le-of-lt, mul-one, suc-mul, one-mul, lt-of-mul-lt-mul-right, mul-lt-mul-of-pos-right}
+use native.Mathlib.Omega.{arith}
+use lib.Pow.{pow-pos, pow-add, shl-lt}
+use lib.Count.{leadingZeros, leading-top}
+
+-- ---- moving a number up
+-- a number whose highest digit is digit j, moved up by the s that makes 64 with j + 1
+top : (n j s : ℕ) → 2 ^ j ≤ n → n < 2 ^ suc j → s + suc j ≡ 64 → (2 ^ 63 ≤ n * 2 ^ s) × (n * 2 ^ s < 2 ^ 64)
+top n j s l h e =
+    let a : j + s ≡ 63 = omega arith in
+    let b : suc j + s ≡ 64 = omega arith in (
+      subst (λ (x : ℕ). x ≤ n * 2 ^ s) (sym (pow-add 2 j s) ∙ ap (λ (x : ℕ). 2 ^ x) a) (mul-le-mul-right (2 ^ s) l),
+      subst (λ (x : ℕ). n * 2 ^ s < 2 ^ x) b (shl-lt {a = n} (suc j) s h),
+    )
+
+-- a number is not above itself times a power of two
+up-le : (n s : ℕ) → n ≤ n * 2 ^ s
+up-le n s = subst (λ (x : ℕ). x ≤ n * 2 ^ s) (mul-one n) (mul-le-mul-left n (pow-pos s))
+
+-- what the code's `lift` computes: moved up by the zeros above it, `spare` of them left
+pub lifts : (n spare : ℕ) → 0 < n → n * 2 ^ spare < 2 ^ 64
+    → (n * 2 ^ leadingZeros 64 (n * 2 ^ spare % 2 ^ 64) % 2 ^ 64 ≡ n * 2 ^ leadingZeros 64 (n * 2 ^ spare % 2 ^ 64))
+    × (2 ^ 63 ≤ n * 2 ^ leadingZeros 64 (n * 2 ^ spare % 2 ^ 64) % 2 ^ 64 * 2 ^ spare)
+    × (n * 2 ^ leadingZeros 64 (n * 2 ^ spare % 2 ^ 64) % 2 ^ 64 * 2 ^ spare < 2 ^ 64)
+    × (leadingZeros 64 (n * 2 ^ spare % 2 ^ 64) < 64)
+lifts n spare p h = go (n * 2 ^ spare % 2 ^ 64) (mod-eq-of-lt h)
+  where
+    go : (N : ℕ) → N ≡ n * 2 ^ spare → (n * 2 ^ leadingZeros 64 N % 2 ^ 64 ≡ n * 2 ^ leadingZeros 64 N) × (2 ^ 63 ≤ n * 2 ^ leadingZeros 64 N % 2 ^ 64 * 2 ^ spare) × (n * 2 ^ leadingZeros 64 N % 2 ^ 64 * 2 ^ spare < 2 ^ 64) × (leadingZeros 64 N < 64)
+    go N e =
+        let l : n ≤ n * 2 ^ spare = up-le n spare in
+        let a : 0 < N = omega arith in
+        let b : N < 2 ^ 64 = omega arith in
+        let t = leading-top 64 N a b in
+        let s = leadingZeros 64 N in
+        let r = top N (t .0) s (t .2) (t .3) (t .1) in
+        let f : N * 2 ^ s ≡ n * 2 ^ s * 2 ^ spare = ap (λ (x : ℕ). x * 2 ^ s) e ∙ mul-right-comm n (2 ^ spare) (2 ^ s) in
+        let g : n * 2 ^ s ≤ n * 2 ^ s * 2 ^ spare = up-le (n * 2 ^ s) spare in
+        let low : 2 ^ 63 ≤ N * 2 ^ s = r .0 in
+        let high : N * 2 ^ s < 2 ^ 64 = r .1 in
+        let m : n * 2 ^ s % 2 ^ 64 ≡ n * 2 ^ s = mod-eq-of-lt (omega arith) in
+        let z : s + suc (t .0) ≡ 64 = t .1 in (
+          m,
+          subst (λ (x : ℕ). 2 ^ 63 ≤ x * 2 ^ spare) (sym m) (omega arith),
+          subst (λ (x : ℕ). x * 2 ^ spare < 2 ^ 64) (sym m) (omega arith),
+          omega arith,
+        )
+
+-- ---- multiplication, by columns of 32 digits
+-- the two factors by their halves
+halves : (P a₁ a₀ b₁ b₀ : ℕ) → (a₁ * P + a₀) * (b₁ * P + b₀) ≡ a₁ * b₁ * (P * P) + a₁ * b₀ * P + a₀ * b₁ * P + a₀ * b₀
+halves P a₁ a₀ b₁ b₀ = simp (mul-add, add-mul, mul-assoc, mul-comm, mul-left-comm, add-assoc, add-comm, add-left-comm) refl
+
+-- the first column's carry goes to the second
+carry : (P x y z q r : ℕ) → x * (P * P) + y * P + z * P + (q * P + r) ≡ x * (P * P) + (y + q) * P + z * P + r
+carry P x y z q r = simp (mul-add, add-mul, mul-assoc, mul-comm, mul-left-comm, add-assoc, add-comm, add-left-comm) refl
+
+-- the second column's to the upper half
+carry-up : (P x z q r t : ℕ) → x * (P * P) + (q * P + r) * P + z * P + t ≡ (x + q) * (P * P) + (r + z) * P + t
+carry-up P x z q r t = simp (mul-add, add-mul, mul-assoc, mul-comm, mul-left-comm, add-assoc, add-comm, add-left-comm) refl
+
+-- and the third's
+carry-last : (P x q r t : ℕ) → x * (P * P) + (q * P + r) * P + t ≡ (x + q) * (P * P) + (r * P + t)
+carry-last P x q r t = simp (mul-add, add-mul, mul-assoc, mul-comm, mul-left-comm, add-assoc, add-comm, add-left-comm) refl
+
+-- the product by its columns, each with its carry
+columns : (P a₁ a₀ b₁ b₀ q₁ r₁ q₂ r₂ q₃ r₃ : ℕ) → a₀ * b₀ ≡ q₁ * P + r₁ → a₁ * b₀ + q₁ ≡ q₂ * P + r₂ → r₂ + a₀ * b₁ ≡ q₃ * P + r₃ → (a₁ * P + a₀) * (b₁ * P + b₀) ≡ (a₁ * b₁ + q₂ + q₃) * (P * P) + (r₃ * P + r₁)
+columns P a₁ a₀ b₁ b₀ q₁ r₁ q₂ r₂ q₃ r₃ e f g =
+    halves P a₁ a₀ b₁ b₀
+    ∙ ap (λ (x : ℕ). a₁ * b₁ * (P * P) + a₁ * b₀ * P + a₀ * b₁ * P + x) e
+    ∙ carry P (a₁ * b₁) (a₁ * b₀) (a₀ * b₁) q₁ r₁
+    ∙ ap (λ (x : ℕ). a₁ * b₁ * (P * P) + x * P + a₀ * b₁ * P + r₁) f
+    ∙ carry-up P (a₁ * b₁) (a₀ * b₁) q₂ r₂ r₁
+    ∙ ap (λ (x : ℕ). (a₁ * b₁ + q₂) * (P * P) + x * P + r₁) g
+    ∙ carry-last P (a₁ * b₁ + q₂) q₃ r₃ r₁
+
+-- the columns' sums, as the code has them
+abbrev pub first : ℕ → ℕ → ℕ
+first a b = a % 4294967296 * (b % 4294967296)
+
+-- the second column's sum
+abbrev pub second : ℕ → ℕ → ℕ
+second a b = a / 4294967296 * (b % 4294967296) + first a b / 4294967296
+
+-- the third column's sum
+abbrev pub third : ℕ → ℕ → ℕ
+third a b = second a b % 4294967296 + a % 4294967296 * (b / 4294967296)
+
+-- the upper half is the product's, and so is the lower
+pub multiplied : (a b : ℕ) → (a / 4294967296 * (b / 4294967296) + second a b / 4294967296 + third a b / 4294967296) * 18446744073709551616 + (third a b % 4294967296 * 4294967296 + first a b % 4294967296) ≡ a * b
+multiplied a b =
+    let P : ℕ = 4294967296 in
+    sym (columns P (a / P) (a % P) (b / P) (b % P) (first a b / P) (first a b % P) (second a b / P) (second a b % P) (third a b / P) (third a b % P) (sym (div-add-mod' (first a b) P)) (sym (div-add-mod' (second a b) P)) (sym (div-add-mod' (third a b) P)))
+    ∙ ap (λ (x : ℕ). x * (b / P * P + b % P)) (div-add-mod' a P)
+    ∙ ap (λ (x : ℕ). a * x) (div-add-mod' b P)
+
+-- a product of two halves leaves room for a carry from each side
+pub column : (x y : ℕ) → x ≤ 4294967295 → y ≤ 4294967295 → x * y ≤ 18446744065119617025
+column x y h k = mul-le-mul h k
+
+-- ---- division, a digit of 27 binary digits at a time
+module _ (r d : ℕ) where
+  -- the upper part of the divisor, made one larger
+  abbrev pub upper : ℕ
+  upper = d / 134217728 + 1
+
+  -- what is left of r * 2 ^ 27 after so many times the divisor
+  abbrev pub after : ℕ
+  after = r % upper * 134217728 + r / upper * (134217728 - d % 134217728)
+
+  -- that it is
+  pub digit-splits : r / upper * d + after ≡ r * 134217728
+  digit-splits =
+      let q = r / upper in
+      let s = r % upper in
+      let e : q * upper + s ≡ r = div-add-mod' r upper in
+      let f : q * d + q * (134217728 - d % 134217728) ≡ q * (upper * 134217728) = sym (mul-add q d (134217728 - d % 134217728)) ∙ ap (λ (x : ℕ). q * x) (omega arith) in
+      put (q * d) (q * (134217728 - d % 134217728)) (q * (upper * 134217728)) (s * 134217728) (r * 134217728) f
+      (ap (λ (x : ℕ). x + s * 134217728) (sym (mul-assoc q upper 134217728)) ∙ sym (add-mul (q * upper) s 134217728) ∙ ap (λ (x : ℕ). x * 134217728) e)
+    where
+      put : (a b c s t : ℕ) → a + b ≡ c → c + s ≡ t → a + (s + b) ≡ t
+      put a b c s t e f = omega arith
+
+  module _ (least : 2 ^ 62 ≤ d) (most : d < 2 ^ 63) (less : r < d) where
+    -- the digit has 27 binary digits
+    pub digit-lt : r / upper < 134217728
+    digit-lt =
+        let p : 0 < upper = omega arith in
+        let l : r < 134217728 * upper = omega arith in
+        div-lt-iff-lt-mul {k = upper} {x = r} {y = 134217728} p .1 l
+
+    -- what the digit's error may add
+    pub error-le : r / upper * (134217728 - d % 134217728) ≤ 18014398509481984
+    error-le = let l : r / upper < 134217728 = digit-lt in let a : r / upper ≤ 134217728 = omega arith in let b : 134217728 - d % 134217728 ≤ 134217728 = omega arith in mul-le-mul a b
+
+    -- the rest of r by the upper part
+    pub mod-le : r % upper ≤ d / 134217728
+    mod-le = let l : r % upper < upper = mod-lt r (omega arith) in omega arith
+
+    -- the digit is right or one too small
+    pub after-lt : after < d * 2
+    after-lt = let a = error-le in let b = mod-le in omega arith
+
+    -- right
+    pub digit-right : after < d → (r / upper * d + after ≡ r * 134217728) × (after < d)
+    digit-right h = (digit-splits, h)
+
+    -- one too small
+    pub digit-more : d ≤ after → ((r / upper + 1) * d + (after - d) ≡ r * 134217728) × (after - d < d)
+    digit-more h =
+        let a = after-lt in (
+          ap (λ (x : ℕ). x + (after - d)) (add-mul (r / upper) 1 d) ∙ back (r / upper * d) (1 * d) after (one-mul d) h ∙ digit-splits,
+          omega arith,
+        )
+      where
+        back : (a b x : ℕ) → b ≡ d → d ≤ x → a + b + (x - d) ≡ a + x
+        back a b x e h = omega arith
+
+-- a digit of a rest below the divisor is below 2 ^ 27
+pub digit-short : (q s r d : ℕ) → 0 < d → q * d + s ≡ r * 134217728 → r < d → q < 134217728
+digit-short q s r d p e l =
+    lt-of-mul-lt-mul-right d (lt-of-le-of-lt (le-of-eq-add (q * d) s (r * 134217728) e) (subst (λ (x : ℕ). r * 134217728 < x) (mul-comm d 134217728) (mul-lt-mul-of-pos-right l (omega arith))))
+  where
+    le-of-eq-add : (a b c : ℕ) → a + b ≡ c → a ≤ c
+    le-of-eq-add a b c e = omega arith
+
+-- three digits one after the other are the quotient with 54 binary digits below the point
+pub quotient-splits : (n d p a r b s : ℕ) → p * d + n ≡ r → a * d + b ≡ n * 134217728 → s ≡ b * 134217728 → (e f : ℕ) → e * d + f ≡ s → (p * 18014398509481984 + a * 134217728 + e) * d + f ≡ r * 18014398509481984
+quotient-splits n d p a r b s h k g e f l =
+    ap (λ (x : ℕ). x + f) (add-mul (p * 18014398509481984 + a * 134217728) e d ∙ ap (λ (x : ℕ). x + e * d) (add-mul (p * 18014398509481984) (a * 134217728) d ∙ ap (λ (x : ℕ). x + a * 134217728 * d) (mul-right-comm p 18014398509481984 d) ∙ ap (λ (x : ℕ). p * d * 18014398509481984 + x) (mul-right-comm a 134217728 d)))
+    ∙ put (p * d) (a * d) (e * d) h k g l
+  where
+    put : (x y z : ℕ) → x + n ≡ r → y + b ≡ n * 134217728 → s ≡ b * 134217728 → z + f ≡ s → x * 18014398509481984 + y * 134217728 + z + f ≡ r * 18014398509481984
+    put x y z h k g l = omega arith

@@ -1,0 +1,165 @@
+-- From the digits that are kept to the f64's pattern: the machine's count of zeros tells how many are dropped. Assumes nothing.
+use Prim.Native.Nat.{ℕ, zero, suc, _+_, _-_, _*_, _/_, _%_, _^_, _≤_, _<_, min, compare, Ordering, Ordering·lt, Ordering·eq, Ordering·gt}
+use mathlib.Core.Path.{_≡_, refl, sym, _∙_, ap, subst}
+use mathlib.Core.Bool.{Bool, true, false, not, _||_}
+use mathlib.Core.Logic.{inl}
+use native.Mathlib.Nat.{le-div-iff-mul-le, div-lt-iff-lt-mul, div-add-mod', mod-lt, mod-eq-of-lt, lt-of-le-of-lt, lt-of-lt-of-le, lt-of-not-le, lt-irrefl, one-mul, zero-mul, pow-suc, le-trans, mul-le-mul-left, div-mul-le-self}
+use native.Mathlib.Omega.{arith}
+use borrow.Author.Tests.{ne-eqb, lt-ltb, ltb-true, ltb-false}
+use lib.Dec.{T, eqb, ltb}
+use lib.Pow.{pow-pos, pow-add, pow-mono, pow-lt}
+use lib.Count.{leadingZeros, leading-top}
+use lib.Ieee.{nearest, binary64, ofBits, toBits, nanBits}
+use lib.Ieee.Fits.{nearest-le}
+use lib.Ieee.Bits.{toBits-ofBits, nanBits-is}
+use Rattle.nearest.specs.Units.{infinity}
+use Rattle.nearest.specs.Near.{near, near-digits, Cmp, cmp}
+use Rattle.nearest.specs.Scaled.{order-is}
+use Rattle.wide.specs.Cut.{Cut, by, against, near-cut}
+
+-- ---- the rounding, as the code's tests tell it
+-- how `against` answers, by the order of the two numbers
+told : (o : Ordering) (low unit : ℕ) (more : Bool) → Cmp o (low * 2) unit → against low unit more ≡ by o more
+told o low unit more h = ap (λ (p : Ordering). by p more) (order-is (compare (low * 2) unit) o (low * 2) unit (cmp (low * 2) unit) h)
+
+-- the machine's 2 ^ drop
+pub unit-is : (drop : ℕ) → drop < 12 → 1 * 2 ^ drop % 18446744073709551616 ≡ 2 ^ drop
+unit-is drop h = ap (λ (x : ℕ). x % 18446744073709551616) (one-mul (2 ^ drop)) ∙ mod-eq-of-lt (lt-of-lt-of-le (pow-lt h) (pow-mono {i = 12} {j = 64} (omega arith)))
+
+module _ (w drop unit : ℕ) (more : Bool) (e : unit ≡ 2 ^ drop) where
+  -- what the code drops is the rest of w by 2 ^ drop
+  pub dropped-is : w - w / 2 ^ drop * unit ≡ w % 2 ^ drop
+  dropped-is = rest (w / 2 ^ drop * 2 ^ drop) (w % 2 ^ drop) (ap (λ (x : ℕ). w / 2 ^ drop * x) e) (div-add-mod' w (2 ^ drop))
+    where
+      rest : (a b : ℕ) → w / 2 ^ drop * unit ≡ a → a + b ≡ w → w - w / 2 ^ drop * unit ≡ b
+      rest a b f g = omega arith
+
+  -- which is less than that
+  pub dropped-lt : w - w / 2 ^ drop * unit < 2 ^ drop
+  dropped-lt = subst (λ (x : ℕ). x < 2 ^ drop) (sym dropped-is) (mod-lt w (pow-pos drop))
+
+  -- and what is kept, times that, is no more than w
+  pub kept-le : w / 2 ^ drop * unit ≤ w
+  kept-le = part (w / 2 ^ drop * 2 ^ drop) (w % 2 ^ drop) (ap (λ (x : ℕ). w / 2 ^ drop * x) e) (div-add-mod' w (2 ^ drop))
+    where
+      part : (a b : ℕ) → w / 2 ^ drop * unit ≡ a → a + b ≡ w → w / 2 ^ drop * unit ≤ w
+      part a b f g = omega arith
+
+  -- an order of the code's numbers is one of the definition's
+  as-is : (o : Ordering) → Cmp o ((w - w / 2 ^ drop * unit) * 2) unit → against (w % 2 ^ drop) (2 ^ drop) more ≡ by o more
+  as-is o h = told o (w % 2 ^ drop) (2 ^ drop) more (subst (λ (x : ℕ). Cmp o (w % 2 ^ drop * 2) x) e (subst (λ (x : ℕ). Cmp o (x * 2) unit) dropped-is h))
+
+  -- less than half: what is kept
+  pub below-half : (w - w / 2 ^ drop * unit) * 2 < unit → w / 2 ^ drop ≡ nearest (w / 2 ^ drop) (against (w % 2 ^ drop) (2 ^ drop) more)
+  below-half h = ap (nearest (w / 2 ^ drop)) (sym (as-is Ordering·lt h))
+
+  -- more than half, or half and more: one more
+  pub above-half : unit ≤ (w - w / 2 ^ drop * unit) * 2 → ltb unit ((w - w / 2 ^ drop * unit) * 2) || more ≡ true → w / 2 ^ drop + 1 ≡ nearest (w / 2 ^ drop) (against (w % 2 ^ drop) (2 ^ drop) more)
+  above-half g h = go (compare ((w - w / 2 ^ drop * unit) * 2) unit) (cmp ((w - w / 2 ^ drop * unit) * 2) unit) more refl h
+    where
+      one : w / 2 ^ drop + 1 ≡ suc (w / 2 ^ drop)
+      one = omega arith
+
+      go : (o : Ordering) → Cmp o ((w - w / 2 ^ drop * unit) * 2) unit → (b : Bool) → more ≡ b → ltb unit ((w - w / 2 ^ drop * unit) * 2) || b ≡ true → w / 2 ^ drop + 1 ≡ nearest (w / 2 ^ drop) (against (w % 2 ^ drop) (2 ^ drop) more)
+      go Ordering·lt c b m t = absurd (omega arith)
+      go Ordering·eq c true m t = one ∙ ap (nearest (w / 2 ^ drop)) (sym (as-is Ordering·eq c ∙ ap (by Ordering·eq) m))
+      go Ordering·eq c false m t = let l : unit < (w - w / 2 ^ drop * unit) * 2 = ltb-true unit ((w - w / 2 ^ drop * unit) * 2) (sym (or-false (ltb unit ((w - w / 2 ^ drop * unit) * 2))) ∙ t) in absurd (omega arith)
+        where
+          or-false : (a : Bool) → a || false ≡ a
+          or-false true = refl
+          or-false false = refl
+      go Ordering·gt c b m t = one ∙ ap (nearest (w / 2 ^ drop)) (sym (as-is Ordering·gt c))
+
+  -- just half: the even one
+  pub at-half : unit ≤ (w - w / 2 ^ drop * unit) * 2 → ltb unit ((w - w / 2 ^ drop * unit) * 2) || more ≡ false → w / 2 ^ drop + w / 2 ^ drop % 2 ≡ nearest (w / 2 ^ drop) (against (w % 2 ^ drop) (2 ^ drop) more)
+  at-half g h =
+      let k = neither (ltb unit ((w - w / 2 ^ drop * unit) * 2)) more h in
+      let l : (w - w / 2 ^ drop * unit) * 2 ≤ unit = ltb-false unit ((w - w / 2 ^ drop * unit) * 2) (k .0) in
+      let c : (w - w / 2 ^ drop * unit) * 2 ≡ unit = omega arith in
+      ap (nearest (w / 2 ^ drop)) (sym (as-is Ordering·eq c ∙ ap (by Ordering·eq) (k .1)))
+    where
+      neither : (a b : Bool) → a || b ≡ false → (a ≡ false) × (b ≡ false)
+      neither true b h = let z : _≡_ {A = ℕ} 0 1 = cc in absurd (omega arith)
+      neither false b h = (refl, h)
+
+-- ---- the digits that are dropped
+-- powers of two in order have exponents in order
+pow-lt-back : (i j : ℕ) → 2 ^ i < 2 ^ j → i < j
+pow-lt-back i j h = lt-of-not-le (λ (g : j ≤ i). lt-irrefl (2 ^ i) (lt-of-lt-of-le h (pow-mono g)))
+
+-- of w, which has from 54 to 64 digits, so many are dropped that 53 are left
+pub drops : (w : ℕ) → 2 ^ 53 ≤ w → w < 2 ^ 64 → (leadingZeros 64 w ≤ 10) × (2 ^ 52 ≤ w / 2 ^ (11 - leadingZeros 64 w)) × (w / 2 ^ (11 - leadingZeros 64 w) < 2 ^ 53)
+drops w l h =
+    let t = leading-top 64 w (lt-of-lt-of-le (pow-pos 53) l) h in
+    let z = leadingZeros 64 w in
+    let j = t .0 in
+    let e : z + suc j ≡ 64 = t .1 in
+    let g : 53 < suc j = pow-lt-back 53 (suc j) (lt-of-le-of-lt l (t .3)) in
+    let d : 52 + (11 - z) ≡ j = omega arith in
+    let f : 53 + (11 - z) ≡ suc j = omega arith in (
+      omega arith,
+      le-div-iff-mul-le {x = 2 ^ 52} {y = w} (pow-pos (11 - z)) .1 (subst (λ (x : ℕ). x ≤ w) (ap (λ (x : ℕ). 2 ^ x) (sym d) ∙ pow-add 2 52 (11 - z)) (t .2)),
+      div-lt-iff-lt-mul {x = w} {y = 2 ^ 53} (pow-pos (11 - z)) .1 (subst (λ (x : ℕ). w < x) (ap (λ (x : ℕ). 2 ^ x) (sym f) ∙ pow-add 2 53 (11 - z)) (t .3)),
+    )
+
+module _ (w : ℕ) (more : Bool) (x k : ℕ) (least : 2 ^ 53 ≤ w) (most : w < 2 ^ 64) (far : x ≤ 2000) (kept : k ≡ nearest (w / 2 ^ (11 - leadingZeros 64 w)) (against (w % 2 ^ (11 - leadingZeros 64 w)) (2 ^ (11 - leadingZeros 64 w)) more)) where
+  -- the pattern is a number's
+  pub pattern-lt : (x + (11 - leadingZeros 64 w)) * 2 ^ 52 + k < infinity
+  pattern-lt =
+      let d = 11 - leadingZeros 64 w in
+      let q = w / 2 ^ d in
+      let a : q < 2 ^ 53 = drops w least most .2 in
+      let b : nearest q (against (w % 2 ^ d) (2 ^ d) more) ≤ suc q = nearest-le q (against (w % 2 ^ d) (2 ^ d) more) in
+      omega arith
+
+  -- and it is the nearest
+  pub pattern-near : (num den : ℕ) → Cut num den w more x → (x + (11 - leadingZeros 64 w)) * 2 ^ 52 + k ≡ near num den
+  pattern-near num den c =
+      let z = leadingZeros 64 w in
+      let d = 11 - z in
+      let s = drops w least most in
+      let a : z ≤ 10 = s .0 in
+      let e : suc (10 - z) ≡ d = omega arith in
+      let double : 2 ^ d ≡ 2 ^ (10 - z) * 2 = ap (λ (n : ℕ). 2 ^ n) (sym e) ∙ pow-suc 2 (10 - z) in
+      let p : (x + d) * 2 ^ 52 + k < infinity = pattern-lt in
+      whole ((x + d) * 2 ^ 52 + k) p
+      ∙ ap (λ (n : ℕ). min infinity ((x + d) * 2 ^ 52 + n)) kept
+      ∙ sym (near-cut num den w more x c d (2 ^ (10 - z)) (w / 2 ^ d) (w % 2 ^ d) double (div-add-mod' w (2 ^ d)) (mod-lt w (pow-pos d)) (s .2) (s .1))
+    where
+      whole : (p : ℕ) → p < infinity → p ≡ min infinity p
+      whole p h = omega arith
+
+-- ---- the pattern as an f64
+-- a number's pattern is no NaN's
+pub no-nan : (b : ℕ) → b < infinity → T (not (nanBits binary64 b))
+unfolding nanBits
+no-nan b h = let n : b % 2 ^ 63 / 2 ^ 52 ≡ 2047 → ⊥ = λ e. omega arith in rw (ne-eqb (b % 2 ^ 63 / 2 ^ 52) 2047 n) tt
+
+-- nor with its sign
+pub no-nan-minus : (b : ℕ) → b < infinity → T (not (nanBits binary64 (2 ^ 63 + b)))
+unfolding nanBits
+no-nan-minus b h = let n : (2 ^ 63 + b) % 2 ^ 63 / 2 ^ 52 ≡ 2047 → ⊥ = λ e. omega arith in rw (ne-eqb ((2 ^ 63 + b) % 2 ^ 63 / 2 ^ 52) 2047 n) tt
+
+-- so it is the pattern of what is made of it
+pub bits-back : (p : ℕ) → p < 2 ^ 64 → T (not (nanBits binary64 p)) → toBits binary64 (ofBits binary64 p) ≡ p
+bits-back p h k = toBits-ofBits binary64 p h (subst (λ (b : Bool). T (not b)) (nanBits-is binary64 p) k)
+
+-- ---- zero
+-- the f64 nearest to 0 is 0
+pub near-zero : (den : ℕ) → 0 < den → near 0 den ≡ 0
+near-zero den h = near-digits 0 den 0 0 0 h (ap (λ (x : ℕ). x + 0) (zero-mul (den * 2 ^ 0)) ∙ sym (zero-mul (2 ^ 1074))) (lt-unit den h) (omega arith) (inl refl) ∙ last (compare (0 * 2) (den * 2 ^ 0)) (cmp (0 * 2) (den * 2 ^ 0))
+  where
+    lt-unit : (den : ℕ) → 0 < den → 0 < den * 2 ^ 0
+    lt-unit den h = omega arith
+
+    last : (o : Ordering) → Cmp o (0 * 2) (den * 2 ^ 0) → min infinity (0 * 2 ^ 52 + nearest 0 o) ≡ 0
+    last Ordering·lt c = refl
+    last Ordering·eq c = refl
+    last Ordering·gt c = absurd (omega arith)
+
+-- ---- room for the carry
+-- what is kept of w is at most its half
+pub half-le : (w drop : ℕ) → 0 < drop → w / 2 ^ drop * 2 ≤ w
+half-le w drop h =
+    let l : 2 ≤ 2 ^ drop = pow-mono {i = 1} {j = drop} h in
+    le-trans (mul-le-mul-left (w / 2 ^ drop) l) (div-mul-le-self w (2 ^ drop))
