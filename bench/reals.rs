@@ -83,6 +83,15 @@ fn pointed(draw: &mut Draw, digits: u32, places: usize) -> String {
     format!("{}{whole}.{fraction}", sign(draw))
 }
 
+/// m of just so many digits, more than an f64 holds, as exporters write them that print what reads back: `0.017453292519943295`
+fn long(draw: &mut Draw, digits: u32, places: usize) -> String {
+    let least = 10u64.pow(digits - 1);
+    let m = least + draw.next() % (9 * least);
+    let figures = format!("{m:0width$}", width = places + 1);
+    let (whole, fraction) = figures.split_at(figures.len() - places);
+    format!("{}{whole}.{fraction}", sign(draw))
+}
+
 /// What the points and directions of a part are made of: most are short, many are whole.
 fn coordinate(draw: &mut Draw) -> String {
     match draw.below(10) {
@@ -105,6 +114,11 @@ fn lists() -> Vec<List> {
         List::new("exponent, as `1.E-3`", 6, |d| {
             format!("{}{}.E-{}", sign(d), 1 + d.below(9), 1 + d.below(9))
         }),
+        List::new("sixteen digits, as `123.4567890123456`", 7, |d| long(d, 16, 13)),
+        List::new("seventeen digits, as `0.017453292519943295`", 8, |d| long(d, 17, 18)),
+        List::new("eighteen digits, as `12345.6789012345678`", 9, |d| long(d, 18, 13)),
+        List::new("nineteen digits, as `1.234567890123456789`", 10, |d| long(d, 19, 18)),
+        List::new("nineteen digits, as `1.234567890123456789E+25`", 11, |d| format!("{}E+25", long(d, 19, 18))),
     ]
 }
 
