@@ -10,7 +10,7 @@ use lib.Pow.{pow-add}
 use Rattle.lex.specs.Byte.{pick}
 use Rattle.nearest.specs.Near.{near, near-same}
 use Rattle.nearest.specs.Round.{signed}
-use Rattle.reals.specs.Scalar.{Answer, read, refused, parsed, classOf, reaches, nearTen, most, largest}
+use Rattle.reals.specs.Scalar.{Answer, read, refused, parsed, farthest, classOf, reaches, nearTen, most, largest}
 
 -- a power of ten is positive
 pub ten-pos : (k : ℕ) → 0 < 10 ^ k
@@ -22,16 +22,16 @@ no-and true = refl
 no-and false = refl
 
 module _ (s : Bool) (m f x M X : ℕ) (a : m ≡ min most M) (b : x ≡ min largest X) where
-  -- m has more than 15 digits: 13
+  -- m has too many digits: 13
   pub out-long : (d : Bool) → most ≤ m → refused 13 ≡ classOf (parsed s M f d X)
   out-long d h = let l : most ≤ M = omega arith in rw (le-ltb M most l) refl
 
   -- the exponent is out of reach: 13
-  out-far : (d : Bool) → reaches f d X ≡ false → refused 13 ≡ classOf (parsed s M f d X)
+  out-far : (d : Bool) → reaches farthest f d X ≡ false → refused 13 ≡ classOf (parsed s M f d X)
   out-far d e = rw (e, no-and (ltb M most)) refl
 
-  -- m has at most 15 digits and the exponent is in reach: the nearest f64
-  inside : (d : Bool) (p : ℕ) → m < most → reaches f d X ≡ true → p ≡ signed s (nearTen M f d X) → read p ≡ classOf (parsed s M f d X)
+  -- m has few enough digits and the exponent is in reach: the nearest f64
+  inside : (d : Bool) (p : ℕ) → m < most → reaches farthest f d X ≡ true → p ≡ signed s (nearTen M f d X) → read p ≡ classOf (parsed s M f d X)
   inside d p h e q = let l : M < most = omega arith in rw (lt-ltb M most l, e) (ap read q)
 
   -- below its cap m is held as itself
@@ -39,51 +39,51 @@ module _ (s : Bool) (m f x M X : ℕ) (a : m ≡ min most M) (b : x ≡ min larg
   held h = omega arith
 
   -- a negative exponent
-  pub in-down : (p : ℕ) → m < most → x + f ≤ 22 → p ≡ signed s (near m (10 ^ (x + f))) → read p ≡ classOf (parsed s M f true X)
+  pub in-down : (p : ℕ) → m < most → x + f ≤ farthest → p ≡ signed s (near m (10 ^ (x + f))) → read p ≡ classOf (parsed s M f true X)
   in-down p h l q =
       let y : x ≡ X = omega arith in
-      let z : X + f ≤ 22 = omega arith in
-      inside true p h (le-leb (X + f) 22 z) (q ∙ ap (λ (n : ℕ). signed s (near n (10 ^ (x + f)))) (held h) ∙ ap (λ (n : ℕ). signed s (near M (10 ^ (n + f)))) y)
+      let z : X + f ≤ farthest = omega arith in
+      inside true p h (le-leb (X + f) farthest z) (q ∙ ap (λ (n : ℕ). signed s (near n (10 ^ (x + f)))) (held h) ∙ ap (λ (n : ℕ). signed s (near M (10 ^ (n + f)))) y)
 
-  -- a negative exponent's size and the fraction digits are more than 22: 13
-  pub out-down : 22 < x + f → refused 13 ≡ classOf (parsed s M f true X)
-  out-down l = let z : 22 < X + f = omega arith in out-far true (lt-leb (X + f) 22 z)
+  -- a negative exponent's size and the fraction digits are together above the farthest: 13
+  pub out-down : farthest < x + f → refused 13 ≡ classOf (parsed s M f true X)
+  out-down l = let z : farthest < X + f = omega arith in out-far true (lt-leb (X + f) farthest z)
 
   -- the exponent outweighs the fraction
-  pub in-up : (p : ℕ) → f < 2 ^ 63 → m < most → f ≤ x → x - f ≤ 22 → p ≡ signed s (near (m * 10 ^ (x - f)) 1) → read p ≡ classOf (parsed s M f false X)
+  pub in-up : (p : ℕ) → f < 2 ^ 63 → m < most → f ≤ x → x - f ≤ farthest → p ≡ signed s (near (m * 10 ^ (x - f)) 1) → read p ≡ classOf (parsed s M f false X)
   in-up p w h g l q =
       let y : x ≡ X = omega arith in
-      let z : X ≤ f + 22 = omega arith in
-      let v : f ≤ X + 22 = omega arith in
+      let z : X ≤ f + farthest = omega arith in
+      let v : f ≤ X + farthest = omega arith in
       let t : x - f + f ≡ x = omega arith in
-      inside false p h (rw (le-leb X (f + 22) z, le-leb f (X + 22) v) refl)
+      inside false p h (rw (le-leb X (f + farthest) z, le-leb f (X + farthest) v) refl)
       (q
       ∙ ap (signed s) (near-same (m * 10 ^ (x - f)) 1 (m * 10 ^ x) (10 ^ f) (ten-pos 0) (ten-pos f)
       (mul-assoc m (10 ^ (x - f)) (10 ^ f) ∙ ap (λ (n : ℕ). m * n) (sym (pow-add 10 (x - f) f) ∙ ap (λ (n : ℕ). 10 ^ n) t) ∙ sym (mul-one (m * 10 ^ x))))
       ∙ ap (λ (n : ℕ). signed s (near (n * 10 ^ x) (10 ^ f))) (held h)
       ∙ ap (λ (n : ℕ). signed s (near (M * 10 ^ n) (10 ^ f))) y)
 
-  -- the exponent less the fraction is above 22: 13
-  pub out-up : f ≤ x → 22 < x - f → refused 13 ≡ classOf (parsed s M f false X)
-  out-up g l = let z : f + 22 < X = omega arith in out-far false (rw (lt-leb X (f + 22) z) refl)
+  -- the exponent less the fraction is above the farthest: 13
+  pub out-up : f ≤ x → farthest < x - f → refused 13 ≡ classOf (parsed s M f false X)
+  out-up g l = let z : f + farthest < X = omega arith in out-far false (rw (lt-leb X (f + farthest) z) refl)
 
   -- the fraction outweighs the exponent
-  pub in-mid : (p : ℕ) → f < 2 ^ 63 → m < most → x < f → f - x ≤ 22 → p ≡ signed s (near m (10 ^ (f - x))) → read p ≡ classOf (parsed s M f false X)
+  pub in-mid : (p : ℕ) → f < 2 ^ 63 → m < most → x < f → f - x ≤ farthest → p ≡ signed s (near m (10 ^ (f - x))) → read p ≡ classOf (parsed s M f false X)
   in-mid p w h g l q =
       let y : x ≡ X = omega arith in
-      let z : X ≤ f + 22 = omega arith in
-      let v : f ≤ X + 22 = omega arith in
+      let z : X ≤ f + farthest = omega arith in
+      let v : f ≤ X + farthest = omega arith in
       let t : x + (f - x) ≡ f = omega arith in
-      inside false p h (rw (le-leb X (f + 22) z, le-leb f (X + 22) v) refl)
+      inside false p h (rw (le-leb X (f + farthest) z, le-leb f (X + farthest) v) refl)
       (q
       ∙ ap (signed s) (near-same m (10 ^ (f - x)) (m * 10 ^ x) (10 ^ f) (ten-pos (f - x)) (ten-pos f)
       (ap (λ (n : ℕ). m * n) (ap (λ (n : ℕ). 10 ^ n) (sym t) ∙ pow-add 10 x (f - x)) ∙ sym (mul-assoc m (10 ^ x) (10 ^ (f - x)))))
       ∙ ap (λ (n : ℕ). signed s (near (n * 10 ^ x) (10 ^ f))) (held h)
       ∙ ap (λ (n : ℕ). signed s (near (M * 10 ^ n) (10 ^ f))) y)
 
-  -- the exponent less the fraction is below -22: 13
-  pub out-mid : f < 2 ^ 63 → x < f → 22 < f - x → refused 13 ≡ classOf (parsed s M f false X)
+  -- the fraction less the exponent is above the farthest: 13
+  pub out-mid : f < 2 ^ 63 → x < f → farthest < f - x → refused 13 ≡ classOf (parsed s M f false X)
   out-mid w g l =
       let y : x ≡ X = omega arith in
-      let z : X + 22 < f = omega arith in
-      out-far false (rw (lt-leb f (X + 22) z) (no-and (leb X (f + 22))))
+      let z : X + farthest < f = omega arith in
+      out-far false (rw (lt-leb f (X + farthest) z) (no-and (leb X (f + farthest))))

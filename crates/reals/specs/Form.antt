@@ -12,7 +12,7 @@ use Rattle.record.specs.Text.{digit}
 use Rattle.record.specs.Form.{All, valueOf, Id}
 use Rattle.nearest.specs.Nearest.{IsNearest}
 use Rattle.nearest.specs.Round.{signed}
-use Rattle.reals.specs.Scalar.{Answer, read, refused}
+use Rattle.reals.specs.Scalar.{Answer, read, refused, longest, farthest}
 
 -- "Optional sign", and then u; true is the sign `-`
 pub data Signed : List ℕ → Bool → List ℕ → Type 0 where
@@ -43,15 +43,15 @@ pub record Written (t : List ℕ) (s : Bool) (w f : List ℕ) (down : Bool) (x :
   pub some : w ++ f ≡ [] → ⊥
   pub power : Powered e down x
 
--- "−22 ≤ e ≤ 22", e being the exponent x less the number f of fraction digits
-abbrev pub Reach : ℕ → Bool → ℕ → Type 0
-Reach f false x = (x ≤ f + 22) × (f ≤ x + 22)
-Reach f true x = x + f ≤ 22
+-- −far ≤ e ≤ far, e being the exponent x less the number f of fraction digits
+abbrev pub Reach : ℕ → ℕ → Bool → ℕ → Type 0
+Reach far f false x = (x ≤ f + far) × (f ≤ x + far)
+Reach far f true x = x + f ≤ far
 
--- "m has at most 15 digits", leading zeros dropped, and e is in reach
-pub record Classed (m f : ℕ) (down : Bool) (x : ℕ) : Type 0 where
-  pub few : m < 10 ^ 15
-  pub reach : Reach f down x
+-- m has at most `long` digits, leading zeros dropped, and e is in reach: the class is this at `longest` and `farthest` (Scalar.antt)
+pub record Classed (long far m f : ℕ) (down : Bool) (x : ℕ) : Type 0 where
+  pub few : m < 10 ^ long
+  pub reach : Reach far f down x
 
 -- m·10^e as a fraction, the powers of ten multiplied out
 abbrev pub over : ℕ → Bool → ℕ → ℕ
@@ -66,9 +66,9 @@ under f true x = 10 ^ (x + f)
 -- what a text answers: the f64 nearest to m·10^e, ties to even, by its pattern, "sign kept at zero"; "Other well-formed reals are
 -- 13; all else, `inf` and `nan` included, is 12"
 pub data RealForm : List ℕ → Answer ℕ → Type 0 where
-  real : {t w f x : List ℕ} {s down : Bool} {b : ℕ} → Written t s w f down x → Classed (valueOf (w ++ f)) (length f) down (valueOf x)
+  real : {t w f x : List ℕ} {s down : Bool} {b : ℕ} → Written t s w f down x → Classed longest farthest (valueOf (w ++ f)) (length f) down (valueOf x)
       → IsNearest (over (valueOf (w ++ f)) down (valueOf x)) (under (length f) down (valueOf x)) b → RealForm t (read (signed s b))
-  outside : {t w f x : List ℕ} {s down : Bool} → Written t s w f down x → (Classed (valueOf (w ++ f)) (length f) down (valueOf x) → ⊥)
+  outside : {t w f x : List ℕ} {s down : Bool} → Written t s w f down x → (Classed longest farthest (valueOf (w ++ f)) (length f) down (valueOf x) → ⊥)
       → RealForm t (refused 13)
   other : {t : List ℕ} → ((s down : Bool) (w f x : List ℕ) → Written t s w f down x → ⊥) → RealForm t (refused 12)
 

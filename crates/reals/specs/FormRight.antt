@@ -20,7 +20,7 @@ use Rattle.record.specs.FormRight.{number-only, number-is}
 use Rattle.record.specs.FormRight.Parts.{first-other, number-pass, number-halt, Spanned, span}
 use Rattle.nearest.specs.Near.{near, near-is, near-only}
 use Rattle.nearest.specs.Round.{signed}
-use Rattle.reals.specs.Scalar.{Answer, read, refused, unsigned, minus, Mantissa, mantissa, pointed, fractionOf, Exponent, power, malformed, ended, exponentOf, Parsed, parsed, unparsed, joined, counted, parseOf, reaches, nearTen, classOf, realOf}
+use Rattle.reals.specs.Scalar.{Answer, read, refused, unsigned, minus, Mantissa, mantissa, pointed, fractionOf, Exponent, power, malformed, ended, exponentOf, Parsed, parsed, unparsed, joined, counted, parseOf, longest, farthest, reaches, belongs, nearTen, classOf, realOf}
 use Rattle.reals.specs.Class.{ten-pos}
 use Rattle.reals.specs.Form.{Signed, unmarked, plus, Fraction, pointless, point, Powered, powerless, powered, Written, Reach, Classed, over, under, RealForm, real, outside}
 use Rattle.reals.specs.Form as Form
@@ -285,27 +285,31 @@ near-ten m f false x = refl
 near-ten m f true x = refl
 
 -- e is in reach and the test passes, or neither
-reach-is : (f : ℕ) (d : Bool) (x : ℕ) → (Reach f d x × (reaches f d x ≡ true)) ⊎ ((Reach f d x → ⊥) × (reaches f d x ≡ false))
-reach-is f false x = go (decLe x (f + 22)) (decLe f (x + 22))
+reach-is : (far f : ℕ) (d : Bool) (x : ℕ) → (Reach far f d x × (reaches far f d x ≡ true)) ⊎ ((Reach far f d x → ⊥) × (reaches far f d x ≡ false))
+reach-is far f false x = go (decLe x (f + far)) (decLe f (x + far))
   where
-    go : Dec (x ≤ f + 22) → Dec (f ≤ x + 22) → (((x ≤ f + 22) × (f ≤ x + 22)) × (leb x (f + 22) && leb f (x + 22) ≡ true)) ⊎ (((x ≤ f + 22) × (f ≤ x + 22) → ⊥) × (leb x (f + 22) && leb f (x + 22) ≡ false))
-    go (yes a) (yes b) = inl ((a, b), rw (le-leb x (f + 22) a, le-leb f (x + 22) b) refl)
-    go (yes a) (no b) = let l : x + 22 < f = omega arith in inr (λ k. b (k .1), rw (le-leb x (f + 22) a, lt-leb f (x + 22) l) refl)
-    go (no a) d = let l : f + 22 < x = omega arith in inr (λ k. a (k .0), rw (lt-leb x (f + 22) l) refl)
-reach-is f true x = go (decLe (x + f) 22)
+    go : Dec (x ≤ f + far) → Dec (f ≤ x + far) → (((x ≤ f + far) × (f ≤ x + far)) × (leb x (f + far) && leb f (x + far) ≡ true)) ⊎ (((x ≤ f + far) × (f ≤ x + far) → ⊥) × (leb x (f + far) && leb f (x + far) ≡ false))
+    go (yes a) (yes b) = inl ((a, b), rw (le-leb x (f + far) a, le-leb f (x + far) b) refl)
+    go (yes a) (no b) = let l : x + far < f = omega arith in inr (λ k. b (k .1), rw (le-leb x (f + far) a, lt-leb f (x + far) l) refl)
+    go (no a) d = let l : f + far < x = omega arith in inr (λ k. a (k .0), rw (lt-leb x (f + far) l) refl)
+reach-is far f true x = go (decLe (x + f) far)
   where
-    go : Dec (x + f ≤ 22) → ((x + f ≤ 22) × (leb (x + f) 22 ≡ true)) ⊎ ((x + f ≤ 22 → ⊥) × (leb (x + f) 22 ≡ false))
-    go (yes a) = inl (a, le-leb (x + f) 22 a)
-    go (no a) = let l : 22 < x + f = omega arith in inr (a, lt-leb (x + f) 22 l)
+    go : Dec (x + f ≤ far) → ((x + f ≤ far) × (leb (x + f) far ≡ true)) ⊎ ((x + f ≤ far → ⊥) × (leb (x + f) far ≡ false))
+    go (yes a) = inl (a, le-leb (x + f) far a)
+    go (no a) = let l : far < x + f = omega arith in inr (a, lt-leb (x + f) far l)
 
 -- a real is of the class and the test passes, or neither
-class-is : (m f : ℕ) (d : Bool) (x : ℕ) → (Classed m f d x × (ltb m (10 ^ 15) && reaches f d x ≡ true)) ⊎ ((Classed m f d x → ⊥) × (ltb m (10 ^ 15) && reaches f d x ≡ false))
-class-is m f d x = go (decLt m (10 ^ 15)) (reach-is f d x)
+abbrev pub Decided : ℕ → ℕ → ℕ → ℕ → Bool → ℕ → Type 0
+Decided long far m f d x = (Classed long far m f d x × (belongs long far m f d x ≡ true)) ⊎ ((Classed long far m f d x → ⊥) × (belongs long far m f d x ≡ false))
+
+-- so it is at all bounds
+pub class-is : (long far m f : ℕ) (d : Bool) (x : ℕ) → Decided long far m f d x
+class-is long far m f d x = go (decLt m (10 ^ long)) (reach-is far f d x)
   where
-    go : Dec (m < 10 ^ 15) → (Reach f d x × (reaches f d x ≡ true)) ⊎ ((Reach f d x → ⊥) × (reaches f d x ≡ false)) → (Classed m f d x × (ltb m (10 ^ 15) && reaches f d x ≡ true)) ⊎ ((Classed m f d x → ⊥) × (ltb m (10 ^ 15) && reaches f d x ≡ false))
-    go (yes a) (inl b) = inl (record { few = a; reach = b .0 }, rw (lt-ltb m (10 ^ 15) a, b .1) refl)
-    go (yes a) (inr b) = inr (λ k. b .0 (k .reach), rw (lt-ltb m (10 ^ 15) a, b .1) refl)
-    go (no a) r = let l : 10 ^ 15 ≤ m = omega arith in inr (λ k. a (k .few), rw (le-ltb m (10 ^ 15) l) refl)
+    go : Dec (m < 10 ^ long) → (Reach far f d x × (reaches far f d x ≡ true)) ⊎ ((Reach far f d x → ⊥) × (reaches far f d x ≡ false)) → Decided long far m f d x
+    go (yes a) (inl b) = inl (record { few = a; reach = b .0 }, rw (lt-ltb m (10 ^ long) a, b .1) refl)
+    go (yes a) (inr b) = inr (λ k. b .0 (k .reach), rw (lt-ltb m (10 ^ long) a, b .1) refl)
+    go (no a) r = let l : 10 ^ long ≤ m = omega arith in inr (λ k. a (k .few), rw (le-ltb m (10 ^ long) l) refl)
 
 -- ---- the theorems
 -- what is written is answered by its class
@@ -314,11 +318,11 @@ unfolding realOf
 real-of r = ap classOf (written-only r)
 
 -- a real of the class is answered by the nearest f64
-in-class : (s : Bool) (m f : ℕ) (d : Bool) (x : ℕ) → ltb m (10 ^ 15) && reaches f d x ≡ true → classOf (parsed s m f d x) ≡ read (signed s (near (over m d x) (under f d x)))
+in-class : (s : Bool) (m f : ℕ) (d : Bool) (x : ℕ) → belongs longest farthest m f d x ≡ true → classOf (parsed s m f d x) ≡ read (signed s (near (over m d x) (under f d x)))
 in-class s m f d x e = rw e (ap (λ (b : ℕ). read (signed s b)) (near-ten m f d x))
 
 -- a real outside the class is 13
-out-class : (s : Bool) (m f : ℕ) (d : Bool) (x : ℕ) → ltb m (10 ^ 15) && reaches f d x ≡ false → classOf (parsed s m f d x) ≡ refused 13
+out-class : (s : Bool) (m f : ℕ) (d : Bool) (x : ℕ) → belongs longest farthest m f d x ≡ false → classOf (parsed s m f d x) ≡ refused 13
 out-class s m f d x e = rw e refl
 
 -- what is no real is 12
@@ -331,9 +335,9 @@ pub real-is : (t : List ℕ) → RealForm t (realOf t)
 real-is t = go (written-is t)
   where
     go : ((s d : Bool) × (w f x : List ℕ) × Written t s w f d x) ⊎ (parseOf t ≡ unparsed) → RealForm t (realOf t)
-    go (inl (s, d, w, f, x, r)) = by (class-is (valueOf (w ++ f)) (length f) d (valueOf x))
+    go (inl (s, d, w, f, x, r)) = by (class-is longest farthest (valueOf (w ++ f)) (length f) d (valueOf x))
       where
-        by : (Classed (valueOf (w ++ f)) (length f) d (valueOf x) × (ltb (valueOf (w ++ f)) (10 ^ 15) && reaches (length f) d (valueOf x) ≡ true)) ⊎ ((Classed (valueOf (w ++ f)) (length f) d (valueOf x) → ⊥) × (ltb (valueOf (w ++ f)) (10 ^ 15) && reaches (length f) d (valueOf x) ≡ false)) → RealForm t (realOf t)
+        by : Decided longest farthest (valueOf (w ++ f)) (length f) d (valueOf x) → RealForm t (realOf t)
         by (inl k) =
             subst (RealForm t) (sym (real-of r ∙ in-class s (valueOf (w ++ f)) (length f) d (valueOf x) (k .1)))
             (real r (k .0) (near-is (over (valueOf (w ++ f)) d (valueOf x)) (under (length f) d (valueOf x)) (under-pos (length f) d (valueOf x))))
@@ -345,16 +349,16 @@ real-is t = go (written-is t)
 
 -- and there is no other
 pub real-only : {t : List ℕ} {a : Answer ℕ} → RealForm t a → a ≡ realOf t
-real-only {t} (real {w = w} {f = f} {x = x} {s = s} {down = d} {b = b} r c n) = by (class-is (valueOf (w ++ f)) (length f) d (valueOf x))
+real-only {t} (real {w = w} {f = f} {x = x} {s = s} {down = d} {b = b} r c n) = by (class-is longest farthest (valueOf (w ++ f)) (length f) d (valueOf x))
   where
-    by : (Classed (valueOf (w ++ f)) (length f) d (valueOf x) × (ltb (valueOf (w ++ f)) (10 ^ 15) && reaches (length f) d (valueOf x) ≡ true)) ⊎ ((Classed (valueOf (w ++ f)) (length f) d (valueOf x) → ⊥) × (ltb (valueOf (w ++ f)) (10 ^ 15) && reaches (length f) d (valueOf x) ≡ false)) → read (signed s b) ≡ realOf t
+    by : Decided longest farthest (valueOf (w ++ f)) (length f) d (valueOf x) → read (signed s b) ≡ realOf t
     by (inl k) =
         ap (λ (y : ℕ). read (signed s y)) (near-only (over (valueOf (w ++ f)) d (valueOf x)) (under (length f) d (valueOf x)) b (under-pos (length f) d (valueOf x)) n)
         ∙ sym (real-of r ∙ in-class s (valueOf (w ++ f)) (length f) d (valueOf x) (k .1))
     by (inr k) = absurd (k .0 c)
-real-only {t} (outside {w = w} {f = f} {x = x} {s = s} {down = d} r c) = by (class-is (valueOf (w ++ f)) (length f) d (valueOf x))
+real-only {t} (outside {w = w} {f = f} {x = x} {s = s} {down = d} r c) = by (class-is longest farthest (valueOf (w ++ f)) (length f) d (valueOf x))
   where
-    by : (Classed (valueOf (w ++ f)) (length f) d (valueOf x) × (ltb (valueOf (w ++ f)) (10 ^ 15) && reaches (length f) d (valueOf x) ≡ true)) ⊎ ((Classed (valueOf (w ++ f)) (length f) d (valueOf x) → ⊥) × (ltb (valueOf (w ++ f)) (10 ^ 15) && reaches (length f) d (valueOf x) ≡ false)) → refused 13 ≡ realOf t
+    by : Decided longest farthest (valueOf (w ++ f)) (length f) d (valueOf x) → refused 13 ≡ realOf t
     by (inl k) = absurd (c (k .0))
     by (inr k) = sym (real-of r ∙ out-class s (valueOf (w ++ f)) (length f) d (valueOf x) (k .1))
 real-only {t} (RealForm.other h) = go (written-is t)

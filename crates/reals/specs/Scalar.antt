@@ -102,20 +102,36 @@ unfoldable pub parseOf : List ℕ → Parsed
 parseOf t =
     counted (minus t) (unsigned t) (numberFrom 0 (unsigned t)) (fractionOf (numberFrom 0 (unsigned t) .value) (numberFrom 0 (unsigned t) .rest))
 
--- "−22 ≤ e ≤ 22", e being the exponent less the number f of fraction digits; true is a negative exponent
-abbrev pub reaches : ℕ → Bool → ℕ → Bool
-reaches f false x = leb x (f + 22) && leb f (x + 22)
-reaches f true x = leb (x + f) 22
+-- "Class: m has at most 15 digits and −22 ≤ e ≤ 22". The class's two bounds, in the definitions here alone: "m has at most 15 digits"
+abbrev pub longest : ℕ
+longest = 15
+
+-- "−22 ≤ e ≤ 22"
+abbrev pub farthest : ℕ
+farthest = 22
+
+-- −far ≤ e ≤ far, e being the exponent less the number f of fraction digits; true is a negative exponent
+abbrev pub reaches : ℕ → ℕ → Bool → ℕ → Bool
+reaches far f false x = leb x (f + far) && leb f (x + far)
+reaches far f true x = leb (x + f) far
+
+-- m has at most `long` digits and e is in reach: a class by its two bounds
+abbrev pub belongs : ℕ → ℕ → ℕ → ℕ → Bool → ℕ → Bool
+belongs long far m f d x = ltb m (10 ^ long) && reaches far f d x
 
 -- "the f64 nearest to m·10^e"
 abbrev pub nearTen : ℕ → ℕ → Bool → ℕ → ℕ
 nearTen m f false x = near (m * 10 ^ x) (10 ^ f)
 nearTen m f true x = near m (10 ^ (x + f))
 
--- "Class: m has at most 15 digits and −22 ≤ e ≤ 22"; "sign kept at zero"
+-- the answer by a class's two bounds; "sign kept at zero"
+abbrev pub classIn : ℕ → ℕ → Parsed → Answer ℕ
+classIn long far (parsed s m f d x) = pick (belongs long far m f d x) (read (signed s (nearTen m f d x))) (refused 13)
+classIn long far unparsed = refused 12
+
+-- the class's answer
 abbrev pub classOf : Parsed → Answer ℕ
-classOf (parsed s m f d x) = pick (ltb m (10 ^ 15) && reaches f d x) (read (signed s (nearTen m f d x))) (refused 13)
-classOf unparsed = refused 12
+classOf p = classIn longest farthest p
 
 -- what a text answers as a real
 unfoldable pub realOf : List ℕ → Answer ℕ
@@ -166,7 +182,7 @@ PlainAt xs cap Other = digitsOnly xs ≡ false
 
 -- one more than the largest m
 abbrev pub most : ℕ
-most = 10 ^ 15
+most = 10 ^ longest
 
 -- the fraction from `at`, after digits that gave n: the number of all digits, how many stand after the point, and the place after them
 pub record DecimalAt (t : List ℕ) (at from : ℕ) (r : Decimal) : Type 0 where

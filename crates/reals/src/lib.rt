@@ -12,7 +12,7 @@ ghost use Rattle.record.specs.Text.{digit};
 ghost use Rattle.nearest.specs.Near.{near};
 ghost use Rattle.nearest.specs.Round.{signed};
 ghost use Rattle.nearest.specs.Product.{worthOf, finite};
-ghost use Rattle.reals.specs.Scalar.{toldReal, realOf, toldWhole, wholeOf, ranged, toldReference, referenceOf, unsigned, minus, NumberAt, PlainAt, DecimalAt, TensAt, ClassOf};
+ghost use Rattle.reals.specs.Scalar.{toldReal, realOf, toldWhole, wholeOf, ranged, toldReference, referenceOf, unsigned, minus, NumberAt, PlainAt, DecimalAt, TensAt, ClassOf, most, farthest};
 ghost use Rattle.reals.specs.Parts.{Reading, FourAt};
 
 pub enum Real {
@@ -35,8 +35,11 @@ pub enum Reference {
     NotReference,
 }
 
-// One more than the largest m: m has at most 15 digits.
+// The class's two bounds, `longest` and `farthest` of specs/Scalar.antt: m has at most 15 digits, so this is one more than the largest m, and
+// -22 <= e <= 22.
 const MOST: u64 = 1000000000000000;
+
+const FARTHEST: usize = 22;
 
 // Exponents from here on count as this one: no text is long enough for its fraction to make up for it.
 const LARGEST: u64 = 0xffff_ffff_ffff_ffff;
@@ -187,7 +190,7 @@ struct Decimal {
 
 // Reads on with an optional point and its digits.
 fn fraction_from(t: &[u8], at: usize, from: u64) -> Decimal
-    requires { ⌜ (at ≤ length (now t)) × (from ≤ 1000000000000000) ⌝ }
+    requires { ⌜ (at ≤ length (now t)) × (from ≤ most) ⌝ }
     ensures { λ r. ⌜ DecimalAt (now (t .entry)) at from r ⌝ }
 {
     if at < t.len() {
@@ -283,7 +286,7 @@ fn power_of_ten(k: usize) -> f64
 
 // The number with its sign, which zero has too.
 fn exact(neg: bool, m: u64) -> f64
-    requires { ⌜ m < 1000000000000000 ⌝ }
+    requires { ⌜ m ≤ 2 ^ 53 ⌝ }
     ensures { λ r. ⌜ worthOf (toBits binary64 r) ≡ finite neg (m * 2 ^ 1074) ⌝ }
 {
     let x = m as f64;
@@ -294,14 +297,14 @@ fn exact(neg: bool, m: u64) -> f64
 }
 
 fn raised(neg: bool, m: u64, k: usize) -> f64
-    requires { ⌜ (m < 1000000000000000) × (k < 23) ⌝ }
+    requires { ⌜ (m < most) × (k ≤ farthest) ⌝ }
     ensures { λ r. ⌜ toBits binary64 r ≡ signed neg (near (m * 10 ^ k) 1) ⌝ }
 {
     nearest::times(exact(neg, m), power_of_ten(k))
 }
 
 fn lowered(neg: bool, m: u64, k: usize) -> f64
-    requires { ⌜ (m < 1000000000000000) × (k < 23) ⌝ }
+    requires { ⌜ (m < most) × (k ≤ farthest) ⌝ }
     ensures { λ r. ⌜ toBits binary64 r ≡ signed neg (near m (10 ^ k)) ⌝ }
 {
     nearest::over(exact(neg, m), power_of_ten(k))
@@ -317,20 +320,20 @@ fn in_class(neg: bool, m: u64, f: usize, down: bool, x: u64) -> Real
     }
     let k = x as usize;
     if down {
-        if k <= 22 {
-            if f <= 22 - k {
+        if k <= FARTHEST {
+            if f <= FARTHEST - k {
                 return Real::Value(lowered(neg, m, k + f));
             }
         }
         return Real::Outside;
     }
     if f <= k {
-        if k - f <= 22 {
+        if k - f <= FARTHEST {
             return Real::Value(raised(neg, m, k - f));
         }
         return Real::Outside;
     }
-    if f - k <= 22 {
+    if f - k <= FARTHEST {
         return Real::Value(lowered(neg, m, f - k));
     }
     Real::Outside
