@@ -92,10 +92,10 @@ examples =
     ∷ string "\\S\\D" (0xc3 ∷ 0x84 ∷ [])
     ∷ string "\\X\\C4" (0xc3 ∷ 0x84 ∷ [])
     ∷ string "\\X2\\0041ZZZZ\\X0\\" (bytes "A\\X2\\0041ZZZZ\\X0\\")
-    ∷ real "1E22" (read 0x4480_f0cf_064d_d592)
-    ∷ real "1E23" (refused 13)
-    ∷ real "123456789012345" (read 0x42dc_1221_8377_de40)
-    ∷ real "1234567890123456" (refused 13)
+    ∷ real "1E27" (read 0x4589_d971_e4fe_8402)
+    ∷ real "1E28" (refused 13)
+    ∷ real "1234567890123456789" (read 0x43b1_2210_f47d_e981)
+    ∷ real "12345678901234567890" (refused 13)
     ∷ []
 
 -- each example's answer is the definitions': a file's with room for two rows of each kind

@@ -1,4 +1,4 @@
--- Document 01's examples of reals, and some of the points that it leaves to the Rust. Assumes nothing.
+-- Examples of reals, of document 01 and of #101, and some of the points that they leave to the Rust. Assumes nothing.
 use Prim.Native.Nat.{ℕ, _+_, _^_}
 use mathlib.Core.Path.{_≡_, refl}
 use lib.IntN.{pos, negℤ}
@@ -9,30 +9,80 @@ use Rattle.record.specs.Text.{numberFrom}
 use Rattle.nearest.specs.Near.{near, nearUnits}
 use Rattle.reals.specs.Scalar.{read, refused, parseOf, realOf, wholeOf, referenceOf}
 
--- example 9: "`1E22` in, `1E23` is 13; 15 digits in, 16 is 13"
-in-reach : realOf (bytes "1E22") ≡ read 0x4480_f0cf_064d_d592
+-- #101: "example 9 becomes `1E27` in and `1E28` out, nineteen digits in and twenty out"
+in-reach : realOf (bytes "1E27") ≡ read 0x4589_d971_e4fe_8402
 unfolding realOf parseOf numberFrom walk near nearUnits size
 in-reach = refl
 
--- "`1E23` is 13"
-out-of-reach : realOf (bytes "1E23") ≡ refused 13
+-- "`1E28` out"
+out-of-reach : realOf (bytes "1E28") ≡ refused 13
 unfolding realOf parseOf numberFrom walk
 out-of-reach = refl
 
--- fifteen digits, the zeros before them not counted
+-- "nineteen digits in", the zeros before them not counted
+nineteen : realOf (bytes "0.001234567890123456789E2") ≡ read 0x3fbf_9add_3746_f65f
+unfolding realOf parseOf numberFrom walk near nearUnits size
+nineteen = refl
+
+-- "and twenty out"
+twenty : realOf (bytes "12345678901234567890.") ≡ refused 13
+unfolding realOf parseOf numberFrom walk
+twenty = refl
+
+-- the zeros after them are counted: 10^19 has twenty digits
+zeros-counted : realOf (bytes "10000000000000000000.") ≡ refused 13
+unfolding realOf parseOf numberFrom walk
+zeros-counted = refl
+
+-- the largest m at the farthest powers of ten, up and down
+largest-up : realOf (bytes "9999999999999999999E27") ≡ read 0x497c_06a5_ec54_33c6
+unfolding realOf parseOf numberFrom walk near nearUnits size
+largest-up = refl
+
+-- and down
+largest-down : realOf (bytes "-9999999999999999999E-27") ≡ read (2 ^ 63 + 0x3e45_798e_e230_8c3a)
+unfolding realOf parseOf numberFrom walk near nearUnits size
+largest-down = refl
+
+-- #101: "Loads of two exporters stop with 13 on `0.017453292519943295`, which has 17 digits": the degree
+degree : realOf (bytes "0.017453292519943295") ≡ read 0x3f91_df46_a252_9d39
+unfolding realOf parseOf numberFrom walk near nearUnits size
+degree = refl
+
+-- what example 9 had before: "`1E22` in"
+before-reach : realOf (bytes "1E22") ≡ read 0x4480_f0cf_064d_d592
+unfolding realOf parseOf numberFrom walk near nearUnits size
+before-reach = refl
+
+-- "15 digits in"
 fifteen : realOf (bytes "0.00123456789012345E2") ≡ read 0x3fbf_9add_3746_f62e
 unfolding realOf parseOf numberFrom walk near nearUnits size
 fifteen = refl
 
--- "16 is 13"
-sixteen : realOf (bytes "1234567890123456.") ≡ refused 13
-unfolding realOf parseOf numberFrom walk
+-- `1E23`, which was 13, is read: 10^23 lies just half way between two f64s, and goes to the even one
+far-now : realOf (bytes "1E23") ≡ read 0x44b5_2d02_c7e1_4af6
+unfolding realOf parseOf numberFrom walk near nearUnits size
+far-now = refl
+
+-- so are sixteen digits
+sixteen : realOf (bytes "1234567890123456.") ≡ read 0x4311_8b54_f22a_eb00
+unfolding realOf parseOf numberFrom walk near nearUnits size
 sixteen = refl
 
 -- zero obeys the class and keeps its sign; an exponent may have any number of digits, and not none
-zero-out : realOf (bytes "0E23") ≡ refused 13
+zero-in : realOf (bytes "0E27") ≡ read 0
+unfolding realOf parseOf numberFrom walk near nearUnits size
+zero-in = refl
+
+-- `0E28` is 13
+zero-out : realOf (bytes "0E28") ≡ refused 13
 unfolding realOf parseOf numberFrom walk
 zero-out = refl
+
+-- so is `0.` with 28 zeros
+zeros-out : realOf (bytes "0.0000000000000000000000000000") ≡ refused 13
+unfolding realOf parseOf numberFrom walk
+zeros-out = refl
 
 -- -0 keeps its sign
 minus-zero : realOf (bytes "-0.") ≡ read (2 ^ 63)

@@ -102,13 +102,13 @@ unfoldable pub parseOf : List ℕ → Parsed
 parseOf t =
     counted (minus t) (unsigned t) (numberFrom 0 (unsigned t)) (fractionOf (numberFrom 0 (unsigned t) .value) (numberFrom 0 (unsigned t) .rest))
 
--- "Class: m has at most 15 digits and −22 ≤ e ≤ 22". The class's two bounds, in the definitions here alone: "m has at most 15 digits"
+-- #101: "every real whose m has at most 19 digits and −27 ≤ e ≤ 27". The class's two bounds, in the definitions here alone: "m has at most 19 digits"
 abbrev pub longest : ℕ
-longest = 15
+longest = 19
 
--- "−22 ≤ e ≤ 22"
+-- "−27 ≤ e ≤ 27"
 abbrev pub farthest : ℕ
-farthest = 22
+farthest = 27
 
 -- −far ≤ e ≤ far, e being the exponent less the number f of fraction digits; true is a negative exponent
 abbrev pub reaches : ℕ → ℕ → Bool → ℕ → Bool
@@ -124,7 +124,12 @@ abbrev pub nearTen : ℕ → ℕ → Bool → ℕ → ℕ
 nearTen m f false x = near (m * 10 ^ x) (10 ^ f)
 nearTen m f true x = near m (10 ^ (x + f))
 
--- the answer by a class's two bounds; "sign kept at zero"
+-- the same by the size k of a power of ten alone; true is a negative power
+abbrev pub nearBy : Bool → ℕ → ℕ → ℕ
+nearBy false m k = near (m * 10 ^ k) 1
+nearBy true m k = near m (10 ^ k)
+
+-- the answer by a class's two bounds; "sign kept at zero".
 abbrev pub classIn : ℕ → ℕ → Parsed → Answer ℕ
 classIn long far (parsed s m f d x) = pick (belongs long far m f d x) (read (signed s (nearTen m f d x))) (refused 13)
 classIn long far unparsed = refused 12

@@ -1,8 +1,8 @@
 // Scalars of a parameter: reals, integers and references.
 //
 // Each takes the trimmed bytes of one parameter or item. As the Rust's parse_f64, parse_i64 and parse_ref, with
-// the float's reading as own code: in document 01's class a real is one product or quotient of two exact f64s, so it is rounded
-// once, and the crate `nearest` says what that gives.
+// the float's reading as own code: most reals are one product or quotient of two exact f64s, so that they are rounded once, and the crate
+// `nearest` says what that gives; the others of the class are answered by the crate `wide`.
 ghost use mathlib.Core.Path.{_≡_};
 ghost use Prim.Native.Nat.{_+_, _*_, _-_, _≤_, _<_, _^_, min};
 ghost use mathlib.Core.Bool.{true, false, _&&_};
@@ -12,7 +12,7 @@ ghost use Rattle.record.specs.Text.{digit};
 ghost use Rattle.nearest.specs.Near.{near};
 ghost use Rattle.nearest.specs.Round.{signed};
 ghost use Rattle.nearest.specs.Product.{worthOf, finite};
-ghost use Rattle.reals.specs.Scalar.{toldReal, realOf, toldWhole, wholeOf, ranged, toldReference, referenceOf, unsigned, minus, NumberAt, PlainAt, DecimalAt, TensAt, ClassOf, most, farthest};
+ghost use Rattle.reals.specs.Scalar.{toldReal, realOf, toldWhole, wholeOf, ranged, toldReference, referenceOf, unsigned, minus, NumberAt, PlainAt, DecimalAt, TensAt, ClassOf, most, farthest, nearBy};
 ghost use Rattle.reals.specs.Parts.{Reading, FourAt};
 
 pub enum Real {
@@ -35,11 +35,11 @@ pub enum Reference {
     NotReference,
 }
 
-// The class's two bounds, `longest` and `farthest` of specs/Scalar.antt: m has at most 15 digits, so this is one more than the largest m, and
-// -22 <= e <= 22.
-const MOST: u64 = 1000000000000000;
+// The class's two bounds, `longest` and `farthest` of specs/Scalar.antt: m has at most 19 digits, so this is one more than the largest m, and
+// -27 <= e <= 27.
+const MOST: u64 = 10000000000000000000;
 
-const FARTHEST: usize = 22;
+const FARTHEST: usize = 27;
 
 // Exponents from here on count as this one: no text is long enough for its fraction to make up for it.
 const LARGEST: u64 = 0xffff_ffff_ffff_ffff;
@@ -296,18 +296,50 @@ fn exact(neg: bool, m: u64) -> f64
     x
 }
 
-fn raised(neg: bool, m: u64, k: usize) -> f64
-    requires { ⌜ (m < most) × (k ≤ farthest) ⌝ }
-    ensures { λ r. ⌜ toBits binary64 r ≡ signed neg (near (m * 10 ^ k) 1) ⌝ }
+// An f64 holds every whole number up to 2^53 and every power of ten up to 10^22: so far the short path goes.
+const WHOLE: u64 = 0x20_0000_0000_0000;
+
+const POWER: usize = 22;
+
+// The f64 nearest to m * 10^k, or to m / 10^k where `down`, by the wide path. One function for the two, so that the compiler leaves it out of
+// the way of the short path.
+fn by_wide(down: bool, neg: bool, m: u64, k: usize) -> f64
+    requires { ⌜ k ≤ farthest ⌝ }
+    ensures { λ r. ⌜ toBits binary64 r ≡ signed neg (nearBy down m k) ⌝ }
 {
-    nearest::times(exact(neg, m), power_of_ten(k))
+    // The wide path reaches as far as the class, so it always has a value.
+    if down {
+        let wide::Wide::Value(x) = wide::lowered(neg, m, k) else {
+            return 0.0;
+        };
+        return x;
+    }
+    let wide::Wide::Value(y) = wide::raised(neg, m, k) else {
+        return 0.0;
+    };
+    y
 }
 
+// The f64 nearest to m * 10^k, by the short path where both are f64s, as in most files: their product is rounded once.
+fn raised(neg: bool, m: u64, k: usize) -> f64
+    requires { ⌜ k ≤ farthest ⌝ }
+    ensures { λ r. ⌜ toBits binary64 r ≡ signed neg (near (m * 10 ^ k) 1) ⌝ }
+{
+    if (m <= WHOLE) & (k <= POWER) {
+        return nearest::times(exact(neg, m), power_of_ten(k));
+    }
+    by_wide(false, neg, m, k)
+}
+
+// The f64 nearest to m / 10^k: their quotient, or the wide path.
 fn lowered(neg: bool, m: u64, k: usize) -> f64
-    requires { ⌜ (m < most) × (k ≤ farthest) ⌝ }
+    requires { ⌜ k ≤ farthest ⌝ }
     ensures { λ r. ⌜ toBits binary64 r ≡ signed neg (near m (10 ^ k)) ⌝ }
 {
-    nearest::over(exact(neg, m), power_of_ten(k))
+    if (m <= WHOLE) & (k <= POWER) {
+        return nearest::over(exact(neg, m), power_of_ten(k));
+    }
+    by_wide(true, neg, m, k)
 }
 
 // The answer for a real with m, f fraction digits and an exponent x, negative if `down`.

@@ -69,8 +69,13 @@ unclosed-measure : measureOf (bytes "K(1.") ≡ refused 12
 unfolding measureOf kernelOf realOf parseOf numberFrom past walk
 unclosed-measure = refl
 
--- 13 for a real outside the class, in parentheses too
-outside-inside : measureOf (bytes "K(1E23)") ≡ refused 13
+-- #101: "`1E27` in", in parentheses too
+farthest-inside : measureOf (bytes "K(1E27)") ≡ realOf (bytes "1E27")
+unfolding measureOf kernelOf realOf parseOf numberFrom past trail walk
+farthest-inside = refl
+
+-- "and `1E28` out": 13
+outside-inside : measureOf (bytes "K(1E28)") ≡ refused 13
 unfolding measureOf kernelOf realOf parseOf numberFrom past trail walk
 outside-inside = refl
 

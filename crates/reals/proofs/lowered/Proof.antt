@@ -1,19 +1,27 @@
--- `reals::lowered` meets its contract: one quotient of two exact numbers. Assumes nothing.
-use Prim.Native.Nat.{_^_}
+-- `reals::lowered` meets its contract: one quotient of two exact numbers, or the wide path's answer. Assumes nothing.
+use Prim.Native.Nat.{_^_, _≤_}
 use mathlib.Core.Path.{_∙_}
 use native.Mathlib.Nat.{one-le-pow}
 use native.Mathlib.Omega.{arith}
 use borrow.Author.Needs.{needs}
+use borrow.Author.Tests.{leb-true}
+use lib.Dec.{leb}
 use lib.Ieee.{binary64, toBits}
 use Rattle.nearest.specs.Product.{quotient-exact}
+use Rattle.reals.specs.Parts.{both}
 use Rattle.reals.proofs.lowered.Statement.{statement}
 use Rattle.reals.proofs.lowered.Tie as tie
 
 exact-requires : tie.Need-exact-requires
-exact-requires c κs = search needs
+exact-requires c κs =
+    let a = c .before .args in
+    leb-true (a .m) (2 ^ 53) (both (leb (a .m) (2 ^ 53)) (leb (a .k) 22) (c .if1 .taken) .0)
 
 power-of-ten-requires : tie.Need-power-of-ten-requires
-power-of-ten-requires c κs = search needs
+power-of-ten-requires c κs =
+    let a = c .before .before .args in
+    let h : a .k ≤ 22 = leb-true (a .k) 22 (both (leb (a .m) (2 ^ 53)) (leb (a .k) 22) (c .before .if1 .taken) .1) in
+    omega arith
 
 over-requires : tie.Need-over-requires
 over-requires c κs = search needs
@@ -22,9 +30,15 @@ returns : tie.Need-returns
 returns c =
     let p = c .before in
     let e = p .before in
-    let a = e .before .args in
+    let a = e .before .before .args in
     c .over .ensures
     ∙ quotient-exact (toBits binary64 (e .exact .result)) (toBits binary64 (p .power-of-ten .result)) (a .neg) (a .m) (10 ^ a .k) (one-le-pow (a .k) 10 (omega arith)) (e .exact .ensures) (p .power-of-ten .ensures)
 
+by-wide-requires : tie.Need-by-wide-requires
+by-wide-requires c κs = search needs
+
+returns-2 : tie.Need-returns-2
+returns-2 c = c .by-wide .ensures
+
 pub lowered-spec : {M : Type 1} → statement M
-lowered-spec = tie.close (tie.spec exact-requires power-of-ten-requires over-requires returns)
+lowered-spec = tie.close (tie.spec exact-requires power-of-ten-requires over-requires returns by-wide-requires returns-2)
