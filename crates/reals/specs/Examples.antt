@@ -8,6 +8,7 @@ use Rattle.record.specs.Form.{bytes}
 use Rattle.record.specs.Text.{numberFrom}
 use Rattle.nearest.specs.Near.{near, nearUnits}
 use Rattle.reals.specs.Scalar.{read, refused, parseOf, realOf, wholeOf, referenceOf}
+use Rattle.reals.specs.Before.{realBefore}
 
 -- #101: "example 9 becomes `1E27` in and `1E28` out, nineteen digits in and twenty out"
 in-reach : realOf (bytes "1E27") ≡ read 0x4589_d971_e4fe_8402
@@ -59,12 +60,22 @@ fifteen : realOf (bytes "0.00123456789012345E2") ≡ read 0x3fbf_9add_3746_f62e
 unfolding realOf parseOf numberFrom walk near nearUnits size
 fifteen = refl
 
--- `1E23`, which was 13, is read: 10^23 lies just half way between two f64s, and goes to the even one
+-- "`1E23` is 13" was said of the old class
+before-out : realBefore (bytes "1E23") ≡ refused 13
+unfolding parseOf numberFrom walk
+before-out = refl
+
+-- it is read now: 10^23 lies just half way between two f64s, and goes to the even one
 far-now : realOf (bytes "1E23") ≡ read 0x44b5_2d02_c7e1_4af6
 unfolding realOf parseOf numberFrom walk near nearUnits size
 far-now = refl
 
--- so are sixteen digits
+-- "16 is 13" was said of the old class
+sixteen-before : realBefore (bytes "1234567890123456.") ≡ refused 13
+unfolding parseOf numberFrom walk
+sixteen-before = refl
+
+-- it is read now
 sixteen : realOf (bytes "1234567890123456.") ≡ read 0x4311_8b54_f22a_eb00
 unfolding realOf parseOf numberFrom walk near nearUnits size
 sixteen = refl

@@ -7,5 +7,6 @@ pub mod Read
 pub mod Whole
 pub mod Form
 pub mod FormRight
+pub mod Before
 pub mod WholeRight
 pub mod Examples

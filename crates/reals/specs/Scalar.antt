@@ -129,7 +129,7 @@ abbrev pub nearBy : Bool → ℕ → ℕ → ℕ
 nearBy false m k = near (m * 10 ^ k) 1
 nearBy true m k = near m (10 ^ k)
 
--- the answer by a class's two bounds; "sign kept at zero".
+-- the answer by a class's two bounds; "sign kept at zero". Document 01's class is the same at 15 and 22 (Before.antt)
 abbrev pub classIn : ℕ → ℕ → Parsed → Answer ℕ
 classIn long far (parsed s m f d x) = pick (belongs long far m f d x) (read (signed s (nearTen m f d x))) (refused 13)
 classIn long far unparsed = refused 12

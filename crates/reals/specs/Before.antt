@@ -1,0 +1,102 @@
+-- #101: "The old class keeps its answers bit for bit": what document 01's class reads, this one reads the same; 12 stays 12, and nothing else
+-- becomes it. Shown once for all classes by their two bounds. Assumes nothing.
+use Prim.Native.Nat.{ℕ, _+_, _^_, _≤_, _<_}
+use mathlib.Core.Path.{_≡_, refl, sym, _∙_, ap}
+use mathlib.Core.Logic.{_⊎_, inl, inr}
+use mathlib.Core.Bool.{Bool, true, false}
+use mathlib.Core.List.{List}
+use native.Mathlib.Nat.{lt-of-lt-of-le, pow-le-pow-right}
+use native.Mathlib.Omega.{arith}
+use Rattle.lex.specs.Right.Steps.{clash}
+use Rattle.nearest.specs.Round.{signed}
+use Rattle.reals.specs.Scalar.{Answer, read, refused, Parsed, parsed, unparsed, parseOf, longest, farthest, nearTen, belongs, classIn, realOf}
+use Rattle.reals.specs.Form.{Reach, Classed}
+use Rattle.reals.specs.FormRight.{Decided, class-is}
+
+-- document 01: "Class: m has at most 15 digits and −22 ≤ e ≤ 22". What a text answered as a real before #101
+abbrev pub realBefore : List ℕ → Answer ℕ
+realBefore t = classIn 15 22 (parseOf t)
+
+-- ---- two classes by their bounds, the second with bounds as large or larger
+-- what is in reach is in reach of more
+reach-wider : (far far' f : ℕ) (d : Bool) (x : ℕ) → far ≤ far' → Reach far f d x → Reach far' f d x
+reach-wider far far' f false x h r = let a = r .0 in let b = r .1 in (omega arith, omega arith)
+reach-wider far far' f true x h r = omega arith
+
+-- what is of the class is of the wider one
+pub classed-wider : (long far long' far' m f : ℕ) (d : Bool) (x : ℕ) → long ≤ long' → far ≤ far' → Classed long far m f d x → Classed long' far' m f d x
+classed-wider long far long' far' m f d x l h c =
+    record { few = lt-of-lt-of-le (c .few) (pow-le-pow-right (omega arith) l); reach = reach-wider far far' f d x h (c .reach) }
+
+-- an answer is not two
+read-not-refused : {b n : ℕ} → read b ≡ refused n → ⊥
+read-not-refused e = clash (cc)
+
+-- 13 is not 12
+outside-not-other : _≡_ {A = Answer ℕ} (refused 13) (refused 12) → ⊥
+outside-not-other e = let z : _≡_ {A = ℕ} 13 12 = ap number e in absurd (omega arith)
+  where
+    number : Answer ℕ → ℕ
+    number (read b) = 0
+    number (refused n) = n
+
+-- of the class, the nearest f64
+read-in : (long far : ℕ) (s : Bool) (m f : ℕ) (d : Bool) (x : ℕ) → belongs long far m f d x ≡ true → classIn long far (parsed s m f d x) ≡ read (signed s (nearTen m f d x))
+read-in long far s m f d x e = rw e refl
+
+-- outside it, 13
+out-of : (long far : ℕ) (s : Bool) (m f : ℕ) (d : Bool) (x : ℕ) → belongs long far m f d x ≡ false → classIn long far (parsed s m f d x) ≡ refused 13
+out-of long far s m f d x e = rw e refl
+
+-- what a class reads, a wider one reads the same
+pub class-kept : (long far long' far' : ℕ) (p : Parsed) (b : ℕ) → long ≤ long' → far ≤ far' → classIn long far p ≡ read b → classIn long' far' p ≡ read b
+class-kept long far long' far' unparsed b l h e = absurd (read-not-refused (sym e))
+class-kept long far long' far' (parsed s m f d x) b l h e = go (class-is long far m f d x) (class-is long' far' m f d x)
+  where
+    go : Decided long far m f d x → Decided long' far' m f d x → classIn long' far' (parsed s m f d x) ≡ read b
+    go (inl c) (inl k) = read-in long' far' s m f d x (k .1) ∙ sym (read-in long far s m f d x (c .1)) ∙ e
+    go (inl c) (inr k) = absurd (k .0 (classed-wider long far long' far' m f d x l h (c .0)))
+    go (inr c) k = absurd (read-not-refused (sym e ∙ out-of long far s m f d x (c .1)))
+
+-- what is 12 by one class is 12 by every other
+pub class-other : (long far long' far' : ℕ) (p : Parsed) → classIn long far p ≡ refused 12 → classIn long' far' p ≡ refused 12
+class-other long far long' far' unparsed e = refl
+class-other long far long' far' (parsed s m f d x) e = go (class-is long far m f d x)
+  where
+    go : Decided long far m f d x → classIn long' far' (parsed s m f d x) ≡ refused 12
+    go (inl c) = absurd (read-not-refused (sym (read-in long far s m f d x (c .1)) ∙ e))
+    go (inr c) = absurd (outside-not-other (sym (out-of long far s m f d x (c .1)) ∙ e))
+
+-- what is 13 by one class is read by another, or 13
+pub class-outside : (long far long' far' : ℕ) (p : Parsed) → classIn long far p ≡ refused 13 → ((b : ℕ) × (classIn long' far' p ≡ read b)) ⊎ (classIn long' far' p ≡ refused 13)
+class-outside long far long' far' unparsed e = absurd (outside-not-other (sym e))
+class-outside long far long' far' (parsed s m f d x) e = go (class-is long' far' m f d x)
+  where
+    go : Decided long' far' m f d x → ((b : ℕ) × (classIn long' far' (parsed s m f d x) ≡ read b)) ⊎ (classIn long' far' (parsed s m f d x) ≡ refused 13)
+    go (inl k) = inl (signed s (nearTen m f d x), read-in long' far' s m f d x (k .1))
+    go (inr k) = inr (out-of long' far' s m f d x (k .1))
+
+-- ---- document 01's class and this one
+-- "The old class keeps its answers bit for bit"
+pub before-kept : (t : List ℕ) (b : ℕ) → realBefore t ≡ read b → realOf t ≡ read b
+unfolding realOf
+before-kept t b e = class-kept 15 22 longest farthest (parseOf t) b (omega arith) (omega arith) e
+
+-- what was 12 is 12
+pub before-12 : (t : List ℕ) → realBefore t ≡ refused 12 → realOf t ≡ refused 12
+unfolding realOf
+before-12 t e = class-other 15 22 longest farthest (parseOf t) e
+
+-- what is 12 was 12
+pub before-12-back : (t : List ℕ) → realOf t ≡ refused 12 → realBefore t ≡ refused 12
+unfolding realOf
+before-12-back t e = class-other longest farthest 15 22 (parseOf t) e
+
+-- "13 now means outside the wider class": what was 13 is read or 13
+pub before-13 : (t : List ℕ) → realBefore t ≡ refused 13 → ((b : ℕ) × (realOf t ≡ read b)) ⊎ (realOf t ≡ refused 13)
+unfolding realOf
+before-13 t e = class-outside 15 22 longest farthest (parseOf t) e
+
+-- the same of the rules: a real of the old class is one of this
+pub before-classed : (m f : ℕ) (d : Bool) (x : ℕ) → Classed 15 22 m f d x → Classed longest farthest m f d x
+before-classed m f d x c = classed-wider 15 22 longest farthest m f d x (omega arith) (omega arith) c
