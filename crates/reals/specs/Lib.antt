@@ -8,5 +8,6 @@ pub mod Whole
 pub mod Form
 pub mod FormRight
 pub mod Before
+pub mod Agree
 pub mod WholeRight
 pub mod Examples

@@ -320,7 +320,8 @@ fn by_wide(down: bool, neg: bool, m: u64, k: usize) -> f64
     y
 }
 
-// The f64 nearest to m * 10^k, by the short path where both are f64s, as in most files: their product is rounded once.
+// The f64 nearest to m * 10^k, by the short path where both are f64s, as in most files: their product is rounded once. The wide path would
+// answer the same (specs/Agree.antt).
 fn raised(neg: bool, m: u64, k: usize) -> f64
     requires { ⌜ k ≤ farthest ⌝ }
     ensures { λ r. ⌜ toBits binary64 r ≡ signed neg (near (m * 10 ^ k) 1) ⌝ }
