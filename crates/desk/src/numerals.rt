@@ -1,8 +1,9 @@
 // An f64 in decimal, for people.
 //
-// What is put is the decimal with the fewest digits, fifteen at most, among those m * 10^e, with e from -22 to 22, that the f64 is
-// nearest to. m and the power of ten are f64s themselves, so that one product or quotient, rounded once, tells whether it is.
-// Where there is none, `about` and fifteen digits are put. The bits beside it are what counts.
+// What is put is the decimal with the fewest digits among those m * 10^e, with e from -22 to 22, that the f64 is nearest to. Where m has at
+// most fifteen digits, it and the power of ten are f64s themselves, so that one product or quotient, rounded once, tells whether it
+// is. Where sixteen or seventeen are needed, the decimal is read back by the wide path, as the reader does. Where there is none,
+// `about` and fifteen digits are put. The bits beside it are what counts.
 ghost use Prim.Native.Nat.{_≤_};
 use crate::lines;
 use text::Line;
@@ -105,7 +106,7 @@ fn written(what: u64, before: u64, m: u64, up: usize, down: usize, bits: u64) ->
     lines::line(lines::DIGITS, a, before, m, zeros, unit, bits, 0)
 }
 
-// Fifteen digits at most, of which so many stand behind the point, with zeros before them where they are too few.
+// Seventeen digits at most, of which so many stand behind the point, with zeros before them where they are too few.
 fn pointed(a: u64, before: u64, m: u64, down: usize, unit: u64, bits: u64) -> Line {
     let one = tens(down);
     let behind = m % one;
@@ -122,17 +123,17 @@ fn pointed(a: u64, before: u64, m: u64, down: usize, unit: u64, bits: u64) -> Li
     )
 }
 
-// How many digits a number has, of fifteen at most.
+// How many digits a number has, of seventeen at most.
 fn width(n: u64) -> usize {
-    for k in 1..15 {
+    for k in 1..17 {
         if n < tens(k) {
             return k;
         }
     }
-    15
+    17
 }
 
-// 10^k, and 10^15 from there on: above every number of fifteen digits.
+// 10^k, and 10^17 from there on: above every number of seventeen digits.
 fn tens(k: usize) -> u64
     ensures { λ r. ⌜ 1 ≤ r ⌝ }
 {
@@ -152,7 +153,9 @@ fn tens(k: usize) -> u64
         12 => 1000000000000,
         13 => 10000000000000,
         14 => 100000000000000,
-        _ => 1000000000000000,
+        15 => 1000000000000000,
+        16 => 10000000000000000,
+        _ => 100000000000000000,
     }
 }
 
@@ -165,7 +168,68 @@ fn decimal(x: f64) -> Digits {
     if is_found(found) {
         return found;
     }
+    let longer = long(x);
+    if is_found(longer) {
+        return longer;
+    }
     first(x, true)
+}
+
+// Sixteen digits, or seventeen, that read as the number.
+fn long(x: f64) -> Digits {
+    let found = long_below(x, 1e16);
+    if is_found(found) {
+        return found;
+    }
+    long_below(x, 1e17)
+}
+
+// Digits below `most` and not below a tenth of it, that read as the number. None stand before the point but those: a number of 10^17 or more
+// has none here.
+fn long_below(x: f64, most: f64) -> Digits {
+    for k in 0..23 {
+        let y = x * power(k);
+        if (most <= y * 10.0) & (y < most) {
+            return read_back(x, closest(x, k), k);
+        }
+    }
+    Digits::Nothing
+}
+
+fn read_back(x: f64, m: u64, k: usize) -> Digits {
+    if let wide::Wide::Value(r) = wide::lowered(false, m, k) {
+        if r == x {
+            return Digits::Are(m, 0, k);
+        }
+    }
+    Digits::Nothing
+}
+
+// 1.5 * 2^52: a small number of either sign added to it is rounded to a whole one, which is what its bits count.
+const MIDDLE: f64 = 6755399441055744.0;
+
+// The whole number closest to x * 10^k, which is below 10^17: its upper part, and the rest with what the product lost.
+fn closest(x: f64, k: usize) -> u64 {
+    let y = x * power(k);
+    let high = whole(y / 1048576.0);
+    let rest = (y - high * 1048576.0) + lost(x, power(k), y);
+    let low = std::num::wrapping_sub_u64(nearest::bits(rest + MIDDLE), 0x4338_0000_0000_0000);
+    std::num::wrapping_add_u64(counted(high) << 20, low)
+}
+
+// What the product y of a and b lost when it was rounded: the halves' products are exact.
+fn lost(a: f64, b: f64, y: f64) -> f64 {
+    let a1 = upper(a);
+    let a2 = a - a1;
+    let b1 = upper(b);
+    let b2 = b - b1;
+    ((a1 * b1 - y) + a1 * b2 + a2 * b1) + a2 * b2
+}
+
+// The upper half of a number's binary digits.
+fn upper(a: f64) -> f64 {
+    let c = 134217729.0 * a;
+    c - (c - a)
 }
 
 // The digits for the largest power of ten that has some: those that stand for the number, or where `near` fifteen of them.

@@ -5,10 +5,10 @@ use Rattle.desk.proofs.numerals.width.Statement.{statement}
 use Rattle.desk.proofs.numerals.width.Tie as tie
 
 abbrev Inv-loop : tie.InvT-loop
-Inv-loop n k₀ k = k ≤ 15
+Inv-loop n k₀ k = k ≤ 17
 
 abbrev μ-loop : tie.MeasureT-loop
-μ-loop n k₀ k = 15 - k
+μ-loop n k₀ k = 17 - k
 
 loop-holds : tie.Need-loop-holds Inv-loop μ-loop
 loop-holds c = omega arith
