@@ -26,6 +26,7 @@ PLAIN = re.compile(rb"[ \t\n\r\x0cA-Za-z0-9_.+#$*=!&-]*\Z")
 FLAT = re.compile(rb"\([ \t\n\r\x0cA-Za-z0-9_.+#$*=!&,-]*\)\Z")
 STRING = re.compile(rb"'[^'\\\x80-\xff]*'\Z")
 WHITE = b" \t\n\r\x0c"
+LONGEST, FARTHEST = 19, 27  # the class: the digits of m, and how far e lies from 0
 
 
 def ref(s):
@@ -43,7 +44,7 @@ def f64(s):
         return 12
     whole, fraction, exponent = m[1], m[2] or b"", int(m[3] or b"0")
     digits, e = (whole + fraction).lstrip(b"0"), exponent - len(fraction)
-    if len(digits) > 15 or not -22 <= e <= 22:
+    if len(digits) > LONGEST or abs(e) > FARTHEST:
         return 13
     value = float(Fraction(int(digits or b"0")) * Fraction(10) ** e)
     if s.startswith(b"-"):

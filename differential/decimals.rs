@@ -1,11 +1,11 @@
 //! What Rust reads of decimals, one to a line of standard input: the 16 hex digits of the f64's bits, `12` for what is no real,
 //! `13` for a real outside the class. Rust's own parse gives the value. Which decimals are reals, and which of these are of
 //! the class, is decided by document 01's words in `oracle/real.rs`, and Rust's parse must agree on what is a real: it takes the same
-//! decimals, and beside them only `inf`, `infinity` and `nan`.
+//! decimals, and beside them only `inf`, `infinity` and `nan`. Its value must be the one that whole numbers give there.
 #[path = "oracle/real.rs"]
 mod real;
 
-use real::{Reading, names_no_number, of_class, reading};
+use real::{Reading, names_no_number, nearest, of_class, reading};
 use std::io::{Read, Write};
 
 /// The program compared with has room for a line of so many bytes.
@@ -24,7 +24,12 @@ fn answer(line: &[u8]) -> String {
         Reading::NotReal => format!("Rust takes {s:?}, and it is no real"),
         Reading::Real { figures, e } => match parsed {
             Err(_) => format!("Rust refuses {s:?}, and it is a real"),
-            Ok(x) if of_class(&figures, e) => format!("{:016x}", x.to_bits()),
+            Ok(x) if of_class(&figures, e) && nearest(&figures, e) == x.abs() => {
+                format!("{:016x}", x.to_bits())
+            }
+            Ok(_) if of_class(&figures, e) => {
+                format!("Rust gives {s:?} another value than the nearest")
+            }
             Ok(_) => "13".to_string(),
         },
     }

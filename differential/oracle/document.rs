@@ -5,7 +5,7 @@
 //! surrogates that do not join), and everywhere else its answer must be the original's, so that an error of the driver shows. It
 //! was written with the original at hand: a check of the driver, and no second witness for the original.
 
-use crate::real::{Reading, of_class, reading};
+use crate::real::{Reading, nearest, of_class, reading};
 use crate::refusal::Refusal;
 use crate::text;
 use std::cell::Cell;
@@ -295,7 +295,7 @@ impl Document<'_> {
         i64::try_from(if negative { -size } else { size }).map_err(|_| 12)
     }
 
-    /// The bits of the f64 nearest to m·10^e. m and 10^|e| are f64s, so that one multiplication or division rounds once.
+    /// The bits of the f64 nearest to m·10^e.
     fn real(&self, span: &Range<usize>) -> Result<u64, u8> {
         let s = self.number(span)?;
         let Reading::Real { figures, e } = reading(s) else {
@@ -308,17 +308,7 @@ impl Document<'_> {
             self.outside.set(true);
             return Err(13);
         }
-        let m = if figures.is_empty() {
-            0
-        } else {
-            figures.parse::<u64>().expect("15 digits")
-        };
-        let ten = (0..e.unsigned_abs()).fold(1.0f64, |p, _| p * 10.0);
-        let size = if e < 0 {
-            m as f64 / ten
-        } else {
-            m as f64 * ten
-        };
+        let size = nearest(&figures, e);
         let x = if s.starts_with('-') { -size } else { size };
         // Rust's parser stops taking digits of an exponent at 65536, which a long fraction could make up for.
         if s.len() > 60000 && s.parse::<f64>().is_ok_and(|y| y.to_bits() != x.to_bits()) {

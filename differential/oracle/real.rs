@@ -52,9 +52,41 @@ pub fn reading(s: &str) -> Reading {
     }
 }
 
-/// m has at most 15 digits, and e lies from -22 to 22.
+/// The class: m has at most so many digits, and e lies no farther from 0 than this.
+const LONGEST: usize = 19;
+const FARTHEST: i128 = 27;
+
 pub fn of_class(figures: &str, e: i128) -> bool {
-    figures.len() <= 15 && (-22..=22).contains(&e)
+    figures.len() <= LONGEST && (-FARTHEST..=FARTHEST).contains(&e)
+}
+
+/// The f64 nearest to m·10^e of the class, ties to even, by whole numbers alone: m is below 2^64 and 5^27 below 2^63, so that m·5^e
+/// has fewer than 128 bits, and m over 5^-e, with m moved up to the 128th bit, has 65 and more, of which an f64 holds 53.
+pub fn nearest(figures: &str, e: i128) -> f64 {
+    if figures.is_empty() {
+        return 0.0;
+    }
+    let m: u128 = figures.parse().expect("digits");
+    let fives = 5u128.pow(e.unsigned_abs() as u32);
+    // m·10^e is whole·2^power, and where there is a rest a little more.
+    let (whole, rest, power) = if e < 0 {
+        let up = m.leading_zeros();
+        let (m, power) = (m << up, e as i32 - up as i32);
+        (m / fives, m % fives != 0, power)
+    } else {
+        (m * fives, false, e as i32)
+    };
+    let over = 75u32.saturating_sub(whole.leading_zeros());
+    if over == 0 {
+        return whole as f64 * power_of_two(power);
+    }
+    let (kept, below, half) = (whole >> over, whole & ((1 << over) - 1), 1 << (over - 1));
+    let up = below > half || below == half && (rest || kept % 2 == 1);
+    (kept + u128::from(up)) as f64 * power_of_two(power + over as i32)
+}
+
+fn power_of_two(power: i32) -> f64 {
+    f64::from_bits(((1023 + power) as u64) << 52)
 }
 
 /// What Rust's parse takes beside the reals.
