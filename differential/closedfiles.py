@@ -14,7 +14,7 @@ from unitfiles import File
 NO_PARAMETER = [b"", b" ", b"/*c*/", b"\n/*(*/\t"]
 OPEN_LITERAL = [b"\"", b"(\")", b"\"a,#1", b"(#1,\"0A)", b" \"", b"/*\"*/\""]
 OTHER_TYPE = [b"$", b"*", b"5", b"#1", b"(1)", b"((#1))", b"(#1,$)", b"K(#1)", b"(#4294967296)", b"'a'", b"(,)"]
-OUTSIDE_CLASS = [b"1E23", b"LENGTH_MEASURE(1.E-23)", b"1234567890123456.", b"0.E23", b"K(6.283185307179586)"]
+OUTSIDE_CLASS = [b"1E28", b"LENGTH_MEASURE(1.E-28)", b"12345678901234567890.", b"0.E28", b"K(-1.025893950136E-17)"]
 BODIES = [
     b"A()", b"(A()B(1))", b"SI_UNIT($,.METRE.)", b"(LENGTH_UNIT()SI_UNIT(.CENTI.,.METRE.))", b"(LENGTH_UNIT()NAMED_UNIT(*)SI_UNIT(.KILO.,.METRE.))", b"LENGTH_MEASURE_WITH_UNIT(LENGTH_MEASURE(2.5),#11)",
     b"(PLANE_ANGLE_UNIT()SI_UNIT(.MILLI.,.RADIAN.))", b"UNCERTAINTY_MEASURE_WITH_UNIT(LENGTH_MEASURE(0.25),#11,'','')", b"GEOMETRIC_REPRESENTATION_CONTEXT(3)", b"B('a;b',(1,2))", b"A(1))",

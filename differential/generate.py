@@ -136,7 +136,7 @@ class Grammar:
 
     def number(self):
         r = self.r
-        return r.pick([b"1", b"0.", b"-1.5E-3", b"+7", b"1.E22", b"12345678901234567890", b".5", b"2."])
+        return r.pick([b"1", b"0.", b"-1.5E-3", b"+7", b"1.E22", b"12345678901234567890", b".5", b"2.", b"1E27", b"1.E-28", b"1234567890123456789"])
 
     def item(self, depth):
         r = self.r

@@ -11,6 +11,9 @@ CENTIMETRE = b"4024000000000000"
 HALF = b"3fe0000000000000"
 THOUSANDTH = b"3f50624dd2f1a9fc"
 HUNDREDTH = b"3f847ae147ae147b"
+DEGREE = b"3f91df46a2529d39"
+TEN_TO_23 = b"44b52d02c7e14af6"
+TEN_TO_MINUS_27 = b"3a53ce9a36f23c10"
 PREFIXES = [  # in millimetres and in radians, the f64 next to 1000.0 times the factor and to the factor
     (b"EXA", 1000.0 * 1e18, 1e18), (b"PETA", 1000.0 * 1e15, 1e15), (b"TERA", 1000.0 * 1e12, 1e12), (b"GIGA", 1000.0 * 1e9, 1e9),
     (b"MEGA", 1000.0 * 1e6, 1e6), (b"KILO", 1000.0 * 1e3, 1e3), (b"HECTO", 1000.0 * 1e2, 1e2), (b"DECA", 1000.0 * 1e1, 1e1),
@@ -104,7 +107,7 @@ RULES = [
         b"#5=UNCERTAINTY_MEASURE_WITH_UNIT($);", b"#6=UNCERTAINTY_MEASURE_WITH_UNIT(0.01);",
     ),
     answered(
-        told(tolerance=HUNDREDTH), context(b"(#2)", b"(#3,#4)"), MM, b"#3=UNCERTAINTY_MEASURE_WITH_UNIT(0.01);", b"#4=UNCERTAINTY_MEASURE_WITH_UNIT(1E23);",
+        told(tolerance=HUNDREDTH), context(b"(#2)", b"(#3,#4)"), MM, b"#3=UNCERTAINTY_MEASURE_WITH_UNIT(0.01);", b"#4=UNCERTAINTY_MEASURE_WITH_UNIT(1E28);",
     ),
     answered(told(), context(b"(#2)", b"()"), MM),
     # "No such context: 1.0, 1.0, 1e-3, unresolved."
@@ -173,10 +176,15 @@ RULES = [
     answered(told(angle=HALF), context(b"(#2,#3)"), MM, converted(3, b"#4", b"PLANE_ANGLE_UNIT"), b"#4=M(0.5,#9);"),
     answered(told(), context(b"(#2,#3)"), MM, converted(3, b"#4", b"PLANE_ANGLE_UNIT"), b"#4=M($,#9);"),
     answered(told(), context(b"(#2,#3)"), MM, converted(3, b"#4", b"PLANE_ANGLE_UNIT")),
+    # Numbers that the class of fifteen digits left out: the degree as two exporters write it, and others inside the bounds of today.
+    answered(told(angle=DEGREE), context(b"(#2,#3)"), MM, converted(3, b"#4", b"PLANE_ANGLE_UNIT"), b"#4=M(PLANE_ANGLE_MEASURE(0.017453292519943295),#5);", radian(5)),
+    answered(told(TEN_TO_23), L, converted(2, b"#3"), b"#3=M(1E23,#4);", si(4)),
+    answered(told(tolerance=TEN_TO_MINUS_27), context(b"(#2)", b"(#3)"), MM, b"#3=UNCERTAINTY_MEASURE_WITH_UNIT(1E-27);"),
     # "13 inside units refuses the whole answer."
-    refused(13, L + converted(2, b"#3") + b"#3=M(1E23,#4);" + si(4), b"M("),
-    refused(13, context(b"(#2,#3)") + MM + converted(3, b"#4", b"PLANE_ANGLE_UNIT") + b"#4=M(0.01745329251994329,#5);", b"M("),
-    refused(13, context(b"(#2)", b"(#3)") + MM + b"#3=UNCERTAINTY_MEASURE_WITH_UNIT(1E23);", b"WITH_UNIT("),
+    refused(13, L + converted(2, b"#3") + b"#3=M(1E28,#4);" + si(4), b"M("),
+    refused(13, context(b"(#2,#3)") + MM + converted(3, b"#4", b"PLANE_ANGLE_UNIT") + b"#4=M(0.017453292519943295769,#5);", b"M("),
+    refused(13, context(b"(#2,#3)") + MM + converted(3, b"#4", b"PLANE_ANGLE_UNIT") + b"#4=M(-1.025893950136E-17,#5);", b"M("),
+    refused(13, context(b"(#2)", b"(#3)") + MM + b"#3=UNCERTAINTY_MEASURE_WITH_UNIT(1E28);", b"WITH_UNIT("),
 ]
 # "Prefixes: EXA 1e18, .. any other 1.0."
 RULES += [answered(told(pattern(mm)), L, si(2, b"." + word + b".")) for word, mm, _ in PREFIXES]

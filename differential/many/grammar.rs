@@ -40,7 +40,7 @@ const STRING: [&[u8]; 24] = [
     b"\xe4",
     b"#1=",
 ];
-const SCALARS: [&[u8]; 40] = [
+const SCALARS: [&[u8]; 50] = [
     b"#1",
     b"#2",
     b"#3",
@@ -69,6 +69,15 @@ const SCALARS: [&[u8]; 40] = [
     b"-9223372036854775808",
     b"9223372036854775808",
     b"12345678901234567890",
+    b"1234567890123456789",
+    b"1.E27",
+    b"1E28",
+    b"1.E-27",
+    b"1E-28",
+    b"0E28",
+    b"0.017453292519943295",
+    b"6.283185307179586",
+    b"-1.025893950136E-17",
     b"$",
     b"*",
     b".T.",
@@ -80,6 +89,7 @@ const SCALARS: [&[u8]; 40] = [
     b"inf",
     b"LENGTH_MEASURE(2.5)",
     b"K(1E23)",
+    b"K(1E28)",
     b"",
 ];
 const WORDS: [&[u8]; 12] = [
@@ -201,7 +211,7 @@ impl Made<'_> {
                     self.put(b"#");
                     self.number(n);
                 }
-                2 => self.picked(&SCALARS[9..28]),
+                2 => self.picked(&SCALARS[9..37]),
                 _ if depth < 3 => self.list(depth + 1),
                 _ => self.picked(&SCALARS),
             }

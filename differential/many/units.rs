@@ -16,7 +16,7 @@ const NAMES: [&[u8]; 8] = [
     b"$",
     b"1",
 ];
-const NUMBERS: [&[u8]; 12] = [
+const NUMBERS: [&[u8]; 16] = [
     b"25.4",
     b"1.",
     b"LENGTH_MEASURE(2.54)",
@@ -29,6 +29,10 @@ const NUMBERS: [&[u8]; 12] = [
     b"'x'",
     b"1E22",
     b"PLANE_ANGLE_MEASURE(0.5)",
+    b"0.017453292519943295",
+    b"1E27",
+    b"1E28",
+    b"9999999999999999999.E-27",
 ];
 const ROLES: [&[u8]; 6] = [
     b"LENGTH_UNIT()",
