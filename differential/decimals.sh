@@ -4,9 +4,9 @@
 #   decimals.sh DECIMALS_PROGRAM [WORK_FOLDER]
 #   decimals.sh replay FOLDER       writes the chosen list as FOLDER/stdin, and Rust's answers to it as FOLDER/stdout
 #
-# Environment: STREAMS (default: chosen exhaustive class ties edges outside malformed), COUNT (decimals of `class`, 600000; of
-# `ties` half of it, of `edges`, `outside` and `malformed` a sixth), SEED (1).
-# The last line is `differences N`; the exit status is 0 where N is 0.
+# Environment: STREAMS (default: chosen exhaustive class ties edges outside malformed), COUNT (decimals of `class` and of `ties`,
+# 1300000 each; of `edges`, `outside` and `malformed` a thirteenth), SEED (1).
+# The last lines are how many decimals had a value, and `differences N`; the exit status is 0 where N is 0.
 set -eu
 [ $# -ge 1 ] || { sed -n '2,9s/^# \{0,1\}//p' "$0" >&2; exit 2; }
 here=$(CDPATH='' cd -- "$(dirname -- "$0")" && pwd)
@@ -41,23 +41,26 @@ fi
 
 program=$(CDPATH='' cd -- "$(dirname -- "$1")" && pwd)/$(basename -- "$1")
 [ -x "$program" ] || { echo "decimals.sh: $1 is no executable" >&2; exit 2; }
-count=${COUNT:-600000}
+count=${COUNT:-1300000}
 seed=${SEED:-1}
 decimals=0
+values=0
 differences=0
 for stream in ${STREAMS:-chosen exhaustive class ties edges outside malformed}; do
     case $stream in
     chosen | exhaustive) $make "$stream" ;;
-    class) $make class "$count" "$seed" ;;
-    ties) $make ties $((count / 2)) "$seed" ;;
-    *) $make "$stream" $((count / 6)) "$seed" ;;
+    class | ties) $make "$stream" "$count" "$seed" ;;
+    *) $make "$stream" $((count / 13)) "$seed" ;;
     esac >"$work/stream"
     "$work/oracle" <"$work/stream" >"$work/expected"
     compare "$stream"
     echo "$stream: decimals $made differences $differing | $(tally "$work/expected")"
+    [ "$stream" != ties ] || $make tally <"$work/stream" | tail -n 1
+    values=$((values + $(grep -c '^[0-9a-f]\{16\}$' "$work/expected" || true)))
     decimals=$((decimals + made))
     differences=$((differences + differing))
 done
 echo "decimals $decimals"
+echo "of the class $values"
 echo "differences $differences"
 [ "$differences" -eq 0 ]
