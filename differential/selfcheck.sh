@@ -1,11 +1,12 @@
 #!/bin/sh
-# Checks the oracle itself: the same answers twice, no `driver` line, the points written by hand, and check.py's other eyes.
+# Checks the oracle itself: the same answers twice, no `driver` line, the points written by hand, check.py's other eyes, and for decimals
+# nearest.py's whole numbers.
 #
 #   selfcheck.sh [WORK_FOLDER]
 #
-# Environment: STREAMS (default: chosen exhaustive generated parameters lookups units), COUNT, PARAMETERS, LOOKUPS, UNITS, SEED and
-# ORACLE as for compare.sh; CHUNK (default 5000; `chosen` and `exhaustive` are one chunk); LOOKED (default 2: so many chunks of
-# a stream are looked at by check.py, which is slow).
+# Environment: STREAMS (default: chosen exhaustive generated parameters lookups units decimals), COUNT, PARAMETERS, LOOKUPS, UNITS,
+# SEED and ORACLE as for compare.sh; DECIMALS (default 50000: so many of each stream that decimals.py draws); CHUNK (default 5000;
+# `chosen` and `exhaustive` are one chunk); LOOKED (default 2: so many chunks of a stream are looked at by check.py, which is slow).
 # The last line is `wrong N`; the exit status is 0 where N is 0.
 set -eu
 here=$(CDPATH='' cd -- "$(dirname -- "$0")" && pwd)
@@ -31,9 +32,34 @@ bad() {
 }
 python3 "$here/points.py" "$oracle" --part all || bad "points: not all as written"
 
-for stream in ${STREAMS:-chosen exhaustive generated parameters lookups units}; do
+# Decimals by Rust, under decimals.rs, and by nearest.py; and the ties must lie where decimals.py says.
+decimals() {
+    rustc --edition 2021 -C opt-level=3 -o "$work/decimals" "$here/decimals.rs"
+    python3 "$here/decimals.py" tried || bad "decimals: other ties, or nearer ones, than decimals.py computes"
+    for kind in chosen exhaustive class ties edges outside malformed; do
+        case $kind in
+            chosen | exhaustive) python3 "$here/decimals.py" "$kind" ;;
+            *) python3 "$here/decimals.py" "$kind" "${DECIMALS:-50000}" "$seed" ;;
+        esac >"$work/stream"
+        "$work/decimals" <"$work/stream" >"$work/one"
+        python3 "$here/nearest.py" <"$work/stream" >"$work/two"
+        cmp "$work/one" "$work/two" || bad "decimals, $kind: nearest.py has other answers"
+        line="decimals, $kind: $(wc -l <"$work/two")"
+        case $kind in
+            chosen | ties)
+                python3 "$here/decimals.py" tally <"$work/stream" >"$work/look" || { cat "$work/look"; bad "decimals, $kind: not all ties are there"; }
+                line="$line | $(tail -n 1 "$work/look")"
+                ;;
+        esac
+        echo "$line"
+    done
+    rm -f "$work/decimals"
+}
+
+for stream in ${STREAMS:-chosen exhaustive generated parameters lookups units decimals}; do
     part=all arguments=
     case $stream in
+        decimals) decimals; continue ;;
         chosen | exhaustive) total=$(python3 "$here/generate.py" "$stream" --count) step=$total ;;
         generated) total=${COUNT:-200000} ;;
         parameters) total=${PARAMETERS:-300000} ;;
