@@ -159,7 +159,8 @@ def by_remainder(rng, bounds=NOW):
 
 
 class Span(NamedTuple):
-    """For m of low..high, m * 10^e is m * a / p units of the f64's last place; a and p have no common factor, and p is not 1."""
+    """For m of low..high, m * 10^e is m * a / p units of the f64's last place, and a whole number of them more; a and p have no common
+    factor, and p is not 1."""
     a: int
     p: int
     low: int
