@@ -345,7 +345,7 @@ fn lowered(neg: bool, m: u64, k: usize) -> f64
 
 // The answer for a real with m, f fraction digits and an exponent x, negative if `down`.
 fn in_class(neg: bool, m: u64, f: usize, down: bool, x: u64) -> Real
-    requires { ⌜ f < 2 ^ 63 ⌝ }
+    requires { ⌜ (m ≤ most) × (f < 2 ^ 63) ⌝ }
     ensures { λ r. ⌜ ClassOf neg m f down x r ⌝ }
 {
     if MOST <= m {

@@ -3,3 +3,4 @@ pub mod Told
 pub mod Long
 pub mod Pattern
 pub mod Tens
+pub mod Only

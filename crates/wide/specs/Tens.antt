@@ -2,13 +2,14 @@
 -- the place. Assumes nothing.
 use Prim.Native.Nat.{ℕ, zero, suc, _+_, _-_, _*_, _/_, _%_, _^_, _≤_, _<_}
 use mathlib.Core.Path.{_≡_, refl, sym, _∙_, ap, subst}
-use mathlib.Core.Bool.{Bool, true, false, not}
-use native.Mathlib.Nat.{add-mul, mul-assoc, mul-comm, mul-left-comm, mul-right-comm, one-mul, mul-pos, mul-le-mul, mul-lt-mul-of-pos-right, lt-of-mul-lt-mul-right, lt-of-le-of-lt, one-le-pow, pow-suc, suc-mul, zero-mul, pow-le-pow-right}
+use mathlib.Core.Bool.{Bool, true, false, not, _&&_}
+use native.Mathlib.Nat.{add-mul, mul-assoc, mul-comm, mul-left-comm, mul-right-comm, one-mul, mul-pos, mul-le-mul, mul-lt-mul-of-pos-right, lt-of-mul-lt-mul-right, lt-of-le-of-lt, one-le-pow, pow-suc, suc-mul, zero-mul, pow-le-pow-right, mul-suc, mul-le-mul-left, mul-le-mul-right, le-of-mul-le-mul-right, le-trans}
 use native.Mathlib.Omega.{arith}
 use borrow.Author.Tests.{lt-ltb, eq-eqb, ne-eqb}
-use lib.Dec.{eqb, ltb}
+use lib.Dec.{T, eqb, leb, ltb, leb→le}
+use lib.Ieee.Fits.{and-l, and-r}
 use lib.Pow.{pow-pos, pow-add}
-use Rattle.wide.specs.Cut.{Cut}
+use Rattle.wide.specs.Cut.{Cut, Within}
 
 -- 10 ^ k by its prime factors
 pub tens : (k : ℕ) → 10 ^ k ≡ 5 ^ k * 2 ^ k
@@ -76,7 +77,7 @@ module _ (m k a b : ℕ) where
       }
 
 -- the product of a number of 64 digits and one of 63 has 61 digits or more above its lower 64
-pub high-enough : (high low n f : ℕ) → high * 2 ^ 64 + low ≡ n * f → low < 2 ^ 64 → 2 ^ 63 ≤ n → 2 ^ 62 ≤ f → 2 ^ 53 ≤ high
+pub high-enough : (high low n f : ℕ) → high * 2 ^ 64 + low ≡ n * f → low < 2 ^ 64 → 2 ^ 63 ≤ n → 2 ^ 62 ≤ f → 2 ^ 54 ≤ high
 high-enough high low n f e l h g =
     let a : 2 ^ 61 * 2 ^ 64 ≤ n * f = mul-le-mul h g in
     let b : high * 2 ^ 64 + low < suc high * 2 ^ 64 = subst (λ (x : ℕ). high * 2 ^ 64 + low < x) (sym (suc-mul high (2 ^ 64))) (more (high * 2 ^ 64)) in
@@ -90,3 +91,75 @@ high-enough high low n f e l h g =
 -- 5 ^ k has 63 binary digits at most
 pub five-lt : (k : ℕ) → k ≤ 27 → 5 ^ k < 2 ^ 63
 five-lt k h = lt-of-le-of-lt (pow-le-pow-right (omega arith) h) (omega arith)
+
+-- ---- the table of reciprocals
+-- by how many digits 5 ^ k is moved up so that it has 63 of them
+abbrev pub placesOf : ℕ → ℕ
+placesOf k = 62 - k * 2378 / 1024
+
+-- 5 ^ k, moved up
+abbrev pub lifted-five : ℕ → ℕ
+lifted-five k = 5 ^ k * 2 ^ placesOf k
+
+-- r is 2 ^ 126 by that, or less than one below, or just one; and it has 63 digits or more
+pub record Reciprocal (k r : ℕ) : Type 0 where
+  pub long : 2 ^ 62 ≤ r
+  pub not-above : r * lifted-five k ≤ 2 ^ 126
+  pub not-below : 2 ^ 126 ≤ suc r * lifted-five k
+
+-- the same as a test
+abbrev pub isReciprocal : ℕ → ℕ → Bool
+isReciprocal k r = leb (2 ^ 62) r && (leb (r * lifted-five k) (2 ^ 126) && leb (2 ^ 126) (suc r * lifted-five k))
+
+-- the entry that the code's match has found is one where the test passes
+pub reciprocal-found : (k j r : ℕ) → k ≡ j → T (isReciprocal j r) → Reciprocal k r
+reciprocal-found k j r e t =
+    let a = leb (2 ^ 62) r in
+    let b = leb (r * lifted-five j) (2 ^ 126) in
+    let c = leb (2 ^ 126) (suc r * lifted-five j) in
+    subst (λ (n : ℕ). Reciprocal n r) (sym e) record {
+      long = leb→le (2 ^ 62) r (and-l a (b && c) t);
+      not-above = leb→le (r * lifted-five j) (2 ^ 126) (and-l b c (and-r a (b && c) t));
+      not-below = leb→le (2 ^ 126) (suc r * lifted-five j) (and-r b c (and-r a (b && c) t));
+    }
+
+module _ (n r d high low : ℕ) (e : high * 2 ^ 64 + low ≡ n * r) (above : r * d ≤ 2 ^ 126) (below : 2 ^ 126 ≤ suc r * d) where
+  -- so the upper half of n times it is not above n * 2 ^ 62 by d
+  product-le : high * d ≤ n * 2 ^ 62
+  product-le =
+      let a : high * 2 ^ 64 ≤ n * r = part (high * 2 ^ 64) (n * r) e in
+      let b : high * 2 ^ 64 * d ≤ n * 2 ^ 126 = le-trans (mul-le-mul-right d a) (subst (λ (x : ℕ). x ≤ n * 2 ^ 126) (sym (mul-assoc n r d)) (mul-le-mul-left n above)) in
+      le-of-mul-le-mul-right {k = 2 ^ 64} (subst (λ (x : ℕ). x ≤ n * 2 ^ 62 * 2 ^ 64) (mul-right-comm high (2 ^ 64) d) (subst (λ (x : ℕ). high * 2 ^ 64 * d ≤ x) (sym (mul-assoc n (2 ^ 62) (2 ^ 64))) b)) (pow-pos 64)
+    where
+      part : (a b : ℕ) → a + low ≡ b → a ≤ b
+      part a b f = omega arith
+
+  -- and less than two below
+  product-lt : low < 2 ^ 64 → n < 2 ^ 64 → 0 < d → n * 2 ^ 62 < (high + 2) * d
+  product-lt l h p =
+      let a : n * r + n < (high + 2) * 2 ^ 64 = subst (λ (x : ℕ). n * r + n < x) (sym (add-mul high 2 (2 ^ 64))) (more (high * 2 ^ 64) (n * r) e) in
+      let b : n * suc r ≡ n * r + n = mul-suc n r in
+      let c : n * 2 ^ 126 ≤ n * suc r * d = subst (λ (x : ℕ). n * 2 ^ 126 ≤ x) (sym (mul-assoc n (suc r) d)) (mul-le-mul-left n below) in
+      let f : n * 2 ^ 126 < (high + 2) * 2 ^ 64 * d = lt-of-le-of-lt c (mul-lt-mul-of-pos-right (subst (λ (x : ℕ). x < (high + 2) * 2 ^ 64) (sym b) a) p) in
+      lt-of-mul-lt-mul-right (2 ^ 64) (subst (λ (x : ℕ). n * 2 ^ 62 * 2 ^ 64 < x) (mul-right-comm (high + 2) (2 ^ 64) d) (subst (λ (x : ℕ). x < (high + 2) * 2 ^ 64 * d) (sym (mul-assoc n (2 ^ 62) (2 ^ 64))) f))
+    where
+      more : (a b : ℕ) → a + low ≡ b → b + n < a + 2 * 2 ^ 64
+      more a b g = omega arith
+
+-- m moved up by a, times the reciprocal, is m / 10 ^ k or less than two below it, in units
+pub lowered-near : (m k a r high low : ℕ) → high * 2 ^ 64 + low ≡ m * 2 ^ a * r → low < 2 ^ 64 → m * 2 ^ a < 2 ^ 64 → Reciprocal k r → k ≤ 27 → a < 64 → Within m (10 ^ k) high (1012 + placesOf k - a - k)
+lowered-near m k a r high low e l h t f g =
+    let b = placesOf k in
+    let d = lifted-five k in
+    let u : 10 ^ k * 2 ^ b ≡ d * 2 ^ k = ap (λ (x : ℕ). x * 2 ^ b) (tens k) ∙ mul-right-comm (5 ^ k) (2 ^ k) (2 ^ b) in
+    let v : m * 2 ^ (a + 62 + k) ≡ m * 2 ^ a * 2 ^ 62 * 2 ^ k =
+    ap (λ (x : ℕ). m * x) (pow-add 2 (a + 62) k ∙ ap (λ (x : ℕ). x * 2 ^ k) (pow-add 2 a 62)) ∙ sym (mul-assoc m (2 ^ a * 2 ^ 62) (2 ^ k)) ∙ ap (λ (x : ℕ). x * 2 ^ k) (sym (mul-assoc m (2 ^ a) (2 ^ 62))) in
+    let p : 0 < d = mul-pos (one-le-pow k 5 (omega arith)) (pow-pos b) in record {
+      up = a + 62 + k;
+      unit = b;
+      scale = omega arith;
+      place = omega arith;
+      divisor = one-le-pow k 10 (omega arith);
+      from = subst (λ (x : ℕ). high * x ≤ m * 2 ^ (a + 62 + k)) (sym u) (subst (λ (x : ℕ). high * (d * 2 ^ k) ≤ x) (sym v) (subst (λ (x : ℕ). x ≤ m * 2 ^ a * 2 ^ 62 * 2 ^ k) (mul-assoc high d (2 ^ k)) (mul-le-mul-right (2 ^ k) (product-le (m * 2 ^ a) r d high low e (t .not-above) (t .not-below)))));
+      to = subst (λ (x : ℕ). m * 2 ^ (a + 62 + k) < (high + 2) * x) (sym u) (subst (λ (x : ℕ). x < (high + 2) * (d * 2 ^ k)) (sym v) (subst (λ (x : ℕ). m * 2 ^ a * 2 ^ 62 * 2 ^ k < x) (mul-assoc (high + 2) d (2 ^ k)) (mul-lt-mul-of-pos-right (product-lt (m * 2 ^ a) r d high low e (t .not-above) (t .not-below) l h p) (pow-pos k))));
+    }

@@ -2,15 +2,17 @@
 //
 // An f64 holds neither such an m nor such a power of ten exactly, so no single product or quotient of two of them serves. But 10^k is
 // 5^k * 2^k, a power of two moves nothing but the exponent, and 5^27 has 63 binary digits: m * 5^k is one exact product of two numbers
-// of 64 digits, and m / 5^k one long division in three digits, whose rest tells the tie. Nothing is approximated, and no table is
-// believed: that of the powers of five is computed by the proof.
+// of 64 digits, and m / 5^k one long division in three digits, whose rest tells the tie. That division is asked for only where the product
+// with a reciprocal, which is at most two too small, leaves a doubt. No table is believed: the proof computes each entry.
 ghost use mathlib.Core.Path.{_≡_};
 ghost use mathlib.Core.Bool.{Bool};
-ghost use Prim.Native.Nat.{_+_, _*_, _/_, _%_, _≤_, _<_, _^_};
+ghost use Prim.Native.Nat.{_+_, _-_, _*_, _/_, _%_, _≤_, _<_, _^_};
+ghost use lib.Count.{leadingZeros};
 ghost use lib.Ieee.{binary64, toBits, nearest};
 ghost use Rattle.nearest.specs.Near.{near};
 ghost use Rattle.nearest.specs.Round.{signed};
-ghost use Rattle.wide.specs.Cut.{against, RoundsTo};
+ghost use Rattle.wide.specs.Cut.{against, RoundsTo, sure, RoundsNear};
+ghost use Rattle.wide.specs.Tens.{placesOf, Reciprocal};
 ghost use Rattle.wide.specs.Told.{Told, reach};
 
 pub enum Wide {
@@ -135,7 +137,8 @@ fn divide(n: u64, d: u64) -> Quotient
 }
 
 // Rounds w, of which `drop` binary digits are dropped, to the nearest; `more` says that something is left below w. A tie, which is just half of
-// the last digit kept, goes to the even one.
+// the last digit kept, goes to the even one. The tests are put together before one of them is asked: whether a digit is rounded up is chance,
+// and a jump that cannot be foreseen costs more than all of them.
 fn kept(w: u64, more: bool, drop: u32) -> u64
     requires { ⌜ (0 < drop) × (drop < 12) ⌝ }
     ensures { λ r. ⌜ r ≡ nearest (w / 2 ^ drop) (against (w % 2 ^ drop) (2 ^ drop) more) ⌝ }
@@ -143,21 +146,38 @@ fn kept(w: u64, more: bool, drop: u32) -> u64
     let unit = 1u64 << drop;
     let q = w >> drop;
     let low = (w - q * unit) * 2;
-    if low < unit {
-        return q;
-    }
-    if (unit < low) | more {
+    if (unit < low) | ((low == unit) & (more | (q % 2 == 1))) {
         return q + 1;
     }
-    q + q % 2
+    q
 }
 
-// The f64 of w units of 2^(x - 1074), `more` or not, rounded once, with its sign.
+// How many binary digits of w are dropped, so that 53 are left.
+fn surplus(w: u64) -> u32
+    requires { ⌜ 2 ^ 53 ≤ w ⌝ }
+    ensures { λ r. ⌜ r ≡ 11 - leadingZeros 64 w ⌝ }
+{
+    11 - u64::leading_zeros(w)
+}
+
+// Whether w, or any number less than two above it, is rounded as its digits say: what is dropped is not just half of `unit`, nor the one below. One test
+// for both: which side of half it is on is chance, and is not asked here.
+fn is_sure(w: u64) -> bool
+    requires { ⌜ 2 ^ 54 ≤ w ⌝ }
+    ensures { λ r. ⌜ r ≡ sure (w % 2 ^ (11 - leadingZeros 64 w)) (2 ^ (11 - leadingZeros 64 w)) ⌝ }
+{
+    let drop = surplus(w);
+    let unit = 1u64 << drop;
+    let low = w - (w >> drop) * unit;
+    (low + 1) / 2 * 4 != unit
+}
+
+// The f64 of w units of 2^(x - 1074), `more` or not, rounded once, with its sign; and where w is sure, that of what is less than two above it.
 fn rounded(neg: bool, w: u64, more: bool, x: u64) -> f64
     requires { ⌜ (2 ^ 53 ≤ w) × (x ≤ 2000) ⌝ }
-    ensures { λ r. ⌜ RoundsTo neg w more x (toBits binary64 r) ⌝ }
+    ensures { λ r. ⌜ RoundsTo neg w more x (toBits binary64 r) × RoundsNear neg w x (toBits binary64 r) ⌝ }
 {
-    let drop = 11 - u64::leading_zeros(w);
+    let drop = surplus(w);
     let pattern = (x + drop as u64) * 0x10_0000_0000_0000 + kept(w, more, drop);
     if neg {
         return f64::from_bits(0x8000_0000_0000_0000 + pattern);
@@ -190,7 +210,8 @@ fn raised_within(neg: bool, m: u64, k: usize) -> f64
     )
 }
 
-fn lowered_within(neg: bool, m: u64, k: usize) -> f64
+// The quotient by long division: whatever is left tells the tie.
+fn lowered_exactly(neg: bool, m: u64, k: usize) -> f64
     requires { ⌜ (0 < m) × (k ≤ reach) ⌝ }
     ensures { λ r. ⌜ toBits binary64 r ≡ signed neg (near m (10 ^ k)) ⌝ }
 {
@@ -203,6 +224,69 @@ fn lowered_within(neg: bool, m: u64, k: usize) -> f64
         q.rest != 0,
         1020 + f.by as u64 - n.by as u64 - k as u64,
     )
+}
+
+// By how many digits 5^k is moved up so that it has 63: its own are 2378 / 1024 times k, rounded down, and one.
+fn places(k: usize) -> u64
+    requires { ⌜ k ≤ reach ⌝ }
+    ensures { λ r. ⌜ r ≡ placesOf k ⌝ }
+{
+    62 - k as u64 * 2378 / 1024
+}
+
+// 2^126 by 5^k as moved up, rounded down: what is left of it is less than one.
+fn reciprocal(k: usize) -> u64
+    requires { ⌜ k ≤ reach ⌝ }
+    ensures { λ r. ⌜ Reciprocal k r ⌝ }
+{
+    match k {
+        0 => 18446744073709551615,
+        1 => 14757395258967641292,
+        2 => 11805916207174113034,
+        3 => 9444732965739290427,
+        4 => 15111572745182864683,
+        5 => 12089258196146291747,
+        6 => 9671406556917033397,
+        7 => 15474250491067253436,
+        8 => 12379400392853802748,
+        9 => 9903520314283042199,
+        10 => 15845632502852867518,
+        11 => 12676506002282294014,
+        12 => 10141204801825835211,
+        13 => 16225927682921336339,
+        14 => 12980742146337069071,
+        15 => 10384593717069655257,
+        16 => 16615349947311448411,
+        17 => 13292279957849158729,
+        18 => 10633823966279326983,
+        19 => 17014118346046923173,
+        20 => 13611294676837538538,
+        21 => 10889035741470030830,
+        22 => 17422457186352049329,
+        23 => 13937965749081639463,
+        24 => 11150372599265311570,
+        25 => 17840596158824498513,
+        26 => 14272476927059598810,
+        _ => 11417981541647679048,
+    }
+}
+
+// The quotient: by the reciprocal, whose product is at most two too small, and where that leaves a doubt by long division.
+fn lowered_within(neg: bool, m: u64, k: usize) -> f64
+    requires { ⌜ (0 < m) × (k ≤ reach) ⌝ }
+    ensures { λ r. ⌜ toBits binary64 r ≡ signed neg (near m (10 ^ k)) ⌝ }
+{
+    let n = lift(m, 0);
+    let p = multiply(n.value, reciprocal(k));
+    if is_sure(p.high) {
+        return rounded(
+            neg,
+            p.high,
+            false,
+            1012 + places(k) - n.by as u64 - k as u64,
+        );
+    }
+    lowered_exactly(neg, m, k)
 }
 
 // The f64 nearest to m * 10^k, with its sign, which zero has too.

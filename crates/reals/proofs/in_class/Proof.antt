@@ -52,7 +52,7 @@ returns-5 c =
     let i = c .before .before .before in
     let a = i .before .before .args in
     λ M X e f.
-    in-up (a .neg) (a .m) (a .f) (a .x) M X e f (toBits binary64 (c .raised .result)) (i .before .before .pre) (omega arith) (omega arith) (omega arith) (c .raised .ensures)
+    in-up (a .neg) (a .m) (a .f) (a .x) M X e f (toBits binary64 (c .raised .result)) (i .before .before .pre .1) (omega arith) (omega arith) (omega arith) (c .raised .ensures)
     ∙ ap (λ (d : Bool). classOf (parsed (a .neg) M (a .f) d X)) (sym (i .if2 .left))
 
 returns-6 : tie.Need-returns-6
@@ -77,7 +77,7 @@ returns-7 c =
     let i = c .before .before .before in
     let a = i .before .before .args in
     λ M X e f.
-    in-mid (a .neg) (a .m) (a .f) (a .x) M X e f (toBits binary64 (c .lowered2 .result)) (i .before .before .pre) (omega arith) (omega arith) (omega arith) (c .lowered2 .ensures)
+    in-mid (a .neg) (a .m) (a .f) (a .x) M X e f (toBits binary64 (c .lowered2 .result)) (i .before .before .pre .1) (omega arith) (omega arith) (omega arith) (c .lowered2 .ensures)
     ∙ ap (λ (d : Bool). classOf (parsed (a .neg) M (a .f) d X)) (sym (i .if2 .left))
 
 returns-8 : tie.Need-returns-8
@@ -85,7 +85,7 @@ returns-8 c =
     let i = c .before .before in
     let a = i .before .before .args in
     λ M X e f.
-    out-mid (a .neg) (a .m) (a .f) (a .x) M X e f (i .before .before .pre) (omega arith) (omega arith)
+    out-mid (a .neg) (a .m) (a .f) (a .x) M X e f (i .before .before .pre .1) (omega arith) (omega arith)
     ∙ ap (λ (d : Bool). classOf (parsed (a .neg) M (a .f) d X)) (sym (i .if2 .left))
 
 pub in-class-spec : {M : Type 1} → statement M

@@ -1,4 +1,5 @@
 -- `reals::parse_real` meets its contract: what its parts promise, put together by the laws of Read.antt. Assumes nothing.
+use Prim.Native.Nat.{_<_, _^_}
 use mathlib.Core.Path.{refl}
 use native.Mathlib.Omega.{arith}
 use borrow.Author.Needs.{needs}
@@ -44,7 +45,11 @@ returns-2 c =
     bad-tens (now (s .before .before .before .args .t)) (s .past-sign .result) (s .past-sign .ensures .0) (s .past-sign .ensures .1) (w .digits-from .result) (w .digits-from .ensures) (f .fraction-from .result) (f .fraction-from .ensures) (i .if1 .left) (rw (c .enum-told .given .1) at (c .before .before .tens-from .ensures))
 
 in-class-requires : tie.Need-in-class-requires
-in-class-requires c κs = search needs
+in-class-requires c κs =
+    let f = c .before .before .before .before .before .before in
+    let v = f .fraction-from .ensures .value _ (f .before .digits-from .ensures .value 0 refl) in
+    let p : f .fraction-from .result .places < 2 ^ 63 = search needs in
+    (omega (arith, v), p)
 
 returns-3 : tie.Need-returns-3
 returns-3 c =

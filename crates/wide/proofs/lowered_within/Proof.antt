@@ -1,38 +1,37 @@
--- `wide::lowered_within` meets its contract: the number cut below the digits of a quotient. Assumes nothing.
-use Prim.Native.Nat.{ℕ, _+_, _*_, _^_, _<_}
-use mathlib.Core.Path.{_≡_, sym, _∙_, ap, subst}
-use native.Mathlib.Nat.{one-le-pow}
+-- `wide::lowered_within` meets its contract: by the reciprocal, and where that leaves a doubt by long division. Assumes nothing.
+use Prim.Native.Nat.{ℕ, _+_, _-_, _*_, _^_}
+use mathlib.Core.Path.{sym, _∙_, ap, subst}
 use native.Mathlib.Omega.{arith}
 use borrow.Author.Needs.{needs}
-use Rattle.wide.specs.Tens.{five-lt, lowered-cut}
+use Rattle.wide.specs.Cut.{Within}
+use Rattle.wide.specs.Tens.{lowered-near, high-enough}
 use Rattle.wide.proofs.lowered_within.Statement.{statement}
 use Rattle.wide.proofs.lowered_within.Tie as tie
 
 lift-requires : tie.Need-lift-requires
 lift-requires c κs = search needs
 
-power-of-five-requires : tie.Need-power-of-five-requires
-power-of-five-requires c κs = search needs
+reciprocal-requires : tie.Need-reciprocal-requires
+reciprocal-requires c κs = search needs
 
-lift-requires-2 : tie.Need-lift-requires-2
-lift-requires-2 c κs =
-    let k = c .before .before .args .k in
-    let e = c .power-of-five .ensures in
-    let h = five-lt k (c .before .before .pre .1) in
-    let p : 0 < 5 ^ k = one-le-pow k 5 (omega arith) in
-    (omega (arith, e, p), omega arith, omega (arith, e, h))
+multiply-requires : tie.Need-multiply-requires
+multiply-requires c κs = search needs
 
-divide-requires : tie.Need-divide-requires
-divide-requires c κs = search needs
+is-sure-requires : tie.Need-is-sure-requires
+is-sure-requires c κs =
+    let r = c .before in
+    let n = r .before in
+    let a = n .lift .ensures .1 in
+    high-enough (c .multiply .result .high) (c .multiply .result .low) (n .lift .result .value) (r .reciprocal .result) (c .multiply .ensures .0) (c .multiply .ensures .1) (omega arith) (r .reciprocal .ensures .long)
 
-cast-rounded : tie.Need-cast-rounded
-cast-rounded c = search needs
+places-requires : tie.Need-places-requires
+places-requires c κs = search needs
 
 add-rounded : tie.Need-add-rounded
 add-rounded c = search needs
 
-cast-rounded-2 : tie.Need-cast-rounded-2
-cast-rounded-2 c = search needs
+cast-rounded : tie.Need-cast-rounded
+cast-rounded c = search needs
 
 sub-rounded : tie.Need-sub-rounded
 sub-rounded c = search needs
@@ -41,32 +40,33 @@ sub-rounded-2 : tie.Need-sub-rounded-2
 sub-rounded-2 c = search needs
 
 rounded-requires : tie.Need-rounded-requires
-rounded-requires c κs = search needs
+rounded-requires c κs =
+    let p = c .before .before .before .before in
+    let r = p .before in
+    let n = r .before in
+    let a = n .lift .ensures .1 in
+    let e = c .before .places .ensures in
+    let g = high-enough (p .multiply .result .high) (p .multiply .result .low) (n .lift .result .value) (r .reciprocal .result) (p .multiply .ensures .0) (p .multiply .ensures .1) (omega arith) (r .reciprocal .ensures .long) in
+    (omega arith, omega arith)
 
 returns : tie.Need-returns
 returns c =
-    let q = c .before .before .before .before in
-    let f = q .before in
-    let n = f .before .before in
+    let s = c .before .before .before .before in
+    let p = s .before in
+    let r = p .before in
+    let n = r .before in
     let a = n .before .args in
-    let five : f .lift2 .result .value ≡ 5 ^ a .k * 2 ^ f .lift2 .result .by = f .lift2 .ensures .0 ∙ ap (λ (x : ℕ). x * 2 ^ f .lift2 .result .by) (f .before .power-of-five .ensures) in
-    c .rounded .ensures (a .m) (10 ^ a .k)
-    (lowered-cut (a .m) (a .k) (n .lift .result .by) (f .lift2 .result .by) (q .divide .result .digits) (q .divide .result .rest)
-    (ap (λ (x : ℕ). q .divide .result .digits * x + q .divide .result .rest) (sym five) ∙ q .divide .ensures .0 ∙ ap (λ (x : ℕ). x * 18014398509481984) (n .lift .ensures .0))
-    (subst (λ (x : ℕ). q .divide .result .rest < x) five (q .divide .ensures .1)) (n .before .pre .1) (n .lift .ensures .3) (f .lift2 .ensures .3))
+    let v = n .lift .ensures .0 in
+    let h = n .lift .ensures .2 in
+    let there = lowered-near (a .m) (a .k) (n .lift .result .by) (r .reciprocal .result) (p .multiply .result .high) (p .multiply .result .low) (p .multiply .ensures .0 ∙ ap (λ (x : ℕ). x * r .reciprocal .result) v) (p .multiply .ensures .1) (omega arith) (r .reciprocal .ensures) (n .before .pre .1) (n .lift .ensures .3) in
+    c .rounded .ensures .1 (sym (s .is-sure .ensures) ∙ c .before .before .before .if1 .taken) (a .m) (10 ^ a .k)
+    (subst (λ (b : ℕ). Within (a .m) (10 ^ a .k) (p .multiply .result .high) (1012 + b - n .lift .result .by - a .k)) (sym (c .before .before .places .ensures)) there)
+
+lowered-exactly-requires : tie.Need-lowered-exactly-requires
+lowered-exactly-requires c κs = search needs
+
+returns-2 : tie.Need-returns-2
+returns-2 c = search needs
 
 pub lowered-within-spec : {M : Type 1} → statement M
-lowered-within-spec =
-    tie.close
-    (tie.spec
-    lift-requires
-    power-of-five-requires
-    lift-requires-2
-    divide-requires
-    cast-rounded
-    add-rounded
-    cast-rounded-2
-    sub-rounded
-    sub-rounded-2
-    rounded-requires
-    returns)
+lowered-within-spec = tie.close (tie.spec lift-requires reciprocal-requires multiply-requires is-sure-requires places-requires add-rounded cast-rounded sub-rounded sub-rounded-2 rounded-requires returns lowered-exactly-requires returns-2)

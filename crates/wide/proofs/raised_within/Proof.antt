@@ -47,7 +47,9 @@ rounded-requires c κs =
     let n = f .before .before in
     let a = n .lift .ensures .1 in
     let b = f .lift2 .ensures .1 in
-    (high-enough (p .multiply .result .high) (p .multiply .result .low) (n .lift .result .value) (f .lift2 .result .value) (p .multiply .ensures .0) (p .multiply .ensures .1) (omega arith) (omega arith), let k = n .before .pre .1 in omega arith)
+    let g = high-enough (p .multiply .result .high) (p .multiply .result .low) (n .lift .result .value) (f .lift2 .result .value) (p .multiply .ensures .0) (p .multiply .ensures .1) (omega arith) (omega arith) in
+    let k = n .before .pre .1 in
+    (omega arith, omega arith)
 
 returns : tie.Need-returns
 returns c =
@@ -56,7 +58,7 @@ returns c =
     let n = f .before .before in
     let a = n .before .args in
     let five : f .lift2 .result .value ≡ 5 ^ a .k * 2 ^ f .lift2 .result .by = f .lift2 .ensures .0 ∙ ap (λ (x : ℕ). x * 2 ^ f .lift2 .result .by) (f .before .power-of-five .ensures) in
-    c .rounded .ensures (a .m * 10 ^ a .k) 1
+    c .rounded .ensures .0 (a .m * 10 ^ a .k) 1
     (raised-cut (a .m) (a .k) (n .lift .result .by) (f .lift2 .result .by) (p .multiply .result .high) (p .multiply .result .low)
     (p .multiply .ensures .0 ∙ ap (λ (x : ℕ). x * f .lift2 .result .value) (n .lift .ensures .0) ∙ ap (λ (x : ℕ). a .m * 2 ^ n .lift .result .by * x) five)
     (p .multiply .ensures .1) (n .lift .ensures .3) (f .lift2 .ensures .3))

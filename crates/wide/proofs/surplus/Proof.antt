@@ -1,0 +1,15 @@
+-- `wide::surplus` meets its contract: w has 54 digits or more. Assumes nothing.
+use native.Mathlib.Omega.{arith}
+use borrow.Author.Needs.{needs}
+use Rattle.wide.specs.Pattern.{drops}
+use Rattle.wide.proofs.surplus.Statement.{statement}
+use Rattle.wide.proofs.surplus.Tie as tie
+
+sub-result : tie.Need-sub-result
+sub-result c = let h = drops (c .args .w) (c .pre) (c .fits .w .fits) .0 in omega arith
+
+returns : tie.Need-returns
+returns c = search needs
+
+pub surplus-spec : {M : Type 1} → statement M
+surplus-spec = tie.close (tie.spec sub-result returns)
