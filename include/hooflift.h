@@ -174,8 +174,10 @@ uint8_t hooflift_opt_ref(const uint8_t *file, size_t file_len, size_t *place, si
 /* An integer. 01: "integers with optional sign, in the signed 64-bit range". */
 uint8_t hooflift_i64(const uint8_t *file, size_t file_len, size_t *place, size_t end, int64_t *value, size_t *fault);
 
-/* A real, and a real or `$`, which is told as above; a measure. 01, 'Real class': "The answer is the f64 nearest to m·10^e, ties to even, sign kept at zero"; "A
- * measure is a real or `KEYWORD(real)`". 13 where the real is outside the class. */
+/* A real, and a real or `$`, which is told as above; a measure. 01, 'Real class': "Let m be all digits without the point, leading zeros dropped, and e the
+ * exponent less the number of fraction digits"; "The answer is the f64 nearest to m·10^e, ties to even, sign kept at zero". The class is that of request
+ * #101: "every real whose m has at most 19 digits and −27 ≤ e ≤ 27". 13 where a real is outside it, as `1E28`, `0E28` and twenty digits are; zeros at the end
+ * count as digits. 01: "A measure is a real or `KEYWORD(real)`". */
 uint8_t hooflift_f64(const uint8_t *file, size_t file_len, size_t *place, size_t end, double *value, size_t *fault);
 uint8_t hooflift_opt_f64(const uint8_t *file, size_t file_len, size_t *place, size_t end, double *value, uint8_t *set, size_t *fault);
 uint8_t hooflift_measure(const uint8_t *file, size_t file_len, size_t *place, size_t end, double *value, size_t *fault);
@@ -210,7 +212,7 @@ uint8_t hooflift_f64_grid(const uint8_t *file, size_t file_len, size_t *place, s
 
 /* ---- bytes that stand alone */
 
-/* A real's bit pattern, of a text without trivia: 0, 12 or 13. */
+/* A real's bit pattern, of a text without trivia, the class being that of `hooflift_f64`: 0, 12 or 13. */
 uint8_t hooflift_real(const uint8_t *text, size_t text_len, uint64_t *out);
 
 /* The text of what stands between a string's quotes: `count` bytes, of `raw` where `place` is then 0 and of `out` where it is 1; or 16. */

@@ -107,7 +107,14 @@ impl<'f> Args<'f> {
         Ok(value)
     }
 
-    /// A real.
+    /// A real of at most nineteen digits with a power of ten from -27 to 27: the `f64` nearest to it, ties to even. Other reals are refused with 13.
+    ///
+    /// ```
+    /// let mut args = hooflift::Args::new(b"0.017453292519943295,1E28", 0, 25)?;
+    /// assert_eq!(args.next_f64()?, 0.017453292519943295);
+    /// assert_eq!(args.next_f64().unwrap_err().refusal().map(|r| (r.number, r.place)), Some((13, 21)));
+    /// # Ok::<(), hooflift::Error>(())
+    /// ```
     pub fn next_f64(&mut self) -> Result<f64> {
         let (mut value, mut fault) = (0.0, 0);
         told(raw::hooflift_f64(self.file, &mut self.place, self.end, &mut value, &mut fault), fault)?;
@@ -121,7 +128,7 @@ impl<'f> Args<'f> {
         Ok((set == 1).then_some(value))
     }
 
-    /// A measure: a real, or `KEYWORD(real)`.
+    /// A measure: a real, or `KEYWORD(real)`; the real as in [`Args::next_f64`].
     pub fn next_measure(&mut self) -> Result<f64> {
         let (mut value, mut fault) = (0.0, 0);
         told(raw::hooflift_measure(self.file, &mut self.place, self.end, &mut value, &mut fault), fault)?;
