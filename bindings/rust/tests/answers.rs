@@ -88,15 +88,28 @@ fn every_reader() -> Result<(), Error> {
 
 #[test]
 fn a_reader_after_a_refusal() -> Result<(), Error> {
-    let file = data("#1=A('s',1E23,'t);");
+    let file = data("#1=A('s',1E28,'t);");
     let open = Step::open(file.as_bytes()).unwrap_err();
     assert_eq!(open.refusal().map(|r| (r.number, r.place)), Some((4, 32)));
-    let mut args = Args::new(b"'s',1E23,'t", 0, 11)?;
+    let mut args = Args::new(b"'s',1E28,'t", 0, 11)?;
     assert_eq!(args.next_i64().unwrap_err().refusal().map(|r| (r.number, r.place)), Some((12, 0)));
     assert_eq!(args.next_f64().unwrap_err().refusal().map(|r| (r.number, r.place)), Some((13, 4)));
     assert_eq!(args.next_str().unwrap_err().refusal().map(|r| (r.number, r.place)), Some((11, 9)));
     assert_eq!(args.offset(), 9);
     assert_eq!(Args::new(b"", 1, 0).err().and_then(|e| e.refusal()).map(|r| r.number), Some(9));
+    Ok(())
+}
+
+#[test]
+fn reals_of_nineteen_digits() -> Result<(), Error> {
+    let real = |text: &str| Args::new(text.as_bytes(), 0, text.len())?.next_f64();
+    assert_eq!(real("0.017453292519943295")?.to_bits(), 0x3f91_df46_a252_9d39);
+    for text in ["1E23", "1E27", "1234567890123456789", "0.001234567890123456789E2", "9999999999999999999E27", "-9999999999999999999E-27", "-0E27"] {
+        assert_eq!(Ok(real(text)?.to_bits()), text.parse::<f64>().map(f64::to_bits), "{text}");
+    }
+    for text in ["12345678901234567890", "10000000000000000000.", "1E28", "1E-28", "0E28"] {
+        assert_eq!(real(text).unwrap_err().refusal().map(|r| (r.number, r.place)), Some((13, 0)), "{text}");
+    }
     Ok(())
 }
 
