@@ -15,7 +15,8 @@ use Rattle.nearest.specs.Near.{near, Cmp, cmp}
 use Rattle.nearest.specs.Scaled.{near-scaled, order-is}
 use Rattle.nearest.specs.Round.{signed}
 
--- num / den is w units of 2 ^ (x - 1074), and what is left over is less than a unit: none of it, or `more`
+-- num / den is w times 2 ^ (x - 1074), and what is left over is less than one such unit; `more` says whether there is any. Powers of two are
+-- multiplied out: `up` and `unit` are their exponents on the two sides, so that a unit is den * 2 ^ unit
 pub record Cut (num den w : ℕ) (more : Bool) (x : ℕ) : Type 0 where
   pub up : ℕ
   pub unit : ℕ
@@ -31,17 +32,19 @@ pub record Cut (num den w : ℕ) (more : Bool) (x : ℕ) : Type 0 where
 abbrev pub RoundsTo : Bool → ℕ → Bool → ℕ → ℕ → Type 0
 RoundsTo s w more x b = (num den : ℕ) → Cut num den w more x → b ≡ signed s (near num den)
 
--- how what was dropped, `low` of `unit`, compares with half a unit: by its digits, and where they are just half by whether more is left
+-- an order with half, made exact: just half, and something left below, is more than half
 abbrev pub by : Ordering → Bool → Ordering
 by Ordering·lt more = Ordering·lt
 by Ordering·eq true = Ordering·gt
 by Ordering·eq false = Ordering·eq
 by Ordering·gt more = Ordering·gt
 
+-- how what was dropped, `low` of the `unit` that the last digit kept counts, compares with half of that: by its digits, and where they are just
+-- half by whether more is left
 abbrev pub against : ℕ → ℕ → Bool → Ordering
 against low unit more = by (compare (low * 2) unit) more
 
--- num / den is w units of 2 ^ (x - 1074) or more, and less than two units above that
+-- num / den is w times 2 ^ (x - 1074) or more, and less than two such units above that; `up` and `unit` as in `Cut`
 pub record Within (num den w x : ℕ) : Type 0 where
   pub up : ℕ
   pub unit : ℕ
@@ -60,7 +63,7 @@ abbrev pub RoundsNear : Bool → ℕ → ℕ → ℕ → Type 0
 RoundsNear s w x b = sure (w % 2 ^ (11 - leadingZeros 64 w)) (2 ^ (11 - leadingZeros 64 w)) ≡ true → (num den : ℕ) → Within num den w x → b ≡ signed s (near num den)
 
 -- ---- the law of what is cut
--- of `half` units and `low` units with a rest below one unit, by their numbers and the rest
+-- how `low` units and a rest below one unit compare with `half` units: by the two numbers, and by whether there is a rest
 order : (o : Ordering) (u low half rest : ℕ) (more : Bool) → 0 < u → rest < u → more ≡ ltb 0 rest → Cmp o (low * 2) (half * 2) → Cmp (by o more) ((low * u + rest) * 2) (u * (half * 2))
 order Ordering·lt u low half rest more up b l h =
     let s : suc low ≤ half = omega arith in

@@ -1,4 +1,5 @@
--- Long multiplication and long division in whole numbers, and moving a number up to a known length. Assumes nothing.
+-- Long multiplication and long division in whole numbers, and moving a number up to a known length. Laws for the proofs; no promise
+-- names them. Assumes nothing.
 use Prim.Native.Nat.{ℕ, zero, suc, _+_, _-_, _*_, _/_, _%_, _^_, _≤_, _<_}
 use mathlib.Core.Path.{_≡_, refl, sym, _∙_, ap, subst}
 use native.Mathlib.Nat.{add-assoc, add-comm, add-left-comm, mul-assoc, mul-comm, mul-left-comm, mul-right-comm, mul-add, add-mul, mul-le-mul, mul-le-mul-left, mul-le-mul-right, mod-lt, mod-eq-of-lt, div-add-mod', div-lt-iff-lt-mul, le-of-lt, le-trans, lt-of-le-of-lt, mul-one, suc-mul, one-mul, lt-of-mul-lt-mul-right, mul-lt-mul-of-pos-right}
@@ -100,7 +101,7 @@ multiplied a b =
 pub column : (x y : ℕ) → x ≤ 4294967295 → y ≤ 4294967295 → x * y ≤ 18446744065119617025
 column x y h k = mul-le-mul h k
 
--- ---- division, a digit of 27 binary digits at a time
+-- ---- division, 27 binary digits at a time: two such digits are the 54 that are kept below the first
 module _ (r d : ℕ) where
   -- the upper part of the divisor, made one larger
   abbrev pub upper : ℕ

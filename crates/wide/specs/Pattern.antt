@@ -1,4 +1,5 @@
--- From the digits that are kept to the f64's pattern: the machine's count of zeros tells how many are dropped. Assumes nothing.
+-- From the digits that are kept to the f64's pattern: the machine's count of zeros tells how many are dropped. Laws for the
+-- proofs; no promise names them. Assumes nothing.
 use Prim.Native.Nat.{ℕ, zero, suc, _+_, _-_, _*_, _/_, _%_, _^_, _≤_, _<_, min, compare, Ordering, Ordering·lt, Ordering·eq, Ordering·gt}
 use mathlib.Core.Path.{_≡_, refl, sym, _∙_, ap, subst}
 use mathlib.Core.Bool.{Bool, true, false, not, cond, _||_, _&&_}
@@ -139,6 +140,7 @@ unit-four z d e l =
     four : (a b : ℕ) → b ≡ a * 4 → b % 4 ≡ 0
     four a b e = omega arith
 
+-- ---- the pattern. A place up to 2000 keeps it below infinity's, which 2047 begins
 module _ (w : ℕ) (more : Bool) (x k : ℕ) (least : 2 ^ 53 ≤ w) (most : w < 2 ^ 64) (far : x ≤ 2000) (kept : k ≡ nearest (w / 2 ^ (11 - leadingZeros 64 w)) (against (w % 2 ^ (11 - leadingZeros 64 w)) (2 ^ (11 - leadingZeros 64 w)) more)) where
   -- the pattern is a number's
   pattern-lt : (x + (11 - leadingZeros 64 w)) * 2 ^ 52 + k < infinity

@@ -1,5 +1,5 @@
 -- m * 10 ^ k and m / 10 ^ k, cut below the digits that the code computes: 10 ^ k is 5 ^ k * 2 ^ k, and a power of two moves nothing but
--- the place. Assumes nothing.
+-- the place. Laws for the proofs; of this file promises name `placesOf` and `Reciprocal` alone. Assumes nothing.
 use Prim.Native.Nat.{ℕ, zero, suc, _+_, _-_, _*_, _/_, _%_, _^_, _≤_, _<_}
 use mathlib.Core.Path.{_≡_, refl, sym, _∙_, ap, subst}
 use mathlib.Core.Bool.{Bool, true, false, not, _&&_}
@@ -10,6 +10,7 @@ use lib.Dec.{T, eqb, leb, ltb, leb→le}
 use lib.Ieee.Fits.{and-l, and-r}
 use lib.Pow.{pow-pos, pow-add}
 use Rattle.wide.specs.Cut.{Cut, Within}
+use Rattle.wide.specs.Told.{reach}
 
 -- 10 ^ k by its prime factors
 pub tens : (k : ℕ) → 10 ^ k ≡ 5 ^ k * 2 ^ k
@@ -54,8 +55,8 @@ module _ (m k a b : ℕ) where
       regroup : (m A F B K : ℕ) → m * A * (F * B) * K ≡ m * (F * K) * (A * B)
       regroup m A F B K = simp (mul-assoc, mul-comm, mul-left-comm) refl
 
-  -- m moved up by a and by 54, by 5 ^ k moved up by b, is m / 10 ^ k cut below b digits
-  pub lowered-cut : (digits rest : ℕ) → digits * (5 ^ k * 2 ^ b) + rest ≡ m * 2 ^ a * 2 ^ 54 → rest < 5 ^ k * 2 ^ b → k ≤ 27 → a < 64 → b < 64 → Cut m (10 ^ k) digits (not (eqb rest 0)) (1020 + b - a - k)
+  -- m moved up by a and by 54, divided by 5 ^ k moved up by b, is m / 10 ^ k cut below b digits
+  pub lowered-cut : (digits rest : ℕ) → digits * (5 ^ k * 2 ^ b) + rest ≡ m * 2 ^ a * 2 ^ 54 → rest < 5 ^ k * 2 ^ b → k ≤ reach → a < 64 → b < 64 → Cut m (10 ^ k) digits (not (eqb rest 0)) (1020 + b - a - k)
   lowered-cut digits rest e l f h g =
       let d : 10 ^ k * 2 ^ b ≡ 5 ^ k * 2 ^ b * 2 ^ k = ap (λ (x : ℕ). x * 2 ^ b) (tens k) ∙ mul-right-comm (5 ^ k) (2 ^ k) (2 ^ b) in record {
         up = a + 54 + k;
@@ -76,7 +77,7 @@ module _ (m k a b : ℕ) where
         left = left-of rest k;
       }
 
--- the product of a number of 64 digits and one of 63 has 61 digits or more above its lower 64
+-- the product of a number of 64 digits and one of 63 has 55 binary digits or more above its lower 64
 pub high-enough : (high low n f : ℕ) → high * 2 ^ 64 + low ≡ n * f → low < 2 ^ 64 → 2 ^ 63 ≤ n → 2 ^ 62 ≤ f → 2 ^ 54 ≤ high
 high-enough high low n f e l h g =
     let a : 2 ^ 61 * 2 ^ 64 ≤ n * f = mul-le-mul h g in
@@ -89,7 +90,7 @@ high-enough high low n f e l h g =
 
 -- ---- the table of powers of five
 -- 5 ^ k has 63 binary digits at most
-pub five-lt : (k : ℕ) → k ≤ 27 → 5 ^ k < 2 ^ 63
+pub five-lt : (k : ℕ) → k ≤ reach → 5 ^ k < 2 ^ 63
 five-lt k h = lt-of-le-of-lt (pow-le-pow-right (omega arith) h) (omega arith)
 
 -- ---- the table of reciprocals
@@ -101,7 +102,7 @@ placesOf k = 62 - k * 2378 / 1024
 abbrev pub lifted-five : ℕ → ℕ
 lifted-five k = 5 ^ k * 2 ^ placesOf k
 
--- r is 2 ^ 126 by that, or less than one below, or just one; and it has 63 digits or more
+-- r is 2 ^ 126 divided by that, or below it by one at most; and it has 63 binary digits or more
 pub record Reciprocal (k r : ℕ) : Type 0 where
   pub long : 2 ^ 62 ≤ r
   pub not-above : r * lifted-five k ≤ 2 ^ 126
@@ -147,7 +148,7 @@ module _ (n r d high low : ℕ) (e : high * 2 ^ 64 + low ≡ n * r) (above : r *
       more a b g = omega arith
 
 -- m moved up by a, times the reciprocal, is m / 10 ^ k or less than two below it, in units
-pub lowered-near : (m k a r high low : ℕ) → high * 2 ^ 64 + low ≡ m * 2 ^ a * r → low < 2 ^ 64 → m * 2 ^ a < 2 ^ 64 → Reciprocal k r → k ≤ 27 → a < 64 → Within m (10 ^ k) high (1012 + placesOf k - a - k)
+pub lowered-near : (m k a r high low : ℕ) → high * 2 ^ 64 + low ≡ m * 2 ^ a * r → low < 2 ^ 64 → m * 2 ^ a < 2 ^ 64 → Reciprocal k r → k ≤ reach → a < 64 → Within m (10 ^ k) high (1012 + placesOf k - a - k)
 lowered-near m k a r high low e l h t f g =
     let b = placesOf k in
     let d = lifted-five k in
