@@ -39,8 +39,7 @@ by Ordering·eq true = Ordering·gt
 by Ordering·eq false = Ordering·eq
 by Ordering·gt more = Ordering·gt
 
--- how what was dropped, `low` of the `unit` that the last digit kept counts, compares with half of that: by its digits, and where they are just
--- half by whether more is left
+-- what was dropped is `low`, and one of the last digit kept is `unit`: is `low` below, at or above half of it? Where it is just half, `more` decides
 abbrev pub against : ℕ → ℕ → Bool → Ordering
 against low unit more = by (compare (low * 2) unit) more
 
@@ -58,9 +57,13 @@ pub record Within (num den w x : ℕ) : Type 0 where
 abbrev pub sure : ℕ → ℕ → Bool
 sure low unit = leb ((low + 2) * 2) unit || ltb unit (low * 2)
 
+-- how many binary digits a w of 53 to 64 of them has beyond 53
+abbrev pub beyond : ℕ → ℕ
+beyond w = 11 - leadingZeros 64 w
+
 -- where w's own digits leave no doubt: whatever number lies so near above it, its nearest f64 has the pattern b with its sign
 abbrev pub RoundsNear : Bool → ℕ → ℕ → ℕ → Type 0
-RoundsNear s w x b = sure (w % 2 ^ (11 - leadingZeros 64 w)) (2 ^ (11 - leadingZeros 64 w)) ≡ true → (num den : ℕ) → Within num den w x → b ≡ signed s (near num den)
+RoundsNear s w x b = sure (w % 2 ^ beyond w) (2 ^ beyond w) ≡ true → (num den : ℕ) → Within num den w x → b ≡ signed s (near num den)
 
 -- ---- the law of what is cut
 -- how `low` units and a rest below one unit compare with `half` units: by the two numbers, and by whether there is a rest

@@ -17,7 +17,7 @@ use lib.Ieee.Bits.{toBits-ofBits, nanBits-is}
 use Rattle.nearest.specs.Units.{infinity}
 use Rattle.nearest.specs.Near.{near, near-digits, Cmp, cmp}
 use Rattle.nearest.specs.Scaled.{order-is}
-use Rattle.wide.specs.Cut.{Cut, by, against, near-cut, Within, sure, sure-down, sure-up}
+use Rattle.wide.specs.Cut.{Cut, by, against, near-cut, Within, sure, beyond, sure-down, sure-up}
 
 -- ---- the rounding, as the code's tests tell it
 -- how `against` answers, by the order of the two numbers
@@ -88,7 +88,7 @@ pow-lt-back : (i j : ℕ) → 2 ^ i < 2 ^ j → i < j
 pow-lt-back i j h = lt-of-not-le (λ (g : j ≤ i). lt-irrefl (2 ^ i) (lt-of-lt-of-le h (pow-mono g)))
 
 -- of w, which has from 54 to 64 digits, so many are dropped that 53 are left
-pub drops : (w : ℕ) → 2 ^ 53 ≤ w → w < 2 ^ 64 → (leadingZeros 64 w ≤ 10) × (2 ^ 52 ≤ w / 2 ^ (11 - leadingZeros 64 w)) × (w / 2 ^ (11 - leadingZeros 64 w) < 2 ^ 53)
+pub drops : (w : ℕ) → 2 ^ 53 ≤ w → w < 2 ^ 64 → (leadingZeros 64 w ≤ 10) × (2 ^ 52 ≤ w / 2 ^ beyond w) × (w / 2 ^ beyond w < 2 ^ 53)
 drops w l h =
     let t = leading-top 64 w (lt-of-lt-of-le (pow-pos 53) l) h in
     let z = leadingZeros 64 w in
@@ -141,18 +141,18 @@ unit-four z d e l =
     four a b e = omega arith
 
 -- ---- the pattern. A place up to 2000 keeps it below infinity's, which 2047 begins
-module _ (w : ℕ) (more : Bool) (x k : ℕ) (least : 2 ^ 53 ≤ w) (most : w < 2 ^ 64) (far : x ≤ 2000) (kept : k ≡ nearest (w / 2 ^ (11 - leadingZeros 64 w)) (against (w % 2 ^ (11 - leadingZeros 64 w)) (2 ^ (11 - leadingZeros 64 w)) more)) where
+module _ (w : ℕ) (more : Bool) (x k : ℕ) (least : 2 ^ 53 ≤ w) (most : w < 2 ^ 64) (far : x ≤ 2000) (kept : k ≡ nearest (w / 2 ^ beyond w) (against (w % 2 ^ beyond w) (2 ^ beyond w) more)) where
   -- the pattern is a number's
-  pattern-lt : (x + (11 - leadingZeros 64 w)) * 2 ^ 52 + k < infinity
+  pattern-lt : (x + beyond w) * 2 ^ 52 + k < infinity
   pattern-lt =
-      let d = 11 - leadingZeros 64 w in
+      let d = beyond w in
       let q = w / 2 ^ d in
       let a : q < 2 ^ 53 = drops w least most .2 in
       let b : nearest q (against (w % 2 ^ d) (2 ^ d) more) ≤ suc q = nearest-le q (against (w % 2 ^ d) (2 ^ d) more) in
       omega arith
 
   -- and it is the nearest
-  pattern-near : (num den : ℕ) → Cut num den w more x → (x + (11 - leadingZeros 64 w)) * 2 ^ 52 + k ≡ near num den
+  pattern-near : (num den : ℕ) → Cut num den w more x → (x + beyond w) * 2 ^ 52 + k ≡ near num den
   pattern-near num den c =
       let z = leadingZeros 64 w in
       let d = 11 - z in
@@ -169,7 +169,7 @@ module _ (w : ℕ) (more : Bool) (x k : ℕ) (least : 2 ^ 53 ≤ w) (most : w < 
       whole p h = omega arith
 
   -- where w's own digits leave no doubt, it is that of every number near above
-  pattern-sure : sure (w % 2 ^ (11 - leadingZeros 64 w)) (2 ^ (11 - leadingZeros 64 w)) ≡ true → (num den : ℕ) → Within num den w x → (x + (11 - leadingZeros 64 w)) * 2 ^ 52 + k ≡ near num den
+  pattern-sure : sure (w % 2 ^ beyond w) (2 ^ beyond w) ≡ true → (num den : ℕ) → Within num den w x → (x + beyond w) * 2 ^ 52 + k ≡ near num den
   pattern-sure t num den c =
       let z = leadingZeros 64 w in
       let d = 11 - z in
@@ -205,9 +205,9 @@ module _ (w : ℕ) (more : Bool) (x k : ℕ) (least : 2 ^ 53 ≤ w) (most : w < 
           halves a b e f g = omega arith
 
 -- the same where d is what the code drops
-module _ (w : ℕ) (more : Bool) (x k d : ℕ) (least : 2 ^ 53 ≤ w) (most : w < 2 ^ 64) (far : x ≤ 2000) (is : d ≡ 11 - leadingZeros 64 w) (kept : k ≡ nearest (w / 2 ^ d) (against (w % 2 ^ d) (2 ^ d) more)) where
+module _ (w : ℕ) (more : Bool) (x k d : ℕ) (least : 2 ^ 53 ≤ w) (most : w < 2 ^ 64) (far : x ≤ 2000) (is : d ≡ beyond w) (kept : k ≡ nearest (w / 2 ^ d) (against (w % 2 ^ d) (2 ^ d) more)) where
   -- what is kept
-  kept-there : k ≡ nearest (w / 2 ^ (11 - leadingZeros 64 w)) (against (w % 2 ^ (11 - leadingZeros 64 w)) (2 ^ (11 - leadingZeros 64 w)) more)
+  kept-there : k ≡ nearest (w / 2 ^ beyond w) (against (w % 2 ^ beyond w) (2 ^ beyond w) more)
   kept-there = subst (λ (n : ℕ). k ≡ nearest (w / 2 ^ n) (against (w % 2 ^ n) (2 ^ n) more)) is kept
 
   -- the pattern is a number's
@@ -219,7 +219,7 @@ module _ (w : ℕ) (more : Bool) (x k d : ℕ) (least : 2 ^ 53 ≤ w) (most : w 
   made-near num den c = ap (λ (n : ℕ). (x + n) * 2 ^ 52 + k) is ∙ pattern-near w more x k least most far kept-there num den c
 
   -- and near above, where there is no doubt
-  pub made-sure : sure (w % 2 ^ (11 - leadingZeros 64 w)) (2 ^ (11 - leadingZeros 64 w)) ≡ true → (num den : ℕ) → Within num den w x → (x + d) * 2 ^ 52 + k ≡ near num den
+  pub made-sure : sure (w % 2 ^ beyond w) (2 ^ beyond w) ≡ true → (num den : ℕ) → Within num den w x → (x + d) * 2 ^ 52 + k ≡ near num den
   made-sure t num den c = ap (λ (n : ℕ). (x + n) * 2 ^ 52 + k) is ∙ pattern-sure w more x k least most far kept-there t num den c
 
 -- ---- the pattern as an f64

@@ -4,10 +4,12 @@ use Prim.Native.Nat.{ℕ, zero, suc, _+_, _-_, _*_, _/_, _%_, _^_, _≤_, _<_}
 use mathlib.Core.Path.{_≡_, refl, sym, _∙_, ap, subst}
 use mathlib.Core.Bool.{Bool, true, false, not, _&&_}
 use native.Mathlib.Nat.{add-mul, mul-assoc, mul-comm, mul-left-comm, mul-right-comm, one-mul, mul-pos, mul-le-mul, mul-lt-mul-of-pos-right, lt-of-mul-lt-mul-right, lt-of-le-of-lt, one-le-pow, pow-suc, suc-mul, zero-mul, pow-le-pow-right, mul-suc, mul-le-mul-left, mul-le-mul-right, le-of-mul-le-mul-right, le-trans}
+use native.Mathlib.Decide.{decLt}
 use native.Mathlib.Omega.{arith}
 use borrow.Author.Tests.{lt-ltb, eq-eqb, ne-eqb}
-use lib.Dec.{T, eqb, leb, ltb, leb→le}
+use lib.Dec.{T, eqb, leb, ltb, leb→le, eqb→eq}
 use lib.Ieee.Fits.{and-l, and-r}
+use lib.Count.{leadingZeros, leading-le}
 use lib.Pow.{pow-pos, pow-add}
 use Rattle.wide.specs.Cut.{Cut, Within}
 use Rattle.wide.specs.Told.{reach}
@@ -94,35 +96,74 @@ pub five-lt : (k : ℕ) → k ≤ reach → 5 ^ k < 2 ^ 63
 five-lt k h = lt-of-le-of-lt (pow-le-pow-right (omega arith) h) (omega arith)
 
 -- ---- the table of reciprocals
--- by how many digits 5 ^ k is moved up so that it has 63 of them
+-- by how many digits 5 ^ k is moved up so that it has 63 of them: as many as stand free above its own
 abbrev pub placesOf : ℕ → ℕ
-placesOf k = 62 - k * 2378 / 1024
+placesOf k = leadingZeros 63 (5 ^ k)
+
+-- by no more than all 63
+pub places-le : (k : ℕ) → placesOf k ≤ 63
+places-le k = leading-le 63 (5 ^ k)
 
 -- 5 ^ k, moved up
 abbrev pub lifted-five : ℕ → ℕ
 lifted-five k = 5 ^ k * 2 ^ placesOf k
 
--- r is 2 ^ 126 divided by that, or below it by one at most; and it has 63 binary digits or more
+-- r is 2 ^ 126 divided by `lifted-five k`, or below that by one at most; and it has 63 binary digits or more
 pub record Reciprocal (k r : ℕ) : Type 0 where
   pub long : 2 ^ 62 ≤ r
   pub not-above : r * lifted-five k ≤ 2 ^ 126
   pub not-below : 2 ^ 126 ≤ suc r * lifted-five k
 
--- the same as a test
-abbrev pub isReciprocal : ℕ → ℕ → Bool
-isReciprocal k r = leb (2 ^ 62) r && (leb (r * lifted-five k) (2 ^ 126) && leb (2 ^ 126) (suc r * lifted-five k))
+-- a test passes at each number below n
+abbrev each : (ℕ → Bool) → ℕ → Bool
+each f zero = true
+each f (suc n) = f n && each f n
 
--- the entry that the code's match has found is one where the test passes
-pub reciprocal-found : (k j r : ℕ) → k ≡ j → T (isReciprocal j r) → Reciprocal k r
-reciprocal-found k j r e t =
+-- so it passes at any of them
+each-at : (f : ℕ → Bool) (n k : ℕ) → T (each f n) → k < n → T (f k)
+each-at f zero k t h = absurd (omega arith)
+each-at f (suc n) k t h = go (λ l. each-at f n k (and-r (f n) (each f n) t) l) (decLt k n)
+  where
+    go : (k < n → T (f k)) → Dec (k < n) → T (f k)
+    go below (yes l) = below l
+    go below (no g) = let e : n ≡ k = omega arith in subst (λ (j : ℕ). T (f j)) e (and-l (f n) (each f n) t)
+
+-- the code's sum for the places: 5 ^ k has 2378 / 1024 times k digits, rounded down, and one
+abbrev sumOf : ℕ → ℕ
+sumOf k = 62 - k * 2378 / 1024
+
+-- it is right at each k in reach
+all-places : T (each (λ (k : ℕ). eqb (sumOf k) (placesOf k)) (suc reach))
+unfolding leadingZeros
+all-places = tt
+
+-- so it is right at any
+pub places-is : (k : ℕ) → k ≤ reach → sumOf k ≡ placesOf k
+places-is k h = eqb→eq (sumOf k) (placesOf k) (each-at (λ (j : ℕ). eqb (sumOf j) (placesOf j)) (suc reach) k all-places (omega arith))
+
+-- a reciprocal as a test of d, which is 5 ^ k moved up
+abbrev isReciprocal : ℕ → ℕ → Bool
+isReciprocal d r = leb (2 ^ 62) r && (leb (r * d) (2 ^ 126) && leb (2 ^ 126) (suc r * d))
+
+-- where it passes, r is one
+reciprocal-by : (k r : ℕ) → T (isReciprocal (lifted-five k) r) → Reciprocal k r
+reciprocal-by k r t =
+    let d = lifted-five k in
     let a = leb (2 ^ 62) r in
-    let b = leb (r * lifted-five j) (2 ^ 126) in
-    let c = leb (2 ^ 126) (suc r * lifted-five j) in
-    subst (λ (n : ℕ). Reciprocal n r) (sym e) record {
+    let b = leb (r * d) (2 ^ 126) in
+    let c = leb (2 ^ 126) (suc r * d) in record {
       long = leb→le (2 ^ 62) r (and-l a (b && c) t);
-      not-above = leb→le (r * lifted-five j) (2 ^ 126) (and-l b c (and-r a (b && c) t));
-      not-below = leb→le (2 ^ 126) (suc r * lifted-five j) (and-r b c (and-r a (b && c) t));
+      not-above = leb→le (r * d) (2 ^ 126) (and-l b c (and-r a (b && c) t));
+      not-below = leb→le (2 ^ 126) (suc r * d) (and-r b c (and-r a (b && c) t));
     }
+
+-- the entry that the code's match has found is one where the test passes, with the sum for the places
+pub reciprocal-found : (k j r : ℕ) → k ≡ j → T (leb j reach && isReciprocal (5 ^ j * 2 ^ sumOf j) r) → Reciprocal k r
+reciprocal-found k j r e t =
+    let near = and-l (leb j reach) (isReciprocal (5 ^ j * 2 ^ sumOf j) r) t in
+    let test = and-r (leb j reach) (isReciprocal (5 ^ j * 2 ^ sumOf j) r) t in
+    subst (λ (n : ℕ). Reciprocal n r) (sym e)
+    (reciprocal-by j r (subst (λ (p : ℕ). T (isReciprocal (5 ^ j * 2 ^ p) r)) (places-is j (leb→le j reach near)) test))
 
 module _ (n r d high low : ℕ) (e : high * 2 ^ 64 + low ≡ n * r) (above : r * d ≤ 2 ^ 126) (below : 2 ^ 126 ≤ suc r * d) where
   -- so the upper half of n times it is not above n * 2 ^ 62 by d

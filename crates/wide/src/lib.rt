@@ -7,11 +7,10 @@
 ghost use mathlib.Core.Path.{_≡_};
 ghost use mathlib.Core.Bool.{Bool};
 ghost use Prim.Native.Nat.{_+_, _-_, _*_, _/_, _%_, _≤_, _<_, _^_};
-ghost use lib.Count.{leadingZeros};
 ghost use lib.Ieee.{binary64, toBits, nearest};
 ghost use Rattle.nearest.specs.Near.{near};
 ghost use Rattle.nearest.specs.Round.{signed};
-ghost use Rattle.wide.specs.Cut.{against, RoundsTo, sure, RoundsNear};
+ghost use Rattle.wide.specs.Cut.{against, RoundsTo, sure, beyond, RoundsNear};
 ghost use Rattle.wide.specs.Tens.{placesOf, Reciprocal};
 ghost use Rattle.wide.specs.Told.{Told, reach};
 
@@ -155,7 +154,7 @@ fn kept(w: u64, more: bool, drop: u32) -> u64
 // How many binary digits of w are dropped, so that 53 are left.
 fn surplus(w: u64) -> u32
     requires { ⌜ 2 ^ 53 ≤ w ⌝ }
-    ensures { λ r. ⌜ r ≡ 11 - leadingZeros 64 w ⌝ }
+    ensures { λ r. ⌜ r ≡ beyond w ⌝ }
 {
     11 - u64::leading_zeros(w)
 }
@@ -164,7 +163,7 @@ fn surplus(w: u64) -> u32
 // for both: which side of half it is on is chance, and is not asked here.
 fn is_sure(w: u64) -> bool
     requires { ⌜ 2 ^ 54 ≤ w ⌝ }
-    ensures { λ r. ⌜ r ≡ sure (w % 2 ^ (11 - leadingZeros 64 w)) (2 ^ (11 - leadingZeros 64 w)) ⌝ }
+    ensures { λ r. ⌜ r ≡ sure (w % 2 ^ beyond w) (2 ^ beyond w) ⌝ }
 {
     let drop = surplus(w);
     let unit = 1u64 << drop;
@@ -226,7 +225,7 @@ fn lowered_exactly(neg: bool, m: u64, k: usize) -> f64
     )
 }
 
-// By how many digits 5^k is moved up so that it has 63: its own are 2378 / 1024 times k, rounded down, and one.
+// By how many digits 5^k is moved up so that it has 63: its own are 2378 / 1024 times k, rounded down, and one. The proof tries each k.
 fn places(k: usize) -> u64
     requires { ⌜ k ≤ reach ⌝ }
     ensures { λ r. ⌜ r ≡ placesOf k ⌝ }

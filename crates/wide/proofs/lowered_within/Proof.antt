@@ -4,7 +4,7 @@ use mathlib.Core.Path.{sym, _∙_, ap, subst}
 use native.Mathlib.Omega.{arith}
 use borrow.Author.Needs.{needs}
 use Rattle.wide.specs.Cut.{Within}
-use Rattle.wide.specs.Tens.{lowered-near, high-enough}
+use Rattle.wide.specs.Tens.{places-le, lowered-near, high-enough}
 use Rattle.wide.proofs.lowered_within.Statement.{statement}
 use Rattle.wide.proofs.lowered_within.Tie as tie
 
@@ -28,7 +28,10 @@ places-requires : tie.Need-places-requires
 places-requires c κs = search needs
 
 add-rounded : tie.Need-add-rounded
-add-rounded c = search needs
+add-rounded c =
+    let e = c .places .ensures in
+    let l = places-le (c .before .before .before .before .before .before .args .k) in
+    search needs
 
 cast-rounded : tie.Need-cast-rounded
 cast-rounded c = search needs
@@ -46,6 +49,7 @@ rounded-requires c κs =
     let n = r .before in
     let a = n .lift .ensures .1 in
     let e = c .before .places .ensures in
+    let l = places-le (n .before .args .k) in
     let g = high-enough (p .multiply .result .high) (p .multiply .result .low) (n .lift .result .value) (r .reciprocal .result) (p .multiply .ensures .0) (p .multiply .ensures .1) (omega arith) (r .reciprocal .ensures .long) in
     (omega arith, omega arith)
 
