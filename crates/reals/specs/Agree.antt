@@ -1,28 +1,40 @@
 -- #101: "the short path agrees with the new one wherever both apply, proved once over digits and exponents". The short path is one product or
--- quotient of two f64s that are m and 10^k exactly, the new one the crate `wide`: both answer the one `near`. Assumes nothing.
+-- quotient of two f64s that are m and 10^k exactly, the new one the crate `wide`: both answer the one `near`. `product` and `quotient` are what the language's
+-- `*` and `/` give (nearest/specs/Product: `mul-bits`, `div-bits`). Assumes nothing.
 use Prim.Native.Nat.{ℕ, _*_, _^_, _≤_, _<_}
-use mathlib.Core.Path.{_≡_, sym, _∙_}
+use mathlib.Core.Path.{_≡_, refl, sym, subst}
 use mathlib.Core.Bool.{Bool, true, false}
+use native.Mathlib.Omega.{arith}
 use lib.ListN.{getD}
 use lib.IntN.{pos}
 use lib.Ieee.{Float, nan, binary64, ofInt, neg, toBits}
 use Rattle.nearest.specs.Near.{near}
 use Rattle.nearest.specs.Round.{signed}
 use Rattle.nearest.specs.Product.{worthOf, finite, product, quotient, product-exact, quotient-exact, worth-whole, worth-minus}
-use Rattle.wide.specs.declared.Wide.the-variants.{Value}
-use Rattle.wide.specs.Told.{Told}
+use Rattle.wide.specs.declared.Wide.{Wide}
+use Rattle.wide.specs.declared.Wide.the-variants.{Value, Far}
+use Rattle.wide.specs.Told.{Told, reach}
 use Rattle.reals.specs.Class.{ten-pos}
 use Rattle.reals.specs.Table.{powers, power-worth}
 
--- whatever patterns stand for m, with its sign, and for 10^k: their product is what the wide path answers for m * 10^k
-pub agree-up : (s : Bool) (m k x y : ℕ) (r : Float) → worthOf x ≡ finite s (m * 2 ^ 1074) → worthOf y ≡ finite false (10 ^ k * 2 ^ 1074)
-    → Told (Value r) k (signed s (near (m * 10 ^ k) 1)) → product x y ≡ toBits binary64 r
-agree-up s m k x y r e f t = product-exact x y s m (10 ^ k) e f ∙ sym (t .1)
+-- a, which the wide path answers for the power k, is an f64, and it has this pattern
+abbrev pub Answers : Wide → ℕ → Type 0
+Answers a b = (r : Float) × (a ≡ Value r) × (toBits binary64 r ≡ b)
 
--- and their quotient what it answers for m / 10^k
-pub agree-down : (s : Bool) (m k x y : ℕ) (r : Float) → worthOf x ≡ finite s (m * 2 ^ 1074) → worthOf y ≡ finite false (10 ^ k * 2 ^ 1074)
-    → Told (Value r) k (signed s (near m (10 ^ k))) → quotient x y ≡ toBits binary64 r
-agree-down s m k x y r e f t = quotient-exact x y s m (10 ^ k) (ten-pos k) e f ∙ sym (t .1)
+-- the wide path answers within its reach
+within : (a : Wide) (k b : ℕ) → k ≤ reach → Told a k b → Answers a b
+within (Value r) k b l t = (r, refl, t .1)
+within Far k b l t = absurd (omega arith)
+
+-- whatever patterns stand for m, with its sign, and for 10^k: what the wide path answers for m * 10^k is their product
+pub agree-up : (s : Bool) (m k x y : ℕ) (a : Wide) → k ≤ reach → worthOf x ≡ finite s (m * 2 ^ 1074) → worthOf y ≡ finite false (10 ^ k * 2 ^ 1074)
+    → Told a k (signed s (near (m * 10 ^ k) 1)) → Answers a (product x y)
+agree-up s m k x y a l e f t = subst (Answers a) (sym (product-exact x y s m (10 ^ k) e f)) (within a k (signed s (near (m * 10 ^ k) 1)) l t)
+
+-- and what it answers for m / 10^k is their quotient
+pub agree-down : (s : Bool) (m k x y : ℕ) (a : Wide) → k ≤ reach → worthOf x ≡ finite s (m * 2 ^ 1074) → worthOf y ≡ finite false (10 ^ k * 2 ^ 1074)
+    → Told a k (signed s (near m (10 ^ k))) → Answers a (quotient x y)
+agree-down s m k x y a l e f t = subst (Answers a) (sym (quotient-exact x y s m (10 ^ k) (ten-pos k) e f)) (within a k (signed s (near m (10 ^ k))) l t)
 
 -- ---- "wherever both apply": the short path's own operands are such patterns for all m up to 2^53 and k up to 22
 -- m with its sign, as an f64
@@ -35,12 +47,14 @@ operand-worth : (s : Bool) (m : ℕ) → m ≤ 2 ^ 53 → worthOf (toBits binary
 operand-worth true m h = worth-minus m h
 operand-worth false m h = worth-whole m h
 
--- so the product of m and of the table's 10^k is the wide path's answer
-pub short-up : (s : Bool) (m k : ℕ) (r : Float) → m ≤ 2 ^ 53 → k < 23 → Told (Value r) k (signed s (near (m * 10 ^ k) 1))
-    → product (toBits binary64 (operand s m)) (toBits binary64 (getD powers k nan)) ≡ toBits binary64 r
-short-up s m k r h l t = agree-up s m k (toBits binary64 (operand s m)) (toBits binary64 (getD powers k nan)) r (operand-worth s m h) (power-worth k l) t
+-- so the wide path answers the product of m and of the table's 10^k
+pub short-up : (s : Bool) (m k : ℕ) (a : Wide) → m ≤ 2 ^ 53 → k < 23 → Told a k (signed s (near (m * 10 ^ k) 1))
+    → Answers a (product (toBits binary64 (operand s m)) (toBits binary64 (getD powers k nan)))
+short-up s m k a h l t =
+    agree-up s m k (toBits binary64 (operand s m)) (toBits binary64 (getD powers k nan)) a (omega arith) (operand-worth s m h) (power-worth k l) t
 
 -- and their quotient
-pub short-down : (s : Bool) (m k : ℕ) (r : Float) → m ≤ 2 ^ 53 → k < 23 → Told (Value r) k (signed s (near m (10 ^ k)))
-    → quotient (toBits binary64 (operand s m)) (toBits binary64 (getD powers k nan)) ≡ toBits binary64 r
-short-down s m k r h l t = agree-down s m k (toBits binary64 (operand s m)) (toBits binary64 (getD powers k nan)) r (operand-worth s m h) (power-worth k l) t
+pub short-down : (s : Bool) (m k : ℕ) (a : Wide) → m ≤ 2 ^ 53 → k < 23 → Told a k (signed s (near m (10 ^ k)))
+    → Answers a (quotient (toBits binary64 (operand s m)) (toBits binary64 (getD powers k nan)))
+short-down s m k a h l t =
+    agree-down s m k (toBits binary64 (operand s m)) (toBits binary64 (getD powers k nan)) a (omega arith) (operand-worth s m h) (power-worth k l) t
