@@ -50,14 +50,14 @@ degree : realOf (bytes "0.017453292519943295") ≡ read 0x3f91_df46_a252_9d39
 unfolding realOf parseOf numberFrom walk near nearUnits size
 degree = refl
 
--- what example 9 had before: "`1E22` in"
-before-reach : realOf (bytes "1E22") ≡ read 0x4480_f0cf_064d_d592
-unfolding realOf parseOf numberFrom walk near nearUnits size
+-- what example 9 said of the old class: "`1E22` in"
+before-reach : realBefore (bytes "1E22") ≡ read 0x4480_f0cf_064d_d592
+unfolding parseOf numberFrom walk near nearUnits size
 before-reach = refl
 
 -- "15 digits in"
-fifteen : realOf (bytes "0.00123456789012345E2") ≡ read 0x3fbf_9add_3746_f62e
-unfolding realOf parseOf numberFrom walk near nearUnits size
+fifteen : realBefore (bytes "0.00123456789012345E2") ≡ read 0x3fbf_9add_3746_f62e
+unfolding parseOf numberFrom walk near nearUnits size
 fifteen = refl
 
 -- "`1E23` is 13" was said of the old class
@@ -69,6 +69,11 @@ before-out = refl
 far-now : realOf (bytes "1E23") ≡ read 0x44b5_2d02_c7e1_4af6
 unfolding realOf parseOf numberFrom walk near nearUnits size
 far-now = refl
+
+-- a tie of seventeen digits, by division: 4503599627370496.5 goes down to the even one
+half-down : realOf (bytes "45035996273704965E-1") ≡ read 0x4330_0000_0000_0000
+unfolding realOf parseOf numberFrom walk near nearUnits size
+half-down = refl
 
 -- "16 is 13" was said of the old class
 sixteen-before : realBefore (bytes "1234567890123456.") ≡ refused 13

@@ -1,5 +1,5 @@
--- Document 01, 'Parameters': reals, integers and references as rules that name no loop: a rule speaks of a list of bytes and of the parts it is put together
--- from. The byte `#` is 35, `+` is 43, `-` is 45, `.` is 46, `E` is 69 and `e` is 101.
+-- Document 01, 'Parameters', with the class of reals of #101: reals, integers and references as rules that name no loop: a rule speaks of a list of bytes
+-- and of the parts it is put together from. The byte `#` is 35, `+` is 43, `-` is 45, `.` is 46, `E` is 69 and `e` is 101.
 -- FormRight.antt and WholeRight.antt show that Scalar.antt computes just this, and that there is no other answer. Assumes nothing.
 use Prim.Native.Nat.{ℕ, _+_, _*_, _^_, _≤_, _<_}
 use mathlib.Core.Path.{_≡_}
@@ -43,12 +43,12 @@ pub record Written (t : List ℕ) (s : Bool) (w f : List ℕ) (down : Bool) (x :
   pub some : w ++ f ≡ [] → ⊥
   pub power : Powered e down x
 
--- −far ≤ e ≤ far, e being the exponent x less the number f of fraction digits
+-- "e the exponent less the number of fraction digits": −far ≤ e ≤ far, the exponent being x and the number f
 abbrev pub Reach : ℕ → ℕ → Bool → ℕ → Type 0
 Reach far f false x = (x ≤ f + far) × (f ≤ x + far)
 Reach far f true x = x + f ≤ far
 
--- m has at most `long` digits, leading zeros dropped, and e is in reach: the class is this at `longest` and `farthest` (Scalar.antt)
+-- #101: "m has at most 19 digits and −27 ≤ e ≤ 27", by the two bounds; "leading zeros dropped". The class is this at `longest` and `farthest` (Scalar.antt)
 pub record Classed (long far m f : ℕ) (down : Bool) (x : ℕ) : Type 0 where
   pub few : m < 10 ^ long
   pub reach : Reach far f down x
@@ -63,8 +63,8 @@ abbrev pub under : ℕ → Bool → ℕ → ℕ
 under f false x = 10 ^ f
 under f true x = 10 ^ (x + f)
 
--- what a text answers: the f64 nearest to m·10^e, ties to even, by its pattern, "sign kept at zero"; "Other well-formed reals are
--- 13; all else, `inf` and `nan` included, is 12"
+-- what a text answers. #101: "answered with the nearest f64, ties to even", by its pattern, and "13 now means outside the wider class"; 01: "sign kept
+-- at zero", "all else, `inf` and `nan` included, is 12"
 pub data RealForm : List ℕ → Answer ℕ → Type 0 where
   real : {t w f x : List ℕ} {s down : Bool} {b : ℕ} → Written t s w f down x → Classed longest farthest (valueOf (w ++ f)) (length f) down (valueOf x)
       → IsNearest (over (valueOf (w ++ f)) down (valueOf x)) (under (length f) down (valueOf x)) b → RealForm t (read (signed s b))

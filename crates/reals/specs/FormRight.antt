@@ -302,7 +302,7 @@ reach-is far f true x = go (decLe (x + f) far)
 abbrev pub Decided : ℕ → ℕ → ℕ → ℕ → Bool → ℕ → Type 0
 Decided long far m f d x = (Classed long far m f d x × (belongs long far m f d x ≡ true)) ⊎ ((Classed long far m f d x → ⊥) × (belongs long far m f d x ≡ false))
 
--- so it is at all bounds
+-- this holds at all bounds
 pub class-is : (long far m f : ℕ) (d : Bool) (x : ℕ) → Decided long far m f d x
 class-is long far m f d x = go (decLt m (10 ^ long)) (reach-is far f d x)
   where

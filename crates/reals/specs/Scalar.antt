@@ -1,4 +1,4 @@
--- Document 01, 'Parameters': reals, integers and references, computed from a trimmed parameter's bytes. Form.antt has the same as
+-- Document 01, 'Parameters', with the class of reals of #101: reals, integers and references, computed from a trimmed parameter's bytes. Form.antt has the same as
 -- rules, and FormRight.antt and WholeRight.antt that the two are one. Assumes nothing.
 use Prim.Native.Nat.{ℕ, _+_, _*_, _-_, _^_, _≤_, _<_, min}
 use mathlib.Core.Path.{_≡_}
@@ -102,7 +102,7 @@ unfoldable pub parseOf : List ℕ → Parsed
 parseOf t =
     counted (minus t) (unsigned t) (numberFrom 0 (unsigned t)) (fractionOf (numberFrom 0 (unsigned t) .value) (numberFrom 0 (unsigned t) .rest))
 
--- #101: "every real whose m has at most 19 digits and −27 ≤ e ≤ 27". The class's two bounds, in the definitions here alone: "m has at most 19 digits"
+-- #101: "m has at most 19 digits". This and the next are the class's two bounds; no other definition repeats them
 abbrev pub longest : ℕ
 longest = 19
 
@@ -134,7 +134,7 @@ abbrev pub classIn : ℕ → ℕ → Parsed → Answer ℕ
 classIn long far (parsed s m f d x) = pick (belongs long far m f d x) (read (signed s (nearTen m f d x))) (refused 13)
 classIn long far unparsed = refused 12
 
--- the class's answer
+-- #101: "13 now means outside the wider class"
 abbrev pub classOf : Parsed → Answer ℕ
 classOf p = classIn longest farthest p
 
