@@ -176,8 +176,8 @@ uint8_t hooflift_i64(const uint8_t *file, size_t file_len, size_t *place, size_t
 
 /* A real, and a real or `$`, which is told as above; a measure. 01, 'Real class': "Let m be all digits without the point, leading zeros dropped, and e the
  * exponent less the number of fraction digits"; "The answer is the f64 nearest to m·10^e, ties to even, sign kept at zero". The class is that of request
- * #101: "every real whose m has at most 19 digits and −27 ≤ e ≤ 27". 13 where a real is outside it, as `1E28`, `0E28` and twenty digits are; zeros at the end
- * count as digits. 01: "A measure is a real or `KEYWORD(real)`". */
+ * #101: "every real whose m has at most 19 digits and −27 ≤ e ≤ 27". 13 where a real is outside it, as `1E28`, `0E28`, twenty digits and
+ * `1.025893950136E-17`, whose e is -29, are; zeros at the end count as digits. 01: "A measure is a real or `KEYWORD(real)`". */
 uint8_t hooflift_f64(const uint8_t *file, size_t file_len, size_t *place, size_t end, double *value, size_t *fault);
 uint8_t hooflift_opt_f64(const uint8_t *file, size_t file_len, size_t *place, size_t end, double *value, uint8_t *set, size_t *fault);
 uint8_t hooflift_measure(const uint8_t *file, size_t file_len, size_t *place, size_t end, double *value, size_t *fault);
