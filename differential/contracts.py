@@ -32,24 +32,32 @@ def functions(text):
 
 
 def declarations(text):
-    """The declarations of a file of antt: name to text, the body among it."""
+    """The declarations of a file of antt: name to text, the body among it. Those inside a `module _ (..) where` carry its premises."""
     found = {}
-    block, name = [], None
-    for line in text.split('\n'):
+    block, name, inset, premises = [], None, 0, ['']
+    for line in text.split('\n') + ['use end']:
         bare = re.sub(r'--.*', '', line).rstrip()
-        head = re.match(r'(?:unfoldable |abbrev |instance )*(?:pub )?(?:record |data )?([^\s(){}]+)(?: .*)? :|(?:unfoldable |abbrev )*(?:pub )?(?:record|data) (\S+)', bare)
-        if head and not bare.startswith((' ', 'use ', 'mod ', 'module')):
-            if name:
-                found[name] = plain(' '.join(block))
-            name, block = head.group(1) or head.group(2), [bare]
-        elif bare.startswith(('use ', 'mod ', 'module ')):
-            if name:
-                found[name] = plain(' '.join(block))
-            name, block = None, []
-        elif name:
+        if not bare:
+            continue
+        indent = len(bare) - len(bare.lstrip())
+        words = bare.lstrip()
+        if indent <= inset and not (name and words.startswith(name + ' ')):
+            head = re.match(r'(?:unfoldable |abbrev |instance )*(?:pub )?(?:(?:record|data) (\S+)|([^\s(){}]+)(?= :))', words)
+            opens = words.startswith('module ')
+            if head or opens or words.startswith(('use ', 'mod ', 'pub mod ', 'ghost ')):
+                if name:
+                    found[name] = plain(' '.join(block))
+                inset = indent
+                premises = premises[:indent // 2 + 1]
+                name, block = None, []
+                if opens:
+                    premises.append(words)
+                    inset = indent + 2
+                elif head:
+                    name, block = head.group(1) or head.group(2), premises + [words]
+                continue
+        if name:
             block.append(bare)
-    if name:
-        found[name] = plain(' '.join(block))
     return found
 
 
