@@ -1,9 +1,10 @@
 -- The laws by which the code's loop over digits goes, at an index of the whole text. Assumes nothing.
-use Prim.Native.Nat.{ℕ, zero, suc, _+_, _*_, _-_, _≤_, _<_, min}
+use Prim.Native.Nat.{ℕ, zero, suc, _+_, _*_, _-_, _/_, _%_, _^_, _≤_, _<_, min}
 use mathlib.Core.Path.{_≡_, refl, sym, _∙_, ap, subst}
 use mathlib.Core.Bool.{Bool, true, false, _||_, _&&_}
 use mathlib.Core.List.{List, [], _∷_}
-use native.Mathlib.Nat.{le-trans}
+use native.Mathlib.Nat.{le-trans, add-assoc, add-mul, mul-assoc, mul-comm, mul-le-mul-left, mul-le-mul-right, one-le-pow, pow-suc, suc-mul, div-mul-le-self, div-add-mod', mod-lt}
+use native.Mathlib.Decide.{decLe}
 use native.Mathlib.Omega.{arith}
 use borrow.Author.Tests.{lt-ltb, le-ltb, eq-eqb, ne-eqb, ltb-true, ltb-false, eqb-true, eqb-false}
 use lib.Dec.{eqb, ltb}
@@ -11,7 +12,10 @@ use lib.ListN.{length, drop, getD, length-drop}
 use Rattle.lex.specs.Byte.{pick}
 use Rattle.lex.specs.Walk.{walk, walk-ends, drop-end, split}
 use Rattle.record.specs.Text.{digit, Digits, digits, digitTurn, numberFrom}
-use Rattle.record.specs.Turns.{digit-stops, digit-goes}
+use Rattle.record.specs.Form.{All, valueOf}
+use Rattle.record.specs.Turns.{bounds, digit-stops, digit-goes}
+use Rattle.eights.specs.declared.Eight.{Eight}
+use Rattle.eights.specs.Eights.{Told}
 use Rattle.reals.specs.Scalar.{NumberAt, DecimalAt, TensAt, unsigned, minus, most, largest, Mantissa, mantissa, pointed, fractionOf, Exponent, power, malformed, ended, exponentOf, digitsOnly, PlainAt}
 use Rattle.reals.specs.Class.{no-and}
 use Rattle.reals.specs.declared.Decimal.{Decimal}
@@ -72,45 +76,171 @@ module _ (t : List ℕ) (at from cap : ℕ) where
   reading-ends value i l r =
       made value i (λ k. walk-ends digitTurn (λ m. digits m []) k t i l ∙ ap (digits k) (sym (drop-end t i l))) r
 
--- ---- four digits at once
--- four digits stand at the place, and v is the number that they make
-pub record FourAt (t : List ℕ) (at v : ℕ) : Type 0 where
-  pub first : digit (getD t at 0) ≡ true
-  pub second : digit (getD t (at + 1) 0) ≡ true
-  pub third : digit (getD t (at + 2) 0) ≡ true
-  pub fourth : digit (getD t (at + 3) 0) ≡ true
-  pub makes : v ≡ (getD t at 0 - 48) * 1000 + (getD t (at + 1) 0 - 48) * 100 + (getD t (at + 2) 0 - 48) * 10 + (getD t (at + 3) 0 - 48)
+-- ---- some digits at once
+-- these bytes stand from the place on
+abbrev pub Stands : List ℕ → ℕ → List ℕ → Type 0
+Stands t at [] = Unit {0}
+Stands t at (b ∷ bs) = (getD t at 0 ≡ b) × Stands t (at + 1) bs
 
--- four digits after a number, one by one and at once
-shifted : (n a b c d : ℕ) → (((n * 10 + a) * 10 + b) * 10 + c) * 10 + d ≡ n * 10000 + (a * 1000 + b * 100 + c * 10 + d)
-shifted n a b c d = omega arith
+-- n digits stand at the place, and v is the number that they make
+pub record DigitsAt (t : List ℕ) (at n v : ℕ) : Type 0 where
+  pub bytes : List ℕ
+  pub many : length bytes ≡ n
+  pub stand : Stands t at bytes
+  pub all : All digit bytes
+  pub makes : v ≡ valueOf bytes
 
--- held up to the cap after each of four digits, or once after all of them
-four-capped : (cap n a b c d : ℕ) → min cap (min cap (min cap (min cap (n * 10 + a) * 10 + b) * 10 + c) * 10 + d) ≡ min cap (n * 10000 + (a * 1000 + b * 100 + c * 10 + d))
-four-capped cap n a b c d =
-    let k = n * 10 + a in
-    let two : min cap (min cap k * 10 + b) ≡ min cap (k * 10 + b) = one-more cap (min cap k) k b refl in
-    let three = one-more cap (min cap (min cap k * 10 + b)) (k * 10 + b) c two in
-    one-more cap (min cap (min cap (min cap k * 10 + b) * 10 + c)) ((k * 10 + b) * 10 + c) d three ∙ ap (min cap) (shifted n a b c d)
+-- a place by another sum
+there : (t : List ℕ) {p q : ℕ} → p ≡ q → getD t p 0 ≡ getD t q 0
+there t e = ap (λ (n : ℕ). getD t n 0) e
+
+-- four bytes from the place
+abbrev pub fourOf : List ℕ → ℕ → List ℕ
+fourOf t i = getD t i 0 ∷ getD t (i + 1) 0 ∷ getD t (i + 2) 0 ∷ getD t (i + 3) 0 ∷ []
+
+-- four digits there, by what they are worth
+pub four-at : (t : List ℕ) (i v : ℕ) → All digit (fourOf t i) → v ≡ (getD t i 0 - 48) * 1000 + (getD t (i + 1) 0 - 48) * 100 + (getD t (i + 2) 0 - 48) * 10 + (getD t (i + 3) 0 - 48) → DigitsAt t i 4 v
+unfolding valueOf
+four-at t i v a e = record {
+  bytes = fourOf t i;
+  many = refl;
+  stand = (refl, (refl, (there t (omega arith), (there t (omega arith), tt))));
+  all = a;
+  makes = e ∙ by-places (getD t i 0 - 48) (getD t (i + 1) 0 - 48) (getD t (i + 2) 0 - 48) (getD t (i + 3) 0 - 48);
+}
+  where
+    by-places : (a b c d : ℕ) → a * 1000 + b * 100 + c * 10 + d ≡ a * 10 ^ 3 + (b * 10 ^ 2 + (c * 10 ^ 1 + (d * 10 ^ 0 + 0)))
+    by-places a b c d = omega arith
+
+-- eight bytes from the place
+abbrev pub eightOf : List ℕ → ℕ → List ℕ
+eightOf t i = getD t i 0 ∷ getD t (i + 1) 0 ∷ getD t (i + 2) 0 ∷ getD t (i + 3) 0 ∷ getD t (i + 4) 0 ∷ getD t (i + 5) 0 ∷ getD t (i + 6) 0 ∷ getD t (i + 7) 0 ∷ []
+
+-- eight digits stand at the place, or nothing is said
+abbrev pub EightAt : List ℕ → ℕ → Eight → Type 0
+EightAt t at (Eight.Digits v) = DigitsAt t at 8 v
+EightAt t at Eight.Other = Unit {0}
+
+-- what is told of the eight bytes there says this
+pub eight-at : (t : List ℕ) (i : ℕ) (x : Eight) → Told (eightOf t i) x → EightAt t i x
+eight-at t i (Eight.Digits v) h = record {
+  bytes = eightOf t i;
+  many = refl;
+  stand = (refl, (refl, (there t (omega arith), (there t (omega arith), (there t (omega arith), (there t (omega arith), (there t (omega arith), (there t (omega arith), tt))))))));
+  all = h .0;
+  makes = h .1;
+}
+eight-at t i Eight.Other h = tt
+
+-- n digits make less than 10 ^ n
+value-lt : (bs : List ℕ) → All digit bs → valueOf bs < 10 ^ length bs
+unfolding valueOf
+value-lt [] a = omega arith
+value-lt (b ∷ bs) a =
+    let p = 10 ^ length bs in
+    let k = bounds 48 b 57 (a .0) in
+    let g : (b - 48) * p ≤ 9 * p = mul-le-mul-right p (nine b (k .1)) in
+    let l : valueOf bs < p = value-lt bs (a .1) in
+    subst (λ (n : ℕ). (b - 48) * p + valueOf bs < n) (sym (pow-suc 10 (length bs))) (less ((b - 48) * p) p (valueOf bs) g l)
+  where
+    nine : (b : ℕ) → b ≤ 57 → b - 48 ≤ 9
+    nine b h = omega arith
+
+    less : (x p v : ℕ) → x ≤ 9 * p → v < p → x + v < p * 10
+    less x p v g l = omega arith
+
+-- so do those at the place
+pub digits-lt : (t : List ℕ) (at n v : ℕ) → DigitsAt t at n v → v < 10 ^ n
+digits-lt t at n v d = subst (λ (x : ℕ). x < 10 ^ n) (sym (d .makes)) (subst (λ (k : ℕ). valueOf (d .bytes) < 10 ^ k) (d .many) (value-lt (d .bytes) (d .all)))
+
+-- held up to the cap before some digits more, or after them alone
+capped : (cap x p v : ℕ) → 0 < p → min cap (min cap x * p + v) ≡ min cap (x * p + v)
+capped cap x p v h = go (decLe x cap)
+  where
+    go : Dec (x ≤ cap) → min cap (min cap x * p + v) ≡ min cap (x * p + v)
+    go (yes l) = let e : min cap x ≡ x = omega arith in ap (λ (n : ℕ). min cap (n * p + v)) e
+    go (no n) =
+        let e : min cap x ≡ cap = omega arith in
+        let a : cap * 1 ≤ cap * p = mul-le-mul-left cap h in
+        let b : cap * p ≤ x * p = mul-le-mul-right p (omega arith) in
+        ap (λ (n : ℕ). min cap (n * p + v)) e ∙ both-cap (cap * p) (x * p) a b
+      where
+        both-cap : (y z : ℕ) → cap * 1 ≤ y → y ≤ z → min cap (y + v) ≡ min cap (z + v)
+        both-cap y z a b = omega arith
+
+-- ---- a number n with digits more that make v and move it up by s: is it below the cap?
+module _ (n v s cap : ℕ) (less : v < s) where
+  -- n is below the cap's upper part
+  pub below-cap : n < cap / s → n * s + v < cap
+  below-cap h =
+      let a : suc n * s ≤ cap / s * s = mul-le-mul-right s h in
+      let b : cap / s * s ≤ cap = div-mul-le-self cap s in
+      go (n * s) (suc n * s) (suc-mul n s) (le-trans a b)
+    where
+      go : (x y : ℕ) → y ≡ x + s → y ≤ cap → x + v < cap
+      go x y e l = omega arith
+
+  -- n is that part, and v below the rest
+  pub at-cap : n ≡ cap / s → v < cap % s → n * s + v < cap
+  at-cap e h = subst (λ (x : ℕ). n * s + v < x) (ap (λ (x : ℕ). x * s + cap % s) e ∙ div-add-mod' cap s) (go (n * s) (cap % s) h)
+    where
+      go : (x y : ℕ) → v < y → x + v < x + y
+      go x y h = omega arith
+
+  -- n is that part, and v not below the rest
+  pub full-cap : n ≡ cap / s → cap % s ≤ v → cap ≤ n * s + v
+  full-cap e h = subst (λ (x : ℕ). x ≤ n * s + v) (ap (λ (x : ℕ). x * s + cap % s) e ∙ div-add-mod' cap s) (go (n * s) (cap % s) h)
+    where
+      go : (x y : ℕ) → y ≤ v → x + y ≤ x + v
+      go x y h = omega arith
+
+  -- n is above that part
+  pub past-cap : cap / s < n → cap ≤ n * s + v
+  past-cap h =
+      let a : suc (cap / s) * s ≤ n * s = mul-le-mul-right s h in
+      let r : cap % s < s = mod-lt cap (positive v s less) in
+      go (cap / s * s) (suc (cap / s) * s) (n * s) (cap % s) (suc-mul (cap / s) s) (div-add-mod' cap s) r a
+    where
+      positive : (v s : ℕ) → v < s → 0 < s
+      positive v s h = omega arith
+
+      go : (x y z r : ℕ) → y ≡ x + s → x + r ≡ cap → r < s → y ≤ z → cap ≤ z + v
+      go x y z r e f l g = omega arith
+
+-- a number below the cap is held as itself
+pub held-below : (cap x : ℕ) → x < cap → x ≡ min cap x
+held-below cap x h = omega arith
+
+-- any other as the cap
+pub held-above : (cap x : ℕ) → cap ≤ x → cap ≡ min cap x
+held-above cap x h = omega arith
 
 module _ (t : List ℕ) (at from cap : ℕ) where
-  -- four digits are read
-  pub reading-four : (value i next v : ℕ) → i + 4 ≤ length t → FourAt t i v → next ≡ min cap (value * 10000 + v) → Reading t at from cap value i → Reading t at from cap next (i + 4)
-  reading-four value i next v l f e r =
-      let a = getD t i 0 - 48 in
-      let b = getD t (i + 1) 0 - 48 in
-      let c = getD t (i + 2) 0 - 48 in
-      let d = getD t (i + 3) 0 - 48 in
-      let m1 = min cap (value * 10 + a) in
-      let m2 = min cap (m1 * 10 + b) in
-      let m3 = min cap (m2 * 10 + c) in
-      let g1 = reading-goes t at from cap value i m1 (omega arith) (f .first) refl r in
-      let g2 : Reading t at from cap m2 (i + 2) = on-to (omega arith) (reading-goes t at from cap m1 (i + 1) m2 (omega arith) (f .second) refl g1) in
-      let g3 : Reading t at from cap m3 (i + 3) = on-to (omega arith) (reading-goes t at from cap m2 (i + 2) m3 (omega arith) (f .third) refl g2) in
-      on-to (omega arith) (reading-goes t at from cap m3 (i + 3) next (omega arith) (f .fourth) (e ∙ ap (λ (w : ℕ). min cap (value * 10000 + w)) (f .makes) ∙ sym (four-capped cap value a b c d)) g3)
+  -- digits that stand there are read
+  reading-all : (bs : List ℕ) (value i next : ℕ) → i + length bs ≤ length t → Stands t i bs → All digit bs → next ≡ min cap (value * 10 ^ length bs + valueOf bs) → Reading t at from cap value i → Reading t at from cap next (i + length bs)
+  unfolding valueOf
+  reading-all [] value i next l s a e r = let h = r .held in subst (λ (v : ℕ). Reading t at from cap v (i + 0)) (omega arith) (subst (λ (p : ℕ). Reading t at from cap value p) (omega arith) r)
+  reading-all (b ∷ bs) value i next l s a e r =
+      let v1 = min cap (value * 10 + (b - 48)) in
+      let p = 10 ^ length bs in
+      let d : digit (getD t i 0) ≡ true = ap digit (s .0) ∙ a .0 in
+      let g : Reading t at from cap v1 (i + 1) = reading-goes t at from cap value i v1 (omega arith) d (ap (λ (c : ℕ). min cap (value * 10 + (c - 48))) (sym (s .0))) r in
+      let f : next ≡ min cap (v1 * p + valueOf bs) =
+      e ∙ ap (λ (q : ℕ). min cap (value * q + ((b - 48) * p + valueOf bs))) (pow-suc 10 (length bs)) ∙ ap (min cap) (moved value (b - 48) p (valueOf bs)) ∙ sym (capped cap (value * 10 + (b - 48)) p (valueOf bs) (one-le-pow (length bs) 10 (omega arith))) in
+      subst (λ (q : ℕ). Reading t at from cap next q) (further i (length bs)) (reading-all bs v1 (i + 1) next (omega arith) (s .1) (a .1) f g)
     where
-      on-to : {v p q : ℕ} → p ≡ q → Reading t at from cap v p → Reading t at from cap v q
-      on-to {v} e g = subst (λ (p : ℕ). Reading t at from cap v p) e g
+      moved : (n d p v : ℕ) → n * (p * 10) + (d * p + v) ≡ (n * 10 + d) * p + v
+      moved n d p v = sym (add-assoc (n * (p * 10)) (d * p) v) ∙ ap (λ (x : ℕ). x + d * p + v) (ap (λ (x : ℕ). n * x) (mul-comm p 10) ∙ sym (mul-assoc n 10 p)) ∙ ap (λ (x : ℕ). x + v) (sym (add-mul (n * 10) d p))
+
+      further : (i n : ℕ) → i + 1 + n ≡ i + suc n
+      further i n = omega arith
+
+  -- so many digits at the place are read
+  pub reading-digits : (value i next n v : ℕ) → i + n ≤ length t → DigitsAt t i n v → next ≡ min cap (value * 10 ^ n + v) → Reading t at from cap value i → Reading t at from cap next (i + n)
+  reading-digits value i next n v l d e r =
+      subst (λ (k : ℕ). Reading t at from cap next (i + k)) (d .many)
+      (reading-all (d .bytes) value i next (subst (λ (k : ℕ). i + k ≤ length t) (sym (d .many)) l) (d .stand) (d .all)
+      (e ∙ ap (λ (k : ℕ). min cap (value * 10 ^ k + v)) (sym (d .many)) ∙ ap (λ (x : ℕ). min cap (value * 10 ^ length (d .bytes) + x)) (d .makes)) r)
 
   -- what is read on from where some digits were read is what is read from the start
   pub reading-then : (value i : ℕ) (r : Number) → Reading t at from cap value i → NumberAt t i value cap r → NumberAt t at from cap r

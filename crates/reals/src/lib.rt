@@ -13,7 +13,7 @@ ghost use Rattle.nearest.specs.Near.{near};
 ghost use Rattle.nearest.specs.Round.{signed};
 ghost use Rattle.nearest.specs.Product.{worthOf, finite};
 ghost use Rattle.reals.specs.Scalar.{toldReal, realOf, toldWhole, wholeOf, ranged, toldReference, referenceOf, unsigned, minus, NumberAt, PlainAt, DecimalAt, TensAt, ClassOf, most, farthest, nearBy};
-ghost use Rattle.reals.specs.Parts.{Reading, FourAt};
+ghost use Rattle.reals.specs.Parts.{Reading, DigitsAt, EightAt};
 
 pub enum Real {
     Value(f64),
@@ -67,21 +67,28 @@ fn past_sign(t: &[u8], at: usize) -> usize
     at
 }
 
-// A number with one digit more, or the cap: so that digits without end neither wrap nor count as few.
+// A number with some digits more, which make v and move it up by `scale`; or the cap: so that digits without end neither wrap nor count as few.
+fn with_digits(n: u64, v: u64, scale: u64, cap: u64) -> u64
+    requires { ⌜ (v < scale) × (n ≤ cap) ⌝ }
+    ensures { λ r. ⌜ r ≡ min cap (n * scale + v) ⌝ }
+{
+    let most = cap / scale;
+    if n < most {
+        return n * scale + v;
+    }
+    if n == most {
+        if v < cap % scale {
+            return n * scale + v;
+        }
+    }
+    cap
+}
+
 fn with_digit(n: u64, c: u8, cap: u64) -> u64
     requires { ⌜ (48 ≤ c) × (c ≤ 57) × (n ≤ cap) ⌝ }
     ensures { λ r. ⌜ r ≡ min cap (n * 10 + (c - 48)) ⌝ }
 {
-    let d = (c - 48) as u64;
-    if n < cap / 10 {
-        return n * 10 + d;
-    }
-    if n == cap / 10 {
-        if d < cap % 10 {
-            return n * 10 + d;
-        }
-    }
-    cap
+    with_digits(n, (c - 48) as u64, 10, cap)
 }
 
 // A number and the place after its digits.
@@ -126,7 +133,7 @@ fn four_value(a: u8, b: u8, c: u8, d: u8) -> u64
 // The number of four digits from a place, or 10000 where one is no digit. They do not wait for each other, as digits one by one do.
 fn four_at(t: &[u8], at: usize) -> u64
     requires { ⌜ at + 4 ≤ length (now t) ⌝ }
-    ensures { λ r. ⌜ (r < 10000 → FourAt (now (t .entry)) at r) ⌝ }
+    ensures { λ r. ⌜ (r < 10000 → DigitsAt (now (t .entry)) at 4 r) ⌝ }
 {
     let a = t[at];
     let b = t[at + 1];
@@ -138,46 +145,66 @@ fn four_at(t: &[u8], at: usize) -> u64
     10000
 }
 
-// A number with four digits more, or the cap.
-fn with_four(n: u64, v: u64, cap: u64) -> u64
-    requires { ⌜ (v < 10000) × (n ≤ cap) ⌝ }
-    ensures { λ r. ⌜ r ≡ min cap (n * 10000 + v) ⌝ }
+// The number of eight digits from a place, where there are so many.
+fn eight_at(t: &[u8], at: usize) -> eights::Eight
+    requires { ⌜ at + 8 ≤ length (now t) ⌝ }
+    ensures { λ r. ⌜ EightAt (now (t .entry)) at r ⌝ }
 {
-    if n < cap / 10000 {
-        return n * 10000 + v;
-    }
-    if n == cap / 10000 {
-        if v < cap % 10000 {
-            return n * 10000 + v;
-        }
-    }
-    cap
+    let a = t[at];
+    let b = t[at + 1];
+    let c = t[at + 2];
+    let d = t[at + 3];
+    let e = t[at + 4];
+    let f = t[at + 5];
+    let g = t[at + 6];
+    let h = t[at + 7];
+    eights::number(a, b, c, d, e, f, g, h)
 }
 
-// Reads on with the digits from a place, as long as four stand together.
-fn fours_from(t: &[u8], at: usize, from: u64, cap: u64) -> Number
+// Reads on with the digits from a place, as long as eight stand together.
+fn eights_from(t: &[u8], at: usize, from: u64, cap: u64) -> Number
     requires { ⌜ (at ≤ length (now t)) × (from ≤ cap) ⌝ }
     ensures { λ r. ⌜ Reading (now (t .entry)) at from cap (r .value) (r .next) ⌝ }
 {
     let mut n = from;
     let mut i = at;
-    while t.len() - i >= 4 {
-        let v = four_at(t, i);
-        if 10000 <= v {
+    while t.len() - i >= 8 {
+        let eights::Eight::Digits(v) = eight_at(t, i) else {
             return Number { value: n, next: i };
-        }
-        n = with_four(n, v, cap);
-        i += 4;
+        };
+        n = with_digits(n, v, 100000000, cap);
+        i += 8;
     }
     Number { value: n, next: i }
 }
 
-// Reads on with the digits from a place, of which there may be many, as in a fraction.
+// Reads on with four digits from a place, where there are so many.
+fn four_from(t: &[u8], at: usize, from: u64, cap: u64) -> Number
+    requires { ⌜ (at ≤ length (now t)) × (from ≤ cap) ⌝ }
+    ensures { λ r. ⌜ Reading (now (t .entry)) at from cap (r .value) (r .next) ⌝ }
+{
+    if t.len() - at >= 4 {
+        let v = four_at(t, at);
+        if v < 10000 {
+            return Number {
+                value: with_digits(from, v, 10000, cap),
+                next: at + 4,
+            };
+        }
+    }
+    Number {
+        value: from,
+        next: at,
+    }
+}
+
+// Reads on with the digits from a place, of which there may be many, as in a fraction: in eights, then four, then one by one.
 fn many_digits_from(t: &[u8], at: usize, from: u64, cap: u64) -> Number
     requires { ⌜ (at ≤ length (now t)) × (from ≤ cap) ⌝ }
     ensures { λ r. ⌜ NumberAt (now (t .entry)) at from cap r ⌝ }
 {
-    let g = fours_from(t, at, from, cap);
+    let e = eights_from(t, at, from, cap);
+    let g = four_from(t, e.next, e.value, cap);
     digits_from(t, g.next, g.value, cap)
 }
 

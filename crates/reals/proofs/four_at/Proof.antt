@@ -9,7 +9,7 @@ use denote.Ref.{now}
 use lib.ListN.{getD}
 use Rattle.record.specs.Text.{digit}
 use Rattle.record.specs.Turns.{bounds}
-use Rattle.reals.specs.Parts.{both}
+use Rattle.reals.specs.Parts.{both, four-at}
 use Rattle.reals.proofs.four_at.Statement.{statement}
 use Rattle.reals.proofs.four_at.Tie as tie
 
@@ -59,7 +59,9 @@ returns : tie.Need-returns
 returns c = λ h.
     let a = c .before .before .before .before .before .before .before .before .args in
     let f = told (now (a .t)) (a .at) (sym (c .before .before .are-digits .ensures) ∙ c .before .if1 .taken) in
-    record { first = f .0; second = f .1; third = f .2; fourth = f .3; makes = c .four-value .ensures }
+    let t = now (a .t) in
+    let i = a .at in
+    four-at t i (c .four-value .result) (f .0, (f .1, (f .2, (f .3, tt)))) (c .four-value .ensures)
 
 returns-2 : tie.Need-returns-2
 returns-2 c = λ h. absurd (omega arith)

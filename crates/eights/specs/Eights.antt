@@ -1,0 +1,44 @@
+-- Document 01, 'Real class': "all digits" of a number, here eight of them: what `number` promises of eight bytes. Assumes nothing.
+use Prim.Native.Nat.{ℕ, _<_, _^_}
+use mathlib.Core.Path.{_≡_, refl, sym, _∙_, ap}
+use mathlib.Core.Bool.{Bool, true, false}
+use mathlib.Core.List.{List, [], _∷_}
+use Rattle.record.specs.Text.{digit}
+use Rattle.record.specs.Form.{All, valueOf}
+use Rattle.eights.specs.Fields.{fieldsBy, Each}
+use Rattle.eights.specs.declared.Eight.{Eight}
+use Rattle.eights.specs.declared.Eight.the-variants.{Digits, Other}
+
+-- `Digits v`: the bytes are digits, and v is the number that they make; `Other`: they are not all digits
+abbrev pub Told : List ℕ → Eight → Type 0
+Told bs (Digits v) = All digit bs × (v ≡ valueOf bs)
+Told bs Other = All digit bs → ⊥
+
+-- that allows one answer
+pub told-only : (bs : List ℕ) (x y : Eight) → Told bs x → Told bs y → x ≡ y
+told-only bs (Digits v) (Digits u) h k = ap Digits (h .1 ∙ sym (k .1))
+told-only bs (Digits v) Other h k = absurd (k (h .0))
+told-only bs Other (Digits u) h k = absurd (h (k .0))
+told-only bs Other Other h k = refl
+
+-- ---- what the code's parts promise of the eight bytes, joined
+-- bytes as one number, in fields of eight binary digits, the first lowest
+abbrev pub joinedOf : List ℕ → ℕ
+joinedOf bs = fieldsBy 8 (λ (b : ℕ). b) bs
+
+-- a list of eight
+abbrev pub eightOf : ℕ → ℕ → ℕ → ℕ → ℕ → ℕ → ℕ → ℕ → List ℕ
+eightOf a b c d e f g h = a ∷ b ∷ c ∷ d ∷ e ∷ f ∷ g ∷ h ∷ []
+
+-- a test that tells whether A holds
+abbrev pub Says : Bool → Type 0 → Type 0
+Says true A = A
+Says false A = A → ⊥
+
+-- the test tells of any eight bytes that w joins whether they are digits
+abbrev pub Tells : ℕ → Bool → Type 0
+Tells w r = (a b c d e f g h : ℕ) → Each (λ (x : ℕ). x < 2 ^ 8) (eightOf a b c d e f g h) → w ≡ joinedOf (eightOf a b c d e f g h) → Says r (All digit (eightOf a b c d e f g h))
+
+-- v is the number that any eight digits make that w joins
+abbrev pub Makes : ℕ → ℕ → Type 0
+Makes w v = (a b c d e f g h : ℕ) → All digit (eightOf a b c d e f g h) → w ≡ joinedOf (eightOf a b c d e f g h) → v ≡ valueOf (eightOf a b c d e f g h)
