@@ -1,9 +1,9 @@
 // An f64 in decimal, for people.
 //
-// What is put is the decimal with the fewest digits among those m * 10^e, with e from -22 to 22, that the f64 is nearest to. Where m has at
-// most fifteen digits, it and the power of ten are f64s themselves, so that one product or quotient, rounded once, tells whether it
-// is. Where sixteen or seventeen are needed, the decimal is read back by the wide path, as the reader does. Where there is none,
-// `about` and fifteen digits are put. The bits beside it are what counts.
+// What is put is the decimal with the fewest digits among those m * 10^e that the f64 is nearest to, where m has at most fifteen digits and e
+// lies from -22 to 22, or m has sixteen or seventeen and e lies from -22 to 0. Up to fifteen digits m and the power of ten are f64s
+// themselves, so that one product or quotient, rounded once, tells whether it is. Sixteen or seventeen are read back by the wide path, as the
+// reader does. Where there is none, `about` and fifteen digits are put. The bits beside it are what counts.
 ghost use Prim.Native.Nat.{_≤_};
 use crate::lines;
 use text::Line;
