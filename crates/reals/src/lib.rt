@@ -161,21 +161,23 @@ fn eight_at(t: &[u8], at: usize) -> eights::Eight
     eights::number(a, b, c, d, e, f, g, h)
 }
 
-// Reads on with the digits from a place, as long as eight stand together.
-fn eights_from(t: &[u8], at: usize, from: u64, cap: u64) -> Number
+// Reads on with eight digits from a place, where there are so many.
+fn eight_from(t: &[u8], at: usize, from: u64, cap: u64) -> Number
     requires { ⌜ (at ≤ length (now t)) × (from ≤ cap) ⌝ }
     ensures { λ r. ⌜ Reading (now (t .entry)) at from cap (r .value) (r .next) ⌝ }
 {
-    let mut n = from;
-    let mut i = at;
-    while t.len() - i >= 8 {
-        let eights::Eight::Digits(v) = eight_at(t, i) else {
-            return Number { value: n, next: i };
-        };
-        n = with_digits(n, v, 100000000, cap);
-        i += 8;
+    if t.len() - at >= 8 {
+        if let eights::Eight::Digits(v) = eight_at(t, at) {
+            return Number {
+                value: with_digits(from, v, 100000000, cap),
+                next: at + 8,
+            };
+        }
     }
-    Number { value: n, next: i }
+    Number {
+        value: from,
+        next: at,
+    }
 }
 
 // Reads on with four digits from a place, where there are so many.
@@ -198,12 +200,14 @@ fn four_from(t: &[u8], at: usize, from: u64, cap: u64) -> Number
     }
 }
 
-// Reads on with the digits from a place, of which there may be many, as in a fraction: in eights, then four, then one by one.
+// Reads on with the digits from a place, of which there may be many, as in a fraction: twice eight, four, then one by one. No loop over the eights: the
+// numbers that it would keep at hand are then not there for the short fractions, which most are.
 fn many_digits_from(t: &[u8], at: usize, from: u64, cap: u64) -> Number
     requires { ⌜ (at ≤ length (now t)) × (from ≤ cap) ⌝ }
     ensures { λ r. ⌜ NumberAt (now (t .entry)) at from cap r ⌝ }
 {
-    let e = eights_from(t, at, from, cap);
+    let d = eight_from(t, at, from, cap);
+    let e = eight_from(t, d.next, d.value, cap);
     let g = four_from(t, e.next, e.value, cap);
     digits_from(t, g.next, g.value, cap)
 }

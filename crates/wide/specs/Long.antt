@@ -8,46 +8,28 @@ use lib.Pow.{pow-pos, pow-add, shl-lt}
 use lib.Count.{leadingZeros, leading-top}
 
 -- ---- moving a number up
--- a number whose highest digit is digit j, moved up by the s that makes 64 with j + 1
-top : (n j s : ℕ) → 2 ^ j ≤ n → n < 2 ^ suc j → s + suc j ≡ 64 → (2 ^ 63 ≤ n * 2 ^ s) × (n * 2 ^ s < 2 ^ 64)
-top n j s l h e =
-    let a : j + s ≡ 63 = omega arith in
-    let b : suc j + s ≡ 64 = omega arith in (
+-- a number whose highest digit is digit j, moved up by the s that makes w + 1 with j + 1, has w + 1 digits
+top : (w n j s : ℕ) → 2 ^ j ≤ n → n < 2 ^ suc j → s + suc j ≡ suc w → (2 ^ w ≤ n * 2 ^ s) × (n * 2 ^ s < 2 ^ suc w)
+top w n j s l h e =
+    let a : j + s ≡ w = omega arith in
+    let b : suc j + s ≡ suc w = omega arith in (
       subst (λ (x : ℕ). x ≤ n * 2 ^ s) (sym (pow-add 2 j s) ∙ ap (λ (x : ℕ). 2 ^ x) a) (mul-le-mul-right (2 ^ s) l),
       subst (λ (x : ℕ). n * 2 ^ s < 2 ^ x) b (shl-lt {a = n} (suc j) s h),
     )
 
--- a number is not above itself times a power of two
-up-le : (n s : ℕ) → n ≤ n * 2 ^ s
-up-le n s = subst (λ (x : ℕ). x ≤ n * 2 ^ s) (mul-one n) (mul-le-mul-left n (pow-pos s))
+-- so does a number that is moved up by as many places as stand free above it
+pub moved-up : (w n : ℕ) → 0 < n → n < 2 ^ suc w → (2 ^ w ≤ n * 2 ^ leadingZeros (suc w) n) × (n * 2 ^ leadingZeros (suc w) n < 2 ^ suc w)
+moved-up w n p h = let t = leading-top (suc w) n p h in top w n (t .0) (leadingZeros (suc w) n) (t .2) (t .3) (t .1)
 
--- what the code's `lift` computes: moved up by the zeros above it, `spare` of them left
-pub lifts : (n spare : ℕ) → 0 < n → n * 2 ^ spare < 2 ^ 64
-    → (n * 2 ^ leadingZeros 64 (n * 2 ^ spare % 2 ^ 64) % 2 ^ 64 ≡ n * 2 ^ leadingZeros 64 (n * 2 ^ spare % 2 ^ 64))
-    × (2 ^ 63 ≤ n * 2 ^ leadingZeros 64 (n * 2 ^ spare % 2 ^ 64) % 2 ^ 64 * 2 ^ spare)
-    × (n * 2 ^ leadingZeros 64 (n * 2 ^ spare % 2 ^ 64) % 2 ^ 64 * 2 ^ spare < 2 ^ 64)
-    × (leadingZeros 64 (n * 2 ^ spare % 2 ^ 64) < 64)
-lifts n spare p h = go (n * 2 ^ spare % 2 ^ 64) (mod-eq-of-lt h)
-  where
-    go : (N : ℕ) → N ≡ n * 2 ^ spare → (n * 2 ^ leadingZeros 64 N % 2 ^ 64 ≡ n * 2 ^ leadingZeros 64 N) × (2 ^ 63 ≤ n * 2 ^ leadingZeros 64 N % 2 ^ 64 * 2 ^ spare) × (n * 2 ^ leadingZeros 64 N % 2 ^ 64 * 2 ^ spare < 2 ^ 64) × (leadingZeros 64 N < 64)
-    go N e =
-        let l : n ≤ n * 2 ^ spare = up-le n spare in
-        let a : 0 < N = omega arith in
-        let b : N < 2 ^ 64 = omega arith in
-        let t = leading-top 64 N a b in
-        let s = leadingZeros 64 N in
-        let r = top N (t .0) s (t .2) (t .3) (t .1) in
-        let f : N * 2 ^ s ≡ n * 2 ^ s * 2 ^ spare = ap (λ (x : ℕ). x * 2 ^ s) e ∙ mul-right-comm n (2 ^ spare) (2 ^ s) in
-        let g : n * 2 ^ s ≤ n * 2 ^ s * 2 ^ spare = up-le (n * 2 ^ s) spare in
-        let low : 2 ^ 63 ≤ N * 2 ^ s = r .0 in
-        let high : N * 2 ^ s < 2 ^ 64 = r .1 in
-        let m : n * 2 ^ s % 2 ^ 64 ≡ n * 2 ^ s = mod-eq-of-lt (omega arith) in
-        let z : s + suc (t .0) ≡ 64 = t .1 in (
-          m,
-          subst (λ (x : ℕ). 2 ^ 63 ≤ x * 2 ^ spare) (sym m) (omega arith),
-          subst (λ (x : ℕ). x * 2 ^ spare < 2 ^ 64) (sym m) (omega arith),
-          omega arith,
-        )
+-- what the code's `lift` computes
+pub lifts : (n : ℕ) → 0 < n → n < 2 ^ 64
+    → (n * 2 ^ leadingZeros 64 n % 2 ^ 64 ≡ n * 2 ^ leadingZeros 64 n) × (2 ^ 63 ≤ n * 2 ^ leadingZeros 64 n % 2 ^ 64) × (n * 2 ^ leadingZeros 64 n % 2 ^ 64 < 2 ^ 64) × (leadingZeros 64 n < 64)
+lifts n p h =
+    let t = leading-top 64 n p h in
+    let z : leadingZeros 64 n + suc (t .0) ≡ 64 = t .1 in
+    let r = moved-up 63 n p h in
+    let m : n * 2 ^ leadingZeros 64 n % 2 ^ 64 ≡ n * 2 ^ leadingZeros 64 n = mod-eq-of-lt (r .1) in
+    (m, subst (λ (x : ℕ). 2 ^ 63 ≤ x) (sym m) (r .0), subst (λ (x : ℕ). x < 2 ^ 64) (sym m) (r .1), omega arith)
 
 -- ---- multiplication, by columns of 32 digits
 -- the two factors by their halves

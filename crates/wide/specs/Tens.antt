@@ -3,7 +3,7 @@
 use Prim.Native.Nat.{ℕ, zero, suc, _+_, _-_, _*_, _/_, _%_, _^_, _≤_, _<_}
 use mathlib.Core.Path.{_≡_, refl, sym, _∙_, ap, subst}
 use mathlib.Core.Bool.{Bool, true, false, not, _&&_}
-use native.Mathlib.Nat.{add-mul, mul-assoc, mul-comm, mul-left-comm, mul-right-comm, one-mul, mul-pos, mul-le-mul, mul-lt-mul-of-pos-right, lt-of-mul-lt-mul-right, lt-of-le-of-lt, one-le-pow, pow-suc, suc-mul, zero-mul, pow-le-pow-right, mul-suc, mul-le-mul-left, mul-le-mul-right, le-of-mul-le-mul-right, le-trans}
+use native.Mathlib.Nat.{add-mul, mul-assoc, mul-comm, mul-left-comm, mul-right-comm, one-mul, mul-pos, mul-le-mul, mul-lt-mul-of-pos-right, lt-of-mul-lt-mul-right, lt-of-le-of-lt, one-le-pow, pow-suc, suc-mul, zero-mul, pow-le-pow-right, mul-suc, mul-le-mul-left, mul-le-mul-right, le-of-mul-le-mul-right, le-trans, mod-eq-of-lt}
 use native.Mathlib.Decide.{decLt}
 use native.Mathlib.Omega.{arith}
 use borrow.Author.Tests.{lt-ltb, eq-eqb, ne-eqb}
@@ -11,6 +11,7 @@ use lib.Dec.{T, eqb, leb, ltb, leb→le, eqb→eq}
 use lib.Ieee.Fits.{and-l, and-r}
 use lib.Count.{leadingZeros, leading-le}
 use lib.Pow.{pow-pos, pow-add}
+use Rattle.wide.specs.Long.{moved-up}
 use Rattle.wide.specs.Cut.{Cut, Within}
 use Rattle.wide.specs.Told.{reach}
 
@@ -107,6 +108,26 @@ places-le k = leading-le 63 (5 ^ k)
 -- 5 ^ k, moved up
 abbrev pub lifted-five : ℕ → ℕ
 lifted-five k = 5 ^ k * 2 ^ placesOf k
+
+-- it has 63 digits then
+pub lifted-bounds : (k : ℕ) → k ≤ reach → (2 ^ 62 ≤ lifted-five k) × (lifted-five k < 2 ^ 63)
+lifted-bounds k h = moved-up 62 (5 ^ k) (one-le-pow k 5 (omega arith)) (five-lt k h)
+
+-- what the code's `lifted_five` computes
+pub lifted-is : (k p b : ℕ) → k ≤ reach → p ≡ 5 ^ k → b ≡ placesOf k → (p * 2 ^ b % 2 ^ 64 ≡ 5 ^ k * 2 ^ b) × (2 ^ 62 ≤ p * 2 ^ b % 2 ^ 64) × (p * 2 ^ b % 2 ^ 64 < 2 ^ 63) × (b < 64)
+lifted-is k p b h e f =
+    let r = lifted-bounds k h in
+    let l = places-le k in
+    let same : p * 2 ^ b ≡ lifted-five k = ap (λ (x : ℕ). x * 2 ^ b) e ∙ ap (λ (x : ℕ). 5 ^ k * 2 ^ x) f in
+    let m : p * 2 ^ b % 2 ^ 64 ≡ p * 2 ^ b = mod-eq-of-lt (subst (λ (x : ℕ). x < 2 ^ 64) (sym same) (wider (lifted-five k) (r .1))) in (
+      m ∙ ap (λ (x : ℕ). x * 2 ^ b) e,
+      subst (λ (x : ℕ). 2 ^ 62 ≤ x) (sym (m ∙ same)) (r .0),
+      subst (λ (x : ℕ). x < 2 ^ 63) (sym (m ∙ same)) (r .1),
+      omega arith,
+    )
+  where
+    wider : (x : ℕ) → x < 2 ^ 63 → x < 2 ^ 64
+    wider x h = omega arith
 
 -- r is 2 ^ 126 divided by `lifted-five k`, or below that by one at most; and it has 63 binary digits or more
 pub record Reciprocal (k r : ℕ) : Type 0 where

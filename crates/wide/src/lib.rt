@@ -57,18 +57,39 @@ fn power_of_five(k: usize) -> u64
     }
 }
 
-// A number moved up until only `spare` binary digits above it are left, and by how many digits.
+// By how many digits 5^k is moved up so that it has 63: its own are 2378 / 1024 times k, rounded down, and one. The proof tries each k.
+fn places(k: usize) -> u64
+    requires { ⌜ k ≤ reach ⌝ }
+    ensures { λ r. ⌜ r ≡ placesOf k ⌝ }
+{
+    62 - k as u64 * 2378 / 1024
+}
+
+// A number moved up, and by how many binary digits.
 struct Lifted {
     value: u64,
     by: u32,
 }
 
-fn lift(n: u64, spare: u32) -> Lifted
-    requires { ⌜ (0 < n) × (spare ≤ 1) × (n * 2 ^ spare < 2 ^ 64) ⌝ }
-    ensures { λ r. ⌜ (r .value ≡ n * 2 ^ r .by) × (2 ^ 63 ≤ r .value * 2 ^ spare) × (r .value * 2 ^ spare < 2 ^ 64) × (r .by < 64) ⌝ }
+// Moved up until it has 64 digits.
+fn lift(n: u64) -> Lifted
+    requires { ⌜ 0 < n ⌝ }
+    ensures { λ r. ⌜ (r .value ≡ n * 2 ^ r .by) × (2 ^ 63 ≤ r .value) × (r .value < 2 ^ 64) × (r .by < 64) ⌝ }
 {
-    let by = u64::leading_zeros(n << spare);
+    let by = u64::leading_zeros(n);
     Lifted { value: n << by, by }
+}
+
+// 5^k, moved up until it has 63.
+fn lifted_five(k: usize) -> Lifted
+    requires { ⌜ k ≤ reach ⌝ }
+    ensures { λ r. ⌜ (r .value ≡ 5 ^ k * 2 ^ r .by) × (2 ^ 62 ≤ r .value) × (r .value < 2 ^ 63) × (r .by < 64) ⌝ }
+{
+    let by = places(k);
+    Lifted {
+        value: power_of_five(k) << by,
+        by: by as u32,
+    }
 }
 
 // A product of two numbers: its upper 64 digits, and its lower 64.
@@ -198,8 +219,8 @@ fn raised_within(neg: bool, m: u64, k: usize) -> f64
     requires { ⌜ (0 < m) × (k ≤ reach) ⌝ }
     ensures { λ r. ⌜ toBits binary64 r ≡ signed neg (near (m * 10 ^ k) 1) ⌝ }
 {
-    let n = lift(m, 0);
-    let f = lift(power_of_five(k), 1);
+    let n = lift(m);
+    let f = lifted_five(k);
     let p = multiply(n.value, f.value);
     rounded(
         neg,
@@ -214,8 +235,8 @@ fn lowered_exactly(neg: bool, m: u64, k: usize) -> f64
     requires { ⌜ (0 < m) × (k ≤ reach) ⌝ }
     ensures { λ r. ⌜ toBits binary64 r ≡ signed neg (near m (10 ^ k)) ⌝ }
 {
-    let n = lift(m, 0);
-    let f = lift(power_of_five(k), 1);
+    let n = lift(m);
+    let f = lifted_five(k);
     let q = divide(n.value, f.value);
     rounded(
         neg,
@@ -223,14 +244,6 @@ fn lowered_exactly(neg: bool, m: u64, k: usize) -> f64
         q.rest != 0,
         1020 + f.by as u64 - n.by as u64 - k as u64,
     )
-}
-
-// By how many digits 5^k is moved up so that it has 63: its own are 2378 / 1024 times k, rounded down, and one. The proof tries each k.
-fn places(k: usize) -> u64
-    requires { ⌜ k ≤ reach ⌝ }
-    ensures { λ r. ⌜ r ≡ placesOf k ⌝ }
-{
-    62 - k as u64 * 2378 / 1024
 }
 
 // 2^126 by 5^k as moved up, rounded down: what is left of it is less than one.
@@ -275,7 +288,7 @@ fn lowered_within(neg: bool, m: u64, k: usize) -> f64
     requires { ⌜ (0 < m) × (k ≤ reach) ⌝ }
     ensures { λ r. ⌜ toBits binary64 r ≡ signed neg (near m (10 ^ k)) ⌝ }
 {
-    let n = lift(m, 0);
+    let n = lift(m);
     let p = multiply(n.value, reciprocal(k));
     if is_sure(p.high) {
         return rounded(

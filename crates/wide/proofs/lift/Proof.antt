@@ -5,17 +5,14 @@ use Rattle.wide.specs.Long.{lifts}
 use Rattle.wide.proofs.lift.Statement.{statement}
 use Rattle.wide.proofs.lift.Tie as tie
 
-shl-by : tie.Need-shl-by
-shl-by c = search needs
+cast-t3 : tie.Need-cast-t3
+cast-t3 c = let h = lifts (c .args .n) (c .pre) (c .fits .n .fits) .3 in record { fits = omega (arith, h) }
 
-cast-t4 : tie.Need-cast-t4
-cast-t4 c = let h = lifts (c .args .n) (c .args .spare) (c .pre .0) (c .pre .2) .3 in record { fits = omega (arith, h) }
-
-shl-t5 : tie.Need-shl-t5
-shl-t5 c = lifts (c .args .n) (c .args .spare) (c .pre .0) (c .pre .2) .3
+shl-t4 : tie.Need-shl-t4
+shl-t4 c = lifts (c .args .n) (c .pre) (c .fits .n .fits) .3
 
 returns : tie.Need-returns
-returns c = lifts (c .args .n) (c .args .spare) (c .pre .0) (c .pre .2)
+returns c = lifts (c .args .n) (c .pre) (c .fits .n .fits)
 
 pub lift-spec : {M : Type 1} → statement M
-lift-spec = tie.close (tie.spec shl-by cast-t4 shl-t5 returns)
+lift-spec = tie.close (tie.spec cast-t3 shl-t4 returns)

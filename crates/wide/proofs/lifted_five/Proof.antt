@@ -1,0 +1,33 @@
+-- `wide::lifted_five` meets its contract: 5 ^ k, by as many digits as it has places free. Assumes nothing.
+use native.Mathlib.Omega.{arith}
+use borrow.Author.Needs.{needs}
+use Rattle.wide.specs.Tens.{places-le, lifted-is}
+use Rattle.wide.proofs.lifted_five.Statement.{statement}
+use Rattle.wide.proofs.lifted_five.Tie as tie
+
+places-requires : tie.Need-places-requires
+places-requires c κs = search needs
+
+power-of-five-requires : tie.Need-power-of-five-requires
+power-of-five-requires c κs = search needs
+
+shl-t4 : tie.Need-shl-t4
+shl-t4 c =
+    let e = c .before .places .ensures in
+    let l = places-le (c .before .before .args .k) in
+    omega arith
+
+cast-t5 : tie.Need-cast-t5
+cast-t5 c =
+    let e = c .before .places .ensures in
+    let l = places-le (c .before .before .args .k) in
+    record { fits = omega arith }
+
+returns : tie.Need-returns
+returns c =
+    let s = c .before .before in
+    lifted-is (s .args .k) (c .power-of-five .result) (c .before .places .result) (s .pre) (c .power-of-five .ensures) (c .before .places .ensures)
+
+pub lifted-five-spec : {M : Type 1} → statement M
+lifted-five-spec =
+    tie.close (tie.spec places-requires power-of-five-requires shl-t4 cast-t5 returns)
