@@ -15,11 +15,11 @@ Told bs (Digits v) = All digit bs × (v ≡ valueOf bs)
 Told bs Other = All digit bs → ⊥
 
 -- that allows one answer
-pub told-only : (bs : List ℕ) (x y : Eight) → Told bs x → Told bs y → x ≡ y
-told-only bs (Digits v) (Digits u) h k = ap Digits (h .1 ∙ sym (k .1))
-told-only bs (Digits v) Other h k = absurd (k (h .0))
-told-only bs Other (Digits u) h k = absurd (h (k .0))
-told-only bs Other Other h k = refl
+pub eight-told-only : (bs : List ℕ) (x y : Eight) → Told bs x → Told bs y → x ≡ y
+eight-told-only bs (Digits v) (Digits u) h k = ap Digits (h .1 ∙ sym (k .1))
+eight-told-only bs (Digits v) Other h k = absurd (k (h .0))
+eight-told-only bs Other (Digits u) h k = absurd (h (k .0))
+eight-told-only bs Other Other h k = refl
 
 -- ---- what the code's parts promise of the eight bytes, joined
 -- bytes as one number, in fields of eight binary digits, the first lowest

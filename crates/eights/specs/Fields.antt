@@ -1,6 +1,6 @@
 -- A number as fields of s binary digits each, and what a mask, a sum and a test do to all fields at once. Stated for every s. Assumes nothing.
-use Prim.Native.Nat.{ℕ, zero, suc, _+_, _*_, _/_, _%_, _^_, _≤_, _<_}
-use mathlib.Core.Path.{_≡_, refl, sym, _∙_, ap, subst}
+use Prim.Native.Nat.{ℕ, zero, suc, _+_, _*_, _/_, _%_, _^_, _<_}
+use mathlib.Core.Path.{_≡_, refl, sym, _∙_, ap}
 use mathlib.Core.List.{List, [], _∷_}
 use native.Mathlib.Nat.{add-assoc, add-left-comm, add-mul, add-mul-div-right, add-comm, mul-add-mod-self-right, mod-eq-of-lt, div-eq-of-lt, zero-add}
 use lib.Bits.{bitAnd, and-block, and-zero-l}

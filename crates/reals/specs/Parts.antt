@@ -95,14 +95,14 @@ there : (t : List ℕ) {p q : ℕ} → p ≡ q → getD t p 0 ≡ getD t q 0
 there t e = ap (λ (n : ℕ). getD t n 0) e
 
 -- four bytes from the place
-abbrev pub fourOf : List ℕ → ℕ → List ℕ
-fourOf t i = getD t i 0 ∷ getD t (i + 1) 0 ∷ getD t (i + 2) 0 ∷ getD t (i + 3) 0 ∷ []
+abbrev pub fourFrom : List ℕ → ℕ → List ℕ
+fourFrom t i = getD t i 0 ∷ getD t (i + 1) 0 ∷ getD t (i + 2) 0 ∷ getD t (i + 3) 0 ∷ []
 
 -- four digits there, by what they are worth
-pub four-at : (t : List ℕ) (i v : ℕ) → All digit (fourOf t i) → v ≡ (getD t i 0 - 48) * 1000 + (getD t (i + 1) 0 - 48) * 100 + (getD t (i + 2) 0 - 48) * 10 + (getD t (i + 3) 0 - 48) → DigitsAt t i 4 v
+pub four-at : (t : List ℕ) (i v : ℕ) → All digit (fourFrom t i) → v ≡ (getD t i 0 - 48) * 1000 + (getD t (i + 1) 0 - 48) * 100 + (getD t (i + 2) 0 - 48) * 10 + (getD t (i + 3) 0 - 48) → DigitsAt t i 4 v
 unfolding valueOf
 four-at t i v a e = record {
-  bytes = fourOf t i;
+  bytes = fourFrom t i;
   many = refl;
   stand = (refl, (refl, (there t (omega arith), (there t (omega arith), tt))));
   all = a;
@@ -113,8 +113,8 @@ four-at t i v a e = record {
     by-places a b c d = omega arith
 
 -- eight bytes from the place
-abbrev pub eightOf : List ℕ → ℕ → List ℕ
-eightOf t i = getD t i 0 ∷ getD t (i + 1) 0 ∷ getD t (i + 2) 0 ∷ getD t (i + 3) 0 ∷ getD t (i + 4) 0 ∷ getD t (i + 5) 0 ∷ getD t (i + 6) 0 ∷ getD t (i + 7) 0 ∷ []
+abbrev pub eightFrom : List ℕ → ℕ → List ℕ
+eightFrom t i = getD t i 0 ∷ getD t (i + 1) 0 ∷ getD t (i + 2) 0 ∷ getD t (i + 3) 0 ∷ getD t (i + 4) 0 ∷ getD t (i + 5) 0 ∷ getD t (i + 6) 0 ∷ getD t (i + 7) 0 ∷ []
 
 -- eight digits stand at the place, or nothing is said
 abbrev pub EightAt : List ℕ → ℕ → Eight → Type 0
@@ -122,9 +122,9 @@ EightAt t at (Eight.Digits v) = DigitsAt t at 8 v
 EightAt t at Eight.Other = Unit {0}
 
 -- what is told of the eight bytes there says this
-pub eight-at : (t : List ℕ) (i : ℕ) (x : Eight) → Told (eightOf t i) x → EightAt t i x
+pub eight-at : (t : List ℕ) (i : ℕ) (x : Eight) → Told (eightFrom t i) x → EightAt t i x
 eight-at t i (Eight.Digits v) h = record {
-  bytes = eightOf t i;
+  bytes = eightFrom t i;
   many = refl;
   stand = (refl, (refl, (there t (omega arith), (there t (omega arith), (there t (omega arith), (there t (omega arith), (there t (omega arith), (there t (omega arith), tt))))))));
   all = h .0;

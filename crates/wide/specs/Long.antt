@@ -2,9 +2,9 @@
 -- names them. Assumes nothing.
 use Prim.Native.Nat.{ℕ, zero, suc, _+_, _-_, _*_, _/_, _%_, _^_, _≤_, _<_}
 use mathlib.Core.Path.{_≡_, refl, sym, _∙_, ap, subst}
-use native.Mathlib.Nat.{add-assoc, add-comm, add-left-comm, mul-assoc, mul-comm, mul-left-comm, mul-right-comm, mul-add, add-mul, mul-le-mul, mul-le-mul-left, mul-le-mul-right, mod-lt, mod-eq-of-lt, div-add-mod', div-lt-iff-lt-mul, le-of-lt, le-trans, lt-of-le-of-lt, mul-one, suc-mul, one-mul, lt-of-mul-lt-mul-right, mul-lt-mul-of-pos-right}
+use native.Mathlib.Nat.{add-assoc, add-comm, add-left-comm, mul-assoc, mul-comm, mul-left-comm, mul-right-comm, mul-add, add-mul, mul-le-mul, mul-le-mul-right, mod-lt, mod-eq-of-lt, div-add-mod', div-lt-iff-lt-mul, le-of-lt, lt-of-le-of-lt, one-mul, lt-of-mul-lt-mul-right, mul-lt-mul-of-pos-right}
 use native.Mathlib.Omega.{arith}
-use lib.Pow.{pow-pos, pow-add, shl-lt}
+use lib.Pow.{pow-add, shl-lt}
 use lib.Count.{leadingZeros, leading-top}
 
 -- ---- moving a number up

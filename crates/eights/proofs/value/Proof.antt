@@ -3,7 +3,7 @@ use Prim.Native.Nat.{_+_, _-_, _*_, _/_}
 use native.Mathlib.Omega.{arith}
 use borrow.Author.Needs.{needs}
 use lib.Bits.{and-le-r}
-use Rattle.eights.specs.Right.{threes, pairsOf, foursOf, makes}
+use Rattle.eights.specs.Right.{threes, pairsOf, makes}
 use Rattle.eights.proofs.value.Statement.{statement}
 use Rattle.eights.proofs.value.Tie as tie
 

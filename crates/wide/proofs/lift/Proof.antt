@@ -1,6 +1,5 @@
 -- `wide::lift` meets its contract: by the count of the zeros above it. Assumes nothing.
 use native.Mathlib.Omega.{arith}
-use borrow.Author.Needs.{needs}
 use Rattle.wide.specs.Long.{lifts}
 use Rattle.wide.proofs.lift.Statement.{statement}
 use Rattle.wide.proofs.lift.Tie as tie

@@ -1,7 +1,6 @@
 -- `wide::lowered_exactly` meets its contract: the number cut below the digits of a quotient. Assumes nothing.
 use Prim.Native.Nat.{ℕ, _+_, _*_, _^_, _<_}
-use mathlib.Core.Path.{_≡_, sym, _∙_, ap, subst}
-use native.Mathlib.Omega.{arith}
+use mathlib.Core.Path.{sym, _∙_, ap, subst}
 use borrow.Author.Needs.{needs}
 use Rattle.wide.specs.Tens.{lowered-cut}
 use Rattle.wide.proofs.lowered_exactly.Statement.{statement}

@@ -1,6 +1,6 @@
 -- `wide::raised_within` meets its contract: the number cut below the digits of a product. Assumes nothing.
-use Prim.Native.Nat.{ℕ, _*_, _^_, _<_}
-use mathlib.Core.Path.{_≡_, _∙_, ap}
+use Prim.Native.Nat.{ℕ, _*_, _^_}
+use mathlib.Core.Path.{_∙_, ap}
 use native.Mathlib.Omega.{arith}
 use borrow.Author.Needs.{needs}
 use Rattle.wide.specs.Tens.{raised-cut, high-enough}
