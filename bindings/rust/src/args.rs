@@ -107,8 +107,8 @@ impl<'f> Args<'f> {
         Ok(value)
     }
 
-    /// A real m·10^e, where m is all digits without the point, at most nineteen, and e, from -27 to 27, is the exponent less the number of digits
-    /// behind the point: the `f64` nearest to it, ties to even. Other reals are refused with 13.
+    /// A real m·10^e, where m is all digits without the point, leading zeros dropped, at most nineteen, and e, from -27 to 27, is the exponent less the
+    /// number of digits behind the point: the `f64` nearest to it, ties to even. Other reals are refused with 13.
     ///
     /// ```
     /// let mut args = hooflift::Args::new(b"0.017453292519943295,1E28", 0, 25)?;

@@ -10,12 +10,12 @@ use Rattle.eights.specs.declared.Eight.{Eight}
 use Rattle.eights.specs.declared.Eight.the-variants.{Digits, Other}
 
 -- `Digits v`: the bytes are digits, and v is the number that they make; `Other`: they are not all digits
-abbrev pub Told : List ℕ → Eight → Type 0
-Told bs (Digits v) = All digit bs × (v ≡ valueOf bs)
-Told bs Other = All digit bs → ⊥
+abbrev pub EightTold : List ℕ → Eight → Type 0
+EightTold bs (Digits v) = All digit bs × (v ≡ valueOf bs)
+EightTold bs Other = All digit bs → ⊥
 
 -- that allows one answer
-pub eight-told-only : (bs : List ℕ) (x y : Eight) → Told bs x → Told bs y → x ≡ y
+pub eight-told-only : (bs : List ℕ) (x y : Eight) → EightTold bs x → EightTold bs y → x ≡ y
 eight-told-only bs (Digits v) (Digits u) h k = ap Digits (h .1 ∙ sym (k .1))
 eight-told-only bs (Digits v) Other h k = absurd (k (h .0))
 eight-told-only bs Other (Digits u) h k = absurd (h (k .0))
@@ -39,6 +39,6 @@ Says false A = A → ⊥
 abbrev pub Tells : ℕ → Bool → Type 0
 Tells w r = (a b c d e f g h : ℕ) → Each (λ (x : ℕ). x < 2 ^ 8) (eightOf a b c d e f g h) → w ≡ joinedOf (eightOf a b c d e f g h) → Says r (All digit (eightOf a b c d e f g h))
 
--- v is the number that any eight digits make that w joins
+-- where w joins eight digits, v is the number that they make
 abbrev pub Makes : ℕ → ℕ → Type 0
 Makes w v = (a b c d e f g h : ℕ) → All digit (eightOf a b c d e f g h) → w ≡ joinedOf (eightOf a b c d e f g h) → v ≡ valueOf (eightOf a b c d e f g h)

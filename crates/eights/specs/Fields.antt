@@ -50,7 +50,7 @@ module _ (s : ℕ) where
           add-assoc (a * p) u (b * p + v) ∙ ap (λ (n : ℕ). a * p + n) (add-left-comm u (b * p) v) ∙ sym (add-assoc (a * p) (b * p) (u + v))
           ∙ ap (λ (n : ℕ). n + (u + v)) (sym (add-mul a b p))
 
-  -- the lowest field of a number, and the others
+  -- the lowest field of a number
   pub lowest : (x u : ℕ) → u < 2 ^ s → (x * 2 ^ s + u) % 2 ^ s ≡ u
   lowest x u h = mul-add-mod-self-right x (2 ^ s) u ∙ mod-eq-of-lt h
 

@@ -174,15 +174,15 @@ worths bs h =
 worth-le : (b : ℕ) → Bounded b → worth b ≤ 9
 worth-le b k = let l = k .0 in let g = k .1 in omega arith
 
--- the code's three sums, of what the digits are worth
+-- the first of the code's three sums: of what the digits are worth, pairs
 abbrev pub pairsOf : ℕ → ℕ
 pairsOf x = bitAnd (x * 10 + x / 2 ^ 8) 0x00ff_00ff_00ff_00ff
 
--- the second
+-- the second: of pairs, fours
 abbrev pub foursOf : ℕ → ℕ
 foursOf x = bitAnd (x * 100 + x / 2 ^ 16) 0x0000_ffff_0000_ffff
 
--- the third
+-- the third: of fours, the number
 abbrev pub allOf : ℕ → ℕ
 allOf x = (x * 10000 + x / 2 ^ 32) % 2 ^ 32
 

@@ -1,12 +1,12 @@
 // Eight digits of a number at once.
 //
-// Their bytes are joined to one number of 64 binary digits, in which each byte has a field of eight. One test asks all fields whether they are
-// digits, and three sums put neighbouring fields together: eight digits to four pairs, to two fours, to one number. Long numbers are read so in half
-// the time that byte by byte takes, since no byte waits for the one before it.
+// Their bytes are joined to one number of 64 binary digits, in which each byte has a field of eight. Two tests ask all fields whether they are
+// digits, and three sums put neighbouring fields together: eight digits to four pairs, to two fours, to one number. So no byte waits for the one
+// before it.
 ghost use mathlib.Core.Path.{_≡_};
 ghost use mathlib.Core.List.{[], _∷_};
 ghost use Prim.Native.Nat.{_≤_};
-ghost use Rattle.eights.specs.Eights.{joinedOf, Tells, Makes, Told};
+ghost use Rattle.eights.specs.Eights.{joinedOf, Tells, Makes, EightTold};
 
 pub enum Eight {
     // All are digits, and they make this number.
@@ -15,7 +15,7 @@ pub enum Eight {
     Other,
 }
 
-// The bytes as one number, the first in the lowest field. The compiler makes one load of it.
+// The bytes as one number, the first in the lowest field: just as they stand in memory, so that the compiler loads them at once.
 fn joined(a: u8, b: u8, c: u8, d: u8, e: u8, f: u8, g: u8, h: u8) -> u64
     ensures { λ r. ⌜ r ≡ joinedOf (a ∷ b ∷ c ∷ d ∷ e ∷ f ∷ g ∷ h ∷ []) ⌝ }
 {
@@ -48,7 +48,7 @@ fn value(w: u64) -> u64
 
 // The number that eight bytes make, if all are digits.
 pub fn number(a: u8, b: u8, c: u8, d: u8, e: u8, f: u8, g: u8, h: u8) -> Eight
-    ensures { λ r. ⌜ Told (a ∷ b ∷ c ∷ d ∷ e ∷ f ∷ g ∷ h ∷ []) r ⌝ }
+    ensures { λ r. ⌜ EightTold (a ∷ b ∷ c ∷ d ∷ e ∷ f ∷ g ∷ h ∷ []) r ⌝ }
 {
     let w = joined(a, b, c, d, e, f, g, h);
     if are_digits(w) {

@@ -15,7 +15,7 @@ use Rattle.record.specs.Text.{digit, Digits, digits, digitTurn, numberFrom}
 use Rattle.record.specs.Form.{All, valueOf}
 use Rattle.record.specs.Turns.{bounds, digit-stops, digit-goes}
 use Rattle.eights.specs.declared.Eight.{Eight}
-use Rattle.eights.specs.Eights.{Told}
+use Rattle.eights.specs.Eights.{EightTold}
 use Rattle.reals.specs.Scalar.{NumberAt, DecimalAt, TensAt, unsigned, minus, most, largest, Mantissa, mantissa, pointed, fractionOf, Exponent, power, malformed, ended, exponentOf, digitsOnly, PlainAt}
 use Rattle.reals.specs.Class.{no-and}
 use Rattle.reals.specs.declared.Decimal.{Decimal}
@@ -122,7 +122,7 @@ EightAt t at (Eight.Digits v) = DigitsAt t at 8 v
 EightAt t at Eight.Other = Unit {0}
 
 -- what is told of the eight bytes there says this
-pub eight-at : (t : List ℕ) (i : ℕ) (x : Eight) → Told (eightFrom t i) x → EightAt t i x
+pub eight-at : (t : List ℕ) (i : ℕ) (x : Eight) → EightTold (eightFrom t i) x → EightAt t i x
 eight-at t i (Eight.Digits v) h = record {
   bytes = eightFrom t i;
   many = refl;

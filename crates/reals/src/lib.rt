@@ -72,11 +72,11 @@ fn with_digits(n: u64, v: u64, scale: u64, cap: u64) -> u64
     requires { ⌜ (v < scale) × (n ≤ cap) ⌝ }
     ensures { λ r. ⌜ r ≡ min cap (n * scale + v) ⌝ }
 {
-    let most = cap / scale;
-    if n < most {
+    let upper = cap / scale;
+    if n < upper {
         return n * scale + v;
     }
-    if n == most {
+    if n == upper {
         if v < cap % scale {
             return n * scale + v;
         }
@@ -200,8 +200,8 @@ fn four_from(t: &[u8], at: usize, from: u64, cap: u64) -> Number
     }
 }
 
-// Reads on with the digits from a place, of which there may be many, as in a fraction: twice eight, four, then one by one. No loop over the eights: the
-// numbers that it would keep at hand are then not there for the short fractions, which most are.
+// Reads on with the digits from a place, of which there may be many, as in a fraction: twice eight, four, then one by one. No loop over the eights: with one,
+// the compiler keeps so much at hand for it that the short fractions, which most are, take longer.
 fn many_digits_from(t: &[u8], at: usize, from: u64, cap: u64) -> Number
     requires { ⌜ (at ≤ length (now t)) × (from ≤ cap) ⌝ }
     ensures { λ r. ⌜ NumberAt (now (t .entry)) at from cap r ⌝ }

@@ -223,7 +223,7 @@ module _ (num den w x : ℕ) (c : Within num den w x) where
     by-halves : 2 ^ drop * one ≡ half * one * 2
     by-halves = ap (λ (n : ℕ). n * one) double ∙ mul-right-comm half 2 one
 
-    -- two more do not bring it to half: down
+    -- two more bring it to half at most: down
     pub sure-down : low + 2 ≤ half → near num den ≡ min infinity ((x + drop) * 2 ^ 52 + q)
     sure-down h =
         let g : (low + 2) * one ≤ half * one = mul-le-mul-right one h in

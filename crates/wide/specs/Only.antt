@@ -11,7 +11,7 @@ use lib.Pow.{pow-pos, pow-add, pow-lt}
 use lib.Ieee.{binary64, toBits, ofBits, fits}
 use lib.Ieee.Bits.{ofBits-toBits}
 use Rattle.wide.specs.Cut.{Cut, RoundsTo}
-use Rattle.wide.specs.Told.{Told}
+use Rattle.wide.specs.Told.{WideTold}
 use Rattle.wide.specs.declared.Wide.{Wide}
 use Rattle.wide.specs.declared.Wide.the-variants.{Value, Far}
 
@@ -21,7 +21,7 @@ WideFits (Value x) = T (fits binary64 x)
 WideFits Far = Unit {0}
 
 -- `raised`, `lowered`: two answers that are allowed for one power and one pattern are the same
-pub wide-told-only : (a b : Wide) (k p : ℕ) → WideFits a → WideFits b → Told a k p → Told b k p → a ≡ b
+pub wide-told-only : (a b : Wide) (k p : ℕ) → WideFits a → WideFits b → WideTold a k p → WideTold b k p → a ≡ b
 wide-told-only (Value x) (Value y) k p f g t u = ap Value (sym (ofBits-toBits binary64 x f) ∙ ap (ofBits binary64) (t .1 ∙ sym (u .1)) ∙ ofBits-toBits binary64 y g)
 wide-told-only (Value x) Far k p f g t u = let l = t .0 in absurd (omega arith)
 wide-told-only Far (Value y) k p f g t u = let l = u .0 in absurd (omega arith)

@@ -11,6 +11,6 @@ abbrev pub reach : ℕ
 reach = 27
 
 -- `Value x`: the power k is within reach, and x has the pattern b; `Far`: it is beyond
-abbrev pub Told : Wide → ℕ → ℕ → Type 0
-Told (Value x) k b = (k ≤ reach) × (toBits binary64 x ≡ b)
-Told Far k b = reach < k
+abbrev pub WideTold : Wide → ℕ → ℕ → Type 0
+WideTold (Value x) k b = (k ≤ reach) × (toBits binary64 x ≡ b)
+WideTold Far k b = reach < k

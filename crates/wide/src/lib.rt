@@ -3,7 +3,7 @@
 // An f64 holds neither such an m nor such a power of ten exactly, so no single product or quotient of two of them serves. But 10^k is
 // 5^k * 2^k, a power of two moves nothing but the exponent, and 5^27 has 63 binary digits: m * 5^k is one exact product of two numbers
 // of 64 digits, and m / 5^k one long division in three digits, whose rest tells the tie. That division is asked for only where the product
-// with a reciprocal, which is at most two too small, leaves a doubt. No table is believed: the proof computes each entry.
+// with a reciprocal, which is less than two too small, leaves a doubt. No table is believed: the proof computes each entry.
 ghost use mathlib.Core.Path.{_≡_};
 ghost use mathlib.Core.Bool.{Bool};
 ghost use Prim.Native.Nat.{_+_, _-_, _*_, _/_, _%_, _≤_, _<_, _^_};
@@ -12,7 +12,7 @@ ghost use Rattle.nearest.specs.Near.{near};
 ghost use Rattle.nearest.specs.Round.{signed};
 ghost use Rattle.wide.specs.Cut.{against, RoundsTo, sure, beyond, RoundsNear};
 ghost use Rattle.wide.specs.Tens.{placesOf, Reciprocal};
-ghost use Rattle.wide.specs.Told.{Told, reach};
+ghost use Rattle.wide.specs.Told.{WideTold, reach};
 
 pub enum Wide {
     Value(f64),
@@ -246,7 +246,7 @@ fn lowered_exactly(neg: bool, m: u64, k: usize) -> f64
     )
 }
 
-// 2^126 by 5^k as moved up, rounded down: what is left of it is less than one.
+// 2^126 by 5^k as moved up, rounded down; for k = 0, where that is 2^64, one below it.
 fn reciprocal(k: usize) -> u64
     requires { ⌜ k ≤ reach ⌝ }
     ensures { λ r. ⌜ Reciprocal k r ⌝ }
@@ -283,7 +283,7 @@ fn reciprocal(k: usize) -> u64
     }
 }
 
-// The quotient: by the reciprocal, whose product is at most two too small, and where that leaves a doubt by long division.
+// The quotient: by the reciprocal, whose product is less than two too small, and where that leaves a doubt by long division.
 fn lowered_within(neg: bool, m: u64, k: usize) -> f64
     requires { ⌜ (0 < m) × (k ≤ reach) ⌝ }
     ensures { λ r. ⌜ toBits binary64 r ≡ signed neg (near m (10 ^ k)) ⌝ }
@@ -303,7 +303,7 @@ fn lowered_within(neg: bool, m: u64, k: usize) -> f64
 
 // The f64 nearest to m * 10^k, with its sign, which zero has too.
 pub fn raised(neg: bool, m: u64, k: usize) -> Wide
-    ensures { λ r. ⌜ Told r k (signed neg (near (m * 10 ^ k) 1)) ⌝ }
+    ensures { λ r. ⌜ WideTold r k (signed neg (near (m * 10 ^ k) 1)) ⌝ }
 {
     if 27 < k {
         return Wide::Far;
@@ -316,7 +316,7 @@ pub fn raised(neg: bool, m: u64, k: usize) -> Wide
 
 // The f64 nearest to m / 10^k, with its sign, which zero has too.
 pub fn lowered(neg: bool, m: u64, k: usize) -> Wide
-    ensures { λ r. ⌜ Told r k (signed neg (near m (10 ^ k))) ⌝ }
+    ensures { λ r. ⌜ WideTold r k (signed neg (near m (10 ^ k))) ⌝ }
 {
     if 27 < k {
         return Wide::Far;

@@ -19,8 +19,8 @@ part x v cap most l h = omega arith
 above : (x y : ℕ) → y ≤ x → (x ≡ y → ⊥) → y < x
 above x y l n = omega arith
 
-div-most : tie.Need-div-most
-div-most c = search needs
+div-upper : tie.Need-div-upper
+div-upper c = search needs
 
 mul-result : tie.Need-mul-result
 mul-result c =
@@ -74,7 +74,7 @@ pub with-digits-spec : {M : Type 1} → statement M
 with-digits-spec =
     tie.close
     (tie.spec
-    div-most
+    div-upper
     mul-result
     add-result
     returns
