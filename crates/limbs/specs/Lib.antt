@@ -1,0 +1,6 @@
+pub mod Worth
+pub mod Laws
+pub mod Steps
+pub mod Top
+pub mod Only
+pub mod Examples
