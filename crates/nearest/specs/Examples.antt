@@ -76,3 +76,28 @@ nano = refl
 nano-once : near 1 1000000 ≡ 0x3eb0_c6f7_a0b5_ed8d
 unfolding near nearUnits size
 nano-once = refl
+
+-- 5e-324 is nearest to the smallest f64, which is less than that
+smallest : near 5 (10 ^ 324) ≡ 1
+unfolding near nearUnits size
+smallest = refl
+
+-- half of the smallest f64, written as a decimal to its last digit, is a tie, and goes down to 0
+half-decimal : near (5 ^ 1075) (10 ^ 1075) ≡ 0
+unfolding near nearUnits size
+half-decimal = refl
+
+-- one more in its last digit, the 1075th behind the point, is past the tie
+past-half : near (5 ^ 1075 + 1) (10 ^ 1075) ≡ 1
+unfolding near nearUnits size
+past-half = refl
+
+-- 1.7976931348623158e308 is the largest f64, and 1.7976931348623159e308 is past half way to the next
+largest-decimal : near (17976931348623158 * 10 ^ 292) 1 ≡ infinity - 1
+unfolding near nearUnits size
+largest-decimal = refl
+
+-- 1.7976931348623159e308 is past half way
+overflow-decimal : near (17976931348623159 * 10 ^ 292) 1 ≡ infinity
+unfolding near nearUnits size
+overflow-decimal = refl

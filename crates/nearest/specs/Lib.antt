@@ -1,7 +1,10 @@
 pub mod Units
 pub mod Nearest
 pub mod Near
+pub mod Borders
 pub mod Scaled
 pub mod Round
+pub mod Only
 pub mod Product
 pub mod Examples
+pub mod Power

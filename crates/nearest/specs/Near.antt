@@ -18,7 +18,7 @@ use lib.Ieee.Nearest.{div-same, closest-same}
 use Rattle.nearest.specs.Units.{unitsOf, infinity, gap, Kept, units-kept, units-lt, units-le}
 use Rattle.nearest.specs.Nearest.{NearestTo, IsNearest, nearest-only}
 
--- n / den units: k digits of the whole part are dropped, so many that 53 are left
+-- n / den units: how many digits of the whole part are dropped, so many that 53 are left, none of a shorter number
 abbrev pub dropped : ℕ → ℕ → ℕ
 dropped n den = size (n / den) - 53
 

@@ -22,7 +22,7 @@ abbrev pub signed : Bool → ℕ → ℕ
 signed s b = cond s (2 ^ 63) 0 + b
 
 -- powers of two in order have exponents in order
-pow-lt-back : (i p : ℕ) → 2 ^ i < 2 ^ p → i < p
+pub pow-lt-back : (i p : ℕ) → 2 ^ i < 2 ^ p → i < p
 pow-lt-back i p h = lt-of-not-le (λ (g : p ≤ i). lt-irrefl (2 ^ i) (lt-of-lt-of-le h (pow-mono g)))
 
 -- a number from 2 ^ a up to the next power has a + 1 digits

@@ -1,0 +1,172 @@
+-- Where the zeros end and the infinities begin: theorems of what is computed and, at the end, of the definition, each with its converse. Assumes nothing.
+use Prim.Native.Nat.{ℕ, _+_, _-_, _*_, _%_, _^_, _≤_, _<_, min, compare, Ordering, Ordering·lt, Ordering·eq, Ordering·gt}
+use mathlib.Core.Path.{_≡_, refl, sym, _∙_, ap, subst}
+use mathlib.Core.Logic.{inl}
+use native.Mathlib.Nat.{mul-assoc, mul-comm, mul-pos, mul-le-mul-right, mul-lt-mul-of-pos-right, zero-mul, zero-add, one-mul, lt-of-not-le}
+use native.Mathlib.Decide.{decLt, decLe}
+use native.Mathlib.Omega.{arith}
+use lib.Pow.{pow-pos}
+use lib.Ieee.{nearest}
+use Rattle.nearest.specs.Units.{unitsOf, infinity, gap, units-lt}
+use Rattle.nearest.specs.Nearest.{IsNearest}
+use Rattle.nearest.specs.Near.{near, near-is, near-only, near-digits, Cmp, cmp}
+
+-- ---- zeros: up to and including half the least subnormal
+-- 0 is worth nothing
+units-zero : unitsOf 0 ≡ 0
+unfolding unitsOf
+units-zero = refl
+
+-- the least subnormal is one unit
+units-one : unitsOf 1 ≡ 1
+unfolding unitsOf
+units-one = refl
+
+module _ (num den : ℕ) (dp : 0 < den) where
+  -- the number in half units is twice the number in units
+  twice : num * 2 ^ 1075 ≡ num * 2 ^ 1074 * 2
+  twice = sym (mul-assoc num (2 ^ 1074) 2)
+
+  -- half the least subnormal, or less: the nearest is 0, which is the even one of the two at the tie
+  pub near-zero : num * 2 ^ 1075 ≤ den → near num den ≡ 0
+  near-zero h =
+      let n = num * 2 ^ 1074 in
+      let l : n * 2 ≤ den = subst (λ (x : ℕ). x ≤ den) twice h in
+      near-digits num den 0 0 n dp (ap (λ (x : ℕ). x + n) (zero-mul (den * 2 ^ 0)) ∙ zero-add n) (below n l) (omega arith) (inl refl)
+      ∙ last (compare (n * 2) (den * 2 ^ 0)) n l (cmp (n * 2) (den * 2 ^ 0))
+    where
+      below : (n : ℕ) → n * 2 ≤ den → n < den * 2 ^ 0
+      below n l = omega arith
+
+      last : (o : Ordering) (n : ℕ) → n * 2 ≤ den → Cmp o (n * 2) (den * 2 ^ 0) → min infinity (0 * 2 ^ 52 + nearest 0 o) ≡ 0
+      last Ordering·lt n l c = refl
+      last Ordering·eq n l c = refl
+      last Ordering·gt n l c = absurd (omega arith)
+
+  -- and where the nearest is 0, the number is no more
+  pub near-zero-only : near num den ≡ 0 → num * 2 ^ 1075 ≤ den
+  near-zero-only e =
+      let n = num * 2 ^ 1074 in
+      let c : gap (unitsOf (near num den) * den) n ≤ gap (unitsOf 1 * den) n = near-is num den dp .closest 1 (omega arith) in
+      let z : unitsOf (near num den) * den ≡ 0 = ap (λ (x : ℕ). x * den) (ap unitsOf e ∙ units-zero) ∙ zero-mul den in
+      let o : unitsOf 1 * den ≡ den = ap (λ (x : ℕ). x * den) units-one ∙ one-mul den in
+      subst (λ (x : ℕ). x ≤ den) (sym twice) (half n (subst (λ (x : ℕ). gap 0 n ≤ gap x n) o (subst (λ (x : ℕ). gap x n ≤ gap (unitsOf 1 * den) n) z c)))
+    where
+      half : (n : ℕ) → gap 0 n ≤ gap den n → n * 2 ≤ den
+      half n c = omega arith
+
+-- 0 itself
+pub near-nothing : (den : ℕ) → 0 < den → near 0 den ≡ 0
+near-nothing den dp = near-zero 0 den dp (subst (λ (x : ℕ). x ≤ den) (sym (zero-mul (2 ^ 1075))) (omega arith))
+
+-- ---- infinities: from halfway between the largest finite value and 2 ^ 1024 on
+-- the largest finite value, that border and 2 ^ 1024 in parts of 2 ^ 970
+units-last : unitsOf (infinity - 1) ≡ 18014398509481982 * 2 ^ 2044
+unfolding unitsOf
+units-last = refl
+
+-- infinity's pattern counts as 2 ^ 1024
+units-infinity : unitsOf infinity ≡ 18014398509481984 * 2 ^ 2044
+unfolding unitsOf
+units-infinity = refl
+
+-- the border lies between the two
+border-is : (2 ^ 54 - 1) * 2 ^ 970 * 2 ^ 1074 ≡ 18014398509481983 * 2 ^ 2044
+border-is = refl
+
+module _ (num den : ℕ) (dp : 0 < den) where
+  -- one such part, in units and times den
+  part : ℕ
+  part = 2 ^ 2044 * den
+
+  -- it is positive
+  part-pos : 0 < part
+  unfolding part
+  part-pos = mul-pos (pow-pos 2044) dp
+
+  -- the largest finite value in parts
+  last-parts : unitsOf (infinity - 1) * den ≡ 18014398509481982 * part
+  unfolding part
+  last-parts = ap (λ (x : ℕ). x * den) units-last ∙ mul-assoc 18014398509481982 (2 ^ 2044) den
+
+  -- 2 ^ 1024 in parts
+  infinity-parts : unitsOf infinity * den ≡ 18014398509481984 * part
+  unfolding part
+  infinity-parts = ap (λ (x : ℕ). x * den) units-infinity ∙ mul-assoc 18014398509481984 (2 ^ 2044) den
+
+  -- the border in parts
+  border-parts : den * ((2 ^ 54 - 1) * 2 ^ 970) * 2 ^ 1074 ≡ 18014398509481983 * part
+  unfolding part
+  border-parts = mul-assoc den ((2 ^ 54 - 1) * 2 ^ 970) (2 ^ 1074) ∙ ap (λ (x : ℕ). den * x) border-is ∙ mul-comm den (18014398509481983 * 2 ^ 2044) ∙ mul-assoc 18014398509481983 (2 ^ 2044) den
+
+  -- at the border or past it the nearest is infinity, which is the even one of the two at the tie
+  pub near-infinity : den * ((2 ^ 54 - 1) * 2 ^ 970) ≤ num → near num den ≡ infinity
+  near-infinity h = go (decLt (near num den) (infinity - 1)) (decLt (near num den) infinity)
+    where
+      far : (n p x : ℕ) → 18014398509481983 * p ≤ n → 0 < p → x < 18014398509481982 * p → gap x n ≤ gap (18014398509481984 * p) n → ⊥
+      far n p x a q l c = omega arith
+
+      level : (n p x : ℕ) → 18014398509481983 * p ≤ n → x ≡ 18014398509481982 * p → gap x n ≤ gap (18014398509481984 * p) n → gap (18014398509481984 * p) n ≡ gap x n
+      level n p x a e c = omega arith
+
+      past : 18014398509481983 * part ≤ num * 2 ^ 1074
+      past = subst (λ (x : ℕ). x ≤ num * 2 ^ 1074) border-parts (mul-le-mul-right (2 ^ 1074) h)
+
+      close : gap (unitsOf (near num den) * den) (num * 2 ^ 1074) ≤ gap (18014398509481984 * part) (num * 2 ^ 1074)
+      close = subst (λ (x : ℕ). gap (unitsOf (near num den) * den) (num * 2 ^ 1074) ≤ gap x (num * 2 ^ 1074)) infinity-parts (near-is num den dp .closest infinity (omega arith))
+
+      go : Dec (near num den < infinity - 1) → Dec (near num den < infinity) → near num den ≡ infinity
+      go (yes l) d =
+          let x = unitsOf (near num den) * den in
+          absurd (far (num * 2 ^ 1074) part x past part-pos (subst (λ (z : ℕ). x < z) last-parts (mul-lt-mul-of-pos-right (units-lt (near num den) (infinity - 1) l) dp)) close)
+      go (no k) (yes l) =
+          let n = num * 2 ^ 1074 in
+          let e : near num den ≡ infinity - 1 = omega arith in
+          let v : unitsOf (near num den) * den ≡ 18014398509481982 * part = ap (λ (x : ℕ). unitsOf x * den) e ∙ last-parts in
+          let t : near num den % 2 ≡ 0 = near-is num den dp .even infinity (omega arith) (λ (f : infinity ≡ near num den). omega arith) (ap (λ (x : ℕ). gap x n) infinity-parts ∙ level n part (unitsOf (near num den) * den) past v close) in
+          absurd (omega arith)
+      go (no k) (no j) = let p : near num den ≤ infinity = near-is num den dp .pattern in omega arith
+
+  -- and below the border it is a number
+  pub near-finite : num < den * ((2 ^ 54 - 1) * 2 ^ 970) → near num den < infinity
+  near-finite h = go (decLt (near num den) infinity)
+    where
+      below : (n p : ℕ) → n < 18014398509481983 * p → gap (18014398509481984 * p) n ≤ gap (18014398509481982 * p) n → ⊥
+      below n p l c = omega arith
+
+      go : Dec (near num den < infinity) → near num den < infinity
+      go (yes l) = l
+      go (no k) =
+          let n = num * 2 ^ 1074 in
+          let s = near-is num den dp in
+          let p : near num den ≤ infinity = s .pattern in
+          let e : near num den ≡ infinity = omega arith in
+          let c : gap (unitsOf (near num den) * den) n ≤ gap (18014398509481982 * part) n = subst (λ (x : ℕ). gap (unitsOf (near num den) * den) n ≤ gap x n) last-parts (s .closest (infinity - 1) (omega arith)) in
+          let f : unitsOf (near num den) * den ≡ 18014398509481984 * part = ap (λ (x : ℕ). unitsOf x * den) e ∙ infinity-parts in
+          absurd (below n part (subst (λ (x : ℕ). n < x) border-parts (mul-lt-mul-of-pos-right h (pow-pos 1074))) (subst (λ (x : ℕ). gap x n ≤ gap (18014398509481982 * part) n) f c))
+
+  -- so where the nearest is infinity, the number is at the border or past it
+  pub near-infinity-only : near num den ≡ infinity → den * ((2 ^ 54 - 1) * 2 ^ 970) ≤ num
+  near-infinity-only e = go (decLe (den * ((2 ^ 54 - 1) * 2 ^ 970)) num)
+    where
+      go : Dec (den * ((2 ^ 54 - 1) * 2 ^ 970) ≤ num) → den * ((2 ^ 54 - 1) * 2 ^ 970) ≤ num
+      go (yes l) = l
+      go (no k) = let l = near-finite (lt-of-not-le k) in absurd (omega arith)
+
+-- ---- the same of the definition
+module _ (num den : ℕ) (dp : 0 < den) where
+  -- 0 is the nearest up to 2 ^ -1075, half the least subnormal, and there too
+  pub zero-is : num * 2 ^ 1075 ≤ den → IsNearest num den 0
+  zero-is l = subst (λ (b : ℕ). IsNearest num den b) (near-zero num den dp l) (near-is num den dp)
+
+  -- and no farther
+  pub zero-only : IsNearest num den 0 → num * 2 ^ 1075 ≤ den
+  zero-only h = near-zero-only num den dp (sym (near-only num den 0 dp h))
+
+  -- infinity is the nearest from the border on
+  pub infinity-is : den * ((2 ^ 54 - 1) * 2 ^ 970) ≤ num → IsNearest num den infinity
+  infinity-is l = subst (λ (b : ℕ). IsNearest num den b) (near-infinity num den dp l) (near-is num den dp)
+
+  -- and not below it
+  pub infinity-only : IsNearest num den infinity → den * ((2 ^ 54 - 1) * 2 ^ 970) ≤ num
+  infinity-only h = near-infinity-only num den dp (sym (near-only num den infinity dp h))
