@@ -1,0 +1,6 @@
+pub mod Cut
+pub mod Rounding
+pub mod Window
+pub mod Drops
+pub mod Bits
+pub mod Only
