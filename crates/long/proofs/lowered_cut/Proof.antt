@@ -1,0 +1,63 @@
+-- `long::lowered_cut` meets its contract: the digits below 10 ^ -1075 are the tail of a group. Assumes nothing.
+use Prim.Native.Nat.{_^_}
+use mathlib.Core.Path.{refl, sym}
+use mathlib.Core.Logic.{inl}
+use native.Mathlib.Omega.{arith}
+use borrow.Author.Needs.{needs}
+use denote.Ref.{now}
+use lib.ListN.{drop}
+use lib.Seq.{length-take-le}
+use Rattle.long.specs.Digits.{numberIn}
+use Rattle.long.specs.Whole.{scaled-cut}
+use Rattle.long.proofs.lowered_cut.Statement.{statement}
+use Rattle.long.proofs.lowered_cut.Tie as tie
+
+sub-read-digits : tie.Need-sub-read-digits
+sub-read-digits c = search needs
+
+sub-read-digits-2 : tie.Need-sub-read-digits-2
+sub-read-digits-2 c = search needs
+
+read-digits-requires : tie.Need-read-digits-requires
+read-digits-requires c κs = search needs
+
+first-digit-requires : tie.Need-first-digit-requires
+first-digit-requires c κs = search needs
+
+slice-relend-prefix-lowered-in : tie.Need-slice-relend-prefix-lowered-in
+slice-relend-prefix-lowered-in c = search needs
+
+slice-aggregate-lowered-in : tie.Need-slice-aggregate-lowered-in
+slice-aggregate-lowered-in c = sym (length-take-le _ _ (slice-relend-prefix-lowered-in (c .before)))
+
+lowered-in-requires : tie.Need-lowered-in-requires
+lowered-in-requires c κs =
+    let s = c .before .before .before .before .before .before .before .before in
+    let r = c .before .before .before .before .read-digits .ensures .few in
+    let e = slice-aggregate-lowered-in c in
+    (omega arith, inl refl, omega (arith, s .pre .2, s .pre .4))
+
+same-length : tie.Need-same-length
+same-length c = search needs
+
+returns : tie.Need-returns
+returns c =
+    let s = c .before .before .before .before .before .before .before .before .before .before .before in
+    let p = s .args in
+    let r = c .before .before .before .before .before .before .before .read-digits in
+    let f = c .before .before .before .before .first-digit in
+    c .before .before .lowered-in .ensures (numberIn 0 (drop (p .i) (now (p .t)))) (10 ^ p .k) (scaled-cut (now (p .t)) (p .i) (p .n) (p .k) (r .last .1 .1 .1 .0) (r .result) (f .result) (s .pre .1) (s .pre .4) (s .pre .3) (r .ensures) (f .ensures))
+
+pub lowered-cut-spec : {M : Type 1} → statement M
+lowered-cut-spec =
+    tie.close
+    (tie.spec
+    sub-read-digits
+    sub-read-digits-2
+    read-digits-requires
+    first-digit-requires
+    slice-relend-prefix-lowered-in
+    slice-aggregate-lowered-in
+    lowered-in-requires
+    same-length
+    returns)

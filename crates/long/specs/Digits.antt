@@ -1,0 +1,41 @@
+-- The number that a text's digits make, whatever stands between them, as the point does; and what the steps that read it promise. Assumes nothing.
+use Prim.Native.Nat.{ℕ, zero, suc, _+_, _*_, _-_, _/_, _^_, _≤_, _<_}
+use mathlib.Core.Path.{_≡_}
+use mathlib.Core.Logic.{_⊎_}
+use mathlib.Core.Bool.{Bool, true, false}
+use mathlib.Core.List.{List, [], _∷_}
+use lib.Dec.{ltb}
+use lib.ListN.{length, take, drop}
+use Rattle.lex.specs.Byte.{pick}
+use Rattle.record.specs.Text.{digit}
+use Rattle.limbs.specs.Worth.{worth}
+use Rattle.long.specs.declared.Filled.{Filled}
+
+-- the number that the digits make after those that gave n; other bytes are passed over
+unfoldable pub numberIn : ℕ → List ℕ → ℕ
+numberIn n [] = n
+numberIn n (c ∷ r) = numberIn (pick (digit c) (n * 10 + (c - 48)) n) r
+
+-- how many digits there are
+unfoldable pub digitsIn : List ℕ → ℕ
+digitsIn [] = 0
+digitsIn (c ∷ r) = pick (digit c) (suc (digitsIn r)) (digitsIn r)
+
+-- a text begins with a digit that is not `0`
+pub data Leads : List ℕ → Type 0 where
+  leads : (c : ℕ) (r : List ℕ) → digit c ≡ true → 48 < c → Leads (c ∷ r)
+
+-- the place of the first digit that is not `0`, or the end; what is passed over is worth nothing
+pub record FirstAt (t : List ℕ) (from i : ℕ) : Type 0 where
+  pub above : from ≤ i
+  pub within : i ≤ length t
+  pub same : numberIn 0 (drop i t) ≡ numberIn 0 (drop from t)
+  pub found : (i ≡ length t) ⊎ Leads (drop i t)
+
+-- `count` digits from a place on are in the room's first `used` digits, and the rest of the text follows
+pub record ReadAt (t : List ℕ) (from count : ℕ) (a : List ℕ) (r : Filled) : Type 0 where
+  pub few : r .used ≤ count / 9 + 1
+  pub some : 0 < r .used
+  pub within : r .next ≤ length t
+  pub value : numberIn (worth (take (r .used) a)) (drop (r .next) t) ≡ numberIn 0 (drop from t)
+  pub rest : digitsIn (drop (r .next) t) + count ≡ digitsIn (drop from t)

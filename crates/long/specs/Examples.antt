@@ -1,0 +1,70 @@
+-- Some texts with the numbers that their digits make, and decimals with their nearest f64, worked out: each is what it is by hand, or what IEEE 754
+-- has. Assumes nothing.
+use mathlib.Core.Path.{_≡_, refl}
+use mathlib.Core.Bool.{true, false}
+use lib.Ieee.{size}
+use Rattle.nearest.specs.Units.{infinity}
+use Rattle.nearest.specs.Near.{near, nearUnits}
+use Rattle.nearest.specs.Power.{nearBy}
+use Rattle.record.specs.Form.{bytes}
+use Rattle.long.specs.Digits.{numberIn, digitsIn}
+
+-- the point is passed over
+point : numberIn 0 (bytes "3.14") ≡ 314
+unfolding numberIn
+point = refl
+
+-- and not counted
+point-digits : digitsIn (bytes "3.14") ≡ 3
+unfolding digitsIn
+point-digits = refl
+
+-- digits before go on
+after-twelve : numberIn 12 (bytes ".3") ≡ 123
+unfolding numberIn
+after-twelve = refl
+
+-- no digits make nothing
+no-digits : numberIn 0 (bytes "-.") ≡ 0
+unfolding numberIn
+no-digits = refl
+
+-- a leading `0` is a digit, and worth nothing
+leading : numberIn 0 (bytes "0.0050") ≡ 50
+unfolding numberIn
+leading = refl
+
+-- so this has five
+leading-digits : digitsIn (bytes "0.0050") ≡ 5
+unfolding digitsIn
+leading-digits = refl
+
+-- 9E-324 is nearest to twice the least f64
+lowest-two : nearBy true (numberIn 0 (bytes "9.")) 324 ≡ 2
+unfolding numberIn near nearUnits size
+lowest-two = refl
+
+-- 2E-324 is below the half of the least
+lowest-none : nearBy true (numberIn 0 (bytes "2.")) 324 ≡ 0
+unfolding numberIn near nearUnits size
+lowest-none = refl
+
+-- 2 ^ 53 + 1 lies half way, and goes down to the even pattern
+tie : nearBy true (numberIn 0 (bytes "9007199254740993.000")) 3 ≡ 0x4340_0000_0000_0000
+unfolding numberIn near nearUnits size
+tie = refl
+
+-- one digit further down takes it up
+past-tie : nearBy true (numberIn 0 (bytes "9007199254740993.00000000000000000000000000000001")) 32 ≡ 0x4340_0000_0000_0001
+unfolding numberIn near nearUnits size
+past-tie = refl
+
+-- 1.7976931348623158E308 is the largest f64
+largest : nearBy false (numberIn 0 (bytes "1.7976931348623158")) 292 ≡ 0x7fef_ffff_ffff_ffff
+unfolding numberIn near nearUnits size
+largest = refl
+
+-- 1.7976931348623159E308 is infinity
+past-largest : nearBy false (numberIn 0 (bytes "1.7976931348623159")) 292 ≡ infinity
+unfolding numberIn near nearUnits size
+past-largest = refl

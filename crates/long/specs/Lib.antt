@@ -1,0 +1,10 @@
+pub mod Digits
+pub mod DigitsRight
+pub mod Scaled
+pub mod ScaledRight
+pub mod Pattern
+pub mod Steps
+pub mod Far
+pub mod Whole
+pub mod Only
+pub mod Examples
