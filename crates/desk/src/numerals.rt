@@ -197,10 +197,8 @@ fn long_below(x: f64, most: f64) -> Digits {
 }
 
 fn read_back(x: f64, m: u64, k: usize) -> Digits {
-    if let wide::Wide::Value(r) = wide::lowered(false, m, k) {
-        if r == x {
-            return Digits::Are(m, 0, k);
-        }
+    if wide::lowered(false, m, k) == x {
+        return Digits::Are(m, 0, k);
     }
     Digits::Nothing
 }

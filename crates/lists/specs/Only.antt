@@ -12,7 +12,7 @@ use Rattle.error.specs.Refusal.{Told, good, bad, faultOf, faultOf-told}
 use Rattle.lex.specs.Byte.{pick}
 use Rattle.lex.specs.Right.Steps.{clash}
 use Rattle.params.specs.Reader.{Read}
-use Rattle.reals.specs.Only.{bits-only}
+use Rattle.nearest.specs.Only.{bits-only}
 use Rattle.lists.specs.declared.Item.{Item}
 use Rattle.lists.specs.declared.Shape.{Shape}
 use Rattle.lists.specs.declared.Shape.the-variants.{NotList, Blank, Full}
@@ -96,7 +96,7 @@ unfolding nextOf
 next-back (next.Count n t) = refl
 next-back (next.Refused f t) = ap (λ f. next.Refused f t) (faultOf-told f)
 
--- `next_ref_list`, `next_i64_list`, `next_f64_list`
+-- `next_ref_list`, `next_i64_list`, `next_f64_list`, `next_real_list`
 pub next-list-only : (a b : NextList) → toldNextList a ≡ toldNextList b → a ≡ b
 next-list-only a b e = sym (next-back a) ∙ ap (λ (r : Read ℕ). nextOf (r .answer) (r .place) (r .end)) e ∙ next-back b
 
@@ -105,7 +105,7 @@ abbrev pub AllFit : List Float → Type 0
 AllFit [] = Unit {0}
 AllFit (x ∷ l) = T (fits binary64 x) × AllFit l
 
--- a lent list of f64s is fixed by their bits: `read_reals`, `next_f64_list`
+-- a lent list of f64s is fixed by their bits: `read_reals`, `next_f64_list`, `next_real_list`
 pub reals-only : (l m : List Float) → AllFit l → AllFit m → map (toBits binary64) l ≡ map (toBits binary64) m → l ≡ m
 reals-only [] [] h k e = refl
 reals-only [] (y ∷ m) h k e = clash (cc)

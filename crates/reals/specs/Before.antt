@@ -1,5 +1,5 @@
 -- #101: "The old class keeps its answers bit for bit": what document 01's class reads, this one reads the same; 12 stays 12, and nothing else
--- becomes it. Shown once for all classes by their two bounds. Assumes nothing.
+-- becomes it. Shown once for all classes by their two bounds. And what the class reads, the reading of any real reads the same. Assumes nothing.
 use Prim.Native.Nat.{ℕ, _+_, _^_, _≤_, _<_}
 use mathlib.Core.Path.{_≡_, refl, sym, _∙_, ap}
 use mathlib.Core.Logic.{_⊎_, inl, inr}
@@ -9,7 +9,7 @@ use native.Mathlib.Nat.{lt-of-lt-of-le, pow-le-pow-right}
 use native.Mathlib.Omega.{arith}
 use Rattle.lex.specs.Right.Steps.{clash}
 use Rattle.nearest.specs.Round.{signed}
-use Rattle.reals.specs.Scalar.{Answer, read, refused, Parsed, parsed, unparsed, parseOf, longest, farthest, nearTen, belongs, classIn, realOf}
+use Rattle.reals.specs.Scalar.{Answer, read, refused, Parsed, parsed, unparsed, parseOf, longest, farthest, nearTen, belongs, classIn, classOf, realOf, anyOf, anyRealOf}
 use Rattle.reals.specs.Form.{Reach, Classed}
 use Rattle.reals.specs.FormRight.{Decided, class-is}
 
@@ -100,3 +100,53 @@ before-13 t e = class-outside 15 22 longest farthest (parseOf t) e
 -- the same of the rules: a real of the old class is one of this
 pub before-classed : (m f : ℕ) (d : Bool) (x : ℕ) → Classed 15 22 m f d x → Classed longest farthest m f d x
 before-classed m f d x c = classed-wider 15 22 longest farthest m f d x (omega arith) (omega arith) c
+
+-- ---- the class and any real
+-- what the class reads, any real's reading reads the same
+any-in : (long far : ℕ) (p : Parsed) (b : ℕ) → classIn long far p ≡ read b → anyOf p ≡ read b
+any-in long far unparsed b e = absurd (read-not-refused (sym e))
+any-in long far (parsed s m f d x) b e = go (class-is long far m f d x)
+  where
+    go : Decided long far m f d x → anyOf (parsed s m f d x) ≡ read b
+    go (inl c) = sym (read-in long far s m f d x (c .1)) ∙ e
+    go (inr c) = absurd (read-not-refused (sym e ∙ out-of long far s m f d x (c .1)))
+
+-- document 01's readers do not change: where both answer, they answer the same bits
+pub any-kept : (t : List ℕ) (b : ℕ) → realOf t ≡ read b → anyRealOf t ≡ read b
+unfolding realOf anyRealOf
+any-kept t b e = any-in longest farthest (parseOf t) b e
+
+-- what is 12 is 12 by both
+pub any-12 : (t : List ℕ) → realOf t ≡ refused 12 → anyRealOf t ≡ refused 12
+unfolding realOf anyRealOf
+any-12 t e = go (parseOf t) e
+  where
+    go : (p : Parsed) → classOf p ≡ refused 12 → anyOf p ≡ refused 12
+    go unparsed e = refl
+    go (parsed s m f d x) e = by (class-is longest farthest m f d x)
+      where
+        by : Decided longest farthest m f d x → anyOf (parsed s m f d x) ≡ refused 12
+        by (inl c) = absurd (read-not-refused (sym (read-in longest farthest s m f d x (c .1)) ∙ e))
+        by (inr c) = absurd (outside-not-other (sym (out-of longest farthest s m f d x (c .1)) ∙ e))
+
+-- what is 13 by the class is answered
+pub any-13 : (t : List ℕ) → realOf t ≡ refused 13 → (b : ℕ) × (anyRealOf t ≡ read b)
+unfolding realOf anyRealOf
+any-13 t e = go (parseOf t) e
+  where
+    go : (p : Parsed) → classOf p ≡ refused 13 → (b : ℕ) × (anyOf p ≡ read b)
+    go unparsed e = absurd (outside-not-other (sym e))
+    go (parsed s m f d x) e = (signed s (nearTen m f d x), refl)
+
+-- and no refusal is other than 12
+pub any-refused : (t : List ℕ) (n : ℕ) → anyRealOf t ≡ refused n → n ≡ 12
+unfolding anyRealOf
+any-refused t n e = go (parseOf t) e
+  where
+    number : Answer ℕ → ℕ
+    number (read b) = 12
+    number (refused n) = n
+
+    go : (p : Parsed) → anyOf p ≡ refused n → n ≡ 12
+    go unparsed e = sym (ap number e)
+    go (parsed s m f d x) e = absurd (read-not-refused e)

@@ -2,7 +2,7 @@
 use Prim.Native.Nat.{ℕ, zero, suc, _+_, _*_, _-_, _^_, _≤_, _<_, min}
 use mathlib.Core.Path.{_≡_, refl, sym, _∙_, ap, subst}
 use mathlib.Core.Bool.{Bool, true, false, _&&_}
-use native.Mathlib.Nat.{one-le-pow, mul-assoc, mul-one, mul-comm}
+use native.Mathlib.Nat.{le-of-lt, mul-assoc, mul-one, mul-comm}
 use native.Mathlib.Omega.{arith}
 use borrow.Author.Tests.{lt-ltb, le-ltb, le-leb, lt-leb}
 use lib.Dec.{ltb, leb}
@@ -10,11 +10,22 @@ use lib.Pow.{pow-add}
 use Rattle.lex.specs.Byte.{pick}
 use Rattle.nearest.specs.Near.{near, near-same}
 use Rattle.nearest.specs.Round.{signed}
+use Rattle.nearest.specs.Power.{ten-pos}
 use Rattle.reals.specs.Scalar.{Answer, read, refused, parsed, farthest, classOf, reaches, nearTen, most, largest}
 
--- a power of ten is positive
-pub ten-pos : (k : ℕ) → 0 < 10 ^ k
-ten-pos k = one-le-pow k 10 (omega arith)
+-- an exponent that outweighs the fraction
+pub raised-same : (m f x : ℕ) → f ≤ x → near (m * 10 ^ (x - f)) 1 ≡ near (m * 10 ^ x) (10 ^ f)
+raised-same m f x g =
+    let t : x - f + f ≡ x = omega arith in
+    near-same (m * 10 ^ (x - f)) 1 (m * 10 ^ x) (10 ^ f) (ten-pos 0) (ten-pos f)
+    (mul-assoc m (10 ^ (x - f)) (10 ^ f) ∙ ap (λ (n : ℕ). m * n) (sym (pow-add 10 (x - f) f) ∙ ap (λ (n : ℕ). 10 ^ n) t) ∙ sym (mul-one (m * 10 ^ x)))
+
+-- a fraction that weighs as much as the exponent, or more
+pub lowered-same : (m f x : ℕ) → x ≤ f → near m (10 ^ (f - x)) ≡ near (m * 10 ^ x) (10 ^ f)
+lowered-same m f x g =
+    let t : x + (f - x) ≡ f = omega arith in
+    near-same m (10 ^ (f - x)) (m * 10 ^ x) (10 ^ f) (ten-pos (f - x)) (ten-pos f)
+    (ap (λ (n : ℕ). m * n) (ap (λ (n : ℕ). 10 ^ n) (sym t) ∙ pow-add 10 x (f - x)) ∙ sym (mul-assoc m (10 ^ x) (10 ^ (f - x))))
 
 -- a test that fails makes both fail
 pub no-and : (a : Bool) → a && false ≡ false
@@ -55,11 +66,9 @@ module _ (s : Bool) (m f x M X : ℕ) (a : m ≡ min most M) (b : x ≡ min larg
       let y : x ≡ X = omega arith in
       let z : X ≤ f + farthest = omega arith in
       let v : f ≤ X + farthest = omega arith in
-      let t : x - f + f ≡ x = omega arith in
       inside false p h (rw (le-leb X (f + farthest) z, le-leb f (X + farthest) v) refl)
       (q
-      ∙ ap (signed s) (near-same (m * 10 ^ (x - f)) 1 (m * 10 ^ x) (10 ^ f) (ten-pos 0) (ten-pos f)
-      (mul-assoc m (10 ^ (x - f)) (10 ^ f) ∙ ap (λ (n : ℕ). m * n) (sym (pow-add 10 (x - f) f) ∙ ap (λ (n : ℕ). 10 ^ n) t) ∙ sym (mul-one (m * 10 ^ x))))
+      ∙ ap (signed s) (raised-same m f x g)
       ∙ ap (λ (n : ℕ). signed s (near (n * 10 ^ x) (10 ^ f))) (held h)
       ∙ ap (λ (n : ℕ). signed s (near (M * 10 ^ n) (10 ^ f))) y)
 
@@ -73,11 +82,9 @@ module _ (s : Bool) (m f x M X : ℕ) (a : m ≡ min most M) (b : x ≡ min larg
       let y : x ≡ X = omega arith in
       let z : X ≤ f + farthest = omega arith in
       let v : f ≤ X + farthest = omega arith in
-      let t : x + (f - x) ≡ f = omega arith in
       inside false p h (rw (le-leb X (f + farthest) z, le-leb f (X + farthest) v) refl)
       (q
-      ∙ ap (signed s) (near-same m (10 ^ (f - x)) (m * 10 ^ x) (10 ^ f) (ten-pos (f - x)) (ten-pos f)
-      (ap (λ (n : ℕ). m * n) (ap (λ (n : ℕ). 10 ^ n) (sym t) ∙ pow-add 10 x (f - x)) ∙ sym (mul-assoc m (10 ^ x) (10 ^ (f - x)))))
+      ∙ ap (signed s) (lowered-same m f x (le-of-lt g))
       ∙ ap (λ (n : ℕ). signed s (near (n * 10 ^ x) (10 ^ f))) (held h)
       ∙ ap (λ (n : ℕ). signed s (near (M * 10 ^ n) (10 ^ f))) y)
 

@@ -7,7 +7,7 @@ use Rattle.lex.specs.Walk.{walk}
 use Rattle.record.specs.Form.{bytes}
 use Rattle.record.specs.Text.{numberFrom}
 use Rattle.nearest.specs.Near.{near, nearUnits}
-use Rattle.reals.specs.Scalar.{read, refused, parseOf, realOf, wholeOf, referenceOf}
+use Rattle.reals.specs.Scalar.{read, refused, parseOf, realOf, anyRealOf, wholeOf, referenceOf}
 use Rattle.reals.specs.Before.{realBefore}
 
 -- #101: "example 9 becomes `1E27` in and `1E28` out, nineteen digits in and twenty out"
@@ -124,6 +124,52 @@ no-number = refl
 no-digit : realOf (bytes "-.E1") ≡ refused 12
 unfolding realOf parseOf numberFrom walk
 no-digit = refl
+
+-- ---- any real
+-- a zero with noise, as files have it: thirteen digits, and e is -29
+noise : anyRealOf (bytes "-1.025893950136E-17") ≡ read 0xbc67_a7cf_1b0a_b831
+unfolding anyRealOf parseOf numberFrom walk near nearUnits size
+noise = refl
+
+-- the class refuses it
+noise-outside : realOf (bytes "-1.025893950136E-17") ≡ refused 13
+unfolding realOf parseOf numberFrom walk
+noise-outside = refl
+
+-- more than nineteen digits
+many-digits : anyRealOf (bytes "3.14159265358979323846264338327950288") ≡ read 0x4009_21fb_5444_2d18
+unfolding anyRealOf parseOf numberFrom walk near nearUnits size
+many-digits = refl
+
+-- the least subnormal is about 4.94E-324: less than half of it is a zero, with its sign
+half-least : anyRealOf (bytes "-2.47E-324") ≡ read 0x8000_0000_0000_0000
+unfolding anyRealOf parseOf numberFrom walk near nearUnits size
+half-least = refl
+
+-- just half of it, 5 ^ 1075 divided by 10 ^ 1075, is one too: the even one of the two
+just-half : anyRealOf (bytes "24703282292062327208828439643411068618252990130716238221279284125033775363510437593264991818081799618989828234772285886546332835517796989819938739800539093906315035659515570226392290858392449105184435931802849936536152500319370457678249219365623669863658480757001585769269903706311928279558551332927834338409351978015531246597263579574622766465272827220056374006485499977096599470454020828166226237857393450736339007967761930577506740176324673600968951340535537458516661134223766678604162159680461914467291840300530057530849048765391711386591646239524912623653881879636239373280423891018672348497668235089863388587925628302755995657524455507255189313690836254779186948667994968324049705821028513185451396213837722826145437693412532098591327667236328125E-1075") ≡ read 0
+unfolding anyRealOf parseOf numberFrom walk near nearUnits size
+just-half = refl
+
+-- and more than half is it
+least : anyRealOf (bytes "2.48E-324") ≡ read 1
+unfolding anyRealOf parseOf numberFrom walk near nearUnits size
+least = refl
+
+-- the largest finite f64
+greatest : anyRealOf (bytes "1.7976931348623157E308") ≡ read 0x7fef_ffff_ffff_ffff
+unfolding anyRealOf parseOf numberFrom walk near nearUnits size
+greatest = refl
+
+-- what is past halfway from it to 2 ^ 1024 is an infinity
+past-greatest : anyRealOf (bytes "-1.7976931348623159E308") ≡ read 0xfff0_0000_0000_0000
+unfolding anyRealOf parseOf numberFrom walk near nearUnits size
+past-greatest = refl
+
+-- what is no real is none here
+no-real : anyRealOf (bytes "inf") ≡ refused 12
+unfolding anyRealOf parseOf numberFrom walk
+no-real = refl
 
 -- the signed 64-bit range, and the largest id
 smallest : wholeOf (bytes "-9223372036854775808") ≡ read (negℤ (pos (2 ^ 63)))

@@ -1,5 +1,5 @@
--- Document 01, 'Parameters', with the class of reals of #101: reals, integers and references as rules that name no loop: a rule speaks of a list of bytes
--- and of the parts it is put together from. The byte `#` is 35, `+` is 43, `-` is 45, `.` is 46, `E` is 69 and `e` is 101.
+-- Document 01, 'Parameters', with the class of reals of #101, and any real: reals, integers and references as rules that name no loop: a rule speaks of a
+-- list of bytes and of the parts it is put together from. The byte `#` is 35, `+` is 43, `-` is 45, `.` is 46, `E` is 69 and `e` is 101.
 -- FormRight.antt and WholeRight.antt show that Scalar.antt computes just this, and that there is no other answer. Assumes nothing.
 use Prim.Native.Nat.{ℕ, _+_, _*_, _^_, _≤_, _<_}
 use mathlib.Core.Path.{_≡_}
@@ -71,6 +71,13 @@ pub data RealForm : List ℕ → Answer ℕ → Type 0 where
   outside : {t w f x : List ℕ} {s down : Bool} → Written t s w f down x → (Classed longest farthest (valueOf (w ++ f)) (length f) down (valueOf x) → ⊥)
       → RealForm t (refused 13)
   other : {t : List ℕ} → ((s down : Bool) (w f x : List ℕ) → Written t s w f down x → ⊥) → RealForm t (refused 12)
+
+-- what a text answers where any real is answered: the nearest f64, ties to even, the sign kept at zero, whatever the digits and the exponent. There is no class
+-- and so no 13. Where zeros end and infinities begin, nearest/specs/Borders.antt shows of `IsNearest`, and AnyBorders.antt of a text
+pub data AnyForm : List ℕ → Answer ℕ → Type 0 where
+  real : {t w f x : List ℕ} {s down : Bool} {b : ℕ} → Written t s w f down x
+      → IsNearest (over (valueOf (w ++ f)) down (valueOf x)) (under (length f) down (valueOf x)) b → AnyForm t (read (signed s b))
+  other : {t : List ℕ} → ((s down : Bool) (w f x : List ℕ) → Written t s w f down x → ⊥) → AnyForm t (refused 12)
 
 -- "in the signed 64-bit range": a number, negative where true
 abbrev pub Ranged : Bool → ℕ → Type 0

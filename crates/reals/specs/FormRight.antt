@@ -20,10 +20,12 @@ use Rattle.record.specs.FormRight.{number-only, number-is}
 use Rattle.record.specs.FormRight.Parts.{first-other, number-pass, number-halt, Spanned, span}
 use Rattle.nearest.specs.Near.{near, near-is, near-only}
 use Rattle.nearest.specs.Round.{signed}
-use Rattle.reals.specs.Scalar.{Answer, read, refused, unsigned, minus, Mantissa, mantissa, pointed, fractionOf, Exponent, power, malformed, ended, exponentOf, Parsed, parsed, unparsed, joined, counted, parseOf, longest, farthest, reaches, belongs, nearTen, classOf, realOf}
-use Rattle.reals.specs.Class.{ten-pos}
-use Rattle.reals.specs.Form.{Signed, unmarked, plus, Fraction, pointless, point, Powered, powerless, powered, Written, Reach, Classed, over, under, RealForm, real, outside}
+use Rattle.reals.specs.Scalar.{Answer, read, refused, unsigned, minus, Mantissa, mantissa, pointed, fractionOf, Exponent, power, malformed, ended, exponentOf, Parsed, parsed, unparsed, joined, counted, parseOf, longest, farthest, reaches, belongs, nearTen, classOf, realOf, anyOf, anyRealOf, realBy}
+use Rattle.nearest.specs.Power.{ten-pos}
+use Rattle.reals.specs.Form.{Signed, unmarked, plus, Fraction, pointless, point, Powered, powerless, powered, Written, Reach, Classed, over, under, RealForm, AnyForm, real, outside}
 use Rattle.reals.specs.Form as Form
+use Rattle.reals.specs.declared.Reals.{Reals}
+use Rattle.reals.specs.declared.Reals.the-variants.{Class, Any}
 
 -- ---- the sign
 -- the first byte, if there is one, is neither sign
@@ -275,7 +277,7 @@ written-is t = at (number-is (unsigned t) (numberFrom 0 (unsigned t) .value) (nu
 
 -- ---- the class
 -- the lower side is positive
-under-pos : (f : ℕ) (d : Bool) (x : ℕ) → 0 < under f d x
+pub under-pos : (f : ℕ) (d : Bool) (x : ℕ) → 0 < under f d x
 under-pos f false x = ten-pos f
 under-pos f true x = ten-pos (x + f)
 
@@ -325,10 +327,11 @@ in-class s m f d x e = rw e (ap (λ (b : ℕ). read (signed s b)) (near-ten m f 
 out-class : (s : Bool) (m f : ℕ) (d : Bool) (x : ℕ) → belongs longest farthest m f d x ≡ false → classOf (parsed s m f d x) ≡ refused 13
 out-class s m f d x e = rw e refl
 
--- what is no real is 12
-not-parsed : (t : List ℕ) → parseOf t ≡ unparsed → realOf t ≡ refused 12
-unfolding realOf
-not-parsed t e = ap classOf e
+-- what is no real is 12, whichever reals are asked for
+pub unparsed-by : (which : Reals) (t : List ℕ) → parseOf t ≡ unparsed → realBy which t ≡ refused 12
+unfolding realOf anyRealOf
+unparsed-by Class t e = ap classOf e
+unparsed-by Any t e = ap anyOf e
 
 -- what is computed is the answer
 pub real-is : (t : List ℕ) → RealForm t (realOf t)
@@ -342,7 +345,7 @@ real-is t = go (written-is t)
             subst (RealForm t) (sym (real-of r ∙ in-class s (valueOf (w ++ f)) (length f) d (valueOf x) (k .1)))
             (real r (k .0) (near-is (over (valueOf (w ++ f)) d (valueOf x)) (under (length f) d (valueOf x)) (under-pos (length f) d (valueOf x))))
         by (inr k) = subst (RealForm t) (sym (real-of r ∙ out-class s (valueOf (w ++ f)) (length f) d (valueOf x) (k .1))) (outside r (k .0))
-    go (inr e) = subst (RealForm t) (sym (not-parsed t e)) (RealForm.other (λ s d w f x r. never (sym (written-only r) ∙ e)))
+    go (inr e) = subst (RealForm t) (sym (unparsed-by Class t e)) (RealForm.other (λ s d w f x r. never (sym (written-only r) ∙ e)))
       where
         never : {s d : Bool} {m f x : ℕ} → parsed s m f d x ≡ unparsed → ⊥
         never e = clash (cc)
@@ -365,4 +368,34 @@ real-only {t} (RealForm.other h) = go (written-is t)
   where
     go : ((s d : Bool) × (w f x : List ℕ) × Written t s w f d x) ⊎ (parseOf t ≡ unparsed) → refused 12 ≡ realOf t
     go (inl (s, d, w, f, x, r)) = absurd (h s d w f x r)
-    go (inr e) = sym (not-parsed t e)
+    go (inr e) = sym (unparsed-by Class t e)
+
+-- ---- any real
+-- what is written is answered by the nearest f64
+pub any-of : {t w f x : List ℕ} {s d : Bool} → Written t s w f d x → anyRealOf t ≡ read (signed s (near (over (valueOf (w ++ f)) d (valueOf x)) (under (length f) d (valueOf x))))
+unfolding anyRealOf
+any-of {w = w} {f = f} {x = x} {s = s} {d = d} r = ap anyOf (written-only r) ∙ ap (λ (b : ℕ). read (signed s b)) (near-ten (valueOf (w ++ f)) (length f) d (valueOf x))
+
+-- what is computed is the answer
+pub any-is : (t : List ℕ) → AnyForm t (anyRealOf t)
+any-is t = go (written-is t)
+  where
+    go : ((s d : Bool) × (w f x : List ℕ) × Written t s w f d x) ⊎ (parseOf t ≡ unparsed) → AnyForm t (anyRealOf t)
+    go (inl (s, d, w, f, x, r)) =
+        subst (AnyForm t) (sym (any-of r))
+        (AnyForm.real r (near-is (over (valueOf (w ++ f)) d (valueOf x)) (under (length f) d (valueOf x)) (under-pos (length f) d (valueOf x))))
+    go (inr e) = subst (AnyForm t) (sym (unparsed-by Any t e)) (AnyForm.other (λ s d w f x r. never (sym (written-only r) ∙ e)))
+      where
+        never : {s d : Bool} {m f x : ℕ} → parsed s m f d x ≡ unparsed → ⊥
+        never e = clash (cc)
+
+-- and there is no other
+pub any-only : {t : List ℕ} {a : Answer ℕ} → AnyForm t a → a ≡ anyRealOf t
+any-only {t} (AnyForm.real {w = w} {f = f} {x = x} {s = s} {down = d} {b = b} r n) =
+    ap (λ (y : ℕ). read (signed s y)) (near-only (over (valueOf (w ++ f)) d (valueOf x)) (under (length f) d (valueOf x)) b (under-pos (length f) d (valueOf x)) n)
+    ∙ sym (any-of r)
+any-only {t} (AnyForm.other h) = go (written-is t)
+  where
+    go : ((s d : Bool) × (w f x : List ℕ) × Written t s w f d x) ⊎ (parseOf t ≡ unparsed) → refused 12 ≡ anyRealOf t
+    go (inl (s, d, w, f, x, r)) = absurd (h s d w f x r)
+    go (inr e) = sym (unparsed-by Any t e)

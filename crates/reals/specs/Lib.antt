@@ -3,10 +3,13 @@ pub mod Only
 pub mod Parts
 pub mod Table
 pub mod Class
+pub mod Any
 pub mod Read
 pub mod Whole
 pub mod Form
 pub mod FormRight
+pub mod AnyBorders
+pub mod By
 pub mod Before
 pub mod Agree
 pub mod WholeRight

@@ -16,10 +16,6 @@ use Rattle.reals.specs.declared.Whole.the-variants.{NotWhole}
 use Rattle.reals.specs.declared.Reference.{Reference}
 use Rattle.reals.specs.declared.Reference.the-variants.{NotReference}
 
--- two f64s with the same bits are the same: `times`, `over`, `prefix_factor`, `length_factor`
-pub bits-only : (x y : Float) → T (fits binary64 x) → T (fits binary64 y) → toBits binary64 x ≡ toBits binary64 y → x ≡ y
-bits-only x y h k e = sym (ofBits-toBits binary64 x h) ∙ ap (ofBits binary64) e ∙ ofBits-toBits binary64 y k
-
 -- an answer's float is an f64, as every value of the type is
 abbrev pub RealFits : Real → Type 0
 RealFits (Real.Value x) = T (fits binary64 x)
@@ -38,7 +34,7 @@ real-back (Real.Value x) h = ap Real.Value (ofBits-toBits binary64 x h)
 real-back Outside h = refl
 real-back NotReal h = refl
 
--- `parse_real`
+-- `parse_real` and `read_real`
 pub real-told-only : (a b : Real) → RealFits a → RealFits b → toldReal a ≡ toldReal b → a ≡ b
 real-told-only a b h k e = sym (real-back a h) ∙ ap realTold e ∙ real-back b k
 

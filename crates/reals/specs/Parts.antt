@@ -292,6 +292,7 @@ module _ (t : List ℕ) (i : ℕ) where
     places = λ n.
         ap (λ (m : Mantissa). m .places) (point n h e) ∙ ap (λ (l : List ℕ). length (drop (i + 1) t) - length l) (d .rest n) ∙ gone (d .above) (d .within);
     rest = λ n. ap (λ (m : Mantissa). m .rest) (point n h e) ∙ d .rest n;
+    above = let a : i + 1 ≤ r .next = d .above in omega arith;
     within = d .within;
     short = let w : r .next ≤ length t = d .within in omega arith;
   }
@@ -305,6 +306,7 @@ module _ (t : List ℕ) (i : ℕ) where
     value = λ n f. f ∙ ap (λ (m : Mantissa). min most (m .value)) (sym (h n));
     places = λ n. ap (λ (m : Mantissa). m .places) (h n);
     rest = λ n. ap (λ (m : Mantissa). m .rest) (h n);
+    above = omega arith;
     within = l;
     short = omega arith;
   }

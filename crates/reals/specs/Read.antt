@@ -2,15 +2,21 @@
 use Prim.Native.Nat.{ℕ, zero, suc, _+_, _*_, _-_, _≤_, _<_, min}
 use mathlib.Core.Path.{_≡_, refl, sym, _∙_, ap, subst}
 use mathlib.Core.Bool.{Bool, true, false, _&&_}
-use mathlib.Core.List.{List, [], _∷_}
+use mathlib.Core.List.{List, _++_}
 use native.Mathlib.Omega.{arith}
 use native.Mathlib.Decide.{ℕ-discrete}
 use borrow.Author.Tests.{eq-eqb, ne-eqb}
 use lib.Dec.{eqb}
-use lib.ListN.{length, drop, length-drop}
+use lib.ListN.{length, take, drop, length-drop, take-append-drop}
+use lib.Seq.{drop-drop}
 use Rattle.lex.specs.Byte.{pick}
 use Rattle.record.specs.Text.{Digits, numberFrom}
-use Rattle.reals.specs.Scalar.{Answer, read, refused, toldReal, unsigned, minus, Mantissa, fractionOf, Exponent, power, malformed, exponentOf, Parsed, parsed, unparsed, joined, parseOf, classOf, realOf, NumberAt, DecimalAt, TensAt, ClassOf, most, largest}
+use Rattle.reals.specs.Scalar.{read, refused, toldReal, unsigned, minus, Mantissa, fractionOf, Exponent, power, malformed, exponentOf, parsed, unparsed, joined, parseOf, classOf, realOf, anyOf, anyRealOf, realBy, NumberAt, DecimalAt, TensAt, ClassOf, AnyAt, most, largest}
+use Rattle.long.specs.Digits.{numberIn}
+use Rattle.long.specs.DigitsRight.{number-append, number-only}
+use Rattle.reals.specs.Any.{number-rest, fraction-rest}
+use Rattle.reals.specs.FormRight.{unparsed-by}
+use Rattle.reals.specs.declared.Reals.{Reals}
 use Rattle.reals.specs.declared.Real.{Real}
 use Rattle.reals.specs.declared.Number.{Number}
 use Rattle.reals.specs.declared.Decimal.{Decimal}
@@ -57,28 +63,61 @@ module _ (t : List ℕ) (a : ℕ) (here : drop a t ≡ unsigned t) (within : a �
       ∙ ap (λ (l : List ℕ). eqb (length (drop (w .next) t)) (length l)) (sym here)
       ∙ same-place t (w .next) a (whole .within) within
 
-  -- the answer, by the code's places
-  real-at : realOf t ≡ classOf (pick (eqb (w .next) a && eqb (d .places) 0) unparsed (joined (minus t) (fractionOf (numberFrom 0 (unsigned t) .value) (numberFrom 0 (unsigned t) .rest)) (exponentOf (drop (d .next) t))))
-  unfolding realOf parseOf
-  real-at =
+  -- the parts, by the code's places
+  parsed-at : parseOf t ≡ pick (eqb (w .next) a && eqb (d .places) 0) unparsed (joined (minus t) (fractionOf (numberFrom 0 (unsigned t) .value) (numberFrom 0 (unsigned t) .rest)) (exponentOf (drop (d .next) t)))
+  unfolding parseOf
+  parsed-at =
       let M = fractionOf (numberFrom 0 (unsigned t) .value) (numberFrom 0 (unsigned t) .rest) in
-      ap (λ (b : Bool). classOf (pick (b && eqb (M .places) 0) unparsed (joined (minus t) M (exponentOf (M .rest))))) none-at
-      ∙ ap (λ (f : ℕ). classOf (pick (eqb (w .next) a && eqb f 0) unparsed (joined (minus t) M (exponentOf (M .rest))))) places
-      ∙ ap (λ (l : List ℕ). classOf (pick (eqb (w .next) a && eqb (d .places) 0) unparsed (joined (minus t) M (exponentOf l)))) after
+      ap (λ (b : Bool). pick (b && eqb (M .places) 0) unparsed (joined (minus t) M (exponentOf (M .rest)))) none-at
+      ∙ ap (λ (f : ℕ). pick (eqb (w .next) a && eqb f 0) unparsed (joined (minus t) M (exponentOf (M .rest)))) places
+      ∙ ap (λ (l : List ℕ). pick (eqb (w .next) a && eqb (d .places) 0) unparsed (joined (minus t) M (exponentOf l))) after
 
   -- no digit before or after the point: 12
-  pub no-digit : eqb (w .next) a && eqb (d .places) 0 ≡ true → refused 12 ≡ realOf t
-  no-digit e = sym (real-at ∙ rw e refl)
+  pub no-digit : (which : Reals) → eqb (w .next) a && eqb (d .places) 0 ≡ true → refused 12 ≡ realBy which t
+  no-digit which e = sym (unparsed-by which t (parsed-at ∙ rw e refl))
 
   -- a malformed exponent: 12
-  pub bad-tens : eqb (w .next) a && eqb (d .places) 0 ≡ false → TensAt (drop (d .next) t) Malformed → refused 12 ≡ realOf t
-  bad-tens e f = sym (real-at ∙ rw (e, f) refl)
+  pub bad-tens : (which : Reals) → eqb (w .next) a && eqb (d .places) 0 ≡ false → TensAt (drop (d .next) t) Malformed → refused 12 ≡ realBy which t
+  bad-tens which e f = sym (unparsed-by which t (parsed-at ∙ rw (e, f) refl))
 
-  -- else the class's answer
-  pub good-tens : (s down : Bool) (x : ℕ) (r : Real) → eqb (w .next) a && eqb (d .places) 0 ≡ false → s ≡ minus t → TensAt (drop (d .next) t) (Power down x) → ClassOf s (d .value) (d .places) down x r → toldReal r ≡ realOf t
-  good-tens s down x r e m f c =
+  -- else the parts are these
+  good-tens : (s down : Bool) (x : ℕ) → eqb (w .next) a && eqb (d .places) 0 ≡ false → s ≡ minus t → (f : TensAt (drop (d .next) t) (Power down x)) → parsed s (fractionOf (numberFrom 0 (unsigned t) .value) (numberFrom 0 (unsigned t) .rest) .value) (d .places) down (f .0) ≡ parseOf t
+  good-tens s down x e m f =
       let M = fractionOf (numberFrom 0 (unsigned t) .value) (numberFrom 0 (unsigned t) .rest) in
-      c (M .value) (f .0) held (f .2)
-      ∙ ap (λ (b : Bool). classOf (parsed b (M .value) (d .places) down (f .0))) m
-      ∙ ap (λ (k : ℕ). classOf (parsed (minus t) (M .value) k down (f .0))) (sym places)
-      ∙ sym (real-at ∙ rw (e, f .1) refl)
+      ap (λ (b : Bool). parsed b (M .value) (d .places) down (f .0)) m
+      ∙ ap (λ (k : ℕ). parsed (minus t) (M .value) k down (f .0)) (sym places)
+      ∙ sym (parsed-at ∙ rw (e, f .1) refl)
+
+  -- and the answer the class's
+  pub good-class : (s down : Bool) (x : ℕ) (r : Real) → eqb (w .next) a && eqb (d .places) 0 ≡ false → s ≡ minus t → TensAt (drop (d .next) t) (Power down x) → ClassOf s (d .value) (d .places) down x r → toldReal r ≡ realOf t
+  unfolding realOf
+  good-class s down x r e m f c =
+      let M = fractionOf (numberFrom 0 (unsigned t) .value) (numberFrom 0 (unsigned t) .rest) in
+      c (M .value) (f .0) held (f .2) ∙ ap classOf (good-tens s down x e m f)
+
+  -- the digits of the mantissa make m
+  pub digits-held : numberIn 0 (take (d .next - a) (drop a t)) ≡ fractionOf (numberFrom 0 (unsigned t) .value) (numberFrom 0 (unsigned t) .rest) .value
+  digits-held =
+      let M = fractionOf (numberFrom 0 (unsigned t) .value) (numberFrom 0 (unsigned t) .rest) in
+      let low : a ≤ d .next = let x = whole .above in let y = decimal .above in omega arith in
+      let n : a + (d .next - a) ≡ d .next = omega arith in
+      number-only (numberIn 0 (take (d .next - a) (drop a t))) (M .value) (drop (d .next) t)
+      (sym (number-append 0 (take (d .next - a) (drop a t)) (drop (d .next) t))
+      ∙ ap (λ (l : List ℕ). numberIn 0 (take (d .next - a) (drop a t) ++ l)) (ap (λ (i : ℕ). drop i t) (sym n) ∙ sym (drop-drop (d .next - a) a t))
+      ∙ ap (numberIn 0) (take-append-drop (d .next - a) (drop a t) ∙ here)
+      ∙ number-rest 0 (unsigned t)
+      ∙ fraction-rest (numberFrom 0 (unsigned t) .value) (numberFrom 0 (unsigned t) .rest)
+      ∙ ap (numberIn (M .value)) after)
+
+  -- which the code holds up to its cap
+  pub m-held : d .value ≡ min most (numberIn 0 (take (d .next - a) (drop a t)))
+  m-held = held ∙ ap (min most) (sym digits-held)
+
+  -- and the answer any real's
+  pub good-any : (s down : Bool) (x b : ℕ) → eqb (w .next) a && eqb (d .places) 0 ≡ false → s ≡ minus t → TensAt (drop (d .next) t) (Power down x) → AnyAt s (numberIn 0 (take (d .next - a) (drop a t))) (d .places) down x b → read b ≡ anyRealOf t
+  unfolding anyRealOf
+  good-any s down x b e m f c =
+      let M = fractionOf (numberFrom 0 (unsigned t) .value) (numberFrom 0 (unsigned t) .rest) in
+      ap read (c (f .0) (f .2))
+      ∙ ap (λ (n : ℕ). anyOf (parsed s n (d .places) down (f .0))) digits-held
+      ∙ ap anyOf (good-tens s down x e m f)

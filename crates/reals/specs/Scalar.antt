@@ -1,5 +1,5 @@
--- Document 01, 'Parameters', with the class of reals of #101: reals, integers and references, computed from a trimmed parameter's bytes. Form.antt has the same as
--- rules, and FormRight.antt and WholeRight.antt that the two are one. Assumes nothing.
+-- Document 01, 'Parameters', with the class of reals of #101, and any real: reals, integers and references, computed from a trimmed parameter's bytes. Form.antt
+-- has the same as rules, and FormRight.antt and WholeRight.antt that the two are one. Assumes nothing.
 use Prim.Native.Nat.{ℕ, _+_, _*_, _-_, _^_, _≤_, _<_, min}
 use mathlib.Core.Path.{_≡_}
 use mathlib.Core.Bool.{Bool, true, false, _&&_, _||_}
@@ -12,8 +12,12 @@ use Rattle.lex.specs.Byte.{pick}
 use Rattle.record.specs.Text.{digit, Digits, numberFrom}
 use Rattle.nearest.specs.Near.{near}
 use Rattle.nearest.specs.Round.{signed}
+use Rattle.nearest.specs.Power.{nearBy}
 use Rattle.reals.specs.declared.Real.{Real}
 use Rattle.reals.specs.declared.Real.the-variants.{Value, Outside, NotReal}
+use Rattle.reals.specs.declared.Reals.{Reals}
+use Rattle.reals.specs.declared.Reals as RealsCode
+use Rattle.reals.specs.declared.Scale.{Scale}
 use Rattle.reals.specs.declared.Number.{Number}
 use Rattle.reals.specs.declared.Decimal.{Decimal}
 use Rattle.reals.specs.declared.Tens.{Tens}
@@ -36,7 +40,7 @@ toldReal (Value x) = read (toBits binary64 x)
 toldReal Outside = refused 13
 toldReal NotReal = refused 12
 
--- "Optional sign": what follows it, and whether it is `-`
+-- "Optional sign": what follows it
 abbrev pub unsigned : List ℕ → List ℕ
 unsigned [] = []
 unsigned (c ∷ r) = pick (eqb c 43 || eqb c 45) r (c ∷ r)
@@ -93,7 +97,7 @@ abbrev pub joined : Bool → Mantissa → Exponent → Parsed
 joined s m (power d x) = parsed s (m .value) (m .places) d x
 joined s m malformed = unparsed
 
--- "digits, at least one": none stands before the point, and none after it
+-- "digits, at least one", else it is no real: where none stands before the point, and none after it
 abbrev pub counted : Bool → List ℕ → Digits → Mantissa → Parsed
 counted s u d m = pick (eqb (length (d .rest)) (length u) && eqb (m .places) 0) unparsed (joined s m (exponentOf (m .rest)))
 
@@ -124,11 +128,6 @@ abbrev pub nearTen : ℕ → ℕ → Bool → ℕ → ℕ
 nearTen m f false x = near (m * 10 ^ x) (10 ^ f)
 nearTen m f true x = near m (10 ^ (x + f))
 
--- the same by the size k of a power of ten alone; true is a negative power
-abbrev pub nearBy : Bool → ℕ → ℕ → ℕ
-nearBy false m k = near (m * 10 ^ k) 1
-nearBy true m k = near m (10 ^ k)
-
 -- the answer by a class's two bounds; "sign kept at zero". Document 01's class is the same at 15 and 22 (Before.antt)
 abbrev pub classIn : ℕ → ℕ → Parsed → Answer ℕ
 classIn long far (parsed s m f d x) = pick (belongs long far m f d x) (read (signed s (nearTen m f d x))) (refused 13)
@@ -141,6 +140,20 @@ classOf p = classIn longest farthest p
 -- what a text answers as a real
 unfoldable pub realOf : List ℕ → Answer ℕ
 realOf t = classOf (parseOf t)
+
+-- every well-formed real is answered with the nearest f64, whatever its digits and its exponent: the same without a class
+abbrev pub anyOf : Parsed → Answer ℕ
+anyOf (parsed s m f d x) = read (signed s (nearTen m f d x))
+anyOf unparsed = refused 12
+
+-- what a text answers as any real
+unfoldable pub anyRealOf : List ℕ → Answer ℕ
+anyRealOf t = anyOf (parseOf t)
+
+-- what a text answers, by which reals are answered
+abbrev pub realBy : Reals → List ℕ → Answer ℕ
+realBy RealsCode.the-variants.Class t = realOf t
+realBy RealsCode.the-variants.Any t = anyRealOf t
 
 -- ---- integers and references
 -- an integer, or 12
@@ -194,6 +207,7 @@ pub record DecimalAt (t : List ℕ) (at from : ℕ) (r : Decimal) : Type 0 where
   pub value : (n : ℕ) → from ≡ min most n → r .value ≡ min most (fractionOf n (drop at t) .value)
   pub places : (n : ℕ) → fractionOf n (drop at t) .places ≡ r .places
   pub rest : (n : ℕ) → fractionOf n (drop at t) .rest ≡ drop (r .next) t
+  pub above : at ≤ r .next
   pub within : r .next ≤ length t
   pub short : r .places ≤ length t
 
@@ -209,3 +223,11 @@ TensAt xs Malformed = exponentOf xs ≡ malformed
 -- the answer for numbers that are held so
 abbrev pub ClassOf : Bool → ℕ → ℕ → Bool → ℕ → Real → Type 0
 ClassOf s m f d x r = (M X : ℕ) → m ≡ min most M → x ≡ min largest X → toldReal r ≡ classOf (parsed s M f d X)
+
+-- the power of ten that n digits are multiplied by, where the exponent is held so; no text has 2 ^ 63 of them
+abbrev pub ScaleAt : ℕ → Bool → ℕ → Scale → Type 0
+ScaleAt f d x r = (M X n : ℕ) → M < 10 ^ n → n < 2 ^ 63 → x ≡ min largest X → nearBy (r .down) M (r .size) ≡ nearTen M f d X
+
+-- the answer for any real whose digits make M, where the exponent is held so
+abbrev pub AnyAt : Bool → ℕ → ℕ → Bool → ℕ → ℕ → Type 0
+AnyAt s M f d x b = (X : ℕ) → x ≡ min largest X → b ≡ signed s (nearTen M f d X)

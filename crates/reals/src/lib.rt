@@ -1,8 +1,9 @@
 // Scalars of a parameter: reals, integers and references.
 //
 // Each takes the trimmed bytes of one parameter or item. As the Rust's parse_f64, parse_i64 and parse_ref, with
-// the float's reading as own code: most reals are one product or quotient of two exact f64s, so that they are rounded once, and the crate
-// `nearest` says what that gives; the others of the class are answered by the crate `wide`.
+// the float's reading as own code. Of the class, most reals are one product or quotient of two exact f64s, so that they are rounded once, and the
+// crate `nearest` says what that gives; the others of the class are answered by the crate `wide`. Where any real is asked for, whole numbers alone
+// answer it: up to nineteen digits by `wide`, more by `long`.
 ghost use mathlib.Core.Path.{_≡_};
 ghost use Prim.Native.Nat.{_+_, _*_, _-_, _≤_, _<_, _^_, min};
 ghost use mathlib.Core.Bool.{true, false, _&&_};
@@ -10,10 +11,18 @@ ghost use lib.ListN.{length, drop};
 ghost use lib.Ieee.{binary64, toBits};
 ghost use Rattle.record.specs.Text.{digit};
 ghost use Rattle.nearest.specs.Near.{near};
+ghost use Rattle.nearest.specs.Power.{nearBy};
 ghost use Rattle.nearest.specs.Round.{signed};
 ghost use Rattle.nearest.specs.Product.{worthOf, finite};
-ghost use Rattle.reals.specs.Scalar.{toldReal, realOf, toldWhole, wholeOf, ranged, toldReference, referenceOf, unsigned, minus, NumberAt, PlainAt, DecimalAt, TensAt, ClassOf, most, farthest, nearBy};
+ghost use Rattle.reals.specs.Scalar.{toldReal, realOf, realBy, ScaleAt, AnyAt, toldWhole, wholeOf, ranged, toldReference, referenceOf, unsigned, minus, NumberAt, PlainAt, DecimalAt, TensAt, ClassOf, most, farthest};
+ghost use Rattle.long.specs.Digits.{numberIn};
 ghost use Rattle.reals.specs.Parts.{Reading, DigitsAt, EightAt};
+
+// Which reals are answered: those of the class, as document 01 and #101 have it, or any.
+pub enum Reals {
+    Class,
+    Any,
+}
 
 pub enum Real {
     Value(f64),
@@ -130,7 +139,7 @@ fn four_value(a: u8, b: u8, c: u8, d: u8) -> u64
     (a as u64 * 1000 + b as u64 * 100) + (c as u64 * 10 + d as u64) - 53328
 }
 
-// The number of four digits from a place, or 10000 where one is no digit. They do not wait for each other, as digits one by one do.
+// The number of four digits from a place, or 10000 at least where one is no digit. They do not wait for each other, as digits one by one do.
 fn four_at(t: &[u8], at: usize) -> u64
     requires { ⌜ at + 4 ≤ length (now t) ⌝ }
     ensures { λ r. ⌜ (r < 10000 → DigitsAt (now (t .entry)) at 4 r) ⌝ }
@@ -335,20 +344,12 @@ const POWER: usize = 22;
 // The f64 nearest to m * 10^k, or to m / 10^k where `down`, by the wide path. One function for the two, so that the compiler leaves it out of
 // the way of the short path.
 fn by_wide(down: bool, neg: bool, m: u64, k: usize) -> f64
-    requires { ⌜ k ≤ farthest ⌝ }
     ensures { λ r. ⌜ toBits binary64 r ≡ signed neg (nearBy down m k) ⌝ }
 {
-    // The wide path reaches as far as the class, so it always has a value.
     if down {
-        let wide::Wide::Value(x) = wide::lowered(neg, m, k) else {
-            return 0.0;
-        };
-        return x;
+        return wide::lowered(neg, m, k);
     }
-    let wide::Wide::Value(y) = wide::raised(neg, m, k) else {
-        return 0.0;
-    };
-    y
+    wide::raised(neg, m, k)
 }
 
 // The f64 nearest to m * 10^k, by the short path where both are f64s, as in most files: their product is rounded once. The wide path would
@@ -372,6 +373,56 @@ fn lowered(neg: bool, m: u64, k: usize) -> f64
         return nearest::over(exact(neg, m), power_of_ten(k));
     }
     by_wide(true, neg, m, k)
+}
+
+// A power of ten: its size, and whether it is negative.
+struct Scale {
+    down: bool,
+    size: usize,
+}
+
+// The power of ten that a real's digits are multiplied by, of an exponent x, negative if `down`, and f fraction digits. Where it would be larger than
+// a number is here, the largest stands for it: that far, all answers are zeros and infinities.
+fn scale_of(f: usize, down: bool, x: u64) -> Scale
+    requires { ⌜ f < 2 ^ 63 ⌝ }
+    ensures { λ r. ⌜ ScaleAt f down x r ⌝ }
+{
+    let k = x as usize;
+    if down {
+        if k <= 0xffff_ffff_ffff_ffff - f {
+            return Scale {
+                down: true,
+                size: k + f,
+            };
+        }
+        return Scale {
+            down: true,
+            size: 0xffff_ffff_ffff_ffff,
+        };
+    }
+    if f < k {
+        return Scale {
+            down: false,
+            size: k - f,
+        };
+    }
+    Scale {
+        down: true,
+        size: f - k,
+    }
+}
+
+// The f64 nearest to a real with m, the digits t, f fraction digits and an exponent x, negative if `down`. The digits themselves are asked only
+// where m does not hold them all.
+fn any_real(neg: bool, t: &[u8], m: u64, f: usize, down: bool, x: u64) -> f64
+    requires { ⌜ (m ≡ min most (numberIn 0 (now t))) × (f < 2 ^ 63) ⌝ }
+    ensures { λ r. ⌜ AnyAt neg (numberIn 0 (now (t .entry))) f down x (toBits binary64 r) ⌝ }
+{
+    let p = scale_of(f, down, x);
+    if m < MOST {
+        return by_wide(p.down, neg, m, p.size);
+    }
+    long::decimal(neg, t, p.down, p.size)
 }
 
 // The answer for a real with m, f fraction digits and an exponent x, negative if `down`.
@@ -403,9 +454,9 @@ fn in_class(neg: bool, m: u64, f: usize, down: bool, x: u64) -> Real
     Real::Outside
 }
 
-// Reads a real.
-pub fn parse_real(t: &[u8]) -> Real
-    ensures { λ r. ⌜ toldReal r ≡ realOf (now (t .entry)) ⌝ }
+// Reads a real, of the class or any.
+pub fn read_real(which: Reals, t: &[u8]) -> Real
+    ensures { λ r. ⌜ toldReal r ≡ realBy which (now (t .entry)) ⌝ }
 {
     let neg = minus_at(t, 0);
     let a = past_sign(t, 0);
@@ -415,10 +466,21 @@ pub fn parse_real(t: &[u8]) -> Real
     if (point == a) & (d.places == 0) {
         return Real::NotReal;
     }
-    let Tens::Power(down, x) = tens_from(t, d.next) else {
+    let end = d.next;
+    let Tens::Power(down, x) = tens_from(t, end) else {
         return Real::NotReal;
     };
-    in_class(neg, d.value, d.places, down, x)
+    match which {
+        Reals::Class => in_class(neg, d.value, d.places, down, x),
+        Reals::Any => Real::Value(any_real(neg, &t[a..end], d.value, d.places, down, x)),
+    }
+}
+
+// Reads a real of the class.
+pub fn parse_real(t: &[u8]) -> Real
+    ensures { λ r. ⌜ toldReal r ≡ realOf (now (t .entry)) ⌝ }
+{
+    read_real(Reals::Class, t)
 }
 
 // The negative of a number.

@@ -1,6 +1,4 @@
-pub mod Cut
-pub mod Told
+pub mod Reach
 pub mod Long
 pub mod Pattern
 pub mod Tens
-pub mod Only

@@ -1,9 +1,9 @@
 -- m * 10 ^ k and m / 10 ^ k, cut below the digits that the code computes: 10 ^ k is 5 ^ k * 2 ^ k, and a power of two moves nothing but
--- the place. Laws for the proofs; of this file promises name `placesOf` and `Reciprocal` alone. Assumes nothing.
+-- the place. Laws for the proofs; of this file promises name `halvingsOf`, `placesOf` and `Reciprocal` alone. Assumes nothing.
 use Prim.Native.Nat.{ℕ, zero, suc, _+_, _-_, _*_, _/_, _%_, _^_, _≤_, _<_}
 use mathlib.Core.Path.{_≡_, refl, sym, _∙_, ap, subst}
 use mathlib.Core.Bool.{Bool, true, false, not, _&&_}
-use native.Mathlib.Nat.{add-mul, mul-assoc, mul-comm, mul-left-comm, mul-right-comm, one-mul, mul-pos, mul-le-mul, mul-lt-mul-of-pos-right, lt-of-mul-lt-mul-right, lt-of-le-of-lt, one-le-pow, pow-suc, suc-mul, zero-mul, pow-le-pow-right, mul-suc, mul-le-mul-left, mul-le-mul-right, le-of-mul-le-mul-right, le-trans, mod-eq-of-lt}
+use native.Mathlib.Nat.{add-mul, mul-assoc, mul-comm, mul-left-comm, mul-right-comm, one-mul, mul-pos, mul-le-mul, mul-lt-mul-of-pos-right, lt-of-mul-lt-mul-right, lt-of-le-of-lt, one-le-pow, suc-mul, zero-mul, mul-one, pow-le-pow-right, mul-suc, mul-le-mul-left, mul-le-mul-right, le-of-mul-le-mul-right, le-trans, mod-eq-of-lt}
 use native.Mathlib.Decide.{decLt}
 use native.Mathlib.Omega.{arith}
 use borrow.Author.Tests.{lt-ltb, eq-eqb, ne-eqb}
@@ -11,22 +11,10 @@ use lib.Dec.{T, eqb, leb, ltb, leb→le, eqb→eq}
 use lib.Ieee.Fits.{and-l, and-r}
 use lib.Count.{leadingZeros, leading-le}
 use lib.Pow.{pow-pos, pow-add}
+use Rattle.nearest.specs.Power.{ten-pos, tens}
 use Rattle.wide.specs.Long.{moved-up}
-use Rattle.wide.specs.Cut.{Cut, Within}
-use Rattle.wide.specs.Told.{reach}
-
--- 10 ^ k by its prime factors
-pub tens : (k : ℕ) → 10 ^ k ≡ 5 ^ k * 2 ^ k
-tens zero = refl
-tens (suc k) =
-    pow-suc 10 k
-    ∙ ap (λ (x : ℕ). x * 10) (tens k)
-    ∙ regroup (5 ^ k) (2 ^ k) 5 2
-    ∙ ap (λ (x : ℕ). x * (2 ^ k * 2)) (sym (pow-suc 5 k))
-    ∙ ap (λ (x : ℕ). 5 ^ suc k * x) (sym (pow-suc 2 k))
-  where
-    regroup : (a b p q : ℕ) → a * b * (p * q) ≡ a * p * (b * q)
-    regroup a b p q = simp (mul-assoc, mul-comm, mul-left-comm) refl
+use Rattle.cut.specs.Cut.{Cut, Within}
+use Rattle.wide.specs.Reach.{reach, far}
 
 -- something is left just where it is left of a multiple
 pub left-of : (r k : ℕ) → not (eqb r 0) ≡ ltb 0 (r * 2 ^ k)
@@ -67,7 +55,7 @@ module _ (m k a b : ℕ) where
         rest = rest * 2 ^ k;
         scale = omega arith;
         place = omega arith;
-        divisor = one-le-pow k 10 (omega arith);
+        divisor = ten-pos k;
         whole =
             ap (λ (x : ℕ). digits * x + rest * 2 ^ k) d
             ∙ ap (λ (x : ℕ). x + rest * 2 ^ k) (sym (mul-assoc digits (5 ^ k * 2 ^ b) (2 ^ k)))
@@ -129,11 +117,15 @@ lifted-is k p b h e f =
     wider : (x : ℕ) → x < 2 ^ 63 → x < 2 ^ 64
     wider x h = omega arith
 
--- r is 2 ^ 126 divided by `lifted-five k`, or below that by one at most; and it has 63 binary digits or more
+-- how often 5 ^ k can be halved, as the code computes it; its reciprocals, which go farther than `reach`, are right with just this number
+abbrev pub halvingsOf : ℕ → ℕ
+halvingsOf k = k * 4755 / 2048
+
+-- r is 2 ^ (64 + e) divided by 5 ^ k, or below that by one at most, e being that number; and it has 63 binary digits or more
 pub record Reciprocal (k r : ℕ) : Type 0 where
   pub long : 2 ^ 62 ≤ r
-  pub not-above : r * lifted-five k ≤ 2 ^ 126
-  pub not-below : 2 ^ 126 ≤ suc r * lifted-five k
+  pub not-above : r * 5 ^ k ≤ 2 ^ (64 + halvingsOf k)
+  pub not-below : 2 ^ (64 + halvingsOf k) ≤ suc r * 5 ^ k
 
 -- a test passes at each number below n
 abbrev each : (ℕ → Bool) → ℕ → Bool
@@ -149,9 +141,9 @@ each-at f (suc n) k t h = go (λ l. each-at f n k (and-r (f n) (each f n) t) l) 
     go below (yes l) = below l
     go below (no g) = let e : n ≡ k = omega arith in subst (λ (j : ℕ). T (f j)) e (and-l (f n) (each f n) t)
 
--- the code's sum for the places: 5 ^ k has 2378 / 1024 times k digits, rounded down, and one
+-- the code's sum for the places
 abbrev sumOf : ℕ → ℕ
-sumOf k = 62 - k * 2378 / 1024
+sumOf k = 62 - halvingsOf k
 
 -- it is right at each k in reach
 all-places : T (each (λ (k : ℕ). eqb (sumOf k) (placesOf k)) (suc reach))
@@ -162,67 +154,72 @@ all-places = tt
 pub places-is : (k : ℕ) → k ≤ reach → sumOf k ≡ placesOf k
 places-is k h = eqb→eq (sumOf k) (placesOf k) (each-at (λ (j : ℕ). eqb (sumOf j) (placesOf j)) (suc reach) k all-places (omega arith))
 
--- a reciprocal as a test of d, which is 5 ^ k moved up
-abbrev isReciprocal : ℕ → ℕ → Bool
-isReciprocal d r = leb (2 ^ 62) r && (leb (r * d) (2 ^ 126) && leb (2 ^ 126) (suc r * d))
+-- a reciprocal as a test of d, which is 5 ^ k, and of n, which is 2 ^ (64 + e)
+abbrev isReciprocal : ℕ → ℕ → ℕ → Bool
+isReciprocal d n r = leb (2 ^ 62) r && (leb (r * d) n && leb n (suc r * d))
 
--- where it passes, r is one
-reciprocal-by : (k r : ℕ) → T (isReciprocal (lifted-five k) r) → Reciprocal k r
-reciprocal-by k r t =
-    let d = lifted-five k in
+-- the entry that the code's match has found is one where the test passes
+pub reciprocal-found : (k j r : ℕ) → k ≡ j → T (isReciprocal (5 ^ j) (2 ^ (64 + halvingsOf j)) r) → Reciprocal k r
+reciprocal-found k j r e t =
+    let d = 5 ^ j in
+    let n = 2 ^ (64 + halvingsOf j) in
     let a = leb (2 ^ 62) r in
-    let b = leb (r * d) (2 ^ 126) in
-    let c = leb (2 ^ 126) (suc r * d) in record {
+    let b = leb (r * d) n in
+    let c = leb n (suc r * d) in
+    subst (λ (i : ℕ). Reciprocal i r) (sym e)
+    record {
       long = leb→le (2 ^ 62) r (and-l a (b && c) t);
-      not-above = leb→le (r * d) (2 ^ 126) (and-l b c (and-r a (b && c) t));
-      not-below = leb→le (2 ^ 126) (suc r * d) (and-r b c (and-r a (b && c) t));
+      not-above = leb→le (r * d) n (and-l b c (and-r a (b && c) t));
+      not-below = leb→le n (suc r * d) (and-r b c (and-r a (b && c) t));
     }
 
--- the entry that the code's match has found is one where the test passes, with the sum for the places
-pub reciprocal-found : (k j r : ℕ) → k ≡ j → T (leb j reach && isReciprocal (5 ^ j * 2 ^ sumOf j) r) → Reciprocal k r
-reciprocal-found k j r e t =
-    let near = and-l (leb j reach) (isReciprocal (5 ^ j * 2 ^ sumOf j) r) t in
-    let test = and-r (leb j reach) (isReciprocal (5 ^ j * 2 ^ sumOf j) r) t in
-    subst (λ (n : ℕ). Reciprocal n r) (sym e)
-    (reciprocal-by j r (subst (λ (p : ℕ). T (isReciprocal (5 ^ j * 2 ^ p) r)) (places-is j (leb→le j reach near)) test))
+-- r times d is 2 ^ (64 + e), or below that by less than d; high is the upper half of n times r
+module _ (n r d e high low : ℕ) (product : high * 2 ^ 64 + low ≡ n * r) (above : r * d ≤ 2 ^ (64 + e)) (below : 2 ^ (64 + e) ≤ suc r * d) where
+  -- n moved up by all of it
+  moved : n * 2 ^ (64 + e) ≡ n * 2 ^ e * 2 ^ 64
+  moved = ap (λ (x : ℕ). n * x) (pow-add 2 64 e ∙ mul-comm (2 ^ 64) (2 ^ e)) ∙ sym (mul-assoc n (2 ^ e) (2 ^ 64))
 
-module _ (n r d high low : ℕ) (e : high * 2 ^ 64 + low ≡ n * r) (above : r * d ≤ 2 ^ 126) (below : 2 ^ 126 ≤ suc r * d) where
-  -- so the upper half of n times it is not above n * 2 ^ 62 by d
-  product-le : high * d ≤ n * 2 ^ 62
+  -- so the upper half is not above n * 2 ^ e by d
+  product-le : high * d ≤ n * 2 ^ e
   product-le =
-      let a : high * 2 ^ 64 ≤ n * r = part (high * 2 ^ 64) (n * r) e in
-      let b : high * 2 ^ 64 * d ≤ n * 2 ^ 126 = le-trans (mul-le-mul-right d a) (subst (λ (x : ℕ). x ≤ n * 2 ^ 126) (sym (mul-assoc n r d)) (mul-le-mul-left n above)) in
-      le-of-mul-le-mul-right {k = 2 ^ 64} (subst (λ (x : ℕ). x ≤ n * 2 ^ 62 * 2 ^ 64) (mul-right-comm high (2 ^ 64) d) (subst (λ (x : ℕ). high * 2 ^ 64 * d ≤ x) (sym (mul-assoc n (2 ^ 62) (2 ^ 64))) b)) (pow-pos 64)
+      let a : high * 2 ^ 64 ≤ n * r = part (high * 2 ^ 64) (n * r) product in
+      let b : high * 2 ^ 64 * d ≤ n * 2 ^ (64 + e) = le-trans (mul-le-mul-right d a) (subst (λ (x : ℕ). x ≤ n * 2 ^ (64 + e)) (sym (mul-assoc n r d)) (mul-le-mul-left n above)) in
+      le-of-mul-le-mul-right {k = 2 ^ 64} (subst (λ (x : ℕ). x ≤ n * 2 ^ e * 2 ^ 64) (mul-right-comm high (2 ^ 64) d) (subst (λ (x : ℕ). high * 2 ^ 64 * d ≤ x) moved b)) (pow-pos 64)
     where
       part : (a b : ℕ) → a + low ≡ b → a ≤ b
       part a b f = omega arith
 
   -- and less than two below
-  product-lt : low < 2 ^ 64 → n < 2 ^ 64 → 0 < d → n * 2 ^ 62 < (high + 2) * d
+  product-lt : low < 2 ^ 64 → n < 2 ^ 64 → 0 < d → n * 2 ^ e < (high + 2) * d
   product-lt l h p =
-      let a : n * r + n < (high + 2) * 2 ^ 64 = subst (λ (x : ℕ). n * r + n < x) (sym (add-mul high 2 (2 ^ 64))) (more (high * 2 ^ 64) (n * r) e) in
+      let a : n * r + n < (high + 2) * 2 ^ 64 = subst (λ (x : ℕ). n * r + n < x) (sym (add-mul high 2 (2 ^ 64))) (more (high * 2 ^ 64) (n * r) product) in
       let b : n * suc r ≡ n * r + n = mul-suc n r in
-      let c : n * 2 ^ 126 ≤ n * suc r * d = subst (λ (x : ℕ). n * 2 ^ 126 ≤ x) (sym (mul-assoc n (suc r) d)) (mul-le-mul-left n below) in
-      let f : n * 2 ^ 126 < (high + 2) * 2 ^ 64 * d = lt-of-le-of-lt c (mul-lt-mul-of-pos-right (subst (λ (x : ℕ). x < (high + 2) * 2 ^ 64) (sym b) a) p) in
-      lt-of-mul-lt-mul-right (2 ^ 64) (subst (λ (x : ℕ). n * 2 ^ 62 * 2 ^ 64 < x) (mul-right-comm (high + 2) (2 ^ 64) d) (subst (λ (x : ℕ). x < (high + 2) * 2 ^ 64 * d) (sym (mul-assoc n (2 ^ 62) (2 ^ 64))) f))
+      let c : n * 2 ^ (64 + e) ≤ n * suc r * d = subst (λ (x : ℕ). n * 2 ^ (64 + e) ≤ x) (sym (mul-assoc n (suc r) d)) (mul-le-mul-left n below) in
+      let f : n * 2 ^ (64 + e) < (high + 2) * 2 ^ 64 * d = lt-of-le-of-lt c (mul-lt-mul-of-pos-right (subst (λ (x : ℕ). x < (high + 2) * 2 ^ 64) (sym b) a) p) in
+      lt-of-mul-lt-mul-right (2 ^ 64) (subst (λ (x : ℕ). n * 2 ^ e * 2 ^ 64 < x) (mul-right-comm (high + 2) (2 ^ 64) d) (subst (λ (x : ℕ). x < (high + 2) * 2 ^ 64 * d) moved f))
     where
       more : (a b : ℕ) → a + low ≡ b → b + n < a + 2 * 2 ^ 64
       more a b g = omega arith
 
+-- e is small as far as the table goes
+pub halvings-le : (k : ℕ) → k ≤ far → halvingsOf k ≤ 148
+halvings-le k h = omega arith
+
 -- m moved up by a, times the reciprocal, is m / 10 ^ k or less than two below it, in units
-pub lowered-near : (m k a r high low : ℕ) → high * 2 ^ 64 + low ≡ m * 2 ^ a * r → low < 2 ^ 64 → m * 2 ^ a < 2 ^ 64 → Reciprocal k r → k ≤ reach → a < 64 → Within m (10 ^ k) high (1012 + placesOf k - a - k)
-lowered-near m k a r high low e l h t f g =
-    let b = placesOf k in
-    let d = lifted-five k in
-    let u : 10 ^ k * 2 ^ b ≡ d * 2 ^ k = ap (λ (x : ℕ). x * 2 ^ b) (tens k) ∙ mul-right-comm (5 ^ k) (2 ^ k) (2 ^ b) in
-    let v : m * 2 ^ (a + 62 + k) ≡ m * 2 ^ a * 2 ^ 62 * 2 ^ k =
-    ap (λ (x : ℕ). m * x) (pow-add 2 (a + 62) k ∙ ap (λ (x : ℕ). x * 2 ^ k) (pow-add 2 a 62)) ∙ sym (mul-assoc m (2 ^ a * 2 ^ 62) (2 ^ k)) ∙ ap (λ (x : ℕ). x * 2 ^ k) (sym (mul-assoc m (2 ^ a) (2 ^ 62))) in
-    let p : 0 < d = mul-pos (one-le-pow k 5 (omega arith)) (pow-pos b) in record {
-      up = a + 62 + k;
-      unit = b;
+pub lowered-near : (m k a r high low : ℕ) → high * 2 ^ 64 + low ≡ m * 2 ^ a * r → low < 2 ^ 64 → m * 2 ^ a < 2 ^ 64 → Reciprocal k r → k ≤ far → a < 64 → Within m (10 ^ k) high (1074 - halvingsOf k - a - k)
+lowered-near m k a r high low product l h t f g =
+    let e = halvingsOf k in
+    let small = halvings-le k f in
+    let d = 5 ^ k in
+    let u : 10 ^ k * 1 ≡ d * 2 ^ k = mul-one (10 ^ k) ∙ tens k in
+    let v : m * 2 ^ (a + e + k) ≡ m * 2 ^ a * 2 ^ e * 2 ^ k =
+    ap (λ (x : ℕ). m * x) (pow-add 2 (a + e) k ∙ ap (λ (x : ℕ). x * 2 ^ k) (pow-add 2 a e)) ∙ sym (mul-assoc m (2 ^ a * 2 ^ e) (2 ^ k)) ∙ ap (λ (x : ℕ). x * 2 ^ k) (sym (mul-assoc m (2 ^ a) (2 ^ e))) in
+    let p : 0 < d = one-le-pow k 5 (omega arith) in record {
+      up = a + e + k;
+      unit = 0;
       scale = omega arith;
       place = omega arith;
-      divisor = one-le-pow k 10 (omega arith);
-      from = subst (λ (x : ℕ). high * x ≤ m * 2 ^ (a + 62 + k)) (sym u) (subst (λ (x : ℕ). high * (d * 2 ^ k) ≤ x) (sym v) (subst (λ (x : ℕ). x ≤ m * 2 ^ a * 2 ^ 62 * 2 ^ k) (mul-assoc high d (2 ^ k)) (mul-le-mul-right (2 ^ k) (product-le (m * 2 ^ a) r d high low e (t .not-above) (t .not-below)))));
-      to = subst (λ (x : ℕ). m * 2 ^ (a + 62 + k) < (high + 2) * x) (sym u) (subst (λ (x : ℕ). x < (high + 2) * (d * 2 ^ k)) (sym v) (subst (λ (x : ℕ). m * 2 ^ a * 2 ^ 62 * 2 ^ k < x) (mul-assoc (high + 2) d (2 ^ k)) (mul-lt-mul-of-pos-right (product-lt (m * 2 ^ a) r d high low e (t .not-above) (t .not-below) l h p) (pow-pos k))));
+      divisor = ten-pos k;
+      from = subst (λ (x : ℕ). high * x ≤ m * 2 ^ (a + e + k)) (sym u) (subst (λ (x : ℕ). high * (d * 2 ^ k) ≤ x) (sym v) (subst (λ (x : ℕ). x ≤ m * 2 ^ a * 2 ^ e * 2 ^ k) (mul-assoc high d (2 ^ k)) (mul-le-mul-right (2 ^ k) (product-le (m * 2 ^ a) r d e high low product (t .not-above) (t .not-below)))));
+      to = subst (λ (x : ℕ). m * 2 ^ (a + e + k) < (high + 2) * x) (sym u) (subst (λ (x : ℕ). x < (high + 2) * (d * 2 ^ k)) (sym v) (subst (λ (x : ℕ). m * 2 ^ a * 2 ^ e * 2 ^ k < x) (mul-assoc (high + 2) d (2 ^ k)) (mul-lt-mul-of-pos-right (product-lt (m * 2 ^ a) r d e high low product (t .not-above) (t .not-below) l h p) (pow-pos k))));
     }

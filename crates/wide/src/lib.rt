@@ -1,24 +1,21 @@
-// The wide path: the f64 nearest to m * 10^k and to m / 10^k, for every 64-bit m and every k up to 27.
+// The wide path: the f64 nearest to m * 10^k and to m / 10^k, for every 64-bit m and every k, by whole numbers alone.
 //
 // An f64 holds neither such an m nor such a power of ten exactly, so no single product or quotient of two of them serves. But 10^k is
 // 5^k * 2^k, a power of two moves nothing but the exponent, and 5^27 has 63 binary digits: m * 5^k is one exact product of two numbers
 // of 64 digits, and m / 5^k one long division in three digits, whose rest tells the tie. That division is asked for only where the product
-// with a reciprocal, which is less than two too small, leaves a doubt. No table is believed: the proof computes each entry.
+// with a reciprocal, which is less than two too small, leaves a doubt; and reciprocals go on to 10^64, for the reals of files that stand for zero, as 1.0E-17. What
+// is farther, or left in doubt there, goes the long path. No table is believed: the proof computes each entry.
+//
+// So `raised` and `lowered` are the fast ones, and call crate long's of the same names, which have the same answers, where they are in doubt.
 ghost use mathlib.Core.Path.{_≡_};
 ghost use mathlib.Core.Bool.{Bool};
 ghost use Prim.Native.Nat.{_+_, _-_, _*_, _/_, _%_, _≤_, _<_, _^_};
-ghost use lib.Ieee.{binary64, toBits, nearest};
+ghost use lib.Ieee.{binary64, toBits};
 ghost use Rattle.nearest.specs.Near.{near};
 ghost use Rattle.nearest.specs.Round.{signed};
-ghost use Rattle.wide.specs.Cut.{against, RoundsTo, sure, beyond, RoundsNear};
-ghost use Rattle.wide.specs.Tens.{placesOf, Reciprocal};
-ghost use Rattle.wide.specs.Told.{WideTold, reach};
-
-pub enum Wide {
-    Value(f64),
-    // The power of ten is too far: 28 or more.
-    Far,
-}
+ghost use Rattle.cut.specs.Cut.{RoundsTo, sure, beyond, RoundsNear};
+ghost use Rattle.wide.specs.Tens.{halvingsOf, placesOf, Reciprocal};
+ghost use Rattle.wide.specs.Reach.{reach, far};
 
 // 5^k as far as it has 63 binary digits. A match is a table of the program's; an array would be laid on the stack at each use.
 fn power_of_five(k: usize) -> u64
@@ -57,12 +54,20 @@ fn power_of_five(k: usize) -> u64
     }
 }
 
-// By how many digits 5^k is moved up so that it has 63: its own are 2378 / 1024 times k, rounded down, and one. The proof tries each k.
+// How often 5^k can be halved: its binary digits but one are 4755 / 2048 times k, rounded down.
+fn halvings(k: usize) -> u64
+    requires { ⌜ k ≤ far ⌝ }
+    ensures { λ r. ⌜ r ≡ halvingsOf k ⌝ }
+{
+    k as u64 * 4755 / 2048
+}
+
+// By how many digits 5^k is moved up so that it has 63. The proof tries each k.
 fn places(k: usize) -> u64
     requires { ⌜ k ≤ reach ⌝ }
     ensures { λ r. ⌜ r ≡ placesOf k ⌝ }
 {
-    62 - k as u64 * 2378 / 1024
+    62 - halvings(k)
 }
 
 // A number moved up, and by how many binary digits.
@@ -156,22 +161,6 @@ fn divide(n: u64, d: u64) -> Quotient
     }
 }
 
-// Rounds w, of which `drop` binary digits are dropped, to the nearest; `more` says that something is left below w. A tie, which is just half of
-// the last digit kept, goes to the even one. The tests are put together before one of them is asked: whether a digit is rounded up is chance,
-// and a jump that cannot be foreseen costs more than all of them.
-fn kept(w: u64, more: bool, drop: u32) -> u64
-    requires { ⌜ (0 < drop) × (drop < 12) ⌝ }
-    ensures { λ r. ⌜ r ≡ nearest (w / 2 ^ drop) (against (w % 2 ^ drop) (2 ^ drop) more) ⌝ }
-{
-    let unit = 1u64 << drop;
-    let q = w >> drop;
-    let low = (w - q * unit) * 2;
-    if (unit < low) | ((low == unit) & (more | (q % 2 == 1))) {
-        return q + 1;
-    }
-    q
-}
-
 // How many binary digits of w are dropped, so that 53 are left.
 fn surplus(w: u64) -> u32
     requires { ⌜ 2 ^ 53 ≤ w ⌝ }
@@ -198,7 +187,7 @@ fn rounded(neg: bool, w: u64, more: bool, x: u64) -> f64
     ensures { λ r. ⌜ RoundsTo neg w more x (toBits binary64 r) × RoundsNear neg w x (toBits binary64 r) ⌝ }
 {
     let drop = surplus(w);
-    let pattern = (x + drop as u64) * 0x10_0000_0000_0000 + kept(w, more, drop);
+    let pattern = (x + drop as u64) * 0x10_0000_0000_0000 + cut::rounded_off(w, more, drop);
     if neg {
         return f64::from_bits(0x8000_0000_0000_0000 + pattern);
     }
@@ -246,9 +235,9 @@ fn lowered_exactly(neg: bool, m: u64, k: usize) -> f64
     )
 }
 
-// 2^126 by 5^k as moved up, rounded down; for k = 0, where that is 2^64, one below it.
+// 2^(64 + e) by 5^k, rounded down, e being `halvings`; for k = 0, where that is 2^64, one below it.
 fn reciprocal(k: usize) -> u64
-    requires { ⌜ k ≤ reach ⌝ }
+    requires { ⌜ k ≤ far ⌝ }
     ensures { λ r. ⌜ Reciprocal k r ⌝ }
 {
     match k {
@@ -279,13 +268,50 @@ fn reciprocal(k: usize) -> u64
         24 => 11150372599265311570,
         25 => 17840596158824498513,
         26 => 14272476927059598810,
-        _ => 11417981541647679048,
+        27 => 11417981541647679048,
+        28 => 18268770466636286477,
+        29 => 14615016373309029182,
+        30 => 11692013098647223345,
+        31 => 9353610478917778676,
+        32 => 14965776766268445882,
+        33 => 11972621413014756705,
+        34 => 9578097130411805364,
+        35 => 15324955408658888583,
+        36 => 12259964326927110866,
+        37 => 9807971461541688693,
+        38 => 15692754338466701909,
+        39 => 12554203470773361527,
+        40 => 10043362776618689222,
+        41 => 16069380442589902755,
+        42 => 12855504354071922204,
+        43 => 10284403483257537763,
+        44 => 16455045573212060421,
+        45 => 13164036458569648337,
+        46 => 10531229166855718669,
+        47 => 16849966666969149871,
+        48 => 13479973333575319897,
+        49 => 10783978666860255917,
+        50 => 17254365866976409468,
+        51 => 13803492693581127574,
+        52 => 11042794154864902059,
+        53 => 17668470647783843295,
+        54 => 14134776518227074636,
+        55 => 11307821214581659709,
+        56 => 18092513943330655534,
+        57 => 14474011154664524427,
+        58 => 11579208923731619542,
+        59 => 9263367138985295633,
+        60 => 14821387422376473014,
+        61 => 11857109937901178411,
+        62 => 9485687950320942729,
+        63 => 15177100720513508366,
+        _ => 12141680576410806693,
     }
 }
 
 // The quotient: by the reciprocal, whose product is less than two too small, and where that leaves a doubt by long division.
 fn lowered_within(neg: bool, m: u64, k: usize) -> f64
-    requires { ⌜ (0 < m) × (k ≤ reach) ⌝ }
+    requires { ⌜ (0 < m) × (k ≤ far) ⌝ }
     ensures { λ r. ⌜ toBits binary64 r ≡ signed neg (near m (10 ^ k)) ⌝ }
 {
     let n = lift(m);
@@ -295,34 +321,37 @@ fn lowered_within(neg: bool, m: u64, k: usize) -> f64
             neg,
             p.high,
             false,
-            1012 + places(k) - n.by as u64 - k as u64,
+            1074 - halvings(k) - n.by as u64 - k as u64,
         );
+    }
+    if 27 < k {
+        return long::lowered(neg, m, k);
     }
     lowered_exactly(neg, m, k)
 }
 
 // The f64 nearest to m * 10^k, with its sign, which zero has too.
-pub fn raised(neg: bool, m: u64, k: usize) -> Wide
-    ensures { λ r. ⌜ WideTold r k (signed neg (near (m * 10 ^ k) 1)) ⌝ }
+pub fn raised(neg: bool, m: u64, k: usize) -> f64
+    ensures { λ r. ⌜ toBits binary64 r ≡ signed neg (near (m * 10 ^ k) 1) ⌝ }
 {
-    if 27 < k {
-        return Wide::Far;
-    }
     if m == 0 {
-        return Wide::Value(zero(neg));
+        return zero(neg);
     }
-    Wide::Value(raised_within(neg, m, k))
+    if 27 < k {
+        return long::raised(neg, m, k);
+    }
+    raised_within(neg, m, k)
 }
 
 // The f64 nearest to m / 10^k, with its sign, which zero has too.
-pub fn lowered(neg: bool, m: u64, k: usize) -> Wide
-    ensures { λ r. ⌜ WideTold r k (signed neg (near m (10 ^ k))) ⌝ }
+pub fn lowered(neg: bool, m: u64, k: usize) -> f64
+    ensures { λ r. ⌜ toBits binary64 r ≡ signed neg (near m (10 ^ k)) ⌝ }
 {
-    if 27 < k {
-        return Wide::Far;
-    }
     if m == 0 {
-        return Wide::Value(zero(neg));
+        return zero(neg);
     }
-    Wide::Value(lowered_within(neg, m, k))
+    if 64 < k {
+        return long::lowered(neg, m, k);
+    }
+    lowered_within(neg, m, k)
 }

@@ -5,14 +5,20 @@ use native.Mathlib.Omega.{arith}
 use borrow.Author.Needs.{needs}
 use lib.Pow.{pow-lt}
 use lib.Count.{leadingZeros}
-use Rattle.wide.specs.Cut.{sure}
-use Rattle.wide.specs.Pattern.{drops-two, sure-test, unit-four, unit-is, dropped-is, dropped-lt, kept-le}
+use Rattle.cut.specs.Cut.{sure}
+use Rattle.cut.specs.Rounding.{unit-is, dropped-is, dropped-lt, kept-le}
+use Rattle.cut.specs.Drops.{drops-two}
+use Rattle.wide.specs.Pattern.{sure-test, unit-four}
 use Rattle.wide.proofs.is_sure.Statement.{statement}
 use Rattle.wide.proofs.is_sure.Tie as tie
 
 -- fewer than twelve digits are dropped
 few : (z d : ℕ) → d ≡ 11 - z → d < 12
 few z d e = omega arith
+
+-- so the machine's unit is 2 ^ d
+unit-of : (z d : ℕ) → d ≡ 11 - z → 1 * 2 ^ d % 18446744073709551616 ≡ 2 ^ d
+unit-of z d e = unit-is d (omega arith)
 
 surplus-requires : tie.Need-surplus-requires
 surplus-requires c κs = let h = c .pre in omega arith
@@ -33,21 +39,21 @@ mul-low : tie.Need-mul-low
 mul-low c =
     let w = c .before .args .w in
     let d = c .surplus .result in
-    let h = kept-le w d _ (unit-is d (few (leadingZeros 64 w) d (c .surplus .ensures))) in
+    let h = kept-le w d _ (unit-of (leadingZeros 64 w) d (c .surplus .ensures)) in
     record { fits = omega (arith, h) }
 
 sub-low : tie.Need-sub-low
 sub-low c =
     let w = c .before .args .w in
     let d = c .surplus .result in
-    kept-le w d _ (unit-is d (few (leadingZeros 64 w) d (c .surplus .ensures)))
+    kept-le w d _ (unit-of (leadingZeros 64 w) d (c .surplus .ensures))
 
 add-result : tie.Need-add-result
 add-result c =
     let w = c .before .args .w in
     let d = c .surplus .result in
     let f = few (leadingZeros 64 w) d (c .surplus .ensures) in
-    let h = dropped-lt w d _ (unit-is d f) in
+    let h = dropped-lt w d _ (unit-of (leadingZeros 64 w) d (c .surplus .ensures)) in
     let s = pow-lt f in
     record { fits = omega (arith, h, s) }
 
@@ -56,7 +62,7 @@ mul-result c =
     let w = c .before .args .w in
     let d = c .surplus .result in
     let f = few (leadingZeros 64 w) d (c .surplus .ensures) in
-    let h = dropped-lt w d _ (unit-is d f) in
+    let h = dropped-lt w d _ (unit-of (leadingZeros 64 w) d (c .surplus .ensures)) in
     let s = pow-lt f in
     record { fits = omega (arith, h, s) }
 
@@ -65,8 +71,7 @@ returns c =
     let w = c .before .args .w in
     let d = c .surplus .result in
     let e = c .surplus .ensures in
-    let f = few (leadingZeros 64 w) d e in
-    let u = unit-is d f in
+    let u = unit-of (leadingZeros 64 w) d e in
     let four : 1 * 2 ^ d % 18446744073709551616 % 4 ≡ 0 = ap (λ (n : ℕ). n % 4) u ∙ unit-four (leadingZeros 64 w) d e (drops-two w (c .before .pre) (c .before .fits .w .fits)) in
     sure-test _ _ four
     ∙ ap (λ (n : ℕ). sure n (1 * 2 ^ d % 18446744073709551616)) (dropped-is w d _ u)

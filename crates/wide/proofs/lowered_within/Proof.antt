@@ -1,10 +1,10 @@
 -- `wide::lowered_within` meets its contract: by the reciprocal, and where that leaves a doubt by long division. Assumes nothing.
-use Prim.Native.Nat.{ℕ, _+_, _-_, _*_, _^_}
+use Prim.Native.Nat.{ℕ, _-_, _*_, _^_}
 use mathlib.Core.Path.{sym, _∙_, ap, subst}
 use native.Mathlib.Omega.{arith}
 use borrow.Author.Needs.{needs}
-use Rattle.wide.specs.Cut.{Within}
-use Rattle.wide.specs.Tens.{places-le, lowered-near, high-enough}
+use Rattle.cut.specs.Cut.{Within}
+use Rattle.wide.specs.Tens.{lowered-near, high-enough}
 use Rattle.wide.proofs.lowered_within.Statement.{statement}
 use Rattle.wide.proofs.lowered_within.Tie as tie
 
@@ -24,23 +24,20 @@ is-sure-requires c κs =
     let a = n .lift .ensures .1 in
     high-enough (c .multiply .result .high) (c .multiply .result .low) (n .lift .result .value) (r .reciprocal .result) (c .multiply .ensures .0) (c .multiply .ensures .1) (omega arith) (r .reciprocal .ensures .long)
 
-places-requires : tie.Need-places-requires
-places-requires c κs = search needs
-
-add-rounded : tie.Need-add-rounded
-add-rounded c =
-    let e = c .places .ensures in
-    let l = places-le (c .before .before .before .before .before .before .args .k) in
-    search needs
-
-cast-rounded : tie.Need-cast-rounded
-cast-rounded c = search needs
+halvings-requires : tie.Need-halvings-requires
+halvings-requires c κs = search needs
 
 sub-rounded : tie.Need-sub-rounded
 sub-rounded c = search needs
 
+cast-rounded : tie.Need-cast-rounded
+cast-rounded c = search needs
+
 sub-rounded-2 : tie.Need-sub-rounded-2
 sub-rounded-2 c = search needs
+
+sub-rounded-3 : tie.Need-sub-rounded-3
+sub-rounded-3 c = search needs
 
 rounded-requires : tie.Need-rounded-requires
 rounded-requires c κs =
@@ -48,8 +45,6 @@ rounded-requires c κs =
     let r = p .before in
     let n = r .before in
     let a = n .lift .ensures .1 in
-    let e = c .before .places .ensures in
-    let l = places-le (n .before .args .k) in
     let g = high-enough (p .multiply .result .high) (p .multiply .result .low) (n .lift .result .value) (r .reciprocal .result) (p .multiply .ensures .0) (p .multiply .ensures .1) (omega arith) (r .reciprocal .ensures .long) in
     (omega arith, omega arith)
 
@@ -64,13 +59,19 @@ returns c =
     let h = n .lift .ensures .2 in
     let there = lowered-near (a .m) (a .k) (n .lift .result .by) (r .reciprocal .result) (p .multiply .result .high) (p .multiply .result .low) (p .multiply .ensures .0 ∙ ap (λ (x : ℕ). x * r .reciprocal .result) v) (p .multiply .ensures .1) (omega arith) (r .reciprocal .ensures) (n .before .pre .1) (n .lift .ensures .3) in
     c .rounded .ensures .1 (sym (s .is-sure .ensures) ∙ c .before .before .before .if1 .taken) (a .m) (10 ^ a .k)
-    (subst (λ (b : ℕ). Within (a .m) (10 ^ a .k) (p .multiply .result .high) (1012 + b - n .lift .result .by - a .k)) (sym (c .before .before .places .ensures)) there)
+    (subst (λ (b : ℕ). Within (a .m) (10 ^ a .k) (p .multiply .result .high) (1074 - b - n .lift .result .by - a .k)) (sym (c .before .before .halvings .ensures)) there)
 
-lowered-exactly-requires : tie.Need-lowered-exactly-requires
-lowered-exactly-requires c κs = search needs
+lowered-requires : tie.Need-lowered-requires
+lowered-requires c κs = search needs
 
 returns-2 : tie.Need-returns-2
 returns-2 c = search needs
 
+lowered-exactly-requires : tie.Need-lowered-exactly-requires
+lowered-exactly-requires c κs = search needs
+
+returns-3 : tie.Need-returns-3
+returns-3 c = search needs
+
 pub lowered-within-spec : {M : Type 1} → statement M
-lowered-within-spec = tie.close (tie.spec lift-requires reciprocal-requires multiply-requires is-sure-requires places-requires add-rounded cast-rounded sub-rounded sub-rounded-2 rounded-requires returns lowered-exactly-requires returns-2)
+lowered-within-spec = tie.close (tie.spec lift-requires reciprocal-requires multiply-requires is-sure-requires halvings-requires sub-rounded cast-rounded sub-rounded-2 sub-rounded-3 rounded-requires returns lowered-requires returns-2 lowered-exactly-requires returns-3)

@@ -1,17 +1,19 @@
 -- `wide::places` meets its contract: the sum was tried at each k. Assumes nothing.
+use mathlib.Core.Path.{_∙_, ap}
+use Prim.Native.Nat.{ℕ, _-_}
 use borrow.Author.Needs.{needs}
 use Rattle.wide.specs.Tens.{places-is}
 use Rattle.wide.proofs.places.Statement.{statement}
 use Rattle.wide.proofs.places.Tie as tie
 
-mul-result : tie.Need-mul-result
-mul-result c = search needs
+halvings-requires : tie.Need-halvings-requires
+halvings-requires c κs = search needs
 
 sub-result : tie.Need-sub-result
-sub-result c = search needs
+sub-result c = let e = c .halvings .ensures in search needs
 
 returns : tie.Need-returns
-returns c = places-is (c .args .k) (c .pre)
+returns c = ap (λ (n : ℕ). 62 - n) (c .halvings .ensures) ∙ places-is (c .before .args .k) (c .before .pre)
 
 pub places-spec : {M : Type 1} → statement M
-places-spec = tie.close (tie.spec mul-result sub-result returns)
+places-spec = tie.close (tie.spec halvings-requires sub-result returns)

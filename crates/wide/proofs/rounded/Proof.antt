@@ -7,7 +7,8 @@ use native.Mathlib.Omega.{arith}
 use borrow.Author.Needs.{needs}
 use Rattle.nearest.specs.Near.{near}
 use Rattle.nearest.specs.Round.{signed}
-use Rattle.wide.specs.Pattern.{drops, made-lt, made-near, made-sure, no-nan, no-nan-minus, bits-back}
+use Rattle.cut.specs.Bits.{no-nan, no-nan-minus, bits-back}
+use Rattle.wide.specs.Pattern.{made-le, made-near, made-sure}
 use Rattle.wide.proofs.rounded.Statement.{statement}
 use Rattle.wide.proofs.rounded.Tie as tie
 
@@ -23,19 +24,15 @@ add-pattern c = let e = c .surplus .ensures in search needs
 mul-pattern : tie.Need-mul-pattern
 mul-pattern c = let e = c .surplus .ensures in search needs
 
-kept-requires : tie.Need-kept-requires
-kept-requires c κs =
-    let s = c .before in
-    let e = c .surplus .ensures in
-    let h = drops (s .args .w) (s .pre .0) (s .fits .w .fits) .0 in
-    (omega arith, omega arith)
+rounded-off-requires : tie.Need-rounded-off-requires
+rounded-off-requires c κs = search needs
 
 add-pattern-2 : tie.Need-add-pattern-2
 add-pattern-2 c =
     let k = c in
     let u = c .before in
     let s = u .before in
-    let h = made-lt (s .args .w) (s .args .more) (s .args .x) (k .kept .result) (u .surplus .result) (s .pre .0) (s .fits .w .fits) (s .pre .1) (u .surplus .ensures) (k .kept .ensures) in
+    let h = made-le (s .args .w) (s .args .more) (s .args .x) (k .rounded-off .result) (u .surplus .result) (s .pre .0) (s .fits .w .fits) (s .pre .1) (u .surplus .ensures) (k .rounded-off .ensures) in
     record { fits = omega (arith, h) }
 
 add-result : tie.Need-add-result
@@ -43,7 +40,7 @@ add-result c =
     let k = c .before in
     let u = k .before in
     let s = u .before in
-    let h = made-lt (s .args .w) (s .args .more) (s .args .x) (k .kept .result) (u .surplus .result) (s .pre .0) (s .fits .w .fits) (s .pre .1) (u .surplus .ensures) (k .kept .ensures) in
+    let h = made-le (s .args .w) (s .args .more) (s .args .x) (k .rounded-off .result) (u .surplus .result) (s .pre .0) (s .fits .w .fits) (s .pre .1) (u .surplus .ensures) (k .rounded-off .ensures) in
     record { fits = omega (arith, h) }
 
 float-from-bits-result : tie.Need-float-from-bits-result
@@ -51,18 +48,18 @@ float-from-bits-result c =
     let k = c .before in
     let u = k .before in
     let s = u .before in
-    no-nan-minus _ (made-lt (s .args .w) (s .args .more) (s .args .x) (k .kept .result) (u .surplus .result) (s .pre .0) (s .fits .w .fits) (s .pre .1) (u .surplus .ensures) (k .kept .ensures))
+    no-nan-minus _ (made-le (s .args .w) (s .args .more) (s .args .x) (k .rounded-off .result) (u .surplus .result) (s .pre .0) (s .fits .w .fits) (s .pre .1) (u .surplus .ensures) (k .rounded-off .ensures))
 
 returns : tie.Need-returns
 returns c =
     let k = c .before in
     let u = k .before in
     let s = u .before in
-    let h = made-lt (s .args .w) (s .args .more) (s .args .x) (k .kept .result) (u .surplus .result) (s .pre .0) (s .fits .w .fits) (s .pre .1) (u .surplus .ensures) (k .kept .ensures) in
+    let h = made-le (s .args .w) (s .args .more) (s .args .x) (k .rounded-off .result) (u .surplus .result) (s .pre .0) (s .fits .w .fits) (s .pre .1) (u .surplus .ensures) (k .rounded-off .ensures) in
     let b = bits-back _ (omega arith) (no-nan-minus _ h) in
     let minus : (num den : ℕ) → signed true (near num den) ≡ signed (s .args .neg) (near num den) = λ num den. ap (λ (n : Bool). signed n (near num den)) (sym (c .if1 .taken)) in (
-      λ num den cut. b ∙ ap (λ (n : ℕ). 9223372036854775808 + n) (made-near (s .args .w) (s .args .more) (s .args .x) (k .kept .result) (u .surplus .result) (s .pre .0) (s .fits .w .fits) (s .pre .1) (u .surplus .ensures) (k .kept .ensures) num den cut) ∙ minus num den,
-      λ t num den cut. b ∙ ap (λ (n : ℕ). 9223372036854775808 + n) (made-sure (s .args .w) (s .args .more) (s .args .x) (k .kept .result) (u .surplus .result) (s .pre .0) (s .fits .w .fits) (s .pre .1) (u .surplus .ensures) (k .kept .ensures) t num den cut) ∙ minus num den,
+      λ num den cut. b ∙ ap (λ (n : ℕ). 9223372036854775808 + n) (made-near (s .args .w) (s .args .more) (s .args .x) (k .rounded-off .result) (u .surplus .result) (s .pre .0) (s .fits .w .fits) (s .pre .1) (u .surplus .ensures) (k .rounded-off .ensures) num den cut) ∙ minus num den,
+      λ t num den cut. b ∙ ap (λ (n : ℕ). 9223372036854775808 + n) (made-sure (s .args .w) (s .args .more) (s .args .x) (k .rounded-off .result) (u .surplus .result) (s .pre .0) (s .fits .w .fits) (s .pre .1) (u .surplus .ensures) (k .rounded-off .ensures) t num den cut) ∙ minus num den,
     )
 
 float-from-bits-result-2 : tie.Need-float-from-bits-result-2
@@ -70,19 +67,19 @@ float-from-bits-result-2 c =
     let k = c .before in
     let u = k .before in
     let s = u .before in
-    no-nan _ (made-lt (s .args .w) (s .args .more) (s .args .x) (k .kept .result) (u .surplus .result) (s .pre .0) (s .fits .w .fits) (s .pre .1) (u .surplus .ensures) (k .kept .ensures))
+    no-nan _ (made-le (s .args .w) (s .args .more) (s .args .x) (k .rounded-off .result) (u .surplus .result) (s .pre .0) (s .fits .w .fits) (s .pre .1) (u .surplus .ensures) (k .rounded-off .ensures))
 
 returns-2 : tie.Need-returns-2
 returns-2 c =
     let k = c .before in
     let u = k .before in
     let s = u .before in
-    let h = made-lt (s .args .w) (s .args .more) (s .args .x) (k .kept .result) (u .surplus .result) (s .pre .0) (s .fits .w .fits) (s .pre .1) (u .surplus .ensures) (k .kept .ensures) in
+    let h = made-le (s .args .w) (s .args .more) (s .args .x) (k .rounded-off .result) (u .surplus .result) (s .pre .0) (s .fits .w .fits) (s .pre .1) (u .surplus .ensures) (k .rounded-off .ensures) in
     let b = bits-back _ (omega arith) (no-nan _ h) in
     let plain : (num den : ℕ) → near num den ≡ signed (s .args .neg) (near num den) = λ num den. sym (zero-add (near num den)) ∙ ap (λ (n : Bool). signed n (near num den)) (sym (c .if1 .left)) in (
-      λ num den cut. b ∙ made-near (s .args .w) (s .args .more) (s .args .x) (k .kept .result) (u .surplus .result) (s .pre .0) (s .fits .w .fits) (s .pre .1) (u .surplus .ensures) (k .kept .ensures) num den cut ∙ plain num den,
-      λ t num den cut. b ∙ made-sure (s .args .w) (s .args .more) (s .args .x) (k .kept .result) (u .surplus .result) (s .pre .0) (s .fits .w .fits) (s .pre .1) (u .surplus .ensures) (k .kept .ensures) t num den cut ∙ plain num den,
+      λ num den cut. b ∙ made-near (s .args .w) (s .args .more) (s .args .x) (k .rounded-off .result) (u .surplus .result) (s .pre .0) (s .fits .w .fits) (s .pre .1) (u .surplus .ensures) (k .rounded-off .ensures) num den cut ∙ plain num den,
+      λ t num den cut. b ∙ made-sure (s .args .w) (s .args .more) (s .args .x) (k .rounded-off .result) (u .surplus .result) (s .pre .0) (s .fits .w .fits) (s .pre .1) (u .surplus .ensures) (k .rounded-off .ensures) t num den cut ∙ plain num den,
     )
 
 pub rounded-spec : {M : Type 1} → statement M
-rounded-spec = tie.close (tie.spec surplus-requires cast-pattern add-pattern mul-pattern kept-requires add-pattern-2 add-result float-from-bits-result returns float-from-bits-result-2 returns-2)
+rounded-spec = tie.close (tie.spec surplus-requires cast-pattern add-pattern mul-pattern rounded-off-requires add-pattern-2 add-result float-from-bits-result returns float-from-bits-result-2 returns-2)

@@ -1,7 +1,7 @@
 -- `wide::surplus` meets its contract: w has 54 digits or more. Assumes nothing.
 use native.Mathlib.Omega.{arith}
 use borrow.Author.Needs.{needs}
-use Rattle.wide.specs.Pattern.{drops}
+use Rattle.cut.specs.Drops.{drops}
 use Rattle.wide.proofs.surplus.Statement.{statement}
 use Rattle.wide.proofs.surplus.Tie as tie
 

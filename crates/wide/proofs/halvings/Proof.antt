@@ -1,0 +1,14 @@
+-- `wide::halvings` meets its contract. Assumes nothing.
+use mathlib.Core.Path.{refl}
+use borrow.Author.Needs.{needs}
+use Rattle.wide.proofs.halvings.Statement.{statement}
+use Rattle.wide.proofs.halvings.Tie as tie
+
+mul-result : tie.Need-mul-result
+mul-result c = search needs
+
+returns : tie.Need-returns
+returns c = refl
+
+pub halvings-spec : {M : Type 1} → statement M
+halvings-spec = tie.close (tie.spec mul-result returns)
