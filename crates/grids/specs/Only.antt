@@ -24,7 +24,7 @@ unfolding nextOf
 next-back (next.Count r n t) = refl
 next-back (next.Refused f t) = ap (λ f. next.Refused f t) (faultOf-told f)
 
--- `next_ref_grid`, `next_f64_grid`
+-- `next_ref_grid`, `next_f64_grid`, `next_real_grid`
 pub next-grid-only : (a b : NextGrid) → toldNextGrid a ≡ toldNextGrid b → a ≡ b
 next-grid-only a b e = sym (next-back a) ∙ ap (λ (r : Read Size). nextOf (r .answer) (r .place) (r .end)) e ∙ next-back b
 

@@ -9,7 +9,7 @@ ghost use mathlib.Core.List.{map};
 ghost use lib.ListN.{length};
 ghost use lib.Ieee.{binary64, toBits};
 ghost use Rattle.params.specs.Reader.{reading};
-ghost use Rattle.reals.specs.Scalar.{referenceOf, realOf};
+ghost use Rattle.reals.specs.Scalar.{referenceOf, realOf, realBy};
 ghost use Rattle.lists.specs.Items.{fated, asFate, itemsFrom, listBy, listOf, roomed, moved, nextBy, valuesOf, filled, written};
 ghost use Rattle.lists.specs.Laws.{tally};
 ghost use Rattle.grids.specs.Grid.{size, flat, endsFrom, gridOf, gridFits, sizeFits, howLarge, sizeTold, numbersOf, endsOf, addRow, rowOf, toldTally, toldReadGrid, reachedIn, toldNextGrid, GridReady};
@@ -20,6 +20,7 @@ use lists::ReadList;
 use lists::Shape;
 use params::Cut;
 use params::State;
+use reals::Reals;
 
 // How many rows and numbers there are, or how far into the text the first bad row or item is: 12, or 13.
 pub enum Tally {
@@ -188,10 +189,10 @@ pub fn next_ref_grid(file: &[u8], at: State, out: &mut [u32], ends: &mut [usize]
 }
 
 // Writes the reals of a grid's inside that all read, and the ends of its rows.
-fn fill_real_rows(b: &[u8], out: &mut [f64], ends: &mut [usize])
-    requires { ⌜ GridReady (itemsFrom (suc (length (now b))) (listOf realOf) 0 (now b)) (length (now out)) (length (now ends)) ⌝ }
-    ensures { λ _. ⌜ map (toBits binary64) (now (out .exit)) ≡ filled (flat (valuesOf (itemsFrom (suc (length (now (b .entry)))) (listOf realOf) 0 (now (b .entry))))) (map (toBits binary64) (now (out .entry))) ⌝ }
-    ensures { λ _. ⌜ now (ends .exit) ≡ filled (endsFrom 0 (valuesOf (itemsFrom (suc (length (now (b .entry)))) (listOf realOf) 0 (now (b .entry))))) (now (ends .entry)) ⌝ }
+fn fill_real_rows(which: Reals, b: &[u8], out: &mut [f64], ends: &mut [usize])
+    requires { ⌜ GridReady (itemsFrom (suc (length (now b))) (listOf (realBy which)) 0 (now b)) (length (now out)) (length (now ends)) ⌝ }
+    ensures { λ _. ⌜ map (toBits binary64) (now (out .exit)) ≡ filled (flat (valuesOf (itemsFrom (suc (length (now (b .entry)))) (listOf (realBy which)) 0 (now (b .entry))))) (map (toBits binary64) (now (out .entry))) ⌝ }
+    ensures { λ _. ⌜ now (ends .exit) ≡ filled (endsFrom 0 (valuesOf (itemsFrom (suc (length (now (b .entry)))) (listOf (realBy which)) 0 (now (b .entry))))) (now (ends .entry)) ⌝ }
 {
     let mut i: usize = 0;
     let mut rows: usize = 0;
@@ -201,7 +202,7 @@ fn fill_real_rows(b: &[u8], out: &mut [f64], ends: &mut [usize])
         let start = w.start;
         let stop = w.stop;
         let bound = w.bound;
-        let ReadList::Count(k) = lists::read_reals(&b[start..stop], &mut out[reals..]) else {
+        let ReadList::Count(k) = lists::read_reals(which, &b[start..stop], &mut out[reals..]) else {
             return;
         };
         reals += k;
@@ -215,47 +216,62 @@ fn fill_real_rows(b: &[u8], out: &mut [f64], ends: &mut [usize])
 }
 
 // Writes the reals of a grid that all read, and the ends of its rows.
-fn fill_real_grid(t: &[u8], out: &mut [f64], ends: &mut [usize])
-    requires { ⌜ GridReady (gridOf realOf (now t)) (length (now out)) (length (now ends)) ⌝ }
-    ensures { λ _. ⌜ map (toBits binary64) (now (out .exit)) ≡ filled (flat (valuesOf (gridOf realOf (now (t .entry))))) (map (toBits binary64) (now (out .entry))) ⌝ }
-    ensures { λ _. ⌜ now (ends .exit) ≡ filled (endsFrom 0 (valuesOf (gridOf realOf (now (t .entry))))) (now (ends .entry)) ⌝ }
+fn fill_real_grid(which: Reals, t: &[u8], out: &mut [f64], ends: &mut [usize])
+    requires { ⌜ GridReady (gridOf (realBy which) (now t)) (length (now out)) (length (now ends)) ⌝ }
+    ensures { λ _. ⌜ map (toBits binary64) (now (out .exit)) ≡ filled (flat (valuesOf (gridOf (realBy which) (now (t .entry))))) (map (toBits binary64) (now (out .entry))) ⌝ }
+    ensures { λ _. ⌜ now (ends .exit) ≡ filled (endsFrom 0 (valuesOf (gridOf (realBy which) (now (t .entry))))) (now (ends .entry)) ⌝ }
 {
     match lists::shape_of(t) {
         Shape::NotList => {}
         Shape::Blank => {}
         Shape::Full => {
             let n = t.len();
-            fill_real_rows(&t[1..n - 1], out, ends)
+            fill_real_rows(which, &t[1..n - 1], out, ends)
         }
     }
 }
 
 // Reads the text of a grid of reals into lent numbers and row ends.
-fn read_real_grid(t: &[u8], out: &mut [f64], ends: &mut [usize]) -> ReadGrid
-    ensures { λ r. ⌜ toldReadGrid r ≡ sizeTold (roomed (gridFits (length (now (out .entry))) (length (now (ends .entry)))) 0 (gridOf realOf (now (t .entry)))) ⌝ }
-    ensures { λ r. ⌜ map (toBits binary64) (now (out .exit)) ≡ written (numbersOf (roomed (gridFits (length (now (out .entry))) (length (now (ends .entry)))) 0 (gridOf realOf (now (t .entry))))) (map (toBits binary64) (now (out .entry))) ⌝ }
-    ensures { λ r. ⌜ now (ends .exit) ≡ written (endsOf (roomed (gridFits (length (now (out .entry))) (length (now (ends .entry)))) 0 (gridOf realOf (now (t .entry))))) (now (ends .entry)) ⌝ }
+fn read_real_grid(which: Reals, t: &[u8], out: &mut [f64], ends: &mut [usize]) -> ReadGrid
+    ensures { λ r. ⌜ toldReadGrid r ≡ sizeTold (roomed (gridFits (length (now (out .entry))) (length (now (ends .entry)))) 0 (gridOf (realBy which) (now (t .entry)))) ⌝ }
+    ensures { λ r. ⌜ map (toBits binary64) (now (out .exit)) ≡ written (numbersOf (roomed (gridFits (length (now (out .entry))) (length (now (ends .entry)))) 0 (gridOf (realBy which) (now (t .entry))))) (map (toBits binary64) (now (out .entry))) ⌝ }
+    ensures { λ r. ⌜ now (ends .exit) ≡ written (endsOf (roomed (gridFits (length (now (out .entry))) (length (now (ends .entry)))) 0 (gridOf (realBy which) (now (t .entry))))) (now (ends .entry)) ⌝ }
 {
-    let r = room_for(t, Kind::Floats, out.len(), ends.len());
+    let r = room_for(t, Kind::Floats(which), out.len(), ends.len());
     let ReadGrid::Count(_, _) = r else {
         return r;
     };
-    fill_real_grid(t, out, ends);
+    fill_real_grid(which, t, out, ends);
     r
 }
 
-// Reads a grid of reals into lent numbers and row ends.
+// Reads a grid of reals, of the class or any, into lent numbers and row ends.
+pub fn next_real_grid(
+    which: Reals,
+    file: &[u8],
+    at: State,
+    out: &mut [f64],
+    ends: &mut [usize],
+) -> NextGrid
+    ensures { λ r. ⌜ toldNextGrid r ≡ howLarge (nextBy (gridOf (realBy which)) (gridFits (length (now (out .entry))) (length (now (ends .entry)))) (now (file .entry)) (at .place) (at .end)) ⌝ }
+    ensures { λ r. ⌜ map (toBits binary64) (now (out .exit)) ≡ written (numbersOf (nextBy (gridOf (realBy which)) (gridFits (length (now (out .entry))) (length (now (ends .entry)))) (now (file .entry)) (at .place) (at .end) .answer)) (map (toBits binary64) (now (out .entry))) ⌝ }
+    ensures { λ r. ⌜ now (ends .exit) ≡ written (endsOf (nextBy (gridOf (realBy which)) (gridFits (length (now (out .entry))) (length (now (ends .entry)))) (now (file .entry)) (at .place) (at .end) .answer)) (now (ends .entry)) ⌝ }
+{
+    match params::param_span(file, at) {
+        Cut::Refused(f, to) => NextGrid::Refused(f, to),
+        Cut::Span(start, stop, to) => answer_of(
+            read_real_grid(which, &file[start..stop], out, ends),
+            start,
+            to,
+        ),
+    }
+}
+
+// Reads a grid of reals of the class into lent numbers and row ends.
 pub fn next_f64_grid(file: &[u8], at: State, out: &mut [f64], ends: &mut [usize]) -> NextGrid
     ensures { λ r. ⌜ toldNextGrid r ≡ howLarge (nextBy (gridOf realOf) (gridFits (length (now (out .entry))) (length (now (ends .entry)))) (now (file .entry)) (at .place) (at .end)) ⌝ }
     ensures { λ r. ⌜ map (toBits binary64) (now (out .exit)) ≡ written (numbersOf (nextBy (gridOf realOf) (gridFits (length (now (out .entry))) (length (now (ends .entry)))) (now (file .entry)) (at .place) (at .end) .answer)) (map (toBits binary64) (now (out .entry))) ⌝ }
     ensures { λ r. ⌜ now (ends .exit) ≡ written (endsOf (nextBy (gridOf realOf) (gridFits (length (now (out .entry))) (length (now (ends .entry)))) (now (file .entry)) (at .place) (at .end) .answer)) (now (ends .entry)) ⌝ }
 {
-    match params::param_span(file, at) {
-        Cut::Refused(f, to) => NextGrid::Refused(f, to),
-        Cut::Span(start, stop, to) => answer_of(
-            read_real_grid(&file[start..stop], out, ends),
-            start,
-            to,
-        ),
-    }
+    next_real_grid(Reals::Class, file, at, out, ends)
 }

@@ -11,7 +11,7 @@ use Rattle.error.specs.Refusal.{refusal, Told, good, bad, told}
 use Rattle.lex.specs.Byte.{pick, white}
 use Rattle.record.specs.Text.{before, past}
 use Rattle.record.specs.Word.{trimmed}
-use Rattle.reals.specs.Scalar.{Answer, read, refused, referenceOf, wholeOf, realOf}
+use Rattle.reals.specs.Scalar.{Answer, read, refused, referenceOf, wholeOf, realBy}
 use Rattle.params.specs.Cut.{Cut, cut, unclosed, cutOf}
 use Rattle.params.specs.Reader.{Read, reading, onward, mapped, paramOf}
 use Rattle.lists.specs.declared.Item.{Item}
@@ -192,7 +192,7 @@ mute a = fated (λ x. tt) a
 abbrev pub kindOf : Kind → List ℕ → Fate (Unit {0})
 kindOf KindCode.the-variants.References t = mute (asFate (referenceOf t))
 kindOf KindCode.the-variants.Integers t = mute (asFate (wholeOf t))
-kindOf KindCode.the-variants.Floats t = mute (asFate (realOf t))
+kindOf (KindCode.the-variants.Floats which) t = mute (asFate (realBy which t))
 kindOf KindCode.the-variants.Any t = fine tt
 
 -- what the readers of a list's text answer: places are told from the text's start, and so 16 is at 0

@@ -8,3 +8,4 @@ pub mod Places
 pub mod Only
 pub mod Keep
 pub mod Any
+pub mod AnyReal

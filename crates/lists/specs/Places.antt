@@ -15,7 +15,7 @@ use Rattle.lex.specs.declared.Mode.{Mode}
 use Rattle.lex.specs.declared.Mode.the-variants.{Plain, Slash, Text, Quoted, Remark, Starred}
 use Rattle.record.specs.Text.{before, past, trail}
 use Rattle.record.specs.Word.{trimmed}
-use Rattle.reals.specs.Scalar.{Answer, read, refused, referenceOf, wholeOf, realOf}
+use Rattle.reals.specs.Scalar.{Answer, read, refused, referenceOf, wholeOf, realBy}
 use Rattle.params.specs.Cut.{Cut, cut, unclosed, Stand, outside, settled, passed, cutTurn, over, cutEnd, cutOf, started}
 use Rattle.params.specs.Reader.{reading, Span, span, inFile, bounded, begun, onward, paramOf}
 use Rattle.lists.specs.declared.Kind.{Kind}
@@ -63,7 +63,7 @@ told-place h (faulty l p) n o m e k = let q : o ≡ p = cc in omega arith
 pub kind-inward : (kind : Kind) → Inward (kindOf kind)
 kind-inward References = told-inward (λ a. tt) (λ u. asFate (referenceOf u)) (scalar-inward referenceOf)
 kind-inward Integers = told-inward (λ a. tt) (λ u. asFate (wholeOf u)) (scalar-inward wholeOf)
-kind-inward Floats = told-inward (λ a. tt) (λ u. asFate (realOf u)) (scalar-inward realOf)
+kind-inward (Floats which) = told-inward (λ a. tt) (λ u. asFate (realBy which u)) (scalar-inward (realBy which))
 kind-inward Any = λ t. omega arith
 
 -- past bytes of a kind no more is left

@@ -20,9 +20,9 @@ use Rattle.record.specs.Word.{trimmed}
 use Rattle.record.specs.Form.{All, NotFirst, Skipped, Trimmed, bytes}
 use Rattle.record.specs.FormRight.{past-is, past-only, trimmed-is, trimmed-only}
 use Rattle.record.specs.FormRight.Parts.{first-part, all-join, last-none, Tailed, tail-split}
-use Rattle.reals.specs.Scalar.{Answer, read, refused, referenceOf, wholeOf, realOf}
-use Rattle.reals.specs.Form.{RealForm, WholeForm, ReferenceForm}
-use Rattle.reals.specs.FormRight.{real-is, real-only}
+use Rattle.reals.specs.Scalar.{Answer, read, refused, referenceOf, wholeOf, realOf, anyRealOf}
+use Rattle.reals.specs.Form.{RealForm, AnyForm, WholeForm, ReferenceForm}
+use Rattle.reals.specs.FormRight.{real-is, real-only, any-is, any-only}
 use Rattle.reals.specs.WholeRight.{whole-is, whole-only, reference-is, reference-only}
 use Rattle.params.specs.Grammar.{Bound}
 use Rattle.params.specs.Cut.{Cut, cut, unclosed, cutOf}
@@ -346,6 +346,38 @@ reals-are = list-is RealForm realOf real-is
 -- and nothing else
 pub reals-only : {t : List ℕ} {a : Fate (List ℕ)} → Listed (Scalar RealForm) t a → a ≡ listOf realOf t
 reals-only = list-only RealForm realOf (λ t a. real-only)
+
+-- a list of any reals
+pub any-reals-are : (t : List ℕ) → Listed (Scalar AnyForm) t (listOf anyRealOf t)
+any-reals-are = list-is AnyForm anyRealOf any-is
+
+-- and nothing else
+pub any-reals-only : {t : List ℕ} {a : Fate (List ℕ)} → Listed (Scalar AnyForm) t a → a ≡ listOf anyRealOf t
+any-reals-only = list-only AnyForm anyRealOf (λ t a. any-only)
+
+-- a grid of references
+pub reference-grid-is : (t : List ℕ) → Listed (Listed (Scalar ReferenceForm)) t (listBy (listOf referenceOf) t)
+reference-grid-is = grid-is ReferenceForm referenceOf reference-is
+
+-- and nothing else
+pub reference-grid-only : {t : List ℕ} {a : Fate (List (List ℕ))} → Listed (Listed (Scalar ReferenceForm)) t a → a ≡ listBy (listOf referenceOf) t
+reference-grid-only = grid-only ReferenceForm referenceOf (λ t a. reference-only)
+
+-- a grid of the class's reals
+pub real-grid-is : (t : List ℕ) → Listed (Listed (Scalar RealForm)) t (listBy (listOf realOf) t)
+real-grid-is = grid-is RealForm realOf real-is
+
+-- and nothing else
+pub real-grid-only : {t : List ℕ} {a : Fate (List (List ℕ))} → Listed (Listed (Scalar RealForm)) t a → a ≡ listBy (listOf realOf) t
+real-grid-only = grid-only RealForm realOf (λ t a. real-only)
+
+-- a grid of any reals
+pub any-grid-is : (t : List ℕ) → Listed (Listed (Scalar AnyForm)) t (listBy (listOf anyRealOf) t)
+any-grid-is = grid-is AnyForm anyRealOf any-is
+
+-- and nothing else
+pub any-grid-only : {t : List ℕ} {a : Fate (List (List ℕ))} → Listed (Listed (Scalar AnyForm)) t a → a ≡ listBy (listOf anyRealOf) t
+any-grid-only = grid-only AnyForm anyRealOf (λ t a. any-only)
 
 -- ---- where the reader of lists and grids stands after an answer
 module _ {A : Type 0} (g : List ℕ → Fate A) (fits : A → Bool) (s : List ℕ) (p e : ℕ) where

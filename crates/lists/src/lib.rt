@@ -12,13 +12,14 @@ ghost use mathlib.Core.List.{_++_, map};
 ghost use lib.ListN.{length, take, drop, set};
 ghost use lib.Ieee.{binary64, toBits};
 ghost use Rattle.params.specs.Reader.{reading};
-ghost use Rattle.reals.specs.Scalar.{referenceOf, wholeOf, realOf};
+ghost use Rattle.reals.specs.Scalar.{referenceOf, wholeOf, realOf, realBy};
 ghost use Rattle.lists.specs.Items.{roomed, moved, countOf, reached, toldReadList, itemEnd, ItemAt, toldVerdict, CountedIn, ShapeAt, toldCounted, fated, kindOf, asFate, itemsFrom, listBy, listOf, Ready, valuesOf, filled, Kept, Held, nextBy, fitsIn, howMany, written, toldNextList};
 use error::Fault;
 use params::Cut;
 use params::Ended;
 use params::State;
 use reals::Real;
+use reals::Reals;
 use reals::Reference;
 use reals::Whole;
 
@@ -36,11 +37,11 @@ pub enum Shape {
     Full,
 }
 
-// What the items of a list are to be: anything, where they are only counted.
+// What the items of a list are to be. `Any` is no reading of reals, as `Reals::Any` is: anything is such an item, and items are only counted.
 pub enum Kind {
     References,
     Integers,
-    Floats,
+    Floats(Reals),
     Any,
 }
 
@@ -131,7 +132,7 @@ fn verdict_of(kind: Kind, t: &[u8]) -> Verdict
             Whole::Value(_) => Verdict::Reads,
             Whole::NotWhole => Verdict::Wrong,
         },
-        Kind::Floats => match reals::parse_real(t) {
+        Kind::Floats(which) => match reals::read_real(which, t) {
             Real::Value(_) => Verdict::Reads,
             Real::Outside => Verdict::Outside,
             Real::NotReal => Verdict::Wrong,
@@ -343,10 +344,10 @@ pub fn next_i64_list(file: &[u8], at: State, out: &mut [i64]) -> NextList
 }
 
 // Writes the reals of a list's inside that all read.
-fn fill_real_items(b: &[u8], out: &mut [f64]) -> usize
-    requires { ⌜ Ready (itemsFrom (suc (length (now b))) (λ u. asFate (realOf u)) 0 (now b)) (length (now out)) ⌝ }
-    ensures { λ r. ⌜ map (toBits binary64) (now (out .exit)) ≡ filled (valuesOf (itemsFrom (suc (length (now (b .entry)))) (λ u. asFate (realOf u)) 0 (now (b .entry)))) (map (toBits binary64) (now (out .entry))) ⌝ }
-    ensures { λ r. ⌜ r ≡ length (valuesOf (itemsFrom (suc (length (now (b .entry)))) (λ u. asFate (realOf u)) 0 (now (b .entry)))) ⌝ }
+fn fill_real_items(which: Reals, b: &[u8], out: &mut [f64]) -> usize
+    requires { ⌜ Ready (itemsFrom (suc (length (now b))) (λ u. asFate (realBy which u)) 0 (now b)) (length (now out)) ⌝ }
+    ensures { λ r. ⌜ map (toBits binary64) (now (out .exit)) ≡ filled (valuesOf (itemsFrom (suc (length (now (b .entry)))) (λ u. asFate (realBy which u)) 0 (now (b .entry)))) (map (toBits binary64) (now (out .entry))) ⌝ }
+    ensures { λ r. ⌜ r ≡ length (valuesOf (itemsFrom (suc (length (now (b .entry)))) (λ u. asFate (realBy which u)) 0 (now (b .entry)))) ⌝ }
 {
     let mut i: usize = 0;
     let mut n: usize = 0;
@@ -355,7 +356,7 @@ fn fill_real_items(b: &[u8], out: &mut [f64]) -> usize
         let start = w.start;
         let stop = w.stop;
         let bound = w.bound;
-        let Real::Value(v) = reals::parse_real(&b[start..stop]) else {
+        let Real::Value(v) = reals::read_real(which, &b[start..stop]) else {
             return n;
         };
         out[n] = v;
@@ -368,17 +369,17 @@ fn fill_real_items(b: &[u8], out: &mut [f64]) -> usize
 }
 
 // Writes the reals of a list that all read.
-fn fill_reals(t: &[u8], out: &mut [f64]) -> usize
-    requires { ⌜ Ready (listOf realOf (now t)) (length (now out)) ⌝ }
-    ensures { λ r. ⌜ map (toBits binary64) (now (out .exit)) ≡ filled (valuesOf (listOf realOf (now (t .entry)))) (map (toBits binary64) (now (out .entry))) ⌝ }
-    ensures { λ r. ⌜ r ≡ length (valuesOf (listOf realOf (now (t .entry)))) ⌝ }
+fn fill_reals(which: Reals, t: &[u8], out: &mut [f64]) -> usize
+    requires { ⌜ Ready (listOf (realBy which) (now t)) (length (now out)) ⌝ }
+    ensures { λ r. ⌜ map (toBits binary64) (now (out .exit)) ≡ filled (valuesOf (listOf (realBy which) (now (t .entry)))) (map (toBits binary64) (now (out .entry))) ⌝ }
+    ensures { λ r. ⌜ r ≡ length (valuesOf (listOf (realBy which) (now (t .entry)))) ⌝ }
 {
     match shape_of(t) {
         Shape::NotList => 0,
         Shape::Blank => 0,
         Shape::Full => {
             let n = t.len();
-            fill_real_items(&t[1..n - 1], out)
+            fill_real_items(which, &t[1..n - 1], out)
         }
     }
 }
@@ -393,9 +394,9 @@ fn keep_real(first: &mut [f64], n: usize, x: f64)
 }
 
 // Reads the reals of a list's inside and keeps the first of them, or finds the first bad one.
-fn keep_real_items(b: &[u8], first: &mut [f64]) -> Counted
-    ensures { λ r. ⌜ toldCounted r ≡ fated length (itemsFrom (suc (length (now (b .entry)))) (λ u. asFate (realOf u)) 0 (now (b .entry))) ⌝ }
-    ensures { λ r. ⌜ Kept (itemsFrom (suc (length (now (b .entry)))) (λ u. asFate (realOf u)) 0 (now (b .entry))) (map (toBits binary64) (now (first .entry))) (map (toBits binary64) (now (first .exit))) ⌝ }
+fn keep_real_items(which: Reals, b: &[u8], first: &mut [f64]) -> Counted
+    ensures { λ r. ⌜ toldCounted r ≡ fated length (itemsFrom (suc (length (now (b .entry)))) (λ u. asFate (realBy which u)) 0 (now (b .entry))) ⌝ }
+    ensures { λ r. ⌜ Kept (itemsFrom (suc (length (now (b .entry)))) (λ u. asFate (realBy which u)) 0 (now (b .entry))) (map (toBits binary64) (now (first .entry))) (map (toBits binary64) (now (first .exit))) ⌝ }
 {
     let mut i: usize = 0;
     let mut n: usize = 0;
@@ -404,7 +405,7 @@ fn keep_real_items(b: &[u8], first: &mut [f64]) -> Counted
         let start = w.start;
         let stop = w.stop;
         let bound = w.bound;
-        match reals::parse_real(&b[start..stop]) {
+        match reals::read_real(which, &b[start..stop]) {
             Real::Value(x) => keep_real(first, n, x),
             Real::Outside => return Counted::Outside(start),
             Real::NotReal => return Counted::Wrong(start),
@@ -418,16 +419,16 @@ fn keep_real_items(b: &[u8], first: &mut [f64]) -> Counted
 }
 
 // Reads the reals of a list and keeps the first of them, or finds what is wrong with it.
-fn keep_reals(t: &[u8], first: &mut [f64]) -> Counted
-    ensures { λ r. ⌜ toldCounted r ≡ fated length (listOf realOf (now (t .entry))) ⌝ }
-    ensures { λ r. ⌜ Kept (listOf realOf (now (t .entry))) (map (toBits binary64) (now (first .entry))) (map (toBits binary64) (now (first .exit))) ⌝ }
+fn keep_reals(which: Reals, t: &[u8], first: &mut [f64]) -> Counted
+    ensures { λ r. ⌜ toldCounted r ≡ fated length (listOf (realBy which) (now (t .entry))) ⌝ }
+    ensures { λ r. ⌜ Kept (listOf (realBy which) (now (t .entry))) (map (toBits binary64) (now (first .entry))) (map (toBits binary64) (now (first .exit))) ⌝ }
 {
     match shape_of(t) {
         Shape::NotList => Counted::Wrong(0),
         Shape::Blank => Counted::All(0),
         Shape::Full => {
             let n = t.len();
-            match keep_real_items(&t[1..n - 1], first) {
+            match keep_real_items(which, &t[1..n - 1], first) {
                 Counted::All(k) => Counted::All(k),
                 Counted::Wrong(o) => Counted::Wrong(1 + o),
                 Counted::Outside(o) => Counted::Outside(1 + o),
@@ -449,46 +450,58 @@ fn lay_reals(first: &[f64], n: usize, out: &mut [f64])
 }
 
 // Writes the n reals of a list, the first of which were kept: only a list of more than those is gone through again.
-fn write_reals(t: &[u8], first: &[f64], n: usize, out: &mut [f64])
-    requires { ⌜ Ready (listOf realOf (now t)) (length (now out)) ⌝ }
-    requires { ⌜ n ≡ length (valuesOf (listOf realOf (now t))) ⌝ }
-    requires { ⌜ Held (listOf realOf (now t)) (map (toBits binary64) (now first)) ⌝ }
-    ensures { λ _. ⌜ map (toBits binary64) (now (out .exit)) ≡ filled (valuesOf (listOf realOf (now (t .entry)))) (map (toBits binary64) (now (out .entry))) ⌝ }
+fn write_reals(which: Reals, t: &[u8], first: &[f64], n: usize, out: &mut [f64])
+    requires { ⌜ Ready (listOf (realBy which) (now t)) (length (now out)) ⌝ }
+    requires { ⌜ n ≡ length (valuesOf (listOf (realBy which) (now t))) ⌝ }
+    requires { ⌜ Held (listOf (realBy which) (now t)) (map (toBits binary64) (now first)) ⌝ }
+    ensures { λ _. ⌜ map (toBits binary64) (now (out .exit)) ≡ filled (valuesOf (listOf (realBy which) (now (t .entry)))) (map (toBits binary64) (now (out .entry))) ⌝ }
 {
     if n <= first.len() {
         lay_reals(first, n, out);
         return;
     }
-    fill_reals(t, out);
+    fill_reals(which, t, out);
 }
 
 // Reads the text of a list of reals into lent numbers. Most lists are the coordinates of one point, and a real takes long to read: up to
 // sixteen are written from the first pass.
-pub fn read_reals(t: &[u8], out: &mut [f64]) -> ReadList
-    ensures { λ r. ⌜ toldReadList r ≡ countOf (roomed (fitsIn (length (now (out .entry)))) 0 (listOf realOf (now (t .entry)))) ⌝ }
-    ensures { λ r. ⌜ map (toBits binary64) (now (out .exit)) ≡ written (roomed (fitsIn (length (now (out .entry)))) 0 (listOf realOf (now (t .entry)))) (map (toBits binary64) (now (out .entry))) ⌝ }
+pub fn read_reals(which: Reals, t: &[u8], out: &mut [f64]) -> ReadList
+    ensures { λ r. ⌜ toldReadList r ≡ countOf (roomed (fitsIn (length (now (out .entry)))) 0 (listOf (realBy which) (now (t .entry)))) ⌝ }
+    ensures { λ r. ⌜ map (toBits binary64) (now (out .exit)) ≡ written (roomed (fitsIn (length (now (out .entry)))) 0 (listOf (realBy which) (now (t .entry)))) (map (toBits binary64) (now (out .entry))) ⌝ }
 {
     let mut first = [0.0; 16];
-    match keep_reals(t, &mut first) {
+    match keep_reals(which, t, &mut first) {
         Counted::Wrong(o) => ReadList::Wrong(o),
         Counted::Outside(o) => ReadList::Outside(o),
         Counted::All(n) => {
             if out.len() < n {
                 return ReadList::Short;
             }
-            write_reals(t, &first, n, out);
+            write_reals(which, t, &first, n, out);
             ReadList::Count(n)
         }
     }
 }
 
-// Reads a list of reals into lent numbers.
+// Reads a list of reals, of the class or any, into lent numbers.
+pub fn next_real_list(which: Reals, file: &[u8], at: State, out: &mut [f64]) -> NextList
+    ensures { λ r. ⌜ toldNextList r ≡ howMany (nextBy (listOf (realBy which)) (fitsIn (length (now (out .entry)))) (now (file .entry)) (at .place) (at .end)) ⌝ }
+    ensures { λ r. ⌜ map (toBits binary64) (now (out .exit)) ≡ written (nextBy (listOf (realBy which)) (fitsIn (length (now (out .entry)))) (now (file .entry)) (at .place) (at .end) .answer) (map (toBits binary64) (now (out .entry))) ⌝ }
+{
+    match params::param_span(file, at) {
+        Cut::Refused(f, to) => NextList::Refused(f, to),
+        Cut::Span(start, stop, to) => answer_of(
+            read_reals(which, &file[start..stop], out),
+            start,
+            to,
+        ),
+    }
+}
+
+// Reads a list of reals of the class into lent numbers.
 pub fn next_f64_list(file: &[u8], at: State, out: &mut [f64]) -> NextList
     ensures { λ r. ⌜ toldNextList r ≡ howMany (nextBy (listOf realOf) (fitsIn (length (now (out .entry)))) (now (file .entry)) (at .place) (at .end)) ⌝ }
     ensures { λ r. ⌜ map (toBits binary64) (now (out .exit)) ≡ written (nextBy (listOf realOf) (fitsIn (length (now (out .entry)))) (now (file .entry)) (at .place) (at .end) .answer) (map (toBits binary64) (now (out .entry))) ⌝ }
 {
-    match params::param_span(file, at) {
-        Cut::Refused(f, to) => NextList::Refused(f, to),
-        Cut::Span(start, stop, to) => answer_of(read_reals(&file[start..stop], out), start, to),
-    }
+    next_real_list(Reals::Class, file, at, out)
 }

@@ -18,11 +18,11 @@ use Rattle.record.specs.Word.{trimmed}
 use Rattle.record.specs.Form.{All, NotLast}
 use Rattle.record.specs.FormRight.{trail-only}
 use Rattle.record.specs.FormRight.Parts.{last-none}
-use Rattle.reals.specs.Scalar.{Answer, read, refused, realOf}
+use Rattle.reals.specs.Scalar.{Answer, read, refused}
 use Rattle.params.specs.Reader.{Read, reading, Span, span, mapped, paramOf}
 use Rattle.scalars.specs.declared.Inner.{Inner}
 use Rattle.scalars.specs.declared.Inner.the-variants.{Inside, Bare}
-use Rattle.scalars.specs.Scalars.{InnerAt, Given, unset, isUnset, asGiven, optionOf, unopening, Kernel, inside, bare, enclosed, kernelFrom, kernelOf, kernelReal, measured, measureOf, answered, scalarAt, nextOf}
+use Rattle.scalars.specs.Scalars.{InnerAt, Given, unset, isUnset, asGiven, optionOf, unopening, Kernel, inside, bare, enclosed, kernelFrom, kernelOf, kernelReal, measured, measureBy, answered, scalarAt, nextOf}
 
 -- a part of a first part
 drop-take : (s m : ℕ) (l : List ℕ) → drop s (take m l) ≡ take (m - s) (drop s l)
@@ -108,19 +108,17 @@ module _ (t : List ℕ) (o : ℕ) (found : drop o t ≡ past unopening t) (withi
       let i : length (drop (o + 1) t) - 1 ≡ length t - 1 - (o + 1) = omega (arith, length-drop (o + 1) t) in
       sym (follows (omega arith)) ∙ rw (last-at h, eq-eqb _ 41 k, i) refl
 
--- a measure by its bytes
-pub measure-real : (t : List ℕ) (a : Answer ℕ) → a ≡ realOf t → (a ≡ refused 12 → ⊥) → a ≡ measureOf t
-unfolding measureOf
-measure-real t (read b) e h = ap (λ (x : Answer ℕ). measured x (kernelOf t)) e
-measure-real t (refused n) e h =
+-- a measure as g reads reals, by its bytes
+pub measure-real : (g : List ℕ → Answer ℕ) (t : List ℕ) (a : Answer ℕ) → a ≡ g t → (a ≡ refused 12 → ⊥) → a ≡ measureBy g t
+measure-real g t (read b) e h = ap (λ (x : Answer ℕ). measured g x (kernelOf t)) e
+measure-real g t (refused n) e h =
     let k : n ≡ 12 → ⊥ = λ p. h (ap refused p) in
-    let q : measured (refused n) (kernelOf t) ≡ refused n = rw (ne-eqb n 12 k) refl in
-    sym q ∙ ap (λ (x : Answer ℕ). measured x (kernelOf t)) e
+    let q : measured g (refused n) (kernelOf t) ≡ refused n = rw (ne-eqb n 12 k) refl in
+    sym q ∙ ap (λ (x : Answer ℕ). measured g x (kernelOf t)) e
 
 -- or by what stands in it
-pub measure-kernel : (t : List ℕ) (k : Kernel) → refused 12 ≡ realOf t → kernelOf t ≡ k → kernelReal k ≡ measureOf t
-unfolding measureOf
-measure-kernel t k e q = ap kernelReal (sym q) ∙ ap (λ (x : Answer ℕ). measured x (kernelOf t)) e
+pub measure-kernel : (g : List ℕ → Answer ℕ) (t : List ℕ) (k : Kernel) → refused 12 ≡ g t → kernelOf t ≡ k → kernelReal g k ≡ measureBy g t
+measure-kernel g t k e q = ap (kernelReal g) (sym q) ∙ ap (λ (x : Answer ℕ). measured g x (kernelOf t)) e
 
 module _ {A : Type 0} (f : List ℕ → Answer A) (s : List ℕ) (p e : ℕ) where
   -- no parameter is cut

@@ -95,7 +95,7 @@ unfolding realBack
 real-told (NextRealCode.the-variants.Value x t) h = ap (λ y. NextRealCode.the-variants.Value y t) (ofBits-toBits binary64 x h)
 real-told (NextRealCode.the-variants.Refused f t) h = ap (λ g. NextRealCode.the-variants.Refused g t) (faultOf-told f)
 
--- `next_f64`, `next_measure_f64`
+-- `next_f64`, `next_measure_f64`, `next_real`, `next_measure`
 pub real-only : (a b : NextRealCode.NextReal) → NextRealFits a → NextRealFits b → toldNextReal a ≡ toldNextReal b → a ≡ b
 real-only a b h k e = sym (real-told a h) ∙ ap (λ (r : Read ℕ). realBack (r .answer) (stateOf r)) e ∙ real-told b k
 
@@ -118,7 +118,7 @@ opt-real-told (NextOptRealCode.the-variants.Value x t) h = ap (λ y. NextOptReal
 opt-real-told (NextOptRealCode.the-variants.Unset t) h = refl
 opt-real-told (NextOptRealCode.the-variants.Refused f t) h = ap (λ g. NextOptRealCode.the-variants.Refused g t) (faultOf-told f)
 
--- `next_opt_f64`
+-- `next_opt_f64`, `next_opt_real`
 pub opt-real-only : (a b : NextOptRealCode.NextOptReal) → NextOptRealFits a → NextOptRealFits b → toldNextOptReal a ≡ toldNextOptReal b → a ≡ b
 opt-real-only a b h k e = sym (opt-real-told a h) ∙ ap (λ (r : Read (Given ℕ)). optRealBack (r .answer) (stateOf r)) e ∙ opt-real-told b k
 

@@ -6,7 +6,6 @@ use mathlib.Core.Path.{_≡_}
 use mathlib.Core.List.{List, [], _∷_, _++_}
 use Rattle.record.specs.Form.{Free, Trimmed, bytes}
 use Rattle.reals.specs.Scalar.{Answer, read, refused}
-use Rattle.reals.specs.Form.{RealForm}
 use Rattle.scalars.specs.Scalars.{Given, Logical}
 use Rattle.scalars.specs.Scalars as Scalars
 
@@ -19,12 +18,13 @@ pub record Typed (t u : List ℕ) : Type 0 where
   pub first : Free 40 keyword
   pub trims : Trimmed body u
 
--- "A measure is a real or `KEYWORD(real)`.": what it answers; 13 for a real outside the class, 12 for what is none
-pub data MeasureForm : List ℕ → Answer ℕ → Type 0 where
+-- "A measure is a real or `KEYWORD(real)`.": what it answers, as a real does by its own rule P. Document 01's is this
+-- at `RealForm`, which is document 01's class, as #101 has it
+pub data MeasureForm (P : List ℕ → Answer ℕ → Type 0) : List ℕ → Answer ℕ → Type 0 where
   -- "a real"
-  bare : {t : List ℕ} {a : Answer ℕ} → ((u : List ℕ) → Typed t u → ⊥) → RealForm t a → MeasureForm t a
+  bare : {t : List ℕ} {a : Answer ℕ} → ((u : List ℕ) → Typed t u → ⊥) → P t a → MeasureForm P t a
   -- "or `KEYWORD(real)`"
-  typed : {t u : List ℕ} {a : Answer ℕ} → Typed t u → RealForm u a → MeasureForm t a
+  typed : {t u : List ℕ} {a : Answer ℕ} → Typed t u → P u a → MeasureForm P t a
 
 -- "`.T.` `.F.` `.U.`": capitals only, as the Rust decides
 pub data TruthForm : List ℕ → Answer Logical → Type 0 where

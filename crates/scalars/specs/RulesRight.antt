@@ -17,12 +17,15 @@ use Rattle.record.specs.Word.{same, trimmed}
 use Rattle.record.specs.Form.{All, Free, Skipped, bytes}
 use Rattle.record.specs.FormRight.{past-is, past-only, trimmed-is, trimmed-only}
 use Rattle.record.specs.FormRight.Parts.{first-other, all-back, all-join, all-kind}
-use Rattle.reals.specs.Scalar.{Answer, read, refused, referenceOf, realOf}
-use Rattle.reals.specs.Form.{Signed, Fraction, Powered, Written, RealForm, ReferenceForm}
-use Rattle.reals.specs.FormRight.{real-is, real-only}
+use Rattle.reals.specs.Scalar.{Answer, read, refused, referenceOf, realOf, anyRealOf, realBy}
+use Rattle.reals.specs.Form.{Signed, Fraction, Powered, Written, RealForm, AnyForm, ReferenceForm}
+use Rattle.reals.specs.FormRight.{real-is, real-only, any-is, any-only}
+use Rattle.reals.specs.By.{unwritten-by}
 use Rattle.reals.specs.WholeRight.{reference-is, reference-only}
+use Rattle.reals.specs.declared.Reals.{Reals}
+use Rattle.reals.specs.declared.Reals.the-variants.{Class, Any}
 use Rattle.scalars.specs.Scalars as Scalars
-use Rattle.scalars.specs.Scalars.{Given, Logical, isUnset, asGiven, optionOf, unopening, inside, bare, enclosed, kernelFrom, kernelOf, measured, measureOf, truthOf}
+use Rattle.scalars.specs.Scalars.{Given, Logical, isUnset, asGiven, optionOf, unopening, inside, bare, enclosed, kernelFrom, kernelOf, measured, measureBy, measureOf, truthOf}
 use Rattle.scalars.specs.Rules.{Typed, MeasureForm, TruthForm, OptionForm}
 
 -- ---- the same bytes
@@ -86,9 +89,9 @@ written-free {w} r =
 typed-opens : {t u : List ℕ} → Typed t u → Free 40 t → ⊥
 typed-opens y h = let (n, k) = all-back (λ c. not (eqb c 40)) (y .keyword) (40 ∷ (y .body ++ (41 ∷ []))) (rw (y .shape) at h) in clash (cc)
 
--- what has a keyword is no real
-pub typed-real : {t u : List ℕ} → Typed t u → realOf t ≡ refused 12
-typed-real {t} y = sym (real-only (RealForm.other (λ s d w f x r. typed-opens y (written-free r))))
+-- what has a keyword is no real, whichever reals are asked for
+pub typed-by : (which : Reals) {t u : List ℕ} → Typed t u → realBy which t ≡ refused 12
+typed-by which {t} y = unwritten-by which t (λ s d w f x r. typed-opens y (written-free r))
 
 -- ---- `KEYWORD(real)`
 -- what follows the `(`, where its last byte is a `)`
@@ -149,44 +152,62 @@ typed-comes t = go (past unopening t) refl (past-is unopening t)
         cut f r (e ∙ ap (λ (l : List ℕ). f ++ l) (q ∙ ap (λ (d : ℕ). d ∷ r) h)) (s .all) (ended r)
 
 -- ---- measures
--- a text with a keyword is read by what stands inside
-measure-typed : {t u : List ℕ} → Typed t u → measureOf t ≡ realOf u
-unfolding measureOf
-measure-typed y = rw (typed-real y, typed-only y) refl
-
--- another one is read as it stands
-measure-bare : (t : List ℕ) → kernelOf t ≡ bare → measureOf t ≡ realOf t
-unfolding measureOf
-measure-bare t e = rw e (go (realOf t))
-  where
-    go : (a : Answer ℕ) → measured a bare ≡ a
-    go (read b) = refl
-    go (refused n) = by (eqb n 12) refl
-      where
-        by : (t : Bool) → eqb n 12 ≡ t → pick {A = Answer ℕ} t (refused 12) (refused n) ≡ refused n
-        by true h = ap refused (sym (eqb-true n 12 h))
-        by false h = refl
-
 -- no text is found in parentheses and not
 none-inside : {t u : List ℕ} → kernelOf t ≡ bare → Typed t u → ⊥
 none-inside e y = clash (cc (typed-only y))
 
--- "A measure is a real or `KEYWORD(real)`.": what is computed is the answer
-pub measure-is : (t : List ℕ) → MeasureForm t (measureOf t)
-measure-is t = go (typed-comes t)
-  where
-    go : ((u : List ℕ) × Typed t u) ⊎ (kernelOf t ≡ bare) → MeasureForm t (measureOf t)
-    go (inl (u, y)) = subst (MeasureForm t) (sym (measure-typed y)) (MeasureForm.typed y (real-is u))
-    go (inr e) = subst (MeasureForm t) (sym (measure-bare t e)) (MeasureForm.bare (λ u. none-inside e) (real-is t))
+-- as g reads reals, none of which has a keyword
+module _ (g : List ℕ → Answer ℕ) (keyless : (t u : List ℕ) → Typed t u → g t ≡ refused 12) where
+  -- a text with a keyword is read by what stands inside
+  measure-typed : {t u : List ℕ} → Typed t u → measureBy g t ≡ g u
+  measure-typed {t} {u} y = rw (keyless t u y, typed-only y) refl
+
+  -- another one is read as it stands
+  measure-bare : (t : List ℕ) → kernelOf t ≡ bare → measureBy g t ≡ g t
+  measure-bare t e = rw e (go (g t))
+    where
+      go : (a : Answer ℕ) → measured g a bare ≡ a
+      go (read b) = refl
+      go (refused n) = by (eqb n 12) refl
+        where
+          by : (t : Bool) → eqb n 12 ≡ t → pick {A = Answer ℕ} t (refused 12) (refused n) ≡ refused n
+          by true h = ap refused (sym (eqb-true n 12 h))
+          by false h = refl
+
+  -- "A measure is a real or `KEYWORD(real)`.": what is computed is the answer, where it is for reals
+  pub measured-is : (P : List ℕ → Answer ℕ → Type 0) → ((t : List ℕ) → P t (g t)) → (t : List ℕ) → MeasureForm P t (measureBy g t)
+  measured-is P h t = go (typed-comes t)
+    where
+      go : ((u : List ℕ) × Typed t u) ⊎ (kernelOf t ≡ bare) → MeasureForm P t (measureBy g t)
+      go (inl (u, y)) = subst (MeasureForm P t) (sym (measure-typed y)) (MeasureForm.typed y (h u))
+      go (inr e) = subst (MeasureForm P t) (sym (measure-bare t e)) (MeasureForm.bare (λ u. none-inside e) (h t))
+
+  -- and there is no other
+  pub measured-only : (P : List ℕ → Answer ℕ → Type 0) → ((t : List ℕ) (a : Answer ℕ) → P t a → a ≡ g t) → {t : List ℕ} {a : Answer ℕ} → MeasureForm P t a → a ≡ measureBy g t
+  measured-only P h (MeasureForm.typed {u} {a} y r) = h u a r ∙ sym (measure-typed y)
+  measured-only P h {t} {a} (MeasureForm.bare n r) = go (typed-comes t)
+    where
+      go : ((u : List ℕ) × Typed t u) ⊎ (kernelOf t ≡ bare) → a ≡ measureBy g t
+      go (inl (u, y)) = absurd (n u y)
+      go (inr e) = h t a r ∙ sym (measure-bare t e)
+
+-- `next_measure_f64`: the reals of the class
+pub measure-is : (t : List ℕ) → MeasureForm RealForm t (measureOf t)
+unfolding measureOf
+measure-is = measured-is realOf (λ t u. typed-by Class) RealForm real-is
+
+-- and nothing else
+pub measure-only : {t : List ℕ} {a : Answer ℕ} → MeasureForm RealForm t a → a ≡ measureOf t
+unfolding measureOf
+measure-only = measured-only realOf (λ t u. typed-by Class) RealForm (λ t a. real-only)
+
+-- "A measure is a real or `KEYWORD(real)`", of any real
+pub any-measure-is : (t : List ℕ) → MeasureForm AnyForm t (measureBy anyRealOf t)
+any-measure-is = measured-is anyRealOf (λ t u. typed-by Any) AnyForm any-is
 
 -- and there is no other
-pub measure-only : {t : List ℕ} {a : Answer ℕ} → MeasureForm t a → a ≡ measureOf t
-measure-only (MeasureForm.typed y r) = real-only r ∙ sym (measure-typed y)
-measure-only {t} {a} (MeasureForm.bare n r) = go (typed-comes t)
-  where
-    go : ((u : List ℕ) × Typed t u) ⊎ (kernelOf t ≡ bare) → a ≡ measureOf t
-    go (inl (u, y)) = absurd (n u y)
-    go (inr e) = real-only r ∙ sym (measure-bare t e)
+pub any-measure-only : {t : List ℕ} {a : Answer ℕ} → MeasureForm AnyForm t a → a ≡ measureBy anyRealOf t
+any-measure-only = measured-only anyRealOf (λ t u. typed-by Any) AnyForm (λ t a. any-only)
 
 -- ---- booleans
 -- "`.T.` `.F.` `.U.`": the answer by the rules is the one that is computed
@@ -251,3 +272,11 @@ opt-real-is = option-is RealForm realOf real-is
 -- and nothing else
 pub opt-real-only : {t : List ℕ} {a : Answer (Given ℕ)} → OptionForm RealForm t a → a ≡ optionOf realOf t
 opt-real-only = option-only RealForm realOf (λ t a. real-only)
+
+-- any real, or `$`
+pub opt-any-is : (t : List ℕ) → OptionForm AnyForm t (optionOf anyRealOf t)
+opt-any-is = option-is AnyForm anyRealOf any-is
+
+-- and there is no other
+pub opt-any-only : {t : List ℕ} {a : Answer (Given ℕ)} → OptionForm AnyForm t a → a ≡ optionOf anyRealOf t
+opt-any-only = option-only AnyForm anyRealOf (λ t a. any-only)

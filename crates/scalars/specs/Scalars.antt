@@ -65,19 +65,23 @@ kernelFrom (c ∷ r) = enclosed r
 unfoldable pub kernelOf : List ℕ → Kernel
 kernelOf t = kernelFrom (past unopening t)
 
--- the real that stands inside
-abbrev pub kernelReal : Kernel → Answer ℕ
-kernelReal (inside t) = realOf t
-kernelReal bare = refused 12
+-- the real that stands inside, as g reads reals
+abbrev pub kernelReal : (List ℕ → Answer ℕ) → Kernel → Answer ℕ
+kernelReal g (inside t) = g t
+kernelReal g bare = refused 12
 
 -- what is no real is looked at once more; "real outside the class" is 13
-abbrev pub measured : Answer ℕ → Kernel → Answer ℕ
-measured (read b) k = read b
-measured (refused n) k = pick (eqb n 12) (kernelReal k) (refused n)
+abbrev pub measured : (List ℕ → Answer ℕ) → Answer ℕ → Kernel → Answer ℕ
+measured g (read b) k = read b
+measured g (refused n) k = pick (eqb n 12) (kernelReal g k) (refused n)
 
--- "A measure is a real or `KEYWORD(real)`."
+-- "A measure is a real or `KEYWORD(real)`.", as g reads reals
+abbrev pub measureBy : (List ℕ → Answer ℕ) → List ℕ → Answer ℕ
+measureBy g t = measured g (g t) (kernelOf t)
+
+-- document 01's own: its reals are those of document 01's class, as #101 has it
 unfoldable pub measureOf : List ℕ → Answer ℕ
-measureOf t = measured (realOf t) (kernelOf t)
+measureOf t = measureBy realOf t
 
 -- what a boolean says
 pub data Logical : Type 0 where
@@ -131,12 +135,12 @@ abbrev pub toldNextWhole : NextWholeCode.NextWhole → Read ℤ
 toldNextWhole (NextWholeCode.the-variants.Value x t) = reading (good x) (t .place) (t .end)
 toldNextWhole (NextWholeCode.the-variants.Refused f t) = reading (bad (told f)) (t .place) (t .end)
 
--- what `next_f64` and `next_measure_f64` answer; a float is told by its bits
+-- what the readers of reals and measures answer; a float is told by its bits
 abbrev pub toldNextReal : NextRealCode.NextReal → Read ℕ
 toldNextReal (NextRealCode.the-variants.Value x t) = reading (good (toBits binary64 x)) (t .place) (t .end)
 toldNextReal (NextRealCode.the-variants.Refused f t) = reading (bad (told f)) (t .place) (t .end)
 
--- what `next_opt_f64` answers
+-- what the readers of reals that may be unset answer
 abbrev pub toldNextOptReal : NextOptRealCode.NextOptReal → Read (Given ℕ)
 toldNextOptReal (NextOptRealCode.the-variants.Value x t) = reading (good (given (toBits binary64 x))) (t .place) (t .end)
 toldNextOptReal (NextOptRealCode.the-variants.Unset t) = reading (good unset) (t .place) (t .end)

@@ -10,13 +10,14 @@ ghost use lib.Dec.{eqb};
 ghost use Rattle.lex.specs.Byte.{white};
 ghost use Rattle.record.specs.Text.{past, trail};
 ghost use Rattle.record.specs.Word.{trimmed};
-ghost use Rattle.reals.specs.Scalar.{toldReference, referenceOf, toldWhole, wholeOf, toldReal, realOf};
+ghost use Rattle.reals.specs.Scalar.{toldReference, referenceOf, toldWhole, wholeOf, toldReal, realOf, realBy};
 ghost use Rattle.params.specs.Reader.{reading};
-ghost use Rattle.scalars.specs.Scalars.{unopening, InnerAt, measureOf, isUnset, optionOf, answered, nextOf, toldTruth, truthOf, toldNextRef, toldNextOptRef, toldNextWhole, toldNextReal, toldNextOptReal, toldNextTruth, asGiven};
+ghost use Rattle.scalars.specs.Scalars.{unopening, InnerAt, measureBy, measureOf, isUnset, optionOf, answered, nextOf, toldTruth, truthOf, toldNextRef, toldNextOptRef, toldNextWhole, toldNextReal, toldNextOptReal, toldNextTruth, asGiven};
 use error::Fault;
 use params::Cut;
 use params::State;
 use reals::Real;
+use reals::Reals;
 use reals::Reference;
 use reals::Whole;
 
@@ -131,15 +132,15 @@ fn inner_of(t: &[u8]) -> Inner
     Inner::Inside(o + 1 + w.start, o + 1 + w.stop)
 }
 
-// Reads a measure.
-fn parse_measure(t: &[u8]) -> Real
-    ensures { λ r. ⌜ toldReal r ≡ measureOf (now (t .entry)) ⌝ }
+// Reads a measure, its real of the class or any.
+fn parse_measure(which: Reals, t: &[u8]) -> Real
+    ensures { λ r. ⌜ toldReal r ≡ measureBy (realBy which) (now (t .entry)) ⌝ }
 {
-    match reals::parse_real(t) {
+    match reals::read_real(which, t) {
         Real::Value(x) => Real::Value(x),
         Real::Outside => Real::Outside,
         Real::NotReal => match inner_of(t) {
-            Inner::Inside(a, z) => reals::parse_real(&t[a..z]),
+            Inner::Inside(a, z) => reals::read_real(which, &t[a..z]),
             Inner::Bare => Real::NotReal,
         },
     }
@@ -239,14 +240,25 @@ fn real_read(v: Real, start: usize, to: State) -> NextReal
     }
 }
 
-// Reads a real; an integer is one too.
-pub fn next_f64(file: &[u8], at: State) -> NextReal
-    ensures { λ r. ⌜ toldNextReal r ≡ nextOf realOf (now (file .entry)) (at .place) (at .end) ⌝ }
+// Reads a real, of the class or any; an integer is one too.
+pub fn next_real(which: Reals, file: &[u8], at: State) -> NextReal
+    ensures { λ r. ⌜ toldNextReal r ≡ nextOf (realBy which) (now (file .entry)) (at .place) (at .end) ⌝ }
 {
     match params::param_span(file, at) {
         Cut::Refused(f, to) => NextReal::Refused(f, to),
-        Cut::Span(start, stop, to) => real_read(reals::parse_real(&file[start..stop]), start, to),
+        Cut::Span(start, stop, to) => real_read(
+            reals::read_real(which, &file[start..stop]),
+            start,
+            to,
+        ),
     }
+}
+
+// Reads a real of the class.
+pub fn next_f64(file: &[u8], at: State) -> NextReal
+    ensures { λ r. ⌜ toldNextReal r ≡ nextOf realOf (now (file .entry)) (at .place) (at .end) ⌝ }
+{
+    next_real(Reals::Class, file, at)
 }
 
 fn opt_real_read(v: Real, start: usize, to: State) -> NextOptReal
@@ -259,9 +271,9 @@ fn opt_real_read(v: Real, start: usize, to: State) -> NextOptReal
     }
 }
 
-// Reads a real, or `$`.
-pub fn next_opt_f64(file: &[u8], at: State) -> NextOptReal
-    ensures { λ r. ⌜ toldNextOptReal r ≡ nextOf (optionOf realOf) (now (file .entry)) (at .place) (at .end) ⌝ }
+// Reads a real, of the class or any, or `$`.
+pub fn next_opt_real(which: Reals, file: &[u8], at: State) -> NextOptReal
+    ensures { λ r. ⌜ toldNextOptReal r ≡ nextOf (optionOf (realBy which)) (now (file .entry)) (at .place) (at .end) ⌝ }
 {
     match params::param_span(file, at) {
         Cut::Refused(f, to) => NextOptReal::Refused(f, to),
@@ -270,19 +282,37 @@ pub fn next_opt_f64(file: &[u8], at: State) -> NextOptReal
             if is_unset(t) {
                 return NextOptReal::Unset(to);
             }
-            opt_real_read(reals::parse_real(t), start, to)
+            opt_real_read(reals::read_real(which, t), start, to)
         }
     }
 }
 
-// Reads a measure: a real, or one in parentheses after a keyword.
-pub fn next_measure_f64(file: &[u8], at: State) -> NextReal
-    ensures { λ r. ⌜ toldNextReal r ≡ nextOf measureOf (now (file .entry)) (at .place) (at .end) ⌝ }
+// Reads a real of the class, or `$`.
+pub fn next_opt_f64(file: &[u8], at: State) -> NextOptReal
+    ensures { λ r. ⌜ toldNextOptReal r ≡ nextOf (optionOf realOf) (now (file .entry)) (at .place) (at .end) ⌝ }
+{
+    next_opt_real(Reals::Class, file, at)
+}
+
+// Reads a measure: a real, of the class or any, or one in parentheses after a keyword.
+pub fn next_measure(which: Reals, file: &[u8], at: State) -> NextReal
+    ensures { λ r. ⌜ toldNextReal r ≡ nextOf (measureBy (realBy which)) (now (file .entry)) (at .place) (at .end) ⌝ }
 {
     match params::param_span(file, at) {
         Cut::Refused(f, to) => NextReal::Refused(f, to),
-        Cut::Span(start, stop, to) => real_read(parse_measure(&file[start..stop]), start, to),
+        Cut::Span(start, stop, to) => real_read(
+            parse_measure(which, &file[start..stop]),
+            start,
+            to,
+        ),
     }
+}
+
+// Reads a measure with a real of the class.
+pub fn next_measure_f64(file: &[u8], at: State) -> NextReal
+    ensures { λ r. ⌜ toldNextReal r ≡ nextOf measureOf (now (file .entry)) (at .place) (at .end) ⌝ }
+{
+    next_measure(Reals::Class, file, at)
 }
 
 fn truth_read(v: Truth, start: usize, to: State) -> NextTruth

@@ -3,7 +3,7 @@ use lib.Ieee.{binary64, toBits}
 use mathlib.Core.List.{map}
 use Rattle.lists.specs.Items.{asFate, filled}
 use Rattle.lists.specs.Laws.{shape-full}
-use Rattle.reals.specs.Scalar.{realOf}
+use Rattle.reals.specs.Scalar.{realBy}
 use Rattle.grids.specs.Grid.{flat, endsFrom}
 use Rattle.grids.specs.Laws.{grid-none, grid-blank, grid-full}
 use native.Mathlib.Omega.{arith}
@@ -41,17 +41,17 @@ part-fill-real-rows-end c = search needs
 fill-real-rows-requires : tie.Need-fill-real-rows-requires
 fill-real-rows-requires c κs = let s = c .before .before .before in
     let t = s .before .before .before .before .before .before in
-    grid-full (λ x. asFate (realOf x)) (now (t .args .t)) _ (s .before .before .shape-of .ensures) _ _ (t .pre) (s .enum-told3 .given .1) .1
+    grid-full (λ x. asFate (realBy (t .args .which) x)) (now (t .args .t)) _ (s .before .before .shape-of .ensures) _ _ (t .pre) (s .enum-told3 .given .1) .1
 
 returns : tie.Need-returns
 returns c = let s = c .before .before in
     let t = s .before .before .before .before in
-    absurd (grid-none (λ x. asFate (realOf x)) (now (t .args .t)) _ (s .shape-of .ensures) _ _ (t .pre) (c .enum-told .given .1))
+    absurd (grid-none (λ x. asFate (realBy (t .args .which) x)) (now (t .args .t)) _ (s .shape-of .ensures) _ _ (t .pre) (c .enum-told .given .1))
 
 returns-2 : tie.Need-returns-2
 returns-2 c = let s = c .before .before in
     let t = s .before .before .before .before in
-    grid-blank (λ x. asFate (realOf x)) (now (t .args .t)) _ (s .shape-of .ensures) (map (toBits binary64) (now (t .args .out))) (now (t .args .ends)) (c .enum-told2 .given .1)
+    grid-blank (λ x. asFate (realBy (t .args .which) x)) (now (t .args .t)) _ (s .shape-of .ensures) (map (toBits binary64) (now (t .args .out))) (now (t .args .ends)) (c .enum-told2 .given .1)
 
 same-length : tie.Need-same-length
 same-length c = search needs
@@ -63,7 +63,7 @@ returns-3 : tie.Need-returns-3
 returns-3 c = let i = c .before .before .before .before in
     let s = i .before .before .before .before in
     let t = s .before .before .before .before .before .before in
-    let (x, y) = grid-full (λ x. asFate (realOf x)) (now (t .args .t)) _ (s .before .before .shape-of .ensures) _ _ (t .pre) (s .enum-told3 .given .1) in (
+    let (x, y) = grid-full (λ x. asFate (realBy (t .args .which) x)) (now (t .args .t)) _ (s .before .before .shape-of .ensures) _ _ (t .pre) (s .enum-told3 .given .1) in (
       i .fill-real-rows .ensures .0 ∙ ap (λ (g : List (List ℕ)). filled (flat g) (map (toBits binary64) (now (t .args .out)))) (sym x),
       i .fill-real-rows .ensures .1 ∙ ap (λ (g : List (List ℕ)). filled (endsFrom 0 g) (now (t .args .ends))) (sym x),
     )

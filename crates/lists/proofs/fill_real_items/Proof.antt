@@ -1,5 +1,5 @@
 use Rattle.lists.specs.Items.{faulty, asFate}
-use Rattle.reals.specs.Scalar.{Answer, realOf, toldReal}
+use Rattle.reals.specs.Scalar.{Answer, realBy, toldReal}
 use native.Mathlib.Omega.{arith}
 use lib.Ieee.{binary64, toBits}
 use borrow.Author.Needs.{needs}
@@ -20,36 +20,36 @@ use Rattle.lists.proofs.fill_real_items.Statement.{statement}
 use Rattle.lists.proofs.fill_real_items.Tie as tie
 
 -- what is read as no value is refused, by one number or the other
-bad-real : (r : Real) (u : List ℕ) → OneOf (1 ∷ 2 ∷ []) (tagOf the-type r) → toldReal r ≡ realOf u → (k : ℕ) × (faulty k 0 ≡ asFate (realOf u))
-bad-real (Value v) u (inl h) e = let z : _≡_ {A = ℕ} 0 1 = h in absurd (omega arith)
-bad-real (Value v) u (inr h) e = let z : _≡_ {A = ℕ} 0 2 = h in absurd (omega arith)
-bad-real Outside u h e = (13, ap (λ (a : Answer ℕ). asFate a) e)
-bad-real NotReal u h e = (12, ap (λ (a : Answer ℕ). asFate a) e)
+bad-real : (r : Real) (a : Answer ℕ) → OneOf (1 ∷ 2 ∷ []) (tagOf the-type r) → toldReal r ≡ a → (k : ℕ) × (faulty k 0 ≡ asFate a)
+bad-real (Value v) a (inl h) e = let z : _≡_ {A = ℕ} 0 1 = h in absurd (omega arith)
+bad-real (Value v) a (inr h) e = let z : _≡_ {A = ℕ} 0 2 = h in absurd (omega arith)
+bad-real Outside a h e = (13, ap (λ (x : Answer ℕ). asFate x) e)
+bad-real NotReal a h e = (12, ap (λ (x : Answer ℕ). asFate x) e)
 
 abbrev Inv-loop : tie.InvT-loop
-Inv-loop b out₀ i₀ n₀ out i n = Filling (λ u. asFate (realOf u)) b (map (toBits binary64) out₀) (map (toBits binary64) out) i n
+Inv-loop which b out₀ i₀ n₀ out i n = Filling (λ u. asFate (realBy which u)) b (map (toBits binary64) out₀) (map (toBits binary64) out) i n
 
 abbrev μ-loop : tie.MeasureT-loop
-μ-loop b out₀ i₀ n₀ out i n = length b - i
+μ-loop which b out₀ i₀ n₀ out i n = length b - i
 
 loop-holds : tie.Need-loop-holds Inv-loop μ-loop
 loop-holds c = let t = c .before .before in
-    filling-starts (λ u. asFate (realOf u)) (now (t .args .b)) (map (toBits binary64) (now (t .args .out))) (t .pre .0, omega (arith, t .pre .1, length-map (now (t .args .out)) (toBits binary64)))
+    filling-starts (λ u. asFate (realBy (t .args .which) u)) (now (t .args .b)) (map (toBits binary64) (now (t .args .out))) (t .pre .0, omega (arith, t .pre .1, length-map (now (t .args .out)) (toBits binary64)))
 
 item-at-requires : tie.Need-item-at-requires Inv-loop μ-loop
 item-at-requires c κs = search needs
 
-sub-parse-real : tie.Need-sub-parse-real Inv-loop μ-loop
-sub-parse-real c = c .item-at .ensures .ordered
+sub-read-real : tie.Need-sub-read-real Inv-loop μ-loop
+sub-read-real c = c .item-at .ensures .ordered
 
-part-parse-real-start : tie.Need-part-parse-real-start Inv-loop μ-loop
-part-parse-real-start c = omega (arith, c .item-at .ensures .ordered, c .item-at .ensures .short, c .item-at .ensures .within)
+part-read-real-start : tie.Need-part-read-real-start Inv-loop μ-loop
+part-read-real-start c = omega (arith, c .item-at .ensures .ordered, c .item-at .ensures .short, c .item-at .ensures .within)
 
-part-parse-real-end : tie.Need-part-parse-real-end Inv-loop μ-loop
-part-parse-real-end c = omega (arith, c .item-at .ensures .ordered, c .item-at .ensures .short, c .item-at .ensures .within)
+part-read-real-end : tie.Need-part-read-real-end Inv-loop μ-loop
+part-read-real-end c = omega (arith, c .item-at .ensures .ordered, c .item-at .ensures .short, c .item-at .ensures .within)
 
-parse-real-requires : tie.Need-parse-real-requires Inv-loop μ-loop
-parse-real-requires c κs = search needs
+read-real-requires : tie.Need-read-real-requires Inv-loop μ-loop
+read-real-requires c κs = search needs
 
 enum-known-v : tie.Need-enum-known-v Inv-loop μ-loop
 enum-known-v c = search needs
@@ -58,28 +58,28 @@ same-length : tie.Need-same-length Inv-loop μ-loop
 same-length c = let m = c .before .before .before in
     let l = m .before in
     let t = l .before .before .before in
-    let (k, e) = bad-real (c .before .parse-real .result) _ (c .match .keys2) (c .before .parse-real .ensures) in
-    absurd (filling-bad (λ u. asFate (realOf u)) (now (t .args .b)) _ _ _ _ (l .loop .inv) (m .item-at .result) (m .item-at .ensures) k 0 e)
+    let (k, e) = bad-real (c .before .read-real .result) _ (c .match .keys2) (c .before .read-real .ensures) in
+    absurd (filling-bad (λ u. asFate (realBy (t .args .which) u)) (now (t .args .b)) _ _ _ _ (l .loop .inv) (m .item-at .result) (m .item-at .ensures) k 0 e)
 
 returns : tie.Need-returns Inv-loop μ-loop
 returns c = let m = c .before .before .before in
     let l = m .before in
     let t = l .before .before .before in
-    let (k, e) = bad-real (c .before .parse-real .result) _ (c .match .keys2) (c .before .parse-real .ensures) in
-    absurd (filling-bad (λ u. asFate (realOf u)) (now (t .args .b)) _ _ _ _ (l .loop .inv) (m .item-at .result) (m .item-at .ensures) k 0 e)
+    let (k, e) = bad-real (c .before .read-real .result) _ (c .match .keys2) (c .before .read-real .ensures) in
+    absurd (filling-bad (λ u. asFate (realBy (t .args .which) u)) (now (t .args .b)) _ _ _ _ (l .loop .inv) (m .item-at .result) (m .item-at .ensures) k 0 e)
 
 mul-out : tie.Need-mul-out Inv-loop μ-loop
 mul-out c = let m = c .before .before .before .before .before in
     let l = m .before in
     let t = l .before .before .before in
-    let (p, q) = filling-place (λ u. asFate (realOf u)) (now (t .args .b)) _ _ _ _ (l .loop .inv) (m .item-at .result) (m .item-at .ensures) _ (ap (λ (a : Answer ℕ). asFate a) (ap toldReal (sym (c .before .v .given .1)) ∙ c .before .before .before .parse-real .ensures)) in
+    let (p, q) = filling-place (λ u. asFate (realBy (t .args .which) u)) (now (t .args .b)) _ _ _ _ (l .loop .inv) (m .item-at .result) (m .item-at .ensures) _ (ap (λ (a : Answer ℕ). asFate a) (ap toldReal (sym (c .before .v .given .1)) ∙ c .before .before .before .read-real .ensures)) in
     omega (arith, p, length-map (now (t .args .out)) (toBits binary64))
 
 slice-write-out : tie.Need-slice-write-out Inv-loop μ-loop
 slice-write-out c = let m = c .before .before .before .before .before in
     let l = m .before in
     let t = l .before .before .before in
-    let (p, q) = filling-place (λ u. asFate (realOf u)) (now (t .args .b)) _ _ _ _ (l .loop .inv) (m .item-at .result) (m .item-at .ensures) _ (ap (λ (a : Answer ℕ). asFate a) (ap toldReal (sym (c .before .v .given .1)) ∙ c .before .before .before .parse-real .ensures)) in
+    let (p, q) = filling-place (λ u. asFate (realBy (t .args .which) u)) (now (t .args .b)) _ _ _ _ (l .loop .inv) (m .item-at .result) (m .item-at .ensures) _ (ap (λ (a : Answer ℕ). asFate a) (ap toldReal (sym (c .before .v .given .1)) ∙ c .before .before .before .read-real .ensures)) in
     omega (arith, p, q, length-map (now (t .args .out)) (toBits binary64), length-map (l .loop .out) (toBits binary64))
 
 add-n : tie.Need-add-n Inv-loop μ-loop
@@ -91,14 +91,14 @@ same-length-2 : tie.Need-same-length-2 Inv-loop μ-loop
 same-length-2 c = let m = c .before .before .before .before .before .before in
     let l = m .before in
     let t = l .before .before .before in
-    let (p, q) = filling-place (λ u. asFate (realOf u)) (now (t .args .b)) _ _ _ _ (l .loop .inv) (m .item-at .result) (m .item-at .ensures) _ (ap (λ (a : Answer ℕ). asFate a) (ap toldReal (sym (c .before .before .v .given .1)) ∙ c .before .before .before .before .parse-real .ensures)) in
+    let (p, q) = filling-place (λ u. asFate (realBy (t .args .which) u)) (now (t .args .b)) _ _ _ _ (l .loop .inv) (m .item-at .result) (m .item-at .ensures) _ (ap (λ (a : Answer ℕ). asFate a) (ap toldReal (sym (c .before .before .v .given .1)) ∙ c .before .before .before .before .read-real .ensures)) in
     length-set (l .loop .out) (l .loop .n) _ ∙ sym (length-map (l .loop .out) (toBits binary64)) ∙ q ∙ length-map (now (t .args .out)) (toBits binary64)
 
 returns-2 : tie.Need-returns-2 Inv-loop μ-loop
 returns-2 c = let m = c .before .before .before .before .before .before in
     let l = m .before in
     let t = l .before .before .before in
-    let (p, q) = filling-last (λ u. asFate (realOf u)) (now (t .args .b)) _ _ _ _ (l .loop .inv) (m .item-at .result) (m .item-at .ensures) _ (ap (λ (a : Answer ℕ). asFate a) (ap toldReal (sym (c .before .before .v .given .1)) ∙ c .before .before .before .before .parse-real .ensures)) (c .if1 .taken) in
+    let (p, q) = filling-last (λ u. asFate (realBy (t .args .which) u)) (now (t .args .b)) _ _ _ _ (l .loop .inv) (m .item-at .result) (m .item-at .ensures) _ (ap (λ (a : Answer ℕ). asFate a) (ap toldReal (sym (c .before .before .v .given .1)) ∙ c .before .before .before .before .read-real .ensures)) (c .if1 .taken) in
     (map-set (toBits binary64) (l .loop .out) (l .loop .n) _ ∙ p, q)
 
 add-i : tie.Need-add-i Inv-loop μ-loop
@@ -111,8 +111,8 @@ loop-again : tie.Need-loop-again Inv-loop μ-loop
 loop-again c = let m = c .before .before .before .before .before .before in
     let l = m .before in
     let t = l .before .before .before in
-    subst (λ (o : List ℕ). Filling (λ u. asFate (realOf u)) (now (t .args .b)) (map (toBits binary64) (now (t .args .out))) o (m .item-at .result .bound + 1) (l .loop .n + 1)) (sym (map-set (toBits binary64) (l .loop .out) (l .loop .n) _))
-    (filling-goes (λ u. asFate (realOf u)) (now (t .args .b)) _ _ _ _ (l .loop .inv) (m .item-at .result) (m .item-at .ensures) _ (ap (λ (a : Answer ℕ). asFate a) (ap toldReal (sym (c .before .before .v .given .1)) ∙ c .before .before .before .before .parse-real .ensures)) (omega (arith, m .item-at .ensures .within, c .if1 .left)))
+    subst (λ (o : List ℕ). Filling (λ u. asFate (realBy (t .args .which) u)) (now (t .args .b)) (map (toBits binary64) (now (t .args .out))) o (m .item-at .result .bound + 1) (l .loop .n + 1)) (sym (map-set (toBits binary64) (l .loop .out) (l .loop .n) _))
+    (filling-goes (λ u. asFate (realBy (t .args .which) u)) (now (t .args .b)) _ _ _ _ (l .loop .inv) (m .item-at .result) (m .item-at .ensures) _ (ap (λ (a : Answer ℕ). asFate a) (ap toldReal (sym (c .before .before .v .given .1)) ∙ c .before .before .before .before .read-real .ensures)) (omega (arith, m .item-at .ensures .within, c .if1 .left)))
 
 pub fill-real-items-spec : {M : Type 1} → statement M
 fill-real-items-spec =
@@ -122,10 +122,10 @@ fill-real-items-spec =
     μ-loop
     loop-holds
     item-at-requires
-    sub-parse-real
-    part-parse-real-start
-    part-parse-real-end
-    parse-real-requires
+    sub-read-real
+    part-read-real-start
+    part-read-real-end
+    read-real-requires
     enum-known-v
     same-length
     returns

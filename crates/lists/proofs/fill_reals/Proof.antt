@@ -2,7 +2,7 @@ use borrow.Author.Needs.{needs}
 use Rattle.lists.specs.ReadLaws.{fills-none, fills-blank, fills-full}
 use Rattle.lists.specs.Laws.{shape-full}
 use Rattle.lists.specs.Items.{asFate, filled}
-use Rattle.reals.specs.Scalar.{realOf}
+use Rattle.reals.specs.Scalar.{realBy}
 use native.Mathlib.Omega.{arith}
 use lib.Ieee.{binary64, toBits}
 use denote.Ref.{now}
@@ -40,17 +40,17 @@ part-fill-real-items-end c = let (n, f, o) = shape-full _ _ (c .before .before .
 fill-real-items-requires : tie.Need-fill-real-items-requires
 fill-real-items-requires c κs = let s = c .before .before in
     let t = s .before .before .before .before .before in
-    fills-full (λ u. asFate (realOf u)) (now (t .args .t)) _ (s .before .before .shape-of .ensures) _ (t .pre) (s .enum-told3 .given .1) .1
+    fills-full (λ u. asFate (realBy (t .args .which) u)) (now (t .args .t)) _ (s .before .before .shape-of .ensures) _ (t .pre) (s .enum-told3 .given .1) .1
 
 returns : tie.Need-returns
 returns c = let s = c .before .before in
     let t = s .before .before .before in
-    absurd (fills-none (λ u. asFate (realOf u)) (now (t .args .t)) _ (s .shape-of .ensures) _ (t .pre) (c .enum-told .given .1))
+    absurd (fills-none (λ u. asFate (realBy (t .args .which) u)) (now (t .args .t)) _ (s .shape-of .ensures) _ (t .pre) (c .enum-told .given .1))
 
 returns-2 : tie.Need-returns-2
 returns-2 c = let s = c .before .before in
     let t = s .before .before .before in
-    fills-blank (λ u. asFate (realOf u)) (now (t .args .t)) _ (s .shape-of .ensures) _ (t .pre) (map (toBits binary64) (now (t .args .out))) (c .enum-told2 .given .1)
+    fills-blank (λ u. asFate (realBy (t .args .which) u)) (now (t .args .t)) _ (s .shape-of .ensures) _ (t .pre) (map (toBits binary64) (now (t .args .out))) (c .enum-told2 .given .1)
 
 same-length : tie.Need-same-length
 same-length c = search needs
@@ -59,7 +59,7 @@ returns-3 : tie.Need-returns-3
 returns-3 c = let i = c .before .before in
     let s = i .before .before .before in
     let t = s .before .before .before .before .before in
-    let (x, y) = fills-full (λ u. asFate (realOf u)) (now (t .args .t)) _ (s .before .before .shape-of .ensures) _ (t .pre) (s .enum-told3 .given .1) in
+    let (x, y) = fills-full (λ u. asFate (realBy (t .args .which) u)) (now (t .args .t)) _ (s .before .before .shape-of .ensures) _ (t .pre) (s .enum-told3 .given .1) in
     (i .fill-real-items .ensures .0 ∙ ap (λ (vs : List ℕ). filled vs (map (toBits binary64) (now (t .args .out)))) (sym x), i .fill-real-items .ensures .1 ∙ ap length (sym x))
 
 pub fill-reals-spec : {M : Type 1} → statement M

@@ -1,7 +1,7 @@
 use Rattle.lists.specs.Keep.{Keeping, keeping-starts, keeping-bad, keeping-last, keeping-goes, keeping-length}
 use Rattle.lists.specs.Fill.{map-set}
 use Rattle.lists.specs.Items.{faulty, asFate, itemsFrom, Kept}
-use Rattle.reals.specs.Scalar.{Answer, realOf, toldReal}
+use Rattle.reals.specs.Scalar.{Answer, realBy, toldReal}
 use native.Mathlib.Omega.{arith}
 use borrow.Author.Needs.{needs}
 use denote.Ref.{now}
@@ -14,28 +14,28 @@ use Rattle.lists.proofs.keep_real_items.Statement.{statement}
 use Rattle.lists.proofs.keep_real_items.Tie as tie
 
 abbrev Inv-loop : tie.InvT-loop
-Inv-loop b first₀ i₀ n₀ first i n = Keeping (λ u. asFate (realOf u)) b (map (toBits binary64) first₀) (map (toBits binary64) first) i n
+Inv-loop which b first₀ i₀ n₀ first i n = Keeping (λ u. asFate (realBy which u)) b (map (toBits binary64) first₀) (map (toBits binary64) first) i n
 
 abbrev μ-loop : tie.MeasureT-loop
-μ-loop b first₀ i₀ n₀ first i n = length b - i
+μ-loop which b first₀ i₀ n₀ first i n = length b - i
 
 loop-holds : tie.Need-loop-holds Inv-loop μ-loop
-loop-holds c = let t = c .before .before in keeping-starts (λ u. asFate (realOf u)) (now (t .args .b)) (map (toBits binary64) (now (t .args .first)))
+loop-holds c = let t = c .before .before in keeping-starts (λ u. asFate (realBy (t .args .which) u)) (now (t .args .b)) (map (toBits binary64) (now (t .args .first)))
 
 item-at-requires : tie.Need-item-at-requires Inv-loop μ-loop
 item-at-requires c κs = search needs
 
-sub-parse-real : tie.Need-sub-parse-real Inv-loop μ-loop
-sub-parse-real c = c .item-at .ensures .ordered
+sub-read-real : tie.Need-sub-read-real Inv-loop μ-loop
+sub-read-real c = c .item-at .ensures .ordered
 
-part-parse-real-start : tie.Need-part-parse-real-start Inv-loop μ-loop
-part-parse-real-start c = omega (arith, c .item-at .ensures .ordered, c .item-at .ensures .short, c .item-at .ensures .within)
+part-read-real-start : tie.Need-part-read-real-start Inv-loop μ-loop
+part-read-real-start c = omega (arith, c .item-at .ensures .ordered, c .item-at .ensures .short, c .item-at .ensures .within)
 
-part-parse-real-end : tie.Need-part-parse-real-end Inv-loop μ-loop
-part-parse-real-end c = omega (arith, c .item-at .ensures .ordered, c .item-at .ensures .short, c .item-at .ensures .within)
+part-read-real-end : tie.Need-part-read-real-end Inv-loop μ-loop
+part-read-real-end c = omega (arith, c .item-at .ensures .ordered, c .item-at .ensures .short, c .item-at .ensures .within)
 
-parse-real-requires : tie.Need-parse-real-requires Inv-loop μ-loop
-parse-real-requires c κs = search needs
+read-real-requires : tie.Need-read-real-requires Inv-loop μ-loop
+read-real-requires c κs = search needs
 
 enum-known-x : tie.Need-enum-known-x Inv-loop μ-loop
 enum-known-x c = search needs
@@ -51,7 +51,7 @@ same-length c = let p = c .before .before in
     let m = p .before .before in
     let l = m .before in
     let t = l .before .before .before in
-    sym (length-map (l .loop .first) (toBits binary64)) ∙ keeping-length (λ x. asFate (realOf x)) (now (t .args .b)) _ _ _ _ (l .loop .inv) ∙ length-map (now (t .args .first)) (toBits binary64)
+    sym (length-map (l .loop .first) (toBits binary64)) ∙ keeping-length (λ x. asFate (realBy (t .args .which) x)) (now (t .args .b)) _ _ _ _ (l .loop .inv) ∙ length-map (now (t .args .first)) (toBits binary64)
 
 returns : tie.Need-returns Inv-loop μ-loop
 returns c = let p = c .before .before in
@@ -59,7 +59,7 @@ returns c = let p = c .before .before in
     let l = m .before in
     let t = l .before .before .before in
     let e : m .item-at .result .start ≡ m .item-at .result .start + 0 = omega arith in
-    let (x, y) = keeping-bad (λ x. asFate (realOf x)) (now (t .args .b)) _ _ _ _ (l .loop .inv) (m .item-at .result) (m .item-at .ensures) 13 0 (ap (λ (a : Answer ℕ). asFate a) (ap toldReal (sym (c .enum-told .given .1)) ∙ p .parse-real .ensures)) in
+    let (x, y) = keeping-bad (λ x. asFate (realBy (t .args .which) x)) (now (t .args .b)) _ _ _ _ (l .loop .inv) (m .item-at .result) (m .item-at .ensures) 13 0 (ap (λ (a : Answer ℕ). asFate a) (ap toldReal (sym (c .enum-told .given .1)) ∙ p .read-real .ensures)) in
     (ap (faulty 13) e ∙ x, y)
 
 enum-told-2 : tie.Need-enum-told-2 Inv-loop μ-loop
@@ -70,7 +70,7 @@ same-length-2 c = let p = c .before .before in
     let m = p .before .before in
     let l = m .before in
     let t = l .before .before .before in
-    sym (length-map (l .loop .first) (toBits binary64)) ∙ keeping-length (λ x. asFate (realOf x)) (now (t .args .b)) _ _ _ _ (l .loop .inv) ∙ length-map (now (t .args .first)) (toBits binary64)
+    sym (length-map (l .loop .first) (toBits binary64)) ∙ keeping-length (λ x. asFate (realBy (t .args .which) x)) (now (t .args .b)) _ _ _ _ (l .loop .inv) ∙ length-map (now (t .args .first)) (toBits binary64)
 
 returns-2 : tie.Need-returns-2 Inv-loop μ-loop
 returns-2 c = let p = c .before .before in
@@ -78,7 +78,7 @@ returns-2 c = let p = c .before .before in
     let l = m .before in
     let t = l .before .before .before in
     let e : m .item-at .result .start ≡ m .item-at .result .start + 0 = omega arith in
-    let (x, y) = keeping-bad (λ x. asFate (realOf x)) (now (t .args .b)) _ _ _ _ (l .loop .inv) (m .item-at .result) (m .item-at .ensures) 12 0 (ap (λ (a : Answer ℕ). asFate a) (ap toldReal (sym (c .enum-told2 .given .1)) ∙ p .parse-real .ensures)) in
+    let (x, y) = keeping-bad (λ x. asFate (realBy (t .args .which) x)) (now (t .args .b)) _ _ _ _ (l .loop .inv) (m .item-at .result) (m .item-at .ensures) 12 0 (ap (λ (a : Answer ℕ). asFate a) (ap toldReal (sym (c .enum-told2 .given .1)) ∙ p .read-real .ensures)) in
     (ap (faulty 12) e ∙ x, y)
 
 add-n : tie.Need-add-n Inv-loop μ-loop
@@ -89,7 +89,7 @@ same-length-3 c = let p = c .before .before .before .before .before .before .bef
     let m = p .before .before in
     let l = m .before in
     let t = l .before .before .before in
-    ap length (c .before .before .before .keep-real .ensures) ∙ length-set (l .loop .first) (l .loop .n) _ ∙ sym (length-map (l .loop .first) (toBits binary64)) ∙ keeping-length (λ x. asFate (realOf x)) (now (t .args .b)) _ _ _ _ (l .loop .inv) ∙ length-map (now (t .args .first)) (toBits binary64)
+    ap length (c .before .before .before .keep-real .ensures) ∙ length-set (l .loop .first) (l .loop .n) _ ∙ sym (length-map (l .loop .first) (toBits binary64)) ∙ keeping-length (λ x. asFate (realBy (t .args .which) x)) (now (t .args .b)) _ _ _ _ (l .loop .inv) ∙ length-map (now (t .args .first)) (toBits binary64)
 
 returns-3 : tie.Need-returns-3 Inv-loop μ-loop
 returns-3 c = let p = c .before .before .before .before .before .before .before .before in
@@ -97,8 +97,8 @@ returns-3 c = let p = c .before .before .before .before .before .before .before 
     let l = m .before in
     let t = l .before .before .before in
     let q = ap (map (toBits binary64)) (c .before .before .before .keep-real .ensures) ∙ map-set (toBits binary64) (l .loop .first) (l .loop .n) (c .before .before .before .before .before .before .x .given .0 .0) in
-    let (x, y) = keeping-last (λ x. asFate (realOf x)) (now (t .args .b)) _ _ _ _ (l .loop .inv) (m .item-at .result) (m .item-at .ensures) _ (ap (λ (a : Answer ℕ). asFate a) (ap toldReal (sym (c .before .before .before .before .before .before .x .given .1)) ∙ p .parse-real .ensures)) (c .if1 .taken) in
-    (x, subst (λ (w : List ℕ). Kept (itemsFrom (suc (length (now (t .args .b)))) (λ u. asFate (realOf u)) 0 (now (t .args .b))) (map (toBits binary64) (now (t .args .first))) w) (sym q) y)
+    let (x, y) = keeping-last (λ x. asFate (realBy (t .args .which) x)) (now (t .args .b)) _ _ _ _ (l .loop .inv) (m .item-at .result) (m .item-at .ensures) _ (ap (λ (a : Answer ℕ). asFate a) (ap toldReal (sym (c .before .before .before .before .before .before .x .given .1)) ∙ p .read-real .ensures)) (c .if1 .taken) in
+    (x, subst (λ (w : List ℕ). Kept (itemsFrom (suc (length (now (t .args .b)))) (λ u. asFate (realBy (t .args .which) u)) 0 (now (t .args .b))) (map (toBits binary64) (now (t .args .first))) w) (sym q) y)
 
 add-i : tie.Need-add-i Inv-loop μ-loop
 add-i c = omega (arith, c .before .before .before .before .before .before .before .before .before .before .item-at .ensures .within)
@@ -112,8 +112,8 @@ loop-again c = let p = c .before .before .before .before .before .before .before
     let l = m .before in
     let t = l .before .before .before in
     let q = ap (map (toBits binary64)) (c .before .before .before .keep-real .ensures) ∙ map-set (toBits binary64) (l .loop .first) (l .loop .n) (c .before .before .before .before .before .before .x .given .0 .0) in
-    subst (λ (w : List ℕ). Keeping (λ u. asFate (realOf u)) (now (t .args .b)) (map (toBits binary64) (now (t .args .first))) w (m .item-at .result .bound + 1) (l .loop .n + 1)) (sym q)
-    (keeping-goes (λ x. asFate (realOf x)) (now (t .args .b)) _ _ _ _ (l .loop .inv) (m .item-at .result) (m .item-at .ensures) _ (ap (λ (a : Answer ℕ). asFate a) (ap toldReal (sym (c .before .before .before .before .before .before .x .given .1)) ∙ p .parse-real .ensures)) (omega (arith, m .item-at .ensures .within, c .if1 .left)))
+    subst (λ (w : List ℕ). Keeping (λ u. asFate (realBy (t .args .which) u)) (now (t .args .b)) (map (toBits binary64) (now (t .args .first))) w (m .item-at .result .bound + 1) (l .loop .n + 1)) (sym q)
+    (keeping-goes (λ x. asFate (realBy (t .args .which) x)) (now (t .args .b)) _ _ _ _ (l .loop .inv) (m .item-at .result) (m .item-at .ensures) _ (ap (λ (a : Answer ℕ). asFate a) (ap toldReal (sym (c .before .before .before .before .before .before .x .given .1)) ∙ p .read-real .ensures)) (omega (arith, m .item-at .ensures .within, c .if1 .left)))
 
 pub keep-real-items-spec : {M : Type 1} → statement M
 keep-real-items-spec =
@@ -123,10 +123,10 @@ keep-real-items-spec =
     μ-loop
     loop-holds
     item-at-requires
-    sub-parse-real
-    part-parse-real-start
-    part-parse-real-end
-    parse-real-requires
+    sub-read-real
+    part-read-real-start
+    part-read-real-end
+    read-real-requires
     enum-known-x
     keep-real-requires
     enum-told

@@ -3,7 +3,7 @@ use Rattle.lists.specs.Keep.{kept-none, kept-blank, kept-full}
 use Rattle.lists.specs.Places.{scalar-inward, items-inward, told-place}
 use Rattle.lists.specs.Laws.{shape-full, body-length}
 use Rattle.lists.specs.Items.{asFate, itemsFrom, toldCounted}
-use Rattle.reals.specs.Scalar.{realOf}
+use Rattle.reals.specs.Scalar.{realBy}
 use native.Mathlib.Omega.{arith}
 use denote.Ref.{now}
 use lib.Ieee.{binary64, toBits}
@@ -47,36 +47,38 @@ enum-known-k c = search needs
 enum-known-o : tie.Need-enum-known-o
 enum-known-o c = search needs
 
-add-t18 : tie.Need-add-t18
-add-t18 c = let i = c .before .before .before .before .before in
+add-t19 : tie.Need-add-t19
+add-t19 c = let i = c .before .before .before .before .before in
     let s = i .before .before .before in
-    let t = now (s .before .before .before .before .before .args .t) in
+    let a = s .before .before .before .before .before .args in
+    let t = now (a .t) in
     let (n, f, o) = shape-full t _ (s .before .before .shape-of .ensures) (s .enum-told3 .given .1) in
     let b = take (length t - 1 - 1) (drop 1 t) in
-    let p = told-place length (itemsFrom (suc (length b)) (λ u. asFate (realOf u)) 0 b) 12 (c .before .o .given .0 .0) (0 + length b) (ap toldCounted (sym (c .before .o .given .1)) ∙ i .keep-real-items .ensures .0) (items-inward (λ u. asFate (realOf u)) (scalar-inward realOf) (suc (length b)) 0 b) in
+    let p = told-place length (itemsFrom (suc (length b)) (λ u. asFate (realBy (a .which) u)) 0 b) 12 (c .before .o .given .0 .0) (0 + length b) (ap toldCounted (sym (c .before .o .given .1)) ∙ i .keep-real-items .ensures .0) (items-inward (λ u. asFate (realBy (a .which) u)) (scalar-inward (realBy (a .which))) (suc (length b)) 0 b) in
     omega (arith, n, body-length t n, p)
 
 enum-known-o-2 : tie.Need-enum-known-o-2
 enum-known-o-2 c = search needs
 
-add-t19 : tie.Need-add-t19
-add-t19 c = let i = c .before .before .before .before .before in
+add-t20 : tie.Need-add-t20
+add-t20 c = let i = c .before .before .before .before .before in
     let s = i .before .before .before in
-    let t = now (s .before .before .before .before .before .args .t) in
+    let a = s .before .before .before .before .before .args in
+    let t = now (a .t) in
     let (n, f, o) = shape-full t _ (s .before .before .shape-of .ensures) (s .enum-told3 .given .1) in
     let b = take (length t - 1 - 1) (drop 1 t) in
-    let p = told-place length (itemsFrom (suc (length b)) (λ u. asFate (realOf u)) 0 b) 13 (c .before .o2 .given .0 .0) (0 + length b) (ap toldCounted (sym (c .before .o2 .given .1)) ∙ i .keep-real-items .ensures .0) (items-inward (λ u. asFate (realOf u)) (scalar-inward realOf) (suc (length b)) 0 b) in
+    let p = told-place length (itemsFrom (suc (length b)) (λ u. asFate (realBy (a .which) u)) 0 b) 13 (c .before .o2 .given .0 .0) (0 + length b) (ap toldCounted (sym (c .before .o2 .given .1)) ∙ i .keep-real-items .ensures .0) (items-inward (λ u. asFate (realBy (a .which) u)) (scalar-inward (realBy (a .which))) (suc (length b)) 0 b) in
     omega (arith, n, body-length t n, p)
 
 returns : tie.Need-returns
 returns c = let s = c .before .before in
     let t = s .before .before .before .args in
-    kept-none (λ u. asFate (realOf u)) (now (t .t)) _ (s .shape-of .ensures) (map (toBits binary64) (now (t .first))) (c .enum-told .given .1)
+    kept-none (λ u. asFate (realBy (t .which) u)) (now (t .t)) _ (s .shape-of .ensures) (map (toBits binary64) (now (t .first))) (c .enum-told .given .1)
 
 returns-2 : tie.Need-returns-2
 returns-2 c = let s = c .before .before in
     let t = s .before .before .before .args in
-    kept-blank (λ u. asFate (realOf u)) (now (t .t)) _ (s .shape-of .ensures) (map (toBits binary64) (now (t .first))) (c .enum-told2 .given .1)
+    kept-blank (λ u. asFate (realBy (t .which) u)) (now (t .t)) _ (s .shape-of .ensures) (map (toBits binary64) (now (t .first))) (c .enum-told2 .given .1)
 
 same-length : tie.Need-same-length
 same-length c = search needs
@@ -85,7 +87,7 @@ returns-3 : tie.Need-returns-3
 returns-3 c = let i = c .before .before .before .before .before in
     let s = i .before .before .before in
     let t = s .before .before .before .before .before .args in
-    kept-full (λ u. asFate (realOf u)) (now (t .t)) _ (s .before .before .shape-of .ensures) (map (toBits binary64) (now (t .first))) (s .enum-told3 .given .1) _ _ (ap toldCounted (sym (c .before .k .given .1)) ∙ i .keep-real-items .ensures .0) (i .keep-real-items .ensures .1)
+    kept-full (λ u. asFate (realBy (t .which) u)) (now (t .t)) _ (s .before .before .shape-of .ensures) (map (toBits binary64) (now (t .first))) (s .enum-told3 .given .1) _ _ (ap toldCounted (sym (c .before .k .given .1)) ∙ i .keep-real-items .ensures .0) (i .keep-real-items .ensures .1)
 
 same-length-2 : tie.Need-same-length-2
 same-length-2 c = search needs
@@ -94,7 +96,7 @@ returns-4 : tie.Need-returns-4
 returns-4 c = let i = c .before .before .before .before .before in
     let s = i .before .before .before in
     let t = s .before .before .before .before .before .args in
-    kept-full (λ u. asFate (realOf u)) (now (t .t)) _ (s .before .before .shape-of .ensures) (map (toBits binary64) (now (t .first))) (s .enum-told3 .given .1) _ _ (ap toldCounted (sym (c .before .o .given .1)) ∙ i .keep-real-items .ensures .0) (i .keep-real-items .ensures .1)
+    kept-full (λ u. asFate (realBy (t .which) u)) (now (t .t)) _ (s .before .before .shape-of .ensures) (map (toBits binary64) (now (t .first))) (s .enum-told3 .given .1) _ _ (ap toldCounted (sym (c .before .o .given .1)) ∙ i .keep-real-items .ensures .0) (i .keep-real-items .ensures .1)
 
 same-length-3 : tie.Need-same-length-3
 same-length-3 c = search needs
@@ -103,7 +105,7 @@ returns-5 : tie.Need-returns-5
 returns-5 c = let i = c .before .before .before .before .before in
     let s = i .before .before .before in
     let t = s .before .before .before .before .before .args in
-    kept-full (λ u. asFate (realOf u)) (now (t .t)) _ (s .before .before .shape-of .ensures) (map (toBits binary64) (now (t .first))) (s .enum-told3 .given .1) _ _ (ap toldCounted (sym (c .before .o2 .given .1)) ∙ i .keep-real-items .ensures .0) (i .keep-real-items .ensures .1)
+    kept-full (λ u. asFate (realBy (t .which) u)) (now (t .t)) _ (s .before .before .shape-of .ensures) (map (toBits binary64) (now (t .first))) (s .enum-told3 .given .1) _ _ (ap toldCounted (sym (c .before .o2 .given .1)) ∙ i .keep-real-items .ensures .0) (i .keep-real-items .ensures .1)
 
 pub keep-reals-spec : {M : Type 1} → statement M
 keep-reals-spec =
@@ -120,9 +122,9 @@ keep-reals-spec =
     keep-real-items-requires
     enum-known-k
     enum-known-o
-    add-t18
-    enum-known-o-2
     add-t19
+    enum-known-o-2
+    add-t20
     returns
     returns-2
     same-length

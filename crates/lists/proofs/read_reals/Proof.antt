@@ -1,7 +1,7 @@
 use borrow.Author.Needs.{needs}
 use Rattle.lists.specs.Keep.{kept-bad, kept-short, kept-fits, kept-ready}
 use Rattle.lists.specs.Items.{listOf, toldCounted}
-use Rattle.reals.specs.Scalar.{realOf}
+use Rattle.reals.specs.Scalar.{realBy}
 use native.Mathlib.Omega.{arith}
 use denote.Ref.{now}
 use lib.Ieee.{binary64, toBits}
@@ -30,7 +30,7 @@ returns : tie.Need-returns
 returns c = let k = c .before .before .before .before .before in
     let t = k .before .before .before .before .args in
     let e = ap toldCounted (sym (c .before .before .n .given .1)) ∙ k .keep-reals .ensures .0 in
-    kept-short (listOf realOf (now (t .t))) (length (now (t .out))) (map (toBits binary64) (now (t .out))) _ e (c .if1 .taken)
+    kept-short (listOf (realBy (t .which)) (now (t .t))) (length (now (t .out))) (map (toBits binary64) (now (t .out))) _ e (c .if1 .taken)
 
 slice-aggregate-write-reals : tie.Need-slice-aggregate-write-reals
 slice-aggregate-write-reals c = search needs
@@ -39,19 +39,19 @@ write-reals-requires : tie.Need-write-reals-requires
 write-reals-requires c κs = let k = c .before .before .before .before .before .before .before in
     let t = k .before .before .before .before .args in
     let e = ap toldCounted (sym (c .before .before .before .before .n .given .1)) ∙ k .keep-reals .ensures .0 in
-    kept-ready (listOf realOf (now (t .t))) (length (now (t .out))) _ _ _ e (omega (arith, c .before .before .if1 .left)) (k .keep-reals .ensures .1)
+    kept-ready (listOf (realBy (t .which)) (now (t .t))) (length (now (t .out))) _ _ _ e (omega (arith, c .before .before .if1 .left)) (k .keep-reals .ensures .1)
 
 returns-2 : tie.Need-returns-2
 returns-2 c = let k = c .before .before .before .before in
     let t = k .before .before .before .before .args in
     let e = ap toldCounted (sym (c .before .o .given .1)) ∙ k .keep-reals .ensures .0 in
-    kept-bad (listOf realOf (now (t .t))) (length (now (t .out))) (map (toBits binary64) (now (t .out))) 12 _ e
+    kept-bad (listOf (realBy (t .which)) (now (t .t))) (length (now (t .out))) (map (toBits binary64) (now (t .out))) 12 _ e
 
 returns-3 : tie.Need-returns-3
 returns-3 c = let k = c .before .before .before .before in
     let t = k .before .before .before .before .args in
     let e = ap toldCounted (sym (c .before .o2 .given .1)) ∙ k .keep-reals .ensures .0 in
-    kept-bad (listOf realOf (now (t .t))) (length (now (t .out))) (map (toBits binary64) (now (t .out))) 13 _ e
+    kept-bad (listOf (realBy (t .which)) (now (t .t))) (length (now (t .out))) (map (toBits binary64) (now (t .out))) 13 _ e
 
 same-length : tie.Need-same-length
 same-length c = search needs
@@ -60,7 +60,7 @@ returns-4 : tie.Need-returns-4
 returns-4 c = let k = c .before .before .before .before .before .before .before .before .before .before in
     let t = k .before .before .before .before .args in
     let e = ap toldCounted (sym (c .before .before .before .before .before .before .before .n .given .1)) ∙ k .keep-reals .ensures .0 in
-    kept-fits (listOf realOf (now (t .t))) (length (now (t .out))) (map (toBits binary64) (now (t .out))) _ _ e (omega (arith, c .before .before .before .before .before .if1 .left)) (c .before .before .write-reals .ensures)
+    kept-fits (listOf (realBy (t .which)) (now (t .t))) (length (now (t .out))) (map (toBits binary64) (now (t .out))) _ _ e (omega (arith, c .before .before .before .before .before .if1 .left)) (c .before .before .write-reals .ensures)
 
 pub read-reals-spec : {M : Type 1} → statement M
 read-reals-spec =

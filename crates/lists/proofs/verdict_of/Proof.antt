@@ -31,11 +31,14 @@ enum-told-5 c = search needs
 enum-told-6 : tie.Need-enum-told-6
 enum-told-6 c = search needs
 
+enum-known-kind : tie.Need-enum-known-kind
+enum-known-kind c = search needs
+
+read-real-requires : tie.Need-read-real-requires
+read-real-requires c κs = search needs
+
 enum-told-7 : tie.Need-enum-told-7
 enum-told-7 c = search needs
-
-parse-real-requires : tie.Need-parse-real-requires
-parse-real-requires c κs = search needs
 
 enum-told-8 : tie.Need-enum-told-8
 enum-told-8 c = search needs
@@ -45,9 +48,6 @@ enum-told-9 c = search needs
 
 enum-told-10 : tie.Need-enum-told-10
 enum-told-10 c = search needs
-
-enum-told-11 : tie.Need-enum-told-11
-enum-told-11 c = search needs
 
 returns : tie.Need-returns
 returns c = rw (c .before .before .before .enum-told .given .1) (ap (λ (a : Answer ℕ). mute (asFate a)) (ap toldReference (sym (c .enum-told2 .given .1)) ∙ c .before .before .parse-ref .ensures))
@@ -62,16 +62,16 @@ returns-4 : tie.Need-returns-4
 returns-4 c = rw (c .before .before .before .enum-told4 .given .1) (ap (λ (a : Answer ℤ). mute (asFate a)) (ap toldWhole (sym (c .enum-told6 .given .1)) ∙ c .before .before .parse-int .ensures))
 
 returns-5 : tie.Need-returns-5
-returns-5 c = rw (c .before .before .before .enum-told7 .given .1) (ap (λ (a : Answer ℕ). mute (asFate a)) (ap toldReal (sym (c .enum-told8 .given .1)) ∙ c .before .before .parse-real .ensures))
+returns-5 c = rw (c .before .before .before .before .kind .given .1) (ap (λ (a : Answer ℕ). mute (asFate a)) (ap toldReal (sym (c .enum-told7 .given .1)) ∙ c .before .before .read-real .ensures))
 
 returns-6 : tie.Need-returns-6
-returns-6 c = rw (c .before .before .before .enum-told7 .given .1) (ap (λ (a : Answer ℕ). mute (asFate a)) (ap toldReal (sym (c .enum-told9 .given .1)) ∙ c .before .before .parse-real .ensures))
+returns-6 c = rw (c .before .before .before .before .kind .given .1) (ap (λ (a : Answer ℕ). mute (asFate a)) (ap toldReal (sym (c .enum-told8 .given .1)) ∙ c .before .before .read-real .ensures))
 
 returns-7 : tie.Need-returns-7
-returns-7 c = rw (c .before .before .before .enum-told7 .given .1) (ap (λ (a : Answer ℕ). mute (asFate a)) (ap toldReal (sym (c .enum-told10 .given .1)) ∙ c .before .before .parse-real .ensures))
+returns-7 c = rw (c .before .before .before .before .kind .given .1) (ap (λ (a : Answer ℕ). mute (asFate a)) (ap toldReal (sym (c .enum-told9 .given .1)) ∙ c .before .before .read-real .ensures))
 
 returns-8 : tie.Need-returns-8
-returns-8 c = rw (c .enum-told11 .given .1) refl
+returns-8 c = rw (c .enum-told10 .given .1) refl
 
 pub verdict-of-spec : {M : Type 1} → statement M
 verdict-of-spec =
@@ -85,12 +85,12 @@ verdict-of-spec =
     parse-int-requires
     enum-told-5
     enum-told-6
+    enum-known-kind
+    read-real-requires
     enum-told-7
-    parse-real-requires
     enum-told-8
     enum-told-9
     enum-told-10
-    enum-told-11
     returns
     returns-2
     returns-3

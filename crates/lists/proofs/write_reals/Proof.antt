@@ -1,7 +1,7 @@
 use borrow.Author.Needs.{needs}
 use Rattle.lists.specs.Keep.{copy-held}
 use Rattle.lists.specs.Items.{listOf}
-use Rattle.reals.specs.Scalar.{realOf}
+use Rattle.reals.specs.Scalar.{realBy}
 use denote.Ref.{now}
 use lib.Ieee.{binary64, toBits}
 use Rattle.lists.proofs.write_reals.Statement.{statement}
@@ -15,7 +15,7 @@ same-length c = search needs
 
 returns : tie.Need-returns
 returns c = let t = c .before .before .before .before .before .before .before .before in
-    copy-held (toBits binary64) (listOf realOf (now (t .args .t))) (now (t .args .first)) (now (t .args .out)) _ (t .args .n) (t .pre .1 .0) (c .before .before .before .before .if1 .taken) (t .pre .1 .1) (c .before .before .lay-reals .ensures)
+    copy-held (toBits binary64) (listOf (realBy (t .args .which)) (now (t .args .t))) (now (t .args .first)) (now (t .args .out)) _ (t .args .n) (t .pre .1 .0) (c .before .before .before .before .if1 .taken) (t .pre .1 .1) (c .before .before .lay-reals .ensures)
 
 fill-reals-requires : tie.Need-fill-reals-requires
 fill-reals-requires c κs = search needs

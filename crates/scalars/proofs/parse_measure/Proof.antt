@@ -1,6 +1,6 @@
 use borrow.Author.Needs.{needs}
 use Rattle.scalars.specs.Laws.{measure-real, measure-kernel, inner-part, inner-bare}
-use Rattle.reals.specs.Scalar.{toldReal}
+use Rattle.reals.specs.Scalar.{toldReal, realBy}
 use Rattle.lex.specs.Right.Steps.{clash}
 use mathlib.Core.Path.{refl, _∙_, sym, ap}
 use native.Mathlib.Omega.{arith}
@@ -9,8 +9,8 @@ use borrow.Author.Tests.{eqb-false}
 use Rattle.scalars.proofs.parse_measure.Statement.{statement}
 use Rattle.scalars.proofs.parse_measure.Tie as tie
 
-parse-real-requires : tie.Need-parse-real-requires
-parse-real-requires c κs = search needs
+read-real-requires : tie.Need-read-real-requires
+read-real-requires c κs = search needs
 
 enum-known-x : tie.Need-enum-known-x
 enum-known-x c = search needs
@@ -27,51 +27,51 @@ inner-of-requires c κs = search needs
 enum-known-a : tie.Need-enum-known-a
 enum-known-a c = search needs
 
-sub-parse-real : tie.Need-sub-parse-real
-sub-parse-real c = let i = inner-part _ _ _ _ (c .before .before .before .inner-of .ensures) (c .before .a .given .1) in i .1
+sub-read-real : tie.Need-sub-read-real
+sub-read-real c = let i = inner-part _ _ _ _ (c .before .before .before .inner-of .ensures) (c .before .a .given .1) in i .1
 
-part-parse-real-start : tie.Need-part-parse-real-start
-part-parse-real-start c = let (e, u, v) = inner-part _ _ _ _ (c .before .before .before .inner-of .ensures) (c .before .a .given .1) in omega (arith, u, v)
+part-read-real-start : tie.Need-part-read-real-start
+part-read-real-start c = let (e, u, v) = inner-part _ _ _ _ (c .before .before .before .inner-of .ensures) (c .before .a .given .1) in omega (arith, u, v)
 
-part-parse-real-end : tie.Need-part-parse-real-end
-part-parse-real-end c = let (e, u, v) = inner-part _ _ _ _ (c .before .before .before .inner-of .ensures) (c .before .a .given .1) in omega (arith, u, v)
+part-read-real-end : tie.Need-part-read-real-end
+part-read-real-end c = let (e, u, v) = inner-part _ _ _ _ (c .before .before .before .inner-of .ensures) (c .before .a .given .1) in omega (arith, u, v)
 
-parse-real-requires-2 : tie.Need-parse-real-requires-2
-parse-real-requires-2 c κs = search needs
+read-real-requires-2 : tie.Need-read-real-requires-2
+read-real-requires-2 c κs = search needs
 
 enum-told-3 : tie.Need-enum-told-3
 enum-told-3 c = search needs
 
 returns : tie.Need-returns
-returns c = measure-real (now (c .before .before .before .before .before .args .t)) _ (ap toldReal (sym (c .before .x .given .1)) ∙ c .before .before .before .parse-real .ensures) (λ e. clash (cc))
+returns c = measure-real (realBy (c .before .before .before .before .before .args .which)) (now (c .before .before .before .before .before .args .t)) _ (ap toldReal (sym (c .before .x .given .1)) ∙ c .before .before .before .read-real .ensures) (λ e. clash (cc))
 
 returns-2 : tie.Need-returns-2
-returns-2 c = measure-real (now (c .before .before .before .before .args .t)) _ (ap toldReal (sym (c .enum-told .given .1)) ∙ c .before .before .parse-real .ensures) (λ e. eqb-false 13 12 refl (cc))
+returns-2 c = measure-real (realBy (c .before .before .before .before .args .which)) (now (c .before .before .before .before .args .t)) _ (ap toldReal (sym (c .enum-told .given .1)) ∙ c .before .before .read-real .ensures) (λ e. eqb-false 13 12 refl (cc))
 
 returns-3 : tie.Need-returns-3
 returns-3 c = let d = c .before .before .before in
     let g = d .before .before .before in
     let i = inner-part _ _ _ _ (d .before .before .inner-of .ensures) (d .a .given .1) in
-    c .parse-real2 .ensures ∙ measure-kernel (now (g .before .before .before .before .args .t)) _ (ap toldReal (sym (g .enum-told2 .given .1)) ∙ g .before .before .parse-real .ensures) (i .0)
+    c .read-real2 .ensures ∙ measure-kernel (realBy (g .before .before .before .before .args .which)) (now (g .before .before .before .before .args .t)) _ (ap toldReal (sym (g .enum-told2 .given .1)) ∙ g .before .before .read-real .ensures) (i .0)
 
 returns-4 : tie.Need-returns-4
 returns-4 c = let g = c .before .before .before in
-    measure-kernel (now (g .before .before .before .before .args .t)) _ (ap toldReal (sym (g .enum-told2 .given .1)) ∙ g .before .before .parse-real .ensures) (inner-bare _ _ (c .before .before .inner-of .ensures) (c .enum-told3 .given .1))
+    measure-kernel (realBy (g .before .before .before .before .args .which)) (now (g .before .before .before .before .args .t)) _ (ap toldReal (sym (g .enum-told2 .given .1)) ∙ g .before .before .read-real .ensures) (inner-bare _ _ (c .before .before .inner-of .ensures) (c .enum-told3 .given .1))
 
 pub parse-measure-spec : {M : Type 1} → statement M
 parse-measure-spec =
     tie.close
     (tie.spec
-    parse-real-requires
+    read-real-requires
     enum-known-x
     enum-told
     enum-told-2
     inner-of-requires
     enum-known-a
-    sub-parse-real
-    part-parse-real-start
-    part-parse-real-end
-    parse-real-requires-2
+    sub-read-real
+    part-read-real-start
+    part-read-real-end
+    read-real-requires-2
     enum-told-3
     returns
     returns-2

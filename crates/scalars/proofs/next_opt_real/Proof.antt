@@ -3,12 +3,12 @@ use Rattle.scalars.specs.Laws.{next-refused, next-read, option-unset, op
 use Rattle.scalars.specs.Scalars.{optionOf}
 use Rattle.params.specs.ReaderLaws.{cut-places}
 use Rattle.params.specs.Reader.{toldCut}
-use Rattle.reals.specs.Scalar.{realOf}
+use Rattle.reals.specs.Scalar.{realBy}
 use mathlib.Core.Path.{_∙_, sym, ap}
 use native.Mathlib.Omega.{arith}
 use denote.Ref.{now}
-use Rattle.scalars.proofs.next_opt_f64.Statement.{statement}
-use Rattle.scalars.proofs.next_opt_f64.Tie as tie
+use Rattle.scalars.proofs.next_opt_real.Statement.{statement}
+use Rattle.scalars.proofs.next_opt_real.Tie as tie
 
 param-span-requires : tie.Need-param-span-requires
 param-span-requires c κs = search needs
@@ -34,29 +34,29 @@ is-unset-requires c κs = search needs
 returns : tie.Need-returns
 returns c = let g = c .before .before .before .before in
     let a = g .before .before .before .before .args in
-    next-read (optionOf realOf) (now (a .file)) (a .at .place) (a .at .end) _ _ _ _ _ (ap toldCut (sym (g .start .given .1)) ∙ g .before .before .param-span .ensures .0)
-    (option-unset realOf _ (sym (c .before .is-unset .ensures) ∙ c .if1 .taken))
+    next-read (optionOf (realBy (a .which))) (now (a .file)) (a .at .place) (a .at .end) _ _ _ _ _ (ap toldCut (sym (g .start .given .1)) ∙ g .before .before .param-span .ensures .0)
+    (option-unset (realBy (a .which)) _ (sym (c .before .is-unset .ensures) ∙ c .if1 .taken))
 
-parse-real-requires : tie.Need-parse-real-requires
-parse-real-requires c κs = search needs
+read-real-requires : tie.Need-read-real-requires
+read-real-requires c κs = search needs
 
 opt-real-read-requires : tie.Need-opt-real-read-requires
 opt-real-read-requires c κs = search needs
 
 returns-2 : tie.Need-returns-2
 returns-2 c = let a = c .before .before .before .before .before .args in
-    next-refused (optionOf realOf) (now (a .file)) (a .at .place) (a .at .end) _ _ _ (ap toldCut (sym (c .before .f .given .1)) ∙ c .before .before .before .param-span .ensures .0)
+    next-refused (optionOf (realBy (a .which))) (now (a .file)) (a .at .place) (a .at .end) _ _ _ (ap toldCut (sym (c .before .f .given .1)) ∙ c .before .before .before .param-span .ensures .0)
 
 returns-3 : tie.Need-returns-3
 returns-3 c = let i = c .before .before in
     let g = i .before .before .before .before in
     let a = g .before .before .before .before .args in
     c .opt-real-read .ensures
-    ∙ next-read (optionOf realOf) (now (a .file)) (a .at .place) (a .at .end) _ _ _ _ _ (ap toldCut (sym (g .start .given .1)) ∙ g .before .before .param-span .ensures .0)
-    (option-given realOf _ _ (sym (i .before .is-unset .ensures) ∙ i .if1 .left) (c .before .parse-real .ensures))
+    ∙ next-read (optionOf (realBy (a .which))) (now (a .file)) (a .at .place) (a .at .end) _ _ _ _ _ (ap toldCut (sym (g .start .given .1)) ∙ g .before .before .param-span .ensures .0)
+    (option-given (realBy (a .which)) _ _ (sym (i .before .is-unset .ensures) ∙ i .if1 .left) (c .before .read-real .ensures))
 
-pub next-opt-f64-spec : {M : Type 1} → statement M
-next-opt-f64-spec =
+pub next-opt-real-spec : {M : Type 1} → statement M
+next-opt-real-spec =
     tie.close
     (tie.spec
     param-span-requires
@@ -67,7 +67,7 @@ next-opt-f64-spec =
     part-t-end
     is-unset-requires
     returns
-    parse-real-requires
+    read-real-requires
     opt-real-read-requires
     returns-2
     returns-3)

@@ -5,7 +5,7 @@ use Rattle.lists.specs.Items.{asFate, listOf}
 use Rattle.lists.specs.Places.{list-inward, scalar-inward}
 use Rattle.params.specs.ReaderLaws.{cut-places}
 use Rattle.params.specs.Reader.{toldCut}
-use Rattle.reals.specs.Scalar.{realOf}
+use Rattle.reals.specs.Scalar.{realBy}
 use Rattle.grids.specs.Grid.{gridOf, gridFits}
 use Rattle.grids.specs.Laws.{grids-uncut, grids-cut, grid-inward}
 use native.Mathlib.Omega.{arith}
@@ -13,8 +13,8 @@ use denote.Ref.{now}
 use lib.ListN.{length, take, drop, length-take, length-drop}
 use mathlib.Core.Path.{ap, sym, _∙_}
 use Prim.Native.Nat.{_-_}
-use Rattle.grids.proofs.next_f64_grid.Statement.{statement}
-use Rattle.grids.proofs.next_f64_grid.Tie as tie
+use Rattle.grids.proofs.next_real_grid.Statement.{statement}
+use Rattle.grids.proofs.next_real_grid.Tie as tie
 
 param-span-requires : tie.Need-param-span-requires
 param-span-requires c κs = search needs
@@ -45,12 +45,12 @@ answer-of-requires c κs = let i = c .before .before .before .before in
     let a = g .start .given .0 .0 in
     let z = g .start .given .0 .1 .0 in
     let (u, v) = cut-places _ _ _ _ _ (g .before .before .param-span .ensures .1) (g .start .given .1) in
-    let h = grid-inward (gridOf realOf) (list-inward (listOf realOf) (list-inward (λ x. asFate (realOf x)) (scalar-inward realOf))) (gridFits (length (now (t .args .out))) (length (now (t .args .ends)))) (take (z - a) (drop a s)) (i .read-real-grid .result) (i .read-real-grid .ensures .0) in
+    let h = grid-inward (gridOf (realBy (t .args .which))) (list-inward (listOf (realBy (t .args .which))) (list-inward (λ x. asFate (realBy (t .args .which) x)) (scalar-inward (realBy (t .args .which))))) (gridFits (length (now (t .args .out))) (length (now (t .args .ends)))) (take (z - a) (drop a s)) (i .read-real-grid .result) (i .read-real-grid .ensures .0) in
     omega (arith, u, v, h, length-take (z - a) (drop a s), length-drop a s)
 
 returns : tie.Need-returns
 returns c = let t = c .before .before .before .before .before .before .before in
-    grids-uncut (gridOf realOf) (map (toBits binary64) (now (t .args .out))) (now (t .args .ends)) (length (now (t .args .out))) (length (now (t .args .ends))) (now (t .args .file)) (t .args .at .place) (t .args .at .end) _ _ _ (ap toldCut (sym (c .before .f .given .1)) ∙ c .before .before .before .param-span .ensures .0)
+    grids-uncut (gridOf (realBy (t .args .which))) (map (toBits binary64) (now (t .args .out))) (now (t .args .ends)) (length (now (t .args .out))) (length (now (t .args .ends))) (now (t .args .file)) (t .args .at .place) (t .args .at .end) _ _ _ (ap toldCut (sym (c .before .f .given .1)) ∙ c .before .before .before .param-span .ensures .0)
 
 same-length : tie.Need-same-length
 same-length c = search needs
@@ -62,12 +62,12 @@ returns-2 : tie.Need-returns-2
 returns-2 c = let i = c .before .before .before .before .before in
     let g = i .before .before .before .before .before in
     let t = g .before .before .before .before .before .before in
-    let (x, y) = grids-cut (gridOf realOf) (map (toBits binary64) (now (t .args .out))) (now (t .args .ends)) (length (now (t .args .out))) (length (now (t .args .ends))) (now (t .args .file)) (t .args .at .place) (t .args .at .end) _ _ _ _
+    let (x, y) = grids-cut (gridOf (realBy (t .args .which))) (map (toBits binary64) (now (t .args .out))) (now (t .args .ends)) (length (now (t .args .out))) (length (now (t .args .ends))) (now (t .args .file)) (t .args .at .place) (t .args .at .end) _ _ _ _
     (ap toldCut (sym (g .start .given .1)) ∙ g .before .before .param-span .ensures .0) _ _ _ (i .read-real-grid .ensures .0) (i .read-real-grid .ensures .1 .0) (i .read-real-grid .ensures .1 .1) in
     (c .answer-of .ensures ∙ x, y)
 
-pub next-f64-grid-spec : {M : Type 1} → statement M
-next-f64-grid-spec =
+pub next-real-grid-spec : {M : Type 1} → statement M
+next-real-grid-spec =
     tie.close
     (tie.spec
     param-span-requires

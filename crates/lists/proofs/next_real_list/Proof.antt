@@ -4,7 +4,7 @@ use Rattle.lists.specs.Places.{read-inward, list-inward, scalar-inward}
 use Rattle.lists.specs.Items.{asFate, listOf, fitsIn}
 use Rattle.params.specs.ReaderLaws.{cut-places}
 use Rattle.params.specs.Reader.{toldCut}
-use Rattle.reals.specs.Scalar.{realOf}
+use Rattle.reals.specs.Scalar.{realBy}
 use native.Mathlib.Omega.{arith}
 use denote.Ref.{now}
 use lib.ListN.{length, take, drop, length-take, length-drop}
@@ -12,8 +12,8 @@ use mathlib.Core.Path.{ap, sym, _∙_}
 use Prim.Native.Nat.{_-_}
 use lib.Ieee.{binary64, toBits}
 use mathlib.Core.List.{map}
-use Rattle.lists.proofs.next_f64_list.Statement.{statement}
-use Rattle.lists.proofs.next_f64_list.Tie as tie
+use Rattle.lists.proofs.next_real_list.Statement.{statement}
+use Rattle.lists.proofs.next_real_list.Tie as tie
 
 param-span-requires : tie.Need-param-span-requires
 param-span-requires c κs = search needs
@@ -44,12 +44,12 @@ answer-of-requires c κs = let i = c .before .before in
     let a = g .start .given .0 .0 in
     let z = g .start .given .0 .1 .0 in
     let (u, v) = cut-places _ _ _ _ _ (g .before .before .param-span .ensures .1) (g .start .given .1) in
-    let h = read-inward (listOf realOf) (list-inward (λ x. asFate (realOf x)) (scalar-inward realOf)) (fitsIn (length (now (t .args .out)))) (take (z - a) (drop a s)) (i .read-reals .result) (i .read-reals .ensures .0) in
+    let h = read-inward (listOf (realBy (t .args .which))) (list-inward (λ x. asFate (realBy (t .args .which) x)) (scalar-inward (realBy (t .args .which)))) (fitsIn (length (now (t .args .out)))) (take (z - a) (drop a s)) (i .read-reals .result) (i .read-reals .ensures .0) in
     omega (arith, u, v, h, length-take (z - a) (drop a s), length-drop a s)
 
 returns : tie.Need-returns
 returns c = let t = c .before .before .before .before .before .before in
-    lists-uncut (listOf realOf) (map (toBits binary64) (now (t .args .out))) (length (now (t .args .out))) (now (t .args .file)) (t .args .at .place) (t .args .at .end) _ _ _ (ap toldCut (sym (c .before .f .given .1)) ∙ c .before .before .before .param-span .ensures .0)
+    lists-uncut (listOf (realBy (t .args .which))) (map (toBits binary64) (now (t .args .out))) (length (now (t .args .out))) (now (t .args .file)) (t .args .at .place) (t .args .at .end) _ _ _ (ap toldCut (sym (c .before .f .given .1)) ∙ c .before .before .before .param-span .ensures .0)
 
 same-length : tie.Need-same-length
 same-length c = search needs
@@ -58,12 +58,12 @@ returns-2 : tie.Need-returns-2
 returns-2 c = let i = c .before .before .before in
     let g = i .before .before .before .before in
     let t = g .before .before .before .before .before in
-    let (x, y) = lists-cut (listOf realOf) (map (toBits binary64) (now (t .args .out))) (length (now (t .args .out))) (now (t .args .file)) (t .args .at .place) (t .args .at .end) _ _ _ _
+    let (x, y) = lists-cut (listOf (realBy (t .args .which))) (map (toBits binary64) (now (t .args .out))) (length (now (t .args .out))) (now (t .args .file)) (t .args .at .place) (t .args .at .end) _ _ _ _
     (ap toldCut (sym (g .start .given .1)) ∙ g .before .before .param-span .ensures .0) _ _ (i .read-reals .ensures .0) (i .read-reals .ensures .1) in
     (c .answer-of .ensures ∙ x, y)
 
-pub next-f64-list-spec : {M : Type 1} → statement M
-next-f64-list-spec =
+pub next-real-list-spec : {M : Type 1} → statement M
+next-real-list-spec =
     tie.close
     (tie.spec
     param-span-requires
