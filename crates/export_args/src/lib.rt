@@ -5,6 +5,7 @@ mod cuts;
 mod texts;
 mod values;
 
+pub use arrays::hooflift_any_f64_grid;
 pub use arrays::hooflift_f64_grid;
 pub use arrays::hooflift_i64_list;
 pub use arrays::hooflift_ref_grid;
@@ -15,6 +16,9 @@ pub use cuts::hooflift_param;
 pub use cuts::hooflift_skip_n;
 pub use texts::hooflift_enum;
 pub use texts::hooflift_str;
+pub use values::hooflift_any_f64;
+pub use values::hooflift_any_measure;
+pub use values::hooflift_any_opt_f64;
 pub use values::hooflift_bool;
 pub use values::hooflift_f64;
 pub use values::hooflift_i64;

@@ -1,11 +1,12 @@
 // One value of a parameter: a reference, an integer, a real, a boolean.
 ghost use mathlib.Core.Path.{_≡_};
 ghost use lib.Ieee.{binary64, toBits};
-ghost use Rattle.reals.specs.Scalar.{referenceOf, wholeOf, realOf};
-ghost use Rattle.scalars.specs.Scalars.{nextOf, optionOf, measureOf, truthOf};
+ghost use Rattle.reals.specs.Scalar.{referenceOf, wholeOf, realOf, anyRealOf, realBy};
+ghost use Rattle.scalars.specs.Scalars.{nextOf, optionOf, measureBy, measureOf, truthOf};
 ghost use Rattle.plain.specs.Answers.{Leaves, readValue};
 ghost use Rattle.export_args.specs.Values.{givenValue, givenSet, logicalNumber};
 use params::State;
+use reals::Reals;
 use scalars::NextOptReal;
 use scalars::NextOptRef;
 use scalars::NextReal;
@@ -102,6 +103,33 @@ pub extern "C" fn hooflift_i64(
     }
 }
 
+// The next parameter as a real, of the class or any: what both functions below answer and leave.
+fn put_real(
+    which: Reals,
+    file: &[u8],
+    place: &mut usize,
+    end: usize,
+    value: &mut f64,
+    fault: &mut usize,
+) -> u8
+    ensures { λ n. ⌜ Leaves (nextOf (realBy which) (now (file .entry)) (now (place .entry)) end) (now (fault .entry)) n (now (place .exit)) (now (fault .exit)) ⌝ }
+    ensures { λ _. ⌜ toBits binary64 (now (value .exit)) ≡ readValue (λ x. x) (nextOf (realBy which) (now (file .entry)) (now (place .entry)) end .answer) (toBits binary64 (now (value .entry))) ⌝ }
+{
+    let at = State { place: *place, end };
+    match scalars::next_real(which, file, at) {
+        NextReal::Value(x, to) => {
+            *place = to.place;
+            *value = x;
+            0
+        }
+        NextReal::Refused(f, to) => {
+            *place = to.place;
+            *fault = error::place(f);
+            error::number(f)
+        }
+    }
+}
+
 // The next parameter as a real: 0, with its f64 in `value`.
 #[no_mangle]
 pub extern "C" fn hooflift_f64(
@@ -114,14 +142,52 @@ pub extern "C" fn hooflift_f64(
     ensures { λ n. ⌜ Leaves (nextOf realOf (now (file .entry)) (now (place .entry)) end) (now (fault .entry)) n (now (place .exit)) (now (fault .exit)) ⌝ }
     ensures { λ _. ⌜ toBits binary64 (now (value .exit)) ≡ readValue (λ x. x) (nextOf realOf (now (file .entry)) (now (place .entry)) end .answer) (toBits binary64 (now (value .entry))) ⌝ }
 {
+    put_real(Reals::Class, file, place, end, value, fault)
+}
+
+// The next parameter as any real, whatever its digits and its exponent: as `hooflift_f64`, and never 13.
+#[no_mangle]
+pub extern "C" fn hooflift_any_f64(
+    file: &[u8],
+    place: &mut usize,
+    end: usize,
+    value: &mut f64,
+    fault: &mut usize,
+) -> u8
+    ensures { λ n. ⌜ Leaves (nextOf anyRealOf (now (file .entry)) (now (place .entry)) end) (now (fault .entry)) n (now (place .exit)) (now (fault .exit)) ⌝ }
+    ensures { λ _. ⌜ toBits binary64 (now (value .exit)) ≡ readValue (λ x. x) (nextOf anyRealOf (now (file .entry)) (now (place .entry)) end .answer) (toBits binary64 (now (value .entry))) ⌝ }
+{
+    put_real(Reals::Any, file, place, end, value, fault)
+}
+
+// The next parameter as a real, of the class or any, or `$`: what both functions below answer and leave.
+fn put_opt_real(
+    which: Reals,
+    file: &[u8],
+    place: &mut usize,
+    end: usize,
+    value: &mut f64,
+    set: &mut u8,
+    fault: &mut usize,
+) -> u8
+    ensures { λ n. ⌜ Leaves (nextOf (optionOf (realBy which)) (now (file .entry)) (now (place .entry)) end) (now (fault .entry)) n (now (place .exit)) (now (fault .exit)) ⌝ }
+    ensures { λ _. ⌜ toBits binary64 (now (value .exit)) ≡ givenValue (nextOf (optionOf (realBy which)) (now (file .entry)) (now (place .entry)) end .answer) (toBits binary64 (now (value .entry))) ⌝ }
+    ensures { λ _. ⌜ now (set .exit) ≡ readValue (givenSet) (nextOf (optionOf (realBy which)) (now (file .entry)) (now (place .entry)) end .answer) (now (set .entry)) ⌝ }
+{
     let at = State { place: *place, end };
-    match scalars::next_f64(file, at) {
-        NextReal::Value(x, to) => {
+    match scalars::next_opt_real(which, file, at) {
+        NextOptReal::Value(x, to) => {
             *place = to.place;
             *value = x;
+            *set = 1;
             0
         }
-        NextReal::Refused(f, to) => {
+        NextOptReal::Unset(to) => {
+            *place = to.place;
+            *set = 0;
+            0
+        }
+        NextOptReal::Refused(f, to) => {
             *place = to.place;
             *fault = error::place(f);
             error::number(f)
@@ -143,20 +209,46 @@ pub extern "C" fn hooflift_opt_f64(
     ensures { λ _. ⌜ toBits binary64 (now (value .exit)) ≡ givenValue (nextOf (optionOf realOf) (now (file .entry)) (now (place .entry)) end .answer) (toBits binary64 (now (value .entry))) ⌝ }
     ensures { λ _. ⌜ now (set .exit) ≡ readValue (givenSet) (nextOf (optionOf realOf) (now (file .entry)) (now (place .entry)) end .answer) (now (set .entry)) ⌝ }
 {
+    put_opt_real(Reals::Class, file, place, end, value, set, fault)
+}
+
+// The next parameter as any real or `$`: as `hooflift_opt_f64`, and never 13.
+#[no_mangle]
+pub extern "C" fn hooflift_any_opt_f64(
+    file: &[u8],
+    place: &mut usize,
+    end: usize,
+    value: &mut f64,
+    set: &mut u8,
+    fault: &mut usize,
+) -> u8
+    ensures { λ n. ⌜ Leaves (nextOf (optionOf anyRealOf) (now (file .entry)) (now (place .entry)) end) (now (fault .entry)) n (now (place .exit)) (now (fault .exit)) ⌝ }
+    ensures { λ _. ⌜ toBits binary64 (now (value .exit)) ≡ givenValue (nextOf (optionOf anyRealOf) (now (file .entry)) (now (place .entry)) end .answer) (toBits binary64 (now (value .entry))) ⌝ }
+    ensures { λ _. ⌜ now (set .exit) ≡ readValue (givenSet) (nextOf (optionOf anyRealOf) (now (file .entry)) (now (place .entry)) end .answer) (now (set .entry)) ⌝ }
+{
+    put_opt_real(Reals::Any, file, place, end, value, set, fault)
+}
+
+// The next parameter as a measure, its real of the class or any: what both functions below answer and leave.
+fn put_measure(
+    which: Reals,
+    file: &[u8],
+    place: &mut usize,
+    end: usize,
+    value: &mut f64,
+    fault: &mut usize,
+) -> u8
+    ensures { λ n. ⌜ Leaves (nextOf (measureBy (realBy which)) (now (file .entry)) (now (place .entry)) end) (now (fault .entry)) n (now (place .exit)) (now (fault .exit)) ⌝ }
+    ensures { λ _. ⌜ toBits binary64 (now (value .exit)) ≡ readValue (λ x. x) (nextOf (measureBy (realBy which)) (now (file .entry)) (now (place .entry)) end .answer) (toBits binary64 (now (value .entry))) ⌝ }
+{
     let at = State { place: *place, end };
-    match scalars::next_opt_f64(file, at) {
-        NextOptReal::Value(x, to) => {
+    match scalars::next_measure(which, file, at) {
+        NextReal::Value(x, to) => {
             *place = to.place;
             *value = x;
-            *set = 1;
             0
         }
-        NextOptReal::Unset(to) => {
-            *place = to.place;
-            *set = 0;
-            0
-        }
-        NextOptReal::Refused(f, to) => {
+        NextReal::Refused(f, to) => {
             *place = to.place;
             *fault = error::place(f);
             error::number(f)
@@ -176,19 +268,22 @@ pub extern "C" fn hooflift_measure(
     ensures { λ n. ⌜ Leaves (nextOf measureOf (now (file .entry)) (now (place .entry)) end) (now (fault .entry)) n (now (place .exit)) (now (fault .exit)) ⌝ }
     ensures { λ _. ⌜ toBits binary64 (now (value .exit)) ≡ readValue (λ x. x) (nextOf measureOf (now (file .entry)) (now (place .entry)) end .answer) (toBits binary64 (now (value .entry))) ⌝ }
 {
-    let at = State { place: *place, end };
-    match scalars::next_measure_f64(file, at) {
-        NextReal::Value(x, to) => {
-            *place = to.place;
-            *value = x;
-            0
-        }
-        NextReal::Refused(f, to) => {
-            *place = to.place;
-            *fault = error::place(f);
-            error::number(f)
-        }
-    }
+    put_measure(Reals::Class, file, place, end, value, fault)
+}
+
+// The next parameter as a measure with any real: as `hooflift_measure`, and never 13.
+#[no_mangle]
+pub extern "C" fn hooflift_any_measure(
+    file: &[u8],
+    place: &mut usize,
+    end: usize,
+    value: &mut f64,
+    fault: &mut usize,
+) -> u8
+    ensures { λ n. ⌜ Leaves (nextOf (measureBy anyRealOf) (now (file .entry)) (now (place .entry)) end) (now (fault .entry)) n (now (place .exit)) (now (fault .exit)) ⌝ }
+    ensures { λ _. ⌜ toBits binary64 (now (value .exit)) ≡ readValue (λ x. x) (nextOf (measureBy anyRealOf) (now (file .entry)) (now (place .entry)) end .answer) (toBits binary64 (now (value .entry))) ⌝ }
+{
+    put_measure(Reals::Any, file, place, end, value, fault)
 }
 
 // The next parameter as a boolean: 0, with 0 in `value` for `.F.`, 1 for `.T.` and 2 for `.U.`.

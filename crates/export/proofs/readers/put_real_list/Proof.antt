@@ -5,11 +5,11 @@ use Prim.Native.Nat.{ℕ}
 use Rattle.params.specs.Reader.{Read}
 use Rattle.plain.specs.Answers.{readValue, leaves-good, leaves-bad}
 use Rattle.lists.specs.Items.{toldNextList}
-use Rattle.export.proofs.readers.hooflift_f64_list.Statement.{statement}
-use Rattle.export.proofs.readers.hooflift_f64_list.Tie as tie
+use Rattle.export.proofs.readers.put_real_list.Statement.{statement}
+use Rattle.export.proofs.readers.put_real_list.Tie as tie
 
-next-f64-list-requires : tie.Need-next-f64-list-requires
-next-f64-list-requires c κs = search needs
+next-real-list-requires : tie.Need-next-real-list-requires
+next-real-list-requires c κs = search needs
 
 enum-known-n : tie.Need-enum-known-n
 enum-known-n c = search needs
@@ -30,8 +30,8 @@ returns : tie.Need-returns
 returns c =
     let k = c .before .before .before .before .before in
     let a = k .before .before .before .before .before .args in
-    let e = ap toldNextList (sym (c .before .n .given .1)) ∙ k .next-f64-list .ensures .0 in
-    (leaves-good e, (k .next-f64-list .ensures .1, ap (λ (r : Read ℕ). readValue (λ (n : ℕ). n) (r .answer) (now (a .count))) e))
+    let e = ap toldNextList (sym (c .before .n .given .1)) ∙ k .next-real-list .ensures .0 in
+    (leaves-good e, (k .next-real-list .ensures .1, ap (λ (r : Read ℕ). readValue (λ (n : ℕ). n) (r .answer) (now (a .count))) e))
 
 same-length-2 : tie.Need-same-length-2
 same-length-2 c = search needs
@@ -40,14 +40,14 @@ returns-2 : tie.Need-returns-2
 returns-2 c =
     let k = c .before .before .before .before .before .before .before in
     let a = k .before .before .before .before .before .args in
-    let e = ap toldNextList (sym (c .before .before .before .f .given .1)) ∙ k .next-f64-list .ensures .0 in
-    (leaves-bad (now (a .fault)) e (c .number .ensures) (c .before .place .ensures), (k .next-f64-list .ensures .1, ap (λ (r : Read ℕ). readValue (λ (n : ℕ). n) (r .answer) (now (a .count))) e))
+    let e = ap toldNextList (sym (c .before .before .before .f .given .1)) ∙ k .next-real-list .ensures .0 in
+    (leaves-bad (now (a .fault)) e (c .number .ensures) (c .before .place .ensures), (k .next-real-list .ensures .1, ap (λ (r : Read ℕ). readValue (λ (n : ℕ). n) (r .answer) (now (a .count))) e))
 
-pub hooflift-f64-list-spec : {M : Type 1} → statement M
-hooflift-f64-list-spec =
+pub put-real-list-spec : {M : Type 1} → statement M
+put-real-list-spec =
     tie.close
     (tie.spec
-    next-f64-list-requires
+    next-real-list-requires
     enum-known-n
     enum-known-f
     place-requires

@@ -8,11 +8,11 @@ use Rattle.params.specs.Reader.{Read}
 use Rattle.plain.specs.Answers.{readValue, leaves-good, leaves-bad}
 use Rattle.export_args.specs.Values.{givenValue, givenSet}
 use Rattle.scalars.specs.Scalars.{Given}
-use Rattle.export_args.proofs.values.hooflift_opt_f64.Statement.{statement}
-use Rattle.export_args.proofs.values.hooflift_opt_f64.Tie as tie
+use Rattle.export_args.proofs.values.put_opt_real.Statement.{statement}
+use Rattle.export_args.proofs.values.put_opt_real.Tie as tie
 
-next-opt-f64-requires : tie.Need-next-opt-f64-requires
-next-opt-f64-requires c κs = search needs
+next-opt-real-requires : tie.Need-next-opt-real-requires
+next-opt-real-requires c κs = search needs
 
 enum-known-x : tie.Need-enum-known-x
 enum-known-x c = search needs
@@ -33,28 +33,28 @@ returns : tie.Need-returns
 returns c =
     let k = c .before .before .before in
     let a = k .before .before .before .args in
-    let e = ap toldNextOptReal (sym (c .before .x .given .1)) ∙ k .next-opt-f64 .ensures in
+    let e = ap toldNextOptReal (sym (c .before .x .given .1)) ∙ k .next-opt-real .ensures in
     (leaves-good e, (ap (λ (r : Read (Given ℕ)). givenValue (r .answer) (toBits binary64 (now (a .value)))) e, ap (λ (r : Read (Given ℕ)). readValue givenSet (r .answer) (now (a .set))) e))
 
 returns-2 : tie.Need-returns-2
 returns-2 c =
     let k = c .before .before .before in
     let a = k .before .before .before .args in
-    let e = ap toldNextOptReal (sym (c .before .to .given .1)) ∙ k .next-opt-f64 .ensures in
+    let e = ap toldNextOptReal (sym (c .before .to .given .1)) ∙ k .next-opt-real .ensures in
     (leaves-good e, (ap (λ (r : Read (Given ℕ)). givenValue (r .answer) (toBits binary64 (now (a .value)))) e, ap (λ (r : Read (Given ℕ)). readValue givenSet (r .answer) (now (a .set))) e))
 
 returns-3 : tie.Need-returns-3
 returns-3 c =
     let k = c .before .before .before .before .before in
     let a = k .before .before .before .args in
-    let e = ap toldNextOptReal (sym (c .before .before .before .f .given .1)) ∙ k .next-opt-f64 .ensures in
+    let e = ap toldNextOptReal (sym (c .before .before .before .f .given .1)) ∙ k .next-opt-real .ensures in
     (leaves-bad (now (a .fault)) e (c .number .ensures) (c .before .place .ensures), (ap (λ (r : Read (Given ℕ)). givenValue (r .answer) (toBits binary64 (now (a .value)))) e, ap (λ (r : Read (Given ℕ)). readValue givenSet (r .answer) (now (a .set))) e))
 
-pub hooflift-opt-f64-spec : {M : Type 1} → statement M
-hooflift-opt-f64-spec =
+pub put-opt-real-spec : {M : Type 1} → statement M
+put-opt-real-spec =
     tie.close
     (tie.spec
-    next-opt-f64-requires
+    next-opt-real-requires
     enum-known-x
     enum-known-to
     enum-known-f

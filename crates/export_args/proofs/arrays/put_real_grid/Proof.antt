@@ -4,11 +4,11 @@ use mathlib.Core.Path.{_∙_, sym, ap}
 use Rattle.params.specs.Reader.{Read}
 use Rattle.plain.specs.Answers.{readValue, leaves-good, leaves-bad}
 use Rattle.grids.specs.Grid.{Size, toldNextGrid}
-use Rattle.export_args.proofs.arrays.hooflift_f64_grid.Statement.{statement}
-use Rattle.export_args.proofs.arrays.hooflift_f64_grid.Tie as tie
+use Rattle.export_args.proofs.arrays.put_real_grid.Statement.{statement}
+use Rattle.export_args.proofs.arrays.put_real_grid.Tie as tie
 
-next-f64-grid-requires : tie.Need-next-f64-grid-requires
-next-f64-grid-requires c κs = search needs
+next-real-grid-requires : tie.Need-next-real-grid-requires
+next-real-grid-requires c κs = search needs
 
 enum-known-r : tie.Need-enum-known-r
 enum-known-r c = search needs
@@ -32,8 +32,8 @@ returns : tie.Need-returns
 returns c =
     let k = c .before .before .before .before .before .before .before in
     let a = k .before .before .before .before .before .before .before .args in
-    let e = ap toldNextGrid (sym (c .before .r .given .1)) ∙ k .next-f64-grid .ensures .0 in
-    (leaves-good e, (k .next-f64-grid .ensures .1 .0, (k .next-f64-grid .ensures .1 .1, (ap (λ (r : Read Size). readValue (λ (s : Size). s .numbers) (r .answer) (now (a .count))) e, ap (λ (r : Read Size). readValue (λ (s : Size). s .rows) (r .answer) (now (a .rows))) e))))
+    let e = ap toldNextGrid (sym (c .before .r .given .1)) ∙ k .next-real-grid .ensures .0 in
+    (leaves-good e, (k .next-real-grid .ensures .1 .0, (k .next-real-grid .ensures .1 .1, (ap (λ (r : Read Size). readValue (λ (s : Size). s .numbers) (r .answer) (now (a .count))) e, ap (λ (r : Read Size). readValue (λ (s : Size). s .rows) (r .answer) (now (a .rows))) e))))
 
 same-length-3 : tie.Need-same-length-3
 same-length-3 c = search needs
@@ -45,14 +45,14 @@ returns-2 : tie.Need-returns-2
 returns-2 c =
     let k = c .before .before .before .before .before .before .before .before .before in
     let a = k .before .before .before .before .before .before .before .args in
-    let e = ap toldNextGrid (sym (c .before .before .before .f .given .1)) ∙ k .next-f64-grid .ensures .0 in
-    (leaves-bad (now (a .fault)) e (c .number .ensures) (c .before .place .ensures), (k .next-f64-grid .ensures .1 .0, (k .next-f64-grid .ensures .1 .1, (ap (λ (r : Read Size). readValue (λ (s : Size). s .numbers) (r .answer) (now (a .count))) e, ap (λ (r : Read Size). readValue (λ (s : Size). s .rows) (r .answer) (now (a .rows))) e))))
+    let e = ap toldNextGrid (sym (c .before .before .before .f .given .1)) ∙ k .next-real-grid .ensures .0 in
+    (leaves-bad (now (a .fault)) e (c .number .ensures) (c .before .place .ensures), (k .next-real-grid .ensures .1 .0, (k .next-real-grid .ensures .1 .1, (ap (λ (r : Read Size). readValue (λ (s : Size). s .numbers) (r .answer) (now (a .count))) e, ap (λ (r : Read Size). readValue (λ (s : Size). s .rows) (r .answer) (now (a .rows))) e))))
 
-pub hooflift-f64-grid-spec : {M : Type 1} → statement M
-hooflift-f64-grid-spec =
+pub put-real-grid-spec : {M : Type 1} → statement M
+put-real-grid-spec =
     tie.close
     (tie.spec
-    next-f64-grid-requires
+    next-real-grid-requires
     enum-known-r
     enum-known-f
     place-requires

@@ -6,11 +6,11 @@ use Prim.Native.Nat.{ℕ}
 use lib.Ieee.{binary64, toBits}
 use Rattle.params.specs.Reader.{Read}
 use Rattle.plain.specs.Answers.{readValue, leaves-good, leaves-bad}
-use Rattle.export_args.proofs.values.hooflift_f64.Statement.{statement}
-use Rattle.export_args.proofs.values.hooflift_f64.Tie as tie
+use Rattle.export_args.proofs.values.put_real.Statement.{statement}
+use Rattle.export_args.proofs.values.put_real.Tie as tie
 
-next-f64-requires : tie.Need-next-f64-requires
-next-f64-requires c κs = search needs
+next-real-requires : tie.Need-next-real-requires
+next-real-requires c κs = search needs
 
 enum-known-x : tie.Need-enum-known-x
 enum-known-x c = search needs
@@ -28,21 +28,21 @@ returns : tie.Need-returns
 returns c =
     let k = c .before .before .before in
     let a = k .before .before .before .args in
-    let e = ap toldNextReal (sym (c .before .x .given .1)) ∙ k .next-f64 .ensures in
+    let e = ap toldNextReal (sym (c .before .x .given .1)) ∙ k .next-real .ensures in
     (leaves-good e, ap (λ (r : Read ℕ). readValue (λ (x : ℕ). x) (r .answer) (toBits binary64 (now (a .value)))) e)
 
 returns-2 : tie.Need-returns-2
 returns-2 c =
     let k = c .before .before .before .before .before in
     let a = k .before .before .before .args in
-    let e = ap toldNextReal (sym (c .before .before .before .f .given .1)) ∙ k .next-f64 .ensures in
+    let e = ap toldNextReal (sym (c .before .before .before .f .given .1)) ∙ k .next-real .ensures in
     (leaves-bad (now (a .fault)) e (c .number .ensures) (c .before .place .ensures), ap (λ (r : Read ℕ). readValue (λ (x : ℕ). x) (r .answer) (toBits binary64 (now (a .value)))) e)
 
-pub hooflift-f64-spec : {M : Type 1} → statement M
-hooflift-f64-spec =
+pub put-real-spec : {M : Type 1} → statement M
+put-real-spec =
     tie.close
     (tie.spec
-    next-f64-requires
+    next-real-requires
     enum-known-x
     enum-known-f
     place-requires

@@ -1,15 +1,15 @@
--- `export::real::hooflift_real` meets its contract: the answer's case is told by the variant that was matched. Assumes nothing.
+-- `export::real::put_real` meets its contract: the answer's case is told by the variant that was matched. Assumes nothing.
 use Prim.Native.Nat.{ℕ}
 use mathlib.Core.Path.{_≡_, refl, subst}
 use denote.Ref.{now}
 use Rattle.reals.specs.Scalar.{Answer}
 use Rattle.export.specs.Reals.{realCode, realBits}
 use borrow.Author.Needs.{needs}
-use Rattle.export.proofs.real.hooflift_real.Statement.{statement}
-use Rattle.export.proofs.real.hooflift_real.Tie as tie
+use Rattle.export.proofs.real.put_real.Statement.{statement}
+use Rattle.export.proofs.real.put_real.Tie as tie
 
-parse-real-requires : tie.Need-parse-real-requires
-parse-real-requires c κs = search needs
+read-real-requires : tie.Need-read-real-requires
+read-real-requires c κs = search needs
 
 enum-known-x : tie.Need-enum-known-x
 enum-known-x c = search needs
@@ -27,28 +27,28 @@ returns : tie.Need-returns
 returns c =
     let p = c .before .before .before .before in
     subst (λ (a : Answer ℕ). (_≡_ {A = ℕ} 0 (realCode a)) × (c .bits .result ≡ realBits a (now (p .before .before .args .out))))
-    (rw (c .before .before .x .given .1) at (p .parse-real .ensures))
+    (rw (c .before .before .x .given .1) at (p .read-real .ensures))
     (refl, c .bits .ensures)
 
 returns-2 : tie.Need-returns-2
 returns-2 c =
     let p = c .before .before in
     subst (λ (a : Answer ℕ). (_≡_ {A = ℕ} 13 (realCode a)) × (now (p .before .before .args .out) ≡ realBits a (now (p .before .before .args .out))))
-    (rw (c .enum-told .given .1) at (p .parse-real .ensures))
+    (rw (c .enum-told .given .1) at (p .read-real .ensures))
     (refl, refl)
 
 returns-3 : tie.Need-returns-3
 returns-3 c =
     let p = c .before .before in
     subst (λ (a : Answer ℕ). (_≡_ {A = ℕ} 12 (realCode a)) × (now (p .before .before .args .out) ≡ realBits a (now (p .before .before .args .out))))
-    (rw (c .enum-told2 .given .1) at (p .parse-real .ensures))
+    (rw (c .enum-told2 .given .1) at (p .read-real .ensures))
     (refl, refl)
 
-pub hooflift-real-spec : {M : Type 1} → statement M
-hooflift-real-spec =
+pub put-real-spec : {M : Type 1} → statement M
+put-real-spec =
     tie.close
     (tie.spec
-    parse-real-requires
+    read-real-requires
     enum-known-x
     bits-requires
     enum-told

@@ -1,0 +1,51 @@
+use borrow.Author.Needs.{needs}
+use denote.Ref.{now}
+use mathlib.Core.Path.{_∙_, sym, ap}
+use Rattle.scalars.specs.Scalars.{toldNextReal}
+use Prim.Native.Nat.{ℕ}
+use lib.Ieee.{binary64, toBits}
+use Rattle.params.specs.Reader.{Read}
+use Rattle.plain.specs.Answers.{readValue, leaves-good, leaves-bad}
+use Rattle.export_args.proofs.values.put_measure.Statement.{statement}
+use Rattle.export_args.proofs.values.put_measure.Tie as tie
+
+next-measure-requires : tie.Need-next-measure-requires
+next-measure-requires c κs = search needs
+
+enum-known-x : tie.Need-enum-known-x
+enum-known-x c = search needs
+
+enum-known-f : tie.Need-enum-known-f
+enum-known-f c = search needs
+
+place-requires : tie.Need-place-requires
+place-requires c κs = search needs
+
+number-requires : tie.Need-number-requires
+number-requires c κs = search needs
+
+returns : tie.Need-returns
+returns c =
+    let k = c .before .before .before in
+    let a = k .before .before .before .args in
+    let e = ap toldNextReal (sym (c .before .x .given .1)) ∙ k .next-measure .ensures in
+    (leaves-good e, ap (λ (r : Read ℕ). readValue (λ (x : ℕ). x) (r .answer) (toBits binary64 (now (a .value)))) e)
+
+returns-2 : tie.Need-returns-2
+returns-2 c =
+    let k = c .before .before .before .before .before in
+    let a = k .before .before .before .args in
+    let e = ap toldNextReal (sym (c .before .before .before .f .given .1)) ∙ k .next-measure .ensures in
+    (leaves-bad (now (a .fault)) e (c .number .ensures) (c .before .place .ensures), ap (λ (r : Read ℕ). readValue (λ (x : ℕ). x) (r .answer) (toBits binary64 (now (a .value)))) e)
+
+pub put-measure-spec : {M : Type 1} → statement M
+put-measure-spec =
+    tie.close
+    (tie.spec
+    next-measure-requires
+    enum-known-x
+    enum-known-f
+    place-requires
+    number-requires
+    returns
+    returns-2)
