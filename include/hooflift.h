@@ -174,10 +174,20 @@ uint8_t hooflift_opt_ref(const uint8_t *file, size_t file_len, size_t *place, si
 /* An integer. 01: "integers with optional sign, in the signed 64-bit range". */
 uint8_t hooflift_i64(const uint8_t *file, size_t file_len, size_t *place, size_t end, int64_t *value, size_t *fault);
 
-/* A real, and a real or `$`, which is told as above; a measure. 01, 'Real class': "Let m be all digits without the point, leading zeros dropped, and e the
- * exponent less the number of fraction digits"; "The answer is the f64 nearest to m·10^e, ties to even, sign kept at zero". The class is that of request
- * #101: "every real whose m has at most 19 digits and −27 ≤ e ≤ 27". 13 where a real is outside it, as `1E28`, `0E28`, twenty digits and
- * `1.025893950136E-17`, whose e is -29, are; zeros at the end count as digits. 01: "A measure is a real or `KEYWORD(real)`". */
+/* A real; a real or `$`, which is told as above; a measure. Every real is answered, whatever its digits and its exponent, with the f64 nearest to
+ * the number written, as IEEE 754 has it: ties to even, the sign kept at zero, zeros up to half the least subnormal, infinities from halfway
+ * between the largest finite f64 and 2^1024 on. So `-1.025893950136E-17`, `1E28` and twenty digits are read, and `1E400` is an infinity; 13 is never
+ * given. Whole numbers alone are used, so the answer does not depend on the host's rounding mode. 01: "A measure is a real or `KEYWORD(real)`".
+ * There are two of each reader of reals: those with `any` are for hosts that want the number; those without, which follow them, keep document 01's
+ * class and its refusal 13, so that an answer is one that the papers name. In all else they are the same. */
+uint8_t hooflift_any_f64(const uint8_t *file, size_t file_len, size_t *place, size_t end, double *value, size_t *fault);
+uint8_t hooflift_any_opt_f64(const uint8_t *file, size_t file_len, size_t *place, size_t end, double *value, uint8_t *set, size_t *fault);
+uint8_t hooflift_any_measure(const uint8_t *file, size_t file_len, size_t *place, size_t end, double *value, size_t *fault);
+
+/* The same of the class alone. 01, 'Real class': "Let m be all digits without the point, leading zeros dropped, and e the exponent less the number
+ * of fraction digits"; "The answer is the f64 nearest to m·10^e, ties to even, sign kept at zero". The class is that of request #101: "every real
+ * whose m has at most 19 digits and −27 ≤ e ≤ 27". 13 where a real is outside it, as `1E28`, `0E28`, twenty digits and `-1.025893950136E-17`, whose e
+ * is -29, are; zeros at the end count as digits. */
 uint8_t hooflift_f64(const uint8_t *file, size_t file_len, size_t *place, size_t end, double *value, size_t *fault);
 uint8_t hooflift_opt_f64(const uint8_t *file, size_t file_len, size_t *place, size_t end, double *value, uint8_t *set, size_t *fault);
 uint8_t hooflift_measure(const uint8_t *file, size_t file_len, size_t *place, size_t end, double *value, size_t *fault);
@@ -194,25 +204,33 @@ uint8_t hooflift_enum(const uint8_t *file, size_t file_len, size_t *place, size_
 uint8_t hooflift_str(const uint8_t *file, size_t file_len, size_t *place, size_t end, uint8_t *out, size_t out_len, uint8_t *room,
                      size_t *start, size_t *stop, size_t *fault);
 
-/* Lists, with how many numbers they have in `count`. 01: "A list is `(`..`)`; its inside is handed on as a part and cut at depth-0 commas". 16
- * where all read and `out` is too short. */
+/* Lists, with how many numbers they have in `count`: of references, of integers, of reals, read as by `hooflift_any_f64`, and of reals of the class,
+ * read as by `hooflift_f64`. 01: "A list is `(`..`)`; its inside is handed on as a part and cut at depth-0 commas". 16 where all read and `out` is
+ * too short. */
 uint8_t hooflift_ref_list(const uint8_t *file, size_t file_len, size_t *place, size_t end, uint32_t *out, size_t out_len, size_t *count,
                           size_t *fault);
 uint8_t hooflift_i64_list(const uint8_t *file, size_t file_len, size_t *place, size_t end, int64_t *out, size_t out_len, size_t *count,
                           size_t *fault);
+uint8_t hooflift_any_f64_list(const uint8_t *file, size_t file_len, size_t *place, size_t end, double *out, size_t out_len, size_t *count,
+                              size_t *fault);
 uint8_t hooflift_f64_list(const uint8_t *file, size_t file_len, size_t *place, size_t end, double *out, size_t out_len, size_t *count,
                           size_t *fault);
 
-/* Lists of lists: all numbers in `out`, and in `ends` how many there are up to the end of each row. 01: "Grids go to a lent list of numbers
- * and one of row ends (numbers so far); [..] 16 comes only if all read and either list is too short." */
+/* Lists of lists: all numbers in `out`, and in `ends` how many there are up to the end of each row; of references, of reals, and of reals of the
+ * class, as above. 01: "Grids go to a lent list of numbers and one of row ends (numbers so far); [..] 16 comes only if all read and either list is
+ * too short." */
 uint8_t hooflift_ref_grid(const uint8_t *file, size_t file_len, size_t *place, size_t end, uint32_t *out, size_t out_len, size_t *ends,
                           size_t ends_len, size_t *count, size_t *rows, size_t *fault);
+uint8_t hooflift_any_f64_grid(const uint8_t *file, size_t file_len, size_t *place, size_t end, double *out, size_t out_len, size_t *ends,
+                              size_t ends_len, size_t *count, size_t *rows, size_t *fault);
 uint8_t hooflift_f64_grid(const uint8_t *file, size_t file_len, size_t *place, size_t end, double *out, size_t out_len, size_t *ends,
                           size_t ends_len, size_t *count, size_t *rows, size_t *fault);
 
 /* ---- bytes that stand alone */
 
-/* A real's bit pattern, of a text without trivia, the class being that of `hooflift_f64`: 0, 12 or 13. */
+/* A real's bit pattern, of a text without trivia: of every real, as `hooflift_any_f64` reads it, 0 or 12; and of the class of `hooflift_f64`, 0, 12
+ * or 13. */
+uint8_t hooflift_any_real(const uint8_t *text, size_t text_len, uint64_t *out);
 uint8_t hooflift_real(const uint8_t *text, size_t text_len, uint64_t *out);
 
 /* The text of what stands between a string's quotes: `count` bytes, of `raw` where `place` is then 0 and of `out` where it is 1; or 16. */
@@ -237,7 +255,7 @@ uint8_t hooflift_complex_part(const uint8_t *file, size_t file_len, size_t start
 
 /* What the file's numbers stand for: millimetres for a unit of length, radians for a unit of angle, the tolerance, and 1 in `resolved` where a
  * context says so. 01, 'Units': "The first [context] [..] whose units give a length factor decides"; "No such context: 1.0, 1.0, 1e-3,
- * unresolved." */
+ * unresolved." Reals here are those of the class of `hooflift_f64`: "13 inside units refuses the whole answer." */
 uint8_t hooflift_units(const uint8_t *file, size_t file_len, const uint32_t *rows, size_t rows_len, const uint64_t *slots, size_t slots_len,
                        const uint64_t *tables, size_t tables_len, double *mm, double *rad, double *tolerance, uint8_t *resolved,
                        size_t *fault);

@@ -34,13 +34,19 @@ impl<T> Grid<T> {
 /// let step = hooflift::Step::open(b"ISO-10303-21;DATA;#1=A(#2,1.5,'t',(1.,2.),$);ENDSEC;")?;
 /// let mut args = step.require(1)?.args()?;
 /// assert_eq!(args.next_ref()?, 2);
-/// assert_eq!(args.next_f64()?, 1.5);
+/// assert_eq!(args.next_any_f64()?, 1.5);
 /// assert_eq!(args.next_str()?, "t");
-/// assert_eq!(args.next_f64_list()?, [1.0, 2.0]);
+/// assert_eq!(args.next_any_f64_list()?, [1.0, 2.0]);
 /// assert_eq!(args.next_opt_ref()?, None);
 /// assert_eq!(args.next_i64().unwrap_err().to_string(), "refused 10/0@43: no parameter left");
 /// # Ok::<(), hooflift::Error>(())
 /// ```
+///
+/// Reals are read by [`next_any_f64`](Args::next_any_f64), [`next_any_opt_f64`](Args::next_any_opt_f64),
+/// [`next_any_measure`](Args::next_any_measure), [`next_any_f64_list`](Args::next_any_f64_list) and
+/// [`next_any_f64_grid`](Args::next_any_f64_grid), whatever their digits and their exponent. There are two of each: these are for hosts that want
+/// the number; those without `any`, as [`next_f64`](Args::next_f64), keep document 01's class and its refusal 13, so that an answer is one that the
+/// papers name.
 #[derive(Debug, Clone, Copy)]
 pub struct Args<'f> {
     file: &'f [u8],
@@ -107,8 +113,58 @@ impl<'f> Args<'f> {
         Ok(value)
     }
 
-    /// A real m·10^e, where m is all digits without the point, leading zeros dropped, at most nineteen, and e, from -27 to 27, is the exponent less the
-    /// number of digits behind the point: the `f64` nearest to it, ties to even. Other reals are refused with 13.
+    /// A real, whatever its digits and its exponent: the `f64` nearest to it, as IEEE 754 has it, with ties to even, the sign kept at zero, zeros up
+    /// to half the least subnormal, and infinities from halfway between [`f64::MAX`] and 2^1024 on. It is never refused with 13, and whole
+    /// numbers alone are used, so that it does not depend on the rounding mode. `str::parse` gives the same, but where an exponent of 65536 or
+    /// more is made up for by zeros: there it errs.
+    ///
+    /// ```
+    /// let file = b"-1.025893950136E-17,9007199254740993,9007199254740993.000000000000000000001,-1E400,'t'";
+    /// let mut args = hooflift::Args::new(file, 0, file.len())?;
+    /// assert_eq!(args.next_any_f64()?, -1.025893950136e-17); // a zero with noise, as real files have it
+    /// assert_eq!(args.next_any_f64()?, 9007199254740992.0); // halfway between two: the even one
+    /// assert_eq!(args.next_any_f64()?, 9007199254740994.0); // just above halfway
+    /// assert_eq!(args.next_any_f64()?, f64::NEG_INFINITY);
+    /// assert_eq!(args.next_any_f64().unwrap_err().to_string(), "refused 12/0@83: parameter of another type");
+    /// # Ok::<(), hooflift::Error>(())
+    /// ```
+    pub fn next_any_f64(&mut self) -> Result<f64> {
+        let (mut value, mut fault) = (0.0, 0);
+        told(raw::hooflift_any_f64(self.file, &mut self.place, self.end, &mut value, &mut fault), fault)?;
+        Ok(value)
+    }
+
+    /// A real as in [`Args::next_any_f64`], or `None` for `$`.
+    ///
+    /// ```
+    /// let mut args = hooflift::Args::new(b"$,-0E99", 0, 7)?;
+    /// assert_eq!(args.next_any_opt_f64()?, None);
+    /// assert_eq!(args.next_any_opt_f64()?.map(f64::to_bits), Some((-0.0f64).to_bits()));
+    /// # Ok::<(), hooflift::Error>(())
+    /// ```
+    pub fn next_any_opt_f64(&mut self) -> Result<Option<f64>> {
+        let (mut value, mut set, mut fault) = (0.0, 0, 0);
+        told(raw::hooflift_any_opt_f64(self.file, &mut self.place, self.end, &mut value, &mut set, &mut fault), fault)?;
+        Ok((set == 1).then_some(value))
+    }
+
+    /// A measure: a real, or `KEYWORD(real)`; the real as in [`Args::next_any_f64`].
+    ///
+    /// ```
+    /// let mut args = hooflift::Args::new(b"LENGTH_MEASURE(1.E-40),1.E-40", 0, 29)?;
+    /// assert_eq!(args.next_any_measure()?, 1e-40);
+    /// assert_eq!(args.next_any_measure()?, 1e-40);
+    /// # Ok::<(), hooflift::Error>(())
+    /// ```
+    pub fn next_any_measure(&mut self) -> Result<f64> {
+        let (mut value, mut fault) = (0.0, 0);
+        told(raw::hooflift_any_measure(self.file, &mut self.place, self.end, &mut value, &mut fault), fault)?;
+        Ok(value)
+    }
+
+    /// A real of document 01's class, m·10^e, where m is all digits without the point, leading zeros dropped, at most nineteen, and e, from -27 to 27,
+    /// is the exponent less the number of digits behind the point: the `f64` nearest to it, ties to even. Other reals are refused with 13;
+    /// [`Args::next_any_f64`] reads them.
     ///
     /// ```
     /// let mut args = hooflift::Args::new(b"0.017453292519943295,1E28", 0, 25)?;
@@ -122,7 +178,7 @@ impl<'f> Args<'f> {
         Ok(value)
     }
 
-    /// A real, or `None` for `$`.
+    /// A real as in [`Args::next_f64`], or `None` for `$`.
     pub fn next_opt_f64(&mut self) -> Result<Option<f64>> {
         let (mut value, mut set, mut fault) = (0.0, 0, 0);
         told(raw::hooflift_opt_f64(self.file, &mut self.place, self.end, &mut value, &mut set, &mut fault), fault)?;
@@ -182,7 +238,21 @@ impl<'f> Args<'f> {
         Ok(list)
     }
 
-    /// A list of reals.
+    /// A list of reals, each as in [`Args::next_any_f64`].
+    ///
+    /// ```
+    /// let mut args = hooflift::Args::new(b"(25.4,-1.025893950136E-17,0.)", 0, 29)?;
+    /// assert_eq!(args.next_any_f64_list()?, [25.4, -1.025893950136e-17, 0.0]);
+    /// # Ok::<(), hooflift::Error>(())
+    /// ```
+    pub fn next_any_f64_list(&mut self) -> Result<Vec<f64>> {
+        let (mut list, mut count, mut fault) = (room(self.peek_items(), 0.0)?, 0, 0);
+        told(raw::hooflift_any_f64_list(self.file, &mut self.place, self.end, &mut list, &mut count, &mut fault), fault)?;
+        list.truncate(count);
+        Ok(list)
+    }
+
+    /// A list of reals, each as in [`Args::next_f64`].
     pub fn next_f64_list(&mut self) -> Result<Vec<f64>> {
         let (mut list, mut count, mut fault) = (room(self.peek_items(), 0.0)?, 0, 0);
         told(raw::hooflift_f64_list(self.file, &mut self.place, self.end, &mut list, &mut count, &mut fault), fault)?;
@@ -202,7 +272,26 @@ impl<'f> Args<'f> {
         Ok(Grid { numbers, ends })
     }
 
-    /// A list of lists of reals.
+    /// A list of lists of reals, each as in [`Args::next_any_f64`].
+    ///
+    /// ```
+    /// let mut args = hooflift::Args::new(b"((1.,1E28),(-1.025893950136E-17))", 0, 33)?;
+    /// let grid = args.next_any_f64_grid()?;
+    /// assert_eq!(grid.rows().collect::<Vec<_>>(), [&[1.0, 1e28][..], &[-1.025893950136e-17]]);
+    /// # Ok::<(), hooflift::Error>(())
+    /// ```
+    pub fn next_any_f64_grid(&mut self) -> Result<Grid<f64>> {
+        let items = self.peek_items();
+        let (mut numbers, mut ends) = (room(items, 0.0)?, room(items, 0)?);
+        let (mut count, mut rows, mut fault) = (0, 0, 0);
+        let code = raw::hooflift_any_f64_grid(self.file, &mut self.place, self.end, &mut numbers, &mut ends, &mut count, &mut rows, &mut fault);
+        told(code, fault)?;
+        numbers.truncate(count);
+        ends.truncate(rows);
+        Ok(Grid { numbers, ends })
+    }
+
+    /// A list of lists of reals, each as in [`Args::next_f64`].
     pub fn next_f64_grid(&mut self) -> Result<Grid<f64>> {
         let items = self.peek_items();
         let (mut numbers, mut ends) = (room(items, 0.0)?, room(items, 0)?);
@@ -219,6 +308,20 @@ impl<'f> Args<'f> {
         let mut ahead = *self;
         ahead.next_param().map_or(0, |raw| raw.iter().filter(|&&b| b == b',').count() + 1)
     }
+}
+
+/// A real that stands alone, without trivia, as [`Args::next_param`] shows one: read as by [`Args::next_any_f64`], or 12.
+///
+/// ```
+/// assert_eq!(hooflift::any_real(b"-1.025893950136E-17")?, -1.025893950136e-17);
+/// assert_eq!(hooflift::any_real(b"1E400")?, f64::INFINITY);
+/// assert_eq!(hooflift::any_real(b" 1.").unwrap_err().refusal().map(|r| r.number), Some(12));
+/// # Ok::<(), hooflift::Error>(())
+/// ```
+pub fn any_real(text: &[u8]) -> Result<f64> {
+    let mut bits = 0;
+    told(raw::hooflift_any_real(text, &mut bits), 0)?;
+    Ok(f64::from_bits(bits))
 }
 
 /// Whether a string's text stands in the file as it is: document 01 asks for no quote, backslash or high byte.

@@ -10,8 +10,23 @@
 //! assert_eq!(step.len(), 3);
 //! let record = step.require(2)?; // the last of an id
 //! assert_eq!(record.keyword()?, b"B");
-//! assert_eq!(record.args()?.next_f64()?, 2.5);
+//! assert_eq!(record.args()?.next_any_f64()?, 2.5);
 //! assert_eq!(step.records().map(|r| r.id()).collect::<Vec<_>>(), [1, 2, 2]);
+//! # Ok::<(), hooflift::Error>(())
+//! ```
+//!
+//! Reals are read by [`Args::next_any_f64`] and its like for lists, grids, measures and `$`, and by [`any_real`], whatever their digits and their
+//! exponent. There are two of each of the readers: those with `any` are for hosts that want the number; those without, as [`Args::next_f64`], keep
+//! document 01's class and its refusal 13, so that an answer is one that the papers name.
+//!
+//! ```
+//! let file = b"ISO-10303-21;DATA;#1=CARTESIAN_POINT('',(25.4,-1.025893950136E-17,0.));ENDSEC;END-ISO-10303-21;";
+//! let step = hooflift::Step::open(file)?;
+//! let mut args = step.require(1)?.args()?;
+//! args.skip()?; // its name
+//! let mut again = args;
+//! assert_eq!(args.next_any_f64_list()?, [25.4, -1.025893950136e-17, 0.0]);
+//! assert_eq!(again.next_f64_list().unwrap_err().to_string(), "refused 13/0@46: real outside the class");
 //! # Ok::<(), hooflift::Error>(())
 //! ```
 #![deny(unsafe_code, missing_debug_implementations)]
@@ -24,7 +39,7 @@ mod record;
 
 use std::borrow::Cow;
 
-pub use args::{Args, Grid, Logical};
+pub use args::{any_real, Args, Grid, Logical};
 pub use error::{Error, Refusal, Result};
 pub use record::{Kind, Part, Parts, Record, Records, RecordsOfKind};
 

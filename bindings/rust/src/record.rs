@@ -110,7 +110,7 @@ impl<'s, 'f> Record<'s, 'f> {
     /// let step = hooflift::Step::open(b"ISO-10303-21;DATA;#2=(P(1.)Q($));ENDSEC;")?;
     /// let parts = step.require(2)?.parts()?.collect::<Result<Vec<_>, _>>()?;
     /// assert_eq!(parts[0].keyword(), b"P");
-    /// assert_eq!(parts[0].args()?.next_f64()?, 1.0);
+    /// assert_eq!(parts[0].args()?.next_any_f64()?, 1.0);
     /// assert_eq!(parts[1].keyword(), b"Q");
     /// # Ok::<(), hooflift::Error>(())
     /// ```
