@@ -9,10 +9,16 @@
     decimals.py edges N SEED        around the class's bounds, inside and outside
     decimals.py outside N SEED      reals outside the class
     decimals.py malformed N SEED    decimals with bytes changed, put in or left out, and words that other readers take
+    decimals.py wide N SEED         any reals: each e from -400 to 400 in turn, with 1 to 1,200 digits
+    decimals.py halves N SEED       any reals: half-way between two f64s of each binade in turn, written in full, and their neighbours
+    decimals.py hard N SEED         any reals: of up to 19 digits, those that come nearest to half-way without lying there, for e from -345 to 308
+    decimals.py doubles N SEED      any reals: f64s of all binades in their fewest digits, and in more and fewer than name them
+    decimals.py borders N SEED      any reals: where zero ends and infinity begins, powers of ten and of two, half-ways cut short, far exponents
     decimals.py tally <LINES        how many ties, neighbours of ties and others stand in these lines, by exponent; ends with status 1
                                     where an exponent that has ties lacks one, or its neighbours, or where one lacks decimals on a side
-    decimals.py tried               tries all numbers of up to four digits with each exponent: the ties, and the nearest to half-way on
-                                    either side, must be those that `ties` computes
+    decimals.py reach <LINES        how many of these lines have more than 19, 100 and 800 digits, and how many are ties of any f64s; which e occur
+    decimals.py tried               tries all numbers of up to four digits with each exponent of the class, and of up to two with those of `hard`:
+                                    the ties, and the nearest to half-way on either side, must be those that `ties` and `hard` compute
 
 Only the standard library is used, and the numbers drawn depend on the seed and the stream alone.
 """
@@ -20,6 +26,7 @@ Only the standard library is used, and the numbers drawn depend on the seed and 
 import functools
 import itertools
 import re
+import struct
 import sys
 from fractions import Fraction
 from typing import NamedTuple
@@ -38,6 +45,8 @@ class Class(NamedTuple):
 NOW = Class(19, 27)
 FORMER = Class(15, 22)  # the replay's list still has what was drawn for it
 EXPONENTS = range(-NOW.farthest, NOW.farthest + 1)
+LEAST_NORMAL = Fraction(1, 2 ** 1022)
+TOO_LARGE = 2 ** 1024
 LIMIT = 10 ** NOW.longest  # the least m that is too long
 
 
@@ -194,9 +203,18 @@ class Span(NamedTuple):
         while best is None and width < self.p:
             width = min(self.p, 4 * width + 1)
             best = found = self.first(self.low, above, width)
+        least = -1  # so near, or nearer, lies none
         while found is not None:
             best, width = found, abs(2 * (found * self.a % self.p) - self.p) // 2 - 1 - (self.p % 2 == 0)
             found = self.first(self.low, above, width) if width >= 0 else None
+            # where the rests go up by small steps there are very many to find, so that half of them is left out at once
+            while found is not None and width - least > 1:
+                half = (least + width) // 2
+                nearer = self.first(self.low, above, half)
+                if nearer is not None:
+                    found = nearer
+                    break
+                least = half
         return best
 
 
@@ -216,12 +234,13 @@ def first_between(a, p, least, most):
 
 @functools.lru_cache(maxsize=None)
 def spans(e, digits):
-    """The numbers m of so many digits by the power of two below m * 10^e, but for those that are f64s all."""
+    """The numbers m of so many digits by the power of two below m * 10^e, but for those that are f64s all and those that are too large for
+    an f64. Below 2^-1021 the unit of the last place is one."""
     ten = Fraction(10) ** e
     out = []
     low, end = 10 ** (digits - 1), 10 ** digits
-    while low < end:
-        two = power_of_two_to(low * ten)
+    while low < end and low * ten < TOO_LARGE:
+        two = max(power_of_two_to(low * ten), LEAST_NORMAL)
         high = min(end, -(-2 * two // ten)) - 1
         unit = ten / (two / 2 ** 52)
         if unit.denominator != 1:
@@ -351,6 +370,200 @@ def malformed(n, rng, bounds=NOW):
         yield line
 
 
+# ---------------------------------------------------------------------------------------------------------------------
+# Streams of any reals
+
+FIVES = [1]
+HARD = range(-345, 309)
+FIELDS = 2047  # of a finite f64's exponent; the first is that of the subnormals
+
+
+def fives(k):
+    while len(FIVES) <= k:
+        FIVES.append(5 * FIVES[-1])
+    return FIVES[k]
+
+
+def in_full(m, two):
+    """m times 2 to the `two` as a whole number and a power of ten."""
+    return (m << two, 0) if two >= 0 else (m * fives(-two), two)
+
+
+def past(field, part, more=1):
+    """Half a unit of the last place past the f64 with these exponent and significand fields, in full; `more` 0 for itself."""
+    return in_full(2 * (part + (1 << 52 if field else 0)) + more, max(field, 1) - 1076)
+
+
+def some_part(rng):
+    """A significand field: any, or one at which rounding carries far."""
+    part = rng.next() >> 12
+    kind = rng.below(8)
+    if kind == 0:
+        return 0
+    if kind == 1:
+        return (1 << 52) - 1
+    if kind == 2:
+        return 1 << rng.below(52)
+    if kind == 3:
+        return part >> rng.below(52)
+    if kind == 4:
+        return part | (1 << rng.below(53)) - 1
+    return part
+
+
+def long_digits(rng, n):
+    """A number of exactly n digits, of any n."""
+    if n <= 36:
+        return digits_of(rng, n)
+    drawn = 0
+    for _ in range(n // 19 + 1):
+        drawn = drawn << 64 | rng.next()
+    low = 10 ** (n - 1)
+    return low + drawn % (9 * low)
+
+
+def anywhere(rng, m, e):
+    """m times 10 to the e in some form, now and then without an exponent."""
+    if -1200 <= e <= 0 and rng.one_in(4):
+        return written(rng, m, e, places=-e)
+    if 0 < e <= 400 and rng.one_in(8):
+        return written(rng, m * 10 ** e, 0)
+    return written(rng, m, e)
+
+
+def wide(n, rng):
+    for i in range(n):
+        e = i % 801 - 400
+        drawn = rng.below(100)
+        if drawn < 62:
+            digits = 1 + rng.below(19)
+        elif drawn < 90:
+            digits = 20 + rng.below(21)
+        elif drawn < 97:
+            digits = 41 + rng.below(60)
+        else:
+            digits = 101 + rng.below(1100)
+        m = long_digits(rng, digits)
+        if digits > 19 and rng.one_in(2):
+            e -= digits  # so that it is the number's size which is drawn
+        yield anywhere(rng, m, e)
+
+
+def halves(n, rng):
+    return itertools.islice(all_halves(rng), n)
+
+
+def all_halves(rng):
+    """Without end: each binade in turn, and between two of its f64s the half-way itself, one unit of its last digit up and down, zeros behind it,
+    a last digit far behind it, and as little below it; so too between two subnormals of any size for one binade of sixteen."""
+    while True:
+        for field in range(FIELDS):
+            yield from around(rng, *past(field, some_part(rng)))
+            if field % 16 == 0:
+                yield from around(rng, *past(0, some_part(rng) >> rng.below(52)))
+
+
+def around(rng, m, e):
+    yield from (anywhere(rng, x, e) for x in (m, m + 1, m - 1))
+    more = rng.pick([1, 2, 19, 20, 64]) if not rng.one_in(8) else 100 + rng.below(700)
+    m, e = m * 10 ** more, e - more
+    yield from (anywhere(rng, x, e) for x in (m, m + 1, m - 1))
+
+
+def hard(n, rng):
+    return itertools.islice(all_hard(rng), n)
+
+
+def all_hard(rng):
+    """Without end: for each e and each number of digits the spans' nearest to half-way on either side, and then others of the nearest."""
+    kinds = [(e, digits) for e in HARD for digits in range(1, 20)]
+    for turn in itertools.count():
+        for i in range(len(kinds)):
+            e, digits = kinds[i * 7919 % len(kinds)]
+            for span in spans(e, digits):
+                for above in (False, True):
+                    m = span.next_to(above) if turn == 0 else span.beside(rng, above)
+                    if m is not None:
+                        yield written(rng, m, e)
+
+
+def doubles(n, rng):
+    for i in range(n):
+        field = 0 if rng.one_in(8) else i % FIELDS
+        part = some_part(rng)
+        if field == 0 and rng.one_in(2):
+            part >>= rng.below(52)
+        x = struct.unpack("<d", struct.pack("<Q", field << 52 | part))[0]
+        kind = rng.below(8)
+        if kind < 3:
+            line = repr(x)
+        elif kind < 5:
+            line = "%.16e" % x
+        else:
+            line = "%.*e" % (rng.pick([13, 14, 15, 17, 18, 19, 20, 25, 30]), x)
+        if rng.one_in(3):
+            line = "-" + line
+        yield line.upper() if rng.one_in(2) else line
+
+
+# Decimals that readers got wrong, or that are given for testing them, by m and e; those of Paxson's lists among them.
+KNOWN = [in_full((1 << 53) - 1, -1075), (22250738585072011, -324), (22250738585072012, -324), (22250738585072014, -324), (6631236846766476, -316),
+         (9007199254740993, 0), (9007199254740992, 0), (90071992547409929, -1), (90071992547409931, -1), (900719925474099200000001, -8),
+         (100000000000000011102230246251565404236316680908203125, -53), (100000000000000011102230246251565404236316680908203124, -53),
+         (100000000000000011102230246251565404236316680908203126, -53), (10000000000000001110223024625156540, -34),
+         (10000000000000001110223024625156541, -34), (500000000000000166533453693773481063544750213623046875, -54),
+         (3518437208883201171875, -8), (625364939768271845828, -19), (810109172351, -21), (150000000000000011102230246251565, -32),
+         (90071992547409914999999999999999999999999999999995, -34), (30078505129381147446200, 0), (1777820000000000000001, 0),
+         (500000000000000166547006220929549868969843373633921146392822265625, -66), (17976931348623157, 292), (17976931348623158, 292),
+         (17976931348623159, 292), (179769313486231580, 291), (179769313486231581, 291), (5, -324), (49, -325), (3, -324), (2, -324),
+         (24703282292062327, -340), (24703282292062328, -340), (247032822920623272, -341), (1, 23), (1, 22), (1, 308), (1, 309), (1, -323),
+         (1, -324), (1, 19), (10000000000000000001, 0), (18446744073709551615, 0), (18446744073709551616, 0), (184467440737095516159, -1),
+         (5, 125), (69, 267), (999, -26), (7861, -34), (75569, -254), (928609, -261), (9210917, 80), (84863171, 114), (653777767, 273),
+         (5232604057, -298), (27235667517, -109), (653532977297, -123), (3142213164987, -294), (46202199371337, -72),
+         (231010996856685, -73), (9324754620109615, 212), (78459735791271921, 49), (272104041512242479, 200), (6802601037806061975, 198),
+         (20505426358836677347, -221), (836168422905420598437, -234), (4891559871276714924261, 222), (9, -265), (85, -37), (623, 100),
+         (3571, 263), (81661, 153), (920657, -23), (4603285, -24), (87575437, -309), (245540327, 122), (6138508175, 120),
+         (83356057653, 193), (619534293513, 124), (2335141086879, 218), (36167929443327, -159), (609610927149051, -255),
+         (3743626360493413, -165), (94080055902682397, -242), (899810892172646163, 283), (7120190517612959703, 120),
+         (25188282901709339043, -252), (308984926168550152811, -52), (6372891218502368041059, 64)]
+HALF_LEAST = in_full(1, -1075)
+HALF_LARGEST = in_full((1 << 54) - 1, 970)
+
+
+def cut_short(rng, m, e):
+    """The first digits of m, some or all, and perhaps one unit of the last of them more or less."""
+    length = len(str(m))
+    kept = min(length, rng.pick([rng.below(40), 17, 18, 19, 20, 21, rng.below(800), length, length - 1]) + 1)
+    return m // 10 ** (length - kept) + rng.pick([0, 0, 1, 1, 2]) - rng.pick([0, 0, 0, 1]), e + length - kept
+
+
+def borders(n, rng):
+    for i in range(n):
+        turn, kind = divmod(i, 8)
+        if kind == 0:
+            m, e = cut_short(rng, *rng.pick([HALF_LEAST, HALF_LARGEST]))
+        elif kind <= 2:
+            m, e = cut_short(rng, *past(turn % FIELDS, some_part(rng), rng.pick([0, 1, 1, 1])))
+        elif kind == 3:
+            zeros = rng.pick([0, 0, 1, 5, 19, 20, 21, 300])
+            m, e = 10 ** zeros, turn % 801 - 400 - zeros
+        elif kind == 4:
+            m, e = in_full(1, turn % 2201 - 1120)
+            m, e = (m + rng.pick([0, 0, 1, -1]), e) if rng.one_in(2) else cut_short(rng, m, e)
+        elif kind == 5:
+            m, e = KNOWN[turn % len(KNOWN)]
+        elif kind == 6:  # an exponent of many digits
+            m = 0 if rng.one_in(8) else long_digits(rng, 1 + rng.below(30))
+            e = long_digits(rng, rng.pick([3, 4, 5, 10, 18, 19, 20, 20, 21, 25, 25, 40])) if rng.one_in(2) else rng.pick(WIDE) + rng.below(3) - 1
+            e = e if rng.one_in(2) else -e
+        else:  # digits and zeros by the hundred, and the exponent that makes up for them
+            m, e = long_digits(rng, 1 + rng.below(25)), rng.below(680) - 350
+            zeros = 100 * (1 + rng.below(9))
+            yield rng.pick([written(rng, m, e, zeros=zeros), written(rng, m * 10 ** zeros, e - zeros), written(rng, m, e, places=3 * zeros)])
+            continue
+        yield anywhere(rng, m, e)
+
+
 def exhaustive():
     for n in range(7):
         for line in itertools.product("019+-.eE", repeat=n):
@@ -421,12 +634,54 @@ def chosen():
     yield from once(line for line in edges(150, two) if len(line) < 200)
     yield from once(outside(100, two))
     yield from once(malformed(150, two))
+    # what the reading of any real brought
+    yield from once(["-1.025893950136E-17", "1.025893950136E-17", "-1.2246467991473532E-16", "6.123233995736766E-17",
+                     "4.440892098500626E-16", "-3.552713678800501E-15", "2.775557561562891E-17", "-8.67361737988404E-19", "1.E-30",
+                     "-0.E-40", "-0.E+400", "0E-99999999999999999999", "99999999999999999999", "12345678901234567890.5", "10000000000000000000.0000000001",
+                     "1" + "0" * 19 + "1", "9999999999999999999.9", "-123456789012345678901234567890.E-30"])
+    # where zero ends, and the half-ways beside it
+    for units in (1, 3, (1 << 53) - 1):
+        m, e = in_full(units, -1075)
+        yield from once(["0." + str(x).zfill(1075) for x in (m, m - 1, m + 1)])
+        yield from once(["-%dE%d" % (m, e), "%d%sE%d" % (m, "0" * 100, e - 100), "%d%s1E%d" % (m, "0" * 99, e - 100),
+                         "%dE%d" % (m * 10 ** 100 - 1, e - 100)])
+    yield from once("%dE%d" % (m // 10 ** (len(str(m)) - k) + up, e + len(str(m)) - k)
+                    for m, e in (HALF_LEAST, HALF_LARGEST) for k in (1, 2, 16, 17, 18, 19, 20, 21, 40, 300) for up in (0, 1))
+    # where infinity begins
+    m = HALF_LARGEST[0]
+    yield from once(str(x) for x in (m, m - 1, m + 1, (1 << 1024) - (1 << 971), 1 << 1024, 1 << 1023))
+    yield from once(["-%d" % m, "%d.%s" % (m, "0" * 50), "%d.%s1" % (m, "0" * 400), "%d.%s" % (m - 1, "9" * 400),
+                     "%d.%dE+%d" % (m // 10 ** 308, m % 10 ** 308, 308)])
+    # ties that a far digit decides
+    tie = "1.00000000000000011102230246251565404236316680908203125"
+    for places in (100, 700, 766, 767, 768, 769, 798, 799, 800, 1100):
+        zeros = "0" * (places - 54)
+        yield from once([tie + zeros + "0", tie + zeros + "1", tie[:-1] + "4" + "9" * (places - 53)])
+    yield from once(["9007199254740993." + "0" * 784, "9007199254740993." + "0" * 783 + "1", "9007199254740992." + "9" * 784,
+                     "9007199254740995." + "0" * 783 + "1", "900719925474099500000000000000000000E-20"])
+    # far exponents
+    yield from once(a + b + c for a in ("1", "-1", "0", "-0.", "123.456", "1" + "0" * 30) for b in ("E", "E-", "e+")
+                    for c in ("12345678901234567890", "1234567890123456789012345", "400", "65536", "4294967296", "9223372036854775808"))
+    # zeros and digits by the hundred
+    yield from once(["0" * 300 + "1.5", "-" + "0" * 200 + ".25", "0." + "0" * 500 + "25E400", "0." + "0" * 500 + "25E500", "0" * 900 + "E5",
+                     "0." + "0" * 900 + "E5", "0." + "0" * 400 + "123456789012345678901E90", "1" + "0" * 400, "1" + "0" * 400 + "E-400",
+                     "1" + "0" * 400 + "E-401", "1" + "0" * 700 + "1E-700"])
+    three = Rng(3, 99)
+    for size in (0, -400, -900, -1200, -1500, -1520, -1535):
+        yield from once(["%dE%d" % (long_digits(three, 1200), size)])
+    yield from once(["-." + str(long_digits(three, 1200)), str(long_digits(three, 600)) + "." + str(long_digits(three, 600)) + "E-300"])
+    yield from once("%dE%d" % pair for pair in KNOWN)
+    yield from once(line for line in wide(300, three) if len(line) < 120)
+    yield from once(line for line in itertools.islice(all_halves(three), 0, 6 * FIELDS, 6 * 97) if len(line) < 500)
+    yield from once(hard(150, three))
+    yield from once(doubles(100, three))
+    yield from once(line for line in borders(160, three) if len(line) < 120)
 
 
 # ---------------------------------------------------------------------------------------------------------------------
 # How near to half-way the lines of a stream lie, told from the lines alone
 
-DECIMAL = re.compile(rb"[+-]?([0-9]*)\.?([0-9]*)(?:[Ee]([+-]?[0-9]{1,30}))?\Z")
+DECIMAL = re.compile(rb"[+-]?([0-9]*)\.?([0-9]*)(?:[Ee]([+-]?[0-9]{1,80}))?\Z")
 
 
 def has_ties(e):
@@ -438,7 +693,7 @@ def has_ties(e):
 def past_half(m, e):
     """How far m * 10^e lies past half-way between two f64s, in units of the last place: 0 for a tie, less than 0 below half-way."""
     over, under = (m * 10 ** e, 1) if e >= 0 else (m, 10 ** -e)
-    up = 53 - over.bit_length() + under.bit_length()
+    up = min(53 - over.bit_length() + under.bit_length(), 1074)
     over, under = (over << up, under) if up >= 0 else (over, under << -up)
     if over >= under << 53:
         under *= 2
@@ -479,13 +734,49 @@ def tally(lines):
         sys.exit("decimals.py: exponents that lack something: %s; numbers of digits: %d" % (lacking, len(digits)))
 
 
+def is_tie(m, e):
+    """Whether m * 10^e lies half-way between two f64s, or between the largest and 2^1024: whether it is an odd number of 54 bits times a power
+    of two, or one of fewer bits times 2^-1075."""
+    if m == 0 or e > 1100:
+        return False
+    if e < 0:
+        if e < -1200 - 4 * m.bit_length():
+            return False
+        m, rest = divmod(m, 5 ** -e if e < -2000 else fives(-e))
+        if rest:
+            return False
+    else:
+        m *= fives(e)
+    odd = (m & -m).bit_length() - 1
+    bits, two = m.bit_length() - odd, e + odd
+    return -1075 <= two <= 970 and (bits == 54 or two == -1075 and bits < 54)
+
+
+def reach(lines):
+    digits, exponents, ties, others = [], set(), 0, 0
+    for line in lines:
+        found = DECIMAL.match(line)
+        if not found:
+            others += 1
+            continue
+        m = (found[1] + found[2]).lstrip(b"0")
+        e = int(found[3] or b"0") - len(found[2])
+        digits.append(len(m))
+        exponents.add(e)
+        ties += is_tie(int(m or b"0"), e)
+    print("digits: %d more than 19, %d more than 100, %d more than 800, at most %d; e: %d of -400 to 400, %d others; ties %d; lines not looked at %d" % (
+        sum(n > 19 for n in digits), sum(n > 100 for n in digits), sum(n > 800 for n in digits), max(digits, default=0),
+        sum(e in exponents for e in range(-400, 401)), sum(abs(e) > 400 for e in exponents), ties, others))
+
+
 def tried():
     sides = 0
-    for e in EXPONENTS:
-        for span in (span for digits in range(1, 5) for span in spans(e, digits)):
+    kinds = [(e, 4) for e in EXPONENTS] + [(e, 2) for e in HARD if e not in EXPONENTS]
+    for e, most in kinds:
+        for span in (span for digits in range(1, most + 1) for span in spans(e, digits)):
             past = {m: past_half(m, e) for m in range(span.low, span.high + 1)}
             found = [m for m in past if past[m] == 0]
-            tie = span.tie(Rng(e + NOW.farthest))
+            tie = span.tie(Rng(e - HARD.start))
             assert tie in found if found else tie is None, (e, span, tie, found)
             for above in (False, True):
                 side = [abs(past[m]) for m in past if past[m] and (past[m] > 0) == above]
@@ -495,13 +786,17 @@ def tried():
     print("tried: %d nearest" % sides)
 
 
-STREAMS = {"class": (of_class, 1), "ties": (ties, 2), "edges": (edges, 3), "outside": (outside, 4), "malformed": (malformed, 5)}
+STREAMS = {"class": (of_class, 1), "ties": (ties, 2), "edges": (edges, 3), "outside": (outside, 4), "malformed": (malformed, 5),
+           "wide": (wide, 6), "halves": (halves, 7), "hard": (hard, 8), "doubles": (doubles, 9), "borders": (borders, 10)}
 
 
 def main():
     name = sys.argv[1] if len(sys.argv) > 1 else ""
     if name == "tally" and len(sys.argv) == 2:
         tally(sys.stdin.buffer.read().removesuffix(b"\n").split(b"\n"))
+        return
+    if name == "reach" and len(sys.argv) == 2:
+        reach(line.removesuffix(b"\n") for line in sys.stdin.buffer)
         return
     if name == "tried" and len(sys.argv) == 2:
         tried()

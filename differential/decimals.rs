@@ -1,7 +1,8 @@
-//! What Rust reads of decimals, one to a line of standard input: the 16 hex digits of the f64's bits, `12` for what is no real,
-//! `13` for a real outside the class. Rust's own parse gives the value. Which decimals are reals, and which of these are of
+//! What Rust reads of decimals, one to a line of standard input, two answers to each in a line with a blank between: that of the
+//! class, and that of any real. An answer is the 16 hex digits of the f64's bits, `12` for what is no real, and for the class `13`
+//! for a real outside it. Rust's own parse gives the value. Which decimals are reals, and which of these are of
 //! the class, is decided by document 01's words in `oracle/real.rs`, and Rust's parse must agree on what is a real: it takes the same
-//! decimals, and beside them only `inf`, `infinity` and `nan`. Its value must be the one that whole numbers give there.
+//! decimals, and beside them only `inf`, `infinity` and `nan`. Of the class its value must be the one that whole numbers give there.
 #[path = "oracle/real.rs"]
 mod real;
 
@@ -16,21 +17,24 @@ fn answer(line: &[u8]) -> String {
         return "too long for this program".to_string();
     }
     let Ok(s) = std::str::from_utf8(line) else {
-        return "12".to_string();
+        return "12 12".to_string();
     };
     let parsed = s.parse::<f64>();
     match reading(s) {
-        Reading::NotReal if parsed.is_err() || names_no_number(s) => "12".to_string(),
+        Reading::NotReal if parsed.is_err() || names_no_number(s) => "12 12".to_string(),
         Reading::NotReal => format!("Rust takes {s:?}, and it is no real"),
         Reading::Real { figures, e } => match parsed {
             Err(_) => format!("Rust refuses {s:?}, and it is a real"),
+            Ok(x) if x.is_nan() || x.is_sign_negative() != s.starts_with('-') => {
+                format!("Rust gives {s:?} another sign, or no number")
+            }
             Ok(x) if of_class(&figures, e) && nearest(&figures, e) == x.abs() => {
-                format!("{:016x}", x.to_bits())
+                format!("{0:016x} {0:016x}", x.to_bits())
             }
             Ok(_) if of_class(&figures, e) => {
                 format!("Rust gives {s:?} another value than the nearest")
             }
-            Ok(_) => "13".to_string(),
+            Ok(x) => format!("13 {:016x}", x.to_bits()),
         },
     }
 }

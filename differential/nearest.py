@@ -1,6 +1,7 @@
 #!/usr/bin/env python3
-"""Reads decimals, one to a line of standard input, and prints what decimals.rs prints: the 16 hex digits of the f64's bits, `12` for
-what is no real, `13` for a real outside the class, and the program's own words for a line that is too long for it.
+"""Reads decimals, one to a line of standard input, and prints what decimals.rs prints: two answers, that of the class and that of any
+real, each the 16 hex digits of the f64's bits, `12` for what is no real, or `13` for a real outside the class; and the program's own
+words for a line that is too long for it.
 
     nearest.py <LINES
 
@@ -52,34 +53,34 @@ def read(line):
     return negative, digits + fraction, exponent - len(fraction)
 
 
-def nearest(over, under):
-    """Of binary64's numbers with 53 bits the one nearest to over/under, as (significand, power of two); of two that are equally near the
-    even one. A number of this class is far from where binary64 ends on either side."""
-    power = 0
-    while over >= under << 53:  # the significand has to be below 2^53 ..
-        under <<= 1
-        power += 1
-    while over < under << 52:  # .. and not below 2^52
-        over <<= 1
-        power -= 1
-    lower = over // under
-    twice = 2 * (over - lower * under)  # the rest against half of `under`
-    if twice > under or twice == under and lower % 2 == 1:
-        lower += 1
-    if lower == 1 << 53:
-        return 1 << 52, power + 1
-    return lower, power
-
-
 def bits(negative, m, e):
-    """Sign, biased exponent in 11 bits, the significand without its first bit in 52."""
+    """The bits of the f64 nearest to m times 10 to the e, of two that are equally near the even one: sign, exponent in 11 bits, the
+    significand without its first bit in 52. From halfway between the largest and 2^1024 on it is infinity."""
     sign = 1 << 63 if negative else 0
+    infinity = 0x7ff << 52
     if m == 0:
         return sign
-    significand, power = nearest(m * 10 ** e, 1) if e >= 0 else nearest(m, 10 ** -e)
-    biased = power + 52 + 1023
-    assert 1 <= biased <= 2046 and 1 << 52 <= significand < 1 << 53
-    return sign | biased << 52 | significand - (1 << 52)
+    size = len(str(m)) + e  # 10^(size-1) <= m * 10^e < 10^size
+    if size > 310:
+        return sign | infinity
+    if size < -330:
+        return sign
+    over, under = (m * 10 ** e, 1) if e >= 0 else (m, 10 ** -e)
+    # The unit is 2^power: the least one, or the one of which there are 2^52 up to 2^53.
+    power = max(-1074, over.bit_length() - under.bit_length() - 53)
+    if not over << max(0, -53 - power) < under << max(0, 53 + power):
+        power += 1
+    if power < 0:
+        over <<= -power
+    else:
+        under <<= power
+    units = over // under
+    twice = 2 * (over - units * under)  # the rest against half of `under`
+    if twice > under or twice == under and units % 2 == 1:
+        units += 1
+    # Units of 2^52 and more have one in the exponent's place; where they are 2^53 the carry has made it two, of no units.
+    found = (power + 1074 << 52) + units
+    return sign | min(found, infinity)
 
 
 def answer(line):
@@ -87,12 +88,13 @@ def answer(line):
         return "too long for this program"
     found = read(line)
     if found is None:
-        return "12"
+        return "12 12"
     negative, digits, e = found
     digits = digits.lstrip(b"0")
+    value = "%016x" % bits(negative, int(digits or b"0"), e)
     if len(digits) > MOST_DIGITS or not -MOST_EXPONENT <= e <= MOST_EXPONENT:
-        return "13"
-    return "%016x" % bits(negative, int(digits or b"0"), e)
+        return "13 " + value
+    return value + " " + value
 
 
 def main():

@@ -36,7 +36,7 @@ python3 "$here/points.py" "$oracle" --part all || bad "points: not all as writte
 decimals() {
     rustc --edition 2021 -C opt-level=3 -o "$work/decimals" "$here/decimals.rs"
     python3 "$here/decimals.py" tried || bad "decimals: other ties, or nearer ones, than decimals.py computes"
-    for kind in chosen exhaustive class ties edges outside malformed; do
+    for kind in chosen exhaustive class ties edges outside malformed wide halves hard doubles borders; do
         case $kind in
             chosen | exhaustive) python3 "$here/decimals.py" "$kind" ;;
             *) python3 "$here/decimals.py" "$kind" "${DECIMALS:-50000}" "$seed" ;;

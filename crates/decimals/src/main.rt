@@ -1,12 +1,15 @@
-// Reads decimals, one to a line of standard input, and prints a line for each: the 16 hex digits of its f64's bits, `12` where it
-// is no real, `13` where it is a real outside the class. For the comparison with Rust's own reading of decimals.
+// Reads decimals, one to a line of standard input, and prints two answers to each, in a line with a blank between: that of the reading of the
+// class, and that of the reading of any real. An answer is the 16 hex digits of the f64's bits, `12` where the line is no real, or `13` where it is
+// a real outside the class. For the comparison with Rust's own reading of decimals.
 //
 // A line is all bytes up to an LF, blanks included; the last one may lack its LF. A line of more than 4,096 bytes is not read.
 use input::Feed;
 use reals::Real;
+use reals::Reals;
 use text::Line;
+use text::Pen;
 
-// The patterns of the lines that are printed, by their place in the table. NOTHING is in none.
+// The patterns of what is printed, by their place in both tables. NOTHING is in none, and LONG and FAILED are in the second alone.
 const VALUE: usize = 1;
 
 const NOT_REAL: usize = 2;
@@ -24,19 +27,46 @@ fn main() {
     let mut chunk = io::large_buffer();
     let mut line = io::buffer();
     let mut out = io::large_buffer();
-    let table = patterns();
     let mut feed = input::start();
     let mut pen = text::fresh();
     let mut left = u64::MAX;
     while left > 0 {
         feed = input::pass(&mut chunk, feed, usize::MAX, input::LF, &mut line);
         left = input::left(left, feed);
-        pen = text::form(&mut out, pen, &table, &table, said(&line, feed, left));
+        pen = both(&mut out, pen, &line, feed, left);
     }
     text::finish(&out, pen);
 }
 
-fn patterns() -> [u8; 74] {
+// Puts both answers to a line.
+fn both(out: &mut [u8], pen: Pen, line: &[u8], feed: Feed, left: u64) -> Pen {
+    let first = firsts();
+    let second = seconds();
+    let last = text::form(
+        out,
+        pen,
+        &first,
+        &first,
+        said(Reals::Class, line, feed, left),
+    );
+    text::form(
+        out,
+        last,
+        &second,
+        &second,
+        said(Reals::Any, line, feed, left),
+    )
+}
+
+// What the first answer to a line puts.
+fn firsts() -> [u8; 11] {
+    *b"%x \n\
+        12 \n\
+        13 "
+}
+
+// What the second does, and what stands for both.
+fn seconds() -> [u8; 74] {
     *b"%x%n\n\
         12%n\n\
         13%n\n\
@@ -44,8 +74,8 @@ fn patterns() -> [u8; 74] {
         standard input cannot be read%n"
 }
 
-// What is said of a line. Where none is left, there was no line.
-fn said(line: &[u8], feed: Feed, left: u64) -> Line {
+// What is said of a line by one of the two readings. Where none is left, there was no line.
+fn said(which: Reals, line: &[u8], feed: Feed, left: u64) -> Line {
     if left == 0 {
         return put(if feed.failed == 0 { NOTHING } else { FAILED }, 0);
     }
@@ -53,11 +83,11 @@ fn said(line: &[u8], feed: Feed, left: u64) -> Line {
     if count > line.len() {
         return put(LONG, 0);
     }
-    answer(&line[..count])
+    answer(which, &line[..count])
 }
 
-fn answer(t: &[u8]) -> Line {
-    match reals::parse_real(t) {
+fn answer(which: Reals, t: &[u8]) -> Line {
+    match reals::read_real(which, t) {
         Real::Value(x) => put(VALUE, nearest::bits(x)),
         Real::Outside => put(OUTSIDE, 0),
         Real::NotReal => put(NOT_REAL, 0),

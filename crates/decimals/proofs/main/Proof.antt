@@ -5,10 +5,10 @@ use Rattle.decimals.proofs.main.Statement.{statement}
 use Rattle.decimals.proofs.main.Tie as tie
 
 abbrev Inv-loop : tie.InvT-loop
-Inv-loop chunk₀ line₀ out₀ table feed₀ pen₀ left₀ chunk line out feed pen left = (65536 ≡ length chunk) × ((4096 ≡ length line) × (65536 ≡ length out))
+Inv-loop chunk₀ line₀ out₀ feed₀ pen₀ left₀ chunk line out feed pen left = (65536 ≡ length chunk) × ((4096 ≡ length line) × (65536 ≡ length out))
 
 abbrev μ-loop : tie.MeasureT-loop
-μ-loop chunk₀ line₀ out₀ table feed₀ pen₀ left₀ chunk line out feed pen left = left
+μ-loop chunk₀ line₀ out₀ feed₀ pen₀ left₀ chunk line out feed pen left = left
 
 large-buffer-requires : tie.Need-large-buffer-requires Inv-loop μ-loop
 large-buffer-requires c κs = search needs
@@ -18,9 +18,6 @@ buffer-requires c κs = search needs
 
 large-buffer-requires-2 : tie.Need-large-buffer-requires-2 Inv-loop μ-loop
 large-buffer-requires-2 c κs = search needs
-
-patterns-requires : tie.Need-patterns-requires Inv-loop μ-loop
-patterns-requires c κs = search needs
 
 start-requires : tie.Need-start-requires Inv-loop μ-loop
 start-requires c κs = search needs
@@ -43,23 +40,14 @@ pass-requires c κs = search needs
 left-requires : tie.Need-left-requires Inv-loop μ-loop
 left-requires c κs = search needs
 
-slice-aggregate-form : tie.Need-slice-aggregate-form Inv-loop μ-loop
-slice-aggregate-form c = search needs
+slice-aggregate-both : tie.Need-slice-aggregate-both Inv-loop μ-loop
+slice-aggregate-both c = search needs
 
-slice-aggregate-form-2 : tie.Need-slice-aggregate-form-2 Inv-loop μ-loop
-slice-aggregate-form-2 c = search needs
+slice-aggregate-both-2 : tie.Need-slice-aggregate-both-2 Inv-loop μ-loop
+slice-aggregate-both-2 c = search needs
 
-slice-aggregate-form-3 : tie.Need-slice-aggregate-form-3 Inv-loop μ-loop
-slice-aggregate-form-3 c = search needs
-
-slice-aggregate-said : tie.Need-slice-aggregate-said Inv-loop μ-loop
-slice-aggregate-said c = search needs
-
-said-requires : tie.Need-said-requires Inv-loop μ-loop
-said-requires c κs = search needs
-
-form-requires : tie.Need-form-requires Inv-loop μ-loop
-form-requires c κs = search needs
+both-requires : tie.Need-both-requires Inv-loop μ-loop
+both-requires c κs = search needs
 
 loop-less : tie.Need-loop-less Inv-loop μ-loop
 loop-less c = search needs
@@ -85,7 +73,6 @@ main-spec =
     large-buffer-requires
     buffer-requires
     large-buffer-requires-2
-    patterns-requires
     start-requires
     fresh-requires
     loop-holds
@@ -93,12 +80,9 @@ main-spec =
     slice-aggregate-pass-2
     pass-requires
     left-requires
-    slice-aggregate-form
-    slice-aggregate-form-2
-    slice-aggregate-form-3
-    slice-aggregate-said
-    said-requires
-    form-requires
+    slice-aggregate-both
+    slice-aggregate-both-2
+    both-requires
     loop-less
     loop-again
     slice-aggregate-finish
