@@ -1,8 +1,8 @@
 //! The proved reading of a real beside Rust's `str::parse::<f64>`, on lists of a million decimals held in memory. Driver for
 //! native.sh; see reals.sh.
 //!
-//!   reals            the table
-//!   reals once SIDE  one reading of the first list by one side, `rust` or `proved`, for a count of instructions; `none` reads none
+//!   reals            the tables: the class's reading and that of any real, and the long path's in microseconds
+//!   reals once SIDE  one reading of the first list by one side, `rust`, `proved` or `any`, for a count of instructions; `none` reads none
 use std::hint::black_box;
 
 #[repr(C)]
@@ -13,6 +13,7 @@ struct Timespec {
 
 extern "C" {
     fn hooflift_real(text: *const u8, len: usize, out: *mut u64) -> u8;
+    fn hooflift_any_real(text: *const u8, len: usize, out: *mut u64) -> u8;
     fn clock_gettime(clock: i32, time: *mut Timespec) -> i32;
 }
 
@@ -104,6 +105,37 @@ fn coordinate(draw: &mut Draw) -> String {
     }
 }
 
+/// A zero with noise, as exporters write them: `-1.025893950136E-17`
+fn noise(draw: &mut Draw, digits: u32) -> String {
+    format!("{}E-{}", long(draw, digits, digits as usize - 1), 14 + draw.below(6))
+}
+
+/// Lists that the class does not have.
+fn others() -> Vec<List> {
+    vec![
+        List::new("noise, as `-1.025893950136E-17`", 12, |d| noise(d, 13)),
+        List::new("noise of sixteen digits, as `1.110223024625157E-16`", 13, |d| noise(d, 16)),
+        List::new("coordinates, mixed, one in twenty noise", 14, |d| if d.below(20) == 0 { noise(d, 13) } else { coordinate(d) }),
+    ]
+}
+
+/// Single decimals that go the long path, the worst of it among them.
+fn longs() -> Vec<(&'static str, String)> {
+    let tie = "1.00000000000000011102230246251565404236316680908203125";
+    vec![
+        ("twenty digits, as `1.2345678901234567890`", "1.2345678901234567890".to_string()),
+        ("a tie of 53 digits, as `1.000000000000000111..`", tie.to_string()),
+        ("the same, decided by its 800th digit", format!("{tie}{}1", "0".repeat(746))),
+        ("1,200 digits, about 1", format!("1.{}", "7".repeat(1199))),
+        ("1,384 digits, 309 of them before the point", format!("{}.{}", "1".repeat(309), "7".repeat(1075))),
+        ("768 digits, a subnormal", format!("4.{}E-320", "9".repeat(767))),
+        ("300 zeros behind a digit, as `1000..`", format!("1{}", "0".repeat(300))),
+        ("one digit, as `1E300`", "1E300".to_string()),
+        ("one digit, as `1E-300`", "1E-300".to_string()),
+        ("100,000 digits", format!("0.{}", "123456789".repeat(11111))),
+    ]
+}
+
 fn lists() -> Vec<List> {
     vec![
         List::new("coordinates, mixed", 1, coordinate),
@@ -145,6 +177,42 @@ fn proved(list: &List, out: &mut [u64]) {
     }
 }
 
+#[inline(never)]
+fn any(list: &List, out: &mut [u64]) {
+    let bytes = list.text.as_bytes();
+    let mut start = 0;
+    for (end, place) in list.ends.iter().zip(out) {
+        let one = &bytes[start..*end];
+        // SAFETY: a slice's place and length, and a place for one number.
+        unsafe { hooflift_any_real(one.as_ptr(), one.len(), place) };
+        start = *end;
+    }
+}
+
+/// The least time of one decimal by each side, in microseconds.
+fn one(text: &str) -> (f64, f64) {
+    let (mut a, mut b) = (u64::MAX, u64::MAX);
+    let times = 1 + 200_000 / text.len();
+    let mut bits = 0;
+    for _ in 0..ROUNDS {
+        let begin = thread_nanoseconds();
+        for _ in 0..times {
+            black_box(black_box(text).parse::<f64>().ok());
+        }
+        let middle = thread_nanoseconds();
+        for _ in 0..times {
+            // SAFETY: a slice's place and length, and a place for one number.
+            black_box(unsafe { hooflift_any_real(black_box(text).as_ptr(), text.len(), &mut bits) });
+        }
+        let end = thread_nanoseconds();
+        a = a.min(middle - begin);
+        b = b.min(end - middle);
+    }
+    assert_eq!(text.parse::<f64>().map(f64::to_bits), Ok(bits), "the two differ on {text}");
+    let each = |n: u64| n as f64 / times as f64 / 1000.0;
+    (each(a), each(b))
+}
+
 fn time(side: fn(&List, &mut [u64]), list: &List, out: &mut [u64]) -> u64 {
     let begin = thread_nanoseconds();
     side(black_box(list), black_box(out));
@@ -159,34 +227,54 @@ fn main() {
         match args.next().as_deref() {
             Some("rust") => rust(list, &mut out),
             Some("proved") => proved(list, &mut out),
+            Some("any") => any(list, &mut out),
             _ => {}
         }
         black_box(out);
         return;
     }
-    println!("| decimals | bytes each | Rust ns each | proved ns each | proved / Rust |");
-    println!("|---|---|---|---|---|");
-    for list in lists() {
-        let mut other = vec![1u64; COUNT];
-        rust(&list, &mut out);
-        proved(&list, &mut other);
+    println!("| decimals | bytes each | Rust ns each | class ns each | class / Rust | any ns each | any / Rust |");
+    println!("|---|---|---|---|---|---|---|");
+    for (list, classed) in lists().into_iter().map(|l| (l, true)).chain(others().into_iter().map(|l| (l, false))) {
+        row(&list, classed, &mut out);
+    }
+    println!("\n| one decimal | Rust us | any us |\n|---|---|---|");
+    for (name, text) in longs() {
+        let (a, b) = one(&text);
+        println!("| {name} | {a:.3} | {b:.3} |");
+    }
+}
+
+/// A list's times by each side; the class's only where it reads all of them.
+fn row(list: &List, classed: bool, out: &mut [u64]) {
+    let mut other = vec![1u64; COUNT];
+    let mut sides: Vec<fn(&List, &mut [u64])> = vec![rust, any];
+    if classed {
+        sides.push(proved);
+    }
+    rust(list, out);
+    for side in &sides[1..] {
+        side(list, &mut other);
         if let Some(i) = (0..COUNT).find(|i| out[*i] != other[*i]) {
             eprintln!("reals: {}: the two differ at {i}", list.name);
             std::process::exit(1);
         }
-        let (mut a, mut b) = (u64::MAX, u64::MAX);
-        for _ in 0..ROUNDS {
-            a = a.min(time(rust, &list, &mut out));
-            b = b.min(time(proved, &list, &mut other));
-        }
-        let each = |n: u64| n as f64 / COUNT as f64;
-        println!(
-            "| {} | {:.1} | {:.2} | {:.2} | {:.2} |",
-            list.name,
-            list.text.len() as f64 / COUNT as f64,
-            each(a),
-            each(b),
-            b as f64 / a as f64
-        );
     }
+    let mut least = vec![u64::MAX; sides.len()];
+    for _ in 0..ROUNDS {
+        for (side, t) in sides.iter().zip(&mut least) {
+            *t = (*t).min(time(*side, list, &mut other));
+        }
+    }
+    let each = |n: u64| n as f64 / COUNT as f64;
+    let ratio = |n: u64| n as f64 / least[0] as f64;
+    let class = if classed { format!("{:.2} | {:.2}", each(least[2]), ratio(least[2])) } else { " | ".to_string() };
+    println!(
+        "| {} | {:.1} | {:.2} | {class} | {:.2} | {:.2} |",
+        list.name,
+        list.text.len() as f64 / COUNT as f64,
+        each(least[0]),
+        each(least[1]),
+        ratio(least[1])
+    );
 }

@@ -1,5 +1,5 @@
 #!/bin/sh
-# Times the proved reading of a real beside Rust's str::parse::<f64> and prints the table in markdown.
+# Times the proved readings of a real, the class's and that of any real, beside Rust's str::parse::<f64> and prints the table in markdown.
 #
 #   reals.sh [WORK_FOLDER]
 #
@@ -30,7 +30,7 @@ instructions() { # instructions SIDE
 }
 none=$(instructions none)
 printf '\n| side | instructions for each of the mixed coordinates |\n|---|---|\n'
-for side in rust proved; do
+for side in rust proved any; do
     total=$(instructions "$side")
     awk -v s="$side" -v t="$((total - none))" 'BEGIN { printf "| %s | %.1f |\n", s, t / 1000000 }'
 done

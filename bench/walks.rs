@@ -1,7 +1,8 @@
 //! The proved argument reader beside the Rust original's `Args`, in one executable; see walks.sh.
 //!
-//!   walks FILE..             the tables: all parameters of each file by `skip`, and the coordinates of its CARTESIAN_POINTs
-//!   walks once SIDE WHAT FILE  one walk by one side, `rust`, `proved` or `none`, of `skip` or `points`, for a count of instructions
+//!   walks FILE..             the tables: all parameters of each file by `skip`, the coordinates of its CARTESIAN_POINTs that are of document 01's class,
+//!                            and all of them, by the reader of any real
+//!   walks once SIDE WHAT FILE  one walk by one side, `rust`, `proved` or `none`, of `skip`, `points` or `all`, for a count of instructions
 #[path = "src/clock.rs"]
 #[allow(dead_code)]
 mod clock;
@@ -23,7 +24,20 @@ unsafe extern "C" {
         count: *mut usize,
         fault: *mut usize,
     ) -> u8;
+    fn hooflift_any_f64_list(
+        file: *const u8,
+        len: usize,
+        place: *mut usize,
+        end: usize,
+        out: *mut f64,
+        out_len: usize,
+        count: *mut usize,
+        fault: *mut usize,
+    ) -> u8;
 }
+
+/// A reader of a list of reals: of document 01's class, or of any.
+type ListReader = unsafe extern "C" fn(*const u8, usize, *mut usize, usize, *mut f64, usize, *mut usize, *mut usize) -> u8;
 
 const ROUNDS: usize = 60;
 
@@ -33,6 +47,7 @@ struct Case {
     file: Vec<u8>,
     spans: Vec<Range<u32>>,
     points: Vec<Range<u32>>,
+    all: Vec<Range<u32>>,
 }
 
 fn case(name: &str) -> Option<Case> {
@@ -45,14 +60,15 @@ fn case(name: &str) -> Option<Case> {
         .filter(|r| &file[r.keyword.start as usize..r.keyword.end as usize] == b"CARTESIAN_POINT")
         .map(|r| r.args.clone())
         .collect();
+    let all = points.clone();
     let points = of_the_class(&file, points);
     let short = name.rsplit('/').next().unwrap_or(name).to_string();
-    Some(Case { name: short, file, spans, points })
+    Some(Case { name: short, file, spans, points, all })
 }
 
 /// The points whose coordinates are all reals of document 01's class: the others are 13 to the proved side.
 fn of_the_class(file: &[u8], mut points: Vec<Range<u32>>) -> Vec<Range<u32>> {
-    let one = |span: &Range<u32>| proved_point(file, span, &mut [0f64; 64]).is_some();
+    let one = |span: &Range<u32>| proved_point(hooflift_f64_list, file, span, &mut [0f64; 64]).is_some();
     points.retain(one);
     points
 }
@@ -84,10 +100,10 @@ fn proved_skip(c: &Case) -> (usize, usize) {
 }
 
 /// How many coordinates there are, and the exclusive or of their bits.
-fn rust_points(c: &Case) -> (usize, u64) {
+fn rust_of(c: &Case, points: &[Range<u32>]) -> (usize, u64) {
     let (mut n, mut bits) = (0, 0);
     let mut list = Vec::new();
-    for span in &c.points {
+    for span in points {
         let mut args = Args::new(&c.file, span.clone());
         list.clear();
         if args.skip().is_ok() && args.next_f64_list(&mut list).is_ok() {
@@ -100,14 +116,23 @@ fn rust_points(c: &Case) -> (usize, u64) {
     (n, bits)
 }
 
+fn rust_points(c: &Case) -> (usize, u64) {
+    rust_of(c, &c.points)
+}
+
+fn rust_all(c: &Case) -> (usize, u64) {
+    rust_of(c, &c.all)
+}
+
 /// How many coordinates a point has, if it reads.
-fn proved_point(file: &[u8], span: &Range<u32>, list: &mut [f64; 64]) -> Option<usize> {
+#[inline(always)]
+fn proved_point(read: ListReader, file: &[u8], span: &Range<u32>, list: &mut [f64; 64]) -> Option<usize> {
     let (mut place, end, mut fault, mut count) = (span.start as usize, span.end as usize, 0, 0);
     // SAFETY: the slices' places and lengths, and places for three numbers.
     let code = unsafe {
         let skipped = hooflift_skip(file.as_ptr(), file.len(), &mut place, end, &mut fault);
         if skipped == 0 {
-            hooflift_f64_list(file.as_ptr(), file.len(), &mut place, end, list.as_mut_ptr(), list.len(), &mut count, &mut fault)
+            read(file.as_ptr(), file.len(), &mut place, end, list.as_mut_ptr(), list.len(), &mut count, &mut fault)
         } else {
             skipped
         }
@@ -115,11 +140,12 @@ fn proved_point(file: &[u8], span: &Range<u32>, list: &mut [f64; 64]) -> Option<
     (code == 0).then_some(count)
 }
 
-fn proved_points(c: &Case) -> (usize, u64) {
+#[inline(always)]
+fn proved_of(read: ListReader, c: &Case, points: &[Range<u32>]) -> (usize, u64) {
     let (mut n, mut bits) = (0, 0);
     let mut list = [0f64; 64];
-    for span in &c.points {
-        if let Some(count) = proved_point(&c.file, span, &mut list) {
+    for span in points {
+        if let Some(count) = proved_point(read, &c.file, span, &mut list) {
             n += count;
             for x in &list[..count] {
                 bits ^= x.to_bits().rotate_left(n as u32);
@@ -127,6 +153,14 @@ fn proved_points(c: &Case) -> (usize, u64) {
         }
     }
     (n, bits)
+}
+
+fn proved_points(c: &Case) -> (usize, u64) {
+    proved_of(hooflift_f64_list, c, &c.points)
+}
+
+fn proved_all(c: &Case) -> (usize, u64) {
+    proved_of(hooflift_any_f64_list, c, &c.all)
 }
 
 /// Both sides in turn: the least time of each, after they agreed.
@@ -155,6 +189,8 @@ fn main() {
             ("proved", "skip") => println!("{:?}", proved_skip(&c)),
             ("rust", "points") => println!("{:?}", rust_points(&c)),
             ("proved", "points") => println!("{:?}", proved_points(&c)),
+            ("rust", "all") => println!("{:?}", rust_all(&c)),
+            ("proved", "all") => println!("{:?}", proved_all(&c)),
             _ => println!("none"),
         }
         return;
@@ -167,5 +203,9 @@ fn main() {
     println!("\n| coordinates of | numbers | Rust ns each | proved ns each | proved / Rust |\n|---|---|---|---|---|");
     for c in cases.iter().filter(|c| c.points.len() > 100) {
         row(&c.name, rust_points(c).0, both(c, rust_points, proved_points));
+    }
+    println!("\n| all coordinates, noise included, of | numbers | Rust ns each | proved ns each | proved / Rust |\n|---|---|---|---|---|");
+    for c in cases.iter().filter(|c| c.all.len() > 100) {
+        row(&c.name, rust_all(c).0, both(c, rust_all, proved_all));
     }
 }
