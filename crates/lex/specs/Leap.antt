@@ -1,5 +1,5 @@
--- Leaps: bytes that a search passes without looking at each. A byte is sought; and in a string or a comment a search stays as it is until
--- a quote or a `*`. Assumes nothing.
+-- Leaps: bytes that a search passes without looking at each. A byte is sought; and in a comment a search stays as it is until a `*`.
+-- Assumes nothing.
 use Prim.Native.Nat.{ℕ, zero, suc, _+_, _-_, _≤_, _<_, min}
 use mathlib.Core.Path.{_≡_, refl, sym, _∙_, ap, subst}
 use mathlib.Core.Bool.{Bool, true, false, _||_}
@@ -14,7 +14,7 @@ use Rattle.lex.specs.Walk.{Turn, on, walk, walk-goes}
 use Rattle.lex.specs.Lexer.{calm, next}
 use Rattle.lex.specs.Search.{Sought, Seen, seen, Look, seekTurn}
 use Rattle.lex.specs.declared.Mode.{Mode}
-use Rattle.lex.specs.declared.Mode.the-variants.{Text, Remark}
+use Rattle.lex.specs.declared.Mode.the-variants.{Remark}
 
 -- none of the bytes from i on and before r is b
 unfoldable pub Lacks : ℕ → List ℕ → ℕ → ℕ → Type 0
@@ -85,14 +85,6 @@ seek-leaps f z xs m d o i r h =
     let e : i + (r - i) ≡ r = omega arith in
     walk-stays (seekTurn f) z (seen m d o) xs (r - i) i (omega arith) (λ j p q. rw (h .quiet j p (omega arith), h .same j p (omega arith)) refl)
     ∙ ap (λ (k : ℕ). walk (seekTurn f) z (seen m d o) (drop k xs)) e
-
--- in a string, to a quote
-pub leapt-text : (xs : List ℕ) (i r : ℕ) → i ≤ length xs → Stopped 39 xs (min i (length xs)) (length xs) r → Leapt Text xs i r
-unfolding Lacks
-leapt-text xs i r h s =
-    let a : min i (length xs) ≤ r = s .on in
-    let b : r ≤ length xs = s .inside in
-    record { on = omega arith; inside = b; same = λ j p q. rw (ne-eqb (getD xs j 0) 39 (s .lacks j (omega arith) q)) refl; quiet = λ j p q. refl }
 
 -- in a comment, to a `*`
 pub leapt-remark : (xs : List ℕ) (i r : ℕ) → i ≤ length xs → Stopped 42 xs (min i (length xs)) (length xs) r → Leapt Remark xs i r

@@ -7,6 +7,7 @@ pub mod Seek
 pub mod Grammar
 pub mod Local
 pub mod Right
+pub mod Quote
 pub mod Past
 pub mod Blank
 pub mod At

@@ -4,7 +4,7 @@
 use Prim.Native.Nat.{ℕ, suc, _+_, _-_, _≤_, _<_, min}
 use mathlib.Core.Path.{_≡_, refl, sym, _∙_, ap}
 use mathlib.Core.Bool.{Bool, true, false, _||_}
-use mathlib.Core.List.{List}
+use mathlib.Core.List.{List, _∷_, _++_}
 use native.Mathlib.Omega.{arith}
 use native.Mathlib.Decide.{decLe}
 use lib.Dec.{eqb}
@@ -15,15 +15,16 @@ use Rattle.lex.specs.Byte.{pick, place-drop}
 use Rattle.lex.specs.Walk.{on, split, drop-end, walk-ends, walk-goes}
 use Rattle.lex.specs.Lexer.{fresh}
 use Rattle.lex.specs.Search.{Look, look, seen, seekTurn, missed, semicolon, paren, placed}
-use Rattle.lex.specs.Leap.{Stopped, seek-leaps, leapt-text, leapt-remark}
-use Rattle.lex.specs.Grammar.{Begins}
+use Rattle.lex.specs.Leap.{Stopped, seek-leaps, leapt-remark}
+use Rattle.lex.specs.Grammar.{Begins, Quotation, OpenText}
 use Rattle.lex.specs.Local.{seek}
-use Rattle.lex.specs.Right.Steps.{clash, plainly, unstarred, unopened, unslashed, unquoted, seek-deaf}
+use Rattle.lex.specs.Right.Steps.{clash, plainly, unstarred, unopened, unslashed, text-shut, text-open, seek-deaf}
+use Rattle.lex.specs.Right.Tokens.{open-text}
 use Rattle.lex.specs.declared.Found.{Found}
 use Rattle.lex.specs.declared.Found.the-variants.{At, Refused}
 use Rattle.lex.specs.declared.Stand.{Stand}
 use Rattle.lex.specs.declared.Mode.{Mode}
-use Rattle.lex.specs.declared.Mode.the-variants.{Plain, Slash, Text, Quoted, Remark, Starred}
+use Rattle.lex.specs.declared.Mode.the-variants.{Plain, Slash, Text, Remark, Starred}
 
 -- whether the byte b stands at i
 pub record IsAt (b : ℕ) (s : List ℕ) (i : ℕ) (r : Bool) : Type 0 where
@@ -85,37 +86,21 @@ unbegun s j c h (r, e) = go (decLe (length s) j)
     go (yes l) = clash (cc (drop-end s j l))
     go (no l) = let k : j < length s = omega arith in h k (cc (split s j k))
 
--- One piece of a string or of a comment that began at q.
+-- A string that began at q, and one piece of a comment that did.
 module _ (s : List ℕ) (q i : ℕ) where
-  -- a byte of a string that is no quote
-  pub text-byte : i < length s → (getD s i 0 ≡ 39 → ⊥) → Held s Text q i (i + 1)
-  text-byte h k f n w d = walk-goes (seekTurn f) (missed n w) (seen Text d (drop q s)) (seen Text d (drop q s)) s i h (rw (ne-eqb (getD s i 0) 39 k) refl)
+  -- a string that ends
+  pub text-left : (p : ℕ) → Quotation (39 ∷ drop i s) (drop p s) → Left s Text q i p
+  text-left p t f n w d =
+      let e : drop i s ≡ t .body ++ (39 ∷ drop p s) = cc (t .shape) in
+      rw e (text-shut f n w d (drop q s) (drop p s) (drop p s) (t .inside) (t .single))
 
-  -- the first of two quotes, or the one that ends the string
-  text-quote : i < length s → getD s i 0 ≡ 39 → (f : ℕ → ℕ → Look) (n : ℕ) (w : List ℕ) (d : ℕ)
-      → seek f (missed n w) Text d (drop q s) (drop i s) ≡ seek f (missed n w) Quoted d (drop q s) (drop (i + 1) s)
-  text-quote h a f n w d = walk-goes (seekTurn f) (missed n w) (seen Text d (drop q s)) (seen Quoted d (drop q s)) s i h (rw (eq-eqb (getD s i 0) 39 a) refl)
-
-  -- two quotes in a string
-  pub text-twice : (j : ℕ) → j ≡ i + 2 → i + 1 < length s → getD s i 0 ≡ 39 → getD s (i + 1) 0 ≡ 39 → Held s Text q i j
-  text-twice j g h a b f n w d =
-      let e : i + 1 + 1 ≡ j = omega arith in
-      text-quote (omega arith) a f n w d
-      ∙ walk-goes (seekTurn f) (missed n w) (seen Quoted d (drop q s)) (seen Text d (drop q s)) s (i + 1) h (rw (eq-eqb (getD s (i + 1) 0) 39 b) refl)
-      ∙ ap (λ (k : ℕ). seek f (missed n w) Text d (drop q s) (drop k s)) e
-
-  -- a quote that no quote follows
-  pub text-last : i < length s → getD s i 0 ≡ 39 → (i + 1 < length s → getD s (i + 1) 0 ≡ 39 → ⊥) → Left s Text q i (i + 1)
-  text-last h a b f n w d = text-quote h a f n w d ∙ unquoted f n w d (drop q s) (drop (i + 1) s) (drop (i + 1) s) (unbegun s (i + 1) 39 b)
-
-  -- the bytes end in a string
-  pub text-none : length s ≤ i → q ≤ length s → (f : ℕ → ℕ → Look) (n : ℕ) (w : List ℕ) (d : ℕ)
+  -- a string that never ends
+  pub text-stays : q ≤ length s → OpenText (39 ∷ drop i s) → (f : ℕ → ℕ → Look) (n : ℕ) (w : List ℕ) (d : ℕ)
       → placed s (seek f (missed n w) Text d (drop q s) (drop i s)) ≡ bad (refusal 4 0 q)
-  text-none h k f n w d = rw (walk-ends (seekTurn f) (missed n w) (seen Text d (drop q s)) s i h, place-drop s q k) refl
-
-  -- to the first quote
-  pub text-found : (r : ℕ) → i ≤ length s → Stopped 39 s (min i (length s)) (length s) r → Held s Text q i r
-  text-found r h t f n w d = seek-leaps f (missed n w) s Text d (drop q s) i r (leapt-text s i r h t)
+  text-stays k t f n w d =
+      let (u, e, j) = open-text t in
+      let g : drop i s ≡ u = cc in
+      rw (g, text-open f n w d (drop q s) j, place-drop s q k) refl
 
   -- to the first star
   pub remark-found : (r : ℕ) → i ≤ length s → Stopped 42 s (min i (length s)) (length s) r → Held s Remark q i r
@@ -153,11 +138,6 @@ held-on s m q i j k a b f n w d = a f n w d ∙ b f n w d
 -- a piece, and then the end
 pub left-on : (s : List ℕ) (m : Mode) (q i j p : ℕ) → Held s m q i j → Left s m q j p → Left s m q i p
 left-on s m q i j p a b f n w d = a f n w d ∙ b f n w d
-
--- a piece, and then what follows it
-pub shut-on : (s : List ℕ) (m : Mode) (q i j : ℕ) (r : Found) → i ≤ j → Held s m q i j → Shut s m q j r → Shut s m q i r
-shut-on s m q i j (At p) h a (x, y, b) = (omega arith, y, left-on s m q i j p a b)
-shut-on s m q i j (Refused g) h a b = λ f n w d. ap (placed s) (a f n w d) ∙ b f n w d
 
 -- What stands at i outside strings and comments.
 module _ (s : List ℕ) (i : ℕ) (h : i < length s) where

@@ -1,7 +1,7 @@
-// The lexer under the scan: past trivia, to a record's `;`, to the `)` that closes a `(`.
+// The lexer under the scan: past trivia, to a string's end, to a record's `;`, to the `)` that closes a `(`.
 //
 // As the first half of the Rust's scan.rs. All searches pass a comment at one go; those for a `;` and a `)` a string too, and plain bytes by
-// blocks where there are many.
+// blocks where there are many. Where a string ends is sought by `text_end`, for the argument reader too.
 // No public function has a `requires`: a start past the file's end counts as the end.
 ghost use mathlib.Core.Path.{_≡_};
 ghost use Prim.Native.Nat.{_+_, _≤_, _<_, _^_, min};
@@ -9,6 +9,7 @@ ghost use mathlib.Core.Bool.{true, false, _||_};
 ghost use lib.ListN.{length, drop};
 ghost use Rattle.lex.specs.Byte.{white, pick};
 ghost use Rattle.lex.specs.Leap.{Lacks, Without, Stopped};
+ghost use Rattle.lex.specs.Quote.{QuoteIs, TextEnds};
 ghost use Rattle.lex.specs.Past.{IsAt, Shut, Onward, Quiet, Counted, Stood};
 ghost use Rattle.lex.specs.Search.{recordEnd, closing, trivia, placed, toldFound, paren, lookOf};
 use error::Fault;
@@ -111,41 +112,75 @@ fn is_at(s: &[u8], i: usize, b: u8) -> bool
     false
 }
 
-// Past the string whose first quote stands at q, from a place in it on: it ends at a quote that no quote follows.
-fn far_text(s: &[u8], q: usize, from: usize) -> Found
-    requires { ⌜ (q < from) × (from ≤ length (now s)) ⌝ }
-    ensures { λ r. ⌜ Shut (now (s .entry)) Mode.Text q from r ⌝ }
-{
-    let mut i = from;
-    loop {
-        let e = find(s, i, b'\'');
-        if s.len() <= e {
-            return Found::Refused(Fault::OpenString(q));
-        }
-        if !is_at(s, e + 1, b'\'') {
-            return Found::At(e + 1);
-        }
-        i = e + 2;
-    }
+// What a quote in a string is, by what follows it. The quotes after the string's first one are paired off in turn: `''` is a pair and stays inside,
+// and a quote that is left over is the string's end. So after the `a` of `'a'''` come a pair and the end: it ends at its last quote.
+pub enum Quote {
+    Doubled, // `''`.
+    Single, // `'` and another byte.
+    Last, // `'` and the end of the bytes: the file's, or of the part of it that is read.
 }
 
-// Past the string whose first quote stands at q. Most are short: the first bytes are looked at one by one.
+// What the quote before `after` is, if it is not the second of a pair. That byte itself is not looked at.
+pub fn quote_before(s: &[u8], after: usize) -> Quote
+    ensures { λ r. ⌜ QuoteIs (drop after (now (s .entry))) r ⌝ }
+{
+    if s.len() <= after {
+        return Quote::Last;
+    }
+    if s[after] == b'\'' {
+        return Quote::Doubled;
+    }
+    Quote::Single
+}
+
+// The first quote from i on, or the length. Most strings are short: the compiler puts the look at the first bytes into the loop below, which has
+// no call then.
+fn next_quote(s: &[u8], i: usize) -> usize
+    requires { ⌜ i ≤ length (now s) ⌝ }
+    ensures { λ r. ⌜ Stopped 39 (now (s .entry)) i (length (now (s .entry))) r ⌝ }
+{
+    let near = within(i + 8, s.len());
+    let q = pass_bytes(s, i, near, b'\'');
+    if q < near {
+        return q;
+    }
+    find(s, q, b'\'')
+}
+
+// The place after a string, or that it never ends.
+pub enum TextEnd {
+    After(usize),
+    Never,
+}
+
+// Where the string ends whose first quote stands before `from`; what byte stands there is not looked at.
+pub fn text_end(s: &[u8], from: usize) -> TextEnd
+    ensures { λ r. ⌜ TextEnds (now (s .entry)) from r ⌝ }
+{
+    let mut i = within(from, s.len());
+    while i < s.len() {
+        if s[i] == b'\'' {
+            match quote_before(s, i + 1) {
+                Quote::Doubled => i += 2, // `''`: stay inside.
+                Quote::Single => return TextEnd::After(i + 1), // `'` and another byte: the end.
+                Quote::Last => return TextEnd::After(i + 1), // `'` and the file's end: the end.
+            }
+        } else {
+            i = next_quote(s, i + 1);
+        }
+    }
+    TextEnd::Never
+}
+
+// Past the string whose first quote stands at q.
 fn past_text(s: &[u8], q: usize) -> Found
     requires { ⌜ q < length (now s) ⌝ }
     ensures { λ r. ⌜ Shut (now (s .entry)) Mode.Text q (q + 1) r ⌝ }
 {
-    let near = within(q + 32, s.len());
-    let mut i = q + 1;
-    while i < near {
-        if s[i] == b'\'' {
-            if !is_at(s, i + 1, b'\'') {
-                return Found::At(i + 1);
-            }
-            i += 1;
-        }
-        i += 1;
+    match text_end(s, q + 1) {
+        TextEnd::After(next) => Found::At(next),
+        TextEnd::Never => Found::Refused(Fault::OpenString(q)),
     }
-    far_text(s, q, i)
 }
 
 // Past the comment whose `/` stands at q and its `*` after it.

@@ -175,14 +175,14 @@ module _ (s : List ℕ) (i d : ℕ) (h : i < length s) where
   pub other-at : (getD s i 0 ≡ 39 → ⊥) → (getD s i 0 ≡ 40 → ⊥) → (getD s i 0 ≡ 41 → ⊥) → (getD s i 0 ≡ 47 → ⊥) → (getD s i 0 ≡ 59 → ⊥) → Way d d (drop i s) (drop (i + 1) s)
   other-at a b c e f = rw (split s i h) (way-other d (getD s i 0) (drop (i + 1) s) a b c e f)
 
-  pub string-at : (q : ℕ) → getD s i 0 ≡ 39 → drop q s ≡ past spoken (drop (i + 1) s) → q + 1 < length s → getD s q 0 ≡ 39
-      → (getD s (q + 1) 0 ≡ 39 → ⊥) → Way d d (drop i s) (drop (q + 1) s)
+  pub string-at : (q : ℕ) → getD s i 0 ≡ 39 → drop q s ≡ past spoken (drop (i + 1) s) → q < length s → getD s q 0 ≡ 39
+      → (Begins 39 (drop (q + 1) s) → ⊥) → Way d d (drop i s) (drop (q + 1) s)
   string-at q e p k g o =
       let (f, x, y) = past-is spoken (drop (i + 1) s) in
-      let u : drop q s ≡ 39 ∷ drop (q + 1) s = split s q (omega arith) ∙ ap (λ (c : ℕ). c ∷ drop (q + 1) s) g in
+      let u : drop q s ≡ 39 ∷ drop (q + 1) s = split s q k ∙ ap (λ (c : ℕ). c ∷ drop (q + 1) s) g in
       let z : drop (i + 1) s ≡ f ++ (39 ∷ drop (q + 1) s) = x ∙ ap (λ (l : List ℕ). f ++ l) (sym p ∙ u) in
       let v : drop i s ≡ 39 ∷ (f ++ (39 ∷ drop (q + 1) s)) = split s i h ∙ cc in
-      rw v (string-way d f (drop (q + 1) s) (y .all) (λ (r, w). o (let w' : getD s (q + 1) 0 ∷ drop (q + 1 + 1) s ≡ 39 ∷ r = sym (split s (q + 1) k) ∙ w in cc)))
+      rw v (string-way d f (drop (q + 1) s) (y .all) o)
 
 -- bytes with one more at the end that is not of the kind
 snoc-none : (f : List ℕ) (b : ℕ) → f ++ (b ∷ []) ≡ [] → ⊥

@@ -18,6 +18,7 @@ ghost use Rattle.statement.specs.Tidy.{unended, tidy, tidyBy, tidyRecord
 ghost use Rattle.statement.specs.Usual.{mark, plain, stops, spoken, Stepped, Closed, IdAt, Headed, Walked, UsualSaid};
 use error::Fault;
 use lex::Found;
+use lex::Quote;
 use record::Head;
 use record::Word;
 
@@ -353,14 +354,11 @@ fn string_step(s: &[u8], i: usize, depth: usize) -> Step
     if s[q] != b'\'' {
         return Step::Stop(s.len());
     }
-    let after = q + 1;
-    if s.len() <= after {
-        return Step::Stop(s.len());
+    match lex::quote_before(s, q + 1) {
+        Quote::Doubled => Step::Stop(s.len()), // `''`: inside still, which is not usual.
+        Quote::Single => Step::On(q + 1, depth), // `'` and another byte: the end.
+        Quote::Last => Step::Stop(s.len()), // `'` and the file's end: the end, but no `;` follows.
     }
-    if s[after] == b'\'' {
-        return Step::Stop(s.len());
-    }
-    Step::On(after, depth)
 }
 
 // What a walk does at a marked byte with so many open parentheses. A slash or a `;` is not usual; the bytes from 64 on that share their

@@ -180,34 +180,6 @@ byte-found b (x ∷ xs) c r e = go (eqb x b) refl e (byte-found b xs c r)
     go true h e ih = let f : x ≡ b = eqb-true x b h in cc
     go false h e ih = ih e
 
--- a string goes on to its next quote
-string-skips : (xs : List ℕ) → stringRest xs ≡ stringRest (fromByte 39 xs)
-unfolding stringRest walk fromByte
-string-skips [] = refl
-string-skips (c ∷ r) = go (eqb c 39) refl (string-skips r)
-  where
-    go : (k : Bool) → eqb c 39 ≡ k → walk leapTurn leapEnd Text r ≡ walk leapTurn leapEnd Text (fromByte 39 r)
-        → walk leapTurn leapEnd (pick k Quoted Text) r ≡ walk leapTurn leapEnd Text (pick k (c ∷ r) (fromByte 39 r))
-    go true e ih = rw e refl
-    go false e ih = ih
-
--- where the bytes end, a string is open
-string-empty : stringRest [] ≡ never
-unfolding stringRest walk
-string-empty = refl
-
--- a quote that no quote follows
-string-single : (r : List ℕ) → heads 39 r ≡ false → stringRest (39 ∷ r) ≡ ends r
-unfolding stringRest walk
-string-single [] h = refl
-string-single (c ∷ r) h = rw h refl
-
--- a quote that a quote follows
-string-double : (r : List ℕ) → heads 39 r ≡ true → stringRest (39 ∷ r) ≡ stringRest (drop 1 r)
-unfolding stringRest walk
-string-double [] h = clash (cc)
-string-double (c ∷ r) h = rw h refl
-
 -- a comment goes on to its next star
 comment-skips : (xs : List ℕ) → commentRest xs ≡ commentRest (fromByte 42 xs)
 unfolding commentRest walk fromByte
@@ -251,16 +223,6 @@ module _ (s : List ℕ) (i q : ℕ) where
   -- one byte further
   drop-one : drop 1 (drop (q + 1) s) ≡ drop (q + 2) s
   drop-one = let e : q + 1 + 1 ≡ q + 2 = omega arith in drop-drop 1 (q + 1) s ∙ ap (λ (k : ℕ). drop k s) e
-
-  module _ (e : drop q s ≡ fromByte 39 (drop i s)) where
-    pub string-none : length s ≤ q → stringRest (drop i s) ≡ never
-    string-none h = string-skips (drop i s) ∙ ap stringRest (found-none 39 e h) ∙ string-empty
-
-    pub string-last : q < length s → heads 39 (drop (q + 1) s) ≡ false → stringRest (drop i s) ≡ ends (drop (q + 1) s)
-    string-last h k = string-skips (drop i s) ∙ ap stringRest (found-here 39 e h) ∙ string-single (drop (q + 1) s) k
-
-    pub string-more : q < length s → heads 39 (drop (q + 1) s) ≡ true → stringRest (drop i s) ≡ stringRest (drop (q + 2) s)
-    string-more h k = string-skips (drop i s) ∙ ap stringRest (found-here 39 e h) ∙ string-double (drop (q + 1) s) k ∙ ap stringRest drop-one
 
   module _ (e : drop q s ≡ fromByte 42 (drop i s)) where
     pub comment-none : length s ≤ q → commentRest (drop i s) ≡ never

@@ -1,7 +1,7 @@
 -- Where a byte is found; and where a string and a comment end, computed by the scan's lexer (lex/specs/Lexer.antt), so that there is no
 -- second definition of either. What these two are without a loop stands in lex/specs/Grammar.antt; Laws.antt ties them. Assumes nothing.
 use Prim.Native.Nat.{ℕ, _+_, _≤_, _<_}
-use mathlib.Core.Path.{_≡_}
+use mathlib.Core.Path.{_≡_, refl}
 use mathlib.Core.Bool.{Bool, true, false}
 use mathlib.Core.List.{List, [], _∷_}
 use lib.Dec.{eqb}
@@ -42,9 +42,39 @@ leapEnd Quoted = ends []
 leapEnd Remark = never
 leapEnd Starred = never
 
--- "A string ends at a quote not followed by a quote": the rest after it, from the bytes after its first quote
+-- "A string ends at a quote not followed by a quote", the quotes inside it paired off first: the rest after it, from the bytes after its first quote
 unfoldable pub stringRest : List ℕ → Rest
 stringRest xs = walk leapTurn leapEnd Text xs
+
+-- `'a'''` ends at the last of the three quotes in a row, be that the last byte or not; `'a''` and `'a''''` never end
+three-quotes : stringRest (97 ∷ 39 ∷ 39 ∷ 39 ∷ []) ≡ ends []
+unfolding stringRest walk
+three-quotes = refl
+
+three-quotes-more : stringRest (97 ∷ 39 ∷ 39 ∷ 39 ∷ 44 ∷ []) ≡ ends (44 ∷ [])
+unfolding stringRest walk
+three-quotes-more = refl
+
+two-quotes : stringRest (97 ∷ 39 ∷ 39 ∷ []) ≡ never
+unfolding stringRest walk
+two-quotes = refl
+
+four-quotes : stringRest (97 ∷ 39 ∷ 39 ∷ 39 ∷ 39 ∷ []) ≡ never
+unfolding stringRest walk
+four-quotes = refl
+
+-- the first quote is no part of a pair: `''` is whole, `'''` never ends, and `''''` ends at its last
+empty-string : stringRest (39 ∷ []) ≡ ends []
+unfolding stringRest walk
+empty-string = refl
+
+quotes-open : stringRest (39 ∷ 39 ∷ []) ≡ never
+unfolding stringRest walk
+quotes-open = refl
+
+one-quote : stringRest (39 ∷ 39 ∷ 39 ∷ []) ≡ ends []
+unfolding stringRest walk
+one-quote = refl
 
 -- "A comment runs from `/*` to the first `*/` that begins after it": the rest after it, from the bytes after its `/*`
 unfoldable pub commentRest : List ℕ → Rest

@@ -1,11 +1,12 @@
 // Where a byte is found, and where a string and a comment end: the leaps that a search makes over bytes that mean nothing to it.
 //
-// As memchr, string_end and find_comment_end of the Rust's scan.rs and value.rs. No function has a `requires`: a start past the end
-// counts as the end.
+// As memchr, string_end and find_comment_end of the Rust's scan.rs and value.rs. A byte and a string's end are sought by `lex`. No function
+// has a `requires`: a start past the end counts as the end.
 ghost use mathlib.Core.Path.{_≡_};
 ghost use Prim.Native.Nat.{_+_, _≤_, min};
 ghost use lib.ListN.{length, drop};
 ghost use Rattle.tokens.specs.Leap.{fromByte, heads, toldPast, PastIn, stringRest, commentRest};
+use lex::TextEnd;
 
 // Where something ends, or that it never does.
 pub enum Past {
@@ -31,21 +32,14 @@ pub fn is_at(s: &[u8], i: usize, b: u8) -> bool
     false
 }
 
-// Where the string ends whose first quote stands before `start`: at a quote that no quote follows.
+// Where the string ends whose first quote stands before `start`: at the first quote that is not one of a pair.
 pub fn string_end(s: &[u8], start: usize) -> Past
     ensures { λ r. ⌜ toldPast (now (s .entry)) r ≡ stringRest (drop start (now (s .entry))) ⌝ }
     ensures { λ r. ⌜ PastIn start (length (now (s .entry))) r ⌝ }
 {
-    let mut i = lex::within(start, s.len());
-    loop {
-        let q = find_byte(s, i, b'\'');
-        if q == s.len() {
-            return Past::Never;
-        }
-        if !is_at(s, q + 1, b'\'') {
-            return Past::At(q + 1);
-        }
-        i = q + 2;
+    match lex::text_end(s, start) {
+        TextEnd::After(next) => Past::At(next),
+        TextEnd::Never => Past::Never,
     }
 }
 

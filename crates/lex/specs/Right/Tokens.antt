@@ -105,10 +105,18 @@ abbrev first-outside : ℕ → ℕ → Look
 first-outside d c = halt
 
 -- what is all a string's inside holds no end of it: else that search would answer twice
-unended : {t : List ℕ} → Inside t → (r : List ℕ) → Quotation (39 ∷ t) r → ⊥
+pub unended : {t : List ℕ} → Inside t → (r : List ℕ) → Quotation (39 ∷ t) r → ⊥
 unfolding walk
 unended i [] q = clash (cc (text-open first-outside 5 [] 0 [] i, text-shut first-outside 5 [] 0 [] [] [] (q .inside) (q .single)))
 unended i (c ∷ r) q = clash (cc (text-open first-outside 5 [] 0 [] i, text-shut first-outside 5 [] 0 [] [] (c ∷ r) (q .inside) (q .single)))
+
+-- and a string has one end
+pub one-end : (t r z : List ℕ) → Quotation (39 ∷ t) r → Quotation (39 ∷ t) z → r ≡ z
+unfolding walk
+one-end t [] [] p q = refl
+one-end t [] (c ∷ z) p q = clash (cc (text-shut first-outside 5 [] 0 [] [] [] (p .inside) (p .single), text-shut first-outside 5 [] 0 [] [] (c ∷ z) (q .inside) (q .single)))
+one-end t (c ∷ r) [] p q = clash (cc (text-shut first-outside 5 [] 0 [] [] (c ∷ r) (p .inside) (p .single), text-shut first-outside 5 [] 0 [] [] [] (q .inside) (q .single)))
+one-end t (c ∷ r) (e ∷ z) p q = cc (text-shut first-outside 5 [] 0 [] [] (c ∷ r) (p .inside) (p .single), text-shut first-outside 5 [] 0 [] [] (e ∷ z) (q .inside) (q .single))
 
 -- a string that opens and never ends: all that follows its quote is its inside
 pub open-text : {xs : List ℕ} → OpenText xs → (t : List ℕ) × (xs ≡ 39 ∷ t) × Inside t

@@ -1,4 +1,8 @@
+use Rattle.lex.specs.Quote.{QuoteIs, single-quote}
 use Rattle.statement.specs.UsualLaws.{string-at}
+use Prim.Native.Nat.{_+_}
+use mathlib.Core.Path.{subst}
+use lib.ListN.{drop}
 use denote.Ref.{now}
 use native.Mathlib.Omega.{arith}
 use borrow.Author.Needs.{needs}
@@ -20,23 +24,39 @@ shared-slice-read-if2 c = search needs
 returns-2 : tie.Need-returns-2
 returns-2 c = search needs
 
-add-after : tie.Need-add-after
-add-after c = search needs
+add-quote-before : tie.Need-add-quote-before
+add-quote-before c = search needs
+
+quote-before-requires : tie.Need-quote-before-requires
+quote-before-requires c κs = search needs
+
+enum-told : tie.Need-enum-told
+enum-told c = search needs
+
+enum-told-2 : tie.Need-enum-told-2
+enum-told-2 c = search needs
+
+add-t14 : tie.Need-add-t14
+add-t14 c = search needs
+
+enum-told-3 : tie.Need-enum-told-3
+enum-told-3 c = search needs
 
 returns-3 : tie.Need-returns-3
 returns-3 c = search needs
 
-shared-slice-read-if4 : tie.Need-shared-slice-read-if4
-shared-slice-read-if4 c = search needs
-
 returns-4 : tie.Need-returns-4
-returns-4 c = search needs
+returns-4 c = let t = c .before .before .before .before .before .before in
+    let r = t .text-run in
+    let a = t .before .before .args in
+    let h = t .before .before .pre in
+    let s = now (a .s) in
+    let q = r .result in
+    let o = subst (λ x. QuoteIs (drop (q + 1) s) x) (c .enum-told2 .given .1) (c .before .before .quote-before .ensures) in
+    (omega arith, omega arith, omega arith, string-at s (a .i) (a .depth) (h .0) q (h .1) (r .ensures .0) (omega arith) (c .before .before .before .if2 .left) (single-quote (drop (q + 1) s) o))
 
 returns-5 : tie.Need-returns-5
-returns-5 c = let r = c .before .before .before .before .before .before .text-run in
-    let a = c .before .before .before .before .before .before .before .before .args in
-    let h = c .before .before .before .before .before .before .before .before .pre in
-    (omega arith, omega arith, omega arith, string-at (now (a .s)) (a .i) (a .depth) (h .0) (r .result) (h .1) (r .ensures .0) (omega arith) (c .before .before .before .if2 .left) (c .if4 .left))
+returns-5 c = search needs
 
 pub string-step-spec : {M : Type 1} → statement M
 string-step-spec =
@@ -47,8 +67,12 @@ string-step-spec =
     returns
     shared-slice-read-if2
     returns-2
-    add-after
+    add-quote-before
+    quote-before-requires
+    enum-told
+    enum-told-2
+    add-t14
+    enum-told-3
     returns-3
-    shared-slice-read-if4
     returns-4
     returns-5)

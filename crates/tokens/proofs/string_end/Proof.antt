@@ -1,87 +1,30 @@
-use borrow.Author.Tests.{not-true, not-false}
-use Rattle.lex.specs.Seek.{drop-within}
-use lib.ListN.{length, drop}
-use Prim.Native.Nat.{ℕ, _-_, _≤_, min, _+_}
-use mathlib.Core.Path.{_≡_, _∙_, sym, ap}
-use native.Mathlib.Omega.{arith}
-use borrow.Author.Needs.{needs}
+use Rattle.lex.specs.Quote.{TextEnds}
+use Rattle.tokens.specs.Laws.{string-only, string-never-only}
+use mathlib.Core.Path.{sym, subst}
 use denote.Ref.{now}
-use Rattle.tokens.specs.Laws.{string-none, string-last, string-more, heads-short}
-use Rattle.tokens.specs.Leap.{stringRest}
+use borrow.Author.Needs.{needs}
 use Rattle.tokens.proofs.string_end.Statement.{statement}
 use Rattle.tokens.proofs.string_end.Tie as tie
 
-abbrev Inv-loop : tie.InvT-loop
-Inv-loop s start i₀ i = (min start (length s) ≤ i) × (i ≤ length s) × (stringRest (drop i s) ≡ stringRest (drop start s))
+text-end-requires : tie.Need-text-end-requires
+text-end-requires c κs = search needs
 
-abbrev μ-loop : tie.MeasureT-loop
-μ-loop s start i₀ i = length s - i
+enum-known-next : tie.Need-enum-known-next
+enum-known-next c = search needs
 
-within-requires : tie.Need-within-requires Inv-loop μ-loop
-within-requires c κs = search needs
+enum-told : tie.Need-enum-told
+enum-told c = search needs
 
-loop-holds : tie.Need-loop-holds Inv-loop μ-loop
-loop-holds c = let s = now (c .before .before .args .s) in (
-  omega (arith, c .within .ensures),
-  omega (arith, c .within .ensures),
-  ap stringRest (ap (λ (k : ℕ). drop k s) (c .within .ensures) ∙ drop-within s (c .before .before .args .start)),
-)
+returns : tie.Need-returns
+returns c = let m = c .before .before .before in
+    let a = m .before .before .args in
+    let (l, k, q) = subst (λ r. TextEnds (now (a .s)) (a .start) r) (c .before .next .given .1) (m .text-end .ensures) in
+    (sym (string-only q), (l, k))
 
-find-byte-requires : tie.Need-find-byte-requires Inv-loop μ-loop
-find-byte-requires c κs = search needs
-
-returns : tie.Need-returns Inv-loop μ-loop
-returns c = let l = c .before .before .loop in
-    let s = now (c .before .before .before .before .before .args .s) in
-    (sym (string-none s (l .i) (c .before .find-byte .result) (c .before .find-byte .ensures .0) (omega arith)) ∙ l .inv .2, tt)
-
-add-is-at : tie.Need-add-is-at Inv-loop μ-loop
-add-is-at c = omega (arith, c .before .find-byte .ensures .1)
-
-is-at-requires : tie.Need-is-at-requires Inv-loop μ-loop
-is-at-requires c κs = search needs
-
-add-t9 : tie.Need-add-t9 Inv-loop μ-loop
-add-t9 c = omega (arith, c .before .before .before .find-byte .ensures .1)
-
-returns-2 : tie.Need-returns-2 Inv-loop μ-loop
-returns-2 c = let p = c .before .before .before in
-    let l = p .before .loop in
-    let s = now (p .before .before .before .before .args .s) in
-    let q = p .find-byte .result in
-    let k = p .find-byte .ensures .1 in
-    (sym (string-last s (l .i) q (p .find-byte .ensures .0) (omega arith) (sym (c .before .is-at .ensures) ∙ not-true _ (c .if2 .taken))) ∙ l .inv .2, (omega (arith, k), omega arith))
-
-add-i : tie.Need-add-i Inv-loop μ-loop
-add-i c = omega (arith, c .before .before .before .find-byte .ensures .1)
-
-loop-less : tie.Need-loop-less Inv-loop μ-loop
-loop-less c = omega (arith, c .before .before .before .find-byte .ensures .1)
-
-loop-again : tie.Need-loop-again Inv-loop μ-loop
-loop-again c = let p = c .before .before .before in
-    let l = p .before .loop in
-    let s = now (p .before .before .before .before .args .s) in
-    let q = p .find-byte .result in
-    let k = p .find-byte .ensures .1 in
-    let e = sym (c .before .is-at .ensures) ∙ not-false _ (c .if2 .left) in
-    let m = heads-short 39 s (q + 1) e in
-    (omega (arith, k), omega (arith, m), sym (string-more s (l .i) q (p .find-byte .ensures .0) (omega arith) e) ∙ l .inv .2)
+returns-2 : tie.Need-returns-2
+returns-2 c = let m = c .before .before in
+    let a = m .before .before .args in
+    (sym (string-never-only (subst (λ r. TextEnds (now (a .s)) (a .start) r) (c .enum-told .given .1) (m .text-end .ensures))), tt)
 
 pub string-end-spec : {M : Type 1} → statement M
-string-end-spec =
-    tie.close
-    (tie.spec
-    Inv-loop
-    μ-loop
-    within-requires
-    loop-holds
-    find-byte-requires
-    returns
-    add-is-at
-    is-at-requires
-    add-t9
-    returns-2
-    add-i
-    loop-less
-    loop-again)
+string-end-spec = tie.close (tie.spec text-end-requires enum-known-next enum-told returns returns-2)

@@ -1,0 +1,36 @@
+use Rattle.lex.specs.Leap.{Stopped, lacks-none, stopped-near, stopped-far}
+use Prim.Native.Nat.{ℕ, _≤_, min}
+use lib.ListN.{length}
+use mathlib.Core.Path.{_≡_, subst}
+use native.Mathlib.Omega.{arith}
+use denote.Ref.{now}
+use borrow.Author.Needs.{needs}
+use Rattle.lex.proofs.next_quote.Statement.{statement}
+use Rattle.lex.proofs.next_quote.Tie as tie
+
+add-within : tie.Need-add-within
+add-within c = search needs
+
+within-requires : tie.Need-within-requires
+within-requires c κs = search needs
+
+pass-bytes-requires : tie.Need-pass-bytes-requires
+pass-bytes-requires c κs = search needs
+
+returns : tie.Need-returns
+returns c = stopped-near _ _ _ _ _ _ (c .before .pass-bytes .ensures) (c .if1 .taken) (omega (arith, c .before .before .within .ensures))
+
+find-requires : tie.Need-find-requires
+find-requires c κs = search needs
+
+returns-2 : tie.Need-returns-2
+returns-2 c = let s = now (c .before .before .before .before .before .args .s) in
+    let t = c .before .before .pass-bytes .ensures in
+    let q = c .before .before .pass-bytes .result in
+    let h : q ≤ length s = omega (arith, t .inside, c .before .before .before .within .ensures) in
+    let m : min q (length s) ≡ q = omega arith in
+    stopped-far _ _ _ q q _ _ (t .on) (t .lacks) (record { on = omega arith; inside = h; lacks = lacks-none 39 s q q (omega arith) })
+    (subst (λ (k : ℕ). Stopped 39 s k (length s) (c .find .result)) m (c .find .ensures))
+
+pub next-quote-spec : {M : Type 1} → statement M
+next-quote-spec = tie.close (tie.spec add-within within-requires pass-bytes-requires returns find-requires returns-2)
