@@ -9,7 +9,7 @@
 #   ANSWERS, ASKS  the two programs (default: those of target/bin, or on another processor than x86-64 built by ../shared/perf/native.sh; proved and
 #                  built first where they are not there)
 #   STREAMS        which streams run (default: exhaustive grammar long damaged found chosen parameters lookups units unitrules real)
-#   EXHAUSTIVE     most cases of `exhaustive` (default: all, 5,094,318)
+#   EXHAUSTIVE     most cases of `exhaustive` (default: all, 5,668,110)
 #   GRAMMAR, LONG, DAMAGED  cases of these three (default 3700000, 300000 and 1300000)
 #   DRAWN          cases of each of `parameters`, `lookups` and `units`, which generate.py makes (default 20000)
 #   ASKED          of so many chunks one is answered by `asks` too (default 8); the streams that are no chunks are always

@@ -64,6 +64,9 @@ const STATEMENTS: [&[u8]; 15] = [
     b"#3=LENGTH_MEASURE_WITH_UNIT(2.,#2);",
 ];
 
+/// Pieces of a string that put its quotes before, at and behind the places where the searches begin to go by sixteen bytes and by blocks.
+const QUOTES: [&[u8]; 6] = [b"'", b"a", b";", b"')", &[b'a'; 14], &[b'a'; 62]];
+
 pub fn shapes() -> Vec<Shape> {
     // The shapes of generate.py: every byte that the scan looks for.
     let scan = b"#09=();,'\"/*\\A \n";
@@ -92,6 +95,15 @@ pub fn shapes() -> Vec<Shape> {
             before: b"ISO-10303-21;DATA;",
             pieces: STATEMENTS.to_vec(),
             most: 5,
+            after: b"",
+        },
+        // Quotes: doubled, before another byte, and at the file's end.
+        Shape::of_bytes(b"ISO-10303-21;DATA;#1=A('", b"'a;),", 8, b""),
+        Shape::of_bytes(b"ISO-10303-21;DATA;#1=A('", b"'a;", 9, b"');"),
+        Shape {
+            before: b"ISO-10303-21;DATA;#1=A('",
+            pieces: QUOTES.to_vec(),
+            most: 6,
             after: b"",
         },
     ]
