@@ -33,13 +33,15 @@ const OPENING: &[u8] = b"ISO-10303-21;\nHEADER;\nFILE_NAME('a');\nENDSEC;\nDATA;
 const CLOSING: &[u8] = b"ENDSEC;\nEND-ISO-10303-21;\n";
 
 /// The files, by name, and what each is.
-const NAMES: [(&str, &str); 15] = [
+const NAMES: [(&str, &str); 17] = [
     ("gigabyte", "1 GB of records as exporters write them"),
     ("march", "the file of 9 March: a hundred records and one numbered 4294967295"),
     ("one-id", "a million records of one id"),
     ("descending", "a million records, ids descending"),
     ("comments", "a million comments, none closed"),
     ("string", "one record of 100 MB, a string"),
+    ("quotes", "one record of 100 MB, a string of quotes, all doubled"),
+    ("open-quotes", "the same without the quote that ends the string"),
     ("list", "one record of 100 MB, a list of numbers"),
     ("zeros", "100 MB of the byte 00"),
     ("marked-zeros", "the marker, then 100 MB of the byte 00"),
@@ -98,6 +100,16 @@ fn made(name: &str) -> Vec<u8> {
             file.extend(b"#1=A('");
             file.extend(vec![b'x'; hundred]);
             file.extend(b"');\n");
+        }),
+        "quotes" => in_data(|file| {
+            file.extend(b"#1=A('");
+            file.extend(vec![b'\''; hundred]);
+            file.extend(b"');\n");
+        }),
+        "open-quotes" => in_data(|file| {
+            file.extend(b"#1=A('");
+            file.extend(vec![b'\''; hundred]);
+            file.extend(b");\n");
         }),
         "list" => in_data(|file| {
             file.extend(b"#1=A((");
