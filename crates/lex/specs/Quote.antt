@@ -28,7 +28,8 @@ QuoteIs xs Doubled = Begins 39 xs
 QuoteIs xs Single = (c : ℕ) × (r : List ℕ) × (xs ≡ c ∷ r) × (c ≡ 39 → ⊥)
 QuoteIs xs Last = xs ≡ []
 
--- "A string ends at a quote not followed by a quote": the place after the string whose inside begins at i, or that it never ends
+-- "A string ends at a quote not followed by a quote", the quotes inside it paired off first: the place after the string whose inside begins at i, or
+-- that it never ends
 abbrev pub TextEnds : List ℕ → ℕ → TextEnd → Type 0
 TextEnds s i (After p) = (i < p) × (p ≤ length s) × Quotation (39 ∷ drop i s) (drop p s)
 TextEnds s i Never = OpenText (39 ∷ drop i s)
