@@ -1,0 +1,5 @@
+pub mod Tables
+pub mod Pages
+pub mod Rules
+pub mod Right
+pub mod Packed

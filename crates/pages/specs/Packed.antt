@@ -1,0 +1,83 @@
+-- Four codes of a page in one number, as the code has its tables. Assumes nothing.
+use Prim.Native.Nat.{ℕ, zero, suc, _+_, _*_, _/_, _%_, _-_, _^_, _≤_, _<_}
+use mathlib.Core.Path.{_≡_, refl, sym, _∙_, ap}
+use native.Mathlib.Omega.{arith}
+use Rattle.pages.specs.Tables.{entry}
+use Rattle.pages.specs.Right.{entry-below, entry-none}
+
+-- four numbers of 16 bits in one, the first highest
+abbrev pub four : ℕ → ℕ → ℕ → ℕ → ℕ
+four a b c d = ((a * 0x1_0000 + b) * 0x1_0000 + c) * 0x1_0000 + d
+
+-- the characters of page p for the four codes from A0 + 4k on
+abbrev pub packed : ℕ → ℕ → ℕ
+packed p k = four (entry p (0xA0 + 4 * k)) (entry p (0xA1 + 4 * k)) (entry p (0xA2 + 4 * k)) (entry p (0xA3 + 4 * k))
+
+-- the line that a test has found
+pub found : (p j : ℕ) {k : ℕ} → k ≡ j → packed p j ≡ packed p k
+found p j e = ap (packed p) (sym e)
+
+-- the page that a test has found
+pub turned-to : (q k : ℕ) {p : ℕ} → p ≡ q → packed q k ≡ packed p k
+turned-to q k e = ap (λ (p : ℕ). packed p k) (sym e)
+
+-- k is none of the first n numbers
+abbrev pub Avoids : ℕ → ℕ → Type 0
+Avoids zero k = Unit
+Avoids (suc n) k = Avoids n k × (k ≡ n → ⊥)
+
+-- so it is n or more
+least : (n k : ℕ) → Avoids n k → n ≤ k
+least zero k h = omega arith
+least (suc n) k h = let below = least n k (h .0) in let other = h .1 in omega arith
+
+-- no line is left
+pub avoided : {A : Type 0} {k : ℕ} → Avoids 24 k → k < 24 → A
+avoided {k = k} h l = let m = least 24 k h in absurd (omega arith)
+
+-- p is none of the first n pages after page A
+abbrev pub Passes : ℕ → ℕ → Type 0
+Passes zero p = Unit
+Passes (suc n) p = Passes n p × (p ≡ suc n → ⊥)
+
+-- so it comes after them
+after : (n p : ℕ) → 0 < p → Passes n p → n < p
+after zero p l h = l
+after (suc n) p l h = let below = after n p l (h .0) in let other = h .1 in omega arith
+
+-- there is no such page
+pub no-page : (k : ℕ) {p : ℕ} → Passes 8 p → 0 < p → 0xFFFD_FFFD_FFFD_FFFD ≡ packed p k
+no-page k {p} h l =
+    let m = after 8 p l h in
+    let a = entry-none p (0xA0 + 4 * k) m in
+    let b = entry-none p (0xA1 + 4 * k) m in
+    let c = entry-none p (0xA2 + 4 * k) m in
+    let d = entry-none p (0xA3 + 4 * k) m in
+    rw (sym a, sym b, sym c, sym d) refl
+
+-- one code of four, read from their number
+module _ (p k w : ℕ) (e : w ≡ packed p (k / 4)) where
+  -- a code is one of these
+  at-code : (i : ℕ) → k % 4 ≡ i → entry p (0xA0 + i + 4 * (k / 4)) ≡ entry p (0xA0 + k)
+  at-code i h = let z : 0xA0 + i + 4 * (k / 4) ≡ 0xA0 + k = omega arith in ap (entry p) z
+
+  -- what a shift gives of them
+  quarters : (w / 0x1_0000_0000_0000 % 0x1_0000 ≡ entry p (0xA0 + 4 * (k / 4))) × (w / 0x1_0000_0000 % 0x1_0000 ≡ entry p (0xA1 + 4 * (k / 4))) × (w / 0x1_0000 % 0x1_0000 ≡ entry p (0xA2 + 4 * (k / 4))) × (w / 1 % 0x1_0000 ≡ entry p (0xA3 + 4 * (k / 4)))
+  quarters =
+      split (entry p (0xA0 + 4 * (k / 4))) (entry p (0xA1 + 4 * (k / 4))) (entry p (0xA2 + 4 * (k / 4))) (entry p (0xA3 + 4 * (k / 4)))
+      (entry-below p (0xA0 + 4 * (k / 4))) (entry-below p (0xA1 + 4 * (k / 4))) (entry-below p (0xA2 + 4 * (k / 4))) (entry-below p (0xA3 + 4 * (k / 4))) e
+    where
+      split : (a b c d : ℕ) → a < 0x1_0000 → b < 0x1_0000 → c < 0x1_0000 → d < 0x1_0000 → w ≡ four a b c d
+          → (w / 0x1_0000_0000_0000 % 0x1_0000 ≡ a) × (w / 0x1_0000_0000 % 0x1_0000 ≡ b) × (w / 0x1_0000 % 0x1_0000 ≡ c) × (w / 1 % 0x1_0000 ≡ d)
+      split a b c d ha hb hc hd f = (omega arith, omega arith, omega arith, omega arith)
+
+  -- the code's own
+  pub quarter : w / 2 ^ (48 - k % 4 * 16) % 0x1_0000 ≡ entry p (0xA0 + k)
+  quarter = go (k % 4) refl (omega arith)
+    where
+      go : (i : ℕ) → k % 4 ≡ i → i < 4 → w / 2 ^ (48 - i * 16) % 0x1_0000 ≡ entry p (0xA0 + k)
+      go zero h l = quarters .0 ∙ at-code 0 h
+      go (suc zero) h l = quarters .1 ∙ at-code 1 h
+      go (suc (suc zero)) h l = quarters .2 ∙ at-code 2 h
+      go (suc (suc (suc zero))) h l = quarters .3 ∙ at-code 3 h
+      go (suc (suc (suc (suc i)))) h l = absurd (omega arith)

@@ -1,0 +1,21 @@
+-- Document 02, #109: which page a letter selects, and the character that a sum of `\S\` gives on a page, as rules. Right.antt shows that
+-- Pages.antt computes just this, and that there is no other answer. `A` is 65, `I` 73, `a` 97 and `i` 105. Assumes nothing.
+use Prim.Native.Nat.{ℕ, _+_, _<_}
+use Rattle.utf8.specs.Table.{In}
+use Rattle.pages.specs.Tables.{entry}
+
+-- a byte, and the page that it selects
+pub data Selects : ℕ → ℕ → Type 0 where
+  -- "Page letters A to I select ISO 8859-1 to 8859-9"
+  capital : {p : ℕ} → p < 9 → Selects (65 + p) p
+  -- "letters in either case"
+  small : {p : ℕ} → p < 9 → Selects (97 + p) p
+  -- "any other byte [..] means page A"
+  other : {b : ℕ} → (In 65 73 b → ⊥) → (In 97 105 b → ⊥) → Selects b 0
+
+-- a page, a sum, and the character that it gives there
+pub data Coded : ℕ → ℕ → ℕ → Type 0 where
+  -- "the tables for codes A0 to FF"
+  listed : {p n : ℕ} → In 0xA0 0xFF n → Coded p n (entry p n)
+  -- "sums outside A0 to FF stay as before": the sum is the character
+  outside : {p n : ℕ} → (In 0xA0 0xFF n → ⊥) → Coded p n n
