@@ -24,7 +24,8 @@ use Rattle.nearest.specs.Near.{near, nearUnits}
 use Rattle.reals.specs.Scalar.{Answer, read, refused, parseOf, realOf}
 use Rattle.index.specs.Lookup.{written, lookupOf}
 use Rattle.utf8.specs.Utf8.{encode, encodeAll, leadOf}
-use Rattle.strings.specs.Text.{groupTwo, groupFour, groupsFrom, directiveOf, pieceOf, textFrom, textOf, bytesOf}
+use Rattle.pages.specs.Tables.{latin1, pages, entry}
+use Rattle.strings.specs.Text.{groupTwo, groupFour, groupsFrom, directiveOf, pieceOf, pageAfter, textFrom, textOn, textOf, bytesOf}
 
 -- a line of the program `list`: id, keyword or `(complex)`, argument start and end
 pub record Line : Type 0 where
@@ -108,5 +109,5 @@ Holds (real s a ∷ es) = (realOf (bytes s) ≡ a) × Holds es
 
 -- "Starred examples are proved of the definitions as one list under one statement"
 pub examples-hold : Holds examples
-unfolding walk trivia recordEnd closing past numberFrom keyword trail same wordOf dataHead headerHead recordOf headerOf statement largest readFrom scanOf realOf parseOf near nearUnits size encode encodeAll leadOf groupTwo groupFour groupsFrom directiveOf pieceOf textFrom textOf bytesOf written
+unfolding walk trivia recordEnd closing past numberFrom keyword trail same wordOf dataHead headerHead recordOf headerOf statement largest readFrom scanOf realOf parseOf near nearUnits size encode encodeAll leadOf groupTwo groupFour groupsFrom directiveOf pieceOf pageAfter textFrom textOn textOf bytesOf latin1 pages entry written
 examples-hold = (refl, (refl, (refl, (refl, (refl, (refl, (refl, (refl, (refl, (refl, (refl, (refl, (refl, (refl, (refl, tt)))))))))))))))

@@ -12,6 +12,7 @@ use lib.Seq.{length-take-le, getD-drop}
 use Rattle.lex.specs.Byte.{pick}
 use Rattle.utf8.specs.Utf8.{byteAt, encode, encodeAll, Lead, leadOf}
 use Rattle.utf8.specs.Laws.{encode-one, encode-two, sized, Leads, led-one, led-two, led-three, led-four, led-none, leads}
+use Rattle.pages.specs.Pages.{pageA, codeOf}
 use Rattle.strings.specs.Text
 use Rattle.strings.specs.Hex.{both, Digit, decimal, capital, small, digit, four-within}
 use Rattle.strings.specs.Put.{encode-append}
@@ -203,21 +204,21 @@ long-weighs : (s : List ℕ) → Weighs s (Text.longOf s)
 long-weighs s = pick-weighs s (Text.is s 1 88 && (Text.is s 2 50 && Text.is s 3 92)) _ _ (λ e. extended-weighs 4 50 s (omega arith) refl e) (λ n. pick-weighs s (Text.is s 1 88 && (Text.is s 2 52 && Text.is s 3 92)) _ _ (λ e. extended-weighs 8 52 s (omega arith) refl e) (λ m. byte-weighs s 92 (omega arith)))
 
 -- every directive
-directive-weighs : (s : List ℕ) → Weighs s (Text.directiveOf s)
+directive-weighs : (g : ℕ) (s : List ℕ) → Weighs s (Text.directiveOf g s)
 unfolding Text.directiveOf
-directive-weighs s =
+directive-weighs g s =
     pick-weighs s (Text.is s 1 92) _ _ (λ e. one-weighs s 92 2 (omega arith)) (λ n1.
     pick-weighs s (Text.is s 1 78 && Text.is s 2 92) _ _ (λ e. one-weighs s 10 3 (omega arith)) (λ n2.
     pick-weighs s (Text.is s 1 84 && Text.is s 2 92) _ _ (λ e. one-weighs s 9 3 (omega arith)) (λ n3.
     pick-weighs s (Text.is s 1 80 && Text.is s 3 92) _ _ (λ e. light (omega (arith, width-none))) (λ n4.
-    pick-weighs s (Text.is s 1 83 && (Text.is s 2 92 && leb 4 (length s))) _ _ (λ e. one-weighs s (byteAt s 3 + 128) 4 (omega arith)) (λ n5.
+    pick-weighs s (Text.is s 1 83 && (Text.is s 2 92 && leb 4 (length s))) _ _ (λ e. one-weighs s (codeOf g (byteAt s 3 + 128)) 4 (omega arith)) (λ n5.
     pick-weighs s (Text.is s 1 88 && (Text.is s 2 92 && Text.twoAt s 3)) _ _ (λ e. one-weighs s (Text.twoOf s 3) 5 (omega arith)) (λ n6. long-weighs s))))))
 
 -- every piece of a list of bytes
-piece-weighs : (s : List ℕ) → byteAt s 0 < 256 → Weighs s (Text.pieceOf s)
+piece-weighs : (g : ℕ) (s : List ℕ) → byteAt s 0 < 256 → Weighs s (Text.pieceOf g s)
 unfolding Text.pieceOf
-piece-weighs s h =
-    pick-weighs s (Text.is s 0 92) _ _ (λ e. directive-weighs s) (λ n1.
+piece-weighs g s h =
+    pick-weighs s (Text.is s 0 92) _ _ (λ e. directive-weighs g s) (λ n1.
     pick-weighs s (Text.is s 0 39 && Text.is s 1 39) _ _ (λ e. one-weighs s 39 2 (omega arith)) (λ n2.
     pick-weighs s (ltb (byteAt s 0) 128) _ _ (λ e. byte-weighs s (byteAt s 0) h) (λ n3. go (leadOf s) (leads s))))
   where
@@ -228,57 +229,63 @@ piece-weighs s h =
     go _ (led-four a b t u v) = one-weighs s _ 4 (omega arith)
     go _ led-none = byte-weighs s (byteAt s 0) h
 
--- a backslash before a hex digit is itself
-lone-piece : (b : ℕ) (r : List ℕ) → Text.hexDigit b ≡ true → Text.pieceOf (92 ∷ b ∷ r) ≡ Text.gives (92 ∷ []) 1
-unfolding Text.pieceOf Text.directiveOf
-lone-piece b r e = rw (hex-other b 92 e refl, hex-other b 78 e refl, hex-other b 84 e refl, hex-other b 80 e refl, hex-other b 83 e refl, hex-other b 88 e refl) refl
+-- a backslash before a hex digit is itself, and names no page
+lone-piece : (g b : ℕ) (r : List ℕ) → Text.hexDigit b ≡ true → (Text.pieceOf g (92 ∷ b ∷ r) ≡ Text.gives (92 ∷ []) 1) × (Text.pageAfter g (92 ∷ b ∷ r) ≡ g)
+unfolding Text.pieceOf Text.directiveOf Text.pageAfter
+lone-piece g b r e = (rw (hex-other b 92 e refl, hex-other b 78 e refl, hex-other b 84 e refl, hex-other b 80 e refl, hex-other b 83 e refl, hex-other b 88 e refl) refl, rw (hex-other b 80 e refl) refl)
 
 -- the bytes of a text from a place on, where the bytes before it are plain
-width-plain : (n : ℕ) (s : List ℕ) → n ≤ length s → Text.plain (take n s) ≡ true → width (Text.textOf s) ≡ n + width (Text.textOf (drop n s))
-width-plain n s h p =
+width-plain : (g n : ℕ) (s : List ℕ) → n ≤ length s → Text.plain (take n s) ≡ true → width (Text.textOn g s) ≡ n + width (Text.textOn g (drop n s))
+width-plain g n s h p =
     let e : width (take n s) ≡ n = ap length (encode-plain (take n s) p) ∙ length-take-le n s h in
-    omega (arith, ap width (text-plain n s h p), width-append (take n s) (Text.textOf (drop n s)))
+    omega (arith, ap width (text-plain g n s h p), width-append (take n s) (Text.textOn g (drop n s)))
 
 -- digits behind a backslash, read as text
-width-lone : (k : ℕ) (t : List ℕ) → 0 < k → Digits k t → width (Text.textOf (92 ∷ t)) ≤ 2 + k + width (Text.textOf (drop k t))
-width-lone k t h none = absurd (omega arith)
-width-lone k t h (more {b = b} {r = r} x d) =
-    let p = lone-piece b r x in
-    let g : Text.textOf (92 ∷ b ∷ r) ≡ (92 ∷ []) ++ Text.textOf (b ∷ r) = text-goes (92 ∷ b ∷ r) 1 (omega arith) (sym (ap (λ (z : Text.Piece). z .used) p)) (omega arith) ∙ ap (λ (z : Text.Piece). z .chars ++ Text.textOf (b ∷ r)) p in
+width-lone : (g k : ℕ) (t : List ℕ) → 0 < k → Digits k t → width (Text.textOn g (92 ∷ t)) ≤ 2 + k + width (Text.textOn g (drop k t))
+width-lone g k t h none = absurd (omega arith)
+width-lone g k t h (more {b = b} {r = r} x d) =
+    let (p, q) = lone-piece g b r x in
+    let e : Text.textOn g (92 ∷ b ∷ r) ≡ (92 ∷ []) ++ Text.textOn g (b ∷ r) = text-goes g (92 ∷ b ∷ r) 1 (omega arith) (sym (ap (λ (z : Text.Piece). z .used) p)) (omega arith) ∙ ap (λ (z : Text.Piece). z .chars ++ Text.textOn (Text.pageAfter g (92 ∷ b ∷ r)) (b ∷ r)) p ∙ ap (λ (z : ℕ). 92 ∷ Text.textOn z (b ∷ r)) q in
     let m : Digits k (b ∷ r) = more x d in
-    omega (arith, ap width g, width-append (92 ∷ []) (Text.textOf (b ∷ r)), width-two 92 (omega arith), width-plain k (b ∷ r) (digits-fit m) (digits-plain m))
+    omega (arith, ap width e, width-append (92 ∷ []) (Text.textOn g (b ∷ r)), width-two 92 (omega arith), width-plain g k (b ∷ r) (digits-fit m) (digits-plain m))
 
 -- the first bytes of a directive with a bad group, read as text
-width-again : (d k : ℕ) (t : List ℕ) → special d ≡ false → 0 < k → Digits k t → width (Text.textOf (88 ∷ d ∷ 92 ∷ t)) ≤ 4 + k + width (Text.textOf (drop k t))
+width-again : (g d k : ℕ) (t : List ℕ) → special d ≡ false → 0 < k → Digits k t → width (Text.textOn g (88 ∷ d ∷ 92 ∷ t)) ≤ 4 + k + width (Text.textOn g (drop k t))
 unfolding Text.plain
-width-again d k t n h m = omega (arith, width-plain 2 (88 ∷ d ∷ 92 ∷ t) (omega arith) (rw n refl), width-lone k t h m)
+width-again g d k t n h m = omega (arith, width-plain g 2 (88 ∷ d ∷ 92 ∷ t) (omega arith) (rw n refl), width-lone g k t h m)
 
 -- past three bytes and others
 drop-three : (k d : ℕ) (t : List ℕ) → drop (4 + k) (88 ∷ d ∷ 92 ∷ t) ≡ drop (suc k) t
 drop-three k d t = let e : 4 + k ≡ suc (suc (suc (suc k))) = omega arith in rw e refl
 
--- from any place on
-from-ample : (n : ℕ) (s : List ℕ) → ((i : ℕ) → getD s i 0 < 256) → width (Text.textFrom n s) ≤ (length s - n) + (length s - n)
+-- a piece that weighs so, and the text of what follows it on a page
+module _ (b : ℕ) (r : List ℕ) (g : ℕ) (ih : (n : ℕ) → width (Text.textFrom g n r) ≤ (length r - n) + (length r - n)) where
+  -- two bytes at most for each byte read
+  light-ample : (p : Text.Piece) → width (p .chars) ≤ p .used + p .used → (0 < p .used) × (p .used ≤ length (b ∷ r)) → width (p .chars) + width (Text.textFrom g (p .used - 1) r) ≤ (length (b ∷ r) - 0) + (length (b ∷ r) - 0)
+  light-ample p l f = let k = ih (p .used - 1) in omega (arith, f .0, f .1)
+
+  -- or digits that are read again
+  piece-ample : (p : Text.Piece) → Weighs (b ∷ r) p → (0 < p .used) × (p .used ≤ length (b ∷ r)) → width (p .chars) + width (Text.textFrom g (p .used - 1) r) ≤ (length (b ∷ r) - 0) + (length (b ∷ r) - 0)
+  piece-ample p (light l) f = light-ample p l f
+  piece-ample p (heavy a d zero t q n m u l) f = light-ample p (omega arith) f
+  piece-ample p (heavy a d (suc k) t q n m u l) f =
+      let e : r ≡ 88 ∷ d ∷ 92 ∷ t = cc in
+      let x : p .used - 1 ≡ 0 = omega arith in
+      let y : width (Text.textFrom g (p .used - 1) r) ≡ width (Text.textOn g (88 ∷ d ∷ 92 ∷ t)) = ap (λ (z : ℕ). width (Text.textFrom g z r)) x ∙ ap width (text-skip g 0 r) ∙ ap (λ (z : List ℕ). width (Text.textOn g z)) e in
+      let z : width (Text.textFrom g (4 + k) r) ≡ width (Text.textOn g (drop (suc k) t)) = ap width (text-skip g (4 + k) r) ∙ ap (λ (w : List ℕ). width (Text.textOn g (drop (4 + k) w))) e ∙ ap (λ (w : List ℕ). width (Text.textOn g w)) (drop-three k d t) in
+      omega (arith, y, z, ih (4 + k), width-again g d (suc k) t n (omega arith) m, digits-fit m, ap length e)
+
+-- from any place on, on any page
+from-ample : (g n : ℕ) (s : List ℕ) → ((i : ℕ) → getD s i 0 < 256) → width (Text.textFrom g n s) ≤ (length s - n) + (length s - n)
 unfolding Text.textFrom
-from-ample zero [] h = omega (arith, width-none)
-from-ample (suc n) [] h = omega (arith, width-none)
-from-ample (suc n) (b ∷ r) h = let k = from-ample n r (λ i. h (suc i)) in omega arith
-from-ample zero (b ∷ r) h = rw (width-append (Text.pieceOf (b ∷ r) .chars) (Text.textFrom (Text.pieceOf (b ∷ r) .used - 1) r)) (go (Text.pieceOf (b ∷ r)) (piece-weighs (b ∷ r) (h 0)) (piece-fits (b ∷ r) (omega arith)) (λ n. from-ample n r (λ i. h (suc i))))
-  where
-    plainly : (p : Text.Piece) → width (p .chars) ≤ p .used + p .used → (0 < p .used) × (p .used ≤ length (b ∷ r)) → ((n : ℕ) → width (Text.textFrom n r) ≤ (length r - n) + (length r - n)) → width (p .chars) + width (Text.textFrom (p .used - 1) r) ≤ (length (b ∷ r) - 0) + (length (b ∷ r) - 0)
-    plainly p l f g = let k = g (p .used - 1) in omega (arith, f .0, f .1)
+from-ample g zero [] h = omega (arith, width-none)
+from-ample g (suc n) [] h = omega (arith, width-none)
+from-ample g (suc n) (b ∷ r) h = let k = from-ample g n r (λ i. h (suc i)) in omega arith
+from-ample g zero (b ∷ r) h =
+    rw (width-append (Text.pieceOf g (b ∷ r) .chars) (Text.textFrom (Text.pageAfter g (b ∷ r)) (Text.pieceOf g (b ∷ r) .used - 1) r))
+    (piece-ample b r (Text.pageAfter g (b ∷ r)) (λ n. from-ample (Text.pageAfter g (b ∷ r)) n r (λ i. h (suc i))) (Text.pieceOf g (b ∷ r)) (piece-weighs g (b ∷ r) (h 0)) (piece-fits g (b ∷ r) (omega arith)))
 
-    go : (p : Text.Piece) → Weighs (b ∷ r) p → (0 < p .used) × (p .used ≤ length (b ∷ r)) → ((n : ℕ) → width (Text.textFrom n r) ≤ (length r - n) + (length r - n)) → width (p .chars) + width (Text.textFrom (p .used - 1) r) ≤ (length (b ∷ r) - 0) + (length (b ∷ r) - 0)
-    go p (light l) f g = plainly p l f g
-    go p (heavy a d zero t q n m u l) f g = plainly p (omega arith) f g
-    go p (heavy a d (suc k) t q n m u l) f g =
-        let e : r ≡ 88 ∷ d ∷ 92 ∷ t = cc in
-        let x : p .used - 1 ≡ 0 = omega arith in
-        let y : width (Text.textFrom (p .used - 1) r) ≡ width (Text.textOf (88 ∷ d ∷ 92 ∷ t)) = ap (λ (z : ℕ). width (Text.textFrom z r)) x ∙ ap width (text-skip 0 r) ∙ ap (λ (z : List ℕ). width (Text.textOf z)) e in
-        let z : width (Text.textFrom (4 + k) r) ≡ width (Text.textOf (drop (suc k) t)) = ap width (text-skip (4 + k) r) ∙ ap (λ (w : List ℕ). width (Text.textOf (drop (4 + k) w))) e ∙ ap (λ (w : List ℕ). width (Text.textOf w)) (drop-three k d t) in
-        omega (arith, y, z, g (4 + k), width-again d (suc k) t n (omega arith) m, digits-fit m, ap length e)
-
--- a text has at most twice as many bytes as its string
+-- a text has at most twice as many bytes as its string, whatever pages it names: a code of a page takes up to three bytes, and its `\S\` took four
 pub text-ample : (s : List ℕ) → ((i : ℕ) → getD s i 0 < 256) → length (Text.bytesOf s) ≤ length s + length s
-unfolding Text.bytesOf
-text-ample s h = omega (arith, from-ample 0 s h, ap width (text-skip 0 s))
+unfolding Text.bytesOf Text.textOf
+text-ample s h = omega (arith, from-ample pageA 0 s h, ap width (text-skip pageA 0 s))

@@ -10,7 +10,7 @@ use Rattle.utf8.specs.Utf8.{encodeAll}
 use Rattle.strings.specs.declared.Char.{Char}
 use Rattle.strings.specs.declared.Decoded.{Decoded}
 use Rattle.strings.specs.declared.Decoded.the-variants.{Plain, Written, Short}
-use Rattle.strings.specs.Text.{Group, char, wrong, Piece, plain, textOf, bytesOf}
+use Rattle.strings.specs.Text.{Group, char, wrong, Piece, plain, pageAfter, textOn, bytesOf}
 use Rattle.strings.specs.Put.{Laid}
 
 -- a group that took no byte is a bad one
@@ -47,11 +47,12 @@ pub record Ran (s : List ℕ) (a : ℕ) (o : List ℕ) (e k : ℕ) (q : List ℕ
   pub plainly : plain (take k s) ≡ true
   pub put : Laid a o (take k s) e q
 
--- pieces have been read, at least one byte of them: their bytes are put from place a on, and the text goes on k bytes further
-pub record Turned (s : List ℕ) (a : ℕ) (o : List ℕ) (e k : ℕ) (q : List ℕ) : Type 0 where
+-- on page g pieces have been read, at least one byte of them: their bytes are put from place a on, and the text goes on k bytes further, on
+-- the page that the first of them leaves
+pub record Turned (g : ℕ) (s : List ℕ) (a : ℕ) (o : List ℕ) (e k : ℕ) (q : List ℕ) : Type 0 where
   pub chars : List ℕ
   pub put : Laid a o (encodeAll chars) e q
-  pub ahead : textOf s ≡ chars ++ textOf (drop k s)
+  pub ahead : textOn g s ≡ chars ++ textOn (pageAfter g s) (drop k s)
   pub some : 0 < k
   pub within : k ≤ length s
 

@@ -1,13 +1,12 @@
 -- ISO 10303-21, 'String' and 'Control directives': the grammar of what stands between a string's apostrophes, and the text that it
--- stands for, as rules that name no loop. Left out: `\S\` while another page than A is named (docs/DIFFERENCES.md), and groups that are
--- no character. IsoRight.antt shows that document 01's total rule (Text.antt) gives every string of these rules this text.
--- Assumes nothing.
-use Prim.Native.Nat.{ℕ, _+_, _*_, _≤_}
+-- stands for, as rules that name no loop. Left out, since ISO gives them no text: `\S\` while a letter after I is named, codes that the
+-- named page leaves undefined, and groups that are no character. IsoRight.antt shows that the total rule of documents 01 and 02 (Text.antt)
+-- gives every string of these rules this text. Assumes nothing.
+use Prim.Native.Nat.{ℕ, _+_, _*_, _-_, _<_}
 use mathlib.Core.Path.{_≡_}
-use mathlib.Core.Bool.{Bool, true, false}
 use mathlib.Core.List.{List, [], _∷_, _++_}
-use lib.Dec.{eqb}
 use Rattle.utf8.specs.Table.{In, Encoded}
+use Rattle.pages.specs.Tables.{entry}
 use Rattle.strings.specs.Text.{hexValue}
 
 -- "SPACE", "DIGIT", "LOWER" (a to z), "UPPER" (A to Z and _) and "SPECIAL" (! " * $ % & . # + , - ( ) ? / : ; < = > @ [ ] { | } ^ ` ~):
@@ -62,24 +61,26 @@ pub data Fours : List ℕ → List ℕ → Type 0 where
 abbrev pub endExtended : List ℕ
 endExtended = 92 ∷ 88 ∷ 48 ∷ 92 ∷ []
 
--- what stands between the apostrophes, and its text; the first argument says that page A is in force, as it is at the start
-pub data Iso : Bool → List ℕ → List ℕ → Type 0 where
-  ends : {p : Bool} → Iso p [] []
+-- what stands between the apostrophes, and its text; the first argument is the page in force, by the place of its letter in the alphabet: 0 for A,
+-- which is in force at the start
+pub data Iso : ℕ → List ℕ → List ℕ → Type 0 where
+  ends : {p : ℕ} → Iso p [] []
   -- "SPECIAL | DIGIT | SPACE | LOWER | UPPER"
-  basic : {p : Bool} {b : ℕ} {r cs : List ℕ} → Basic b → Iso p r cs → Iso p (b ∷ r) (b ∷ cs)
+  basic : {p : ℕ} {b : ℕ} {r cs : List ℕ} → Basic b → Iso p r cs → Iso p (b ∷ r) (b ∷ cs)
   -- "HIGH_CODEPOINT": U+0080 to U+10FFFF, in UTF-8
-  high-codepoint : {p : Bool} {c : ℕ} {x r cs : List ℕ} → In 128 1114111 c → Encoded c x → Iso p r cs → Iso p (x ++ r) (c ∷ cs)
+  high-codepoint : {p : ℕ} {c : ℕ} {x r cs : List ℕ} → In 128 1114111 c → Encoded c x → Iso p r cs → Iso p (x ++ r) (c ∷ cs)
   -- "APOSTROPHE APOSTROPHE"
-  apostrophe : {p : Bool} {r cs : List ℕ} → Iso p r cs → Iso p (39 ∷ 39 ∷ r) (39 ∷ cs)
+  apostrophe : {p : ℕ} {r cs : List ℕ} → Iso p r cs → Iso p (39 ∷ 39 ∷ r) (39 ∷ cs)
   -- "REVERSE_SOLIDUS REVERSE_SOLIDUS"
-  reverse-solidus : {p : Bool} {r cs : List ℕ} → Iso p r cs → Iso p (92 ∷ 92 ∷ r) (92 ∷ cs)
-  -- "PAGE = REVERSE_SOLIDUS "S" REVERSE_SOLIDUS LATIN_CODEPOINT": on page A (ISO 8859-1) the character's code plus 128
-  page : {c : ℕ} {r cs : List ℕ} → Latin c → Iso true r cs → Iso true (92 ∷ 83 ∷ 92 ∷ c ∷ r) ((c + 128) ∷ cs)
-  -- "ALPHABET = REVERSE_SOLIDUS "P" UPPER REVERSE_SOLIDUS": names the page from here on
-  alphabet : {p : Bool} {a : ℕ} {r cs : List ℕ} → Upper a → Iso (eqb a 65) r cs → Iso p (92 ∷ 80 ∷ a ∷ 92 ∷ r) cs
+  reverse-solidus : {p : ℕ} {r cs : List ℕ} → Iso p r cs → Iso p (92 ∷ 92 ∷ r) (92 ∷ cs)
+  -- "PAGE = REVERSE_SOLIDUS "S" REVERSE_SOLIDUS LATIN_CODEPOINT": the character that the page, one of ISO 8859-1 to 8859-9, has at the
+  -- code plus 128
+  page : {p c : ℕ} {r cs : List ℕ} → Latin c → p < 9 → (entry p (c + 128) ≡ 0xFFFD → ⊥) → Iso p r cs → Iso p (92 ∷ 83 ∷ 92 ∷ c ∷ r) (entry p (c + 128) ∷ cs)
+  -- "ALPHABET = REVERSE_SOLIDUS "P" UPPER REVERSE_SOLIDUS": names the page from here on, A to I those of ISO 8859-1 to 8859-9
+  alphabet : {p : ℕ} {a : ℕ} {r cs : List ℕ} → Upper a → Iso (a - 65) r cs → Iso p (92 ∷ 80 ∷ a ∷ 92 ∷ r) cs
   -- "EXTENDED2 = REVERSE_SOLIDUS "X2" REVERSE_SOLIDUS HEX_TWO { HEX_TWO } END_EXTENDED"
-  extended2 : {p : Bool} {g r cs ds : List ℕ} → Twos g cs → Iso p r ds → Iso p (92 ∷ 88 ∷ 50 ∷ 92 ∷ (g ++ (endExtended ++ r))) (cs ++ ds)
+  extended2 : {p : ℕ} {g r cs ds : List ℕ} → Twos g cs → Iso p r ds → Iso p (92 ∷ 88 ∷ 50 ∷ 92 ∷ (g ++ (endExtended ++ r))) (cs ++ ds)
   -- "EXTENDED4 = REVERSE_SOLIDUS "X4" REVERSE_SOLIDUS HEX_FOUR { HEX_FOUR } END_EXTENDED"
-  extended4 : {p : Bool} {g r cs ds : List ℕ} → Fours g cs → Iso p r ds → Iso p (92 ∷ 88 ∷ 52 ∷ 92 ∷ (g ++ (endExtended ++ r))) (cs ++ ds)
+  extended4 : {p : ℕ} {g r cs ds : List ℕ} → Fours g cs → Iso p r ds → Iso p (92 ∷ 88 ∷ 52 ∷ 92 ∷ (g ++ (endExtended ++ r))) (cs ++ ds)
   -- "ARBITRARY = REVERSE_SOLIDUS "X" REVERSE_SOLIDUS HEX_ONE": the octet's character
-  arbitrary : {p : Bool} {x r cs : List ℕ} {c : ℕ} → One x c → Iso p r cs → Iso p (92 ∷ 88 ∷ 92 ∷ (x ++ r)) (c ∷ cs)
+  arbitrary : {p : ℕ} {x r cs : List ℕ} {c : ℕ} → One x c → Iso p r cs → Iso p (92 ∷ 88 ∷ 92 ∷ (x ++ r)) (c ∷ cs)

@@ -1,18 +1,20 @@
--- Document 01's total rule gives every string of the rules in Iso.antt (ISO 10303-21, page A) the text that ISO gives it; document
--- 01's example 7 is such a string. Assumes nothing.
-use Prim.Native.Nat.{ℕ, zero, suc, _+_, _*_, _-_, _≤_, _<_}
+-- The total rule of documents 01 and 02 gives every string of the rules in Iso.antt (ISO 10303-21) the text that ISO gives it; document
+-- 01's example 7 and a string with a page are such strings. Assumes nothing.
+use Prim.Native.Nat.{ℕ, _+_, _*_, _-_, _≤_, _<_}
 use mathlib.Core.Path.{_≡_, refl, sym, _∙_, ap}
 use mathlib.Core.Bool.{Bool, true, false, _&&_, _||_}
 use mathlib.Core.List.{List, [], _∷_, _++_, append-assoc}
 use native.Mathlib.Omega.{arith}
-use borrow.Author.Tests.{lt-ltb, le-ltb, le-leb, lt-leb, ne-eqb}
+use borrow.Author.Tests.{ltb-true, ltb-false, lt-ltb, le-ltb, le-leb, lt-leb, ne-eqb}
 use lib.Dec.{eqb, leb, ltb}
 use lib.ListN.{length, drop, length-append}
 use lib.Seq.{drop-append-seam, drop-drop}
 use Rattle.lex.specs.Byte.{pick}
-use Rattle.utf8.specs.Utf8.{byteAt, scalar, Lead, valid, invalid, leadOf, encode}
+use Rattle.utf8.specs.Utf8.{scalar, valid, leadOf}
 use Rattle.utf8.specs.Table.{In, Encoded}
 use Rattle.utf8.specs.Agree.{table-leads}
+use Rattle.pages.specs.Tables.{pages, cyrillic, entry}
+use Rattle.pages.specs.Pages.{pageA, pageOf}
 use Rattle.strings.specs.Text
 use Rattle.strings.specs.Steps.{text-goes, groups-char, groups-stop}
 use Rattle.strings.specs.Iso
@@ -41,34 +43,45 @@ character-low : (c : ℕ) → Iso.Character c → Text.high c ≡ false
 character-low c (Iso.below h) = rw (lt-leb 55296 c (omega arith)) refl
 character-low c (Iso.above h) = rw (le-leb 55296 c (omega arith), le-ltb c 56320 (omega arith)) refl
 
--- a piece, and the text of what follows it
-piece-then : (s r cs ds : List ℕ) (k : ℕ) → 0 < length s → Text.pieceOf s ≡ Text.gives cs k → 0 < k → drop k s ≡ r → Text.textOf r ≡ ds → Text.textOf s ≡ cs ++ ds
-piece-then s r cs ds k h e p d t =
-    text-goes s k h (sym (ap (λ (q : Text.Piece). q .used) e)) p
-    ∙ ap (λ (q : Text.Piece). q .chars ++ Text.textOf (drop k s)) e
-    ∙ ap (λ (z : List ℕ). cs ++ Text.textOf z) d
+-- a piece, and the text of what follows it on the page that it leaves
+piece-then : (g h : ℕ) (s r cs ds : List ℕ) (k : ℕ) → 0 < length s → Text.pieceOf g s ≡ Text.gives cs k → Text.pageAfter g s ≡ h → 0 < k → drop k s ≡ r → Text.textOn h r ≡ ds → Text.textOn g s ≡ cs ++ ds
+piece-then g h s r cs ds k l e f p d t =
+    text-goes g s k l (sym (ap (λ (q : Text.Piece). q .used) e)) p
+    ∙ ap (λ (q : Text.Piece). q .chars ++ Text.textOn (Text.pageAfter g s) (drop k s)) e
+    ∙ ap (λ (z : ℕ). cs ++ Text.textOn z (drop k s)) f
+    ∙ ap (λ (z : List ℕ). cs ++ Text.textOn h z) d
     ∙ ap (λ (z : List ℕ). cs ++ z) t
 
+-- no page is named where no backslash stands first
+other-stays : (g b : ℕ) (r : List ℕ) → (b ≡ 92 → ⊥) → Text.pageAfter g (b ∷ r) ≡ g
+unfolding Text.pageAfter
+other-stays g b r n = rw (ne-eqb b 92 n) refl
+
+-- nor where no `P` comes after it
+slash-stays : (g a : ℕ) (r : List ℕ) → eqb a 80 ≡ false → Text.pageAfter g (92 ∷ a ∷ r) ≡ g
+unfolding Text.pageAfter
+slash-stays g a r e = rw e refl
+
 -- a byte that stands for itself
-piece-basic : (b : ℕ) (r : List ℕ) → Iso.Basic b → Text.pieceOf (b ∷ r) ≡ Text.gives (b ∷ []) 1
+piece-basic : (g b : ℕ) (r : List ℕ) → Iso.Basic b → Text.pieceOf g (b ∷ r) ≡ Text.gives (b ∷ []) 1
 unfolding Text.pieceOf
-piece-basic b r (Iso.to-ampersand h) = rw (ne-eqb b 92 (λ e. absurd (omega arith)), ne-eqb b 39 (λ e. absurd (omega arith)), lt-ltb b 128 (omega arith)) refl
-piece-basic b r (Iso.to-bracket h) = rw (ne-eqb b 92 (λ e. absurd (omega arith)), ne-eqb b 39 (λ e. absurd (omega arith)), lt-ltb b 128 (omega arith)) refl
-piece-basic b r (Iso.to-tilde h) = rw (ne-eqb b 92 (λ e. absurd (omega arith)), ne-eqb b 39 (λ e. absurd (omega arith)), lt-ltb b 128 (omega arith)) refl
+piece-basic g b r (Iso.to-ampersand h) = rw (ne-eqb b 92 (λ e. absurd (omega arith)), ne-eqb b 39 (λ e. absurd (omega arith)), lt-ltb b 128 (omega arith)) refl
+piece-basic g b r (Iso.to-bracket h) = rw (ne-eqb b 92 (λ e. absurd (omega arith)), ne-eqb b 39 (λ e. absurd (omega arith)), lt-ltb b 128 (omega arith)) refl
+piece-basic g b r (Iso.to-tilde h) = rw (ne-eqb b 92 (λ e. absurd (omega arith)), ne-eqb b 39 (λ e. absurd (omega arith)), lt-ltb b 128 (omega arith)) refl
 
 -- a valid sequence whose first byte is 80 or more
-piece-lead : (f : ℕ) (t : List ℕ) (c k : ℕ) → 128 ≤ f → leadOf (f ∷ t) ≡ valid c k → Text.pieceOf (f ∷ t) ≡ Text.gives (c ∷ []) k
+piece-lead : (g f : ℕ) (t : List ℕ) (c k : ℕ) → 128 ≤ f → leadOf (f ∷ t) ≡ valid c k → Text.pieceOf g (f ∷ t) ≡ Text.gives (c ∷ []) k
 unfolding Text.pieceOf
-piece-lead f t c k h e = rw (ne-eqb f 92 (λ z. absurd (omega arith)), ne-eqb f 39 (λ z. absurd (omega arith)), le-ltb f 128 h, e) refl
+piece-lead g f t c k h e = rw (ne-eqb f 92 (λ z. absurd (omega arith)), ne-eqb f 39 (λ z. absurd (omega arith)), le-ltb f 128 h, e) refl
 
 -- a character from 80 up, in UTF-8
-piece-high : (c : ℕ) (x r : List ℕ) → In 128 1114111 c → Encoded c x → (0 < length x) × (Text.pieceOf (x ++ r) ≡ Text.gives (c ∷ []) (length x))
-piece-high c _ r h (Encoded.line-one l) = absurd (omega arith)
-piece-high c _ r h (Encoded.line-two {x = x} {y = y} l e p q) = (omega arith, piece-lead (192 + x) ((128 + y) ∷ r) c 2 (omega arith) (table-leads (Encoded.line-two l e p q) r))
-piece-high c _ r h (Encoded.line-three {x = x} {y = y} {z = z} l n e p q s) =
-    (omega arith, piece-lead (224 + x) ((128 + y) ∷ (128 + z) ∷ r) c 3 (omega arith) (table-leads (Encoded.line-three l n e p q s) r))
-piece-high c _ r h (Encoded.line-four {x = x} {y = y} {z = z} {w = w} l e p q s u) =
-    (omega arith, piece-lead (240 + x) ((128 + y) ∷ (128 + z) ∷ (128 + w) ∷ r) c 4 (omega arith) (table-leads (Encoded.line-four l e p q s u) r))
+piece-high : (g c : ℕ) (x r : List ℕ) → In 128 1114111 c → Encoded c x → (0 < length x) × (Text.pieceOf g (x ++ r) ≡ Text.gives (c ∷ []) (length x)) × (Text.pageAfter g (x ++ r) ≡ g)
+piece-high g c _ r h (Encoded.line-one l) = absurd (omega arith)
+piece-high g c _ r h (Encoded.line-two {x = x} {y = y} l e p q) = (omega arith, piece-lead g (192 + x) ((128 + y) ∷ r) c 2 (omega arith) (table-leads (Encoded.line-two l e p q) r), other-stays g (192 + x) ((128 + y) ∷ r) (λ z. omega arith))
+piece-high g c _ r h (Encoded.line-three {x = x} {y = y} {z = z} l n e p q s) =
+    (omega arith, piece-lead g (224 + x) ((128 + y) ∷ (128 + z) ∷ r) c 3 (omega arith) (table-leads (Encoded.line-three l n e p q s) r), other-stays g (224 + x) ((128 + y) ∷ (128 + z) ∷ r) (λ z. omega arith))
+piece-high g c _ r h (Encoded.line-four {x = x} {y = y} {z = z} {w = w} l e p q s u) =
+    (omega arith, piece-lead g (240 + x) ((128 + y) ∷ (128 + z) ∷ (128 + w) ∷ r) c 4 (omega arith) (table-leads (Encoded.line-four l e p q s u) r), other-stays g (240 + x) ((128 + y) ∷ (128 + z) ∷ (128 + w) ∷ r) (λ z. omega arith))
 
 -- the digits of a group, and the group of document 01
 two-group : (x : List ℕ) (c : ℕ) (t : List ℕ) → Iso.Two x c → Iso.Character c
@@ -132,63 +145,96 @@ drop-groups : (g r : List ℕ) → drop (length g + 4) (g ++ (Iso.endExtended ++
 drop-groups g r = sym (drop-drop 4 (length g) (g ++ (Iso.endExtended ++ r))) ∙ ap (drop 4) (drop-append-seam g (Iso.endExtended ++ r))
 
 -- "`\X2\` groups of four"
-piece-two : (g r cs : List ℕ) → Text.groupsFrom 4 0 (g ++ (Iso.endExtended ++ r)) ≡ Text.ended cs (length g + 4) → Text.pieceOf (92 ∷ 88 ∷ 50 ∷ 92 ∷ (g ++ (Iso.endExtended ++ r))) ≡ Text.gives cs (4 + (length g + 4))
+piece-two : (q : ℕ) (g r cs : List ℕ) → Text.groupsFrom 4 0 (g ++ (Iso.endExtended ++ r)) ≡ Text.ended cs (length g + 4) → Text.pieceOf q (92 ∷ 88 ∷ 50 ∷ 92 ∷ (g ++ (Iso.endExtended ++ r))) ≡ Text.gives cs (4 + (length g + 4))
 unfolding Text.pieceOf Text.directiveOf
-piece-two g r cs e = rw e refl
+piece-two q g r cs e = rw e refl
 
 -- "and `\X4\` of eight hex digits"
-piece-four : (g r cs : List ℕ) → Text.groupsFrom 8 0 (g ++ (Iso.endExtended ++ r)) ≡ Text.ended cs (length g + 4) → Text.pieceOf (92 ∷ 88 ∷ 52 ∷ 92 ∷ (g ++ (Iso.endExtended ++ r))) ≡ Text.gives cs (4 + (length g + 4))
+piece-four : (q : ℕ) (g r cs : List ℕ) → Text.groupsFrom 8 0 (g ++ (Iso.endExtended ++ r)) ≡ Text.ended cs (length g + 4) → Text.pieceOf q (92 ∷ 88 ∷ 52 ∷ 92 ∷ (g ++ (Iso.endExtended ++ r))) ≡ Text.gives cs (4 + (length g + 4))
 unfolding Text.pieceOf Text.directiveOf
-piece-four g r cs e = rw e refl
+piece-four q g r cs e = rw e refl
 
 -- "`''` gives a quote"
-piece-quote : (r : List ℕ) → Text.pieceOf (39 ∷ 39 ∷ r) ≡ Text.gives (39 ∷ []) 2
+piece-quote : (g : ℕ) (r : List ℕ) → Text.pieceOf g (39 ∷ 39 ∷ r) ≡ Text.gives (39 ∷ []) 2
 unfolding Text.pieceOf
-piece-quote r = refl
+piece-quote g r = refl
 
 -- "`\\` a backslash"
-piece-backslash : (r : List ℕ) → Text.pieceOf (92 ∷ 92 ∷ r) ≡ Text.gives (92 ∷ []) 2
+piece-backslash : (g : ℕ) (r : List ℕ) → Text.pieceOf g (92 ∷ 92 ∷ r) ≡ Text.gives (92 ∷ []) 2
 unfolding Text.pieceOf Text.directiveOf
-piece-backslash r = refl
+piece-backslash g r = refl
 
 -- "`\P?\` nothing"
-piece-page : (a : ℕ) (r : List ℕ) → Text.pieceOf (92 ∷ 80 ∷ a ∷ 92 ∷ r) ≡ Text.gives [] 4
+piece-page : (g a : ℕ) (r : List ℕ) → Text.pieceOf g (92 ∷ 80 ∷ a ∷ 92 ∷ r) ≡ Text.gives [] 4
 unfolding Text.pieceOf Text.directiveOf
-piece-page a r = refl
+piece-page g a r = refl
 
--- "`\S\c` code c+128"
-piece-shift : (c : ℕ) (r : List ℕ) → Text.pieceOf (92 ∷ 83 ∷ 92 ∷ c ∷ r) ≡ Text.gives ((c + 128) ∷ []) 4
+-- the page of ISO's letters: those after I name none, and then page A is in force
+abbrev known : ℕ → ℕ
+known p = pick (ltb p 9) p pageA
+
+-- a capital letter, or the low line
+page-known : (a : ℕ) → Iso.Upper a → pageOf a ≡ known (a - 65)
+page-known a (Iso.capital (l, h)) = go (ltb a 74) refl
+  where
+    go : (t : Bool) → ltb a 74 ≡ t → pageOf a ≡ known (a - 65)
+    go true e =
+        let k = ltb-true a 74 e in
+        rw (le-leb 65 a l, le-leb a 73 (omega arith), lt-ltb (a - 65) 9 (omega arith)) refl
+    go false e =
+        let k = ltb-false a 74 e in
+        rw (le-leb 65 a l, lt-leb a 73 (omega arith), lt-leb 97 a (omega arith), le-ltb (a - 65) 9 (omega arith)) refl
+page-known _ Iso.low-line = refl
+
+-- "apply the page to every later `\S\`": it is named
+page-turns : (g a : ℕ) (r : List ℕ) → Iso.Upper a → Text.pageAfter g (92 ∷ 80 ∷ a ∷ 92 ∷ r) ≡ known (a - 65)
+unfolding Text.pageAfter
+page-turns g a r h = page-known a h
+
+-- "`\S\c` code c+128", on a page
+piece-shift : (p c : ℕ) (r : List ℕ) → Iso.Latin c → p < 9 → Text.pieceOf (known p) (92 ∷ 83 ∷ 92 ∷ c ∷ r) ≡ Text.gives (entry p (c + 128) ∷ []) 4
 unfolding Text.pieceOf Text.directiveOf
-piece-shift c r = rw (le-leb 4 (length (92 ∷ 83 ∷ 92 ∷ c ∷ r)) (omega arith)) refl
+piece-shift p c r (l, h) k = rw (le-leb 4 (length (92 ∷ 83 ∷ 92 ∷ c ∷ r)) (omega arith), lt-ltb p 9 k, le-leb 160 (c + 128) (omega arith), le-leb (c + 128) 255 (omega arith)) refl
 
 -- "`\X\HH` one octet"
-piece-octet : (x r : List ℕ) (c : ℕ) → Iso.One x c → (Text.pieceOf (92 ∷ 88 ∷ 92 ∷ (x ++ r)) ≡ Text.gives (c ∷ []) 5) × (drop 5 (92 ∷ 88 ∷ 92 ∷ (x ++ r)) ≡ r)
+piece-octet : (g : ℕ) (x r : List ℕ) (c : ℕ) → Iso.One x c → (Text.pieceOf g (92 ∷ 88 ∷ 92 ∷ (x ++ r)) ≡ Text.gives (c ∷ []) 5) × (drop 5 (92 ∷ 88 ∷ 92 ∷ (x ++ r)) ≡ r)
 unfolding Text.pieceOf Text.directiveOf
-piece-octet _ r _ (Iso.one {a = a} {b = b} ha hb) = (rw (hex-is a ha, hex-is b hb) refl, refl)
+piece-octet g _ r _ (Iso.one {a = a} {b = b} ha hb) = (rw (hex-is a ha, hex-is b hb) refl, refl)
+
+-- a byte that stands for itself is no backslash
+basic-other : (b : ℕ) → Iso.Basic b → b ≡ 92 → ⊥
+basic-other b (Iso.to-ampersand h) e = omega (arith, h)
+basic-other b (Iso.to-bracket h) e = omega (arith, h)
+basic-other b (Iso.to-tilde h) e = omega (arith, h)
+
+-- what stands between the apostrophes of such a string has ISO's text, from every page on
+pub iso-on : {p : ℕ} {s cs : List ℕ} → Iso.Iso p s cs → Text.textOn (known p) s ≡ cs
+unfolding Text.textOn Text.textFrom
+iso-on Iso.Iso.ends = refl
+iso-on {p} (Iso.Iso.basic {b = b} {r = r} {cs = cs} h i) = piece-then (known p) (known p) (b ∷ r) r (b ∷ []) cs 1 (omega arith) (piece-basic (known p) b r h) (other-stays (known p) b r (basic-other b h)) (omega arith) refl (iso-on i)
+iso-on {p} (Iso.Iso.high-codepoint {c = c} {x = x} {r = r} {cs = cs} h e i) =
+    let (k, m, n) = piece-high (known p) c x r h e in
+    let l : 0 < length (x ++ r) = omega (arith, length-append x r, k) in
+    piece-then (known p) (known p) (x ++ r) r (c ∷ []) cs (length x) l m n k (drop-append-seam x r) (iso-on i)
+iso-on {p} (Iso.Iso.apostrophe {r = r} {cs = cs} i) = piece-then (known p) (known p) (39 ∷ 39 ∷ r) r (39 ∷ []) cs 2 (omega arith) (piece-quote (known p) r) (other-stays (known p) 39 (39 ∷ r) (λ e. omega arith)) (omega arith) refl (iso-on i)
+iso-on {p} (Iso.Iso.reverse-solidus {r = r} {cs = cs} i) = piece-then (known p) (known p) (92 ∷ 92 ∷ r) r (92 ∷ []) cs 2 (omega arith) (piece-backslash (known p) r) (slash-stays (known p) 92 r refl) (omega arith) refl (iso-on i)
+iso-on {p} (Iso.Iso.page {c = c} {r = r} {cs = cs} h l n i) = piece-then (known p) (known p) (92 ∷ 83 ∷ 92 ∷ c ∷ r) r (entry p (c + 128) ∷ []) cs 4 (omega arith) (piece-shift p c r h l) (slash-stays (known p) 83 (92 ∷ c ∷ r) refl) (omega arith) refl (iso-on i)
+iso-on {p} (Iso.Iso.alphabet {a = a} {r = r} {cs = cs} h i) = piece-then (known p) (known (a - 65)) (92 ∷ 80 ∷ a ∷ 92 ∷ r) r [] cs 4 (omega arith) (piece-page (known p) a r) (page-turns (known p) a r h) (omega arith) refl (iso-on i)
+iso-on {p} (Iso.Iso.extended2 {g = g} {r = r} {cs = cs} {ds = ds} t i) =
+    piece-then (known p) (known p) (92 ∷ 88 ∷ 50 ∷ 92 ∷ (g ++ (Iso.endExtended ++ r))) r cs ds (4 + (length g + 4)) (omega arith) (piece-two (known p) g r cs (twos-groups r t)) (slash-stays (known p) 88 (50 ∷ 92 ∷ (g ++ (Iso.endExtended ++ r))) refl) (omega arith) (sym (drop-drop (length g + 4) 4 (92 ∷ 88 ∷ 50 ∷ 92 ∷ (g ++ (Iso.endExtended ++ r)))) ∙ drop-groups g r) (iso-on i)
+iso-on {p} (Iso.Iso.extended4 {g = g} {r = r} {cs = cs} {ds = ds} t i) =
+    piece-then (known p) (known p) (92 ∷ 88 ∷ 52 ∷ 92 ∷ (g ++ (Iso.endExtended ++ r))) r cs ds (4 + (length g + 4)) (omega arith) (piece-four (known p) g r cs (fours-groups r t)) (slash-stays (known p) 88 (52 ∷ 92 ∷ (g ++ (Iso.endExtended ++ r))) refl) (omega arith) (sym (drop-drop (length g + 4) 4 (92 ∷ 88 ∷ 52 ∷ 92 ∷ (g ++ (Iso.endExtended ++ r)))) ∙ drop-groups g r) (iso-on i)
+iso-on {p} (Iso.Iso.arbitrary {x = x} {r = r} {cs = cs} {c = c} o i) =
+    let k = piece-octet (known p) x r c o in
+    piece-then (known p) (known p) (92 ∷ 88 ∷ 92 ∷ (x ++ r)) r (c ∷ []) cs 5 (omega arith) (k .0) (slash-stays (known p) 88 (92 ∷ (x ++ r)) refl) (omega arith) (k .1) (iso-on i)
 
 -- what stands between the apostrophes of such a string has ISO's text
-pub iso-text : {p : Bool} {s cs : List ℕ} → Iso.Iso p s cs → Text.textOf s ≡ cs
-unfolding Text.textOf Text.textFrom
-iso-text Iso.Iso.ends = refl
-iso-text (Iso.Iso.basic {b = b} {r = r} {cs = cs} h i) = piece-then (b ∷ r) r (b ∷ []) cs 1 (omega arith) (piece-basic b r h) (omega arith) refl (iso-text i)
-iso-text (Iso.Iso.high-codepoint {c = c} {x = x} {r = r} {cs = cs} h e i) =
-    let k = piece-high c x r h e in
-    let l : 0 < length (x ++ r) = omega (arith, length-append x r, k .0) in
-    piece-then (x ++ r) r (c ∷ []) cs (length x) l (k .1) (k .0) (drop-append-seam x r) (iso-text i)
-iso-text (Iso.Iso.apostrophe {r = r} {cs = cs} i) = piece-then (39 ∷ 39 ∷ r) r (39 ∷ []) cs 2 (omega arith) (piece-quote r) (omega arith) refl (iso-text i)
-iso-text (Iso.Iso.reverse-solidus {r = r} {cs = cs} i) = piece-then (92 ∷ 92 ∷ r) r (92 ∷ []) cs 2 (omega arith) (piece-backslash r) (omega arith) refl (iso-text i)
-iso-text (Iso.Iso.page {c = c} {r = r} {cs = cs} h i) = piece-then (92 ∷ 83 ∷ 92 ∷ c ∷ r) r ((c + 128) ∷ []) cs 4 (omega arith) (piece-shift c r) (omega arith) refl (iso-text i)
-iso-text (Iso.Iso.alphabet {a = a} {r = r} {cs = cs} h i) = piece-then (92 ∷ 80 ∷ a ∷ 92 ∷ r) r [] cs 4 (omega arith) (piece-page a r) (omega arith) refl (iso-text i)
-iso-text (Iso.Iso.extended2 {g = g} {r = r} {cs = cs} {ds = ds} t i) =
-    piece-then (92 ∷ 88 ∷ 50 ∷ 92 ∷ (g ++ (Iso.endExtended ++ r))) r cs ds (4 + (length g + 4)) (omega arith) (piece-two g r cs (twos-groups r t)) (omega arith) (sym (drop-drop (length g + 4) 4 (92 ∷ 88 ∷ 50 ∷ 92 ∷ (g ++ (Iso.endExtended ++ r)))) ∙ drop-groups g r) (iso-text i)
-iso-text (Iso.Iso.extended4 {g = g} {r = r} {cs = cs} {ds = ds} t i) =
-    piece-then (92 ∷ 88 ∷ 52 ∷ 92 ∷ (g ++ (Iso.endExtended ++ r))) r cs ds (4 + (length g + 4)) (omega arith) (piece-four g r cs (fours-groups r t)) (omega arith) (sym (drop-drop (length g + 4) 4 (92 ∷ 88 ∷ 52 ∷ 92 ∷ (g ++ (Iso.endExtended ++ r)))) ∙ drop-groups g r) (iso-text i)
-iso-text (Iso.Iso.arbitrary {x = x} {r = r} {cs = cs} {c = c} o i) =
-    let k = piece-octet x r c o in
-    piece-then (92 ∷ 88 ∷ 92 ∷ (x ++ r)) r (c ∷ []) cs 5 (omega arith) (k .0) (omega arith) (k .1) (iso-text i)
+pub iso-text : {s cs : List ℕ} → Iso.Iso 0 s cs → Text.textOf s ≡ cs
+unfolding Text.textOf
+iso-text i = iso-on i
 
 -- `\X2\00C40042\X0\` stands for U+00C4 and B
-pub seven : Iso.Iso true (92 ∷ 88 ∷ 50 ∷ 92 ∷ 48 ∷ 48 ∷ 67 ∷ 52 ∷ 48 ∷ 48 ∷ 52 ∷ 50 ∷ 92 ∷ 88 ∷ 48 ∷ 92 ∷ []) (196 ∷ 66 ∷ [])
+pub seven : Iso.Iso 0 (92 ∷ 88 ∷ 50 ∷ 92 ∷ 48 ∷ 48 ∷ 67 ∷ 52 ∷ 48 ∷ 48 ∷ 52 ∷ 50 ∷ 92 ∷ 88 ∷ 48 ∷ 92 ∷ []) (196 ∷ 66 ∷ [])
 seven =
     Iso.Iso.extended2
     {g = 48 ∷ 48 ∷ 67 ∷ 52 ∷ 48 ∷ 48 ∷ 52 ∷ 50 ∷ []}
@@ -202,3 +248,8 @@ seven =
     (Iso.two (Iso.one (Iso.digit {b = 48} (omega arith, omega arith)) (Iso.digit {b = 48} (omega arith, omega arith))) (Iso.one (Iso.digit {b = 52} (omega arith, omega arith)) (Iso.digit {b = 50} (omega arith, omega arith))))
     (Iso.below {c = 66} (omega arith, omega arith))))
     Iso.Iso.ends
+
+-- `\PE\\S\P` stands for U+0430, of ISO 8859-5
+pub cyrillic-a : Iso.Iso 0 (92 ∷ 80 ∷ 69 ∷ 92 ∷ 92 ∷ 83 ∷ 92 ∷ 80 ∷ []) (0x0430 ∷ [])
+unfolding entry pages cyrillic
+cyrillic-a = Iso.Iso.alphabet (Iso.capital {b = 69} (omega arith, omega arith)) (Iso.Iso.page {p = 4} {c = 80} (omega arith, omega arith) (omega arith) (λ e. omega arith) Iso.Iso.ends)

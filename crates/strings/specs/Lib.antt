@@ -12,3 +12,4 @@ pub mod IsoRight
 pub mod Shown
 pub mod Rules
 pub mod RulesRight
+pub mod Before

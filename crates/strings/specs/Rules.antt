@@ -1,13 +1,16 @@
--- Document 01, 'Strings': what a string's bytes stand for, as rules that name no loop. A rule speaks of a list of bytes, of what
--- stands at its start, of the characters that this gives and of how many bytes it takes. The quote is 39, the backslash 92, `N` is
--- 78, `P` 80, `S` 83, `T` 84, `X` 88, and the digits `0`, `2`, `4` are 48, 50, 52. Words quoted from the document count in hex.
--- RulesRight.antt shows that Text.antt computes just this, and that there is no other answer. Assumes nothing.
+-- Document 01, 'Strings', with document 02's #109: what a string's bytes stand for, as rules that name no loop. A rule speaks of a list of
+-- bytes, of what stands at its start, of the characters that this gives and of how many bytes it takes; that of a directive and of a piece also
+-- of the page in force before it and after it (crate pages: page A is 0, page I is 8). The quote is 39, the backslash 92, `N` is 78, `P` 80, `S` 83,
+-- `T` 84, `X` 88, and the digits `0`, `2`, `4` are 48, 50, 52. Words quoted from the documents count in hex. RulesRight.antt shows that Text.antt
+-- computes just this, and that there is no other answer. Assumes nothing.
 use Prim.Native.Nat.{ℕ, _+_, _*_, _≤_, _<_}
 use mathlib.Core.Path.{_≡_}
 use mathlib.Core.List.{List, [], _∷_, _++_}
 use lib.ListN.{length, drop}
 use Rattle.lex.specs.Grammar.{Begins}
 use Rattle.utf8.specs.Table.{In, Encoded}
+use Rattle.pages.specs.Pages.{pageA}
+use Rattle.pages.specs.Rules.{Selects, Coded}
 
 -- "hex digits, either case": a byte and the digit's value
 pub data Hex : ℕ → ℕ → Type 0 where
@@ -90,43 +93,47 @@ pub data Named : ℕ → ℕ → Type 0 where
   -- `\X4\`
   four : Named 52 8
 
--- a directive stands at the start: its characters, and how many bytes it takes
-pub data Directive : List ℕ → List ℕ → ℕ → Type 0 where
+-- a directive stands at the start: the page before it, its characters, how many bytes it takes, the page after it
+pub data Directive : ℕ → List ℕ → List ℕ → ℕ → ℕ → Type 0 where
   -- "`\\` a backslash"
-  backslash : {r : List ℕ} → Directive (92 ∷ 92 ∷ r) (92 ∷ []) 2
+  backslash : {g : ℕ} {r : List ℕ} → Directive g (92 ∷ 92 ∷ r) (92 ∷ []) 2 g
   -- "`\N\` LF"
-  newline : {r : List ℕ} → Directive (92 ∷ 78 ∷ 92 ∷ r) (10 ∷ []) 3
+  newline : {g : ℕ} {r : List ℕ} → Directive g (92 ∷ 78 ∷ 92 ∷ r) (10 ∷ []) 3 g
   -- "`\T\` tab"
-  tab : {r : List ℕ} → Directive (92 ∷ 84 ∷ 92 ∷ r) (9 ∷ []) 3
-  -- "`\P?\` nothing", whatever byte the `?` is
-  page : {b : ℕ} {r : List ℕ} → Directive (92 ∷ 80 ∷ b ∷ 92 ∷ r) [] 4
-  -- "`\S\c` code c+128"
-  shift : {c : ℕ} {r : List ℕ} → Directive (92 ∷ 83 ∷ 92 ∷ c ∷ r) ((c + 128) ∷ []) 4
+  tab : {g : ℕ} {r : List ℕ} → Directive g (92 ∷ 84 ∷ 92 ∷ r) (9 ∷ []) 3 g
+  -- "`\P?\` nothing", whatever byte the `?` is; and the page that this byte selects is in force from here on (#109)
+  page : {g h b : ℕ} {r : List ℕ} → Selects b h → Directive g (92 ∷ 80 ∷ b ∷ 92 ∷ r) [] 4 h
+  -- "`\S\c` code c+128", and "apply the page to every later `\S\` in that string" (#109): the character that the page has for the sum
+  shift : {g c d : ℕ} {r : List ℕ} → Coded g (c + 128) d → Directive g (92 ∷ 83 ∷ 92 ∷ c ∷ r) (d ∷ []) 4 g
   -- "`\X\HH` one octet"
-  octet : {a b i j : ℕ} {r : List ℕ} → Hex a i → Hex b j → Directive (92 ∷ 88 ∷ 92 ∷ a ∷ b ∷ r) ((i * 16 + j) ∷ []) 5
+  octet : {g a b i j : ℕ} {r : List ℕ} → Hex a i → Hex b j → Directive g (92 ∷ 88 ∷ 92 ∷ a ∷ b ∷ r) ((i * 16 + j) ∷ []) 5 g
   -- "`\X2\` groups of four and `\X4\` of eight"
-  long : {d w n : ℕ} {r cs : List ℕ} → Named d w → Groups w r cs n → Directive (92 ∷ 88 ∷ d ∷ 92 ∷ r) cs (4 + n)
+  long : {g d w n : ℕ} {r cs : List ℕ} → Named d w → Groups w r cs n → Directive g (92 ∷ 88 ∷ d ∷ 92 ∷ r) cs (4 + n) g
   -- "A bad group gives the characters already read, then a literal backslash, and reading goes on after the directive's first byte"
-  long-bad : {d w : ℕ} {r cs : List ℕ} → Named d w → Broken w r cs → Directive (92 ∷ 88 ∷ d ∷ 92 ∷ r) (cs ++ 92 ∷ []) 1
+  long-bad : {g d w : ℕ} {r cs : List ℕ} → Named d w → Broken w r cs → Directive g (92 ∷ 88 ∷ d ∷ 92 ∷ r) (cs ++ 92 ∷ []) 1 g
 
--- a piece stands at the start: its characters, and how many bytes it takes
-pub data Reads : List ℕ → List ℕ → ℕ → Type 0 where
+-- a piece stands at the start: the page before it, its characters, how many bytes it takes, the page after it
+pub data Reads : ℕ → List ℕ → List ℕ → ℕ → ℕ → Type 0 where
   -- "`''` gives a quote"
-  quote : {r : List ℕ} → Reads (39 ∷ 39 ∷ r) (39 ∷ []) 2
+  quote : {g : ℕ} {r : List ℕ} → Reads g (39 ∷ 39 ∷ r) (39 ∷ []) 2 g
   -- a directive, as above
-  directive : {s cs : List ℕ} {k : ℕ} → Directive s cs k → Reads s cs k
+  directive : {g h k : ℕ} {s cs : List ℕ} → Directive g s cs k h → Reads g s cs k h
   -- "An unknown directive is a literal backslash": a backslash at which no directive stands
-  unknown : {r : List ℕ} → ((cs : List ℕ) (k : ℕ) → Directive (92 ∷ r) cs k → ⊥) → Reads (92 ∷ r) (92 ∷ []) 1
+  unknown : {g : ℕ} {r : List ℕ} → ((cs : List ℕ) (k h : ℕ) → Directive g (92 ∷ r) cs k h → ⊥) → Reads g (92 ∷ r) (92 ∷ []) 1 g
   -- any other byte below 80 is itself: no backslash, and no quote that a quote follows
-  itself : {b : ℕ} {r : List ℕ} → b < 128 → (b ≡ 92 → ⊥) → (b ≡ 39 → Begins 39 r → ⊥) → Reads (b ∷ r) (b ∷ []) 1
+  itself : {g b : ℕ} {r : List ℕ} → b < 128 → (b ≡ 92 → ⊥) → (b ≡ 39 → Begins 39 r → ⊥) → Reads g (b ∷ r) (b ∷ []) 1 g
   -- "Raw bytes from 80 up: a valid UTF-8 sequence"
-  sequence : (bs r : List ℕ) {c : ℕ} → Encoded c bs → 128 ≤ c → Reads (bs ++ r) (c ∷ []) (length bs)
+  sequence : {g c : ℕ} (bs r : List ℕ) → Encoded c bs → 128 ≤ c → Reads g (bs ++ r) (c ∷ []) (length bs) g
   -- "else Latin-1": a byte with which no valid sequence begins
-  latin : {b : ℕ} {r : List ℕ} → 128 ≤ b → ((c : ℕ) (bs q : List ℕ) → Encoded c bs → b ∷ r ≡ bs ++ q → ⊥) → Reads (b ∷ r) (b ∷ []) 1
+  latin : {g b : ℕ} {r : List ℕ} → 128 ≤ b → ((c : ℕ) (bs q : List ℕ) → Encoded c bs → b ∷ r ≡ bs ++ q → ⊥) → Reads g (b ∷ r) (b ∷ []) 1 g
 
--- a string's bytes and its characters: one piece after another, to the end
-pub data Text : List ℕ → List ℕ → Type 0 where
+-- bytes from a place on where a page is in force, and their characters: one piece after another, to the end
+pub data TextOn : ℕ → List ℕ → List ℕ → Type 0 where
   -- no bytes, no characters
-  none : Text [] []
-  -- a piece, and the text of the bytes after it
-  more : {s cs ds : List ℕ} {k : ℕ} → Reads s cs k → Text (drop k s) ds → Text s (cs ++ ds)
+  none : {g : ℕ} → TextOn g [] []
+  -- a piece, and the text of the bytes after it, on the page that it leaves in force
+  more : {g h k : ℕ} {s cs ds : List ℕ} → Reads g s cs k h → TextOn h (drop k s) ds → TextOn g s (cs ++ ds)
+
+-- a string's bytes and its characters: "a fresh string, means page A"
+abbrev pub Text : List ℕ → List ℕ → Type 0
+Text s cs = TextOn pageA s cs

@@ -16,6 +16,8 @@ use Rattle.utf8.specs.Utf8.{encode, byteAt, Lead, valid, invalid, leadOf}
 use Rattle.utf8.specs.Table.{Encoded, line-one, line-two, line-three, line-four}
 use Rattle.utf8.specs.Laws.{scalar-low, scalar-high, scalar-between, scalar-above, encode-one}
 use Rattle.utf8.specs.Agree.{table-is, table-only, encode-leads, lead-is}
+use Rattle.pages.specs.Pages.{pageA, pageOf, codeOf}
+use Rattle.pages.specs.Right as Page
 use Rattle.strings.specs.Text
 use Rattle.strings.specs.Hex.{both, neither, hex-within, four-within}
 use Rattle.strings.specs.Steps.{is-within, ends, groups-stop, groups-wrong, groups-char, piece-fits, text-goes}
@@ -445,49 +447,61 @@ pub broken-is : {d w : ℕ} (s cs : List ℕ) → Rules.Named d w → Text.group
 broken-is {w = w} s cs m e = subst (Run w s) e (run-is s m)
 
 -- ---- directives
+-- the rule for what stands at the start of s, where page g is in force, gives this piece and leaves page h
+abbrev Directs : ℕ → List ℕ → Text.Piece → ℕ → Type 0
+Directs g s p h = Rules.Directive g s (p .chars) (p .used) h
+
 -- the piece that a directive with groups gives
-extended-is : {d w : ℕ} (r : List ℕ) → Rules.Named d w → Rules.Directive (92 ∷ 88 ∷ d ∷ 92 ∷ r) (Text.extended (Text.groupsFrom w 0 r) .chars) (Text.extended (Text.groupsFrom w 0 r) .used)
-extended-is {d} {w} r n = go (Text.groupsFrom w 0 r) (run-is r n)
+extended-is : {d w : ℕ} (g : ℕ) (r : List ℕ) → Rules.Named d w → Directs g (92 ∷ 88 ∷ d ∷ 92 ∷ r) (Text.extended (Text.groupsFrom w 0 r)) g
+extended-is {d} {w} g r n = go (Text.groupsFrom w 0 r) (run-is r n)
   where
-    go : (g : Text.Groups) → Run w r g → Rules.Directive (92 ∷ 88 ∷ d ∷ 92 ∷ r) (Text.extended g .chars) (Text.extended g .used)
+    go : (e : Text.Groups) → Run w r e → Directs g (92 ∷ 88 ∷ d ∷ 92 ∷ r) (Text.extended e) g
     go (Text.ended cs k) h = Rules.long n h
     go (Text.broken cs) h = Rules.long-bad n h
 
 -- the directives with names of three bytes are computed by the digit in them
-named-is : {d w : ℕ} (r : List ℕ) → Rules.Named d w → Text.pieceOf (92 ∷ 88 ∷ d ∷ 92 ∷ r) ≡ Text.extended (Text.groupsFrom w 0 r)
+named-is : {d w : ℕ} (g : ℕ) (r : List ℕ) → Rules.Named d w → Text.pieceOf g (92 ∷ 88 ∷ d ∷ 92 ∷ r) ≡ Text.extended (Text.groupsFrom w 0 r)
 unfolding Text.pieceOf Text.directiveOf
-named-is r Rules.two = refl
-named-is r Rules.four = refl
+named-is g r Rules.two = refl
+named-is g r Rules.four = refl
 
 -- two hex digits after `\X\`
-octet-is : (a b : ℕ) (r : List ℕ) → Text.hexDigit a ≡ true → Text.hexDigit b ≡ true → Text.pieceOf (92 ∷ 88 ∷ 92 ∷ a ∷ b ∷ r) ≡ Text.gives ((Text.hexValue a * 16 + Text.hexValue b) ∷ []) 5
+octet-is : (g a b : ℕ) (r : List ℕ) → Text.hexDigit a ≡ true → Text.hexDigit b ≡ true → Text.pieceOf g (92 ∷ 88 ∷ 92 ∷ a ∷ b ∷ r) ≡ Text.gives ((Text.hexValue a * 16 + Text.hexValue b) ∷ []) 5
 unfolding Text.pieceOf Text.directiveOf
-octet-is a b r p q = rw (p, q) refl
+octet-is g a b r p q = rw (p, q) refl
 
 -- a directive is computed so
-pub directive-only : {s cs : List ℕ} {k : ℕ} → Rules.Directive s cs k → Text.pieceOf s ≡ Text.gives cs k
+pub directive-only : {g h k : ℕ} {s cs : List ℕ} → Rules.Directive g s cs k h → Text.pieceOf g s ≡ Text.gives cs k
 unfolding Text.pieceOf Text.directiveOf
 directive-only Rules.backslash = refl
 directive-only Rules.newline = refl
 directive-only Rules.tab = refl
-directive-only Rules.page = refl
-directive-only (Rules.shift {c = c} {r = r}) = rw (le-leb 4 (length (92 ∷ 83 ∷ 92 ∷ c ∷ r)) (omega arith)) refl
-directive-only (Rules.octet {a = a} {b = b} {i = i} {j = j} {r = r} x y) =
+directive-only (Rules.page x) = refl
+directive-only (Rules.shift {c = c} {d = d} {r = r} x) = rw (le-leb 4 (length (92 ∷ 83 ∷ 92 ∷ c ∷ r)) (omega arith), Page.code-only x) refl
+directive-only {g} (Rules.octet {a = a} {b = b} {i = i} {j = j} {r = r} x y) =
     let (p, e) = hex-only x in
     let (q, f) = hex-only y in
-    octet-is a b r p q ∙ rw (e, f) refl
-directive-only (Rules.long {r = r} n g) = named-is r n ∙ ap Text.extended (groups-only g)
-directive-only (Rules.long-bad {r = r} n g) = named-is r n ∙ ap Text.extended (broken-only n g)
+    octet-is g a b r p q ∙ rw (e, f) refl
+directive-only {g} (Rules.long {r = r} n e) = named-is g r n ∙ ap Text.extended (groups-only e)
+directive-only {g} (Rules.long-bad {r = r} n e) = named-is g r n ∙ ap Text.extended (broken-only n e)
 
--- the rule for what stands at the start of s gives this piece
-abbrev Directs : List ℕ → Text.Piece → Type 0
-Directs s p = Rules.Directive s (p .chars) (p .used)
+-- and so is the page that it leaves
+pub directive-page : {g h k : ℕ} {s cs : List ℕ} → Rules.Directive g s cs k h → h ≡ Text.pageAfter g s
+unfolding Text.pageAfter
+directive-page Rules.backslash = refl
+directive-page Rules.newline = refl
+directive-page Rules.tab = refl
+directive-page (Rules.page x) = Page.page-only x
+directive-page (Rules.shift x) = refl
+directive-page (Rules.octet x y) = refl
+directive-page (Rules.long n e) = refl
+directive-page (Rules.long-bad n e) = refl
 
 -- each test that is computed at a backslash is the rule that it stands for
-module _ (s : List ℕ) (o : Text.is s 0 92 ≡ true) where
+module _ (g : ℕ) (s : List ℕ) (o : Text.is s 0 92 ≡ true) where
   -- `\\`
-  backslash-is : Text.is s 1 92 ≡ true → Directs s (Text.gives (92 ∷ []) 2)
-  backslash-is e = subst (λ (z : List ℕ). Directs z (Text.gives (92 ∷ []) 2)) (sym (here-two s 92 92 (omega arith) (omega arith) o e)) Rules.backslash
+  backslash-is : Text.is s 1 92 ≡ true → Directs g s (Text.gives (92 ∷ []) 2) g
+  backslash-is e = subst (λ (z : List ℕ). Directs g z (Text.gives (92 ∷ []) 2) g) (sym (here-two s 92 92 (omega arith) (omega arith) o e)) Rules.backslash
 
   -- a letter and a backslash
   letter : (a : ℕ) → a < 256 → Text.is s 1 a && Text.is s 2 92 ≡ true → s ≡ 92 ∷ a ∷ 92 ∷ drop 3 s
@@ -496,34 +510,36 @@ module _ (s : List ℕ) (o : Text.is s 0 92 ≡ true) where
       here-two s 92 a (omega arith) h o p ∙ ap (λ (z : List ℕ). 92 ∷ a ∷ z) (here s 2 92 (omega arith) q)
 
   -- `\N\`
-  newline-is : Text.is s 1 78 && Text.is s 2 92 ≡ true → Directs s (Text.gives (10 ∷ []) 3)
-  newline-is e = subst (λ (z : List ℕ). Directs z (Text.gives (10 ∷ []) 3)) (sym (letter 78 (omega arith) e)) Rules.newline
+  newline-is : Text.is s 1 78 && Text.is s 2 92 ≡ true → Directs g s (Text.gives (10 ∷ []) 3) g
+  newline-is e = subst (λ (z : List ℕ). Directs g z (Text.gives (10 ∷ []) 3) g) (sym (letter 78 (omega arith) e)) Rules.newline
 
   -- `\T\`
-  tab-is : Text.is s 1 84 && Text.is s 2 92 ≡ true → Directs s (Text.gives (9 ∷ []) 3)
-  tab-is e = subst (λ (z : List ℕ). Directs z (Text.gives (9 ∷ []) 3)) (sym (letter 84 (omega arith) e)) Rules.tab
+  tab-is : Text.is s 1 84 && Text.is s 2 92 ≡ true → Directs g s (Text.gives (9 ∷ []) 3) g
+  tab-is e = subst (λ (z : List ℕ). Directs g z (Text.gives (9 ∷ []) 3) g) (sym (letter 84 (omega arith) e)) Rules.tab
 
-  -- `\P?\`
-  page-is : Text.is s 1 80 && Text.is s 3 92 ≡ true → Directs s (Text.gives [] 4)
-  page-is e =
+  -- the bytes of `\P?\`
+  pub page-bytes : Text.is s 1 80 && Text.is s 3 92 ≡ true → s ≡ 92 ∷ 80 ∷ byteAt s 2 ∷ 92 ∷ drop 4 s
+  page-bytes e =
       let (p, q) = both (Text.is s 1 80) (Text.is s 3 92) e in
       let l = is-within s 3 92 (omega arith) q in
-      let f : s ≡ 92 ∷ 80 ∷ byteAt s 2 ∷ 92 ∷ drop 4 s =
-      here-two s 92 80 (omega arith) (omega arith) o p ∙ ap (λ (z : List ℕ). 92 ∷ 80 ∷ z) (drop-cons s 2 256 (omega arith)) ∙ ap (λ (z : List ℕ). 92 ∷ 80 ∷ byteAt s 2 ∷ z) (here s 3 92 (omega arith) q) in
-      subst (λ (z : List ℕ). Directs z (Text.gives [] 4)) (sym f) Rules.page
+      here-two s 92 80 (omega arith) (omega arith) o p ∙ ap (λ (z : List ℕ). 92 ∷ 80 ∷ z) (drop-cons s 2 256 (omega arith)) ∙ ap (λ (z : List ℕ). 92 ∷ 80 ∷ byteAt s 2 ∷ z) (here s 3 92 (omega arith) q)
+
+  -- `\P?\`
+  page-is : Text.is s 1 80 && Text.is s 3 92 ≡ true → Directs g s (Text.gives [] 4) (pageOf (byteAt s 2))
+  page-is e = subst (λ (z : List ℕ). Directs g z (Text.gives [] 4) (pageOf (byteAt s 2))) (sym (page-bytes e)) (Rules.page (Page.page-is (byteAt s 2)))
 
   -- `\S\c`
-  shift-is : Text.is s 1 83 && (Text.is s 2 92 && leb 4 (length s)) ≡ true → Directs s (Text.gives ((byteAt s 3 + 128) ∷ []) 4)
+  shift-is : Text.is s 1 83 && (Text.is s 2 92 && leb 4 (length s)) ≡ true → Directs g s (Text.gives (codeOf g (byteAt s 3 + 128) ∷ []) 4) g
   shift-is e =
       let (p, x) = both (Text.is s 1 83) (Text.is s 2 92 && leb 4 (length s)) e in
       let (q, l) = both (Text.is s 2 92) (leb 4 (length s)) x in
       let h = leb-true 4 (length s) l in
       let f : s ≡ 92 ∷ 83 ∷ 92 ∷ byteAt s 3 ∷ drop 4 s =
       here-two s 92 83 (omega arith) (omega arith) o p ∙ ap (λ (z : List ℕ). 92 ∷ 83 ∷ z) (here s 2 92 (omega arith) q) ∙ ap (λ (z : List ℕ). 92 ∷ 83 ∷ 92 ∷ z) (drop-cons s 3 256 (omega arith)) in
-      subst (λ (z : List ℕ). Directs z (Text.gives ((byteAt s 3 + 128) ∷ []) 4)) (sym f) Rules.shift
+      subst (λ (z : List ℕ). Directs g z (Text.gives (codeOf g (byteAt s 3 + 128) ∷ []) 4) g) (sym f) (Rules.shift (Page.code-is g (byteAt s 3 + 128)))
 
   -- `\X\HH`
-  two-digits : Text.is s 1 88 && (Text.is s 2 92 && Text.twoAt s 3) ≡ true → Directs s (Text.gives (Text.twoOf s 3 ∷ []) 5)
+  two-digits : Text.is s 1 88 && (Text.is s 2 92 && Text.twoAt s 3) ≡ true → Directs g s (Text.gives (Text.twoOf s 3 ∷ []) 5) g
   two-digits e =
       let (p, x) = both (Text.is s 1 88) (Text.is s 2 92 && Text.twoAt s 3) e in
       let (q, y) = both (Text.is s 2 92) (Text.twoAt s 3) x in
@@ -531,16 +547,16 @@ module _ (s : List ℕ) (o : Text.is s 0 92 ≡ true) where
       let h = hex-within s 4 v in
       let f : s ≡ 92 ∷ 88 ∷ 92 ∷ byteAt s 3 ∷ byteAt s 4 ∷ drop 5 s =
       here-two s 92 88 (omega arith) (omega arith) o p ∙ ap (λ (z : List ℕ). 92 ∷ 88 ∷ z) (here s 2 92 (omega arith) q) ∙ ap (λ (z : List ℕ). 92 ∷ 88 ∷ 92 ∷ z) (drop-cons s 3 256 (omega arith)) ∙ ap (λ (z : List ℕ). 92 ∷ 88 ∷ 92 ∷ byteAt s 3 ∷ z) (drop-cons s 4 256 (omega arith)) in
-      subst (λ (z : List ℕ). Directs z (Text.gives (Text.twoOf s 3 ∷ []) 5)) (sym f) (Rules.octet (hex-is (byteAt s 3) u) (hex-is (byteAt s 4) v))
+      subst (λ (z : List ℕ). Directs g z (Text.gives (Text.twoOf s 3 ∷ []) 5) g) (sym f) (Rules.octet (hex-is (byteAt s 3) u) (hex-is (byteAt s 4) v))
 
   -- `\X2\` and `\X4\`
-  long-is : {d w : ℕ} → Rules.Named d w → d < 256 → Text.is s 1 88 && (Text.is s 2 d && Text.is s 3 92) ≡ true → Directs s (Text.extended (Text.groupsFrom w 0 (drop 4 s)))
+  long-is : {d w : ℕ} → Rules.Named d w → d < 256 → Text.is s 1 88 && (Text.is s 2 d && Text.is s 3 92) ≡ true → Directs g s (Text.extended (Text.groupsFrom w 0 (drop 4 s))) g
   long-is {d} {w} n h e =
       let (p, x) = both (Text.is s 1 88) (Text.is s 2 d && Text.is s 3 92) e in
       let (q, y) = both (Text.is s 2 d) (Text.is s 3 92) x in
       let f : s ≡ 92 ∷ 88 ∷ d ∷ 92 ∷ drop 4 s =
       here-two s 92 88 (omega arith) (omega arith) o p ∙ ap (λ (z : List ℕ). 92 ∷ 88 ∷ z) (here s 2 d h q) ∙ ap (λ (z : List ℕ). 92 ∷ 88 ∷ d ∷ z) (here s 3 92 (omega arith) y) in
-      subst (λ (z : List ℕ). Directs z (Text.extended (Text.groupsFrom w 0 (drop 4 s)))) (sym f) (extended-is (drop 4 s) n)
+      subst (λ (z : List ℕ). Directs g z (Text.extended (Text.groupsFrom w 0 (drop 4 s))) g) (sym f) (extended-is g (drop 4 s) n)
 
 -- no test that is computed at a backslash holds
 record Undirected (s : List ℕ) : Type 0 where
@@ -554,9 +570,9 @@ record Undirected (s : List ℕ) : Type 0 where
   no-four : Text.is s 1 88 && (Text.is s 2 52 && Text.is s 3 92) ≡ false
 
 -- then a backslash alone is computed
-undirected-only : (s : List ℕ) → Undirected s → Text.directiveOf s ≡ Text.gives (92 ∷ []) 1
+undirected-only : (g : ℕ) (s : List ℕ) → Undirected s → Text.directiveOf g s ≡ Text.gives (92 ∷ []) 1
 unfolding Text.directiveOf
-undirected-only s u = rw (u .no-backslash, u .no-newline, u .no-tab, u .no-page, u .no-shift, u .no-octet, u .no-two, u .no-four) refl
+undirected-only g s u = rw (u .no-backslash, u .no-newline, u .no-tab, u .no-page, u .no-shift, u .no-octet, u .no-two, u .no-four) refl
 
 -- true is not false
 never : _≡_ {A = Bool} true false → ⊥
@@ -568,12 +584,12 @@ named-none r Rules.two u = never (u .no-two)
 named-none r Rules.four u = never (u .no-four)
 
 -- and no directive stands there
-undirected-none : {s cs : List ℕ} {k : ℕ} → Rules.Directive s cs k → Undirected s → ⊥
+undirected-none : {g h k : ℕ} {s cs : List ℕ} → Rules.Directive g s cs k h → Undirected s → ⊥
 undirected-none Rules.backslash u = never (u .no-backslash)
 undirected-none Rules.newline u = never (u .no-newline)
 undirected-none Rules.tab u = never (u .no-tab)
-undirected-none Rules.page u = never (u .no-page)
-undirected-none (Rules.shift {c = c} {r = r}) u = never (sym (le-leb 4 (length (92 ∷ 83 ∷ 92 ∷ c ∷ r)) (omega arith)) ∙ u .no-shift)
+undirected-none (Rules.page x) u = never (u .no-page)
+undirected-none (Rules.shift {c = c} {r = r} x) u = never (sym (le-leb 4 (length (92 ∷ 83 ∷ 92 ∷ c ∷ r)) (omega arith)) ∙ u .no-shift)
 undirected-none (Rules.octet x y) u = never (sym (rw (hex-only x .0, hex-only y .0) refl) ∙ u .no-octet)
 undirected-none (Rules.long {r = r} n g) u = named-none r n u
 undirected-none (Rules.long-bad {r = r} n g) u = named-none r n u
@@ -584,46 +600,46 @@ fails true h = absurd (h refl)
 fails false h = refl
 
 -- where no directive stands no test holds
-undirected-is : (s : List ℕ) → Text.is s 0 92 ≡ true → ((cs : List ℕ) (k : ℕ) → Rules.Directive s cs k → ⊥) → Undirected s
-undirected-is s o n = record {
-  no-backslash = fails _ (λ e. n _ _ (backslash-is s o e));
-  no-newline = fails _ (λ e. n _ _ (newline-is s o e));
-  no-tab = fails _ (λ e. n _ _ (tab-is s o e));
-  no-page = fails _ (λ e. n _ _ (page-is s o e));
-  no-shift = fails _ (λ e. n _ _ (shift-is s o e));
-  no-octet = fails _ (λ e. n _ _ (two-digits s o e));
-  no-two = fails _ (λ e. n _ _ (long-is s o Rules.two (omega arith) e));
-  no-four = fails _ (λ e. n _ _ (long-is s o Rules.four (omega arith) e));
+undirected-is : (g : ℕ) (s : List ℕ) → Text.is s 0 92 ≡ true → ((cs : List ℕ) (k h : ℕ) → Rules.Directive g s cs k h → ⊥) → Undirected s
+undirected-is g s o n = record {
+  no-backslash = fails _ (λ e. n _ _ _ (backslash-is g s o e));
+  no-newline = fails _ (λ e. n _ _ _ (newline-is g s o e));
+  no-tab = fails _ (λ e. n _ _ _ (tab-is g s o e));
+  no-page = fails _ (λ e. n _ _ _ (page-is g s o e));
+  no-shift = fails _ (λ e. n _ _ _ (shift-is g s o e));
+  no-octet = fails _ (λ e. n _ _ _ (two-digits g s o e));
+  no-two = fails _ (λ e. n _ _ _ (long-is g s o Rules.two (omega arith) e));
+  no-four = fails _ (λ e. n _ _ _ (long-is g s o Rules.four (omega arith) e));
 }
 
 -- ---- pieces
--- the rules give this piece at the start of s
-abbrev Says : List ℕ → Text.Piece → Type 0
-Says s p = Rules.Reads s (p .chars) (p .used)
+-- the rules give this piece at the start of s, and leave the page that is in force
+abbrev Says : ℕ → List ℕ → Text.Piece → Type 0
+Says g s p = Rules.Reads g s (p .chars) (p .used) g
 
 -- one of two, by a test
-pick-says : (s : List ℕ) (t : Bool) (p q : Text.Piece) → (t ≡ true → Says s p) → (t ≡ false → Says s q) → Says s (pick t p q)
-pick-says s true p q f g = f refl
-pick-says s false p q f g = g refl
+pick-says : (g : ℕ) (s : List ℕ) (t : Bool) (p q : Text.Piece) → (t ≡ true → Says g s p) → (t ≡ false → Says g s q) → Says g s (pick t p q)
+pick-says g s true p q x y = x refl
+pick-says g s false p q x y = y refl
 
--- what is computed at a backslash is what the rules give
-backslash-says : (s : List ℕ) → Text.is s 0 92 ≡ true → Says s (Text.directiveOf s)
+-- what is computed at a backslash that opens no `\P?\` is what the rules give
+backslash-says : (g : ℕ) (s : List ℕ) → Text.is s 0 92 ≡ true → Text.is s 1 80 && Text.is s 3 92 ≡ false → Says g s (Text.directiveOf g s)
 unfolding Text.directiveOf
-backslash-says s o =
-    pick-says s (Text.is s 1 92) _ _ (λ e. Rules.directive (backslash-is s o e)) (λ n1.
-    pick-says s (Text.is s 1 78 && Text.is s 2 92) _ _ (λ e. Rules.directive (newline-is s o e)) (λ n2.
-    pick-says s (Text.is s 1 84 && Text.is s 2 92) _ _ (λ e. Rules.directive (tab-is s o e)) (λ n3.
-    pick-says s (Text.is s 1 80 && Text.is s 3 92) _ _ (λ e. Rules.directive (page-is s o e)) (λ n4.
-    pick-says s (Text.is s 1 83 && (Text.is s 2 92 && leb 4 (length s))) _ _ (λ e. Rules.directive (shift-is s o e)) (λ n5.
-    pick-says s (Text.is s 1 88 && (Text.is s 2 92 && Text.twoAt s 3)) _ _ (λ e. Rules.directive (two-digits s o e)) (λ n6.
-    pick-says s (Text.is s 1 88 && (Text.is s 2 50 && Text.is s 3 92)) _ _ (λ e. Rules.directive (long-is s o Rules.two (omega arith) e)) (λ n7.
-    pick-says s (Text.is s 1 88 && (Text.is s 2 52 && Text.is s 3 92)) _ _ (λ e. Rules.directive (long-is s o Rules.four (omega arith) e)) (λ n8.
+backslash-says g s o m =
+    pick-says g s (Text.is s 1 92) _ _ (λ e. Rules.directive (backslash-is g s o e)) (λ n1.
+    pick-says g s (Text.is s 1 78 && Text.is s 2 92) _ _ (λ e. Rules.directive (newline-is g s o e)) (λ n2.
+    pick-says g s (Text.is s 1 84 && Text.is s 2 92) _ _ (λ e. Rules.directive (tab-is g s o e)) (λ n3.
+    pick-says g s (Text.is s 1 80 && Text.is s 3 92) _ _ (λ e. differ (Text.is s 1 80 && Text.is s 3 92) e m) (λ n4.
+    pick-says g s (Text.is s 1 83 && (Text.is s 2 92 && leb 4 (length s))) _ _ (λ e. Rules.directive (shift-is g s o e)) (λ n5.
+    pick-says g s (Text.is s 1 88 && (Text.is s 2 92 && Text.twoAt s 3)) _ _ (λ e. Rules.directive (two-digits g s o e)) (λ n6.
+    pick-says g s (Text.is s 1 88 && (Text.is s 2 50 && Text.is s 3 92)) _ _ (λ e. Rules.directive (long-is g s o Rules.two (omega arith) e)) (λ n7.
+    pick-says g s (Text.is s 1 88 && (Text.is s 2 52 && Text.is s 3 92)) _ _ (λ e. Rules.directive (long-is g s o Rules.four (omega arith) e)) (λ n8.
     alone (record { no-backslash = n1; no-newline = n2; no-tab = n3; no-page = n4; no-shift = n5; no-octet = n6; no-two = n7; no-four = n8 })))))))))
   where
-    alone : Undirected s → Says s (Text.gives (92 ∷ []) 1)
+    alone : Undirected s → Says g s (Text.gives (92 ∷ []) 1)
     alone u =
         let f : s ≡ 92 ∷ drop 1 s = here s 0 92 (omega arith) o in
-        subst (λ (z : List ℕ). Says z (Text.gives (92 ∷ []) 1)) (sym f) (Rules.unknown (λ cs k h. undirected-none h (subst Undirected f u)))
+        subst (λ (z : List ℕ). Says g z (Text.gives (92 ∷ []) 1)) (sym f) (Rules.unknown (λ cs k h d. undirected-none d (subst Undirected f u)))
 
 -- a sequence of a character from 80 up begins with a byte from 80 up
 encoded-high : {c : ℕ} {bs : List ℕ} (r : List ℕ) → Encoded c bs → 128 ≤ c → 128 ≤ byteAt (bs ++ r) 0
@@ -633,8 +649,8 @@ encoded-high r (line-three {x = x} h n e p q t) k = omega arith
 encoded-high r (line-four {x = x} h e p q t u) k = omega arith
 
 -- the bytes from 80 up: what is computed is what the rules give
-raw-says : (b : ℕ) (r : List ℕ) → 128 ≤ b → Says (b ∷ r) (Text.rawOf b (leadOf (b ∷ r)))
-raw-says b r h = go (leadOf (b ∷ r)) refl
+raw-says : (g b : ℕ) (r : List ℕ) → 128 ≤ b → Says g (b ∷ r) (Text.rawOf b (leadOf (b ∷ r)))
+raw-says g b r h = go (leadOf (b ∷ r)) refl
   where
     from : (c k : ℕ) → take k (b ∷ r) ≡ encode c → encode c ++ drop k (b ∷ r) ≡ b ∷ r
     from c k e = ap (λ (z : List ℕ). z ++ drop k (b ∷ r)) (sym e) ∙ take-append-drop k (b ∷ r)
@@ -646,12 +662,12 @@ raw-says b r h = go (leadOf (b ∷ r)) refl
         omega arith
     high c k e (no l) = omega arith
 
-    go : (l : Lead) → leadOf (b ∷ r) ≡ l → Says (b ∷ r) (Text.rawOf b l)
+    go : (l : Lead) → leadOf (b ∷ r) ≡ l → Says g (b ∷ r) (Text.rawOf b l)
     go (valid c k) e =
         let (s, t, n) = lead-is (b ∷ r) c k e in
-        let q : Rules.Reads (encode c ++ drop k (b ∷ r)) (c ∷ []) (length (encode c)) = Rules.sequence (encode c) (drop k (b ∷ r)) (table-is c s) (high c k t (decLt c 128)) in
-        let u : Rules.Reads (b ∷ r) (c ∷ []) (length (encode c)) = subst (λ (z : List ℕ). Rules.Reads z (c ∷ []) (length (encode c))) (from c k t) q in
-        subst (Rules.Reads (b ∷ r) (c ∷ [])) (sym n) u
+        let q : Rules.Reads g (encode c ++ drop k (b ∷ r)) (c ∷ []) (length (encode c)) g = Rules.sequence (encode c) (drop k (b ∷ r)) (table-is c s) (high c k t (decLt c 128)) in
+        let u : Rules.Reads g (b ∷ r) (c ∷ []) (length (encode c)) g = subst (λ (z : List ℕ). Rules.Reads g z (c ∷ []) (length (encode c)) g) (from c k t) q in
+        subst (λ (z : ℕ). Rules.Reads g (b ∷ r) (c ∷ []) z g) (sym n) u
     go invalid e = Rules.latin h unled
       where
         unled : (c : ℕ) (bs q : List ℕ) → Encoded c bs → b ∷ r ≡ bs ++ q → ⊥
@@ -661,32 +677,61 @@ raw-says b r h = go (leadOf (b ∷ r)) refl
             let z : _≡_ {A = ℕ} 0 1 = cc in
             absurd (omega arith)
 
--- what is computed at the start of a string's bytes is what the rules give
-pub piece-is : (s : List ℕ) → 0 < length s → Rules.Reads s (Text.pieceOf s .chars) (Text.pieceOf s .used)
+-- the page stays where no `\P?\` stands
+pub page-stays : (g : ℕ) (s : List ℕ) → Text.is s 0 92 && (Text.is s 1 80 && Text.is s 3 92) ≡ false → Text.pageAfter g s ≡ g
+unfolding Text.pageAfter
+page-stays g s e = rw e refl
+
+-- and where one stands it is the page that this selects
+pub page-named : (g : ℕ) (s : List ℕ) → Text.is s 0 92 && (Text.is s 1 80 && Text.is s 3 92) ≡ true → Text.pageAfter g s ≡ pageOf (byteAt s 2)
+unfolding Text.pageAfter
+page-named g s e = rw e refl
+
+-- what is computed where none stands is what the rules give
+piece-says : (g : ℕ) (s : List ℕ) → 0 < length s → Text.is s 0 92 && (Text.is s 1 80 && Text.is s 3 92) ≡ false → Says g s (Text.pieceOf g s)
 unfolding Text.pieceOf
-piece-is [] h = absurd (omega arith)
-piece-is (b ∷ r) h =
-    pick-says (b ∷ r) (eqb b 92) _ _ (λ e. backslash-says (b ∷ r) e) (λ n1.
-    pick-says (b ∷ r) (eqb b 39 && Text.is r 0 39) _ _ (λ e. doubled e) (λ n2.
-    pick-says (b ∷ r) (ltb b 128) _ _ (λ e. Rules.itself (ltb-true b 128 e) (eqb-false b 92 n1) (single n2)) (λ n3.
-    raw-says b r (ltb-false b 128 n3))))
+piece-says g [] h m = absurd (omega arith)
+piece-says g (b ∷ r) h m =
+    pick-says g (b ∷ r) (eqb b 92) _ _ (λ e. backslash-says g (b ∷ r) e (sym (rw e refl) ∙ m)) (λ n1.
+    pick-says g (b ∷ r) (eqb b 39 && Text.is r 0 39) _ _ (λ e. doubled e) (λ n2.
+    pick-says g (b ∷ r) (ltb b 128) _ _ (λ e. Rules.itself (ltb-true b 128 e) (eqb-false b 92 n1) (single n2)) (λ n3.
+    raw-says g b r (ltb-false b 128 n3))))
   where
-    doubled : eqb b 39 && Text.is r 0 39 ≡ true → Says (b ∷ r) (Text.gives (39 ∷ []) 2)
+    doubled : eqb b 39 && Text.is r 0 39 ≡ true → Says g (b ∷ r) (Text.gives (39 ∷ []) 2)
     doubled e =
         let (p, q) = both (eqb b 39) (Text.is r 0 39) e in
-        subst (λ (z : List ℕ). Says z (Text.gives (39 ∷ []) 2)) (sym (here-two (b ∷ r) 39 39 (omega arith) (omega arith) p q)) Rules.quote
+        subst (λ (z : List ℕ). Says g z (Text.gives (39 ∷ []) 2)) (sym (here-two (b ∷ r) 39 39 (omega arith) (omega arith) p q)) Rules.quote
 
     single : eqb b 39 && Text.is r 0 39 ≡ false → b ≡ 39 → Begins 39 r → ⊥
     single n e (q, f) = differ (eqb b 39 && Text.is r 0 39) (rw (eq-eqb b 39 e) (ap (λ (z : List ℕ). Text.is z 0 39) f)) n
+
+-- the rules give what is computed at the start of s, and leave the page that is computed
+abbrev Told-of : ℕ → List ℕ → Type 0
+Told-of g s = Rules.Reads g s (Text.pieceOf g s .chars) (Text.pieceOf g s .used) (Text.pageAfter g s)
+
+-- so it is where a `\P?\` stands
+page-says : (g b : ℕ) (r : List ℕ) → Told-of g (92 ∷ 80 ∷ b ∷ 92 ∷ r)
+unfolding Text.pieceOf Text.directiveOf Text.pageAfter
+page-says g b r = Rules.directive (Rules.page (Page.page-is b))
+
+-- what is computed at the start of a string's bytes is what the rules give, on every page
+pub piece-is : (g : ℕ) (s : List ℕ) → 0 < length s → Rules.Reads g s (Text.pieceOf g s .chars) (Text.pieceOf g s .used) (Text.pageAfter g s)
+piece-is g s h = go (Text.is s 0 92 && (Text.is s 1 80 && Text.is s 3 92)) refl
+  where
+    go : (t : Bool) → Text.is s 0 92 && (Text.is s 1 80 && Text.is s 3 92) ≡ t → Told-of g s
+    go true e =
+        let (o, p) = both (Text.is s 0 92) (Text.is s 1 80 && Text.is s 3 92) e in
+        subst (Told-of g) (sym (page-bytes g s o p)) (page-says g (byteAt s 2) (drop 4 s))
+    go false e = subst (Rules.Reads g s (Text.pieceOf g s .chars) (Text.pieceOf g s .used)) (sym (page-stays g s e)) (piece-says g s h e)
 
 -- a piece as the two things that are told of it
 gives-parts : (p : Text.Piece) (cs : List ℕ) (k : ℕ) → p ≡ Text.gives cs k → (cs ≡ p .chars) × (k ≡ p .used)
 gives-parts p cs k e = (sym (ap (λ (q : Text.Piece). q .chars) e), sym (ap (λ (q : Text.Piece). q .used) e))
 
 -- a byte from 80 up is read raw
-raw-only : (s : List ℕ) → 128 ≤ byteAt s 0 → Text.pieceOf s ≡ Text.rawOf (byteAt s 0) (leadOf s)
+raw-only : (g : ℕ) (s : List ℕ) → 128 ≤ byteAt s 0 → Text.pieceOf g s ≡ Text.rawOf (byteAt s 0) (leadOf s)
 unfolding Text.pieceOf
-raw-only s h = rw (ne-eqb (byteAt s 0) 92 (λ e. omega arith), ne-eqb (byteAt s 0) 39 (λ e. omega arith), le-ltb (byteAt s 0) 128 h) refl
+raw-only g s h = rw (ne-eqb (byteAt s 0) 92 (λ e. omega arith), ne-eqb (byteAt s 0) 39 (λ e. omega arith), le-ltb (byteAt s 0) 128 h) refl
 
 -- where no sequence begins none is read
 led-none : (s : List ℕ) → ((c : ℕ) (bs q : List ℕ) → Encoded c bs → s ≡ bs ++ q → ⊥) → leadOf s ≡ invalid
@@ -699,9 +744,9 @@ led-none s n = go (leadOf s) refl
     go invalid e = refl
 
 -- a byte below 80 that is itself
-itself-only : (b : ℕ) (r : List ℕ) → b < 128 → (b ≡ 92 → ⊥) → (b ≡ 39 → Begins 39 r → ⊥) → Text.pieceOf (b ∷ r) ≡ Text.gives (b ∷ []) 1
+itself-only : (g b : ℕ) (r : List ℕ) → b < 128 → (b ≡ 92 → ⊥) → (b ≡ 39 → Begins 39 r → ⊥) → Text.pieceOf g (b ∷ r) ≡ Text.gives (b ∷ []) 1
 unfolding Text.pieceOf
-itself-only b r h n q = rw (ne-eqb b 92 n, fails (eqb b 39 && Text.is r 0 39) single, lt-ltb b 128 h) refl
+itself-only g b r h n q = rw (ne-eqb b 92 n, fails (eqb b 39 && Text.is r 0 39) single, lt-ltb b 128 h) refl
   where
     single : eqb b 39 && Text.is r 0 39 ≡ true → ⊥
     single e =
@@ -709,43 +754,60 @@ itself-only b r h n q = rw (ne-eqb b 92 n, fails (eqb b 39 && Text.is r 0 39) si
         q (eqb-true b 39 x) (drop 1 r, here r 0 39 (omega arith) y)
 
 -- an unknown directive
-unknown-only : (r : List ℕ) → ((cs : List ℕ) (k : ℕ) → Rules.Directive (92 ∷ r) cs k → ⊥) → Text.pieceOf (92 ∷ r) ≡ Text.gives (92 ∷ []) 1
+unknown-only : (g : ℕ) (r : List ℕ) → ((cs : List ℕ) (k h : ℕ) → Rules.Directive g (92 ∷ r) cs k h → ⊥) → Text.pieceOf g (92 ∷ r) ≡ Text.gives (92 ∷ []) 1
 unfolding Text.pieceOf
-unknown-only r n = undirected-only (92 ∷ r) (undirected-is (92 ∷ r) refl n)
+unknown-only g r n = undirected-only g (92 ∷ r) (undirected-is g (92 ∷ r) refl n)
 
 -- two quotes
-quote-only : (r : List ℕ) → Text.pieceOf (39 ∷ 39 ∷ r) ≡ Text.gives (39 ∷ []) 2
+quote-only : (g : ℕ) (r : List ℕ) → Text.pieceOf g (39 ∷ 39 ∷ r) ≡ Text.gives (39 ∷ []) 2
 unfolding Text.pieceOf
-quote-only r = refl
+quote-only g r = refl
 
 -- what the rules give is computed
-pub reads-only : {s cs : List ℕ} {k : ℕ} → Rules.Reads s cs k → Text.pieceOf s ≡ Text.gives cs k
-reads-only (Rules.quote {r = r}) = quote-only r
+pub reads-only : {g h k : ℕ} {s cs : List ℕ} → Rules.Reads g s cs k h → Text.pieceOf g s ≡ Text.gives cs k
+reads-only {g} (Rules.quote {r = r}) = quote-only g r
 reads-only (Rules.directive d) = directive-only d
-reads-only (Rules.unknown {r = r} n) = unknown-only r n
-reads-only (Rules.itself {b = b} {r = r} h n q) = itself-only b r h n q
-reads-only (Rules.sequence bs r {c = c} t h) =
+reads-only {g} (Rules.unknown {r = r} n) = unknown-only g r n
+reads-only {g} (Rules.itself {b = b} {r = r} h n q) = itself-only g b r h n q
+reads-only {g} (Rules.sequence {c = c} bs r t h) =
     let (s, x) = table-only t in
     let l : leadOf (bs ++ r) ≡ valid c (length bs) = ap (λ (z : List ℕ). leadOf (z ++ r)) x ∙ encode-leads c r s ∙ ap (λ (z : List ℕ). valid c (length z)) (sym x) in
-    raw-only (bs ++ r) (encoded-high r t h) ∙ ap (Text.rawOf (byteAt (bs ++ r) 0)) l
-reads-only (Rules.latin {b = b} {r = r} h n) = raw-only (b ∷ r) h ∙ ap (Text.rawOf b) (led-none (b ∷ r) n)
+    raw-only g (bs ++ r) (encoded-high r t h) ∙ ap (Text.rawOf (byteAt (bs ++ r) 0)) l
+reads-only {g} (Rules.latin {b = b} {r = r} h n) = raw-only g (b ∷ r) h ∙ ap (Text.rawOf b) (led-none (b ∷ r) n)
 
--- and nothing else is: the rules give one piece at most
-pub piece-only : {s cs : List ℕ} {k : ℕ} → Rules.Reads s cs k → (cs ≡ Text.pieceOf s .chars) × (k ≡ Text.pieceOf s .used)
-piece-only {s} {cs} {k} r = gives-parts (Text.pieceOf s) cs k (reads-only r)
+-- no page is named where no backslash stands first
+no-backslash-stays : (g : ℕ) (s : List ℕ) → (byteAt s 0 ≡ 92 → ⊥) → Text.pageAfter g s ≡ g
+no-backslash-stays g s n = page-stays g s (rw (ne-eqb (byteAt s 0) 92 n) refl)
+
+-- nor at an unknown directive
+unknown-stays : (g : ℕ) (r : List ℕ) → Undirected (92 ∷ r) → Text.pageAfter g (92 ∷ r) ≡ g
+unknown-stays g r u = page-stays g (92 ∷ r) (u .no-page)
+
+-- the page that the rules leave is computed
+pub reads-page : {g h k : ℕ} {s cs : List ℕ} → Rules.Reads g s cs k h → h ≡ Text.pageAfter g s
+reads-page {g} (Rules.quote {r = r}) = sym (no-backslash-stays g (39 ∷ 39 ∷ r) (λ e. omega arith))
+reads-page (Rules.directive d) = directive-page d
+reads-page {g} (Rules.unknown {r = r} n) = sym (unknown-stays g r (undirected-is g (92 ∷ r) refl n))
+reads-page {g} (Rules.itself {b = b} {r = r} h n q) = sym (no-backslash-stays g (b ∷ r) n)
+reads-page {g} (Rules.sequence bs r t h) = let k = encoded-high r t h in sym (no-backslash-stays g (bs ++ r) (λ e. omega arith))
+reads-page {g} (Rules.latin {b = b} {r = r} h n) = sym (no-backslash-stays g (b ∷ r) (λ e. omega arith))
+
+-- and nothing else is: the rules give one piece at most, and leave one page
+pub piece-only : {g h k : ℕ} {s cs : List ℕ} → Rules.Reads g s cs k h → (cs ≡ Text.pieceOf g s .chars) × (k ≡ Text.pieceOf g s .used) × (h ≡ Text.pageAfter g s)
+piece-only {g} {h} {k} {s} {cs} r = let (p, q) = gives-parts (Text.pieceOf g s) cs k (reads-only r) in (p, q, reads-page r)
 
 -- ---- texts
 -- where a piece stands there is a byte
-reads-some : {s cs : List ℕ} {k : ℕ} → Rules.Reads s cs k → 0 < length s
+pub reads-some : {g h k : ℕ} {s cs : List ℕ} → Rules.Reads g s cs k h → 0 < length s
 reads-some Rules.quote = omega arith
 reads-some (Rules.directive d) = directive-some d
   where
-    directive-some : {s cs : List ℕ} {k : ℕ} → Rules.Directive s cs k → 0 < length s
+    directive-some : {g h k : ℕ} {s cs : List ℕ} → Rules.Directive g s cs k h → 0 < length s
     directive-some Rules.backslash = omega arith
     directive-some Rules.newline = omega arith
     directive-some Rules.tab = omega arith
-    directive-some Rules.page = omega arith
-    directive-some Rules.shift = omega arith
+    directive-some (Rules.page x) = omega arith
+    directive-some (Rules.shift x) = omega arith
     directive-some (Rules.octet x y) = omega arith
     directive-some (Rules.long n g) = omega arith
     directive-some (Rules.long-bad n g) = omega arith
@@ -761,33 +823,44 @@ reads-some (Rules.sequence bs r t h) = encoded-some r t
 reads-some (Rules.latin h n) = omega arith
 
 -- no bytes have no characters
-text-none : Text.textOf [] ≡ []
-unfolding Text.textOf Text.textFrom
-text-none = refl
+text-none : (g : ℕ) → Text.textOn g [] ≡ []
+unfolding Text.textOn Text.textFrom
+text-none g = refl
 
 -- the text as computed is one by the rules, where those of shorter lists are
-text-step : (s : List ℕ) → ((t : List ℕ) → length t < length s → Rules.Text t (Text.textOf t)) → Rules.Text s (Text.textOf s)
-text-step [] ih = subst (Rules.Text []) (sym text-none) Rules.none
-text-step (b ∷ r) ih =
+text-step : (g : ℕ) (s : List ℕ) → ((h : ℕ) (t : List ℕ) → length t < length s → Rules.TextOn h t (Text.textOn h t)) → Rules.TextOn g s (Text.textOn g s)
+text-step g [] ih = subst (Rules.TextOn g []) (sym (text-none g)) Rules.none
+text-step g (b ∷ r) ih =
     let h : 0 < length (b ∷ r) = omega arith in
-    let (l, u) = piece-fits (b ∷ r) h in
-    let i : length (drop (Text.pieceOf (b ∷ r) .used) (b ∷ r)) < length (b ∷ r) = omega (arith, length-drop (Text.pieceOf (b ∷ r) .used) (b ∷ r)) in
-    subst (Rules.Text (b ∷ r)) (sym (text-goes (b ∷ r) (Text.pieceOf (b ∷ r) .used) h refl l))
-    (Rules.more (piece-is (b ∷ r) h) (ih (drop (Text.pieceOf (b ∷ r) .used) (b ∷ r)) i))
+    let (l, u) = piece-fits g (b ∷ r) h in
+    let k = Text.pieceOf g (b ∷ r) .used in
+    let i : length (drop k (b ∷ r)) < length (b ∷ r) = omega (arith, length-drop k (b ∷ r)) in
+    subst (Rules.TextOn g (b ∷ r)) (sym (text-goes g (b ∷ r) k h refl l))
+    (Rules.more (piece-is g (b ∷ r) h) (ih (Text.pageAfter g (b ∷ r)) (drop k (b ∷ r)) i))
 
--- the text as computed is one by the rules
-pub text-is : (s : List ℕ) → Rules.Text s (Text.textOf s)
-text-is s = go (length s) s (omega arith)
+-- the text as computed is one by the rules, from every page on
+pub text-on-is : (g : ℕ) (s : List ℕ) → Rules.TextOn g s (Text.textOn g s)
+text-on-is g s = go (length s) g s (omega arith)
   where
-    go : (n : ℕ) (s : List ℕ) → length s ≤ n → Rules.Text s (Text.textOf s)
-    go zero s h = text-step s (λ t l. absurd (omega arith))
-    go (suc n) s h = text-step s (λ t l. go n t (omega arith))
+    go : (n g : ℕ) (s : List ℕ) → length s ≤ n → Rules.TextOn g s (Text.textOn g s)
+    go zero g s h = text-step g s (λ i t l. absurd (omega arith))
+    go (suc n) g s h = text-step g s (λ i t l. go n i t (omega arith))
+
+-- and there is no other
+pub text-on-only : {g : ℕ} {s cs : List ℕ} → Rules.TextOn g s cs → cs ≡ Text.textOn g s
+text-on-only {g} Rules.none = sym (text-none g)
+text-on-only {g} {s} (Rules.more {h = h} {k = k} {cs = cs} {ds = ds} r t) =
+    let (p, q, e) = piece-only r in
+    let b = reads-some r in
+    let (l, u) = piece-fits g s b in
+    ap (λ (z : List ℕ). cs ++ z) (text-on-only t) ∙ ap (λ (z : List ℕ). z ++ Text.textOn h (drop k s)) p ∙ ap (λ (z : ℕ). Text.pieceOf g s .chars ++ Text.textOn z (drop k s)) e ∙ sym (text-goes g s k b q (omega arith))
+
+-- a string's text as computed is its text by the rules
+pub text-is : (s : List ℕ) → Rules.Text s (Text.textOf s)
+unfolding Text.textOf
+text-is s = text-on-is pageA s
 
 -- and there is no other
 pub text-only : {s cs : List ℕ} → Rules.Text s cs → cs ≡ Text.textOf s
-text-only Rules.none = sym text-none
-text-only {s} (Rules.more {cs = cs} {ds = ds} {k = k} r t) =
-    let (p, q) = piece-only r in
-    let h = reads-some r in
-    let (l, u) = piece-fits s h in
-    ap (λ (z : List ℕ). cs ++ z) (text-only t) ∙ ap (λ (z : List ℕ). z ++ Text.textOf (drop k s)) p ∙ sym (text-goes s k h q (omega arith))
+unfolding Text.textOf
+text-only t = text-on-only t

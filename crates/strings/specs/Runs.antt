@@ -12,6 +12,7 @@ use lib.Seq.{take-all, take-add}
 use Rattle.lex.specs.Byte.{pick}
 use Rattle.utf8.specs.Utf8.{encodeAll}
 use Rattle.utf8.specs.Laws.{encode-one}
+use Rattle.pages.specs.Pages.{pageA}
 use Rattle.strings.specs.Text
 use Rattle.strings.specs.Hex.{neither}
 use Rattle.strings.specs.Put.{most, Laid, laid-then, encode-append}
@@ -22,14 +23,14 @@ use Rattle.strings.specs.Steps.{text-goes}
 abbrev pub special : ℕ → Bool
 special b = eqb b 39 || (eqb b 92 || leb 128 b)
 
--- any other byte is its own piece
-pub plain-piece : (b : ℕ) (r : List ℕ) → special b ≡ false → (Text.pieceOf (b ∷ r) ≡ Text.gives (b ∷ []) 1) × (b < 128)
-unfolding Text.pieceOf
-plain-piece b r h =
+-- any other byte is its own piece, and names no page
+pub plain-piece : (g b : ℕ) (r : List ℕ) → special b ≡ false → (Text.pieceOf g (b ∷ r) ≡ Text.gives (b ∷ []) 1) × (b < 128) × (Text.pageAfter g (b ∷ r) ≡ g)
+unfolding Text.pieceOf Text.pageAfter
+plain-piece g b r h =
     let x = neither (eqb b 39) (eqb b 92 || leb 128 b) h in
     let y = neither (eqb b 92) (leb 128 b) (x .1) in
     let z = leb-false 128 b (y .1) in
-    (rw (y .0, x .0, lt-ltb b 128 z) refl, z)
+    (rw (y .0, x .0, lt-ltb b 128 z) refl, z, rw (y .0) refl)
 
 -- the first byte of a plain list and the others
 plain-parts : (b : ℕ) (r : List ℕ) → Text.plain (b ∷ r) ≡ true → (special b ≡ false) × (Text.plain r ≡ true)
@@ -87,14 +88,14 @@ ran-on s a o k e p t n f q m h w g x l i y =
       put = rw z (laid-then a o (take k s) e p (take n t) f q m x y);
     }
 
--- plain bytes are their own characters, and the text goes on after them
-pub text-plain : (n : ℕ) (s : List ℕ) → n ≤ length s → Text.plain (take n s) ≡ true → Text.textOf s ≡ take n s ++ Text.textOf (drop n s)
-text-plain zero s h p = refl
-text-plain (suc n) [] h p = absurd (omega arith)
-text-plain (suc n) (b ∷ r) h p =
+-- plain bytes are their own characters, and the text goes on after them on the same page
+pub text-plain : (g n : ℕ) (s : List ℕ) → n ≤ length s → Text.plain (take n s) ≡ true → Text.textOn g s ≡ take n s ++ Text.textOn g (drop n s)
+text-plain g zero s h p = refl
+text-plain g (suc n) [] h p = absurd (omega arith)
+text-plain g (suc n) (b ∷ r) h p =
     let q = plain-parts b (take n r) p in
-    let x = plain-piece b r (q .0) .0 in
-    text-goes (b ∷ r) 1 (omega arith) (sym (ap (λ (z : Text.Piece). z .used) x)) (omega arith) ∙ rw x (ap (λ (z : List ℕ). b ∷ z) (text-plain n r (omega arith) (q .1)))
+    let (x, l, k) = plain-piece g b r (q .0) in
+    text-goes g (b ∷ r) 1 (omega arith) (sym (ap (λ (z : Text.Piece). z .used) x)) (omega arith) ∙ rw (x, k) (ap (λ (z : List ℕ). b ∷ z) (text-plain g n r (omega arith) (q .1)))
 
 -- and their own encoding
 pub encode-plain : (s : List ℕ) → Text.plain s ≡ true → encodeAll s ≡ s
@@ -102,9 +103,9 @@ unfolding encodeAll
 encode-plain [] p = refl
 encode-plain (b ∷ r) p =
     let q = plain-parts b r p in
-    rw (encode-one b (plain-piece b r (q .0) .1)) (ap (λ (z : List ℕ). b ∷ z) (encode-plain r (q .1)))
+    rw (encode-one b (plain-piece 0 b r (q .0) .1)) (ap (λ (z : List ℕ). b ∷ z) (encode-plain r (q .1)))
 
 -- and so the bytes of the text
 pub bytes-plain : (n : ℕ) (s : List ℕ) → n ≤ length s → Text.plain (take n s) ≡ true → Text.bytesOf s ≡ take n s ++ Text.bytesOf (drop n s)
-unfolding Text.bytesOf
-bytes-plain n s h p = ap encodeAll (text-plain n s h p) ∙ encode-append (take n s) (Text.textOf (drop n s)) ∙ ap (λ (z : List ℕ). z ++ encodeAll (Text.textOf (drop n s))) (encode-plain (take n s) p)
+unfolding Text.bytesOf Text.textOf
+bytes-plain n s h p = ap encodeAll (text-plain pageA n s h p) ∙ encode-append (take n s) (Text.textOn pageA (drop n s)) ∙ ap (λ (z : List ℕ). z ++ encodeAll (Text.textOn pageA (drop n s))) (encode-plain (take n s) p)

@@ -1,26 +1,27 @@
 -- What an auditor wants to know of a text: every number in it is a character, so that none is lost; it is valid UTF-8 (RFC 3629); a
 -- plain string is its own text; and what `decode_string` and `text` show is the text. Assumes nothing.
-use Prim.Native.Nat.{ℕ, zero, suc, _+_, _*_, _-_, _≤_, _<_, min}
+use Prim.Native.Nat.{ℕ, zero, suc, _+_, _*_, _-_, _≤_, _<_}
 use mathlib.Core.Path.{_≡_, refl, sym, _∙_, ap}
 use mathlib.Core.Bool.{Bool, true, false, _&&_, _||_}
-use mathlib.Core.List.{List, [], _∷_, _++_}
+use mathlib.Core.List.{List, [], _∷_, _++_, append-nil}
 use native.Mathlib.Omega.{arith}
-use borrow.Author.Tests.{ltb-true, ltb-false, leb-true, leb-false, lt-ltb, le-ltb, le-leb, ne-eqb, eqb-false}
+use borrow.Author.Tests.{ltb-true, le-ltb, le-leb}
 use lib.Dec.{eqb, leb, ltb}
-use lib.ListN.{length, take, drop, getD}
-use lib.Seq.{take-append-seam}
+use lib.ListN.{length, take, drop, drop-of-length-le}
+use lib.Seq.{take-append-seam, take-all}
 use Rattle.lex.specs.Byte.{pick}
-use Rattle.utf8.specs.Utf8.{byteAt, scalar, encode, encodeAll, Lead, valid, invalid, leadOf}
-use Rattle.utf8.specs.Laws.{encode-one, scalar-low}
+use Rattle.utf8.specs.Utf8.{byteAt, scalar, encodeAll, Lead, valid, invalid, leadOf}
+use Rattle.utf8.specs.Laws.{scalar-low}
 use Rattle.utf8.specs.Table.{Valid}
 use Rattle.utf8.specs.Agree.{Scalars, all-valid, lead-is}
 use Rattle.strings.specs.declared.Decoded.{Decoded}
 use Rattle.strings.specs.declared.Decoded.the-variants.{Plain, Written, Short}
+use Rattle.pages.specs.Pages.{pageA}
+use Rattle.pages.specs.Right.{code-scalar}
 use Rattle.strings.specs.Text
 use Rattle.strings.specs.Hex.{both, two-below}
-use Rattle.strings.specs.Steps.{text-skip}
-use Rattle.strings.specs.Runs.{plain-piece}
-use Rattle.strings.specs.Code.{decodedOf, roomAfter, shownOf, Answer, text, refused, toldText, answerOf}
+use Rattle.strings.specs.Runs.{bytes-plain}
+use Rattle.strings.specs.Code.{decodedOf, roomAfter, shownOf, text, refused, toldText, answerOf}
 
 -- every number of the list is a byte
 abbrev pub Bytes : List ℕ → Type 0
@@ -119,23 +120,23 @@ pick-scalar true p q f g = f refl
 pick-scalar false p q f g = g refl
 
 -- a directive gives characters
-directive-scalar : (s : List ℕ) → Bytes s → Scalars (Text.directiveOf s .chars)
+directive-scalar : (g : ℕ) (s : List ℕ) → Bytes s → Scalars (Text.directiveOf g s .chars)
 unfolding Text.directiveOf
-directive-scalar s h =
+directive-scalar g s h =
     pick-scalar (Text.is s 1 92) _ _ (λ e. (refl, tt)) (λ n1.
     pick-scalar (Text.is s 1 78 && Text.is s 2 92) _ _ (λ e. (refl, tt)) (λ n2.
     pick-scalar (Text.is s 1 84 && Text.is s 2 92) _ _ (λ e. (refl, tt)) (λ n3.
     pick-scalar (Text.is s 1 80 && Text.is s 3 92) _ _ (λ e. tt) (λ n4.
-    pick-scalar (Text.is s 1 83 && (Text.is s 2 92 && leb 4 (length s))) _ _ (λ e. let k = byte-least s 3 h in (scalar-low (byteAt s 3 + 128) (omega arith), tt)) (λ n5.
+    pick-scalar (Text.is s 1 83 && (Text.is s 2 92 && leb 4 (length s))) _ _ (λ e. let k = byte-least s 3 h in (code-scalar g (byteAt s 3 + 128) (omega arith), tt)) (λ n5.
     pick-scalar (Text.is s 1 88 && (Text.is s 2 92 && Text.twoAt s 3)) _ _ (λ e. let k = two-below s 3 (both (Text.is s 2 92) (Text.twoAt s 3) (both (Text.is s 1 88) (Text.is s 2 92 && Text.twoAt s 3) e .1) .1) in (scalar-low (Text.twoOf s 3) (omega arith), tt)) (λ n6.
     pick-scalar (Text.is s 1 88 && (Text.is s 2 50 && Text.is s 3 92)) _ _ (λ e. extended-scalar (Text.groupsFrom 4 0 (drop 4 s)) (groups-scalar 4 0 (drop 4 s))) (λ n7.
     pick-scalar (Text.is s 1 88 && (Text.is s 2 52 && Text.is s 3 92)) _ _ (λ e. extended-scalar (Text.groupsFrom 8 0 (drop 4 s)) (groups-scalar 8 0 (drop 4 s))) (λ n8. (refl, tt)))))))))
 
 -- every piece gives characters
-piece-scalar : (s : List ℕ) → Bytes s → Scalars (Text.pieceOf s .chars)
+piece-scalar : (g : ℕ) (s : List ℕ) → Bytes s → Scalars (Text.pieceOf g s .chars)
 unfolding Text.pieceOf
-piece-scalar s h =
-    pick-scalar (Text.is s 0 92) _ _ (λ e. directive-scalar s h) (λ n1.
+piece-scalar g s h =
+    pick-scalar (Text.is s 0 92) _ _ (λ e. directive-scalar g s h) (λ n1.
     pick-scalar (Text.is s 0 39 && Text.is s 1 39) _ _ (λ e. (refl, tt)) (λ n2.
     pick-scalar (ltb (byteAt s 0) 128) _ _ (λ e. let k = ltb-true (byteAt s 0) 128 e in (scalar-low (byteAt s 0) (omega arith), tt)) (λ n3. go (leadOf s) refl)))
   where
@@ -143,29 +144,32 @@ piece-scalar s h =
     go (valid c k) e = (lead-is s c k e .0, tt)
     go invalid e = let k = byte-least s 0 h in (scalar-low (byteAt s 0) (omega arith), tt)
 
--- every number of a string's text is a character: none is lost when it is encoded
-pub text-scalars : (n : ℕ) (s : List ℕ) → Bytes s → Scalars (Text.textFrom n s)
+-- every number of a string's text is a character, on every page: none is lost when it is encoded
+pub text-scalars : (g n : ℕ) (s : List ℕ) → Bytes s → Scalars (Text.textFrom g n s)
 unfolding Text.textFrom
-text-scalars n [] h = tt
-text-scalars (suc n) (b ∷ r) (h, t) = text-scalars n r t
-text-scalars zero (b ∷ r) (h, t) = scalars-append (Text.pieceOf (b ∷ r) .chars) _ (piece-scalar (b ∷ r) (h, t)) (text-scalars (Text.pieceOf (b ∷ r) .used - 1) r t)
+text-scalars g n [] h = tt
+text-scalars g (suc n) (b ∷ r) (h, t) = text-scalars g n r t
+text-scalars g zero (b ∷ r) (h, t) = scalars-append (Text.pieceOf g (b ∷ r) .chars) _ (piece-scalar g (b ∷ r) (h, t)) (text-scalars (Text.pageAfter g (b ∷ r)) (Text.pieceOf g (b ∷ r) .used - 1) r t)
 
 -- the output is always valid UTF-8
 pub text-valid : (s : List ℕ) → Bytes s → Valid (Text.bytesOf s)
-unfolding Text.bytesOf Text.textOf
-text-valid s h = all-valid (Text.textFrom 0 s) (text-scalars 0 s h)
+unfolding Text.bytesOf Text.textOf Text.textOn
+text-valid s h = all-valid (Text.textFrom pageA 0 s) (text-scalars pageA 0 s h)
+
+-- no bytes have no text
+none-text : Text.bytesOf [] ≡ []
+unfolding Text.bytesOf Text.textOf Text.textOn Text.textFrom encodeAll
+none-text = refl
+
+-- past the last byte there is none
+past : (s : List ℕ) → drop (length s) s ≡ []
+past s = let l : length s ≤ length s = omega arith in drop-of-length-le s l
 
 -- a plain string is its own text
 pub plain-text : (s : List ℕ) → Text.plain s ≡ true → Text.bytesOf s ≡ s
-unfolding Text.bytesOf Text.textOf Text.textFrom Text.plain encodeAll
-plain-text [] h = refl
-plain-text (b ∷ r) h = go (eqb b 39 || (eqb b 92 || leb 128 b)) refl h (plain-text r)
-  where
-    go : (t : Bool) → eqb b 39 || (eqb b 92 || leb 128 b) ≡ t → pick t false (Text.plain r) ≡ true → (Text.plain r ≡ true → Text.bytesOf r ≡ r) → Text.bytesOf (b ∷ r) ≡ b ∷ r
-    go true p q f = let z : _≡_ {A = ℕ} 0 1 = ap (λ (t : Bool). pick t 1 0) q in absurd (omega arith)
-    go false p q f =
-        let x = plain-piece b r p in
-        rw (x .0, encode-one b (x .1)) (ap (λ (z : List ℕ). b ∷ z) (f q))
+plain-text s h =
+    let e : take (length s) s ≡ s = take-all (length s) s (omega arith) in
+    bytes-plain (length s) s (omega arith) (rw e h) ∙ rw (e, past s, none-text) (append-nil s)
 
 -- what is shown after `decode_string`: the text, unless it is 16
 pub shown-text : (s o : List ℕ) → (decodedOf s (length o) ≡ Short → ⊥) → shownOf s (roomAfter s o) (decodedOf s (length o)) ≡ Text.bytesOf s

@@ -113,25 +113,25 @@ groups-fit w zero (b ∷ r) =
     go false Text.wrong h f = omega arith
 
 -- the text from a place on
-pub text-skip : (n : ℕ) (s : List ℕ) → Text.textFrom n s ≡ Text.textOf (drop n s)
-unfolding Text.textFrom Text.textOf
-text-skip zero s = refl
-text-skip (suc n) [] = refl
-text-skip (suc n) (b ∷ r) = text-skip n r
+pub text-skip : (g n : ℕ) (s : List ℕ) → Text.textFrom g n s ≡ Text.textOn g (drop n s)
+unfolding Text.textFrom Text.textOn
+text-skip g zero s = refl
+text-skip g (suc n) [] = refl
+text-skip g (suc n) (b ∷ r) = text-skip g n r
 
 -- a piece, and the text after it
-pub text-goes : (s : List ℕ) (n : ℕ) → 0 < length s → n ≡ Text.pieceOf s .used → 0 < n → Text.textOf s ≡ Text.pieceOf s .chars ++ Text.textOf (drop n s)
-unfolding Text.textFrom Text.textOf
-text-goes [] n h e p = absurd (omega arith)
-text-goes (b ∷ r) zero h e p = absurd (omega arith)
-text-goes (b ∷ r) (suc n) h e p =
-    let q : Text.pieceOf (b ∷ r) .used - 1 ≡ n = omega arith in
-    rw q (ap (λ (z : List ℕ). Text.pieceOf (b ∷ r) .chars ++ z) (text-skip n r))
+pub text-goes : (g : ℕ) (s : List ℕ) (n : ℕ) → 0 < length s → n ≡ Text.pieceOf g s .used → 0 < n → Text.textOn g s ≡ Text.pieceOf g s .chars ++ Text.textOn (Text.pageAfter g s) (drop n s)
+unfolding Text.textFrom Text.textOn
+text-goes g [] n h e p = absurd (omega arith)
+text-goes g (b ∷ r) zero h e p = absurd (omega arith)
+text-goes g (b ∷ r) (suc n) h e p =
+    let q : Text.pieceOf g (b ∷ r) .used - 1 ≡ n = omega arith in
+    rw q (ap (λ (z : List ℕ). Text.pieceOf g (b ∷ r) .chars ++ z) (text-skip (Text.pageAfter g (b ∷ r)) n r))
 
 -- no byte, no text
-pub text-ends : (s : List ℕ) (i : ℕ) → length s ≤ i → Text.textOf (drop i s) ≡ []
-unfolding Text.textFrom Text.textOf
-text-ends s i h = rw (drop-of-length-le s h) refl
+pub text-ends : (g : ℕ) (s : List ℕ) (i : ℕ) → length s ≤ i → Text.textOn g (drop i s) ≡ []
+unfolding Text.textFrom Text.textOn
+text-ends g s i h = rw (drop-of-length-le s h) refl
 
 -- a directive with groups takes bytes that are there
 pub extended-fits : (w : ℕ) (s : List ℕ) → 4 ≤ length s → (0 < Text.extended (Text.groupsFrom w 0 (drop 4 s)) .used) × (Text.extended (Text.groupsFrom w 0 (drop 4 s)) .used ≤ length s)
@@ -162,9 +162,9 @@ long-fits s h = pick-fits s (Text.is s 1 88 && (Text.is s 2 50 && Text.is s 3 92
         omega arith
 
 -- every directive
-pub directive-fits : (s : List ℕ) → 0 < length s → Fits s (Text.directiveOf s)
+pub directive-fits : (g : ℕ) (s : List ℕ) → 0 < length s → Fits s (Text.directiveOf g s)
 unfolding Text.directiveOf
-directive-fits s h =
+directive-fits g s h =
     pick-fits s (Text.is s 1 92) _ _ (λ e. let z = is-within s 1 92 (omega arith) e in (omega arith, omega arith)) (λ n1.
     pick-fits s (Text.is s 1 78 && Text.is s 2 92) _ _ (λ e. let z = is-within s 2 92 (omega arith) (both (Text.is s 1 78) (Text.is s 2 92) e .1) in (omega arith, omega arith)) (λ n2.
     pick-fits s (Text.is s 1 84 && Text.is s 2 92) _ _ (λ e. let z = is-within s 2 92 (omega arith) (both (Text.is s 1 84) (Text.is s 2 92) e .1) in (omega arith, omega arith)) (λ n3.
@@ -173,10 +173,10 @@ directive-fits s h =
     pick-fits s (Text.is s 1 88 && (Text.is s 2 92 && Text.twoAt s 3)) _ _ (λ e. let z = hex-within s 4 (both (Text.hexDigit (byteAt s 3)) (Text.hexDigit (byteAt s 4)) (both (Text.is s 2 92) (Text.twoAt s 3) (both (Text.is s 1 88) (Text.is s 2 92 && Text.twoAt s 3) e .1) .1) .1) in (omega arith, omega arith)) (λ n6. long-fits s h))))))
 
 -- every piece takes bytes that are there, at least one
-pub piece-fits : (s : List ℕ) → 0 < length s → Fits s (Text.pieceOf s)
+pub piece-fits : (g : ℕ) (s : List ℕ) → 0 < length s → Fits s (Text.pieceOf g s)
 unfolding Text.pieceOf
-piece-fits s h =
-    pick-fits s (Text.is s 0 92) _ _ (λ e. directive-fits s h) (λ n1.
+piece-fits g s h =
+    pick-fits s (Text.is s 0 92) _ _ (λ e. directive-fits g s h) (λ n1.
     pick-fits s (Text.is s 0 39 && Text.is s 1 39) _ _ (λ e. let z = is-within s 1 39 (omega arith) (both (Text.is s 0 39) (Text.is s 1 39) e .1) in (omega arith, omega arith)) (λ n2.
     pick-fits s (ltb (byteAt s 0) 128) _ _ (λ e. (omega arith, omega arith)) (λ n3. go (leadOf s) refl)))
   where

@@ -1,5 +1,6 @@
--- Document 01, 'Strings': the text that a string's bytes stand for, for every list of bytes, computed. Rules.antt has the same as rules.
--- Iso.antt has ISO 10303-21's own grammar; the lines below say in brackets where document 01 goes beyond it. Assumes nothing.
+-- Document 01, 'Strings', with document 02's #109: the text that a string's bytes stand for, for every list of bytes, computed. Rules.antt has
+-- the same as rules. Iso.antt has ISO 10303-21's own grammar; the lines below say in brackets where document 01 goes beyond it. Pages are
+-- numbers from 0, page A, to 8, page I (crate pages). Assumes nothing.
 use Prim.Native.Nat.{ℕ, zero, suc, _+_, _*_, _-_, min}
 use mathlib.Core.Bool.{Bool, true, false, _&&_, _||_}
 use mathlib.Core.List.{List, [], _∷_, _++_}
@@ -7,6 +8,7 @@ use lib.Dec.{eqb, leb, ltb}
 use lib.ListN.{length, drop}
 use Rattle.lex.specs.Byte.{pick}
 use Rattle.utf8.specs.Utf8.{scalar, encode, encodeAll, byteAt, Lead, valid, invalid, leadOf}
+use Rattle.pages.specs.Pages.{pageA, pageOf, codeOf}
 
 -- a hex digit, "either case" (ISO has capitals only)
 abbrev pub hexDigit : ℕ → Bool
@@ -125,10 +127,11 @@ longOf s =
     (extended (groupsFrom 4 0 (drop 4 s)))
     (pick (is s 1 88 && (is s 2 52 && is s 3 92)) (extended (groupsFrom 8 0 (drop 4 s))) (gives (92 ∷ []) 1))
 
--- what follows a backslash: "`\\` a backslash; `\N\` LF; `\T\` tab" (ISO has neither inside a string); "`\P?\` nothing" (ISO: a
--- capital letter, and page A alone is the code plus 128 below); "`\S\c` code c+128; `\X\HH` one octet"
-unfoldable pub directiveOf : List ℕ → Piece
-directiveOf s =
+-- what follows a backslash while page p is in force: "`\\` a backslash; `\N\` LF; `\T\` tab" (ISO has neither inside a string); "`\P?\`
+-- nothing" (ISO: a capital letter); "`\S\c` code c+128", which #109 has read on the page ("apply the page to every later `\S\` in that string");
+-- "`\X\HH` one octet"
+unfoldable pub directiveOf : ℕ → List ℕ → Piece
+directiveOf p s =
     pick
     (is s 1 92)
     (gives (92 ∷ []) 2)
@@ -143,7 +146,7 @@ directiveOf s =
     (gives [] 4)
     (pick
     (is s 1 83 && (is s 2 92 && leb 4 (length s)))
-    (gives ((byteAt s 3 + 128) ∷ []) 4)
+    (gives (codeOf p (byteAt s 3 + 128) ∷ []) 4)
     (pick (is s 1 88 && (is s 2 92 && twoAt s 3)) (gives (twoOf s 3 ∷ []) 5) (longOf s))))))
 
 -- "Raw bytes from 80 up: a valid UTF-8 sequence, else Latin-1" (ISO has no stray bytes)
@@ -153,22 +156,35 @@ rawOf b invalid = gives (b ∷ []) 1
 
 -- "`''` gives a quote"; a backslash opens a directive; other bytes below 80 are themselves (a single quote and
 -- control bytes too: ISO has neither)
-unfoldable pub pieceOf : List ℕ → Piece
-pieceOf s =
+unfoldable pub pieceOf : ℕ → List ℕ → Piece
+pieceOf p s =
     pick
     (is s 0 92)
-    (directiveOf s)
+    (directiveOf p s)
     (pick (is s 0 39 && is s 1 39) (gives (39 ∷ []) 2) (pick (ltb (byteAt s 0) 128) (gives (byteAt s 0 ∷ []) 1) (rawOf (byteAt s 0) (leadOf s))))
 
--- the characters of a string's bytes, piece after piece; the first n bytes belong to a piece already read
-unfoldable pub textFrom : ℕ → List ℕ → List ℕ
-textFrom n [] = []
-textFrom (suc n) (b ∷ r) = textFrom n r
-textFrom zero (b ∷ r) = pieceOf (b ∷ r) .chars ++ textFrom (pieceOf (b ∷ r) .used - 1) r
+-- the page in force after the piece that stands at the start: the one that a `\P?\` there selects, and else the one before it
+unfoldable pub pageAfter : ℕ → List ℕ → ℕ
+pageAfter p s = pick (is s 0 92 && (is s 1 80 && is s 3 92)) (pageOf (byteAt s 2)) p
 
--- a string's characters
+-- the same of a list that a backslash begins
+abbrev pub pageNamed : ℕ → List ℕ → ℕ
+pageNamed p s = pick (is s 1 80 && is s 3 92) (pageOf (byteAt s 2)) p
+
+-- the characters of a string's bytes, piece after piece, each on the page that those before it leave in force; the first n bytes belong to a
+-- piece already read
+unfoldable pub textFrom : ℕ → ℕ → List ℕ → List ℕ
+textFrom p n [] = []
+textFrom p (suc n) (b ∷ r) = textFrom p n r
+textFrom p zero (b ∷ r) = pieceOf p (b ∷ r) .chars ++ textFrom (pageAfter p (b ∷ r)) (pieceOf p (b ∷ r) .used - 1) r
+
+-- the characters from a place on where page p is in force
+unfoldable pub textOn : ℕ → List ℕ → List ℕ
+textOn p s = textFrom p 0 s
+
+-- a string's characters: "a fresh string, means page A"
 unfoldable pub textOf : List ℕ → List ℕ
-textOf s = textFrom 0 s
+textOf s = textOn pageA s
 
 -- a string's text: its characters in UTF-8
 unfoldable pub bytesOf : List ℕ → List ℕ

@@ -1,16 +1,17 @@
 -- What each test of the code's `short` and `ordinary` shows: one law for each way out. Assumes nothing.
-use Prim.Native.Nat.{ℕ, zero, suc, _+_, _*_, _-_, _≤_, _<_, min}
+use Prim.Native.Nat.{ℕ, _+_, _-_, _≤_, _<_}
 use mathlib.Core.Path.{_≡_, refl, sym, _∙_, ap}
-use mathlib.Core.Bool.{Bool, true, false, _&&_, _||_}
+use mathlib.Core.Bool.{Bool, true, false, _&&_}
 use mathlib.Core.List.{List, [], _∷_, _++_, append-assoc, append-nil}
 use native.Mathlib.Omega.{arith}
-use borrow.Author.Tests.{ltb-true, lt-ltb, le-ltb, eq-eqb, ne-eqb}
+use borrow.Author.Tests.{eqb-true, lt-ltb, le-ltb, eq-eqb, ne-eqb}
 use lib.Dec.{eqb, leb, ltb}
 use lib.ListN.{length, take, drop, length-drop}
 use lib.Seq.{drop-drop}
 use Rattle.lex.specs.Byte.{pick}
-use Rattle.utf8.specs.Utf8.{byteAt, Lead, valid, invalid, leadOf, codeOfLead, usedOfLead, encode, encodeAll}
+use Rattle.utf8.specs.Utf8.{byteAt, valid, leadOf, codeOfLead, usedOfLead, encodeAll}
 use Rattle.utf8.specs.Laws.{used-none, used-some}
+use Rattle.pages.specs.Pages.{pageA, pageOf, codeOf}
 use Rattle.strings.specs.Text
 use Rattle.strings.specs.declared.Char.{Char}
 use Rattle.strings.specs.Code.{View, viewOf, oneView, Moved, Ran, Turned}
@@ -24,7 +25,7 @@ and-false : (a b t : Bool) → a && b ≡ false → a && (b && t) ≡ false
 and-false true b t h = rw h refl
 and-false false b t h = refl
 
-module _ (s : List ℕ) (x y z : ℕ) (ex : x ≡ byteAt s 1) (ey : y ≡ byteAt s 2) (ez : z ≡ byteAt s 3) where
+module _ (g : ℕ) (s : List ℕ) (x y z : ℕ) (ex : x ≡ byteAt s 1) (ey : y ≡ byteAt s 2) (ez : z ≡ byteAt s 3) where
   -- the byte after the backslash, as the code tests it
   first : (a : ℕ) (t : Bool) → eqb x a ≡ t → Text.is s 1 a ≡ t
   first a t h = rw (sym ex) h
@@ -33,93 +34,86 @@ module _ (s : List ℕ) (x y z : ℕ) (ex : x ≡ byteAt s 1) (ey : y ≡ byteAt
   slashed : (a : ℕ) (t : Bool) → eqb x a && eqb y 92 ≡ t → Text.is s 1 a && Text.is s 2 92 ≡ t
   slashed a t h = rw (sym ex, sym ey) h
 
-  -- `P`, any byte and a backslash, as the code tests it
-  paged : (t : Bool) → eqb x 80 && eqb z 92 ≡ t → Text.is s 1 80 && Text.is s 3 92 ≡ t
-  paged t h = rw (sym ex, sym ez) h
-
   -- `S`, a backslash and a byte, as the code tests it
   shifted : (t : Bool) → eqb x 83 && (eqb y 92 && leb 4 (length s)) ≡ t → Text.is s 1 83 && (Text.is s 2 92 && leb 4 (length s)) ≡ t
   shifted t h = rw (sym ex, sym ey) h
 
+  -- "`\S\c` code c+128", on the page
+  pub is-shift : (c : ℕ) → c ≡ codeOf g (z + 128) → eqb x 83 && (eqb y 92 && leb 4 (length s)) ≡ true → oneView c 4 ≡ viewOf (Text.directiveOf g s)
+  unfolding Text.directiveOf
+  is-shift c e h =
+      let (p, q) = both (Text.is s 1 83) (Text.is s 2 92 && leb 4 (length s)) (shifted true h) in
+      let b : byteAt s 1 ≡ 83 = eqb-true (byteAt s 1) 83 p in
+      rw (b, q, e, ez) refl
+
   -- "`\\` a backslash"
-  pub is-backslash : eqb x 92 ≡ true → oneView 92 2 ≡ viewOf (Text.directiveOf s)
+  pub is-backslash : eqb x 92 ≡ true → oneView 92 2 ≡ viewOf (Text.directiveOf g s)
   unfolding Text.directiveOf
   is-backslash h = rw (first 92 true h) refl
 
   module _ (n1 : eqb x 92 ≡ false) where
     -- "`\N\` LF"
-    pub is-newline : eqb x 78 && eqb y 92 ≡ true → oneView 10 3 ≡ viewOf (Text.directiveOf s)
+    pub is-newline : eqb x 78 && eqb y 92 ≡ true → oneView 10 3 ≡ viewOf (Text.directiveOf g s)
     unfolding Text.directiveOf
     is-newline h = rw (first 92 false n1, slashed 78 true h) refl
 
     module _ (n2 : eqb x 78 && eqb y 92 ≡ false) where
       -- "`\T\` tab"
-      pub is-tab : eqb x 84 && eqb y 92 ≡ true → oneView 9 3 ≡ viewOf (Text.directiveOf s)
+      pub is-tab : eqb x 84 && eqb y 92 ≡ true → oneView 9 3 ≡ viewOf (Text.directiveOf g s)
       unfolding Text.directiveOf
       is-tab h = rw (first 92 false n1, slashed 78 false n2, slashed 84 true h) refl
 
       module _ (n3 : eqb x 84 && eqb y 92 ≡ false) where
-        -- "`\P?\` nothing"
-        pub is-page : eqb x 80 && eqb z 92 ≡ true → oneView 1114112 4 ≡ viewOf (Text.directiveOf s)
-        unfolding Text.directiveOf encodeAll encode
-        is-page h = rw (first 92 false n1, slashed 78 false n2, slashed 84 false n3, paged true h) refl
+        module _ (n4 : Text.is s 1 80 && Text.is s 3 92 ≡ false) (n5 : eqb x 83 && (eqb y 92 && leb 4 (length s)) ≡ false) where
+          module _ (v : ℕ) (ev : v ≡ pick (Text.twoAt s 3) (Text.twoOf s 3) 256) (h : eqb x 88 && eqb y 92 ≡ true) where
+            -- `X` and a backslash, as the code tests them
+            octet : (Text.is s 1 88 ≡ true) × (Text.is s 2 92 ≡ true)
+            octet = both (Text.is s 1 88) (Text.is s 2 92) (slashed 88 true h)
 
-        module _ (n4 : eqb x 80 && eqb z 92 ≡ false) where
-          -- "`\S\c` code c+128"
-          pub is-shift : eqb x 83 && (eqb y 92 && leb 4 (length s)) ≡ true → oneView (z + 128) 4 ≡ viewOf (Text.directiveOf s)
-          unfolding Text.directiveOf
-          is-shift h = rw (first 92 false n1, slashed 78 false n2, slashed 84 false n3, paged false n4, shifted true h, ez) refl
-
-          module _ (n5 : eqb x 83 && (eqb y 92 && leb 4 (length s)) ≡ false) where
-            module _ (v : ℕ) (ev : v ≡ pick (Text.twoAt s 3) (Text.twoOf s 3) 256) (h : eqb x 88 && eqb y 92 ≡ true) where
-              -- `X` and a backslash, as the code tests them
-              octet : (Text.is s 1 88 ≡ true) × (Text.is s 2 92 ≡ true)
-              octet = both (Text.is s 1 88) (Text.is s 2 92) (slashed 88 true h)
-
-              -- "`\X\HH` one octet"
-              pub is-octet : v < 256 → oneView v 5 ≡ viewOf (Text.directiveOf s)
-              unfolding Text.directiveOf
-              is-octet k =
-                  let f = found (Text.twoAt s 3) (Text.twoOf s 3) 256 v ev k in
-                  rw (first 92 false n1, slashed 78 false n2, slashed 84 false n3, paged false n4, shifted false n5, octet .0, octet .1, f .0, f .1) refl
-
-              -- no two hex digits
-              pub no-octet : 256 ≤ v → viewOf (Text.longOf s) ≡ viewOf (Text.directiveOf s)
-              unfolding Text.directiveOf
-              no-octet k = rw (first 92 false n1, slashed 78 false n2, slashed 84 false n3, paged false n4, shifted false n5, octet .0, octet .1, missed (Text.twoAt s 3) (Text.twoOf s 3) 256 v (two-below s 3) ev k) refl
-
-            -- none of them
-            pub is-long : eqb x 88 && eqb y 92 ≡ false → viewOf (Text.longOf s) ≡ viewOf (Text.directiveOf s)
+            -- "`\X\HH` one octet"
+            pub is-octet : v < 256 → oneView v 5 ≡ viewOf (Text.directiveOf g s)
             unfolding Text.directiveOf
-            is-long h = rw (first 92 false n1, slashed 78 false n2, slashed 84 false n3, paged false n4, shifted false n5, and-false (Text.is s 1 88) (Text.is s 2 92) (Text.twoAt s 3) (slashed 88 false h)) refl
+            is-octet k =
+                let f = found (Text.twoAt s 3) (Text.twoOf s 3) 256 v ev k in
+                rw (first 92 false n1, slashed 78 false n2, slashed 84 false n3, n4, shifted false n5, octet .0, octet .1, f .0, f .1) refl
 
-module _ (s : List ℕ) (n0 : eqb (byteAt s 0) 92 ≡ false) (b d : ℕ) (eb : b ≡ byteAt s 0) (ed : d ≡ byteAt s 1) where
+            -- no two hex digits
+            pub no-octet : 256 ≤ v → viewOf (Text.longOf s) ≡ viewOf (Text.directiveOf g s)
+            unfolding Text.directiveOf
+            no-octet k = rw (first 92 false n1, slashed 78 false n2, slashed 84 false n3, n4, shifted false n5, octet .0, octet .1, missed (Text.twoAt s 3) (Text.twoOf s 3) 256 v (two-below s 3) ev k) refl
+
+          -- none of them
+          pub is-long : eqb x 88 && eqb y 92 ≡ false → viewOf (Text.longOf s) ≡ viewOf (Text.directiveOf g s)
+          unfolding Text.directiveOf
+          is-long h = rw (first 92 false n1, slashed 78 false n2, slashed 84 false n3, n4, shifted false n5, and-false (Text.is s 1 88) (Text.is s 2 92) (Text.twoAt s 3) (slashed 88 false h)) refl
+
+module _ (g : ℕ) (s : List ℕ) (n0 : eqb (byteAt s 0) 92 ≡ false) (b d : ℕ) (eb : b ≡ byteAt s 0) (ed : d ≡ byteAt s 1) where
   -- two quotes, as the code tests it
   twice : (t : Bool) → eqb b 39 && eqb d 39 ≡ t → Text.is s 0 39 && Text.is s 1 39 ≡ t
   twice t h = rw (sym eb, sym ed) h
 
   -- "`''` gives a quote"
-  pub is-quote : eqb b 39 && eqb d 39 ≡ true → oneView 39 2 ≡ viewOf (Text.pieceOf s)
+  pub is-quote : eqb b 39 && eqb d 39 ≡ true → oneView 39 2 ≡ viewOf (Text.pieceOf g s)
   unfolding Text.pieceOf
   is-quote h = rw (n0, twice true h) refl
 
   module _ (n1 : eqb b 39 && eqb d 39 ≡ false) where
     -- a byte below 80 is itself
-    pub is-ascii : b < 128 → oneView b 1 ≡ viewOf (Text.pieceOf s)
+    pub is-ascii : b < 128 → oneView b 1 ≡ viewOf (Text.pieceOf g s)
     unfolding Text.pieceOf
     is-ascii h =
         let u : ltb (byteAt s 0) 128 ≡ true = rw (sym eb) (lt-ltb b 128 h) in
         rw (n0, twice false n1, u, eb) refl
 
     -- "else Latin-1"
-    pub is-latin : 128 ≤ b → 0 ≡ usedOfLead (leadOf s) → oneView b 1 ≡ viewOf (Text.pieceOf s)
+    pub is-latin : 128 ≤ b → 0 ≡ usedOfLead (leadOf s) → oneView b 1 ≡ viewOf (Text.pieceOf g s)
     unfolding Text.pieceOf
     is-latin h k =
         let u : ltb (byteAt s 0) 128 ≡ false = rw (sym eb) (le-ltb b 128 h) in
         rw (n0, twice false n1, u, used-none s k, eb) refl
 
     -- "a valid UTF-8 sequence"
-    pub is-sequence : (c n : ℕ) → 128 ≤ b → c ≡ codeOfLead (leadOf s) → n ≡ usedOfLead (leadOf s) → (n ≡ 0 → ⊥) → oneView c n ≡ viewOf (Text.pieceOf s)
+    pub is-sequence : (c n : ℕ) → 128 ≤ b → c ≡ codeOfLead (leadOf s) → n ≡ usedOfLead (leadOf s) → (n ≡ 0 → ⊥) → oneView c n ≡ viewOf (Text.pieceOf g s)
     unfolding Text.pieceOf
     is-sequence c n h e k p =
         let u : ltb (byteAt s 0) 128 ≡ false = rw (sym eb) (le-ltb b 128 h) in
@@ -136,12 +130,12 @@ pub moved-one : (p : Text.Piece) (a : ℕ) (o : List ℕ) (e k c : ℕ) (r : Lis
 moved-one p a o e k c r h l = record { put = rw (sym (ap (λ (v : View). v .written) h)) l; read = ap (λ (v : View). v .used) h }
 
 -- what `short` tells where it took bytes, and where it took none
-pub short-some : (s : List ℕ) (c : Char) → pick (eqb (c .used) 0) (viewOf (Text.longOf s)) (oneView (c .code) (c .used)) ≡ viewOf (Text.directiveOf s) → (c .used ≡ 0 → ⊥) → oneView (c .code) (c .used) ≡ viewOf (Text.directiveOf s)
-short-some s c h n = sym (rw (ne-eqb (c .used) 0 n) refl) ∙ h
+pub short-some : (g : ℕ) (s : List ℕ) (c : Char) → pick (eqb (c .used) 0) (viewOf (Text.longOf s)) (oneView (c .code) (c .used)) ≡ viewOf (Text.directiveOf g s) → (c .used ≡ 0 → ⊥) → oneView (c .code) (c .used) ≡ viewOf (Text.directiveOf g s)
+short-some g s c h n = sym (rw (ne-eqb (c .used) 0 n) refl) ∙ h
 
 -- where it took none a directive with groups, or an unknown one, stands
-pub short-none : (s : List ℕ) (c : Char) → pick (eqb (c .used) 0) (viewOf (Text.longOf s)) (oneView (c .code) (c .used)) ≡ viewOf (Text.directiveOf s) → c .used ≡ 0 → viewOf (Text.longOf s) ≡ viewOf (Text.directiveOf s)
-short-none s c h n = sym (rw n refl) ∙ h
+pub short-none : (g : ℕ) (s : List ℕ) (c : Char) → pick (eqb (c .used) 0) (viewOf (Text.longOf s)) (oneView (c .code) (c .used)) ≡ viewOf (Text.directiveOf g s) → c .used ≡ 0 → viewOf (Text.longOf s) ≡ viewOf (Text.directiveOf g s)
+short-none g s c h n = sym (rw n refl) ∙ h
 
 module _ (s : List ℕ) (x y z : ℕ) (ex : x ≡ byteAt s 1) (ey : y ≡ byteAt s 2) (ez : z ≡ byteAt s 3) where
   -- `X`, a digit and a backslash, as the code tests it
@@ -166,62 +160,107 @@ module _ (s : List ℕ) (x y z : ℕ) (ex : x ≡ byteAt s 1) (ey : y ≡ byteAt
   pub long-none : eqb x 88 && (eqb y 50 && eqb z 92) ≡ false → eqb x 88 && (eqb y 52 && eqb z 92) ≡ false → Text.gives (92 ∷ []) 1 ≡ Text.longOf s
   long-none n h = rw (marked 50 false n, marked 52 false h) refl
 
+-- `P`, a byte and a backslash, as the code tests them
+module _ (g : ℕ) (s : List ℕ) (x y z : ℕ) (ex : x ≡ byteAt s 1) (ey : y ≡ byteAt s 2) (ez : z ≡ byteAt s 3) where
+  -- no page is named
+  pub unpaged : eqb x 80 && eqb z 92 ≡ false → Text.is s 1 80 && Text.is s 3 92 ≡ false
+  unpaged h = rw (sym ex, sym ez) h
+
+  -- so it stays
+  pub page-stays : eqb x 80 && eqb z 92 ≡ false → g ≡ Text.pageNamed g s
+  page-stays h = rw (unpaged h) refl
+
+  module _ (h : eqb x 80 && eqb z 92 ≡ true) where
+    -- one is
+    named : Text.is s 1 80 && Text.is s 3 92 ≡ true
+    named = rw (sym ex, sym ez) h
+
+    -- and it is the one that the byte selects
+    pub page-turns : (q : ℕ) → q ≡ pageOf y → q ≡ Text.pageNamed g s
+    page-turns q e = e ∙ rw (named, sym ey) refl
+
+    -- "`\P?\` nothing"
+    pub page-piece : Text.directiveOf g s ≡ Text.gives [] 4
+    unfolding Text.directiveOf
+    page-piece =
+        let (p, q) = both (Text.is s 1 80) (Text.is s 3 92) named in
+        let b : byteAt s 1 ≡ 80 = eqb-true (byteAt s 1) 80 p in
+        rw (b, q) refl
+
+    -- no byte is put
+    pub page-moves : (a : ℕ) (o : List ℕ) → a ≤ most → Moved (Text.directiveOf g s) a o a 4 o
+    page-moves a o m = rw page-piece (record { put = laid-nothing a o m; read = refl })
+
 -- a backslash opens a directive
-pub piece-directive : (s : List ℕ) (b : ℕ) → b ≡ byteAt s 0 → b ≡ 92 → Text.directiveOf s ≡ Text.pieceOf s
+pub piece-directive : (g : ℕ) (s : List ℕ) (b : ℕ) → b ≡ byteAt s 0 → b ≡ 92 → Text.directiveOf g s ≡ Text.pieceOf g s
 unfolding Text.pieceOf
-piece-directive s b e h = rw (eq-eqb (byteAt s 0) 92 (sym e ∙ h)) refl
+piece-directive g s b e h = rw (eq-eqb (byteAt s 0) 92 (sym e ∙ h)) refl
 
 -- no backslash
 pub no-directive : (s : List ℕ) (b : ℕ) → b ≡ byteAt s 0 → (b ≡ 92 → ⊥) → eqb (byteAt s 0) 92 ≡ false
 no-directive s b e h = ne-eqb (byteAt s 0) 92 (λ k. h (e ∙ k))
 
--- the text is read up to place i, and its characters put
-pub record Running (s : List ℕ) (a₀ : ℕ) (o₀ : List ℕ) (i a : ℕ) (o : List ℕ) : Type 0 where
+-- no backslash, no page
+pub no-page : (g : ℕ) (s : List ℕ) (b : ℕ) → b ≡ byteAt s 0 → (b ≡ 92 → ⊥) → g ≡ Text.pageAfter g s
+unfolding Text.pageAfter
+no-page g s b e h = rw (no-directive s b e h) refl
+
+-- after a backslash it is the page that is named there
+pub page-directive : (g : ℕ) (s : List ℕ) (b : ℕ) → b ≡ byteAt s 0 → b ≡ 92 → Text.pageNamed g s ≡ Text.pageAfter g s
+unfolding Text.pageAfter
+page-directive g s b e h = rw (eq-eqb (byteAt s 0) 92 (sym e ∙ h)) refl
+
+-- the text is read up to place i, where page g is in force, and its characters put
+pub record Running (s : List ℕ) (a₀ : ℕ) (o₀ : List ℕ) (i g a : ℕ) (o : List ℕ) : Type 0 where
   pub done : List ℕ
   pub within : i ≤ length s
-  pub ahead : Text.textOf s ≡ done ++ Text.textOf (drop i s)
+  pub ahead : Text.textOf s ≡ done ++ Text.textOn g (drop i s)
   pub put : Laid a₀ o₀ (encodeAll done) a o
   pub kept : length o ≡ length o₀
 
 -- at the start
-pub running-starts : (s : List ℕ) (a : ℕ) (o : List ℕ) → a ≤ most → Running s a o 0 a o
+pub running-starts : (s : List ℕ) (a : ℕ) (o : List ℕ) → a ≤ most → Running s a o 0 pageA a o
+unfolding Text.textOf
 running-starts s a o m = record { done = []; within = omega arith; ahead = refl; put = laid-nothing a o m; kept = refl }
 
 -- a piece and the plain bytes after it
-pub turned : (s : List ℕ) (a : ℕ) (o : List ℕ) (e k : ℕ) (p t : List ℕ) (n f : ℕ) (q : List ℕ) → length o ≤ most → 0 < length s → t ≡ drop k s → Moved (Text.pieceOf s) a o e k p → Ran t e p f n q → Turned s a o f (k + n) q
-turned s a o e k p t n f q m h w v y =
-    let z = piece-fits s h in
-    let x : Text.textOf s ≡ Text.pieceOf s .chars ++ Text.textOf t = text-goes s k h (v .read) (omega (arith, v .read)) ∙ ap (λ (u : List ℕ). Text.pieceOf s .chars ++ Text.textOf u) (sym w) in
+pub turned : (g : ℕ) (s : List ℕ) (a : ℕ) (o : List ℕ) (e k : ℕ) (p t : List ℕ) (n f : ℕ) (q : List ℕ) → length o ≤ most → 0 < length s → t ≡ drop k s → Moved (Text.pieceOf g s) a o e k p → Ran t e p f n q → Turned g s a o f (k + n) q
+turned g s a o e k p t n f q m h w v y =
+    let z = piece-fits g s h in
+    let c = Text.pieceOf g s .chars in
+    let j = Text.pageAfter g s in
+    let x : Text.textOn g s ≡ c ++ Text.textOn j t = text-goes g s k h (v .read) (omega (arith, v .read)) ∙ ap (λ (u : List ℕ). c ++ Text.textOn j u) (sym w) in
     let d : drop n t ≡ drop (k + n) s = ap (drop n) w ∙ drop-drop n k s in
     record {
-      chars = Text.pieceOf s .chars ++ take n t;
-      put = laid-chars a o (Text.pieceOf s .chars) e p (take n t) f q m (v .put) (rw (encode-plain (take n t) (y .plainly)) (y .put));
-      ahead = x ∙ ap (λ (u : List ℕ). Text.pieceOf s .chars ++ u) (text-plain n t (y .within) (y .plainly)) ∙ sym (append-assoc (Text.pieceOf s .chars) (take n t) (Text.textOf (drop n t))) ∙ ap (λ (u : List ℕ). Text.pieceOf s .chars ++ take n t ++ Text.textOf u) d;
+      chars = c ++ take n t;
+      put = laid-chars a o c e p (take n t) f q m (v .put) (rw (encode-plain (take n t) (y .plainly)) (y .put));
+      ahead = x ∙ ap (λ (u : List ℕ). c ++ u) (text-plain j n t (y .within) (y .plainly)) ∙ sym (append-assoc c (take n t) (Text.textOn j (drop n t))) ∙ ap (λ (u : List ℕ). c ++ take n t ++ Text.textOn j u) d;
       some = omega (arith, v .read);
       within = omega (arith, v .read, length-drop k s, ap length w, y .within);
     }
 
 -- pieces are read
-pub running-goes : (s : List ℕ) (a₀ : ℕ) (o₀ : List ℕ) (i a : ℕ) (o t : List ℕ) (e k : ℕ) (p : List ℕ) → length o₀ ≤ most → t ≡ drop i s → Running s a₀ o₀ i a o → Turned t a o e k p → length p ≡ length o → Running s a₀ o₀ (i + k) e p
-running-goes s a₀ o₀ i a o t e k p m q r v j =
+pub running-goes : (s : List ℕ) (a₀ : ℕ) (o₀ : List ℕ) (i g a : ℕ) (o t : List ℕ) (e k h : ℕ) (p : List ℕ) → length o₀ ≤ most → t ≡ drop i s → Running s a₀ o₀ i g a o → Turned g t a o e k p → h ≡ Text.pageAfter g t → length p ≡ length o → Running s a₀ o₀ (i + k) h e p
+running-goes s a₀ o₀ i g a o t e k h p m q r v l j =
     let d : drop k t ≡ drop (i + k) s = ap (drop k) q ∙ drop-drop k i s in
+    let x : Text.textOn g t ≡ v .chars ++ Text.textOn h (drop k t) = v .ahead ∙ ap (λ (z : ℕ). v .chars ++ Text.textOn z (drop k t)) (sym l) in
     record {
       done = r .done ++ v .chars;
       within = omega (arith, length-drop i s, ap length q, v .within, v .some);
-      ahead = r .ahead ∙ ap (λ (z : List ℕ). r .done ++ Text.textOf z) (sym q) ∙ ap (λ (z : List ℕ). r .done ++ z) (v .ahead) ∙ sym (append-assoc (r .done) (v .chars) (Text.textOf (drop k t))) ∙ ap (λ (z : List ℕ). r .done ++ v .chars ++ Text.textOf z) d;
+      ahead = r .ahead ∙ ap (λ (z : List ℕ). r .done ++ Text.textOn g z) (sym q) ∙ ap (λ (z : List ℕ). r .done ++ z) x ∙ sym (append-assoc (r .done) (v .chars) (Text.textOn h (drop k t))) ∙ ap (λ (z : List ℕ). r .done ++ v .chars ++ Text.textOn h z) d;
       put = laid-chars a₀ o₀ (r .done) a o (v .chars) e p m (r .put) (v .put);
       kept = j ∙ r .kept;
     }
 
 -- the bytes of pieces are there
-pub turned-fits : (s : List ℕ) (i a : ℕ) (o t : List ℕ) (e k : ℕ) (p : List ℕ) → t ≡ drop i s → Turned t a o e k p → (0 < k) × (i + k ≤ length s)
-turned-fits s i a o t e k p q v = (v .some, omega (arith, length-drop i s, ap length q, v .within, v .some))
+pub turned-fits : (g : ℕ) (s : List ℕ) (i a : ℕ) (o t : List ℕ) (e k : ℕ) (p : List ℕ) → t ≡ drop i s → Turned g t a o e k p → (0 < k) × (i + k ≤ length s)
+turned-fits g s i a o t e k p q v = (v .some, omega (arith, length-drop i s, ap length q, v .within, v .some))
 
 -- no byte is left
-pub running-ends : (s : List ℕ) (a₀ : ℕ) (o₀ : List ℕ) (i a : ℕ) (o : List ℕ) → length s ≤ i → Running s a₀ o₀ i a o → Laid a₀ o₀ (Text.bytesOf s) a o
+pub running-ends : (s : List ℕ) (a₀ : ℕ) (o₀ : List ℕ) (i g a : ℕ) (o : List ℕ) → length s ≤ i → Running s a₀ o₀ i g a o → Laid a₀ o₀ (Text.bytesOf s) a o
 unfolding Text.bytesOf
-running-ends s a₀ o₀ i a o h r =
-    let e : Text.textOf s ≡ r .done = r .ahead ∙ ap (λ (z : List ℕ). r .done ++ z) (text-ends s i h) ∙ append-nil (r .done) in
+running-ends s a₀ o₀ i g a o h r =
+    let e : Text.textOf s ≡ r .done = r .ahead ∙ ap (λ (z : List ℕ). r .done ++ z) (text-ends g s i h) ∙ append-nil (r .done) in
     rw e (r .put)
 
 -- plain bytes, and the text after them

@@ -1,4 +1,5 @@
-// The text of a string: document 01's 'Strings', as the Rust's decode_string.
+// The text of a string: document 01's 'Strings', as the Rust's decode_string, with the code pages of document 02's #109 (crate pages), which
+// the Rust reads and forgets.
 //
 // A text without a quote, a backslash or a high byte is shown as it stands in the file. Any other is put into lent room, in UTF-8: at
 // once where the room has twice the string's bytes, which no text exceeds (specs/Ample.antt), and else a first run counts its bytes and a
@@ -8,14 +9,14 @@
 // length.
 ghost use mathlib.Core.Path.{_≡_};
 ghost use mathlib.Core.List.{[], _∷_};
-ghost use mathlib.Core.Bool.{true, false};
-ghost use Prim.Native.Nat.{_+_, _*_, _-_, _≤_, _<_, min};
+ghost use mathlib.Core.Bool.{true, false, _&&_};
+ghost use Prim.Native.Nat.{ℕ, _+_, _*_, _-_, _≤_, _<_, min};
 ghost use lib.Dec.{eqb};
 ghost use lib.ListN.{length, take, drop};
 ghost use lib.Seq.{paste};
 ghost use Rattle.lex.specs.Byte.{pick};
 ghost use Rattle.utf8.specs.Utf8.{byteAt, encodeAll};
-ghost use Rattle.strings.specs.Text.{hexDigit, hexValue, twoAt, twoOf, fourAt, fourOf, groupTwo, groupFour, groupOf, closing, plain, shown, joined, longOf, directiveOf, pieceOf, extended, groupsFrom, bytesOf};
+ghost use Rattle.strings.specs.Text.{hexDigit, hexValue, twoAt, twoOf, fourAt, fourOf, groupTwo, groupFour, groupOf, closing, plain, shown, joined, is, longOf, directiveOf, pieceOf, pageAfter, pageNamed, extended, groupsFrom, bytesOf};
 ghost use Rattle.strings.specs.Code.{toldGroup, oneView, viewOf, Moved, Passed, Ran, Turned, decodedOf, roomAfter, shownOf, toldText, answerOf};
 ghost use Rattle.strings.specs.Put.{most, Laid};
 
@@ -274,16 +275,21 @@ fn lay(s: &[u8], n: usize, out: &mut [u8], at: usize) -> usize
     end
 }
 
-// A number that is no character: it has no encoding.
-const NOTHING: u32 = 1114112;
-
-// What follows a backslash, but for the directives with groups: one character or none; it took no byte where it is no such directive.
-fn short(s: &[u8]) -> Char
-    ensures { λ r. ⌜ pick (eqb (r .used) 0) (viewOf (longOf (now (s .entry)))) (oneView (r .code) (r .used)) ≡ viewOf (directiveOf (now (s .entry))) ⌝ }
+// What follows a backslash while a page is in force, but for a `\P?\` and the directives with groups: one character; it took no byte where it
+// is no such directive. The letter of a page is asked for first, as it comes most often.
+fn short(s: &[u8], page: usize) -> Char
+    requires { ⌜ is (now s) 1 80 && is (now s) 3 92 ≡ false ⌝ }
+    ensures { λ r. ⌜ pick (eqb (r .used) 0) (viewOf (longOf (now (s .entry)))) (oneView (r .code) (r .used)) ≡ viewOf (directiveOf page (now (s .entry))) ⌝ }
 {
     let x = byte_at(s, 1);
     let y = byte_at(s, 2);
     let z = byte_at(s, 3);
+    if (x == 83) & ((y == 92) & (4 <= s.len())) {
+        return Char {
+            code: pages::code_on(page, z + 128),
+            used: 4,
+        };
+    }
     if x == 92 {
         return Char { code: 92, used: 2 };
     }
@@ -292,18 +298,6 @@ fn short(s: &[u8]) -> Char
     }
     if (x == 84) & (y == 92) {
         return Char { code: 9, used: 3 };
-    }
-    if (x == 80) & (z == 92) {
-        return Char {
-            code: NOTHING,
-            used: 4,
-        };
-    }
-    if (x == 83) & ((y == 92) & (4 <= s.len())) {
-        return Char {
-            code: z + 128,
-            used: 4,
-        };
     }
     if (x == 88) & (y == 92) {
         let v = hex_two(s, 3);
@@ -318,7 +312,7 @@ fn short(s: &[u8]) -> Char
 // What stands at a byte that is no backslash.
 fn ordinary(s: &[u8]) -> Char
     requires { ⌜ eqb (byteAt (now s) 0) 92 ≡ false ⌝ }
-    ensures { λ r. ⌜ oneView (r .code) (r .used) ≡ viewOf (pieceOf (now (s .entry))) ⌝ }
+    ensures { λ r. ⌜ ((g : ℕ) → oneView (r .code) (r .used) ≡ viewOf (pieceOf g (now (s .entry)))) ⌝ }
 {
     let b = byte_at(s, 0);
     if (b == 39) & (byte_at(s, 1) == 39) {
@@ -384,53 +378,74 @@ fn groups(s: &[u8], width: usize, out: &mut [u8], at: usize) -> Reached
     Reached { at: n, used: i }
 }
 
+// The bytes counted so far, how many bytes of the string were read for a piece, and the page then in force.
+struct Onward {
+    at: usize,
+    used: usize,
+    page: usize,
+}
+
 // A directive, or a literal backslash. What `groups` answers is made anew, so that the other answers need not go through memory.
-fn directive(s: &[u8], out: &mut [u8], at: usize) -> Reached
-    ensures { λ r. ⌜ Moved (directiveOf (now (s .entry))) at (now (out .entry)) (r .at) (r .used) (now (out .exit)) ⌝ }
+fn directive(s: &[u8], page: usize, out: &mut [u8], at: usize) -> Onward
+    ensures { λ r. ⌜ Moved (directiveOf page (now (s .entry))) at (now (out .entry)) (r .at) (r .used) (now (out .exit)) ⌝ }
+    ensures { λ r. ⌜ r .page ≡ pageNamed page (now (s .entry)) ⌝ }
 {
-    let c = short(s);
-    let used = c.used;
-    if used != 0 {
-        return Reached {
-            at: put_char(out, at, c.code),
-            used,
-        };
-    }
     let x = byte_at(s, 1);
     let y = byte_at(s, 2);
     let z = byte_at(s, 3);
+    if (x == 80) & (z == 92) {
+        return Onward {
+            at,
+            used: 4,
+            page: pages::page_of(y),
+        };
+    }
+    let c = short(s, page);
+    let used = c.used;
+    if used != 0 {
+        return Onward {
+            at: put_char(out, at, c.code),
+            used,
+            page,
+        };
+    }
     if (x == 88) & ((y == 50) & (z == 92)) {
         let g = groups(s, 4, out, at);
-        return Reached {
+        return Onward {
             at: g.at,
             used: g.used,
+            page,
         };
     }
     if (x == 88) & ((y == 52) & (z == 92)) {
         let g = groups(s, 8, out, at);
-        return Reached {
+        return Onward {
             at: g.at,
             used: g.used,
+            page,
         };
     }
-    Reached {
+    Onward {
         at: put_char(out, at, 92),
         used: 1,
+        page,
     }
 }
 
-// The piece of the text that stands at the start.
-fn step(s: &[u8], out: &mut [u8], at: usize) -> Reached
-    ensures { λ r. ⌜ Moved (pieceOf (now (s .entry))) at (now (out .entry)) (r .at) (r .used) (now (out .exit)) ⌝ }
+// The piece of the text that stands at the start, where a page is in force.
+fn step(s: &[u8], page: usize, out: &mut [u8], at: usize) -> Onward
+    ensures { λ r. ⌜ Moved (pieceOf page (now (s .entry))) at (now (out .entry)) (r .at) (r .used) (now (out .exit)) ⌝ }
+    ensures { λ r. ⌜ r .page ≡ pageAfter page (now (s .entry)) ⌝ }
 {
     if byte_at(s, 0) == 92 {
-        return directive(s, out, at);
+        return directive(s, page, out, at);
     }
     let c = ordinary(s);
     let used = c.used;
-    Reached {
+    Onward {
         at: put_char(out, at, c.code),
         used,
+        page,
     }
 }
 
@@ -486,29 +501,33 @@ fn plain_run(s: &[u8], out: &mut [u8], at: usize) -> Reached
 }
 
 // A piece of the text and the plain bytes after it.
-fn turn(s: &[u8], out: &mut [u8], at: usize) -> Reached
+fn turn(s: &[u8], page: usize, out: &mut [u8], at: usize) -> Onward
     requires { ⌜ 0 < length (now s) ⌝ }
-    ensures { λ r. ⌜ Turned (now (s .entry)) at (now (out .entry)) (r .at) (r .used) (now (out .exit)) ⌝ }
+    ensures { λ r. ⌜ Turned page (now (s .entry)) at (now (out .entry)) (r .at) (r .used) (now (out .exit)) ⌝ }
+    ensures { λ r. ⌜ r .page ≡ pageAfter page (now (s .entry)) ⌝ }
 {
-    let r = step(s, out, at);
+    let r = step(s, page, out, at);
     let used = r.used;
     let q = plain_run(&s[used..], out, r.at);
-    Reached {
+    Onward {
         at: q.at,
         used: used + q.used,
+        page: r.page,
     }
 }
 
-// Counts the bytes of the text behind so many, and writes them where they fit.
+// Counts the bytes of the text behind so many, and writes them where they fit. It begins on page A.
 fn turns(s: &[u8], out: &mut [u8], from: usize) -> usize
     ensures { λ r. ⌜ Laid from (now (out .entry)) (bytesOf (now (s .entry))) r (now (out .exit)) ⌝ }
 {
     let mut at = from;
     let mut i = 0;
+    let mut page = 0;
     while i < s.len() {
-        let r = turn(&s[i..], out, at);
+        let r = turn(&s[i..], page, out, at);
         at = r.at;
         i += r.used;
+        page = r.page;
     }
     at
 }

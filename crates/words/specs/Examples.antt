@@ -5,7 +5,7 @@ use Rattle.error.specs.Refusal.{refusal, good, bad}
 use Rattle.record.specs.Form.{bytes}
 use Rattle.record.specs.Word.{same}
 use Rattle.utf8.specs.Utf8.{encode, encodeAll, leadOf, validFrom}
-use Rattle.strings.specs.Text.{plain, pieceOf, textFrom, textOf, bytesOf}
+use Rattle.strings.specs.Text.{plain, pieceOf, pageAfter, textFrom, textOn, textOf, bytesOf}
 use Rattle.params.specs.Reader.{span}
 use Rattle.scalars.specs.Scalars.{isUnset}
 use Rattle.words.specs.Words.{isName, nameAt, isString, inRoom, stringAt, roomAt}
@@ -42,10 +42,10 @@ one-quote = refl
 
 -- `'a'b` is a string parameter with the text `a'`
 half-quoted : stringAt (bytes "'a'b") 2 (span 0 4) ≡ good (inRoom 2)
-unfolding stringAt isUnset same isString plain bytesOf textOf textFrom pieceOf encodeAll encode
+unfolding stringAt isUnset same isString plain bytesOf textOf textOn textFrom pageAfter pieceOf encodeAll encode
 half-quoted = refl
 
 -- which is written to the room
 half-quoted-room : roomAt (bytes "'a'b") (0 ∷ 0 ∷ []) (span 0 4) ≡ bytes "a'"
-unfolding roomAt isUnset same isString plain bytesOf textOf textFrom pieceOf encodeAll encode
+unfolding roomAt isUnset same isString plain bytesOf textOf textOn textFrom pageAfter pieceOf encodeAll encode
 half-quoted-room = refl

@@ -1,9 +1,9 @@
 use borrow.Author.Needs.{needs}
 use native.Mathlib.Omega.{arith}
-use mathlib.Core.Path.{sym}
+use mathlib.Core.Path.{sym, _∙_}
 use denote.Ref.{now}
 use Rattle.strings.specs.Text.{pieceOf}
-use Rattle.strings.specs.Ways.{moved-one, piece-directive, no-directive}
+use Rattle.strings.specs.Ways.{moved-one, piece-directive, no-directive, page-directive, no-page}
 use Rattle.strings.proofs.step.Statement.{statement}
 use Rattle.strings.proofs.step.Tie as tie
 
@@ -20,7 +20,8 @@ returns : tie.Need-returns
 returns c =
     let k = c .before .before .before .before .before in
     let a = k .before .before .before .args in
-    rw (sym (piece-directive (now (a .s)) (k .byte-at .result) (k .byte-at .ensures) (omega arith))) (c .before .before .directive .ensures)
+    let d = c .before .before .directive .ensures in
+    (rw (sym (piece-directive (a .page) (now (a .s)) (k .byte-at .result) (k .byte-at .ensures) (omega arith))) (d .0), d .1 ∙ page-directive (a .page) (now (a .s)) (k .byte-at .result) (k .byte-at .ensures) (omega arith))
 
 ordinary-requires : tie.Need-ordinary-requires
 ordinary-requires c κs =
@@ -37,7 +38,8 @@ returns-2 : tie.Need-returns-2
 returns-2 c =
     let k = c .before .before .before .before in
     let a = k .before .before .before .before .before .args in
-    moved-one (pieceOf (now (a .s))) (a .at) (now (a .out)) _ _ (k .ordinary .result .code) _ (k .ordinary .ensures) (c .before .before .put-char .ensures)
+    let b = k .before .before in
+    (moved-one (pieceOf (a .page) (now (a .s))) (a .at) (now (a .out)) _ _ (k .ordinary .result .code) _ (k .ordinary .ensures (a .page)) (c .before .before .put-char .ensures), no-page (a .page) (now (a .s)) (b .byte-at .result) (b .byte-at .ensures) (omega arith))
 
 pub step-spec : {M : Type 1} → statement M
 step-spec =

@@ -12,10 +12,10 @@ step-requires : tie.Need-step-requires
 step-requires c κs = search needs
 
 sub-plain-run : tie.Need-sub-plain-run
-sub-plain-run c = let k = c .before .before in let b = k .before .before .before .before in omega (arith, k .step .ensures .read, piece-fits (now (b .args .s)) (b .pre))
+sub-plain-run c = let k = c .before .before in let b = k .before .before .before .before in omega (arith, k .step .ensures .0 .read, piece-fits (b .args .page) (now (b .args .s)) (b .pre))
 
 part-plain-run-start : tie.Need-part-plain-run-start
-part-plain-run-start c = let k = c .before .before in let b = k .before .before .before .before in omega (arith, k .step .ensures .read, piece-fits (now (b .args .s)) (b .pre))
+part-plain-run-start c = let k = c .before .before in let b = k .before .before .before .before in omega (arith, k .step .ensures .0 .read, piece-fits (b .args .page) (now (b .args .s)) (b .pre))
 
 part-plain-run-end : tie.Need-part-plain-run-end
 part-plain-run-end c = search needs
@@ -23,8 +23,8 @@ part-plain-run-end c = search needs
 plain-run-requires : tie.Need-plain-run-requires
 plain-run-requires c κs = search needs
 
-add-t10 : tie.Need-add-t10
-add-t10 c = search needs
+add-t11 : tie.Need-add-t11
+add-t11 c = search needs
 
 same-length : tie.Need-same-length
 same-length c = search needs
@@ -36,7 +36,7 @@ returns c =
     let b = k .before .before .before .before in
     let s = now (b .args .s) in
     let u = k .step .result .used in
-    turned s (b .args .at) (now (b .args .out)) (k .step .result .at) u (k .step .last .1 .0) (take (length s - u) (drop u s)) (y .plain-run .result .used) (y .plain-run .result .at) (y .plain-run .last .1 .0) (omega arith) (b .pre) (rest-is s u) (k .step .ensures) (y .plain-run .ensures)
+    (turned (b .args .page) s (b .args .at) (now (b .args .out)) (k .step .result .at) u (k .step .last .1 .1 .0) (take (length s - u) (drop u s)) (y .plain-run .result .used) (y .plain-run .result .at) (y .plain-run .last .1 .0) (omega arith) (b .pre) (rest-is s u) (k .step .ensures .0) (y .plain-run .ensures), k .step .ensures .1)
 
 pub turn-spec : {M : Type 1} → statement M
 turn-spec =
@@ -47,6 +47,6 @@ turn-spec =
     part-plain-run-start
     part-plain-run-end
     plain-run-requires
-    add-t10
+    add-t11
     same-length
     returns)

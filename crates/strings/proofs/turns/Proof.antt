@@ -9,10 +9,10 @@ use Rattle.strings.proofs.turns.Statement.{statement}
 use Rattle.strings.proofs.turns.Tie as tie
 
 abbrev Inv-loop : tie.InvT-loop
-Inv-loop s out₀ from at₀ i₀ out at i = Running s from out₀ i at out
+Inv-loop s out₀ from at₀ i₀ page₀ out at i page = Running s from out₀ i page at out
 
 abbrev μ-loop : tie.MeasureT-loop
-μ-loop s out₀ from at₀ i₀ out at i = length s - i
+μ-loop s out₀ from at₀ i₀ page₀ out at i page = length s - i
 
 loop-holds : tie.Need-loop-holds Inv-loop μ-loop
 loop-holds c = let a = c .before .before .args in running-starts (now (a .s)) (a .from) (now (a .out)) (omega arith)
@@ -36,7 +36,7 @@ add-i c =
     let a = l .before .before .before .args in
     let s = now (a .s) in
     let t = take (length s - l .loop .i) (drop (l .loop .i) s) in
-    let f = turned-fits s (l .loop .i) (l .loop .at) (l .loop .out) t _ _ _ (rest-is s (l .loop .i)) (k .turn .ensures) in
+    let f = turned-fits (l .loop .page) s (l .loop .i) (l .loop .at) (l .loop .out) t _ _ _ (rest-is s (l .loop .i)) (k .turn .ensures .0) in
     omega arith
 
 loop-less : tie.Need-loop-less Inv-loop μ-loop
@@ -46,7 +46,7 @@ loop-less c =
     let a = l .before .before .before .args in
     let s = now (a .s) in
     let t = take (length s - l .loop .i) (drop (l .loop .i) s) in
-    let f = turned-fits s (l .loop .i) (l .loop .at) (l .loop .out) t _ _ _ (rest-is s (l .loop .i)) (k .turn .ensures) in
+    let f = turned-fits (l .loop .page) s (l .loop .i) (l .loop .at) (l .loop .out) t _ _ _ (rest-is s (l .loop .i)) (k .turn .ensures .0) in
     omega arith
 
 loop-again : tie.Need-loop-again Inv-loop μ-loop
@@ -56,13 +56,13 @@ loop-again c =
     let a = l .before .before .before .args in
     let s = now (a .s) in
     let t = take (length s - l .loop .i) (drop (l .loop .i) s) in
-    running-goes s (a .from) (now (a .out)) (l .loop .i) (l .loop .at) (l .loop .out) t _ _ _ (omega arith) (rest-is s (l .loop .i)) (l .loop .inv) (k .turn .ensures) (k .turn .kept .1 .0)
+    running-goes s (a .from) (now (a .out)) (l .loop .i) (l .loop .page) (l .loop .at) (l .loop .out) t _ _ (k .turn .result .page) _ (omega arith) (rest-is s (l .loop .i)) (l .loop .inv) (k .turn .ensures .0) (k .turn .ensures .1) (k .turn .kept .1 .1 .0)
 
 same-length : tie.Need-same-length Inv-loop μ-loop
 same-length c = c .before .loop .inv .kept
 
 returns : tie.Need-returns Inv-loop μ-loop
-returns c = let l = c .before in let a = l .before .before .before .args in running-ends (now (a .s)) (a .from) (now (a .out)) (l .loop .i) (l .loop .at) (l .loop .out) (omega arith) (l .loop .inv)
+returns c = let l = c .before in let a = l .before .before .before .args in running-ends (now (a .s)) (a .from) (now (a .out)) (l .loop .i) (l .loop .page) (l .loop .at) (l .loop .out) (omega arith) (l .loop .inv)
 
 pub turns-spec : {M : Type 1} → statement M
 turns-spec =
