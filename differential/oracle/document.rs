@@ -2,8 +2,9 @@
 //!
 //! The driver prints the original's answers. This module serves two ends: it gives the answer where the original's lies outside
 //! document 01's domain (reals outside the class, `inf` and its like, byte 0B and Unicode white space at a number's ends,
-//! surrogates that do not join), and everywhere else its answer must be the original's, so that an error of the driver shows. It
-//! was written with the original at hand: a check of the driver, and no second witness for the original.
+//! surrogates that do not join) and where a string names one of the pages B to I (request #109), and everywhere else its answer
+//! must be the original's, so that an error of the driver shows. It was written with the original at hand: a check of the driver,
+//! and no second witness for the original.
 
 use crate::real::{Reading, nearest, of_class, reading};
 use crate::refusal::Refusal;
@@ -185,10 +186,12 @@ fn items(file: &[u8], body: Range<usize>) -> Vec<Range<usize>> {
     out
 }
 
-/// Reads by document 01, and notes whether anything outside its domain was met.
+/// Reads by document 01, and notes whether anything outside its domain was met, and whether a string named one of the pages B to I
+/// (`text::Met`).
 pub struct Document<'a> {
     pub file: &'a [u8],
     pub outside: &'a Cell<bool>,
+    pub paged: Option<&'a Cell<bool>>,
 }
 
 impl Document<'_> {
@@ -233,9 +236,14 @@ impl Document<'_> {
                 Ok(b"U") => Ok(Answer::Truth('U')),
                 _ => Err(at(12)),
             },
-            Reader::Str if s.len() >= 2 && s[0] == b'\'' => Ok(Answer::Text(
-                text::decode(&s[1..s.len() - 1], self.outside).into_bytes(),
-            )),
+            Reader::Str if s.len() >= 2 && s[0] == b'\'' => {
+                let met = text::Met {
+                    outside: self.outside,
+                    paged: self.paged,
+                };
+                let text = text::decode(&s[1..s.len() - 1], met);
+                Ok(Answer::Text(text.into_bytes()))
+            }
             Reader::Str => Err(at(12)),
             Reader::RefList => self.list(span, Self::reference).map(Answer::Refs),
             Reader::I64List => self.list(span, Self::integer).map(Answer::Ints),

@@ -9,7 +9,7 @@ pub enum Listed {
     Class,
     /// 12 is printed where the original reads `inf`, `nan`, or trims byte 0B or Unicode white space.
     Type,
-    /// Another text or number: a high surrogate without its low one, an exponent of 65536 or more.
+    /// Another text or number: a high surrogate without its low one (in a string with pages too), an exponent of 65536 or more.
     Value,
     /// The place of 12 that `next_bool` gives.
     Place,
@@ -19,12 +19,14 @@ pub enum Listed {
     Keyword,
     /// `Other`: every keyword but ten.
     Other,
+    /// Another text: `\S\` on one of the pages B to I, which the original forgets.
+    Page,
 }
 
-const NAMES: [&str; 7] = [
-    "class", "type", "value", "place", "units", "keyword", "other",
+const NAMES: [&str; 8] = [
+    "class", "type", "value", "place", "units", "keyword", "other", "pages",
 ];
-static COUNTS: [AtomicU64; 7] = [const { AtomicU64::new(0) }; 7];
+static COUNTS: [AtomicU64; 8] = [const { AtomicU64::new(0) }; 8];
 
 pub fn note(what: Listed) {
     COUNTS[what as usize].fetch_add(1, Relaxed);

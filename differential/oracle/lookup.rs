@@ -94,7 +94,7 @@ fn text(file: &[u8], scan: &Scan, skipped: usize) -> Result<(Vec<u8>, bool), &'s
 }
 
 /// Prints `name` and `system`. They are read by the original's readers over the given bytes; where the `StepFile` has these
-/// bytes too and the text lies inside document 01's domain, its own functions must say the same.
+/// bytes too and the original decides the text, its own functions must say the same.
 pub fn print_texts(file: &[u8], scan: &Scan, step: &Step, out: &mut String) {
     for (name, skipped) in [("name", 0), ("system", 5)] {
         match text(file, scan, skipped) {

@@ -25,6 +25,7 @@ mod document;
 mod input;
 mod listed;
 mod lookup;
+mod pages;
 mod parts;
 mod reader;
 mod real;

@@ -3,7 +3,7 @@
 //! Where a reader stands afterwards is the original's `Args::offset()` in every case: `param_span` leaves it past the comma, or
 //! where the trivia end (10), or at the parameter's start (11). The answer is the original's too. Beside it `document.rs`
 //! reads the same parameter. Where that met nothing outside document 01's domain the two must be equal; where it did, its answer
-//! is printed.
+//! is printed. So is its answer to a string that names one of the pages B to I; with the page forgotten it must be the original's.
 
 use crate::document::{Answer, Document, Reader, bits, past_trivia};
 use crate::listed::{self, Listed};
@@ -108,7 +108,7 @@ pub fn tell(reader: Reader, file: &[u8], place: usize, end: usize) -> Told {
     tell_and_note(reader, file, place, end, &outside)
 }
 
-/// The same, and notes whether anything outside document 01's domain was met.
+/// The same, and notes whether anything was met that the original does not decide.
 pub fn tell_and_note(
     reader: Reader,
     file: &[u8],
@@ -116,12 +116,16 @@ pub fn tell_and_note(
     end: usize,
     noted: &Cell<bool>,
 ) -> Told {
-    let outside = Cell::new(false);
-    let (own_after, own) = Document {
-        file,
-        outside: &outside,
-    }
-    .read(reader, place, end);
+    let (outside, paged) = (Cell::new(false), Cell::new(false));
+    let read = |paged| {
+        let document = Document {
+            file,
+            outside: &outside,
+            paged,
+        };
+        document.read(reader, place, end)
+    };
+    let (own_after, own) = read(Some(&paged));
     let mut args = Args::new(file, place as u32..end as u32);
     let Ok(original) = catch_unwind(AssertUnwindSafe(|| call(reader, &mut args))) else {
         return Told::Panicked;
@@ -153,8 +157,20 @@ pub fn tell_and_note(
         }
         return Told::Said(after, own);
     }
+    let parted = |own| format!("says {original:?}, and {own:?} by document 01");
+    if paged.get() {
+        noted.set(true);
+        let (_, forgotten) = read(None);
+        if original != forgotten {
+            return Told::Parted(parted(&forgotten));
+        }
+        if original != own {
+            listed::note(Listed::Page);
+        }
+        return Told::Said(after, own);
+    }
     if original != own {
-        return Told::Parted(format!("says {original:?}, and {own:?} by document 01"));
+        return Told::Parted(parted(&own));
     }
     Told::Said(after, original)
 }
