@@ -8,31 +8,55 @@
 //!
 //! Outside the domain of equality, where a `\X2\` high surrogate is followed by four hex digits that are no low surrogate, the
 //! original wraps and document 01 has a rule of its own, so there the text is `reading`'s, a second decoder by document 01's words. It
-//! is held against the original at every line: with the original's sum for such a pair it must give the original's text. How many
-//! lines are outside goes to standard error.
+//! is held against the original at every line: with the original's sum for such a pair it must give the original's text.
+//!
+//! A string in which a directive names one of the pages B to I (request #109) the original does not decide either: it forgets the
+//! page. Such a line is answered by the word `paged` alone, and texts.sh asks pages.py for it. The rooms of such a string are
+//! `reading`'s. The original's text is still held against the reading there, with the pages forgotten.
+//!
+//! How many lines are outside, those that are `paged` aside, and how many are `paged` goes to standard error.
 use cad_step::value::decode_string;
 use std::borrow::Cow;
 use std::io::{Read, Write};
 
+// build.sh puts this file one folder below the oracle's.
+#[path = "../pages.rs"]
+mod pages;
+
 /// The program compared with has a room of so many bytes, and takes a line that is shorter.
 const ROOM: usize = 65536;
 
-/// A text by document 01's words, and whether the string is outside the domain of equality.
-struct Reading {
+/// Where the papers and the original part.
+struct Rules {
     /// The character of a `\X2\` high surrogate and the group after it.
     joined: fn(u32, u32) -> u32,
+    /// The code of `\S\c` on a page.
+    shifted: fn(usize, u8) -> u32,
+}
+
+/// Document 01: a high and a low surrogate join; a high one and another group give U+FFFD together. Request #109: the page's code.
+const BY_THE_PAPERS: Rules = Rules {
+    joined: |high, second| if LOW.contains(&second) { sum(high, second) } else { 0xFFFD },
+    shifted: pages::code,
+};
+
+const BY_THE_ORIGINAL: Rules = Rules {
+    joined: sum,
+    shifted: |_, c| u32::from(c) + 128,
+};
+
+/// A text by rules, whether the string is outside the domain of equality, and whether it names one of the pages B to I.
+struct Reading {
+    rules: Rules,
     text: String,
+    page: usize,
     outside: bool,
+    paged: bool,
 }
 
 const LOW: std::ops::Range<u32> = 0xDC00..0xE000;
 
-/// Document 01: a high and a low surrogate join; a high one and another group give U+FFFD together.
-fn by_the_paper(high: u32, second: u32) -> u32 {
-    if LOW.contains(&second) { by_the_original(high, second) } else { 0xFFFD }
-}
-
-fn by_the_original(high: u32, second: u32) -> u32 {
+fn sum(high: u32, second: u32) -> u32 {
     (0x1_0000 + ((high - 0xD800) << 10)).wrapping_add(second.wrapping_sub(0xDC00))
 }
 
@@ -44,11 +68,13 @@ fn shown(code: u32) -> char {
     char::from_u32(code).unwrap_or('\u{FFFD}')
 }
 
-fn reading(s: &[u8], joined: fn(u32, u32) -> u32) -> Reading {
+fn reading(s: &[u8], rules: Rules) -> Reading {
     let mut r = Reading {
-        joined,
+        rules,
         text: String::new(),
+        page: 0,
         outside: false,
+        paged: false,
     };
     let mut at = 0;
     while at < s.len() {
@@ -70,8 +96,12 @@ impl Reading {
             [b'\\', b'\\', ..] => self.put(0x5C, 2),
             [b'\\', b'N', b'\\', ..] => self.put(0x0A, 3),
             [b'\\', b'T', b'\\', ..] => self.put(0x09, 3),
-            [b'\\', b'P', _, b'\\', ..] => 4,
-            [b'\\', b'S', b'\\', c, ..] => self.put(u32::from(*c) + 128, 4),
+            [b'\\', b'P', name, b'\\', ..] => {
+                self.page = pages::named(*name);
+                self.paged |= self.page > 0;
+                4
+            }
+            [b'\\', b'S', b'\\', c, ..] => self.put((self.rules.shifted)(self.page, *c), 4),
             [b'\\', b'X', b'\\', a, b, ..] if hex(&[*a, *b]).is_some() => self.put(hex(&[*a, *b]).unwrap(), 5),
             [b'\\', b'X', b'2', b'\\', rest @ ..] => self.groups(rest, 4),
             [b'\\', b'X', b'4', b'\\', rest @ ..] => self.groups(rest, 8),
@@ -101,7 +131,7 @@ impl Reading {
                     return self.put(0x5C, 1);
                 };
                 self.outside |= !LOW.contains(&second);
-                at += self.put((self.joined)(code, second), 8);
+                at += self.put((self.rules.joined)(code, second), 8);
             } else {
                 at += self.put(code, width);
             }
@@ -148,19 +178,31 @@ fn put_hex(out: &mut Vec<u8>, bytes: &[u8]) {
     }
 }
 
-/// The original's text, or document 01's where the string is outside; whether it is the string itself, and whether it is outside.
-fn decoded(s: &[u8]) -> (Vec<u8>, bool, bool) {
+struct Decoded {
+    /// The original's, or the papers' where the string is outside or names one of the pages B to I.
+    text: Vec<u8>,
+    /// Whether the text is the string itself.
+    plain: bool,
+    outside: bool,
+    paged: bool,
+}
+
+fn decoded(s: &[u8]) -> Decoded {
     let original = decode_string(s);
-    let checked = reading(s, by_the_original);
+    let checked = reading(s, BY_THE_ORIGINAL);
     if checked.text != *original {
         eprintln!("texts: the original and its reading differ at {s:02X?}");
         std::process::exit(1);
     }
     let plain = matches!(original, Cow::Borrowed(_));
-    if checked.outside {
-        return (reading(s, by_the_paper).text.into_bytes(), plain, true);
+    let apart = checked.outside || checked.paged;
+    let text = if apart { reading(s, BY_THE_PAPERS).text } else { original.into_owned() };
+    Decoded {
+        text: text.into_bytes(),
+        plain,
+        outside: checked.outside,
+        paged: checked.paged,
     }
-    (original.as_bytes().to_vec(), plain, false)
 }
 
 fn main() {
@@ -172,7 +214,7 @@ fn main() {
         lines.pop();
     }
     let mut out = Vec::with_capacity(text.len() * 2);
-    let mut outside = 0;
+    let (mut outside, mut paged) = (0, 0);
     for (i, line) in lines.iter().enumerate() {
         let (s, room) = match asked(line) {
             Ok(both) => both,
@@ -181,10 +223,11 @@ fn main() {
                 continue;
             }
         };
-        let (shown, plain, apart) = decoded(&s);
-        outside += usize::from(apart);
+        let shown = decoded(&s);
+        outside += usize::from(shown.outside && !shown.paged);
+        paged += usize::from(shown.paged);
         if rooms {
-            let n = shown.len();
+            let n = shown.text.len();
             let mut sizes = vec![0, n.saturating_sub(1), n, n + 1];
             sizes.dedup();
             for size in sizes {
@@ -194,14 +237,18 @@ fn main() {
             }
             continue;
         }
-        if !plain && room.is_some_and(|n| shown.len() > n) {
+        if shown.paged {
+            out.extend_from_slice(b"paged\n");
+            continue;
+        }
+        if !shown.plain && room.is_some_and(|n| shown.text.len() > n) {
             out.extend_from_slice(b"16\n");
             continue;
         }
-        out.extend_from_slice(if plain { b"plain " } else { b"text " });
-        put_hex(&mut out, &shown);
+        out.extend_from_slice(if shown.plain { b"plain " } else { b"text " });
+        put_hex(&mut out, &shown.text);
         out.push(b'\n');
     }
     std::io::stdout().lock().write_all(&out).expect("standard output");
-    eprintln!("outside {outside}");
+    eprintln!("outside {outside} paged {paged}");
 }
