@@ -4,6 +4,8 @@
     texts.py exhaustive         all strings of 0 to 5 bytes over the bytes that matter (BYTES)
     texts.py groups             `\\X2\\` and `\\X4\\`, each followed by all strings of 0 to 5 pieces (PIECES)
     texts.py generated N SEED   strings of a grammar, half of them damaged, a third with a room (`ROOM:HEX`)
+    texts.py pages              `\\P?\\` with every byte and `\\S\\` with every byte; each page's letter and then three `\\S\\`
+    texts.py paged N SEED       as `generated`, but most of it is `\\P?\\` and `\\S\\`
     texts.py chosen             the replay's strings, without rooms
     texts.py malformed          lines that are no strings, for the replay
 
@@ -180,12 +182,15 @@ def long_string(rng):
     return b"".join(piece(rng) for _ in range(n // 2 + 1))[:16384]
 
 
-def generated(n, rng):
+def any_string(rng):
+    if rng.one_in(400):
+        return long_string(rng)
+    return b"".join(piece(rng) for _ in range(rng.below(7)))
+
+
+def generated(n, rng, string=any_string):
     for _ in range(n):
-        if rng.one_in(400):
-            s = long_string(rng)
-        else:
-            s = b"".join(piece(rng) for _ in range(rng.below(7)))
+        s = string(rng)
         if rng.one_in(2):
             s = damaged(rng, s)
         line = s.hex().encode()
@@ -195,7 +200,104 @@ def generated(n, rng):
 
 
 # ---------------------------------------------------------------------------------------------------------------------
+# Pages
+
+LETTERS = [bytes([b]) for b in b"ABCDEFGHIabcdefghi"]
+NO_LETTERS = [b"J", b"j", b"Z", b"z", b"@", b"`", b"\\", b"'", b"0", b"1", b"9", b" ", b"P", b"S", b"\x00", b"\x7F", b"\xC2",
+              b"\xE2", b"\xFF"]
+CODES = [bytes([b]) for b in range(32, 128)]
+# What names a page and looks as if it did not, or the other way round.
+NEARLY = [b"\\\\PB\\", b"\\\\\\PB\\", b"\\\\PG\\S\\D", b"\\\\\\PG\\\\S\\D", b"\\PB", b"\\P", b"\\PB/", b"\\pB\\", b"\\PBG\\", b"\\PB\\\\",
+          b"PB\\", b"PG\\\\S\\D", b"\\''PB\\", b"\\P''\\", b"\\P\\\\", b"\\P\\\\S\\D", b"\\PG\\PA\\", b"\\PG\\PB\\", b"\\X\\PB\\",
+          b"\\X\\4PB\\", b"\\N\\PC\\", b"\\S\\PB\\"]
+AFTER = [b"\\S\\\\", b"\\S\\\\PB\\", b"\\S\\\\S\\D", b"\\S\\'", b"\\S\\''", b"\\S\\'''", b"\\S\\", b"\\S", b"\\S\\\xC3\xA9",
+         b"\\S\\\xE2\x82\xAC", b"\\s\\D", b"\\\\S\\D"]
+# Before a page: groups that are bad, that are cut short or that the page's backslash ends.
+BEFORE = [b"\\X2\\", b"\\X2\\00", b"\\X2\\0041", b"\\X2\\0041Z", b"\\X2\\0041ZZZZ", b"\\X2\\D83D", b"\\X2\\D83DDE00", b"\\X2\\D83D0041",
+          b"\\X2\\0041\\X0", b"\\X2", b"\\X4\\", b"\\X4\\0001", b"\\X4\\0001F600", b"\\X4\\0001F60Z", b"\\X\\C", b"\\Q", b"\\"]
+
+
+def page(rng):
+    letter = rng.pick(LETTERS) if not rng.one_in(6) else rng.pick(NO_LETTERS) if not rng.one_in(3) else rng.pick(ODD)
+    return b"\\P" + letter + b"\\"
+
+
+def shifted(rng):
+    return b"\\S\\" + (rng.pick(CODES) if not rng.one_in(8) else rng.pick(ODD))
+
+
+def paged_piece(rng):
+    kind = rng.below(16)
+    if kind < 3:
+        return page(rng)
+    if kind < 6:
+        return shifted(rng)
+    if kind < 10:
+        return page(rng) + shifted(rng)
+    if kind == 10:
+        return plain(rng)
+    if kind == 11:
+        return rng.pick(NEARLY)
+    if kind == 12:
+        return rng.pick(AFTER)
+    if kind == 13:
+        # Without its first backslash the page may begin with the last one of what stands before.
+        return rng.pick(BEFORE) + page(rng)[rng.below(2):] + rng.pick([b"", b"", b"\\X0\\", b"Z"])
+    return piece(rng)
+
+
+def paged_string(rng):
+    if not rng.one_in(400):
+        return b"".join(paged_piece(rng) for _ in range(1 + rng.below(9)))
+    n = 1 + rng.below(1500)
+    kind = rng.below(4)
+    if kind == 0:
+        return page(rng) + shifted(rng) * n
+    if kind == 1:
+        return (page(rng) + shifted(rng)) * (n // 2 + 1)
+    if kind == 2:
+        return page(rng) + plain(rng) * (n // 4 + 1) + shifted(rng)
+    return b"".join(paged_piece(rng) for _ in range(n // 2 + 1))[:16384]
+
+
+def pages():
+    for b in ODD:
+        for c in ODD:
+            yield (b"\\P" + b + b"\\" + b"\\S\\" + c).hex().encode()
+    for letter in LETTERS:
+        for c in ODD:
+            code = b"\\S\\" + c
+            yield (b"\\P" + letter + b"\\" + code + code + b"plain text" + code).hex().encode()
+
+
+# ---------------------------------------------------------------------------------------------------------------------
 # The replay
+
+def page_forms():
+    """Each page with a code of its own, A0, FF and one that it does not define, in capitals one by one and else together; and others."""
+    own = {b"C": b"u"}  # the others' is F0
+    undefined = {b"C": b"%", b"F": b"!", b"G": b".", b"H": b"!"}
+    for letter in LETTERS:
+        name = letter.upper()
+        codes = [b"\\S\\" + c for c in [own.get(name, b"p"), b" ", b"\x7F", undefined.get(name)] if c]
+        for code in codes if letter == name else [b"".join(codes)]:
+            yield b"\\P" + letter + b"\\" + code
+    for other in [b"J", b"j", b"@", b"`", b"Z", b"7", b"'", b"\\", b"\xC7"]:
+        yield b"\\P" + other + b"\\\\S\\p"
+    yield from [
+        # one after the other, kept over other text, and without `\S\`
+        b"\\PG\\\\PE\\\\S\\p", b"\\PG\\\\PA\\\\S\\p", b"\\PG\\\\PJ\\\\S\\p", b"\\PG\\\\P\\\\\\S\\p", b"\\PG\\\\S\\p\\PE\\\\S\\p", b"\\S\\p\\PG\\\\S\\p",
+        b"\\Pg\\plain\\S\\p", b"\\PG\\\\S\\pplain''\\\\\\N\\\\X\\F0\\X2\\00F0\\X0\\\xC3\xB0\xF0\\S\\p",
+        b"\\PG\\", b"\\PG\\plain", b"\\PG\\\\X\\F0", b"\\PG\\\\X2\\00F0\\X0\\", b"\\PG\\\xF0", b"\\PE\\\xC3\xB0",
+        # codes outside A0 to FF, quotes and backslashes
+        b"\\PG\\\\S\\\x00", b"\\PG\\\\S\\\x1F", b"\\PG\\\\S\\\x80", b"\\PG\\\\S\\\xC4", b"\\PG\\\\S\\\xFF", b"\\PG\\\\S\\''", b"\\PH\\\\S\\\\",
+        b"\\PE\\\\S\\\\", b"\\PG\\\\S\\",
+        # groups that are bad, that are cut short, and that the page ends
+        b"\\PG\\\\X2\\0041ZZZZ\\X0\\\\S\\p", b"\\X2\\PG\\\\S\\p", b"\\X2\\00\\PG\\\\S\\p", b"\\X2\\0041\\PG\\\\S\\p", b"\\X2\\0041ZZPG\\\\S\\p",
+        b"\\X2\\D83D\\PG\\\\S\\p", b"\\X2\\D83D0041\\PG\\\\S\\p\\X0\\", b"\\X4\\0001F600\\PG\\\\S\\p", b"\\X4\\PG\\\\S\\p", b"\\X2\\00F0\\X0PG\\\\S\\p",
+        # backslashes before, and what is no directive
+        b"\\\\PG\\\\S\\p", b"\\\\\\PG\\\\S\\p", b"\\S\\\\PG\\\\S\\p", b"\\pG\\\\S\\p", b"\\PG\\S\\p", b"\\PGG\\\\S\\p", b"\\PG/\\S\\p", b"\\PG"]
+
 
 def chosen():
     """Written by hand as forms that are multiplied out, and a few of the generated ones. No string occurs twice."""
@@ -225,6 +327,7 @@ def chosen():
              b"\\X4\\00000041\\N\\"]
     forms += UNKNOWN
     forms += BAD
+    forms += page_forms()
     forms += [chr(c).encode() for c in EDGES + [0xE9, 0x20AC, 0xFEFF, 0x1F600, 0xCFFF, 0xD000, 0xFFFFF, 0x100000]]
     # each form alone, and among what would change it if it were read too far or not far enough
     arounds = [(b"", b""), (b"A", b"B"), (b"'", b"'"), (b"\\", b"\\"), (b"\\X2\\0041", b"0042\\X0\\"), (b"\xE2", b"\x80\x80")]
@@ -242,11 +345,13 @@ def malformed():
 
 def main():
     name = sys.argv[1] if len(sys.argv) > 1 else ""
-    whole = {"exhaustive": exhaustive, "groups": groups, "chosen": chosen, "malformed": malformed}
+    whole = {"exhaustive": exhaustive, "groups": groups, "pages": pages, "chosen": chosen, "malformed": malformed}
     if name in whole and len(sys.argv) == 2:
         lines = whole[name]()
     elif name == "generated" and len(sys.argv) == 4:
         lines = generated(int(sys.argv[2]), Rng(int(sys.argv[3]), 1))
+    elif name == "paged" and len(sys.argv) == 4:
+        lines = generated(int(sys.argv[2]), Rng(int(sys.argv[3]), 2), paged_string)
     else:
         sys.exit(__doc__)
     sys.stdout.buffer.writelines(line + b"\n" for line in lines)

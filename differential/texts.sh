@@ -5,8 +5,8 @@
 #   texts.sh TEXTS_PROGRAM [WORK_FOLDER]
 #   texts.sh replay FOLDER       writes the replay's list as FOLDER/stdin, and the answers to it as FOLDER/stdout
 #
-# Environment: STREAMS (default: chosen malformed rooms groups grouprooms exhaustive generated), COUNT (strings of `generated`,
-# 500000), SEED (1), ORACLE (the driver `texts`, where it is built already).
+# Environment: STREAMS (default: chosen malformed rooms groups grouprooms exhaustive generated pages paged), COUNT (strings of `generated`
+# and of `paged`, 500000), SEED (1), ORACLE (the driver `texts`, where it is built already).
 # The last line is `differences N`; the exit status is 0 where N is 0.
 set -eu
 usage() { sed -n '2,10s/^# \{0,1\}//p' "$0" >&2; exit 2; }
@@ -77,11 +77,11 @@ program=$(CDPATH='' cd -- "$(dirname -- "$1")" && pwd)/$(basename -- "$1")
 [ -x "$program" ] || { echo "texts.sh: $1 is no executable" >&2; exit 2; }
 strings=0
 differences=0
-for stream in ${STREAMS:-chosen malformed rooms groups grouprooms exhaustive generated}; do
+for stream in ${STREAMS:-chosen malformed rooms groups grouprooms exhaustive generated pages paged}; do
     case $stream in
     rooms) $make chosen | driver rooms ;;
     grouprooms) $make groups | driver rooms ;;
-    generated) $make generated "${COUNT:-500000}" "${SEED:-1}" ;;
+    generated | paged) $make "$stream" "${COUNT:-500000}" "${SEED:-1}" ;;
     *) $make "$stream" ;;
     esac >"$work/stream"
     answer "$stream" "$work/stream" "$work/expected"
