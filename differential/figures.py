@@ -34,6 +34,8 @@ WANTED = (
     + [("n", "answer"), ("n", "10/0"), ("n", "11/0"), ("nine", "9/0"), ("full", "8/0")]
     + [("kept", a) for a in "answer 9/0 16/0".split()]
     + [("read", a) for a in "answer 9/0 16/0".split()]
+    # Texts that the original has not: it forgets the page.
+    + [("(listed)", "pages")]
 )
 
 

@@ -14,7 +14,7 @@ const COMMENTS: [&[u8]; 9] = [
     b"/*#1=A();*/",
     b"/*\"*/",
 ];
-const STRING: [&[u8]; 24] = [
+const STRING: [&[u8]; 35] = [
     b"a",
     b"B c",
     b"''",
@@ -39,6 +39,17 @@ const STRING: [&[u8]; 24] = [
     b"\xc3\x84",
     b"\xe4",
     b"#1=",
+    b"\\PB\\",
+    b"\\PE\\",
+    b"\\PG\\",
+    b"\\PI\\",
+    b"\\Pg\\",
+    b"\\S\\p",
+    b"\\S\\ ",
+    b"\\S\\.",
+    b"\\S\\\x7f",
+    b"\\S\\\x1f",
+    b"\\PG\\\\S\\D",
 ];
 const SCALARS: [&[u8]; 50] = [
     b"#1",
