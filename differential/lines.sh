@@ -1,4 +1,4 @@
-# Sourced by decimals.sh and texts.sh, whose programs answer a line by a line.
+# Sourced by the scripts whose programs answer a line by a line: decimals.sh, coordinates.sh, texts.sh, pages.sh.
 #
 #   compare STREAM   runs $program over $work/stream and compares its lines with those of $work/expected: sets `made` (lines) and
 #                    `differing`, and shows the first line that differs
