@@ -200,7 +200,8 @@ uint8_t hooflift_enum(const uint8_t *file, size_t file_len, size_t *place, size_
 
 /* A text in UTF-8: from `start` up to `stop`, in the file where `room` is then 0 and in `out` where it is 1; `$` gives an empty text.
  * 01: "If no quote, backslash or high byte occurs, the text shown is that part of the file; otherwise a part of the lent output. 16 exactly
- * when a text of this second kind is longer than the output." */
+ * when a text of this second kind is longer than the output." 02, #109: `\P?\` selects a page of ISO 8859 for every later `\S\` in that string,
+ * by the letters A to I in either case; any other byte, and a fresh string, means page A. */
 uint8_t hooflift_str(const uint8_t *file, size_t file_len, size_t *place, size_t end, uint8_t *out, size_t out_len, uint8_t *room,
                      size_t *start, size_t *stop, size_t *fault);
 
@@ -233,7 +234,8 @@ uint8_t hooflift_f64_grid(const uint8_t *file, size_t file_len, size_t *place, s
 uint8_t hooflift_any_real(const uint8_t *text, size_t text_len, uint64_t *out);
 uint8_t hooflift_real(const uint8_t *text, size_t text_len, uint64_t *out);
 
-/* The text of what stands between a string's quotes: `count` bytes, of `raw` where `place` is then 0 and of `out` where it is 1; or 16. */
+/* The text of what stands between a string's quotes, in UTF-8: `count` bytes, of `raw` where `place` is then 0 and of `out` where it is 1; or 16.
+ * Directives and pages as in `hooflift_str`: `\PG\\S\a` is a Greek alpha. No page outlasts the call. */
 uint8_t hooflift_text(const uint8_t *raw, size_t raw_len, uint8_t *out, size_t out_len, uint64_t *place, uint64_t *count);
 
 /* How many bytes that text has: what it needs of `out` at most. Answers the count. */

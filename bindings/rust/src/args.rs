@@ -210,7 +210,15 @@ impl<'f> Args<'f> {
         Ok(String::from_utf8_lossy(self.file.get(start..stop).unwrap_or(&[])))
     }
 
-    /// A text; an empty one for `$`. It is borrowed from the file where it stands there as it is.
+    /// A text; an empty one for `$`. It is borrowed from the file where it stands there as it is. A `\P?\` selects a page of ISO 8859 for every
+    /// later `\S\` in that string, by the letters A to I in either case.
+    ///
+    /// ```
+    /// let mut args = hooflift::Args::new(br"'\PG\\S\a','\S\a'", 0, 17)?;
+    /// assert_eq!(args.next_str()?, "\u{3b1}"); // a Greek alpha
+    /// assert_eq!(args.next_str()?, "\u{e1}"); // the page is not kept
+    /// # Ok::<(), hooflift::Error>(())
+    /// ```
     pub fn next_str(&mut self) -> Result<Cow<'f, str>> {
         let mut ahead = *self;
         let bytes = ahead.next_param().unwrap_or(&[]);

@@ -141,6 +141,23 @@ fn texts_of_the_header() -> Result<(), Error> {
     let step = Step::open(file)?;
     assert_eq!((step.file_name()?.as_ref(), step.originating_system()?.as_ref()), ("it's", " Ä"));
     assert_eq!(Step::open(b"ISO-10303-21;")?.file_name()?, "");
+    // a name in Cyrillic, on the page of ISO 8859-5, and a system whose string is on page A again
+    let file = b"ISO-10303-21;HEADER;FILE_NAME('\\PE\\\\S\\2\\S\\P\\S\\[',$,(),(),'','\\S\\D');ENDSEC;";
+    let step = Step::open(file)?;
+    assert_eq!((step.file_name()?.as_ref(), step.originating_system()?.as_ref()), ("\u{412}\u{430}\u{43b}", "\u{c4}"));
+    Ok(())
+}
+
+#[test]
+fn texts_on_pages() -> Result<(), Error> {
+    // each page's letter, the byte after `\S\`, and the character: A to I, in either case, and others that mean page A
+    let pages = "A:D\u{c4} B:!\u{104} C:!\u{126} D:!\u{104} E:P\u{430} F:G\u{627} G:a\u{3b1} H:`\u{5d0} I:P\u{11e} g:a\u{3b1} i:P\u{11e} C:%\u{fffd} J:P\u{d0} ?:P\u{d0}";
+    for page in pages.split(' ') {
+        let of: Vec<char> = page.chars().collect();
+        let text = format!("'\\P{}\\\\S\\{}'", of[0], of[2]);
+        let mut args = hooflift::Args::new(text.as_bytes(), 0, text.len())?;
+        assert_eq!(args.next_str()?, of[3].to_string(), "{text}");
+    }
     Ok(())
 }
 
