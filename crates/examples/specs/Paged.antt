@@ -1,4 +1,4 @@
--- Document 02, #109: strings that name a page, with their texts in UTF-8, computed by the definitions; a line for each sentence of the request
+-- Document 02, #109: strings and their characters, most with a page named, computed by the definitions; a line for each sentence of the request
 -- and for each open point that the team had to decide. Assumes nothing.
 use Prim.Native.Nat.{ℕ}
 use Prim.Native.String.{String}
@@ -34,16 +34,16 @@ paged-strings =
     ∷ paged "\\PE\\\\PJ\\\\S\\P" (0xD0 ∷ [])
     ∷ paged "\\PE\\\\P5\\\\S\\P" (0xD0 ∷ [])
     ∷ paged "\\PE\\\\P\\\\\\S\\P" (0xD0 ∷ [])
-    -- "Page letters A to I select ISO 8859-1 to 8859-9": one code on each
-    ∷ paged "\\PA\\\\S\\P\\PB\\\\S\\P\\PC\\\\S\\Q\\PD\\\\S\\P\\PF\\\\S\\Q\\PG\\\\S\\Q\\PH\\\\S\\`\\PI\\\\S\\P" (0xD0 ∷ 0x0110 ∷ 0xD1 ∷ 0x0110 ∷ 0x0631 ∷ 0x03A1 ∷ 0x05D0 ∷ 0x011E ∷ [])
+    -- "Page letters A to I select ISO 8859-1 to 8859-9": the code FE, at which no two of them agree
+    ∷ paged "\\PA\\\\S\\~\\PB\\\\S\\~\\PC\\\\S\\~\\PD\\\\S\\~\\PE\\\\S\\~\\PF\\\\S\\~\\PG\\\\S\\~\\PH\\\\S\\~\\PI\\\\S\\~" (0xFE ∷ 0x0163 ∷ 0x015D ∷ 0x016B ∷ 0x045E ∷ 0xFFFD ∷ 0x03CE ∷ 0x200F ∷ 0x015F ∷ [])
     -- "undefined codes giving U+FFFD"
     ∷ paged "\\PC\\\\S\\%\\PH\\\\S\\P" (0xFFFD ∷ 0xFFFD ∷ [])
     -- today's mapping files of ISO 8859-7 and 8859-8
     ∷ paged "\\PG\\\\S\\$\\S\\%\\S\\*\\PH\\\\S\\}\\S\\~" (0x20AC ∷ 0x20AF ∷ 0x037A ∷ 0x200E ∷ 0x200F ∷ [])
     -- "sums outside A0 to FF stay as before": bytes below 20 and from 80 up
     ∷ record { string = bytes "\\PE\\\\S\\" ++ 0x1F ∷ bytes "\\S\\" ++ 0x80 ∷ []; text = 0x9F ∷ 0x0100 ∷ [] }
-    -- and the codes A0 and FF are inside
-    ∷ record { string = bytes "\\PE\\\\S\\ \\S\\" ++ 0x7F ∷ []; text = 0xA0 ∷ 0x045F ∷ [] }
+    -- and FF is inside
+    ∷ record { string = bytes "\\PE\\\\S\\" ++ 0x7F ∷ []; text = 0x045F ∷ [] }
     -- a page changes nothing but `\S\`
     ∷ paged "\\PE\\P''\\X\\D0\\X2\\00D0\\X0\\\\\\" (0x50 ∷ 0x27 ∷ 0xD0 ∷ 0xD0 ∷ 0x5C ∷ [])
     -- a bad group leaves the page as it is; and what is read again is read as ever, a page among it
@@ -51,7 +51,7 @@ paged-strings =
     ∷ paged "\\X2\\PE\\0\\S\\P" (0x5C ∷ 0x58 ∷ 0x32 ∷ 0x30 ∷ 0x0430 ∷ [])
     ∷ []
 
--- each has these characters, and its text is their encoding
+-- each has these characters
 abbrev pub Holds : List Paged → Type 0
 Holds [] = Unit {0}
 Holds (p ∷ ps) = (textOf (p .string) ≡ p .text) × Holds ps

@@ -1,9 +1,10 @@
--- Four codes of a page in one number, as the code has its tables. Assumes nothing.
+-- The characters of four codes of a page in one number, as the program holds its tables: 24 such numbers are the 96 codes from A0 to FF. Assumes
+-- nothing.
 use Prim.Native.Nat.{ℕ, zero, suc, _+_, _*_, _/_, _%_, _-_, _^_, _≤_, _<_}
 use mathlib.Core.Path.{_≡_, refl, sym, _∙_, ap}
 use native.Mathlib.Omega.{arith}
 use Rattle.pages.specs.Tables.{entry}
-use Rattle.pages.specs.Right.{entry-below, entry-none}
+use Rattle.pages.specs.Right.{entry-below, entry-past, entry-none}
 
 -- four numbers of 16 bits in one, the first highest
 abbrev pub four : ℕ → ℕ → ℕ → ℕ → ℕ
@@ -31,9 +32,17 @@ least : (n k : ℕ) → Avoids n k → n ≤ k
 least zero k h = omega arith
 least (suc n) k h = let below = least n k (h .0) in let other = h .1 in omega arith
 
--- no line is left
-pub avoided : {A : Type 0} {k : ℕ} → Avoids 24 k → k < 24 → A
-avoided {k = k} h l = let m = least 24 k h in absurd (omega arith)
+-- four codes that are undefined
+abbrev nothing : ℕ
+nothing = 0xFFFD_FFFD_FFFD_FFFD
+
+-- all four, one by one
+none-four : (p k : ℕ) → ((n : ℕ) → 0xA0 + 4 * k ≤ n → 0xFFFD ≡ entry p n) → nothing ≡ packed p k
+none-four p k f = rw (sym (f (0xA0 + 4 * k) (omega arith)), sym (f (0xA1 + 4 * k) (omega arith)), sym (f (0xA2 + 4 * k) (omega arith)), sym (f (0xA3 + 4 * k) (omega arith))) refl
+
+-- no line is left: the codes lie above FF
+pub avoided : (p : ℕ) {k : ℕ} → Avoids 24 k → nothing ≡ packed p k
+avoided p {k} h = let m = least 24 k h in none-four p k (λ n l. entry-past p n (omega arith))
 
 -- p is none of the first n pages after page A
 abbrev pub Passes : ℕ → ℕ → Type 0
@@ -46,18 +55,12 @@ after zero p l h = l
 after (suc n) p l h = let below = after n p l (h .0) in let other = h .1 in omega arith
 
 -- there is no such page
-pub no-page : (k : ℕ) {p : ℕ} → Passes 8 p → 0 < p → 0xFFFD_FFFD_FFFD_FFFD ≡ packed p k
-no-page k {p} h l =
-    let m = after 8 p l h in
-    let a = entry-none p (0xA0 + 4 * k) m in
-    let b = entry-none p (0xA1 + 4 * k) m in
-    let c = entry-none p (0xA2 + 4 * k) m in
-    let d = entry-none p (0xA3 + 4 * k) m in
-    rw (sym a, sym b, sym c, sym d) refl
+pub no-page : (k : ℕ) {p : ℕ} → Passes 8 p → 0 < p → nothing ≡ packed p k
+no-page k {p} h l = let m = after 8 p l h in none-four p k (λ n e. entry-none p n m)
 
 -- one code of four, read from their number
 module _ (p k w : ℕ) (e : w ≡ packed p (k / 4)) where
-  -- a code is one of these
+  -- a code by its place among four
   at-code : (i : ℕ) → k % 4 ≡ i → entry p (0xA0 + i + 4 * (k / 4)) ≡ entry p (0xA0 + k)
   at-code i h = let z : 0xA0 + i + 4 * (k / 4) ≡ 0xA0 + k = omega arith in ap (entry p) z
 
@@ -71,7 +74,7 @@ module _ (p k w : ℕ) (e : w ≡ packed p (k / 4)) where
           → (w / 0x1_0000_0000_0000 % 0x1_0000 ≡ a) × (w / 0x1_0000_0000 % 0x1_0000 ≡ b) × (w / 0x1_0000 % 0x1_0000 ≡ c) × (w / 1 % 0x1_0000 ≡ d)
       split a b c d ha hb hc hd f = (omega arith, omega arith, omega arith, omega arith)
 
-  -- the code's own
+  -- the one that is asked for
   pub quarter : w / 2 ^ (48 - k % 4 * 16) % 0x1_0000 ≡ entry p (0xA0 + k)
   quarter = go (k % 4) refl (omega arith)
     where

@@ -64,7 +64,7 @@ page-only (Rules.small {p = p} h) =
     rw (beyond 65 73 (97 + p) (λ (a, b). omega arith), inside 97 105 (97 + p) (omega arith, omega arith)) e
 page-only (Rules.other {b = b} n m) = rw (beyond 65 73 b n, beyond 97 105 b m) refl
 
--- there are nine
+-- it is one of nine
 pub page-below : (b : ℕ) → pageOf b < 9
 page-below b = go (page-is b)
   where
@@ -99,11 +99,11 @@ counts i [] = true
 counts i (x ∷ xs) = eqb x i && counts (suc i) xs
 
 -- every table passes a test
-abbrev every : (List ℕ → Bool) → List (List ℕ) → Bool
+abbrev pub every : (List ℕ → Bool) → List (List ℕ) → Bool
 every f [] = true
 every f (x ∷ xs) = f x && every f xs
 
--- what both of two tests pass
+-- where both of two tests hold, each does
 both : (a b : Bool) → a && b ≡ true → (a ≡ true) × (b ≡ true)
 both true b e = (refl, e)
 both false b e = let z : _≡_ {A = ℕ} 0 1 = ap (λ (t : Bool). pick t 1 0) e in absurd (omega arith)
@@ -150,10 +150,20 @@ pub entry-below : (p n : ℕ) → Tables.entry p n < 0x1_0000
 unfolding Tables.entry
 entry-below p n = ltb-true (Tables.entry p n) 0x1_0000 (each-at narrow (getD Tables.pages p []) (n - 0xA0) 0xFFFD (every-at (each narrow) Tables.pages p all-narrow refl) refl)
 
--- there are nine tables
-nine : length Tables.pages ≡ 9
-unfolding Tables.pages
-nine = refl
+-- a table has 96 codes
+abbrev pub whole : List ℕ → Bool
+whole t = eqb (length t) 96
+
+-- all of them do, and there are nine
+pub all-whole : (length Tables.pages ≡ 9) × (every whole Tables.pages ≡ true)
+unfolding Tables.pages Tables.latin1 Tables.latin2 Tables.latin3 Tables.latin4 Tables.cyrillic Tables.arabic Tables.greek Tables.hebrew Tables.latin5
+all-whole = (refl, refl)
+
+-- a table that is there passes a test that all of them pass
+every-in : (f : List ℕ → Bool) (xs : List (List ℕ)) (k : ℕ) → every f xs ≡ true → k < length xs → f (getD xs k []) ≡ true
+every-in f [] k e h = absurd (omega arith)
+every-in f (x ∷ xs) zero e h = both (f x) (every f xs) e .0
+every-in f (x ∷ xs) (suc k) e h = every-in f xs k (both (f x) (every f xs) e .1) (omega arith)
 
 -- past the last page there is none
 past-in : (xs : List (List ℕ)) (k : ℕ) → length xs ≤ k → getD xs k [] ≡ []
@@ -161,10 +171,27 @@ past-in [] k h = refl
 past-in (x ∷ xs) zero h = absurd (omega arith)
 past-in (x ∷ xs) (suc k) h = past-in xs k (omega arith)
 
--- and so no character
+-- and all its codes are undefined
 pub entry-none : (p n : ℕ) → 9 ≤ p → 0xFFFD ≡ Tables.entry p n
 unfolding Tables.entry
-entry-none p n h = ap (λ (t : List ℕ). getD t (n - 0xA0) 0xFFFD) (sym (past-in Tables.pages p (omega (arith, nine))))
+entry-none p n h = ap (λ (t : List ℕ). getD t (n - 0xA0) 0xFFFD) (sym (past-in Tables.pages p (omega (arith, all-whole .0))))
+
+-- past the last code stands none
+past-code : (xs : List ℕ) (k d : ℕ) → length xs ≤ k → getD xs k d ≡ d
+past-code [] k d h = refl
+past-code (x ∷ xs) zero d h = absurd (omega arith)
+past-code (x ∷ xs) (suc k) d h = past-code xs k d (omega arith)
+
+-- so a code above FF is undefined
+pub entry-past : (p n : ℕ) → 0xFF < n → 0xFFFD ≡ Tables.entry p n
+unfolding Tables.entry
+entry-past p n h = go (decLt p 9)
+  where
+    go : Dec (p < 9) → 0xFFFD ≡ Tables.entry p n
+    go (yes l) =
+        let e = eqb-true (length (getD Tables.pages p [])) 96 (every-in whole Tables.pages p (all-whole .1) (omega (arith, all-whole .0))) in
+        sym (past-code (getD Tables.pages p []) (n - 0xA0) 0xFFFD (omega arith))
+    go (no l) = entry-none p n (omega arith)
 
 -- page A, tried number by number
 a-counts : counts 0xA0 (getD Tables.pages 0 []) ≡ true

@@ -1,6 +1,6 @@
 -- Document 02, #109: "Page letters A to I select ISO 8859-1 to 8859-9 [..]. Add the tables for codes A0 to FF from the published mapping
--- files, undefined codes giving U+FFFD". The files are those that the Unicode Consortium publishes, 8859-1.TXT to 8859-9.TXT: a line of such a
--- file, as `0xA1 0x0104`, is a number here, and a code that has no line is U+FFFD. Each row has sixteen codes, from A0 to AF in the first to F0 to
+-- files, undefined codes giving U+FFFD". The files are those that the Unicode Consortium publishes, 8859-1.TXT to 8859-9.TXT (docs/DECISIONS.md says
+-- how they were had): a line of such a file, as `0xA1 0x0104`, is a number here, and a code that has no line is U+FFFD. Each row has sixteen codes, from A0 to AF in the first to F0 to
 -- FF in the last. Assumes nothing.
 use Prim.Native.Nat.{ℕ, _-_}
 use mathlib.Core.List.{List, [], _∷_}

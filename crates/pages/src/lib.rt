@@ -24,7 +24,7 @@ pub fn page_of(letter: u32) -> usize
 
 // The characters of the four codes from A0 + 4k on, in one number, on another page than A; U+FFFD on a page that there is not.
 fn line(page: usize, k: usize) -> u64
-    requires { ⌜ (0 < page) × (k < 24) ⌝ }
+    requires { ⌜ 0 < page ⌝ }
     ensures { λ r. ⌜ r ≡ packed page k ⌝ }
 {
     match page {
@@ -42,7 +42,7 @@ fn line(page: usize, k: usize) -> u64
 
 // The character of a code, counted from A0, on another page than A.
 fn listed(page: usize, k: usize) -> u64
-    requires { ⌜ (0 < page) × (k < 96) ⌝ }
+    requires { ⌜ 0 < page ⌝ }
     ensures { λ r. ⌜ r ≡ entry page (160 + k) ⌝ }
 {
     (line(page, k / 4) >> (48 - k % 4 * 16)) % 0x1_0000

@@ -1,13 +1,11 @@
 // The tables of the pages B to I, codes A0 to FF, four codes to a number: the first stands highest, so that each line reads as a quarter of a
-// row of specs/Tables.antt. Page A, whose characters are its codes, needs no table here. A match becomes a table of the program's; an array would
+// row of specs/Tables.antt. Past FF there is no character, so U+FFFD. Page A, whose characters are its codes, needs no table here. A match becomes a table of the program's; an array would
 // be laid on the stack at each use.
 ghost use mathlib.Core.Path.{_≡_};
-ghost use Prim.Native.Nat.{_<_};
 ghost use Rattle.pages.specs.Packed.{packed};
 
 // Page B, ISO 8859-2: the codes from A0 + 4k on.
 pub fn latin_2(k: usize) -> u64
-    requires { ⌜ k < 24 ⌝ }
     ensures { λ r. ⌜ r ≡ packed 1 k ⌝ }
 {
     match k {
@@ -35,13 +33,12 @@ pub fn latin_2(k: usize) -> u64
         21 => 0x00F4_0151_00F6_00F7,
         22 => 0x0159_016F_00FA_0171,
         23 => 0x00FC_00FD_0163_02D9,
-        _ => 0,
+        _ => 0xFFFD_FFFD_FFFD_FFFD,
     }
 }
 
 // Page C, ISO 8859-3: the codes from A0 + 4k on.
 pub fn latin_3(k: usize) -> u64
-    requires { ⌜ k < 24 ⌝ }
     ensures { λ r. ⌜ r ≡ packed 2 k ⌝ }
 {
     match k {
@@ -69,13 +66,12 @@ pub fn latin_3(k: usize) -> u64
         21 => 0x00F4_0121_00F6_00F7,
         22 => 0x011D_00F9_00FA_00FB,
         23 => 0x00FC_016D_015D_02D9,
-        _ => 0,
+        _ => 0xFFFD_FFFD_FFFD_FFFD,
     }
 }
 
 // Page D, ISO 8859-4: the codes from A0 + 4k on.
 pub fn latin_4(k: usize) -> u64
-    requires { ⌜ k < 24 ⌝ }
     ensures { λ r. ⌜ r ≡ packed 3 k ⌝ }
 {
     match k {
@@ -103,13 +99,12 @@ pub fn latin_4(k: usize) -> u64
         21 => 0x00F4_00F5_00F6_00F7,
         22 => 0x00F8_0173_00FA_00FB,
         23 => 0x00FC_0169_016B_02D9,
-        _ => 0,
+        _ => 0xFFFD_FFFD_FFFD_FFFD,
     }
 }
 
 // Page E, ISO 8859-5: the codes from A0 + 4k on.
 pub fn cyrillic(k: usize) -> u64
-    requires { ⌜ k < 24 ⌝ }
     ensures { λ r. ⌜ r ≡ packed 4 k ⌝ }
 {
     match k {
@@ -137,13 +132,12 @@ pub fn cyrillic(k: usize) -> u64
         21 => 0x0454_0455_0456_0457,
         22 => 0x0458_0459_045A_045B,
         23 => 0x045C_00A7_045E_045F,
-        _ => 0,
+        _ => 0xFFFD_FFFD_FFFD_FFFD,
     }
 }
 
 // Page F, ISO 8859-6: the codes from A0 + 4k on.
 pub fn arabic(k: usize) -> u64
-    requires { ⌜ k < 24 ⌝ }
     ensures { λ r. ⌜ r ≡ packed 5 k ⌝ }
 {
     match k {
@@ -171,13 +165,12 @@ pub fn arabic(k: usize) -> u64
         21 => 0xFFFD_FFFD_FFFD_FFFD,
         22 => 0xFFFD_FFFD_FFFD_FFFD,
         23 => 0xFFFD_FFFD_FFFD_FFFD,
-        _ => 0,
+        _ => 0xFFFD_FFFD_FFFD_FFFD,
     }
 }
 
 // Page G, ISO 8859-7: the codes from A0 + 4k on.
 pub fn greek(k: usize) -> u64
-    requires { ⌜ k < 24 ⌝ }
     ensures { λ r. ⌜ r ≡ packed 6 k ⌝ }
 {
     match k {
@@ -205,13 +198,12 @@ pub fn greek(k: usize) -> u64
         21 => 0x03C4_03C5_03C6_03C7,
         22 => 0x03C8_03C9_03CA_03CB,
         23 => 0x03CC_03CD_03CE_FFFD,
-        _ => 0,
+        _ => 0xFFFD_FFFD_FFFD_FFFD,
     }
 }
 
 // Page H, ISO 8859-8: the codes from A0 + 4k on.
 pub fn hebrew(k: usize) -> u64
-    requires { ⌜ k < 24 ⌝ }
     ensures { λ r. ⌜ r ≡ packed 7 k ⌝ }
 {
     match k {
@@ -239,13 +231,12 @@ pub fn hebrew(k: usize) -> u64
         21 => 0x05E4_05E5_05E6_05E7,
         22 => 0x05E8_05E9_05EA_FFFD,
         23 => 0xFFFD_200E_200F_FFFD,
-        _ => 0,
+        _ => 0xFFFD_FFFD_FFFD_FFFD,
     }
 }
 
 // Page I, ISO 8859-9: the codes from A0 + 4k on.
 pub fn latin_5(k: usize) -> u64
-    requires { ⌜ k < 24 ⌝ }
     ensures { λ r. ⌜ r ≡ packed 8 k ⌝ }
 {
     match k {
@@ -273,6 +264,6 @@ pub fn latin_5(k: usize) -> u64
         21 => 0x00F4_00F5_00F6_00F7,
         22 => 0x00F8_00F9_00FA_00FB,
         23 => 0x00FC_0131_015F_00FF,
-        _ => 0,
+        _ => 0xFFFD_FFFD_FFFD_FFFD,
     }
 }

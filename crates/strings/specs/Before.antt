@@ -5,6 +5,7 @@ use mathlib.Core.Path.{_≡_, refl, sym, _∙_, ap, subst}
 use mathlib.Core.Bool.{Bool, true, false, _&&_}
 use mathlib.Core.List.{List, [], _∷_, _++_, append-assoc}
 use native.Mathlib.Omega.{arith}
+use lib.Dec.{leb}
 use lib.ListN.{length, take, drop, length-drop, take-append-drop}
 use Rattle.utf8.specs.Utf8.{byteAt}
 use Rattle.pages.specs.Pages.{pageA, pageOf}
@@ -14,30 +15,44 @@ use Rattle.strings.specs.Text
 use Rattle.strings.specs.Hex.{both}
 use Rattle.strings.specs.Steps.{piece-fits}
 use Rattle.strings.specs.Rules
-use Rattle.strings.specs.RulesRight.{page-bytes, page-stays, page-named, piece-is, piece-only, reads-some, text-only}
+use Rattle.strings.specs.RulesRight.{page-bytes, page-stays, page-named, piece-is, piece-only, reads-some, text-is, text-only}
 
--- a string's bytes and its characters by document 01 alone: each piece is read on page A, whatever page a `\P?\` before it named
+-- a string's bytes and its characters by document 01 alone: each piece is read on page A, whatever page a `\P?\` before it named. A piece that is
+-- no `\S\` is the same on every page (page-blind)
 pub data Forgetful : List ℕ → List ℕ → Type 0 where
   -- no bytes, no characters
   none : Forgetful [] []
   -- a piece, and the text of the bytes after it
   more : {h k : ℕ} {s cs ds : List ℕ} → Rules.Reads pageA s cs k h → Forgetful (drop k s) ds → Forgetful s (cs ++ ds)
 
--- there "`\S\c` code c+128", as document 01 has it
+-- whether a `\S\` and a byte stand at the start
+abbrev shifts : List ℕ → Bool
+shifts s = Text.is s 0 92 && (Text.is s 1 83 && (Text.is s 2 92 && leb 4 (length s)))
+
+-- any other piece is the same on every page
+pub page-blind : (g h : ℕ) (s : List ℕ) → shifts s ≡ false → Text.pieceOf g s ≡ Text.pieceOf h s
+unfolding Text.pieceOf Text.directiveOf
+page-blind g h s n = go (Text.is s 0 92) refl
+  where
+    go : (t : Bool) → Text.is s 0 92 ≡ t → Text.pieceOf g s ≡ Text.pieceOf h s
+    go true e = let m : Text.is s 1 83 && (Text.is s 2 92 && leb 4 (length s)) ≡ false = sym (rw e refl) ∙ n in rw (e, m) refl
+    go false e = rw e refl
+
+-- on page A "`\S\c` code c+128", as document 01 has it
 pub forgetful-shift : {c h k : ℕ} {r cs : List ℕ} → Rules.Reads pageA (92 ∷ 83 ∷ 92 ∷ c ∷ r) cs k h → (cs ≡ (c + 128) ∷ []) × (k ≡ 4)
 forgetful-shift {c} {r = r} d =
     let (p, q, e) = piece-only d in
     let (x, y, z) = piece-only (Rules.directive (Rules.shift {g = pageA} {c = c} {r = r} (Page.code-is pageA (c + 128)))) in
     (p ∙ sym x ∙ ap (λ (n : ℕ). n ∷ []) (Page.code-a (c + 128)), q ∙ sym y)
 
--- page A is in force at each piece of a string, and after the last
+-- page A is in force at each piece of a string, and after the last: `\PB\` alone is left out, though its text is the same
 pub data OnPageA : List ℕ → Type 0 where
   -- there is none
   none : OnPageA []
   -- a piece that leaves page A in force, and those after it
   more : {k : ℕ} {s cs : List ℕ} → Rules.Reads pageA s cs k pageA → OnPageA (drop k s) → OnPageA s
 
--- "Page A strings keep their answers": a text by document 01 alone is the text
+-- "Demand 2 departs from the Rust for pages B to I", and where page A stays in force it does not: a text by document 01 alone is the text
 pub kept : {s cs : List ℕ} → Forgetful s cs → OnPageA s → Rules.Text s cs
 kept none a = Rules.none
 kept (more r t) none = let l = reads-some r in absurd (omega arith)
@@ -59,11 +74,11 @@ kept-back t a = back t refl a
         let (u, v, w) = piece-only q in
         more p (back t (z ∙ sym w) (subst (λ (m : ℕ). OnPageA (drop m s)) (v ∙ sym y) a))
 
--- no `\P?\` stands among the bytes of s that selects another page
+-- among the bytes of s stands no `\P?\` that selects another page, whether it is read as a directive or not
 abbrev pub Unpaged : List ℕ → Type 0
 Unpaged s = (x r : List ℕ) (b p : ℕ) → s ≡ x ++ (92 ∷ 80 ∷ b ∷ 92 ∷ r) → Selects b p → p ≡ pageA
 
--- it leaves page A in force
+-- the first piece of such bytes leaves page A in force
 unpaged-stays : (s : List ℕ) → Unpaged s → Text.pageAfter pageA s ≡ pageA
 unpaged-stays s n = go (Text.is s 0 92 && (Text.is s 1 80 && Text.is s 3 92)) refl
   where
@@ -73,11 +88,11 @@ unpaged-stays s n = go (Text.is s 0 92 && (Text.is s 1 80 && Text.is s 3 92)) re
         page-named pageA s e ∙ n [] (drop 4 s) (byteAt s 2) (pageOf (byteAt s 2)) (page-bytes pageA s o p) (Page.page-is (byteAt s 2))
     go false e = page-stays pageA s e
 
--- and so do the bytes after a piece
+-- and the bytes after a piece are such bytes too
 unpaged-rest : (s : List ℕ) (k : ℕ) → Unpaged s → Unpaged (drop k s)
 unpaged-rest s k n x r b p e h = n (take k s ++ x) r b p (sym (take-append-drop k s) ∙ ap (λ (z : List ℕ). take k s ++ z) e ∙ sym (append-assoc (take k s) x (92 ∷ 80 ∷ b ∷ 92 ∷ r))) h
 
--- "on strings without such a page nothing differs": page A is then in force throughout
+-- where no other page is named, page A is in force throughout
 pub unpaged-on-a : (s : List ℕ) → Unpaged s → OnPageA s
 unpaged-on-a s = go (length s) s (omega arith)
   where
@@ -94,6 +109,10 @@ unpaged-on-a s = go (length s) s (omega arith)
     go zero s h = step s (λ t l. absurd (omega arith))
     go (suc m) s h = step s (λ t l. go m t (omega arith))
 
--- so document 01's text is the one that is computed
+-- so the text that is computed is one by document 01 alone
+pub unpaged-back : (s : List ℕ) → Unpaged s → Forgetful s (Text.textOf s)
+unpaged-back s n = kept-back (text-is s) (unpaged-on-a s n)
+
+-- and there is no other
 pub unpaged-kept : {s cs : List ℕ} → Forgetful s cs → Unpaged s → cs ≡ Text.textOf s
 unpaged-kept {s} t n = text-only (kept t (unpaged-on-a s n))

@@ -1,6 +1,6 @@
 -- ISO 10303-21, 'String' and 'Control directives': the grammar of what stands between a string's apostrophes, and the text that it
--- stands for, as rules that name no loop. Left out, since ISO gives them no text: `\S\` while a letter after I is named, codes that the
--- named page leaves undefined, and groups that are no character. IsoRight.antt shows that the total rule of documents 01 and 02 (Text.antt)
+-- stands for, as rules that name no loop. Left out, since ISO gives them no text: `\S\` while a letter after I or the low line is named, codes
+-- that the named page leaves undefined, and groups that are no character. IsoRight.antt shows that the total rule of documents 01 and 02 (Text.antt)
 -- gives every string of these rules this text. Assumes nothing.
 use Prim.Native.Nat.{ℕ, _+_, _*_, _-_, _<_}
 use mathlib.Core.Path.{_≡_}
@@ -61,8 +61,8 @@ pub data Fours : List ℕ → List ℕ → Type 0 where
 abbrev pub endExtended : List ℕ
 endExtended = 92 ∷ 88 ∷ 48 ∷ 92 ∷ []
 
--- what stands between the apostrophes, and its text; the first argument is the page in force, by the place of its letter in the alphabet: 0 for A,
--- which is in force at the start
+-- what stands between the apostrophes, and its text; the first argument is the page in force, its letter's byte less 65: 0 to 8 for A to I, from 9
+-- up no page. Page A is in force at the start
 pub data Iso : ℕ → List ℕ → List ℕ → Type 0 where
   ends : {p : ℕ} → Iso p [] []
   -- "SPECIAL | DIGIT | SPACE | LOWER | UPPER"
@@ -74,7 +74,7 @@ pub data Iso : ℕ → List ℕ → List ℕ → Type 0 where
   -- "REVERSE_SOLIDUS REVERSE_SOLIDUS"
   reverse-solidus : {p : ℕ} {r cs : List ℕ} → Iso p r cs → Iso p (92 ∷ 92 ∷ r) (92 ∷ cs)
   -- "PAGE = REVERSE_SOLIDUS "S" REVERSE_SOLIDUS LATIN_CODEPOINT": the character that the page, one of ISO 8859-1 to 8859-9, has at the
-  -- code plus 128
+  -- code plus 128, where it has one
   page : {p c : ℕ} {r cs : List ℕ} → Latin c → p < 9 → (entry p (c + 128) ≡ 0xFFFD → ⊥) → Iso p r cs → Iso p (92 ∷ 83 ∷ 92 ∷ c ∷ r) (entry p (c + 128) ∷ cs)
   -- "ALPHABET = REVERSE_SOLIDUS "P" UPPER REVERSE_SOLIDUS": names the page from here on, A to I those of ISO 8859-1 to 8859-9
   alphabet : {p : ℕ} {a : ℕ} {r cs : List ℕ} → Upper a → Iso (a - 65) r cs → Iso p (92 ∷ 80 ∷ a ∷ 92 ∷ r) cs

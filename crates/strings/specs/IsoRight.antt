@@ -1,5 +1,5 @@
--- The total rule of documents 01 and 02 gives every string of the rules in Iso.antt (ISO 10303-21) the text that ISO gives it; document
--- 01's example 7 and a string with a page are such strings. Assumes nothing.
+-- The total rule of documents 01 and 02 gives every string of the rules in Iso.antt (ISO 10303-21) the text that ISO gives it; the
+-- first string of document 01's example 7 and one with a page are such strings. Assumes nothing.
 use Prim.Native.Nat.{ℕ, _+_, _*_, _-_, _≤_, _<_}
 use mathlib.Core.Path.{_≡_, refl, sym, _∙_, ap}
 use mathlib.Core.Bool.{Bool, true, false, _&&_, _||_}

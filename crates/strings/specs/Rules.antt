@@ -1,6 +1,6 @@
 -- Document 01, 'Strings', with document 02's #109: what a string's bytes stand for, as rules that name no loop. A rule speaks of a list of
--- bytes, of what stands at its start, of the characters that this gives and of how many bytes it takes; that of a directive and of a piece also
--- of the page in force before it and after it (crate pages: page A is 0, page I is 8). The quote is 39, the backslash 92, `N` is 78, `P` 80, `S` 83,
+-- bytes, of what stands at its start, of the characters that this gives and of how many bytes it takes. The rules of a directive and of a piece also
+-- name the page before it and after it (crate pages: page A is 0, page I is 8). The quote is 39, the backslash 92, `N` is 78, `P` 80, `S` 83,
 -- `T` 84, `X` 88, and the digits `0`, `2`, `4` are 48, 50, 52. Words quoted from the documents count in hex. RulesRight.antt shows that Text.antt
 -- computes just this, and that there is no other answer. Assumes nothing.
 use Prim.Native.Nat.{ℕ, _+_, _*_, _≤_, _<_}
@@ -57,7 +57,7 @@ pub data GoodGroup : ℕ → List ℕ → ℕ → ℕ → Type 0 where
   -- "and `\X4\` of eight hex digits"
   eight : {s : List ℕ} {n m c : ℕ} → Four s n → Four (drop 4 s) m → Shown (n * 65536 + m) c → GoodGroup 8 s c 8
 
--- "a bad group": one could start here, for so many bytes are left and there is no backslash, and none does. "A high one not
+-- "a bad group": one could start here, for so many bytes are left and there is no backslash, and none does. "a high one not
 -- followed by four hex digits is a bad group" is a theorem of RulesRight.antt (high-alone)
 pub record BadGroup (w : ℕ) (s : List ℕ) : Type 0 where
   pub whole : w ≤ length s

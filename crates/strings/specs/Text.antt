@@ -1,5 +1,5 @@
 -- Document 01, 'Strings', with document 02's #109: the text that a string's bytes stand for, for every list of bytes, computed. Rules.antt has
--- the same as rules. Iso.antt has ISO 10303-21's own grammar; the lines below say in brackets where document 01 goes beyond it. Pages are
+-- the same as rules. Iso.antt has ISO 10303-21's own grammar; the lines below say in brackets where the documents go beyond it. Pages are
 -- numbers from 0, page A, to 8, page I (crate pages). Assumes nothing.
 use Prim.Native.Nat.{ℕ, zero, suc, _+_, _*_, _-_, min}
 use mathlib.Core.Bool.{Bool, true, false, _&&_, _||_}
@@ -128,8 +128,8 @@ longOf s =
     (pick (is s 1 88 && (is s 2 52 && is s 3 92)) (extended (groupsFrom 8 0 (drop 4 s))) (gives (92 ∷ []) 1))
 
 -- what follows a backslash while page p is in force: "`\\` a backslash; `\N\` LF; `\T\` tab" (ISO has neither inside a string); "`\P?\`
--- nothing" (ISO: a capital letter); "`\S\c` code c+128", which #109 has read on the page ("apply the page to every later `\S\` in that string");
--- "`\X\HH` one octet"
+-- nothing" (ISO: a capital letter or `_`); "`\S\c` code c+128" (ISO: a c from 20 to 7E), which #109 reads on that page ("apply the page to every
+-- later `\S\` in that string"); "`\X\HH` one octet"
 unfoldable pub directiveOf : ℕ → List ℕ → Piece
 directiveOf p s =
     pick
@@ -166,10 +166,6 @@ pieceOf p s =
 -- the page in force after the piece that stands at the start: the one that a `\P?\` there selects, and else the one before it
 unfoldable pub pageAfter : ℕ → List ℕ → ℕ
 pageAfter p s = pick (is s 0 92 && (is s 1 80 && is s 3 92)) (pageOf (byteAt s 2)) p
-
--- the same of a list that a backslash begins
-abbrev pub pageNamed : ℕ → List ℕ → ℕ
-pageNamed p s = pick (is s 1 80 && is s 3 92) (pageOf (byteAt s 2)) p
 
 -- the characters of a string's bytes, piece after piece, each on the page that those before it leave in force; the first n bytes belong to a
 -- piece already read

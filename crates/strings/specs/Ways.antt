@@ -1,4 +1,5 @@
--- What each test of the code's `short` and `ordinary` shows: one law for each way out. Assumes nothing.
+-- What each test of the code that reads a piece shows, one law for each way out (`short`, `long`, `directive`, `ordinary`, `step`); and what the loop
+-- over pieces keeps (`turn`, `turns`, `run`). Assumes nothing.
 use Prim.Native.Nat.{ℕ, _+_, _-_, _≤_, _<_}
 use mathlib.Core.Path.{_≡_, refl, sym, _∙_, ap}
 use mathlib.Core.Bool.{Bool, true, false, _&&_}
@@ -160,15 +161,16 @@ module _ (s : List ℕ) (x y z : ℕ) (ex : x ≡ byteAt s 1) (ey : y ≡ byteAt
   pub long-none : eqb x 88 && (eqb y 50 && eqb z 92) ≡ false → eqb x 88 && (eqb y 52 && eqb z 92) ≡ false → Text.gives (92 ∷ []) 1 ≡ Text.longOf s
   long-none n h = rw (marked 50 false n, marked 52 false h) refl
 
--- `P`, a byte and a backslash, as the code tests them
-module _ (g : ℕ) (s : List ℕ) (x y z : ℕ) (ex : x ≡ byteAt s 1) (ey : y ≡ byteAt s 2) (ez : z ≡ byteAt s 3) where
+-- `P`, a byte and a backslash behind a backslash, as the code tests them
+module _ (g : ℕ) (s : List ℕ) (o : Text.is s 0 92 ≡ true) (x y z : ℕ) (ex : x ≡ byteAt s 1) (ey : y ≡ byteAt s 2) (ez : z ≡ byteAt s 3) where
   -- no page is named
   pub unpaged : eqb x 80 && eqb z 92 ≡ false → Text.is s 1 80 && Text.is s 3 92 ≡ false
   unpaged h = rw (sym ex, sym ez) h
 
   -- so it stays
-  pub page-stays : eqb x 80 && eqb z 92 ≡ false → g ≡ Text.pageNamed g s
-  page-stays h = rw (unpaged h) refl
+  pub page-stays : eqb x 80 && eqb z 92 ≡ false → g ≡ Text.pageAfter g s
+  unfolding Text.pageAfter
+  page-stays h = rw (o, unpaged h) refl
 
   module _ (h : eqb x 80 && eqb z 92 ≡ true) where
     -- one is
@@ -176,11 +178,12 @@ module _ (g : ℕ) (s : List ℕ) (x y z : ℕ) (ex : x ≡ byteAt s 1) (ey : y 
     named = rw (sym ex, sym ez) h
 
     -- and it is the one that the byte selects
-    pub page-turns : (q : ℕ) → q ≡ pageOf y → q ≡ Text.pageNamed g s
-    page-turns q e = e ∙ rw (named, sym ey) refl
+    pub page-turns : (q : ℕ) → q ≡ pageOf y → q ≡ Text.pageAfter g s
+    unfolding Text.pageAfter
+    page-turns q e = e ∙ rw (o, named, sym ey) refl
 
     -- "`\P?\` nothing"
-    pub page-piece : Text.directiveOf g s ≡ Text.gives [] 4
+    page-piece : Text.directiveOf g s ≡ Text.gives [] 4
     unfolding Text.directiveOf
     page-piece =
         let (p, q) = both (Text.is s 1 80) (Text.is s 3 92) named in
@@ -191,10 +194,14 @@ module _ (g : ℕ) (s : List ℕ) (x y z : ℕ) (ex : x ≡ byteAt s 1) (ey : y 
     pub page-moves : (a : ℕ) (o : List ℕ) → a ≤ most → Moved (Text.directiveOf g s) a o a 4 o
     page-moves a o m = rw page-piece (record { put = laid-nothing a o m; read = refl })
 
--- a backslash opens a directive
-pub piece-directive : (g : ℕ) (s : List ℕ) (b : ℕ) → b ≡ byteAt s 0 → b ≡ 92 → Text.directiveOf g s ≡ Text.pieceOf g s
+-- a backslash stands first
+pub is-directive : (s : List ℕ) (b : ℕ) → b ≡ byteAt s 0 → b ≡ 92 → Text.is s 0 92 ≡ true
+is-directive s b e h = eq-eqb (byteAt s 0) 92 (sym e ∙ h)
+
+-- it opens a directive
+pub piece-directive : (g : ℕ) (s : List ℕ) → Text.is s 0 92 ≡ true → Text.directiveOf g s ≡ Text.pieceOf g s
 unfolding Text.pieceOf
-piece-directive g s b e h = rw (eq-eqb (byteAt s 0) 92 (sym e ∙ h)) refl
+piece-directive g s e = rw e refl
 
 -- no backslash
 pub no-directive : (s : List ℕ) (b : ℕ) → b ≡ byteAt s 0 → (b ≡ 92 → ⊥) → eqb (byteAt s 0) 92 ≡ false
@@ -204,11 +211,6 @@ no-directive s b e h = ne-eqb (byteAt s 0) 92 (λ k. h (e ∙ k))
 pub no-page : (g : ℕ) (s : List ℕ) (b : ℕ) → b ≡ byteAt s 0 → (b ≡ 92 → ⊥) → g ≡ Text.pageAfter g s
 unfolding Text.pageAfter
 no-page g s b e h = rw (no-directive s b e h) refl
-
--- after a backslash it is the page that is named there
-pub page-directive : (g : ℕ) (s : List ℕ) (b : ℕ) → b ≡ byteAt s 0 → b ≡ 92 → Text.pageNamed g s ≡ Text.pageAfter g s
-unfolding Text.pageAfter
-page-directive g s b e h = rw (eq-eqb (byteAt s 0) 92 (sym e ∙ h)) refl
 
 -- the text is read up to place i, where page g is in force, and its characters put
 pub record Running (s : List ℕ) (a₀ : ℕ) (o₀ : List ℕ) (i g a : ℕ) (o : List ℕ) : Type 0 where

@@ -16,7 +16,7 @@ ghost use lib.ListN.{length, take, drop};
 ghost use lib.Seq.{paste};
 ghost use Rattle.lex.specs.Byte.{pick};
 ghost use Rattle.utf8.specs.Utf8.{byteAt, encodeAll};
-ghost use Rattle.strings.specs.Text.{hexDigit, hexValue, twoAt, twoOf, fourAt, fourOf, groupTwo, groupFour, groupOf, closing, plain, shown, joined, is, longOf, directiveOf, pieceOf, pageAfter, pageNamed, extended, groupsFrom, bytesOf};
+ghost use Rattle.strings.specs.Text.{hexDigit, hexValue, twoAt, twoOf, fourAt, fourOf, groupTwo, groupFour, groupOf, closing, plain, shown, joined, is, longOf, directiveOf, pieceOf, pageAfter, extended, groupsFrom, bytesOf};
 ghost use Rattle.strings.specs.Code.{toldGroup, oneView, viewOf, Moved, Passed, Ran, Turned, decodedOf, roomAfter, shownOf, toldText, answerOf};
 ghost use Rattle.strings.specs.Put.{most, Laid};
 
@@ -276,7 +276,7 @@ fn lay(s: &[u8], n: usize, out: &mut [u8], at: usize) -> usize
 }
 
 // What follows a backslash while a page is in force, but for a `\P?\` and the directives with groups: one character; it took no byte where it
-// is no such directive. The letter of a page is asked for first, as it comes most often.
+// is no such directive. `\S\` is asked for first: a text on a page is full of it.
 fn short(s: &[u8], page: usize) -> Char
     requires { ⌜ is (now s) 1 80 && is (now s) 3 92 ≡ false ⌝ }
     ensures { λ r. ⌜ pick (eqb (r .used) 0) (viewOf (longOf (now (s .entry)))) (oneView (r .code) (r .used)) ≡ viewOf (directiveOf page (now (s .entry))) ⌝ }
@@ -378,6 +378,25 @@ fn groups(s: &[u8], width: usize, out: &mut [u8], at: usize) -> Reached
     Reached { at: n, used: i }
 }
 
+// A directive with groups, or a literal backslash.
+fn long(s: &[u8], out: &mut [u8], at: usize) -> Reached
+    ensures { λ r. ⌜ Moved (longOf (now (s .entry))) at (now (out .entry)) (r .at) (r .used) (now (out .exit)) ⌝ }
+{
+    let x = byte_at(s, 1);
+    let y = byte_at(s, 2);
+    let z = byte_at(s, 3);
+    if (x == 88) & ((y == 50) & (z == 92)) {
+        return groups(s, 4, out, at);
+    }
+    if (x == 88) & ((y == 52) & (z == 92)) {
+        return groups(s, 8, out, at);
+    }
+    Reached {
+        at: put_char(out, at, 92),
+        used: 1,
+    }
+}
+
 // The bytes counted so far, how many bytes of the string were read for a piece, and the page then in force.
 struct Onward {
     at: usize,
@@ -385,10 +404,11 @@ struct Onward {
     page: usize,
 }
 
-// A directive, or a literal backslash. What `groups` answers is made anew, so that the other answers need not go through memory.
+// A directive, or a literal backslash. What `long` answers is made anew, so that the other answers need not go through memory.
 fn directive(s: &[u8], page: usize, out: &mut [u8], at: usize) -> Onward
+    requires { ⌜ is (now s) 0 92 ≡ true ⌝ }
     ensures { λ r. ⌜ Moved (directiveOf page (now (s .entry))) at (now (out .entry)) (r .at) (r .used) (now (out .exit)) ⌝ }
-    ensures { λ r. ⌜ r .page ≡ pageNamed page (now (s .entry)) ⌝ }
+    ensures { λ r. ⌜ r .page ≡ pageAfter page (now (s .entry)) ⌝ }
 {
     let x = byte_at(s, 1);
     let y = byte_at(s, 2);
@@ -409,25 +429,10 @@ fn directive(s: &[u8], page: usize, out: &mut [u8], at: usize) -> Onward
             page,
         };
     }
-    if (x == 88) & ((y == 50) & (z == 92)) {
-        let g = groups(s, 4, out, at);
-        return Onward {
-            at: g.at,
-            used: g.used,
-            page,
-        };
-    }
-    if (x == 88) & ((y == 52) & (z == 92)) {
-        let g = groups(s, 8, out, at);
-        return Onward {
-            at: g.at,
-            used: g.used,
-            page,
-        };
-    }
+    let g = long(s, out, at);
     Onward {
-        at: put_char(out, at, 92),
-        used: 1,
+        at: g.at,
+        used: g.used,
         page,
     }
 }

@@ -18,7 +18,7 @@ cast-listed : tie.Need-cast-listed
 cast-listed c = search needs
 
 listed-requires : tie.Need-listed-requires
-listed-requires c κs = let a = c .before .before .args in (omega arith, omega (arith, code-listed (a .page) (a .sum) (c .if2 .left) .0))
+listed-requires c κs = omega arith
 
 cast-result : tie.Need-cast-result
 cast-result c = let a = c .before .before .before .args in let b = entry-below (a .page) (160 + (a .sum - 160)) in omega (arith, c .listed .ensures)

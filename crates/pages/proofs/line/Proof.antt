@@ -25,4 +25,4 @@ line-spec =
     (λ c. c .greek .ensures ∙ turned-to 6 (c .before .before .args .k) (c .before .match .keys6))
     (λ c. c .hebrew .ensures ∙ turned-to 7 (c .before .before .args .k) (c .before .match .keys7))
     (λ c. c .latin-5 .ensures ∙ turned-to 8 (c .before .before .args .k) (c .before .match .keys8))
-    (λ c. no-page (c .before .args .k) (c .match .rest) (c .before .pre .0)))
+    (λ c. no-page (c .before .args .k) (c .match .rest) (c .before .pre)))

@@ -1,9 +1,9 @@
 use borrow.Author.Needs.{needs}
 use native.Mathlib.Omega.{arith}
-use mathlib.Core.Path.{sym, _∙_}
+use mathlib.Core.Path.{sym}
 use denote.Ref.{now}
 use Rattle.strings.specs.Text.{pieceOf}
-use Rattle.strings.specs.Ways.{moved-one, piece-directive, no-directive, page-directive, no-page}
+use Rattle.strings.specs.Ways.{moved-one, is-directive, piece-directive, no-directive, no-page}
 use Rattle.strings.proofs.step.Statement.{statement}
 use Rattle.strings.proofs.step.Tie as tie
 
@@ -11,7 +11,9 @@ byte-at-requires : tie.Need-byte-at-requires
 byte-at-requires c κs = search needs
 
 directive-requires : tie.Need-directive-requires
-directive-requires c κs = search needs
+directive-requires c κs =
+    let k = c .before .before in
+    is-directive (now (k .before .before .before .args .s)) (k .byte-at .result) (k .byte-at .ensures) (omega arith)
 
 same-length : tie.Need-same-length
 same-length c = search needs
@@ -21,7 +23,7 @@ returns c =
     let k = c .before .before .before .before .before in
     let a = k .before .before .before .args in
     let d = c .before .before .directive .ensures in
-    (rw (sym (piece-directive (a .page) (now (a .s)) (k .byte-at .result) (k .byte-at .ensures) (omega arith))) (d .0), d .1 ∙ page-directive (a .page) (now (a .s)) (k .byte-at .result) (k .byte-at .ensures) (omega arith))
+    (rw (sym (piece-directive (a .page) (now (a .s)) (is-directive (now (a .s)) (k .byte-at .result) (k .byte-at .ensures) (omega arith)))) (d .0), d .1)
 
 ordinary-requires : tie.Need-ordinary-requires
 ordinary-requires c κs =

@@ -33,4 +33,4 @@ arabic-spec =
     (λ c. found 5 21 (c .match .keys22))
     (λ c. found 5 22 (c .match .keys23))
     (λ c. found 5 23 (c .match .keys24))
-    (λ c. avoided (c .match .rest) (c .before .pre)))
+    (λ c. avoided 5 (c .match .rest)))

@@ -33,4 +33,4 @@ cyrillic-spec =
     (λ c. found 4 21 (c .match .keys22))
     (λ c. found 4 22 (c .match .keys23))
     (λ c. found 4 23 (c .match .keys24))
-    (λ c. avoided (c .match .rest) (c .before .pre)))
+    (λ c. avoided 4 (c .match .rest)))

@@ -33,4 +33,4 @@ greek-spec =
     (λ c. found 6 21 (c .match .keys22))
     (λ c. found 6 22 (c .match .keys23))
     (λ c. found 6 23 (c .match .keys24))
-    (λ c. avoided (c .match .rest) (c .before .pre)))
+    (λ c. avoided 6 (c .match .rest)))

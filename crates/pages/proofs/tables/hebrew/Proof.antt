@@ -33,4 +33,4 @@ hebrew-spec =
     (λ c. found 7 21 (c .match .keys22))
     (λ c. found 7 22 (c .match .keys23))
     (λ c. found 7 23 (c .match .keys24))
-    (λ c. avoided (c .match .rest) (c .before .pre)))
+    (λ c. avoided 7 (c .match .rest)))

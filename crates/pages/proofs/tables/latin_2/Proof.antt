@@ -33,4 +33,4 @@ latin-2-spec =
     (λ c. found 1 21 (c .match .keys22))
     (λ c. found 1 22 (c .match .keys23))
     (λ c. found 1 23 (c .match .keys24))
-    (λ c. avoided (c .match .rest) (c .before .pre)))
+    (λ c. avoided 1 (c .match .rest)))

@@ -33,4 +33,4 @@ latin-3-spec =
     (λ c. found 2 21 (c .match .keys22))
     (λ c. found 2 22 (c .match .keys23))
     (λ c. found 2 23 (c .match .keys24))
-    (λ c. avoided (c .match .rest) (c .before .pre)))
+    (λ c. avoided 2 (c .match .rest)))

@@ -33,4 +33,4 @@ latin-4-spec =
     (λ c. found 3 21 (c .match .keys22))
     (λ c. found 3 22 (c .match .keys23))
     (λ c. found 3 23 (c .match .keys24))
-    (λ c. avoided (c .match .rest) (c .before .pre)))
+    (λ c. avoided 3 (c .match .rest)))

@@ -33,4 +33,4 @@ latin-5-spec =
     (λ c. found 8 21 (c .match .keys22))
     (λ c. found 8 22 (c .match .keys23))
     (λ c. found 8 23 (c .match .keys24))
-    (λ c. avoided (c .match .rest) (c .before .pre)))
+    (λ c. avoided 8 (c .match .rest)))
