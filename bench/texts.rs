@@ -1,8 +1,9 @@
 //! The proved decoding of a string beside the Rust original's `decode_string`, in one executable; see texts.sh.
 //!
 //!   texts                 the tables: lists of strings, and time against length
-//!   texts once SIDE LIST  one reading of a list, `plain` or `escaped`, by one side, `rust` or `proved`, for a count of instructions;
-//!                      `none` reads none; prints how many strings the list has
+//!   texts lists           the first table alone
+//!   texts once SIDE LIST  one reading of a list, `plain`, `escaped` or its number in the table, by one side, `rust` or `proved`, for a count of
+//!                      instructions; `none` reads none; prints how many strings the list has
 #[path = "src/clock.rs"]
 #[allow(dead_code)]
 mod clock;
@@ -45,6 +46,32 @@ fn agree(name: &str, raw: &[u8], out: &mut [u8]) {
     let shown = if plain { raw } else { &out[..n] };
     if shown != text.as_bytes() || n != text.len() || plain != matches!(text, Cow::Borrowed(_)) {
         eprintln!("texts: {name}: the two differ at {:02X?}", &raw[..raw.len().min(100)]);
+        std::process::exit(1);
+    }
+}
+
+/// The page that the lists with a page name: ISO 8859-7, whose letters lie 2D0 above their codes.
+const GREEK: &[u8] = b"\\PG\\";
+
+/// Whether the proved text of Greek letters, each a `\S\`, and plain bytes is right; the original reads the page and forgets it.
+fn greek(name: &str, raw: &[u8], out: &mut [u8]) {
+    let mut text = String::new();
+    let mut rest = raw.strip_prefix(GREEK).expect("a page");
+    while let [first, after @ ..] = rest {
+        match rest {
+            [b'\\', b'S', b'\\', c, after @ ..] => {
+                text.push(char::from_u32(u32::from(*c) + 128 + 0x2D0).expect("a letter"));
+                rest = after;
+            }
+            _ => {
+                text.push(char::from(*first));
+                rest = after;
+            }
+        }
+    }
+    let (n, plain) = proved(raw, out);
+    if plain || &out[..n] != text.as_bytes() {
+        eprintln!("texts: {name}: another text at {:02X?}", &raw[..raw.len().min(100)]);
         std::process::exit(1);
     }
 }
@@ -107,6 +134,11 @@ fn around(d: &mut Draw, middle: &[u8]) -> Vec<u8> {
     s
 }
 
+/// So many letters, each a `\S\` with a byte from 61 up: Greek on page G.
+fn shifted(d: &mut Draw, n: usize) -> Vec<u8> {
+    (0..n).flat_map(|_| [b'\\', b'S', b'\\', b'a' + d.below(24) as u8]).collect()
+}
+
 fn groups(d: &mut Draw, directive: &str, n: usize, width: usize, first: usize, codes: usize) -> Vec<u8> {
     let digits: String = (0..n).map(|_| format!("{:0width$X}", first + d.below(codes))).collect();
     format!("\\{directive}\\{digits}\\X0\\").into_bytes()
@@ -144,6 +176,9 @@ fn lists() -> Vec<List> {
             (0..30).map(|_| char::from_u32(0x4E00 + d.below(0x5000) as u32).unwrap()).collect::<String>().into_bytes()
         }),
         List::new("a bad group in a name", 16, |d| around(d, b"\\X2\\00E400Z4\\X0\\")),
+        List::new("12 letters as `\\S\\`, on page A", 18, |d| shifted(d, 12)),
+        List::new("12 letters as `\\S\\`, on page G", 19, |d| [GREEK, &shifted(d, 12)].concat()),
+        List::new("two words of 6 letters as `\\S\\`, on page G", 20, |d| [GREEK, &shifted(d, 6), b" ", &shifted(d, 6), b" 12"].concat()),
     ]
 }
 
@@ -165,7 +200,7 @@ fn list_table(out: &mut [u8]) {
     println!("| strings | bytes each | Rust ns each | proved ns each | proved / Rust |");
     println!("|---|---|---|---|---|");
     for list in lists() {
-        list.each(|s| agree(list.name, s, out));
+        list.each(|s| if s.starts_with(GREEK) { greek(list.name, s, out) } else { agree(list.name, s, out) });
         let (mut a, mut b) = (u64::MAX, u64::MAX);
         for _ in 0..ROUNDS {
             least(&mut a, || rust_list(black_box(&list)));
@@ -241,10 +276,15 @@ fn growth_table(out: &mut [u8]) {
 fn main() {
     keep_memory();
     let mut args = std::env::args().skip(1);
-    if args.next().as_deref() == Some("once") {
+    let word = args.next();
+    if word.as_deref() == Some("once") {
         let mut out = vec![0u8; 4096];
         let side = args.next().unwrap_or_default();
-        let list = if args.next().as_deref() == Some("escaped") { escaped_names() } else { plain_names() };
+        let list = match args.next().as_deref() {
+            Some("escaped") => escaped_names(),
+            Some("plain") | None => plain_names(),
+            Some(n) => lists().swap_remove(n.parse::<usize>().expect("a list's number") - 1),
+        };
         match side.as_str() {
             "rust" => black_box(rust_list(&list)),
             "proved" => black_box(proved_list(&list, &mut out)),
@@ -254,6 +294,9 @@ fn main() {
         return;
     }
     list_table(&mut vec![1u8; 4096]);
+    if word.as_deref() == Some("lists") {
+        return;
+    }
     println!();
     // each byte of a string gives at most two of its text
     growth_table(&mut vec![1u8; 200_000_000]);
