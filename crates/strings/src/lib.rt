@@ -398,14 +398,14 @@ fn long(s: &[u8], out: &mut [u8], at: usize) -> Reached
 }
 
 // The bytes counted so far, how many bytes of the string were read for a piece, and the page then in force.
-struct Onward {
+struct Advance {
     at: usize,
     used: usize,
     page: usize,
 }
 
 // A directive, or a literal backslash. What `long` answers is made anew, so that the other answers need not go through memory.
-fn directive(s: &[u8], page: usize, out: &mut [u8], at: usize) -> Onward
+fn directive(s: &[u8], page: usize, out: &mut [u8], at: usize) -> Advance
     requires { ⌜ is (now s) 0 92 ≡ true ⌝ }
     ensures { λ r. ⌜ Moved (directiveOf page (now (s .entry))) at (now (out .entry)) (r .at) (r .used) (now (out .exit)) ⌝ }
     ensures { λ r. ⌜ r .page ≡ pageAfter page (now (s .entry)) ⌝ }
@@ -414,7 +414,7 @@ fn directive(s: &[u8], page: usize, out: &mut [u8], at: usize) -> Onward
     let y = byte_at(s, 2);
     let z = byte_at(s, 3);
     if (x == 80) & (z == 92) {
-        return Onward {
+        return Advance {
             at,
             used: 4,
             page: pages::page_of(y),
@@ -423,14 +423,14 @@ fn directive(s: &[u8], page: usize, out: &mut [u8], at: usize) -> Onward
     let c = short(s, page);
     let used = c.used;
     if used != 0 {
-        return Onward {
+        return Advance {
             at: put_char(out, at, c.code),
             used,
             page,
         };
     }
     let g = long(s, out, at);
-    Onward {
+    Advance {
         at: g.at,
         used: g.used,
         page,
@@ -438,7 +438,7 @@ fn directive(s: &[u8], page: usize, out: &mut [u8], at: usize) -> Onward
 }
 
 // The piece of the text that stands at the start, where a page is in force.
-fn step(s: &[u8], page: usize, out: &mut [u8], at: usize) -> Onward
+fn step(s: &[u8], page: usize, out: &mut [u8], at: usize) -> Advance
     ensures { λ r. ⌜ Moved (pieceOf page (now (s .entry))) at (now (out .entry)) (r .at) (r .used) (now (out .exit)) ⌝ }
     ensures { λ r. ⌜ r .page ≡ pageAfter page (now (s .entry)) ⌝ }
 {
@@ -447,7 +447,7 @@ fn step(s: &[u8], page: usize, out: &mut [u8], at: usize) -> Onward
     }
     let c = ordinary(s);
     let used = c.used;
-    Onward {
+    Advance {
         at: put_char(out, at, c.code),
         used,
         page,
@@ -506,7 +506,7 @@ fn plain_run(s: &[u8], out: &mut [u8], at: usize) -> Reached
 }
 
 // A piece of the text and the plain bytes after it.
-fn turn(s: &[u8], page: usize, out: &mut [u8], at: usize) -> Onward
+fn turn(s: &[u8], page: usize, out: &mut [u8], at: usize) -> Advance
     requires { ⌜ 0 < length (now s) ⌝ }
     ensures { λ r. ⌜ Turned page (now (s .entry)) at (now (out .entry)) (r .at) (r .used) (now (out .exit)) ⌝ }
     ensures { λ r. ⌜ r .page ≡ pageAfter page (now (s .entry)) ⌝ }
@@ -514,7 +514,7 @@ fn turn(s: &[u8], page: usize, out: &mut [u8], at: usize) -> Onward
     let r = step(s, page, out, at);
     let used = r.used;
     let q = plain_run(&s[used..], out, r.at);
-    Onward {
+    Advance {
         at: q.at,
         used: used + q.used,
         page: r.page,
