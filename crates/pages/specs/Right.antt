@@ -8,7 +8,7 @@ use native.Mathlib.Decide.{decLt}
 use native.Mathlib.Omega.{arith}
 use borrow.Author.Tests.{le-leb, lt-leb, leb-true, le-ltb, ltb-true, ltb-false, eqb-true}
 use lib.Dec.{eqb, leb, ltb}
-use lib.ListN.{length, getD}
+use lib.ListN.{length, getD, List·getD-eq-default}
 use Rattle.lex.specs.Byte.{pick}
 use Rattle.utf8.specs.Utf8.{scalar}
 use Rattle.utf8.specs.Laws.{scalar-low}
@@ -165,24 +165,16 @@ every-in f [] k e h = absurd (omega arith)
 every-in f (x ∷ xs) zero e h = both (f x) (every f xs) e .0
 every-in f (x ∷ xs) (suc k) e h = every-in f xs k (both (f x) (every f xs) e .1) (omega arith)
 
--- past the last page there is none
-past-in : (xs : List (List ℕ)) (k : ℕ) → length xs ≤ k → getD xs k [] ≡ []
-past-in [] k h = refl
-past-in (x ∷ xs) zero h = absurd (omega arith)
-past-in (x ∷ xs) (suc k) h = past-in xs k (omega arith)
+-- it comes after the last
+past : (p : ℕ) → 9 ≤ p → length Tables.pages ≤ p
+past p h = omega (arith, all-whole .0)
 
--- and all its codes are undefined
+-- a page that there is not has no code
 pub entry-none : (p n : ℕ) → 9 ≤ p → 0xFFFD ≡ Tables.entry p n
 unfolding Tables.entry
-entry-none p n h = ap (λ (t : List ℕ). getD t (n - 0xA0) 0xFFFD) (sym (past-in Tables.pages p (omega (arith, all-whole .0))))
+entry-none p n h = ap (λ (t : List ℕ). getD t (n - 0xA0) 0xFFFD) (sym (List·getD-eq-default Tables.pages [] (past p h)))
 
--- past the last code stands none
-past-code : (xs : List ℕ) (k d : ℕ) → length xs ≤ k → getD xs k d ≡ d
-past-code [] k d h = refl
-past-code (x ∷ xs) zero d h = absurd (omega arith)
-past-code (x ∷ xs) (suc k) d h = past-code xs k d (omega arith)
-
--- so a code above FF is undefined
+-- nor is one above FF defined
 pub entry-past : (p n : ℕ) → 0xFF < n → 0xFFFD ≡ Tables.entry p n
 unfolding Tables.entry
 entry-past p n h = go (decLt p 9)
@@ -190,7 +182,8 @@ entry-past p n h = go (decLt p 9)
     go : Dec (p < 9) → 0xFFFD ≡ Tables.entry p n
     go (yes l) =
         let e = eqb-true (length (getD Tables.pages p [])) 96 (every-in whole Tables.pages p (all-whole .1) (omega (arith, all-whole .0))) in
-        sym (past-code (getD Tables.pages p []) (n - 0xA0) 0xFFFD (omega arith))
+        let k : length (getD Tables.pages p []) ≤ n - 0xA0 = omega arith in
+        sym (List·getD-eq-default (getD Tables.pages p []) 0xFFFD k)
     go (no l) = entry-none p n (omega arith)
 
 -- page A, tried number by number

@@ -13,9 +13,9 @@ use Rattle.pages.specs.Rules.{Selects}
 use Rattle.pages.specs.Right as Page
 use Rattle.strings.specs.Text
 use Rattle.strings.specs.Hex.{both}
-use Rattle.strings.specs.Steps.{piece-fits}
+use Rattle.strings.specs.Steps.{piece-fits, page-stays, page-named}
 use Rattle.strings.specs.Rules
-use Rattle.strings.specs.RulesRight.{page-bytes, page-stays, page-named, piece-is, piece-only, reads-some, text-is, text-only}
+use Rattle.strings.specs.RulesRight.{page-bytes, piece-is, piece-only, reads-some, text-is, text-only}
 
 -- a string's bytes and its characters by document 01 alone: each piece is read on page A, whatever page a `\P?\` before it named. A piece that is
 -- no `\S\` is the same on every page (page-blind)

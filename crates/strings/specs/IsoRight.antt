@@ -16,7 +16,7 @@ use Rattle.utf8.specs.Agree.{table-leads}
 use Rattle.pages.specs.Tables.{pages, cyrillic, entry}
 use Rattle.pages.specs.Pages.{pageA, pageOf}
 use Rattle.strings.specs.Text
-use Rattle.strings.specs.Steps.{text-goes, groups-char, groups-stop}
+use Rattle.strings.specs.Steps.{text-goes, groups-char, groups-stop, page-stays, plain-stays, page-named}
 use Rattle.strings.specs.Iso
 
 -- a hex digit of ISO is one of document 01
@@ -52,15 +52,9 @@ piece-then g h s r cs ds k l e f p d t =
     ∙ ap (λ (z : List ℕ). cs ++ Text.textOn h z) d
     ∙ ap (λ (z : List ℕ). cs ++ z) t
 
--- no page is named where no backslash stands first
-other-stays : (g b : ℕ) (r : List ℕ) → (b ≡ 92 → ⊥) → Text.pageAfter g (b ∷ r) ≡ g
-unfolding Text.pageAfter
-other-stays g b r n = rw (ne-eqb b 92 n) refl
-
--- nor where no `P` comes after it
+-- no page is named where no `P` comes after a backslash
 slash-stays : (g a : ℕ) (r : List ℕ) → eqb a 80 ≡ false → Text.pageAfter g (92 ∷ a ∷ r) ≡ g
-unfolding Text.pageAfter
-slash-stays g a r e = rw e refl
+slash-stays g a r e = page-stays g (92 ∷ a ∷ r) (rw e refl)
 
 -- a byte that stands for itself
 piece-basic : (g b : ℕ) (r : List ℕ) → Iso.Basic b → Text.pieceOf g (b ∷ r) ≡ Text.gives (b ∷ []) 1
@@ -77,11 +71,11 @@ piece-lead g f t c k h e = rw (ne-eqb f 92 (λ z. absurd (omega arith)), ne-eqb 
 -- a character from 80 up, in UTF-8
 piece-high : (g c : ℕ) (x r : List ℕ) → In 128 1114111 c → Encoded c x → (0 < length x) × (Text.pieceOf g (x ++ r) ≡ Text.gives (c ∷ []) (length x)) × (Text.pageAfter g (x ++ r) ≡ g)
 piece-high g c _ r h (Encoded.line-one l) = absurd (omega arith)
-piece-high g c _ r h (Encoded.line-two {x = x} {y = y} l e p q) = (omega arith, piece-lead g (192 + x) ((128 + y) ∷ r) c 2 (omega arith) (table-leads (Encoded.line-two l e p q) r), other-stays g (192 + x) ((128 + y) ∷ r) (λ z. omega arith))
+piece-high g c _ r h (Encoded.line-two {x = x} {y = y} l e p q) = (omega arith, piece-lead g (192 + x) ((128 + y) ∷ r) c 2 (omega arith) (table-leads (Encoded.line-two l e p q) r), plain-stays g ((192 + x) ∷ (128 + y) ∷ r) (λ z. omega arith))
 piece-high g c _ r h (Encoded.line-three {x = x} {y = y} {z = z} l n e p q s) =
-    (omega arith, piece-lead g (224 + x) ((128 + y) ∷ (128 + z) ∷ r) c 3 (omega arith) (table-leads (Encoded.line-three l n e p q s) r), other-stays g (224 + x) ((128 + y) ∷ (128 + z) ∷ r) (λ z. omega arith))
+    (omega arith, piece-lead g (224 + x) ((128 + y) ∷ (128 + z) ∷ r) c 3 (omega arith) (table-leads (Encoded.line-three l n e p q s) r), plain-stays g ((224 + x) ∷ (128 + y) ∷ (128 + z) ∷ r) (λ z. omega arith))
 piece-high g c _ r h (Encoded.line-four {x = x} {y = y} {z = z} {w = w} l e p q s u) =
-    (omega arith, piece-lead g (240 + x) ((128 + y) ∷ (128 + z) ∷ (128 + w) ∷ r) c 4 (omega arith) (table-leads (Encoded.line-four l e p q s u) r), other-stays g (240 + x) ((128 + y) ∷ (128 + z) ∷ (128 + w) ∷ r) (λ z. omega arith))
+    (omega arith, piece-lead g (240 + x) ((128 + y) ∷ (128 + z) ∷ (128 + w) ∷ r) c 4 (omega arith) (table-leads (Encoded.line-four l e p q s u) r), plain-stays g ((240 + x) ∷ (128 + y) ∷ (128 + z) ∷ (128 + w) ∷ r) (λ z. omega arith))
 
 -- the digits of a group, and the group of document 01
 two-group : (x : List ℕ) (c : ℕ) (t : List ℕ) → Iso.Two x c → Iso.Character c
@@ -187,9 +181,8 @@ page-known a (Iso.capital (l, h)) = go (ltb a 74) refl
 page-known _ Iso.low-line = refl
 
 -- "apply the page to every later `\S\`": it is named
-page-turns : (g a : ℕ) (r : List ℕ) → Iso.Upper a → Text.pageAfter g (92 ∷ 80 ∷ a ∷ 92 ∷ r) ≡ known (a - 65)
-unfolding Text.pageAfter
-page-turns g a r h = page-known a h
+alphabet-names : (g a : ℕ) (r : List ℕ) → Iso.Upper a → Text.pageAfter g (92 ∷ 80 ∷ a ∷ 92 ∷ r) ≡ known (a - 65)
+alphabet-names g a r h = page-named g (92 ∷ 80 ∷ a ∷ 92 ∷ r) refl ∙ page-known a h
 
 -- "`\S\c` code c+128", on a page
 piece-shift : (p c : ℕ) (r : List ℕ) → Iso.Latin c → p < 9 → Text.pieceOf (known p) (92 ∷ 83 ∷ 92 ∷ c ∷ r) ≡ Text.gives (entry p (c + 128) ∷ []) 4
@@ -211,15 +204,15 @@ basic-other b (Iso.to-tilde h) e = omega (arith, h)
 pub iso-on : {p : ℕ} {s cs : List ℕ} → Iso.Iso p s cs → Text.textOn (known p) s ≡ cs
 unfolding Text.textOn Text.textFrom
 iso-on Iso.Iso.ends = refl
-iso-on {p} (Iso.Iso.basic {b = b} {r = r} {cs = cs} h i) = piece-then (known p) (known p) (b ∷ r) r (b ∷ []) cs 1 (omega arith) (piece-basic (known p) b r h) (other-stays (known p) b r (basic-other b h)) (omega arith) refl (iso-on i)
+iso-on {p} (Iso.Iso.basic {b = b} {r = r} {cs = cs} h i) = piece-then (known p) (known p) (b ∷ r) r (b ∷ []) cs 1 (omega arith) (piece-basic (known p) b r h) (plain-stays (known p) (b ∷ r) (basic-other b h)) (omega arith) refl (iso-on i)
 iso-on {p} (Iso.Iso.high-codepoint {c = c} {x = x} {r = r} {cs = cs} h e i) =
     let (k, m, n) = piece-high (known p) c x r h e in
     let l : 0 < length (x ++ r) = omega (arith, length-append x r, k) in
     piece-then (known p) (known p) (x ++ r) r (c ∷ []) cs (length x) l m n k (drop-append-seam x r) (iso-on i)
-iso-on {p} (Iso.Iso.apostrophe {r = r} {cs = cs} i) = piece-then (known p) (known p) (39 ∷ 39 ∷ r) r (39 ∷ []) cs 2 (omega arith) (piece-quote (known p) r) (other-stays (known p) 39 (39 ∷ r) (λ e. omega arith)) (omega arith) refl (iso-on i)
+iso-on {p} (Iso.Iso.apostrophe {r = r} {cs = cs} i) = piece-then (known p) (known p) (39 ∷ 39 ∷ r) r (39 ∷ []) cs 2 (omega arith) (piece-quote (known p) r) (plain-stays (known p) (39 ∷ 39 ∷ r) (λ e. omega arith)) (omega arith) refl (iso-on i)
 iso-on {p} (Iso.Iso.reverse-solidus {r = r} {cs = cs} i) = piece-then (known p) (known p) (92 ∷ 92 ∷ r) r (92 ∷ []) cs 2 (omega arith) (piece-backslash (known p) r) (slash-stays (known p) 92 r refl) (omega arith) refl (iso-on i)
 iso-on {p} (Iso.Iso.page {c = c} {r = r} {cs = cs} h l n i) = piece-then (known p) (known p) (92 ∷ 83 ∷ 92 ∷ c ∷ r) r (entry p (c + 128) ∷ []) cs 4 (omega arith) (piece-shift p c r h l) (slash-stays (known p) 83 (92 ∷ c ∷ r) refl) (omega arith) refl (iso-on i)
-iso-on {p} (Iso.Iso.alphabet {a = a} {r = r} {cs = cs} h i) = piece-then (known p) (known (a - 65)) (92 ∷ 80 ∷ a ∷ 92 ∷ r) r [] cs 4 (omega arith) (piece-page (known p) a r) (page-turns (known p) a r h) (omega arith) refl (iso-on i)
+iso-on {p} (Iso.Iso.alphabet {a = a} {r = r} {cs = cs} h i) = piece-then (known p) (known (a - 65)) (92 ∷ 80 ∷ a ∷ 92 ∷ r) r [] cs 4 (omega arith) (piece-page (known p) a r) (alphabet-names (known p) a r h) (omega arith) refl (iso-on i)
 iso-on {p} (Iso.Iso.extended2 {g = g} {r = r} {cs = cs} {ds = ds} t i) =
     piece-then (known p) (known p) (92 ∷ 88 ∷ 50 ∷ 92 ∷ (g ++ (Iso.endExtended ++ r))) r cs ds (4 + (length g + 4)) (omega arith) (piece-two (known p) g r cs (twos-groups r t)) (slash-stays (known p) 88 (50 ∷ 92 ∷ (g ++ (Iso.endExtended ++ r))) refl) (omega arith) (sym (drop-drop (length g + 4) 4 (92 ∷ 88 ∷ 50 ∷ 92 ∷ (g ++ (Iso.endExtended ++ r)))) ∙ drop-groups g r) (iso-on i)
 iso-on {p} (Iso.Iso.extended4 {g = g} {r = r} {cs = cs} {ds = ds} t i) =

@@ -20,7 +20,7 @@ use Rattle.pages.specs.Pages.{pageA, pageOf, codeOf}
 use Rattle.pages.specs.Right as Page
 use Rattle.strings.specs.Text
 use Rattle.strings.specs.Hex.{both, neither, hex-within, four-within}
-use Rattle.strings.specs.Steps.{is-within, ends, groups-stop, groups-wrong, groups-char, piece-fits, text-goes}
+use Rattle.strings.specs.Steps.{is-within, ends, groups-stop, groups-wrong, groups-char, piece-fits, text-goes, page-stays, plain-stays}
 use Rattle.strings.specs.Rules
 
 -- a test that holds does not fail
@@ -677,16 +677,6 @@ raw-says g b r h = go (leadOf (b ∷ r)) refl
             let z : _≡_ {A = ℕ} 0 1 = cc in
             absurd (omega arith)
 
--- the page stays where no `\P?\` stands
-pub page-stays : (g : ℕ) (s : List ℕ) → Text.is s 0 92 && (Text.is s 1 80 && Text.is s 3 92) ≡ false → Text.pageAfter g s ≡ g
-unfolding Text.pageAfter
-page-stays g s e = rw e refl
-
--- and where one stands it is the page that this selects
-pub page-named : (g : ℕ) (s : List ℕ) → Text.is s 0 92 && (Text.is s 1 80 && Text.is s 3 92) ≡ true → Text.pageAfter g s ≡ pageOf (byteAt s 2)
-unfolding Text.pageAfter
-page-named g s e = rw e refl
-
 -- what is computed where none stands is what the rules give
 piece-says : (g : ℕ) (s : List ℕ) → 0 < length s → Text.is s 0 92 && (Text.is s 1 80 && Text.is s 3 92) ≡ false → Says g s (Text.pieceOf g s)
 unfolding Text.pieceOf
@@ -775,22 +765,18 @@ reads-only {g} (Rules.sequence {c = c} bs r t h) =
     raw-only g (bs ++ r) (encoded-high r t h) ∙ ap (Text.rawOf (byteAt (bs ++ r) 0)) l
 reads-only {g} (Rules.latin {b = b} {r = r} h n) = raw-only g (b ∷ r) h ∙ ap (Text.rawOf b) (led-none (b ∷ r) n)
 
--- no page is named where no backslash stands first
-no-backslash-stays : (g : ℕ) (s : List ℕ) → (byteAt s 0 ≡ 92 → ⊥) → Text.pageAfter g s ≡ g
-no-backslash-stays g s n = page-stays g s (rw (ne-eqb (byteAt s 0) 92 n) refl)
-
--- nor at an unknown directive
+-- no page is named at an unknown directive
 unknown-stays : (g : ℕ) (r : List ℕ) → Undirected (92 ∷ r) → Text.pageAfter g (92 ∷ r) ≡ g
 unknown-stays g r u = page-stays g (92 ∷ r) (u .no-page)
 
 -- the page that the rules leave is computed
 pub reads-page : {g h k : ℕ} {s cs : List ℕ} → Rules.Reads g s cs k h → h ≡ Text.pageAfter g s
-reads-page {g} (Rules.quote {r = r}) = sym (no-backslash-stays g (39 ∷ 39 ∷ r) (λ e. omega arith))
+reads-page {g} (Rules.quote {r = r}) = sym (plain-stays g (39 ∷ 39 ∷ r) (λ e. omega arith))
 reads-page (Rules.directive d) = directive-page d
 reads-page {g} (Rules.unknown {r = r} n) = sym (unknown-stays g r (undirected-is g (92 ∷ r) refl n))
-reads-page {g} (Rules.itself {b = b} {r = r} h n q) = sym (no-backslash-stays g (b ∷ r) n)
-reads-page {g} (Rules.sequence bs r t h) = let k = encoded-high r t h in sym (no-backslash-stays g (bs ++ r) (λ e. omega arith))
-reads-page {g} (Rules.latin {b = b} {r = r} h n) = sym (no-backslash-stays g (b ∷ r) (λ e. omega arith))
+reads-page {g} (Rules.itself {b = b} {r = r} h n q) = sym (plain-stays g (b ∷ r) n)
+reads-page {g} (Rules.sequence bs r t h) = let k = encoded-high r t h in sym (plain-stays g (bs ++ r) (λ e. omega arith))
+reads-page {g} (Rules.latin {b = b} {r = r} h n) = sym (plain-stays g (b ∷ r) (λ e. omega arith))
 
 -- and nothing else is: the rules give one piece at most, and leave one page
 pub piece-only : {g h k : ℕ} {s cs : List ℕ} → Rules.Reads g s cs k h → (cs ≡ Text.pieceOf g s .chars) × (k ≡ Text.pieceOf g s .used) × (h ≡ Text.pageAfter g s)

@@ -12,6 +12,7 @@ use lib.Seq.{drop-drop, append-snoc, take-all}
 use Rattle.lex.specs.Byte.{pick}
 use Rattle.utf8.specs.Utf8.{byteAt, Lead, valid, invalid, leadOf, encodeAll}
 use Rattle.lex.specs.Walk.{split}
+use Rattle.pages.specs.Pages.{pageOf}
 use Rattle.strings.specs.Text
 use Rattle.strings.specs.Hex.{both, neither, hex-within, four-within}
 use Rattle.utf8.specs.Laws.{used-within}
@@ -127,6 +128,20 @@ text-goes g (b ∷ r) zero h e p = absurd (omega arith)
 text-goes g (b ∷ r) (suc n) h e p =
     let q : Text.pieceOf g (b ∷ r) .used - 1 ≡ n = omega arith in
     rw q (ap (λ (z : List ℕ). Text.pieceOf g (b ∷ r) .chars ++ z) (text-skip (Text.pageAfter g (b ∷ r)) n r))
+
+-- where no `\P?\` stands the page stays
+pub page-stays : (g : ℕ) (s : List ℕ) → Text.is s 0 92 && (Text.is s 1 80 && Text.is s 3 92) ≡ false → Text.pageAfter g s ≡ g
+unfolding Text.pageAfter
+page-stays g s e = rw e refl
+
+-- so it does where no backslash stands first
+pub plain-stays : (g : ℕ) (s : List ℕ) → (byteAt s 0 ≡ 92 → ⊥) → Text.pageAfter g s ≡ g
+plain-stays g s n = page-stays g s (rw (ne-eqb (byteAt s 0) 92 n) refl)
+
+-- where a `\P?\` stands it is the page that this selects
+pub page-named : (g : ℕ) (s : List ℕ) → Text.is s 0 92 && (Text.is s 1 80 && Text.is s 3 92) ≡ true → Text.pageAfter g s ≡ pageOf (byteAt s 2)
+unfolding Text.pageAfter
+page-named g s e = rw e refl
 
 -- no byte, no text
 pub text-ends : (g : ℕ) (s : List ℕ) (i : ℕ) → length s ≤ i → Text.textOn g (drop i s) ≡ []

@@ -19,7 +19,7 @@ use Rattle.strings.specs.Code.{View, viewOf, oneView, Moved, Ran, Turned
 use Rattle.strings.specs.Put.{most, Laid, laid-nothing, laid-then, laid-chars}
 use Rattle.strings.specs.Hex.{both, found, missed, two-below}
 use Rattle.strings.specs.Runs.{text-plain, encode-plain, bytes-plain}
-use Rattle.strings.specs.Steps.{is-within, piece-fits, text-goes, text-ends}
+use Rattle.strings.specs.Steps.{is-within, piece-fits, text-goes, text-ends, page-stays, plain-stays, page-named}
 
 -- two tests that fail together fail with a third
 and-false : (a b t : Bool) → a && b ≡ false → a && (b && t) ≡ false
@@ -164,13 +164,12 @@ module _ (s : List ℕ) (x y z : ℕ) (ex : x ≡ byteAt s 1) (ey : y ≡ byteAt
 -- `P`, a byte and a backslash behind a backslash, as the code tests them
 module _ (g : ℕ) (s : List ℕ) (o : Text.is s 0 92 ≡ true) (x y z : ℕ) (ex : x ≡ byteAt s 1) (ey : y ≡ byteAt s 2) (ez : z ≡ byteAt s 3) where
   -- no page is named
-  pub unpaged : eqb x 80 && eqb z 92 ≡ false → Text.is s 1 80 && Text.is s 3 92 ≡ false
-  unpaged h = rw (sym ex, sym ez) h
+  pub unnamed : eqb x 80 && eqb z 92 ≡ false → Text.is s 1 80 && Text.is s 3 92 ≡ false
+  unnamed h = rw (sym ex, sym ez) h
 
   -- so it stays
-  pub page-stays : eqb x 80 && eqb z 92 ≡ false → g ≡ Text.pageAfter g s
-  unfolding Text.pageAfter
-  page-stays h = rw (o, unpaged h) refl
+  pub page-same : eqb x 80 && eqb z 92 ≡ false → g ≡ Text.pageAfter g s
+  page-same h = sym (page-stays g s (rw (o, unnamed h) refl))
 
   module _ (h : eqb x 80 && eqb z 92 ≡ true) where
     -- one is
@@ -178,9 +177,8 @@ module _ (g : ℕ) (s : List ℕ) (o : Text.is s 0 92 ≡ true) (x y z : ℕ) (e
     named = rw (sym ex, sym ez) h
 
     -- and it is the one that the byte selects
-    pub page-turns : (q : ℕ) → q ≡ pageOf y → q ≡ Text.pageAfter g s
-    unfolding Text.pageAfter
-    page-turns q e = e ∙ rw (o, named, sym ey) refl
+    pub page-other : (q : ℕ) → q ≡ pageOf y → q ≡ Text.pageAfter g s
+    page-other q e = e ∙ ap pageOf ey ∙ sym (page-named g s (rw (o, named) refl))
 
     -- "`\P?\` nothing"
     page-piece : Text.directiveOf g s ≡ Text.gives [] 4
@@ -207,10 +205,9 @@ piece-directive g s e = rw e refl
 pub no-directive : (s : List ℕ) (b : ℕ) → b ≡ byteAt s 0 → (b ≡ 92 → ⊥) → eqb (byteAt s 0) 92 ≡ false
 no-directive s b e h = ne-eqb (byteAt s 0) 92 (λ k. h (e ∙ k))
 
--- no backslash, no page
-pub no-page : (g : ℕ) (s : List ℕ) (b : ℕ) → b ≡ byteAt s 0 → (b ≡ 92 → ⊥) → g ≡ Text.pageAfter g s
-unfolding Text.pageAfter
-no-page g s b e h = rw (no-directive s b e h) refl
+-- no backslash, no other page
+pub ordinary-page : (g : ℕ) (s : List ℕ) (b : ℕ) → b ≡ byteAt s 0 → (b ≡ 92 → ⊥) → g ≡ Text.pageAfter g s
+ordinary-page g s b e h = sym (plain-stays g s (λ k. h (e ∙ k)))
 
 -- the text is read up to place i, where page g is in force, and its characters put
 pub record Running (s : List ℕ) (a₀ : ℕ) (o₀ : List ℕ) (i g a : ℕ) (o : List ℕ) : Type 0 where
