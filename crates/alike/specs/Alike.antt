@@ -6,8 +6,8 @@ use mathlib.Core.Bool.{Bool, true, false}
 use mathlib.Core.List.{List, [], _∷_}
 use mathlib.Core.Option.{Option, none, some}
 use lib.ListN.{length}
+use Rattle.common.specs.Pick.{pick}
 use Rattle.error.specs.Refusal.{Refusal, Told, good, bad}
-use Rattle.lex.specs.Byte.{pick}
 use Rattle.kinds.specs.declared.Kind.{Kind}
 use Rattle.params.specs.Reader.{Span, onward}
 use Rattle.lookup.specs.Lookup.{cut}

@@ -5,9 +5,9 @@ use mathlib.Core.Path.{_≡_, refl, sym, _∙_, ap}
 use mathlib.Core.Bool.{Bool, true, false}
 use mathlib.Core.List.{List, [], _∷_}
 use mathlib.Core.Option.{Option, some}
+use Rattle.common.specs.Pick.{pick}
+use Rattle.common.specs.Compare.{clash}
 use Rattle.error.specs.Refusal.{Told, good, bad}
-use Rattle.lex.specs.Byte.{pick}
-use Rattle.lex.specs.Right.Steps.{clash}
 use Rattle.kinds.specs.declared.Kind.the-variants.{GeometricRepresentationContext}
 use Rattle.params.specs.Reader.{onward}
 use Rattle.factors.specs.Thing.{goodBy, sameKind, Piece, Thing, firstPiece}

@@ -122,11 +122,7 @@ fn titled(file: &[u8], w: RecordSpan, times: u64) -> Line {
 
 // A number of a table, 0 past its end.
 pub fn number(rows: &[u32], i: usize) -> usize {
-    if i < rows.len() { wide(rows[i]) } else { 0 }
-}
-
-fn wide(n: u32) -> usize {
-    n as usize
+    if i < rows.len() { common::wide(rows[i]) } else { 0 }
 }
 
 // What a scan counts: `records N max M`, or that the file is accepted.

@@ -11,9 +11,9 @@ use borrow.Author.Tests.{le-leb}
 use lib.Dec.{leb}
 use lib.ListN.{length, take, drop, length-map, length-append}
 use lib.Seq.{take-all}
+use Rattle.common.specs.Pick.{pick}
+use Rattle.common.specs.Compare.{clash}
 use Rattle.error.specs.Refusal.{Refusal, refusal, Told, good, bad}
-use Rattle.lex.specs.Byte.{pick}
-use Rattle.lex.specs.Right.Steps.{clash}
 use Rattle.scalars.specs.Scalars.{isUnset}
 use Rattle.params.specs.Reader.{Span, span, onward, paramOf}
 use Rattle.params.specs.Places.{param-past}

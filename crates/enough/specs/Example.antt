@@ -2,7 +2,7 @@
 -- record whose arguments are a list as they stand. Assumes nothing.
 use mathlib.Core.Path.{_≡_, refl}
 use Rattle.error.specs.Refusal.{good}
-use Rattle.lex.specs.Walk.{walk}
+use Rattle.common.specs.Walk.{walk}
 use Rattle.lex.specs.Search.{trivia, recordEnd, closing}
 use Rattle.record.specs.Form.{bytes}
 use Rattle.record.specs.Text.{past, numberFrom, keyword, trail}

@@ -10,7 +10,7 @@ use lib.Dec.{leb, eqb}
 use borrow.Author.Tests.{leb-true}
 use lib.ListN.{length, getD}
 use lib.Seq.{sets}
-use Rattle.lex.specs.Byte.{pick}
+use Rattle.common.specs.Pick.{pick}
 use Rattle.index.specs.Order.{idOf, rowAt, tableRoom}
 use Rattle.index.specs.Lookup.{lookupOf}
 use Rattle.index.specs.Index.{Built, endId, built-slots-only, built-only}

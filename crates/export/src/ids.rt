@@ -2,7 +2,7 @@
 ghost use mathlib.Core.Path.{_≡_};
 ghost use lib.Dec.{leb};
 ghost use lib.ListN.{length};
-ghost use Rattle.lex.specs.Byte.{pick};
+ghost use Rattle.common.specs.Pick.{pick};
 ghost use Rattle.index.specs.Search.{searched};
 ghost use Rattle.plain.specs.Numbers.{idsBy};
 ghost use Rattle.finds.specs.Finds.{rowNumber, Told};
@@ -12,7 +12,7 @@ ghost use Rattle.export.specs.Ids.{lentEnough, indexCode, Indexed};
 fn enough(rows: usize, count: usize, slots: usize, ids: usize) -> bool
     ensures { λ r. ⌜ r ≡ lentEnough rows count slots ids ⌝ }
 {
-    let records = lex::within(count, rows / 6);
+    let records = common::within(count, rows / 6);
     (8 <= ids) & (records <= slots) & (records <= 1073741824)
 }
 

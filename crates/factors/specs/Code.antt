@@ -3,11 +3,11 @@ use Prim.Native.Nat.{ℕ, _-_}
 use mathlib.Core.List.{List, []}
 use mathlib.Core.Option.{Option, none, some}
 use lib.Ieee.{binary64, toBits}
+use Rattle.common.specs.Pick.{pick}
 use Rattle.error.specs.Refusal.{Told, good, bad, told}
 use mathlib.Core.Bool.{Bool, true, _&&_}
 use lib.Dec.{leb}
 use lib.ListN.{length, take, drop}
-use Rattle.lex.specs.Byte.{pick}
 use Rattle.record.specs.Word.{isWord}
 use Rattle.words.specs.declared.NextName as NextNameCode
 use Rattle.params.specs.Reader.{Span, span}

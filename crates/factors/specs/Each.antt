@@ -4,7 +4,7 @@ use mathlib.Core.Path.{_≡_, refl, sym, _∙_, ap, subst}
 use mathlib.Core.Logic.{_⊎_, inl, inr}
 use mathlib.Core.List.{List, [], _∷_, _++_}
 use mathlib.Core.Option.{Option, none, some}
-use Rattle.lex.specs.Right.Steps.{clash}
+use Rattle.common.specs.Compare.{clash}
 use Rattle.lookup.specs.Records.{orElse}
 
 -- each member is so, wherever the list is cut around one

@@ -9,9 +9,9 @@ use native.Mathlib.Omega.{arith}
 use borrow.Author.Tests.{le-leb, le-ltb}
 use lib.Dec.{eqb}
 use lib.ListN.{length, take, drop}
+use Rattle.common.specs.Pick.{pick}
+use Rattle.common.specs.Compare.{clash}
 use Rattle.error.specs.Refusal.{Refusal, refusal, Told, good, bad}
-use Rattle.lex.specs.Byte.{pick}
-use Rattle.lex.specs.Right.Steps.{clash}
 use Rattle.record.specs.Turns.{bounds}
 use Rattle.record.specs.Word.{same, isWord}
 use Rattle.record.specs.Form.{bytes}

@@ -8,8 +8,8 @@ use mathlib.Core.Option.{Option, none, some}
 use native.Mathlib.Omega.{arith}
 use lib.Dec.{eqb}
 use lib.ListN.{length}
+use Rattle.common.specs.Pick.{pick}
 use Rattle.error.specs.Refusal.{refusal, Told, good, bad}
-use Rattle.lex.specs.Byte.{pick}
 use Rattle.record.specs.Turns.{bounds}
 use Rattle.statement.specs.Row.{Row}
 use Rattle.kinds.specs.declared.Kind.{Kind}

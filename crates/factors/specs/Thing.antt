@@ -6,8 +6,8 @@ use mathlib.Core.List.{List, [], _∷_, map}
 use mathlib.Core.Option.{Option, none, some}
 use lib.Dec.{eqb}
 use lib.ListN.{length}
+use Rattle.common.specs.Pick.{pick}
 use Rattle.error.specs.Refusal.{refusal, Told, good, bad}
-use Rattle.lex.specs.Byte.{pick}
 use Rattle.statement.specs.Row.{Row, HeaderRow}
 use Rattle.kinds.specs.Kind.{kindOf, rankOf}
 use Rattle.kinds.specs.declared.Kind.{Kind}

@@ -12,7 +12,8 @@ use native.Mathlib.Nat.{mul-le-mul-right, mul-div-cancel, div-add-mod'}
 use lib.Dec.{ltb, leb, eqb}
 use lib.ListN.{length, getD}
 use borrow.Author.Tests.{leb-true, ltb-true, le-ltb, ne-eqb}
-use Rattle.index.specs.Order.{idOf, slotId, tableRoom, less-or}
+use Rattle.common.specs.Compare.{less-or}
+use Rattle.index.specs.Order.{idOf, slotId, tableRoom}
 use Rattle.index.specs.Search.{bracket, wide, rangeEnd, endOf, standing, firstRow, searched}
 use Rattle.index.specs.Guide.{start-in, end-all, end-even, end-guide, guide-is, range-finds, first-dense, first-none, even-place}
 use Rattle.index.specs.SearchRight.{get-first, get-later, seek-hit}

@@ -10,7 +10,7 @@ use lib.Dec.{eqb}
 use lib.ListN.{length, getD, set, length-set}
 use lib.Seq.{getD-set-same, getD-set-other}
 use borrow.Author.Tests.{lt-ltb, eq-eqb}
-use Rattle.index.specs.Order.{ordered, less-or}
+use Rattle.common.specs.Compare.{ordered, less-or}
 use Rattle.finds.specs.Finds.{Told, full}
 use Rattle.finds.specs.Looks.{roomOf, rowOf, Hint, hint-row, both}
 use Rattle.index.specs.declared.Ids.{Ids}

@@ -199,16 +199,8 @@ fn range_start(slots: &[u64], n: usize, b: Ids, id: u32) -> u32
     requires { ⌜ (1 < n) × (n ≤ length (now slots)) × (n ≤ 1073741824) ⌝ }
     ensures { λ r. ⌜ r ≡ startNear (now (slots .entry)) n b id ⌝ }
 {
-    let q = lex::within(index::range_of(far_of(b.first, id), b.shift), n - 2);
+    let q = common::within(index::range_of(far_of(b.first, id), b.shift), n - 2);
     least(slots[q], n) as u32
-}
-
-// How many of a range's rows stand before an id so far above its first, if they fill it evenly.
-fn share(far: u32, rows: usize, shift: u32) -> usize
-    requires { ⌜ rows ≤ 1073741824 ⌝ }
-    ensures { λ r. ⌜ r ≡ far * rows / wide shift ⌝ }
-{
-    far as usize * rows >> (shift % 32)
 }
 
 // A row's number, and 1 for row 0.
@@ -247,7 +239,7 @@ fn near_row(slots: &[u64], n: usize, b: Ids, start: u32, id: u32) -> u32
     if hi <= lo {
         return 4294967295;
     }
-    (lo + share(inside_of(far, b.shift), hi - lo, b.shift)) as u32
+    (lo + common::share(inside_of(far, b.shift), (hi - lo) as u32, b.shift)) as u32
 }
 
 // Where the ranges of ids begin by the guide.
@@ -314,13 +306,6 @@ fn near(rows: &[u32], slots: &[u64], b: Ids, ids: &[u32], found: &mut [u32], fro
     slot_near(rows, slots, b, ids, found, from, to);
 }
 
-// The greater of two numbers.
-fn greater(a: u32, b: u32) -> u32
-    ensures { λ r. ⌜ r ≡ max a b ⌝ }
-{
-    if a < b { b } else { a }
-}
-
 // The highest of the numbers of a part, or 0.
 fn highest(found: &[u32], from: usize, to: usize) -> u32
     requires { ⌜ (from ≤ to) × (to ≤ length (now found)) ⌝ }
@@ -329,7 +314,7 @@ fn highest(found: &[u32], from: usize, to: usize) -> u32
     let mut top = 0;
     let mut i = from;
     while i < to {
-        top = greater(top, found[i]);
+        top = common::greater(top, found[i]);
         i += 1;
     }
     top
@@ -428,7 +413,7 @@ fn get_parts(rows: &[u32], slots: &[u64], b: Ids, ids: &[u32], found: &mut [u32]
 {
     let mut i: usize = 0;
     while i < ids.len() {
-        let to = i + lex::within(ids.len() - i, 128);
+        let to = i + common::within(ids.len() - i, 128);
         get_part(rows, slots, b, ids, found, i, to);
         i = to;
     }

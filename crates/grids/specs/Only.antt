@@ -2,9 +2,9 @@
 -- by their bits (lists/specs/Only.antt). Assumes nothing.
 use Prim.Native.Nat.{ℕ}
 use mathlib.Core.Path.{_≡_, refl, sym, _∙_, ap}
+use Rattle.common.specs.Pick.{pick}
 use Rattle.error.specs.Refusal.{Told, good, bad, faultOf, faultOf-told}
 use lib.Dec.{eqb}
-use Rattle.lex.specs.Byte.{pick}
 use Rattle.params.specs.Reader.{Read}
 use Rattle.lists.specs.Items.{Fate, fine, faulty}
 use Rattle.grids.specs.declared.Tally.{Tally}

@@ -21,13 +21,6 @@ pub enum HeaderFound {
     Refused(Fault),
 }
 
-// A number of 32 bits as a place.
-fn wide(x: u32) -> usize
-    ensures { λ r. ⌜ r ≡ x ⌝ }
-{
-    x as usize
-}
-
 // Header row k.
 fn read_header(heads: &[u32], k: usize) -> HeaderSpan
     requires { ⌜ k * 4 + 4 ≤ length (now heads) ⌝ }
@@ -35,12 +28,12 @@ fn read_header(heads: &[u32], k: usize) -> HeaderSpan
 {
     let at = k * 4;
     let keyword = Range {
-        start: wide(heads[at]),
-        end: wide(heads[at + 1]),
+        start: common::wide(heads[at]),
+        end: common::wide(heads[at + 1]),
     };
     let args = Range {
-        start: wide(heads[at + 2]),
-        end: wide(heads[at + 3]),
+        start: common::wide(heads[at + 2]),
+        end: common::wide(heads[at + 3]),
     };
     HeaderSpan { keyword, args }
 }
@@ -72,7 +65,7 @@ fn is_named(file: &[u8], heads: &[u32], k: usize, name: &[u8]) -> bool
 pub fn header_row(file: &[u8], heads: &[u32], t: Tables, name: &[u8]) -> Place
     ensures { λ r. ⌜ toldPlace r ≡ headerFirst (now (file .entry)) (now (heads .entry)) (t .headers) (now (name .entry)) ⌝ }
 {
-    let n = lex::within(t.headers, heads.len() / 4);
+    let n = common::within(t.headers, heads.len() / 4);
     let mut i = 0;
     while i < n {
         if is_named(file, heads, i, name) {

@@ -10,9 +10,10 @@ use lib.Dec.{ltb, leb, eqb}
 use lib.ListN.{length, getD, set, length-set}
 use lib.Seq.{getD-set-same, getD-set-other}
 use borrow.Author.Tests.{lt-ltb, le-ltb, le-leb, lt-leb, ltb-true, ltb-false, eqb-true, eqb-false}
-use Rattle.lex.specs.Byte.{pick}
-use Rattle.lex.specs.Walk.{turned}
-use Rattle.index.specs.Order.{rowAt, tableRoom, Rises, Steady, stepOf, Says, ordered, less-or}
+use Rattle.common.specs.Pick.{pick}
+use Rattle.common.specs.Compare.{ordered, less-or}
+use Rattle.common.specs.Walk.{turned}
+use Rattle.index.specs.Order.{rowAt, tableRoom, Rises, Steady, stepOf, Says}
 use Rattle.index.specs.Index.{Starts, IsShift, Passed}
 use Rattle.index.specs.IndexRight.{rises-far}
 use Rattle.index.specs.Search.{Bracket, bracket, looked, ended, opening, startAt, wide, ranged, among, rangeEnd, guideEnd, evenEnd, endOf, firstRow}

@@ -10,8 +10,9 @@ use lib.Dec.{eqb}
 use borrow.Author.Tests.{ne-eqb}
 use lib.ListN.{length, getD, take, drop}
 use lib.Seq.{ext-getD, getD-drop}
-use Rattle.lex.specs.Byte.{pick}
-use Rattle.index.specs.Order.{idOf, keyOf, rowAt, Rises, Steady, Says, ordered, less-or}
+use Rattle.common.specs.Pick.{pick}
+use Rattle.common.specs.Compare.{ordered, less-or}
+use Rattle.index.specs.Order.{idOf, keyOf, rowAt, Rises, Steady, Says}
 use Rattle.index.specs.declared.Ids.{Ids}
 use Rattle.index.specs.declared.Spacing.{Spacing}
 

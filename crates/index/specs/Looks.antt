@@ -11,13 +11,13 @@ use native.Mathlib.Omega.{arith}
 use native.Mathlib.Nat.{pow-suc, pow-le-pow-right}
 use lib.Dec.{ltb, leb, eqb}
 use borrow.Author.Tests.{eq-eqb, le-ltb, lt-leb}
-use Rattle.lex.specs.Byte.{pick}
-use Rattle.lex.specs.Walk.{Turn, stop, on, turned}
+use Rattle.common.specs.Pick.{pick}
+use Rattle.common.specs.Compare.{ordered}
+use Rattle.common.specs.Walk.{Turn, stop, on, turned}
 use Rattle.index.specs.Search.{Bracket, probeOf, turnAt, turn, endFrom, opening, startAt, wide, ranged, among}
 use Rattle.index.specs.SearchRight.{Turns, turn-by, guide-high}
 use Rattle.index.specs.Laws.{probe-low, probe-high}
 use Rattle.index.specs.Guide.{wide-pos, among-low}
-use Rattle.index.specs.Order.{ordered}
 use Rattle.index.specs.declared.Ids.{Ids}
 
 -- what follows a look: nothing where the search stops there, else the looks at what is left

@@ -8,8 +8,8 @@ use mathlib.Core.Logic.{_⊎_, inl, inr, ⊎-elim}
 use native.Mathlib.Omega.{arith}
 use lib.Dec.{eqb}
 use borrow.Author.Tests.{eqb-true, eqb-false}
-use Rattle.lex.specs.Byte.{pick}
-use Rattle.index.specs.Order.{ordered}
+use Rattle.common.specs.Pick.{pick}
+use Rattle.common.specs.Compare.{ordered}
 
 -- a map from ids to rows: the row that it has for an id, or none
 abbrev pub Map : Type 0

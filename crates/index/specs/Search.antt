@@ -7,8 +7,8 @@ use mathlib.Core.List.{List}
 use mathlib.Core.Option.{Option, none, some}
 use lib.Dec.{ltb, leb, eqb}
 use lib.ListN.{length, getD}
-use Rattle.lex.specs.Byte.{pick}
-use Rattle.lex.specs.Walk.{Turn, stop, on, turned}
+use Rattle.common.specs.Pick.{pick}
+use Rattle.common.specs.Walk.{Turn, stop, on, turned}
 use Rattle.index.specs.Order.{idOf, rowAt, slotId, tableRoom}
 use Rattle.index.specs.declared.Ids.{Ids}
 use Rattle.index.specs.declared.Found.{Found}

@@ -11,9 +11,10 @@ use native.Mathlib.Nat.{mod-eq-of-lt, mul-le-mul-right, div-mul-le-self, lt-div-
 use lib.Dec.{ltb, leb, eqb}
 use lib.ListN.{length, getD}
 use borrow.Author.Tests.{ltb-true, ltb-false, leb-true, leb-false, eqb-true, eqb-false, lt-ltb, le-ltb, eq-eqb, ne-eqb}
-use Rattle.lex.specs.Byte.{pick}
-use Rattle.lex.specs.Walk.{Turn, stop, on, turned}
-use Rattle.index.specs.Order.{idOf, rowAt, slotId, tableRoom, Before, Rises, Steady, stepOf, Says, ordered, less-or}
+use Rattle.common.specs.Pick.{pick}
+use Rattle.common.specs.Compare.{ordered, less-or}
+use Rattle.common.specs.Walk.{Turn, stop, on, turned}
+use Rattle.index.specs.Order.{idOf, rowAt, slotId, tableRoom, Before, Rises, Steady, stepOf, Says}
 use Rattle.index.specs.Lookup.{lookupOf, LookupForm, IsLast, Missing, lookup-only}
 use Rattle.index.specs.Index.{Starts, Guides, Held, Built, end-some}
 use Rattle.index.specs.IndexRight.{Along, Ranks, rises-far, direct-ranks, index-ranks, index-id, steady-same}

@@ -9,9 +9,9 @@ use lib.Dec.{ltb, leb, eqb}
 use borrow.Author.Tests.{ltb-true, ltb-false, leb-true, le-leb}
 use lib.ListN.{length, take, drop, getD, length-take}
 use lib.Seq.{take-all, length-take-le, getD-take}
+use Rattle.common.specs.Pick.{pick}
+use Rattle.common.specs.Compare.{clash}
 use Rattle.error.specs.Refusal.{refusal, Told, good, bad}
-use Rattle.lex.specs.Byte.{pick}
-use Rattle.lex.specs.Right.Steps.{clash}
 use Rattle.kept.specs.Kept.{little, four, littles, numbersOf, fineSpans, fineRow, fineAll, FineRow, tableRows, keepOf, readOf}
 use Rattle.kept.specs.Laws.{fine-not, length-littles, length-numbers, read-good, keep-good}
 

@@ -10,7 +10,7 @@ use lib.Dec.{ltb, leb, eqb}
 use borrow.Author.Tests.{ltb-true, ltb-false, lt-ltb, le-ltb, eq-eqb, ne-eqb}
 use lib.ListN.{length, take, drop, getD, set, length-append, length-take, length-drop}
 use lib.Seq.{sets, sets-eq, take-suc, take-at, drop-at, drop-drop, drop-cons, set-at, length-take-le, take-all}
-use Rattle.lex.specs.Byte.{pick}
+use Rattle.common.specs.Pick.{pick}
 use Rattle.error.specs.Refusal.{refusal, Told, good, bad}
 use Rattle.kept.specs.Kept.{little, four, littles, numbersOf, numberAt, fineSpans, fineRow, fineAll, tableRows, keepOf, readOf, bytesAfter, rowsAfter}
 

@@ -131,7 +131,7 @@ pub fn keep_rows(len: usize, rows: &[u32], count: usize, out: &mut [u8]) -> Kept
     ensures { λ r. ⌜ toldKept r ≡ keepOf len (now (rows .entry)) count (length (now (out .entry))) ⌝ }
     ensures { λ _. ⌜ now (out .exit) ≡ keptAfter (now (rows .entry)) (keepOf len (now (rows .entry)) count (length (now (out .entry)))) (now (out .entry)) ⌝ }
 {
-    let n = lex::within(count, rows.len() / 6);
+    let n = common::within(count, rows.len() / 6);
     if !fine_table(len, rows, n) {
         return Kept::Refused(Fault::OutOfFile);
     }

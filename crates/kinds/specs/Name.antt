@@ -10,8 +10,8 @@ use lib.Dec.{leb, lit≤}
 use lib.ListN.{length, getD, take, drop, set}
 use lib.Seq.{drop-cons, set-at, take-suc, length-take-le, take-length, take-append-seam}
 use borrow.Author.Tests.{le-leb}
+use Rattle.common.specs.Pick.{pick}
 use Rattle.error.specs.Refusal.{refusal, Told, good, bad}
-use Rattle.lex.specs.Byte.{pick}
 use Rattle.record.specs.Form.{bytes, Spelt}
 use Rattle.record.specs.Word.{same}
 use Rattle.kinds.specs.Kind.{nameOf, rankOf, Named, kindOf, kind-only}

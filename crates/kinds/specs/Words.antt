@@ -6,7 +6,7 @@ use mathlib.Core.Bool.{Bool, true, false, _&&_}
 use mathlib.Core.List.{List, map}
 use lib.Dec.{eqb}
 use lib.ListN.{length, drop, getD}
-use Rattle.lex.specs.Walk.{split}
+use Rattle.common.specs.Lists.{split}
 use Rattle.record.specs.Word.{same, upper}
 
 module _ (x y : List ℕ) (i : ℕ) (a : Bool) (h : i < length x) (k : i < length y) where

@@ -7,8 +7,8 @@ use mathlib.Core.Option.{Option, none, some}
 use native.Mathlib.Omega.{arith}
 use borrow.Author.Tests.{le-leb, lt-leb, eq-eqb, ne-eqb}
 use lib.ListN.{length, take, drop, getD}
+use Rattle.common.specs.Compare.{clash}
 use Rattle.error.specs.Refusal.{Refusal, Told, good, bad}
-use Rattle.lex.specs.Right.Steps.{clash}
 use Rattle.statement.specs.Row.{HeaderRow}
 use Rattle.strings.specs.Put.{most}
 use Rattle.strings.specs.Text.{bytesOf}

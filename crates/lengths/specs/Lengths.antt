@@ -6,8 +6,8 @@ use mathlib.Core.List.{List}
 use mathlib.Core.Option.{Option, none, some}
 use lib.Dec.{eqb}
 use lib.ListN.{length, take, drop}
+use Rattle.common.specs.Pick.{pick}
 use Rattle.error.specs.Refusal.{Told, good, bad}
-use Rattle.lex.specs.Byte.{pick}
 use Rattle.statement.specs.Row.{HeaderRow}
 use Rattle.strings.specs.Put.{most}
 use Rattle.strings.specs.Text.{bytesOf}

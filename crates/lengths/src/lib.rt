@@ -19,21 +19,14 @@ pub struct Sizes {
     pub rows: usize,
 }
 
-// The greater of two lengths.
-fn larger(a: usize, b: usize) -> usize
-    ensures { λ r. ⌜ r ≡ max a b ⌝ }
-{
-    if a < b { b } else { a }
-}
-
 // The greater of each.
 pub fn larger_each(a: Sizes, b: Sizes) -> Sizes
     ensures { λ r. ⌜ r ≡ both a b ⌝ }
 {
     Sizes {
-        text: larger(a.text, b.text),
-        items: larger(a.items, b.items),
-        rows: larger(a.rows, b.rows),
+        text: common::greatest(a.text, b.text),
+        items: common::greatest(a.items, b.items),
+        rows: common::greatest(a.rows, b.rows),
     }
 }
 

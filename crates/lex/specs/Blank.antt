@@ -7,13 +7,15 @@ use mathlib.Core.List.{List, [], _∷_}
 use native.Mathlib.Omega.{arith}
 use lib.Dec.{eqb}
 use lib.ListN.{length, drop, getD}
+use Rattle.common.specs.Lists.{split, drop-end}
+use Rattle.common.specs.Compare.{clash}
 use Rattle.error.specs.Refusal.{bad, told}
 use Rattle.lex.specs.Byte.{white}
-use Rattle.lex.specs.Walk.{walk, split, drop-end}
+use Rattle.common.specs.Walk.{walk}
 use Rattle.lex.specs.Search.{Sought, at, fault, Look, halt, missed, trivia, placed}
 use Rattle.lex.specs.Local.{seek}
 use Rattle.lex.specs.Right.{past, past-start, blank-step, led-stops}
-use Rattle.lex.specs.Right.Steps.{clash, plainly}
+use Rattle.lex.specs.Right.Steps.{plainly}
 use Rattle.lex.specs.Past.{Shut, unbegun}
 use Rattle.lex.specs.declared.Found.{Found}
 use Rattle.lex.specs.declared.Found.the-variants.{At, Refused}

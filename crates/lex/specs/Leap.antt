@@ -9,8 +9,8 @@ use native.Mathlib.Omega.{arith}
 use lib.Dec.{eqb, ltb}
 use lib.ListN.{length, drop, getD}
 use borrow.Author.Tests.{ne-eqb, eqb-false, ltb-true, ltb-false}
-use Rattle.lex.specs.Byte.{pick}
-use Rattle.lex.specs.Walk.{Turn, on, walk, walk-goes}
+use Rattle.common.specs.Pick.{pick}
+use Rattle.common.specs.Walk.{Turn, on, walk, walk-goes}
 use Rattle.lex.specs.Lexer.{calm, next}
 use Rattle.lex.specs.Search.{Sought, Seen, seen, Look, seekTurn}
 use Rattle.lex.specs.declared.Mode.{Mode}

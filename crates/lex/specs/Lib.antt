@@ -1,5 +1,4 @@
 pub mod Byte
-pub mod Walk
 pub mod Lexer
 pub mod Leap
 pub mod Search
@@ -7,6 +6,7 @@ pub mod Seek
 pub mod Grammar
 pub mod Local
 pub mod Right
+pub mod Inside
 pub mod Quote
 pub mod Past
 pub mod Blank

@@ -7,8 +7,9 @@ use mathlib.Core.List.{List, [], _∷_, _++_}
 use native.Mathlib.Omega.{arith}
 use lib.Dec.{eqb}
 use lib.ListN.{length}
-use Rattle.lex.specs.Byte.{pick, white}
-use Rattle.lex.specs.Walk.{Turn, stop, on, turned, walk}
+use Rattle.common.specs.Pick.{pick}
+use Rattle.lex.specs.Byte.{white}
+use Rattle.common.specs.Walk.{Turn, stop, on, turned, walk}
 use Rattle.lex.specs.Lexer.{calm, next}
 use Rattle.lex.specs.Search.{Sought, at, fault, Seen, seen, Look, halt, look, semicolon, paren, looked, seekTurn, unclosed, missed}
 use Rattle.lex.specs.Search.{recordEnd, closing, lead, triviaTurn, trailed, triviaEnd, trivia}

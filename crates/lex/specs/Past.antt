@@ -10,15 +10,18 @@ use native.Mathlib.Decide.{decLe}
 use lib.Dec.{eqb}
 use lib.ListN.{length, drop, getD}
 use borrow.Author.Tests.{eq-eqb, ne-eqb, eqb-true, eqb-false}
+use Rattle.common.specs.Pick.{pick}
+use Rattle.common.specs.Lists.{split, drop-end}
+use Rattle.common.specs.Compare.{clash}
 use Rattle.error.specs.Refusal.{bad, refusal, told}
-use Rattle.lex.specs.Byte.{pick, place-drop}
-use Rattle.lex.specs.Walk.{on, split, drop-end, walk-ends, walk-goes}
+use Rattle.lex.specs.Byte.{place-drop}
+use Rattle.common.specs.Walk.{on, walk-ends, walk-goes}
 use Rattle.lex.specs.Lexer.{fresh}
 use Rattle.lex.specs.Search.{Look, look, seen, seekTurn, missed, semicolon, paren, placed}
 use Rattle.lex.specs.Leap.{Stopped, seek-leaps, leapt-remark}
 use Rattle.lex.specs.Grammar.{Begins, Quotation, OpenText}
 use Rattle.lex.specs.Local.{seek}
-use Rattle.lex.specs.Right.Steps.{clash, plainly, unstarred, unopened, unslashed, text-shut, text-open, seek-deaf}
+use Rattle.lex.specs.Right.Steps.{plainly, unstarred, unopened, unslashed, text-shut, text-open, seek-deaf}
 use Rattle.lex.specs.Right.Tokens.{open-text}
 use Rattle.lex.specs.declared.Found.{Found}
 use Rattle.lex.specs.declared.Found.the-variants.{At, Refused}

@@ -7,12 +7,13 @@ use mathlib.Core.List.{List, [], _∷_, _++_, append-nil, append-assoc}
 use native.Mathlib.Omega.{arith}
 use borrow.Author.Tests.{eqb-false}
 use lib.ListN.{length, drop, getD, length-drop, length-append}
-use Rattle.lex.specs.Walk.{walk, split, drop-end}
+use Rattle.common.specs.Lists.{split, drop-end}
+use Rattle.common.specs.Compare.{clash}
+use Rattle.common.specs.Walk.{walk}
 use Rattle.lex.specs.Search.{at, fault, recordEnd}
 use Rattle.lex.specs.Leap.{Lacks, Stopped}
 use Rattle.lex.specs.Seek.{drop-within}
 use Rattle.lex.specs.Grammar.{Begins, Inside, Quotation, OpenText}
-use Rattle.lex.specs.Right.Steps.{clash}
 use Rattle.lex.specs.Right.Tokens.{unended, one-end}
 use Rattle.lex.specs.declared.Quote.{Quote}
 use Rattle.lex.specs.declared.Quote.the-variants.{Doubled, Single, Last}

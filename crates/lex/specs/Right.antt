@@ -9,8 +9,9 @@ use native.Mathlib.Omega.{arith}
 use native.Mathlib.Decide.{ℕ-discrete}
 use lib.Dec.{eqb}
 use borrow.Author.Tests.{eqb-true, eqb-false, ne-eqb}
+use Rattle.common.specs.Compare.{clash}
 use Rattle.lex.specs.Byte.{white}
-use Rattle.lex.specs.Walk.{walk}
+use Rattle.common.specs.Walk.{walk}
 use Rattle.lex.specs.Search.{Sought, at, fault, seen, Look, semicolon, paren, missed, recordEnd, closing, triviaTurn, triviaEnd, trivia}
 use Rattle.lex.specs.Grammar.{Begins, Opens, Remarked, Comment, Trivia, Led, Runs, Ends, Balanced, Closes, Deep, OpenText, OpenRemark}
 use Rattle.lex.specs.Local.{seek-halts}
@@ -19,7 +20,7 @@ use Rattle.lex.specs.declared.Mode.the-variants.{Plain, Slash, Remark}
 pub mod Steps
 pub mod Tokens
 pub mod Answer
-use Steps.{clash, Deaf, remark-shut, remark-open, Passing, plainly, byte-step, string-step, comment-step, text-stuck, remark-stuck}
+use Steps.{Deaf, remark-shut, remark-open, Passing, plainly, byte-step, string-step, comment-step, text-stuck, remark-stuck}
 use Tokens.{open-text, open-remark, Reads, tokens}
 use Answer.{Outcome, further, Answers, found-is, fault-is}
 

@@ -8,8 +8,9 @@ use native.Mathlib.Omega.{arith}
 use native.Mathlib.Decide.{decLe}
 use lib.Dec.{eqb}
 use lib.ListN.{length, drop, getD, drop-of-length-le}
-use Rattle.lex.specs.Byte.{pick}
-use Rattle.lex.specs.Walk.{stop, walk, split, walk-stops}
+use Rattle.common.specs.Pick.{pick}
+use Rattle.common.specs.Lists.{split}
+use Rattle.common.specs.Walk.{stop, walk, walk-stops}
 use Rattle.lex.specs.Lexer.{calm}
 use Rattle.lex.specs.Search.{Sought, at, Seen, seen, Look, halt, look, seekTurn, under, paren}
 use Rattle.lex.specs.declared.Mode.{Mode}

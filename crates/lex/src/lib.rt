@@ -7,7 +7,8 @@ ghost use mathlib.Core.Path.{_≡_};
 ghost use Prim.Native.Nat.{_+_, _≤_, _<_, _^_, min};
 ghost use mathlib.Core.Bool.{true, false, _||_};
 ghost use lib.ListN.{length, drop};
-ghost use Rattle.lex.specs.Byte.{white, pick};
+ghost use Rattle.common.specs.Pick.{pick};
+ghost use Rattle.lex.specs.Byte.{white};
 ghost use Rattle.lex.specs.Leap.{Lacks, Without, Stopped};
 ghost use Rattle.lex.specs.Quote.{QuoteIs, TextEnds};
 ghost use Rattle.lex.specs.Past.{IsAt, Shut, Onward, Quiet, Counted, Stood};
@@ -35,13 +36,6 @@ pub fn is_space(b: u8) -> bool
     ensures { λ r. ⌜ r ≡ white b ⌝ }
 {
     (b == 32) | (b == 9) | (b == 10) | (b == 12) | (b == 13)
-}
-
-// A start, or the file's end where the start lies past it.
-pub fn within(start: usize, n: usize) -> usize
-    ensures { λ r. ⌜ r ≡ min start n ⌝ }
-{
-    if start < n { start } else { n }
 }
 
 // Whether one of the 64 bytes from `at` on is b. It only notes a hit, so that the compiler looks at many bytes at once.
@@ -92,8 +86,8 @@ fn pass_bytes(s: &[u8], from: usize, end: usize, b: u8) -> usize
 pub fn find(s: &[u8], start: usize, b: u8) -> usize
     ensures { λ r. ⌜ Stopped b (now (s .entry)) (min start (length (now (s .entry)))) (length (now (s .entry))) r ⌝ }
 {
-    let from = within(start, s.len());
-    let near = within(from + 16, s.len());
+    let from = common::within(start, s.len());
+    let near = common::within(from + 16, s.len());
     let i = pass_bytes(s, from, near, b);
     if i < near {
         return i;
@@ -139,7 +133,7 @@ fn next_quote(s: &[u8], i: usize) -> usize
     requires { ⌜ i ≤ length (now s) ⌝ }
     ensures { λ r. ⌜ Stopped 39 (now (s .entry)) i (length (now (s .entry))) r ⌝ }
 {
-    let near = within(i + 8, s.len());
+    let near = common::within(i + 8, s.len());
     let q = pass_bytes(s, i, near, b'\'');
     if q < near {
         return q;
@@ -157,7 +151,7 @@ pub enum TextEnd {
 pub fn text_end(s: &[u8], from: usize) -> TextEnd
     ensures { λ r. ⌜ TextEnds (now (s .entry)) from r ⌝ }
 {
-    let mut i = within(from, s.len());
+    let mut i = common::within(from, s.len());
     while i < s.len() {
         if s[i] == b'\'' {
             match quote_before(s, i + 1) {
@@ -260,7 +254,7 @@ fn pass_quiet(s: &[u8], from: usize) -> usize
 pub fn find_record_end(s: &[u8], start: usize) -> Found
     ensures { λ r. ⌜ toldFound r ≡ placed (now (s .entry)) (recordEnd (drop start (now (s .entry)))) ⌝ }
 {
-    let from = within(start, s.len());
+    let from = common::within(start, s.len());
     let mut i = from;
     let mut near = from + 64;
     while i < s.len() {
@@ -382,8 +376,8 @@ fn pass_calm(s: &[u8], from: usize, opened: usize) -> Stand
 pub fn matching_paren(s: &[u8], opening: usize) -> Found
     ensures { λ r. ⌜ toldFound r ≡ placed (now (s .entry)) (closing (drop opening (now (s .entry)))) ⌝ }
 {
-    let from = within(opening, s.len());
-    let mut i = within(from + 1, s.len());
+    let from = common::within(opening, s.len());
+    let mut i = common::within(from + 1, s.len());
     let mut depth: usize = 0;
     let mut near = i + 64;
     while i < s.len() {
@@ -410,7 +404,7 @@ pub fn matching_paren(s: &[u8], opening: usize) -> Found
 pub fn skip_trivia(s: &[u8], start: usize) -> Found
     ensures { λ r. ⌜ toldFound r ≡ placed (now (s .entry)) (trivia (drop start (now (s .entry)))) ⌝ }
 {
-    let mut i = within(start, s.len());
+    let mut i = common::within(start, s.len());
     while i < s.len() {
         let c = s[i];
         if is_space(c) {

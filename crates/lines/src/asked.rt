@@ -92,7 +92,7 @@ fn required(rows: &[u32], slots: &[u64], t: Tables, id: u32) -> Line {
             w.keyword.end,
             w.args.start,
             w.args.end,
-            wide(w.complex),
+            common::wide(w.complex),
             0,
             0,
             0,

@@ -29,11 +29,7 @@ pub fn scanned(t: Tables, i: usize) -> Line {
     if i > 0 {
         return none();
     }
-    three(SCAN, t.headers, t.records, wide(t.max))
-}
-
-pub fn wide(n: u32) -> usize {
-    n as usize
+    three(SCAN, t.headers, t.records, common::wide(t.max))
 }
 
 // The keyword of header row i, and its arguments; none where the table ends before it.
@@ -41,8 +37,8 @@ fn head_keyword(heads: &[u32], i: usize) -> State {
     if i < heads.len() / 4 {
         let at = i * 4;
         return State {
-            place: wide(heads[at]),
-            end: wide(heads[at + 1]),
+            place: common::wide(heads[at]),
+            end: common::wide(heads[at + 1]),
         };
     }
     State { place: 0, end: 0 }
@@ -52,8 +48,8 @@ pub fn head_args(heads: &[u32], i: usize) -> State {
     if i < heads.len() / 4 {
         let at = i * 4;
         return State {
-            place: wide(heads[at + 2]),
-            end: wide(heads[at + 3]),
+            place: common::wide(heads[at + 2]),
+            end: common::wide(heads[at + 3]),
         };
     }
     State { place: 0, end: 0 }
@@ -76,12 +72,12 @@ pub fn row(rows: &[u32], t: Tables, i: usize) -> Line {
         Entry::Row(r) => eight(
             ROW,
             i,
-            wide(r.id),
+            common::wide(r.id),
             r.keyword.start,
             r.keyword.end,
             r.args.start,
             r.args.end,
-            wide(r.complex),
+            common::wide(r.complex),
             0,
         ),
     }
@@ -134,8 +130,8 @@ pub fn id_row(rows: &[u32], slots: &[u64], t: Tables, i: usize) -> Line {
 
 fn id_line(id: u32, r: Found) -> Line {
     match r {
-        Found::At(row) => two(ID_ROW, wide(id), wide(row)),
-        Found::Nothing => two(ID_NONE, wide(id), 0),
+        Found::At(row) => two(ID_ROW, common::wide(id), common::wide(row)),
+        Found::Nothing => two(ID_NONE, common::wide(id), 0),
     }
 }
 

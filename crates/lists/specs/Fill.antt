@@ -8,7 +8,7 @@ use native.Mathlib.Decide.{ℕ-discrete}
 use lib.ListN.{length, take, drop, getD, set, length-drop, length-append}
 use lib.Seq.{length-take-le, drop-drop, set-at, drop-cons, take-add, take-length}
 use native.Mathlib.Numerals.{add-one}
-use Rattle.lex.specs.Right.Steps.{clash}
+use Rattle.common.specs.Compare.{clash}
 use Rattle.lists.specs.declared.Item.{Item}
 use Rattle.lists.specs.Items.{Fate, fine, faulty, consed, itemsFrom, ItemAt, valuesOf, Ready, filled}
 use Rattle.lists.specs.Laws.{item-in, items-bad, items-last, items-more}

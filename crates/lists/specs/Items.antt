@@ -7,8 +7,9 @@ use mathlib.Core.Bool.{Bool, true, false, _&&_}
 use mathlib.Core.List.{List, [], _∷_, _++_}
 use lib.Dec.{eqb, leb}
 use lib.ListN.{length, take, drop, getD}
+use Rattle.common.specs.Pick.{pick}
 use Rattle.error.specs.Refusal.{refusal, Told, good, bad, told}
-use Rattle.lex.specs.Byte.{pick, white}
+use Rattle.lex.specs.Byte.{white}
 use Rattle.record.specs.Text.{before, past}
 use Rattle.record.specs.Word.{trimmed}
 use Rattle.reals.specs.Scalar.{Answer, read, refused, referenceOf, wholeOf, realBy}

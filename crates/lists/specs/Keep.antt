@@ -11,9 +11,9 @@ use lib.Dec.{leb}
 use borrow.Author.Tests.{le-leb, lt-leb}
 use lib.ListN.{length, take, drop, getD, set, length-drop, length-take, length-append, length-map}
 use lib.Seq.{take-all, take-length, take-take, take-at, take-suc, drop-cons, set-at, set-out, take-append-le, length-take-le}
-use Rattle.lex.specs.Right.Steps.{clash}
+use Rattle.common.specs.Compare.{clash}
+use Rattle.common.specs.Pick.{pick}
 use Rattle.error.specs.Refusal.{refusal, good, bad}
-use Rattle.lex.specs.Byte.{pick}
 use Rattle.lists.specs.declared.Item.{Item}
 use Rattle.lists.specs.declared.Shape.{Shape}
 use Rattle.lists.specs.declared.Shape.the-variants.{NotList, Blank, Full}

@@ -9,9 +9,10 @@ use lib.Dec.{eqb}
 use lib.ListN.{length, take, drop, getD, length-drop, length-take}
 use lib.Seq.{length-take-le}
 use borrow.Author.Tests.{ne-eqb}
+use Rattle.common.specs.Pick.{pick}
+use Rattle.common.specs.Lists.{split, drop-end}
 use Rattle.error.specs.Refusal.{good, bad}
-use Rattle.lex.specs.Byte.{pick, white, place}
-use Rattle.lex.specs.Walk.{split, drop-end}
+use Rattle.lex.specs.Byte.{white, place}
 use Rattle.record.specs.Text.{before, past}
 use Rattle.record.specs.Word.{trimmed}
 use Rattle.scalars.specs.Laws.{part-part}

@@ -8,9 +8,9 @@ use lib.Dec.{T, eqb}
 use lib.Ieee.{Float, binary64, toBits, fits}
 use lib.ListN.{length, take, drop, length-drop}
 use lib.Seq.{length-take-le}
+use Rattle.common.specs.Pick.{pick}
+use Rattle.common.specs.Compare.{clash}
 use Rattle.error.specs.Refusal.{Told, good, bad, faultOf, faultOf-told}
-use Rattle.lex.specs.Byte.{pick}
-use Rattle.lex.specs.Right.Steps.{clash}
 use Rattle.params.specs.Reader.{Read}
 use Rattle.nearest.specs.Only.{bits-only}
 use Rattle.lists.specs.declared.Item.{Item}

@@ -7,10 +7,11 @@ use mathlib.Core.List.{List, [], _∷_}
 use native.Mathlib.Omega.{arith}
 use lib.Dec.{eqb}
 use lib.ListN.{length, take, drop, getD, length-drop, length-take}
+use Rattle.common.specs.Pick.{pick}
+use Rattle.common.specs.Compare.{clash}
 use Rattle.error.specs.Refusal.{Refusal, refusal, Told, good, bad}
-use Rattle.lex.specs.Byte.{pick, white, place, place-within}
-use Rattle.lex.specs.Walk.{stop, on, turned, walk}
-use Rattle.lex.specs.Right.Steps.{clash}
+use Rattle.lex.specs.Byte.{white, place, place-within}
+use Rattle.common.specs.Walk.{stop, on, turned, walk}
 use Rattle.lex.specs.declared.Mode.{Mode}
 use Rattle.lex.specs.declared.Mode.the-variants.{Plain, Slash, Text, Quoted, Remark, Starred}
 use Rattle.record.specs.Text.{before, past, trail}

@@ -7,9 +7,9 @@ use native.Mathlib.Omega.{arith}
 use lib.Dec.{leb}
 use lib.ListN.{length, take, drop, length-map}
 use borrow.Author.Tests.{leb-true}
+use Rattle.common.specs.Pick.{pick}
+use Rattle.common.specs.Compare.{clash}
 use Rattle.error.specs.Refusal.{Refusal, refusal, Told, good, bad}
-use Rattle.lex.specs.Byte.{pick}
-use Rattle.lex.specs.Right.Steps.{clash}
 use Rattle.record.specs.Text.{before}
 use Rattle.record.specs.Word.{trimmed}
 use Rattle.params.specs.Reader.{reading, span, onward, paramOf}

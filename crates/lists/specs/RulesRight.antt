@@ -11,10 +11,11 @@ use lib.Dec.{eqb}
 use lib.IntN.{ℤ}
 use lib.ListN.{length, take, drop, getD, length-append}
 use lib.Seq.{take-at}
+use Rattle.common.specs.Pick.{pick}
+use Rattle.common.specs.Compare.{clash}
 use Rattle.error.specs.Refusal.{good, Refusal, refusal, Told, bad}
-use Rattle.lex.specs.Byte.{pick, white}
-use Rattle.lex.specs.Right.Steps.{clash}
-use Rattle.lex.specs.Walk.{walk}
+use Rattle.lex.specs.Byte.{white}
+use Rattle.common.specs.Walk.{walk}
 use Rattle.record.specs.Text.{before, past, trail, numberFrom}
 use Rattle.record.specs.Word.{trimmed}
 use Rattle.record.specs.Form.{All, NotFirst, Skipped, Trimmed, bytes}

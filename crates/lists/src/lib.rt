@@ -89,7 +89,7 @@ fn item_end(b: &[u8], i: usize) -> usize
 pub fn item_at(b: &[u8], i: usize) -> Item
     ensures { λ r. ⌜ ItemAt (now (b .entry)) (min i (length (now (b .entry)))) r ⌝ }
 {
-    let from = lex::within(i, b.len());
+    let from = common::within(i, b.len());
     let bound = item_end(b, from);
     let w = scalars::trim(&b[from..bound]);
     Item {

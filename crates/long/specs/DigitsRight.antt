@@ -11,7 +11,7 @@ use borrow.Author.Tests.{lt-ltb, le-ltb}
 use lib.Dec.{ltb}
 use lib.ListN.{length, drop, length-drop}
 use lib.Seq.{drop-length}
-use Rattle.lex.specs.Byte.{pick}
+use Rattle.common.specs.Pick.{pick}
 use Rattle.record.specs.Text.{digit}
 use Rattle.record.specs.Turns.{bounds}
 use Rattle.long.specs.Digits.{numberIn, digitsIn, Leads, leads, FirstAt}

@@ -9,9 +9,9 @@ use mathlib.Core.Logic.{_⊎_, inl, inr}
 use native.Mathlib.Omega.{arith}
 use native.Mathlib.Numerals.{add-one}
 use lib.ListN.{length}
-use Rattle.lex.specs.Byte.{pick}
-use Rattle.lex.specs.Right.Steps.{clash}
-use Rattle.index.specs.Order.{tableRoom, idOf, ordered, less-or}
+use Rattle.common.specs.Pick.{pick}
+use Rattle.common.specs.Compare.{clash, ordered, less-or}
+use Rattle.index.specs.Order.{tableRoom, idOf}
 use Rattle.index.specs.Lookup.{lookupOf}
 use Rattle.index.specs.Index.{Built}
 use Rattle.index.specs.Search.{searched}

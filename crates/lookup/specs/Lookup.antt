@@ -7,8 +7,8 @@ use mathlib.Core.List.{List}
 use mathlib.Core.Option.{Option, none, some}
 use lib.Dec.{ltb, leb, eqb}
 use lib.ListN.{length, take, drop, getD}
+use Rattle.common.specs.Pick.{pick}
 use Rattle.error.specs.Refusal.{Refusal, refusal, Told, good, bad, told}
-use Rattle.lex.specs.Byte.{pick}
 use Rattle.statement.specs.Row.{Row, row}
 use Rattle.statement.specs.Statement.{rowOf}
 use Rattle.kinds.specs.Kind.{kindOf, rankOf}

@@ -11,8 +11,8 @@ use lib.Dec.{eqb}
 use lib.ListN.{length, take, drop, getD, getElem?, length-append}
 use lib.Seq.{length-take-le}
 use borrow.Author.Tests.{eqb-true, eqb-false, eq-eqb, ne-eqb}
-use Rattle.lex.specs.Byte.{pick}
-use Rattle.lex.specs.Right.Steps.{clash}
+use Rattle.common.specs.Pick.{pick}
+use Rattle.common.specs.Compare.{clash}
 use Rattle.statement.specs.Row.{Row, row}
 use Rattle.scan.specs.Table.{six, flat}
 use Rattle.index.specs.Order.{idOf}

@@ -70,12 +70,12 @@ fn read_row(rows: &[u32], k: usize) -> RecordSpan
 {
     let at = k * 6;
     let keyword = Range {
-        start: wide(rows[at + 1]),
-        end: wide(rows[at + 2]),
+        start: common::wide(rows[at + 1]),
+        end: common::wide(rows[at + 2]),
     };
     let args = Range {
-        start: wide(rows[at + 3]),
-        end: wide(rows[at + 4]),
+        start: common::wide(rows[at + 3]),
+        end: common::wide(rows[at + 4]),
     };
     RecordSpan {
         id: rows[at],
@@ -85,18 +85,11 @@ fn read_row(rows: &[u32], k: usize) -> RecordSpan
     }
 }
 
-// A number of 32 bits as a place.
-fn wide(x: u32) -> usize
-    ensures { λ r. ⌜ r ≡ x ⌝ }
-{
-    x as usize
-}
-
 // The row with this number, in file order; none past the table.
 pub fn entity(rows: &[u32], t: Tables, k: usize) -> Entry
     ensures { λ r. ⌜ toldEntry r ≡ rowIn (now (rows .entry)) (t .records) k ⌝ }
 {
-    let n = lex::within(t.records, rows.len() / 6);
+    let n = common::within(t.records, rows.len() / 6);
     if n <= k {
         return Entry::Nothing;
     }
@@ -110,7 +103,7 @@ pub fn get(rows: &[u32], slots: &[u64], t: Tables, id: u32) -> Entry
     let ids = t.ids;
     match index::get(rows, slots, ids, id) {
         Found::Nothing => Entry::Nothing,
-        Found::At(r) => Entry::Row(read_row(rows, wide(r))),
+        Found::At(r) => Entry::Row(read_row(rows, common::wide(r))),
     }
 }
 
@@ -194,7 +187,7 @@ pub fn kind_of(file: &[u8], rows: &[u32], slots: &[u64], t: Tables, id: u32) -> 
 pub fn by_kind(file: &[u8], rows: &[u32], t: Tables, kind: Kind, from: usize) -> Place
     ensures { λ r. ⌜ toldPlace r ≡ firstFrom (isKind (now (file .entry)) (now (rows .entry)) kind) (tableRows (now (rows .entry)) (t .records) - from) from ⌝ }
 {
-    let n = lex::within(t.records, rows.len() / 6);
+    let n = common::within(t.records, rows.len() / 6);
     let mut i = from;
     while i < n {
         let k = kind_in(file, read_row(rows, i));

@@ -8,8 +8,9 @@ use native.Mathlib.Omega.{arith}
 use borrow.Author.Tests.{lt-ltb}
 use lib.Dec.{ltb}
 use lib.ListN.{length, drop}
+use Rattle.common.specs.Pick.{pick}
+use Rattle.common.specs.Compare.{clash}
 use Rattle.error.specs.Refusal.{Refusal, refusal, Told, good, bad}
-use Rattle.lex.specs.Byte.{pick}
 use Rattle.statement.specs.Row.{Row, HeaderRow, mapped}
 use Rattle.statement.specs.Statement.{Stmt, ends, refused, moved, header, record′, statement}
 use Rattle.statement.specs.declared.Section.{Section}
@@ -17,7 +18,6 @@ use Rattle.statement.specs.declared.Section.the-variants.{Outside, InHeader, In
 use Rattle.scan.specs.File.{Table, table, withHeader, withRecord, taken, readFrom, readingOf, marked, scanOf, largest}
 use Rattle.scan.specs.Table.{Counts, countsOf}
 use Rattle.scan.specs.Roomy.{refusal-roomy}
-use Rattle.lex.specs.Right.Steps.{clash}
 use Rattle.lengths.specs.declared.Sizes.{Sizes}
 use Rattle.lengths.specs.Lengths.{both, nothing, recordOf}
 use Rattle.lengths.specs.Laws.{same-sizes, both-nothing, nothing-both}

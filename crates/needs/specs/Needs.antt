@@ -5,8 +5,8 @@ use mathlib.Core.Path.{_≡_, refl, sym, _∙_, ap, subst}
 use mathlib.Core.List.{List, [], _∷_}
 use native.Mathlib.Omega.{arith}
 use lib.ListN.{length}
+use Rattle.common.specs.Compare.{clash}
 use Rattle.error.specs.Refusal.{Refusal, Told, good, bad, told}
-use Rattle.lex.specs.Right.Steps.{clash}
 use Rattle.statement.specs.Row.{Row, HeaderRow, mapped}
 use Rattle.scan.specs.File.{Table, scanOf, largest}
 use Rattle.scan.specs.Rooms.{scan-roomy, scan-fit}

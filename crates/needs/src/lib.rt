@@ -32,13 +32,6 @@ pub enum Needed {
     Refused(Fault),
 }
 
-// The greater of two ids.
-fn greater(a: u32, b: u32) -> u32
-    ensures { λ r. ⌜ r ≡ max a b ⌝ }
-{
-    if a < b { b } else { a }
-}
-
 // What is needed so far, and by one record more.
 fn with_record(most: Sizes, s: &[u8], place: usize, end: usize, complex: u32) -> Sizes
     ensures { λ r. ⌜ r ≡ both most (recordOf (now (s .entry)) place end complex) ⌝ }
@@ -77,7 +70,7 @@ fn pass(s: &[u8]) -> Needed
             Said::Records(span, _, next) => {
                 section = Section::InData;
                 records += 1;
-                max = greater(max, span.id);
+                max = common::greater(max, span.id);
                 most = with_record(most, s, span.args.start, span.args.end, span.complex);
                 i = next;
             }

@@ -8,9 +8,9 @@ use native.Mathlib.Decide.{ℕ-discrete}
 use borrow.Author.Tests.{eqb-true, ne-eqb}
 use lib.Dec.{eqb}
 use lib.ListN.{length, length-append}
+use Rattle.common.specs.Compare.{clash}
 use Rattle.error.specs.Refusal.{Told, good, bad}
 use Rattle.lex.specs.Byte.{white}
-use Rattle.lex.specs.Right.Steps.{clash}
 use Rattle.record.specs.Form.{All, Free, bytes}
 use Rattle.record.specs.FormRight.Parts.{all-join, all-kind}
 use Rattle.statement.specs.Row.{Row, HeaderRow}

@@ -10,12 +10,12 @@ use borrow.Author.Tests.{eqb-true, eqb-false}
 use lib.Dec.{eqb}
 use lib.ListN.{length, take, drop, length-append, length-drop, take-append-drop}
 use lib.Seq.{take-at, length-take-le}
-use Rattle.lex.specs.Byte.{pick}
+use Rattle.common.specs.Pick.{pick}
+use Rattle.common.specs.Compare.{clash}
 use Rattle.lex.specs.Grammar.{Closes}
 use Rattle.lex.specs.Search.{Sought, at, fault, recordEnd, closing}
 use Rattle.lex.specs.Local.{closing-local}
 use Rattle.lex.specs.Right.{end-is, closing-is}
-use Rattle.lex.specs.Right.Steps.{clash}
 use Rattle.record.specs.Text.{before, past}
 use Rattle.record.specs.Form.{Free}
 use Rattle.record.specs.FormRight.Parts.{Spanned, span, past-pass, past-halt}

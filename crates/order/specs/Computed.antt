@@ -1,6 +1,6 @@
 -- What is unfolded where a file is computed: to unfold one of these is to unfold all that its line names. Assumes nothing.
 use lib.Ieee.{size}
-use Rattle.lex.specs.Walk.{walk}
+use Rattle.common.specs.Walk.{walk}
 use Rattle.lex.specs.Search.{trivia, recordEnd, closing}
 use Rattle.record.specs.Text.{past, numberFrom, keyword, trail}
 use Rattle.record.specs.Word.{same, wordOf}

@@ -6,11 +6,11 @@ use mathlib.Core.List.{List, [], _∷_, _++_, map}
 use mathlib.Core.Option.{Option, none, some}
 use native.Mathlib.Omega.{arith}
 use lib.ListN.{length}
+use Rattle.common.specs.Compare.{clash}
 use Rattle.error.specs.Refusal.{Told, good, bad}
 use Rattle.statement.specs.Row.{Row, mapped}
 use Rattle.statement.specs.Closed.{Closed, content}
 use Rattle.statement.specs.ClosedRight.{alone}
-use Rattle.lex.specs.Right.Steps.{clash}
 use Rattle.statement.specs.declared.Section.the-variants.{Outside}
 use Rattle.scan.specs.File.{Table, scanOf}
 use Rattle.scan.specs.Table.{headerRoom, dataRoom, rowsAfter, countsOf, toldScan}

@@ -2,7 +2,7 @@
 use Prim.Native.Nat.{ℕ}
 use mathlib.Core.Path.{_≡_, refl, sym, _∙_, ap}
 use mathlib.Core.List.{List, [], _∷_, _++_, append-assoc, append-cancel-right}
-use Rattle.lex.specs.Right.Steps.{clash}
+use Rattle.common.specs.Compare.{clash}
 use Rattle.statement.specs.Row.{Row, HeaderRow}
 use Rattle.statement.specs.Statement.{Stmt, ends, refused, moved, header, record′, statement}
 use Rattle.statement.specs.Closed.{ClosedData, ClosedHeader, ClosedFrom}

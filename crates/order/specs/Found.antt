@@ -6,8 +6,8 @@ use mathlib.Core.List.{List, [], _∷_, _++_, append-nil}
 use mathlib.Core.Option.{Option, none, some}
 use lib.Dec.{eqb}
 use lib.ListN.{length}
+use Rattle.common.specs.Pick.{pick}
 use Rattle.error.specs.Refusal.{Told, good, bad}
-use Rattle.lex.specs.Byte.{pick}
 use Rattle.record.specs.Head.{dataHead}
 use Rattle.statement.specs.Row.{Row, recordOf}
 use Rattle.statement.specs.Closed.{ClosedData, Content, content}

@@ -5,8 +5,8 @@ use mathlib.Core.Bool.{true}
 use mathlib.Core.List.{List, [], _∷_}
 use mathlib.Core.Option.{Option, none, some}
 use borrow.Author.Tests.{eqb-false}
+use Rattle.common.specs.Compare.{clash}
 use Rattle.error.specs.Refusal.{refusal, Told, good, bad}
-use Rattle.lex.specs.Right.Steps.{clash}
 use Rattle.record.specs.Form.{bytes}
 use Rattle.record.specs.Head.{dataHead}
 use Rattle.statement.specs.Row.{row}

@@ -4,9 +4,9 @@ use mathlib.Core.Path.{_≡_, refl, sym, _∙_, ap}
 use mathlib.Core.List.{List, [], _∷_, _++_, append-assoc, append-cancel-left, append-cancel-right}
 use native.Mathlib.Omega.{arith}
 use lib.ListN.{length, length-append}
+use Rattle.common.specs.Compare.{clash}
 use Rattle.error.specs.Refusal.{Told, good, bad}
 use Rattle.lex.specs.Grammar.{Begins}
-use Rattle.lex.specs.Right.Steps.{clash}
 use Rattle.record.specs.Word.{wordOf}
 use Rattle.record.specs.declared.Word.the-variants.{Other}
 use Rattle.statement.specs.Row.{Row, HeaderRow}

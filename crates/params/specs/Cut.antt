@@ -4,8 +4,9 @@ use Prim.Native.Nat.{ℕ, suc, _-_}
 use mathlib.Core.Bool.{Bool, true, false, not, _&&_, _||_}
 use mathlib.Core.List.{List, [], _∷_}
 use lib.Dec.{eqb}
-use Rattle.lex.specs.Byte.{pick, white, place}
-use Rattle.lex.specs.Walk.{Turn, stop, on, walk}
+use Rattle.common.specs.Pick.{pick}
+use Rattle.lex.specs.Byte.{white, place}
+use Rattle.common.specs.Walk.{Turn, stop, on, walk}
 use Rattle.lex.specs.Lexer.{calm, next}
 use Rattle.lex.specs.Search.{Sought, at, fault, trivia}
 use Rattle.lex.specs.declared.Mode.{Mode}

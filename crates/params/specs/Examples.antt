@@ -4,7 +4,7 @@ use Prim.Native.Nat.{ℕ}
 use mathlib.Core.Path.{_≡_, refl}
 use mathlib.Core.List.{List, [], _∷_}
 use Rattle.error.specs.Refusal.{refusal, good, bad}
-use Rattle.lex.specs.Walk.{walk}
+use Rattle.common.specs.Walk.{walk}
 use Rattle.lex.specs.Search.{trivia}
 use Rattle.lex.specs.Grammar.{Trivia}
 use Rattle.params.specs.Grammar.{Parameter, Whole, Trails, Bound}

@@ -6,8 +6,8 @@ use mathlib.Core.Bool.{Bool}
 use mathlib.Core.List.{List}
 use native.Mathlib.Omega.{arith}
 use lib.ListN.{length, drop, length-drop}
+use Rattle.common.specs.Compare.{clash}
 use Rattle.error.specs.Refusal.{Told, good, bad, faultOf, faultOf-told}
-use Rattle.lex.specs.Right.Steps.{clash}
 use Rattle.params.specs.Cut.{Cut, cutOf}
 use Rattle.params.specs.Seek.{endedAt, EndedIn}
 use Rattle.params.specs.Reader.{Read, Span, toldCut, toldOpened, toldEmptiness, toldSkipped}

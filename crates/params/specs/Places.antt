@@ -9,9 +9,10 @@ use mathlib.Core.List.{List, [], _∷_}
 use native.Mathlib.Omega.{arith}
 use lib.ListN.{length, take, getD, length-drop}
 use lib.Seq.{length-take-le, getD-take}
+use Rattle.common.specs.Pick.{pick}
+use Rattle.common.specs.Lists.{split}
 use Rattle.error.specs.Refusal.{Refusal, refusal, Told, good, bad}
-use Rattle.lex.specs.Byte.{pick, place}
-use Rattle.lex.specs.Walk.{split}
+use Rattle.lex.specs.Byte.{place}
 use Rattle.params.specs.Grammar.{Bound, Parameter, Starts}
 use Rattle.params.specs.Cut.{started}
 use Rattle.params.specs.Right.{started-is}

@@ -5,8 +5,9 @@ use mathlib.Core.Bool.{Bool, true, false, _&&_}
 use mathlib.Core.List.{List, [], _∷_}
 use lib.Dec.{eqb, leb}
 use lib.ListN.{length, take, drop}
+use Rattle.common.specs.Pick.{pick}
 use Rattle.error.specs.Refusal.{Refusal, refusal, Told, good, bad, told}
-use Rattle.lex.specs.Byte.{pick, place}
+use Rattle.lex.specs.Byte.{place}
 use Rattle.params.specs.Cut.{Cut, cut, unclosed, cutOf, started, eaten}
 use Rattle.params.specs.declared.State.{State}
 use Rattle.params.specs.declared.Opened.{Opened}

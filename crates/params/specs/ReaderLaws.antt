@@ -9,9 +9,10 @@ use borrow.Author.Tests.{leb-true, ltb-true, eq-eqb, ne-eqb, eqb-false, not-true
 use lib.Dec.{eqb, leb, ltb}
 use lib.ListN.{length, take, drop, getD}
 use lib.Seq.{length-take-le}
+use Rattle.common.specs.Pick.{pick}
+use Rattle.common.specs.Lists.{split, drop-end}
 use Rattle.error.specs.Refusal.{Refusal, refusal, Told, good, bad}
-use Rattle.lex.specs.Byte.{pick, white, place, place-drop}
-use Rattle.lex.specs.Walk.{split, drop-end}
+use Rattle.lex.specs.Byte.{white, place, place-drop}
 use Rattle.lex.specs.Search.{Sought, at, fault, trivia, placed}
 use Rattle.lex.specs.At.{trivia-at}
 use Rattle.lex.specs.Right.{trivia-here}

@@ -10,13 +10,15 @@ use native.Mathlib.Decide.{ℕ-discrete}
 use lib.Dec.{eqb}
 use lib.ListN.{length, length-append}
 use borrow.Author.Tests.{eqb-true, eqb-false, eq-eqb, ne-eqb}
-use Rattle.lex.specs.Byte.{pick, white}
-use Rattle.lex.specs.Walk.{walk}
+use Rattle.common.specs.Pick.{pick}
+use Rattle.common.specs.Compare.{clash}
+use Rattle.lex.specs.Byte.{white}
+use Rattle.common.specs.Walk.{walk}
 use Rattle.lex.specs.Lexer.{calm, fresh, next}
 use Rattle.lex.specs.Search.{Sought, at, fault, trivia}
 use Rattle.lex.specs.Grammar.{Begins, Opens, Remarked, Comment, Inside, Quotation, Trivia, Led, OpenText, OpenRemark}
 use Rattle.lex.specs.Right.{trivia-is, trivia-open, trivia-only, trivia-open-only}
-use Rattle.lex.specs.Right.Steps.{clash, Deaf, remark-shut, remark-open, text-ends, text-over}
+use Rattle.lex.specs.Right.Steps.{Deaf, remark-shut, remark-open, text-ends, text-over}
 use Rattle.lex.specs.Right.Tokens.{open-text, open-remark, Reads, tokens, quotation-shorter, comment-shorter}
 use Rattle.lex.specs.declared.Mode.{Mode}
 use Rattle.lex.specs.declared.Mode.the-variants.{Plain, Slash, Text, Quoted, Remark, Starred}

@@ -7,11 +7,12 @@ use native.Mathlib.Omega.{arith}
 use borrow.Author.Tests.{le-leb}
 use lib.ListN.{length, take, drop, length-append, take-append-drop}
 use lib.Seq.{length-take-le, drop-at}
+use Rattle.common.specs.Pick.{pick}
+use Rattle.common.specs.Lists.{drop-end}
+use Rattle.common.specs.Compare.{clash}
 use Rattle.error.specs.Refusal.{refusal, good, bad}
-use Rattle.lex.specs.Byte.{pick, place}
-use Rattle.lex.specs.Walk.{drop-end}
+use Rattle.lex.specs.Byte.{place}
 use Rattle.lex.specs.Grammar.{Comment, Quotation, Trivia}
-use Rattle.lex.specs.Right.Steps.{clash}
 use Rattle.params.specs.Grammar.{Binary, Token, Runs, Whole, Trails, Parameter, Unclosed, Starts}
 use Rattle.params.specs.Cut.{Cut, cut, unclosed, cutOf, started}
 use Rattle.params.specs.Right.{param-is, param-only, unclosed-is, unclosed-only, started-is, started-only}

@@ -9,9 +9,11 @@ use lib.Dec.{eqb}
 use lib.ListN.{length, drop, getD}
 use lib.Seq.{drop-drop}
 use borrow.Author.Tests.{eqb-true, eqb-false, ne-eqb}
-use Rattle.lex.specs.Byte.{pick, white}
-use Rattle.lex.specs.Walk.{walk, split, drop-end}
-use Rattle.lex.specs.Right.Steps.{clash}
+use Rattle.common.specs.Pick.{pick}
+use Rattle.common.specs.Lists.{split, drop-end}
+use Rattle.common.specs.Compare.{clash}
+use Rattle.lex.specs.Byte.{white}
+use Rattle.common.specs.Walk.{walk}
 use Rattle.tokens.specs.Leap.{fromByte, heads, Rest, ends, never, stringRest, commentRest}
 use Rattle.tokens.specs.Leap.{toldPast, PastIn}
 use Rattle.tokens.specs.declared.Past.{Past}

@@ -167,7 +167,7 @@ pub fn param_end(part: &[u8], start: usize) -> Ended
     ensures { λ r. ⌜ endedAt (now (part .entry)) r ≡ cutOf (drop start (now (part .entry))) ⌝ }
     ensures { λ r. ⌜ EndedIn (min start (length (now (part .entry)))) (length (now (part .entry))) r ⌝ }
 {
-    let from = lex::within(start, part.len());
+    let from = common::within(start, part.len());
     let mut i = from;
     let mut solid = from;
     let mut depth: usize = 0;

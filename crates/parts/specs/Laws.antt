@@ -10,9 +10,10 @@ use lib.Dec.{ltb}
 use lib.ListN.{length, take, drop, getD, length-append, length-drop, length-take}
 use lib.Seq.{take-all, drop-cons}
 use borrow.Author.Tests.{lt-ltb, le-ltb}
+use Rattle.common.specs.Pick.{pick}
 use Rattle.error.specs.Refusal.{Refusal, refusal, Told, good, bad}
-use Rattle.lex.specs.Byte.{pick, white, place, place-drop}
-use Rattle.lex.specs.Walk.{walk}
+use Rattle.lex.specs.Byte.{white, place, place-drop}
+use Rattle.common.specs.Walk.{walk}
 use Rattle.lex.specs.Search.{Sought, at, fault, closing, placed}
 use Rattle.lex.specs.Local.{closing-local}
 use Rattle.lex.specs.Right.{closing-is}

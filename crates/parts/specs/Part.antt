@@ -9,8 +9,9 @@ use mathlib.Core.List.{List, [], _∷_, _++_}
 use mathlib.Core.Option.{Option, none, some}
 use lib.Dec.{ltb, eqb}
 use lib.ListN.{length, take, drop}
+use Rattle.common.specs.Pick.{pick}
 use Rattle.error.specs.Refusal.{Refusal, refusal, Told, good, bad, told}
-use Rattle.lex.specs.Byte.{pick, white, place}
+use Rattle.lex.specs.Byte.{white, place}
 use Rattle.record.specs.Text.{past}
 use Rattle.record.specs.Head.{headerHead}
 use Rattle.record.specs.Form.{Skipped, Free, Keyword}

@@ -11,10 +11,11 @@ use lib.Dec.{ltb, eqb}
 use lib.ListN.{length, take, drop, length-append, length-take, length-drop, take-append-drop}
 use lib.Seq.{take-at, drop-at, length-take-le}
 use borrow.Author.Tests.{lt-ltb, le-ltb, ltb-true, ltb-false, eqb-true, eqb-false, eq-eqb, ne-eqb}
+use Rattle.common.specs.Pick.{pick}
+use Rattle.common.specs.Compare.{clash}
 use Rattle.error.specs.Refusal.{Refusal, refusal, Told, good, bad}
-use Rattle.lex.specs.Byte.{pick, white, place}
+use Rattle.lex.specs.Byte.{white, place}
 use Rattle.lex.specs.Search.{closing, placed}
-use Rattle.lex.specs.Right.Steps.{clash}
 use Rattle.record.specs.Text.{past, Keyed, opened, unopened, keyword}
 use Rattle.record.specs.Head.{headerHead}
 use Rattle.record.specs.Form.{Skipped, Free, NotFirst, Keyword, HeaderForm}

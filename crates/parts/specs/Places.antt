@@ -10,8 +10,8 @@ use native.Mathlib.Omega.{arith}
 use native.Mathlib.Decide.{decLt}
 use lib.Dec.{ltb, eqb}
 use lib.ListN.{length}
+use Rattle.common.specs.Pick.{pick}
 use Rattle.error.specs.Refusal.{Refusal, refusal, Told, good, bad}
-use Rattle.lex.specs.Byte.{pick}
 use Rattle.statement.specs.Row.{HeaderRow, mapped}
 use Rattle.scan.specs.Form.{Argued}
 use Rattle.kinds.specs.declared.Kind.{Kind}

@@ -9,7 +9,7 @@ use lib.Dec.{eqb, leb}
 use lib.ListN.{length, getD, drop}
 use lib.Seq.{sets, sets-eq}
 use borrow.Author.Tests.{le-leb}
-use Rattle.lex.specs.Byte.{pick}
+use Rattle.common.specs.Pick.{pick}
 use Rattle.index.specs.declared.Ids.{Ids}
 use Rattle.kinds.specs.Kind.{rankOf}
 use Rattle.kinds.specs.declared.Kind.{Kind}

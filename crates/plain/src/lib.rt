@@ -6,7 +6,7 @@ ghost use mathlib.Core.Path.{_≡_};
 ghost use Prim.Native.Nat.{_%_};
 ghost use lib.ListN.{length, getD};
 ghost use lib.Dec.{leb};
-ghost use Rattle.lex.specs.Byte.{pick};
+ghost use Rattle.common.specs.Pick.{pick};
 ghost use Rattle.kinds.specs.Kind.{rankOf};
 ghost use Rattle.statement.specs.Statement.{rowOf, headerRowOf};
 ghost use Rattle.plain.specs.Answers.{truthNumber};

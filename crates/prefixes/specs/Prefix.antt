@@ -13,7 +13,7 @@ use lib.Dec.{lit≤}
 use lib.ListN.{length, take, drop, getD}
 use lib.Seq.{drop-cons}
 use lib.Ieee.{Float, nan, binary64, ofBits, toBits, size}
-use Rattle.lex.specs.Byte.{pick}
+use Rattle.common.specs.Pick.{pick}
 use Rattle.record.specs.Word.{isWord}
 use Rattle.record.specs.Form.{bytes}
 use Rattle.nearest.specs.Near.{near, nearUnits}

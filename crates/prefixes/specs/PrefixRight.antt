@@ -10,7 +10,7 @@ use lib.Dec.{T}
 use lib.ListN.{length, getD}
 use lib.Ieee.Bits.{is-false}
 use lib.Ieee.Fits.{and-l, and-r}
-use Rattle.lex.specs.Byte.{pick}
+use Rattle.common.specs.Pick.{pick}
 use Rattle.record.specs.Word.{same, isWord}
 use Rattle.record.specs.Form.{bytes, Spelt}
 use Rattle.record.specs.FormRight.{spelt-is, spelt-only}

@@ -10,8 +10,8 @@ use native.Mathlib.Decide.{decLt}
 use native.Mathlib.Omega.{arith}
 use borrow.Author.Tests.{eqb-true}
 use lib.Dec.{eqb}
-use Rattle.lex.specs.Byte.{pick}
-use Rattle.lex.specs.Walk.{walk, turned, on, stop}
+use Rattle.common.specs.Pick.{pick}
+use Rattle.common.specs.Walk.{walk, turned, on, stop}
 use Rattle.record.specs.Text.{Digits, digits, digitTurn, digit, numberFrom}
 use Rattle.nearest.specs.Near.{near}
 use Rattle.nearest.specs.Borders.{near-nothing}

@@ -7,7 +7,7 @@ use native.Mathlib.Omega.{arith}
 use borrow.Author.Tests.{lt-ltb, le-ltb, le-leb, lt-leb}
 use lib.Dec.{ltb, leb}
 use lib.Pow.{pow-add}
-use Rattle.lex.specs.Byte.{pick}
+use Rattle.common.specs.Pick.{pick}
 use Rattle.nearest.specs.Near.{near, near-same}
 use Rattle.nearest.specs.Round.{signed}
 use Rattle.nearest.specs.Power.{ten-pos}

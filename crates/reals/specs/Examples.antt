@@ -3,7 +3,7 @@ use Prim.Native.Nat.{ℕ, _+_, _^_}
 use mathlib.Core.Path.{_≡_, refl}
 use lib.IntN.{pos, negℤ}
 use lib.Ieee.{size}
-use Rattle.lex.specs.Walk.{walk}
+use Rattle.common.specs.Walk.{walk}
 use Rattle.record.specs.Form.{bytes}
 use Rattle.record.specs.Text.{numberFrom}
 use Rattle.nearest.specs.Near.{near, nearUnits}

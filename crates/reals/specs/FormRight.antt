@@ -11,8 +11,8 @@ use native.Mathlib.Decide.{decLt, decLe}
 use borrow.Author.Tests.{lt-ltb, le-ltb, le-leb, lt-leb, eq-eqb, ne-eqb, eqb-true, eqb-false, leb-true}
 use lib.Dec.{eqb, ltb, leb}
 use lib.ListN.{length, length-append}
-use Rattle.lex.specs.Byte.{pick}
-use Rattle.lex.specs.Right.Steps.{clash}
+use Rattle.common.specs.Pick.{pick}
+use Rattle.common.specs.Compare.{clash}
 use Rattle.record.specs.Text.{digit, Digits, digits, numberFrom}
 use Rattle.record.specs.Form.{All, NotFirst, Skipped, valueOf}
 use Rattle.record.specs.Turns.{bounds}

@@ -9,8 +9,9 @@ use native.Mathlib.Omega.{arith}
 use borrow.Author.Tests.{lt-ltb, le-ltb, eq-eqb, ne-eqb, ltb-true, ltb-false, eqb-true, eqb-false}
 use lib.Dec.{eqb, ltb}
 use lib.ListN.{length, drop, getD, length-drop}
-use Rattle.lex.specs.Byte.{pick}
-use Rattle.lex.specs.Walk.{walk, walk-ends, drop-end, split}
+use Rattle.common.specs.Pick.{pick}
+use Rattle.common.specs.Lists.{drop-end, split}
+use Rattle.common.specs.Walk.{walk, walk-ends}
 use Rattle.record.specs.Text.{digit, Digits, digits, digitTurn, numberFrom}
 use Rattle.record.specs.Form.{All, valueOf}
 use Rattle.record.specs.Turns.{bounds, digit-stops, digit-goes}

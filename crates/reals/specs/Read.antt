@@ -9,7 +9,7 @@ use borrow.Author.Tests.{eq-eqb, ne-eqb}
 use lib.Dec.{eqb}
 use lib.ListN.{length, take, drop, length-drop, take-append-drop}
 use lib.Seq.{drop-drop}
-use Rattle.lex.specs.Byte.{pick}
+use Rattle.common.specs.Pick.{pick}
 use Rattle.record.specs.Text.{Digits, numberFrom}
 use Rattle.reals.specs.Scalar.{read, refused, toldReal, unsigned, minus, Mantissa, fractionOf, Exponent, power, malformed, exponentOf, parsed, unparsed, joined, parseOf, classOf, realOf, anyOf, anyRealOf, realBy, NumberAt, DecimalAt, TensAt, ClassOf, AnyAt, most, largest}
 use Rattle.long.specs.Digits.{numberIn}

@@ -8,7 +8,7 @@ use lib.Dec.{eqb, leb, ltb}
 use lib.ListN.{length, drop}
 use lib.IntN.{ℤ, pos, negℤ}
 use lib.Ieee.{binary64, toBits}
-use Rattle.lex.specs.Byte.{pick}
+use Rattle.common.specs.Pick.{pick}
 use Rattle.record.specs.Text.{digit, Digits, numberFrom}
 use Rattle.nearest.specs.Near.{near}
 use Rattle.nearest.specs.Round.{signed}

@@ -9,8 +9,8 @@ use borrow.Author.Tests.{lt-ltb, le-ltb, le-leb, lt-leb, ne-eqb, eq-eqb}
 use lib.Dec.{eqb, leb, ltb}
 use lib.IntN.{ℤ, pos}
 use lib.ListN.{length, drop, getD}
-use Rattle.lex.specs.Byte.{pick}
-use Rattle.lex.specs.Walk.{split, drop-end}
+use Rattle.common.specs.Pick.{pick}
+use Rattle.common.specs.Lists.{split, drop-end}
 use Rattle.record.specs.Text.{numberFrom}
 use Rattle.reals.specs.Scalar.{Answer, read, refused, unsigned, minus, digitsOnly, ranged, wholeOf, idOf, referenceOf, PlainAt, largest}
 use Rattle.reals.specs.declared.Plain.{Plain}

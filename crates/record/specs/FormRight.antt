@@ -12,10 +12,11 @@ use lib.Dec.{eqb, leb}
 use lib.ListN.{length, take, drop, length-append, length-map, take-append-drop}
 use lib.Seq.{take-at, drop-at}
 use borrow.Author.Tests.{not-true, not-false, leb-false, leb-true, lt-ltb, le-ltb, eqb-true, eq-eqb, ne-eqb}
-use Rattle.lex.specs.Byte.{pick, white, place}
-use Rattle.lex.specs.Walk.{on, walk}
+use Rattle.common.specs.Pick.{pick}
+use Rattle.common.specs.Compare.{clash}
+use Rattle.lex.specs.Byte.{white, place}
+use Rattle.common.specs.Walk.{on, walk}
 use Rattle.lex.specs.Grammar.{Begins}
-use Rattle.lex.specs.Right.Steps.{clash}
 use Rattle.record.specs.Text.{past, digit, Digits, digits, numberFrom, opened, unopened, keyTurn, keyword, trailTurn, trail}
 use Rattle.record.specs.Turns.{bounds, number-grows}
 use Rattle.record.specs.Head.{valueHead, equalHead, dataHead, headerHead}

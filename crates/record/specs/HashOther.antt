@@ -5,12 +5,12 @@ use lib.ListN.{length, getD}
 use mathlib.Core.Path.{_≡_, refl, sym}
 use mathlib.Core.Bool.{Bool, true, false}
 use mathlib.Core.List.{List, [], _∷_, _++_}
+use Rattle.common.specs.Compare.{clash}
 use Rattle.lex.specs.Byte.{white}
 use Rattle.lex.specs.Grammar.{Begins}
-use Rattle.lex.specs.Right.Steps.{clash}
 use Rattle.record.specs.Form.{All, Trimmed}
 use Rattle.record.specs.FormRight.{trimmed-is}
-use Rattle.lex.specs.Walk.{walk}
+use Rattle.common.specs.Walk.{walk}
 use Rattle.record.specs.Text.{past, trail}
 use Rattle.record.specs.Word.{same, trimmed, wordOf}
 use Rattle.record.specs.declared.Word.{Word}

@@ -10,8 +10,9 @@ use borrow.Author.Tests.{eq-eqb, ne-eqb, lt-ltb, le-ltb}
 use lib.Dec.{eqb, ltb}
 use lib.ListN.{length, take, drop, getD, length-drop, length-take, length-map}
 use lib.Seq.{take-all}
-use Rattle.lex.specs.Byte.{pick, white, place, place-drop}
-use Rattle.lex.specs.Walk.{split, drop-end}
+use Rattle.common.specs.Pick.{pick}
+use Rattle.common.specs.Lists.{split, drop-end}
+use Rattle.lex.specs.Byte.{white, place, place-drop}
 use Rattle.record.specs.Text.{past, Digits, digits, numberFrom, Keyed, opened, unopened, keyword, trail}
 use Rattle.record.specs.Word.{same, upper, isWord, dataWord, opens, opensData, trimmed}
 use Rattle.record.specs.Turns.{same-lengths}

@@ -6,8 +6,9 @@ use mathlib.Core.Bool.{Bool, true, false, _&&_}
 use mathlib.Core.List.{List, [], _∷_}
 use lib.Dec.{eqb, leb}
 use lib.ListN.{length, take, drop}
-use Rattle.lex.specs.Byte.{pick, white}
-use Rattle.lex.specs.Walk.{Turn, stop, on, walk}
+use Rattle.common.specs.Pick.{pick}
+use Rattle.lex.specs.Byte.{white}
+use Rattle.common.specs.Walk.{Turn, stop, on, walk}
 use Rattle.record.specs.declared.Number.{Number}
 use Rattle.record.specs.declared.Number.the-variants.{Over, Value}
 use Rattle.record.specs.declared.Key.{Key}

@@ -9,8 +9,10 @@ use native.Mathlib.Nat.{le-refl}
 use lib.Dec.{eqb, leb}
 use borrow.Author.Tests.{leb-true, ne-eqb}
 use lib.ListN.{length, drop, getD}
-use Rattle.lex.specs.Byte.{pick, white}
-use Rattle.lex.specs.Walk.{Turn, stop, on, turned, walk, split, walk-ends, walk-stops, walk-goes}
+use Rattle.common.specs.Pick.{pick}
+use Rattle.common.specs.Lists.{split}
+use Rattle.lex.specs.Byte.{white}
+use Rattle.common.specs.Walk.{Turn, stop, on, turned, walk, walk-ends, walk-stops, walk-goes}
 use Rattle.record.specs.Text.{pastTurn, digit, Digits, digits, digitTurn, numberFrom, Keyed, opened, unopened, keyTurn, keyword, trailTurn}
 use Rattle.record.specs.Word.{same}
 

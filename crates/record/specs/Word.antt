@@ -5,7 +5,8 @@ use mathlib.Core.Bool.{Bool, true, false, _&&_, _||_}
 use mathlib.Core.List.{List, [], _∷_, map}
 use lib.Dec.{eqb, leb}
 use lib.ListN.{take, drop}
-use Rattle.lex.specs.Byte.{pick, white}
+use Rattle.common.specs.Pick.{pick}
+use Rattle.lex.specs.Byte.{white}
 use Rattle.record.specs.Text.{before, past, trail}
 use Rattle.record.specs.declared.Word.{Word}
 use Rattle.record.specs.declared.Word.the-variants.{Header, Data, EndSection, EndFile, Other}

@@ -6,8 +6,8 @@ use mathlib.Core.Bool.{Bool, true, false}
 use mathlib.Core.List.{List}
 use borrow.Author.Tests.{eqb-true}
 use lib.Dec.{eqb}
-use Rattle.lex.specs.Byte.{pick}
-use Rattle.lex.specs.Right.Steps.{clash}
+use Rattle.common.specs.Pick.{pick}
+use Rattle.common.specs.Compare.{clash}
 use Rattle.reals.specs.Scalar.{Answer, read, refused, realOf, anyRealOf}
 use Rattle.reals.specs.Before.{any-kept, any-12, any-refused}
 use Rattle.scalars.specs.Scalars.{Given, unset, isUnset, asGiven, optionOf, Kernel, inside, bare, kernelOf, kernelReal, measured, measureBy, measureOf}

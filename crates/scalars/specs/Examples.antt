@@ -2,7 +2,7 @@
 -- Assumes nothing.
 use mathlib.Core.Path.{_≡_, refl}
 use mathlib.Core.List.{[]}
-use Rattle.lex.specs.Walk.{walk}
+use Rattle.common.specs.Walk.{walk}
 use Rattle.record.specs.Form.{bytes}
 use Rattle.record.specs.Text.{past, trail, numberFrom}
 use Rattle.record.specs.Word.{same}

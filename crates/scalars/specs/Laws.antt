@@ -9,10 +9,11 @@ use lib.Dec.{eqb}
 use lib.ListN.{length, take, drop, getD, length-drop, take-append-drop}
 use lib.Seq.{take-suc, take-nil, take-take, drop-drop, getD-drop}
 use borrow.Author.Tests.{eq-eqb, ne-eqb}
+use Rattle.common.specs.Pick.{pick}
+use Rattle.common.specs.Lists.{split, drop-end}
+use Rattle.common.specs.Compare.{clash}
 use Rattle.error.specs.Refusal.{Refusal, Told, good, bad}
-use Rattle.lex.specs.Byte.{pick, white}
-use Rattle.lex.specs.Walk.{split, drop-end}
-use Rattle.lex.specs.Right.Steps.{clash}
+use Rattle.lex.specs.Byte.{white}
 use Rattle.record.specs.Text.{past, trail}
 use Rattle.record.specs.Word.{trimmed}
 use Rattle.record.specs.Form.{All, NotLast}

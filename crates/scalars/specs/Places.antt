@@ -5,8 +5,8 @@ use mathlib.Core.Bool.{false}
 use mathlib.Core.List.{List}
 use native.Mathlib.Omega.{arith}
 use lib.ListN.{length, take, drop}
+use Rattle.common.specs.Compare.{clash}
 use Rattle.error.specs.Refusal.{good, Refusal, refusal, bad}
-use Rattle.lex.specs.Right.Steps.{clash}
 use Rattle.reals.specs.Scalar.{Answer, read, refused}
 use Rattle.params.specs.Reader.{reading, Span, inFile, paramOf}
 use Rattle.params.specs.Rules.{Inside}

@@ -8,8 +8,8 @@ use lib.Dec.{eqb}
 use lib.ListN.{length, take, drop, getD}
 use lib.IntN.{ℤ}
 use lib.Ieee.{binary64, toBits}
+use Rattle.common.specs.Pick.{pick}
 use Rattle.error.specs.Refusal.{Refusal, refusal, Told, good, bad, told}
-use Rattle.lex.specs.Byte.{pick}
 use Rattle.record.specs.Text.{past}
 use Rattle.record.specs.Word.{same, trimmed}
 use Rattle.reals.specs.Scalar.{Answer, read, refused, referenceOf, wholeOf, realOf}

@@ -5,8 +5,9 @@ use mathlib.Core.Bool.{Bool, true, false}
 use mathlib.Core.List.{List, [], _∷_}
 use lib.Dec.{ltb}
 use lib.ListN.{length, take, drop}
+use Rattle.common.specs.Pick.{pick}
 use Rattle.error.specs.Refusal.{Refusal, refusal, Told, good, bad}
-use Rattle.lex.specs.Byte.{pick, white, place}
+use Rattle.lex.specs.Byte.{white, place}
 use Rattle.record.specs.Text.{past}
 use Rattle.record.specs.Word.{same, marker}
 use Rattle.statement.specs.Row.{Row, HeaderRow, mapped}

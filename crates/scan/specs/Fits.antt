@@ -6,8 +6,9 @@ use mathlib.Core.List.{List, [], _∷_}
 use native.Mathlib.Omega.{arith}
 use lib.Dec.{ltb}
 use lib.ListN.{length, drop}
+use Rattle.common.specs.Pick.{pick}
 use Rattle.error.specs.Refusal.{Refusal, refusal, Told, good, bad}
-use Rattle.lex.specs.Byte.{pick, place, place-within}
+use Rattle.lex.specs.Byte.{place, place-within}
 use Rattle.lex.specs.Search.{Sought, at, fault, trivia, recordEnd, closing, placed}
 use Rattle.record.specs.Text.{before}
 use Rattle.record.specs.Word.{wordOf}

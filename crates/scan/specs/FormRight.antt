@@ -9,9 +9,9 @@ use native.Mathlib.Decide.{decLe}
 use lib.Dec.{eqb}
 use lib.ListN.{length, take}
 use borrow.Author.Tests.{lt-ltb, le-ltb, ne-eqb, eqb-true}
+use Rattle.common.specs.Compare.{clash}
 use Rattle.error.specs.Refusal.{Refusal, Told, bad}
 use Rattle.lex.specs.Byte.{white}
-use Rattle.lex.specs.Right.Steps.{clash}
 use Rattle.record.specs.Text.{past}
 use Rattle.record.specs.Word.{same, marker}
 use Rattle.record.specs.Form.{All}

@@ -6,8 +6,8 @@ use mathlib.Core.Bool.{Bool, true, false, _&&_}
 use mathlib.Core.List.{List, [], _∷_}
 use native.Mathlib.Omega.{arith}
 use lib.ListN.{drop}
+use Rattle.common.specs.Compare.{clash}
 use Rattle.error.specs.Refusal.{Told, good, bad, told}
-use Rattle.lex.specs.Right.Steps.{clash}
 use Rattle.statement.specs.Row.{Row, HeaderRow}
 use Rattle.statement.specs.Statement.{ends, moved, header, record′, statement}
 use Rattle.statement.specs.Tidy.{tidy}

@@ -7,7 +7,8 @@ ghost use mathlib.Core.Bool.{true, false};
 ghost use Prim.Native.Nat.{_+_, _*_, _/_, _≤_, _<_, max};
 ghost use lib.ListN.{length, take, drop};
 ghost use lib.Seq.{sets};
-ghost use Rattle.lex.specs.Byte.{pick, white};
+ghost use Rattle.common.specs.Pick.{pick};
+ghost use Rattle.lex.specs.Byte.{white};
 ghost use Rattle.record.specs.Text.{past};
 ghost use Rattle.record.specs.Word.{same, marker};
 ghost use Rattle.statement.specs.Row.{mapped};
@@ -74,13 +75,6 @@ fn is_marked(s: &[u8]) -> bool
         return is_marker(&s[3..]);
     }
     is_marker(s)
-}
-
-// The greater of two ids.
-fn greater(a: u32, b: u32) -> u32
-    ensures { λ r. ⌜ r ≡ max a b ⌝ }
-{
-    if a < b { b } else { a }
 }
 
 // Stores a header row as row k, where the pass writes, and answers the next row's number.
@@ -157,7 +151,7 @@ fn run(
         };
         put_record(rows, count, span, true);
         count += 1;
-        max = greater(max, span.id);
+        max = common::greater(max, span.id);
         place = next;
     }
     Reached { place, count, max }
@@ -180,7 +174,7 @@ fn pass(
     ensures { λ _. ⌜ Written write (readingOf (now (s .entry)) (headerRoom (now (headers .entry))) (dataRoom (now (rows .entry)) slots)) recordNumbers (now (rows .entry)) (now (rows .exit)) ⌝ }
     ensures { λ r. ⌜ NeatTold (now (s .entry)) r ⌝ }
 {
-    let room = lex::within(rows.len() / 6, slots);
+    let room = common::within(rows.len() / 6, slots);
     let mut i = 0;
     let mut section = Section::Outside;
     let mut h: usize = 0;
@@ -212,7 +206,7 @@ fn pass(
                 }
                 put_record(rows, r, span, write);
                 section = Section::InData;
-                let t = run(s, rows, room, next, r + 1, greater(max, span.id), known);
+                let t = run(s, rows, room, next, r + 1, common::greater(max, span.id), known);
                 r = t.count;
                 max = t.max;
                 i = t.place;

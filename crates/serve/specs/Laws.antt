@@ -4,9 +4,9 @@ use mathlib.Core.Path.{_≡_, refl, sym, _∙_, ap, subst, fun-ext}
 use mathlib.Core.List.{List, map}
 use mathlib.Core.Option.{Option, none, some}
 use lib.ListN.{length}
+use Rattle.common.specs.Compare.{clash}
 use Rattle.error.specs.Refusal.{Refusal, Told, good, bad, told}
 use Rattle.error.specs.declared.Fault.{Fault}
-use Rattle.lex.specs.Right.Steps.{clash}
 use Rattle.statement.specs.Row.{Row, mapped}
 use Rattle.params.specs.Reader.{onward}
 use Rattle.scan.specs.File.{Table}

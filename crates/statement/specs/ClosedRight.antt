@@ -2,19 +2,19 @@
 -- its own text. Assumes nothing.
 use Prim.Native.Nat.{ℕ, _+_, _-_, _≤_}
 use mathlib.Core.Path.{_≡_, refl, sym, _∙_, ap}
-use mathlib.Core.List.{List, [], _∷_, _++_, append-assoc, append-nil, append-cancel-right}
+use mathlib.Core.List.{List, [], _∷_, _++_, append-assoc, append-nil}
 use native.Mathlib.Omega.{arith}
 use native.Mathlib.Decide.{ℕ-discrete}
 use borrow.Author.Tests.{ne-eqb}
 use lib.ListN.{length, take, drop, length-append, length-drop}
 use lib.Seq.{slice, drop-at, take-append-add, drop-append-add, take-append-le, take-append-seam, drop-append-seam}
+use Rattle.common.specs.Compare.{clash}
 use Rattle.error.specs.Refusal.{Told, good}
 use Rattle.lex.specs.Byte.{place}
 use Rattle.lex.specs.Grammar.{Begins, Closes}
 use Rattle.lex.specs.Search.{at, closing}
 use Rattle.lex.specs.Local.{closing-local}
-use Rattle.lex.specs.Right.{closing-only, closing-is}
-use Rattle.lex.specs.Right.Steps.{clash}
+use Rattle.lex.specs.Inside.{closing-inside, closes-own, closes-any}
 use Rattle.record.specs.Head.{dataHead}
 use Rattle.record.specs.Within.{data-within, header-within}
 use Rattle.record.specs.declared.Head.the-variants.{Bad}
@@ -25,27 +25,7 @@ pub mod Outside
 pub mod Parts
 pub mod Examples
 
--- a `)` that is found in t, whatever follows t, is found there whatever else follows it
-pub closing-inside : (c : ℕ) (t v z : List ℕ) → closing (c ∷ (t ++ z)) ≡ at (41 ∷ (v ++ z))
-    → (y : List ℕ) → closing (c ∷ (t ++ y)) ≡ at (41 ∷ (v ++ y))
-closing-inside c t v z h y =
-    let (a, e, l) = closing-local c (t ++ z) (v ++ z) h in
-    let k : t ≡ a ++ (41 ∷ v) = append-cancel-right t (a ++ (41 ∷ v)) z (e ∙ sym (append-assoc a (41 ∷ v) z)) in
-    rw (k, append-assoc a (41 ∷ v) y) (l (v ++ y))
-
--- so "closes before that record's `;`" is that it closes in the record's own text: z is the `;` and what follows
-pub closes-own : (t v z : List ℕ) → closing (40 ∷ (t ++ z)) ≡ at (41 ∷ (v ++ z)) → Closes t v
-closes-own t v z h =
-    let e : closing (40 ∷ t) ≡ at (41 ∷ v) = simp append-nil at (closing-inside 40 t v z h []) in
-    let (r, g, k) = closing-is 40 t (41 ∷ v) e in
-    let f : r ≡ v = cc in
-    rw f at k
-
--- and a `)` in a record's text is found there, whatever follows the text
-pub closes-any : {t v : List ℕ} → Closes t v → (y : List ℕ) → closing (40 ∷ (t ++ y)) ≡ at (41 ∷ (v ++ y))
-closes-any {t} {v} h = closing-inside 40 t v [] (simp append-nil (closing-only 40 h))
-
--- so is that of a closed record
+-- the `)` of a closed record is found in its own text, whatever follows the text
 pub closed-closing : {b : List ℕ} {o : ℕ} (c : ClosedAt b o) (y : List ℕ) → closing (drop o (b ++ y)) ≡ at (41 ∷ (c .back ++ y))
 closed-closing {b} {o} c y =
     let e : b ++ y ≡ c .front ++ (40 ∷ ((c .args ++ (41 ∷ c .back)) ++ y)) = rw (c .shape) (append-assoc (c .front) _ y) in

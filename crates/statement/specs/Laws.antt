@@ -6,6 +6,7 @@ use mathlib.Core.List.{List, [], _∷_, _++_}
 use native.Mathlib.Omega.{arith}
 use lib.ListN.{length, take, drop, length-drop, length-append, length-take}
 use lib.Seq.{drop-drop, drop-append-seam}
+use Rattle.common.specs.Lists.{split, drop-end}
 use Rattle.error.specs.Refusal.{Refusal, refusal, Told, good, bad, told}
 use Rattle.lex.specs.Byte.{place, place-drop}
 use Rattle.lex.specs.Search.{Sought, at, fault, trivia, recordEnd, closing, placed}
@@ -13,7 +14,7 @@ use Rattle.record.specs.Head.{dataHead, headerHead}
 use Rattle.record.specs.Within.{HeadWithin, data-within, header-within}
 use Rattle.record.specs.declared.Head.{Head}
 use Rattle.record.specs.declared.Head.the-variants.{Bad, Complex, Simple}
-use Rattle.lex.specs.Walk.{split, drop-end, walk}
+use Rattle.common.specs.Walk.{walk}
 use Rattle.lex.specs.At.{trivia-at, end-at}
 use Rattle.record.specs.Text.{before}
 use Rattle.record.specs.Word.{wordOf}

@@ -8,9 +8,10 @@ use lib.Dec.{eqb}
 use lib.ListN.{length, take, drop, getD}
 use lib.Seq.{drop-drop}
 use borrow.Author.Tests.{eq-eqb, ne-eqb, eqb-true, eqb-false}
+use Rattle.common.specs.Lists.{split, drop-end}
+use Rattle.common.specs.Compare.{clash}
 use Rattle.lex.specs.Byte.{white, place, place-drop}
-use Rattle.lex.specs.Walk.{split, drop-end, walk}
-use Rattle.lex.specs.Right.Steps.{clash}
+use Rattle.common.specs.Walk.{walk}
 use Rattle.record.specs.Text.{past, before}
 use Rattle.record.specs.Turns.{past-stops, past-goes}
 use Rattle.record.specs.Head.{dataHead}

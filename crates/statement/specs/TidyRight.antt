@@ -8,13 +8,13 @@ use lib.Dec.{eqb}
 use lib.ListN.{length, take, drop, getD, length-append, length-drop}
 use lib.Seq.{drop-append-seam, take-append-seam}
 use borrow.Author.Tests.{eqb-true, eqb-false}
+use Rattle.common.specs.Compare.{clash}
 use Rattle.error.specs.Refusal.{Refusal, Told, good, bad}
 use Rattle.lex.specs.Byte.{white, place}
 use Rattle.lex.specs.Grammar.{Trivia, Led}
 use Rattle.lex.specs.Search.{Sought, at, fault, recordEnd, closing, trivia, placed}
 use Rattle.lex.specs.Local.{end-local}
 use Rattle.lex.specs.Right.{trivia-only, end-is}
-use Rattle.lex.specs.Right.Steps.{clash}
 use Rattle.record.specs.Text.{past, before}
 use Rattle.record.specs.Form.{All}
 use Rattle.record.specs.FormRight.{past-is}

@@ -7,10 +7,10 @@ use native.Mathlib.Omega.{arith}
 use lib.Dec.{eqb}
 use lib.ListN.{length, take, drop, getD, length-drop, length-append}
 use borrow.Author.Tests.{eqb-false, not-true}
+use Rattle.common.specs.Lists.{split, drop-end}
+use Rattle.common.specs.Compare.{clash}
 use Rattle.lex.specs.Byte.{white}
-use Rattle.lex.specs.Walk.{split, drop-end}
 use Rattle.lex.specs.Grammar.{Begins}
-use Rattle.lex.specs.Right.Steps.{clash}
 use Rattle.record.specs.Text.{past, digit, digits, numberFrom, trail}
 use Rattle.record.specs.Form.{All, Free, NotFirst, NotLast, Skipped, valueOf, Id, Keyword, Lead, HeadForm}
 use Rattle.record.specs.FormRight.{past-is, number-is, trail-only, headform-only}

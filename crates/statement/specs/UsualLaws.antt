@@ -9,12 +9,15 @@ use lib.Dec.{eqb}
 use lib.ListN.{length, take, drop, getD, length-drop, length-append, take-append-drop}
 use lib.Seq.{drop-drop, take-all}
 use borrow.Author.Tests.{eqb-true, eqb-false, ne-eqb, not-true, not-false}
-use Rattle.lex.specs.Byte.{pick, white}
-use Rattle.lex.specs.Walk.{split, drop-end, walk}
+use Rattle.common.specs.Pick.{pick}
+use Rattle.common.specs.Lists.{split, drop-end}
+use Rattle.common.specs.Compare.{clash}
+use Rattle.lex.specs.Byte.{white}
+use Rattle.common.specs.Walk.{walk}
 use Rattle.lex.specs.Grammar.{Begins, Opens, Inside, Quotation}
 use Rattle.lex.specs.Search.{Look, look, semicolon, paren, under}
 use Rattle.lex.specs.Seek.{under-less}
-use Rattle.lex.specs.Right.Steps.{clash, plainly, Passing, byte-step, string-step}
+use Rattle.lex.specs.Right.Steps.{plainly, Passing, byte-step, string-step}
 use Rattle.record.specs.Text.{past, trail}
 use Rattle.record.specs.Turns.{past-stops, past-goes}
 use Rattle.record.specs.Form.{All, Free, NotLast, Skipped}

@@ -9,14 +9,16 @@ use lib.Seq.{drop-drop, take-append-add, take-append-seam}
 use lib.Dec.{eqb}
 use mathlib.Core.Bool.{Bool, true, false, not}
 use borrow.Author.Tests.{ne-eqb, eq-eqb}
+use Rattle.common.specs.Lists.{split}
+use Rattle.common.specs.Compare.{clash}
 use Rattle.error.specs.Refusal.{Told, good, bad}
 use Rattle.lex.specs.Byte.{white, place, place-drop}
-use Rattle.lex.specs.Walk.{split, walk}
+use Rattle.common.specs.Walk.{walk}
 use Rattle.lex.specs.Grammar.{Trivia, Led, Begins, Opens}
 use Rattle.lex.specs.Search.{Sought, at, recordEnd, closing, trivia, placed, semicolon, paren, missed}
 use Rattle.lex.specs.Local.{seek-halts}
 use Rattle.lex.specs.Right.{trivia-only}
-use Rattle.lex.specs.Right.Steps.{clash, plainly}
+use Rattle.lex.specs.Right.Steps.{plainly}
 use Rattle.lex.specs.declared.Mode.the-variants.{Plain}
 use Rattle.record.specs.Text.{past}
 use Rattle.record.specs.Form.{All, Free}

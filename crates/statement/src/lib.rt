@@ -333,7 +333,7 @@ fn text_run(s: &[u8], from: usize) -> usize
     ensures { λ r. ⌜ drop r (now (s .entry)) ≡ past spoken (drop from (now (s .entry))) ⌝ }
     ensures { λ r. ⌜ (from ≤ r) × (r ≤ length (now (s .entry))) ⌝ }
 {
-    let near = lex::within(from + 32, s.len());
+    let near = common::within(from + 32, s.len());
     let i = text_bytes(s, from, near);
     if i < near {
         return i;

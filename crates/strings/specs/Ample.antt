@@ -9,7 +9,7 @@ use borrow.Author.Tests.{ltb-true, ltb-false, lt-leb, eqb-true, ne-eqb}
 use lib.Dec.{eqb, leb, ltb}
 use lib.ListN.{length, take, drop, getD, length-append}
 use lib.Seq.{length-take-le, getD-drop}
-use Rattle.lex.specs.Byte.{pick}
+use Rattle.common.specs.Pick.{pick}
 use Rattle.utf8.specs.Utf8.{byteAt, encode, encodeAll, Lead, leadOf}
 use Rattle.utf8.specs.Laws.{encode-one, encode-two, sized, Leads, led-one, led-two, led-three, led-four, led-none, leads}
 use Rattle.pages.specs.Pages.{pageA, codeOf}

@@ -5,7 +5,7 @@ use mathlib.Core.Bool.{Bool, true, false, _&&_, _||_}
 use mathlib.Core.List.{List, [], _∷_, _++_}
 use lib.Dec.{eqb, leb, ltb}
 use lib.ListN.{length, take, drop}
-use Rattle.lex.specs.Byte.{pick}
+use Rattle.common.specs.Pick.{pick}
 use Rattle.utf8.specs.Utf8.{encodeAll}
 use Rattle.strings.specs.declared.Char.{Char}
 use Rattle.strings.specs.declared.Decoded.{Decoded}

@@ -9,7 +9,7 @@ use borrow.Author.Tests.{ltb-true, ltb-false, lt-ltb, le-ltb, le-leb, lt-leb, ne
 use lib.Dec.{eqb, leb, ltb}
 use lib.ListN.{length, drop, length-append}
 use lib.Seq.{drop-append-seam, drop-drop}
-use Rattle.lex.specs.Byte.{pick}
+use Rattle.common.specs.Pick.{pick}
 use Rattle.utf8.specs.Utf8.{scalar, valid, leadOf}
 use Rattle.utf8.specs.Table.{In, Encoded}
 use Rattle.utf8.specs.Agree.{table-leads}

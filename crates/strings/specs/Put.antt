@@ -9,7 +9,7 @@ use borrow.Author.Tests.{le-leb, leb-true}
 use lib.Dec.{leb}
 use lib.ListN.{length, take, drop, set, getD, length-append, length-drop}
 use lib.Seq.{drop-drop, take-append-seam, drop-append-add, length-take-le, paste, paste-zero, paste-suc}
-use Rattle.lex.specs.Byte.{pick}
+use Rattle.common.specs.Pick.{pick}
 use Rattle.utf8.specs.Utf8.{encode, encodeAll, putAt, putWidth}
 
 -- the largest number of 64 bits

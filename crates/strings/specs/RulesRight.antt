@@ -10,7 +10,7 @@ use borrow.Author.Tests.{ltb-true, ltb-false, leb-true, lt-ltb, le-ltb, le-leb, 
 use lib.Dec.{eqb, leb, ltb}
 use lib.ListN.{length, take, drop, length-drop, take-append-drop}
 use lib.Seq.{drop-cons, getD-drop}
-use Rattle.lex.specs.Byte.{pick}
+use Rattle.common.specs.Pick.{pick}
 use Rattle.lex.specs.Grammar.{Begins}
 use Rattle.utf8.specs.Utf8.{encode, byteAt, Lead, valid, invalid, leadOf}
 use Rattle.utf8.specs.Table.{Encoded, line-one, line-two, line-three, line-four}

@@ -9,7 +9,7 @@ use borrow.Author.Tests.{leb-false, lt-ltb}
 use lib.Dec.{eqb, leb}
 use lib.ListN.{length, take, drop, getD, length-drop}
 use lib.Seq.{take-all, take-add}
-use Rattle.lex.specs.Byte.{pick}
+use Rattle.common.specs.Pick.{pick}
 use Rattle.utf8.specs.Utf8.{encodeAll}
 use Rattle.utf8.specs.Laws.{encode-one}
 use Rattle.pages.specs.Pages.{pageA}

@@ -9,7 +9,7 @@ use borrow.Author.Tests.{ltb-true, le-ltb, le-leb}
 use lib.Dec.{eqb, leb, ltb}
 use lib.ListN.{length, take, drop, drop-of-length-le}
 use lib.Seq.{take-append-seam, take-all}
-use Rattle.lex.specs.Byte.{pick}
+use Rattle.common.specs.Pick.{pick}
 use Rattle.utf8.specs.Utf8.{byteAt, scalar, encodeAll, Lead, valid, invalid, leadOf}
 use Rattle.utf8.specs.Laws.{scalar-low}
 use Rattle.utf8.specs.Table.{Valid}

@@ -9,9 +9,9 @@ use borrow.Author.Tests.{ltb-true, ltb-false, leb-true, leb-false, lt-ltb, le-lt
 use lib.Dec.{eqb, leb, ltb}
 use lib.ListN.{length, take, drop, getD, length-drop, List·getD-eq-default, drop-of-length-le}
 use lib.Seq.{drop-drop, append-snoc, take-all}
-use Rattle.lex.specs.Byte.{pick}
+use Rattle.common.specs.Pick.{pick}
+use Rattle.common.specs.Lists.{split}
 use Rattle.utf8.specs.Utf8.{byteAt, Lead, valid, invalid, leadOf, encodeAll}
-use Rattle.lex.specs.Walk.{split}
 use Rattle.pages.specs.Pages.{pageOf}
 use Rattle.strings.specs.Text
 use Rattle.strings.specs.Hex.{both, neither, hex-within, four-within}

@@ -9,7 +9,7 @@ use borrow.Author.Tests.{eqb-true, lt-ltb, le-ltb, eq-eqb, ne-eqb}
 use lib.Dec.{eqb, leb, ltb}
 use lib.ListN.{length, take, drop, length-drop}
 use lib.Seq.{drop-drop}
-use Rattle.lex.specs.Byte.{pick}
+use Rattle.common.specs.Pick.{pick}
 use Rattle.utf8.specs.Utf8.{byteAt, valid, leadOf, codeOfLead, usedOfLead, encodeAll}
 use Rattle.utf8.specs.Laws.{used-none, used-some}
 use Rattle.pages.specs.Pages.{pageA, pageOf, codeOf}

@@ -14,7 +14,7 @@ ghost use Prim.Native.Nat.{ℕ, _+_, _*_, _-_, _≤_, _<_, min};
 ghost use lib.Dec.{eqb};
 ghost use lib.ListN.{length, take, drop};
 ghost use lib.Seq.{paste};
-ghost use Rattle.lex.specs.Byte.{pick};
+ghost use Rattle.common.specs.Pick.{pick};
 ghost use Rattle.utf8.specs.Utf8.{byteAt, encodeAll};
 ghost use Rattle.strings.specs.Text.{hexDigit, hexValue, twoAt, twoOf, fourAt, fourOf, groupTwo, groupFour, groupOf, closing, plain, shown, joined, is, longOf, directiveOf, pieceOf, pageAfter, extended, groupsFrom, bytesOf};
 ghost use Rattle.strings.specs.Code.{toldGroup, oneView, viewOf, Moved, Passed, Ran, Turned, decodedOf, roomAfter, shownOf, toldText, answerOf};

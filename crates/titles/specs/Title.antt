@@ -5,8 +5,8 @@ use mathlib.Core.Path.{_≡_, refl, sym, _∙_, ap}
 use mathlib.Core.List.{List, [], _∷_}
 use mathlib.Core.Option.{Option, none, some}
 use lib.Dec.{eqb}
+use Rattle.common.specs.Pick.{pick}
 use Rattle.error.specs.Refusal.{Refusal, refusal, Told, good, bad, told}
-use Rattle.lex.specs.Byte.{pick}
 use Rattle.params.specs.Reader.{Read, reading, span, mapped, paramOf, skipsOf}
 use Rattle.words.specs.Words.{Shown, inFile, inRoom, stringAt, roomOf}
 use Rattle.lookup.specs.Lookup as rows

@@ -9,13 +9,15 @@ use lib.Dec.{eqb, leb}
 use lib.ListN.{length, drop, getD, length-drop}
 use lib.Seq.{drop-drop}
 use borrow.Author.Tests.{eqb-true, eqb-false, eq-eqb, ne-eqb, leb-true, leb-false}
-use Rattle.lex.specs.Byte.{pick}
-use Rattle.lex.specs.Walk.{walk, split, drop-end}
+use Rattle.common.specs.Pick.{pick}
+use Rattle.common.specs.Lists.{split, drop-end}
+use Rattle.common.specs.Compare.{clash}
+use Rattle.common.specs.Walk.{walk}
 use Rattle.lex.specs.Lexer.{calm, next}
 use Rattle.lex.specs.Leap.{Lacks, Stopped}
 use Rattle.lex.specs.Seek.{drop-within}
 use Rattle.lex.specs.Grammar.{Begins, Opens, Comment, Quotation, OpenText, OpenRemark}
-use Rattle.lex.specs.Right.Steps.{clash, Deaf, remark-shut, remark-open, text-ends, text-over}
+use Rattle.lex.specs.Right.Steps.{Deaf, remark-shut, remark-open, text-ends, text-over}
 use Rattle.lex.specs.Right.Tokens.{open-text, open-remark, Reads, tokens}
 use Rattle.lex.specs.declared.Mode.{Mode}
 use Rattle.lex.specs.declared.Mode.the-variants.{Plain, Slash, Text, Quoted, Remark, Starred}

@@ -6,8 +6,8 @@ use mathlib.Core.Bool.{Bool, true, false}
 use mathlib.Core.List.{List, [], _∷_}
 use lib.Dec.{eqb}
 use lib.ListN.{length, drop}
-use Rattle.lex.specs.Byte.{pick}
-use Rattle.lex.specs.Walk.{Turn, stop, on, walk}
+use Rattle.common.specs.Pick.{pick}
+use Rattle.common.specs.Walk.{Turn, stop, on, walk}
 use Rattle.lex.specs.Lexer.{calm, next}
 use Rattle.lex.specs.declared.Mode.{Mode}
 use Rattle.lex.specs.declared.Mode.the-variants.{Plain, Slash, Text, Quoted, Remark, Starred}

@@ -48,7 +48,7 @@ pub fn comment_end(s: &[u8], start: usize) -> Past
     ensures { λ r. ⌜ toldPast (now (s .entry)) r ≡ commentRest (drop start (now (s .entry))) ⌝ }
     ensures { λ r. ⌜ PastIn start (length (now (s .entry))) r ⌝ }
 {
-    let mut i = lex::within(start, s.len());
+    let mut i = common::within(start, s.len());
     loop {
         let q = find_byte(s, i, b'*');
         if q == s.len() {

@@ -6,8 +6,8 @@ use mathlib.Core.List.{List, [], _∷_}
 use mathlib.Core.Option.{Option, none, some}
 use lib.ListN.{length}
 use lib.Ieee.{binary64, toBits}
+use Rattle.common.specs.Pick.{pick}
 use Rattle.error.specs.Refusal.{Told, good, bad, told}
-use Rattle.lex.specs.Byte.{pick}
 use Rattle.statement.specs.Row.{HeaderRow}
 use Rattle.reals.specs.Scalar.{referenceOf}
 use Rattle.kinds.specs.Kind.{kindOf}

@@ -12,10 +12,10 @@ use lib.IntN.{ℤ}
 use lib.Ieee.{binary64, toBits, ofBits, size}
 use lib.ListN.{length, take, drop, getD, length-drop}
 use lib.Seq.{take-take, drop-drop, length-take-le}
+use Rattle.common.specs.Pick.{pick}
+use Rattle.common.specs.Compare.{clash}
 use Rattle.error.specs.Refusal.{Refusal, refusal, Told, good, bad, told}
 use Rattle.error.specs.declared.Fault.{Fault}
-use Rattle.lex.specs.Byte.{pick}
-use Rattle.lex.specs.Right.Steps.{clash}
 use Rattle.record.specs.Turns.{bounds}
 use Rattle.record.specs.Word.{trimmed}
 use Rattle.nearest.specs.Near.{near, nearUnits}

@@ -7,8 +7,8 @@ use mathlib.Core.List.{List, [], _∷_}
 use mathlib.Core.Option.{Option, none, some}
 use lib.Dec.{eqb}
 use lib.ListN.{length}
+use Rattle.common.specs.Pick.{pick}
 use Rattle.error.specs.Refusal.{Refusal, Told, good, bad}
-use Rattle.lex.specs.Byte.{pick}
 use Rattle.statement.specs.Row.{Row}
 use Rattle.kinds.specs.declared.Kind.the-variants.{GeometricRepresentationContext, GlobalUnitAssignedContext, GlobalUncertaintyAssignedContext, UncertaintyMeasureWithUnit}
 use Rattle.params.specs.Reader.{Span, onward}

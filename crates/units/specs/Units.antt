@@ -5,8 +5,8 @@ use mathlib.Core.Bool.{Bool, true, false}
 use mathlib.Core.List.{List, [], _∷_}
 use mathlib.Core.Option.{Option, none, some}
 use lib.Dec.{eqb}
+use Rattle.common.specs.Pick.{pick}
 use Rattle.error.specs.Refusal.{Told, good, bad}
-use Rattle.lex.specs.Byte.{pick}
 use Rattle.nearest.specs.Near.{near}
 use Rattle.reals.specs.Scalar.{referenceOf, wholeOf}
 use Rattle.kinds.specs.declared.Kind.{Kind}

@@ -10,7 +10,7 @@ use borrow.Author.Tests.{ltb-true, leb-true, lt-ltb, le-ltb, le-leb, lt-leb}
 use lib.Dec.{eqb, leb, ltb}
 use lib.ListN.{length, take, drop, getD, length-drop, List·getD-eq-default, drop-of-length-le}
 use lib.Seq.{sets, sets-eq, take-all, drop-drop, getD-drop}
-use Rattle.lex.specs.Byte.{pick}
+use Rattle.common.specs.Pick.{pick}
 use Rattle.utf8.specs.Utf8.{scalar, encode, byteAt, Lead, valid, invalid, tail, lowest, highest, second, leadTwo, leadThree, leadFour, leadOf, codeOfLead, usedOfLead, putAt, putWidth, validFrom, validOf}
 
 -- two tests that hold together

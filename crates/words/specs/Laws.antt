@@ -8,8 +8,8 @@ use borrow.Author.Tests.{le-leb, lt-leb, leb-true, not-true, not-false}
 use lib.Dec.{eqb, leb}
 use lib.ListN.{length, take, drop, getD, length-drop, length-take}
 use lib.Seq.{length-take-le}
+use Rattle.common.specs.Pick.{pick}
 use Rattle.error.specs.Refusal.{Refusal, refusal, Told, good, bad}
-use Rattle.lex.specs.Byte.{pick}
 use Rattle.utf8.specs.Utf8.{validOf}
 use Rattle.strings.specs.declared.Decoded.{Decoded}
 use Rattle.strings.specs.Code.{decodedOf, roomAfter}

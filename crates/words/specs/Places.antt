@@ -6,8 +6,8 @@ use mathlib.Core.Bool.{false}
 use mathlib.Core.List.{List}
 use native.Mathlib.Omega.{arith}
 use lib.ListN.{length}
+use Rattle.common.specs.Compare.{clash}
 use Rattle.error.specs.Refusal.{Refusal, refusal, Told, good, bad}
-use Rattle.lex.specs.Right.Steps.{clash}
 use Rattle.params.specs.Reader.{reading, Span, inFile, onward, mapped, paramOf}
 use Rattle.params.specs.Rules.{Inside}
 use Rattle.params.specs.Places.{PlacedIn, Stands, Past, mapped-stands, mapped-stays, param-placed, param-stays, param-past, refused-past}

@@ -52,6 +52,9 @@ inside-of-requires c κs = search needs
 sub-share : tie.Need-sub-share
 sub-share c = search needs
 
+cast-share : tie.Need-cast-share
+cast-share c = let h = c .before .before .least .ensures in omega (arith, h)
+
 share-requires : tie.Need-share-requires
 share-requires c κs = search needs
 
@@ -82,6 +85,7 @@ near-row-spec =
     returns-4
     inside-of-requires
     sub-share
+    cast-share
     share-requires
     add-result
     cast-result

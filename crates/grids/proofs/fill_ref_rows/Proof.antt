@@ -1,3 +1,4 @@
+use Rattle.common.specs.Compare.{clash}
 use Rattle.grids.specs.Rows.{Gridding, gridding-starts}
 use Rattle.lists.specs.Items.{asFate}
 use Rattle.reals.specs.Scalar.{referenceOf}
@@ -9,7 +10,6 @@ use borrow.Author.Needs.{needs}
 use Rattle.grids.specs.Rows.{gridding-room, row-read, row-place, row-last, row-goes}
 use Rattle.lists.specs.Items.{toldReadList}
 use Rattle.lists.proofs.Laws.{refused-read}
-use Rattle.lex.specs.Right.Steps.{clash}
 use lib.ListN.{take, drop, set, length-drop, length-set}
 use lib.Seq.{length-take-le}
 use mathlib.Core.List.{_++_}

@@ -1,4 +1,4 @@
-use Rattle.lex.specs.Walk.{drop-end}
+use Rattle.common.specs.Lists.{drop-end}
 use Rattle.record.specs.Turns.{same-lengths}
 use Rattle.record.specs.Word.{same, upper}
 use Rattle.kinds.specs.Words.{both-stops, both-goes}

@@ -1,7 +1,7 @@
 use borrow.Author.Tests.{eqb-true, eqb-false}
-use Rattle.lex.specs.Right.Steps.{clash}
 use native.Mathlib.Omega.{arith}
 use borrow.Author.Needs.{needs}
+use Rattle.common.specs.Compare.{clash}
 use Rattle.lex.proofs.is_at.Statement.{statement}
 use Rattle.lex.proofs.is_at.Tie as tie
 

@@ -1,7 +1,7 @@
 use Rattle.lex.specs.Past.{ahead, blocks-less, bytes-less}
 use Rattle.lex.specs.Seek.{drop-within, seek-halts, paren-up}
 use Rattle.lex.specs.Search.{seen, seekTurn, paren, missed, closing, placed, lookOf}
-use Rattle.lex.specs.Walk.{walk-ends}
+use Rattle.common.specs.Walk.{walk-ends}
 use Rattle.lex.specs.Byte.{place-drop}
 use Rattle.lex.specs.Right.Steps.{plainly}
 use Rattle.error.specs.Refusal.{good, bad, refusal}

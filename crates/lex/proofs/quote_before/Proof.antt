@@ -1,4 +1,3 @@
-use Rattle.lex.specs.Walk.{split, drop-end}
 use Prim.Native.Nat.{_+_}
 use lib.ListN.{drop, getD}
 use mathlib.Core.Path.{ap, _∙_}
@@ -6,6 +5,7 @@ use mathlib.Core.List.{_∷_}
 use denote.Ref.{now}
 use native.Mathlib.Omega.{arith}
 use borrow.Author.Needs.{needs}
+use Rattle.common.specs.Lists.{split, drop-end}
 use Rattle.lex.proofs.quote_before.Statement.{statement}
 use Rattle.lex.proofs.quote_before.Tie as tie
 

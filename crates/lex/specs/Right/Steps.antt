@@ -7,17 +7,13 @@ use mathlib.Core.List.{List, [], _∷_, _++_, append-nil}
 use native.Mathlib.Omega.{arith}
 use lib.Dec.{eqb}
 use borrow.Author.Tests.{eqb-true, eqb-false, ne-eqb}
-use Rattle.lex.specs.Walk.{Turn, on, walk}
+use Rattle.common.specs.Walk.{Turn, on, walk}
 use Rattle.lex.specs.Lexer.{calm, fresh, next}
 use Rattle.lex.specs.Search.{Sought, at, fault, Seen, seen, Look, look, seekTurn, missed}
 use Rattle.lex.specs.Grammar.{Begins, Opens, Remarked, Comment, Inside, Quotation}
 use Rattle.lex.specs.Local.{seek, seek-within, seek-past}
 use Rattle.lex.specs.declared.Mode.{Mode}
 use Rattle.lex.specs.declared.Mode.the-variants.{Plain, Slash, Text, Quoted, Remark, Starred}
-
--- two numbers that differ are not equal
-pub clash : {A : Type 0} → _≡_ {A = ℕ} 0 1 → A
-clash e = absurd (omega arith)
 
 -- the list begins with these two bytes
 abbrev pub Pair : ℕ → ℕ → List ℕ → Type 0

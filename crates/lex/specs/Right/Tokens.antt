@@ -7,10 +7,11 @@ use mathlib.Core.List.{List, [], _∷_, _++_}
 use native.Mathlib.Omega.{arith}
 use native.Mathlib.Decide.{ℕ-discrete}
 use lib.ListN.{length, length-append}
+use Rattle.common.specs.Compare.{clash}
 use Rattle.lex.specs.Search.{Look, halt}
-use Rattle.lex.specs.Walk.{walk}
+use Rattle.common.specs.Walk.{walk}
 use Rattle.lex.specs.Grammar.{Begins, Opens, Remarked, Comment, Inside, Quotation, OpenText, OpenRemark}
-use Rattle.lex.specs.Right.Steps.{clash, Pair, Starless, pair-swap, text-shut, text-open}
+use Rattle.lex.specs.Right.Steps.{Pair, Starless, pair-swap, text-shut, text-open}
 
 -- whether the list begins with this byte
 begins : (a : ℕ) (xs : List ℕ) → Dec (Begins a xs)

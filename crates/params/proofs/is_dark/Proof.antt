@@ -1,7 +1,7 @@
 use borrow.Author.Needs.{needs}
+use Rattle.common.specs.Compare.{clash}
 use Rattle.params.specs.ReaderLaws.{started-here}
 use denote.Ref.{now}
-use Rattle.lex.specs.Right.Steps.{clash}
 use native.Mathlib.Omega.{arith}
 use Rattle.params.proofs.is_dark.Statement.{statement}
 use Rattle.params.proofs.is_dark.Tie as tie

@@ -1,7 +1,8 @@
+use Rattle.common.specs.Lists.{drop-end}
 use Rattle.record.specs.Turns.{past-stops, past-goes}
 use Rattle.record.specs.Text.{past, pastTurn}
 use Rattle.parts.specs.Part.{separator}
-use Rattle.lex.specs.Walk.{walk, walk-ends, drop-end}
+use Rattle.common.specs.Walk.{walk, walk-ends}
 use lib.ListN.{length, drop}
 use denote.Ref.{now}
 use borrow.Author.Tests.{not-true, not-false}

@@ -1,4 +1,4 @@
-use Rattle.lex.specs.Walk.{drop-end}
+use Rattle.common.specs.Lists.{drop-end}
 use Rattle.record.specs.Turns.{same-lengths, same-stops, same-goes}
 use Rattle.record.specs.Word.{same, upper, isWord}
 use lib.ListN.{length, drop, length-map}

@@ -1,6 +1,6 @@
 use Rattle.record.specs.Turns.{key-stops, key-goes}
 use Rattle.record.specs.Text.{keyword, keyTurn, unopened}
-use Rattle.lex.specs.Walk.{walk, walk-ends}
+use Rattle.common.specs.Walk.{walk, walk-ends}
 use lib.ListN.{length, drop}
 use denote.Ref.{now}
 use borrow.Author.Tests.{eq-eqb, ne-eqb, not-true, not-false}

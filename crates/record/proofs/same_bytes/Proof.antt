@@ -1,6 +1,6 @@
+use Rattle.common.specs.Lists.{drop-end}
 use Rattle.record.specs.Turns.{same-lengths, same-stops, same-goes}
 use Rattle.record.specs.Word.{same}
-use Rattle.lex.specs.Walk.{drop-end}
 use lib.ListN.{length, drop}
 use denote.Ref.{now}
 use borrow.Author.Tests.{eq-eqb, ne-eqb}

@@ -1,6 +1,6 @@
 use Rattle.record.specs.Turns.{trail-goes}
 use Rattle.record.specs.Text.{trail, trailTurn}
-use Rattle.lex.specs.Walk.{walk, walk-ends}
+use Rattle.common.specs.Walk.{walk, walk-ends}
 use lib.ListN.{length, drop}
 use denote.Ref.{now}
 use borrow.Author.Tests.{not-true, not-false}

@@ -7,9 +7,10 @@ use mathlib.Core.List.{List, [], _∷_, _++_}
 use native.Mathlib.Omega.{arith}
 use native.Mathlib.Nat.{pow-succ'}
 use lib.ListN.{length}
-use Rattle.lex.specs.Byte.{pick, white}
-use Rattle.lex.specs.Walk.{Turn, on, walk}
-use Rattle.lex.specs.Right.Steps.{clash}
+use Rattle.common.specs.Pick.{pick}
+use Rattle.common.specs.Compare.{clash}
+use Rattle.lex.specs.Byte.{white}
+use Rattle.common.specs.Walk.{Turn, on, walk}
 use Rattle.record.specs.Text.{past, digit, digits, numberFrom}
 use Rattle.record.specs.Form.{All, NotFirst, NotLast, Skipped, valueOf}
 

@@ -1,6 +1,7 @@
+use Rattle.common.specs.Lists.{drop-end}
 use Rattle.record.specs.Text.{past, pastTurn}
 use Rattle.record.specs.Turns.{past-stops, past-goes}
-use Rattle.lex.specs.Walk.{walk, walk-ends}
+use Rattle.common.specs.Walk.{walk, walk-ends}
 use Rattle.scalars.specs.Scalars.{unopening}
 use borrow.Author.Tests.{eq-eqb, ne-eqb}
 use borrow.Author.Needs.{needs}
@@ -11,7 +12,6 @@ use lib.ListN.{length, drop}
 use Prim.Native.Nat.{_-_, _≤_}
 use denote.Ref.{now}
 use mathlib.Core.List.{[]}
-use Rattle.lex.specs.Walk.{drop-end}
 use Rattle.scalars.proofs.first_open.Statement.{statement}
 use Rattle.scalars.proofs.first_open.Tie as tie
 

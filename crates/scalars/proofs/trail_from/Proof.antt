@@ -1,7 +1,7 @@
+use Rattle.common.specs.Lists.{drop-end}
 use Rattle.scalars.specs.Laws.{trail-stops, trail-none, trail-more}
 use Rattle.record.specs.Form.{All}
 use Rattle.lex.specs.Byte.{white}
-use Rattle.lex.specs.Walk.{drop-end}
 use borrow.Author.Tests.{not-true, not-false}
 use borrow.Author.Needs.{needs}
 use mathlib.Core.Path.{_∙_, sym}

@@ -1,6 +1,6 @@
+use Rattle.common.specs.Compare.{clash}
 use Rattle.scan.specs.Scan.{scan-long, scan-unmarked, scan-refused, scan-done}
 use Rattle.scan.specs.Neat.{toldPassed}
-use Rattle.lex.specs.Right.Steps.{clash}
 use denote.Ref.{now}
 use borrow.Author.Tests.{not-true, not-false}
 use native.Mathlib.Omega.{arith}

@@ -7,6 +7,7 @@ use mathlib.Core.List.{List, [], _∷_, _++_, append-assoc}
 use native.Mathlib.Omega.{arith}
 use lib.ListN.{length, drop, length-append}
 use lib.Seq.{take-at, drop-at, drop-drop}
+use Rattle.common.specs.Compare.{clash}
 use Rattle.error.specs.Refusal.{Told, good, bad}
 use Rattle.lex.specs.Grammar.{Led, Runs, Deep, OpenText, OpenRemark}
 use Rattle.lex.specs.Search.{Sought, at, fault, trivia, recordEnd, closing, placed}
@@ -14,7 +15,6 @@ use Rattle.lex.specs.Local.{trivia-shorter, end-local}
 use Rattle.lex.specs.Right.{trivia-only, trivia-open-only, trivia-is, trivia-open}
 use Rattle.lex.specs.Right.{end-only, end-text-only, end-remark-only, end-over-only, end-is, end-open}
 use Rattle.lex.specs.Right.{closing-only, closing-text-only, closing-remark-only, closing-over-only, closing-is, closing-open}
-use Rattle.lex.specs.Right.Steps.{clash}
 use Rattle.record.specs.Text.{before}
 use Rattle.record.specs.Word.{wordOf}
 use Rattle.record.specs.Head.{dataHead, headerHead}

@@ -1,6 +1,7 @@
+use Rattle.common.specs.Lists.{drop-end}
 use Rattle.record.specs.Turns.{digit-stops, digit-goes, bounds}
 use Rattle.record.specs.Text.{digitTurn, digits, numberFrom}
-use Rattle.lex.specs.Walk.{walk, walk-ends, drop-end}
+use Rattle.common.specs.Walk.{walk, walk-ends}
 use lib.ListN.{length, drop, getD}
 use denote.Ref.{now}
 use borrow.Author.Tests.{not-true, not-false}

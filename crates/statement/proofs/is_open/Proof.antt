@@ -1,7 +1,7 @@
 use native.Mathlib.Omega.{arith}
 use borrow.Author.Tests.{not-true}
-use Rattle.lex.specs.Right.Steps.{clash}
 use borrow.Author.Needs.{needs}
+use Rattle.common.specs.Compare.{clash}
 use Rattle.statement.proofs.is_open.Statement.{statement}
 use Rattle.statement.proofs.is_open.Tie as tie
 

@@ -1,7 +1,7 @@
+use Rattle.common.specs.Lists.{drop-end}
 use Rattle.statement.specs.UsualLaws.{trim-more, trim-none, trim-here}
 use Rattle.record.specs.Form.{All}
 use Rattle.lex.specs.Byte.{white}
-use Rattle.lex.specs.Walk.{drop-end}
 use lib.ListN.{length, drop}
 use denote.Ref.{now}
 use borrow.Author.Tests.{not-true, not-false}

@@ -3,10 +3,11 @@ use Prim.Native.Nat.{ℕ}
 use mathlib.Core.Path.{_≡_, refl, sym, ap}
 use mathlib.Core.List.{List, [], _∷_, _++_, append-nil}
 use lib.ListN.{length}
+use Rattle.common.specs.Compare.{clash}
 use Rattle.error.specs.Refusal.{Told, good, bad}
-use Rattle.lex.specs.Walk.{walk}
+use Rattle.common.specs.Walk.{walk}
 use Rattle.lex.specs.Search.{at, fault, trivia, recordEnd, closing}
-use Rattle.lex.specs.Right.Steps.{clash}
+use Rattle.lex.specs.Inside.{closes-own}
 use Rattle.record.specs.Form.{Free, bytes}
 use Rattle.record.specs.Text.{past, numberFrom, keyword, trail}
 use Rattle.record.specs.Head.{dataHead, headerHead}
@@ -14,7 +15,7 @@ use Rattle.record.specs.Word.{same, wordOf}
 use Rattle.statement.specs.Row.{recordOf, headerOf}
 use Rattle.statement.specs.Statement.{statement}
 use Rattle.statement.specs.Closed.{ClosedAt, ClosedParts, ClosedData, ClosedHeader, ClosedFrom, Closed, Content}
-use Rattle.statement.specs.ClosedRight.{closes-own, closed-closing, alone-is}
+use Rattle.statement.specs.ClosedRight.{closed-closing, alone-is}
 use Rattle.statement.specs.ClosedRight.Outside.{outside-seen, outside-of, closed-seen}
 use Rattle.statement.specs.ClosedRight.Parts.{closed-part}
 use Rattle.statement.specs.ClosedRight.Statements.{closed-turn, closed-entry}

@@ -8,15 +8,15 @@ use mathlib.Core.List.{List, [], _∷_, _++_, append-assoc}
 use native.Mathlib.Omega.{arith}
 use native.Mathlib.Decide.{ℕ-discrete}
 use lib.ListN.{length, length-append}
+use Rattle.common.specs.Compare.{clash}
 use Rattle.lex.specs.Grammar.{Opens, Runs, Balanced, Closes, Deep, OpenText, OpenRemark}
 use Rattle.lex.specs.Search.{Sought, at, fault, closing}
 use Rattle.lex.specs.Local.{closing-local}
 use Rattle.lex.specs.Right.{closing-only, closing-is, closing-open, closing-one, closing-text-only, closing-remark-only, closing-over-only}
-use Rattle.lex.specs.Right.Steps.{clash}
+use Rattle.lex.specs.Inside.{closes-own}
 use Rattle.record.specs.Form.{Free}
 use Rattle.record.specs.FormRight.Parts.{all-back}
 use Rattle.statement.specs.Closed.{OutsideBoth, ClosedParts}
-use Rattle.statement.specs.ClosedRight.{closes-own}
 use Rattle.statement.specs.ClosedRight.Outside.{runs-longer, opens-more, quotation-more, comment-more}
 
 -- no `(` of xs stands before the one that r follows

@@ -7,13 +7,13 @@ use native.Mathlib.Omega.{arith}
 use borrow.Author.Tests.{eqb-false}
 use lib.ListN.{length, length-append}
 use lib.Seq.{take-at}
+use Rattle.common.specs.Compare.{clash}
 use Rattle.error.specs.Refusal.{Refusal, refusal, Told, good, bad}
 use Rattle.lex.specs.Byte.{place}
 use Rattle.lex.specs.Grammar.{Begins, Opens, Trivia, Led}
 use Rattle.lex.specs.Search.{Sought, at, fault, trivia, recordEnd}
 use Rattle.lex.specs.Local.{end-local}
 use Rattle.lex.specs.Right.{end-is, trivia-is, trivia-only, trivia-local, trivia-here}
-use Rattle.lex.specs.Right.Steps.{clash}
 use Rattle.record.specs.Text.{before}
 use Rattle.record.specs.Word.{wordOf}
 use Rattle.record.specs.declared.Word.{Word}

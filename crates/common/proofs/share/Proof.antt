@@ -1,11 +1,11 @@
-use Rattle.index.specs.Laws.{guess-fits}
+use native.Mathlib.Nat.{mul-le-mul}
 use native.Mathlib.Omega.{arith}
 use borrow.Author.Needs.{needs}
-use Rattle.finds.proofs.share.Statement.{statement}
-use Rattle.finds.proofs.share.Tie as tie
+use Rattle.common.proofs.share.Statement.{statement}
+use Rattle.common.proofs.share.Tie as tie
 
 mul-result : tie.Need-mul-result
-mul-result c = let p = guess-fits (c .args .far) (c .args .rows) (omega arith) (c .pre) in record { fits = omega (arith, p) }
+mul-result c = let p = mul-le-mul {n₁ = c .args .far} {m₁ = c .args .n} {n₂ = 4294967295} {m₂ = 4294967295} (omega arith) (omega arith) in record { fits = omega (arith, p) }
 
 cast-result : tie.Need-cast-result
 cast-result c = search needs

@@ -1,12 +1,11 @@
--- A walk over the bytes of a list, one turn a byte: the one recursion of every search in this crate. A turn sees the byte and
+-- A walk over the bytes of a list, one turn a byte: the one recursion of every search. A turn sees the byte and
 -- what follows it; it stops with an answer or goes on in another state. At the end of the list the state decides.
 -- Three laws carry a loop of the code over it, at an index of the whole list. Assumes nothing.
 use Prim.Native.Nat.{ℕ, suc, _+_, _≤_, _<_}
 use mathlib.Core.Path.{_≡_, refl, sym, _∙_, ap}
 use mathlib.Core.List.{List, [], _∷_}
-use native.Mathlib.Numerals.{add-one}
 use lib.ListN.{length, drop, getD, drop-of-length-le}
-use lib.Seq.{drop-cons}
+use Rattle.common.specs.Lists.{split}
 
 -- what a turn answers: it stops, or goes on
 pub data Turn (S A : Type 0) : Type 0 where
@@ -22,14 +21,6 @@ turned (on u) k = k u
 unfoldable pub walk : {S A : Type 0} → (S → ℕ → List ℕ → Turn S A) → (S → A) → S → List ℕ → A
 walk t z s [] = z s
 walk t z s (c ∷ r) = turned (t s c r) (λ u. walk t z u r)
-
--- the list from i, with its first byte apart
-pub split : (xs : List ℕ) (i : ℕ) → i < length xs → drop i xs ≡ getD xs i 0 ∷ drop (i + 1) xs
-split xs i h = rw (add-one, drop-cons xs i 0)
-
--- nothing is left from the end on
-pub drop-end : (xs : List ℕ) (i : ℕ) → length xs ≤ i → drop i xs ≡ []
-drop-end xs i h = drop-of-length-le xs h
 
 module _ {S A : Type 0} (t : S → ℕ → List ℕ → Turn S A) (z : S → A) where
   pub walk-ends : (s : S) (xs : List ℕ) (i : ℕ) → length xs ≤ i → walk t z s (drop i xs) ≡ z s

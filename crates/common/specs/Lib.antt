@@ -1,0 +1,4 @@
+pub mod Pick
+pub mod Compare
+pub mod Lists
+pub mod Walk
