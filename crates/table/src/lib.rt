@@ -1,0 +1,193 @@
+// The table in lent memory: how a record's numbers lie there, and all that depends on it.
+//
+// Data rows of six numbers and header rows of four, row by row, in document 01's order. How many fit, the id of a row, a row read and a
+// row put: no other crate knows a width or an offset. Every function answers for any memory and any row: a row that the memory has not
+// reads as zeros, and putting it changes nothing.
+ghost use mathlib.Core.Path.{_≡_};
+ghost use mathlib.Core.Bool.{true};
+ghost use Prim.Native.Nat.{_+_, _*_, _≤_, _<_};
+ghost use lib.Dec.{ltb};
+ghost use mathlib.Core.List.{[]};
+ghost use lib.ListN.{length, getD};
+ghost use lib.Seq.{sets};
+ghost use Rattle.statement.specs.Statement.{rowOf, headerRowOf};
+ghost use Rattle.table.specs.Table.{rowsIn, headersIn, idOf, rowNumbers, headerNumbers, six, four, rowPut, headerPut, narrowRow, narrowHeader, narrow};
+use statement::HeaderSpan;
+use statement::Range;
+use statement::RecordSpan;
+
+// How many data rows lie in so many numbers.
+pub fn rows_in(numbers: usize) -> usize
+    ensures { λ r. ⌜ r ≡ rowsIn numbers ⌝ }
+{
+    numbers / 6
+}
+
+// How many header rows lie in so many numbers.
+pub fn headers_in(numbers: usize) -> usize
+    ensures { λ r. ⌜ r ≡ headersIn numbers ⌝ }
+{
+    numbers / 4
+}
+
+// Whether the table has data row k.
+pub fn has_row(rows: &[u32], k: usize) -> bool
+    ensures { λ r. ⌜ r ≡ ltb k (rowsIn (length (now (rows .entry)))) ⌝ }
+{
+    if k < rows.len() {
+        k * 6 + 5 < rows.len()
+    } else {
+        false
+    }
+}
+
+// Whether the table has header row k.
+pub fn has_header(heads: &[u32], k: usize) -> bool
+    ensures { λ r. ⌜ r ≡ ltb k (headersIn (length (now (heads .entry)))) ⌝ }
+{
+    if k < heads.len() {
+        k * 4 + 3 < heads.len()
+    } else {
+        false
+    }
+}
+
+// The id of row r; 0 where the table has none.
+pub fn id_at(rows: &[u32], r: u32) -> u32
+    ensures { λ v. ⌜ v ≡ idOf (now (rows .entry)) r ⌝ }
+{
+    let at = r as usize * 6;
+    if at + 5 < rows.len() { rows[at] } else { 0 }
+}
+
+// A row of zeros.
+fn no_row() -> RecordSpan
+    ensures { λ r. ⌜ rowOf r ≡ rowNumbers [] 0 ⌝ }
+{
+    RecordSpan {
+        id: 0,
+        keyword: Range { start: 0, end: 0 },
+        args: Range { start: 0, end: 0 },
+        complex: 0,
+    }
+}
+
+// Row k of a table that has it.
+fn row_there(rows: &[u32], k: usize) -> RecordSpan
+    requires { ⌜ k * 6 + 6 ≤ length (now rows) ⌝ }
+    ensures { λ r. ⌜ rowOf r ≡ rowNumbers (now (rows .entry)) k ⌝ }
+{
+    let at = k * 6;
+    let keyword = Range {
+        start: common::wide(rows[at + 1]),
+        end: common::wide(rows[at + 2]),
+    };
+    let args = Range {
+        start: common::wide(rows[at + 3]),
+        end: common::wide(rows[at + 4]),
+    };
+    RecordSpan {
+        id: rows[at],
+        keyword,
+        args,
+        complex: rows[at + 5],
+    }
+}
+
+// Row k; zeros where the table has none.
+pub fn read_row(rows: &[u32], k: usize) -> RecordSpan
+    ensures { λ r. ⌜ rowOf r ≡ rowNumbers (now (rows .entry)) k ⌝ }
+{
+    if has_row(rows, k) {
+        return row_there(rows, k);
+    }
+    no_row()
+}
+
+// A header row of zeros.
+fn no_header() -> HeaderSpan
+    ensures { λ r. ⌜ headerRowOf r ≡ headerNumbers [] 0 ⌝ }
+{
+    HeaderSpan {
+        keyword: Range { start: 0, end: 0 },
+        args: Range { start: 0, end: 0 },
+    }
+}
+
+// Header row k of a table that has it.
+fn header_there(heads: &[u32], k: usize) -> HeaderSpan
+    requires { ⌜ k * 4 + 4 ≤ length (now heads) ⌝ }
+    ensures { λ r. ⌜ headerRowOf r ≡ headerNumbers (now (heads .entry)) k ⌝ }
+{
+    let at = k * 4;
+    let keyword = Range {
+        start: common::wide(heads[at]),
+        end: common::wide(heads[at + 1]),
+    };
+    let args = Range {
+        start: common::wide(heads[at + 2]),
+        end: common::wide(heads[at + 3]),
+    };
+    HeaderSpan { keyword, args }
+}
+
+// Header row k; zeros where the table has none.
+pub fn read_header(heads: &[u32], k: usize) -> HeaderSpan
+    ensures { λ r. ⌜ headerRowOf r ≡ headerNumbers (now (heads .entry)) k ⌝ }
+{
+    if has_header(heads, k) {
+        return header_there(heads, k);
+    }
+    no_header()
+}
+
+// The lower 32 binary digits of a place: all of it, in a file that is read.
+fn low(p: usize) -> u32
+    ensures { λ r. ⌜ r ≡ narrow p ⌝ }
+{
+    (p % 4294967296) as u32
+}
+
+// Stores a data row as row k of memory that has it.
+fn store_row(out: &mut [u32], k: usize, w: RecordSpan)
+    requires { ⌜ k * 6 + 6 ≤ length (now out) ⌝ }
+    ensures { λ _. ⌜ now (out .exit) ≡ sets (now (out .entry)) (k * 6) (six (narrowRow (rowOf w))) ⌝ }
+{
+    let at = k * 6;
+    out[at] = w.id;
+    out[at + 1] = low(w.keyword.start);
+    out[at + 2] = low(w.keyword.end);
+    out[at + 3] = low(w.args.start);
+    out[at + 4] = low(w.args.end);
+    out[at + 5] = w.complex;
+}
+
+// Puts a data row as row k. Memory that has no such row keeps its numbers.
+pub fn put_row(out: &mut [u32], k: usize, w: RecordSpan)
+    ensures { λ _. ⌜ now (out .exit) ≡ rowPut (now (out .entry)) k (narrowRow (rowOf w)) ⌝ }
+{
+    if has_row(out, k) {
+        store_row(out, k, w);
+    }
+}
+
+// Stores a header row as row k of memory that has it.
+fn store_header(out: &mut [u32], k: usize, w: HeaderSpan)
+    requires { ⌜ k * 4 + 4 ≤ length (now out) ⌝ }
+    ensures { λ _. ⌜ now (out .exit) ≡ sets (now (out .entry)) (k * 4) (four (narrowHeader (headerRowOf w))) ⌝ }
+{
+    let at = k * 4;
+    out[at] = low(w.keyword.start);
+    out[at + 1] = low(w.keyword.end);
+    out[at + 2] = low(w.args.start);
+    out[at + 3] = low(w.args.end);
+}
+
+// Puts a header row as row k. Memory that has no such row keeps its numbers.
+pub fn put_header(out: &mut [u32], k: usize, w: HeaderSpan)
+    ensures { λ _. ⌜ now (out .exit) ≡ headerPut (now (out .entry)) k (narrowHeader (headerRowOf w)) ⌝ }
+{
+    if has_header(out, k) {
+        store_header(out, k, w);
+    }
+}
