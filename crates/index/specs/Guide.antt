@@ -328,30 +328,26 @@ module _ (k : ℕ) (b : Ids) (slots : List ℕ) (g : ℕ → ℕ) (n : ℕ) wher
 
 -- a row is one of those that the index speaks of where it is below each of the bounds
 module _ (rows slots count r : ℕ) where
-  pub room-test : (((ltb r count && ltb r slots) && ltb r 1073741824) && ltb (r * 6 + 5) rows) ≡ ltb r (tableRoom rows slots count)
-  room-test = go (ltb r count) (ltb r slots) (ltb r 1073741824) (ltb (r * 6 + 5) rows) refl refl refl refl
+  pub room-test : (((ltb r count && ltb r slots) && ltb r 1073741824) && ltb r rows) ≡ ltb r (tableRoom rows slots count)
+  room-test = go (ltb r count) (ltb r slots) (ltb r 1073741824) (ltb r rows) refl refl refl refl
     where
-      go : (s t u v : Bool) → ltb r count ≡ s → ltb r slots ≡ t → ltb r 1073741824 ≡ u → ltb (r * 6 + 5) rows ≡ v → (((s && t) && u) && v) ≡ ltb r (tableRoom rows slots count)
+      go : (s t u v : Bool) → ltb r count ≡ s → ltb r slots ≡ t → ltb r 1073741824 ≡ u → ltb r rows ≡ v → (((s && t) && u) && v) ≡ ltb r (tableRoom rows slots count)
       go true true true true a b c d =
           let h = ltb-true r count a in
           let i = ltb-true r slots b in
           let j = ltb-true r 1073741824 c in
-          let k = ltb-true (r * 6 + 5) rows d in
+          let k = ltb-true r rows d in
           sym (lt-ltb r (tableRoom rows slots count) (omega (arith, h, i, j, k)))
-      go true true true false a b c d = let h = ltb-false (r * 6 + 5) rows d in sym (le-ltb r (tableRoom rows slots count) (omega (arith, h)))
+      go true true true false a b c d = let h = ltb-false r rows d in sym (le-ltb r (tableRoom rows slots count) (omega (arith, h)))
       go true true false v a b c d = let h = ltb-false r 1073741824 c in sym (le-ltb r (tableRoom rows slots count) (omega (arith, h)))
       go true false u v a b c d = let h = ltb-false r slots b in sym (le-ltb r (tableRoom rows slots count) (omega (arith, h)))
       go false t u v a b c d = let h = ltb-false r count a in sym (le-ltb r (tableRoom rows slots count) (omega (arith, h)))
 
-  -- the table has it then
-  pub room-holds : (((ltb r count && ltb r slots) && ltb r 1073741824) && ltb (r * 6 + 5) rows) ≡ true → r * 6 < rows
-  room-holds e = let h = ltb-true r (tableRoom rows slots count) (sym room-test ∙ e) in omega (arith, h)
-
   -- and it stands there where it has the id
-  pub room-yes : (x : Bool) → (((ltb r count && ltb r slots) && ltb r 1073741824) && ltb (r * 6 + 5) rows) ≡ true → x ≡ (ltb r (tableRoom rows slots count) && x)
+  pub room-yes : (x : Bool) → (((ltb r count && ltb r slots) && ltb r 1073741824) && ltb r rows) ≡ true → x ≡ (ltb r (tableRoom rows slots count) && x)
   room-yes x e = rw (sym room-test ∙ e) refl
 
-  pub room-no : (x : Bool) → (((ltb r count && ltb r slots) && ltb r 1073741824) && ltb (r * 6 + 5) rows) ≡ false → false ≡ (ltb r (tableRoom rows slots count) && x)
+  pub room-no : (x : Bool) → (((ltb r count && ltb r slots) && ltb r 1073741824) && ltb r rows) ≡ false → false ≡ (ltb r (tableRoom rows slots count) && x)
   room-no x e = rw (sym room-test ∙ e) refl
 
 -- the row to look at first, by its tests

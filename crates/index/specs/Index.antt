@@ -12,7 +12,7 @@ use lib.ListN.{length, getD, take, drop}
 use lib.Seq.{ext-getD, getD-drop}
 use Rattle.common.specs.Pick.{pick}
 use Rattle.common.specs.Compare.{ordered, less-or}
-use Rattle.index.specs.Order.{idOf, keyOf, rowAt, Rises, Steady, Says}
+use Rattle.index.specs.Order.{keyOf, rowAt, Rises, Steady, Says}
 use Rattle.index.specs.declared.Ids.{Ids}
 use Rattle.index.specs.declared.Spacing.{Spacing}
 
@@ -86,10 +86,10 @@ pub record Spaced (f g : ℕ → ℕ) (n : ℕ) (r : Spacing) : Type 0 where
   pub even : Says (r .even) (Steady f g n)
 
 -- the numbers that stand beside n slots, with what was found of the ids
-pub record Beside (rows slots : List ℕ) (n : ℕ) (filed single level : Bool) (b : Ids) : Type 0 where
+pub record Beside (f : ℕ → ℕ) (slots : List ℕ) (n : ℕ) (filed single level : Bool) (b : Ids) : Type 0 where
   pub count : b .count ≡ n
-  pub first : b .first ≡ endId (idOf rows) n (rowAt filed slots 0)
-  pub last : b .last ≡ endId (idOf rows) n (rowAt filed slots (n - 1))
+  pub first : b .first ≡ endId f n (rowAt filed slots 0)
+  pub last : b .last ≡ endId f n (rowAt filed slots (n - 1))
   pub direct : b .direct ≡ filed
   pub distinct : b .distinct ≡ single
   pub even : b .even ≡ level

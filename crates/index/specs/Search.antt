@@ -9,7 +9,8 @@ use lib.Dec.{ltb, leb, eqb}
 use lib.ListN.{length, getD}
 use Rattle.common.specs.Pick.{pick}
 use Rattle.common.specs.Walk.{Turn, stop, on, turned}
-use Rattle.index.specs.Order.{idOf, rowAt, slotId, tableRoom}
+use Rattle.table.specs.Table.{idOf, rowsIn}
+use Rattle.index.specs.Order.{rowAt, slotId, tableRoom}
 use Rattle.index.specs.declared.Ids.{Ids}
 use Rattle.index.specs.declared.Found.{Found}
 use Rattle.index.specs.declared.Found.the-variants.{At, Nothing}
@@ -116,27 +117,35 @@ abbrev pub endOf : ℕ → Ids → List ℕ → (ℕ → ℕ) → ℕ → ℕ
 endOf k b slots g n = pick (leb (b .last) k) n (pick (ltb k (b .first)) 0 (pick (b .even) (evenEnd k n (b .first) (b .last)) (pick (b .direct) (guideEnd k (b .distinct) g slots n (b .first) (b .last) (b .shift)) (ended k (b .distinct) g (opening n (b .first) (b .last))))))
 
 -- row r is one of n, and has the id sought
-abbrev pub standing : List ℕ → ℕ → ℕ → ℕ → Bool
-standing rows n r k = ltb r n && eqb (idOf rows r) k
+abbrev pub standing : (ℕ → ℕ) → ℕ → ℕ → ℕ → Bool
+standing f n r k = ltb r n && eqb (f r) k
 
 -- the row before an end, where the table has it and its id is the one sought
-abbrev pub servedOf : List ℕ → List ℕ → Bool → ℕ → ℕ → ℕ → Option ℕ
-servedOf rows slots direct n k e = pick (eqb e 0) none (pick (standing rows n (rowAt direct slots (e - 1)) k) (some (rowAt direct slots (e - 1))) none)
+abbrev pub servedOf : (ℕ → ℕ) → List ℕ → Bool → ℕ → ℕ → ℕ → Option ℕ
+servedOf f slots direct n k e = pick (eqb e 0) none (pick (standing f n (rowAt direct slots (e - 1)) k) (some (rowAt direct slots (e - 1))) none)
 
--- what the search through brackets answers
-abbrev pub sought : List ℕ → List ℕ → Ids → ℕ → Option ℕ
-sought rows slots b k = servedOf rows slots (b .direct) n k (endOf k b slots (slotId rows (b .direct) slots) n)
+-- what the search through brackets answers, of R rows whose ids f tells
+abbrev pub soughtIn : (ℕ → ℕ) → ℕ → List ℕ → Ids → ℕ → Option ℕ
+soughtIn f R slots b k = servedOf f slots (b .direct) n k (endOf k b slots (slotId f (b .direct) slots) n)
   where
     n : ℕ
-    n = tableRoom (length rows) (length slots) (b .count)
+    n = tableRoom R (length slots) (b .count)
 
 -- the row to look at first: no id stands twice and each range has one id, so that ids are dense and an id's slot is as far from the first
 -- as it is from the first id; else a number that no row has
 abbrev pub firstRow : List ℕ → Ids → ℕ → ℕ
 firstRow slots b k = pick (ltb k (b .first)) 4294967295 (pick (b .distinct && eqb (b .shift) 0) (rowAt (b .direct) slots (k - b .first)) 4294967295)
 
--- what a search answers, for any slots and any numbers beside them: the row that is looked at first, where it has the id, else what is
+-- what a search of R rows answers, for any slots and any numbers beside them: the row that is looked at first, where it has the id, else what is
 -- sought
+abbrev pub searchIn : (ℕ → ℕ) → ℕ → List ℕ → Ids → ℕ → Option ℕ
+searchIn f R slots b k =
+    pick (standing f (tableRoom R (length slots) (b .count)) (firstRow slots b k) k) (some (firstRow slots b k)) (soughtIn f R slots b k)
+
+-- the search through brackets, of a table in lent memory
+abbrev pub sought : List ℕ → List ℕ → Ids → ℕ → Option ℕ
+sought rows slots b k = soughtIn (idOf rows) (rowsIn (length rows)) slots b k
+
+-- "Lookup of an id": what a search of a table in lent memory answers
 abbrev pub searched : List ℕ → List ℕ → Ids → ℕ → Option ℕ
-searched rows slots b k =
-    pick (standing rows (tableRoom (length rows) (length slots) (b .count)) (firstRow slots b k) k) (some (firstRow slots b k)) (sought rows slots b k)
+searched rows slots b k = searchIn (idOf rows) (rowsIn (length rows)) slots b k

@@ -14,11 +14,11 @@ use borrow.Author.Tests.{ltb-true, ltb-false, leb-true, leb-false, eqb-true, eqb
 use Rattle.common.specs.Pick.{pick}
 use Rattle.common.specs.Compare.{ordered, less-or}
 use Rattle.common.specs.Walk.{Turn, stop, on, turned}
-use Rattle.index.specs.Order.{idOf, rowAt, slotId, tableRoom, Before, Rises, Steady, stepOf, Says}
+use Rattle.index.specs.Order.{rowAt, slotId, tableRoom, Before, Rises, Steady, stepOf, Says}
 use Rattle.index.specs.Lookup.{lookupOf, LookupForm, IsLast, Missing, lookup-only}
 use Rattle.index.specs.Index.{Starts, Guides, Held, Built, end-some}
 use Rattle.index.specs.IndexRight.{Along, Ranks, rises-far, direct-ranks, index-ranks, index-id, steady-same}
-use Rattle.index.specs.Search.{Bracket, bracket, probeOf, narrowed, looked, turnAt, turn, endFrom, ended, opening, startAt, wide, ranged, among, guideEnd, evenEnd, endOf, standing, servedOf, sought, firstRow, searched}
+use Rattle.index.specs.Search.{Bracket, bracket, probeOf, narrowed, looked, turnAt, turn, endFrom, ended, opening, startAt, wide, ranged, among, guideEnd, evenEnd, endOf, standing, servedOf, soughtIn, firstRow, searchIn}
 use Rattle.index.specs.Laws.{probe-low, probe-high}
 use Rattle.index.specs.Guide.{wide-pos, range-low, range-high, range-far, range-most, among-low, among-high, share-most, start-in, start-out, steady-at, even-place}
 use Rattle.index.specs.declared.Ids.{Ids}
@@ -326,42 +326,42 @@ module _ (k : ℕ) (distinct : Bool) (g : ℕ → ℕ) (n : ℕ)
           record { inside = omega arith; low = λ i c. let y = mono i (n - 1) (omega arith) (omega arith) in omega arith; high = λ i u v. absurd (omega arith) }
       go false e = inner (leb-false (b .last) k e) (ltb k (b .first)) refl
 
-module _ (rows slots : List ℕ) (direct : Bool) (n k : ℕ) where
+module _ (f : ℕ → ℕ) (slots : List ℕ) (direct : Bool) (n k : ℕ) where
   -- what is served lies in the table and has the id, whatever the slots hold
-  pub served-safe : (e r : ℕ) → servedOf rows slots direct n k e ≡ some r → (r < n) × (idOf rows r ≡ k)
+  pub served-safe : (e r : ℕ) → servedOf f slots direct n k e ≡ some r → (r < n) × (f r ≡ k)
   served-safe e r = go (eqb e 0)
     where
-      at-row : (s t : Bool) → ltb (rowAt direct slots (e - 1)) n ≡ s → eqb (idOf rows (rowAt direct slots (e - 1))) k ≡ t → pick (s && t) (some (rowAt direct slots (e - 1))) none ≡ some r → (r < n) × (idOf rows r ≡ k)
+      at-row : (s t : Bool) → ltb (rowAt direct slots (e - 1)) n ≡ s → eqb (f (rowAt direct slots (e - 1))) k ≡ t → pick (s && t) (some (rowAt direct slots (e - 1))) none ≡ some r → (r < n) × (f r ≡ k)
       at-row true true a b d =
           let q : rowAt direct slots (e - 1) ≡ r = cc in
-          (subst (λ (z : ℕ). z < n) q (ltb-true (rowAt direct slots (e - 1)) n a), subst (λ (z : ℕ). idOf rows z ≡ k) q (eqb-true (idOf rows (rowAt direct slots (e - 1))) k b))
+          (subst (λ (z : ℕ). z < n) q (ltb-true (rowAt direct slots (e - 1)) n a), subst (λ (z : ℕ). f z ≡ k) q (eqb-true (f (rowAt direct slots (e - 1))) k b))
       at-row true false a b d = let z : _≡_ {A = ℕ} 0 1 = cc in absurd (omega arith)
       at-row false t a b d = let z : _≡_ {A = ℕ} 0 1 = cc in absurd (omega arith)
 
-      go : (t : Bool) → pick t none (pick (ltb (rowAt direct slots (e - 1)) n && eqb (idOf rows (rowAt direct slots (e - 1))) k) (some (rowAt direct slots (e - 1))) none) ≡ some r → (r < n) × (idOf rows r ≡ k)
+      go : (t : Bool) → pick t none (pick (ltb (rowAt direct slots (e - 1)) n && eqb (f (rowAt direct slots (e - 1))) k) (some (rowAt direct slots (e - 1))) none) ≡ some r → (r < n) × (f r ≡ k)
       go true d = let z : _≡_ {A = ℕ} 0 1 = cc in absurd (omega arith)
-      go false d = at-row (ltb (rowAt direct slots (e - 1)) n) (eqb (idOf rows (rowAt direct slots (e - 1))) k) refl refl d
+      go false d = at-row (ltb (rowAt direct slots (e - 1)) n) (eqb (f (rowAt direct slots (e - 1))) k) refl refl d
 
-  module _ (x : Ranks (idOf rows) n (rowAt direct slots)) (same : (i : ℕ) → i < n → slotId rows direct slots i ≡ idOf rows (rowAt direct slots i)) (e : ℕ)
-      (w : Ends (slotId rows direct slots) n k e) where
+  module _ (x : Ranks f n (rowAt direct slots)) (same : (i : ℕ) → i < n → slotId f direct slots i ≡ f (rowAt direct slots i)) (e : ℕ)
+      (w : Ends (slotId f direct slots) n k e) where
     -- the slot of a row with the id lies before the end
-    before-end : (j : ℕ) → j < n → idOf rows j ≡ k → (s : Along n j (rowAt direct slots)) → s .slot < e
+    before-end : (j : ℕ) → j < n → f j ≡ k → (s : Along n j (rowAt direct slots)) → s .slot < e
     before-end j b d s = go (less-or (s .slot) e)
       where
         go : (s .slot < e) ⊎ (e ≤ s .slot) → s .slot < e
         go (inl l) = l
         go (inr l) =
-            let o : k < slotId rows direct slots (s .slot) = w .high (s .slot) l (s .inside) in
-            let q : slotId rows direct slots (s .slot) ≡ k = same (s .slot) (s .inside) ∙ ap (idOf rows) (s .holds) ∙ d in
+            let o : k < slotId f direct slots (s .slot) = w .high (s .slot) l (s .inside) in
+            let q : slotId f direct slots (s .slot) ≡ k = same (s .slot) (s .inside) ∙ ap f (s .holds) ∙ d in
             absurd (omega (arith, o, q))
 
     -- the row before the end, where it has the id, is the last that has it
-    served-last : 0 < e → idOf rows (rowAt direct slots (e - 1)) ≡ k → IsLast (idOf rows) n k (rowAt direct slots (e - 1))
+    served-last : 0 < e → f (rowAt direct slots (e - 1)) ≡ k → IsLast f n k (rowAt direct slots (e - 1))
     served-last h d =
         let y = w .inside in
         record { row = x .rows (e - 1) (omega arith); named = d; last = λ j a b c. later j a b c (x .whole j b) }
       where
-        later : (j : ℕ) → rowAt direct slots (e - 1) < j → j < n → idOf rows j ≡ k → Along n j (rowAt direct slots) → ⊥
+        later : (j : ℕ) → rowAt direct slots (e - 1) < j → j < n → f j ≡ k → Along n j (rowAt direct slots) → ⊥
         later j a b c s = go (ordered (s .slot) (e - 1))
           where
             y : e ≤ n
@@ -370,8 +370,8 @@ module _ (rows slots : List ℕ) (direct : Bool) (n k : ℕ) where
             t : s .slot < e
             t = before-end j b c s
 
-            last : Before (idOf rows) (rowAt direct slots (s .slot)) (rowAt direct slots (e - 1)) → ⊥
-            last (inl l) = let p : idOf rows (rowAt direct slots (s .slot)) ≡ k = ap (idOf rows) (s .holds) ∙ c in omega arith
+            last : Before f (rowAt direct slots (s .slot)) (rowAt direct slots (e - 1)) → ⊥
+            last (inl l) = let p : f (rowAt direct slots (s .slot)) ≡ k = ap f (s .holds) ∙ c in omega arith
             last (inr l) = let p : rowAt direct slots (s .slot) ≡ j = s .holds in let q = l .1 in omega arith
 
             go : (s .slot < e - 1) ⊎ ((s .slot ≡ e - 1) ⊎ (e - 1 < s .slot)) → ⊥
@@ -380,7 +380,7 @@ module _ (rows slots : List ℕ) (direct : Bool) (n k : ℕ) where
             go (inr (inr l)) = omega (arith, t)
 
     -- where it has not, no row has
-    served-missing : (0 < e → idOf rows (rowAt direct slots (e - 1)) ≡ k → ⊥) → Missing (idOf rows) n k
+    served-missing : (0 < e → f (rowAt direct slots (e - 1)) ≡ k → ⊥) → Missing f n k
     served-missing h j b c = go (x .whole j b)
       where
         y : e ≤ n
@@ -392,47 +392,47 @@ module _ (rows slots : List ℕ) (direct : Bool) (n k : ℕ) where
             t : s .slot < e
             t = before-end j b c s
 
-            p : idOf rows (rowAt direct slots (s .slot)) ≡ k
-            p = ap (idOf rows) (s .holds) ∙ c
+            p : f (rowAt direct slots (s .slot)) ≡ k
+            p = ap f (s .holds) ∙ c
 
-            under : idOf rows (rowAt direct slots (e - 1)) ≤ k
+            under : f (rowAt direct slots (e - 1)) ≤ k
             under = subst (λ (z : ℕ). z ≤ k) (same (e - 1) (omega (arith, t, y))) (w .low (e - 1) (omega (arith, t)))
 
-            last : Before (idOf rows) (rowAt direct slots (s .slot)) (rowAt direct slots (e - 1)) → ⊥
+            last : Before f (rowAt direct slots (s .slot)) (rowAt direct slots (e - 1)) → ⊥
             last (inl l) = omega (arith, p, under)
             last (inr l) = h (omega (arith, t)) (sym (l .0) ∙ p)
 
             by : (s .slot < e - 1) ⊎ ((s .slot ≡ e - 1) ⊎ (e - 1 < s .slot)) → ⊥
             by (inl l) = last (x .order (s .slot) (e - 1) l (omega (arith, t, y)))
-            by (inr (inl l)) = h (omega (arith, t)) (ap (λ (z : ℕ). idOf rows (rowAt direct slots z)) (sym l) ∙ p)
+            by (inr (inl l)) = h (omega (arith, t)) (ap (λ (z : ℕ). f (rowAt direct slots z)) (sym l) ∙ p)
             by (inr (inr l)) = omega (arith, t)
 
     -- so what is served is the last row of the id, or there is none
-    pub served-right : LookupForm (idOf rows) n k (servedOf rows slots direct n k e)
+    pub served-right : LookupForm f n k (servedOf f slots direct n k e)
     served-right = go (eqb e 0) refl
       where
         y : e ≤ n
         y = w .inside
 
-        at-row : 0 < e → (s t : Bool) → ltb (rowAt direct slots (e - 1)) n ≡ s → eqb (idOf rows (rowAt direct slots (e - 1))) k ≡ t → LookupForm (idOf rows) n k (pick (s && t) (some (rowAt direct slots (e - 1))) none)
+        at-row : 0 < e → (s t : Bool) → ltb (rowAt direct slots (e - 1)) n ≡ s → eqb (f (rowAt direct slots (e - 1))) k ≡ t → LookupForm f n k (pick (s && t) (some (rowAt direct slots (e - 1))) none)
         at-row h true true a b =
-            served-last h (eqb-true (idOf rows (rowAt direct slots (e - 1))) k b)
+            served-last h (eqb-true (f (rowAt direct slots (e - 1))) k b)
         at-row h true false a b =
-            served-missing (λ _ d. eqb-false (idOf rows (rowAt direct slots (e - 1))) k b d)
+            served-missing (λ _ d. eqb-false (f (rowAt direct slots (e - 1))) k b d)
         at-row h false t a b =
             let o = ltb-false (rowAt direct slots (e - 1)) n a in
             let v = x .rows (e - 1) (omega (arith, y, h)) in
             absurd (omega (arith, o, v))
 
-        go : (t : Bool) → eqb e 0 ≡ t → LookupForm (idOf rows) n k (pick t none (pick (ltb (rowAt direct slots (e - 1)) n && eqb (idOf rows (rowAt direct slots (e - 1))) k) (some (rowAt direct slots (e - 1))) none))
+        go : (t : Bool) → eqb e 0 ≡ t → LookupForm f n k (pick t none (pick (ltb (rowAt direct slots (e - 1)) n && eqb (f (rowAt direct slots (e - 1))) k) (some (rowAt direct slots (e - 1))) none))
         go true d = let q : e ≡ 0 = eqb-true e 0 d in served-missing (λ h _. omega arith)
-        go false d = let q = eqb-false e 0 d in at-row (omega arith) (ltb (rowAt direct slots (e - 1)) n) (eqb (idOf rows (rowAt direct slots (e - 1))) k) refl refl
+        go false d = let q = eqb-false e 0 d in at-row (omega arith) (ltb (rowAt direct slots (e - 1)) n) (eqb (f (rowAt direct slots (e - 1))) k) refl refl
 
 -- a table of no rows serves none
-served-none : (rows slots : List ℕ) (direct : Bool) (k e : ℕ) → servedOf rows slots direct 0 k e ≡ none
-served-none rows slots direct k e = go (eqb e 0)
+served-none : (f : ℕ → ℕ) (slots : List ℕ) (direct : Bool) (k e : ℕ) → servedOf f slots direct 0 k e ≡ none
+served-none f slots direct k e = go (eqb e 0)
   where
-    go : (t : Bool) → pick t none (pick (ltb (rowAt direct slots (e - 1)) 0 && eqb (idOf rows (rowAt direct slots (e - 1))) k) (some (rowAt direct slots (e - 1))) none) ≡ none
+    go : (t : Bool) → pick t none (pick (ltb (rowAt direct slots (e - 1)) 0 && eqb (f (rowAt direct slots (e - 1))) k) (some (rowAt direct slots (e - 1))) none) ≡ none
     go true = refl
     go false = rw (le-ltb (rowAt direct slots (e - 1)) 0 (omega arith)) refl
 
@@ -444,36 +444,36 @@ sorts f n old slots b m h = go (b .direct) (h .direct) (h .held)
     go true r w = direct-ranks f n r
     go false r w = index-ranks f n slots m w
 
-named : (rows : List ℕ) (n : ℕ) (old slots : List ℕ) (b : Ids) → n ≤ 1073741824 → Built (idOf rows) n old slots b → (i : ℕ) → i < n → slotId rows (b .direct) slots i ≡ idOf rows (rowAt (b .direct) slots i)
-named rows n old slots b m h = go (b .direct) (h .held)
+named : (f : ℕ → ℕ) (n : ℕ) (old slots : List ℕ) (b : Ids) → n ≤ 1073741824 → Built f n old slots b → (i : ℕ) → i < n → slotId f (b .direct) slots i ≡ f (rowAt (b .direct) slots i)
+named f n old slots b m h = go (b .direct) (h .held)
   where
-    go : (t : Bool) → Held t (idOf rows) n (b .first) (b .shift) slots → (i : ℕ) → i < n → slotId rows t slots i ≡ idOf rows (rowAt t slots i)
+    go : (t : Bool) → Held t f n (b .first) (b .shift) slots → (i : ℕ) → i < n → slotId f t slots i ≡ f (rowAt t slots i)
     go true w i l = refl
-    go false w i l = index-id (idOf rows) n slots m w i l
+    go false w i l = index-id f n slots m w i l
 
 -- what `build` leaves for n rows is searched like the map written to in file order
-built-right : (rows old slots : List ℕ) (n k : ℕ) (b : Ids) → n ≤ 1073741824 → Built (idOf rows) n old slots b → servedOf rows slots (b .direct) n k (endOf k b slots (slotId rows (b .direct) slots) n) ≡ lookupOf (idOf rows) n k
-built-right rows old slots n k b m h = go (less-or 0 n)
+built-right : (f : ℕ → ℕ) (old slots : List ℕ) (n k : ℕ) (b : Ids) → n ≤ 1073741824 → Built f n old slots b → servedOf f slots (b .direct) n k (endOf k b slots (slotId f (b .direct) slots) n) ≡ lookupOf f n k
+built-right f old slots n k b m h = go (less-or 0 n)
   where
     g : ℕ → ℕ
-    g = slotId rows (b .direct) slots
+    g = slotId f (b .direct) slots
 
-    s : Ranks (idOf rows) n (rowAt (b .direct) slots)
-    s = sorts (idOf rows) n old slots b m h
+    s : Ranks f n (rowAt (b .direct) slots)
+    s = sorts f n old slots b m h
 
-    same : (i : ℕ) → i < n → g i ≡ idOf rows (rowAt (b .direct) slots i)
-    same = named rows n old slots b m h
+    same : (i : ℕ) → i < n → g i ≡ f (rowAt (b .direct) slots i)
+    same = named f n old slots b m h
 
     near : (i j : ℕ) → i < j → j < n → g i ≤ g j
     near i j l o = less (s .order i j l o)
       where
-        p : g i ≡ idOf rows (rowAt (b .direct) slots i)
+        p : g i ≡ f (rowAt (b .direct) slots i)
         p = same i (omega arith)
 
-        q : g j ≡ idOf rows (rowAt (b .direct) slots j)
+        q : g j ≡ f (rowAt (b .direct) slots j)
         q = same j o
 
-        less : Before (idOf rows) (rowAt (b .direct) slots i) (rowAt (b .direct) slots j) → g i ≤ g j
+        less : Before f (rowAt (b .direct) slots i) (rowAt (b .direct) slots j) → g i ≤ g j
         less (inl a) = omega (arith, p, q, a)
         less (inr a) = let c = a .0 in omega (arith, p, q, c)
 
@@ -487,25 +487,25 @@ built-right rows old slots n k b m h = go (less-or 0 n)
 
     strict : b .distinct ≡ true → (i j : ℕ) → i < j → j < n → g i < g j
     strict d i j l o =
-        let r : Rises (idOf rows) (rowAt (b .direct) slots) n = subst (λ (t : Bool). Says t (Rises (idOf rows) (rowAt (b .direct) slots) n)) d (h .distinct) in
+        let r : Rises f (rowAt (b .direct) slots) n = subst (λ (t : Bool). Says t (Rises f (rowAt (b .direct) slots) n)) d (h .distinct) in
         let q : i + suc (j - i - 1) ≡ j = omega arith in
-        let e = subst (λ (z : ℕ). idOf rows (rowAt (b .direct) slots i) < idOf rows (rowAt (b .direct) slots z)) q (rises-far (idOf rows) (rowAt (b .direct) slots) n r i (j - i - 1) (omega arith)) in
+        let e = subst (λ (z : ℕ). f (rowAt (b .direct) slots i) < f (rowAt (b .direct) slots z)) q (rises-far f (rowAt (b .direct) slots) n r i (j - i - 1) (omega arith)) in
         let u = same i (omega arith) in
         let v = same j o in
         omega (arith, e, u, v)
 
     steady : b .even ≡ true → Steady (λ x. x) g n
-    steady d = steady-same (idOf rows) (rowAt (b .direct) slots) g n same (subst (λ (t : Bool). Says t (Steady (idOf rows) (rowAt (b .direct) slots) n)) d (h .even))
+    steady d = steady-same f (rowAt (b .direct) slots) g n same (subst (λ (t : Bool). Says t (Steady f (rowAt (b .direct) slots) n)) d (h .even))
 
     guides : b .direct ≡ true → Guides g n (b .first) (b .shift) slots
-    guides d = subst (λ (t : Bool). Guides (slotId rows t slots) n (b .first) (b .shift) slots) (sym d) (subst (λ (t : Bool). Held t (idOf rows) n (b .first) (b .shift) slots) d (h .held))
+    guides d = subst (λ (t : Bool). Guides (slotId f t slots) n (b .first) (b .shift) slots) (sym d) (subst (λ (t : Bool). Held t f n (b .first) (b .shift) slots) d (h .held))
 
     ends : 0 < n → Ends g n k (endOf k b slots g n)
-    ends l = end-right k (b .distinct) g n mono strict b slots refl l (h .first ∙ end-some (idOf rows) n (rowAt (b .direct) slots 0) l ∙ sym (same 0 l)) (h .last ∙ end-some (idOf rows) n (rowAt (b .direct) slots (n - 1)) l ∙ sym (same (n - 1) (omega arith))) steady guides (h .shift .fits) (h .shift .short)
+    ends l = end-right k (b .distinct) g n mono strict b slots refl l (h .first ∙ end-some f n (rowAt (b .direct) slots 0) l ∙ sym (same 0 l)) (h .last ∙ end-some f n (rowAt (b .direct) slots (n - 1)) l ∙ sym (same (n - 1) (omega arith))) steady guides (h .shift .fits) (h .shift .short)
 
-    go : (0 < n) ⊎ (n ≤ 0) → servedOf rows slots (b .direct) n k (endOf k b slots g n) ≡ lookupOf (idOf rows) n k
-    go (inl l) = sym (lookup-only (idOf rows) n k (servedOf rows slots (b .direct) n k (endOf k b slots g n)) (served-right rows slots (b .direct) n k s same (endOf k b slots g n) (ends l)))
-    go (inr l) = let q : n ≡ 0 = omega arith in subst (λ (z : ℕ). servedOf rows slots (b .direct) z k (endOf k b slots g n) ≡ lookupOf (idOf rows) z k) (sym q) (served-none rows slots (b .direct) k (endOf k b slots g n) ∙ empty (idOf rows) k)
+    go : (0 < n) ⊎ (n ≤ 0) → servedOf f slots (b .direct) n k (endOf k b slots g n) ≡ lookupOf f n k
+    go (inl l) = sym (lookup-only f n k (servedOf f slots (b .direct) n k (endOf k b slots g n)) (served-right f slots (b .direct) n k s same (endOf k b slots g n) (ends l)))
+    go (inr l) = let q : n ≡ 0 = omega arith in subst (λ (z : ℕ). servedOf f slots (b .direct) z k (endOf k b slots g n) ≡ lookupOf f z k) (sym q) (served-none f slots (b .direct) k (endOf k b slots g n) ∙ empty f k)
       where
         empty : (e : ℕ → ℕ) (j : ℕ) → none ≡ lookupOf e 0 j
         empty e j = sym (lookup-only e 0 j none (λ r u v. absurd (omega arith)))
@@ -544,8 +544,8 @@ one-row f n old slots b m h d i j a c e = go (s .whole i a) (s .whole j c)
         by (inr (inr l)) = let o = strict (q .slot) (p .slot) l (p .inside) in absurd (omega (arith, o, same))
 
 -- the row that is looked at first, where it has the id, is the map's
-first-right : (rows old slots : List ℕ) (n k : ℕ) (b : Ids) → n ≤ 1073741824 → Built (idOf rows) n old slots b → firstRow slots b k < n → idOf rows (firstRow slots b k) ≡ k → some (firstRow slots b k) ≡ lookupOf (idOf rows) n k
-first-right rows old slots n k b m h l e = sym (lookup-only (idOf rows) n k (some (firstRow slots b k)) (record { row = l; named = e; last = λ j a c d. let q = one-row (idOf rows) n old slots b m h single (firstRow slots b k) j l c (e ∙ sym d) in omega arith }))
+first-right : (f : ℕ → ℕ) (old slots : List ℕ) (n k : ℕ) (b : Ids) → n ≤ 1073741824 → Built f n old slots b → firstRow slots b k < n → f (firstRow slots b k) ≡ k → some (firstRow slots b k) ≡ lookupOf f n k
+first-right f old slots n k b m h l e = sym (lookup-only f n k (some (firstRow slots b k)) (record { row = l; named = e; last = λ j a c d. let q = one-row f n old slots b m h single (firstRow slots b k) j l c (e ∙ sym d) in omega arith }))
   where
     single : b .distinct ≡ true
     single = go (ltb k (b .first)) (b .distinct) (eqb (b .shift) 0) refl refl refl
@@ -559,74 +559,74 @@ first-right rows old slots n k b m h l e = sym (lookup-only (idOf rows) n k (som
         go false false u p q r = outside (rw (p, q) refl)
 
 -- "Lookup of an id answers like a map written to in file order": `get` over what `build` left
-pub get-right : (rows old slots : List ℕ) (count k : ℕ) (b : Ids) → Built (idOf rows) (tableRoom (length rows) (length old) count) old slots b → searched rows slots b k ≡ lookupOf (idOf rows) (tableRoom (length rows) (length old) count) k
-get-right rows old slots count k b h = go (ltb (firstRow slots b k) m) (eqb (idOf rows (firstRow slots b k)) k) refl refl
+pub get-right : (f : ℕ → ℕ) (R : ℕ) (old slots : List ℕ) (count k : ℕ) (b : Ids) → Built f (tableRoom R (length old) count) old slots b → searchIn f R slots b k ≡ lookupOf f (tableRoom R (length old) count) k
+get-right f R old slots count k b h = go (ltb (firstRow slots b k) m) (eqb (f (firstRow slots b k)) k) refl refl
   where
     n : ℕ
-    n = tableRoom (length rows) (length old) count
+    n = tableRoom R (length old) count
 
     m : ℕ
-    m = tableRoom (length rows) (length slots) (b .count)
+    m = tableRoom R (length slots) (b .count)
 
     q : m ≡ n
-    q = let s : length slots ≡ length old = h .size in let c : b .count ≡ tableRoom (length rows) (length old) count = h .count in omega (arith, s, c)
+    q = let s : length slots ≡ length old = h .size in let c : b .count ≡ tableRoom R (length old) count = h .count in omega (arith, s, c)
 
-    found : sought rows slots b k ≡ lookupOf (idOf rows) n k
-    found = ap (λ (z : ℕ). servedOf rows slots (b .direct) z k (endOf k b slots (slotId rows (b .direct) slots) z)) q ∙ built-right rows old slots n k b (omega arith) h
+    found : soughtIn f R slots b k ≡ lookupOf f n k
+    found = ap (λ (z : ℕ). servedOf f slots (b .direct) z k (endOf k b slots (slotId f (b .direct) slots) z)) q ∙ built-right f old slots n k b (omega arith) h
 
-    go : (s t : Bool) → ltb (firstRow slots b k) m ≡ s → eqb (idOf rows (firstRow slots b k)) k ≡ t → pick (s && t) (some (firstRow slots b k)) (sought rows slots b k) ≡ lookupOf (idOf rows) n k
-    go true true e f = first-right rows old slots n k b (omega arith) h (subst (λ (z : ℕ). firstRow slots b k < z) q (ltb-true (firstRow slots b k) m e)) (eqb-true (idOf rows (firstRow slots b k)) k f)
-    go true false e f = found
-    go false t e f = found
+    go : (s t : Bool) → ltb (firstRow slots b k) m ≡ s → eqb (f (firstRow slots b k)) k ≡ t → pick (s && t) (some (firstRow slots b k)) (soughtIn f R slots b k) ≡ lookupOf f n k
+    go true true e d = first-right f old slots n k b (omega arith) h (subst (λ (z : ℕ). firstRow slots b k < z) q (ltb-true (firstRow slots b k) m e)) (eqb-true (f (firstRow slots b k)) k d)
+    go true false e d = found
+    go false t e d = found
 
 -- whatever the slots and the numbers beside them, what is served lies in the table and has the id
-pub get-safe : (rows slots : List ℕ) (b : Ids) (k r : ℕ) → searched rows slots b k ≡ some r → (r < tableRoom (length rows) (length slots) (b .count)) × (idOf rows r ≡ k)
-get-safe rows slots b k r = go (ltb (firstRow slots b k) n) (eqb (idOf rows (firstRow slots b k)) k) refl refl
+pub get-safe : (f : ℕ → ℕ) (R : ℕ) (slots : List ℕ) (b : Ids) (k r : ℕ) → searchIn f R slots b k ≡ some r → (r < tableRoom R (length slots) (b .count)) × (f r ≡ k)
+get-safe f R slots b k r = go (ltb (firstRow slots b k) n) (eqb (f (firstRow slots b k)) k) refl refl
   where
     n : ℕ
-    n = tableRoom (length rows) (length slots) (b .count)
+    n = tableRoom R (length slots) (b .count)
 
-    found : sought rows slots b k ≡ some r → (r < n) × (idOf rows r ≡ k)
-    found e = served-safe rows slots (b .direct) n k (endOf k b slots (slotId rows (b .direct) slots) n) r e
+    found : soughtIn f R slots b k ≡ some r → (r < n) × (f r ≡ k)
+    found e = served-safe f slots (b .direct) n k (endOf k b slots (slotId f (b .direct) slots) n) r e
 
-    go : (s t : Bool) → ltb (firstRow slots b k) n ≡ s → eqb (idOf rows (firstRow slots b k)) k ≡ t → pick (s && t) (some (firstRow slots b k)) (sought rows slots b k) ≡ some r → (r < n) × (idOf rows r ≡ k)
+    go : (s t : Bool) → ltb (firstRow slots b k) n ≡ s → eqb (f (firstRow slots b k)) k ≡ t → pick (s && t) (some (firstRow slots b k)) (soughtIn f R slots b k) ≡ some r → (r < n) × (f r ≡ k)
     go true true a c d =
         let q : firstRow slots b k ≡ r = cc in
-        (subst (λ (z : ℕ). z < n) q (ltb-true (firstRow slots b k) n a), subst (λ (z : ℕ). idOf rows z ≡ k) q (eqb-true (idOf rows (firstRow slots b k)) k c))
+        (subst (λ (z : ℕ). z < n) q (ltb-true (firstRow slots b k) n a), subst (λ (z : ℕ). f z ≡ k) q (eqb-true (f (firstRow slots b k)) k c))
     go true false a c d = found d
     go false t a c d = found d
 
-module _ (rows slots : List ℕ) (b : Ids) (k : ℕ) where
+module _ (f : ℕ → ℕ) (R : ℕ) (slots : List ℕ) (b : Ids) (k : ℕ) where
   -- the row that is looked at first has the id
-  pub get-first : (r : ℕ) → r ≡ firstRow slots b k → (t : Bool) → t ≡ standing rows (tableRoom (length rows) (length slots) (b .count)) r k → t ≡ true → some r ≡ searched rows slots b k
-  get-first r e t q h = subst (λ (z : ℕ). some r ≡ pick (standing rows (tableRoom (length rows) (length slots) (b .count)) z k) (some z) (sought rows slots b k)) e (rw (sym q ∙ h) refl)
+  pub get-first : (r : ℕ) → r ≡ firstRow slots b k → (t : Bool) → t ≡ standing f (tableRoom R (length slots) (b .count)) r k → t ≡ true → some r ≡ searchIn f R slots b k
+  get-first r e t q h = subst (λ (z : ℕ). some r ≡ pick (standing f (tableRoom R (length slots) (b .count)) z k) (some z) (soughtIn f R slots b k)) e (rw (sym q ∙ h) refl)
 
   -- it has not
-  pub get-later : (r : ℕ) → r ≡ firstRow slots b k → (t : Bool) → t ≡ standing rows (tableRoom (length rows) (length slots) (b .count)) r k → t ≡ false → sought rows slots b k ≡ searched rows slots b k
-  get-later r e t q h = subst (λ (z : ℕ). sought rows slots b k ≡ pick (standing rows (tableRoom (length rows) (length slots) (b .count)) z k) (some z) (sought rows slots b k)) e (rw (sym q ∙ h) refl)
+  pub get-later : (r : ℕ) → r ≡ firstRow slots b k → (t : Bool) → t ≡ standing f (tableRoom R (length slots) (b .count)) r k → t ≡ false → soughtIn f R slots b k ≡ searchIn f R slots b k
+  get-later r e t q h = subst (λ (z : ℕ). soughtIn f R slots b k ≡ pick (standing f (tableRoom R (length slots) (b .count)) z k) (some z) (soughtIn f R slots b k)) e (rw (sym q ∙ h) refl)
 
-module _ (rows slots : List ℕ) (b : Ids) (k n e : ℕ) (room : n ≡ tableRoom (length rows) (length slots) (b .count)) (end : e ≡ endOf k b slots (slotId rows (b .direct) slots) n) where
+module _ (f : ℕ → ℕ) (R : ℕ) (slots : List ℕ) (b : Ids) (k n e : ℕ) (room : n ≡ tableRoom R (length slots) (b .count)) (end : e ≡ endOf k b slots (slotId f (b .direct) slots) n) where
   -- an end is at most one past the slots
   pub end-small : e ≤ 1073741825
-  end-small = let q = end-of-within k b slots (slotId rows (b .direct) slots) n in omega (arith, room, end, q)
+  end-small = let q = end-of-within k b slots (slotId f (b .direct) slots) n in omega (arith, room, end, q)
 
   -- the code's row count and end are the search's
-  sought-is : servedOf rows slots (b .direct) (tableRoom (length rows) (length slots) (b .count)) k e ≡ sought rows slots b k
-  sought-is = ap (λ (z : ℕ). servedOf rows slots (b .direct) (tableRoom (length rows) (length slots) (b .count)) k z) (end ∙ ap (λ (z : ℕ). endOf k b slots (slotId rows (b .direct) slots) z) room)
+  sought-is : servedOf f slots (b .direct) (tableRoom R (length slots) (b .count)) k e ≡ soughtIn f R slots b k
+  sought-is = ap (λ (z : ℕ). servedOf f slots (b .direct) (tableRoom R (length slots) (b .count)) k z) (end ∙ ap (λ (z : ℕ). endOf k b slots (slotId f (b .direct) slots) z) room)
 
   -- no slot holds an id up to the one sought
-  pub seek-none : e ≡ 0 → none ≡ sought rows slots b k
+  pub seek-none : e ≡ 0 → none ≡ soughtIn f R slots b k
   seek-none h = sym (rw (eq-eqb e 0 h) refl) ∙ sought-is
 
-  module _ (r : ℕ) (row : r ≡ rowAt (b .direct) slots (e - 1)) (some-slot : e ≡ 0 → ⊥) (t : Bool) (told : t ≡ standing rows (tableRoom (length rows) (length slots) (b .count)) r k) where
+  module _ (r : ℕ) (row : r ≡ rowAt (b .direct) slots (e - 1)) (some-slot : e ≡ 0 → ⊥) (t : Bool) (told : t ≡ standing f (tableRoom R (length slots) (b .count)) r k) where
     -- the last that does holds a row with it, or not
-    served : pick t (some r) none ≡ sought rows slots b k
+    served : pick t (some r) none ≡ soughtIn f R slots b k
     served =
-        subst (λ (u : Bool). pick u (some r) none ≡ sought rows slots b k) (sym told)
-        (subst (λ (z : ℕ). pick (standing rows (tableRoom (length rows) (length slots) (b .count)) z k) (some z) none ≡ sought rows slots b k) (sym row) (sym (rw (ne-eqb e 0 some-slot) refl) ∙ sought-is))
+        subst (λ (u : Bool). pick u (some r) none ≡ soughtIn f R slots b k) (sym told)
+        (subst (λ (z : ℕ). pick (standing f (tableRoom R (length slots) (b .count)) z k) (some z) none ≡ soughtIn f R slots b k) (sym row) (sym (rw (ne-eqb e 0 some-slot) refl) ∙ sought-is))
 
-    pub seek-hit : t ≡ true → some r ≡ sought rows slots b k
+    pub seek-hit : t ≡ true → some r ≡ soughtIn f R slots b k
     seek-hit h = rw h at served
 
-    pub seek-other : t ≡ false → none ≡ sought rows slots b k
+    pub seek-other : t ≡ false → none ≡ soughtIn f R slots b k
     seek-other h = rw h at served

@@ -38,6 +38,14 @@ module _ (w : ℕ) (xs : List ℕ) (k : ℕ) where
   pub field-none : length xs / w ≤ k → (i : ℕ) → field w xs k i ≡ 0
   field-none h i = ap (λ (t : Bool). pick t (getD xs (k * w + i) 0) 0) (le-ltb k (length xs / w) h)
 
+  -- a number of a row is no greater than those of the memory
+  pub field-below : (n : ℕ) → 0 < n → ((j : ℕ) → getD xs j 0 < n) → (i : ℕ) → field w xs k i < n
+  field-below n z h i = go (ltb k (length xs / w))
+    where
+      go : (t : Bool) → pick t (getD xs (k * w + i) 0) 0 < n
+      go true = h (k * w + i)
+      go false = z
+
   -- a row is put where the memory has it
   pub put-there : k < length xs / w → (new : List ℕ) → putAt w xs k new ≡ sets xs (k * w) new
   put-there h new = ap (λ (t : Bool). pick t (sets xs (k * w) new) xs) (lt-ltb k (length xs / w) h)
