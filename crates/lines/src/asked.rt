@@ -26,7 +26,6 @@ use crate::patterns::two;
 use crate::rows::Wanted;
 use crate::rows::id_wanted;
 use crate::rows::values;
-use crate::rows::wide;
 use kinds::Kind;
 use lookup::Entry;
 use lookup::Place;
