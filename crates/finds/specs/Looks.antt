@@ -13,7 +13,8 @@ use lib.Dec.{ltb, leb, eqb}
 use lib.ListN.{length, getD}
 use borrow.Author.Tests.{leb-true, ltb-true, le-ltb, ne-eqb}
 use Rattle.common.specs.Compare.{less-or}
-use Rattle.index.specs.Order.{idOf, slotId, tableRoom}
+use Rattle.table.specs.Table.{idOf, rowsIn}
+use Rattle.index.specs.Order.{slotId, tableRoom}
 use Rattle.index.specs.Search.{bracket, wide, rangeEnd, endOf, standing, firstRow, searched}
 use Rattle.index.specs.Guide.{start-in, end-all, end-even, end-guide, guide-is, range-finds, first-dense, first-none, even-place}
 use Rattle.index.specs.SearchRight.{get-first, get-later, seek-hit}
@@ -27,7 +28,7 @@ both false t e = absurd (let z : _≡_ {A = ℕ} 0 1 = cc in omega arith)
 
 -- how many rows the index speaks of
 abbrev pub roomOf : List ℕ → List ℕ → Ids → ℕ
-roomOf rows slots b = tableRoom (length rows) (length slots) (b .count)
+roomOf rows slots b = tableRoom (rowsIn (length rows)) (length slots) (b .count)
 
 -- what a search tells of an id, as a number
 abbrev pub rowOf : List ℕ → List ℕ → Ids → ℕ → ℕ
@@ -35,24 +36,24 @@ rowOf rows slots b k = rowNumber (searched rows slots b k)
 
 -- a row that is what the search finds of an id, if it has that id
 abbrev pub Hint : List ℕ → List ℕ → Ids → ℕ → ℕ → Type 0
-Hint rows slots b k r = standing rows (roomOf rows slots b) r k ≡ true → some r ≡ searched rows slots b k
+Hint rows slots b k r = standing (idOf rows) (roomOf rows slots b) r k ≡ true → some r ≡ searched rows slots b k
 
 -- no row of a table is numbered 4294967295
-out-of-room : (rows slots : List ℕ) (b : Ids) (k : ℕ) → false ≡ standing rows (roomOf rows slots b) 4294967295 k
+out-of-room : (rows slots : List ℕ) (b : Ids) (k : ℕ) → false ≡ standing (idOf rows) (roomOf rows slots b) 4294967295 k
 out-of-room rows slots b k = sym (rw (le-ltb 4294967295 (roomOf rows slots b) (omega arith)) refl)
 
 module _ (rows slots : List ℕ) (b : Ids) (k : ℕ) where
   -- a hint that has the id is what the search tells
-  pub hint-row : (r : ℕ) → Hint rows slots b k r → standing rows (roomOf rows slots b) r k ≡ true → r ≡ rowOf rows slots b k
+  pub hint-row : (r : ℕ) → Hint rows slots b k r → standing (idOf rows) (roomOf rows slots b) r k ≡ true → r ≡ rowOf rows slots b k
   hint-row r hint h = ap rowNumber (hint h)
 
   -- the row that a search looks at first is a hint, whatever it is
   pub first-hint : (r : ℕ) → r ≡ firstRow slots b k → Hint rows slots b k r
-  first-hint r e h = get-first rows slots b k r e true (sym h) refl
+  first-hint r e h = get-first (idOf rows) (rowsIn (length rows)) slots b k r e true (sym h) refl
 
   -- a number that no row has is one
   pub none-hint : (r : ℕ) → r ≡ 4294967295 → Hint rows slots b k r
-  none-hint r e h = let z : false ≡ true = out-of-room rows slots b k ∙ ap (λ (m : ℕ). standing rows (roomOf rows slots b) m k) (sym e) ∙ h in absurd (let y : _≡_ {A = ℕ} 0 1 = cc in omega arith)
+  none-hint r e h = let z : false ≡ true = out-of-room rows slots b k ∙ ap (λ (m : ℕ). standing (idOf rows) (roomOf rows slots b) m k) (sym e) ∙ h in absurd (let y : _≡_ {A = ℕ} 0 1 = cc in omega arith)
 
   module _ (r : ℕ) (from : b .first ≤ k) where
     -- where ids are dense in file order: as far from the first row as the id is from the first id
@@ -61,10 +62,10 @@ module _ (rows slots : List ℕ) (b : Ids) (k : ℕ) where
 
     module _ (d : b .direct ≡ true) (e : (b .distinct && eqb (b .shift) 0) ≡ false) where
       -- elsewhere no row is looked at first, so that the row before an end of the search is a hint
-      end-hint : r + 1 ≡ endOf k b slots (slotId rows (b .direct) slots) (roomOf rows slots b) → Hint rows slots b k r
+      end-hint : r + 1 ≡ endOf k b slots (slotId (idOf rows) (b .direct) slots) (roomOf rows slots b) → Hint rows slots b k r
       end-hint q h =
-          seek-hit rows slots b k (roomOf rows slots b) (r + 1) refl q r (rw d (omega arith)) (λ z. omega arith) true (sym h) refl
-          ∙ get-later rows slots b k 4294967295 (first-none k b slots from e) false (out-of-room rows slots b k) refl
+          seek-hit (idOf rows) (rowsIn (length rows)) slots b k (roomOf rows slots b) (r + 1) refl q r (rw d (omega arith)) (λ z. omega arith) true (sym h) refl
+          ∙ get-later (idOf rows) (rowsIn (length rows)) slots b k 4294967295 (first-none k b slots from e) false (out-of-room rows slots b k) refl
 
       -- where ids rise by one step: so many steps from the first row as the id is from the first id
       pub even-hint : (step : ℕ) → 0 < step → step * (roomOf rows slots b - 1) ≡ b .last - b .first → 1 < roomOf rows slots b → b .even ≡ true → r * step ≡ k - b .first → Hint rows slots b k r
@@ -95,8 +96,8 @@ module _ (rows slots : List ℕ) (b : Ids) (k : ℕ) where
               ∙ mul-div-cancel r pos
 
           go : (k < b .last) ⊎ (b .last ≤ k) → some r ≡ searched rows slots b k
-          go (inl l) = end-hint (end-even k b slots (slotId rows (b .direct) slots) n (r + 1) l from even (ap (λ (z : ℕ). z + 1) (sym place))) h
-          go (inr l) = end-hint (let q = last-row l in omega (arith, two, q) ∙ end-all k b slots (slotId rows (b .direct) slots) n l) h
+          go (inl l) = end-hint (end-even k b slots (slotId (idOf rows) (b .direct) slots) n (r + 1) l from even (ap (λ (z : ℕ). z + 1) (sym place))) h
+          go (inr l) = end-hint (let q = last-row l in omega (arith, two, q) ∙ end-all k b slots (slotId (idOf rows) (b .direct) slots) n l) h
 
       -- by the guide: where the id would stand if its range, which has rows, were filled evenly
       pub guide-hint : (q lo hi : ℕ) → b .even ≡ false → b .distinct ≡ true → k < b .last
@@ -111,10 +112,10 @@ module _ (rows slots : List ℕ) (b : Ids) (k : ℕ) where
           n = roomOf rows slots b
 
           g : ℕ → ℕ
-          g = slotId rows (b .direct) slots
+          g = slotId (idOf rows) (b .direct) slots
 
           has : (b .distinct && eqb (g r) k) ≡ true
-          has = subst (λ (t : Bool). (t && eqb (slotId rows (b .direct) slots r) k) ≡ true) (sym distinct) (subst (λ (t : Bool). (true && eqb (slotId rows t slots r) k) ≡ true) (sym d) (by (ltb r n) (eqb (idOf rows r) k) refl refl))
+          has = subst (λ (t : Bool). (t && eqb (slotId (idOf rows) (b .direct) slots r) k) ≡ true) (sym distinct) (subst (λ (t : Bool). (true && eqb (slotId (idOf rows) t slots r) k) ≡ true) (sym d) (by (ltb r n) (eqb (idOf rows r) k) refl refl))
             where
               by : (s t : Bool) → ltb r n ≡ s → eqb (idOf rows r) k ≡ t → eqb (idOf rows r) k ≡ true
               by s true p o = o

@@ -11,6 +11,7 @@ use lib.ListN.{length, getD, set, length-set}
 use lib.Seq.{getD-set-same, getD-set-other}
 use borrow.Author.Tests.{lt-ltb, eq-eqb}
 use Rattle.common.specs.Compare.{ordered, less-or}
+use Rattle.table.specs.Table.{idOf}
 use Rattle.finds.specs.Finds.{Told, full}
 use Rattle.finds.specs.Looks.{roomOf, rowOf, Hint, hint-row, both}
 use Rattle.index.specs.declared.Ids.{Ids}
@@ -69,7 +70,7 @@ swept-old P Q ids before after from m to h f l q = subst (λ (z : ℕ). Q (getD 
 
 -- each of the rows that are told for the ids of a part is one of n, and has its id
 abbrev pub AllStand : List ℕ → ℕ → List ℕ → List ℕ → ℕ → ℕ → Type 0
-AllStand rows n ids found from to = (i : ℕ) → from ≤ i → i < to → standing rows n (getD found i 0) (getD ids i 0) ≡ true
+AllStand rows n ids found from to = (i : ℕ) → from ≤ i → i < to → standing (idOf rows) n (getD found i 0) (getD ids i 0) ≡ true
 
 -- each of the numbers of a part is below n
 abbrev pub AllBelow : ℕ → List ℕ → ℕ → ℕ → Type 0
@@ -84,20 +85,20 @@ below-next n m found from at h o e i a l = go (less-or i at)
     go (inr u) = let p : at ≡ i = omega arith in subst (λ (z : ℕ). getD found z 0 < m) p e
 
 -- where a further row has its id too
-pub stand-next : (rows : List ℕ) (n : ℕ) (ids found : List ℕ) (from m : ℕ) → AllStand rows n ids found from m → getD found m 0 < n → getD rows (getD found m 0 * 6) 0 ≡ getD ids m 0 → AllStand rows n ids found from (m + 1)
+pub stand-next : (rows : List ℕ) (n : ℕ) (ids found : List ℕ) (from m : ℕ) → AllStand rows n ids found from m → getD found m 0 < n → idOf rows (getD found m 0) ≡ getD ids m 0 → AllStand rows n ids found from (m + 1)
 stand-next rows n ids found from m h q e i a l = go (less-or i m)
   where
-    here : standing rows n (getD found m 0) (getD ids m 0) ≡ true
-    here = rw (lt-ltb (getD found m 0) n q) (eq-eqb (getD rows (getD found m 0 * 6) 0) (getD ids m 0) e)
+    here : standing (idOf rows) n (getD found m 0) (getD ids m 0) ≡ true
+    here = rw (lt-ltb (getD found m 0) n q) (eq-eqb (idOf rows (getD found m 0)) (getD ids m 0) e)
 
-    go : (i < m) ⊎ (m ≤ i) → standing rows n (getD found i 0) (getD ids i 0) ≡ true
+    go : (i < m) ⊎ (m ≤ i) → standing (idOf rows) n (getD found i 0) (getD ids i 0) ≡ true
     go (inl o) = h i a o
-    go (inr o) = let p : m ≡ i = omega arith in subst (λ (z : ℕ). standing rows n (getD found z 0) (getD ids z 0) ≡ true) p here
+    go (inr o) = let p : m ≡ i = omega arith in subst (λ (z : ℕ). standing (idOf rows) n (getD found z 0) (getD ids z 0) ≡ true) p here
 
 -- hints that all have their ids are what the search tells
 pub swept-stood : (rows slots : List ℕ) (b : Ids) (n : ℕ) (ids xs ys : List ℕ) (from to : ℕ) → n ≡ roomOf rows slots b → Swept (Hint rows slots b) ids xs from to ys → AllStand rows n ids ys from to → Swept (λ k v. v ≡ rowOf rows slots b k) ids xs from to ys
 swept-stood rows slots b n ids xs ys from to room h s =
-    record { size = h .size; each = λ i a l. hint-row rows slots b (getD ids i 0) (getD ys i 0) (h .each i a l) (subst (λ (m : ℕ). standing rows m (getD ys i 0) (getD ids i 0) ≡ true) room (s i a l)); front = h .front; rest = h .rest }
+    record { size = h .size; each = λ i a l. hint-row rows slots b (getD ids i 0) (getD ys i 0) (h .each i a l) (subst (λ (m : ℕ). standing (idOf rows) m (getD ys i 0) (getD ids i 0) ≡ true) room (s i a l)); front = h .front; rest = h .rest }
 
 -- a sweep and one from where it ended
 pub swept-more : (P : ℕ → ℕ → Type 0) (ids xs ys zs : List ℕ) (from m to : ℕ) → from ≤ m → m ≤ to → Swept P ids xs from m ys → Swept P ids ys m to zs → Swept P ids xs from to zs

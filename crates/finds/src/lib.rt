@@ -329,14 +329,13 @@ fn differs(a: u32, b: u32) -> usize
 
 // How many of the rows that are told have not their ids. It only counts them, so that no jump waits for a row.
 fn misses(rows: &[u32], n: usize, ids: &[u32], found: &[u32], from: usize, to: usize) -> usize
-    requires { ⌜ (from ≤ to) × (to ≤ length (now ids)) × (to ≤ length (now found)) × (n * 6 ≤ length (now rows)) × AllBelow n (now found) from to ⌝ }
+    requires { ⌜ (from ≤ to) × (to ≤ length (now ids)) × (to ≤ length (now found)) × AllBelow n (now found) from to ⌝ }
     ensures { λ r. ⌜ (r ≡ 0 → AllStand (now (rows .entry)) n (now (ids .entry)) (now (found .entry)) from to) ⌝ }
 {
     let mut missed = 0;
     let mut i = from;
     while i < to {
-        let row = found[i] as usize;
-        missed += differs(rows[row * 6], ids[i]);
+        missed += differs(table::id_at(rows, found[i]), ids[i]);
         i += 1;
     }
     missed
@@ -345,7 +344,7 @@ fn misses(rows: &[u32], n: usize, ids: &[u32], found: &[u32], from: usize, to: u
 // Whether all rows that are told are some of n, and have their ids. Where one has not, as by the guide nearly always, the rows are near at
 // least when they are looked at one by one.
 fn all_stand(rows: &[u32], n: usize, ids: &[u32], found: &[u32], from: usize, to: usize) -> bool
-    requires { ⌜ (from ≤ to) × (to ≤ length (now ids)) × (to ≤ length (now found)) × (n * 6 ≤ length (now rows)) ⌝ }
+    requires { ⌜ (from ≤ to) × (to ≤ length (now ids)) × (to ≤ length (now found)) ⌝ }
     ensures { λ r. ⌜ (r ≡ true → AllStand (now (rows .entry)) n (now (ids .entry)) (now (found .entry)) from to) ⌝ }
 {
     if n <= highest(found, from, to) as usize {

@@ -16,7 +16,7 @@ returns : tie.Need-returns
 returns c = λ h. absurd (let z : _≡_ {A = ℕ} 0 1 = cc in omega arith)
 
 misses-requires : tie.Need-misses-requires
-misses-requires c κs = let p = c .before .before .before .before .before .pre in let h = c .if1 .left in (p .0, p .1, p .2, p .3, λ j x y. let q = c .before .highest .ensures j x y in omega (arith, q, h))
+misses-requires c κs = let p = c .before .before .before .before .before .pre in let h = c .if1 .left in (p .0, p .1, p .2, λ j x y. let q = c .before .highest .ensures j x y in omega (arith, q, h))
 
 returns-2 : tie.Need-returns-2
 returns-2 c = λ h. c .misses .ensures (eqb-true (c .misses .result) 0 h)

@@ -11,7 +11,7 @@ room-requires : tie.Need-room-requires
 room-requires c κs = search needs
 
 all-stand-requires : tie.Need-all-stand-requires
-all-stand-requires c κs = let p = c .before .before .before .before .before .before .before .before .before .before .pre in let s = c .before .before .before .before .near .ensures .size in let e = c .before .room .ensures in (p .0, p .1, omega (arith, s), omega (arith, e))
+all-stand-requires c κs = let p = c .before .before .before .before .before .before .before .before .before .before .pre in let s = c .before .before .before .before .near .ensures .size in (p .0, p .1, omega (arith, s))
 
 same-length : tie.Need-same-length
 same-length c = c .before .before .before .before .before .before .near .ensures .size

@@ -1,8 +1,8 @@
 use native.Mathlib.Omega.{arith}
+use mathlib.Core.Path.{_≡_, sym, _∙_}
+use Prim.Native.Nat.{_+_, _-_, _≤_}
 use borrow.Author.Needs.{needs}
 use Rattle.finds.specs.Sweep.{AllStand, stand-next}
-use mathlib.Core.Path.{_≡_}
-use Prim.Native.Nat.{_+_, _-_, _≤_}
 use Rattle.finds.proofs.misses.Statement.{statement}
 use Rattle.finds.proofs.misses.Tie as tie
 
@@ -15,29 +15,20 @@ abbrev μ-loop : tie.MeasureT-loop
 loop-holds : tie.Need-loop-holds Inv-loop μ-loop
 loop-holds c = (omega arith, omega arith, omega arith, λ _ j x y. absurd (omega arith))
 
-mul-row : tie.Need-mul-row Inv-loop μ-loop
-mul-row c = search needs
+mul-id-at : tie.Need-mul-id-at Inv-loop μ-loop
+mul-id-at c = search needs
 
-shared-slice-read-row : tie.Need-shared-slice-read-row Inv-loop μ-loop
-shared-slice-read-row c = search needs
+shared-slice-read-id-at : tie.Need-shared-slice-read-id-at Inv-loop μ-loop
+shared-slice-read-id-at c = search needs
 
-cast-row : tie.Need-cast-row Inv-loop μ-loop
-cast-row c = let l = c .before .before .loop in omega (arith, c .shared-slice-known4 .given (l .i))
+id-at-requires : tie.Need-id-at-requires Inv-loop μ-loop
+id-at-requires c κs = search needs
 
 mul-differs : tie.Need-mul-differs Inv-loop μ-loop
-mul-differs c = let l = c .before .before .loop in let p = c .before .before .before .before .before .before .pre in let q = p .4 (l .i) (l .inv .0) (omega arith) in record { fits = omega (arith, q) }
-
-mul-differs-2 : tie.Need-mul-differs-2 Inv-loop μ-loop
-mul-differs-2 c = let l = c .before .before .loop in let p = c .before .before .before .before .before .before .pre in let q = p .4 (l .i) (l .inv .0) (omega arith) in record { fits = omega (arith, q) }
+mul-differs c = search needs
 
 shared-slice-read-differs : tie.Need-shared-slice-read-differs Inv-loop μ-loop
-shared-slice-read-differs c = let l = c .before .before .before .loop in let p = c .before .before .before .before .before .before .before .pre in let q = p .4 (l .i) (l .inv .0) (omega arith) in omega (arith, q)
-
-mul-differs-3 : tie.Need-mul-differs-3 Inv-loop μ-loop
-mul-differs-3 c = search needs
-
-shared-slice-read-differs-2 : tie.Need-shared-slice-read-differs-2 Inv-loop μ-loop
-shared-slice-read-differs-2 c = search needs
+shared-slice-read-differs c = search needs
 
 differs-requires : tie.Need-differs-requires Inv-loop μ-loop
 differs-requires c κs = search needs
@@ -52,7 +43,13 @@ loop-less : tie.Need-loop-less Inv-loop μ-loop
 loop-less c = search needs
 
 loop-again : tie.Need-loop-again Inv-loop μ-loop
-loop-again c = let a = c .before .before .before .before .before .before .before .before .before .args in let p = c .before .before .before .before .before .before .before .before .before .pre in let l = c .before .before .before .before .before .loop in let e = c .differs .ensures .0 in let m = l .inv .2 in (omega arith, omega arith, omega (arith, e, m), λ z. stand-next (a .rows .now) (a .n) (a .ids .now) (a .found .now) (a .from) (l .i) (l .inv .3 (omega (arith, z))) (p .4 (l .i) (l .inv .0) (omega arith)) (c .differs .ensures .1 (omega (arith, z))))
+loop-again c =
+    let a = c .before .before .before .before .before .before .before .before .before .args in
+    let p = c .before .before .before .before .before .before .before .before .before .pre in
+    let l = c .before .before .before .before .before .loop in
+    let e = c .differs .ensures .0 in
+    let m = l .inv .2 in
+    (omega arith, omega arith, omega (arith, e, m), λ z. stand-next (a .rows .now) (a .n) (a .ids .now) (a .found .now) (a .from) (l .i) (l .inv .3 (omega (arith, z))) (p .3 (l .i) (l .inv .0) (omega arith)) (sym (c .before .before .id-at .ensures) ∙ c .differs .ensures .1 (omega (arith, z))))
 
 returns : tie.Need-returns Inv-loop μ-loop
 returns c = let a = c .before .before .before .before .before .args in let l = c .before .loop in λ z j x y. l .inv .3 z j x (omega arith)
@@ -64,14 +61,11 @@ misses-spec =
     Inv-loop
     μ-loop
     loop-holds
-    mul-row
-    shared-slice-read-row
-    cast-row
+    mul-id-at
+    shared-slice-read-id-at
+    id-at-requires
     mul-differs
-    mul-differs-2
     shared-slice-read-differs
-    mul-differs-3
-    shared-slice-read-differs-2
     differs-requires
     add-missed
     add-i
