@@ -7,9 +7,7 @@ use mathlib.Core.List.{List, [], _∷_, _++_, append-assoc, append-nil}
 use native.Mathlib.Omega.{arith}
 use borrow.Author.Tests.{lt-ltb, le-ltb}
 use lib.Dec.{ltb}
-use native.Mathlib.Nat.{suc-mul}
-use lib.ListN.{length, take, drop, length-append, length-drop}
-use lib.Seq.{sets, sets-eq, take-append-seam, drop-append-add, drop-drop}
+use lib.ListN.{length, drop, length-append}
 use Rattle.common.specs.Pick.{pick}
 use Rattle.error.specs.Refusal.{Refusal, refusal, Told, good, bad}
 use Rattle.lex.specs.Byte.{place, place-drop}
@@ -17,8 +15,10 @@ use Rattle.statement.specs.Row.{Row, HeaderRow, mapped}
 use Rattle.statement.specs.Statement.{Stmt, ends, refused, moved, header, record′, statement}
 use Rattle.statement.specs.declared.Section.{Section}
 use Rattle.statement.specs.declared.Section.the-variants.{Outside, InHeader, InData}
+use Rattle.table.specs.Table.{rowsIn, headersIn, rowsLaid, headersLaid, rowPut, headerPut}
+use Rattle.table.specs.Laid.{rows-laid-none, rows-laid-more, headers-laid-none, headers-laid-more}
 use Rattle.scan.specs.File.{Table, table, withHeader, withRecord, roomed, taken, readFrom, readingOf, largest}
-use Rattle.scan.specs.Table.{six, four, flat, headerNumbers, recordNumbers, laid, Counts, counts, countsOf}
+use Rattle.scan.specs.Table.{headersOf, recordsOf, Counts, counts, countsOf}
 
 -- rows before those of the rest of the file
 abbrev pub join : List HeaderRow → List Row → Table → Table
@@ -37,39 +37,6 @@ unfolding largest
 largest-more [] w = omega arith
 largest-more (v ∷ rs) w = let ih = largest-more rs w in omega arith
 
--- the flat rows with one row more
-flat-more : {A : Type 0} (f : A → List ℕ) (ws : List A) (w : A) → flat f (ws ++ (w ∷ [])) ≡ flat f ws ++ f w
-unfolding flat
-flat-more f [] w = append-nil (f w)
-flat-more f (v ∷ ws) w = ap (λ (l : List ℕ). f v ++ l) (flat-more f ws w) ∙ sym (append-assoc (f v) (flat f ws) (f w))
-
--- so many rows of n numbers each
-pub flat-length : {A : Type 0} (n : ℕ) (f : A → List ℕ) → ((w : A) → length (f w) ≡ n) → (ws : List A) → length (flat f ws) ≡ length ws * n
-unfolding flat
-flat-length n f e [] = omega arith
-flat-length n f e (w ∷ ws) =
-    let m : suc (length ws) * n ≡ length ws * n + n = suc-mul (length ws) n in
-    let ih = flat-length n f e ws in
-    omega (arith, length-append (f w) (flat f ws), e w)
-
--- the numbers of one row more are stored after those of the rows before
-laid-more : {A : Type 0} (n : ℕ) (f : A → List ℕ) → ((w : A) → length (f w) ≡ n) → (ws : List A) (w : A) (old : List ℕ) → length ws * n + n ≤ length old
-    → laid (flat f (ws ++ (w ∷ []))) old ≡ sets (laid (flat f ws) old) (length ws * n) (f w)
-laid-more n f e ws w old h =
-    let l = flat f ws in
-    let k : length l ≡ length ws * n = flat-length n f e ws in
-    let m : length l + length (f w) ≤ length (laid l old) = omega (arith, e w, length-append l (drop (length l) old), length-drop (length l) old) in
-    let d : drop (length (f w)) (drop (length l) old) ≡ drop (length (l ++ f w)) old =
-    drop-drop (length (f w)) (length l) old ∙ ap (λ (j : ℕ). drop j old) (sym (length-append l (f w))) in
-    rw (flat-more f ws w, ← k)
-    (sym
-    (sets-eq (f w) (laid l old) (length l) m
-    ∙ rw (take-append-seam l (drop (length l) old), drop-append-add l (drop (length l) old) (length (f w)), d) refl))
-
--- the memory that the loop leaves, where it writes at all
-abbrev pub wrote : Bool → List ℕ → List ℕ → List ℕ
-wrote write new old = pick write (laid new old) old
-
 -- the reading so far: hs and rs are the rows up to the place i, and what is left gives the rest
 pub record Going (s : List ℕ) (H R : ℕ) (write : Bool) (h₀ r₀ : List ℕ) (i : ℕ) (sec : Section) (h r m : ℕ) (hnow rnow : List ℕ) : Type 0 where
   pub fuel : ℕ
@@ -83,13 +50,13 @@ pub record Going (s : List ℕ) (H R : ℕ) (write : Bool) (h₀ r₀ : List ℕ
   pub hroom : h ≤ H
   pub rroom : r ≤ R
   pub most : largest rs ≡ m
-  pub hlaid : hnow ≡ wrote write (flat four hs) h₀
-  pub rlaid : rnow ≡ wrote write (flat six rs) r₀
+  pub hlaid : hnow ≡ pick write (headersLaid hs h₀) h₀
+  pub rlaid : rnow ≡ pick write (rowsLaid rs r₀) r₀
 
 -- what the loop must leave: nothing changed where it does not write; else the rows of an answer
-abbrev pub Written : Bool → Told Table → (Table → List ℕ) → List ℕ → List ℕ → Type 0
+abbrev pub Written : Bool → Told Table → (Table → List ℕ → List ℕ) → List ℕ → List ℕ → Type 0
 Written false o f old new = new ≡ old
-Written true (good t) f old new = new ≡ laid (f t) old
+Written true (good t) f old new = new ≡ f t old
 Written true (bad q) f old new = Unit {0}
 
 -- nothing before
@@ -108,7 +75,7 @@ join-record hs rs w (bad q) = refl
 
 -- where the loop begins
 pub going-starts : (s : List ℕ) (H R : ℕ) (write : Bool) (h₀ r₀ : List ℕ) → Going s H R write h₀ r₀ 0 Outside 0 0 0 h₀ r₀
-unfolding flat largest
+unfolding largest
 going-starts s H R write h₀ r₀ = record {
   fuel = length s + 1;
   hs = [];
@@ -121,13 +88,13 @@ going-starts s H R write h₀ r₀ = record {
   hroom = omega arith;
   rroom = omega arith;
   most = refl;
-  hlaid = sym (kept write h₀);
-  rlaid = sym (kept write r₀);
+  hlaid = sym (kept write h₀ (headersLaid [] h₀) (headers-laid-none h₀));
+  rlaid = sym (kept write r₀ (rowsLaid [] r₀) (rows-laid-none r₀));
 }
   where
-    kept : (b : Bool) (l : List ℕ) → wrote b [] l ≡ l
-    kept true l = refl
-    kept false l = refl
+    kept : (b : Bool) (l new : List ℕ) → new ≡ l → pick b new l ≡ l
+    kept true l new e = e
+    kept false l new e = refl
 
 module _ (s : List ℕ) (H R : ℕ) (write : Bool) (h₀ r₀ : List ℕ) (i : ℕ) (sec : Section) (h r m : ℕ) (hnow rnow : List ℕ)
     (g : Going s H R write h₀ r₀ i sec h r m hnow rnow) where
@@ -169,8 +136,8 @@ module _ (s : List ℕ) (H R : ℕ) (write : Bool) (h₀ r₀ : List ℕ) (i : �
   record-full w p n l e k = rw (le-ltb r R k, place-drop s p l) at (turn (record′ w (drop p s) (drop n s)) e)
 
   -- a header record, and its row
-  pub going-header : (w : HeaderRow) (p n : ℕ) → header w (drop p s) (drop n s) ≡ statement s sec (drop i s) → i < n → n ≤ length s → h < H → h * 4 + 4 ≤ length h₀
-      → Going s H R write h₀ r₀ n InHeader (h + 1) r m (pick write (sets hnow (h * 4) (four w)) hnow) rnow
+  pub going-header : (w : HeaderRow) (p n : ℕ) → header w (drop p s) (drop n s) ≡ statement s sec (drop i s) → i < n → n ≤ length s → h < H → h < headersIn (length h₀)
+      → Going s H R write h₀ r₀ n InHeader (h + 1) r m (pick write (headerPut hnow h w) hnow) rnow
   going-header w p n e a b k l = record {
     fuel = g .fuel - 1;
     hs = g .hs ++ (w ∷ []);
@@ -187,13 +154,13 @@ module _ (s : List ℕ) (H R : ℕ) (write : Bool) (h₀ r₀ : List ℕ) (i : �
     rlaid = g .rlaid;
   }
     where
-      go : (b : Bool) → pick b (sets (wrote b (flat four (g .hs)) h₀) (h * 4) (four w)) (wrote b (flat four (g .hs)) h₀) ≡ wrote b (flat four (g .hs ++ (w ∷ []))) h₀
+      go : (b : Bool) → pick b (headerPut (pick b (headersLaid (g .hs) h₀) h₀) h w) (pick b (headersLaid (g .hs) h₀) h₀) ≡ pick b (headersLaid (g .hs ++ (w ∷ [])) h₀) h₀
       go false = refl
-      go true = rw (← g .hcount) (sym (laid-more 4 four (λ v. refl) (g .hs) w h₀ (rw (g .hcount) l)))
+      go true = rw (← g .hcount) (sym (headers-laid-more (g .hs) w h₀ (rw (g .hcount) l)))
 
   -- a data record, and its row
-  pub going-record : (w : Row) (p n : ℕ) → record′ w (drop p s) (drop n s) ≡ statement s sec (drop i s) → i < n → n ≤ length s → r < R → r * 6 + 6 ≤ length r₀
-      → Going s H R write h₀ r₀ n InData h (r + 1) (max m (w .id)) hnow (pick write (sets rnow (r * 6) (six w)) rnow)
+  pub going-record : (w : Row) (p n : ℕ) → record′ w (drop p s) (drop n s) ≡ statement s sec (drop i s) → i < n → n ≤ length s → r < R → r < rowsIn (length r₀)
+      → Going s H R write h₀ r₀ n InData h (r + 1) (max m (w .id)) hnow (pick write (rowPut rnow r w) rnow)
   going-record w p n e a b k l = record {
     fuel = g .fuel - 1;
     hs = g .hs;
@@ -210,37 +177,37 @@ module _ (s : List ℕ) (H R : ℕ) (write : Bool) (h₀ r₀ : List ℕ) (i : �
     rlaid = rw (g .rlaid) (go write);
   }
     where
-      go : (b : Bool) → pick b (sets (wrote b (flat six (g .rs)) r₀) (r * 6) (six w)) (wrote b (flat six (g .rs)) r₀) ≡ wrote b (flat six (g .rs ++ (w ∷ []))) r₀
+      go : (b : Bool) → pick b (rowPut (pick b (rowsLaid (g .rs) r₀) r₀) r w) (pick b (rowsLaid (g .rs) r₀) r₀) ≡ pick b (rowsLaid (g .rs ++ (w ∷ [])) r₀) r₀
       go false = refl
-      go true = rw (← g .rcount) (sym (laid-more 6 six (λ v. refl) (g .rs) w r₀ (rw (g .rcount) l)))
+      go true = rw (← g .rcount) (sym (rows-laid-more (g .rs) w r₀ (rw (g .rcount) l)))
 
   -- the answer's counts
   pub going-counts : (x : Told Table) → good (table (g .hs) (g .rs)) ≡ x → good (counts h r m) ≡ mapped countsOf x
   going-counts x e = rw (← e, g .hcount, g .rcount, g .most) refl
 
   -- the memory after an answer and after a refusal
-  pub going-wrote : (x : Told Table) → good (table (g .hs) (g .rs)) ≡ x → Written write x headerNumbers h₀ hnow × Written write x recordNumbers r₀ rnow
+  pub going-wrote : (x : Told Table) → good (table (g .hs) (g .rs)) ≡ x → Written write x headersOf h₀ hnow × Written write x recordsOf r₀ rnow
   going-wrote x e = rw (← e, g .hlaid, g .rlaid) (go write)
     where
       go : (b : Bool)
-          → Written b (good (table (g .hs) (g .rs))) headerNumbers h₀ (wrote b (flat four (g .hs)) h₀)
-          × Written b (good (table (g .hs) (g .rs))) recordNumbers r₀ (wrote b (flat six (g .rs)) r₀)
+          → Written b (good (table (g .hs) (g .rs))) headersOf h₀ (pick b (headersLaid (g .hs) h₀) h₀)
+          × Written b (good (table (g .hs) (g .rs))) recordsOf r₀ (pick b (rowsLaid (g .rs) r₀) r₀)
       go true = (refl, refl)
       go false = (refl, refl)
 
-  pub going-kept : (q : Refusal) (x : Told Table) → bad q ≡ x → Written write x headerNumbers h₀ hnow × Written write x recordNumbers r₀ rnow
+  pub going-kept : (q : Refusal) (x : Told Table) → bad q ≡ x → Written write x headersOf h₀ hnow × Written write x recordsOf r₀ rnow
   going-kept q x e = rw (← e, g .hlaid, g .rlaid) (go write)
     where
       go : (b : Bool)
-          → Written b (bad q) headerNumbers h₀ (wrote b (flat four (g .hs)) h₀)
-          × Written b (bad q) recordNumbers r₀ (wrote b (flat six (g .rs)) r₀)
+          → Written b (bad q) headersOf h₀ (pick b (headersLaid (g .hs) h₀) h₀)
+          × Written b (bad q) recordsOf r₀ (pick b (rowsLaid (g .rs) r₀) r₀)
       go true = (tt, tt)
       go false = (refl, refl)
 
 -- what the loop leaves where it returns, with the room R′ that its contract speaks of
 abbrev pub Left : List ℕ → ℕ → ℕ → Bool → List ℕ → List ℕ → List ℕ → List ℕ → Told Counts → Type 0
 Left s H R′ write h₀ r₀ hnow rnow a =
-    (a ≡ mapped countsOf (readingOf s H R′)) × (Written write (readingOf s H R′) headerNumbers h₀ hnow × Written write (readingOf s H R′) recordNumbers r₀ rnow)
+    (a ≡ mapped countsOf (readingOf s H R′)) × (Written write (readingOf s H R′) headersOf h₀ hnow × Written write (readingOf s H R′) recordsOf r₀ rnow)
 
 module _ (s : List ℕ) (H R : ℕ) (write : Bool) (h₀ r₀ : List ℕ) (i : ℕ) (sec : Section) (h r m : ℕ) (hnow rnow : List ℕ)
     (g : Going s H R write h₀ r₀ i sec h r m hnow rnow) (R′ : ℕ) (k : R ≡ R′) where

@@ -1,16 +1,16 @@
 -- Larger rooms change no refusal but 8, and the lent memory keeps its length whatever is answered. Assumes nothing.
-use Prim.Native.Nat.{ℕ, _*_, _/_, _≤_, min}
+use Prim.Native.Nat.{ℕ, _≤_, min}
 use mathlib.Core.Path.{_≡_, refl, sym}
 use mathlib.Core.List.{List, [], _∷_}
 use native.Mathlib.Omega.{arith}
-use native.Mathlib.Nat.{suc-mul}
-use lib.ListN.{length, length-append, length-drop}
+use lib.ListN.{length}
 use Rattle.error.specs.Refusal.{Refusal, Told, good, bad}
 use Rattle.statement.specs.Row.{mapped}
 use Rattle.statement.specs.declared.Section.{Section}
 use Rattle.scan.specs.File.{Table, withHeader, withRecord, scanOf}
-use Rattle.scan.specs.Table.{six, four, flat, laid, headersAfter, rowsAfter}
-use Rattle.scan.specs.Laws.{flat-length}
+use Rattle.table.specs.Table.{rowsIn, headersIn}
+use Rattle.table.specs.Laid.{rows-laid-length, headers-laid-length}
+use Rattle.scan.specs.Table.{headerRoom, dataRoom, headersAfter, rowsAfter}
 use Rattle.scan.specs.Form.{Reads, Scans}
 use Rattle.scan.specs.FormRight.{scans-is, scans-only}
 use Rattle.scan.specs.FormRight.Numbers.{IfBad}
@@ -47,29 +47,24 @@ pub refusal-roomy : (s : List ℕ) (H R : ℕ) (q : Refusal) → scanOf s H R �
     → (H' R' : ℕ) → H ≤ H' → R ≤ R' → scanOf s H' R' ≡ bad q
 refusal-roomy s H R q e n H' R' h r = sym (scans-only (scans-larger s H' R' h r (rw e at (scans-is s H R)) n))
 
-module _ {A : Type 0} (n : ℕ) (f : A → List ℕ) (e : (w : A) → length (f w) ≡ n) where
-  -- memory keeps its length where so many rows are laid into it, if it has the room
-  laid-length : (ws : List A) (old : List ℕ) → length ws * n ≤ length old → length (laid (flat f ws) old) ≡ length old
-  laid-length ws old h = let k = flat-length n f e ws in simp (length-append, length-drop) (omega arith)
-
--- the lent header rows, of four numbers each, keep their length
-pub headers-length : (s : List ℕ) (H R : ℕ) (old : List ℕ) → H ≤ length old / 4 → length (headersAfter (scanOf s H R) old) ≡ length old
+-- the lent header rows keep their length
+pub headers-length : (s : List ℕ) (H R : ℕ) (old : List ℕ) → H ≤ headersIn (length old) → length (headersAfter (scanOf s H R) old) ≡ length old
 headers-length s H R old h = go (scanOf s H R) refl
   where
     go : (x : Told Table) → scanOf s H R ≡ x → length (headersAfter x old) ≡ length old
-    go (good t) e = laid-length 4 four (λ w. refl) (t .headers) old (omega (arith, scan-fit s H R t e))
+    go (good t) e = headers-laid-length (t .headers) old (omega (arith, scan-fit s H R t e))
     go (bad q) e = refl
 
--- and so do the lent data rows, of six numbers each
-pub rows-length : (s : List ℕ) (H R : ℕ) (old : List ℕ) → R ≤ length old / 6 → length (rowsAfter (scanOf s H R) old) ≡ length old
+-- and so do the lent data rows
+pub rows-length : (s : List ℕ) (H R : ℕ) (old : List ℕ) → R ≤ rowsIn (length old) → length (rowsAfter (scanOf s H R) old) ≡ length old
 rows-length s H R old h = go (scanOf s H R) refl
   where
     go : (x : Told Table) → scanOf s H R ≡ x → length (rowsAfter x old) ≡ length old
-    go (good t) e = laid-length 6 six (λ w. refl) (t .records) old (omega (arith, scan-fit s H R t e))
+    go (good t) e = rows-laid-length (t .records) old (omega (arith, scan-fit s H R t e))
     go (bad q) e = refl
 
 -- with as many rows lent as the memory and the slots for ids hold, both keep their length
 pub lent-length : (s headers rows : List ℕ) (slots : ℕ)
-    → let x = scanOf s (length headers / 4) (min (length rows / 6) slots) in
+    → let x = scanOf s (headerRoom headers) (dataRoom rows slots) in
     (length (headersAfter x headers) ≡ length headers) × (length (rowsAfter x rows) ≡ length rows)
 lent-length s headers rows slots = (headers-length s _ _ headers (omega arith), rows-length s _ _ rows (omega arith))

@@ -1,19 +1,19 @@
 -- A run of tidy data records, as the writing pass reads them one after the other: what it leaves, and that it is what the reading takes
 -- statement by statement. No contract of a public function cites it. Assumes nothing.
-use Prim.Native.Nat.{ℕ, _+_, _*_, _/_, _≤_, _<_, max}
+use Prim.Native.Nat.{ℕ, _+_, _≤_, _<_, max}
 use mathlib.Core.Path.{_≡_, refl, sym, _∙_, ap, subst}
 use mathlib.Core.Bool.{Bool, true, false, _&&_}
 use mathlib.Core.List.{List}
 use native.Mathlib.Omega.{arith}
 use lib.ListN.{length, drop}
-use lib.Seq.{sets, length-sets}
 use Rattle.common.specs.Pick.{pick}
 use Rattle.common.specs.Compare.{clash}
 use Rattle.statement.specs.Row.{Row}
 use Rattle.statement.specs.Statement.{record′, statement}
 use Rattle.statement.specs.Tidy.{tidy}
 use Rattle.statement.specs.declared.Section.the-variants.{InData}
-use Rattle.scan.specs.Table.{six}
+use Rattle.table.specs.Table.{rowsIn, rowPut}
+use Rattle.table.specs.Laws.{row-put-length}
 use Rattle.scan.specs.Laws.{Going, going-record}
 use Rattle.scan.specs.Neat.{Tidying, tidying-record}
 
@@ -22,7 +22,7 @@ use Rattle.scan.specs.Neat.{Tidying, tidying-record}
 pub data Ran (s : List ℕ) (room : ℕ) (known : Bool) (i r m : ℕ) (xs : List ℕ) : ℕ → ℕ → ℕ → List ℕ → Type 0 where
   none : Ran s room known i r m xs i r m xs
   more : {j q k : ℕ} {ys : List ℕ} → Ran s room known i r m xs j q k ys → known ≡ true → (w : Row) (p n : ℕ) → record′ w (drop p s) (drop n s) ≡ statement s InData (drop j s)
-      → tidy s (statement s InData (drop j s)) ≡ true → j < n → n ≤ length s → q < room → Ran s room known i r m xs n (q + 1) (max k (w .id)) (sets ys (q * 6) (six w))
+      → tidy s (statement s InData (drop j s)) ≡ true → j < n → n ≤ length s → q < room → Ran s room known i r m xs n (q + 1) (max k (w .id)) (rowPut ys q w)
 
 module _ (s : List ℕ) (room : ℕ) (known : Bool) (i r m : ℕ) (xs : List ℕ) where
   -- it goes forwards
@@ -38,15 +38,15 @@ module _ (s : List ℕ) (room : ℕ) (known : Bool) (i r m : ℕ) (xs : List ℕ
   -- the rows are as many numbers as before
   pub ran-length : {j q k : ℕ} {ys : List ℕ} → Ran s room known i r m xs j q k ys → length ys ≡ length xs
   ran-length Ran.none = refl
-  ran-length (Ran.more {ys = ys} h e w p n d t l b a) = length-sets ys _ (six w) ∙ ran-length h
+  ran-length (Ran.more {q = q} {ys = ys} h e w p n d t l b a) = row-put-length ys q w ∙ ran-length h
 
   -- the reading goes on as if each record had been taken by itself
-  pub going-ran : (H : ℕ) (write : Bool) (h₀ r₀ : List ℕ) (h : ℕ) (hnow : List ℕ) {j q k : ℕ} {ys : List ℕ} → room ≤ length r₀ / 6 → (known ≡ true → write ≡ true)
+  pub going-ran : (H : ℕ) (write : Bool) (h₀ r₀ : List ℕ) (h : ℕ) (hnow : List ℕ) {j q k : ℕ} {ys : List ℕ} → room ≤ rowsIn (length r₀) → (known ≡ true → write ≡ true)
       → Going s H room write h₀ r₀ i InData h r m hnow xs → Ran s room known i r m xs j q k ys → Going s H room write h₀ r₀ j InData h q k hnow ys
   going-ran H write h₀ r₀ h hnow o f g Ran.none = g
   going-ran H write h₀ r₀ h hnow o f g (Ran.more {j} {q} {k} {ys} z e w p n d t l b a) =
       subst (λ (zs : List ℕ). Going s H room write h₀ r₀ n InData h (q + 1) (max k (w .id)) hnow zs)
-      (ap (λ (c : Bool). pick c (sets ys (q * 6) (six w)) ys) (f e))
+      (ap (λ (c : Bool). pick c (rowPut ys q w) ys) (f e))
       (going-record s H room write h₀ r₀ j InData h q k hnow ys (going-ran H write h₀ r₀ h hnow o f g z) w p n d l b a (omega arith))
 
 -- one of two tests that holds

@@ -9,7 +9,7 @@ use lib.ListN.{length}
 use Rattle.error.specs.Refusal.{Refusal, refusal, Told, good, bad}
 use Rattle.statement.specs.Row.{mapped}
 use Rattle.scan.specs.File.{Table, marked, readingOf, scanOf}
-use Rattle.scan.specs.Table.{headerNumbers, recordNumbers, laid, headersAfter, rowsAfter, Counts, countsOf}
+use Rattle.scan.specs.Table.{headersOf, recordsOf, headersAfter, rowsAfter, Counts, countsOf}
 use Rattle.scan.specs.Laws.{Written, Left}
 
 -- what the scan owes: its answer, and the lent rows after it
@@ -44,7 +44,7 @@ module _ (s : List ℕ) (H R : ℕ) (h₀ r₀ : List ℕ) where
       pub scan-done : (n : Counts) (a : Told Counts) (hnow rnow : List ℕ) → good n ≡ mapped countsOf (readingOf s H R) → Left s H R true h₀ r₀ hnow rnow a → Leaves s H R h₀ r₀ hnow rnow a
       scan-done n a hnow rnow k w = rw scan-reads (go (readingOf s H R) k (w .0) (w .1 .0) (w .1 .1))
         where
-          go : (x : Told Table) → good n ≡ mapped countsOf x → a ≡ mapped countsOf x → Written true x headerNumbers h₀ hnow → Written true x recordNumbers r₀ rnow
+          go : (x : Told Table) → good n ≡ mapped countsOf x → a ≡ mapped countsOf x → Written true x headersOf h₀ hnow → Written true x recordsOf r₀ rnow
               → (a ≡ mapped countsOf x) × ((hnow ≡ headersAfter x h₀) × (rnow ≡ rowsAfter x r₀))
           go (good t) k e p q = (e, (p, q))
           go (bad p) k e v q = let z : _≡_ {A = ℕ} 0 1 = cc in absurd (omega arith)

@@ -4,9 +4,8 @@
 // changes nothing that was lent. Nothing is sized by an id: a record takes one row and one id slot, whatever its number.
 ghost use mathlib.Core.Path.{_≡_};
 ghost use mathlib.Core.Bool.{true, false};
-ghost use Prim.Native.Nat.{_+_, _*_, _/_, _≤_, _<_, max};
+ghost use Prim.Native.Nat.{_+_, _≤_, _<_, min, max};
 ghost use lib.ListN.{length, take, drop};
-ghost use lib.Seq.{sets};
 ghost use Rattle.common.specs.Pick.{pick};
 ghost use Rattle.lex.specs.Byte.{white};
 ghost use Rattle.record.specs.Text.{past};
@@ -16,7 +15,8 @@ ghost use Rattle.statement.specs.Statement.{rowOf, headerRowOf, toldSaid, Ahead
 ghost use Rattle.statement.specs.Tidy.{tidy, TidyAhead};
 ghost use Rattle.statement.specs.declared.Section.the-variants.{Outside, InData};
 ghost use Rattle.scan.specs.File.{scanOf, marked, readingOf};
-ghost use Rattle.scan.specs.Table.{headerRoom, dataRoom, six, four, headerNumbers, recordNumbers, toldScan, countsOf, headersAfter, rowsAfter};
+ghost use Rattle.table.specs.Table.{rowsIn, headersIn, rowPut, headerPut};
+ghost use Rattle.scan.specs.Table.{headerRoom, dataRoom, headersOf, recordsOf, toldScan, countsOf, headersAfter, rowsAfter};
 ghost use Rattle.scan.specs.Laws.{Written};
 ghost use Rattle.scan.specs.Neat.{Neat, toldPassed, NeatTold};
 ghost use Rattle.scan.specs.Run.{Ran};
@@ -77,38 +77,28 @@ fn is_marked(s: &[u8]) -> bool
     is_marker(s)
 }
 
-// Stores a header row as row k, where the pass writes, and answers the next row's number.
+// Puts a header row as row k, where the pass writes, and answers the next row's number.
 fn put_header(out: &mut [u32], k: usize, span: HeaderSpan, write: bool) -> usize
-    requires { ⌜ (k * 4 + 4 ≤ length (now out)) × HeaderFits 4294967295 (headerRowOf span) ⌝ }
-    ensures { λ _. ⌜ now (out .exit) ≡ pick write (sets (now (out .entry)) (k * 4) (four (headerRowOf span))) (now (out .entry)) ⌝ }
+    requires { ⌜ (k < headersIn (length (now out))) × HeaderFits 4294967295 (headerRowOf span) ⌝ }
+    ensures { λ _. ⌜ now (out .exit) ≡ pick write (headerPut (now (out .entry)) k (headerRowOf span)) (now (out .entry)) ⌝ }
     ensures { λ r. ⌜ r ≡ k + 1 ⌝ }
 {
     if !write {
         return k + 1;
     }
-    let at = k * 4;
-    out[at] = span.keyword.start as u32;
-    out[at + 1] = span.keyword.end as u32;
-    out[at + 2] = span.args.start as u32;
-    out[at + 3] = span.args.end as u32;
+    table::put_header(out, k, span);
     k + 1
 }
 
-// Stores a data row as row k, where the pass writes.
+// Puts a data row as row k, where the pass writes.
 fn put_record(out: &mut [u32], k: usize, span: RecordSpan, write: bool)
-    requires { ⌜ (k * 6 + 6 ≤ length (now out)) × RecordFits 4294967295 (rowOf span) ⌝ }
-    ensures { λ _. ⌜ now (out .exit) ≡ pick write (sets (now (out .entry)) (k * 6) (six (rowOf span))) (now (out .entry)) ⌝ }
+    requires { ⌜ RecordFits 4294967295 (rowOf span) ⌝ }
+    ensures { λ _. ⌜ now (out .exit) ≡ pick write (rowPut (now (out .entry)) k (rowOf span)) (now (out .entry)) ⌝ }
 {
     if !write {
         return;
     }
-    let at = k * 6;
-    out[at] = span.id;
-    out[at + 1] = span.keyword.start as u32;
-    out[at + 2] = span.keyword.end as u32;
-    out[at + 3] = span.args.start as u32;
-    out[at + 4] = span.args.end as u32;
-    out[at + 5] = span.complex;
+    table::put_row(out, k, span);
 }
 
 fn rows_found(headers: usize, records: usize, max: u32) -> Scanned
@@ -139,7 +129,7 @@ fn run(
     largest: u32,
     known: bool,
 ) -> Reached
-    requires { ⌜ (length (now s) ≤ 4294967295) × (from ≤ length (now s)) × (room ≤ length (now rows) / 6) × (known ≡ true → Neat (now s) InData (drop from (now s))) ⌝ }
+    requires { ⌜ (length (now s) ≤ 4294967295) × (from ≤ length (now s)) × (room ≤ rowsIn (length (now rows))) × (known ≡ true → Neat (now s) InData (drop from (now s))) ⌝ }
     ensures { λ t. ⌜ Ran (now (s .entry)) room known from stored largest (now (rows .entry)) (t .place) (t .count) (t .max) (now (rows .exit)) ⌝ }
 {
     let mut place = from;
@@ -157,6 +147,13 @@ fn run(
     Reached { place, count, max }
 }
 
+// How many data rows so many numbers and slots hold.
+fn data_room(numbers: usize, slots: usize) -> usize
+    ensures { λ r. ⌜ r ≡ min (rowsIn numbers) slots ⌝ }
+{
+    common::within(table::rows_in(numbers), slots)
+}
+
 // Reads the file in order: counts, and where `write` is set stores each row. What is stored before a refusal stays, so
 // the scan writes only where an earlier pass has found none. Where every data record is known to be tidy nothing of those that follow
 // the first of a section is tested again.
@@ -170,11 +167,11 @@ fn pass(
 ) -> Passed
     requires { ⌜ (length (now s) ≤ 4294967295) × (known ≡ true → write ≡ true) × (known ≡ true → Neat (now s) Outside (now s)) ⌝ }
     ensures { λ r. ⌜ toldPassed r ≡ mapped countsOf (readingOf (now (s .entry)) (headerRoom (now (headers .entry))) (dataRoom (now (rows .entry)) slots)) ⌝ }
-    ensures { λ _. ⌜ Written write (readingOf (now (s .entry)) (headerRoom (now (headers .entry))) (dataRoom (now (rows .entry)) slots)) headerNumbers (now (headers .entry)) (now (headers .exit)) ⌝ }
-    ensures { λ _. ⌜ Written write (readingOf (now (s .entry)) (headerRoom (now (headers .entry))) (dataRoom (now (rows .entry)) slots)) recordNumbers (now (rows .entry)) (now (rows .exit)) ⌝ }
+    ensures { λ _. ⌜ Written write (readingOf (now (s .entry)) (headerRoom (now (headers .entry))) (dataRoom (now (rows .entry)) slots)) headersOf (now (headers .entry)) (now (headers .exit)) ⌝ }
+    ensures { λ _. ⌜ Written write (readingOf (now (s .entry)) (headerRoom (now (headers .entry))) (dataRoom (now (rows .entry)) slots)) recordsOf (now (rows .entry)) (now (rows .exit)) ⌝ }
     ensures { λ r. ⌜ NeatTold (now (s .entry)) r ⌝ }
 {
-    let room = common::within(rows.len() / 6, slots);
+    let room = data_room(rows.len(), slots);
     let mut i = 0;
     let mut section = Section::Outside;
     let mut h: usize = 0;
@@ -193,7 +190,7 @@ fn pass(
                 i = next;
             }
             Said::Heads(span, start, next) => {
-                if headers.len() / 4 <= h {
+                if table::headers_in(headers.len()) <= h {
                     return Passed::Stopped(Fault::NoRow(start));
                 }
                 h = put_header(headers, h, span, write);

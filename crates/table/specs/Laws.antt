@@ -7,7 +7,7 @@ use mathlib.Core.List.{List, []}
 use native.Mathlib.Omega.{arith}
 use lib.Dec.{ltb}
 use lib.ListN.{length, getD}
-use lib.Seq.{sets}
+use lib.Seq.{sets, length-sets}
 use borrow.Author.Tests.{ltb-true, ltb-false, lt-ltb, le-ltb}
 use Rattle.common.specs.Pick.{pick}
 use Rattle.statement.specs.Row.{Row, row, HeaderRow, headerRow}
@@ -97,3 +97,19 @@ header-read heads k h =
     let z = field-there 4 heads k (omega (arith, h)) in
     let e : k * 4 ≡ k * 4 + 0 = omega arith in
     sym (header-same (z 0 ∙ ap (λ (j : ℕ). getD heads j 0) (sym e)) (z 1) (z 2) (z 3))
+
+-- a row that is put changes no length
+pub row-put-length : (rows : List ℕ) (k : ℕ) (w : Row) → length (rowPut rows k w) ≡ length rows
+row-put-length rows k w = go (ltb k (rowsIn (length rows)))
+  where
+    go : (t : Bool) → length (pick t (sets rows (k * 6) (six w)) rows) ≡ length rows
+    go true = length-sets rows (k * 6) (six w)
+    go false = refl
+
+-- nor does a header row
+pub header-put-length : (heads : List ℕ) (k : ℕ) (w : HeaderRow) → length (headerPut heads k w) ≡ length heads
+header-put-length heads k w = go (ltb k (headersIn (length heads)))
+  where
+    go : (t : Bool) → length (pick t (sets heads (k * 4) (four w)) heads) ≡ length heads
+    go true = length-sets heads (k * 4) (four w)
+    go false = refl

@@ -1,3 +1,4 @@
+use Rattle.scan.specs.Table.{headerRoom}
 use Rattle.scan.specs.Fits.{statement-fits, header-fits-more, record-fits-more}
 use Rattle.scan.specs.Laws.{Going, going-starts, going-refused, going-moves, header-full, record-full, going-header, going-record, done, failed}
 use Rattle.scan.specs.Run.{ran-on, ran-length, going-ran, tidying-ran}
@@ -14,20 +15,20 @@ use Rattle.scan.proofs.pass.Tie as tie
 
 abbrev Inv-loop : tie.InvT-loop
 Inv-loop s headers₀ rows₀ slots write known room i₀ section₀ h₀ r₀ max₀ all₀ headers rows i section h r max all =
-    (length headers ≡ length headers₀) × (length rows ≡ length rows₀) × Going s (length headers₀ / 4) room write headers₀ rows₀ i section h r max headers rows × Tidying s known all i section
+    (length headers ≡ length headers₀) × (length rows ≡ length rows₀) × Going s (headerRoom headers₀) room write headers₀ rows₀ i section h r max headers rows × Tidying s known all i section
 
 abbrev μ-loop : tie.MeasureT-loop
 μ-loop s headers₀ rows₀ slots write known room i₀ section₀ h₀ r₀ max₀ all₀ headers rows i section h r max all = length s - i
 
-within-requires : tie.Need-within-requires Inv-loop μ-loop
-within-requires c κs = search needs
+data-room-requires : tie.Need-data-room-requires Inv-loop μ-loop
+data-room-requires c κs = search needs
 
 loop-holds : tie.Need-loop-holds Inv-loop μ-loop
 loop-holds c = let b = c .before .before .before .before in
     let a = b .args in (
       refl,
       refl,
-      going-starts (now (a .s)) (length (now (a .headers)) / 4) (c .within .result) (a .write) (now (a .headers)) (now (a .rows)),
+      going-starts (now (a .s)) (headerRoom (now (a .headers))) (c .data-room .result) (a .write) (now (a .headers)) (now (a .rows)),
       tidying-starts (now (a .s)) (a .known) (b .pre .2),
     )
 
@@ -52,7 +53,7 @@ returns c = let n = c .before .before .before in
     let g = t .loop .inv .2 in
     let y = t .loop .inv .3 in
     let b = n .noted-statement .ensures .1 .1 in
-    let l = done _ _ _ _ _ _ _ _ _ _ _ _ _ g _ (t .before .within .ensures) e in
+    let l = done _ _ _ _ _ _ _ _ _ _ _ _ _ g _ (t .before .data-room .ensures) e in
     (l .0, (l .1 .0, (l .1 .1, tidying-ends _ _ _ _ _ y _ b e)))
 
 enum-known-said : tie.Need-enum-known-said Inv-loop μ-loop
@@ -73,7 +74,7 @@ returns-2 c = let n = c .before .before .before .before in
     let g = t .loop .inv .2 in
     let y = t .loop .inv .3 in
     let b = n .noted-statement .ensures .1 .1 in
-    let l = failed _ _ _ _ _ _ _ _ _ _ _ _ _ g _ (t .before .within .ensures) _ (going-refused _ _ _ _ _ _ _ _ _ _ _ _ _ g _ e) in
+    let l = failed _ _ _ _ _ _ _ _ _ _ _ _ _ g _ (t .before .data-room .ensures) _ (going-refused _ _ _ _ _ _ _ _ _ _ _ _ _ g _ e) in
     (l .0, (l .1 .0, (l .1 .1, tt)))
 
 enum-known-said-2 : tie.Need-enum-known-said-2 Inv-loop μ-loop
@@ -106,6 +107,9 @@ loop-again c = let n = c .before .before .before .before in
 enum-known-said-3 : tie.Need-enum-known-said-3 Inv-loop μ-loop
 enum-known-said-3 c = search needs
 
+headers-in-requires : tie.Need-headers-in-requires Inv-loop μ-loop
+headers-in-requires c κs = search needs
+
 same-length-5 : tie.Need-same-length-5 Inv-loop μ-loop
 same-length-5 c = search needs
 
@@ -113,20 +117,7 @@ same-length-6 : tie.Need-same-length-6 Inv-loop μ-loop
 same-length-6 c = search needs
 
 returns-3 : tie.Need-returns-3 Inv-loop μ-loop
-returns-3 c = let n = c .before .before .before .before .before in
-    let t = n .before in
-    let a = c .before .before .before .before .before .before .before .before .before .before .before .args in
-    let v = c .before .before .said3 in
-    let e = sym (ap (toldSaid (now (a .s))) (v .given .1)) ∙ n .noted-statement .ensures .0 in
-    let w = rw (v .given .1) at (n .noted-statement .ensures .1 .0) in
-    let g = t .loop .inv .2 in
-    let y = t .loop .inv .3 in
-    let b = n .noted-statement .ensures .1 .1 in
-    let l = failed _ _ _ _ _ _ _ _ _ _ _ _ _ g _ (t .before .within .ensures) _ (header-full _ _ _ _ _ _ _ _ _ _ _ _ _ g _ (v .given .0 .1 .0) (v .given .0 .1 .1 .0) (omega arith) e (omega (arith, c .if1 .taken, t .loop .inv .0))) in
-    (l .0, (l .1 .0, (l .1 .1, tt)))
-
-put-header-requires : tie.Need-put-header-requires Inv-loop μ-loop
-put-header-requires c κs = let n = c .before .before .before .before .before .before in
+returns-3 c = let n = c .before .before .before .before .before .before in
     let t = n .before in
     let a = c .before .before .before .before .before .before .before .before .before .before .before .before .args in
     let v = c .before .before .before .said3 in
@@ -135,13 +126,26 @@ put-header-requires c κs = let n = c .before .before .before .before .before .b
     let g = t .loop .inv .2 in
     let y = t .loop .inv .3 in
     let b = n .noted-statement .ensures .1 .1 in
+    let l = failed _ _ _ _ _ _ _ _ _ _ _ _ _ g _ (t .before .data-room .ensures) _ (header-full _ _ _ _ _ _ _ _ _ _ _ _ _ g _ (v .given .0 .1 .0) (v .given .0 .1 .1 .0) (omega arith) e (omega (arith, c .if1 .taken, t .loop .inv .0, c .before .headers-in .ensures))) in
+    (l .0, (l .1 .0, (l .1 .1, tt)))
+
+put-header-requires : tie.Need-put-header-requires Inv-loop μ-loop
+put-header-requires c κs = let n = c .before .before .before .before .before .before .before in
+    let t = n .before in
+    let a = c .before .before .before .before .before .before .before .before .before .before .before .before .before .args in
+    let v = c .before .before .before .before .said3 in
+    let e = sym (ap (toldSaid (now (a .s))) (v .given .1)) ∙ n .noted-statement .ensures .0 in
+    let w = rw (v .given .1) at (n .noted-statement .ensures .1 .0) in
+    let g = t .loop .inv .2 in
+    let y = t .loop .inv .3 in
+    let b = n .noted-statement .ensures .1 .1 in
     (omega arith, header-fits-more (length (now (a .s))) 4294967295 _ (omega arith) (rw (sym e) at (statement-fits (now (a .s)) (t .loop .section) (drop (t .loop .i) (now (a .s))))))
 
 loop-less-2 : tie.Need-loop-less-2 Inv-loop μ-loop
-loop-less-2 c = let n = c .before .before .before .before .before .before .before .before .before in
+loop-less-2 c = let n = c .before .before .before .before .before .before .before .before .before .before in
     let t = n .before in
-    let a = c .before .before .before .before .before .before .before .before .before .before .before .before .before .before .before .args in
-    let v = c .before .before .before .before .before .before .said3 in
+    let a = c .before .before .before .before .before .before .before .before .before .before .before .before .before .before .before .before .args in
+    let v = c .before .before .before .before .before .before .before .said3 in
     let e = sym (ap (toldSaid (now (a .s))) (v .given .1)) ∙ n .noted-statement .ensures .0 in
     let w = rw (v .given .1) at (n .noted-statement .ensures .1 .0) in
     let g = t .loop .inv .2 in
@@ -150,10 +154,10 @@ loop-less-2 c = let n = c .before .before .before .before .before .before .befor
     omega arith
 
 loop-again-2 : tie.Need-loop-again-2 Inv-loop μ-loop
-loop-again-2 c = let n = c .before .before .before .before .before .before .before .before .before in
+loop-again-2 c = let n = c .before .before .before .before .before .before .before .before .before .before in
     let t = n .before in
-    let a = c .before .before .before .before .before .before .before .before .before .before .before .before .before .before .before .args in
-    let v = c .before .before .before .before .before .before .said3 in
+    let a = c .before .before .before .before .before .before .before .before .before .before .before .before .before .before .before .before .args in
+    let v = c .before .before .before .before .before .before .before .said3 in
     let e = sym (ap (toldSaid (now (a .s))) (v .given .1)) ∙ n .noted-statement .ensures .0 in
     let w = rw (v .given .1) at (n .noted-statement .ensures .1 .0) in
     let g = t .loop .inv .2 in
@@ -185,7 +189,7 @@ returns-4 c = let n = c .before .before .before .before .before in
     let g = t .loop .inv .2 in
     let y = t .loop .inv .3 in
     let b = n .noted-statement .ensures .1 .1 in
-    let l = failed _ _ _ _ _ _ _ _ _ _ _ _ _ g _ (t .before .within .ensures) _ (record-full _ _ _ _ _ _ _ _ _ _ _ _ _ g _ (v .given .0 .1 .0) (v .given .0 .1 .1 .0) (omega arith) e (c .if2 .taken)) in
+    let l = failed _ _ _ _ _ _ _ _ _ _ _ _ _ g _ (t .before .data-room .ensures) _ (record-full _ _ _ _ _ _ _ _ _ _ _ _ _ g _ (v .given .0 .1 .0) (v .given .0 .1 .1 .0) (omega arith) e (c .if2 .taken)) in
     (l .0, (l .1 .0, (l .1 .1, tt)))
 
 put-record-requires : tie.Need-put-record-requires Inv-loop μ-loop
@@ -198,10 +202,10 @@ put-record-requires c κs = let n = c .before .before .before .before .before .b
     let g = t .loop .inv .2 in
     let y = t .loop .inv .3 in
     let b = n .noted-statement .ensures .1 .1 in
-    (omega (arith, t .before .within .ensures), record-fits-more (length (now (a .s))) 4294967295 _ (omega arith) (rw (sym e) at (statement-fits (now (a .s)) (t .loop .section) (drop (t .loop .i) (now (a .s))))))
+    record-fits-more (length (now (a .s))) 4294967295 _ (omega arith) (rw (sym e) at (statement-fits (now (a .s)) (t .loop .section) (drop (t .loop .i) (now (a .s)))))
 
 add-run : tie.Need-add-run Inv-loop μ-loop
-add-run c = let t = c .before .before .before .before .before .before .before .before .before .before .before in omega (arith, t .before .within .ensures)
+add-run c = let t = c .before .before .before .before .before .before .before .before .before .before .before in omega (arith, t .before .data-room .ensures)
 
 greater-requires : tie.Need-greater-requires Inv-loop μ-loop
 greater-requires c κs = search needs
@@ -219,7 +223,7 @@ run-requires c κs = let n = c .before .before .before .before .before .before .
     let d = n .noted-statement .ensures .1 .1 in
     let p = c .before .before .before .before .put-record in
     let l = p .kept .0 ∙ t .loop .inv .1 in
-    (b .pre .0, w .2, omega (arith, l, t .before .within .ensures), tidying-record _ _ _ _ _ y _ d _ (v .given .0 .1 .0) (v .given .0 .1 .1 .0) e .ahead)
+    (b .pre .0, w .2, omega (arith, l, t .before .data-room .ensures), tidying-record _ _ _ _ _ y _ d _ (v .given .0 .1 .0) (v .given .0 .1 .1 .0) e .ahead)
 
 loop-less-3 : tie.Need-loop-less-3 Inv-loop μ-loop
 loop-less-3 c = let n = c .before .before .before .before .before .before .before .before .before .before .before .before .before .before in
@@ -251,8 +255,8 @@ loop-again-3 c = let n = c .before .before .before .before .before .before .befo
     let l = ran-length _ _ _ _ _ _ _ (u .ensures) in (
       t .loop .inv .0,
       l ∙ p .kept .0 ∙ t .loop .inv .1,
-      going-ran _ _ _ _ _ _ _ _ _ _ _ _ _ (omega (arith, t .before .within .ensures)) (b .pre .1)
-          (rw (p .ensures, c .before .before .before .greater .ensures) (going-record _ _ _ _ _ _ _ _ _ _ _ _ _ g _ (v .given .0 .1 .0) _ e (w .0) (w .2) (c .before .before .before .before .before .before .before .before .before .if2 .left) (omega (arith, c .before .before .before .before .before .before .before .before .before .if2 .left, t .before .within .ensures))))
+      going-ran _ _ _ _ _ _ _ _ _ _ _ _ _ (omega (arith, t .before .data-room .ensures)) (b .pre .1)
+          (rw (p .ensures, c .before .before .before .greater .ensures) (going-record _ _ _ _ _ _ _ _ _ _ _ _ _ g _ (v .given .0 .1 .0) _ e (w .0) (w .2) (c .before .before .before .before .before .before .before .before .before .if2 .left) (omega (arith, c .before .before .before .before .before .before .before .before .before .if2 .left, t .before .data-room .ensures))))
           (u .ensures),
       tidying-ran _ _ _ _ _ _ _ _ (tidying-record _ _ _ _ _ y _ d _ (v .given .0 .1 .0) _ e) (u .ensures),
     )
@@ -263,7 +267,7 @@ pass-spec =
     (tie.spec
     Inv-loop
     μ-loop
-    within-requires
+    data-room-requires
     loop-holds
     noted-statement-requires
     enum-told
@@ -278,6 +282,7 @@ pass-spec =
     loop-less
     loop-again
     enum-known-said-3
+    headers-in-requires
     same-length-5
     same-length-6
     returns-3

@@ -1,8 +1,10 @@
-use lib.ListN.{length-set}
-use native.Mathlib.Numerals.{towards-suc}
-use native.Mathlib.Omega.{arith}
+use Prim.Native.Nat.{ℕ}
+use mathlib.Core.Path.{refl, sym, _∙_, ap}
 use borrow.Author.Tests.{not-true, not-false}
-use mathlib.Core.Path.{refl}
+use Rattle.statement.specs.Row.{HeaderRow}
+use Rattle.statement.specs.Statement.{headerRowOf}
+use Rattle.table.specs.Table.{headerPut}
+use Rattle.table.specs.Laws.{narrow-header}
 use borrow.Author.Needs.{needs}
 use Rattle.scan.proofs.put_header.Statement.{statement}
 use Rattle.scan.proofs.put_header.Tie as tie
@@ -11,55 +13,10 @@ add-result : tie.Need-add-result
 add-result c = search needs
 
 returns : tie.Need-returns
-returns c = (rw (not-true (c .before .args .write) (c .if1 .taken)) refl, refl)
+returns c = (rw (not-true (c .before .before .args .write) (c .if1 .taken)) refl, refl)
 
-mul-at : tie.Need-mul-at
-mul-at c = search needs
-
-cast-out : tie.Need-cast-out
-cast-out c = search needs
-
-mul-out : tie.Need-mul-out
-mul-out c = search needs
-
-slice-write-out : tie.Need-slice-write-out
-slice-write-out c = search needs
-
-cast-out-2 : tie.Need-cast-out-2
-cast-out-2 c = search needs
-
-add-out : tie.Need-add-out
-add-out c = search needs
-
-mul-out-2 : tie.Need-mul-out-2
-mul-out-2 c = search needs
-
-slice-write-out-2 : tie.Need-slice-write-out-2
-slice-write-out-2 c = simp length-set (omega arith)
-
-cast-out-3 : tie.Need-cast-out-3
-cast-out-3 c = search needs
-
-add-out-2 : tie.Need-add-out-2
-add-out-2 c = search needs
-
-mul-out-3 : tie.Need-mul-out-3
-mul-out-3 c = search needs
-
-slice-write-out-3 : tie.Need-slice-write-out-3
-slice-write-out-3 c = simp length-set (omega arith)
-
-cast-out-4 : tie.Need-cast-out-4
-cast-out-4 c = search needs
-
-add-out-3 : tie.Need-add-out-3
-add-out-3 c = search needs
-
-mul-out-4 : tie.Need-mul-out-4
-mul-out-4 c = search needs
-
-slice-write-out-4 : tie.Need-slice-write-out-4
-slice-write-out-4 c = simp length-set (omega arith)
+put-header-requires : tie.Need-put-header-requires
+put-header-requires c κs = search needs
 
 add-result-2 : tie.Need-add-result-2
 add-result-2 c = search needs
@@ -68,30 +25,11 @@ same-length : tie.Need-same-length
 same-length c = search needs
 
 returns-2 : tie.Need-returns-2
-returns-2 c = (rw (not-false (c .before .before .before .before .before .args .write) (c .before .before .before .before .if1 .left)) (simp towards-suc), refl)
+returns-2 c =
+    let a = c .before .before .before .before .before .before .args in
+    let f = c .before .before .before .before .before .before .pre .1 in
+    (rw (not-false (a .write) (c .before .before .before .before .if1 .left)) (c .before .before .put-header .ensures ∙ ap (λ (w : HeaderRow). headerPut (a .out .now) (a .k) w) (narrow-header (headerRowOf (a .span)) (f .keyStart) (f .keyEnd) (f .argStart) (f .argEnd))), refl)
 
 pub put-header-spec : {M : Type 1} → statement M
 put-header-spec =
-    tie.close
-    (tie.spec
-    add-result
-    returns
-    mul-at
-    cast-out
-    mul-out
-    slice-write-out
-    cast-out-2
-    add-out
-    mul-out-2
-    slice-write-out-2
-    cast-out-3
-    add-out-2
-    mul-out-3
-    slice-write-out-3
-    cast-out-4
-    add-out-3
-    mul-out-4
-    slice-write-out-4
-    add-result-2
-    same-length
-    returns-2)
+    tie.close (tie.spec add-result returns put-header-requires add-result-2 same-length returns-2)

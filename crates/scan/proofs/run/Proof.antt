@@ -54,7 +54,7 @@ put-record-requires c κs = let b = c .before .before .before .before .before .b
     let w = rw (v .given .1) at (c .before .before .before .before .tidy-record .ensures .1) in
     let u = ran-length _ _ _ _ _ _ _ (t .inv .0) in
     let f = ltb-true (t .count) (a .room) (both (a .known) _ (c .before .before .before .before .before .loop-test .taken) .1) in
-    (omega (arith, u, f, b .pre .2), record-fits-more (length x) 4294967295 _ (b .pre .0) (rw (sym q) at (statement-fits x InData (drop (t .place) x))))
+    record-fits-more (length x) 4294967295 _ (b .pre .0) (rw (sym q) at (statement-fits x InData (drop (t .place) x)))
 
 add-count : tie.Need-add-count Inv-loop μ-loop
 add-count c = let b = c .before .before .before .before .before .before .before .before .before .before .before .before in
