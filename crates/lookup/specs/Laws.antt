@@ -1,4 +1,4 @@
--- Laws for the code: a search from a row on, by its rule and by its turns; and that a lookup's row lies in the table.
+-- Laws for the code: a search from a row on, by its rule and by its turns; and a lookup over what `build` left.
 -- Assumes nothing.
 use Prim.Native.Nat.{ℕ, zero, suc, _+_, _-_, _*_, _/_, _≤_, _<_, min}
 use mathlib.Core.Path.{_≡_, refl, sym, _∙_, ap, subst}
@@ -11,14 +11,14 @@ use native.Mathlib.Numerals.{add-one}
 use lib.ListN.{length}
 use Rattle.common.specs.Pick.{pick}
 use Rattle.common.specs.Compare.{clash, ordered, less-or}
-use Rattle.index.specs.Order.{tableRoom, idOf}
+use Rattle.table.specs.Table.{rowsIn, idOf}
+use Rattle.index.specs.Order.{tableRoom}
 use Rattle.index.specs.Lookup.{lookupOf}
 use Rattle.index.specs.Index.{Built}
 use Rattle.index.specs.Search.{searched}
-use Rattle.index.specs.SearchRight.{get-safe, get-right}
+use Rattle.index.specs.SearchRight.{get-right}
 use Rattle.index.specs.declared.Ids.{Ids}
-use Rattle.statement.specs.Row.{Row}
-use Rattle.lookup.specs.Lookup.{firstFrom, FirstForm, rowNumbers, rowFound}
+use Rattle.lookup.specs.Lookup.{firstFrom, FirstForm, rowFound}
 
 module _ (p : ℕ → Bool) where
   -- the test holds of row i
@@ -83,11 +83,7 @@ module _ (p : ℕ → Bool) where
       go (inl h) = subst (FirstForm p from n) (sym (first-ends n from (omega arith))) (λ j a b. absurd (omega arith))
       go (inr h) = subst (λ (z : ℕ). FirstForm p from z (firstFrom p (n - from) from)) (omega arith) (first-is (n - from) from)
 
--- the row that a lookup gives lies in the table
-pub found-fits : (rows slots : List ℕ) (b : Ids) (k r : ℕ) → some r ≡ searched rows slots b k → r * 6 + 6 ≤ length rows
-found-fits rows slots b k r e = let l = get-safe rows slots b k r (sym e) .0 in omega arith
-
 -- "Lookup of an id answers like a map written to in file order: the last record of that id, or none": `get` over what `build` left
-pub lookup-right : (rows old slots : List ℕ) (count k : ℕ) (b : Ids) → Built (idOf rows) (tableRoom (length rows) (length old) count) old slots b
-    → rowFound rows (searched rows slots b k) ≡ rowFound rows (lookupOf (idOf rows) (tableRoom (length rows) (length old) count) k)
-lookup-right rows old slots count k b h = ap (rowFound rows) (get-right rows old slots count k b h)
+pub lookup-right : (rows old slots : List ℕ) (count k : ℕ) (b : Ids) → Built (idOf rows) (tableRoom (rowsIn (length rows)) (length old) count) old slots b
+    → rowFound rows (searched rows slots b k) ≡ rowFound rows (lookupOf (idOf rows) (tableRoom (rowsIn (length rows)) (length old) count) k)
+lookup-right rows old slots count k b h = ap (rowFound rows) (get-right (idOf rows) (rowsIn (length rows)) old slots count k b h)

@@ -1,16 +1,17 @@
 -- Rows looked up: by number, by id, by kind.
 -- Assumes nothing.
-use Prim.Native.Nat.{ℕ, zero, suc, _+_, _*_, _/_, _-_, _≤_, _<_, min}
+use Prim.Native.Nat.{ℕ, zero, suc, _-_, _≤_, _<_}
 use mathlib.Core.Path.{_≡_}
 use mathlib.Core.Bool.{Bool, true, false, _&&_}
 use mathlib.Core.List.{List}
 use mathlib.Core.Option.{Option, none, some}
 use lib.Dec.{ltb, leb, eqb}
-use lib.ListN.{length, take, drop, getD}
+use lib.ListN.{length, take, drop}
 use Rattle.common.specs.Pick.{pick}
 use Rattle.error.specs.Refusal.{Refusal, refusal, Told, good, bad, told}
-use Rattle.statement.specs.Row.{Row, row}
+use Rattle.statement.specs.Row.{Row}
 use Rattle.statement.specs.Statement.{rowOf}
+use Rattle.table.specs.Table.{tableRows, rowNumbers}
 use Rattle.kinds.specs.Kind.{kindOf, rankOf}
 use Rattle.kinds.specs.declared.Kind.{Kind}
 use Rattle.kinds.specs.declared.Kind.the-variants.{Complex, Other}
@@ -22,15 +23,6 @@ use Rattle.lookup.specs.declared.Spanned.{Spanned}
 use Rattle.lookup.specs.declared.Spanned.the-variants as spanned
 use Rattle.lookup.specs.declared.Place.{Place}
 use Rattle.lookup.specs.declared.Place.the-variants as place
-
--- how many rows a table has: as many as are told, where there are six numbers for each
-abbrev pub tableRows : List ℕ → ℕ → ℕ
-tableRows rows n = min n (length rows / 6)
-
--- row k of a table: "id, keyword start and end (0, 0 if complex), argument start and end, complex 0 or 1"
-abbrev pub rowNumbers : List ℕ → ℕ → Row
-rowNumbers rows k =
-    row (getD rows (k * 6) 0) (getD rows (k * 6 + 1) 0) (getD rows (k * 6 + 2) 0) (getD rows (k * 6 + 3) 0) (getD rows (k * 6 + 4) 0) (getD rows (k * 6 + 5) 0)
 
 -- the row with a number; none past the table
 abbrev pub rowIn : List ℕ → ℕ → ℕ → Option Row

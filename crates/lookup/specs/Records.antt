@@ -1,5 +1,5 @@
 -- Document 01, 'Reading the file', of the records themselves: "Lookup of an id answers like a map written to in file order: the
--- last record of that id, or none." And that the rows in lent memory are the records that were laid there.
+-- last record of that id, or none." And that a lookup over the memory that the records were laid in serves it.
 -- Assumes nothing.
 use Prim.Native.Nat.{ℕ, zero, suc, _+_, _*_, _≤_, _<_}
 use mathlib.Core.Path.{_≡_, refl, sym, _∙_, ap, subst}
@@ -13,11 +13,11 @@ use lib.Seq.{length-take-le}
 use borrow.Author.Tests.{eqb-true, eqb-false, eq-eqb, ne-eqb}
 use Rattle.common.specs.Pick.{pick}
 use Rattle.common.specs.Compare.{clash}
-use Rattle.statement.specs.Row.{Row, row}
-use Rattle.scan.specs.Table.{six, flat}
-use Rattle.index.specs.Order.{idOf}
+use Rattle.statement.specs.Row.{Row}
+use Rattle.table.specs.Table.{idOf, rowNumbers, rowsLaid}
+use Rattle.table.specs.Laid.{row-is}
 use Rattle.index.specs.Lookup.{IsLast, Missing, LookupForm}
-use Rattle.lookup.specs.Lookup.{rowNumbers, rowFound}
+use Rattle.lookup.specs.Lookup.{rowFound}
 
 -- ---- the last record of an id, among records in file order
 -- no record has this id, wherever the records are cut around one
@@ -95,34 +95,6 @@ last-only k (v ∷ rs) (some w) h = go (h .front) (h .cut) (λ o. last-only k rs
         rw (ih (some w) (record { front = front; back = h .back; cut = q; named = h .named; after = h .after })) refl
 
 -- ---- the rows in lent memory
--- the numbers of a later row, one row further on
-later : (a b c d e f : ℕ) (xs : List ℕ) (r i : ℕ) → getD (a ∷ b ∷ c ∷ d ∷ e ∷ f ∷ xs) (suc r * 6 + i) 0 ≡ getD xs (r * 6 + i) 0
-later a b c d e f xs r i = let q : suc r * 6 + i ≡ suc (suc (suc (suc (suc (suc (r * 6 + i)))))) = omega arith in ap (λ (z : ℕ). getD (a ∷ b ∷ c ∷ d ∷ e ∷ f ∷ xs) z 0) q
-
--- the first of them
-later-first : (a b c d e f : ℕ) (xs : List ℕ) (r : ℕ) → getD (a ∷ b ∷ c ∷ d ∷ e ∷ f ∷ xs) (suc r * 6) 0 ≡ getD xs (r * 6) 0
-later-first a b c d e f xs r = let q : suc r * 6 ≡ suc (suc (suc (suc (suc (suc (r * 6)))))) = omega arith in ap (λ (z : ℕ). getD (a ∷ b ∷ c ∷ d ∷ e ∷ f ∷ xs) z 0) q
-
--- a later row likewise
-pub row-later : (w : Row) (xs : List ℕ) (r : ℕ) → rowNumbers (six w ++ xs) (suc r) ≡ rowNumbers xs r
-row-later w xs r = same (first w) (on 1) (on 2) (on 3) (on 4) (on 5)
-  where
-    on : (i : ℕ) → getD (six w ++ xs) (suc r * 6 + i) 0 ≡ getD xs (r * 6 + i) 0
-    on i = later (w .id) (w .keyStart) (w .keyEnd) (w .argStart) (w .argEnd) (w .complex) xs r i
-
-    first : (w : Row) → getD (six w ++ xs) (suc r * 6) 0 ≡ getD xs (r * 6) 0
-    first w = later-first (w .id) (w .keyStart) (w .keyEnd) (w .argStart) (w .argEnd) (w .complex) xs r
-
-    same : {a b c d e f a′ b′ c′ d′ e′ f′ : ℕ} → a ≡ a′ → b ≡ b′ → c ≡ c′ → d ≡ d′ → e ≡ e′ → f ≡ f′ → row a b c d e f ≡ row a′ b′ c′ d′ e′ f′
-    same p q r s t u = λ i. record { id = p i; keyStart = q i; keyEnd = r i; argStart = s i; argEnd = t i; complex = u i }
-
--- the rows in lent memory are the records that were laid there, whatever follows them
-pub row-is : (rs : List Row) (rest : List ℕ) (r : ℕ) → r < length rs → getElem? rs r ≡ some (rowNumbers (flat six rs ++ rest) r)
-unfolding flat
-row-is [] rest r h = absurd (omega arith)
-row-is (w ∷ rs) rest zero h = refl
-row-is (w ∷ rs) rest (suc r) h = row-is rs rest r (omega arith) ∙ ap some (sym (row-later w (flat six rs ++ rest) r))
-
 -- the record between those before it and those after it
 elem-mid : {A : Type 0} (front : List A) (w : A) (back : List A) → getElem? (front ++ (w ∷ back)) (length front) ≡ some w
 elem-mid [] w back = refl
@@ -134,10 +106,10 @@ elem-cut [] r w e = clash cc
 elem-cut (v ∷ rs) zero w e = let q : v ≡ w = cc in ap (λ x. x ∷ rs) q
 elem-cut (v ∷ rs) (suc r) w e = ap (λ x. v ∷ x) (elem-cut rs r w e)
 
-module _ (rs : List Row) (rest : List ℕ) where
-  -- the rows in lent memory
+module _ (rs : List Row) (old : List ℕ) where
+  -- the memory that the records were laid in
   abbrev rows : List ℕ
-  rows = flat six rs ++ rest
+  rows = rowsLaid rs old
 
   -- the id in the row of a record that is cut out
   cut-id : (front : List Row) (w : Row) (back : List Row) → rs ≡ front ++ (w ∷ back) → (length front < length rs) × (idOf rows (length front) ≡ w .id)
@@ -151,7 +123,7 @@ module _ (rs : List Row) (rest : List ℕ) where
       l = omega (arith, ap (λ (x : List Row). length x) e, length-append front (w ∷ back))
 
       q : some (rowNumbers rows (length front)) ≡ some w
-      q = sym (row-is rs rest (length front) l) ∙ ap (λ (x : List Row). getElem? x (length front)) e ∙ elem-mid front w back
+      q = sym (row-is rs old (length front) l) ∙ ap (λ (x : List Row). getElem? x (length front)) e ∙ elem-mid front w back
 
   -- what a lookup of the rows answers is the record that is the last of that id, or there is none
   found-form : (k : ℕ) (o : Option ℕ) → LookupForm (idOf rows) (length rs) k o → LastForm k rs (rowFound rows o)
@@ -162,7 +134,7 @@ module _ (rs : List Row) (rest : List ℕ) where
       w = rowNumbers rows r
 
       c : rs ≡ take r rs ++ (w ∷ drop (suc r) rs)
-      c = elem-cut rs r w (row-is rs rest r (h .row))
+      c = elem-cut rs r w (row-is rs old r (h .row))
 
       after : NoneOf k (drop (suc r) rs)
       after front back v e n = h .last (length before) far (at .0) (at .1 ∙ n)

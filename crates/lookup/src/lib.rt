@@ -4,12 +4,13 @@
 // and what goes with them is one struct by value. Tables that are not what the scan and the index left are answered too: what is
 // served lies in the table, and a span outside the file is 9.
 ghost use mathlib.Core.Path.{_≡_};
-ghost use Prim.Native.Nat.{_+_, _-_, _*_, _/_, _≤_, _<_};
+ghost use Prim.Native.Nat.{_-_};
 ghost use lib.Dec.{eqb};
 ghost use lib.ListN.{length};
 ghost use Rattle.index.specs.Search.{searched};
 ghost use Rattle.statement.specs.Statement.{rowOf};
-ghost use Rattle.lookup.specs.Lookup.{tableRows, rowNumbers, toldEntry, rowIn, rowFound, toldRequired, required, spanFine, toldSpan, spanIn, argsBy, kindIn, kindFound, toldPlace, firstFrom, isKind};
+ghost use Rattle.table.specs.Table.{tableRows};
+ghost use Rattle.lookup.specs.Lookup.{toldEntry, rowIn, rowFound, toldRequired, required, spanFine, toldSpan, spanIn, argsBy, kindIn, kindFound, toldPlace, firstFrom, isKind};
 use error::Fault;
 use index::Found;
 use index::Ids;
@@ -63,37 +64,15 @@ pub fn is_empty(t: Tables) -> bool
     t.records == 0
 }
 
-// Row k of the table.
-fn read_row(rows: &[u32], k: usize) -> RecordSpan
-    requires { ⌜ k * 6 + 6 ≤ length (now rows) ⌝ }
-    ensures { λ r. ⌜ rowOf r ≡ rowNumbers (now (rows .entry)) k ⌝ }
-{
-    let at = k * 6;
-    let keyword = Range {
-        start: common::wide(rows[at + 1]),
-        end: common::wide(rows[at + 2]),
-    };
-    let args = Range {
-        start: common::wide(rows[at + 3]),
-        end: common::wide(rows[at + 4]),
-    };
-    RecordSpan {
-        id: rows[at],
-        keyword,
-        args,
-        complex: rows[at + 5],
-    }
-}
-
 // The row with this number, in file order; none past the table.
 pub fn entity(rows: &[u32], t: Tables, k: usize) -> Entry
     ensures { λ r. ⌜ toldEntry r ≡ rowIn (now (rows .entry)) (t .records) k ⌝ }
 {
-    let n = common::within(t.records, rows.len() / 6);
+    let n = table::table_rows(rows.len(), t.records);
     if n <= k {
         return Entry::Nothing;
     }
-    Entry::Row(read_row(rows, k))
+    Entry::Row(table::read_row(rows, k))
 }
 
 // The last record with this id, or none.
@@ -103,7 +82,7 @@ pub fn get(rows: &[u32], slots: &[u64], t: Tables, id: u32) -> Entry
     let ids = t.ids;
     match index::get(rows, slots, ids, id) {
         Found::Nothing => Entry::Nothing,
-        Found::At(r) => Entry::Row(read_row(rows, common::wide(r))),
+        Found::At(r) => Entry::Row(table::read_row(rows, common::wide(r))),
     }
 }
 
@@ -187,10 +166,10 @@ pub fn kind_of(file: &[u8], rows: &[u32], slots: &[u64], t: Tables, id: u32) -> 
 pub fn by_kind(file: &[u8], rows: &[u32], t: Tables, kind: Kind, from: usize) -> Place
     ensures { λ r. ⌜ toldPlace r ≡ firstFrom (isKind (now (file .entry)) (now (rows .entry)) kind) (tableRows (now (rows .entry)) (t .records) - from) from ⌝ }
 {
-    let n = common::within(t.records, rows.len() / 6);
+    let n = table::table_rows(rows.len(), t.records);
     let mut i = from;
     while i < n {
-        let k = kind_in(file, read_row(rows, i));
+        let k = kind_in(file, table::read_row(rows, i));
         if kinds::same_kind(k, kind) {
             return Place::At(i);
         }

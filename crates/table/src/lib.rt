@@ -4,11 +4,10 @@
 // row put: no other crate knows a width or an offset. Every function answers for any memory and any row: a row that the memory has not
 // reads as zeros, and putting it changes nothing.
 ghost use mathlib.Core.Path.{_≡_};
-ghost use mathlib.Core.Bool.{true};
-ghost use Prim.Native.Nat.{_+_, _*_, _≤_, _<_};
+ghost use Prim.Native.Nat.{_+_, _*_, _≤_, min};
 ghost use lib.Dec.{ltb};
 ghost use mathlib.Core.List.{[]};
-ghost use lib.ListN.{length, getD};
+ghost use lib.ListN.{length};
 ghost use lib.Seq.{sets};
 ghost use Rattle.statement.specs.Statement.{rowOf, headerRowOf};
 ghost use Rattle.table.specs.Table.{rowsIn, headersIn, idOf, rowNumbers, headerNumbers, six, four, rowPut, headerPut, narrowRow, narrowHeader, narrow};
@@ -28,6 +27,20 @@ pub fn headers_in(numbers: usize) -> usize
     ensures { λ r. ⌜ r ≡ headersIn numbers ⌝ }
 {
     numbers / 4
+}
+
+// How many data rows a table of so many numbers has: as many as are told, where the numbers suffice.
+pub fn table_rows(numbers: usize, told: usize) -> usize
+    ensures { λ r. ⌜ r ≡ min told (rowsIn numbers) ⌝ }
+{
+    common::within(told, rows_in(numbers))
+}
+
+// How many header rows likewise.
+pub fn header_rows(numbers: usize, told: usize) -> usize
+    ensures { λ r. ⌜ r ≡ min told (headersIn numbers) ⌝ }
+{
+    common::within(told, headers_in(numbers))
 }
 
 // Whether the table has data row k.

@@ -17,16 +17,14 @@ Inv-loop file rows kind from n i₀ i = firstFrom (isKind file rows kind) (n - i
 abbrev μ-loop : tie.MeasureT-loop
 μ-loop file rows kind from n i₀ i = n - i
 
-within-requires : tie.Need-within-requires Inv-loop μ-loop
-within-requires c κs = search needs
+table-rows-requires : tie.Need-table-rows-requires Inv-loop μ-loop
+table-rows-requires c κs = search needs
 
 loop-holds : tie.Need-loop-holds Inv-loop μ-loop
 loop-holds c = refl
 
 read-row-requires : tie.Need-read-row-requires Inv-loop μ-loop
-read-row-requires c κs =
-    let e = c .before .before .within .ensures in
-    omega arith
+read-row-requires c κs = search needs
 
 kind-in-requires : tie.Need-kind-in-requires Inv-loop μ-loop
 kind-in-requires c κs = search needs
@@ -35,7 +33,7 @@ same-kind-requires : tie.Need-same-kind-requires Inv-loop μ-loop
 same-kind-requires c κs = search needs
 
 returns : tie.Need-returns Inv-loop μ-loop
-returns c = sym (first-stops (isKind (now (c .before .before .before .before .before .before .before .before .before .args .file)) (now (c .before .before .before .before .before .before .before .before .before .args .rows)) (c .before .before .before .before .before .before .before .before .before .args .kind)) (c .before .before .before .before .before .before .within .result) (c .before .before .before .before .before .loop .i) (c .before .before .before .before .loop-test .taken) (sym (c .before .same-kind .ensures ∙ ap (λ (k : Kind). eqb (rankOf k) (rankOf (c .before .before .before .before .before .before .before .before .before .args .kind))) (c .before .before .kind-in .ensures ∙ ap (kindIn (now (c .before .before .before .before .before .before .before .before .before .args .file))) (c .before .before .before .read-row .ensures))) ∙ c .if1 .taken)) ∙ c .before .before .before .before .before .loop .inv ∙ ap (λ (z : ℕ). firstFrom (isKind (now (c .before .before .before .before .before .before .before .before .before .args .file)) (now (c .before .before .before .before .before .before .before .before .before .args .rows)) (c .before .before .before .before .before .before .before .before .before .args .kind)) (z - c .before .before .before .before .before .before .before .before .before .args .from) (c .before .before .before .before .before .before .before .before .before .args .from)) (c .before .before .before .before .before .before .within .ensures)
+returns c = sym (first-stops (isKind (now (c .before .before .before .before .before .before .before .before .before .args .file)) (now (c .before .before .before .before .before .before .before .before .before .args .rows)) (c .before .before .before .before .before .before .before .before .before .args .kind)) (c .before .before .before .before .before .before .table-rows .result) (c .before .before .before .before .before .loop .i) (c .before .before .before .before .loop-test .taken) (sym (c .before .same-kind .ensures ∙ ap (λ (k : Kind). eqb (rankOf k) (rankOf (c .before .before .before .before .before .before .before .before .before .args .kind))) (c .before .before .kind-in .ensures ∙ ap (kindIn (now (c .before .before .before .before .before .before .before .before .before .args .file))) (c .before .before .before .read-row .ensures))) ∙ c .if1 .taken)) ∙ c .before .before .before .before .before .loop .inv ∙ ap (λ (z : ℕ). firstFrom (isKind (now (c .before .before .before .before .before .before .before .before .before .args .file)) (now (c .before .before .before .before .before .before .before .before .before .args .rows)) (c .before .before .before .before .before .before .before .before .before .args .kind)) (z - c .before .before .before .before .before .before .before .before .before .args .from) (c .before .before .before .before .before .before .before .before .before .args .from)) (c .before .before .before .before .before .before .table-rows .ensures)
 
 add-i : tie.Need-add-i Inv-loop μ-loop
 add-i c = search needs
@@ -44,10 +42,10 @@ loop-less : tie.Need-loop-less Inv-loop μ-loop
 loop-less c = search needs
 
 loop-again : tie.Need-loop-again Inv-loop μ-loop
-loop-again c = sym (first-goes (isKind (now (c .before .before .before .before .before .before .before .before .before .args .file)) (now (c .before .before .before .before .before .before .before .before .before .args .rows)) (c .before .before .before .before .before .before .before .before .before .args .kind)) (c .before .before .before .before .before .before .within .result) (c .before .before .before .before .before .loop .i) (c .before .before .before .before .loop-test .taken) (sym (c .before .same-kind .ensures ∙ ap (λ (k : Kind). eqb (rankOf k) (rankOf (c .before .before .before .before .before .before .before .before .before .args .kind))) (c .before .before .kind-in .ensures ∙ ap (kindIn (now (c .before .before .before .before .before .before .before .before .before .args .file))) (c .before .before .before .read-row .ensures))) ∙ c .if1 .left)) ∙ c .before .before .before .before .before .loop .inv
+loop-again c = sym (first-goes (isKind (now (c .before .before .before .before .before .before .before .before .before .args .file)) (now (c .before .before .before .before .before .before .before .before .before .args .rows)) (c .before .before .before .before .before .before .before .before .before .args .kind)) (c .before .before .before .before .before .before .table-rows .result) (c .before .before .before .before .before .loop .i) (c .before .before .before .before .loop-test .taken) (sym (c .before .same-kind .ensures ∙ ap (λ (k : Kind). eqb (rankOf k) (rankOf (c .before .before .before .before .before .before .before .before .before .args .kind))) (c .before .before .kind-in .ensures ∙ ap (kindIn (now (c .before .before .before .before .before .before .before .before .before .args .file))) (c .before .before .before .read-row .ensures))) ∙ c .if1 .left)) ∙ c .before .before .before .before .before .loop .inv
 
 returns-2 : tie.Need-returns-2 Inv-loop μ-loop
-returns-2 c = sym (first-ends (isKind (now (c .before .before .before .before .before .args .file)) (now (c .before .before .before .before .before .args .rows)) (c .before .before .before .before .before .args .kind)) (c .before .before .within .result) (c .before .loop .i) (c .loop-test .left)) ∙ c .before .loop .inv ∙ ap (λ (z : ℕ). firstFrom (isKind (now (c .before .before .before .before .before .args .file)) (now (c .before .before .before .before .before .args .rows)) (c .before .before .before .before .before .args .kind)) (z - c .before .before .before .before .before .args .from) (c .before .before .before .before .before .args .from)) (c .before .before .within .ensures)
+returns-2 c = sym (first-ends (isKind (now (c .before .before .before .before .before .args .file)) (now (c .before .before .before .before .before .args .rows)) (c .before .before .before .before .before .args .kind)) (c .before .before .table-rows .result) (c .before .loop .i) (c .loop-test .left)) ∙ c .before .loop .inv ∙ ap (λ (z : ℕ). firstFrom (isKind (now (c .before .before .before .before .before .args .file)) (now (c .before .before .before .before .before .args .rows)) (c .before .before .before .before .before .args .kind)) (z - c .before .before .before .before .before .args .from) (c .before .before .before .before .before .args .from)) (c .before .before .table-rows .ensures)
 
 pub by-kind-spec : {M : Type 1} → statement M
 by-kind-spec =
@@ -55,7 +53,7 @@ by-kind-spec =
     (tie.spec
     Inv-loop
     μ-loop
-    within-requires
+    table-rows-requires
     loop-holds
     read-row-requires
     kind-in-requires

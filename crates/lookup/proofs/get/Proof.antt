@@ -1,12 +1,11 @@
 use borrow.Author.Needs.{needs}
-use native.Mathlib.Omega.{arith}
 use mathlib.Core.Path.{sym, _∙_, ap}
 use mathlib.Core.Option.{some}
 use Prim.Native.Nat.{_-_}
 use denote.Ref.{now}
 use Rattle.index.specs.Search.{toldFound}
-use Rattle.lookup.specs.Lookup.{rowFound, rowNumbers}
-use Rattle.lookup.specs.Laws.{found-fits}
+use Rattle.table.specs.Table.{rowNumbers}
+use Rattle.lookup.specs.Lookup.{rowFound}
 use Rattle.lookup.proofs.get.Statement.{statement}
 use Rattle.lookup.proofs.get.Tie as tie
 
@@ -23,10 +22,7 @@ wide-requires : tie.Need-wide-requires
 wide-requires c κs = search needs
 
 read-row-requires : tie.Need-read-row-requires
-read-row-requires c κs =
-    let h = found-fits (now (c .before .before .before .before .before .before .before .before .args .rows)) (now (c .before .before .before .before .before .before .before .before .args .slots)) (c .before .before .before .before .before .before .before .before .args .t .ids) (c .before .before .before .before .before .before .before .before .args .id) (c .before .before .r .given .0 .0) (sym (ap toldFound (c .before .before .r .given .1)) ∙ c .before .before .before .before .get .ensures) in
-    let e = c .wide .ensures in
-    omega arith
+read-row-requires c κs = search needs
 
 returns : tie.Need-returns
 returns c = ap (rowFound (now (c .before .before .before .before .before .before .args .rows))) (sym (ap toldFound (c .enum-told .given .1)) ∙ c .before .before .get .ensures)
