@@ -2,7 +2,7 @@
 ghost use mathlib.Core.Path.{_≡_};
 ghost use lib.ListN.{length};
 ghost use Rattle.error.specs.Refusal.{good};
-ghost use Rattle.headers.specs.Header.{headerFirst, headerArgs};
+ghost use Rattle.headers.specs.Header.{headerFound, headerArgs};
 ghost use Rattle.titles.specs.Title.{toldTitle, titleBy, roomBy, fileName};
 ghost use Rattle.plain.specs.Answers.{Tells, readValue, foundCode, foundValue};
 ghost use Rattle.plain.specs.Numbers.{tablesBy};
@@ -20,8 +20,8 @@ pub extern "C" fn hooflift_header_row(
     name: &[u8],
     row: &mut usize,
 ) -> u8
-    ensures { λ n. ⌜ n ≡ foundCode (good (headerFirst (now (file .entry)) (now (headers .entry)) (tablesBy (now (tables .entry)) .headers) (now (name .entry)))) ⌝ }
-    ensures { λ _. ⌜ now (row .exit) ≡ foundValue (λ i. i) (good (headerFirst (now (file .entry)) (now (headers .entry)) (tablesBy (now (tables .entry)) .headers) (now (name .entry)))) (now (row .entry)) ⌝ }
+    ensures { λ n. ⌜ n ≡ foundCode (good (headerFound (now (file .entry)) (now (headers .entry)) (tablesBy (now (tables .entry)) .headers) (now (name .entry)))) ⌝ }
+    ensures { λ _. ⌜ now (row .exit) ≡ foundValue (λ i. i) (good (headerFound (now (file .entry)) (now (headers .entry)) (tablesBy (now (tables .entry)) .headers) (now (name .entry)))) (now (row .entry)) ⌝ }
 {
     match headers::header_row(file, headers, plain::tables_of(tables), name) {
         Place::At(i) => {
@@ -42,9 +42,9 @@ pub extern "C" fn hooflift_header_args(
     start: &mut usize,
     stop: &mut usize,
 ) -> u8
-    ensures { λ n. ⌜ n ≡ foundCode (headerArgs (length (now (file .entry))) (now (headers .entry)) (headerFirst (now (file .entry)) (now (headers .entry)) (tablesBy (now (tables .entry)) .headers) (now (name .entry)))) ⌝ }
-    ensures { λ _. ⌜ now (start .exit) ≡ foundValue (λ x. x .start) (headerArgs (length (now (file .entry))) (now (headers .entry)) (headerFirst (now (file .entry)) (now (headers .entry)) (tablesBy (now (tables .entry)) .headers) (now (name .entry)))) (now (start .entry)) ⌝ }
-    ensures { λ _. ⌜ now (stop .exit) ≡ foundValue (λ x. x .end) (headerArgs (length (now (file .entry))) (now (headers .entry)) (headerFirst (now (file .entry)) (now (headers .entry)) (tablesBy (now (tables .entry)) .headers) (now (name .entry)))) (now (stop .entry)) ⌝ }
+    ensures { λ n. ⌜ n ≡ foundCode (headerArgs (length (now (file .entry))) (headerNumbers (now (headers .entry))) (headerFound (now (file .entry)) (now (headers .entry)) (tablesBy (now (tables .entry)) .headers) (now (name .entry)))) ⌝ }
+    ensures { λ _. ⌜ now (start .exit) ≡ foundValue (λ x. x .start) (headerArgs (length (now (file .entry))) (headerNumbers (now (headers .entry))) (headerFound (now (file .entry)) (now (headers .entry)) (tablesBy (now (tables .entry)) .headers) (now (name .entry)))) (now (start .entry)) ⌝ }
+    ensures { λ _. ⌜ now (stop .exit) ≡ foundValue (λ x. x .end) (headerArgs (length (now (file .entry))) (headerNumbers (now (headers .entry))) (headerFound (now (file .entry)) (now (headers .entry)) (tablesBy (now (tables .entry)) .headers) (now (name .entry)))) (now (stop .entry)) ⌝ }
 {
     match headers::header_args(file, headers, plain::tables_of(tables), name) {
         HeaderFound::Span(r) => {
@@ -97,11 +97,11 @@ pub extern "C" fn hooflift_file_name(
     stop: &mut usize,
     fault: &mut usize,
 ) -> u8
-    ensures { λ n. ⌜ Tells (titleBy (now (file .entry)) (length (now (out .entry))) 0 (headerArgs (length (now (file .entry))) (now (headers .entry)) (headerFirst (now (file .entry)) (now (headers .entry)) (tablesBy (now (tables .entry)) .headers) fileName))) (now (fault .entry)) n (now (fault .exit)) ⌝ }
-    ensures { λ _. ⌜ now (out .exit) ≡ roomBy (now (file .entry)) (now (out .entry)) 0 (headerArgs (length (now (file .entry))) (now (headers .entry)) (headerFirst (now (file .entry)) (now (headers .entry)) (tablesBy (now (tables .entry)) .headers) fileName)) ⌝ }
-    ensures { λ _. ⌜ now (room .exit) ≡ readValue shownRoom (titleBy (now (file .entry)) (length (now (out .entry))) 0 (headerArgs (length (now (file .entry))) (now (headers .entry)) (headerFirst (now (file .entry)) (now (headers .entry)) (tablesBy (now (tables .entry)) .headers) fileName))) (now (room .entry)) ⌝ }
-    ensures { λ _. ⌜ now (start .exit) ≡ readValue shownStart (titleBy (now (file .entry)) (length (now (out .entry))) 0 (headerArgs (length (now (file .entry))) (now (headers .entry)) (headerFirst (now (file .entry)) (now (headers .entry)) (tablesBy (now (tables .entry)) .headers) fileName))) (now (start .entry)) ⌝ }
-    ensures { λ _. ⌜ now (stop .exit) ≡ readValue shownStop (titleBy (now (file .entry)) (length (now (out .entry))) 0 (headerArgs (length (now (file .entry))) (now (headers .entry)) (headerFirst (now (file .entry)) (now (headers .entry)) (tablesBy (now (tables .entry)) .headers) fileName))) (now (stop .entry)) ⌝ }
+    ensures { λ n. ⌜ Tells (titleBy (now (file .entry)) (length (now (out .entry))) 0 (headerArgs (length (now (file .entry))) (headerNumbers (now (headers .entry))) (headerFound (now (file .entry)) (now (headers .entry)) (tablesBy (now (tables .entry)) .headers) fileName))) (now (fault .entry)) n (now (fault .exit)) ⌝ }
+    ensures { λ _. ⌜ now (out .exit) ≡ roomBy (now (file .entry)) (now (out .entry)) 0 (headerArgs (length (now (file .entry))) (headerNumbers (now (headers .entry))) (headerFound (now (file .entry)) (now (headers .entry)) (tablesBy (now (tables .entry)) .headers) fileName)) ⌝ }
+    ensures { λ _. ⌜ now (room .exit) ≡ readValue shownRoom (titleBy (now (file .entry)) (length (now (out .entry))) 0 (headerArgs (length (now (file .entry))) (headerNumbers (now (headers .entry))) (headerFound (now (file .entry)) (now (headers .entry)) (tablesBy (now (tables .entry)) .headers) fileName))) (now (room .entry)) ⌝ }
+    ensures { λ _. ⌜ now (start .exit) ≡ readValue shownStart (titleBy (now (file .entry)) (length (now (out .entry))) 0 (headerArgs (length (now (file .entry))) (headerNumbers (now (headers .entry))) (headerFound (now (file .entry)) (now (headers .entry)) (tablesBy (now (tables .entry)) .headers) fileName))) (now (start .entry)) ⌝ }
+    ensures { λ _. ⌜ now (stop .exit) ≡ readValue shownStop (titleBy (now (file .entry)) (length (now (out .entry))) 0 (headerArgs (length (now (file .entry))) (headerNumbers (now (headers .entry))) (headerFound (now (file .entry)) (now (headers .entry)) (tablesBy (now (tables .entry)) .headers) fileName))) (now (stop .entry)) ⌝ }
 {
     let t = titles::file_name(file, headers, plain::tables_of(tables), out);
     put_title(t, room, start, stop, fault)
@@ -120,11 +120,11 @@ pub extern "C" fn hooflift_originating_system(
     stop: &mut usize,
     fault: &mut usize,
 ) -> u8
-    ensures { λ n. ⌜ Tells (titleBy (now (file .entry)) (length (now (out .entry))) 5 (headerArgs (length (now (file .entry))) (now (headers .entry)) (headerFirst (now (file .entry)) (now (headers .entry)) (tablesBy (now (tables .entry)) .headers) fileName))) (now (fault .entry)) n (now (fault .exit)) ⌝ }
-    ensures { λ _. ⌜ now (out .exit) ≡ roomBy (now (file .entry)) (now (out .entry)) 5 (headerArgs (length (now (file .entry))) (now (headers .entry)) (headerFirst (now (file .entry)) (now (headers .entry)) (tablesBy (now (tables .entry)) .headers) fileName)) ⌝ }
-    ensures { λ _. ⌜ now (room .exit) ≡ readValue shownRoom (titleBy (now (file .entry)) (length (now (out .entry))) 5 (headerArgs (length (now (file .entry))) (now (headers .entry)) (headerFirst (now (file .entry)) (now (headers .entry)) (tablesBy (now (tables .entry)) .headers) fileName))) (now (room .entry)) ⌝ }
-    ensures { λ _. ⌜ now (start .exit) ≡ readValue shownStart (titleBy (now (file .entry)) (length (now (out .entry))) 5 (headerArgs (length (now (file .entry))) (now (headers .entry)) (headerFirst (now (file .entry)) (now (headers .entry)) (tablesBy (now (tables .entry)) .headers) fileName))) (now (start .entry)) ⌝ }
-    ensures { λ _. ⌜ now (stop .exit) ≡ readValue shownStop (titleBy (now (file .entry)) (length (now (out .entry))) 5 (headerArgs (length (now (file .entry))) (now (headers .entry)) (headerFirst (now (file .entry)) (now (headers .entry)) (tablesBy (now (tables .entry)) .headers) fileName))) (now (stop .entry)) ⌝ }
+    ensures { λ n. ⌜ Tells (titleBy (now (file .entry)) (length (now (out .entry))) 5 (headerArgs (length (now (file .entry))) (headerNumbers (now (headers .entry))) (headerFound (now (file .entry)) (now (headers .entry)) (tablesBy (now (tables .entry)) .headers) fileName))) (now (fault .entry)) n (now (fault .exit)) ⌝ }
+    ensures { λ _. ⌜ now (out .exit) ≡ roomBy (now (file .entry)) (now (out .entry)) 5 (headerArgs (length (now (file .entry))) (headerNumbers (now (headers .entry))) (headerFound (now (file .entry)) (now (headers .entry)) (tablesBy (now (tables .entry)) .headers) fileName)) ⌝ }
+    ensures { λ _. ⌜ now (room .exit) ≡ readValue shownRoom (titleBy (now (file .entry)) (length (now (out .entry))) 5 (headerArgs (length (now (file .entry))) (headerNumbers (now (headers .entry))) (headerFound (now (file .entry)) (now (headers .entry)) (tablesBy (now (tables .entry)) .headers) fileName))) (now (room .entry)) ⌝ }
+    ensures { λ _. ⌜ now (start .exit) ≡ readValue shownStart (titleBy (now (file .entry)) (length (now (out .entry))) 5 (headerArgs (length (now (file .entry))) (headerNumbers (now (headers .entry))) (headerFound (now (file .entry)) (now (headers .entry)) (tablesBy (now (tables .entry)) .headers) fileName))) (now (start .entry)) ⌝ }
+    ensures { λ _. ⌜ now (stop .exit) ≡ readValue shownStop (titleBy (now (file .entry)) (length (now (out .entry))) 5 (headerArgs (length (now (file .entry))) (headerNumbers (now (headers .entry))) (headerFound (now (file .entry)) (now (headers .entry)) (tablesBy (now (tables .entry)) .headers) fileName))) (now (stop .entry)) ⌝ }
 {
     let t = titles::originating_system(file, headers, plain::tables_of(tables), out);
     put_title(t, room, start, stop, fault)

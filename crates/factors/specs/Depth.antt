@@ -183,9 +183,8 @@ thing-shallow s w {t} = go (spanFine (length s) (w .argStart) (w .argEnd))
     go false e = clash (cc)
 
 -- the record of an id, whatever the lent tables hold
-pub find-shallow : (s rows slots : List ℕ) (ids : Ids) (i : ℕ) → FoundShallow (findOf s rows slots ids i)
-unfolding findOf
-find-shallow s rows slots ids i = go (rowFound rows (searched rows slots ids i))
+pub find-shallow : (s rows slots : List ℕ) (ids : Ids) (i : ℕ) → FoundShallow (findOf s (rowFor rows slots ids) i)
+unfolding findOf find-shallow (rowFor s rows slots) ids i = go (rowFound rows (searched rows slots ids i))
   where
     one : (w : Row) (b : Bool) → FoundShallow (goodBy some (pick b (good (thingAt s w)) (bad (refusal 9 0 0))))
     one w true = pieces-shallow s w
@@ -196,6 +195,6 @@ find-shallow s rows slots ids i = go (rowFound rows (searched rows slots ids i))
     go (some w) = one w (spanFine (length s) (w .argStart) (w .argEnd))
 
 -- of the records of a file: 15 is given only where the seventeenth conversion unit on a chain is met
-pub file-too-deep : (s rows slots : List ℕ) (ids : Ids) (w : Row) {t : Thing} {q : Refusal} → thingOf s w ≡ good t → lengthOf s (findOf s rows slots ids) 16 t ≡ bad q → q .number ≡ 15
-    → (q ≡ refusal 15 0 (q .place)) × Follows s (findOf s rows slots ids) 16 t (q .place)
-file-too-deep s rows slots ids w h e d = too-deep-only s (findOf s rows slots ids) (find-shallow s rows slots ids) (thing-shallow s w h) e d
+pub file-too-deep : (s rows slots : List ℕ) (ids : Ids) (w : Row) {t : Thing} {q : Refusal} → thingOf s w ≡ good t → lengthOf s (findOf s (rowFor rows slots ids)) 16 t ≡ bad q → q .number ≡ 15
+    → (q ≡ refusal 15 0 (q .place)) × Follows s (findOf s (rowFor rows slots ids)) 16 t (q .place)
+file-too-deep s rows slots ids w h e d = too-deep-only s (findOf s (rowFor rows slots ids)) (find-shallow s rows slots ids) (thing-shallow s w h) e d

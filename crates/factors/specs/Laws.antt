@@ -402,12 +402,12 @@ chain-left s (suc n) t h = omega arith
 -- ---- records by their ids
 module _ (s rows slots : List ℕ) (ids : Ids) (i : ℕ) where
   -- none has the id
-  pub find-none : none ≡ rowFound rows (searched rows slots ids i) → findOf s rows slots ids i ≡ good none
+  pub find-none : none ≡ rowFound rows (searched rows slots ids i) → findOf s (rowFor rows slots ids) i ≡ good none
   unfolding findOf
   find-none h = rw (← h) refl
 
   -- one has
-  pub find-row : {w : Row} → some w ≡ rowFound rows (searched rows slots ids i) → findOf s rows slots ids i ≡ goodBy some (thingOf s w)
+  pub find-row : {w : Row} → some w ≡ rowFound rows (searched rows slots ids i) → findOf s (rowFor rows slots ids) i ≡ goodBy some (thingOf s w)
   unfolding findOf
   find-row h = rw (← h) refl
 

@@ -103,9 +103,8 @@ thing-in s w = go (spanFine (length s) (w .argStart) (w .argEnd)) refl
     go false e = omega arith
 
 -- the record of an id
-pub find-in : (s rows slots : List ℕ) (ids : Ids) (i : ℕ) → ToldIn (length s) (FoundIn (length s)) (findOf s rows slots ids i)
-unfolding findOf
-find-in s rows slots ids i = go (rowFound rows (searched rows slots ids i))
+pub find-in : (s rows slots : List ℕ) (ids : Ids) (i : ℕ) → ToldIn (length s) (FoundIn (length s)) (findOf s (rowFor rows slots ids) i)
+unfolding findOf find-in (rowFor s rows slots) ids i = go (rowFound rows (searched rows slots ids i))
   where
     one : (x : Told Thing) → ToldIn (length s) (ThingIn (length s)) x → ToldIn (length s) (FoundIn (length s)) (goodBy some x)
     one (good t) h = h
@@ -223,9 +222,9 @@ module _ (s : List ℕ) (find : ℕ → Told (Option Thing)) (finds : (i : ℕ) 
 
 module _ (s rows slots : List ℕ) (ids : Ids) (w : Row) where
   -- `length_factor`
-  pub length-placed : (left : ℕ) → PlacedIn (length s) (onward (lengthOf s (findOf s rows slots ids) left) (thingOf s w))
-  length-placed left = on-placed (length s) (ThingIn (length s)) (lengthOf s (findOf s rows slots ids) left) (thingOf s w) (thing-in s w) (length-in s (findOf s rows slots ids) (find-in s rows slots ids) left)
+  pub length-placed : (left : ℕ) → PlacedIn (length s) (onward (lengthOf s (findOf s (rowFor rows slots ids)) left) (thingOf s w))
+  length-placed left = on-placed (length s) (ThingIn (length s)) (lengthOf s (findOf s (rowFor rows slots ids)) left) (thingOf s w) (thing-in s w) (length-in s (findOf s (rowFor rows slots ids)) (find-in s rows slots ids) left)
 
   -- `angle_factor`
-  pub angle-placed : PlacedIn (length s) (onward (angleOf s (findOf s rows slots ids)) (thingOf s w))
-  angle-placed = on-placed (length s) (ThingIn (length s)) (angleOf s (findOf s rows slots ids)) (thingOf s w) (thing-in s w) (angle-in s (findOf s rows slots ids) (find-in s rows slots ids))
+  pub angle-placed : PlacedIn (length s) (onward (angleOf s (findOf s (rowFor rows slots ids))) (thingOf s w))
+  angle-placed = on-placed (length s) (ThingIn (length s)) (angleOf s (findOf s (rowFor rows slots ids))) (thingOf s w) (thing-in s w) (angle-in s (findOf s (rowFor rows slots ids)) (find-in s rows slots ids))

@@ -63,7 +63,7 @@ thingFound s (some w) = goodBy some (thingOf s w)
 
 -- the record that an id names, by the lookup in the lent tables
 unfoldable pub findOf : List ℕ → List ℕ → List ℕ → Ids → ℕ → Told (Option Thing)
-findOf s rows slots ids k = thingFound s (rowFound rows (searched rows slots ids k))
+findOf s (rowFor rows slots ids) k = thingFound s (rowFound rows (searched rows slots ids k))
 
 -- the first part of a kind
 abbrev pub firstPiece : Kind → List Piece → Option Span

@@ -225,7 +225,7 @@ fn length_at(
     row: RecordSpan,
     left: usize,
 ) -> Factor
-    ensures { λ r. ⌜ toldFactor r ≡ onward (lengthOf (now (file .entry)) (findOf (now (file .entry)) (now (rows .entry)) (now (slots .entry)) (t .ids)) left) (thingOf (now (file .entry)) (rowOf row)) ⌝ }
+    ensures { λ r. ⌜ toldFactor r ≡ onward (lengthOf (now (file .entry)) (findOf (now (file .entry)) (rowFor (now (rows .entry)) (now (slots .entry)) (t .ids))) left) (thingOf (now (file .entry)) (rowOf row)) ⌝ }
 {
     match link_at(file, row, left) {
         Link::Known(f) => f,
@@ -242,7 +242,7 @@ fn measure_in_mm(
     id: u32,
     left: usize,
 ) -> Factor
-    ensures { λ r. ⌜ toldFactor r ≡ measureIn (now (file .entry)) (findOf (now (file .entry)) (now (rows .entry)) (now (slots .entry)) (t .ids)) (lengthOf (now (file .entry)) (findOf (now (file .entry)) (now (rows .entry)) (now (slots .entry)) (t .ids)) left) id ⌝ }
+    ensures { λ r. ⌜ toldFactor r ≡ measureIn (now (file .entry)) (findOf (now (file .entry)) (rowFor (now (rows .entry)) (now (slots .entry)) (t .ids))) (lengthOf (now (file .entry)) (findOf (now (file .entry)) (rowFor (now (rows .entry)) (now (slots .entry)) (t .ids))) left) id ⌝ }
 {
     let Entry::Row(w) = lookup::get(rows, slots, t, id) else {
         return Factor::Nothing;
@@ -268,14 +268,14 @@ fn measure_in_mm(
 
 // The factor of a length unit, in millimetres.
 pub fn length_factor(file: &[u8], rows: &[u32], slots: &[u64], t: Tables, row: RecordSpan) -> Factor
-    ensures { λ r. ⌜ toldFactor r ≡ onward (lengthOf (now (file .entry)) (findOf (now (file .entry)) (now (rows .entry)) (now (slots .entry)) (t .ids)) 16) (thingOf (now (file .entry)) (rowOf row)) ⌝ }
+    ensures { λ r. ⌜ toldFactor r ≡ onward (lengthOf (now (file .entry)) (findOf (now (file .entry)) (rowFor (now (rows .entry)) (now (slots .entry)) (t .ids))) 16) (thingOf (now (file .entry)) (rowOf row)) ⌝ }
 {
     length_at(file, rows, slots, t, row, 16)
 }
 
 // The number of an angle's measure, alone.
 fn measure_number(file: &[u8], rows: &[u32], slots: &[u64], t: Tables, id: u32) -> Factor
-    ensures { λ r. ⌜ toldFactor r ≡ numberIn (now (file .entry)) (findOf (now (file .entry)) (now (rows .entry)) (now (slots .entry)) (t .ids)) id ⌝ }
+    ensures { λ r. ⌜ toldFactor r ≡ numberIn (now (file .entry)) (findOf (now (file .entry)) (rowFor (now (rows .entry)) (now (slots .entry)) (t .ids))) id ⌝ }
 {
     let Entry::Row(w) = lookup::get(rows, slots, t, id) else {
         return Factor::Nothing;
@@ -305,7 +305,7 @@ fn angle_converted(
     a: usize,
     z: usize,
 ) -> Factor
-    ensures { λ r. ⌜ toldFactor r ≡ onward (numberIn (now (file .entry)) (findOf (now (file .entry)) (now (rows .entry)) (now (slots .entry)) (t .ids))) (measureRef (now (file .entry)) (span a z)) ⌝ }
+    ensures { λ r. ⌜ toldFactor r ≡ onward (numberIn (now (file .entry)) (findOf (now (file .entry)) (rowFor (now (rows .entry)) (now (slots .entry)) (t .ids)))) (measureRef (now (file .entry)) (span a z)) ⌝ }
 {
     match measure_ref(file, a, z) {
         Named::Refused(f) => Factor::Refused(f),
@@ -315,7 +315,7 @@ fn angle_converted(
 
 // The factor of an angle unit, in radians.
 pub fn angle_factor(file: &[u8], rows: &[u32], slots: &[u64], t: Tables, row: RecordSpan) -> Factor
-    ensures { λ r. ⌜ toldFactor r ≡ onward (angleOf (now (file .entry)) (findOf (now (file .entry)) (now (rows .entry)) (now (slots .entry)) (t .ids))) (thingOf (now (file .entry)) (rowOf row)) ⌝ }
+    ensures { λ r. ⌜ toldFactor r ≡ onward (angleOf (now (file .entry)) (findOf (now (file .entry)) (rowFor (now (rows .entry)) (now (slots .entry)) (t .ids)))) (thingOf (now (file .entry)) (rowOf row)) ⌝ }
 {
     match self_or(file, row, Kind::SiUnit) {
         Run::Refused(f) => Factor::Refused(f),

@@ -1,4 +1,4 @@
--- Laws for the code: each way out of the test of a header row, and that a row found lies in the table.
+-- Laws for the code: each way out of the test of a header row, and that the first is found.
 -- Assumes nothing.
 use Prim.Native.Nat.{ℕ, _+_, _*_, _/_, _-_, _≤_, _<_, min}
 use mathlib.Core.Path.{_≡_, refl, sym, _∙_, ap, subst}
@@ -13,7 +13,7 @@ use Rattle.record.specs.Word.{same, upper}
 use Rattle.statement.specs.Row.{HeaderRow}
 use Rattle.lookup.specs.Lookup.{Span, span, cut, firstFrom, FirstForm}
 use Rattle.lookup.specs.Laws.{first-right}
-use Rattle.headers.specs.Header.{headerRows, named, isHeader, headerFirst, argued}
+use Rattle.headers.specs.Header.{named, isHeader, headerFirst, argued}
 
 module _ (s name : List ℕ) (w : HeaderRow) where
   -- a keyword that runs backwards is none
@@ -42,14 +42,7 @@ module _ (len : ℕ) (w : HeaderRow) where
   argued-by l h = sym (rw (le-leb (w .argStart) (w .argEnd) l, le-leb (w .argEnd) len h) refl)
 
 -- the header row that is found is the first with its keyword, by the rule
-pub header-right : (s heads : List ℕ) (n : ℕ) (name : List ℕ) → FirstForm (isHeader s heads name) 0 (headerRows heads n) (headerFirst s heads n name)
-header-right s heads n name =
-    let e : headerRows heads n - 0 ≡ headerRows heads n = omega arith in
-    subst (λ (z : ℕ). FirstForm (isHeader s heads name) 0 (headerRows heads n) (firstFrom (isHeader s heads name) z 0)) e (first-right (isHeader s heads name) (headerRows heads n) 0)
-
--- it lies in the table
-pub header-fits : (s heads : List ℕ) (n : ℕ) (name : List ℕ) (i : ℕ) → some i ≡ headerFirst s heads n name → i * 4 + 4 ≤ length heads
-header-fits s heads n name i e =
-    let f : FirstForm (isHeader s heads name) 0 (headerRows heads n) (some i) = subst (λ (o : Option ℕ). FirstForm (isHeader s heads name) 0 (headerRows heads n) o) (sym e) (header-right s heads n name) in
-    let l = f .1 in
-    omega arith
+pub header-right : (s : List ℕ) (head : ℕ → HeaderRow) (n : ℕ) (name : List ℕ) → FirstForm (isHeader s head name) 0 n (headerFirst s head n name)
+header-right s head n name =
+    let e : n - 0 ≡ n = omega arith in
+    subst (λ (z : ℕ). FirstForm (isHeader s head name) 0 n (firstFrom (isHeader s head name) z 0)) e (first-right (isHeader s head name) n 0)

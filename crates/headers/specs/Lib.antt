@@ -1,4 +1,3 @@
 pub mod Header
 pub mod Laws
-pub mod Records
 pub mod Only

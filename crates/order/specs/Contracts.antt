@@ -137,7 +137,7 @@ module _ {s : List ℕ} {H R : ℕ} (l : Lent s H R) (a : Tables) (is : l .answe
 
   -- `resolve` answers the file's unit answer, over its records in file order and the lookup
   pub resolve-is : (x : Resolved)
-      → toldUnits x ≡ resolveOf s (findOf s (l .rows′) (l .slots′) (a .ids)) (thingsFrom s (l .rows′) (tableRows (l .rows′) (a .records)) 0)
+      → toldUnits x ≡ resolveOf s (findOf s (rowFor (l .rows′) (l .slots′) (a .ids))) (thingsFrom s (rowNumbers (l .rows′)) (tableRows (l .rows′) (a .records)) 0)
       → toldUnits x ≡ unitsOf s t
   resolve-is x e = e ∙ Serve.units-are s (l .heads) (l .rows) (l .slots) a promised ∙ ap (onward (unitsOf s)) (lent-scan l t scanned)
 
@@ -153,8 +153,8 @@ module _ (s : List ℕ) (H R : ℕ) (m : Moved s H R) (l : Lent s H R) (a : Tabl
 
   -- `resolve`: the unit answers are the same, bit for bit, or refused with the same number
   pub resolve-order : (x y : Resolved)
-      → toldUnits x ≡ resolveOf s (findOf s (l .rows′) (l .slots′) (a .ids)) (thingsFrom s (l .rows′) (tableRows (l .rows′) (a .records)) 0)
-      → toldUnits y ≡ resolveOf (newFile m) (findOf (newFile m) (n .rows′) (n .slots′) (b .ids)) (thingsFrom (newFile m) (n .rows′) (tableRows (n .rows′) (b .records)) 0)
+      → toldUnits x ≡ resolveOf s (findOf s (rowFor (l .rows′) (l .slots′) (a .ids))) (thingsFrom s (rowNumbers (l .rows′)) (tableRows (l .rows′) (a .records)) 0)
+      → toldUnits y ≡ resolveOf (newFile m) (findOf (newFile m) (rowFor (n .rows′) (n .slots′) (b .ids))) (thingsFrom (newFile m) (rowNumbers (n .rows′)) (tableRows (n .rows′) (b .records)) 0)
       → SameUnits (toldUnits x) (toldUnits y)
   resolve-order x y e f =
       let c = kept m in

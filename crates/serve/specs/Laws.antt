@@ -54,7 +54,7 @@ module _ (s heads rows slots : List ℕ) where
     record-is k = let (t, e, h) = opened-served s heads rows slots a heads′ rows′ slots′ opens in rw e (ap good (h k))
 
     -- the records that `resolve` goes through are the file's
-    things-of : (t : Table) → scanInto s heads rows slots ≡ good t → thingsFrom s rows′ (tableRows rows′ (a .records)) 0 ≡ map (thingOf s) (t .records)
+    things-of : (t : Table) → scanInto s heads rows slots ≡ good t → thingsFrom s (rowNumbers rows′) (tableRows rows′ (a .records)) 0 ≡ map (thingOf s) (t .records)
     things-of t g =
         let (u, f, n) = counted (scanInto s heads rows slots) (a .headers) (a .records) (a .max) (opens .answer) in
         let q : u ≡ t = cc in
@@ -63,16 +63,16 @@ module _ (s heads rows slots : List ℕ) where
         rw (i, r) (things-are s t rows)
 
     -- and its lookup is the file's
-    finds-of : (t : Table) → scanInto s heads rows slots ≡ good t → findOf s rows′ slots′ (a .ids) ≡ (λ k. thingFound s (lastOf k (t .records)))
+    finds-of : (t : Table) → scanInto s heads rows slots ≡ good t → findOf s (rowFor rows′ slots′ (a .ids)) ≡ (λ k. thingFound s (lastOf k (t .records)))
     unfolding findOf
     finds-of t g = fun-ext (λ k. ap (thingFound s) (lookups-are t g k))
 
     -- `resolve` answers the file's unit answer
-    pub units-are : resolveOf s (findOf s rows′ slots′ (a .ids)) (thingsFrom s rows′ (tableRows rows′ (a .records)) 0) ≡ onward (unitsOf s) (scanInto s heads rows slots)
+    pub units-are : resolveOf s (findOf s (rowFor rows′ slots′ (a .ids))) (thingsFrom s (rowNumbers rows′) (tableRows rows′ (a .records)) 0) ≡ onward (unitsOf s) (scanInto s heads rows slots)
     units-are =
         let (t, g, h) = opened-served s heads rows slots a heads′ rows′ slots′ opens in
         rw g
-        (ap (resolveOf s (findOf s rows′ slots′ (a .ids))) (things-of t g)
+        (ap (resolveOf s (findOf s (rowFor rows′ slots′ (a .ids)))) (things-of t g)
         ∙ ap (λ (y : ℕ → Told (Option Thing)). resolveOf s y (map (thingOf s) (t .records))) (finds-of t g))
 
 -- what `open` promises, of its answer taken apart
@@ -94,7 +94,7 @@ module _ {s heads rows slots heads′ rows′ slots′ : List ℕ} where
 
   module _ (a : Tables) (o : Opens s heads rows slots (Good a) heads′ rows′ slots′) where
     -- its units
-    pub units-out : (x : Told Units) → x ≡ resolveOf s (findOf s rows′ slots′ (a .ids)) (thingsFrom s rows′ (tableRows rows′ (a .records)) 0)
+    pub units-out : (x : Told Units) → x ≡ resolveOf s (findOf s (rowFor rows′ slots′ (a .ids))) (thingsFrom s (rowNumbers rows′) (tableRows rows′ (a .records)) 0)
         → (x ≡ onward (unitsOf s) (scanInto s heads rows slots)) × Left s heads rows slots heads′ rows′ slots′
     units-out x e = (e ∙ units-are s heads rows slots a o, (Good a, o))
 

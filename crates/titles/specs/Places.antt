@@ -58,7 +58,7 @@ title-in s o k p e = go (skipsOf k s p e .answer)
     go (bad q) = owes-good empty (omega arith, omega arith)
 
 -- a header record's arguments: 9 at 0 alone refuses
-args-bad : (n : ℕ) (heads : List ℕ) (i : Option ℕ) (f : Refusal) → headerArgs n heads i ≡ bad f → f ≡ refusal 9 0 0
+args-bad : (n : ℕ) (heads : List ℕ) (i : Option ℕ) (f : Refusal) → headerArgs n (headerNumbers heads) i ≡ bad f → f ≡ refusal 9 0 0
 args-bad n heads none f h = clash (cc)
 args-bad n heads (some i) f h = go (rows.spanFine n (headerNumbers heads i .argStart) (headerNumbers heads i .argEnd)) h
   where
@@ -67,10 +67,10 @@ args-bad n heads (some i) f h = go (rows.spanFine n (headerNumbers heads i .argS
     go false k = cc
 
 -- `file_name`, `originating_system`
-pub title-owes : (s o heads : List ℕ) (k : ℕ) (i : Option ℕ) → Owes (length s) (length o) o (roomBy s o k (headerArgs (length s) heads i)) (titleBy s (length o) k (headerArgs (length s) heads i))
-title-owes s o heads k i = go (headerArgs (length s) heads i) refl
+pub title-owes : (s o heads : List ℕ) (k : ℕ) (i : Option ℕ) → Owes (length s) (length o) o (roomBy s o k (headerArgs (length s) (headerNumbers heads) i)) (titleBy s (length o) k (headerArgs (length s) (headerNumbers heads) i))
+title-owes s o heads k i = go (headerArgs (length s) (headerNumbers heads) i) refl
   where
-    go : (a : Told (Option rows.Span)) → headerArgs (length s) heads i ≡ a → Owes (length s) (length o) o (roomBy s o k a) (titleBy s (length o) k a)
+    go : (a : Told (Option rows.Span)) → headerArgs (length s) (headerNumbers heads) i ≡ a → Owes (length s) (length o) o (roomBy s o k a) (titleBy s (length o) k a)
     go (good none) e = owes-good empty (omega arith, omega arith)
     go (good (some a)) e = title-in s o k (a .start) (a .end)
     go (bad f) e = let z = args-bad (length s) heads i f e in rw z (owes-bad (refusal 9 0 0) (omega arith) (inl refl) refl)

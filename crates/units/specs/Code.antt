@@ -55,8 +55,8 @@ deciding (bad q) = true
 
 -- the records of n rows from row k on
 unfoldable pub thingsFrom : List ℕ → List ℕ → ℕ → ℕ → List (Told Thing)
-thingsFrom s rows zero k = []
-thingsFrom s rows (suc n) k = thingOf s (rowNumbers rows k) ∷ thingsFrom s rows n (suc k)
+thingsFrom s (rowNumbers rows) zero k = []
+thingsFrom s (rowNumbers rows) (suc n) k = thingOf s (rowNumbers rows k) ∷ thingsFrom s (rowNumbers rows) n (suc k)
 
 -- a role, none, or a refusal
 abbrev pub toldRole : RoleCode.Role → Told (Option unit.Role)

@@ -579,13 +579,13 @@ module _ (s : List ℕ) (find : ℕ → Told (Option Thing)) where
     -- where the seeking stands at row k: what is left gives the answer
     pub record Resolving (k : ℕ) : Type 0 where
       pub most : k ≤ tableRows rows records
-      pub gives : resolveOf s find (thingsFrom s rows (tableRows rows records - k) k) ≡ resolveOf s find (thingsFrom s rows (tableRows rows records) 0)
+      pub gives : resolveOf s find (thingsFrom s (rowNumbers rows) (tableRows rows records - k) k) ≡ resolveOf s find (thingsFrom s (rowNumbers rows) (tableRows rows records) 0)
 
     -- no row has been seen
     pub resolve-starts : Resolving 0
     resolve-starts = let m : tableRows rows records - 0 ≡ tableRows rows records = omega arith in record {
       most = omega arith;
-      gives = ap (λ (n : ℕ). resolveOf s find (thingsFrom s rows n 0)) m;
+      gives = ap (λ (n : ℕ). resolveOf s find (thingsFrom s (rowNumbers rows) n 0)) m;
     }
 
     -- a row, and that it is one of the table
@@ -598,33 +598,33 @@ module _ (s : List ℕ) (find : ℕ → Told (Option Thing)) where
 
     module _ (k : ℕ) (f : Resolving k) where
       -- no row is left
-      pub resolve-over : none ≡ rowIn rows records k → good defaults ≡ resolveOf s find (thingsFrom s rows (tableRows rows records) 0)
+      pub resolve-over : none ≡ rowIn rows records k → good defaults ≡ resolveOf s find (thingsFrom s (rowNumbers rows) (tableRows rows records) 0)
       unfolding resolveOf thingsFrom
       resolve-over h = go (tableRows rows records - k) refl (f .gives)
         where
-          go : (n : ℕ) → tableRows rows records - k ≡ n → resolveOf s find (thingsFrom s rows n k) ≡ resolveOf s find (thingsFrom s rows (tableRows rows records) 0) → good defaults ≡ resolveOf s find (thingsFrom s rows (tableRows rows records) 0)
+          go : (n : ℕ) → tableRows rows records - k ≡ n → resolveOf s find (thingsFrom s (rowNumbers rows) n k) ≡ resolveOf s find (thingsFrom s (rowNumbers rows) (tableRows rows records) 0) → good defaults ≡ resolveOf s find (thingsFrom s (rowNumbers rows) (tableRows rows records) 0)
           go zero e g = g
           go (suc n) e g = let l = lt-ltb k (tableRows rows records) (omega (arith, e)) in clash (cc (rw l at h))
 
       module _ {w : Row} (row : some w ≡ rowIn rows records k) where
         -- the row's record, and those after it
-        step : onward (recordOf s find (λ u. resolveOf s find (thingsFrom s rows (tableRows rows records - (k + 1)) (k + 1)))) (thingOf s w) ≡ resolveOf s find (thingsFrom s rows (tableRows rows records) 0)
+        step : onward (recordOf s find (λ u. resolveOf s find (thingsFrom s (rowNumbers rows) (tableRows rows records - (k + 1)) (k + 1)))) (thingOf s w) ≡ resolveOf s find (thingsFrom s (rowNumbers rows) (tableRows rows records) 0)
         unfolding resolveOf thingsFrom
         step =
             let (l, e) = row-there k row in
             let m : tableRows rows records - k ≡ suc (tableRows rows records - (k + 1)) = omega (arith, l) in
             let n : k + 1 ≡ suc k = add-one k in
-            ap (λ (j : ℕ). onward (recordOf s find (λ u. resolveOf s find (thingsFrom s rows (tableRows rows records - (k + 1)) j))) (thingOf s w)) n
-            ∙ ap (λ (y : Row). onward (recordOf s find (λ u. resolveOf s find (thingsFrom s rows (tableRows rows records - (k + 1)) (suc k)))) (thingOf s y)) (sym e)
-            ∙ ap (λ (j : ℕ). resolveOf s find (thingsFrom s rows j k)) (sym m) ∙ f .gives
+            ap (λ (j : ℕ). onward (recordOf s find (λ u. resolveOf s find (thingsFrom s (rowNumbers rows) (tableRows rows records - (k + 1)) j))) (thingOf s w)) n
+            ∙ ap (λ (y : Row). onward (recordOf s find (λ u. resolveOf s find (thingsFrom s (rowNumbers rows) (tableRows rows records - (k + 1)) (suc k)))) (thingOf s y)) (sym e)
+            ∙ ap (λ (j : ℕ). resolveOf s find (thingsFrom s (rowNumbers rows) j k)) (sym m) ∙ f .gives
 
         -- it decides
-        pub resolve-last : {x : Told Units} → x ≡ onward (contextOr s find) (thingOf s w) → deciding x ≡ true → x ≡ resolveOf s find (thingsFrom s rows (tableRows rows records) 0)
-        resolve-last {x} h d = record-last (λ u. resolveOf s find (thingsFrom s rows (tableRows rows records - (k + 1)) (k + 1))) (thingOf s w) x h d ∙ step
+        pub resolve-last : {x : Told Units} → x ≡ onward (contextOr s find) (thingOf s w) → deciding x ≡ true → x ≡ resolveOf s find (thingsFrom s (rowNumbers rows) (tableRows rows records) 0)
+        resolve-last {x} h d = record-last (λ u. resolveOf s find (thingsFrom s (rowNumbers rows) (tableRows rows records - (k + 1)) (k + 1))) (thingOf s w) x h d ∙ step
 
         -- it does not
         pub resolve-goes : {x : Told Units} → x ≡ onward (contextOr s find) (thingOf s w) → deciding x ≡ false → Resolving (k + 1)
         resolve-goes {x} h d = let (l, e) = row-there k row in record {
           most = omega (arith, l);
-          gives = record-next (λ u. resolveOf s find (thingsFrom s rows (tableRows rows records - (k + 1)) (k + 1))) (thingOf s w) x h d ∙ step;
+          gives = record-next (λ u. resolveOf s find (thingsFrom s (rowNumbers rows) (tableRows rows records - (k + 1)) (k + 1))) (thingOf s w) x h d ∙ step;
         }

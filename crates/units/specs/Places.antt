@@ -135,20 +135,19 @@ module _ (s : List ℕ) (find : ℕ → Told (Option Thing)) (finds : (i : ℕ) 
       go false = l
 
   -- the records of rows
-  rows-placed : (rows : List ℕ) (n k : ℕ) → PlacedIn (length s) (resolveOf s find (thingsFrom s rows n k))
-  unfolding resolveOf thingsFrom
-  rows-placed rows zero k = tt
+  rows-placed : (rows : List ℕ) (n k : ℕ) → PlacedIn (length s) (resolveOf s find (thingsFrom s (rowNumbers rows) n k))
+  unfolding resolveOf thingsFrom rows-placed (rowNumbers rows) zero k = tt
   rows-placed rows (suc n) k =
-      on-placed (length s) (ThingIn (length s)) (recordOf s find (λ u. resolveOf s find (thingsFrom s rows n (suc k)))) (thingOf s (rowNumbers rows k)) (thing-in s (rowNumbers rows k))
-      (record-placed (λ u. resolveOf s find (thingsFrom s rows n (suc k))) (rows-placed rows n (suc k)))
+      on-placed (length s) (ThingIn (length s)) (recordOf s find (λ u. resolveOf s find (thingsFrom s (rowNumbers rows) n (suc k)))) (thingOf s (rowNumbers rows k)) (thing-in s (rowNumbers rows k))
+      (record-placed (λ u. resolveOf s find (thingsFrom s (rowNumbers rows) n (suc k))) (rows-placed rows n (suc k)))
 
 module _ (s rows slots : List ℕ) (ids : Ids) where
   -- `resolve`
-  pub resolve-placed : (n : ℕ) → PlacedIn (length s) (resolveOf s (findOf s rows slots ids) (thingsFrom s rows n 0))
-  resolve-placed n = rows-placed s (findOf s rows slots ids) (find-in s rows slots ids) rows n 0
+  pub resolve-placed : (n : ℕ) → PlacedIn (length s) (resolveOf s (findOf s (rowFor rows slots ids)) (thingsFrom s (rowNumbers rows) n 0))
+  resolve-placed n = rows-placed s (findOf s (rowFor rows slots ids)) (find-in s rows slots ids) rows n 0
 
   -- `units_of_context`
-  pub context-placed : (w : Row) → PlacedIn (length s) (onward (contextOf s (findOf s rows slots ids)) (thingOf s w))
+  pub context-placed : (w : Row) → PlacedIn (length s) (onward (contextOf s (findOf s (rowFor rows slots ids))) (thingOf s w))
   context-placed w =
-      on-placed (length s) (ThingIn (length s)) (contextOf s (findOf s rows slots ids)) (thingOf s w) (thing-in s w)
-      (context-in s (findOf s rows slots ids) (find-in s rows slots ids))
+      on-placed (length s) (ThingIn (length s)) (contextOf s (findOf s (rowFor rows slots ids))) (thingOf s w) (thing-in s w)
+      (context-in s (findOf s (rowFor rows slots ids)) (find-in s rows slots ids))

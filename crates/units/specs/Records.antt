@@ -15,13 +15,12 @@ use Rattle.factors.specs.Thing.{Thing, thingOf}
 use Rattle.units.specs.Code.{thingsFrom}
 
 -- the records of rows one further on
-things-later : (s : List ℕ) (w : Row) (xs : List ℕ) (n k : ℕ) → thingsFrom s (six w ++ xs) n (suc k) ≡ thingsFrom s xs n k
-unfolding thingsFrom
-things-later s w xs zero k = refl
+things-later : (s : List ℕ) (w : Row) (xs : List ℕ) (n k : ℕ) → thingsFrom s (rowNumbers (six w ++ xs)) n (suc k) ≡ thingsFrom s (rowNumbers xs) n k
+unfolding thingsFrom things-later (rowNumbers s) w xs zero k = refl
 things-later s w xs (suc n) k = ap₂ (λ (x : Row) (ts : List (Told Thing)). thingOf s x ∷ ts) (row-later w xs k) (things-later s w xs n (suc k))
 
 -- the records of rows that were laid in lent memory, whatever follows them
-things-laid : (s : List ℕ) (rs : List Row) (rest : List ℕ) → thingsFrom s (flat six rs ++ rest) (length rs) 0 ≡ map (thingOf s) rs
+things-laid : (s : List ℕ) (rs : List Row) (rest : List ℕ) → thingsFrom s (rowNumbers (flat six rs ++ rest)) (length rs) 0 ≡ map (thingOf s) rs
 unfolding thingsFrom flat
 things-laid s [] rest = refl
 things-laid s (w ∷ rs) rest =
@@ -30,8 +29,8 @@ things-laid s (w ∷ rs) rest =
 
 -- the records that the units go through are those of the file, in file order
 pub things-are : (s : List ℕ) (t : Table) (old : List ℕ)
-    → thingsFrom s (rowsAfter (good t) old) (tableRows (rowsAfter (good t) old) (length (t .records))) 0 ≡ map (thingOf s) (t .records)
+    → thingsFrom s (rowNumbers (rowsAfter (good t) old)) (tableRows (rowsAfter (good t) old) (length (t .records))) 0 ≡ map (thingOf s) (t .records)
 things-are s t old =
     let e : tableRows (rowsAfter (good t) old) (length (t .records)) ≡ length (t .records) =
     omega (arith, flat-length 6 six (λ w. refl) (t .records), length-append (recordNumbers t) (drop (length (recordNumbers t)) old)) in
-    ap (λ (n : ℕ). thingsFrom s (rowsAfter (good t) old) n 0) e ∙ things-laid s (t .records) (drop (length (recordNumbers t)) old)
+    ap (λ (n : ℕ). thingsFrom s (rowNumbers (rowsAfter (good t) old)) n 0) e ∙ things-laid s (t .records) (drop (length (recordNumbers t)) old)

@@ -71,7 +71,7 @@ fn is_context(file: &[u8], row: RecordSpan) -> Asked
 
 // The units of a record, where it is a context; else those that are assumed.
 fn context_units(file: &[u8], rows: &[u32], slots: &[u64], t: Tables, row: RecordSpan) -> Resolved
-    ensures { λ r. ⌜ toldUnits r ≡ onward (contextOr (now (file .entry)) (findOf (now (file .entry)) (now (rows .entry)) (now (slots .entry)) (t .ids))) (thingOf (now (file .entry)) (rowOf row)) ⌝ }
+    ensures { λ r. ⌜ toldUnits r ≡ onward (contextOr (now (file .entry)) (findOf (now (file .entry)) (rowFor (now (rows .entry)) (now (slots .entry)) (t .ids)))) (thingOf (now (file .entry)) (rowOf row)) ⌝ }
 {
     match is_context(file, row) {
         Asked::Refused(f) => Resolved::Refused(f),
@@ -82,7 +82,7 @@ fn context_units(file: &[u8], rows: &[u32], slots: &[u64], t: Tables, row: Recor
 
 // The units of the first context, in file order, whose units give a length factor.
 pub fn resolve(file: &[u8], rows: &[u32], slots: &[u64], t: Tables) -> Resolved
-    ensures { λ r. ⌜ toldUnits r ≡ resolveOf (now (file .entry)) (findOf (now (file .entry)) (now (rows .entry)) (now (slots .entry)) (t .ids)) (thingsFrom (now (file .entry)) (now (rows .entry)) (tableRows (now (rows .entry)) (t .records)) 0) ⌝ }
+    ensures { λ r. ⌜ toldUnits r ≡ resolveOf (now (file .entry)) (findOf (now (file .entry)) (rowFor (now (rows .entry)) (now (slots .entry)) (t .ids))) (thingsFrom (now (file .entry)) (rowNumbers (now (rows .entry))) (tableRows (now (rows .entry)) (t .records)) 0) ⌝ }
 {
     let mut k: usize = 0;
     loop {

@@ -112,7 +112,7 @@ fn with_angle(u: Values, f: Factor) -> Resolved
 
 // One unit of a list, by its id.
 fn one_unit(file: &[u8], rows: &[u32], slots: &[u64], t: Tables, u: Values, id: u32) -> Resolved
-    ensures { λ r. ⌜ toldUnits r ≡ unitBy (now (file .entry)) (findOf (now (file .entry)) (now (rows .entry)) (now (slots .entry)) (t .ids)) (valuesIn u) id ⌝ }
+    ensures { λ r. ⌜ toldUnits r ≡ unitBy (now (file .entry)) (findOf (now (file .entry)) (rowFor (now (rows .entry)) (now (slots .entry)) (t .ids))) (valuesIn u) id ⌝ }
 {
     let Entry::Row(w) = lookup::get(rows, slots, t, id) else {
         return Resolved::Is(u);
@@ -129,7 +129,7 @@ fn one_unit(file: &[u8], rows: &[u32], slots: &[u64], t: Tables, u: Values, id: 
 // The units of the list whose inside is b.
 fn units_from(file: &[u8], rows: &[u32], slots: &[u64], t: Tables, b: &[u8]) -> Resolved
     requires { ⌜ ReadsAll (now b) ⌝ }
-    ensures { λ r. ⌜ toldUnits r ≡ unitsBy (now (file .entry)) (findOf (now (file .entry)) (now (rows .entry)) (now (slots .entry)) (t .ids)) defaults (idsOf (now (b .entry))) ⌝ }
+    ensures { λ r. ⌜ toldUnits r ≡ unitsBy (now (file .entry)) (findOf (now (file .entry)) (rowFor (now (rows .entry)) (now (slots .entry)) (t .ids))) defaults (idsOf (now (b .entry))) ⌝ }
 {
     let mut u = assumed();
     let mut i: usize = 0;
@@ -155,7 +155,7 @@ fn units_from(file: &[u8], rows: &[u32], slots: &[u64], t: Tables, b: &[u8]) -> 
 
 // The units that a context lists.
 fn listed_units(file: &[u8], rows: &[u32], slots: &[u64], t: Tables, row: RecordSpan) -> Resolved
-    ensures { λ r. ⌜ toldUnits r ≡ onward (listedUnits (now (file .entry)) (findOf (now (file .entry)) (now (rows .entry)) (now (slots .entry)) (t .ids))) (thingOf (now (file .entry)) (rowOf row)) ⌝ }
+    ensures { λ r. ⌜ toldUnits r ≡ onward (listedUnits (now (file .entry)) (findOf (now (file .entry)) (rowFor (now (rows .entry)) (now (slots .entry)) (t .ids)))) (thingOf (now (file .entry)) (rowOf row)) ⌝ }
 {
     match refs_in(
         file,
@@ -169,7 +169,7 @@ fn listed_units(file: &[u8], rows: &[u32], slots: &[u64], t: Tables, row: Record
 
 // One listed uncertainty: a simple UNCERTAINTY_MEASURE_WITH_UNIT that reads.
 fn one_uncertainty(file: &[u8], rows: &[u32], slots: &[u64], t: Tables, id: u32) -> Uncertain
-    ensures { λ r. ⌜ toldUncertain r ≡ uncertaintyBy (now (file .entry)) (findOf (now (file .entry)) (now (rows .entry)) (now (slots .entry)) (t .ids)) id ⌝ }
+    ensures { λ r. ⌜ toldUncertain r ≡ uncertaintyBy (now (file .entry)) (findOf (now (file .entry)) (rowFor (now (rows .entry)) (now (slots .entry)) (t .ids))) id ⌝ }
 {
     let Entry::Row(w) = lookup::get(rows, slots, t, id) else {
         return Uncertain::Next;
@@ -207,7 +207,7 @@ fn uncertain_by(n: NextReal) -> Uncertain
 // The tolerance of the list whose inside is b.
 fn tolerance_from(file: &[u8], rows: &[u32], slots: &[u64], t: Tables, b: &[u8]) -> Tolerance
     requires { ⌜ ReadsAll (now b) ⌝ }
-    ensures { λ r. ⌜ toldTolerance r ≡ toleranceBy (now (file .entry)) (findOf (now (file .entry)) (now (rows .entry)) (now (slots .entry)) (t .ids)) (idsOf (now (b .entry))) ⌝ }
+    ensures { λ r. ⌜ toldTolerance r ≡ toleranceBy (now (file .entry)) (findOf (now (file .entry)) (rowFor (now (rows .entry)) (now (slots .entry)) (t .ids))) (idsOf (now (b .entry))) ⌝ }
 {
     let mut i: usize = 0;
     loop {
@@ -238,7 +238,7 @@ fn listed_tolerance(
     t: Tables,
     row: RecordSpan,
 ) -> Tolerance
-    ensures { λ r. ⌜ toldTolerance r ≡ onward (listedTolerance (now (file .entry)) (findOf (now (file .entry)) (now (rows .entry)) (now (slots .entry)) (t .ids))) (thingOf (now (file .entry)) (rowOf row)) ⌝ }
+    ensures { λ r. ⌜ toldTolerance r ≡ onward (listedTolerance (now (file .entry)) (findOf (now (file .entry)) (rowFor (now (rows .entry)) (now (slots .entry)) (t .ids)))) (thingOf (now (file .entry)) (rowOf row)) ⌝ }
 {
     match refs_in(
         file,
@@ -258,7 +258,7 @@ pub fn units_of_context(
     t: Tables,
     row: RecordSpan,
 ) -> Resolved
-    ensures { λ r. ⌜ toldUnits r ≡ onward (contextOf (now (file .entry)) (findOf (now (file .entry)) (now (rows .entry)) (now (slots .entry)) (t .ids))) (thingOf (now (file .entry)) (rowOf row)) ⌝ }
+    ensures { λ r. ⌜ toldUnits r ≡ onward (contextOf (now (file .entry)) (findOf (now (file .entry)) (rowFor (now (rows .entry)) (now (slots .entry)) (t .ids)))) (thingOf (now (file .entry)) (rowOf row)) ⌝ }
 {
     match listed_units(file, rows, slots, t, row) {
         Resolved::Refused(f) => Resolved::Refused(f),

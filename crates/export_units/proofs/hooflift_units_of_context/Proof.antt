@@ -44,7 +44,7 @@ returns c =
     let s = k .before .tables-of .ensures in
     let e = ap toldEntry (sym (c .before .before .before .before .before .before .before .before .w .given .1)) ∙ k .entity .ensures ∙ ap (λ (t : Tables). rowIn (now (a .rows)) (t .records) (a .k)) s in
     let r = toldUnits (u .result) in
-    let g = ap (λ (x : Told Units). mapped some x) (u .ensures) ∙ ap (λ (t : Tables). unitsIn (now (a .file)) (findOf (now (a .file)) (now (a .rows)) (now (a .slots)) (t .ids)) (some (rowOf w))) s ∙ ap (λ (o : Option Row). unitsIn (now (a .file)) (findOf (now (a .file)) (now (a .rows)) (now (a .slots)) ((tablesBy (now (a .tables))) .ids)) o) e in
+    let g = ap (λ (x : Told Units). mapped some x) (u .ensures) ∙ ap (λ (t : Tables). unitsIn (now (a .file)) (findOf (now (a .file)) (rowFor (now (a .rows)) (now (a .slots)) (t .ids))) (some (rowOf w))) s ∙ ap (λ (o : Option Row). unitsIn (now (a .file)) (findOf (now (a .file)) (rowFor (now (a .rows)) (now (a .slots)) ((tablesBy (now (a .tables))) .ids))) o) e in
     (c .put-units .ensures .0 .0 ∙ found-code r ∙ ap (λ (x : Told (Option Units)). foundCode x) g, (c .put-units .ensures .0 .1 ∙ found-fault r (now (a .fault)) ∙ ap (λ (x : Told (Option Units)). readFault x (now (a .fault))) g, (c .put-units .ensures .1 .0 ∙ found-value (λ (u : Units). u .length) r (toBits binary64 (now (a .mm))) ∙ ap (λ (x : Told (Option Units)). foundValue (λ (u : Units). u .length) x (toBits binary64 (now (a .mm)))) g, (c .put-units .ensures .1 .1 .0 ∙ found-value (λ (u : Units). u .angle) r (toBits binary64 (now (a .rad))) ∙ ap (λ (x : Told (Option Units)). foundValue (λ (u : Units). u .angle) x (toBits binary64 (now (a .rad)))) g, (c .put-units .ensures .1 .1 .1 .0 ∙ found-value (λ (u : Units). u .tolerance) r (toBits binary64 (now (a .tolerance))) ∙ ap (λ (x : Told (Option Units)). foundValue (λ (u : Units). u .tolerance) x (toBits binary64 (now (a .tolerance)))) g, c .put-units .ensures .1 .1 .1 .1 ∙ found-value (λ (u : Units). truthNumber (u .resolved)) r (now (a .resolved)) ∙ ap (λ (x : Told (Option Units)). foundValue (λ (u : Units). truthNumber (u .resolved)) x (now (a .resolved))) g)))))
 
 returns-2 : tie.Need-returns-2
@@ -53,7 +53,7 @@ returns-2 c =
     let a = c .before .before .before .before .before .before .before .before .args in
     let s = k .before .tables-of .ensures in
     let e = ap toldEntry (sym (c .enum-told .given .1)) ∙ k .entity .ensures ∙ ap (λ (t : Tables). rowIn (now (a .rows)) (t .records) (a .k)) s in
-    let g = ap (λ (o : Option Row). unitsIn (now (a .file)) (findOf (now (a .file)) (now (a .rows)) (now (a .slots)) ((tablesBy (now (a .tables))) .ids)) o) e in
+    let g = ap (λ (o : Option Row). unitsIn (now (a .file)) (findOf (now (a .file)) (rowFor (now (a .rows)) (now (a .slots)) ((tablesBy (now (a .tables))) .ids))) o) e in
     (ap (λ (x : Told (Option Units)). foundCode x) g, (ap (λ (x : Told (Option Units)). readFault x (now (a .fault))) g, (ap (λ (x : Told (Option Units)). foundValue (λ (u : Units). u .length) x (toBits binary64 (now (a .mm)))) g, (ap (λ (x : Told (Option Units)). foundValue (λ (u : Units). u .angle) x (toBits binary64 (now (a .rad)))) g, (ap (λ (x : Told (Option Units)). foundValue (λ (u : Units). u .tolerance) x (toBits binary64 (now (a .tolerance)))) g, ap (λ (x : Told (Option Units)). foundValue (λ (u : Units). truthNumber (u .resolved)) x (now (a .resolved))) g)))))
 
 pub hooflift-units-of-context-spec : {M : Type 1} → statement M

@@ -105,11 +105,11 @@ length-at-measure-in-mm-requires t c κs = let a = c .before .before .before .be
 
 length-at-returns : (t : ℕ) → length-at-lts.Need-returns (length-at-calls t) (length-at-at t) length-at.Post
 length-at-returns t c = let a = c .before .before .before .before .before .before .before .args in
-    chain-known (now (a .file)) (findOf (now (a .file)) (now (a .rows)) (now (a .slots)) (a .t .ids)) (a .left) (thingOf (now (a .file)) (rowOf (a .row))) (toldFactor (c .before .f .given .0 .0)) (ap toldLink (sym (c .before .f .given .1)) ∙ c .before .before .before .link-at .ensures)
+    chain-known (now (a .file)) (findOf (now (a .file)) (rowFor (now (a .rows)) (now (a .slots)) (a .t .ids))) (a .left) (thingOf (now (a .file)) (rowOf (a .row))) (toldFactor (c .before .f .given .0 .0)) (ap toldLink (sym (c .before .f .given .1)) ∙ c .before .before .before .link-at .ensures)
 
 length-at-returns-2 : (t : ℕ) → length-at-lts.Need-returns-2 (length-at-calls t) (length-at-at t) length-at.Post
 length-at-returns-2 t c = let a = c .before .before .before .before .before .before .before .before .args in
-    chain-leads (now (a .file)) (findOf (now (a .file)) (now (a .rows)) (now (a .slots)) (a .t .ids)) (a .left) (thingOf (now (a .file)) (rowOf (a .row))) (ap toldLink (sym (c .before .before .id .given .1)) ∙ c .before .before .before .before .link-at .ensures) (c .measure-in-mm .ensures)
+    chain-leads (now (a .file)) (findOf (now (a .file)) (rowFor (now (a .rows)) (now (a .slots)) (a .t .ids))) (a .left) (thingOf (now (a .file)) (rowOf (a .row))) (ap toldLink (sym (c .before .before .id .given .1)) ∙ c .before .before .before .before .link-at .ensures) (c .measure-in-mm .ensures)
 
 measure-in-mm-get-requires : (t : ℕ) → measure-in-mm-lts.Need-get-requires (measure-in-mm-calls t) (measure-in-mm-at t) measure-in-mm.Post
 measure-in-mm-get-requires t c κs = search needs
@@ -122,7 +122,7 @@ measure-in-mm-enum-told t c = search needs
 
 measure-in-mm-returns : (t : ℕ) → measure-in-mm-lts.Need-returns (measure-in-mm-calls t) (measure-in-mm-at t) measure-in-mm.Post
 measure-in-mm-returns t c = let a = c .before .before .before .before .before .before .args in
-    let find = findOf (now (a .file)) (now (a .rows)) (now (a .slots)) (a .t .ids) in
+    let find = findOf (now (a .file)) (rowFor (now (a .rows)) (now (a .slots)) (a .t .ids)) in
     measure-missing (now (a .file)) find (lengthOf (now (a .file)) find (a .left)) (a .id) (find-none (now (a .file)) (now (a .rows)) (now (a .slots)) (a .t .ids) (a .id) (ap toldEntry (sym (c .enum-told .given .1)) ∙ c .before .before .get .ensures))
 
 measure-in-mm-measure-run-requires : (t : ℕ) → measure-in-mm-lts.Need-measure-run-requires (measure-in-mm-calls t) (measure-in-mm-at t) measure-in-mm.Post
@@ -151,7 +151,7 @@ measure-in-mm-unread-requires t c κs = search needs
 
 measure-in-mm-returns-2 : (t : ℕ) → measure-in-mm-lts.Need-returns-2 (measure-in-mm-calls t) (measure-in-mm-at t) measure-in-mm.Post
 measure-in-mm-returns-2 t c = let a = c .before .before .before .before .before .before .before .before .before .before .before .before .before .before .before .args in
-    let find = findOf (now (a .file)) (now (a .rows)) (now (a .slots)) (a .t .ids) in
+    let find = findOf (now (a .file)) (rowFor (now (a .rows)) (now (a .slots)) (a .t .ids)) in
     c .unread .ensures
     ∙ at-unread (now (a .file)) find (lengthOf (now (a .file)) find (a .left)) (c .before .before .before .before .before .a .given .0 .0) (c .before .before .before .before .before .a .given .0 .1 .0) (c .before .before .before .next-measure-f64 .ensures) (ap (λ (x : Read ℕ). x .answer) (ap toldNextReal (c .before .enum-told3 .given .1)))
     ∙ sym (measure-some (now (a .file)) find (lengthOf (now (a .file)) find (a .left)) (a .id) (thingOf (now (a .file)) (rowOf (c .before .before .before .before .before .before .before .before .before .w .given .0 .0))) (find-row (now (a .file)) (now (a .rows)) (now (a .slots)) (a .t .ids) (a .id) (ap toldEntry (sym (c .before .before .before .before .before .before .before .before .before .w .given .1)) ∙ c .before .before .before .before .before .before .before .before .before .before .before .get .ensures)) (ap toldRun (sym (c .before .before .before .before .before .a .given .1)) ∙ c .before .before .before .before .before .before .before .measure-run .ensures))
@@ -167,7 +167,7 @@ measure-in-mm-enum-told-4 t c = search needs
 
 measure-in-mm-returns-3 : (t : ℕ) → measure-in-mm-lts.Need-returns-3 (measure-in-mm-calls t) (measure-in-mm-at t) measure-in-mm.Post
 measure-in-mm-returns-3 t c = let a = c .before .before .before .before .before .before .before .before .before .before .before .before .before .before .before .before .before .before .args in
-    let find = findOf (now (a .file)) (now (a .rows)) (now (a .slots)) (a .t .ids) in
+    let find = findOf (now (a .file)) (rowFor (now (a .rows)) (now (a .slots)) (a .t .ids)) in
     let n = c .before .before .before .before .number .given .0 in
     base-unread (now (a .file)) find (lengthOf (now (a .file)) find (a .left)) (toBits binary64 (n .0)) (n .1 .0 .place) (n .1 .0 .end) (ap toldNextRef (sym (c .enum-told4 .given .1)) ∙ c .before .before .next-ref .ensures)
     ∙ sym (at-read (now (a .file)) find (lengthOf (now (a .file)) find (a .left)) (c .before .before .before .before .before .before .before .before .a .given .0 .0) (c .before .before .before .before .before .before .before .before .a .given .0 .1 .0) (ap toldNextReal (sym (c .before .before .before .before .number .given .1)) ∙ c .before .before .before .before .before .before .next-measure-f64 .ensures))
@@ -184,7 +184,7 @@ measure-in-mm-enum-told-5 t c = search needs
 
 measure-in-mm-returns-4 : (t : ℕ) → measure-in-mm-lts.Need-returns-4 (measure-in-mm-calls t) (measure-in-mm-at t) measure-in-mm.Post
 measure-in-mm-returns-4 t c = let a = c .before .before .before .before .before .before .before .before .before .before .before .before .before .before .before .before .before .before .before .before .before .before .args in
-    let find = findOf (now (a .file)) (now (a .rows)) (now (a .slots)) (a .t .ids) in
+    let find = findOf (now (a .file)) (rowFor (now (a .rows)) (now (a .slots)) (a .t .ids)) in
     let n = c .before .before .before .before .before .before .before .before .number .given .0 in
     base-missing (now (a .file)) find (lengthOf (now (a .file)) find (a .left)) (toBits binary64 (n .0)) (n .1 .0 .place) (n .1 .0 .end) (ap toldNextRef (sym (c .before .before .before .before .base .given .1)) ∙ c .before .before .before .before .before .before .next-ref .ensures) (find-none (now (a .file)) (now (a .rows)) (now (a .slots)) (a .t .ids) (c .before .before .before .before .base .given .0 .0) (ap toldEntry (sym (c .enum-told5 .given .1)) ∙ c .before .before .get2 .ensures))
     ∙ sym (at-read (now (a .file)) find (lengthOf (now (a .file)) find (a .left)) (c .before .before .before .before .before .before .before .before .before .before .before .before .a .given .0 .0) (c .before .before .before .before .before .before .before .before .before .before .before .before .a .given .0 .1 .0) (ap toldNextReal (sym (c .before .before .before .before .before .before .before .before .number .given .1)) ∙ c .before .before .before .before .before .before .before .before .before .before .next-measure-f64 .ensures))
@@ -198,17 +198,17 @@ measure-in-mm-scaled-requires t c κs = search needs
 
 measure-in-mm-returns-5 : (t : ℕ) → measure-in-mm-lts.Need-returns-5 (measure-in-mm-calls t) (measure-in-mm-at t) measure-in-mm.Post
 measure-in-mm-returns-5 t c = let a = c .before .before .before .before .before .before .before .before .before .before .before .args in
-    let find = findOf (now (a .file)) (now (a .rows)) (now (a .slots)) (a .t .ids) in
+    let find = findOf (now (a .file)) (rowFor (now (a .rows)) (now (a .slots)) (a .t .ids)) in
     measure-refused (now (a .file)) find (lengthOf (now (a .file)) find (a .left)) (a .id) (thingOf (now (a .file)) (rowOf (c .before .before .before .before .before .w .given .0 .0))) (find-row (now (a .file)) (now (a .rows)) (now (a .slots)) (a .t .ids) (a .id) (ap toldEntry (sym (c .before .before .before .before .before .w .given .1)) ∙ c .before .before .before .before .before .before .before .get .ensures)) (ap toldRun (sym (c .before .f .given .1)) ∙ c .before .before .before .measure-run .ensures)
 
 measure-in-mm-returns-6 : (t : ℕ) → measure-in-mm-lts.Need-returns-6 (measure-in-mm-calls t) (measure-in-mm-at t) measure-in-mm.Post
 measure-in-mm-returns-6 t c = let a = c .before .before .before .before .before .before .before .before .before .before .args in
-    let find = findOf (now (a .file)) (now (a .rows)) (now (a .slots)) (a .t .ids) in
+    let find = findOf (now (a .file)) (rowFor (now (a .rows)) (now (a .slots)) (a .t .ids)) in
     measure-none (now (a .file)) find (lengthOf (now (a .file)) find (a .left)) (a .id) (thingOf (now (a .file)) (rowOf (c .before .before .before .before .w .given .0 .0))) (find-row (now (a .file)) (now (a .rows)) (now (a .slots)) (a .t .ids) (a .id) (ap toldEntry (sym (c .before .before .before .before .w .given .1)) ∙ c .before .before .before .before .before .before .get .ensures)) (ap toldRun (sym (c .enum-told2 .given .1)) ∙ c .before .before .measure-run .ensures)
 
 measure-in-mm-returns-7 : (t : ℕ) → measure-in-mm-lts.Need-returns-7 (measure-in-mm-calls t) (measure-in-mm-at t) measure-in-mm.Post
 measure-in-mm-returns-7 t c = let a = c .before .before .before .before .before .before .before .before .before .before .before .before .before .before .before .before .before .before .before .before .before .before .before .before .before .args in
-    let find = findOf (now (a .file)) (now (a .rows)) (now (a .slots)) (a .t .ids) in
+    let find = findOf (now (a .file)) (rowFor (now (a .rows)) (now (a .slots)) (a .t .ids)) in
     let n = c .before .before .before .before .before .before .before .before .before .before .before .number .given .0 in
     c .scaled .ensures
     ∙ base-row (now (a .file)) find (lengthOf (now (a .file)) find (a .left)) (toBits binary64 (n .0)) (n .1 .0 .place) (n .1 .0 .end) (thingOf (now (a .file)) (rowOf (c .before .before .before .b .given .0 .0))) (ap toldNextRef (sym (c .before .before .before .before .before .before .before .base .given .1)) ∙ c .before .before .before .before .before .before .before .before .before .next-ref .ensures) (find-row (now (a .file)) (now (a .rows)) (now (a .slots)) (a .t .ids) (c .before .before .before .before .before .before .before .base .given .0 .0) (ap toldEntry (sym (c .before .before .before .b .given .1)) ∙ c .before .before .before .before .before .get2 .ensures)) (c .before .length-at .ensures)

@@ -24,11 +24,11 @@ measure-number-requires c κs = search needs
 
 returns : tie.Need-returns
 returns c = let a = c .before .before .before .before .before .before .before .args in
-    ap (λ (x : Told ℕ). onward (numberIn (now (a .file)) (findOf (now (a .file)) (now (a .rows)) (now (a .slots)) (a .t .ids))) x) (ap toldId (sym (c .before .f .given .1)) ∙ c .before .before .before .measure-ref .ensures)
+    ap (λ (x : Told ℕ). onward (numberIn (now (a .file)) (findOf (now (a .file)) (rowFor (now (a .rows)) (now (a .slots)) (a .t .ids)))) x) (ap toldId (sym (c .before .f .given .1)) ∙ c .before .before .before .measure-ref .ensures)
 
 returns-2 : tie.Need-returns-2
 returns-2 c = let a = c .before .before .before .before .before .before .before .before .args in
-    c .measure-number .ensures ∙ ap (λ (x : Told ℕ). onward (numberIn (now (a .file)) (findOf (now (a .file)) (now (a .rows)) (now (a .slots)) (a .t .ids))) x) (ap toldId (sym (c .before .before .id .given .1)) ∙ c .before .before .before .before .measure-ref .ensures)
+    c .measure-number .ensures ∙ ap (λ (x : Told ℕ). onward (numberIn (now (a .file)) (findOf (now (a .file)) (rowFor (now (a .rows)) (now (a .slots)) (a .t .ids)))) x) (ap toldId (sym (c .before .before .id .given .1)) ∙ c .before .before .before .before .measure-ref .ensures)
 
 pub angle-converted-spec : {M : Type 1} → statement M
 angle-converted-spec =

@@ -22,7 +22,7 @@ enum-told c = search needs
 
 returns : tie.Need-returns
 returns c = let a = c .before .before .before .before .before .before .args in
-    number-missing (now (a .file)) (findOf (now (a .file)) (now (a .rows)) (now (a .slots)) (a .t .ids)) (a .id) (find-none (now (a .file)) (now (a .rows)) (now (a .slots)) (a .t .ids) (a .id) (ap toldEntry (sym (c .enum-told .given .1)) ∙ c .before .before .get .ensures))
+    number-missing (now (a .file)) (findOf (now (a .file)) (rowFor (now (a .rows)) (now (a .slots)) (a .t .ids))) (a .id) (find-none (now (a .file)) (now (a .rows)) (now (a .slots)) (a .t .ids) (a .id) (ap toldEntry (sym (c .enum-told .given .1)) ∙ c .before .before .get .ensures))
 
 args-of-requires : tie.Need-args-of-requires
 args-of-requires c κs = search needs
@@ -35,7 +35,7 @@ enum-told-2 c = search needs
 
 returns-2 : tie.Need-returns-2
 returns-2 c = let a = c .before .before .before .before .before .before .before .before .before .before .args in
-    number-out (now (a .file)) (findOf (now (a .file)) (now (a .rows)) (now (a .slots)) (a .t .ids)) (a .id) (rowOf (c .before .before .before .before .w .given .0 .0))
+    number-out (now (a .file)) (findOf (now (a .file)) (rowFor (now (a .rows)) (now (a .slots)) (a .t .ids))) (a .id) (rowOf (c .before .before .before .before .w .given .0 .0))
     (find-row (now (a .file)) (now (a .rows)) (now (a .slots)) (a .t .ids) (a .id) (ap toldEntry (sym (c .before .before .before .before .w .given .1)) ∙ c .before .before .before .before .before .before .get .ensures))
     (ap toldSpan (sym (c .enum-told2 .given .1)) ∙ c .before .before .args-of .ensures)
 
@@ -54,7 +54,7 @@ unread-requires c κs = search needs
 returns-3 : tie.Need-returns-3
 returns-3 c = let a = c .before .before .before .before .before .before .before .before .before .before .before .before .before .before .before .args in
     c .unread .ensures ∙
-    number-unread (now (a .file)) (findOf (now (a .file)) (now (a .rows)) (now (a .slots)) (a .t .ids)) (a .id) (rowOf (c .before .before .before .before .before .before .before .before .before .w .given .0 .0))
+    number-unread (now (a .file)) (findOf (now (a .file)) (rowFor (now (a .rows)) (now (a .slots)) (a .t .ids))) (a .id) (rowOf (c .before .before .before .before .before .before .before .before .before .w .given .0 .0))
     (find-row (now (a .file)) (now (a .rows)) (now (a .slots)) (a .t .ids) (a .id) (ap toldEntry (sym (c .before .before .before .before .before .before .before .before .before .w .given .1)) ∙ c .before .before .before .before .before .before .before .before .before .before .before .get .ensures))
     (ap toldSpan (sym (c .before .before .before .before .before .a .given .1)) ∙ c .before .before .before .before .before .before .before .args-of .ensures)
     (c .before .before .before .next-measure-f64 .ensures)
@@ -62,7 +62,7 @@ returns-3 c = let a = c .before .before .before .before .before .before .before 
 
 returns-4 : tie.Need-returns-4
 returns-4 c = let a = c .before .before .before .before .before .before .before .before .before .before .before .before .before .before .before .args in
-    number-read (now (a .file)) (findOf (now (a .file)) (now (a .rows)) (now (a .slots)) (a .t .ids)) (a .id) (rowOf (c .before .before .before .before .before .before .before .before .before .w .given .0 .0))
+    number-read (now (a .file)) (findOf (now (a .file)) (rowFor (now (a .rows)) (now (a .slots)) (a .t .ids))) (a .id) (rowOf (c .before .before .before .before .before .before .before .before .before .w .given .0 .0))
     (find-row (now (a .file)) (now (a .rows)) (now (a .slots)) (a .t .ids) (a .id) (ap toldEntry (sym (c .before .before .before .before .before .before .before .before .before .w .given .1)) ∙ c .before .before .before .before .before .before .before .before .before .before .before .get .ensures))
     (ap toldSpan (sym (c .before .before .before .before .before .a .given .1)) ∙ c .before .before .before .before .before .before .before .args-of .ensures)
     (ap toldNextReal (sym (c .before .number .given .1)) ∙ c .before .before .before .next-measure-f64 .ensures)

@@ -1,10 +1,10 @@
+use Rattle.table.specs.Table.{headerNumbers}
 use borrow.Author.Needs.{needs}
 use mathlib.Core.Path.{sym, _∙_, ap}
 use denote.Ref.{now}
 use lib.ListN.{length}
 use Rattle.lookup.specs.Lookup.{toldPlace}
 use Rattle.headers.specs.Header.{headerArgs}
-use Rattle.headers.specs.Laws.{header-fits}
 use Rattle.headers.proofs.header_args.Statement.{statement}
 use Rattle.headers.proofs.header_args.Tie as tie
 
@@ -18,13 +18,13 @@ enum-known-i : tie.Need-enum-known-i
 enum-known-i c = search needs
 
 named-args-requires : tie.Need-named-args-requires
-named-args-requires c κs = header-fits (now (c .before .before .before .before .before .before .before .args .file)) (now (c .before .before .before .before .before .before .before .args .heads)) (c .before .before .before .before .before .before .before .args .t .headers) (now (c .before .before .before .before .before .before .before .args .name)) (c .before .i .given .0 .0) (sym (ap toldPlace (c .before .i .given .1)) ∙ c .before .before .before .header-row .ensures)
+named-args-requires c κs = search needs
 
 returns : tie.Need-returns
-returns c = ap (headerArgs (length (now (c .before .before .before .before .before .before .args .file))) (now (c .before .before .before .before .before .before .args .heads))) (sym (ap toldPlace (c .enum-told .given .1)) ∙ c .before .before .header-row .ensures)
+returns c = ap (headerArgs (length (now (c .before .before .before .before .before .before .args .file))) (headerNumbers (now (c .before .before .before .before .before .before .args .heads)))) (sym (ap toldPlace (c .enum-told .given .1)) ∙ c .before .before .header-row .ensures)
 
 returns-2 : tie.Need-returns-2
-returns-2 c = c .named-args .ensures ∙ ap (headerArgs (length (now (c .before .before .before .before .before .before .before .before .args .file))) (now (c .before .before .before .before .before .before .before .before .args .heads))) (sym (ap toldPlace (c .before .before .i .given .1)) ∙ c .before .before .before .before .header-row .ensures)
+returns-2 c = c .named-args .ensures ∙ ap (headerArgs (length (now (c .before .before .before .before .before .before .before .before .args .file))) (headerNumbers (now (c .before .before .before .before .before .before .before .before .args .heads)))) (sym (ap toldPlace (c .before .before .i .given .1)) ∙ c .before .before .before .before .header-row .ensures)
 
 pub header-args-spec : {M : Type 1} → statement M
 header-args-spec =

@@ -1,3 +1,4 @@
+use Rattle.table.specs.Table.{headerNumbers}
 use native.Mathlib.Omega.{arith}
 use mathlib.Core.Path.{_≡_, sym, _∙_, ap}
 use Prim.Native.Nat.{ℕ, _-_}
@@ -10,26 +11,24 @@ use Rattle.headers.proofs.header_row.Statement.{statement}
 use Rattle.headers.proofs.header_row.Tie as tie
 
 abbrev Inv-loop : tie.InvT-loop
-Inv-loop file heads name n i₀ i = firstFrom (isHeader file heads name) (n - i) i ≡ firstFrom (isHeader file heads name) n 0
+Inv-loop file heads name n i₀ i = firstFrom (isHeader file (headerNumbers heads) name) (n - i) i ≡ firstFrom (isHeader file (headerNumbers heads) name) n 0
 
 abbrev μ-loop : tie.MeasureT-loop
 μ-loop file heads name n i₀ i = n - i
 
-within-requires : tie.Need-within-requires Inv-loop μ-loop
-within-requires c κs = search needs
+header-rows-requires : tie.Need-header-rows-requires Inv-loop μ-loop
+header-rows-requires c κs = search needs
 
 loop-holds : tie.Need-loop-holds Inv-loop μ-loop
 loop-holds c =
-    let e : c .within .result - 0 ≡ c .within .result = omega arith in
-    ap (λ (z : ℕ). firstFrom (isHeader (now (c .before .before .before .before .args .file)) (now (c .before .before .before .before .args .heads)) (now (c .before .before .before .before .args .name))) z 0) e
+    let e : c .header-rows .result - 0 ≡ c .header-rows .result = omega arith in
+    ap (λ (z : ℕ). firstFrom (isHeader (now (c .before .before .before .before .args .file)) (headerNumbers (now (c .before .before .before .before .args .heads))) (now (c .before .before .before .before .args .name))) z 0) e
 
 is-named-requires : tie.Need-is-named-requires Inv-loop μ-loop
-is-named-requires c κs =
-    let e = c .before .before .within .ensures in
-    omega arith
+is-named-requires c κs = search needs
 
 returns : tie.Need-returns Inv-loop μ-loop
-returns c = sym (first-stops (isHeader (now (c .before .before .before .before .before .before .before .before .args .file)) (now (c .before .before .before .before .before .before .before .before .args .heads)) (now (c .before .before .before .before .before .before .before .before .args .name))) (c .before .before .before .before .within .result) (c .before .before .before .loop .i) (c .before .before .loop-test .taken) (sym (c .before .is-named .ensures) ∙ c .if1 .taken)) ∙ c .before .before .before .loop .inv ∙ ap (λ (z : ℕ). firstFrom (isHeader (now (c .before .before .before .before .before .before .before .before .args .file)) (now (c .before .before .before .before .before .before .before .before .args .heads)) (now (c .before .before .before .before .before .before .before .before .args .name))) z 0) (c .before .before .before .before .within .ensures)
+returns c = sym (first-stops (isHeader (now (c .before .before .before .before .before .before .before .before .args .file)) (headerNumbers (now (c .before .before .before .before .before .before .before .before .args .heads))) (now (c .before .before .before .before .before .before .before .before .args .name))) (c .before .before .before .before .header-rows .result) (c .before .before .before .loop .i) (c .before .before .loop-test .taken) (sym (c .before .is-named .ensures) ∙ c .if1 .taken)) ∙ c .before .before .before .loop .inv ∙ ap (λ (z : ℕ). firstFrom (isHeader (now (c .before .before .before .before .before .before .before .before .args .file)) (headerNumbers (now (c .before .before .before .before .before .before .before .before .args .heads))) (now (c .before .before .before .before .before .before .before .before .args .name))) z 0) (c .before .before .before .before .header-rows .ensures)
 
 add-i : tie.Need-add-i Inv-loop μ-loop
 add-i c = search needs
@@ -38,10 +37,10 @@ loop-less : tie.Need-loop-less Inv-loop μ-loop
 loop-less c = search needs
 
 loop-again : tie.Need-loop-again Inv-loop μ-loop
-loop-again c = sym (first-goes (isHeader (now (c .before .before .before .before .before .before .before .before .args .file)) (now (c .before .before .before .before .before .before .before .before .args .heads)) (now (c .before .before .before .before .before .before .before .before .args .name))) (c .before .before .before .before .within .result) (c .before .before .before .loop .i) (c .before .before .loop-test .taken) (sym (c .before .is-named .ensures) ∙ c .if1 .left)) ∙ c .before .before .before .loop .inv
+loop-again c = sym (first-goes (isHeader (now (c .before .before .before .before .before .before .before .before .args .file)) (headerNumbers (now (c .before .before .before .before .before .before .before .before .args .heads))) (now (c .before .before .before .before .before .before .before .before .args .name))) (c .before .before .before .before .header-rows .result) (c .before .before .before .loop .i) (c .before .before .loop-test .taken) (sym (c .before .is-named .ensures) ∙ c .if1 .left)) ∙ c .before .before .before .loop .inv
 
 returns-2 : tie.Need-returns-2 Inv-loop μ-loop
-returns-2 c = sym (first-ends (isHeader (now (c .before .before .before .before .before .before .args .file)) (now (c .before .before .before .before .before .before .args .heads)) (now (c .before .before .before .before .before .before .args .name))) (c .before .before .within .result) (c .before .loop .i) (c .loop-test .left)) ∙ c .before .loop .inv ∙ ap (λ (z : ℕ). firstFrom (isHeader (now (c .before .before .before .before .before .before .args .file)) (now (c .before .before .before .before .before .before .args .heads)) (now (c .before .before .before .before .before .before .args .name))) z 0) (c .before .before .within .ensures)
+returns-2 c = sym (first-ends (isHeader (now (c .before .before .before .before .before .before .args .file)) (headerNumbers (now (c .before .before .before .before .before .before .args .heads))) (now (c .before .before .before .before .before .before .args .name))) (c .before .before .header-rows .result) (c .before .loop .i) (c .loop-test .left)) ∙ c .before .loop .inv ∙ ap (λ (z : ℕ). firstFrom (isHeader (now (c .before .before .before .before .before .before .args .file)) (headerNumbers (now (c .before .before .before .before .before .before .args .heads))) (now (c .before .before .before .before .before .before .args .name))) z 0) (c .before .before .header-rows .ensures)
 
 pub header-row-spec : {M : Type 1} → statement M
 header-row-spec =
@@ -49,7 +48,7 @@ header-row-spec =
     (tie.spec
     Inv-loop
     μ-loop
-    within-requires
+    header-rows-requires
     loop-holds
     is-named-requires
     returns

@@ -28,13 +28,13 @@ units-of-context-requires : tie.Need-units-of-context-requires
 units-of-context-requires c κs = search needs
 
 returns : tie.Need-returns
-returns c = let a = c .before .before .before .before .before .before .before .args in let s = now (a .file) in let find = findOf s (now (a .rows)) (now (a .slots)) (a .t .ids) in let t = thingOf s (rowOf (a .row)) in or-refused s find t (ap toldAsked (sym (c .before .f .given .1)) ∙ c .before .before .before .is-context .ensures)
+returns c = let a = c .before .before .before .before .before .before .before .args in let s = now (a .file) in let find = findOf s (rowFor (now (a .rows)) (now (a .slots)) (a .t .ids)) in let t = thingOf s (rowOf (a .row)) in or-refused s find t (ap toldAsked (sym (c .before .f .given .1)) ∙ c .before .before .before .is-context .ensures)
 
 returns-2 : tie.Need-returns-2
-returns-2 c = let a = c .before .before .before .before .before .before .before .args in let s = now (a .file) in let find = findOf s (now (a .rows)) (now (a .slots)) (a .t .ids) in let t = thingOf s (rowOf (a .row)) in ap good (c .assumed .ensures) ∙ or-other s find t (ap toldAsked (sym (c .before .enum-told .given .1)) ∙ c .before .before .before .is-context .ensures)
+returns-2 c = let a = c .before .before .before .before .before .before .before .args in let s = now (a .file) in let find = findOf s (rowFor (now (a .rows)) (now (a .slots)) (a .t .ids)) in let t = thingOf s (rowOf (a .row)) in ap good (c .assumed .ensures) ∙ or-other s find t (ap toldAsked (sym (c .before .enum-told .given .1)) ∙ c .before .before .before .is-context .ensures)
 
 returns-3 : tie.Need-returns-3
-returns-3 c = let a = c .before .before .before .before .before .before .before .args in let s = now (a .file) in let find = findOf s (now (a .rows)) (now (a .slots)) (a .t .ids) in let t = thingOf s (rowOf (a .row)) in or-context s find t (ap toldAsked (sym (c .before .enum-told2 .given .1)) ∙ c .before .before .before .is-context .ensures) (c .units-of-context .ensures)
+returns-3 c = let a = c .before .before .before .before .before .before .before .args in let s = now (a .file) in let find = findOf s (rowFor (now (a .rows)) (now (a .slots)) (a .t .ids)) in let t = thingOf s (rowOf (a .row)) in or-context s find t (ap toldAsked (sym (c .before .enum-told2 .given .1)) ∙ c .before .before .before .is-context .ensures) (c .units-of-context .ensures)
 
 pub context-units-spec : {M : Type 1} → statement M
 context-units-spec =

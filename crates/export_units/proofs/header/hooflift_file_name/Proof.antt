@@ -3,7 +3,7 @@ use mathlib.Core.Path.{_∙_, ap}
 use lib.ListN.{length}
 use Rattle.error.specs.Refusal.{Told}
 use Rattle.words.specs.Words.{Shown}
-use Rattle.headers.specs.Header.{headerFirst, headerArgs}
+use Rattle.headers.specs.Header.{headerFound, headerArgs}
 use Rattle.titles.specs.Title.{titleBy, roomBy, fileName}
 use Rattle.lookup.specs.declared.Tables.{Tables}
 use Rattle.plain.specs.Answers.{readCode, readFault, readValue}
@@ -29,8 +29,8 @@ returns c =
     let k = c .before .before .before .before .before .before .before in
     let a = c .before .before .before .before .before .before .before .before .before .before .before .before .before .before .args in
     let s = c .before .before .before .before .before .before .before .before .before .tables-of .ensures in
-    let e = k .file-name .ensures .0 ∙ ap (λ (t : Tables). titleBy (now (a .file)) (length (now (a .out))) 0 (headerArgs (length (now (a .file))) (now (a .headers)) (headerFirst (now (a .file)) (now (a .headers)) (t .headers) fileName))) s in
-    ((c .put-title .ensures .0 .0 ∙ ap (λ (r : Told Shown). readCode r) e, c .put-title .ensures .0 .1 ∙ ap (λ (r : Told Shown). readFault r (now (a .fault))) e), (k .file-name .ensures .1 ∙ ap (λ (t : Tables). roomBy (now (a .file)) (now (a .out)) 0 (headerArgs (length (now (a .file))) (now (a .headers)) (headerFirst (now (a .file)) (now (a .headers)) (t .headers) fileName))) s, (c .put-title .ensures .1 .0 ∙ ap (λ (r : Told Shown). readValue shownRoom r (now (a .room))) e, (c .put-title .ensures .1 .1 .0 ∙ ap (λ (r : Told Shown). readValue shownStart r (now (a .start))) e, c .put-title .ensures .1 .1 .1 ∙ ap (λ (r : Told Shown). readValue shownStop r (now (a .stop))) e))))
+    let e = k .file-name .ensures .0 ∙ ap (λ (t : Tables). titleBy (now (a .file)) (length (now (a .out))) 0 (headerArgs (length (now (a .file))) (headerNumbers (now (a .headers))) (headerFound (now (a .file)) (now (a .headers)) (t .headers) fileName))) s in
+    ((c .put-title .ensures .0 .0 ∙ ap (λ (r : Told Shown). readCode r) e, c .put-title .ensures .0 .1 ∙ ap (λ (r : Told Shown). readFault r (now (a .fault))) e), (k .file-name .ensures .1 ∙ ap (λ (t : Tables). roomBy (now (a .file)) (now (a .out)) 0 (headerArgs (length (now (a .file))) (headerNumbers (now (a .headers))) (headerFound (now (a .file)) (now (a .headers)) (t .headers) fileName))) s, (c .put-title .ensures .1 .0 ∙ ap (λ (r : Told Shown). readValue shownRoom r (now (a .room))) e, (c .put-title .ensures .1 .1 .0 ∙ ap (λ (r : Told Shown). readValue shownStart r (now (a .start))) e, c .put-title .ensures .1 .1 .1 ∙ ap (λ (r : Told Shown). readValue shownStop r (now (a .stop))) e))))
 
 pub hooflift-file-name-spec : {M : Type 1} → statement M
 hooflift-file-name-spec =

@@ -25,7 +25,7 @@ enum-told : tie.Need-enum-told
 enum-told c = search needs
 
 returns : tie.Need-returns
-returns c = let a = c .before .before .before .before .before .before .args in let s = now (a .file) in let find = findOf s (now (a .rows)) (now (a .slots)) (a .t .ids) in
+returns c = let a = c .before .before .before .before .before .before .args in let s = now (a .file) in let find = findOf s (rowFor (now (a .rows)) (now (a .slots)) (a .t .ids)) in
     uncertain-missing s find (a .id) (find-none s (now (a .rows)) (now (a .slots)) (a .t .ids) (a .id) (ap toldEntry (sym (c .enum-told .given .1)) ∙ c .before .before .get .ensures))
 
 args-of-requires : tie.Need-args-of-requires
@@ -38,7 +38,7 @@ enum-told-2 : tie.Need-enum-told-2
 enum-told-2 c = search needs
 
 returns-2 : tie.Need-returns-2
-returns-2 c = let a = c .before .before .before .before .before .before .before .before .before .before .args in let s = now (a .file) in let find = findOf s (now (a .rows)) (now (a .slots)) (a .t .ids) in let w = rowOf (c .before .before .before .before .w .given .0 .0) in
+returns-2 c = let a = c .before .before .before .before .before .before .before .before .before .before .args in let s = now (a .file) in let find = findOf s (rowFor (now (a .rows)) (now (a .slots)) (a .t .ids)) in let w = rowOf (c .before .before .before .before .w .given .0 .0) in
     uncertain-row s find (a .id) (thingOf s w) (find-row s (now (a .rows)) (now (a .slots)) (a .t .ids) (a .id) (ap toldEntry (sym (c .before .before .before .before .w .given .1)) ∙ c .before .before .before .before .before .before .get .ensures))
     (thing-out (uncertaintyOf s find) s w (ap toldSpan (sym (c .enum-told2 .given .1)) ∙ c .before .before .args-of .ensures))
 
@@ -49,7 +49,7 @@ same-kind-requires : tie.Need-same-kind-requires
 same-kind-requires c κs = search needs
 
 returns-3 : tie.Need-returns-3
-returns-3 c = let a = c .before .before .before .before .before .before .before .before .before .before .before .before .before .before .args in let s = now (a .file) in let find = findOf s (now (a .rows)) (now (a .slots)) (a .t .ids) in let w = rowOf (c .before .before .before .before .before .before .before .before .w .given .0 .0) in
+returns-3 c = let a = c .before .before .before .before .before .before .before .before .before .before .before .before .before .before .args in let s = now (a .file) in let find = findOf s (rowFor (now (a .rows)) (now (a .slots)) (a .t .ids)) in let w = rowOf (c .before .before .before .before .before .before .before .before .w .given .0 .0) in
     let k = ap (λ (x : Kind). eqb (rankOf x) (rankOf UncertaintyMeasureWithUnit)) (sym (c .before .before .kind-in .ensures)) ∙ sym (c .before .same-kind .ensures) ∙ not-true _ (c .if1 .taken) in
     uncertain-row s find (a .id) (thingOf s w) (find-row s (now (a .rows)) (now (a .slots)) (a .t .ids) (a .id) (ap toldEntry (sym (c .before .before .before .before .before .before .before .before .w .given .1)) ∙ c .before .before .before .before .before .before .before .before .before .before .get .ensures))
     (uncertain-other s find w (ap toldSpan (sym (c .before .before .before .before .a .given .1)) ∙ c .before .before .before .before .before .before .args-of .ensures) k)
@@ -61,7 +61,7 @@ uncertain-by-requires : tie.Need-uncertain-by-requires
 uncertain-by-requires c κs = search needs
 
 returns-4 : tie.Need-returns-4
-returns-4 c = let a = c .before .before .before .before .before .before .before .before .before .before .before .before .before .before .before .before .args in let s = now (a .file) in let find = findOf s (now (a .rows)) (now (a .slots)) (a .t .ids) in let w = rowOf (c .before .before .before .before .before .before .before .before .before .before .w .given .0 .0) in
+returns-4 c = let a = c .before .before .before .before .before .before .before .before .before .before .before .before .before .before .before .before .args in let s = now (a .file) in let find = findOf s (rowFor (now (a .rows)) (now (a .slots)) (a .t .ids)) in let w = rowOf (c .before .before .before .before .before .before .before .before .before .before .w .given .0 .0) in
     let k = ap (λ (x : Kind). eqb (rankOf x) (rankOf UncertaintyMeasureWithUnit)) (sym (c .before .before .before .before .kind-in .ensures)) ∙ sym (c .before .before .before .same-kind .ensures) ∙ not-false _ (c .before .before .if1 .left) in
     uncertain-row s find (a .id) (thingOf s w) (find-row s (now (a .rows)) (now (a .slots)) (a .t .ids) (a .id) (ap toldEntry (sym (c .before .before .before .before .before .before .before .before .before .before .w .given .1)) ∙ c .before .before .before .before .before .before .before .before .before .before .before .before .get .ensures))
     (uncertain-own s find w (ap toldSpan (sym (c .before .before .before .before .before .before .a .given .1)) ∙ c .before .before .before .before .before .before .before .before .args-of .ensures) k (c .uncertain-by .ensures) (c .before .next-measure-f64 .ensures))

@@ -20,7 +20,7 @@ enum-told : tie.Need-enum-told
 enum-told c = search needs
 
 returns : tie.Need-returns
-returns c = let a = c .before .before .before .before .before .before .args in let s = now (a .file) in let find = findOf s (now (a .rows)) (now (a .slots)) (a .t .ids) in
+returns c = let a = c .before .before .before .before .before .before .args in let s = now (a .file) in let find = findOf s (rowFor (now (a .rows)) (now (a .slots)) (a .t .ids)) in
     unit-missing s find (valuesIn (a .u)) (a .id) (find-none s (now (a .rows)) (now (a .slots)) (a .t .ids) (a .id) (ap toldEntry (sym (c .enum-told .given .1)) ∙ c .before .before .get .ensures))
 
 role-of-requires : tie.Need-role-of-requires
@@ -54,27 +54,27 @@ with-angle-requires : tie.Need-with-angle-requires
 with-angle-requires c κs = search needs
 
 returns-2 : tie.Need-returns-2
-returns-2 c = let a = c .before .before .before .before .before .before .before .before .before .before .before .args in let s = now (a .file) in let find = findOf s (now (a .rows)) (now (a .slots)) (a .t .ids) in let t = thingOf s (rowOf (c .before .before .before .before .before .w .given .0 .0)) in
+returns-2 c = let a = c .before .before .before .before .before .before .before .before .before .before .before .args in let s = now (a .file) in let find = findOf s (rowFor (now (a .rows)) (now (a .slots)) (a .t .ids)) in let t = thingOf s (rowOf (c .before .before .before .before .before .w .given .0 .0)) in
     unit-row s find (valuesIn (a .u)) (a .id) t (find-row s (now (a .rows)) (now (a .slots)) (a .t .ids) (a .id) (ap toldEntry (sym (c .before .before .before .before .before .w .given .1)) ∙ c .before .before .before .before .before .before .before .get .ensures))
     (role-refused s find (valuesIn (a .u)) t (ap toldRole (sym (c .before .f .given .1)) ∙ c .before .before .before .role-of .ensures))
 
 returns-3 : tie.Need-returns-3
-returns-3 c = let a = c .before .before .before .before .before .before .before .before .before .before .args in let s = now (a .file) in let find = findOf s (now (a .rows)) (now (a .slots)) (a .t .ids) in let t = thingOf s (rowOf (c .before .before .before .before .w .given .0 .0)) in
+returns-3 c = let a = c .before .before .before .before .before .before .before .before .before .before .args in let s = now (a .file) in let find = findOf s (rowFor (now (a .rows)) (now (a .slots)) (a .t .ids)) in let t = thingOf s (rowOf (c .before .before .before .before .w .given .0 .0)) in
     unit-row s find (valuesIn (a .u)) (a .id) t (find-row s (now (a .rows)) (now (a .slots)) (a .t .ids) (a .id) (ap toldEntry (sym (c .before .before .before .before .w .given .1)) ∙ c .before .before .before .before .before .before .get .ensures))
     (role-none s find (valuesIn (a .u)) t (ap toldRole (sym (c .enum-told2 .given .1)) ∙ c .before .before .role-of .ensures))
 
 returns-4 : tie.Need-returns-4
-returns-4 c = let a = c .before .before .before .before .before .before .before .before .before .before .args in let s = now (a .file) in let find = findOf s (now (a .rows)) (now (a .slots)) (a .t .ids) in let t = thingOf s (rowOf (c .before .before .before .before .w .given .0 .0)) in
+returns-4 c = let a = c .before .before .before .before .before .before .before .before .before .before .args in let s = now (a .file) in let find = findOf s (rowFor (now (a .rows)) (now (a .slots)) (a .t .ids)) in let t = thingOf s (rowOf (c .before .before .before .before .w .given .0 .0)) in
     unit-row s find (valuesIn (a .u)) (a .id) t (find-row s (now (a .rows)) (now (a .slots)) (a .t .ids) (a .id) (ap toldEntry (sym (c .before .before .before .before .w .given .1)) ∙ c .before .before .before .before .before .before .get .ensures))
     (role-solid s find (valuesIn (a .u)) t (ap toldRole (sym (c .enum-told3 .given .1)) ∙ c .before .before .role-of .ensures))
 
 returns-5 : tie.Need-returns-5
-returns-5 c = let a = c .before .before .before .before .before .before .before .before .before .before .before .before .args in let s = now (a .file) in let find = findOf s (now (a .rows)) (now (a .slots)) (a .t .ids) in let t = thingOf s (rowOf (c .before .before .before .before .before .before .w .given .0 .0)) in
+returns-5 c = let a = c .before .before .before .before .before .before .before .before .before .before .before .before .args in let s = now (a .file) in let find = findOf s (rowFor (now (a .rows)) (now (a .slots)) (a .t .ids)) in let t = thingOf s (rowOf (c .before .before .before .before .before .before .w .given .0 .0)) in
     unit-row s find (valuesIn (a .u)) (a .id) t (find-row s (now (a .rows)) (now (a .slots)) (a .t .ids) (a .id) (ap toldEntry (sym (c .before .before .before .before .before .before .w .given .1)) ∙ c .before .before .before .before .before .before .before .before .get .ensures))
     (role-length s find (valuesIn (a .u)) t (ap toldRole (sym (c .before .before .enum-told4 .given .1)) ∙ c .before .before .before .before .role-of .ensures) (c .with-length .ensures) (c .before .length-factor .ensures))
 
 returns-6 : tie.Need-returns-6
-returns-6 c = let a = c .before .before .before .before .before .before .before .before .before .before .before .before .args in let s = now (a .file) in let find = findOf s (now (a .rows)) (now (a .slots)) (a .t .ids) in let t = thingOf s (rowOf (c .before .before .before .before .before .before .w .given .0 .0)) in
+returns-6 c = let a = c .before .before .before .before .before .before .before .before .before .before .before .before .args in let s = now (a .file) in let find = findOf s (rowFor (now (a .rows)) (now (a .slots)) (a .t .ids)) in let t = thingOf s (rowOf (c .before .before .before .before .before .before .w .given .0 .0)) in
     unit-row s find (valuesIn (a .u)) (a .id) t (find-row s (now (a .rows)) (now (a .slots)) (a .t .ids) (a .id) (ap toldEntry (sym (c .before .before .before .before .before .before .w .given .1)) ∙ c .before .before .before .before .before .before .before .before .get .ensures))
     (role-angle s find (valuesIn (a .u)) t (ap toldRole (sym (c .before .before .enum-told5 .given .1)) ∙ c .before .before .before .before .role-of .ensures) (c .with-angle .ensures) (c .before .angle-factor .ensures))
 

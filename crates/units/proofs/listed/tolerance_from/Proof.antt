@@ -15,13 +15,13 @@ use Rattle.units.proofs.listed.tolerance_from.Statement.{statement}
 use Rattle.units.proofs.listed.tolerance_from.Tie as tie
 
 abbrev Inv-loop : tie.InvT-loop
-Inv-loop file rows slots t b i₀ i = Reading b (toleranceBy file (findOf file rows slots (t .ids))) (toleranceBy file (findOf file rows slots (t .ids)) (idsOf b)) i
+Inv-loop file rows slots t b i₀ i = Reading b (toleranceBy file (findOf file (rowFor rows slots (t .ids)))) (toleranceBy file (findOf file (rowFor rows slots (t .ids))) (idsOf b)) i
 
 abbrev μ-loop : tie.MeasureT-loop
 μ-loop file rows slots t b i₀ i = length b - i
 
 loop-holds : tie.Need-loop-holds Inv-loop μ-loop
-loop-holds c = let a = c .before .before .before .before .args in let s = now (a .file) in let b = now (a .b) in let find = findOf s (now (a .rows)) (now (a .slots)) (a .t .ids) in
+loop-holds c = let a = c .before .before .before .before .args in let s = now (a .file) in let b = now (a .b) in let find = findOf s (rowFor (now (a .rows)) (now (a .slots)) (a .t .ids)) in
     reading-starts b (toleranceBy s find) (toleranceBy s find (idsOf b)) (c .before .before .before .before .pre) refl
 
 item-at-requires : tie.Need-item-at-requires Inv-loop μ-loop
@@ -46,7 +46,7 @@ enum-told : tie.Need-enum-told Inv-loop μ-loop
 enum-told c = search needs
 
 returns : tie.Need-returns Inv-loop μ-loop
-returns c = let a = c .before .before .before .before .before .before .before .before .before .before .args in let s = now (a .file) in let b = now (a .b) in let find = findOf s (now (a .rows)) (now (a .slots)) (a .t .ids) in
+returns c = let a = c .before .before .before .before .before .before .before .before .before .before .args in let s = now (a .file) in let b = now (a .b) in let find = findOf s (rowFor (now (a .rows)) (now (a .slots)) (a .t .ids)) in
     absurd (reading-bad b (toleranceBy s find) (toleranceBy s find (idsOf b)) (c .before .before .before .before .before .loop .i) (c .before .before .before .before .before .loop .inv) (c .before .before .before .before .item-at .result) (c .before .before .before .before .item-at .ensures) 12 0 (ap (λ (x : Answer ℕ). asFate x) (ap toldReference (sym (c .enum-told .given .1)) ∙ c .before .before .parse-ref .ensures)))
 
 one-uncertainty-requires : tie.Need-one-uncertainty-requires Inv-loop μ-loop
@@ -56,7 +56,7 @@ enum-known-v : tie.Need-enum-known-v Inv-loop μ-loop
 enum-known-v c = search needs
 
 returns-2 : tie.Need-returns-2 Inv-loop μ-loop
-returns-2 c = let a = c .before .before .before .before .before .before .before .before .before .before .before .before .before .before .before .args in let s = now (a .file) in let b = now (a .b) in let find = findOf s (now (a .rows)) (now (a .slots)) (a .t .ids) in
+returns-2 c = let a = c .before .before .before .before .before .before .before .before .before .before .before .before .before .before .before .args in let s = now (a .file) in let b = now (a .b) in let find = findOf s (rowFor (now (a .rows)) (now (a .slots)) (a .t .ids)) in
     let (l, k) = reading-here b (toleranceBy s find) (toleranceBy s find (idsOf b)) (c .before .before .before .before .before .before .before .before .before .before .loop .i) (c .before .before .before .before .before .before .before .before .before .before .loop .inv) (c .before .before .before .before .before .before .before .before .before .item-at .result) (c .before .before .before .before .before .before .before .before .before .item-at .ensures) (c .before .before .before .before .before .id .given .0 .0) (ap (λ (x : Answer ℕ). asFate x) (ap toldReference (sym (c .before .before .before .before .before .id .given .1)) ∙ c .before .before .before .before .before .before .before .parse-ref .ensures)) in
     tolerance-is s find (c .before .before .before .before .before .id .given .0 .0) l (ap toldUncertain (sym (c .before .v .given .1)) ∙ c .before .before .before .one-uncertainty .ensures) ∙ k
 
@@ -64,7 +64,7 @@ enum-known-f : tie.Need-enum-known-f Inv-loop μ-loop
 enum-known-f c = search needs
 
 returns-3 : tie.Need-returns-3 Inv-loop μ-loop
-returns-3 c = let a = c .before .before .before .before .before .before .before .before .before .before .before .before .before .before .before .args in let s = now (a .file) in let b = now (a .b) in let find = findOf s (now (a .rows)) (now (a .slots)) (a .t .ids) in
+returns-3 c = let a = c .before .before .before .before .before .before .before .before .before .before .before .before .before .before .before .args in let s = now (a .file) in let b = now (a .b) in let find = findOf s (rowFor (now (a .rows)) (now (a .slots)) (a .t .ids)) in
     let (l, k) = reading-here b (toleranceBy s find) (toleranceBy s find (idsOf b)) (c .before .before .before .before .before .before .before .before .before .before .loop .i) (c .before .before .before .before .before .before .before .before .before .before .loop .inv) (c .before .before .before .before .before .before .before .before .before .item-at .result) (c .before .before .before .before .before .before .before .before .before .item-at .ensures) (c .before .before .before .before .before .id .given .0 .0) (ap (λ (x : Answer ℕ). asFate x) (ap toldReference (sym (c .before .before .before .before .before .id .given .1)) ∙ c .before .before .before .before .before .before .before .parse-ref .ensures)) in
     tolerance-bad s find (c .before .before .before .before .before .id .given .0 .0) l (ap toldUncertain (sym (c .before .f .given .1)) ∙ c .before .before .before .one-uncertainty .ensures) ∙ k
 
@@ -72,7 +72,7 @@ enum-told-2 : tie.Need-enum-told-2 Inv-loop μ-loop
 enum-told-2 c = search needs
 
 returns-4 : tie.Need-returns-4 Inv-loop μ-loop
-returns-4 c = let a = c .before .before .before .before .before .before .before .before .before .before .before .before .before .before .before .args in let s = now (a .file) in let b = now (a .b) in let find = findOf s (now (a .rows)) (now (a .slots)) (a .t .ids) in
+returns-4 c = let a = c .before .before .before .before .before .before .before .before .before .before .before .before .before .before .before .args in let s = now (a .file) in let b = now (a .b) in let find = findOf s (rowFor (now (a .rows)) (now (a .slots)) (a .t .ids)) in
     ap good thousandth-bits ∙ tolerance-last s find (c .before .before .before .before .before .id .given .0 .0) (ap toldUncertain (sym (c .before .enum-told2 .given .1)) ∙ c .before .before .before .one-uncertainty .ensures) ∙ reading-last b (toleranceBy s find) (toleranceBy s find (idsOf b)) (c .before .before .before .before .before .before .before .before .before .before .loop .i) (c .before .before .before .before .before .before .before .before .before .before .loop .inv) (c .before .before .before .before .before .before .before .before .before .item-at .result) (c .before .before .before .before .before .before .before .before .before .item-at .ensures) (c .before .before .before .before .before .id .given .0 .0) (ap (λ (x : Answer ℕ). asFate x) (ap toldReference (sym (c .before .before .before .before .before .id .given .1)) ∙ c .before .before .before .before .before .before .before .parse-ref .ensures)) (c .if1 .taken)
 
 add-i : tie.Need-add-i Inv-loop μ-loop
@@ -82,7 +82,7 @@ loop-less : tie.Need-loop-less Inv-loop μ-loop
 loop-less c = omega (arith, c .before .before .before .before .before .before .before .before .before .item-at .ensures .within, c .before .before .before .before .before .before .before .before .before .item-at .ensures .above, c .if1 .left)
 
 loop-again : tie.Need-loop-again Inv-loop μ-loop
-loop-again c = let a = c .before .before .before .before .before .before .before .before .before .before .before .before .before .before .before .args in let s = now (a .file) in let b = now (a .b) in let find = findOf s (now (a .rows)) (now (a .slots)) (a .t .ids) in
+loop-again c = let a = c .before .before .before .before .before .before .before .before .before .before .before .before .before .before .before .args in let s = now (a .file) in let b = now (a .b) in let find = findOf s (rowFor (now (a .rows)) (now (a .slots)) (a .t .ids)) in
     reading-goes b (toleranceBy s find) (toleranceBy s find (idsOf b)) (c .before .before .before .before .before .before .before .before .before .before .loop .i) (c .before .before .before .before .before .before .before .before .before .before .loop .inv) (c .before .before .before .before .before .before .before .before .before .item-at .result) (c .before .before .before .before .before .before .before .before .before .item-at .ensures) (c .before .before .before .before .before .id .given .0 .0) (ap (λ (x : Answer ℕ). asFate x) (ap toldReference (sym (c .before .before .before .before .before .id .given .1)) ∙ c .before .before .before .before .before .before .before .parse-ref .ensures)) (toleranceBy s find) (tolerance-more s find (c .before .before .before .before .before .id .given .0 .0) (ap toldUncertain (sym (c .before .enum-told2 .given .1)) ∙ c .before .before .before .one-uncertainty .ensures)) (omega (arith, c .before .before .before .before .before .before .before .before .before .item-at .ensures .within, c .if1 .left))
 
 pub tolerance-from-spec : {M : Type 1} → statement M

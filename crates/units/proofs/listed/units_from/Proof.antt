@@ -14,7 +14,7 @@ use Rattle.units.proofs.listed.units_from.Statement.{statement}
 use Rattle.units.proofs.listed.units_from.Tie as tie
 
 abbrev Inv-loop : tie.InvT-loop
-Inv-loop file rows slots t b u₀ i₀ u i = Reading b (unitsBy file (findOf file rows slots (t .ids)) (valuesIn u)) (unitsBy file (findOf file rows slots (t .ids)) defaults (idsOf b)) i
+Inv-loop file rows slots t b u₀ i₀ u i = Reading b (unitsBy file (findOf file (rowFor rows slots (t .ids))) (valuesIn u)) (unitsBy file (findOf file (rowFor rows slots (t .ids))) defaults (idsOf b)) i
 
 abbrev μ-loop : tie.MeasureT-loop
 μ-loop file rows slots t b u₀ i₀ u i = length b - i
@@ -23,7 +23,7 @@ assumed-requires : tie.Need-assumed-requires Inv-loop μ-loop
 assumed-requires c κs = search needs
 
 loop-holds : tie.Need-loop-holds Inv-loop μ-loop
-loop-holds c = let a = c .before .before .before .before .before .args in let s = now (a .file) in let b = now (a .b) in let find = findOf s (now (a .rows)) (now (a .slots)) (a .t .ids) in
+loop-holds c = let a = c .before .before .before .before .before .args in let s = now (a .file) in let b = now (a .b) in let find = findOf s (rowFor (now (a .rows)) (now (a .slots)) (a .t .ids)) in
     reading-starts b (unitsBy s find (valuesIn (c .assumed .result))) (unitsBy s find defaults (idsOf b)) (c .before .before .before .before .before .pre) (ap (λ (u : Units). unitsBy s find u (idsOf b)) (c .assumed .ensures))
 
 item-at-requires : tie.Need-item-at-requires Inv-loop μ-loop
@@ -48,7 +48,7 @@ enum-told : tie.Need-enum-told Inv-loop μ-loop
 enum-told c = search needs
 
 returns : tie.Need-returns Inv-loop μ-loop
-returns c = let a = c .before .before .before .before .before .before .before .before .before .before .before .args in let s = now (a .file) in let b = now (a .b) in let find = findOf s (now (a .rows)) (now (a .slots)) (a .t .ids) in
+returns c = let a = c .before .before .before .before .before .before .before .before .before .before .before .args in let s = now (a .file) in let b = now (a .b) in let find = findOf s (rowFor (now (a .rows)) (now (a .slots)) (a .t .ids)) in
     absurd (reading-bad b (unitsBy s find (valuesIn (c .before .before .before .before .before .loop .u))) (unitsBy s find defaults (idsOf b)) (c .before .before .before .before .before .loop .i) (c .before .before .before .before .before .loop .inv) (c .before .before .before .before .item-at .result) (c .before .before .before .before .item-at .ensures) 12 0 (ap (λ (x : Answer ℕ). asFate x) (ap toldReference (sym (c .enum-told .given .1)) ∙ c .before .before .parse-ref .ensures)))
 
 one-unit-requires : tie.Need-one-unit-requires Inv-loop μ-loop
@@ -61,12 +61,12 @@ enum-told-2 : tie.Need-enum-told-2 Inv-loop μ-loop
 enum-told-2 c = search needs
 
 returns-2 : tie.Need-returns-2 Inv-loop μ-loop
-returns-2 c = let a = c .before .before .before .before .before .before .before .before .before .before .before .before .before .before .before .args in let s = now (a .file) in let b = now (a .b) in let find = findOf s (now (a .rows)) (now (a .slots)) (a .t .ids) in
+returns-2 c = let a = c .before .before .before .before .before .before .before .before .before .before .before .before .before .before .before .args in let s = now (a .file) in let b = now (a .b) in let find = findOf s (rowFor (now (a .rows)) (now (a .slots)) (a .t .ids)) in
     let (l, k) = reading-here b (unitsBy s find (valuesIn (c .before .before .before .before .before .before .before .before .before .loop .u))) (unitsBy s find defaults (idsOf b)) (c .before .before .before .before .before .before .before .before .before .loop .i) (c .before .before .before .before .before .before .before .before .before .loop .inv) (c .before .before .before .before .before .before .before .before .item-at .result) (c .before .before .before .before .before .before .before .before .item-at .ensures) (c .before .before .before .before .id .given .0 .0) (ap (λ (x : Answer ℕ). asFate x) (ap toldReference (sym (c .before .before .before .before .id .given .1)) ∙ c .before .before .before .before .before .before .parse-ref .ensures)) in
     ap toldUnits (c .enum-told2 .given .1) ∙ units-bad s find (valuesIn (c .before .before .before .before .before .before .before .before .before .loop .u)) (c .before .before .before .before .id .given .0 .0) l (ap toldUnits (sym (c .enum-told2 .given .1)) ∙ c .before .before .one-unit .ensures) ∙ k
 
 returns-3 : tie.Need-returns-3 Inv-loop μ-loop
-returns-3 c = let a = c .before .before .before .before .before .before .before .before .before .before .before .before .before .before .before .before .before .args in let s = now (a .file) in let b = now (a .b) in let find = findOf s (now (a .rows)) (now (a .slots)) (a .t .ids) in
+returns-3 c = let a = c .before .before .before .before .before .before .before .before .before .before .before .before .before .before .before .before .before .args in let s = now (a .file) in let b = now (a .b) in let find = findOf s (rowFor (now (a .rows)) (now (a .slots)) (a .t .ids)) in
     units-last s find (valuesIn (c .before .before .before .before .before .before .before .before .before .before .before .loop .u)) (c .before .before .before .before .before .before .id .given .0 .0) (ap toldUnits (sym (c .before .before .r .given .1)) ∙ c .before .before .before .before .one-unit .ensures) ∙ reading-last b (unitsBy s find (valuesIn (c .before .before .before .before .before .before .before .before .before .before .before .loop .u))) (unitsBy s find defaults (idsOf b)) (c .before .before .before .before .before .before .before .before .before .before .before .loop .i) (c .before .before .before .before .before .before .before .before .before .before .before .loop .inv) (c .before .before .before .before .before .before .before .before .before .before .item-at .result) (c .before .before .before .before .before .before .before .before .before .before .item-at .ensures) (c .before .before .before .before .before .before .id .given .0 .0) (ap (λ (x : Answer ℕ). asFate x) (ap toldReference (sym (c .before .before .before .before .before .before .id .given .1)) ∙ c .before .before .before .before .before .before .before .before .parse-ref .ensures)) (c .if1 .taken)
 
 add-i : tie.Need-add-i Inv-loop μ-loop
@@ -76,7 +76,7 @@ loop-less : tie.Need-loop-less Inv-loop μ-loop
 loop-less c = omega (arith, c .before .before .before .before .before .before .before .before .before .before .item-at .ensures .within, c .before .before .before .before .before .before .before .before .before .before .item-at .ensures .above, c .if1 .left)
 
 loop-again : tie.Need-loop-again Inv-loop μ-loop
-loop-again c = let a = c .before .before .before .before .before .before .before .before .before .before .before .before .before .before .before .before .before .args in let s = now (a .file) in let b = now (a .b) in let find = findOf s (now (a .rows)) (now (a .slots)) (a .t .ids) in
+loop-again c = let a = c .before .before .before .before .before .before .before .before .before .before .before .before .before .before .before .before .before .args in let s = now (a .file) in let b = now (a .b) in let find = findOf s (rowFor (now (a .rows)) (now (a .slots)) (a .t .ids)) in
     reading-goes b (unitsBy s find (valuesIn (c .before .before .before .before .before .before .before .before .before .before .before .loop .u))) (unitsBy s find defaults (idsOf b)) (c .before .before .before .before .before .before .before .before .before .before .before .loop .i) (c .before .before .before .before .before .before .before .before .before .before .before .loop .inv) (c .before .before .before .before .before .before .before .before .before .before .item-at .result) (c .before .before .before .before .before .before .before .before .before .before .item-at .ensures) (c .before .before .before .before .before .before .id .given .0 .0) (ap (λ (x : Answer ℕ). asFate x) (ap toldReference (sym (c .before .before .before .before .before .before .id .given .1)) ∙ c .before .before .before .before .before .before .before .before .parse-ref .ensures)) (unitsBy s find (valuesIn (c .before .before .r .given .0 .0))) (units-more s find (valuesIn (c .before .before .before .before .before .before .before .before .before .before .before .loop .u)) (c .before .before .before .before .before .before .id .given .0 .0) (ap toldUnits (sym (c .before .before .r .given .1)) ∙ c .before .before .before .before .one-unit .ensures)) (omega (arith, c .before .before .before .before .before .before .before .before .before .before .item-at .ensures .within, c .if1 .left))
 
 pub units-from-spec : {M : Type 1} → statement M

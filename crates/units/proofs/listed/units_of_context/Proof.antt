@@ -27,13 +27,13 @@ enum-known-v : tie.Need-enum-known-v
 enum-known-v c = search needs
 
 returns : tie.Need-returns
-returns c = let a = c .before .before .before .before .before .before .before .args in let s = now (a .file) in let find = findOf s (now (a .rows)) (now (a .slots)) (a .t .ids) in let t = thingOf s (rowOf (a .row)) in context-refused s find t (ap toldUnits (sym (c .before .f .given .1)) ∙ c .before .before .before .listed-units .ensures)
+returns c = let a = c .before .before .before .before .before .before .before .args in let s = now (a .file) in let find = findOf s (rowFor (now (a .rows)) (now (a .slots)) (a .t .ids)) in let t = thingOf s (rowOf (a .row)) in context-refused s find t (ap toldUnits (sym (c .before .f .given .1)) ∙ c .before .before .before .listed-units .ensures)
 
 returns-2 : tie.Need-returns-2
-returns-2 c = let a = c .before .before .before .before .before .before .before .before .before .before .before .args in let s = now (a .file) in let find = findOf s (now (a .rows)) (now (a .slots)) (a .t .ids) in let t = thingOf s (rowOf (a .row)) in context-late s find t (ap toldUnits (sym (c .before .before .before .before .before .u .given .1)) ∙ c .before .before .before .before .before .before .before .listed-units .ensures) (ap toldTolerance (sym (c .before .f2 .given .1)) ∙ c .before .before .before .listed-tolerance .ensures)
+returns-2 c = let a = c .before .before .before .before .before .before .before .before .before .before .before .args in let s = now (a .file) in let find = findOf s (rowFor (now (a .rows)) (now (a .slots)) (a .t .ids)) in let t = thingOf s (rowOf (a .row)) in context-late s find t (ap toldUnits (sym (c .before .before .before .before .before .u .given .1)) ∙ c .before .before .before .before .before .before .before .listed-units .ensures) (ap toldTolerance (sym (c .before .f2 .given .1)) ∙ c .before .before .before .listed-tolerance .ensures)
 
 returns-3 : tie.Need-returns-3
-returns-3 c = let a = c .before .before .before .before .before .before .before .before .before .before .before .args in let s = now (a .file) in let find = findOf s (now (a .rows)) (now (a .slots)) (a .t .ids) in let t = thingOf s (rowOf (a .row)) in context-both s find t (ap toldUnits (sym (c .before .before .before .before .before .u .given .1)) ∙ c .before .before .before .before .before .before .before .listed-units .ensures) (ap toldTolerance (sym (c .before .v .given .1)) ∙ c .before .before .before .listed-tolerance .ensures)
+returns-3 c = let a = c .before .before .before .before .before .before .before .before .before .before .before .args in let s = now (a .file) in let find = findOf s (rowFor (now (a .rows)) (now (a .slots)) (a .t .ids)) in let t = thingOf s (rowOf (a .row)) in context-both s find t (ap toldUnits (sym (c .before .before .before .before .before .u .given .1)) ∙ c .before .before .before .before .before .before .before .listed-units .ensures) (ap toldTolerance (sym (c .before .v .given .1)) ∙ c .before .before .before .listed-tolerance .ensures)
 
 pub units-of-context-spec : {M : Type 1} → statement M
 units-of-context-spec =
