@@ -223,7 +223,11 @@ fn settled(task: Word, file: &[u8], headers: usize, rows: usize, s: Step) -> Ste
 // verdict is asked, with the line and the column.
 fn refused(task: Word, file: &[u8], headers: usize, rows: usize, l: Line) -> Line {
     if l.a == 8 {
-        return too_many(l.c, headers / 4, rows / 6);
+        return too_many(
+            l.c,
+            table::headers_fit(headers),
+            table::rows_fit(rows),
+        );
     }
     if let Word::Inspect = task {
         return work::refused_at(file, l);
@@ -232,7 +236,7 @@ fn refused(task: Word, file: &[u8], headers: usize, rows: usize, l: Line) -> Lin
 }
 
 fn too_many(place: u64, headers: usize, records: usize) -> Line {
-    let pattern = if records < LARGE_ROWS / 6 {
+    let pattern = if records < table::rows_fit(LARGE_ROWS) {
         lines::TOO_MANY_HERE
     } else {
         lines::TOO_MANY
@@ -242,8 +246,8 @@ fn too_many(place: u64, headers: usize, records: usize) -> Line {
         place,
         headers as u64,
         records as u64,
-        LARGE_HEADERS as u64 / 4,
-        LARGE_ROWS as u64 / 6,
+        table::headers_fit(LARGE_HEADERS) as u64,
+        table::rows_fit(LARGE_ROWS) as u64,
         0,
         0,
     )

@@ -117,29 +117,25 @@ fn next_row(rows: &[u32], l: Line) -> Line {
     if l.pattern == COUNTS {
         return row(rows, 0, l.a);
     }
-    row(rows, std::num::wrapping_add_u64(l.f, 6), l.g)
+    row(rows, std::num::wrapping_add_u64(l.f, 1), l.g)
 }
 
-// `ID KEYWORD START END`, the last two of the arguments. So many rows are left with it.
-fn row(rows: &[u32], at: u64, left: u64) -> Line {
+// `ID KEYWORD START END` of row k, the last two of the arguments. So many rows are left with it.
+fn row(rows: &[u32], k: u64, left: u64) -> Line {
     if left == 0 {
         return lines::bare(NOTHING);
     }
-    let id = column(rows, at, 0);
-    let start = column(rows, at, 3);
-    let end = column(rows, at, 4);
+    let w = table::read_row(rows, k as usize);
+    let id = w.id as u64;
+    let start = w.args.start as u64;
+    let end = w.args.end as u64;
     let behind = std::num::wrapping_sub_u64(left, 1);
-    if column(rows, at, 5) == 1 {
-        return lines::line(COMPLEX_ROW, id, start, end, 0, 0, at, behind);
+    if w.complex == 1 {
+        return lines::line(COMPLEX_ROW, id, start, end, 0, 0, k, behind);
     }
-    let a = column(rows, at, 1);
-    let z = column(rows, at, 2);
-    lines::line(ROW, id, a, z, start, end, at, behind)
-}
-
-// Number k of the row at a place.
-fn column(rows: &[u32], at: u64, k: u64) -> u64 {
-    work::number(rows, std::num::wrapping_add_u64(at, k) as usize) as u64
+    let a = w.keyword.start as u64;
+    let z = w.keyword.end as u64;
+    lines::line(ROW, id, a, z, start, end, k, behind)
 }
 
 // What follows within a record.

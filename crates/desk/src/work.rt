@@ -35,7 +35,7 @@ fn scanned(
     rows: &mut [u32],
     slots: &mut [u64],
 ) -> Line {
-    let most = rows.len() / 6;
+    let most = table::rows_fit(rows.len());
     let counts = scan::scan(file, headers, rows, most);
     if let Word::Show = task {
         let n = times(id, rows, counts);
@@ -71,13 +71,12 @@ fn times(id: u32, rows: &[u32], counts: Scanned) -> usize {
 // How many of the first n rows have an id.
 fn how_many(id: u32, rows: &[u32], n: usize) -> usize {
     let mut count: usize = 0;
-    let mut at: usize = 0;
     let mut k = 0;
     while k < n {
-        if number(rows, at) == id as usize {
+        let w = table::read_row(rows, k);
+        if w.id == id {
             count = std::num::wrapping_add_usize(count, 1);
         }
-        at = std::num::wrapping_add_usize(at, 6);
         k += 1;
     }
     count
@@ -118,11 +117,6 @@ fn titled(file: &[u8], w: RecordSpan, times: u64) -> Line {
     let a = word.start as u64;
     let z = word.end as u64;
     lines::all(lines::RECORD, id, a, z, start, end, row, column, times)
-}
-
-// A number of a table, 0 past its end.
-pub fn number(rows: &[u32], i: usize) -> usize {
-    if i < rows.len() { common::wide(rows[i]) } else { 0 }
 }
 
 // What a scan counts: `records N max M`, or that the file is accepted.

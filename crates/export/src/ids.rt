@@ -12,7 +12,7 @@ ghost use Rattle.export.specs.Ids.{lentEnough, indexCode, Indexed};
 fn enough(rows: usize, count: usize, slots: usize, ids: usize) -> bool
     ensures { λ r. ⌜ r ≡ lentEnough rows count slots ids ⌝ }
 {
-    let records = common::within(count, rows / 6);
+    let records = table::table_rows(rows, count);
     (8 <= ids) & (records <= slots) & (records <= 1073741824)
 }
 

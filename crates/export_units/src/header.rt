@@ -2,6 +2,7 @@
 ghost use mathlib.Core.Path.{_≡_};
 ghost use lib.ListN.{length};
 ghost use Rattle.error.specs.Refusal.{good};
+ghost use Rattle.table.specs.Table.{headerNumbers};
 ghost use Rattle.headers.specs.Header.{headerFound, headerArgs};
 ghost use Rattle.titles.specs.Title.{toldTitle, titleBy, roomBy, fileName};
 ghost use Rattle.plain.specs.Answers.{Tells, readValue, foundCode, foundValue};

@@ -28,7 +28,7 @@ use Rattle.parts.specs.Part.{partsOf}
 use Rattle.parts.specs.Places.{FaultIn, AnswerIn, AllIn, parts-placed}
 use Rattle.index.specs.Search.{searched}
 use Rattle.index.specs.declared.Ids.{Ids}
-use Rattle.lookup.specs.Lookup.{spanFine, rowFound}
+use Rattle.lookup.specs.Lookup.{spanFine, rowFound, rowFor}
 use Rattle.factors.specs.Thing.{goodBy, sameKind, Piece, pieceOf, Thing, piecesOf, thingAt, thingOf, thingFound, findOf, firstPiece, selfOr}
 use Rattle.factors.specs.Factor.{measureRef, scaledBy, measureRun, lengthOf}
 use Rattle.factors.specs.Rules.{Based, ends, base, MeasureForm, LengthForm, Follows}
@@ -184,7 +184,8 @@ thing-shallow s w {t} = go (spanFine (length s) (w .argStart) (w .argEnd))
 
 -- the record of an id, whatever the lent tables hold
 pub find-shallow : (s rows slots : List ℕ) (ids : Ids) (i : ℕ) → FoundShallow (findOf s (rowFor rows slots ids) i)
-unfolding findOf find-shallow (rowFor s rows slots) ids i = go (rowFound rows (searched rows slots ids i))
+unfolding findOf
+find-shallow s rows slots ids i = go (rowFound rows (searched rows slots ids i))
   where
     one : (w : Row) (b : Bool) → FoundShallow (goodBy some (pick b (good (thingAt s w)) (bad (refusal 9 0 0))))
     one w true = pieces-shallow s w

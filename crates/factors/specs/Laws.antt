@@ -43,7 +43,7 @@ use Rattle.words.specs.declared.NextName as NextNameCode
 use Rattle.parts.specs.Part.{partOf, partsOf, firstKind, isKind}
 use Rattle.index.specs.Search.{searched}
 use Rattle.index.specs.declared.Ids.{Ids}
-use Rattle.lookup.specs.Lookup.{spanFine, spanIn, kindIn, rowFound}
+use Rattle.lookup.specs.Lookup.{spanFine, spanIn, kindIn, rowFound, rowFor}
 use Rattle.lookup.specs.Lookup as Lookup
 use Rattle.factors.specs.Thing.{goodBy, sameKind, pieceOf, Thing, thingAt, thingOf, findOf, firstPiece, selfOr}
 use Rattle.factors.specs.Factor.{nameOr, nextName, prefixIn, unitIn, siLength, siAngle, measureRef, optionBy, unreadOf, readOr, scaledBy, measureRun, Chain, known, leads, conversionOf, unitBy, linkOf, chained, baseOf, measureAt, measureIn, lengthOf, numberIn, angleOf}

@@ -25,7 +25,7 @@ use Rattle.parts.specs.Part.{partsOf}
 use Rattle.parts.specs.Places.{AnswerIn, AllIn, parts-placed}
 use Rattle.index.specs.Search.{searched}
 use Rattle.index.specs.declared.Ids.{Ids}
-use Rattle.lookup.specs.Lookup.{spanFine, rowFound}
+use Rattle.lookup.specs.Lookup.{spanFine, rowFound, rowFor}
 use Rattle.factors.specs.Thing.{goodBy, sameKind, pieceOf, Thing, thingAt, thingOf, thingFound, findOf, firstPiece, selfOr}
 use Rattle.factors.specs.Factor.{
   siLength,
@@ -104,7 +104,8 @@ thing-in s w = go (spanFine (length s) (w .argStart) (w .argEnd)) refl
 
 -- the record of an id
 pub find-in : (s rows slots : List ℕ) (ids : Ids) (i : ℕ) → ToldIn (length s) (FoundIn (length s)) (findOf s (rowFor rows slots ids) i)
-unfolding findOf find-in (rowFor s rows slots) ids i = go (rowFound rows (searched rows slots ids i))
+unfolding findOf
+find-in s rows slots ids i = go (rowFound rows (searched rows slots ids i))
   where
     one : (x : Told Thing) → ToldIn (length s) (ThingIn (length s)) x → ToldIn (length s) (FoundIn (length s)) (goodBy some x)
     one (good t) h = h

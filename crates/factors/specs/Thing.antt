@@ -61,9 +61,9 @@ abbrev pub thingFound : List ℕ → Option Row → Told (Option Thing)
 thingFound s none = good none
 thingFound s (some w) = goodBy some (thingOf s w)
 
--- the record that an id names, by the lookup in the lent tables
-unfoldable pub findOf : List ℕ → List ℕ → List ℕ → Ids → ℕ → Told (Option Thing)
-findOf s (rowFor rows slots ids) k = thingFound s (rowFound rows (searched rows slots ids k))
+-- the record that an id names, by a lookup that gives its row
+unfoldable pub findOf : List ℕ → (ℕ → Option Row) → ℕ → Told (Option Thing)
+findOf s row k = thingFound s (row k)
 
 -- the first part of a kind
 abbrev pub firstPiece : Kind → List Piece → Option Span

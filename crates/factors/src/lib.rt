@@ -6,6 +6,7 @@
 ghost use mathlib.Core.Path.{_≡_};
 ghost use lib.Ieee.{binary64, toBits};
 ghost use Rattle.error.specs.Refusal.{good};
+ghost use Rattle.lookup.specs.Lookup.{rowFor};
 ghost use Rattle.statement.specs.Statement.{rowOf};
 ghost use Rattle.params.specs.Reader.{onward, span};
 ghost use Rattle.scalars.specs.Scalars.{toldNextReal};

@@ -13,7 +13,7 @@ use lib.Dec.{ltb, leb, eqb}
 use lib.ListN.{length, getD}
 use borrow.Author.Tests.{leb-true, ltb-true, le-ltb, ne-eqb}
 use Rattle.common.specs.Compare.{less-or}
-use Rattle.table.specs.Table.{idOf, rowsIn}
+use Rattle.table.specs.Table.{idOf, rowsFit}
 use Rattle.index.specs.Order.{slotId, tableRoom}
 use Rattle.index.specs.Search.{bracket, wide, rangeEnd, endOf, standing, firstRow, searched}
 use Rattle.index.specs.Guide.{start-in, end-all, end-even, end-guide, guide-is, range-finds, first-dense, first-none, even-place}
@@ -28,7 +28,7 @@ both false t e = absurd (let z : _≡_ {A = ℕ} 0 1 = cc in omega arith)
 
 -- how many rows the index speaks of
 abbrev pub roomOf : List ℕ → List ℕ → Ids → ℕ
-roomOf rows slots b = tableRoom (rowsIn (length rows)) (length slots) (b .count)
+roomOf rows slots b = tableRoom (rowsFit (length rows)) (length slots) (b .count)
 
 -- what a search tells of an id, as a number
 abbrev pub rowOf : List ℕ → List ℕ → Ids → ℕ → ℕ
@@ -49,7 +49,7 @@ module _ (rows slots : List ℕ) (b : Ids) (k : ℕ) where
 
   -- the row that a search looks at first is a hint, whatever it is
   pub first-hint : (r : ℕ) → r ≡ firstRow slots b k → Hint rows slots b k r
-  first-hint r e h = get-first (idOf rows) (rowsIn (length rows)) slots b k r e true (sym h) refl
+  first-hint r e h = get-first (idOf rows) (rowsFit (length rows)) slots b k r e true (sym h) refl
 
   -- a number that no row has is one
   pub none-hint : (r : ℕ) → r ≡ 4294967295 → Hint rows slots b k r
@@ -64,8 +64,8 @@ module _ (rows slots : List ℕ) (b : Ids) (k : ℕ) where
       -- elsewhere no row is looked at first, so that the row before an end of the search is a hint
       end-hint : r + 1 ≡ endOf k b slots (slotId (idOf rows) (b .direct) slots) (roomOf rows slots b) → Hint rows slots b k r
       end-hint q h =
-          seek-hit (idOf rows) (rowsIn (length rows)) slots b k (roomOf rows slots b) (r + 1) refl q r (rw d (omega arith)) (λ z. omega arith) true (sym h) refl
-          ∙ get-later (idOf rows) (rowsIn (length rows)) slots b k 4294967295 (first-none k b slots from e) false (out-of-room rows slots b k) refl
+          seek-hit (idOf rows) (rowsFit (length rows)) slots b k (roomOf rows slots b) (r + 1) refl q r (rw d (omega arith)) (λ z. omega arith) true (sym h) refl
+          ∙ get-later (idOf rows) (rowsFit (length rows)) slots b k 4294967295 (first-none k b slots from e) false (out-of-room rows slots b k) refl
 
       -- where ids rise by one step: so many steps from the first row as the id is from the first id
       pub even-hint : (step : ℕ) → 0 < step → step * (roomOf rows slots b - 1) ≡ b .last - b .first → 1 < roomOf rows slots b → b .even ≡ true → r * step ≡ k - b .first → Hint rows slots b k r

@@ -1,75 +1,82 @@
--- Laws for the code: the columns of records hold these records, and each way out of the search, by what was found so far.
+-- Laws for the code: each way out of the search, by what was found so far; and that a search over the number columns of the same records
+-- finds the same.
 -- Assumes nothing.
-use Prim.Native.Nat.{ℕ, zero, suc, _+_, _*_, _-_, _/_, _≤_, _<_, min}
-use native.Mathlib.Nat.{not-suc-le-zero, le-of-suc-le-suc}
+use Prim.Native.Nat.{ℕ, zero, suc, _+_, _-_, _≤_, _<_, min}
 use native.Mathlib.Omega.{arith}
 use mathlib.Core.Path.{_≡_, refl, sym, _∙_, ap}
 use mathlib.Core.Bool.{Bool, true, false}
-use mathlib.Core.List.{List, [], _∷_}
+use mathlib.Core.List.{List, [], _∷_, map}
 use mathlib.Core.Option.{Option, none, some}
-use lib.ListN.{length, getD}
+use lib.ListN.{length, getElem?, length-map}
 use Rattle.statement.specs.declared.HeaderSpan.{HeaderSpan}
-use Rattle.statement.specs.Row.{HeaderRow, headerRow}
+use Rattle.statement.specs.Row.{HeaderRow}
 use Rattle.statement.specs.Statement.{headerRowOf}
+use Rattle.table.specs.Table.{headerRows, headerNumbers, headersLaid}
+use Rattle.table.specs.Laid.{headers-laid-in, header-is}
+use Rattle.common.specs.Pick.{pick}
 use Rattle.lookup.specs.Lookup.{firstFrom}
 use Rattle.lookup.specs.Laws.{first-stops, first-goes, first-ends}
-use Rattle.headers.specs.Header.{headerRows, headerNumbers, named, isHeader, headerFirst}
-use Rattle.headings.specs.Columns.{spanAt, columnsOf}
-
--- four numbers a record
-length-columns : (hs : List HeaderSpan) → length (columnsOf hs) ≡ length hs * 4
-unfolding columnsOf
-length-columns [] = refl
-length-columns (w ∷ hs) =
-    let e : length (columnsOf hs) ≡ length hs * 4 = length-columns hs in
-    omega (arith, e)
-
--- the columns have as many rows as there are records
-pub all-rows : (hs : List HeaderSpan) → headerRows (columnsOf hs) (length hs) ≡ length hs
-all-rows hs =
-    let e : length (columnsOf hs) ≡ length hs * 4 = length-columns hs in
-    omega (arith, e)
-
--- row i of the columns is record i
-pub row-is : (hs : List HeaderSpan) (i : ℕ) → i < length hs → headerNumbers (columnsOf hs) i ≡ headerRowOf (spanAt hs i)
-unfolding columnsOf
-row-is [] i l = absurd (not-suc-le-zero l)
-row-is (w ∷ hs) zero l = refl
-row-is (w ∷ hs) (suc i) l =
-    let e₀ : suc i * 4 ≡ suc (suc (suc (suc (i * 4)))) = omega arith in
-    let e₁ : suc i * 4 + 1 ≡ suc (suc (suc (suc (i * 4 + 1)))) = omega arith in
-    let e₂ : suc i * 4 + 2 ≡ suc (suc (suc (suc (i * 4 + 2)))) = omega arith in
-    let e₃ : suc i * 4 + 3 ≡ suc (suc (suc (suc (i * 4 + 3)))) = omega arith in
-    let c : List ℕ = columnsOf (w ∷ hs) in
-    (λ j. headerRow (getD c (e₀ j) 0) (getD c (e₁ j) 0) (getD c (e₂ j) 0) (getD c (e₃ j) 0)) ∙ row-is hs i (le-of-suc-le-suc l)
+use Rattle.headers.specs.Header.{named, isHeader, headerFirst, headerFound}
+use Rattle.headings.specs.Heads.{spanAt, headAt}
 
 module _ (s name : List ℕ) (hs : List HeaderSpan) where
   -- none of the records before i has the keyword: what is sought is the first from i on
   abbrev pub Sought : ℕ → Type 0
-  Sought i = firstFrom (isHeader s (columnsOf hs) name) (length hs - i) i ≡ headerFirst s (columnsOf hs) (length hs) name
+  Sought i = firstFrom (isHeader s (headAt hs) name) (length hs - i) i ≡ headerFirst s (headAt hs) (length hs) name
 
   -- whether record i has it
   abbrev pub Has : ℕ → Bool
-  Has i = named s name (headerRowOf (spanAt hs i))
-
-  at-row : (i : ℕ) → i < length hs → isHeader s (columnsOf hs) name i ≡ Has i
-  at-row i l = ap (named s name) (row-is hs i l)
+  Has i = named s name (headAt hs i)
 
   -- the search begins
   pub begins : Sought 0
-  begins =
-      let e : headerRows (columnsOf hs) (length hs) ≡ length hs = all-rows hs in
-      let z : length hs - 0 ≡ headerRows (columnsOf hs) (length hs) = omega (arith, e) in
-      ap (λ (m : ℕ). firstFrom (isHeader s (columnsOf hs) name) m 0) z
+  begins = let z : length hs - 0 ≡ length hs = omega arith in ap (λ (m : ℕ). firstFrom (isHeader s (headAt hs) name) m 0) z
 
   -- record i has it
-  pub stops : (i : ℕ) → i < length hs → Sought i → Has i ≡ true → some i ≡ headerFirst s (columnsOf hs) (length hs) name
-  stops i l e t = sym (first-stops (isHeader s (columnsOf hs) name) (length hs) i l (at-row i l ∙ t)) ∙ e
+  pub stops : (i : ℕ) → i < length hs → Sought i → Has i ≡ true → some i ≡ headerFirst s (headAt hs) (length hs) name
+  stops i l e t = sym (first-stops (isHeader s (headAt hs) name) (length hs) i l t) ∙ e
 
   -- it has not
   pub goes : (i : ℕ) → i < length hs → Sought i → Has i ≡ false → Sought (i + 1)
-  goes i l e f = sym (first-goes (isHeader s (columnsOf hs) name) (length hs) i l (at-row i l ∙ f)) ∙ e
+  goes i l e f = sym (first-goes (isHeader s (headAt hs) name) (length hs) i l f) ∙ e
 
   -- no record is left
-  pub ends : (i : ℕ) → length hs ≤ i → Sought i → none ≡ headerFirst s (columnsOf hs) (length hs) name
-  ends i l e = sym (first-ends (isHeader s (columnsOf hs) name) (length hs) i l) ∙ e
+  pub ends : (i : ℕ) → length hs ≤ i → Sought i → none ≡ headerFirst s (headAt hs) (length hs) name
+  ends i l e = sym (first-ends (isHeader s (headAt hs) name) (length hs) i l) ∙ e
+
+-- tests that agree on the rows in question find the same first row
+first-same : (p q : ℕ → Bool) (n i : ℕ) → ((j : ℕ) → j < i + n → p j ≡ q j) → firstFrom p n i ≡ firstFrom q n i
+unfolding firstFrom
+first-same p q zero i h = refl
+first-same p q (suc n) i h =
+    ap (λ (t : Bool). pick t (some i) (firstFrom p n (suc i))) (h i (omega arith))
+    ∙ ap (λ (o : Option ℕ). pick (q i) (some i) o) (first-same p q n (suc i) (λ j l. h j (omega arith)))
+
+-- record i of the rows of records
+elem-row : (hs : List HeaderSpan) (i : ℕ) → i < length hs → getElem? (map headerRowOf hs) i ≡ some (headAt hs i)
+elem-row [] i l = absurd (omega arith)
+elem-row (w ∷ hs) zero l = refl
+elem-row (w ∷ hs) (suc i) l = elem-row hs i (omega arith)
+
+-- the same row of both
+some-one : {a b : HeaderRow} → some a ≡ some b → a ≡ b
+some-one e = cc
+
+module _ (hs : List HeaderSpan) where
+  -- the number columns that hold these records
+  abbrev columns : List ℕ
+  columns = headersLaid (map headerRowOf hs) []
+
+  -- row i of the columns is record i
+  pub column-is : (i : ℕ) → i < length hs → headerNumbers columns i ≡ headAt hs i
+  column-is i l =
+      let n : length (map headerRowOf hs) ≡ length hs = length-map hs headerRowOf in
+      some-one (sym (header-is (map headerRowOf hs) [] i (omega (arith, n))) ∙ elem-row hs i l)
+
+  -- "the same search over number columns": it finds the same record
+  pub columns-same : (s name : List ℕ) → headerFound s columns (length hs) name ≡ headerFirst s (headAt hs) (length hs) name
+  columns-same s name =
+      let n : length (map headerRowOf hs) ≡ length hs = length-map hs headerRowOf in
+      let e : headerRows columns (length hs) ≡ length hs = omega (arith, n, headers-laid-in (map headerRowOf hs) []) in
+      ap (λ (m : ℕ). headerFirst s (headerNumbers columns) m name) e
+      ∙ first-same (isHeader s (headerNumbers columns) name) (isHeader s (headAt hs) name) (length hs) 0 (λ j l. ap (named s name) (column-is j (omega arith)))

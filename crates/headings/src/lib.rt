@@ -8,7 +8,7 @@ ghost use Prim.Native.Nat.{_<_};
 ghost use lib.ListN.{length};
 ghost use Rattle.lookup.specs.Lookup.{toldPlace};
 ghost use Rattle.headers.specs.Header.{headerFirst};
-ghost use Rattle.headings.specs.Columns.{spanAt, columnsOf};
+ghost use Rattle.headings.specs.Heads.{spanAt, headAt};
 use lookup::Place;
 use statement::HeaderSpan;
 
@@ -22,7 +22,7 @@ fn row_at(heads: &[HeaderSpan], i: usize) -> HeaderSpan
 
 // The first header record with this keyword, letters in either case.
 pub fn header_row(file: &[u8], heads: &[HeaderSpan], name: &[u8]) -> Place
-    ensures { λ r. ⌜ toldPlace r ≡ headerFirst (now (file .entry)) (columnsOf (now (heads .entry))) (length (now (heads .entry))) (now (name .entry)) ⌝ }
+    ensures { λ r. ⌜ toldPlace r ≡ headerFirst (now (file .entry)) (headAt (now (heads .entry))) (length (now (heads .entry))) (now (name .entry)) ⌝ }
 {
     let mut i = 0;
     while i < heads.len() {

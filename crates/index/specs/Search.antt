@@ -9,7 +9,7 @@ use lib.Dec.{ltb, leb, eqb}
 use lib.ListN.{length, getD}
 use Rattle.common.specs.Pick.{pick}
 use Rattle.common.specs.Walk.{Turn, stop, on, turned}
-use Rattle.table.specs.Table.{idOf, rowsIn}
+use Rattle.table.specs.Table.{idOf, rowsFit}
 use Rattle.index.specs.Order.{rowAt, slotId, tableRoom}
 use Rattle.index.specs.declared.Ids.{Ids}
 use Rattle.index.specs.declared.Found.{Found}
@@ -144,8 +144,8 @@ searchIn f R slots b k =
 
 -- the search through brackets, of a table in lent memory
 abbrev pub sought : List ℕ → List ℕ → Ids → ℕ → Option ℕ
-sought rows slots b k = soughtIn (idOf rows) (rowsIn (length rows)) slots b k
+sought rows slots b k = soughtIn (idOf rows) (rowsFit (length rows)) slots b k
 
 -- "Lookup of an id": what a search of a table in lent memory answers
 abbrev pub searched : List ℕ → List ℕ → Ids → ℕ → Option ℕ
-searched rows slots b k = searchIn (idOf rows) (rowsIn (length rows)) slots b k
+searched rows slots b k = searchIn (idOf rows) (rowsFit (length rows)) slots b k

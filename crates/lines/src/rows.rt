@@ -34,25 +34,19 @@ pub fn scanned(t: Tables, i: usize) -> Line {
 
 // The keyword of header row i, and its arguments; none where the table ends before it.
 fn head_keyword(heads: &[u32], i: usize) -> State {
-    if i < heads.len() / 4 {
-        let at = i * 4;
-        return State {
-            place: common::wide(heads[at]),
-            end: common::wide(heads[at + 1]),
-        };
+    let w = table::read_header(heads, i);
+    State {
+        place: w.keyword.start,
+        end: w.keyword.end,
     }
-    State { place: 0, end: 0 }
 }
 
 pub fn head_args(heads: &[u32], i: usize) -> State {
-    if i < heads.len() / 4 {
-        let at = i * 4;
-        return State {
-            place: common::wide(heads[at + 2]),
-            end: common::wide(heads[at + 3]),
-        };
+    let w = table::read_header(heads, i);
+    State {
+        place: w.args.start,
+        end: w.args.end,
     }
-    State { place: 0, end: 0 }
 }
 
 // `h I KS KE AS AE`

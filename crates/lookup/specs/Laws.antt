@@ -11,7 +11,7 @@ use native.Mathlib.Numerals.{add-one}
 use lib.ListN.{length}
 use Rattle.common.specs.Pick.{pick}
 use Rattle.common.specs.Compare.{clash, ordered, less-or}
-use Rattle.table.specs.Table.{rowsIn, idOf}
+use Rattle.table.specs.Table.{rowsFit, idOf}
 use Rattle.index.specs.Order.{tableRoom}
 use Rattle.index.specs.Lookup.{lookupOf}
 use Rattle.index.specs.Index.{Built}
@@ -84,6 +84,6 @@ module _ (p : ℕ → Bool) where
       go (inr h) = subst (λ (z : ℕ). FirstForm p from z (firstFrom p (n - from) from)) (omega arith) (first-is (n - from) from)
 
 -- "Lookup of an id answers like a map written to in file order: the last record of that id, or none": `get` over what `build` left
-pub lookup-right : (rows old slots : List ℕ) (count k : ℕ) (b : Ids) → Built (idOf rows) (tableRoom (rowsIn (length rows)) (length old) count) old slots b
-    → rowFound rows (searched rows slots b k) ≡ rowFound rows (lookupOf (idOf rows) (tableRoom (rowsIn (length rows)) (length old) count) k)
-lookup-right rows old slots count k b h = ap (rowFound rows) (get-right (idOf rows) (rowsIn (length rows)) old slots count k b h)
+pub lookup-right : (rows old slots : List ℕ) (count k : ℕ) (b : Ids) → Built (idOf rows) (tableRoom (rowsFit (length rows)) (length old) count) old slots b
+    → rowFound rows (searched rows slots b k) ≡ rowFound rows (lookupOf (idOf rows) (tableRoom (rowsFit (length rows)) (length old) count) k)
+lookup-right rows old slots count k b h = ap (rowFound rows) (get-right (idOf rows) (rowsFit (length rows)) old slots count k b h)

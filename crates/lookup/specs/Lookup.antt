@@ -12,6 +12,8 @@ use Rattle.error.specs.Refusal.{Refusal, refusal, Told, good, bad, told}
 use Rattle.statement.specs.Row.{Row}
 use Rattle.statement.specs.Statement.{rowOf}
 use Rattle.table.specs.Table.{tableRows, rowNumbers}
+use Rattle.index.specs.Search.{searched}
+use Rattle.index.specs.declared.Ids.{Ids}
 use Rattle.kinds.specs.Kind.{kindOf, rankOf}
 use Rattle.kinds.specs.declared.Kind.{Kind}
 use Rattle.kinds.specs.declared.Kind.the-variants.{Complex, Other}
@@ -32,6 +34,10 @@ rowIn rows n k = pick (ltb k (tableRows rows n)) (some (rowNumbers rows k)) none
 abbrev pub rowFound : List ℕ → Option ℕ → Option Row
 rowFound rows none = none
 rowFound rows (some k) = some (rowNumbers rows k)
+
+-- the row of an id, by the lookup in the lent tables
+abbrev pub rowFor : List ℕ → List ℕ → Ids → ℕ → Option Row
+rowFor rows slots ids k = rowFound rows (searched rows slots ids k)
 
 -- "14 arguments asked of an id with no record, 0"
 abbrev pub required : Option Row → Told Row

@@ -8,6 +8,7 @@ use native.Mathlib.Omega.{arith}
 use lib.ListN.{length}
 use Rattle.common.specs.Compare.{clash}
 use Rattle.error.specs.Refusal.{Told, good, bad}
+use Rattle.table.specs.Table.{tableRows, rowNumbers}
 use Rattle.statement.specs.Row.{Row, mapped}
 use Rattle.statement.specs.Closed.{Closed, content}
 use Rattle.statement.specs.ClosedRight.{alone}
@@ -16,7 +17,7 @@ use Rattle.scan.specs.File.{Table, scanOf}
 use Rattle.scan.specs.Table.{headerRoom, dataRoom, rowsAfter, countsOf, toldScan}
 use Rattle.scan.specs.declared.Scanned.{Scanned}
 use Rattle.index.specs.Search.{searched}
-use Rattle.lookup.specs.Lookup.{tableRows, rowFound, toldEntry}
+use Rattle.lookup.specs.Lookup.{rowFound, toldEntry, rowFor}
 use Rattle.lookup.specs.Records.{lastOf, LastForm, last-is}
 use Rattle.lookup.specs.declared.Tables.{Tables}
 use Rattle.lookup.specs.declared.Entry.{Entry}

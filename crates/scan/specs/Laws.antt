@@ -15,7 +15,7 @@ use Rattle.statement.specs.Row.{Row, HeaderRow, mapped}
 use Rattle.statement.specs.Statement.{Stmt, ends, refused, moved, header, record′, statement}
 use Rattle.statement.specs.declared.Section.{Section}
 use Rattle.statement.specs.declared.Section.the-variants.{Outside, InHeader, InData}
-use Rattle.table.specs.Table.{rowsIn, headersIn, rowsLaid, headersLaid, rowPut, headerPut}
+use Rattle.table.specs.Table.{rowsFit, headersFit, rowsLaid, headersLaid, rowPut, headerPut}
 use Rattle.table.specs.Laid.{rows-laid-none, rows-laid-more, headers-laid-none, headers-laid-more}
 use Rattle.scan.specs.File.{Table, table, withHeader, withRecord, roomed, taken, readFrom, readingOf, largest}
 use Rattle.scan.specs.Table.{headersOf, recordsOf, Counts, counts, countsOf}
@@ -136,7 +136,7 @@ module _ (s : List ℕ) (H R : ℕ) (write : Bool) (h₀ r₀ : List ℕ) (i : �
   record-full w p n l e k = rw (le-ltb r R k, place-drop s p l) at (turn (record′ w (drop p s) (drop n s)) e)
 
   -- a header record, and its row
-  pub going-header : (w : HeaderRow) (p n : ℕ) → header w (drop p s) (drop n s) ≡ statement s sec (drop i s) → i < n → n ≤ length s → h < H → h < headersIn (length h₀)
+  pub going-header : (w : HeaderRow) (p n : ℕ) → header w (drop p s) (drop n s) ≡ statement s sec (drop i s) → i < n → n ≤ length s → h < H → h < headersFit (length h₀)
       → Going s H R write h₀ r₀ n InHeader (h + 1) r m (pick write (headerPut hnow h w) hnow) rnow
   going-header w p n e a b k l = record {
     fuel = g .fuel - 1;
@@ -159,7 +159,7 @@ module _ (s : List ℕ) (H R : ℕ) (write : Bool) (h₀ r₀ : List ℕ) (i : �
       go true = rw (← g .hcount) (sym (headers-laid-more (g .hs) w h₀ (rw (g .hcount) l)))
 
   -- a data record, and its row
-  pub going-record : (w : Row) (p n : ℕ) → record′ w (drop p s) (drop n s) ≡ statement s sec (drop i s) → i < n → n ≤ length s → r < R → r < rowsIn (length r₀)
+  pub going-record : (w : Row) (p n : ℕ) → record′ w (drop p s) (drop n s) ≡ statement s sec (drop i s) → i < n → n ≤ length s → r < R → r < rowsFit (length r₀)
       → Going s H R write h₀ r₀ n InData h (r + 1) (max m (w .id)) hnow (pick write (rowPut rnow r w) rnow)
   going-record w p n e a b k l = record {
     fuel = g .fuel - 1;

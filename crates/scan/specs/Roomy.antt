@@ -8,7 +8,7 @@ use Rattle.error.specs.Refusal.{Refusal, Told, good, bad}
 use Rattle.statement.specs.Row.{mapped}
 use Rattle.statement.specs.declared.Section.{Section}
 use Rattle.scan.specs.File.{Table, withHeader, withRecord, scanOf}
-use Rattle.table.specs.Table.{rowsIn, headersIn}
+use Rattle.table.specs.Table.{rowsFit, headersFit}
 use Rattle.table.specs.Laid.{rows-laid-length, headers-laid-length}
 use Rattle.scan.specs.Table.{headerRoom, dataRoom, headersAfter, rowsAfter}
 use Rattle.scan.specs.Form.{Reads, Scans}
@@ -48,7 +48,7 @@ pub refusal-roomy : (s : List ℕ) (H R : ℕ) (q : Refusal) → scanOf s H R �
 refusal-roomy s H R q e n H' R' h r = sym (scans-only (scans-larger s H' R' h r (rw e at (scans-is s H R)) n))
 
 -- the lent header rows keep their length
-pub headers-length : (s : List ℕ) (H R : ℕ) (old : List ℕ) → H ≤ headersIn (length old) → length (headersAfter (scanOf s H R) old) ≡ length old
+pub headers-length : (s : List ℕ) (H R : ℕ) (old : List ℕ) → H ≤ headersFit (length old) → length (headersAfter (scanOf s H R) old) ≡ length old
 headers-length s H R old h = go (scanOf s H R) refl
   where
     go : (x : Told Table) → scanOf s H R ≡ x → length (headersAfter x old) ≡ length old
@@ -56,7 +56,7 @@ headers-length s H R old h = go (scanOf s H R) refl
     go (bad q) e = refl
 
 -- and so do the lent data rows
-pub rows-length : (s : List ℕ) (H R : ℕ) (old : List ℕ) → R ≤ rowsIn (length old) → length (rowsAfter (scanOf s H R) old) ≡ length old
+pub rows-length : (s : List ℕ) (H R : ℕ) (old : List ℕ) → R ≤ rowsFit (length old) → length (rowsAfter (scanOf s H R) old) ≡ length old
 rows-length s H R old h = go (scanOf s H R) refl
   where
     go : (x : Told Table) → scanOf s H R ≡ x → length (rowsAfter x old) ≡ length old

@@ -12,7 +12,7 @@ use Rattle.statement.specs.Row.{Row}
 use Rattle.statement.specs.Statement.{record′, statement}
 use Rattle.statement.specs.Tidy.{tidy}
 use Rattle.statement.specs.declared.Section.the-variants.{InData}
-use Rattle.table.specs.Table.{rowsIn, rowPut}
+use Rattle.table.specs.Table.{rowsFit, rowPut}
 use Rattle.table.specs.Laws.{row-put-length}
 use Rattle.scan.specs.Laws.{Going, going-record}
 use Rattle.scan.specs.Neat.{Tidying, tidying-record}
@@ -41,7 +41,7 @@ module _ (s : List ℕ) (room : ℕ) (known : Bool) (i r m : ℕ) (xs : List ℕ
   ran-length (Ran.more {q = q} {ys = ys} h e w p n d t l b a) = row-put-length ys q w ∙ ran-length h
 
   -- the reading goes on as if each record had been taken by itself
-  pub going-ran : (H : ℕ) (write : Bool) (h₀ r₀ : List ℕ) (h : ℕ) (hnow : List ℕ) {j q k : ℕ} {ys : List ℕ} → room ≤ rowsIn (length r₀) → (known ≡ true → write ≡ true)
+  pub going-ran : (H : ℕ) (write : Bool) (h₀ r₀ : List ℕ) (h : ℕ) (hnow : List ℕ) {j q k : ℕ} {ys : List ℕ} → room ≤ rowsFit (length r₀) → (known ≡ true → write ≡ true)
       → Going s H room write h₀ r₀ i InData h r m hnow xs → Ran s room known i r m xs j q k ys → Going s H room write h₀ r₀ j InData h q k hnow ys
   going-ran H write h₀ r₀ h hnow o f g Ran.none = g
   going-ran H write h₀ r₀ h hnow o f g (Ran.more {j} {q} {k} {ys} z e w p n d t l b a) =

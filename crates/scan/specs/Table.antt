@@ -4,18 +4,18 @@ use Prim.Native.Nat.{ℕ, min}
 use mathlib.Core.List.{List}
 use lib.ListN.{length}
 use Rattle.error.specs.Refusal.{Refusal, Told, good, bad, told}
-use Rattle.table.specs.Table.{rowsIn, headersIn, rowsLaid, headersLaid}
+use Rattle.table.specs.Table.{rowsFit, headersFit, rowsLaid, headersLaid}
 use Rattle.scan.specs.File.{Table, largest}
 use Rattle.scan.specs.declared.Scanned.{Scanned}
 use Rattle.scan.specs.declared.Scanned.the-variants.{Rows, Refused}
 
 -- how many header rows are lent
 abbrev pub headerRoom : List ℕ → ℕ
-headerRoom h = headersIn (length h)
+headerRoom h = headersFit (length h)
 
 -- "the lent rows of its kind (or id slots, one a record)": how many data rows are lent, with a slot for each
 abbrev pub dataRoom : List ℕ → ℕ → ℕ
-dataRoom r slots = min (rowsIn (length r)) slots
+dataRoom r slots = min (rowsFit (length r)) slots
 
 -- the lent memory with a table's header rows, and with its data rows
 abbrev pub headersOf : Table → List ℕ → List ℕ

@@ -15,7 +15,7 @@ ghost use Rattle.statement.specs.Statement.{rowOf, headerRowOf, toldSaid, Ahead
 ghost use Rattle.statement.specs.Tidy.{tidy, TidyAhead};
 ghost use Rattle.statement.specs.declared.Section.the-variants.{Outside, InData};
 ghost use Rattle.scan.specs.File.{scanOf, marked, readingOf};
-ghost use Rattle.table.specs.Table.{rowsIn, headersIn, rowPut, headerPut};
+ghost use Rattle.table.specs.Table.{rowsFit, headersFit, rowPut, headerPut};
 ghost use Rattle.scan.specs.Table.{headerRoom, dataRoom, headersOf, recordsOf, toldScan, countsOf, headersAfter, rowsAfter};
 ghost use Rattle.scan.specs.Laws.{Written};
 ghost use Rattle.scan.specs.Neat.{Neat, toldPassed, NeatTold};
@@ -79,7 +79,7 @@ fn is_marked(s: &[u8]) -> bool
 
 // Puts a header row as row k, where the pass writes, and answers the next row's number.
 fn put_header(out: &mut [u32], k: usize, span: HeaderSpan, write: bool) -> usize
-    requires { ⌜ (k < headersIn (length (now out))) × HeaderFits 4294967295 (headerRowOf span) ⌝ }
+    requires { ⌜ (k < headersFit (length (now out))) × HeaderFits 4294967295 (headerRowOf span) ⌝ }
     ensures { λ _. ⌜ now (out .exit) ≡ pick write (headerPut (now (out .entry)) k (headerRowOf span)) (now (out .entry)) ⌝ }
     ensures { λ r. ⌜ r ≡ k + 1 ⌝ }
 {
@@ -129,7 +129,7 @@ fn run(
     largest: u32,
     known: bool,
 ) -> Reached
-    requires { ⌜ (length (now s) ≤ 4294967295) × (from ≤ length (now s)) × (room ≤ rowsIn (length (now rows))) × (known ≡ true → Neat (now s) InData (drop from (now s))) ⌝ }
+    requires { ⌜ (length (now s) ≤ 4294967295) × (from ≤ length (now s)) × (room ≤ rowsFit (length (now rows))) × (known ≡ true → Neat (now s) InData (drop from (now s))) ⌝ }
     ensures { λ t. ⌜ Ran (now (s .entry)) room known from stored largest (now (rows .entry)) (t .place) (t .count) (t .max) (now (rows .exit)) ⌝ }
 {
     let mut place = from;
@@ -149,9 +149,9 @@ fn run(
 
 // How many data rows so many numbers and slots hold.
 fn data_room(numbers: usize, slots: usize) -> usize
-    ensures { λ r. ⌜ r ≡ min (rowsIn numbers) slots ⌝ }
+    ensures { λ r. ⌜ r ≡ min (rowsFit numbers) slots ⌝ }
 {
-    common::within(table::rows_in(numbers), slots)
+    common::within(table::rows_fit(numbers), slots)
 }
 
 // Reads the file in order: counts, and where `write` is set stores each row. What is stored before a refusal stays, so
@@ -190,7 +190,7 @@ fn pass(
                 i = next;
             }
             Said::Heads(span, start, next) => {
-                if table::headers_in(headers.len()) <= h {
+                if table::headers_fit(headers.len()) <= h {
                     return Passed::Stopped(Fault::NoRow(start));
                 }
                 h = put_header(headers, h, span, write);

@@ -7,12 +7,13 @@ use lib.ListN.{length}
 use Rattle.common.specs.Compare.{clash}
 use Rattle.error.specs.Refusal.{Refusal, Told, good, bad, told}
 use Rattle.error.specs.declared.Fault.{Fault}
+use Rattle.table.specs.Table.{tableRows, rowNumbers}
 use Rattle.statement.specs.Row.{Row, mapped}
 use Rattle.params.specs.Reader.{onward}
 use Rattle.scan.specs.File.{Table}
 use Rattle.scan.specs.Table.{headersAfter, rowsAfter, countsOf}
 use Rattle.index.specs.Search.{searched}
-use Rattle.lookup.specs.Lookup.{tableRows, rowFound}
+use Rattle.lookup.specs.Lookup.{rowFound, rowFor}
 use Rattle.lookup.specs.Records.{lastOf}
 use Rattle.lookup.specs.declared.Tables.{Tables}
 use Rattle.store.specs.Store.{toldOpened, Indexed, scanInto, Opens}

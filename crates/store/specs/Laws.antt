@@ -7,11 +7,12 @@ use mathlib.Core.Option.{Option}
 use native.Mathlib.Omega.{arith}
 use lib.ListN.{length}
 use Rattle.error.specs.Refusal.{Told, good, bad}
+use Rattle.table.specs.Table.{rowsFit, idOf}
 use Rattle.statement.specs.Row.{mapped}
 use Rattle.scan.specs.File.{Table, scanOf, largest}
 use Rattle.scan.specs.Table.{Counts, counts, countsOf, dataRoom}
 use Rattle.scan.specs.Rooms.{scan-fit}
-use Rattle.index.specs.Order.{idOf, tableRoom}
+use Rattle.index.specs.Order.{tableRoom}
 use Rattle.index.specs.Lookup.{lookupOf}
 use Rattle.index.specs.Index.{Built}
 use Rattle.index.specs.Search.{searched}
@@ -31,7 +32,7 @@ counted (good t) h r m e = (t, refl, ap recordsIn e)
 counted (bad q) h r m e = let z : _≡_ {A = ℕ} 0 1 = cc in absurd (omega arith)
 
 -- the index speaks of all the records of a scan
-pub all-indexed : (s rows : List ℕ) (H slots h r m : ℕ) → good (counts h r m) ≡ mapped countsOf (scanOf s H (dataRoom rows slots)) → tableRoom (length rows) slots r ≡ r
+pub all-indexed : (s rows : List ℕ) (H slots h r m : ℕ) → good (counts h r m) ≡ mapped countsOf (scanOf s H (dataRoom rows slots)) → tableRoom (rowsFit (length rows)) slots r ≡ r
 all-indexed s rows H slots h r m e =
     let (t, q, c) = counted (scanOf s H (dataRoom rows slots)) h r m e in
     let f = scan-fit s H (dataRoom rows slots) t q .1 in
@@ -39,7 +40,7 @@ all-indexed s rows H slots h r m e =
     omega arith
 
 -- "Lookup of an id answers like a map written to in file order": over what opening a file left
-pub open-right : (rows old slots : List ℕ) (n k : ℕ) (b : Ids) → tableRoom (length rows) (length old) n ≡ n → Built (idOf rows) n old slots b → searched rows slots b k ≡ lookupOf (idOf rows) n k
+pub open-right : (rows old slots : List ℕ) (n k : ℕ) (b : Ids) → tableRoom (rowsFit (length rows)) (length old) n ≡ n → Built (idOf rows) n old slots b → searched rows slots b k ≡ lookupOf (idOf rows) n k
 open-right rows old slots n k b e h =
-    get-right rows old slots n k b (subst (λ (z : ℕ). Built (idOf rows) z old slots b) (sym e) h)
+    get-right (idOf rows) (rowsFit (length rows)) old slots n k b (subst (λ (z : ℕ). Built (idOf rows) z old slots b) (sym e) h)
     ∙ ap (λ (z : ℕ). lookupOf (idOf rows) z k) e

@@ -6,8 +6,8 @@ use mathlib.Core.List.{List}
 use native.Mathlib.Omega.{arith}
 use Rattle.error.specs.Refusal.{Refusal, Told, good, bad, told, faultOf, faultOf-told}
 use Rattle.error.specs.declared.Fault.{Fault}
+use Rattle.table.specs.Table.{idOf}
 use Rattle.scan.specs.Table.{Counts, counts}
-use Rattle.index.specs.Order.{idOf}
 use Rattle.index.specs.Index.{Built, built-slots-only, built-only}
 use Rattle.index.specs.declared.Ids.{Ids}
 use Rattle.lookup.specs.declared.Tables.{Tables}

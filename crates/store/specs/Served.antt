@@ -1,24 +1,25 @@
 -- The record that is served: over the rows that the scan laid and the index built of them, lookup answers with the records of the
 -- file. "Lookup of an id answers like a map written to in file order: the last record of that id, or none."
 -- Assumes nothing.
-use Prim.Native.Nat.{ℕ, _*_, _/_, _≤_, _<_, min}
+use Prim.Native.Nat.{ℕ, _≤_, _<_, min}
 use mathlib.Core.Path.{_≡_, refl, sym, _∙_, ap, subst}
 use mathlib.Core.List.{List}
 use mathlib.Core.Option.{Option, some}
 use native.Mathlib.Omega.{arith}
-use lib.ListN.{length, drop, getElem?, length-append}
+use lib.ListN.{length, getElem?}
 use Rattle.error.specs.Refusal.{Told, good, bad}
+use Rattle.table.specs.Table.{rowsFit, rowNumbers, idOf}
+use Rattle.table.specs.Laid.{rows-laid-in, row-is}
 use Rattle.scan.specs.File.{Table, scanOf}
-use Rattle.scan.specs.Table.{six, recordNumbers, rowsAfter, headerRoom, dataRoom}
-use Rattle.scan.specs.Laws.{flat-length}
+use Rattle.scan.specs.Table.{rowsAfter, headerRoom, dataRoom}
 use Rattle.scan.specs.Rooms.{scan-fit}
-use Rattle.index.specs.Order.{idOf, tableRoom}
+use Rattle.index.specs.Order.{tableRoom}
 use Rattle.index.specs.Lookup.{lookupOf, lookup-is}
 use Rattle.index.specs.Index.{Built}
 use Rattle.index.specs.Search.{searched}
 use Rattle.index.specs.declared.Ids.{Ids}
-use Rattle.lookup.specs.Lookup.{rowNumbers, rowFound}
-use Rattle.lookup.specs.Records.{lastOf, LastForm, last-is, row-is, found-last}
+use Rattle.lookup.specs.Lookup.{rowFound}
+use Rattle.lookup.specs.Records.{lastOf, LastForm, last-is, found-last}
 use Rattle.store.specs.Few.{scan-few}
 use Rattle.lookup.specs.declared.Tables.{Tables}
 use Rattle.store.specs.Laws.{counted, open-right}
@@ -30,28 +31,24 @@ module _ (t : Table) (old : List ℕ) where
   abbrev pub rowsOf : List ℕ
   rowsOf = rowsAfter (good t) old
 
-  -- they have six numbers for each record
-  rows-long : length (t .records) * 6 ≤ length rowsOf
-  rows-long = omega (arith, flat-length 6 six (λ w. refl) (t .records), length-append (recordNumbers t) (drop (length (recordNumbers t)) old))
-
   -- "A row holds id, keyword start and end [..]": row r is record r of the file
   pub served-row : (r : ℕ) → r < length (t .records) → getElem? (t .records) r ≡ some (rowNumbers rowsOf r)
-  served-row r h = row-is (t .records) (drop (length (recordNumbers t)) old) r h
+  served-row r h = row-is (t .records) old r h
 
   module _ (s : List ℕ) (H R : ℕ) (scanned : scanOf s H R ≡ good t) (before slots : List ℕ) (b : Ids)
       (room : R ≤ dataRoom old (length before)) (built : Built (idOf rowsOf) (length (t .records)) before slots b) where
     -- the index speaks of all the records
-    served-room : tableRoom (length rowsOf) (length before) (length (t .records)) ≡ length (t .records)
+    served-room : tableRoom (rowsFit (length rowsOf)) (length before) (length (t .records)) ≡ length (t .records)
     served-room =
         let f = scan-fit s H R t scanned .1 in
         let g = scan-few s H R t scanned in
-        omega (arith, rows-long)
+        omega (arith, rows-laid-in (t .records) old)
 
     -- "the last record of that id, or none", of the file's records
     pub served-is : (k : ℕ) → rowFound rowsOf (searched rowsOf slots b k) ≡ lastOf k (t .records)
     served-is k =
         ap (rowFound rowsOf) (open-right rowsOf before slots (length (t .records)) k b served-room built)
-        ∙ found-last (t .records) (drop (length (recordNumbers t)) old) k (lookupOf (idOf rowsOf) (length (t .records)) k) (lookup-is (idOf rowsOf) (length (t .records)) k)
+        ∙ found-last (t .records) old k (lookupOf (idOf rowsOf) (length (t .records)) k) (lookup-is (idOf rowsOf) (length (t .records)) k)
 
     -- the same without a loop: it is the last record of that id, or the file has none
     pub served-form : (k : ℕ) → LastForm k (t .records) (rowFound rowsOf (searched rowsOf slots b k))

@@ -5,10 +5,10 @@ use mathlib.Core.Path.{_≡_}
 use mathlib.Core.List.{List}
 use lib.ListN.{length}
 use Rattle.error.specs.Refusal.{Told, good, bad, told}
+use Rattle.table.specs.Table.{idOf}
 use Rattle.statement.specs.Row.{mapped}
 use Rattle.scan.specs.File.{Table, scanOf}
 use Rattle.scan.specs.Table.{headerRoom, dataRoom, headersAfter, rowsAfter, Counts, counts, countsOf}
-use Rattle.index.specs.Order.{idOf}
 use Rattle.index.specs.Index.{Built}
 use Rattle.store.specs.declared.Opened.{Opened}
 use Rattle.store.specs.declared.Opened.the-variants.{Good, Refused}

@@ -10,7 +10,7 @@ use lib.ListN.{length, drop, getD, getElem?, length-append, length-drop, List·g
 use lib.Seq.{sets, sets-eq, getD-append-add, take-append-seam, drop-append-add, drop-drop}
 use Rattle.common.specs.Compare.{clash}
 use Rattle.statement.specs.Row.{Row, HeaderRow}
-use Rattle.table.specs.Table.{rowsIn, headersIn, field, rowNumbers, headerNumbers, six, four, flat, laid, rowsLaid, headersLaid, rowPut, headerPut}
+use Rattle.table.specs.Table.{rowsFit, headersFit, field, rowNumbers, headerNumbers, six, four, flat, laid, rowsLaid, headersLaid, rowPut, headerPut}
 use Rattle.table.specs.Laws.{field-there, put-there, row-same, header-same}
 
 -- the flat rows with one row more
@@ -79,24 +79,24 @@ unfolding flat
 rows-laid-none old = refl
 
 -- one row more is put behind those that were laid
-pub rows-laid-more : (ws : List Row) (w : Row) (old : List ℕ) → length ws < rowsIn (length old) → rowsLaid (ws ++ (w ∷ [])) old ≡ rowPut (rowsLaid ws old) (length ws) w
+pub rows-laid-more : (ws : List Row) (w : Row) (old : List ℕ) → length ws < rowsFit (length old) → rowsLaid (ws ++ (w ∷ [])) old ≡ rowPut (rowsLaid ws old) (length ws) w
 rows-laid-more ws w old h =
     let l : length (rowsLaid ws old) ≡ length old = laid-length 6 six (λ v. refl) ws old (omega (arith, h)) in
     laid-more 6 six (λ v. refl) ws w old (omega (arith, h)) ∙ sym (put-there 6 (rowsLaid ws old) (length ws) (omega (arith, h, l)) (six w))
 
 -- the memory keeps its length, where the rows fit
-pub rows-laid-length : (ws : List Row) (old : List ℕ) → length ws ≤ rowsIn (length old) → length (rowsLaid ws old) ≡ length old
+pub rows-laid-length : (ws : List Row) (old : List ℕ) → length ws ≤ rowsFit (length old) → length (rowsLaid ws old) ≡ length old
 rows-laid-length ws old h = laid-length 6 six (λ v. refl) ws old (omega (arith, h))
 
 -- whether or not they fit, the memory then has so many rows
-pub rows-laid-in : (ws : List Row) (old : List ℕ) → length ws ≤ rowsIn (length (rowsLaid ws old))
+pub rows-laid-in : (ws : List Row) (old : List ℕ) → length ws ≤ rowsFit (length (rowsLaid ws old))
 rows-laid-in ws old = let k = flat-length 6 six (λ v. refl) ws in omega (arith, k, length-append (flat six ws) (drop (length (flat six ws)) old))
 
 -- "A row holds id, keyword start and end [..]": row r of the memory is the row that was laid as the r-th
 pub row-is : (ws : List Row) (old : List ℕ) (r : ℕ) → r < length ws → getElem? ws r ≡ some (rowNumbers (rowsLaid ws old) r)
 row-is ws old r h =
     let (w, g) = there ws r h in
-    let k : r < rowsIn (length (rowsLaid ws old)) = omega (arith, rows-laid-in ws old) in
+    let k : r < rowsFit (length (rowsLaid ws old)) = omega (arith, rows-laid-in ws old) in
     let on : (i : ℕ) → i < 6 → field 6 (rowsLaid ws old) r i ≡ getD (six w) i 0 =
     λ i l. field-there 6 (rowsLaid ws old) r k i ∙ flat-at 6 six (λ v. refl) ws (drop (length (flat six ws)) old) r w g i l in
     g ∙ ap some (sym (row-same (on 0 (omega arith)) (on 1 (omega arith)) (on 2 (omega arith)) (on 3 (omega arith)) (on 4 (omega arith)) (on 5 (omega arith))))
@@ -106,22 +106,22 @@ pub headers-laid-none : (old : List ℕ) → headersLaid [] old ≡ old
 unfolding flat
 headers-laid-none old = refl
 
-pub headers-laid-more : (ws : List HeaderRow) (w : HeaderRow) (old : List ℕ) → length ws < headersIn (length old) → headersLaid (ws ++ (w ∷ [])) old ≡ headerPut (headersLaid ws old) (length ws) w
+pub headers-laid-more : (ws : List HeaderRow) (w : HeaderRow) (old : List ℕ) → length ws < headersFit (length old) → headersLaid (ws ++ (w ∷ [])) old ≡ headerPut (headersLaid ws old) (length ws) w
 headers-laid-more ws w old h =
     let l : length (headersLaid ws old) ≡ length old = laid-length 4 four (λ v. refl) ws old (omega (arith, h)) in
     laid-more 4 four (λ v. refl) ws w old (omega (arith, h)) ∙ sym (put-there 4 (headersLaid ws old) (length ws) (omega (arith, h, l)) (four w))
 
-pub headers-laid-length : (ws : List HeaderRow) (old : List ℕ) → length ws ≤ headersIn (length old) → length (headersLaid ws old) ≡ length old
+pub headers-laid-length : (ws : List HeaderRow) (old : List ℕ) → length ws ≤ headersFit (length old) → length (headersLaid ws old) ≡ length old
 headers-laid-length ws old h = laid-length 4 four (λ v. refl) ws old (omega (arith, h))
 
-pub headers-laid-in : (ws : List HeaderRow) (old : List ℕ) → length ws ≤ headersIn (length (headersLaid ws old))
+pub headers-laid-in : (ws : List HeaderRow) (old : List ℕ) → length ws ≤ headersFit (length (headersLaid ws old))
 headers-laid-in ws old = let k = flat-length 4 four (λ v. refl) ws in omega (arith, k, length-append (flat four ws) (drop (length (flat four ws)) old))
 
 -- header row r of the memory is the header row that was laid as the r-th
 pub header-is : (ws : List HeaderRow) (old : List ℕ) (r : ℕ) → r < length ws → getElem? ws r ≡ some (headerNumbers (headersLaid ws old) r)
 header-is ws old r h =
     let (w, g) = there ws r h in
-    let k : r < headersIn (length (headersLaid ws old)) = omega (arith, headers-laid-in ws old) in
+    let k : r < headersFit (length (headersLaid ws old)) = omega (arith, headers-laid-in ws old) in
     let on : (i : ℕ) → i < 4 → field 4 (headersLaid ws old) r i ≡ getD (four w) i 0 =
     λ i l. field-there 4 (headersLaid ws old) r k i ∙ flat-at 4 four (λ v. refl) ws (drop (length (flat four ws)) old) r w g i l in
     g ∙ ap some (sym (header-same (on 0 (omega arith)) (on 1 (omega arith)) (on 2 (omega arith)) (on 3 (omega arith))))

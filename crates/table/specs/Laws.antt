@@ -11,23 +11,23 @@ use lib.Seq.{sets, length-sets}
 use borrow.Author.Tests.{ltb-true, ltb-false, lt-ltb, le-ltb}
 use Rattle.common.specs.Pick.{pick}
 use Rattle.statement.specs.Row.{Row, row, HeaderRow, headerRow}
-use Rattle.table.specs.Table.{rowsIn, headersIn, field, idOf, rowNumbers, headerNumbers, six, four, putAt, rowPut, headerPut, narrow, narrowRow, narrowHeader}
+use Rattle.table.specs.Table.{rowsFit, headersFit, field, idOf, rowNumbers, headerNumbers, six, four, putAt, rowPut, headerPut, narrow, narrowRow, narrowHeader}
 
 -- the row's last number lies in the memory just where the memory has the row
-pub row-test : (n k : ℕ) → ltb (k * 6 + 5) n ≡ ltb k (rowsIn n)
-row-test n k = go (ltb k (rowsIn n)) refl
+pub row-test : (n k : ℕ) → ltb (k * 6 + 5) n ≡ ltb k (rowsFit n)
+row-test n k = go (ltb k (rowsFit n)) refl
   where
-    go : (t : Bool) → ltb k (rowsIn n) ≡ t → ltb (k * 6 + 5) n ≡ t
-    go true e = let h = ltb-true k (rowsIn n) e in lt-ltb (k * 6 + 5) n (omega (arith, h))
-    go false e = let h = ltb-false k (rowsIn n) e in le-ltb (k * 6 + 5) n (omega (arith, h))
+    go : (t : Bool) → ltb k (rowsFit n) ≡ t → ltb (k * 6 + 5) n ≡ t
+    go true e = let h = ltb-true k (rowsFit n) e in lt-ltb (k * 6 + 5) n (omega (arith, h))
+    go false e = let h = ltb-false k (rowsFit n) e in le-ltb (k * 6 + 5) n (omega (arith, h))
 
 -- so of a header row
-pub header-test : (n k : ℕ) → ltb (k * 4 + 3) n ≡ ltb k (headersIn n)
-header-test n k = go (ltb k (headersIn n)) refl
+pub header-test : (n k : ℕ) → ltb (k * 4 + 3) n ≡ ltb k (headersFit n)
+header-test n k = go (ltb k (headersFit n)) refl
   where
-    go : (t : Bool) → ltb k (headersIn n) ≡ t → ltb (k * 4 + 3) n ≡ t
-    go true e = let h = ltb-true k (headersIn n) e in lt-ltb (k * 4 + 3) n (omega (arith, h))
-    go false e = let h = ltb-false k (headersIn n) e in le-ltb (k * 4 + 3) n (omega (arith, h))
+    go : (t : Bool) → ltb k (headersFit n) ≡ t → ltb (k * 4 + 3) n ≡ t
+    go true e = let h = ltb-true k (headersFit n) e in lt-ltb (k * 4 + 3) n (omega (arith, h))
+    go false e = let h = ltb-false k (headersFit n) e in le-ltb (k * 4 + 3) n (omega (arith, h))
 
 module _ (w : ℕ) (xs : List ℕ) (k : ℕ) where
   -- a number of a row that the memory has
@@ -63,11 +63,11 @@ pub header-same : {a b c d a′ b′ c′ d′ : ℕ} → a ≡ a′ → b ≡ b
 header-same p q r s = λ i. record { keyStart = p i; keyEnd = q i; argStart = r i; argEnd = s i }
 
 -- a row that the memory has not is one of zeros
-pub row-none : (rows : List ℕ) (k : ℕ) → rowsIn (length rows) ≤ k → rowNumbers rows k ≡ row 0 0 0 0 0 0
+pub row-none : (rows : List ℕ) (k : ℕ) → rowsFit (length rows) ≤ k → rowNumbers rows k ≡ row 0 0 0 0 0 0
 row-none rows k h = let z = field-none 6 rows k h in row-same (z 0) (z 1) (z 2) (z 3) (z 4) (z 5)
 
 -- so is a header row
-pub header-none : (heads : List ℕ) (k : ℕ) → headersIn (length heads) ≤ k → headerNumbers heads k ≡ headerRow 0 0 0 0
+pub header-none : (heads : List ℕ) (k : ℕ) → headersFit (length heads) ≤ k → headerNumbers heads k ≡ headerRow 0 0 0 0
 header-none heads k h = let z = field-none 4 heads k h in header-same (z 0) (z 1) (z 2) (z 3)
 
 -- a number of 32 bits is itself
@@ -100,7 +100,7 @@ header-read heads k h =
 
 -- a row that is put changes no length
 pub row-put-length : (rows : List ℕ) (k : ℕ) (w : Row) → length (rowPut rows k w) ≡ length rows
-row-put-length rows k w = go (ltb k (rowsIn (length rows)))
+row-put-length rows k w = go (ltb k (rowsFit (length rows)))
   where
     go : (t : Bool) → length (pick t (sets rows (k * 6) (six w)) rows) ≡ length rows
     go true = length-sets rows (k * 6) (six w)
@@ -108,7 +108,7 @@ row-put-length rows k w = go (ltb k (rowsIn (length rows)))
 
 -- nor does a header row
 pub header-put-length : (heads : List ℕ) (k : ℕ) (w : HeaderRow) → length (headerPut heads k w) ≡ length heads
-header-put-length heads k w = go (ltb k (headersIn (length heads)))
+header-put-length heads k w = go (ltb k (headersFit (length heads)))
   where
     go : (t : Bool) → length (pick t (sets heads (k * 4) (four w)) heads) ≡ length heads
     go true = length-sets heads (k * 4) (four w)

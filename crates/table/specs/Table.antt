@@ -11,20 +11,20 @@ use Rattle.common.specs.Pick.{pick}
 use Rattle.statement.specs.Row.{Row, row, HeaderRow, headerRow}
 
 -- how many data rows lie in so many numbers, six a row
-abbrev pub rowsIn : ℕ → ℕ
-rowsIn n = n / 6
+abbrev pub rowsFit : ℕ → ℕ
+rowsFit n = n / 6
 
 -- how many header rows, four a row
-abbrev pub headersIn : ℕ → ℕ
-headersIn n = n / 4
+abbrev pub headersFit : ℕ → ℕ
+headersFit n = n / 4
 
 -- how many data rows a table has: as many as are told, where the numbers suffice
 abbrev pub tableRows : List ℕ → ℕ → ℕ
-tableRows rows n = min n (rowsIn (length rows))
+tableRows rows n = min n (rowsFit (length rows))
 
 -- how many header rows
 abbrev pub headerRows : List ℕ → ℕ → ℕ
-headerRows heads n = min n (headersIn (length heads))
+headerRows heads n = min n (headersFit (length heads))
 
 -- the number i of row k, of rows of w numbers; 0 where the table ends before the row's end
 abbrev pub field : ℕ → List ℕ → ℕ → ℕ → ℕ

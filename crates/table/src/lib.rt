@@ -10,42 +10,42 @@ ghost use mathlib.Core.List.{[]};
 ghost use lib.ListN.{length};
 ghost use lib.Seq.{sets};
 ghost use Rattle.statement.specs.Statement.{rowOf, headerRowOf};
-ghost use Rattle.table.specs.Table.{rowsIn, headersIn, idOf, rowNumbers, headerNumbers, six, four, rowPut, headerPut, narrowRow, narrowHeader, narrow};
+ghost use Rattle.table.specs.Table.{rowsFit, headersFit, idOf, rowNumbers, headerNumbers, six, four, rowPut, headerPut, narrowRow, narrowHeader, narrow};
 use statement::HeaderSpan;
 use statement::Range;
 use statement::RecordSpan;
 
 // How many data rows lie in so many numbers.
-pub fn rows_in(numbers: usize) -> usize
-    ensures { λ r. ⌜ r ≡ rowsIn numbers ⌝ }
+pub fn rows_fit(numbers: usize) -> usize
+    ensures { λ r. ⌜ r ≡ rowsFit numbers ⌝ }
 {
     numbers / 6
 }
 
 // How many header rows lie in so many numbers.
-pub fn headers_in(numbers: usize) -> usize
-    ensures { λ r. ⌜ r ≡ headersIn numbers ⌝ }
+pub fn headers_fit(numbers: usize) -> usize
+    ensures { λ r. ⌜ r ≡ headersFit numbers ⌝ }
 {
     numbers / 4
 }
 
 // How many data rows a table of so many numbers has: as many as are told, where the numbers suffice.
 pub fn table_rows(numbers: usize, told: usize) -> usize
-    ensures { λ r. ⌜ r ≡ min told (rowsIn numbers) ⌝ }
+    ensures { λ r. ⌜ r ≡ min told (rowsFit numbers) ⌝ }
 {
-    common::within(told, rows_in(numbers))
+    common::within(told, rows_fit(numbers))
 }
 
 // How many header rows likewise.
 pub fn header_rows(numbers: usize, told: usize) -> usize
-    ensures { λ r. ⌜ r ≡ min told (headersIn numbers) ⌝ }
+    ensures { λ r. ⌜ r ≡ min told (headersFit numbers) ⌝ }
 {
-    common::within(told, headers_in(numbers))
+    common::within(told, headers_fit(numbers))
 }
 
 // Whether the table has data row k.
 pub fn has_row(rows: &[u32], k: usize) -> bool
-    ensures { λ r. ⌜ r ≡ ltb k (rowsIn (length (now (rows .entry)))) ⌝ }
+    ensures { λ r. ⌜ r ≡ ltb k (rowsFit (length (now (rows .entry)))) ⌝ }
 {
     if k < rows.len() {
         k * 6 + 5 < rows.len()
@@ -56,7 +56,7 @@ pub fn has_row(rows: &[u32], k: usize) -> bool
 
 // Whether the table has header row k.
 pub fn has_header(heads: &[u32], k: usize) -> bool
-    ensures { λ r. ⌜ r ≡ ltb k (headersIn (length (now (heads .entry)))) ⌝ }
+    ensures { λ r. ⌜ r ≡ ltb k (headersFit (length (now (heads .entry)))) ⌝ }
 {
     if k < heads.len() {
         k * 4 + 3 < heads.len()

@@ -13,12 +13,13 @@ use lib.ListN.{length}
 use Rattle.common.specs.Pick.{pick}
 use Rattle.common.specs.Compare.{clash}
 use Rattle.error.specs.Refusal.{Refusal, refusal, Told, good, bad}
+use Rattle.table.specs.Table.{headerNumbers}
 use Rattle.params.specs.Reader.{mapped, paramOf, skipsOf}
 use Rattle.words.specs.Words.{Shown, stringAt}
 use Rattle.words.specs.Places.{ToldIn, ShownIn, text-in, text-kept}
 use Rattle.statement.specs.Row as statement
 use Rattle.lookup.specs.Lookup as rows
-use Rattle.headers.specs.Header.{headerNumbers, headerArgs}
+use Rattle.headers.specs.Header.{headerArgs}
 use Rattle.titles.specs.Title.{empty, asTitle, skipped, titleIn, roomSkipped, roomIn, titleBy, roomBy}
 
 -- what an answer owes: a text in the file or in the room of m bytes; or 9 or 16 with a place in the file of n bytes, and the room as it was

@@ -5,6 +5,7 @@
 // file's.
 ghost use mathlib.Core.Path.{_≡_};
 ghost use lib.ListN.{length};
+ghost use Rattle.table.specs.Table.{headerNumbers};
 ghost use Rattle.headers.specs.Header.{headerArgs, headerFound};
 ghost use Rattle.words.specs.Words.{toldNextText};
 ghost use Rattle.titles.specs.Title.{toldTitle, asTitle, titleIn, roomIn, titleBy, roomBy, fileName};

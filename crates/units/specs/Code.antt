@@ -8,14 +8,14 @@ use lib.ListN.{length}
 use lib.Ieee.{binary64, toBits}
 use Rattle.common.specs.Pick.{pick}
 use Rattle.error.specs.Refusal.{Told, good, bad, told}
-use Rattle.statement.specs.Row.{HeaderRow}
+use Rattle.statement.specs.Row.{Row, HeaderRow}
 use Rattle.reals.specs.Scalar.{referenceOf}
 use Rattle.kinds.specs.Kind.{kindOf}
 use Rattle.kinds.specs.declared.Kind.{Kind}
 use Rattle.kinds.specs.declared.Kind as KindCode
 use Rattle.params.specs.Reader.{span, onward}
 use Rattle.lists.specs.Items.{fine, asFate, itemsFrom, valuesOf}
-use Rattle.lookup.specs.Lookup.{cut, spanFine, rowNumbers}
+use Rattle.lookup.specs.Lookup.{cut, spanFine}
 use Rattle.factors.specs.Thing.{sameKind, Thing, thingOf}
 use Rattle.factors.specs.Code.{toldRun}
 use Rattle.factors.specs.declared.Run as RunCode
@@ -54,9 +54,9 @@ deciding (good u) = u .resolved
 deciding (bad q) = true
 
 -- the records of n rows from row k on
-unfoldable pub thingsFrom : List ℕ → List ℕ → ℕ → ℕ → List (Told Thing)
-thingsFrom s (rowNumbers rows) zero k = []
-thingsFrom s (rowNumbers rows) (suc n) k = thingOf s (rowNumbers rows k) ∷ thingsFrom s (rowNumbers rows) n (suc k)
+unfoldable pub thingsFrom : List ℕ → (ℕ → Row) → ℕ → ℕ → List (Told Thing)
+thingsFrom s row zero k = []
+thingsFrom s row (suc n) k = thingOf s (row k) ∷ thingsFrom s row n (suc k)
 
 -- a role, none, or a refusal
 abbrev pub toldRole : RoleCode.Role → Told (Option unit.Role)

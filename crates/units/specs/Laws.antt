@@ -19,6 +19,7 @@ use Rattle.error.specs.declared.Fault.{Fault}
 use Rattle.record.specs.Turns.{bounds}
 use Rattle.record.specs.Word.{trimmed}
 use Rattle.nearest.specs.Near.{near, nearUnits}
+use Rattle.table.specs.Table.{tableRows, rowNumbers}
 use Rattle.statement.specs.Row.{Row, HeaderRow}
 use Rattle.statement.specs.Statement.{headerRowOf}
 use Rattle.statement.specs.declared.HeaderSpan.{HeaderSpan}
@@ -35,7 +36,7 @@ use Rattle.lists.specs.Items.{Fate, fine, faulty, shifted, fated, mute, asFate,
 use Rattle.lists.specs.Laws.{item-in}
 use Rattle.lists.specs.ReadLaws.{count-mute}
 use Rattle.lists.specs.Fill.{fill-bad, fill-last, fill-more, fill-head}
-use Rattle.lookup.specs.Lookup.{cut, spanFine, spanIn, kindIn, tableRows, rowNumbers, rowIn}
+use Rattle.lookup.specs.Lookup.{cut, spanFine, spanIn, kindIn, rowIn}
 use Rattle.lookup.specs.Lookup as Lookup
 use Rattle.factors.specs.Thing.{goodBy, sameKind, pieceOf, Thing, thingOf, selfOr}
 use Rattle.factors.specs.Factor.{optionBy, lengthOf, angleOf}

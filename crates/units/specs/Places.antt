@@ -9,6 +9,8 @@ use lib.Dec.{eqb}
 use lib.ListN.{length}
 use Rattle.common.specs.Pick.{pick}
 use Rattle.error.specs.Refusal.{Refusal, Told, good, bad}
+use Rattle.table.specs.Table.{rowNumbers}
+use Rattle.lookup.specs.Lookup.{rowFor}
 use Rattle.statement.specs.Row.{Row}
 use Rattle.kinds.specs.declared.Kind.the-variants.{GeometricRepresentationContext, GlobalUnitAssignedContext, GlobalUncertaintyAssignedContext, UncertaintyMeasureWithUnit}
 use Rattle.params.specs.Reader.{Span, onward}
@@ -21,7 +23,6 @@ use Rattle.lists.specs.Items.{asFate, nextBy, listOf}
 use Rattle.lists.specs.Places.{scalar-inward, list-inward}
 use Rattle.lists.specs.Places as Lists
 use Rattle.index.specs.declared.Ids.{Ids}
-use Rattle.lookup.specs.Lookup.{rowNumbers}
 use Rattle.factors.specs.Thing.{goodBy, sameKind, Thing, thingOf, findOf, selfOr}
 use Rattle.factors.specs.Factor.{optionBy, lengthOf, angleOf}
 use Rattle.factors.specs.Places.{ThingIn, FoundIn, thing-in, find-in, by-placed, on-placed, any-placed, option-placed, self-in, length-in, angle-in}
@@ -136,7 +137,8 @@ module _ (s : List ℕ) (find : ℕ → Told (Option Thing)) (finds : (i : ℕ) 
 
   -- the records of rows
   rows-placed : (rows : List ℕ) (n k : ℕ) → PlacedIn (length s) (resolveOf s find (thingsFrom s (rowNumbers rows) n k))
-  unfolding resolveOf thingsFrom rows-placed (rowNumbers rows) zero k = tt
+  unfolding resolveOf thingsFrom
+  rows-placed rows zero k = tt
   rows-placed rows (suc n) k =
       on-placed (length s) (ThingIn (length s)) (recordOf s find (λ u. resolveOf s find (thingsFrom s (rowNumbers rows) n (suc k)))) (thingOf s (rowNumbers rows k)) (thing-in s (rowNumbers rows k))
       (record-placed (λ u. resolveOf s find (thingsFrom s (rowNumbers rows) n (suc k))) (rows-placed rows n (suc k)))

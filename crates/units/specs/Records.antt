@@ -1,36 +1,37 @@
 -- That the records which the units go through are the file's: of rows in lent memory as the scan laid them. Assumes nothing.
-use Prim.Native.Nat.{ℕ, zero, suc, _+_, _*_, _/_, _≤_, _<_, min}
-use mathlib.Core.Path.{_≡_, refl, _∙_, ap, ap₂}
-use mathlib.Core.List.{List, [], _∷_, _++_, map}
+use Prim.Native.Nat.{ℕ, zero, suc, _+_, _≤_, _<_, min}
+use mathlib.Core.Path.{_≡_, refl, sym, _∙_, ap, ap₂}
+use mathlib.Core.List.{List, [], _∷_, map}
+use mathlib.Core.Option.{Option, some}
 use native.Mathlib.Omega.{arith}
-use lib.ListN.{length, drop, length-append}
+use lib.ListN.{length, getElem?}
 use Rattle.error.specs.Refusal.{Told, good}
 use Rattle.statement.specs.Row.{Row}
+use Rattle.table.specs.Table.{tableRows, rowNumbers}
+use Rattle.table.specs.Laid.{rows-laid-in, row-is}
 use Rattle.scan.specs.File.{Table}
-use Rattle.scan.specs.Table.{six, flat, recordNumbers, rowsAfter}
-use Rattle.scan.specs.Laws.{flat-length}
-use Rattle.lookup.specs.Lookup.{tableRows, rowNumbers}
-use Rattle.lookup.specs.Records.{row-later}
+use Rattle.scan.specs.Table.{rowsAfter}
 use Rattle.factors.specs.Thing.{Thing, thingOf}
 use Rattle.units.specs.Code.{thingsFrom}
 
--- the records of rows one further on
-things-later : (s : List ℕ) (w : Row) (xs : List ℕ) (n k : ℕ) → thingsFrom s (rowNumbers (six w ++ xs)) n (suc k) ≡ thingsFrom s (rowNumbers xs) n k
-unfolding thingsFrom things-later (rowNumbers s) w xs zero k = refl
-things-later s w xs (suc n) k = ap₂ (λ (x : Row) (ts : List (Told Thing)). thingOf s x ∷ ts) (row-later w xs k) (things-later s w xs n (suc k))
+-- the same row of both
+some-one : {a b : Row} → some a ≡ some b → a ≡ b
+some-one e = cc
 
--- the records of rows that were laid in lent memory, whatever follows them
-things-laid : (s : List ℕ) (rs : List Row) (rest : List ℕ) → thingsFrom s (rowNumbers (flat six rs ++ rest)) (length rs) 0 ≡ map (thingOf s) rs
-unfolding thingsFrom flat
-things-laid s [] rest = refl
-things-laid s (w ∷ rs) rest =
-    let e : rowNumbers (flat six (w ∷ rs) ++ rest) 0 ≡ w = refl in
-    ap₂ (λ (x : Row) (ts : List (Told Thing)). thingOf s x ∷ ts) e (things-later s w (flat six rs ++ rest) (length rs) 0 ∙ things-laid s rs rest)
+-- a row function that tells these rows, from row k on, gives their records
+things-by : (s : List ℕ) (row : ℕ → Row) (rs : List Row) (k : ℕ) → ((r : ℕ) → r < length rs → getElem? rs r ≡ some (row (k + r))) → thingsFrom s row (length rs) k ≡ map (thingOf s) rs
+unfolding thingsFrom
+things-by s row [] k h = refl
+things-by s row (w ∷ rs) k h =
+    let z : k + 0 ≡ k = omega arith in
+    let e : row k ≡ w = sym (some-one (h 0 (omega arith) ∙ ap (λ (j : ℕ). some (row j)) z)) in
+    let g : (r : ℕ) → r < length rs → getElem? rs r ≡ some (row (suc k + r)) = λ r l. h (suc r) (omega arith) ∙ ap (λ (j : ℕ). some (row j)) (omega arith) in
+    ap₂ (λ (x : Row) (ts : List (Told Thing)). thingOf s x ∷ ts) e (things-by s row rs (suc k) g)
 
 -- the records that the units go through are those of the file, in file order
 pub things-are : (s : List ℕ) (t : Table) (old : List ℕ)
     → thingsFrom s (rowNumbers (rowsAfter (good t) old)) (tableRows (rowsAfter (good t) old) (length (t .records))) 0 ≡ map (thingOf s) (t .records)
 things-are s t old =
-    let e : tableRows (rowsAfter (good t) old) (length (t .records)) ≡ length (t .records) =
-    omega (arith, flat-length 6 six (λ w. refl) (t .records), length-append (recordNumbers t) (drop (length (recordNumbers t)) old)) in
-    ap (λ (n : ℕ). thingsFrom s (rowNumbers (rowsAfter (good t) old)) n 0) e ∙ things-laid s (t .records) (drop (length (recordNumbers t)) old)
+    let e : tableRows (rowsAfter (good t) old) (length (t .records)) ≡ length (t .records) = omega (arith, rows-laid-in (t .records) old) in
+    ap (λ (n : ℕ). thingsFrom s (rowNumbers (rowsAfter (good t) old)) n 0) e
+    ∙ things-by s (rowNumbers (rowsAfter (good t) old)) (t .records) 0 (λ r l. row-is (t .records) old r l ∙ ap (λ (j : ℕ). some (rowNumbers (rowsAfter (good t) old) j)) (omega arith))

@@ -7,7 +7,8 @@ mod role;
 
 pub use listed::units_of_context;
 ghost use mathlib.Core.Path.{_≡_};
-ghost use Rattle.lookup.specs.Lookup.{tableRows};
+ghost use Rattle.table.specs.Table.{tableRows, rowNumbers};
+ghost use Rattle.lookup.specs.Lookup.{rowFor};
 ghost use Rattle.statement.specs.Statement.{rowOf};
 ghost use Rattle.params.specs.Reader.{onward};
 ghost use Rattle.factors.specs.Thing.{thingOf, findOf};

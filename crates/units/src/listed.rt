@@ -1,5 +1,6 @@
 // The units and the tolerance that a context lists.
 ghost use mathlib.Core.Path.{_≡_};
+ghost use Rattle.lookup.specs.Lookup.{rowFor};
 ghost use Rattle.statement.specs.Statement.{rowOf};
 ghost use Rattle.params.specs.Reader.{onward};
 ghost use Rattle.scalars.specs.Scalars.{toldNextReal};

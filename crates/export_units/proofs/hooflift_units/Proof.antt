@@ -2,7 +2,8 @@ use denote.Ref.{now}
 use mathlib.Core.Path.{_∙_, ap}
 use lib.Ieee.{binary64, toBits}
 use Rattle.error.specs.Refusal.{Told}
-use Rattle.lookup.specs.Lookup.{tableRows}
+use Rattle.table.specs.Table.{tableRows, rowNumbers}
+use Rattle.lookup.specs.Lookup.{rowFor}
 use Rattle.lookup.specs.declared.Tables.{Tables}
 use Rattle.factors.specs.Thing.{findOf}
 use Rattle.units.specs.Units.{Units, resolveOf}

@@ -5,7 +5,7 @@ use mathlib.Core.Option.{Option, some}
 use Rattle.error.specs.Refusal.{Told}
 use Rattle.statement.specs.Row.{Row, mapped}
 use Rattle.statement.specs.Statement.{rowOf}
-use Rattle.lookup.specs.Lookup.{rowIn, toldEntry}
+use Rattle.lookup.specs.Lookup.{rowIn, toldEntry, rowFor}
 use Rattle.lookup.specs.declared.Tables.{Tables}
 use Rattle.factors.specs.Thing.{findOf}
 use Rattle.units.specs.Units.{Units}

@@ -9,7 +9,7 @@ use lib.Ieee.{binary64, toBits}
 use Rattle.params.specs.Reader.{Read}
 use Rattle.scalars.specs.Scalars.{toldNextReal, toldNextRef}
 use Rattle.statement.specs.Statement.{rowOf}
-use Rattle.lookup.specs.Lookup.{toldEntry}
+use Rattle.lookup.specs.Lookup.{toldEntry, rowFor}
 use Rattle.factors.specs.Thing.{thingOf, findOf}
 use Rattle.factors.specs.Factor.{lengthOf}
 use Rattle.factors.specs.Code.{toldRun, toldFactor, toldLink}

@@ -3,6 +3,7 @@ use mathlib.Core.Path.{sym, _∙_, ap}
 use Prim.Native.Nat.{ℕ}
 use denote.Ref.{now}
 use Rattle.error.specs.Refusal.{Told}
+use Rattle.lookup.specs.Lookup.{rowFor}
 use Rattle.params.specs.Reader.{onward}
 use Rattle.factors.specs.Thing.{findOf}
 use Rattle.factors.specs.Factor.{numberIn}

@@ -4,7 +4,7 @@ use denote.Ref.{now}
 use Prim.Native.Nat.{ℕ}
 use Rattle.params.specs.Reader.{Read}
 use Rattle.statement.specs.Statement.{rowOf}
-use Rattle.lookup.specs.Lookup.{toldEntry, toldSpan}
+use Rattle.lookup.specs.Lookup.{toldEntry, toldSpan, rowFor}
 use Rattle.scalars.specs.Scalars.{toldNextReal}
 use Rattle.factors.specs.Thing.{findOf}
 use Rattle.factors.specs.Laws.{find-none, find-row, number-missing, number-out, number-unread, number-read}

@@ -1,5 +1,5 @@
 use lib.ListN.{length}
-use Rattle.table.specs.Table.{idOf, rowsIn}
+use Rattle.table.specs.Table.{idOf, rowsFit}
 use mathlib.Core.Path.{_∙_, ap}
 use Rattle.index.specs.SearchRight.{get-first, get-later}
 use Rattle.finds.specs.Finds.{rowNumber}
@@ -15,7 +15,7 @@ stands-requires c κs = search needs
 
 returns : tie.Need-returns
 returns c = let a = c .before .before .before .before .before .args in
-    ap rowNumber (get-first (idOf (a .rows .now)) (rowsIn (length (a .rows .now))) (a .slots .now) (a .b) (a .id) (c .before .before .first-row .result) (c .before .before .first-row .ensures) (c .before .stands .result) (c .before .stands .ensures) (c .if1 .taken))
+    ap rowNumber (get-first (idOf (a .rows .now)) (rowsFit (length (a .rows .now))) (a .slots .now) (a .b) (a .id) (c .before .before .first-row .result) (c .before .before .first-row .ensures) (c .before .stands .result) (c .before .stands .ensures) (c .if1 .taken))
 
 seek-requires : tie.Need-seek-requires
 seek-requires c κs = search needs
@@ -26,7 +26,7 @@ number-of-requires c κs = search needs
 returns-2 : tie.Need-returns-2
 returns-2 c = let a = c .before .before .before .before .before .before .before .args in
     c .number-of .ensures
-    ∙ ap rowNumber (c .before .seek .ensures ∙ get-later (idOf (a .rows .now)) (rowsIn (length (a .rows .now))) (a .slots .now) (a .b) (a .id) (c .before .before .before .before .first-row .result) (c .before .before .before .before .first-row .ensures) (c .before .before .before .stands .result) (c .before .before .before .stands .ensures) (c .before .before .if1 .left))
+    ∙ ap rowNumber (c .before .seek .ensures ∙ get-later (idOf (a .rows .now)) (rowsFit (length (a .rows .now))) (a .slots .now) (a .b) (a .id) (c .before .before .before .before .first-row .result) (c .before .before .before .before .first-row .ensures) (c .before .before .before .stands .result) (c .before .before .before .stands .ensures) (c .before .before .if1 .left))
 
 pub row-of-spec : {M : Type 1} → statement M
 row-of-spec =

@@ -52,7 +52,7 @@ use Rattle.lookup.specs.declared.Place.{Place}
 use Rattle.lookup.specs.declared.Place.the-variants.{At as FoundAt, Nothing}
 use Rattle.lookup.specs.Lookup.{toldPlace}
 use Rattle.headers.specs.Header.{named as namedBy, headerFirst}
-use Rattle.headings.specs.Columns.{spanAt, columnsOf}
+use Rattle.headings.specs.Heads.{spanAt, headAt}
 use Rattle.headings.specs.Laws.{Sought, Has, begins, stops, goes, ends}
 use Rattle.statement.proofs.HeaderSpan as T
 use Rattle.statement.proofs.HeaderSpan.Laws as T′
@@ -173,7 +173,7 @@ module _ {M : Type 1} (𝓤 : URA M) (H : Heap 𝓤) (A : Atoms 𝓤) (W : Given
   Post = walkOf 𝓤 H A header-row.ended stayed (header-row.clauses 𝓤 H A mem run) .post (((κ₁, (κ₂, (κ₃, tt))), (q₁, (q₂, (q₃, tt))), tt, a, at), tt)
 
   abbrev answered : Place → Type 0
-  answered r = toldPlace r ≡ headerFirst (f .now) (columnsOf (h .now)) size (n .now)
+  answered r = toldPlace r ≡ headerFirst (f .now) (headAt (h .now)) size (n .now)
 
   exits : (r : Place) (u : Val) → Is P.the-row r (u ∷ []) → answered r → ent 𝓤 (⋆ 𝓤 H A (toks ∷ ‵ Owns ∷ [])) (Post u)
   exits r u is e =

@@ -37,7 +37,7 @@ use denote.Triple.Table.{entered}
 use denote.Triple.Walked.{says, needs, Stays, stay-none, stay-none-slice, walkOf, goes-none, goes-none-slice, Walks, ends-at, walked, walk-meets}
 use denote.Exit.{yes}
 use Rattle.statement.specs.declared.HeaderSpan.{HeaderSpan}
-use Rattle.headings.specs.Columns.{spanAt, noSpan}
+use Rattle.headings.specs.Heads.{spanAt, noSpan}
 use Rattle.statement.proofs.HeaderSpan as T
 use Rattle.statement.proofs.HeaderSpan.Laws as T′
 use Rattle.headings.proofs.row_at.Key.{name as #row-at}

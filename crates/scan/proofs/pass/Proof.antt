@@ -107,8 +107,8 @@ loop-again c = let n = c .before .before .before .before in
 enum-known-said-3 : tie.Need-enum-known-said-3 Inv-loop μ-loop
 enum-known-said-3 c = search needs
 
-headers-in-requires : tie.Need-headers-in-requires Inv-loop μ-loop
-headers-in-requires c κs = search needs
+headers-fit-requires : tie.Need-headers-fit-requires Inv-loop μ-loop
+headers-fit-requires c κs = search needs
 
 same-length-5 : tie.Need-same-length-5 Inv-loop μ-loop
 same-length-5 c = search needs
@@ -126,7 +126,7 @@ returns-3 c = let n = c .before .before .before .before .before .before in
     let g = t .loop .inv .2 in
     let y = t .loop .inv .3 in
     let b = n .noted-statement .ensures .1 .1 in
-    let l = failed _ _ _ _ _ _ _ _ _ _ _ _ _ g _ (t .before .data-room .ensures) _ (header-full _ _ _ _ _ _ _ _ _ _ _ _ _ g _ (v .given .0 .1 .0) (v .given .0 .1 .1 .0) (omega arith) e (omega (arith, c .if1 .taken, t .loop .inv .0, c .before .headers-in .ensures))) in
+    let l = failed _ _ _ _ _ _ _ _ _ _ _ _ _ g _ (t .before .data-room .ensures) _ (header-full _ _ _ _ _ _ _ _ _ _ _ _ _ g _ (v .given .0 .1 .0) (v .given .0 .1 .1 .0) (omega arith) e (omega (arith, c .if1 .taken, t .loop .inv .0, c .before .headers-fit .ensures))) in
     (l .0, (l .1 .0, (l .1 .1, tt)))
 
 put-header-requires : tie.Need-put-header-requires Inv-loop μ-loop
@@ -282,7 +282,7 @@ pass-spec =
     loop-less
     loop-again
     enum-known-said-3
-    headers-in-requires
+    headers-fit-requires
     same-length-5
     same-length-6
     returns-3

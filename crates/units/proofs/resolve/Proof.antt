@@ -4,7 +4,8 @@ use Prim.Native.Nat.{_-_}
 use mathlib.Core.Path.{sym, _∙_, ap}
 use denote.Ref.{now}
 use Rattle.error.specs.Refusal.{good}
-use Rattle.lookup.specs.Lookup.{tableRows, toldEntry}
+use Rattle.table.specs.Table.{tableRows}
+use Rattle.lookup.specs.Lookup.{toldEntry, rowFor}
 use Rattle.factors.specs.Thing.{findOf}
 use Rattle.units.specs.Laws.{Resolving, resolve-starts, resolve-over, row-there, resolve-last, resolve-goes}
 use Rattle.units.proofs.resolve.Statement.{statement}

@@ -3,7 +3,8 @@ use mathlib.Core.Path.{_∙_, sym, ap}
 use Prim.Native.Nat.{ℕ, _-_}
 use mathlib.Core.Option.{Option}
 use Rattle.error.specs.Refusal.{good}
-use Rattle.lookup.specs.Lookup.{tableRows, firstFrom, isKind, toldPlace}
+use Rattle.table.specs.Table.{tableRows}
+use Rattle.lookup.specs.Lookup.{firstFrom, isKind, toldPlace}
 use Rattle.lookup.specs.declared.Tables.{Tables}
 use Rattle.kinds.specs.declared.Kind.{Kind}
 use Rattle.plain.specs.Answers.{foundCode, foundValue}

@@ -3,6 +3,7 @@ use mathlib.Core.Path.{_∙_, sym, ap}
 use lib.ListN.{length}
 use mathlib.Core.Option.{Option}
 use Rattle.error.specs.Refusal.{Told}
+use Rattle.table.specs.Table.{headerNumbers}
 use Rattle.lookup.specs.Lookup.{Span}
 use Rattle.headers.specs.Header.{headerFound, headerArgs, toldHeader}
 use Rattle.lookup.specs.declared.Tables.{Tables}

@@ -3,6 +3,7 @@ use native.Mathlib.Omega.{arith}
 use mathlib.Core.Path.{sym, _∙_, ap}
 use denote.Ref.{now}
 use Rattle.error.specs.Refusal.{good}
+use Rattle.lookup.specs.Lookup.{rowFor}
 use Rattle.statement.specs.Statement.{rowOf}
 use Rattle.params.specs.Reader.{onward}
 use Rattle.factors.specs.Thing.{thingOf, findOf}

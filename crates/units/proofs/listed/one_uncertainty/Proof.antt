@@ -7,7 +7,7 @@ use Rattle.kinds.specs.Kind.{rankOf}
 use Rattle.kinds.specs.declared.Kind.{Kind}
 use Rattle.kinds.specs.declared.Kind.the-variants.{UncertaintyMeasureWithUnit}
 use Rattle.statement.specs.Statement.{rowOf}
-use Rattle.lookup.specs.Lookup.{toldEntry, toldSpan}
+use Rattle.lookup.specs.Lookup.{toldEntry, toldSpan, rowFor}
 use Rattle.factors.specs.Thing.{thingOf, findOf}
 use Rattle.factors.specs.Laws.{find-none, find-row, thing-out}
 use Rattle.units.specs.Units.{uncertaintyOf}

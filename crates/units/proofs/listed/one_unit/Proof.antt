@@ -2,7 +2,7 @@ use borrow.Author.Needs.{needs}
 use mathlib.Core.Path.{sym, _∙_, ap}
 use denote.Ref.{now}
 use Rattle.statement.specs.Statement.{rowOf}
-use Rattle.lookup.specs.Lookup.{toldEntry}
+use Rattle.lookup.specs.Lookup.{toldEntry, rowFor}
 use Rattle.factors.specs.Thing.{thingOf, findOf}
 use Rattle.factors.specs.Laws.{find-none, find-row}
 use Rattle.units.specs.Code.{valuesIn, toldRole}

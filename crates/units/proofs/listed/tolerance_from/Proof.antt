@@ -7,6 +7,7 @@ use lib.ListN.{length}
 use Rattle.error.specs.Refusal.{good}
 use Rattle.reals.specs.Scalar.{Answer, toldReference}
 use Rattle.lists.specs.Items.{asFate}
+use Rattle.lookup.specs.Lookup.{rowFor}
 use Rattle.factors.specs.Thing.{findOf}
 use Rattle.units.specs.Units.{toleranceBy}
 use Rattle.units.specs.Code.{toldUncertain, idsOf}

@@ -6,6 +6,7 @@ use denote.Ref.{now}
 use lib.ListN.{length}
 use Rattle.reals.specs.Scalar.{Answer, toldReference}
 use Rattle.lists.specs.Items.{asFate}
+use Rattle.lookup.specs.Lookup.{rowFor}
 use Rattle.factors.specs.Thing.{findOf}
 use Rattle.units.specs.Units.{Units, defaults, unitsBy}
 use Rattle.units.specs.Code.{valuesIn, toldUnits, idsOf}

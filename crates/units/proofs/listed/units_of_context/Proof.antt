@@ -1,6 +1,7 @@
 use borrow.Author.Needs.{needs}
 use mathlib.Core.Path.{sym, _∙_, ap}
 use denote.Ref.{now}
+use Rattle.lookup.specs.Lookup.{rowFor}
 use Rattle.statement.specs.Statement.{rowOf}
 use Rattle.factors.specs.Thing.{thingOf, findOf}
 use Rattle.units.specs.Code.{toldUnits, toldTolerance}

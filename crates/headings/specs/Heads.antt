@@ -1,8 +1,10 @@
--- Header records in a slice of structs, and the number columns that hold the same records.
+-- Header records in a slice of structs: record i, and its row.
 -- Assumes nothing.
 use Prim.Native.Nat.{ℕ}
-use mathlib.Core.List.{List, [], _∷_}
+use mathlib.Core.List.{List}
 use lib.ListN.{getD}
+use Rattle.statement.specs.Row.{HeaderRow}
+use Rattle.statement.specs.Statement.{headerRowOf}
 use Rattle.statement.specs.declared.HeaderSpan.{HeaderSpan}
 
 -- a record whose places are all 0
@@ -13,7 +15,6 @@ noSpan = record { keyword = record { start = 0; end = 0 }; args = record { start
 abbrev pub spanAt : List HeaderSpan → ℕ → HeaderSpan
 spanAt hs i = getD hs i noSpan
 
--- "the same search over number columns": four numbers a record
-unfoldable pub columnsOf : List HeaderSpan → List ℕ
-columnsOf [] = []
-columnsOf (w ∷ hs) = w .keyword .start ∷ w .keyword .end ∷ w .args .start ∷ w .args .end ∷ columnsOf hs
+-- its row
+abbrev pub headAt : List HeaderSpan → ℕ → HeaderRow
+headAt hs i = headerRowOf (spanAt hs i)
