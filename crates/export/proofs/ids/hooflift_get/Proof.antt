@@ -1,3 +1,5 @@
+use lib.ListN.{length}
+use Rattle.table.specs.Table.{idOf, rowsFit}
 use Rattle.finds.specs.Finds.{rowNumber}
 use Rattle.index.specs.declared.Ids.{Ids}
 use Rattle.index.specs.SearchRight.{get-first}
@@ -18,7 +20,7 @@ stands-requires : tie.Need-stands-requires
 stands-requires c κs = search needs
 
 returns : tie.Need-returns
-returns c = let a = c .before .before .before .before .before .before .before .args in let b : Ids = c .before .before .before .ids-of .result in ap rowNumber (get-first (now (a .rows)) (now (a .slots)) b (a .id) (c .before .before .first-row .result) (c .before .before .first-row .ensures) (c .before .stands .result) (c .before .stands .ensures) (c .if1 .taken)) ∙ ap (λ (z : Ids). rowNumber (searched (now (a .rows)) (now (a .slots)) z (a .id))) (c .before .before .before .ids-of .ensures)
+returns c = let a = c .before .before .before .before .before .before .before .args in let b : Ids = c .before .before .before .ids-of .result in ap rowNumber (get-first (idOf (now (a .rows))) (rowsFit (length (now (a .rows)))) (now (a .slots)) b (a .id) (c .before .before .first-row .result) (c .before .before .first-row .ensures) (c .before .stands .result) (c .before .stands .ensures) (c .if1 .taken)) ∙ ap (λ (z : Ids). rowNumber (searched (now (a .rows)) (now (a .slots)) z (a .id))) (c .before .before .before .ids-of .ensures)
 
 ids-of-requires-2 : tie.Need-ids-of-requires-2
 ids-of-requires-2 c κs = search needs
