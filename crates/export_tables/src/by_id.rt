@@ -2,12 +2,13 @@
 ghost use mathlib.Core.Path.{_≡_};
 ghost use mathlib.Core.Option.{some};
 ghost use lib.ListN.{length};
+ghost use Rattle.table.specs.Table.{rowWidth, six};
 ghost use Rattle.statement.specs.Row.{mapped};
 ghost use Rattle.kinds.specs.Kind.{rankOf};
 ghost use Rattle.index.specs.Search.{searched};
 ghost use Rattle.lookup.specs.Lookup.{rowFound, required, argsBy, kindFound};
 ghost use Rattle.plain.specs.Answers.{readCode, readValue};
-ghost use Rattle.plain.specs.Numbers.{tablesBy, sixOf, outCode, outAfter};
+ghost use Rattle.plain.specs.Numbers.{tablesBy, outCode, outAfter};
 use lookup::Required;
 
 // The last record with this id: 0, with its six numbers in `row`; or 14.
@@ -19,8 +20,8 @@ pub extern "C" fn hooflift_require(
     id: u32,
     row: &mut [u64],
 ) -> u8
-    ensures { λ n. ⌜ n ≡ outCode 6 (length (now (row .entry))) (mapped some (required (rowFound (now (rows .entry)) (searched (now (rows .entry)) (now (slots .entry)) (tablesBy (now (tables .entry)) .ids) id)))) ⌝ }
-    ensures { λ _. ⌜ now (row .exit) ≡ outAfter 6 sixOf (mapped some (required (rowFound (now (rows .entry)) (searched (now (rows .entry)) (now (slots .entry)) (tablesBy (now (tables .entry)) .ids) id)))) (now (row .entry)) ⌝ }
+    ensures { λ n. ⌜ n ≡ outCode rowWidth (length (now (row .entry))) (mapped some (required (rowFound (now (rows .entry)) (searched (now (rows .entry)) (now (slots .entry)) (tablesBy (now (tables .entry)) .ids) id)))) ⌝ }
+    ensures { λ _. ⌜ now (row .exit) ≡ outAfter rowWidth six (mapped some (required (rowFound (now (rows .entry)) (searched (now (rows .entry)) (now (slots .entry)) (tablesBy (now (tables .entry)) .ids) id)))) (now (row .entry)) ⌝ }
 {
     match lookup::require(rows, slots, plain::tables_of(tables), id) {
         Required::Row(w) => plain::put_row(row, w),

@@ -3,11 +3,11 @@ ghost use mathlib.Core.Path.{_≡_};
 ghost use Prim.Native.Nat.{_-_};
 ghost use lib.ListN.{length};
 ghost use Rattle.error.specs.Refusal.{good};
-ghost use Rattle.table.specs.Table.{tableRows};
+ghost use Rattle.table.specs.Table.{rowWidth, tableRows, six};
 ghost use Rattle.kinds.specs.Kind.{kindOf, rankOf};
 ghost use Rattle.lookup.specs.Lookup.{rowIn, kindFound, firstFrom, isKind};
 ghost use Rattle.plain.specs.Answers.{foundCode, foundValue};
-ghost use Rattle.plain.specs.Numbers.{tablesBy, sixOf, outCode, outAfter, kindBy};
+ghost use Rattle.plain.specs.Numbers.{tablesBy, outCode, outAfter, kindBy};
 ghost use Rattle.export_tables.specs.Tables.{keySpan, argSpan};
 use lookup::Entry;
 use lookup::Place;
@@ -23,8 +23,8 @@ pub extern "C" fn hooflift_len(tables: &[u64]) -> usize
 // Row k in file order: 0, with its six numbers in `row`; 255 past the table.
 #[no_mangle]
 pub extern "C" fn hooflift_entity(rows: &[u32], tables: &[u64], k: usize, row: &mut [u64]) -> u8
-    ensures { λ n. ⌜ n ≡ outCode 6 (length (now (row .entry))) (good (rowIn (now (rows .entry)) (tablesBy (now (tables .entry)) .records) k)) ⌝ }
-    ensures { λ _. ⌜ now (row .exit) ≡ outAfter 6 sixOf (good (rowIn (now (rows .entry)) (tablesBy (now (tables .entry)) .records) k)) (now (row .entry)) ⌝ }
+    ensures { λ n. ⌜ n ≡ outCode rowWidth (length (now (row .entry))) (good (rowIn (now (rows .entry)) (tablesBy (now (tables .entry)) .records) k)) ⌝ }
+    ensures { λ _. ⌜ now (row .exit) ≡ outAfter rowWidth six (good (rowIn (now (rows .entry)) (tablesBy (now (tables .entry)) .records) k)) (now (row .entry)) ⌝ }
 {
     match lookup::entity(rows, plain::tables_of(tables), k) {
         Entry::Row(w) => plain::put_row(row, w),

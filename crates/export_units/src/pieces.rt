@@ -2,14 +2,15 @@
 ghost use mathlib.Core.Path.{_≡_};
 ghost use lib.ListN.{length};
 ghost use Rattle.parts.specs.Part.{toldNext, nextOf, partOf};
+ghost use Rattle.table.specs.Table.{headerWidth, four};
 ghost use Rattle.plain.specs.Answers.{readFault};
-ghost use Rattle.plain.specs.Numbers.{fourOf, outCode, outAfter, kindBy};
+ghost use Rattle.plain.specs.Numbers.{outCode, outAfter, kindBy};
 use parts::Next;
 
 // Tells a part: 0, with its four numbers; 255 where there is none; or the refusal's number, with its place.
 fn put_next(r: Next, part: &mut [u64], fault: &mut usize) -> u8
-    ensures { λ n. ⌜ n ≡ outCode 4 (length (now (part .entry))) (toldNext r) ⌝ }
-    ensures { λ _. ⌜ now (part .exit) ≡ outAfter 4 fourOf (toldNext r) (now (part .entry)) ⌝ }
+    ensures { λ n. ⌜ n ≡ outCode headerWidth (length (now (part .entry))) (toldNext r) ⌝ }
+    ensures { λ _. ⌜ now (part .exit) ≡ outAfter headerWidth four (toldNext r) (now (part .entry)) ⌝ }
     ensures { λ _. ⌜ now (fault .exit) ≡ readFault (toldNext r) (now (fault .entry)) ⌝ }
 {
     match r {
@@ -32,8 +33,8 @@ pub extern "C" fn hooflift_next_part(
     part: &mut [u64],
     fault: &mut usize,
 ) -> u8
-    ensures { λ n. ⌜ n ≡ outCode 4 (length (now (part .entry))) (nextOf (now (file .entry)) at end) ⌝ }
-    ensures { λ _. ⌜ now (part .exit) ≡ outAfter 4 fourOf (nextOf (now (file .entry)) at end) (now (part .entry)) ⌝ }
+    ensures { λ n. ⌜ n ≡ outCode headerWidth (length (now (part .entry))) (nextOf (now (file .entry)) at end) ⌝ }
+    ensures { λ _. ⌜ now (part .exit) ≡ outAfter headerWidth four (nextOf (now (file .entry)) at end) (now (part .entry)) ⌝ }
     ensures { λ _. ⌜ now (fault .exit) ≡ readFault (nextOf (now (file .entry)) at end) (now (fault .entry)) ⌝ }
 {
     put_next(parts::next_part(file, at, end), part, fault)
@@ -50,8 +51,8 @@ pub extern "C" fn hooflift_complex_part(
     part: &mut [u64],
     fault: &mut usize,
 ) -> u8
-    ensures { λ n. ⌜ n ≡ outCode 4 (length (now (part .entry))) (partOf (now (file .entry)) start end complex (kindBy kind)) ⌝ }
-    ensures { λ _. ⌜ now (part .exit) ≡ outAfter 4 fourOf (partOf (now (file .entry)) start end complex (kindBy kind)) (now (part .entry)) ⌝ }
+    ensures { λ n. ⌜ n ≡ outCode headerWidth (length (now (part .entry))) (partOf (now (file .entry)) start end complex (kindBy kind)) ⌝ }
+    ensures { λ _. ⌜ now (part .exit) ≡ outAfter headerWidth four (partOf (now (file .entry)) start end complex (kindBy kind)) (now (part .entry)) ⌝ }
     ensures { λ _. ⌜ now (fault .exit) ≡ readFault (partOf (now (file .entry)) start end complex (kindBy kind)) (now (fault .entry)) ⌝ }
 {
     put_next(

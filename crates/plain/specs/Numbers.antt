@@ -10,7 +10,6 @@ use lib.ListN.{length, getD}
 use lib.Seq.{sets}
 use Rattle.common.specs.Pick.{pick}
 use Rattle.error.specs.Refusal.{Refusal, Told, good, bad}
-use Rattle.statement.specs.Row.{Row, HeaderRow}
 use Rattle.index.specs.declared.Ids.{Ids}
 use Rattle.kinds.specs.declared.Kind.{Kind}
 use Rattle.kinds.specs.declared.Kind.the-variants.{
@@ -61,14 +60,6 @@ abbrev pub tablesBy : List ℕ → Tables
 tablesBy xs = record { headers = getD xs 8 0; records = getD xs 9 0; max = narrowAt xs 10; ids = idsBy xs }
 
 -- ---- rows
--- "id, keyword start and end (0, 0 if complex), argument start and end, complex 0 or 1"
-abbrev pub sixOf : Row → List ℕ
-sixOf w = w .id ∷ w .keyStart ∷ w .keyEnd ∷ w .argStart ∷ w .argEnd ∷ w .complex ∷ []
-
--- a header record or a part: keyword start and end, argument start and end
-abbrev pub fourOf : HeaderRow → List ℕ
-fourOf w = w .keyStart ∷ w .keyEnd ∷ w .argStart ∷ w .argEnd ∷ []
-
 -- what is found goes into a lent list that needs room for m numbers and has room for n: 0, or 16 where that is too short; 255 where
 -- nothing is found; or the number of the refusal
 abbrev pub outCode : {A : Type 0} → ℕ → ℕ → Told (Option A) → ℕ

@@ -8,9 +8,10 @@ ghost use lib.ListN.{length, getD};
 ghost use lib.Dec.{leb};
 ghost use Rattle.common.specs.Pick.{pick};
 ghost use Rattle.kinds.specs.Kind.{rankOf};
+ghost use Rattle.table.specs.Table.{rowWidth, headerWidth, six, four};
 ghost use Rattle.statement.specs.Statement.{rowOf, headerRowOf};
 ghost use Rattle.plain.specs.Answers.{truthNumber};
-ghost use Rattle.plain.specs.Numbers.{putIn, flagsOf, idsNumbers, idsBy, tablesIn, tablesBy, sixOf, fourOf, kindBy};
+ghost use Rattle.plain.specs.Numbers.{putIn, flagsOf, idsNumbers, idsBy, tablesIn, tablesBy, kindBy};
 use index::Ids;
 use kinds::Kind;
 use lookup::Tables;
@@ -116,10 +117,10 @@ pub fn put_tables(out: &mut [u64], t: Tables)
 
 // Puts a row at the start of `out`: 0, or 16 where there is no room for six numbers.
 pub fn put_row(out: &mut [u64], w: RecordSpan) -> u8
-    ensures { λ n. ⌜ n ≡ pick (leb 6 (length (now (out .entry)))) 0 16 ⌝ }
-    ensures { λ _. ⌜ now (out .exit) ≡ putIn 6 (sixOf (rowOf w)) (now (out .entry)) ⌝ }
+    ensures { λ n. ⌜ n ≡ pick (leb rowWidth (length (now (out .entry)))) 0 16 ⌝ }
+    ensures { λ _. ⌜ now (out .exit) ≡ putIn rowWidth (six (rowOf w)) (now (out .entry)) ⌝ }
 {
-    if out.len() < 6 {
+    if out.len() < table::ROW_WIDTH {
         return 16;
     }
     out[0] = w.id as u64;
@@ -133,10 +134,10 @@ pub fn put_row(out: &mut [u64], w: RecordSpan) -> u8
 
 // Puts a header record's or a part's row at the start of `out`: 0, or 16 where there is no room for four numbers.
 pub fn put_part(out: &mut [u64], w: HeaderSpan) -> u8
-    ensures { λ n. ⌜ n ≡ pick (leb 4 (length (now (out .entry)))) 0 16 ⌝ }
-    ensures { λ _. ⌜ now (out .exit) ≡ putIn 4 (fourOf (headerRowOf w)) (now (out .entry)) ⌝ }
+    ensures { λ n. ⌜ n ≡ pick (leb headerWidth (length (now (out .entry)))) 0 16 ⌝ }
+    ensures { λ _. ⌜ now (out .exit) ≡ putIn headerWidth (four (headerRowOf w)) (now (out .entry)) ⌝ }
 {
-    if out.len() < 4 {
+    if out.len() < table::HEADER_WIDTH {
         return 16;
     }
     out[0] = w.keyword.start as u64;

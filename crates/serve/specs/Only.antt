@@ -4,14 +4,10 @@ use mathlib.Core.Path.{_≡_, refl, sym, _∙_, ap}
 use mathlib.Core.Option.{Option, none, some}
 use Rattle.error.specs.Refusal.{Told, good, bad, faultOf, faultOf-told}
 use Rattle.statement.specs.Row.{Row}
-use Rattle.statement.specs.declared.RecordSpan.{RecordSpan}
+use Rattle.lookup.specs.Only.{rowBack}
 use Rattle.serve.specs.Serve.{toldServed}
 use Rattle.serve.specs.declared.Served.{Served}
 use Rattle.serve.specs.declared.Served.the-variants as served
-
--- the row that has these numbers
-rowBack : Row → RecordSpan
-rowBack w = record { id = w .id; keyword = record { start = w .keyStart; end = w .keyEnd }; args = record { start = w .argStart; end = w .argEnd }; complex = w .complex }
 
 -- the answer that tells this
 servedBack : Told (Option Row) → Served

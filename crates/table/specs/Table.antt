@@ -10,6 +10,13 @@ use lib.Seq.{sets}
 use Rattle.common.specs.Pick.{pick}
 use Rattle.statement.specs.Row.{Row, row, HeaderRow, headerRow}
 
+-- how many numbers a data row has, and a header row
+abbrev pub rowWidth : ℕ
+rowWidth = 6
+
+abbrev pub headerWidth : ℕ
+headerWidth = 4
+
 -- how many data rows lie in so many numbers, six a row
 abbrev pub rowsFit : ℕ → ℕ
 rowsFit n = n / 6

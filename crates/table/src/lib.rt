@@ -15,6 +15,10 @@ use statement::HeaderSpan;
 use statement::Range;
 use statement::RecordSpan;
 
+// How many numbers a data row has, and a header row.
+pub const ROW_WIDTH: usize = 6;
+pub const HEADER_WIDTH: usize = 4;
+
 // How many data rows lie in so many numbers.
 pub fn rows_fit(numbers: usize) -> usize
     ensures { λ r. ⌜ r ≡ rowsFit numbers ⌝ }

@@ -3,10 +3,11 @@ use mathlib.Core.Path.{_∙_, sym, ap}
 use lib.ListN.{length}
 use mathlib.Core.Option.{Option}
 use Rattle.error.specs.Refusal.{Told}
+use Rattle.table.specs.Table.{headerWidth, four}
 use Rattle.statement.specs.Row.{HeaderRow}
 use Rattle.parts.specs.Part.{toldNext}
 use Rattle.plain.specs.Answers.{readFault}
-use Rattle.plain.specs.Numbers.{fourOf, outCode, outAfter}
+use Rattle.plain.specs.Numbers.{outCode, outAfter}
 use borrow.Author.Needs.{needs}
 use Rattle.export_units.proofs.pieces.put_next.Statement.{statement}
 use Rattle.export_units.proofs.pieces.put_next.Tie as tie
@@ -36,19 +37,19 @@ returns : tie.Need-returns
 returns c =
     let a = c .before .before .before .before .before .before .before .before .args in
     let e = ap toldNext (sym (c .before .before .before .before .before .r .given .1)) in
-    (c .before .before .put-part .ensures .0 ∙ ap (λ (r : Told (Option HeaderRow)). outCode 4 (length (now (a .part))) r) e, (c .before .before .put-part .ensures .1 ∙ ap (λ (r : Told (Option HeaderRow)). outAfter 4 fourOf r (now (a .part))) e, ap (λ (r : Told (Option HeaderRow)). readFault r (now (a .fault))) e))
+    (c .before .before .put-part .ensures .0 ∙ ap (λ (r : Told (Option HeaderRow)). outCode headerWidth (length (now (a .part))) r) e, (c .before .before .put-part .ensures .1 ∙ ap (λ (r : Told (Option HeaderRow)). outAfter headerWidth four r (now (a .part))) e, ap (λ (r : Told (Option HeaderRow)). readFault r (now (a .fault))) e))
 
 returns-2 : tie.Need-returns-2
 returns-2 c =
     let a = c .before .before .before .args in
     let e = ap toldNext (sym (c .enum-told .given .1)) in
-    (ap (λ (r : Told (Option HeaderRow)). outCode 4 (length (now (a .part))) r) e, (ap (λ (r : Told (Option HeaderRow)). outAfter 4 fourOf r (now (a .part))) e, ap (λ (r : Told (Option HeaderRow)). readFault r (now (a .fault))) e))
+    (ap (λ (r : Told (Option HeaderRow)). outCode headerWidth (length (now (a .part))) r) e, (ap (λ (r : Told (Option HeaderRow)). outAfter headerWidth four r (now (a .part))) e, ap (λ (r : Told (Option HeaderRow)). readFault r (now (a .fault))) e))
 
 returns-3 : tie.Need-returns-3
 returns-3 c =
     let a = c .before .before .before .before .before .before .args in
     let e = ap toldNext (sym (c .before .before .before .r2 .given .1)) in
-    (c .number .ensures ∙ ap (λ (r : Told (Option HeaderRow)). outCode 4 (length (now (a .part))) r) e, (ap (λ (r : Told (Option HeaderRow)). outAfter 4 fourOf r (now (a .part))) e, c .before .place .ensures ∙ ap (λ (r : Told (Option HeaderRow)). readFault r (now (a .fault))) e))
+    (c .number .ensures ∙ ap (λ (r : Told (Option HeaderRow)). outCode headerWidth (length (now (a .part))) r) e, (ap (λ (r : Told (Option HeaderRow)). outAfter headerWidth four r (now (a .part))) e, c .before .place .ensures ∙ ap (λ (r : Told (Option HeaderRow)). readFault r (now (a .fault))) e))
 
 pub put-next-spec : {M : Type 1} → statement M
 put-next-spec =
