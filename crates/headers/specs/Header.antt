@@ -8,7 +8,8 @@ use mathlib.Core.Option.{Option, none, some}
 use lib.ListN.{length, getD}
 use Rattle.error.specs.Refusal.{Refusal, refusal, Told, good, bad, told}
 use Rattle.record.specs.Word.{same, upper}
-use Rattle.statement.specs.Row.{HeaderRow, headerRow, mapped}
+use Rattle.statement.specs.Rows.{HeaderRow, headerRow}
+use Rattle.statement.specs.Row.{mapped}
 use Rattle.lookup.specs.Lookup.{Span, span, spanFine, spanIn, cut, firstFrom}
 use Rattle.headers.specs.declared.HeaderFound.{HeaderFound}
 use Rattle.headers.specs.declared.HeaderFound.the-variants as heading

@@ -5,7 +5,7 @@ use mathlib.Core.List.{List, [], _∷_, _++_}
 use mathlib.Core.Option.{Option, some}
 use native.Mathlib.Omega.{arith}
 use lib.ListN.{length, getD, getElem?}
-use Rattle.statement.specs.Row.{HeaderRow, headerRow}
+use Rattle.statement.specs.Rows.{HeaderRow, headerRow}
 use Rattle.scan.specs.Table.{four, flat}
 use Rattle.headers.specs.Header.{headerNumbers}
 

@@ -9,7 +9,7 @@ use mathlib.Core.List.{List, [], _∷_}
 use mathlib.Core.Option.{Option, none, some}
 use lib.ListN.{length, getD}
 use Rattle.statement.specs.declared.HeaderSpan.{HeaderSpan}
-use Rattle.statement.specs.Row.{HeaderRow, headerRow}
+use Rattle.statement.specs.Rows.{HeaderRow, headerRow}
 use Rattle.statement.specs.Statement.{headerRowOf}
 use Rattle.lookup.specs.Lookup.{firstFrom}
 use Rattle.lookup.specs.Laws.{first-stops, first-goes, first-ends}

@@ -17,7 +17,7 @@ use Rattle.index.specs.Index.{Built}
 use Rattle.index.specs.Search.{searched}
 use Rattle.index.specs.SearchRight.{get-safe, get-right}
 use Rattle.index.specs.declared.Ids.{Ids}
-use Rattle.statement.specs.Row.{Row}
+use Rattle.statement.specs.Rows.{Row}
 use Rattle.lookup.specs.Lookup.{firstFrom, FirstForm, rowNumbers, rowFound}
 
 module _ (p : ℕ → Bool) where

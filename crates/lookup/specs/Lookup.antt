@@ -9,7 +9,7 @@ use lib.Dec.{ltb, leb, eqb}
 use lib.ListN.{length, take, drop, getD}
 use Rattle.common.specs.Pick.{pick}
 use Rattle.error.specs.Refusal.{Refusal, refusal, Told, good, bad, told}
-use Rattle.statement.specs.Row.{Row, row}
+use Rattle.statement.specs.Rows.{Row, row}
 use Rattle.statement.specs.Statement.{rowOf}
 use Rattle.kinds.specs.Kind.{kindOf, rankOf}
 use Rattle.kinds.specs.declared.Kind.{Kind}

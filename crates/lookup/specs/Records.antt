@@ -13,7 +13,7 @@ use lib.Seq.{length-take-le}
 use borrow.Author.Tests.{eqb-true, eqb-false, eq-eqb, ne-eqb}
 use Rattle.common.specs.Pick.{pick}
 use Rattle.common.specs.Compare.{clash}
-use Rattle.statement.specs.Row.{Row, row}
+use Rattle.statement.specs.Rows.{Row, row}
 use Rattle.scan.specs.Table.{six, flat}
 use Rattle.index.specs.Order.{idOf}
 use Rattle.index.specs.Lookup.{IsLast, Missing, LookupForm}

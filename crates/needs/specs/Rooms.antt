@@ -13,7 +13,7 @@ use Rattle.scan.specs.File.{Table, scanOf}
 use Rattle.scan.specs.Form.{Reached, Full}
 use Rattle.scan.specs.FormRight.{scans-is}
 use Rattle.scan.specs.FormRight.Numbers.{scans-bad}
-use Rattle.scan.specs.FormRight.Statements.{moved-shorter, header-shorter, data-shorter}
+use Rattle.statement.specs.FormRight.{moved-shorter, header-shorter, data-shorter}
 use Rattle.scan.specs.Rooms.{scan-roomy, scan-fit}
 use Rattle.scan.specs.Roomy.{refusal-roomy}
 use Rattle.needs.specs.Needs.{needsIn, needsOf}

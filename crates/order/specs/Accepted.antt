@@ -13,7 +13,7 @@ use Rattle.error.specs.Refusal.{Told, good, bad}
 use Rattle.lex.specs.Byte.{white}
 use Rattle.record.specs.Form.{All, Free, bytes}
 use Rattle.record.specs.FormRight.Parts.{all-join, all-kind}
-use Rattle.statement.specs.Row.{Row, HeaderRow}
+use Rattle.statement.specs.Rows.{Row, HeaderRow}
 use Rattle.statement.specs.Closed.{Closed}
 use Rattle.statement.specs.declared.Section.{Section}
 use Rattle.statement.specs.declared.Section.the-variants.{Outside, InHeader, InData}

@@ -8,7 +8,8 @@ use native.Mathlib.Omega.{arith}
 use lib.ListN.{length}
 use Rattle.common.specs.Compare.{clash}
 use Rattle.error.specs.Refusal.{Told, good, bad}
-use Rattle.statement.specs.Row.{Row, mapped}
+use Rattle.statement.specs.Rows.{Row}
+use Rattle.statement.specs.Row.{mapped}
 use Rattle.statement.specs.Closed.{Closed, content}
 use Rattle.statement.specs.ClosedRight.{alone}
 use Rattle.statement.specs.declared.Section.the-variants.{Outside}

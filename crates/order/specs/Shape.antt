@@ -9,16 +9,17 @@ use Rattle.error.specs.Refusal.{Told, good, bad}
 use Rattle.lex.specs.Grammar.{Begins}
 use Rattle.record.specs.Word.{wordOf}
 use Rattle.record.specs.declared.Word.the-variants.{Other}
-use Rattle.statement.specs.Row.{Row, HeaderRow}
-use Rattle.statement.specs.Statement.{Stmt, ends, refused, moved, header, record′, statement}
+use Rattle.statement.specs.Rows.{Row, HeaderRow, Stmt, ends, refused, moved, header, record′}
+use Rattle.statement.specs.Statement.{statement}
 use Rattle.statement.specs.Closed.{ClosedData, ClosedHeader, ClosedFrom}
 use Rattle.statement.specs.ClosedRight.{rowFrom, headerRowFrom, closed-hash}
 use Rattle.statement.specs.ClosedRight.Statements.{Stands, stands-any, stands-moved, statement-local, statement-header-local, Step, step, data-stands, header-stands, closed-entry, closed-turn}
 use Rattle.statement.specs.declared.Section.{Section}
 use Rattle.statement.specs.declared.Section.the-variants.{Outside, InHeader, InData}
 use Rattle.scan.specs.File.{Table, table, withHeader, withRecord}
-use Rattle.scan.specs.Form.{StatementForm, Reads}
-use Rattle.scan.specs.FormRight.Statements.{statement-is}
+use Rattle.statement.specs.Form.{StatementForm}
+use Rattle.scan.specs.Form.{Reads}
+use Rattle.statement.specs.FormRight.{statement-is}
 use Rattle.order.specs.Order.{Cut, rest, piece, led, texts, filled, Cuts}
 
 -- a closed text that stands as a record somewhere, so that it may stand in the place of another

@@ -15,9 +15,9 @@ use Rattle.lex.specs.Right.{closing-only, closing-is}
 use Rattle.lex.specs.Inside.{closes-any}
 use Rattle.record.specs.Form.{Free, NotFirst, Skipped, Keyword}
 use Rattle.record.specs.FormRight.Parts.{first-other, all-front, all-back, span, Spanned, tail-split, Tailed}
-use Rattle.statement.specs.Row.{HeaderRow, headerRow}
+use Rattle.statement.specs.Rows.{HeaderRow, headerRow}
 use Rattle.statement.specs.Closed.{ClosedParts}
-use Rattle.scan.specs.Form.{Argued}
+use Rattle.statement.specs.Form.{Argued}
 use Rattle.parts.specs.Part.{separator, Window, NextForm, PartsForm, partsOf}
 use Rattle.parts.specs.PartRight.{parts-only}
 

@@ -12,8 +12,9 @@ use lib.Dec.{ltb, eqb}
 use lib.ListN.{length}
 use Rattle.common.specs.Pick.{pick}
 use Rattle.error.specs.Refusal.{Refusal, refusal, Told, good, bad}
-use Rattle.statement.specs.Row.{HeaderRow, mapped}
-use Rattle.scan.specs.Form.{Argued}
+use Rattle.statement.specs.Rows.{HeaderRow}
+use Rattle.statement.specs.Row.{mapped}
+use Rattle.statement.specs.Form.{Argued}
 use Rattle.kinds.specs.declared.Kind.{Kind}
 use Rattle.parts.specs.Part.{nextOf, NextForm, PartIn, before, partsBy, partsFrom, partsOf, PartsForm, isKind, firstKind, partOf}
 use Rattle.parts.specs.Laws.{next-in}

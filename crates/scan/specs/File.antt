@@ -10,8 +10,9 @@ use Rattle.error.specs.Refusal.{Refusal, refusal, Told, good, bad}
 use Rattle.lex.specs.Byte.{white, place}
 use Rattle.record.specs.Text.{past}
 use Rattle.record.specs.Word.{same, marker}
-use Rattle.statement.specs.Row.{Row, HeaderRow, mapped}
-use Rattle.statement.specs.Statement.{Stmt, ends, refused, moved, header, record′, statement}
+use Rattle.statement.specs.Rows.{Row, HeaderRow, Stmt, ends, refused, moved, header, record′}
+use Rattle.statement.specs.Row.{mapped}
+use Rattle.statement.specs.Statement.{statement}
 use Rattle.statement.specs.declared.Section.{Section}
 use Rattle.statement.specs.declared.Section.the-variants.{Outside, InHeader, InData}
 

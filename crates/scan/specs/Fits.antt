@@ -17,8 +17,9 @@ use Rattle.record.specs.declared.Word.{Word}
 use Rattle.record.specs.declared.Word.the-variants.{Header, Data, EndSection, EndFile, Other}
 use Rattle.record.specs.declared.Head.{Head}
 use Rattle.record.specs.declared.Head.the-variants.{Bad, Complex, Simple}
-use Rattle.statement.specs.Row.{Row, HeaderRow, mapped, recordBy, recordOf, headerBy, headerOf}
-use Rattle.statement.specs.Statement.{Stmt, ends, refused, moved, header, record′, headed, recorded, inSection, worded, ended, begun, led, statement}
+use Rattle.statement.specs.Rows.{Row, HeaderRow, Stmt, ends, refused, moved, header, record′}
+use Rattle.statement.specs.Row.{mapped, recordBy, recordOf, headerBy, headerOf}
+use Rattle.statement.specs.Statement.{headed, recorded, inSection, worded, ended, begun, led, statement}
 use Rattle.statement.specs.declared.Section.{Section}
 use Rattle.statement.specs.declared.Section.the-variants.{Outside, InHeader, InData}
 use Rattle.scan.specs.File.{Table, table, withHeader, withRecord, roomed, taken, readFrom, readingOf, marked, scanOf}

@@ -17,15 +17,15 @@ use Rattle.record.specs.Word.{same, marker}
 use Rattle.record.specs.Form.{All}
 use Rattle.record.specs.FormRight.{past-only, past-is}
 use Rattle.record.specs.FormRight.Parts.{sole, first-other}
-use Rattle.statement.specs.Statement.{Stmt, ends, refused, moved, header, record′}
+use Rattle.statement.specs.Rows.{Stmt, ends, refused, moved, header, record′}
+use Rattle.statement.specs.FormRight.{Between, Stated, statement-comes, statement-only, moved-shorter, header-shorter, data-shorter}
 use Rattle.statement.specs.declared.Section.{Section}
 use Rattle.statement.specs.declared.Section.the-variants.{Outside, InHeader, InData}
 use Rattle.scan.specs.File.{Table, taken, readFrom, mark, marked, scanOf}
-use Rattle.scan.specs.Form.{StatementForm, Reads, Marked, Scans, Full}
-pub mod Statements
+use Rattle.statement.specs.Form.{StatementForm}
+use Rattle.scan.specs.Form.{Reads, Marked, Scans, Full}
 pub mod Numbers
-use Numbers.{Between, scans-bad, full-reads}
-use Statements.{Stated, statement-comes, statement-only, moved-shorter, header-shorter, data-shorter}
+use Numbers.{scans-bad, full-reads}
 
 module _ (s : List ℕ) (H R : ℕ) where
   -- one turn of the computed reading, by the statement's form

@@ -8,10 +8,10 @@ use lib.ListN.{length, length-append}
 use Rattle.error.specs.Refusal.{good}
 use Rattle.lex.specs.Byte.{place}
 use Rattle.record.specs.Ordered.{complex-id, simple-ordered, header-ordered}
-use Rattle.statement.specs.Row.{Row, HeaderRow}
+use Rattle.statement.specs.Rows.{Row, HeaderRow}
 use Rattle.scan.specs.File.{Table, scanOf}
 use Rattle.scan.specs.Fits.{Each}
-use Rattle.scan.specs.Form.{After, Argued, DataForm, HeaderRecordForm}
+use Rattle.statement.specs.Form.{After, Argued, DataForm, HeaderRecordForm}
 use Rattle.scan.specs.Rests.{Rest, rest-of, rest-within, balanced-rest, after-rest, scan-tells}
 
 -- a header row of a file of n bytes

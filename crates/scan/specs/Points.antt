@@ -8,13 +8,13 @@ use lib.ListN.{length, drop, length-append, length-drop}
 use Rattle.error.specs.Refusal.{Refusal, refusal, Told, good, bad}
 use Rattle.lex.specs.Byte.{place}
 use Rattle.lex.specs.Grammar.{Begins, Opens, Led, Runs, Closes, Deep, OpenText, OpenRemark}
-use Rattle.statement.specs.Row.{Row, HeaderRow}
-use Rattle.statement.specs.Statement.{Stmt, ends, refused, moved, header, record′, statement}
+use Rattle.statement.specs.Rows.{Row, HeaderRow, Stmt, ends, refused, moved, header, record′}
+use Rattle.statement.specs.Statement.{statement}
 use Rattle.statement.specs.declared.Section.{Section}
 use Rattle.scan.specs.File.{Table, scanOf}
 use Rattle.scan.specs.Fits.{Each}
-use Rattle.scan.specs.Form.{Argued, DataForm, HeaderRecordForm, Record, StatementForm}
-use Rattle.scan.specs.FormRight.Statements.{statement-is}
+use Rattle.statement.specs.Form.{Argued, DataForm, HeaderRecordForm, Record, StatementForm}
+use Rattle.statement.specs.FormRight.{statement-is}
 use Rattle.scan.specs.Rests.{Rest, rest-all, rest-on, rest-of, rest-place, trivia-rest, runs-rest, balanced-rest, deep-rest, after-rest}
 use Rattle.scan.specs.Rests.{record-rest, moved-rest, header-form, data-form, Tells, scan-tells}
 

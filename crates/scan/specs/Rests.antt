@@ -9,12 +9,13 @@ use lib.Seq.{drop-at}
 use Rattle.error.specs.Refusal.{Refusal, refusal, Told, good, bad}
 use Rattle.lex.specs.Byte.{place}
 use Rattle.lex.specs.Grammar.{Comment, Quotation, Trivia, Runs, Balanced, Deep}
-use Rattle.statement.specs.Row.{Row, HeaderRow, mapped}
-use Rattle.statement.specs.Statement.{refused, moved, header, record′}
+use Rattle.statement.specs.Rows.{Row, HeaderRow, refused, moved, header, record′}
+use Rattle.statement.specs.Row.{mapped}
 use Rattle.statement.specs.declared.Section.{Section}
 use Rattle.scan.specs.File.{Table, withHeader, withRecord, scanOf}
 use Rattle.scan.specs.Fits.{Each}
-use Rattle.scan.specs.Form.{After, DataForm, HeaderRecordForm, Record, StatementForm, Reads, Scans, Reached}
+use Rattle.statement.specs.Form.{After, DataForm, HeaderRecordForm, Record, StatementForm}
+use Rattle.scan.specs.Form.{Reads, Scans, Reached}
 use Rattle.scan.specs.FormRight.{scans-is}
 
 -- r is a rest of xs: some bytes, and then r

@@ -12,7 +12,8 @@ use Rattle.record.specs.Text.{past, numberFrom, keyword, trail}
 use Rattle.record.specs.Word.{same, wordOf}
 use Rattle.record.specs.Head.{dataHead}
 use Rattle.record.specs.Form.{bytes}
-use Rattle.statement.specs.Row.{Row, row, HeaderRow, mapped, recordOf}
+use Rattle.statement.specs.Rows.{Row, row, HeaderRow}
+use Rattle.statement.specs.Row.{mapped, recordOf}
 use Rattle.statement.specs.Statement.{statement}
 use Rattle.statement.specs.declared.Section.{Section}
 use Rattle.scan.specs.File.{Table, table, withHeader, withRecord, readFrom, scanOf}

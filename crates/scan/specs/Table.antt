@@ -4,7 +4,8 @@ use Prim.Native.Nat.{ℕ, _/_, min}
 use mathlib.Core.List.{List, [], _∷_, _++_}
 use lib.ListN.{length, drop}
 use Rattle.error.specs.Refusal.{Refusal, Told, good, bad, told}
-use Rattle.statement.specs.Row.{Row, HeaderRow, mapped}
+use Rattle.statement.specs.Rows.{Row, HeaderRow}
+use Rattle.statement.specs.Row.{mapped}
 use Rattle.scan.specs.File.{Table, largest}
 use Rattle.scan.specs.declared.Scanned.{Scanned}
 use Rattle.scan.specs.declared.Scanned.the-variants.{Rows, Refused}

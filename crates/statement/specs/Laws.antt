@@ -19,8 +19,9 @@ use Rattle.lex.specs.At.{trivia-at, end-at}
 use Rattle.record.specs.Text.{before}
 use Rattle.record.specs.Word.{wordOf}
 use Rattle.record.specs.declared.Word.{Word}
-use Rattle.statement.specs.Row.{Row, row, HeaderRow, headerRow, argued, recordBy, recordOf, headerBy, headerOf}
-use Rattle.statement.specs.Statement.{Stmt, ends, refused, moved, headed, recorded, inSection, worded, ended, begun, led, statement, Ahead}
+use Rattle.statement.specs.Rows.{Row, row, HeaderRow, headerRow, Stmt, ends, refused, moved}
+use Rattle.statement.specs.Row.{argued, recordBy, recordOf, headerBy, headerOf}
+use Rattle.statement.specs.Statement.{headed, recorded, inSection, worded, ended, begun, led, statement, Ahead}
 use Rattle.statement.specs.declared.Said.{Said}
 use Rattle.statement.specs.declared.Said.the-variants.{Ends, Refuses, Moves, Heads, Records}
 use Rattle.statement.specs.declared.Section.{Section}

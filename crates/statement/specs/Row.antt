@@ -1,4 +1,4 @@
--- Document 01, 'Reading the file': the rows, and what a header or data record gives.
+-- Document 01, 'Reading the file': what a header or data record gives.
 -- Assumes nothing.
 use Prim.Native.Nat.{ℕ, _+_}
 use mathlib.Core.List.{List, [], _∷_}
@@ -9,30 +9,7 @@ use Rattle.lex.specs.Search.{closing, placed}
 use Rattle.record.specs.Head.{dataHead, headerHead}
 use Rattle.record.specs.declared.Head.{Head}
 use Rattle.record.specs.declared.Head.the-variants.{Bad, Complex, Simple}
-
--- "A row holds id, keyword start and end (0, 0 if complex), argument start and end, complex 0 or 1."
-pub record Row : Type 0 where
-  pub id : ℕ
-  pub keyStart : ℕ
-  pub keyEnd : ℕ
-  pub argStart : ℕ
-  pub argEnd : ℕ
-  pub complex : ℕ
-
--- such a row by its numbers
-abbrev pub row : ℕ → ℕ → ℕ → ℕ → ℕ → ℕ → Row
-row i k l a b c = record { id = i; keyStart = k; keyEnd = l; argStart = a; argEnd = b; complex = c }
-
--- a header record's row: keyword start and end, argument start and end
-pub record HeaderRow : Type 0 where
-  pub keyStart : ℕ
-  pub keyEnd : ℕ
-  pub argStart : ℕ
-  pub argEnd : ℕ
-
--- such a row by its numbers
-abbrev pub headerRow : ℕ → ℕ → ℕ → ℕ → HeaderRow
-headerRow k l a b = record { keyStart = k; keyEnd = l; argStart = a; argEnd = b }
+use Rattle.statement.specs.Rows.{Row, row, HeaderRow, headerRow}
 
 -- an answer's value by a function, or its refusal
 abbrev pub mapped : {A B : Type 0} → (A → B) → Told A → Told B

@@ -26,8 +26,9 @@ use Rattle.record.specs.declared.Head.{Head}
 use Rattle.record.specs.declared.Head.the-variants.{Bad, Complex, Simple}
 use Rattle.record.specs.declared.Word.{Word}
 use Rattle.record.specs.declared.Word.the-variants.{Other}
-use Rattle.statement.specs.Row.{Row, row, mapped, recordBy, recordOf}
-use Rattle.statement.specs.Statement.{Stmt, ends, refused, record′, recorded, worded, ended, begun, led, statement}
+use Rattle.statement.specs.Rows.{Row, row, Stmt, ends, refused, record′}
+use Rattle.statement.specs.Row.{mapped, recordBy, recordOf}
+use Rattle.statement.specs.Statement.{recorded, worded, ended, begun, led, statement}
 use Rattle.statement.specs.Tidy.{unended, tidy, tidyBy, tidyEnded, tidyRecord}
 use Rattle.statement.specs.TidyLaws.{Whole}
 use Rattle.statement.specs.UsualRight.{blanks}

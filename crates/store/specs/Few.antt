@@ -10,13 +10,14 @@ use Rattle.lex.specs.Local.{trivia-shorter}
 use Rattle.lex.specs.Right.{trivia-only}
 use Rattle.record.specs.Form.{Lead, HeadForm, Keyword}
 use Rattle.record.specs.declared.Head.the-variants.{Complex, Simple}
-use Rattle.statement.specs.Row.{Row, HeaderRow, mapped}
-use Rattle.statement.specs.Statement.{Stmt, record′}
+use Rattle.statement.specs.Rows.{Row, HeaderRow, Stmt, record′}
+use Rattle.statement.specs.Row.{mapped}
 use Rattle.statement.specs.declared.Section.{Section}
 use Rattle.scan.specs.File.{Table, withHeader, withRecord, scanOf}
-use Rattle.scan.specs.Form.{DataForm, Record, StatementForm, Reads, Scans}
+use Rattle.statement.specs.Form.{DataForm, Record, StatementForm}
+use Rattle.scan.specs.Form.{Reads, Scans}
 use Rattle.scan.specs.FormRight.{scans-is}
-use Rattle.scan.specs.FormRight.Statements.{moved-shorter, header-shorter}
+use Rattle.statement.specs.FormRight.{moved-shorter, header-shorter}
 
 -- digits are at least one
 some-digits : (ds : List ℕ) → (ds ≡ [] → ⊥) → 1 ≤ length ds

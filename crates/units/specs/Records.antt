@@ -5,7 +5,7 @@ use mathlib.Core.List.{List, [], _∷_, _++_, map}
 use native.Mathlib.Omega.{arith}
 use lib.ListN.{length, drop, length-append}
 use Rattle.error.specs.Refusal.{Told, good}
-use Rattle.statement.specs.Row.{Row}
+use Rattle.statement.specs.Rows.{Row}
 use Rattle.scan.specs.File.{Table}
 use Rattle.scan.specs.Table.{six, flat, recordNumbers, rowsAfter}
 use Rattle.scan.specs.Laws.{flat-length}

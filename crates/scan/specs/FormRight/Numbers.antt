@@ -5,39 +5,11 @@ use mathlib.Core.List.{List}
 use native.Mathlib.Omega.{arith}
 use Rattle.error.specs.Refusal.{Refusal, Told, good, bad}
 use Rattle.statement.specs.Row.{mapped}
-use Rattle.statement.specs.Statement.{refused}
+use Rattle.statement.specs.FormRight.{Between, statement-number}
 use Rattle.statement.specs.declared.Section.{Section}
 use Rattle.statement.specs.declared.Section.the-variants.{Outside}
 use Rattle.scan.specs.File.{Table, withHeader, withRecord}
-use Rattle.scan.specs.Form.{Argued, DataForm, HeaderRecordForm, StatementForm, Reads, Scans, Reached, Full}
-
--- a refusal's number is from l to m
-abbrev pub Between : ℕ → ℕ → Refusal → Type 0
-Between l m q = (l ≤ q .number) × (q .number ≤ m)
-
--- a record's arguments are refused with 3, 4 or 6, and a record with 7 besides
-argued-number : {s t : List ℕ} {q : Refusal} → Argued s t (bad q) → Between 3 6 q
-argued-number (Argued.text-open d o) = omega arith
-argued-number (Argued.remark-open d o) = omega arith
-argued-number (Argued.unclosed d) = omega arith
-
-data-number : {s ys body : List ℕ} {q : Refusal} → DataForm s ys body (bad q) → Between 3 7 q
-data-number (DataForm.bad-record h) = omega arith
-data-number (DataForm.complex-refused h o g) = omega (arith, argued-number g)
-data-number (DataForm.simple-refused h o g) = omega (arith, argued-number g)
-
-header-number : {s ys body : List ℕ} {q : Refusal} → HeaderRecordForm s ys body (bad q) → Between 3 7 q
-header-number (HeaderRecordForm.bad-record h) = omega arith
-header-number (HeaderRecordForm.named-refused h o g) = omega (arith, argued-number g)
-
--- a statement is refused with 3 to 7
-statement-number : {s : List ℕ} {sec : Section} {xs : List ℕ} {q : Refusal} → StatementForm s sec xs (refused q) → Between 3 7 q
-statement-number (StatementForm.trivia-open r o) = omega arith
-statement-number (StatementForm.endless l h r) = omega arith
-statement-number (StatementForm.text-open l r o) = omega arith
-statement-number (StatementForm.remark-open l r o) = omega arith
-statement-number (StatementForm.header-refused d f g) = header-number g
-statement-number (StatementForm.data-refused d f g) = data-number g
+use Rattle.scan.specs.Form.{Reads, Scans, Reached, Full}
 
 -- an answer whose refusal, if it is one, is so
 abbrev pub IfBad : {A : Type 0} → (Refusal → Type 0) → Told A → Type 0

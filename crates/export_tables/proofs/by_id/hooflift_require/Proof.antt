@@ -3,7 +3,8 @@ use mathlib.Core.Path.{_∙_, sym, ap}
 use mathlib.Core.Option.{some}
 use lib.ListN.{length}
 use Rattle.error.specs.Refusal.{Told}
-use Rattle.statement.specs.Row.{Row, mapped}
+use Rattle.statement.specs.Rows.{Row}
+use Rattle.statement.specs.Row.{mapped}
 use Rattle.index.specs.Search.{searched}
 use Rattle.lookup.specs.Lookup.{rowFound, required, toldRequired}
 use Rattle.lookup.specs.declared.Tables.{Tables}

@@ -3,7 +3,7 @@ use mathlib.Core.Path.{_∙_, ap}
 use lib.ListN.{length}
 use mathlib.Core.Option.{Option}
 use Rattle.error.specs.Refusal.{Told}
-use Rattle.statement.specs.Row.{HeaderRow}
+use Rattle.statement.specs.Rows.{HeaderRow}
 use Rattle.plain.specs.Answers.{readFault}
 use Rattle.plain.specs.Numbers.{fourOf, outCode, outAfter}
 use Rattle.kinds.specs.declared.Kind.{Kind}

@@ -3,7 +3,7 @@ use mathlib.Core.Path.{_∙_, sym, ap}
 use lib.ListN.{length}
 use mathlib.Core.Option.{Option}
 use Rattle.error.specs.Refusal.{Told}
-use Rattle.statement.specs.Row.{HeaderRow}
+use Rattle.statement.specs.Rows.{HeaderRow}
 use Rattle.parts.specs.Part.{toldNext}
 use Rattle.plain.specs.Answers.{readFault}
 use Rattle.plain.specs.Numbers.{fourOf, outCode, outAfter}

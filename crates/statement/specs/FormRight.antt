@@ -1,6 +1,6 @@
--- Records and statements: Form.antt's rules and what Row.antt and Statement.antt compute are one. What is computed is so, and
--- nothing else is. Assumes nothing.
-use Prim.Native.Nat.{ℕ, _+_, _-_, _<_}
+-- Form.antt's rules and what Row.antt and Statement.antt compute are one: what is computed is so, and nothing else is; and the numbers
+-- of the refusals that a statement can answer. Assumes nothing.
+use Prim.Native.Nat.{ℕ, _+_, _-_, _≤_, _<_}
 use mathlib.Core.Path.{_≡_, refl, sym, _∙_, ap}
 use mathlib.Core.Logic.{_⊎_, inl, inr}
 use mathlib.Core.List.{List, [], _∷_, _++_, append-assoc}
@@ -8,7 +8,7 @@ use native.Mathlib.Omega.{arith}
 use lib.ListN.{length, drop, length-append}
 use lib.Seq.{take-at, drop-at, drop-drop}
 use Rattle.common.specs.Compare.{clash}
-use Rattle.error.specs.Refusal.{Told, good, bad}
+use Rattle.error.specs.Refusal.{Refusal, Told, good, bad}
 use Rattle.lex.specs.Grammar.{Led, Runs, Deep, OpenText, OpenRemark}
 use Rattle.lex.specs.Search.{Sought, at, fault, trivia, recordEnd, closing, placed}
 use Rattle.lex.specs.Local.{trivia-shorter, end-local}
@@ -25,11 +25,12 @@ use Rattle.record.specs.declared.Word.{Word}
 use Rattle.record.specs.declared.Word.the-variants.{Header, Data, EndSection, EndFile, Other}
 use Rattle.record.specs.declared.Head.{Head}
 use Rattle.record.specs.declared.Head.the-variants.{Bad, Complex, Simple}
-use Rattle.statement.specs.Row.{Row, HeaderRow, recordOf, headerOf}
-use Rattle.statement.specs.Statement.{Stmt, moved, header, record′, headed, recorded, worded, ended, begun, statement}
+use Rattle.statement.specs.Rows.{Row, HeaderRow, Stmt, refused, moved, header, record′}
+use Rattle.statement.specs.Row.{recordOf, headerOf}
+use Rattle.statement.specs.Statement.{headed, recorded, worded, ended, begun, statement}
 use Rattle.statement.specs.declared.Section.{Section}
 use Rattle.statement.specs.declared.Section.the-variants.{Outside, InHeader, InData}
-use Rattle.scan.specs.Form.{After, Argued, DataForm, HeaderRecordForm, Record, StatementForm}
+use Rattle.statement.specs.Form.{After, Argued, DataForm, HeaderRecordForm, Record, StatementForm}
 
 -- what is left after so many bytes, and after one more
 after-drop : {n : ℕ} {ys zs : List ℕ} → After n ys zs → drop n ys ≡ zs
@@ -284,3 +285,31 @@ header-shorter (StatementForm.header-row d f g) = record-shorter d
 -- less is left after a data record
 pub data-shorter : {s : List ℕ} {sec : Section} {xs ys t : List ℕ} {w : Row} → StatementForm s sec xs (record′ w ys t) → length t < length xs
 data-shorter (StatementForm.data-row d f g) = record-shorter d
+
+-- a refusal's number is from l to m
+abbrev pub Between : ℕ → ℕ → Refusal → Type 0
+Between l m q = (l ≤ q .number) × (q .number ≤ m)
+
+-- a record's arguments are refused with 3, 4 or 6, and a record with 7 besides
+argued-number : {s t : List ℕ} {q : Refusal} → Argued s t (bad q) → Between 3 6 q
+argued-number (Argued.text-open d o) = omega arith
+argued-number (Argued.remark-open d o) = omega arith
+argued-number (Argued.unclosed d) = omega arith
+
+data-number : {s ys body : List ℕ} {q : Refusal} → DataForm s ys body (bad q) → Between 3 7 q
+data-number (DataForm.bad-record h) = omega arith
+data-number (DataForm.complex-refused h o g) = omega (arith, argued-number g)
+data-number (DataForm.simple-refused h o g) = omega (arith, argued-number g)
+
+header-number : {s ys body : List ℕ} {q : Refusal} → HeaderRecordForm s ys body (bad q) → Between 3 7 q
+header-number (HeaderRecordForm.bad-record h) = omega arith
+header-number (HeaderRecordForm.named-refused h o g) = omega (arith, argued-number g)
+
+-- a statement is refused with 3 to 7
+pub statement-number : {s : List ℕ} {sec : Section} {xs : List ℕ} {q : Refusal} → StatementForm s sec xs (refused q) → Between 3 7 q
+statement-number (StatementForm.trivia-open r o) = omega arith
+statement-number (StatementForm.endless l h r) = omega arith
+statement-number (StatementForm.text-open l r o) = omega arith
+statement-number (StatementForm.remark-open l r o) = omega arith
+statement-number (StatementForm.header-refused d f g) = header-number g
+statement-number (StatementForm.data-refused d f g) = data-number g
