@@ -5,40 +5,59 @@
 -- FormRight.antt shows that File.antt computes just this, and that there is no other answer.
 -- Assumes nothing.
 use Prim.Native.Nat.{ℕ, _+_, _≤_, _<_}
+use mathlib.Core.Path.{_≡_}
 use mathlib.Core.List.{List, [], _∷_, _++_}
 use lib.ListN.{length}
 use Rattle.error.specs.Refusal.{Refusal, refusal, Told, good, bad}
 use Rattle.lex.specs.Byte.{white, place}
 use Rattle.record.specs.Form.{All, bytes}
-use Rattle.statement.specs.Rows.{Row, HeaderRow, ends, refused, moved, header, record′}
+use Rattle.statement.specs.Rows.{ends, refused, moved, RowKind, header-kind, data-kind, RowOf, rowed, sectionOf}
 use Rattle.statement.specs.Row.{mapped}
 use Rattle.statement.specs.Form.{StatementForm}
 use Rattle.statement.specs.declared.Section.{Section}
-use Rattle.statement.specs.declared.Section.the-variants.{Outside, InHeader, InData}
-use Rattle.scan.specs.File.{Table, table, withHeader, withRecord}
+use Rattle.statement.specs.declared.Section.the-variants.{Outside}
+use Rattle.scan.specs.File.{Table, table, withRow}
+
+-- rows counted by kind
+pub record Counts : Type 0 where
+  pub headers : ℕ
+  pub records : ℕ
+
+-- such counts by their numbers
+abbrev pub counts : ℕ → ℕ → Counts
+counts h r = record { headers = h; records = r }
+
+-- how many there are of a kind
+abbrev pub of : RowKind → Counts → ℕ
+of header-kind n = n .headers
+of data-kind n = n .records
+
+-- one more of a kind
+abbrev pub more : RowKind → Counts → Counts
+more header-kind n = counts (n .headers + 1) (n .records)
+more data-kind n = counts (n .headers) (n .records + 1)
+
+-- of no kind more than there are lent
+abbrev pub Within : Counts → Counts → Type 0
+Within n lent = (k : RowKind) → of k n ≤ of k lent
 
 -- "then the file is read in order and the first fault is given": the answer from the rest xs of the file s on, in this section,
--- with H header rows and R data rows lent ("or id slots, one a record": the lesser of both), and h and r of them used
-pub data Reads (s : List ℕ) (H R : ℕ) : Section → ℕ → ℕ → List ℕ → Told Table → Type 0 where
+-- with so many rows of each kind lent ("or id slots, one a record": the lesser of both), and n of them used
+pub data Reads (s : List ℕ) (lent : Counts) : Section → Counts → List ℕ → Told Table → Type 0 where
   -- the reading ends, and no row is left to come
-  over : {sec : Section} {h r : ℕ} {xs : List ℕ} → StatementForm s sec xs ends → Reads s H R sec h r xs (good (table [] []))
+  over : {sec : Section} {n : Counts} {xs : List ℕ} → StatementForm s sec xs ends → Reads s lent sec n xs (good (table [] []))
   -- "the first fault is given"
-  fault : {sec : Section} {h r : ℕ} {xs : List ℕ} {q : Refusal} → StatementForm s sec xs (refused q) → Reads s H R sec h r xs (bad q)
+  fault : {sec : Section} {n : Counts} {xs : List ℕ} {q : Refusal} → StatementForm s sec xs (refused q) → Reads s lent sec n xs (bad q)
   -- a section word, or a record that is ignored
-  on : {sec to : Section} {h r : ℕ} {xs t : List ℕ} {a : Told Table} → StatementForm s sec xs (moved to t) → Reads s H R to h r t a
-      → Reads s H R sec h r xs a
-  -- a header record: its row comes before those of the rest of the file
-  header-row : {sec : Section} {h r : ℕ} {xs ys t : List ℕ} {w : HeaderRow} {a : Told Table} → StatementForm s sec xs (header w ys t) → h < H
-      → Reads s H R InHeader (h + 1) r t a → Reads s H R sec h r xs (mapped (withHeader w) a)
-  -- "8 is given exactly when a record has been read whole and the lent rows of its kind [..] are already used up", "record start"
-  header-full : {sec : Section} {h r : ℕ} {xs ys t : List ℕ} {w : HeaderRow} → StatementForm s sec xs (header w ys t) → H ≤ h
-      → Reads s H R sec h r xs (bad (refusal 8 0 (place s ys)))
-  -- a data record: its row comes before those of the rest of the file
-  data-row : {sec : Section} {h r : ℕ} {xs ys t : List ℕ} {w : Row} {a : Told Table} → StatementForm s sec xs (record′ w ys t) → r < R
-      → Reads s H R InData h (r + 1) t a → Reads s H R sec h r xs (mapped (withRecord w) a)
-  -- "8 [..] the lent rows of its kind (or id slots, one a record) are already used up", "record start"
-  data-full : {sec : Section} {h r : ℕ} {xs ys t : List ℕ} {w : Row} → StatementForm s sec xs (record′ w ys t) → R ≤ r
-      → Reads s H R sec h r xs (bad (refusal 8 0 (place s ys)))
+  on : {sec to : Section} {n : Counts} {xs t : List ℕ} {a : Told Table} → StatementForm s sec xs (moved to t) → Reads s lent to n t a
+      → Reads s lent sec n xs a
+  -- a record that gives a row: its row comes before those of the rest of the file
+  row : {sec : Section} {n : Counts} {xs t : List ℕ} {a : Told Table} (k : RowKind) (w : RowOf k) (ys : List ℕ)
+      → StatementForm s sec xs (rowed k w ys t) → of k n < of k lent → Reads s lent (sectionOf k) (more k n) t a → Reads s lent sec n xs (mapped (withRow k w) a)
+  -- "8 is given exactly when a record has been read whole and the lent rows of its kind (or id slots, one a record) are already used
+  -- up", "record start"
+  full : {sec : Section} {n : Counts} {xs : List ℕ} (k : RowKind) (w : RowOf k) (ys t : List ℕ) → StatementForm s sec xs (rowed k w ys t)
+      → of k lent ≤ of k n → Reads s lent sec n xs (bad (refusal 8 0 (place s ys)))
 
 -- "The marker is `ISO-10303-21` after an optional EF BB BF and whitespace only."
 pub data Marked : List ℕ → Type 0 where
@@ -47,34 +66,28 @@ pub data Marked : List ℕ → Type 0 where
   -- EF BB BF and whitespace only
   mark : (w r : List ℕ) → All white w → Marked (239 ∷ 187 ∷ 191 ∷ (w ++ (bytes "ISO-10303-21" ++ r)))
 
--- the answer for the file s, with H header rows and R data rows lent
-pub data Scans (s : List ℕ) (H R : ℕ) : Told Table → Type 0 where
+-- the answer for the file s, with so many rows of each kind lent
+pub data Scans (s : List ℕ) (lent : Counts) : Told Table → Type 0 where
   -- "2 file too long, 0", "2 is tested before 1"
-  long : 4294967295 < length s → Scans s H R (bad (refusal 2 0 0))
+  long : 4294967295 < length s → Scans s lent (bad (refusal 2 0 0))
   -- "1 no Part 21 marker, 0"
-  unmarked : length s ≤ 4294967295 → (Marked s → ⊥) → Scans s H R (bad (refusal 1 0 0))
+  unmarked : length s ≤ 4294967295 → (Marked s → ⊥) → Scans s lent (bad (refusal 1 0 0))
   -- "then the file is read in order": from its first byte on, outside of every section, with no row used
-  read : {a : Told Table} → length s ≤ 4294967295 → Marked s → Reads s H R Outside 0 0 s a → Scans s H R a
+  read : {a : Told Table} → length s ≤ 4294967295 → Marked s → Reads s lent Outside (counts 0 0) s a → Scans s lent a
 
--- the file s, read in order, comes to the rest xs in this section, and so many header rows and data rows have been read by then
-pub data Reached (s : List ℕ) : Section → List ℕ → ℕ → ℕ → Type 0 where
+-- the file s, read in order, comes to the rest xs in this section, and so many rows of each kind have been read by then
+pub data Reached (s : List ℕ) : Section → List ℕ → Counts → Type 0 where
   -- at first, outside of every section, none
-  start : Reached s Outside s 0 0
+  start : Reached s Outside s (counts 0 0)
   -- a section word, or a record that is ignored
-  on : {sec to : Section} {xs t : List ℕ} {h r : ℕ} → Reached s sec xs h r → StatementForm s sec xs (moved to t) → Reached s to t h r
-  -- a header record, read whole: one header row more
-  header-row : {sec : Section} {xs ys t : List ℕ} {h r : ℕ} {w : HeaderRow} → Reached s sec xs h r → StatementForm s sec xs (header w ys t)
-      → Reached s InHeader t (h + 1) r
-  -- a data record, read whole: one data row more
-  data-row : {sec : Section} {xs ys t : List ℕ} {h r : ℕ} {w : Row} → Reached s sec xs h r → StatementForm s sec xs (record′ w ys t)
-      → Reached s InData t h (r + 1)
+  on : {sec to : Section} {xs t : List ℕ} {n : Counts} → Reached s sec xs n → StatementForm s sec xs (moved to t) → Reached s to t n
+  -- a record that gives a row, read whole: one row of its kind more
+  row : {sec : Section} {xs t : List ℕ} {n : Counts} (k : RowKind) (w : RowOf k) (ys : List ℕ) → Reached s sec xs n
+      → StatementForm s sec xs (rowed k w ys t) → Reached s (sectionOf k) t (more k n)
 
 -- "8 is given exactly when a record has been read whole and the lent rows of its kind [..] are already used up": as many rows of
--- the kind as are lent, and no more of the other kind, have been read when one more record, which starts with ys, is read whole
-pub data Full (s : List ℕ) (H R : ℕ) : Refusal → Type 0 where
-  -- one header record too many
-  headers : {sec : Section} {xs ys t : List ℕ} {r : ℕ} {w : HeaderRow} → Reached s sec xs H r → r ≤ R → StatementForm s sec xs (header w ys t)
-      → Full s H R (refusal 8 0 (place s ys))
-  -- one data record too many
-  records : {sec : Section} {xs ys t : List ℕ} {h : ℕ} {w : Row} → Reached s sec xs h R → h ≤ H → StatementForm s sec xs (record′ w ys t)
-      → Full s H R (refusal 8 0 (place s ys))
+-- the kind as are lent, and of no kind more, have been read when one more record, which starts with ys, is read whole
+pub data Full (s : List ℕ) (lent : Counts) : Refusal → Type 0 where
+  -- one record of the kind k too many
+  full : {sec : Section} {xs : List ℕ} {n : Counts} (k : RowKind) (w : RowOf k) (ys t : List ℕ) → Reached s sec xs n → Within n lent
+      → of k n ≡ of k lent → StatementForm s sec xs (rowed k w ys t) → Full s lent (refusal 8 0 (place s ys))

@@ -25,7 +25,7 @@ use Rattle.record.specs.declared.Word.{Word}
 use Rattle.record.specs.declared.Word.the-variants.{Header, Data, EndSection, EndFile, Other}
 use Rattle.record.specs.declared.Head.{Head}
 use Rattle.record.specs.declared.Head.the-variants.{Bad, Complex, Simple}
-use Rattle.statement.specs.Rows.{Row, HeaderRow, Stmt, refused, moved, header, record′}
+use Rattle.statement.specs.Rows.{Row, HeaderRow, Stmt, refused, moved, header, record′, RowKind, header-kind, data-kind, RowOf, rowed}
 use Rattle.statement.specs.Row.{recordOf, headerOf}
 use Rattle.statement.specs.Statement.{headed, recorded, worded, ended, begun, statement}
 use Rattle.statement.specs.declared.Section.{Section}
@@ -285,6 +285,12 @@ header-shorter (StatementForm.header-row d f g) = record-shorter d
 -- less is left after a data record
 pub data-shorter : {s : List ℕ} {sec : Section} {xs ys t : List ℕ} {w : Row} → StatementForm s sec xs (record′ w ys t) → length t < length xs
 data-shorter (StatementForm.data-row d f g) = record-shorter d
+
+-- less is left after a record that gives a row
+pub row-shorter : {s : List ℕ} {sec : Section} {xs : List ℕ} (k : RowKind) (w : RowOf k) (ys t : List ℕ) → StatementForm s sec xs (rowed k w ys t)
+    → length t < length xs
+row-shorter header-kind w ys t f = header-shorter f
+row-shorter data-kind w ys t f = data-shorter f
 
 -- a refusal's number is from l to m
 abbrev pub Between : ℕ → ℕ → Refusal → Type 0

@@ -1,9 +1,10 @@
--- Document 01, 'Reading the file': the rows that records give, and what a statement says. Definitions only.
+-- Document 01, 'Reading the file': the rows that records give, by kind, and what a statement says. Definitions only.
 -- Assumes nothing.
 use Prim.Native.Nat.{ℕ}
 use mathlib.Core.List.{List}
 use Rattle.error.specs.Refusal.{Refusal}
 use Rattle.statement.specs.declared.Section.{Section}
+use Rattle.statement.specs.declared.Section.the-variants.{InHeader, InData}
 
 -- "A row holds id, keyword start and end (0, 0 if complex), argument start and end, complex 0 or 1."
 pub record Row : Type 0 where
@@ -37,3 +38,23 @@ pub data Stmt : Type 0 where
   moved : Section → List ℕ → Stmt
   header : HeaderRow → List ℕ → List ℕ → Stmt
   record′ : Row → List ℕ → List ℕ → Stmt
+
+-- the kinds of records that give a row
+pub data RowKind : Type 0 where
+  header-kind : RowKind
+  data-kind : RowKind
+
+-- what such a row holds
+abbrev pub RowOf : RowKind → Type 0
+RowOf header-kind = HeaderRow
+RowOf data-kind = Row
+
+-- a statement that gives such a row: that of the record that starts with the rest ys, and the rest after it
+abbrev pub rowed : (k : RowKind) → RowOf k → List ℕ → List ℕ → Stmt
+rowed header-kind w ys t = header w ys t
+rowed data-kind w ys t = record′ w ys t
+
+-- the section that such records stand in
+abbrev pub sectionOf : RowKind → Section
+sectionOf header-kind = InHeader
+sectionOf data-kind = InData
