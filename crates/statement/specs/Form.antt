@@ -7,6 +7,7 @@
 use Prim.Native.Nat.{ℕ}
 use mathlib.Core.Path.{_≡_}
 use mathlib.Core.List.{List, [], _∷_, _++_}
+use mathlib.Core.Option.{Option, none, some}
 use lib.ListN.{length}
 use Rattle.error.specs.Refusal.{Refusal, refusal, Told, good, bad}
 use Rattle.lex.specs.Byte.{place}
@@ -14,7 +15,7 @@ use Rattle.lex.specs.Grammar.{Led, Trivia, Runs, Ends, Closes, Deep, OpenText, 
 use Rattle.record.specs.Form.{WordForm, HeadForm, HeaderForm}
 use Rattle.record.specs.declared.Word.the-variants.{Header, Data, EndSection, EndFile, Other}
 use Rattle.record.specs.declared.Head.the-variants.{Bad, Complex, Simple}
-use Rattle.statement.specs.Rows.{Row, row, HeaderRow, headerRow, Stmt, ends, refused, moved, header, record′}
+use Rattle.statement.specs.Rows.{Row, row, HeaderRow, headerRow, Stmt, ends, refused, moved, header, record′, bound}
 use Rattle.statement.specs.declared.Section.{Section}
 use Rattle.statement.specs.declared.Section.the-variants.{Outside, InHeader, InData}
 
@@ -22,16 +23,26 @@ use Rattle.statement.specs.declared.Section.the-variants.{Outside, InHea
 abbrev pub After : ℕ → List ℕ → List ℕ → Type 0
 After n ys zs = (b : List ℕ) × (ys ≡ b ++ zs) × (length b ≡ n)
 
--- the arguments of a record of the file s, where t follows their `(`: the place of their `)`, or a refusal
-pub data Argued (s t : List ℕ) : Told ℕ → Type 0 where
-  -- "The closing `)` is sought outside strings and comments through the whole file, even past the record's `;`."
-  closed : {r : List ℕ} → Closes t r → Argued s t (good (place s (41 ∷ r)))
+-- a rest of what stands before the bound, as a rest of the file: what stands from the bound on, if there is one, follows it
+abbrev pub onto : Option (List ℕ) → List ℕ → List ℕ
+onto none r = r
+onto (some e) r = r ++ e
+
+-- the arguments of a record of the file s, where t follows their `(`: the place of their `)`, or a refusal. u is what of t stands
+-- before the bound, all of it where there is none, and is read as if nothing followed
+pub data ArguedTo (b : Option (List ℕ)) (s t : List ℕ) : Told ℕ → Type 0 where
+  -- "The closing `)` is sought outside strings and comments"
+  closed : {u r : List ℕ} → t ≡ onto b u → Closes u r → ArguedTo b s t (good (place s (onto b (41 ∷ r))))
   -- "Faults met on the way are given at once": "4 string open, its first quote"
-  text-open : {d : ℕ} {o : List ℕ} → Deep d t o → OpenText o → Argued s t (bad (refusal 4 0 (place s o)))
+  text-open : {d : ℕ} {u o : List ℕ} → t ≡ onto b u → Deep d u o → OpenText o → ArguedTo b s t (bad (refusal 4 0 (place s (onto b o))))
   -- "3 comment open, its `/`"
-  remark-open : {d : ℕ} {o : List ℕ} → Deep d t o → OpenRemark o → Argued s t (bad (refusal 3 0 (place s o)))
+  remark-open : {d : ℕ} {u o : List ℕ} → t ≡ onto b u → Deep d u o → OpenRemark o → ArguedTo b s t (bad (refusal 3 0 (place s (onto b o))))
   -- "6 parenthesis open, its `(`"
-  unclosed : {d : ℕ} → Deep d t [] → Argued s t (bad (refusal 6 0 (place s (40 ∷ t))))
+  unclosed : {d : ℕ} {u : List ℕ} → t ≡ onto b u → Deep d u [] → ArguedTo b s t (bad (refusal 6 0 (place s (40 ∷ t))))
+
+-- "through the whole file, even past the record's `;`"
+abbrev pub Argued : List ℕ → List ℕ → Told ℕ → Type 0
+Argued s t a = ArguedTo none s t a
 
 -- "A row holds id, keyword start and end (0, 0 if complex), argument start and end, complex 0 or 1": the row of the data record
 -- of the file s that starts with ys and has this text, or its refusal
@@ -39,16 +50,16 @@ pub data DataForm (s ys body : List ℕ) : Told Row → Type 0 where
   -- "7 bad record, with reason, its start"
   bad-record : {why : ℕ} → HeadForm body (Bad why) → DataForm s ys body (bad (refusal 7 why (place s ys)))
   -- "then `(` for a complex record": t follows the `(`
-  complex : {i o e : ℕ} {t : List ℕ} → HeadForm body (Complex i o) → After o ys (40 ∷ t) → Argued s t (good e)
+  complex : {i o e : ℕ} {t : List ℕ} → HeadForm body (Complex i o) → After o ys (40 ∷ t) → ArguedTo (bound ys body) s t (good e)
       → DataForm s ys body (good (row i 0 0 (place s t) e 1))
   -- "Faults met on the way are given at once.": a fault in a complex record's arguments
-  complex-refused : {i o : ℕ} {t : List ℕ} {q : Refusal} → HeadForm body (Complex i o) → After o ys (40 ∷ t) → Argued s t (bad q)
+  complex-refused : {i o : ℕ} {t : List ℕ} {q : Refusal} → HeadForm body (Complex i o) → After o ys (40 ∷ t) → ArguedTo (bound ys body) s t (bad q)
       → DataForm s ys body (bad q)
   -- "else a keyword and the first byte `(`": the keyword is what stands between the rests k and l, and t follows the `(`
   simple : {i a z o e : ℕ} {k l t : List ℕ} → HeadForm body (Simple i a z o) → After a ys k → After z ys l → After o ys (40 ∷ t)
-      → Argued s t (good e) → DataForm s ys body (good (row i (place s k) (place s l) (place s t) e 0))
+      → ArguedTo (bound ys body) s t (good e) → DataForm s ys body (good (row i (place s k) (place s l) (place s t) e 0))
   -- "Faults met on the way are given at once.": a fault in its arguments
-  simple-refused : {i a z o : ℕ} {t : List ℕ} {q : Refusal} → HeadForm body (Simple i a z o) → After o ys (40 ∷ t) → Argued s t (bad q)
+  simple-refused : {i a z o : ℕ} {t : List ℕ} {q : Refusal} → HeadForm body (Simple i a z o) → After o ys (40 ∷ t) → ArguedTo (bound ys body) s t (bad q)
       → DataForm s ys body (bad q)
 
 -- the row of the header record that starts with ys and has this text: "keyword start and end [..], argument start and end"; or its
@@ -58,9 +69,9 @@ pub data HeaderRecordForm (s ys body : List ℕ) : Told HeaderRow → Type 0 whe
   bad-record : {why : ℕ} → HeaderForm body (Bad why) → HeaderRecordForm s ys body (bad (refusal 7 why (place s ys)))
   -- a keyword, which stands between the rests k and l, and the first byte `(`, which t follows
   named : {i a z o e : ℕ} {k l t : List ℕ} → HeaderForm body (Simple i a z o) → After a ys k → After z ys l → After o ys (40 ∷ t)
-      → Argued s t (good e) → HeaderRecordForm s ys body (good (headerRow (place s k) (place s l) (place s t) e))
+      → ArguedTo (bound ys body) s t (good e) → HeaderRecordForm s ys body (good (headerRow (place s k) (place s l) (place s t) e))
   -- "Faults met on the way are given at once.": a fault in its arguments
-  named-refused : {i a z o : ℕ} {t : List ℕ} {q : Refusal} → HeaderForm body (Simple i a z o) → After o ys (40 ∷ t) → Argued s t (bad q)
+  named-refused : {i a z o : ℕ} {t : List ℕ} {q : Refusal} → HeaderForm body (Simple i a z o) → After o ys (40 ∷ t) → ArguedTo (bound ys body) s t (bad q)
       → HeaderRecordForm s ys body (bad q)
 
 -- "A record starts at the first non-trivia byte and ends at the first `;` outside strings and comments": after trivia of xs a

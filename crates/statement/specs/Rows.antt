@@ -2,6 +2,7 @@
 -- Assumes nothing.
 use Prim.Native.Nat.{ℕ}
 use mathlib.Core.List.{List}
+use mathlib.Core.Option.{Option, none}
 use Rattle.error.specs.Refusal.{Refusal}
 use Rattle.statement.specs.declared.Section.{Section}
 use Rattle.statement.specs.declared.Section.the-variants.{InHeader, InData}
@@ -38,6 +39,11 @@ pub data Stmt : Type 0 where
   moved : Section → List ℕ → Stmt
   header : HeaderRow → List ℕ → List ℕ → Stmt
   record′ : Row → List ℕ → List ℕ → Stmt
+
+-- "The closing `)` is sought [..] through the whole file, even past the record's `;`": so there is no bound. A bound would be the rest
+-- of the file from which on it is sought no more; ys is the file from the record's start, and body the record's text
+abbrev pub bound : List ℕ → List ℕ → Option (List ℕ)
+bound ys body = none
 
 -- the kinds of records that give a row
 pub data RowKind : Type 0 where
