@@ -15,7 +15,7 @@ use Rattle.record.specs.declared.Head.the-variants.{Simple}
 use Rattle.record.specs.FormRight.{headform-is}
 use Rattle.record.specs.Ordered.{simple-ordered}
 use Rattle.record.specs.Within.{data-within}
-use Rattle.statement.specs.Row.{HeaderRow}
+use Rattle.statement.specs.Rows.{HeaderRow}
 use Rattle.statement.specs.Closed.{ClosedAt, ClosedParts, ClosedData}
 use Rattle.statement.specs.ClosedRight.{rowFrom, contentOf, record-row}
 use Rattle.kinds.specs.Kind.{kindOf}

@@ -15,7 +15,7 @@ use Rattle.error.specs.Refusal.{Refusal, refusal, Told, good, bad}
 use Rattle.record.specs.Turns.{bounds}
 use Rattle.record.specs.Word.{same, isWord}
 use Rattle.record.specs.Form.{bytes}
-use Rattle.statement.specs.Row.{Row, HeaderRow}
+use Rattle.statement.specs.Rows.{Row, HeaderRow}
 use Rattle.kinds.specs.Kind.{kindOf, rankOf, Named, KindForm, kind-is}
 use Rattle.kinds.specs.declared.Kind.{Kind}
 use Rattle.kinds.specs.declared.Kind.the-variants.{

@@ -8,7 +8,7 @@ use lib.Dec.{eqb}
 use lib.ListN.{length}
 use Rattle.common.specs.Pick.{pick}
 use Rattle.error.specs.Refusal.{refusal, Told, good, bad}
-use Rattle.statement.specs.Row.{Row, HeaderRow}
+use Rattle.statement.specs.Rows.{Row, HeaderRow}
 use Rattle.kinds.specs.Kind.{kindOf, rankOf}
 use Rattle.kinds.specs.declared.Kind.{Kind}
 use Rattle.params.specs.Reader.{Span, span}

@@ -7,7 +7,8 @@ use mathlib.Core.Option.{Option, none, some}
 use lib.ListN.{length}
 use Rattle.error.specs.Refusal.{Refusal, refusal, Told, good, bad, told}
 use Rattle.record.specs.Word.{same, upper}
-use Rattle.statement.specs.Row.{HeaderRow, mapped}
+use Rattle.statement.specs.Row.{mapped}
+use Rattle.statement.specs.Rows.{HeaderRow}
 use Rattle.table.specs.Table.{headerRows, headerNumbers}
 use Rattle.lookup.specs.Lookup.{Span, span, spanFine, spanIn, cut, firstFrom}
 use Rattle.headers.specs.declared.HeaderFound.{HeaderFound}

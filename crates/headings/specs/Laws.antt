@@ -9,7 +9,7 @@ use mathlib.Core.List.{List, [], _∷_, map}
 use mathlib.Core.Option.{Option, none, some}
 use lib.ListN.{length, getElem?, length-map}
 use Rattle.statement.specs.declared.HeaderSpan.{HeaderSpan}
-use Rattle.statement.specs.Row.{HeaderRow}
+use Rattle.statement.specs.Rows.{HeaderRow}
 use Rattle.statement.specs.Statement.{headerRowOf}
 use Rattle.table.specs.Table.{headerRows, headerNumbers, headersLaid}
 use Rattle.table.specs.Laid.{headers-laid-in, header-is}

@@ -13,7 +13,7 @@ use lib.Dec.{leb, eqb}
 use lib.ListN.{length}
 use Rattle.common.specs.Pick.{pick}
 use Rattle.error.specs.Refusal.{Told, good, bad}
-use Rattle.statement.specs.Row.{HeaderRow}
+use Rattle.statement.specs.Rows.{HeaderRow}
 use Rattle.params.specs.Reader.{Span, paramOf}
 use Rattle.params.specs.Places.{param-past}
 use Rattle.words.specs.Words.{partOf}

@@ -9,7 +9,7 @@ use borrow.Author.Tests.{le-leb, lt-leb, eq-eqb, ne-eqb}
 use lib.ListN.{length, take, drop, getD}
 use Rattle.common.specs.Compare.{clash}
 use Rattle.error.specs.Refusal.{Refusal, Told, good, bad}
-use Rattle.statement.specs.Row.{HeaderRow}
+use Rattle.statement.specs.Rows.{HeaderRow}
 use Rattle.strings.specs.Put.{most}
 use Rattle.strings.specs.Text.{bytesOf}
 use Rattle.params.specs.Reader.{Read, reading, Span, paramOf}

@@ -7,8 +7,7 @@ use Prim.Native.Nat.{ℕ, suc, _+_}
 use mathlib.Core.Path.{_≡_}
 use mathlib.Core.List.{List, [], _∷_, _++_}
 use lib.ListN.{length}
-use Rattle.lex.specs.Byte.{white}
-use Rattle.record.specs.Form.{All, NotFirst, NotLast}
+use Rattle.record.specs.Form.{Gap, NoGapFirst, NoGapLast}
 use Rattle.reals.specs.Scalar.{Answer, read, refused}
 use Rattle.params.specs.Grammar.{Parameter, Unclosed}
 use Rattle.lists.specs.Items.{Fate, fine, faulty, shifted, consed}
@@ -26,10 +25,10 @@ pub record Item (xs f t r : List ℕ) : Type 0 where
   pub back : List ℕ
   pub shape : xs ≡ (f ++ (t ++ back)) ++ r
   pub ends : Ends xs r
-  pub before : All white f
-  pub after : All white back
-  pub first : NotFirst white (t ++ back)
-  pub last : NotLast white t
+  pub before : Gap f
+  pub after : Gap back
+  pub first : NoGapFirst (t ++ back)
+  pub last : NoGapLast t
 
 -- what the items from xs on read as by the rule P: their values, or the first bad item's refusal, and how far into xs its place is
 pub data Items {A : Type 0} (P : List ℕ → Fate A → Type 0) : List ℕ → Fate (List A) → Type 0 where
@@ -44,9 +43,9 @@ pub data Items {A : Type 0} (P : List ℕ → Fate A → Type 0) : List ℕ → 
 -- "A list is `(`..`)`": what a text reads as, where P reads its items
 pub data Listed {A : Type 0} (P : List ℕ → Fate A → Type 0) : List ℕ → Fate (List A) → Type 0 where
   -- "`()` has no item", nor has `( )`
-  none : (b : List ℕ) → All white b → Listed P (40 ∷ (b ++ (41 ∷ []))) (fine [])
+  none : (b : List ℕ) → Gap b → Listed P (40 ∷ (b ++ (41 ∷ []))) (fine [])
   -- the items of its inside: "`(1,)` has two"
-  items : (b : List ℕ) {a : Fate (List A)} → (All white b → ⊥) → Items P b a → Listed P (40 ∷ (b ++ (41 ∷ []))) (shifted 1 a)
+  items : (b : List ℕ) {a : Fate (List A)} → (Gap b → ⊥) → Items P b a → Listed P (40 ∷ (b ++ (41 ∷ []))) (shifted 1 a)
   -- what is no list is 12, at its start
   other : {t : List ℕ} → ((b : List ℕ) → t ≡ 40 ∷ (b ++ (41 ∷ [])) → ⊥) → Listed P t (faulty 12 0)
 

@@ -9,7 +9,7 @@ use lib.Dec.{ltb, leb, eqb}
 use lib.ListN.{length, take, drop}
 use Rattle.common.specs.Pick.{pick}
 use Rattle.error.specs.Refusal.{Refusal, refusal, Told, good, bad, told}
-use Rattle.statement.specs.Row.{Row}
+use Rattle.statement.specs.Rows.{Row}
 use Rattle.statement.specs.Statement.{rowOf}
 use Rattle.table.specs.Table.{tableRows, rowNumbers}
 use Rattle.index.specs.Search.{searched}

@@ -4,7 +4,7 @@ use Prim.Native.Nat.{ℕ}
 use mathlib.Core.Path.{_≡_, refl, sym, _∙_, ap}
 use mathlib.Core.Option.{Option, none, some}
 use Rattle.error.specs.Refusal.{Told, good, bad, faultOf, faultOf-told}
-use Rattle.statement.specs.Row.{Row}
+use Rattle.statement.specs.Rows.{Row}
 use Rattle.statement.specs.declared.RecordSpan.{RecordSpan}
 use Rattle.lookup.specs.Lookup.{Span, toldEntry, toldRequired, toldSpan, toldPlace}
 use Rattle.lookup.specs.declared.Entry.{Entry}

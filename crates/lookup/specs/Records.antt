@@ -13,7 +13,7 @@ use lib.Seq.{length-take-le}
 use borrow.Author.Tests.{eqb-true, eqb-false, eq-eqb, ne-eqb}
 use Rattle.common.specs.Pick.{pick}
 use Rattle.common.specs.Compare.{clash}
-use Rattle.statement.specs.Row.{Row}
+use Rattle.statement.specs.Rows.{Row}
 use Rattle.table.specs.Table.{idOf, rowNumbers, rowsLaid}
 use Rattle.table.specs.Laid.{row-is}
 use Rattle.index.specs.Lookup.{IsLast, Missing, LookupForm}

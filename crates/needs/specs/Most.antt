@@ -5,7 +5,7 @@ use mathlib.Core.Path.{_≡_, refl, sym, _∙_, ap, subst}
 use mathlib.Core.List.{List, [], _∷_, _++_}
 use mathlib.Core.Logic.{_⊎_, inl, inr}
 use native.Mathlib.Omega.{arith}
-use Rattle.statement.specs.Row.{Row, HeaderRow}
+use Rattle.statement.specs.Rows.{Row, HeaderRow}
 use Rattle.scan.specs.File.{Table}
 use Rattle.lengths.specs.declared.Sizes.{Sizes}
 use Rattle.lengths.specs.Lengths.{textLen, numbersLen, rowsLen, both, nothing, recordOf}

@@ -7,7 +7,8 @@ use native.Mathlib.Omega.{arith}
 use lib.ListN.{length}
 use Rattle.common.specs.Compare.{clash}
 use Rattle.error.specs.Refusal.{Refusal, Told, good, bad, told}
-use Rattle.statement.specs.Row.{Row, HeaderRow, mapped}
+use Rattle.statement.specs.Rows.{Row, HeaderRow}
+use Rattle.statement.specs.Row.{mapped}
 use Rattle.scan.specs.File.{Table, scanOf, largest}
 use Rattle.scan.specs.Rooms.{scan-roomy, scan-fit}
 use Rattle.lengths.specs.declared.Sizes.{Sizes}

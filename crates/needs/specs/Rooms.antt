@@ -7,28 +7,29 @@ use native.Mathlib.Omega.{arith}
 use lib.ListN.{length}
 use Rattle.common.specs.Compare.{clash}
 use Rattle.error.specs.Refusal.{Refusal, Told, good, bad}
+use Rattle.statement.specs.Rows.{RowKind, header-kind, data-kind}
 use Rattle.statement.specs.Row.{mapped}
 use Rattle.statement.specs.declared.Section.{Section}
 use Rattle.scan.specs.File.{Table, scanOf}
-use Rattle.scan.specs.Form.{Reached, Full}
+use Rattle.scan.specs.Form.{Counts, counts, of, Reached, Full}
 use Rattle.scan.specs.FormRight.{scans-is}
-use Rattle.scan.specs.FormRight.Numbers.{scans-bad}
-use Rattle.scan.specs.FormRight.Statements.{moved-shorter, header-shorter, data-shorter}
+use Rattle.scan.specs.FormRight.Numbers.{of-more, scans-bad}
+use Rattle.statement.specs.FormRight.{moved-shorter, header-shorter, data-shorter, row-shorter}
 use Rattle.scan.specs.Rooms.{scan-roomy, scan-fit}
 use Rattle.scan.specs.Roomy.{refusal-roomy}
 use Rattle.needs.specs.Needs.{needsIn, needsOf}
 
 -- each row that was read took a byte at least
-reached-few : {s : List ℕ} {sec : Section} {xs : List ℕ} {h r : ℕ} → Reached s sec xs h r → (h + length xs ≤ length s) × (r + length xs ≤ length s)
-reached-few Reached.start = (omega arith, omega arith)
-reached-few (Reached.on u f) = let k = reached-few u in let l = moved-shorter f in (omega arith, omega arith)
-reached-few (Reached.header-row u f) = let k = reached-few u in let l = header-shorter f in (omega arith, omega arith)
-reached-few (Reached.data-row u f) = let k = reached-few u in let l = data-shorter f in (omega arith, omega arith)
+reached-few : {s : List ℕ} {sec : Section} {xs : List ℕ} {n : Counts} → Reached s sec xs n → (j : RowKind) → of j n + length xs ≤ length s
+reached-few Reached.start header-kind = omega arith
+reached-few Reached.start data-kind = omega arith
+reached-few (Reached.on u f) j = let m = reached-few u j in let l = moved-shorter f in omega arith
+reached-few (Reached.row {t} {n} k w ys u f) j = let m = reached-few u j in let l = row-shorter k w ys t f in omega (arith, of-more j k n)
 
 -- so many rows are never used up
-never-full : {s : List ℕ} {q : Refusal} → Full s (length s) (length s) q → ⊥
-never-full (Full.headers u m f) = let k = reached-few u in let l = header-shorter f in omega arith
-never-full (Full.records u m f) = let k = reached-few u in let l = data-shorter f in omega arith
+never-full : {s : List ℕ} {q : Refusal} → Full s (counts (length s) (length s)) q → ⊥
+never-full (Full.full header-kind w ys t u h e f) = let k = reached-few u header-kind in let l = header-shorter f in omega arith
+never-full (Full.full data-kind w ys t u h e f) = let k = reached-few u data-kind in let l = data-shorter f in omega arith
 
 -- the scan's refusal behind that of the needs
 refused-scan : (s : List ℕ) (q : Refusal) → needsOf s ≡ bad q → scanOf s (length s) (length s) ≡ bad q

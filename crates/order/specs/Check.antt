@@ -22,8 +22,8 @@ use Rattle.record.specs.FormRight.Parts.{Spanned, span, past-pass, past-halt}
 use Rattle.record.specs.Head.{dataHead, headerHead}
 use Rattle.record.specs.declared.Head.{Head}
 use Rattle.record.specs.declared.Head.the-variants.{Bad, Complex, Simple}
-use Rattle.statement.specs.Row.{Row, HeaderRow}
-use Rattle.statement.specs.Statement.{Stmt, ends, refused, moved, header, record′, statement}
+use Rattle.statement.specs.Rows.{Row, HeaderRow, Stmt, ends, refused, moved, header, record′}
+use Rattle.statement.specs.Statement.{statement}
 use Rattle.statement.specs.Closed.{OutsideBoth, ClosedAt, ClosedParts, ClosedData, ClosedHeader, ClosedFrom}
 use Rattle.statement.specs.ClosedRight.Outside.{outside-of}
 use Rattle.statement.specs.ClosedRight.Statements.{Step, step}

@@ -9,7 +9,7 @@ use mathlib.Core.Option.{some}
 use lib.Dec.{eqb}
 use Rattle.error.specs.Refusal.{good}
 use Rattle.record.specs.Form.{bytes}
-use Rattle.statement.specs.Row.{row, headerRow}
+use Rattle.statement.specs.Rows.{row, headerRow}
 use Rattle.statement.specs.Closed.{Closed}
 use Rattle.statement.specs.declared.Section.the-variants.{Outside}
 use Rattle.scan.specs.File.{Table, table, scanOf}

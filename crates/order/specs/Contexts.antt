@@ -7,7 +7,8 @@ use mathlib.Core.Option.{Option, none, some}
 use lib.ListN.{length}
 use Rattle.common.specs.Pick.{pick}
 use Rattle.error.specs.Refusal.{Told, good, bad}
-use Rattle.statement.specs.Row.{Row, recordOf}
+use Rattle.statement.specs.Rows.{Row}
+use Rattle.statement.specs.Row.{recordOf}
 use Rattle.statement.specs.Closed.{ClosedData}
 use Rattle.statement.specs.ClosedRight.{rowFrom, record-row}
 use Rattle.params.specs.Reader.{onward}

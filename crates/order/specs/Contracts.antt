@@ -9,7 +9,8 @@ use lib.ListN.{length}
 use Rattle.common.specs.Compare.{clash}
 use Rattle.error.specs.Refusal.{Told, good, bad}
 use Rattle.table.specs.Table.{tableRows, rowNumbers}
-use Rattle.statement.specs.Row.{Row, mapped}
+use Rattle.statement.specs.Row.{mapped}
+use Rattle.statement.specs.Rows.{Row}
 use Rattle.statement.specs.Closed.{Closed, content}
 use Rattle.statement.specs.ClosedRight.{alone}
 use Rattle.statement.specs.declared.Section.the-variants.{Outside}
@@ -23,7 +24,7 @@ use Rattle.lookup.specs.declared.Tables.{Tables}
 use Rattle.lookup.specs.declared.Entry.{Entry}
 use Rattle.store.specs.Store.{toldOpened, Indexed, scanInto, Opens}
 use Rattle.params.specs.Reader.{onward}
-use Rattle.serve.specs.Serve.{recordIn, toldServed}
+use Rattle.serve.specs.Serve.{recordIn, toldServed, unitsOf}
 use Rattle.serve.specs.Laws as Serve
 use Rattle.serve.specs.declared.Served.{Served}
 use Rattle.store.specs.declared.Opened.{Opened}
@@ -32,7 +33,6 @@ use Rattle.factors.specs.Thing.{Thing, thingOf, thingFound, findOf}
 use Rattle.units.specs.Units.{Units, resolveOf}
 use Rattle.units.specs.Code.{toldUnits, thingsFrom}
 use Rattle.units.specs.declared.Resolved.{Resolved}
-use Rattle.serve.specs.Serve.{unitsOf}
 use Rattle.order.specs.Order.{Cut, texts, filled, Cuts, Rearranged, contentFound, served, SameUnits, Same}
 use Rattle.order.specs.Shape.{AllSay}
 use Rattle.order.specs.Accepted.{both-accepted}

@@ -8,7 +8,8 @@ use Rattle.error.specs.Refusal.{Told, good, bad}
 use Rattle.record.specs.Head.{dataHead}
 use Rattle.record.specs.declared.Head.{Head}
 use Rattle.record.specs.declared.Head.the-variants.{Bad, Complex, Simple}
-use Rattle.statement.specs.Row.{Row, HeaderRow, headerOf}
+use Rattle.statement.specs.Rows.{Row, HeaderRow}
+use Rattle.statement.specs.Row.{headerOf}
 use Rattle.statement.specs.Closed.{ClosedData, ClosedHeader, HeaderContent, headerContent}
 use Rattle.statement.specs.ClosedRight.{rowFrom, headerRowFrom, headerContentOf, header-row, header-content}
 use Rattle.scan.specs.File.{Table, largest}

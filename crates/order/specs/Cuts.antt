@@ -3,8 +3,8 @@ use Prim.Native.Nat.{ℕ}
 use mathlib.Core.Path.{_≡_, refl, sym, _∙_, ap}
 use mathlib.Core.List.{List, [], _∷_, _++_, append-assoc, append-cancel-right}
 use Rattle.common.specs.Compare.{clash}
-use Rattle.statement.specs.Row.{Row, HeaderRow}
-use Rattle.statement.specs.Statement.{Stmt, ends, refused, moved, header, record′, statement}
+use Rattle.statement.specs.Rows.{Row, HeaderRow, Stmt, ends, refused, moved, header, record′}
+use Rattle.statement.specs.Statement.{statement}
 use Rattle.statement.specs.Closed.{ClosedData, ClosedHeader, ClosedFrom}
 use Rattle.statement.specs.ClosedRight.Statements.{Stands, stands-any, Step, step, data-stands, header-stands}
 use Rattle.statement.specs.declared.Section.{Section}

@@ -9,7 +9,8 @@ use lib.ListN.{length}
 use Rattle.common.specs.Pick.{pick}
 use Rattle.error.specs.Refusal.{Told, good, bad}
 use Rattle.record.specs.Head.{dataHead}
-use Rattle.statement.specs.Row.{Row, recordOf}
+use Rattle.statement.specs.Rows.{Row}
+use Rattle.statement.specs.Row.{recordOf}
 use Rattle.statement.specs.Closed.{ClosedData, Content, content}
 use Rattle.statement.specs.ClosedRight.{rowFrom, contentOf, record-row, record-content, alone, alone-is}
 use Rattle.lookup.specs.Records.{lastOf, orElse}

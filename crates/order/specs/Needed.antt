@@ -9,7 +9,7 @@ use Rattle.common.specs.Compare.{clash}
 use Rattle.error.specs.Refusal.{refusal, Told, good, bad}
 use Rattle.record.specs.Form.{bytes}
 use Rattle.record.specs.Head.{dataHead}
-use Rattle.statement.specs.Row.{row}
+use Rattle.statement.specs.Rows.{row}
 use Rattle.statement.specs.Closed.{Closed, Content}
 use Rattle.statement.specs.declared.Section.the-variants.{Outside}
 use Rattle.units.specs.Units.{Units, units}

@@ -17,9 +17,10 @@ use Rattle.error.specs.Refusal.{Told, good, bad}
 use Rattle.record.specs.Head.{dataHead}
 use Rattle.record.specs.declared.Head.{Head}
 use Rattle.record.specs.declared.Head.the-variants.{Bad, Complex, Simple}
-use Rattle.statement.specs.Row.{Row, HeaderRow, recordOf}
+use Rattle.statement.specs.Rows.{Row, HeaderRow, ends, moved, header, record′}
+use Rattle.statement.specs.Row.{recordOf}
 use Rattle.statement.specs.Closed.{Closed, Content, content, HeaderContent, headerContent}
-use Rattle.statement.specs.Statement.{ends, moved, header, record′, statement}
+use Rattle.statement.specs.Statement.{statement}
 use Rattle.statement.specs.declared.Section.{Section}
 use Rattle.statement.specs.declared.Section.the-variants.{Outside, InHeader, InData}
 use Rattle.scan.specs.File.{Table, scanOf}

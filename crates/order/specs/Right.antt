@@ -3,7 +3,7 @@ use Prim.Native.Nat.{ℕ}
 use mathlib.Core.Path.{_≡_, refl, sym, _∙_, ap}
 use mathlib.Core.List.{List, map}
 use Rattle.error.specs.Refusal.{Told, good, bad}
-use Rattle.statement.specs.Row.{Row}
+use Rattle.statement.specs.Rows.{Row}
 use Rattle.statement.specs.Closed.{Closed}
 use Rattle.scan.specs.File.{Table, scanOf}
 use Rattle.factors.specs.Thing.{thingOf, thingFound}

@@ -9,16 +9,17 @@ use Rattle.error.specs.Refusal.{Told, good, bad}
 use Rattle.lex.specs.Grammar.{Begins}
 use Rattle.record.specs.Word.{wordOf}
 use Rattle.record.specs.declared.Word.the-variants.{Other}
-use Rattle.statement.specs.Row.{Row, HeaderRow}
-use Rattle.statement.specs.Statement.{Stmt, ends, refused, moved, header, record′, statement}
+use Rattle.statement.specs.Rows.{Row, HeaderRow, Stmt, ends, refused, moved, header, record′, header-kind, data-kind}
+use Rattle.statement.specs.Statement.{statement}
 use Rattle.statement.specs.Closed.{ClosedData, ClosedHeader, ClosedFrom}
 use Rattle.statement.specs.ClosedRight.{rowFrom, headerRowFrom, closed-hash}
 use Rattle.statement.specs.ClosedRight.Statements.{Stands, stands-any, stands-moved, statement-local, statement-header-local, Step, step, data-stands, header-stands, closed-entry, closed-turn}
 use Rattle.statement.specs.declared.Section.{Section}
 use Rattle.statement.specs.declared.Section.the-variants.{Outside, InHeader, InData}
 use Rattle.scan.specs.File.{Table, table, withHeader, withRecord}
-use Rattle.scan.specs.Form.{StatementForm, Reads}
-use Rattle.scan.specs.FormRight.Statements.{statement-is}
+use Rattle.statement.specs.Form.{StatementForm}
+use Rattle.scan.specs.Form.{counts, Reads}
+use Rattle.statement.specs.FormRight.{statement-is}
 use Rattle.order.specs.Order.{Cut, rest, piece, led, texts, filled, Cuts}
 
 -- a closed text that stands as a record somewhere, so that it may stand in the place of another
@@ -87,7 +88,7 @@ led-texts g (piece h b c) = refl
 -- what a reading of the file f gives: a table whose rows are those of the texts us, and its header rows those of hs
 pub record Read (f : List ℕ) (sec : Section) (h r : ℕ) (xs : List ℕ) (hs us : List (List ℕ)) (H R : ℕ) : Type 0 where
   pub result : Table
-  pub reads : Reads f H R sec h r xs (good result)
+  pub reads : Reads f (counts H R) sec (counts h r) xs (good result)
   pub rows : AllSay f (result .records) us
   pub heads : AllHead f (result .headers) hs
 
@@ -102,18 +103,18 @@ module _ (f : List ℕ) (H R : ℕ) where
 
   read-heading : {h r : ℕ} {xs y ys : List ℕ} {hs us : List (List ℕ)} {w : HeaderRow} {b : List ℕ} → statement f InHeader xs ≡ header w ys y → h < H
       → SaysHeader f w b → Read f InHeader (h + 1) r y hs us H R → Read f InHeader h r xs (b ∷ hs) us H R
-  read-heading {xs} {w} e l k d = record {
+  read-heading {xs} {ys} {w} e l k d = record {
     result = withHeader w (d .result);
-    reads = Reads.header-row (rw e at (statement-is f InHeader xs)) l (d .reads);
+    reads = Reads.row header-kind w ys (rw e at (statement-is f InHeader xs)) l (d .reads);
     rows = d .rows;
     heads = (k, d .heads);
   }
 
   read-entry : {h r : ℕ} {xs y ys : List ℕ} {hs us : List (List ℕ)} {w : Row} {b : List ℕ} → statement f InData xs ≡ record′ w ys y → r < R
       → Says f w b → Read f InData h (r + 1) y hs us H R → Read f InData h r xs hs (b ∷ us) H R
-  read-entry {xs} {w} e l k d = record {
+  read-entry {xs} {ys} {w} e l k d = record {
     result = withRecord w (d .result);
-    reads = Reads.data-row (rw e at (statement-is f InData xs)) l (d .reads);
+    reads = Reads.row data-kind w ys (rw e at (statement-is f InData xs)) l (d .reads);
     rows = (k, d .rows);
     heads = d .heads;
   }

@@ -14,8 +14,7 @@ use Rattle.common.specs.Lists.{split, drop-end}
 use Rattle.common.specs.Compare.{clash}
 use Rattle.lex.specs.Byte.{white}
 use Rattle.common.specs.Walk.{walk}
-use Rattle.tokens.specs.Leap.{fromByte, heads, Rest, ends, never, stringRest, commentRest}
-use Rattle.tokens.specs.Leap.{toldPast, PastIn}
+use Rattle.tokens.specs.Leap.{fromByte, heads, Rest, ends, never, stringRest, commentRest, toldPast, PastIn}
 use Rattle.tokens.specs.declared.Past.{Past}
 use Rattle.tokens.specs.declared.Past as PastCode
 use Rattle.tokens.specs.Laws.{string-is, string-never, comment-is, comment-never, byte-found}

@@ -15,9 +15,9 @@ use Rattle.lex.specs.Right.{closing-only, closing-is}
 use Rattle.lex.specs.Inside.{closes-any}
 use Rattle.record.specs.Form.{Free, NotFirst, Skipped, Keyword}
 use Rattle.record.specs.FormRight.Parts.{first-other, all-front, all-back, span, Spanned, tail-split, Tailed}
-use Rattle.statement.specs.Row.{HeaderRow, headerRow}
+use Rattle.statement.specs.Rows.{HeaderRow, headerRow}
 use Rattle.statement.specs.Closed.{ClosedParts}
-use Rattle.scan.specs.Form.{Argued}
+use Rattle.statement.specs.Form.{ArguedTo}
 use Rattle.parts.specs.Part.{separator, Window, NextForm, PartsForm, partsOf}
 use Rattle.parts.specs.PartRight.{parts-only}
 
@@ -167,7 +167,7 @@ module _ {a t : List ℕ} (d : Headed a t) where
   part-next : (q y : List ℕ) → NextForm (q ++ (a ++ y)) (length q) (length q + length a) (good (some (shiftRow (length q) rowOf)))
   part-next q y =
       subst (λ (p : HeaderRow). NextForm (q ++ (a ++ y)) (length q) (length q + length a) (good (some p))) rows
-      (NextForm.part (window-at q a y (d .front) _ (d .shape)) (d .skipped) (d .keyed) (Argued.closed (closes-more (d .closes) y)))
+      (NextForm.part (window-at q a y (d .front) _ (d .shape)) (d .skipped) (d .keyed) (ArguedTo.closed refl (closes-more (d .closes) y)))
     where
       ends : place (q ++ (a ++ y)) (41 ∷ (t ++ y)) ≡ length q + (opening + 1 + length (d .args))
       ends = omega (arith, length-append q (a ++ y), length-append a y, length-append t y, part-length)

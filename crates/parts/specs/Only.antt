@@ -3,7 +3,7 @@
 use mathlib.Core.Path.{_≡_, refl, sym, _∙_, ap}
 use mathlib.Core.Option.{Option, none, some}
 use Rattle.error.specs.Refusal.{Told, good, bad, faultOf, faultOf-told}
-use Rattle.statement.specs.Row.{HeaderRow}
+use Rattle.statement.specs.Rows.{HeaderRow}
 use Rattle.statement.specs.declared.HeaderSpan.{HeaderSpan}
 use Rattle.parts.specs.Part.{toldNext}
 use Rattle.parts.specs.declared.Next.{Next}

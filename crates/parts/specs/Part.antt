@@ -17,10 +17,11 @@ use Rattle.record.specs.Head.{headerHead}
 use Rattle.record.specs.Form.{Skipped, Free, Keyword}
 use Rattle.record.specs.declared.Head.{Head}
 use Rattle.record.specs.declared.Head.the-variants.{Bad, Complex, Simple}
-use Rattle.statement.specs.Row.{HeaderRow, headerRow, mapped, argued}
+use Rattle.statement.specs.Rows.{HeaderRow, headerRow}
+use Rattle.statement.specs.Row.{mapped, argued}
 use Rattle.statement.specs.Statement.{headerRowOf}
 use Rattle.statement.specs.declared.HeaderSpan.{HeaderSpan}
-use Rattle.scan.specs.Form.{Argued}
+use Rattle.statement.specs.Form.{Argued}
 use Rattle.kinds.specs.Kind.{kindOf, rankOf}
 use Rattle.kinds.specs.declared.Kind.{Kind}
 use Rattle.parts.specs.declared.Next.{Next}

@@ -23,9 +23,10 @@ use Rattle.record.specs.FormRight.{past-only, past-is, keyword-is, keyword-none
 use Rattle.record.specs.FormRight.Parts.{sole}
 use Rattle.record.specs.declared.Head.{Head}
 use Rattle.record.specs.declared.Head.the-variants.{Bad, Simple}
-use Rattle.statement.specs.Row.{HeaderRow, headerRow, mapped, argued}
-use Rattle.scan.specs.Form.{Argued}
-use Rattle.scan.specs.FormRight.Statements.{argued-only, argued-is}
+use Rattle.statement.specs.Rows.{HeaderRow, headerRow}
+use Rattle.statement.specs.Row.{mapped, argued}
+use Rattle.statement.specs.Form.{Argued}
+use Rattle.statement.specs.FormRight.{argued-only, argued-is}
 use Rattle.kinds.specs.declared.Kind.{Kind}
 use Rattle.parts.specs.Part.{separator, partBy, partIn, nextOf, Window, NextForm, before, partsBy, partsFrom, partsOf, PartsForm, isKind, firstKind, partOf, NoPart, IsFirstPart, FirstPart, ComplexPart}
 use Rattle.parts.specs.Laws.{next-outside, next-done, next-ahead}

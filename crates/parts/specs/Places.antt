@@ -12,8 +12,9 @@ use lib.Dec.{ltb, eqb}
 use lib.ListN.{length}
 use Rattle.common.specs.Pick.{pick}
 use Rattle.error.specs.Refusal.{Refusal, refusal, Told, good, bad}
-use Rattle.statement.specs.Row.{HeaderRow, mapped}
-use Rattle.scan.specs.Form.{Argued}
+use Rattle.statement.specs.Rows.{HeaderRow}
+use Rattle.statement.specs.Row.{mapped}
+use Rattle.statement.specs.Form.{ArguedTo, Argued}
 use Rattle.kinds.specs.declared.Kind.{Kind}
 use Rattle.parts.specs.Part.{nextOf, NextForm, PartIn, before, partsBy, partsFrom, partsOf, PartsForm, isKind, firstKind, partOf}
 use Rattle.parts.specs.Laws.{next-in}
@@ -40,9 +41,9 @@ AllIn n from (p ∷ ps) = PartIn n from p × AllIn n (p .argEnd + 1) ps
 
 -- what refuses where a `)` is sought
 argued-fault : {s t : List ℕ} {q : Refusal} → Argued s t (bad q) → FaultIn (length s) q
-argued-fault (Argued.text-open d o) = (inr (inl refl), omega arith)
-argued-fault (Argued.remark-open d o) = (inl refl, omega arith)
-argued-fault (Argued.unclosed d) = (inr (inr (inl refl)), omega arith)
+argued-fault (ArguedTo.text-open e d o) = (inr (inl refl), omega arith)
+argued-fault (ArguedTo.remark-open e d o) = (inl refl, omega arith)
+argued-fault (ArguedTo.unclosed e d) = (inr (inr (inl refl)), omega arith)
 
 -- "9 span [..] outside the file or backwards, 0"
 nine-in : (n : ℕ) → FaultIn n (refusal 9 0 0)

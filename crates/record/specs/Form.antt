@@ -37,20 +37,41 @@ NotFirst p xs = (c : ℕ) (r : List ℕ) → xs ≡ c ∷ r → p c ≡ false
 abbrev pub NotLast : (ℕ → Bool) → List ℕ → Type 0
 NotLast p xs = (r : List ℕ) (c : ℕ) → xs ≡ r ++ (c ∷ []) → p c ≡ false
 
--- "whitespace", "digits": the bytes f of the kind p, as many as stand there before r
+-- "digits": the bytes f of the kind p, as many as stand there before r
 pub record Skipped (p : ℕ → Bool) (f r : List ℕ) : Type 0 where
   pub all : All p f
   pub over : NotFirst p r
+
+-- what may stand between tokens: whitespace
+abbrev pub Gap : List ℕ → Type 0
+Gap w = All white w
+
+-- nothing that may stand between tokens begins the list
+abbrev pub NoGapFirst : List ℕ → Type 0
+NoGapFirst t = NotFirst white t
+
+-- nothing that may stand between tokens ends the list
+abbrev pub NoGapLast : List ℕ → Type 0
+NoGapLast t = NotLast white t
+
+-- the gap f, as long as it is, before r
+pub record Gapped (f r : List ℕ) : Type 0 where
+  pub all : Gap f
+  pub over : NoGapFirst r
+
+-- "the first byte `(`": it does not stand in the list
+abbrev pub NoParen : List ℕ → Type 0
+NoParen b = Free 40 b
 
 -- "Trimmed of whitespace": t is what is left of xs
 pub record Trimmed (xs t : List ℕ) : Type 0 where
   pub front : List ℕ
   pub back : List ℕ
   pub shape : xs ≡ front ++ (t ++ back)
-  pub before : All white front
-  pub after : All white back
-  pub first : NotFirst white t
-  pub last : NotLast white t
+  pub before : Gap front
+  pub after : Gap back
+  pub first : NoGapFirst t
+  pub last : NoGapLast t
 
 -- a text's bytes, where it is in ASCII
 abbrev pub bytes : String → List ℕ
@@ -66,7 +87,7 @@ Spelt t w = map upper t ≡ bytes w
 pub data Says : List ℕ → Word → Type 0 where
   headed : (t : List ℕ) → Spelt t "HEADER" → Says t Header
   data-alone : (t : List ℕ) → Spelt t "DATA" → Says t Data
-  data-opened : (d w r : List ℕ) → Spelt d "DATA" → All white w → Says (d ++ (w ++ (40 ∷ r))) Data
+  data-opened : (d w r : List ℕ) → Spelt d "DATA" → Gap w → Says (d ++ (w ++ (40 ∷ r))) Data
   left : (t : List ℕ) → Spelt t "ENDSEC" → Says t EndSection
   ended : (t : List ℕ) → Spelt t "END-ISO-10303-21" → Says t EndFile
 
@@ -78,16 +99,16 @@ pub data WordForm : List ℕ → Word → Type 0 where
 -- "a keyword and the first byte `(`", "trailing whitespace dropped": xs is the keyword k, whitespace w, the first `(` and r
 pub record Keyword (xs k w r : List ℕ) : Type 0 where
   pub shape : xs ≡ k ++ (w ++ (40 ∷ r))
-  pub first : Free 40 k
-  pub blank : All white w
-  pub ended : NotLast white k
+  pub first : NoParen k
+  pub blank : Gap w
+  pub ended : NoGapLast k
 
 -- the head of a header record with this text; a place is the number of bytes before it
 pub data HeaderForm : List ℕ → Head → Type 0 where
   -- reason 1, "header record without `(`"
-  unopened : (b : List ℕ) → Free 40 b → HeaderForm b (Bad 1)
+  unopened : (b : List ℕ) → NoParen b → HeaderForm b (Bad 1)
   -- a keyword, trimmed of whitespace as in a data record, and the first byte `(`
-  named : {a v k w r : List ℕ} → Skipped white a v → Keyword v k w r
+  named : {a v k w r : List ℕ} → Gapped a v → Keyword v k w r
       → HeaderForm (a ++ v) (Simple 0 (length a) (length (a ++ k)) (length (a ++ (k ++ w))))
 
 -- the number that decimal digits stand for: each counts ten times as much as the one after it
@@ -103,7 +124,7 @@ pub record Id (ds : List ℕ) : Type 0 where
 
 -- "Data: `#`, digits, whitespace, `=`, whitespace": the bytes so far, the id, and what follows them
 pub data Lead : List ℕ → ℕ → List ℕ → Type 0 where
-  lead : (ds w u v : List ℕ) → Id ds → All white w → Skipped white u v → Lead (35 ∷ (ds ++ (w ++ (61 ∷ u)))) (valueOf ds) v
+  lead : (ds w u v : List ℕ) → Id ds → Gap w → Gapped u v → Lead (35 ∷ (ds ++ (w ++ (61 ∷ u)))) (valueOf ds) v
 
 -- the head of a data record with this text
 pub data HeadForm : List ℕ → Head → Type 0 where
@@ -114,11 +135,11 @@ pub data HeadForm : List ℕ → Head → Type 0 where
   -- reason 4, "no digits"
   numberless : (r : List ℕ) → NotFirst digit r → HeadForm (35 ∷ r) (Bad 4)
   -- reason 5, "no `=`"
-  unequal : (ds w r : List ℕ) → Id ds → NotFirst digit (w ++ r) → Skipped white w r → (Begins 61 r → ⊥) → HeadForm (35 ∷ (ds ++ (w ++ r))) (Bad 5)
+  unequal : (ds w r : List ℕ) → Id ds → NotFirst digit (w ++ r) → Gapped w r → (Begins 61 r → ⊥) → HeadForm (35 ∷ (ds ++ (w ++ r))) (Bad 5)
   -- reason 6, "nothing after `=`"
   valueless : {a : List ℕ} {n : ℕ} → Lead a n [] → HeadForm a (Bad 6)
   -- reason 7, "no `(`"
-  unopened : {a v : List ℕ} {n : ℕ} → Lead a n v → (v ≡ [] → ⊥) → Free 40 v → HeadForm (a ++ v) (Bad 7)
+  unopened : {a v : List ℕ} {n : ℕ} → Lead a n v → (v ≡ [] → ⊥) → NoParen v → HeadForm (a ++ v) (Bad 7)
   -- "then `(` for a complex record"
   complex : {a r : List ℕ} {n : ℕ} → Lead a n (40 ∷ r) → HeadForm (a ++ (40 ∷ r)) (Complex n (length a))
   -- "else a keyword and the first byte `(` up to the record's end": the keyword's start and end, and the `(`

@@ -1,6 +1,6 @@
 -- Form.antt's rules and what Text.antt, Head.antt and Word.antt compute are one: what is computed is so, and nothing else is.
 -- Assumes nothing.
-use Prim.Native.Nat.{ℕ, zero, suc, _+_, _*_, _-_, _^_, _≤_, _<_}
+use Prim.Native.Nat.{ℕ, zero, suc, _+_, _*_, _-_, _^_, _<_}
 use Prim.Native.String.{String}
 use mathlib.Core.Path.{_≡_, refl, sym, _∙_, ap}
 use mathlib.Core.Bool.{Bool, true, false, not, _||_, _&&_}
@@ -17,19 +17,20 @@ use Rattle.common.specs.Compare.{clash}
 use Rattle.lex.specs.Byte.{white, place}
 use Rattle.common.specs.Walk.{on, walk}
 use Rattle.lex.specs.Grammar.{Begins}
-use Rattle.record.specs.Text.{past, digit, Digits, digits, numberFrom, opened, unopened, keyTurn, keyword, trailTurn, trail}
-use Rattle.record.specs.Turns.{bounds, number-grows}
+use Rattle.record.specs.Text.{past, pastGap, digit, Digits, digits, numberFrom, opened, unopened, keyTurn, keyword, trailTurn, trail}
+use Rattle.record.specs.Turns.{number-grows}
 use Rattle.record.specs.Head.{valueHead, equalHead, dataHead, headerHead}
 use Rattle.record.specs.Word.{upper, same, isWord, opens, endsec, header, dataWord, endFile, opensData, trimmed, wordIn, wordOf}
-use Rattle.record.specs.Form.{All, Free, NotFirst, NotLast, Skipped, valueOf, Id, Keyword, Lead, HeadForm, HeaderForm}
-use Rattle.record.specs.Form.{Trimmed, bytes, Spelt, Says, WordForm}
+use Rattle.record.specs.Form.{NotFirst, Skipped, valueOf, Id, Keyword, Lead, HeadForm, HeaderForm, Gap, NoGapFirst, NoGapLast, Gapped, NoParen, Trimmed, bytes, Spelt, Says, WordForm}
 use Rattle.record.specs.declared.Head.{Head}
 use Rattle.record.specs.declared.Head.the-variants.{Bad, Complex, Simple}
 use Rattle.record.specs.declared.Word.{Word}
 use Rattle.record.specs.declared.Word.the-variants.{Header, Data, EndSection, EndFile, Other}
 pub mod Parts
-use Parts.{sole, first-other, first-part, all-front, all-back, all-join, all-any, all-kind, Spanned, span, Tailed, tail-split}
+pub mod Gaps
+use Parts.{sole, first-other, all-front, all-back, all-join, all-any, Spanned, span, Tailed, tail-split}
 use Parts.{past-pass, past-halt, number-pass, number-halt, word-pass}
+use Gaps.{gap-other, gap-more, gap-part, gap-join, gap-only, gap-is, gap-comes, gap-free, gap-digit}
 
 -- what is left past bytes of a kind, where they are given
 pub past-only : (p : ℕ → Bool) (f r : List ℕ) → Skipped p f r → past p (f ++ r) ≡ r
@@ -59,13 +60,6 @@ number-is xs n r h = go (span digit xs)
         let q : r ≡ s = ap (λ (d : Digits). d .rest) g in
         (ds, rw q e, rw q k, ap (λ (d : Digits). d .value) g)
 
--- whitespace is no other byte
-white-other : (b c : ℕ) → white b ≡ false → white c ≡ true → not (eqb c b) ≡ true
-white-other b c h k = rw (ne-eqb c b (λ e. clash (cc)))
-
-white-free : (w : List ℕ) → All white w → Free 40 w
-white-free w = all-kind white (λ c. not (eqb c 40)) w (λ c. white-other 40 c refl)
-
 -- the search for a `(` passes over other bytes
 key-goes : (c : ℕ) → not (eqb c 40) ≡ true → (e r : List ℕ) → keyTurn e c r ≡ on (pick (white c) e r)
 key-goes c h e r = rw (not-true (eqb c 40) h)
@@ -74,26 +68,26 @@ key-goes c h e r = rw (not-true (eqb c 40) h)
 pub keyword-only : {xs k w r : List ℕ} → Keyword xs k w r → keyword xs ≡ opened (w ++ (40 ∷ r)) (40 ∷ r)
 unfolding keyword walk
 keyword-only {k} {w} {r} f =
-    let free : Free 40 w = white-free w (f .blank) in
+    let free : NoParen w = gap-free w (f .blank) in
     rw (f .shape) (word-pass keyTurn (λ e. unopened) (λ c. not (eqb c 40)) key-goes k w (40 ∷ r) (f .first) (f .ended) free (f .blank))
 
 -- without a `(` none is found
-pub keyword-none-only : (xs : List ℕ) → Free 40 xs → keyword xs ≡ unopened
+pub keyword-none-only : (xs : List ℕ) → NoParen xs → keyword xs ≡ unopened
 unfolding keyword walk
 keyword-none-only xs h = go xs xs h
   where
-    go : (e ys : List ℕ) → Free 40 ys → walk keyTurn (λ u. unopened) e ys ≡ unopened
+    go : (e ys : List ℕ) → NoParen ys → walk keyTurn (λ u. unopened) e ys ≡ unopened
     go e [] h = refl
     go e (c ∷ ys) (h, t) = rw (not-true (eqb c 40) h) (go (pick (white c) e ys) ys t)
 
 -- a text has a keyword and a `(`, or no `(`
 abbrev Keys : List ℕ → Type 0
-Keys xs = ((k w r : List ℕ) × Keyword xs k w r) ⊎ Free 40 xs
+Keys xs = ((k w r : List ℕ) × Keyword xs k w r) ⊎ NoParen xs
 
 keyword-comes : (xs : List ℕ) → Keys xs
 keyword-comes xs = go (span (λ c. not (eqb c 40)) xs)
   where
-    cut : (f r : List ℕ) → xs ≡ f ++ (40 ∷ r) → Free 40 f → Tailed f → Keys xs
+    cut : (f r : List ℕ) → xs ≡ f ++ (40 ∷ r) → NoParen f → Tailed f → Keys xs
     cut f r e h (k, w, g, a, l) =
         inl (k, w, r, record { shape = cc (append-assoc k w (40 ∷ r)); first = all-front _ k w (rw g at h); blank = a; ended = l })
 
@@ -112,15 +106,15 @@ keyword-is xs e o h = go (keyword-comes xs)
     go (inr f) = clash (cc (keyword-none-only xs f))
 
 -- where none is found, there is no `(`
-pub keyword-none : (xs : List ℕ) → keyword xs ≡ unopened → Free 40 xs
+pub keyword-none : (xs : List ℕ) → keyword xs ≡ unopened → NoParen xs
 keyword-none xs h = go (keyword-comes xs)
   where
-    go : Keys xs → Free 40 xs
+    go : Keys xs → NoParen xs
     go (inl (k, w, r, f)) = clash (cc (keyword-only f))
     go (inr f) = f
 
 -- the whitespace at the end, where it is given
-pub trail-only : (t z : List ℕ) → NotLast white t → All white z → trail (t ++ z) ≡ z
+pub trail-only : (t z : List ℕ) → NoGapLast t → Gap z → trail (t ++ z) ≡ z
 unfolding trail walk
 trail-only t z l a = rw (append-nil z) at (word-pass trailTurn (λ e. e) (λ c. true) (λ c h e r. refl) t z [] (all-any t) l (all-any z) a)
 
@@ -128,51 +122,35 @@ trail-only t z l a = rw (append-nil z) at (word-pass trailTurn (λ e. e) (λ c. 
 pub trimmed-only : {xs t : List ℕ} → Trimmed xs t → t ≡ trimmed xs
 trimmed-only {t} f = rw (f .shape) (go t (f .first) (f .last))
   where
-    go : (u : List ℕ) → NotFirst white u → NotLast white u → u ≡ trimmed (f .front ++ (u ++ f .back))
+    go : (u : List ℕ) → NoGapFirst u → NoGapLast u → u ≡ trimmed (f .front ++ (u ++ f .back))
     go [] h l =
-        let none : past white (f .back ++ []) ≡ [] = past-only white (f .back) [] (record { all = f .after; over = h }) in
-        let e : past white (f .front ++ f .back) ≡ [] = past-pass white (f .front) (f .back) (f .before) ∙ (rw append-nil at none) in
+        let e : pastGap (f .front ++ f .back) ≡ [] =
+        rw append-nil at (gap-only (f .front ++ f .back) [] (record { all = gap-join (f .front) (f .back) (f .before) (f .after); over = h })) in
         rw (e, trail-only [] [] l tt)
     go (c ∷ u) h l =
-        let o : NotFirst white (c ∷ (u ++ f .back)) = first-other white c (u ++ f .back) (h c u refl) in
-        let e = past-only white (f .front) (c ∷ (u ++ f .back)) (record { all = f .before; over = o }) in
+        let o : NoGapFirst (c ∷ (u ++ f .back)) = gap-more c u (f .back) h in
+        let e = gap-only (f .front) (c ∷ (u ++ f .back)) (record { all = f .before; over = o }) in
         let n : length (c ∷ u) ≡ length (c ∷ (u ++ f .back)) - length (f .back) = simp length-append (omega arith) in
         rw (e, trail-only (c ∷ u) (f .back) l (f .after)) (sym (take-at (c ∷ u) (f .back) _ n))
 
 -- every text can be trimmed
 trimmed-comes : (xs : List ℕ) → (t : List ℕ) × Trimmed xs t
-trimmed-comes xs = go (span white xs)
+trimmed-comes xs = go (gap-comes xs)
   where
-    cut : (a r : List ℕ) → xs ≡ a ++ r → Skipped white a r → Tailed r → (t : List ℕ) × Trimmed xs t
+    cut : (a r : List ℕ) → xs ≡ a ++ r → Gapped a r → Tailed r → (t : List ℕ) × Trimmed xs t
     cut a r e s (t, z, g, b, l) =
-        let o : NotFirst white t = first-part white t z (rw g at (s .over)) in
+        let o : NoGapFirst t = gap-part t z (rw g at (s .over)) in
         (t, record { front = a; back = z; shape = cc; before = s .all; after = b; first = o; last = l })
 
-    go : Spanned white xs → (t : List ℕ) × Trimmed xs t
+    go : (f r : List ℕ) × (xs ≡ f ++ r) × Gapped f r → (t : List ℕ) × Trimmed xs t
     go (a, r, e, s) = cut a r e s (tail-split r)
 
 -- "Trimmed of whitespace": what is computed is that
 pub trimmed-is : (xs : List ℕ) → Trimmed xs (trimmed xs)
 trimmed-is xs = sole (Trimmed xs) (λ t. trimmed-only) (trimmed-comes xs)
 
--- no whitespace is a digit, so digits end before it
-white-digit : (c : ℕ) → white c ≡ true → digit c ≡ false
-white-digit c h = go (digit c) refl
-  where
-    go : (t : Bool) → digit c ≡ t → digit c ≡ false
-    go false e = e
-    go true e =
-        let l : (48 ≤ c) × (c ≤ 57) = bounds 48 c 57 e in
-        let n : (b : ℕ) → (c ≡ b → ⊥) → eqb c b ≡ false = ne-eqb c in
-        let w : white c ≡ false = rw (n 32 (omega arith), n 9 (omega arith), n 10 (omega arith), n 12 (omega arith), n 13 (omega arith)) in
-        clash (cc)
-
-first-white : (w y : List ℕ) → All white w → NotFirst digit y → NotFirst digit (w ++ y)
-first-white [] y h k = k
-first-white (c ∷ w) y (h, t) k = first-other digit c (w ++ y) (white-digit c h)
-
 -- an id was read
-id-only : (ds y : List ℕ) → Id ds → NotFirst digit y → dataHead (35 ∷ (ds ++ y)) ≡ equalHead (35 ∷ (ds ++ y)) (valueOf ds) (past white y)
+id-only : (ds y : List ℕ) → Id ds → NotFirst digit y → dataHead (35 ∷ (ds ++ y)) ≡ equalHead (35 ∷ (ds ++ y)) (valueOf ds) (pastGap y)
 unfolding dataHead
 id-only ds y i h =
     let s : Skipped digit ds y = record { all = i .all; over = h } in
@@ -186,9 +164,9 @@ id-only ds y i h =
 lead-only : {a : List ℕ} {n : ℕ} {v : List ℕ} → Lead a n v → dataHead (a ++ v) ≡ valueHead (a ++ v) n v
 lead-only (Lead.lead ds w u v i b s) =
     let e : (35 ∷ (ds ++ (w ++ (61 ∷ u)))) ++ v ≡ 35 ∷ (ds ++ (w ++ (61 ∷ (u ++ v)))) = simp append-assoc in
-    let o : NotFirst white (61 ∷ (u ++ v)) = first-other white 61 (u ++ v) refl in
-    rw e (id-only ds (w ++ (61 ∷ (u ++ v))) i (first-white w _ b (first-other digit 61 (u ++ v) refl))
-    ∙ rw (past-only white w (61 ∷ (u ++ v)) (record { all = b; over = o }), past-only white u v s) refl)
+    let o : NoGapFirst (61 ∷ (u ++ v)) = gap-other 61 (u ++ v) refl in
+    rw e (id-only ds (w ++ (61 ∷ (u ++ v))) i (gap-digit w _ b (first-other digit 61 (u ++ v) refl))
+    ∙ rw (gap-only w (61 ∷ (u ++ v)) (record { all = b; over = o }), gap-only u v s) refl)
 
 -- what stands where an `=` should, and after it
 module _ (b : List ℕ) (n : ℕ) where
@@ -196,7 +174,7 @@ module _ (b : List ℕ) (n : ℕ) where
   equal-none [] h = refl
   equal-none (c ∷ r) h = rw (ne-eqb c 61 (λ e. h (r, cc)))
 
-  value-none : (v : List ℕ) → (v ≡ [] → ⊥) → Free 40 v → valueHead b n v ≡ Bad 7
+  value-none : (v : List ℕ) → (v ≡ [] → ⊥) → NoParen v → valueHead b n v ≡ Bad 7
   value-none [] z h = absurd (z refl)
   value-none (c ∷ r) z h = rw (not-true (eqb c 40) (h .0), keyword-none-only (c ∷ r) h)
 
@@ -225,7 +203,7 @@ headform-only (HeadForm.above ds r a h) =
     let g : 4294967295 < numberFrom 0 (ds ++ r) .value = rw (number-pass 0 ds r a) (omega (arith, number-grows n r)) in
     rw (lt-ltb 4294967295 (numberFrom 0 (ds ++ r) .value) g)
 headform-only (HeadForm.numberless r h) = rw (number-halt 0 r h, eq-eqb (length r) (length r) refl)
-headform-only (HeadForm.unequal ds w r i d s h) = sym (id-only ds (w ++ r) i d ∙ rw (past-only white w r s) (equal-none _ (valueOf ds) r h))
+headform-only (HeadForm.unequal ds w r i d s h) = sym (id-only ds (w ++ r) i d ∙ rw (gap-only w r s) (equal-none _ (valueOf ds) r h))
 headform-only (HeadForm.valueless {a} l) = sym (rw (append-nil a) at (lead-only l))
 headform-only (HeadForm.unopened {a} {v} {n} l z f) = sym (lead-only l ∙ value-none (a ++ v) n v z f)
 headform-only (HeadForm.complex {a} {r} {n} l) = ap (Complex n) (simp length-append (omega arith)) ∙ sym (lead-only l)
@@ -244,19 +222,19 @@ value-comes {a} {n} (c ∷ r) l = go (ℕ-discrete c 40) (keyword-comes (c ∷ r
     go (no h) (inl (k, w, s, f)) = (_, HeadForm.simple l (λ (s, e). h (cc)) f)
     go (no h) (inr f) = (Bad 7, HeadForm.unopened l (λ e. clash (cc)) f)
 
-equal-comes : (ds w z : List ℕ) → Id ds → NotFirst digit (w ++ z) → Skipped white w z → Heads (35 ∷ (ds ++ (w ++ z)))
+equal-comes : (ds w z : List ℕ) → Id ds → NotFirst digit (w ++ z) → Gapped w z → Heads (35 ∷ (ds ++ (w ++ z)))
 equal-comes ds w [] i d s = (Bad 5, HeadForm.unequal ds w [] i d s (λ (r, e). clash (cc)))
-equal-comes ds w (c ∷ z) i d s = go (ℕ-discrete c 61) (span white z)
+equal-comes ds w (c ∷ z) i d s = go (ℕ-discrete c 61) (gap-comes z)
   where
-    go : Dec (c ≡ 61) → Spanned white z → Heads (35 ∷ (ds ++ (w ++ (c ∷ z))))
+    go : Dec (c ≡ 61) → (f r : List ℕ) × (z ≡ f ++ r) × Gapped f r → Heads (35 ∷ (ds ++ (w ++ (c ∷ z))))
     go (yes p) (u, v, e, t) = rw (p, e) (simp append-assoc at (value-comes v (Lead.lead ds w u v i (s .all) t)))
     go (no h) t = (Bad 5, HeadForm.unequal ds w (c ∷ z) i d s (λ (r, e). h (cc)))
 
 number-comes : (ds y : List ℕ) → Skipped digit ds y → Heads (35 ∷ (ds ++ y))
 number-comes [] y s = (Bad 4, HeadForm.numberless y (s .over))
-number-comes (d ∷ ds) y s = go (leb (valueOf (d ∷ ds)) 4294967295) refl (span white y)
+number-comes (d ∷ ds) y s = go (leb (valueOf (d ∷ ds)) 4294967295) refl (gap-comes y)
   where
-    go : (t : Bool) → leb (valueOf (d ∷ ds)) 4294967295 ≡ t → Spanned white y → Heads (35 ∷ (d ∷ (ds ++ y)))
+    go : (t : Bool) → leb (valueOf (d ∷ ds)) 4294967295 ≡ t → (f r : List ℕ) × (y ≡ f ++ r) × Gapped f r → Heads (35 ∷ (d ∷ (ds ++ y)))
     go false h t = (Bad 3, HeadForm.above (d ∷ ds) y (s .all) (leb-false _ _ h))
     go true h (w, z, e, t) =
         rw e (equal-comes (d ∷ ds) w z (record { all = s .all; some = λ n. clash (cc); within = leb-true _ _ h }) (rw e at (s .over)) t)
@@ -276,19 +254,19 @@ headform-is b = sole (HeadForm b) (λ h. headform-only) (head-comes b)
 -- a header record's head, reason 1: the head of a text by the rules is the one that is computed
 pub headerform-only : {b : List ℕ} {h : Head} → HeaderForm b h → h ≡ headerHead b
 unfolding headerHead
-headerform-only (HeaderForm.unopened b f) = let (a, e, s) = past-is white b in
-    rw (keyword-none-only (past white b) (all-back _ a (past white b) (rw e at f)))
-headerform-only (HeaderForm.named {a} {v} s f) = rw (past-only white a v s, keyword-only f) (keyed-places 0 a f)
+headerform-only (HeaderForm.unopened b f) = let (a, e, s) = gap-is b in
+    rw (keyword-none-only (pastGap b) (all-back _ a (pastGap b) (rw e at f)))
+headerform-only (HeaderForm.named {a} {v} s f) = rw (gap-only a v s, keyword-only f) (keyed-places 0 a f)
 
 -- every text has a header record's head
 header-comes : (b : List ℕ) → (h : Head) × HeaderForm b h
-header-comes b = go (span white b)
+header-comes b = go (gap-comes b)
   where
-    cut : (a v : List ℕ) → b ≡ a ++ v → Skipped white a v → Keys v → (h : Head) × HeaderForm b h
+    cut : (a v : List ℕ) → b ≡ a ++ v → Gapped a v → Keys v → (h : Head) × HeaderForm b h
     cut a v e s (inl (k, w, r, f)) = rw e (_, HeaderForm.named s f)
-    cut a v e s (inr f) = (Bad 1, HeaderForm.unopened b (rw e (all-join _ a v (white-free a (s .all)) f)))
+    cut a v e s (inr f) = (Bad 1, HeaderForm.unopened b (rw e (all-join _ a v (gap-free a (s .all)) f)))
 
-    go : Spanned white b → (h : Head) × HeaderForm b h
+    go : (f r : List ℕ) × (b ≡ f ++ r) × Gapped f r → (h : Head) × HeaderForm b h
     go (a, v, e, s) = cut a v e s (keyword-comes v)
 
 -- a header record's head, reason 1: the head that is computed is that of the text by the rules
@@ -328,15 +306,15 @@ fails false h = refl
 
 -- the test for what opens data, both ways
 opens-is : (t : List ℕ) → opensData t ≡ true → Says t Data
-opens-is t h = go (isWord t dataWord) (isWord (take 4 t) dataWord) (past white (drop 4 t)) refl refl refl h
+opens-is t h = go (isWord t dataWord) (isWord (take 4 t) dataWord) (pastGap (drop 4 t)) refl refl refl h
   where
-    go : (a b : Bool) (v : List ℕ) → isWord t dataWord ≡ a → isWord (take 4 t) dataWord ≡ b → past white (drop 4 t) ≡ v
+    go : (a b : Bool) (v : List ℕ) → isWord t dataWord ≡ a → isWord (take 4 t) dataWord ≡ b → pastGap (drop 4 t) ≡ v
         → a || (b && opens v) ≡ true → Says t Data
     go true b v p q e h = Says.data-alone t (spelt-is t "DATA" p)
     go false false v p q e h = clash (cc)
     go false true [] p q e h = clash (cc)
     go false true (c ∷ r) p q e h =
-        let (w, g, s) = past-is white (drop 4 t) in
+        let (w, g, s) = gap-is (drop 4 t) in
         let f : take 4 t ++ (w ++ (40 ∷ r)) ≡ t = cc (take-append-drop 4 t, eqb-true c 40 h) in
         rw f at (Says.data-opened (take 4 t) w r (spelt-is (take 4 t) "DATA" q) (s .all))
 
@@ -344,10 +322,10 @@ or-true : (a : Bool) → a || true ≡ true
 or-true true = refl
 or-true false = refl
 
-opens-only : (d w r : List ℕ) → Spelt d "DATA" → All white w → opensData (d ++ (w ++ (40 ∷ r))) ≡ true
+opens-only : (d w r : List ℕ) → Spelt d "DATA" → Gap w → opensData (d ++ (w ++ (40 ∷ r))) ≡ true
 opens-only d w r h a =
     let n : length d ≡ 4 = sym (length-map d upper) ∙ ap length h in
-    let e : past white (w ++ (40 ∷ r)) ≡ 40 ∷ r = past-only white w (40 ∷ r) (record { all = a; over = first-other white 40 r refl }) in
+    let e : pastGap (w ++ (40 ∷ r)) ≡ 40 ∷ r = gap-only w (40 ∷ r) (record { all = a; over = gap-other 40 r refl }) in
     rw (take-at d (w ++ (40 ∷ r)) 4 n, drop-at d (w ++ (40 ∷ r)) 4 n, spelt-only d "DATA" h, e) (or-true (isWord (d ++ (w ++ (40 ∷ r))) dataWord))
 
 -- the first letters of a word

@@ -6,9 +6,8 @@ use mathlib.Core.Path.{_≡_, refl, sym}
 use mathlib.Core.Bool.{Bool, true, false}
 use mathlib.Core.List.{List, [], _∷_, _++_}
 use Rattle.common.specs.Compare.{clash}
-use Rattle.lex.specs.Byte.{white}
 use Rattle.lex.specs.Grammar.{Begins}
-use Rattle.record.specs.Form.{All, Trimmed}
+use Rattle.record.specs.Form.{Gap, Trimmed}
 use Rattle.record.specs.FormRight.{trimmed-is}
 use Rattle.common.specs.Walk.{walk}
 use Rattle.record.specs.Text.{past, trail}
@@ -16,11 +15,11 @@ use Rattle.record.specs.Word.{same, trimmed, wordOf}
 use Rattle.record.specs.declared.Word.{Word}
 use Rattle.record.specs.declared.Word.the-variants.{Other}
 
--- trimmed of whitespace it begins so too
+-- trimmed it begins so too
 hash-trimmed : {t u : List ℕ} → Trimmed (35 ∷ t) u → Begins 35 u
 hash-trimmed {t} {u} f = go (f .front) u (f .back) (f .shape) (f .before) (f .after)
   where
-    go : (a v z : List ℕ) → 35 ∷ t ≡ a ++ (v ++ z) → All white a → All white z → Begins 35 v
+    go : (a v z : List ℕ) → 35 ∷ t ≡ a ++ (v ++ z) → Gap a → Gap z → Begins 35 v
     go (c ∷ a) v z e (h, k) w = clash (cc)
     go [] (c ∷ v) z e h w = (v, cc)
     go [] [] [] e h w = clash (cc)

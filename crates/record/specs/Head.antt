@@ -7,8 +7,8 @@ use mathlib.Core.List.{List, [], _∷_}
 use lib.Dec.{eqb, ltb}
 use lib.ListN.{length}
 use Rattle.common.specs.Pick.{pick}
-use Rattle.lex.specs.Byte.{white, place}
-use Rattle.record.specs.Text.{past, Digits, numberFrom, Keyed, opened, unopened, keyword}
+use Rattle.lex.specs.Byte.{place}
+use Rattle.record.specs.Text.{pastGap, Digits, numberFrom, Keyed, opened, unopened, keyword}
 use Rattle.record.specs.declared.Head.{Head}
 use Rattle.record.specs.declared.Head.the-variants.{Bad, Complex, Simple}
 
@@ -25,12 +25,12 @@ valueHead b id (c ∷ r) = pick (eqb c 40) (Complex id (place b (c ∷ r))) (key
 -- "`=`, whitespace"; reason 5 "no `=`"
 abbrev pub equalHead : List ℕ → ℕ → List ℕ → Head
 equalHead b id [] = Bad 5
-equalHead b id (c ∷ r) = pick (eqb c 61) (valueHead b id (past white r)) (Bad 5)
+equalHead b id (c ∷ r) = pick (eqb c 61) (valueHead b id (pastGap r)) (Bad 5)
 
 -- "digits, whitespace": reason 3 "id above 4294967295", then reason 4 "no digits": r is what the digits follow
 abbrev pub idHead : List ℕ → List ℕ → Digits → Head
 idHead b r d =
-    pick (ltb 4294967295 (d .value)) (Bad 3) (pick (eqb (length (d .rest)) (length r)) (Bad 4) (equalHead b (d .value) (past white (d .rest))))
+    pick (ltb 4294967295 (d .value)) (Bad 3) (pick (eqb (length (d .rest)) (length r)) (Bad 4) (equalHead b (d .value) (pastGap (d .rest))))
 
 -- "`#`"; reason 2 "no `#`"
 abbrev pub hashHead : List ℕ → List ℕ → Head
@@ -48,4 +48,4 @@ namedHead b v (opened e o) = Simple 0 (place b v) (place b e) (place b o)
 
 -- a header record: a keyword and the first byte `(`
 unfoldable pub headerHead : List ℕ → Head
-headerHead b = namedHead b (past white b) (keyword (past white b))
+headerHead b = namedHead b (pastGap b) (keyword (pastGap b))

@@ -12,8 +12,8 @@ use lib.ListN.{length, take, drop, getD, length-drop, length-take, length-map}
 use lib.Seq.{take-all}
 use Rattle.common.specs.Pick.{pick}
 use Rattle.common.specs.Lists.{split, drop-end}
-use Rattle.lex.specs.Byte.{white, place, place-drop}
-use Rattle.record.specs.Text.{past, Digits, digits, numberFrom, Keyed, opened, unopened, keyword, trail}
+use Rattle.lex.specs.Byte.{place, place-drop}
+use Rattle.record.specs.Text.{pastGap, Digits, digits, numberFrom, Keyed, opened, unopened, keyword, trail}
 use Rattle.record.specs.Word.{same, upper, isWord, dataWord, opens, opensData, trimmed}
 use Rattle.record.specs.Turns.{same-lengths}
 use Rattle.record.specs.Head.{valueHead, equalHead, dataHead, headerHead, namedHead, keyedHead}
@@ -41,7 +41,7 @@ module _ (b : List ℕ) (id v : ℕ) (r : List ℕ) (e : drop v b ≡ r) where
   pub equal-other : v < length b → (getD b v 0 ≡ 61 → ⊥) → Bad 5 ≡ equalHead b id r
   equal-other h k = rw (← e, split b v h, ne-eqb _ _ k) refl
 
-  pub equal-found : v < length b → getD b v 0 ≡ 61 → valueHead b id (past white (drop (v + 1) b)) ≡ equalHead b id r
+  pub equal-found : v < length b → getD b v 0 ≡ 61 → valueHead b id (pastGap (drop (v + 1) b)) ≡ equalHead b id r
   equal-found h k = rw (← e, split b v h, eq-eqb _ _ k) refl
 
 -- a keyword that was found or not
@@ -53,12 +53,12 @@ pub keyed-found : (b : List ℕ) (id v e o : ℕ) (k : Keyed) → v ≤ length b
 keyed-found b id v e o k hv he ho q = rw (q, place-drop b v hv, place-drop b e he, place-drop b o ho) refl
 
 -- a header record without `(`
-pub named-absent : (b : List ℕ) (v : ℕ) → drop v b ≡ past white b → keyword (drop v b) ≡ unopened → Bad 1 ≡ headerHead b
+pub named-absent : (b : List ℕ) (v : ℕ) → drop v b ≡ pastGap b → keyword (drop v b) ≡ unopened → Bad 1 ≡ headerHead b
 unfolding headerHead
 named-absent b v p q = rw (← p, q) refl
 
 -- a header record's keyword, by its places
-pub named-found : (b : List ℕ) (v e o : ℕ) → drop v b ≡ past white b → v ≤ length b → e ≤ length b → o ≤ length b → keyword (drop v b) ≡ opened (drop e b) (drop o b) → Simple 0 v e o ≡ headerHead b
+pub named-found : (b : List ℕ) (v e o : ℕ) → drop v b ≡ pastGap b → v ≤ length b → e ≤ length b → o ≤ length b → keyword (drop v b) ≡ opened (drop e b) (drop o b) → Simple 0 v e o ≡ headerHead b
 unfolding headerHead
 named-found b v e o p hv he ho q = rw (← p, q, place-drop b v hv, place-drop b e he, place-drop b o ho) refl
 
@@ -94,11 +94,11 @@ module _ (b : List ℕ) (h : 0 < length b) where
       go [] k h q = absurd (omega arith)
       go (c ∷ r) k h q = rw (eq-eqb c 35 k, q, le-ltb _ _ m, eq-eqb (length r) (length r) refl) refl
 
-  pub data-value : (n p : ℕ) → getD b 0 0 ≡ 35 → numberFrom 0 (drop 1 b) ≡ digits n (drop p b) → n ≤ 4294967295 → 1 ≤ p → p ≤ length b → (p ≡ 1 → ⊥) → equalHead b n (past white (drop p b)) ≡ dataHead b
+  pub data-value : (n p : ℕ) → getD b 0 0 ≡ 35 → numberFrom 0 (drop 1 b) ≡ digits n (drop p b) → n ≤ 4294967295 → 1 ≤ p → p ≤ length b → (p ≡ 1 → ⊥) → equalHead b n (pastGap (drop p b)) ≡ dataHead b
   unfolding dataHead
   data-value n p k q m a z o = go b k h q z
     where
-      go : (l : List ℕ) → getD l 0 0 ≡ 35 → 0 < length l → numberFrom 0 (drop 1 l) ≡ digits n (drop p l) → p ≤ length l → equalHead l n (past white (drop p l)) ≡ dataHead l
+      go : (l : List ℕ) → getD l 0 0 ≡ 35 → 0 < length l → numberFrom 0 (drop 1 l) ≡ digits n (drop p l) → p ≤ length l → equalHead l n (pastGap (drop p l)) ≡ dataHead l
       go [] k h q z = absurd (omega arith)
       go (c ∷ r) k h q z =
           let f : length (drop p (c ∷ r)) ≡ length r → ⊥ = λ e. omega (arith, length-drop p (c ∷ r)) in
@@ -126,11 +126,11 @@ opens-other t e = go (ℕ-discrete (length t) 4)
     go (no h) = rw (data-short t h, sym e) refl
 
 -- one that begins so and goes on opens data where a `(` is next
-pub opens-after : (t : List ℕ) (p : ℕ) → true ≡ isWord (take 4 t) dataWord → 4 ≤ p → drop p t ≡ past white (drop 4 t) → p < length t → eqb (getD t p 0) 40 ≡ opensData t
+pub opens-after : (t : List ℕ) (p : ℕ) → true ≡ isWord (take 4 t) dataWord → 4 ≤ p → drop p t ≡ pastGap (drop 4 t) → p < length t → eqb (getD t p 0) 40 ≡ opensData t
 opens-after t p e h q k = rw (data-short t (omega arith), sym e, ← q, split t p k) refl
 
 -- one that begins so and has only whitespace after opens data where it is the word alone
-pub opens-alone : (t : List ℕ) (p : ℕ) → true ≡ isWord (take 4 t) dataWord → drop p t ≡ past white (drop 4 t) → length t ≤ p → eqb (length t) 4 ≡ opensData t
+pub opens-alone : (t : List ℕ) (p : ℕ) → true ≡ isWord (take 4 t) dataWord → drop p t ≡ pastGap (drop 4 t) → length t ≤ p → eqb (length t) 4 ≡ opensData t
 opens-alone t p e q k = go (ℕ-discrete (length t) 4)
   where
     none : drop p t ≡ []
@@ -144,7 +144,7 @@ opens-alone t p e q k = go (ℕ-discrete (length t) 4)
     go (no h) = rw (ne-eqb _ _ h, data-short t h, sym e, ← q, none) refl
 
 -- the trimmed text is the part from its first byte that is not white to the last
-pub trimmed-at : (b : List ℕ) (a e : ℕ) → drop a b ≡ past white b → drop e b ≡ trail (drop a b) → a ≤ e → e ≤ length b → take (e - a) (drop a b) ≡ trimmed b
+pub trimmed-at : (b : List ℕ) (a e : ℕ) → drop a b ≡ pastGap b → drop e b ≡ trail (drop a b) → a ≤ e → e ≤ length b → take (e - a) (drop a b) ≡ trimmed b
 trimmed-at b a e p q h k =
     let n : e - a ≡ length (drop a b) - length (drop e b) = omega (arith, length-drop a b, length-drop e b) in
     rw (← p, ← q) (ap (λ (m : ℕ). take m (drop a b)) n)

@@ -26,6 +26,10 @@ pastTurn p u c r = pick (p c) (on u) (stop (c ∷ r))
 unfoldable pub past : (ℕ → Bool) → List ℕ → List ℕ
 past p xs = walk (pastTurn p) (λ u. []) tt xs
 
+-- what is left past a gap, which is what may stand between tokens
+abbrev pub pastGap : List ℕ → List ℕ
+pastGap xs = past white xs
+
 -- a decimal digit
 abbrev pub digit : ℕ → Bool
 digit c = leb 48 c && leb c 57
@@ -56,7 +60,7 @@ pub data Keyed : Type 0 where
 abbrev pub keyTurn : List ℕ → ℕ → List ℕ → Turn (List ℕ) Keyed
 keyTurn e c r = pick (eqb c 40) (stop (opened e (c ∷ r))) (on (pick (white c) e r))
 
--- "a keyword and the first byte `(`": the keyword is what stands before the first `(`, trailing whitespace dropped
+-- "a keyword and the first byte `(`": the keyword is what stands before the first `(`, the gap at its end dropped
 unfoldable pub keyword : List ℕ → Keyed
 keyword xs = walk keyTurn (λ e. unopened) xs xs
 
@@ -64,7 +68,7 @@ keyword xs = walk keyTurn (λ e. unopened) xs xs
 abbrev pub trailTurn : List ℕ → ℕ → List ℕ → Turn (List ℕ) (List ℕ)
 trailTurn e c r = on (pick (white c) e r)
 
--- the rest after the last byte that is not white: the whitespace at the end
+-- the rest after the last byte that is not white: the gap at the end
 unfoldable pub trail : List ℕ → List ℕ
 trail xs = walk trailTurn (λ e. e) xs xs
 

@@ -7,8 +7,8 @@ use mathlib.Core.List.{List, [], _∷_}
 use lib.Dec.{eqb, ltb}
 use lib.ListN.{length}
 use Rattle.common.specs.Pick.{pick}
-use Rattle.lex.specs.Byte.{white, place, place-within}
-use Rattle.record.specs.Text.{past, Digits, numberFrom, Keyed, opened, unopened, keyword}
+use Rattle.lex.specs.Byte.{place-within}
+use Rattle.record.specs.Text.{pastGap, Digits, numberFrom, Keyed, opened, unopened, keyword}
 use Rattle.record.specs.Head.{keyedHead, valueHead, equalHead, idHead, hashHead, dataHead, namedHead, headerHead}
 use Rattle.record.specs.declared.Head.{Head}
 use Rattle.record.specs.declared.Head.the-variants.{Bad, Complex, Simple}
@@ -34,12 +34,12 @@ value-within b id (c ∷ r) = either (length b) (eqb c 40) _ _ (place-within b (
 
 equal-within : (b : List ℕ) (id : ℕ) (r : List ℕ) → HeadWithin (length b) (equalHead b id r)
 equal-within b id [] = tt
-equal-within b id (c ∷ r) = either (length b) (eqb c 61) _ _ (value-within b id (past white r)) tt
+equal-within b id (c ∷ r) = either (length b) (eqb c 61) _ _ (value-within b id (pastGap r)) tt
 
 id-within : (b r : List ℕ) (d : Digits) → HeadWithin (length b) (idHead b r d)
 id-within b r d =
     either (length b) (ltb 4294967295 (d .value)) _ _ tt
-    (either (length b) (eqb (length (d .rest)) (length r)) _ _ tt (equal-within b (d .value) (past white (d .rest))))
+    (either (length b) (eqb (length (d .rest)) (length r)) _ _ tt (equal-within b (d .value) (pastGap (d .rest))))
 
 hash-within : (b r : List ℕ) → HeadWithin (length b) (hashHead b r)
 hash-within b [] = tt
@@ -57,13 +57,13 @@ named-within b v (opened e o) = (place-within b v, place-within b e, place-withi
 -- the places of a header record's head lie in its text
 pub header-within : (b : List ℕ) → HeadWithin (length b) (headerHead b)
 unfolding headerHead
-header-within b = named-within b (past white b) (keyword (past white b))
+header-within b = named-within b (pastGap b) (keyword (pastGap b))
 
 -- no header record is complex
 pub header-simple : (b : List ℕ) (id o : ℕ) → headerHead b ≡ Complex id o → ⊥
 unfolding headerHead
-header-simple b id o = go (keyword (past white b))
+header-simple b id o = go (keyword (pastGap b))
   where
-    go : (k : Keyed) → namedHead b (past white b) k ≡ Complex id o → ⊥
+    go : (k : Keyed) → namedHead b (pastGap b) k ≡ Complex id o → ⊥
     go unopened e = let z : _≡_ {A = ℕ} 0 1 = cc in omega arith
     go (opened l m) e = let z : _≡_ {A = ℕ} 0 1 = cc in omega arith

@@ -6,8 +6,7 @@ use mathlib.Core.List.{List, [], _∷_, map}
 use lib.Dec.{eqb, leb}
 use lib.ListN.{take, drop}
 use Rattle.common.specs.Pick.{pick}
-use Rattle.lex.specs.Byte.{white}
-use Rattle.record.specs.Text.{before, past, trail}
+use Rattle.record.specs.Text.{before, pastGap, trail}
 use Rattle.record.specs.declared.Word.{Word}
 use Rattle.record.specs.declared.Word.the-variants.{Header, Data, EndSection, EndFile, Other}
 
@@ -24,7 +23,7 @@ same (a ∷ x) (b ∷ y) = eqb a b && same x y
 
 -- "Trimmed of whitespace"
 abbrev pub trimmed : List ℕ → List ℕ
-trimmed xs = before (past white xs) (trail (past white xs))
+trimmed xs = before (pastGap xs) (trail (pastGap xs))
 
 -- the text is this word, letters in either case
 abbrev pub isWord : List ℕ → List ℕ → Bool
@@ -57,7 +56,7 @@ endFile = 69 ∷ 78 ∷ 68 ∷ 45 ∷ marker
 
 -- "`DATA`, or `DATA`, whitespace or none, then `(`, opens data"
 abbrev pub opensData : List ℕ → Bool
-opensData t = isWord t dataWord || (isWord (take 4 t) dataWord && opens (past white (drop 4 t)))
+opensData t = isWord t dataWord || (isWord (take 4 t) dataWord && opens (pastGap (drop 4 t)))
 
 -- "`HEADER` opens the header; [..] opens data; `ENDSEC` leaves the section; `END-ISO-10303-21` ends the reading"
 abbrev pub wordIn : List ℕ → Word

@@ -10,8 +10,9 @@ use Rattle.error.specs.Refusal.{Refusal, refusal, Told, good, bad}
 use Rattle.lex.specs.Byte.{white, place}
 use Rattle.record.specs.Text.{past}
 use Rattle.record.specs.Word.{same, marker}
-use Rattle.statement.specs.Row.{Row, HeaderRow, mapped}
-use Rattle.statement.specs.Statement.{Stmt, ends, refused, moved, header, record′, statement}
+use Rattle.statement.specs.Rows.{Row, HeaderRow, Stmt, ends, refused, moved, header, record′, RowKind, header-kind, data-kind, RowOf}
+use Rattle.statement.specs.Row.{mapped}
+use Rattle.statement.specs.Statement.{statement}
 use Rattle.statement.specs.declared.Section.{Section}
 use Rattle.statement.specs.declared.Section.the-variants.{Outside, InHeader, InData}
 
@@ -31,6 +32,11 @@ withHeader w t = table (w ∷ t .headers) (t .records)
 -- a data row likewise
 abbrev pub withRecord : Row → Table → Table
 withRecord w t = table (t .headers) (w ∷ t .records)
+
+-- a row of this kind likewise
+abbrev pub withRow : (k : RowKind) → RowOf k → Table → Table
+withRow header-kind w t = withHeader w t
+withRow data-kind w t = withRecord w t
 
 -- "8 is given exactly when a record has been read whole and the lent rows of its kind [..] are already used up": so many are
 -- used of so many; 8 stands at the record's start

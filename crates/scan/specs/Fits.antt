@@ -3,13 +3,14 @@
 use Prim.Native.Nat.{ℕ, zero, suc, _+_, _≤_}
 use mathlib.Core.Bool.{Bool, true, false}
 use mathlib.Core.List.{List, [], _∷_}
+use mathlib.Core.Option.{Option}
 use native.Mathlib.Omega.{arith}
 use lib.Dec.{ltb}
 use lib.ListN.{length, drop}
 use Rattle.common.specs.Pick.{pick}
 use Rattle.error.specs.Refusal.{Refusal, refusal, Told, good, bad}
 use Rattle.lex.specs.Byte.{place, place-within}
-use Rattle.lex.specs.Search.{Sought, at, fault, trivia, recordEnd, closing, placed}
+use Rattle.lex.specs.Search.{Sought, at, fault, trivia, recordEnd, placed}
 use Rattle.record.specs.Text.{before}
 use Rattle.record.specs.Word.{wordOf}
 use Rattle.record.specs.Head.{dataHead, headerHead}
@@ -17,8 +18,9 @@ use Rattle.record.specs.declared.Word.{Word}
 use Rattle.record.specs.declared.Word.the-variants.{Header, Data, EndSection, EndFile, Other}
 use Rattle.record.specs.declared.Head.{Head}
 use Rattle.record.specs.declared.Head.the-variants.{Bad, Complex, Simple}
-use Rattle.statement.specs.Row.{Row, HeaderRow, mapped, recordBy, recordOf, headerBy, headerOf}
-use Rattle.statement.specs.Statement.{Stmt, ends, refused, moved, header, record′, headed, recorded, inSection, worded, ended, begun, led, statement}
+use Rattle.statement.specs.Rows.{Row, HeaderRow, Stmt, ends, refused, moved, header, record′, bound}
+use Rattle.statement.specs.Row.{mapped, sought, recordBy, recordOf, headerBy, headerOf}
+use Rattle.statement.specs.Statement.{headed, recorded, inSection, worded, ended, begun, led, statement}
 use Rattle.statement.specs.declared.Section.{Section}
 use Rattle.statement.specs.declared.Section.the-variants.{Outside, InHeader, InData}
 use Rattle.scan.specs.File.{Table, table, withHeader, withRecord, roomed, taken, readFrom, readingOf, marked, scanOf}
@@ -66,10 +68,10 @@ module _ (s : List ℕ) where
   argued-fits F f h (at r) = h (place s r) (place-within s r)
   argued-fits F f h (fault n r) = place-within s r
 
-  header-by : (ys : List ℕ) (h : Head) → ToldFits (length s) (HeaderFits (length s)) (headerBy s ys h)
-  header-by ys (Bad why) = place-within s ys
-  header-by ys (Complex i o) = place-within s ys
-  header-by ys (Simple i a z o) =
+  header-by : (b : Option (List ℕ)) (ys : List ℕ) (h : Head) → ToldFits (length s) (HeaderFits (length s)) (headerBy b s ys h)
+  header-by b ys (Bad why) = place-within s ys
+  header-by b ys (Complex i o) = place-within s ys
+  header-by b ys (Simple i a z o) =
       argued-fits (HeaderFits (length s)) _
       (λ q k.
       record {
@@ -78,15 +80,15 @@ module _ (s : List ℕ) where
         argStart = place-within s (drop (o + 1) ys);
         argEnd = k;
       })
-      (closing (drop o ys))
+      (sought b (drop o ys))
 
-  record-by : (ys : List ℕ) (h : Head) → ToldFits (length s) (RecordFits (length s)) (recordBy s ys h)
-  record-by ys (Bad why) = place-within s ys
-  record-by ys (Complex i o) =
+  record-by : (b : Option (List ℕ)) (ys : List ℕ) (h : Head) → ToldFits (length s) (RecordFits (length s)) (recordBy b s ys h)
+  record-by b ys (Bad why) = place-within s ys
+  record-by b ys (Complex i o) =
       argued-fits (RecordFits (length s)) _
       (λ q k. record { keyStart = omega arith; keyEnd = omega arith; argStart = place-within s (drop (o + 1) ys); argEnd = k })
-      (closing (drop o ys))
-  record-by ys (Simple i a z o) =
+      (sought b (drop o ys))
+  record-by b ys (Simple i a z o) =
       argued-fits (RecordFits (length s)) _
       (λ q k.
       record {
@@ -95,7 +97,7 @@ module _ (s : List ℕ) where
         argStart = place-within s (drop (o + 1) ys);
         argEnd = k;
       })
-      (closing (drop o ys))
+      (sought b (drop o ys))
 
   headed-fits : (ys r : List ℕ) (x : Told HeaderRow) → ToldFits (length s) (HeaderFits (length s)) x → StmtFits (length s) (headed ys r x)
   headed-fits ys r (good w) h = h
@@ -108,8 +110,8 @@ module _ (s : List ℕ) where
   section-fits : (ys e : List ℕ) (sec : Section) → StmtFits (length s) (inSection s ys e sec)
   unfolding headerOf recordOf
   section-fits ys e Outside = tt
-  section-fits ys e InHeader = headed-fits ys (drop 1 e) (headerOf s ys (before ys e)) (header-by ys (headerHead (before ys e)))
-  section-fits ys e InData = recorded-fits ys (drop 1 e) (recordOf s ys (before ys e)) (record-by ys (dataHead (before ys e)))
+  section-fits ys e InHeader = headed-fits ys (drop 1 e) (headerOf s ys (before ys e)) (header-by (bound ys (before ys e)) ys (headerHead (before ys e)))
+  section-fits ys e InData = recorded-fits ys (drop 1 e) (recordOf s ys (before ys e)) (record-by (bound ys (before ys e)) ys (dataHead (before ys e)))
 
   worded-fits : (ys e : List ℕ) (sec : Section) (w : Word) → StmtFits (length s) (worded s ys e sec w)
   worded-fits ys e sec EndSection = tt

@@ -1,7 +1,7 @@
--- Document 01, 'Reading the file' and 'Refusal numbers' 1 to 8: what the answer for a whole file is, as rules that name no loop
--- and no search. A rule speaks of rests of the file s: xs is what is left to read, ys the file from a record's start, o the file
--- from a fault; `place s o` is where the rest o begins. The bytes `(` `)` `;` are 40, 41 and 59. A fault's number and place are
--- quoted from the table of refusal numbers.
+-- Document 01, 'Reading the file' and 'Refusal numbers' 1, 2 and 8: what the answer for a whole file is, as rules that name no loop
+-- and no search, over what its statements say (`StatementForm` of statement). A rule speaks of rests of the file s: xs is what is
+-- left to read, ys the file from a record's start; `place s ys` is where the rest ys begins. A fault's number and place are quoted
+-- from the table of refusal numbers.
 -- FormRight.antt shows that File.antt computes just this, and that there is no other answer.
 -- Assumes nothing.
 use Prim.Native.Nat.{ℕ, _+_, _≤_, _<_}
@@ -10,127 +10,54 @@ use mathlib.Core.List.{List, [], _∷_, _++_}
 use lib.ListN.{length}
 use Rattle.error.specs.Refusal.{Refusal, refusal, Told, good, bad}
 use Rattle.lex.specs.Byte.{white, place}
-use Rattle.lex.specs.Grammar.{Led, Trivia, Runs, Ends, Closes, Deep, OpenText, OpenRemark}
-use Rattle.record.specs.Form.{All, bytes, WordForm, HeadForm, HeaderForm}
-use Rattle.record.specs.declared.Word.the-variants.{Header, Data, EndSection, EndFile, Other}
-use Rattle.record.specs.declared.Head.the-variants.{Bad, Complex, Simple}
-use Rattle.statement.specs.Row.{Row, row, HeaderRow, headerRow, mapped}
-use Rattle.statement.specs.Statement.{Stmt, ends, refused, moved, header, record′}
+use Rattle.record.specs.Form.{All, bytes}
+use Rattle.statement.specs.Rows.{ends, refused, moved, RowKind, header-kind, data-kind, RowOf, rowed, sectionOf}
+use Rattle.statement.specs.Row.{mapped}
+use Rattle.statement.specs.Form.{StatementForm}
 use Rattle.statement.specs.declared.Section.{Section}
-use Rattle.statement.specs.declared.Section.the-variants.{Outside, InHeader, InData}
-use Rattle.scan.specs.File.{Table, table, withHeader, withRecord}
+use Rattle.statement.specs.declared.Section.the-variants.{Outside}
+use Rattle.scan.specs.File.{Table, table, withRow}
 
--- zs is what is left of ys after n bytes
-abbrev pub After : ℕ → List ℕ → List ℕ → Type 0
-After n ys zs = (b : List ℕ) × (ys ≡ b ++ zs) × (length b ≡ n)
+-- rows counted by kind
+pub record Counts : Type 0 where
+  pub headers : ℕ
+  pub records : ℕ
 
--- the arguments of a record of the file s, where t follows their `(`: the place of their `)`, or a refusal
-pub data Argued (s t : List ℕ) : Told ℕ → Type 0 where
-  -- "The closing `)` is sought outside strings and comments through the whole file, even past the record's `;`."
-  closed : {r : List ℕ} → Closes t r → Argued s t (good (place s (41 ∷ r)))
-  -- "Faults met on the way are given at once": "4 string open, its first quote"
-  text-open : {d : ℕ} {o : List ℕ} → Deep d t o → OpenText o → Argued s t (bad (refusal 4 0 (place s o)))
-  -- "3 comment open, its `/`"
-  remark-open : {d : ℕ} {o : List ℕ} → Deep d t o → OpenRemark o → Argued s t (bad (refusal 3 0 (place s o)))
-  -- "6 parenthesis open, its `(`"
-  unclosed : {d : ℕ} → Deep d t [] → Argued s t (bad (refusal 6 0 (place s (40 ∷ t))))
+-- such counts by their numbers
+abbrev pub counts : ℕ → ℕ → Counts
+counts h r = record { headers = h; records = r }
 
--- "A row holds id, keyword start and end (0, 0 if complex), argument start and end, complex 0 or 1": the row of the data record
--- of the file s that starts with ys and has this text, or its refusal
-pub data DataForm (s ys body : List ℕ) : Told Row → Type 0 where
-  -- "7 bad record, with reason, its start"
-  bad-record : {why : ℕ} → HeadForm body (Bad why) → DataForm s ys body (bad (refusal 7 why (place s ys)))
-  -- "then `(` for a complex record": t follows the `(`
-  complex : {i o e : ℕ} {t : List ℕ} → HeadForm body (Complex i o) → After o ys (40 ∷ t) → Argued s t (good e)
-      → DataForm s ys body (good (row i 0 0 (place s t) e 1))
-  -- "Faults met on the way are given at once.": a fault in a complex record's arguments
-  complex-refused : {i o : ℕ} {t : List ℕ} {q : Refusal} → HeadForm body (Complex i o) → After o ys (40 ∷ t) → Argued s t (bad q)
-      → DataForm s ys body (bad q)
-  -- "else a keyword and the first byte `(`": the keyword is what stands between the rests k and l, and t follows the `(`
-  simple : {i a z o e : ℕ} {k l t : List ℕ} → HeadForm body (Simple i a z o) → After a ys k → After z ys l → After o ys (40 ∷ t)
-      → Argued s t (good e) → DataForm s ys body (good (row i (place s k) (place s l) (place s t) e 0))
-  -- "Faults met on the way are given at once.": a fault in its arguments
-  simple-refused : {i a z o : ℕ} {t : List ℕ} {q : Refusal} → HeadForm body (Simple i a z o) → After o ys (40 ∷ t) → Argued s t (bad q)
-      → DataForm s ys body (bad q)
+-- how many there are of a kind
+abbrev pub of : RowKind → Counts → ℕ
+of header-kind n = n .headers
+of data-kind n = n .records
 
--- the row of the header record that starts with ys and has this text: "keyword start and end [..], argument start and end"; or its
--- refusal
-pub data HeaderRecordForm (s ys body : List ℕ) : Told HeaderRow → Type 0 where
-  -- "7 bad record, with reason, its start": reason "1 header record without `(`"
-  bad-record : {why : ℕ} → HeaderForm body (Bad why) → HeaderRecordForm s ys body (bad (refusal 7 why (place s ys)))
-  -- a keyword, which stands between the rests k and l, and the first byte `(`, which t follows
-  named : {i a z o e : ℕ} {k l t : List ℕ} → HeaderForm body (Simple i a z o) → After a ys k → After z ys l → After o ys (40 ∷ t)
-      → Argued s t (good e) → HeaderRecordForm s ys body (good (headerRow (place s k) (place s l) (place s t) e))
-  -- "Faults met on the way are given at once.": a fault in its arguments
-  named-refused : {i a z o : ℕ} {t : List ℕ} {q : Refusal} → HeaderForm body (Simple i a z o) → After o ys (40 ∷ t) → Argued s t (bad q)
-      → HeaderRecordForm s ys body (bad q)
+-- one more of a kind
+abbrev pub more : RowKind → Counts → Counts
+more header-kind n = counts (n .headers + 1) (n .records)
+more data-kind n = counts (n .headers) (n .records + 1)
 
--- "A record starts at the first non-trivia byte and ends at the first `;` outside strings and comments": after trivia of xs a
--- record starts with ys, its text is body, and t follows its `;`
-pub record Record (xs ys body t : List ℕ) : Type 0 where
-  pub starts : Led xs ys
-  pub finishes : Ends ys t
-  pub text : ys ≡ body ++ (59 ∷ t)
-
--- what the next statement of the file s says, from the rest xs on in this section
-pub data StatementForm (s : List ℕ) : Section → List ℕ → Stmt → Type 0 where
-  -- "A record starts at the first non-trivia byte": there is none, and the file ends
-  over : {sec : Section} {xs : List ℕ} → Led xs [] → StatementForm s sec xs ends
-  -- "3 comment open, its `/`", before a record
-  trivia-open : {sec : Section} {xs o : List ℕ} → Trivia xs o → OpenRemark o → StatementForm s sec xs (refused (refusal 3 0 (place s o)))
-  -- "5 record without `;`, its start"
-  endless : {sec : Section} {xs ys : List ℕ} → Led xs ys → (ys ≡ [] → ⊥) → Runs ys []
-      → StatementForm s sec xs (refused (refusal 5 0 (place s ys)))
-  -- "4 string open, its first quote", on the way to the `;`
-  text-open : {sec : Section} {xs ys o : List ℕ} → Led xs ys → Runs ys o → OpenText o → StatementForm s sec xs (refused (refusal 4 0 (place s o)))
-  -- "3 comment open, its `/`", on the way to the `;`
-  remark-open : {sec : Section} {xs ys o : List ℕ} → Led xs ys → Runs ys o → OpenRemark o
-      → StatementForm s sec xs (refused (refusal 3 0 (place s o)))
-  -- "`HEADER` opens the header"
-  heads : {sec : Section} {xs ys body t : List ℕ} → Record xs ys body t → WordForm body Header → StatementForm s sec xs (moved InHeader t)
-  -- "`DATA`, or `DATA`, whitespace or none, then `(`, opens data"
-  opens : {sec : Section} {xs ys body t : List ℕ} → Record xs ys body t → WordForm body Data → StatementForm s sec xs (moved InData t)
-  -- "`ENDSEC` leaves the section"
-  leaves : {sec : Section} {xs ys body t : List ℕ} → Record xs ys body t → WordForm body EndSection → StatementForm s sec xs (moved Outside t)
-  -- "`END-ISO-10303-21` ends the reading"
-  closes : {sec : Section} {xs ys body t : List ℕ} → Record xs ys body t → WordForm body EndFile → StatementForm s sec xs ends
-  -- "Records elsewhere are ignored."
-  ignored : {xs ys body t : List ℕ} → Record xs ys body t → WordForm body Other → StatementForm s Outside xs (moved Outside t)
-  -- a header record, and its row
-  header-row : {xs ys body t : List ℕ} {w : HeaderRow} → Record xs ys body t → WordForm body Other → HeaderRecordForm s ys body (good w)
-      → StatementForm s InHeader xs (header w ys t)
-  -- a header record that is refused: "the first fault is given"
-  header-refused : {xs ys body t : List ℕ} {q : Refusal} → Record xs ys body t → WordForm body Other → HeaderRecordForm s ys body (bad q)
-      → StatementForm s InHeader xs (refused q)
-  -- "Data: `#`, digits, ..": a data record, and its row
-  data-row : {xs ys body t : List ℕ} {w : Row} → Record xs ys body t → WordForm body Other → DataForm s ys body (good w)
-      → StatementForm s InData xs (record′ w ys t)
-  -- a data record that is refused: "the first fault is given"
-  data-refused : {xs ys body t : List ℕ} {q : Refusal} → Record xs ys body t → WordForm body Other → DataForm s ys body (bad q)
-      → StatementForm s InData xs (refused q)
+-- of no kind more than there are lent
+abbrev pub Within : Counts → Counts → Type 0
+Within n lent = (k : RowKind) → of k n ≤ of k lent
 
 -- "then the file is read in order and the first fault is given": the answer from the rest xs of the file s on, in this section,
--- with H header rows and R data rows lent ("or id slots, one a record": the lesser of both), and h and r of them used
-pub data Reads (s : List ℕ) (H R : ℕ) : Section → ℕ → ℕ → List ℕ → Told Table → Type 0 where
+-- with so many rows of each kind lent ("or id slots, one a record": the lesser of both), and n of them used
+pub data Reads (s : List ℕ) (lent : Counts) : Section → Counts → List ℕ → Told Table → Type 0 where
   -- the reading ends, and no row is left to come
-  over : {sec : Section} {h r : ℕ} {xs : List ℕ} → StatementForm s sec xs ends → Reads s H R sec h r xs (good (table [] []))
+  over : {sec : Section} {n : Counts} {xs : List ℕ} → StatementForm s sec xs ends → Reads s lent sec n xs (good (table [] []))
   -- "the first fault is given"
-  fault : {sec : Section} {h r : ℕ} {xs : List ℕ} {q : Refusal} → StatementForm s sec xs (refused q) → Reads s H R sec h r xs (bad q)
+  fault : {sec : Section} {n : Counts} {xs : List ℕ} {q : Refusal} → StatementForm s sec xs (refused q) → Reads s lent sec n xs (bad q)
   -- a section word, or a record that is ignored
-  on : {sec to : Section} {h r : ℕ} {xs t : List ℕ} {a : Told Table} → StatementForm s sec xs (moved to t) → Reads s H R to h r t a
-      → Reads s H R sec h r xs a
-  -- a header record: its row comes before those of the rest of the file
-  header-row : {sec : Section} {h r : ℕ} {xs ys t : List ℕ} {w : HeaderRow} {a : Told Table} → StatementForm s sec xs (header w ys t) → h < H
-      → Reads s H R InHeader (h + 1) r t a → Reads s H R sec h r xs (mapped (withHeader w) a)
-  -- "8 is given exactly when a record has been read whole and the lent rows of its kind [..] are already used up", "record start"
-  header-full : {sec : Section} {h r : ℕ} {xs ys t : List ℕ} {w : HeaderRow} → StatementForm s sec xs (header w ys t) → H ≤ h
-      → Reads s H R sec h r xs (bad (refusal 8 0 (place s ys)))
-  -- a data record: its row comes before those of the rest of the file
-  data-row : {sec : Section} {h r : ℕ} {xs ys t : List ℕ} {w : Row} {a : Told Table} → StatementForm s sec xs (record′ w ys t) → r < R
-      → Reads s H R InData h (r + 1) t a → Reads s H R sec h r xs (mapped (withRecord w) a)
-  -- "8 [..] the lent rows of its kind (or id slots, one a record) are already used up", "record start"
-  data-full : {sec : Section} {h r : ℕ} {xs ys t : List ℕ} {w : Row} → StatementForm s sec xs (record′ w ys t) → R ≤ r
-      → Reads s H R sec h r xs (bad (refusal 8 0 (place s ys)))
+  on : {sec to : Section} {n : Counts} {xs t : List ℕ} {a : Told Table} → StatementForm s sec xs (moved to t) → Reads s lent to n t a
+      → Reads s lent sec n xs a
+  -- a record that gives a row: its row comes before those of the rest of the file
+  row : {sec : Section} {n : Counts} {xs t : List ℕ} {a : Told Table} (k : RowKind) (w : RowOf k) (ys : List ℕ)
+      → StatementForm s sec xs (rowed k w ys t) → of k n < of k lent → Reads s lent (sectionOf k) (more k n) t a → Reads s lent sec n xs (mapped (withRow k w) a)
+  -- "8 is given exactly when a record has been read whole and the lent rows of its kind (or id slots, one a record) are already used
+  -- up", "record start"
+  full : {sec : Section} {n : Counts} {xs : List ℕ} (k : RowKind) (w : RowOf k) (ys t : List ℕ) → StatementForm s sec xs (rowed k w ys t)
+      → of k lent ≤ of k n → Reads s lent sec n xs (bad (refusal 8 0 (place s ys)))
 
 -- "The marker is `ISO-10303-21` after an optional EF BB BF and whitespace only."
 pub data Marked : List ℕ → Type 0 where
@@ -139,34 +66,28 @@ pub data Marked : List ℕ → Type 0 where
   -- EF BB BF and whitespace only
   mark : (w r : List ℕ) → All white w → Marked (239 ∷ 187 ∷ 191 ∷ (w ++ (bytes "ISO-10303-21" ++ r)))
 
--- the answer for the file s, with H header rows and R data rows lent
-pub data Scans (s : List ℕ) (H R : ℕ) : Told Table → Type 0 where
+-- the answer for the file s, with so many rows of each kind lent
+pub data Scans (s : List ℕ) (lent : Counts) : Told Table → Type 0 where
   -- "2 file too long, 0", "2 is tested before 1"
-  long : 4294967295 < length s → Scans s H R (bad (refusal 2 0 0))
+  long : 4294967295 < length s → Scans s lent (bad (refusal 2 0 0))
   -- "1 no Part 21 marker, 0"
-  unmarked : length s ≤ 4294967295 → (Marked s → ⊥) → Scans s H R (bad (refusal 1 0 0))
+  unmarked : length s ≤ 4294967295 → (Marked s → ⊥) → Scans s lent (bad (refusal 1 0 0))
   -- "then the file is read in order": from its first byte on, outside of every section, with no row used
-  read : {a : Told Table} → length s ≤ 4294967295 → Marked s → Reads s H R Outside 0 0 s a → Scans s H R a
+  read : {a : Told Table} → length s ≤ 4294967295 → Marked s → Reads s lent Outside (counts 0 0) s a → Scans s lent a
 
--- the file s, read in order, comes to the rest xs in this section, and so many header rows and data rows have been read by then
-pub data Reached (s : List ℕ) : Section → List ℕ → ℕ → ℕ → Type 0 where
+-- the file s, read in order, comes to the rest xs in this section, and so many rows of each kind have been read by then
+pub data Reached (s : List ℕ) : Section → List ℕ → Counts → Type 0 where
   -- at first, outside of every section, none
-  start : Reached s Outside s 0 0
+  start : Reached s Outside s (counts 0 0)
   -- a section word, or a record that is ignored
-  on : {sec to : Section} {xs t : List ℕ} {h r : ℕ} → Reached s sec xs h r → StatementForm s sec xs (moved to t) → Reached s to t h r
-  -- a header record, read whole: one header row more
-  header-row : {sec : Section} {xs ys t : List ℕ} {h r : ℕ} {w : HeaderRow} → Reached s sec xs h r → StatementForm s sec xs (header w ys t)
-      → Reached s InHeader t (h + 1) r
-  -- a data record, read whole: one data row more
-  data-row : {sec : Section} {xs ys t : List ℕ} {h r : ℕ} {w : Row} → Reached s sec xs h r → StatementForm s sec xs (record′ w ys t)
-      → Reached s InData t h (r + 1)
+  on : {sec to : Section} {xs t : List ℕ} {n : Counts} → Reached s sec xs n → StatementForm s sec xs (moved to t) → Reached s to t n
+  -- a record that gives a row, read whole: one row of its kind more
+  row : {sec : Section} {xs t : List ℕ} {n : Counts} (k : RowKind) (w : RowOf k) (ys : List ℕ) → Reached s sec xs n
+      → StatementForm s sec xs (rowed k w ys t) → Reached s (sectionOf k) t (more k n)
 
 -- "8 is given exactly when a record has been read whole and the lent rows of its kind [..] are already used up": as many rows of
--- the kind as are lent, and no more of the other kind, have been read when one more record, which starts with ys, is read whole
-pub data Full (s : List ℕ) (H R : ℕ) : Refusal → Type 0 where
-  -- one header record too many
-  headers : {sec : Section} {xs ys t : List ℕ} {r : ℕ} {w : HeaderRow} → Reached s sec xs H r → r ≤ R → StatementForm s sec xs (header w ys t)
-      → Full s H R (refusal 8 0 (place s ys))
-  -- one data record too many
-  records : {sec : Section} {xs ys t : List ℕ} {h : ℕ} {w : Row} → Reached s sec xs h R → h ≤ H → StatementForm s sec xs (record′ w ys t)
-      → Full s H R (refusal 8 0 (place s ys))
+-- the kind as are lent, and of no kind more, have been read when one more record, which starts with ys, is read whole
+pub data Full (s : List ℕ) (lent : Counts) : Refusal → Type 0 where
+  -- one record of the kind k too many
+  full : {sec : Section} {xs : List ℕ} {n : Counts} (k : RowKind) (w : RowOf k) (ys t : List ℕ) → Reached s sec xs n → Within n lent
+      → of k n ≡ of k lent → StatementForm s sec xs (rowed k w ys t) → Full s lent (refusal 8 0 (place s ys))

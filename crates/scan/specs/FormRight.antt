@@ -17,63 +17,68 @@ use Rattle.record.specs.Word.{same, marker}
 use Rattle.record.specs.Form.{All}
 use Rattle.record.specs.FormRight.{past-only, past-is}
 use Rattle.record.specs.FormRight.Parts.{sole, first-other}
-use Rattle.statement.specs.Statement.{Stmt, ends, refused, moved, header, record′}
+use Rattle.statement.specs.Rows.{Stmt, ends, refused, moved, header, record′, RowKind, header-kind, data-kind, RowOf, rowed, sectionOf}
+use Rattle.statement.specs.FormRight.{Between, Stated, statement-comes, statement-only, moved-shorter, header-shorter, data-shorter}
 use Rattle.statement.specs.declared.Section.{Section}
 use Rattle.statement.specs.declared.Section.the-variants.{Outside, InHeader, InData}
 use Rattle.scan.specs.File.{Table, taken, readFrom, mark, marked, scanOf}
-use Rattle.scan.specs.Form.{StatementForm, Reads, Marked, Scans, Full}
-pub mod Statements
+use Rattle.statement.specs.Form.{StatementForm}
+use Rattle.scan.specs.Form.{Counts, counts, of, more, Reads, Marked, Scans, Full}
 pub mod Numbers
-use Numbers.{Between, scans-bad, full-reads}
-use Statements.{Stated, statement-comes, statement-only, moved-shorter, header-shorter, data-shorter}
+use Numbers.{scans-bad, full-reads}
 
-module _ (s : List ℕ) (H R : ℕ) where
+-- the reading of File.antt, with so many rows of each kind lent and used
+abbrev pub readBy : ℕ → List ℕ → Counts → Section → Counts → List ℕ → Told Table
+readBy k s lent sec n xs = readFrom k s (lent .headers) (lent .records) sec (n .headers) (n .records) xs
+
+module _ (s : List ℕ) (lent : Counts) where
   -- one turn of the computed reading, by the statement's form
-  turn : (h r k : ℕ) {sec : Section} {xs : List ℕ} {x : Stmt} → length xs < k → StatementForm s sec xs x
-      → readFrom k s H R sec h r xs ≡ taken s H R h r x (λ sec h r t. readFrom (k - 1) s H R sec h r t)
+  turn : (n : Counts) (k : ℕ) {sec : Section} {xs : List ℕ} {x : Stmt} → length xs < k → StatementForm s sec xs x
+      → readBy k s lent sec n xs ≡ taken s (lent .headers) (lent .records) (n .headers) (n .records) x (λ sec h r t. readBy (k - 1) s lent sec (counts h r) t)
   unfolding readFrom
-  turn h r zero l f = absurd (omega arith)
-  turn h r (suc k) l f = let e : suc k - 1 ≡ k = omega arith in rw (statement-only f, e) refl
+  turn n zero l f = absurd (omega arith)
+  turn n (suc k) l f = let e : suc k - 1 ≡ k = omega arith in rw (statement-only f, e) refl
 
   -- "then the file is read in order and the first fault is given": the answer by the rules is the one that is computed, whatever
   -- the fuel, if it is enough
-  pub reads-only : {sec : Section} {h r : ℕ} {xs : List ℕ} {a : Told Table} → Reads s H R sec h r xs a
-      → (k : ℕ) → length xs < k → readFrom k s H R sec h r xs ≡ a
-  reads-only {h} {r} (Reads.over f) k l = turn h r k l f
-  reads-only {h} {r} (Reads.fault f) k l = turn h r k l f
-  reads-only {h} {r} (Reads.on f d) k l = let m = moved-shorter f in turn h r k l f ∙ reads-only d (k - 1) (omega arith)
-  reads-only {h} {r} (Reads.header-row f p d) k l =
-      let m = header-shorter f in turn h r k l f ∙ rw (lt-ltb h H p, reads-only d (k - 1) (omega arith)) refl
-  reads-only {h} {r} (Reads.header-full f p) k l = turn h r k l f ∙ rw (le-ltb h H p) refl
-  reads-only {h} {r} (Reads.data-row f p d) k l =
-      let m = data-shorter f in turn h r k l f ∙ rw (lt-ltb r R p, reads-only d (k - 1) (omega arith)) refl
-  reads-only {h} {r} (Reads.data-full f p) k l = turn h r k l f ∙ rw (le-ltb r R p) refl
+  pub reads-only : {sec : Section} {n : Counts} {xs : List ℕ} {a : Told Table} → Reads s lent sec n xs a
+      → (k : ℕ) → length xs < k → readBy k s lent sec n xs ≡ a
+  reads-only {n} (Reads.over f) k l = turn n k l f
+  reads-only {n} (Reads.fault f) k l = turn n k l f
+  reads-only {n} (Reads.on f d) k l = let m = moved-shorter f in turn n k l f ∙ reads-only d (k - 1) (omega arith)
+  reads-only {n} (Reads.row header-kind w ys f p d) k l =
+      let m = header-shorter f in turn n k l f ∙ rw (lt-ltb (n .headers) (lent .headers) p, reads-only d (k - 1) (omega arith)) refl
+  reads-only {n} (Reads.row data-kind w ys f p d) k l =
+      let m = data-shorter f in turn n k l f ∙ rw (lt-ltb (n .records) (lent .records) p, reads-only d (k - 1) (omega arith)) refl
+  reads-only {n} (Reads.full header-kind w ys t f p) k l = turn n k l f ∙ rw (le-ltb (n .headers) (lent .headers) p) refl
+  reads-only {n} (Reads.full data-kind w ys t f p) k l = turn n k l f ∙ rw (le-ltb (n .records) (lent .records) p) refl
 
   -- every rest of at most n bytes has an answer
-  reads-comes : (n : ℕ) (sec : Section) (h r : ℕ) (xs : List ℕ) → length xs < n → (a : Told Table) × Reads s H R sec h r xs a
-  reads-comes zero sec h r xs l = absurd (omega arith)
-  reads-comes (suc n) sec h r xs l =
-      go (statement-comes s sec xs) (decLe (suc h) H) (decLe (suc r) R) (λ sec h r t m. reads-comes n sec h r t (omega arith))
+  reads-comes : (k : ℕ) (sec : Section) (n : Counts) (xs : List ℕ) → length xs < k → (a : Told Table) × Reads s lent sec n xs a
+  reads-comes zero sec n xs l = absurd (omega arith)
+  reads-comes (suc k) sec n xs l = go (statement-comes s sec xs) (λ sec n t m. reads-comes k sec n t (omega arith))
     where
-      go : Stated s sec xs → Dec (h < H) → Dec (r < R)
-          → ((sec : Section) (h r : ℕ) (t : List ℕ) → length t < length xs → (a : Told Table) × Reads s H R sec h r t a)
-          → (a : Told Table) × Reads s H R sec h r xs a
-      go (ends, f) p q ih = (_, Reads.over f)
-      go (refused e, f) p q ih = (_, Reads.fault f)
-      go (moved to t, f) p q ih = let (a, d) = ih to h r t (moved-shorter f) in (a, Reads.on f d)
-      go (header w ys t, f) (yes p) q ih = let (a, d) = ih InHeader (h + 1) r t (header-shorter f) in (_, Reads.header-row f p d)
-      go (header w ys t, f) (no p) q ih = (_, Reads.header-full {h = h} f (omega arith))
-      go (record′ w ys t, f) p (yes q) ih = let (a, d) = ih InData h (r + 1) t (data-shorter f) in (_, Reads.data-row f q d)
-      go (record′ w ys t, f) p (no q) ih = (_, Reads.data-full {r = r} f (omega arith))
+      rows : (k : RowKind) (w : RowOf k) (ys t : List ℕ) → StatementForm s sec xs (rowed k w ys t) → Dec (of k n < of k lent)
+          → (a : Told Table) × Reads s lent (sectionOf k) (more k n) t a → (a : Told Table) × Reads s lent sec n xs a
+      rows k w ys t f (yes p) (a, d) = (_, Reads.row k w ys f p d)
+      rows k w ys t f (no p) d = (_, Reads.full {n = n} k w ys t f (omega arith))
+
+      go : Stated s sec xs → ((sec : Section) (n : Counts) (t : List ℕ) → length t < length xs → (a : Told Table) × Reads s lent sec n t a)
+          → (a : Told Table) × Reads s lent sec n xs a
+      go (ends, f) ih = (_, Reads.over f)
+      go (refused e, f) ih = (_, Reads.fault f)
+      go (moved to t, f) ih = let (a, d) = ih to n t (moved-shorter f) in (a, Reads.on f d)
+      go (header w ys t, f) ih = rows header-kind w ys t f (decLe _ _) (ih InHeader (more header-kind n) t (header-shorter f))
+      go (record′ w ys t, f) ih = rows data-kind w ys t f (decLe _ _) (ih InData (more data-kind n) t (data-shorter f))
 
   -- the answer that is computed, with enough fuel, is that by the rules
-  pub reads-is : (k : ℕ) (sec : Section) (h r : ℕ) (xs : List ℕ) → length xs < k → Reads s H R sec h r xs (readFrom k s H R sec h r xs)
-  reads-is k sec h r xs l = sole (Reads s H R sec h r xs) (λ a d. sym (reads-only d k l)) (reads-comes k sec h r xs l)
+  pub reads-is : (k : ℕ) (sec : Section) (n : Counts) (xs : List ℕ) → length xs < k → Reads s lent sec n xs (readBy k s lent sec n xs)
+  reads-is k sec n xs l = sole (Reads s lent sec n xs) (λ a d. sym (reads-only d k l)) (reads-comes k sec n xs l)
 
   -- fuel never matters: enough fuel gives the same answer
-  pub fuel-free : (j k : ℕ) (sec : Section) (h r : ℕ) (xs : List ℕ) → length xs < j → length xs < k
-      → readFrom j s H R sec h r xs ≡ readFrom k s H R sec h r xs
-  fuel-free j k sec h r xs l m = reads-only (reads-is k sec h r xs m) j l
+  pub fuel-free : (j k : ℕ) (sec : Section) (n : Counts) (xs : List ℕ) → length xs < j → length xs < k
+      → readBy j s lent sec n xs ≡ readBy k s lent sec n xs
+  fuel-free j k sec n xs l m = reads-only (reads-is k sec n xs m) j l
 
 -- a list that begins with w
 begins-is : (w s : List ℕ) → same (take (length w) s) w ≡ true → (r : List ℕ) × (s ≡ w ++ r)
@@ -125,27 +130,27 @@ fails false h = refl
 
 -- "2 is tested before 1; then the file is read in order and the first fault is given": the answer by the rules is the one that
 -- is computed
-pub scans-only : {s : List ℕ} {H R : ℕ} {a : Told Table} → Scans s H R a → a ≡ scanOf s H R
+pub scans-only : {s : List ℕ} {H R : ℕ} {a : Told Table} → Scans s (counts H R) a → a ≡ scanOf s H R
 unfolding scanOf
 scans-only (Scans.long h) = rw (lt-ltb _ _ h)
 scans-only {s} (Scans.unmarked h n) = rw (le-ltb _ _ h, fails (marked s) (λ e. n (marked-is s e)))
-scans-only {s} {H} {R} (Scans.read h m d) = rw (le-ltb _ _ h, marked-only m) (sym (reads-only s H R d (length s + 1) (omega arith)))
+scans-only {s} {H} {R} (Scans.read h m d) = rw (le-ltb _ _ h, marked-only m) (sym (reads-only s (counts H R) d (length s + 1) (omega arith)))
 
 -- every file has an answer
-scans-comes : (s : List ℕ) (H R : ℕ) → (a : Told Table) × Scans s H R a
+scans-comes : (s : List ℕ) (H R : ℕ) → (a : Told Table) × Scans s (counts H R) a
 scans-comes s H R = go (decLe (length s) 4294967295) (marked s) refl
   where
-    go : Dec (length s ≤ 4294967295) → (t : Bool) → marked s ≡ t → (a : Told Table) × Scans s H R a
+    go : Dec (length s ≤ 4294967295) → (t : Bool) → marked s ≡ t → (a : Told Table) × Scans s (counts H R) a
     go (no h) t e = (_, Scans.long (omega arith))
-    go (yes h) true e = (_, Scans.read h (marked-is s e) (reads-is s H R (length s + 1) Outside 0 0 s (omega arith)))
+    go (yes h) true e = (_, Scans.read h (marked-is s e) (reads-is s (counts H R) (length s + 1) Outside (counts 0 0) s (omega arith)))
     go (yes h) false e = (_, Scans.unmarked h (λ m. clash (cc (marked-only m))))
 
 -- the answer that is computed is that by the rules
-pub scans-is : (s : List ℕ) (H R : ℕ) → Scans s H R (scanOf s H R)
-scans-is s H R = sole (Scans s H R) (λ a. scans-only) (scans-comes s H R)
+pub scans-is : (s : List ℕ) (H R : ℕ) → Scans s (counts H R) (scanOf s H R)
+scans-is s H R = sole (Scans s (counts H R)) (λ a. scans-only) (scans-comes s H R)
 
 -- a file has at most one answer
-pub scans-one : {s : List ℕ} {H R : ℕ} {a b : Told Table} → Scans s H R a → Scans s H R b → a ≡ b
+pub scans-one : {s : List ℕ} {H R : ℕ} {a b : Told Table} → Scans s (counts H R) a → Scans s (counts H R) b → a ≡ b
 scans-one d e = scans-only d ∙ sym (scans-only e)
 
 -- what holds of each refusal by the rules holds of the one that is computed
@@ -159,9 +164,9 @@ module _ (s : List ℕ) (H R : ℕ) (q : Refusal) (e : scanOf s H R ≡ bad q) w
   scan-fueled z = omega (arith, scan-number)
 
   -- "8 is given exactly when a record has been read whole and the lent rows of its kind [..] are already used up": only then
-  pub scan-full-only : q .number ≡ 8 → Full s H R q
+  pub scan-full-only : q .number ≡ 8 → Full s (counts H R) q
   scan-full-only = scans-bad (rw e at (scans-is s H R)) .1
 
 -- and always then
-pub scan-full : (s : List ℕ) (H R : ℕ) (q : Refusal) → length s ≤ 4294967295 → Marked s → Full s H R q → scanOf s H R ≡ bad q
+pub scan-full : (s : List ℕ) (H R : ℕ) (q : Refusal) → length s ≤ 4294967295 → Marked s → Full s (counts H R) q → scanOf s H R ≡ bad q
 scan-full s H R q h m f = sym (scans-only (Scans.read h m (full-reads f)))

@@ -8,8 +8,8 @@ use native.Mathlib.Omega.{arith}
 use lib.ListN.{drop}
 use Rattle.common.specs.Compare.{clash}
 use Rattle.error.specs.Refusal.{Told, good, bad, told}
-use Rattle.statement.specs.Row.{Row, HeaderRow}
-use Rattle.statement.specs.Statement.{ends, moved, header, record′, statement}
+use Rattle.statement.specs.Rows.{Row, HeaderRow, ends, moved, header, record′}
+use Rattle.statement.specs.Statement.{statement}
 use Rattle.statement.specs.Tidy.{tidy}
 use Rattle.statement.specs.declared.Section.{Section}
 use Rattle.statement.specs.declared.Section.the-variants.{Outside, InHeader, InData}

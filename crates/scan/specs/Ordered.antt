@@ -7,11 +7,12 @@ use native.Mathlib.Omega.{arith}
 use lib.ListN.{length, length-append}
 use Rattle.error.specs.Refusal.{good}
 use Rattle.lex.specs.Byte.{place}
+use Rattle.lex.specs.Grammar.{Closes}
 use Rattle.record.specs.Ordered.{complex-id, simple-ordered, header-ordered}
-use Rattle.statement.specs.Row.{Row, HeaderRow}
+use Rattle.statement.specs.Rows.{Row, HeaderRow}
 use Rattle.scan.specs.File.{Table, scanOf}
 use Rattle.scan.specs.Fits.{Each}
-use Rattle.scan.specs.Form.{After, Argued, DataForm, HeaderRecordForm}
+use Rattle.statement.specs.Form.{After, ArguedTo, Argued, DataForm, HeaderRecordForm}
 use Rattle.scan.specs.Rests.{Rest, rest-of, rest-within, balanced-rest, after-rest, scan-tells}
 
 -- a header row of a file of n bytes
@@ -48,7 +49,7 @@ after-length (b, e, l) = omega (arith, simp length-append at (ap length e))
 
 -- the `)` is not before the arguments' start, and it is in the file
 argued-ordered : {s t : List ℕ} {e : ℕ} → Rest s (40 ∷ t) → Argued s t (good e) → (place s t ≤ e) × (e < length s)
-argued-ordered u (Argued.closed c) = omega (arith, rest-within u, rest-within (balanced-rest c))
+argued-ordered {t} u (ArguedTo.closed {r} e h) = let c : Closes t r = rw e h in omega (arith, rest-within u, rest-within (balanced-rest c))
 
 -- a header record's row is in order
 header-row-ordered : {s ys body : List ℕ} {w : HeaderRow} → Rest s ys → HeaderRecordForm s ys body (good w) → HeaderOrdered (length s) w

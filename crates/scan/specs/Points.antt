@@ -8,15 +8,14 @@ use lib.ListN.{length, drop, length-append, length-drop}
 use Rattle.error.specs.Refusal.{Refusal, refusal, Told, good, bad}
 use Rattle.lex.specs.Byte.{place}
 use Rattle.lex.specs.Grammar.{Begins, Opens, Led, Runs, Closes, Deep, OpenText, OpenRemark}
-use Rattle.statement.specs.Row.{Row, HeaderRow}
-use Rattle.statement.specs.Statement.{Stmt, ends, refused, moved, header, record′, statement}
+use Rattle.statement.specs.Rows.{Row, HeaderRow, Stmt, ends, refused, moved, header, record′}
+use Rattle.statement.specs.Statement.{statement}
 use Rattle.statement.specs.declared.Section.{Section}
 use Rattle.scan.specs.File.{Table, scanOf}
 use Rattle.scan.specs.Fits.{Each}
-use Rattle.scan.specs.Form.{Argued, DataForm, HeaderRecordForm, Record, StatementForm}
-use Rattle.scan.specs.FormRight.Statements.{statement-is}
-use Rattle.scan.specs.Rests.{Rest, rest-all, rest-on, rest-of, rest-place, trivia-rest, runs-rest, balanced-rest, deep-rest, after-rest}
-use Rattle.scan.specs.Rests.{record-rest, moved-rest, header-form, data-form, Tells, scan-tells}
+use Rattle.statement.specs.Form.{ArguedTo, Argued, DataForm, HeaderRecordForm, Record, StatementForm}
+use Rattle.statement.specs.FormRight.{statement-is}
+use Rattle.scan.specs.Rests.{Rest, rest-all, rest-on, rest-of, rest-place, trivia-rest, runs-rest, balanced-rest, deep-rest, after-rest, record-rest, moved-rest, header-form, data-form, Tells, scan-tells}
 
 -- the table of refusal numbers: what the file s is from the place of a refusal with this number on
 pub data Stands (s : List ℕ) : ℕ → List ℕ → Type 0 where
@@ -63,9 +62,9 @@ pointed n why u p = rw (rest-place u) p
 
 -- a refusal of a record's arguments
 argued-points : {s t : List ℕ} {q : Refusal} → Rest s (40 ∷ t) → Argued s t (bad q) → Pointed s q
-argued-points u (Argued.text-open d o) = pointed 4 0 (rest-of u (rest-on (deep-rest d))) (Stands.string o)
-argued-points u (Argued.remark-open d o) = pointed 3 0 (rest-of u (rest-on (deep-rest d))) (Stands.comment o)
-argued-points u (Argued.unclosed d) = pointed 6 0 u (Stands.paren d)
+argued-points {t} u (ArguedTo.text-open {d} {o} e h k) = let m : Deep d t o = rw e h in pointed 4 0 (rest-of u (rest-on (deep-rest m))) (Stands.string k)
+argued-points {t} u (ArguedTo.remark-open {d} {o} e h k) = let m : Deep d t o = rw e h in pointed 3 0 (rest-of u (rest-on (deep-rest m))) (Stands.comment k)
+argued-points {t} u (ArguedTo.unclosed {d} e h) = let m : Deep d t [] = rw e h in pointed 6 0 u (Stands.paren m)
 
 module _ {s xs ys body t : List ℕ} (u : Rest s xs) (d : Record xs ys body t) where
   -- a refusal of a header record
@@ -99,7 +98,8 @@ pub record Enclosed (s : List ℕ) (a e : ℕ) : Type 0 where
 
 -- the arguments of a record
 argued-encloses : {s t : List ℕ} {e : ℕ} → Rest s (40 ∷ t) → Argued s t (good e) → Enclosed s (place s t) e
-argued-encloses {s} {t} u (Argued.closed {r} c) =
+argued-encloses {s} {t} u (ArguedTo.closed {r} e h) =
+    let c : Closes t r = rw e h in
     let k : Rest s t = rest-of u (rest-on rest-all) in
     let p : drop (place s t) s ≡ t = rest-place k in
     record { after = r; opened = rw p u; closed = rw p c; ended = rest-place (rest-of k (balanced-rest c)) }

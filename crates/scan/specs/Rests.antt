@@ -9,12 +9,13 @@ use lib.Seq.{drop-at}
 use Rattle.error.specs.Refusal.{Refusal, refusal, Told, good, bad}
 use Rattle.lex.specs.Byte.{place}
 use Rattle.lex.specs.Grammar.{Comment, Quotation, Trivia, Runs, Balanced, Deep}
-use Rattle.statement.specs.Row.{Row, HeaderRow, mapped}
-use Rattle.statement.specs.Statement.{refused, moved, header, record′}
+use Rattle.statement.specs.Rows.{Row, HeaderRow, refused, moved, header, record′, header-kind, data-kind}
+use Rattle.statement.specs.Row.{mapped}
 use Rattle.statement.specs.declared.Section.{Section}
 use Rattle.scan.specs.File.{Table, withHeader, withRecord, scanOf}
 use Rattle.scan.specs.Fits.{Each}
-use Rattle.scan.specs.Form.{After, DataForm, HeaderRecordForm, Record, StatementForm, Reads, Scans, Reached}
+use Rattle.statement.specs.Form.{After, DataForm, HeaderRecordForm, Record, StatementForm}
+use Rattle.scan.specs.Form.{Counts, counts, Reads, Scans, Reached}
 use Rattle.scan.specs.FormRight.{scans-is}
 
 -- r is a rest of xs: some bytes, and then r
@@ -110,11 +111,11 @@ pub data-rest : {s : List ℕ} {sec : Section} {xs ys t : List ℕ} {w : Row} �
 data-rest f = record-rest (data-form f .1)
 
 -- what the reading comes to is a rest of the file
-pub reached-rest : {s : List ℕ} {sec : Section} {xs : List ℕ} {h r : ℕ} → Reached s sec xs h r → Rest s xs
+pub reached-rest : {s : List ℕ} {sec : Section} {xs : List ℕ} {n : Counts} → Reached s sec xs n → Rest s xs
 reached-rest Reached.start = rest-all
 reached-rest (Reached.on u f) = rest-of (reached-rest u) (moved-rest f)
-reached-rest (Reached.header-row u f) = let (a, b) = header-rest f in rest-of (reached-rest u) (rest-of a b)
-reached-rest (Reached.data-row u f) = let (a, b) = data-rest f in rest-of (reached-rest u) (rest-of a b)
+reached-rest (Reached.row header-kind w ys u f) = let (a, b) = header-rest f in rest-of (reached-rest u) (rest-of a b)
+reached-rest (Reached.row data-kind w ys u f) = let (a, b) = data-rest f in rest-of (reached-rest u) (rest-of a b)
 
 -- each header row of an answer is so, and each data row; or its refusal is
 abbrev pub Tells : (HeaderRow → Type 0) → (Row → Type 0) → (Refusal → Type 0) → Told Table → Type 0
@@ -138,26 +139,26 @@ module _ (s : List ℕ) (P : HeaderRow → Type 0) (Q : Row → Type 0) (B : Ref
 
   -- what holds of each record, of each refusal of a statement, and of 8 at each record's start, whatever rest of the file they
   -- are read from, holds of the answer from each rest on
-  reads-tell : {H R : ℕ} {sec : Section} {h r : ℕ} {xs : List ℕ} {a : Told Table} → Rest s xs → Reads s H R sec h r xs a → Tells P Q B a
+  reads-tell : {lent : Counts} {sec : Section} {n : Counts} {xs : List ℕ} {a : Told Table} → Rest s xs → Reads s lent sec n xs a → Tells P Q B a
   reads-tell u (Reads.over f) = (tt, tt)
   reads-tell u (Reads.fault f) = refusals _ _ _ u f
   reads-tell u (Reads.on f d) = reads-tell (rest-of u (moved-rest f)) d
-  reads-tell u (Reads.header-row {w} {a} f p d) =
+  reads-tell u (Reads.row {a} header-kind w ys f p d) =
       let (body, r, g) = header-form f in
       let (k, l) = record-rest r in
       with-header w a (headers _ body w (rest-of u k) g) (reads-tell (rest-of u (rest-of k l)) d)
-  reads-tell u (Reads.header-full f p) = full _ _ _ _ u (header-form f .1)
-  reads-tell u (Reads.data-row {w} {a} f p d) =
+  reads-tell u (Reads.full header-kind w ys t f p) = full _ _ _ _ u (header-form f .1)
+  reads-tell u (Reads.row {a} data-kind w ys f p d) =
       let (body, r, g) = data-form f in
       let (k, l) = record-rest r in
       with-record w a (records _ body w (rest-of u k) g) (reads-tell (rest-of u (rest-of k l)) d)
-  reads-tell u (Reads.data-full f p) = full _ _ _ _ u (data-form f .1)
+  reads-tell u (Reads.full data-kind w ys t f p) = full _ _ _ _ u (data-form f .1)
 
   -- and of the answer for the file, if it holds of the refusals 1 and 2 at its start
   pub scan-tells : B (refusal 1 0 0) → B (refusal 2 0 0) → (H R : ℕ) (a : Told Table) → scanOf s H R ≡ a → Tells P Q B a
   scan-tells b c H R a e = go (rw e at (scans-is s H R))
     where
-      go : {a : Told Table} → Scans s H R a → Tells P Q B a
+      go : {a : Told Table} → Scans s (counts H R) a → Tells P Q B a
       go (Scans.long h) = c
       go (Scans.unmarked h n) = b
       go (Scans.read h m d) = reads-tell rest-all d

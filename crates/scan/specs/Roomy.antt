@@ -5,13 +5,14 @@ use mathlib.Core.List.{List, [], _∷_}
 use native.Mathlib.Omega.{arith}
 use lib.ListN.{length}
 use Rattle.error.specs.Refusal.{Refusal, Told, good, bad}
+use Rattle.statement.specs.Rows.{header-kind, data-kind}
 use Rattle.statement.specs.Row.{mapped}
 use Rattle.statement.specs.declared.Section.{Section}
 use Rattle.scan.specs.File.{Table, withHeader, withRecord, scanOf}
 use Rattle.table.specs.Table.{rowsFit, headersFit}
 use Rattle.table.specs.Laid.{rows-laid-length, headers-laid-length}
 use Rattle.scan.specs.Table.{headerRoom, dataRoom, headersAfter, rowsAfter}
-use Rattle.scan.specs.Form.{Reads, Scans}
+use Rattle.scan.specs.Form.{counts, Reads, Scans}
 use Rattle.scan.specs.FormRight.{scans-is, scans-only}
 use Rattle.scan.specs.FormRight.Numbers.{IfBad}
 use Rattle.scan.specs.Rooms.{scan-fit}
@@ -27,17 +28,16 @@ roomy-tail f (bad q) h = h
 
 module _ (s : List ℕ) {H R : ℕ} (H' R' : ℕ) (k : H ≤ H') (l : R ≤ R') where
   -- what the rules answer from some rest on, other than 8, they answer in all rooms at least as large
-  reads-larger : {sec : Section} {h r : ℕ} {xs : List ℕ} {a : Told Table} → Reads s H R sec h r xs a → Roomy a → Reads s H' R' sec h r xs a
+  reads-larger : {sec : Section} {h r : ℕ} {xs : List ℕ} {a : Told Table} → Reads s (counts H R) sec (counts h r) xs a → Roomy a → Reads s (counts H' R') sec (counts h r) xs a
   reads-larger (Reads.over f) n = Reads.over f
   reads-larger (Reads.fault f) n = Reads.fault f
   reads-larger (Reads.on f d) n = Reads.on f (reads-larger d n)
-  reads-larger {h} (Reads.header-row {w} {a} f p d) n = Reads.header-row {h = h} f (omega arith) (reads-larger d (roomy-tail (withHeader w) a n))
-  reads-larger (Reads.header-full f p) n = absurd (n refl)
-  reads-larger {r} (Reads.data-row {w} {a} f p d) n = Reads.data-row {r = r} f (omega arith) (reads-larger d (roomy-tail (withRecord w) a n))
-  reads-larger (Reads.data-full f p) n = absurd (n refl)
+  reads-larger {h} {r} (Reads.row {a} header-kind w ys f p d) n = Reads.row {n = counts h r} header-kind w ys f (omega arith) (reads-larger d (roomy-tail (withHeader w) a n))
+  reads-larger {h} {r} (Reads.row {a} data-kind w ys f p d) n = Reads.row {n = counts h r} data-kind w ys f (omega arith) (reads-larger d (roomy-tail (withRecord w) a n))
+  reads-larger (Reads.full kind w ys t f p) n = absurd (n refl)
 
   -- and so for a whole file
-  scans-larger : {a : Told Table} → Scans s H R a → Roomy a → Scans s H' R' a
+  scans-larger : {a : Told Table} → Scans s (counts H R) a → Roomy a → Scans s (counts H' R') a
   scans-larger (Scans.long h) n = Scans.long h
   scans-larger (Scans.unmarked h m) n = Scans.unmarked h m
   scans-larger (Scans.read h m d) n = Scans.read h m (reads-larger d n)

@@ -8,8 +8,8 @@ use native.Mathlib.Omega.{arith}
 use lib.ListN.{length, drop}
 use Rattle.common.specs.Pick.{pick}
 use Rattle.common.specs.Compare.{clash}
-use Rattle.statement.specs.Row.{Row}
-use Rattle.statement.specs.Statement.{record′, statement}
+use Rattle.statement.specs.Rows.{Row, record′}
+use Rattle.statement.specs.Statement.{statement}
 use Rattle.statement.specs.Tidy.{tidy}
 use Rattle.statement.specs.declared.Section.the-variants.{InData}
 use Rattle.table.specs.Table.{rowsFit, rowPut}

@@ -8,7 +8,8 @@ use Rattle.common.specs.Compare.{clash}
 use Rattle.error.specs.Refusal.{Refusal, Told, good, bad, told}
 use Rattle.error.specs.declared.Fault.{Fault}
 use Rattle.table.specs.Table.{tableRows, rowNumbers}
-use Rattle.statement.specs.Row.{Row, mapped}
+use Rattle.statement.specs.Row.{mapped}
+use Rattle.statement.specs.Rows.{Row}
 use Rattle.params.specs.Reader.{onward}
 use Rattle.scan.specs.File.{Table}
 use Rattle.scan.specs.Table.{headersAfter, rowsAfter, countsOf}

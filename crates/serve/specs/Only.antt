@@ -3,7 +3,7 @@
 use mathlib.Core.Path.{_≡_, refl, sym, _∙_, ap}
 use mathlib.Core.Option.{Option, none, some}
 use Rattle.error.specs.Refusal.{Told, good, bad, faultOf, faultOf-told}
-use Rattle.statement.specs.Row.{Row}
+use Rattle.statement.specs.Rows.{Row}
 use Rattle.lookup.specs.Only.{rowBack}
 use Rattle.serve.specs.Serve.{toldServed}
 use Rattle.serve.specs.declared.Served.{Served}

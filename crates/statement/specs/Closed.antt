@@ -13,8 +13,8 @@ use Rattle.lex.specs.Grammar.{Runs, Closes}
 use Rattle.record.specs.Form.{Free}
 use Rattle.record.specs.Head.{dataHead, headerHead}
 use Rattle.record.specs.declared.Head.the-variants.{Complex, Simple}
-use Rattle.statement.specs.Row.{Row, HeaderRow}
-use Rattle.statement.specs.Statement.{ends, moved, header, record′, statement}
+use Rattle.statement.specs.Rows.{Row, HeaderRow, ends, moved, header, record′}
+use Rattle.statement.specs.Statement.{statement}
 use Rattle.statement.specs.declared.Section.{Section}
 use Rattle.statement.specs.declared.Section.the-variants.{Outside, InHeader, InData}
 

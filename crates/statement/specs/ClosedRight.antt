@@ -3,6 +3,7 @@
 use Prim.Native.Nat.{ℕ, _+_, _-_, _≤_}
 use mathlib.Core.Path.{_≡_, refl, sym, _∙_, ap}
 use mathlib.Core.List.{List, [], _∷_, _++_, append-assoc, append-nil}
+use mathlib.Core.Option.{some}
 use native.Mathlib.Omega.{arith}
 use native.Mathlib.Decide.{ℕ-discrete}
 use borrow.Author.Tests.{ne-eqb}
@@ -14,11 +15,14 @@ use Rattle.lex.specs.Byte.{place}
 use Rattle.lex.specs.Grammar.{Begins, Closes}
 use Rattle.lex.specs.Search.{at, closing}
 use Rattle.lex.specs.Local.{closing-local}
+use Rattle.lex.specs.Right.{closing-only}
 use Rattle.lex.specs.Inside.{closing-inside, closes-own, closes-any}
 use Rattle.record.specs.Head.{dataHead}
 use Rattle.record.specs.Within.{data-within, header-within}
 use Rattle.record.specs.declared.Head.the-variants.{Bad}
-use Rattle.statement.specs.Row.{Row, row, HeaderRow, headerRow, mapped, argued, recordOf, headerOf}
+use Rattle.statement.specs.Rows.{Row, row, HeaderRow, headerRow, bound}
+use Rattle.statement.specs.Row.{mapped, sought, arguedTo, recordOf, headerOf}
+use Rattle.statement.specs.FormRight.{sought-at}
 use Rattle.statement.specs.Closed.{OutsideBoth, ClosedAt, ClosedData, ClosedHeader, Content, content, HeaderContent, headerContent}
 pub mod Statements
 pub mod Outside
@@ -30,6 +34,16 @@ pub closed-closing : {b : List ℕ} {o : ℕ} (c : ClosedAt b o) (y : List ℕ) 
 closed-closing {b} {o} c y =
     let e : b ++ y ≡ c .front ++ (40 ∷ ((c .args ++ (41 ∷ c .back)) ++ y)) = rw (c .shape) (append-assoc (c .front) _ y) in
     rw (e, drop-at (c .front) _ o (c .place)) (closes-any (c .closes) y)
+
+-- and so it is where what follows the text is not searched
+pub closed-bounded : {b : List ℕ} {o : ℕ} (c : ClosedAt b o) (y : List ℕ) → sought (some y) (drop o (b ++ y)) ≡ at (41 ∷ (c .back ++ y))
+closed-bounded {b} {o} c y =
+    let e : b ++ y ≡ c .front ++ (40 ∷ ((c .args ++ (41 ∷ c .back)) ++ y)) = rw (c .shape) (append-assoc (c .front) _ y) in
+    rw (e, drop-at (c .front) _ o (c .place)) (sought-at (some y) (c .args ++ (41 ∷ c .back)) (41 ∷ c .back) (closing-only 40 (c .closes)))
+
+-- so it is found up to the record's bound
+closed-sought : {b : List ℕ} {o : ℕ} (c : ClosedAt b o) (y : List ℕ) → sought (bound (b ++ y) b) (drop o (b ++ y)) ≡ at (41 ∷ (c .back ++ y))
+closed-sought c y = closed-closing c y
 
 -- a `(` outside strings and comments that closes before what follows the record's text is closed: the definition is the paper's
 pub closed-at : {b : List ℕ} (f t v y : List ℕ) → b ≡ f ++ (40 ∷ t) → OutsideBoth b (40 ∷ t)
@@ -71,8 +85,8 @@ module _ {b : List ℕ} {o : ℕ} (c : ClosedAt b o) where
 
   -- its row comes from the place of its `)`, which depends on its text alone
   argued-local : {A : Type 0} (q y : List ℕ) (f : ℕ → A)
-      → argued (q ++ (b ++ y)) (drop o (b ++ y)) f ≡ good (f (length q + (o + 1 + length (c .args))))
-  argued-local q y f = rw (closed-closing c y) (ap (λ (n : ℕ). good (f n)) places)
+      → arguedTo (bound (b ++ y) b) (q ++ (b ++ y)) (drop o (b ++ y)) f ≡ good (f (length q + (o + 1 + length (c .args))))
+  argued-local q y f = rw (closed-sought c y) (ap (λ (n : ℕ). good (f n)) places)
     where
       places : length (q ++ (b ++ y)) - length (41 ∷ (c .back ++ y)) ≡ length q + (o + 1 + length (c .args))
       places =

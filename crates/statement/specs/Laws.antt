@@ -19,8 +19,9 @@ use Rattle.lex.specs.At.{trivia-at, end-at}
 use Rattle.record.specs.Text.{before}
 use Rattle.record.specs.Word.{wordOf}
 use Rattle.record.specs.declared.Word.{Word}
-use Rattle.statement.specs.Row.{Row, row, HeaderRow, headerRow, argued, recordBy, recordOf, headerBy, headerOf}
-use Rattle.statement.specs.Statement.{Stmt, ends, refused, moved, headed, recorded, inSection, worded, ended, begun, led, statement, Ahead}
+use Rattle.statement.specs.Rows.{Row, row, HeaderRow, headerRow, Stmt, ends, refused, moved, bound}
+use Rattle.statement.specs.Row.{arguedTo, recordBy, recordOf, headerBy, headerOf}
+use Rattle.statement.specs.Statement.{headed, recorded, inSection, worded, ended, begun, led, statement, Ahead}
 use Rattle.statement.specs.declared.Said.{Said}
 use Rattle.statement.specs.declared.Said.the-variants.{Ends, Refuses, Moves, Heads, Records}
 use Rattle.statement.specs.declared.Section.{Section}
@@ -39,11 +40,11 @@ module _ (s body : List ℕ) (p : ℕ) where
   unfolding recordOf
   record-bad why h e = rw (e, place-drop s p h) refl
 
-  pub record-complex : (i o : ℕ) → p + o < length s → dataHead body ≡ Complex i o → argued s (drop (p + o) s) (λ q. row i 0 0 (p + o + 1) q 1) ≡ recordOf s (drop p s) body
+  pub record-complex : (i o : ℕ) → p + o < length s → dataHead body ≡ Complex i o → arguedTo (bound (drop p s) body) s (drop (p + o) s) (λ q. row i 0 0 (p + o + 1) q 1) ≡ recordOf s (drop p s) body
   unfolding recordOf
   record-complex i o h e = rw (e, ← drop-drop o p s, past-open o h) refl
 
-  pub record-simple : (i a z o : ℕ) → p + a ≤ length s → p + z ≤ length s → p + o < length s → dataHead body ≡ Simple i a z o → argued s (drop (p + o) s) (λ q. row i (p + a) (p + z) (p + o + 1) q 0) ≡ recordOf s (drop p s) body
+  pub record-simple : (i a z o : ℕ) → p + a ≤ length s → p + z ≤ length s → p + o < length s → dataHead body ≡ Simple i a z o → arguedTo (bound (drop p s) body) s (drop (p + o) s) (λ q. row i (p + a) (p + z) (p + o + 1) q 0) ≡ recordOf s (drop p s) body
   unfolding recordOf
   record-simple i a z o ha hz h e = rw (e, ← drop-drop o p s, past-open o h, place-in s p a ha, place-in s p z hz) refl
 
@@ -51,7 +52,7 @@ module _ (s body : List ℕ) (p : ℕ) where
   unfolding headerOf
   header-bad why h e = rw (e, place-drop s p h) refl
 
-  pub header-simple : (i a z o : ℕ) → p + a ≤ length s → p + z ≤ length s → p + o < length s → headerHead body ≡ Simple i a z o → argued s (drop (p + o) s) (λ q. headerRow (p + a) (p + z) (p + o + 1) q) ≡ headerOf s (drop p s) body
+  pub header-simple : (i a z o : ℕ) → p + a ≤ length s → p + z ≤ length s → p + o < length s → headerHead body ≡ Simple i a z o → arguedTo (bound (drop p s) body) s (drop (p + o) s) (λ q. headerRow (p + a) (p + z) (p + o + 1) q) ≡ headerOf s (drop p s) body
   unfolding headerOf
   header-simple i a z o ha hz h e = rw (e, ← drop-drop o p s, past-open o h, place-in s p a ha, place-in s p z hz) refl
 

@@ -1,5 +1,8 @@
+pub mod Rows
 pub mod Row
 pub mod Statement
+pub mod Form
+pub mod FormRight
 pub mod Tidy
 pub mod Laws
 pub mod TidyLaws

@@ -7,8 +7,8 @@ use native.Mathlib.Omega.{arith}
 use lib.ListN.{length}
 use Rattle.error.specs.Refusal.{faultOf, faultOf-told}
 use Rattle.lex.specs.Byte.{place, place-drop}
-use Rattle.statement.specs.Row.{Row, HeaderRow}
-use Rattle.statement.specs.Statement.{Stmt, ends, refused, moved, header, record′, toldSaid, Ahead}
+use Rattle.statement.specs.Rows.{Row, HeaderRow, Stmt, ends, refused, moved, header, record′}
+use Rattle.statement.specs.Statement.{toldSaid, Ahead}
 use Rattle.statement.specs.Tidy.{toldTidied, TidyAhead}
 use Rattle.statement.specs.declared.Said.{Said}
 use Rattle.statement.specs.declared.HeaderSpan.{HeaderSpan}

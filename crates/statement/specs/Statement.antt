@@ -10,7 +10,8 @@ use Rattle.record.specs.Text.{before}
 use Rattle.record.specs.Word.{wordOf}
 use Rattle.record.specs.declared.Word.{Word}
 use Rattle.record.specs.declared.Word.the-variants.{Header, Data, EndSection, EndFile, Other}
-use Rattle.statement.specs.Row.{Row, row, HeaderRow, headerRow, recordOf, headerOf}
+use Rattle.statement.specs.Rows.{Row, row, HeaderRow, headerRow, Stmt, ends, refused, moved, header, record′}
+use Rattle.statement.specs.Row.{recordOf, headerOf}
 use Rattle.statement.specs.declared.Section.{Section}
 use Rattle.statement.specs.declared.Section.the-variants.{Outside, InHeader, InData}
 use Rattle.statement.specs.declared.HeaderSpan.{HeaderSpan}
@@ -21,15 +22,6 @@ use Rattle.statement.specs.declared.RecordRead.{RecordRead}
 use Rattle.statement.specs.declared.RecordRead.the-variants.{RecordIs, NoRecord}
 use Rattle.statement.specs.declared.Said.{Said}
 use Rattle.statement.specs.declared.Said.the-variants.{Ends, Refuses, Moves, Heads, Records}
-
--- what a statement says: the reading ends; it is refused; the section is now this one; or there is a row, of the record that
--- starts with the rest ys. The last list of each is the rest after the statement
-pub data Stmt : Type 0 where
-  ends : Stmt
-  refused : Refusal → Stmt
-  moved : Section → List ℕ → Stmt
-  header : HeaderRow → List ℕ → List ℕ → Stmt
-  record′ : Row → List ℕ → List ℕ → Stmt
 
 -- a header record's row, or its refusal
 abbrev pub headed : List ℕ → List ℕ → Told HeaderRow → Stmt

@@ -11,8 +11,8 @@ use Rattle.record.specs.Text.{past, before}
 use Rattle.record.specs.Head.{dataHead}
 use Rattle.record.specs.declared.Head.{Head}
 use Rattle.record.specs.declared.Head.the-variants.{Bad, Complex, Simple}
-use Rattle.statement.specs.Row.{Row, row}
-use Rattle.statement.specs.Statement.{Stmt, ends, refused, moved, header, record′, rowOf}
+use Rattle.statement.specs.Rows.{Row, row, Stmt, ends, refused, moved, header, record′}
+use Rattle.statement.specs.Statement.{rowOf}
 use Rattle.statement.specs.declared.Tidied.{Tidied}
 use Rattle.statement.specs.declared.Tidied.the-variants.{Untidy, Tidy}
 

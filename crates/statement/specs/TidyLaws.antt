@@ -17,8 +17,7 @@ use Rattle.record.specs.Turns.{past-stops, past-goes}
 use Rattle.record.specs.Head.{dataHead}
 use Rattle.record.specs.declared.Head.{Head}
 use Rattle.record.specs.declared.Head.the-variants.{Bad, Complex, Simple}
-use Rattle.statement.specs.Row.{Row, row}
-use Rattle.statement.specs.Statement.{Stmt, ends, record′}
+use Rattle.statement.specs.Rows.{Row, row, Stmt, ends, record′}
 use Rattle.statement.specs.Laws.{place-in, before-at, text-length}
 use Rattle.statement.specs.Tidy.{unended, tidy, tidyBy, tidyEnded, tidyRecord, TidyAhead}
 use Rattle.statement.specs.declared.Tidied.{Tidied}

@@ -3,6 +3,7 @@ use Prim.Native.Nat.{ℕ, suc, _+_, _-_, _≤_, _<_}
 use mathlib.Core.Path.{_≡_, refl, sym, _∙_, ap}
 use mathlib.Core.Bool.{Bool, true, false, not, _&&_}
 use mathlib.Core.List.{List, [], _∷_, _++_}
+use mathlib.Core.Option.{Option}
 use native.Mathlib.Omega.{arith}
 use lib.Dec.{eqb}
 use lib.ListN.{length, take, drop, getD, length-append, length-drop}
@@ -12,22 +13,22 @@ use Rattle.common.specs.Compare.{clash}
 use Rattle.error.specs.Refusal.{Refusal, Told, good, bad}
 use Rattle.lex.specs.Byte.{white, place}
 use Rattle.lex.specs.Grammar.{Trivia, Led}
-use Rattle.lex.specs.Search.{Sought, at, fault, recordEnd, closing, trivia, placed}
+use Rattle.lex.specs.Search.{Sought, at, fault, recordEnd, trivia, placed}
 use Rattle.lex.specs.Local.{end-local}
 use Rattle.lex.specs.Right.{trivia-only, end-is}
-use Rattle.record.specs.Text.{past, before}
+use Rattle.record.specs.Text.{past, before, numberFrom}
 use Rattle.record.specs.Form.{All}
 use Rattle.record.specs.FormRight.{past-is}
 use Rattle.record.specs.Head.{dataHead, idHead}
 use Rattle.record.specs.HashOther.{hash-word}
-use Rattle.record.specs.Text.{numberFrom}
 use Rattle.record.specs.Word.{wordOf}
 use Rattle.record.specs.declared.Head.{Head}
 use Rattle.record.specs.declared.Head.the-variants.{Bad, Complex, Simple}
 use Rattle.record.specs.declared.Word.{Word}
 use Rattle.record.specs.declared.Word.the-variants.{Other}
-use Rattle.statement.specs.Row.{Row, row, mapped, recordBy, recordOf}
-use Rattle.statement.specs.Statement.{Stmt, ends, refused, record′, recorded, worded, ended, begun, led, statement}
+use Rattle.statement.specs.Rows.{Row, row, Stmt, ends, refused, record′, bound}
+use Rattle.statement.specs.Row.{mapped, sought, recordBy, recordOf}
+use Rattle.statement.specs.Statement.{recorded, worded, ended, begun, led, statement}
 use Rattle.statement.specs.Tidy.{unended, tidy, tidyBy, tidyEnded, tidyRecord}
 use Rattle.statement.specs.TidyLaws.{Whole}
 use Rattle.statement.specs.UsualRight.{blanks}
@@ -55,9 +56,9 @@ before-seam b e =
     ap (λ (k : ℕ). take k (b ++ e)) n ∙ take-append-seam b e
 
 -- a row whose arguments end just before the `;` is the one that the first `;` gives
-row-tidy : (s ys e : List ℕ) (h : Head) (w : Row) → good w ≡ recordBy s ys h → w .argEnd + 1 ≡ place s e → tidyBy s ys e h ≡ record′ w ys (drop 1 e)
-row-tidy s ys e (Bad why) w q n = clash (cc)
-row-tidy s ys e (Complex i o) w q n = go (closing (drop o ys)) q
+row-tidy : (b : Option (List ℕ)) (s ys e : List ℕ) (h : Head) (w : Row) → good w ≡ recordBy b s ys h → w .argEnd + 1 ≡ place s e → tidyBy s ys e h ≡ record′ w ys (drop 1 e)
+row-tidy b s ys e (Bad why) w q n = clash (cc)
+row-tidy b s ys e (Complex i o) w q n = go (sought b (drop o ys)) q
   where
     go : (x : Sought) → good w ≡ mapped (λ q. row i 0 0 (place s (drop (o + 1) ys)) q 1) (placed s x) → tidyBy s ys e (Complex i o) ≡ record′ w ys (drop 1 e)
     go (fault m z) q = clash (cc)
@@ -66,7 +67,7 @@ row-tidy s ys e (Complex i o) w q n = go (closing (drop o ys)) q
         let g : w .argEnd ≡ place s c = ap (λ (v : Row). v .argEnd) f in
         let m : place s e - 1 ≡ place s c = omega arith in
         rw m (ap (λ (v : Row). record′ v ys (drop 1 e)) (sym f))
-row-tidy s ys e (Simple i a z o) w q n = go (closing (drop o ys)) q
+row-tidy b s ys e (Simple i a z o) w q n = go (sought b (drop o ys)) q
   where
     go : (x : Sought) → good w ≡ mapped (λ q. row i (place s (drop a ys)) (place s (drop z ys)) (place s (drop (o + 1) ys)) q 0) (placed s x)
         → tidyBy s ys e (Simple i a z o) ≡ record′ w ys (drop 1 e)
@@ -92,9 +93,9 @@ module _ (s ys f e : List ℕ) (sought : past unended ys ≡ e) (shape : ys ≡ 
   -- the record ends at a `;` with the rest r after it
   ended-tidy : (b r : List ℕ) → ys ≡ b ++ (59 ∷ r) → tidy s (recorded ys r (recordOf s ys b)) ≡ true → tidyBy s ys e (dataHead f) ≡ recorded ys r (recordOf s ys b)
   unfolding recordOf
-  ended-tidy b r q = go (recordBy s ys (dataHead b)) refl
+  ended-tidy b r q = go (recordBy (bound ys b) s ys (dataHead b)) refl
     where
-      go : (x : Told Row) → recordBy s ys (dataHead b) ≡ x → tidy s (recorded ys r x) ≡ true → tidyBy s ys e (dataHead f) ≡ recorded ys r x
+      go : (x : Told Row) → recordBy (bound ys b) s ys (dataHead b) ≡ x → tidy s (recorded ys r x) ≡ true → tidyBy s ys e (dataHead f) ≡ recorded ys r x
       go (bad p) y h = clash (cc)
       go (good w) y h =
           let (h1, h2) = both (eqb (place s (past unended ys) + 1) (place s r)) (eqb (w .argEnd + 1) (place s (past unended ys))) h in
@@ -104,7 +105,7 @@ module _ (s ys f e : List ℕ) (sought : past unended ys ≡ e) (shape : ys ≡ 
           let m : length ys ≡ length b + length (59 ∷ r) = ap length q ∙ length-append b (59 ∷ r) in
           let k : length e ≡ length (59 ∷ r) = omega arith in
           let (p1, p2) = same-rest b (59 ∷ r) q k in
-          ap (λ (g : List ℕ). tidyBy s ys e (dataHead g)) p2 ∙ row-tidy s ys e (dataHead b) w (sym y) n2 ∙ ap (λ (g : List ℕ). record′ w ys (drop 1 g)) p1
+          ap (λ (g : List ℕ). tidyBy s ys e (dataHead g)) p2 ∙ row-tidy (bound ys b) s ys e (dataHead b) w (sym y) n2 ∙ ap (λ (g : List ℕ). record′ w ys (drop 1 g)) p1
 
   -- what stands before that `;` is no section word
   word-tidy : (b r : List ℕ) → ys ≡ b ++ (59 ∷ r) → Other ≡ wordOf b

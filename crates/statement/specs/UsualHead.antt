@@ -12,9 +12,10 @@ use Rattle.common.specs.Compare.{clash}
 use Rattle.lex.specs.Byte.{white}
 use Rattle.lex.specs.Grammar.{Begins}
 use Rattle.record.specs.Text.{past, digit, digits, numberFrom, trail}
-use Rattle.record.specs.Form.{All, Free, NotFirst, NotLast, Skipped, valueOf, Id, Keyword, Lead, HeadForm}
-use Rattle.record.specs.FormRight.{past-is, number-is, trail-only, headform-only}
-use Rattle.record.specs.FormRight.Parts.{first-other, all-front, all-back, Tailed, tail-split}
+use Rattle.record.specs.Form.{Free, NoGapFirst, NoParen, valueOf, Id, Keyword, Lead, HeadForm}
+use Rattle.record.specs.FormRight.{number-is, trail-only, headform-only}
+use Rattle.record.specs.FormRight.Parts.{all-front, all-back, Tailed, tail-split}
+use Rattle.record.specs.FormRight.Gaps.{gap-other, gap-more, gap-is}
 use Rattle.record.specs.Head.{dataHead}
 use Rattle.record.specs.declared.Head.{Head}
 use Rattle.record.specs.declared.Head.the-variants.{Bad, Complex, Simple}
@@ -24,8 +25,8 @@ use Rattle.statement.specs.Usual.{Headed}
 pub record Fronted (t : List ℕ) (id a : ℕ) : Type 0 where
   pub front : List ℕ
   pub shape : t ≡ front ++ drop a t
-  pub leads : (v : List ℕ) → NotFirst white v → Lead front id v
-  pub over : NotFirst white (drop a t)
+  pub leads : (v : List ℕ) → NoGapFirst v → Lead front id v
+  pub over : NoGapFirst (drop a t)
 
 -- of an id by its digits
 lead-id : (p v : List ℕ) (n m : ℕ) → n ≡ m → Lead p m v → Lead p n v
@@ -37,8 +38,8 @@ pub fronted : (t : List ℕ) (id from q a : ℕ) → getD t 0 0 ≡ 35 → numbe
     → drop a t ≡ past white (drop (q + 1) t) → Fronted t id a
 fronted t id from q a hash num most some within eq hq is eqa =
     let (ds, e1, k1, n) = number-is (drop 1 t) id (drop from t) num in
-    let (w, e2, k2) = past-is white (drop from t) in
-    let (u, e3, k3) = past-is white (drop (q + 1) t) in
+    let (w, e2, k2) = gap-is (drop from t) in
+    let (u, e3, k3) = gap-is (drop (q + 1) t) in
     let f0 : t ≡ 35 ∷ drop 1 t = split t 0 (omega arith) ∙ ap (λ (c : ℕ). c ∷ drop 1 t) hash in
     let f1 : drop q t ≡ 61 ∷ drop (q + 1) t = split t q hq ∙ ap (λ (c : ℕ). c ∷ drop (q + 1) t) is in
     let f2 : drop from t ≡ w ++ (61 ∷ drop (q + 1) t) = e2 ∙ ap (λ (l : List ℕ). w ++ l) (sym eq ∙ f1) in
@@ -64,7 +65,7 @@ pub head-complex : (t : List ℕ) (id a : ℕ) → Fronted t id a → length t �
 head-complex t id a f h k r =
     let e : t ≡ f .front = f .shape ∙ ap (λ (l : List ℕ). f .front ++ l) (drop-end t a h) ∙ append-nil (f .front) in
     let n : a ≡ length (f .front) = let l : length t ≡ length (f .front) = ap length e in omega arith in
-    let g : Complex id (length (f .front)) ≡ dataHead (f .front ++ (40 ∷ r)) = headform-only (HeadForm.complex (f .leads (40 ∷ r) (first-other white 40 r refl))) in
+    let g : Complex id (length (f .front)) ≡ dataHead (f .front ++ (40 ∷ r)) = headform-only (HeadForm.complex (f .leads (40 ∷ r) (gap-other 40 r refl))) in
     ap (Complex id) n ∙ g ∙ ap (λ (l : List ℕ). dataHead (l ++ (40 ∷ r))) (sym e)
 
 -- else a keyword, trimmed at its end
@@ -80,10 +81,10 @@ head-simple t id a z free f h hz e r = go (tail-split (drop a t))
         let y : drop a t ++ (40 ∷ r) ≡ v = ap (λ (l : List ℕ). l ++ (40 ∷ r)) x ∙ append-assoc k w (40 ∷ r) in
         let b : getD t a 0 ∷ (drop (a + 1) t ++ (40 ∷ r)) ≡ v = ap (λ (l : List ℕ). l ++ (40 ∷ r)) (sym (split t a h)) ∙ y in
         let fv : Free 40 (drop a t) = all-back _ p (drop a t) (rw (f .shape) at free) in
-        let fk : Free 40 k = all-front _ k w (rw x at fv) in
+        let fk : NoParen k = all-front _ k w (rw x at fv) in
         let c40 : getD t a 0 ≡ 40 → ⊥ = eqb-false (getD t a 0) 40 (not-true _ ((rw (split t a h) at fv) .0)) in
         let key : Keyword v k w r = record { shape = refl; first = fk; blank = aw; ended = nl } in
-        let nf : NotFirst white v = rw b at (first-other white (getD t a 0) (drop (a + 1) t ++ (40 ∷ r)) (f .over (getD t a 0) (drop (a + 1) t) (split t a h))) in
+        let nf : NoGapFirst v = rw b at (gap-more (getD t a 0) (drop (a + 1) t) (40 ∷ r) (rw (split t a h) at (f .over))) in
         let g : Simple id (length p) (length (p ++ k)) (length (p ++ (k ++ w))) ≡ dataHead (p ++ v) =
         headform-only (HeadForm.simple (f .leads v nf) (λ (l, m). c40 (cc)) key) in
         let whole : p ++ v ≡ t ++ (40 ∷ r) =

@@ -10,13 +10,14 @@ use Rattle.lex.specs.Local.{trivia-shorter}
 use Rattle.lex.specs.Right.{trivia-only}
 use Rattle.record.specs.Form.{Lead, HeadForm, Keyword}
 use Rattle.record.specs.declared.Head.the-variants.{Complex, Simple}
-use Rattle.statement.specs.Row.{Row, HeaderRow, mapped}
-use Rattle.statement.specs.Statement.{Stmt, record′}
+use Rattle.statement.specs.Rows.{Row, HeaderRow, Stmt, record′, header-kind, data-kind}
+use Rattle.statement.specs.Row.{mapped}
 use Rattle.statement.specs.declared.Section.{Section}
 use Rattle.scan.specs.File.{Table, withHeader, withRecord, scanOf}
-use Rattle.scan.specs.Form.{DataForm, Record, StatementForm, Reads, Scans}
+use Rattle.statement.specs.Form.{DataForm, Record, StatementForm}
+use Rattle.scan.specs.Form.{Counts, Reads, Scans}
 use Rattle.scan.specs.FormRight.{scans-is}
-use Rattle.scan.specs.FormRight.Statements.{moved-shorter, header-shorter}
+use Rattle.statement.specs.FormRight.{moved-shorter, header-shorter}
 
 -- digits are at least one
 some-digits : (ds : List ℕ) → (ds ≡ [] → ⊥) → 1 ≤ length ds
@@ -73,17 +74,16 @@ few-record m n w (good t) h f = omega arith
 few-record m n w (bad q) h f = tt
 
 -- the records of what is left to read
-reads-few : {s : List ℕ} {H R : ℕ} {sec : Section} {h r : ℕ} {xs : List ℕ} {a : Told Table} → Reads s H R sec h r xs a → Few (length xs) a
+reads-few : {s : List ℕ} {lent : Counts} {sec : Section} {n : Counts} {xs : List ℕ} {a : Told Table} → Reads s lent sec n xs a → Few (length xs) a
 reads-few (Reads.over f) = omega arith
 reads-few (Reads.fault f) = tt
 reads-few {xs} (Reads.on {t} {a} f d) = let m = moved-shorter f in few-more (length t) (length xs) a (omega arith) (reads-few d)
-reads-few {xs} (Reads.header-row {t} {w} {a} f p d) = let m = header-shorter f in few-header (length xs) w a (few-more (length t) (length xs) a (omega arith) (reads-few d))
-reads-few (Reads.header-full f p) = tt
-reads-few {xs} (Reads.data-row {t} {w} {a} f p d) = few-record (length t) (length xs) w a (data-long f) (reads-few d)
-reads-few (Reads.data-full f p) = tt
+reads-few {xs} (Reads.row {t} {a} header-kind w ys f p d) = let m = header-shorter f in few-header (length xs) w a (few-more (length t) (length xs) a (omega arith) (reads-few d))
+reads-few {xs} (Reads.row {t} {a} data-kind w ys f p d) = few-record (length t) (length xs) w a (data-long f) (reads-few d)
+reads-few (Reads.full k w ys t f p) = tt
 
 -- of a whole file
-scans-few : {s : List ℕ} {H R : ℕ} {a : Told Table} → Scans s H R a → Few 4294967295 a
+scans-few : {s : List ℕ} {lent : Counts} {a : Told Table} → Scans s lent a → Few 4294967295 a
 scans-few (Scans.long h) = tt
 scans-few (Scans.unmarked h n) = tt
 scans-few {s} {a} (Scans.read h m d) = few-more (length s) 4294967295 a h (reads-few d)

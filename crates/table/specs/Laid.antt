@@ -9,7 +9,7 @@ use native.Mathlib.Nat.{suc-mul, zero-mul, zero-add}
 use lib.ListN.{length, drop, getD, getElem?, length-append, length-drop, List·getD-append}
 use lib.Seq.{sets, sets-eq, getD-append-add, take-append-seam, drop-append-add, drop-drop}
 use Rattle.common.specs.Compare.{clash}
-use Rattle.statement.specs.Row.{Row, HeaderRow}
+use Rattle.statement.specs.Rows.{Row, HeaderRow}
 use Rattle.table.specs.Table.{rowsFit, headersFit, field, rowNumbers, headerNumbers, six, four, flat, laid, rowsLaid, headersLaid, rowPut, headerPut}
 use Rattle.table.specs.Laws.{field-there, put-there, row-same, header-same}
 

@@ -10,7 +10,7 @@ use lib.ListN.{length, getD}
 use lib.Seq.{sets, length-sets}
 use borrow.Author.Tests.{ltb-true, ltb-false, lt-ltb, le-ltb}
 use Rattle.common.specs.Pick.{pick}
-use Rattle.statement.specs.Row.{Row, row, HeaderRow, headerRow}
+use Rattle.statement.specs.Rows.{Row, row, HeaderRow, headerRow}
 use Rattle.table.specs.Table.{rowsFit, headersFit, field, idOf, rowNumbers, headerNumbers, six, four, putAt, rowPut, headerPut, narrow, narrowRow, narrowHeader}
 
 -- the row's last number lies in the memory just where the memory has the row

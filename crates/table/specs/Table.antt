@@ -8,7 +8,7 @@ use lib.Dec.{ltb}
 use lib.ListN.{length, drop, getD}
 use lib.Seq.{sets}
 use Rattle.common.specs.Pick.{pick}
-use Rattle.statement.specs.Row.{Row, row, HeaderRow, headerRow}
+use Rattle.statement.specs.Rows.{Row, row, HeaderRow, headerRow}
 
 -- how many numbers a data row has, and a header row
 abbrev pub rowWidth : ℕ

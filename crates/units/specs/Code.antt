@@ -8,7 +8,7 @@ use lib.ListN.{length}
 use lib.Ieee.{binary64, toBits}
 use Rattle.common.specs.Pick.{pick}
 use Rattle.error.specs.Refusal.{Told, good, bad, told}
-use Rattle.statement.specs.Row.{Row, HeaderRow}
+use Rattle.statement.specs.Rows.{Row, HeaderRow}
 use Rattle.reals.specs.Scalar.{referenceOf}
 use Rattle.kinds.specs.Kind.{kindOf}
 use Rattle.kinds.specs.declared.Kind.{Kind}

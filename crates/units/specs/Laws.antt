@@ -20,7 +20,7 @@ use Rattle.record.specs.Turns.{bounds}
 use Rattle.record.specs.Word.{trimmed}
 use Rattle.nearest.specs.Near.{near, nearUnits}
 use Rattle.table.specs.Table.{tableRows, rowNumbers}
-use Rattle.statement.specs.Row.{Row, HeaderRow}
+use Rattle.statement.specs.Rows.{Row, HeaderRow}
 use Rattle.statement.specs.Statement.{headerRowOf}
 use Rattle.statement.specs.declared.HeaderSpan.{HeaderSpan}
 use Rattle.kinds.specs.declared.Kind.{Kind}

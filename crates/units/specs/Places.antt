@@ -11,7 +11,7 @@ use Rattle.common.specs.Pick.{pick}
 use Rattle.error.specs.Refusal.{Refusal, Told, good, bad}
 use Rattle.table.specs.Table.{rowNumbers}
 use Rattle.lookup.specs.Lookup.{rowFor}
-use Rattle.statement.specs.Row.{Row}
+use Rattle.statement.specs.Rows.{Row}
 use Rattle.kinds.specs.declared.Kind.the-variants.{GeometricRepresentationContext, GlobalUnitAssignedContext, GlobalUncertaintyAssignedContext, UncertaintyMeasureWithUnit}
 use Rattle.params.specs.Reader.{Span, onward}
 use Rattle.params.specs.Places.{PlacedIn}

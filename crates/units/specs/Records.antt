@@ -6,7 +6,7 @@ use mathlib.Core.Option.{Option, some}
 use native.Mathlib.Omega.{arith}
 use lib.ListN.{length, getElem?}
 use Rattle.error.specs.Refusal.{Told, good}
-use Rattle.statement.specs.Row.{Row}
+use Rattle.statement.specs.Rows.{Row}
 use Rattle.table.specs.Table.{tableRows, rowNumbers}
 use Rattle.table.specs.Laid.{rows-laid-in, row-is}
 use Rattle.scan.specs.File.{Table}

@@ -1,11 +1,10 @@
 // What a unit of a list measures.
 ghost use mathlib.Core.Path.{_≡_};
-ghost use Rattle.statement.specs.Statement.{rowOf};
+ghost use Rattle.statement.specs.Statement.{rowOf, headerRowOf};
 ghost use Rattle.params.specs.Reader.{onward};
 ghost use Prim.Native.Nat.{_≤_};
 ghost use lib.ListN.{length};
 ghost use mathlib.Core.List.{map};
-ghost use Rattle.statement.specs.Statement.{headerRowOf};
 ghost use Rattle.parts.specs.Part.{partsOf};
 ghost use Rattle.factors.specs.Thing.{goodBy, pieceOf, thingOf};
 ghost use Rattle.units.specs.Units.{roleOf, firstRole};

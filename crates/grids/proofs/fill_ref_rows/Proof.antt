@@ -1,21 +1,18 @@
 use Rattle.common.specs.Compare.{clash}
-use Rattle.grids.specs.Rows.{Gridding, gridding-starts}
-use Rattle.lists.specs.Items.{asFate}
+use Rattle.grids.specs.Rows.{Gridding, gridding-starts, gridding-room, row-read, row-place, row-last, row-goes, row-length}
+use Rattle.lists.specs.Items.{asFate, toldReadList}
 use Rattle.reals.specs.Scalar.{referenceOf}
 use lib.ListN.{length}
 use denote.Ref.{now}
 use Prim.Native.Nat.{_-_}
 use native.Mathlib.Omega.{arith}
 use borrow.Author.Needs.{needs}
-use Rattle.grids.specs.Rows.{gridding-room, row-read, row-place, row-last, row-goes}
-use Rattle.lists.specs.Items.{toldReadList}
 use Rattle.lists.proofs.Laws.{refused-read}
 use lib.ListN.{take, drop, set, length-drop, length-set}
 use lib.Seq.{length-take-le}
 use mathlib.Core.List.{_++_}
 use mathlib.Core.Path.{_≡_, refl, ap, sym, _∙_, subst}
 use Prim.Native.Nat.{ℕ, _+_}
-use Rattle.grids.specs.Rows.{gridding-room, row-length, row-read, row-place, row-last, row-goes}
 use Rattle.grids.proofs.fill_ref_rows.Statement.{statement}
 use Rattle.grids.proofs.fill_ref_rows.Tie as tie
 

@@ -4,8 +4,7 @@ use borrow.Author.Tests.{not-true, not-false}
 use native.Mathlib.Omega.{arith}
 use borrow.Author.Needs.{needs}
 use denote.Ref.{now}
-use Rattle.params.specs.ReaderLaws.{skip-stops, skip-goes, skip-ends}
-use Rattle.params.specs.ReaderLaws.{skips-in}
+use Rattle.params.specs.ReaderLaws.{skip-stops, skip-goes, skip-ends, skips-in}
 use Rattle.params.proofs.skip_n.Statement.{statement}
 use Rattle.params.proofs.skip_n.Tie as tie
 

@@ -4,7 +4,7 @@ use Rattle.lex.specs.Search.{toldFound}
 use mathlib.Core.Path.{sym, _∙_, ap}
 use Prim.Native.Nat.{ℕ, _+_}
 use mathlib.Core.Option.{some}
-use Rattle.statement.specs.Row.{headerRow}
+use Rattle.statement.specs.Rows.{headerRow}
 use Rattle.parts.proofs.part_at.Statement.{statement}
 use Rattle.parts.proofs.part_at.Tie as tie
 

@@ -12,7 +12,7 @@ use Rattle.common.specs.Compare.{clash}
 use Rattle.lex.specs.Byte.{white}
 use Rattle.common.specs.Walk.{Turn, on, walk}
 use Rattle.record.specs.Text.{past, digit, digits, numberFrom}
-use Rattle.record.specs.Form.{All, NotFirst, NotLast, Skipped, valueOf}
+use Rattle.record.specs.Form.{All, NotFirst, NotLast, Skipped, Gap, NoGapLast, valueOf}
 
 -- where whatever answers is a, and something answers, a answers
 pub sole : {A : Type 0} (P : A → Type 0) {a : A} → ((x : A) → P x → x ≡ a) → (x : A) × P x → P a
@@ -80,9 +80,9 @@ last-more p c k g h (b ∷ r) d e = h r d (cc)
 last-next : (p : ℕ → Bool) (c : ℕ) (k : List ℕ) → NotLast p (c ∷ k) → NotLast p k
 last-next p c k h r d e = h (c ∷ r) d (cc)
 
--- the whitespace at the end, and what stands before it
+-- the gap at the end, and what stands before it
 abbrev pub Tailed : List ℕ → Type 0
-Tailed xs = (k w : List ℕ) × (xs ≡ k ++ w) × All white w × NotLast white k
+Tailed xs = (k w : List ℕ) × (xs ≡ k ++ w) × Gap w × NoGapLast k
 
 -- every list splits so
 pub tail-split : (xs : List ℕ) → Tailed xs

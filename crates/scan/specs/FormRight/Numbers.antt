@@ -1,43 +1,16 @@
 -- The numbers of the refusals: which can be answered, and when 8 is. Assumes nothing.
-use Prim.Native.Nat.{ℕ, _≤_}
+use Prim.Native.Nat.{ℕ, _+_, _≤_, _<_}
 use mathlib.Core.Path.{_≡_}
 use mathlib.Core.List.{List}
 use native.Mathlib.Omega.{arith}
 use Rattle.error.specs.Refusal.{Refusal, Told, good, bad}
+use Rattle.statement.specs.Rows.{RowKind, header-kind, data-kind}
 use Rattle.statement.specs.Row.{mapped}
-use Rattle.statement.specs.Statement.{refused}
+use Rattle.statement.specs.FormRight.{Between, statement-number}
 use Rattle.statement.specs.declared.Section.{Section}
 use Rattle.statement.specs.declared.Section.the-variants.{Outside}
-use Rattle.scan.specs.File.{Table, withHeader, withRecord}
-use Rattle.scan.specs.Form.{Argued, DataForm, HeaderRecordForm, StatementForm, Reads, Scans, Reached, Full}
-
--- a refusal's number is from l to m
-abbrev pub Between : ℕ → ℕ → Refusal → Type 0
-Between l m q = (l ≤ q .number) × (q .number ≤ m)
-
--- a record's arguments are refused with 3, 4 or 6, and a record with 7 besides
-argued-number : {s t : List ℕ} {q : Refusal} → Argued s t (bad q) → Between 3 6 q
-argued-number (Argued.text-open d o) = omega arith
-argued-number (Argued.remark-open d o) = omega arith
-argued-number (Argued.unclosed d) = omega arith
-
-data-number : {s ys body : List ℕ} {q : Refusal} → DataForm s ys body (bad q) → Between 3 7 q
-data-number (DataForm.bad-record h) = omega arith
-data-number (DataForm.complex-refused h o g) = omega (arith, argued-number g)
-data-number (DataForm.simple-refused h o g) = omega (arith, argued-number g)
-
-header-number : {s ys body : List ℕ} {q : Refusal} → HeaderRecordForm s ys body (bad q) → Between 3 7 q
-header-number (HeaderRecordForm.bad-record h) = omega arith
-header-number (HeaderRecordForm.named-refused h o g) = omega (arith, argued-number g)
-
--- a statement is refused with 3 to 7
-statement-number : {s : List ℕ} {sec : Section} {xs : List ℕ} {q : Refusal} → StatementForm s sec xs (refused q) → Between 3 7 q
-statement-number (StatementForm.trivia-open r o) = omega arith
-statement-number (StatementForm.endless l h r) = omega arith
-statement-number (StatementForm.text-open l r o) = omega arith
-statement-number (StatementForm.remark-open l r o) = omega arith
-statement-number (StatementForm.header-refused d f g) = header-number g
-statement-number (StatementForm.data-refused d f g) = data-number g
+use Rattle.scan.specs.File.{Table, withRow}
+use Rattle.scan.specs.Form.{Counts, counts, of, more, Within, Reads, Scans, Reached, Full}
 
 -- an answer whose refusal, if it is one, is so
 abbrev pub IfBad : {A : Type 0} → (Refusal → Type 0) → Told A → Type 0
@@ -49,35 +22,63 @@ bad-mapped P f (good a) h = tt
 bad-mapped P f (bad q) h = h
 
 -- the number is one of 1 to 8, and 8 only where the rows are used up
-abbrev pub Refusing : List ℕ → ℕ → ℕ → Refusal → Type 0
-Refusing s H R q = Between 1 8 q × (q .number ≡ 8 → Full s H R q)
+abbrev pub Refusing : List ℕ → Counts → Refusal → Type 0
+Refusing s lent q = Between 1 8 q × (q .number ≡ 8 → Full s lent q)
+
+-- one more of a kind is at most one more of any
+pub of-more : (j k : RowKind) (n : Counts) → of j (more k n) ≤ of j n + 1
+of-more header-kind header-kind n = omega arith
+of-more header-kind data-kind n = omega arith
+of-more data-kind header-kind n = omega arith
+of-more data-kind data-kind n = omega arith
+
+-- one row more of a kind that is not used up
+within-more : (n lent : Counts) (k : RowKind) → Within n lent → of k n < of k lent → Within (more k n) lent
+within-more n lent header-kind h l header-kind = omega arith
+within-more n lent header-kind h l data-kind = h data-kind
+within-more n lent data-kind h l header-kind = h header-kind
+within-more n lent data-kind h l data-kind = omega arith
+
+-- and one row less
+within-less : (n lent : Counts) (k : RowKind) → Within (more k n) lent → Within n lent × (of k n < of k lent)
+within-less n lent header-kind h = let i = h header-kind in let j = h data-kind in (both i j, omega arith)
+  where
+    both : n .headers + 1 ≤ lent .headers → n .records ≤ lent .records → Within n lent
+    both i j header-kind = omega arith
+    both i j data-kind = j
+within-less n lent data-kind h = let i = h header-kind in let j = h data-kind in (both i j, omega arith)
+  where
+    both : n .headers ≤ lent .headers → n .records + 1 ≤ lent .records → Within n lent
+    both i j header-kind = i
+    both i j data-kind = omega arith
+
+-- no row is used at first
+within-none : (lent : Counts) → Within (counts 0 0) lent
+within-none lent header-kind = omega arith
+within-none lent data-kind = omega arith
 
 -- so it is with the refusal of a reading that has come to some rest, and with that of a whole file
-reads-bad : {s : List ℕ} {H R : ℕ} {sec : Section} {h r : ℕ} {xs : List ℕ} {a : Told Table}
-    → Reached s sec xs h r → h ≤ H → r ≤ R → Reads s H R sec h r xs a → IfBad (Refusing s H R) a
-reads-bad u l m (Reads.over f) = tt
-reads-bad u l m (Reads.fault f) = let k = statement-number f in (omega arith, λ e. absurd (omega arith))
-reads-bad u l m (Reads.on f d) = reads-bad (Reached.on u f) l m d
-reads-bad u l m (Reads.header-row {w} {a} f p d) = bad-mapped _ (withHeader w) a (reads-bad (Reached.header-row u f) (omega arith) m d)
-reads-bad {s} {H} {h} u l m (Reads.header-full f p) = let e : h ≡ H = omega arith in (omega arith, λ z. Full.headers (rw e at u) m f)
-reads-bad u l m (Reads.data-row {w} {a} f p d) = bad-mapped _ (withRecord w) a (reads-bad (Reached.data-row u f) l (omega arith) d)
-reads-bad {s} {R} {r} u l m (Reads.data-full f p) = let e : r ≡ R = omega arith in (omega arith, λ z. Full.records (rw e at u) l f)
+reads-bad : {s : List ℕ} {lent : Counts} {sec : Section} {n : Counts} {xs : List ℕ} {a : Told Table}
+    → Reached s sec xs n → Within n lent → Reads s lent sec n xs a → IfBad (Refusing s lent) a
+reads-bad u h (Reads.over f) = tt
+reads-bad u h (Reads.fault f) = let k = statement-number f in (omega arith, λ e. absurd (omega arith))
+reads-bad u h (Reads.on f d) = reads-bad (Reached.on u f) h d
+reads-bad {lent} {n} u h (Reads.row {a} k w ys f p d) = bad-mapped _ (withRow k w) a (reads-bad (Reached.row k w ys u f) (within-more n lent k h p) d)
+reads-bad {lent} {n} u h (Reads.full k w ys t f p) = let l = h k in (omega arith, λ z. Full.full k w ys t u h (omega arith) f)
 
 -- what is known of a refusal of the whole scan
-pub scans-bad : {s : List ℕ} {H R : ℕ} {a : Told Table} → Scans s H R a → IfBad (Refusing s H R) a
+pub scans-bad : {s : List ℕ} {lent : Counts} {a : Told Table} → Scans s lent a → IfBad (Refusing s lent) a
 scans-bad (Scans.long h) = (omega arith, λ e. absurd (omega arith))
 scans-bad (Scans.unmarked h n) = (omega arith, λ e. absurd (omega arith))
-scans-bad (Scans.read h m d) = reads-bad Reached.start (omega arith) (omega arith) d
+scans-bad {lent} (Scans.read h m d) = reads-bad Reached.start (within-none lent) d
 
 -- a refusal that the reading comes to, with rows left for what was read before, is that of the whole file
-reached-bad : {s : List ℕ} {H R : ℕ} {sec : Section} {h r : ℕ} {xs : List ℕ} {q : Refusal}
-    → Reached s sec xs h r → h ≤ H → r ≤ R → Reads s H R sec h r xs (bad q) → Reads s H R Outside 0 0 s (bad q)
-reached-bad Reached.start l m d = d
-reached-bad (Reached.on u f) l m d = reached-bad u l m (Reads.on f d)
-reached-bad (Reached.header-row u f) l m d = reached-bad u (omega arith) m (Reads.header-row f (omega arith) d)
-reached-bad (Reached.data-row u f) l m d = reached-bad u l (omega arith) (Reads.data-row f (omega arith) d)
+reached-bad : {s : List ℕ} {lent : Counts} {sec : Section} {n : Counts} {xs : List ℕ} {q : Refusal}
+    → Reached s sec xs n → Within n lent → Reads s lent sec n xs (bad q) → Reads s lent Outside (counts 0 0) s (bad q)
+reached-bad Reached.start h d = d
+reached-bad (Reached.on u f) h d = reached-bad u h (Reads.on f d)
+reached-bad {lent} (Reached.row {n} k w ys u f) h d = let (i, p) = within-less n lent k h in reached-bad u i (Reads.row k w ys f p d)
 
 -- where the rows are used up, 8 is given
-pub full-reads : {s : List ℕ} {H R : ℕ} {q : Refusal} → Full s H R q → Reads s H R Outside 0 0 s (bad q)
-full-reads (Full.headers u m f) = reached-bad u (omega arith) m (Reads.header-full f (omega arith))
-full-reads (Full.records u l f) = reached-bad u l (omega arith) (Reads.data-full f (omega arith))
+pub full-reads : {s : List ℕ} {lent : Counts} {q : Refusal} → Full s lent q → Reads s lent Outside (counts 0 0) s (bad q)
+full-reads (Full.full k w ys t u h e f) = reached-bad u h (Reads.full k w ys t f (omega arith))

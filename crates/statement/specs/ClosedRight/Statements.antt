@@ -18,8 +18,9 @@ use Rattle.record.specs.Text.{before}
 use Rattle.record.specs.Word.{wordOf}
 use Rattle.record.specs.declared.Word.{Word}
 use Rattle.record.specs.declared.Word.the-variants.{Header, Data, EndSection, EndFile, Other}
-use Rattle.statement.specs.Row.{Row, HeaderRow, recordOf, headerOf}
-use Rattle.statement.specs.Statement.{Stmt, ends, refused, moved, header, record′, headed, recorded, worded, ended, begun, led, statement}
+use Rattle.statement.specs.Rows.{Row, HeaderRow, Stmt, ends, refused, moved, header, record′}
+use Rattle.statement.specs.Row.{recordOf, headerOf}
+use Rattle.statement.specs.Statement.{headed, recorded, worded, ended, begun, led, statement}
 use Rattle.statement.specs.Closed.{ClosedData, ClosedHeader, ClosedFrom}
 use Rattle.statement.specs.ClosedRight.{rowFrom, record-row, headerRowFrom, header-row, closed-hash}
 use Rattle.record.specs.HashOther.{hash-other}

@@ -2,14 +2,12 @@ use Prim.Native.Nat.{_-_}
 use native.Mathlib.Omega.{arith}
 use denote.Ref.{now}
 use lib.ListN.{length, drop}
-use Rattle.strings.specs.Steps.{Reading, rest-is, reading-starts, reading-ends, reading-stops, reading-breaks, reading-goes}
+use Rattle.strings.specs.Steps.{Reading, rest-is, reading-starts, reading-ends, reading-stops, reading-breaks, reading-goes, told-char, told-wrong, ends, closing-fits, used-fits}
 use borrow.Author.Needs.{needs}
 use mathlib.Core.Path.{_≡_, sym, _∙_, ap}
 use mathlib.Core.Bool.{true, false}
 use lib.ListN.{take, length-drop}
 use Rattle.strings.specs.Text.{closing}
-use Rattle.strings.specs.Steps.{told-char, told-wrong, ends, closing-fits}
-use Rattle.strings.specs.Steps.{used-fits}
 use Rattle.strings.proofs.groups.Statement.{statement}
 use Rattle.strings.proofs.groups.Tie as tie
 

@@ -44,11 +44,10 @@ use contract.Running.{givenOf, tables, tablesOf}
 use denote.Triple.Table.{entered, cited}
 use Rattle.error.specs.Refusal.{good}
 use Rattle.params.specs.Reader.{Read, reading, toldOpened, openedOf}
-use Rattle.after.specs.Leaving.{openedAt}
+use Rattle.after.specs.Leaving.{openedAt, Leaves}
 use Rattle.params.specs.declared.State.{State}
 use Rattle.params.proofs.State as St
 use Rattle.params.proofs.State.Laws as St′
-use Rattle.after.specs.Leaving.{Leaves}
 use Rattle.args.specs.declared.Args.{Args}
 use Rattle.args.specs.declared.Opening.{Opening}
 use Rattle.params.specs.declared.Opened.{Opened}

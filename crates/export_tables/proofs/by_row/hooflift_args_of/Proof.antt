@@ -3,7 +3,7 @@ use mathlib.Core.Path.{_∙_, sym, ap}
 use mathlib.Core.Option.{Option}
 use lib.ListN.{length}
 use Rattle.error.specs.Refusal.{Told}
-use Rattle.statement.specs.Row.{Row}
+use Rattle.statement.specs.Rows.{Row}
 use Rattle.lookup.specs.Lookup.{Span, spanIn, rowIn, toldEntry}
 use Rattle.lookup.specs.declared.Tables.{Tables}
 use Rattle.plain.specs.Answers.{readCode, readValue, foundCode, foundValue, found-code, found-value}

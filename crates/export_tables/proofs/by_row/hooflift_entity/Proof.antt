@@ -4,7 +4,7 @@ use mathlib.Core.Option.{Option}
 use lib.ListN.{length}
 use Rattle.error.specs.Refusal.{good}
 use Rattle.table.specs.Table.{rowWidth, six}
-use Rattle.statement.specs.Row.{Row}
+use Rattle.statement.specs.Rows.{Row}
 use Rattle.lookup.specs.Lookup.{rowIn, toldEntry}
 use Rattle.lookup.specs.declared.Tables.{Tables}
 use Rattle.plain.specs.Numbers.{outCode, outAfter}

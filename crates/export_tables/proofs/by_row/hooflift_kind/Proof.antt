@@ -1,7 +1,7 @@
 use denote.Ref.{now}
 use mathlib.Core.Path.{_∙_, sym, ap}
 use mathlib.Core.Option.{Option}
-use Rattle.statement.specs.Row.{Row}
+use Rattle.statement.specs.Rows.{Row}
 use Rattle.lookup.specs.Lookup.{rowIn, toldEntry, kindFound}
 use Rattle.lookup.specs.declared.Tables.{Tables}
 use Rattle.kinds.specs.Kind.{rankOf}

@@ -4,7 +4,7 @@ use lib.ListN.{length}
 use mathlib.Core.Option.{Option}
 use Rattle.error.specs.Refusal.{Told}
 use Rattle.table.specs.Table.{headerWidth, four}
-use Rattle.statement.specs.Row.{HeaderRow}
+use Rattle.statement.specs.Rows.{HeaderRow}
 use Rattle.parts.specs.Part.{toldNext}
 use Rattle.plain.specs.Answers.{readFault}
 use Rattle.plain.specs.Numbers.{outCode, outAfter}

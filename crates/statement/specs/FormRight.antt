@@ -1,20 +1,20 @@
--- Records and statements: Form.antt's rules and what Row.antt and Statement.antt compute are one. What is computed is so, and
--- nothing else is. Assumes nothing.
-use Prim.Native.Nat.{ℕ, _+_, _-_, _<_}
+-- Form.antt's rules and what Row.antt and Statement.antt compute are one: what is computed is so, and nothing else is; and the numbers
+-- of the refusals that a statement can answer. Assumes nothing.
+use Prim.Native.Nat.{ℕ, _+_, _-_, _≤_, _<_}
 use mathlib.Core.Path.{_≡_, refl, sym, _∙_, ap}
 use mathlib.Core.Logic.{_⊎_, inl, inr}
 use mathlib.Core.List.{List, [], _∷_, _++_, append-assoc}
+use mathlib.Core.Option.{Option, none, some}
 use native.Mathlib.Omega.{arith}
 use lib.ListN.{length, drop, length-append}
 use lib.Seq.{take-at, drop-at, drop-drop}
 use Rattle.common.specs.Compare.{clash}
-use Rattle.error.specs.Refusal.{Told, good, bad}
+use Rattle.error.specs.Refusal.{Refusal, Told, good, bad}
 use Rattle.lex.specs.Grammar.{Led, Runs, Deep, OpenText, OpenRemark}
 use Rattle.lex.specs.Search.{Sought, at, fault, trivia, recordEnd, closing, placed}
 use Rattle.lex.specs.Local.{trivia-shorter, end-local}
-use Rattle.lex.specs.Right.{trivia-only, trivia-open-only, trivia-is, trivia-open}
-use Rattle.lex.specs.Right.{end-only, end-text-only, end-remark-only, end-over-only, end-is, end-open}
-use Rattle.lex.specs.Right.{closing-only, closing-text-only, closing-remark-only, closing-over-only, closing-is, closing-open}
+use Rattle.lex.specs.Inside.{closes-any}
+use Rattle.lex.specs.Right.{trivia-only, trivia-open-only, trivia-is, trivia-open, end-only, end-text-only, end-remark-only, end-over-only, end-is, end-open, closing-only, closing-text-only, closing-remark-only, closing-over-only, closing-is, closing-open}
 use Rattle.record.specs.Text.{before}
 use Rattle.record.specs.Word.{wordOf}
 use Rattle.record.specs.Head.{dataHead, headerHead}
@@ -25,11 +25,12 @@ use Rattle.record.specs.declared.Word.{Word}
 use Rattle.record.specs.declared.Word.the-variants.{Header, Data, EndSection, EndFile, Other}
 use Rattle.record.specs.declared.Head.{Head}
 use Rattle.record.specs.declared.Head.the-variants.{Bad, Complex, Simple}
-use Rattle.statement.specs.Row.{Row, HeaderRow, recordOf, headerOf}
-use Rattle.statement.specs.Statement.{Stmt, moved, header, record′, headed, recorded, worded, ended, begun, statement}
+use Rattle.statement.specs.Rows.{Row, HeaderRow, Stmt, refused, moved, header, record′, bound, RowKind, header-kind, data-kind, RowOf, rowed}
+use Rattle.statement.specs.Row.{sought, recordOf, headerOf}
+use Rattle.statement.specs.Statement.{headed, recorded, worded, ended, begun, statement}
 use Rattle.statement.specs.declared.Section.{Section}
 use Rattle.statement.specs.declared.Section.the-variants.{Outside, InHeader, InData}
-use Rattle.scan.specs.Form.{After, Argued, DataForm, HeaderRecordForm, Record, StatementForm}
+use Rattle.statement.specs.Form.{After, onto, ArguedTo, Argued, DataForm, HeaderRecordForm, Record, StatementForm}
 
 -- what is left after so many bytes, and after one more
 after-drop : {n : ℕ} {ys zs : List ℕ} → After n ys zs → drop n ys ≡ zs
@@ -38,58 +39,114 @@ after-drop {n} {zs} (b, e, l) = rw e (drop-at b zs n l)
 after-next : {n c : ℕ} {ys zs : List ℕ} → After n ys (c ∷ zs) → drop (n + 1) ys ≡ zs
 after-next {n} {ys} a = sym (drop-drop 1 n ys) ∙ ap (drop 1) (after-drop a)
 
--- "The closing `)`": the answer by the rules is the one that is computed
-pub argued-only : {s t : List ℕ} {a : Told ℕ} → Argued s t a → a ≡ placed s (closing (40 ∷ t))
-argued-only (Argued.closed c) = rw (closing-only 40 c)
-argued-only (Argued.text-open d o) = rw (closing-text-only 40 d o)
-argued-only (Argued.remark-open d o) = rw (closing-remark-only 40 d o)
-argued-only (Argued.unclosed d) = rw (closing-over-only 40 d)
+-- a byte before a rest of what stands before the bound
+onto-on : (b : Option (List ℕ)) (c : ℕ) (u : List ℕ) → onto b (c ∷ u) ≡ c ∷ onto b u
+onto-on none c u = refl
+onto-on (some e) c u = refl
 
--- every `(` has an answer
-argued-comes : (s t : List ℕ) → (a : Told ℕ) × Argued s t a
-argued-comes s t = go (closing (40 ∷ t)) refl
+-- what stands before a rest
+before-own : (u e : List ℕ) → before (u ++ e) e ≡ u
+before-own u e = take-at u e (length (u ++ e) - length e) (simp length-append (omega arith))
+
+-- the search up to a bound is that of what stands before it, as if nothing followed
+module _ (b : Option (List ℕ)) (u : List ℕ) where
+  pub sought-at : (r : List ℕ) → closing (40 ∷ u) ≡ at r → sought b (40 ∷ onto b u) ≡ at (onto b r)
+  sought-at r h = go b
+    where
+      go : (b : Option (List ℕ)) → sought b (40 ∷ onto b u) ≡ at (onto b r)
+      go none = h
+      go (some e) = rw (before-own (40 ∷ u) e, h) refl
+
+  pub sought-fault : (n : ℕ) (r : List ℕ) → closing (40 ∷ u) ≡ fault n r → sought b (40 ∷ onto b u) ≡ fault n (onto b r)
+  sought-fault n r h = go b
+    where
+      go : (b : Option (List ℕ)) → sought b (40 ∷ onto b u) ≡ fault n (onto b r)
+      go none = h
+      go (some e) = rw (before-own (40 ∷ u) e, h) refl
+
+-- a `)` that is found before a bound is the one that is found without it: u stands before the bound, and e from there on
+pub sought-whole : (u e r : List ℕ) → sought (some e) (40 ∷ (u ++ e)) ≡ at r → closing (40 ∷ (u ++ e)) ≡ at r
+sought-whole u e r h = go (closing (40 ∷ u)) refl
   where
-    go : (x : Sought) → closing (40 ∷ t) ≡ x → (a : Told ℕ) × Argued s t a
-    go (at ys) e = let (r, q, c) = closing-is 40 t ys e in (_, Argued.closed c)
-    go (fault n o) e = faults (closing-open 40 t n o e)
+    go : (x : Sought) → closing (40 ∷ u) ≡ x → closing (40 ∷ (u ++ e)) ≡ at r
+    go (fault n o) q = clash (cc (sought-fault (some e) u n o q))
+    go (at y) q =
+        let (v, g, c) = closing-is 40 u y q in
+        let f : sought (some e) (40 ∷ (u ++ e)) ≡ at (y ++ e) = sought-at (some e) u y q in
+        let k : at ((41 ∷ v) ++ e) ≡ at r = ap (λ (l : List ℕ). at (l ++ e)) (sym g) ∙ sym f ∙ h in
+        closes-any c e ∙ k
+
+-- the `(` stands before the bound
+abbrev pub Bounded : Option (List ℕ) → List ℕ → Type 0
+Bounded b t = (u : List ℕ) × (t ≡ onto b u)
+
+-- without a bound it always does
+pub bounded-none : (t : List ℕ) → Bounded none t
+bounded-none t = (t, refl)
+
+-- a record's `(` stands before the record's bound: e follows the record's text, and r its `(` in it
+bounded-own : (body e r : List ℕ) → Bounded (bound (body ++ e) body) (r ++ e)
+bounded-own body e r = bounded-none (r ++ e)
+
+-- "The closing `)`": the answer by the rules is the one that is computed
+pub arguedto-only : {b : Option (List ℕ)} {s t : List ℕ} {a : Told ℕ} → ArguedTo b s t a → a ≡ placed s (sought b (40 ∷ t))
+arguedto-only {b} (ArguedTo.closed {u} e c) = rw (e, sought-at b u _ (closing-only 40 c)) refl
+arguedto-only {b} (ArguedTo.text-open {u} e d o) = rw (e, sought-fault b u 4 _ (closing-text-only 40 d o)) refl
+arguedto-only {b} (ArguedTo.remark-open {u} e d o) = rw (e, sought-fault b u 3 _ (closing-remark-only 40 d o)) refl
+arguedto-only {b} (ArguedTo.unclosed {u} e d) = rw (e, sought-fault b u 6 _ (closing-over-only 40 d), onto-on b 40 u) refl
+
+-- every `(` before the bound has an answer
+arguedto-comes : (b : Option (List ℕ)) (s t : List ℕ) → Bounded b t → (a : Told ℕ) × ArguedTo b s t a
+arguedto-comes b s t (u, h) = go (closing (40 ∷ u)) refl
+  where
+    go : (x : Sought) → closing (40 ∷ u) ≡ x → (a : Told ℕ) × ArguedTo b s t a
+    go (at ys) e = let (r, q, c) = closing-is 40 u ys e in (_, ArguedTo.closed h c)
+    go (fault n o) e = faults (closing-open 40 u n o e)
       where
-        faults : ((n ≡ 4) × ((d : ℕ) × Deep d t o) × OpenText o)
-            ⊎ (((n ≡ 3) × ((d : ℕ) × Deep d t o) × OpenRemark o) ⊎ ((n ≡ 6) × (o ≡ 40 ∷ t) × ((d : ℕ) × Deep d t [])))
-            → (a : Told ℕ) × Argued s t a
-        faults (inl (k, (d, f), q)) = (_, Argued.text-open f q)
-        faults (inr (inl (k, (d, f), q))) = (_, Argued.remark-open f q)
-        faults (inr (inr (k, g, (d, f)))) = (_, Argued.unclosed f)
+        faults : ((n ≡ 4) × ((d : ℕ) × Deep d u o) × OpenText o)
+            ⊎ (((n ≡ 3) × ((d : ℕ) × Deep d u o) × OpenRemark o) ⊎ ((n ≡ 6) × (o ≡ 40 ∷ u) × ((d : ℕ) × Deep d u [])))
+            → (a : Told ℕ) × ArguedTo b s t a
+        faults (inl (k, (d, f), q)) = (_, ArguedTo.text-open h f q)
+        faults (inr (inl (k, (d, f), q))) = (_, ArguedTo.remark-open h f q)
+        faults (inr (inr (k, g, (d, f)))) = (_, ArguedTo.unclosed h f)
 
 -- "The closing `)`": the answer that is computed is that by the rules
+pub arguedto-is : (b : Option (List ℕ)) (s t : List ℕ) → Bounded b t → ArguedTo b s t (placed s (sought b (40 ∷ t)))
+arguedto-is b s t h = sole (ArguedTo b s t) (λ a. arguedto-only) (arguedto-comes b s t h)
+
+-- "through the whole file": so it is without a bound
+pub argued-only : {s t : List ℕ} {a : Told ℕ} → Argued s t a → a ≡ placed s (closing (40 ∷ t))
+argued-only g = arguedto-only g
+
 pub argued-is : (s t : List ℕ) → Argued s t (placed s (closing (40 ∷ t)))
-argued-is s t = sole (Argued s t) (λ a. argued-only) (argued-comes s t)
+argued-is s t = arguedto-is none s t (bounded-none t)
 
 -- "A row holds ..": the row or refusal of a data record by the rules is the one that is computed
 pub dataform-only : {s ys body : List ℕ} {a : Told Row} → DataForm s ys body a → a ≡ recordOf s ys body
 unfolding recordOf
 dataform-only (DataForm.bad-record h) = rw (← headform-only h)
-dataform-only (DataForm.complex h o g) = rw (← headform-only h, after-drop o, after-next o, ← argued-only g)
-dataform-only (DataForm.complex-refused h o g) = rw (← headform-only h, after-drop o, ← argued-only g)
+dataform-only (DataForm.complex h o g) = rw (← headform-only h, after-drop o, after-next o, ← arguedto-only g)
+dataform-only (DataForm.complex-refused h o g) = rw (← headform-only h, after-drop o, ← arguedto-only g)
 dataform-only (DataForm.simple h a z o g) =
-    rw (← headform-only h, after-drop o, after-next o, after-drop a, after-drop z, ← argued-only g)
-dataform-only (DataForm.simple-refused h o g) = rw (← headform-only h, after-drop o, ← argued-only g)
+    rw (← headform-only h, after-drop o, after-next o, after-drop a, after-drop z, ← arguedto-only g)
+dataform-only (DataForm.simple-refused h o g) = rw (← headform-only h, after-drop o, ← arguedto-only g)
 
 -- and so for a header record
 pub headerrecord-only : {s ys body : List ℕ} {a : Told HeaderRow} → HeaderRecordForm s ys body a → a ≡ headerOf s ys body
 unfolding headerOf
 headerrecord-only (HeaderRecordForm.bad-record h) = rw (← headerform-only h)
 headerrecord-only (HeaderRecordForm.named h a z o g) =
-    rw (← headerform-only h, after-drop o, after-next o, after-drop a, after-drop z, ← argued-only g)
-headerrecord-only (HeaderRecordForm.named-refused h o g) = rw (← headerform-only h, after-drop o, ← argued-only g)
+    rw (← headerform-only h, after-drop o, after-next o, after-drop a, after-drop z, ← arguedto-only g)
+headerrecord-only (HeaderRecordForm.named-refused h o g) = rw (← headerform-only h, after-drop o, ← arguedto-only g)
 
 -- the places of a head, as rests of the file from the record's start
-abbrev Placed : List ℕ → Head → Type 0
-Placed ys (Bad why) = Unit {0}
-Placed ys (Complex i o) = (t : List ℕ) × After o ys (40 ∷ t)
-Placed ys (Simple i a z o) = (k l t : List ℕ) × After a ys k × After z ys l × After o ys (40 ∷ t)
+abbrev Placed : Option (List ℕ) → List ℕ → Head → Type 0
+Placed b ys (Bad why) = Unit {0}
+Placed b ys (Complex i o) = (t : List ℕ) × After o ys (40 ∷ t) × Bounded b t
+Placed b ys (Simple i a z o) = (k l t : List ℕ) × After a ys k × After z ys l × After o ys (40 ∷ t) × Bounded b t
 
 keyed-placed : (n : ℕ) (a e : List ℕ) {v k w r : List ℕ} → Keyword v k w r
-    → Placed ((a ++ v) ++ e) (Simple n (length a) (length (a ++ k)) (length (a ++ (k ++ w))))
+    → Placed (bound ((a ++ v) ++ e) (a ++ v)) ((a ++ v) ++ e) (Simple n (length a) (length (a ++ k)) (length (a ++ (k ++ w))))
 keyed-placed n a e {v} {k} {w} {r} f = (
   v ++ e,
   w ++ (40 ∷ (r ++ e)),
@@ -97,20 +154,21 @@ keyed-placed n a e {v} {k} {w} {r} f = (
   (a, append-assoc a v e, refl),
   (a ++ k, rw (f .shape) (simp append-assoc), refl),
   (a ++ (k ++ w), rw (f .shape) (simp append-assoc), refl),
+  bounded-own (a ++ v) e r,
 )
 
 -- the places of a record's head lie in it, and its arguments' start is a `(`
-head-placed : (e : List ℕ) {body : List ℕ} {h : Head} → HeadForm body h → Placed (body ++ e) h
+head-placed : (e : List ℕ) {body : List ℕ} {h : Head} → HeadForm body h → Placed (bound (body ++ e) body) (body ++ e) h
 head-placed e (HeadForm.unmarked b h) = tt
 head-placed e (HeadForm.above ds r a h) = tt
 head-placed e (HeadForm.numberless r h) = tt
 head-placed e (HeadForm.unequal ds w r i d s h) = tt
 head-placed e (HeadForm.valueless l) = tt
 head-placed e (HeadForm.unopened l z f) = tt
-head-placed e (HeadForm.complex {a} {r} l) = (r ++ e, (a, append-assoc a (40 ∷ r) e, refl))
+head-placed e (HeadForm.complex {a} {r} l) = (r ++ e, (a, append-assoc a (40 ∷ r) e, refl), bounded-own (a ++ (40 ∷ r)) e r)
 head-placed e (HeadForm.simple {a} {n} l h f) = keyed-placed n a e f
 
-header-placed : (e : List ℕ) {body : List ℕ} {h : Head} → HeaderForm body h → Placed (body ++ e) h
+header-placed : (e : List ℕ) {body : List ℕ} {h : Head} → HeaderForm body h → Placed (bound (body ++ e) body) (body ++ e) h
 header-placed e (HeaderForm.unopened b f) = tt
 header-placed e (HeaderForm.named {a} s f) = keyed-placed 0 a e f
 
@@ -119,26 +177,26 @@ header-simple : {body : List ℕ} {i o : ℕ} → HeaderForm body (Complex i o) 
 header-simple f = elim f [ ]
 
 -- every data record has a row or a refusal
-dataform-comes : (s ys body : List ℕ) (h : Head) → HeadForm body h → Placed ys h → (a : Told Row) × DataForm s ys body a
+dataform-comes : (s ys body : List ℕ) (h : Head) → HeadForm body h → Placed (bound ys body) ys h → (a : Told Row) × DataForm s ys body a
 dataform-comes s ys body (Bad why) f p = (_, DataForm.bad-record f)
-dataform-comes s ys body (Complex i o) f (t, p) = go (argued-comes s t)
+dataform-comes s ys body (Complex i o) f (t, p, m) = go (arguedto-comes (bound ys body) s t m)
   where
-    go : (a : Told ℕ) × Argued s t a → (a : Told Row) × DataForm s ys body a
+    go : (a : Told ℕ) × ArguedTo (bound ys body) s t a → (a : Told Row) × DataForm s ys body a
     go (good e, g) = (_, DataForm.complex f p g)
     go (bad q, g) = (_, DataForm.complex-refused f p g)
-dataform-comes s ys body (Simple i a z o) f (k, l, t, pa, pz, p) = go (argued-comes s t)
+dataform-comes s ys body (Simple i a z o) f (k, l, t, pa, pz, p, m) = go (arguedto-comes (bound ys body) s t m)
   where
-    go : (a : Told ℕ) × Argued s t a → (a : Told Row) × DataForm s ys body a
+    go : (a : Told ℕ) × ArguedTo (bound ys body) s t a → (a : Told Row) × DataForm s ys body a
     go (good e, g) = (_, DataForm.simple f pa pz p g)
     go (bad q, g) = (_, DataForm.simple-refused f p g)
 
 -- and so has every header record
-headerrecord-comes : (s ys body : List ℕ) (h : Head) → HeaderForm body h → Placed ys h → (a : Told HeaderRow) × HeaderRecordForm s ys body a
+headerrecord-comes : (s ys body : List ℕ) (h : Head) → HeaderForm body h → Placed (bound ys body) ys h → (a : Told HeaderRow) × HeaderRecordForm s ys body a
 headerrecord-comes s ys body (Bad why) f p = (_, HeaderRecordForm.bad-record f)
 headerrecord-comes s ys body (Complex i o) f p = absurd (header-simple f)
-headerrecord-comes s ys body (Simple i a z o) f (k, l, t, pa, pz, p) = go (argued-comes s t)
+headerrecord-comes s ys body (Simple i a z o) f (k, l, t, pa, pz, p, m) = go (arguedto-comes (bound ys body) s t m)
   where
-    go : (a : Told ℕ) × Argued s t a → (a : Told HeaderRow) × HeaderRecordForm s ys body a
+    go : (a : Told ℕ) × ArguedTo (bound ys body) s t a → (a : Told HeaderRow) × HeaderRecordForm s ys body a
     go (good e, g) = (_, HeaderRecordForm.named f pa pz p g)
     go (bad q, g) = (_, HeaderRecordForm.named-refused f p g)
 
@@ -284,3 +342,37 @@ header-shorter (StatementForm.header-row d f g) = record-shorter d
 -- less is left after a data record
 pub data-shorter : {s : List ℕ} {sec : Section} {xs ys t : List ℕ} {w : Row} → StatementForm s sec xs (record′ w ys t) → length t < length xs
 data-shorter (StatementForm.data-row d f g) = record-shorter d
+
+-- less is left after a record that gives a row
+pub row-shorter : {s : List ℕ} {sec : Section} {xs : List ℕ} (k : RowKind) (w : RowOf k) (ys t : List ℕ) → StatementForm s sec xs (rowed k w ys t)
+    → length t < length xs
+row-shorter header-kind w ys t f = header-shorter f
+row-shorter data-kind w ys t f = data-shorter f
+
+-- a refusal's number is from l to m
+abbrev pub Between : ℕ → ℕ → Refusal → Type 0
+Between l m q = (l ≤ q .number) × (q .number ≤ m)
+
+-- a record's arguments are refused with 3, 4 or 6, and a record with 7 besides
+argued-number : {b : Option (List ℕ)} {s t : List ℕ} {q : Refusal} → ArguedTo b s t (bad q) → Between 3 6 q
+argued-number (ArguedTo.text-open e d o) = omega arith
+argued-number (ArguedTo.remark-open e d o) = omega arith
+argued-number (ArguedTo.unclosed e d) = omega arith
+
+data-number : {s ys body : List ℕ} {q : Refusal} → DataForm s ys body (bad q) → Between 3 7 q
+data-number (DataForm.bad-record h) = omega arith
+data-number (DataForm.complex-refused h o g) = omega (arith, argued-number g)
+data-number (DataForm.simple-refused h o g) = omega (arith, argued-number g)
+
+header-number : {s ys body : List ℕ} {q : Refusal} → HeaderRecordForm s ys body (bad q) → Between 3 7 q
+header-number (HeaderRecordForm.bad-record h) = omega arith
+header-number (HeaderRecordForm.named-refused h o g) = omega (arith, argued-number g)
+
+-- a statement is refused with 3 to 7
+pub statement-number : {s : List ℕ} {sec : Section} {xs : List ℕ} {q : Refusal} → StatementForm s sec xs (refused q) → Between 3 7 q
+statement-number (StatementForm.trivia-open r o) = omega arith
+statement-number (StatementForm.endless l h r) = omega arith
+statement-number (StatementForm.text-open l r o) = omega arith
+statement-number (StatementForm.remark-open l r o) = omega arith
+statement-number (StatementForm.header-refused d f g) = header-number g
+statement-number (StatementForm.data-refused d f g) = data-number g
