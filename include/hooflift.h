@@ -40,7 +40,7 @@ extern "C" {
 #define HOOFLIFT_HEADER_ROW 4
 #define HOOFLIFT_TABLES 16
 #define HOOFLIFT_IDS 8
-#define HOOFLIFT_NEEDS 8
+#define HOOFLIFT_NEEDS 12
 
 /* Kinds of records, by number. */
 enum {

@@ -82,7 +82,7 @@ pub struct Needs {
 /// # Ok::<(), hooflift::Error>(())
 /// ```
 pub fn needs(file: &[u8]) -> Result<Needs> {
-    let mut numbers = [0; 8];
+    let mut numbers = [0; raw::NEEDS];
     let (mut reason, mut place) = (0, 0);
     match raw::hooflift_needs(file, &mut numbers, &mut reason, &mut place) {
         0 => {
@@ -100,7 +100,7 @@ pub struct Step<'f> {
     headers: Vec<u32>,
     rows: Vec<u32>,
     slots: Vec<u64>,
-    tables: [u64; 16],
+    tables: [u64; raw::TABLES],
 }
 
 impl<'f> Step<'f> {
@@ -112,7 +112,7 @@ impl<'f> Step<'f> {
     /// ```
     pub fn open(file: &'f [u8]) -> Result<Step<'f>> {
         let needs = needs(file)?;
-        let mut tables = [0; 16];
+        let mut tables = [0; raw::TABLES];
         let (mut reason, mut place) = (0, 0);
         let size = |count: u64, each: usize| usize::try_from(count).ok().and_then(|n| n.checked_mul(each)).ok_or(Error::NoMemory);
         let mut headers = room(size(needs.headers, 4)?, 0)?;

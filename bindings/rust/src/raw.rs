@@ -5,6 +5,11 @@
 //! input) and keep no pointer.
 #![allow(unsafe_code, clippy::too_many_arguments)]
 
+/// How many numbers go with the tables: `HOOFLIFT_TABLES`.
+pub const TABLES: usize = 16;
+/// How many tell what a file needs: `HOOFLIFT_NEEDS`.
+pub const NEEDS: usize = 12;
+
 macro_rules! boundary {
     ($($name:ident ( $($kind:tt $arg:ident : $ty:ty),* ) -> $out:ty;)*) => {
         $( boundary!(@one $name ($($kind $arg : $ty),*) -> $out); )*
@@ -87,4 +92,33 @@ boundary! {
     hooflift_units_of_context(slice file: u8, slice rows: u32, slice slots: u64, slice tables: u64, by k: usize, out mm: f64, out rad: f64, out tolerance: f64, out resolved: u8, out fault: usize) -> u8;
     hooflift_keep_rows(by len: usize, slice rows: u32, by count: usize, room bytes: u8, out kept: usize) -> u8;
     hooflift_read_rows(by len: usize, slice bytes: u8, room rows: u32, out count: usize) -> u8;
+}
+
+#[cfg(test)]
+mod tests {
+    use super::*;
+
+    const FILE: &[u8] = b"ISO-10303-21;DATA;#1=A(1);ENDSEC;";
+
+    #[test]
+    fn widths_are_those_of_the_header() {
+        let header = include_str!("../../../include/hooflift.h");
+        for (name, width) in [("TABLES", TABLES), ("NEEDS", NEEDS)] {
+            assert!(header.contains(&format!("#define HOOFLIFT_{name} {width}\n")), "{name}");
+        }
+    }
+
+    #[test]
+    fn one_number_fewer_is_refused() {
+        let (mut needs, mut reason, mut fault) = ([9; NEEDS], 7, 7);
+        assert_eq!(hooflift_needs(FILE, &mut needs[1..], &mut reason, &mut fault), 16);
+        assert_eq!((needs, reason, fault), ([9; NEEDS], 7, 7));
+        assert_eq!(hooflift_needs(FILE, &mut needs, &mut reason, &mut fault), 0);
+        assert_eq!((needs, reason, fault), ([0, 1, 1, 0, 0, 0, 9, 9, 9, 9, 9, 9], 7, 7));
+        let (mut rows, mut slots, mut tables) = ([0; 6], [0; 1], [9; TABLES]);
+        assert_eq!(hooflift_open(FILE, &mut [], &mut rows, &mut slots, &mut tables[1..], &mut reason, &mut fault), 16);
+        assert_eq!((rows, tables, reason, fault), ([0; 6], [9; TABLES], 7, 7));
+        assert_eq!(hooflift_open(FILE, &mut [], &mut rows, &mut slots, &mut tables, &mut reason, &mut fault), 0);
+        assert_eq!((tables[8], tables[9], tables[10]), (0, 1, 1));
+    }
 }

@@ -1,5 +1,6 @@
 -- What it is for two files to be alike, where they are looked at: answers, parts of the file, records and lookups. Places are free:
--- bytes, kinds, values and refusal numbers are not. Assumes nothing.
+-- bytes, kinds, values and refusal numbers are not. `Named` are the ids that matter: every id that the bytes name is one of them, and
+-- of no other is anything asked. Assumes nothing.
 use Prim.Native.Nat.{ℕ, _≤_}
 use mathlib.Core.Path.{_≡_, refl, ap}
 use mathlib.Core.Bool.{Bool, true, false}
@@ -13,6 +14,7 @@ use Rattle.params.specs.Reader.{Span, onward}
 use Rattle.lookup.specs.Lookup.{cut}
 use Rattle.factors.specs.Thing.{goodBy, sameKind, Piece, Thing, firstPiece, selfOr}
 use Rattle.factors.specs.Factor.{optionBy}
+use Rattle.alike.specs.Names.{Names}
 
 -- "the same refusal number" (demand 3): two refusals with the same number and reason, wherever their places are
 abbrev pub SameRefusal : Refusal → Refusal → Type 0
@@ -43,31 +45,36 @@ BothList R (a ∷ l) (b ∷ m) = R a b × BothList R l m
 abbrev pub SameTold : {A : Type 0} → Told A → Told A → Type 0
 SameTold x y = BothTold (λ a b. a ≡ b) x y
 
--- two parts of the files s and s′: each lies in its file and runs forwards, and both have the same bytes
-pub record AlikeRun (s s′ : List ℕ) (r r′ : Span) : Type 0 where
+-- two parts of the files s and s′: each lies in its file and runs forwards, both have the same bytes, and these name no other ids
+pub record AlikeRun (Named : ℕ → Type 0) (s s′ : List ℕ) (r r′ : Span) : Type 0 where
   pub ordered : r .start ≤ r .stop
   pub within : r .stop ≤ length s
   pub ordered′ : r′ .start ≤ r′ .stop
   pub within′ : r′ .stop ≤ length s′
   pub same : cut s (r .start) (r .stop) ≡ cut s′ (r′ .start) (r′ .stop)
+  pub names : (k : ℕ) → Names (cut s (r .start) (r .stop)) k → Named k
 
 -- two parts of complex records: the same kind, the same bytes
-abbrev pub AlikePiece : List ℕ → List ℕ → Piece → Piece → Type 0
-AlikePiece s s′ p p′ = (p .kind ≡ p′ .kind) × AlikeRun s s′ (p .run) (p′ .run)
+abbrev pub AlikePiece : (ℕ → Type 0) → List ℕ → List ℕ → Piece → Piece → Type 0
+AlikePiece Named s s′ p p′ = (p .kind ≡ p′ .kind) × AlikeRun Named s s′ (p .run) (p′ .run)
 
 -- two records: the same kind, the same bytes, and alike parts or the same fault in them
-pub record AlikeThing (s s′ : List ℕ) (t t′ : Thing) : Type 0 where
+pub record AlikeThing (Named : ℕ → Type 0) (s s′ : List ℕ) (t t′ : Thing) : Type 0 where
   pub kind : t .kind ≡ t′ .kind
-  pub run : AlikeRun s s′ (t .run) (t′ .run)
-  pub parts : BothTold (BothList (AlikePiece s s′)) (t .parts) (t′ .parts)
+  pub run : AlikeRun Named s s′ (t .run) (t′ .run)
+  pub parts : BothTold (BothList (AlikePiece Named s s′)) (t .parts) (t′ .parts)
 
 -- two records that were looked up: none, or two that are alike
-abbrev pub AlikeFound : List ℕ → List ℕ → Told (Option Thing) → Told (Option Thing) → Type 0
-AlikeFound s s′ x y = BothTold (BothOption (AlikeThing s s′)) x y
+abbrev pub AlikeFound : (ℕ → Type 0) → List ℕ → List ℕ → Told (Option Thing) → Told (Option Thing) → Type 0
+AlikeFound Named s s′ x y = BothTold (BothOption (AlikeThing Named s s′)) x y
 
--- two lookups: "each id then yields a record with the same keyword and argument bytes, or none as before"
-pub record AlikeFind (s s′ : List ℕ) (find find′ : ℕ → Told (Option Thing)) : Type 0 where
-  pub found : (k : ℕ) → AlikeFound s s′ (find k) (find′ k)
+-- two lookups: "each id then yields a record with the same keyword and argument bytes, or none as before", each of those that matter
+pub record AlikeFind (Named : ℕ → Type 0) (s s′ : List ℕ) (find find′ : ℕ → Told (Option Thing)) : Type 0 where
+  pub found : (k : ℕ) → Named k → AlikeFound Named s s′ (find k) (find′ k)
+
+-- all ids matter
+abbrev pub Every : ℕ → Type 0
+Every k = Unit {0}
 
 -- ---- answers put together
 -- an answer is the same as itself
@@ -121,28 +128,35 @@ module _ {A B : Type 0} (R : A → B → Type 0) where
 pub same-on : {A B : Type 0} (f g : A → Told B) (x y : Told A) → SameTold x y → ((a : A) → SameTold (f a) (g a)) → SameTold (onward f x) (onward g y)
 same-on f g x y h k = both-on (λ a b. a ≡ b) (λ a b. a ≡ b) f g x y h (λ a b e. rw (← e) (k a))
 
+-- the same, read on, where it is known what was read
+pub same-on-read : {A B : Type 0} (f g : A → Told B) (x y : Told A) → SameTold x y → ((a : A) → x ≡ good a → SameTold (f a) (g a)) → SameTold (onward f x) (onward g y)
+same-on-read f g (good a) (good b) h k = rw (← h) (k a refl)
+same-on-read f g (good a) (bad q) h k = absurd h
+same-on-read f g (bad q) (good b) h k = absurd h
+same-on-read f g (bad q) (bad q′) h k = h
+
 -- the same, by a function
 pub same-by : {A B : Type 0} (f : A → B) (x y : Told A) → SameTold x y → SameTold (goodBy f x) (goodBy f y)
 same-by f x y h = both-by (λ a b. a ≡ b) (λ a b. a ≡ b) f f x y h (λ a b e. ap f e)
 
 -- ---- records
-module _ (s s′ : List ℕ) where
+module _ (Named : ℕ → Type 0) (s s′ : List ℕ) where
   -- the first part of a kind
-  pub first-alike : (k : Kind) (ps ps′ : List Piece) → BothList (AlikePiece s s′) ps ps′ → BothOption (AlikeRun s s′) (firstPiece k ps) (firstPiece k ps′)
+  pub first-alike : (k : Kind) (ps ps′ : List Piece) → BothList (AlikePiece Named s s′) ps ps′ → BothOption (AlikeRun Named s s′) (firstPiece k ps) (firstPiece k ps′)
   first-alike k [] [] h = tt
   first-alike k [] (p ∷ ps) h = absurd h
   first-alike k (p ∷ ps) [] h = absurd h
   first-alike k (p ∷ ps) (p′ ∷ ps′) ((e, r), h) = rw (← e) (go (sameKind (p .kind) k) (first-alike k ps ps′ h))
     where
-      go : (b : Bool) → BothOption (AlikeRun s s′) (firstPiece k ps) (firstPiece k ps′) → BothOption (AlikeRun s s′) (pick b (some (p .run)) (firstPiece k ps)) (pick b (some (p′ .run)) (firstPiece k ps′))
+      go : (b : Bool) → BothOption (AlikeRun Named s s′) (firstPiece k ps) (firstPiece k ps′) → BothOption (AlikeRun Named s s′) (pick b (some (p .run)) (firstPiece k ps)) (pick b (some (p′ .run)) (firstPiece k ps′))
       go true l = r
       go false l = l
 
-  module _ (t t′ : Thing) (h : AlikeThing s s′ t t′) where
+  module _ (t t′ : Thing) (h : AlikeThing Named s s′ t t′) where
     -- the arguments of the first part of a kind
-    pub piece-alike : (k : Kind) → BothTold (BothOption (AlikeRun s s′)) (goodBy (firstPiece k) (t .parts)) (goodBy (firstPiece k) (t′ .parts))
-    piece-alike k = both-by (BothList (AlikePiece s s′)) (BothOption (AlikeRun s s′)) (firstPiece k) (firstPiece k) (t .parts) (t′ .parts) (h .parts) (first-alike k)
+    pub piece-alike : (k : Kind) → BothTold (BothOption (AlikeRun Named s s′)) (goodBy (firstPiece k) (t .parts)) (goodBy (firstPiece k) (t′ .parts))
+    piece-alike k = both-by (BothList (AlikePiece Named s s′)) (BothOption (AlikeRun Named s s′)) (firstPiece k) (firstPiece k) (t .parts) (t′ .parts) (h .parts) (first-alike k)
 
     -- the arguments of a record of a kind, or of its first part of that kind
-    pub self-alike : (k : Kind) → BothTold (BothOption (AlikeRun s s′)) (selfOr k t) (selfOr k t′)
-    self-alike k = rw (← h .kind) (both-pick (BothOption (AlikeRun s s′)) (sameKind (t .kind) k) (good (some (t .run))) (goodBy (firstPiece k) (t .parts)) (good (some (t′ .run))) (goodBy (firstPiece k) (t′ .parts)) (h .run) (piece-alike k))
+    pub self-alike : (k : Kind) → BothTold (BothOption (AlikeRun Named s s′)) (selfOr k t) (selfOr k t′)
+    self-alike k = rw (← h .kind) (both-pick (BothOption (AlikeRun Named s s′)) (sameKind (t .kind) k) (good (some (t .run))) (goodBy (firstPiece k) (t .parts)) (good (some (t′ .run))) (goodBy (firstPiece k) (t′ .parts)) (h .run) (piece-alike k))

@@ -2,14 +2,22 @@
 -- bytes" (demand 3), and so do its parts, of which none has a fault. q precedes the record's text b in the file, y follows it.
 -- Assumes nothing.
 use Prim.Native.Nat.{ℕ, _+_, _-_, _≤_}
-use mathlib.Core.Path.{_≡_, refl, sym, _∙_, ap}
+use mathlib.Core.Path.{_≡_, refl, sym, _∙_, ap, subst}
 use mathlib.Core.Bool.{true}
-use mathlib.Core.List.{List, [], _∷_, _++_, map, append-assoc}
+use mathlib.Core.List.{List, [], _∷_, _++_, map, append-assoc, append-nil}
+use mathlib.Core.Option.{Option, some}
 use native.Mathlib.Omega.{arith}
 use borrow.Author.Tests.{le-leb}
 use lib.ListN.{length, take, drop, length-append, length-drop}
 use lib.Seq.{drop-append-add, drop-append-le, take-append-le, take-append-seam, drop-append-seam}
-use Rattle.error.specs.Refusal.{Told, good}
+use Rattle.common.specs.Compare.{clash}
+use Rattle.error.specs.Refusal.{Told, good, bad}
+use Rattle.lex.specs.Byte.{place}
+use Rattle.lex.specs.Local.{closing-local}
+use Rattle.lex.specs.Right.{closing-only}
+use Rattle.record.specs.Text.{digit}
+use Rattle.record.specs.Form.{NotFirst}
+use Rattle.record.specs.FormRight.Parts.{first-other}
 use Rattle.record.specs.Head.{dataHead}
 use Rattle.record.specs.declared.Head.the-variants.{Simple}
 use Rattle.record.specs.FormRight.{headform-is}
@@ -20,11 +28,15 @@ use Rattle.statement.specs.Closed.{ClosedAt, ClosedParts, ClosedData}
 use Rattle.statement.specs.ClosedRight.{rowFrom, contentOf, record-row}
 use Rattle.kinds.specs.Kind.{kindOf}
 use Rattle.kinds.specs.declared.Kind.{Kind}
+use Rattle.scan.specs.Form.{Argued}
 use Rattle.params.specs.Reader.{Span, span}
+use Rattle.params.specs.RulesRight.{Rest, rest-of, rest-place}
 use Rattle.words.specs.Places.{SpanIn}
-use Rattle.parts.specs.Part.{Window, partsOf}
+use Rattle.parts.specs.Part.{Window, NextForm, before, PartsForm, partsOf}
+use Rattle.parts.specs.PartRight.{parts-are}
 use Rattle.parts.specs.Closed.{shiftRow, RowsIn, parts-closed-good}
 use Rattle.lookup.specs.Lookup.{cut, spanFine, kindIn}
+use Rattle.alike.specs.Names.{Names, names-cut}
 use Rattle.alike.specs.Alike.{BothTold, BothList, AlikeRun, AlikePiece, AlikeThing}
 use Rattle.factors.specs.Thing.{goodBy, Piece, pieceOf, Thing, piecesOf, thingAt, thingOf}
 
@@ -73,28 +85,76 @@ module _ {s b : List ℕ} {m n : ℕ} (w : Window s m n b) where
       → partsOf s m n ≡ good (map (shiftRow m) rel)
   window-parts rel h = rw (w .shape, ← w .ends, ← w .starts) (h (w .front) (w .back))
 
--- two parts of files that lie there and have the same bytes
-run-of : {s z : List ℕ} {a b : Span} → SpanIn (length s) a → SpanIn (length z) b → cut s (a .start) (a .stop) ≡ cut z (b .start) (b .stop) → AlikeRun s z a b
-run-of (h, k) (i, j) e = record { ordered = h; within = k; ordered′ = i; within′ = j; same = e }
+-- ---- what follows a part's arguments
+-- "its `)` ends the part": no digit
+abbrev Shut : List ℕ → List HeaderRow → Type 0
+Shut s [] = Unit {0}
+Shut s (p ∷ ps) = NotFirst digit (drop (p .argEnd) s) × Shut s ps
 
--- the same bytes at two places are alike
-runs-alike : {s z b : List ℕ} {i j m n : ℕ} → Window s i j b → Window z m n b → AlikeRun s z (span i j) (span m n)
-runs-alike v w = run-of (window-in v) (window-in w) (window-cut v ∙ sym (window-cut w))
+-- a `)` that was sought from the rest u on
+argued-shut : {s u : List ℕ} {x : Told ℕ} → Argued s u x → Rest s u → (e : ℕ) → x ≡ good e → NotFirst digit (drop e s)
+argued-shut {s} {u} (Argued.closed {r} c) h e k =
+    let (b, f, l) = closing-local 40 u r (closing-only 40 c) in
+    let d : place s (41 ∷ r) ≡ e = cc in
+    let g : drop e s ≡ 41 ∷ r = ap (λ (i : ℕ). drop i s) (sym d) ∙ rest-place (rest-of h (b, f)) in
+    subst (NotFirst digit) (sym g) (first-other digit 41 r refl)
+argued-shut (Argued.text-open d o) h e k = clash (cc)
+argued-shut (Argued.remark-open d o) h e k = clash (cc)
+argued-shut (Argued.unclosed d) h e k = clash (cc)
 
--- and so are their parts
-pieces-alike : {s z b : List ℕ} {i j m n : ℕ} → Window s i j b → Window z m n b → (rel : List HeaderRow) → RowsIn (length b) rel
-    → BothList (AlikePiece s z) (map (pieceOf s) (map (shiftRow i) rel)) (map (pieceOf z) (map (shiftRow m) rel))
-pieces-alike v w [] h = tt
-pieces-alike {s} {z} {b} {i} {j} {m} {n} v w (p ∷ ps) ((c, d, e, f), t) = (
-  (
-    ap kindOf (same (p .keyStart) (p .keyEnd) c d),
-    run-of (inner-in v (p .argStart) (p .argEnd) e f) (inner-in w (p .argStart) (p .argEnd) e f) (same (p .argStart) (p .argEnd) e f),
-  ),
-  pieces-alike v w ps t,
-)
+-- the next part
+next-shut : {s : List ℕ} {from end : ℕ} {x : Told (Option HeaderRow)} → NextForm s from end x → (p : HeaderRow) → x ≡ good (some p) → NotFirst digit (drop (p .argEnd) s)
+next-shut {s} (NextForm.part {f} {v} {k} {w} {r} {e} m d y a) p g =
+    let h : s ≡ (m .front ++ (f ++ (k ++ (w ++ (40 ∷ []))))) ++ (r ++ m .back) =
+    m .shape ∙ ap (λ (l : List ℕ). m .front ++ ((f ++ l) ++ m .back)) (y .shape) ∙ simp append-assoc in
+    argued-shut a (m .front ++ (f ++ (k ++ (w ++ (40 ∷ [])))), h) (p .argEnd) (cc)
+next-shut (NextForm.outside h) p g = clash (cc)
+next-shut (NextForm.done h k) p g = clash (cc)
+next-shut (NextForm.over m d h) p g = clash (cc)
+next-shut (NextForm.refused m d y a) p g = clash (cc)
+
+-- all parts
+parts-shut : {s : List ℕ} {from end : ℕ} {x : Told (List HeaderRow)} → PartsForm s end from x → (ps : List HeaderRow) → x ≡ good ps → Shut s ps
+parts-shut {s} (PartsForm.over h) ps g = let d : [] ≡ ps = cc in subst (Shut s) d tt
+parts-shut (PartsForm.fault h) ps g = clash (cc)
+parts-shut {s} (PartsForm.more {p} {a} h f) ps g = go a (λ qs d. parts-shut f qs d) g
   where
-    same : (k l : ℕ) → k ≤ l → l ≤ length b → cut s (i + k) (i + l) ≡ cut z (m + k) (m + l)
-    same k l g h = inner-cut v k l g h ∙ sym (inner-cut w k l g h)
+    go : (y : Told (List HeaderRow)) → ((qs : List HeaderRow) → y ≡ good qs → Shut s qs) → before p y ≡ good ps → Shut s ps
+    go (good qs) k g = let d : p ∷ qs ≡ ps = cc in subst (Shut s) d (next-shut h p refl, k qs refl)
+    go (bad q) k g = clash (cc)
+
+-- those that depend on the bytes alone
+rows-shut : (b : List ℕ) (rel : List HeaderRow) → ((q y : List ℕ) → partsOf (q ++ (b ++ y)) (length q) (length q + length b) ≡ good (map (shiftRow (length q)) rel)) → Shut b rel
+rows-shut b rel n =
+    let e : partsOf b 0 (0 + length b) ≡ good (map (shiftRow 0) rel) = simp append-nil at (n [] []) in
+    own rel (parts-shut (parts-are b 0 (0 + length b) (omega arith)) (map (shiftRow 0) rel) e)
+  where
+    own : (ps : List HeaderRow) → Shut b (map (shiftRow 0) ps) → Shut b ps
+    own [] h = tt
+    own (p ∷ ps) (h, t) = let z : 0 + p .argEnd ≡ p .argEnd = omega arith in (rw z at h, own ps t)
+
+module _ {Named : ℕ → Type 0} where
+  -- two parts of files that lie there and have the same bytes b, which name only ids that matter
+  run-of : {s z : List ℕ} {a c : Span} (b : List ℕ) → SpanIn (length s) a → SpanIn (length z) c → cut s (a .start) (a .stop) ≡ b → cut z (c .start) (c .stop) ≡ b
+      → ((k : ℕ) → Names b k → Named k) → AlikeRun Named s z a c
+  run-of b (h, k) (i, j) e f n = record { ordered = h; within = k; ordered′ = i; within′ = j; same = e ∙ sym f; names = λ k m. n k (rw e at m) }
+
+  -- the same bytes at two places are alike
+  runs-alike : {s z b : List ℕ} {i j m n : ℕ} → Window s i j b → Window z m n b → ((k : ℕ) → Names b k → Named k) → AlikeRun Named s z (span i j) (span m n)
+  runs-alike {b} v w = run-of b (window-in v) (window-in w) (window-cut v) (window-cut w)
+
+  -- and so are their parts
+  pieces-alike : {s z b : List ℕ} {i j m n : ℕ} → Window s i j b → Window z m n b → ((k : ℕ) → Names b k → Named k) → (rel : List HeaderRow) → RowsIn (length b) rel → Shut b rel
+      → BothList (AlikePiece Named s z) (map (pieceOf s) (map (shiftRow i) rel)) (map (pieceOf z) (map (shiftRow m) rel))
+  pieces-alike v w l [] h o = tt
+  pieces-alike {s} {z} {b} {i} {j} {m} {n} v w l (p ∷ ps) ((c, d, e, f), t) (g, o) = (
+    (
+      ap kindOf (inner-cut v (p .keyStart) (p .keyEnd) c d ∙ sym (inner-cut w (p .keyStart) (p .keyEnd) c d)),
+      run-of (cut b (p .argStart) (p .argEnd)) (inner-in v (p .argStart) (p .argEnd) e f) (inner-in w (p .argStart) (p .argEnd) e f)
+          (inner-cut v (p .argStart) (p .argEnd) e f) (inner-cut w (p .argStart) (p .argEnd) e f) (λ k x. l k (names-cut b (p .argStart) (p .argEnd) e g k x)),
+    ),
+    pieces-alike v w l ps t o,
+  )
 
 -- ---- a closed record
 -- its arguments in the file
@@ -147,28 +207,29 @@ closed-parts-good {b} (ClosedData.complex e c p) q y =
     (_, ap (goodBy (map (pieceOf (q ++ (b ++ y))))) (window-parts (args-window c q y) rel n))
 
 -- what the units see of it, wherever it stands
-closed-alike : {b : List ℕ} (c : ClosedData b) (q y r z : List ℕ)
-    → AlikeThing (q ++ (b ++ y)) (r ++ (b ++ z)) (thingAt (q ++ (b ++ y)) (rowFrom (length q) c)) (thingAt (r ++ (b ++ z)) (rowFrom (length r) c))
-closed-alike (ClosedData.simple e c) q y r z = record {
+closed-alike : {Named : ℕ → Type 0} {b : List ℕ} (c : ClosedData b) → ((k : ℕ) → Names (contentOf c .args) k → Named k) → (q y r z : List ℕ)
+    → AlikeThing Named (q ++ (b ++ y)) (r ++ (b ++ z)) (thingAt (q ++ (b ++ y)) (rowFrom (length q) c)) (thingAt (r ++ (b ++ z)) (rowFrom (length r) c))
+closed-alike (ClosedData.simple e c) l q y r z = record {
   kind = simple-kind e c q y ∙ sym (simple-kind e c r z);
-  run = runs-alike (args-window c q y) (args-window c r z);
+  run = runs-alike (args-window c q y) (args-window c r z) l;
   parts = tt;
 }
-closed-alike {b} (ClosedData.complex e c p) q y r z =
+closed-alike {b} (ClosedData.complex e c p) l q y r z =
     let (rel, i, n) = parts-closed-good p in
     let h = window-parts (args-window c q y) rel n in
     let k = window-parts (args-window c r z) rel n in
     record {
       kind = refl;
-      run = runs-alike (args-window c q y) (args-window c r z);
-      parts = rw (h, k) (pieces-alike (args-window c q y) (args-window c r z) rel i);
+      run = runs-alike (args-window c q y) (args-window c r z) l;
+      parts = rw (h, k) (pieces-alike (args-window c q y) (args-window c r z) l rel i (rows-shut (c .args) rel n));
     }
 
 -- a text's row is one, however it is seen to be closed
 row-one : {b : List ℕ} (c d : ClosedData b) (q : List ℕ) → rowFrom (length q) c ≡ rowFrom (length q) d
 row-one c d q = let a = record-row c q [] in let b = record-row d q [] in cc
 
--- "each id then yields a record with the same keyword and argument bytes": so it does for the units, with the same parts
-pub closed-things-alike : {b : List ℕ} (c d : ClosedData b) (q y r z : List ℕ)
-    → AlikeThing (q ++ (b ++ y)) (r ++ (b ++ z)) (thingAt (q ++ (b ++ y)) (rowFrom (length q) c)) (thingAt (r ++ (b ++ z)) (rowFrom (length r) d))
-closed-things-alike c d q y r z = rw (row-one d c r) (closed-alike c q y r z)
+-- "each id then yields a record with the same keyword and argument bytes": so it does for the units, with the same parts; its arguments name
+-- only ids that matter
+pub closed-things-alike : {Named : ℕ → Type 0} {b : List ℕ} (c d : ClosedData b) → ((k : ℕ) → Names (contentOf c .args) k → Named k) → (q y r z : List ℕ)
+    → AlikeThing Named (q ++ (b ++ y)) (r ++ (b ++ z)) (thingAt (q ++ (b ++ y)) (rowFrom (length q) c)) (thingAt (r ++ (b ++ z)) (rowFrom (length r) d))
+closed-things-alike c d l q y r z = rw (row-one d c r) (closed-alike c l q y r z)

@@ -52,8 +52,8 @@ sound-asked s (good t ∷ ts) ((ps, e), h) = (context-told s t ps e, sound-asked
 sound-asked s (bad q ∷ ts) h = absurd h
 
 -- two alike records are both contexts, or neither
-pub context-same : {s s′ : List ℕ} {t t′ : Thing} → AlikeThing s s′ t t′ → (b : Bool) → isContext s t ≡ good b → isContext s′ t′ ≡ good b
-context-same {s} {s′} {t} {t′} h b e = go (isContext s t) (isContext s′ t′) (is-context-alike h) e
+pub context-same : {Named : ℕ → Type 0} {s s′ : List ℕ} {t t′ : Thing} → AlikeThing Named s s′ t t′ → (b : Bool) → isContext s t ≡ good b → isContext s′ t′ ≡ good b
+context-same {Named} {s} {s′} {t} {t′} h b e = go (isContext s t) (isContext s′ t′) (is-context-alike h) e
   where
     go : (x y : Told Bool) → SameTold x y → x ≡ good b → y ≡ good b
     go (good c) (good d) k l = rw (← k) l
@@ -101,9 +101,9 @@ resolve-contexts s find (good t ∷ ts) ((true, e), h) =
 resolve-contexts s find (good t ∷ ts) ((false, e), h) =
     resolve-no s t ts find e ∙ resolve-contexts s find ts h ∙ ap (resolveOf s find) (sym (contexts-no s t ts e))
 
-module _ {s s′ : List ℕ} {find find′ : ℕ → Told (Option Thing)} (finds : AlikeFind s s′ find find′) where
+module _ {Named : ℕ → Type 0} {s s′ : List ℕ} {find find′ : ℕ → Told (Option Thing)} (finds : AlikeFind Named s s′ find find′) where
   -- one record, where what comes after it is the same
-  record-alike : (k l : Unit {0} → Told Units) → SameTold (k tt) (l tt) → (t t′ : Thing) → AlikeThing s s′ t t′ → SameTold (recordOf s find k t) (recordOf s′ find′ l t′)
+  record-alike : (k l : Unit {0} → Told Units) → SameTold (k tt) (l tt) → (t t′ : Thing) → AlikeThing Named s s′ t t′ → SameTold (recordOf s find k t) (recordOf s′ find′ l t′)
   record-alike k l e t t′ h = same-on (λ c. pick c (onward (decided s find k) (contextOf s find t)) (k tt)) (λ c. pick c (onward (decided s′ find′ l) (contextOf s′ find′ t′)) (l tt)) (isContext s t) (isContext s′ t′) (is-context-alike h)
       (λ c. both-pick (λ a b. a ≡ b) c (onward (decided s find k) (contextOf s find t)) (k tt) (onward (decided s′ find′ l) (contextOf s′ find′ t′)) (l tt)
       (same-on (decided s find k) (decided s′ find′ l) (contextOf s find t) (contextOf s′ find′ t′) (context-alike finds h)
@@ -111,16 +111,16 @@ module _ {s s′ : List ℕ} {find find′ : ℕ → Told (Option Thing)} (finds
       e)
 
   -- records that are alike, two by two in order, give the same answer
-  pub resolve-alike : (ts ts′ : List (Told Thing)) → BothList (BothTold (AlikeThing s s′)) ts ts′ → SameTold (resolveOf s find ts) (resolveOf s′ find′ ts′)
+  pub resolve-alike : (ts ts′ : List (Told Thing)) → BothList (BothTold (AlikeThing Named s s′)) ts ts′ → SameTold (resolveOf s find ts) (resolveOf s′ find′ ts′)
   unfolding resolveOf
   resolve-alike [] [] h = refl
   resolve-alike [] (t ∷ ts) h = absurd h
   resolve-alike (t ∷ ts) [] h = absurd h
   resolve-alike (t ∷ ts) (t′ ∷ ts′) (a, h) =
-      both-on (AlikeThing s s′) (λ a b. a ≡ b) (recordOf s find (λ u. resolveOf s find ts)) (recordOf s′ find′ (λ u. resolveOf s′ find′ ts′)) t t′ a
+      both-on (AlikeThing Named s s′) (λ a b. a ≡ b) (recordOf s find (λ u. resolveOf s find ts)) (recordOf s′ find′ (λ u. resolveOf s′ find′ ts′)) t t′ a
       (record-alike (λ u. resolveOf s find ts) (λ u. resolveOf s′ find′ ts′) (resolve-alike ts ts′ h))
 
   -- "the unit answer is the same, or the same refusal number" (demand 3): for two files whose unit contexts are alike, two by two in order
-  pub resolve-same : (ts ts′ : List (Told Thing)) → Asked s ts → Asked s′ ts′ → BothList (BothTold (AlikeThing s s′)) (contextsOf s ts) (contextsOf s′ ts′)
+  pub resolve-same : (ts ts′ : List (Told Thing)) → Asked s ts → Asked s′ ts′ → BothList (BothTold (AlikeThing Named s s′)) (contextsOf s ts) (contextsOf s′ ts′)
       → SameTold (resolveOf s find ts) (resolveOf s′ find′ ts′)
   resolve-same ts ts′ a a′ h = rw (resolve-contexts s find ts a, resolve-contexts s′ find′ ts′ a′) (resolve-alike (contextsOf s ts) (contextsOf s′ ts′) h)

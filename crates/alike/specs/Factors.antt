@@ -1,5 +1,5 @@
 -- The factor of a unit depends only on the bytes of the records that it meets: in two files with alike records and alike lookups it is
--- the same, or the same refusal. Assumes nothing.
+-- the same, or the same refusal. Nothing is asked but of ids that these bytes name. Assumes nothing.
 use Prim.Native.Nat.{ℕ, zero, suc}
 use Prim.Native.String.{String}
 use mathlib.Core.Path.{_≡_, refl, _∙_, ap, subst}
@@ -8,6 +8,7 @@ use mathlib.Core.List.{List, []}
 use mathlib.Core.Option.{Option, none, some}
 use lib.Dec.{eqb}
 use Rattle.common.specs.Pick.{pick}
+use Rattle.common.specs.Compare.{clash}
 use Rattle.error.specs.Refusal.{Refusal, refusal, Told, good, bad}
 use Rattle.record.specs.Word.{isWord}
 use Rattle.record.specs.Form.{bytes}
@@ -56,13 +57,15 @@ use Rattle.alike.specs.Alike.{
   AlikeFind,
   same-refl,
   both-pick,
+  both-on,
   both-on-option,
   same-on,
+  same-on-read,
   same-by,
   piece-alike,
   self-alike,
 }
-use Rattle.alike.specs.Runs.{read-first, read-second, name-first, name-second}
+use Rattle.alike.specs.Runs.{read-first, read-second, ref-second, name-first, name-second}
 
 -- ---- answers put together
 -- a refused number refuses, or gives no factor
@@ -81,15 +84,22 @@ read-or-alike (bad q) (good w) k l h g = absurd h
 read-or-alike (bad q) (bad q′) k l h g = unread-alike q q′ h
 
 -- a base that reads goes on
-or-none-alike : (x y : Told ℕ) (k l : ℕ → Told (Option ℕ)) → SameTold x y → ((v : ℕ) → SameTold (k v) (l v)) → SameTold (orNone x k) (orNone y l)
-or-none-alike (good v) (good w) k l h g = rw (← h) (g v)
+or-none-alike : (x y : Told ℕ) (k l : ℕ → Told (Option ℕ)) → SameTold x y → ((v : ℕ) → x ≡ good v → SameTold (k v) (l v)) → SameTold (orNone x k) (orNone y l)
+or-none-alike (good v) (good w) k l h g = rw (← h) (g v refl)
 or-none-alike (good v) (bad q) k l h g = absurd h
 or-none-alike (bad q) (good w) k l h g = absurd h
 or-none-alike (bad q) (bad q′) k l h g = refl
 
-module _ {s s′ : List ℕ} where
+-- two units of a chain: the same factor, or the same measure, whose id matters
+abbrev SameChain : (ℕ → Type 0) → Chain → Chain → Type 0
+SameChain Named (known f) (known g) = f ≡ g
+SameChain Named (known f) (leads j) = ⊥
+SameChain Named (leads i) (known g) = ⊥
+SameChain Named (leads i) (leads j) = (i ≡ j) × Named i
+
+module _ {Named : ℕ → Type 0} {s s′ : List ℕ} where
   -- ---- arguments
-  module _ {r r′ : Span} (h : AlikeRun s s′ r r′) where
+  module _ {r r′ : Span} (h : AlikeRun Named s s′ r r′) where
     -- the factor of a named unit
     named-alike : (name : String) (f : List ℕ → ℕ) → named name s r (f (prefixIn s r)) ≡ named name s′ r′ (f (prefixIn s′ r′))
     named-alike name f =
@@ -114,46 +124,62 @@ module _ {s s′ : List ℕ} where
         (skipOf s (r .start) (r .stop) .answer) (skipOf s′ (r′ .start) (r′ .stop) .answer)
         (read-first h skipOf skip-shift) (λ u. read-second h (nextOf referenceOf) (λ s a z m n. next-shift s a z m n referenceOf))
 
+    -- it is one of the ids that matter
+    ref-named : (k : ℕ) → measureRef s r ≡ good k → Named k
+    unfolding measureRef skipOf
+    ref-named k e = go (skipOf s (r .start) (r .stop) .answer) e
+      where
+        go : (x : Told (Unit {0})) → onward (λ u. nextOf referenceOf s (skipOf s (r .start) (r .stop) .place) (r .stop) .answer) x ≡ good k → Named k
+        go (good u) e = ref-second h k e
+        go (bad q) e = clash (cc)
+
     -- the first parameter as a measure's number
     pub number-alike : SameTold (nextOf measureOf s (r .start) (r .stop) .answer) (nextOf measureOf s′ (r′ .start) (r′ .stop) .answer)
     number-alike = read-first h (nextOf measureOf) (λ s a z k l. next-shift s a z k l measureOf)
 
   -- ---- records
-  module _ {t t′ : Thing} (h : AlikeThing s s′ t t′) where
+  module _ {t t′ : Thing} (h : AlikeThing Named s s′ t t′) where
     -- the measure's arguments
-    pub run-alike : BothTold (BothOption (AlikeRun s s′)) (measureRun t) (measureRun t′)
-    run-alike = rw (← h .kind) (both-pick (BothOption (AlikeRun s s′)) (sameKind (t .kind) Complex)
+    pub run-alike : BothTold (BothOption (AlikeRun Named s s′)) (measureRun t) (measureRun t′)
+    run-alike = rw (← h .kind) (both-pick (BothOption (AlikeRun Named s s′)) (sameKind (t .kind) Complex)
         (goodBy (firstPiece LengthMeasureWithUnit) (t .parts)) (good (some (t .run))) (goodBy (firstPiece LengthMeasureWithUnit) (t′ .parts)) (good (some (t′ .run)))
-        (piece-alike s s′ t t′ h LengthMeasureWithUnit) (h .run))
+        (piece-alike Named s s′ t t′ h LengthMeasureWithUnit) (h .run))
 
     -- an SI part before a conversion
-    pub by-alike : {A : Type 0} (si si′ conversion conversion′ : Span → Told A) (neither : A) → ((r r′ : Span) → AlikeRun s s′ r r′ → SameTold (si r) (si′ r′))
-        → ((r r′ : Span) → AlikeRun s s′ r r′ → SameTold (conversion r) (conversion′ r′)) → SameTold (unitBy si conversion neither t) (unitBy si′ conversion′ neither t′)
-    by-alike si si′ conversion conversion′ neither f g =
-        both-on-option (AlikeRun s s′) (λ a b. a ≡ b)
+    pub by-alike : {A : Type 0} (R : A → A → Type 0) (si si′ conversion conversion′ : Span → Told A) (neither : A) → R neither neither
+        → ((r r′ : Span) → AlikeRun Named s s′ r r′ → BothTold R (si r) (si′ r′)) → ((r r′ : Span) → AlikeRun Named s s′ r r′ → BothTold R (conversion r) (conversion′ r′))
+        → BothTold R (unitBy si conversion neither t) (unitBy si′ conversion′ neither t′)
+    by-alike R si si′ conversion conversion′ neither n f g =
+        both-on-option (AlikeRun Named s s′) R
         (onward (optionBy (good neither) conversion) (selfOr ConversionBasedUnit t)) (onward (optionBy (good neither) conversion′) (selfOr ConversionBasedUnit t′)) si si′
-        (selfOr SiUnit t) (selfOr SiUnit t′) (self-alike s s′ t t′ h SiUnit)
-        (both-on-option (AlikeRun s s′) (λ a b. a ≡ b) (good neither) (good neither) conversion conversion′
-        (selfOr ConversionBasedUnit t) (selfOr ConversionBasedUnit t′) (self-alike s s′ t t′ h ConversionBasedUnit) refl g)
+        (selfOr SiUnit t) (selfOr SiUnit t′) (self-alike Named s s′ t t′ h SiUnit)
+        (both-on-option (AlikeRun Named s s′) R (good neither) (good neither) conversion conversion′
+        (selfOr ConversionBasedUnit t) (selfOr ConversionBasedUnit t′) (self-alike Named s s′ t t′ h ConversionBasedUnit) n g)
         f
 
     -- one unit of a chain
-    pub link-alike : (left : ℕ) → SameTold (linkOf s left t) (linkOf s′ left t′)
+    pub link-alike : (left : ℕ) → BothTold (SameChain Named) (linkOf s left t) (linkOf s′ left t′)
     unfolding linkOf
-    link-alike left = by-alike (λ r. good (known (siLength s r))) (λ r. good (known (siLength s′ r))) (conversionOf s left (t .run .start)) (conversionOf s′ left (t′ .run .start)) (known none)
-        (λ r r′ k. ap known (si-length-alike k))
-        (λ r r′ k. both-pick (λ a b. a ≡ b) (eqb left 0) (bad (refusal 15 0 (t .run .start))) (goodBy leads (measureRef s r)) (bad (refusal 15 0 (t′ .run .start))) (goodBy leads (measureRef s′ r′))
-        (refl, refl) (same-by leads (measureRef s r) (measureRef s′ r′) (ref-alike k)))
+    link-alike left = by-alike (SameChain Named) (λ r. good (known (siLength s r))) (λ r. good (known (siLength s′ r))) (conversionOf s left (t .run .start)) (conversionOf s′ left (t′ .run .start)) (known none) refl
+        (λ r r′ k. si-length-alike k)
+        (λ r r′ k. both-pick (SameChain Named) (eqb left 0) (bad (refusal 15 0 (t .run .start))) (goodBy leads (measureRef s r)) (bad (refusal 15 0 (t′ .run .start))) (goodBy leads (measureRef s′ r′))
+        (refl, refl) (go (measureRef s r) (measureRef s′ r′) (ref-alike k) (ref-named k)))
+      where
+        go : (x y : Told ℕ) → SameTold x y → ((i : ℕ) → x ≡ good i → Named i) → BothTold (SameChain Named) (goodBy leads x) (goodBy leads y)
+        go (good i) (good j) e n = (e, n i refl)
+        go (good i) (bad q) e n = absurd e
+        go (bad q) (good j) e n = absurd e
+        go (bad q) (bad q′) e n = e
 
   -- ---- records and lookups
-  module _ {find find′ : ℕ → Told (Option Thing)} (finds : AlikeFind s s′ find find′) where
+  module _ {find find′ : ℕ → Told (Option Thing)} (finds : AlikeFind Named s s′ find find′) where
     -- what is made of a record that is found, or of none
-    pub found-alike : {A : Type 0} (other : Told A) (f g : Thing → Told A) (i : ℕ) → ((t t′ : Thing) → AlikeThing s s′ t t′ → SameTold (f t) (g t′)) → SameTold (onward (optionBy other f) (find i)) (onward (optionBy other g) (find′ i))
-    found-alike other f g i k = both-on-option (AlikeThing s s′) (λ a b. a ≡ b) other other f g (find i) (find′ i) (finds .found i) (same-refl other) k
+    pub found-alike : {A : Type 0} (other : Told A) (f g : Thing → Told A) (i : ℕ) → Named i → ((t t′ : Thing) → AlikeThing Named s s′ t t′ → SameTold (f t) (g t′)) → SameTold (onward (optionBy other f) (find i)) (onward (optionBy other g) (find′ i))
+    found-alike other f g i n k = both-on-option (AlikeThing Named s s′) (λ a b. a ≡ b) other other f g (find i) (find′ i) (finds .found i n) (same-refl other) k
 
-    module _ (k l : Thing → Told (Option ℕ)) (units : (t t′ : Thing) → AlikeThing s s′ t t′ → SameTold (k t) (l t′)) where
+    module _ (k l : Thing → Told (Option ℕ)) (units : (t t′ : Thing) → AlikeThing Named s s′ t t′ → SameTold (k t) (l t′)) where
       -- a measure's number and then its base, where k and l give a unit's factor
-      measure-at-alike : (r r′ : Span) → AlikeRun s s′ r r′ → SameTold (measureAt s find k r) (measureAt s′ find′ l r′)
+      measure-at-alike : (r r′ : Span) → AlikeRun Named s s′ r r′ → SameTold (measureAt s find k r) (measureAt s′ find′ l r′)
       unfolding nextOf
       measure-at-alike r r′ h =
           read-or-alike (nextOf measureOf s (r .start) (r .stop) .answer) (nextOf measureOf s′ (r′ .start) (r′ .stop) .answer)
@@ -162,34 +188,39 @@ module _ {s s′ : List ℕ} where
           (nextOf referenceOf s (nextOf measureOf s (r .start) (r .stop) .place) (r .stop) .answer) (nextOf referenceOf s′ (nextOf measureOf s′ (r′ .start) (r′ .stop) .place) (r′ .stop) .answer)
           (λ b. onward (optionBy (good none) (λ t. scaledBy v (k t))) (find b)) (λ b. onward (optionBy (good none) (λ t. scaledBy v (l t))) (find′ b))
           (read-second h (nextOf referenceOf) (λ s a z m n. next-shift s a z m n referenceOf))
-          (λ b. found-alike (good none) (λ t. scaledBy v (k t)) (λ t. scaledBy v (l t)) b (λ t t′ e. same-by (optionBy none (λ f. some (product v f))) (k t) (l t′) (units t t′ e))))
+          (λ b d. found-alike (good none) (λ t. scaledBy v (k t)) (λ t. scaledBy v (l t)) b (ref-second h b d) (λ t t′ e. same-by (optionBy none (λ f. some (product v f))) (k t) (l t′) (units t t′ e))))
 
       -- a measure
-      pub measure-alike : (i : ℕ) → SameTold (measureIn s find k i) (measureIn s′ find′ l i)
+      pub measure-alike : (i : ℕ) → Named i → SameTold (measureIn s find k i) (measureIn s′ find′ l i)
       unfolding measureIn
-      measure-alike i = found-alike (good none) (λ t. onward (optionBy (good none) (measureAt s find k)) (measureRun t)) (λ t. onward (optionBy (good none) (measureAt s′ find′ l)) (measureRun t)) i
-          (λ t t′ h. both-on-option (AlikeRun s s′) (λ a b. a ≡ b) (good none) (good none) (measureAt s find k) (measureAt s′ find′ l) (measureRun t) (measureRun t′) (run-alike h) refl measure-at-alike)
+      measure-alike i n = found-alike (good none) (λ t. onward (optionBy (good none) (measureAt s find k)) (measureRun t)) (λ t. onward (optionBy (good none) (measureAt s′ find′ l)) (measureRun t)) i n
+          (λ t t′ h. both-on-option (AlikeRun Named s s′) (λ a b. a ≡ b) (good none) (good none) (measureAt s find k) (measureAt s′ find′ l) (measureRun t) (measureRun t′) (run-alike h) refl measure-at-alike)
+
+    -- a chain goes on the same way
+    chained-alike : (k l : ℕ → Told (Option ℕ)) → ((i : ℕ) → Named i → SameTold (k i) (l i)) → (c d : Chain) → SameChain Named c d → SameTold (chained k c) (chained l d)
+    chained-alike k l h (known f) (known g) e = e
+    chained-alike k l h (known f) (leads j) e = absurd e
+    chained-alike k l h (leads i) (known g) e = absurd e
+    chained-alike k l h (leads i) (leads j) (e, n) = rw (← e) (h i n)
 
     -- a length unit
-    pub length-alike : (n : ℕ) (t t′ : Thing) → AlikeThing s s′ t t′ → SameTold (lengthOf s find n t) (lengthOf s′ find′ n t′)
+    pub length-alike : (n : ℕ) (t t′ : Thing) → AlikeThing Named s s′ t t′ → SameTold (lengthOf s find n t) (lengthOf s′ find′ n t′)
     unfolding lengthOf
-    length-alike zero t t′ h = same-on (chained (λ i. good none)) (chained (λ i. good none)) (linkOf s zero t) (linkOf s′ zero t′) (link-alike h zero) (λ c. same-refl (chained (λ i. good none) c))
-    length-alike (suc n) t t′ h = same-on (chained (measureIn s find (λ b. lengthOf s find n b))) (chained (measureIn s′ find′ (λ b. lengthOf s′ find′ n b))) (linkOf s (suc n) t) (linkOf s′ (suc n) t′) (link-alike h (suc n))
-        (go (measure-alike (λ b. lengthOf s find n b) (λ b. lengthOf s′ find′ n b) (length-alike n)))
-      where
-        go : ((i : ℕ) → SameTold (measureIn s find (λ b. lengthOf s find n b) i) (measureIn s′ find′ (λ b. lengthOf s′ find′ n b) i)) → (c : Chain)
-            → SameTold (chained (measureIn s find (λ b. lengthOf s find n b)) c) (chained (measureIn s′ find′ (λ b. lengthOf s′ find′ n b)) c)
-        go k (known f) = refl
-        go k (leads i) = k i
+    length-alike zero t t′ h =
+        both-on (SameChain Named) (λ a b. a ≡ b) (chained (λ i. good none)) (chained (λ i. good none)) (linkOf s zero t) (linkOf s′ zero t′) (link-alike h zero) (chained-alike (λ i. good none) (λ i. good none) (λ i k. refl))
+    length-alike (suc n) t t′ h =
+        both-on (SameChain Named) (λ a b. a ≡ b) (chained (measureIn s find (λ b. lengthOf s find n b))) (chained (measureIn s′ find′ (λ b. lengthOf s′ find′ n b))) (linkOf s (suc n) t) (linkOf s′ (suc n) t′) (link-alike h (suc n))
+        (chained-alike (measureIn s find (λ b. lengthOf s find n b)) (measureIn s′ find′ (λ b. lengthOf s′ find′ n b)) (measure-alike (λ b. lengthOf s find n b) (λ b. lengthOf s′ find′ n b) (length-alike n)))
 
     -- an angle's number
-    pub number-in-alike : (i : ℕ) → SameTold (numberIn s find i) (numberIn s′ find′ i)
+    pub number-in-alike : (i : ℕ) → Named i → SameTold (numberIn s find i) (numberIn s′ find′ i)
     unfolding numberIn
-    number-in-alike i = found-alike (good none) (λ t. readOr (nextOf measureOf s (t .run .start) (t .run .stop) .answer) (λ v. good (some v))) (λ t. readOr (nextOf measureOf s′ (t .run .start) (t .run .stop) .answer) (λ v. good (some v))) i
+    number-in-alike i n = found-alike (good none) (λ t. readOr (nextOf measureOf s (t .run .start) (t .run .stop) .answer) (λ v. good (some v))) (λ t. readOr (nextOf measureOf s′ (t .run .start) (t .run .stop) .answer) (λ v. good (some v))) i n
         (λ t t′ h. read-or-alike (nextOf measureOf s (t .run .start) (t .run .stop) .answer) (nextOf measureOf s′ (t′ .run .start) (t′ .run .stop) .answer) (λ v. good (some v)) (λ v. good (some v)) (number-alike (h .run)) (λ v. refl))
 
     -- an angle unit
-    pub angle-alike : (t t′ : Thing) → AlikeThing s s′ t t′ → SameTold (angleOf s find t) (angleOf s′ find′ t′)
+    pub angle-alike : (t t′ : Thing) → AlikeThing Named s s′ t t′ → SameTold (angleOf s find t) (angleOf s′ find′ t′)
     unfolding angleOf
-    angle-alike t t′ h = by-alike h (λ r. good (siAngle s r)) (λ r. good (siAngle s′ r)) (λ r. onward (numberIn s find) (measureRef s r)) (λ r. onward (numberIn s′ find′) (measureRef s′ r)) none
-        (λ r r′ k. si-angle-alike k) (λ r r′ k. same-on (numberIn s find) (numberIn s′ find′) (measureRef s r) (measureRef s′ r′) (ref-alike k) number-in-alike)
+    angle-alike t t′ h = by-alike h (λ a b. a ≡ b) (λ r. good (siAngle s r)) (λ r. good (siAngle s′ r)) (λ r. onward (numberIn s find) (measureRef s r)) (λ r. onward (numberIn s′ find′) (measureRef s′ r)) none refl
+        (λ r r′ k. si-angle-alike k)
+        (λ r r′ k. same-on-read (numberIn s find) (numberIn s′ find′) (measureRef s r) (measureRef s′ r′) (ref-alike k) (λ i e. number-in-alike i (ref-named k i e)))

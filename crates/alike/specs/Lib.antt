@@ -1,5 +1,6 @@
 pub mod Shift
 pub mod Readers
+pub mod Names
 pub mod Alike
 pub mod Runs
 pub mod Factors

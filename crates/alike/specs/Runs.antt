@@ -1,16 +1,23 @@
 -- A reader of two parts with the same bytes, in two files: its first and its second parameter read the same. Assumes nothing.
 use Prim.Native.Nat.{ℕ, _+_, _-_, _≤_}
 use mathlib.Core.Path.{_≡_, refl, sym, _∙_, ap}
+use mathlib.Core.Bool.{Bool}
 use mathlib.Core.List.{List}
 use native.Mathlib.Omega.{arith}
 use lib.ListN.{length}
+use Rattle.common.specs.Compare.{clash}
 use Rattle.error.specs.Refusal.{Told, good, bad}
+use Rattle.reals.specs.Scalar.{referenceOf}
 use Rattle.params.specs.Reader.{Read, Span, paramOf}
 use Rattle.params.specs.Places.{param-stands}
+use Rattle.scalars.specs.Scalars.{nextOf}
+use Rattle.lists.specs.Items.{listOf, nextBy}
 use Rattle.lookup.specs.Lookup.{cut}
+use Rattle.factors.specs.Each.{Each}
 use Rattle.factors.specs.Factor.{nameOr, nextName}
 use Rattle.alike.specs.Shift.{toldAhead, shiftedRead, cut-length, param-shift}
-use Rattle.alike.specs.Readers.{kept, named-shift}
+use Rattle.alike.specs.Readers.{kept, next-shift, list-shift, named-shift}
+use Rattle.alike.specs.Names.{each-by, next-names, list-names}
 use Rattle.alike.specs.Alike.{SameTold, AlikeRun}
 
 -- a reader's answer in a part of the file is that of the part's bytes alone, its places moved on by the part's start
@@ -32,7 +39,7 @@ after-first s a z h k =
 step-within : (u : List ℕ) → paramOf u 0 (length u) .place ≤ length u
 step-within u = param-stands u 0 (length u) (omega arith, omega arith) .within
 
-module _ {s s′ : List ℕ} {r r′ : Span} (h : AlikeRun s s′ r r′) where
+module _ {Named : ℕ → Type 0} {s s′ : List ℕ} {r r′ : Span} (h : AlikeRun Named s s′ r r′) where
   -- the bytes of both
   abbrev text : List ℕ
   text = cut s (r .start) (r .stop)
@@ -80,6 +87,34 @@ module _ {s s′ : List ℕ} {r r′ : Span} (h : AlikeRun s s′ r r′) where
     -- the second parameter
     pub read-second : SameTold (R s (paramOf s (r .start) (r .stop) .place) (r .stop) .answer) (R s′ (paramOf s′ (r′ .start) (r′ .stop) .place) (r′ .stop) .answer)
     read-second = rw (past-first, past-first′) (read-at step step-in)
+
+    -- what is read from i bytes into the part is read of its bytes
+    own-at : (i : ℕ) → i ≤ length text → (v : A) → R s (r .start + i) (r .stop) .answer ≡ good v → R text i (length text) .answer ≡ good v
+    own-at i k v e =
+        let n = size in
+        go (R text i (length text) .answer) (ap (λ (x : Read A). x .answer) (sym (by s (r .start) (r .stop) (h .ordered) (h .within) i (omega arith))) ∙ e)
+      where
+        go : (x : Told A) → toldAhead kept (r .start) x ≡ good v → x ≡ good v
+        go (good w) e = e
+        go (bad q) e = clash (cc)
+
+    -- what is read first
+    own-first : (v : A) → R s (r .start) (r .stop) .answer ≡ good v → R text 0 (length text) .answer ≡ good v
+    own-first v e =
+        let d : r .start + 0 ≡ r .start = omega arith in
+        own-at 0 (omega arith) v (rw d e)
+
+    -- and second
+    own-second : (v : A) → R s (paramOf s (r .start) (r .stop) .place) (r .stop) .answer ≡ good v → R text step (length text) .answer ≡ good v
+    own-second v e = own-at step step-in v (rw past-first at e)
+
+  -- a reference that is read second is one of the ids that matter
+  pub ref-second : (k : ℕ) → nextOf referenceOf s (paramOf s (r .start) (r .stop) .place) (r .stop) .answer ≡ good k → Named k
+  ref-second k e = h .names k (next-names text step k (own-second (nextOf referenceOf) (λ s a z m n. next-shift s a z m n referenceOf) k e))
+
+  -- so are those of a list that is read first
+  pub refs-first : (fits : List ℕ → Bool) (vs : List ℕ) → nextBy (listOf referenceOf) fits s (r .start) (r .stop) .answer ≡ good vs → Each Named vs
+  refs-first fits vs e = each-by (h .names) vs (list-names text 0 fits vs (own-first (nextBy (listOf referenceOf) fits) (λ s a z m n. list-shift s a z m n (listOf referenceOf) fits) vs e))
 
   -- a name from i bytes into the part
   name-at : (other : List ℕ) (i : ℕ) → i ≤ length text → nameOr other s (nextName s (r .start + i) (r .stop) .answer) ≡ nameOr other s′ (nextName s′ (r′ .start + i) (r′ .stop) .answer)

@@ -18,11 +18,11 @@ use Rattle.utf8.specs.Utf8.{encode, encodeAll, leadOf}
 use Rattle.strings.specs.Text.{groupTwo, groupFour, groupsFrom, directiveOf, pieceOf, pageAfter, textFrom, textOn, textOf, bytesOf}
 use Rattle.tokens.specs.Leap.{fromByte, stringRest, commentRest}
 use Rattle.words.specs.Words.{isString}
-use Rattle.lists.specs.Items.{itemEnd, itemBy, itemsFrom, itemsBy, bodyOf, listBy}
+use Rattle.lists.specs.Items.{itemEnd, itemText, indent, itemBy, itemsFrom, isBlank, itemsBy, bodyOf, listBy}
 use Rattle.lengths.specs.Lengths.{textLen, itemsLen, numbersLen, rowsLen, argsFrom, partsFrom, recordOf, sizes}
 use Rattle.needs.specs.Needs.{mostOf, needs, needsOf}
 
 -- no header row and three data rows, the largest id 3, a list of five, the text `it's` and a grid of three rows with four numbers
 pub example : needsOf (bytes "ISO-10303-21;DATA;#1=A((1.,2.,3.),'it''s',4);#2=(B()C(((1,2),(3,4),())));#3=((1,2,3,4,5));") ≡ good (needs 0 3 3 (sizes 4 5 3))
-unfolding walk trivia recordEnd closing past numberFrom keyword trail same wordOf dataHead headerHead Row.recordOf Row.headerOf statement largest readFrom scanOf Part.nextOf cutOf started paramOf encode encodeAll leadOf groupTwo groupFour groupsFrom directiveOf pieceOf pageAfter textFrom textOn textOf bytesOf fromByte stringRest commentRest isString itemEnd itemBy itemsFrom itemsBy bodyOf listBy textLen itemsLen numbersLen rowsLen argsFrom partsFrom recordOf mostOf needsOf
+unfolding walk trivia recordEnd closing past numberFrom keyword trail same wordOf dataHead headerHead Row.recordOf Row.headerOf statement largest readFrom scanOf Part.nextOf cutOf started paramOf encode encodeAll leadOf groupTwo groupFour groupsFrom directiveOf pieceOf pageAfter textFrom textOn textOf bytesOf fromByte stringRest commentRest isString itemEnd itemText indent itemBy itemsFrom isBlank itemsBy bodyOf listBy textLen itemsLen numbersLen rowsLen argsFrom partsFrom recordOf mostOf needsOf
 example = refl

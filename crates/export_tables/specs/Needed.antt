@@ -11,6 +11,10 @@ use Rattle.needs.specs.declared.Needs.{Needs}
 use Rattle.needs.specs.Needs.{needsOf}
 use Rattle.plain.specs.Answers.{readCode, readFault}
 
+-- how many numbers a host lends at least: more than are told so far
+abbrev pub needsRoom : ℕ
+needsRoom = 12
+
 -- header rows, data rows, the largest id, the most numbers of a list or a grid, the longest text, and the most rows of a grid
 abbrev pub needNumbers : Needs → List ℕ
 needNumbers c = c .headers ∷ c .records ∷ c .max ∷ c .items ∷ c .text ∷ c .rows ∷ []
@@ -25,11 +29,11 @@ abbrev pub needsReason : Told Needs → ℕ → ℕ
 needsReason (good c) old = old
 needsReason (bad q) old = q .reason
 
--- what a host is told, and what stands in its numbers, its reason and its place then: "16 output too short" where it lends fewer than eight
+-- what a host is told, and what stands in its numbers, its reason and its place then: "16 output too short" where it lends too few
 -- numbers, and nothing is set; else what the file needs, or its refusal
 pub data Needing (s needs : List ℕ) (reason fault code : ℕ) (needs′ : List ℕ) (reason′ fault′ : ℕ) : Type 0 where
-  short : length needs < 8 → code ≡ 16 → needs′ ≡ needs → reason′ ≡ reason → fault′ ≡ fault → Needing s needs reason fault code needs′ reason′ fault′
-  told : 8 ≤ length needs → code ≡ readCode (needsOf s) → needs′ ≡ needsAfter (needsOf s) needs → reason′ ≡ needsReason (needsOf s) reason → fault′ ≡ readFault (needsOf s) fault → Needing s needs reason fault code needs′ reason′ fault′
+  short : length needs < needsRoom → code ≡ 16 → needs′ ≡ needs → reason′ ≡ reason → fault′ ≡ fault → Needing s needs reason fault code needs′ reason′ fault′
+  told : needsRoom ≤ length needs → code ≡ readCode (needsOf s) → needs′ ≡ needsAfter (needsOf s) needs → reason′ ≡ needsReason (needsOf s) reason → fault′ ≡ readFault (needsOf s) fault → Needing s needs reason fault code needs′ reason′ fault′
 
 -- "that two allowed answers coincide is proved"
 pub needing-only : {s needs : List ℕ} {reason fault m n : ℕ} {a b : List ℕ} {x y f g : ℕ} → Needing s needs reason fault m a x f → Needing s needs reason fault n b y g → (m ≡ n) × (a ≡ b) × (x ≡ y) × (f ≡ g)

@@ -6,9 +6,7 @@ use mathlib.Core.List.{List, [], _∷_, map}
 use lib.ListN.{length, length-map}
 use Rattle.common.specs.Pick.{pick}
 use Rattle.common.specs.Compare.{clash}
-use Rattle.record.specs.Text.{before}
-use Rattle.record.specs.Word.{trimmed}
-use Rattle.lists.specs.Items.{Fate, fine, faulty, shifted, itemEnd, indent, itemBy, consed, headed, past-comma, itemsFrom, isNone, itemsBy, Body, inside, bare, bodyOf, listed, listBy, valuesOf}
+use Rattle.lists.specs.Items.{Fate, fine, faulty, shifted, itemEnd, itemText, indent, itemBy, consed, headed, past-comma, itemsFrom, isBlank, itemsBy, Body, inside, bare, bodyOf, listed, listBy, valuesOf}
 use Rattle.lists.specs.Rules.{Listed}
 use Rattle.lists.specs.RulesRight.{listed-is, listed-only}
 
@@ -63,16 +61,16 @@ module _ {A B : Type 0} (k : A → B) where
     item-also : (o : ℕ) (t : List ℕ) (v : A) → shifted o (itemBy g t) ≡ fine v → shifted o (itemBy h t) ≡ fine (k v)
     unfolding itemBy
     item-also o t v e =
-        let f = shifted-fine (indent t) (g (trimmed t)) v (shifted-fine o (shifted (indent t) (g (trimmed t))) v e) in
-        ap (λ (x : Fate B). shifted o (shifted (indent t) x)) (also (trimmed t) v f)
+        let f = shifted-fine (indent t) (g (itemText t)) v (shifted-fine o (shifted (indent t) (g (itemText t))) v e) in
+        ap (λ (x : Fate B). shifted o (shifted (indent t) x)) (also (itemText t) v f)
 
     -- from a rest on
     from-also : (n o : ℕ) (xs : List ℕ) (vs : List A) → itemsFrom n g o xs ≡ fine vs → itemsFrom n h o xs ≡ fine (map k vs)
     unfolding itemsFrom
     from-also zero o xs vs e = let w : [] ≡ vs = cc in ap (λ (us : List A). fine (map k us)) w
     from-also (suc n) o xs vs e =
-        headed-also (shifted o (itemBy g (before xs (itemEnd xs)))) (shifted o (itemBy h (before xs (itemEnd xs)))) (λ u. past-comma (itemEnd xs) (λ r. itemsFrom n g (o + (length xs - length r)) r)) (λ u. past-comma (itemEnd xs) (λ r. itemsFrom n h (o + (length xs - length r)) r))
-        (item-also o (before xs (itemEnd xs)))
+        headed-also (shifted o (itemBy g xs)) (shifted o (itemBy h xs)) (λ u. past-comma (itemEnd xs) (λ r. itemsFrom n g (o + (length xs - length r)) r)) (λ u. past-comma (itemEnd xs) (λ r. itemsFrom n h (o + (length xs - length r)) r))
+        (item-also o xs)
         (past-also (itemEnd xs) (λ r. itemsFrom n g (o + (length xs - length r)) r) (λ r. itemsFrom n h (o + (length xs - length r)) r) (λ r ws. from-also n (o + (length xs - length r)) r ws))
         vs e
 
@@ -86,7 +84,7 @@ module _ {A B : Type 0} (k : A → B) where
         inner b false d = from-also (suc (length b)) 0 b vs d
 
         go : (b : Body) → listed g b ≡ fine vs → listed h b ≡ fine (map k vs)
-        go (inside b) d = ap (shifted 1) (inner b (isNone (trimmed b)) (shifted-fine 1 (pick (isNone (trimmed b)) (fine []) (itemsFrom (suc (length b)) g 0 b)) vs d))
+        go (inside b) d = ap (shifted 1) (inner b (isBlank b) (shifted-fine 1 (pick (isBlank b) (fine []) (itemsFrom (suc (length b)) g 0 b)) vs d))
         go bare d = clash (cc)
 
 -- a list that is read has as many items as are counted

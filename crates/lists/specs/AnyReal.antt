@@ -7,11 +7,9 @@ use mathlib.Core.List.{List, [], _∷_, map}
 use lib.ListN.{length}
 use Rattle.common.specs.Pick.{pick}
 use Rattle.common.specs.Compare.{clash}
-use Rattle.record.specs.Text.{before}
-use Rattle.record.specs.Word.{trimmed}
 use Rattle.reals.specs.Scalar.{Answer, read, refused, realOf, anyRealOf}
 use Rattle.reals.specs.Before.{any-kept, any-refused}
-use Rattle.lists.specs.Items.{Fate, fine, faulty, shifted, asFate, itemEnd, indent, itemBy, consed, headed, past-comma, itemsFrom, isNone, itemsBy, Body, inside, bare, bodyOf, listed, listBy, listOf}
+use Rattle.lists.specs.Items.{Fate, fine, faulty, shifted, asFate, itemEnd, itemText, indent, itemBy, consed, headed, past-comma, itemsFrom, isBlank, itemsBy, Body, inside, bare, bodyOf, listed, listBy, listOf}
 use Rattle.lists.specs.Any.{list-also}
 
 -- ---- no refusal but 12
@@ -39,7 +37,7 @@ module _ {A : Type 0} (g : List ℕ → Fate A) (only : (u : List ℕ) (n o : �
   -- an item
   item-twelve : (o : ℕ) (t : List ℕ) → Twelve (shifted o (itemBy g t))
   unfolding itemBy
-  item-twelve o t = shifted-twelve o (shifted (indent t) (g (trimmed t))) (shifted-twelve (indent t) (g (trimmed t)) (twelve-is (g (trimmed t)) (only (trimmed t))))
+  item-twelve o t = shifted-twelve o (shifted (indent t) (g (itemText t))) (shifted-twelve (indent t) (g (itemText t)) (twelve-is (g (itemText t)) (only (itemText t))))
 
   -- an item, and what follows it
   headed-twelve : (x : Fate A) (p : Unit {0} → Fate (List A)) → Twelve x → Twelve (p tt) → Twelve (headed x p)
@@ -60,7 +58,7 @@ module _ {A : Type 0} (g : List ℕ → Fate A) (only : (u : List ℕ) (n o : �
   unfolding itemsFrom
   from-twelve zero o xs = tt
   from-twelve (suc n) o xs =
-      headed-twelve (shifted o (itemBy g (before xs (itemEnd xs)))) (λ u. past-comma (itemEnd xs) (λ r. itemsFrom n g (o + (length xs - length r)) r)) (item-twelve o (before xs (itemEnd xs)))
+      headed-twelve (shifted o (itemBy g xs)) (λ u. past-comma (itemEnd xs) (λ r. itemsFrom n g (o + (length xs - length r)) r)) (item-twelve o xs)
       (past-twelve (itemEnd xs) (λ r. itemsFrom n g (o + (length xs - length r)) r) (λ r. from-twelve n (o + (length xs - length r)) r))
 
   -- a list of items that are refused with 12 alone
@@ -73,7 +71,7 @@ module _ {A : Type 0} (g : List ℕ → Fate A) (only : (u : List ℕ) (n o : �
       inner b false = from-twelve (suc (length b)) 0 b
 
       go : (b : Body) → Twelve (listed g b)
-      go (inside b) = shifted-twelve 1 (pick (isNone (trimmed b)) (fine []) (itemsFrom (suc (length b)) g 0 b)) (inner b (isNone (trimmed b)))
+      go (inside b) = shifted-twelve 1 (pick (isBlank b) (fine []) (itemsFrom (suc (length b)) g 0 b)) (inner b (isBlank b))
       go bare = refl
 
 -- a list of scalars that are refused with 12 alone

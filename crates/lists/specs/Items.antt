@@ -57,13 +57,17 @@ boundOf (unclosed o) = []
 unfoldable pub itemEnd : List ℕ → List ℕ
 itemEnd xs = boundOf (cutOf xs)
 
--- how many white bytes a text begins with
-abbrev pub indent : List ℕ → ℕ
-indent t = length t - length (past white t)
+-- "items trimmed of whitespace only": what is left of the bytes of the item that begins xs, up to its comma
+unfoldable pub itemText : List ℕ → List ℕ
+itemText xs = trimmed (before xs (itemEnd xs))
 
--- "items trimmed of whitespace only": an item's bytes up to its comma, read by g
+-- how many bytes of the item stand before that
+unfoldable pub indent : List ℕ → ℕ
+indent xs = length (before xs (itemEnd xs)) - length (past white (before xs (itemEnd xs)))
+
+-- the item that begins xs, read by g
 unfoldable pub itemBy : {A : Type 0} → (List ℕ → Fate A) → List ℕ → Fate A
-itemBy g t = shifted (indent t) (g (trimmed t))
+itemBy g xs = shifted (indent xs) (g (itemText xs))
 
 -- a value in front of what follows
 abbrev pub consed : {A : Type 0} → A → Fate (List A) → Fate (List A)
@@ -84,16 +88,20 @@ past-comma (c ∷ r) k = k r
 unfoldable pub itemsFrom : {A : Type 0} → ℕ → (List ℕ → Fate A) → ℕ → List ℕ → Fate (List A)
 itemsFrom zero g o xs = fine []
 itemsFrom (suc n) g o xs =
-    headed (shifted o (itemBy g (before xs (itemEnd xs)))) (λ u. past-comma (itemEnd xs) (λ r. itemsFrom n g (o + (length xs - length r)) r))
+    headed (shifted o (itemBy g xs)) (λ u. past-comma (itemEnd xs) (λ r. itemsFrom n g (o + (length xs - length r)) r))
 
 -- whether nothing is left
 abbrev pub isNone : List ℕ → Bool
 isNone [] = true
 isNone (c ∷ r) = false
 
--- all items of a list's inside: "`()` has no item", nor has a list of whitespace alone
+-- "`()` has no item", nor has a list of whitespace alone: whether a list's inside is such
+unfoldable pub isBlank : List ℕ → Bool
+isBlank b = isNone (trimmed b)
+
+-- all items of a list's inside
 unfoldable pub itemsBy : {A : Type 0} → (List ℕ → Fate A) → List ℕ → Fate (List A)
-itemsBy g b = pick (isNone (trimmed b)) (fine []) (itemsFrom (suc (length b)) g 0 b)
+itemsBy g b = pick (isBlank b) (fine []) (itemsFrom (suc (length b)) g 0 b)
 
 -- the inside of a list, if a text is one
 pub data Body : Type 0 where
@@ -151,11 +159,11 @@ written (bad q) out = out
 
 -- ---- what the code's parts promise
 
--- an item of the list's inside b, from i on: its bytes, trimmed, and its comma or the end
+-- an item of the list's inside b, from i on: its text, where that stands, and its comma or the end
 pub record ItemAt (b : List ℕ) (i : ℕ) (r : Item) : Type 0 where
   pub ends : drop (r .bound) b ≡ itemEnd (drop i b)
-  pub text : take (r .stop - r .start) (drop (r .start) b) ≡ trimmed (before (drop i b) (itemEnd (drop i b)))
-  pub begins : r .start ≡ i + indent (before (drop i b) (itemEnd (drop i b)))
+  pub text : take (r .stop - r .start) (drop (r .start) b) ≡ itemText (drop i b)
+  pub begins : r .start ≡ i + indent (drop i b)
   pub ordered : r .start ≤ r .stop
   pub short : r .stop ≤ r .bound
   pub above : i ≤ r .bound
@@ -164,8 +172,8 @@ pub record ItemAt (b : List ℕ) (i : ℕ) (r : Item) : Type 0 where
 -- what a text is: no list, one without items, or one with them
 abbrev pub ShapeAt : List ℕ → Shape → Type 0
 ShapeAt t NotList = bodyOf t ≡ bare
-ShapeAt t Blank = (b : List ℕ) × (bodyOf t ≡ inside b) × (isNone (trimmed b) ≡ true)
-ShapeAt t Full = (2 ≤ length t) × (bodyOf t ≡ inside (take (length t - 1 - 1) (drop 1 t))) × (isNone (trimmed (take (length t - 1 - 1) (drop 1 t))) ≡ false)
+ShapeAt t Blank = (b : List ℕ) × (bodyOf t ≡ inside b) × (isBlank b ≡ true)
+ShapeAt t Full = (2 ≤ length t) × (bodyOf t ≡ inside (take (length t - 1 - 1) (drop 1 t))) × (isBlank (take (length t - 1 - 1) (drop 1 t)) ≡ false)
 
 -- how many were read, or the refusal
 abbrev pub toldCounted : Counted → Fate ℕ

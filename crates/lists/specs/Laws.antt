@@ -22,7 +22,7 @@ use Rattle.params.specs.Seek.{endedAt, EndedIn}
 use Rattle.params.specs.declared.Ended.{Ended}
 use Rattle.params.specs.declared.Ended.the-variants.{At, Open}
 use Rattle.lists.specs.declared.Item.{Item}
-use Rattle.lists.specs.Items.{Fate, fine, faulty, shifted, fated, boundOf, itemEnd, indent, itemBy, consed, headed, past-comma, itemsFrom, isNone, itemsBy, inside, bare, bodyOf, listed, listBy, ItemAt, ShapeAt, CountedIn}
+use Rattle.lists.specs.Items.{Fate, fine, faulty, shifted, fated, boundOf, itemEnd, itemText, indent, itemBy, consed, headed, past-comma, itemsFrom, isNone, isBlank, itemsBy, inside, bare, bodyOf, listed, listBy, ItemAt, ShapeAt, CountedIn}
 use Rattle.lists.specs.declared.Shape.{Shape}
 use Rattle.lists.specs.declared.Shape.the-variants.{NotList, Blank, Full}
 use Rattle.lists.specs.declared.Counted.{Counted}
@@ -50,6 +50,7 @@ between b i j h k = let e : length (drop i b) - length (drop j b) ≡ j - i = om
 pub item-is : (b : List ℕ) (i j s z : ℕ) → i ≤ j → j ≤ length b → drop j b ≡ itemEnd (drop i b)
     → drop s (take (j - i) (drop i b)) ≡ past white (take (j - i) (drop i b)) → take (z - s) (drop s (take (j - i) (drop i b))) ≡ trimmed (take (j - i) (drop i b))
     → s ≤ z → z ≤ length (take (j - i) (drop i b)) → ItemAt b i (record { start = i + s; stop = i + z; bound = j })
+unfolding itemText indent
 item-is b i j s z h k e f g o l =
     let n : length (take (j - i) (drop i b)) ≡ j - i = simp (length-take, length-drop) (omega arith) in
     let t : before (drop i b) (itemEnd (drop i b)) ≡ take (j - i) (drop i b) = ap (before (drop i b)) (sym e) ∙ between b i j h k in
@@ -57,7 +58,7 @@ item-is b i j s z h k e f g o l =
     record {
       ends = e;
       text = sym (part-part b i (j - i) s z o (omega (arith, l, n))) ∙ g ∙ ap trimmed (sym t);
-      begins = ap (λ (x : ℕ). i + x) (sym m) ∙ ap (λ (r : List ℕ). i + indent r) (sym t);
+      begins = ap (λ (x : ℕ). i + x) (sym m) ∙ ap (λ (r : List ℕ). i + (length r - length (past white r))) (sym t);
       ordered = omega arith;
       short = omega (arith, l, n);
       above = h;
@@ -75,12 +76,12 @@ shift-twice i k (faulty n o) = let e : i + (k + o) ≡ i + k + o = omega arith i
 
 module _ {A : Type 0} (g : List ℕ → Fate A) (b : List ℕ) (i : ℕ) (r : Item) (h : ItemAt b i r) where
   -- what an item reads as, at its place in the list
-  item-reads : shifted (r .start) (g (take (r .stop - r .start) (drop (r .start) b))) ≡ shifted i (itemBy g (before (drop i b) (itemEnd (drop i b))))
+  item-reads : shifted (r .start) (g (take (r .stop - r .start) (drop (r .start) b))) ≡ shifted i (itemBy g (drop i b))
   unfolding itemBy
   item-reads =
       ap (λ (t : List ℕ). shifted (r .start) (g t)) (h .text)
-      ∙ ap (λ (k : ℕ). shifted k (g (trimmed (before (drop i b) (itemEnd (drop i b)))))) (h .begins)
-      ∙ sym (shift-twice i (indent (before (drop i b) (itemEnd (drop i b)))) (g (trimmed (before (drop i b) (itemEnd (drop i b))))))
+      ∙ ap (λ (k : ℕ). shifted k (g (itemText (drop i b)))) (h .begins)
+      ∙ sym (shift-twice i (indent (drop i b)) (g (itemText (drop i b))))
 
   -- a bad item
   pub items-bad : (m n o : ℕ) → faulty n o ≡ g (take (r .stop - r .start) (drop (r .start) b)) → faulty n (r .start + o) ≡ itemsFrom (suc m) g i (drop i b)
@@ -219,11 +220,13 @@ body-full t h k l =
 
 module _ (xs : List ℕ) (s z : ℕ) (cut : take (z - s) (drop s xs) ≡ trimmed xs) (ordered : s ≤ z) (short : z ≤ length xs) where
   -- nothing but whitespace
-  pub none-true : s ≡ z → isNone (trimmed xs) ≡ true
+  pub none-true : s ≡ z → isBlank xs ≡ true
+  unfolding isBlank
   none-true h = let e : z - s ≡ 0 = omega arith in ap isNone (sym cut) ∙ ap (λ (n : ℕ). isNone (take n (drop s xs))) e
 
   -- something else
-  pub none-false : (s ≡ z → ⊥) → isNone (trimmed xs) ≡ false
+  pub none-false : (s ≡ z → ⊥) → isBlank xs ≡ false
+  unfolding isBlank
   none-false h = go (trimmed xs) cut
     where
       go : (t : List ℕ) → take (z - s) (drop s xs) ≡ t → isNone t ≡ false
@@ -237,12 +240,12 @@ module _ {A : Type 0} (g : List ℕ → Fate A) (t : List ℕ) where
   list-none e = ap (listed g) (sym e)
 
   -- a list without items
-  pub list-blank : (b : List ℕ) → bodyOf t ≡ inside b → isNone (trimmed b) ≡ true → fine [] ≡ listBy g t
+  pub list-blank : (b : List ℕ) → bodyOf t ≡ inside b → isBlank b ≡ true → fine [] ≡ listBy g t
   unfolding listBy itemsBy
   list-blank b e h = sym (ap (listed g) e ∙ rw h refl)
 
   -- a list with items
-  pub list-full : (b : List ℕ) → bodyOf t ≡ inside b → isNone (trimmed b) ≡ false → shifted 1 (itemsFrom (suc (length b)) g 0 b) ≡ listBy g t
+  pub list-full : (b : List ℕ) → bodyOf t ≡ inside b → isBlank b ≡ false → shifted 1 (itemsFrom (suc (length b)) g 0 b) ≡ listBy g t
   unfolding listBy itemsBy
   list-full b e h = sym (ap (listed g) e ∙ rw h refl)
 
@@ -251,12 +254,12 @@ pub shape-none : (t : List ℕ) (r : Shape) → ShapeAt t r → r ≡ NotList �
 shape-none t r h e = subst (ShapeAt t) e h
 
 -- what the code's answer says of a list with nothing between its parentheses
-pub shape-blank : (t : List ℕ) (r : Shape) → ShapeAt t r → r ≡ Blank → (b : List ℕ) × (bodyOf t ≡ inside b) × (isNone (trimmed b) ≡ true)
+pub shape-blank : (t : List ℕ) (r : Shape) → ShapeAt t r → r ≡ Blank → (b : List ℕ) × (bodyOf t ≡ inside b) × (isBlank b ≡ true)
 shape-blank t r h e = subst (ShapeAt t) e h
 
 -- what it says of a list with items
 pub shape-full : (t : List ℕ) (r : Shape) → ShapeAt t r → r ≡ Full
-    → (2 ≤ length t) × (bodyOf t ≡ inside (take (length t - 1 - 1) (drop 1 t))) × (isNone (trimmed (take (length t - 1 - 1) (drop 1 t))) ≡ false)
+    → (2 ≤ length t) × (bodyOf t ≡ inside (take (length t - 1 - 1) (drop 1 t))) × (isBlank (take (length t - 1 - 1) (drop 1 t)) ≡ false)
 shape-full t r h e = subst (ShapeAt t) e h
 
 -- the inside's length

@@ -15,7 +15,6 @@ use Rattle.common.specs.Walk.{stop, on, turned, walk}
 use Rattle.lex.specs.declared.Mode.{Mode}
 use Rattle.lex.specs.declared.Mode.the-variants.{Plain, Slash, Text, Quoted, Remark, Starred}
 use Rattle.record.specs.Text.{before, past, trail}
-use Rattle.record.specs.Word.{trimmed}
 use Rattle.reals.specs.Scalar.{Answer, read, refused, referenceOf, wholeOf, realBy}
 use Rattle.params.specs.Cut.{Cut, cut, unclosed, Stand, outside, settled, passed, cutTurn, over, cutEnd, cutOf, started}
 use Rattle.params.specs.Reader.{reading, Span, span, inFile, bounded, begun, onward, paramOf}
@@ -23,7 +22,7 @@ use Rattle.lists.specs.declared.Kind.{Kind}
 use Rattle.lists.specs.declared.Kind.the-variants.{References, Integers, Floats, Any}
 use Rattle.lists.specs.declared.ReadList.{ReadList}
 use Rattle.lists.specs.declared.ReadList.the-variants.{Count, Wrong, Outside, Short}
-use Rattle.lists.specs.Items.{Fate, fine, faulty, shifted, fated, asFate, kindOf, boundOf, itemEnd, indent, itemBy, consed, headed, past-comma, itemsFrom, isNone, itemsBy, inside, bare, bodyOf, listed, listBy, listOf, roomed, nextBy, fitsIn, countOf, toldReadList, reached}
+use Rattle.lists.specs.Items.{Fate, fine, faulty, shifted, fated, asFate, kindOf, boundOf, itemEnd, itemText, indent, itemBy, consed, headed, past-comma, itemsFrom, isBlank, itemsBy, inside, bare, bodyOf, listed, listBy, listOf, roomed, nextBy, fitsIn, countOf, toldReadList, reached}
 
 -- how far into a text its fault is; 0 where it has none
 abbrev pub offset : {A : Type 0} → Fate A → ℕ
@@ -106,9 +105,12 @@ end-short : (xs : List ℕ) → length (itemEnd xs) ≤ length xs
 unfolding itemEnd cutOf
 end-short xs = cut-short _ xs
 
--- an item's bytes are no more than those it is cut from
-before-short : (xs ys : List ℕ) → length (before xs ys) ≤ length xs
-before-short xs ys = simp length-take (omega arith)
+-- an item's text, and what stands before it, are no more than the bytes it is cut from
+item-short : (xs : List ℕ) → indent xs + length (itemText xs) ≤ length xs
+unfolding itemText indent
+item-short xs =
+    let t = before xs (itemEnd xs) in
+    omega (arith, past-short white t, length-take (length (past white t) - length (trail (past white t))) (past white t), length-take (length xs - length (itemEnd xs)) xs)
 
 -- seen from further back
 offset-shifted : {A : Type 0} (k : ℕ) (x : Fate A) → offset (shifted k x) ≤ k + offset x
@@ -131,25 +133,23 @@ offset-past m (c ∷ r) k h = h r (omega arith)
 
 module _ {A : Type 0} (g : List ℕ → Fate A) (inward : Inward g) where
   -- an item
-  item-inward : (t : List ℕ) → offset (itemBy g t) ≤ length t
+  item-inward : (xs : List ℕ) → offset (itemBy g xs) ≤ length xs
   unfolding itemBy
-  item-inward t =
-      omega (arith, offset-shifted (indent t) (g (trimmed t)), inward (trimmed t), past-short white t, length-take (length (past white t) - length (trail (past white t))) (past white t))
+  item-inward xs = omega (arith, offset-shifted (indent xs) (g (itemText xs)), inward (itemText xs), item-short xs)
 
   -- the items from a rest on
   pub items-inward : (n o : ℕ) (xs : List ℕ) → offset (itemsFrom n g o xs) ≤ o + length xs
   unfolding itemsFrom
   items-inward zero o xs = omega arith
   items-inward (suc n) o xs =
-      let t = before xs (itemEnd xs) in
-      offset-headed (o + length xs) (shifted o (itemBy g t)) _
-      (omega (arith, offset-shifted o (itemBy g t), item-inward t, before-short xs (itemEnd xs)))
+      offset-headed (o + length xs) (shifted o (itemBy g xs)) _
+      (omega (arith, offset-shifted o (itemBy g xs), item-inward xs))
       (offset-past (o + length xs) (itemEnd xs) _ (λ r h. omega (arith, h, end-short xs, items-inward n (o + (length xs - length r)) r)))
 
   -- the items of a list
   all-inward : (b : List ℕ) → offset (itemsBy g b) ≤ length b
   unfolding itemsBy
-  all-inward b = go (isNone (trimmed b))
+  all-inward b = go (isBlank b)
     where
       go : (k : Bool) → offset (pick k (fine []) (itemsFrom (suc (length b)) g 0 b)) ≤ length b
       go true = omega arith

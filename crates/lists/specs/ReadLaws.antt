@@ -10,12 +10,10 @@ use borrow.Author.Tests.{leb-true}
 use Rattle.common.specs.Pick.{pick}
 use Rattle.common.specs.Compare.{clash}
 use Rattle.error.specs.Refusal.{Refusal, refusal, Told, good, bad}
-use Rattle.record.specs.Text.{before}
-use Rattle.record.specs.Word.{trimmed}
 use Rattle.params.specs.Reader.{reading, span, onward, paramOf}
 use Rattle.lists.specs.declared.Shape.{Shape}
 use Rattle.lists.specs.declared.Shape.the-variants.{NotList, Blank, Full}
-use Rattle.lists.specs.Items.{Fate, fine, faulty, shifted, fated, mute, itemEnd, indent, itemBy, consed, headed, past-comma, itemsFrom, isNone, itemsBy, Body, inside, bare, bodyOf, listed, listBy, roomed, moved, nextBy, fitsIn, countOf, howMany, written, valuesOf, Ready, filled, ShapeAt}
+use Rattle.lists.specs.Items.{Fate, fine, faulty, shifted, fated, mute, itemEnd, itemText, indent, itemBy, consed, headed, past-comma, itemsFrom, isBlank, itemsBy, Body, inside, bare, bodyOf, listed, listBy, roomed, moved, nextBy, fitsIn, countOf, howMany, written, valuesOf, Ready, filled, ShapeAt}
 use Rattle.lists.specs.Laws.{list-none, list-blank, list-full, shape-none, shape-blank, shape-full}
 
 -- Items told by h: the list is the one of those whose items are told by h.
@@ -49,15 +47,15 @@ module _ {A B : Type 0} (h : A → B) where
     -- an item
     map-item : (o : ℕ) (t : List ℕ) → fated h (shifted o (itemBy g t)) ≡ shifted o (itemBy (λ u. fated h (g u)) t)
     unfolding itemBy
-    map-item o t = map-shifted o (shifted (indent t) (g (trimmed t))) ∙ ap (shifted o) (map-shifted (indent t) (g (trimmed t)))
+    map-item o t = map-shifted o (shifted (indent t) (g (itemText t))) ∙ ap (shifted o) (map-shifted (indent t) (g (itemText t)))
 
     -- from a rest on
     map-from : (n o : ℕ) (xs : List ℕ) → fated (map h) (itemsFrom n g o xs) ≡ itemsFrom n (λ u. fated h (g u)) o xs
     unfolding itemsFrom
     map-from zero o xs = refl
     map-from (suc n) o xs =
-        map-headed (shifted o (itemBy g (before xs (itemEnd xs)))) _ _ (map-past (itemEnd xs) _ _ (λ r. map-from n (o + (length xs - length r)) r))
-        ∙ ap (λ (x : Fate B). headed x (λ u. past-comma (itemEnd xs) (λ r. itemsFrom n (λ v. fated h (g v)) (o + (length xs - length r)) r))) (map-item o (before xs (itemEnd xs)))
+        map-headed (shifted o (itemBy g xs)) _ _ (map-past (itemEnd xs) _ _ (λ r. map-from n (o + (length xs - length r)) r))
+        ∙ ap (λ (x : Fate B). headed x (λ u. past-comma (itemEnd xs) (λ r. itemsFrom n (λ v. fated h (g v)) (o + (length xs - length r)) r))) (map-item o xs)
 
     -- of a list
     pub list-map : (t : List ℕ) → fated (map h) (listBy g t) ≡ listBy (λ u. fated h (g u)) t
@@ -69,7 +67,7 @@ module _ {A B : Type 0} (h : A → B) where
         none-same false b = map-from (suc (length b)) 0 b
 
         go : (b : Body) → fated (map h) (listed g b) ≡ listed (λ u. fated h (g u)) b
-        go (inside b) = map-shifts 1 (pick (isNone (trimmed b)) (fine []) (itemsFrom (suc (length b)) g 0 b)) ∙ ap (shifted 1) (none-same (isNone (trimmed b)) b)
+        go (inside b) = map-shifts 1 (pick (isBlank b) (fine []) (itemsFrom (suc (length b)) g 0 b)) ∙ ap (shifted 1) (none-same (isBlank b) b)
         go bare = refl
 
 -- items are counted whatever they read as

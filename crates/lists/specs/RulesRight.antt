@@ -32,7 +32,7 @@ use Rattle.params.specs.Reader.{paramOf, reading, Span, inFile}
 use Rattle.params.specs.Rules.{Inside}
 use Rattle.params.specs.RulesRight.{Rest, rest-of, param-rest}
 use Rattle.params.specs.Places.{Stands, Past, mapped-stands, mapped-stays, refused-past}
-use Rattle.lists.specs.Items.{Fate, fine, faulty, shifted, asFate, boundOf, itemEnd, indent, itemBy, consed, headed, past-comma, itemsFrom, isNone, itemsBy, inside, bare, bodyOf, listBy, listOf, roomed, nextBy}
+use Rattle.lists.specs.Items.{Fate, fine, faulty, shifted, asFate, boundOf, itemEnd, itemText, indent, itemBy, consed, headed, past-comma, itemsFrom, isNone, isBlank, itemsBy, inside, bare, bodyOf, listBy, listOf, roomed, nextBy}
 use Rattle.lists.specs.Rules.{Ends, Item, Items, Listed, Scalar}
 
 -- ---- where an item ends
@@ -78,7 +78,8 @@ before-only : (b r : List ℕ) → before (b ++ r) r ≡ b
 before-only b r = take-at b r (length (b ++ r) - length r) (simp length-append (omega arith))
 
 -- an item by the rule is the one that is computed: its end, its text, and how much whitespace stands before it
-pub item-only : {xs f t r : List ℕ} → Item xs f t r → (r ≡ itemEnd xs) × (t ≡ trimmed (before xs (itemEnd xs))) × (length f ≡ indent (before xs (itemEnd xs)))
+pub item-only : {xs f t r : List ℕ} → Item xs f t r → (r ≡ itemEnd xs) × (t ≡ itemText xs) × (length f ≡ indent xs)
+unfolding itemText indent
 item-only {xs} {f} {t} {r} i =
     let w : List ℕ = f ++ (t ++ i .back) in
     let e = ends-only (i .ends) in
@@ -86,25 +87,26 @@ item-only {xs} {f} {t} {r} i =
     let p : past white w ≡ t ++ i .back = past-only white f (t ++ i .back) record { all = i .before; over = i .first } in
     let n : length f ≡ length w - length (t ++ i .back) = simp length-append (omega arith) in
     let m : Trimmed w t = record { front = f; back = i .back; shape = refl; before = i .before; after = i .after; first = first-part white t (i .back) (i .first); last = i .last } in
-    (e, trimmed-only m ∙ ap trimmed (sym b), n ∙ ap (λ (x : List ℕ). length w - length x) (sym p) ∙ ap indent (sym b))
+    (e, trimmed-only m ∙ ap trimmed (sym b), n ∙ ap (λ (x : List ℕ). length w - length x) (sym p) ∙ ap (λ (x : List ℕ). length x - length (past white x)) (sym b))
 
 -- what is computed is an item
-pub item-is : (xs : List ℕ) → (f : List ℕ) × Item xs f (trimmed (before xs (itemEnd xs))) (itemEnd xs)
+pub item-is : (xs : List ℕ) → (f : List ℕ) × Item xs f (itemText xs) (itemEnd xs)
+unfolding itemText
 item-is xs = go (ends-rest (ends-is xs))
   where
-    cut-up : (w f : List ℕ) → xs ≡ w ++ itemEnd xs → w ≡ f ++ past white w → Skipped white f (past white w) → Tailed (past white w) → (f : List ℕ) × Item xs f (trimmed (before xs (itemEnd xs))) (itemEnd xs)
+    cut-up : (w f : List ℕ) → xs ≡ w ++ itemEnd xs → w ≡ f ++ past white w → Skipped white f (past white w) → Tailed (past white w) → (f : List ℕ) × Item xs f (itemText xs) (itemEnd xs)
     cut-up w f e g s (t, z, h, a, l) =
         let k : NotFirst white (t ++ z) = rw h at (s .over) in
         let v : w ≡ f ++ (t ++ z) = g ∙ ap (λ (x : List ℕ). f ++ x) h in
         let m : Trimmed w t = record { front = f; back = z; shape = v; before = s .all; after = a; first = first-part white t z k; last = l } in
         let b : before xs (itemEnd xs) ≡ w = ap (λ (x : List ℕ). before x (itemEnd xs)) e ∙ before-only w (itemEnd xs) in
-        let u : t ≡ trimmed (before xs (itemEnd xs)) = trimmed-only m ∙ ap trimmed (sym b) in (
+        let u : t ≡ itemText xs = trimmed-only m ∙ ap trimmed (sym b) in (
           f,
           subst (λ (x : List ℕ). Item xs f x (itemEnd xs)) u
               (record { back = z; shape = e ∙ ap (λ (x : List ℕ). x ++ itemEnd xs) v; ends = ends-is xs; before = s .all; after = a; first = k; last = l }),
         )
 
-    go : Rest xs (itemEnd xs) → (f : List ℕ) × Item xs f (trimmed (before xs (itemEnd xs))) (itemEnd xs)
+    go : Rest xs (itemEnd xs) → (f : List ℕ) × Item xs f (itemText xs) (itemEnd xs)
     go (w, e) = let (f, g, s) = past-is white w in cut-up w f e g s (tail-split (past white w))
 
 -- a list of bytes begins with one item
@@ -130,7 +132,7 @@ module _ {A : Type 0} (g : List ℕ → Fate A) where
   items-shift : (n o : ℕ) (xs : List ℕ) → itemsFrom n g o xs ≡ shifted o (itemsFrom n g 0 xs)
   unfolding itemsFrom
   items-shift zero o xs = refl
-  items-shift (suc n) o xs = go (itemBy g (before xs (itemEnd xs))) (itemEnd xs) (items-shift n)
+  items-shift (suc n) o xs = go (itemBy g xs) (itemEnd xs) (items-shift n)
     where
       go : (a : Fate A) (r : List ℕ) → ((o : ℕ) (xs : List ℕ) → itemsFrom n g o xs ≡ shifted o (itemsFrom n g 0 xs))
           → headed (shifted o a) (λ u. past-comma r (λ q. itemsFrom n g (o + (length xs - length q)) q))
@@ -148,12 +150,12 @@ module _ {A : Type 0} (g : List ℕ → Fate A) where
   unfolding itemsFrom itemBy
   item-step n {xs} {f} {t} {r} i =
       let (e, u, l) = item-only i in
-      rw (u, l, e) (go (g (trimmed (before xs (itemEnd xs)))))
+      rw (u, l, e) (go (g (itemText xs)))
     where
-      go : (a : Fate A) → headed (shifted 0 (shifted (indent (before xs (itemEnd xs))) a)) (λ u. past-comma (itemEnd xs) (λ q. itemsFrom n g (0 + (length xs - length q)) q))
-          ≡ headed (shifted (indent (before xs (itemEnd xs))) a) (λ u. past-comma (itemEnd xs) (λ q. itemsFrom n g (0 + (length xs - length q)) q))
+      go : (a : Fate A) → headed (shifted 0 (shifted (indent xs) a)) (λ u. past-comma (itemEnd xs) (λ q. itemsFrom n g (0 + (length xs - length q)) q))
+          ≡ headed (shifted (indent xs) a) (λ u. past-comma (itemEnd xs) (λ q. itemsFrom n g (0 + (length xs - length q)) q))
       go (fine v) = refl
-      go (faulty k j) = let i = indent (before xs (itemEnd xs)) in let m : 0 + (i + j) ≡ i + j = omega arith in ap (faulty k) m
+      go (faulty k j) = let i = indent xs in let m : 0 + (i + j) ≡ i + j = omega arith in ap (faulty k) m
 
   -- a bad one
   step-bad : (n : ℕ) {xs f t r : List ℕ} (k o : ℕ) → Item xs f t r → faulty k o ≡ g t → faulty k (length f + o) ≡ itemsFrom (suc n) g 0 xs
@@ -179,7 +181,7 @@ module _ {A : Type 0} (P : List ℕ → Fate A → Type 0) (g : List ℕ → Fat
   -- what is computed is the answer, where it is for an item
   items-are : ((t : List ℕ) → P t (g t)) → (n : ℕ) (xs : List ℕ) → length xs < n → Items P xs (itemsFrom n g 0 xs)
   items-are is zero xs h = absurd (omega arith)
-  items-are is (suc n) xs h = let (f, i) = item-is xs in go f (trimmed (before xs (itemEnd xs))) (itemEnd xs) i (g (trimmed (before xs (itemEnd xs)))) refl (items-are is n)
+  items-are is (suc n) xs h = let (f, i) = item-is xs in go f (itemText xs) (itemEnd xs) i (g (itemText xs)) refl (items-are is n)
     where
       more : (w f t : List ℕ) (c : ℕ) (r : List ℕ) → xs ≡ w ++ (c ∷ r) → c ≡ 44 → Item xs f t (c ∷ r) → (v : A) → fine v ≡ g t → ((ys : List ℕ) → length ys < n → Items P ys (itemsFrom n g 0 ys))
           → Items P xs (itemsFrom (suc n) g 0 xs)
@@ -236,13 +238,15 @@ body-comes (c ∷ r) = go (eqb c 40) (eqb (getD r (length r - 1) 0) 41) refl ref
     go false v p q = inr refl
 
 -- nothing but whitespace is left of whitespace alone
-none-only : (b : List ℕ) → All white b → isNone (trimmed b) ≡ true
+none-only : (b : List ℕ) → All white b → isBlank b ≡ true
+unfolding isBlank
 none-only b a =
     let m : Trimmed b [] = record { front = b; back = []; shape = sym (append-nil b); before = a; after = tt; first = λ c r e. clash (cc); last = last-none white } in
     ap isNone (sym (trimmed-only m))
 
 -- and of whitespace alone nothing
-none-is : (b : List ℕ) → isNone (trimmed b) ≡ true → All white b
+none-is : (b : List ℕ) → isBlank b ≡ true → All white b
+unfolding isBlank
 none-is b h = go (trimmed b) (trimmed-is b) h
   where
     go : (t : List ℕ) → Trimmed b t → isNone t ≡ true → All white b
@@ -258,9 +262,9 @@ module _ {A : Type 0} (P : List ℕ → Fate A → Type 0) (g : List ℕ → Fat
   -- a list with items
   full-list : (b : List ℕ) → (All white b → ⊥) → shifted 1 (itemsFrom (suc (length b)) g 0 b) ≡ listBy g (40 ∷ (b ++ (41 ∷ [])))
   unfolding listBy itemsBy
-  full-list b n = rw (body-only b, some (isNone (trimmed b)) refl) refl
+  full-list b n = rw (body-only b, some (isBlank b) refl) refl
     where
-      some : (t : Bool) → isNone (trimmed b) ≡ t → isNone (trimmed b) ≡ false
+      some : (t : Bool) → isBlank b ≡ t → isBlank b ≡ false
       some true e = absurd (n (none-is b e))
       some false e = e
 
@@ -273,14 +277,14 @@ module _ {A : Type 0} (P : List ℕ → Fate A → Type 0) (g : List ℕ → Fat
   pub listed-is : ((t : List ℕ) → P t (g t)) → (t : List ℕ) → Listed P t (listBy g t)
   listed-is is t = go (body-comes t)
     where
-      by : (b : List ℕ) (u : Bool) → isNone (trimmed b) ≡ u → Listed P (40 ∷ (b ++ (41 ∷ []))) (listBy g (40 ∷ (b ++ (41 ∷ []))))
+      by : (b : List ℕ) (u : Bool) → isBlank b ≡ u → Listed P (40 ∷ (b ++ (41 ∷ []))) (listBy g (40 ∷ (b ++ (41 ∷ []))))
       by b true e = let a = none-is b e in subst (Listed P (40 ∷ (b ++ (41 ∷ [])))) (blank-list b a) (Listed.none b a)
       by b false e =
           let n : All white b → ⊥ = λ a. clash (cc (none-only b a)) in
           subst (Listed P (40 ∷ (b ++ (41 ∷ [])))) (full-list b n) (Listed.items b n (items-are P g is (suc (length b)) b (omega arith)))
 
       go : ((b : List ℕ) × (t ≡ 40 ∷ (b ++ (41 ∷ [])))) ⊎ (bodyOf t ≡ bare) → Listed P t (listBy g t)
-      go (inl (b, e)) = subst (λ (x : List ℕ). Listed P x (listBy g x)) (sym e) (by b (isNone (trimmed b)) refl)
+      go (inl (b, e)) = subst (λ (x : List ℕ). Listed P x (listBy g x)) (sym e) (by b (isBlank b) refl)
       go (inr e) = subst (Listed P t) (no-list t e) (Listed.other (λ b f. clash (cc (ap bodyOf f ∙ body-only b))))
 
   -- and there is no other
@@ -405,35 +409,35 @@ module _ {A : Type 0} (g : List ℕ → Fate A) (fits : A → Bool) (s : List �
 -- ---- points that document 01 names, or leaves to the Rust; an item stands for its own text
 -- "`()` has no item"
 no-item : listBy fine (bytes "()") ≡ fine []
-unfolding listBy bodyOf itemsBy past trail walk
+unfolding listBy bodyOf isBlank itemsBy past trail walk
 no-item = refl
 
 -- nor has `( )`
 blank-item : listBy fine (bytes "( )") ≡ fine []
-unfolding listBy bodyOf itemsBy past trail walk
+unfolding listBy bodyOf isBlank itemsBy past trail walk
 blank-item = refl
 
 -- "`(1,)` has two"
 two-items : listBy fine (bytes "(1,)") ≡ fine (bytes "1" ∷ [] ∷ [])
-unfolding listBy bodyOf itemsBy itemsFrom itemBy itemEnd cutOf past trail walk
+unfolding listBy bodyOf isBlank itemsBy itemsFrom itemBy itemText indent itemEnd cutOf past trail walk
 two-items = refl
 
 -- "items trimmed of whitespace only", "cut at depth-0 commas"
 trimmed-items : listBy fine (bytes "( 1 ,(2,3), '4,' )") ≡ fine (bytes "1" ∷ bytes "(2,3)" ∷ bytes "'4,'" ∷ [])
-unfolding listBy bodyOf itemsBy itemsFrom itemBy itemEnd cutOf past trail walk
+unfolding listBy bodyOf isBlank itemsBy itemsFrom itemBy itemText indent itemEnd cutOf past trail walk
 trimmed-items = refl
 
 -- `(1)(2)` is one list with the item `1)(2`
 one-item : listBy fine (bytes "(1)(2)") ≡ fine (bytes "1)(2" ∷ [])
-unfolding listBy bodyOf itemsBy itemsFrom itemBy itemEnd cutOf past trail walk
+unfolding listBy bodyOf isBlank itemsBy itemsFrom itemBy itemText indent itemEnd cutOf past trail walk
 one-item = refl
 
 -- an all-whitespace item starts after its whitespace
 blank-start : listOf referenceOf (bytes "(#1,  ,#3)") ≡ faulty 12 6
-unfolding listBy bodyOf itemsBy itemsFrom itemBy itemEnd cutOf past trail walk referenceOf numberFrom
+unfolding listBy bodyOf isBlank itemsBy itemsFrom itemBy itemText indent itemEnd cutOf past trail walk referenceOf numberFrom
 blank-start = refl
 
 -- the first bad item of a grid, at its own start
 grid-start : listBy (listOf referenceOf) (bytes "((#1),(#2,3))") ≡ faulty 12 10
-unfolding listBy bodyOf itemsBy itemsFrom itemBy itemEnd cutOf past trail walk referenceOf numberFrom
+unfolding listBy bodyOf isBlank itemsBy itemsFrom itemBy itemText indent itemEnd cutOf past trail walk referenceOf numberFrom
 grid-start = refl

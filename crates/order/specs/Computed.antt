@@ -15,7 +15,7 @@ use Rattle.params.specs.Reader.{paramOf, skipOf}
 use Rattle.scalars.specs.Scalars.{kernelOf, measureOf, nextOf}
 use Rattle.reals.specs.Scalar.{parseOf, realOf, wholeOf, referenceOf}
 use Rattle.prefixes.specs.Prefix.{placeIn}
-use Rattle.lists.specs.Items.{itemEnd, itemBy, itemsFrom, itemsBy, bodyOf, listBy, nextBy}
+use Rattle.lists.specs.Items.{itemEnd, itemText, indent, itemBy, itemsFrom, isBlank, itemsBy, bodyOf, listBy, nextBy}
 use Rattle.factors.specs.Factor.{siLength, siAngle, measureRef, linkOf, measureIn, lengthOf, numberIn, angleOf}
 use Rattle.units.specs.Units.{isContext, refsIn, unitBy, unitsBy, uncertaintyBy, toleranceBy, listedUnits, listedTolerance, contextOf, resolveOf}
 use Rattle.nearest.specs.Near.{near, nearUnits}
@@ -40,5 +40,5 @@ checking = tt
 
 -- the unit answer, and which texts are unit contexts
 unfoldable pub resolving : Unit {0}
-unfolding reading those contextText lastOf kindOf Part.nextOf Part.partsFrom cutOf started paramOf skipOf kernelOf measureOf nextOf parseOf realOf wholeOf referenceOf placeIn itemEnd itemBy itemsFrom itemsBy bodyOf listBy nextBy siLength siAngle measureRef linkOf measureIn lengthOf numberIn angleOf isContext refsIn unitBy unitsBy uncertaintyBy toleranceBy listedUnits listedTolerance contextOf resolveOf size near nearUnits worthOf Nearest.unitsOf fromByte stringRest commentRest isName validFrom leadOf
+unfolding reading those contextText lastOf kindOf Part.nextOf Part.partsFrom cutOf started paramOf skipOf kernelOf measureOf nextOf parseOf realOf wholeOf referenceOf placeIn itemEnd itemText indent itemBy itemsFrom isBlank itemsBy bodyOf listBy nextBy siLength siAngle measureRef linkOf measureIn lengthOf numberIn angleOf isContext refsIn unitBy unitsBy uncertaintyBy toleranceBy listedUnits listedTolerance contextOf resolveOf size near nearUnits worthOf Nearest.unitsOf fromByte stringRest commentRest isName validFrom leadOf
 resolving = tt

@@ -14,7 +14,7 @@ use Rattle.statement.specs.ClosedRight.{rowFrom, record-row}
 use Rattle.params.specs.Reader.{onward}
 use Rattle.factors.specs.Thing.{Piece, Thing, thingAt, thingOf, thingFound}
 use Rattle.units.specs.Units.{isContext}
-use Rattle.alike.specs.Alike.{BothTold, BothList, AlikeThing, AlikeFound, AlikeFind}
+use Rattle.alike.specs.Alike.{BothTold, BothList, AlikeThing, AlikeFound, AlikeFind, Every}
 use Rattle.alike.specs.Closed.{closed-thing-good, closed-parts-good, closed-things-alike}
 use Rattle.alike.specs.Contexts.{toldTrue, contextsOf, Asked, context-told, context-same}
 use Rattle.lookup.specs.Records.{lastOf}
@@ -37,16 +37,16 @@ says-parts {f} {w} {b} k = go f w (k .shape) (k .row)
     go f w e h = rw (e, h) (closed-parts-good (k .closed) (k .front) (k .back))
 
 -- two records of one text are alike
-says-alike : {f g : List ℕ} {w v : Row} {b : List ℕ} → Says f w b → Says g v b → AlikeThing f g (thingAt f w) (thingAt g v)
+says-alike : {f g : List ℕ} {w v : Row} {b : List ℕ} → Says f w b → Says g v b → AlikeThing Every f g (thingAt f w) (thingAt g v)
 says-alike {f} {g} {w} {v} {b} k l = go f g w v (k .shape) (l .shape) (k .row) (l .row)
   where
     go : (f g : List ℕ) (w v : Row) → f ≡ k .front ++ (b ++ k .back) → g ≡ l .front ++ (b ++ l .back) → w ≡ rowFrom (length (k .front)) (k .closed)
-        → v ≡ rowFrom (length (l .front)) (l .closed) → AlikeThing f g (thingAt f w) (thingAt g v)
-    go f g w v e h i j = rw (e, h, i, j) (closed-things-alike (k .closed) (l .closed) (k .front) (k .back) (l .front) (l .back))
+        → v ≡ rowFrom (length (l .front)) (l .closed) → AlikeThing Every f g (thingAt f w) (thingAt g v)
+    go f g w v e h i j = rw (e, h, i, j) (closed-things-alike (k .closed) (l .closed) (λ n m. tt) (k .front) (k .back) (l .front) (l .back))
 
 -- ---- lookups
 -- two records that are served for one text, or none
-found-alike : (f g : List ℕ) (x y : Option Row) (z : Option (List ℕ)) → FoundSay f x z → FoundSay g y z → AlikeFound f g (thingFound f x) (thingFound g y)
+found-alike : (f g : List ℕ) (x y : Option Row) (z : Option (List ℕ)) → FoundSay f x z → FoundSay g y z → AlikeFound Every f g (thingFound f x) (thingFound g y)
 found-alike f g none none none h k = tt
 found-alike f g none (some v) none h k = absurd k
 found-alike f g (some w) y none h k = absurd h
@@ -56,9 +56,9 @@ found-alike f g (some w) (some v) (some b) h k = rw (says-thing h, says-thing k)
 
 -- so are all lookups, where the order of records with equal ids is kept
 pub finds-alike : (f g : List ℕ) (ws vs : List Row) (ts us : List (List ℕ)) → AllSay f ws ts → AllSay g vs us → ((k : ℕ) → ofId k ts ≡ ofId k us)
-    → AlikeFind f g (λ k. thingFound f (lastOf k ws)) (λ k. thingFound g (lastOf k vs))
+    → AlikeFind Every f g (λ k. thingFound f (lastOf k ws)) (λ k. thingFound g (lastOf k vs))
 finds-alike f g ws vs ts us a b e = record {
-  found = λ k. found-alike f g (lastOf k ws) (lastOf k vs) (lastText (ofId k us)) (rw (e k) at (found-says k f ws ts a)) (found-says k g vs us b);
+  found = λ k n. found-alike f g (lastOf k ws) (lastOf k vs) (lastText (ofId k us)) (rw (e k) at (found-says k f ws ts a)) (found-says k g vs us b);
 }
 
 -- ---- contexts
@@ -106,7 +106,7 @@ contexts-say f (w ∷ ws) (b ∷ ts) (k, a) = rw (says-context k) (go (contextTe
 
 -- records of the same texts are alike
 things-alike : (f g : List ℕ) (xs ys : List (Told Thing)) (bs : List (List ℕ)) → BothList (ThingSay f) xs bs → BothList (ThingSay g) ys bs
-    → BothList (BothTold (AlikeThing f g)) xs ys
+    → BothList (BothTold (AlikeThing Every f g)) xs ys
 things-alike f g [] [] [] h k = tt
 things-alike f g [] (y ∷ ys) [] h k = absurd k
 things-alike f g [] ys (b ∷ bs) h k = absurd h
@@ -116,5 +116,5 @@ things-alike f g (x ∷ xs) (y ∷ ys) (b ∷ bs) ((w, p, i), h) ((v, q, j), k) 
 
 -- so are the contexts, where their order is kept
 pub contexts-alike : (f g : List ℕ) (ws vs : List Row) (ts us : List (List ℕ)) → AllSay f ws ts → AllSay g vs us → contextsIn ts ≡ contextsIn us
-    → BothList (BothTold (AlikeThing f g)) (contextsOf f (map (thingOf f) ws)) (contextsOf g (map (thingOf g) vs))
+    → BothList (BothTold (AlikeThing Every f g)) (contextsOf f (map (thingOf f) ws)) (contextsOf g (map (thingOf g) vs))
 contexts-alike f g ws vs ts us a b e = things-alike f g (contextsOf f (map (thingOf f) ws)) (contextsOf g (map (thingOf g) vs)) (contextsIn us) (rw e at (contexts-say f ws ts a)) (contexts-say g vs us b)

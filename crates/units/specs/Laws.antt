@@ -17,7 +17,6 @@ use Rattle.common.specs.Compare.{clash}
 use Rattle.error.specs.Refusal.{Refusal, refusal, Told, good, bad, told}
 use Rattle.error.specs.declared.Fault.{Fault}
 use Rattle.record.specs.Turns.{bounds}
-use Rattle.record.specs.Word.{trimmed}
 use Rattle.nearest.specs.Near.{near, nearUnits}
 use Rattle.table.specs.Table.{tableRows, rowNumbers}
 use Rattle.statement.specs.Rows.{Row, HeaderRow}
@@ -32,7 +31,7 @@ use Rattle.reals.specs.Scalar.{wholeOf, referenceOf}
 use Rattle.parts.specs.Part.{nextOf, before, partsBy, partsFrom, partsOf}
 use Rattle.parts.specs.Laws.{next-ahead}
 use Rattle.lists.specs.declared.Item.{Item}
-use Rattle.lists.specs.Items.{Fate, fine, faulty, shifted, fated, mute, asFate, itemsFrom, isNone, itemsBy, Body, inside, bare, bodyOf, listed, listBy, roomed, nextBy, valuesOf, ItemAt}
+use Rattle.lists.specs.Items.{Fate, fine, faulty, shifted, fated, mute, asFate, itemsFrom, isBlank, itemsBy, Body, inside, bare, bodyOf, listed, listBy, roomed, nextBy, valuesOf, ItemAt}
 use Rattle.lists.specs.Laws.{item-in}
 use Rattle.lists.specs.ReadLaws.{count-mute}
 use Rattle.lists.specs.Fill.{fill-bad, fill-last, fill-more, fill-head}
@@ -350,7 +349,7 @@ full-list {A} g t vs h k = go (bodyOf t) refl h
 
     go : (x : Body) → bodyOf t ≡ x → listed g x ≡ fine vs → (2 ≤ length t) × (itemsFrom (suc (length (take (length t - 1 - 1) (drop 1 t)))) g 0 (take (length t - 1 - 1) (drop 1 t)) ≡ fine vs)
     go bare e f = clash (cc)
-    go (inside b) e f = let (n, m) = body-full t b e in (n, subst (λ (y : List ℕ). itemsFrom (suc (length y)) g 0 y ≡ fine vs) m (by b (isNone (trimmed b)) f))
+    go (inside b) e f = let (n, m) = body-full t b e in (n, subst (λ (y : List ℕ). itemsFrom (suc (length y)) g 0 y ≡ fine vs) m (by b (isBlank b) f))
 
 -- the first byte left out
 one-in : (m : ℕ) (l : List ℕ) → 1 ≤ length l → drop 1 (take (suc m) l) ≡ take m (drop 1 l)
