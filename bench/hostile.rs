@@ -3,6 +3,10 @@
 //!     hostile names
 //!     hostile NAME rust|proved
 
+#[path = "src/table.rs"]
+#[allow(dead_code)]
+mod table;
+
 use cad_step::StepFile;
 
 unsafe extern "C" {
@@ -158,7 +162,7 @@ fn most_rows(file: &[u8]) -> usize {
 /// The same, in rooms for so many rows.
 fn proved(file: &[u8], rows: usize) -> String {
     let mut headers = vec![0u32; 4096];
-    let mut table = vec![0u32; rows * 6];
+    let mut table = vec![0u32; rows * table::ROW];
     let mut slots = vec![0u64; rows];
     let mut out = [0u64; 3];
     let mut ids = [0u64; 8];

@@ -10,6 +10,9 @@ mod clock;
 mod ids;
 #[path = "lookups/sides.rs"]
 mod sides;
+#[path = "src/table.rs"]
+#[allow(dead_code)]
+mod table;
 
 use cad_step::StepFile;
 use clock::{keep_memory, least};

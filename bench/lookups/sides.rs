@@ -1,5 +1,6 @@
 //! The two sides of a lookup: the original's dense table, and the proved index, whose search is written again here to count the
 //! lines of memory that it touches.
+use crate::table::{self, HEADER_ROW, ROW};
 use cad_step::StepFile;
 use cad_step::scan::Scan;
 use std::cmp::Ordering;
@@ -126,8 +127,8 @@ pub struct Table {
 impl Table {
     pub fn open(file: &[u8], headers: usize, records: usize) -> Table {
         let mut table = Table {
-            headers: Room::new(headers * 4),
-            rows: Room::new(records * 6),
+            headers: Room::new(headers * HEADER_ROW),
+            rows: Room::new(records * ROW),
             slots: Room::new(records),
             beside: [0; 8],
         };
@@ -188,7 +189,7 @@ impl Table {
     }
 
     pub fn id(&self, row: usize) -> u32 {
-        self.rows.numbers()[row * 6]
+        table::id(self.rows.numbers(), row)
     }
 
     fn get_into(&self, asked: &[u32], found: &mut [u32]) {

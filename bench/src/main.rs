@@ -7,6 +7,7 @@
 mod clock;
 mod files;
 mod sides;
+mod table;
 
 use clock::{least, thread_nanoseconds};
 use files::Case;

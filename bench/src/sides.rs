@@ -1,5 +1,6 @@
 //! The two sides, and whether they answer the same.
 
+use crate::table::{self, HEADER_ROW, ROW};
 use cad_step::StepError;
 use cad_step::scan::{Scan, scan};
 
@@ -41,14 +42,14 @@ impl Rooms {
     fn of(headers: usize, records: usize) -> Rooms {
         // Not zero, so that every page is written now.
         Rooms {
-            headers: vec![7; headers * 4],
-            rows: vec![7; records * 6],
+            headers: vec![7; headers * HEADER_ROW],
+            rows: vec![7; records * ROW],
             out: [7; 3],
         }
     }
 
     fn slots(&self) -> usize {
-        self.rows.len() / 6
+        self.rows.len() / ROW
     }
 }
 
@@ -152,10 +153,10 @@ pub fn agree(file: &[u8], rooms: &mut Rooms) -> Result<String, String> {
                     r.args.end,
                     u32::from(r.complex),
                 ];
-                if rooms.rows[k * 6..k * 6 + 6] != row {
+                if table::row(&rooms.rows, k) != row {
                     return Err(format!(
                         "row {k}: {:?} for {row:?}",
-                        &rooms.rows[k * 6..k * 6 + 6]
+                        table::row(&rooms.rows, k)
                     ));
                 }
             }

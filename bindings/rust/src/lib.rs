@@ -115,8 +115,8 @@ impl<'f> Step<'f> {
         let mut tables = [0; raw::TABLES];
         let (mut reason, mut place) = (0, 0);
         let size = |count: u64, each: usize| usize::try_from(count).ok().and_then(|n| n.checked_mul(each)).ok_or(Error::NoMemory);
-        let mut headers = room(size(needs.headers, 4)?, 0)?;
-        let mut rows = room(size(needs.records, 6)?, 0)?;
+        let mut headers = room(size(needs.headers, raw::HEADER_ROW)?, 0)?;
+        let mut rows = room(size(needs.records, raw::ROW)?, 0)?;
         let mut slots = room(size(needs.records, 1)?, 0)?;
         match raw::hooflift_open(file, &mut headers, &mut rows, &mut slots, &mut tables, &mut reason, &mut place) {
             0 => Ok(Step { file, headers, rows, slots, tables }),
@@ -252,6 +252,6 @@ pub fn read_kept(file_len: usize, bytes: &[u8]) -> Result<Vec<[u32; 6]>> {
     told(raw::hooflift_read_rows(file_len, bytes, &mut rows, &mut count), 0)?;
     let mut kept = Vec::new();
     kept.try_reserve_exact(count).map_err(|_| Error::NoMemory)?;
-    kept.extend(rows.chunks_exact(6).take(count).filter_map(|row| <[u32; 6]>::try_from(row).ok()));
+    kept.extend(rows.chunks_exact(raw::ROW).take(count).filter_map(|row| <[u32; 6]>::try_from(row).ok()));
     Ok(kept)
 }

@@ -5,6 +5,10 @@
 //! input) and keep no pointer.
 #![allow(unsafe_code, clippy::too_many_arguments)]
 
+/// How many numbers a data row has: `HOOFLIFT_ROW`.
+pub const ROW: usize = 6;
+/// How many a header row has, and a part of a complex record: `HOOFLIFT_HEADER_ROW`.
+pub const HEADER_ROW: usize = 4;
 /// How many numbers go with the tables: `HOOFLIFT_TABLES`.
 pub const TABLES: usize = 16;
 /// How many tell what a file needs: `HOOFLIFT_NEEDS`.
@@ -103,7 +107,7 @@ mod tests {
     #[test]
     fn widths_are_those_of_the_header() {
         let header = include_str!("../../../include/hooflift.h");
-        for (name, width) in [("TABLES", TABLES), ("NEEDS", NEEDS)] {
+        for (name, width) in [("ROW", ROW), ("HEADER_ROW", HEADER_ROW), ("TABLES", TABLES), ("NEEDS", NEEDS)] {
             assert!(header.contains(&format!("#define HOOFLIFT_{name} {width}\n")), "{name}");
         }
     }
@@ -115,9 +119,9 @@ mod tests {
         assert_eq!((needs, reason, fault), ([9; NEEDS], 7, 7));
         assert_eq!(hooflift_needs(FILE, &mut needs, &mut reason, &mut fault), 0);
         assert_eq!((needs, reason, fault), ([0, 1, 1, 0, 0, 0, 9, 9, 9, 9, 9, 9], 7, 7));
-        let (mut rows, mut slots, mut tables) = ([0; 6], [0; 1], [9; TABLES]);
+        let (mut rows, mut slots, mut tables) = ([0; ROW], [0; 1], [9; TABLES]);
         assert_eq!(hooflift_open(FILE, &mut [], &mut rows, &mut slots, &mut tables[1..], &mut reason, &mut fault), 16);
-        assert_eq!((rows, tables, reason, fault), ([0; 6], [9; TABLES], 7, 7));
+        assert_eq!((rows, tables, reason, fault), ([0; ROW], [9; TABLES], 7, 7));
         assert_eq!(hooflift_open(FILE, &mut [], &mut rows, &mut slots, &mut tables, &mut reason, &mut fault), 0);
         assert_eq!((tables[8], tables[9], tables[10]), (0, 1, 1));
     }

@@ -51,12 +51,12 @@ impl Kind {
 pub struct Record<'s, 'f> {
     step: &'s Step<'f>,
     number: usize,
-    row: [u64; 6],
+    row: [u64; raw::ROW],
 }
 
 impl<'s, 'f> Record<'s, 'f> {
     pub(crate) fn at(step: &'s Step<'f>, number: usize) -> Option<Record<'s, 'f>> {
-        let mut row = [0; 6];
+        let mut row = [0; raw::ROW];
         match raw::hooflift_entity(&step.rows, &step.tables, number, &mut row) {
             0 => Some(Record { step, number, row }),
             _ => None,
@@ -122,7 +122,7 @@ impl<'s, 'f> Record<'s, 'f> {
     /// The first part of a kind, once all parts have been read.
     pub fn part(&self, kind: Kind) -> Result<Option<Part<'f>>> {
         let (start, end) = self.span()?;
-        let (mut part, mut fault) = ([0; 4], 0);
+        let (mut part, mut fault) = ([0; raw::HEADER_ROW], 0);
         let complex = u32::from(self.is_complex());
         match raw::hooflift_complex_part(self.step.file, start, end, complex, kind as u32, &mut part, &mut fault) {
             0 => Ok(Part::from_numbers(self.step.file, part)),
@@ -214,7 +214,7 @@ pub struct Part<'f> {
 }
 
 impl<'f> Part<'f> {
-    fn from_numbers(file: &'f [u8], part: [u64; 4]) -> Option<Part<'f>> {
+    fn from_numbers(file: &'f [u8], part: [u64; raw::HEADER_ROW]) -> Option<Part<'f>> {
         let place = |n: u64| usize::try_from(n).ok();
         let keyword = file.get(place(part[0])?..place(part[1])?)?;
         Some(Part { file, keyword, args: (place(part[2])?, place(part[3])?) })
@@ -246,7 +246,7 @@ impl<'f> Iterator for Parts<'f> {
         if self.over {
             return None;
         }
-        let (mut numbers, mut fault) = ([0; 4], 0);
+        let (mut numbers, mut fault) = ([0; raw::HEADER_ROW], 0);
         match raw::hooflift_next_part(self.file, self.at, self.end, &mut numbers, &mut fault) {
             0 => {
                 let part = Part::from_numbers(self.file, numbers)?;

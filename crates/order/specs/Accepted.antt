@@ -18,7 +18,7 @@ use Rattle.statement.specs.Closed.{Closed}
 use Rattle.statement.specs.declared.Section.{Section}
 use Rattle.statement.specs.declared.Section.the-variants.{Outside, InHeader, InData}
 use Rattle.scan.specs.File.{Table, scanOf}
-use Rattle.scan.specs.Form.{counts, Marked, Reads, Scans}
+use Rattle.scan.specs.Form.{perKind, Marked, Reads, Scans}
 use Rattle.scan.specs.FormRight.{scans-only, scans-is}
 use Rattle.scan.specs.Rooms.{scan-roomy, scan-fit}
 use Rattle.order.specs.Order.{Cut, rest, piece, led, texts, filled, Cuts, Permuted}
@@ -138,7 +138,7 @@ accepted-roomy {f} {hs} {us} {H} {R} a H' R' l m = record {
 accepted-file : (s : List ℕ) (H R : ℕ) {t : Table} → scanOf s H R ≡ good t → (length s ≤ 4294967295) × Marked s
 accepted-file s H R e = go (rw e at (scans-is s H R))
   where
-    go : {t : Table} → Scans s (counts H R) (good t) → (length s ≤ 4294967295) × Marked s
+    go : {t : Table} → Scans s (perKind H R) (good t) → (length s ≤ 4294967295) × Marked s
     go (Scans.read l m d) = (l, m)
 
 -- two answers of one file are the same, whatever the rooms

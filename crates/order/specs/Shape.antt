@@ -18,7 +18,7 @@ use Rattle.statement.specs.declared.Section.{Section}
 use Rattle.statement.specs.declared.Section.the-variants.{Outside, InHeader, InData}
 use Rattle.scan.specs.File.{Table, table, withHeader, withRecord}
 use Rattle.statement.specs.Form.{StatementForm}
-use Rattle.scan.specs.Form.{counts, Reads}
+use Rattle.scan.specs.Form.{perKind, Reads}
 use Rattle.statement.specs.FormRight.{statement-is}
 use Rattle.order.specs.Order.{Cut, rest, piece, led, texts, filled, Cuts}
 
@@ -88,7 +88,7 @@ led-texts g (piece h b c) = refl
 -- what a reading of the file f gives: a table whose rows are those of the texts us, and its header rows those of hs
 pub record Read (f : List ℕ) (sec : Section) (h r : ℕ) (xs : List ℕ) (hs us : List (List ℕ)) (H R : ℕ) : Type 0 where
   pub result : Table
-  pub reads : Reads f (counts H R) sec (counts h r) xs (good result)
+  pub reads : Reads f (perKind H R) sec (perKind h r) xs (good result)
   pub rows : AllSay f (result .records) us
   pub heads : AllHead f (result .headers) hs
 

@@ -19,44 +19,44 @@ use Rattle.statement.specs.declared.Section.the-variants.{Outside}
 use Rattle.scan.specs.File.{Table, table, withRow}
 
 -- rows counted by kind
-pub record Counts : Type 0 where
+pub record PerKind : Type 0 where
   pub headers : ℕ
   pub records : ℕ
 
--- such counts by their numbers
-abbrev pub counts : ℕ → ℕ → Counts
-counts h r = record { headers = h; records = r }
+-- such numbers by kind
+abbrev pub perKind : ℕ → ℕ → PerKind
+perKind h r = record { headers = h; records = r }
 
 -- how many there are of a kind
-abbrev pub of : RowKind → Counts → ℕ
+abbrev pub of : RowKind → PerKind → ℕ
 of header-kind n = n .headers
 of data-kind n = n .records
 
 -- one more of a kind
-abbrev pub more : RowKind → Counts → Counts
-more header-kind n = counts (n .headers + 1) (n .records)
-more data-kind n = counts (n .headers) (n .records + 1)
+abbrev pub more : RowKind → PerKind → PerKind
+more header-kind n = perKind (n .headers + 1) (n .records)
+more data-kind n = perKind (n .headers) (n .records + 1)
 
 -- of no kind more than there are lent
-abbrev pub Within : Counts → Counts → Type 0
+abbrev pub Within : PerKind → PerKind → Type 0
 Within n lent = (k : RowKind) → of k n ≤ of k lent
 
 -- "then the file is read in order and the first fault is given": the answer from the rest xs of the file s on, in this section,
 -- with so many rows of each kind lent ("or id slots, one a record": the lesser of both), and n of them used
-pub data Reads (s : List ℕ) (lent : Counts) : Section → Counts → List ℕ → Told Table → Type 0 where
+pub data Reads (s : List ℕ) (lent : PerKind) : Section → PerKind → List ℕ → Told Table → Type 0 where
   -- the reading ends, and no row is left to come
-  over : {sec : Section} {n : Counts} {xs : List ℕ} → StatementForm s sec xs ends → Reads s lent sec n xs (good (table [] []))
+  over : {sec : Section} {n : PerKind} {xs : List ℕ} → StatementForm s sec xs ends → Reads s lent sec n xs (good (table [] []))
   -- "the first fault is given"
-  fault : {sec : Section} {n : Counts} {xs : List ℕ} {q : Refusal} → StatementForm s sec xs (refused q) → Reads s lent sec n xs (bad q)
+  fault : {sec : Section} {n : PerKind} {xs : List ℕ} {q : Refusal} → StatementForm s sec xs (refused q) → Reads s lent sec n xs (bad q)
   -- a section word, or a record that is ignored
-  on : {sec to : Section} {n : Counts} {xs t : List ℕ} {a : Told Table} → StatementForm s sec xs (moved to t) → Reads s lent to n t a
+  on : {sec to : Section} {n : PerKind} {xs t : List ℕ} {a : Told Table} → StatementForm s sec xs (moved to t) → Reads s lent to n t a
       → Reads s lent sec n xs a
   -- a record that gives a row: its row comes before those of the rest of the file
-  row : {sec : Section} {n : Counts} {xs t : List ℕ} {a : Told Table} (k : RowKind) (w : RowOf k) (ys : List ℕ)
+  row : {sec : Section} {n : PerKind} {xs t : List ℕ} {a : Told Table} (k : RowKind) (w : RowOf k) (ys : List ℕ)
       → StatementForm s sec xs (rowed k w ys t) → of k n < of k lent → Reads s lent (sectionOf k) (more k n) t a → Reads s lent sec n xs (mapped (withRow k w) a)
   -- "8 is given exactly when a record has been read whole and the lent rows of its kind (or id slots, one a record) are already used
   -- up", "record start"
-  full : {sec : Section} {n : Counts} {xs : List ℕ} (k : RowKind) (w : RowOf k) (ys t : List ℕ) → StatementForm s sec xs (rowed k w ys t)
+  full : {sec : Section} {n : PerKind} {xs : List ℕ} (k : RowKind) (w : RowOf k) (ys t : List ℕ) → StatementForm s sec xs (rowed k w ys t)
       → of k lent ≤ of k n → Reads s lent sec n xs (bad (refusal 8 0 (place s ys)))
 
 -- "The marker is `ISO-10303-21` after an optional EF BB BF and whitespace only."
@@ -67,27 +67,27 @@ pub data Marked : List ℕ → Type 0 where
   mark : (w r : List ℕ) → All white w → Marked (239 ∷ 187 ∷ 191 ∷ (w ++ (bytes "ISO-10303-21" ++ r)))
 
 -- the answer for the file s, with so many rows of each kind lent
-pub data Scans (s : List ℕ) (lent : Counts) : Told Table → Type 0 where
+pub data Scans (s : List ℕ) (lent : PerKind) : Told Table → Type 0 where
   -- "2 file too long, 0", "2 is tested before 1"
   long : 4294967295 < length s → Scans s lent (bad (refusal 2 0 0))
   -- "1 no Part 21 marker, 0"
   unmarked : length s ≤ 4294967295 → (Marked s → ⊥) → Scans s lent (bad (refusal 1 0 0))
   -- "then the file is read in order": from its first byte on, outside of every section, with no row used
-  read : {a : Told Table} → length s ≤ 4294967295 → Marked s → Reads s lent Outside (counts 0 0) s a → Scans s lent a
+  read : {a : Told Table} → length s ≤ 4294967295 → Marked s → Reads s lent Outside (perKind 0 0) s a → Scans s lent a
 
 -- the file s, read in order, comes to the rest xs in this section, and so many rows of each kind have been read by then
-pub data Reached (s : List ℕ) : Section → List ℕ → Counts → Type 0 where
+pub data Reached (s : List ℕ) : Section → List ℕ → PerKind → Type 0 where
   -- at first, outside of every section, none
-  start : Reached s Outside s (counts 0 0)
+  start : Reached s Outside s (perKind 0 0)
   -- a section word, or a record that is ignored
-  on : {sec to : Section} {xs t : List ℕ} {n : Counts} → Reached s sec xs n → StatementForm s sec xs (moved to t) → Reached s to t n
+  on : {sec to : Section} {xs t : List ℕ} {n : PerKind} → Reached s sec xs n → StatementForm s sec xs (moved to t) → Reached s to t n
   -- a record that gives a row, read whole: one row of its kind more
-  row : {sec : Section} {xs t : List ℕ} {n : Counts} (k : RowKind) (w : RowOf k) (ys : List ℕ) → Reached s sec xs n
+  row : {sec : Section} {xs t : List ℕ} {n : PerKind} (k : RowKind) (w : RowOf k) (ys : List ℕ) → Reached s sec xs n
       → StatementForm s sec xs (rowed k w ys t) → Reached s (sectionOf k) t (more k n)
 
 -- "8 is given exactly when a record has been read whole and the lent rows of its kind [..] are already used up": as many rows of
 -- the kind as are lent, and of no kind more, have been read when one more record, which starts with ys, is read whole
-pub data Full (s : List ℕ) (lent : Counts) : Refusal → Type 0 where
+pub data Full (s : List ℕ) (lent : PerKind) : Refusal → Type 0 where
   -- one record of the kind k too many
-  full : {sec : Section} {xs : List ℕ} {n : Counts} (k : RowKind) (w : RowOf k) (ys t : List ℕ) → Reached s sec xs n → Within n lent
+  full : {sec : Section} {xs : List ℕ} {n : PerKind} (k : RowKind) (w : RowOf k) (ys t : List ℕ) → Reached s sec xs n → Within n lent
       → of k n ≡ of k lent → StatementForm s sec xs (rowed k w ys t) → Full s lent (refusal 8 0 (place s ys))

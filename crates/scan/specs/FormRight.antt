@@ -23,25 +23,25 @@ use Rattle.statement.specs.declared.Section.{Section}
 use Rattle.statement.specs.declared.Section.the-variants.{Outside, InHeader, InData}
 use Rattle.scan.specs.File.{Table, taken, readFrom, mark, marked, scanOf}
 use Rattle.statement.specs.Form.{StatementForm}
-use Rattle.scan.specs.Form.{Counts, counts, of, more, Reads, Marked, Scans, Full}
+use Rattle.scan.specs.Form.{PerKind, perKind, of, more, Reads, Marked, Scans, Full}
 pub mod Numbers
 use Numbers.{scans-bad, full-reads}
 
 -- the reading of File.antt, with so many rows of each kind lent and used
-abbrev pub readBy : ℕ → List ℕ → Counts → Section → Counts → List ℕ → Told Table
+abbrev pub readBy : ℕ → List ℕ → PerKind → Section → PerKind → List ℕ → Told Table
 readBy k s lent sec n xs = readFrom k s (lent .headers) (lent .records) sec (n .headers) (n .records) xs
 
-module _ (s : List ℕ) (lent : Counts) where
+module _ (s : List ℕ) (lent : PerKind) where
   -- one turn of the computed reading, by the statement's form
-  turn : (n : Counts) (k : ℕ) {sec : Section} {xs : List ℕ} {x : Stmt} → length xs < k → StatementForm s sec xs x
-      → readBy k s lent sec n xs ≡ taken s (lent .headers) (lent .records) (n .headers) (n .records) x (λ sec h r t. readBy (k - 1) s lent sec (counts h r) t)
+  turn : (n : PerKind) (k : ℕ) {sec : Section} {xs : List ℕ} {x : Stmt} → length xs < k → StatementForm s sec xs x
+      → readBy k s lent sec n xs ≡ taken s (lent .headers) (lent .records) (n .headers) (n .records) x (λ sec h r t. readBy (k - 1) s lent sec (perKind h r) t)
   unfolding readFrom
   turn n zero l f = absurd (omega arith)
   turn n (suc k) l f = let e : suc k - 1 ≡ k = omega arith in rw (statement-only f, e) refl
 
   -- "then the file is read in order and the first fault is given": the answer by the rules is the one that is computed, whatever
   -- the fuel, if it is enough
-  pub reads-only : {sec : Section} {n : Counts} {xs : List ℕ} {a : Told Table} → Reads s lent sec n xs a
+  pub reads-only : {sec : Section} {n : PerKind} {xs : List ℕ} {a : Told Table} → Reads s lent sec n xs a
       → (k : ℕ) → length xs < k → readBy k s lent sec n xs ≡ a
   reads-only {n} (Reads.over f) k l = turn n k l f
   reads-only {n} (Reads.fault f) k l = turn n k l f
@@ -54,7 +54,7 @@ module _ (s : List ℕ) (lent : Counts) where
   reads-only {n} (Reads.full data-kind w ys t f p) k l = turn n k l f ∙ rw (le-ltb (n .records) (lent .records) p) refl
 
   -- every rest of at most n bytes has an answer
-  reads-comes : (k : ℕ) (sec : Section) (n : Counts) (xs : List ℕ) → length xs < k → (a : Told Table) × Reads s lent sec n xs a
+  reads-comes : (k : ℕ) (sec : Section) (n : PerKind) (xs : List ℕ) → length xs < k → (a : Told Table) × Reads s lent sec n xs a
   reads-comes zero sec n xs l = absurd (omega arith)
   reads-comes (suc k) sec n xs l = go (statement-comes s sec xs) (λ sec n t m. reads-comes k sec n t (omega arith))
     where
@@ -63,7 +63,7 @@ module _ (s : List ℕ) (lent : Counts) where
       rows k w ys t f (yes p) (a, d) = (_, Reads.row k w ys f p d)
       rows k w ys t f (no p) d = (_, Reads.full {n = n} k w ys t f (omega arith))
 
-      go : Stated s sec xs → ((sec : Section) (n : Counts) (t : List ℕ) → length t < length xs → (a : Told Table) × Reads s lent sec n t a)
+      go : Stated s sec xs → ((sec : Section) (n : PerKind) (t : List ℕ) → length t < length xs → (a : Told Table) × Reads s lent sec n t a)
           → (a : Told Table) × Reads s lent sec n xs a
       go (ends, f) ih = (_, Reads.over f)
       go (refused e, f) ih = (_, Reads.fault f)
@@ -72,11 +72,11 @@ module _ (s : List ℕ) (lent : Counts) where
       go (record′ w ys t, f) ih = rows data-kind w ys t f (decLe _ _) (ih InData (more data-kind n) t (data-shorter f))
 
   -- the answer that is computed, with enough fuel, is that by the rules
-  pub reads-is : (k : ℕ) (sec : Section) (n : Counts) (xs : List ℕ) → length xs < k → Reads s lent sec n xs (readBy k s lent sec n xs)
+  pub reads-is : (k : ℕ) (sec : Section) (n : PerKind) (xs : List ℕ) → length xs < k → Reads s lent sec n xs (readBy k s lent sec n xs)
   reads-is k sec n xs l = sole (Reads s lent sec n xs) (λ a d. sym (reads-only d k l)) (reads-comes k sec n xs l)
 
   -- fuel never matters: enough fuel gives the same answer
-  pub fuel-free : (j k : ℕ) (sec : Section) (n : Counts) (xs : List ℕ) → length xs < j → length xs < k
+  pub fuel-free : (j k : ℕ) (sec : Section) (n : PerKind) (xs : List ℕ) → length xs < j → length xs < k
       → readBy j s lent sec n xs ≡ readBy k s lent sec n xs
   fuel-free j k sec n xs l m = reads-only (reads-is k sec n xs m) j l
 
@@ -130,27 +130,27 @@ fails false h = refl
 
 -- "2 is tested before 1; then the file is read in order and the first fault is given": the answer by the rules is the one that
 -- is computed
-pub scans-only : {s : List ℕ} {H R : ℕ} {a : Told Table} → Scans s (counts H R) a → a ≡ scanOf s H R
+pub scans-only : {s : List ℕ} {H R : ℕ} {a : Told Table} → Scans s (perKind H R) a → a ≡ scanOf s H R
 unfolding scanOf
 scans-only (Scans.long h) = rw (lt-ltb _ _ h)
 scans-only {s} (Scans.unmarked h n) = rw (le-ltb _ _ h, fails (marked s) (λ e. n (marked-is s e)))
-scans-only {s} {H} {R} (Scans.read h m d) = rw (le-ltb _ _ h, marked-only m) (sym (reads-only s (counts H R) d (length s + 1) (omega arith)))
+scans-only {s} {H} {R} (Scans.read h m d) = rw (le-ltb _ _ h, marked-only m) (sym (reads-only s (perKind H R) d (length s + 1) (omega arith)))
 
 -- every file has an answer
-scans-comes : (s : List ℕ) (H R : ℕ) → (a : Told Table) × Scans s (counts H R) a
+scans-comes : (s : List ℕ) (H R : ℕ) → (a : Told Table) × Scans s (perKind H R) a
 scans-comes s H R = go (decLe (length s) 4294967295) (marked s) refl
   where
-    go : Dec (length s ≤ 4294967295) → (t : Bool) → marked s ≡ t → (a : Told Table) × Scans s (counts H R) a
+    go : Dec (length s ≤ 4294967295) → (t : Bool) → marked s ≡ t → (a : Told Table) × Scans s (perKind H R) a
     go (no h) t e = (_, Scans.long (omega arith))
-    go (yes h) true e = (_, Scans.read h (marked-is s e) (reads-is s (counts H R) (length s + 1) Outside (counts 0 0) s (omega arith)))
+    go (yes h) true e = (_, Scans.read h (marked-is s e) (reads-is s (perKind H R) (length s + 1) Outside (perKind 0 0) s (omega arith)))
     go (yes h) false e = (_, Scans.unmarked h (λ m. clash (cc (marked-only m))))
 
 -- the answer that is computed is that by the rules
-pub scans-is : (s : List ℕ) (H R : ℕ) → Scans s (counts H R) (scanOf s H R)
-scans-is s H R = sole (Scans s (counts H R)) (λ a. scans-only) (scans-comes s H R)
+pub scans-is : (s : List ℕ) (H R : ℕ) → Scans s (perKind H R) (scanOf s H R)
+scans-is s H R = sole (Scans s (perKind H R)) (λ a. scans-only) (scans-comes s H R)
 
 -- a file has at most one answer
-pub scans-one : {s : List ℕ} {H R : ℕ} {a b : Told Table} → Scans s (counts H R) a → Scans s (counts H R) b → a ≡ b
+pub scans-one : {s : List ℕ} {H R : ℕ} {a b : Told Table} → Scans s (perKind H R) a → Scans s (perKind H R) b → a ≡ b
 scans-one d e = scans-only d ∙ sym (scans-only e)
 
 -- what holds of each refusal by the rules holds of the one that is computed
@@ -164,9 +164,9 @@ module _ (s : List ℕ) (H R : ℕ) (q : Refusal) (e : scanOf s H R ≡ bad q) w
   scan-fueled z = omega (arith, scan-number)
 
   -- "8 is given exactly when a record has been read whole and the lent rows of its kind [..] are already used up": only then
-  pub scan-full-only : q .number ≡ 8 → Full s (counts H R) q
+  pub scan-full-only : q .number ≡ 8 → Full s (perKind H R) q
   scan-full-only = scans-bad (rw e at (scans-is s H R)) .1
 
 -- and always then
-pub scan-full : (s : List ℕ) (H R : ℕ) (q : Refusal) → length s ≤ 4294967295 → Marked s → Full s (counts H R) q → scanOf s H R ≡ bad q
+pub scan-full : (s : List ℕ) (H R : ℕ) (q : Refusal) → length s ≤ 4294967295 → Marked s → Full s (perKind H R) q → scanOf s H R ≡ bad q
 scan-full s H R q h m f = sym (scans-only (Scans.read h m (full-reads f)))

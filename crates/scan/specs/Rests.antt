@@ -15,7 +15,7 @@ use Rattle.statement.specs.declared.Section.{Section}
 use Rattle.scan.specs.File.{Table, withHeader, withRecord, scanOf}
 use Rattle.scan.specs.Fits.{Each}
 use Rattle.statement.specs.Form.{After, DataForm, HeaderRecordForm, Record, StatementForm}
-use Rattle.scan.specs.Form.{Counts, counts, Reads, Scans, Reached}
+use Rattle.scan.specs.Form.{PerKind, perKind, Reads, Scans, Reached}
 use Rattle.scan.specs.FormRight.{scans-is}
 
 -- r is a rest of xs: some bytes, and then r
@@ -111,7 +111,7 @@ pub data-rest : {s : List ℕ} {sec : Section} {xs ys t : List ℕ} {w : Row} �
 data-rest f = record-rest (data-form f .1)
 
 -- what the reading comes to is a rest of the file
-pub reached-rest : {s : List ℕ} {sec : Section} {xs : List ℕ} {n : Counts} → Reached s sec xs n → Rest s xs
+pub reached-rest : {s : List ℕ} {sec : Section} {xs : List ℕ} {n : PerKind} → Reached s sec xs n → Rest s xs
 reached-rest Reached.start = rest-all
 reached-rest (Reached.on u f) = rest-of (reached-rest u) (moved-rest f)
 reached-rest (Reached.row header-kind w ys u f) = let (a, b) = header-rest f in rest-of (reached-rest u) (rest-of a b)
@@ -139,7 +139,7 @@ module _ (s : List ℕ) (P : HeaderRow → Type 0) (Q : Row → Type 0) (B : Ref
 
   -- what holds of each record, of each refusal of a statement, and of 8 at each record's start, whatever rest of the file they
   -- are read from, holds of the answer from each rest on
-  reads-tell : {lent : Counts} {sec : Section} {n : Counts} {xs : List ℕ} {a : Told Table} → Rest s xs → Reads s lent sec n xs a → Tells P Q B a
+  reads-tell : {lent : PerKind} {sec : Section} {n : PerKind} {xs : List ℕ} {a : Told Table} → Rest s xs → Reads s lent sec n xs a → Tells P Q B a
   reads-tell u (Reads.over f) = (tt, tt)
   reads-tell u (Reads.fault f) = refusals _ _ _ u f
   reads-tell u (Reads.on f d) = reads-tell (rest-of u (moved-rest f)) d
@@ -158,7 +158,7 @@ module _ (s : List ℕ) (P : HeaderRow → Type 0) (Q : Row → Type 0) (B : Ref
   pub scan-tells : B (refusal 1 0 0) → B (refusal 2 0 0) → (H R : ℕ) (a : Told Table) → scanOf s H R ≡ a → Tells P Q B a
   scan-tells b c H R a e = go (rw e at (scans-is s H R))
     where
-      go : {a : Told Table} → Scans s (counts H R) a → Tells P Q B a
+      go : {a : Told Table} → Scans s (perKind H R) a → Tells P Q B a
       go (Scans.long h) = c
       go (Scans.unmarked h n) = b
       go (Scans.read h m d) = reads-tell rest-all d

@@ -17,7 +17,7 @@ use Rattle.statement.specs.Row.{mapped, recordOf}
 use Rattle.statement.specs.Statement.{statement}
 use Rattle.statement.specs.declared.Section.{Section}
 use Rattle.scan.specs.File.{Table, table, withHeader, withRecord, readFrom, scanOf}
-use Rattle.scan.specs.Form.{counts, Reads, Scans}
+use Rattle.scan.specs.Form.{perKind, Reads, Scans}
 use Rattle.scan.specs.FormRight.{scans-is, scans-only}
 
 -- the rows of an answer, with h and r rows used before, find room in H and R
@@ -37,7 +37,7 @@ module _ (H R h r : ℕ) where
 
 -- a reading that gives rows gives the same in every room that holds them
 reads-roomy : {s : List ℕ} {H R : ℕ} {sec : Section} {h r : ℕ} {xs : List ℕ} {a : Told Table} (H' R' : ℕ)
-    → Reads s (counts H R) sec (counts h r) xs a → Holds H' R' h r a → Reads s (counts H' R') sec (counts h r) xs a
+    → Reads s (perKind H R) sec (perKind h r) xs a → Holds H' R' h r a → Reads s (perKind H' R') sec (perKind h r) xs a
 reads-roomy H' R' (Reads.over f) k = Reads.over f
 reads-roomy H' R' (Reads.fault f) k = Reads.fault f
 reads-roomy H' R' (Reads.on f d) k = Reads.on f (reads-roomy H' R' d k)
@@ -47,7 +47,7 @@ reads-roomy {h} {r} H' R' (Reads.row {a} data-kind w ys f p d) k =
     let (l, m) = holds-record H' R' h r w a k in Reads.row data-kind w ys f l (reads-roomy H' R' d m)
 reads-roomy H' R' (Reads.full kind w ys t f p) k = absurd k
 
-scans-roomy : {s : List ℕ} {H R : ℕ} {a : Told Table} (H' R' : ℕ) → Scans s (counts H R) a → Holds H' R' 0 0 a → Scans s (counts H' R') a
+scans-roomy : {s : List ℕ} {H R : ℕ} {a : Told Table} (H' R' : ℕ) → Scans s (perKind H R) a → Holds H' R' 0 0 a → Scans s (perKind H' R') a
 scans-roomy H' R' (Scans.long h) k = absurd k
 scans-roomy H' R' (Scans.unmarked h n) k = absurd k
 scans-roomy H' R' (Scans.read h m d) k = Scans.read h m (reads-roomy H' R' d k)
@@ -74,7 +74,7 @@ module _ (H R h r : ℕ) where
 
 -- no reading gives more rows than are lent
 reads-fit : {s : List ℕ} {H R : ℕ} {sec : Section} {h r : ℕ} {xs : List ℕ} {a : Told Table}
-    → h ≤ H → r ≤ R → Reads s (counts H R) sec (counts h r) xs a → Fits H R h r a
+    → h ≤ H → r ≤ R → Reads s (perKind H R) sec (perKind h r) xs a → Fits H R h r a
 reads-fit l m (Reads.over f) = omega arith
 reads-fit l m (Reads.fault f) = tt
 reads-fit l m (Reads.on f d) = reads-fit l m d
@@ -82,7 +82,7 @@ reads-fit {H} {R} {h} {r} l m (Reads.row {a} header-kind w ys f p d) = fits-head
 reads-fit {H} {R} {h} {r} l m (Reads.row {a} data-kind w ys f p d) = fits-record H R h r w a (reads-fit l (omega arith) d)
 reads-fit l m (Reads.full kind w ys t f p) = tt
 
-scans-fit : {s : List ℕ} {H R : ℕ} {a : Told Table} → Scans s (counts H R) a → Fits H R 0 0 a
+scans-fit : {s : List ℕ} {H R : ℕ} {a : Told Table} → Scans s (perKind H R) a → Fits H R 0 0 a
 scans-fit (Scans.long h) = tt
 scans-fit (Scans.unmarked h n) = tt
 scans-fit (Scans.read h m d) = reads-fit (omega arith) (omega arith) d

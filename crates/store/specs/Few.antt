@@ -15,7 +15,7 @@ use Rattle.statement.specs.Row.{mapped}
 use Rattle.statement.specs.declared.Section.{Section}
 use Rattle.scan.specs.File.{Table, withHeader, withRecord, scanOf}
 use Rattle.statement.specs.Form.{DataForm, Record, StatementForm}
-use Rattle.scan.specs.Form.{Counts, Reads, Scans}
+use Rattle.scan.specs.Form.{PerKind, Reads, Scans}
 use Rattle.scan.specs.FormRight.{scans-is}
 use Rattle.statement.specs.FormRight.{moved-shorter, header-shorter}
 
@@ -74,7 +74,7 @@ few-record m n w (good t) h f = omega arith
 few-record m n w (bad q) h f = tt
 
 -- the records of what is left to read
-reads-few : {s : List ℕ} {lent : Counts} {sec : Section} {n : Counts} {xs : List ℕ} {a : Told Table} → Reads s lent sec n xs a → Few (length xs) a
+reads-few : {s : List ℕ} {lent : PerKind} {sec : Section} {n : PerKind} {xs : List ℕ} {a : Told Table} → Reads s lent sec n xs a → Few (length xs) a
 reads-few (Reads.over f) = omega arith
 reads-few (Reads.fault f) = tt
 reads-few {xs} (Reads.on {t} {a} f d) = let m = moved-shorter f in few-more (length t) (length xs) a (omega arith) (reads-few d)
@@ -83,7 +83,7 @@ reads-few {xs} (Reads.row {t} {a} data-kind w ys f p d) = few-record (length t) 
 reads-few (Reads.full k w ys t f p) = tt
 
 -- of a whole file
-scans-few : {s : List ℕ} {lent : Counts} {a : Told Table} → Scans s lent a → Few 4294967295 a
+scans-few : {s : List ℕ} {lent : PerKind} {a : Told Table} → Scans s lent a → Few 4294967295 a
 scans-few (Scans.long h) = tt
 scans-few (Scans.unmarked h n) = tt
 scans-few {s} {a} (Scans.read h m d) = few-more (length s) 4294967295 a h (reads-few d)
