@@ -10,7 +10,8 @@ use lib.ListN.{length, take, drop, length-drop}
 use lib.Seq.{length-take-le}
 use Rattle.common.specs.Pick.{pick}
 use Rattle.common.specs.Compare.{clash}
-use Rattle.error.specs.Refusal.{Told, good, bad, faultOf, faultOf-told}
+use Rattle.error.specs.Refusal.{Told, good, bad}
+use Rattle.error.specs.Only.{faultOf, faultOf-told}
 use Rattle.params.specs.Reader.{Read}
 use Rattle.nearest.specs.Only.{bits-only}
 use Rattle.lists.specs.declared.Item.{Item}

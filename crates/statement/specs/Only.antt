@@ -5,7 +5,7 @@ use mathlib.Core.Path.{_≡_, refl, sym, _∙_, ap}
 use mathlib.Core.List.{List}
 use native.Mathlib.Omega.{arith}
 use lib.ListN.{length}
-use Rattle.error.specs.Refusal.{faultOf, faultOf-told}
+use Rattle.error.specs.Only.{faultOf, faultOf-told}
 use Rattle.lex.specs.Byte.{place, place-drop}
 use Rattle.statement.specs.Row.{Row, HeaderRow}
 use Rattle.statement.specs.Statement.{Stmt, ends, refused, moved, header, record′, toldSaid, Ahead}
