@@ -10,7 +10,8 @@ use lib.ListN.{length, take, drop, getD, length-drop, length-take}
 use Rattle.common.specs.Pick.{pick}
 use Rattle.common.specs.Compare.{clash}
 use Rattle.error.specs.Refusal.{Refusal, refusal, Told, good, bad}
-use Rattle.lex.specs.Byte.{white, place, place-within}
+use Rattle.lex.specs.Byte.{white, place}
+use Rattle.lex.specs.Place.{place-within}
 use Rattle.common.specs.Walk.{stop, on, turned, walk}
 use Rattle.lex.specs.declared.Mode.{Mode}
 use Rattle.lex.specs.declared.Mode.the-variants.{Plain, Slash, Text, Quoted, Remark, Starred}

@@ -8,7 +8,8 @@ use Rattle.common.specs.Pick.{pick}
 use Rattle.lex.specs.Byte.{white, place}
 use Rattle.common.specs.Walk.{Turn, stop, on, walk}
 use Rattle.lex.specs.Lexer.{calm, next}
-use Rattle.lex.specs.Search.{Sought, at, fault, trivia}
+use Rattle.lex.specs.Search.{trivia}
+use Rattle.lex.specs.Answer.{Sought, at, fault}
 use Rattle.lex.specs.declared.Mode.{Mode}
 use Rattle.lex.specs.declared.Mode.the-variants.{Plain, Slash, Text, Quoted, Remark, Starred}
 

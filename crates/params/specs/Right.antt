@@ -15,7 +15,8 @@ use Rattle.common.specs.Compare.{clash}
 use Rattle.lex.specs.Byte.{white}
 use Rattle.common.specs.Walk.{walk}
 use Rattle.lex.specs.Lexer.{calm, fresh, next}
-use Rattle.lex.specs.Search.{Sought, at, fault, trivia}
+use Rattle.lex.specs.Search.{trivia}
+use Rattle.lex.specs.Answer.{Sought, at, fault}
 use Rattle.lex.specs.Grammar.{Begins, Opens, Remarked, Comment, Inside, Quotation, Trivia, Led, OpenText, OpenRemark}
 use Rattle.lex.specs.Right.{trivia-is, trivia-open, trivia-only, trivia-open-only}
 use Rattle.lex.specs.Right.Steps.{Deaf, remark-shut, remark-open, text-ends, text-over}

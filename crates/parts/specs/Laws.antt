@@ -12,9 +12,11 @@ use lib.Seq.{take-all, drop-cons}
 use borrow.Author.Tests.{lt-ltb, le-ltb}
 use Rattle.common.specs.Pick.{pick}
 use Rattle.error.specs.Refusal.{Refusal, refusal, Told, good, bad}
-use Rattle.lex.specs.Byte.{white, place, place-drop}
+use Rattle.lex.specs.Byte.{white, place}
+use Rattle.lex.specs.Place.{place-drop}
 use Rattle.common.specs.Walk.{walk}
-use Rattle.lex.specs.Search.{Sought, at, fault, closing, placed}
+use Rattle.lex.specs.Search.{closing}
+use Rattle.lex.specs.Answer.{Sought, at, fault, placed}
 use Rattle.lex.specs.Local.{closing-local}
 use Rattle.lex.specs.Right.{closing-is}
 use Rattle.record.specs.Text.{past, keyword}

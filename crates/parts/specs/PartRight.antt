@@ -15,7 +15,8 @@ use Rattle.common.specs.Pick.{pick}
 use Rattle.common.specs.Compare.{clash}
 use Rattle.error.specs.Refusal.{Refusal, refusal, Told, good, bad}
 use Rattle.lex.specs.Byte.{white, place}
-use Rattle.lex.specs.Search.{closing, placed}
+use Rattle.lex.specs.Search.{closing}
+use Rattle.lex.specs.Answer.{placed}
 use Rattle.record.specs.Text.{past, Keyed, opened, unopened, keyword}
 use Rattle.record.specs.Head.{headerHead}
 use Rattle.record.specs.Form.{Skipped, Free, NotFirst, Keyword, HeaderForm}

@@ -12,7 +12,8 @@ use lib.ListN.{length, take, drop, getD, length-drop, length-take, length-map}
 use lib.Seq.{take-all}
 use Rattle.common.specs.Pick.{pick}
 use Rattle.common.specs.Lists.{split, drop-end}
-use Rattle.lex.specs.Byte.{white, place, place-drop}
+use Rattle.lex.specs.Byte.{white, place}
+use Rattle.lex.specs.Place.{place-drop}
 use Rattle.record.specs.Text.{past, Digits, digits, numberFrom, Keyed, opened, unopened, keyword, trail}
 use Rattle.record.specs.Word.{same, upper, isWord, dataWord, opens, opensData, trimmed}
 use Rattle.record.specs.Turns.{same-lengths}

@@ -7,7 +7,8 @@ use mathlib.Core.List.{List, [], _∷_}
 use lib.Dec.{eqb, ltb}
 use lib.ListN.{length}
 use Rattle.common.specs.Pick.{pick}
-use Rattle.lex.specs.Byte.{white, place, place-within}
+use Rattle.lex.specs.Byte.{white, place}
+use Rattle.lex.specs.Place.{place-within}
 use Rattle.record.specs.Text.{past, Digits, numberFrom, Keyed, opened, unopened, keyword}
 use Rattle.record.specs.Head.{keyedHead, valueHead, equalHead, idHead, hashHead, dataHead, namedHead, headerHead}
 use Rattle.record.specs.declared.Head.{Head}

@@ -8,8 +8,10 @@ use lib.Dec.{ltb}
 use lib.ListN.{length, drop}
 use Rattle.common.specs.Pick.{pick}
 use Rattle.error.specs.Refusal.{Refusal, refusal, Told, good, bad}
-use Rattle.lex.specs.Byte.{place, place-within}
-use Rattle.lex.specs.Search.{Sought, at, fault, trivia, recordEnd, closing, placed}
+use Rattle.lex.specs.Byte.{place}
+use Rattle.lex.specs.Place.{place-within}
+use Rattle.lex.specs.Search.{trivia, recordEnd, closing}
+use Rattle.lex.specs.Answer.{Sought, at, fault, placed}
 use Rattle.record.specs.Text.{before}
 use Rattle.record.specs.Word.{wordOf}
 use Rattle.record.specs.Head.{dataHead, headerHead}

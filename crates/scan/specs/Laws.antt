@@ -12,7 +12,8 @@ use lib.ListN.{length, take, drop, length-append, length-drop}
 use lib.Seq.{sets, sets-eq, take-append-seam, drop-append-add, drop-drop}
 use Rattle.common.specs.Pick.{pick}
 use Rattle.error.specs.Refusal.{Refusal, refusal, Told, good, bad}
-use Rattle.lex.specs.Byte.{place, place-drop}
+use Rattle.lex.specs.Byte.{place}
+use Rattle.lex.specs.Place.{place-drop}
 use Rattle.statement.specs.Row.{Row, HeaderRow, mapped}
 use Rattle.statement.specs.Statement.{Stmt, ends, refused, moved, header, record′, statement}
 use Rattle.statement.specs.declared.Section.{Section}

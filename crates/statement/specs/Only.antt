@@ -6,7 +6,8 @@ use mathlib.Core.List.{List}
 use native.Mathlib.Omega.{arith}
 use lib.ListN.{length}
 use Rattle.error.specs.Only.{faultOf, faultOf-told}
-use Rattle.lex.specs.Byte.{place, place-drop}
+use Rattle.lex.specs.Byte.{place}
+use Rattle.lex.specs.Place.{place-drop}
 use Rattle.statement.specs.Row.{Row, HeaderRow}
 use Rattle.statement.specs.Statement.{Stmt, ends, refused, moved, header, record′, toldSaid, Ahead}
 use Rattle.statement.specs.Tidy.{toldTidied, TidyAhead}

@@ -5,7 +5,8 @@ use mathlib.Core.List.{List, [], _∷_}
 use lib.ListN.{drop}
 use Rattle.error.specs.Refusal.{Refusal, refusal, Told, good, bad}
 use Rattle.lex.specs.Byte.{place}
-use Rattle.lex.specs.Search.{closing, placed}
+use Rattle.lex.specs.Search.{closing}
+use Rattle.lex.specs.Answer.{placed}
 use Rattle.record.specs.Head.{dataHead, headerHead}
 use Rattle.record.specs.declared.Head.{Head}
 use Rattle.record.specs.declared.Head.the-variants.{Bad, Complex, Simple}

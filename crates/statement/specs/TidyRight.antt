@@ -12,7 +12,8 @@ use Rattle.common.specs.Compare.{clash}
 use Rattle.error.specs.Refusal.{Refusal, Told, good, bad}
 use Rattle.lex.specs.Byte.{white, place}
 use Rattle.lex.specs.Grammar.{Trivia, Led}
-use Rattle.lex.specs.Search.{Sought, at, fault, recordEnd, closing, trivia, placed}
+use Rattle.lex.specs.Search.{recordEnd, closing, trivia}
+use Rattle.lex.specs.Answer.{Sought, at, fault, placed}
 use Rattle.lex.specs.Local.{end-local}
 use Rattle.lex.specs.Right.{trivia-only, end-is}
 use Rattle.record.specs.Text.{past, before}

@@ -14,7 +14,7 @@ use Rattle.common.specs.Lists.{split, drop-end}
 use Rattle.common.specs.Compare.{clash}
 use Rattle.common.specs.Walk.{walk}
 use Rattle.lex.specs.Lexer.{calm, next}
-use Rattle.lex.specs.Leap.{Lacks, Stopped}
+use Rattle.lex.specs.Answer.{Lacks, Stopped}
 use Rattle.lex.specs.Seek.{drop-within}
 use Rattle.lex.specs.Grammar.{Begins, Opens, Comment, Quotation, OpenText, OpenRemark}
 use Rattle.lex.specs.Right.Steps.{Deaf, remark-shut, remark-open, text-ends, text-over}
