@@ -9,7 +9,7 @@ use lib.ListN.{length}
 use Rattle.record.specs.Form.{valueOf}
 use Rattle.nearest.specs.Units.{infinity}
 use Rattle.nearest.specs.Near.{near}
-use Rattle.nearest.specs.Round.{signed}
+use Rattle.nearest.specs.Nearest.{signed}
 use Rattle.nearest.specs.Borders.{zero-is, near-zero-only, infinity-is, near-infinity-only}
 use Rattle.reals.specs.Scalar.{Answer, read, refused, anyRealOf}
 use Rattle.reals.specs.Form.{Written, over, under, AnyForm}

@@ -9,8 +9,8 @@ use lib.Dec.{ltb, leb}
 use lib.Pow.{pow-add}
 use Rattle.common.specs.Pick.{pick}
 use Rattle.nearest.specs.Near.{near, near-same}
-use Rattle.nearest.specs.Round.{signed}
-use Rattle.nearest.specs.Power.{ten-pos}
+use Rattle.nearest.specs.Nearest.{signed}
+use Rattle.nearest.specs.PowerLaws.{ten-pos}
 use Rattle.reals.specs.Scalar.{Answer, read, refused, parsed, farthest, classOf, reaches, nearTen, most, largest}
 
 -- an exponent that outweighs the fraction

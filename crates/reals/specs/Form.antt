@@ -10,8 +10,7 @@ use lib.IntN.{ℤ, pos, negℤ}
 use lib.ListN.{length}
 use Rattle.record.specs.Text.{digit}
 use Rattle.record.specs.Form.{All, valueOf, Id}
-use Rattle.nearest.specs.Nearest.{IsNearest}
-use Rattle.nearest.specs.Round.{signed}
+use Rattle.nearest.specs.Nearest.{IsNearest, signed}
 use Rattle.reals.specs.Scalar.{Answer, read, refused, longest, farthest}
 
 -- "Optional sign", and then u; true is the sign `-`

@@ -11,7 +11,7 @@ use lib.Ieee.{binary64, toBits}
 use Rattle.common.specs.Pick.{pick}
 use Rattle.record.specs.Text.{digit, Digits, numberFrom}
 use Rattle.nearest.specs.Near.{near}
-use Rattle.nearest.specs.Round.{signed}
+use Rattle.nearest.specs.Nearest.{signed}
 use Rattle.nearest.specs.Power.{nearBy}
 use Rattle.reals.specs.declared.Real.{Real}
 use Rattle.reals.specs.declared.Real.the-variants.{Value, Outside, NotReal}
