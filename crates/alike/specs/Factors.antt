@@ -13,7 +13,8 @@ use Rattle.record.specs.Word.{isWord}
 use Rattle.record.specs.Form.{bytes}
 use Rattle.nearest.specs.Product.{product}
 use Rattle.reals.specs.Scalar.{referenceOf}
-use Rattle.prefixes.specs.Prefix.{factorOf, lengthFactorOf}
+use Rattle.prefixes.specs.Prefix.{factorOf}
+use Rattle.prefixes.specs.Length.{lengthFactorOf}
 use Rattle.kinds.specs.declared.Kind.the-variants.{SiUnit, ConversionBasedUnit, LengthMeasureWithUnit, Complex}
 use Rattle.params.specs.Reader.{Span, onward, skipOf}
 use Rattle.scalars.specs.Scalars.{nextOf, measureOf}

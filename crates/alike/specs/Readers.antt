@@ -9,7 +9,7 @@ use lib.ListN.{length}
 use Rattle.common.specs.Pick.{pick}
 use Rattle.common.specs.Compare.{clash}
 use Rattle.error.specs.Refusal.{refusal, Told, good, bad}
-use Rattle.reals.specs.Scalar.{Answer, read, refused}
+use Rattle.reals.specs.Answer.{Answer, read, refused}
 use Rattle.params.specs.Reader.{Read, reading, Span, span, onward, mapped, paramOf, skipOf}
 use Rattle.params.specs.Places.{param-past}
 use Rattle.scalars.specs.Laws.{part-part}

@@ -6,7 +6,8 @@ use mathlib.Core.Path.{_≡_}
 use mathlib.Core.List.{List, map}
 use lib.ListN.{length}
 use lib.Ieee.{Float, binary64, toBits}
-use Rattle.reals.specs.Scalar.{Answer, realOf}
+use Rattle.reals.specs.Scalar.{realOf}
+use Rattle.reals.specs.Answer.{Answer}
 use Rattle.params.specs.Reader.{Read, Span, mapped, paramOf}
 use Rattle.words.specs.Words.{Shown, nameAt, stringAt, roomOf}
 use Rattle.lists.specs.Items.{listOf, nextBy, fitsIn, howMany, written}

@@ -17,10 +17,9 @@ use Rattle.error.specs.Refusal.{Refusal, refusal, Told, good, bad}
 use Rattle.scalars.specs.Scalars.{isUnset}
 use Rattle.params.specs.Reader.{Span, span, onward, paramOf}
 use Rattle.params.specs.Places.{param-past}
-use Rattle.reals.specs.Scalar.{Answer}
-use Rattle.strings.specs.Put.{most}
+use Rattle.reals.specs.Answer.{Answer}
+use Rattle.strings.specs.Answer.{most, decodedOf}
 use Rattle.strings.specs.Text.{plain, bytesOf}
-use Rattle.strings.specs.Code.{decodedOf}
 use Rattle.strings.specs.declared.Decoded.the-variants.{Plain, Written, Short}
 use Rattle.words.specs.Words.{isString, partOf, bodyOf, inFile, decodedAt, stringAt}
 use Rattle.words.specs.Rules.{Quoted}

@@ -14,7 +14,8 @@ use Rattle.scan.specs.File.{largest, readFrom, scanOf}
 use Rattle.parts.specs.Part as Part
 use Rattle.params.specs.Cut.{cutOf, started}
 use Rattle.params.specs.Reader.{paramOf}
-use Rattle.utf8.specs.Utf8.{encode, encodeAll, leadOf}
+use Rattle.utf8.specs.Utf8.{encode, leadOf}
+use Rattle.utf8.specs.Encoding.{encodeAll}
 use Rattle.strings.specs.Text.{groupTwo, groupFour, groupsFrom, directiveOf, pieceOf, pageAfter, textFrom, textOn, textOf, bytesOf}
 use Rattle.tokens.specs.Leap.{fromByte, stringRest, commentRest}
 use Rattle.words.specs.Words.{isString}

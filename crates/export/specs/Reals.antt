@@ -1,7 +1,7 @@
 -- A real's answer as plain numbers, for a host in another language.
 -- Assumes nothing.
 use Prim.Native.Nat.{ℕ}
-use Rattle.reals.specs.Scalar.{Answer, read, refused}
+use Rattle.reals.specs.Answer.{Answer, read, refused}
 
 -- 0, or the number of the refusal
 abbrev pub realCode : Answer ℕ → ℕ

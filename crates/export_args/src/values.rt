@@ -1,7 +1,8 @@
 // One value of a parameter: a reference, an integer, a real, a boolean.
 ghost use mathlib.Core.Path.{_≡_};
 ghost use lib.Ieee.{binary64, toBits};
-ghost use Rattle.reals.specs.Scalar.{referenceOf, wholeOf, realOf, anyRealOf, realBy};
+ghost use Rattle.reals.specs.Scalar.{referenceOf, wholeOf, realOf, anyRealOf};
+ghost use Rattle.reals.specs.Which.{realBy};
 ghost use Rattle.scalars.specs.Scalars.{nextOf, optionOf, measureBy, measureOf, truthOf};
 ghost use Rattle.plain.specs.Answers.{Leaves, readValue};
 ghost use Rattle.export_args.specs.Values.{givenValue, givenSet, logicalNumber};

@@ -17,7 +17,8 @@ use Rattle.statement.specs.Row.{Row, HeaderRow}
 use Rattle.kinds.specs.declared.Kind.{Kind}
 use Rattle.kinds.specs.declared.Kind.the-variants.{SiUnit, LengthMeasureWithUnit}
 use Rattle.kinds.specs.declared.Kind.the-variants as Kinds
-use Rattle.reals.specs.Scalar.{Answer, referenceOf}
+use Rattle.reals.specs.Scalar.{referenceOf}
+use Rattle.reals.specs.Answer.{Answer}
 use Rattle.reals.specs.Form.{ReferenceForm}
 use Rattle.reals.specs.WholeRight.{reference-is}
 use Rattle.params.specs.Reader.{Read, Span, onward, paramOf, skipOf}

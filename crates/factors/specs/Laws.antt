@@ -35,8 +35,10 @@ use Rattle.kinds.specs.declared.Kind.the-variants.{
 use Rattle.params.specs.Cut.{Cut, cut, unclosed, cutOf, started}
 use Rattle.params.specs.Reader.{Read, reading, Span, span, inFile, bounded, begun, onward, paramOf, skipOf}
 use Rattle.scalars.specs.Scalars.{nextOf, measureOf}
-use Rattle.reals.specs.Scalar.{Answer, referenceOf}
-use Rattle.prefixes.specs.Prefix.{factorOf, lengthFactorOf}
+use Rattle.reals.specs.Scalar.{referenceOf}
+use Rattle.reals.specs.Answer.{Answer}
+use Rattle.prefixes.specs.Prefix.{factorOf}
+use Rattle.prefixes.specs.Length.{lengthFactorOf}
 use Rattle.words.specs.Words.{toldNextName}
 use Rattle.words.specs.Places.{SpanIn, ToldIn, name-in}
 use Rattle.words.specs.declared.NextName as NextNameCode

@@ -10,7 +10,7 @@ use lib.Dec.{leb}
 use lib.ListN.{length}
 use Rattle.error.specs.Refusal.{refusal, Told, good, bad, told}
 use Rattle.params.specs.Reader.{Read, reading, onward, mapped}
-use Rattle.reals.specs.Scalar.{Answer}
+use Rattle.reals.specs.Answer.{Answer}
 use Rattle.lists.specs.Items.{Fate, fine, faulty, fated, listBy, listOf, kindOf, valuesOf}
 use Rattle.lists.specs.declared.Kind.{Kind}
 use Rattle.grids.specs.declared.Tally as TallyCode

@@ -10,7 +10,7 @@ use lib.ListN.{length, take, drop, getD}
 use Rattle.common.specs.Compare.{clash}
 use Rattle.error.specs.Refusal.{Refusal, Told, good, bad}
 use Rattle.statement.specs.Row.{HeaderRow}
-use Rattle.strings.specs.Put.{most}
+use Rattle.strings.specs.Answer.{most}
 use Rattle.strings.specs.Text.{bytesOf}
 use Rattle.params.specs.Reader.{Read, reading, Span, paramOf}
 use Rattle.words.specs.Words.{isString}

@@ -9,7 +9,7 @@ use lib.ListN.{length, take, drop}
 use Rattle.common.specs.Pick.{pick}
 use Rattle.error.specs.Refusal.{Told, good, bad}
 use Rattle.statement.specs.Row.{HeaderRow}
-use Rattle.strings.specs.Put.{most}
+use Rattle.strings.specs.Answer.{most}
 use Rattle.strings.specs.Text.{bytesOf}
 use Rattle.params.specs.Reader.{Span, paramOf}
 use Rattle.words.specs.Words.{isString, partOf}

@@ -9,7 +9,8 @@ use Rattle.common.specs.Pick.{pick}
 use Rattle.common.specs.Compare.{clash}
 use Rattle.record.specs.Text.{before}
 use Rattle.record.specs.Word.{trimmed}
-use Rattle.reals.specs.Scalar.{Answer, read, refused, realOf, anyRealOf}
+use Rattle.reals.specs.Scalar.{realOf, anyRealOf}
+use Rattle.reals.specs.Answer.{Answer, read, refused}
 use Rattle.reals.specs.Before.{any-kept, any-refused}
 use Rattle.lists.specs.Items.{Fate, fine, faulty, shifted, asFate, itemEnd, indent, itemBy, consed, headed, past-comma, itemsFrom, isNone, itemsBy, Body, inside, bare, bodyOf, listed, listBy, listOf}
 use Rattle.lists.specs.Any.{list-also}

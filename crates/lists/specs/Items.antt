@@ -12,7 +12,9 @@ use Rattle.error.specs.Refusal.{refusal, Told, good, bad, told}
 use Rattle.lex.specs.Byte.{white}
 use Rattle.record.specs.Text.{before, past}
 use Rattle.record.specs.Word.{trimmed}
-use Rattle.reals.specs.Scalar.{Answer, read, refused, referenceOf, wholeOf, realBy}
+use Rattle.reals.specs.Scalar.{referenceOf, wholeOf}
+use Rattle.reals.specs.Which.{realBy}
+use Rattle.reals.specs.Answer.{Answer, read, refused}
 use Rattle.params.specs.Cut.{Cut, cut, unclosed, cutOf}
 use Rattle.params.specs.Reader.{Read, reading, onward, mapped, paramOf}
 use Rattle.lists.specs.declared.Item.{Item}

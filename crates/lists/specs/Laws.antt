@@ -16,7 +16,7 @@ use Rattle.lex.specs.Byte.{white, place}
 use Rattle.record.specs.Text.{before, past}
 use Rattle.record.specs.Word.{trimmed}
 use Rattle.scalars.specs.Laws.{part-part}
-use Rattle.reals.specs.Scalar.{read}
+use Rattle.reals.specs.Answer.{read}
 use Rattle.params.specs.Cut.{cut, cutOf}
 use Rattle.params.specs.Seek.{endedAt, EndedIn}
 use Rattle.params.specs.declared.Ended.{Ended}

@@ -17,7 +17,9 @@ use Rattle.lex.specs.declared.Mode.{Mode}
 use Rattle.lex.specs.declared.Mode.the-variants.{Plain, Slash, Text, Quoted, Remark, Starred}
 use Rattle.record.specs.Text.{before, past, trail}
 use Rattle.record.specs.Word.{trimmed}
-use Rattle.reals.specs.Scalar.{Answer, read, refused, referenceOf, wholeOf, realBy}
+use Rattle.reals.specs.Scalar.{referenceOf, wholeOf}
+use Rattle.reals.specs.Which.{realBy}
+use Rattle.reals.specs.Answer.{Answer, read, refused}
 use Rattle.params.specs.Cut.{Cut, cut, unclosed, Stand, outside, settled, passed, cutTurn, over, cutEnd, cutOf, started}
 use Rattle.params.specs.Reader.{reading, Span, span, inFile, bounded, begun, onward, paramOf}
 use Rattle.lists.specs.declared.Kind.{Kind}

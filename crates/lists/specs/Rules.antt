@@ -9,7 +9,7 @@ use mathlib.Core.List.{List, [], _∷_, _++_}
 use lib.ListN.{length}
 use Rattle.lex.specs.Byte.{white}
 use Rattle.record.specs.Form.{All, NotFirst, NotLast}
-use Rattle.reals.specs.Scalar.{Answer, read, refused}
+use Rattle.reals.specs.Answer.{Answer, read, refused}
 use Rattle.params.specs.Grammar.{Parameter, Unclosed}
 use Rattle.lists.specs.Items.{Fate, fine, faulty, shifted, consed}
 

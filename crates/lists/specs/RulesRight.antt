@@ -21,7 +21,8 @@ use Rattle.record.specs.Word.{trimmed}
 use Rattle.record.specs.Form.{All, NotFirst, Skipped, Trimmed, bytes}
 use Rattle.record.specs.FormRight.{past-is, past-only, trimmed-is, trimmed-only}
 use Rattle.record.specs.FormRight.Parts.{first-part, all-join, last-none, Tailed, tail-split}
-use Rattle.reals.specs.Scalar.{Answer, read, refused, referenceOf, wholeOf, realOf, anyRealOf}
+use Rattle.reals.specs.Scalar.{referenceOf, wholeOf, realOf, anyRealOf}
+use Rattle.reals.specs.Answer.{Answer, read, refused}
 use Rattle.reals.specs.Form.{RealForm, AnyForm, WholeForm, ReferenceForm}
 use Rattle.reals.specs.FormRight.{real-is, real-only, any-is, any-only}
 use Rattle.reals.specs.WholeRight.{whole-is, whole-only, reference-is, reference-only}

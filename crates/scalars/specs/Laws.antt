@@ -19,7 +19,7 @@ use Rattle.record.specs.Word.{trimmed}
 use Rattle.record.specs.Form.{All, NotLast}
 use Rattle.record.specs.FormRight.{trail-only}
 use Rattle.record.specs.FormRight.Parts.{last-none}
-use Rattle.reals.specs.Scalar.{Answer, read, refused}
+use Rattle.reals.specs.Answer.{Answer, read, refused}
 use Rattle.params.specs.Reader.{Read, reading, Span, span, mapped, paramOf}
 use Rattle.scalars.specs.declared.Inner.{Inner}
 use Rattle.scalars.specs.declared.Inner.the-variants.{Inside, Bare}

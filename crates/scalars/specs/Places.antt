@@ -7,7 +7,7 @@ use native.Mathlib.Omega.{arith}
 use lib.ListN.{length, take, drop}
 use Rattle.common.specs.Compare.{clash}
 use Rattle.error.specs.Refusal.{good, Refusal, refusal, bad}
-use Rattle.reals.specs.Scalar.{Answer, read, refused}
+use Rattle.reals.specs.Answer.{Answer, read, refused}
 use Rattle.params.specs.Reader.{reading, Span, inFile, paramOf}
 use Rattle.params.specs.Rules.{Inside}
 use Rattle.params.specs.Places.{PlacedIn, Stands, Past, mapped-placed, mapped-stands, mapped-stays, refused-past}

@@ -5,7 +5,7 @@ use Prim.Native.Nat.{ℕ}
 use mathlib.Core.Path.{_≡_}
 use mathlib.Core.List.{List, [], _∷_, _++_}
 use Rattle.record.specs.Form.{Free, Trimmed, bytes}
-use Rattle.reals.specs.Scalar.{Answer, read, refused}
+use Rattle.reals.specs.Answer.{Answer, read, refused}
 use Rattle.scalars.specs.Scalars.{Given, Logical}
 use Rattle.scalars.specs.Scalars as Scalars
 

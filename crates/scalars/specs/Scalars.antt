@@ -12,7 +12,8 @@ use Rattle.common.specs.Pick.{pick}
 use Rattle.error.specs.Refusal.{Refusal, refusal, Told, good, bad, told}
 use Rattle.record.specs.Text.{past}
 use Rattle.record.specs.Word.{same, trimmed}
-use Rattle.reals.specs.Scalar.{Answer, read, refused, referenceOf, wholeOf, realOf}
+use Rattle.reals.specs.Scalar.{referenceOf, wholeOf, realOf}
+use Rattle.reals.specs.Answer.{Answer, read, refused}
 use Rattle.params.specs.Reader.{Read, reading, Span, mapped, paramOf}
 use Rattle.scalars.specs.declared.Inner.{Inner}
 use Rattle.scalars.specs.declared.Inner.the-variants.{Inside, Bare}

@@ -4,7 +4,8 @@ use mathlib.Core.List.{[], _∷_}
 use Rattle.error.specs.Refusal.{refusal, good, bad}
 use Rattle.record.specs.Form.{bytes}
 use Rattle.record.specs.Word.{same}
-use Rattle.utf8.specs.Utf8.{encode, encodeAll, leadOf, validFrom}
+use Rattle.utf8.specs.Utf8.{encode, leadOf, validFrom}
+use Rattle.utf8.specs.Encoding.{encodeAll}
 use Rattle.strings.specs.Text.{plain, pieceOf, pageAfter, textFrom, textOn, textOf, bytesOf}
 use Rattle.params.specs.Reader.{span}
 use Rattle.scalars.specs.Scalars.{isUnset}

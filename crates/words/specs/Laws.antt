@@ -12,7 +12,7 @@ use Rattle.common.specs.Pick.{pick}
 use Rattle.error.specs.Refusal.{Refusal, refusal, Told, good, bad}
 use Rattle.utf8.specs.Utf8.{validOf}
 use Rattle.strings.specs.declared.Decoded.{Decoded}
-use Rattle.strings.specs.Code.{decodedOf, roomAfter}
+use Rattle.strings.specs.Answer.{decodedOf, roomAfter}
 use Rattle.strings.specs.Hex.{both}
 use Rattle.params.specs.Reader.{Read, reading, Span, span, mapped, paramOf}
 use Rattle.scalars.specs.Scalars.{isUnset}

@@ -13,13 +13,14 @@ use Rattle.common.specs.Compare.{clash}
 use Rattle.error.specs.Refusal.{refusal, Told, good, bad}
 use Rattle.record.specs.Word.{same}
 use Rattle.record.specs.Form.{bytes}
-use Rattle.utf8.specs.Utf8.{validOf, encodeAll}
+use Rattle.utf8.specs.Utf8.{validOf}
+use Rattle.utf8.specs.Encoding.{encodeAll}
 use Rattle.utf8.specs.Agree.{valid-is, valid-only}
 use Rattle.strings.specs.Text as String
 use Rattle.strings.specs.Hex.{both, neither}
 use Rattle.strings.specs.Rules.{Text}
 use Rattle.strings.specs.RulesRight.{text-is, text-only}
-use Rattle.strings.specs.Code.{decodedOf, roomAfter}
+use Rattle.strings.specs.Answer.{decodedOf, roomAfter}
 use Rattle.strings.specs.declared.Decoded.the-variants.{Written, Short}
 use Rattle.params.specs.Reader.{Span, span}
 use Rattle.scalars.specs.Scalars.{isUnset}

@@ -10,7 +10,7 @@ use Rattle.error.specs.Refusal.{Refusal, refusal, Told, good, bad, told}
 use Rattle.utf8.specs.Utf8.{validOf}
 use Rattle.strings.specs.declared.Decoded.{Decoded}
 use Rattle.strings.specs.declared.Decoded.the-variants.{Plain, Written, Short}
-use Rattle.strings.specs.Code.{decodedOf, roomAfter}
+use Rattle.strings.specs.Answer.{decodedOf, roomAfter}
 use Rattle.params.specs.Reader.{Read, reading, Span, span, mapped, paramOf}
 use Rattle.scalars.specs.Scalars.{isUnset}
 use Rattle.words.specs.declared.NextName as NextNameCode

@@ -5,7 +5,7 @@ use Rattle.lists.specs.Items.{asFate, listOf}
 use Rattle.lists.specs.Places.{list-inward, scalar-inward}
 use Rattle.params.specs.ReaderLaws.{cut-places}
 use Rattle.params.specs.Reader.{toldCut}
-use Rattle.reals.specs.Scalar.{realBy}
+use Rattle.reals.specs.Which.{realBy}
 use Rattle.grids.specs.Grid.{gridOf, gridFits}
 use Rattle.grids.specs.Laws.{grids-uncut, grids-cut, grid-inward}
 use native.Mathlib.Omega.{arith}

@@ -3,7 +3,7 @@ use Rattle.lists.specs.Keep.{kept-none, kept-blank, kept-full}
 use Rattle.lists.specs.Places.{scalar-inward, items-inward, told-place}
 use Rattle.lists.specs.Laws.{shape-full, body-length}
 use Rattle.lists.specs.Items.{asFate, itemsFrom, toldCounted}
-use Rattle.reals.specs.Scalar.{realBy}
+use Rattle.reals.specs.Which.{realBy}
 use native.Mathlib.Omega.{arith}
 use denote.Ref.{now}
 use lib.Ieee.{binary64, toBits}

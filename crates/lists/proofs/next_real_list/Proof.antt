@@ -4,7 +4,7 @@ use Rattle.lists.specs.Places.{read-inward, list-inward, scalar-inward}
 use Rattle.lists.specs.Items.{asFate, listOf, fitsIn}
 use Rattle.params.specs.ReaderLaws.{cut-places}
 use Rattle.params.specs.Reader.{toldCut}
-use Rattle.reals.specs.Scalar.{realBy}
+use Rattle.reals.specs.Which.{realBy}
 use native.Mathlib.Omega.{arith}
 use denote.Ref.{now}
 use lib.ListN.{length, take, drop, length-take, length-drop}

@@ -1,5 +1,5 @@
 use borrow.Author.Needs.{needs}
-use Rattle.reals.specs.Scalar.{Answer, toldReference, toldWhole, toldReal}
+use Rattle.reals.specs.Answer.{Answer, toldReference, toldWhole, toldReal}
 use Rattle.lists.specs.Items.{mute, asFate}
 use mathlib.Core.Path.{refl, ap, sym, _∙_}
 use Prim.Native.Nat.{ℕ}
