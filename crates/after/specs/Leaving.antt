@@ -3,7 +3,7 @@
 -- Assumes nothing.
 use mathlib.Core.Path.{_≡_}
 use Rattle.error.specs.Refusal.{Told, good, bad}
-use Rattle.params.specs.Reader.{Read}
+use Rattle.params.specs.Answer.{Read}
 use Rattle.params.specs.declared.State.{State}
 
 -- the state in which an answer leaves the reader

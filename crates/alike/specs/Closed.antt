@@ -20,7 +20,7 @@ use Rattle.statement.specs.Closed.{ClosedAt, ClosedParts, ClosedData}
 use Rattle.statement.specs.ClosedRight.{rowFrom, contentOf, record-row}
 use Rattle.kinds.specs.Kind.{kindOf}
 use Rattle.kinds.specs.declared.Kind.{Kind}
-use Rattle.params.specs.Reader.{Span, span}
+use Rattle.params.specs.Answer.{Span, span}
 use Rattle.words.specs.Places.{SpanIn}
 use Rattle.parts.specs.Part.{Window, partsOf}
 use Rattle.parts.specs.Closed.{shiftRow, RowsIn, parts-closed-good}

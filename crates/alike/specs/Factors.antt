@@ -16,8 +16,10 @@ use Rattle.reals.specs.Scalar.{referenceOf}
 use Rattle.prefixes.specs.Prefix.{factorOf}
 use Rattle.prefixes.specs.Length.{lengthFactorOf}
 use Rattle.kinds.specs.declared.Kind.the-variants.{SiUnit, ConversionBasedUnit, LengthMeasureWithUnit, Complex}
-use Rattle.params.specs.Reader.{Span, onward, skipOf}
-use Rattle.scalars.specs.Scalars.{nextOf, measureOf}
+use Rattle.params.specs.Skips.{skipOf}
+use Rattle.params.specs.Answer.{Span, onward}
+use Rattle.scalars.specs.Scalars.{measureOf}
+use Rattle.scalars.specs.Answer.{nextOf}
 use Rattle.factors.specs.Thing.{goodBy, sameKind, Thing, firstPiece, selfOr}
 use Rattle.factors.specs.Factor.{
   prefixIn,

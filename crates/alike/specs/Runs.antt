@@ -5,7 +5,8 @@ use mathlib.Core.List.{List}
 use native.Mathlib.Omega.{arith}
 use lib.ListN.{length}
 use Rattle.error.specs.Refusal.{Told, good, bad}
-use Rattle.params.specs.Reader.{Read, Span, paramOf}
+use Rattle.params.specs.Reader.{paramOf}
+use Rattle.params.specs.Answer.{Read, Span}
 use Rattle.params.specs.Places.{param-stands}
 use Rattle.lookup.specs.Lookup.{cut}
 use Rattle.factors.specs.Factor.{nameOr, nextName}

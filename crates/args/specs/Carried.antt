@@ -5,7 +5,7 @@ use mathlib.Core.Path.{_≡_}
 use mathlib.Core.List.{List}
 use lib.ListN.{length}
 use denote.Ref.{RefT, now}
-use Rattle.params.specs.Reader.{Read, toldOpened, openedOf}
+use Rattle.params.specs.Answer.{Read, toldOpened, openedOf}
 use Rattle.after.specs.Leaving.{openedAt}
 use Rattle.args.specs.declared.Args.{Args}
 use Rattle.args.specs.declared.Opening.{Opening}

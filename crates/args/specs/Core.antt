@@ -8,9 +8,12 @@ use lib.ListN.{length}
 use lib.Ieee.{Float, binary64, toBits}
 use Rattle.reals.specs.Scalar.{realOf}
 use Rattle.reals.specs.Answer.{Answer}
-use Rattle.params.specs.Reader.{Read, Span, mapped, paramOf}
-use Rattle.words.specs.Words.{Shown, nameAt, stringAt, roomOf}
-use Rattle.lists.specs.Items.{listOf, nextBy, fitsIn, howMany, written}
+use Rattle.params.specs.Reader.{paramOf}
+use Rattle.params.specs.Answer.{Read, Span, mapped}
+use Rattle.words.specs.Words.{nameAt, stringAt, roomOf}
+use Rattle.words.specs.Answer.{Shown}
+use Rattle.lists.specs.Items.{listOf}
+use Rattle.lists.specs.Answer.{nextBy, fitsIn, howMany, written}
 use Rattle.grids.specs.Grid.{Size, gridOf, gridFits, howLarge, numbersOf, endsOf}
 
 -- `next_enum`: "a name between two dots, valid UTF-8"

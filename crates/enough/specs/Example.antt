@@ -17,7 +17,8 @@ use Rattle.params.specs.Reader.{paramOf}
 use Rattle.utf8.specs.Utf8.{encode, leadOf}
 use Rattle.utf8.specs.Encoding.{encodeAll}
 use Rattle.strings.specs.Text.{groupTwo, groupFour, groupsFrom, directiveOf, pieceOf, pageAfter, textFrom, textOn, textOf, bytesOf}
-use Rattle.tokens.specs.Leap.{fromByte, stringRest, commentRest}
+use Rattle.tokens.specs.Leap.{stringRest, commentRest}
+use Rattle.tokens.specs.Answer.{fromByte}
 use Rattle.words.specs.Words.{isString}
 use Rattle.lists.specs.Items.{itemEnd, itemBy, itemsFrom, itemsBy, bodyOf, listBy}
 use Rattle.lengths.specs.Lengths.{textLen, itemsLen, numbersLen, rowsLen, argsFrom, partsFrom, recordOf, sizes}

@@ -2,8 +2,8 @@
 -- Assumes nothing.
 use Prim.Native.Nat.{ℕ}
 use Rattle.error.specs.Refusal.{Told, good, bad}
-use Rattle.scalars.specs.Scalars.{Given, given, unset, Logical, holds, fails, unknown}
-use Rattle.words.specs.Words.{Shown, inFile, inRoom}
+use Rattle.scalars.specs.Answer.{Given, given, unset, Logical, holds, fails, unknown}
+use Rattle.words.specs.Answer.{Shown, inFile, inRoom}
 
 -- the value, where one is set; or what stood there
 abbrev pub givenValue : {A : Type 0} → Told (Given A) → A → A

@@ -21,10 +21,12 @@ use Rattle.reals.specs.Scalar.{referenceOf}
 use Rattle.reals.specs.Answer.{Answer}
 use Rattle.reals.specs.Form.{ReferenceForm}
 use Rattle.reals.specs.WholeRight.{reference-is}
-use Rattle.params.specs.Reader.{Read, Span, onward, paramOf, skipOf}
+use Rattle.params.specs.Reader.{paramOf}
+use Rattle.params.specs.Skips.{skipOf}
+use Rattle.params.specs.Answer.{Read, Span, onward}
 use Rattle.params.specs.Rules.{NextForm}
 use Rattle.params.specs.RulesRight.{next-is}
-use Rattle.scalars.specs.Scalars.{nextOf, answered, scalarAt}
+use Rattle.scalars.specs.Answer.{nextOf, answered, scalarAt}
 use Rattle.parts.specs.Part.{partsOf}
 use Rattle.parts.specs.Places.{FaultIn, AnswerIn, AllIn, parts-placed}
 use Rattle.index.specs.Search.{searched}

@@ -14,9 +14,13 @@ use Rattle.reals.specs.Scalar.{referenceOf}
 use Rattle.prefixes.specs.Prefix.{factorOf}
 use Rattle.prefixes.specs.Length.{lengthFactorOf}
 use Rattle.kinds.specs.declared.Kind.the-variants.{SiUnit, ConversionBasedUnit, LengthMeasureWithUnit, Complex}
-use Rattle.params.specs.Reader.{Read, Span, mapped, onward, paramOf, skipOf}
-use Rattle.scalars.specs.Scalars.{nextOf, measureOf}
-use Rattle.words.specs.Words.{partOf, nameAt}
+use Rattle.params.specs.Reader.{paramOf}
+use Rattle.params.specs.Skips.{skipOf}
+use Rattle.params.specs.Answer.{Read, Span, mapped, onward}
+use Rattle.scalars.specs.Scalars.{measureOf}
+use Rattle.scalars.specs.Answer.{nextOf}
+use Rattle.words.specs.Words.{nameAt}
+use Rattle.words.specs.Answer.{partOf}
 use Rattle.factors.specs.Thing.{goodBy, sameKind, Thing, firstPiece, selfOr}
 
 -- a name that reads, by its bytes; `other` for one that is unreadable

@@ -32,14 +32,17 @@ use Rattle.kinds.specs.declared.Kind.the-variants.{
   Complex,
   Other,
 }
-use Rattle.params.specs.Cut.{Cut, cut, unclosed, cutOf, started}
-use Rattle.params.specs.Reader.{Read, reading, Span, span, inFile, bounded, begun, onward, paramOf, skipOf}
-use Rattle.scalars.specs.Scalars.{nextOf, measureOf}
+use Rattle.params.specs.Cut.{cutOf, started}
+use Rattle.params.specs.Answer.{Cut, cut, unclosed, Read, reading, Span, span, inFile, onward}
+use Rattle.params.specs.Reader.{bounded, begun, paramOf}
+use Rattle.params.specs.Skips.{skipOf}
+use Rattle.scalars.specs.Scalars.{measureOf}
+use Rattle.scalars.specs.Answer.{nextOf}
 use Rattle.reals.specs.Scalar.{referenceOf}
 use Rattle.reals.specs.Answer.{Answer}
 use Rattle.prefixes.specs.Prefix.{factorOf}
 use Rattle.prefixes.specs.Length.{lengthFactorOf}
-use Rattle.words.specs.Words.{toldNextName}
+use Rattle.words.specs.Answer.{toldNextName}
 use Rattle.words.specs.Places.{SpanIn, ToldIn, name-in}
 use Rattle.words.specs.declared.NextName as NextNameCode
 use Rattle.parts.specs.Part.{partOf, partsOf, firstKind, isKind}

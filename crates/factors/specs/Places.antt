@@ -15,9 +15,11 @@ use Rattle.statement.specs.Row.{Row}
 use Rattle.kinds.specs.declared.Kind.{Kind}
 use Rattle.kinds.specs.declared.Kind.the-variants.{SiUnit, ConversionBasedUnit, LengthMeasureWithUnit}
 use Rattle.kinds.specs.declared.Kind.the-variants as Kinds
-use Rattle.params.specs.Reader.{Span, onward, skipOf}
+use Rattle.params.specs.Skips.{skipOf}
+use Rattle.params.specs.Answer.{Span, onward}
 use Rattle.params.specs.Places.{PlacedIn, skip-placed}
-use Rattle.scalars.specs.Scalars.{nextOf, measureOf}
+use Rattle.scalars.specs.Scalars.{measureOf}
+use Rattle.scalars.specs.Answer.{nextOf}
 use Rattle.scalars.specs.Places.{next-placed}
 use Rattle.reals.specs.Scalar.{referenceOf}
 use Rattle.words.specs.Places.{ToldIn}

@@ -10,8 +10,9 @@ use Rattle.error.specs.Refusal.{Refusal, refusal, Told, good, bad}
 use Rattle.reals.specs.Scalar.{referenceOf}
 use Rattle.kinds.specs.declared.Kind.{Kind}
 use Rattle.kinds.specs.declared.Kind.the-variants.{SiUnit, ConversionBasedUnit}
-use Rattle.params.specs.Reader.{Span}
-use Rattle.scalars.specs.Scalars.{nextOf, measureOf}
+use Rattle.params.specs.Answer.{Span}
+use Rattle.scalars.specs.Scalars.{measureOf}
+use Rattle.scalars.specs.Answer.{nextOf}
 use Rattle.factors.specs.Each.{Each, IsFirst}
 use Rattle.factors.specs.Thing.{sameKind, Piece, Thing, selfOr}
 use Rattle.factors.specs.Factor.{siLength, siAngle, measureRef, scaledBy, measureRun}

@@ -14,7 +14,7 @@ use Rattle.error.specs.Refusal.{Refusal, refusal, Told, good, bad}
 use Rattle.record.specs.FormRight.Parts.{sole}
 use Rattle.kinds.specs.declared.Kind.{Kind}
 use Rattle.kinds.specs.declared.Kind.the-variants.{SiUnit, ConversionBasedUnit}
-use Rattle.params.specs.Reader.{Span}
+use Rattle.params.specs.Answer.{Span}
 use Rattle.factors.specs.Each.{Each, IsFirst, first-comes, first-never, first-decides}
 use Rattle.factors.specs.Thing.{goodBy, sameKind, Piece, Thing, firstPiece, selfOr}
 use Rattle.factors.specs.Factor.{siLength, measureRef, scaledBy, measureRun, leads, linkOf, measureIn, lengthOf, numberIn, angleOf}

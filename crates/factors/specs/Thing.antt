@@ -11,7 +11,7 @@ use Rattle.error.specs.Refusal.{refusal, Told, good, bad}
 use Rattle.statement.specs.Row.{Row, HeaderRow}
 use Rattle.kinds.specs.Kind.{kindOf, rankOf}
 use Rattle.kinds.specs.declared.Kind.{Kind}
-use Rattle.params.specs.Reader.{Span, span}
+use Rattle.params.specs.Answer.{Span, span}
 use Rattle.parts.specs.Part.{partsOf}
 use Rattle.index.specs.Search.{searched}
 use Rattle.index.specs.declared.Ids.{Ids}

@@ -14,9 +14,10 @@ use lib.ListN.{length}
 use Rattle.common.specs.Pick.{pick}
 use Rattle.error.specs.Refusal.{Told, good, bad}
 use Rattle.statement.specs.Row.{HeaderRow}
-use Rattle.params.specs.Reader.{Span, paramOf}
+use Rattle.params.specs.Reader.{paramOf}
+use Rattle.params.specs.Answer.{Span}
 use Rattle.params.specs.Places.{param-past}
-use Rattle.words.specs.Words.{partOf}
+use Rattle.words.specs.Answer.{partOf}
 use Rattle.parts.specs.Part.{nextOf, PartIn}
 use Rattle.parts.specs.Places.{AnswerIn, SomeIn, next-placed}
 use Rattle.lengths.specs.declared.Sizes.{Sizes}

@@ -11,11 +11,13 @@ use Rattle.error.specs.Refusal.{Told, good, bad}
 use Rattle.statement.specs.Row.{HeaderRow}
 use Rattle.strings.specs.Answer.{most}
 use Rattle.strings.specs.Text.{bytesOf}
-use Rattle.params.specs.Reader.{Span, paramOf}
-use Rattle.words.specs.Words.{isString, partOf}
+use Rattle.params.specs.Reader.{paramOf}
+use Rattle.params.specs.Answer.{Span}
+use Rattle.words.specs.Words.{isString}
+use Rattle.words.specs.Answer.{partOf}
 use Rattle.parts.specs.Part.{nextOf}
-use Rattle.lists.specs.Items.{listBy, valuesOf}
-use Rattle.lists.specs.Any.{anything}
+use Rattle.lists.specs.Items.{listBy}
+use Rattle.lists.specs.Answer.{valuesOf, anything}
 use Rattle.grids.specs.Grid.{flat}
 use Rattle.lengths.specs.declared.Sizes.{Sizes}
 

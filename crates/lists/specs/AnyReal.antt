@@ -12,7 +12,8 @@ use Rattle.record.specs.Word.{trimmed}
 use Rattle.reals.specs.Scalar.{realOf, anyRealOf}
 use Rattle.reals.specs.Answer.{Answer, read, refused}
 use Rattle.reals.specs.Before.{any-kept, any-refused}
-use Rattle.lists.specs.Items.{Fate, fine, faulty, shifted, asFate, itemEnd, indent, itemBy, consed, headed, past-comma, itemsFrom, isNone, itemsBy, Body, inside, bare, bodyOf, listed, listBy, listOf}
+use Rattle.lists.specs.Items.{itemEnd, indent, itemBy, headed, past-comma, itemsFrom, isNone, itemsBy, Body, inside, bare, bodyOf, listed, listBy, listOf}
+use Rattle.lists.specs.Answer.{Fate, fine, faulty, shifted, asFate, consed}
 use Rattle.lists.specs.Any.{list-also}
 
 -- ---- no refusal but 12

@@ -20,13 +20,15 @@ use Rattle.record.specs.Word.{trimmed}
 use Rattle.reals.specs.Scalar.{referenceOf, wholeOf}
 use Rattle.reals.specs.Which.{realBy}
 use Rattle.reals.specs.Answer.{Answer, read, refused}
-use Rattle.params.specs.Cut.{Cut, cut, unclosed, Stand, outside, settled, passed, cutTurn, over, cutEnd, cutOf, started}
-use Rattle.params.specs.Reader.{reading, Span, span, inFile, bounded, begun, onward, paramOf}
+use Rattle.params.specs.Cut.{Stand, outside, settled, passed, cutTurn, over, cutEnd, cutOf, started}
+use Rattle.params.specs.Answer.{Cut, cut, unclosed, reading, Span, span, inFile, onward}
+use Rattle.params.specs.Reader.{bounded, begun, paramOf}
 use Rattle.lists.specs.declared.Kind.{Kind}
 use Rattle.lists.specs.declared.Kind.the-variants.{References, Integers, Floats, Any}
 use Rattle.lists.specs.declared.ReadList.{ReadList}
 use Rattle.lists.specs.declared.ReadList.the-variants.{Count, Wrong, Outside, Short}
-use Rattle.lists.specs.Items.{Fate, fine, faulty, shifted, fated, asFate, kindOf, boundOf, itemEnd, indent, itemBy, consed, headed, past-comma, itemsFrom, isNone, itemsBy, inside, bare, bodyOf, listed, listBy, listOf, roomed, nextBy, fitsIn, countOf, toldReadList, reached}
+use Rattle.lists.specs.Items.{boundOf, itemEnd, indent, itemBy, headed, past-comma, itemsFrom, isNone, itemsBy, inside, bare, bodyOf, listed, listBy, listOf, reached}
+use Rattle.lists.specs.Answer.{Fate, fine, faulty, shifted, fated, asFate, kindOf, consed, roomed, nextBy, fitsIn, countOf, toldReadList}
 
 -- how far into a text its fault is; 0 where it has none
 abbrev pub offset : {A : Type 0} → Fate A → ℕ

@@ -10,7 +10,7 @@ use Rattle.error.specs.Refusal.{Told, good, bad}
 use Rattle.statement.specs.Row.{Row, recordOf}
 use Rattle.statement.specs.Closed.{ClosedData}
 use Rattle.statement.specs.ClosedRight.{rowFrom, record-row}
-use Rattle.params.specs.Reader.{onward}
+use Rattle.params.specs.Answer.{onward}
 use Rattle.factors.specs.Thing.{Piece, Thing, thingAt, thingOf, thingFound}
 use Rattle.units.specs.Units.{isContext}
 use Rattle.alike.specs.Alike.{BothTold, BothList, AlikeThing, AlikeFound, AlikeFind}

@@ -21,7 +21,7 @@ use Rattle.lookup.specs.Records.{lastOf, LastForm, last-is}
 use Rattle.lookup.specs.declared.Tables.{Tables}
 use Rattle.lookup.specs.declared.Entry.{Entry}
 use Rattle.store.specs.Store.{toldOpened, Indexed, scanInto, Opens}
-use Rattle.params.specs.Reader.{onward}
+use Rattle.params.specs.Answer.{onward}
 use Rattle.serve.specs.Serve.{recordIn, toldServed}
 use Rattle.serve.specs.Laws as Serve
 use Rattle.serve.specs.declared.Served.{Served}

@@ -24,7 +24,7 @@ use Rattle.statement.specs.declared.Section.{Section}
 use Rattle.statement.specs.declared.Section.the-variants.{Outside, InHeader, InData}
 use Rattle.scan.specs.File.{Table, scanOf}
 use Rattle.scan.specs.Table.{countsOf}
-use Rattle.params.specs.Reader.{onward}
+use Rattle.params.specs.Answer.{onward}
 use Rattle.lookup.specs.Records.{lastOf}
 use Rattle.factors.specs.Thing.{thingOf}
 use Rattle.units.specs.Units.{Units, isContext}

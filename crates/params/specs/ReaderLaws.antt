@@ -18,9 +18,10 @@ use Rattle.lex.specs.Search.{trivia}
 use Rattle.lex.specs.Answer.{Sought, at, fault, placed}
 use Rattle.lex.specs.At.{trivia-at}
 use Rattle.lex.specs.Right.{trivia-here}
-use Rattle.params.specs.Cut.{Cut, cut, unclosed, cutOf, runsOut, started, eaten}
-use Rattle.params.specs.Seek.{endedAt, EndedIn}
-use Rattle.params.specs.Reader.{Read, reading, Span, span, inFile, within, bounded, begun, paramOf, CutIn, emptied, emptyOf, skipOf, andThen, skipFrom, skipsOf}
+use Rattle.params.specs.Cut.{cutOf, runsOut, started, eaten}
+use Rattle.params.specs.Answer.{Cut, cut, unclosed, Read, reading, Span, span, inFile, within, CutIn, endedAt, EndedIn}
+use Rattle.params.specs.Reader.{bounded, begun, paramOf}
+use Rattle.params.specs.Skips.{emptied, emptyOf, skipOf, andThen, skipFrom, skipsOf}
 use Rattle.params.specs.declared.State.{State}
 use Rattle.params.specs.declared.Cut as Code
 use Rattle.params.specs.declared.Ended.{Ended}

@@ -6,7 +6,7 @@ use mathlib.Core.Bool.{Bool, true, false}
 use mathlib.Core.Option.{Option, none, some}
 use Rattle.error.specs.Refusal.{Refusal, Told, good, bad}
 use Rattle.statement.specs.Row.{mapped}
-use Rattle.params.specs.Reader.{Read, reading}
+use Rattle.params.specs.Answer.{Read, reading}
 
 -- 0, or the number of the refusal
 abbrev pub readCode : {A : Type 0} → Told A → ℕ

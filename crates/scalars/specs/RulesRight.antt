@@ -26,8 +26,9 @@ use Rattle.reals.specs.By.{unwritten-by}
 use Rattle.reals.specs.WholeRight.{reference-is, reference-only}
 use Rattle.reals.specs.declared.Reals.{Reals}
 use Rattle.reals.specs.declared.Reals.the-variants.{Class, Any}
-use Rattle.scalars.specs.Scalars as Scalars
-use Rattle.scalars.specs.Scalars.{Given, Logical, isUnset, asGiven, optionOf, unopening, inside, bare, enclosed, kernelFrom, kernelOf, measured, measureBy, measureOf, truthOf}
+use Rattle.scalars.specs.Answer as Scalars
+use Rattle.scalars.specs.Scalars.{isUnset, asGiven, optionOf, unopening, inside, bare, enclosed, kernelFrom, kernelOf, measured, measureBy, measureOf, truthOf}
+use Rattle.scalars.specs.Answer.{Given, Logical}
 use Rattle.scalars.specs.Rules.{Typed, MeasureForm, TruthForm, OptionForm}
 
 -- ---- the same bytes

@@ -8,7 +8,7 @@ use Rattle.common.specs.Compare.{clash}
 use Rattle.error.specs.Refusal.{Refusal, Told, good, bad, told}
 use Rattle.error.specs.declared.Fault.{Fault}
 use Rattle.statement.specs.Row.{Row, mapped}
-use Rattle.params.specs.Reader.{onward}
+use Rattle.params.specs.Answer.{onward}
 use Rattle.scan.specs.File.{Table}
 use Rattle.scan.specs.Table.{headersAfter, rowsAfter, countsOf}
 use Rattle.index.specs.Search.{searched}

@@ -3,7 +3,7 @@
 use mathlib.Core.Path.{_≡_, refl, sym, _∙_, ap}
 use Rattle.error.specs.Refusal.{Told, good, bad}
 use Rattle.error.specs.Only.{faultOf, faultOf-told}
-use Rattle.words.specs.Words.{Shown, inFile, inRoom}
+use Rattle.words.specs.Answer.{Shown, inFile, inRoom}
 use Rattle.titles.specs.Title.{toldTitle}
 use Rattle.titles.specs.declared.Title as TitleCode
 

@@ -7,8 +7,11 @@ use mathlib.Core.Option.{Option, none, some}
 use lib.Dec.{eqb}
 use Rattle.common.specs.Pick.{pick}
 use Rattle.error.specs.Refusal.{Refusal, refusal, Told, good, bad, told}
-use Rattle.params.specs.Reader.{Read, reading, span, mapped, paramOf, skipsOf}
-use Rattle.words.specs.Words.{Shown, inFile, inRoom, stringAt, roomOf}
+use Rattle.params.specs.Reader.{paramOf}
+use Rattle.params.specs.Skips.{skipsOf}
+use Rattle.params.specs.Answer.{Read, reading, span, mapped}
+use Rattle.words.specs.Words.{stringAt, roomOf}
+use Rattle.words.specs.Answer.{Shown, inFile, inRoom}
 use Rattle.lookup.specs.Lookup as rows
 use Rattle.titles.specs.declared.Title as TitleCode
 

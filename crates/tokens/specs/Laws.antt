@@ -21,7 +21,8 @@ use Rattle.lex.specs.Right.Steps.{Deaf, remark-shut, remark-open, text-ends, te
 use Rattle.lex.specs.Right.Tokens.{open-text, open-remark, Reads, tokens}
 use Rattle.lex.specs.declared.Mode.{Mode}
 use Rattle.lex.specs.declared.Mode.the-variants.{Plain, Slash, Text, Quoted, Remark, Starred}
-use Rattle.tokens.specs.Leap.{fromByte, heads, Rest, ends, never, leapTurn, leapEnd, stringRest, commentRest}
+use Rattle.tokens.specs.Leap.{leapTurn, leapEnd, stringRest, commentRest}
+use Rattle.tokens.specs.Answer.{fromByte, heads, Rest, ends, never}
 
 -- in strings and comments a leap is deaf
 leap-deaf : Deaf leapTurn leapEnd (λ m. m)

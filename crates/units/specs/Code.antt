@@ -13,8 +13,9 @@ use Rattle.reals.specs.Scalar.{referenceOf}
 use Rattle.kinds.specs.Kind.{kindOf}
 use Rattle.kinds.specs.declared.Kind.{Kind}
 use Rattle.kinds.specs.declared.Kind as KindCode
-use Rattle.params.specs.Reader.{span, onward}
-use Rattle.lists.specs.Items.{fine, asFate, itemsFrom, valuesOf}
+use Rattle.params.specs.Answer.{span, onward}
+use Rattle.lists.specs.Items.{itemsFrom}
+use Rattle.lists.specs.Answer.{fine, asFate, valuesOf}
 use Rattle.lookup.specs.Lookup.{cut, spanFine, rowNumbers}
 use Rattle.factors.specs.Thing.{sameKind, Thing, thingOf}
 use Rattle.factors.specs.Code.{toldRun}

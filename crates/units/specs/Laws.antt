@@ -24,14 +24,16 @@ use Rattle.statement.specs.Statement.{headerRowOf}
 use Rattle.statement.specs.declared.HeaderSpan.{HeaderSpan}
 use Rattle.kinds.specs.declared.Kind.{Kind}
 use Rattle.kinds.specs.declared.Kind.the-variants.{GeometricRepresentationContext, GlobalUnitAssignedContext, GlobalUncertaintyAssignedContext, LengthUnit, PlaneAngleUnit, SolidAngleUnit, UncertaintyMeasureWithUnit}
-use Rattle.params.specs.Reader.{Read, reading, Span, span, onward, paramOf}
+use Rattle.params.specs.Reader.{paramOf}
+use Rattle.params.specs.Answer.{Read, reading, Span, span, onward}
 use Rattle.scalars.specs.Scalars.{measureOf}
-use Rattle.scalars.specs.Scalars as Scalars
+use Rattle.scalars.specs.Answer as Scalars
 use Rattle.reals.specs.Scalar.{wholeOf, referenceOf}
 use Rattle.parts.specs.Part.{nextOf, before, partsBy, partsFrom, partsOf}
 use Rattle.parts.specs.Laws.{next-ahead}
 use Rattle.lists.specs.declared.Item.{Item}
-use Rattle.lists.specs.Items.{Fate, fine, faulty, shifted, fated, mute, asFate, itemsFrom, isNone, itemsBy, Body, inside, bare, bodyOf, listed, listBy, roomed, nextBy, valuesOf, ItemAt}
+use Rattle.lists.specs.Items.{itemsFrom, isNone, itemsBy, Body, inside, bare, bodyOf, listed, listBy, ItemAt}
+use Rattle.lists.specs.Answer.{Fate, fine, faulty, shifted, fated, mute, asFate, roomed, nextBy, valuesOf}
 use Rattle.lists.specs.Laws.{item-in}
 use Rattle.lists.specs.ReadLaws.{count-mute}
 use Rattle.lists.specs.Fill.{fill-bad, fill-last, fill-more, fill-head}

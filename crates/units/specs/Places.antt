@@ -11,13 +11,15 @@ use Rattle.common.specs.Pick.{pick}
 use Rattle.error.specs.Refusal.{Refusal, Told, good, bad}
 use Rattle.statement.specs.Row.{Row}
 use Rattle.kinds.specs.declared.Kind.the-variants.{GeometricRepresentationContext, GlobalUnitAssignedContext, GlobalUncertaintyAssignedContext, UncertaintyMeasureWithUnit}
-use Rattle.params.specs.Reader.{Span, onward}
+use Rattle.params.specs.Answer.{Span, onward}
 use Rattle.params.specs.Places.{PlacedIn}
 use Rattle.words.specs.Places.{ToldIn}
-use Rattle.scalars.specs.Scalars.{nextOf, measureOf}
+use Rattle.scalars.specs.Scalars.{measureOf}
+use Rattle.scalars.specs.Answer.{nextOf}
 use Rattle.scalars.specs.Places.{next-placed}
 use Rattle.reals.specs.Scalar.{referenceOf}
-use Rattle.lists.specs.Items.{asFate, nextBy, listOf}
+use Rattle.lists.specs.Items.{listOf}
+use Rattle.lists.specs.Answer.{asFate, nextBy}
 use Rattle.lists.specs.Places.{scalar-inward, list-inward}
 use Rattle.lists.specs.Places as Lists
 use Rattle.index.specs.declared.Ids.{Ids}

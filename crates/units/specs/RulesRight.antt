@@ -8,7 +8,7 @@ use mathlib.Core.Option.{Option, none, some}
 use Rattle.error.specs.Refusal.{Refusal, Told, good, bad}
 use Rattle.record.specs.FormRight.Parts.{sole}
 use Rattle.kinds.specs.declared.Kind.the-variants.{GlobalUnitAssignedContext, GlobalUncertaintyAssignedContext}
-use Rattle.params.specs.Reader.{onward}
+use Rattle.params.specs.Answer.{onward}
 use Rattle.lookup.specs.Records.{orElse}
 use Rattle.factors.specs.Each.{Each, IsFirst, each-head, each-less, first-comes, first-never, first-decides, lastBy, last-is, last-only}
 use Rattle.factors.specs.Thing.{goodBy, Piece, Thing}

@@ -9,7 +9,7 @@ pub use listed::units_of_context;
 ghost use mathlib.Core.Path.{_≡_};
 ghost use Rattle.lookup.specs.Lookup.{tableRows};
 ghost use Rattle.statement.specs.Statement.{rowOf};
-ghost use Rattle.params.specs.Reader.{onward};
+ghost use Rattle.params.specs.Answer.{onward};
 ghost use Rattle.factors.specs.Thing.{thingOf, findOf};
 ghost use Rattle.units.specs.Units.{isContext, resolveOf, defaults};
 ghost use Rattle.units.specs.Code.{valuesIn, toldUnits, toldAsked, thingsFrom, contextOr, deciding};

@@ -1,8 +1,8 @@
 // The units and the tolerance that a context lists.
 ghost use mathlib.Core.Path.{_≡_};
 ghost use Rattle.statement.specs.Statement.{rowOf};
-ghost use Rattle.params.specs.Reader.{onward};
-ghost use Rattle.scalars.specs.Scalars.{toldNextReal};
+ghost use Rattle.params.specs.Answer.{onward};
+ghost use Rattle.scalars.specs.Answer.{toldNextReal};
 ghost use Rattle.factors.specs.Thing.{goodBy, thingOf, findOf};
 ghost use Rattle.factors.specs.Code.{toldFactor};
 ghost use Rattle.units.specs.Units.{defaults, withLength, withAngle, unitBy, unitsBy, uncertainBy, uncertaintyBy, toleranceBy, listedUnits, listedTolerance, contextOf};

@@ -22,11 +22,12 @@ use Rattle.strings.specs.Rules.{Text}
 use Rattle.strings.specs.RulesRight.{text-is, text-only}
 use Rattle.strings.specs.Answer.{decodedOf, roomAfter}
 use Rattle.strings.specs.declared.Decoded.the-variants.{Written, Short}
-use Rattle.params.specs.Reader.{Span, span}
+use Rattle.params.specs.Answer.{Span, span}
 use Rattle.scalars.specs.Scalars.{isUnset}
 use Rattle.scalars.specs.Laws.{part-part}
 use Rattle.scalars.specs.RulesRight.{same-is, same-self, same-not}
-use Rattle.words.specs.Words.{partOf, isName, nameAt, isString, Shown, bodyOf, decodedAt, stringAt, roomAt}
+use Rattle.words.specs.Words.{isName, nameAt, isString, bodyOf, decodedAt, stringAt, roomAt}
+use Rattle.words.specs.Answer.{partOf, Shown}
 use Rattle.words.specs.Rules.{Name, NameForm, Quoted, Plainly, TextForm}
 
 -- ---- a first byte, a middle and a last byte

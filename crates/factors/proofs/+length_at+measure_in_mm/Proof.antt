@@ -6,8 +6,8 @@ use mathlib.Core.Path.{sym, _∙_, ap}
 use Prim.Native.Nat.{ℕ, _+_, _<_}
 use denote.Ref.{now}
 use lib.Ieee.{binary64, toBits}
-use Rattle.params.specs.Reader.{Read}
-use Rattle.scalars.specs.Scalars.{toldNextReal, toldNextRef}
+use Rattle.params.specs.Answer.{Read}
+use Rattle.scalars.specs.Answer.{toldNextReal, toldNextRef}
 use Rattle.statement.specs.Statement.{rowOf}
 use Rattle.lookup.specs.Lookup.{toldEntry}
 use Rattle.factors.specs.Thing.{thingOf, findOf}

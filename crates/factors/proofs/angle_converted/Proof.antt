@@ -3,7 +3,7 @@ use mathlib.Core.Path.{sym, _∙_, ap}
 use Prim.Native.Nat.{ℕ}
 use denote.Ref.{now}
 use Rattle.error.specs.Refusal.{Told}
-use Rattle.params.specs.Reader.{onward}
+use Rattle.params.specs.Answer.{onward}
 use Rattle.factors.specs.Thing.{findOf}
 use Rattle.factors.specs.Factor.{numberIn}
 use Rattle.factors.specs.Code.{toldId}

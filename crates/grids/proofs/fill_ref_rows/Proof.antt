@@ -1,6 +1,6 @@
 use Rattle.common.specs.Compare.{clash}
 use Rattle.grids.specs.Rows.{Gridding, gridding-starts}
-use Rattle.lists.specs.Items.{asFate}
+use Rattle.lists.specs.Answer.{asFate, toldReadList}
 use Rattle.reals.specs.Scalar.{referenceOf}
 use lib.ListN.{length}
 use denote.Ref.{now}
@@ -8,7 +8,6 @@ use Prim.Native.Nat.{_-_}
 use native.Mathlib.Omega.{arith}
 use borrow.Author.Needs.{needs}
 use Rattle.grids.specs.Rows.{gridding-room, row-read, row-place, row-last, row-goes}
-use Rattle.lists.specs.Items.{toldReadList}
 use Rattle.lists.proofs.Laws.{refused-read}
 use lib.ListN.{take, drop, set, length-drop, length-set}
 use lib.Seq.{length-take-le}

@@ -1,4 +1,4 @@
-use Rattle.lists.specs.Items.{faulty, asFate}
+use Rattle.lists.specs.Answer.{faulty, asFate}
 use Rattle.reals.specs.Which.{realBy}
 use Rattle.reals.specs.Answer.{Answer, toldReal}
 use native.Mathlib.Omega.{arith}

@@ -1,4 +1,4 @@
-use Rattle.lists.specs.Items.{asFate}
+use Rattle.lists.specs.Answer.{asFate}
 use Rattle.reals.specs.Scalar.{referenceOf}
 use Rattle.reals.specs.Answer.{Answer, toldReference}
 use native.Mathlib.Omega.{arith}

@@ -1,4 +1,4 @@
-use Rattle.lists.specs.Items.{fine, asFate}
+use Rattle.lists.specs.Answer.{fine, asFate}
 use Rattle.reals.specs.Scalar.{wholeOf}
 use Rattle.reals.specs.Answer.{Answer, toldWhole}
 use native.Mathlib.Omega.{arith}

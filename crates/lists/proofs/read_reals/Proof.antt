@@ -1,6 +1,7 @@
 use borrow.Author.Needs.{needs}
 use Rattle.lists.specs.Keep.{kept-bad, kept-short, kept-fits, kept-ready}
-use Rattle.lists.specs.Items.{listOf, toldCounted}
+use Rattle.lists.specs.Items.{listOf}
+use Rattle.lists.specs.Answer.{toldCounted}
 use Rattle.reals.specs.Which.{realBy}
 use native.Mathlib.Omega.{arith}
 use denote.Ref.{now}

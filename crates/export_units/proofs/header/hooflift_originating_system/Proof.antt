@@ -2,7 +2,7 @@ use denote.Ref.{now}
 use mathlib.Core.Path.{_∙_, ap}
 use lib.ListN.{length}
 use Rattle.error.specs.Refusal.{Told}
-use Rattle.words.specs.Words.{Shown}
+use Rattle.words.specs.Answer.{Shown}
 use Rattle.headers.specs.Header.{headerFirst, headerArgs}
 use Rattle.titles.specs.Title.{titleBy, roomBy, fileName}
 use Rattle.lookup.specs.declared.Tables.{Tables}

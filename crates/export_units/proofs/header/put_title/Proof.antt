@@ -1,7 +1,7 @@
 use denote.Ref.{now}
 use mathlib.Core.Path.{sym, ap}
 use Rattle.error.specs.Refusal.{Told}
-use Rattle.words.specs.Words.{Shown}
+use Rattle.words.specs.Answer.{Shown}
 use Rattle.titles.specs.Title.{toldTitle}
 use Rattle.plain.specs.Answers.{readValue, tells-good, tells-bad}
 use Rattle.export_args.specs.Values.{shownRoom, shownStart, shownStop}

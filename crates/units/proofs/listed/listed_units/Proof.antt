@@ -4,7 +4,7 @@ use mathlib.Core.Path.{sym, _∙_, ap}
 use denote.Ref.{now}
 use Rattle.error.specs.Refusal.{good}
 use Rattle.statement.specs.Statement.{rowOf}
-use Rattle.params.specs.Reader.{onward}
+use Rattle.params.specs.Answer.{onward}
 use Rattle.factors.specs.Thing.{thingOf, findOf}
 use Rattle.factors.specs.Code.{toldRun}
 use Rattle.units.specs.Units.{refsIn, defaults, unitsBy}

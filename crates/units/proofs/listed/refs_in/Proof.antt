@@ -1,7 +1,7 @@
 use borrow.Author.Needs.{needs}
 use mathlib.Core.Path.{sym, _∙_, ap, subst}
 use denote.Ref.{now}
-use Rattle.params.specs.Reader.{onward}
+use Rattle.params.specs.Answer.{onward}
 use Rattle.factors.specs.Code.{toldRun}
 use Rattle.factors.specs.declared.Run.{Run}
 use Rattle.units.specs.Units.{refsIn}

@@ -6,7 +6,7 @@ use denote.Ref.{now}
 use lib.ListN.{length}
 use Rattle.error.specs.Refusal.{good}
 use Rattle.reals.specs.Answer.{Answer, toldReference}
-use Rattle.lists.specs.Items.{asFate}
+use Rattle.lists.specs.Answer.{asFate}
 use Rattle.factors.specs.Thing.{findOf}
 use Rattle.units.specs.Units.{toleranceBy}
 use Rattle.units.specs.Code.{toldUncertain, idsOf}

@@ -5,7 +5,7 @@ use mathlib.Core.Path.{sym, _∙_, ap}
 use denote.Ref.{now}
 use lib.ListN.{length}
 use Rattle.reals.specs.Answer.{Answer, toldReference}
-use Rattle.lists.specs.Items.{asFate}
+use Rattle.lists.specs.Answer.{asFate}
 use Rattle.factors.specs.Thing.{findOf}
 use Rattle.units.specs.Units.{Units, defaults, unitsBy}
 use Rattle.units.specs.Code.{valuesIn, toldUnits, idsOf}
