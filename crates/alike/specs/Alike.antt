@@ -12,7 +12,7 @@ use Rattle.kinds.specs.declared.Kind.{Kind}
 use Rattle.params.specs.Answer.{Span, onward}
 use Rattle.lookup.specs.Lookup.{cut}
 use Rattle.factors.specs.Thing.{goodBy, sameKind, Piece, Thing, firstPiece, selfOr}
-use Rattle.factors.specs.Factor.{optionBy}
+use Rattle.factors.specs.Unit.{optionBy}
 
 -- "the same refusal number" (demand 3): two refusals with the same number and reason, wherever their places are
 abbrev pub SameRefusal : Refusal → Refusal → Type 0

@@ -15,7 +15,8 @@ use Rattle.scalars.specs.Answer.{nextOf}
 use Rattle.lists.specs.Items.{listOf}
 use Rattle.lists.specs.Answer.{nextBy}
 use Rattle.factors.specs.Thing.{goodBy, sameKind, Piece, Thing, selfOr}
-use Rattle.factors.specs.Factor.{optionBy, lengthOf, angleOf}
+use Rattle.factors.specs.Factor.{lengthOf, angleOf}
+use Rattle.factors.specs.Unit.{optionBy}
 use Rattle.units.specs.Units.{
   Units,
   defaults,

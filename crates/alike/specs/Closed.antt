@@ -22,7 +22,8 @@ use Rattle.kinds.specs.Kind.{kindOf}
 use Rattle.kinds.specs.declared.Kind.{Kind}
 use Rattle.params.specs.Answer.{Span, span}
 use Rattle.words.specs.Places.{SpanIn}
-use Rattle.parts.specs.Part.{Window, partsOf}
+use Rattle.parts.specs.Part.{partsOf}
+use Rattle.parts.specs.Rules.{Window}
 use Rattle.parts.specs.Closed.{shiftRow, RowsIn, parts-closed-good}
 use Rattle.lookup.specs.Lookup.{cut, spanFine, kindIn}
 use Rattle.alike.specs.Alike.{BothTold, BothList, AlikeRun, AlikePiece, AlikeThing}

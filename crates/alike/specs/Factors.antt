@@ -22,18 +22,9 @@ use Rattle.scalars.specs.Scalars.{measureOf}
 use Rattle.scalars.specs.Answer.{nextOf}
 use Rattle.factors.specs.Thing.{goodBy, sameKind, Thing, firstPiece, selfOr}
 use Rattle.factors.specs.Factor.{
-  prefixIn,
-  unitIn,
-  named,
-  siLength,
-  siAngle,
-  measureRef,
-  optionBy,
   unreadOf,
   readOr,
   orNone,
-  scaledBy,
-  measureRun,
   Chain,
   known,
   leads,
@@ -47,6 +38,17 @@ use Rattle.factors.specs.Factor.{
   lengthOf,
   numberIn,
   angleOf,
+}
+use Rattle.factors.specs.Unit.{
+  prefixIn,
+  unitIn,
+  named,
+  siLength,
+  siAngle,
+  measureRef,
+  optionBy,
+  scaledBy,
+  measureRun,
 }
 use Rattle.alike.specs.Readers.{skip-shift, next-shift}
 use Rattle.alike.specs.Alike.{

@@ -23,7 +23,7 @@ use Rattle.words.specs.RulesRight.{part-long, nameform-is}
 use Rattle.words.specs.Places.{SpanIn, ToldIn, name-in}
 use Rattle.lists.specs.Answer.{Fate, fine, faulty, roomed, nextBy}
 use Rattle.lookup.specs.Lookup.{cut}
-use Rattle.factors.specs.Factor.{nameOr, nextName}
+use Rattle.factors.specs.Unit.{nameOr, nextName}
 use Rattle.alike.specs.Shift.{ahead, toldAhead, shiftedRead, cut-length, param-shift}
 
 -- a value that has no place stays as it is

@@ -9,7 +9,7 @@ use Rattle.params.specs.Reader.{paramOf}
 use Rattle.params.specs.Answer.{Read, Span}
 use Rattle.params.specs.Places.{param-stands}
 use Rattle.lookup.specs.Lookup.{cut}
-use Rattle.factors.specs.Factor.{nameOr, nextName}
+use Rattle.factors.specs.Unit.{nameOr, nextName}
 use Rattle.alike.specs.Shift.{toldAhead, shiftedRead, cut-length, param-shift}
 use Rattle.alike.specs.Readers.{kept, named-shift}
 use Rattle.alike.specs.Alike.{SameTold, AlikeRun}

@@ -30,11 +30,11 @@ use Rattle.lists.specs.Items.{listOf}
 use Rattle.lists.specs.Answer.{Fate, fine, asFate, valuesOf, roomed, nextBy, fitsIn}
 use Rattle.lists.specs.Any.{list-counted, rows-counted}
 use Rattle.grids.specs.Grid.{flat, gridOf, gridFits}
-use Rattle.lengths.specs.Lengths.{textLen, itemsLen, numbersLen, rowsLen, rowsIn}
-use Rattle.lengths.specs.Greatest.{Greatest}
+use Rattle.lengths.specs.Rules.{textLen, itemsLen, numbersLen, rowsLen, rowsIn, Greatest}
 use Rattle.needs.specs.declared.Needs.{Needs}
-use Rattle.needs.specs.Needs.{Behind}
-use Rattle.needs.specs.Most.{Among, text-most, items-most, rows-most}
+use Rattle.needs.specs.Behind.{Behind}
+use Rattle.needs.specs.Most.{text-most, items-most, rows-most}
+use Rattle.needs.specs.Needs.{Among}
 
 -- ---- a parameter
 -- as many numbers as before, whatever they are told as

@@ -21,7 +21,8 @@ use Rattle.tokens.specs.Leap.{stringRest, commentRest}
 use Rattle.tokens.specs.Answer.{fromByte}
 use Rattle.words.specs.Words.{isString}
 use Rattle.lists.specs.Items.{itemEnd, itemBy, itemsFrom, itemsBy, bodyOf, listBy}
-use Rattle.lengths.specs.Lengths.{textLen, itemsLen, numbersLen, rowsLen, argsFrom, partsFrom, recordOf, sizes}
+use Rattle.lengths.specs.Lengths.{argsFrom, partsFrom, recordOf}
+use Rattle.lengths.specs.Rules.{textLen, itemsLen, numbersLen, rowsLen, sizes}
 use Rattle.needs.specs.Needs.{mostOf, needs, needsOf}
 
 -- no header row and three data rows, the largest id 3, a list of five, the text `it's` and a grid of three rows with four numbers

@@ -33,7 +33,8 @@ use Rattle.index.specs.Search.{searched}
 use Rattle.index.specs.declared.Ids.{Ids}
 use Rattle.lookup.specs.Lookup.{spanFine, rowFound}
 use Rattle.factors.specs.Thing.{goodBy, sameKind, Piece, pieceOf, Thing, piecesOf, thingAt, thingOf, thingFound, findOf, firstPiece, selfOr}
-use Rattle.factors.specs.Factor.{measureRef, scaledBy, measureRun, lengthOf}
+use Rattle.factors.specs.Factor.{lengthOf}
+use Rattle.factors.specs.Unit.{measureRef, scaledBy, measureRun}
 use Rattle.factors.specs.Rules.{Based, ends, base, MeasureForm, LengthForm, Follows}
 use Rattle.factors.specs.RulesRight.{length-form-only, length-form-is}
 

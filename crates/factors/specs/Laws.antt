@@ -16,7 +16,8 @@ use Rattle.record.specs.Turns.{bounds}
 use Rattle.record.specs.Word.{same, isWord}
 use Rattle.record.specs.Form.{bytes}
 use Rattle.statement.specs.Row.{Row, HeaderRow}
-use Rattle.kinds.specs.Kind.{kindOf, rankOf, Named, KindForm, kind-is}
+use Rattle.kinds.specs.Kind.{kindOf, kind-is}
+use Rattle.kinds.specs.Rules.{rankOf, Named, KindForm}
 use Rattle.kinds.specs.declared.Kind.{Kind}
 use Rattle.kinds.specs.declared.Kind.the-variants.{
   GeometricRepresentationContext,
@@ -45,13 +46,15 @@ use Rattle.prefixes.specs.Length.{lengthFactorOf}
 use Rattle.words.specs.Answer.{toldNextName}
 use Rattle.words.specs.Places.{SpanIn, ToldIn, name-in}
 use Rattle.words.specs.declared.NextName as NextNameCode
-use Rattle.parts.specs.Part.{partOf, partsOf, firstKind, isKind}
+use Rattle.parts.specs.Part.{partOf, partsOf, firstKind}
+use Rattle.parts.specs.Rules.{isKind}
 use Rattle.index.specs.Search.{searched}
 use Rattle.index.specs.declared.Ids.{Ids}
 use Rattle.lookup.specs.Lookup.{spanFine, spanIn, kindIn, rowFound}
 use Rattle.lookup.specs.Lookup as Lookup
 use Rattle.factors.specs.Thing.{goodBy, sameKind, pieceOf, Thing, thingAt, thingOf, findOf, firstPiece, selfOr}
-use Rattle.factors.specs.Factor.{nameOr, nextName, prefixIn, unitIn, siLength, siAngle, measureRef, optionBy, unreadOf, readOr, scaledBy, measureRun, Chain, known, leads, conversionOf, unitBy, linkOf, chained, baseOf, measureAt, measureIn, lengthOf, numberIn, angleOf}
+use Rattle.factors.specs.Factor.{unreadOf, readOr, Chain, known, leads, conversionOf, unitBy, linkOf, chained, baseOf, measureAt, measureIn, lengthOf, numberIn, angleOf}
+use Rattle.factors.specs.Unit.{nameOr, nextName, prefixIn, unitIn, siLength, siAngle, measureRef, optionBy, scaledBy, measureRun}
 use Rattle.factors.specs.Code.{namedIn, isNamed}
 
 -- ---- a record's arguments

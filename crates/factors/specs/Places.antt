@@ -30,14 +30,8 @@ use Rattle.index.specs.declared.Ids.{Ids}
 use Rattle.lookup.specs.Lookup.{spanFine, rowFound}
 use Rattle.factors.specs.Thing.{goodBy, sameKind, pieceOf, Thing, thingAt, thingOf, thingFound, findOf, firstPiece, selfOr}
 use Rattle.factors.specs.Factor.{
-  siLength,
-  siAngle,
-  measureRef,
-  optionBy,
   readOr,
   orNone,
-  scaledBy,
-  measureRun,
   Chain,
   known,
   leads,
@@ -51,6 +45,14 @@ use Rattle.factors.specs.Factor.{
   lengthOf,
   numberIn,
   angleOf,
+}
+use Rattle.factors.specs.Unit.{
+  siLength,
+  siAngle,
+  measureRef,
+  optionBy,
+  scaledBy,
+  measureRun,
 }
 
 -- ---- the parts of a complex record

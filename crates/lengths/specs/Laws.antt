@@ -21,7 +21,8 @@ use Rattle.lists.specs.Items.{listBy}
 use Rattle.lists.specs.Answer.{Fate, fine, faulty, fated, valuesOf, anything}
 use Rattle.grids.specs.Grid.{Size, size, sizeOf, flat}
 use Rattle.lengths.specs.declared.Sizes.{Sizes}
-use Rattle.lengths.specs.Lengths.{textLen, itemsLen, numbersLen, rowsLen, rowsIn, sizes, sizesOf, both, nothing, argsBy, argsFrom, argsOf, partsBy, partsFrom, partsOf, recordOf, gridLen}
+use Rattle.lengths.specs.Lengths.{sizesOf, argsBy, argsFrom, argsOf, partsBy, partsFrom, partsOf, recordOf, gridLen}
+use Rattle.lengths.specs.Rules.{textLen, itemsLen, numbersLen, rowsLen, rowsIn, sizes, both, nothing}
 
 -- ---- texts
 -- one byte or none is no string

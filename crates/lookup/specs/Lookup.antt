@@ -11,7 +11,8 @@ use Rattle.common.specs.Pick.{pick}
 use Rattle.error.specs.Refusal.{Refusal, refusal, Told, good, bad, told}
 use Rattle.statement.specs.Row.{Row, row}
 use Rattle.statement.specs.Statement.{rowOf}
-use Rattle.kinds.specs.Kind.{kindOf, rankOf}
+use Rattle.kinds.specs.Kind.{kindOf}
+use Rattle.kinds.specs.Rules.{rankOf}
 use Rattle.kinds.specs.declared.Kind.{Kind}
 use Rattle.kinds.specs.declared.Kind.the-variants.{Complex, Other}
 use Rattle.lookup.specs.declared.Entry.{Entry}

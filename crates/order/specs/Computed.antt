@@ -19,7 +19,8 @@ use Rattle.reals.specs.Scalar.{parseOf, realOf, wholeOf, referenceOf}
 use Rattle.prefixes.specs.Prefix.{placeIn}
 use Rattle.lists.specs.Items.{itemEnd, itemBy, itemsFrom, itemsBy, bodyOf, listBy}
 use Rattle.lists.specs.Answer.{nextBy}
-use Rattle.factors.specs.Factor.{siLength, siAngle, measureRef, linkOf, measureIn, lengthOf, numberIn, angleOf}
+use Rattle.factors.specs.Factor.{linkOf, measureIn, lengthOf, numberIn, angleOf}
+use Rattle.factors.specs.Unit.{siLength, siAngle, measureRef}
 use Rattle.units.specs.Units.{isContext, refsIn, unitBy, unitsBy, uncertaintyBy, toleranceBy, listedUnits, listedTolerance, contextOf, resolveOf}
 use Rattle.nearest.specs.Near.{near, nearUnits}
 use Rattle.nearest.specs.Product.{worthOf}

@@ -29,7 +29,8 @@ use Rattle.statement.specs.Row.{HeaderRow, headerRow, mapped, argued}
 use Rattle.statement.specs.Statement.{headerRowOf}
 use Rattle.statement.specs.declared.HeaderSpan.{HeaderSpan}
 use Rattle.kinds.specs.declared.Kind.{Kind}
-use Rattle.parts.specs.Part.{separator, partBy, partIn, nextOf, PartIn, before, partsBy, partsFrom, partsOf, isKind, firstKind, firstOf, toldNext}
+use Rattle.parts.specs.Part.{partBy, partIn, nextOf, PartIn, partsBy, partsFrom, partsOf, firstKind, firstOf}
+use Rattle.parts.specs.Rules.{separator, before, isKind, toldNext}
 use Rattle.parts.specs.declared.Next.{Next}
 use Rattle.parts.specs.declared.Next.the-variants.{Is, Over, Refused}
 

@@ -6,7 +6,7 @@ use Rattle.error.specs.Refusal.{Told, good, bad}
 use Rattle.error.specs.Only.{faultOf, faultOf-told}
 use Rattle.statement.specs.Row.{HeaderRow}
 use Rattle.statement.specs.declared.HeaderSpan.{HeaderSpan}
-use Rattle.parts.specs.Part.{toldNext}
+use Rattle.parts.specs.Rules.{toldNext}
 use Rattle.parts.specs.declared.Next.{Next}
 use Rattle.parts.specs.declared.Next.the-variants.{Is, Over, Refused}
 

@@ -28,7 +28,8 @@ use Rattle.statement.specs.Row.{HeaderRow, headerRow, mapped, argued}
 use Rattle.scan.specs.Form.{Argued}
 use Rattle.scan.specs.FormRight.Statements.{argued-only, argued-is}
 use Rattle.kinds.specs.declared.Kind.{Kind}
-use Rattle.parts.specs.Part.{separator, partBy, partIn, nextOf, Window, NextForm, before, partsBy, partsFrom, partsOf, PartsForm, isKind, firstKind, partOf, NoPart, IsFirstPart, FirstPart, ComplexPart}
+use Rattle.parts.specs.Part.{partBy, partIn, nextOf, partsBy, partsFrom, partsOf, firstKind, partOf}
+use Rattle.parts.specs.Rules.{separator, Window, NextForm, before, PartsForm, isKind, NoPart, IsFirstPart, FirstPart, ComplexPart}
 use Rattle.parts.specs.Laws.{next-outside, next-done, next-ahead}
 
 -- what is not a separator is not white

@@ -15,7 +15,8 @@ use Rattle.error.specs.Refusal.{Refusal, refusal, Told, good, bad}
 use Rattle.statement.specs.Row.{HeaderRow, mapped}
 use Rattle.scan.specs.Form.{Argued}
 use Rattle.kinds.specs.declared.Kind.{Kind}
-use Rattle.parts.specs.Part.{nextOf, NextForm, PartIn, before, partsBy, partsFrom, partsOf, PartsForm, isKind, firstKind, partOf}
+use Rattle.parts.specs.Part.{nextOf, PartIn, partsBy, partsFrom, partsOf, firstKind, partOf}
+use Rattle.parts.specs.Rules.{NextForm, before, PartsForm, isKind}
 use Rattle.parts.specs.Laws.{next-in}
 use Rattle.parts.specs.PartRight.{next-is, next-only, parts-are}
 

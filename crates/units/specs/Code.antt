@@ -18,7 +18,7 @@ use Rattle.lists.specs.Items.{itemsFrom}
 use Rattle.lists.specs.Answer.{fine, asFate, valuesOf}
 use Rattle.lookup.specs.Lookup.{cut, spanFine, rowNumbers}
 use Rattle.factors.specs.Thing.{sameKind, Thing, thingOf}
-use Rattle.factors.specs.Code.{toldRun}
+use Rattle.factors.specs.Answer.{toldRun}
 use Rattle.factors.specs.declared.Run as RunCode
 use Rattle.units.specs.Units as unit
 use Rattle.units.specs.Units.{Units, units, defaults, isContext, contextOf, refsIn, lengthRole, angleRole, solidRole}

@@ -25,7 +25,8 @@ use Rattle.lists.specs.Places as Lists
 use Rattle.index.specs.declared.Ids.{Ids}
 use Rattle.lookup.specs.Lookup.{rowNumbers}
 use Rattle.factors.specs.Thing.{goodBy, sameKind, Thing, thingOf, findOf, selfOr}
-use Rattle.factors.specs.Factor.{optionBy, lengthOf, angleOf}
+use Rattle.factors.specs.Factor.{lengthOf, angleOf}
+use Rattle.factors.specs.Unit.{optionBy}
 use Rattle.factors.specs.Places.{ThingIn, FoundIn, thing-in, find-in, by-placed, on-placed, any-placed, option-placed, self-in, length-in, angle-in}
 use Rattle.units.specs.Units.{Units, Role, lengthRole, angleRole, solidRole, firstRole, roleOf, withLength, withAngle, readsInteger, isContext, refsIn, uncertainBy, byRole, unitOf, unitBy, unitsBy, uncertaintyOf, uncertaintyBy, toleranceBy, listedUnits, listedTolerance, defaults, withTolerance, contextOf, decided, recordOf, resolveOf}
 use Rattle.units.specs.Code.{thingsFrom}

@@ -17,7 +17,8 @@ use Rattle.scalars.specs.Answer.{nextOf}
 use Rattle.lists.specs.Items.{listOf}
 use Rattle.lists.specs.Answer.{nextBy}
 use Rattle.factors.specs.Thing.{goodBy, sameKind, Piece, Thing, selfOr}
-use Rattle.factors.specs.Factor.{optionBy, lengthOf, angleOf}
+use Rattle.factors.specs.Factor.{lengthOf, angleOf}
+use Rattle.factors.specs.Unit.{optionBy}
 
 -- the four values: length in mm, angle and tolerance as patterns of f64s, and whether a length unit was found
 pub record Units : Type 0 where

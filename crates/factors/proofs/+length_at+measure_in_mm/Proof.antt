@@ -12,7 +12,8 @@ use Rattle.statement.specs.Statement.{rowOf}
 use Rattle.lookup.specs.Lookup.{toldEntry}
 use Rattle.factors.specs.Thing.{thingOf, findOf}
 use Rattle.factors.specs.Factor.{lengthOf}
-use Rattle.factors.specs.Code.{toldRun, toldFactor, toldLink}
+use Rattle.factors.specs.Code.{toldLink}
+use Rattle.factors.specs.Answer.{toldRun, toldFactor}
 use Rattle.factors.specs.Laws.{chain-known, chain-leads, chain-left, find-none, find-row, measure-missing, measure-refused, measure-none, measure-some, at-unread, at-read, base-unread, base-missing, base-row}
 use borrow.Fn.Kinds.{In}
 use borrow.Fn.PlainCycle.{Measures, is, falls, and}

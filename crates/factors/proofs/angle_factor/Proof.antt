@@ -3,7 +3,7 @@ use mathlib.Core.Path.{sym, _∙_, ap}
 use denote.Ref.{now}
 use Rattle.statement.specs.Statement.{rowOf}
 use Rattle.factors.specs.Thing.{thingOf, findOf}
-use Rattle.factors.specs.Code.{toldRun}
+use Rattle.factors.specs.Answer.{toldRun}
 use Rattle.factors.specs.Laws.{angle-refused, angle-si, angle-late, angle-neither, angle-conversion}
 use Rattle.factors.proofs.angle_factor.Statement.{statement}
 use Rattle.factors.proofs.angle_factor.Tie as tie

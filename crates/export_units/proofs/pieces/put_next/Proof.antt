@@ -4,7 +4,7 @@ use lib.ListN.{length}
 use mathlib.Core.Option.{Option}
 use Rattle.error.specs.Refusal.{Told}
 use Rattle.statement.specs.Row.{HeaderRow}
-use Rattle.parts.specs.Part.{toldNext}
+use Rattle.parts.specs.Rules.{toldNext}
 use Rattle.plain.specs.Answers.{readFault}
 use Rattle.plain.specs.Numbers.{fourOf, outCode, outAfter}
 use borrow.Author.Needs.{needs}
