@@ -1,6 +1,7 @@
 -- What the contracts of the by-value core say, by the file, the place and the end alone: the carrying reader's contracts cite these.
 -- Where a reader writes to lent room of n places, its answer is by n, and what the room holds afterwards (ys) is by what it held (xs).
 -- Assumes nothing.
+-- Definitions to be believed: no law, and nothing computed that no theorem ties (docs/BELIEVE.md).
 use Prim.Native.Nat.{ℕ}
 use mathlib.Core.Path.{_≡_}
 use mathlib.Core.List.{List, map}

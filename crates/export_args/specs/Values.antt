@@ -1,5 +1,6 @@
 -- What a parameter reads as, as plain numbers.
 -- Assumes nothing.
+-- Definitions to be believed: no law, and nothing computed that no theorem ties (docs/BELIEVE.md).
 use Prim.Native.Nat.{ℕ}
 use Rattle.error.specs.Refusal.{Told, good, bad}
 use Rattle.scalars.specs.Answer.{Given, given, unset, Logical, holds, fails, unknown}

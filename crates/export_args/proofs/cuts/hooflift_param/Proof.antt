@@ -2,7 +2,8 @@ use borrow.Author.Needs.{needs}
 use denote.Ref.{now}
 use mathlib.Core.Path.{_∙_, sym, ap}
 use Rattle.params.specs.Answer.{toldCut, Read, Span}
-use Rattle.plain.specs.Answers.{readValue, leaves-good, leaves-bad}
+use Rattle.plain.specs.Answers.{readValue}
+use Rattle.plain.specs.AnswersLaws.{leaves-good, leaves-bad}
 use Rattle.export_args.proofs.cuts.hooflift_param.Statement.{statement}
 use Rattle.export_args.proofs.cuts.hooflift_param.Tie as tie
 

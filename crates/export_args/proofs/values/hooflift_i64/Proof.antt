@@ -6,7 +6,8 @@ use mathlib.Core.Path.{_∙_, sym, ap}
 use Rattle.scalars.specs.Answer.{toldNextWhole}
 use lib.IntN.{ℤ}
 use Rattle.params.specs.Answer.{Read}
-use Rattle.plain.specs.Answers.{readValue, leaves-good, leaves-bad}
+use Rattle.plain.specs.Answers.{readValue}
+use Rattle.plain.specs.AnswersLaws.{leaves-good, leaves-bad}
 use Rattle.export_args.proofs.values.hooflift_i64.Statement.{statement}
 use Rattle.export_args.proofs.values.hooflift_i64.Tie as tie
 

@@ -4,7 +4,8 @@ use mathlib.Core.Path.{_∙_, sym, ap}
 use Rattle.scalars.specs.Answer.{toldNextRef}
 use Prim.Native.Nat.{ℕ}
 use Rattle.params.specs.Answer.{Read}
-use Rattle.plain.specs.Answers.{readValue, leaves-good, leaves-bad}
+use Rattle.plain.specs.Answers.{readValue}
+use Rattle.plain.specs.AnswersLaws.{leaves-good, leaves-bad}
 use Rattle.export_args.proofs.values.hooflift_ref.Statement.{statement}
 use Rattle.export_args.proofs.values.hooflift_ref.Tie as tie
 
