@@ -11,7 +11,8 @@ use Rattle.reals.specs.Scalar.{realOf}
 use Rattle.reals.specs.Answer.{Answer}
 use Rattle.params.specs.Reader.{paramOf}
 use Rattle.params.specs.Answer.{Read, Span, mapped}
-use Rattle.words.specs.Words.{nameAt, stringAt, roomOf}
+use Rattle.words.specs.Words.{nameAt, stringAt}
+use Rattle.words.specs.Room.{roomOf}
 use Rattle.words.specs.Answer.{Shown}
 use Rattle.lists.specs.Items.{listOf}
 use Rattle.lists.specs.Answer.{nextBy, fitsIn, howMany, written}

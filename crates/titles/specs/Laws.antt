@@ -7,7 +7,8 @@ use Rattle.error.specs.Refusal.{Refusal, Told, good, bad}
 use Rattle.params.specs.Reader.{paramOf}
 use Rattle.params.specs.Skips.{skipsOf}
 use Rattle.params.specs.Answer.{Read, reading, mapped}
-use Rattle.words.specs.Words.{stringAt, roomOf}
+use Rattle.words.specs.Words.{stringAt}
+use Rattle.words.specs.Room.{roomOf}
 use Rattle.words.specs.Answer.{Shown}
 use Rattle.lookup.specs.Lookup as rows
 use Rattle.titles.specs.Title.{empty, asTitle, titleIn, roomIn, titleBy, roomBy}

@@ -10,7 +10,8 @@ use Rattle.error.specs.Refusal.{Told, good, bad, told}
 use Rattle.params.specs.Reader.{paramOf}
 use Rattle.params.specs.Skips.{skipsOf}
 use Rattle.params.specs.Answer.{span, mapped}
-use Rattle.words.specs.Words.{stringAt, roomOf}
+use Rattle.words.specs.Words.{stringAt}
+use Rattle.words.specs.Room.{roomOf}
 use Rattle.words.specs.Answer.{Shown, inFile, inRoom}
 use Rattle.lookup.specs.Lookup as rows
 use Rattle.titles.specs.declared.Title as TitleCode

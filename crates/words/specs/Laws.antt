@@ -17,7 +17,8 @@ use Rattle.strings.specs.Hex.{both}
 use Rattle.params.specs.Reader.{paramOf}
 use Rattle.params.specs.Answer.{Read, reading, Span, span, mapped}
 use Rattle.scalars.specs.Scalars.{isUnset}
-use Rattle.words.specs.Words.{isName, nameAt, isString, bodyOf, decodedAt, stringAt, roomAt, roomOf}
+use Rattle.words.specs.Words.{isName, nameAt, isString, bodyOf, decodedAt, stringAt, roomAt}
+use Rattle.words.specs.Room.{roomOf}
 use Rattle.words.specs.Answer.{partOf, Shown, inFile, inRoom}
 
 -- fewer than two bytes are no name

@@ -12,7 +12,8 @@ use Rattle.params.specs.Reader.{paramOf}
 use Rattle.params.specs.Answer.{reading, Span, inFile, onward, mapped}
 use Rattle.params.specs.Rules.{Inside}
 use Rattle.params.specs.Places.{PlacedIn, Stands, Past, mapped-stands, mapped-stays, param-placed, param-stays, param-past, refused-past}
-use Rattle.words.specs.Words.{nameAt, stringAt, roomAt, roomOf}
+use Rattle.words.specs.Words.{nameAt, stringAt, roomAt}
+use Rattle.words.specs.Room.{roomOf}
 use Rattle.words.specs.Answer.{Shown, inRoom}
 use Rattle.words.specs.Answer as Words
 use Rattle.words.specs.Rules.{NameForm, TextForm}

@@ -173,11 +173,11 @@ plain-not b n = go (String.plain b) refl
     go false e = e
 
 -- a string's characters in UTF-8
-bytes-only : {b cs : List ℕ} → Text b cs → encodeAll cs ≡ String.bytesOf b
+pub bytes-only : {b cs : List ℕ} → Text b cs → encodeAll cs ≡ String.bytesOf b
 unfolding String.bytesOf
 bytes-only t = ap encodeAll (text-only t)
 
-bytes-is : (b : List ℕ) → (cs : List ℕ) × Text b cs × (encodeAll cs ≡ String.bytesOf b)
+pub bytes-is : (b : List ℕ) → (cs : List ℕ) × Text b cs × (encodeAll cs ≡ String.bytesOf b)
 bytes-is b = (String.textOf b, text-is b, bytes-only (text-is b))
 
 module _ (s : List ℕ) (a : Span) (o : List ℕ) (ordered : a .start ≤ a .stop) (within : a .stop ≤ length s) where

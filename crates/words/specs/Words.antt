@@ -48,8 +48,3 @@ stringAt s n a =
 -- the lent output after a parameter: a text that is written there, and else its own bytes
 unfoldable pub roomAt : List ℕ → List ℕ → Span → List ℕ
 roomAt s o a = pick (isUnset (partOf s a)) o (pick (isString (partOf s a)) (roomAfter (bodyOf s a) o) o)
-
--- the same where no parameter is read
-abbrev pub roomOf : List ℕ → List ℕ → Told Span → List ℕ
-roomOf s o (good a) = roomAt s o a
-roomOf s o (bad q) = o
