@@ -14,10 +14,14 @@ import re
 import sys
 
 ROOT = os.path.dirname(os.path.dirname(os.path.abspath(__file__)))
+# the sentence of a believed file, a line of its opening comment
 MARK = '-- Definitions to be believed: no law, and nothing computed that no theorem ties (docs/BELIEVE.md).'
 LIBRARIES = {'Prim', 'mathlib', 'native', 'lib', 'borrow', 'denote'}
+# words of proofs
 PROOF = {'omega', 'rw', 'rw⁻¹', 'grw', 'simp', 'search', 'cc', 'refl', 'sym', '∙', 'ap', 'subst', 'absurd', 'unfolding', 'unfold', 'axiom', '?'}
+# endings of the names of theorems that tie
 TIES = ('-is', '-only', '-one', '-are')
+# characters of a line of the page
 WIDTH = 150
 
 USE = re.compile(r'^(?:pub )?use ([^\s{]+?)(?:\.\{([^}]*)\}|( as \S+))?$', re.S)
@@ -86,6 +90,16 @@ class Spec:
     def comments(self):
         """How many of these are comments."""
         return sum(1 for line in self.lines[self.first:] if line.lstrip().startswith('--'))
+
+    def statement(self, name, line):
+        """The words of a declaration's statement: up to its equations."""
+        found = []
+        for k in range(line - 1, len(self.lines)):
+            text = code(self.lines[k])
+            if k >= line and (text.strip() == '' or text.split()[0] in (name, 'unfolding')):
+                break
+            found += re.split(r'[\s(){};,.]+', text)
+        return set(found)
 
     def where(self, line):
         return '%s:%d' % (os.path.relpath(self.path, ROOT), line)
@@ -234,8 +248,24 @@ def sources(crate):
     return sorted(glob.glob(os.path.join(ROOT, 'crates', crate, 'src', '**', '*.rt'), recursive=True))
 
 
-def by_theorems(taken):
-    return wrapped(['`%s` (%s)' % (n, ', '.join('`%s`' % t for t in by)) for n, by in taken.items()], '  By theorems:') if taken else []
+def laws_of(specs):
+    """By its name, each declaration of a file that is not believed: (file, line)."""
+    laws = {}
+    for place in sorted(specs):
+        for n, line, marks, kind, indent in specs[place].declared:
+            if not specs[place].marked:
+                laws.setdefault(n, []).append((specs[place], line))
+    return laws
+
+
+def by_theorems(taken, notes, laws):
+    """What is taken by theorems, (crate, name): the theorems, and the file of the first of them."""
+    items = []
+    for crate, name in taken:
+        by = notes.tied[crate, name][0]
+        homes = ['%s/%s' % (s.crate, s.name) for s, line in laws.get(by[0], []) if name in s.statement(by[0], line)]
+        items.append('`%s` (%s of %s)' % (name, ', '.join('`%s`' % t for t in by), homes[0] if homes else '?'))
+    return wrapped(items, '  By theorems:') if items else []
 
 
 def wrapped(items, lead):
@@ -275,7 +305,7 @@ sentence of the papers is.'''
 
 
 def page(specs, notes):
-    order = crates()
+    order, laws = crates(), laws_of(specs)
     rows, parts = [], []
     total, reader = [0] * 5, [0] * 5
     for crate in order:
@@ -286,12 +316,8 @@ def page(specs, notes):
         for s in believed:
             names = ['`%s` %d' % (n, line) for n, line, marks, kind, indent in s.declared if 'pub' in marks]
             part += wrapped(names, '- %s, %d lines:' % (link(s.path), s.size()))
-            taken = {}
-            for line, home, got in takes(s, specs):
-                for name in got or []:
-                    if (home.crate, name) in notes.tied:
-                        taken[name] = notes.tied[home.crate, name][0]
-            part += by_theorems(taken)
+            taken = dict.fromkeys((home.crate, n) for line, home, got in takes(s, specs) for n in got or [] if (home.crate, n) in notes.tied)
+            part += by_theorems(taken, notes, laws)
         contracts, clauses = 0, 0
         told = []
         for path in sources(crate):
@@ -300,7 +326,8 @@ def page(specs, notes):
                 contracts += len(found)
                 clauses += sum(len(c) for n, line, c in found)
                 told += wrapped(['`%s` %d' % (n, line) for n, line, c in found], '- %s, contracts of %d lines:' % (link(path), sum(len(c) for n, line, c in found)))
-                told += by_theorems({n: notes.tied[home.crate, n][0] for line, home, n in cites(path, specs) if (home.crate, n) in notes.tied})
+                taken = dict.fromkeys((home.crate, n) for line, home, n in cites(path, specs) if (home.crate, n) in notes.tied)
+                told += by_theorems(taken, notes, laws)
         ties = 0
         tied = []
         for s in own:
@@ -364,20 +391,17 @@ def main(arguments):
                 used.add((home.crate, n))
                 if (home.crate, n) not in notes.tied and (home.crate, n) not in notes.inner and home.crate not in notes.crates['later']:
                     faults.append(('%s:%d' % (os.path.relpath(path, ROOT), line), 'the contract names `%s` of %s/%s, which is not believed' % (n, home.crate, home.name)))
-    laws = {}
-    for s in specs.values():
-        for n, line, marks, kind, indent in s.declared:
-            if not s.marked:
-                laws.setdefault(n, set()).add(s.crate)
+    laws = laws_of(specs)
     for key, (by, number) in notes.tied.items():
         if key not in used:
             faults.append(('tools/believe.txt:%d' % number, 'no believed file and no contract takes `%s` of %s' % (key[1], key[0])))
-        faults += [('tools/believe.txt:%d' % number, 'there is no theorem `%s`' % n) for n in by if n not in laws]
+        faults += [('tools/believe.txt:%d' % number, 'there is no theorem `%s` that speaks of `%s`' % (n, key[1]))
+                   for n in by if not any(key[1] in s.statement(n, line) for s, line in laws.get(n, []))]
     for (crate, name), number in notes.inner.items():
         if (crate, name) not in used:
             faults.append(('tools/believe.txt:%d' % number, 'no contract names `%s` of %s' % (name, crate)))
     for (crate, name), number in notes.theorems.items():
-        if crate not in laws.get(name, set()):
+        if not any(s.crate == crate for s, line in laws.get(name, [])):
             faults.append(('tools/believe.txt:%d' % number, 'there is no theorem `%s` in %s' % (name, crate)))
     for where, what in faults:
         print('%s: %s' % (where, what))
