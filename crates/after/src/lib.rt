@@ -1,9 +1,9 @@
 // Where an answer of the by-value core leaves the reader: one function for each of its enums. The carrying reader stores what they give.
 ghost use mathlib.Core.Path.{_≡_};
-ghost use Rattle.params.specs.Reader.{toldSkipped, toldEmptiness, toldOpened};
-ghost use Rattle.scalars.specs.Scalars.{toldNextRef, toldNextOptRef, toldNextWhole, toldNextReal, toldNextOptReal, toldNextTruth};
-ghost use Rattle.words.specs.Words.{toldNextName, toldNextText};
-ghost use Rattle.lists.specs.Items.{toldNextList};
+ghost use Rattle.params.specs.Answer.{toldSkipped, toldEmptiness, toldOpened};
+ghost use Rattle.scalars.specs.Answer.{toldNextRef, toldNextOptRef, toldNextWhole, toldNextReal, toldNextOptReal, toldNextTruth};
+ghost use Rattle.words.specs.Answer.{toldNextName, toldNextText};
+ghost use Rattle.lists.specs.Answer.{toldNextList};
 ghost use Rattle.grids.specs.Grid.{toldNextGrid};
 ghost use Rattle.after.specs.Leaving.{Leaves, openedAt};
 use grids::NextGrid;

@@ -10,10 +10,10 @@ use lib.ListN.{length}
 use Rattle.common.specs.Pick.{pick}
 use Rattle.error.specs.Refusal.{Refusal, Told, good, bad}
 use Rattle.kinds.specs.declared.Kind.{Kind}
-use Rattle.params.specs.Reader.{Span, onward}
+use Rattle.params.specs.Answer.{Span, onward}
 use Rattle.lookup.specs.Lookup.{cut}
 use Rattle.factors.specs.Thing.{goodBy, sameKind, Piece, Thing, firstPiece, selfOr}
-use Rattle.factors.specs.Factor.{optionBy}
+use Rattle.factors.specs.Unit.{optionBy}
 use Rattle.alike.specs.Names.{Names}
 
 -- "the same refusal number" (demand 3): two refusals with the same number and reason, wherever their places are

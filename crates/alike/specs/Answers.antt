@@ -10,41 +10,17 @@ use Rattle.error.specs.Refusal.{Told, good, bad}
 use Rattle.reals.specs.Scalar.{referenceOf, wholeOf}
 use Rattle.kinds.specs.declared.Kind.{Kind}
 use Rattle.kinds.specs.declared.Kind.the-variants.{GeometricRepresentationContext, GlobalUnitAssignedContext, GlobalUncertaintyAssignedContext, UncertaintyMeasureWithUnit}
-use Rattle.params.specs.Reader.{Span, onward}
-use Rattle.scalars.specs.Scalars.{nextOf, measureOf}
-use Rattle.lists.specs.Items.{nextBy, listOf}
+use Rattle.params.specs.Answer.{Span, onward}
+use Rattle.scalars.specs.Scalars.{measureOf}
+use Rattle.scalars.specs.Answer.{nextOf}
+use Rattle.lists.specs.Items.{listOf}
+use Rattle.lists.specs.Answer.{nextBy}
 use Rattle.factors.specs.Thing.{goodBy, sameKind, Piece, Thing, selfOr}
-use Rattle.factors.specs.Each.{Each, each-nil, each-head, each-less}
-use Rattle.factors.specs.Factor.{optionBy, lengthOf, angleOf}
-use Rattle.units.specs.Units.{
-  Units,
-  defaults,
-  Role,
-  lengthRole,
-  angleRole,
-  solidRole,
-  roleBy,
-  firstRole,
-  roleOf,
-  withLength,
-  withAngle,
-  withTolerance,
-  reads,
-  readsInteger,
-  isContext,
-  refsIn,
-  uncertainBy,
-  byRole,
-  unitOf,
-  unitBy,
-  unitsBy,
-  uncertaintyOf,
-  uncertaintyBy,
-  toleranceBy,
-  listedUnits,
-  listedTolerance,
-  contextOf,
-}
+use Rattle.factors.specs.Each.{Each}
+use Rattle.factors.specs.EachLaws.{each-nil, each-head, each-less}
+use Rattle.factors.specs.Unit.{optionBy}
+use Rattle.factors.specs.Factor.{lengthOf, angleOf}
+use Rattle.units.specs.Units.{Units, defaults, Role, lengthRole, angleRole, solidRole, roleBy, firstRole, roleOf, withLength, withAngle, withTolerance, reads, readsInteger, isContext, refsIn, uncertainBy, byRole, unitOf, unitBy, unitsBy, uncertaintyOf, uncertaintyBy, toleranceBy, listedUnits, listedTolerance, contextOf}
 use Rattle.alike.specs.Readers.{next-shift, list-shift}
 use Rattle.alike.specs.Alike.{BothTold, BothOption, BothList, SameTold, AlikeRun, AlikePiece, AlikeThing, AlikeFind, both-pick, both-on, both-by, same-on, same-on-read, same-by, self-alike}
 use Rattle.alike.specs.Runs.{read-first, refs-first}

@@ -24,21 +24,21 @@ use Rattle.record.specs.FormRight.{headform-is}
 use Rattle.record.specs.Ordered.{simple-ordered}
 use Rattle.record.specs.Within.{data-within}
 use Rattle.statement.specs.Rows.{HeaderRow}
-use Rattle.statement.specs.Closed.{ClosedAt, ClosedParts, ClosedData}
+use Rattle.statement.specs.Closed.{ClosedAt, ClosedData}
 use Rattle.statement.specs.ClosedRight.{rowFrom, contentOf, record-row}
 use Rattle.kinds.specs.Kind.{kindOf}
-use Rattle.kinds.specs.declared.Kind.{Kind}
-use Rattle.scan.specs.Form.{Argued}
-use Rattle.params.specs.Reader.{Span, span}
+use Rattle.statement.specs.Form.{Argued}
+use Rattle.params.specs.Answer.{Span, span}
 use Rattle.params.specs.RulesRight.{Rest, rest-of, rest-place}
 use Rattle.words.specs.Places.{SpanIn}
-use Rattle.parts.specs.Part.{Window, NextForm, before, PartsForm, partsOf}
+use Rattle.parts.specs.Rules.{Window, NextForm, PartsForm}
+use Rattle.parts.specs.Part.{before, partsOf}
 use Rattle.parts.specs.PartRight.{parts-are}
 use Rattle.parts.specs.Closed.{shiftRow, RowsIn, parts-closed-good}
 use Rattle.lookup.specs.Lookup.{cut, spanFine, kindIn}
 use Rattle.alike.specs.Names.{Names, names-cut}
-use Rattle.alike.specs.Alike.{BothTold, BothList, AlikeRun, AlikePiece, AlikeThing}
-use Rattle.factors.specs.Thing.{goodBy, Piece, pieceOf, Thing, piecesOf, thingAt, thingOf}
+use Rattle.alike.specs.Alike.{BothList, AlikeRun, AlikePiece, AlikeThing}
+use Rattle.factors.specs.Thing.{goodBy, Piece, pieceOf, thingAt, thingOf}
 
 -- ---- bytes in the file
 -- a test that passes

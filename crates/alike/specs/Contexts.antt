@@ -9,7 +9,7 @@ use Rattle.common.specs.Pick.{pick}
 use Rattle.common.specs.Compare.{clash}
 use Rattle.error.specs.Refusal.{Told, good, bad}
 use Rattle.kinds.specs.declared.Kind.the-variants.{GeometricRepresentationContext}
-use Rattle.params.specs.Reader.{onward}
+use Rattle.params.specs.Answer.{onward}
 use Rattle.factors.specs.Thing.{goodBy, sameKind, Piece, Thing, firstPiece}
 use Rattle.units.specs.Units.{Units, readsInteger, isContext, contextOf, decided, recordOf, resolveOf}
 use Rattle.alike.specs.Alike.{BothTold, BothList, SameTold, AlikeThing, AlikeFind, same-refl, both-pick, both-on, same-on}

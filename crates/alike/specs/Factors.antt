@@ -14,24 +14,18 @@ use Rattle.record.specs.Word.{isWord}
 use Rattle.record.specs.Form.{bytes}
 use Rattle.nearest.specs.Product.{product}
 use Rattle.reals.specs.Scalar.{referenceOf}
-use Rattle.prefixes.specs.Prefix.{factorOf, lengthFactorOf}
+use Rattle.prefixes.specs.Prefix.{factorOf}
+use Rattle.prefixes.specs.Length.{lengthFactorOf}
 use Rattle.kinds.specs.declared.Kind.the-variants.{SiUnit, ConversionBasedUnit, LengthMeasureWithUnit, Complex}
-use Rattle.params.specs.Reader.{Span, onward, skipOf}
-use Rattle.scalars.specs.Scalars.{nextOf, measureOf}
+use Rattle.params.specs.Skips.{skipOf}
+use Rattle.params.specs.Answer.{Span, onward}
+use Rattle.scalars.specs.Scalars.{measureOf}
+use Rattle.scalars.specs.Answer.{nextOf}
 use Rattle.factors.specs.Thing.{goodBy, sameKind, Thing, firstPiece, selfOr}
 use Rattle.factors.specs.Factor.{
-  prefixIn,
-  unitIn,
-  named,
-  siLength,
-  siAngle,
-  measureRef,
-  optionBy,
   unreadOf,
   readOr,
   orNone,
-  scaledBy,
-  measureRun,
   Chain,
   known,
   leads,
@@ -45,6 +39,17 @@ use Rattle.factors.specs.Factor.{
   lengthOf,
   numberIn,
   angleOf,
+}
+use Rattle.factors.specs.Unit.{
+  prefixIn,
+  unitIn,
+  named,
+  siLength,
+  siAngle,
+  measureRef,
+  optionBy,
+  scaledBy,
+  measureRun,
 }
 use Rattle.alike.specs.Readers.{skip-shift, next-shift}
 use Rattle.alike.specs.Alike.{

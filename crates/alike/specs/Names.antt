@@ -18,19 +18,23 @@ use Rattle.record.specs.Text.{digit}
 use Rattle.record.specs.Turns.{bounds}
 use Rattle.record.specs.Form.{All, NotFirst, Skipped, valueOf}
 use Rattle.record.specs.FormRight.Parts.{first-other}
-use Rattle.reals.specs.Scalar.{Answer, read, refused, referenceOf}
+use Rattle.reals.specs.Answer.{Answer, read, refused}
+use Rattle.reals.specs.Scalar.{referenceOf}
 use Rattle.reals.specs.Form.{ReferenceForm}
 use Rattle.reals.specs.WholeRight.{reference-is}
 use Rattle.params.specs.Grammar.{Trails, Bound, Parameter}
-use Rattle.params.specs.Reader.{Read, Span, span, onward, paramOf}
+use Rattle.params.specs.Answer.{Read, Span, span, onward}
+use Rattle.params.specs.Reader.{paramOf}
 use Rattle.params.specs.Rules.{rest, NextForm}
 use Rattle.params.specs.RulesRight.{next-is}
-use Rattle.scalars.specs.Scalars.{answered, scalarAt, nextOf}
-use Rattle.words.specs.Words.{partOf}
-use Rattle.lists.specs.Items.{Fate, fine, faulty, shifted, consed, listOf, roomed, nextBy}
+use Rattle.scalars.specs.Answer.{answered, scalarAt, nextOf}
+use Rattle.words.specs.Answer.{partOf}
+use Rattle.lists.specs.Answer.{Fate, fine, faulty, shifted, consed, roomed, nextBy}
+use Rattle.lists.specs.Items.{listOf}
 use Rattle.lists.specs.Rules.{Item, Items, Listed, Scalar}
 use Rattle.lists.specs.RulesRight.{references-are}
-use Rattle.factors.specs.Each.{Each, each-nil, each-more}
+use Rattle.factors.specs.Each.{Each}
+use Rattle.factors.specs.EachLaws.{each-nil, each-more}
 
 -- "a `#` number [..] names, leading zeros disregarded": somewhere in the bytes xs stands a `#`, and the digits that follow it, all of
 -- them and at least one, are the number k

@@ -9,18 +9,21 @@ use lib.ListN.{length}
 use Rattle.common.specs.Pick.{pick}
 use Rattle.common.specs.Compare.{clash}
 use Rattle.error.specs.Refusal.{refusal, Told, good, bad}
-use Rattle.reals.specs.Scalar.{Answer, read, refused}
-use Rattle.params.specs.Reader.{Read, reading, Span, span, onward, mapped, paramOf, skipOf}
+use Rattle.reals.specs.Answer.{Answer, read, refused}
+use Rattle.params.specs.Reader.{paramOf}
+use Rattle.params.specs.Skips.{skipOf}
+use Rattle.params.specs.Answer.{Read, reading, Span, span, onward, mapped}
 use Rattle.params.specs.Places.{param-past}
 use Rattle.scalars.specs.Laws.{part-part}
-use Rattle.scalars.specs.Scalars.{answered, scalarAt, nextOf}
-use Rattle.words.specs.Words.{partOf, isName, nameAt}
+use Rattle.scalars.specs.Answer.{answered, scalarAt, nextOf}
+use Rattle.words.specs.Words.{isName, nameAt}
+use Rattle.words.specs.Answer.{partOf}
 use Rattle.words.specs.Rules.{NameForm}
 use Rattle.words.specs.RulesRight.{part-long, nameform-is}
 use Rattle.words.specs.Places.{SpanIn, ToldIn, name-in}
-use Rattle.lists.specs.Items.{Fate, fine, faulty, roomed, nextBy}
+use Rattle.lists.specs.Answer.{Fate, fine, faulty, roomed, nextBy}
 use Rattle.lookup.specs.Lookup.{cut}
-use Rattle.factors.specs.Factor.{nameOr, nextName}
+use Rattle.factors.specs.Unit.{nameOr, nextName}
 use Rattle.alike.specs.Shift.{ahead, toldAhead, shiftedRead, cut-length, param-shift}
 
 -- a value that has no place stays as it is

@@ -8,13 +8,15 @@ use lib.ListN.{length}
 use Rattle.common.specs.Compare.{clash}
 use Rattle.error.specs.Refusal.{Told, good, bad}
 use Rattle.reals.specs.Scalar.{referenceOf}
-use Rattle.params.specs.Reader.{Read, Span, paramOf}
+use Rattle.params.specs.Answer.{Read, Span}
+use Rattle.params.specs.Reader.{paramOf}
 use Rattle.params.specs.Places.{param-stands}
-use Rattle.scalars.specs.Scalars.{nextOf}
-use Rattle.lists.specs.Items.{listOf, nextBy}
+use Rattle.scalars.specs.Answer.{nextOf}
+use Rattle.lists.specs.Items.{listOf}
+use Rattle.lists.specs.Answer.{nextBy}
 use Rattle.lookup.specs.Lookup.{cut}
 use Rattle.factors.specs.Each.{Each}
-use Rattle.factors.specs.Factor.{nameOr, nextName}
+use Rattle.factors.specs.Unit.{nameOr, nextName}
 use Rattle.alike.specs.Shift.{toldAhead, shiftedRead, cut-length, param-shift}
 use Rattle.alike.specs.Readers.{kept, next-shift, list-shift, named-shift}
 use Rattle.alike.specs.Names.{each-by, next-names, list-names}

@@ -8,10 +8,11 @@ use lib.ListN.{length, take, drop, length-drop}
 use lib.Seq.{take-all, take-length, drop-drop, length-take-le}
 use Rattle.error.specs.Refusal.{refusal, Told, good, bad}
 use Rattle.lex.specs.Byte.{place}
-use Rattle.params.specs.Cut as Cut
-use Rattle.params.specs.Cut.{unclosed, cutOf, started, eaten}
+use Rattle.params.specs.Answer as Cut
+use Rattle.params.specs.Cut.{cutOf, started, eaten}
+use Rattle.params.specs.Answer.{unclosed, Read, reading, Span, span}
 use Rattle.params.specs.Right.{param-is, unclosed-is, started-is}
-use Rattle.params.specs.Reader.{Read, reading, Span, span, bounded, begun, paramOf}
+use Rattle.params.specs.Reader.{bounded, begun, paramOf}
 use Rattle.params.specs.RulesRight.{rest-within, param-rest, unclosed-rest, starts-rest, inside-true}
 use Rattle.scalars.specs.Laws.{part-part}
 use Rattle.lookup.specs.Lookup.{cut}

@@ -29,7 +29,7 @@ use denote.Triple.Statement.{Contract}
 use denote.Triple.Clauses.{Ended, Clauses, ensured, closing, lasts}
 use denote.Triple.Spec.{tripleOf}
 use denote.Exit.{yes}
-use Rattle.params.specs.Reader.{Read}
+use Rattle.params.specs.Answer.{Read}
 use Rattle.params.specs.declared.State.{State}
 use Rattle.params.proofs.State as St
 use Rattle.params.proofs.State.Laws as St′

@@ -42,7 +42,7 @@ use denote.Triple.Entry.{Vals, onEntry}
 use denote.Triple.Spec.{Meets, tripleOf}
 use denote.Triple.Walked.{says, Stays, stay-ref, walkOf, goes-ref, Walks, ends-at, walked, walk-meets}
 use denote.Exit.{yes}
-use Rattle.params.specs.Reader.{Read}
+use Rattle.params.specs.Answer.{Read}
 use Rattle.params.specs.declared.State.{State}
 use Rattle.params.proofs.State as St
 use Rattle.params.proofs.State.Laws as St′

@@ -1,11 +1,12 @@
 -- Document 01: "The argument reader is one thing that carries the file, its place and its end."
 -- Assumes nothing.
+-- Definitions to be believed: no law, and nothing computed that no theorem ties (docs/BELIEVE.md).
 use Prim.Native.Nat.{ℕ}
 use mathlib.Core.Path.{_≡_}
 use mathlib.Core.List.{List}
 use lib.ListN.{length}
 use denote.Ref.{RefT, now}
-use Rattle.params.specs.Reader.{Read, toldOpened, openedOf}
+use Rattle.params.specs.Answer.{Read, toldOpened, openedOf}
 use Rattle.after.specs.Leaving.{openedAt}
 use Rattle.args.specs.declared.Args.{Args}
 use Rattle.args.specs.declared.Opening.{Opening}

@@ -1,15 +1,21 @@
 -- What the contracts of the by-value core say, by the file, the place and the end alone: the carrying reader's contracts cite these.
 -- Where a reader writes to lent room of n places, its answer is by n, and what the room holds afterwards (ys) is by what it held (xs).
 -- Assumes nothing.
+-- Definitions to be believed: no law, and nothing computed that no theorem ties (docs/BELIEVE.md).
 use Prim.Native.Nat.{ℕ}
 use mathlib.Core.Path.{_≡_}
 use mathlib.Core.List.{List, map}
 use lib.ListN.{length}
 use lib.Ieee.{Float, binary64, toBits}
-use Rattle.reals.specs.Scalar.{Answer, realOf}
-use Rattle.params.specs.Reader.{Read, Span, mapped, paramOf}
-use Rattle.words.specs.Words.{Shown, nameAt, stringAt, roomOf}
-use Rattle.lists.specs.Items.{listOf, nextBy, fitsIn, howMany, written}
+use Rattle.reals.specs.Scalar.{realOf}
+use Rattle.reals.specs.Answer.{Answer}
+use Rattle.params.specs.Reader.{paramOf}
+use Rattle.params.specs.Answer.{Read, Span, mapped}
+use Rattle.words.specs.Words.{nameAt, stringAt}
+use Rattle.words.specs.Room.{roomOf}
+use Rattle.words.specs.Answer.{Shown}
+use Rattle.lists.specs.Items.{listOf}
+use Rattle.lists.specs.Answer.{nextBy, fitsIn, howMany, written}
 use Rattle.grids.specs.Grid.{Size, gridOf, gridFits, howLarge, numbersOf, endsOf}
 
 -- `next_enum`: "a name between two dots, valid UTF-8"

@@ -6,7 +6,7 @@ use mathlib.Core.Path.{_≡_, sym, _∙_, ap}
 use mathlib.Core.List.{List}
 use lib.ListN.{length}
 use denote.Ref.{RefT}
-use Rattle.params.specs.Reader.{Read, toldOpened}
+use Rattle.params.specs.Answer.{Read, toldOpened}
 use Rattle.after.specs.Leaving.{openedAt}
 use Rattle.args.specs.declared.Args.{Args}
 use Rattle.args.specs.declared.Opening.{Opening}

@@ -5,10 +5,12 @@
 // are thin, and what can be said without the struct stands below it.
 ghost use mathlib.Core.Path.{_≡_};
 ghost use Rattle.reals.specs.Scalar.{referenceOf, wholeOf, realOf};
-ghost use Rattle.params.specs.Reader.{toldSkipped, skipOf, skipsOf, toldEmptiness, emptyOf};
-ghost use Rattle.scalars.specs.Scalars.{measureOf, optionOf, truthOf, nextOf, toldNextRef, toldNextOptRef, toldNextWhole, toldNextReal, toldNextOptReal, toldNextTruth};
-ghost use Rattle.words.specs.Words.{toldNextName, toldNextText};
-ghost use Rattle.lists.specs.Items.{toldNextList};
+ghost use Rattle.params.specs.Skips.{skipOf, skipsOf, emptyOf};
+ghost use Rattle.params.specs.Answer.{toldSkipped, toldEmptiness};
+ghost use Rattle.scalars.specs.Scalars.{measureOf, optionOf, truthOf};
+ghost use Rattle.scalars.specs.Answer.{nextOf, toldNextRef, toldNextOptRef, toldNextWhole, toldNextReal, toldNextOptReal, toldNextTruth};
+ghost use Rattle.words.specs.Answer.{toldNextName, toldNextText};
+ghost use Rattle.lists.specs.Answer.{toldNextList};
 ghost use Rattle.grids.specs.Grid.{toldNextGrid};
 ghost use Rattle.args.specs.Carried.{Opens, Forwards, Fills, FillsBoth};
 ghost use Rattle.args.specs.Core.{nextName, nextText, textRoom, nextList, listRoom, realRoom, nextGrid, gridRoom, realGridRoom, endsRoom};

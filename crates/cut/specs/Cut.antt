@@ -13,7 +13,8 @@ use lib.Ieee.{nearest}
 use Rattle.nearest.specs.Units.{infinity}
 use Rattle.nearest.specs.Near.{near, Cmp, cmp}
 use Rattle.nearest.specs.Scaled.{near-scaled, order-is}
-use Rattle.nearest.specs.Round.{signed}
+use Rattle.nearest.specs.Nearest.{signed}
+use Rattle.cut.specs.Half.{by, against}
 
 -- num / den is w times 2 ^ (x - 1074), and what is left over is less than one such unit; `more` says whether there is any. Powers of two are
 -- multiplied out: `up` and `unit` are their exponents on the two sides, so that a unit is den * 2 ^ unit
@@ -31,17 +32,6 @@ pub record Cut (num den w : ℕ) (more : Bool) (x : ℕ) : Type 0 where
 -- whatever number is cut so, its nearest f64 has the pattern b with its sign
 abbrev pub RoundsTo : Bool → ℕ → Bool → ℕ → ℕ → Type 0
 RoundsTo s w more x b = (num den : ℕ) → Cut num den w more x → b ≡ signed s (near num den)
-
--- an order with half, made exact: just half, and something left below, is more than half
-abbrev pub by : Ordering → Bool → Ordering
-by Ordering·lt more = Ordering·lt
-by Ordering·eq true = Ordering·gt
-by Ordering·eq false = Ordering·eq
-by Ordering·gt more = Ordering·gt
-
--- what was dropped is `low`, and one of the last digit kept is `unit`: is `low` below, at or above half of it? Where it is just half, `more` decides
-abbrev pub against : ℕ → ℕ → Bool → Ordering
-against low unit more = by (compare (low * 2) unit) more
 
 -- num / den is w times 2 ^ (x - 1074) or more, and less than two such units above that; `up` and `unit` as in `Cut`
 pub record Within (num den w x : ℕ) : Type 0 where

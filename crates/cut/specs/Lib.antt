@@ -1,3 +1,4 @@
+pub mod Half
 pub mod Cut
 pub mod Rounding
 pub mod Window

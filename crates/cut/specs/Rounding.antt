@@ -11,7 +11,7 @@ use lib.Pow.{pow-pos, pow-lt}
 use lib.Ieee.{nearest}
 use Rattle.nearest.specs.Near.{Cmp, cmp}
 use Rattle.nearest.specs.Scaled.{order-is}
-use Rattle.cut.specs.Cut.{by, against}
+use Rattle.cut.specs.Half.{by, against}
 
 -- how `against` answers, by the order of the two numbers
 pub told : (o : Ordering) (low unit : ℕ) (more : Bool) → Cmp o (low * 2) unit → against low unit more ≡ by o more

@@ -13,8 +13,9 @@ use lib.Ieee.{nearest}
 use Rattle.nearest.specs.Units.{infinity}
 use Rattle.nearest.specs.Near.{near, near-digits, near-same, Cmp, cmp}
 use Rattle.nearest.specs.Scaled.{order-is}
-use Rattle.nearest.specs.Round.{signed}
-use Rattle.cut.specs.Cut.{against, order}
+use Rattle.nearest.specs.Nearest.{signed}
+use Rattle.cut.specs.Cut.{order}
+use Rattle.cut.specs.Half.{against}
 
 -- num / den is w times 2 ^ (y - 1075), and what is left over is less than one such unit; `more` says whether there is any
 pub record Window (num den w : ℕ) (more : Bool) (y : ℕ) : Type 0 where

@@ -2,7 +2,7 @@
 ghost use mathlib.Core.Path.{_≡_};
 ghost use Prim.Native.Nat.{_/_, _%_, _^_};
 ghost use lib.Ieee.{nearest};
-ghost use Rattle.cut.specs.Cut.{against};
+ghost use Rattle.cut.specs.Half.{against};
 
 // Rounds w, of which `drop` modulo 64 binary digits are dropped, to the nearest; `more` says that something is left below w. A tie, which
 // is just half of the last digit kept, goes to the even one. The tests are put together before one of them is asked: whether a digit is rounded up is

@@ -1,4 +1,4 @@
--- Document 01, 'Real class': "all digits" of a number, here eight of them: what `number` promises of eight bytes. Assumes nothing.
+-- What the code's parts promise of eight bytes, joined to one number; that what `number` promises (Told.antt) allows one answer. Assumes nothing.
 use Prim.Native.Nat.{ℕ, _<_, _^_}
 use mathlib.Core.Path.{_≡_, refl, sym, _∙_, ap}
 use mathlib.Core.Bool.{Bool, true, false}
@@ -6,13 +6,9 @@ use mathlib.Core.List.{List, [], _∷_}
 use Rattle.record.specs.Text.{digit}
 use Rattle.record.specs.Form.{All, valueOf}
 use Rattle.eights.specs.Fields.{fieldsBy, Each}
+use Rattle.eights.specs.Told.{EightTold}
 use Rattle.eights.specs.declared.Eight.{Eight}
 use Rattle.eights.specs.declared.Eight.the-variants.{Digits, Other}
-
--- `Digits v`: the bytes are digits, and v is the number that they make; `Other`: they are not all digits
-abbrev pub EightTold : List ℕ → Eight → Type 0
-EightTold bs (Digits v) = All digit bs × (v ≡ valueOf bs)
-EightTold bs Other = All digit bs → ⊥
 
 -- that allows one answer
 pub eight-told-only : (bs : List ℕ) (x y : Eight) → EightTold bs x → EightTold bs y → x ≡ y

@@ -6,7 +6,8 @@
 ghost use mathlib.Core.Path.{_≡_};
 ghost use mathlib.Core.List.{[], _∷_};
 ghost use Prim.Native.Nat.{_≤_};
-ghost use Rattle.eights.specs.Eights.{joinedOf, Tells, Makes, EightTold};
+ghost use Rattle.eights.specs.Eights.{joinedOf, Tells, Makes};
+ghost use Rattle.eights.specs.Told.{EightTold};
 
 pub enum Eight {
     // All are digits, and they make this number.

@@ -15,24 +15,26 @@ use Rattle.common.specs.Pick.{pick}
 use Rattle.common.specs.Compare.{clash}
 use Rattle.error.specs.Refusal.{Refusal, refusal, Told, good, bad}
 use Rattle.scalars.specs.Scalars.{isUnset}
-use Rattle.params.specs.Reader.{Span, span, onward, paramOf}
+use Rattle.params.specs.Reader.{paramOf}
+use Rattle.params.specs.Answer.{Span, span, onward}
 use Rattle.params.specs.Places.{param-past}
-use Rattle.reals.specs.Scalar.{Answer}
-use Rattle.strings.specs.Put.{most}
+use Rattle.reals.specs.Answer.{Answer}
+use Rattle.strings.specs.Answer.{most, decodedOf}
 use Rattle.strings.specs.Text.{plain, bytesOf}
-use Rattle.strings.specs.Code.{decodedOf}
 use Rattle.strings.specs.declared.Decoded.the-variants.{Plain, Written, Short}
-use Rattle.words.specs.Words.{isString, partOf, bodyOf, inFile, decodedAt, stringAt}
+use Rattle.words.specs.Words.{isString, bodyOf, decodedAt, stringAt}
+use Rattle.words.specs.Answer.{partOf, inFile}
 use Rattle.words.specs.Rules.{Quoted}
 use Rattle.words.specs.RulesRight.{quoted-is, quoted-body}
-use Rattle.lists.specs.Items.{Fate, fine, asFate, listOf, valuesOf, roomed, nextBy, fitsIn}
+use Rattle.lists.specs.Items.{listOf}
+use Rattle.lists.specs.Answer.{Fate, fine, asFate, valuesOf, roomed, nextBy, fitsIn}
 use Rattle.lists.specs.Any.{list-counted, rows-counted}
 use Rattle.grids.specs.Grid.{flat, gridOf, gridFits}
-use Rattle.lengths.specs.Lengths.{textLen, itemsLen, numbersLen, rowsLen, rowsIn}
-use Rattle.lengths.specs.Greatest.{Greatest}
+use Rattle.lengths.specs.Rules.{textLen, itemsLen, numbersLen, rowsLen, rowsIn, Greatest}
 use Rattle.needs.specs.declared.Needs.{Needs}
-use Rattle.needs.specs.Needs.{Behind}
-use Rattle.needs.specs.Most.{Among, text-most, items-most, rows-most}
+use Rattle.needs.specs.Behind.{Behind}
+use Rattle.needs.specs.Most.{text-most, items-most, rows-most}
+use Rattle.needs.specs.Needs.{Among}
 
 -- ---- a parameter
 -- as many numbers as before, whatever they are told as

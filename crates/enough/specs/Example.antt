@@ -14,12 +14,15 @@ use Rattle.scan.specs.File.{largest, readFrom, scanOf}
 use Rattle.parts.specs.Part as Part
 use Rattle.params.specs.Cut.{cutOf, started}
 use Rattle.params.specs.Reader.{paramOf}
-use Rattle.utf8.specs.Utf8.{encode, encodeAll, leadOf}
+use Rattle.utf8.specs.Utf8.{encode, leadOf}
+use Rattle.utf8.specs.Encoding.{encodeAll}
 use Rattle.strings.specs.Text.{groupTwo, groupFour, groupsFrom, directiveOf, pieceOf, pageAfter, textFrom, textOn, textOf, bytesOf}
-use Rattle.tokens.specs.Leap.{fromByte, stringRest, commentRest}
+use Rattle.tokens.specs.Leap.{stringRest, commentRest}
+use Rattle.tokens.specs.Answer.{fromByte}
 use Rattle.words.specs.Words.{isString}
 use Rattle.lists.specs.Items.{itemEnd, itemText, indent, itemBy, itemsFrom, isBlank, itemsBy, bodyOf, listBy}
-use Rattle.lengths.specs.Lengths.{textLen, itemsLen, numbersLen, rowsLen, argsFrom, partsFrom, recordOf, sizes}
+use Rattle.lengths.specs.Rules.{textLen, itemsLen, numbersLen, rowsLen, sizes}
+use Rattle.lengths.specs.Lengths.{argsFrom, partsFrom, recordOf}
 use Rattle.needs.specs.Needs.{mostOf, needs, needsOf}
 
 -- no header row and three data rows, the largest id 3, a list of five, the text `it's` and a grid of three rows with four numbers

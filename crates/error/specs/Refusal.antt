@@ -1,10 +1,7 @@
 -- Document 01, 'Refusal numbers': the number, reason and place of each refusal, and an answer that is a value or a refusal.
 -- Assumes nothing.
+-- Definitions to be believed: no law, and nothing computed that no theorem ties (docs/BELIEVE.md).
 use Prim.Native.Nat.{ℕ}
-use mathlib.Core.Path.{_≡_, refl, sym, _∙_, ap}
-use mathlib.Core.List.{List, [], _∷_}
-use lib.Dec.{eqb}
-use Rattle.common.specs.Pick.{pick}
 use Rattle.error.specs.declared.Fault.{Fault}
 use Rattle.error.specs.declared.Fault.the-variants.{
   NoMarker,
@@ -58,66 +55,3 @@ told (OutsideClass p) = refusal 13 0 p
 told NoRecord = refusal 14 0 0
 told (TooDeep p) = refusal 15 0 p
 told (TooShort p) = refusal 16 0 p
-
--- a line of the table read the other way: a number, and the case that has it, by reason and place
-pub record Line : Type 0 where
-  pub number : ℕ
-  pub case : ℕ → ℕ → Fault
-
--- such a line by its parts
-abbrev pub line : ℕ → (ℕ → ℕ → Fault) → Line
-line n f = record { number = n; case = f }
-
--- the table read the other way, a line for each case, in any order: a new case is a new line and moves no other
-abbrev pub lines : List Line
-lines =
-    line 1 (λ r p. NoMarker)
-    ∷ line 2 (λ r p. TooLong)
-    ∷ line 3 (λ r p. OpenComment p)
-    ∷ line 4 (λ r p. OpenString p)
-    ∷ line 5 (λ r p. NoEnd p)
-    ∷ line 6 (λ r p. OpenParen p)
-    ∷ line 7 (λ r p. BadRecord r p)
-    ∷ line 8 (λ r p. NoRow p)
-    ∷ line 9 (λ r p. OutOfFile)
-    ∷ line 10 (λ r p. NoParameter p)
-    ∷ line 11 (λ r p. OpenLiteral p)
-    ∷ line 12 (λ r p. WrongType p)
-    ∷ line 13 (λ r p. OutsideClass p)
-    ∷ line 14 (λ r p. NoRecord)
-    ∷ line 15 (λ r p. TooDeep p)
-    ∷ line 16 (λ r p. TooShort p)
-    ∷ []
-
--- the case of the first line that has this number; `NoMarker` where none has
-unfoldable pub caseIn : List Line → Refusal → Fault
-caseIn [] q = NoMarker
-caseIn (l ∷ ls) q = pick (eqb (l .number) (q .number)) (l .case (q .reason) (q .place)) (caseIn ls q)
-
--- the case that has a number, reason and place
-pub faultOf : Refusal → Fault
-faultOf q = caseIn lines q
-
--- read the other way, the table gives the case back
-pub faultOf-told : (f : Fault) → faultOf (told f) ≡ f
-unfolding faultOf caseIn
-faultOf-told NoMarker = refl
-faultOf-told TooLong = refl
-faultOf-told (OpenComment p) = refl
-faultOf-told (OpenString p) = refl
-faultOf-told (NoEnd p) = refl
-faultOf-told (OpenParen p) = refl
-faultOf-told (BadRecord r p) = refl
-faultOf-told (NoRow p) = refl
-faultOf-told OutOfFile = refl
-faultOf-told (NoParameter p) = refl
-faultOf-told (OpenLiteral p) = refl
-faultOf-told (WrongType p) = refl
-faultOf-told (OutsideClass p) = refl
-faultOf-told NoRecord = refl
-faultOf-told (TooDeep p) = refl
-faultOf-told (TooShort p) = refl
-
--- two cases with the same number, reason and place are the same case: a contract that fixes what is told fixes the case
-pub told-only : (f g : Fault) → told f ≡ told g → f ≡ g
-told-only f g e = sym (faultOf-told f) ∙ ap faultOf e ∙ faultOf-told g

@@ -22,9 +22,11 @@ use Rattle.statement.specs.Row.{mapped, recordOf, headerOf}
 use Rattle.statement.specs.Statement.{statement}
 use Rattle.scan.specs.File.{Table, largest, readFrom, scanOf}
 use Rattle.nearest.specs.Near.{near, nearUnits}
-use Rattle.reals.specs.Scalar.{Answer, read, refused, parseOf, realOf}
+use Rattle.reals.specs.Scalar.{parseOf, realOf}
+use Rattle.reals.specs.Answer.{Answer, read, refused}
 use Rattle.index.specs.Lookup.{written, lookupOf}
-use Rattle.utf8.specs.Utf8.{encode, encodeAll, leadOf}
+use Rattle.utf8.specs.Utf8.{encode, leadOf}
+use Rattle.utf8.specs.Encoding.{encodeAll}
 use Rattle.pages.specs.Tables.{latin1, pages, entry}
 use Rattle.strings.specs.Text.{groupTwo, groupFour, groupsFrom, directiveOf, pieceOf, pageAfter, textFrom, textOn, textOf, bytesOf}
 

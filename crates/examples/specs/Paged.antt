@@ -5,7 +5,8 @@ use Prim.Native.String.{String}
 use mathlib.Core.Path.{_≡_, refl}
 use mathlib.Core.List.{List, [], _∷_, _++_}
 use Rattle.record.specs.Form.{bytes}
-use Rattle.utf8.specs.Utf8.{encode, encodeAll, leadOf}
+use Rattle.utf8.specs.Utf8.{encode, leadOf}
+use Rattle.utf8.specs.Encoding.{encodeAll}
 use Rattle.pages.specs.Tables.{latin1, latin2, latin3, latin4, cyrillic, arabic, greek, hebrew, latin5, pages, entry}
 use Rattle.strings.specs.Text.{groupTwo, groupFour, groupsFrom, directiveOf, pieceOf, pageAfter, textFrom, textOn, textOf, bytesOf}
 

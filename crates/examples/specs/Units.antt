@@ -8,7 +8,7 @@ use mathlib.Core.Bool.{true, false}
 use mathlib.Core.List.{List, [], _∷_, map}
 use Rattle.error.specs.Refusal.{refusal, Told, good, bad}
 use Rattle.record.specs.Form.{bytes}
-use Rattle.params.specs.Reader.{onward}
+use Rattle.params.specs.Answer.{onward}
 use Rattle.scan.specs.File.{scanOf}
 use Rattle.units.specs.Units.{Units, units}
 use Rattle.serve.specs.Serve.{unitsOf}

@@ -2,3 +2,4 @@ pub mod Numbers
 pub mod Reals
 pub mod Texts
 pub mod Ids
+pub mod IdsLaws

@@ -1,5 +1,6 @@
 -- A scan's answer as plain numbers, for a host in another language.
 -- Assumes nothing.
+-- Definitions to be believed: no law, and nothing computed that no theorem ties (docs/BELIEVE.md).
 use Prim.Native.Nat.{ℕ}
 use mathlib.Core.List.{List, [], _∷_}
 use Rattle.error.specs.Refusal.{Refusal, Told, good, bad}

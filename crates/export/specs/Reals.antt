@@ -1,7 +1,8 @@
 -- A real's answer as plain numbers, for a host in another language.
 -- Assumes nothing.
+-- Definitions to be believed: no law, and nothing computed that no theorem ties (docs/BELIEVE.md).
 use Prim.Native.Nat.{ℕ}
-use Rattle.reals.specs.Scalar.{Answer, read, refused}
+use Rattle.reals.specs.Answer.{Answer, read, refused}
 
 -- 0, or the number of the refusal
 abbrev pub realCode : Answer ℕ → ℕ

@@ -1,6 +1,7 @@
 // One real, for hosts in other languages.
 ghost use mathlib.Core.Path.{_≡_};
-ghost use Rattle.reals.specs.Scalar.{realOf, anyRealOf, realBy};
+ghost use Rattle.reals.specs.Scalar.{realOf, anyRealOf};
+ghost use Rattle.reals.specs.Which.{realBy};
 ghost use Rattle.export.specs.Reals.{realCode, realBits};
 use reals::Real;
 use reals::Reals;

@@ -2,8 +2,7 @@
 ghost use mathlib.Core.Path.{_≡_};
 ghost use Prim.Native.Nat.{min};
 ghost use lib.ListN.{length};
-ghost use Rattle.strings.specs.Code.{decodedOf, roomAfter};
-ghost use Rattle.strings.specs.Put.{most};
+ghost use Rattle.strings.specs.Answer.{decodedOf, roomAfter, most};
 ghost use Rattle.strings.specs.Text.{bytesOf};
 ghost use Rattle.export.specs.Texts.{textCode, textPlace, textCount};
 use strings::Decoded;

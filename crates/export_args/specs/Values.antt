@@ -1,9 +1,10 @@
 -- What a parameter reads as, as plain numbers.
 -- Assumes nothing.
+-- Definitions to be believed: no law, and nothing computed that no theorem ties (docs/BELIEVE.md).
 use Prim.Native.Nat.{ℕ}
 use Rattle.error.specs.Refusal.{Told, good, bad}
-use Rattle.scalars.specs.Scalars.{Given, given, unset, Logical, holds, fails, unknown}
-use Rattle.words.specs.Words.{Shown, inFile, inRoom}
+use Rattle.scalars.specs.Answer.{Given, given, unset, Logical, holds, fails, unknown}
+use Rattle.words.specs.Answer.{Shown, inFile, inRoom}
 
 -- the value, where one is set; or what stood there
 abbrev pub givenValue : {A : Type 0} → Told (Given A) → A → A

@@ -1,6 +1,8 @@
 // Parameters that are cut and not read.
 ghost use mathlib.Core.Path.{_≡_};
-ghost use Rattle.params.specs.Reader.{paramOf, openedOf, emptyOf, skipsOf};
+ghost use Rattle.params.specs.Reader.{paramOf};
+ghost use Rattle.params.specs.Skips.{emptyOf, skipsOf};
+ghost use Rattle.params.specs.Answer.{openedOf};
 ghost use Rattle.plain.specs.Answers.{Leaves, readCode, readValue, truthNumber};
 use params::Cut;
 use params::Emptiness;

@@ -1,8 +1,10 @@
 // A name or a text of a parameter.
 ghost use mathlib.Core.Path.{_≡_};
 ghost use lib.ListN.{length};
-ghost use Rattle.params.specs.Reader.{mapped, paramOf};
-ghost use Rattle.words.specs.Words.{nameAt, stringAt, roomOf};
+ghost use Rattle.params.specs.Reader.{paramOf};
+ghost use Rattle.params.specs.Answer.{mapped};
+ghost use Rattle.words.specs.Words.{nameAt, stringAt};
+ghost use Rattle.words.specs.Room.{roomOf};
 ghost use Rattle.plain.specs.Answers.{Leaves, readValue};
 ghost use Rattle.export_args.specs.Values.{shownRoom, shownStart, shownStop};
 use params::State;

@@ -1,8 +1,10 @@
 // One value of a parameter: a reference, an integer, a real, a boolean.
 ghost use mathlib.Core.Path.{_≡_};
 ghost use lib.Ieee.{binary64, toBits};
-ghost use Rattle.reals.specs.Scalar.{referenceOf, wholeOf, realOf, anyRealOf, realBy};
-ghost use Rattle.scalars.specs.Scalars.{nextOf, optionOf, measureBy, measureOf, truthOf};
+ghost use Rattle.reals.specs.Scalar.{referenceOf, wholeOf, realOf, anyRealOf};
+ghost use Rattle.reals.specs.Which.{realBy};
+ghost use Rattle.scalars.specs.Scalars.{optionOf, measureBy, measureOf, truthOf};
+ghost use Rattle.scalars.specs.Answer.{nextOf};
 ghost use Rattle.plain.specs.Answers.{Leaves, readValue};
 ghost use Rattle.export_args.specs.Values.{givenValue, givenSet, logicalNumber};
 use params::State;

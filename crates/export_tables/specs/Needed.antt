@@ -1,12 +1,12 @@
 -- What a file needs, as plain numbers.
 -- Assumes nothing.
+-- Definitions to be believed: no law, and nothing computed that no theorem ties (docs/BELIEVE.md).
 use Prim.Native.Nat.{ℕ, _≤_, _<_}
-use mathlib.Core.Path.{_≡_, sym, _∙_}
+use mathlib.Core.Path.{_≡_}
 use mathlib.Core.List.{List, [], _∷_}
-use native.Mathlib.Omega.{arith}
 use lib.ListN.{length}
 use lib.Seq.{sets}
-use Rattle.error.specs.Refusal.{Refusal, Told, good, bad}
+use Rattle.error.specs.Refusal.{Told, good, bad}
 use Rattle.needs.specs.declared.Needs.{Needs}
 use Rattle.needs.specs.Needs.{needsOf}
 use Rattle.plain.specs.Answers.{readCode, readFault}
@@ -34,10 +34,3 @@ needsReason (bad q) old = q .reason
 pub data Needing (s needs : List ℕ) (reason fault code : ℕ) (needs′ : List ℕ) (reason′ fault′ : ℕ) : Type 0 where
   short : length needs < needsRoom → code ≡ 16 → needs′ ≡ needs → reason′ ≡ reason → fault′ ≡ fault → Needing s needs reason fault code needs′ reason′ fault′
   told : needsRoom ≤ length needs → code ≡ readCode (needsOf s) → needs′ ≡ needsAfter (needsOf s) needs → reason′ ≡ needsReason (needsOf s) reason → fault′ ≡ readFault (needsOf s) fault → Needing s needs reason fault code needs′ reason′ fault′
-
--- "that two allowed answers coincide is proved"
-pub needing-only : {s needs : List ℕ} {reason fault m n : ℕ} {a b : List ℕ} {x y f g : ℕ} → Needing s needs reason fault m a x f → Needing s needs reason fault n b y g → (m ≡ n) × (a ≡ b) × (x ≡ y) × (f ≡ g)
-needing-only (Needing.short k c d e h) (Needing.short l i j o p) = (c ∙ sym i, d ∙ sym j, e ∙ sym o, h ∙ sym p)
-needing-only (Needing.short k c d e h) (Needing.told l i j o p) = absurd (omega arith)
-needing-only (Needing.told k c d e h) (Needing.short l i j o p) = absurd (omega arith)
-needing-only (Needing.told k c d e h) (Needing.told l i j o p) = (c ∙ sym i, d ∙ sym j, e ∙ sym o, h ∙ sym p)

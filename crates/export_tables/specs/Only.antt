@@ -12,6 +12,7 @@ use Rattle.store.specs.declared.Opened.{Opened}
 use Rattle.plain.specs.Answers.{readCode, readFault}
 use Rattle.export_tables.specs.Tables.{readReason, openTables, Host}
 use Rattle.export_tables.specs.Tables.Host.{short, opened}
+use Rattle.export_tables.specs.Needed.{Needing}
 
 -- `hooflift_open`
 pub host-only : {s heads rows slots tables : List ℕ} {reason fault m n : ℕ} {ha hb ra rb xa xb ta tb : List ℕ} {ya yb fa fb : ℕ}
@@ -31,3 +32,10 @@ host-only {s} {heads} {rows} {slots} {tables} {reason} {fault} {ha} {hb} {ra} {r
       d ∙ ap (λ (z : Opened). readReason (toldOpened z) reason) v ∙ sym o,
       e ∙ ap (λ (z : Opened). readFault (toldOpened z) fault) v ∙ sym p,
     )
+
+-- "that two allowed answers coincide is proved"
+pub needing-only : {s needs : List ℕ} {reason fault m n : ℕ} {a b : List ℕ} {x y f g : ℕ} → Needing s needs reason fault m a x f → Needing s needs reason fault n b y g → (m ≡ n) × (a ≡ b) × (x ≡ y) × (f ≡ g)
+needing-only (Needing.short k c d e h) (Needing.short l i j o p) = (c ∙ sym i, d ∙ sym j, e ∙ sym o, h ∙ sym p)
+needing-only (Needing.short k c d e h) (Needing.told l i j o p) = absurd (omega arith)
+needing-only (Needing.told k c d e h) (Needing.short l i j o p) = absurd (omega arith)
+needing-only (Needing.told k c d e h) (Needing.told l i j o p) = (c ∙ sym i, d ∙ sym j, e ∙ sym o, h ∙ sym p)

@@ -1,12 +1,13 @@
 -- The units of a context that a host names by its row.
 -- Assumes nothing.
+-- Definitions to be believed: no law, and nothing computed that no theorem ties (docs/BELIEVE.md).
 use mathlib.Core.List.{List}
 use mathlib.Core.Option.{Option, none, some}
 use Prim.Native.Nat.{ℕ}
 use Rattle.error.specs.Refusal.{Told, good}
 use Rattle.statement.specs.Rows.{Row}
 use Rattle.statement.specs.Row.{mapped}
-use Rattle.params.specs.Reader.{onward}
+use Rattle.params.specs.Answer.{onward}
 use Rattle.factors.specs.Thing.{Thing, thingOf}
 use Rattle.units.specs.Units.{Units, contextOf}
 

@@ -1,7 +1,8 @@
 // The parts of a complex record.
 ghost use mathlib.Core.Path.{_≡_};
 ghost use lib.ListN.{length};
-ghost use Rattle.parts.specs.Part.{toldNext, nextOf, partOf};
+ghost use Rattle.parts.specs.Rules.{toldNext};
+ghost use Rattle.parts.specs.Part.{nextOf, partOf};
 ghost use Rattle.table.specs.Table.{headerWidth, four};
 ghost use Rattle.plain.specs.Answers.{readFault};
 ghost use Rattle.plain.specs.Numbers.{outCode, outAfter, kindBy};

@@ -1,8 +1,6 @@
--- What the code's answers say. Assumes nothing.
+-- What the code's own answers say, those of its private functions. Assumes nothing.
 use Prim.Native.Nat.{ℕ, _-_}
 use mathlib.Core.List.{List, []}
-use mathlib.Core.Option.{Option, none, some}
-use lib.Ieee.{binary64, toBits}
 use Rattle.common.specs.Pick.{pick}
 use Rattle.error.specs.Refusal.{Told, good, bad, told}
 use mathlib.Core.Bool.{Bool, true, _&&_}
@@ -10,25 +8,11 @@ use lib.Dec.{leb}
 use lib.ListN.{length, take, drop}
 use Rattle.record.specs.Word.{isWord}
 use Rattle.words.specs.declared.NextName as NextNameCode
-use Rattle.params.specs.Reader.{Span, span}
 use Rattle.factors.specs.Thing.{goodBy}
 use Rattle.factors.specs.Factor.{Chain, known, leads}
+use Rattle.factors.specs.Answer.{toldFactor}
 use Rattle.factors.specs.declared.Link as LinkCode
-use Rattle.factors.specs.declared.Run as RunCode
-use Rattle.factors.specs.declared.Factor as FactorCode
 use Rattle.factors.specs.declared.Named as NamedCode
-
--- arguments, none, or a refusal
-abbrev pub toldRun : RunCode.Run → Told (Option Span)
-toldRun (RunCode.the-variants.Args a z) = good (some (span a z))
-toldRun RunCode.the-variants.Nothing = good none
-toldRun (RunCode.the-variants.Refused f) = bad (told f)
-
--- a factor by its bits, none, or a refusal
-abbrev pub toldFactor : FactorCode.Factor → Told (Option ℕ)
-toldFactor (FactorCode.the-variants.Is x) = good (some (toBits binary64 x))
-toldFactor FactorCode.the-variants.Nothing = good none
-toldFactor (FactorCode.the-variants.Refused f) = bad (told f)
 
 -- an id, or a refusal
 abbrev pub toldId : NamedCode.Named → Told ℕ

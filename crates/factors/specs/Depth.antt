@@ -17,20 +17,24 @@ use Rattle.statement.specs.Rows.{Row, HeaderRow}
 use Rattle.kinds.specs.declared.Kind.{Kind}
 use Rattle.kinds.specs.declared.Kind.the-variants.{SiUnit, LengthMeasureWithUnit}
 use Rattle.kinds.specs.declared.Kind.the-variants as Kinds
-use Rattle.reals.specs.Scalar.{Answer, referenceOf}
+use Rattle.reals.specs.Scalar.{referenceOf}
+use Rattle.reals.specs.Answer.{Answer}
 use Rattle.reals.specs.Form.{ReferenceForm}
 use Rattle.reals.specs.WholeRight.{reference-is}
-use Rattle.params.specs.Reader.{Read, Span, onward, paramOf, skipOf}
+use Rattle.params.specs.Reader.{paramOf}
+use Rattle.params.specs.Skips.{skipOf}
+use Rattle.params.specs.Answer.{Read, Span, onward}
 use Rattle.params.specs.Rules.{NextForm}
 use Rattle.params.specs.RulesRight.{next-is}
-use Rattle.scalars.specs.Scalars.{nextOf, answered, scalarAt}
+use Rattle.scalars.specs.Answer.{nextOf, answered, scalarAt}
 use Rattle.parts.specs.Part.{partsOf}
 use Rattle.parts.specs.Places.{FaultIn, AnswerIn, AllIn, parts-placed}
 use Rattle.index.specs.Search.{searched}
 use Rattle.index.specs.declared.Ids.{Ids}
 use Rattle.lookup.specs.Lookup.{spanFine, rowFound, rowFor}
 use Rattle.factors.specs.Thing.{goodBy, sameKind, Piece, pieceOf, Thing, piecesOf, thingAt, thingOf, thingFound, findOf, firstPiece, selfOr}
-use Rattle.factors.specs.Factor.{measureRef, scaledBy, measureRun, lengthOf}
+use Rattle.factors.specs.Factor.{lengthOf}
+use Rattle.factors.specs.Unit.{measureRef, scaledBy, measureRun}
 use Rattle.factors.specs.Rules.{Based, ends, base, MeasureForm, LengthForm, Follows}
 use Rattle.factors.specs.RulesRight.{length-form-only, length-form-is}
 

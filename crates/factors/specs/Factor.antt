@@ -1,61 +1,18 @@
 -- Document 01, 'Units': the factor of a length unit and of an angle unit, as the pattern of an f64; none where it gives no factor; or
 -- what refuses the whole answer. `find` gives the record of an id, or none. Assumes nothing.
 use Prim.Native.Nat.{ℕ, zero, suc}
-use Prim.Native.String.{String}
-use mathlib.Core.List.{List, []}
+use mathlib.Core.List.{List}
 use mathlib.Core.Option.{Option, none, some}
 use lib.Dec.{eqb}
 use Rattle.common.specs.Pick.{pick}
 use Rattle.error.specs.Refusal.{refusal, Told, good, bad}
-use Rattle.record.specs.Word.{isWord}
-use Rattle.record.specs.Form.{bytes}
-use Rattle.nearest.specs.Product.{product}
 use Rattle.reals.specs.Scalar.{referenceOf}
-use Rattle.prefixes.specs.Prefix.{factorOf, lengthFactorOf}
-use Rattle.kinds.specs.declared.Kind.the-variants.{SiUnit, ConversionBasedUnit, LengthMeasureWithUnit, Complex}
-use Rattle.params.specs.Reader.{Read, Span, mapped, onward, paramOf, skipOf}
-use Rattle.scalars.specs.Scalars.{nextOf, measureOf}
-use Rattle.words.specs.Words.{partOf, nameAt}
-use Rattle.factors.specs.Thing.{goodBy, sameKind, Thing, firstPiece, selfOr}
-
--- a name that reads, by its bytes; `other` for one that is unreadable
-abbrev pub nameOr : List ℕ → List ℕ → Told Span → List ℕ
-nameOr other s (good a) = partOf s a
-nameOr other s (bad q) = other
-
--- the next parameter, read as a name
-abbrev pub nextName : List ℕ → ℕ → ℕ → Read Span
-nextName s p e = mapped (nameAt s) (paramOf s p e)
-
--- "an unreadable prefix is none": the first parameter
-abbrev pub prefixIn : List ℕ → Span → List ℕ
-prefixIn s r = nameOr [] s (nextName s (r .start) (r .stop) .answer)
-
--- "an unreadable name METRE or RADIAN": the second parameter, from where the reader stands after the first
-abbrev pub unitIn : String → List ℕ → Span → List ℕ
-unitIn other s r = nameOr (bytes other) s (nextName s (nextName s (r .start) (r .stop) .place) (r .stop) .answer)
-
--- "another name no factor; all in either case"
-abbrev pub named : String → List ℕ → Span → ℕ → Option ℕ
-named name s r f = pick (isWord (unitIn name s r) (bytes name)) (some f) none
-
--- "Length in mm: 1000.0 times the prefix factor, one rounding."
-unfoldable pub siLength : List ℕ → Span → Option ℕ
-siLength s r = named "METRE" s r (lengthFactorOf (prefixIn s r))
-
--- "Angle: the prefix factor."
-unfoldable pub siAngle : List ℕ → Span → Option ℕ
-siAngle s r = named "RADIAN" s r (factorOf (prefixIn s r))
-
--- "An unreadable [..] conversion name or measure reference [..] refuses the whole answer": the measure's reference in the arguments of a
--- conversion unit, behind its name, which is unreadable where it cannot be skipped
-unfoldable pub measureRef : List ℕ → Span → Told ℕ
-measureRef s r = onward (λ u. nextOf referenceOf s (skipOf s (r .start) (r .stop) .place) (r .stop) .answer) (skipOf s (r .start) (r .stop) .answer)
-
--- an option taken apart
-abbrev pub optionBy : {A B : Type 0} → B → (A → B) → Option A → B
-optionBy other k none = other
-optionBy other k (some a) = k a
+use Rattle.kinds.specs.declared.Kind.the-variants.{SiUnit, ConversionBasedUnit}
+use Rattle.params.specs.Answer.{Span, onward}
+use Rattle.scalars.specs.Scalars.{measureOf}
+use Rattle.scalars.specs.Answer.{nextOf}
+use Rattle.factors.specs.Thing.{goodBy, Thing, selfOr}
+use Rattle.factors.specs.Unit.{siLength, siAngle, measureRef, optionBy, scaledBy, measureRun}
 
 -- an unreadable number "gives no factor", but "13 inside units refuses the whole answer"
 abbrev pub unreadOf : Told ℕ → Told (Option ℕ)
@@ -71,14 +28,6 @@ readOr (bad q) k = unreadOf (bad q)
 abbrev pub orNone : Told ℕ → (ℕ → Told (Option ℕ)) → Told (Option ℕ)
 orNone (good v) k = k v
 orNone (bad q) k = good none
-
--- "value times base factor", where the base has one
-abbrev pub scaledBy : ℕ → Told (Option ℕ) → Told (Option ℕ)
-scaledBy v a = goodBy (optionBy none (λ f. some (product v f))) a
-
--- the measure's arguments: "a complex length measure lacking a LENGTH_MEASURE_WITH_UNIT part" has none; any simple record has its own
-abbrev pub measureRun : Thing → Told (Option Span)
-measureRun t = pick (sameKind (t .kind) Complex) (goodBy (firstPiece LengthMeasureWithUnit) (t .parts)) (good (some (t .run)))
 
 -- one unit of a chain: its factor, or the measure that it leads to
 pub data Chain : Type 0 where

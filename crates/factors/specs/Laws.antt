@@ -16,7 +16,8 @@ use Rattle.record.specs.Turns.{bounds}
 use Rattle.record.specs.Word.{same, isWord}
 use Rattle.record.specs.Form.{bytes}
 use Rattle.statement.specs.Rows.{Row, HeaderRow}
-use Rattle.kinds.specs.Kind.{kindOf, rankOf, Named, KindForm, kind-is}
+use Rattle.kinds.specs.Kind.{kindOf, kind-is}
+use Rattle.kinds.specs.Rules.{rankOf, Named, KindForm}
 use Rattle.kinds.specs.declared.Kind.{Kind}
 use Rattle.kinds.specs.declared.Kind.the-variants.{
   GeometricRepresentationContext,
@@ -32,21 +33,28 @@ use Rattle.kinds.specs.declared.Kind.the-variants.{
   Complex,
   Other,
 }
-use Rattle.params.specs.Cut.{Cut, cut, unclosed, cutOf, started}
-use Rattle.params.specs.Reader.{Read, reading, Span, span, inFile, bounded, begun, onward, paramOf, skipOf}
-use Rattle.scalars.specs.Scalars.{nextOf, measureOf}
-use Rattle.reals.specs.Scalar.{Answer, referenceOf}
-use Rattle.prefixes.specs.Prefix.{factorOf, lengthFactorOf}
-use Rattle.words.specs.Words.{toldNextName}
+use Rattle.params.specs.Cut.{cutOf, started}
+use Rattle.params.specs.Answer.{Cut, cut, unclosed, Read, reading, Span, span, inFile, onward}
+use Rattle.params.specs.Reader.{bounded, begun, paramOf}
+use Rattle.params.specs.Skips.{skipOf}
+use Rattle.scalars.specs.Scalars.{measureOf}
+use Rattle.scalars.specs.Answer.{nextOf}
+use Rattle.reals.specs.Scalar.{referenceOf}
+use Rattle.reals.specs.Answer.{Answer}
+use Rattle.prefixes.specs.Prefix.{factorOf}
+use Rattle.prefixes.specs.Length.{lengthFactorOf}
+use Rattle.words.specs.Answer.{toldNextName}
 use Rattle.words.specs.Places.{SpanIn, ToldIn, name-in}
 use Rattle.words.specs.declared.NextName as NextNameCode
-use Rattle.parts.specs.Part.{partOf, partsOf, firstKind, isKind}
+use Rattle.parts.specs.Part.{partOf, partsOf, firstKind}
+use Rattle.parts.specs.Rules.{isKind}
 use Rattle.index.specs.Search.{searched}
 use Rattle.index.specs.declared.Ids.{Ids}
 use Rattle.lookup.specs.Lookup.{spanFine, spanIn, kindIn, rowFound, rowFor}
 use Rattle.lookup.specs.Lookup as Lookup
 use Rattle.factors.specs.Thing.{goodBy, sameKind, pieceOf, Thing, thingAt, thingOf, findOf, firstPiece, selfOr}
-use Rattle.factors.specs.Factor.{nameOr, nextName, prefixIn, unitIn, siLength, siAngle, measureRef, optionBy, unreadOf, readOr, scaledBy, measureRun, Chain, known, leads, conversionOf, unitBy, linkOf, chained, baseOf, measureAt, measureIn, lengthOf, numberIn, angleOf}
+use Rattle.factors.specs.Factor.{unreadOf, readOr, Chain, known, leads, conversionOf, unitBy, linkOf, chained, baseOf, measureAt, measureIn, lengthOf, numberIn, angleOf}
+use Rattle.factors.specs.Unit.{nameOr, nextName, prefixIn, unitIn, siLength, siAngle, measureRef, optionBy, scaledBy, measureRun}
 use Rattle.factors.specs.Code.{namedIn, isNamed}
 
 -- ---- a record's arguments

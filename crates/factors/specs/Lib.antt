@@ -1,6 +1,9 @@
 pub mod Each
+pub mod EachLaws
 pub mod Thing
+pub mod Unit
 pub mod Factor
+pub mod Answer
 pub mod Code
 pub mod Laws
 pub mod Rules

@@ -6,9 +6,10 @@ use mathlib.Core.Option.{Option, none, some}
 use lib.Dec.{T}
 use lib.Ieee.{binary64, ofBits, fits}
 use lib.Ieee.Bits.{ofBits-toBits}
-use Rattle.error.specs.Refusal.{Told, good, bad, faultOf, faultOf-told}
-use Rattle.params.specs.Reader.{Span}
-use Rattle.factors.specs.Code.{toldRun, toldFactor}
+use Rattle.error.specs.Refusal.{Told, good, bad}
+use Rattle.error.specs.Only.{faultOf, faultOf-told}
+use Rattle.params.specs.Answer.{Span}
+use Rattle.factors.specs.Answer.{toldRun, toldFactor}
 use Rattle.factors.specs.declared.Run as RunCode
 use Rattle.factors.specs.declared.Factor as FactorCode
 

@@ -15,9 +15,11 @@ use Rattle.statement.specs.Rows.{Row}
 use Rattle.kinds.specs.declared.Kind.{Kind}
 use Rattle.kinds.specs.declared.Kind.the-variants.{SiUnit, ConversionBasedUnit, LengthMeasureWithUnit}
 use Rattle.kinds.specs.declared.Kind.the-variants as Kinds
-use Rattle.params.specs.Reader.{Span, onward, skipOf}
+use Rattle.params.specs.Skips.{skipOf}
+use Rattle.params.specs.Answer.{Span, onward}
 use Rattle.params.specs.Places.{PlacedIn, skip-placed}
-use Rattle.scalars.specs.Scalars.{nextOf, measureOf}
+use Rattle.scalars.specs.Scalars.{measureOf}
+use Rattle.scalars.specs.Answer.{nextOf}
 use Rattle.scalars.specs.Places.{next-placed}
 use Rattle.reals.specs.Scalar.{referenceOf}
 use Rattle.words.specs.Places.{ToldIn}
@@ -28,14 +30,8 @@ use Rattle.index.specs.declared.Ids.{Ids}
 use Rattle.lookup.specs.Lookup.{spanFine, rowFound, rowFor}
 use Rattle.factors.specs.Thing.{goodBy, sameKind, pieceOf, Thing, thingAt, thingOf, thingFound, findOf, firstPiece, selfOr}
 use Rattle.factors.specs.Factor.{
-  siLength,
-  siAngle,
-  measureRef,
-  optionBy,
   readOr,
   orNone,
-  scaledBy,
-  measureRun,
   Chain,
   known,
   leads,
@@ -49,6 +45,14 @@ use Rattle.factors.specs.Factor.{
   lengthOf,
   numberIn,
   angleOf,
+}
+use Rattle.factors.specs.Unit.{
+  siLength,
+  siAngle,
+  measureRef,
+  optionBy,
+  scaledBy,
+  measureRun,
 }
 
 -- ---- the parts of a complex record

@@ -1,6 +1,7 @@
 -- Document 01, 'Units': the factor of a length unit and of an angle unit as rules that name no loop. A rule speaks of one unit, of the
 -- measure that it leads to, or of that measure's base unit. `find` gives the record of an id, or none. RulesRight.antt shows that
 -- Factor.antt computes just this, and that there is no other answer; Depth.antt, where 15 is given. Assumes nothing.
+-- Definitions to be believed: no law, and nothing computed that no theorem ties (docs/BELIEVE.md).
 use Prim.Native.Nat.{ℕ, zero, suc, _<_}
 use mathlib.Core.Path.{_≡_}
 use mathlib.Core.Bool.{true, false}
@@ -10,11 +11,12 @@ use Rattle.error.specs.Refusal.{Refusal, refusal, Told, good, bad}
 use Rattle.reals.specs.Scalar.{referenceOf}
 use Rattle.kinds.specs.declared.Kind.{Kind}
 use Rattle.kinds.specs.declared.Kind.the-variants.{SiUnit, ConversionBasedUnit}
-use Rattle.params.specs.Reader.{Span}
-use Rattle.scalars.specs.Scalars.{nextOf, measureOf}
+use Rattle.params.specs.Answer.{Span}
+use Rattle.scalars.specs.Scalars.{measureOf}
+use Rattle.scalars.specs.Answer.{nextOf}
 use Rattle.factors.specs.Each.{Each, IsFirst}
 use Rattle.factors.specs.Thing.{sameKind, Piece, Thing, selfOr}
-use Rattle.factors.specs.Factor.{siLength, siAngle, measureRef, scaledBy, measureRun}
+use Rattle.factors.specs.Unit.{siLength, siAngle, measureRef, scaledBy, measureRun}
 
 -- ---- the first part of a kind
 -- a part of a kind, and its arguments

@@ -14,10 +14,12 @@ use Rattle.error.specs.Refusal.{Refusal, refusal, Told, good, bad}
 use Rattle.record.specs.FormRight.Parts.{sole}
 use Rattle.kinds.specs.declared.Kind.{Kind}
 use Rattle.kinds.specs.declared.Kind.the-variants.{SiUnit, ConversionBasedUnit}
-use Rattle.params.specs.Reader.{Span}
-use Rattle.factors.specs.Each.{Each, IsFirst, first-comes, first-never, first-decides}
+use Rattle.params.specs.Answer.{Span}
+use Rattle.factors.specs.Each.{Each, IsFirst}
+use Rattle.factors.specs.EachLaws.{first-comes, first-never, first-decides}
 use Rattle.factors.specs.Thing.{goodBy, sameKind, Piece, Thing, firstPiece, selfOr}
-use Rattle.factors.specs.Factor.{siLength, measureRef, scaledBy, measureRun, leads, linkOf, measureIn, lengthOf, numberIn, angleOf}
+use Rattle.factors.specs.Factor.{leads, linkOf, measureIn, lengthOf, numberIn, angleOf}
+use Rattle.factors.specs.Unit.{siLength, measureRef, scaledBy, measureRun}
 use Rattle.factors.specs.Laws.{chain-known, chain-leads}
 use Rattle.factors.specs.Rules.{OfKind, PieceForm, Converts, numberAt, baseAt, Based, ends, base, Has, MeasureForm, LengthForm, AngleForm}
 

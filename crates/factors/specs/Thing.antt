@@ -1,5 +1,6 @@
 -- What the units see of a record: its kind, its arguments and, of a complex one, its parts or their fault; and the record of an id.
 -- Records, lookups and parts are those of the crates below. Assumes nothing.
+-- Definitions to be believed: no law, and nothing computed that no theorem ties (docs/BELIEVE.md).
 use Prim.Native.Nat.{ℕ}
 use mathlib.Core.Bool.{Bool}
 use mathlib.Core.List.{List, [], _∷_, map}
@@ -9,13 +10,12 @@ use lib.ListN.{length}
 use Rattle.common.specs.Pick.{pick}
 use Rattle.error.specs.Refusal.{refusal, Told, good, bad}
 use Rattle.statement.specs.Rows.{Row, HeaderRow}
-use Rattle.kinds.specs.Kind.{kindOf, rankOf}
+use Rattle.kinds.specs.Kind.{kindOf}
+use Rattle.kinds.specs.Rules.{rankOf}
 use Rattle.kinds.specs.declared.Kind.{Kind}
-use Rattle.params.specs.Reader.{Span, span}
+use Rattle.params.specs.Answer.{Span, span}
 use Rattle.parts.specs.Part.{partsOf}
-use Rattle.index.specs.Search.{searched}
-use Rattle.index.specs.declared.Ids.{Ids}
-use Rattle.lookup.specs.Lookup.{cut, spanFine, kindIn, rowFound}
+use Rattle.lookup.specs.Lookup.{cut, spanFine, kindIn}
 
 -- an answer that is good, by f
 abbrev pub goodBy : {A B : Type 0} → (A → B) → Told A → Told B

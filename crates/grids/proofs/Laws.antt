@@ -7,7 +7,7 @@ use native.Mathlib.Omega.{arith}
 use denote.Enum.Declared.{tagOf}
 use types.Run.{OneOf}
 use Rattle.error.specs.Refusal.{Refusal, bad}
-use Rattle.grids.specs.Grid.{toldReadGrid}
+use Rattle.grids.specs.Code.{toldReadGrid}
 use Rattle.grids.specs.declared.ReadGrid.{ReadGrid}
 use Rattle.grids.specs.declared.ReadGrid.the-variants.{Count, Wrong, Outside, Short}
 use Rattle.grids.proofs.ReadGrid.{the-type}

@@ -2,19 +2,19 @@
 -- 13, and 16 comes only if all read and either list is too short." A grid is a list whose items are lists (lists/specs/Items.antt), so
 -- a row that is no list is 12 at the row's start, and a bad item 12 or 13 at its own.
 -- Assumes nothing.
-use Prim.Native.Nat.{ℕ, _+_, _≤_}
-use mathlib.Core.Path.{_≡_}
+-- Definitions to be believed: no law, and nothing computed that no theorem ties (docs/BELIEVE.md).
+use Prim.Native.Nat.{ℕ, _+_}
 use mathlib.Core.Bool.{Bool, _&&_}
 use mathlib.Core.List.{List, [], _∷_, _++_}
 use lib.Dec.{leb}
 use lib.ListN.{length}
-use Rattle.error.specs.Refusal.{refusal, Told, good, bad, told}
-use Rattle.params.specs.Reader.{Read, reading, onward, mapped}
-use Rattle.reals.specs.Scalar.{Answer}
-use Rattle.lists.specs.Items.{Fate, fine, faulty, fated, listBy, listOf, kindOf, valuesOf}
+use Rattle.error.specs.Refusal.{Told, good, bad, told}
+use Rattle.params.specs.Answer.{Read, reading, onward, mapped}
+use Rattle.reals.specs.Answer.{Answer}
+use Rattle.lists.specs.Items.{listBy, listOf}
+use Rattle.lists.specs.Answer.{Fate, fine, faulty, fated, kindOf}
 use Rattle.lists.specs.declared.Kind.{Kind}
 use Rattle.grids.specs.declared.Tally as TallyCode
-use Rattle.grids.specs.declared.ReadGrid as ReadGridCode
 use Rattle.grids.specs.declared.NextGrid as NextGridCode
 
 -- a grid of scalars that f reads: a list of lists
@@ -52,10 +52,6 @@ sizeFits room ends s = leb (s .numbers) room && leb (s .rows) ends
 abbrev pub gridFits : {A : Type 0} → ℕ → ℕ → List (List A) → Bool
 gridFits room ends g = sizeFits room ends (sizeOf g)
 
--- the size of a grid that is read, or its refusal
-abbrev pub sizeTold : {A : Type 0} → Told (List (List A)) → Told Size
-sizeTold a = onward (λ g. good (sizeOf g)) a
-
 -- the answer's size
 abbrev pub howLarge : {A : Type 0} → Read (List (List A)) → Read Size
 howLarge a = mapped (λ g. good (sizeOf g)) a
@@ -88,21 +84,3 @@ abbrev pub toldTally : TallyCode.Tally → Fate Size
 toldTally (TallyCode.the-variants.All r n) = fine (size r n)
 toldTally (TallyCode.the-variants.Wrong o) = faulty 12 o
 toldTally (TallyCode.the-variants.Outside o) = faulty 13 o
-
--- what is read of a text: places are told from its start, and so 16 is at 0
-abbrev pub toldReadGrid : ReadGridCode.ReadGrid → Told Size
-toldReadGrid (ReadGridCode.the-variants.Count r n) = good (size r n)
-toldReadGrid (ReadGridCode.the-variants.Wrong o) = bad (refusal 12 0 o)
-toldReadGrid (ReadGridCode.the-variants.Outside o) = bad (refusal 13 0 o)
-toldReadGrid ReadGridCode.the-variants.Short = bad (refusal 16 0 0)
-
--- how far into the text the place of a grid's refusal is
-abbrev pub reachedIn : ReadGridCode.ReadGrid → ℕ
-reachedIn (ReadGridCode.the-variants.Count r n) = 0
-reachedIn (ReadGridCode.the-variants.Wrong o) = o
-reachedIn (ReadGridCode.the-variants.Outside o) = o
-reachedIn ReadGridCode.the-variants.Short = 0
-
--- a grid reads, and there is room for its numbers and its row ends
-abbrev pub GridReady : {A : Type 0} → Fate (List (List A)) → ℕ → ℕ → Type 0
-GridReady a room ends = (a ≡ fine (valuesOf a)) × (length (flat (valuesOf a)) ≤ room) × (length (valuesOf a) ≤ ends)

@@ -8,8 +8,9 @@ use lib.ListN.{length, take, drop, getD}
 use lib.Seq.{getD-drop, drop-cons, take-append-seam}
 use native.Mathlib.Numerals.{add-one}
 use Rattle.error.specs.Refusal.{Refusal, bad}
-use Rattle.reals.specs.Scalar.{Answer}
-use Rattle.lists.specs.Items.{listOf, asFate, nextBy}
+use Rattle.reals.specs.Answer.{Answer}
+use Rattle.lists.specs.Items.{listOf}
+use Rattle.lists.specs.Answer.{asFate, nextBy}
 use Rattle.lists.specs.Places.{list-inward, scalar-inward, next-placed}
 use Rattle.grids.specs.Grid.{gridOf, gridFits, flat, endsFrom}
 use Rattle.grids.specs.Rows.{numbers-left, ends-left, ends-length, more-numbers}

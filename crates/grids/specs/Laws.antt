@@ -8,8 +8,10 @@ use lib.Dec.{leb}
 use lib.ListN.{length, take, drop, length-append}
 use borrow.Author.Tests.{leb-true}
 use Rattle.error.specs.Refusal.{Refusal, Told, good, bad}
-use Rattle.params.specs.Reader.{reading, span, paramOf}
-use Rattle.lists.specs.Items.{Fate, fine, faulty, fated, mute, itemsFrom, listBy, kindOf, roomed, moved, nextBy, written, valuesOf, filled, ShapeAt}
+use Rattle.params.specs.Reader.{paramOf}
+use Rattle.params.specs.Answer.{reading, span}
+use Rattle.lists.specs.Items.{itemsFrom, listBy, moved, filled, ShapeAt}
+use Rattle.lists.specs.Answer.{Fate, fine, faulty, fated, mute, kindOf, roomed, nextBy, written, valuesOf}
 use Rattle.lists.specs.Laws.{tally, list-blank, shape-blank}
 use Rattle.lists.specs.ReadLaws.{fills-none, fills-full, list-map, count-mute, roomed-told, roomed-good, onward-bad, moved-told, moved-written, next-uncut, next-cut}
 use Rattle.lists.specs.Places.{Inward, placeOf, list-inward, roomed-inward, told-inward, told-place, kind-inward, items-inward}
@@ -18,7 +20,8 @@ use Rattle.lists.specs.declared.Shape.{Shape}
 use Rattle.lists.specs.declared.Shape.the-variants.{NotList, Blank, Full}
 use Rattle.grids.specs.declared.ReadGrid.{ReadGrid}
 use Rattle.grids.specs.declared.ReadGrid.the-variants.{Count, Wrong, Outside, Short}
-use Rattle.grids.specs.Grid.{Size, size, sizeOf, sizeFits, gridFits, flat, endsFrom, sizeTold, howLarge, numbersOf, endsOf, addRow, rowOf, toldReadGrid, reachedIn, GridReady}
+use Rattle.grids.specs.Grid.{Size, size, sizeOf, sizeFits, gridFits, flat, endsFrom, howLarge, numbersOf, endsOf, addRow, rowOf}
+use Rattle.grids.specs.Code.{sizeTold, toldReadGrid, reachedIn, GridReady}
 
 -- rows taken in one after another, by their lengths
 tally-rows : {A : Type 0} (s : Size) (g : List (List A)) → tally addRow s (map length g) ≡ size (s .rows + length g) (s .numbers + length (flat g))

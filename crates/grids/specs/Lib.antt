@@ -1,4 +1,5 @@
 pub mod Grid
+pub mod Code
 pub mod Laws
 pub mod Rows
 pub mod GridRight

@@ -3,10 +3,11 @@
 use Prim.Native.Nat.{ℕ}
 use mathlib.Core.Path.{_≡_, refl, sym, _∙_, ap}
 use Rattle.common.specs.Pick.{pick}
-use Rattle.error.specs.Refusal.{Told, good, bad, faultOf, faultOf-told}
+use Rattle.error.specs.Refusal.{Told, good, bad}
+use Rattle.error.specs.Only.{faultOf, faultOf-told}
 use lib.Dec.{eqb}
-use Rattle.params.specs.Reader.{Read}
-use Rattle.lists.specs.Items.{Fate, fine, faulty}
+use Rattle.params.specs.Answer.{Read}
+use Rattle.lists.specs.Answer.{Fate, fine, faulty}
 use Rattle.grids.specs.declared.Tally.{Tally}
 use Rattle.grids.specs.declared.Tally.the-variants as counted
 use Rattle.grids.specs.declared.NextGrid.{NextGrid}

@@ -9,11 +9,13 @@ use lib.Seq.{length-take-le, drop-length, drop-drop, take-add, take-length, take
 use borrow.Author.Tests.{le-leb}
 use Rattle.error.specs.Refusal.{Told, good}
 use Rattle.lists.specs.declared.Item.{Item}
-use Rattle.lists.specs.Items.{Fate, fine, faulty, itemsFrom, listBy, roomed, fitsIn, countOf, written, ItemAt, valuesOf, filled}
+use Rattle.lists.specs.Items.{itemsFrom, listBy, ItemAt, filled}
+use Rattle.lists.specs.Answer.{Fate, fine, faulty, roomed, fitsIn, countOf, written, valuesOf}
 use Rattle.lists.specs.Laws.{item-in}
 use Rattle.lists.specs.Keep.{map-take, map-drop}
 use Rattle.lists.specs.Fill.{fill-bad, fill-last, fill-more, fill-head, fill-store, fill-ends}
-use Rattle.grids.specs.Grid.{flat, endsFrom, GridReady}
+use Rattle.grids.specs.Grid.{flat, endsFrom}
+use Rattle.grids.specs.Code.{GridReady}
 
 module _ {A : Type 0} where
   -- rows and more rows

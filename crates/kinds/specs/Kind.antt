@@ -1,7 +1,6 @@
--- The kinds of records that the units need, by their keywords.
+-- The kind of a keyword, computed; Rules.antt has the kinds and their names.
 -- Assumes nothing.
 use Prim.Native.Nat.{ℕ}
-use Prim.Native.String.{String}
 use mathlib.Core.Path.{_≡_, refl, sym, _∙_, ap, subst}
 use mathlib.Core.Bool.{Bool, true, false, _&&_}
 use mathlib.Core.List.{List, [], _∷_, map}
@@ -13,6 +12,7 @@ use Rattle.common.specs.Pick.{pick}
 use Rattle.common.specs.Compare.{clash}
 use Rattle.record.specs.Word.{upper, same, isWord}
 use Rattle.record.specs.Form.{bytes, Spelt}
+use Rattle.kinds.specs.Rules.{nameOf, Named, KindForm, spelt, other, rankOf}
 use Rattle.kinds.specs.declared.Kind.{Kind}
 use Rattle.kinds.specs.declared.Kind.the-variants.{
   GeometricRepresentationContext,
@@ -29,21 +29,6 @@ use Rattle.kinds.specs.declared.Kind.the-variants.{
   Other,
 }
 
--- the keyword of a kind, in capitals; `(complex)` for a complex record, and none for the others
-abbrev pub nameOf : Kind → String
-nameOf GeometricRepresentationContext = "GEOMETRIC_REPRESENTATION_CONTEXT"
-nameOf GlobalUnitAssignedContext = "GLOBAL_UNIT_ASSIGNED_CONTEXT"
-nameOf GlobalUncertaintyAssignedContext = "GLOBAL_UNCERTAINTY_ASSIGNED_CONTEXT"
-nameOf LengthUnit = "LENGTH_UNIT"
-nameOf PlaneAngleUnit = "PLANE_ANGLE_UNIT"
-nameOf SolidAngleUnit = "SOLID_ANGLE_UNIT"
-nameOf SiUnit = "SI_UNIT"
-nameOf ConversionBasedUnit = "CONVERSION_BASED_UNIT"
-nameOf UncertaintyMeasureWithUnit = "UNCERTAINTY_MEASURE_WITH_UNIT"
-nameOf LengthMeasureWithUnit = "LENGTH_MEASURE_WITH_UNIT"
-nameOf Complex = "(complex)"
-nameOf Other = ""
-
 -- the ten kinds that have a keyword
 abbrev pub named : List Kind
 named = GeometricRepresentationContext ∷ GlobalUnitAssignedContext ∷ GlobalUncertaintyAssignedContext ∷ LengthUnit ∷ PlaneAngleUnit ∷ SolidAngleUnit ∷ SiUnit ∷ ConversionBasedUnit ∷ UncertaintyMeasureWithUnit ∷ LengthMeasureWithUnit ∷ []
@@ -56,41 +41,6 @@ kindIn (k ∷ ks) t = pick (isWord t (bytes (nameOf k))) k (kindIn ks t)
 -- the kind of a keyword
 unfoldable pub kindOf : List ℕ → Kind
 kindOf t = kindIn named t
-
--- one of the ten
-abbrev pub Named : Kind → Type 0
-Named GeometricRepresentationContext = Unit {0}
-Named GlobalUnitAssignedContext = Unit {0}
-Named GlobalUncertaintyAssignedContext = Unit {0}
-Named LengthUnit = Unit {0}
-Named PlaneAngleUnit = Unit {0}
-Named SolidAngleUnit = Unit {0}
-Named SiUnit = Unit {0}
-Named ConversionBasedUnit = Unit {0}
-Named UncertaintyMeasureWithUnit = Unit {0}
-Named LengthMeasureWithUnit = Unit {0}
-Named Complex = ⊥
-Named Other = ⊥
-
--- the kind of a keyword without a search: the one of the ten whose name it is, letters in either case; "all others are `Other`"
-pub data KindForm (t : List ℕ) : Kind → Type 0 where
-  spelt : (k : Kind) → Named k → Spelt t (nameOf k) → KindForm t k
-  other : ((k : Kind) → Named k → Spelt t (nameOf k) → ⊥) → KindForm t Other
-
--- a kind's place in the list of kinds
-abbrev pub rankOf : Kind → ℕ
-rankOf GeometricRepresentationContext = 0
-rankOf GlobalUnitAssignedContext = 1
-rankOf GlobalUncertaintyAssignedContext = 2
-rankOf LengthUnit = 3
-rankOf PlaneAngleUnit = 4
-rankOf SolidAngleUnit = 5
-rankOf SiUnit = 6
-rankOf ConversionBasedUnit = 7
-rankOf UncertaintyMeasureWithUnit = 8
-rankOf LengthMeasureWithUnit = 9
-rankOf Complex = 10
-rankOf Other = 11
 
 -- the kind at a place
 kindAt : ℕ → Kind

@@ -1,3 +1,4 @@
+pub mod Rules
 pub mod Kind
 pub mod Words
 pub mod Name

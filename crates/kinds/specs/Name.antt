@@ -1,4 +1,4 @@
--- A kind's name in lent memory, and that it is the kind's own.
+-- A kind's name in lent memory is the kind's own.
 -- Assumes nothing.
 use Prim.Native.Nat.{ℕ, suc, _+_, _-_, _≤_, _<_}
 use mathlib.Core.Path.{_≡_, refl, sym, _∙_, ap, subst}
@@ -10,12 +10,12 @@ use lib.Dec.{leb, lit≤}
 use lib.ListN.{length, getD, take, drop, set}
 use lib.Seq.{drop-cons, set-at, take-suc, length-take-le, take-length, take-append-seam}
 use borrow.Author.Tests.{le-leb}
-use Rattle.common.specs.Pick.{pick}
-use Rattle.error.specs.Refusal.{refusal, Told, good, bad}
+use Rattle.error.specs.Refusal.{Told, good, bad}
 use Rattle.record.specs.Form.{bytes, Spelt}
 use Rattle.record.specs.Word.{same}
-use Rattle.kinds.specs.Kind.{nameOf, rankOf, Named, kindOf, kind-only}
-use Rattle.kinds.specs.Kind.KindForm.{spelt}
+use Rattle.kinds.specs.Kind.{kindOf, kind-only}
+use Rattle.kinds.specs.Rules.{nameOf, rankOf, Named, toldName, nameIn, nameAfter}
+use Rattle.kinds.specs.Rules.KindForm.{spelt}
 use Rattle.kinds.specs.declared.Kind.{Kind}
 use Rattle.kinds.specs.declared.Kind.the-variants.{
   GeometricRepresentationContext,
@@ -33,19 +33,6 @@ use Rattle.kinds.specs.declared.Kind.the-variants.{
 }
 use Rattle.kinds.specs.declared.Name.{Name}
 use Rattle.kinds.specs.declared.Name.the-variants.{Bytes, Short}
-
--- what the code's answer says: how many bytes; "16 output too short", at 0, since no parameter is read
-abbrev pub toldName : Name → Told ℕ
-toldName (Bytes n) = good n
-toldName Short = bad (refusal 16 0 0)
-
--- how many bytes a name takes in this room; "16 output too short"
-abbrev pub nameIn : List ℕ → List ℕ → Told ℕ
-nameIn name out = pick (leb (length name) (length out)) (good (length name)) (bad (refusal 16 0 0))
-
--- the room with the name at its start and its other bytes as they were; all as it was where there is no room for it
-abbrev pub nameAfter : List ℕ → List ℕ → List ℕ
-nameAfter name out = pick (leb (length name) (length out)) (name ++ drop (length name) out) out
 
 -- a name is its own keyword, letters being capitals
 name-spelt : (k : Kind) → Named k → Spelt (bytes (nameOf k)) (nameOf k)

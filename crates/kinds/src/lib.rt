@@ -7,8 +7,8 @@ ghost use mathlib.Core.List.{map};
 ghost use lib.Dec.{eqb};
 ghost use Rattle.record.specs.Form.{bytes};
 ghost use Rattle.record.specs.Word.{same, upper};
-ghost use Rattle.kinds.specs.Kind.{kindOf, nameOf, rankOf};
-ghost use Rattle.kinds.specs.Name.{toldName, nameIn, nameAfter};
+ghost use Rattle.kinds.specs.Kind.{kindOf};
+ghost use Rattle.kinds.specs.Rules.{nameOf, rankOf, toldName, nameIn, nameAfter};
 
 pub enum Kind {
     GeometricRepresentationContext,

@@ -1,70 +1,30 @@
--- The greatest text, list and grid of a record without a walk: no parameter that a reader of its arguments finds has more, and one has just
--- so much. With the proof that Lengths.antt computes just this, and that there is no other number.
+-- The greatest text, list and grid of a record: Lengths.antt computes just what Rules.antt says, and there is no other number.
 -- Assumes nothing.
 use Prim.Native.Nat.{ℕ, zero, suc, _+_, _≤_, _<_, max}
-use mathlib.Core.Path.{_≡_, refl, sym, _∙_, ap, subst}
+use mathlib.Core.Path.{_≡_, refl, _∙_, ap, subst}
 use mathlib.Core.Bool.{Bool, true, false}
 use mathlib.Core.List.{List}
-use mathlib.Core.Logic.{_⊎_, inl, inr}
+use mathlib.Core.Logic.{inl, inr}
 use mathlib.Core.Option.{Option, none, some}
 use native.Mathlib.Omega.{arith}
-use borrow.Author.Tests.{leb-true, leb-false, eqb-true, eqb-false, eq-eqb, ne-eqb}
+use borrow.Author.Tests.{leb-true, leb-false, eqb-true, eq-eqb}
 use lib.Dec.{leb, eqb}
 use lib.ListN.{length}
 use Rattle.common.specs.Pick.{pick}
 use Rattle.error.specs.Refusal.{Told, good, bad}
 use Rattle.statement.specs.Rows.{HeaderRow}
-use Rattle.params.specs.Reader.{Span, paramOf}
+use Rattle.params.specs.Answer.{Span}
+use Rattle.params.specs.Reader.{paramOf}
 use Rattle.params.specs.Places.{param-past}
-use Rattle.words.specs.Words.{partOf}
+use Rattle.words.specs.Answer.{partOf}
 use Rattle.parts.specs.Part.{nextOf, PartIn}
 use Rattle.parts.specs.Places.{AnswerIn, SomeIn, next-placed}
 use Rattle.lengths.specs.declared.Sizes.{Sizes}
-use Rattle.lengths.specs.Lengths.{textLen, numbersLen, rowsLen, sizesOf, both, nothing, argsBy, argsFrom, argsOf, partsBy, partsFrom, partsOf, recordOf}
+use Rattle.lengths.specs.Lengths.{sizesOf, argsBy, argsFrom, argsOf, partsFrom, partsOf, recordOf}
+use Rattle.lengths.specs.Rules.{textLen, numbersLen, rowsLen, both, nothing, Passes, here, past, Param, Seeks, first, later, Part, Arg, Found, Greatest}
 use Rattle.lengths.specs.Laws.{after}
 
--- ---- what a reader finds
--- a reader that stood at p and reads up to e now stands at q, past n parameters
-pub data Passes (s : List ℕ) (e : ℕ) : ℕ → ℕ → ℕ → Type 0 where
-  here : {p : ℕ} → Passes s e 0 p p
-  past : {n p q : ℕ} (a : Span) → paramOf s p e .answer ≡ good a → Passes s e n (paramOf s p e .place) q → Passes s e (suc n) p q
-
--- t is a parameter of the arguments from p up to e: the argument reader comes to it
-pub record Param (s : List ℕ) (p e : ℕ) (t : List ℕ) : Type 0 where
-  pub count : ℕ
-  pub place : ℕ
-  pub passes : Passes s e count p place
-  pub span : Span
-  pub found : paramOf s place e .answer ≡ good span
-  pub text : partOf s span ≡ t
-
--- parts are sought from p up to e, and after n of them from q
-pub data Seeks (s : List ℕ) (e : ℕ) : ℕ → ℕ → ℕ → Type 0 where
-  first : {p : ℕ} → Seeks s e 0 p p
-  later : {n p q : ℕ} (w : HeaderRow) → nextOf s p e ≡ good (some w) → Seeks s e n (w .argEnd + 1) q → Seeks s e (suc n) p q
-
--- w is a part of a complex record whose arguments run from p up to e
-pub record Part (s : List ℕ) (p e : ℕ) (w : HeaderRow) : Type 0 where
-  pub count : ℕ
-  pub place : ℕ
-  pub seeks : Seeks s e count p place
-  pub found : nextOf s place e ≡ good (some w)
-
--- t is a parameter of a record: of its arguments as they stand, or of one of its parts where it is complex
-pub data Arg (s : List ℕ) (p e complex : ℕ) (t : List ℕ) : Type 0 where
-  plain : Param s p e t → Arg s p e complex t
-  inPart : complex ≡ 1 → (w : HeaderRow) → Part s p e w → Param s (w .argStart) (w .argEnd) t → Arg s p e complex t
-
 -- ---- the greatest
--- one of which P holds has just so much, or l is 0
-abbrev pub Found : (List ℕ → ℕ) → (List ℕ → Type 0) → ℕ → Type 0
-Found f P l = (l ≡ 0) ⊎ ((t : List ℕ) × P t × (f t ≡ l))
-
--- l is the greatest f of those of which P holds: none has more, and one has just so much
-pub record Greatest (P : List ℕ → Type 0) (f : List ℕ → ℕ) (l : ℕ) : Type 0 where
-  pub all : (t : List ℕ) → P t → f t ≤ l
-  pub one : Found f P l
-
 -- there is only one
 pub greatest-only : {P : List ℕ → Type 0} {f : List ℕ → ℕ} {l m : ℕ} → Greatest P f l → Greatest P f m → l ≡ m
 greatest-only {P} {f} {l} {m} a b = omega (arith, under l m (a .one) (b .all), under m l (b .one) (a .all))

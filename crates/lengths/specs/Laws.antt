@@ -10,17 +10,19 @@ use lib.ListN.{length, take, drop, getD}
 use Rattle.common.specs.Compare.{clash}
 use Rattle.error.specs.Refusal.{Refusal, Told, good, bad}
 use Rattle.statement.specs.Rows.{HeaderRow}
-use Rattle.strings.specs.Put.{most}
+use Rattle.strings.specs.Answer.{most}
 use Rattle.strings.specs.Text.{bytesOf}
-use Rattle.params.specs.Reader.{Read, reading, Span, paramOf}
+use Rattle.params.specs.Reader.{paramOf}
+use Rattle.params.specs.Answer.{Read, reading, Span}
 use Rattle.words.specs.Words.{isString}
 use Rattle.parts.specs.Part.{nextOf}
 use Rattle.parts.specs.Places.{AnswerIn, SomeIn, next-placed}
-use Rattle.lists.specs.Items.{Fate, fine, faulty, fated, listBy, valuesOf}
-use Rattle.lists.specs.Any.{anything}
+use Rattle.lists.specs.Items.{listBy}
+use Rattle.lists.specs.Answer.{Fate, fine, faulty, fated, valuesOf, anything}
 use Rattle.grids.specs.Grid.{Size, size, sizeOf, flat}
 use Rattle.lengths.specs.declared.Sizes.{Sizes}
-use Rattle.lengths.specs.Lengths.{textLen, itemsLen, numbersLen, rowsLen, rowsIn, sizes, sizesOf, both, nothing, argsBy, argsFrom, argsOf, partsBy, partsFrom, partsOf, recordOf, gridLen}
+use Rattle.lengths.specs.Lengths.{sizesOf, argsBy, argsFrom, argsOf, partsBy, partsFrom, partsOf, recordOf, gridLen}
+use Rattle.lengths.specs.Rules.{textLen, itemsLen, numbersLen, rowsLen, rowsIn, sizes, both, nothing}
 
 -- ---- texts
 -- one byte or none is no string

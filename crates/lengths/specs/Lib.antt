@@ -1,3 +1,4 @@
+pub mod Rules
 pub mod Lengths
 pub mod Laws
 pub mod Greatest

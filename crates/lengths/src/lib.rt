@@ -4,7 +4,8 @@
 // they read as.
 ghost use mathlib.Core.Path.{_≡_};
 ghost use Prim.Native.Nat.{max};
-ghost use Rattle.lengths.specs.Lengths.{textLen, itemsLen, gridLen, sizesOf, both, argsOf, partsOf, recordOf};
+ghost use Rattle.lengths.specs.Lengths.{gridLen, sizesOf, argsOf, partsOf, recordOf};
+ghost use Rattle.lengths.specs.Rules.{textLen, itemsLen, both};
 use grids::Tally;
 use lists::Counted;
 use lists::Kind;

@@ -8,7 +8,8 @@ use lib.ListN.{length, drop, length-drop, length-append}
 use lib.Seq.{drop-drop, drop-append-seam}
 use Rattle.error.specs.Refusal.{Refusal, refusal, Told, good, bad}
 use Rattle.lex.specs.Byte.{place}
-use Rattle.lex.specs.Search.{Sought, at, fault, trivia, recordEnd, placed}
+use Rattle.lex.specs.Search.{trivia, recordEnd}
+use Rattle.lex.specs.Answer.{Sought, at, fault, placed}
 use Rattle.lex.specs.Local.{end-local}
 use Rattle.lex.specs.Right.{trivia-local, end-is}
 

@@ -12,7 +12,8 @@ use Rattle.common.specs.Compare.{clash}
 use Rattle.error.specs.Refusal.{bad, told}
 use Rattle.lex.specs.Byte.{white}
 use Rattle.common.specs.Walk.{walk}
-use Rattle.lex.specs.Search.{Sought, at, fault, Look, halt, missed, trivia, placed}
+use Rattle.lex.specs.Search.{Look, halt, missed, trivia}
+use Rattle.lex.specs.Answer.{Sought, at, fault, placed}
 use Rattle.lex.specs.Local.{seek}
 use Rattle.lex.specs.Right.{past, past-start, blank-step, led-stops}
 use Rattle.lex.specs.Right.Steps.{plainly}

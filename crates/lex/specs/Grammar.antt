@@ -2,6 +2,7 @@
 -- a grammar that name no loop. A rule speaks of a list of bytes, xs, and of the rest that is left of it.
 -- Right.antt shows that the searches of Search.antt find just these, and that there is no other.
 -- Assumes nothing.
+-- Definitions to be believed: no law, and nothing computed that no theorem ties (docs/BELIEVE.md).
 use Prim.Native.Nat.{ℕ, suc}
 use mathlib.Core.Path.{_≡_}
 use mathlib.Core.Bool.{Bool, true, false}

@@ -4,7 +4,8 @@ use Prim.Native.Nat.{ℕ}
 use mathlib.Core.Path.{_≡_, refl, sym, _∙_}
 use mathlib.Core.List.{List, [], _∷_, _++_, append-assoc, append-nil, append-cancel-right}
 use Rattle.lex.specs.Grammar.{Closes}
-use Rattle.lex.specs.Search.{at, closing}
+use Rattle.lex.specs.Search.{closing}
+use Rattle.lex.specs.Answer.{at}
 use Rattle.lex.specs.Local.{closing-local}
 use Rattle.lex.specs.Right.{closing-only, closing-is}
 

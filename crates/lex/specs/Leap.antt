@@ -9,29 +9,18 @@ use native.Mathlib.Omega.{arith}
 use lib.Dec.{eqb, ltb}
 use lib.ListN.{length, drop, getD}
 use borrow.Author.Tests.{ne-eqb, eqb-false, ltb-true, ltb-false}
-use Rattle.common.specs.Pick.{pick}
 use Rattle.common.specs.Walk.{Turn, on, walk, walk-goes}
 use Rattle.lex.specs.Lexer.{calm, next}
-use Rattle.lex.specs.Search.{Sought, Seen, seen, Look, seekTurn}
+use Rattle.lex.specs.Search.{Seen, seen, Look, seekTurn}
+use Rattle.lex.specs.Answer.{Sought, Lacks, Stopped}
 use Rattle.lex.specs.declared.Mode.{Mode}
 use Rattle.lex.specs.declared.Mode.the-variants.{Remark}
-
--- none of the bytes from i on and before r is b
-unfoldable pub Lacks : ℕ → List ℕ → ℕ → ℕ → Type 0
-Lacks b xs i r = (j : ℕ) → i ≤ j → j < r → getD xs j 0 ≡ b → ⊥
 
 -- r lies from i on and in the bytes, and none between is b
 pub record Without (b : ℕ) (xs : List ℕ) (i r : ℕ) : Type 0 where
   pub on : i ≤ r
   pub inside : r ≤ length xs
   pub lacks : Lacks b xs i r
-
--- r is the first place from i on and before the end that has b, or the end
-pub record Stopped (b : ℕ) (xs : List ℕ) (i end r : ℕ) : Type 0 where
-  pub on : i ≤ r
-  pub inside : r ≤ end
-  pub lacks : Lacks b xs i r
-  pub here : r < end → getD xs r 0 ≡ b
 
 -- a search in mode m that reads the bytes from i on and before r stays as it is
 pub record Leapt (m : Mode) (xs : List ℕ) (i r : ℕ) : Type 0 where

@@ -1,6 +1,8 @@
 pub mod Byte
+pub mod Place
 pub mod Lexer
 pub mod Leap
+pub mod Answer
 pub mod Search
 pub mod Seek
 pub mod Grammar

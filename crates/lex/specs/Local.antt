@@ -11,7 +11,8 @@ use Rattle.common.specs.Pick.{pick}
 use Rattle.lex.specs.Byte.{white}
 use Rattle.common.specs.Walk.{Turn, stop, on, turned, walk}
 use Rattle.lex.specs.Lexer.{calm, next}
-use Rattle.lex.specs.Search.{Sought, at, fault, Seen, seen, Look, halt, look, semicolon, paren, looked, seekTurn, unclosed, missed, recordEnd, closing, lead, triviaTurn, trailed, triviaEnd, trivia}
+use Rattle.lex.specs.Answer.{Sought, at, fault}
+use Rattle.lex.specs.Search.{Seen, seen, Look, halt, look, semicolon, paren, looked, seekTurn, unclosed, missed, recordEnd, closing, lead, triviaTurn, trailed, triviaEnd, trivia}
 use Rattle.lex.specs.declared.Mode.{Mode}
 use Rattle.lex.specs.declared.Mode.the-variants.{Plain, Slash, Text, Quoted, Remark, Starred}
 

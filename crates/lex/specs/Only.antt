@@ -2,8 +2,9 @@
 -- Assumes nothing.
 use Prim.Native.Nat.{ℕ, _≤_}
 use mathlib.Core.Path.{_≡_, refl, sym, _∙_, ap}
-use Rattle.error.specs.Refusal.{Told, good, bad, faultOf, faultOf-told}
-use Rattle.lex.specs.Search.{toldFound}
+use Rattle.error.specs.Refusal.{Told, good, bad}
+use Rattle.error.specs.Only.{faultOf, faultOf-told}
+use Rattle.lex.specs.Answer.{toldFound}
 use Rattle.lex.specs.declared.Found.{Found}
 use Rattle.lex.specs.declared.Found.the-variants.{At, Refused}
 

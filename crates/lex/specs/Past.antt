@@ -14,11 +14,12 @@ use Rattle.common.specs.Pick.{pick}
 use Rattle.common.specs.Lists.{split, drop-end}
 use Rattle.common.specs.Compare.{clash}
 use Rattle.error.specs.Refusal.{bad, refusal, told}
-use Rattle.lex.specs.Byte.{place-drop}
+use Rattle.lex.specs.Place.{place-drop}
 use Rattle.common.specs.Walk.{on, walk-ends, walk-goes}
 use Rattle.lex.specs.Lexer.{fresh}
-use Rattle.lex.specs.Search.{Look, look, seen, seekTurn, missed, semicolon, paren, placed}
-use Rattle.lex.specs.Leap.{Stopped, seek-leaps, leapt-remark}
+use Rattle.lex.specs.Search.{Look, look, seen, seekTurn, missed, semicolon, paren}
+use Rattle.lex.specs.Answer.{placed, Stopped}
+use Rattle.lex.specs.Leap.{seek-leaps, leapt-remark}
 use Rattle.lex.specs.Grammar.{Begins, Quotation, OpenText}
 use Rattle.lex.specs.Local.{seek}
 use Rattle.lex.specs.Right.Steps.{plainly, unstarred, unopened, unslashed, text-shut, text-open, seek-deaf}

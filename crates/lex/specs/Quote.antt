@@ -1,6 +1,6 @@
 -- A quote in a string, and where the string ends. "A string ends at a quote not followed by a quote", the quotes inside it paired off first:
--- what a string is stands in Grammar.antt (`Inside`, `Quotation`, `OpenText`). Here is what the code's answers say, in the grammar's words, and
--- the laws of the loop that seeks a string's end. Assumes nothing.
+-- what a string is stands in Grammar.antt (`Inside`, `Quotation`, `OpenText`). What the code's answers say, in the grammar's words, stands in
+-- Answer.antt (`QuoteIs`, `TextEnds`). Here are the laws of the loop that seeks a string's end. Assumes nothing.
 use Prim.Native.Nat.{ℕ, zero, suc, _+_, _-_, _≤_, _<_, min}
 use mathlib.Core.Path.{_≡_, refl, sym, _∙_, ap, subst}
 use mathlib.Core.List.{List, [], _∷_, _++_, append-nil, append-assoc}
@@ -10,30 +10,15 @@ use lib.ListN.{length, drop, getD, length-drop, length-append}
 use Rattle.common.specs.Lists.{split, drop-end}
 use Rattle.common.specs.Compare.{clash}
 use Rattle.common.specs.Walk.{walk}
-use Rattle.lex.specs.Search.{at, fault, recordEnd}
-use Rattle.lex.specs.Leap.{Lacks, Stopped}
+use Rattle.lex.specs.Search.{recordEnd}
+use Rattle.lex.specs.Answer.{at, fault, Lacks, Stopped, QuoteIs, TextEnds}
 use Rattle.lex.specs.Seek.{drop-within}
-use Rattle.lex.specs.Grammar.{Begins, Inside, Quotation, OpenText}
+use Rattle.lex.specs.Grammar.{Begins, Inside, OpenText}
 use Rattle.lex.specs.Right.Tokens.{unended, one-end}
 use Rattle.lex.specs.declared.Quote.{Quote}
 use Rattle.lex.specs.declared.Quote.the-variants.{Doubled, Single, Last}
 use Rattle.lex.specs.declared.TextEnd.{TextEnd}
 use Rattle.lex.specs.declared.TextEnd.the-variants.{After, Never}
-
--- What a quote in a string is, by the bytes xs after it, if it is not the second of a pair.
--- Doubled: `''`, a pair that stays inside.
--- Single: `'` and another byte, the string's end.
--- Last: `'` and the end of the bytes, the string's end too.
-abbrev pub QuoteIs : List ℕ → Quote → Type 0
-QuoteIs xs Doubled = Begins 39 xs
-QuoteIs xs Single = (c : ℕ) × (r : List ℕ) × (xs ≡ c ∷ r) × (c ≡ 39 → ⊥)
-QuoteIs xs Last = xs ≡ []
-
--- "A string ends at a quote not followed by a quote", the quotes inside it paired off first: the place after the string whose inside begins at i, or
--- that it never ends
-abbrev pub TextEnds : List ℕ → ℕ → TextEnd → Type 0
-TextEnds s i (After p) = (i < p) × (p ≤ length s) × Quotation (39 ∷ drop i s) (drop p s)
-TextEnds s i Never = OpenText (39 ∷ drop i s)
 
 -- `'a'''`: an `a` and three quotes in a row
 abbrev three : List ℕ

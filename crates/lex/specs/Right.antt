@@ -12,7 +12,8 @@ use borrow.Author.Tests.{eqb-true, eqb-false, ne-eqb}
 use Rattle.common.specs.Compare.{clash}
 use Rattle.lex.specs.Byte.{white}
 use Rattle.common.specs.Walk.{walk}
-use Rattle.lex.specs.Search.{Sought, at, fault, seen, Look, semicolon, paren, missed, recordEnd, closing, triviaTurn, triviaEnd, trivia}
+use Rattle.lex.specs.Search.{seen, Look, semicolon, paren, missed, recordEnd, closing, triviaTurn, triviaEnd, trivia}
+use Rattle.lex.specs.Answer.{Sought, at, fault}
 use Rattle.lex.specs.Grammar.{Begins, Opens, Remarked, Comment, Trivia, Led, Runs, Ends, Balanced, Closes, Deep, OpenText, OpenRemark}
 use Rattle.lex.specs.Local.{seek-halts}
 use Rattle.lex.specs.declared.Mode.{Mode}

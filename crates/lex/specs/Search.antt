@@ -3,26 +3,18 @@
 -- Grammar.antt says what they find without a loop, and Right.antt that they find it and nothing else.
 -- Assumes nothing.
 use Prim.Native.Nat.{ℕ, zero, suc}
-use mathlib.Core.Bool.{Bool, true, false}
 use mathlib.Core.List.{List, [], _∷_}
 use lib.Dec.{eqb}
 use lib.ListN.{drop}
 use Rattle.common.specs.Pick.{pick}
-use Rattle.error.specs.Refusal.{Refusal, refusal, Told, good, bad, told}
-use Rattle.lex.specs.Byte.{white, place}
+use Rattle.lex.specs.Byte.{white}
 use Rattle.common.specs.Walk.{Turn, stop, on, walk}
 use Rattle.lex.specs.Lexer.{calm, next}
+use Rattle.lex.specs.Answer.{Sought, at, fault}
 use Rattle.lex.specs.declared.Mode.{Mode}
 use Rattle.lex.specs.declared.Mode.the-variants.{Plain, Slash, Text, Quoted, Remark, Starred}
 use Rattle.lex.specs.declared.Level.{Level}
 use Rattle.lex.specs.declared.Level.the-variants.{Closed, Open}
-use Rattle.lex.specs.declared.Found.{Found}
-use Rattle.lex.specs.declared.Found.the-variants.{At, Refused}
-
--- the rest from where a search stopped, or a refusal's number and the rest from its place
-pub data Sought : Type 0 where
-  at : List ℕ → Sought
-  fault : ℕ → List ℕ → Sought
 
 -- a search's state: the mode, the open parentheses, and the rest from the last byte outside strings and comments, which is
 -- where a string or a comment that is open now begins
@@ -116,16 +108,6 @@ triviaEnd s = trailed (s .mode) (s .opened)
 -- "A record starts at the first non-trivia byte": the rest from there, or 3 at the `/` of a comment that is open
 unfoldable pub trivia : List ℕ → Sought
 trivia xs = walk triviaTurn triviaEnd (seen Plain 0 xs) xs
-
--- a search's answer as document 01 gives it: a place in the file s, or a refusal there
-abbrev pub placed : List ℕ → Sought → Told ℕ
-placed s (at r) = good (place s r)
-placed s (fault n r) = bad (refusal n 0 (place s r))
-
--- what the code's answer says
-abbrev pub toldFound : Found → Told ℕ
-toldFound (At p) = good p
-toldFound (Refused f) = bad (told f)
 
 -- `paren` of the code: what its answer says
 abbrev pub lookOf : Level → Look

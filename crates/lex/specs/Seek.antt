@@ -12,7 +12,8 @@ use Rattle.common.specs.Pick.{pick}
 use Rattle.common.specs.Lists.{split}
 use Rattle.common.specs.Walk.{stop, walk, walk-stops}
 use Rattle.lex.specs.Lexer.{calm}
-use Rattle.lex.specs.Search.{Sought, at, Seen, seen, Look, halt, look, seekTurn, under, paren}
+use Rattle.lex.specs.Search.{Seen, seen, Look, halt, look, seekTurn, under, paren}
+use Rattle.lex.specs.Answer.{Sought, at}
 use Rattle.lex.specs.declared.Mode.{Mode}
 
 -- a start past the end counts as the end

@@ -9,10 +9,10 @@ ghost use mathlib.Core.Bool.{true, false, _||_};
 ghost use lib.ListN.{length, drop};
 ghost use Rattle.common.specs.Pick.{pick};
 ghost use Rattle.lex.specs.Byte.{white};
-ghost use Rattle.lex.specs.Leap.{Lacks, Without, Stopped};
-ghost use Rattle.lex.specs.Quote.{QuoteIs, TextEnds};
+ghost use Rattle.lex.specs.Leap.{Without};
+ghost use Rattle.lex.specs.Answer.{Lacks, Stopped, placed, toldFound, QuoteIs, TextEnds};
 ghost use Rattle.lex.specs.Past.{IsAt, Shut, Onward, Quiet, Counted, Stood};
-ghost use Rattle.lex.specs.Search.{recordEnd, closing, trivia, placed, toldFound, paren, lookOf};
+ghost use Rattle.lex.specs.Search.{recordEnd, closing, trivia, paren, lookOf};
 use error::Fault;
 
 // Where the lexer of the definitions stands: outside strings and comments; after a slash there; in a string; after a quote in one; in a

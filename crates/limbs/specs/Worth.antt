@@ -1,5 +1,6 @@
 -- Whole numbers in digits of 32 binary digits each, as the long path of a decimal holds them; and what the steps on them promise.
 -- Assumes nothing.
+-- Definitions to be believed: no law, and nothing computed that no theorem ties (docs/BELIEVE.md).
 use Prim.Native.Nat.{ℕ, _+_, _*_, _-_, _^_, _≤_, _<_}
 use mathlib.Core.Path.{_≡_}
 use mathlib.Core.Logic.{_⊎_}

@@ -7,7 +7,7 @@ use native.Mathlib.Omega.{arith}
 use denote.Enum.Declared.{tagOf}
 use types.Run.{OneOf}
 use Rattle.error.specs.Refusal.{Refusal, bad}
-use Rattle.lists.specs.Items.{toldReadList}
+use Rattle.lists.specs.Answer.{toldReadList}
 use Rattle.lists.specs.declared.ReadList.{ReadList}
 use Rattle.lists.specs.declared.ReadList.the-variants.{Count, Wrong, Outside, Short}
 use Rattle.lists.proofs.ReadList.{the-type}

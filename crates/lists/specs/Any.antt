@@ -1,18 +1,15 @@
 -- Items counted whatever they read as: a list that any reader reads has as many. Assumes nothing.
 use Prim.Native.Nat.{ℕ, zero, suc, _+_, _-_}
-use mathlib.Core.Path.{_≡_, refl, sym, _∙_, ap, subst}
+use mathlib.Core.Path.{_≡_, refl, _∙_, ap}
 use mathlib.Core.Bool.{Bool, true, false}
 use mathlib.Core.List.{List, [], _∷_, map}
-use lib.ListN.{length, length-map}
+use lib.ListN.{length}
 use Rattle.common.specs.Pick.{pick}
 use Rattle.common.specs.Compare.{clash}
-use Rattle.lists.specs.Items.{Fate, fine, faulty, shifted, itemEnd, itemText, indent, itemBy, consed, headed, past-comma, itemsFrom, isBlank, itemsBy, Body, inside, bare, bodyOf, listed, listBy, valuesOf}
+use Rattle.lists.specs.Answer.{Fate, fine, faulty, shifted, consed, anything}
+use Rattle.lists.specs.Items.{itemEnd, itemText, indent, itemBy, headed, past-comma, itemsFrom, isBlank, itemsBy, Body, inside, bare, bodyOf, listed, listBy}
 use Rattle.lists.specs.Rules.{Listed}
 use Rattle.lists.specs.RulesRight.{listed-is, listed-only}
-
--- any text is an item
-abbrev pub anything : List ℕ → Fate (Unit {0})
-anything u = fine tt
 
 -- the same as a rule
 abbrev pub Anything : List ℕ → Fate (Unit {0}) → Type 0

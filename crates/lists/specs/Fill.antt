@@ -10,7 +10,8 @@ use lib.Seq.{length-take-le, drop-drop, set-at, drop-cons, take-add, take-length
 use native.Mathlib.Numerals.{add-one}
 use Rattle.common.specs.Compare.{clash}
 use Rattle.lists.specs.declared.Item.{Item}
-use Rattle.lists.specs.Items.{Fate, fine, faulty, consed, itemsFrom, ItemAt, valuesOf, Ready, filled}
+use Rattle.lists.specs.Items.{itemsFrom, ItemAt, Ready, filled}
+use Rattle.lists.specs.Answer.{Fate, fine, faulty, consed, valuesOf}
 use Rattle.lists.specs.Laws.{item-in, items-bad, items-last, items-more}
 
 -- what is consed is fine only where the rest is

@@ -17,7 +17,8 @@ use Rattle.error.specs.Refusal.{refusal, good, bad}
 use Rattle.lists.specs.declared.Item.{Item}
 use Rattle.lists.specs.declared.Shape.{Shape}
 use Rattle.lists.specs.declared.Shape.the-variants.{NotList, Blank, Full}
-use Rattle.lists.specs.Items.{Fate, fine, faulty, shifted, fated, itemsFrom, listBy, roomed, fitsIn, countOf, written, ItemAt, ShapeAt, valuesOf, Ready, filled, Kept, Held}
+use Rattle.lists.specs.Items.{itemsFrom, listBy, ItemAt, ShapeAt, Ready, filled, Kept, Held}
+use Rattle.lists.specs.Answer.{Fate, fine, faulty, shifted, fated, roomed, fitsIn, countOf, written, valuesOf}
 use Rattle.lists.specs.Laws.{tally, tally-starts, tally-bad, tally-last, tally-more, list-none, list-blank, list-full, shape-none, shape-blank, shape-full, told-full}
 use Rattle.lists.specs.ReadLaws.{roomed-told, roomed-bad, room-refused, room-written}
 

@@ -16,13 +16,14 @@ use Rattle.lex.specs.Byte.{white, place}
 use Rattle.record.specs.Text.{before, past}
 use Rattle.record.specs.Word.{trimmed}
 use Rattle.scalars.specs.Laws.{part-part}
-use Rattle.reals.specs.Scalar.{read}
-use Rattle.params.specs.Cut.{cut, cutOf}
-use Rattle.params.specs.Seek.{endedAt, EndedIn}
+use Rattle.reals.specs.Answer.{read}
+use Rattle.params.specs.Cut.{cutOf}
+use Rattle.params.specs.Answer.{cut, endedAt, EndedIn}
 use Rattle.params.specs.declared.Ended.{Ended}
 use Rattle.params.specs.declared.Ended.the-variants.{At, Open}
 use Rattle.lists.specs.declared.Item.{Item}
-use Rattle.lists.specs.Items.{Fate, fine, faulty, shifted, fated, boundOf, itemEnd, itemText, indent, itemBy, consed, headed, past-comma, itemsFrom, isNone, isBlank, itemsBy, inside, bare, bodyOf, listed, listBy, ItemAt, ShapeAt, CountedIn}
+use Rattle.lists.specs.Answer.{Fate, fine, faulty, shifted, fated, consed, CountedIn}
+use Rattle.lists.specs.Items.{boundOf, itemEnd, itemText, indent, itemBy, headed, past-comma, itemsFrom, isNone, isBlank, itemsBy, inside, bare, bodyOf, listed, listBy, ItemAt, ShapeAt}
 use Rattle.lists.specs.declared.Shape.{Shape}
 use Rattle.lists.specs.declared.Shape.the-variants.{NotList, Blank, Full}
 use Rattle.lists.specs.declared.Counted.{Counted}

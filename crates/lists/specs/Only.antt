@@ -10,8 +10,9 @@ use lib.ListN.{length, take, drop, length-drop}
 use lib.Seq.{length-take-le}
 use Rattle.common.specs.Pick.{pick}
 use Rattle.common.specs.Compare.{clash}
-use Rattle.error.specs.Refusal.{Told, good, bad, faultOf, faultOf-told}
-use Rattle.params.specs.Reader.{Read}
+use Rattle.error.specs.Refusal.{Told, good, bad}
+use Rattle.error.specs.Only.{faultOf, faultOf-told}
+use Rattle.params.specs.Answer.{Read}
 use Rattle.nearest.specs.Only.{bits-only}
 use Rattle.lists.specs.declared.Item.{Item}
 use Rattle.lists.specs.declared.Shape.{Shape}
@@ -22,7 +23,8 @@ use Rattle.lists.specs.declared.ReadList.{ReadList}
 use Rattle.lists.specs.declared.ReadList.the-variants as reading
 use Rattle.lists.specs.declared.NextList.{NextList}
 use Rattle.lists.specs.declared.NextList.the-variants as next
-use Rattle.lists.specs.Items.{Fate, fine, faulty, ItemAt, ShapeAt, toldCounted, toldReadList, toldNextList}
+use Rattle.lists.specs.Items.{ItemAt, ShapeAt}
+use Rattle.lists.specs.Answer.{Fate, fine, faulty, toldCounted, toldReadList, toldNextList}
 
 -- the place from which a rest of b goes
 rest-place : (b : List ℕ) (i j : ℕ) → i ≤ length b → j ≤ length b → drop i b ≡ drop j b → i ≡ j

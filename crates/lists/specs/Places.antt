@@ -10,19 +10,24 @@ use lib.ListN.{length, take, drop, getD, length-drop, length-take}
 use Rattle.common.specs.Pick.{pick}
 use Rattle.common.specs.Compare.{clash}
 use Rattle.error.specs.Refusal.{Refusal, refusal, Told, good, bad}
-use Rattle.lex.specs.Byte.{white, place, place-within}
+use Rattle.lex.specs.Byte.{white, place}
+use Rattle.lex.specs.Place.{place-within}
 use Rattle.common.specs.Walk.{stop, on, turned, walk}
 use Rattle.lex.specs.declared.Mode.{Mode}
 use Rattle.lex.specs.declared.Mode.the-variants.{Plain, Slash, Text, Quoted, Remark, Starred}
 use Rattle.record.specs.Text.{before, past, trail}
-use Rattle.reals.specs.Scalar.{Answer, read, refused, referenceOf, wholeOf, realBy}
-use Rattle.params.specs.Cut.{Cut, cut, unclosed, Stand, outside, settled, passed, cutTurn, over, cutEnd, cutOf, started}
-use Rattle.params.specs.Reader.{reading, Span, span, inFile, bounded, begun, onward, paramOf}
+use Rattle.reals.specs.Answer.{Answer, read, refused}
+use Rattle.reals.specs.Scalar.{referenceOf, wholeOf}
+use Rattle.reals.specs.Which.{realBy}
+use Rattle.params.specs.Answer.{Cut, cut, unclosed, reading, Span, span, inFile, onward}
+use Rattle.params.specs.Cut.{Stand, outside, settled, passed, cutTurn, over, cutEnd, cutOf, started}
+use Rattle.params.specs.Reader.{bounded, begun, paramOf}
 use Rattle.lists.specs.declared.Kind.{Kind}
 use Rattle.lists.specs.declared.Kind.the-variants.{References, Integers, Floats, Any}
 use Rattle.lists.specs.declared.ReadList.{ReadList}
 use Rattle.lists.specs.declared.ReadList.the-variants.{Count, Wrong, Outside, Short}
-use Rattle.lists.specs.Items.{Fate, fine, faulty, shifted, fated, asFate, kindOf, boundOf, itemEnd, itemText, indent, itemBy, consed, headed, past-comma, itemsFrom, isBlank, itemsBy, inside, bare, bodyOf, listed, listBy, listOf, roomed, nextBy, fitsIn, countOf, toldReadList, reached}
+use Rattle.lists.specs.Answer.{Fate, fine, faulty, shifted, fated, asFate, kindOf, consed, roomed, nextBy, fitsIn, countOf, toldReadList}
+use Rattle.lists.specs.Items.{boundOf, itemEnd, itemText, indent, itemBy, headed, past-comma, itemsFrom, isBlank, itemsBy, inside, bare, bodyOf, listed, listBy, listOf, reached}
 
 -- how far into a text its fault is; 0 where it has none
 abbrev pub offset : {A : Type 0} → Fate A → ℕ

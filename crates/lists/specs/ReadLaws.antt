@@ -10,10 +10,12 @@ use borrow.Author.Tests.{leb-true}
 use Rattle.common.specs.Pick.{pick}
 use Rattle.common.specs.Compare.{clash}
 use Rattle.error.specs.Refusal.{Refusal, refusal, Told, good, bad}
-use Rattle.params.specs.Reader.{reading, span, onward, paramOf}
+use Rattle.params.specs.Answer.{reading, span, onward}
+use Rattle.params.specs.Reader.{paramOf}
 use Rattle.lists.specs.declared.Shape.{Shape}
 use Rattle.lists.specs.declared.Shape.the-variants.{NotList, Blank, Full}
-use Rattle.lists.specs.Items.{Fate, fine, faulty, shifted, fated, mute, itemEnd, itemText, indent, itemBy, consed, headed, past-comma, itemsFrom, isBlank, itemsBy, Body, inside, bare, bodyOf, listed, listBy, roomed, moved, nextBy, fitsIn, countOf, howMany, written, valuesOf, Ready, filled, ShapeAt}
+use Rattle.lists.specs.Answer.{Fate, fine, faulty, shifted, fated, mute, consed, roomed, nextBy, fitsIn, countOf, howMany, written, valuesOf}
+use Rattle.lists.specs.Items.{itemEnd, itemText, indent, itemBy, headed, past-comma, itemsFrom, isBlank, itemsBy, Body, inside, bare, bodyOf, listed, listBy, moved, Ready, filled, ShapeAt}
 use Rattle.lists.specs.Laws.{list-none, list-blank, list-full, shape-none, shape-blank, shape-full}
 
 -- Items told by h: the list is the one of those whose items are told by h.

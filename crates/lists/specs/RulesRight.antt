@@ -21,18 +21,21 @@ use Rattle.record.specs.Word.{trimmed}
 use Rattle.record.specs.Form.{All, NotFirst, Skipped, Trimmed, bytes}
 use Rattle.record.specs.FormRight.{past-is, past-only, trimmed-is, trimmed-only}
 use Rattle.record.specs.FormRight.Parts.{first-part, all-join, last-none, Tailed, tail-split}
-use Rattle.reals.specs.Scalar.{Answer, read, refused, referenceOf, wholeOf, realOf, anyRealOf}
+use Rattle.reals.specs.Scalar.{referenceOf, wholeOf, realOf, anyRealOf}
+use Rattle.reals.specs.Answer.{Answer, read, refused}
 use Rattle.reals.specs.Form.{RealForm, AnyForm, WholeForm, ReferenceForm}
 use Rattle.reals.specs.FormRight.{real-is, real-only, any-is, any-only}
 use Rattle.reals.specs.WholeRight.{whole-is, whole-only, reference-is, reference-only}
 use Rattle.params.specs.Grammar.{Bound}
-use Rattle.params.specs.Cut.{Cut, cut, unclosed, cutOf}
+use Rattle.params.specs.Cut.{cutOf}
+use Rattle.params.specs.Answer.{Cut, cut, unclosed, reading, Span, inFile}
 use Rattle.params.specs.Right.{param-is, param-only, unclosed-is, unclosed-only}
-use Rattle.params.specs.Reader.{paramOf, reading, Span, inFile}
+use Rattle.params.specs.Reader.{paramOf}
 use Rattle.params.specs.Rules.{Inside}
 use Rattle.params.specs.RulesRight.{Rest, rest-of, param-rest}
 use Rattle.params.specs.Places.{Stands, Past, mapped-stands, mapped-stays, refused-past}
-use Rattle.lists.specs.Items.{Fate, fine, faulty, shifted, asFate, boundOf, itemEnd, itemText, indent, itemBy, consed, headed, past-comma, itemsFrom, isNone, isBlank, itemsBy, inside, bare, bodyOf, listBy, listOf, roomed, nextBy}
+use Rattle.lists.specs.Answer.{Fate, fine, faulty, shifted, asFate, consed, roomed, nextBy}
+use Rattle.lists.specs.Items.{boundOf, itemEnd, itemText, indent, itemBy, headed, past-comma, itemsFrom, isNone, isBlank, itemsBy, inside, bare, bodyOf, listBy, listOf}
 use Rattle.lists.specs.Rules.{Ends, Item, Items, Listed, Scalar}
 
 -- ---- where an item ends

@@ -1,20 +1,15 @@
--- The number that a text's digits make, whatever stands between them, as the point does; and what the steps that read it promise. Assumes nothing.
-use Prim.Native.Nat.{ℕ, zero, suc, _+_, _*_, _-_, _/_, _^_, _≤_, _<_}
+-- How many digits a text has, and what the steps promise that read the number which they make (Number.antt). Assumes nothing.
+use Prim.Native.Nat.{ℕ, suc, _+_, _/_, _≤_, _<_}
 use mathlib.Core.Path.{_≡_}
 use mathlib.Core.Logic.{_⊎_}
-use mathlib.Core.Bool.{Bool, true, false}
+use mathlib.Core.Bool.{true}
 use mathlib.Core.List.{List, [], _∷_}
-use lib.Dec.{ltb}
 use lib.ListN.{length, take, drop}
 use Rattle.common.specs.Pick.{pick}
 use Rattle.record.specs.Text.{digit}
 use Rattle.limbs.specs.Worth.{worth}
+use Rattle.long.specs.Number.{numberIn}
 use Rattle.long.specs.declared.Filled.{Filled}
-
--- the number that the digits make after those that gave n; other bytes are passed over
-unfoldable pub numberIn : ℕ → List ℕ → ℕ
-numberIn n [] = n
-numberIn n (c ∷ r) = numberIn (pick (digit c) (n * 10 + (c - 48)) n) r
 
 -- how many digits there are
 unfoldable pub digitsIn : List ℕ → ℕ

@@ -14,7 +14,8 @@ use lib.Seq.{drop-length}
 use Rattle.common.specs.Pick.{pick}
 use Rattle.record.specs.Text.{digit}
 use Rattle.record.specs.Turns.{bounds}
-use Rattle.long.specs.Digits.{numberIn, digitsIn, Leads, leads, FirstAt}
+use Rattle.long.specs.Digits.{digitsIn, Leads, leads, FirstAt}
+use Rattle.long.specs.Number.{numberIn}
 
 -- a digit is worth nine at most
 pub digit-le : (c : ℕ) → digit c ≡ true → c - 48 ≤ 9

@@ -7,7 +7,8 @@ use Rattle.nearest.specs.Units.{infinity}
 use Rattle.nearest.specs.Near.{near, nearUnits}
 use Rattle.nearest.specs.Power.{nearBy}
 use Rattle.record.specs.Form.{bytes}
-use Rattle.long.specs.Digits.{numberIn, digitsIn}
+use Rattle.long.specs.Digits.{digitsIn}
+use Rattle.long.specs.Number.{numberIn}
 
 -- the point is passed over
 point : numberIn 0 (bytes "3.14") ≡ 314

@@ -9,7 +9,7 @@ use lib.Pow.{pow-add}
 use Rattle.nearest.specs.Units.{infinity}
 use Rattle.nearest.specs.Near.{near}
 use Rattle.nearest.specs.Borders.{near-zero, near-infinity}
-use Rattle.nearest.specs.Power.{ten-pos}
+use Rattle.nearest.specs.PowerLaws.{ten-pos}
 
 -- neither of two tests is true
 pub neither : (a b : Bool) → (a || b) ≡ false → (a ≡ false) × (b ≡ false)

@@ -1,3 +1,4 @@
+pub mod Number
 pub mod Digits
 pub mod DigitsRight
 pub mod Scaled

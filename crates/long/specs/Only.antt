@@ -6,10 +6,10 @@ use mathlib.Core.List.{List}
 use lib.Dec.{T}
 use lib.Ieee.{Float, binary64, toBits, fits}
 use Rattle.nearest.specs.Near.{near}
-use Rattle.nearest.specs.Round.{signed}
+use Rattle.nearest.specs.Nearest.{signed}
 use Rattle.nearest.specs.Power.{nearBy}
 use Rattle.nearest.specs.Only.{bits-only}
-use Rattle.long.specs.Digits.{numberIn}
+use Rattle.long.specs.Number.{numberIn}
 
 -- `lowered`; that of the crate `wide` promises the same
 pub lowered-only : (x y : Float) (neg : Bool) (m k : ℕ) → T (fits binary64 x) → T (fits binary64 y) → toBits binary64 x ≡ signed neg (near m (10 ^ k)) → toBits binary64 y ≡ signed neg (near m (10 ^ k)) → x ≡ y

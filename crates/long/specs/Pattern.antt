@@ -13,7 +13,7 @@ use lib.Ieee.Fits.{nearest-le}
 use Rattle.nearest.specs.Units.{infinity}
 use Rattle.nearest.specs.Near.{near}
 use Rattle.nearest.specs.Borders.{near-infinity}
-use Rattle.cut.specs.Cut.{against}
+use Rattle.cut.specs.Half.{against}
 use Rattle.cut.specs.Rounding.{few-dropped}
 use Rattle.cut.specs.Window.{Window, spareOf, near-window}
 use Rattle.cut.specs.Drops.{spare-leaves}

@@ -9,7 +9,7 @@ use native.Mathlib.Omega.{arith}
 use borrow.Author.Tests.{lt-ltb}
 use lib.Dec.{ltb}
 use lib.Pow.{pow-pos, pow-add}
-use Rattle.nearest.specs.Power.{ten-pos, tens}
+use Rattle.nearest.specs.PowerLaws.{ten-pos, tens}
 use Rattle.cut.specs.Window.{Window, RoundsAs, left-told, window-of}
 use Rattle.limbs.specs.Worth.{HeadOf, lower}
 use Rattle.limbs.specs.declared.Head.{Head}

@@ -19,7 +19,8 @@ use Rattle.record.specs.Turns.{bounds}
 use Rattle.limbs.specs.Worth.{worth}
 use Rattle.limbs.specs.Worth as limbs
 use Rattle.limbs.specs.Laws.{power-more, worth-append, worth-one, worth-split}
-use Rattle.long.specs.Digits.{numberIn, digitsIn, ReadAt, Leads, leads}
+use Rattle.long.specs.Digits.{digitsIn, ReadAt, Leads, leads}
+use Rattle.long.specs.Number.{numberIn}
 use Rattle.long.specs.DigitsRight.{digit-le, number-next, number-past, digits-first, digits-past, digits-end}
 use Rattle.long.specs.Scaled.{Lowered}
 

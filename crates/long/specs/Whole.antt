@@ -10,7 +10,8 @@ use lib.ListN.{length, take, drop, length-drop}
 use lib.Seq.{length-take-le, take-append-add, take-append-le}
 use Rattle.limbs.specs.Worth.{worth}
 use Rattle.limbs.specs.Laws.{worth-append}
-use Rattle.long.specs.Digits.{numberIn, digitsIn, ReadAt, FirstAt}
+use Rattle.long.specs.Digits.{digitsIn, ReadAt, FirstAt}
+use Rattle.long.specs.Number.{numberIn}
 use Rattle.long.specs.DigitsRight.{number-from, number-lt, number-none, first-told}
 use Rattle.long.specs.Scaled.{Scaled}
 use Rattle.long.specs.Steps.{take-none, powers}

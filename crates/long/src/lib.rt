@@ -13,11 +13,12 @@ ghost use lib.Ieee.{binary64, toBits};
 ghost use lib.ListN.{length, take, drop};
 ghost use Rattle.nearest.specs.Units.{infinity};
 ghost use Rattle.nearest.specs.Near.{near};
-ghost use Rattle.nearest.specs.Round.{signed};
+ghost use Rattle.nearest.specs.Nearest.{signed};
 ghost use Rattle.nearest.specs.Power.{nearBy};
 ghost use Rattle.limbs.specs.Worth.{worth};
 ghost use Rattle.cut.specs.Window.{RoundsAs, spareOf};
-ghost use Rattle.long.specs.Digits.{numberIn, digitsIn, FirstAt, ReadAt};
+ghost use Rattle.long.specs.Digits.{digitsIn, FirstAt, ReadAt};
+ghost use Rattle.long.specs.Number.{numberIn};
 ghost use Rattle.long.specs.Scaled.{Lowered, LowersTo, RaisesTo};
 
 // 5^k, as far as 32 binary digits hold it. A match is a table of the program's; an array would be laid on the stack at each use.

@@ -8,13 +8,14 @@ use mathlib.Core.Option.{Option, none, some}
 use lib.Dec.{ltb, leb, eqb}
 use lib.ListN.{length, take, drop}
 use Rattle.common.specs.Pick.{pick}
-use Rattle.error.specs.Refusal.{Refusal, refusal, Told, good, bad, told}
+use Rattle.error.specs.Refusal.{refusal, Told, good, bad, told}
 use Rattle.statement.specs.Rows.{Row}
 use Rattle.statement.specs.Statement.{rowOf}
 use Rattle.table.specs.Table.{tableRows, rowNumbers}
 use Rattle.index.specs.Search.{searched}
 use Rattle.index.specs.declared.Ids.{Ids}
-use Rattle.kinds.specs.Kind.{kindOf, rankOf}
+use Rattle.kinds.specs.Kind.{kindOf}
+use Rattle.kinds.specs.Rules.{rankOf}
 use Rattle.kinds.specs.declared.Kind.{Kind}
 use Rattle.kinds.specs.declared.Kind.the-variants.{Complex, Other}
 use Rattle.lookup.specs.declared.Entry.{Entry}

@@ -3,7 +3,8 @@
 use Prim.Native.Nat.{ℕ}
 use mathlib.Core.Path.{_≡_, refl, sym, _∙_, ap}
 use mathlib.Core.Option.{Option, none, some}
-use Rattle.error.specs.Refusal.{Told, good, bad, faultOf, faultOf-told}
+use Rattle.error.specs.Refusal.{Told, good, bad}
+use Rattle.error.specs.Only.{faultOf, faultOf-told}
 use Rattle.statement.specs.Rows.{Row}
 use Rattle.statement.specs.declared.RecordSpan.{RecordSpan}
 use Rattle.lookup.specs.Lookup.{Span, toldEntry, toldRequired, toldSpan, toldPlace}

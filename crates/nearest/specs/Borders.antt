@@ -7,7 +7,8 @@ use native.Mathlib.Decide.{decLt, decLe}
 use native.Mathlib.Omega.{arith}
 use lib.Pow.{pow-pos}
 use lib.Ieee.{nearest}
-use Rattle.nearest.specs.Units.{unitsOf, infinity, gap, units-lt}
+use Rattle.nearest.specs.Units.{unitsOf, infinity, gap}
+use Rattle.nearest.specs.UnitsLaws.{units-lt}
 use Rattle.nearest.specs.Nearest.{IsNearest}
 use Rattle.nearest.specs.Near.{near, near-is, near-only, near-digits, Cmp, cmp}
 

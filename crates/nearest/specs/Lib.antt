@@ -1,10 +1,14 @@
 pub mod Units
+pub mod UnitsLaws
 pub mod Nearest
+pub mod NearestRight
 pub mod Near
 pub mod Borders
 pub mod Scaled
 pub mod Round
 pub mod Only
 pub mod Product
+pub mod ProductRight
 pub mod Examples
 pub mod Power
+pub mod PowerLaws

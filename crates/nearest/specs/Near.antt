@@ -15,8 +15,10 @@ use lib.Ieee.{size, nearest}
 use lib.Ieee.Digits.{size-lt, size-le, size-reaches}
 use lib.Ieee.Fits.{kept-lt}
 use lib.Ieee.Nearest.{div-same, closest-same}
-use Rattle.nearest.specs.Units.{unitsOf, infinity, gap, Kept, units-kept, units-lt, units-le}
-use Rattle.nearest.specs.Nearest.{NearestTo, IsNearest, nearest-only}
+use Rattle.nearest.specs.Units.{unitsOf, infinity, gap}
+use Rattle.nearest.specs.UnitsLaws.{Kept, units-kept, units-lt, units-le}
+use Rattle.nearest.specs.Nearest.{NearestTo, IsNearest}
+use Rattle.nearest.specs.NearestRight.{nearest-only}
 
 -- n / den units: how many digits of the whole part are dropped, so many that 53 are left, none of a shorter number
 abbrev pub dropped : ℕ → ℕ → ℕ

@@ -1,25 +1,23 @@
 -- The kit's rounding, to which each operation on floats hands its exact result, gives the nearest pattern: `round-near`, shown once
 -- for all of them. Assumes nothing.
-use Prim.Native.Nat.{ℕ, zero, suc, _+_, _-_, _*_, _/_, _%_, _^_, _≤_, _<_, min, compare, Ordering}
+use Prim.Native.Nat.{ℕ, suc, _+_, _-_, _*_, _/_, _%_, _^_, _≤_, _<_, min, compare, Ordering}
 use mathlib.Core.Path.{_≡_, refl, sym, _∙_, ap, subst}
 use mathlib.Core.Logic.{_⊎_, inl, inr}
 use mathlib.Core.Bool.{Bool, true, false, not, cond}
-use native.Mathlib.Nat.{le-antisymm, lt-of-le-of-lt, lt-of-lt-of-le, le-trans, lt-irrefl, mul-one, div-one, mul-assoc, mul-div-cancel, mul-le-mul-right, mul-lt-mul-of-pos-right, le-of-lt, lt-of-not-le, add-assoc, div-div-eq-div-mul, pow-suc, pow-succ'}
-use native.Mathlib.Decide.{decLt, decLe}
+use native.Mathlib.Nat.{le-antisymm, lt-of-le-of-lt, lt-of-lt-of-le, lt-irrefl, mul-one, div-one, mul-assoc, mul-div-cancel, mul-le-mul-right, lt-of-not-le, add-assoc, div-div-eq-div-mul, pow-succ'}
+use native.Mathlib.Decide.{decLt}
 use native.Mathlib.Omega.{arith}
 use lib.Dec.{T, ltb, ltb→lt, nltb→le}
 use lib.Pow.{pow-pos, pow-mono, pow-add, shl-lt}
-use lib.Ieee.{Float, nan, inf, fin, binary64, low, emax, up, down, size, nearest, odd, units, round, toBits}
-use lib.Ieee.Digits.{size-lt, size-le, size-reaches}
+use lib.Ieee.{Float, nan, inf, fin, binary64, up, down, size, nearest, odd, units, round, toBits}
+use lib.Ieee.Digits.{size-lt, size-le}
 use lib.Ieee.Fits.{kept-lt, nearest-le, round-is, down-pos}
 use lib.Ieee.Exact.{HasValue, odd-sign}
 use lib.Ieee.Nearest.{nearest-ge}
-use Rattle.nearest.specs.Units.{unitsOf, infinity, Kept, units-kept, units-lt, units-le}
+use Rattle.nearest.specs.Units.{unitsOf, infinity}
+use Rattle.nearest.specs.UnitsLaws.{Kept, units-kept, units-lt, units-le}
 use Rattle.nearest.specs.Near.{near, nearUnits, dropped, lead-kept}
-
--- a pattern with its sign
-abbrev pub signed : Bool → ℕ → ℕ
-signed s b = cond s (2 ^ 63) 0 + b
+use Rattle.nearest.specs.Nearest.{signed}
 
 -- powers of two in order have exponents in order
 pub pow-lt-back : (i p : ℕ) → 2 ^ i < 2 ^ p → i < p

@@ -20,7 +20,8 @@ use Rattle.scan.specs.File.{Table, table, withHeader, withRecord, taken, readFr
 use Rattle.scan.specs.Table.{Counts, countsOf}
 use Rattle.scan.specs.Roomy.{refusal-roomy}
 use Rattle.lengths.specs.declared.Sizes.{Sizes}
-use Rattle.lengths.specs.Lengths.{both, nothing, recordOf}
+use Rattle.lengths.specs.Lengths.{recordOf}
+use Rattle.lengths.specs.Rules.{both, nothing}
 use Rattle.lengths.specs.Laws.{same-sizes, both-nothing, nothing-both}
 use Rattle.needs.specs.declared.Needs.{Needs}
 use Rattle.needs.specs.Needs.{mostOf, headSizes, rowSizes, needs, needsIn, needsOf}

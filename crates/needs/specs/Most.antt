@@ -1,27 +1,17 @@
 -- What is told of a file's texts, lists and grids is the most of all parameters of all its records: none has more, and one has just so much.
 -- Assumes nothing.
 use Prim.Native.Nat.{ℕ, _≤_, max}
-use mathlib.Core.Path.{_≡_, refl, sym, _∙_, ap, subst}
+use mathlib.Core.Path.{_≡_, refl, sym, ap, subst}
 use mathlib.Core.List.{List, [], _∷_, _++_}
-use mathlib.Core.Logic.{_⊎_, inl, inr}
+use mathlib.Core.Logic.{inl}
 use native.Mathlib.Omega.{arith}
 use Rattle.statement.specs.Rows.{Row, HeaderRow}
 use Rattle.scan.specs.File.{Table}
 use Rattle.lengths.specs.declared.Sizes.{Sizes}
-use Rattle.lengths.specs.Lengths.{textLen, numbersLen, rowsLen, both, nothing, recordOf}
-use Rattle.lengths.specs.Greatest.{Arg, Found, Greatest, either, found-also, text-greatest, items-greatest, rows-greatest}
-use Rattle.needs.specs.Needs.{mostOf, headSizes, rowSizes, needsIn}
-
--- w is one of a list of rows
-pub record In {R : Type 0} (w : R) (all : List R) : Type 0 where
-  pub before : List R
-  pub behind : List R
-  pub shape : all ≡ before ++ (w ∷ behind)
-
--- t is a parameter of one of a table's header records or data records
-pub data Among (s : List ℕ) (k : Table) (t : List ℕ) : Type 0 where
-  header : (w : HeaderRow) → In w (k .headers) → Arg s (w .argStart) (w .argEnd) 0 t → Among s k t
-  datum : (w : Row) → In w (k .records) → Arg s (w .argStart) (w .argEnd) (w .complex) t → Among s k t
+use Rattle.lengths.specs.Lengths.{recordOf}
+use Rattle.lengths.specs.Rules.{textLen, numbersLen, rowsLen, both, nothing, Arg, Found, Greatest}
+use Rattle.lengths.specs.Greatest.{either, found-also, text-greatest, items-greatest, rows-greatest}
+use Rattle.needs.specs.Needs.{mostOf, headSizes, rowSizes, needsIn, In, Among}
 
 module _ (π : Sizes → ℕ) (f : List ℕ → ℕ) (least : π nothing ≡ 0) (join : (a b : Sizes) → π (both a b) ≡ max (π a) (π b)) where
   -- rows of any kind, each of whose own parameters has at most what g tells, and one just so much

@@ -13,7 +13,8 @@ use lib.Seq.{take-at, length-take-le}
 use Rattle.common.specs.Pick.{pick}
 use Rattle.common.specs.Compare.{clash}
 use Rattle.lex.specs.Grammar.{Closes}
-use Rattle.lex.specs.Search.{Sought, at, fault, recordEnd, closing}
+use Rattle.lex.specs.Search.{recordEnd, closing}
+use Rattle.lex.specs.Answer.{Sought, at, fault}
 use Rattle.lex.specs.Local.{closing-local}
 use Rattle.lex.specs.Right.{end-is, closing-is}
 use Rattle.record.specs.Text.{before, past}

@@ -11,17 +11,22 @@ use Rattle.scan.specs.File.{readFrom, scanOf}
 use Rattle.kinds.specs.Kind.{kindOf}
 use Rattle.parts.specs.Part as Part
 use Rattle.params.specs.Cut.{cutOf, started}
-use Rattle.params.specs.Reader.{paramOf, skipOf}
-use Rattle.scalars.specs.Scalars.{kernelOf, measureOf, nextOf}
+use Rattle.params.specs.Reader.{paramOf}
+use Rattle.params.specs.Skips.{skipOf}
+use Rattle.scalars.specs.Scalars.{kernelOf, measureOf}
+use Rattle.scalars.specs.Answer.{nextOf}
 use Rattle.reals.specs.Scalar.{parseOf, realOf, wholeOf, referenceOf}
 use Rattle.prefixes.specs.Prefix.{placeIn}
-use Rattle.lists.specs.Items.{itemEnd, itemText, indent, itemBy, itemsFrom, isBlank, itemsBy, bodyOf, listBy, nextBy}
-use Rattle.factors.specs.Factor.{siLength, siAngle, measureRef, linkOf, measureIn, lengthOf, numberIn, angleOf}
+use Rattle.lists.specs.Items.{itemEnd, itemText, indent, itemBy, itemsFrom, isBlank, itemsBy, bodyOf, listBy}
+use Rattle.lists.specs.Answer.{nextBy}
+use Rattle.factors.specs.Unit.{siLength, siAngle, measureRef}
+use Rattle.factors.specs.Factor.{linkOf, measureIn, lengthOf, numberIn, angleOf}
 use Rattle.units.specs.Units.{isContext, refsIn, unitBy, unitsBy, uncertaintyBy, toleranceBy, listedUnits, listedTolerance, contextOf, resolveOf}
 use Rattle.nearest.specs.Near.{near, nearUnits}
 use Rattle.nearest.specs.Product.{worthOf}
 use Rattle.nearest.specs.Units as Nearest
-use Rattle.tokens.specs.Leap.{fromByte, stringRest, commentRest}
+use Rattle.tokens.specs.Leap.{stringRest, commentRest}
+use Rattle.tokens.specs.Answer.{fromByte}
 use Rattle.words.specs.Words.{isName}
 use Rattle.utf8.specs.Utf8.{validFrom, leadOf}
 use Rattle.lookup.specs.Records.{lastOf}

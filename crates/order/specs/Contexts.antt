@@ -11,7 +11,7 @@ use Rattle.statement.specs.Rows.{Row}
 use Rattle.statement.specs.Row.{recordOf}
 use Rattle.statement.specs.Closed.{ClosedData}
 use Rattle.statement.specs.ClosedRight.{rowFrom, record-row}
-use Rattle.params.specs.Reader.{onward}
+use Rattle.params.specs.Answer.{onward}
 use Rattle.factors.specs.Thing.{Piece, Thing, thingAt, thingOf, thingFound}
 use Rattle.units.specs.Units.{isContext}
 use Rattle.alike.specs.Alike.{BothTold, BothList, AlikeThing, AlikeFound, AlikeFind, Every}

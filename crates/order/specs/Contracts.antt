@@ -7,7 +7,7 @@ use mathlib.Core.Option.{Option, none, some}
 use native.Mathlib.Omega.{arith}
 use lib.ListN.{length}
 use Rattle.common.specs.Compare.{clash}
-use Rattle.error.specs.Refusal.{Told, good, bad}
+use Rattle.error.specs.Refusal.{good}
 use Rattle.table.specs.Table.{tableRows, rowNumbers}
 use Rattle.statement.specs.Row.{mapped}
 use Rattle.statement.specs.Rows.{Row}
@@ -15,22 +15,22 @@ use Rattle.statement.specs.Closed.{Closed, content}
 use Rattle.statement.specs.ClosedRight.{alone}
 use Rattle.statement.specs.declared.Section.the-variants.{Outside}
 use Rattle.scan.specs.File.{Table, scanOf}
-use Rattle.scan.specs.Table.{headerRoom, dataRoom, rowsAfter, countsOf, toldScan}
+use Rattle.scan.specs.Table.{headerRoom, dataRoom, countsOf, toldScan}
 use Rattle.scan.specs.declared.Scanned.{Scanned}
 use Rattle.index.specs.Search.{searched}
 use Rattle.lookup.specs.Lookup.{rowFound, toldEntry, rowFor}
 use Rattle.lookup.specs.Records.{lastOf, LastForm, last-is}
 use Rattle.lookup.specs.declared.Tables.{Tables}
 use Rattle.lookup.specs.declared.Entry.{Entry}
-use Rattle.store.specs.Store.{toldOpened, Indexed, scanInto, Opens}
-use Rattle.params.specs.Reader.{onward}
+use Rattle.store.specs.Store.{toldOpened, scanInto, Opens}
+use Rattle.params.specs.Answer.{onward}
 use Rattle.serve.specs.Serve.{recordIn, toldServed, unitsOf}
 use Rattle.serve.specs.Laws as Serve
 use Rattle.serve.specs.declared.Served.{Served}
 use Rattle.store.specs.declared.Opened.{Opened}
 use Rattle.store.specs.declared.Opened.the-variants.{Good, Refused}
-use Rattle.factors.specs.Thing.{Thing, thingOf, thingFound, findOf}
-use Rattle.units.specs.Units.{Units, resolveOf}
+use Rattle.factors.specs.Thing.{findOf}
+use Rattle.units.specs.Units.{resolveOf}
 use Rattle.units.specs.Code.{toldUnits, thingsFrom}
 use Rattle.units.specs.declared.Resolved.{Resolved}
 use Rattle.order.specs.Order.{Cut, texts, filled, Cuts, Rearranged, contentFound, served, SameUnits, Same}

@@ -6,6 +6,7 @@
 -- Accepted: `scanOf` (scan/specs/File.antt) gives a table. Closed: `Closed` (statement/specs/Closed.antt). What is rearranged, what is
 -- kept and what stays the same stands here; `Demand` is the whole sentence, and Right.antt proves it.
 -- Assumes nothing.
+-- Definitions to be believed: no law, and nothing computed that no theorem ties (docs/BELIEVE.md).
 use Prim.Native.Nat.{ℕ}
 use mathlib.Core.Path.{_≡_}
 use mathlib.Core.Bool.{Bool, true, false}
@@ -25,7 +26,7 @@ use Rattle.statement.specs.declared.Section.{Section}
 use Rattle.statement.specs.declared.Section.the-variants.{Outside, InHeader, InData}
 use Rattle.scan.specs.File.{Table, scanOf}
 use Rattle.scan.specs.Table.{countsOf}
-use Rattle.params.specs.Reader.{onward}
+use Rattle.params.specs.Answer.{onward}
 use Rattle.lookup.specs.Records.{lastOf}
 use Rattle.factors.specs.Thing.{thingOf}
 use Rattle.units.specs.Units.{Units, isContext}

@@ -5,10 +5,7 @@ use mathlib.Core.Bool.{_&&_}
 use lib.Dec.{leb}
 use Rattle.common.specs.Pick.{pick}
 use Rattle.pages.specs.Tables.{entry}
-
--- "any other byte, and a fresh string, means page A"
-abbrev pub pageA : ℕ
-pageA = 0
+use Rattle.pages.specs.Rules.{pageA}
 
 -- "Page letters A to I select ISO 8859-1 to 8859-9 [..]; letters in either case"
 abbrev pub pageOf : ℕ → ℕ

@@ -14,7 +14,8 @@ use Rattle.utf8.specs.Utf8.{scalar}
 use Rattle.utf8.specs.Laws.{scalar-low}
 use Rattle.utf8.specs.Table.{In}
 use Rattle.pages.specs.Tables
-use Rattle.pages.specs.Pages.{pageA, pageOf, codeOf}
+use Rattle.pages.specs.Pages.{pageOf, codeOf}
+use Rattle.pages.specs.Rules.{pageA}
 use Rattle.pages.specs.Rules
 
 -- ---- tests of a range

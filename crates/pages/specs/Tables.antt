@@ -2,6 +2,7 @@
 -- files, undefined codes giving U+FFFD". The files are those that the Unicode Consortium publishes, 8859-1.TXT to 8859-9.TXT (docs/DECISIONS.md says
 -- how they were had): a line of such a file, as `0xA1 0x0104`, is a number here, and a code that has no line is U+FFFD. Each row has sixteen codes, from A0 to AF in the first to F0 to
 -- FF in the last. Assumes nothing.
+-- Definitions to be believed: no law, and nothing computed that no theorem ties (docs/BELIEVE.md).
 use Prim.Native.Nat.{ℕ, _-_}
 use mathlib.Core.List.{List, [], _∷_}
 use lib.ListN.{getD}

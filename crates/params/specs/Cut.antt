@@ -1,21 +1,18 @@
 -- A parameter, computed: one byte a turn, by the scan's lexer and a binary literal beside it. Grammar.antt says what it finds without
 -- a loop, and Right.antt that it finds it and nothing else. Assumes nothing.
 use Prim.Native.Nat.{ℕ, suc, _-_}
-use mathlib.Core.Bool.{Bool, true, false, not, _&&_, _||_}
+use mathlib.Core.Bool.{Bool, false, not, _&&_, _||_}
 use mathlib.Core.List.{List, [], _∷_}
 use lib.Dec.{eqb}
 use Rattle.common.specs.Pick.{pick}
-use Rattle.lex.specs.Byte.{white, place}
+use Rattle.lex.specs.Byte.{white}
 use Rattle.common.specs.Walk.{Turn, stop, on, walk}
 use Rattle.lex.specs.Lexer.{calm, next}
-use Rattle.lex.specs.Search.{Sought, at, fault, trivia}
+use Rattle.lex.specs.Search.{trivia}
+use Rattle.lex.specs.Answer.{Sought, at, fault}
 use Rattle.lex.specs.declared.Mode.{Mode}
 use Rattle.lex.specs.declared.Mode.the-variants.{Plain, Slash, Text, Quoted, Remark, Starred}
-
--- where a parameter stops, trailing trivia dropped, and where its comma or the end is; or an open literal's quote
-pub data Cut : Type 0 where
-  cut : List ℕ → List ℕ → Cut
-  unclosed : List ℕ → Cut
+use Rattle.params.specs.Answer.{Cut, cut, unclosed}
 
 -- how far a parameter is read: the lexer's mode, whether in a binary literal, the open parentheses, the rest from the last byte
 -- outside literals and comments, which is where one that is open now begins, and the rest after the last byte that is no trivia

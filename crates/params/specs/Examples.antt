@@ -9,7 +9,8 @@ use Rattle.lex.specs.Search.{trivia}
 use Rattle.lex.specs.Grammar.{Trivia}
 use Rattle.params.specs.Grammar.{Parameter, Whole, Trails, Bound}
 use Rattle.params.specs.Cut.{cutOf, started}
-use Rattle.params.specs.Reader.{reading, span, paramOf}
+use Rattle.params.specs.Reader.{paramOf}
+use Rattle.params.specs.Answer.{reading, span}
 
 -- "An empty parameter is a parameter", by the rules
 pub empty-parameter : (r : List ℕ) → Parameter (44 ∷ r) (44 ∷ r) (44 ∷ r)

@@ -1,6 +1,7 @@
 -- What document 01 means by a parameter, as rules of a grammar that name no loop. A rule speaks of the bytes up to the reader's end,
 -- xs, and of the rest that is left of them. Strings, comments and trivia are the scan's (lex/specs/Grammar.antt). Right.antt shows that
 -- Cut.antt computes just these, and that there is no other. Assumes nothing.
+-- Definitions to be believed: no law, and nothing computed that no theorem ties (docs/BELIEVE.md).
 use Prim.Native.Nat.{ℕ, zero, suc}
 use mathlib.Core.Path.{_≡_}
 use mathlib.Core.Bool.{Bool, true, false}

@@ -1,7 +1,9 @@
 pub mod Grammar
+pub mod Answer
 pub mod Cut
 pub mod Seek
 pub mod Reader
+pub mod Skips
 pub mod ReaderLaws
 pub mod Right
 pub mod Rules

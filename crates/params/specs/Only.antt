@@ -7,10 +7,10 @@ use mathlib.Core.List.{List}
 use native.Mathlib.Omega.{arith}
 use lib.ListN.{length, drop, length-drop}
 use Rattle.common.specs.Compare.{clash}
-use Rattle.error.specs.Refusal.{Told, good, bad, faultOf, faultOf-told}
-use Rattle.params.specs.Cut.{Cut, cutOf}
-use Rattle.params.specs.Seek.{endedAt, EndedIn}
-use Rattle.params.specs.Reader.{Read, Span, toldCut, toldOpened, toldEmptiness, toldSkipped}
+use Rattle.error.specs.Refusal.{Told, good, bad}
+use Rattle.error.specs.Only.{faultOf, faultOf-told}
+use Rattle.params.specs.Cut.{cutOf}
+use Rattle.params.specs.Answer.{Cut, Read, Span, toldCut, toldOpened, toldEmptiness, toldSkipped, endedAt, EndedIn}
 use Rattle.params.specs.declared.State.{State}
 use Rattle.params.specs.declared.Ended.{Ended}
 use Rattle.params.specs.declared.Ended.the-variants.{At, Open}

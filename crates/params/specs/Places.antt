@@ -16,7 +16,9 @@ use Rattle.lex.specs.Byte.{place}
 use Rattle.params.specs.Grammar.{Bound, Parameter, Starts}
 use Rattle.params.specs.Cut.{started}
 use Rattle.params.specs.Right.{started-is}
-use Rattle.params.specs.Reader.{Read, reading, Span, inFile, paramOf, emptied, emptyOf, onward, mapped, skipOf, andThen, skipFrom, skipsOf}
+use Rattle.params.specs.Reader.{paramOf}
+use Rattle.params.specs.Skips.{emptied, emptyOf, skipOf, andThen, skipFrom, skipsOf}
+use Rattle.params.specs.Answer.{Read, reading, Span, inFile, onward, mapped}
 use Rattle.params.specs.ReaderLaws.{in-true}
 use Rattle.params.specs.Rules.{Inside, rest, NextForm}
 use Rattle.params.specs.RulesRight.{starts-rest, rest-within, inside-true, next-is}

@@ -12,13 +12,16 @@ use lib.Seq.{length-take-le}
 use Rattle.common.specs.Pick.{pick}
 use Rattle.common.specs.Lists.{split, drop-end}
 use Rattle.error.specs.Refusal.{Refusal, refusal, Told, good, bad}
-use Rattle.lex.specs.Byte.{white, place, place-drop}
-use Rattle.lex.specs.Search.{Sought, at, fault, trivia, placed}
+use Rattle.lex.specs.Byte.{white, place}
+use Rattle.lex.specs.Place.{place-drop}
+use Rattle.lex.specs.Search.{trivia}
+use Rattle.lex.specs.Answer.{Sought, at, fault, placed}
 use Rattle.lex.specs.At.{trivia-at}
 use Rattle.lex.specs.Right.{trivia-here}
-use Rattle.params.specs.Cut.{Cut, cut, unclosed, cutOf, runsOut, started, eaten}
-use Rattle.params.specs.Seek.{endedAt, EndedIn}
-use Rattle.params.specs.Reader.{Read, reading, Span, span, inFile, within, bounded, begun, paramOf, CutIn, emptied, emptyOf, skipOf, andThen, skipFrom, skipsOf}
+use Rattle.params.specs.Cut.{cutOf, runsOut, started, eaten}
+use Rattle.params.specs.Answer.{Cut, cut, unclosed, Read, reading, Span, span, inFile, within, CutIn, endedAt, EndedIn}
+use Rattle.params.specs.Reader.{bounded, begun, paramOf}
+use Rattle.params.specs.Skips.{emptied, emptyOf, skipOf, andThen, skipFrom, skipsOf}
 use Rattle.params.specs.declared.State.{State}
 use Rattle.params.specs.declared.Cut as Code
 use Rattle.params.specs.declared.Ended.{Ended}

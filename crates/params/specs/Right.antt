@@ -15,7 +15,8 @@ use Rattle.common.specs.Compare.{clash}
 use Rattle.lex.specs.Byte.{white}
 use Rattle.common.specs.Walk.{walk}
 use Rattle.lex.specs.Lexer.{calm, fresh, next}
-use Rattle.lex.specs.Search.{Sought, at, fault, trivia}
+use Rattle.lex.specs.Search.{trivia}
+use Rattle.lex.specs.Answer.{Sought, at, fault}
 use Rattle.lex.specs.Grammar.{Begins, Opens, Remarked, Comment, Inside, Quotation, Trivia, Led, OpenText, OpenRemark}
 use Rattle.lex.specs.Right.{trivia-is, trivia-open, trivia-only, trivia-open-only}
 use Rattle.lex.specs.Right.Steps.{Deaf, remark-shut, remark-open, text-ends, text-over}
@@ -23,7 +24,8 @@ use Rattle.lex.specs.Right.Tokens.{open-text, open-remark, Reads, tokens, quota
 use Rattle.lex.specs.declared.Mode.{Mode}
 use Rattle.lex.specs.declared.Mode.the-variants.{Plain, Slash, Text, Quoted, Remark, Starred}
 use Rattle.params.specs.Grammar.{Without, Binary, OpenBinary, Ordinary, Token, Runs, Whole, Trails, Bound, Parameter, Unclosed, Starts}
-use Rattle.params.specs.Cut.{Cut, cut, unclosed, Stand, stand, outside, settled, solidAfter, level, modeAfter, binaryAfter, passed, cutTurn, over, cutEnd, cutOf, runsOut, started}
+use Rattle.params.specs.Cut.{Stand, stand, outside, settled, solidAfter, level, modeAfter, binaryAfter, passed, cutTurn, over, cutEnd, cutOf, runsOut, started}
+use Rattle.params.specs.Answer.{Cut, cut, unclosed}
 
 -- the search from a state
 abbrev from : Mode → Bool → ℕ → List ℕ → List ℕ → List ℕ → Cut

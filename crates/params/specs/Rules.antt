@@ -1,12 +1,13 @@
 -- Document 01, 'Parameters' and 'Refusal numbers': what the argument reader answers for the next parameter, and where it then stands,
 -- as rules that name no loop. Grammar.antt has the parameter itself. The file is s; the reader stands at the place p and reads up to
 -- e. RulesRight.antt shows that Reader.antt computes just this, and that there is no other answer. Assumes nothing.
+-- Definitions to be believed: no law, and nothing computed that no theorem ties (docs/BELIEVE.md).
 use Prim.Native.Nat.{ℕ, suc, _≤_, _<_}
 use mathlib.Core.List.{List, []}
 use lib.ListN.{length, take, drop}
 use Rattle.error.specs.Refusal.{refusal, good, bad}
 use Rattle.params.specs.Grammar.{Starts, Parameter, Unclosed}
-use Rattle.params.specs.Reader.{Read, reading, Span, span}
+use Rattle.params.specs.Answer.{Read, reading, Span, span}
 
 -- the reader's place and end lie in the file, and not backwards
 abbrev pub Inside : List ℕ → ℕ → ℕ → Type 0

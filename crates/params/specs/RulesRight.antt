@@ -14,9 +14,10 @@ use Rattle.error.specs.Refusal.{refusal, good, bad}
 use Rattle.lex.specs.Byte.{place}
 use Rattle.lex.specs.Grammar.{Comment, Quotation, Trivia}
 use Rattle.params.specs.Grammar.{Binary, Token, Runs, Whole, Trails, Parameter, Unclosed, Starts}
-use Rattle.params.specs.Cut.{Cut, cut, unclosed, cutOf, started}
+use Rattle.params.specs.Cut.{cutOf, started}
+use Rattle.params.specs.Answer.{Cut, cut, unclosed, Read, reading, Span, span, inFile}
 use Rattle.params.specs.Right.{param-is, param-only, unclosed-is, unclosed-only, started-is, started-only}
-use Rattle.params.specs.Reader.{Read, reading, Span, span, inFile, bounded, begun, paramOf}
+use Rattle.params.specs.Reader.{bounded, begun, paramOf}
 use Rattle.params.specs.ReaderLaws.{in-true, param-none, param-cut, param-open}
 use Rattle.params.specs.Rules.{Inside, rest, NextForm}
 

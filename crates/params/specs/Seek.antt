@@ -2,7 +2,7 @@
 -- code goes by, one for each way out of it. Assumes nothing.
 use Prim.Native.Nat.{ℕ, zero, suc, _+_, _-_, _<_, _≤_, _^_}
 use mathlib.Core.Path.{_≡_, refl, sym, _∙_, ap}
-use mathlib.Core.Bool.{Bool, true, false, _&&_, _||_}
+use mathlib.Core.Bool.{Bool, true, false}
 use mathlib.Core.List.{List, [], _∷_, _++_, append-nil}
 use native.Mathlib.Omega.{arith}
 use lib.Dec.{eqb}
@@ -13,28 +13,18 @@ use Rattle.common.specs.Pick.{pick}
 use Rattle.common.specs.Lists.{split, drop-end}
 use Rattle.common.specs.Compare.{clash}
 use Rattle.lex.specs.Byte.{white}
-use Rattle.common.specs.Walk.{walk}
-use Rattle.tokens.specs.Leap.{fromByte, heads, Rest, ends, never, stringRest, commentRest, toldPast, PastIn}
+use Rattle.tokens.specs.Answer.{fromByte, heads, ends, never, toldPast, PastIn}
+use Rattle.tokens.specs.Leap.{stringRest, commentRest}
 use Rattle.tokens.specs.declared.Past.{Past}
 use Rattle.tokens.specs.declared.Past as PastCode
 use Rattle.tokens.specs.Laws.{string-is, string-never, comment-is, comment-never, byte-found}
-use Rattle.params.specs.Grammar.{Without, Binary, OpenBinary, Ordinary, Token, Bound}
-use Rattle.params.specs.Cut.{Cut, cut, unclosed, cutOf}
+use Rattle.params.specs.Grammar.{Without, Ordinary, Token, Bound}
+use Rattle.params.specs.Cut.{cutOf}
+use Rattle.params.specs.Answer.{Cut, cut, unclosed}
 use Rattle.params.specs.Right.{plainly, blank-step, comment-step, remark-stuck, string-step, text-stuck, binary-step, byte-step, token-step, bound-stops, without-cons, without-nil, unended, binary-stuck}
-use Rattle.params.specs.declared.Ended.{Ended}
 use Rattle.params.specs.declared.Ended.the-variants.{At, Open}
 use Rattle.params.specs.declared.Step.{Step}
 use Rattle.params.specs.declared.Step as StepCode
-
--- what the code's answer says, of the bytes xs
-abbrev pub endedAt : List ℕ → Ended → Cut
-endedAt xs (At z bound) = cut (drop z xs) (drop bound xs)
-endedAt xs (Open q) = unclosed (drop q xs)
-
--- its places lie from the parameter's start, in order, to the end
-abbrev pub EndedIn : ℕ → ℕ → Ended → Type 0
-EndedIn start n (At z bound) = (start ≤ z) × (z ≤ bound) × (bound ≤ n)
-EndedIn start n (Open q) = (start ≤ q) × (q ≤ n)
 
 -- the search from i on, outside literals and comments, the parameter reaching to z, with d open parentheses
 abbrev pub onward : List ℕ → ℕ → ℕ → ℕ → Cut

@@ -18,7 +18,8 @@ use Rattle.record.specs.FormRight.Parts.{first-other, all-front, all-back, span
 use Rattle.statement.specs.Rows.{HeaderRow, headerRow}
 use Rattle.statement.specs.Closed.{ClosedParts}
 use Rattle.statement.specs.Form.{ArguedTo}
-use Rattle.parts.specs.Part.{separator, Window, NextForm, PartsForm, partsOf}
+use Rattle.parts.specs.Rules.{separator, Window, NextForm, PartsForm}
+use Rattle.parts.specs.Part.{partsOf}
 use Rattle.parts.specs.PartRight.{parts-only}
 
 -- "keyword start and end [..], argument start and end": a part whose places count from the place n of the file

@@ -12,9 +12,11 @@ use lib.Seq.{take-all, drop-cons}
 use borrow.Author.Tests.{lt-ltb, le-ltb}
 use Rattle.common.specs.Pick.{pick}
 use Rattle.error.specs.Refusal.{Refusal, refusal, Told, good, bad}
-use Rattle.lex.specs.Byte.{white, place, place-drop}
+use Rattle.lex.specs.Byte.{white, place}
+use Rattle.lex.specs.Place.{place-drop}
 use Rattle.common.specs.Walk.{walk}
-use Rattle.lex.specs.Search.{Sought, at, fault, closing, placed}
+use Rattle.lex.specs.Search.{closing}
+use Rattle.lex.specs.Answer.{Sought, at, fault, placed}
 use Rattle.lex.specs.Local.{closing-local}
 use Rattle.lex.specs.Right.{closing-is}
 use Rattle.record.specs.Text.{past, keyword}
@@ -28,7 +30,8 @@ use Rattle.statement.specs.Row.{mapped, argued}
 use Rattle.statement.specs.Statement.{headerRowOf}
 use Rattle.statement.specs.declared.HeaderSpan.{HeaderSpan}
 use Rattle.kinds.specs.declared.Kind.{Kind}
-use Rattle.parts.specs.Part.{separator, partBy, partIn, nextOf, PartIn, before, partsBy, partsFrom, partsOf, isKind, firstKind, firstOf, toldNext}
+use Rattle.parts.specs.Part.{partBy, partIn, nextOf, PartIn, partsBy, partsFrom, partsOf, firstKind, firstOf}
+use Rattle.parts.specs.Rules.{separator, before, isKind, toldNext}
 use Rattle.parts.specs.declared.Next.{Next}
 use Rattle.parts.specs.declared.Next.the-variants.{Is, Over, Refused}
 

@@ -1,3 +1,4 @@
+pub mod Rules
 pub mod Part
 pub mod Laws
 pub mod PartRight

@@ -2,10 +2,11 @@
 -- Assumes nothing.
 use mathlib.Core.Path.{_≡_, refl, sym, _∙_, ap}
 use mathlib.Core.Option.{Option, none, some}
-use Rattle.error.specs.Refusal.{Told, good, bad, faultOf, faultOf-told}
+use Rattle.error.specs.Refusal.{Told, good, bad}
+use Rattle.error.specs.Only.{faultOf, faultOf-told}
 use Rattle.statement.specs.Rows.{HeaderRow}
 use Rattle.statement.specs.declared.HeaderSpan.{HeaderSpan}
-use Rattle.parts.specs.Part.{toldNext}
+use Rattle.parts.specs.Rules.{toldNext}
 use Rattle.parts.specs.declared.Next.{Next}
 use Rattle.parts.specs.declared.Next.the-variants.{Is, Over, Refused}
 

@@ -15,7 +15,8 @@ use Rattle.common.specs.Pick.{pick}
 use Rattle.common.specs.Compare.{clash}
 use Rattle.error.specs.Refusal.{Refusal, refusal, Told, good, bad}
 use Rattle.lex.specs.Byte.{white, place}
-use Rattle.lex.specs.Search.{closing, placed}
+use Rattle.lex.specs.Search.{closing}
+use Rattle.lex.specs.Answer.{placed}
 use Rattle.record.specs.Text.{past, Keyed, opened, unopened, keyword}
 use Rattle.record.specs.Head.{headerHead}
 use Rattle.record.specs.Form.{Skipped, Free, NotFirst, Keyword, HeaderForm}
@@ -28,7 +29,8 @@ use Rattle.statement.specs.Row.{mapped, argued}
 use Rattle.statement.specs.Form.{Argued}
 use Rattle.statement.specs.FormRight.{argued-only, argued-is}
 use Rattle.kinds.specs.declared.Kind.{Kind}
-use Rattle.parts.specs.Part.{separator, partBy, partIn, nextOf, Window, NextForm, before, partsBy, partsFrom, partsOf, PartsForm, isKind, firstKind, partOf, NoPart, IsFirstPart, FirstPart, ComplexPart}
+use Rattle.parts.specs.Part.{partBy, partIn, nextOf, partsBy, partsFrom, partsOf, firstKind, partOf}
+use Rattle.parts.specs.Rules.{separator, Window, NextForm, before, PartsForm, isKind, NoPart, IsFirstPart, FirstPart, ComplexPart}
 use Rattle.parts.specs.Laws.{next-outside, next-done, next-ahead}
 
 -- what is not a separator is not white

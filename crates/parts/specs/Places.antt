@@ -16,7 +16,8 @@ use Rattle.statement.specs.Rows.{HeaderRow}
 use Rattle.statement.specs.Row.{mapped}
 use Rattle.statement.specs.Form.{ArguedTo, Argued}
 use Rattle.kinds.specs.declared.Kind.{Kind}
-use Rattle.parts.specs.Part.{nextOf, NextForm, PartIn, before, partsBy, partsFrom, partsOf, PartsForm, isKind, firstKind, partOf}
+use Rattle.parts.specs.Part.{nextOf, PartIn, partsBy, partsFrom, partsOf, firstKind, partOf}
+use Rattle.parts.specs.Rules.{NextForm, before, PartsForm, isKind}
 use Rattle.parts.specs.Laws.{next-in}
 use Rattle.parts.specs.PartRight.{next-is, next-only, parts-are}
 

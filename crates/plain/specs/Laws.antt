@@ -11,7 +11,7 @@ use lib.Seq.{sets, sets-eq}
 use borrow.Author.Tests.{le-leb}
 use Rattle.common.specs.Pick.{pick}
 use Rattle.index.specs.declared.Ids.{Ids}
-use Rattle.kinds.specs.Kind.{rankOf}
+use Rattle.kinds.specs.Rules.{rankOf}
 use Rattle.kinds.specs.declared.Kind.{Kind}
 use Rattle.kinds.specs.declared.Kind.the-variants.{Other}
 use Rattle.lookup.specs.declared.Tables.{Tables}

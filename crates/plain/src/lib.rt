@@ -7,7 +7,7 @@ ghost use Prim.Native.Nat.{_%_};
 ghost use lib.ListN.{length, getD};
 ghost use lib.Dec.{leb};
 ghost use Rattle.common.specs.Pick.{pick};
-ghost use Rattle.kinds.specs.Kind.{rankOf};
+ghost use Rattle.kinds.specs.Rules.{rankOf};
 ghost use Rattle.table.specs.Table.{rowWidth, headerWidth, six, four};
 ghost use Rattle.statement.specs.Statement.{rowOf, headerRowOf};
 ghost use Rattle.plain.specs.Answers.{truthNumber};

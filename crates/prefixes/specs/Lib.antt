@@ -1,2 +1,4 @@
+pub mod Rules
 pub mod Prefix
+pub mod Length
 pub mod PrefixRight

@@ -1,9 +1,8 @@
--- Document 01, 'Units': the sixteen SI prefixes, their names and factors. Assumes nothing.
-use Prim.Native.Nat.{ℕ, zero, suc, _+_, _*_, _-_, _^_, _≤_, _<_}
-use Prim.Native.String.{String}
+-- Document 01, 'Units': the factor of a prefix by its name, computed; Rules.antt has the table. Assumes nothing.
+use Prim.Native.Nat.{ℕ, zero, suc, _+_, _-_, _≤_, _<_}
 use mathlib.Core.Path.{_≡_, refl, sym, _∙_, ap, subst}
 use mathlib.Core.Bool.{Bool, true, false}
-use mathlib.Core.List.{List, [], _∷_, _++_}
+use mathlib.Core.List.{List, [], _∷_}
 use native.Mathlib.Omega.{arith}
 use native.Mathlib.Nat.{add-zero, zero-add, add-suc, suc-add, le-of-suc-le-suc, not-suc-le-zero}
 use native.Mathlib.Numerals.{add-one}
@@ -17,50 +16,7 @@ use Rattle.common.specs.Pick.{pick}
 use Rattle.record.specs.Word.{isWord}
 use Rattle.record.specs.Form.{bytes}
 use Rattle.nearest.specs.Near.{near, nearUnits}
-use Rattle.nearest.specs.Product.{product}
-
--- a prefix: its name, and its power of ten, a negative one where true
-pub record Prefix : Type 0 where
-  pub name : String
-  pub down : Bool
-  pub tens : ℕ
-
--- a row of the table
-abbrev pub row : String → Bool → ℕ → Prefix
-row n d k = record { name = n; down = d; tens = k }
-
--- "EXA 1e18, PETA 1e15, [..] ATTO 1e-18"
-abbrev pub prefixes : List Prefix
-prefixes =
-    row "EXA" false 18
-    ∷ row "PETA" false 15
-    ∷ row "TERA" false 12
-    ∷ row "GIGA" false 9
-    ∷ row "MEGA" false 6
-    ∷ row "KILO" false 3
-    ∷ row "HECTO" false 2
-    ∷ row "DECA" false 1
-    ∷ row "DECI" true 1
-    ∷ row "CENTI" true 2
-    ∷ row "MILLI" true 3
-    ∷ row "MICRO" true 6
-    ∷ row "NANO" true 9
-    ∷ row "PICO" true 12
-    ∷ row "FEMTO" true 15
-    ∷ row "ATTO" true 18
-    ∷ []
-
--- "any other 1.0"
-abbrev pub unity : Prefix
-unity = row "" false 0
-
--- the power of ten as a fraction
-abbrev pub tenUp : Prefix → ℕ
-tenUp p = pick (p .down) 1 (10 ^ p .tens)
-
--- the fraction's lower side
-abbrev pub tenDown : Prefix → ℕ
-tenDown p = pick (p .down) (10 ^ p .tens) 1
+use Rattle.prefixes.specs.Rules.{Prefix, prefixes, unity, tenUp, tenDown}
 
 -- the place of the prefix that is named so, letters in either case; the number of prefixes where there is none
 unfoldable pub placeIn : List Prefix → List ℕ → ℕ
@@ -74,10 +30,6 @@ prefixOf t = getD prefixes (placeIn prefixes t) unity
 -- the f64 nearest to the prefix's power of ten, by its pattern
 abbrev pub factorOf : List ℕ → ℕ
 factorOf t = near (tenUp (prefixOf t)) (tenDown (prefixOf t))
-
--- "Length in mm: 1000.0 times the prefix factor, one rounding"
-abbrev pub lengthFactorOf : List ℕ → ℕ
-lengthFactorOf t = product (near 1000 1) (factorOf t)
 
 -- ---- the code's tables: all names in a row, where each begins, and the factors, 1.0 the last
 -- the names one after another

@@ -1,4 +1,4 @@
--- The factor of a prefix as a rule that names no search, and that Prefix.antt computes just this. Assumes nothing.
+-- The factor of a prefix by the rule that names no search (Rules.antt): Prefix.antt computes just this. Assumes nothing.
 use Prim.Native.Nat.{ℕ, zero, suc, _^_, _≤_, _<_}
 use mathlib.Core.Path.{_≡_, refl, sym, _∙_, ap, subst}
 use mathlib.Core.Bool.{Bool, true, false, not, _&&_}
@@ -14,14 +14,9 @@ use Rattle.common.specs.Pick.{pick}
 use Rattle.record.specs.Word.{same, isWord}
 use Rattle.record.specs.Form.{bytes, Spelt}
 use Rattle.record.specs.FormRight.{spelt-is, spelt-only}
-use Rattle.nearest.specs.Nearest.{IsNearest}
 use Rattle.nearest.specs.Near.{near, near-is, near-only}
-use Rattle.prefixes.specs.Prefix.{Prefix, row, prefixes, unity, tenUp, tenDown, placeIn, prefixOf, factorOf, place-most}
-
--- "Prefixes: [..]; any other 1.0", "all in either case": the nearest f64 to the power of ten of the one row that is named so
-pub data PrefixForm : List ℕ → ℕ → Type 0 where
-  named : {t : List ℕ} {b : ℕ} (k : ℕ) → k < 16 → Spelt t (getD prefixes k unity .name) → IsNearest (tenUp (getD prefixes k unity)) (tenDown (getD prefixes k unity)) b → PrefixForm t b
-  other : {t : List ℕ} {b : ℕ} → ((k : ℕ) → k < 16 → Spelt t (getD prefixes k unity .name) → ⊥) → IsNearest 1 1 b → PrefixForm t b
+use Rattle.prefixes.specs.Prefix.{placeIn, prefixOf, factorOf, place-most}
+use Rattle.prefixes.specs.Rules.{Prefix, prefixes, unity, tenUp, tenDown, PrefixForm, named, other}
 
 -- ---- no two rows have one name: one test that antt computes
 -- no row has this name

@@ -1,7 +1,9 @@
 // The SI prefixes' factors. As the Rust's si_prefix_factor.
 ghost use mathlib.Core.Path.{_≡_};
 ghost use lib.Ieee.{binary64, toBits};
-ghost use Rattle.prefixes.specs.Prefix.{prefixes, placeIn, factorOf, lengthFactorOf};
+ghost use Rattle.prefixes.specs.Prefix.{placeIn, factorOf};
+ghost use Rattle.prefixes.specs.Length.{lengthFactorOf};
+ghost use Rattle.prefixes.specs.Rules.{prefixes};
 
 // The sixteen SI prefixes' names in a row, EXA to ATTO as document 01 lists them, and where each begins.
 const NAMES: [u8; 68] = *b"EXAPETATERAGIGAMEGAKILOHECTODECADECICENTIMILLIMICRONANOPICOFEMTOATTO";

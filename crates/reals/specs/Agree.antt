@@ -8,9 +8,10 @@ use lib.ListN.{getD}
 use lib.IntN.{pos}
 use lib.Ieee.{Float, nan, binary64, ofInt, neg, toBits}
 use Rattle.nearest.specs.Near.{near}
-use Rattle.nearest.specs.Round.{signed}
-use Rattle.nearest.specs.Product.{worthOf, finite, product, quotient, product-exact, quotient-exact, worth-whole, worth-minus}
-use Rattle.nearest.specs.Power.{ten-pos}
+use Rattle.nearest.specs.Nearest.{signed}
+use Rattle.nearest.specs.Product.{worthOf, finite, product, quotient}
+use Rattle.nearest.specs.ProductRight.{product-exact, quotient-exact, worth-whole, worth-minus}
+use Rattle.nearest.specs.PowerLaws.{ten-pos}
 use Rattle.reals.specs.Table.{powers, power-worth}
 
 -- whatever patterns stand for m, with its sign, and for 10^k: what the wide path answers for m * 10^k has the bits of their product

@@ -16,7 +16,7 @@ use Rattle.record.specs.Text.{Digits, digits, digitTurn, digit, numberFrom}
 use Rattle.nearest.specs.Near.{near}
 use Rattle.nearest.specs.Borders.{near-nothing}
 use Rattle.nearest.specs.Power.{nearBy}
-use Rattle.long.specs.Digits.{numberIn}
+use Rattle.long.specs.Number.{numberIn}
 use Rattle.long.specs.Far.{far-zero, high-infinity}
 use Rattle.long.specs.DigitsRight.{number-next, number-past}
 use Rattle.reals.specs.Scalar.{nearTen, largest, mantissa, pointed, fractionOf}

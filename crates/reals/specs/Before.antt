@@ -8,8 +8,9 @@ use mathlib.Core.List.{List}
 use native.Mathlib.Nat.{lt-of-lt-of-le, pow-le-pow-right}
 use native.Mathlib.Omega.{arith}
 use Rattle.common.specs.Compare.{clash}
-use Rattle.nearest.specs.Round.{signed}
-use Rattle.reals.specs.Scalar.{Answer, read, refused, Parsed, parsed, unparsed, parseOf, longest, farthest, nearTen, belongs, classIn, classOf, realOf, anyOf, anyRealOf}
+use Rattle.nearest.specs.Nearest.{signed}
+use Rattle.reals.specs.Scalar.{Parsed, parsed, unparsed, parseOf, nearTen, belongs, classIn, classOf, realOf, anyOf, anyRealOf}
+use Rattle.reals.specs.Answer.{Answer, read, refused, longest, farthest}
 use Rattle.reals.specs.Form.{Reach, Classed}
 use Rattle.reals.specs.FormRight.{Decided, class-is}
 

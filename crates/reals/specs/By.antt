@@ -4,7 +4,9 @@ use mathlib.Core.Path.{_≡_}
 use mathlib.Core.Logic.{_⊎_, inl, inr}
 use mathlib.Core.Bool.{Bool}
 use mathlib.Core.List.{List}
-use Rattle.reals.specs.Scalar.{refused, unparsed, parseOf, realBy}
+use Rattle.reals.specs.Scalar.{unparsed, parseOf}
+use Rattle.reals.specs.Which.{realBy}
+use Rattle.reals.specs.Answer.{refused}
 use Rattle.reals.specs.Form.{Written}
 use Rattle.reals.specs.FormRight.{written-is, unparsed-by}
 use Rattle.reals.specs.declared.Reals.{Reals}

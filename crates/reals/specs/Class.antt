@@ -9,9 +9,10 @@ use lib.Dec.{ltb, leb}
 use lib.Pow.{pow-add}
 use Rattle.common.specs.Pick.{pick}
 use Rattle.nearest.specs.Near.{near, near-same}
-use Rattle.nearest.specs.Round.{signed}
-use Rattle.nearest.specs.Power.{ten-pos}
-use Rattle.reals.specs.Scalar.{Answer, read, refused, parsed, farthest, classOf, reaches, nearTen, most, largest}
+use Rattle.nearest.specs.Nearest.{signed}
+use Rattle.nearest.specs.PowerLaws.{ten-pos}
+use Rattle.reals.specs.Scalar.{parsed, classOf, reaches, nearTen, most, largest}
+use Rattle.reals.specs.Answer.{Answer, read, refused, farthest}
 
 -- an exponent that outweighs the fraction
 pub raised-same : (m f x : ℕ) → f ≤ x → near (m * 10 ^ (x - f)) 1 ≡ near (m * 10 ^ x) (10 ^ f)

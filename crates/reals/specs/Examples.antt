@@ -7,7 +7,8 @@ use Rattle.common.specs.Walk.{walk}
 use Rattle.record.specs.Form.{bytes}
 use Rattle.record.specs.Text.{numberFrom}
 use Rattle.nearest.specs.Near.{near, nearUnits}
-use Rattle.reals.specs.Scalar.{read, refused, parseOf, realOf, anyRealOf, wholeOf, referenceOf}
+use Rattle.reals.specs.Scalar.{parseOf, realOf, anyRealOf, wholeOf, referenceOf}
+use Rattle.reals.specs.Answer.{read, refused}
 use Rattle.reals.specs.Before.{realBefore}
 
 -- #101: "example 9 becomes `1E27` in and `1E28` out, nineteen digits in and twenty out"

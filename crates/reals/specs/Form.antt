@@ -1,6 +1,7 @@
 -- Document 01, 'Parameters', with the class of reals of #101, and any real: reals, integers and references as rules that name no loop: a rule speaks of a
 -- list of bytes and of the parts it is put together from. The byte `#` is 35, `+` is 43, `-` is 45, `.` is 46, `E` is 69 and `e` is 101.
 -- FormRight.antt and WholeRight.antt show that Scalar.antt computes just this, and that there is no other answer. Assumes nothing.
+-- Definitions to be believed: no law, and nothing computed that no theorem ties (docs/BELIEVE.md).
 use Prim.Native.Nat.{ℕ, _+_, _*_, _^_, _≤_, _<_}
 use mathlib.Core.Path.{_≡_}
 use mathlib.Core.Logic.{_⊎_}
@@ -10,9 +11,8 @@ use lib.IntN.{ℤ, pos, negℤ}
 use lib.ListN.{length}
 use Rattle.record.specs.Text.{digit}
 use Rattle.record.specs.Form.{All, valueOf, Id}
-use Rattle.nearest.specs.Nearest.{IsNearest}
-use Rattle.nearest.specs.Round.{signed}
-use Rattle.reals.specs.Scalar.{Answer, read, refused, longest, farthest}
+use Rattle.nearest.specs.Nearest.{IsNearest, signed}
+use Rattle.reals.specs.Answer.{Answer, read, refused, longest, farthest}
 
 -- "Optional sign", and then u; true is the sign `-`
 pub data Signed : List ℕ → Bool → List ℕ → Type 0 where
@@ -48,7 +48,7 @@ abbrev pub Reach : ℕ → ℕ → Bool → ℕ → Type 0
 Reach far f false x = (x ≤ f + far) × (f ≤ x + far)
 Reach far f true x = x + f ≤ far
 
--- #101: "m has at most 19 digits and −27 ≤ e ≤ 27", by the two bounds; "leading zeros dropped". The class is this at `longest` and `farthest` (Scalar.antt)
+-- #101: "m has at most 19 digits and −27 ≤ e ≤ 27", by the two bounds; "leading zeros dropped". The class is this at `longest` and `farthest` (Answer.antt)
 pub record Classed (long far m f : ℕ) (down : Bool) (x : ℕ) : Type 0 where
   pub few : m < 10 ^ long
   pub reach : Reach far f down x

@@ -19,9 +19,11 @@ use Rattle.record.specs.Turns.{bounds}
 use Rattle.record.specs.FormRight.{number-only, number-is}
 use Rattle.record.specs.FormRight.Parts.{first-other, number-pass, number-halt, Spanned, span}
 use Rattle.nearest.specs.Near.{near, near-is, near-only}
-use Rattle.nearest.specs.Round.{signed}
-use Rattle.reals.specs.Scalar.{Answer, read, refused, unsigned, minus, Mantissa, mantissa, pointed, fractionOf, Exponent, power, malformed, ended, exponentOf, Parsed, parsed, unparsed, joined, counted, parseOf, longest, farthest, reaches, belongs, nearTen, classOf, realOf, anyOf, anyRealOf, realBy}
-use Rattle.nearest.specs.Power.{ten-pos}
+use Rattle.nearest.specs.Nearest.{signed}
+use Rattle.reals.specs.Scalar.{unsigned, minus, Mantissa, mantissa, pointed, fractionOf, Exponent, power, malformed, ended, exponentOf, Parsed, parsed, unparsed, joined, counted, parseOf, reaches, belongs, nearTen, classOf, realOf, anyOf, anyRealOf}
+use Rattle.reals.specs.Which.{realBy}
+use Rattle.reals.specs.Answer.{Answer, read, refused, longest, farthest}
+use Rattle.nearest.specs.PowerLaws.{ten-pos}
 use Rattle.reals.specs.Form.{Signed, unmarked, plus, Fraction, pointless, point, Powered, powerless, powered, Written, Reach, Classed, over, under, RealForm, AnyForm, real, outside}
 use Rattle.reals.specs.Form as Form
 use Rattle.reals.specs.declared.Reals.{Reals}

@@ -1,4 +1,6 @@
+pub mod Answer
 pub mod Scalar
+pub mod Which
 pub mod Only
 pub mod Parts
 pub mod Table

@@ -8,7 +8,7 @@ use lib.IntN.{ℤ}
 use lib.Ieee.{Float, binary64, toBits, ofBits, fits}
 use lib.Ieee.Bits.{ofBits-toBits}
 use Rattle.common.specs.Pick.{pick}
-use Rattle.reals.specs.Scalar.{Answer, read, refused, toldReal, toldWhole, toldReference}
+use Rattle.reals.specs.Answer.{Answer, read, refused, toldReal, toldWhole, toldReference}
 use Rattle.reals.specs.declared.Real.{Real}
 use Rattle.reals.specs.declared.Real.the-variants.{Outside, NotReal}
 use Rattle.reals.specs.declared.Whole.{Whole}

@@ -16,7 +16,7 @@ use Rattle.record.specs.Text.{digit, Digits, digits, digitTurn, numberFrom}
 use Rattle.record.specs.Form.{All, valueOf}
 use Rattle.record.specs.Turns.{bounds, digit-stops, digit-goes}
 use Rattle.eights.specs.declared.Eight.{Eight}
-use Rattle.eights.specs.Eights.{EightTold}
+use Rattle.eights.specs.Told.{EightTold}
 use Rattle.reals.specs.Scalar.{NumberAt, DecimalAt, TensAt, unsigned, minus, most, largest, Mantissa, mantissa, pointed, fractionOf, Exponent, power, malformed, ended, exponentOf, digitsOnly, PlainAt}
 use Rattle.reals.specs.Class.{no-and}
 use Rattle.reals.specs.declared.Decimal.{Decimal}

@@ -11,8 +11,10 @@ use lib.ListN.{length, take, drop, length-drop, take-append-drop}
 use lib.Seq.{drop-drop}
 use Rattle.common.specs.Pick.{pick}
 use Rattle.record.specs.Text.{Digits, numberFrom}
-use Rattle.reals.specs.Scalar.{read, refused, toldReal, unsigned, minus, Mantissa, fractionOf, Exponent, power, malformed, exponentOf, parsed, unparsed, joined, parseOf, classOf, realOf, anyOf, anyRealOf, realBy, NumberAt, DecimalAt, TensAt, ClassOf, AnyAt, most, largest}
-use Rattle.long.specs.Digits.{numberIn}
+use Rattle.reals.specs.Scalar.{unsigned, minus, Mantissa, fractionOf, Exponent, power, malformed, exponentOf, parsed, unparsed, joined, parseOf, classOf, realOf, anyOf, anyRealOf, NumberAt, DecimalAt, TensAt, ClassOf, AnyAt, most, largest}
+use Rattle.reals.specs.Which.{realBy}
+use Rattle.reals.specs.Answer.{read, refused, toldReal}
+use Rattle.long.specs.Number.{numberIn}
 use Rattle.long.specs.DigitsRight.{number-append, number-only}
 use Rattle.reals.specs.Any.{number-rest, fraction-rest}
 use Rattle.reals.specs.FormRight.{unparsed-by}

@@ -7,16 +7,13 @@ use mathlib.Core.List.{List, [], _∷_}
 use lib.Dec.{eqb, leb, ltb}
 use lib.ListN.{length, drop}
 use lib.IntN.{ℤ, pos, negℤ}
-use lib.Ieee.{binary64, toBits}
 use Rattle.common.specs.Pick.{pick}
-use Rattle.record.specs.Text.{digit, Digits, numberFrom}
+use Rattle.record.specs.Text.{Digits, numberFrom}
 use Rattle.nearest.specs.Near.{near}
-use Rattle.nearest.specs.Round.{signed}
+use Rattle.nearest.specs.Nearest.{signed}
 use Rattle.nearest.specs.Power.{nearBy}
+use Rattle.reals.specs.Answer.{Answer, read, refused, toldReal, longest, farthest}
 use Rattle.reals.specs.declared.Real.{Real}
-use Rattle.reals.specs.declared.Real.the-variants.{Value, Outside, NotReal}
-use Rattle.reals.specs.declared.Reals.{Reals}
-use Rattle.reals.specs.declared.Reals as RealsCode
 use Rattle.reals.specs.declared.Scale.{Scale}
 use Rattle.reals.specs.declared.Number.{Number}
 use Rattle.reals.specs.declared.Decimal.{Decimal}
@@ -24,21 +21,6 @@ use Rattle.reals.specs.declared.Tens.{Tens}
 use Rattle.reals.specs.declared.Tens.the-variants.{Power, Malformed}
 use Rattle.reals.specs.declared.Plain.{Plain}
 use Rattle.reals.specs.declared.Plain.the-variants.{Other}
-use Rattle.reals.specs.declared.Whole.{Whole}
-use Rattle.reals.specs.declared.Whole.the-variants.{NotWhole}
-use Rattle.reals.specs.declared.Reference.{Reference}
-use Rattle.reals.specs.declared.Reference.the-variants.{NotReference}
-
--- what a scalar reads as, or the number of document 01's refusal; the place is the parameter's, and its reader's to say
-pub data Answer (A : Type 0) : Type 0 where
-  read : A → Answer A
-  refused : ℕ → Answer A
-
--- "real outside the class" is 13, "parameter of another type" 12. A float is told by its bit pattern
-abbrev pub toldReal : Real → Answer ℕ
-toldReal (Value x) = read (toBits binary64 x)
-toldReal Outside = refused 13
-toldReal NotReal = refused 12
 
 -- "Optional sign": what follows it
 abbrev pub unsigned : List ℕ → List ℕ
@@ -106,14 +88,6 @@ unfoldable pub parseOf : List ℕ → Parsed
 parseOf t =
     counted (minus t) (unsigned t) (numberFrom 0 (unsigned t)) (fractionOf (numberFrom 0 (unsigned t) .value) (numberFrom 0 (unsigned t) .rest))
 
--- #101: "m has at most 19 digits". This and the next are the class's two bounds; no other definition repeats them
-abbrev pub longest : ℕ
-longest = 19
-
--- "−27 ≤ e ≤ 27"
-abbrev pub farthest : ℕ
-farthest = 27
-
 -- −far ≤ e ≤ far, e being the exponent less the number f of fraction digits; true is a negative exponent
 abbrev pub reaches : ℕ → ℕ → Bool → ℕ → Bool
 reaches far f false x = leb x (f + far) && leb f (x + far)
@@ -150,22 +124,7 @@ anyOf unparsed = refused 12
 unfoldable pub anyRealOf : List ℕ → Answer ℕ
 anyRealOf t = anyOf (parseOf t)
 
--- what a text answers, by which reals are answered
-abbrev pub realBy : Reals → List ℕ → Answer ℕ
-realBy RealsCode.the-variants.Class t = realOf t
-realBy RealsCode.the-variants.Any t = anyRealOf t
-
 -- ---- integers and references
--- an integer, or 12
-abbrev pub toldWhole : Whole → Answer ℤ
-toldWhole (Whole.Value z) = read z
-toldWhole NotWhole = refused 12
-
--- a reference, or 12
-abbrev pub toldReference : Reference → Answer ℕ
-toldReference (Reference.Value n) = read n
-toldReference NotReference = refused 12
-
 -- "in the signed 64-bit range"
 abbrev pub ranged : Bool → ℕ → Answer ℤ
 ranged false n = pick (ltb n (2 ^ 63)) (read (pos n)) (refused 12)

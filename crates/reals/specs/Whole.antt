@@ -12,7 +12,8 @@ use lib.ListN.{length, drop, getD}
 use Rattle.common.specs.Pick.{pick}
 use Rattle.common.specs.Lists.{split, drop-end}
 use Rattle.record.specs.Text.{numberFrom}
-use Rattle.reals.specs.Scalar.{Answer, read, refused, unsigned, minus, digitsOnly, ranged, wholeOf, idOf, referenceOf, PlainAt, largest}
+use Rattle.reals.specs.Scalar.{unsigned, minus, digitsOnly, ranged, wholeOf, idOf, referenceOf, PlainAt, largest}
+use Rattle.reals.specs.Answer.{Answer, read, refused}
 use Rattle.reals.specs.declared.Plain.{Plain}
 use Rattle.reals.specs.declared.Plain.the-variants.{Other}
 

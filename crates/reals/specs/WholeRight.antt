@@ -15,7 +15,8 @@ use Rattle.common.specs.Compare.{clash}
 use Rattle.record.specs.Text.{digit, Digits, digits, numberFrom}
 use Rattle.record.specs.Form.{All, Skipped, valueOf, Id}
 use Rattle.record.specs.FormRight.{number-is}
-use Rattle.reals.specs.Scalar.{Answer, read, refused, unsigned, minus, digitsOnly, ranged, wholeOf, idOf, referenceOf}
+use Rattle.reals.specs.Scalar.{unsigned, minus, digitsOnly, ranged, wholeOf, idOf, referenceOf}
+use Rattle.reals.specs.Answer.{Answer, read, refused}
 use Rattle.reals.specs.Parts.{both}
 use Rattle.reals.specs.Form.{Signed, Ranged, valued, Integer, WholeForm, whole, ReferenceForm, reference}
 use Rattle.reals.specs.Form as Form

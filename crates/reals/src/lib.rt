@@ -12,10 +12,12 @@ ghost use lib.Ieee.{binary64, toBits};
 ghost use Rattle.record.specs.Text.{digit};
 ghost use Rattle.nearest.specs.Near.{near};
 ghost use Rattle.nearest.specs.Power.{nearBy};
-ghost use Rattle.nearest.specs.Round.{signed};
+ghost use Rattle.nearest.specs.Nearest.{signed};
 ghost use Rattle.nearest.specs.Product.{worthOf, finite};
-ghost use Rattle.reals.specs.Scalar.{toldReal, realOf, realBy, ScaleAt, AnyAt, toldWhole, wholeOf, ranged, toldReference, referenceOf, unsigned, minus, NumberAt, PlainAt, DecimalAt, TensAt, ClassOf, most, farthest};
-ghost use Rattle.long.specs.Digits.{numberIn};
+ghost use Rattle.reals.specs.Scalar.{realOf, ScaleAt, AnyAt, wholeOf, ranged, referenceOf, unsigned, minus, NumberAt, PlainAt, DecimalAt, TensAt, ClassOf, most};
+ghost use Rattle.reals.specs.Which.{realBy};
+ghost use Rattle.reals.specs.Answer.{toldReal, toldWhole, toldReference, farthest};
+ghost use Rattle.long.specs.Number.{numberIn};
 ghost use Rattle.reals.specs.Parts.{Reading, DigitsAt, EightAt};
 
 // Which reals are answered: those of the class, as document 01 and #101 have it, or any.
@@ -44,7 +46,7 @@ pub enum Reference {
     NotReference,
 }
 
-// The class's two bounds, `longest` and `farthest` of specs/Scalar.antt: m has at most 19 digits, so this is one more than the largest m, and
+// The class's two bounds, `longest` and `farthest` of specs/Answer.antt: m has at most 19 digits, so this is one more than the largest m, and
 // -27 <= e <= 27.
 const MOST: u64 = 10000000000000000000;
 

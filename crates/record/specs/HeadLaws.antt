@@ -10,13 +10,13 @@ use borrow.Author.Tests.{eq-eqb, ne-eqb, lt-ltb, le-ltb}
 use lib.Dec.{eqb, ltb}
 use lib.ListN.{length, take, drop, getD, length-drop, length-take, length-map}
 use lib.Seq.{take-all}
-use Rattle.common.specs.Pick.{pick}
 use Rattle.common.specs.Lists.{split, drop-end}
-use Rattle.lex.specs.Byte.{place, place-drop}
-use Rattle.record.specs.Text.{pastGap, Digits, digits, numberFrom, Keyed, opened, unopened, keyword, trail}
-use Rattle.record.specs.Word.{same, upper, isWord, dataWord, opens, opensData, trimmed}
+use Rattle.lex.specs.Byte.{place, white}
+use Rattle.lex.specs.Place.{place-drop}
+use Rattle.record.specs.Text.{pastGap, digits, numberFrom, Keyed, opened, unopened, keyword, trail}
+use Rattle.record.specs.Word.{upper, isWord, dataWord, opens, opensData, trimmed}
 use Rattle.record.specs.Turns.{same-lengths}
-use Rattle.record.specs.Head.{valueHead, equalHead, dataHead, headerHead, namedHead, keyedHead}
+use Rattle.record.specs.Head.{valueHead, equalHead, dataHead, headerHead, keyedHead}
 use Rattle.record.specs.declared.Head.{Head}
 use Rattle.record.specs.declared.Head.the-variants.{Bad, Complex, Simple}
 

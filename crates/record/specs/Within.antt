@@ -7,8 +7,9 @@ use mathlib.Core.List.{List, [], _∷_}
 use lib.Dec.{eqb, ltb}
 use lib.ListN.{length}
 use Rattle.common.specs.Pick.{pick}
-use Rattle.lex.specs.Byte.{place-within}
+use Rattle.lex.specs.Place.{place-within}
 use Rattle.record.specs.Text.{pastGap, Digits, numberFrom, Keyed, opened, unopened, keyword}
+use Rattle.lex.specs.Byte.{place}
 use Rattle.record.specs.Head.{keyedHead, valueHead, equalHead, idHead, hashHead, dataHead, namedHead, headerHead}
 use Rattle.record.specs.declared.Head.{Head}
 use Rattle.record.specs.declared.Head.the-variants.{Bad, Complex, Simple}

@@ -8,9 +8,11 @@ use borrow.Author.Tests.{eqb-true}
 use lib.Dec.{eqb}
 use Rattle.common.specs.Pick.{pick}
 use Rattle.common.specs.Compare.{clash}
-use Rattle.reals.specs.Scalar.{Answer, read, refused, realOf, anyRealOf}
+use Rattle.reals.specs.Scalar.{realOf, anyRealOf}
+use Rattle.reals.specs.Answer.{Answer, read, refused}
 use Rattle.reals.specs.Before.{any-kept, any-12, any-refused}
-use Rattle.scalars.specs.Scalars.{Given, unset, isUnset, asGiven, optionOf, Kernel, inside, bare, kernelOf, kernelReal, measured, measureBy, measureOf}
+use Rattle.scalars.specs.Scalars.{isUnset, asGiven, optionOf, Kernel, inside, bare, kernelOf, kernelReal, measured, measureBy, measureOf}
+use Rattle.scalars.specs.Answer.{Given, unset}
 
 -- ---- no refusal but 12
 -- an answer that is read, or 12

@@ -6,7 +6,8 @@ use Rattle.common.specs.Walk.{walk}
 use Rattle.record.specs.Form.{bytes}
 use Rattle.record.specs.Text.{past, trail, numberFrom}
 use Rattle.record.specs.Word.{same}
-use Rattle.reals.specs.Scalar.{refused, parseOf, realOf, wholeOf, referenceOf}
+use Rattle.reals.specs.Scalar.{parseOf, realOf, wholeOf, referenceOf}
+use Rattle.reals.specs.Answer.{refused}
 use Rattle.scalars.specs.Scalars.{isUnset, optionOf, kernelOf, measureOf, truthOf}
 
 -- "An empty parameter is a parameter (12 for every scalar)": a reference

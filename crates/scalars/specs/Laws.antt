@@ -19,11 +19,13 @@ use Rattle.record.specs.Word.{trimmed}
 use Rattle.record.specs.Form.{All, NotLast}
 use Rattle.record.specs.FormRight.{trail-only}
 use Rattle.record.specs.FormRight.Parts.{last-none}
-use Rattle.reals.specs.Scalar.{Answer, read, refused}
-use Rattle.params.specs.Reader.{Read, reading, Span, span, mapped, paramOf}
+use Rattle.reals.specs.Answer.{Answer, read, refused}
+use Rattle.params.specs.Reader.{paramOf}
+use Rattle.params.specs.Answer.{Read, reading, Span, span, mapped}
 use Rattle.scalars.specs.declared.Inner.{Inner}
 use Rattle.scalars.specs.declared.Inner.the-variants.{Inside, Bare}
-use Rattle.scalars.specs.Scalars.{InnerAt, Given, unset, isUnset, asGiven, optionOf, unopening, Kernel, inside, bare, enclosed, kernelFrom, kernelOf, kernelReal, measured, measureBy, answered, scalarAt, nextOf}
+use Rattle.scalars.specs.Scalars.{InnerAt, isUnset, asGiven, optionOf, unopening, Kernel, inside, bare, enclosed, kernelFrom, kernelOf, kernelReal, measured, measureBy}
+use Rattle.scalars.specs.Answer.{Given, unset, answered, scalarAt, nextOf}
 
 -- a part of a first part
 drop-take : (s m : ℕ) (l : List ℕ) → drop s (take m l) ≡ take (m - s) (drop s l)

@@ -1,3 +1,4 @@
+pub mod Answer
 pub mod Scalars
 pub mod Laws
 pub mod Rules

@@ -10,13 +10,14 @@ use lib.Ieee.{binary64, ofBits, fits}
 use lib.Ieee.Bits.{ofBits-toBits}
 use lib.ListN.{length, take, drop, length-drop}
 use lib.Seq.{length-take-le}
-use Rattle.error.specs.Refusal.{Told, good, bad, faultOf, faultOf-told}
+use Rattle.error.specs.Refusal.{Told, good, bad}
+use Rattle.error.specs.Only.{faultOf, faultOf-told}
 use Rattle.lex.specs.Byte.{white}
 use Rattle.record.specs.Text.{past}
 use Rattle.record.specs.Word.{trimmed}
-use Rattle.params.specs.Reader.{Read}
+use Rattle.params.specs.Answer.{Read}
 use Rattle.params.specs.declared.State.{State}
-use Rattle.scalars.specs.Scalars.{Given, given, unset, Logical, holds, fails, unknown, toldNextRef, toldNextOptRef, toldNextWhole, toldNextReal, toldNextOptReal, toldNextTruth}
+use Rattle.scalars.specs.Answer.{Given, given, unset, Logical, holds, fails, unknown, toldNextRef, toldNextOptRef, toldNextWhole, toldNextReal, toldNextOptReal, toldNextTruth}
 use Rattle.scalars.specs.declared.Part.{Part}
 use Rattle.scalars.specs.declared.NextRef as NextRefCode
 use Rattle.scalars.specs.declared.NextOptRef as NextOptRefCode

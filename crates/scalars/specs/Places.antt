@@ -7,11 +7,12 @@ use native.Mathlib.Omega.{arith}
 use lib.ListN.{length, take, drop}
 use Rattle.common.specs.Compare.{clash}
 use Rattle.error.specs.Refusal.{good, Refusal, refusal, bad}
-use Rattle.reals.specs.Scalar.{Answer, read, refused}
-use Rattle.params.specs.Reader.{reading, Span, inFile, paramOf}
+use Rattle.reals.specs.Answer.{Answer, read, refused}
+use Rattle.params.specs.Reader.{paramOf}
+use Rattle.params.specs.Answer.{reading, Span, inFile}
 use Rattle.params.specs.Rules.{Inside}
 use Rattle.params.specs.Places.{PlacedIn, Stands, Past, mapped-placed, mapped-stands, mapped-stays, refused-past}
-use Rattle.scalars.specs.Scalars.{answered, scalarAt, nextOf}
+use Rattle.scalars.specs.Answer.{answered, scalarAt, nextOf}
 
 -- whatever a parameter is read as
 module _ {A : Type 0} (f : List ℕ → Answer A) (s : List ℕ) (p e : ℕ) where

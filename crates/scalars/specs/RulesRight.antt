@@ -17,15 +17,18 @@ use Rattle.record.specs.Word.{same, trimmed}
 use Rattle.record.specs.Form.{All, Free, Skipped, bytes}
 use Rattle.record.specs.FormRight.{past-is, past-only, trimmed-is, trimmed-only}
 use Rattle.record.specs.FormRight.Parts.{first-other, all-back, all-join, all-kind}
-use Rattle.reals.specs.Scalar.{Answer, read, refused, referenceOf, realOf, anyRealOf, realBy}
+use Rattle.reals.specs.Scalar.{referenceOf, realOf, anyRealOf}
+use Rattle.reals.specs.Which.{realBy}
+use Rattle.reals.specs.Answer.{Answer, read, refused}
 use Rattle.reals.specs.Form.{Signed, Fraction, Powered, Written, RealForm, AnyForm, ReferenceForm}
 use Rattle.reals.specs.FormRight.{real-is, real-only, any-is, any-only}
 use Rattle.reals.specs.By.{unwritten-by}
 use Rattle.reals.specs.WholeRight.{reference-is, reference-only}
 use Rattle.reals.specs.declared.Reals.{Reals}
 use Rattle.reals.specs.declared.Reals.the-variants.{Class, Any}
-use Rattle.scalars.specs.Scalars as Scalars
-use Rattle.scalars.specs.Scalars.{Given, Logical, isUnset, asGiven, optionOf, unopening, inside, bare, enclosed, kernelFrom, kernelOf, measured, measureBy, measureOf, truthOf}
+use Rattle.scalars.specs.Answer as Scalars
+use Rattle.scalars.specs.Scalars.{isUnset, asGiven, optionOf, unopening, inside, bare, enclosed, kernelFrom, kernelOf, measured, measureBy, measureOf, truthOf}
+use Rattle.scalars.specs.Answer.{Given, Logical}
 use Rattle.scalars.specs.Rules.{Typed, MeasureForm, TruthForm, OptionForm}
 
 -- ---- the same bytes

@@ -8,9 +8,11 @@ use native.Mathlib.Omega.{arith}
 use lib.Dec.{ltb}
 use lib.ListN.{length, drop}
 use Rattle.common.specs.Pick.{pick}
-use Rattle.error.specs.Refusal.{Refusal, refusal, Told, good, bad}
-use Rattle.lex.specs.Byte.{place, place-within}
-use Rattle.lex.specs.Search.{Sought, at, fault, trivia, recordEnd, placed}
+use Rattle.error.specs.Refusal.{refusal, Told, good, bad}
+use Rattle.lex.specs.Byte.{place}
+use Rattle.lex.specs.Place.{place-within}
+use Rattle.lex.specs.Answer.{Sought, at, fault, placed}
+use Rattle.lex.specs.Search.{trivia, recordEnd}
 use Rattle.record.specs.Text.{before}
 use Rattle.record.specs.Word.{wordOf}
 use Rattle.record.specs.Head.{dataHead, headerHead}
@@ -23,7 +25,7 @@ use Rattle.statement.specs.Row.{mapped, sought, recordBy, recordOf, headerBy, h
 use Rattle.statement.specs.Statement.{headed, recorded, inSection, worded, ended, begun, led, statement}
 use Rattle.statement.specs.declared.Section.{Section}
 use Rattle.statement.specs.declared.Section.the-variants.{Outside, InHeader, InData}
-use Rattle.scan.specs.File.{Table, table, withHeader, withRecord, roomed, taken, readFrom, readingOf, marked, scanOf}
+use Rattle.scan.specs.File.{Table, withHeader, withRecord, taken, readFrom, readingOf, marked, scanOf}
 
 -- each place of a row is at most n
 pub record HeaderFits (n : ℕ) (w : HeaderRow) : Type 0 where

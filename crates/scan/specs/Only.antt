@@ -1,7 +1,8 @@
 -- "that two allowed answers coincide is proved": what a scan tells is one answer of the code.
 -- Assumes nothing.
 use mathlib.Core.Path.{_≡_, refl, sym, _∙_, ap}
-use Rattle.error.specs.Refusal.{Told, good, bad, faultOf, faultOf-told}
+use Rattle.error.specs.Refusal.{Told, good, bad}
+use Rattle.error.specs.Only.{faultOf, faultOf-told}
 use Rattle.scan.specs.Table.{Counts, toldScan}
 use Rattle.scan.specs.declared.Scanned.{Scanned}
 use Rattle.scan.specs.declared.Scanned.the-variants.{Rows, Refused}

@@ -5,12 +5,12 @@ use mathlib.Core.List.{List, map}
 use mathlib.Core.Option.{Option, none, some}
 use lib.ListN.{length}
 use Rattle.common.specs.Compare.{clash}
-use Rattle.error.specs.Refusal.{Refusal, Told, good, bad, told}
+use Rattle.error.specs.Refusal.{Told, good, bad, told}
 use Rattle.error.specs.declared.Fault.{Fault}
 use Rattle.table.specs.Table.{tableRows, rowNumbers}
 use Rattle.statement.specs.Row.{mapped}
 use Rattle.statement.specs.Rows.{Row}
-use Rattle.params.specs.Reader.{onward}
+use Rattle.params.specs.Answer.{onward}
 use Rattle.scan.specs.File.{Table}
 use Rattle.scan.specs.Table.{headersAfter, rowsAfter, countsOf}
 use Rattle.index.specs.Search.{searched}

@@ -2,7 +2,8 @@
 -- `opened-only` of store/specs/Only; the units' answer: `units-only` of units/specs/Only. Assumes nothing.
 use mathlib.Core.Path.{_≡_, refl, sym, _∙_, ap}
 use mathlib.Core.Option.{Option, none, some}
-use Rattle.error.specs.Refusal.{Told, good, bad, faultOf, faultOf-told}
+use Rattle.error.specs.Refusal.{Told, good, bad}
+use Rattle.error.specs.Only.{faultOf, faultOf-told}
 use Rattle.statement.specs.Rows.{Row}
 use Rattle.lookup.specs.Only.{rowBack}
 use Rattle.serve.specs.Serve.{toldServed}

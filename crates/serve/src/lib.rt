@@ -3,7 +3,7 @@
 // The contracts speak of the file alone, by the definitions of document 01: of no index and no table that somebody may have changed
 // in between. What the lent memory holds afterwards is what opening the file left.
 ghost use mathlib.Core.Path.{_≡_};
-ghost use Rattle.params.specs.Reader.{onward};
+ghost use Rattle.params.specs.Answer.{onward};
 ghost use Rattle.store.specs.Store.{scanInto};
 ghost use Rattle.units.specs.Code.{toldUnits};
 ghost use Rattle.serve.specs.Serve.{toldServed, recordIn, unitsOf, Left};

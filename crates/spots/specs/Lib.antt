@@ -1,2 +1,3 @@
 pub mod Spot
 pub mod Lines
+pub mod LinesRight

@@ -13,7 +13,8 @@ use Rattle.common.specs.Compare.{clash}
 use Rattle.error.specs.Refusal.{Told, good}
 use Rattle.lex.specs.Byte.{place}
 use Rattle.lex.specs.Grammar.{Begins, Closes}
-use Rattle.lex.specs.Search.{at, closing}
+use Rattle.lex.specs.Search.{closing}
+use Rattle.lex.specs.Answer.{at}
 use Rattle.lex.specs.Local.{closing-local}
 use Rattle.lex.specs.Right.{closing-only}
 use Rattle.lex.specs.Inside.{closing-inside, closes-own, closes-any}

@@ -11,7 +11,8 @@ use lib.Seq.{take-at, drop-at, drop-drop}
 use Rattle.common.specs.Compare.{clash}
 use Rattle.error.specs.Refusal.{Refusal, Told, good, bad}
 use Rattle.lex.specs.Grammar.{Led, Runs, Deep, OpenText, OpenRemark}
-use Rattle.lex.specs.Search.{Sought, at, fault, trivia, recordEnd, closing, placed}
+use Rattle.lex.specs.Search.{trivia, recordEnd, closing}
+use Rattle.lex.specs.Answer.{Sought, at, fault, placed}
 use Rattle.lex.specs.Local.{trivia-shorter, end-local}
 use Rattle.lex.specs.Inside.{closes-any}
 use Rattle.lex.specs.Right.{trivia-only, trivia-open-only, trivia-is, trivia-open, end-only, end-text-only, end-remark-only, end-over-only, end-is, end-open, closing-only, closing-text-only, closing-remark-only, closing-over-only, closing-is, closing-open}

@@ -8,8 +8,10 @@ use lib.ListN.{length, take, drop, length-drop, length-append, length-take}
 use lib.Seq.{drop-drop, drop-append-seam}
 use Rattle.common.specs.Lists.{split, drop-end}
 use Rattle.error.specs.Refusal.{Refusal, refusal, Told, good, bad, told}
-use Rattle.lex.specs.Byte.{place, place-drop}
-use Rattle.lex.specs.Search.{Sought, at, fault, trivia, recordEnd, closing, placed}
+use Rattle.lex.specs.Byte.{place}
+use Rattle.lex.specs.Place.{place-drop}
+use Rattle.lex.specs.Search.{trivia, recordEnd, closing}
+use Rattle.lex.specs.Answer.{Sought, at, fault, placed}
 use Rattle.record.specs.Head.{dataHead, headerHead}
 use Rattle.record.specs.Within.{HeadWithin, data-within, header-within}
 use Rattle.record.specs.declared.Head.{Head}

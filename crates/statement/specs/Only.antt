@@ -5,8 +5,9 @@ use mathlib.Core.Path.{_≡_, refl, sym, _∙_, ap}
 use mathlib.Core.List.{List}
 use native.Mathlib.Omega.{arith}
 use lib.ListN.{length}
-use Rattle.error.specs.Refusal.{faultOf, faultOf-told}
-use Rattle.lex.specs.Byte.{place, place-drop}
+use Rattle.error.specs.Only.{faultOf, faultOf-told}
+use Rattle.lex.specs.Byte.{place}
+use Rattle.lex.specs.Place.{place-drop}
 use Rattle.statement.specs.Rows.{Row, HeaderRow, Stmt, ends, refused, moved, header, record′}
 use Rattle.statement.specs.Statement.{toldSaid, Ahead}
 use Rattle.statement.specs.Tidy.{toldTidied, TidyAhead}

@@ -4,9 +4,10 @@ use Prim.Native.Nat.{ℕ, _+_}
 use mathlib.Core.List.{List, _++_}
 use mathlib.Core.Option.{Option, none, some}
 use lib.ListN.{drop}
-use Rattle.error.specs.Refusal.{Refusal, refusal, Told, good, bad}
+use Rattle.error.specs.Refusal.{refusal, Told, good, bad}
 use Rattle.lex.specs.Byte.{place}
-use Rattle.lex.specs.Search.{Sought, at, fault, closing, placed}
+use Rattle.lex.specs.Answer.{Sought, at, fault, placed}
+use Rattle.lex.specs.Search.{closing}
 use Rattle.record.specs.Text.{before}
 use Rattle.record.specs.Head.{dataHead, headerHead}
 use Rattle.record.specs.declared.Head.{Head}

@@ -5,7 +5,8 @@ use mathlib.Core.List.{List, [], _∷_}
 use lib.ListN.{drop}
 use Rattle.error.specs.Refusal.{Refusal, refusal, Told, good, bad, told}
 use Rattle.lex.specs.Byte.{place}
-use Rattle.lex.specs.Search.{Sought, at, fault, trivia, recordEnd}
+use Rattle.lex.specs.Search.{trivia, recordEnd}
+use Rattle.lex.specs.Answer.{Sought, at, fault}
 use Rattle.record.specs.Text.{before}
 use Rattle.record.specs.Word.{wordOf}
 use Rattle.record.specs.declared.Word.{Word}

@@ -10,7 +10,8 @@ use lib.Seq.{drop-drop}
 use borrow.Author.Tests.{eq-eqb, ne-eqb, eqb-true, eqb-false}
 use Rattle.common.specs.Lists.{split, drop-end}
 use Rattle.common.specs.Compare.{clash}
-use Rattle.lex.specs.Byte.{white, place, place-drop}
+use Rattle.lex.specs.Byte.{white, place}
+use Rattle.lex.specs.Place.{place-drop}
 use Rattle.common.specs.Walk.{walk}
 use Rattle.record.specs.Text.{past, before}
 use Rattle.record.specs.Turns.{past-stops, past-goes}

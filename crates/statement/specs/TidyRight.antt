@@ -10,25 +10,25 @@ use lib.ListN.{length, take, drop, getD, length-append, length-drop}
 use lib.Seq.{drop-append-seam, take-append-seam}
 use borrow.Author.Tests.{eqb-true, eqb-false}
 use Rattle.common.specs.Compare.{clash}
-use Rattle.error.specs.Refusal.{Refusal, Told, good, bad}
+use Rattle.error.specs.Refusal.{Told, good, bad}
 use Rattle.lex.specs.Byte.{white, place}
-use Rattle.lex.specs.Grammar.{Trivia, Led}
-use Rattle.lex.specs.Search.{Sought, at, fault, recordEnd, trivia, placed}
+use Rattle.lex.specs.Answer.{Sought, at, fault, placed}
+use Rattle.lex.specs.Search.{recordEnd, trivia}
 use Rattle.lex.specs.Local.{end-local}
 use Rattle.lex.specs.Right.{trivia-only, end-is}
-use Rattle.record.specs.Text.{past, before, numberFrom}
+use Rattle.record.specs.Text.{past, before}
 use Rattle.record.specs.Form.{All}
 use Rattle.record.specs.FormRight.{past-is}
-use Rattle.record.specs.Head.{dataHead, idHead}
+use Rattle.record.specs.Head.{dataHead}
 use Rattle.record.specs.HashOther.{hash-word}
 use Rattle.record.specs.Word.{wordOf}
 use Rattle.record.specs.declared.Head.{Head}
 use Rattle.record.specs.declared.Head.the-variants.{Bad, Complex, Simple}
 use Rattle.record.specs.declared.Word.{Word}
 use Rattle.record.specs.declared.Word.the-variants.{Other}
-use Rattle.statement.specs.Rows.{Row, row, Stmt, ends, refused, record′, bound}
+use Rattle.statement.specs.Rows.{Row, row, ends, record′, bound}
 use Rattle.statement.specs.Row.{mapped, sought, recordBy, recordOf}
-use Rattle.statement.specs.Statement.{recorded, worded, ended, begun, led, statement}
+use Rattle.statement.specs.Statement.{recorded, worded, ended, led, statement}
 use Rattle.statement.specs.Tidy.{unended, tidy, tidyBy, tidyEnded, tidyRecord}
 use Rattle.statement.specs.TidyLaws.{Whole}
 use Rattle.statement.specs.UsualRight.{blanks}

@@ -7,7 +7,8 @@ use mathlib.Core.Bool.{Bool, true, false, not, _||_}
 use mathlib.Core.List.{List, [], _∷_, _++_}
 use lib.Dec.{eqb}
 use lib.ListN.{length, take, drop, getD}
-use Rattle.lex.specs.Search.{at, recordEnd, closing, semicolon, paren}
+use Rattle.lex.specs.Search.{recordEnd, closing, semicolon, paren}
+use Rattle.lex.specs.Answer.{at}
 use Rattle.lex.specs.Right.Steps.{plainly}
 use Rattle.record.specs.Text.{past, digits, numberFrom}
 use Rattle.record.specs.Head.{dataHead}

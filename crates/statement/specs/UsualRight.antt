@@ -12,10 +12,12 @@ use borrow.Author.Tests.{ne-eqb, eq-eqb}
 use Rattle.common.specs.Lists.{split}
 use Rattle.common.specs.Compare.{clash}
 use Rattle.error.specs.Refusal.{Told, good, bad}
-use Rattle.lex.specs.Byte.{white, place, place-drop}
+use Rattle.lex.specs.Byte.{white, place}
+use Rattle.lex.specs.Place.{place-drop}
 use Rattle.common.specs.Walk.{walk}
 use Rattle.lex.specs.Grammar.{Trivia, Led, Begins, Opens}
-use Rattle.lex.specs.Search.{Sought, at, recordEnd, closing, trivia, placed, semicolon, paren, missed}
+use Rattle.lex.specs.Search.{recordEnd, closing, trivia, semicolon, paren, missed}
+use Rattle.lex.specs.Answer.{Sought, at, placed}
 use Rattle.lex.specs.Local.{seek-halts}
 use Rattle.lex.specs.Right.{trivia-only}
 use Rattle.lex.specs.Right.Steps.{plainly}

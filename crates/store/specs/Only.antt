@@ -4,7 +4,8 @@ use Prim.Native.Nat.{ℕ}
 use mathlib.Core.Path.{_≡_, refl, sym, _∙_, ap, subst}
 use mathlib.Core.List.{List}
 use native.Mathlib.Omega.{arith}
-use Rattle.error.specs.Refusal.{Refusal, Told, good, bad, told, faultOf, faultOf-told}
+use Rattle.error.specs.Refusal.{Refusal, Told, good, bad, told}
+use Rattle.error.specs.Only.{faultOf, faultOf-told}
 use Rattle.error.specs.declared.Fault.{Fault}
 use Rattle.table.specs.Table.{idOf}
 use Rattle.scan.specs.Table.{Counts, counts}

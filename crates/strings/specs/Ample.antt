@@ -10,9 +10,12 @@ use lib.Dec.{eqb, leb, ltb}
 use lib.ListN.{length, take, drop, getD, length-append}
 use lib.Seq.{length-take-le, getD-drop}
 use Rattle.common.specs.Pick.{pick}
-use Rattle.utf8.specs.Utf8.{byteAt, encode, encodeAll, Lead, leadOf}
+use Rattle.utf8.specs.Utf8.{byteAt, encode, leadOf}
+use Rattle.utf8.specs.Encoding.{encodeAll}
+use Rattle.utf8.specs.Answer.{Lead}
 use Rattle.utf8.specs.Laws.{encode-one, encode-two, sized, Leads, led-one, led-two, led-three, led-four, led-none, leads}
-use Rattle.pages.specs.Pages.{pageA, codeOf}
+use Rattle.pages.specs.Pages.{codeOf}
+use Rattle.pages.specs.Rules.{pageA}
 use Rattle.strings.specs.Text
 use Rattle.strings.specs.Hex.{both, Digit, decimal, capital, small, digit, four-within}
 use Rattle.strings.specs.Put.{encode-append}

@@ -8,8 +8,8 @@ use native.Mathlib.Omega.{arith}
 use lib.Dec.{leb}
 use lib.ListN.{length, take, drop, length-drop, take-append-drop}
 use Rattle.utf8.specs.Utf8.{byteAt}
-use Rattle.pages.specs.Pages.{pageA, pageOf}
-use Rattle.pages.specs.Rules.{Selects}
+use Rattle.pages.specs.Pages.{pageOf}
+use Rattle.pages.specs.Rules.{pageA, Selects}
 use Rattle.pages.specs.Right as Page
 use Rattle.strings.specs.Text
 use Rattle.strings.specs.Hex.{both}

@@ -1,16 +1,14 @@
 -- What the numbers that the code hands on stand for, and the answers of the public functions. Assumes nothing.
-use Prim.Native.Nat.{ℕ, zero, suc, _+_, _*_, _-_, _≤_, _<_, min}
+use Prim.Native.Nat.{ℕ, _+_, _≤_, _<_}
 use mathlib.Core.Path.{_≡_}
-use mathlib.Core.Bool.{Bool, true, false, _&&_, _||_}
+use mathlib.Core.Bool.{true, false}
 use mathlib.Core.List.{List, [], _∷_, _++_}
-use lib.Dec.{eqb, leb, ltb}
+use lib.Dec.{eqb}
 use lib.ListN.{length, take, drop}
 use Rattle.common.specs.Pick.{pick}
-use Rattle.utf8.specs.Utf8.{encodeAll}
+use Rattle.utf8.specs.Encoding.{encodeAll}
 use Rattle.strings.specs.declared.Char.{Char}
-use Rattle.strings.specs.declared.Decoded.{Decoded}
-use Rattle.strings.specs.declared.Decoded.the-variants.{Plain, Written, Short}
-use Rattle.strings.specs.Text.{Group, char, wrong, Piece, plain, pageAfter, textOn, bytesOf}
+use Rattle.strings.specs.Text.{Group, char, wrong, Piece, plain, pageAfter, textOn}
 use Rattle.strings.specs.Put.{Laid}
 
 -- a group that took no byte is a bad one
@@ -55,33 +53,3 @@ pub record Turned (g : ℕ) (s : List ℕ) (a : ℕ) (o : List ℕ) (e k : ℕ) 
   pub ahead : textOn g s ≡ chars ++ textOn (pageAfter g s) (drop k s)
   pub some : 0 < k
   pub within : k ≤ length s
-
--- "If no quote, backslash or high byte occurs, the text shown is that part of the file; otherwise a part of the lent output. 16
--- exactly when a text of this second kind is longer than the output."
-abbrev pub decodedOf : List ℕ → ℕ → Decoded
-decodedOf s n = pick (plain s) Plain (pick (leb (length (bytesOf s)) n) (Written (length (bytesOf s))) Short)
-
--- the lent output afterwards: the text and, beyond it, what was there; untouched where nothing is written
-abbrev pub roomAfter : List ℕ → List ℕ → List ℕ
-roomAfter s o = pick (plain s) o (pick (leb (length (bytesOf s)) (length o)) (bytesOf s ++ drop (length (bytesOf s)) o) o)
-
--- the text of an answer: "that part of the file; otherwise a part of the lent output"; none for a refusal
-abbrev pub shownOf : List ℕ → List ℕ → Decoded → List ℕ
-shownOf s o Plain = s
-shownOf s o (Written n) = take n o
-shownOf s o Short = []
-
--- the text of a string, or the number of document 01's refusal; the place is the parameter's, and its reader's to say
-pub data Answer : Type 0 where
-  text : List ℕ → Answer
-  refused : ℕ → Answer
-
--- document 01's number and value for each case: a text in the file, a text in the room, "output too short", 16
-abbrev pub toldText : List ℕ → List ℕ → Decoded → Answer
-toldText s o Plain = text s
-toldText s o (Written n) = text (take n o)
-toldText s o Short = refused 16
-
--- "16 exactly when a text of this second kind is longer than the output"
-abbrev pub answerOf : List ℕ → ℕ → Answer
-answerOf s n = pick (plain s || leb (length (bytesOf s)) n) (text (bytesOf s)) (refused 16)

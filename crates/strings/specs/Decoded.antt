@@ -12,8 +12,8 @@ use Rattle.common.specs.Pick.{pick}
 use Rattle.strings.specs.declared.Decoded.{Decoded}
 use Rattle.strings.specs.declared.Decoded.the-variants.{Plain, Written, Short}
 use Rattle.strings.specs.Text.{plain, bytesOf}
-use Rattle.strings.specs.Put.{most, Laid}
-use Rattle.strings.specs.Code.{decodedOf, roomAfter, shownOf, toldText, answerOf}
+use Rattle.strings.specs.Put.{Laid}
+use Rattle.strings.specs.Answer.{most, decodedOf, roomAfter, shownOf, toldText, answerOf}
 use Rattle.strings.specs.Ample.{text-ample}
 use Rattle.strings.specs.Shown.{told-text}
 

@@ -2,6 +2,7 @@
 -- stands for, as rules that name no loop. Left out, since ISO gives them no text: `\S\` while a letter after I or the low line is named, codes
 -- that the named page leaves undefined, and groups that are no character. IsoRight.antt shows that the total rule of documents 01 and 02 (Text.antt)
 -- gives every string of these rules this text. Assumes nothing.
+-- Definitions to be believed: no law, and nothing computed that no theorem ties (docs/BELIEVE.md).
 use Prim.Native.Nat.{ℕ, _+_, _*_, _-_, _<_}
 use mathlib.Core.Path.{_≡_}
 use mathlib.Core.List.{List, [], _∷_, _++_}

@@ -10,11 +10,13 @@ use lib.Dec.{eqb, leb, ltb}
 use lib.ListN.{length, drop, length-append}
 use lib.Seq.{drop-append-seam, drop-drop}
 use Rattle.common.specs.Pick.{pick}
-use Rattle.utf8.specs.Utf8.{scalar, valid, leadOf}
+use Rattle.utf8.specs.Utf8.{scalar, leadOf}
+use Rattle.utf8.specs.Answer.{valid}
 use Rattle.utf8.specs.Table.{In, Encoded}
 use Rattle.utf8.specs.Agree.{table-leads}
 use Rattle.pages.specs.Tables.{pages, cyrillic, entry}
-use Rattle.pages.specs.Pages.{pageA, pageOf}
+use Rattle.pages.specs.Pages.{pageOf}
+use Rattle.pages.specs.Rules.{pageA}
 use Rattle.strings.specs.Text
 use Rattle.strings.specs.Steps.{text-goes, groups-char, groups-stop, page-stays, plain-stays, page-named}
 use Rattle.strings.specs.Iso

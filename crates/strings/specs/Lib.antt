@@ -1,4 +1,5 @@
 pub mod Text
+pub mod Answer
 pub mod Code
 pub mod Hex
 pub mod Put

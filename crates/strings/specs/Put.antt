@@ -1,7 +1,7 @@
 -- Bytes put into lent room one after another: how far a run has come and what the room then holds. Assumes nothing.
-use Prim.Native.Nat.{ℕ, zero, suc, _+_, _*_, _-_, _≤_, _<_, min}
+use Prim.Native.Nat.{ℕ, zero, suc, _+_, _-_, _≤_, _<_, min}
 use mathlib.Core.Path.{_≡_, refl, sym, _∙_, ap}
-use mathlib.Core.Bool.{Bool, true, false, _&&_, _||_}
+use mathlib.Core.Bool.{Bool, true, false}
 use mathlib.Core.List.{List, [], _∷_, _++_, append-assoc, append-nil}
 use native.Mathlib.Omega.{arith}
 use native.Mathlib.Numerals.{add-one}
@@ -10,11 +10,10 @@ use lib.Dec.{leb}
 use lib.ListN.{length, take, drop, set, getD, length-append, length-drop}
 use lib.Seq.{drop-drop, take-append-seam, drop-append-add, length-take-le, paste, paste-zero, paste-suc}
 use Rattle.common.specs.Pick.{pick}
-use Rattle.utf8.specs.Utf8.{encode, encodeAll, putAt, putWidth}
-
--- the largest number of 64 bits
-abbrev pub most : ℕ
-most = 18446744073709551615
+use Rattle.utf8.specs.Utf8.{encode}
+use Rattle.utf8.specs.Encoding.{encodeAll}
+use Rattle.utf8.specs.Answer.{putAt, putWidth}
+use Rattle.strings.specs.Answer.{most}
 
 -- from place a of the room o, the bytes bs have been counted up to e; where they all fit, the room p holds them and is beyond them as
 -- it was (where they do not, nothing is said of the room)

@@ -3,14 +3,14 @@
 -- name the page before it and after it (crate pages: page A is 0, page I is 8). The quote is 39, the backslash 92, `N` is 78, `P` 80, `S` 83,
 -- `T` 84, `X` 88, and the digits `0`, `2`, `4` are 48, 50, 52. Words quoted from the documents count in hex. RulesRight.antt shows that Text.antt
 -- computes just this, and that there is no other answer. Assumes nothing.
+-- Definitions to be believed: no law, and nothing computed that no theorem ties (docs/BELIEVE.md).
 use Prim.Native.Nat.{ℕ, _+_, _*_, _≤_, _<_}
 use mathlib.Core.Path.{_≡_}
 use mathlib.Core.List.{List, [], _∷_, _++_}
 use lib.ListN.{length, drop}
 use Rattle.lex.specs.Grammar.{Begins}
 use Rattle.utf8.specs.Table.{In, Encoded}
-use Rattle.pages.specs.Pages.{pageA}
-use Rattle.pages.specs.Rules.{Selects, Coded}
+use Rattle.pages.specs.Rules.{pageA, Selects, Coded}
 
 -- "hex digits, either case": a byte and the digit's value
 pub data Hex : ℕ → ℕ → Type 0 where

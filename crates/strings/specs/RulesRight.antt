@@ -12,11 +12,13 @@ use lib.ListN.{length, take, drop, length-drop, take-append-drop}
 use lib.Seq.{drop-cons, getD-drop}
 use Rattle.common.specs.Pick.{pick}
 use Rattle.lex.specs.Grammar.{Begins}
-use Rattle.utf8.specs.Utf8.{encode, byteAt, Lead, valid, invalid, leadOf}
+use Rattle.utf8.specs.Utf8.{encode, byteAt, leadOf}
+use Rattle.utf8.specs.Answer.{Lead, valid, invalid}
 use Rattle.utf8.specs.Table.{Encoded, line-one, line-two, line-three, line-four}
 use Rattle.utf8.specs.Laws.{scalar-low, scalar-high, scalar-between, scalar-above, encode-one}
 use Rattle.utf8.specs.Agree.{table-is, table-only, encode-leads, lead-is}
-use Rattle.pages.specs.Pages.{pageA, pageOf, codeOf}
+use Rattle.pages.specs.Pages.{pageOf, codeOf}
+use Rattle.pages.specs.Rules.{pageA}
 use Rattle.pages.specs.Right as Page
 use Rattle.strings.specs.Text
 use Rattle.strings.specs.Hex.{both, neither, hex-within, four-within}

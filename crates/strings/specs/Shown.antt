@@ -10,18 +10,20 @@ use lib.Dec.{eqb, leb, ltb}
 use lib.ListN.{length, take, drop, drop-of-length-le}
 use lib.Seq.{take-append-seam, take-all}
 use Rattle.common.specs.Pick.{pick}
-use Rattle.utf8.specs.Utf8.{byteAt, scalar, encodeAll, Lead, valid, invalid, leadOf}
+use Rattle.utf8.specs.Utf8.{byteAt, scalar, leadOf}
+use Rattle.utf8.specs.Encoding.{encodeAll}
+use Rattle.utf8.specs.Answer.{Lead, valid, invalid}
 use Rattle.utf8.specs.Laws.{scalar-low}
 use Rattle.utf8.specs.Table.{Valid}
 use Rattle.utf8.specs.Agree.{Scalars, all-valid, lead-is}
 use Rattle.strings.specs.declared.Decoded.{Decoded}
 use Rattle.strings.specs.declared.Decoded.the-variants.{Plain, Written, Short}
-use Rattle.pages.specs.Pages.{pageA}
+use Rattle.pages.specs.Rules.{pageA}
 use Rattle.pages.specs.Right.{code-scalar}
 use Rattle.strings.specs.Text
 use Rattle.strings.specs.Hex.{both, two-below}
 use Rattle.strings.specs.Runs.{bytes-plain}
-use Rattle.strings.specs.Code.{decodedOf, roomAfter, shownOf, text, refused, toldText, answerOf}
+use Rattle.strings.specs.Answer.{decodedOf, roomAfter, shownOf, text, refused, toldText, answerOf}
 
 -- every number of the list is a byte
 abbrev pub Bytes : List ℕ → Type 0

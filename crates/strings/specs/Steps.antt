@@ -11,12 +11,15 @@ use lib.ListN.{length, take, drop, getD, length-drop, List·getD-eq-default, dro
 use lib.Seq.{drop-drop, append-snoc, take-all}
 use Rattle.common.specs.Pick.{pick}
 use Rattle.common.specs.Lists.{split}
-use Rattle.utf8.specs.Utf8.{byteAt, Lead, valid, invalid, leadOf, encodeAll}
+use Rattle.utf8.specs.Utf8.{byteAt, leadOf}
+use Rattle.utf8.specs.Encoding.{encodeAll}
+use Rattle.utf8.specs.Answer.{Lead, valid, invalid}
 use Rattle.pages.specs.Pages.{pageOf}
 use Rattle.strings.specs.Text
 use Rattle.strings.specs.Hex.{both, neither, hex-within, four-within}
 use Rattle.utf8.specs.Laws.{used-within}
-use Rattle.strings.specs.Put.{most, Laid, laid-nothing, laid-chars}
+use Rattle.strings.specs.Put.{Laid, laid-nothing, laid-chars}
+use Rattle.strings.specs.Answer.{most}
 use Rattle.strings.specs.Code.{Moved, toldGroup}
 use Rattle.strings.specs.declared.Char.{Char}
 

@@ -7,8 +7,11 @@ use mathlib.Core.List.{List, [], _∷_, _++_}
 use lib.Dec.{eqb, leb, ltb}
 use lib.ListN.{length, drop}
 use Rattle.common.specs.Pick.{pick}
-use Rattle.utf8.specs.Utf8.{scalar, encode, encodeAll, byteAt, Lead, valid, invalid, leadOf}
-use Rattle.pages.specs.Pages.{pageA, pageOf, codeOf}
+use Rattle.utf8.specs.Utf8.{scalar, encode, byteAt, leadOf}
+use Rattle.utf8.specs.Encoding.{encodeAll}
+use Rattle.utf8.specs.Answer.{Lead, valid, invalid}
+use Rattle.pages.specs.Pages.{pageOf, codeOf}
+use Rattle.pages.specs.Rules.{pageA}
 
 -- a hex digit, "either case" (ISO has capitals only)
 abbrev pub hexDigit : ℕ → Bool

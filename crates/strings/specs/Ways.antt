@@ -10,13 +10,17 @@ use lib.Dec.{eqb, leb, ltb}
 use lib.ListN.{length, take, drop, length-drop}
 use lib.Seq.{drop-drop}
 use Rattle.common.specs.Pick.{pick}
-use Rattle.utf8.specs.Utf8.{byteAt, valid, leadOf, codeOfLead, usedOfLead, encodeAll}
+use Rattle.utf8.specs.Utf8.{byteAt, leadOf}
+use Rattle.utf8.specs.Encoding.{encodeAll}
+use Rattle.utf8.specs.Answer.{valid, codeOfLead, usedOfLead}
 use Rattle.utf8.specs.Laws.{used-none, used-some}
-use Rattle.pages.specs.Pages.{pageA, pageOf, codeOf}
+use Rattle.pages.specs.Pages.{pageOf, codeOf}
+use Rattle.pages.specs.Rules.{pageA}
 use Rattle.strings.specs.Text
 use Rattle.strings.specs.declared.Char.{Char}
 use Rattle.strings.specs.Code.{View, viewOf, oneView, Moved, Ran, Turned}
-use Rattle.strings.specs.Put.{most, Laid, laid-nothing, laid-then, laid-chars}
+use Rattle.strings.specs.Put.{Laid, laid-nothing, laid-then, laid-chars}
+use Rattle.strings.specs.Answer.{most}
 use Rattle.strings.specs.Hex.{both, found, missed, two-below}
 use Rattle.strings.specs.Runs.{text-plain, encode-plain, bytes-plain}
 use Rattle.strings.specs.Steps.{is-within, piece-fits, text-goes, text-ends, page-stays, plain-stays, page-named}

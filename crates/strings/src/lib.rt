@@ -15,10 +15,12 @@ ghost use lib.Dec.{eqb};
 ghost use lib.ListN.{length, take, drop};
 ghost use lib.Seq.{paste};
 ghost use Rattle.common.specs.Pick.{pick};
-ghost use Rattle.utf8.specs.Utf8.{byteAt, encodeAll};
+ghost use Rattle.utf8.specs.Utf8.{byteAt};
+ghost use Rattle.utf8.specs.Encoding.{encodeAll};
 ghost use Rattle.strings.specs.Text.{hexDigit, hexValue, twoAt, twoOf, fourAt, fourOf, groupTwo, groupFour, groupOf, closing, plain, shown, joined, is, longOf, directiveOf, pieceOf, pageAfter, extended, groupsFrom, bytesOf};
-ghost use Rattle.strings.specs.Code.{toldGroup, oneView, viewOf, Moved, Passed, Ran, Turned, decodedOf, roomAfter, shownOf, toldText, answerOf};
-ghost use Rattle.strings.specs.Put.{most, Laid};
+ghost use Rattle.strings.specs.Code.{toldGroup, oneView, viewOf, Moved, Passed, Ran, Turned};
+ghost use Rattle.strings.specs.Answer.{decodedOf, roomAfter, shownOf, toldText, answerOf, most};
+ghost use Rattle.strings.specs.Put.{Laid};
 
 // The byte at a place, or 256, which is no byte, past the end.
 fn byte_at(s: &[u8], k: usize) -> u32

@@ -1,3 +1,4 @@
 pub mod Title
+pub mod Laws
 pub mod Places
 pub mod Only

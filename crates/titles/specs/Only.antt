@@ -1,8 +1,9 @@
 -- "that two allowed answers coincide is proved": what the header's texts tell is one answer of the code. The lent output is told as it
 -- is. Assumes nothing.
 use mathlib.Core.Path.{_≡_, refl, sym, _∙_, ap}
-use Rattle.error.specs.Refusal.{Told, good, bad, faultOf, faultOf-told}
-use Rattle.words.specs.Words.{Shown, inFile, inRoom}
+use Rattle.error.specs.Refusal.{Told, good, bad}
+use Rattle.error.specs.Only.{faultOf, faultOf-told}
+use Rattle.words.specs.Answer.{Shown, inFile, inRoom}
 use Rattle.titles.specs.Title.{toldTitle}
 use Rattle.titles.specs.declared.Title as TitleCode
 

@@ -14,8 +14,11 @@ use Rattle.common.specs.Pick.{pick}
 use Rattle.common.specs.Compare.{clash}
 use Rattle.error.specs.Refusal.{Refusal, refusal, Told, good, bad}
 use Rattle.table.specs.Table.{headerNumbers}
-use Rattle.params.specs.Reader.{mapped, paramOf, skipsOf}
-use Rattle.words.specs.Words.{Shown, stringAt}
+use Rattle.params.specs.Answer.{mapped}
+use Rattle.params.specs.Reader.{paramOf}
+use Rattle.params.specs.Skips.{skipsOf}
+use Rattle.words.specs.Answer.{Shown}
+use Rattle.words.specs.Words.{stringAt}
 use Rattle.words.specs.Places.{ToldIn, ShownIn, text-in, text-kept}
 use Rattle.statement.specs.Row as statement
 use Rattle.lookup.specs.Lookup as rows

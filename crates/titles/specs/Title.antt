@@ -1,14 +1,18 @@
 -- What the header says of the file: "empty wherever the Rust's are" (no such header record, too few parameters, a literal that is
 -- open, or a parameter that is no string), and "16 where the text room is short". Assumes nothing.
+-- Definitions to be believed: no law, and nothing computed that no theorem ties (docs/BELIEVE.md).
 use Prim.Native.Nat.{ℕ}
-use mathlib.Core.Path.{_≡_, refl, sym, _∙_, ap}
 use mathlib.Core.List.{List, [], _∷_}
 use mathlib.Core.Option.{Option, none, some}
 use lib.Dec.{eqb}
 use Rattle.common.specs.Pick.{pick}
-use Rattle.error.specs.Refusal.{Refusal, refusal, Told, good, bad, told}
-use Rattle.params.specs.Reader.{Read, reading, span, mapped, paramOf, skipsOf}
-use Rattle.words.specs.Words.{Shown, inFile, inRoom, stringAt, roomOf}
+use Rattle.error.specs.Refusal.{Told, good, bad, told}
+use Rattle.params.specs.Reader.{paramOf}
+use Rattle.params.specs.Skips.{skipsOf}
+use Rattle.params.specs.Answer.{span, mapped}
+use Rattle.words.specs.Words.{stringAt}
+use Rattle.words.specs.Room.{roomOf}
+use Rattle.words.specs.Answer.{Shown, inFile, inRoom}
 use Rattle.lookup.specs.Lookup as rows
 use Rattle.titles.specs.declared.Title as TitleCode
 
@@ -60,18 +64,3 @@ abbrev pub toldTitle : TitleCode.Title → Told Shown
 toldTitle (TitleCode.the-variants.InFile a z) = good (inFile (span a z))
 toldTitle (TitleCode.the-variants.InRoom n) = good (inRoom n)
 toldTitle (TitleCode.the-variants.Refused f) = bad (told f)
-
--- too few parameters
-pub title-few : (s o : List ℕ) (n k p e : ℕ) (q : Refusal) (p′ e′ : ℕ) → reading (bad q) p′ e′ ≡ skipsOf k s p e → (good empty ≡ titleIn s n k p e) × (o ≡ roomIn s o k p e)
-unfolding titleIn roomIn
-title-few s o n k p e q p′ e′ h = (rw (sym h) refl, rw (sym h) refl)
-
--- a parameter is there
-pub title-read : (s o : List ℕ) (n k p e p′ e′ : ℕ) (t : Told Shown) (a : Read Shown) (m : List ℕ) → reading (good tt) p′ e′ ≡ skipsOf k s p e
-    → a ≡ mapped (stringAt s n) (paramOf s p′ e′) → m ≡ roomOf s o (paramOf s p′ e′ .answer) → t ≡ asTitle (a .answer) → (t ≡ titleIn s n k p e) × (m ≡ roomIn s o k p e)
-unfolding titleIn roomIn
-title-read s o n k p e p′ e′ t a m h f g l = (l ∙ ap (λ (z : Read Shown). asTitle (z .answer)) f ∙ rw (sym h) refl, g ∙ rw (sym h) refl)
-
--- what a header search gives
-pub title-by : (s o : List ℕ) (n k : ℕ) (x y : Told (Option rows.Span)) (t : Told Shown) (m : List ℕ) → x ≡ y → t ≡ titleBy s n k x → m ≡ roomBy s o k x → (t ≡ titleBy s n k y) × (m ≡ roomBy s o k y)
-title-by s o n k x y t m h f g = (f ∙ ap (titleBy s n k) h, g ∙ ap (roomBy s o k) h)

@@ -7,7 +7,7 @@ ghost use mathlib.Core.Path.{_≡_};
 ghost use lib.ListN.{length};
 ghost use Rattle.table.specs.Table.{headerNumbers};
 ghost use Rattle.headers.specs.Header.{headerArgs, headerFound};
-ghost use Rattle.words.specs.Words.{toldNextText};
+ghost use Rattle.words.specs.Answer.{toldNextText};
 ghost use Rattle.titles.specs.Title.{toldTitle, asTitle, titleIn, roomIn, titleBy, roomBy, fileName};
 use error::Fault;
 use headers::HeaderFound;

@@ -14,14 +14,15 @@ use Rattle.common.specs.Lists.{split, drop-end}
 use Rattle.common.specs.Compare.{clash}
 use Rattle.common.specs.Walk.{walk}
 use Rattle.lex.specs.Lexer.{calm, next}
-use Rattle.lex.specs.Leap.{Lacks, Stopped}
+use Rattle.lex.specs.Answer.{Lacks, Stopped}
 use Rattle.lex.specs.Seek.{drop-within}
 use Rattle.lex.specs.Grammar.{Begins, Opens, Comment, Quotation, OpenText, OpenRemark}
 use Rattle.lex.specs.Right.Steps.{Deaf, remark-shut, remark-open, text-ends, text-over}
 use Rattle.lex.specs.Right.Tokens.{open-text, open-remark, Reads, tokens}
 use Rattle.lex.specs.declared.Mode.{Mode}
 use Rattle.lex.specs.declared.Mode.the-variants.{Plain, Slash, Text, Quoted, Remark, Starred}
-use Rattle.tokens.specs.Leap.{fromByte, heads, Rest, ends, never, leapTurn, leapEnd, stringRest, commentRest}
+use Rattle.tokens.specs.Leap.{leapTurn, leapEnd, stringRest, commentRest}
+use Rattle.tokens.specs.Answer.{fromByte, heads, Rest, ends, never}
 
 -- in strings and comments a leap is deaf
 leap-deaf : Deaf leapTurn leapEnd (λ m. m)

@@ -1,33 +1,14 @@
 -- Where a byte is found; and where a string and a comment end, computed by the scan's lexer (lex/specs/Lexer.antt), so that there is no
 -- second definition of either. What these two are without a loop stands in lex/specs/Grammar.antt; Laws.antt ties them. Assumes nothing.
-use Prim.Native.Nat.{ℕ, _+_, _≤_, _<_}
+use Prim.Native.Nat.{ℕ}
 use mathlib.Core.Path.{_≡_, refl}
-use mathlib.Core.Bool.{Bool, true, false}
 use mathlib.Core.List.{List, [], _∷_}
-use lib.Dec.{eqb}
-use lib.ListN.{length, drop}
 use Rattle.common.specs.Pick.{pick}
 use Rattle.common.specs.Walk.{Turn, stop, on, walk}
 use Rattle.lex.specs.Lexer.{calm, next}
 use Rattle.lex.specs.declared.Mode.{Mode}
 use Rattle.lex.specs.declared.Mode.the-variants.{Plain, Slash, Text, Quoted, Remark, Starred}
-use Rattle.tokens.specs.declared.Past.{Past}
-use Rattle.tokens.specs.declared.Past.the-variants.{At, Never}
-
--- the rest from the first byte b on, or nothing where there is none
-unfoldable pub fromByte : ℕ → List ℕ → List ℕ
-fromByte b [] = []
-fromByte b (c ∷ r) = pick (eqb c b) (c ∷ r) (fromByte b r)
-
--- whether a rest begins with the byte b
-abbrev pub heads : ℕ → List ℕ → Bool
-heads b [] = false
-heads b (c ∷ r) = eqb c b
-
--- the rest after something that ends, or that it never does
-pub data Rest : Type 0 where
-  ends : List ℕ → Rest
-  never : Rest
+use Rattle.tokens.specs.Answer.{Rest, ends, never}
 
 -- a string or a comment is left at the first byte outside both
 abbrev pub leapTurn : Mode → ℕ → List ℕ → Turn Mode Rest
@@ -79,13 +60,3 @@ one-quote = refl
 -- "A comment runs from `/*` to the first `*/` that begins after it": the rest after it, from the bytes after its `/*`
 unfoldable pub commentRest : List ℕ → Rest
 commentRest xs = walk leapTurn leapEnd Remark xs
-
--- what the code's answer says, of the bytes s
-abbrev pub toldPast : List ℕ → Past → Rest
-toldPast s (At p) = ends (drop p s)
-toldPast s Never = never
-
--- an end lies after the start and not past the bytes' end
-abbrev pub PastIn : ℕ → ℕ → Past → Type 0
-PastIn start n (At p) = (start < p) × (p ≤ n)
-PastIn start n Never = Unit {0}

@@ -1,3 +1,4 @@
+pub mod Answer
 pub mod Leap
 pub mod Laws
 pub mod Only

@@ -5,7 +5,7 @@ use mathlib.Core.List.{List}
 use native.Mathlib.Omega.{arith}
 use lib.ListN.{length, drop, length-drop}
 use Rattle.common.specs.Compare.{clash}
-use Rattle.tokens.specs.Leap.{Rest, toldPast, PastIn}
+use Rattle.tokens.specs.Answer.{Rest, toldPast, PastIn}
 use Rattle.tokens.specs.declared.Past.{Past}
 use Rattle.tokens.specs.declared.Past.the-variants.{At, Never}
 

@@ -5,7 +5,8 @@
 ghost use mathlib.Core.Path.{_≡_};
 ghost use Prim.Native.Nat.{_+_, _≤_, min};
 ghost use lib.ListN.{length, drop};
-ghost use Rattle.tokens.specs.Leap.{fromByte, heads, toldPast, PastIn, stringRest, commentRest};
+ghost use Rattle.tokens.specs.Leap.{stringRest, commentRest};
+ghost use Rattle.tokens.specs.Answer.{fromByte, heads, toldPast, PastIn};
 use lex::TextEnd;
 
 // Where something ends, or that it never does.

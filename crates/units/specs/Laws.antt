@@ -24,21 +24,25 @@ use Rattle.statement.specs.Statement.{headerRowOf}
 use Rattle.statement.specs.declared.HeaderSpan.{HeaderSpan}
 use Rattle.kinds.specs.declared.Kind.{Kind}
 use Rattle.kinds.specs.declared.Kind.the-variants.{GeometricRepresentationContext, GlobalUnitAssignedContext, GlobalUncertaintyAssignedContext, LengthUnit, PlaneAngleUnit, SolidAngleUnit, UncertaintyMeasureWithUnit}
-use Rattle.params.specs.Reader.{Read, reading, Span, span, onward, paramOf}
+use Rattle.params.specs.Reader.{paramOf}
+use Rattle.params.specs.Answer.{Read, reading, Span, span, onward}
 use Rattle.scalars.specs.Scalars.{measureOf}
-use Rattle.scalars.specs.Scalars as Scalars
+use Rattle.scalars.specs.Answer as Scalars
 use Rattle.reals.specs.Scalar.{wholeOf, referenceOf}
-use Rattle.parts.specs.Part.{nextOf, before, partsBy, partsFrom, partsOf}
+use Rattle.parts.specs.Part.{nextOf, partsBy, partsFrom, partsOf}
+use Rattle.parts.specs.Rules.{before}
 use Rattle.parts.specs.Laws.{next-ahead}
 use Rattle.lists.specs.declared.Item.{Item}
-use Rattle.lists.specs.Items.{Fate, fine, faulty, shifted, fated, mute, asFate, itemsFrom, isBlank, itemsBy, Body, inside, bare, bodyOf, listed, listBy, roomed, nextBy, valuesOf, ItemAt}
+use Rattle.lists.specs.Answer.{Fate, fine, faulty, shifted, fated, mute, asFate, roomed, nextBy, valuesOf}
+use Rattle.lists.specs.Items.{itemsFrom, isBlank, itemsBy, Body, inside, bare, bodyOf, listed, listBy, ItemAt}
 use Rattle.lists.specs.Laws.{item-in}
 use Rattle.lists.specs.ReadLaws.{count-mute}
 use Rattle.lists.specs.Fill.{fill-bad, fill-last, fill-more, fill-head}
 use Rattle.lookup.specs.Lookup.{cut, spanFine, spanIn, kindIn, rowIn}
 use Rattle.lookup.specs.Lookup as Lookup
 use Rattle.factors.specs.Thing.{goodBy, sameKind, pieceOf, Thing, thingOf, selfOr}
-use Rattle.factors.specs.Factor.{optionBy, lengthOf, angleOf}
+use Rattle.factors.specs.Factor.{lengthOf, angleOf}
+use Rattle.factors.specs.Unit.{optionBy}
 use Rattle.units.specs.Units as unit
 use Rattle.units.specs.Units.{Units, lengthRole, angleRole, solidRole, roleBy, firstRole, roleOf, withLength, withAngle, reads, readsInteger, isContext, unitOf, unitBy, unitsBy, uncertainBy, uncertaintyOf, uncertaintyBy, toleranceBy, defaults, withTolerance, refsIn, listedUnits, listedTolerance, contextOf, decided, recordOf, resolveOf}
 use Rattle.units.specs.Code.{toldRole, roleAfter, keptRole, kindAt, contextOr, deciding, thingsFrom, idsOf, ReadsAll, RefsTo}

@@ -4,7 +4,8 @@ use mathlib.Core.Path.{_≡_, refl, sym, _∙_, ap}
 use lib.Dec.{T}
 use lib.Ieee.{binary64, ofBits, fits}
 use lib.Ieee.Bits.{ofBits-toBits}
-use Rattle.error.specs.Refusal.{Told, good, bad, faultOf, faultOf-told}
+use Rattle.error.specs.Refusal.{Told, good, bad}
+use Rattle.error.specs.Only.{faultOf, faultOf-told}
 use Rattle.units.specs.Units.{Units}
 use Rattle.units.specs.Code.{valuesIn, toldUnits}
 use Rattle.units.specs.declared.Values as ValuesCode

@@ -13,18 +13,21 @@ use Rattle.table.specs.Table.{rowNumbers}
 use Rattle.lookup.specs.Lookup.{rowFor}
 use Rattle.statement.specs.Rows.{Row}
 use Rattle.kinds.specs.declared.Kind.the-variants.{GeometricRepresentationContext, GlobalUnitAssignedContext, GlobalUncertaintyAssignedContext, UncertaintyMeasureWithUnit}
-use Rattle.params.specs.Reader.{Span, onward}
+use Rattle.params.specs.Answer.{Span, onward}
 use Rattle.params.specs.Places.{PlacedIn}
 use Rattle.words.specs.Places.{ToldIn}
-use Rattle.scalars.specs.Scalars.{nextOf, measureOf}
+use Rattle.scalars.specs.Scalars.{measureOf}
+use Rattle.scalars.specs.Answer.{nextOf}
 use Rattle.scalars.specs.Places.{next-placed}
 use Rattle.reals.specs.Scalar.{referenceOf}
-use Rattle.lists.specs.Items.{asFate, nextBy, listOf}
+use Rattle.lists.specs.Items.{listOf}
+use Rattle.lists.specs.Answer.{asFate, nextBy}
 use Rattle.lists.specs.Places.{scalar-inward, list-inward}
 use Rattle.lists.specs.Places as Lists
 use Rattle.index.specs.declared.Ids.{Ids}
 use Rattle.factors.specs.Thing.{goodBy, sameKind, Thing, thingOf, findOf, selfOr}
-use Rattle.factors.specs.Factor.{optionBy, lengthOf, angleOf}
+use Rattle.factors.specs.Factor.{lengthOf, angleOf}
+use Rattle.factors.specs.Unit.{optionBy}
 use Rattle.factors.specs.Places.{ThingIn, FoundIn, thing-in, find-in, by-placed, on-placed, any-placed, option-placed, self-in, length-in, angle-in}
 use Rattle.units.specs.Units.{Units, Role, lengthRole, angleRole, solidRole, firstRole, roleOf, withLength, withAngle, readsInteger, isContext, refsIn, uncertainBy, byRole, unitOf, unitBy, unitsBy, uncertaintyOf, uncertaintyBy, toleranceBy, listedUnits, listedTolerance, defaults, withTolerance, contextOf, decided, recordOf, resolveOf}
 use Rattle.units.specs.Code.{thingsFrom}

@@ -11,10 +11,11 @@ use Rattle.error.specs.Refusal.{Refusal, Told, good, bad}
 use Rattle.nearest.specs.Near.{near}
 use Rattle.kinds.specs.declared.Kind.{Kind}
 use Rattle.kinds.specs.declared.Kind.the-variants.{GlobalUnitAssignedContext, GlobalUncertaintyAssignedContext}
-use Rattle.params.specs.Reader.{onward}
+use Rattle.params.specs.Answer.{onward}
 use Rattle.factors.specs.Each.{Each, IsFirst, LastForm}
 use Rattle.factors.specs.Thing.{goodBy, Piece, Thing, selfOr}
-use Rattle.factors.specs.Factor.{optionBy, lengthOf, angleOf}
+use Rattle.factors.specs.Factor.{lengthOf, angleOf}
+use Rattle.factors.specs.Unit.{optionBy}
 use Rattle.units.specs.Units.{Units, units, defaults, Role, lengthRole, angleRole, solidRole, roleBy, roleOf, withTolerance, isContext, refsIn, uncertaintyBy}
 
 -- ---- the role of a listed unit

@@ -8,11 +8,13 @@ use mathlib.Core.Option.{Option, none, some}
 use Rattle.error.specs.Refusal.{Refusal, Told, good, bad}
 use Rattle.record.specs.FormRight.Parts.{sole}
 use Rattle.kinds.specs.declared.Kind.the-variants.{GlobalUnitAssignedContext, GlobalUncertaintyAssignedContext}
-use Rattle.params.specs.Reader.{onward}
+use Rattle.params.specs.Answer.{onward}
 use Rattle.lookup.specs.Records.{orElse}
-use Rattle.factors.specs.Each.{Each, IsFirst, each-head, each-less, first-comes, first-never, first-decides, lastBy, last-is, last-only}
+use Rattle.factors.specs.Each.{Each, IsFirst}
+use Rattle.factors.specs.EachLaws.{each-head, each-less, first-comes, first-never, first-decides, lastBy, last-is, last-only}
 use Rattle.factors.specs.Thing.{goodBy, Piece, Thing}
-use Rattle.factors.specs.Factor.{optionBy, lengthOf, angleOf}
+use Rattle.factors.specs.Factor.{lengthOf, angleOf}
+use Rattle.factors.specs.Unit.{optionBy}
 use Rattle.units.specs.Units.{Units, defaults, Role, lengthRole, angleRole, solidRole, roleBy, firstRole, roleOf, withLength, withAngle, isContext, byRole, unitOf, unitBy, unitsBy, uncertaintyBy, toleranceBy, listedUnits, listedTolerance, contextOf, resolveOf}
 use Rattle.units.specs.Rules.{RoleForm, Given, aLength, anAngle, nothing, lengthGiven, angleGiven, unitsWith, givenAs, givenBy, Reads, UnitsForm, Settles, ToleranceForm, listIn, ContextForm, Passed, Decides, ResolveForm}
 

@@ -11,11 +11,14 @@ use Rattle.nearest.specs.Near.{near}
 use Rattle.reals.specs.Scalar.{referenceOf, wholeOf}
 use Rattle.kinds.specs.declared.Kind.{Kind}
 use Rattle.kinds.specs.declared.Kind.the-variants.{GeometricRepresentationContext, GlobalUnitAssignedContext, GlobalUncertaintyAssignedContext, LengthUnit, PlaneAngleUnit, SolidAngleUnit, UncertaintyMeasureWithUnit}
-use Rattle.params.specs.Reader.{Span, onward}
-use Rattle.scalars.specs.Scalars.{nextOf, measureOf}
-use Rattle.lists.specs.Items.{nextBy, listOf}
+use Rattle.params.specs.Answer.{Span, onward}
+use Rattle.scalars.specs.Scalars.{measureOf}
+use Rattle.scalars.specs.Answer.{nextOf}
+use Rattle.lists.specs.Items.{listOf}
+use Rattle.lists.specs.Answer.{nextBy}
 use Rattle.factors.specs.Thing.{goodBy, sameKind, Piece, Thing, selfOr}
-use Rattle.factors.specs.Factor.{optionBy, lengthOf, angleOf}
+use Rattle.factors.specs.Factor.{lengthOf, angleOf}
+use Rattle.factors.specs.Unit.{optionBy}
 
 -- the four values: length in mm, angle and tolerance as patterns of f64s, and whether a length unit was found
 pub record Units : Type 0 where

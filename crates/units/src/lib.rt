@@ -10,7 +10,7 @@ ghost use mathlib.Core.Path.{_≡_};
 ghost use Rattle.table.specs.Table.{tableRows, rowNumbers};
 ghost use Rattle.lookup.specs.Lookup.{rowFor};
 ghost use Rattle.statement.specs.Statement.{rowOf};
-ghost use Rattle.params.specs.Reader.{onward};
+ghost use Rattle.params.specs.Answer.{onward};
 ghost use Rattle.factors.specs.Thing.{thingOf, findOf};
 ghost use Rattle.units.specs.Units.{isContext, resolveOf, defaults};
 ghost use Rattle.units.specs.Code.{valuesIn, toldUnits, toldAsked, thingsFrom, contextOr, deciding};

@@ -2,10 +2,10 @@
 ghost use mathlib.Core.Path.{_≡_};
 ghost use Rattle.lookup.specs.Lookup.{rowFor};
 ghost use Rattle.statement.specs.Statement.{rowOf};
-ghost use Rattle.params.specs.Reader.{onward};
-ghost use Rattle.scalars.specs.Scalars.{toldNextReal};
+ghost use Rattle.params.specs.Answer.{onward};
+ghost use Rattle.scalars.specs.Answer.{toldNextReal};
 ghost use Rattle.factors.specs.Thing.{goodBy, thingOf, findOf};
-ghost use Rattle.factors.specs.Code.{toldFactor};
+ghost use Rattle.factors.specs.Answer.{toldFactor};
 ghost use Rattle.units.specs.Units.{defaults, withLength, withAngle, unitBy, unitsBy, uncertainBy, uncertaintyBy, toleranceBy, listedUnits, listedTolerance, contextOf};
 ghost use Rattle.units.specs.Code.{valuesIn, toldUnits, RefsAt, RefsBy, ReadsAll, idsOf, toldTolerance, toldUncertain};
 use crate::Resolved;

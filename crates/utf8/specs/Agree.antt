@@ -13,7 +13,9 @@ use lib.Dec.{eqb, leb}
 use lib.ListN.{length, take, drop, length-drop, take-append-drop}
 use lib.Seq.{length-take-le, drop-append-seam}
 use Rattle.common.specs.Pick.{pick}
-use Rattle.utf8.specs.Utf8.{scalar, encode, encodeAll, byteAt, Lead, valid, invalid, tail, lowest, highest, second, leadTwo, leadThree, leadFour, leadOf, validFrom, validOf}
+use Rattle.utf8.specs.Utf8.{scalar, encode, byteAt, tail, lowest, highest, second, leadTwo, leadThree, leadFour, leadOf, validFrom, validOf}
+use Rattle.utf8.specs.Encoding.{encodeAll}
+use Rattle.utf8.specs.Answer.{Lead, valid, invalid}
 use Rattle.utf8.specs.Laws.{scalar-low, scalar-high, scalar-between, encode-one, encode-two, encode-three, encode-four, Ranged, one, two, three, four, none, ranged, byte-in, lead-one, lead-two, lead-three, lead-four, Leads, led-one, led-two, led-three, led-four, led-none, leads, tail-byte, second-byte, used-within, valid-after, valid-stops}
 use Rattle.utf8.specs.Table.{In, Tail, Encoded, line-one, line-two, line-three, line-four, Sequence, utf8-1, utf8-2, utf8-3-e0, utf8-3-e1, utf8-3-ed, utf8-3-ee, utf8-4-f0, utf8-4-f1, utf8-4-f4, Valid, more}
 use Rattle.utf8.specs.Table as table

@@ -3,7 +3,9 @@ use Prim.Native.Nat.{ℕ}
 use mathlib.Core.Path.{_≡_, refl}
 use mathlib.Core.Bool.{true, false}
 use mathlib.Core.List.{List, [], _∷_, _++_}
-use Rattle.utf8.specs.Utf8.{encode, encodeAll, leadOf, invalid, valid, validFrom, validOf}
+use Rattle.utf8.specs.Utf8.{encode, leadOf, validFrom, validOf}
+use Rattle.utf8.specs.Encoding.{encodeAll}
+use Rattle.utf8.specs.Answer.{invalid, valid}
 
 -- "U+0041 U+2262 U+0391 U+002E": 41 E2 89 A2 CE 91 2E
 not-alpha : encodeAll (0x41 ∷ 0x2262 ∷ 0x391 ∷ 0x2e ∷ []) ≡ 0x41 ∷ 0xe2 ∷ 0x89 ∷ 0xa2 ∷ 0xce ∷ 0x91 ∷ 0x2e ∷ []

@@ -11,7 +11,8 @@ use lib.Dec.{eqb, leb, ltb}
 use lib.ListN.{length, take, drop, getD, length-drop, List·getD-eq-default, drop-of-length-le}
 use lib.Seq.{sets, sets-eq, take-all, drop-drop, getD-drop}
 use Rattle.common.specs.Pick.{pick}
-use Rattle.utf8.specs.Utf8.{scalar, encode, byteAt, Lead, valid, invalid, tail, lowest, highest, second, leadTwo, leadThree, leadFour, leadOf, codeOfLead, usedOfLead, putAt, putWidth, validFrom, validOf}
+use Rattle.utf8.specs.Utf8.{scalar, encode, byteAt, tail, lowest, highest, second, leadTwo, leadThree, leadFour, leadOf, validFrom, validOf}
+use Rattle.utf8.specs.Answer.{Lead, valid, invalid, codeOfLead, usedOfLead, putAt, putWidth}
 
 -- two tests that hold together
 pub both : (a b : Bool) → a && b ≡ true → (a ≡ true) × (b ≡ true)

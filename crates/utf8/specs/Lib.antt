@@ -1,4 +1,6 @@
+pub mod Answer
 pub mod Utf8
+pub mod Encoding
 pub mod Laws
 pub mod Table
 pub mod Agree

@@ -1,6 +1,7 @@
 -- RFC 3629's two tables as rules that name no loop: section 3's, which bytes encode a character number, and section 4's syntax of
 -- byte sequences. Agree.antt shows that what Utf8.antt computes are just these, and that there is no other.
 -- Assumes nothing.
+-- Definitions to be believed: no law, and nothing computed that no theorem ties (docs/BELIEVE.md).
 use Prim.Native.Nat.{ℕ, _+_, _*_, _≤_, _<_}
 use mathlib.Core.Path.{_≡_}
 use mathlib.Core.List.{List, [], _∷_, _++_}

@@ -2,10 +2,11 @@
 -- computed. Table.antt has section 4's table of byte sequences as rules. Assumes nothing.
 use Prim.Native.Nat.{ℕ, zero, suc, _+_, _*_, _-_, _/_, _%_}
 use mathlib.Core.Bool.{Bool, true, false, _&&_, _||_}
-use mathlib.Core.List.{List, [], _∷_, _++_}
+use mathlib.Core.List.{List, [], _∷_}
 use lib.Dec.{eqb, leb, ltb}
-use lib.ListN.{length, take, drop, getD}
+use lib.ListN.{getD}
 use Rattle.common.specs.Pick.{pick}
+use Rattle.utf8.specs.Answer.{Lead, valid, invalid}
 
 -- "UTF-8 encodes characters from the U+0000..U+10FFFF range"; "prohibits encoding character numbers between U+D800 and U+DFFF"
 abbrev pub scalar : ℕ → Bool
@@ -28,19 +29,9 @@ encode c =
     ((240 + c / 262144) ∷ (128 + (c / 4096) % 64) ∷ (128 + (c / 64) % 64) ∷ (128 + c % 64) ∷ []))))
     []
 
--- the encodings one after another
-unfoldable pub encodeAll : List ℕ → List ℕ
-encodeAll [] = []
-encodeAll (c ∷ r) = encode c ++ encodeAll r
-
 -- the byte at k, or 256, which is no byte, past the end
 abbrev pub byteAt : List ℕ → ℕ → ℕ
 byteAt s k = getD s k 256
-
--- what a list of bytes begins with: a character, in so many bytes, or no valid sequence
-pub data Lead : Type 0 where
-  valid : ℕ → ℕ → Lead
-  invalid : Lead
 
 -- `UTF8-tail = %x80-BF`
 abbrev pub tail : ℕ → Bool
@@ -86,24 +77,6 @@ leadOf s =
     (leb 240 (byteAt s 0) && leb (byteAt s 0) 244)
     (leadFour (byteAt s 0) (byteAt s 1) (byteAt s 2) (byteAt s 3))
     invalid)))
-
--- the number of the character that bytes begin with, 0 where there is none
-abbrev pub codeOfLead : Lead → ℕ
-codeOfLead (valid c n) = c
-codeOfLead invalid = 0
-
--- in how many bytes, 0 where there is none
-abbrev pub usedOfLead : Lead → ℕ
-usedOfLead (valid c n) = n
-usedOfLead invalid = 0
-
--- an encoding put into a room at a place, where it fits; the room as it is where it does not
-unfoldable pub putAt : ℕ → List ℕ → List ℕ → List ℕ
-putAt at e o = pick (leb (at + length e) (length o)) (take at o ++ e ++ drop (at + length e) o) o
-
--- how many bytes were put
-unfoldable pub putWidth : ℕ → List ℕ → List ℕ → ℕ
-putWidth at e o = pick (leb (at + length e) (length o)) (length e) 0
 
 -- what follows a character: the rest of its bytes are passed over, and no sequence ends all
 abbrev pub onward : Lead → (ℕ → Bool) → Bool

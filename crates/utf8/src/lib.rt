@@ -5,7 +5,8 @@ ghost use Prim.Native.Nat.{_+_, _≤_, _<_};
 ghost use lib.ListN.{length};
 ghost use lib.Seq.{sets};
 ghost use mathlib.Core.Bool.{true};
-ghost use Rattle.utf8.specs.Utf8.{scalar, encode, byteAt, tail, lowest, highest, second, leadTwo, leadThree, leadFour, leadOf, codeOfLead, usedOfLead, putAt, putWidth, validOf};
+ghost use Rattle.utf8.specs.Utf8.{scalar, encode, byteAt, tail, lowest, highest, second, leadTwo, leadThree, leadFour, leadOf, validOf};
+ghost use Rattle.utf8.specs.Answer.{codeOfLead, usedOfLead, putAt, putWidth};
 
 // A character, and how many bytes stand for it; both 0 where no valid sequence stands.
 pub struct Character {

@@ -14,7 +14,8 @@ use lib.Ieee.{nearest}
 use lib.Ieee.Fits.{nearest-le}
 use Rattle.nearest.specs.Units.{infinity}
 use Rattle.nearest.specs.Near.{near}
-use Rattle.cut.specs.Cut.{Cut, against, near-cut, Within, sure, beyond, sure-down, sure-up}
+use Rattle.cut.specs.Cut.{Cut, near-cut, Within, sure, beyond, sure-down, sure-up}
+use Rattle.cut.specs.Half.{against}
 use Rattle.cut.specs.Rounding.{told, few-dropped}
 use Rattle.cut.specs.Drops.{drops}
 

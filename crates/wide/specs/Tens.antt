@@ -11,7 +11,7 @@ use lib.Dec.{T, eqb, leb, ltb, leb→le, eqb→eq}
 use lib.Ieee.Fits.{and-l, and-r}
 use lib.Count.{leadingZeros, leading-le}
 use lib.Pow.{pow-pos, pow-add}
-use Rattle.nearest.specs.Power.{ten-pos, tens}
+use Rattle.nearest.specs.PowerLaws.{ten-pos, tens}
 use Rattle.wide.specs.Long.{moved-up}
 use Rattle.cut.specs.Cut.{Cut, Within}
 use Rattle.wide.specs.Reach.{reach, far}

@@ -12,7 +12,7 @@ ghost use mathlib.Core.Bool.{Bool};
 ghost use Prim.Native.Nat.{_+_, _-_, _*_, _/_, _%_, _≤_, _<_, _^_};
 ghost use lib.Ieee.{binary64, toBits};
 ghost use Rattle.nearest.specs.Near.{near};
-ghost use Rattle.nearest.specs.Round.{signed};
+ghost use Rattle.nearest.specs.Nearest.{signed};
 ghost use Rattle.cut.specs.Cut.{RoundsTo, sure, beyond, RoundsNear};
 ghost use Rattle.wide.specs.Tens.{halvingsOf, placesOf, Reciprocal};
 ghost use Rattle.wide.specs.Reach.{reach, far};

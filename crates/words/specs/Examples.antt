@@ -4,11 +4,13 @@ use mathlib.Core.List.{[], _∷_}
 use Rattle.error.specs.Refusal.{refusal, good, bad}
 use Rattle.record.specs.Form.{bytes}
 use Rattle.record.specs.Word.{same}
-use Rattle.utf8.specs.Utf8.{encode, encodeAll, leadOf, validFrom}
+use Rattle.utf8.specs.Utf8.{encode, leadOf, validFrom}
+use Rattle.utf8.specs.Encoding.{encodeAll}
 use Rattle.strings.specs.Text.{plain, pieceOf, pageAfter, textFrom, textOn, textOf, bytesOf}
-use Rattle.params.specs.Reader.{span}
+use Rattle.params.specs.Answer.{span}
 use Rattle.scalars.specs.Scalars.{isUnset}
-use Rattle.words.specs.Words.{isName, nameAt, isString, inRoom, stringAt, roomAt}
+use Rattle.words.specs.Words.{isName, nameAt, isString, stringAt, roomAt}
+use Rattle.words.specs.Answer.{inRoom}
 
 -- `..` is an empty name
 empty-name : nameAt (bytes "..") (span 0 2) ≡ good (span 1 1)

@@ -12,11 +12,14 @@ use Rattle.common.specs.Pick.{pick}
 use Rattle.error.specs.Refusal.{Refusal, refusal, Told, good, bad}
 use Rattle.utf8.specs.Utf8.{validOf}
 use Rattle.strings.specs.declared.Decoded.{Decoded}
-use Rattle.strings.specs.Code.{decodedOf, roomAfter}
+use Rattle.strings.specs.Answer.{decodedOf, roomAfter}
 use Rattle.strings.specs.Hex.{both}
-use Rattle.params.specs.Reader.{Read, reading, Span, span, mapped, paramOf}
+use Rattle.params.specs.Reader.{paramOf}
+use Rattle.params.specs.Answer.{Read, reading, Span, span, mapped}
 use Rattle.scalars.specs.Scalars.{isUnset}
-use Rattle.words.specs.Words.{partOf, isName, nameAt, isString, Shown, inFile, inRoom, bodyOf, decodedAt, stringAt, roomAt, roomOf}
+use Rattle.words.specs.Words.{isName, nameAt, isString, bodyOf, decodedAt, stringAt, roomAt}
+use Rattle.words.specs.Room.{roomOf}
+use Rattle.words.specs.Answer.{partOf, Shown, inFile, inRoom}
 
 -- fewer than two bytes are no name
 pub name-short : (t : List ℕ) → length t < 2 → false ≡ isName t

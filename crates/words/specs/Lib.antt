@@ -1,4 +1,6 @@
+pub mod Answer
 pub mod Words
+pub mod Room
 pub mod Laws
 pub mod Rules
 pub mod RulesRight

@@ -1,10 +1,11 @@
 -- "that two allowed answers coincide is proved": what a reader of names and texts tells is one answer of the code. The bytes of `shown`
 -- and the lent output are told as they are. Assumes nothing.
 use mathlib.Core.Path.{_≡_, refl, sym, _∙_, ap}
-use Rattle.error.specs.Refusal.{Told, good, bad, faultOf, faultOf-told}
-use Rattle.params.specs.Reader.{Read, Span}
+use Rattle.error.specs.Refusal.{Told, good, bad}
+use Rattle.error.specs.Only.{faultOf, faultOf-told}
+use Rattle.params.specs.Answer.{Read, Span}
 use Rattle.params.specs.declared.State.{State}
-use Rattle.words.specs.Words.{Shown, inFile, inRoom, toldNextName, toldNextText}
+use Rattle.words.specs.Answer.{Shown, inFile, inRoom, toldNextName, toldNextText}
 use Rattle.words.specs.declared.NextName as NextNameCode
 use Rattle.words.specs.declared.NextText as NextTextCode
 

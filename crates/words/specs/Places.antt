@@ -8,11 +8,14 @@ use native.Mathlib.Omega.{arith}
 use lib.ListN.{length}
 use Rattle.common.specs.Compare.{clash}
 use Rattle.error.specs.Refusal.{Refusal, refusal, Told, good, bad}
-use Rattle.params.specs.Reader.{reading, Span, inFile, onward, mapped, paramOf}
+use Rattle.params.specs.Reader.{paramOf}
+use Rattle.params.specs.Answer.{reading, Span, inFile, onward, mapped}
 use Rattle.params.specs.Rules.{Inside}
 use Rattle.params.specs.Places.{PlacedIn, Stands, Past, mapped-stands, mapped-stays, param-placed, param-stays, param-past, refused-past}
-use Rattle.words.specs.Words.{nameAt, Shown, inRoom, stringAt, roomAt, roomOf}
-use Rattle.words.specs.Words as Words
+use Rattle.words.specs.Words.{nameAt, stringAt, roomAt}
+use Rattle.words.specs.Room.{roomOf}
+use Rattle.words.specs.Answer.{Shown, inRoom}
+use Rattle.words.specs.Answer as Words
 use Rattle.words.specs.Rules.{NameForm, TextForm}
 use Rattle.words.specs.RulesRight.{part-long, nameform-is, textform-is}
 

@@ -2,17 +2,18 @@
 -- bytes, of the part of the file s that it is, and of the lent output before and after; the byte `'` is 39 and `.` is 46. Valid bytes
 -- are the rules of the crate utf8, a string's characters those of the crate strings. RulesRight.antt shows that Words.antt computes
 -- just this, and that there is no other answer. Assumes nothing.
+-- Definitions to be believed: no law, and nothing computed that no theorem ties (docs/BELIEVE.md).
 use Prim.Native.Nat.{ℕ, _+_, _-_, _≤_, _<_}
 use mathlib.Core.Path.{_≡_}
 use mathlib.Core.List.{List, [], _∷_, _++_}
 use lib.ListN.{length, drop}
 use Rattle.error.specs.Refusal.{refusal, Told, good, bad}
 use Rattle.record.specs.Form.{bytes}
-use Rattle.utf8.specs.Utf8.{encodeAll}
+use Rattle.utf8.specs.Encoding.{encodeAll}
 use Rattle.utf8.specs.Table.{Valid}
 use Rattle.strings.specs.Rules.{Text}
-use Rattle.params.specs.Reader.{Span, span}
-use Rattle.words.specs.Words.{partOf, Shown, inFile, inRoom}
+use Rattle.params.specs.Answer.{Span, span}
+use Rattle.words.specs.Answer.{partOf, Shown, inFile, inRoom}
 
 -- "a name between two dots, valid UTF-8": t is a dot, the name n and a dot
 pub record Name (t n : List ℕ) : Type 0 where

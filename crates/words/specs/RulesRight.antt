@@ -13,19 +13,21 @@ use Rattle.common.specs.Compare.{clash}
 use Rattle.error.specs.Refusal.{refusal, Told, good, bad}
 use Rattle.record.specs.Word.{same}
 use Rattle.record.specs.Form.{bytes}
-use Rattle.utf8.specs.Utf8.{validOf, encodeAll}
+use Rattle.utf8.specs.Utf8.{validOf}
+use Rattle.utf8.specs.Encoding.{encodeAll}
 use Rattle.utf8.specs.Agree.{valid-is, valid-only}
 use Rattle.strings.specs.Text as String
 use Rattle.strings.specs.Hex.{both, neither}
 use Rattle.strings.specs.Rules.{Text}
 use Rattle.strings.specs.RulesRight.{text-is, text-only}
-use Rattle.strings.specs.Code.{decodedOf, roomAfter}
+use Rattle.strings.specs.Answer.{decodedOf, roomAfter}
 use Rattle.strings.specs.declared.Decoded.the-variants.{Written, Short}
-use Rattle.params.specs.Reader.{Span, span}
+use Rattle.params.specs.Answer.{Span, span}
 use Rattle.scalars.specs.Scalars.{isUnset}
 use Rattle.scalars.specs.Laws.{part-part}
 use Rattle.scalars.specs.RulesRight.{same-is, same-self, same-not}
-use Rattle.words.specs.Words.{partOf, isName, nameAt, isString, Shown, bodyOf, decodedAt, stringAt, roomAt}
+use Rattle.words.specs.Words.{isName, nameAt, isString, bodyOf, decodedAt, stringAt, roomAt}
+use Rattle.words.specs.Answer.{partOf, Shown}
 use Rattle.words.specs.Rules.{Name, NameForm, Quoted, Plainly, TextForm}
 
 -- ---- a first byte, a middle and a last byte
@@ -171,11 +173,11 @@ plain-not b n = go (String.plain b) refl
     go false e = e
 
 -- a string's characters in UTF-8
-bytes-only : {b cs : List ℕ} → Text b cs → encodeAll cs ≡ String.bytesOf b
+pub bytes-only : {b cs : List ℕ} → Text b cs → encodeAll cs ≡ String.bytesOf b
 unfolding String.bytesOf
 bytes-only t = ap encodeAll (text-only t)
 
-bytes-is : (b : List ℕ) → (cs : List ℕ) × Text b cs × (encodeAll cs ≡ String.bytesOf b)
+pub bytes-is : (b : List ℕ) → (cs : List ℕ) × Text b cs × (encodeAll cs ≡ String.bytesOf b)
 bytes-is b = (String.textOf b, text-is b, bytes-only (text-is b))
 
 module _ (s : List ℕ) (a : Span) (o : List ℕ) (ordered : a .start ≤ a .stop) (within : a .stop ≤ length s) where

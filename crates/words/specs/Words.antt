@@ -1,24 +1,19 @@
 -- Document 01, 'Parameters' and 'Strings': names and texts of a parameter. Parameters are those of the crate params, texts those of
 -- the crate strings. Assumes nothing.
-use Prim.Native.Nat.{ℕ, _+_, _-_, _≤_}
-use mathlib.Core.Bool.{Bool, true, false, not, _&&_}
-use mathlib.Core.List.{List, [], _∷_}
+use Prim.Native.Nat.{ℕ, _+_, _-_}
+use mathlib.Core.Bool.{Bool, _&&_}
+use mathlib.Core.List.{List}
 use lib.Dec.{eqb, leb}
 use lib.ListN.{length, take, drop, getD}
 use Rattle.common.specs.Pick.{pick}
-use Rattle.error.specs.Refusal.{Refusal, refusal, Told, good, bad, told}
+use Rattle.error.specs.Refusal.{refusal, Told, good, bad}
 use Rattle.utf8.specs.Utf8.{validOf}
 use Rattle.strings.specs.declared.Decoded.{Decoded}
 use Rattle.strings.specs.declared.Decoded.the-variants.{Plain, Written, Short}
-use Rattle.strings.specs.Code.{decodedOf, roomAfter}
-use Rattle.params.specs.Reader.{Read, reading, Span, span, mapped, paramOf}
+use Rattle.strings.specs.Answer.{decodedOf, roomAfter}
+use Rattle.params.specs.Answer.{Span, span}
 use Rattle.scalars.specs.Scalars.{isUnset}
-use Rattle.words.specs.declared.NextName as NextNameCode
-use Rattle.words.specs.declared.NextText as NextTextCode
-
--- the bytes of a part of the file
-abbrev pub partOf : List ℕ → Span → List ℕ
-partOf s a = take (a .stop - a .start) (drop (a .start) s)
+use Rattle.words.specs.Answer.{partOf, Shown, inFile, inRoom}
 
 -- "a name between two dots, valid UTF-8"
 unfoldable pub isName : List ℕ → Bool
@@ -28,19 +23,9 @@ isName t = leb 2 (length t) && (eqb (getD t 0 0) 46 && (eqb (getD t (length t - 
 abbrev pub nameAt : List ℕ → Span → Told Span
 nameAt s a = pick (isName (partOf s a)) (good (span (a .start + 1) (a .stop - 1))) (bad (refusal 12 0 (a .start)))
 
--- what `next_enum` answers
-abbrev pub toldNextName : NextNameCode.NextName → Read Span
-toldNextName (NextNameCode.the-variants.Name a z t) = reading (good (span a z)) (t .place) (t .end)
-toldNextName (NextNameCode.the-variants.Refused f t) = reading (bad (told f)) (t .place) (t .end)
-
 -- "A string parameter has two bytes or more and a quote first"
 unfoldable pub isString : List ℕ → Bool
 isString t = leb 2 (length t) && eqb (getD t 0 0) 39
-
--- where a text stands: in the file, or so many bytes from the room's start
-pub data Shown : Type 0 where
-  inFile : Span → Shown
-  inRoom : ℕ → Shown
 
 -- "its text lies between first and last byte"
 abbrev pub bodyOf : List ℕ → Span → List ℕ
@@ -63,20 +48,3 @@ stringAt s n a =
 -- the lent output after a parameter: a text that is written there, and else its own bytes
 unfoldable pub roomAt : List ℕ → List ℕ → Span → List ℕ
 roomAt s o a = pick (isUnset (partOf s a)) o (pick (isString (partOf s a)) (roomAfter (bodyOf s a) o) o)
-
--- the same where no parameter is read
-abbrev pub roomOf : List ℕ → List ℕ → Told Span → List ℕ
-roomOf s o (good a) = roomAt s o a
-roomOf s o (bad q) = o
-
--- what `next_str` answers
-abbrev pub toldNextText : NextTextCode.NextText → Read Shown
-toldNextText (NextTextCode.the-variants.InFile a z t) = reading (good (inFile (span a z))) (t .place) (t .end)
-toldNextText (NextTextCode.the-variants.InRoom n t) = reading (good (inRoom n)) (t .place) (t .end)
-toldNextText (NextTextCode.the-variants.Refused f t) = reading (bad (told f)) (t .place) (t .end)
-
--- the bytes of a text that stands there; none where the places are not in the file or the room, nor for a refusal
-abbrev pub shownBy : List ℕ → List ℕ → NextTextCode.NextText → List ℕ
-shownBy s o (NextTextCode.the-variants.InFile a z t) = pick (leb a z && leb z (length s)) (take (z - a) (drop a s)) []
-shownBy s o (NextTextCode.the-variants.InRoom n t) = pick (leb n (length o)) (take n o) []
-shownBy s o (NextTextCode.the-variants.Refused f t) = []

@@ -5,8 +5,11 @@
 ghost use mathlib.Core.Path.{_≡_};
 ghost use Prim.Native.Nat.{_+_, _-_, _≤_};
 ghost use lib.ListN.{length, take, drop};
-ghost use Rattle.params.specs.Reader.{reading, mapped, paramOf, span};
-ghost use Rattle.words.specs.Words.{isName, isString, nameAt, stringAt, roomAt, roomOf, toldNextName, toldNextText, shownBy};
+ghost use Rattle.params.specs.Reader.{paramOf};
+ghost use Rattle.params.specs.Answer.{reading, mapped, span};
+ghost use Rattle.words.specs.Words.{isName, isString, nameAt, stringAt, roomAt};
+ghost use Rattle.words.specs.Room.{roomOf};
+ghost use Rattle.words.specs.Answer.{toldNextName, toldNextText, shownBy};
 use error::Fault;
 use params::Cut;
 use params::State;

@@ -2,7 +2,7 @@
 use contract.Running.{givenOf, tables, tablesOf}
 use denote.Triple.Spec.{tripleOf}
 use denote.Triple.Table.{entered, cited}
-use Rattle.scalars.specs.Scalars.{toldNextReal, nextOf}
+use Rattle.scalars.specs.Answer.{toldNextReal, nextOf}
 use Rattle.reals.specs.Scalar.{realOf}
 use Rattle.scalars.proofs.NextReal as E
 use Rattle.scalars.proofs.NextReal.Laws as E′

@@ -2,7 +2,7 @@
 use contract.Running.{givenOf, tables, tablesOf}
 use denote.Triple.Spec.{tripleOf}
 use denote.Triple.Table.{entered, cited}
-use Rattle.scalars.specs.Scalars.{toldNextWhole, nextOf}
+use Rattle.scalars.specs.Answer.{toldNextWhole, nextOf}
 use Rattle.reals.specs.Scalar.{wholeOf}
 use Rattle.scalars.proofs.NextWhole as E
 use Rattle.scalars.proofs.NextWhole.Laws as E′

@@ -11,7 +11,8 @@ use Rattle.lookup.specs.declared.Tables.{Tables}
 use Rattle.factors.specs.Thing.{findOf}
 use Rattle.units.specs.Units.{Units}
 use Rattle.units.specs.Code.{toldUnits}
-use Rattle.plain.specs.Answers.{readFault, foundCode, foundValue, truthNumber, found-code, found-value, found-fault}
+use Rattle.plain.specs.Answers.{readFault, foundCode, foundValue, truthNumber}
+use Rattle.plain.specs.AnswersLaws.{found-code, found-value, found-fault}
 use Rattle.plain.specs.Numbers.{tablesBy}
 use Rattle.export_units.specs.Contexts.{unitsIn}
 use borrow.Author.Needs.{needs}

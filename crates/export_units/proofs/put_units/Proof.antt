@@ -4,7 +4,8 @@ use lib.Ieee.{binary64, toBits}
 use Rattle.error.specs.Refusal.{Told}
 use Rattle.units.specs.Units.{Units}
 use Rattle.units.specs.Code.{toldUnits}
-use Rattle.plain.specs.Answers.{readValue, truthNumber, tells-good, tells-bad}
+use Rattle.plain.specs.Answers.{readValue, truthNumber}
+use Rattle.plain.specs.AnswersLaws.{tells-good, tells-bad}
 use borrow.Author.Needs.{needs}
 use Rattle.export_units.proofs.put_units.Statement.{statement}
 use Rattle.export_units.proofs.put_units.Tie as tie

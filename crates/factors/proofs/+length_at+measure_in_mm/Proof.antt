@@ -6,13 +6,14 @@ use mathlib.Core.Path.{sym, _∙_, ap}
 use Prim.Native.Nat.{ℕ, _+_, _<_}
 use denote.Ref.{now}
 use lib.Ieee.{binary64, toBits}
-use Rattle.params.specs.Reader.{Read}
-use Rattle.scalars.specs.Scalars.{toldNextReal, toldNextRef}
+use Rattle.params.specs.Answer.{Read}
+use Rattle.scalars.specs.Answer.{toldNextReal, toldNextRef}
 use Rattle.statement.specs.Statement.{rowOf}
 use Rattle.lookup.specs.Lookup.{toldEntry, rowFor}
 use Rattle.factors.specs.Thing.{thingOf, findOf}
 use Rattle.factors.specs.Factor.{lengthOf}
-use Rattle.factors.specs.Code.{toldRun, toldFactor, toldLink}
+use Rattle.factors.specs.Code.{toldLink}
+use Rattle.factors.specs.Answer.{toldRun, toldFactor}
 use Rattle.factors.specs.Laws.{chain-known, chain-leads, chain-left, find-none, find-row, measure-missing, measure-refused, measure-none, measure-some, at-unread, at-read, base-unread, base-missing, base-row}
 use borrow.Fn.Kinds.{In}
 use borrow.Fn.PlainCycle.{Measures, is, falls, and}

@@ -4,7 +4,7 @@ use Prim.Native.Nat.{ℕ}
 use denote.Ref.{now}
 use Rattle.error.specs.Refusal.{Told}
 use Rattle.lookup.specs.Lookup.{rowFor}
-use Rattle.params.specs.Reader.{onward}
+use Rattle.params.specs.Answer.{onward}
 use Rattle.factors.specs.Thing.{findOf}
 use Rattle.factors.specs.Factor.{numberIn}
 use Rattle.factors.specs.Code.{toldId}

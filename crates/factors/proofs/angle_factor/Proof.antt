@@ -4,7 +4,7 @@ use denote.Ref.{now}
 use Rattle.lookup.specs.Lookup.{rowFor}
 use Rattle.statement.specs.Statement.{rowOf}
 use Rattle.factors.specs.Thing.{thingOf, findOf}
-use Rattle.factors.specs.Code.{toldRun}
+use Rattle.factors.specs.Answer.{toldRun}
 use Rattle.factors.specs.Laws.{angle-refused, angle-si, angle-late, angle-neither, angle-conversion}
 use Rattle.factors.proofs.angle_factor.Statement.{statement}
 use Rattle.factors.proofs.angle_factor.Tie as tie

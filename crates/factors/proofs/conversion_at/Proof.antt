@@ -2,7 +2,7 @@ use borrow.Author.Needs.{needs}
 use mathlib.Core.Path.{sym, _∙_, ap}
 use denote.Ref.{now}
 use borrow.Author.Tests.{ne-eqb}
-use Rattle.params.specs.Reader.{span}
+use Rattle.params.specs.Answer.{span}
 use Rattle.factors.specs.Code.{toldId}
 use Rattle.factors.specs.Laws.{conversion-deep, conversion-refused, conversion-leads}
 use Rattle.factors.proofs.conversion_at.Statement.{statement}

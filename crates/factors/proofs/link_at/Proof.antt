@@ -3,7 +3,7 @@ use mathlib.Core.Path.{sym, _∙_, ap}
 use denote.Ref.{now}
 use Rattle.statement.specs.Statement.{rowOf}
 use Rattle.factors.specs.Thing.{thingOf}
-use Rattle.factors.specs.Code.{toldRun}
+use Rattle.factors.specs.Answer.{toldRun}
 use Rattle.factors.specs.Laws.{link-refused, link-si, link-late, link-neither, link-conversion}
 use Rattle.factors.proofs.link_at.Statement.{statement}
 use Rattle.factors.proofs.link_at.Tie as tie

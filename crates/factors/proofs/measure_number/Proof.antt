@@ -2,10 +2,10 @@ use borrow.Author.Needs.{needs}
 use mathlib.Core.Path.{sym, _∙_, ap}
 use denote.Ref.{now}
 use Prim.Native.Nat.{ℕ}
-use Rattle.params.specs.Reader.{Read}
+use Rattle.params.specs.Answer.{Read}
 use Rattle.statement.specs.Statement.{rowOf}
 use Rattle.lookup.specs.Lookup.{toldEntry, toldSpan, rowFor}
-use Rattle.scalars.specs.Scalars.{toldNextReal}
+use Rattle.scalars.specs.Answer.{toldNextReal}
 use Rattle.factors.specs.Thing.{findOf}
 use Rattle.factors.specs.Laws.{find-none, find-row, number-missing, number-out, number-unread, number-read}
 use Rattle.factors.proofs.measure_number.Statement.{statement}

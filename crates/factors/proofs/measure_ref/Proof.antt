@@ -1,8 +1,8 @@
 use borrow.Author.Needs.{needs}
 use mathlib.Core.Path.{sym, _∙_, ap}
 use denote.Ref.{now}
-use Rattle.params.specs.Reader.{toldSkipped}
-use Rattle.scalars.specs.Scalars.{toldNextRef}
+use Rattle.params.specs.Answer.{toldSkipped}
+use Rattle.scalars.specs.Answer.{toldNextRef}
 use Rattle.factors.specs.Laws.{ref-refused, ref-past}
 use Rattle.factors.proofs.measure_ref.Statement.{statement}
 use Rattle.factors.proofs.measure_ref.Tie as tie

@@ -4,8 +4,8 @@ use borrow.Author.Tests.{eq-eqb, ne-eqb}
 use denote.Ref.{now}
 use Rattle.statement.specs.Statement.{rowOf}
 use Rattle.lookup.specs.Lookup.{toldSpan}
-use Rattle.parts.specs.Part.{toldNext}
-use Rattle.factors.specs.Factor.{measureRun}
+use Rattle.parts.specs.Rules.{toldNext}
+use Rattle.factors.specs.Unit.{measureRun}
 use Rattle.factors.specs.Laws.{thing-out, measure-own, measure-part}
 use Rattle.factors.proofs.measure_run.Statement.{statement}
 use Rattle.factors.proofs.measure_run.Tie as tie

@@ -2,11 +2,11 @@ use borrow.Author.Needs.{needs}
 use mathlib.Core.Path.{sym, _∙_, ap}
 use denote.Ref.{now}
 use lib.Dec.{eqb}
-use Rattle.kinds.specs.Kind.{rankOf}
+use Rattle.kinds.specs.Rules.{rankOf}
 use Rattle.kinds.specs.declared.Kind.{Kind}
 use Rattle.statement.specs.Statement.{rowOf}
 use Rattle.lookup.specs.Lookup.{toldSpan}
-use Rattle.parts.specs.Part.{toldNext}
+use Rattle.parts.specs.Rules.{toldNext}
 use Rattle.factors.specs.Thing.{selfOr}
 use Rattle.factors.specs.Laws.{thing-out, self-own, self-part}
 use Rattle.factors.proofs.self_or.Statement.{statement}

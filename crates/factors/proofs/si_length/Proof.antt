@@ -2,7 +2,7 @@ use borrow.Author.Needs.{needs}
 use mathlib.Core.Path.{sym, _∙_, ap}
 use denote.Ref.{now}
 use borrow.Author.Tests.{not-true, not-false}
-use Rattle.prefixes.specs.Prefix.{lengthFactorOf}
+use Rattle.prefixes.specs.Length.{lengthFactorOf}
 use Rattle.factors.specs.Laws.{length-other, length-is}
 use Rattle.factors.proofs.si_length.Statement.{statement}
 use Rattle.factors.proofs.si_length.Tie as tie

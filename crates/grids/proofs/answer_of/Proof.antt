@@ -1,6 +1,6 @@
 use borrow.Author.Needs.{needs}
-use Rattle.grids.specs.Grid.{reachedIn}
-use Rattle.params.specs.Reader.{reading}
+use Rattle.grids.specs.Code.{reachedIn}
+use Rattle.params.specs.Answer.{reading}
 use Rattle.error.specs.Refusal.{refusal, bad}
 use native.Mathlib.Omega.{arith}
 use mathlib.Core.Path.{_≡_, refl, ap}

@@ -1,6 +1,6 @@
 use borrow.Author.Needs.{needs}
 use Rattle.lists.specs.Laws.{tally, shape-none, shape-blank, shape-full, body-length, told-full, list-none, list-blank}
-use Rattle.lists.specs.Items.{fated}
+use Rattle.lists.specs.Answer.{fated}
 use Rattle.grids.specs.Grid.{size, addRow, rowOf, toldTally}
 use Rattle.grids.specs.Laws.{tally-inward}
 use native.Mathlib.Omega.{arith}

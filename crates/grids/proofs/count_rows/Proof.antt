@@ -1,5 +1,6 @@
 use Rattle.lists.specs.Laws.{tally, tally-starts, tally-bad, tally-last, tally-more, counted-wrong, counted-outside, counted-all}
-use Rattle.lists.specs.Items.{fated, itemsFrom, toldCounted}
+use Rattle.lists.specs.Items.{itemsFrom}
+use Rattle.lists.specs.Answer.{fated, toldCounted}
 use Rattle.grids.specs.Grid.{size, addRow, rowOf}
 use borrow.Author.Needs.{needs}
 use native.Mathlib.Omega.{arith}

@@ -1,9 +1,10 @@
 use borrow.Author.Needs.{needs}
 use lib.Ieee.{binary64, toBits}
 use mathlib.Core.List.{map}
-use Rattle.lists.specs.Items.{asFate, filled}
+use Rattle.lists.specs.Items.{filled}
+use Rattle.lists.specs.Answer.{asFate}
 use Rattle.lists.specs.Laws.{shape-full}
-use Rattle.reals.specs.Scalar.{realBy}
+use Rattle.reals.specs.Which.{realBy}
 use Rattle.grids.specs.Grid.{flat, endsFrom}
 use Rattle.grids.specs.Laws.{grid-none, grid-blank, grid-full}
 use native.Mathlib.Omega.{arith}

@@ -1,8 +1,8 @@
 use Rattle.common.specs.Compare.{clash}
 use Rattle.grids.specs.Rows.{Gridding, gridding-starts, gridding-room, map-part, map-put, row-length, row-read, row-place, row-last, row-goes}
-use Rattle.lists.specs.Items.{asFate, toldReadList}
+use Rattle.lists.specs.Answer.{asFate, toldReadList}
 use Rattle.lists.proofs.Laws.{refused-read}
-use Rattle.reals.specs.Scalar.{realBy}
+use Rattle.reals.specs.Which.{realBy}
 use native.Mathlib.Omega.{arith}
 use borrow.Author.Needs.{needs}
 use denote.Ref.{now}

@@ -1,5 +1,6 @@
 use borrow.Author.Needs.{needs}
-use Rattle.lists.specs.Items.{asFate, filled}
+use Rattle.lists.specs.Items.{filled}
+use Rattle.lists.specs.Answer.{asFate}
 use Rattle.lists.specs.Laws.{shape-full}
 use Rattle.reals.specs.Scalar.{referenceOf}
 use Rattle.grids.specs.Grid.{flat, endsFrom}

@@ -1,6 +1,6 @@
 use Rattle.common.specs.Compare.{clash}
 use Rattle.grids.specs.Rows.{Gridding, gridding-starts, gridding-room, row-read, row-place, row-last, row-goes, row-length}
-use Rattle.lists.specs.Items.{asFate, toldReadList}
+use Rattle.lists.specs.Answer.{asFate, toldReadList}
 use Rattle.reals.specs.Scalar.{referenceOf}
 use lib.ListN.{length}
 use denote.Ref.{now}

@@ -1,8 +1,9 @@
 use borrow.Author.Needs.{needs}
-use Rattle.lists.specs.Items.{asFate, listOf}
+use Rattle.lists.specs.Items.{listOf}
+use Rattle.lists.specs.Answer.{asFate}
 use Rattle.lists.specs.Places.{list-inward, scalar-inward}
 use Rattle.params.specs.ReaderLaws.{cut-places}
-use Rattle.params.specs.Reader.{toldCut}
+use Rattle.params.specs.Answer.{toldCut}
 use Rattle.reals.specs.Scalar.{referenceOf}
 use Rattle.grids.specs.Grid.{gridOf, gridFits}
 use Rattle.grids.specs.Laws.{grids-uncut, grids-cut, grid-inward}

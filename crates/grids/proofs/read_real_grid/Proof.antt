@@ -1,9 +1,10 @@
 use borrow.Author.Needs.{needs}
 use lib.Ieee.{binary64, toBits}
 use mathlib.Core.List.{map}
-use Rattle.lists.specs.Items.{asFate}
-use Rattle.reals.specs.Scalar.{realBy}
-use Rattle.grids.specs.Grid.{gridOf, toldReadGrid}
+use Rattle.lists.specs.Answer.{asFate}
+use Rattle.reals.specs.Which.{realBy}
+use Rattle.grids.specs.Grid.{gridOf}
+use Rattle.grids.specs.Code.{toldReadGrid}
 use Rattle.grids.specs.Laws.{grid-told, grid-fits, grid-written, grid-refused}
 use Rattle.grids.proofs.Laws.{refused-grid}
 use denote.Ref.{now}

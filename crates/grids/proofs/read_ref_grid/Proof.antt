@@ -1,7 +1,8 @@
 use borrow.Author.Needs.{needs}
-use Rattle.lists.specs.Items.{asFate}
+use Rattle.lists.specs.Answer.{asFate}
 use Rattle.reals.specs.Scalar.{referenceOf}
-use Rattle.grids.specs.Grid.{gridOf, toldReadGrid}
+use Rattle.grids.specs.Grid.{gridOf}
+use Rattle.grids.specs.Code.{toldReadGrid}
 use Rattle.grids.specs.Laws.{grid-told, grid-fits, grid-written, grid-refused}
 use Rattle.grids.proofs.Laws.{refused-grid}
 use denote.Ref.{now}

@@ -3,7 +3,7 @@ use Rattle.common.specs.Pick.{pick}
 use Rattle.lists.specs.ReadLaws.{roomed-bad}
 use Rattle.grids.specs.Grid.{sizeFits, toldTally, size}
 use mathlib.Core.Path.{ap, sym, _∙_}
-use Rattle.lists.specs.Items.{roomed}
+use Rattle.lists.specs.Answer.{roomed}
 use Rattle.error.specs.Refusal.{refusal, good, bad}
 use mathlib.Core.Bool.{Bool}
 use Rattle.grids.proofs.room_for.Statement.{statement}

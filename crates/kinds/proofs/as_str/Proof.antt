@@ -3,7 +3,8 @@ use mathlib.Core.Path.{_∙_, ap}
 use mathlib.Core.List.{List}
 use native.Mathlib.Omega.{arith}
 use denote.Ref.{now}
-use Rattle.kinds.specs.Name.{nameIn, nameAfter, part-at}
+use Rattle.kinds.specs.Name.{part-at}
+use Rattle.kinds.specs.Rules.{nameIn, nameAfter}
 use borrow.Author.Needs.{needs}
 use Rattle.kinds.proofs.as_str.Statement.{statement}
 use Rattle.kinds.proofs.as_str.Tie as tie

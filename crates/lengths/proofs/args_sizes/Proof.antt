@@ -1,8 +1,9 @@
 use borrow.Author.Needs.{needs}
 use native.Mathlib.Omega.{arith}
 use mathlib.Core.Path.{_≡_, _∙_, sym, ap}
-use Rattle.params.specs.Reader.{toldCut}
-use Rattle.lengths.specs.Lengths.{both, argsFrom, argsOf}
+use Rattle.params.specs.Answer.{toldCut}
+use Rattle.lengths.specs.Lengths.{argsFrom, argsOf}
+use Rattle.lengths.specs.Rules.{both}
 use Rattle.lengths.specs.Laws.{args-more, args-over, args-none, nothing-both}
 use Rattle.lengths.proofs.args_sizes.Statement.{statement}
 use Rattle.lengths.proofs.args_sizes.Tie as tie

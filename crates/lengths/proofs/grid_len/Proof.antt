@@ -1,5 +1,5 @@
 use mathlib.Core.Path.{_∙_, sym, ap}
-use Rattle.lists.specs.Any.{anything}
+use Rattle.lists.specs.Answer.{anything}
 use Rattle.grids.specs.Grid.{toldTally}
 use Rattle.grids.specs.Laws.{size-told}
 use Rattle.lengths.specs.Laws.{grid-all, grid-none}

@@ -1,5 +1,5 @@
 use mathlib.Core.Path.{_∙_, sym, ap}
-use Rattle.lists.specs.Items.{toldCounted}
+use Rattle.lists.specs.Answer.{toldCounted}
 use Rattle.lengths.specs.Laws.{items-all, items-none}
 use borrow.Author.Needs.{needs}
 use Rattle.lengths.proofs.list_len.Statement.{statement}

@@ -1,8 +1,9 @@
 use borrow.Author.Needs.{needs}
 use native.Mathlib.Omega.{arith}
 use mathlib.Core.Path.{_≡_, _∙_, sym, ap}
-use Rattle.parts.specs.Part.{toldNext}
-use Rattle.lengths.specs.Lengths.{both, partsFrom, partsOf}
+use Rattle.parts.specs.Rules.{toldNext}
+use Rattle.lengths.specs.Lengths.{partsFrom, partsOf}
+use Rattle.lengths.specs.Rules.{both}
 use Rattle.lengths.specs.Laws.{parts-more, parts-over, parts-bad, parts-none, part-end, nothing-both}
 use Rattle.lengths.proofs.parts_sizes.Statement.{statement}
 use Rattle.lengths.proofs.parts_sizes.Tie as tie

@@ -1,4 +1,5 @@
-use Rattle.lex.specs.Leap.{Lacks, lacks-none, noted-next}
+use Rattle.lex.specs.Leap.{lacks-none, noted-next}
+use Rattle.lex.specs.Answer.{Lacks}
 use Prim.Native.Nat.{ℕ, _+_, _-_, _≤_}
 use mathlib.Core.Path.{_≡_, refl, subst}
 use mathlib.Core.Bool.{false}

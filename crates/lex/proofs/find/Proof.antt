@@ -1,4 +1,5 @@
-use Rattle.lex.specs.Leap.{Stopped, stopped-near, stopped-far}
+use Rattle.lex.specs.Leap.{stopped-near, stopped-far}
+use Rattle.lex.specs.Answer.{Stopped}
 use Prim.Native.Nat.{ℕ}
 use lib.ListN.{length}
 use mathlib.Core.Path.{subst}

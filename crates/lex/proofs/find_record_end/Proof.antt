@@ -1,8 +1,9 @@
 use Rattle.lex.specs.Past.{ahead, blocks-less, bytes-less}
 use Rattle.lex.specs.Seek.{drop-within, seek-halts}
-use Rattle.lex.specs.Search.{seen, seekTurn, semicolon, missed, recordEnd, placed}
+use Rattle.lex.specs.Search.{seen, seekTurn, semicolon, missed, recordEnd}
+use Rattle.lex.specs.Answer.{placed}
 use Rattle.common.specs.Walk.{walk-ends}
-use Rattle.lex.specs.Byte.{place-drop}
+use Rattle.lex.specs.Place.{place-drop}
 use Rattle.lex.specs.Right.Steps.{plainly}
 use Rattle.error.specs.Refusal.{good, bad, refusal}
 use Rattle.lex.specs.declared.Mode.the-variants.{Plain}

@@ -1,4 +1,5 @@
-use Rattle.lex.specs.Leap.{Lacks, lacks-none, lacks-next}
+use Rattle.lex.specs.Leap.{lacks-none, lacks-next}
+use Rattle.lex.specs.Answer.{Lacks}
 use Prim.Native.Nat.{_-_, _≤_}
 use native.Mathlib.Omega.{arith}
 use borrow.Author.Needs.{needs}

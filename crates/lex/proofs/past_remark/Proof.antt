@@ -2,7 +2,7 @@ use Rattle.lex.specs.Past.{Held, held-on, left-on, remark-found, remark-
 use mathlib.Core.Path.{refl, _∙_, ap}
 use lib.ListN.{length}
 use Prim.Native.Nat.{_+_, _-_, _≤_}
-use Rattle.lex.specs.Search.{placed}
+use Rattle.lex.specs.Answer.{placed}
 use Rattle.lex.specs.declared.Mode.the-variants.{Remark}
 use denote.Ref.{now}
 use native.Mathlib.Omega.{arith}

@@ -1,5 +1,5 @@
 use Rattle.lex.specs.Past.{text-left, text-stays}
-use Rattle.lex.specs.Quote.{TextEnds}
+use Rattle.lex.specs.Answer.{TextEnds}
 use Prim.Native.Nat.{_+_}
 use mathlib.Core.Path.{subst}
 use denote.Ref.{now}

@@ -1,7 +1,8 @@
 use Rattle.lex.specs.Blank.{trivia-end, trivia-blank, trivia-here, trivia-remark}
 use Rattle.lex.specs.Seek.{drop-within}
-use Rattle.lex.specs.Search.{trivia, placed}
-use Rattle.lex.specs.Byte.{place-drop}
+use Rattle.lex.specs.Search.{trivia}
+use Rattle.lex.specs.Answer.{placed}
+use Rattle.lex.specs.Place.{place-drop}
 use Rattle.error.specs.Refusal.{good}
 use borrow.Author.Tests.{not-true, not-false}
 use lib.ListN.{length, drop}

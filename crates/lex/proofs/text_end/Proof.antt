@@ -1,4 +1,5 @@
-use Rattle.lex.specs.Quote.{QuoteIs, InText, in-text-start, in-text-on, in-text-found, AtQuote, text-never, at-quote}
+use Rattle.lex.specs.Quote.{InText, in-text-start, in-text-on, in-text-found, AtQuote, text-never, at-quote}
+use Rattle.lex.specs.Answer.{QuoteIs}
 use Rattle.lex.specs.declared.Quote.{Quote}
 use Rattle.lex.specs.declared.Quote.the-variants.{Doubled, Single, Last}
 use Prim.Native.Nat.{_+_, _-_, _≤_}

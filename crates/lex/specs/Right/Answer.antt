@@ -4,7 +4,7 @@ use mathlib.Core.Path.{_≡_}
 use mathlib.Core.Logic.{_⊎_, inl, inr}
 use mathlib.Core.List.{List, [], _∷_}
 use Rattle.common.specs.Compare.{clash}
-use Rattle.lex.specs.Search.{Sought, at, fault}
+use Rattle.lex.specs.Answer.{Sought, at, fault}
 use Rattle.lex.specs.Grammar.{OpenText, OpenRemark}
 
 -- what becomes of a search: found before r; or P leads to a string or a comment that never ends; or P leads to the bytes' end

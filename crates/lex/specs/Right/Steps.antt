@@ -9,7 +9,8 @@ use lib.Dec.{eqb}
 use borrow.Author.Tests.{eqb-true, eqb-false, ne-eqb}
 use Rattle.common.specs.Walk.{Turn, on, walk}
 use Rattle.lex.specs.Lexer.{calm, fresh, next}
-use Rattle.lex.specs.Search.{Sought, at, fault, Seen, seen, Look, look, seekTurn, missed}
+use Rattle.lex.specs.Search.{Seen, seen, Look, look, seekTurn, missed}
+use Rattle.lex.specs.Answer.{Sought, at, fault}
 use Rattle.lex.specs.Grammar.{Begins, Opens, Remarked, Comment, Inside, Quotation}
 use Rattle.lex.specs.Local.{seek, seek-within, seek-past}
 use Rattle.lex.specs.declared.Mode.{Mode}

@@ -1,5 +1,6 @@
 use Rattle.lists.specs.Laws.{tally, oneMore, count-starts, tally-bad, tally-last, tally-more}
-use Rattle.lists.specs.Items.{fated, faulty, itemsFrom, kindOf, toldVerdict}
+use Rattle.lists.specs.Items.{itemsFrom, toldVerdict}
+use Rattle.lists.specs.Answer.{fated, faulty, kindOf}
 use native.Mathlib.Omega.{arith}
 use borrow.Author.Needs.{needs}
 use denote.Ref.{now}

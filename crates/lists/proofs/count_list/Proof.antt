@@ -1,6 +1,6 @@
 use borrow.Author.Needs.{needs}
 use Rattle.lists.specs.Laws.{shape-none, shape-blank, shape-full, body-length, told-full, counted-wrong, counted-outside, counted-all, list-none, list-blank}
-use Rattle.lists.specs.Items.{fated, kindOf, toldCounted}
+use Rattle.lists.specs.Answer.{fated, kindOf, toldCounted}
 use native.Mathlib.Omega.{arith}
 use denote.Ref.{now}
 use lib.ListN.{length}

@@ -1,5 +1,6 @@
-use Rattle.lists.specs.Items.{faulty, asFate}
-use Rattle.reals.specs.Scalar.{Answer, realBy, toldReal}
+use Rattle.lists.specs.Answer.{faulty, asFate}
+use Rattle.reals.specs.Which.{realBy}
+use Rattle.reals.specs.Answer.{Answer, toldReal}
 use native.Mathlib.Omega.{arith}
 use lib.Ieee.{binary64, toBits}
 use borrow.Author.Needs.{needs}

@@ -1,8 +1,9 @@
 use borrow.Author.Needs.{needs}
 use Rattle.lists.specs.ReadLaws.{fills-none, fills-blank, fills-full}
 use Rattle.lists.specs.Laws.{shape-full}
-use Rattle.lists.specs.Items.{asFate, filled}
-use Rattle.reals.specs.Scalar.{realBy}
+use Rattle.lists.specs.Items.{filled}
+use Rattle.lists.specs.Answer.{asFate}
+use Rattle.reals.specs.Which.{realBy}
 use native.Mathlib.Omega.{arith}
 use lib.Ieee.{binary64, toBits}
 use denote.Ref.{now}

@@ -1,5 +1,6 @@
-use Rattle.lists.specs.Items.{asFate}
-use Rattle.reals.specs.Scalar.{Answer, referenceOf, toldReference}
+use Rattle.lists.specs.Answer.{asFate}
+use Rattle.reals.specs.Scalar.{referenceOf}
+use Rattle.reals.specs.Answer.{Answer, toldReference}
 use native.Mathlib.Omega.{arith}
 use borrow.Author.Needs.{needs}
 use denote.Ref.{now}

@@ -1,5 +1,6 @@
-use Rattle.lists.specs.Items.{fine, asFate}
-use Rattle.reals.specs.Scalar.{Answer, wholeOf, toldWhole}
+use Rattle.lists.specs.Answer.{fine, asFate}
+use Rattle.reals.specs.Scalar.{wholeOf}
+use Rattle.reals.specs.Answer.{Answer, toldWhole}
 use native.Mathlib.Omega.{arith}
 use lib.IntN.{ℤ}
 use mir.ValLaws.{toZ-ofZ}

@@ -1,7 +1,8 @@
 use borrow.Author.Needs.{needs}
 use Rattle.lists.specs.ReadLaws.{fills-none, fills-blank, fills-full}
 use Rattle.lists.specs.Laws.{shape-full}
-use Rattle.lists.specs.Items.{asFate, filled}
+use Rattle.lists.specs.Items.{filled}
+use Rattle.lists.specs.Answer.{asFate}
 use Rattle.reals.specs.Scalar.{wholeOf}
 use native.Mathlib.Omega.{arith}
 use denote.Ref.{now}

@@ -1,7 +1,9 @@
 use Rattle.lists.specs.Keep.{Keeping, keeping-starts, keeping-bad, keeping-last, keeping-goes, keeping-length}
 use Rattle.lists.specs.Fill.{map-set}
-use Rattle.lists.specs.Items.{faulty, asFate, itemsFrom, Kept}
-use Rattle.reals.specs.Scalar.{Answer, realBy, toldReal}
+use Rattle.lists.specs.Items.{itemsFrom, Kept}
+use Rattle.lists.specs.Answer.{faulty, asFate}
+use Rattle.reals.specs.Which.{realBy}
+use Rattle.reals.specs.Answer.{Answer, toldReal}
 use native.Mathlib.Omega.{arith}
 use borrow.Author.Needs.{needs}
 use denote.Ref.{now}

@@ -2,8 +2,9 @@ use borrow.Author.Needs.{needs}
 use Rattle.lists.specs.Keep.{kept-none, kept-blank, kept-full}
 use Rattle.lists.specs.Places.{scalar-inward, items-inward, told-place}
 use Rattle.lists.specs.Laws.{shape-full, body-length}
-use Rattle.lists.specs.Items.{asFate, itemsFrom, toldCounted}
-use Rattle.reals.specs.Scalar.{realBy}
+use Rattle.lists.specs.Items.{itemsFrom}
+use Rattle.lists.specs.Answer.{asFate, toldCounted}
+use Rattle.reals.specs.Which.{realBy}
 use native.Mathlib.Omega.{arith}
 use denote.Ref.{now}
 use lib.Ieee.{binary64, toBits}

@@ -1,9 +1,10 @@
 use borrow.Author.Needs.{needs}
 use Rattle.lists.specs.ReadLaws.{lists-uncut, lists-cut}
 use Rattle.lists.specs.Places.{read-inward, list-inward, scalar-inward}
-use Rattle.lists.specs.Items.{asFate, listOf, fitsIn}
+use Rattle.lists.specs.Items.{listOf}
+use Rattle.lists.specs.Answer.{asFate, fitsIn}
 use Rattle.params.specs.ReaderLaws.{cut-places}
-use Rattle.params.specs.Reader.{toldCut}
+use Rattle.params.specs.Answer.{toldCut}
 use Rattle.reals.specs.Scalar.{referenceOf}
 use native.Mathlib.Omega.{arith}
 use denote.Ref.{now}

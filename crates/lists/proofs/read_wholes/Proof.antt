@@ -1,5 +1,6 @@
 use borrow.Author.Needs.{needs}
-use Rattle.lists.specs.Items.{asFate, listOf, toldReadList}
+use Rattle.lists.specs.Items.{listOf}
+use Rattle.lists.specs.Answer.{asFate, toldReadList}
 use Rattle.reals.specs.Scalar.{wholeOf}
 use denote.Ref.{now}
 use lib.ListN.{length}

@@ -1,6 +1,6 @@
 use borrow.Author.Needs.{needs}
-use Rattle.reals.specs.Scalar.{Answer, toldReference, toldWhole, toldReal}
-use Rattle.lists.specs.Items.{mute, asFate}
+use Rattle.reals.specs.Answer.{Answer, toldReference, toldWhole, toldReal}
+use Rattle.lists.specs.Answer.{mute, asFate}
 use mathlib.Core.Path.{refl, ap, sym, _∙_}
 use Prim.Native.Nat.{ℕ}
 use lib.IntN.{ℤ}

@@ -1,7 +1,7 @@
 use borrow.Author.Needs.{needs}
 use Rattle.lists.specs.Keep.{copy-held}
 use Rattle.lists.specs.Items.{listOf}
-use Rattle.reals.specs.Scalar.{realBy}
+use Rattle.reals.specs.Which.{realBy}
 use denote.Ref.{now}
 use lib.Ieee.{binary64, toBits}
 use Rattle.lists.proofs.write_reals.Statement.{statement}

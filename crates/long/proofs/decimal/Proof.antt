@@ -8,9 +8,10 @@ use borrow.Author.Needs.{needs}
 use denote.Ref.{now}
 use lib.ListN.{drop}
 use Rattle.nearest.specs.Near.{near}
-use Rattle.nearest.specs.Round.{signed}
-use Rattle.nearest.specs.Power.{nearBy, ten-pos}
-use Rattle.long.specs.Digits.{numberIn}
+use Rattle.nearest.specs.Nearest.{signed}
+use Rattle.nearest.specs.Power.{nearBy}
+use Rattle.nearest.specs.PowerLaws.{ten-pos}
+use Rattle.long.specs.Number.{numberIn}
 use Rattle.long.specs.DigitsRight.{number-none}
 use Rattle.nearest.specs.Borders.{near-nothing}
 use Rattle.long.proofs.decimal.Statement.{statement}

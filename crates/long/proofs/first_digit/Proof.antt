@@ -9,7 +9,7 @@ use borrow.Author.Needs.{needs}
 use denote.Ref.{now}
 use lib.Dec.{eqb}
 use lib.ListN.{length, drop, getD}
-use Rattle.long.specs.Digits.{numberIn}
+use Rattle.long.specs.Number.{numberIn}
 use Rattle.long.specs.Steps.{first-past, first-leads}
 use Rattle.long.proofs.first_digit.Statement.{statement}
 use Rattle.long.proofs.first_digit.Tie as tie

@@ -11,12 +11,12 @@ use lib.Dec.{eqb, ltb}
 use lib.ListN.{take}
 use lib.Seq.{length-take-le}
 use Rattle.nearest.specs.Near.{near}
-use Rattle.nearest.specs.Round.{signed}
+use Rattle.nearest.specs.Nearest.{signed}
 use Rattle.limbs.specs.Worth.{worth}
 use Rattle.limbs.specs.Laws.{worth-replicate}
 use Rattle.long.specs.Far.{far-zero, word-lt, ahead-enough, neither}
 use Rattle.nearest.specs.Borders.{near-nothing}
-use Rattle.nearest.specs.Power.{ten-pos}
+use Rattle.nearest.specs.PowerLaws.{ten-pos}
 use Rattle.long.specs.Whole.{scaled-whole}
 use Rattle.long.proofs.lowered.Statement.{statement}
 use Rattle.long.proofs.lowered.Tie as tie

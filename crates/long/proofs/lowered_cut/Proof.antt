@@ -7,7 +7,7 @@ use borrow.Author.Needs.{needs}
 use denote.Ref.{now}
 use lib.ListN.{drop}
 use lib.Seq.{length-take-le}
-use Rattle.long.specs.Digits.{numberIn}
+use Rattle.long.specs.Number.{numberIn}
 use Rattle.long.specs.Whole.{scaled-cut}
 use Rattle.long.proofs.lowered_cut.Statement.{statement}
 use Rattle.long.proofs.lowered_cut.Tie as tie

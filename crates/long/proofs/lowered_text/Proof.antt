@@ -6,9 +6,9 @@ use borrow.Author.Needs.{needs}
 use denote.Ref.{now}
 use lib.ListN.{drop, length-drop}
 use Rattle.nearest.specs.Near.{near}
-use Rattle.nearest.specs.Round.{signed}
+use Rattle.nearest.specs.Nearest.{signed}
 use Rattle.limbs.specs.Laws.{worth-replicate}
-use Rattle.long.specs.Digits.{numberIn}
+use Rattle.long.specs.Number.{numberIn}
 use Rattle.long.specs.DigitsRight.{digits-le, read-lt, read-le}
 use Rattle.long.specs.Far.{far-zero, far-infinity}
 use Rattle.long.proofs.lowered_text.Statement.{statement}

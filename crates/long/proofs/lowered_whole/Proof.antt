@@ -9,7 +9,7 @@ use denote.Ref.{now}
 use lib.ListN.{length, take, drop}
 use lib.Seq.{length-take-le}
 use Rattle.limbs.specs.Worth.{worth}
-use Rattle.long.specs.Digits.{numberIn}
+use Rattle.long.specs.Number.{numberIn}
 use Rattle.long.specs.Steps.{moved-up}
 use Rattle.long.specs.Whole.{placed, read-all, scaled-whole}
 use Rattle.long.proofs.lowered_whole.Statement.{statement}

@@ -6,7 +6,7 @@ use native.Mathlib.Omega.{arith}
 use borrow.Author.Needs.{needs}
 use lib.ListN.{take}
 use Rattle.nearest.specs.Near.{near}
-use Rattle.nearest.specs.Round.{signed}
+use Rattle.nearest.specs.Nearest.{signed}
 use Rattle.limbs.specs.Worth.{worth}
 use Rattle.limbs.specs.Laws.{worth-replicate}
 use Rattle.long.specs.Far.{high-infinity}

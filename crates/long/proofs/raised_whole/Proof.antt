@@ -7,7 +7,8 @@ use borrow.Author.Needs.{needs}
 use denote.Ref.{now}
 use lib.ListN.{length, take, drop}
 use Rattle.limbs.specs.Worth.{worth}
-use Rattle.long.specs.Digits.{numberIn, digitsIn, ReadAt}
+use Rattle.long.specs.Digits.{digitsIn, ReadAt}
+use Rattle.long.specs.Number.{numberIn}
 use Rattle.long.specs.Whole.{placed, read-all}
 use Rattle.long.specs.declared.Filled.{Filled}
 use Rattle.long.proofs.raised_whole.Statement.{statement}

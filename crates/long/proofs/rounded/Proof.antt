@@ -4,7 +4,7 @@ use mathlib.Core.Path.{sym, _∙_, ap}
 use mathlib.Core.Logic.{⊎-elim}
 use native.Mathlib.Omega.{arith}
 use borrow.Author.Needs.{needs}
-use Rattle.nearest.specs.Round.{signed}
+use Rattle.nearest.specs.Nearest.{signed}
 use Rattle.long.specs.Pattern.{past-infinity, seen-le, seen-near}
 use Rattle.long.proofs.rounded.Statement.{statement}
 use Rattle.long.proofs.rounded.Tie as tie

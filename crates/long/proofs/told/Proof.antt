@@ -4,7 +4,7 @@ use mathlib.Core.Bool.{Bool}
 use native.Mathlib.Nat.{zero-add}
 use native.Mathlib.Omega.{arith}
 use borrow.Author.Needs.{needs}
-use Rattle.nearest.specs.Round.{signed}
+use Rattle.nearest.specs.Nearest.{signed}
 use Rattle.cut.specs.Bits.{no-nan, no-nan-minus, bits-back}
 use Rattle.long.proofs.told.Statement.{statement}
 use Rattle.long.proofs.told.Tie as tie

@@ -4,7 +4,7 @@ use Prim.Native.Nat.{ℕ, _-_}
 use borrow.Author.Needs.{needs}
 use denote.Ref.{now}
 use lib.Dec.{eqb}
-use Rattle.kinds.specs.Kind.{rankOf}
+use Rattle.kinds.specs.Rules.{rankOf}
 use Rattle.kinds.specs.declared.Kind.{Kind}
 use Rattle.lookup.specs.Lookup.{firstFrom, isKind, kindIn}
 use Rattle.lookup.specs.Laws.{first-stops, first-goes, first-ends}

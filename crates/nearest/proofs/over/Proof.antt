@@ -1,7 +1,7 @@
 -- `nearest::over` meets its contract: the language's `/`, by `div-bits`. Each operand is an f64's. Assumes nothing.
 use mathlib.Core.Path.{sym, subst}
 use lib.Dec.{T}
-use Rattle.nearest.specs.Product.{div-bits}
+use Rattle.nearest.specs.ProductRight.{div-bits}
 use Rattle.nearest.proofs.over.Statement.{statement}
 use Rattle.nearest.proofs.over.Tie as tie
 

@@ -1,7 +1,7 @@
 -- `nearest::times` meets its contract: the language's `*`, by `mul-bits`. Each operand is an f64's. Assumes nothing.
 use mathlib.Core.Path.{sym, subst}
 use lib.Dec.{T}
-use Rattle.nearest.specs.Product.{mul-bits}
+use Rattle.nearest.specs.ProductRight.{mul-bits}
 use Rattle.nearest.proofs.times.Statement.{statement}
 use Rattle.nearest.proofs.times.Tie as tie
 

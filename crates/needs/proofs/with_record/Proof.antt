@@ -1,5 +1,5 @@
 use mathlib.Core.Path.{_∙_, ap}
-use Rattle.lengths.specs.Lengths.{both}
+use Rattle.lengths.specs.Rules.{both}
 use borrow.Author.Needs.{needs}
 use Rattle.needs.proofs.with_record.Statement.{statement}
 use Rattle.needs.proofs.with_record.Tie as tie

@@ -1,6 +1,6 @@
 use borrow.Author.Needs.{needs}
 use Rattle.params.specs.ReaderLaws.{in-true, empty-told}
-use Rattle.params.specs.Reader.{emptyOf}
+use Rattle.params.specs.Skips.{emptyOf}
 use lib.ListN.{length}
 use lib.Seq.{length-take-le}
 use borrow.Author.Tests.{not-true, not-false}

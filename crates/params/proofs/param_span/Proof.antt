@@ -1,8 +1,8 @@
 use Rattle.params.specs.declared.Ended.the-variants.{At, Open}
 use borrow.Author.Needs.{needs}
 use Rattle.params.specs.ReaderLaws.{in-true, param-none, param-cut, param-open}
-use Rattle.params.specs.Reader.{paramOf, reading, span}
-use Rattle.params.specs.Seek.{endedAt, EndedIn}
+use Rattle.params.specs.Reader.{paramOf}
+use Rattle.params.specs.Answer.{reading, span, endedAt, EndedIn}
 use Rattle.error.specs.Refusal.{good}
 use lib.ListN.{length, take}
 use lib.Seq.{length-take-le}

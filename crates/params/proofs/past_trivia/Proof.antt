@@ -1,6 +1,6 @@
 use borrow.Author.Needs.{needs}
 use Rattle.params.specs.ReaderLaws.{started-at, started-open}
-use Rattle.lex.specs.Search.{toldFound}
+use Rattle.lex.specs.Answer.{toldFound}
 use denote.Ref.{now}
 use mathlib.Core.Path.{_∙_, sym, ap}
 use native.Mathlib.Omega.{arith}

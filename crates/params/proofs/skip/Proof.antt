@@ -1,5 +1,6 @@
 use borrow.Author.Needs.{needs}
-use Rattle.params.specs.Reader.{skipOf, mapped, toldCut}
+use Rattle.params.specs.Skips.{skipOf}
+use Rattle.params.specs.Answer.{mapped, toldCut}
 use Rattle.error.specs.Refusal.{good}
 use mathlib.Core.Path.{_∙_, sym, ap}
 use Rattle.params.proofs.skip.Statement.{statement}

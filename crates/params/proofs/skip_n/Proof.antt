@@ -1,4 +1,5 @@
-use Rattle.params.specs.Reader.{skipFrom, skipsOf, toldSkipped}
+use Rattle.params.specs.Skips.{skipFrom, skipsOf}
+use Rattle.params.specs.Answer.{toldSkipped}
 use mathlib.Core.Path.{_≡_, refl, _∙_, sym, ap}
 use borrow.Author.Tests.{not-true, not-false}
 use native.Mathlib.Omega.{arith}

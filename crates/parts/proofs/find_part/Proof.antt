@@ -5,7 +5,8 @@ use Prim.Native.Nat.{_+_, _-_, _≤_}
 use denote.Ref.{now}
 use lib.ListN.{length}
 use Rattle.statement.specs.Statement.{headerRowOf}
-use Rattle.parts.specs.Part.{toldNext, firstOf}
+use Rattle.parts.specs.Part.{firstOf}
+use Rattle.parts.specs.Rules.{toldNext}
 use Rattle.parts.specs.Laws.{Sifting, sift-starts, sift-over, sift-refused, sift-goes, next-ahead}
 use mathlib.Core.Path.{subst}
 use Rattle.parts.specs.declared.Next.{Next}

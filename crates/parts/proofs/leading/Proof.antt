@@ -1,7 +1,7 @@
 use Rattle.common.specs.Lists.{drop-end}
 use Rattle.record.specs.Turns.{past-stops, past-goes}
 use Rattle.record.specs.Text.{past, pastTurn}
-use Rattle.parts.specs.Part.{separator}
+use Rattle.parts.specs.Rules.{separator}
 use Rattle.common.specs.Walk.{walk, walk-ends}
 use lib.ListN.{length, drop}
 use denote.Ref.{now}

@@ -1,6 +1,6 @@
 use borrow.Author.Needs.{needs}
 use Rattle.statement.specs.Row.{mapped}
-use Rattle.lex.specs.Search.{toldFound}
+use Rattle.lex.specs.Answer.{toldFound}
 use mathlib.Core.Path.{sym, _∙_, ap}
 use Prim.Native.Nat.{ℕ, _+_}
 use mathlib.Core.Option.{some}

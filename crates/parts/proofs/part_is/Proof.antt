@@ -1,6 +1,6 @@
 use borrow.Author.Needs.{needs}
 use mathlib.Core.Path.{_∙_, ap}
-use Rattle.kinds.specs.Kind.{rankOf}
+use Rattle.kinds.specs.Rules.{rankOf}
 use Rattle.kinds.specs.declared.Kind.{Kind}
 use lib.Dec.{eqb}
 use Rattle.parts.proofs.part_is.Statement.{statement}

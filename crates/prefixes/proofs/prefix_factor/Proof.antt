@@ -7,7 +7,8 @@ use denote.Ref.{now}
 use lib.ListN.{getD}
 use lib.Ieee.{binary64, toBits, nan}
 use Rattle.nearest.specs.Near.{near}
-use Rattle.prefixes.specs.Prefix.{place-most, factor-at, factors, tenUp, tenDown, prefixes, unity}
+use Rattle.prefixes.specs.Prefix.{place-most, factor-at, factors}
+use Rattle.prefixes.specs.Rules.{tenUp, tenDown, prefixes, unity}
 use Rattle.prefixes.proofs.prefix_factor.Statement.{statement}
 use Rattle.prefixes.proofs.prefix_factor.Tie as tie
 

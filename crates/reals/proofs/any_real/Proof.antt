@@ -5,9 +5,10 @@ use native.Mathlib.Omega.{arith}
 use borrow.Author.Needs.{needs}
 use denote.Ref.{now}
 use lib.ListN.{length}
-use Rattle.nearest.specs.Round.{signed}
+use Rattle.nearest.specs.Nearest.{signed}
 use Rattle.nearest.specs.Power.{nearBy}
-use Rattle.long.specs.Digits.{numberIn, digitsIn}
+use Rattle.long.specs.Digits.{digitsIn}
+use Rattle.long.specs.Number.{numberIn}
 use Rattle.long.specs.DigitsRight.{number-lt, digits-le}
 use Rattle.reals.proofs.any_real.Statement.{statement}
 use Rattle.reals.proofs.any_real.Tie as tie

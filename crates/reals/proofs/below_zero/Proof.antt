@@ -10,7 +10,8 @@ use lib.IntN.{ℤ, pos, negsuc, negℤ, _-ℤ_}
 use mir.Syntax.{w64}
 use mir.Val.{SFits, toZ, ofZ}
 use mir.ValLaws.{toZ-pos, toZ-ofZ}
-use Rattle.reals.specs.Scalar.{read, ranged}
+use Rattle.reals.specs.Scalar.{ranged}
+use Rattle.reals.specs.Answer.{read}
 use Rattle.reals.proofs.below_zero.Statement.{statement}
 use Rattle.reals.proofs.below_zero.Tie as tie
 

@@ -7,7 +7,8 @@ use lib.Dec.{T, le→leb}
 use lib.IntN.{pos}
 use lib.Ieee.{binary64, inFloat}
 use Prim.Native.Nat.{ℕ, _*_}
-use Rattle.nearest.specs.Product.{finite, worth-whole, worth-minus}
+use Rattle.nearest.specs.Product.{finite}
+use Rattle.nearest.specs.ProductRight.{worth-whole, worth-minus}
 use Rattle.reals.proofs.exact.Statement.{statement}
 use Rattle.reals.proofs.exact.Tie as tie
 

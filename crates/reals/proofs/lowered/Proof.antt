@@ -7,7 +7,7 @@ use borrow.Author.Needs.{needs}
 use borrow.Author.Tests.{leb-true}
 use lib.Dec.{leb}
 use lib.Ieee.{binary64, toBits}
-use Rattle.nearest.specs.Product.{quotient-exact}
+use Rattle.nearest.specs.ProductRight.{quotient-exact}
 use Rattle.reals.specs.Parts.{both}
 use Rattle.reals.proofs.lowered.Statement.{statement}
 use Rattle.reals.proofs.lowered.Tie as tie

@@ -6,7 +6,7 @@ use borrow.Author.Needs.{needs}
 use borrow.Author.Tests.{leb-true}
 use lib.Dec.{leb}
 use lib.Ieee.{binary64, toBits}
-use Rattle.nearest.specs.Product.{product-exact}
+use Rattle.nearest.specs.ProductRight.{product-exact}
 use Rattle.reals.specs.Parts.{both}
 use Rattle.reals.proofs.raised.Statement.{statement}
 use Rattle.reals.proofs.raised.Tie as tie

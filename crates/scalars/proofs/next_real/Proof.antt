@@ -1,8 +1,8 @@
 use borrow.Author.Needs.{needs}
 use Rattle.scalars.specs.Laws.{next-refused, next-read}
 use Rattle.params.specs.ReaderLaws.{cut-places}
-use Rattle.params.specs.Reader.{toldCut}
-use Rattle.reals.specs.Scalar.{realBy}
+use Rattle.params.specs.Answer.{toldCut}
+use Rattle.reals.specs.Which.{realBy}
 use mathlib.Core.Path.{_∙_, sym, ap}
 use native.Mathlib.Omega.{arith}
 use denote.Ref.{now}

@@ -1,7 +1,8 @@
 use borrow.Author.Needs.{needs}
 use Rattle.common.specs.Compare.{clash}
 use Rattle.scalars.specs.Laws.{measure-real, measure-kernel, inner-part, inner-bare}
-use Rattle.reals.specs.Scalar.{toldReal, realBy}
+use Rattle.reals.specs.Which.{realBy}
+use Rattle.reals.specs.Answer.{toldReal}
 use mathlib.Core.Path.{refl, _∙_, sym, ap}
 use native.Mathlib.Omega.{arith}
 use denote.Ref.{now}

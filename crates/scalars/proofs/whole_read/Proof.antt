@@ -3,7 +3,7 @@ use mathlib.Core.Path.{refl}
 use mir.ValLaws.{toZ-ofZ}
 use mir.Syntax.{w64}
 use lib.IntN.{ℤ}
-use Rattle.params.specs.Reader.{reading}
+use Rattle.params.specs.Answer.{reading}
 use Rattle.error.specs.Refusal.{good}
 use mathlib.Core.Path.{ap}
 use Rattle.scalars.proofs.whole_read.Statement.{statement}

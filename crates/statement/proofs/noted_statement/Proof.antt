@@ -1,7 +1,7 @@
 use Rattle.statement.specs.Laws.{statement-none, statement-found, statement-over, statement-refused, ahead-from}
 use Rattle.statement.specs.Tidy.{tidy}
 use Rattle.lex.specs.At.{trivia-at}
-use Rattle.lex.specs.Search.{toldFound}
+use Rattle.lex.specs.Answer.{toldFound}
 use denote.Ref.{now}
 use lib.ListN.{length}
 use native.Mathlib.Omega.{arith}

@@ -1,5 +1,5 @@
 use Rattle.statement.specs.Row.{mapped}
-use Rattle.lex.specs.Search.{toldFound}
+use Rattle.lex.specs.Answer.{toldFound}
 use mathlib.Core.Path.{sym, _∙_, ap}
 use borrow.Author.Needs.{needs}
 use Rattle.statement.proofs.record_args.Statement.{statement}

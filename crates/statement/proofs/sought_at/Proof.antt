@@ -1,6 +1,6 @@
 use Rattle.statement.specs.Laws.{begun-found, begun-refused}
 use Rattle.lex.specs.At.{end-at}
-use Rattle.lex.specs.Search.{toldFound}
+use Rattle.lex.specs.Answer.{toldFound}
 use denote.Ref.{now}
 use native.Mathlib.Omega.{arith}
 use mathlib.Core.Path.{sym, _∙_, ap}

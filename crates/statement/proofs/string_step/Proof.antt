@@ -1,4 +1,5 @@
-use Rattle.lex.specs.Quote.{QuoteIs, single-quote}
+use Rattle.lex.specs.Quote.{single-quote}
+use Rattle.lex.specs.Answer.{QuoteIs}
 use Rattle.statement.specs.UsualLaws.{string-at}
 use Prim.Native.Nat.{_+_}
 use mathlib.Core.Path.{subst}

@@ -6,7 +6,8 @@ use lib.ListN.{length}
 use Rattle.common.specs.Compare.{clash}
 use Rattle.error.specs.Refusal.{Told, good, bad}
 use Rattle.common.specs.Walk.{walk}
-use Rattle.lex.specs.Search.{at, fault, trivia, recordEnd, closing}
+use Rattle.lex.specs.Search.{trivia, recordEnd, closing}
+use Rattle.lex.specs.Answer.{at, fault}
 use Rattle.lex.specs.Inside.{closes-own}
 use Rattle.record.specs.Form.{Free, bytes}
 use Rattle.record.specs.Text.{past, numberFrom, keyword, trail}

@@ -8,7 +8,8 @@ use lib.ListN.{length, take, length-append}
 use lib.Seq.{take-at}
 use borrow.Author.Tests.{eqb-false}
 use Rattle.lex.specs.Grammar.{Begins, Opens, Comment, Quotation, Runs}
-use Rattle.lex.specs.Search.{at, recordEnd}
+use Rattle.lex.specs.Search.{recordEnd}
+use Rattle.lex.specs.Answer.{at}
 use Rattle.lex.specs.Right.{end-only, end-is}
 use Rattle.statement.specs.Closed.{OutsideBoth, ClosedAt}
 

@@ -10,7 +10,8 @@ use native.Mathlib.Decide.{ℕ-discrete}
 use lib.ListN.{length, length-append}
 use Rattle.common.specs.Compare.{clash}
 use Rattle.lex.specs.Grammar.{Opens, Runs, Balanced, Closes, Deep, OpenText, OpenRemark}
-use Rattle.lex.specs.Search.{Sought, at, fault, closing}
+use Rattle.lex.specs.Search.{closing}
+use Rattle.lex.specs.Answer.{Sought, at, fault}
 use Rattle.lex.specs.Local.{closing-local}
 use Rattle.lex.specs.Right.{closing-only, closing-is, closing-open, closing-one, closing-text-only, closing-remark-only, closing-over-only}
 use Rattle.lex.specs.Inside.{closes-own}

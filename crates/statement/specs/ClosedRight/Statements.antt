@@ -11,7 +11,8 @@ use Rattle.common.specs.Compare.{clash}
 use Rattle.error.specs.Refusal.{Refusal, refusal, Told, good, bad}
 use Rattle.lex.specs.Byte.{place}
 use Rattle.lex.specs.Grammar.{Begins, Opens, Trivia, Led}
-use Rattle.lex.specs.Search.{Sought, at, fault, trivia, recordEnd}
+use Rattle.lex.specs.Search.{trivia, recordEnd}
+use Rattle.lex.specs.Answer.{Sought, at, fault}
 use Rattle.lex.specs.Local.{end-local}
 use Rattle.lex.specs.Right.{end-is, trivia-is, trivia-only, trivia-local, trivia-here}
 use Rattle.record.specs.Text.{before}

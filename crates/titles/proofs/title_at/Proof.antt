@@ -2,8 +2,8 @@ use borrow.Author.Needs.{needs}
 use mathlib.Core.Path.{sym, _∙_, ap}
 use denote.Ref.{now}
 use lib.ListN.{length}
-use Rattle.params.specs.Reader.{toldSkipped}
-use Rattle.titles.specs.Title.{title-few, title-read}
+use Rattle.params.specs.Answer.{toldSkipped}
+use Rattle.titles.specs.Laws.{title-few, title-read}
 use Rattle.titles.proofs.title_at.Statement.{statement}
 use Rattle.titles.proofs.title_at.Tie as tie
 

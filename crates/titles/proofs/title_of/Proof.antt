@@ -3,7 +3,7 @@ use mathlib.Core.Path.{refl, sym, _∙_, ap}
 use denote.Ref.{now}
 use lib.ListN.{length}
 use Rattle.headers.specs.Header.{toldHeader}
-use Rattle.titles.specs.Title.{title-by}
+use Rattle.titles.specs.Laws.{title-by}
 use Rattle.titles.proofs.title_of.Statement.{statement}
 use Rattle.titles.proofs.title_of.Tie as tie
 

@@ -1,4 +1,4 @@
-use Rattle.lex.specs.Quote.{TextEnds}
+use Rattle.lex.specs.Answer.{TextEnds}
 use Rattle.tokens.specs.Laws.{string-only, string-never-only}
 use mathlib.Core.Path.{sym, subst}
 use denote.Ref.{now}

@@ -2,10 +2,10 @@ use borrow.Author.Needs.{needs}
 use mathlib.Core.Path.{sym, _∙_, ap}
 use denote.Ref.{now}
 use Rattle.statement.specs.Statement.{rowOf}
-use Rattle.scalars.specs.Scalars.{toldNextWhole}
+use Rattle.scalars.specs.Answer.{toldNextWhole}
 use Rattle.scalars.specs.declared.NextWhole.{NextWhole}
 use Rattle.factors.specs.Thing.{goodBy, thingOf}
-use Rattle.factors.specs.Code.{toldRun}
+use Rattle.factors.specs.Answer.{toldRun}
 use Rattle.factors.specs.declared.Run.{Run}
 use Rattle.units.specs.Units.{readsInteger}
 use Rattle.units.specs.Laws.{context-is, whole-reads}

@@ -5,7 +5,7 @@ use native.Mathlib.Nat.{zero-mul}
 use native.Mathlib.Omega.{arith}
 use borrow.Author.Needs.{needs}
 use Rattle.nearest.specs.Near.{near}
-use Rattle.nearest.specs.Round.{signed}
+use Rattle.nearest.specs.Nearest.{signed}
 use Rattle.nearest.specs.Borders.{near-nothing}
 use Rattle.wide.proofs.raised.Statement.{statement}
 use Rattle.wide.proofs.raised.Tie as tie

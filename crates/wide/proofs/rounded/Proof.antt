@@ -6,7 +6,7 @@ use native.Mathlib.Nat.{zero-add}
 use native.Mathlib.Omega.{arith}
 use borrow.Author.Needs.{needs}
 use Rattle.nearest.specs.Near.{near}
-use Rattle.nearest.specs.Round.{signed}
+use Rattle.nearest.specs.Nearest.{signed}
 use Rattle.cut.specs.Bits.{no-nan, no-nan-minus, bits-back}
 use Rattle.wide.specs.Pattern.{made-le, made-near, made-sure}
 use Rattle.wide.proofs.rounded.Statement.{statement}

@@ -2,7 +2,7 @@
 use mathlib.Core.Path.{_≡_, refl, sym, _∙_, ap}
 use mathlib.Core.Bool.{Bool, true, false}
 use lib.Ieee.{binary64, toBits, ofBits, neg}
-use Rattle.nearest.specs.Round.{signed}
+use Rattle.nearest.specs.Nearest.{signed}
 use Rattle.wide.proofs.zero.Statement.{statement}
 use Rattle.wide.proofs.zero.Tie as tie
 

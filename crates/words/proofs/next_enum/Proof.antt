@@ -2,7 +2,7 @@ use borrow.Author.Needs.{needs}
 use mathlib.Core.Path.{_∙_, sym, ap}
 use denote.Ref.{now}
 use Rattle.params.specs.ReaderLaws.{cut-places}
-use Rattle.params.specs.Reader.{toldCut}
+use Rattle.params.specs.Answer.{toldCut}
 use Rattle.words.specs.Laws.{name-next, name-refused}
 use Rattle.words.proofs.next_enum.Statement.{statement}
 use Rattle.words.proofs.next_enum.Tie as tie

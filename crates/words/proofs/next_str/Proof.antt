@@ -2,7 +2,7 @@ use borrow.Author.Needs.{needs}
 use mathlib.Core.Path.{_∙_, sym, ap}
 use denote.Ref.{now}
 use Rattle.params.specs.ReaderLaws.{cut-places}
-use Rattle.params.specs.Reader.{toldCut}
+use Rattle.params.specs.Answer.{toldCut}
 use Rattle.words.specs.Laws.{text-next, text-refused}
 use lib.ListN.{length}
 use Rattle.words.proofs.next_str.Statement.{statement}

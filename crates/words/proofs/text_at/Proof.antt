@@ -9,7 +9,7 @@ use denote.Ref.{now}
 use Rattle.scalars.specs.Scalars.{isUnset}
 use Rattle.words.specs.Words.{isString, decodedAt}
 use Rattle.words.specs.Laws.{text-unset, text-wrong, text-read, string-two, part-length}
-use Rattle.params.specs.Reader.{span}
+use Rattle.params.specs.Answer.{span}
 use Rattle.words.proofs.text_at.Statement.{statement}
 use Rattle.words.proofs.text_at.Tie as tie
 

@@ -2,7 +2,8 @@
 use contract.Running.{givenOf, tables, tablesOf}
 use denote.Triple.Spec.{tripleOf}
 use denote.Triple.Table.{entered, cited}
-use Rattle.params.specs.Reader.{toldEmptiness, emptyOf}
+use Rattle.params.specs.Skips.{emptyOf}
+use Rattle.params.specs.Answer.{toldEmptiness}
 use Rattle.params.proofs.Emptiness as E
 use Rattle.params.proofs.Emptiness.Laws as E′
 use Rattle.params.proofs.is_empty.Symbol as core

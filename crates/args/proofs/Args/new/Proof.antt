@@ -43,7 +43,7 @@ use denote.Exit.{yes}
 use contract.Running.{givenOf, tables, tablesOf}
 use denote.Triple.Table.{entered, cited}
 use Rattle.error.specs.Refusal.{good}
-use Rattle.params.specs.Reader.{Read, reading, toldOpened, openedOf}
+use Rattle.params.specs.Answer.{Read, reading, toldOpened, openedOf}
 use Rattle.after.specs.Leaving.{openedAt, Leaves}
 use Rattle.params.specs.declared.State.{State}
 use Rattle.params.proofs.State as St

@@ -2,7 +2,8 @@
 use contract.Running.{givenOf, tables, tablesOf}
 use denote.Triple.Spec.{tripleOf}
 use denote.Triple.Table.{entered, cited}
-use Rattle.scalars.specs.Scalars.{toldNextTruth, nextOf, truthOf}
+use Rattle.scalars.specs.Scalars.{truthOf}
+use Rattle.scalars.specs.Answer.{toldNextTruth, nextOf}
 use Rattle.scalars.proofs.NextTruth as E
 use Rattle.scalars.proofs.NextTruth.Laws as E′
 use Rattle.scalars.proofs.next_bool.Symbol as core

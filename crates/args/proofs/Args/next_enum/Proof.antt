@@ -2,7 +2,7 @@
 use contract.Running.{givenOf, tables, tablesOf}
 use denote.Triple.Spec.{tripleOf}
 use denote.Triple.Table.{entered, cited}
-use Rattle.words.specs.Words.{toldNextName}
+use Rattle.words.specs.Answer.{toldNextName}
 use Rattle.args.specs.Core.{nextName}
 use Rattle.words.proofs.NextName as E
 use Rattle.words.proofs.NextName.Laws as E′

@@ -2,7 +2,8 @@
 use contract.Running.{givenOf, tables, tablesOf}
 use denote.Triple.Spec.{tripleOf}
 use denote.Triple.Table.{entered, cited}
-use Rattle.scalars.specs.Scalars.{toldNextReal, nextOf, measureOf}
+use Rattle.scalars.specs.Scalars.{measureOf}
+use Rattle.scalars.specs.Answer.{toldNextReal, nextOf}
 use Rattle.scalars.proofs.NextReal as E
 use Rattle.scalars.proofs.NextReal.Laws as E′
 use Rattle.scalars.proofs.next_measure_f64.Symbol as core

@@ -2,7 +2,8 @@
 use contract.Running.{givenOf, tables, tablesOf}
 use denote.Triple.Spec.{tripleOf}
 use denote.Triple.Table.{entered, cited}
-use Rattle.scalars.specs.Scalars.{toldNextOptReal, nextOf, optionOf}
+use Rattle.scalars.specs.Scalars.{optionOf}
+use Rattle.scalars.specs.Answer.{toldNextOptReal, nextOf}
 use Rattle.reals.specs.Scalar.{realOf}
 use Rattle.scalars.proofs.NextOptReal as E
 use Rattle.scalars.proofs.NextOptReal.Laws as E′

@@ -2,7 +2,8 @@
 use contract.Running.{givenOf, tables, tablesOf}
 use denote.Triple.Spec.{tripleOf}
 use denote.Triple.Table.{entered, cited}
-use Rattle.scalars.specs.Scalars.{toldNextOptRef, nextOf, optionOf}
+use Rattle.scalars.specs.Scalars.{optionOf}
+use Rattle.scalars.specs.Answer.{toldNextOptRef, nextOf}
 use Rattle.reals.specs.Scalar.{referenceOf}
 use Rattle.scalars.proofs.NextOptRef as E
 use Rattle.scalars.proofs.NextOptRef.Laws as E′

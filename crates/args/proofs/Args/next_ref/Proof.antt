@@ -2,7 +2,7 @@
 use contract.Running.{givenOf, tables, tablesOf}
 use denote.Triple.Spec.{tripleOf}
 use denote.Triple.Table.{entered, cited}
-use Rattle.scalars.specs.Scalars.{toldNextRef, nextOf}
+use Rattle.scalars.specs.Answer.{toldNextRef, nextOf}
 use Rattle.reals.specs.Scalar.{referenceOf}
 use Rattle.scalars.proofs.NextRef as E
 use Rattle.scalars.proofs.NextRef.Laws as E′

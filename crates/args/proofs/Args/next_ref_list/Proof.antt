@@ -2,7 +2,7 @@
 use contract.Running.{givenOf, tables, tablesOf}
 use denote.Triple.Spec.{tripleOf}
 use denote.Triple.Table.{entered, cited}
-use Rattle.lists.specs.Items.{toldNextList}
+use Rattle.lists.specs.Answer.{toldNextList}
 use Rattle.reals.specs.Scalar.{referenceOf}
 use Rattle.args.specs.Core.{nextList, listRoom}
 use denote.Builtin.{u32}

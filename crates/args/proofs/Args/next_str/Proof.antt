@@ -2,7 +2,7 @@
 use contract.Running.{givenOf, tables, tablesOf}
 use denote.Triple.Spec.{tripleOf}
 use denote.Triple.Table.{entered, cited}
-use Rattle.words.specs.Words.{toldNextText}
+use Rattle.words.specs.Answer.{toldNextText}
 use Rattle.args.specs.Core.{nextText, textRoom}
 use denote.Builtin.{u8}
 use Rattle.words.proofs.NextText as E

@@ -2,7 +2,8 @@
 use contract.Running.{givenOf, tables, tablesOf}
 use denote.Triple.Spec.{tripleOf}
 use denote.Triple.Table.{entered, cited}
-use Rattle.params.specs.Reader.{toldSkipped, skipsOf}
+use Rattle.params.specs.Skips.{skipsOf}
+use Rattle.params.specs.Answer.{toldSkipped}
 use Rattle.params.proofs.Skipped as E
 use Rattle.params.proofs.Skipped.Laws as E′
 use Rattle.params.proofs.skip_n.Symbol as core

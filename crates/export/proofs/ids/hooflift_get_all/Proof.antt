@@ -3,7 +3,7 @@ use mathlib.Core.Path.{_≡_, refl, sym, _∙_}
 use mathlib.Core.Bool.{true, false}
 use lib.Dec.{leb}
 use lib.ListN.{length}
-use Rattle.export.specs.Ids.{told-by}
+use Rattle.export.specs.IdsLaws.{told-by}
 use borrow.Author.Needs.{needs}
 use Rattle.export.proofs.ids.hooflift_get_all.Statement.{statement}
 use Rattle.export.proofs.ids.hooflift_get_all.Tie as tie

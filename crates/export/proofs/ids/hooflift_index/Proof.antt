@@ -3,7 +3,8 @@ use mathlib.Core.Bool.{true, false}
 use lib.ListN.{length}
 use borrow.Author.Tests.{le-leb}
 use denote.Ref.{now}
-use Rattle.export.specs.Ids.{lentEnough, lent-eight}
+use Rattle.export.specs.Ids.{lentEnough}
+use Rattle.export.specs.IdsLaws.{lent-eight}
 use Rattle.export.specs.Ids.Indexed.{short, built}
 use borrow.Author.Needs.{needs}
 use Rattle.export.proofs.ids.hooflift_index.Statement.{statement}

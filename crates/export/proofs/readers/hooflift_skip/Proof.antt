@@ -1,8 +1,8 @@
 use borrow.Author.Needs.{needs}
 use denote.Ref.{now}
 use mathlib.Core.Path.{_∙_, sym, ap}
-use Rattle.params.specs.Reader.{toldSkipped}
-use Rattle.plain.specs.Answers.{leaves-good, leaves-bad}
+use Rattle.params.specs.Answer.{toldSkipped}
+use Rattle.plain.specs.AnswersLaws.{leaves-good, leaves-bad}
 use Rattle.export.proofs.readers.hooflift_skip.Statement.{statement}
 use Rattle.export.proofs.readers.hooflift_skip.Tie as tie
 

@@ -2,9 +2,10 @@ use borrow.Author.Needs.{needs}
 use denote.Ref.{now}
 use mathlib.Core.Path.{_∙_, sym, ap}
 use Prim.Native.Nat.{ℕ}
-use Rattle.params.specs.Reader.{Read}
-use Rattle.plain.specs.Answers.{readValue, leaves-good, leaves-bad}
-use Rattle.lists.specs.Items.{toldNextList}
+use Rattle.params.specs.Answer.{Read}
+use Rattle.plain.specs.Answers.{readValue}
+use Rattle.plain.specs.AnswersLaws.{leaves-good, leaves-bad}
+use Rattle.lists.specs.Answer.{toldNextList}
 use Rattle.export.proofs.readers.put_real_list.Statement.{statement}
 use Rattle.export.proofs.readers.put_real_list.Tie as tie
 

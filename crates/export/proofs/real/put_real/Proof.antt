@@ -2,7 +2,7 @@
 use Prim.Native.Nat.{ℕ}
 use mathlib.Core.Path.{_≡_, refl, subst}
 use denote.Ref.{now}
-use Rattle.reals.specs.Scalar.{Answer}
+use Rattle.reals.specs.Answer.{Answer}
 use Rattle.export.specs.Reals.{realCode, realBits}
 use borrow.Author.Needs.{needs}
 use Rattle.export.proofs.real.put_real.Statement.{statement}

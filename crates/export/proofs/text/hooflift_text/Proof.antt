@@ -5,7 +5,7 @@ use denote.Ref.{now}
 use lib.ListN.{length}
 use Rattle.strings.specs.declared.Decoded.{Decoded}
 use Rattle.strings.specs.declared.Decoded.the-variants.{Plain, Short}
-use Rattle.strings.specs.Code.{decodedOf}
+use Rattle.strings.specs.Answer.{decodedOf}
 use Rattle.export.specs.Texts.{textCode, textPlace, textCount}
 use Rattle.export.proofs.text.hooflift_text.Statement.{statement}
 use Rattle.export.proofs.text.hooflift_text.Tie as tie

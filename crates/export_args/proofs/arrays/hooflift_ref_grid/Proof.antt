@@ -1,8 +1,9 @@
 use borrow.Author.Needs.{needs}
 use denote.Ref.{now}
 use mathlib.Core.Path.{_∙_, sym, ap}
-use Rattle.params.specs.Reader.{Read}
-use Rattle.plain.specs.Answers.{readValue, leaves-good, leaves-bad}
+use Rattle.params.specs.Answer.{Read}
+use Rattle.plain.specs.Answers.{readValue}
+use Rattle.plain.specs.AnswersLaws.{leaves-good, leaves-bad}
 use Rattle.grids.specs.Grid.{Size, toldNextGrid}
 use Rattle.export_args.proofs.arrays.hooflift_ref_grid.Statement.{statement}
 use Rattle.export_args.proofs.arrays.hooflift_ref_grid.Tie as tie

@@ -1,9 +1,10 @@
 use borrow.Author.Needs.{needs}
 use denote.Ref.{now}
 use mathlib.Core.Path.{_∙_, sym, ap}
-use Rattle.params.specs.Reader.{toldEmptiness, Read}
+use Rattle.params.specs.Answer.{toldEmptiness, Read}
 use mathlib.Core.Bool.{Bool}
-use Rattle.plain.specs.Answers.{readValue, truthNumber, leaves-good, leaves-bad}
+use Rattle.plain.specs.Answers.{readValue, truthNumber}
+use Rattle.plain.specs.AnswersLaws.{leaves-good, leaves-bad}
 use Rattle.export_args.proofs.cuts.hooflift_is_empty.Statement.{statement}
 use Rattle.export_args.proofs.cuts.hooflift_is_empty.Tie as tie
 

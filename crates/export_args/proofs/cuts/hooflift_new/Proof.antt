@@ -1,6 +1,6 @@
 use borrow.Author.Needs.{needs}
 use mathlib.Core.Path.{_∙_, sym, ap}
-use Rattle.params.specs.Reader.{toldOpened}
+use Rattle.params.specs.Answer.{toldOpened}
 use Rattle.error.specs.Refusal.{Told}
 use Rattle.params.specs.declared.State.{State}
 use Rattle.plain.specs.Answers.{readCode}

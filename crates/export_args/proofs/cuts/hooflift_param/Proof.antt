@@ -1,8 +1,9 @@
 use borrow.Author.Needs.{needs}
 use denote.Ref.{now}
 use mathlib.Core.Path.{_∙_, sym, ap}
-use Rattle.params.specs.Reader.{toldCut, Read, Span}
-use Rattle.plain.specs.Answers.{readValue, leaves-good, leaves-bad}
+use Rattle.params.specs.Answer.{toldCut, Read, Span}
+use Rattle.plain.specs.Answers.{readValue}
+use Rattle.plain.specs.AnswersLaws.{leaves-good, leaves-bad}
 use Rattle.export_args.proofs.cuts.hooflift_param.Statement.{statement}
 use Rattle.export_args.proofs.cuts.hooflift_param.Tie as tie
 

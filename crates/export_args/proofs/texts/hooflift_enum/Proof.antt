@@ -1,9 +1,10 @@
 use borrow.Author.Needs.{needs}
 use denote.Ref.{now}
 use mathlib.Core.Path.{_∙_, sym, ap}
-use Rattle.words.specs.Words.{toldNextName}
-use Rattle.params.specs.Reader.{Read, Span}
-use Rattle.plain.specs.Answers.{readValue, leaves-good, leaves-bad}
+use Rattle.words.specs.Answer.{toldNextName}
+use Rattle.params.specs.Answer.{Read, Span}
+use Rattle.plain.specs.Answers.{readValue}
+use Rattle.plain.specs.AnswersLaws.{leaves-good, leaves-bad}
 use Rattle.export_args.proofs.texts.hooflift_enum.Statement.{statement}
 use Rattle.export_args.proofs.texts.hooflift_enum.Tie as tie
 

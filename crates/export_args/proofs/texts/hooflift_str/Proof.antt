@@ -1,9 +1,10 @@
 use borrow.Author.Needs.{needs}
 use denote.Ref.{now}
 use mathlib.Core.Path.{_∙_, sym, ap}
-use Rattle.words.specs.Words.{toldNextText, Shown}
-use Rattle.params.specs.Reader.{Read}
-use Rattle.plain.specs.Answers.{readValue, leaves-good, leaves-bad}
+use Rattle.words.specs.Answer.{toldNextText, Shown}
+use Rattle.params.specs.Answer.{Read}
+use Rattle.plain.specs.Answers.{readValue}
+use Rattle.plain.specs.AnswersLaws.{leaves-good, leaves-bad}
 use Rattle.export_args.specs.Values.{shownRoom, shownStart, shownStop}
 use Rattle.export_args.proofs.texts.hooflift_str.Statement.{statement}
 use Rattle.export_args.proofs.texts.hooflift_str.Tie as tie

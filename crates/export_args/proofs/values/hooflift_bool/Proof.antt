@@ -1,9 +1,10 @@
 use borrow.Author.Needs.{needs}
 use denote.Ref.{now}
 use mathlib.Core.Path.{_∙_, sym, ap}
-use Rattle.scalars.specs.Scalars.{toldNextTruth, Logical}
-use Rattle.params.specs.Reader.{Read}
-use Rattle.plain.specs.Answers.{readValue, leaves-good, leaves-bad}
+use Rattle.scalars.specs.Answer.{toldNextTruth, Logical}
+use Rattle.params.specs.Answer.{Read}
+use Rattle.plain.specs.Answers.{readValue}
+use Rattle.plain.specs.AnswersLaws.{leaves-good, leaves-bad}
 use Rattle.export_args.specs.Values.{logicalNumber}
 use Rattle.export_args.proofs.values.hooflift_bool.Statement.{statement}
 use Rattle.export_args.proofs.values.hooflift_bool.Tie as tie

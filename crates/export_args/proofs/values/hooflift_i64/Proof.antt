@@ -3,10 +3,11 @@ use denote.Ref.{now}
 use mir.Syntax.{w64}
 use mir.ValLaws.{toZ-ofZ}
 use mathlib.Core.Path.{_∙_, sym, ap}
-use Rattle.scalars.specs.Scalars.{toldNextWhole}
+use Rattle.scalars.specs.Answer.{toldNextWhole}
 use lib.IntN.{ℤ}
-use Rattle.params.specs.Reader.{Read}
-use Rattle.plain.specs.Answers.{readValue, leaves-good, leaves-bad}
+use Rattle.params.specs.Answer.{Read}
+use Rattle.plain.specs.Answers.{readValue}
+use Rattle.plain.specs.AnswersLaws.{leaves-good, leaves-bad}
 use Rattle.export_args.proofs.values.hooflift_i64.Statement.{statement}
 use Rattle.export_args.proofs.values.hooflift_i64.Tie as tie
 

@@ -1,10 +1,11 @@
 use borrow.Author.Needs.{needs}
 use denote.Ref.{now}
 use mathlib.Core.Path.{_∙_, sym, ap}
-use Rattle.scalars.specs.Scalars.{toldNextOptRef, Given}
+use Rattle.scalars.specs.Answer.{toldNextOptRef, Given}
 use Prim.Native.Nat.{ℕ}
-use Rattle.params.specs.Reader.{Read}
-use Rattle.plain.specs.Answers.{readValue, leaves-good, leaves-bad}
+use Rattle.params.specs.Answer.{Read}
+use Rattle.plain.specs.Answers.{readValue}
+use Rattle.plain.specs.AnswersLaws.{leaves-good, leaves-bad}
 use Rattle.export_args.specs.Values.{givenValue, givenSet}
 use Rattle.export_args.proofs.values.hooflift_opt_ref.Statement.{statement}
 use Rattle.export_args.proofs.values.hooflift_opt_ref.Tie as tie

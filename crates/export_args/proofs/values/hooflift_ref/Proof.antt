@@ -1,10 +1,11 @@
 use borrow.Author.Needs.{needs}
 use denote.Ref.{now}
 use mathlib.Core.Path.{_∙_, sym, ap}
-use Rattle.scalars.specs.Scalars.{toldNextRef}
+use Rattle.scalars.specs.Answer.{toldNextRef}
 use Prim.Native.Nat.{ℕ}
-use Rattle.params.specs.Reader.{Read}
-use Rattle.plain.specs.Answers.{readValue, leaves-good, leaves-bad}
+use Rattle.params.specs.Answer.{Read}
+use Rattle.plain.specs.Answers.{readValue}
+use Rattle.plain.specs.AnswersLaws.{leaves-good, leaves-bad}
 use Rattle.export_args.proofs.values.hooflift_ref.Statement.{statement}
 use Rattle.export_args.proofs.values.hooflift_ref.Tie as tie
 

@@ -1,11 +1,12 @@
 use borrow.Author.Needs.{needs}
 use denote.Ref.{now}
 use mathlib.Core.Path.{_∙_, sym, ap}
-use Rattle.scalars.specs.Scalars.{toldNextReal}
+use Rattle.scalars.specs.Answer.{toldNextReal}
 use Prim.Native.Nat.{ℕ}
 use lib.Ieee.{binary64, toBits}
-use Rattle.params.specs.Reader.{Read}
-use Rattle.plain.specs.Answers.{readValue, leaves-good, leaves-bad}
+use Rattle.params.specs.Answer.{Read}
+use Rattle.plain.specs.Answers.{readValue}
+use Rattle.plain.specs.AnswersLaws.{leaves-good, leaves-bad}
 use Rattle.export_args.proofs.values.put_measure.Statement.{statement}
 use Rattle.export_args.proofs.values.put_measure.Tie as tie
 

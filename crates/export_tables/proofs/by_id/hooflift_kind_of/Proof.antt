@@ -3,7 +3,7 @@ use mathlib.Core.Path.{_∙_, ap}
 use Rattle.index.specs.Search.{searched}
 use Rattle.lookup.specs.Lookup.{rowFound, kindFound}
 use Rattle.lookup.specs.declared.Tables.{Tables}
-use Rattle.kinds.specs.Kind.{rankOf}
+use Rattle.kinds.specs.Rules.{rankOf}
 use borrow.Author.Needs.{needs}
 use Rattle.export_tables.proofs.by_id.hooflift_kind_of.Statement.{statement}
 use Rattle.export_tables.proofs.by_id.hooflift_kind_of.Tie as tie

@@ -6,7 +6,8 @@ use Rattle.error.specs.Refusal.{Told}
 use Rattle.statement.specs.Rows.{Row}
 use Rattle.lookup.specs.Lookup.{Span, spanIn, rowIn, toldEntry}
 use Rattle.lookup.specs.declared.Tables.{Tables}
-use Rattle.plain.specs.Answers.{readCode, readValue, foundCode, foundValue, found-code, found-value}
+use Rattle.plain.specs.Answers.{readCode, readValue, foundCode, foundValue}
+use Rattle.plain.specs.AnswersLaws.{found-code, found-value}
 use Rattle.export_tables.specs.Tables.{keySpan}
 use borrow.Author.Needs.{needs}
 use Rattle.export_tables.proofs.by_row.hooflift_keyword.Statement.{statement}

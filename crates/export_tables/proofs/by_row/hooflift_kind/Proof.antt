@@ -4,7 +4,7 @@ use mathlib.Core.Option.{Option}
 use Rattle.statement.specs.Rows.{Row}
 use Rattle.lookup.specs.Lookup.{rowIn, toldEntry, kindFound}
 use Rattle.lookup.specs.declared.Tables.{Tables}
-use Rattle.kinds.specs.Kind.{rankOf}
+use Rattle.kinds.specs.Rules.{rankOf}
 use borrow.Author.Needs.{needs}
 use Rattle.export_tables.proofs.by_row.hooflift_kind.Statement.{statement}
 use Rattle.export_tables.proofs.by_row.hooflift_kind.Tie as tie

@@ -3,7 +3,7 @@ use mathlib.Core.Path.{refl, _∙_, sym, ap}
 use Rattle.error.specs.Refusal.{Told}
 use Rattle.needs.specs.Needs.{toldNeeded}
 use Rattle.needs.specs.declared.Needs.{Needs}
-use Rattle.plain.specs.Answers.{tells-good, tells-bad}
+use Rattle.plain.specs.AnswersLaws.{tells-good, tells-bad}
 use Rattle.export_tables.specs.Needed.{needsAfter, needsReason, Needing}
 use borrow.Author.Needs.{needs}
 use Rattle.export_tables.proofs.needing.hooflift_needs.Statement.{statement}

@@ -2,7 +2,7 @@ use denote.Ref.{now}
 use mathlib.Core.Path.{_∙_, ap}
 use lib.ListN.{length}
 use Rattle.error.specs.Refusal.{Told}
-use Rattle.words.specs.Words.{Shown}
+use Rattle.words.specs.Answer.{Shown}
 use Rattle.table.specs.Table.{headerNumbers}
 use Rattle.headers.specs.Header.{headerFound, headerArgs}
 use Rattle.titles.specs.Title.{titleBy, roomBy, fileName}

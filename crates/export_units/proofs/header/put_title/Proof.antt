@@ -1,9 +1,10 @@
 use denote.Ref.{now}
 use mathlib.Core.Path.{sym, ap}
 use Rattle.error.specs.Refusal.{Told}
-use Rattle.words.specs.Words.{Shown}
+use Rattle.words.specs.Answer.{Shown}
 use Rattle.titles.specs.Title.{toldTitle}
-use Rattle.plain.specs.Answers.{readValue, tells-good, tells-bad}
+use Rattle.plain.specs.Answers.{readValue}
+use Rattle.plain.specs.AnswersLaws.{tells-good, tells-bad}
 use Rattle.export_args.specs.Values.{shownRoom, shownStart, shownStop}
 use borrow.Author.Needs.{needs}
 use Rattle.export_units.proofs.header.put_title.Statement.{statement}

@@ -5,7 +5,7 @@ use mathlib.Core.Option.{Option}
 use Rattle.error.specs.Refusal.{Told}
 use Rattle.table.specs.Table.{headerWidth, four}
 use Rattle.statement.specs.Rows.{HeaderRow}
-use Rattle.parts.specs.Part.{toldNext}
+use Rattle.parts.specs.Rules.{toldNext}
 use Rattle.plain.specs.Answers.{readFault}
 use Rattle.plain.specs.Numbers.{outCode, outAfter}
 use borrow.Author.Needs.{needs}

@@ -5,9 +5,9 @@ use denote.Ref.{now}
 use Rattle.error.specs.Refusal.{good}
 use Rattle.lookup.specs.Lookup.{rowFor}
 use Rattle.statement.specs.Statement.{rowOf}
-use Rattle.params.specs.Reader.{onward}
+use Rattle.params.specs.Answer.{onward}
 use Rattle.factors.specs.Thing.{thingOf, findOf}
-use Rattle.factors.specs.Code.{toldRun}
+use Rattle.factors.specs.Answer.{toldRun}
 use Rattle.units.specs.Units.{refsIn, toleranceBy}
 use Rattle.units.specs.Laws.{refs-refused, refs-nothing, refs-inside, thousandth-bits, tolerance-none, listed-tolerance-is}
 use Rattle.units.proofs.listed.listed_tolerance.Statement.{statement}

@@ -4,8 +4,8 @@ use mathlib.Core.Path.{sym, _∙_, ap}
 use denote.Ref.{now}
 use lib.ListN.{length}
 use Rattle.params.specs.ReaderLaws.{cut-places}
-use Rattle.params.specs.Reader.{toldCut}
-use Rattle.lists.specs.Items.{toldCounted}
+use Rattle.params.specs.Answer.{toldCut}
+use Rattle.lists.specs.Answer.{toldCounted}
 use Rattle.lists.specs.Laws.{counted-wrong, counted-outside}
 use Rattle.lookup.specs.Lookup.{cut}
 use Rattle.units.specs.Laws.{cut-length, refs-uncut, refs-bad, refs-empty, refs-full}

@@ -1,8 +1,8 @@
 use borrow.Author.Needs.{needs}
 use mathlib.Core.Path.{sym, _∙_, ap, subst}
 use denote.Ref.{now}
-use Rattle.params.specs.Reader.{onward}
-use Rattle.factors.specs.Code.{toldRun}
+use Rattle.params.specs.Answer.{onward}
+use Rattle.factors.specs.Answer.{toldRun}
 use Rattle.factors.specs.declared.Run.{Run}
 use Rattle.units.specs.Units.{refsIn}
 use Rattle.units.specs.Code.{RefsAt}

@@ -5,8 +5,8 @@ use mathlib.Core.Path.{refl, sym, _∙_, ap}
 use denote.Ref.{now}
 use lib.ListN.{length}
 use Rattle.error.specs.Refusal.{good}
-use Rattle.reals.specs.Scalar.{Answer, toldReference}
-use Rattle.lists.specs.Items.{asFate}
+use Rattle.reals.specs.Answer.{Answer, toldReference}
+use Rattle.lists.specs.Answer.{asFate}
 use Rattle.lookup.specs.Lookup.{rowFor}
 use Rattle.factors.specs.Thing.{findOf}
 use Rattle.units.specs.Units.{toleranceBy}

@@ -4,8 +4,8 @@ use Prim.Native.Nat.{ℕ, _-_}
 use mathlib.Core.Path.{sym, _∙_, ap}
 use denote.Ref.{now}
 use lib.ListN.{length}
-use Rattle.reals.specs.Scalar.{Answer, toldReference}
-use Rattle.lists.specs.Items.{asFate}
+use Rattle.reals.specs.Answer.{Answer, toldReference}
+use Rattle.lists.specs.Answer.{asFate}
 use Rattle.lookup.specs.Lookup.{rowFor}
 use Rattle.factors.specs.Thing.{findOf}
 use Rattle.units.specs.Units.{Units, defaults, unitsBy}

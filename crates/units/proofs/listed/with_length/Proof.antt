@@ -1,7 +1,7 @@
 use borrow.Author.Needs.{needs}
 use mathlib.Core.Path.{sym, ap}
 use Rattle.factors.specs.Thing.{goodBy}
-use Rattle.factors.specs.Code.{toldFactor}
+use Rattle.factors.specs.Answer.{toldFactor}
 use Rattle.factors.specs.declared.Factor.{Factor}
 use Rattle.units.specs.Units.{withLength}
 use Rattle.units.specs.Code.{valuesIn}

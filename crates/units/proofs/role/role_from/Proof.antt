@@ -6,7 +6,7 @@ use denote.Ref.{now}
 use lib.ListN.{length}
 use Rattle.statement.specs.Statement.{headerRowOf}
 use Rattle.error.specs.Refusal.{told}
-use Rattle.parts.specs.Part.{toldNext}
+use Rattle.parts.specs.Rules.{toldNext}
 use Rattle.parts.specs.Laws.{next-ahead}
 use Rattle.kinds.specs.declared.Kind.{Kind}
 use Rattle.units.specs.Code.{roleAfter, keptRole}

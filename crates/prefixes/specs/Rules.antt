@@ -1,0 +1,59 @@
+-- Document 01, 'Units': the sixteen SI prefixes, their names and factors, and the factor of a prefix as a rule that names no search.
+-- PrefixRight.antt shows that Prefix.antt computes just this. Assumes nothing.
+-- Definitions to be believed: no law, and nothing computed that no theorem ties (docs/BELIEVE.md).
+use Prim.Native.Nat.{ℕ, _^_, _<_}
+use Prim.Native.String.{String}
+use mathlib.Core.Bool.{Bool, true, false}
+use mathlib.Core.List.{List, [], _∷_}
+use lib.ListN.{getD}
+use Rattle.common.specs.Pick.{pick}
+use Rattle.nearest.specs.Nearest.{IsNearest}
+use Rattle.record.specs.Form.{Spelt}
+
+-- a prefix: its name, and its power of ten, a negative one where true
+pub record Prefix : Type 0 where
+  pub name : String
+  pub down : Bool
+  pub tens : ℕ
+
+-- a row of the table
+abbrev pub row : String → Bool → ℕ → Prefix
+row n d k = record { name = n; down = d; tens = k }
+
+-- "EXA 1e18, PETA 1e15, [..] ATTO 1e-18"
+abbrev pub prefixes : List Prefix
+prefixes =
+    row "EXA" false 18
+    ∷ row "PETA" false 15
+    ∷ row "TERA" false 12
+    ∷ row "GIGA" false 9
+    ∷ row "MEGA" false 6
+    ∷ row "KILO" false 3
+    ∷ row "HECTO" false 2
+    ∷ row "DECA" false 1
+    ∷ row "DECI" true 1
+    ∷ row "CENTI" true 2
+    ∷ row "MILLI" true 3
+    ∷ row "MICRO" true 6
+    ∷ row "NANO" true 9
+    ∷ row "PICO" true 12
+    ∷ row "FEMTO" true 15
+    ∷ row "ATTO" true 18
+    ∷ []
+
+-- "any other 1.0"
+abbrev pub unity : Prefix
+unity = row "" false 0
+
+-- the power of ten as a fraction
+abbrev pub tenUp : Prefix → ℕ
+tenUp p = pick (p .down) 1 (10 ^ p .tens)
+
+-- the fraction's lower side
+abbrev pub tenDown : Prefix → ℕ
+tenDown p = pick (p .down) (10 ^ p .tens) 1
+
+-- "Prefixes: [..]; any other 1.0", "all in either case": the nearest f64 to the power of ten of the one row that is named so
+pub data PrefixForm : List ℕ → ℕ → Type 0 where
+  named : {t : List ℕ} {b : ℕ} (k : ℕ) → k < 16 → Spelt t (getD prefixes k unity .name) → IsNearest (tenUp (getD prefixes k unity)) (tenDown (getD prefixes k unity)) b → PrefixForm t b
+  other : {t : List ℕ} {b : ℕ} → ((k : ℕ) → k < 16 → Spelt t (getD prefixes k unity .name) → ⊥) → IsNearest 1 1 b → PrefixForm t b

@@ -1,0 +1,35 @@
+-- Where a byte is found, and what the answers about a string's and a comment's end say. Assumes nothing.
+-- Definitions to be believed: no law, and nothing computed that no theorem ties (docs/BELIEVE.md).
+use Prim.Native.Nat.{ℕ, _≤_, _<_}
+use mathlib.Core.Bool.{Bool, false}
+use mathlib.Core.List.{List, [], _∷_}
+use lib.Dec.{eqb}
+use lib.ListN.{drop}
+use Rattle.common.specs.Pick.{pick}
+use Rattle.tokens.specs.declared.Past.{Past}
+use Rattle.tokens.specs.declared.Past.the-variants.{At, Never}
+
+-- the rest from the first byte b on, or nothing where there is none
+unfoldable pub fromByte : ℕ → List ℕ → List ℕ
+fromByte b [] = []
+fromByte b (c ∷ r) = pick (eqb c b) (c ∷ r) (fromByte b r)
+
+-- whether a rest begins with the byte b
+abbrev pub heads : ℕ → List ℕ → Bool
+heads b [] = false
+heads b (c ∷ r) = eqb c b
+
+-- the rest after something that ends, or that it never does
+pub data Rest : Type 0 where
+  ends : List ℕ → Rest
+  never : Rest
+
+-- what the code's answer says, of the bytes s
+abbrev pub toldPast : List ℕ → Past → Rest
+toldPast s (At p) = ends (drop p s)
+toldPast s Never = never
+
+-- an end lies after the start and not past the bytes' end
+abbrev pub PastIn : ℕ → ℕ → Past → Type 0
+PastIn start n (At p) = (start < p) × (p ≤ n)
+PastIn start n Never = Unit {0}
