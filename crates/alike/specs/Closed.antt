@@ -15,7 +15,7 @@ use Rattle.error.specs.Refusal.{Told, good, bad}
 use Rattle.lex.specs.Byte.{place}
 use Rattle.lex.specs.Local.{closing-local}
 use Rattle.lex.specs.Right.{closing-only}
-use Rattle.record.specs.Text.{digit}
+use Rattle.record.specs.Byte.{digit}
 use Rattle.record.specs.Form.{NotFirst}
 use Rattle.record.specs.FormRight.Parts.{first-other}
 use Rattle.record.specs.Head.{dataHead}

@@ -14,7 +14,7 @@ use Rattle.common.specs.Compare.{clash}
 use Rattle.error.specs.Refusal.{refusal, Told, good, bad}
 use Rattle.lex.specs.Byte.{white}
 use Rattle.lex.specs.Grammar.{Trivia}
-use Rattle.record.specs.Text.{digit}
+use Rattle.record.specs.Byte.{digit}
 use Rattle.record.specs.Turns.{bounds}
 use Rattle.record.specs.Form.{All, NotFirst, Skipped, valueOf}
 use Rattle.record.specs.FormRight.Parts.{first-other}

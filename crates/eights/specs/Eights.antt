@@ -3,7 +3,7 @@ use Prim.Native.Nat.{ℕ, _<_, _^_}
 use mathlib.Core.Path.{_≡_, refl, sym, _∙_, ap}
 use mathlib.Core.Bool.{Bool, true, false}
 use mathlib.Core.List.{List, [], _∷_}
-use Rattle.record.specs.Text.{digit}
+use Rattle.record.specs.Byte.{digit}
 use Rattle.record.specs.Form.{All, valueOf}
 use Rattle.eights.specs.Fields.{fieldsBy, Each}
 use Rattle.eights.specs.Told.{EightTold}

@@ -9,7 +9,7 @@ use borrow.Author.Tests.{le-leb, eqb-true, eqb-false}
 use lib.Bits.{bitAnd, and-high, and-mask, and-shr, and-le-r}
 use lib.Dec.{eqb, leb}
 use lib.ListN.{length}
-use Rattle.record.specs.Text.{digit}
+use Rattle.record.specs.Byte.{digit}
 use Rattle.record.specs.Form.{All, valueOf}
 use Rattle.record.specs.Turns.{bounds}
 use Rattle.eights.specs.Fields.{Each, each-map, each-two, fieldsBy, same, and-fields, sum-fields, fields-same, same-fields, fields-ap, lowest, others}

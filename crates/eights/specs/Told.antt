@@ -3,7 +3,7 @@
 use Prim.Native.Nat.{ℕ}
 use mathlib.Core.Path.{_≡_}
 use mathlib.Core.List.{List}
-use Rattle.record.specs.Text.{digit}
+use Rattle.record.specs.Byte.{digit}
 use Rattle.record.specs.Form.{All, valueOf}
 use Rattle.eights.specs.declared.Eight.{Eight}
 use Rattle.eights.specs.declared.Eight.the-variants.{Digits, Other}

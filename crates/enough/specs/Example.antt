@@ -10,7 +10,8 @@ use Rattle.record.specs.Word.{same, wordOf}
 use Rattle.record.specs.Head.{dataHead, headerHead}
 use Rattle.statement.specs.Row as Row
 use Rattle.statement.specs.Statement.{statement}
-use Rattle.scan.specs.File.{largest, readFrom, scanOf}
+use Rattle.scan.specs.Records.{largest}
+use Rattle.scan.specs.File.{readFrom, scanOf}
 use Rattle.parts.specs.Part as Part
 use Rattle.params.specs.Cut.{cutOf, started}
 use Rattle.params.specs.Reader.{paramOf}

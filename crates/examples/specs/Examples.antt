@@ -17,10 +17,11 @@ use Rattle.record.specs.Form.{bytes}
 use Rattle.record.specs.Text.{past, numberFrom, keyword, trail}
 use Rattle.record.specs.Word.{same, wordOf}
 use Rattle.record.specs.Head.{dataHead, headerHead}
-use Rattle.statement.specs.Rows.{Row}
-use Rattle.statement.specs.Row.{mapped, recordOf, headerOf}
+use Rattle.statement.specs.Rows.{Row, mapped}
+use Rattle.statement.specs.Row.{recordOf, headerOf}
 use Rattle.statement.specs.Statement.{statement}
-use Rattle.scan.specs.File.{Table, largest, readFrom, scanOf}
+use Rattle.scan.specs.Records.{Table, largest}
+use Rattle.scan.specs.File.{readFrom, scanOf}
 use Rattle.nearest.specs.Near.{near, nearUnits}
 use Rattle.reals.specs.Scalar.{parseOf, realOf}
 use Rattle.reals.specs.Answer.{Answer, read, refused}

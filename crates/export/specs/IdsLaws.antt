@@ -14,9 +14,10 @@ use Rattle.table.specs.Table.{rowsFit, idOf}
 use Rattle.table.specs.Laws.{field-below}
 use Rattle.index.specs.Order.{rowAt, tableRoom}
 use Rattle.index.specs.Lookup.{lookupOf}
-use Rattle.index.specs.Index.{Built, endId, built-slots-only, built-only}
+use Rattle.index.specs.Index.{Built, endId}
+use Rattle.index.specs.IndexLaws.{built-slots-only, built-only}
 use Rattle.index.specs.Search.{searched}
-use Rattle.index.specs.SearchRight.{get-right, get-safe}
+use Rattle.index.specs.SearchRight.{found-right, found-safe}
 use Rattle.index.specs.declared.Ids.{Ids}
 use Rattle.finds.specs.Finds.{rowNumber, Told}
 use Rattle.plain.specs.Numbers.{idsNumbers, idsBy}
@@ -69,7 +70,7 @@ id-small rows h r = field-below 6 rows r 4294967296 (omega arith) h 0
 pub host-right : {rows slots after ids told : List ℕ} {count : ℕ} → lentEnough (length rows) count (length slots) (length ids) ≡ true → ((i : ℕ) → getD rows i 0 < 4294967296) → Indexed rows count slots after ids told → (k : ℕ)
     → searched rows after (idsBy told) k ≡ lookupOf (idOf rows) (min count (rowsFit (length rows))) k
 host-right h w (short g e f) k = absurd (lent-once _ h g)
-host-right {rows} {slots} {after} {ids} {told} {count} h w (built g b e f) k = ap (λ (c : Ids). searched rows after c k) (ap idsBy f ∙ ids-back b ids (let q = lent-eight (length rows) count (length slots) (length ids) h in omega (arith, q)) (small (b .first) (rowAt (b .direct) after 0) (e .first)) (small (b .last) (rowAt (b .direct) after ((tableRoom (rowsFit (length rows)) (length slots) count) - 1)) (e .last)) (let s = e .shift .short in omega arith)) ∙ get-right (idOf rows) (rowsFit (length rows)) slots after count k b e ∙ ap (λ (n : ℕ). lookupOf (idOf rows) n k) (lent-all (length rows) count (length slots) (length ids) h)
+host-right {rows} {slots} {after} {ids} {told} {count} h w (built g b e f) k = ap (λ (c : Ids). searched rows after c k) (ap idsBy f ∙ ids-back b ids (let q = lent-eight (length rows) count (length slots) (length ids) h in omega (arith, q)) (small (b .first) (rowAt (b .direct) after 0) (e .first)) (small (b .last) (rowAt (b .direct) after ((tableRoom (rowsFit (length rows)) (length slots) count) - 1)) (e .last)) (let s = e .shift .short in omega arith)) ∙ found-right rows slots after count k b e ∙ ap (λ (n : ℕ). lookupOf (idOf rows) n k) (lent-all (length rows) count (length slots) (length ids) h)
   where
     room : ℕ
     room = tableRoom (rowsFit (length rows)) (length slots) count
@@ -83,7 +84,7 @@ host-right {rows} {slots} {after} {ids} {told} {count} h w (built g b e f) k = a
 
 -- no row has the number that says that there is none
 pub row-told : (rows slots : List ℕ) (b : Ids) (k r : ℕ) → searched rows slots b k ≡ some r → r < 4294967295
-row-told rows slots b k r e = let h = get-safe (idOf rows) (rowsFit (length rows)) slots b k r e .0 in omega arith
+row-told rows slots b k r e = let h = found-safe rows slots b k r e .0 in omega arith
 
 -- what is told of many ids goes by what stands beside the slots
 pub told-by : (rows slots ids before after : List ℕ) (b c : Ids) → b ≡ c → Told (λ k. rowNumber (searched rows slots b k)) ids before after → Told (λ k. rowNumber (searched rows slots c k)) ids before after

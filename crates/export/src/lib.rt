@@ -22,7 +22,7 @@ ghost use mathlib.Core.List.{[], _∷_};
 ghost use lib.Seq.{sets};
 ghost use lib.Dec.{leb};
 ghost use Rattle.common.specs.Pick.{pick};
-ghost use Rattle.statement.specs.Row.{mapped};
+ghost use Rattle.statement.specs.Rows.{mapped};
 ghost use Rattle.scan.specs.File.{scanOf};
 ghost use Rattle.scan.specs.Table.{headerRoom, dataRoom, countsOf, headersAfter, rowsAfter, toldScan};
 ghost use Rattle.export.specs.Numbers.{code, numbers};

@@ -7,8 +7,7 @@ use mathlib.Core.List.{List}
 use mathlib.Core.Option.{Option, none, some}
 use lib.ListN.{length}
 use Rattle.error.specs.Refusal.{Refusal, Told, good, bad}
-use Rattle.statement.specs.Rows.{Row}
-use Rattle.statement.specs.Row.{mapped}
+use Rattle.statement.specs.Rows.{Row, mapped}
 use Rattle.lookup.specs.Lookup.{Span, spanIn}
 use Rattle.store.specs.Store.{toldOpened, Opens}
 use Rattle.store.specs.declared.Opened.{Opened}

@@ -3,7 +3,7 @@ ghost use mathlib.Core.Path.{_≡_};
 ghost use mathlib.Core.Option.{some};
 ghost use lib.ListN.{length};
 ghost use Rattle.table.specs.Table.{rowWidth, six};
-ghost use Rattle.statement.specs.Row.{mapped};
+ghost use Rattle.statement.specs.Rows.{mapped};
 ghost use Rattle.kinds.specs.Rules.{rankOf};
 ghost use Rattle.index.specs.Search.{searched};
 ghost use Rattle.lookup.specs.Lookup.{rowFound, required, argsBy, kindFound};

@@ -5,8 +5,7 @@ use mathlib.Core.List.{List}
 use mathlib.Core.Option.{Option, none, some}
 use Prim.Native.Nat.{ℕ}
 use Rattle.error.specs.Refusal.{Told, good}
-use Rattle.statement.specs.Rows.{Row}
-use Rattle.statement.specs.Row.{mapped}
+use Rattle.statement.specs.Rows.{Row, mapped}
 use Rattle.params.specs.Answer.{onward}
 use Rattle.factors.specs.Thing.{Thing, thingOf}
 use Rattle.units.specs.Units.{Units, contextOf}

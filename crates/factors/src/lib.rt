@@ -7,7 +7,7 @@ ghost use mathlib.Core.Path.{_≡_};
 ghost use lib.Ieee.{binary64, toBits};
 ghost use Rattle.error.specs.Refusal.{good};
 ghost use Rattle.lookup.specs.Lookup.{rowFor};
-ghost use Rattle.statement.specs.Statement.{rowOf};
+ghost use Rattle.statement.specs.Rows.{rowOf};
 ghost use Rattle.params.specs.Answer.{onward, span};
 ghost use Rattle.scalars.specs.Answer.{toldNextReal};
 ghost use Rattle.words.specs.Answer.{toldNextName};

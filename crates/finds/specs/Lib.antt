@@ -1,3 +1,4 @@
+pub mod Only
 pub mod Finds
 pub mod Looks
 pub mod Sweep

@@ -1,16 +1,18 @@
 -- Header records looked up by keyword: `head` tells header row i, and there are n.
 -- Assumes nothing.
+-- Definitions to be believed: no law, and nothing computed that no theorem ties (docs/BELIEVE.md).
 use Prim.Native.Nat.{ℕ}
 use mathlib.Core.Bool.{Bool, true, false, _&&_}
 use mathlib.Core.List.{List, map}
 use mathlib.Core.Option.{Option, none, some}
 use lib.ListN.{length}
 use Rattle.error.specs.Refusal.{Refusal, refusal, Told, good, bad, told}
-use Rattle.record.specs.Word.{same, upper}
-use Rattle.statement.specs.Row.{mapped}
-use Rattle.statement.specs.Rows.{HeaderRow}
+use Rattle.record.specs.Word.{same}
+use Rattle.record.specs.Byte.{upper}
+use Rattle.statement.specs.Rows.{mapped, HeaderRow}
 use Rattle.table.specs.Table.{headerRows, headerNumbers}
-use Rattle.lookup.specs.Lookup.{Span, span, spanFine, spanIn, cut, firstFrom}
+use Rattle.lookup.specs.Lookup.{Span, span, spanFine, spanIn, cut}
+use Rattle.lookup.specs.First.{firstFrom}
 use Rattle.headers.specs.declared.HeaderFound.{HeaderFound}
 use Rattle.headers.specs.declared.HeaderFound.the-variants as heading
 

@@ -9,9 +9,11 @@ use native.Mathlib.Omega.{arith}
 use lib.ListN.{length}
 use borrow.Author.Tests.{le-leb, lt-leb}
 use Rattle.error.specs.Refusal.{refusal, Told, good, bad}
-use Rattle.record.specs.Word.{same, upper}
+use Rattle.record.specs.Word.{same}
+use Rattle.record.specs.Byte.{upper}
 use Rattle.statement.specs.Rows.{HeaderRow}
-use Rattle.lookup.specs.Lookup.{Span, span, cut, firstFrom, FirstForm}
+use Rattle.lookup.specs.Lookup.{Span, span, cut, FirstForm}
+use Rattle.lookup.specs.First.{firstFrom}
 use Rattle.lookup.specs.Laws.{first-right}
 use Rattle.headers.specs.Header.{named, isHeader, headerFirst, argued}
 

@@ -7,7 +7,7 @@ ghost use mathlib.Core.Option.{some};
 ghost use Rattle.lookup.specs.Lookup.{toldPlace};
 ghost use Rattle.headers.specs.Header.{named, isHeader, headerFound, headerArgs, toldHeader};
 ghost use Rattle.table.specs.Table.{headerNumbers};
-ghost use Rattle.statement.specs.Statement.{headerRowOf};
+ghost use Rattle.statement.specs.Rows.{headerRowOf};
 use error::Fault;
 use lookup::Place;
 use lookup::Tables;

@@ -1,10 +1,10 @@
 -- Header records in a slice of structs: record i, and its row.
 -- Assumes nothing.
+-- Definitions to be believed: no law, and nothing computed that no theorem ties (docs/BELIEVE.md).
 use Prim.Native.Nat.{ℕ}
 use mathlib.Core.List.{List}
 use lib.ListN.{getD}
-use Rattle.statement.specs.Rows.{HeaderRow}
-use Rattle.statement.specs.Statement.{headerRowOf}
+use Rattle.statement.specs.Rows.{HeaderRow, headerRowOf}
 use Rattle.statement.specs.declared.HeaderSpan.{HeaderSpan}
 
 -- a record whose places are all 0

@@ -9,12 +9,11 @@ use mathlib.Core.List.{List, [], _∷_, map}
 use mathlib.Core.Option.{Option, none, some}
 use lib.ListN.{length, getElem?, length-map}
 use Rattle.statement.specs.declared.HeaderSpan.{HeaderSpan}
-use Rattle.statement.specs.Rows.{HeaderRow}
-use Rattle.statement.specs.Statement.{headerRowOf}
+use Rattle.statement.specs.Rows.{HeaderRow, headerRowOf}
 use Rattle.table.specs.Table.{headerRows, headerNumbers, headersLaid}
 use Rattle.table.specs.Laid.{headers-laid-in, header-is}
 use Rattle.common.specs.Pick.{pick}
-use Rattle.lookup.specs.Lookup.{firstFrom}
+use Rattle.lookup.specs.First.{firstFrom}
 use Rattle.lookup.specs.Laws.{first-stops, first-goes, first-ends}
 use Rattle.headers.specs.Header.{named, isHeader, headerFirst, headerFound}
 use Rattle.headings.specs.Heads.{spanAt, headAt}

@@ -14,7 +14,8 @@ use Rattle.common.specs.Pick.{pick}
 use Rattle.common.specs.Compare.{ordered, less-or}
 use Rattle.common.specs.Walk.{turned}
 use Rattle.index.specs.Order.{rowAt, tableRoom, Rises, Steady, stepOf, Says}
-use Rattle.index.specs.Index.{Starts, IsShift, Passed}
+use Rattle.index.specs.Index.{Starts, IsShift}
+use Rattle.index.specs.IndexLaws.{Passed}
 use Rattle.index.specs.IndexRight.{rises-far}
 use Rattle.index.specs.Search.{Bracket, bracket, looked, ended, opening, startAt, wide, ranged, among, rangeEnd, guideEnd, evenEnd, endOf, firstRow}
 use Rattle.index.specs.declared.Ids.{Ids}

@@ -1,7 +1,11 @@
+pub mod OrderLaws
 pub mod Order
+pub mod Rules
 pub mod Lookup
+pub mod IndexLaws
 pub mod Index
 pub mod Sort
+pub mod Answer
 pub mod Search
 pub mod Laws
 pub mod IndexRight

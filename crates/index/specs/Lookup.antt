@@ -1,6 +1,6 @@
 -- Lookup of an id, over rows that have ids: `f` gives the id of each row, and there are n rows, in file order.
 -- Assumes nothing.
-use Prim.Native.Nat.{ℕ, zero, suc, _+_, _≤_, _<_}
+use Prim.Native.Nat.{ℕ, zero, suc, _+_, _<_}
 use mathlib.Core.Path.{_≡_, refl, sym, _∙_, ap}
 use mathlib.Core.Bool.{Bool, true, false}
 use mathlib.Core.Option.{Option, none, some}
@@ -10,6 +10,7 @@ use lib.Dec.{eqb}
 use borrow.Author.Tests.{eqb-true, eqb-false}
 use Rattle.common.specs.Pick.{pick}
 use Rattle.common.specs.Compare.{ordered}
+use Rattle.index.specs.Rules.{IsLast, LookupForm}
 
 -- a map from ids to rows: the row that it has for an id, or none
 abbrev pub Map : Type 0
@@ -27,21 +28,6 @@ written f (suc n) k = put (f n) n (written f n) k
 -- "Lookup of an id answers like a map written to in file order"
 abbrev pub lookupOf : (ℕ → ℕ) → ℕ → ℕ → Option ℕ
 lookupOf f n k = written f n k
-
--- "the last record of that id": a row of the table, with that id, and no later row has it
-pub record IsLast (f : ℕ → ℕ) (n k r : ℕ) : Type 0 where
-  pub row : r < n
-  pub named : f r ≡ k
-  pub last : (j : ℕ) → r < j → j < n → f j ≡ k → ⊥
-
--- "or none": no row of the table has that id
-abbrev pub Missing : (ℕ → ℕ) → ℕ → ℕ → Type 0
-Missing f n k = (j : ℕ) → j < n → f j ≡ k → ⊥
-
--- what a lookup answers, without a loop: the last record of that id, or that there is none
-abbrev pub LookupForm : (ℕ → ℕ) → ℕ → ℕ → Option ℕ → Type 0
-LookupForm f n k none = Missing f n k
-LookupForm f n k (some r) = IsLast f n k r
 
 -- a number below n + 1 is n or below n
 cut : (j n : ℕ) → j < suc n → (j < n) ⊎ (j ≡ n)

@@ -1,8 +1,7 @@
 -- The search in the slots. It is fixed for any slots, what they hold being the index or not.
 -- Assumes nothing.
-use Prim.Native.Nat.{ℕ, zero, suc, _+_, _-_, _*_, _/_, _%_, _^_, _≤_, _<_, min, max}
-use mathlib.Core.Path.{_≡_, refl, sym, _∙_, ap}
-use mathlib.Core.Bool.{Bool, true, false, _&&_}
+use Prim.Native.Nat.{ℕ, zero, suc, _+_, _-_, _*_, _/_, _%_, _^_, min, max}
+use mathlib.Core.Bool.{Bool, _&&_}
 use mathlib.Core.List.{List}
 use mathlib.Core.Option.{Option, none, some}
 use lib.Dec.{ltb, leb, eqb}
@@ -12,13 +11,6 @@ use Rattle.common.specs.Walk.{Turn, stop, on, turned}
 use Rattle.table.specs.Table.{idOf, rowsFit}
 use Rattle.index.specs.Order.{rowAt, slotId, tableRoom}
 use Rattle.index.specs.declared.Ids.{Ids}
-use Rattle.index.specs.declared.Found.{Found}
-use Rattle.index.specs.declared.Found.the-variants.{At, Nothing}
-
--- what the code's answer says: a row, or none
-abbrev pub toldFound : Found → Option ℕ
-toldFound (At r) = some r
-toldFound Nothing = none
 
 -- where a search stands: in the index, slots before lo hold ids up to the one sought, the last of them `under`; slots from hi on hold greater
 -- ids, the first of them `over`; so many guided probes are left

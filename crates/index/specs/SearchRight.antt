@@ -15,10 +15,13 @@ use Rattle.common.specs.Pick.{pick}
 use Rattle.common.specs.Compare.{ordered, less-or}
 use Rattle.common.specs.Walk.{Turn, stop, on, turned}
 use Rattle.index.specs.Order.{rowAt, slotId, tableRoom, Before, Rises, Steady, stepOf, Says}
-use Rattle.index.specs.Lookup.{lookupOf, LookupForm, IsLast, Missing, lookup-only}
-use Rattle.index.specs.Index.{Starts, Guides, Held, Built, end-some}
+use Rattle.index.specs.Lookup.{lookupOf, lookup-only}
+use Rattle.index.specs.Rules.{LookupForm, IsLast, Missing}
+use Rattle.index.specs.Index.{Starts, Guides, Held, Built}
+use Rattle.index.specs.IndexLaws.{end-some}
 use Rattle.index.specs.IndexRight.{Along, Ranks, rises-far, direct-ranks, index-ranks, index-id, steady-same}
-use Rattle.index.specs.Search.{Bracket, bracket, probeOf, narrowed, looked, turnAt, turn, endFrom, ended, opening, startAt, wide, ranged, among, guideEnd, evenEnd, endOf, standing, servedOf, soughtIn, firstRow, searchIn}
+use Rattle.table.specs.Table.{rowsFit, idOf}
+use Rattle.index.specs.Search.{Bracket, bracket, probeOf, narrowed, looked, turnAt, turn, endFrom, ended, opening, startAt, wide, ranged, among, guideEnd, evenEnd, endOf, standing, servedOf, soughtIn, firstRow, searchIn, searched}
 use Rattle.index.specs.Laws.{probe-low, probe-high}
 use Rattle.index.specs.Guide.{wide-pos, range-low, range-high, range-far, range-most, among-low, among-high, share-most, start-in, start-out, steady-at, even-place}
 use Rattle.index.specs.declared.Ids.{Ids}
@@ -630,3 +633,12 @@ module _ (f : ℕ → ℕ) (R : ℕ) (slots : List ℕ) (b : Ids) (k n e : ℕ) 
 
     pub seek-other : t ≡ false → none ≡ soughtIn f R slots b k
     seek-other h = rw h at served
+
+-- of a table in lent memory: over what `build` left it is the map's answer
+pub found-right : (rows old slots : List ℕ) (count k : ℕ) (b : Ids) → Built (idOf rows) (tableRoom (rowsFit (length rows)) (length old) count) old slots b
+    → searched rows slots b k ≡ lookupOf (idOf rows) (tableRoom (rowsFit (length rows)) (length old) count) k
+found-right rows old slots count k b h = get-right (idOf rows) (rowsFit (length rows)) old slots count k b h
+
+-- and whatever was lent, what is served lies in the table and has the id
+pub found-safe : (rows slots : List ℕ) (b : Ids) (k r : ℕ) → searched rows slots b k ≡ some r → (r < tableRoom (rowsFit (length rows)) (length slots) (b .count)) × (idOf rows r ≡ k)
+found-safe rows slots b k r e = get-safe (idOf rows) (rowsFit (length rows)) slots b k r e

@@ -10,8 +10,10 @@ use lib.ListN.{getD}
 use borrow.Author.Tests.{eqb-true, eq-eqb}
 use Rattle.common.specs.Pick.{pick}
 use Rattle.common.specs.Compare.{clash}
-use Rattle.record.specs.Word.{upper, same, isWord}
+use Rattle.record.specs.Byte.{upper}
+use Rattle.record.specs.Word.{same, isWord}
 use Rattle.record.specs.Form.{bytes, Spelt}
+use Rattle.record.specs.FormRight.{same-is, same-self}
 use Rattle.kinds.specs.Rules.{nameOf, Named, KindForm, spelt, other, rankOf}
 use Rattle.kinds.specs.declared.Kind.{Kind}
 use Rattle.kinds.specs.declared.Kind.the-variants.{
@@ -66,25 +68,6 @@ kind-back Other = refl
 pub rank-one : (a b : Kind) → rankOf a ≡ rankOf b → a ≡ b
 rank-one a b e = sym (kind-back a) ∙ ap kindAt e ∙ kind-back b
 
--- ---- the test for a word, both ways
--- texts that are the same
-same-true : (x y : List ℕ) → same x y ≡ true → x ≡ y
-unfolding same
-same-true [] [] h = refl
-same-true [] (b ∷ y) h = clash (cc)
-same-true (a ∷ x) [] h = clash (cc)
-same-true (a ∷ x) (b ∷ y) h = go (eqb a b) refl (same-true x y) h
-  where
-    go : (t : Bool) → eqb a b ≡ t → (same x y ≡ true → x ≡ y) → t && same x y ≡ true → a ∷ x ≡ b ∷ y
-    go true e g f = cc (g f, eqb-true a b e)
-    go false e g f = clash (cc)
-
--- a text is the same as itself
-same-self : (x : List ℕ) → same x x ≡ true
-unfolding same
-same-self [] = refl
-same-self (a ∷ x) = rw (eq-eqb a a refl) (same-self x)
-
 -- ---- the theorems
 -- no kind of a list is spelt so
 abbrev Unspelt : List Kind → List ℕ → Type 0
@@ -103,7 +86,7 @@ found (k ∷ ks) t n = go (isWord t (bytes (nameOf k))) refl (found ks t (n .1))
   where
     go : (b : Bool) → isWord t (bytes (nameOf k)) ≡ b → (Named (kindIn ks t) × Spelt t (nameOf (kindIn ks t))) ⊎ (Unspelt ks t × (kindIn ks t ≡ Other))
         → (Named (pick b k (kindIn ks t)) × Spelt t (nameOf (pick b k (kindIn ks t)))) ⊎ (Unspelt (k ∷ ks) t × (pick b k (kindIn ks t) ≡ Other))
-    go true e r = inl (n .0, same-true (map upper t) (bytes (nameOf k)) e)
+    go true e r = inl (n .0, same-is (map upper t) (bytes (nameOf k)) e)
     go false e (inl s) = inl s
     go false e (inr u) = inr ((λ s. let q : false ≡ true = sym e ∙ ap (λ (x : List ℕ). same x (bytes (nameOf k))) s ∙ same-self (bytes (nameOf k)) in clash (cc), u .0), u .1)
 

@@ -7,7 +7,8 @@ use mathlib.Core.List.{List, map}
 use lib.Dec.{eqb}
 use lib.ListN.{length, drop, getD}
 use Rattle.common.specs.Lists.{split}
-use Rattle.record.specs.Word.{same, upper}
+use Rattle.record.specs.Word.{same}
+use Rattle.record.specs.Byte.{upper}
 
 module _ (x y : List ℕ) (i : ℕ) (a : Bool) (h : i < length x) (k : i < length y) where
   -- the bytes there differ

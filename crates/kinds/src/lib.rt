@@ -6,7 +6,8 @@ ghost use mathlib.Core.Path.{_≡_};
 ghost use mathlib.Core.List.{map};
 ghost use lib.Dec.{eqb};
 ghost use Rattle.record.specs.Form.{bytes};
-ghost use Rattle.record.specs.Word.{same, upper};
+ghost use Rattle.record.specs.Word.{same};
+ghost use Rattle.record.specs.Byte.{upper};
 ghost use Rattle.kinds.specs.Kind.{kindOf};
 ghost use Rattle.kinds.specs.Rules.{nameOf, rankOf, toldName, nameIn, nameAfter};
 

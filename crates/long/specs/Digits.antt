@@ -6,7 +6,7 @@ use mathlib.Core.Bool.{true}
 use mathlib.Core.List.{List, [], _∷_}
 use lib.ListN.{length, take, drop}
 use Rattle.common.specs.Pick.{pick}
-use Rattle.record.specs.Text.{digit}
+use Rattle.record.specs.Byte.{digit}
 use Rattle.limbs.specs.Worth.{worth}
 use Rattle.long.specs.Number.{numberIn}
 use Rattle.long.specs.declared.Filled.{Filled}

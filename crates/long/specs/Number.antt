@@ -3,7 +3,7 @@
 use Prim.Native.Nat.{ℕ, _+_, _*_, _-_}
 use mathlib.Core.List.{List, [], _∷_}
 use Rattle.common.specs.Pick.{pick}
-use Rattle.record.specs.Text.{digit}
+use Rattle.record.specs.Byte.{digit}
 
 -- the number that the digits make after those that gave n; other bytes are passed over
 unfoldable pub numberIn : ℕ → List ℕ → ℕ

@@ -16,9 +16,10 @@ use Rattle.index.specs.Order.{tableRoom}
 use Rattle.index.specs.Lookup.{lookupOf}
 use Rattle.index.specs.Index.{Built}
 use Rattle.index.specs.Search.{searched}
-use Rattle.index.specs.SearchRight.{get-right}
+use Rattle.index.specs.SearchRight.{found-right}
 use Rattle.index.specs.declared.Ids.{Ids}
-use Rattle.lookup.specs.Lookup.{firstFrom, FirstForm, rowFound}
+use Rattle.lookup.specs.First.{firstFrom}
+use Rattle.lookup.specs.Lookup.{FirstForm, rowFound}
 
 module _ (p : ℕ → Bool) where
   -- the test holds of row i
@@ -86,4 +87,4 @@ module _ (p : ℕ → Bool) where
 -- "Lookup of an id answers like a map written to in file order: the last record of that id, or none": `get` over what `build` left
 pub lookup-right : (rows old slots : List ℕ) (count k : ℕ) (b : Ids) → Built (idOf rows) (tableRoom (rowsFit (length rows)) (length old) count) old slots b
     → rowFound rows (searched rows slots b k) ≡ rowFound rows (lookupOf (idOf rows) (tableRoom (rowsFit (length rows)) (length old) count) k)
-lookup-right rows old slots count k b h = ap (rowFound rows) (get-right (idOf rows) (rowsFit (length rows)) old slots count k b h)
+lookup-right rows old slots count k b h = ap (rowFound rows) (found-right rows old slots count k b h)

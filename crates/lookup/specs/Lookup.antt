@@ -1,6 +1,7 @@
 -- Rows looked up: by number, by id, by kind.
 -- Assumes nothing.
-use Prim.Native.Nat.{ℕ, zero, suc, _-_, _≤_, _<_}
+-- Definitions to be believed: no law, and nothing computed that no theorem ties (docs/BELIEVE.md).
+use Prim.Native.Nat.{ℕ, _-_, _≤_, _<_}
 use mathlib.Core.Path.{_≡_}
 use mathlib.Core.Bool.{Bool, true, false, _&&_}
 use mathlib.Core.List.{List}
@@ -9,8 +10,7 @@ use lib.Dec.{ltb, leb, eqb}
 use lib.ListN.{length, take, drop}
 use Rattle.common.specs.Pick.{pick}
 use Rattle.error.specs.Refusal.{refusal, Told, good, bad, told}
-use Rattle.statement.specs.Rows.{Row}
-use Rattle.statement.specs.Statement.{rowOf}
+use Rattle.statement.specs.Rows.{Row, rowOf}
 use Rattle.table.specs.Table.{tableRows, rowNumbers}
 use Rattle.index.specs.Search.{searched}
 use Rattle.index.specs.declared.Ids.{Ids}
@@ -83,11 +83,6 @@ kindFound s (some w) = kindIn s w
 -- row k is of a kind
 abbrev pub isKind : List ℕ → List ℕ → Kind → ℕ → Bool
 isKind s rows k i = eqb (rankOf (kindIn s (rowNumbers rows i))) (rankOf k)
-
--- the first of the next n rows, from row i on, of which a test holds
-unfoldable pub firstFrom : (ℕ → Bool) → ℕ → ℕ → Option ℕ
-firstFrom p zero i = none
-firstFrom p (suc n) i = pick (p i) (some i) (firstFrom p n (suc i))
 
 -- the same without a loop: a row from i on and before z of which it holds, and of none before; or of none at all
 abbrev pub FirstForm : (ℕ → Bool) → ℕ → ℕ → Option ℕ → Type 0

@@ -1,14 +1,14 @@
 -- Document 01, 'Reading the file', of the records themselves: "Lookup of an id answers like a map written to in file order: the
 -- last record of that id, or none." And that a lookup over the memory that the records were laid in serves it.
 -- Assumes nothing.
-use Prim.Native.Nat.{ℕ, zero, suc, _+_, _*_, _≤_, _<_}
+use Prim.Native.Nat.{ℕ, zero, suc, _+_, _<_}
 use mathlib.Core.Path.{_≡_, refl, sym, _∙_, ap, subst}
 use mathlib.Core.Bool.{Bool, true, false}
 use mathlib.Core.List.{List, [], _∷_, _++_, append-assoc}
 use mathlib.Core.Option.{Option, none, some}
 use native.Mathlib.Omega.{arith}
 use lib.Dec.{eqb}
-use lib.ListN.{length, take, drop, getD, getElem?, length-append}
+use lib.ListN.{length, take, drop, getElem?, length-append}
 use lib.Seq.{length-take-le}
 use borrow.Author.Tests.{eqb-true, eqb-false, eq-eqb, ne-eqb}
 use Rattle.common.specs.Pick.{pick}
@@ -16,26 +16,9 @@ use Rattle.common.specs.Compare.{clash}
 use Rattle.statement.specs.Rows.{Row}
 use Rattle.table.specs.Table.{idOf, rowNumbers, rowsLaid}
 use Rattle.table.specs.Laid.{row-is}
-use Rattle.index.specs.Lookup.{IsLast, Missing, LookupForm}
+use Rattle.index.specs.Rules.{LookupForm}
 use Rattle.lookup.specs.Lookup.{rowFound}
-
--- ---- the last record of an id, among records in file order
--- no record has this id, wherever the records are cut around one
-abbrev pub NoneOf : ℕ → List Row → Type 0
-NoneOf k rs = (front back : List Row) (w : Row) → rs ≡ front ++ (w ∷ back) → w .id ≡ k → ⊥
-
--- "the last record of that id": w stands among the records, has that id, and no record after it has it
-pub record IsLastOf (k : ℕ) (rs : List Row) (w : Row) : Type 0 where
-  pub front : List Row
-  pub back : List Row
-  pub cut : rs ≡ front ++ (w ∷ back)
-  pub named : w .id ≡ k
-  pub after : NoneOf k back
-
--- "the last record of that id, or none"
-abbrev pub LastForm : ℕ → List Row → Option Row → Type 0
-LastForm k rs none = NoneOf k rs
-LastForm k rs (some w) = IsLastOf k rs w
+use Rattle.lookup.specs.Rules.{NoneOf, IsLastOf, LastForm}
 
 -- what was found, or else another
 abbrev pub orElse : {A : Type 0} → Option A → Option A → Option A

@@ -6,8 +6,9 @@ use native.Mathlib.Omega.{arith}
 use lib.ListN.{length}
 use Rattle.common.specs.Compare.{clash}
 use Rattle.error.specs.Refusal.{Told, good, bad}
-use Rattle.statement.specs.Row.{mapped}
-use Rattle.scan.specs.File.{Table, scanOf}
+use Rattle.statement.specs.Rows.{mapped}
+use Rattle.scan.specs.Records.{Table}
+use Rattle.scan.specs.File.{scanOf}
 use Rattle.scan.specs.Rooms.{scan-roomy, scan-fit}
 use Rattle.needs.specs.Needs.{needsIn, needsOf}
 use Rattle.needs.specs.declared.Needs.{Needs}

@@ -11,12 +11,12 @@ use lib.ListN.{length, drop}
 use Rattle.common.specs.Pick.{pick}
 use Rattle.common.specs.Compare.{clash}
 use Rattle.error.specs.Refusal.{Refusal, refusal, Told, good, bad}
-use Rattle.statement.specs.Rows.{Row, HeaderRow, Stmt, ends, refused, moved, header, record′}
-use Rattle.statement.specs.Row.{mapped}
+use Rattle.statement.specs.Rows.{Row, HeaderRow, Stmt, ends, refused, moved, header, record′, mapped}
 use Rattle.statement.specs.Statement.{statement}
 use Rattle.statement.specs.declared.Section.{Section}
 use Rattle.statement.specs.declared.Section.the-variants.{Outside, InHeader, InData}
-use Rattle.scan.specs.File.{Table, table, withHeader, withRecord, taken, readFrom, readingOf, marked, scanOf, largest}
+use Rattle.scan.specs.Records.{Table, table, withHeader, withRecord, largest}
+use Rattle.scan.specs.File.{taken, readFrom, readingOf, marked, scanOf}
 use Rattle.scan.specs.Table.{Counts, countsOf}
 use Rattle.scan.specs.Roomy.{refusal-roomy}
 use Rattle.lengths.specs.declared.Sizes.{Sizes}

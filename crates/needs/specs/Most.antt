@@ -6,7 +6,7 @@ use mathlib.Core.List.{List, [], _∷_, _++_}
 use mathlib.Core.Logic.{inl}
 use native.Mathlib.Omega.{arith}
 use Rattle.statement.specs.Rows.{Row, HeaderRow}
-use Rattle.scan.specs.File.{Table}
+use Rattle.scan.specs.Records.{Table}
 use Rattle.lengths.specs.declared.Sizes.{Sizes}
 use Rattle.lengths.specs.Lengths.{recordOf}
 use Rattle.lengths.specs.Rules.{textLen, numbersLen, rowsLen, both, nothing, Arg, Found, Greatest}

@@ -5,9 +5,9 @@ use Prim.Native.Nat.{ℕ}
 use mathlib.Core.List.{List, [], _∷_, _++_}
 use lib.ListN.{length}
 use Rattle.error.specs.Refusal.{Told, good, bad, told}
-use Rattle.statement.specs.Rows.{Row, HeaderRow}
-use Rattle.statement.specs.Row.{mapped}
-use Rattle.scan.specs.File.{Table, scanOf, largest}
+use Rattle.statement.specs.Rows.{Row, HeaderRow, mapped}
+use Rattle.scan.specs.Records.{Table, largest}
+use Rattle.scan.specs.File.{scanOf}
 use Rattle.lengths.specs.declared.Sizes.{Sizes}
 use Rattle.lengths.specs.Lengths.{recordOf}
 use Rattle.lengths.specs.Rules.{both, nothing, Arg}

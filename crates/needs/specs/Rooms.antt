@@ -7,10 +7,10 @@ use native.Mathlib.Omega.{arith}
 use lib.ListN.{length}
 use Rattle.common.specs.Compare.{clash}
 use Rattle.error.specs.Refusal.{Refusal, Told, good, bad}
-use Rattle.statement.specs.Rows.{RowKind, header-kind, data-kind}
-use Rattle.statement.specs.Row.{mapped}
+use Rattle.statement.specs.Rows.{RowKind, header-kind, data-kind, mapped}
 use Rattle.statement.specs.declared.Section.{Section}
-use Rattle.scan.specs.File.{Table, scanOf}
+use Rattle.scan.specs.Records.{Table}
+use Rattle.scan.specs.File.{scanOf}
 use Rattle.scan.specs.Form.{PerKind, perKind, of, Reached, Full}
 use Rattle.scan.specs.FormRight.{scans-is}
 use Rattle.scan.specs.FormRight.Numbers.{of-more, scans-bad}

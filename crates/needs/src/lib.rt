@@ -6,7 +6,7 @@
 ghost use mathlib.Core.Path.{_≡_};
 ghost use Prim.Native.Nat.{max};
 ghost use lib.ListN.{length};
-ghost use Rattle.statement.specs.Row.{mapped};
+ghost use Rattle.statement.specs.Rows.{mapped};
 ghost use Rattle.scan.specs.File.{readingOf};
 ghost use Rattle.lengths.specs.Lengths.{recordOf};
 ghost use Rattle.lengths.specs.Rules.{both};

@@ -17,7 +17,8 @@ use Rattle.statement.specs.Rows.{Row, HeaderRow}
 use Rattle.statement.specs.Closed.{Closed}
 use Rattle.statement.specs.declared.Section.{Section}
 use Rattle.statement.specs.declared.Section.the-variants.{Outside, InHeader, InData}
-use Rattle.scan.specs.File.{Table, scanOf}
+use Rattle.scan.specs.Records.{Table}
+use Rattle.scan.specs.File.{scanOf}
 use Rattle.scan.specs.Form.{perKind, Marked, Reads, Scans}
 use Rattle.scan.specs.FormRight.{scans-only, scans-is}
 use Rattle.scan.specs.Rooms.{scan-roomy, scan-fit}

@@ -9,17 +9,18 @@ use lib.ListN.{length}
 use Rattle.common.specs.Compare.{clash}
 use Rattle.error.specs.Refusal.{good}
 use Rattle.table.specs.Table.{tableRows, rowNumbers}
-use Rattle.statement.specs.Row.{mapped}
-use Rattle.statement.specs.Rows.{Row}
+use Rattle.statement.specs.Rows.{mapped, Row}
 use Rattle.statement.specs.Closed.{Closed, content}
 use Rattle.statement.specs.ClosedRight.{alone}
 use Rattle.statement.specs.declared.Section.the-variants.{Outside}
-use Rattle.scan.specs.File.{Table, scanOf}
+use Rattle.scan.specs.Records.{Table}
+use Rattle.scan.specs.File.{scanOf}
 use Rattle.scan.specs.Table.{headerRoom, dataRoom, countsOf, toldScan}
 use Rattle.scan.specs.declared.Scanned.{Scanned}
 use Rattle.index.specs.Search.{searched}
 use Rattle.lookup.specs.Lookup.{rowFound, toldEntry, rowFor}
-use Rattle.lookup.specs.Records.{lastOf, LastForm, last-is}
+use Rattle.lookup.specs.Records.{lastOf, last-is}
+use Rattle.lookup.specs.Rules.{LastForm}
 use Rattle.lookup.specs.declared.Tables.{Tables}
 use Rattle.lookup.specs.declared.Entry.{Entry}
 use Rattle.store.specs.Store.{toldOpened, scanInto, Opens}

@@ -12,7 +12,7 @@ use Rattle.statement.specs.Rows.{Row, HeaderRow}
 use Rattle.statement.specs.Row.{headerOf}
 use Rattle.statement.specs.Closed.{ClosedData, ClosedHeader, HeaderContent, headerContent}
 use Rattle.statement.specs.ClosedRight.{rowFrom, headerRowFrom, headerContentOf, header-row, header-content}
-use Rattle.scan.specs.File.{Table, largest}
+use Rattle.scan.specs.Records.{Table, largest}
 use Rattle.scan.specs.Table.{countsOf}
 use Rattle.order.specs.Order.{Permuted}
 use Rattle.order.specs.Shape.{Says, AllSay, SaysHeader, AllHead}

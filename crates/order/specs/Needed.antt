@@ -13,7 +13,8 @@ use Rattle.statement.specs.Rows.{row}
 use Rattle.statement.specs.Closed.{Closed, Content}
 use Rattle.statement.specs.declared.Section.the-variants.{Outside}
 use Rattle.units.specs.Units.{Units, units}
-use Rattle.scan.specs.File.{Table, table, scanOf}
+use Rattle.scan.specs.Records.{Table, table}
+use Rattle.scan.specs.File.{scanOf}
 use Rattle.serve.specs.Serve.{unitsOf}
 use Rattle.order.specs.Order.{Cut, rest, piece, texts, filled, Cuts, Permuted, named, ofId, contextsIn, Rearranged, served, SameUnits, Same}
 use Rattle.order.specs.Exchange.{those-swap, rearranged-swap}

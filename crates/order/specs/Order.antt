@@ -24,7 +24,8 @@ use Rattle.statement.specs.Closed.{Closed, Content, content, HeaderContent, hea
 use Rattle.statement.specs.Statement.{statement}
 use Rattle.statement.specs.declared.Section.{Section}
 use Rattle.statement.specs.declared.Section.the-variants.{Outside, InHeader, InData}
-use Rattle.scan.specs.File.{Table, scanOf}
+use Rattle.scan.specs.Records.{Table}
+use Rattle.scan.specs.File.{scanOf}
 use Rattle.scan.specs.Table.{countsOf}
 use Rattle.params.specs.Answer.{onward}
 use Rattle.lookup.specs.Records.{lastOf}

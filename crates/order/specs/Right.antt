@@ -5,7 +5,8 @@ use mathlib.Core.List.{List, map}
 use Rattle.error.specs.Refusal.{Told, good, bad}
 use Rattle.statement.specs.Rows.{Row}
 use Rattle.statement.specs.Closed.{Closed}
-use Rattle.scan.specs.File.{Table, scanOf}
+use Rattle.scan.specs.Records.{Table}
+use Rattle.scan.specs.File.{scanOf}
 use Rattle.factors.specs.Thing.{thingOf, thingFound}
 use Rattle.units.specs.Units.{Units, resolveOf}
 use Rattle.alike.specs.Alike.{SameTold}

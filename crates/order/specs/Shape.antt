@@ -16,7 +16,7 @@ use Rattle.statement.specs.ClosedRight.{rowFrom, headerRowFrom, closed-hash}
 use Rattle.statement.specs.ClosedRight.Statements.{Stands, stands-any, stands-moved, statement-local, statement-header-local, Step, step, data-stands, header-stands, closed-entry, closed-turn}
 use Rattle.statement.specs.declared.Section.{Section}
 use Rattle.statement.specs.declared.Section.the-variants.{Outside, InHeader, InData}
-use Rattle.scan.specs.File.{Table, table, withHeader, withRecord}
+use Rattle.scan.specs.Records.{Table, table, withHeader, withRecord}
 use Rattle.statement.specs.Form.{StatementForm}
 use Rattle.scan.specs.Form.{perKind, Reads}
 use Rattle.statement.specs.FormRight.{statement-is}

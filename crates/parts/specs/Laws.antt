@@ -25,9 +25,8 @@ use Rattle.record.specs.Form.{HeaderForm, Keyword}
 use Rattle.record.specs.FormRight.{headerform-is, past-is}
 use Rattle.record.specs.declared.Head.{Head}
 use Rattle.record.specs.declared.Head.the-variants.{Bad, Complex, Simple}
-use Rattle.statement.specs.Rows.{HeaderRow, headerRow}
-use Rattle.statement.specs.Row.{mapped, argued}
-use Rattle.statement.specs.Statement.{headerRowOf}
+use Rattle.statement.specs.Rows.{HeaderRow, headerRow, mapped, headerRowOf}
+use Rattle.statement.specs.Row.{argued}
 use Rattle.statement.specs.declared.HeaderSpan.{HeaderSpan}
 use Rattle.kinds.specs.declared.Kind.{Kind}
 use Rattle.parts.specs.Part.{partBy, partIn, nextOf, PartIn, partsBy, partsFrom, partsOf, firstKind, firstOf}

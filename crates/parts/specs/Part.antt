@@ -15,8 +15,8 @@ use Rattle.record.specs.Text.{past}
 use Rattle.record.specs.Head.{headerHead}
 use Rattle.record.specs.declared.Head.{Head}
 use Rattle.record.specs.declared.Head.the-variants.{Bad, Complex, Simple}
-use Rattle.statement.specs.Rows.{HeaderRow, headerRow}
-use Rattle.statement.specs.Row.{mapped, argued}
+use Rattle.statement.specs.Rows.{HeaderRow, headerRow, mapped}
+use Rattle.statement.specs.Row.{argued}
 use Rattle.statement.specs.declared.HeaderSpan.{HeaderSpan}
 use Rattle.kinds.specs.declared.Kind.{Kind}
 use Rattle.parts.specs.Rules.{separator, before, isKind}

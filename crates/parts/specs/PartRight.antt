@@ -24,8 +24,8 @@ use Rattle.record.specs.FormRight.{past-only, past-is, keyword-is, keyword-none
 use Rattle.record.specs.FormRight.Parts.{sole}
 use Rattle.record.specs.declared.Head.{Head}
 use Rattle.record.specs.declared.Head.the-variants.{Bad, Simple}
-use Rattle.statement.specs.Rows.{HeaderRow, headerRow}
-use Rattle.statement.specs.Row.{mapped, argued}
+use Rattle.statement.specs.Rows.{HeaderRow, headerRow, mapped}
+use Rattle.statement.specs.Row.{argued}
 use Rattle.statement.specs.Form.{Argued}
 use Rattle.statement.specs.FormRight.{argued-only, argued-is}
 use Rattle.kinds.specs.declared.Kind.{Kind}

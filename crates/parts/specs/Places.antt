@@ -12,8 +12,7 @@ use lib.Dec.{ltb, eqb}
 use lib.ListN.{length}
 use Rattle.common.specs.Pick.{pick}
 use Rattle.error.specs.Refusal.{Refusal, refusal, Told, good, bad}
-use Rattle.statement.specs.Rows.{HeaderRow}
-use Rattle.statement.specs.Row.{mapped}
+use Rattle.statement.specs.Rows.{HeaderRow, mapped}
 use Rattle.statement.specs.Form.{ArguedTo, Argued}
 use Rattle.kinds.specs.declared.Kind.{Kind}
 use Rattle.parts.specs.Part.{nextOf, PartIn, partsBy, partsFrom, partsOf, firstKind, partOf}

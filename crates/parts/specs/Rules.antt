@@ -12,8 +12,7 @@ use lib.ListN.{length, take, drop}
 use Rattle.error.specs.Refusal.{Refusal, refusal, Told, good, bad, told}
 use Rattle.lex.specs.Byte.{white}
 use Rattle.record.specs.Form.{Skipped, Free, Keyword}
-use Rattle.statement.specs.Rows.{HeaderRow, headerRow}
-use Rattle.statement.specs.Statement.{headerRowOf}
+use Rattle.statement.specs.Rows.{HeaderRow, headerRow, headerRowOf}
 use Rattle.kinds.specs.Kind.{kindOf}
 use Rattle.kinds.specs.Rules.{rankOf}
 use Rattle.kinds.specs.declared.Kind.{Kind}

@@ -3,7 +3,7 @@ use Prim.Native.Nat.{ℕ}
 use mathlib.Core.Path.{_≡_, refl, ap, subst}
 use mathlib.Core.Option.{some}
 use Rattle.error.specs.Refusal.{Refusal, Told, good, bad}
-use Rattle.statement.specs.Row.{mapped}
+use Rattle.statement.specs.Rows.{mapped}
 use Rattle.params.specs.Answer.{Read, reading}
 use Rattle.plain.specs.Answers.{readCode, readFault, readValue, Tells, Leaves, foundCode, foundValue}
 

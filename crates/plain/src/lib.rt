@@ -9,7 +9,7 @@ ghost use lib.Dec.{leb};
 ghost use Rattle.common.specs.Pick.{pick};
 ghost use Rattle.kinds.specs.Rules.{rankOf};
 ghost use Rattle.table.specs.Table.{rowWidth, headerWidth, six, four};
-ghost use Rattle.statement.specs.Statement.{rowOf, headerRowOf};
+ghost use Rattle.statement.specs.Rows.{rowOf, headerRowOf};
 ghost use Rattle.plain.specs.Answers.{truthNumber};
 ghost use Rattle.plain.specs.Numbers.{putIn, flagsOf, idsNumbers, idsBy, tablesIn, tablesBy, kindBy};
 use index::Ids;

@@ -12,7 +12,8 @@ use borrow.Author.Tests.{eqb-true}
 use lib.Dec.{eqb}
 use Rattle.common.specs.Pick.{pick}
 use Rattle.common.specs.Walk.{walk, turned, on, stop}
-use Rattle.record.specs.Text.{Digits, digits, digitTurn, digit, numberFrom}
+use Rattle.record.specs.Text.{Digits, digits, digitTurn, numberFrom}
+use Rattle.record.specs.Byte.{digit}
 use Rattle.nearest.specs.Near.{near}
 use Rattle.nearest.specs.Borders.{near-nothing}
 use Rattle.nearest.specs.Power.{nearBy}

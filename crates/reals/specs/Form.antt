@@ -9,7 +9,7 @@ use mathlib.Core.Bool.{Bool, true, false}
 use mathlib.Core.List.{List, [], _∷_, _++_}
 use lib.IntN.{ℤ, pos, negℤ}
 use lib.ListN.{length}
-use Rattle.record.specs.Text.{digit}
+use Rattle.record.specs.Byte.{digit}
 use Rattle.record.specs.Form.{All, valueOf, Id}
 use Rattle.nearest.specs.Nearest.{IsNearest, signed}
 use Rattle.reals.specs.Answer.{Answer, read, refused, longest, farthest}

@@ -13,7 +13,8 @@ use lib.Dec.{eqb, ltb, leb}
 use lib.ListN.{length, length-append}
 use Rattle.common.specs.Pick.{pick}
 use Rattle.common.specs.Compare.{clash}
-use Rattle.record.specs.Text.{digit, Digits, digits, numberFrom}
+use Rattle.record.specs.Byte.{digit}
+use Rattle.record.specs.Text.{Digits, digits, numberFrom}
 use Rattle.record.specs.Form.{All, NotFirst, Skipped, valueOf}
 use Rattle.record.specs.Turns.{bounds}
 use Rattle.record.specs.FormRight.{number-only, number-is}

@@ -12,7 +12,8 @@ use lib.ListN.{length, drop, getD, length-drop}
 use Rattle.common.specs.Pick.{pick}
 use Rattle.common.specs.Lists.{drop-end, split}
 use Rattle.common.specs.Walk.{walk, walk-ends}
-use Rattle.record.specs.Text.{digit, Digits, digits, digitTurn, numberFrom}
+use Rattle.record.specs.Byte.{digit}
+use Rattle.record.specs.Text.{Digits, digits, digitTurn, numberFrom}
 use Rattle.record.specs.Form.{All, valueOf}
 use Rattle.record.specs.Turns.{bounds, digit-stops, digit-goes}
 use Rattle.eights.specs.declared.Eight.{Eight}

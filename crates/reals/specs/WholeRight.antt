@@ -12,7 +12,8 @@ use lib.IntN.{ℤ}
 use lib.ListN.{length}
 use Rattle.common.specs.Pick.{pick}
 use Rattle.common.specs.Compare.{clash}
-use Rattle.record.specs.Text.{digit, Digits, digits, numberFrom}
+use Rattle.record.specs.Byte.{digit}
+use Rattle.record.specs.Text.{Digits, digits, numberFrom}
 use Rattle.record.specs.Form.{All, Skipped, valueOf, Id}
 use Rattle.record.specs.FormRight.{number-is}
 use Rattle.reals.specs.Scalar.{unsigned, minus, digitsOnly, ranged, wholeOf, idOf, referenceOf}

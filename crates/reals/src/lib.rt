@@ -9,7 +9,7 @@ ghost use Prim.Native.Nat.{_+_, _*_, _-_, _≤_, _<_, _^_, min};
 ghost use mathlib.Core.Bool.{true, false, _&&_};
 ghost use lib.ListN.{length, drop};
 ghost use lib.Ieee.{binary64, toBits};
-ghost use Rattle.record.specs.Text.{digit};
+ghost use Rattle.record.specs.Byte.{digit};
 ghost use Rattle.nearest.specs.Near.{near};
 ghost use Rattle.nearest.specs.Power.{nearBy};
 ghost use Rattle.nearest.specs.Nearest.{signed};

@@ -3,6 +3,7 @@
 -- `(` is 40 and `=` is 61.
 -- FormRight.antt shows that Text.antt, Head.antt and Word.antt compute just this, and that there is no other answer.
 -- Assumes nothing.
+-- Definitions to be believed: no law, and nothing computed that no theorem ties (docs/BELIEVE.md).
 use Prim.Native.Nat.{ℕ, _+_, _*_, _-_, _^_, _≤_, _<_}
 use Prim.Native.Char.{code}
 use Prim.Native.String.{String}
@@ -13,8 +14,7 @@ use lib.Dec.{eqb}
 use lib.ListN.{length}
 use Rattle.lex.specs.Byte.{white}
 use Rattle.lex.specs.Grammar.{Begins}
-use Rattle.record.specs.Text.{digit}
-use Rattle.record.specs.Word.{upper}
+use Rattle.record.specs.Byte.{digit, upper}
 use Rattle.record.specs.declared.Head.{Head}
 use Rattle.record.specs.declared.Head.the-variants.{Bad, Complex, Simple}
 use Rattle.record.specs.declared.Word.{Word}

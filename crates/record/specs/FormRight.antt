@@ -17,10 +17,11 @@ use Rattle.common.specs.Compare.{clash}
 use Rattle.lex.specs.Byte.{white, place}
 use Rattle.common.specs.Walk.{on, walk}
 use Rattle.lex.specs.Grammar.{Begins}
-use Rattle.record.specs.Text.{past, pastGap, digit, Digits, digits, numberFrom, opened, unopened, keyTurn, keyword, trailTurn, trail}
+use Rattle.record.specs.Text.{past, pastGap, Digits, digits, numberFrom, opened, unopened, keyTurn, keyword, trailTurn, trail}
+use Rattle.record.specs.Byte.{digit, upper}
 use Rattle.record.specs.Turns.{number-grows}
 use Rattle.record.specs.Head.{valueHead, equalHead, dataHead, headerHead}
-use Rattle.record.specs.Word.{upper, same, isWord, opens, endsec, header, dataWord, endFile, opensData, trimmed, wordIn, wordOf}
+use Rattle.record.specs.Word.{same, isWord, opens, endsec, header, dataWord, endFile, opensData, trimmed, wordIn, wordOf}
 use Rattle.record.specs.Form.{NotFirst, Skipped, valueOf, Id, Keyword, Lead, HeadForm, HeaderForm, Gap, NoGapFirst, NoGapLast, Gapped, NoParen, Trimmed, bytes, Spelt, Says, WordForm}
 use Rattle.record.specs.declared.Head.{Head}
 use Rattle.record.specs.declared.Head.the-variants.{Bad, Complex, Simple}
@@ -273,27 +274,27 @@ header-comes b = go (gap-comes b)
 pub headerform-is : (b : List ℕ) → HeaderForm b (headerHead b)
 headerform-is b = sole (HeaderForm b) (λ h. headerform-only) (header-comes b)
 
--- the same bytes
-same-true : (x y : List ℕ) → same x y ≡ true → x ≡ y
+-- a test that two texts are the same, both ways
+pub same-is : (x y : List ℕ) → same x y ≡ true → x ≡ y
 unfolding same
-same-true [] [] h = refl
-same-true [] (b ∷ y) h = clash (cc)
-same-true (a ∷ x) [] h = clash (cc)
-same-true (a ∷ x) (b ∷ y) h = go (eqb a b) refl (same-true x y)
+same-is [] [] h = refl
+same-is [] (b ∷ y) h = clash (cc)
+same-is (a ∷ x) [] h = clash (cc)
+same-is (a ∷ x) (b ∷ y) h = go (eqb a b) refl (same-is x y)
   where
     go : (t : Bool) → eqb a b ≡ t → (same x y ≡ true → x ≡ y) → a ∷ x ≡ b ∷ y
     go true e g = let f : same x y ≡ true = rw e at h in cc (g f, eqb-true a b e)
     go false e g = let f : false ≡ true = rw e at h in clash (cc)
 
 -- a text is the same as itself
-same-self : (x : List ℕ) → same x x ≡ true
+pub same-self : (x : List ℕ) → same x x ≡ true
 unfolding same
 same-self [] = refl
 same-self (a ∷ x) = rw (eq-eqb a a refl) (same-self x)
 
 -- "letters in either case": the test for a word, both ways
 pub spelt-is : (t : List ℕ) (w : String) → isWord t (bytes w) ≡ true → Spelt t w
-spelt-is t w h = same-true (map upper t) (bytes w) h
+spelt-is t w h = same-is (map upper t) (bytes w) h
 
 -- a text that is spelt so passes the test
 pub spelt-only : (t : List ℕ) (w : String) → Spelt t w → isWord t (bytes w) ≡ true

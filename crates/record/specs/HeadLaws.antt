@@ -14,7 +14,8 @@ use Rattle.common.specs.Lists.{split, drop-end}
 use Rattle.lex.specs.Byte.{place, white}
 use Rattle.lex.specs.Place.{place-drop}
 use Rattle.record.specs.Text.{pastGap, digits, numberFrom, Keyed, opened, unopened, keyword, trail}
-use Rattle.record.specs.Word.{upper, isWord, dataWord, opens, opensData, trimmed}
+use Rattle.record.specs.Byte.{upper}
+use Rattle.record.specs.Word.{isWord, dataWord, opens, opensData, trimmed}
 use Rattle.record.specs.Turns.{same-lengths}
 use Rattle.record.specs.Head.{valueHead, equalHead, dataHead, headerHead, keyedHead}
 use Rattle.record.specs.declared.Head.{Head}

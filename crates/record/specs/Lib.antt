@@ -1,3 +1,4 @@
+pub mod Byte
 pub mod Text
 pub mod Word
 pub mod Head

@@ -2,9 +2,9 @@
 -- Assumes nothing.
 use Prim.Native.Nat.{ℕ, _+_, _*_, _-_, _≤_, _<_}
 use mathlib.Core.Path.{_≡_}
-use mathlib.Core.Bool.{Bool, true, false, _&&_}
+use mathlib.Core.Bool.{Bool}
 use mathlib.Core.List.{List, [], _∷_}
-use lib.Dec.{eqb, leb}
+use lib.Dec.{eqb}
 use lib.ListN.{length, take, drop}
 use Rattle.common.specs.Pick.{pick}
 use Rattle.lex.specs.Byte.{white}
@@ -13,6 +13,7 @@ use Rattle.record.specs.declared.Number.{Number}
 use Rattle.record.specs.declared.Number.the-variants.{Over, Value}
 use Rattle.record.specs.declared.Key.{Key}
 use Rattle.record.specs.declared.Key.the-variants.{Absent, Found}
+use Rattle.record.specs.Byte.{digit}
 
 -- the bytes of xs before its rest r
 abbrev pub before : List ℕ → List ℕ → List ℕ
@@ -29,10 +30,6 @@ past p xs = walk (pastTurn p) (λ u. []) tt xs
 -- what is left past a gap, which is what may stand between tokens
 abbrev pub pastGap : List ℕ → List ℕ
 pastGap xs = past white xs
-
--- a decimal digit
-abbrev pub digit : ℕ → Bool
-digit c = leb 48 c && leb c 57
 
 -- a number and the rest after its digits
 pub record Digits : Type 0 where

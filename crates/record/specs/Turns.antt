@@ -13,7 +13,8 @@ use Rattle.common.specs.Pick.{pick}
 use Rattle.common.specs.Lists.{split}
 use Rattle.lex.specs.Byte.{white}
 use Rattle.common.specs.Walk.{Turn, stop, on, turned, walk, walk-ends, walk-stops, walk-goes}
-use Rattle.record.specs.Text.{pastTurn, digit, Digits, digits, digitTurn, numberFrom, Keyed, opened, unopened, keyTurn, keyword, trailTurn}
+use Rattle.record.specs.Text.{pastTurn, Digits, digits, digitTurn, numberFrom, Keyed, opened, unopened, keyTurn, keyword, trailTurn}
+use Rattle.record.specs.Byte.{digit}
 use Rattle.record.specs.Word.{same}
 
 module _ (b : List ℕ) (i : ℕ) (h : i < length b) where

@@ -3,16 +3,13 @@
 use Prim.Native.Nat.{ℕ, _-_}
 use mathlib.Core.Bool.{Bool, true, false, _&&_, _||_}
 use mathlib.Core.List.{List, [], _∷_, map}
-use lib.Dec.{eqb, leb}
+use lib.Dec.{eqb}
 use lib.ListN.{take, drop}
 use Rattle.common.specs.Pick.{pick}
 use Rattle.record.specs.Text.{before, pastGap, trail}
 use Rattle.record.specs.declared.Word.{Word}
 use Rattle.record.specs.declared.Word.the-variants.{Header, Data, EndSection, EndFile, Other}
-
--- "letters in either case": a small letter as its capital
-abbrev pub upper : ℕ → ℕ
-upper c = pick (leb 97 c && leb c 122) (c - 32) c
+use Rattle.record.specs.Byte.{upper}
 
 -- the same bytes
 unfoldable pub same : List ℕ → List ℕ → Bool

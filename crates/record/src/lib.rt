@@ -7,8 +7,9 @@ ghost use mathlib.Core.Bool.{true, false};
 ghost use Prim.Native.Nat.{_≤_, _<_};
 ghost use lib.ListN.{length, drop};
 ghost use Rattle.lex.specs.Byte.{white};
-ghost use Rattle.record.specs.Text.{past, digit, trail, keyword, Numbered, KeyedAt};
-ghost use Rattle.record.specs.Word.{upper, same, isWord, opensData, wordIn, wordOf};
+ghost use Rattle.record.specs.Text.{past, trail, keyword, Numbered, KeyedAt};
+ghost use Rattle.record.specs.Byte.{digit, upper};
+ghost use Rattle.record.specs.Word.{same, isWord, opensData, wordIn, wordOf};
 ghost use Rattle.record.specs.Head.{dataHead, equalHead, valueHead, headerHead};
 
 // The words of document 01 that a record's text can be.

@@ -11,11 +11,12 @@ use lib.ListN.{length, getD, length-append}
 use lib.Seq.{take-at}
 use Rattle.common.specs.Pick.{pick}
 use Rattle.common.specs.Compare.{clash}
-use Rattle.record.specs.Text.{past, digit}
+use Rattle.record.specs.Text.{past}
+use Rattle.record.specs.Byte.{digit}
 use Rattle.record.specs.Turns.{bounds}
 use Rattle.record.specs.Word.{same, trimmed}
 use Rattle.record.specs.Form.{All, Free, Skipped, bytes}
-use Rattle.record.specs.FormRight.{past-is, past-only, trimmed-is, trimmed-only}
+use Rattle.record.specs.FormRight.{past-is, past-only, trimmed-is, trimmed-only, same-is, same-self}
 use Rattle.record.specs.FormRight.Parts.{first-other, all-back, all-join, all-kind}
 use Rattle.reals.specs.Scalar.{referenceOf, realOf, anyRealOf}
 use Rattle.reals.specs.Which.{realBy}
@@ -32,24 +33,6 @@ use Rattle.scalars.specs.Answer.{Given, Logical}
 use Rattle.scalars.specs.Rules.{Typed, MeasureForm, TruthForm, OptionForm}
 
 -- ---- the same bytes
--- a test that two texts are the same, both ways
-pub same-is : (x y : List ℕ) → same x y ≡ true → x ≡ y
-unfolding same
-same-is [] [] h = refl
-same-is [] (b ∷ y) h = clash (cc)
-same-is (a ∷ x) [] h = clash (cc)
-same-is (a ∷ x) (b ∷ y) h = go (eqb a b) refl (same-is x y)
-  where
-    go : (t : Bool) → eqb a b ≡ t → (same x y ≡ true → x ≡ y) → a ∷ x ≡ b ∷ y
-    go true e g = let f : same x y ≡ true = rw e at h in cc (g f, eqb-true a b e)
-    go false e g = let f : false ≡ true = rw e at h in clash (cc)
-
--- a text is the same as itself
-pub same-self : (x : List ℕ) → same x x ≡ true
-unfolding same
-same-self [] = refl
-same-self (a ∷ x) = rw (eq-eqb a a refl) (same-self x)
-
 -- texts that differ
 pub same-not : (x y : List ℕ) → (x ≡ y → ⊥) → same x y ≡ false
 same-not x y h = go (same x y) refl

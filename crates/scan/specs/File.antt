@@ -1,42 +1,20 @@
 -- Document 01, 'Reading the file' and 'Refusal numbers' 1, 2 and 8: the whole file, read in order up to its first fault.
 -- Assumes nothing.
-use Prim.Native.Nat.{ℕ, zero, suc, _+_, max}
-use mathlib.Core.Bool.{Bool, true, false}
+use Prim.Native.Nat.{ℕ, zero, suc, _+_}
+use mathlib.Core.Bool.{Bool}
 use mathlib.Core.List.{List, [], _∷_}
 use lib.Dec.{ltb}
 use lib.ListN.{length, take, drop}
 use Rattle.common.specs.Pick.{pick}
-use Rattle.error.specs.Refusal.{Refusal, refusal, Told, good, bad}
+use Rattle.error.specs.Refusal.{refusal, Told, good, bad}
 use Rattle.lex.specs.Byte.{white, place}
 use Rattle.record.specs.Text.{past}
 use Rattle.record.specs.Word.{same, marker}
-use Rattle.statement.specs.Rows.{Row, HeaderRow, Stmt, ends, refused, moved, header, record′, RowKind, header-kind, data-kind, RowOf}
-use Rattle.statement.specs.Row.{mapped}
+use Rattle.statement.specs.Rows.{Stmt, ends, refused, moved, header, record′, mapped}
 use Rattle.statement.specs.Statement.{statement}
 use Rattle.statement.specs.declared.Section.{Section}
 use Rattle.statement.specs.declared.Section.the-variants.{Outside, InHeader, InData}
-
--- the rows of a file, each kind in file order
-pub record Table : Type 0 where
-  pub headers : List HeaderRow
-  pub records : List Row
-
--- such a table by its parts
-abbrev pub table : List HeaderRow → List Row → Table
-table hs rs = record { headers = hs; records = rs }
-
--- a row before those of the rest of the file
-abbrev pub withHeader : HeaderRow → Table → Table
-withHeader w t = table (w ∷ t .headers) (t .records)
-
--- a data row likewise
-abbrev pub withRecord : Row → Table → Table
-withRecord w t = table (t .headers) (w ∷ t .records)
-
--- a row of this kind likewise
-abbrev pub withRow : (k : RowKind) → RowOf k → Table → Table
-withRow header-kind w t = withHeader w t
-withRow data-kind w t = withRecord w t
+use Rattle.scan.specs.Records.{Table, table, withHeader, withRecord}
 
 -- "8 is given exactly when a record has been read whole and the lent rows of its kind [..] are already used up": so many are
 -- used of so many; 8 stands at the record's start
@@ -78,8 +56,3 @@ unfoldable pub scanOf : List ℕ → ℕ → ℕ → Told Table
 scanOf s H R =
     pick (ltb 4294967295 (length s)) (bad (refusal 2 0 0))
     (pick (marked s) (readingOf s H R) (bad (refusal 1 0 0)))
-
--- the largest id, 0 where there is no record
-unfoldable pub largest : List Row → ℕ
-largest [] = 0
-largest (w ∷ ws) = max (w .id) (largest ws)

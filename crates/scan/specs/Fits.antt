@@ -20,12 +20,13 @@ use Rattle.record.specs.declared.Word.{Word}
 use Rattle.record.specs.declared.Word.the-variants.{Header, Data, EndSection, EndFile, Other}
 use Rattle.record.specs.declared.Head.{Head}
 use Rattle.record.specs.declared.Head.the-variants.{Bad, Complex, Simple}
-use Rattle.statement.specs.Rows.{Row, HeaderRow, Stmt, ends, refused, moved, header, record′, bound}
-use Rattle.statement.specs.Row.{mapped, sought, recordBy, recordOf, headerBy, headerOf}
+use Rattle.statement.specs.Rows.{Row, HeaderRow, Stmt, ends, refused, moved, header, record′, bound, mapped}
+use Rattle.statement.specs.Row.{sought, recordBy, recordOf, headerBy, headerOf}
 use Rattle.statement.specs.Statement.{headed, recorded, inSection, worded, ended, begun, led, statement}
 use Rattle.statement.specs.declared.Section.{Section}
 use Rattle.statement.specs.declared.Section.the-variants.{Outside, InHeader, InData}
-use Rattle.scan.specs.File.{Table, withHeader, withRecord, taken, readFrom, readingOf, marked, scanOf}
+use Rattle.scan.specs.Records.{Table, withHeader, withRecord}
+use Rattle.scan.specs.File.{taken, readFrom, readingOf, marked, scanOf}
 
 -- each place of a row is at most n
 pub record HeaderFits (n : ℕ) (w : HeaderRow) : Type 0 where

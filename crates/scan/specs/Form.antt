@@ -4,6 +4,7 @@
 -- from the table of refusal numbers.
 -- FormRight.antt shows that File.antt computes just this, and that there is no other answer.
 -- Assumes nothing.
+-- Definitions to be believed: no law, and nothing computed that no theorem ties (docs/BELIEVE.md).
 use Prim.Native.Nat.{ℕ, _+_, _≤_, _<_}
 use mathlib.Core.Path.{_≡_}
 use mathlib.Core.List.{List, [], _∷_, _++_}
@@ -11,12 +12,11 @@ use lib.ListN.{length}
 use Rattle.error.specs.Refusal.{Refusal, refusal, Told, good, bad}
 use Rattle.lex.specs.Byte.{white, place}
 use Rattle.record.specs.Form.{All, bytes}
-use Rattle.statement.specs.Rows.{ends, refused, moved, RowKind, header-kind, data-kind, RowOf, rowed, sectionOf}
-use Rattle.statement.specs.Row.{mapped}
+use Rattle.statement.specs.Rows.{ends, refused, moved, RowKind, header-kind, data-kind, RowOf, rowed, sectionOf, mapped}
 use Rattle.statement.specs.Form.{StatementForm}
 use Rattle.statement.specs.declared.Section.{Section}
 use Rattle.statement.specs.declared.Section.the-variants.{Outside}
-use Rattle.scan.specs.File.{Table, table, withRow}
+use Rattle.scan.specs.Records.{Table, table, withRow}
 
 -- rows counted by kind
 pub record PerKind : Type 0 where

@@ -21,7 +21,8 @@ use Rattle.statement.specs.Rows.{Stmt, ends, refused, moved, header, record′,
 use Rattle.statement.specs.FormRight.{Between, Stated, statement-comes, statement-only, moved-shorter, header-shorter, data-shorter}
 use Rattle.statement.specs.declared.Section.{Section}
 use Rattle.statement.specs.declared.Section.the-variants.{Outside, InHeader, InData}
-use Rattle.scan.specs.File.{Table, taken, readFrom, mark, marked, scanOf}
+use Rattle.scan.specs.Records.{Table}
+use Rattle.scan.specs.File.{taken, readFrom, mark, marked, scanOf}
 use Rattle.statement.specs.Form.{StatementForm}
 use Rattle.scan.specs.Form.{PerKind, perKind, of, more, Reads, Marked, Scans, Full}
 pub mod Numbers

@@ -12,14 +12,14 @@ use Rattle.common.specs.Pick.{pick}
 use Rattle.error.specs.Refusal.{Refusal, refusal, Told, good, bad}
 use Rattle.lex.specs.Byte.{place}
 use Rattle.lex.specs.Place.{place-drop}
-use Rattle.statement.specs.Rows.{Row, HeaderRow, Stmt, ends, refused, moved, header, record′}
-use Rattle.statement.specs.Row.{mapped}
+use Rattle.statement.specs.Rows.{Row, HeaderRow, Stmt, ends, refused, moved, header, record′, mapped}
 use Rattle.statement.specs.Statement.{statement}
 use Rattle.statement.specs.declared.Section.{Section}
 use Rattle.statement.specs.declared.Section.the-variants.{Outside, InHeader, InData}
 use Rattle.table.specs.Table.{rowsFit, headersFit, rowsLaid, headersLaid, rowPut, headerPut}
 use Rattle.table.specs.Laid.{rows-laid-none, rows-laid-more, headers-laid-none, headers-laid-more}
-use Rattle.scan.specs.File.{Table, table, withHeader, withRecord, taken, readFrom, readingOf, largest}
+use Rattle.scan.specs.Records.{Table, table, withHeader, withRecord, largest}
+use Rattle.scan.specs.File.{taken, readFrom, readingOf}
 use Rattle.scan.specs.Table.{headersOf, recordsOf, Counts, counts, countsOf}
 
 -- rows before those of the rest of the file

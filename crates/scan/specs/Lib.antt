@@ -1,3 +1,4 @@
+pub mod Records
 pub mod File
 pub mod Table
 pub mod Laws

@@ -10,7 +10,8 @@ use Rattle.lex.specs.Byte.{place}
 use Rattle.lex.specs.Grammar.{Closes}
 use Rattle.record.specs.Ordered.{complex-id, simple-ordered, header-ordered}
 use Rattle.statement.specs.Rows.{Row, HeaderRow}
-use Rattle.scan.specs.File.{Table, scanOf}
+use Rattle.scan.specs.Records.{Table}
+use Rattle.scan.specs.File.{scanOf}
 use Rattle.scan.specs.Fits.{Each}
 use Rattle.statement.specs.Form.{After, ArguedTo, Argued, DataForm, HeaderRecordForm}
 use Rattle.scan.specs.Rests.{Rest, rest-of, rest-within, balanced-rest, after-rest, scan-tells}

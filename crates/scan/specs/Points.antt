@@ -11,7 +11,8 @@ use Rattle.lex.specs.Grammar.{Begins, Opens, Led, Runs, Closes, Deep, OpenText,
 use Rattle.statement.specs.Rows.{Row, HeaderRow, Stmt, ends, refused, moved, header, record′}
 use Rattle.statement.specs.Statement.{statement}
 use Rattle.statement.specs.declared.Section.{Section}
-use Rattle.scan.specs.File.{Table, scanOf}
+use Rattle.scan.specs.Records.{Table}
+use Rattle.scan.specs.File.{scanOf}
 use Rattle.scan.specs.Fits.{Each}
 use Rattle.statement.specs.Form.{ArguedTo, Argued, DataForm, HeaderRecordForm, Record, StatementForm}
 use Rattle.statement.specs.FormRight.{statement-is}

@@ -9,10 +9,10 @@ use lib.Seq.{drop-at}
 use Rattle.error.specs.Refusal.{Refusal, refusal, Told, good, bad}
 use Rattle.lex.specs.Byte.{place}
 use Rattle.lex.specs.Grammar.{Comment, Quotation, Trivia, Runs, Balanced, Deep}
-use Rattle.statement.specs.Rows.{Row, HeaderRow, refused, moved, header, record′, header-kind, data-kind}
-use Rattle.statement.specs.Row.{mapped}
+use Rattle.statement.specs.Rows.{Row, HeaderRow, refused, moved, header, record′, header-kind, data-kind, mapped}
 use Rattle.statement.specs.declared.Section.{Section}
-use Rattle.scan.specs.File.{Table, withHeader, withRecord, scanOf}
+use Rattle.scan.specs.Records.{Table, withHeader, withRecord}
+use Rattle.scan.specs.File.{scanOf}
 use Rattle.scan.specs.Fits.{Each}
 use Rattle.statement.specs.Form.{After, DataForm, HeaderRecordForm, Record, StatementForm}
 use Rattle.scan.specs.Form.{PerKind, perKind, Reads, Scans, Reached}

@@ -12,11 +12,12 @@ use Rattle.record.specs.Text.{past, numberFrom, keyword, trail}
 use Rattle.record.specs.Word.{same, wordOf}
 use Rattle.record.specs.Head.{dataHead}
 use Rattle.record.specs.Form.{bytes}
-use Rattle.statement.specs.Rows.{Row, row, HeaderRow, header-kind, data-kind}
-use Rattle.statement.specs.Row.{mapped, recordOf}
+use Rattle.statement.specs.Rows.{Row, row, HeaderRow, header-kind, data-kind, mapped}
+use Rattle.statement.specs.Row.{recordOf}
 use Rattle.statement.specs.Statement.{statement}
 use Rattle.statement.specs.declared.Section.{Section}
-use Rattle.scan.specs.File.{Table, table, withHeader, withRecord, readFrom, scanOf}
+use Rattle.scan.specs.Records.{Table, table, withHeader, withRecord}
+use Rattle.scan.specs.File.{readFrom, scanOf}
 use Rattle.scan.specs.Form.{perKind, Reads, Scans}
 use Rattle.scan.specs.FormRight.{scans-is, scans-only}
 

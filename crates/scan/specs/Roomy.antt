@@ -5,10 +5,10 @@ use mathlib.Core.List.{List, [], _∷_}
 use native.Mathlib.Omega.{arith}
 use lib.ListN.{length}
 use Rattle.error.specs.Refusal.{Refusal, Told, good, bad}
-use Rattle.statement.specs.Rows.{header-kind, data-kind}
-use Rattle.statement.specs.Row.{mapped}
+use Rattle.statement.specs.Rows.{header-kind, data-kind, mapped}
 use Rattle.statement.specs.declared.Section.{Section}
-use Rattle.scan.specs.File.{Table, withHeader, withRecord, scanOf}
+use Rattle.scan.specs.Records.{Table, withHeader, withRecord}
+use Rattle.scan.specs.File.{scanOf}
 use Rattle.table.specs.Table.{rowsFit, headersFit}
 use Rattle.table.specs.Laid.{rows-laid-length, headers-laid-length}
 use Rattle.scan.specs.Table.{headerRoom, dataRoom, headersAfter, rowsAfter}

@@ -7,8 +7,9 @@ use native.Mathlib.Omega.{arith}
 use borrow.Author.Tests.{lt-ltb, le-ltb}
 use lib.ListN.{length}
 use Rattle.error.specs.Refusal.{Refusal, refusal, Told, good, bad}
-use Rattle.statement.specs.Row.{mapped}
-use Rattle.scan.specs.File.{Table, marked, readingOf, scanOf}
+use Rattle.statement.specs.Rows.{mapped}
+use Rattle.scan.specs.Records.{Table}
+use Rattle.scan.specs.File.{marked, readingOf, scanOf}
 use Rattle.scan.specs.Table.{headersOf, recordsOf, headersAfter, rowsAfter, Counts, countsOf}
 use Rattle.scan.specs.Laws.{Written, Left}
 

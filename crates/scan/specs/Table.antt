@@ -1,11 +1,12 @@
 -- The lent memory after a scan, and what the scan's answer says.
 -- Assumes nothing.
+-- Definitions to be believed: no law, and nothing computed that no theorem ties (docs/BELIEVE.md).
 use Prim.Native.Nat.{ℕ, min}
 use mathlib.Core.List.{List}
 use lib.ListN.{length}
 use Rattle.error.specs.Refusal.{Refusal, Told, good, bad, told}
 use Rattle.table.specs.Table.{rowsFit, headersFit, rowsLaid, headersLaid}
-use Rattle.scan.specs.File.{Table, largest}
+use Rattle.scan.specs.Records.{Table, largest}
 use Rattle.scan.specs.declared.Scanned.{Scanned}
 use Rattle.scan.specs.declared.Scanned.the-variants.{Rows, Refused}
 

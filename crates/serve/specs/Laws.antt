@@ -8,10 +8,9 @@ use Rattle.common.specs.Compare.{clash}
 use Rattle.error.specs.Refusal.{Told, good, bad, told}
 use Rattle.error.specs.declared.Fault.{Fault}
 use Rattle.table.specs.Table.{tableRows, rowNumbers}
-use Rattle.statement.specs.Row.{mapped}
-use Rattle.statement.specs.Rows.{Row}
+use Rattle.statement.specs.Rows.{mapped, Row}
 use Rattle.params.specs.Answer.{onward}
-use Rattle.scan.specs.File.{Table}
+use Rattle.scan.specs.Records.{Table}
 use Rattle.scan.specs.Table.{headersAfter, rowsAfter, countsOf}
 use Rattle.index.specs.Search.{searched}
 use Rattle.lookup.specs.Lookup.{rowFound, rowFor}

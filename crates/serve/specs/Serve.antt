@@ -1,11 +1,12 @@
--- What a file serves, by its table: a record of an id, and its unit answer. Assumes nothing.
+-- What a file serves, by its table: a record of an id, and its unit answer.
+-- Assumes nothing.
+-- Definitions to be believed: no law, and nothing computed that no theorem ties (docs/BELIEVE.md).
 use Prim.Native.Nat.{ℕ}
 use mathlib.Core.List.{List, map}
 use mathlib.Core.Option.{Option, none, some}
 use Rattle.error.specs.Refusal.{Told, good, bad, told}
-use Rattle.statement.specs.Rows.{Row}
-use Rattle.statement.specs.Statement.{rowOf}
-use Rattle.scan.specs.File.{Table}
+use Rattle.statement.specs.Rows.{Row, rowOf}
+use Rattle.scan.specs.Records.{Table}
 use Rattle.lookup.specs.Records.{lastOf}
 use Rattle.store.specs.Store.{Opens}
 use Rattle.store.specs.declared.Opened.{Opened}

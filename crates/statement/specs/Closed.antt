@@ -4,6 +4,7 @@
 -- ClosedRight.antt shows that what a closed record says does not depend on what stands around it, and ClosedRight/Parts.antt that a
 -- part's `)`, which is asked for here, is always there.
 -- Assumes nothing.
+-- Definitions to be believed: no law, and nothing computed that no theorem ties (docs/BELIEVE.md).
 use Prim.Native.Nat.{ℕ}
 use mathlib.Core.Path.{_≡_}
 use mathlib.Core.List.{List, _∷_, _++_}

@@ -21,8 +21,8 @@ use Rattle.lex.specs.Inside.{closing-inside, closes-own, closes-any}
 use Rattle.record.specs.Head.{dataHead}
 use Rattle.record.specs.Within.{data-within, header-within}
 use Rattle.record.specs.declared.Head.the-variants.{Bad}
-use Rattle.statement.specs.Rows.{Row, row, HeaderRow, headerRow, bound}
-use Rattle.statement.specs.Row.{mapped, sought, arguedTo, recordOf, headerOf}
+use Rattle.statement.specs.Rows.{Row, row, HeaderRow, headerRow, bound, mapped}
+use Rattle.statement.specs.Row.{sought, arguedTo, recordOf, headerOf}
 use Rattle.statement.specs.FormRight.{sought-at}
 use Rattle.statement.specs.Closed.{OutsideBoth, ClosedAt, ClosedData, ClosedHeader, Content, content, HeaderContent, headerContent}
 pub mod Statements

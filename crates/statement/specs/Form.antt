@@ -4,6 +4,7 @@
 -- quoted from the table of refusal numbers.
 -- FormRight.antt shows that Row.antt and Statement.antt compute just this, and that there is no other answer.
 -- Assumes nothing.
+-- Definitions to be believed: no law, and nothing computed that no theorem ties (docs/BELIEVE.md).
 use Prim.Native.Nat.{ℕ}
 use mathlib.Core.Path.{_≡_}
 use mathlib.Core.List.{List, [], _∷_, _++_}

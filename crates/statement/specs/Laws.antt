@@ -23,7 +23,8 @@ use Rattle.record.specs.Word.{wordOf}
 use Rattle.record.specs.declared.Word.{Word}
 use Rattle.statement.specs.Rows.{Row, row, HeaderRow, headerRow, Stmt, ends, refused, moved, bound}
 use Rattle.statement.specs.Row.{arguedTo, recordBy, recordOf, headerBy, headerOf}
-use Rattle.statement.specs.Statement.{headed, recorded, inSection, worded, ended, begun, led, statement, Ahead}
+use Rattle.statement.specs.Statement.{headed, recorded, inSection, worded, ended, begun, led, statement}
+use Rattle.statement.specs.Answer.{Ahead}
 use Rattle.statement.specs.declared.Said.{Said}
 use Rattle.statement.specs.declared.Said.the-variants.{Ends, Refuses, Moves, Heads, Records}
 use Rattle.statement.specs.declared.Section.{Section}

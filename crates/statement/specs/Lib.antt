@@ -1,5 +1,6 @@
 pub mod Rows
 pub mod Row
+pub mod Answer
 pub mod Statement
 pub mod Form
 pub mod FormRight

@@ -9,8 +9,8 @@ use Rattle.error.specs.Only.{faultOf, faultOf-told}
 use Rattle.lex.specs.Byte.{place}
 use Rattle.lex.specs.Place.{place-drop}
 use Rattle.statement.specs.Rows.{Row, HeaderRow, Stmt, ends, refused, moved, header, record′}
-use Rattle.statement.specs.Statement.{toldSaid, Ahead}
-use Rattle.statement.specs.Tidy.{toldTidied, TidyAhead}
+use Rattle.statement.specs.Answer.{toldSaid, Ahead, toldTidied}
+use Rattle.statement.specs.Tidy.{TidyAhead}
 use Rattle.statement.specs.declared.Said.{Said}
 use Rattle.statement.specs.declared.HeaderSpan.{HeaderSpan}
 use Rattle.statement.specs.declared.RecordSpan.{RecordSpan}

@@ -4,7 +4,7 @@ use Prim.Native.Nat.{ℕ, _+_}
 use mathlib.Core.List.{List, _++_}
 use mathlib.Core.Option.{Option, none, some}
 use lib.ListN.{drop}
-use Rattle.error.specs.Refusal.{refusal, Told, good, bad}
+use Rattle.error.specs.Refusal.{refusal, Told, bad}
 use Rattle.lex.specs.Byte.{place}
 use Rattle.lex.specs.Answer.{Sought, at, fault, placed}
 use Rattle.lex.specs.Search.{closing}
@@ -12,12 +12,7 @@ use Rattle.record.specs.Text.{before}
 use Rattle.record.specs.Head.{dataHead, headerHead}
 use Rattle.record.specs.declared.Head.{Head}
 use Rattle.record.specs.declared.Head.the-variants.{Bad, Complex, Simple}
-use Rattle.statement.specs.Rows.{Row, row, HeaderRow, headerRow, bound}
-
--- an answer's value by a function, or its refusal
-abbrev pub mapped : {A B : Type 0} → (A → B) → Told A → Told B
-mapped f (good a) = good (f a)
-mapped f (bad q) = bad q
+use Rattle.statement.specs.Rows.{Row, row, HeaderRow, headerRow, bound, mapped}
 
 -- what of the rest o stands before the bound
 abbrev pub upTo : Option (List ℕ) → List ℕ → List ℕ

@@ -1,11 +1,14 @@
 -- Document 01, 'Reading the file': the rows that records give, by kind, and what a statement says. Definitions only.
 -- Assumes nothing.
+-- Definitions to be believed: no law, and nothing computed that no theorem ties (docs/BELIEVE.md).
 use Prim.Native.Nat.{ℕ}
 use mathlib.Core.List.{List}
 use mathlib.Core.Option.{Option, none}
-use Rattle.error.specs.Refusal.{Refusal}
+use Rattle.error.specs.Refusal.{Refusal, refusal, Told, good, bad}
 use Rattle.statement.specs.declared.Section.{Section}
 use Rattle.statement.specs.declared.Section.the-variants.{InHeader, InData}
+use Rattle.statement.specs.declared.HeaderSpan.{HeaderSpan}
+use Rattle.statement.specs.declared.RecordSpan.{RecordSpan}
 
 -- "A row holds id, keyword start and end (0, 0 if complex), argument start and end, complex 0 or 1."
 pub record Row : Type 0 where
@@ -64,3 +67,16 @@ rowed data-kind w ys t = record′ w ys t
 abbrev pub sectionOf : RowKind → Section
 sectionOf header-kind = InHeader
 sectionOf data-kind = InData
+
+-- an answer's value by a function, or its refusal
+abbrev pub mapped : {A B : Type 0} → (A → B) → Told A → Told B
+mapped f (good a) = good (f a)
+mapped f (bad q) = bad q
+
+-- what the code's answers say
+abbrev pub rowOf : RecordSpan → Row
+rowOf r = row (r .id) (r .keyword .start) (r .keyword .end) (r .args .start) (r .args .end) (r .complex)
+
+-- a header row likewise
+abbrev pub headerRowOf : HeaderSpan → HeaderRow
+headerRowOf r = headerRow (r .keyword .start) (r .keyword .end) (r .args .start) (r .args .end)

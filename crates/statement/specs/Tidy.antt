@@ -11,8 +11,7 @@ use Rattle.record.specs.Text.{past, before}
 use Rattle.record.specs.Head.{dataHead}
 use Rattle.record.specs.declared.Head.{Head}
 use Rattle.record.specs.declared.Head.the-variants.{Bad, Complex, Simple}
-use Rattle.statement.specs.Rows.{Row, row, Stmt, ends, refused, moved, header, record′}
-use Rattle.statement.specs.Statement.{rowOf}
+use Rattle.statement.specs.Rows.{row, Stmt, ends, refused, moved, header, record′}
 use Rattle.statement.specs.declared.Tidied.{Tidied}
 use Rattle.statement.specs.declared.Tidied.the-variants.{Untidy, Tidy}
 
@@ -44,11 +43,6 @@ tidyEnded s ys (c ∷ r) = tidyBy s ys (c ∷ r) (dataHead (before ys (c ∷ r))
 -- the record that follows whitespace, by its first `;`
 unfoldable pub tidyRecord : List ℕ → List ℕ → Stmt
 tidyRecord s xs = tidyEnded s (past white xs) (past unended (past white xs))
-
--- what `tidy_record` answers
-abbrev pub toldTidied : List ℕ → Tidied → Stmt
-toldTidied s Untidy = ends
-toldTidied s (Tidy r p n) = record′ (rowOf r) (drop p s) (drop n s)
 
 -- the place after such a record lies after the place i and after the record's start
 abbrev pub TidyAhead : ℕ → ℕ → Tidied → Type 0

@@ -26,8 +26,8 @@ use Rattle.record.specs.declared.Head.{Head}
 use Rattle.record.specs.declared.Head.the-variants.{Bad, Complex, Simple}
 use Rattle.record.specs.declared.Word.{Word}
 use Rattle.record.specs.declared.Word.the-variants.{Other}
-use Rattle.statement.specs.Rows.{Row, row, ends, record′, bound}
-use Rattle.statement.specs.Row.{mapped, sought, recordBy, recordOf}
+use Rattle.statement.specs.Rows.{Row, row, ends, record′, bound, mapped}
+use Rattle.statement.specs.Row.{sought, recordBy, recordOf}
 use Rattle.statement.specs.Statement.{recorded, worded, ended, led, statement}
 use Rattle.statement.specs.Tidy.{unended, tidy, tidyBy, tidyEnded, tidyRecord}
 use Rattle.statement.specs.TidyLaws.{Whole}

@@ -14,8 +14,8 @@ use Rattle.record.specs.Text.{past, digits, numberFrom}
 use Rattle.record.specs.Head.{dataHead}
 use Rattle.record.specs.declared.Head.{Head}
 use Rattle.record.specs.declared.Head.the-variants.{Bad, Complex, Simple}
-use Rattle.statement.specs.Rows.{Stmt, record′}
-use Rattle.statement.specs.Statement.{rowOf, begun}
+use Rattle.statement.specs.Rows.{Stmt, record′, rowOf}
+use Rattle.statement.specs.Statement.{begun}
 use Rattle.statement.specs.Tidy.{unended, tidy}
 use Rattle.statement.specs.declared.Section.{Section}
 use Rattle.statement.specs.declared.IdRead.{IdRead}

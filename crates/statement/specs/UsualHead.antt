@@ -11,7 +11,8 @@ use Rattle.common.specs.Lists.{split, drop-end}
 use Rattle.common.specs.Compare.{clash}
 use Rattle.lex.specs.Byte.{white}
 use Rattle.lex.specs.Grammar.{Begins}
-use Rattle.record.specs.Text.{past, digit, digits, numberFrom, trail}
+use Rattle.record.specs.Text.{past, digits, numberFrom, trail}
+use Rattle.record.specs.Byte.{digit}
 use Rattle.record.specs.Form.{Free, NoGapFirst, NoParen, valueOf, Id, Keyword, Lead, HeadForm}
 use Rattle.record.specs.FormRight.{number-is, trail-only, headform-only}
 use Rattle.record.specs.FormRight.Parts.{all-front, all-back, Tailed, tail-split}

@@ -32,8 +32,8 @@ use Rattle.record.specs.Word.{wordOf}
 use Rattle.record.specs.declared.Head.{Head}
 use Rattle.record.specs.declared.Head.the-variants.{Bad, Complex, Simple}
 use Rattle.record.specs.declared.Word.the-variants.{Other}
-use Rattle.statement.specs.Rows.{Row, row, Stmt, record′}
-use Rattle.statement.specs.Row.{mapped, argued, recordOf}
+use Rattle.statement.specs.Rows.{Row, row, Stmt, record′, mapped}
+use Rattle.statement.specs.Row.{argued, recordOf}
 use Rattle.statement.specs.Statement.{begun}
 use Rattle.statement.specs.Laws.{text-length, record-complex, record-simple, section-data, worded-at, begun-found}
 use Rattle.statement.specs.Tidy.{unended, tidy}

@@ -10,10 +10,10 @@ use Rattle.lex.specs.Local.{trivia-shorter}
 use Rattle.lex.specs.Right.{trivia-only}
 use Rattle.record.specs.Form.{Lead, HeadForm, Keyword}
 use Rattle.record.specs.declared.Head.the-variants.{Complex, Simple}
-use Rattle.statement.specs.Rows.{Row, HeaderRow, Stmt, record′, header-kind, data-kind}
-use Rattle.statement.specs.Row.{mapped}
+use Rattle.statement.specs.Rows.{Row, HeaderRow, Stmt, record′, header-kind, data-kind, mapped}
 use Rattle.statement.specs.declared.Section.{Section}
-use Rattle.scan.specs.File.{Table, withHeader, withRecord, scanOf}
+use Rattle.scan.specs.Records.{Table, withHeader, withRecord}
+use Rattle.scan.specs.File.{scanOf}
 use Rattle.statement.specs.Form.{DataForm, Record, StatementForm}
 use Rattle.scan.specs.Form.{PerKind, Reads, Scans}
 use Rattle.scan.specs.FormRight.{scans-is}

@@ -8,15 +8,16 @@ use native.Mathlib.Omega.{arith}
 use lib.ListN.{length}
 use Rattle.error.specs.Refusal.{Told, good, bad}
 use Rattle.table.specs.Table.{rowsFit, idOf}
-use Rattle.statement.specs.Row.{mapped}
-use Rattle.scan.specs.File.{Table, scanOf, largest}
+use Rattle.statement.specs.Rows.{mapped}
+use Rattle.scan.specs.Records.{Table, largest}
+use Rattle.scan.specs.File.{scanOf}
 use Rattle.scan.specs.Table.{Counts, counts, countsOf, dataRoom}
 use Rattle.scan.specs.Rooms.{scan-fit}
 use Rattle.index.specs.Order.{tableRoom}
 use Rattle.index.specs.Lookup.{lookupOf}
 use Rattle.index.specs.Index.{Built}
 use Rattle.index.specs.Search.{searched}
-use Rattle.index.specs.SearchRight.{get-right}
+use Rattle.index.specs.SearchRight.{found-right}
 use Rattle.index.specs.declared.Ids.{Ids}
 use Rattle.store.specs.Few.{scan-few}
 
@@ -42,5 +43,5 @@ all-indexed s rows H slots h r m e =
 -- "Lookup of an id answers like a map written to in file order": over what opening a file left
 pub open-right : (rows old slots : List ℕ) (n k : ℕ) (b : Ids) → tableRoom (rowsFit (length rows)) (length old) n ≡ n → Built (idOf rows) n old slots b → searched rows slots b k ≡ lookupOf (idOf rows) n k
 open-right rows old slots n k b e h =
-    get-right (idOf rows) (rowsFit (length rows)) old slots n k b (subst (λ (z : ℕ). Built (idOf rows) z old slots b) (sym e) h)
+    found-right rows old slots n k b (subst (λ (z : ℕ). Built (idOf rows) z old slots b) (sym e) h)
     ∙ ap (λ (z : ℕ). lookupOf (idOf rows) z k) e

@@ -9,7 +9,8 @@ use Rattle.error.specs.Only.{faultOf, faultOf-told}
 use Rattle.error.specs.declared.Fault.{Fault}
 use Rattle.table.specs.Table.{idOf}
 use Rattle.scan.specs.Table.{Counts, counts}
-use Rattle.index.specs.Index.{Built, built-slots-only, built-only}
+use Rattle.index.specs.Index.{Built}
+use Rattle.index.specs.IndexLaws.{built-slots-only, built-only}
 use Rattle.index.specs.declared.Ids.{Ids}
 use Rattle.lookup.specs.declared.Tables.{Tables}
 use Rattle.store.specs.Store.{toldOpened, Indexed, Opens}

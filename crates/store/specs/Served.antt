@@ -10,7 +10,8 @@ use lib.ListN.{length, getElem?}
 use Rattle.error.specs.Refusal.{Told, good, bad}
 use Rattle.table.specs.Table.{rowsFit, rowNumbers, idOf}
 use Rattle.table.specs.Laid.{rows-laid-in, row-is}
-use Rattle.scan.specs.File.{Table, scanOf}
+use Rattle.scan.specs.Records.{Table}
+use Rattle.scan.specs.File.{scanOf}
 use Rattle.scan.specs.Table.{rowsAfter, headerRoom, dataRoom}
 use Rattle.scan.specs.Rooms.{scan-fit}
 use Rattle.index.specs.Order.{tableRoom}
@@ -19,7 +20,8 @@ use Rattle.index.specs.Index.{Built}
 use Rattle.index.specs.Search.{searched}
 use Rattle.index.specs.declared.Ids.{Ids}
 use Rattle.lookup.specs.Lookup.{rowFound}
-use Rattle.lookup.specs.Records.{lastOf, LastForm, last-is, found-last}
+use Rattle.lookup.specs.Records.{lastOf, last-is, found-last}
+use Rattle.lookup.specs.Rules.{LastForm}
 use Rattle.store.specs.Few.{scan-few}
 use Rattle.lookup.specs.declared.Tables.{Tables}
 use Rattle.store.specs.Laws.{counted, open-right}

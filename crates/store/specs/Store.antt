@@ -1,13 +1,15 @@
 -- What opening a file answers, and what it leaves in the lent slots.
 -- Assumes nothing.
+-- Definitions to be believed: no law, and nothing computed that no theorem ties (docs/BELIEVE.md).
 use Prim.Native.Nat.{ℕ}
 use mathlib.Core.Path.{_≡_}
 use mathlib.Core.List.{List}
 use lib.ListN.{length}
 use Rattle.error.specs.Refusal.{Told, good, bad, told}
 use Rattle.table.specs.Table.{idOf}
-use Rattle.statement.specs.Row.{mapped}
-use Rattle.scan.specs.File.{Table, scanOf}
+use Rattle.statement.specs.Rows.{mapped}
+use Rattle.scan.specs.Records.{Table}
+use Rattle.scan.specs.File.{scanOf}
 use Rattle.scan.specs.Table.{headerRoom, dataRoom, headersAfter, rowsAfter, Counts, counts, countsOf}
 use Rattle.index.specs.Index.{Built}
 use Rattle.store.specs.declared.Opened.{Opened}

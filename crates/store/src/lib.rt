@@ -3,7 +3,7 @@
 // As `StepFile::from_bytes` of the Rust's lib.rs. What goes with the lent tables is one struct by value.
 ghost use mathlib.Core.Path.{_≡_};
 ghost use lib.ListN.{length};
-ghost use Rattle.statement.specs.Row.{mapped};
+ghost use Rattle.statement.specs.Rows.{mapped};
 ghost use Rattle.scan.specs.File.{scanOf};
 ghost use Rattle.scan.specs.Table.{headerRoom, dataRoom, countsOf, headersAfter, rowsAfter};
 ghost use Rattle.store.specs.Store.{toldOpened, Indexed};

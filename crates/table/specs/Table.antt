@@ -2,6 +2,7 @@
 -- This file and Laws.antt are the only ones that know it. What stands above speaks of row k, of how many rows there are, and of the
 -- memory after rows were laid or one was put.
 -- Assumes nothing.
+-- Definitions to be believed: no law, and nothing computed that no theorem ties (docs/BELIEVE.md).
 use Prim.Native.Nat.{ℕ, _+_, _*_, _/_, _%_, min}
 use mathlib.Core.List.{List, [], _∷_, _++_}
 use lib.Dec.{ltb}

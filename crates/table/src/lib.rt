@@ -9,7 +9,7 @@ ghost use lib.Dec.{ltb};
 ghost use mathlib.Core.List.{[]};
 ghost use lib.ListN.{length};
 ghost use lib.Seq.{sets};
-ghost use Rattle.statement.specs.Statement.{rowOf, headerRowOf};
+ghost use Rattle.statement.specs.Rows.{rowOf, headerRowOf};
 ghost use Rattle.table.specs.Table.{rowsFit, headersFit, idOf, rowNumbers, headerNumbers, six, four, rowPut, headerPut, narrowRow, narrowHeader, narrow};
 use statement::HeaderSpan;
 use statement::Range;

@@ -19,8 +19,7 @@ use Rattle.error.specs.declared.Fault.{Fault}
 use Rattle.record.specs.Turns.{bounds}
 use Rattle.nearest.specs.Near.{near, nearUnits}
 use Rattle.table.specs.Table.{tableRows, rowNumbers}
-use Rattle.statement.specs.Rows.{Row, HeaderRow}
-use Rattle.statement.specs.Statement.{headerRowOf}
+use Rattle.statement.specs.Rows.{Row, HeaderRow, headerRowOf}
 use Rattle.statement.specs.declared.HeaderSpan.{HeaderSpan}
 use Rattle.kinds.specs.declared.Kind.{Kind}
 use Rattle.kinds.specs.declared.Kind.the-variants.{GeometricRepresentationContext, GlobalUnitAssignedContext, GlobalUncertaintyAssignedContext, LengthUnit, PlaneAngleUnit, SolidAngleUnit, UncertaintyMeasureWithUnit}

@@ -9,7 +9,7 @@ use Rattle.error.specs.Refusal.{Told, good}
 use Rattle.statement.specs.Rows.{Row}
 use Rattle.table.specs.Table.{tableRows, rowNumbers}
 use Rattle.table.specs.Laid.{rows-laid-in, row-is}
-use Rattle.scan.specs.File.{Table}
+use Rattle.scan.specs.Records.{Table}
 use Rattle.scan.specs.Table.{rowsAfter}
 use Rattle.factors.specs.Thing.{Thing, thingOf}
 use Rattle.units.specs.Code.{thingsFrom}

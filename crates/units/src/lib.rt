@@ -9,7 +9,7 @@ pub use listed::units_of_context;
 ghost use mathlib.Core.Path.{_≡_};
 ghost use Rattle.table.specs.Table.{tableRows, rowNumbers};
 ghost use Rattle.lookup.specs.Lookup.{rowFor};
-ghost use Rattle.statement.specs.Statement.{rowOf};
+ghost use Rattle.statement.specs.Rows.{rowOf};
 ghost use Rattle.params.specs.Answer.{onward};
 ghost use Rattle.factors.specs.Thing.{thingOf, findOf};
 ghost use Rattle.units.specs.Units.{isContext, resolveOf, defaults};

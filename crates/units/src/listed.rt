@@ -1,7 +1,7 @@
 // The units and the tolerance that a context lists.
 ghost use mathlib.Core.Path.{_≡_};
 ghost use Rattle.lookup.specs.Lookup.{rowFor};
-ghost use Rattle.statement.specs.Statement.{rowOf};
+ghost use Rattle.statement.specs.Rows.{rowOf};
 ghost use Rattle.params.specs.Answer.{onward};
 ghost use Rattle.scalars.specs.Answer.{toldNextReal};
 ghost use Rattle.factors.specs.Thing.{goodBy, thingOf, findOf};

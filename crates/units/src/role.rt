@@ -1,6 +1,6 @@
 // What a unit of a list measures.
 ghost use mathlib.Core.Path.{_≡_};
-ghost use Rattle.statement.specs.Statement.{rowOf, headerRowOf};
+ghost use Rattle.statement.specs.Rows.{rowOf, headerRowOf};
 ghost use Rattle.params.specs.Answer.{onward};
 ghost use Prim.Native.Nat.{_≤_};
 ghost use lib.ListN.{length};

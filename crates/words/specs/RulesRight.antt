@@ -11,6 +11,7 @@ use lib.Seq.{length-take-le, take-at}
 use Rattle.common.specs.Pick.{pick}
 use Rattle.common.specs.Compare.{clash}
 use Rattle.error.specs.Refusal.{refusal, Told, good, bad}
+use Rattle.record.specs.FormRight.{same-is, same-self}
 use Rattle.record.specs.Word.{same}
 use Rattle.record.specs.Form.{bytes}
 use Rattle.utf8.specs.Utf8.{validOf}
@@ -25,7 +26,7 @@ use Rattle.strings.specs.declared.Decoded.the-variants.{Written, Short}
 use Rattle.params.specs.Answer.{Span, span}
 use Rattle.scalars.specs.Scalars.{isUnset}
 use Rattle.scalars.specs.Laws.{part-part}
-use Rattle.scalars.specs.RulesRight.{same-is, same-self, same-not}
+use Rattle.scalars.specs.RulesRight.{same-not}
 use Rattle.words.specs.Words.{isName, nameAt, isString, bodyOf, decodedAt, stringAt, roomAt}
 use Rattle.words.specs.Answer.{partOf, Shown}
 use Rattle.words.specs.Rules.{Name, NameForm, Quoted, Plainly, TextForm}

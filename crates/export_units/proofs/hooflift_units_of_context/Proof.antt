@@ -3,9 +3,7 @@ use mathlib.Core.Path.{_∙_, sym, ap}
 use lib.Ieee.{binary64, toBits}
 use mathlib.Core.Option.{Option, some}
 use Rattle.error.specs.Refusal.{Told}
-use Rattle.statement.specs.Rows.{Row}
-use Rattle.statement.specs.Row.{mapped}
-use Rattle.statement.specs.Statement.{rowOf}
+use Rattle.statement.specs.Rows.{Row, mapped, rowOf}
 use Rattle.lookup.specs.Lookup.{rowIn, toldEntry, rowFor}
 use Rattle.lookup.specs.declared.Tables.{Tables}
 use Rattle.factors.specs.Thing.{findOf}

@@ -8,7 +8,7 @@ use denote.Ref.{now}
 use lib.Ieee.{binary64, toBits}
 use Rattle.params.specs.Answer.{Read}
 use Rattle.scalars.specs.Answer.{toldNextReal, toldNextRef}
-use Rattle.statement.specs.Statement.{rowOf}
+use Rattle.statement.specs.Rows.{rowOf}
 use Rattle.lookup.specs.Lookup.{toldEntry, rowFor}
 use Rattle.factors.specs.Thing.{thingOf, findOf}
 use Rattle.factors.specs.Factor.{lengthOf}

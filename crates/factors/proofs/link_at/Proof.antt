@@ -1,7 +1,7 @@
 use borrow.Author.Needs.{needs}
 use mathlib.Core.Path.{sym, _∙_, ap}
 use denote.Ref.{now}
-use Rattle.statement.specs.Statement.{rowOf}
+use Rattle.statement.specs.Rows.{rowOf}
 use Rattle.factors.specs.Thing.{thingOf}
 use Rattle.factors.specs.Answer.{toldRun}
 use Rattle.factors.specs.Laws.{link-refused, link-si, link-late, link-neither, link-conversion}

@@ -3,7 +3,7 @@ use mathlib.Core.Path.{sym, _∙_, ap}
 use denote.Ref.{now}
 use Prim.Native.Nat.{ℕ}
 use Rattle.params.specs.Answer.{Read}
-use Rattle.statement.specs.Statement.{rowOf}
+use Rattle.statement.specs.Rows.{rowOf}
 use Rattle.lookup.specs.Lookup.{toldEntry, toldSpan, rowFor}
 use Rattle.scalars.specs.Answer.{toldNextReal}
 use Rattle.factors.specs.Thing.{findOf}

@@ -2,7 +2,7 @@ use borrow.Author.Needs.{needs}
 use mathlib.Core.Path.{sym, _∙_, ap}
 use borrow.Author.Tests.{eq-eqb, ne-eqb}
 use denote.Ref.{now}
-use Rattle.statement.specs.Statement.{rowOf}
+use Rattle.statement.specs.Rows.{rowOf}
 use Rattle.lookup.specs.Lookup.{toldSpan}
 use Rattle.parts.specs.Rules.{toldNext}
 use Rattle.factors.specs.Unit.{measureRun}

@@ -4,7 +4,7 @@ use denote.Ref.{now}
 use lib.Dec.{eqb}
 use Rattle.kinds.specs.Rules.{rankOf}
 use Rattle.kinds.specs.declared.Kind.{Kind}
-use Rattle.statement.specs.Statement.{rowOf}
+use Rattle.statement.specs.Rows.{rowOf}
 use Rattle.lookup.specs.Lookup.{toldSpan}
 use Rattle.parts.specs.Rules.{toldNext}
 use Rattle.factors.specs.Thing.{selfOr}

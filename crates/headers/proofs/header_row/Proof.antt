@@ -4,7 +4,7 @@ use mathlib.Core.Path.{_≡_, sym, _∙_, ap}
 use Prim.Native.Nat.{ℕ, _-_}
 use borrow.Author.Needs.{needs}
 use denote.Ref.{now}
-use Rattle.lookup.specs.Lookup.{firstFrom}
+use Rattle.lookup.specs.First.{firstFrom}
 use Rattle.lookup.specs.Laws.{first-stops, first-goes, first-ends}
 use Rattle.headers.specs.Header.{isHeader}
 use Rattle.headers.proofs.header_row.Statement.{statement}

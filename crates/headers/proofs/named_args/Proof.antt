@@ -3,7 +3,7 @@ use mathlib.Core.Path.{_∙_, ap}
 use Prim.Native.Nat.{_-_}
 use denote.Ref.{now}
 use lib.ListN.{length}
-use Rattle.statement.specs.Statement.{headerRowOf}
+use Rattle.statement.specs.Rows.{headerRowOf}
 use Rattle.headers.specs.Header.{argued}
 use Rattle.headers.specs.Laws.{argued-backwards, argued-outside, argued-by}
 use Rattle.headers.proofs.named_args.Statement.{statement}

@@ -1,7 +1,7 @@
 use borrow.Author.Needs.{needs}
 use mathlib.Core.Path.{_∙_}
 use denote.Ref.{now}
-use Rattle.statement.specs.Statement.{headerRowOf}
+use Rattle.statement.specs.Rows.{headerRowOf}
 use Rattle.headers.specs.Laws.{named-backwards, named-outside, named-by}
 use Rattle.headers.proofs.span_named.Statement.{statement}
 use Rattle.headers.proofs.span_named.Tie as tie

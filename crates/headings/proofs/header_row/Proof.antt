@@ -47,7 +47,7 @@ use denote.Triple.Table.{entered, cited}
 use denote.Triple.Walked.{says, Stays, stay-none-slice, walkOf, goes-none-slice, Walks, ends-at, walked, walk-meets}
 use denote.Exit.{yes}
 use Rattle.statement.specs.declared.HeaderSpan.{HeaderSpan}
-use Rattle.statement.specs.Statement.{headerRowOf}
+use Rattle.statement.specs.Rows.{headerRowOf}
 use Rattle.lookup.specs.declared.Place.{Place}
 use Rattle.lookup.specs.declared.Place.the-variants.{At as FoundAt, Nothing}
 use Rattle.lookup.specs.Lookup.{toldPlace}

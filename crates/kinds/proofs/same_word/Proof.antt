@@ -1,6 +1,7 @@
 use Rattle.common.specs.Lists.{drop-end}
 use Rattle.record.specs.Turns.{same-lengths}
-use Rattle.record.specs.Word.{same, upper}
+use Rattle.record.specs.Word.{same}
+use Rattle.record.specs.Byte.{upper}
 use Rattle.kinds.specs.Words.{both-stops, both-goes}
 use lib.ListN.{length, drop, length-map}
 use denote.Ref.{now}

@@ -6,7 +6,8 @@ use denote.Ref.{now}
 use lib.Dec.{eqb}
 use Rattle.kinds.specs.Rules.{rankOf}
 use Rattle.kinds.specs.declared.Kind.{Kind}
-use Rattle.lookup.specs.Lookup.{firstFrom, isKind, kindIn}
+use Rattle.lookup.specs.First.{firstFrom}
+use Rattle.lookup.specs.Lookup.{isKind, kindIn}
 use Rattle.lookup.specs.Laws.{first-stops, first-goes, first-ends}
 use Rattle.lookup.proofs.by_kind.Statement.{statement}
 use Rattle.lookup.proofs.by_kind.Tie as tie

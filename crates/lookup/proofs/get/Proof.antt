@@ -3,7 +3,7 @@ use mathlib.Core.Path.{sym, _∙_, ap}
 use mathlib.Core.Option.{some}
 use Prim.Native.Nat.{_-_}
 use denote.Ref.{now}
-use Rattle.index.specs.Search.{toldFound}
+use Rattle.index.specs.Answer.{toldFound}
 use Rattle.table.specs.Table.{rowNumbers}
 use Rattle.lookup.specs.Lookup.{rowFound}
 use Rattle.lookup.proofs.get.Statement.{statement}

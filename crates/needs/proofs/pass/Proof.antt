@@ -4,7 +4,7 @@ use native.Mathlib.Omega.{arith}
 use mathlib.Core.Path.{_∙_, sym, ap}
 use denote.Ref.{now}
 use lib.ListN.{length}
-use Rattle.statement.specs.Statement.{toldSaid}
+use Rattle.statement.specs.Answer.{toldSaid}
 use Rattle.needs.specs.Laws.{Counting, counting-starts, counting-ends, counting-refused, counting-moves, counting-header, counting-record}
 use Rattle.needs.proofs.pass.Statement.{statement}
 use Rattle.needs.proofs.pass.Tie as tie

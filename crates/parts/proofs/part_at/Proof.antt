@@ -1,10 +1,9 @@
 use borrow.Author.Needs.{needs}
-use Rattle.statement.specs.Row.{mapped}
+use Rattle.statement.specs.Rows.{mapped, headerRow}
 use Rattle.lex.specs.Answer.{toldFound}
 use mathlib.Core.Path.{sym, _∙_, ap}
 use Prim.Native.Nat.{ℕ, _+_}
 use mathlib.Core.Option.{some}
-use Rattle.statement.specs.Rows.{headerRow}
 use Rattle.parts.proofs.part_at.Statement.{statement}
 use Rattle.parts.proofs.part_at.Tie as tie
 

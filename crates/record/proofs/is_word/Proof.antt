@@ -1,6 +1,7 @@
 use Rattle.common.specs.Lists.{drop-end}
 use Rattle.record.specs.Turns.{same-lengths, same-stops, same-goes}
-use Rattle.record.specs.Word.{same, upper, isWord}
+use Rattle.record.specs.Word.{same, isWord}
+use Rattle.record.specs.Byte.{upper}
 use lib.ListN.{length, drop, length-map}
 use denote.Ref.{now}
 use borrow.Author.Tests.{eq-eqb, ne-eqb}

@@ -8,7 +8,8 @@ use lib.Dec.{eqb}
 use borrow.Author.Tests.{ne-eqb, not-true}
 use Rattle.common.specs.Compare.{clash}
 use Rattle.lex.specs.Byte.{white}
-use Rattle.record.specs.Text.{past, pastGap, digit}
+use Rattle.record.specs.Text.{past, pastGap}
+use Rattle.record.specs.Byte.{digit}
 use Rattle.record.specs.Turns.{bounds}
 use Rattle.record.specs.Form.{NotFirst, Gap, NoGapFirst, Gapped, NoParen}
 use Rattle.record.specs.FormRight.Parts.{first-other, first-part, all-join, all-kind, Spanned, span, past-pass, past-halt}

@@ -11,7 +11,8 @@ use Rattle.common.specs.Pick.{pick}
 use Rattle.common.specs.Compare.{clash}
 use Rattle.lex.specs.Byte.{white}
 use Rattle.common.specs.Walk.{Turn, on, walk}
-use Rattle.record.specs.Text.{past, digit, digits, numberFrom}
+use Rattle.record.specs.Text.{past, digits, numberFrom}
+use Rattle.record.specs.Byte.{digit}
 use Rattle.record.specs.Form.{All, NotFirst, NotLast, Skipped, Gap, NoGapLast, valueOf}
 
 -- where whatever answers is a, and something answers, a answers

@@ -3,7 +3,7 @@ use Rattle.scan.specs.Fits.{statement-fits, header-fits-more, record-fit
 use Rattle.scan.specs.Laws.{Going, going-starts, going-refused, going-moves, header-full, record-full, going-header, going-record, done, failed}
 use Rattle.scan.specs.Run.{ran-on, ran-length, going-ran, tidying-ran}
 use Rattle.scan.specs.Neat.{Tidying, tidying-starts, tidying-ends, tidying-moves, tidying-header, tidying-record}
-use Rattle.statement.specs.Statement.{toldSaid}
+use Rattle.statement.specs.Answer.{toldSaid}
 use lib.ListN.{length, drop}
 use denote.Ref.{now}
 use borrow.Author.Needs.{needs}

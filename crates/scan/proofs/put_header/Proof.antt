@@ -1,8 +1,7 @@
 use Prim.Native.Nat.{ℕ}
 use mathlib.Core.Path.{refl, sym, _∙_, ap}
 use borrow.Author.Tests.{not-true, not-false}
-use Rattle.statement.specs.Rows.{HeaderRow}
-use Rattle.statement.specs.Statement.{headerRowOf}
+use Rattle.statement.specs.Rows.{HeaderRow, headerRowOf}
 use Rattle.table.specs.Table.{headerPut}
 use Rattle.table.specs.Laws.{narrow-header}
 use borrow.Author.Needs.{needs}

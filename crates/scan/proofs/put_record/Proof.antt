@@ -1,7 +1,6 @@
 use mathlib.Core.Path.{refl, _∙_, ap}
 use borrow.Author.Tests.{not-true, not-false}
-use Rattle.statement.specs.Rows.{Row}
-use Rattle.statement.specs.Statement.{rowOf}
+use Rattle.statement.specs.Rows.{Row, rowOf}
 use Rattle.table.specs.Table.{rowPut}
 use Rattle.table.specs.Laws.{narrow-row}
 use borrow.Author.Needs.{needs}

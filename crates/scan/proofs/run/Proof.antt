@@ -1,8 +1,8 @@
 use Rattle.scan.specs.Fits.{statement-fits, record-fits-more}
 use Rattle.scan.specs.Neat.{Neat, both, neat-tidy, neat-row}
 use Rattle.scan.specs.Run.{Ran, ran-length}
-use Rattle.statement.specs.Statement.{rowOf}
-use Rattle.statement.specs.Tidy.{toldTidied}
+use Rattle.statement.specs.Rows.{rowOf}
+use Rattle.statement.specs.Answer.{toldTidied}
 use Rattle.statement.specs.TidyRight.{tidy-said}
 use Rattle.statement.specs.declared.Section.the-variants.{InData}
 use lib.ListN.{length, drop}

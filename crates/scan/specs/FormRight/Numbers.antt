@@ -4,12 +4,11 @@ use mathlib.Core.Path.{_≡_}
 use mathlib.Core.List.{List}
 use native.Mathlib.Omega.{arith}
 use Rattle.error.specs.Refusal.{Refusal, Told, good, bad}
-use Rattle.statement.specs.Rows.{RowKind, header-kind, data-kind}
-use Rattle.statement.specs.Row.{mapped}
+use Rattle.statement.specs.Rows.{RowKind, header-kind, data-kind, mapped}
 use Rattle.statement.specs.FormRight.{Between, statement-number}
 use Rattle.statement.specs.declared.Section.{Section}
 use Rattle.statement.specs.declared.Section.the-variants.{Outside}
-use Rattle.scan.specs.File.{Table, withRow}
+use Rattle.scan.specs.Records.{Table, withRow}
 use Rattle.scan.specs.Form.{PerKind, perKind, of, more, Within, Reads, Scans, Reached, Full}
 
 -- an answer whose refusal, if it is one, is so

@@ -1,5 +1,5 @@
 use Rattle.statement.specs.Laws.{section-outside, section-header, section-data}
-use Rattle.statement.specs.Statement.{toldHeader, toldRecord}
+use Rattle.statement.specs.Answer.{toldHeader, toldRecord}
 use denote.Ref.{now}
 use native.Mathlib.Omega.{arith}
 use mathlib.Core.Path.{sym, _∙_, ap}

@@ -1,5 +1,5 @@
 use Rattle.statement.specs.TidyLaws.{tidy-noted}
-use Rattle.statement.specs.Statement.{rowOf}
+use Rattle.statement.specs.Rows.{rowOf}
 use denote.Ref.{now}
 use native.Mathlib.Omega.{arith}
 use mathlib.Core.Path.{sym}

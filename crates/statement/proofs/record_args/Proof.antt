@@ -1,4 +1,4 @@
-use Rattle.statement.specs.Row.{mapped}
+use Rattle.statement.specs.Rows.{mapped}
 use Rattle.lex.specs.Answer.{toldFound}
 use mathlib.Core.Path.{sym, _∙_, ap}
 use borrow.Author.Needs.{needs}

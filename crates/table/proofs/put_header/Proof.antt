@@ -1,4 +1,4 @@
-use Rattle.statement.specs.Statement.{headerRowOf}
+use Rattle.statement.specs.Rows.{headerRowOf}
 use Rattle.table.specs.Table.{four, narrowHeader}
 use mathlib.Core.Path.{sym, _∙_}
 use native.Mathlib.Omega.{arith}

@@ -1,4 +1,4 @@
-use Rattle.statement.specs.Statement.{rowOf}
+use Rattle.statement.specs.Rows.{rowOf}
 use Rattle.table.specs.Table.{six, narrowRow}
 use mathlib.Core.Path.{sym, _∙_}
 use native.Mathlib.Omega.{arith}

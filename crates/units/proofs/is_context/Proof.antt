@@ -1,7 +1,7 @@
 use borrow.Author.Needs.{needs}
 use mathlib.Core.Path.{sym, _∙_, ap}
 use denote.Ref.{now}
-use Rattle.statement.specs.Statement.{rowOf}
+use Rattle.statement.specs.Rows.{rowOf}
 use Rattle.scalars.specs.Answer.{toldNextWhole}
 use Rattle.scalars.specs.declared.NextWhole.{NextWhole}
 use Rattle.factors.specs.Thing.{goodBy, thingOf}

@@ -4,8 +4,7 @@ use mathlib.Core.Option.{some}
 use lib.ListN.{length}
 use Rattle.error.specs.Refusal.{Told}
 use Rattle.table.specs.Table.{rowWidth, six}
-use Rattle.statement.specs.Row.{mapped}
-use Rattle.statement.specs.Rows.{Row}
+use Rattle.statement.specs.Rows.{mapped, Row}
 use Rattle.index.specs.Search.{searched}
 use Rattle.lookup.specs.Lookup.{rowFound, required, toldRequired}
 use Rattle.lookup.specs.declared.Tables.{Tables}

@@ -4,7 +4,8 @@ use Prim.Native.Nat.{ℕ, _-_}
 use mathlib.Core.Option.{Option}
 use Rattle.error.specs.Refusal.{good}
 use Rattle.table.specs.Table.{tableRows}
-use Rattle.lookup.specs.Lookup.{firstFrom, isKind, toldPlace}
+use Rattle.lookup.specs.First.{firstFrom}
+use Rattle.lookup.specs.Lookup.{isKind, toldPlace}
 use Rattle.lookup.specs.declared.Tables.{Tables}
 use Rattle.kinds.specs.declared.Kind.{Kind}
 use Rattle.plain.specs.Answers.{foundCode, foundValue}

@@ -2,7 +2,7 @@ use borrow.Author.Needs.{needs}
 use mathlib.Core.Path.{sym, _∙_, ap}
 use denote.Ref.{now}
 use Rattle.lookup.specs.Lookup.{rowFor}
-use Rattle.statement.specs.Statement.{rowOf}
+use Rattle.statement.specs.Rows.{rowOf}
 use Rattle.factors.specs.Thing.{thingOf, findOf}
 use Rattle.units.specs.Code.{toldUnits, toldTolerance}
 use Rattle.units.specs.Laws.{context-refused, context-late, context-both}

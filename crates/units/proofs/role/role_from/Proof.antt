@@ -4,7 +4,7 @@ use borrow.Author.Needs.{needs}
 use Prim.Native.Nat.{_+_, _-_, _≤_}
 use denote.Ref.{now}
 use lib.ListN.{length}
-use Rattle.statement.specs.Statement.{headerRowOf}
+use Rattle.statement.specs.Rows.{headerRowOf}
 use Rattle.error.specs.Refusal.{told}
 use Rattle.parts.specs.Rules.{toldNext}
 use Rattle.parts.specs.Laws.{next-ahead}

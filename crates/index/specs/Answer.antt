@@ -1,0 +1,12 @@
+-- What the code's answers say: the row of an id, or none.
+-- Assumes nothing.
+-- Definitions to be believed: no law, and nothing computed that no theorem ties (docs/BELIEVE.md).
+use Prim.Native.Nat.{ℕ, _-_}
+use mathlib.Core.Option.{Option, none, some}
+use Rattle.index.specs.declared.Found.{Found}
+use Rattle.index.specs.declared.Found.the-variants.{At, Nothing}
+
+-- what the code's answer says: a row, or none
+abbrev pub toldFound : Found → Option ℕ
+toldFound (At r) = some r
+toldFound Nothing = none

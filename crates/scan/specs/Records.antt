@@ -1,0 +1,33 @@
+-- The rows of a file, each kind in file order, and the largest id.
+-- Assumes nothing.
+-- Definitions to be believed: no law, and nothing computed that no theorem ties (docs/BELIEVE.md).
+use Prim.Native.Nat.{ℕ, max}
+use mathlib.Core.List.{List, [], _∷_}
+use Rattle.statement.specs.Rows.{Row, HeaderRow, RowKind, header-kind, data-kind, RowOf}
+
+-- the rows of a file, each kind in file order
+pub record Table : Type 0 where
+  pub headers : List HeaderRow
+  pub records : List Row
+
+-- such a table by its parts
+abbrev pub table : List HeaderRow → List Row → Table
+table hs rs = record { headers = hs; records = rs }
+
+-- a row before those of the rest of the file
+abbrev pub withHeader : HeaderRow → Table → Table
+withHeader w t = table (w ∷ t .headers) (t .records)
+
+-- a data row likewise
+abbrev pub withRecord : Row → Table → Table
+withRecord w t = table (t .headers) (w ∷ t .records)
+
+-- a row of this kind likewise
+abbrev pub withRow : (k : RowKind) → RowOf k → Table → Table
+withRow header-kind w t = withHeader w t
+withRow data-kind w t = withRecord w t
+
+-- the largest id, 0 where there is no record
+unfoldable pub largest : List Row → ℕ
+largest [] = 0
+largest (w ∷ ws) = max (w .id) (largest ws)

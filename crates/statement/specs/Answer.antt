@@ -1,0 +1,51 @@
+-- What the code's answers say, of a record and of a statement.
+-- Assumes nothing.
+-- Definitions to be believed: no law, and nothing computed that no theorem ties (docs/BELIEVE.md).
+use Prim.Native.Nat.{ℕ, _≤_, _<_}
+use mathlib.Core.List.{List}
+use lib.ListN.{drop}
+use Rattle.error.specs.Refusal.{Told, good, bad, told}
+use Rattle.lex.specs.Byte.{place}
+use Rattle.statement.specs.Rows.{Row, HeaderRow, Stmt, ends, refused, moved, header, record′, rowOf, headerRowOf}
+use Rattle.statement.specs.declared.HeaderRead.{HeaderRead}
+use Rattle.statement.specs.declared.HeaderRead.the-variants.{HeaderIs, NoHeader}
+use Rattle.statement.specs.declared.RecordRead.{RecordRead}
+use Rattle.statement.specs.declared.RecordRead.the-variants.{RecordIs, NoRecord}
+use Rattle.statement.specs.declared.Said.{Said}
+use Rattle.statement.specs.declared.Said.the-variants.{Ends, Refuses, Moves, Heads, Records}
+use Prim.Native.Nat.{ℕ, _-_}
+use mathlib.Core.List.{List}
+use lib.ListN.{drop}
+use Rattle.statement.specs.declared.Tidied.{Tidied}
+use Rattle.statement.specs.declared.Tidied.the-variants.{Untidy, Tidy}
+
+-- what `scan_data_record` answers
+abbrev pub toldRecord : RecordRead → Told Row
+toldRecord (RecordIs r) = good (rowOf r)
+toldRecord (NoRecord f) = bad (told f)
+
+-- what `scan_header_record` answers
+abbrev pub toldHeader : HeaderRead → Told HeaderRow
+toldHeader (HeaderIs r) = good (headerRowOf r)
+toldHeader (NoHeader f) = bad (told f)
+
+-- what `next_statement` answers, with rests of the file s for places
+abbrev pub toldSaid : List ℕ → Said → Stmt
+toldSaid s Ends = ends
+toldSaid s (Refuses f) = refused (told f)
+toldSaid s (Moves sec n) = moved sec (drop n s)
+toldSaid s (Heads r p n) = header (headerRowOf r) (drop p s) (drop n s)
+toldSaid s (Records r p n) = record′ (rowOf r) (drop p s) (drop n s)
+
+-- the place after a statement lies after the place i and after the record's start, in a file of n bytes
+abbrev pub Ahead : ℕ → ℕ → Said → Type 0
+Ahead i n Ends = Unit {0}
+Ahead i n (Refuses f) = Unit {0}
+Ahead i n (Moves sec p) = (i < p) × (p ≤ n)
+Ahead i n (Heads r q p) = (i < p) × (q < p) × (p ≤ n)
+Ahead i n (Records r q p) = (i < p) × (q < p) × (p ≤ n)
+
+-- what `tidy_record` answers
+abbrev pub toldTidied : List ℕ → Tidied → Stmt
+toldTidied s Untidy = ends
+toldTidied s (Tidy r p n) = record′ (rowOf r) (drop p s) (drop n s)
