@@ -1,34 +1,94 @@
 -- Writing rows and reading them back is the identity, and so is reading bytes and writing them again; and what a fine row is
 -- without a loop. Assumes nothing.
-use Prim.Native.Nat.{ℕ, zero, suc, _+_, _*_, _/_, _%_, _-_, _≤_, _<_, min}
-use mathlib.Core.Path.{_≡_, refl, sym, _∙_, ap, ap₂, subst}
+use Prim.Native.Nat.{ℕ, zero, suc, _+_, _*_, _/_, _%_, _≤_, _<_}
+use mathlib.Core.Path.{_≡_, refl, sym, _∙_, ap, ap₂}
 use mathlib.Core.Bool.{Bool, true, false, _&&_}
-use mathlib.Core.List.{List, [], _∷_, _++_}
+use mathlib.Core.List.{List, [], _∷_, _++_, append-assoc, append-nil}
+use mathlib.Core.Option.{some, Option·some-injective}
 use native.Mathlib.Omega.{arith}
-use lib.Dec.{ltb, leb, eqb}
-use borrow.Author.Tests.{ltb-true, ltb-false, leb-true, le-leb}
-use lib.ListN.{length, take, drop, getD, length-take}
-use lib.Seq.{take-all, length-take-le, getD-take}
-use Rattle.common.specs.Pick.{pick}
+use borrow.Author.Tests.{leb-true, le-leb}
+use lib.ListN.{length, take, getD, getElem?}
+use lib.Seq.{take-all, take-suc, getD-append-add}
 use Rattle.common.specs.Compare.{clash}
-use Rattle.error.specs.Refusal.{refusal, Told, good, bad}
-use Rattle.kept.specs.Kept.{little, four, littles, numbersOf, fineSpans, fineRow, fineAll, FineRow, tableRows, keepOf, readOf}
-use Rattle.kept.specs.Laws.{fine-not, length-littles, length-numbers, read-good, keep-good}
+use Rattle.error.specs.Refusal.{good}
+use Rattle.statement.specs.Row.{Row}
+use Rattle.table.specs.Table.{rowNumbers, six, rowsLaid}
+use Rattle.table.specs.Laws.{row-same}
+use Rattle.table.specs.Laid.{row-is}
+use Rattle.kept.specs.Kept.{little, four, littles, rowBytes, bytesOf, numberAt, rowAt, firstRows, rowsOf, fineRow, fineAll, FineRow, keepOf, readOf}
+use Rattle.kept.specs.Laws.{fine-not, length-first, length-row, length-bytes, bytes-more, read-good, keep-good}
 
 -- each number of a list is below a bound
 abbrev pub Below : ℕ → List ℕ → Type 0
 Below n [] = Unit {0}
 Below n (x ∷ xs) = (x < n) × Below n xs
 
--- a number is the number of its four bytes
-little-four : (x : ℕ) → x < 4294967296 → little (x % 256) (x / 256 % 256) (x / 65536 % 256) (x / 16777216) ≡ x
-little-four x h = omega arith
+-- the numbers of each row have 32 bits
+abbrev pub Small : List Row → Type 0
+Small [] = Unit {0}
+Small (w ∷ ws) = Below 4294967296 (six w) × Small ws
 
--- numbers written as bytes and read back are the same numbers
-pub numbers-back : (xs : List ℕ) → Below 4294967296 xs → numbersOf (littles xs) ≡ xs
-unfolding littles numbersOf
-numbers-back [] h = refl
-numbers-back (x ∷ xs) h = ap₂ (λ (a : ℕ) (r : List ℕ). a ∷ r) (little-four x (h .0)) (numbers-back xs (h .1))
+-- a number is the number of its four bytes
+little-four : (x : ℕ) → x < 4294967296 → little (x % 256) (x / 256 % 256) (x / 65536 % 256) (x / 16777216 % 256) ≡ x
+little-four x h = let e : x / 16777216 % 256 ≡ x / 16777216 = omega arith in omega (arith, e)
+
+-- a byte behind others
+behind : (xs ys : List ℕ) (p q : ℕ) → q ≡ length xs + p → getD (xs ++ ys) q 0 ≡ getD ys p 0
+behind xs ys p q e = ap (λ (z : ℕ). getD (xs ++ ys) z 0) e ∙ getD-append-add xs ys p 0
+
+-- so a number
+number-behind : (xs ys : List ℕ) (p q : ℕ) → q ≡ length xs + p → numberAt (xs ++ ys) q ≡ numberAt ys p
+number-behind xs ys p q e =
+    rw (behind xs ys p q e, behind xs ys (p + 1) (q + 1) (omega arith), behind xs ys (p + 2) (q + 2) (omega arith), behind xs ys (p + 3) (q + 3) (omega arith)) refl
+
+-- row k of bytes is row k + 1 where a row stands before them
+row-behind : (w : Row) (s : List ℕ) (k : ℕ) → rowAt (rowBytes w ++ s) (suc k) ≡ rowAt s k
+row-behind w s k =
+    let l = length-row w in
+    row-same
+    (number-behind (rowBytes w) s (k * 24) (suc k * 24) (omega (arith, l)))
+    (number-behind (rowBytes w) s (k * 24 + 4) (suc k * 24 + 4) (omega (arith, l)))
+    (number-behind (rowBytes w) s (k * 24 + 8) (suc k * 24 + 8) (omega (arith, l)))
+    (number-behind (rowBytes w) s (k * 24 + 12) (suc k * 24 + 12) (omega (arith, l)))
+    (number-behind (rowBytes w) s (k * 24 + 16) (suc k * 24 + 16) (omega (arith, l)))
+    (number-behind (rowBytes w) s (k * 24 + 20) (suc k * 24 + 20) (omega (arith, l)))
+
+-- the first row of bytes that begin with a row
+row-front : (w : Row) (s : List ℕ) → Below 4294967296 (six w) → rowAt (rowBytes w ++ s) 0 ≡ w
+unfolding littles
+row-front w s h =
+    row-same
+    (little-four (w .id) (h .0))
+    (little-four (w .keyStart) (h .1 .0))
+    (little-four (w .keyEnd) (h .1 .1 .0))
+    (little-four (w .argStart) (h .1 .1 .1 .0))
+    (little-four (w .argEnd) (h .1 .1 .1 .1 .0))
+    (little-four (w .complex) (h .1 .1 .1 .1 .1 .0))
+
+-- the first row, and then the others
+first-cons : (r : ℕ → Row) (n : ℕ) → firstRows r (suc n) ≡ r 0 ∷ firstRows (λ k. r (suc k)) n
+unfolding firstRows
+first-cons r zero = refl
+first-cons r (suc n) = ap (λ (l : List Row). l ++ (r (suc n) ∷ [])) (first-cons r n)
+
+-- rows that agree, number by number, are the same
+first-same : (r q : ℕ → Row) (n : ℕ) → ((k : ℕ) → k < n → r k ≡ q k) → firstRows r n ≡ firstRows q n
+unfolding firstRows
+first-same r q zero h = refl
+first-same r q (suc n) h = ap₂ (λ (l : List Row) (w : Row). l ++ (w ∷ [])) (first-same r q n (λ k l. h k (omega arith))) (h n (omega arith))
+
+-- each row of written bytes, read back
+each-back : (ws : List Row) → Small ws → firstRows (rowAt (bytesOf ws)) (length ws) ≡ ws
+unfolding firstRows bytesOf
+each-back [] h = refl
+each-back (w ∷ ws) h =
+    first-cons (rowAt (rowBytes w ++ bytesOf ws)) (length ws)
+    ∙ ap₂ (λ (v : Row) (l : List Row). v ∷ l) (row-front w (bytesOf ws) (h .0))
+    (first-same (λ k. rowAt (rowBytes w ++ bytesOf ws) (suc k)) (rowAt (bytesOf ws)) (length ws) (λ k l. row-behind w (bytesOf ws) k) ∙ each-back ws (h .1))
+
+-- rows written as bytes and read back are the same rows
+pub numbers-back : (ws : List Row) → Small ws → rowsOf (bytesOf ws) ≡ ws
+numbers-back ws h = let l = length-bytes ws in ap (firstRows (rowAt (bytesOf ws))) (omega (arith, l)) ∙ each-back ws h
 
 -- the first byte of a number of four bytes, and the others
 byte-0 : (a b c d : ℕ) → a < 256 → little a b c d % 256 ≡ a
@@ -40,22 +100,58 @@ byte-1 a b c d h g = omega arith
 byte-2 : (a b c d : ℕ) → a < 256 → b < 256 → c < 256 → little a b c d / 65536 % 256 ≡ c
 byte-2 a b c d h g k = omega arith
 
-byte-3 : (a b c d : ℕ) → a < 256 → b < 256 → c < 256 → little a b c d / 16777216 ≡ d
-byte-3 a b c d h g k = omega arith
+byte-3 : (a b c d : ℕ) → a < 256 → b < 256 → c < 256 → d < 256 → little a b c d / 16777216 % 256 ≡ d
+byte-3 a b c d h g k l = omega arith
 
--- bytes read as numbers and written again are the same bytes, where none is left over
-pub bytes-back : (s : List ℕ) → Below 256 s → length s % 4 ≡ 0 → littles (numbersOf s) ≡ s
-unfolding littles numbersOf
-bytes-back [] h e = refl
-bytes-back (a ∷ b ∷ c ∷ d ∷ r) h e =
-    let p = byte-0 a b c d (h .0) in
-    let q = byte-1 a b c d (h .0) (h .1 .0) in
-    let u = byte-2 a b c d (h .0) (h .1 .0) (h .1 .1 .0) in
-    let v = byte-3 a b c d (h .0) (h .1 .0) (h .1 .1 .0) in
-    cc (p, q, u, v, bytes-back r (h .1 .1 .1 .1) (omega arith))
-bytes-back (a ∷ b ∷ c ∷ []) h e = clash (absurd (omega arith))
-bytes-back (a ∷ b ∷ []) h e = clash (absurd (omega arith))
-bytes-back (a ∷ []) h e = clash (absurd (omega arith))
+-- each byte of a list, and 0 past its end
+below-at : (s : List ℕ) → Below 256 s → (i : ℕ) → getD s i 0 < 256
+below-at [] h i = omega arith
+below-at (x ∷ xs) h zero = h .0
+below-at (x ∷ xs) h (suc i) = below-at xs (h .1) i
+
+-- one byte more
+take-more : (s : List ℕ) (p q : ℕ) (l : List ℕ) → p < length s → suc p ≡ q → take p s ++ (getD s p 0 ∷ l) ≡ take q s ++ l
+take-more s p q l h e =
+    sym (append-assoc (take p s) (getD s p 0 ∷ []) l) ∙ ap (λ (z : List ℕ). z ++ l) (sym (take-suc s p 0 h) ∙ ap (λ (z : ℕ). take z s) e)
+
+-- the four bytes of a number that was read
+number-more : (s : List ℕ) → Below 256 s → (p q : ℕ) (l : List ℕ) → p + 4 ≤ length s → p + 4 ≡ q → take p s ++ (four (numberAt s p) ++ l) ≡ take q s ++ l
+number-more s w p q l h e =
+    let b = below-at s w in
+    let j = b p in
+    let k = b (p + 1) in
+    let m = b (p + 2) in
+    let n = b (p + 3) in
+    rw (byte-0 _ _ _ _ j, byte-1 _ _ _ _ j k, byte-2 _ _ _ _ j k m, byte-3 _ _ _ _ j k m n)
+    (take-more s p (p + 1) _ (omega arith) (omega arith)
+    ∙ take-more s (p + 1) (p + 2) _ (omega arith) (omega arith)
+    ∙ take-more s (p + 2) (p + 3) _ (omega arith) (omega arith)
+    ∙ take-more s (p + 3) q _ (omega arith) (omega arith))
+
+-- the 24 bytes of a row that was read
+row-more : (s : List ℕ) → Below 256 s → (k : ℕ) → k * 24 + 24 ≤ length s → take (k * 24) s ++ rowBytes (rowAt s k) ≡ take (suc k * 24) s
+unfolding littles
+row-more s w k h =
+    number-more s w (k * 24) (k * 24 + 4) _ (omega arith) (omega arith)
+    ∙ number-more s w (k * 24 + 4) (k * 24 + 8) _ (omega arith) (omega arith)
+    ∙ number-more s w (k * 24 + 8) (k * 24 + 12) _ (omega arith) (omega arith)
+    ∙ number-more s w (k * 24 + 12) (k * 24 + 16) _ (omega arith) (omega arith)
+    ∙ number-more s w (k * 24 + 16) (k * 24 + 20) _ (omega arith) (omega arith)
+    ∙ number-more s w (k * 24 + 20) (suc k * 24) _ (omega arith) (omega arith)
+    ∙ append-nil (take (suc k * 24) s)
+
+-- the bytes of the first rows that were read
+front-back : (s : List ℕ) → Below 256 s → (n : ℕ) → n * 24 ≤ length s → bytesOf (firstRows (rowAt s) n) ≡ take (n * 24) s
+unfolding firstRows bytesOf
+front-back s w zero h = refl
+front-back s w (suc n) h =
+    bytes-more (firstRows (rowAt s) n) (rowAt s n)
+    ∙ ap (λ (l : List ℕ). l ++ rowBytes (rowAt s n)) (front-back s w n (omega arith))
+    ∙ row-more s w n (omega arith)
+
+-- bytes read as rows and written again are the same bytes, where none is left over
+pub bytes-back : (s : List ℕ) → Below 256 s → length s % 24 ≡ 0 → bytesOf (rowsOf s) ≡ s
+bytes-back s w e = front-back s w (length s / 24) (omega arith) ∙ take-all (length s / 24 * 24) s (omega arith)
 
 -- both tests hold
 both : (s t : Bool) → s && t ≡ true → (s ≡ true) × (t ≡ true)
@@ -63,8 +159,8 @@ both true t e = (refl, e)
 both false t e = clash (cc)
 
 -- a row that is fine by the test is fine
-pub fine-is : (len : ℕ) (rows : List ℕ) (k : ℕ) → fineRow len rows k ≡ true → FineRow len rows k
-fine-is len rows k e =
+pub fine-is : (len : ℕ) (w : Row) → fineRow len w ≡ true → FineRow len w
+fine-is len w e =
     let (r, m) = both _ _ e in
     let (q, d) = both _ _ r in
     let (p, c) = both _ _ q in
@@ -72,48 +168,65 @@ fine-is len rows k e =
     record { key = leb-true _ _ a; keyIn = leb-true _ _ b; args = leb-true _ _ c; argsIn = leb-true _ _ d; mark = leb-true _ _ m }
 
 -- a row that is fine is so by the test
-pub fine-only : (len : ℕ) (rows : List ℕ) (k : ℕ) → FineRow len rows k → fineRow len rows k ≡ true
-fine-only len rows k f = rw (le-leb _ _ (f .key), le-leb _ _ (f .keyIn), le-leb _ _ (f .args), le-leb _ _ (f .argsIn), le-leb _ _ (f .mark)) refl
+pub fine-only : (len : ℕ) (w : Row) → FineRow len w → fineRow len w ≡ true
+fine-only len w f = rw (le-leb _ _ (f .key), le-leb _ _ (f .keyIn), le-leb _ _ (f .args), le-leb _ _ (f .argsIn), le-leb _ _ (f .mark)) refl
 
 -- rows are fine where each is
-pub fine-each : (len : ℕ) (rows : List ℕ) (n : ℕ) → fineAll len rows n ≡ true → (k : ℕ) → k < n → FineRow len rows k
-fine-each len rows n e k h = go (fineRow len rows k) refl
+pub fine-each : (len : ℕ) (r : ℕ → Row) (n : ℕ) → fineAll len r n ≡ true → (k : ℕ) → k < n → FineRow len (r k)
+fine-each len r n e k h = go (fineRow len (r k)) refl
   where
-    go : (t : Bool) → fineRow len rows k ≡ t → FineRow len rows k
-    go true f = fine-is len rows k f
-    go false f = clash (let z : true ≡ false = sym e ∙ fine-not len rows k n h f in cc)
+    go : (t : Bool) → fineRow len (r k) ≡ t → FineRow len (r k)
+    go true f = fine-is len (r k) f
+    go false f = clash (let z : true ≡ false = sym e ∙ fine-not len r k n h f in cc)
 
 -- and where each is they are
-pub fine-every : (len : ℕ) (rows : List ℕ) (n : ℕ) → ((k : ℕ) → k < n → FineRow len rows k) → fineAll len rows n ≡ true
+pub fine-every : (len : ℕ) (r : ℕ → Row) (n : ℕ) → ((k : ℕ) → k < n → FineRow len (r k)) → fineAll len r n ≡ true
 unfolding fineAll
-fine-every len rows zero h = refl
-fine-every len rows (suc n) h = rw (fine-every len rows n (λ k l. h k (omega arith)), fine-only len rows n (h n (omega arith))) refl
+fine-every len r zero h = refl
+fine-every len r (suc n) h = rw (fine-every len r n (λ k l. h k (omega arith)), fine-only len (r n) (h n (omega arith))) refl
 
--- rows that agree in their numbers are fine alike
-same-fine : (len : ℕ) (xs ys : List ℕ) (n : ℕ) → ((i : ℕ) → i < n * 6 → getD xs i 0 ≡ getD ys i 0) → fineAll len xs n ≡ fineAll len ys n
+-- rows that agree are fine alike
+same-fine : (len : ℕ) (r q : ℕ → Row) (n : ℕ) → ((k : ℕ) → k < n → r k ≡ q k) → fineAll len r n ≡ fineAll len q n
 unfolding fineAll
-same-fine len xs ys zero h = refl
-same-fine len xs ys (suc n) h =
-    ap₂ _&&_ (same-fine len xs ys n (λ i l. h i (omega arith)))
-    (rw (h (n * 6 + 1) (omega arith), h (n * 6 + 2) (omega arith), h (n * 6 + 3) (omega arith), h (n * 6 + 4) (omega arith), h (n * 6 + 5) (omega arith)) refl)
+same-fine len r q zero h = refl
+same-fine len r q (suc n) h = ap₂ _&&_ (same-fine len r q n (λ k l. h k (omega arith))) (ap (fineRow len) (h n (omega arith)))
+
+-- row k of so many rows
+first-at : (r : ℕ → Row) (n k : ℕ) → k < n → getElem? (firstRows r n) k ≡ some (r k)
+first-at r zero k h = absurd (omega arith)
+first-at r (suc n) zero h = ap (λ (l : List Row). getElem? l 0) (first-cons r n)
+first-at r (suc n) (suc k) h = ap (λ (l : List Row). getElem? l (suc k)) (first-cons r n) ∙ first-at (λ j. r (suc j)) n k (omega arith)
+
+-- equal rows agree, number by number
+first-each : (r q : ℕ → Row) (n : ℕ) → firstRows r n ≡ firstRows q n → (k : ℕ) → k < n → r k ≡ q k
+first-each r q n e k h = Option·some-injective _ _ (sym (first-at r n k h) ∙ ap (λ (l : List Row). getElem? l k) e ∙ first-at q n k h)
+
+-- rows that were put into lent rows are the lent rows' first
+laid-first : (r : ℕ → Row) (n : ℕ) (old : List ℕ) (k : ℕ) → k < n → rowNumbers (rowsLaid (firstRows r n) old) k ≡ r k
+laid-first r n old k h =
+    let l = length-first r n in
+    Option·some-injective _ _ (sym (row-is (firstRows r n) old k (omega (arith, l))) ∙ first-at r n k h)
 
 -- the bytes that are written for rows are read back as these rows
-pub kept-back : (len : ℕ) (rows : List ℕ) (n room : ℕ) → Below 4294967296 (take (n * 6) rows) → n * 6 ≤ length rows → fineAll len rows n ≡ true → n * 6 ≤ room
-    → (readOf len (littles (take (n * 6) rows)) room ≡ good n) × (numbersOf (littles (take (n * 6) rows)) ≡ take (n * 6) rows)
-kept-back len rows n room w h f r =
-    let xs : List ℕ = take (n * 6) rows in
-    let l : length xs ≡ n * 6 = length-take-le (n * 6) rows h in
-    let b : length (littles xs) ≡ n * 24 = length-littles xs ∙ omega arith in
-    let d : length (littles xs) / 24 ≡ n = omega arith in
-    let e : numbersOf (littles xs) ≡ xs = numbers-back xs w in
-    let g : fineAll len (numbersOf (littles xs)) (length (littles xs) / 24) ≡ true =
-    ap₂ (fineAll len) e d ∙ same-fine len xs rows n (λ i k. getD-take (n * 6) rows i 0 k) ∙ f in
-    (read-good len (littles xs) room (omega arith) g (omega arith) ∙ ap good d, e)
+pub kept-back : (len : ℕ) (r : ℕ → Row) (n room : ℕ) → Small (firstRows r n) → fineAll len r n ≡ true → n ≤ room
+    → (readOf len (bytesOf (firstRows r n)) room ≡ good n) × (rowsOf (bytesOf (firstRows r n)) ≡ firstRows r n)
+kept-back len r n room w f h =
+    let s : List ℕ = bytesOf (firstRows r n) in
+    let b : length s ≡ n * 24 = length-bytes (firstRows r n) ∙ ap (λ (z : ℕ). z * 24) (length-first r n) in
+    let d : length s / 24 ≡ n = omega arith in
+    let e : rowsOf s ≡ firstRows r n = numbers-back (firstRows r n) w in
+    let i : firstRows (rowAt s) n ≡ firstRows r n = ap (firstRows (rowAt s)) (sym d) ∙ e in
+    let g : fineAll len (rowAt s) (length s / 24) ≡ true = ap (fineAll len (rowAt s)) d ∙ same-fine len (rowAt s) r n (first-each (rowAt s) r n i) ∙ f in
+    (read-good len s room (omega arith) g (omega arith) ∙ ap good d, e)
 
--- bytes that read, written again, are the same bytes
-pub read-back : (len : ℕ) (s : List ℕ) (out : ℕ) → Below 256 s → length s % 24 ≡ 0 → fineAll len (numbersOf s) (length s / 24) ≡ true → length s ≤ out
-    → (keepOf len (numbersOf s) (length s / 24) out ≡ good (length s / 24)) × (littles (take (length s / 24 * 6) (numbersOf s)) ≡ s)
-read-back len s out w h f r =
-    let n : length (numbersOf s) ≡ length s / 4 = length-numbers s in
-    let t : take (length s / 24 * 6) (numbersOf s) ≡ numbersOf s = take-all (length s / 24 * 6) (numbersOf s) (omega arith) in
-    (keep-good len (numbersOf s) (length s / 24) out (length s / 24) (omega arith) f (omega arith), ap littles t ∙ bytes-back s w (omega arith))
+-- bytes that read, written again, are the same bytes: from the lent rows into which they were read
+pub read-back : (len : ℕ) (s old : List ℕ) (out : ℕ) → Below 256 s → length s % 24 ≡ 0 → fineAll len (rowAt s) (length s / 24) ≡ true → length s ≤ out
+    → (keepOf len (rowNumbers (rowsLaid (rowsOf s) old)) (length s / 24) out ≡ good (length s / 24))
+    × (bytesOf (firstRows (rowNumbers (rowsLaid (rowsOf s) old)) (length s / 24)) ≡ s)
+read-back len s old out w h f l =
+    let n : ℕ = length s / 24 in
+    let q : ℕ → Row = rowNumbers (rowsLaid (rowsOf s) old) in
+    let e : (k : ℕ) → k < n → q k ≡ rowAt s k = laid-first (rowAt s) n old in (
+      keep-good len q n out n refl (same-fine len q (rowAt s) n e ∙ f) (omega arith),
+      ap bytesOf (first-same q (rowAt s) n e) ∙ bytes-back s w h,
+    )

@@ -5,58 +5,31 @@ use Prim.Native.Nat.{_-_, _≤_}
 use borrow.Author.Needs.{needs}
 use borrow.Author.Tests.{not-true, not-false}
 use denote.Ref.{now}
-use Rattle.kept.specs.Kept.{fineAll, numbersOf}
-use Rattle.kept.specs.Laws.{fine-none, fine-more, fine-not, fine-by}
+use Rattle.kept.specs.Kept.{fineAll, fineRow, rowAt}
+use Rattle.kept.specs.Laws.{fine-none, fine-more, fine-not}
 use Rattle.kept.proofs.fine_bytes.Statement.{statement}
 use Rattle.kept.proofs.fine_bytes.Tie as tie
 
 abbrev Inv-loop : tie.InvT-loop
-Inv-loop len bytes n k₀ k = (k ≤ n) × (fineAll len (numbersOf bytes) k ≡ true)
+Inv-loop len bytes n k₀ k = (k ≤ n) × (fineAll len (rowAt bytes) k ≡ true)
 
 abbrev μ-loop : tie.MeasureT-loop
 μ-loop len bytes n k₀ k = n - k
 
 loop-holds : tie.Need-loop-holds Inv-loop μ-loop
-loop-holds c = (omega arith, fine-none (c .before .args .len) (numbersOf (now (c .before .args .bytes))))
+loop-holds c = (omega arith, fine-none (c .before .args .len) (rowAt (now (c .before .args .bytes))))
 
-mul-at : tie.Need-mul-at Inv-loop μ-loop
-mul-at c = search needs
-
-add-number-at : tie.Need-add-number-at Inv-loop μ-loop
-add-number-at c = search needs
-
-number-at-requires : tie.Need-number-at-requires Inv-loop μ-loop
-number-at-requires c κs = search needs
-
-add-number-at-2 : tie.Need-add-number-at-2 Inv-loop μ-loop
-add-number-at-2 c = search needs
-
-number-at-requires-2 : tie.Need-number-at-requires-2 Inv-loop μ-loop
-number-at-requires-2 c κs = search needs
-
-add-number-at-3 : tie.Need-add-number-at-3 Inv-loop μ-loop
-add-number-at-3 c = search needs
-
-number-at-requires-3 : tie.Need-number-at-requires-3 Inv-loop μ-loop
-number-at-requires-3 c κs = search needs
-
-add-number-at-4 : tie.Need-add-number-at-4 Inv-loop μ-loop
-add-number-at-4 c = search needs
-
-number-at-requires-4 : tie.Need-number-at-requires-4 Inv-loop μ-loop
-number-at-requires-4 c κs = search needs
-
-add-number-at-5 : tie.Need-add-number-at-5 Inv-loop μ-loop
-add-number-at-5 c = search needs
-
-number-at-requires-5 : tie.Need-number-at-requires-5 Inv-loop μ-loop
-number-at-requires-5 c κs = search needs
+row-at-requires : tie.Need-row-at-requires Inv-loop μ-loop
+row-at-requires c κs = search needs
 
 fine-requires : tie.Need-fine-requires Inv-loop μ-loop
 fine-requires c κs = search needs
 
 returns : tie.Need-returns Inv-loop μ-loop
-returns c = sym (fine-not (c .before .before .before .before .before .before .before .before .before .before .args .len) (numbersOf (now (c .before .before .before .before .before .before .before .before .before .before .args .bytes))) (c .before .before .before .before .before .before .before .before .loop .k) (c .before .before .before .before .before .before .before .before .before .before .args .n) (c .before .before .before .before .before .before .before .loop-test .taken) (sym (c .before .fine .ensures ∙ fine-by (c .before .before .before .before .before .before .before .before .before .before .args .len) (now (c .before .before .before .before .before .before .before .before .before .before .args .bytes)) (c .before .before .before .before .before .before .before .before .loop .k) _ _ _ _ _ (omega arith) (c .before .before .before .before .before .before .number-at .ensures) (c .before .before .before .before .before .number-at2 .ensures) (c .before .before .before .before .number-at3 .ensures) (c .before .before .before .number-at4 .ensures) (c .before .before .number-at5 .ensures)) ∙ not-true _ (c .if1 .taken)))
+returns c =
+    let a = c .before .before .before .before .before .before .args in
+    let l = c .before .before .before .before .loop in
+    sym (fine-not (a .len) (rowAt (now (a .bytes))) (l .k) (a .n) (c .before .before .before .loop-test .taken) (sym (c .before .fine .ensures ∙ ap (fineRow (a .len)) (c .before .before .row-at .ensures .0)) ∙ not-true _ (c .if1 .taken)))
 
 add-k : tie.Need-add-k Inv-loop μ-loop
 add-k c = search needs
@@ -65,12 +38,17 @@ loop-less : tie.Need-loop-less Inv-loop μ-loop
 loop-less c = search needs
 
 loop-again : tie.Need-loop-again Inv-loop μ-loop
-loop-again c = (omega arith, fine-more (c .before .before .before .before .before .before .before .before .before .before .args .len) (numbersOf (now (c .before .before .before .before .before .before .before .before .before .before .args .bytes))) (c .before .before .before .before .before .before .before .before .loop .k) (c .before .before .before .before .before .before .before .before .loop .inv .1) (sym (c .before .fine .ensures ∙ fine-by (c .before .before .before .before .before .before .before .before .before .before .args .len) (now (c .before .before .before .before .before .before .before .before .before .before .args .bytes)) (c .before .before .before .before .before .before .before .before .loop .k) _ _ _ _ _ (omega arith) (c .before .before .before .before .before .before .number-at .ensures) (c .before .before .before .before .before .number-at2 .ensures) (c .before .before .before .before .number-at3 .ensures) (c .before .before .before .number-at4 .ensures) (c .before .before .number-at5 .ensures)) ∙ not-false _ (c .if1 .left)))
+loop-again c =
+    let a = c .before .before .before .before .before .before .args in
+    let l = c .before .before .before .before .loop in
+    (omega arith, fine-more (a .len) (rowAt (now (a .bytes))) (l .k) (l .inv .1) (sym (c .before .fine .ensures ∙ ap (fineRow (a .len)) (c .before .before .row-at .ensures .0)) ∙ not-false _ (c .if1 .left)))
 
 returns-2 : tie.Need-returns-2 Inv-loop μ-loop
 returns-2 c =
-    let e : c .before .loop .k ≡ c .before .before .before .args .n = omega arith in
-    sym (c .before .loop .inv .1) ∙ ap (fineAll (c .before .before .before .args .len) (numbersOf (now (c .before .before .before .args .bytes)))) e
+    let a = c .before .before .before .args in
+    let l = c .before .loop in
+    let e : l .k ≡ a .n = omega arith in
+    sym (l .inv .1) ∙ ap (fineAll (a .len) (rowAt (now (a .bytes)))) e
 
 pub fine-bytes-spec : {M : Type 1} → statement M
 fine-bytes-spec =
@@ -79,17 +57,7 @@ fine-bytes-spec =
     Inv-loop
     μ-loop
     loop-holds
-    mul-at
-    add-number-at
-    number-at-requires
-    add-number-at-2
-    number-at-requires-2
-    add-number-at-3
-    number-at-requires-3
-    add-number-at-4
-    number-at-requires-4
-    add-number-at-5
-    number-at-requires-5
+    row-at-requires
     fine-requires
     returns
     add-k

@@ -4,9 +4,6 @@ use native.Mathlib.Omega.{arith}
 use Rattle.kept.proofs.number_at.Statement.{statement}
 use Rattle.kept.proofs.number_at.Tie as tie
 
-mul-at : tie.Need-mul-at
-mul-at c = search needs
-
 shared-slice-read-wide : tie.Need-shared-slice-read-wide
 shared-slice-read-wide c = search needs
 
@@ -65,7 +62,6 @@ pub number-at-spec : {M : Type 1} → statement M
 number-at-spec =
     tie.close
     (tie.spec
-    mul-at
     shared-slice-read-wide
     wide-requires
     add-wide

@@ -1,13 +1,10 @@
-use borrow.Author.Needs.{needs}
 use native.Mathlib.Omega.{arith}
 use Prim.Native.Nat.{_-_}
 use lib.ListN.{length-set}
 use native.Mathlib.Numerals.{towards-suc}
+use borrow.Author.Needs.{needs}
 use Rattle.kept.proofs.put_number.Statement.{statement}
 use Rattle.kept.proofs.put_number.Tie as tie
-
-mul-at : tie.Need-mul-at
-mul-at c = search needs
 
 cast-out : tie.Need-cast-out
 cast-out c = search needs
@@ -52,7 +49,6 @@ pub put-number-spec : {M : Type 1} → statement M
 put-number-spec =
     tie.close
     (tie.spec
-    mul-at
     cast-out
     slice-write-out
     cast-out-2

@@ -1,0 +1,73 @@
+use native.Mathlib.Omega.{arith}
+use mathlib.Core.Path.{_≡_, refl, _∙_, ap}
+use mathlib.Core.List.{List}
+use Prim.Native.Nat.{ℕ, _-_, _≤_}
+use borrow.Author.Needs.{needs}
+use denote.Ref.{now}
+use lib.ListN.{length}
+use Rattle.statement.specs.Row.{Row}
+use Rattle.table.specs.Table.{rowsLaid, rowPut}
+use Rattle.kept.specs.Kept.{rowAt, firstRows}
+use Rattle.kept.specs.Laws.{none-laid, get-more}
+use Rattle.kept.proofs.get_rows.Statement.{statement}
+use Rattle.kept.proofs.get_rows.Tie as tie
+
+abbrev Inv-loop : tie.InvT-loop
+Inv-loop bytes n rows₀ k₀ rows k = (k ≤ n) × (length rows ≡ length rows₀) × (rows ≡ rowsLaid (firstRows (rowAt bytes) k) rows₀)
+
+abbrev μ-loop : tie.MeasureT-loop
+μ-loop bytes n rows₀ k₀ rows k = n - k
+
+loop-holds : tie.Need-loop-holds Inv-loop μ-loop
+loop-holds c = (omega arith, refl, none-laid (rowAt (now (c .before .before .args .bytes))) (now (c .before .before .args .rows)))
+
+row-at-requires : tie.Need-row-at-requires Inv-loop μ-loop
+row-at-requires c κs = search needs
+
+put-row-requires : tie.Need-put-row-requires Inv-loop μ-loop
+put-row-requires c κs = search needs
+
+add-k : tie.Need-add-k Inv-loop μ-loop
+add-k c = search needs
+
+loop-less : tie.Need-loop-less Inv-loop μ-loop
+loop-less c = search needs
+
+loop-again : tie.Need-loop-again Inv-loop μ-loop
+loop-again c =
+    let a = c .before .before .before .before .before .before .before .before .before .args in
+    let l = c .before .before .before .before .before .before .loop in
+    let p = c .before .before .put-row in
+    let q = c .before .before .before .row-at in
+    let r : ℕ → Row = rowAt (now (a .bytes)) in
+    let e =
+    p .ensures
+    ∙ ap (λ (w : Row). rowPut (l .rows) (l .k) w) (q .ensures .1 ∙ q .ensures .0)
+    ∙ ap (λ (z : List ℕ). rowPut z (l .k) (r (l .k))) (l .inv .2)
+    ∙ get-more r (now (a .rows)) (l .k) (omega arith) in
+    (omega arith, p .kept .0 ∙ l .inv .1, e)
+
+same-length : tie.Need-same-length Inv-loop μ-loop
+same-length c = search needs
+
+returns : tie.Need-returns Inv-loop μ-loop
+returns c =
+    let a = c .before .before .before .before .args in
+    let l = c .before .loop in
+    let e : l .k ≡ a .n = omega arith in
+    l .inv .2 ∙ ap (λ (z : ℕ). rowsLaid (firstRows (rowAt (now (a .bytes))) z) (now (a .rows))) e
+
+pub get-rows-spec : {M : Type 1} → statement M
+get-rows-spec =
+    tie.close
+    (tie.spec
+    Inv-loop
+    μ-loop
+    loop-holds
+    row-at-requires
+    put-row-requires
+    add-k
+    loop-less
+    loop-again
+    same-length
+    returns)
