@@ -20,7 +20,8 @@ use Rattle.factors.specs.Each.{Each}
 use Rattle.factors.specs.EachLaws.{each-nil, each-head, each-less}
 use Rattle.factors.specs.Unit.{optionBy}
 use Rattle.factors.specs.Factor.{lengthOf, angleOf}
-use Rattle.units.specs.Units.{Units, defaults, Role, lengthRole, angleRole, solidRole, roleBy, firstRole, roleOf, withLength, withAngle, withTolerance, reads, readsInteger, isContext, refsIn, uncertainBy, byRole, unitOf, unitBy, unitsBy, uncertaintyOf, uncertaintyBy, toleranceBy, listedUnits, listedTolerance, contextOf}
+use Rattle.units.specs.Answer.{Units, defaults, Role, lengthRole, angleRole, solidRole, roleBy, withLength, withAngle, withTolerance, reads, readsInteger, isContext, refsIn, uncertainBy, uncertaintyOf, uncertaintyBy}
+use Rattle.units.specs.Units.{roleOf, firstRole, byRole, unitOf, unitBy, unitsBy, toleranceBy, listedUnits, listedTolerance, contextOf}
 use Rattle.alike.specs.Readers.{next-shift, list-shift}
 use Rattle.alike.specs.Alike.{BothTold, BothOption, BothList, SameTold, AlikeRun, AlikePiece, AlikeThing, AlikeFind, both-pick, both-on, both-by, same-on, same-on-read, same-by, self-alike}
 use Rattle.alike.specs.Runs.{read-first, refs-first}
@@ -100,7 +101,7 @@ module _ {Named : ℕ → Type 0} {s s′ : List ℕ} where
         go (bad q) y l vs e = clash (cc)
 
     -- one uncertainty
-    uncertainty-of-alike : (find find′ : ℕ → Told (Option Thing)) → SameTold (uncertaintyOf s find t) (uncertaintyOf s′ find′ t′)
+    uncertainty-of-alike : (find find′ : ℕ → Told (Option Thing)) → SameTold (uncertaintyOf s t) (uncertaintyOf s′ t′)
     uncertainty-of-alike find find′ = rw (← h .kind) (both-pick (λ a b. a ≡ b) (sameKind (t .kind) UncertaintyMeasureWithUnit)
         (uncertainBy (nextOf measureOf s (t .run .start) (t .run .stop) .answer)) (good none) (uncertainBy (nextOf measureOf s′ (t′ .run .start) (t′ .run .stop) .answer)) (good none)
         (uncertain-alike (nextOf measureOf s (t .run .start) (t .run .stop) .answer) (nextOf measureOf s′ (t′ .run .start) (t′ .run .stop) .answer) (number-alike (h .run))) refl)
@@ -132,7 +133,7 @@ module _ {Named : ℕ → Type 0} {s s′ : List ℕ} where
     -- one uncertainty by its id
     pub uncertainty-alike : (i : ℕ) → Named i → SameTold (uncertaintyBy s find i) (uncertaintyBy s′ find′ i)
     unfolding uncertaintyBy
-    uncertainty-alike i n = found-alike finds (good none) (uncertaintyOf s find) (uncertaintyOf s′ find′) i n (λ t t′ h. uncertainty-of-alike h find find′)
+    uncertainty-alike i n = found-alike finds (good none) (uncertaintyOf s) (uncertaintyOf s′) i n (λ t t′ h. uncertainty-of-alike h find find′)
 
     -- the tolerance of a list
     pub tolerance-alike : (is : List ℕ) → Each Named is → SameTold (toleranceBy s find is) (toleranceBy s′ find′ is)

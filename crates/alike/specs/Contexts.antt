@@ -11,7 +11,8 @@ use Rattle.error.specs.Refusal.{Told, good, bad}
 use Rattle.kinds.specs.declared.Kind.the-variants.{GeometricRepresentationContext}
 use Rattle.params.specs.Answer.{onward}
 use Rattle.factors.specs.Thing.{goodBy, sameKind, Piece, Thing, firstPiece}
-use Rattle.units.specs.Units.{Units, readsInteger, isContext, contextOf, decided, recordOf, resolveOf}
+use Rattle.units.specs.Answer.{Units, readsInteger, isContext}
+use Rattle.units.specs.Units.{contextOf, decided, recordOf, resolveOf}
 use Rattle.alike.specs.Alike.{BothTold, BothList, SameTold, AlikeThing, AlikeFind, same-refl, both-pick, both-on, same-on}
 use Rattle.alike.specs.Answers.{is-context-alike, context-alike}
 

@@ -10,7 +10,7 @@ use Rattle.error.specs.Refusal.{refusal, Told, good, bad}
 use Rattle.record.specs.Form.{bytes}
 use Rattle.params.specs.Answer.{onward}
 use Rattle.scan.specs.File.{scanOf}
-use Rattle.units.specs.Units.{Units, units}
+use Rattle.units.specs.Answer.{Units, units}
 use Rattle.serve.specs.Serve.{unitsOf}
 use Rattle.order.specs.Computed.{resolving}
 

@@ -8,7 +8,8 @@ use Rattle.error.specs.Refusal.{Told, good}
 use Rattle.statement.specs.Rows.{Row, mapped}
 use Rattle.params.specs.Answer.{onward}
 use Rattle.factors.specs.Thing.{Thing, thingOf}
-use Rattle.units.specs.Units.{Units, contextOf}
+use Rattle.units.specs.Answer.{Units}
+use Rattle.units.specs.Units.{contextOf}
 
 -- none where there is no row; else the units of the context in it, or what refuses them. `find` gives the record of an id
 abbrev pub unitsIn : List ℕ → (ℕ → Told (Option Thing)) → Option Row → Told (Option Units)

@@ -2,6 +2,7 @@
 -- given exactly when the lent room is too short."
 -- The kept form is this crate's own, row by row; how the rows lie in lent memory is the table's (`rowNumbers`, `rowsFit`, `rowsLaid`).
 -- Assumes nothing.
+-- Definitions to be believed: no law, and nothing computed that no theorem ties (docs/BELIEVE.md).
 use Prim.Native.Nat.{ℕ, zero, suc, _+_, _*_, _/_, _%_, _≤_}
 use mathlib.Core.Bool.{Bool, true, _&&_}
 use mathlib.Core.List.{List, [], _∷_, _++_}
@@ -9,7 +10,7 @@ use lib.Dec.{ltb, leb, eqb}
 use lib.ListN.{length, drop, getD}
 use Rattle.common.specs.Pick.{pick}
 use Rattle.error.specs.Refusal.{refusal, Told, good, bad, told}
-use Rattle.statement.specs.Row.{Row, row}
+use Rattle.statement.specs.Rows.{Row, row}
 use Rattle.table.specs.Table.{six, rowsLaid}
 use Rattle.kept.specs.declared.Kept.{Kept}
 use Rattle.kept.specs.declared.Kept.the-variants.{Rows, Refused}
@@ -19,13 +20,13 @@ abbrev pub little : ℕ → ℕ → ℕ → ℕ → ℕ
 little a b c d = a + b * 256 + c * 65536 + d * 16777216
 
 -- the four bytes of a number of 32 bits
-abbrev pub four : ℕ → List ℕ
-four x = x % 256 ∷ (x / 256 % 256) ∷ (x / 65536 % 256) ∷ (x / 16777216 % 256) ∷ []
+abbrev pub littleFour : ℕ → List ℕ
+littleFour x = x % 256 ∷ (x / 256 % 256) ∷ (x / 65536 % 256) ∷ (x / 16777216 % 256) ∷ []
 
 -- numbers as bytes, one after the other
 unfoldable pub littles : List ℕ → List ℕ
 littles [] = []
-littles (x ∷ xs) = four x ++ littles xs
+littles (x ∷ xs) = littleFour x ++ littles xs
 
 -- "these six as little-endian 32-bit numbers": the 24 bytes of a row
 abbrev pub rowBytes : Row → List ℕ

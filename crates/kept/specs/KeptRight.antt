@@ -11,11 +11,11 @@ use lib.ListN.{length, take, getD, getElem?}
 use lib.Seq.{take-all, take-suc, getD-append-add}
 use Rattle.common.specs.Compare.{clash}
 use Rattle.error.specs.Refusal.{good}
-use Rattle.statement.specs.Row.{Row}
+use Rattle.statement.specs.Rows.{Row}
 use Rattle.table.specs.Table.{rowNumbers, six, rowsLaid}
 use Rattle.table.specs.Laws.{row-same}
 use Rattle.table.specs.Laid.{row-is}
-use Rattle.kept.specs.Kept.{little, four, littles, rowBytes, bytesOf, numberAt, rowAt, firstRows, rowsOf, fineRow, fineAll, FineRow, keepOf, readOf}
+use Rattle.kept.specs.Kept.{little, littleFour, littles, rowBytes, bytesOf, numberAt, rowAt, firstRows, rowsOf, fineRow, fineAll, FineRow, keepOf, readOf}
 use Rattle.kept.specs.Laws.{fine-not, length-first, length-row, length-bytes, bytes-more, read-good, keep-good}
 
 -- each number of a list is below a bound
@@ -115,7 +115,7 @@ take-more s p q l h e =
     sym (append-assoc (take p s) (getD s p 0 ∷ []) l) ∙ ap (λ (z : List ℕ). z ++ l) (sym (take-suc s p 0 h) ∙ ap (λ (z : ℕ). take z s) e)
 
 -- the four bytes of a number that was read
-number-more : (s : List ℕ) → Below 256 s → (p q : ℕ) (l : List ℕ) → p + 4 ≤ length s → p + 4 ≡ q → take p s ++ (four (numberAt s p) ++ l) ≡ take q s ++ l
+number-more : (s : List ℕ) → Below 256 s → (p q : ℕ) (l : List ℕ) → p + 4 ≤ length s → p + 4 ≡ q → take p s ++ (littleFour (numberAt s p) ++ l) ≡ take q s ++ l
 number-more s w p q l h e =
     let b = below-at s w in
     let j = b p in

@@ -11,10 +11,10 @@ use borrow.Author.Tests.{ltb-true, ltb-false, lt-ltb, le-ltb, eq-eqb, ne-eqb}
 use lib.ListN.{length, drop, set, length-append, length-drop}
 use lib.Seq.{sets, sets-eq, take-append-seam, drop-append-add, drop-drop}
 use Rattle.error.specs.Refusal.{refusal, good, bad}
-use Rattle.statement.specs.Row.{Row}
+use Rattle.statement.specs.Rows.{Row}
 use Rattle.table.specs.Table.{rowsFit, rowsLaid, rowPut}
 use Rattle.table.specs.Laid.{rows-laid-none, rows-laid-more}
-use Rattle.kept.specs.Kept.{four, littles, rowBytes, bytesOf, rowAt, firstRows, fineRow, fineAll, keepOf, readOf, bytesAfter}
+use Rattle.kept.specs.Kept.{littleFour, littles, rowBytes, bytesOf, rowAt, firstRows, fineRow, fineAll, keepOf, readOf, bytesAfter}
 
 -- one row more is fine
 pub fine-more : (len : ℕ) (r : ℕ → Row) (k : ℕ) → fineAll len r k ≡ true → fineRow len (r k) ≡ true → fineAll len r (k + 1) ≡ true
@@ -79,16 +79,16 @@ sets-more s p q (x ∷ xs) ys e = sets-more (set s p x) (suc p) q xs ys (omega a
 
 -- a row's numbers stored one after the other are its bytes
 pub row-stored : (s : List ℕ) (p : ℕ) (w : Row)
-    → sets (sets (sets (sets (sets (sets s p (four (w .id))) (p + 4) (four (w .keyStart))) (p + 8) (four (w .keyEnd))) (p + 12) (four (w .argStart))) (p + 16) (four (w .argEnd))) (p + 20) (four (w .complex))
+    → sets (sets (sets (sets (sets (sets s p (littleFour (w .id))) (p + 4) (littleFour (w .keyStart))) (p + 8) (littleFour (w .keyEnd))) (p + 12) (littleFour (w .argStart))) (p + 16) (littleFour (w .argEnd))) (p + 20) (littleFour (w .complex))
     ≡ sets s p (rowBytes w)
 unfolding littles
 row-stored s p w =
-    let a = four (w .id) in
-    let b = four (w .keyStart) in
-    let c = four (w .keyEnd) in
-    let d = four (w .argStart) in
-    let e = four (w .argEnd) in
-    let f = four (w .complex) in
+    let a = littleFour (w .id) in
+    let b = littleFour (w .keyStart) in
+    let c = littleFour (w .keyEnd) in
+    let d = littleFour (w .argStart) in
+    let e = littleFour (w .argEnd) in
+    let f = littleFour (w .complex) in
     ap (λ (z : List ℕ). sets (sets (sets (sets z (p + 8) c) (p + 12) d) (p + 16) e) (p + 20) f) (sets-more s p (p + 4) a b (omega arith))
     ∙ ap (λ (z : List ℕ). sets (sets (sets z (p + 12) d) (p + 16) e) (p + 20) f) (sets-more s p (p + 8) (a ++ b) c (omega arith))
     ∙ ap (λ (z : List ℕ). sets (sets z (p + 16) e) (p + 20) f) (sets-more s p (p + 12) (a ++ b ++ c) d (omega arith))

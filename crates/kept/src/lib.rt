@@ -6,9 +6,9 @@ ghost use mathlib.Core.Path.{_≡_};
 ghost use Prim.Native.Nat.{_+_, _*_, _≤_, _<_};
 ghost use lib.ListN.{length};
 ghost use lib.Seq.{sets};
-ghost use Rattle.statement.specs.Statement.{rowOf};
+ghost use Rattle.statement.specs.Rows.{rowOf};
 ghost use Rattle.table.specs.Table.{rowsFit, tableRows, rowNumbers, rowsLaid, narrowRow};
-ghost use Rattle.kept.specs.Kept.{four, rowBytes, numberAt, rowAt, firstRows, fineRow, fineAll, toldKept, keepOf, bytesAfter, keptAfter, readOf, readAfter};
+ghost use Rattle.kept.specs.Kept.{littleFour, rowBytes, numberAt, rowAt, firstRows, fineRow, fineAll, toldKept, keepOf, bytesAfter, keptAfter, readOf, readAfter};
 use error::Fault;
 use statement::Range;
 use statement::RecordSpan;
@@ -112,7 +112,7 @@ fn fine_bytes(len: usize, bytes: &[u8], n: usize) -> bool
 // Stores a number in the four bytes from this place on: its lower 32 binary digits, which are all that a table's number has.
 fn put_number(out: &mut [u8], at: usize, x: usize)
     requires { ⌜ at + 4 ≤ length (now out) ⌝ }
-    ensures { λ _. ⌜ now (out .exit) ≡ sets (now (out .entry)) at (four x) ⌝ }
+    ensures { λ _. ⌜ now (out .exit) ≡ sets (now (out .entry)) at (littleFour x) ⌝ }
 {
     out[at] = (x % 256) as u8;
     out[at + 1] = (x / 256 % 256) as u8;

@@ -21,7 +21,8 @@ use Rattle.lists.specs.Items.{itemEnd, itemText, indent, itemBy, itemsFrom, isB
 use Rattle.lists.specs.Answer.{nextBy}
 use Rattle.factors.specs.Unit.{siLength, siAngle, measureRef}
 use Rattle.factors.specs.Factor.{linkOf, measureIn, lengthOf, numberIn, angleOf}
-use Rattle.units.specs.Units.{isContext, refsIn, unitBy, unitsBy, uncertaintyBy, toleranceBy, listedUnits, listedTolerance, contextOf, resolveOf}
+use Rattle.units.specs.Answer.{isContext, refsIn, uncertaintyBy}
+use Rattle.units.specs.Units.{unitBy, unitsBy, toleranceBy, listedUnits, listedTolerance, contextOf, resolveOf}
 use Rattle.nearest.specs.Near.{near, nearUnits}
 use Rattle.nearest.specs.Product.{worthOf}
 use Rattle.nearest.specs.Units as Nearest

@@ -14,7 +14,7 @@ use Rattle.statement.specs.Closed.{Closed}
 use Rattle.statement.specs.declared.Section.the-variants.{Outside}
 use Rattle.scan.specs.Records.{Table, table}
 use Rattle.scan.specs.File.{scanOf}
-use Rattle.units.specs.Units.{units}
+use Rattle.units.specs.Answer.{units}
 use Rattle.serve.specs.Serve.{unitsOf}
 use Rattle.order.specs.Order.{Cut, rest, piece, texts, filled, Cuts, contextText, contextsIn, Rearranged, served, Same}
 use Rattle.order.specs.Right.{order}

@@ -13,7 +13,7 @@ use Rattle.statement.specs.Closed.{ClosedData}
 use Rattle.statement.specs.ClosedRight.{rowFrom, record-row}
 use Rattle.params.specs.Answer.{onward}
 use Rattle.factors.specs.Thing.{Piece, Thing, thingAt, thingOf, thingFound}
-use Rattle.units.specs.Units.{isContext}
+use Rattle.units.specs.Answer.{isContext}
 use Rattle.alike.specs.Alike.{BothTold, BothList, AlikeThing, AlikeFound, AlikeFind, Every}
 use Rattle.alike.specs.Closed.{closed-thing-good, closed-parts-good, closed-things-alike}
 use Rattle.alike.specs.Contexts.{toldTrue, contextsOf, Asked, context-told, context-same}

@@ -32,7 +32,8 @@ use Rattle.store.specs.declared.Opened.{Opened}
 use Rattle.store.specs.declared.Opened.the-variants.{Good, Refused}
 use Rattle.factors.specs.Thing.{findOf}
 use Rattle.units.specs.Units.{resolveOf}
-use Rattle.units.specs.Code.{toldUnits, thingsFrom}
+use Rattle.units.specs.Answer.{toldUnits}
+use Rattle.units.specs.Code.{thingsFrom}
 use Rattle.units.specs.declared.Resolved.{Resolved}
 use Rattle.order.specs.Order.{Cut, texts, filled, Cuts, Rearranged, contentFound, served, SameUnits, Same}
 use Rattle.order.specs.Shape.{AllSay}

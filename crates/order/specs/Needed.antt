@@ -12,7 +12,7 @@ use Rattle.record.specs.Head.{dataHead}
 use Rattle.statement.specs.Rows.{row}
 use Rattle.statement.specs.Closed.{Closed, Content}
 use Rattle.statement.specs.declared.Section.the-variants.{Outside}
-use Rattle.units.specs.Units.{Units, units}
+use Rattle.units.specs.Answer.{Units, units}
 use Rattle.scan.specs.Records.{Table, table}
 use Rattle.scan.specs.File.{scanOf}
 use Rattle.serve.specs.Serve.{unitsOf}

@@ -30,7 +30,7 @@ use Rattle.scan.specs.Table.{countsOf}
 use Rattle.params.specs.Answer.{onward}
 use Rattle.lookup.specs.Records.{lastOf}
 use Rattle.factors.specs.Thing.{thingOf}
-use Rattle.units.specs.Units.{Units, isContext}
+use Rattle.units.specs.Answer.{Units, isContext}
 use Rattle.serve.specs.Serve.{unitsOf}
 
 -- a file, cut: what stands up to the next data record, that record's text, from its `#` up to its `;`, and what follows, cut likewise;

@@ -8,7 +8,8 @@ use Rattle.statement.specs.Closed.{Closed}
 use Rattle.scan.specs.Records.{Table}
 use Rattle.scan.specs.File.{scanOf}
 use Rattle.factors.specs.Thing.{thingOf, thingFound}
-use Rattle.units.specs.Units.{Units, resolveOf}
+use Rattle.units.specs.Answer.{Units}
+use Rattle.units.specs.Units.{resolveOf}
 use Rattle.alike.specs.Alike.{SameTold}
 use Rattle.alike.specs.Contexts.{contextsOf, resolve-contexts, resolve-same}
 use Rattle.lookup.specs.Records.{lastOf}

@@ -4,9 +4,6 @@
 use Prim.Native.Nat.{ℕ, _-_}
 use mathlib.Core.Bool.{Bool, _&&_}
 use lib.Dec.{leb}
-use Prim.Native.Nat.{ℕ, _-_}
-use mathlib.Core.Bool.{_&&_}
-use lib.Dec.{leb}
 use Rattle.common.specs.Pick.{pick}
 
 -- a decimal digit

@@ -29,8 +29,7 @@ use Rattle.record.specs.declared.Word.{Word}
 use Rattle.record.specs.declared.Word.the-variants.{Header, Data, EndSection, EndFile, Other}
 pub mod Parts
 pub mod Gaps
-use Parts.{sole, first-other, all-front, all-back, all-join, all-any, Spanned, span, Tailed, tail-split}
-use Parts.{past-pass, past-halt, number-pass, number-halt, word-pass}
+use Parts.{sole, first-other, all-front, all-back, all-join, all-any, Spanned, span, Tailed, tail-split, past-pass, past-halt, number-pass, number-halt, word-pass}
 use Gaps.{gap-other, gap-more, gap-part, gap-join, gap-only, gap-is, gap-comes, gap-free, gap-digit}
 
 -- what is left past bytes of a kind, where they are given

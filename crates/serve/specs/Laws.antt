@@ -22,7 +22,8 @@ use Rattle.store.specs.Served.{opened-served}
 use Rattle.store.specs.Laws.{counted}
 use Rattle.store.specs.declared.Opened.the-variants.{Good, Refused}
 use Rattle.factors.specs.Thing.{Thing, thingOf, thingFound, findOf}
-use Rattle.units.specs.Units.{Units, resolveOf}
+use Rattle.units.specs.Answer.{Units}
+use Rattle.units.specs.Units.{resolveOf}
 use Rattle.units.specs.Code.{thingsFrom}
 use Rattle.units.specs.Records.{things-are}
 use Rattle.serve.specs.Serve.{recordIn, unitsOf, Left}

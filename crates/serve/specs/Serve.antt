@@ -11,7 +11,8 @@ use Rattle.lookup.specs.Records.{lastOf}
 use Rattle.store.specs.Store.{Opens}
 use Rattle.store.specs.declared.Opened.{Opened}
 use Rattle.factors.specs.Thing.{thingOf, thingFound}
-use Rattle.units.specs.Units.{Units, resolveOf}
+use Rattle.units.specs.Answer.{Units}
+use Rattle.units.specs.Units.{resolveOf}
 use Rattle.serve.specs.declared.Served.{Served}
 use Rattle.serve.specs.declared.Served.the-variants as served
 

@@ -5,7 +5,7 @@
 ghost use mathlib.Core.Path.{_≡_};
 ghost use Rattle.params.specs.Answer.{onward};
 ghost use Rattle.store.specs.Store.{scanInto};
-ghost use Rattle.units.specs.Code.{toldUnits};
+ghost use Rattle.units.specs.Answer.{toldUnits};
 ghost use Rattle.serve.specs.Serve.{toldServed, recordIn, unitsOf, Left};
 use error::Fault;
 use lookup::Entry;

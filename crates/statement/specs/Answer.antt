@@ -1,7 +1,7 @@
 -- What the code's answers say, of a record and of a statement.
 -- Assumes nothing.
 -- Definitions to be believed: no law, and nothing computed that no theorem ties (docs/BELIEVE.md).
-use Prim.Native.Nat.{ℕ, _≤_, _<_}
+use Prim.Native.Nat.{ℕ, _≤_, _<_, _-_}
 use mathlib.Core.List.{List}
 use lib.ListN.{drop}
 use Rattle.error.specs.Refusal.{Told, good, bad, told}
@@ -13,9 +13,6 @@ use Rattle.statement.specs.declared.RecordRead.{RecordRead}
 use Rattle.statement.specs.declared.RecordRead.the-variants.{RecordIs, NoRecord}
 use Rattle.statement.specs.declared.Said.{Said}
 use Rattle.statement.specs.declared.Said.the-variants.{Ends, Refuses, Moves, Heads, Records}
-use Prim.Native.Nat.{ℕ, _-_}
-use mathlib.Core.List.{List}
-use lib.ListN.{drop}
 use Rattle.statement.specs.declared.Tidied.{Tidied}
 use Rattle.statement.specs.declared.Tidied.the-variants.{Untidy, Tidy}
 

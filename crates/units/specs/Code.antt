@@ -20,24 +20,13 @@ use Rattle.lookup.specs.Lookup.{cut, spanFine}
 use Rattle.factors.specs.Thing.{sameKind, Thing, thingOf}
 use Rattle.factors.specs.Answer.{toldRun}
 use Rattle.factors.specs.declared.Run as RunCode
-use Rattle.units.specs.Units as unit
-use Rattle.units.specs.Units.{Units, units, defaults, isContext, contextOf, refsIn, lengthRole, angleRole, solidRole}
-use Rattle.units.specs.declared.Values as ValuesCode
-use Rattle.units.specs.declared.Resolved as ResolvedCode
+use Rattle.units.specs.Answer.{Units, units, defaults, isContext, refsIn}
+use Rattle.units.specs.Units.{contextOf}
 use Rattle.units.specs.declared.Asked as AskedCode
 use Rattle.units.specs.declared.role.Role as RoleCode
 use Rattle.units.specs.declared.listed.Tolerance as ToleranceCode
 use Rattle.units.specs.declared.listed.Refs as RefsCode
 use Rattle.units.specs.declared.listed.Uncertain as UncertainCode
-
--- four values, as patterns
-abbrev pub valuesIn : ValuesCode.Values → Units
-valuesIn v = units (toBits binary64 (v .length)) (toBits binary64 (v .angle)) (toBits binary64 (v .tolerance)) (v .resolved)
-
--- four values, or a refusal
-abbrev pub toldUnits : ResolvedCode.Resolved → Told Units
-toldUnits (ResolvedCode.the-variants.Is v) = good (valuesIn v)
-toldUnits (ResolvedCode.the-variants.Refused f) = bad (told f)
 
 -- yes, no, or a refusal
 abbrev pub toldAsked : AskedCode.Asked → Told Bool
@@ -58,14 +47,6 @@ deciding (bad q) = true
 unfoldable pub thingsFrom : List ℕ → (ℕ → Row) → ℕ → ℕ → List (Told Thing)
 thingsFrom s row zero k = []
 thingsFrom s row (suc n) k = thingOf s (row k) ∷ thingsFrom s row n (suc k)
-
--- a role, none, or a refusal
-abbrev pub toldRole : RoleCode.Role → Told (Option unit.Role)
-toldRole RoleCode.the-variants.Length = good (some lengthRole)
-toldRole RoleCode.the-variants.Angle = good (some angleRole)
-toldRole RoleCode.the-variants.Solid = good (some solidRole)
-toldRole RoleCode.the-variants.Nothing = good none
-toldRole (RoleCode.the-variants.Refused f) = bad (told f)
 
 -- the code's role of a kind
 abbrev pub roleAfter : Kind → RoleCode.Role

@@ -43,8 +43,9 @@ use Rattle.factors.specs.Thing.{goodBy, sameKind, pieceOf, Thing, thingOf, self
 use Rattle.factors.specs.Factor.{lengthOf, angleOf}
 use Rattle.factors.specs.Unit.{optionBy}
 use Rattle.units.specs.Units as unit
-use Rattle.units.specs.Units.{Units, lengthRole, angleRole, solidRole, roleBy, firstRole, roleOf, withLength, withAngle, reads, readsInteger, isContext, unitOf, unitBy, unitsBy, uncertainBy, uncertaintyOf, uncertaintyBy, toleranceBy, defaults, withTolerance, refsIn, listedUnits, listedTolerance, contextOf, decided, recordOf, resolveOf}
-use Rattle.units.specs.Code.{toldRole, roleAfter, keptRole, kindAt, contextOr, deciding, thingsFrom, idsOf, ReadsAll, RefsTo}
+use Rattle.units.specs.Answer.{Units, lengthRole, angleRole, solidRole, roleBy, withLength, withAngle, reads, readsInteger, isContext, defaults, withTolerance, uncertainBy, refsIn, toldRole, uncertaintyOf, uncertaintyBy}
+use Rattle.units.specs.Units.{roleOf, firstRole, unitOf, unitBy, unitsBy, toleranceBy, listedUnits, listedTolerance, contextOf, decided, recordOf, resolveOf}
+use Rattle.units.specs.Code.{roleAfter, keptRole, kindAt, contextOr, deciding, thingsFrom, idsOf, ReadsAll, RefsTo}
 use Rattle.units.specs.declared.listed.Refs.{Refs}
 use Rattle.units.specs.declared.listed.Refs.the-variants as refs
 use Rattle.units.specs.declared.role.Role.{Role}
@@ -283,18 +284,18 @@ module _ (s : List ℕ) (find : ℕ → Told (Option Thing)) where
   uncertain-missing i h = rw h refl
 
   -- the record that has it
-  pub uncertain-row : (i : ℕ) (t : Told Thing) {x : Told (Option ℕ)} → find i ≡ goodBy some t → x ≡ onward (uncertaintyOf s find) t → x ≡ uncertaintyBy s find i
+  pub uncertain-row : (i : ℕ) (t : Told Thing) {x : Told (Option ℕ)} → find i ≡ goodBy some t → x ≡ onward (uncertaintyOf s) t → x ≡ uncertaintyBy s find i
   unfolding uncertaintyBy
   uncertain-row i (good t) h e = rw h e
   uncertain-row i (bad r) h e = rw h e
 
   module _ (w : Row) {p : Lookup.Span} (given : good p ≡ spanIn (length s) (w .argStart) (w .argEnd)) where
     -- a record of another kind
-    pub uncertain-other : sameKind (kindIn s w) UncertaintyMeasureWithUnit ≡ false → good none ≡ onward (uncertaintyOf s find) (thingOf s w)
+    pub uncertain-other : sameKind (kindIn s w) UncertaintyMeasureWithUnit ≡ false → good none ≡ onward (uncertaintyOf s) (thingOf s w)
     uncertain-other e = let (f, g) = span-good (length s) (w .argStart) (w .argEnd) given in rw (f, e) refl
 
     -- one of this kind, by its measure
-    pub uncertain-own : {x : Told (Option ℕ)} {y : Read ℕ} → sameKind (kindIn s w) UncertaintyMeasureWithUnit ≡ true → x ≡ uncertainBy (y .answer) → y ≡ Scalars.nextOf measureOf s (p .start) (p .end) → x ≡ onward (uncertaintyOf s find) (thingOf s w)
+    pub uncertain-own : {x : Told (Option ℕ)} {y : Read ℕ} → sameKind (kindIn s w) UncertaintyMeasureWithUnit ≡ true → x ≡ uncertainBy (y .answer) → y ≡ Scalars.nextOf measureOf s (p .start) (p .end) → x ≡ onward (uncertaintyOf s) (thingOf s w)
     uncertain-own e h k = let (f, g) = span-good (length s) (w .argStart) (w .argEnd) given in rw (f, e) (h ∙ ap (λ (y : Read ℕ). uncertainBy (y .answer)) (rw g at k))
 
   -- "the first [..] that reads"

@@ -1,3 +1,4 @@
+pub mod Answer
 pub mod Units
 pub mod Rules
 pub mod RulesRight

@@ -6,8 +6,7 @@ use lib.Ieee.{binary64, ofBits, fits}
 use lib.Ieee.Bits.{ofBits-toBits}
 use Rattle.error.specs.Refusal.{Told, good, bad}
 use Rattle.error.specs.Only.{faultOf, faultOf-told}
-use Rattle.units.specs.Units.{Units}
-use Rattle.units.specs.Code.{valuesIn, toldUnits}
+use Rattle.units.specs.Answer.{Units, valuesIn, toldUnits}
 use Rattle.units.specs.declared.Values as ValuesCode
 use Rattle.units.specs.declared.Resolved as ResolvedCode
 

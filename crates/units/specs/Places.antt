@@ -29,7 +29,8 @@ use Rattle.factors.specs.Thing.{goodBy, sameKind, Thing, thingOf, findOf, selfO
 use Rattle.factors.specs.Factor.{lengthOf, angleOf}
 use Rattle.factors.specs.Unit.{optionBy}
 use Rattle.factors.specs.Places.{ThingIn, FoundIn, thing-in, find-in, by-placed, on-placed, any-placed, option-placed, self-in, length-in, angle-in}
-use Rattle.units.specs.Units.{Units, Role, lengthRole, angleRole, solidRole, firstRole, roleOf, withLength, withAngle, readsInteger, isContext, refsIn, uncertainBy, byRole, unitOf, unitBy, unitsBy, uncertaintyOf, uncertaintyBy, toleranceBy, listedUnits, listedTolerance, defaults, withTolerance, contextOf, decided, recordOf, resolveOf}
+use Rattle.units.specs.Answer.{Units, Role, lengthRole, angleRole, solidRole, withLength, withAngle, readsInteger, isContext, defaults, withTolerance, refsIn, uncertainBy, uncertaintyOf, uncertaintyBy}
+use Rattle.units.specs.Units.{roleOf, firstRole, byRole, unitOf, unitBy, unitsBy, toleranceBy, listedUnits, listedTolerance, contextOf, decided, recordOf, resolveOf}
 use Rattle.units.specs.Code.{thingsFrom}
 
 -- a list of references
@@ -89,7 +90,7 @@ module _ (s : List ℕ) (find : ℕ → Told (Option Thing)) (finds : (i : ℕ) 
   -- a listed uncertainty
   uncertainty-placed : (i : ℕ) → PlacedIn (length s) (uncertaintyBy s find i)
   unfolding uncertaintyBy
-  uncertainty-placed i = found-placed (good none) (uncertaintyOf s find) i tt (λ t h. go t (sameKind (t .kind) UncertaintyMeasureWithUnit))
+  uncertainty-placed i = found-placed (good none) (uncertaintyOf s) i tt (λ t h. go t (sameKind (t .kind) UncertaintyMeasureWithUnit))
     where
       go : (t : Thing) (b : Bool) → PlacedIn (length s) (pick b (uncertainBy (nextOf measureOf s (t .run .start) (t .run .stop) .answer)) (good none))
       go t true = uncertain-placed (length s) (nextOf measureOf s (t .run .start) (t .run .stop) .answer) (next-placed measureOf s (t .run .start) (t .run .stop))

@@ -1,7 +1,9 @@
 -- Document 01, 'Units', as rules that name no loop: which record of the file decides, the units of a context, its tolerance, and the role
 -- of a listed unit. A rule speaks of a list cut around one of its members (the crate factors, Each); what a single record or id gives is
 -- taken from Units.antt and the crates below. RulesRight.antt shows that Units.antt computes just this, and that there is no other
--- answer. Assumes nothing.
+-- answer.
+-- Assumes nothing.
+-- Definitions to be believed: no law, and nothing computed that no theorem ties (docs/BELIEVE.md).
 use Prim.Native.Nat.{ℕ}
 use mathlib.Core.Path.{_≡_}
 use mathlib.Core.Bool.{Bool, true, false}
@@ -16,7 +18,8 @@ use Rattle.factors.specs.Each.{Each, IsFirst, LastForm}
 use Rattle.factors.specs.Thing.{goodBy, Piece, Thing, selfOr}
 use Rattle.factors.specs.Factor.{lengthOf, angleOf}
 use Rattle.factors.specs.Unit.{optionBy}
-use Rattle.units.specs.Units.{Units, units, defaults, Role, lengthRole, angleRole, solidRole, roleBy, roleOf, withTolerance, isContext, refsIn, uncertaintyBy}
+use Rattle.units.specs.Answer.{Units, units, defaults, Role, lengthRole, angleRole, solidRole, roleBy, withTolerance, isContext, refsIn, uncertaintyBy}
+use Rattle.units.specs.Units.{roleOf}
 
 -- ---- the role of a listed unit
 -- "the role is a complex record's first part of LENGTH_UNIT, PLANE_ANGLE_UNIT and SOLID_ANGLE_UNIT": over the record's parts

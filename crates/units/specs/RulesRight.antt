@@ -15,7 +15,8 @@ use Rattle.factors.specs.EachLaws.{each-head, each-less, first-comes, first-nev
 use Rattle.factors.specs.Thing.{goodBy, Piece, Thing}
 use Rattle.factors.specs.Factor.{lengthOf, angleOf}
 use Rattle.factors.specs.Unit.{optionBy}
-use Rattle.units.specs.Units.{Units, defaults, Role, lengthRole, angleRole, solidRole, roleBy, firstRole, roleOf, withLength, withAngle, isContext, byRole, unitOf, unitBy, unitsBy, uncertaintyBy, toleranceBy, listedUnits, listedTolerance, contextOf, resolveOf}
+use Rattle.units.specs.Answer.{Units, defaults, Role, lengthRole, angleRole, solidRole, roleBy, withLength, withAngle, isContext, uncertaintyBy}
+use Rattle.units.specs.Units.{roleOf, firstRole, byRole, unitOf, unitBy, unitsBy, toleranceBy, listedUnits, listedTolerance, contextOf, resolveOf}
 use Rattle.units.specs.Rules.{RoleForm, Given, aLength, anAngle, nothing, lengthGiven, angleGiven, unitsWith, givenAs, givenBy, Reads, UnitsForm, Settles, ToleranceForm, listIn, ContextForm, Passed, Decides, ResolveForm}
 
 -- ---- the role of a listed unit
@@ -43,6 +44,10 @@ role-form-is ps = sole (RoleForm ps) (λ o. role-form-only) (go (first-comes (λ
     go : Each (λ p. roleBy (p .kind) ≡ none) ps ⊎ ((r : Role) × IsFirst (λ p. roleBy (p .kind) ≡ none) (λ p r. roleBy (p .kind) ≡ some r) ps r) → (o : Option Role) × RoleForm ps o
     go (inl h) = (none, RoleForm.roleless h)
     go (inr (r, h)) = (some r, RoleForm.part h)
+
+-- of a record whose parts read, its role by the rules; where they do not, their fault
+pub role-of-is : (t : Thing) (ps : List Piece) → t .parts ≡ good ps → (o : Option Role) × (roleOf t ≡ good o) × RoleForm ps o
+role-of-is t ps e = (firstRole ps, rw e refl, role-form-is ps)
 
 -- ---- the units of a list
 -- units with what one listed unit gives

@@ -6,7 +6,8 @@ use Rattle.table.specs.Table.{tableRows, rowNumbers}
 use Rattle.lookup.specs.Lookup.{rowFor}
 use Rattle.lookup.specs.declared.Tables.{Tables}
 use Rattle.factors.specs.Thing.{findOf}
-use Rattle.units.specs.Units.{Units, resolveOf}
+use Rattle.units.specs.Answer.{Units}
+use Rattle.units.specs.Units.{resolveOf}
 use Rattle.units.specs.Code.{thingsFrom}
 use Rattle.plain.specs.Answers.{readCode, readFault, readValue, truthNumber}
 use borrow.Author.Needs.{needs}

@@ -7,8 +7,7 @@ use Rattle.statement.specs.Rows.{Row, mapped, rowOf}
 use Rattle.lookup.specs.Lookup.{rowIn, toldEntry, rowFor}
 use Rattle.lookup.specs.declared.Tables.{Tables}
 use Rattle.factors.specs.Thing.{findOf}
-use Rattle.units.specs.Units.{Units}
-use Rattle.units.specs.Code.{toldUnits}
+use Rattle.units.specs.Answer.{Units, toldUnits}
 use Rattle.plain.specs.Answers.{readFault, foundCode, foundValue, truthNumber}
 use Rattle.plain.specs.AnswersLaws.{found-code, found-value, found-fault}
 use Rattle.plain.specs.Numbers.{tablesBy}

@@ -2,8 +2,7 @@ use denote.Ref.{now}
 use mathlib.Core.Path.{_∙_, sym, ap}
 use lib.Ieee.{binary64, toBits}
 use Rattle.error.specs.Refusal.{Told}
-use Rattle.units.specs.Units.{Units}
-use Rattle.units.specs.Code.{toldUnits}
+use Rattle.units.specs.Answer.{Units, toldUnits}
 use Rattle.plain.specs.Answers.{readValue, truthNumber}
 use Rattle.plain.specs.AnswersLaws.{tells-good, tells-bad}
 use borrow.Author.Needs.{needs}

@@ -5,7 +5,7 @@ use Prim.Native.Nat.{ℕ, _-_, _≤_}
 use borrow.Author.Needs.{needs}
 use denote.Ref.{now}
 use lib.ListN.{length}
-use Rattle.statement.specs.Row.{Row}
+use Rattle.statement.specs.Rows.{Row}
 use Rattle.table.specs.Table.{rowsLaid, rowPut}
 use Rattle.kept.specs.Kept.{rowAt, firstRows}
 use Rattle.kept.specs.Laws.{none-laid, get-more}

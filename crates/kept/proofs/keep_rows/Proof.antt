@@ -5,7 +5,7 @@ use borrow.Author.Tests.{not-true, not-false}
 use denote.Ref.{now}
 use lib.ListN.{length}
 use Rattle.error.specs.Refusal.{Told}
-use Rattle.statement.specs.Row.{Row}
+use Rattle.statement.specs.Rows.{Row}
 use Rattle.table.specs.Table.{tableRows, rowNumbers}
 use Rattle.kept.specs.Kept.{keptAfter}
 use Rattle.kept.specs.Laws.{keep-nine, keep-short, keep-good}

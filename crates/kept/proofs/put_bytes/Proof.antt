@@ -1,6 +1,6 @@
 use Prim.Native.Nat.{_*_}
 use denote.Ref.{now}
-use Rattle.statement.specs.Statement.{rowOf}
+use Rattle.statement.specs.Rows.{rowOf}
 use Rattle.kept.specs.Laws.{row-stored}
 use borrow.Author.Needs.{needs}
 use Rattle.kept.proofs.put_bytes.Statement.{statement}

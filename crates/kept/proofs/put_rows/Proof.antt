@@ -6,7 +6,7 @@ use borrow.Author.Needs.{needs}
 use denote.Ref.{now}
 use lib.ListN.{length}
 use lib.Seq.{sets}
-use Rattle.statement.specs.Row.{Row}
+use Rattle.statement.specs.Rows.{Row}
 use Rattle.table.specs.Table.{rowNumbers}
 use Rattle.kept.specs.Kept.{rowBytes, bytesOf, firstRows, bytesAfter}
 use Rattle.kept.specs.Laws.{put-more}

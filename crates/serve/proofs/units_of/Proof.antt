@@ -2,7 +2,7 @@ use borrow.Author.Needs.{needs}
 use Rattle.serve.proofs.units_of.Statement.{statement}
 use Rattle.serve.proofs.units_of.Tie as tie
 use denote.Ref.{now}
-use Rattle.units.specs.Code.{toldUnits}
+use Rattle.units.specs.Answer.{toldUnits}
 use Rattle.serve.specs.Serve.{unitsOf}
 use Rattle.serve.specs.Laws.{promised, refused-out, units-out}
 

@@ -3,7 +3,7 @@ use mathlib.Core.Path.{_∙_, ap}
 use mathlib.Core.Bool.{false}
 use lib.Ieee.{binary64, toBits, ofBits}
 use Rattle.nearest.specs.Near.{near}
-use Rattle.units.specs.Units.{units}
+use Rattle.units.specs.Answer.{units}
 use Rattle.units.specs.Laws.{one-bits, thousandth-bits}
 use Rattle.units.proofs.assumed.Statement.{statement}
 use Rattle.units.proofs.assumed.Tie as tie

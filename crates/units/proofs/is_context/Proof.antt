@@ -7,7 +7,7 @@ use Rattle.scalars.specs.declared.NextWhole.{NextWhole}
 use Rattle.factors.specs.Thing.{goodBy, thingOf}
 use Rattle.factors.specs.Answer.{toldRun}
 use Rattle.factors.specs.declared.Run.{Run}
-use Rattle.units.specs.Units.{readsInteger}
+use Rattle.units.specs.Answer.{readsInteger}
 use Rattle.units.specs.Laws.{context-is, whole-reads}
 use Rattle.units.proofs.is_context.Statement.{statement}
 use Rattle.units.proofs.is_context.Tie as tie

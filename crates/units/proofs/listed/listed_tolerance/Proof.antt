@@ -8,7 +8,8 @@ use Rattle.statement.specs.Rows.{rowOf}
 use Rattle.params.specs.Answer.{onward}
 use Rattle.factors.specs.Thing.{thingOf, findOf}
 use Rattle.factors.specs.Answer.{toldRun}
-use Rattle.units.specs.Units.{refsIn, toleranceBy}
+use Rattle.units.specs.Answer.{refsIn}
+use Rattle.units.specs.Units.{toleranceBy}
 use Rattle.units.specs.Laws.{refs-refused, refs-nothing, refs-inside, thousandth-bits, tolerance-none, listed-tolerance-is}
 use Rattle.units.proofs.listed.listed_tolerance.Statement.{statement}
 use Rattle.units.proofs.listed.listed_tolerance.Tie as tie

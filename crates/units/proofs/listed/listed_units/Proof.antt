@@ -8,7 +8,8 @@ use Rattle.statement.specs.Rows.{rowOf}
 use Rattle.params.specs.Answer.{onward}
 use Rattle.factors.specs.Thing.{thingOf, findOf}
 use Rattle.factors.specs.Answer.{toldRun}
-use Rattle.units.specs.Units.{refsIn, defaults, unitsBy}
+use Rattle.units.specs.Answer.{refsIn, defaults}
+use Rattle.units.specs.Units.{unitsBy}
 use Rattle.units.specs.Laws.{refs-refused, refs-nothing, refs-inside, units-none, listed-units-is}
 use Rattle.units.proofs.listed.listed_units.Statement.{statement}
 use Rattle.units.proofs.listed.listed_units.Tie as tie

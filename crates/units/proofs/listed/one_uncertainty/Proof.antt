@@ -10,7 +10,7 @@ use Rattle.statement.specs.Rows.{rowOf}
 use Rattle.lookup.specs.Lookup.{toldEntry, toldSpan, rowFor}
 use Rattle.factors.specs.Thing.{thingOf, findOf}
 use Rattle.factors.specs.Laws.{find-none, find-row, thing-out}
-use Rattle.units.specs.Units.{uncertaintyOf}
+use Rattle.units.specs.Answer.{uncertaintyOf}
 use Rattle.units.specs.Laws.{uncertain-missing, uncertain-row, uncertain-other, uncertain-own}
 use Rattle.units.proofs.listed.one_uncertainty.Statement.{statement}
 use Rattle.units.proofs.listed.one_uncertainty.Tie as tie
@@ -40,7 +40,7 @@ enum-told-2 c = search needs
 returns-2 : tie.Need-returns-2
 returns-2 c = let a = c .before .before .before .before .before .before .before .before .before .before .args in let s = now (a .file) in let find = findOf s (rowFor (now (a .rows)) (now (a .slots)) (a .t .ids)) in let w = rowOf (c .before .before .before .before .w .given .0 .0) in
     uncertain-row s find (a .id) (thingOf s w) (find-row s (now (a .rows)) (now (a .slots)) (a .t .ids) (a .id) (ap toldEntry (sym (c .before .before .before .before .w .given .1)) ∙ c .before .before .before .before .before .before .get .ensures))
-    (thing-out (uncertaintyOf s find) s w (ap toldSpan (sym (c .enum-told2 .given .1)) ∙ c .before .before .args-of .ensures))
+    (thing-out (uncertaintyOf s) s w (ap toldSpan (sym (c .enum-told2 .given .1)) ∙ c .before .before .args-of .ensures))
 
 kind-in-requires : tie.Need-kind-in-requires
 kind-in-requires c κs = search needs

@@ -5,7 +5,7 @@ use Rattle.statement.specs.Rows.{rowOf}
 use Rattle.lookup.specs.Lookup.{toldEntry, rowFor}
 use Rattle.factors.specs.Thing.{thingOf, findOf}
 use Rattle.factors.specs.Laws.{find-none, find-row}
-use Rattle.units.specs.Code.{valuesIn, toldRole}
+use Rattle.units.specs.Answer.{valuesIn, toldRole}
 use Rattle.units.specs.Laws.{unit-missing, unit-row, role-refused, role-none, role-solid, role-length, role-angle}
 use Rattle.units.proofs.listed.one_unit.Statement.{statement}
 use Rattle.units.proofs.listed.one_unit.Tie as tie

@@ -4,7 +4,7 @@ use denote.Ref.{now}
 use Rattle.params.specs.Answer.{onward}
 use Rattle.factors.specs.Answer.{toldRun}
 use Rattle.factors.specs.declared.Run.{Run}
-use Rattle.units.specs.Units.{refsIn}
+use Rattle.units.specs.Answer.{refsIn}
 use Rattle.units.specs.Code.{RefsAt}
 use Rattle.units.specs.Laws.{refs-none}
 use Rattle.units.proofs.listed.refs_in.Statement.{statement}

@@ -8,8 +8,9 @@ use Rattle.reals.specs.Answer.{Answer, toldReference}
 use Rattle.lists.specs.Answer.{asFate}
 use Rattle.lookup.specs.Lookup.{rowFor}
 use Rattle.factors.specs.Thing.{findOf}
-use Rattle.units.specs.Units.{Units, defaults, unitsBy}
-use Rattle.units.specs.Code.{valuesIn, toldUnits, idsOf}
+use Rattle.units.specs.Answer.{Units, defaults, valuesIn, toldUnits}
+use Rattle.units.specs.Units.{unitsBy}
+use Rattle.units.specs.Code.{idsOf}
 use Rattle.units.specs.Laws.{Reading, reading-starts, reading-bad, reading-here, reading-last, reading-goes, units-bad, units-more, units-last}
 use Rattle.units.proofs.listed.units_from.Statement.{statement}
 use Rattle.units.proofs.listed.units_from.Tie as tie

@@ -4,7 +4,8 @@ use denote.Ref.{now}
 use Rattle.lookup.specs.Lookup.{rowFor}
 use Rattle.statement.specs.Rows.{rowOf}
 use Rattle.factors.specs.Thing.{thingOf, findOf}
-use Rattle.units.specs.Code.{toldUnits, toldTolerance}
+use Rattle.units.specs.Answer.{toldUnits}
+use Rattle.units.specs.Code.{toldTolerance}
 use Rattle.units.specs.Laws.{context-refused, context-late, context-both}
 use Rattle.units.proofs.listed.units_of_context.Statement.{statement}
 use Rattle.units.proofs.listed.units_of_context.Tie as tie

@@ -3,8 +3,7 @@ use mathlib.Core.Path.{sym, ap}
 use Rattle.factors.specs.Thing.{goodBy}
 use Rattle.factors.specs.Answer.{toldFactor}
 use Rattle.factors.specs.declared.Factor.{Factor}
-use Rattle.units.specs.Units.{withAngle}
-use Rattle.units.specs.Code.{valuesIn}
+use Rattle.units.specs.Answer.{withAngle, valuesIn}
 use Rattle.units.proofs.listed.with_angle.Statement.{statement}
 use Rattle.units.proofs.listed.with_angle.Tie as tie
 

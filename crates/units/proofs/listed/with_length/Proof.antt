@@ -3,8 +3,7 @@ use mathlib.Core.Path.{sym, ap}
 use Rattle.factors.specs.Thing.{goodBy}
 use Rattle.factors.specs.Answer.{toldFactor}
 use Rattle.factors.specs.declared.Factor.{Factor}
-use Rattle.units.specs.Units.{withLength}
-use Rattle.units.specs.Code.{valuesIn}
+use Rattle.units.specs.Answer.{withLength, valuesIn}
 use Rattle.units.proofs.listed.with_length.Statement.{statement}
 use Rattle.units.proofs.listed.with_length.Tie as tie
 
