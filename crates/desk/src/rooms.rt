@@ -223,11 +223,7 @@ fn settled(task: Word, file: &[u8], headers: usize, rows: usize, s: Step) -> Ste
 // verdict is asked, with the line and the column.
 fn refused(task: Word, file: &[u8], headers: usize, rows: usize, l: Line) -> Line {
     if l.a == 8 {
-        return too_many(
-            l.c,
-            table::headers_fit(headers),
-            table::rows_fit(rows),
-        );
+        return too_many(l.c, table::headers_fit(headers), table::rows_fit(rows));
     }
     if let Word::Inspect = task {
         return work::refused_at(file, l);

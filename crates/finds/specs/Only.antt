@@ -9,6 +9,7 @@ use lib.Dec.{ltb}
 use lib.ListN.{length, getD}
 use lib.Seq.{ext-getD}
 use borrow.Author.Tests.{ltb-true, ltb-false}
+use Rattle.finds.specs.Finds.{Told, short, full}
 
 -- of two lists that tell the same there is one
 pub told-only : (f : ℕ → ℕ) (ids before xs ys : List ℕ) → Told f ids before xs → Told f ids before ys → xs ≡ ys

@@ -13,6 +13,7 @@ use Rattle.common.specs.Compare.{ordered, less-or}
 use Rattle.index.specs.Order.{rowAt, Rises, Steady, Says}
 use Rattle.index.specs.declared.Ids.{Ids}
 use Rattle.index.specs.declared.Spacing.{Spacing}
+use Rattle.index.specs.Index.{Stands, Keeps, IsIndex, Starts, Held, IsShift, endId, Built}
 
 -- where there are some it is that row's
 pub end-some : (f : ℕ → ℕ) (n r : ℕ) → 0 < n → endId f n r ≡ f r

@@ -204,7 +204,15 @@ fn pass(
                 }
                 put_record(rows, r, span, write);
                 section = Section::InData;
-                let t = run(s, rows, room, next, r + 1, common::greater(max, span.id), known);
+                let t = run(
+                    s,
+                    rows,
+                    room,
+                    next,
+                    r + 1,
+                    common::greater(max, span.id),
+                    known,
+                );
                 r = t.count;
                 max = t.max;
                 i = t.place;

@@ -17,6 +17,7 @@ use statement::RecordSpan;
 
 // How many numbers a data row has, and a header row.
 pub const ROW_WIDTH: usize = 6;
+
 pub const HEADER_WIDTH: usize = 4;
 
 // How many data rows lie in so many numbers.
