@@ -59,6 +59,13 @@ pub fn has_row(rows: &[u32], k: usize) -> bool
     }
 }
 
+// The same, by the number of rows: a loop over no more rows than the table has then needs no test of its own.
+fn among_rows(rows: &[u32], k: usize) -> bool
+    ensures { λ r. ⌜ r ≡ ltb k (rowsFit (length (now (rows .entry)))) ⌝ }
+{
+    k < rows_fit(rows.len())
+}
+
 // Whether the table has header row k.
 pub fn has_header(heads: &[u32], k: usize) -> bool
     ensures { λ r. ⌜ r ≡ ltb k (headersFit (length (now (heads .entry)))) ⌝ }
@@ -116,7 +123,7 @@ fn row_there(rows: &[u32], k: usize) -> RecordSpan
 pub fn read_row(rows: &[u32], k: usize) -> RecordSpan
     ensures { λ r. ⌜ rowOf r ≡ rowNumbers (now (rows .entry)) k ⌝ }
 {
-    if has_row(rows, k) {
+    if among_rows(rows, k) {
         return row_there(rows, k);
     }
     no_row()
@@ -184,7 +191,7 @@ fn store_row(out: &mut [u32], k: usize, w: RecordSpan)
 pub fn put_row(out: &mut [u32], k: usize, w: RecordSpan)
     ensures { λ _. ⌜ now (out .exit) ≡ rowPut (now (out .entry)) k (narrowRow (rowOf w)) ⌝ }
 {
-    if has_row(out, k) {
+    if among_rows(out, k) {
         store_row(out, k, w);
     }
 }

@@ -20,7 +20,7 @@ use Rattle.params.specs.Skips.{skipsOf}
 use Rattle.words.specs.Answer.{Shown}
 use Rattle.words.specs.Words.{stringAt}
 use Rattle.words.specs.Places.{ToldIn, ShownIn, text-in, text-kept}
-use Rattle.statement.specs.Row as statement
+use Rattle.statement.specs.Rows as statement
 use Rattle.lookup.specs.Lookup as rows
 use Rattle.headers.specs.Header.{headerArgs}
 use Rattle.titles.specs.Title.{empty, asTitle, skipped, titleIn, roomSkipped, roomIn, titleBy, roomBy}

@@ -42,7 +42,7 @@ use Rattle.lookup.specs.Lookup as Lookup
 use Rattle.factors.specs.Thing.{goodBy, sameKind, pieceOf, Thing, thingOf, selfOr}
 use Rattle.factors.specs.Factor.{lengthOf, angleOf}
 use Rattle.factors.specs.Unit.{optionBy}
-use Rattle.units.specs.Units as unit
+use Rattle.units.specs.Answer as unit
 use Rattle.units.specs.Answer.{Units, lengthRole, angleRole, solidRole, roleBy, withLength, withAngle, reads, readsInteger, isContext, defaults, withTolerance, uncertainBy, refsIn, toldRole, uncertaintyOf, uncertaintyBy}
 use Rattle.units.specs.Units.{roleOf, firstRole, unitOf, unitBy, unitsBy, toleranceBy, listedUnits, listedTolerance, contextOf, decided, recordOf, resolveOf}
 use Rattle.units.specs.Code.{roleAfter, keptRole, kindAt, contextOr, deciding, thingsFrom, idsOf, ReadsAll, RefsTo}
