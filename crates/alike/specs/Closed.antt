@@ -31,8 +31,8 @@ use Rattle.statement.specs.Form.{Argued}
 use Rattle.params.specs.Answer.{Span, span}
 use Rattle.params.specs.RulesRight.{Rest, rest-of, rest-place}
 use Rattle.words.specs.Places.{SpanIn}
-use Rattle.parts.specs.Rules.{Window, NextForm, PartsForm}
-use Rattle.parts.specs.Part.{before, partsOf}
+use Rattle.parts.specs.Rules.{Window, NextForm, PartsForm, before}
+use Rattle.parts.specs.Part.{partsOf}
 use Rattle.parts.specs.PartRight.{parts-are}
 use Rattle.parts.specs.Closed.{shiftRow, RowsIn, parts-closed-good}
 use Rattle.lookup.specs.Lookup.{cut, spanFine, kindIn}

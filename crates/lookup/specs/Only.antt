@@ -18,7 +18,7 @@ use Rattle.lookup.specs.declared.Place.{Place}
 use Rattle.lookup.specs.declared.Place.the-variants as place
 
 -- the row that has these numbers
-pub rowBack : Row → RecordSpan
+unfoldable pub rowBack : Row → RecordSpan
 rowBack w = record { id = w .id; keyword = record { start = w .keyStart; end = w .keyEnd }; args = record { start = w .argStart; end = w .argEnd }; complex = w .complex }
 
 -- the answers that tell this
