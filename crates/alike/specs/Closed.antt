@@ -12,6 +12,7 @@ use lib.ListN.{length, take, drop, length-append, length-drop}
 use lib.Seq.{drop-append-add, drop-append-le, take-append-le, take-append-seam, drop-append-seam}
 use Rattle.common.specs.Compare.{clash}
 use Rattle.error.specs.Refusal.{Told, good, bad}
+use Rattle.lex.specs.Grammar.{Closes}
 use Rattle.lex.specs.Byte.{place}
 use Rattle.lex.specs.Local.{closing-local}
 use Rattle.lex.specs.Right.{closing-only}
@@ -27,7 +28,7 @@ use Rattle.statement.specs.Rows.{HeaderRow}
 use Rattle.statement.specs.Closed.{ClosedAt, ClosedData}
 use Rattle.statement.specs.ClosedRight.{rowFrom, contentOf, record-row}
 use Rattle.kinds.specs.Kind.{kindOf}
-use Rattle.statement.specs.Form.{Argued}
+use Rattle.statement.specs.Form.{ArguedTo, Argued}
 use Rattle.params.specs.Answer.{Span, span}
 use Rattle.params.specs.RulesRight.{Rest, rest-of, rest-place}
 use Rattle.words.specs.Places.{SpanIn}
@@ -93,14 +94,15 @@ Shut s (p ∷ ps) = NotFirst digit (drop (p .argEnd) s) × Shut s ps
 
 -- a `)` that was sought from the rest u on
 argued-shut : {s u : List ℕ} {x : Told ℕ} → Argued s u x → Rest s u → (e : ℕ) → x ≡ good e → NotFirst digit (drop e s)
-argued-shut {s} {u} (Argued.closed {r} c) h e k =
+argued-shut {s} {u} (ArguedTo.closed {r} j v) h e k =
+    let c : Closes u r = rw j v in
     let (b, f, l) = closing-local 40 u r (closing-only 40 c) in
     let d : place s (41 ∷ r) ≡ e = cc in
     let g : drop e s ≡ 41 ∷ r = ap (λ (i : ℕ). drop i s) (sym d) ∙ rest-place (rest-of h (b, f)) in
     subst (NotFirst digit) (sym g) (first-other digit 41 r refl)
-argued-shut (Argued.text-open d o) h e k = clash (cc)
-argued-shut (Argued.remark-open d o) h e k = clash (cc)
-argued-shut (Argued.unclosed d) h e k = clash (cc)
+argued-shut (ArguedTo.text-open j d o) h e k = clash (cc)
+argued-shut (ArguedTo.remark-open j d o) h e k = clash (cc)
+argued-shut (ArguedTo.unclosed j d) h e k = clash (cc)
 
 -- the next part
 next-shut : {s : List ℕ} {from end : ℕ} {x : Told (Option HeaderRow)} → NextForm s from end x → (p : HeaderRow) → x ≡ good (some p) → NotFirst digit (drop (p .argEnd) s)
