@@ -4,22 +4,19 @@ use Rattle.desk.proofs.work.how_many.Statement.{statement}
 use Rattle.desk.proofs.work.how_many.Tie as tie
 
 abbrev Inv-loop : tie.InvT-loop
-Inv-loop id rows n count₀ at₀ k₀ count at k = k ≤ n
+Inv-loop id rows n count₀ k₀ count k = k ≤ n
 
 abbrev μ-loop : tie.MeasureT-loop
-μ-loop id rows n count₀ at₀ k₀ count at k = n - k
+μ-loop id rows n count₀ k₀ count k = n - k
 
 loop-holds : tie.Need-loop-holds Inv-loop μ-loop
 loop-holds c = search needs
 
-number-requires : tie.Need-number-requires Inv-loop μ-loop
-number-requires c κs = search needs
+read-row-requires : tie.Need-read-row-requires Inv-loop μ-loop
+read-row-requires c κs = search needs
 
 wrapping-add-usize-requires : tie.Need-wrapping-add-usize-requires Inv-loop μ-loop
 wrapping-add-usize-requires c κs = search needs
-
-wrapping-add-usize-requires-2 : tie.Need-wrapping-add-usize-requires-2 Inv-loop μ-loop
-wrapping-add-usize-requires-2 c κs = search needs
 
 add-k : tie.Need-add-k Inv-loop μ-loop
 add-k c = search needs
@@ -40,9 +37,8 @@ how-many-spec =
     Inv-loop
     μ-loop
     loop-holds
-    number-requires
+    read-row-requires
     wrapping-add-usize-requires
-    wrapping-add-usize-requires-2
     add-k
     loop-less
     loop-again
