@@ -11,7 +11,7 @@ use lib.ListN.{length, getD, set, length-set}
 use lib.Seq.{getD-set-same, getD-set-other}
 use borrow.Author.Tests.{lt-ltb, eq-eqb}
 use Rattle.common.specs.Compare.{ordered, less-or}
-use Rattle.table.specs.Table.{idOf}
+use Rattle.table.specs.Table.{idOf, AllHave}
 use Rattle.finds.specs.Finds.{Told, full}
 use Rattle.finds.specs.Looks.{roomOf, rowOf, Hint, hint-row, both}
 use Rattle.index.specs.declared.Ids.{Ids}
@@ -72,28 +72,9 @@ swept-old P Q ids before after from m to h f l q = subst (λ (z : ℕ). Q (getD 
 abbrev pub AllStand : List ℕ → ℕ → List ℕ → List ℕ → ℕ → ℕ → Type 0
 AllStand rows n ids found from to = (i : ℕ) → from ≤ i → i < to → standing (idOf rows) n (getD found i 0) (getD ids i 0) ≡ true
 
--- each of the numbers of a part is below n
-abbrev pub AllBelow : ℕ → List ℕ → ℕ → ℕ → Type 0
-AllBelow n found from to = (i : ℕ) → from ≤ i → i < to → getD found i 0 < n
-
--- the next one too, where the bound is none lower
-pub below-next : (n m : ℕ) (found : List ℕ) (from at : ℕ) → AllBelow n found from at → n ≤ m → getD found at 0 < m → AllBelow m found from (at + 1)
-below-next n m found from at h o e i a l = go (less-or i at)
-  where
-    go : (i < at) ⊎ (at ≤ i) → getD found i 0 < m
-    go (inl u) = let q = h i a u in omega (arith, q, o)
-    go (inr u) = let p : at ≡ i = omega arith in subst (λ (z : ℕ). getD found z 0 < m) p e
-
--- where a further row has its id too
-pub stand-next : (rows : List ℕ) (n : ℕ) (ids found : List ℕ) (from m : ℕ) → AllStand rows n ids found from m → getD found m 0 < n → idOf rows (getD found m 0) ≡ getD ids m 0 → AllStand rows n ids found from (m + 1)
-stand-next rows n ids found from m h q e i a l = go (less-or i m)
-  where
-    here : standing (idOf rows) n (getD found m 0) (getD ids m 0) ≡ true
-    here = rw (lt-ltb (getD found m 0) n q) (eq-eqb (idOf rows (getD found m 0)) (getD ids m 0) e)
-
-    go : (i < m) ⊎ (m ≤ i) → standing (idOf rows) n (getD found i 0) (getD ids i 0) ≡ true
-    go (inl o) = h i a o
-    go (inr o) = let p : m ≡ i = omega arith in subst (λ (z : ℕ). standing (idOf rows) n (getD found z 0) (getD ids z 0) ≡ true) p here
+-- rows that have their ids stand
+pub have-stand : (rows : List ℕ) (n : ℕ) (ids found : List ℕ) (from to : ℕ) → AllHave rows n ids found from to → AllStand rows n ids found from to
+have-stand rows n ids found from to h i a l = rw (lt-ltb (getD found i 0) n (h .below i a l)) (eq-eqb (idOf rows (getD found i 0)) (getD ids i 0) (h .have i a l))
 
 -- hints that all have their ids are what the search tells
 pub swept-stood : (rows slots : List ℕ) (b : Ids) (n : ℕ) (ids xs ys : List ℕ) (from to : ℕ) → n ≡ roomOf rows slots b → Swept (Hint rows slots b) ids xs from to ys → AllStand rows n ids ys from to → Swept (λ k v. v ≡ rowOf rows slots b k) ids xs from to ys

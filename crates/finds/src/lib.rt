@@ -13,7 +13,7 @@ ghost use Rattle.index.specs.Search.{searched, wide};
 ghost use Rattle.index.specs.Answer.{toldFound};
 ghost use Rattle.finds.specs.Finds.{rowNumber, Told};
 ghost use Rattle.finds.specs.Looks.{roomOf, rowOf, Hint, DenseRow, EvenRow, startNear, NearRow, Stepped, Guided};
-ghost use Rattle.finds.specs.Sweep.{Swept, AllStand, AllBelow};
+ghost use Rattle.finds.specs.Sweep.{Swept};
 use index::Found;
 use index::Ids;
 
@@ -307,53 +307,6 @@ fn near(rows: &[u32], slots: &[u64], b: Ids, ids: &[u32], found: &mut [u32], fro
     slot_near(rows, slots, b, ids, found, from, to);
 }
 
-// The highest of the numbers of a part, or 0.
-fn highest(found: &[u32], from: usize, to: usize) -> u32
-    requires { ⌜ (from ≤ to) × (to ≤ length (now found)) ⌝ }
-    ensures { λ r. ⌜ AllBelow (r + 1) (now (found .entry)) from to ⌝ }
-{
-    let mut top = 0;
-    let mut i = from;
-    while i < to {
-        top = common::greater(top, found[i]);
-        i += 1;
-    }
-    top
-}
-
-// 1 where two numbers differ.
-fn differs(a: u32, b: u32) -> usize
-    ensures { λ r. ⌜ (r ≤ 1) × (r ≡ 0 → a ≡ b) ⌝ }
-{
-    if a == b { 0 } else { 1 }
-}
-
-// How many of the rows that are told have not their ids. It only counts them, so that no jump waits for a row.
-fn misses(rows: &[u32], n: usize, ids: &[u32], found: &[u32], from: usize, to: usize) -> usize
-    requires { ⌜ (from ≤ to) × (to ≤ length (now ids)) × (to ≤ length (now found)) × AllBelow n (now found) from to ⌝ }
-    ensures { λ r. ⌜ (r ≡ 0 → AllStand (now (rows .entry)) n (now (ids .entry)) (now (found .entry)) from to) ⌝ }
-{
-    let mut missed = 0;
-    let mut i = from;
-    while i < to {
-        missed += differs(table::id_at(rows, found[i]), ids[i]);
-        i += 1;
-    }
-    missed
-}
-
-// Whether all rows that are told are some of n, and have their ids. Where one has not, as by the guide nearly always, the rows are near at
-// least when they are looked at one by one.
-fn all_stand(rows: &[u32], n: usize, ids: &[u32], found: &[u32], from: usize, to: usize) -> bool
-    requires { ⌜ (from ≤ to) × (to ≤ length (now ids)) × (to ≤ length (now found)) ⌝ }
-    ensures { λ r. ⌜ (r ≡ true → AllStand (now (rows .entry)) n (now (ids .entry)) (now (found .entry)) from to) ⌝ }
-{
-    if n <= highest(found, from, to) as usize {
-        return false;
-    }
-    misses(rows, n, ids, found, from, to) == 0
-}
-
 // The row of an id: the one that is told, where it has the id, else what is sought.
 fn settled(rows: &[u32], slots: &[u64], b: Ids, r: u32, id: u32) -> u32
     requires { ⌜ Hint (now rows) (now slots) b id r ⌝ }
@@ -385,7 +338,8 @@ fn settle(
     }
 }
 
-// The rows of a part of the ids: what can be told is told, then all of it is looked at; where all have their ids that is all.
+// The rows of a part of the ids: what can be told is told, then all of it is looked at; where all have their ids that is all. Where one has
+// not, as by the guide nearly always, the rows are near at least when they are looked at one by one.
 fn get_part(
     rows: &[u32],
     slots: &[u64],
@@ -400,7 +354,7 @@ fn get_part(
 {
     near(rows, slots, b, ids, found, from, to);
     let n = index::room(rows.len(), slots.len(), b.count);
-    if all_stand(rows, n, ids, found, from, to) {
+    if table::all_have(rows, n, ids, found, from, to) {
         return;
     }
     settle(rows, slots, b, ids, found, from, to);

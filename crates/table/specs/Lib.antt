@@ -1,3 +1,4 @@
 pub mod Table
 pub mod Laws
+pub mod Sweeps
 pub mod Laid

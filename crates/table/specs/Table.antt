@@ -3,7 +3,8 @@
 -- memory after rows were laid or one was put.
 -- Assumes nothing.
 -- Definitions to be believed: no law, and nothing computed that no theorem ties (docs/BELIEVE.md).
-use Prim.Native.Nat.{ℕ, _+_, _*_, _/_, _%_, min}
+use Prim.Native.Nat.{ℕ, _+_, _*_, _/_, _%_, _≤_, _<_, min}
+use mathlib.Core.Path.{_≡_}
 use mathlib.Core.List.{List, [], _∷_, _++_}
 use lib.Dec.{ltb}
 use lib.ListN.{length, drop, getD}
@@ -98,3 +99,21 @@ narrowRow w = row (w .id) (narrow (w .keyStart)) (narrow (w .keyEnd)) (narrow (w
 -- a header row with its places so
 abbrev pub narrowHeader : HeaderRow → HeaderRow
 narrowHeader w = headerRow (narrow (w .keyStart)) (narrow (w .keyEnd)) (narrow (w .argStart)) (narrow (w .argEnd))
+
+-- the rows that are told for the ids of a part all have these ids
+abbrev pub AllIds : List ℕ → List ℕ → List ℕ → ℕ → ℕ → Type 0
+AllIds rows ids found from to = (i : ℕ) → from ≤ i → i < to → idOf rows (getD found i 0) ≡ getD ids i 0
+
+-- each of the numbers of a part is below n
+abbrev pub AllBelow : ℕ → List ℕ → ℕ → ℕ → Type 0
+AllBelow n found from to = (i : ℕ) → from ≤ i → i < to → getD found i 0 < n
+
+-- the rows that are told for the ids of a part, which lies in both lists, are all of the first n, which the table has, and have their ids
+pub record AllHave (rows : List ℕ) (n : ℕ) (ids found : List ℕ) (from to : ℕ) : Type 0 where
+  pub forwards : from ≤ to
+  pub asked : to ≤ length ids
+  pub told : to ≤ length found
+  pub there : n ≤ rowsFit (length rows)
+  pub some : 0 < n
+  pub below : AllBelow n found from to
+  pub have : AllIds rows ids found from to

@@ -4,13 +4,14 @@
 // row put: no other crate knows a width or an offset. Every function answers for any memory and any row: a row that the memory has not
 // reads as zeros, and putting it changes nothing.
 ghost use mathlib.Core.Path.{_≡_};
-ghost use Prim.Native.Nat.{_+_, _*_, _≤_, min};
+ghost use mathlib.Core.Bool.{true};
+ghost use Prim.Native.Nat.{_+_, _*_, _≤_, _<_, min};
 ghost use lib.Dec.{ltb};
 ghost use mathlib.Core.List.{[]};
 ghost use lib.ListN.{length};
 ghost use lib.Seq.{sets};
 ghost use Rattle.statement.specs.Rows.{rowOf, headerRowOf};
-ghost use Rattle.table.specs.Table.{rowsFit, headersFit, idOf, rowNumbers, headerNumbers, six, four, rowPut, headerPut, narrowRow, narrowHeader, narrow};
+ghost use Rattle.table.specs.Table.{rowsFit, headersFit, AllIds, AllBelow, AllHave, idOf, rowNumbers, headerNumbers, six, four, rowPut, headerPut, narrowRow, narrowHeader, narrow};
 use statement::HeaderSpan;
 use statement::Range;
 use statement::RecordSpan;
@@ -48,15 +49,11 @@ pub fn header_rows(numbers: usize, told: usize) -> usize
     common::within(told, headers_fit(numbers))
 }
 
-// Whether the table has data row k.
-pub fn has_row(rows: &[u32], k: usize) -> bool
-    ensures { λ r. ⌜ r ≡ ltb k (rowsFit (length (now (rows .entry)))) ⌝ }
+// Whether the table has data row r.
+pub fn has_row(rows: &[u32], r: u32) -> bool
+    ensures { λ v. ⌜ v ≡ ltb r (rowsFit (length (now (rows .entry)))) ⌝ }
 {
-    if k < rows.len() {
-        k * 6 + 5 < rows.len()
-    } else {
-        false
-    }
+    r as usize * 6 + 5 < rows.len()
 }
 
 // The same, by the number of rows: a loop over no more rows than the table has then needs no test of its own.
@@ -215,4 +212,62 @@ pub fn put_header(out: &mut [u32], k: usize, w: HeaderSpan)
     if has_header(out, k) {
         store_header(out, k, w);
     }
+}
+
+// The highest of the numbers of a part, or 0.
+fn highest(found: &[u32], from: usize, to: usize) -> u32
+    requires { ⌜ (from ≤ to) × (to ≤ length (now found)) ⌝ }
+    ensures { λ r. ⌜ AllBelow (r + 1) (now (found .entry)) from to × ((m : _) → 0 < m → AllBelow m (now (found .entry)) from to → r < m) ⌝ }
+{
+    let mut top = 0;
+    let mut i = from;
+    while i < to {
+        top = common::greater(top, found[i]);
+        i += 1;
+    }
+    top
+}
+
+// 1 where two numbers differ.
+fn differs(a: u32, b: u32) -> usize
+    ensures { λ r. ⌜ (r ≤ 1) × (r ≡ 0 → a ≡ b) × (a ≡ b → r ≡ 0) ⌝ }
+{
+    if a == b { 0 } else { 1 }
+}
+
+// How many of the rows that are told, all of which the table has, have not their ids. It only counts them, so that no jump waits for a row.
+fn misses(rows: &[u32], ids: &[u32], found: &[u32], from: usize, to: usize) -> usize
+    requires { ⌜ (from ≤ to) × (to ≤ length (now ids)) × (to ≤ length (now found)) × AllBelow (rowsFit (length (now rows))) (now found) from to ⌝ }
+    ensures { λ r. ⌜ (r ≡ 0 → AllIds (now (rows .entry)) (now (ids .entry)) (now (found .entry)) from to) × (AllIds (now (rows .entry)) (now (ids .entry)) (now (found .entry)) from to → r ≡ 0) ⌝ }
+{
+    let mut missed = 0;
+    let mut i = from;
+    while i < to {
+        let row = found[i] as usize;
+        missed += differs(rows[row * 6], ids[i]);
+        i += 1;
+    }
+    missed
+}
+
+// Whether the rows that are told for a part of the ids are all some of the first n and have their ids.
+pub fn all_have(rows: &[u32], n: usize, ids: &[u32], found: &[u32], from: usize, to: usize) -> bool
+    ensures { λ r. ⌜ (r ≡ true → AllHave (now (rows .entry)) n (now (ids .entry)) (now (found .entry)) from to) × (AllHave (now (rows .entry)) n (now (ids .entry)) (now (found .entry)) from to → r ≡ true) ⌝ }
+{
+    if to < from {
+        return false;
+    }
+    if ids.len() < to {
+        return false;
+    }
+    if found.len() < to {
+        return false;
+    }
+    if rows_fit(rows.len()) < n {
+        return false;
+    }
+    if n <= highest(found, from, to) as usize {
+        return false;
+    }
+    misses(rows, ids, found, from, to) == 0
 }

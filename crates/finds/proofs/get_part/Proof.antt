@@ -1,4 +1,4 @@
-use Rattle.finds.specs.Sweep.{swept-then, swept-stood}
+use Rattle.finds.specs.Sweep.{swept-then, swept-stood, have-stand}
 use native.Mathlib.Omega.{arith}
 use borrow.Author.Needs.{needs}
 use Rattle.finds.proofs.get_part.Statement.{statement}
@@ -10,14 +10,14 @@ near-requires c κs = search needs
 room-requires : tie.Need-room-requires
 room-requires c κs = search needs
 
-all-stand-requires : tie.Need-all-stand-requires
-all-stand-requires c κs = let p = c .before .before .before .before .before .before .before .before .before .before .pre in let s = c .before .before .before .before .near .ensures .size in (p .0, p .1, omega (arith, s))
+all-have-requires : tie.Need-all-have-requires
+all-have-requires c κs = search needs
 
 same-length : tie.Need-same-length
 same-length c = c .before .before .before .before .before .before .near .ensures .size
 
 returns : tie.Need-returns
-returns c = let a = c .before .before .before .before .before .before .before .before .before .before .before .before .args in swept-stood (a .rows .now) (a .slots .now) (a .b) (c .before .before .before .room .result) _ _ _ _ _ (c .before .before .before .room .ensures) (c .before .before .before .before .before .before .near .ensures) (c .before .all-stand .ensures (c .if1 .taken))
+returns c = let a = c .before .before .before .before .before .before .before .before .before .before .before .before .args in swept-stood (a .rows .now) (a .slots .now) (a .b) (c .before .before .before .room .result) _ _ _ _ _ (c .before .before .before .room .ensures) (c .before .before .before .before .before .before .near .ensures) (have-stand _ _ _ _ _ _ (c .before .all-have .ensures .0 (c .if1 .taken)))
 
 settle-requires : tie.Need-settle-requires
 settle-requires c κs = let p = c .before .before .before .before .before .before .before .before .before .before .before .before .before .pre in let s = c .before .before .before .before .before .before .before .near .ensures .size in (p .0, p .1, omega (arith, s), c .before .before .before .before .before .before .before .near .ensures .each)
@@ -34,7 +34,7 @@ get-part-spec =
     (tie.spec
     near-requires
     room-requires
-    all-stand-requires
+    all-have-requires
     same-length
     returns
     settle-requires
