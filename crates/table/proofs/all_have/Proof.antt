@@ -46,8 +46,7 @@ returns-6 c =
     let e = c .before .before .before .before .rows-fit .ensures in
     let a = c .before .before .before .before .before .before .before .if1 .left in
     let b = c .before .before .before .before .before .before .if2 .left in
-    let d = c .before .before .before .before .before .if3 .left in
-    (
+    let d = c .before .before .before .before .before .if3 .left in (
       (λ z. record { forwards = omega (arith, a); asked = omega (arith, b); told = omega (arith, d); there = omega (arith, r, e); some = omega (arith, t); below = λ j x y. let q = c .before .before .highest .ensures .0 j x y in omega (arith, q, t); have = c .misses .ensures .0 (eqb-true (c .misses .result) 0 z) }),
       λ h. eq-eqb (c .misses .result) 0 (c .misses .ensures .1 (h .have)),
     )

@@ -61,8 +61,7 @@ loop-again c =
     let d = c .differs .ensures in
     let e = d .0 in
     let m = l .inv .2 in
-    let t = id-there (a .rows .now) (getD (a .found .now) (l .i) 0) (p .3 (l .i) (l .inv .0) (omega arith)) in
-    (
+    let t = id-there (a .rows .now) (getD (a .found .now) (l .i) 0) (p .3 (l .i) (l .inv .0) (omega arith)) in (
       omega arith,
       omega arith,
       omega (arith, e, m),
