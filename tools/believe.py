@@ -295,11 +295,15 @@ has to be read: no law, no proof and no definition that only computes.
 The definitions stand in files of their own, which say so in their opening comment. Read a crate's definitions against the papers, whose
 sentences stand above them, and then its public contracts. Where a contract or a definition names something that is computed elsewhere,
 'By theorems' says which theorems tie it: that it is what a definition listed here says, and that there is no other answer. Of a theorem
-the statement is to be read, and not the proof; all that are of this kind are listed with their places.
+the statement is to be read, and not the proof; all that are of this kind are listed with their places. Three go only so far: for id slots
+that the index did not leave, `found-safe` says that what is served has the id, and `index/specs/Search` alone says what that is; `role-of-is`
+and `things-are` speak of records whose parts read, and of tables that a scan left.
 
 `tools/believe.py` writes this page from the tree, and says where it does not hold: in a file that is listed nothing is a law or a
 proof, and its definitions and the contracts of public functions name only what the libraries have, the types of the code (`declared`),
-other files that are listed, and what theorems tie (`tools/believe.txt`). Lines are those of definitions and of the comments above
+other files that are listed, and what theorems tie (`tools/believe.txt`). Not held to it are the crates of the programs, and what only crates
+of the reader call (`inner` there). It reads words and trusts whoever writes a file: what must be believed of the page is that nobody hid a
+law from it. Definitions of the kit's libraries are not on it. Lines are those of definitions and of the comments above
 them; opening comments, imports and blank lines are not counted. The number behind a name is its line. docs/DESIGN.md says where each
 sentence of the papers is.'''
 

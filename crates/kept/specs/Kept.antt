@@ -60,12 +60,12 @@ rowsOf s = firstRows (rowAt s) (length s / 24)
 abbrev pub fineRow : ℕ → Row → Bool
 fineRow len w = leb (w .keyStart) (w .keyEnd) && leb (w .keyEnd) len && leb (w .argStart) (w .argEnd) && leb (w .argEnd) len && leb (w .complex) 1
 
--- the first n rows
+-- the first n rows are all so
 unfoldable pub fineAll : ℕ → (ℕ → Row) → ℕ → Bool
 fineAll len r zero = true
 fineAll len r (suc n) = fineAll len r n && fineRow len (r n)
 
--- the same without a loop: each row's spans run forwards and lie in the file, and its mark is 0 or 1
+-- a row that is fine, without a loop (`fine-each`, `fine-every`): its spans run forwards and lie in the file, and its mark is 0 or 1
 pub record FineRow (len : ℕ) (w : Row) : Type 0 where
   pub key : w .keyStart ≤ w .keyEnd
   pub keyIn : w .keyEnd ≤ len

@@ -84,7 +84,7 @@ kindFound s (some w) = kindIn s w
 abbrev pub isKind : List ℕ → List ℕ → Kind → ℕ → Bool
 isKind s rows k i = eqb (rankOf (kindIn s (rowNumbers rows i))) (rankOf k)
 
--- the same without a loop: a row from i on and before z of which it holds, and of none before; or of none at all
+-- the first row of which a test holds (`firstFrom` computes it), without a loop: a row from i on and before z of which it holds, and of none before; or of none at all
 abbrev pub FirstForm : (ℕ → Bool) → ℕ → ℕ → Option ℕ → Type 0
 FirstForm p i z none = (j : ℕ) → i ≤ j → j < z → p j ≡ false
 FirstForm p i z (some k) = (i ≤ k) × (k < z) × (p k ≡ true) × ((j : ℕ) → i ≤ j → j < k → p j ≡ false)

@@ -1,5 +1,5 @@
 -- How rows lie in lent memory: row by row, a data row in six numbers and a header row in four, in document 01's order.
--- This file and Laws.antt are the only ones that know it. What stands above speaks of row k, of how many rows there are, and of the
+-- The files of this crate are the only ones that know it. What stands above speaks of row k, of how many rows there are, and of the
 -- memory after rows were laid or one was put.
 -- Assumes nothing.
 -- Definitions to be believed: no law, and nothing computed that no theorem ties (docs/BELIEVE.md).
@@ -108,7 +108,8 @@ AllIds rows ids found from to = (i : ℕ) → from ≤ i → i < to → idOf row
 abbrev pub AllBelow : ℕ → List ℕ → ℕ → ℕ → Type 0
 AllBelow n found from to = (i : ℕ) → from ≤ i → i < to → getD found i 0 < n
 
--- the rows that are told for the ids of a part, which lies in both lists, are all of the first n, which the table has, and have their ids
+-- the rows that are told for the ids of a part, which runs forwards and lies in both lists, are all of the first n, of which there is at
+-- least one and which the table has, and have their ids
 pub record AllHave (rows : List ℕ) (n : ℕ) (ids found : List ℕ) (from to : ℕ) : Type 0 where
   pub forwards : from ≤ to
   pub asked : to ≤ length ids

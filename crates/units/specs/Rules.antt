@@ -1,6 +1,6 @@
 -- Document 01, 'Units', as rules that name no loop: which record of the file decides, the units of a context, its tolerance, and the role
 -- of a listed unit. A rule speaks of a list cut around one of its members (the crate factors, Each); what a single record or id gives is
--- taken from Units.antt and the crates below. RulesRight.antt shows that Units.antt computes just this, and that there is no other
+-- taken from Answer.antt, `roleOf` from Units.antt and the crates below. RulesRight.antt shows that Units.antt computes just this, and that there is no other
 -- answer.
 -- Assumes nothing.
 -- Definitions to be believed: no law, and nothing computed that no theorem ties (docs/BELIEVE.md).
