@@ -7,14 +7,6 @@ use Rattle.common.proofs.share.Tie as tie
 mul-result : tie.Need-mul-result
 mul-result c = let p = mul-le-mul {n₁ = c .args .far} {m₁ = c .args .n} {n₂ = 4294967295} {m₂ = 4294967295} (omega arith) (omega arith) in record { fits = omega (arith, p) }
 
-cast-result : tie.Need-cast-result
-cast-result c = search needs
-
-shr-result : tie.Need-shr-result
-shr-result c = search needs
-
-returns : tie.Need-returns
-returns c = search needs
-
 pub share-spec : {M : Type 1} → statement M
-share-spec = tie.close (tie.spec mul-result cast-result shr-result returns)
+share-spec = tie.close (tie.spec
+    mul-result (λ c. search needs) (λ c. search needs) (λ c. search needs))

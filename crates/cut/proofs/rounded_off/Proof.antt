@@ -18,18 +18,6 @@ unit-of drop = unit-is (drop % 64) (mod-lt drop (omega arith))
 unit-le : (drop : ℕ) → 2 ^ (drop % 64) ≤ 9223372036854775808
 unit-le drop = pow-mono {i = drop % 64} {j = 63} (omega arith)
 
-cast-unit : tie.Need-cast-unit
-cast-unit c = search needs
-
-shl-unit : tie.Need-shl-unit
-shl-unit c = search needs
-
-cast-q : tie.Need-cast-q
-cast-q c = search needs
-
-shr-q : tie.Need-shr-q
-shr-q c = search needs
-
 mul-low : tie.Need-mul-low
 mul-low c =
     let a = c .args in
@@ -63,4 +51,5 @@ returns-2 c =
     sym (ap (λ (b : Bool). cond b (a .w / 2 ^ (a .drop % 64) + 1) (a .w / 2 ^ (a .drop % 64))) (c .if1 .left)) ∙ rounded-is (a .w) (a .drop % 64) _ (unit-of (a .drop)) (a .more)
 
 pub rounded-off-spec : {M : Type 1} → statement M
-rounded-off-spec = tie.close (tie.spec cast-unit shl-unit cast-q shr-q mul-low sub-low mul-low-2 add-result returns returns-2)
+rounded-off-spec = tie.close (tie.spec
+    (λ c. search needs) (λ c. search needs) (λ c. search needs) (λ c. search needs) mul-low sub-low mul-low-2 add-result returns returns-2)

@@ -7,12 +7,6 @@ use Rattle.eights.specs.Right.{threes, all-bounded, joined-bounds, passe
 use Rattle.eights.proofs.number.Statement.{statement}
 use Rattle.eights.proofs.number.Tie as tie
 
-joined-requires : tie.Need-joined-requires
-joined-requires c κs = search needs
-
-are-digits-requires : tie.Need-are-digits-requires
-are-digits-requires c κs = search needs
-
 value-requires : tie.Need-value-requires
 value-requires c κs =
     let t = c .before in
@@ -40,4 +34,5 @@ returns-2 c =
     failed (a .a) (a .b) (a .c) (a .d) (a .e) (a .f) (a .g) (a .h) (j .joined .result) (t .are-digits .result) (f .a .fits, (f .b .fits, (f .c .fits, (f .d .fits, (f .e .fits, (f .f .fits, (f .g .fits, (f .h .fits, tt)))))))) (j .joined .ensures) (t .are-digits .ensures) (c .if1 .left)
 
 pub number-spec : {M : Type 1} → statement M
-number-spec = tie.close (tie.spec joined-requires are-digits-requires value-requires returns returns-2)
+number-spec = tie.close (tie.spec
+    (λ c κs. search needs) (λ c κs. search needs) value-requires returns returns-2)

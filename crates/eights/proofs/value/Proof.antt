@@ -7,15 +7,6 @@ use Rattle.eights.specs.Right.{threes, pairsOf, makes}
 use Rattle.eights.proofs.value.Statement.{statement}
 use Rattle.eights.proofs.value.Tie as tie
 
-sub-digits : tie.Need-sub-digits
-sub-digits c = search needs
-
-mul-pairs : tie.Need-mul-pairs
-mul-pairs c = search needs
-
-add-pairs : tie.Need-add-pairs
-add-pairs c = search needs
-
 mul-fours : tie.Need-mul-fours
 mul-fours c =
     let x = c .args .w - threes in
@@ -46,4 +37,5 @@ returns c = λ a b d e f g h i al is. makes a b d e f g h i (c .args .w) al is
 pub value-spec : {M : Type 1} → statement M
 value-spec =
     tie.close
-    (tie.spec sub-digits mul-pairs add-pairs mul-fours add-fours mul-result add-result returns)
+    (tie.spec
+    (λ c. search needs) (λ c. search needs) (λ c. search needs) mul-fours add-fours mul-result add-result returns)

@@ -9,17 +9,8 @@ use Rattle.export.proofs.put_counts.Tie as tie
 returns : tie.Need-returns
 returns c = rw (lt-leb _ _ (c .if1 .taken)) refl
 
-slice-write-out : tie.Need-slice-write-out
-slice-write-out c = search needs
-
 slice-write-out-2 : tie.Need-slice-write-out-2
 slice-write-out-2 c = simp length-set (omega arith)
-
-slice-write-out-3 : tie.Need-slice-write-out-3
-slice-write-out-3 c = search needs
-
-same-length : tie.Need-same-length
-same-length c = search needs
 
 returns-2 : tie.Need-returns-2
 returns-2 c = rw (le-leb _ _ (c .if1 .left)) refl
@@ -27,4 +18,5 @@ returns-2 c = rw (le-leb _ _ (c .if1 .left)) refl
 pub put-counts-spec : {M : Type 1} → statement M
 put-counts-spec =
     tie.close
-    (tie.spec returns slice-write-out slice-write-out-2 slice-write-out-3 same-length returns-2)
+    (tie.spec
+    returns (λ c. search needs) slice-write-out-2 (λ c. search needs) (λ c. search needs) returns-2)

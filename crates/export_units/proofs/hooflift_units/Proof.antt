@@ -14,15 +14,6 @@ use borrow.Author.Needs.{needs}
 use Rattle.export_units.proofs.hooflift_units.Statement.{statement}
 use Rattle.export_units.proofs.hooflift_units.Tie as tie
 
-tables-of-requires : tie.Need-tables-of-requires
-tables-of-requires c κs = search needs
-
-resolve-requires : tie.Need-resolve-requires
-resolve-requires c κs = search needs
-
-put-units-requires : tie.Need-put-units-requires
-put-units-requires c κs = search needs
-
 returns : tie.Need-returns
 returns c =
     let k = c .before .before .before .before .before .before in
@@ -32,4 +23,5 @@ returns c =
 
 pub hooflift-units-spec : {M : Type 1} → statement M
 hooflift-units-spec =
-    tie.close (tie.spec tables-of-requires resolve-requires put-units-requires returns)
+    tie.close (tie.spec
+    (λ c κs. search needs) (λ c κs. search needs) (λ c κs. search needs) returns)

@@ -16,24 +16,6 @@ use borrow.Author.Needs.{needs}
 use Rattle.export_units.proofs.hooflift_units_of_context.Statement.{statement}
 use Rattle.export_units.proofs.hooflift_units_of_context.Tie as tie
 
-tables-of-requires : tie.Need-tables-of-requires
-tables-of-requires c κs = search needs
-
-entity-requires : tie.Need-entity-requires
-entity-requires c κs = search needs
-
-enum-known-w : tie.Need-enum-known-w
-enum-known-w c = search needs
-
-units-of-context-requires : tie.Need-units-of-context-requires
-units-of-context-requires c κs = search needs
-
-put-units-requires : tie.Need-put-units-requires
-put-units-requires c κs = search needs
-
-enum-told : tie.Need-enum-told
-enum-told c = search needs
-
 returns : tie.Need-returns
 returns c =
     let k = c .before .before .before .before .before .before .before .before .before .before in
@@ -59,11 +41,5 @@ pub hooflift-units-of-context-spec : {M : Type 1} → statement M
 hooflift-units-of-context-spec =
     tie.close
     (tie.spec
-    tables-of-requires
-    entity-requires
-    enum-known-w
-    units-of-context-requires
-    put-units-requires
-    enum-told
-    returns
-    returns-2)
+    (λ c κs. search needs) (λ c κs. search needs) (λ c. search needs) (λ c κs. search needs) (λ c κs. search needs) (λ c. search needs)
+    returns returns-2)

@@ -9,21 +9,6 @@ use borrow.Author.Needs.{needs}
 use Rattle.export_units.proofs.put_units.Statement.{statement}
 use Rattle.export_units.proofs.put_units.Tie as tie
 
-enum-known-r : tie.Need-enum-known-r
-enum-known-r c = search needs
-
-number-of-requires : tie.Need-number-of-requires
-number-of-requires c κs = search needs
-
-enum-known-r-2 : tie.Need-enum-known-r-2
-enum-known-r-2 c = search needs
-
-place-requires : tie.Need-place-requires
-place-requires c κs = search needs
-
-number-requires : tie.Need-number-requires
-number-requires c κs = search needs
-
 returns : tie.Need-returns
 returns c =
     let a = c .before .before .before .before .args in
@@ -40,10 +25,4 @@ pub put-units-spec : {M : Type 1} → statement M
 put-units-spec =
     tie.close
     (tie.spec
-    enum-known-r
-    number-of-requires
-    enum-known-r-2
-    place-requires
-    number-requires
-    returns
-    returns-2)
+    (λ c. search needs) (λ c κs. search needs) (λ c. search needs) (λ c κs. search needs) (λ c κs. search needs) returns returns-2)

@@ -11,18 +11,6 @@ use Rattle.factors.specs.Code.{toldId}
 use Rattle.factors.proofs.angle_converted.Statement.{statement}
 use Rattle.factors.proofs.angle_converted.Tie as tie
 
-measure-ref-requires : tie.Need-measure-ref-requires
-measure-ref-requires c κs = search needs
-
-enum-known-f : tie.Need-enum-known-f
-enum-known-f c = search needs
-
-enum-known-id : tie.Need-enum-known-id
-enum-known-id c = search needs
-
-measure-number-requires : tie.Need-measure-number-requires
-measure-number-requires c κs = search needs
-
 returns : tie.Need-returns
 returns c = let a = c .before .before .before .before .before .before .before .args in
     ap (λ (x : Told ℕ). onward (numberIn (now (a .file)) (findOf (now (a .file)) (rowFor (now (a .rows)) (now (a .slots)) (a .t .ids)))) x) (ap toldId (sym (c .before .f .given .1)) ∙ c .before .before .before .measure-ref .ensures)
@@ -35,9 +23,4 @@ pub angle-converted-spec : {M : Type 1} → statement M
 angle-converted-spec =
     tie.close
     (tie.spec
-    measure-ref-requires
-    enum-known-f
-    enum-known-id
-    measure-number-requires
-    returns
-    returns-2)
+    (λ c κs. search needs) (λ c. search needs) (λ c. search needs) (λ c κs. search needs) returns returns-2)

@@ -9,36 +9,6 @@ use Rattle.factors.specs.Laws.{angle-refused, angle-si, angle-late, angl
 use Rattle.factors.proofs.angle_factor.Statement.{statement}
 use Rattle.factors.proofs.angle_factor.Tie as tie
 
-self-or-requires : tie.Need-self-or-requires
-self-or-requires c κs = search needs
-
-enum-known-f : tie.Need-enum-known-f
-enum-known-f c = search needs
-
-enum-known-a : tie.Need-enum-known-a
-enum-known-a c = search needs
-
-si-angle-requires : tie.Need-si-angle-requires
-si-angle-requires c κs = search needs
-
-enum-told : tie.Need-enum-told
-enum-told c = search needs
-
-self-or-requires-2 : tie.Need-self-or-requires-2
-self-or-requires-2 c κs = search needs
-
-enum-known-f-2 : tie.Need-enum-known-f-2
-enum-known-f-2 c = search needs
-
-enum-told-2 : tie.Need-enum-told-2
-enum-told-2 c = search needs
-
-enum-known-a-2 : tie.Need-enum-known-a-2
-enum-known-a-2 c = search needs
-
-angle-converted-requires : tie.Need-angle-converted-requires
-angle-converted-requires c κs = search needs
-
 returns : tie.Need-returns
 returns c = let a = c .before .before .before .before .before .before .before .args in
     angle-refused (now (a .file)) (findOf (now (a .file)) (rowFor (now (a .rows)) (now (a .slots)) (a .t .ids))) (thingOf (now (a .file)) (rowOf (a .row))) (ap toldRun (sym (c .before .f .given .1)) ∙ c .before .before .before .self-or .ensures)
@@ -63,18 +33,5 @@ pub angle-factor-spec : {M : Type 1} → statement M
 angle-factor-spec =
     tie.close
     (tie.spec
-    self-or-requires
-    enum-known-f
-    enum-known-a
-    si-angle-requires
-    enum-told
-    self-or-requires-2
-    enum-known-f-2
-    enum-told-2
-    enum-known-a-2
-    angle-converted-requires
-    returns
-    returns-2
-    returns-3
-    returns-4
-    returns-5)
+    (λ c κs. search needs) (λ c. search needs) (λ c. search needs) (λ c κs. search needs) (λ c. search needs) (λ c κs. search needs)
+    (λ c. search needs) (λ c. search needs) (λ c. search needs) (λ c κs. search needs) returns returns-2 returns-3 returns-4 returns-5)

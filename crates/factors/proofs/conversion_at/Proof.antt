@@ -11,15 +11,6 @@ use Rattle.factors.proofs.conversion_at.Tie as tie
 returns : tie.Need-returns
 returns c = let a = c .before .before .args in conversion-deep (now (a .file)) (a .left) (a .row .args .start) (span (a .a) (a .z)) (c .if1 .taken)
 
-measure-ref-requires : tie.Need-measure-ref-requires
-measure-ref-requires c κs = search needs
-
-enum-known-f : tie.Need-enum-known-f
-enum-known-f c = search needs
-
-enum-known-id : tie.Need-enum-known-id
-enum-known-id c = search needs
-
 returns-2 : tie.Need-returns-2
 returns-2 c = let a = c .before .before .before .before .before .before .args in conversion-refused (now (a .file)) (a .left) (a .row .args .start) (span (a .a) (a .z)) (ne-eqb _ _ (c .before .before .before .before .if1 .left)) (ap toldId (sym (c .before .f .given .1)) ∙ c .before .before .before .measure-ref .ensures)
 
@@ -29,4 +20,5 @@ returns-3 c = let a = c .before .before .before .before .before .before .args in
 pub conversion-at-spec : {M : Type 1} → statement M
 conversion-at-spec =
     tie.close
-    (tie.spec returns measure-ref-requires enum-known-f enum-known-id returns-2 returns-3)
+    (tie.spec
+    returns (λ c κs. search needs) (λ c. search needs) (λ c. search needs) returns-2 returns-3)

@@ -8,36 +8,6 @@ use Rattle.factors.specs.Laws.{link-refused, link-si, link-late, link-ne
 use Rattle.factors.proofs.link_at.Statement.{statement}
 use Rattle.factors.proofs.link_at.Tie as tie
 
-self-or-requires : tie.Need-self-or-requires
-self-or-requires c κs = search needs
-
-enum-known-f : tie.Need-enum-known-f
-enum-known-f c = search needs
-
-enum-known-a : tie.Need-enum-known-a
-enum-known-a c = search needs
-
-si-length-requires : tie.Need-si-length-requires
-si-length-requires c κs = search needs
-
-enum-told : tie.Need-enum-told
-enum-told c = search needs
-
-self-or-requires-2 : tie.Need-self-or-requires-2
-self-or-requires-2 c κs = search needs
-
-enum-known-f-2 : tie.Need-enum-known-f-2
-enum-known-f-2 c = search needs
-
-enum-told-2 : tie.Need-enum-told-2
-enum-told-2 c = search needs
-
-enum-known-a-2 : tie.Need-enum-known-a-2
-enum-known-a-2 c = search needs
-
-conversion-at-requires : tie.Need-conversion-at-requires
-conversion-at-requires c κs = search needs
-
 returns : tie.Need-returns
 returns c = let a = c .before .before .before .before .before .args in
     link-refused (now (a .file)) (a .left) (thingOf (now (a .file)) (rowOf (a .row))) (ap toldRun (sym (c .before .f .given .1)) ∙ c .before .before .before .self-or .ensures)
@@ -62,18 +32,5 @@ pub link-at-spec : {M : Type 1} → statement M
 link-at-spec =
     tie.close
     (tie.spec
-    self-or-requires
-    enum-known-f
-    enum-known-a
-    si-length-requires
-    enum-told
-    self-or-requires-2
-    enum-known-f-2
-    enum-told-2
-    enum-known-a-2
-    conversion-at-requires
-    returns
-    returns-2
-    returns-3
-    returns-4
-    returns-5)
+    (λ c κs. search needs) (λ c. search needs) (λ c. search needs) (λ c κs. search needs) (λ c. search needs) (λ c κs. search needs)
+    (λ c. search needs) (λ c. search needs) (λ c. search needs) (λ c κs. search needs) returns returns-2 returns-3 returns-4 returns-5)

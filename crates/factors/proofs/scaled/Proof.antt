@@ -3,18 +3,6 @@ use mathlib.Core.Path.{refl}
 use Rattle.factors.proofs.scaled.Statement.{statement}
 use Rattle.factors.proofs.scaled.Tie as tie
 
-enum-known-f : tie.Need-enum-known-f
-enum-known-f c = search needs
-
-times-requires : tie.Need-times-requires
-times-requires c κs = search needs
-
-enum-told : tie.Need-enum-told
-enum-told c = search needs
-
-enum-known-f-2 : tie.Need-enum-known-f-2
-enum-known-f-2 c = search needs
-
 returns : tie.Need-returns
 returns c = rw (c .before .before .f .given .1, c .times .ensures) refl
 
@@ -27,4 +15,5 @@ returns-3 c = rw (c .before .f2 .given .1) refl
 pub scaled-spec : {M : Type 1} → statement M
 scaled-spec =
     tie.close
-    (tie.spec enum-known-f times-requires enum-told enum-known-f-2 returns returns-2 returns-3)
+    (tie.spec
+    (λ c. search needs) (λ c κs. search needs) (λ c. search needs) (λ c. search needs) returns returns-2 returns-3)

@@ -12,40 +12,13 @@ use Rattle.factors.specs.Laws.{thing-out, self-own, self-part}
 use Rattle.factors.proofs.self_or.Statement.{statement}
 use Rattle.factors.proofs.self_or.Tie as tie
 
-args-of-requires : tie.Need-args-of-requires
-args-of-requires c κs = search needs
-
-enum-known-a : tie.Need-enum-known-a
-enum-known-a c = search needs
-
-enum-told : tie.Need-enum-told
-enum-told c = search needs
-
 returns : tie.Need-returns
 returns c = let a = c .before .before .before .before .args in thing-out (selfOr (a .kind)) (now (a .file)) (rowOf (a .row)) (ap toldSpan (sym (c .enum-told .given .1)) ∙ c .before .before .args-of .ensures)
-
-kind-in-requires : tie.Need-kind-in-requires
-kind-in-requires c κs = search needs
-
-same-kind-requires : tie.Need-same-kind-requires
-same-kind-requires c κs = search needs
 
 returns-2 : tie.Need-returns-2
 returns-2 c = let a = c .before .before .before .before .before .before .before .before .args in
     let k = ap (λ (x : Kind). eqb (rankOf x) (rankOf (a .kind))) (sym (c .before .before .kind-in .ensures)) ∙ sym (c .before .same-kind .ensures) ∙ c .if1 .taken in
     self-own (now (a .file)) (rowOf (a .row)) (ap toldSpan (sym (c .before .before .before .before .a .given .1)) ∙ c .before .before .before .before .before .before .args-of .ensures) (a .kind) k
-
-complex-part-requires : tie.Need-complex-part-requires
-complex-part-requires c κs = search needs
-
-enum-known-p : tie.Need-enum-known-p
-enum-known-p c = search needs
-
-enum-told-2 : tie.Need-enum-told-2
-enum-told-2 c = search needs
-
-enum-known-f : tie.Need-enum-known-f
-enum-known-f c = search needs
 
 returns-3 : tie.Need-returns-3
 returns-3 c = let a = c .before .before .before .before .before .before .before .before .before .before .before .before .args in
@@ -66,17 +39,5 @@ pub self-or-spec : {M : Type 1} → statement M
 self-or-spec =
     tie.close
     (tie.spec
-    args-of-requires
-    enum-known-a
-    enum-told
-    returns
-    kind-in-requires
-    same-kind-requires
-    returns-2
-    complex-part-requires
-    enum-known-p
-    enum-told-2
-    enum-known-f
-    returns-3
-    returns-4
-    returns-5)
+    (λ c κs. search needs) (λ c. search needs) (λ c. search needs) returns (λ c κs. search needs) (λ c κs. search needs) returns-2
+    (λ c κs. search needs) (λ c. search needs) (λ c. search needs) (λ c. search needs) returns-3 returns-4 returns-5)

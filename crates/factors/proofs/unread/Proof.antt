@@ -6,24 +6,13 @@ use Rattle.error.specs.Refusal.{told}
 use Rattle.factors.proofs.unread.Statement.{statement}
 use Rattle.factors.proofs.unread.Tie as tie
 
-enum-told : tie.Need-enum-told
-enum-told c = search needs
-
-enum-known-n : tie.Need-enum-known-n
-enum-known-n c = search needs
-
-number-requires : tie.Need-number-requires
-number-requires c κs = search needs
-
 returns : tie.Need-returns
 returns c = rw (c .before .before .before .n .given .1, eq-eqb (told (c .before .before .before .n .given .0 .0) .number) 13 (omega (arith, c .before .number .ensures))) refl
-
-returns-2 : tie.Need-returns-2
-returns-2 c = search needs
 
 returns-3 : tie.Need-returns-3
 returns-3 c = rw (c .before .before .before .n .given .1, ne-eqb (told (c .before .before .before .n .given .0 .0) .number) 13 (omega (arith, c .before .number .ensures))) refl
 
 pub unread-spec : {M : Type 1} → statement M
 unread-spec =
-    tie.close (tie.spec enum-told enum-known-n number-requires returns returns-2 returns-3)
+    tie.close (tie.spec
+    (λ c. search needs) (λ c. search needs) (λ c κs. search needs) returns (λ c. search needs) returns-3)

@@ -16,26 +16,8 @@ abbrev μ-loop : tie.MeasureT-loop
 loop-holds : tie.Need-loop-holds Inv-loop μ-loop
 loop-holds c = (omega arith, omega arith, omega arith, omega arith, swept-none _ _ _ _)
 
-mul-dense-row : tie.Need-mul-dense-row Inv-loop μ-loop
-mul-dense-row c = search needs
-
-shared-slice-read-dense-row : tie.Need-shared-slice-read-dense-row Inv-loop μ-loop
-shared-slice-read-dense-row c = search needs
-
-dense-row-requires : tie.Need-dense-row-requires Inv-loop μ-loop
-dense-row-requires c κs = search needs
-
-mul-found : tie.Need-mul-found Inv-loop μ-loop
-mul-found c = search needs
-
 slice-write-found : tie.Need-slice-write-found Inv-loop μ-loop
 slice-write-found c = let l = c .before .before .before .loop in let n = l .inv .4 .size in omega (arith, n)
-
-add-i : tie.Need-add-i Inv-loop μ-loop
-add-i c = search needs
-
-loop-less : tie.Need-loop-less Inv-loop μ-loop
-loop-less c = search needs
 
 loop-again : tie.Need-loop-again Inv-loop μ-loop
 loop-again c = let l = c .before .before .before .loop in let n = l .inv .4 .size in let a = c .before .before .before .before .before .before .before .before .args in let p = c .before .before .before .before .before .before .before .before .pre in (omega arith, omega arith, l .inv .2, l .inv .3, swept-next _ _ _ _ (l .i) _ (l .inv .4) (l .inv .0) _ (omega arith) (far-hint (a .rows .now) (a .slots .now) (a .b) (p .3) (p .4) (getD (a .ids .now) (l .i) 0) (c .dense-row .result) (c .dense-row .ensures)))
@@ -50,16 +32,5 @@ pub dense-near-spec : {M : Type 1} → statement M
 dense-near-spec =
     tie.close
     (tie.spec
-    Inv-loop
-    μ-loop
-    loop-holds
-    mul-dense-row
-    shared-slice-read-dense-row
-    dense-row-requires
-    mul-found
-    slice-write-found
-    add-i
-    loop-less
-    loop-again
-    same-length
-    returns)
+    Inv-loop μ-loop loop-holds (λ c. search needs) (λ c. search needs) (λ c κs. search needs) (λ c. search needs) slice-write-found
+    (λ c. search needs) (λ c. search needs) loop-again same-length returns)

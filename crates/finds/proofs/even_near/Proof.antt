@@ -14,35 +14,14 @@ Inv-loop rows slots b step ids found₀ from to scale i₀ found i = (from ≤ i
 abbrev μ-loop : tie.MeasureT-loop
 μ-loop rows slots b step ids found₀ from to scale i₀ found i = to - i
 
-div-scale : tie.Need-div-scale Inv-loop μ-loop
-div-scale c = search needs
-
 add-scale : tie.Need-add-scale Inv-loop μ-loop
 add-scale c = let a = c .before .before .before .before .args in let q = div-le-self 4294967295 (a .step) in record { fits = omega (arith, q) }
 
 loop-holds : tie.Need-loop-holds Inv-loop μ-loop
 loop-holds c = let a = c .before .before .before .before .args in let q = div-le-self 4294967295 (a .step) in (omega arith, omega arith, omega arith, omega arith, omega (arith, q), swept-none _ _ _ _)
 
-mul-even-row : tie.Need-mul-even-row Inv-loop μ-loop
-mul-even-row c = search needs
-
-shared-slice-read-even-row : tie.Need-shared-slice-read-even-row Inv-loop μ-loop
-shared-slice-read-even-row c = search needs
-
-even-row-requires : tie.Need-even-row-requires Inv-loop μ-loop
-even-row-requires c κs = search needs
-
-mul-found : tie.Need-mul-found Inv-loop μ-loop
-mul-found c = search needs
-
 slice-write-found : tie.Need-slice-write-found Inv-loop μ-loop
 slice-write-found c = let l = c .before .before .before .loop in let n = l .inv .5 .size in omega (arith, n)
-
-add-i : tie.Need-add-i Inv-loop μ-loop
-add-i c = search needs
-
-loop-less : tie.Need-loop-less Inv-loop μ-loop
-loop-less c = search needs
 
 loop-again : tie.Need-loop-again Inv-loop μ-loop
 loop-again c = let l = c .before .before .before .loop in let n = l .inv .5 .size in let a = c .before .before .before .before .before .before .before .before .args in let p = c .before .before .before .before .before .before .before .before .pre in (omega arith, omega arith, l .inv .2, l .inv .3, l .inv .4, swept-next _ _ _ _ (l .i) _ (l .inv .5) (l .inv .0) _ (omega arith) (step-hint (a .rows .now) (a .slots .now) (a .b) (a .step) (p .3) (p .4) (getD (a .ids .now) (l .i) 0) (c .even-row .result) (c .even-row .ensures)))
@@ -57,18 +36,5 @@ pub even-near-spec : {M : Type 1} → statement M
 even-near-spec =
     tie.close
     (tie.spec
-    Inv-loop
-    μ-loop
-    div-scale
-    add-scale
-    loop-holds
-    mul-even-row
-    shared-slice-read-even-row
-    even-row-requires
-    mul-found
-    slice-write-found
-    add-i
-    loop-less
-    loop-again
-    same-length
-    returns)
+    Inv-loop μ-loop (λ c. search needs) add-scale loop-holds (λ c. search needs) (λ c. search needs) (λ c κs. search needs)
+    (λ c. search needs) slice-write-found (λ c. search needs) (λ c. search needs) loop-again same-length returns)

@@ -10,9 +10,6 @@ use Rattle.finds.proofs.even_row.Tie as tie
 returns : tie.Need-returns
 returns c = inl refl
 
-cast-far : tie.Need-cast-far
-cast-far c = search needs
-
 mul-q : tie.Need-mul-q
 mul-q c = let a = c .before .args in let p = mul-le-mul {n₁ = a .id - a .first} {m₁ = a .scale} {n₂ = 4294967295} {m₂ = 4294967296} (omega arith) (c .before .pre) in record { fits = omega (arith, p) }
 
@@ -29,4 +26,5 @@ returns-3 : tie.Need-returns-3
 returns-3 c = inl refl
 
 pub even-row-spec : {M : Type 1} → statement M
-even-row-spec = tie.close (tie.spec returns cast-far mul-q mul-if2 cast-result returns-2 returns-3)
+even-row-spec = tie.close (tie.spec
+    returns (λ c. search needs) mul-q mul-if2 cast-result returns-2 returns-3)

@@ -11,14 +11,9 @@ use Rattle.finds.proofs.get_all.Tie as tie
 returns : tie.Need-returns
 returns c = let a = c .before .before .before .before .before .args in (sym (lt-leb (length (now (a .ids))) (length (now (a .found))) (c .if1 .taken)), short (c .if1 .taken) refl)
 
-get-parts-requires : tie.Need-get-parts-requires
-get-parts-requires c κs = search needs
-
-same-length : tie.Need-same-length
-same-length c = search needs
-
 returns-2 : tie.Need-returns-2
 returns-2 c = let a = c .before .before .before .before .before .before .before .before .before .args in let h = c .before .before .before .before .if1 .left in (sym (le-leb (length (now (a .ids))) (length (now (a .found))) h), swept-told _ _ _ _ h (c .before .before .get-parts .ensures))
 
 pub get-all-spec : {M : Type 1} → statement M
-get-all-spec = tie.close (tie.spec returns get-parts-requires same-length returns-2)
+get-all-spec = tie.close (tie.spec
+    returns (λ c κs. search needs) (λ c. search needs) returns-2)

@@ -4,15 +4,6 @@ use borrow.Author.Needs.{needs}
 use Rattle.finds.proofs.get_part.Statement.{statement}
 use Rattle.finds.proofs.get_part.Tie as tie
 
-near-requires : tie.Need-near-requires
-near-requires c κs = search needs
-
-room-requires : tie.Need-room-requires
-room-requires c κs = search needs
-
-all-have-requires : tie.Need-all-have-requires
-all-have-requires c κs = search needs
-
 same-length : tie.Need-same-length
 same-length c = c .before .before .before .before .before .before .near .ensures .size
 
@@ -22,9 +13,6 @@ returns c = let a = c .before .before .before .before .before .before .before .b
 settle-requires : tie.Need-settle-requires
 settle-requires c κs = let p = c .before .before .before .before .before .before .before .before .before .before .before .before .before .pre in let s = c .before .before .before .before .before .before .before .near .ensures .size in (p .0, p .1, omega (arith, s), c .before .before .before .before .before .before .before .near .ensures .each)
 
-same-length-2 : tie.Need-same-length-2
-same-length-2 c = search needs
-
 returns-2 : tie.Need-returns-2
 returns-2 c = swept-then _ _ _ _ _ _ _ _ (c .before .before .before .before .before .before .before .before .before .before .near .ensures) (c .before .before .settle .ensures)
 
@@ -32,11 +20,4 @@ pub get-part-spec : {M : Type 1} → statement M
 get-part-spec =
     tie.close
     (tie.spec
-    near-requires
-    room-requires
-    all-have-requires
-    same-length
-    returns
-    settle-requires
-    same-length-2
-    returns-2)
+    (λ c κs. search needs) (λ c κs. search needs) (λ c κs. search needs) same-length returns settle-requires (λ c. search needs) returns-2)

@@ -17,12 +17,6 @@ abbrev μ-loop : tie.MeasureT-loop
 loop-holds : tie.Need-loop-holds Inv-loop μ-loop
 loop-holds c = (omega arith, omega arith, swept-none _ _ _ _)
 
-sub-within : tie.Need-sub-within Inv-loop μ-loop
-sub-within c = search needs
-
-within-requires : tie.Need-within-requires Inv-loop μ-loop
-within-requires c κs = search needs
-
 add-to : tie.Need-add-to Inv-loop μ-loop
 add-to c = let w = c .within .ensures in record { fits = omega (arith, w) }
 
@@ -45,14 +39,4 @@ pub get-parts-spec : {M : Type 1} → statement M
 get-parts-spec =
     tie.close
     (tie.spec
-    Inv-loop
-    μ-loop
-    loop-holds
-    sub-within
-    within-requires
-    add-to
-    get-part-requires
-    loop-less
-    loop-again
-    same-length
-    returns)
+    Inv-loop μ-loop loop-holds (λ c. search needs) (λ c κs. search needs) add-to get-part-requires loop-less loop-again same-length returns)

@@ -4,21 +4,10 @@ use borrow.Author.Needs.{needs}
 use Rattle.finds.proofs.guide_near.Statement.{statement}
 use Rattle.finds.proofs.guide_near.Tie as tie
 
-room-requires : tie.Need-room-requires
-room-requires c κs = search needs
-
-starts-requires : tie.Need-starts-requires
-starts-requires c κs = search needs
-
-nears-requires : tie.Need-nears-requires
-nears-requires c κs = search needs
-
-same-length : tie.Need-same-length
-same-length c = search needs
-
 returns : tie.Need-returns
 returns c = let a = c .before .before .before .before .before .before .before .before .before .before .before .before .before .args in swept-map _ _ _ _ _ _ _ (near-hint (a .rows .now) (a .slots .now) (a .b) (c .before .before .before .before .before .before .before .before .room .result) (c .before .before .before .before .before .before .before .before .room .ensures) (c .before .before .before .before .before .before .before .before .before .before .before .before .before .pre .3)) (swept-then _ _ _ _ _ _ _ _ (c .before .before .before .before .before .before .starts .ensures) (c .before .before .nears .ensures))
 
 pub guide-near-spec : {M : Type 1} → statement M
 guide-near-spec =
-    tie.close (tie.spec room-requires starts-requires nears-requires same-length returns)
+    tie.close (tie.spec
+    (λ c κs. search needs) (λ c κs. search needs) (λ c κs. search needs) (λ c. search needs) returns)

@@ -7,9 +7,6 @@ use borrow.Author.Needs.{needs}
 use Rattle.finds.proofs.inside_of.Statement.{statement}
 use Rattle.finds.proofs.inside_of.Tie as tie
 
-shl-result : tie.Need-shl-result
-shl-result c = search needs
-
 rem-result : tie.Need-rem-result
 rem-result c = let w = wide-fits (c .args .shift % 32) (mod-lt (c .args .shift) (omega arith)) in let p = wide-pos (c .args .shift % 32) in omega (arith, w, p)
 
@@ -17,4 +14,5 @@ returns : tie.Need-returns
 returns c = let w = wide-fits (c .args .shift % 32) (mod-lt (c .args .shift) (omega arith)) in ap (λ (z : ℕ). c .args .far % z) (omega (arith, w))
 
 pub inside-of-spec : {M : Type 1} → statement M
-inside-of-spec = tie.close (tie.spec shl-result rem-result returns)
+inside-of-spec = tie.close (tie.spec
+    (λ c. search needs) rem-result returns)

@@ -16,47 +16,14 @@ returns c = inl refl
 returns-2 : tie.Need-returns-2
 returns-2 c = inl refl
 
-range-of-requires : tie.Need-range-of-requires
-range-of-requires c κs = search needs
-
-sub-if3 : tie.Need-sub-if3
-sub-if3 c = search needs
-
 returns-3 : tie.Need-returns-3
 returns-3 c = inl refl
-
-one-at-least-requires : tie.Need-one-at-least-requires
-one-at-least-requires c κs = search needs
-
-add-least : tie.Need-add-least
-add-least c = search needs
-
-mul-least : tie.Need-mul-least
-mul-least c = search needs
-
-shared-slice-read-least : tie.Need-shared-slice-read-least
-shared-slice-read-least c = search needs
-
-sub-least : tie.Need-sub-least
-sub-least c = search needs
-
-least-requires : tie.Need-least-requires
-least-requires c κs = search needs
 
 returns-4 : tie.Need-returns-4
 returns-4 c = inl refl
 
-inside-of-requires : tie.Need-inside-of-requires
-inside-of-requires c κs = search needs
-
-sub-share : tie.Need-sub-share
-sub-share c = search needs
-
 cast-share : tie.Need-cast-share
 cast-share c = let h = c .before .before .least .ensures in omega (arith, h)
-
-share-requires : tie.Need-share-requires
-share-requires c κs = search needs
 
 add-result : tie.Need-add-result
 add-result c = let a = c .before .before .before .before .before .before .before .before .before .before .before .before .before .before .args in let e = c .share .ensures in let h = c .before .before .before .least .ensures in let d = c .before .inside-of .ensures in let w = wide-pos (a .b .shift % 32) in let t = mod-lt (a .id - a .b .first) w in let m = share-most (c .before .inside-of .result) (c .before .before .before .least .result - c .before .before .before .before .before .one-at-least .result) (wide (a .b .shift)) (omega (arith, d, t)) in record { fits = omega (arith, e, h, m) }
@@ -71,22 +38,6 @@ pub near-row-spec : {M : Type 1} → statement M
 near-row-spec =
     tie.close
     (tie.spec
-    returns
-    returns-2
-    range-of-requires
-    sub-if3
-    returns-3
-    one-at-least-requires
-    add-least
-    mul-least
-    shared-slice-read-least
-    sub-least
-    least-requires
-    returns-4
-    inside-of-requires
-    sub-share
-    cast-share
-    share-requires
-    add-result
-    cast-result
-    returns-5)
+    returns returns-2 (λ c κs. search needs) (λ c. search needs) returns-3 (λ c κs. search needs) (λ c. search needs) (λ c. search needs)
+    (λ c. search needs) (λ c. search needs) (λ c κs. search needs) returns-4 (λ c κs. search needs) (λ c. search needs) cast-share
+    (λ c κs. search needs) add-result cast-result returns-5)

@@ -17,32 +17,14 @@ abbrev μ-loop : tie.MeasureT-loop
 loop-holds : tie.Need-loop-holds Inv-loop μ-loop
 loop-holds c = (omega arith, omega arith, omega arith, omega arith, swept-none _ _ _ _)
 
-mul-near-row : tie.Need-mul-near-row Inv-loop μ-loop
-mul-near-row c = search needs
-
 slice-read-near-row : tie.Need-slice-read-near-row Inv-loop μ-loop
 slice-read-near-row c = let l = c .before .before .loop in let n = l .inv .4 .size in omega (arith, n)
-
-mul-near-row-2 : tie.Need-mul-near-row-2 Inv-loop μ-loop
-mul-near-row-2 c = search needs
-
-shared-slice-read-near-row : tie.Need-shared-slice-read-near-row Inv-loop μ-loop
-shared-slice-read-near-row c = search needs
 
 near-row-requires : tie.Need-near-row-requires Inv-loop μ-loop
 near-row-requires c κs = let l = c .before .before .before .loop in let a = c .before .before .before .before .before .before .before .args in let p = c .before .before .before .before .before .before .before .pre in (p .3, p .4, p .5, swept-old _ (λ k v. v ≡ startNear (a .slots .now) (a .n) (a .b) k) _ _ _ _ (l .i) _ (l .inv .4) (l .inv .0) (omega arith) (p .6))
 
-mul-found : tie.Need-mul-found Inv-loop μ-loop
-mul-found c = search needs
-
 slice-write-found : tie.Need-slice-write-found Inv-loop μ-loop
 slice-write-found c = let l = c .before .before .before .before .loop in let n = l .inv .4 .size in omega (arith, n)
-
-add-i : tie.Need-add-i Inv-loop μ-loop
-add-i c = search needs
-
-loop-less : tie.Need-loop-less Inv-loop μ-loop
-loop-less c = search needs
 
 loop-again : tie.Need-loop-again Inv-loop μ-loop
 loop-again c = let l = c .before .before .before .before .loop in let n = l .inv .4 .size in (omega arith, omega arith, l .inv .2, l .inv .3, swept-next _ _ _ _ (l .i) _ (l .inv .4) (l .inv .0) _ (omega arith) (c .near-row .ensures))
@@ -57,18 +39,5 @@ pub nears-spec : {M : Type 1} → statement M
 nears-spec =
     tie.close
     (tie.spec
-    Inv-loop
-    μ-loop
-    loop-holds
-    mul-near-row
-    slice-read-near-row
-    mul-near-row-2
-    shared-slice-read-near-row
-    near-row-requires
-    mul-found
-    slice-write-found
-    add-i
-    loop-less
-    loop-again
-    same-length
-    returns)
+    Inv-loop μ-loop loop-holds (λ c. search needs) slice-read-near-row (λ c. search needs) (λ c. search needs) near-row-requires
+    (λ c. search needs) slice-write-found (λ c. search needs) (λ c. search needs) loop-again same-length returns)

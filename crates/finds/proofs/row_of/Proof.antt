@@ -7,21 +7,9 @@ use borrow.Author.Needs.{needs}
 use Rattle.finds.proofs.row_of.Statement.{statement}
 use Rattle.finds.proofs.row_of.Tie as tie
 
-first-row-requires : tie.Need-first-row-requires
-first-row-requires c κs = search needs
-
-stands-requires : tie.Need-stands-requires
-stands-requires c κs = search needs
-
 returns : tie.Need-returns
 returns c = let a = c .before .before .before .before .before .args in
     ap rowNumber (get-first (idOf (a .rows .now)) (rowsFit (length (a .rows .now))) (a .slots .now) (a .b) (a .id) (c .before .before .first-row .result) (c .before .before .first-row .ensures) (c .before .stands .result) (c .before .stands .ensures) (c .if1 .taken))
-
-seek-requires : tie.Need-seek-requires
-seek-requires c κs = search needs
-
-number-of-requires : tie.Need-number-of-requires
-number-of-requires c κs = search needs
 
 returns-2 : tie.Need-returns-2
 returns-2 c = let a = c .before .before .before .before .before .before .before .args in
@@ -32,9 +20,4 @@ pub row-of-spec : {M : Type 1} → statement M
 row-of-spec =
     tie.close
     (tie.spec
-    first-row-requires
-    stands-requires
-    returns
-    seek-requires
-    number-of-requires
-    returns-2)
+    (λ c κs. search needs) (λ c κs. search needs) returns (λ c κs. search needs) (λ c κs. search needs) returns-2)

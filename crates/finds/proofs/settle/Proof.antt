@@ -17,32 +17,14 @@ abbrev μ-loop : tie.MeasureT-loop
 loop-holds : tie.Need-loop-holds Inv-loop μ-loop
 loop-holds c = (omega arith, omega arith, omega arith, omega arith, swept-none _ _ _ _)
 
-mul-settled : tie.Need-mul-settled Inv-loop μ-loop
-mul-settled c = search needs
-
 slice-read-settled : tie.Need-slice-read-settled Inv-loop μ-loop
 slice-read-settled c = let l = c .before .before .loop in let n = l .inv .4 .size in omega (arith, n)
-
-mul-settled-2 : tie.Need-mul-settled-2 Inv-loop μ-loop
-mul-settled-2 c = search needs
-
-shared-slice-read-settled : tie.Need-shared-slice-read-settled Inv-loop μ-loop
-shared-slice-read-settled c = search needs
 
 settled-requires : tie.Need-settled-requires Inv-loop μ-loop
 settled-requires c κs = let l = c .before .before .before .loop in let a = c .before .before .before .before .before .before .before .before .args in let p = c .before .before .before .before .before .before .before .before .pre in swept-old _ (Hint (a .rows .now) (a .slots .now) (a .b)) _ _ _ _ (l .i) _ (l .inv .4) (l .inv .0) (omega arith) (p .3)
 
-mul-found : tie.Need-mul-found Inv-loop μ-loop
-mul-found c = search needs
-
 slice-write-found : tie.Need-slice-write-found Inv-loop μ-loop
 slice-write-found c = let l = c .before .before .before .before .loop in let n = l .inv .4 .size in omega (arith, n)
-
-add-i : tie.Need-add-i Inv-loop μ-loop
-add-i c = search needs
-
-loop-less : tie.Need-loop-less Inv-loop μ-loop
-loop-less c = search needs
 
 loop-again : tie.Need-loop-again Inv-loop μ-loop
 loop-again c = let l = c .before .before .before .before .loop in let n = l .inv .4 .size in (omega arith, omega arith, l .inv .2, l .inv .3, swept-next _ _ _ _ (l .i) _ (l .inv .4) (l .inv .0) _ (omega arith) (c .settled .ensures))
@@ -57,18 +39,5 @@ pub settle-spec : {M : Type 1} → statement M
 settle-spec =
     tie.close
     (tie.spec
-    Inv-loop
-    μ-loop
-    loop-holds
-    mul-settled
-    slice-read-settled
-    mul-settled-2
-    shared-slice-read-settled
-    settled-requires
-    mul-found
-    slice-write-found
-    add-i
-    loop-less
-    loop-again
-    same-length
-    returns)
+    Inv-loop μ-loop loop-holds (λ c. search needs) slice-read-settled (λ c. search needs) (λ c. search needs) settled-requires
+    (λ c. search needs) slice-write-found (λ c. search needs) (λ c. search needs) loop-again same-length returns)

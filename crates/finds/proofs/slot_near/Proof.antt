@@ -16,26 +16,8 @@ abbrev μ-loop : tie.MeasureT-loop
 loop-holds : tie.Need-loop-holds Inv-loop μ-loop
 loop-holds c = (omega arith, omega arith, omega arith, omega arith, swept-none _ _ _ _)
 
-mul-first-row : tie.Need-mul-first-row Inv-loop μ-loop
-mul-first-row c = search needs
-
-shared-slice-read-first-row : tie.Need-shared-slice-read-first-row Inv-loop μ-loop
-shared-slice-read-first-row c = search needs
-
-first-row-requires : tie.Need-first-row-requires Inv-loop μ-loop
-first-row-requires c κs = search needs
-
-mul-found : tie.Need-mul-found Inv-loop μ-loop
-mul-found c = search needs
-
 slice-write-found : tie.Need-slice-write-found Inv-loop μ-loop
 slice-write-found c = let l = c .before .before .before .loop in let n = l .inv .4 .size in omega (arith, n)
-
-add-i : tie.Need-add-i Inv-loop μ-loop
-add-i c = search needs
-
-loop-less : tie.Need-loop-less Inv-loop μ-loop
-loop-less c = search needs
 
 loop-again : tie.Need-loop-again Inv-loop μ-loop
 loop-again c = let l = c .before .before .before .loop in let n = l .inv .4 .size in let a = c .before .before .before .before .before .before .before .before .args in (omega arith, omega arith, l .inv .2, l .inv .3, swept-next _ _ _ _ (l .i) _ (l .inv .4) (l .inv .0) _ (omega arith) (first-hint (a .rows .now) (a .slots .now) (a .b) (getD (a .ids .now) (l .i) 0) (c .first-row .result) (c .first-row .ensures)))
@@ -50,16 +32,5 @@ pub slot-near-spec : {M : Type 1} → statement M
 slot-near-spec =
     tie.close
     (tie.spec
-    Inv-loop
-    μ-loop
-    loop-holds
-    mul-first-row
-    shared-slice-read-first-row
-    first-row-requires
-    mul-found
-    slice-write-found
-    add-i
-    loop-less
-    loop-again
-    same-length
-    returns)
+    Inv-loop μ-loop loop-holds (λ c. search needs) (λ c. search needs) (λ c κs. search needs) (λ c. search needs) slice-write-found
+    (λ c. search needs) (λ c. search needs) loop-again same-length returns)

@@ -11,18 +11,6 @@ use Prim.Native.Nat.{_-_}
 use Rattle.grids.proofs.count_grid.Statement.{statement}
 use Rattle.grids.proofs.count_grid.Tie as tie
 
-shape-of-requires : tie.Need-shape-of-requires
-shape-of-requires c κs = search needs
-
-enum-told : tie.Need-enum-told
-enum-told c = search needs
-
-enum-told-2 : tie.Need-enum-told-2
-enum-told-2 c = search needs
-
-enum-told-3 : tie.Need-enum-told-3
-enum-told-3 c = search needs
-
 sub-count-rows : tie.Need-sub-count-rows
 sub-count-rows c = let (n, f, o) = shape-full _ _ (c .before .before .shape-of .ensures) (c .enum-told3 .given .1) in omega (arith, n)
 
@@ -32,26 +20,11 @@ sub-count-rows-2 c = let (n, f, o) = shape-full _ _ (c .before .before .shape-of
 part-count-rows-start : tie.Need-part-count-rows-start
 part-count-rows-start c = let (n, f, o) = shape-full _ _ (c .before .before .shape-of .ensures) (c .enum-told3 .given .1) in omega (arith, n)
 
-part-count-rows-end : tie.Need-part-count-rows-end
-part-count-rows-end c = search needs
-
-count-rows-requires : tie.Need-count-rows-requires
-count-rows-requires c κs = search needs
-
-enum-known-rows : tie.Need-enum-known-rows
-enum-known-rows c = search needs
-
-enum-known-o : tie.Need-enum-known-o
-enum-known-o c = search needs
-
 add-t17 : tie.Need-add-t17
 add-t17 c = let s = c .before .before .before .before .before in
     let t = s .before .before .before .before .args in
     let (n, f, o) = shape-full (now (t .t)) _ (s .before .before .shape-of .ensures) (s .enum-told3 .given .1) in
     omega (arith, n, body-length (now (t .t)) n, tally-inward (t .kind) (take (length (now (t .t)) - 1 - 1) (drop 1 (now (t .t)))) 12 (c .before .o .given .0 .0) (ap toldTally (sym (c .before .o .given .1)) ∙ c .before .before .before .count-rows .ensures))
-
-enum-known-o-2 : tie.Need-enum-known-o-2
-enum-known-o-2 c = search needs
 
 add-t18 : tie.Need-add-t18
 add-t18 c = let s = c .before .before .before .before .before in
@@ -89,22 +62,6 @@ pub count-grid-spec : {M : Type 1} → statement M
 count-grid-spec =
     tie.close
     (tie.spec
-    shape-of-requires
-    enum-told
-    enum-told-2
-    enum-told-3
-    sub-count-rows
-    sub-count-rows-2
-    part-count-rows-start
-    part-count-rows-end
-    count-rows-requires
-    enum-known-rows
-    enum-known-o
-    add-t17
-    enum-known-o-2
-    add-t18
-    returns
-    returns-2
-    returns-3
-    returns-4
-    returns-5)
+    (λ c κs. search needs) (λ c. search needs) (λ c. search needs) (λ c. search needs) sub-count-rows sub-count-rows-2 part-count-rows-start
+    (λ c. search needs) (λ c κs. search needs) (λ c. search needs) (λ c. search needs) add-t17 (λ c. search needs) add-t18 returns returns-2
+    returns-3 returns-4 returns-5)

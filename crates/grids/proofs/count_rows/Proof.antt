@@ -21,9 +21,6 @@ abbrev μ-loop : tie.MeasureT-loop
 loop-holds : tie.Need-loop-holds Inv-loop μ-loop
 loop-holds c = (omega arith, omega arith, omega arith, tally-starts (rowOf (c .before .args .kind)) addRow (size 0 0) (now (c .before .args .b)))
 
-item-at-requires : tie.Need-item-at-requires Inv-loop μ-loop
-item-at-requires c κs = search needs
-
 sub-count-list : tie.Need-sub-count-list Inv-loop μ-loop
 sub-count-list c = c .item-at .ensures .ordered
 
@@ -33,12 +30,6 @@ part-count-list-start c = omega (arith, c .item-at .ensures .ordered, c .item-at
 part-count-list-end : tie.Need-part-count-list-end Inv-loop μ-loop
 part-count-list-end c = omega (arith, c .item-at .ensures .ordered, c .item-at .ensures .short, c .item-at .ensures .within)
 
-count-list-requires : tie.Need-count-list-requires Inv-loop μ-loop
-count-list-requires c κs = search needs
-
-enum-known-k : tie.Need-enum-known-k Inv-loop μ-loop
-enum-known-k c = search needs
-
 add-numbers : tie.Need-add-numbers Inv-loop μ-loop
 add-numbers c = let i = c .before .before .before in
     let m = i .before .before in
@@ -46,9 +37,6 @@ add-numbers c = let i = c .before .before .before in
     let t = l .before .before in
     let w = length-take-le (m .item-at .result .stop - m .item-at .result .start) (drop (m .item-at .result .start) (now (t .args .b))) (omega (arith, m .item-at .ensures .short, m .item-at .ensures .within, length-drop (m .item-at .result .start) (now (t .args .b)))) in
     omega (arith, w, m .item-at .ensures .ordered, m .item-at .ensures .short, m .item-at .ensures .within, m .item-at .ensures .begins, counted-all _ _ _ (i .count-list .ensures .1) (c .before .k .given .1))
-
-enum-known-o : tie.Need-enum-known-o Inv-loop μ-loop
-enum-known-o c = search needs
 
 add-t18 : tie.Need-add-t18 Inv-loop μ-loop
 add-t18 c = let i = c .before .before .before in
@@ -66,9 +54,6 @@ returns c = let i = c .before .before .before in
     let w = length-take-le (m .item-at .result .stop - m .item-at .result .start) (drop (m .item-at .result .start) (now (t .args .b))) (omega (arith, m .item-at .ensures .short, m .item-at .ensures .within, length-drop (m .item-at .result .start) (now (t .args .b)))) in
     tally-bad (rowOf (t .args .kind)) addRow (now (t .args .b)) (l .loop .i) (l .loop .rows) (m .item-at .result) (m .item-at .ensures) (omega arith) (omega arith) (size (l .loop .rows) (l .loop .numbers)) _ (l .loop .inv .3) 12 _ (ap toldCounted (sym (c .before .o .given .1)) ∙ i .count-list .ensures .0)
 
-enum-known-o-2 : tie.Need-enum-known-o-2 Inv-loop μ-loop
-enum-known-o-2 c = search needs
-
 add-t19 : tie.Need-add-t19 Inv-loop μ-loop
 add-t19 c = let i = c .before .before .before in
     let m = i .before .before in
@@ -84,9 +69,6 @@ returns-2 c = let i = c .before .before .before in
     let t = l .before .before in
     let w = length-take-le (m .item-at .result .stop - m .item-at .result .start) (drop (m .item-at .result .start) (now (t .args .b))) (omega (arith, m .item-at .ensures .short, m .item-at .ensures .within, length-drop (m .item-at .result .start) (now (t .args .b)))) in
     tally-bad (rowOf (t .args .kind)) addRow (now (t .args .b)) (l .loop .i) (l .loop .rows) (m .item-at .result) (m .item-at .ensures) (omega arith) (omega arith) (size (l .loop .rows) (l .loop .numbers)) _ (l .loop .inv .3) 13 _ (ap toldCounted (sym (c .before .o2 .given .1)) ∙ i .count-list .ensures .0)
-
-add-rows : tie.Need-add-rows Inv-loop μ-loop
-add-rows c = omega arith
 
 returns-3 : tie.Need-returns-3 Inv-loop μ-loop
 returns-3 c = let i = c .before .before .before .before in
@@ -120,24 +102,6 @@ pub count-rows-spec : {M : Type 1} → statement M
 count-rows-spec =
     tie.close
     (tie.spec
-    Inv-loop
-    μ-loop
-    loop-holds
-    item-at-requires
-    sub-count-list
-    part-count-list-start
-    part-count-list-end
-    count-list-requires
-    enum-known-k
-    add-numbers
-    enum-known-o
-    add-t18
-    returns
-    enum-known-o-2
-    add-t19
-    returns-2
-    add-rows
-    returns-3
-    add-i
-    loop-less
-    loop-again)
+    Inv-loop μ-loop loop-holds (λ c κs. search needs) sub-count-list part-count-list-start part-count-list-end (λ c κs. search needs)
+    (λ c. search needs) add-numbers (λ c. search needs) add-t18 returns (λ c. search needs) add-t19 returns-2 (λ c. omega arith) returns-3
+    add-i loop-less loop-again)

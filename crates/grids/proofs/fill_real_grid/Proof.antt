@@ -15,18 +15,6 @@ use Prim.Native.Nat.{ℕ}
 use Rattle.grids.proofs.fill_real_grid.Statement.{statement}
 use Rattle.grids.proofs.fill_real_grid.Tie as tie
 
-shape-of-requires : tie.Need-shape-of-requires
-shape-of-requires c κs = search needs
-
-enum-told : tie.Need-enum-told
-enum-told c = search needs
-
-enum-told-2 : tie.Need-enum-told-2
-enum-told-2 c = search needs
-
-enum-told-3 : tie.Need-enum-told-3
-enum-told-3 c = search needs
-
 sub-fill-real-rows : tie.Need-sub-fill-real-rows
 sub-fill-real-rows c = let (n, f, o) = shape-full _ _ (c .before .before .shape-of .ensures) (c .enum-told3 .given .1) in omega (arith, n)
 
@@ -35,9 +23,6 @@ sub-fill-real-rows-2 c = let (n, f, o) = shape-full _ _ (c .before .before .shap
 
 part-fill-real-rows-start : tie.Need-part-fill-real-rows-start
 part-fill-real-rows-start c = let (n, f, o) = shape-full _ _ (c .before .before .shape-of .ensures) (c .enum-told3 .given .1) in omega (arith, n)
-
-part-fill-real-rows-end : tie.Need-part-fill-real-rows-end
-part-fill-real-rows-end c = search needs
 
 fill-real-rows-requires : tie.Need-fill-real-rows-requires
 fill-real-rows-requires c κs = let s = c .before .before .before in
@@ -54,12 +39,6 @@ returns-2 c = let s = c .before .before in
     let t = s .before .before .before .before in
     grid-blank (λ x. asFate (realBy (t .args .which) x)) (now (t .args .t)) _ (s .shape-of .ensures) (map (toBits binary64) (now (t .args .out))) (now (t .args .ends)) (c .enum-told2 .given .1)
 
-same-length : tie.Need-same-length
-same-length c = search needs
-
-same-length-2 : tie.Need-same-length-2
-same-length-2 c = search needs
-
 returns-3 : tie.Need-returns-3
 returns-3 c = let i = c .before .before .before .before in
     let s = i .before .before .before .before in
@@ -73,17 +52,6 @@ pub fill-real-grid-spec : {M : Type 1} → statement M
 fill-real-grid-spec =
     tie.close
     (tie.spec
-    shape-of-requires
-    enum-told
-    enum-told-2
-    enum-told-3
-    sub-fill-real-rows
-    sub-fill-real-rows-2
-    part-fill-real-rows-start
-    part-fill-real-rows-end
-    fill-real-rows-requires
-    returns
-    returns-2
-    same-length
-    same-length-2
+    (λ c κs. search needs) (λ c. search needs) (λ c. search needs) (λ c. search needs) sub-fill-real-rows sub-fill-real-rows-2
+    part-fill-real-rows-start (λ c. search needs) fill-real-rows-requires returns returns-2 (λ c. search needs) (λ c. search needs)
     returns-3)

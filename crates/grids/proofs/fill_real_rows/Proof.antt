@@ -25,9 +25,6 @@ loop-holds : tie.Need-loop-holds Inv-loop μ-loop
 loop-holds c = let t = c .before .before .before in
     gridding-starts (λ u. asFate (realBy (t .args .which) u)) (now (t .args .b)) (map (toBits binary64) (now (t .args .out))) (now (t .args .ends)) (t .pre .0, omega (arith, t .pre .1, length-map (now (t .args .out)) (toBits binary64)), t .pre .2)
 
-item-at-requires : tie.Need-item-at-requires Inv-loop μ-loop
-item-at-requires c κs = search needs
-
 sub-read-reals : tie.Need-sub-read-reals Inv-loop μ-loop
 sub-read-reals c = c .item-at .ensures .ordered
 
@@ -54,15 +51,6 @@ part-read-reals-start-2 c = let l = c .before .before in
     let t = l .before .before .before .before in
     let (p, q) = gridding-room (λ x. asFate (realBy (t .args .which) x)) (now (t .args .b)) _ _ _ _ _ _ _ (l .loop .inv) in
     omega (arith, p, q, length-map (l .loop .out) (toBits binary64), length-map (now (t .args .out)) (toBits binary64))
-
-part-read-reals-end-2 : tie.Need-part-read-reals-end-2 Inv-loop μ-loop
-part-read-reals-end-2 c = omega arith
-
-read-reals-requires : tie.Need-read-reals-requires Inv-loop μ-loop
-read-reals-requires c κs = search needs
-
-enum-known-k : tie.Need-enum-known-k Inv-loop μ-loop
-enum-known-k c = search needs
 
 same-length : tie.Need-same-length Inv-loop μ-loop
 same-length c = let i = c .before .before .before in
@@ -196,29 +184,6 @@ pub fill-real-rows-spec : {M : Type 1} → statement M
 fill-real-rows-spec =
     tie.close
     (tie.spec
-    Inv-loop
-    μ-loop
-    loop-holds
-    item-at-requires
-    sub-read-reals
-    part-read-reals-start
-    part-read-reals-end
-    mul-read-reals
-    sub-read-reals-2
-    part-read-reals-start-2
-    part-read-reals-end-2
-    read-reals-requires
-    enum-known-k
-    same-length
-    same-length-2
-    returns
-    add-reals
-    mul-ends
-    slice-write-ends
-    add-rows
-    same-length-3
-    same-length-4
-    returns-2
-    add-i
-    loop-less
-    loop-again)
+    Inv-loop μ-loop loop-holds (λ c κs. search needs) sub-read-reals part-read-reals-start part-read-reals-end mul-read-reals
+    sub-read-reals-2 part-read-reals-start-2 (λ c. omega arith) (λ c κs. search needs) (λ c. search needs) same-length same-length-2 returns
+    add-reals mul-ends slice-write-ends add-rows same-length-3 same-length-4 returns-2 add-i loop-less loop-again)

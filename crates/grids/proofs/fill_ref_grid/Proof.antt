@@ -13,18 +13,6 @@ use Prim.Native.Nat.{ℕ}
 use Rattle.grids.proofs.fill_ref_grid.Statement.{statement}
 use Rattle.grids.proofs.fill_ref_grid.Tie as tie
 
-shape-of-requires : tie.Need-shape-of-requires
-shape-of-requires c κs = search needs
-
-enum-told : tie.Need-enum-told
-enum-told c = search needs
-
-enum-told-2 : tie.Need-enum-told-2
-enum-told-2 c = search needs
-
-enum-told-3 : tie.Need-enum-told-3
-enum-told-3 c = search needs
-
 sub-fill-ref-rows : tie.Need-sub-fill-ref-rows
 sub-fill-ref-rows c = let (n, f, o) = shape-full _ _ (c .before .before .shape-of .ensures) (c .enum-told3 .given .1) in omega (arith, n)
 
@@ -33,9 +21,6 @@ sub-fill-ref-rows-2 c = let (n, f, o) = shape-full _ _ (c .before .before .shape
 
 part-fill-ref-rows-start : tie.Need-part-fill-ref-rows-start
 part-fill-ref-rows-start c = let (n, f, o) = shape-full _ _ (c .before .before .shape-of .ensures) (c .enum-told3 .given .1) in omega (arith, n)
-
-part-fill-ref-rows-end : tie.Need-part-fill-ref-rows-end
-part-fill-ref-rows-end c = search needs
 
 fill-ref-rows-requires : tie.Need-fill-ref-rows-requires
 fill-ref-rows-requires c κs = let s = c .before .before .before in
@@ -52,12 +37,6 @@ returns-2 c = let s = c .before .before in
     let t = s .before .before .before .before in
     grid-blank (λ x. asFate (referenceOf x)) (now (t .args .t)) _ (s .shape-of .ensures) (now (t .args .out)) (now (t .args .ends)) (c .enum-told2 .given .1)
 
-same-length : tie.Need-same-length
-same-length c = search needs
-
-same-length-2 : tie.Need-same-length-2
-same-length-2 c = search needs
-
 returns-3 : tie.Need-returns-3
 returns-3 c = let i = c .before .before .before .before in
     let s = i .before .before .before .before in
@@ -71,17 +50,5 @@ pub fill-ref-grid-spec : {M : Type 1} → statement M
 fill-ref-grid-spec =
     tie.close
     (tie.spec
-    shape-of-requires
-    enum-told
-    enum-told-2
-    enum-told-3
-    sub-fill-ref-rows
-    sub-fill-ref-rows-2
-    part-fill-ref-rows-start
-    part-fill-ref-rows-end
-    fill-ref-rows-requires
-    returns
-    returns-2
-    same-length
-    same-length-2
-    returns-3)
+    (λ c κs. search needs) (λ c. search needs) (λ c. search needs) (λ c. search needs) sub-fill-ref-rows sub-fill-ref-rows-2
+    part-fill-ref-rows-start (λ c. search needs) fill-ref-rows-requires returns returns-2 (λ c. search needs) (λ c. search needs) returns-3)

@@ -25,9 +25,6 @@ abbrev μ-loop : tie.MeasureT-loop
 loop-holds : tie.Need-loop-holds Inv-loop μ-loop
 loop-holds c = let t = c .before .before .before in gridding-starts (λ u. asFate (referenceOf u)) (now (t .args .b)) (now (t .args .out)) (now (t .args .ends)) (t .pre)
 
-item-at-requires : tie.Need-item-at-requires Inv-loop μ-loop
-item-at-requires c κs = search needs
-
 sub-read-refs : tie.Need-sub-read-refs Inv-loop μ-loop
 sub-read-refs c = c .item-at .ensures .ordered
 
@@ -52,15 +49,6 @@ part-read-refs-start-2 : tie.Need-part-read-refs-start-2 Inv-loop μ-loop
 part-read-refs-start-2 c = let l = c .before .before in
     let t = l .before .before .before .before in
     gridding-room (λ x. asFate (referenceOf x)) (now (t .args .b)) _ _ _ _ _ _ _ (l .loop .inv) .0
-
-part-read-refs-end-2 : tie.Need-part-read-refs-end-2 Inv-loop μ-loop
-part-read-refs-end-2 c = omega arith
-
-read-refs-requires : tie.Need-read-refs-requires Inv-loop μ-loop
-read-refs-requires c κs = search needs
-
-enum-known-k : tie.Need-enum-known-k Inv-loop μ-loop
-enum-known-k c = search needs
 
 same-length : tie.Need-same-length Inv-loop μ-loop
 same-length c = let i = c .before .before .before in
@@ -172,29 +160,6 @@ pub fill-ref-rows-spec : {M : Type 1} → statement M
 fill-ref-rows-spec =
     tie.close
     (tie.spec
-    Inv-loop
-    μ-loop
-    loop-holds
-    item-at-requires
-    sub-read-refs
-    part-read-refs-start
-    part-read-refs-end
-    mul-read-refs
-    sub-read-refs-2
-    part-read-refs-start-2
-    part-read-refs-end-2
-    read-refs-requires
-    enum-known-k
-    same-length
-    same-length-2
-    returns
-    add-refs
-    mul-ends
-    slice-write-ends
-    add-rows
-    same-length-3
-    same-length-4
-    returns-2
-    add-i
-    loop-less
-    loop-again)
+    Inv-loop μ-loop loop-holds (λ c κs. search needs) sub-read-refs part-read-refs-start part-read-refs-end mul-read-refs sub-read-refs-2
+    part-read-refs-start-2 (λ c. omega arith) (λ c κs. search needs) (λ c. search needs) same-length same-length-2 returns add-refs mul-ends
+    slice-write-ends add-rows same-length-3 same-length-4 returns-2 add-i loop-less loop-again)

@@ -15,15 +15,6 @@ use Prim.Native.Nat.{_-_}
 use Rattle.grids.proofs.next_ref_grid.Statement.{statement}
 use Rattle.grids.proofs.next_ref_grid.Tie as tie
 
-param-span-requires : tie.Need-param-span-requires
-param-span-requires c κs = search needs
-
-enum-known-f : tie.Need-enum-known-f
-enum-known-f c = search needs
-
-enum-known-start : tie.Need-enum-known-start
-enum-known-start c = search needs
-
 sub-read-ref-grid : tie.Need-sub-read-ref-grid
 sub-read-ref-grid c = let (u, v) = cut-places _ _ _ _ _ (c .before .before .before .param-span .ensures .1) (c .before .start .given .1) in u
 
@@ -32,9 +23,6 @@ part-read-ref-grid-start c = let (u, v) = cut-places _ _ _ _ _ (c .before .befor
 
 part-read-ref-grid-end : tie.Need-part-read-ref-grid-end
 part-read-ref-grid-end c = let (u, v) = cut-places _ _ _ _ _ (c .before .before .before .param-span .ensures .1) (c .before .start .given .1) in omega (arith, u, v)
-
-read-ref-grid-requires : tie.Need-read-ref-grid-requires
-read-ref-grid-requires c κs = search needs
 
 answer-of-requires : tie.Need-answer-of-requires
 answer-of-requires c κs = let i = c .before .before .before .before in
@@ -51,12 +39,6 @@ returns : tie.Need-returns
 returns c = let t = c .before .before .before .before .before .before .before in
     grids-uncut (gridOf referenceOf) (now (t .args .out)) (now (t .args .ends)) (length (now (t .args .out))) (length (now (t .args .ends))) (now (t .args .file)) (t .args .at .place) (t .args .at .end) _ _ _ (ap toldCut (sym (c .before .f .given .1)) ∙ c .before .before .before .param-span .ensures .0)
 
-same-length : tie.Need-same-length
-same-length c = search needs
-
-same-length-2 : tie.Need-same-length-2
-same-length-2 c = search needs
-
 returns-2 : tie.Need-returns-2
 returns-2 c = let i = c .before .before .before .before .before in
     let g = i .before .before .before .before .before in
@@ -69,15 +51,5 @@ pub next-ref-grid-spec : {M : Type 1} → statement M
 next-ref-grid-spec =
     tie.close
     (tie.spec
-    param-span-requires
-    enum-known-f
-    enum-known-start
-    sub-read-ref-grid
-    part-read-ref-grid-start
-    part-read-ref-grid-end
-    read-ref-grid-requires
-    answer-of-requires
-    returns
-    same-length
-    same-length-2
-    returns-2)
+    (λ c κs. search needs) (λ c. search needs) (λ c. search needs) sub-read-ref-grid part-read-ref-grid-start part-read-ref-grid-end
+    (λ c κs. search needs) answer-of-requires returns (λ c. search needs) (λ c. search needs) returns-2)

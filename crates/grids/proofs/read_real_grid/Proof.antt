@@ -13,12 +13,6 @@ use mathlib.Core.Path.{ap, sym, _∙_}
 use Rattle.grids.proofs.read_real_grid.Statement.{statement}
 use Rattle.grids.proofs.read_real_grid.Tie as tie
 
-room-for-requires : tie.Need-room-for-requires
-room-for-requires c κs = search needs
-
-enum-told : tie.Need-enum-told
-enum-told c = search needs
-
 returns : tie.Need-returns
 returns c = let r = c .before .room-for in
     let t = c .before .before .before .before .before in
@@ -32,12 +26,6 @@ fill-real-grid-requires c κs = let r = c .before .before .before .before .room-
     let e = grid-told (λ x. asFate (realBy (t .args .which) x)) (now (t .args .t)) (length (now (t .args .out))) (length (now (t .args .ends))) _ (r .ensures) in
     grid-fits (gridOf (realBy (t .args .which)) (now (t .args .t))) (length (now (t .args .out))) (length (now (t .args .ends))) _ (ap toldReadGrid (sym (c .before .before .enum-told .given .1)) ∙ e)
 
-same-length : tie.Need-same-length
-same-length c = search needs
-
-same-length-2 : tie.Need-same-length-2
-same-length-2 c = search needs
-
 returns-2 : tie.Need-returns-2
 returns-2 c = let i = c .before .before .before .before in
     let r = i .before .before .before .before .before .room-for in
@@ -49,10 +37,4 @@ pub read-real-grid-spec : {M : Type 1} → statement M
 read-real-grid-spec =
     tie.close
     (tie.spec
-    room-for-requires
-    enum-told
-    returns
-    fill-real-grid-requires
-    same-length
-    same-length-2
-    returns-2)
+    (λ c κs. search needs) (λ c. search needs) returns fill-real-grid-requires (λ c. search needs) (λ c. search needs) returns-2)

@@ -9,18 +9,6 @@ use mathlib.Core.Bool.{Bool}
 use Rattle.grids.proofs.room_for.Statement.{statement}
 use Rattle.grids.proofs.room_for.Tie as tie
 
-count-grid-requires : tie.Need-count-grid-requires
-count-grid-requires c κs = search needs
-
-enum-known-o : tie.Need-enum-known-o
-enum-known-o c = search needs
-
-enum-known-o-2 : tie.Need-enum-known-o-2
-enum-known-o-2 c = search needs
-
-enum-known-rows : tie.Need-enum-known-rows
-enum-known-rows c = search needs
-
 returns : tie.Need-returns
 returns c = let l = c .before .before .before .before in
     let t = l .before .before .args in
@@ -47,11 +35,4 @@ pub room-for-spec : {M : Type 1} → statement M
 room-for-spec =
     tie.close
     (tie.spec
-    count-grid-requires
-    enum-known-o
-    enum-known-o-2
-    enum-known-rows
-    returns
-    returns-2
-    returns-3
-    returns-4)
+    (λ c κs. search needs) (λ c. search needs) (λ c. search needs) (λ c. search needs) returns returns-2 returns-3 returns-4)

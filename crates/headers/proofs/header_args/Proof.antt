@@ -8,18 +8,6 @@ use Rattle.headers.specs.Header.{headerArgs}
 use Rattle.headers.proofs.header_args.Statement.{statement}
 use Rattle.headers.proofs.header_args.Tie as tie
 
-header-row-requires : tie.Need-header-row-requires
-header-row-requires c κs = search needs
-
-enum-told : tie.Need-enum-told
-enum-told c = search needs
-
-enum-known-i : tie.Need-enum-known-i
-enum-known-i c = search needs
-
-named-args-requires : tie.Need-named-args-requires
-named-args-requires c κs = search needs
-
 returns : tie.Need-returns
 returns c = ap (headerArgs (length (now (c .before .before .before .before .before .before .args .file))) (headerNumbers (now (c .before .before .before .before .before .before .args .heads)))) (sym (ap toldPlace (c .enum-told .given .1)) ∙ c .before .before .header-row .ensures)
 
@@ -29,4 +17,5 @@ returns-2 c = c .named-args .ensures ∙ ap (headerArgs (length (now (c .before 
 pub header-args-spec : {M : Type 1} → statement M
 header-args-spec =
     tie.close
-    (tie.spec header-row-requires enum-told enum-known-i named-args-requires returns returns-2)
+    (tie.spec
+    (λ c κs. search needs) (λ c. search needs) (λ c. search needs) (λ c κs. search needs) returns returns-2)

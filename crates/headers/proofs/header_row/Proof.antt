@@ -16,25 +16,13 @@ Inv-loop file heads name n i₀ i = firstFrom (isHeader file (headerNumbers head
 abbrev μ-loop : tie.MeasureT-loop
 μ-loop file heads name n i₀ i = n - i
 
-header-rows-requires : tie.Need-header-rows-requires Inv-loop μ-loop
-header-rows-requires c κs = search needs
-
 loop-holds : tie.Need-loop-holds Inv-loop μ-loop
 loop-holds c =
     let e : c .header-rows .result - 0 ≡ c .header-rows .result = omega arith in
     ap (λ (z : ℕ). firstFrom (isHeader (now (c .before .before .before .before .args .file)) (headerNumbers (now (c .before .before .before .before .args .heads))) (now (c .before .before .before .before .args .name))) z 0) e
 
-is-named-requires : tie.Need-is-named-requires Inv-loop μ-loop
-is-named-requires c κs = search needs
-
 returns : tie.Need-returns Inv-loop μ-loop
 returns c = sym (first-stops (isHeader (now (c .before .before .before .before .before .before .before .before .args .file)) (headerNumbers (now (c .before .before .before .before .before .before .before .before .args .heads))) (now (c .before .before .before .before .before .before .before .before .args .name))) (c .before .before .before .before .header-rows .result) (c .before .before .before .loop .i) (c .before .before .loop-test .taken) (sym (c .before .is-named .ensures) ∙ c .if1 .taken)) ∙ c .before .before .before .loop .inv ∙ ap (λ (z : ℕ). firstFrom (isHeader (now (c .before .before .before .before .before .before .before .before .args .file)) (headerNumbers (now (c .before .before .before .before .before .before .before .before .args .heads))) (now (c .before .before .before .before .before .before .before .before .args .name))) z 0) (c .before .before .before .before .header-rows .ensures)
-
-add-i : tie.Need-add-i Inv-loop μ-loop
-add-i c = search needs
-
-loop-less : tie.Need-loop-less Inv-loop μ-loop
-loop-less c = search needs
 
 loop-again : tie.Need-loop-again Inv-loop μ-loop
 loop-again c = sym (first-goes (isHeader (now (c .before .before .before .before .before .before .before .before .args .file)) (headerNumbers (now (c .before .before .before .before .before .before .before .before .args .heads))) (now (c .before .before .before .before .before .before .before .before .args .name))) (c .before .before .before .before .header-rows .result) (c .before .before .before .loop .i) (c .before .before .loop-test .taken) (sym (c .before .is-named .ensures) ∙ c .if1 .left)) ∙ c .before .before .before .loop .inv
@@ -46,13 +34,5 @@ pub header-row-spec : {M : Type 1} → statement M
 header-row-spec =
     tie.close
     (tie.spec
-    Inv-loop
-    μ-loop
-    header-rows-requires
-    loop-holds
-    is-named-requires
-    returns
-    add-i
-    loop-less
-    loop-again
+    Inv-loop μ-loop (λ c κs. search needs) loop-holds (λ c κs. search needs) returns (λ c. search needs) (λ c. search needs) loop-again
     returns-2)

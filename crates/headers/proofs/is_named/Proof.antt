@@ -5,14 +5,9 @@ use Rattle.headers.specs.Header.{named}
 use Rattle.headers.proofs.is_named.Statement.{statement}
 use Rattle.headers.proofs.is_named.Tie as tie
 
-read-header-requires : tie.Need-read-header-requires
-read-header-requires c κs = search needs
-
-span-named-requires : tie.Need-span-named-requires
-span-named-requires c κs = search needs
-
 returns : tie.Need-returns
 returns c = c .span-named .ensures ∙ ap (named (now (c .before .before .before .before .before .args .file)) (now (c .before .before .before .before .before .args .name))) (c .before .read-header .ensures)
 
 pub is-named-spec : {M : Type 1} → statement M
-is-named-spec = tie.close (tie.spec read-header-requires span-named-requires returns)
+is-named-spec = tie.close (tie.spec
+    (λ c κs. search needs) (λ c κs. search needs) returns)

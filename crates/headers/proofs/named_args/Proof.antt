@@ -9,9 +9,6 @@ use Rattle.headers.specs.Laws.{argued-backwards, argued-outside, argued-
 use Rattle.headers.proofs.named_args.Statement.{statement}
 use Rattle.headers.proofs.named_args.Tie as tie
 
-read-header-requires : tie.Need-read-header-requires
-read-header-requires c κs = search needs
-
 returns : tie.Need-returns
 returns c = argued-backwards (length (now (c .before .before .before .before .args .file))) (headerRowOf (c .before .read-header .result)) (c .if1 .taken) ∙ ap (argued (length (now (c .before .before .before .before .args .file)))) (c .before .read-header .ensures)
 
@@ -22,4 +19,5 @@ returns-3 : tie.Need-returns-3
 returns-3 c = argued-by (length (now (c .before .before .before .before .before .args .file))) (headerRowOf (c .before .before .read-header .result)) (c .before .if1 .left) (c .if2 .left) ∙ ap (argued (length (now (c .before .before .before .before .before .args .file)))) (c .before .before .read-header .ensures)
 
 pub named-args-spec : {M : Type 1} → statement M
-named-args-spec = tie.close (tie.spec read-header-requires returns returns-2 returns-3)
+named-args-spec = tie.close (tie.spec
+    (λ c κs. search needs) returns returns-2 returns-3)

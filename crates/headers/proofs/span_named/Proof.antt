@@ -12,15 +12,6 @@ returns c = named-backwards (now (c .before .before .before .args .file)) (now (
 returns-2 : tie.Need-returns-2
 returns-2 c = named-outside (now (c .before .before .before .before .args .file)) (now (c .before .before .before .before .args .name)) (headerRowOf (c .before .before .before .before .args .w)) (c .before .if1 .left) (c .if2 .taken)
 
-part-same-word-start : tie.Need-part-same-word-start
-part-same-word-start c = search needs
-
-part-same-word-end : tie.Need-part-same-word-end
-part-same-word-end c = search needs
-
-same-word-requires : tie.Need-same-word-requires
-same-word-requires c κs = search needs
-
 returns-3 : tie.Need-returns-3
 returns-3 c = c .same-word .ensures ∙ named-by (now (c .before .before .before .before .before .before .args .file)) (now (c .before .before .before .before .before .before .args .name)) (headerRowOf (c .before .before .before .before .before .before .args .w)) (c .before .before .before .if1 .left) (c .before .before .if2 .left)
 
@@ -28,9 +19,4 @@ pub span-named-spec : {M : Type 1} → statement M
 span-named-spec =
     tie.close
     (tie.spec
-    returns
-    returns-2
-    part-same-word-start
-    part-same-word-end
-    same-word-requires
-    returns-3)
+    returns returns-2 (λ c. search needs) (λ c. search needs) (λ c κs. search needs) returns-3)

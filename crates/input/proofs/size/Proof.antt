@@ -22,35 +22,12 @@ not-negative z h k =
     let e : toZ w64 (ofZ w64 z) ≡ z = toZ-ofZ w64 z k in
     subst⁻¹ (λ (y : ℤ). T (nonNeg y) × Fits w64 (natAbs y)) e (small z (rw e at h) (k .sfits))
 
-lseek-requires : tie.Need-lseek-requires
-lseek-requires c κs = search needs
-
-returns : tie.Need-returns
-returns c = search needs
-
-lseek-requires-2 : tie.Need-lseek-requires-2
-lseek-requires-2 c κs = search needs
-
-lseek-requires-3 : tie.Need-lseek-requires-3
-lseek-requires-3 c κs = search needs
-
 cast-result : tie.Need-cast-result
 cast-result c = not-negative (c .before .before .lseek2 .result) (c .if2 .left) (record { sfits = c .before .before .lseek2 .ok })
-
-returns-2 : tie.Need-returns-2
-returns-2 c = search needs
-
-returns-3 : tie.Need-returns-3
-returns-3 c = search needs
 
 pub size-spec : {M : Type 1} → statement M
 size-spec =
     tie.close
     (tie.spec
-    lseek-requires
-    returns
-    lseek-requires-2
-    lseek-requires-3
-    cast-result
-    returns-2
-    returns-3)
+    (λ c κs. search needs) (λ c. search needs) (λ c κs. search needs) (λ c κs. search needs) cast-result (λ c. search needs)
+    (λ c. search needs))

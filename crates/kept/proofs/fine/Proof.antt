@@ -3,8 +3,6 @@ use borrow.Author.Needs.{needs}
 use Rattle.kept.proofs.fine.Statement.{statement}
 use Rattle.kept.proofs.fine.Tie as tie
 
-returns : tie.Need-returns
-returns c = search needs
-
 pub fine-spec : {M : Type 1} → statement M
-fine-spec = tie.close (tie.spec returns)
+fine-spec = tie.close (tie.spec
+    (λ c. search needs))

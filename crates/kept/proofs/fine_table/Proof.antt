@@ -20,23 +20,11 @@ abbrev μ-loop : tie.MeasureT-loop
 loop-holds : tie.Need-loop-holds Inv-loop μ-loop
 loop-holds c = (omega arith, fine-none (c .before .args .len) (rowNumbers (now (c .before .args .rows))))
 
-read-row-requires : tie.Need-read-row-requires Inv-loop μ-loop
-read-row-requires c κs = search needs
-
-fine-requires : tie.Need-fine-requires Inv-loop μ-loop
-fine-requires c κs = search needs
-
 returns : tie.Need-returns Inv-loop μ-loop
 returns c =
     let a = c .before .before .before .before .before .before .args in
     let l = c .before .before .before .before .loop in
     sym (fine-not (a .len) (rowNumbers (now (a .rows))) (l .k) (a .n) (c .before .before .before .loop-test .taken) (sym (c .before .fine .ensures ∙ ap (fineRow (a .len)) (c .before .before .read-row .ensures)) ∙ not-true _ (c .if1 .taken)))
-
-add-k : tie.Need-add-k Inv-loop μ-loop
-add-k c = search needs
-
-loop-less : tie.Need-loop-less Inv-loop μ-loop
-loop-less c = search needs
 
 loop-again : tie.Need-loop-again Inv-loop μ-loop
 loop-again c =
@@ -55,13 +43,5 @@ pub fine-table-spec : {M : Type 1} → statement M
 fine-table-spec =
     tie.close
     (tie.spec
-    Inv-loop
-    μ-loop
-    loop-holds
-    read-row-requires
-    fine-requires
-    returns
-    add-k
-    loop-less
-    loop-again
+    Inv-loop μ-loop loop-holds (λ c κs. search needs) (λ c κs. search needs) returns (λ c. search needs) (λ c. search needs) loop-again
     returns-2)

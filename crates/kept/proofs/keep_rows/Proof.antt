@@ -12,12 +12,6 @@ use Rattle.kept.specs.Laws.{keep-nine, keep-short, keep-good}
 use Rattle.kept.proofs.keep_rows.Statement.{statement}
 use Rattle.kept.proofs.keep_rows.Tie as tie
 
-table-rows-requires : tie.Need-table-rows-requires
-table-rows-requires c κs = search needs
-
-fine-table-requires : tie.Need-fine-table-requires
-fine-table-requires c κs = search needs
-
 returns : tie.Need-returns
 returns c =
     let a = c .before .before .before .before .before .args in
@@ -26,9 +20,6 @@ returns c =
     let e = keep-nine (a .len) r (tableRows (now (a .rows)) (a .count)) (length (now (a .out))) (n .result) (n .ensures) (sym (c .before .fine-table .ensures) ∙ not-true _ (c .if1 .taken)) in
     (sym e, sym (ap (λ (t : Told ℕ). keptAfter r t (now (a .out))) e))
 
-mul-if2 : tie.Need-mul-if2
-mul-if2 c = search needs
-
 returns-2 : tie.Need-returns-2
 returns-2 c =
     let a = c .before .before .before .before .before .before .args in
@@ -36,12 +27,6 @@ returns-2 c =
     let n = c .before .before .before .table-rows in
     let e = keep-short (a .len) r (tableRows (now (a .rows)) (a .count)) (length (now (a .out))) (n .result) (n .ensures) (sym (c .before .before .fine-table .ensures) ∙ not-false _ (c .before .if1 .left)) (c .if2 .taken) in
     (sym e, sym (ap (λ (t : Told ℕ). keptAfter r t (now (a .out))) e))
-
-put-rows-requires : tie.Need-put-rows-requires
-put-rows-requires c κs = search needs
-
-same-length : tie.Need-same-length
-same-length c = search needs
 
 returns-3 : tie.Need-returns-3
 returns-3 c =
@@ -55,11 +40,4 @@ pub keep-rows-spec : {M : Type 1} → statement M
 keep-rows-spec =
     tie.close
     (tie.spec
-    table-rows-requires
-    fine-table-requires
-    returns
-    mul-if2
-    returns-2
-    put-rows-requires
-    same-length
-    returns-3)
+    (λ c κs. search needs) (λ c κs. search needs) returns (λ c. search needs) returns-2 (λ c κs. search needs) (λ c. search needs) returns-3)

@@ -19,9 +19,6 @@ returns c =
     let e = read-over (a .len) s (rowsFit (length (now (a .rows)))) (λ e. c .if1 .taken (omega arith)) in
     (sym e, sym (ap (λ (t : Told ℕ). readAfter s t (now (a .rows))) e))
 
-fine-bytes-requires : tie.Need-fine-bytes-requires
-fine-bytes-requires c κs = search needs
-
 returns-2 : tie.Need-returns-2
 returns-2 c =
     let a = c .before .before .before .before .before .args in
@@ -29,21 +26,12 @@ returns-2 c =
     let e = read-nine (a .len) s (rowsFit (length (now (a .rows)))) (c .before .before .if1 .left) (sym (c .before .fine-bytes .ensures) ∙ not-true _ (c .if2 .taken)) in
     (sym e, sym (ap (λ (t : Told ℕ). readAfter s t (now (a .rows))) e))
 
-rows-fit-requires : tie.Need-rows-fit-requires
-rows-fit-requires c κs = search needs
-
 returns-3 : tie.Need-returns-3
 returns-3 c =
     let a = c .before .before .before .before .before .before .before .args in
     let s = now (a .bytes) in
     let e = read-short (a .len) s (rowsFit (length (now (a .rows)))) (c .before .before .before .before .if1 .left) (sym (c .before .before .before .fine-bytes .ensures) ∙ not-false _ (c .before .before .if2 .left)) (omega (arith, c .if3 .taken, c .before .rows-fit .ensures)) in
     (sym e, sym (ap (λ (t : Told ℕ). readAfter s t (now (a .rows))) e))
-
-get-rows-requires : tie.Need-get-rows-requires
-get-rows-requires c κs = search needs
-
-same-length : tie.Need-same-length
-same-length c = search needs
 
 returns-4 : tie.Need-returns-4
 returns-4 c =
@@ -56,11 +44,4 @@ pub read-rows-spec : {M : Type 1} → statement M
 read-rows-spec =
     tie.close
     (tie.spec
-    returns
-    fine-bytes-requires
-    returns-2
-    rows-fit-requires
-    returns-3
-    get-rows-requires
-    same-length
-    returns-4)
+    returns (λ c κs. search needs) returns-2 (λ c κs. search needs) returns-3 (λ c κs. search needs) (λ c. search needs) returns-4)

@@ -4,101 +4,41 @@ use Rattle.kinds.specs.Kind.{kindOf}
 use Rattle.kinds.proofs.intern.Statement.{statement}
 use Rattle.kinds.proofs.intern.Tie as tie
 
-slice-aggregate-is-word : tie.Need-slice-aggregate-is-word
-slice-aggregate-is-word c = search needs
-
-is-word-requires : tie.Need-is-word-requires
-is-word-requires c κs = search needs
-
 returns : tie.Need-returns
 unfolding kindOf
 returns c = rw (sym (c .before .is-word .ensures) ∙ c .if1 .taken) refl
-
-slice-aggregate-is-word-2 : tie.Need-slice-aggregate-is-word-2
-slice-aggregate-is-word-2 c = search needs
-
-is-word-requires-2 : tie.Need-is-word-requires-2
-is-word-requires-2 c κs = search needs
 
 returns-2 : tie.Need-returns-2
 unfolding kindOf
 returns-2 c = rw (sym (c .before .before .before .before .is-word .ensures) ∙ c .before .before .before .if1 .left, sym (c .before .is-word2 .ensures) ∙ c .if2 .taken) refl
 
-slice-aggregate-is-word-3 : tie.Need-slice-aggregate-is-word-3
-slice-aggregate-is-word-3 c = search needs
-
-is-word-requires-3 : tie.Need-is-word-requires-3
-is-word-requires-3 c κs = search needs
-
 returns-3 : tie.Need-returns-3
 unfolding kindOf
 returns-3 c = rw (sym (c .before .before .before .before .before .before .before .is-word .ensures) ∙ c .before .before .before .before .before .before .if1 .left, sym (c .before .before .before .before .is-word2 .ensures) ∙ c .before .before .before .if2 .left, sym (c .before .is-word3 .ensures) ∙ c .if3 .taken) refl
-
-slice-aggregate-is-word-4 : tie.Need-slice-aggregate-is-word-4
-slice-aggregate-is-word-4 c = search needs
-
-is-word-requires-4 : tie.Need-is-word-requires-4
-is-word-requires-4 c κs = search needs
 
 returns-4 : tie.Need-returns-4
 unfolding kindOf
 returns-4 c = rw (sym (c .before .before .before .before .before .before .before .before .before .before .is-word .ensures) ∙ c .before .before .before .before .before .before .before .before .before .if1 .left, sym (c .before .before .before .before .before .before .before .is-word2 .ensures) ∙ c .before .before .before .before .before .before .if2 .left, sym (c .before .before .before .before .is-word3 .ensures) ∙ c .before .before .before .if3 .left, sym (c .before .is-word4 .ensures) ∙ c .if4 .taken) refl
 
-slice-aggregate-is-word-5 : tie.Need-slice-aggregate-is-word-5
-slice-aggregate-is-word-5 c = search needs
-
-is-word-requires-5 : tie.Need-is-word-requires-5
-is-word-requires-5 c κs = search needs
-
 returns-5 : tie.Need-returns-5
 unfolding kindOf
 returns-5 c = rw (sym (c .before .before .before .before .before .before .before .before .before .before .before .before .before .is-word .ensures) ∙ c .before .before .before .before .before .before .before .before .before .before .before .before .if1 .left, sym (c .before .before .before .before .before .before .before .before .before .before .is-word2 .ensures) ∙ c .before .before .before .before .before .before .before .before .before .if2 .left, sym (c .before .before .before .before .before .before .before .is-word3 .ensures) ∙ c .before .before .before .before .before .before .if3 .left, sym (c .before .before .before .before .is-word4 .ensures) ∙ c .before .before .before .if4 .left, sym (c .before .is-word5 .ensures) ∙ c .if5 .taken) refl
-
-slice-aggregate-is-word-6 : tie.Need-slice-aggregate-is-word-6
-slice-aggregate-is-word-6 c = search needs
-
-is-word-requires-6 : tie.Need-is-word-requires-6
-is-word-requires-6 c κs = search needs
 
 returns-6 : tie.Need-returns-6
 unfolding kindOf
 returns-6 c = rw (sym (c .before .before .before .before .before .before .before .before .before .before .before .before .before .before .before .before .is-word .ensures) ∙ c .before .before .before .before .before .before .before .before .before .before .before .before .before .before .before .if1 .left, sym (c .before .before .before .before .before .before .before .before .before .before .before .before .before .is-word2 .ensures) ∙ c .before .before .before .before .before .before .before .before .before .before .before .before .if2 .left, sym (c .before .before .before .before .before .before .before .before .before .before .is-word3 .ensures) ∙ c .before .before .before .before .before .before .before .before .before .if3 .left, sym (c .before .before .before .before .before .before .before .is-word4 .ensures) ∙ c .before .before .before .before .before .before .if4 .left, sym (c .before .before .before .before .is-word5 .ensures) ∙ c .before .before .before .if5 .left, sym (c .before .is-word6 .ensures) ∙ c .if6 .taken) refl
 
-slice-aggregate-is-word-7 : tie.Need-slice-aggregate-is-word-7
-slice-aggregate-is-word-7 c = search needs
-
-is-word-requires-7 : tie.Need-is-word-requires-7
-is-word-requires-7 c κs = search needs
-
 returns-7 : tie.Need-returns-7
 unfolding kindOf
 returns-7 c = rw (sym (c .before .before .before .before .before .before .before .before .before .before .before .before .before .before .before .before .before .before .before .is-word .ensures) ∙ c .before .before .before .before .before .before .before .before .before .before .before .before .before .before .before .before .before .before .if1 .left, sym (c .before .before .before .before .before .before .before .before .before .before .before .before .before .before .before .before .is-word2 .ensures) ∙ c .before .before .before .before .before .before .before .before .before .before .before .before .before .before .before .if2 .left, sym (c .before .before .before .before .before .before .before .before .before .before .before .before .before .is-word3 .ensures) ∙ c .before .before .before .before .before .before .before .before .before .before .before .before .if3 .left, sym (c .before .before .before .before .before .before .before .before .before .before .is-word4 .ensures) ∙ c .before .before .before .before .before .before .before .before .before .if4 .left, sym (c .before .before .before .before .before .before .before .is-word5 .ensures) ∙ c .before .before .before .before .before .before .if5 .left, sym (c .before .before .before .before .is-word6 .ensures) ∙ c .before .before .before .if6 .left, sym (c .before .is-word7 .ensures) ∙ c .if7 .taken) refl
-
-slice-aggregate-is-word-8 : tie.Need-slice-aggregate-is-word-8
-slice-aggregate-is-word-8 c = search needs
-
-is-word-requires-8 : tie.Need-is-word-requires-8
-is-word-requires-8 c κs = search needs
 
 returns-8 : tie.Need-returns-8
 unfolding kindOf
 returns-8 c = rw (sym (c .before .before .before .before .before .before .before .before .before .before .before .before .before .before .before .before .before .before .before .before .before .before .is-word .ensures) ∙ c .before .before .before .before .before .before .before .before .before .before .before .before .before .before .before .before .before .before .before .before .before .if1 .left, sym (c .before .before .before .before .before .before .before .before .before .before .before .before .before .before .before .before .before .before .before .is-word2 .ensures) ∙ c .before .before .before .before .before .before .before .before .before .before .before .before .before .before .before .before .before .before .if2 .left, sym (c .before .before .before .before .before .before .before .before .before .before .before .before .before .before .before .before .is-word3 .ensures) ∙ c .before .before .before .before .before .before .before .before .before .before .before .before .before .before .before .if3 .left, sym (c .before .before .before .before .before .before .before .before .before .before .before .before .before .is-word4 .ensures) ∙ c .before .before .before .before .before .before .before .before .before .before .before .before .if4 .left, sym (c .before .before .before .before .before .before .before .before .before .before .is-word5 .ensures) ∙ c .before .before .before .before .before .before .before .before .before .if5 .left, sym (c .before .before .before .before .before .before .before .is-word6 .ensures) ∙ c .before .before .before .before .before .before .if6 .left, sym (c .before .before .before .before .is-word7 .ensures) ∙ c .before .before .before .if7 .left, sym (c .before .is-word8 .ensures) ∙ c .if8 .taken) refl
 
-slice-aggregate-is-word-9 : tie.Need-slice-aggregate-is-word-9
-slice-aggregate-is-word-9 c = search needs
-
-is-word-requires-9 : tie.Need-is-word-requires-9
-is-word-requires-9 c κs = search needs
-
 returns-9 : tie.Need-returns-9
 unfolding kindOf
 returns-9 c = rw (sym (c .before .before .before .before .before .before .before .before .before .before .before .before .before .before .before .before .before .before .before .before .before .before .before .before .before .is-word .ensures) ∙ c .before .before .before .before .before .before .before .before .before .before .before .before .before .before .before .before .before .before .before .before .before .before .before .before .if1 .left, sym (c .before .before .before .before .before .before .before .before .before .before .before .before .before .before .before .before .before .before .before .before .before .before .is-word2 .ensures) ∙ c .before .before .before .before .before .before .before .before .before .before .before .before .before .before .before .before .before .before .before .before .before .if2 .left, sym (c .before .before .before .before .before .before .before .before .before .before .before .before .before .before .before .before .before .before .before .is-word3 .ensures) ∙ c .before .before .before .before .before .before .before .before .before .before .before .before .before .before .before .before .before .before .if3 .left, sym (c .before .before .before .before .before .before .before .before .before .before .before .before .before .before .before .before .is-word4 .ensures) ∙ c .before .before .before .before .before .before .before .before .before .before .before .before .before .before .before .if4 .left, sym (c .before .before .before .before .before .before .before .before .before .before .before .before .before .is-word5 .ensures) ∙ c .before .before .before .before .before .before .before .before .before .before .before .before .if5 .left, sym (c .before .before .before .before .before .before .before .before .before .before .is-word6 .ensures) ∙ c .before .before .before .before .before .before .before .before .before .if6 .left, sym (c .before .before .before .before .before .before .before .is-word7 .ensures) ∙ c .before .before .before .before .before .before .if7 .left, sym (c .before .before .before .before .is-word8 .ensures) ∙ c .before .before .before .if8 .left, sym (c .before .is-word9 .ensures) ∙ c .if9 .taken) refl
-
-slice-aggregate-is-word-10 : tie.Need-slice-aggregate-is-word-10
-slice-aggregate-is-word-10 c = search needs
-
-is-word-requires-10 : tie.Need-is-word-requires-10
-is-word-requires-10 c κs = search needs
 
 returns-10 : tie.Need-returns-10
 unfolding kindOf
@@ -112,34 +52,8 @@ pub intern-spec : {M : Type 1} → statement M
 intern-spec =
     tie.close
     (tie.spec
-    slice-aggregate-is-word
-    is-word-requires
-    returns
-    slice-aggregate-is-word-2
-    is-word-requires-2
-    returns-2
-    slice-aggregate-is-word-3
-    is-word-requires-3
-    returns-3
-    slice-aggregate-is-word-4
-    is-word-requires-4
-    returns-4
-    slice-aggregate-is-word-5
-    is-word-requires-5
-    returns-5
-    slice-aggregate-is-word-6
-    is-word-requires-6
-    returns-6
-    slice-aggregate-is-word-7
-    is-word-requires-7
-    returns-7
-    slice-aggregate-is-word-8
-    is-word-requires-8
-    returns-8
-    slice-aggregate-is-word-9
-    is-word-requires-9
-    returns-9
-    slice-aggregate-is-word-10
-    is-word-requires-10
-    returns-10
-    returns-11)
+    (λ c. search needs) (λ c κs. search needs) returns (λ c. search needs) (λ c κs. search needs) returns-2 (λ c. search needs)
+    (λ c κs. search needs) returns-3 (λ c. search needs) (λ c κs. search needs) returns-4 (λ c. search needs) (λ c κs. search needs)
+    returns-5 (λ c. search needs) (λ c κs. search needs) returns-6 (λ c. search needs) (λ c κs. search needs) returns-7 (λ c. search needs)
+    (λ c κs. search needs) returns-8 (λ c. search needs) (λ c κs. search needs) returns-9 (λ c. search needs) (λ c κs. search needs)
+    returns-10 returns-11)

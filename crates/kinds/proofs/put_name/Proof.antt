@@ -22,25 +22,10 @@ returns c = (rw (lt-leb _ _ (c .if1 .taken)) refl, rw (lt-leb _ _ (c .if1 .taken
 loop-holds : tie.Need-loop-holds Inv-loop μ-loop
 loop-holds c = (refl, omega arith, refl)
 
-shared-slice-read-out : tie.Need-shared-slice-read-out Inv-loop μ-loop
-shared-slice-read-out c = search needs
-
-slice-write-out : tie.Need-slice-write-out Inv-loop μ-loop
-slice-write-out c = omega arith
-
-add-i : tie.Need-add-i Inv-loop μ-loop
-add-i c = search needs
-
-loop-less : tie.Need-loop-less Inv-loop μ-loop
-loop-less c = omega arith
-
 loop-again : tie.Need-loop-again Inv-loop μ-loop
 loop-again c = let l = c .before .before .loop in
     let a = c .before .before .before .before .args in
     (ap (λ (z : List ℕ). set z (l .i) (getD (now (a .name)) (l .i) 0)) (l .inv .0) ∙ name-next (now (a .name)) (a .out .now) (l .i) (omega arith) (omega arith), omega arith, length-set (l .out) (l .i) (getD (now (a .name)) (l .i) 0) ∙ l .inv .2)
-
-same-length : tie.Need-same-length Inv-loop μ-loop
-same-length c = search needs
 
 returns-2 : tie.Need-returns-2 Inv-loop μ-loop
 returns-2 c = let l = c .before .loop in
@@ -51,14 +36,5 @@ pub put-name-spec : {M : Type 1} → statement M
 put-name-spec =
     tie.close
     (tie.spec
-    Inv-loop
-    μ-loop
-    returns
-    loop-holds
-    shared-slice-read-out
-    slice-write-out
-    add-i
-    loop-less
-    loop-again
-    same-length
-    returns-2)
+    Inv-loop μ-loop returns loop-holds (λ c. search needs) (λ c. omega arith) (λ c. search needs) (λ c. omega arith) loop-again
+    (λ c. search needs) returns-2)

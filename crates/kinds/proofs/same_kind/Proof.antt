@@ -4,14 +4,9 @@ use lib.Dec.{eqb}
 use Rattle.kinds.proofs.same_kind.Statement.{statement}
 use Rattle.kinds.proofs.same_kind.Tie as tie
 
-rank-requires : tie.Need-rank-requires
-rank-requires c κs = search needs
-
-rank-requires-2 : tie.Need-rank-requires-2
-rank-requires-2 c κs = search needs
-
 returns : tie.Need-returns
 returns c = ap₂ eqb (c .before .rank .ensures) (c .rank2 .ensures)
 
 pub same-kind-spec : {M : Type 1} → statement M
-same-kind-spec = tie.close (tie.spec rank-requires rank-requires-2 returns)
+same-kind-spec = tie.close (tie.spec
+    (λ c κs. search needs) (λ c κs. search needs) returns)

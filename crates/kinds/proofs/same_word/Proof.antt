@@ -29,27 +29,9 @@ returns c =
 loop-holds : tie.Need-loop-holds Inv-loop μ-loop
 loop-holds c = (omega arith, refl)
 
-shared-slice-read-upper-of : tie.Need-shared-slice-read-upper-of Inv-loop μ-loop
-shared-slice-read-upper-of c = search needs
-
-upper-of-requires : tie.Need-upper-of-requires Inv-loop μ-loop
-upper-of-requires c κs = search needs
-
-shared-slice-read-upper-of-2 : tie.Need-shared-slice-read-upper-of-2 Inv-loop μ-loop
-shared-slice-read-upper-of-2 c = search needs
-
-upper-of-requires-2 : tie.Need-upper-of-requires-2 Inv-loop μ-loop
-upper-of-requires-2 c κs = search needs
-
 returns-2 : tie.Need-returns-2 Inv-loop μ-loop
 returns-2 c =
     both-stops (now (c .before .before .before .before .before .before .before .before .before .before .args .t)) (now (c .before .before .before .before .before .before .before .before .before .before .args .w)) (c .before .before .before .before .before .before .loop .i) _ (omega arith) (omega arith) (ne-eqb _ _ (λ e. c .if2 .taken (c .before .before .before .upper-of .ensures ∙ e ∙ sym (c .before .upper-of2 .ensures)))) (c .before .before .before .before .before .before .loop .inv .1)
-
-add-i : tie.Need-add-i Inv-loop μ-loop
-add-i c = search needs
-
-loop-less : tie.Need-loop-less Inv-loop μ-loop
-loop-less c = search needs
 
 loop-again : tie.Need-loop-again Inv-loop μ-loop
 loop-again c =
@@ -64,16 +46,5 @@ pub same-word-spec : {M : Type 1} → statement M
 same-word-spec =
     tie.close
     (tie.spec
-    Inv-loop
-    μ-loop
-    returns
-    loop-holds
-    shared-slice-read-upper-of
-    upper-of-requires
-    shared-slice-read-upper-of-2
-    upper-of-requires-2
-    returns-2
-    add-i
-    loop-less
-    loop-again
-    returns-3)
+    Inv-loop μ-loop returns loop-holds (λ c. search needs) (λ c κs. search needs) (λ c. search needs) (λ c κs. search needs) returns-2
+    (λ c. search needs) (λ c. search needs) loop-again returns-3)

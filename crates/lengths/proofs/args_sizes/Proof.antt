@@ -17,17 +17,8 @@ abbrev μ-loop : tie.MeasureT-loop
 loop-holds : tie.Need-loop-holds Inv-loop μ-loop
 loop-holds c = nothing-both _
 
-param-span-requires : tie.Need-param-span-requires Inv-loop μ-loop
-param-span-requires c κs = search needs
-
-enum-told : tie.Need-enum-told Inv-loop μ-loop
-enum-told c = search needs
-
 returns : tie.Need-returns Inv-loop μ-loop
 returns c = args-over _ _ _ _ _ _ _ _ _ (c .before .before .before .before .loop .inv) (sym (ap toldCut (c .enum-told .given .1)) ∙ c .before .before .param-span .ensures .0)
-
-enum-known-a : tie.Need-enum-known-a Inv-loop μ-loop
-enum-known-a c = search needs
 
 sub-sizes-of : tie.Need-sub-sizes-of Inv-loop μ-loop
 sub-sizes-of c = let w = rw (c .before .a .given .1) at (c .before .before .before .param-span .ensures .1) in omega arith
@@ -37,12 +28,6 @@ part-sizes-of-start c = let w = rw (c .before .a .given .1) at (c .before .befor
 
 part-sizes-of-end : tie.Need-part-sizes-of-end Inv-loop μ-loop
 part-sizes-of-end c = let w = rw (c .before .a .given .1) at (c .before .before .before .param-span .ensures .1) in omega arith
-
-sizes-of-requires : tie.Need-sizes-of-requires Inv-loop μ-loop
-sizes-of-requires c κs = search needs
-
-larger-each-requires : tie.Need-larger-each-requires Inv-loop μ-loop
-larger-each-requires c κs = search needs
 
 sub-left : tie.Need-sub-left Inv-loop μ-loop
 sub-left c = omega (arith, c .before .before .before .before .before .before .before .loop-test .taken)
@@ -61,19 +46,5 @@ pub args-sizes-spec : {M : Type 1} → statement M
 args-sizes-spec =
     tie.close
     (tie.spec
-    Inv-loop
-    μ-loop
-    loop-holds
-    param-span-requires
-    enum-told
-    returns
-    enum-known-a
-    sub-sizes-of
-    part-sizes-of-start
-    part-sizes-of-end
-    sizes-of-requires
-    larger-each-requires
-    sub-left
-    loop-less
-    loop-again
-    returns-2)
+    Inv-loop μ-loop loop-holds (λ c κs. search needs) (λ c. search needs) returns (λ c. search needs) sub-sizes-of part-sizes-of-start
+    part-sizes-of-end (λ c κs. search needs) (λ c κs. search needs) sub-left loop-less loop-again returns-2)

@@ -7,18 +7,6 @@ use borrow.Author.Needs.{needs}
 use Rattle.lengths.proofs.grid_len.Statement.{statement}
 use Rattle.lengths.proofs.grid_len.Tie as tie
 
-count-grid-requires : tie.Need-count-grid-requires
-count-grid-requires c κs = search needs
-
-enum-known-rows : tie.Need-enum-known-rows
-enum-known-rows c = search needs
-
-enum-told : tie.Need-enum-told
-enum-told c = search needs
-
-enum-told-2 : tie.Need-enum-told-2
-enum-told-2 c = search needs
-
 returns : tie.Need-returns
 returns c = grid-all _ _ _ (sym (ap toldTally (c .before .rows .given .1)) ∙ c .before .before .before .count-grid .ensures ∙ size-told anything _)
 
@@ -32,10 +20,4 @@ pub grid-len-spec : {M : Type 1} → statement M
 grid-len-spec =
     tie.close
     (tie.spec
-    count-grid-requires
-    enum-known-rows
-    enum-told
-    enum-told-2
-    returns
-    returns-2
-    returns-3)
+    (λ c κs. search needs) (λ c. search needs) (λ c. search needs) (λ c. search needs) returns returns-2 returns-3)

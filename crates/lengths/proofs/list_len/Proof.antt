@@ -5,18 +5,6 @@ use borrow.Author.Needs.{needs}
 use Rattle.lengths.proofs.list_len.Statement.{statement}
 use Rattle.lengths.proofs.list_len.Tie as tie
 
-count-list-requires : tie.Need-count-list-requires
-count-list-requires c κs = search needs
-
-enum-known-n : tie.Need-enum-known-n
-enum-known-n c = search needs
-
-enum-told : tie.Need-enum-told
-enum-told c = search needs
-
-enum-told-2 : tie.Need-enum-told-2
-enum-told-2 c = search needs
-
 returns : tie.Need-returns
 returns c = items-all _ _ (sym (ap toldCounted (c .before .n .given .1)) ∙ c .before .before .before .count-list .ensures .0)
 
@@ -29,4 +17,5 @@ returns-3 c = items-none _ _ _ (sym (ap toldCounted (c .enum-told2 .given .1)) �
 pub list-len-spec : {M : Type 1} → statement M
 list-len-spec =
     tie.close
-    (tie.spec count-list-requires enum-known-n enum-told enum-told-2 returns returns-2 returns-3)
+    (tie.spec
+    (λ c κs. search needs) (λ c. search needs) (λ c. search needs) (λ c. search needs) returns returns-2 returns-3)

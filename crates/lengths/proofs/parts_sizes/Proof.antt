@@ -17,29 +17,11 @@ abbrev μ-loop : tie.MeasureT-loop
 loop-holds : tie.Need-loop-holds Inv-loop μ-loop
 loop-holds c = nothing-both _
 
-next-part-requires : tie.Need-next-part-requires Inv-loop μ-loop
-next-part-requires c κs = search needs
-
-enum-told : tie.Need-enum-told Inv-loop μ-loop
-enum-told c = search needs
-
 returns : tie.Need-returns Inv-loop μ-loop
 returns c = parts-over _ _ _ _ _ _ (c .before .before .before .before .loop .inv) (sym (ap toldNext (c .enum-told .given .1)) ∙ c .before .before .next-part .ensures)
 
-enum-told-2 : tie.Need-enum-told-2 Inv-loop μ-loop
-enum-told-2 c = search needs
-
 returns-2 : tie.Need-returns-2 Inv-loop μ-loop
 returns-2 c = parts-bad _ _ _ _ _ _ _ (c .before .before .before .before .loop .inv) (sym (ap toldNext (c .enum-told2 .given .1)) ∙ c .before .before .next-part .ensures)
-
-enum-known-p : tie.Need-enum-known-p Inv-loop μ-loop
-enum-known-p c = search needs
-
-args-sizes-requires : tie.Need-args-sizes-requires Inv-loop μ-loop
-args-sizes-requires c κs = search needs
-
-larger-each-requires : tie.Need-larger-each-requires Inv-loop μ-loop
-larger-each-requires c κs = search needs
 
 add-at : tie.Need-add-at Inv-loop μ-loop
 add-at c = let k = part-end _ _ _ _ (sym (ap toldNext (c .before .before .before .before .p .given .1)) ∙ c .before .before .before .before .before .before .next-part .ensures) in omega (arith, k)
@@ -61,19 +43,5 @@ pub parts-sizes-spec : {M : Type 1} → statement M
 parts-sizes-spec =
     tie.close
     (tie.spec
-    Inv-loop
-    μ-loop
-    loop-holds
-    next-part-requires
-    enum-told
-    returns
-    enum-told-2
-    returns-2
-    enum-known-p
-    args-sizes-requires
-    larger-each-requires
-    add-at
-    sub-left
-    loop-less
-    loop-again
-    returns-3)
+    Inv-loop μ-loop loop-holds (λ c κs. search needs) (λ c. search needs) returns (λ c. search needs) returns-2 (λ c. search needs)
+    (λ c κs. search needs) (λ c κs. search needs) add-at sub-left loop-less loop-again returns-3)

@@ -3,15 +3,6 @@ use borrow.Author.Needs.{needs}
 use Rattle.lengths.proofs.record_sizes.Statement.{statement}
 use Rattle.lengths.proofs.record_sizes.Tie as tie
 
-args-sizes-requires : tie.Need-args-sizes-requires
-args-sizes-requires c κs = search needs
-
-parts-sizes-requires : tie.Need-parts-sizes-requires
-parts-sizes-requires c κs = search needs
-
-larger-each-requires : tie.Need-larger-each-requires
-larger-each-requires c κs = search needs
-
 returns : tie.Need-returns
 returns c = rw (c .larger-each .ensures, c .before .parts-sizes .ensures, c .before .before .before .args-sizes .ensures) (record-complex _ _ _ _ (c .before .before .if1 .taken))
 
@@ -21,4 +12,5 @@ returns-2 c = rw (c .before .args-sizes .ensures) (record-simple _ _ _ _ (c .if1
 pub record-sizes-spec : {M : Type 1} → statement M
 record-sizes-spec =
     tie.close
-    (tie.spec args-sizes-requires parts-sizes-requires larger-each-requires returns returns-2)
+    (tie.spec
+    (λ c κs. search needs) (λ c κs. search needs) (λ c κs. search needs) returns returns-2)

@@ -5,9 +5,6 @@ use borrow.Author.Needs.{needs}
 use Rattle.lex.proofs.depth_after.Statement.{statement}
 use Rattle.lex.proofs.depth_after.Tie as tie
 
-add-t4 : tie.Need-add-t4
-add-t4 c = search needs
-
 returns : tie.Need-returns
 returns c = simp (eq-eqb _ _ (c .if1 .taken), add-one)
 
@@ -17,11 +14,9 @@ returns-2 c = simp (ne-eqb _ _ (c .before .if1 .left), ne-eqb _ _ (c .if2 .taken
 returns-3 : tie.Need-returns-3
 returns-3 c = simp (ne-eqb _ _ (c .before .before .if1 .left), eq-eqb _ _ (c .before .if2 .left), c .if3 .taken)
 
-sub-t5 : tie.Need-sub-t5
-sub-t5 c = search needs
-
 returns-4 : tie.Need-returns-4
 returns-4 c = simp (ne-eqb _ _ (c .before .before .if1 .left), eq-eqb _ _ (c .before .if2 .left)) (under-less _ (c .if3 .left))
 
 pub depth-after-spec : {M : Type 1} → statement M
-depth-after-spec = tie.close (tie.spec add-t4 returns returns-2 returns-3 sub-t5 returns-4)
+depth-after-spec = tie.close (tie.spec
+    (λ c. search needs) returns returns-2 returns-3 (λ c. search needs) returns-4)

@@ -9,18 +9,6 @@ use borrow.Author.Needs.{needs}
 use Rattle.lex.proofs.find.Statement.{statement}
 use Rattle.lex.proofs.find.Tie as tie
 
-within-requires : tie.Need-within-requires
-within-requires c κs = search needs
-
-add-within : tie.Need-add-within
-add-within c = search needs
-
-within-requires-2 : tie.Need-within-requires-2
-within-requires-2 c κs = search needs
-
-pass-bytes-requires : tie.Need-pass-bytes-requires
-pass-bytes-requires c κs = search needs
-
 returns : tie.Need-returns
 returns c = let a = c .before .before .before .before .before .args in
     let n = length (now (a .s)) in
@@ -28,12 +16,6 @@ returns c = let a = c .before .before .before .before .before .args in
     let v = c .before .before .within2 .ensures in
     subst (λ (k : ℕ). Stopped (a .b) (now (a .s)) k n (c .before .pass-bytes .result)) w
     (stopped-near _ _ _ _ n _ (c .before .pass-bytes .ensures) (c .if1 .taken) (omega (arith, v)))
-
-pass-blocks-requires : tie.Need-pass-blocks-requires
-pass-blocks-requires c κs = search needs
-
-pass-bytes-requires-2 : tie.Need-pass-bytes-requires-2
-pass-bytes-requires-2 c κs = search needs
 
 returns-2 : tie.Need-returns-2
 returns-2 c = let a = c .before .before .before .before .before .before .before .args in
@@ -47,11 +29,5 @@ pub find-spec : {M : Type 1} → statement M
 find-spec =
     tie.close
     (tie.spec
-    within-requires
-    add-within
-    within-requires-2
-    pass-bytes-requires
-    returns
-    pass-blocks-requires
-    pass-bytes-requires-2
-    returns-2)
+    (λ c κs. search needs) (λ c. search needs) (λ c κs. search needs) (λ c κs. search needs) returns (λ c κs. search needs)
+    (λ c κs. search needs) returns-2)

@@ -23,9 +23,6 @@ Inv-loop s start from i₀ near₀ i near = (i ≤ length s) × (plainly semicol
 abbrev μ-loop : tie.MeasureT-loop
 μ-loop s start from i₀ near₀ i near = ahead (length s) i near
 
-within-requires : tie.Need-within-requires Inv-loop μ-loop
-within-requires c κs = search needs
-
 add-near : tie.Need-add-near Inv-loop μ-loop
 add-near c = omega (arith, c .within .ensures)
 
@@ -33,12 +30,6 @@ loop-holds : tie.Need-loop-holds Inv-loop μ-loop
 unfolding recordEnd
 loop-holds c = let s = now (c .before .before .args .s) in
     (omega (arith, c .within .ensures), ap recordEnd (ap (λ (k : ℕ). drop k s) (c .within .ensures) ∙ drop-within s (c .before .before .args .start)))
-
-pass-quiet-requires : tie.Need-pass-quiet-requires Inv-loop μ-loop
-pass-quiet-requires c κs = search needs
-
-add-near-2 : tie.Need-add-near-2 Inv-loop μ-loop
-add-near-2 c = search needs
 
 loop-less : tie.Need-loop-less Inv-loop μ-loop
 loop-less c = let l = c .before .before .before .loop in blocks-less _ (l .i) (l .near) (c .pass-quiet .result) (omega arith) (c .pass-quiet .ensures .1 .0)
@@ -48,21 +39,12 @@ loop-again c = let l = c .before .before .before .loop in
     let s = now (c .before .before .before .before .before .before .args .s) in
     (omega arith, sym (c .pass-quiet .ensures .0 5 (drop (c .before .before .before .before .within .result) s)) ∙ l .inv .1)
 
-shared-slice-read-if2 : tie.Need-shared-slice-read-if2 Inv-loop μ-loop
-shared-slice-read-if2 c = search needs
-
 returns : tie.Need-returns Inv-loop μ-loop
 returns c = let l = c .before .before .before .before .loop in
     let s = now (c .before .before .before .before .before .before .before .args .s) in
     ap good (sym (place-drop s (l .i) (omega arith)))
     ∙ ap (placed s)
     (seek-halts semicolon (missed 5 (drop (c .before .before .before .before .before .within .result) s)) s (l .i) (omega arith) Plain 0 (l .i) _ refl (simp (eq-eqb _ _ (c .if2 .taken))) (l .inv .1))
-
-past-requires : tie.Need-past-requires Inv-loop μ-loop
-past-requires c κs = search needs
-
-enum-known-next : tie.Need-enum-known-next Inv-loop μ-loop
-enum-known-next c = search needs
 
 loop-less-2 : tie.Need-loop-less-2 Inv-loop μ-loop
 loop-less-2 c = let e = rw (c .before .next .given .1) at (c .before .before .before .past .ensures) in
@@ -73,9 +55,6 @@ loop-again-2 c = let l = c .before .before .before .before .before .before .befo
     let s = now (c .before .before .before .before .before .before .before .before .before .before .before .args .s) in
     let e = rw (c .before .next .given .1) at (c .before .before .before .past .ensures) in
     (omega (arith, e .1), sym (e .2 semicolon 5 (drop (c .before .before .before .before .before .before .before .before .before .within .result) s) 0 0 (simp (ne-eqb _ _ (c .before .before .before .before .if2 .left)))) ∙ l .inv .1)
-
-enum-known-f : tie.Need-enum-known-f Inv-loop μ-loop
-enum-known-f c = search needs
 
 returns-2 : tie.Need-returns-2 Inv-loop μ-loop
 returns-2 c = let l = c .before .before .before .before .before .before .before .before .loop in
@@ -94,21 +73,5 @@ pub find-record-end-spec : {M : Type 1} → statement M
 find-record-end-spec =
     tie.close
     (tie.spec
-    Inv-loop
-    μ-loop
-    within-requires
-    add-near
-    loop-holds
-    pass-quiet-requires
-    add-near-2
-    loop-less
-    loop-again
-    shared-slice-read-if2
-    returns
-    past-requires
-    enum-known-next
-    loop-less-2
-    loop-again-2
-    enum-known-f
-    returns-2
-    returns-3)
+    Inv-loop μ-loop (λ c κs. search needs) add-near loop-holds (λ c κs. search needs) (λ c. search needs) loop-less loop-again
+    (λ c. search needs) returns (λ c κs. search needs) (λ c. search needs) loop-less-2 loop-again-2 (λ c. search needs) returns-2 returns-3)

@@ -23,14 +23,8 @@ Inv-loop s opening from i₀ depth₀ near₀ i depth near = ((i ≤ length s) �
 abbrev μ-loop : tie.MeasureT-loop
 μ-loop s opening from i₀ depth₀ near₀ i depth near = ahead (length s) i near
 
-within-requires : tie.Need-within-requires Inv-loop μ-loop
-within-requires c κs = search needs
-
 add-within : tie.Need-add-within Inv-loop μ-loop
 add-within c = omega (arith, c .within .ensures)
-
-within-requires-2 : tie.Need-within-requires-2 Inv-loop μ-loop
-within-requires-2 c κs = search needs
 
 add-near : tie.Need-add-near Inv-loop μ-loop
 add-near c = omega (arith, c .within2 .ensures)
@@ -45,9 +39,6 @@ loop-holds c = let s = now (c .before .before .before .args .s) in
     ap (λ (k : ℕ). drop k s) (c .within2 .ensures) ∙ drop-within s (from + 1) ∙ sym (drop-drop 1 from s) in
     ((omega (arith, c .within2 .ensures), omega arith), rw f (ap closing e))
 
-pass-calm-requires : tie.Need-pass-calm-requires Inv-loop μ-loop
-pass-calm-requires c κs = search needs
-
 add-near-2 : tie.Need-add-near-2 Inv-loop μ-loop
 add-near-2 c = let t = c .pass-calm .ensures in omega (arith, t .inside)
 
@@ -60,18 +51,6 @@ loop-again c = let l = c .before .before .before .loop in
     let t = c .pass-calm .ensures in
     ((omega (arith, t .inside), omega (arith, t .low)), sym (t .same 6 (drop (c .before .before .before .before .before .within .result) s)) ∙ l .inv .1)
 
-shared-slice-read-depth-after : tie.Need-shared-slice-read-depth-after Inv-loop μ-loop
-shared-slice-read-depth-after c = search needs
-
-depth-after-requires : tie.Need-depth-after-requires Inv-loop μ-loop
-depth-after-requires c κs = search needs
-
-enum-known-d : tie.Need-enum-known-d Inv-loop μ-loop
-enum-known-d c = search needs
-
-enum-told : tie.Need-enum-told Inv-loop μ-loop
-enum-told c = search needs
-
 returns : tie.Need-returns Inv-loop μ-loop
 returns c = let l = c .before .before .before .before .before .before .loop in
     let s = now (c .before .before .before .before .before .before .before .before .before .before .args .s) in
@@ -79,15 +58,6 @@ returns c = let l = c .before .before .before .before .before .before .loop in
     ∙ ap (placed s)
     (seek-halts paren (missed 6 (drop (c .before .before .before .before .before .before .before .before .within .result) s)) s (l .i) (omega arith) Plain (l .depth) (l .i) _ refl
     (sym (c .before .before .depth-after .ensures) ∙ ap lookOf (c .enum-told .given .1)) (l .inv .1))
-
-past-requires : tie.Need-past-requires Inv-loop μ-loop
-past-requires c κs = search needs
-
-enum-known-next : tie.Need-enum-known-next Inv-loop μ-loop
-enum-known-next c = search needs
-
-enum-known-f : tie.Need-enum-known-f Inv-loop μ-loop
-enum-known-f c = search needs
 
 returns-2 : tie.Need-returns-2 Inv-loop μ-loop
 returns-2 c = let l = c .before .before .before .before .before .before .before .before .before .before .before .loop in
@@ -119,26 +89,6 @@ pub matching-paren-spec : {M : Type 1} → statement M
 matching-paren-spec =
     tie.close
     (tie.spec
-    Inv-loop
-    μ-loop
-    within-requires
-    add-within
-    within-requires-2
-    add-near
-    loop-holds
-    pass-calm-requires
-    add-near-2
-    loop-less
-    loop-again
-    shared-slice-read-depth-after
-    depth-after-requires
-    enum-known-d
-    enum-told
-    returns
-    past-requires
-    enum-known-next
-    enum-known-f
-    returns-2
-    loop-less-2
-    loop-again-2
-    returns-3)
+    Inv-loop μ-loop (λ c κs. search needs) add-within (λ c κs. search needs) add-near loop-holds (λ c κs. search needs) add-near-2 loop-less
+    loop-again (λ c. search needs) (λ c κs. search needs) (λ c. search needs) (λ c. search needs) returns (λ c κs. search needs)
+    (λ c. search needs) (λ c. search needs) returns-2 loop-less-2 loop-again-2 returns-3)

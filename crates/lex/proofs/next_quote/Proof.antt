@@ -9,20 +9,8 @@ use borrow.Author.Needs.{needs}
 use Rattle.lex.proofs.next_quote.Statement.{statement}
 use Rattle.lex.proofs.next_quote.Tie as tie
 
-add-within : tie.Need-add-within
-add-within c = search needs
-
-within-requires : tie.Need-within-requires
-within-requires c κs = search needs
-
-pass-bytes-requires : tie.Need-pass-bytes-requires
-pass-bytes-requires c κs = search needs
-
 returns : tie.Need-returns
 returns c = stopped-near _ _ _ _ _ _ (c .before .pass-bytes .ensures) (c .if1 .taken) (omega (arith, c .before .before .within .ensures))
-
-find-requires : tie.Need-find-requires
-find-requires c κs = search needs
 
 returns-2 : tie.Need-returns-2
 returns-2 c = let s = now (c .before .before .before .before .before .args .s) in
@@ -34,4 +22,5 @@ returns-2 c = let s = now (c .before .before .before .before .before .args .s) i
     (subst (λ (k : ℕ). Stopped 39 s k (length s) (c .find .result)) m (c .find .ensures))
 
 pub next-quote-spec : {M : Type 1} → statement M
-next-quote-spec = tie.close (tie.spec add-within within-requires pass-bytes-requires returns find-requires returns-2)
+next-quote-spec = tie.close (tie.spec
+    (λ c. search needs) (λ c κs. search needs) (λ c κs. search needs) returns (λ c κs. search needs) returns-2)

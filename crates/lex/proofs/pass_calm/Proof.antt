@@ -23,21 +23,9 @@ abbrev μ-loop : tie.MeasureT-loop
 loop-holds : tie.Need-loop-holds Inv-loop μ-loop
 loop-holds c = ((omega arith, omega arith, omega arith), λ n w. refl)
 
-sub-loop : tie.Need-sub-loop Inv-loop μ-loop
-sub-loop c = search needs
-
-block-tally-requires : tie.Need-block-tally-requires Inv-loop μ-loop
-block-tally-requires c κs = search needs
-
-wide-requires : tie.Need-wide-requires Inv-loop μ-loop
-wide-requires c κs = search needs
-
 returns : tie.Need-returns Inv-loop μ-loop
 returns c = let l = c .before .before .before .before .before .loop in
     record { on = omega arith; inside = omega arith; low = omega arith; same = l .inv .1 }
-
-wide-requires-2 : tie.Need-wide-requires-2 Inv-loop μ-loop
-wide-requires-2 c κs = search needs
 
 add-depth : tie.Need-add-depth Inv-loop μ-loop
 add-depth c = let b = c .before .before .before .before .block-tally .ensures .0 in omega (arith, c .wide2 .ensures)
@@ -47,12 +35,6 @@ sub-depth c = let t = c .before .before .before .before .block-tally .result in
     let w = c .before .before .before .wide in
     let d = c .before .before .before .before .before .before .loop .depth in
     omega (arith, ltb-false d (w .result) (neither (t .quote || t .slash) (ltb d (w .result)) (c .before .if1 .left) .1))
-
-add-i : tie.Need-add-i Inv-loop μ-loop
-add-i c = search needs
-
-loop-less : tie.Need-loop-less Inv-loop μ-loop
-loop-less c = search needs
 
 loop-again : tie.Need-loop-again Inv-loop μ-loop
 loop-again c = let l = c .before .before .before .before .before .before .loop in
@@ -77,17 +59,5 @@ pub pass-calm-spec : {M : Type 1} → statement M
 pass-calm-spec =
     tie.close
     (tie.spec
-    Inv-loop
-    μ-loop
-    loop-holds
-    sub-loop
-    block-tally-requires
-    wide-requires
-    returns
-    wide-requires-2
-    add-depth
-    sub-depth
-    add-i
-    loop-less
-    loop-again
-    returns-2)
+    Inv-loop μ-loop loop-holds (λ c. search needs) (λ c κs. search needs) (λ c κs. search needs) returns (λ c κs. search needs) add-depth
+    sub-depth (λ c. search needs) (λ c. search needs) loop-again returns-2)

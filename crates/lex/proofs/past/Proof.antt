@@ -6,29 +6,11 @@ use borrow.Author.Needs.{needs}
 use Rattle.lex.proofs.past.Statement.{statement}
 use Rattle.lex.proofs.past.Tie as tie
 
-shared-slice-read-c : tie.Need-shared-slice-read-c
-shared-slice-read-c c = search needs
-
-past-text-requires : tie.Need-past-text-requires
-past-text-requires c κs = search needs
-
 returns : tie.Need-returns
 returns c = let a = c .before .before .before .before .args in onward-text (now (a .s)) (a .i) (omega arith) (c .before .if1 .taken) (c .past-text .result) (c .past-text .ensures)
 
-add-t7 : tie.Need-add-t7
-add-t7 c = search needs
-
 returns-2 : tie.Need-returns-2
 returns-2 c = let a = c .before .before .before .before .args in onward-byte (now (a .s)) (a .i) (omega arith) (c .before .if1 .left) (c .if2 .taken)
-
-add-is-at : tie.Need-add-is-at
-add-is-at c = search needs
-
-is-at-requires : tie.Need-is-at-requires
-is-at-requires c κs = search needs
-
-add-t10 : tie.Need-add-t10
-add-t10 c = search needs
 
 returns-3 : tie.Need-returns-3
 returns-3 c = let a = c .before .before .before .before .before .before .args in
@@ -46,14 +28,5 @@ pub past-spec : {M : Type 1} → statement M
 past-spec =
     tie.close
     (tie.spec
-    shared-slice-read-c
-    past-text-requires
-    returns
-    add-t7
-    returns-2
-    add-is-at
-    is-at-requires
-    add-t10
-    returns-3
-    past-remark-requires
-    returns-4)
+    (λ c. search needs) (λ c κs. search needs) returns (λ c. search needs) returns-2 (λ c. search needs) (λ c κs. search needs)
+    (λ c. search needs) returns-3 past-remark-requires returns-4)

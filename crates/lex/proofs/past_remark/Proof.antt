@@ -16,14 +16,8 @@ Inv-loop s q i₀ i = ((q + 2 ≤ i) × (i ≤ length s)) × Held s Remark q (q 
 abbrev μ-loop : tie.MeasureT-loop
 μ-loop s q i₀ i = length s - i
 
-add-i : tie.Need-add-i Inv-loop μ-loop
-add-i c = search needs
-
 loop-holds : tie.Need-loop-holds Inv-loop μ-loop
 loop-holds c = ((omega arith, omega arith), λ f n w d. refl)
-
-find-requires : tie.Need-find-requires Inv-loop μ-loop
-find-requires c κs = search needs
 
 returns : tie.Need-returns Inv-loop μ-loop
 returns c = let l = c .before .before .loop in
@@ -36,9 +30,6 @@ returns c = let l = c .before .before .loop in
 
 add-is-at : tie.Need-add-is-at Inv-loop μ-loop
 add-is-at c = omega (arith, c .before .find .ensures .inside)
-
-is-at-requires : tie.Need-is-at-requires Inv-loop μ-loop
-is-at-requires c κs = search needs
 
 add-t9 : tie.Need-add-t9 Inv-loop μ-loop
 add-t9 c = omega (arith, c .before .before .before .find .ensures .inside)
@@ -53,9 +44,6 @@ returns-2 c = let l = c .before .before .before .before .loop in
     let h : l .i ≤ e = omega (arith, t .on) in
     let g = held-on s Remark (a .q) (a .q + 2) (l .i) e (l .inv .1) (remark-found s (a .q) (l .i) e (omega arith) t) in
     (omega arith, omega arith, left-on s Remark (a .q) (a .q + 2) e (e + 2) g (remark-last s (a .q) e (e + 2) (omega arith) (k .0) (t .here (omega arith)) (k .1)))
-
-add-i-2 : tie.Need-add-i-2 Inv-loop μ-loop
-add-i-2 c = search needs
 
 loop-less : tie.Need-loop-less Inv-loop μ-loop
 loop-less c = let t = c .before .before .before .find .ensures in omega (arith, t .on)
@@ -74,16 +62,5 @@ pub past-remark-spec : {M : Type 1} → statement M
 past-remark-spec =
     tie.close
     (tie.spec
-    Inv-loop
-    μ-loop
-    add-i
-    loop-holds
-    find-requires
-    returns
-    add-is-at
-    is-at-requires
-    add-t9
-    returns-2
-    add-i-2
-    loop-less
-    loop-again)
+    Inv-loop μ-loop (λ c. search needs) loop-holds (λ c κs. search needs) returns add-is-at (λ c κs. search needs) add-t9 returns-2
+    (λ c. search needs) loop-less loop-again)

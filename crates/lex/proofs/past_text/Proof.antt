@@ -8,18 +8,6 @@ use borrow.Author.Needs.{needs}
 use Rattle.lex.proofs.past_text.Statement.{statement}
 use Rattle.lex.proofs.past_text.Tie as tie
 
-add-text-end : tie.Need-add-text-end
-add-text-end c = search needs
-
-text-end-requires : tie.Need-text-end-requires
-text-end-requires c κs = search needs
-
-enum-known-next : tie.Need-enum-known-next
-enum-known-next c = search needs
-
-enum-told : tie.Need-enum-told
-enum-told c = search needs
-
 returns : tie.Need-returns
 returns c = let m = c .before .before .before in
     let a = m .before .before .args in
@@ -34,4 +22,5 @@ returns-2 c = let m = c .before .before in
     text-stays s (a .q) (a .q + 1) (omega arith) (subst (λ r. TextEnds s (a .q + 1) r) (c .enum-told .given .1) (m .text-end .ensures))
 
 pub past-text-spec : {M : Type 1} → statement M
-past-text-spec = tie.close (tie.spec add-text-end text-end-requires enum-known-next enum-told returns returns-2)
+past-text-spec = tie.close (tie.spec
+    (λ c. search needs) (λ c κs. search needs) (λ c. search needs) (λ c. search needs) returns returns-2)

@@ -12,9 +12,6 @@ use Rattle.lex.proofs.quote_before.Tie as tie
 returns : tie.Need-returns
 returns c = let a = c .before .args in drop-end (now (a .s)) (a .after) (omega arith)
 
-shared-slice-read-if2 : tie.Need-shared-slice-read-if2
-shared-slice-read-if2 c = search needs
-
 returns-2 : tie.Need-returns-2
 returns-2 c = let a = c .before .before .before .args in (drop (a .after + 1) (now (a .s)), split (now (a .s)) (a .after) (omega arith) ∙ ap (λ z. z ∷ drop (a .after + 1) (now (a .s))) (c .if2 .taken))
 
@@ -22,4 +19,5 @@ returns-3 : tie.Need-returns-3
 returns-3 c = let a = c .before .before .before .args in (getD (now (a .s)) (a .after) 0, drop (a .after + 1) (now (a .s)), split (now (a .s)) (a .after) (omega arith), c .if2 .left)
 
 pub quote-before-spec : {M : Type 1} → statement M
-quote-before-spec = tie.close (tie.spec returns shared-slice-read-if2 returns-2 returns-3)
+quote-before-spec = tie.close (tie.spec
+    returns (λ c. search needs) returns-2 returns-3)

@@ -20,24 +20,9 @@ Inv-loop s start i₀ i = (i ≤ length s) × (trivia (drop i s) ≡ trivia (dro
 abbrev μ-loop : tie.MeasureT-loop
 μ-loop s start i₀ i = length s - i
 
-within-requires : tie.Need-within-requires Inv-loop μ-loop
-within-requires c κs = search needs
-
 loop-holds : tie.Need-loop-holds Inv-loop μ-loop
 loop-holds c = let s = now (c .before .before .args .s) in
     (omega (arith, c .within .ensures), ap trivia (ap (λ (k : ℕ). drop k s) (c .within .ensures) ∙ drop-within s (c .before .before .args .start)))
-
-shared-slice-read-c : tie.Need-shared-slice-read-c Inv-loop μ-loop
-shared-slice-read-c c = search needs
-
-is-space-requires : tie.Need-is-space-requires Inv-loop μ-loop
-is-space-requires c κs = search needs
-
-add-i : tie.Need-add-i Inv-loop μ-loop
-add-i c = search needs
-
-loop-less : tie.Need-loop-less Inv-loop μ-loop
-loop-less c = search needs
 
 loop-again : tie.Need-loop-again Inv-loop μ-loop
 loop-again c = let s = now (c .before .before .before .before .before .before .before .args .s) in
@@ -50,12 +35,6 @@ returns c = let s = now (c .before .before .before .before .before .before .befo
     ap good (sym (place-drop s (l .i) (omega arith)))
     ∙ ap (placed s) (sym (trivia-here s (l .i) (omega arith) (sym (c .before .before .is-space .ensures) ∙ c .before .if1 .left) (λ e _ _. absurd (c .if2 .taken e))) ∙ l .inv .1)
 
-add-is-at : tie.Need-add-is-at Inv-loop μ-loop
-add-is-at c = search needs
-
-is-at-requires : tie.Need-is-at-requires Inv-loop μ-loop
-is-at-requires c κs = search needs
-
 returns-2 : tie.Need-returns-2 Inv-loop μ-loop
 returns-2 c = let s = now (c .before .before .before .before .before .before .before .before .before .before .args .s) in
     let l = c .before .before .before .before .before .before .before .loop in
@@ -64,9 +43,6 @@ returns-2 c = let s = now (c .before .before .before .before .before .before .be
 
 past-remark-requires : tie.Need-past-remark-requires Inv-loop μ-loop
 past-remark-requires c κs = let k = c .before .is-at .ensures .here (not-false _ (c .if3 .left)) in omega arith
-
-enum-known-next : tie.Need-enum-known-next Inv-loop μ-loop
-enum-known-next c = search needs
 
 loop-less-2 : tie.Need-loop-less-2 Inv-loop μ-loop
 loop-less-2 c = let s = now (c .before .before .before .before .before .before .before .before .before .before .before .before .before .before .args .s) in
@@ -81,9 +57,6 @@ loop-again-2 c = let s = now (c .before .before .before .before .before .before 
     let k = c .before .before .before .before .before .is-at .ensures .here (not-false _ (c .before .before .before .before .if3 .left)) in
     let e = rw (c .before .next .given .1) at (trivia-remark s (l .i) (omega arith) (c .before .before .before .before .before .before .if2 .left) (k .0) (k .1) (c .before .before .before .past-remark .result) (c .before .before .before .past-remark .ensures)) in
     (omega (arith, e .1), sym (e .2) ∙ l .inv .1)
-
-enum-known-f : tie.Need-enum-known-f Inv-loop μ-loop
-enum-known-f c = search needs
 
 returns-3 : tie.Need-returns-3 Inv-loop μ-loop
 returns-3 c = let s = now (c .before .before .before .before .before .before .before .before .before .before .before .before .before .before .args .s) in
@@ -102,23 +75,6 @@ pub skip-trivia-spec : {M : Type 1} → statement M
 skip-trivia-spec =
     tie.close
     (tie.spec
-    Inv-loop
-    μ-loop
-    within-requires
-    loop-holds
-    shared-slice-read-c
-    is-space-requires
-    add-i
-    loop-less
-    loop-again
-    returns
-    add-is-at
-    is-at-requires
-    returns-2
-    past-remark-requires
-    enum-known-next
-    loop-less-2
-    loop-again-2
-    enum-known-f
-    returns-3
-    returns-4)
+    Inv-loop μ-loop (λ c κs. search needs) loop-holds (λ c. search needs) (λ c κs. search needs) (λ c. search needs) (λ c. search needs)
+    loop-again returns (λ c. search needs) (λ c κs. search needs) returns-2 past-remark-requires (λ c. search needs) loop-less-2
+    loop-again-2 (λ c. search needs) returns-3 returns-4)

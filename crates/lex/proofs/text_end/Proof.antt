@@ -17,25 +17,10 @@ Inv-loop s from i₀ i = (i ≤ length s) × InText s from i
 abbrev μ-loop : tie.MeasureT-loop
 μ-loop s from i₀ i = length s - i
 
-within-requires : tie.Need-within-requires Inv-loop μ-loop
-within-requires c κs = search needs
-
 loop-holds : tie.Need-loop-holds Inv-loop μ-loop
 loop-holds c = let a = c .before .before .args in
     let e = c .within .ensures in
     (omega (arith, e), subst (λ k. InText (now (a .s)) (a .from) k) (sym e) (in-text-start (now (a .s)) (a .from)))
-
-shared-slice-read-if1 : tie.Need-shared-slice-read-if1 Inv-loop μ-loop
-shared-slice-read-if1 c = search needs
-
-add-quote-before : tie.Need-add-quote-before Inv-loop μ-loop
-add-quote-before c = search needs
-
-quote-before-requires : tie.Need-quote-before-requires Inv-loop μ-loop
-quote-before-requires c κs = search needs
-
-enum-told : tie.Need-enum-told Inv-loop μ-loop
-enum-told c = search needs
 
 -- what the quote at i is, and so what the search has found there
 found : (c : tie.After-quote-before Inv-loop μ-loop) (b : Quote) → c .quote-before .result ≡ b
@@ -54,29 +39,11 @@ loop-less c = let h = found (c .before .before) Doubled (c .enum-told .given .1)
 loop-again : tie.Need-loop-again Inv-loop μ-loop
 loop-again c = found (c .before .before) Doubled (c .enum-told .given .1)
 
-enum-told-2 : tie.Need-enum-told-2 Inv-loop μ-loop
-enum-told-2 c = search needs
-
-add-t11 : tie.Need-add-t11 Inv-loop μ-loop
-add-t11 c = search needs
-
 returns : tie.Need-returns Inv-loop μ-loop
 returns c = found (c .before .before) Single (c .enum-told2 .given .1)
 
-enum-told-3 : tie.Need-enum-told-3 Inv-loop μ-loop
-enum-told-3 c = search needs
-
-add-t12 : tie.Need-add-t12 Inv-loop μ-loop
-add-t12 c = search needs
-
 returns-2 : tie.Need-returns-2 Inv-loop μ-loop
 returns-2 c = found (c .before .before) Last (c .enum-told3 .given .1)
-
-add-next-quote : tie.Need-add-next-quote Inv-loop μ-loop
-add-next-quote c = search needs
-
-next-quote-requires : tie.Need-next-quote-requires Inv-loop μ-loop
-next-quote-requires c κs = search needs
 
 loop-less-2 : tie.Need-loop-less-2 Inv-loop μ-loop
 loop-less-2 c = omega (arith, c .next-quote .ensures .on)
@@ -97,25 +64,6 @@ pub text-end-spec : {M : Type 1} → statement M
 text-end-spec =
     tie.close
     (tie.spec
-    Inv-loop
-    μ-loop
-    within-requires
-    loop-holds
-    shared-slice-read-if1
-    add-quote-before
-    quote-before-requires
-    enum-told
-    add-i
-    loop-less
-    loop-again
-    enum-told-2
-    add-t11
-    returns
-    enum-told-3
-    add-t12
-    returns-2
-    add-next-quote
-    next-quote-requires
-    loop-less-2
-    loop-again-2
-    returns-3)
+    Inv-loop μ-loop (λ c κs. search needs) loop-holds (λ c. search needs) (λ c. search needs) (λ c κs. search needs) (λ c. search needs)
+    add-i loop-less loop-again (λ c. search needs) (λ c. search needs) returns (λ c. search needs) (λ c. search needs) returns-2
+    (λ c. search needs) (λ c κs. search needs) loop-less-2 loop-again-2 returns-3)

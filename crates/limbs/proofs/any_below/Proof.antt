@@ -32,12 +32,6 @@ returns c =
     let p = l .before .args in
     sym (lt-ltb 0 _ (one-below (now (p .a)) (p .n) (l .loop .i) (omega arith) (omega arith)))
 
-add-i : tie.Need-add-i Inv-loop μ-loop
-add-i c = search needs
-
-loop-less : tie.Need-loop-less Inv-loop μ-loop
-loop-less c = search needs
-
 loop-again : tie.Need-loop-again Inv-loop μ-loop
 loop-again c =
     let l = c .before .before .before in
@@ -56,13 +50,4 @@ pub any-below-spec : {M : Type 1} → statement M
 any-below-spec =
     tie.close
     (tie.spec
-    Inv-loop
-    μ-loop
-    loop-holds
-    mul-if1
-    shared-slice-read-if1
-    returns
-    add-i
-    loop-less
-    loop-again
-    returns-2)
+    Inv-loop μ-loop loop-holds mul-if1 shared-slice-read-if1 returns (λ c. search needs) (λ c. search needs) loop-again returns-2)

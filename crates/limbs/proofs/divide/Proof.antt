@@ -23,9 +23,6 @@ loop-holds c = let p = c .before .args in dividing-starts (now (p .a)) (p .by) (
 mul-t : tie.Need-mul-t Inv-loop μ-loop
 mul-t c = let s = c .before .loop .inv .small in record { fits = omega (arith, c .before .before .before .fits .by) }
 
-sub-t : tie.Need-sub-t Inv-loop μ-loop
-sub-t c = search needs
-
 mul-t-2 : tie.Need-mul-t-2 Inv-loop μ-loop
 mul-t-2 c = omega (arith, c .before .loop .inv .within)
 
@@ -41,31 +38,16 @@ add-t c =
     let s = l .loop .inv .small in
     record { fits = omega (arith, c .slice-known .given (l .loop .i - 1), l .before .before .fits .by) }
 
-div-a : tie.Need-div-a Inv-loop μ-loop
-div-a c = search needs
-
 cast-a : tie.Need-cast-a Inv-loop μ-loop
 cast-a c =
     let l = c .before .before in
     record { fits = digit-lt (getD (l .loop .a) (l .loop .i - 1) 0) (l .before .before .args .by) (l .loop .rest) (c .slice-known .given (l .loop .i - 1) .fits) (l .loop .inv .small) }
-
-sub-a : tie.Need-sub-a Inv-loop μ-loop
-sub-a c = search needs
 
 mul-a : tie.Need-mul-a Inv-loop μ-loop
 mul-a c = omega (arith, c .before .before .loop .inv .within)
 
 slice-write-a : tie.Need-slice-write-a Inv-loop μ-loop
 slice-write-a c = omega (arith, c .before .before .loop .inv .within, c .before .before .loop .inv .same)
-
-rem-rest : tie.Need-rem-rest Inv-loop μ-loop
-rem-rest c = search needs
-
-sub-i : tie.Need-sub-i Inv-loop μ-loop
-sub-i c = search needs
-
-loop-less : tie.Need-loop-less Inv-loop μ-loop
-loop-less c = search needs
 
 loop-again : tie.Need-loop-again Inv-loop μ-loop
 loop-again c =
@@ -89,25 +71,6 @@ pub divide-spec : {M : Type 1} → statement M
 divide-spec =
     tie.close
     (tie.spec
-    Inv-loop
-    μ-loop
-    returns
-    loop-holds
-    mul-t
-    sub-t
-    mul-t-2
-    slice-read-t
-    cast-t
-    add-t
-    div-a
-    cast-a
-    sub-a
-    mul-a
-    slice-write-a
-    rem-rest
-    sub-i
-    loop-less
-    loop-again
-    cast-result
-    same-length
+    Inv-loop μ-loop returns loop-holds mul-t (λ c. search needs) mul-t-2 slice-read-t cast-t add-t (λ c. search needs) cast-a
+    (λ c. search needs) mul-a slice-write-a (λ c. search needs) (λ c. search needs) (λ c. search needs) loop-again cast-result same-length
     returns-2)

@@ -4,24 +4,6 @@ use Rattle.limbs.specs.Top.{joins, joined-lt}
 use Rattle.limbs.proofs.joined.Statement.{statement}
 use Rattle.limbs.proofs.joined.Tie as tie
 
-mul-upper : tie.Need-mul-upper
-mul-upper c = search needs
-
-add-upper : tie.Need-add-upper
-add-upper c = search needs
-
-sub-result : tie.Need-sub-result
-sub-result c = search needs
-
-cast-result : tie.Need-cast-result
-cast-result c = search needs
-
-shl-result : tie.Need-shl-result
-shl-result c = search needs
-
-shr-result : tie.Need-shr-result
-shr-result c = search needs
-
 add-result : tie.Need-add-result
 add-result c =
     let a = c .args in
@@ -37,4 +19,6 @@ returns c =
 pub joined-spec : {M : Type 1} → statement M
 joined-spec =
     tie.close
-    (tie.spec mul-upper add-upper sub-result cast-result shl-result shr-result add-result returns)
+    (tie.spec
+    (λ c. search needs) (λ c. search needs) (λ c. search needs) (λ c. search needs) (λ c. search needs) (λ c. search needs) add-result
+    returns)

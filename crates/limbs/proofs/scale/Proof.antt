@@ -20,9 +20,6 @@ loop-holds c = let p = c .args in scaling-starts (now (p .a)) (p .by) (p .add) (
 mul-t : tie.Need-mul-t Inv-loop μ-loop
 mul-t c = omega (arith, c .before .loop .inv .same)
 
-slice-read-t : tie.Need-slice-read-t Inv-loop μ-loop
-slice-read-t c = search needs
-
 cast-t : tie.Need-cast-t Inv-loop μ-loop
 cast-t c = omega (arith, c .slice-known .given (c .before .before .loop .i))
 
@@ -39,14 +36,8 @@ add-t c =
     let s = l .loop .inv .small in
     record { fits = omega (arith, h, s) }
 
-cast-a : tie.Need-cast-a Inv-loop μ-loop
-cast-a c = search needs
-
 mul-a : tie.Need-mul-a Inv-loop μ-loop
 mul-a c = omega (arith, c .before .before .loop .inv .same)
-
-slice-write-a : tie.Need-slice-write-a Inv-loop μ-loop
-slice-write-a c = search needs
 
 add-i : tie.Need-add-i Inv-loop μ-loop
 add-i c = omega (arith, c .before .before .loop .inv .same)
@@ -76,20 +67,5 @@ pub scale-spec : {M : Type 1} → statement M
 scale-spec =
     tie.close
     (tie.spec
-    Inv-loop
-    μ-loop
-    loop-holds
-    mul-t
-    slice-read-t
-    cast-t
-    mul-t-2
-    add-t
-    cast-a
-    mul-a
-    slice-write-a
-    add-i
-    loop-less
-    loop-again
-    cast-result
-    same-length
-    returns)
+    Inv-loop μ-loop loop-holds mul-t (λ c. search needs) cast-t mul-t-2 add-t (λ c. search needs) mul-a (λ c. search needs) add-i loop-less
+    loop-again cast-result same-length returns)

@@ -9,9 +9,6 @@ use Rattle.limbs.proofs.short_top.Tie as tie
 returns : tie.Need-returns
 returns c = let p = c .before .args in no-digit (now (p .a)) (p .n) (omega arith)
 
-shared-slice-read-result : tie.Need-shared-slice-read-result
-shared-slice-read-result c = search needs
-
 cast-result : tie.Need-cast-result
 cast-result c = omega (arith, c .shared-slice-known .given 0)
 
@@ -20,17 +17,11 @@ returns-2 c =
     let s = c .before .before .before in
     one-digit (now (s .args .a)) (s .args .n) (omega arith) (s .pre .1)
 
-shared-slice-read-result-2 : tie.Need-shared-slice-read-result-2
-shared-slice-read-result-2 c = search needs
-
 cast-result-2 : tie.Need-cast-result-2
 cast-result-2 c = omega (arith, c .shared-slice-known2 .given 1)
 
 mul-result : tie.Need-mul-result
 mul-result c = record { fits = omega (arith, c .shared-slice-known2 .given 1) }
-
-shared-slice-read-result-3 : tie.Need-shared-slice-read-result-3
-shared-slice-read-result-3 c = search needs
 
 cast-result-3 : tie.Need-cast-result-3
 cast-result-3 c = omega (arith, c .shared-slice-known3 .given 0)
@@ -48,14 +39,5 @@ pub short-top-spec : {M : Type 1} → statement M
 short-top-spec =
     tie.close
     (tie.spec
-    returns
-    shared-slice-read-result
-    cast-result
-    returns-2
-    shared-slice-read-result-2
-    cast-result-2
-    mul-result
-    shared-slice-read-result-3
-    cast-result-3
-    add-result
-    returns-3)
+    returns (λ c. search needs) cast-result returns-2 (λ c. search needs) cast-result-2 mul-result (λ c. search needs) cast-result-3
+    add-result returns-3)

@@ -8,23 +8,11 @@ use Prim.Native.Nat.{ℕ, _+_}
 use Rattle.lists.proofs.answer_of.Statement.{statement}
 use Rattle.lists.proofs.answer_of.Tie as tie
 
-enum-known-r : tie.Need-enum-known-r
-enum-known-r c = search needs
-
-enum-known-r-2 : tie.Need-enum-known-r-2
-enum-known-r-2 c = search needs
-
 add-t8 : tie.Need-add-t8
 add-t8 c = omega (arith, c .before .before .before .pre, ap reached (c .before .r2 .given .1))
 
-enum-known-r-3 : tie.Need-enum-known-r-3
-enum-known-r-3 c = search needs
-
 add-t10 : tie.Need-add-t10
 add-t10 c = omega (arith, c .before .before .before .pre, ap reached (c .before .r3 .given .1))
-
-enum-told : tie.Need-enum-told
-enum-told c = search needs
 
 returns : tie.Need-returns
 returns c = rw (c .before .r .given .1) refl
@@ -44,13 +32,4 @@ pub answer-of-spec : {M : Type 1} → statement M
 answer-of-spec =
     tie.close
     (tie.spec
-    enum-known-r
-    enum-known-r-2
-    add-t8
-    enum-known-r-3
-    add-t10
-    enum-told
-    returns
-    returns-2
-    returns-3
-    returns-4)
+    (λ c. search needs) (λ c. search needs) add-t8 (λ c. search needs) add-t10 (λ c. search needs) returns returns-2 returns-3 returns-4)

@@ -19,9 +19,6 @@ abbrev μ-loop : tie.MeasureT-loop
 loop-holds : tie.Need-loop-holds Inv-loop μ-loop
 loop-holds c = (omega arith, omega arith, count-starts (kindOf (c .before .args .kind)) (now (c .before .args .b)))
 
-item-at-requires : tie.Need-item-at-requires Inv-loop μ-loop
-item-at-requires c κs = search needs
-
 sub-verdict-of : tie.Need-sub-verdict-of Inv-loop μ-loop
 sub-verdict-of c = c .item-at .ensures .ordered
 
@@ -31,18 +28,6 @@ part-verdict-of-start c = omega (arith, c .item-at .ensures .ordered, c .item-at
 part-verdict-of-end : tie.Need-part-verdict-of-end Inv-loop μ-loop
 part-verdict-of-end c = omega (arith, c .item-at .ensures .ordered, c .item-at .ensures .short, c .item-at .ensures .within)
 
-verdict-of-requires : tie.Need-verdict-of-requires Inv-loop μ-loop
-verdict-of-requires c κs = search needs
-
-enum-told : tie.Need-enum-told Inv-loop μ-loop
-enum-told c = search needs
-
-add-n : tie.Need-add-n Inv-loop μ-loop
-add-n c = omega arith
-
-enum-told-2 : tie.Need-enum-told-2 Inv-loop μ-loop
-enum-told-2 c = search needs
-
 returns : tie.Need-returns Inv-loop μ-loop
 returns c = let m = c .before .before .before .before in
     let l = m .before in
@@ -51,9 +36,6 @@ returns c = let m = c .before .before .before .before in
           (ap toldVerdict (sym (c .enum-told2 .given .1)) ∙ c .before .before .verdict-of .ensures),
       omega (arith, m .item-at .ensures .ordered, m .item-at .ensures .short, m .item-at .ensures .within),
     )
-
-enum-told-3 : tie.Need-enum-told-3 Inv-loop μ-loop
-enum-told-3 c = search needs
 
 returns-2 : tie.Need-returns-2 Inv-loop μ-loop
 returns-2 c = let m = c .before .before .before .before in
@@ -95,21 +77,5 @@ pub count-items-spec : {M : Type 1} → statement M
 count-items-spec =
     tie.close
     (tie.spec
-    Inv-loop
-    μ-loop
-    loop-holds
-    item-at-requires
-    sub-verdict-of
-    part-verdict-of-start
-    part-verdict-of-end
-    verdict-of-requires
-    enum-told
-    add-n
-    enum-told-2
-    returns
-    enum-told-3
-    returns-2
-    returns-3
-    add-i
-    loop-less
-    loop-again)
+    Inv-loop μ-loop loop-holds (λ c κs. search needs) sub-verdict-of part-verdict-of-start part-verdict-of-end (λ c κs. search needs)
+    (λ c. search needs) (λ c. omega arith) (λ c. search needs) returns (λ c. search needs) returns-2 returns-3 add-i loop-less loop-again)

@@ -9,18 +9,6 @@ use Prim.Native.Nat.{_-_}
 use Rattle.lists.proofs.count_list.Statement.{statement}
 use Rattle.lists.proofs.count_list.Tie as tie
 
-shape-of-requires : tie.Need-shape-of-requires
-shape-of-requires c κs = search needs
-
-enum-told : tie.Need-enum-told
-enum-told c = search needs
-
-enum-told-2 : tie.Need-enum-told-2
-enum-told-2 c = search needs
-
-enum-told-3 : tie.Need-enum-told-3
-enum-told-3 c = search needs
-
 sub-count-items : tie.Need-sub-count-items
 sub-count-items c = let (n, f, o) = shape-full _ _ (c .before .before .shape-of .ensures) (c .enum-told3 .given .1) in omega (arith, n)
 
@@ -33,23 +21,11 @@ part-count-items-start c = let (n, f, o) = shape-full _ _ (c .before .before .sh
 part-count-items-end : tie.Need-part-count-items-end
 part-count-items-end c = let (n, f, o) = shape-full _ _ (c .before .before .shape-of .ensures) (c .enum-told3 .given .1) in omega (arith, n)
 
-count-items-requires : tie.Need-count-items-requires
-count-items-requires c κs = search needs
-
-enum-known-k : tie.Need-enum-known-k
-enum-known-k c = search needs
-
-enum-known-o : tie.Need-enum-known-o
-enum-known-o c = search needs
-
 add-t16 : tie.Need-add-t16
 add-t16 c = let s = c .before .before .before .before .before in
     let t = now (s .before .before .before .before .args .t) in
     let (n, f, o) = shape-full t _ (s .before .before .shape-of .ensures) (s .enum-told3 .given .1) in
     omega (arith, n, body-length t n, counted-wrong _ _ _ (c .before .before .before .count-items .ensures .1) (c .before .o .given .1))
-
-enum-known-o-2 : tie.Need-enum-known-o-2
-enum-known-o-2 c = search needs
 
 add-t17 : tie.Need-add-t17
 add-t17 c = let s = c .before .before .before .before .before in
@@ -99,22 +75,6 @@ pub count-list-spec : {M : Type 1} → statement M
 count-list-spec =
     tie.close
     (tie.spec
-    shape-of-requires
-    enum-told
-    enum-told-2
-    enum-told-3
-    sub-count-items
-    sub-count-items-2
-    part-count-items-start
-    part-count-items-end
-    count-items-requires
-    enum-known-k
-    enum-known-o
-    add-t16
-    enum-known-o-2
-    add-t17
-    returns
-    returns-2
-    returns-3
-    returns-4
-    returns-5)
+    (λ c κs. search needs) (λ c. search needs) (λ c. search needs) (λ c. search needs) sub-count-items sub-count-items-2
+    part-count-items-start part-count-items-end (λ c κs. search needs) (λ c. search needs) (λ c. search needs) add-t16 (λ c. search needs)
+    add-t17 returns returns-2 returns-3 returns-4 returns-5)

@@ -37,9 +37,6 @@ loop-holds : tie.Need-loop-holds Inv-loop μ-loop
 loop-holds c = let t = c .before .before in
     filling-starts (λ u. asFate (realBy (t .args .which) u)) (now (t .args .b)) (map (toBits binary64) (now (t .args .out))) (t .pre .0, omega (arith, t .pre .1, length-map (now (t .args .out)) (toBits binary64)))
 
-item-at-requires : tie.Need-item-at-requires Inv-loop μ-loop
-item-at-requires c κs = search needs
-
 sub-read-real : tie.Need-sub-read-real Inv-loop μ-loop
 sub-read-real c = c .item-at .ensures .ordered
 
@@ -48,12 +45,6 @@ part-read-real-start c = omega (arith, c .item-at .ensures .ordered, c .item-at 
 
 part-read-real-end : tie.Need-part-read-real-end Inv-loop μ-loop
 part-read-real-end c = omega (arith, c .item-at .ensures .ordered, c .item-at .ensures .short, c .item-at .ensures .within)
-
-read-real-requires : tie.Need-read-real-requires Inv-loop μ-loop
-read-real-requires c κs = search needs
-
-enum-known-v : tie.Need-enum-known-v Inv-loop μ-loop
-enum-known-v c = search needs
 
 same-length : tie.Need-same-length Inv-loop μ-loop
 same-length c = let m = c .before .before .before in
@@ -119,22 +110,5 @@ pub fill-real-items-spec : {M : Type 1} → statement M
 fill-real-items-spec =
     tie.close
     (tie.spec
-    Inv-loop
-    μ-loop
-    loop-holds
-    item-at-requires
-    sub-read-real
-    part-read-real-start
-    part-read-real-end
-    read-real-requires
-    enum-known-v
-    same-length
-    returns
-    mul-out
-    slice-write-out
-    add-n
-    same-length-2
-    returns-2
-    add-i
-    loop-less
-    loop-again)
+    Inv-loop μ-loop loop-holds (λ c κs. search needs) sub-read-real part-read-real-start part-read-real-end (λ c κs. search needs)
+    (λ c. search needs) same-length returns mul-out slice-write-out add-n same-length-2 returns-2 add-i loop-less loop-again)

@@ -21,9 +21,6 @@ abbrev μ-loop : tie.MeasureT-loop
 loop-holds : tie.Need-loop-holds Inv-loop μ-loop
 loop-holds c = filling-starts (λ u. asFate (referenceOf u)) (now (c .before .before .args .b)) (now (c .before .before .args .out)) (c .before .before .pre)
 
-item-at-requires : tie.Need-item-at-requires Inv-loop μ-loop
-item-at-requires c κs = search needs
-
 sub-parse-ref : tie.Need-sub-parse-ref Inv-loop μ-loop
 sub-parse-ref c = c .item-at .ensures .ordered
 
@@ -32,15 +29,6 @@ part-parse-ref-start c = omega (arith, c .item-at .ensures .ordered, c .item-at 
 
 part-parse-ref-end : tie.Need-part-parse-ref-end Inv-loop μ-loop
 part-parse-ref-end c = omega (arith, c .item-at .ensures .ordered, c .item-at .ensures .short, c .item-at .ensures .within)
-
-parse-ref-requires : tie.Need-parse-ref-requires Inv-loop μ-loop
-parse-ref-requires c κs = search needs
-
-enum-known-v : tie.Need-enum-known-v Inv-loop μ-loop
-enum-known-v c = search needs
-
-enum-told : tie.Need-enum-told Inv-loop μ-loop
-enum-told c = search needs
 
 same-length : tie.Need-same-length Inv-loop μ-loop
 same-length c = let m = c .before .before .before .before in
@@ -103,23 +91,6 @@ pub fill-ref-items-spec : {M : Type 1} → statement M
 fill-ref-items-spec =
     tie.close
     (tie.spec
-    Inv-loop
-    μ-loop
-    loop-holds
-    item-at-requires
-    sub-parse-ref
-    part-parse-ref-start
-    part-parse-ref-end
-    parse-ref-requires
-    enum-known-v
-    enum-told
-    same-length
-    returns
-    mul-out
-    slice-write-out
-    add-n
-    same-length-2
-    returns-2
-    add-i
-    loop-less
+    Inv-loop μ-loop loop-holds (λ c κs. search needs) sub-parse-ref part-parse-ref-start part-parse-ref-end (λ c κs. search needs)
+    (λ c. search needs) (λ c. search needs) same-length returns mul-out slice-write-out add-n same-length-2 returns-2 add-i loop-less
     loop-again)

@@ -13,18 +13,6 @@ use Prim.Native.Nat.{ℕ, _-_}
 use Rattle.lists.proofs.fill_refs.Statement.{statement}
 use Rattle.lists.proofs.fill_refs.Tie as tie
 
-shape-of-requires : tie.Need-shape-of-requires
-shape-of-requires c κs = search needs
-
-enum-told : tie.Need-enum-told
-enum-told c = search needs
-
-enum-told-2 : tie.Need-enum-told-2
-enum-told-2 c = search needs
-
-enum-told-3 : tie.Need-enum-told-3
-enum-told-3 c = search needs
-
 sub-fill-ref-items : tie.Need-sub-fill-ref-items
 sub-fill-ref-items c = let (n, f, o) = shape-full _ _ (c .before .before .shape-of .ensures) (c .enum-told3 .given .1) in omega (arith, n)
 
@@ -52,9 +40,6 @@ returns-2 c = let s = c .before .before in
     let t = s .before .before .before in
     fills-blank (λ u. asFate (referenceOf u)) (now (t .args .t)) _ (s .shape-of .ensures) _ (t .pre) (now (t .args .out)) (c .enum-told2 .given .1)
 
-same-length : tie.Need-same-length
-same-length c = search needs
-
 returns-3 : tie.Need-returns-3
 returns-3 c = let i = c .before .before in
     let s = i .before .before .before in
@@ -66,16 +51,5 @@ pub fill-refs-spec : {M : Type 1} → statement M
 fill-refs-spec =
     tie.close
     (tie.spec
-    shape-of-requires
-    enum-told
-    enum-told-2
-    enum-told-3
-    sub-fill-ref-items
-    sub-fill-ref-items-2
-    part-fill-ref-items-start
-    part-fill-ref-items-end
-    fill-ref-items-requires
-    returns
-    returns-2
-    same-length
-    returns-3)
+    (λ c κs. search needs) (λ c. search needs) (λ c. search needs) (λ c. search needs) sub-fill-ref-items sub-fill-ref-items-2
+    part-fill-ref-items-start part-fill-ref-items-end fill-ref-items-requires returns returns-2 (λ c. search needs) returns-3)

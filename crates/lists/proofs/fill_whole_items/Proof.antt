@@ -24,9 +24,6 @@ abbrev μ-loop : tie.MeasureT-loop
 loop-holds : tie.Need-loop-holds Inv-loop μ-loop
 loop-holds c = filling-starts (λ u. asFate (wholeOf u)) (now (c .before .args .b)) (now (c .before .args .out)) (c .before .pre)
 
-item-at-requires : tie.Need-item-at-requires Inv-loop μ-loop
-item-at-requires c κs = search needs
-
 sub-parse-int : tie.Need-sub-parse-int Inv-loop μ-loop
 sub-parse-int c = c .item-at .ensures .ordered
 
@@ -35,15 +32,6 @@ part-parse-int-start c = omega (arith, c .item-at .ensures .ordered, c .item-at 
 
 part-parse-int-end : tie.Need-part-parse-int-end Inv-loop μ-loop
 part-parse-int-end c = omega (arith, c .item-at .ensures .ordered, c .item-at .ensures .short, c .item-at .ensures .within)
-
-parse-int-requires : tie.Need-parse-int-requires Inv-loop μ-loop
-parse-int-requires c κs = search needs
-
-enum-known-v : tie.Need-enum-known-v Inv-loop μ-loop
-enum-known-v c = search needs
-
-enum-told : tie.Need-enum-told Inv-loop μ-loop
-enum-told c = search needs
 
 same-length : tie.Need-same-length Inv-loop μ-loop
 same-length c = let m = c .before .before .before .before in
@@ -106,23 +94,6 @@ pub fill-whole-items-spec : {M : Type 1} → statement M
 fill-whole-items-spec =
     tie.close
     (tie.spec
-    Inv-loop
-    μ-loop
-    loop-holds
-    item-at-requires
-    sub-parse-int
-    part-parse-int-start
-    part-parse-int-end
-    parse-int-requires
-    enum-known-v
-    enum-told
-    same-length
-    returns
-    mul-v
-    slice-set-from-v
-    add-n
-    same-length-2
-    returns-2
-    add-i
-    loop-less
+    Inv-loop μ-loop loop-holds (λ c κs. search needs) sub-parse-int part-parse-int-start part-parse-int-end (λ c κs. search needs)
+    (λ c. search needs) (λ c. search needs) same-length returns mul-v slice-set-from-v add-n same-length-2 returns-2 add-i loop-less
     loop-again)

@@ -14,18 +14,6 @@ use Prim.Native.Nat.{_-_}
 use Rattle.lists.proofs.fill_wholes.Statement.{statement}
 use Rattle.lists.proofs.fill_wholes.Tie as tie
 
-shape-of-requires : tie.Need-shape-of-requires
-shape-of-requires c κs = search needs
-
-enum-told : tie.Need-enum-told
-enum-told c = search needs
-
-enum-told-2 : tie.Need-enum-told-2
-enum-told-2 c = search needs
-
-enum-told-3 : tie.Need-enum-told-3
-enum-told-3 c = search needs
-
 sub-fill-whole-items : tie.Need-sub-fill-whole-items
 sub-fill-whole-items c = let (n, f, o) = shape-full _ _ (c .before .before .shape-of .ensures) (c .enum-told3 .given .1) in omega (arith, n)
 
@@ -53,9 +41,6 @@ returns-2 c = let s = c .before .before in
     let t = s .before .before in
     fills-blank (λ u. asFate (wholeOf u)) (now (t .args .t)) _ (s .shape-of .ensures) _ (t .pre) (now (t .args .out)) (c .enum-told2 .given .1)
 
-same-length : tie.Need-same-length
-same-length c = search needs
-
 returns-3 : tie.Need-returns-3
 returns-3 c = let i = c .before in
     let s = i .before .before .before in
@@ -67,16 +52,5 @@ pub fill-wholes-spec : {M : Type 1} → statement M
 fill-wholes-spec =
     tie.close
     (tie.spec
-    shape-of-requires
-    enum-told
-    enum-told-2
-    enum-told-3
-    sub-fill-whole-items
-    sub-fill-whole-items-2
-    part-fill-whole-items-start
-    part-fill-whole-items-end
-    fill-whole-items-requires
-    returns
-    returns-2
-    same-length
-    returns-3)
+    (λ c κs. search needs) (λ c. search needs) (λ c. search needs) (λ c. search needs) sub-fill-whole-items sub-fill-whole-items-2
+    part-fill-whole-items-start part-fill-whole-items-end fill-whole-items-requires returns returns-2 (λ c. search needs) returns-3)

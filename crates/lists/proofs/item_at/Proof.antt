@@ -7,30 +7,6 @@ use Prim.Native.Nat.{ℕ, _+_}
 use Rattle.lists.proofs.item_at.Statement.{statement}
 use Rattle.lists.proofs.item_at.Tie as tie
 
-within-requires : tie.Need-within-requires
-within-requires c κs = search needs
-
-item-end-requires : tie.Need-item-end-requires
-item-end-requires c κs = search needs
-
-sub-trim : tie.Need-sub-trim
-sub-trim c = search needs
-
-part-trim-start : tie.Need-part-trim-start
-part-trim-start c = search needs
-
-part-trim-end : tie.Need-part-trim-end
-part-trim-end c = search needs
-
-trim-requires : tie.Need-trim-requires
-trim-requires c κs = search needs
-
-add-t6 : tie.Need-add-t6
-add-t6 c = search needs
-
-add-t10 : tie.Need-add-t10
-add-t10 c = search needs
-
 returns : tie.Need-returns
 returns c = let e = c .before .before .before .before .item-end in
     let w = c .before .before .before .before .before .within in
@@ -43,12 +19,5 @@ pub item-at-spec : {M : Type 1} → statement M
 item-at-spec =
     tie.close
     (tie.spec
-    within-requires
-    item-end-requires
-    sub-trim
-    part-trim-start
-    part-trim-end
-    trim-requires
-    add-t6
-    add-t10
-    returns)
+    (λ c κs. search needs) (λ c κs. search needs) (λ c. search needs) (λ c. search needs) (λ c. search needs) (λ c κs. search needs)
+    (λ c. search needs) (λ c. search needs) returns)

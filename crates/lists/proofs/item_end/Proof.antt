@@ -7,15 +7,6 @@ use Prim.Native.Nat.{min}
 use Rattle.lists.proofs.item_end.Statement.{statement}
 use Rattle.lists.proofs.item_end.Tie as tie
 
-param-end-requires : tie.Need-param-end-requires
-param-end-requires c κs = search needs
-
-enum-known-p : tie.Need-enum-known-p
-enum-known-p c = search needs
-
-enum-told : tie.Need-enum-told
-enum-told c = search needs
-
 returns : tie.Need-returns
 returns c = let t = c .before .before .before .before .before in
     let b = now (t .args .b) in
@@ -30,4 +21,5 @@ returns-2 c = let t = c .before .before .before .before in
     (end-open b (t .args .i) _ _ (p .ensures .0) (c .enum-told .given .1), (omega arith, omega arith))
 
 pub item-end-spec : {M : Type 1} → statement M
-item-end-spec = tie.close (tie.spec param-end-requires enum-known-p enum-told returns returns-2)
+item-end-spec = tie.close (tie.spec
+    (λ c κs. search needs) (λ c. search needs) (λ c. search needs) returns returns-2)

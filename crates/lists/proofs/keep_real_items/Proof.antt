@@ -24,9 +24,6 @@ abbrev μ-loop : tie.MeasureT-loop
 loop-holds : tie.Need-loop-holds Inv-loop μ-loop
 loop-holds c = let t = c .before .before in keeping-starts (λ u. asFate (realBy (t .args .which) u)) (now (t .args .b)) (map (toBits binary64) (now (t .args .first)))
 
-item-at-requires : tie.Need-item-at-requires Inv-loop μ-loop
-item-at-requires c κs = search needs
-
 sub-read-real : tie.Need-sub-read-real Inv-loop μ-loop
 sub-read-real c = c .item-at .ensures .ordered
 
@@ -35,18 +32,6 @@ part-read-real-start c = omega (arith, c .item-at .ensures .ordered, c .item-at 
 
 part-read-real-end : tie.Need-part-read-real-end Inv-loop μ-loop
 part-read-real-end c = omega (arith, c .item-at .ensures .ordered, c .item-at .ensures .short, c .item-at .ensures .within)
-
-read-real-requires : tie.Need-read-real-requires Inv-loop μ-loop
-read-real-requires c κs = search needs
-
-enum-known-x : tie.Need-enum-known-x Inv-loop μ-loop
-enum-known-x c = search needs
-
-keep-real-requires : tie.Need-keep-real-requires Inv-loop μ-loop
-keep-real-requires c κs = search needs
-
-enum-told : tie.Need-enum-told Inv-loop μ-loop
-enum-told c = search needs
 
 same-length : tie.Need-same-length Inv-loop μ-loop
 same-length c = let p = c .before .before in
@@ -63,9 +48,6 @@ returns c = let p = c .before .before in
     let e : m .item-at .result .start ≡ m .item-at .result .start + 0 = omega arith in
     let (x, y) = keeping-bad (λ x. asFate (realBy (t .args .which) x)) (now (t .args .b)) _ _ _ _ (l .loop .inv) (m .item-at .result) (m .item-at .ensures) 13 0 (ap (λ (a : Answer ℕ). asFate a) (ap toldReal (sym (c .enum-told .given .1)) ∙ p .read-real .ensures)) in
     (ap (faulty 13) e ∙ x, y)
-
-enum-told-2 : tie.Need-enum-told-2 Inv-loop μ-loop
-enum-told-2 c = search needs
 
 same-length-2 : tie.Need-same-length-2 Inv-loop μ-loop
 same-length-2 c = let p = c .before .before in
@@ -121,25 +103,6 @@ pub keep-real-items-spec : {M : Type 1} → statement M
 keep-real-items-spec =
     tie.close
     (tie.spec
-    Inv-loop
-    μ-loop
-    loop-holds
-    item-at-requires
-    sub-read-real
-    part-read-real-start
-    part-read-real-end
-    read-real-requires
-    enum-known-x
-    keep-real-requires
-    enum-told
-    same-length
-    returns
-    enum-told-2
-    same-length-2
-    returns-2
-    add-n
-    same-length-3
-    returns-3
-    add-i
-    loop-less
-    loop-again)
+    Inv-loop μ-loop loop-holds (λ c κs. search needs) sub-read-real part-read-real-start part-read-real-end (λ c κs. search needs)
+    (λ c. search needs) (λ c κs. search needs) (λ c. search needs) same-length returns (λ c. search needs) same-length-2 returns-2 add-n
+    same-length-3 returns-3 add-i loop-less loop-again)

@@ -15,18 +15,6 @@ use Prim.Native.Nat.{suc, _+_, _-_}
 use Rattle.lists.proofs.keep_reals.Statement.{statement}
 use Rattle.lists.proofs.keep_reals.Tie as tie
 
-shape-of-requires : tie.Need-shape-of-requires
-shape-of-requires c κs = search needs
-
-enum-told : tie.Need-enum-told
-enum-told c = search needs
-
-enum-told-2 : tie.Need-enum-told-2
-enum-told-2 c = search needs
-
-enum-told-3 : tie.Need-enum-told-3
-enum-told-3 c = search needs
-
 sub-keep-real-items : tie.Need-sub-keep-real-items
 sub-keep-real-items c = let (n, f, o) = shape-full _ _ (c .before .before .shape-of .ensures) (c .enum-told3 .given .1) in omega (arith, n)
 
@@ -35,18 +23,6 @@ sub-keep-real-items-2 c = let (n, f, o) = shape-full _ _ (c .before .before .sha
 
 part-keep-real-items-start : tie.Need-part-keep-real-items-start
 part-keep-real-items-start c = let (n, f, o) = shape-full _ _ (c .before .before .shape-of .ensures) (c .enum-told3 .given .1) in omega (arith, n)
-
-part-keep-real-items-end : tie.Need-part-keep-real-items-end
-part-keep-real-items-end c = search needs
-
-keep-real-items-requires : tie.Need-keep-real-items-requires
-keep-real-items-requires c κs = search needs
-
-enum-known-k : tie.Need-enum-known-k
-enum-known-k c = search needs
-
-enum-known-o : tie.Need-enum-known-o
-enum-known-o c = search needs
 
 add-t19 : tie.Need-add-t19
 add-t19 c = let i = c .before .before .before .before .before in
@@ -57,9 +33,6 @@ add-t19 c = let i = c .before .before .before .before .before in
     let b = take (length t - 1 - 1) (drop 1 t) in
     let p = told-place length (itemsFrom (suc (length b)) (λ u. asFate (realBy (a .which) u)) 0 b) 12 (c .before .o .given .0 .0) (0 + length b) (ap toldCounted (sym (c .before .o .given .1)) ∙ i .keep-real-items .ensures .0) (items-inward (λ u. asFate (realBy (a .which) u)) (scalar-inward (realBy (a .which))) (suc (length b)) 0 b) in
     omega (arith, n, body-length t n, p)
-
-enum-known-o-2 : tie.Need-enum-known-o-2
-enum-known-o-2 c = search needs
 
 add-t20 : tie.Need-add-t20
 add-t20 c = let i = c .before .before .before .before .before in
@@ -81,26 +54,17 @@ returns-2 c = let s = c .before .before in
     let t = s .before .before .before .args in
     kept-blank (λ u. asFate (realBy (t .which) u)) (now (t .t)) _ (s .shape-of .ensures) (map (toBits binary64) (now (t .first))) (c .enum-told2 .given .1)
 
-same-length : tie.Need-same-length
-same-length c = search needs
-
 returns-3 : tie.Need-returns-3
 returns-3 c = let i = c .before .before .before .before .before in
     let s = i .before .before .before in
     let t = s .before .before .before .before .before .args in
     kept-full (λ u. asFate (realBy (t .which) u)) (now (t .t)) _ (s .before .before .shape-of .ensures) (map (toBits binary64) (now (t .first))) (s .enum-told3 .given .1) _ _ (ap toldCounted (sym (c .before .k .given .1)) ∙ i .keep-real-items .ensures .0) (i .keep-real-items .ensures .1)
 
-same-length-2 : tie.Need-same-length-2
-same-length-2 c = search needs
-
 returns-4 : tie.Need-returns-4
 returns-4 c = let i = c .before .before .before .before .before in
     let s = i .before .before .before in
     let t = s .before .before .before .before .before .args in
     kept-full (λ u. asFate (realBy (t .which) u)) (now (t .t)) _ (s .before .before .shape-of .ensures) (map (toBits binary64) (now (t .first))) (s .enum-told3 .given .1) _ _ (ap toldCounted (sym (c .before .o .given .1)) ∙ i .keep-real-items .ensures .0) (i .keep-real-items .ensures .1)
-
-same-length-3 : tie.Need-same-length-3
-same-length-3 c = search needs
 
 returns-5 : tie.Need-returns-5
 returns-5 c = let i = c .before .before .before .before .before in
@@ -112,25 +76,6 @@ pub keep-reals-spec : {M : Type 1} → statement M
 keep-reals-spec =
     tie.close
     (tie.spec
-    shape-of-requires
-    enum-told
-    enum-told-2
-    enum-told-3
-    sub-keep-real-items
-    sub-keep-real-items-2
-    part-keep-real-items-start
-    part-keep-real-items-end
-    keep-real-items-requires
-    enum-known-k
-    enum-known-o
-    add-t19
-    enum-known-o-2
-    add-t20
-    returns
-    returns-2
-    same-length
-    returns-3
-    same-length-2
-    returns-4
-    same-length-3
-    returns-5)
+    (λ c κs. search needs) (λ c. search needs) (λ c. search needs) (λ c. search needs) sub-keep-real-items sub-keep-real-items-2
+    part-keep-real-items-start (λ c. search needs) (λ c κs. search needs) (λ c. search needs) (λ c. search needs) add-t19
+    (λ c. search needs) add-t20 returns returns-2 (λ c. search needs) returns-3 (λ c. search needs) returns-4 (λ c. search needs) returns-5)

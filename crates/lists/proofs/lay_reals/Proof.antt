@@ -33,9 +33,6 @@ slice-write-out c = let t = c .before .before .before in
     let l = c .before .before in
     omega (arith, t .pre .0, t .pre .1, c .before .loop-test .taken, copy-length (now (t .args .first)) (now (t .args .out)) (l .loop .out) (l .loop .i) (omega (arith, t .pre .0)) (omega (arith, t .pre .1)) (l .loop .inv .1))
 
-add-i : tie.Need-add-i Inv-loop μ-loop
-add-i c = omega arith
-
 loop-less : tie.Need-loop-less Inv-loop μ-loop
 loop-less c = omega (arith, c .before .loop-test .taken)
 
@@ -59,15 +56,5 @@ pub lay-reals-spec : {M : Type 1} → statement M
 lay-reals-spec =
     tie.close
     (tie.spec
-    Inv-loop
-    μ-loop
-    loop-holds
-    mul-out
-    shared-slice-read-out
-    mul-out-2
-    slice-write-out
-    add-i
-    loop-less
-    loop-again
-    same-length
+    Inv-loop μ-loop loop-holds mul-out shared-slice-read-out mul-out-2 slice-write-out (λ c. omega arith) loop-less loop-again same-length
     returns)

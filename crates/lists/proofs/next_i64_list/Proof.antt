@@ -14,15 +14,6 @@ use Prim.Native.Nat.{_-_}
 use Rattle.lists.proofs.next_i64_list.Statement.{statement}
 use Rattle.lists.proofs.next_i64_list.Tie as tie
 
-param-span-requires : tie.Need-param-span-requires
-param-span-requires c κs = search needs
-
-enum-known-f : tie.Need-enum-known-f
-enum-known-f c = search needs
-
-enum-known-start : tie.Need-enum-known-start
-enum-known-start c = search needs
-
 sub-read-wholes : tie.Need-sub-read-wholes
 sub-read-wholes c = let (u, v) = cut-places _ _ _ _ _ (c .before .before .before .param-span .ensures .1) (c .before .start .given .1) in u
 
@@ -31,9 +22,6 @@ part-read-wholes-start c = let (u, v) = cut-places _ _ _ _ _ (c .before .before 
 
 part-read-wholes-end : tie.Need-part-read-wholes-end
 part-read-wholes-end c = let (u, v) = cut-places _ _ _ _ _ (c .before .before .before .param-span .ensures .1) (c .before .start .given .1) in omega (arith, u, v)
-
-read-wholes-requires : tie.Need-read-wholes-requires
-read-wholes-requires c κs = search needs
 
 answer-of-requires : tie.Need-answer-of-requires
 answer-of-requires c κs = let i = c .before in
@@ -50,9 +38,6 @@ returns : tie.Need-returns
 returns c = let t = c .before .before .before .before .before in
     lists-uncut (listOf wholeOf) (now (t .args .out)) (length (now (t .args .out))) (now (t .args .file)) (t .args .at .place) (t .args .at .end) _ _ _ (ap toldCut (sym (c .before .f .given .1)) ∙ c .before .before .before .param-span .ensures .0)
 
-same-length : tie.Need-same-length
-same-length c = search needs
-
 returns-2 : tie.Need-returns-2
 returns-2 c = let i = c .before .before in
     let g = i .before .before .before .before in
@@ -65,14 +50,5 @@ pub next-i64-list-spec : {M : Type 1} → statement M
 next-i64-list-spec =
     tie.close
     (tie.spec
-    param-span-requires
-    enum-known-f
-    enum-known-start
-    sub-read-wholes
-    part-read-wholes-start
-    part-read-wholes-end
-    read-wholes-requires
-    answer-of-requires
-    returns
-    same-length
-    returns-2)
+    (λ c κs. search needs) (λ c. search needs) (λ c. search needs) sub-read-wholes part-read-wholes-start part-read-wholes-end
+    (λ c κs. search needs) answer-of-requires returns (λ c. search needs) returns-2)

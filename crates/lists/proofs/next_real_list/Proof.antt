@@ -16,15 +16,6 @@ use mathlib.Core.List.{map}
 use Rattle.lists.proofs.next_real_list.Statement.{statement}
 use Rattle.lists.proofs.next_real_list.Tie as tie
 
-param-span-requires : tie.Need-param-span-requires
-param-span-requires c κs = search needs
-
-enum-known-f : tie.Need-enum-known-f
-enum-known-f c = search needs
-
-enum-known-start : tie.Need-enum-known-start
-enum-known-start c = search needs
-
 sub-read-reals : tie.Need-sub-read-reals
 sub-read-reals c = let (u, v) = cut-places _ _ _ _ _ (c .before .before .before .param-span .ensures .1) (c .before .start .given .1) in u
 
@@ -33,9 +24,6 @@ part-read-reals-start c = let (u, v) = cut-places _ _ _ _ _ (c .before .before .
 
 part-read-reals-end : tie.Need-part-read-reals-end
 part-read-reals-end c = let (u, v) = cut-places _ _ _ _ _ (c .before .before .before .param-span .ensures .1) (c .before .start .given .1) in omega (arith, u, v)
-
-read-reals-requires : tie.Need-read-reals-requires
-read-reals-requires c κs = search needs
 
 answer-of-requires : tie.Need-answer-of-requires
 answer-of-requires c κs = let i = c .before .before in
@@ -52,9 +40,6 @@ returns : tie.Need-returns
 returns c = let t = c .before .before .before .before .before .before in
     lists-uncut (listOf (realBy (t .args .which))) (map (toBits binary64) (now (t .args .out))) (length (now (t .args .out))) (now (t .args .file)) (t .args .at .place) (t .args .at .end) _ _ _ (ap toldCut (sym (c .before .f .given .1)) ∙ c .before .before .before .param-span .ensures .0)
 
-same-length : tie.Need-same-length
-same-length c = search needs
-
 returns-2 : tie.Need-returns-2
 returns-2 c = let i = c .before .before .before in
     let g = i .before .before .before .before in
@@ -67,14 +52,5 @@ pub next-real-list-spec : {M : Type 1} → statement M
 next-real-list-spec =
     tie.close
     (tie.spec
-    param-span-requires
-    enum-known-f
-    enum-known-start
-    sub-read-reals
-    part-read-reals-start
-    part-read-reals-end
-    read-reals-requires
-    answer-of-requires
-    returns
-    same-length
-    returns-2)
+    (λ c κs. search needs) (λ c. search needs) (λ c. search needs) sub-read-reals part-read-reals-start part-read-reals-end
+    (λ c κs. search needs) answer-of-requires returns (λ c. search needs) returns-2)

@@ -14,15 +14,6 @@ use Prim.Native.Nat.{_-_}
 use Rattle.lists.proofs.next_ref_list.Statement.{statement}
 use Rattle.lists.proofs.next_ref_list.Tie as tie
 
-param-span-requires : tie.Need-param-span-requires
-param-span-requires c κs = search needs
-
-enum-known-f : tie.Need-enum-known-f
-enum-known-f c = search needs
-
-enum-known-start : tie.Need-enum-known-start
-enum-known-start c = search needs
-
 sub-read-refs : tie.Need-sub-read-refs
 sub-read-refs c = let (u, v) = cut-places _ _ _ _ _ (c .before .before .before .param-span .ensures .1) (c .before .start .given .1) in u
 
@@ -31,9 +22,6 @@ part-read-refs-start c = let (u, v) = cut-places _ _ _ _ _ (c .before .before .b
 
 part-read-refs-end : tie.Need-part-read-refs-end
 part-read-refs-end c = let (u, v) = cut-places _ _ _ _ _ (c .before .before .before .param-span .ensures .1) (c .before .start .given .1) in omega (arith, u, v)
-
-read-refs-requires : tie.Need-read-refs-requires
-read-refs-requires c κs = search needs
 
 answer-of-requires : tie.Need-answer-of-requires
 answer-of-requires c κs = let i = c .before .before in
@@ -50,9 +38,6 @@ returns : tie.Need-returns
 returns c = let t = c .before .before .before .before .before .before in
     lists-uncut (listOf referenceOf) (now (t .args .out)) (length (now (t .args .out))) (now (t .args .file)) (t .args .at .place) (t .args .at .end) _ _ _ (ap toldCut (sym (c .before .f .given .1)) ∙ c .before .before .before .param-span .ensures .0)
 
-same-length : tie.Need-same-length
-same-length c = search needs
-
 returns-2 : tie.Need-returns-2
 returns-2 c = let i = c .before .before .before in
     let g = i .before .before .before .before in
@@ -65,14 +50,5 @@ pub next-ref-list-spec : {M : Type 1} → statement M
 next-ref-list-spec =
     tie.close
     (tie.spec
-    param-span-requires
-    enum-known-f
-    enum-known-start
-    sub-read-refs
-    part-read-refs-start
-    part-read-refs-end
-    read-refs-requires
-    answer-of-requires
-    returns
-    same-length
-    returns-2)
+    (λ c κs. search needs) (λ c. search needs) (λ c. search needs) sub-read-refs part-read-refs-start part-read-refs-end
+    (λ c κs. search needs) answer-of-requires returns (λ c. search needs) returns-2)

@@ -12,29 +12,11 @@ use mathlib.Core.Path.{ap, sym, _∙_}
 use Rattle.lists.proofs.read_reals.Statement.{statement}
 use Rattle.lists.proofs.read_reals.Tie as tie
 
-slice-aggregate-keep-reals : tie.Need-slice-aggregate-keep-reals
-slice-aggregate-keep-reals c = search needs
-
-keep-reals-requires : tie.Need-keep-reals-requires
-keep-reals-requires c κs = search needs
-
-enum-known-o : tie.Need-enum-known-o
-enum-known-o c = search needs
-
-enum-known-o-2 : tie.Need-enum-known-o-2
-enum-known-o-2 c = search needs
-
-enum-known-n : tie.Need-enum-known-n
-enum-known-n c = search needs
-
 returns : tie.Need-returns
 returns c = let k = c .before .before .before .before .before in
     let t = k .before .before .before .before .args in
     let e = ap toldCounted (sym (c .before .before .n .given .1)) ∙ k .keep-reals .ensures .0 in
     kept-short (listOf (realBy (t .which)) (now (t .t))) (length (now (t .out))) (map (toBits binary64) (now (t .out))) _ e (c .if1 .taken)
-
-slice-aggregate-write-reals : tie.Need-slice-aggregate-write-reals
-slice-aggregate-write-reals c = search needs
 
 write-reals-requires : tie.Need-write-reals-requires
 write-reals-requires c κs = let k = c .before .before .before .before .before .before .before in
@@ -54,9 +36,6 @@ returns-3 c = let k = c .before .before .before .before in
     let e = ap toldCounted (sym (c .before .o2 .given .1)) ∙ k .keep-reals .ensures .0 in
     kept-bad (listOf (realBy (t .which)) (now (t .t))) (length (now (t .out))) (map (toBits binary64) (now (t .out))) 13 _ e
 
-same-length : tie.Need-same-length
-same-length c = search needs
-
 returns-4 : tie.Need-returns-4
 returns-4 c = let k = c .before .before .before .before .before .before .before .before .before .before in
     let t = k .before .before .before .before .args in
@@ -67,15 +46,5 @@ pub read-reals-spec : {M : Type 1} → statement M
 read-reals-spec =
     tie.close
     (tie.spec
-    slice-aggregate-keep-reals
-    keep-reals-requires
-    enum-known-o
-    enum-known-o-2
-    enum-known-n
-    returns
-    slice-aggregate-write-reals
-    write-reals-requires
-    returns-2
-    returns-3
-    same-length
-    returns-4)
+    (λ c. search needs) (λ c κs. search needs) (λ c. search needs) (λ c. search needs) (λ c. search needs) returns (λ c. search needs)
+    write-reals-requires returns-2 returns-3 (λ c. search needs) returns-4)

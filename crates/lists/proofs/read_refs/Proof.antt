@@ -10,12 +10,6 @@ use Rattle.lists.proofs.Laws.{refused-read}
 use Rattle.lists.proofs.read_refs.Statement.{statement}
 use Rattle.lists.proofs.read_refs.Tie as tie
 
-room-for-requires : tie.Need-room-for-requires
-room-for-requires c κs = search needs
-
-enum-told : tie.Need-enum-told
-enum-told c = search needs
-
 returns : tie.Need-returns
 returns c = let r = c .before .room-for in
     let t = c .before .before .before .before in
@@ -29,9 +23,6 @@ fill-refs-requires c κs = let r = c .before .before .before .room-for in
     let e = read-told (λ u. asFate (referenceOf u)) (now (t .args .t)) (length (now (t .args .out))) _ (r .ensures) in
     room-fits (listOf referenceOf (now (t .args .t))) (length (now (t .args .out))) _ (ap toldReadList (sym (c .before .enum-told .given .1)) ∙ e)
 
-same-length : tie.Need-same-length
-same-length c = search needs
-
 returns-2 : tie.Need-returns-2
 returns-2 c = let i = c .before .before in
     let r = i .before .before .before .before .room-for in
@@ -42,4 +33,5 @@ returns-2 c = let i = c .before .before in
 pub read-refs-spec : {M : Type 1} → statement M
 read-refs-spec =
     tie.close
-    (tie.spec room-for-requires enum-told returns fill-refs-requires same-length returns-2)
+    (tie.spec
+    (λ c κs. search needs) (λ c. search needs) returns fill-refs-requires (λ c. search needs) returns-2)

@@ -9,18 +9,6 @@ use Rattle.lists.specs.ReadLaws.{roomed-bad}
 use Rattle.lists.proofs.room_for.Statement.{statement}
 use Rattle.lists.proofs.room_for.Tie as tie
 
-count-list-requires : tie.Need-count-list-requires
-count-list-requires c κs = search needs
-
-enum-known-o : tie.Need-enum-known-o
-enum-known-o c = search needs
-
-enum-known-o-2 : tie.Need-enum-known-o-2
-enum-known-o-2 c = search needs
-
-enum-known-n : tie.Need-enum-known-n
-enum-known-n c = search needs
-
 returns : tie.Need-returns
 returns c = let l = c .before .before .before .before in
     let t = l .before .before in
@@ -45,11 +33,4 @@ pub room-for-spec : {M : Type 1} → statement M
 room-for-spec =
     tie.close
     (tie.spec
-    count-list-requires
-    enum-known-o
-    enum-known-o-2
-    enum-known-n
-    returns
-    returns-2
-    returns-3
-    returns-4)
+    (λ c κs. search needs) (λ c. search needs) (λ c. search needs) (λ c. search needs) returns returns-2 returns-3 returns-4)

@@ -7,48 +7,6 @@ use lib.IntN.{ℤ}
 use Rattle.lists.proofs.verdict_of.Statement.{statement}
 use Rattle.lists.proofs.verdict_of.Tie as tie
 
-enum-told : tie.Need-enum-told
-enum-told c = search needs
-
-parse-ref-requires : tie.Need-parse-ref-requires
-parse-ref-requires c κs = search needs
-
-enum-told-2 : tie.Need-enum-told-2
-enum-told-2 c = search needs
-
-enum-told-3 : tie.Need-enum-told-3
-enum-told-3 c = search needs
-
-enum-told-4 : tie.Need-enum-told-4
-enum-told-4 c = search needs
-
-parse-int-requires : tie.Need-parse-int-requires
-parse-int-requires c κs = search needs
-
-enum-told-5 : tie.Need-enum-told-5
-enum-told-5 c = search needs
-
-enum-told-6 : tie.Need-enum-told-6
-enum-told-6 c = search needs
-
-enum-known-kind : tie.Need-enum-known-kind
-enum-known-kind c = search needs
-
-read-real-requires : tie.Need-read-real-requires
-read-real-requires c κs = search needs
-
-enum-told-7 : tie.Need-enum-told-7
-enum-told-7 c = search needs
-
-enum-told-8 : tie.Need-enum-told-8
-enum-told-8 c = search needs
-
-enum-told-9 : tie.Need-enum-told-9
-enum-told-9 c = search needs
-
-enum-told-10 : tie.Need-enum-told-10
-enum-told-10 c = search needs
-
 returns : tie.Need-returns
 returns c = rw (c .before .before .before .enum-told .given .1) (ap (λ (a : Answer ℕ). mute (asFate a)) (ap toldReference (sym (c .enum-told2 .given .1)) ∙ c .before .before .parse-ref .ensures))
 
@@ -77,25 +35,6 @@ pub verdict-of-spec : {M : Type 1} → statement M
 verdict-of-spec =
     tie.close
     (tie.spec
-    enum-told
-    parse-ref-requires
-    enum-told-2
-    enum-told-3
-    enum-told-4
-    parse-int-requires
-    enum-told-5
-    enum-told-6
-    enum-known-kind
-    read-real-requires
-    enum-told-7
-    enum-told-8
-    enum-told-9
-    enum-told-10
-    returns
-    returns-2
-    returns-3
-    returns-4
-    returns-5
-    returns-6
-    returns-7
-    returns-8)
+    (λ c. search needs) (λ c κs. search needs) (λ c. search needs) (λ c. search needs) (λ c. search needs) (λ c κs. search needs)
+    (λ c. search needs) (λ c. search needs) (λ c. search needs) (λ c κs. search needs) (λ c. search needs) (λ c. search needs)
+    (λ c. search needs) (λ c. search needs) returns returns-2 returns-3 returns-4 returns-5 returns-6 returns-7 returns-8)

@@ -22,15 +22,6 @@ nothing : (b : Bool) (k : ℕ) → nearBy b 0 k ≡ 0
 nothing true k = near-nothing (10 ^ k) (ten-pos k)
 nothing false k = ap (λ (x : ℕ). near x 1) (zero-mul (10 ^ k)) ∙ near-nothing 1 (omega arith)
 
-first-digit-requires : tie.Need-first-digit-requires
-first-digit-requires c κs = search needs
-
-count-digits-requires : tie.Need-count-digits-requires
-count-digits-requires c κs = search needs
-
-told-requires : tie.Need-told-requires
-told-requires c κs = search needs
-
 returns : tie.Need-returns
 returns c =
     let s = c .before .before .before .before .before in
@@ -39,14 +30,8 @@ returns c =
     let z = sym (f .same) ∙ number-none 0 (drop (c .before .before .before .first-digit .result) (now (p .t))) (sym (c .before .before .count-digits .ensures .0) ∙ c .before .if1 .taken) in
     c .told .ensures ∙ ap (signed (p .neg)) (sym (ap (λ (x : ℕ). nearBy (p .down) x (p .k)) z ∙ nothing (p .down) (p .k)))
 
-lowered-text-requires : tie.Need-lowered-text-requires
-lowered-text-requires c κs = search needs
-
 returns-2 : tie.Need-returns-2
 returns-2 c = let p = c .before .before .before .before .before .before .args in c .lowered-text .ensures ∙ ap (λ (b : Bool). signed (p .neg) (nearBy b (numberIn 0 (now (p .t))) (p .k))) (sym (c .before .if2 .taken))
-
-raised-text-requires : tie.Need-raised-text-requires
-raised-text-requires c κs = search needs
 
 returns-3 : tie.Need-returns-3
 returns-3 c = let p = c .before .before .before .before .before .before .args in c .raised-text .ensures ∙ ap (λ (b : Bool). signed (p .neg) (nearBy b (numberIn 0 (now (p .t))) (p .k))) (sym (c .before .if2 .left))
@@ -55,11 +40,5 @@ pub decimal-spec : {M : Type 1} → statement M
 decimal-spec =
     tie.close
     (tie.spec
-    first-digit-requires
-    count-digits-requires
-    told-requires
-    returns
-    lowered-text-requires
-    returns-2
-    raised-text-requires
+    (λ c κs. search needs) (λ c κs. search needs) (λ c κs. search needs) returns (λ c κs. search needs) returns-2 (λ c κs. search needs)
     returns-3)

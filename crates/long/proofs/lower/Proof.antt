@@ -27,12 +27,6 @@ loop-holds c =
     let z : 0 ≡ p .k - p .k = omega arith in
     (omega arith, refl, subst (λ (n : ℕ). Lowered (worth (now (p .a))) (5 ^ n) (worth (now (p .a))) false) z (lowered-starts (worth (now (p .a)))))
 
-divide-requires : tie.Need-divide-requires Inv-loop μ-loop
-divide-requires c κs = search needs
-
-loop-less : tie.Need-loop-less Inv-loop μ-loop
-loop-less c = omega arith
-
 loop-again : tie.Need-loop-again Inv-loop μ-loop
 loop-again c =
     let l = c .before .before .before .before .before in
@@ -42,12 +36,6 @@ loop-again c =
     let t = c .before .before .before .before .loop-test .taken in
     let q = d .ensures .quotient (omega arith) in
     (omega arith, d .ensures .same ∙ i .1, subst (λ (x : ℕ). Lowered (worth (now (p .a))) x (worth (d .last .0)) (l .loop .more || not (eqb (d .result) 0))) (powers 5 (p .k - l .loop .left) 13 (p .k - (l .loop .left - 13)) (omega arith)) (lowered-more (worth (now (p .a))) (5 ^ (p .k - l .loop .left)) (worth (l .loop .a)) 1220703125 (worth (d .last .0)) (d .result) (l .loop .more) (i .2) (q .0) (q .1)))
-
-power-of-five-requires : tie.Need-power-of-five-requires Inv-loop μ-loop
-power-of-five-requires c κs = omega arith
-
-divide-requires-2 : tie.Need-divide-requires-2 Inv-loop μ-loop
-divide-requires-2 c κs = search needs
 
 same-length : tie.Need-same-length Inv-loop μ-loop
 same-length c = let l = c .before .before .before .before .before .before in c .before .before .divide2 .ensures .same ∙ l .loop .inv .1
@@ -66,13 +54,5 @@ pub lower-spec : {M : Type 1} → statement M
 lower-spec =
     tie.close
     (tie.spec
-    Inv-loop
-    μ-loop
-    loop-holds
-    divide-requires
-    loop-less
-    loop-again
-    power-of-five-requires
-    divide-requires-2
-    same-length
+    Inv-loop μ-loop loop-holds (λ c κs. search needs) (λ c. omega arith) loop-again (λ c κs. omega arith) (λ c κs. search needs) same-length
     returns)

@@ -33,9 +33,6 @@ far m k h e = go (eqb m 0) (eqb-true m 0) (ltb-true 343 k) e
 some : (m : ℕ) → eqb m 0 ≡ false → 0 < m
 some m e = pos-of-ne-zero (eqb-false m 0 e)
 
-told-requires : tie.Need-told-requires
-told-requires c κs = search needs
-
 returns : tie.Need-returns
 returns c =
     let s = c .before .before in
@@ -45,14 +42,8 @@ returns c =
 ahead-requires : tie.Need-ahead-requires
 ahead-requires c κs = let p = c .before .args in ltb-false 343 (p .k) (neither (eqb (p .m) 0) (ltb 343 (p .k)) (c .if1 .left) .1)
 
-slice-aggregate-put : tie.Need-slice-aggregate-put
-slice-aggregate-put c = search needs
-
 put-requires : tie.Need-put-requires
 put-requires c κs = (worth-replicate 32, omega (arith, c .before .ahead .ensures .2))
-
-add-a : tie.Need-add-a
-add-a c = search needs
 
 array-borrow-prefix-a : tie.Need-array-borrow-prefix-a
 array-borrow-prefix-a c = search needs
@@ -81,13 +72,5 @@ pub lowered-spec : {M : Type 1} → statement M
 lowered-spec =
     tie.close
     (tie.spec
-    told-requires
-    returns
-    ahead-requires
-    slice-aggregate-put
-    put-requires
-    add-a
-    array-borrow-prefix-a
-    slice-aggregate-lowered-in
-    lowered-in-requires
-    returns-2)
+    (λ c κs. search needs) returns ahead-requires (λ c. search needs) put-requires (λ c. search needs) array-borrow-prefix-a
+    slice-aggregate-lowered-in lowered-in-requires returns-2)

@@ -12,18 +12,6 @@ use Rattle.long.specs.Whole.{scaled-cut}
 use Rattle.long.proofs.lowered_cut.Statement.{statement}
 use Rattle.long.proofs.lowered_cut.Tie as tie
 
-sub-read-digits : tie.Need-sub-read-digits
-sub-read-digits c = search needs
-
-sub-read-digits-2 : tie.Need-sub-read-digits-2
-sub-read-digits-2 c = search needs
-
-read-digits-requires : tie.Need-read-digits-requires
-read-digits-requires c κs = search needs
-
-first-digit-requires : tie.Need-first-digit-requires
-first-digit-requires c κs = search needs
-
 slice-relend-prefix-lowered-in : tie.Need-slice-relend-prefix-lowered-in
 slice-relend-prefix-lowered-in c = search needs
 
@@ -37,9 +25,6 @@ lowered-in-requires c κs =
     let e = slice-aggregate-lowered-in c in
     (omega arith, inl refl, omega (arith, s .pre .2, s .pre .4))
 
-same-length : tie.Need-same-length
-same-length c = search needs
-
 returns : tie.Need-returns
 returns c =
     let s = c .before .before .before .before .before .before .before .before .before .before .before in
@@ -52,12 +37,5 @@ pub lowered-cut-spec : {M : Type 1} → statement M
 lowered-cut-spec =
     tie.close
     (tie.spec
-    sub-read-digits
-    sub-read-digits-2
-    read-digits-requires
-    first-digit-requires
-    slice-relend-prefix-lowered-in
-    slice-aggregate-lowered-in
-    lowered-in-requires
-    same-length
-    returns)
+    (λ c. search needs) (λ c. search needs) (λ c κs. search needs) (λ c κs. search needs) slice-relend-prefix-lowered-in
+    slice-aggregate-lowered-in lowered-in-requires (λ c. search needs) returns)

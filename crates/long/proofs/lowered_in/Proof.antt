@@ -6,30 +6,6 @@ use Rattle.long.specs.ScaledRight.{lowered-leads, lowers-to}
 use Rattle.long.proofs.lowered_in.Statement.{statement}
 use Rattle.long.proofs.lowered_in.Tie as tie
 
-lower-requires : tie.Need-lower-requires
-lower-requires c κs = search needs
-
-top-requires : tie.Need-top-requires
-top-requires c κs = search needs
-
-mul-rounded : tie.Need-mul-rounded
-mul-rounded c = search needs
-
-cast-rounded : tie.Need-cast-rounded
-cast-rounded c = search needs
-
-add-rounded : tie.Need-add-rounded
-add-rounded c = search needs
-
-sub-rounded : tie.Need-sub-rounded
-sub-rounded c = search needs
-
-sub-rounded-2 : tie.Need-sub-rounded-2
-sub-rounded-2 c = search needs
-
-add-rounded-2 : tie.Need-add-rounded-2
-add-rounded-2 c = search needs
-
 rounded-requires : tie.Need-rounded-requires
 rounded-requires c κs =
     let t = c .before .before .before in
@@ -37,9 +13,6 @@ rounded-requires c κs =
     let s = l .before .before .before in
     let m : t .top .result .digits < 2 ^ 64 = omega arith in
     lowered-leads _ (s .args .s) (s .args .k) (l .lower .result) _ (t .top .result) (s .pre .1) (l .lower .ensures) (t .top .ensures .0) m
-
-same-length : tie.Need-same-length
-same-length c = search needs
 
 returns : tie.Need-returns
 returns c =
@@ -49,4 +22,6 @@ returns c =
     lowers-to (s .args .neg) _ (s .args .s) (s .args .k) (s .args .more) (l .lower .result) _ (t .top .result) _ (s .pre .0) (l .lower .ensures) (t .top .ensures .0) (c .rounded .ensures)
 
 pub lowered-in-spec : {M : Type 1} → statement M
-lowered-in-spec = tie.close (tie.spec lower-requires top-requires mul-rounded cast-rounded add-rounded sub-rounded sub-rounded-2 add-rounded-2 rounded-requires same-length returns)
+lowered-in-spec = tie.close (tie.spec
+    (λ c κs. search needs) (λ c κs. search needs) (λ c. search needs) (λ c. search needs) (λ c. search needs) (λ c. search needs)
+    (λ c. search needs) (λ c. search needs) rounded-requires (λ c. search needs) returns)

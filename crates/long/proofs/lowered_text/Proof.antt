@@ -22,9 +22,6 @@ add-if1 c =
     let l = length-drop (p .i) (now (p .t)) in
     record { fits = omega (arith, s .pre .1, s .good) }
 
-told-requires : tie.Need-told-requires
-told-requires c κs = search needs
-
 returns : tie.Need-returns
 returns c =
     let s = c .before .before .before in
@@ -40,9 +37,6 @@ add-if2 c =
     let l = length-drop (p .i) (now (p .t)) in
     record { fits = omega (arith, s .pre .1, s .good, c .if1 .left) }
 
-endless-requires : tie.Need-endless-requires
-endless-requires c κs = search needs
-
 returns-2 : tie.Need-returns-2
 returns-2 c =
     let s = c .before .before .before .before in
@@ -50,20 +44,11 @@ returns-2 c =
     let l : 10 ^ p .n ≤ 10 * numberIn 0 (now (p .t)) = read-le (now (p .t)) (p .i) (p .n) (s .pre .0) (s .pre .1) (s .pre .2) in
     c .endless .ensures ∙ ap (signed (p .neg)) (sym (far-infinity (numberIn 0 (now (p .t))) (p .n) (p .k) l (c .before .if2 .taken)))
 
-slice-aggregate-lowered-whole : tie.Need-slice-aggregate-lowered-whole
-slice-aggregate-lowered-whole c = search needs
-
 lowered-whole-requires : tie.Need-lowered-whole-requires
 lowered-whole-requires c κs = let s = c .before .before .before .before .before in (s .pre .0 .within, s .pre .1, c .before .before .if2 .left, c .before .if3 .taken, refl, worth-replicate 192)
 
 returns-3 : tie.Need-returns-3
 returns-3 c = let s = c .before .before .before .before .before .before .before in let p = s .args in c .before .lowered-whole .ensures ∙ ap (λ (x : ℕ). signed (p .neg) (near x (10 ^ p .k))) (s .pre .0 .same)
-
-slice-aggregate-lowered-cut : tie.Need-slice-aggregate-lowered-cut
-slice-aggregate-lowered-cut c = search needs
-
-lowered-cut-requires : tie.Need-lowered-cut-requires
-lowered-cut-requires c κs = search needs
 
 returns-4 : tie.Need-returns-4
 returns-4 c = let s = c .before .before .before .before .before .before .before in let p = s .args in c .before .lowered-cut .ensures ∙ ap (λ (x : ℕ). signed (p .neg) (near x (10 ^ p .k))) (s .pre .0 .same)
@@ -72,15 +57,5 @@ pub lowered-text-spec : {M : Type 1} → statement M
 lowered-text-spec =
     tie.close
     (tie.spec
-    add-if1
-    told-requires
-    returns
-    add-if2
-    endless-requires
-    returns-2
-    slice-aggregate-lowered-whole
-    lowered-whole-requires
-    returns-3
-    slice-aggregate-lowered-cut
-    lowered-cut-requires
-    returns-4)
+    add-if1 (λ c κs. search needs) returns add-if2 (λ c κs. search needs) returns-2 (λ c. search needs) lowered-whole-requires returns-3
+    (λ c. search needs) (λ c κs. search needs) returns-4)

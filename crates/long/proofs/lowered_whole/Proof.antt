@@ -15,39 +15,6 @@ use Rattle.long.specs.Whole.{placed, read-all, scaled-whole}
 use Rattle.long.proofs.lowered_whole.Statement.{statement}
 use Rattle.long.proofs.lowered_whole.Tie as tie
 
-sub-s : tie.Need-sub-s
-sub-s c = search needs
-
-mul-read-digits : tie.Need-mul-read-digits
-mul-read-digits c = search needs
-
-sub-read-digits : tie.Need-sub-read-digits
-sub-read-digits c = search needs
-
-part-read-digits-start : tie.Need-part-read-digits-start
-part-read-digits-start c = search needs
-
-part-read-digits-end : tie.Need-part-read-digits-end
-part-read-digits-end c = search needs
-
-read-digits-requires : tie.Need-read-digits-requires
-read-digits-requires c κs = search needs
-
-add-used : tie.Need-add-used
-add-used c = search needs
-
-cast-push : tie.Need-cast-push
-cast-push c = search needs
-
-shl-push : tie.Need-shl-push
-shl-push c = search needs
-
-push-requires : tie.Need-push-requires
-push-requires c κs = search needs
-
-add-lowered-in : tie.Need-add-lowered-in
-add-lowered-in c = search needs
-
 slice-relend-prefix-lowered-in : tie.Need-slice-relend-prefix-lowered-in
 slice-relend-prefix-lowered-in c = search needs
 
@@ -61,9 +28,6 @@ lowered-in-requires c κs =
     let r = c .before .before .before .before .before .before .before .before .read-digits .ensures .few in
     let e = slice-aggregate-lowered-in c in
     (omega (arith, s .pre .3), inl (omega (arith, s .pre .3)), omega (arith, s .pre .2, s .pre .3))
-
-same-length : tie.Need-same-length
-same-length c = search needs
 
 returns : tie.Need-returns
 returns c =
@@ -85,19 +49,6 @@ pub lowered-whole-spec : {M : Type 1} → statement M
 lowered-whole-spec =
     tie.close
     (tie.spec
-    sub-s
-    mul-read-digits
-    sub-read-digits
-    part-read-digits-start
-    part-read-digits-end
-    read-digits-requires
-    add-used
-    cast-push
-    shl-push
-    push-requires
-    add-lowered-in
-    slice-relend-prefix-lowered-in
-    slice-aggregate-lowered-in
-    lowered-in-requires
-    same-length
-    returns)
+    (λ c. search needs) (λ c. search needs) (λ c. search needs) (λ c. search needs) (λ c. search needs) (λ c κs. search needs)
+    (λ c. search needs) (λ c. search needs) (λ c. search needs) (λ c κs. search needs) (λ c. search needs) slice-relend-prefix-lowered-in
+    slice-aggregate-lowered-in lowered-in-requires (λ c. search needs) returns)

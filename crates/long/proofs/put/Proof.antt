@@ -10,35 +10,8 @@ use Rattle.long.specs.Steps.{put-in, moved-up}
 use Rattle.long.proofs.put.Statement.{statement}
 use Rattle.long.proofs.put.Tie as tie
 
-cast-a : tie.Need-cast-a
-cast-a c = search needs
-
-mul-a : tie.Need-mul-a
-mul-a c = search needs
-
-slice-write-a : tie.Need-slice-write-a
-slice-write-a c = search needs
-
-cast-a-2 : tie.Need-cast-a-2
-cast-a-2 c = search needs
-
-add-a : tie.Need-add-a
-add-a c = search needs
-
-mul-a-2 : tie.Need-mul-a-2
-mul-a-2 c = search needs
-
 slice-write-a-2 : tie.Need-slice-write-a-2
 slice-write-a-2 c = let p = c .before .args in let e = length-set (now (p .a)) (p .s / 32) (p .m % 4294967296) in omega (arith, e, c .before .pre .1)
-
-add-push : tie.Need-add-push
-add-push c = search needs
-
-cast-push : tie.Need-cast-push
-cast-push c = search needs
-
-shl-push : tie.Need-shl-push
-shl-push c = search needs
 
 push-requires : tie.Need-push-requires
 push-requires c κs =
@@ -68,16 +41,5 @@ pub put-spec : {M : Type 1} → statement M
 put-spec =
     tie.close
     (tie.spec
-    cast-a
-    mul-a
-    slice-write-a
-    cast-a-2
-    add-a
-    mul-a-2
-    slice-write-a-2
-    add-push
-    cast-push
-    shl-push
-    push-requires
-    same-length
-    returns)
+    (λ c. search needs) (λ c. search needs) (λ c. search needs) (λ c. search needs) (λ c. search needs) (λ c. search needs) slice-write-a-2
+    (λ c. search needs) (λ c. search needs) (λ c. search needs) push-requires same-length returns)

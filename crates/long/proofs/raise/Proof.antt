@@ -30,15 +30,6 @@ abbrev μ-loop : tie.MeasureT-loop
 loop-holds : tie.Need-loop-holds Inv-loop μ-loop
 loop-holds c = let p = c .before .args in (omega arith, refl, refl, starts (worth (take (p .used) (now (p .a)))) (p .k))
 
-push-requires : tie.Need-push-requires Inv-loop μ-loop
-push-requires c κs = omega arith
-
-add-n : tie.Need-add-n Inv-loop μ-loop
-add-n c = omega arith
-
-loop-less : tie.Need-loop-less Inv-loop μ-loop
-loop-less c = omega arith
-
 loop-again : tie.Need-loop-again Inv-loop μ-loop
 loop-again c =
     let l = c .before .before .before .before .before in
@@ -47,15 +38,6 @@ loop-again c =
     let t = c .before .before .before .before .loop-test .taken in
     let w = worth (take (p .used) (now (p .a))) in
     (omega arith, c .before .a .given ∙ i .1, omega arith, c .before .before .push .ensures ∙ goes w (worth (take (l .loop .n) (l .loop .a))) (p .k) (l .loop .left) 13 (p .k - (l .loop .left - 13)) (omega arith) (i .3))
-
-power-of-five-requires : tie.Need-power-of-five-requires Inv-loop μ-loop
-power-of-five-requires c κs = omega arith
-
-push-requires-2 : tie.Need-push-requires-2 Inv-loop μ-loop
-push-requires-2 c κs = omega arith
-
-add-result : tie.Need-add-result Inv-loop μ-loop
-add-result c = omega arith
 
 same-length : tie.Need-same-length Inv-loop μ-loop
 same-length c = c .before .a2 .given ∙ c .before .before .before .before .before .before .loop .inv .1
@@ -75,15 +57,5 @@ pub raise-spec : {M : Type 1} → statement M
 raise-spec =
     tie.close
     (tie.spec
-    Inv-loop
-    μ-loop
-    loop-holds
-    push-requires
-    add-n
-    loop-less
-    loop-again
-    power-of-five-requires
-    push-requires-2
-    add-result
-    same-length
-    returns)
+    Inv-loop μ-loop loop-holds (λ c κs. omega arith) (λ c. omega arith) (λ c. omega arith) loop-again (λ c κs. omega arith)
+    (λ c κs. omega arith) (λ c. omega arith) same-length returns)

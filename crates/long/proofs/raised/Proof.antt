@@ -22,16 +22,10 @@ ten-le m h = omega arith
 large : (m : ℕ) → 0 < m → 2 ^ 64 ≤ m * 2 ^ 64
 large m h = omega arith
 
-told-requires : tie.Need-told-requires
-told-requires c κs = search needs
-
 returns : tie.Need-returns
 returns c =
     let p = c .before .before .args in
     c .told .ensures ∙ ap (signed (p .neg)) (sym (ap (λ (x : ℕ). near x 1) (ap (λ (x : ℕ). x * 10 ^ p .k) (c .before .if1 .taken) ∙ zero-mul (10 ^ p .k)) ∙ near-nothing 1 (omega arith)))
-
-endless-requires : tie.Need-endless-requires
-endless-requires c κs = search needs
 
 returns-2 : tie.Need-returns-2
 returns-2 c =
@@ -39,14 +33,8 @@ returns-2 c =
     let m = pos-of-ne-zero (c .before .before .if1 .left) in
     c .endless .ensures ∙ ap (signed (p .neg)) (sym (high-infinity (p .m) 1 (p .k) (ten-le (p .m) m) (omega (arith, c .before .if2 .taken))))
 
-slice-aggregate-put : tie.Need-slice-aggregate-put
-slice-aggregate-put c = search needs
-
 put-requires : tie.Need-put-requires
 put-requires c κs = (worth-replicate 32, omega arith)
-
-slice-aggregate-raised-in : tie.Need-slice-aggregate-raised-in
-slice-aggregate-raised-in c = search needs
 
 raised-in-requires : tie.Need-raised-in-requires
 raised-in-requires c κs =
@@ -64,12 +52,5 @@ pub raised-spec : {M : Type 1} → statement M
 raised-spec =
     tie.close
     (tie.spec
-    told-requires
-    returns
-    endless-requires
-    returns-2
-    slice-aggregate-put
-    put-requires
-    slice-aggregate-raised-in
-    raised-in-requires
+    (λ c κs. search needs) returns (λ c κs. search needs) returns-2 (λ c. search needs) put-requires (λ c. search needs) raised-in-requires
     returns-3)

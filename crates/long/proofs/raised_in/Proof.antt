@@ -23,29 +23,14 @@ few-limbs t =
     let e = r .raise .ensures .1 in
     few (t .top .result .limbs) (r .raise .result) _ (t .top .ensures .1) (omega arith)
 
-raise-requires : tie.Need-raise-requires
-raise-requires c κs = search needs
-
-slice-reshare-prefix-top : tie.Need-slice-reshare-prefix-top
-slice-reshare-prefix-top c = search needs
-
 slice-aggregate-top : tie.Need-slice-aggregate-top
 slice-aggregate-top c = simp (length-take) (omega arith)
-
-top-requires : tie.Need-top-requires
-top-requires c κs = search needs
 
 mul-rounded : tie.Need-mul-rounded
 mul-rounded c = record { fits = omega (arith, few-limbs (c .before)) }
 
-cast-rounded : tie.Need-cast-rounded
-cast-rounded c = search needs
-
 add-rounded : tie.Need-add-rounded
 add-rounded c = record { fits = omega (arith, few-limbs (c .before .before)) }
-
-add-rounded-2 : tie.Need-add-rounded-2
-add-rounded-2 c = search needs
 
 add-rounded-3 : tie.Need-add-rounded-3
 add-rounded-3 c = record { fits = omega (arith, few-limbs (c .before .before)) }
@@ -58,9 +43,6 @@ rounded-requires c κs =
     let m : t .top .result .digits < 2 ^ 64 = omega arith in
     inr (raised-leads _ (s .args .k) _ (t .top .result) (s .pre .2) (r .raise .ensures .0) (t .top .ensures .0) m)
 
-same-length : tie.Need-same-length
-same-length c = search needs
-
 returns : tie.Need-returns
 returns c =
     let t = c .before .before .before in
@@ -69,4 +51,6 @@ returns c =
     raises-to (s .args .neg) _ (s .args .k) _ (t .top .result) _ (r .raise .ensures .0) (t .top .ensures .0) (c .rounded .ensures)
 
 pub raised-in-spec : {M : Type 1} → statement M
-raised-in-spec = tie.close (tie.spec raise-requires slice-reshare-prefix-top slice-aggregate-top top-requires mul-rounded cast-rounded add-rounded add-rounded-2 add-rounded-3 rounded-requires same-length returns)
+raised-in-spec = tie.close (tie.spec
+    (λ c κs. search needs) (λ c. search needs) slice-aggregate-top (λ c κs. search needs) mul-rounded (λ c. search needs) add-rounded
+    (λ c. search needs) add-rounded-3 rounded-requires (λ c. search needs) returns)

@@ -24,9 +24,6 @@ past n k h e = go (ltb 309 n) (ltb-true 309 n) (ltb-true 308 k) e
     go true f g e = let l = f refl in omega arith
     go false f g e = let l = g e in omega arith
 
-endless-requires : tie.Need-endless-requires
-endless-requires c κs = search needs
-
 returns : tie.Need-returns
 returns c =
     let s = c .before .before .before in
@@ -37,18 +34,12 @@ returns c =
 add-if2 : tie.Need-add-if2
 add-if2 c = let p = c .before .before .args in let b = neither (ltb 309 (p .n)) (ltb 308 (p .k)) (c .if1 .left) in let u = ltb-false 309 (p .n) (b .0) in let v = ltb-false 308 (p .k) (b .1) in record { fits = omega arith }
 
-endless-requires-2 : tie.Need-endless-requires-2
-endless-requires-2 c κs = search needs
-
 returns-2 : tie.Need-returns-2
 returns-2 c =
     let s = c .before .before .before .before in
     let p = s .args in
     let l : 10 ^ p .n ≤ 10 * numberIn 0 (now (p .t)) = read-le (now (p .t)) (p .i) (p .n) (s .pre .0) (s .pre .1) (s .pre .2) in
     c .endless2 .ensures ∙ ap (signed (p .neg)) (sym (high-infinity (numberIn 0 (now (p .t))) (p .n) (p .k) l (c .before .if2 .taken)))
-
-slice-aggregate-raised-whole : tie.Need-slice-aggregate-raised-whole
-slice-aggregate-raised-whole c = search needs
 
 raised-whole-requires : tie.Need-raised-whole-requires
 raised-whole-requires c κs =
@@ -64,11 +55,4 @@ pub raised-text-spec : {M : Type 1} → statement M
 raised-text-spec =
     tie.close
     (tie.spec
-    endless-requires
-    returns
-    add-if2
-    endless-requires-2
-    returns-2
-    slice-aggregate-raised-whole
-    raised-whole-requires
-    returns-3)
+    (λ c κs. search needs) returns add-if2 (λ c κs. search needs) returns-2 (λ c. search needs) raised-whole-requires returns-3)

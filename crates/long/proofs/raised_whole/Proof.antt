@@ -14,21 +14,6 @@ use Rattle.long.specs.declared.Filled.{Filled}
 use Rattle.long.proofs.raised_whole.Statement.{statement}
 use Rattle.long.proofs.raised_whole.Tie as tie
 
-sub-read-digits : tie.Need-sub-read-digits
-sub-read-digits c = search needs
-
-part-read-digits-start : tie.Need-part-read-digits-start
-part-read-digits-start c = search needs
-
-part-read-digits-end : tie.Need-part-read-digits-end
-part-read-digits-end c = search needs
-
-read-digits-requires : tie.Need-read-digits-requires
-read-digits-requires c κs = search needs
-
-add-raised-in : tie.Need-add-raised-in
-add-raised-in c = search needs
-
 -- above two digits that are 0 the room has the number, moved up by 64 binary digits
 in-room : (t : List ℕ) (i n : ℕ) (xs ys : List ℕ) (r : Filled) → n ≡ digitsIn (drop i t) → ReadAt t i n ys r → worth xs ≡ 0 → 2 + r .used ≤ length xs → length ys ≡ length (take (length xs - 2) (drop 2 xs)) → worth (take (2 + r .used) (take 2 xs ++ (ys ++ drop (length xs - 2) (drop 2 xs)))) ≡ numberIn 0 (drop i t) * 2 ^ 64
 in-room t i n xs ys r e h z f l = placed xs ys 2 (r .used) z f l ∙ ap (λ (x : ℕ). x * 2 ^ 64) (read-all t i n ys r e h)
@@ -48,9 +33,6 @@ raised-in-requires c κs =
     let e = in-room (now (p .t)) (p .i) (p .n) (now (p .a)) ys (r .result) (s .pre .1) (r .ensures) (s .pre .6) (omega (arith, s .pre .3, s .pre .5)) (c .before .before .before .a .given .0) in
     (omega (arith, s .pre .3, s .pre .4, s .pre .5), s .pre .4, subst (λ (x : ℕ). 2 ^ 64 ≤ x) (sym e) (large (numberIn 0 (drop (p .i) (now (p .t)))) (s .pre .2)), omega (arith, s .pre .5))
 
-same-length : tie.Need-same-length
-same-length c = search needs
-
 returns : tie.Need-returns
 returns c =
     let s = c .before .before .before .before .before .before .before .before .before .before .before in
@@ -65,11 +47,5 @@ pub raised-whole-spec : {M : Type 1} → statement M
 raised-whole-spec =
     tie.close
     (tie.spec
-    sub-read-digits
-    part-read-digits-start
-    part-read-digits-end
-    read-digits-requires
-    add-raised-in
-    raised-in-requires
-    same-length
-    returns)
+    (λ c. search needs) (λ c. search needs) (λ c. search needs) (λ c κs. search needs) (λ c. search needs) raised-in-requires
+    (λ c. search needs) returns)

@@ -35,9 +35,6 @@ loop-holds c = let p = c .before .before .args in (refl, reading-starts (now (p 
 shared-slice-read-c : tie.Need-shared-slice-read-c Inv-loop μ-loop
 shared-slice-read-c c = let b = both (ltb 0 (c .before .before .loop .left)) _ (c .before .loop-test .taken) in ltb-true _ _ (b .1)
 
-is-digit-requires : tie.Need-is-digit-requires Inv-loop μ-loop
-is-digit-requires c κs = search needs
-
 mul-held : tie.Need-mul-held Inv-loop μ-loop
 mul-held c =
     let l = c .before .before .before .before .loop in
@@ -136,23 +133,5 @@ pub read-digits-spec : {M : Type 1} → statement M
 read-digits-spec =
     tie.close
     (tie.spec
-    Inv-loop
-    μ-loop
-    loop-holds
-    shared-slice-read-c
-    is-digit-requires
-    mul-held
-    sub-held
-    cast-held
-    add-held
-    mul-weight
-    sub-left
-    push-requires
-    add-used
-    add-i
-    loop-less
-    loop-again
-    push-requires-2
-    add-t28
-    same-length
-    returns)
+    Inv-loop μ-loop loop-holds shared-slice-read-c (λ c κs. search needs) mul-held sub-held cast-held add-held mul-weight sub-left
+    push-requires add-used add-i loop-less loop-again push-requires-2 add-t28 same-length returns)

@@ -9,33 +9,12 @@ use Rattle.long.specs.Pattern.{past-infinity, seen-le, seen-near}
 use Rattle.long.proofs.rounded.Statement.{statement}
 use Rattle.long.proofs.rounded.Tie as tie
 
-endless-requires : tie.Need-endless-requires
-endless-requires c κs = search needs
-
 returns : tie.Need-returns
 returns c =
     let s = c .before .before in
     let a = s .args in
     let l : 2 ^ 63 ≤ a .w = ⊎-elim (λ z. absurd (omega arith)) (λ l. l) (s .pre) in
     λ num den t. c .endless .ensures ∙ ap (signed (a .neg)) (sym (past-infinity num den (a .w) (a .more) (a .y) t l (omega arith)))
-
-spare-requires : tie.Need-spare-requires
-spare-requires c κs = search needs
-
-cast-pattern : tie.Need-cast-pattern
-cast-pattern c = search needs
-
-add-pattern : tie.Need-add-pattern
-add-pattern c = search needs
-
-sub-pattern : tie.Need-sub-pattern
-sub-pattern c = search needs
-
-mul-pattern : tie.Need-mul-pattern
-mul-pattern c = search needs
-
-rounded-off-requires : tie.Need-rounded-off-requires
-rounded-off-requires c κs = search needs
 
 add-pattern-2 : tie.Need-add-pattern-2
 add-pattern-2 c =
@@ -64,4 +43,6 @@ returns-2 c =
     λ num den t. c .told .ensures ∙ ap (signed (a .neg)) (seen-near (a .w) (a .more) (a .y) (k .rounded-off .result) (p .spare .result) (s .fits .w .fits) (s .pre) (omega arith) (p .spare .ensures) (k .rounded-off .ensures) num den t)
 
 pub rounded-spec : {M : Type 1} → statement M
-rounded-spec = tie.close (tie.spec endless-requires returns spare-requires cast-pattern add-pattern sub-pattern mul-pattern rounded-off-requires add-pattern-2 told-requires returns-2)
+rounded-spec = tie.close (tie.spec
+    (λ c κs. search needs) returns (λ c κs. search needs) (λ c. search needs) (λ c. search needs) (λ c. search needs) (λ c. search needs)
+    (λ c κs. search needs) add-pattern-2 told-requires returns-2)

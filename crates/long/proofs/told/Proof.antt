@@ -9,9 +9,6 @@ use Rattle.cut.specs.Bits.{no-nan, no-nan-minus, bits-back}
 use Rattle.long.proofs.told.Statement.{statement}
 use Rattle.long.proofs.told.Tie as tie
 
-add-result : tie.Need-add-result
-add-result c = search needs
-
 float-from-bits-result : tie.Need-float-from-bits-result
 float-from-bits-result c = no-nan-minus _ (c .before .pre)
 
@@ -29,4 +26,5 @@ returns-2 c =
     bits-back _ (omega arith) (no-nan _ (s .pre)) ∙ sym (zero-add (s .args .pattern)) ∙ ap (λ (n : Bool). signed n (s .args .pattern)) (sym (c .if1 .left))
 
 pub told-spec : {M : Type 1} → statement M
-told-spec = tie.close (tie.spec add-result float-from-bits-result returns float-from-bits-result-2 returns-2)
+told-spec = tie.close (tie.spec
+    (λ c. search needs) float-from-bits-result returns float-from-bits-result-2 returns-2)

@@ -1,4 +1,3 @@
-use native.Mathlib.Omega.{arith}
 use mathlib.Core.Path.{_≡_, refl, sym, _∙_, ap}
 use Prim.Native.Nat.{ℕ, _-_}
 use borrow.Author.Needs.{needs}
@@ -18,29 +17,8 @@ Inv-loop file rows kind from n i₀ i = firstFrom (isKind file rows kind) (n - i
 abbrev μ-loop : tie.MeasureT-loop
 μ-loop file rows kind from n i₀ i = n - i
 
-table-rows-requires : tie.Need-table-rows-requires Inv-loop μ-loop
-table-rows-requires c κs = search needs
-
-loop-holds : tie.Need-loop-holds Inv-loop μ-loop
-loop-holds c = refl
-
-read-row-requires : tie.Need-read-row-requires Inv-loop μ-loop
-read-row-requires c κs = search needs
-
-kind-in-requires : tie.Need-kind-in-requires Inv-loop μ-loop
-kind-in-requires c κs = search needs
-
-same-kind-requires : tie.Need-same-kind-requires Inv-loop μ-loop
-same-kind-requires c κs = search needs
-
 returns : tie.Need-returns Inv-loop μ-loop
 returns c = sym (first-stops (isKind (now (c .before .before .before .before .before .before .before .before .before .args .file)) (now (c .before .before .before .before .before .before .before .before .before .args .rows)) (c .before .before .before .before .before .before .before .before .before .args .kind)) (c .before .before .before .before .before .before .table-rows .result) (c .before .before .before .before .before .loop .i) (c .before .before .before .before .loop-test .taken) (sym (c .before .same-kind .ensures ∙ ap (λ (k : Kind). eqb (rankOf k) (rankOf (c .before .before .before .before .before .before .before .before .before .args .kind))) (c .before .before .kind-in .ensures ∙ ap (kindIn (now (c .before .before .before .before .before .before .before .before .before .args .file))) (c .before .before .before .read-row .ensures))) ∙ c .if1 .taken)) ∙ c .before .before .before .before .before .loop .inv ∙ ap (λ (z : ℕ). firstFrom (isKind (now (c .before .before .before .before .before .before .before .before .before .args .file)) (now (c .before .before .before .before .before .before .before .before .before .args .rows)) (c .before .before .before .before .before .before .before .before .before .args .kind)) (z - c .before .before .before .before .before .before .before .before .before .args .from) (c .before .before .before .before .before .before .before .before .before .args .from)) (c .before .before .before .before .before .before .table-rows .ensures)
-
-add-i : tie.Need-add-i Inv-loop μ-loop
-add-i c = search needs
-
-loop-less : tie.Need-loop-less Inv-loop μ-loop
-loop-less c = search needs
 
 loop-again : tie.Need-loop-again Inv-loop μ-loop
 loop-again c = sym (first-goes (isKind (now (c .before .before .before .before .before .before .before .before .before .args .file)) (now (c .before .before .before .before .before .before .before .before .before .args .rows)) (c .before .before .before .before .before .before .before .before .before .args .kind)) (c .before .before .before .before .before .before .table-rows .result) (c .before .before .before .before .before .loop .i) (c .before .before .before .before .loop-test .taken) (sym (c .before .same-kind .ensures ∙ ap (λ (k : Kind). eqb (rankOf k) (rankOf (c .before .before .before .before .before .before .before .before .before .args .kind))) (c .before .before .kind-in .ensures ∙ ap (kindIn (now (c .before .before .before .before .before .before .before .before .before .args .file))) (c .before .before .before .read-row .ensures))) ∙ c .if1 .left)) ∙ c .before .before .before .before .before .loop .inv
@@ -52,15 +30,5 @@ pub by-kind-spec : {M : Type 1} → statement M
 by-kind-spec =
     tie.close
     (tie.spec
-    Inv-loop
-    μ-loop
-    table-rows-requires
-    loop-holds
-    read-row-requires
-    kind-in-requires
-    same-kind-requires
-    returns
-    add-i
-    loop-less
-    loop-again
-    returns-2)
+    Inv-loop μ-loop (λ c κs. search needs) (λ c. refl) (λ c κs. search needs) (λ c κs. search needs) (λ c κs. search needs) returns
+    (λ c. search needs) (λ c. search needs) loop-again returns-2)

@@ -9,16 +9,10 @@ use Rattle.table.specs.Table.{tableRows}
 use Rattle.lookup.proofs.entity.Statement.{statement}
 use Rattle.lookup.proofs.entity.Tie as tie
 
-table-rows-requires : tie.Need-table-rows-requires
-table-rows-requires c κs = search needs
-
 returns : tie.Need-returns
 returns c =
     let e = c .before .table-rows .ensures in
     sym (rw (le-ltb (c .before .before .before .args .k) (tableRows (now (c .before .before .before .args .rows)) (c .before .before .before .args .t .records)) (omega arith)) refl)
-
-read-row-requires : tie.Need-read-row-requires
-read-row-requires c κs = search needs
 
 returns-2 : tie.Need-returns-2
 returns-2 c =
@@ -26,4 +20,5 @@ returns-2 c =
     ap some (c .read-row .ensures) ∙ sym (rw (lt-ltb (c .before .before .before .before .args .k) (tableRows (now (c .before .before .before .before .args .rows)) (c .before .before .before .before .args .t .records)) (omega arith)) refl)
 
 pub entity-spec : {M : Type 1} → statement M
-entity-spec = tie.close (tie.spec table-rows-requires returns read-row-requires returns-2)
+entity-spec = tie.close (tie.spec
+    (λ c κs. search needs) returns (λ c κs. search needs) returns-2)

@@ -9,21 +9,6 @@ use Rattle.lookup.specs.Lookup.{rowFound}
 use Rattle.lookup.proofs.get.Statement.{statement}
 use Rattle.lookup.proofs.get.Tie as tie
 
-get-requires : tie.Need-get-requires
-get-requires c κs = search needs
-
-enum-told : tie.Need-enum-told
-enum-told c = search needs
-
-enum-known-r : tie.Need-enum-known-r
-enum-known-r c = search needs
-
-wide-requires : tie.Need-wide-requires
-wide-requires c κs = search needs
-
-read-row-requires : tie.Need-read-row-requires
-read-row-requires c κs = search needs
-
 returns : tie.Need-returns
 returns c = ap (rowFound (now (c .before .before .before .before .before .before .args .rows))) (sym (ap toldFound (c .enum-told .given .1)) ∙ c .before .before .get .ensures)
 
@@ -34,10 +19,4 @@ pub get-spec : {M : Type 1} → statement M
 get-spec =
     tie.close
     (tie.spec
-    get-requires
-    enum-told
-    enum-known-r
-    wide-requires
-    read-row-requires
-    returns
-    returns-2)
+    (λ c κs. search needs) (λ c. search needs) (λ c. search needs) (λ c κs. search needs) (λ c κs. search needs) returns returns-2)

@@ -6,18 +6,6 @@ use Rattle.lookup.specs.Lookup.{toldEntry, kindFound}
 use Rattle.lookup.proofs.kind_of.Statement.{statement}
 use Rattle.lookup.proofs.kind_of.Tie as tie
 
-get-requires : tie.Need-get-requires
-get-requires c κs = search needs
-
-enum-told : tie.Need-enum-told
-enum-told c = search needs
-
-enum-known-w : tie.Need-enum-known-w
-enum-known-w c = search needs
-
-kind-in-requires : tie.Need-kind-in-requires
-kind-in-requires c κs = search needs
-
 returns : tie.Need-returns
 returns c = ap (kindFound (now (c .before .before .before .before .before .before .args .file))) (sym (ap toldEntry (c .enum-told .given .1)) ∙ c .before .before .get .ensures)
 
@@ -26,4 +14,5 @@ returns-2 c = c .kind-in .ensures ∙ ap (kindFound (now (c .before .before .bef
 
 pub kind-of-spec : {M : Type 1} → statement M
 kind-of-spec =
-    tie.close (tie.spec get-requires enum-told enum-known-w kind-in-requires returns returns-2)
+    tie.close (tie.spec
+    (λ c κs. search needs) (λ c. search needs) (λ c. search needs) (λ c κs. search needs) returns returns-2)

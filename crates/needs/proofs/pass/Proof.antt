@@ -18,15 +18,6 @@ abbrev μ-loop : tie.MeasureT-loop
 loop-holds : tie.Need-loop-holds Inv-loop μ-loop
 loop-holds c = counting-starts (now (c .before .args .s))
 
-next-statement-requires : tie.Need-next-statement-requires Inv-loop μ-loop
-next-statement-requires c κs = search needs
-
-enum-told : tie.Need-enum-told Inv-loop μ-loop
-enum-told c = search needs
-
-found-requires : tie.Need-found-requires Inv-loop μ-loop
-found-requires c κs = search needs
-
 returns : tie.Need-returns Inv-loop μ-loop
 returns c =
     let n = c .before .before .before in
@@ -35,9 +26,6 @@ returns c =
     let v = c .before .enum-told in
     rw (c .found .ensures) (counting-ends _ _ _ _ _ _ _ (t .loop .inv) (sym (ap (toldSaid (now (a .s))) (v .given .1)) ∙ n .next-statement .ensures .0))
 
-enum-known-f : tie.Need-enum-known-f Inv-loop μ-loop
-enum-known-f c = search needs
-
 returns-2 : tie.Need-returns-2 Inv-loop μ-loop
 returns-2 c =
     let n = c .before .before .before in
@@ -45,9 +33,6 @@ returns-2 c =
     let a = t .before .before .args in
     let v = c .before .f in
     counting-refused _ _ _ _ _ _ _ (t .loop .inv) _ (sym (ap (toldSaid (now (a .s))) (v .given .1)) ∙ n .next-statement .ensures .0)
-
-enum-known-to : tie.Need-enum-known-to Inv-loop μ-loop
-enum-known-to c = search needs
 
 loop-less : tie.Need-loop-less Inv-loop μ-loop
 loop-less c =
@@ -67,9 +52,6 @@ loop-again c =
     let w = rw (v .given .1) at (n .next-statement .ensures .1) in
     counting-moves _ _ _ _ _ _ _ (t .loop .inv) _ _ (sym (ap (toldSaid (now (a .s))) (v .given .1)) ∙ n .next-statement .ensures .0) (w .0) (w .1)
 
-enum-known-span : tie.Need-enum-known-span Inv-loop μ-loop
-enum-known-span c = search needs
-
 add-headers : tie.Need-add-headers Inv-loop μ-loop
 add-headers c =
     let n = c .before .before .before in
@@ -78,9 +60,6 @@ add-headers c =
     let v = c .before .span in
     let w = rw (v .given .1) at (n .next-statement .ensures .1) in
     omega (arith, t .loop .inv .hroom)
-
-with-record-requires : tie.Need-with-record-requires Inv-loop μ-loop
-with-record-requires c κs = search needs
 
 loop-less-2 : tie.Need-loop-less-2 Inv-loop μ-loop
 loop-less-2 c =
@@ -100,9 +79,6 @@ loop-again-2 c =
     let w = rw (v .given .1) at (n .next-statement .ensures .1) in
     rw (c .with-record .ensures) (counting-header _ _ _ _ _ _ _ (t .loop .inv) _ (v .given .0 .1 .0) _ (sym (ap (toldSaid (now (a .s))) (v .given .1)) ∙ n .next-statement .ensures .0) (w .0) (w .2))
 
-enum-known-span-2 : tie.Need-enum-known-span-2 Inv-loop μ-loop
-enum-known-span-2 c = search needs
-
 add-records : tie.Need-add-records Inv-loop μ-loop
 add-records c =
     let n = c .before .before .before in
@@ -111,12 +87,6 @@ add-records c =
     let v = c .before .span2 in
     let w = rw (v .given .1) at (n .next-statement .ensures .1) in
     omega (arith, t .loop .inv .rroom)
-
-greater-requires : tie.Need-greater-requires Inv-loop μ-loop
-greater-requires c κs = search needs
-
-with-record-requires-2 : tie.Need-with-record-requires-2 Inv-loop μ-loop
-with-record-requires-2 c κs = search needs
 
 loop-less-3 : tie.Need-loop-less-3 Inv-loop μ-loop
 loop-less-3 c =
@@ -140,26 +110,6 @@ pub pass-spec : {M : Type 1} → statement M
 pass-spec =
     tie.close
     (tie.spec
-    Inv-loop
-    μ-loop
-    loop-holds
-    next-statement-requires
-    enum-told
-    found-requires
-    returns
-    enum-known-f
-    returns-2
-    enum-known-to
-    loop-less
-    loop-again
-    enum-known-span
-    add-headers
-    with-record-requires
-    loop-less-2
-    loop-again-2
-    enum-known-span-2
-    add-records
-    greater-requires
-    with-record-requires-2
-    loop-less-3
-    loop-again-3)
+    Inv-loop μ-loop loop-holds (λ c κs. search needs) (λ c. search needs) (λ c κs. search needs) returns (λ c. search needs) returns-2
+    (λ c. search needs) loop-less loop-again (λ c. search needs) add-headers (λ c κs. search needs) loop-less-2 loop-again-2
+    (λ c. search needs) add-records (λ c κs. search needs) (λ c κs. search needs) loop-less-3 loop-again-3)

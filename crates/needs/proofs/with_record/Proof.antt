@@ -4,14 +4,9 @@ use borrow.Author.Needs.{needs}
 use Rattle.needs.proofs.with_record.Statement.{statement}
 use Rattle.needs.proofs.with_record.Tie as tie
 
-record-sizes-requires : tie.Need-record-sizes-requires
-record-sizes-requires c κs = search needs
-
-larger-each-requires : tie.Need-larger-each-requires
-larger-each-requires c κs = search needs
-
 returns : tie.Need-returns
 returns c = c .larger-each .ensures ∙ ap (both _) (c .before .record-sizes .ensures)
 
 pub with-record-spec : {M : Type 1} → statement M
-with-record-spec = tie.close (tie.spec record-sizes-requires larger-each-requires returns)
+with-record-spec = tie.close (tie.spec
+    (λ c κs. search needs) (λ c κs. search needs) returns)

@@ -14,12 +14,6 @@ returns-2 c = let a = c .before .before .args in code-same (a .page) (a .sum) (c
 sub-listed : tie.Need-sub-listed
 sub-listed c = let a = c .before .before .args in code-listed (a .page) (a .sum) (c .if2 .left) .0 .0
 
-cast-listed : tie.Need-cast-listed
-cast-listed c = search needs
-
-listed-requires : tie.Need-listed-requires
-listed-requires c κs = omega arith
-
 cast-result : tie.Need-cast-result
 cast-result c = let a = c .before .before .before .args in let b = entry-below (a .page) (160 + (a .sum - 160)) in omega (arith, c .listed .ensures)
 
@@ -33,10 +27,4 @@ pub code-on-spec : {M : Type 1} → statement M
 code-on-spec =
     tie.close
     (tie.spec
-    returns
-    returns-2
-    sub-listed
-    cast-listed
-    listed-requires
-    cast-result
-    returns-3)
+    returns returns-2 sub-listed (λ c. search needs) (λ c κs. omega arith) cast-result returns-3)

@@ -6,17 +6,11 @@ use Rattle.pages.proofs.page_of.Tie as tie
 sub-result : tie.Need-sub-result
 sub-result c = above 65 73 (c .before .args .letter) (c .if1 .taken)
 
-cast-result : tie.Need-cast-result
-cast-result c = search needs
-
 returns : tie.Need-returns
 returns c = selects-capital (c .before .args .letter) (c .if1 .taken)
 
 sub-result-2 : tie.Need-sub-result-2
 sub-result-2 c = above 97 105 (c .before .before .args .letter) (c .if2 .taken)
-
-cast-result-2 : tie.Need-cast-result-2
-cast-result-2 c = search needs
 
 returns-2 : tie.Need-returns-2
 returns-2 c = selects-small (c .before .before .args .letter) (c .before .if1 .left) (c .if2 .taken)
@@ -27,4 +21,5 @@ returns-3 c = selects-none (c .before .before .args .letter) (c .before .if1 .le
 pub page-of-spec : {M : Type 1} → statement M
 page-of-spec =
     tie.close
-    (tie.spec sub-result cast-result returns sub-result-2 cast-result-2 returns-2 returns-3)
+    (tie.spec
+    sub-result (λ c. search needs) returns sub-result-2 (λ c. search needs) returns-2 returns-3)

@@ -6,22 +6,10 @@ use denote.Ref.{now}
 use Rattle.params.proofs.binary_step.Statement.{statement}
 use Rattle.params.proofs.binary_step.Tie as tie
 
-add-find-byte : tie.Need-add-find-byte
-add-find-byte c = search needs
-
-find-byte-requires : tie.Need-find-byte-requires
-find-byte-requires c κs = search needs
-
 returns : tie.Need-returns
 returns c = let t = c .before .before .before in
     let p = t .pre in
     step-binary-open (now (t .args .part)) (t .args .i) (t .args .solid) (t .args .depth) (p .standing .place) (c .before .find-byte .result) (p .byte) (c .before .find-byte .ensures .0) (omega arith)
-
-add-t6 : tie.Need-add-t6
-add-t6 c = search needs
-
-add-t8 : tie.Need-add-t8
-add-t8 c = search needs
 
 returns-2 : tie.Need-returns-2
 returns-2 c = let t = c .before .before .before in
@@ -38,4 +26,5 @@ returns-2 c = let t = c .before .before .before in
 
 pub binary-step-spec : {M : Type 1} → statement M
 binary-step-spec =
-    tie.close (tie.spec add-find-byte find-byte-requires returns add-t6 add-t8 returns-2)
+    tie.close (tie.spec
+    (λ c. search needs) (λ c κs. search needs) returns (λ c. search needs) (λ c. search needs) returns-2)

@@ -11,16 +11,11 @@ returns c = let t = c .before in
     let p = t .pre in
     step-comma (now (t .args .part)) (t .args .i) (t .args .solid) (t .args .depth) (p .standing .place) (p .byte) (omega arith)
 
-add-t6 : tie.Need-add-t6
-add-t6 c = search needs
-
-add-t7 : tie.Need-add-t7
-add-t7 c = search needs
-
 returns-2 : tie.Need-returns-2
 returns-2 c = let t = c .before in
     let p = t .pre in
     on-byte (now (t .args .part)) (t .args .i) (t .args .solid) (t .args .depth) (t .args .depth) (p .standing) (step-nested (now (t .args .part)) (t .args .i) (t .args .solid) (t .args .depth) (p .standing .place) (p .byte) (λ e. absurd (omega arith))) (omega arith)
 
 pub comma-step-spec : {M : Type 1} → statement M
-comma-step-spec = tie.close (tie.spec returns add-t6 add-t7 returns-2)
+comma-step-spec = tie.close (tie.spec
+    returns (λ c. search needs) (λ c. search needs) returns-2)

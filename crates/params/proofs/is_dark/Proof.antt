@@ -6,12 +6,6 @@ use native.Mathlib.Omega.{arith}
 use Rattle.params.proofs.is_dark.Statement.{statement}
 use Rattle.params.proofs.is_dark.Tie as tie
 
-shared-slice-read-result : tie.Need-shared-slice-read-result
-shared-slice-read-result c = search needs
-
-shared-slice-read-result-2 : tie.Need-shared-slice-read-result-2
-shared-slice-read-result-2 c = search needs
-
 returns : tie.Need-returns
 returns c = λ e. let t = c .before .before .before in (omega arith, started-here (now (t .args .part)) (t .args .place) (omega arith) e)
 
@@ -20,4 +14,5 @@ returns-2 c = λ e. clash (cc)
 
 pub is-dark-spec : {M : Type 1} → statement M
 is-dark-spec =
-    tie.close (tie.spec shared-slice-read-result shared-slice-read-result-2 returns returns-2)
+    tie.close (tie.spec
+    (λ c. search needs) (λ c. search needs) returns returns-2)

@@ -10,9 +10,6 @@ use native.Mathlib.Omega.{arith}
 use Rattle.params.proofs.is_empty.Statement.{statement}
 use Rattle.params.proofs.is_empty.Tie as tie
 
-in-file-requires : tie.Need-in-file-requires
-in-file-requires c κs = search needs
-
 returns : tie.Need-returns
 unfolding emptyOf
 returns c = rw (← c .before .in-file .ensures, not-true (c .before .in-file .result) (c .if1 .taken)) refl
@@ -37,4 +34,5 @@ returns-2 c = let t = c .before .before .before .before .before in
 pub is-empty-spec : {M : Type 1} → statement M
 is-empty-spec =
     tie.close
-    (tie.spec in-file-requires returns slice-aggregate-past-trivia past-trivia-requires returns-2)
+    (tie.spec
+    (λ c κs. search needs) returns slice-aggregate-past-trivia past-trivia-requires returns-2)

@@ -3,9 +3,6 @@ use mathlib.Core.Path.{refl}
 use Rattle.params.proofs.new.Statement.{statement}
 use Rattle.params.proofs.new.Tie as tie
 
-in-file-requires : tie.Need-in-file-requires
-in-file-requires c κs = search needs
-
 returns : tie.Need-returns
 returns c = rw (← c .before .in-file .ensures, c .if1 .taken) refl
 
@@ -13,4 +10,5 @@ returns-2 : tie.Need-returns-2
 returns-2 c = rw (← c .before .in-file .ensures, c .if1 .left) refl
 
 pub new-spec : {M : Type 1} → statement M
-new-spec = tie.close (tie.spec in-file-requires returns returns-2)
+new-spec = tie.close (tie.spec
+    (λ c κs. search needs) returns returns-2)

@@ -17,9 +17,6 @@ Inv-loop part start from i₀ solid₀ depth₀ i solid depth = (from ≤ solid)
 abbrev μ-loop : tie.MeasureT-loop
 μ-loop part start from i₀ solid₀ depth₀ i solid depth = length part - i
 
-within-requires : tie.Need-within-requires Inv-loop μ-loop
-within-requires c κs = search needs
-
 loop-holds : tie.Need-loop-holds Inv-loop μ-loop
 loop-holds c = let s = now (c .before .before .args .part) in
     let w = c .within .ensures in (
@@ -29,15 +26,6 @@ loop-holds c = let s = now (c .before .before .args .part) in
       omega arith,
       onward-starts s (c .before .before .args .start) (c .within .result) (ap (λ (k : ℕ). drop k s) w ∙ drop-within s (c .before .before .args .start)),
     )
-
-shared-slice-read-if1 : tie.Need-shared-slice-read-if1 Inv-loop μ-loop
-shared-slice-read-if1 c = search needs
-
-add-past-plain : tie.Need-add-past-plain Inv-loop μ-loop
-add-past-plain c = search needs
-
-past-plain-requires : tie.Need-past-plain-requires Inv-loop μ-loop
-past-plain-requires c κs = search needs
 
 loop-less : tie.Need-loop-less Inv-loop μ-loop
 loop-less c = let r = c .past-plain .ensures .0 in let n = c .past-plain .ensures .1 in omega (arith, r, n)
@@ -59,26 +47,17 @@ token-at-requires c κs = let l = c .before .before .before .loop in record {
   bounded = omega (arith, c .before .before .before .before .before .before .good .0 .1);
 }
 
-enum-told : tie.Need-enum-told Inv-loop μ-loop
-enum-told c = search needs
-
 returns : tie.Need-returns Inv-loop μ-loop
 returns c = let t = c .before .before in
     let l = t .before .before .before .before .loop in
     let k : Stepped (now (t .before .before .before .before .before .before .before .args .part)) (l .i) (l .solid) (l .depth) StepCode.the-variants.Comma = rw (c .enum-told .given .1) at (t .token-at .ensures) in
     (sym k ∙ l .inv .4, (omega (arith, t .before .before .before .before .before .within .ensures), omega arith, omega arith))
 
-enum-told-2 : tie.Need-enum-told-2 Inv-loop μ-loop
-enum-told-2 c = search needs
-
 returns-2 : tie.Need-returns-2 Inv-loop μ-loop
 returns-2 c = let t = c .before .before in
     let l = t .before .before .before .before .loop in
     let k : Stepped (now (t .before .before .before .before .before .before .before .args .part)) (l .i) (l .solid) (l .depth) StepCode.the-variants.Open = rw (c .enum-told2 .given .1) at (t .token-at .ensures) in
     (sym k ∙ l .inv .4, (omega (arith, t .before .before .before .before .before .within .ensures), omega arith))
-
-enum-known-j : tie.Need-enum-known-j Inv-loop μ-loop
-enum-known-j c = search needs
 
 loop-less-2 : tie.Need-loop-less-2 Inv-loop μ-loop
 loop-less-2 c = let t = c .before .before .before in
@@ -103,21 +82,5 @@ pub param-end-spec : {M : Type 1} → statement M
 param-end-spec =
     tie.close
     (tie.spec
-    Inv-loop
-    μ-loop
-    within-requires
-    loop-holds
-    shared-slice-read-if1
-    add-past-plain
-    past-plain-requires
-    loop-less
-    loop-again
-    token-at-requires
-    enum-told
-    returns
-    enum-told-2
-    returns-2
-    enum-known-j
-    loop-less-2
-    loop-again-2
-    returns-3)
+    Inv-loop μ-loop (λ c κs. search needs) loop-holds (λ c. search needs) (λ c. search needs) (λ c κs. search needs) loop-less loop-again
+    token-at-requires (λ c. search needs) returns (λ c. search needs) returns-2 (λ c. search needs) loop-less-2 loop-again-2 returns-3)

@@ -14,9 +14,6 @@ use native.Mathlib.Omega.{arith}
 use Rattle.params.proofs.param_span.Statement.{statement}
 use Rattle.params.proofs.param_span.Tie as tie
 
-in-file-requires : tie.Need-in-file-requires
-in-file-requires c κs = search needs
-
 returns : tie.Need-returns
 unfolding paramOf
 returns c = (rw (← c .before .in-file .ensures, not-true (c .before .in-file .result) (c .if1 .taken)) refl, tt)
@@ -40,15 +37,6 @@ returns-2 c = let t = c .before .before .before .before .before .before in
           (omega (arith, q .1 .1, length-take-le (t .args .at .end) (now (t .args .file)) (h .1))) (c .if2 .taken),
       tt,
     )
-
-param-end-requires : tie.Need-param-end-requires
-param-end-requires c κs = search needs
-
-enum-known-quote : tie.Need-enum-known-quote
-enum-known-quote c = search needs
-
-enum-known-stop : tie.Need-enum-known-stop
-enum-known-stop c = search needs
 
 past-comma-requires : tie.Need-past-comma-requires
 past-comma-requires c κs = let t = c .before .before .before .before .before .before .before .before .before .before in
@@ -96,14 +84,5 @@ pub param-span-spec : {M : Type 1} → statement M
 param-span-spec =
     tie.close
     (tie.spec
-    in-file-requires
-    returns
-    slice-aggregate-part
-    past-trivia-requires
-    returns-2
-    param-end-requires
-    enum-known-quote
-    enum-known-stop
-    past-comma-requires
-    returns-3
-    returns-4)
+    (λ c κs. search needs) returns slice-aggregate-part past-trivia-requires returns-2 (λ c κs. search needs) (λ c. search needs)
+    (λ c. search needs) past-comma-requires returns-3 returns-4)

@@ -7,20 +7,8 @@ use native.Mathlib.Omega.{arith}
 use Rattle.params.proofs.past_trivia.Statement.{statement}
 use Rattle.params.proofs.past_trivia.Tie as tie
 
-is-dark-requires : tie.Need-is-dark-requires
-is-dark-requires c κs = search needs
-
 returns : tie.Need-returns
 returns c = let (a, b) = c .before .is-dark .ensures (c .if1 .taken) in (sym b, (omega arith, omega (arith, a)))
-
-skip-trivia-requires : tie.Need-skip-trivia-requires
-skip-trivia-requires c κs = search needs
-
-enum-known-p : tie.Need-enum-known-p
-enum-known-p c = search needs
-
-enum-told : tie.Need-enum-told
-enum-told c = search needs
 
 returns-2 : tie.Need-returns-2
 returns-2 c = let t = c .before .before .before .before .before .before .before in
@@ -35,10 +23,4 @@ pub past-trivia-spec : {M : Type 1} → statement M
 past-trivia-spec =
     tie.close
     (tie.spec
-    is-dark-requires
-    returns
-    skip-trivia-requires
-    enum-known-p
-    enum-told
-    returns-2
-    returns-3)
+    (λ c κs. search needs) returns (λ c κs. search needs) (λ c. search needs) (λ c. search needs) returns-2 returns-3)

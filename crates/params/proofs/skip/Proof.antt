@@ -6,15 +6,6 @@ use mathlib.Core.Path.{_∙_, sym, ap}
 use Rattle.params.proofs.skip.Statement.{statement}
 use Rattle.params.proofs.skip.Tie as tie
 
-param-span-requires : tie.Need-param-span-requires
-param-span-requires c κs = search needs
-
-enum-known-to : tie.Need-enum-known-to
-enum-known-to c = search needs
-
-enum-known-f : tie.Need-enum-known-f
-enum-known-f c = search needs
-
 returns : tie.Need-returns
 unfolding skipOf
 returns c = ap (mapped (λ a. good tt)) (ap toldCut (sym (c .before .to .given .1)) ∙ c .before .before .before .param-span .ensures .0)
@@ -24,4 +15,5 @@ unfolding skipOf
 returns-2 c = ap (mapped (λ a. good tt)) (ap toldCut (sym (c .before .f .given .1)) ∙ c .before .before .before .param-span .ensures .0)
 
 pub skip-spec : {M : Type 1} → statement M
-skip-spec = tie.close (tie.spec param-span-requires enum-known-to enum-known-f returns returns-2)
+skip-spec = tie.close (tie.spec
+    (λ c κs. search needs) (λ c. search needs) (λ c. search needs) returns returns-2)

@@ -15,21 +15,9 @@ Inv-loop file n here₀ left₀ here left = skipFrom left file (here .place) (he
 abbrev μ-loop : tie.MeasureT-loop
 μ-loop file n here₀ left₀ here left = left
 
-in-file-requires : tie.Need-in-file-requires Inv-loop μ-loop
-in-file-requires c κs = search needs
-
 returns : tie.Need-returns Inv-loop μ-loop
 unfolding skipsOf
 returns c = rw (← c .before .in-file .ensures, not-true (c .before .in-file .result) (c .if1 .taken)) refl
-
-loop-holds : tie.Need-loop-holds Inv-loop μ-loop
-loop-holds c = refl
-
-skip-requires : tie.Need-skip-requires Inv-loop μ-loop
-skip-requires c κs = search needs
-
-enum-known-f : tie.Need-enum-known-f Inv-loop μ-loop
-enum-known-f c = search needs
 
 returns-2 : tie.Need-returns-2 Inv-loop μ-loop
 returns-2 c = let d = c .before .before .before in
@@ -37,15 +25,6 @@ returns-2 c = let d = c .before .before .before in
     let t = d .before .before .before .before .before .before in
     skip-stops (l .left) (now (t .args .file)) (l .here .place) (l .here .end) _ _ _ (omega arith) (ap toldSkipped (sym (c .before .f .given .1)) ∙ d .skip .ensures)
     ∙ l .inv ∙ skips-in (t .args .n) (now (t .args .file)) (t .args .at .place) (t .args .at .end) (sym (d .before .before .before .before .in-file .ensures) ∙ not-false _ (d .before .before .before .if1 .left))
-
-enum-known-to : tie.Need-enum-known-to Inv-loop μ-loop
-enum-known-to c = search needs
-
-sub-left : tie.Need-sub-left Inv-loop μ-loop
-sub-left c = search needs
-
-loop-less : tie.Need-loop-less Inv-loop μ-loop
-loop-less c = search needs
 
 loop-again : tie.Need-loop-again Inv-loop μ-loop
 loop-again c = let d = c .before .before .before in
@@ -63,16 +42,5 @@ pub skip-n-spec : {M : Type 1} → statement M
 skip-n-spec =
     tie.close
     (tie.spec
-    Inv-loop
-    μ-loop
-    in-file-requires
-    returns
-    loop-holds
-    skip-requires
-    enum-known-f
-    returns-2
-    enum-known-to
-    sub-left
-    loop-less
-    loop-again
-    returns-3)
+    Inv-loop μ-loop (λ c κs. search needs) returns (λ c. refl) (λ c κs. search needs) (λ c. search needs) returns-2 (λ c. search needs)
+    (λ c. search needs) (λ c. search needs) loop-again returns-3)

@@ -5,18 +5,6 @@ use denote.Ref.{now}
 use Rattle.params.proofs.text_step.Statement.{statement}
 use Rattle.params.proofs.text_step.Tie as tie
 
-add-string-end : tie.Need-add-string-end
-add-string-end c = search needs
-
-string-end-requires : tie.Need-string-end-requires
-string-end-requires c κs = search needs
-
-enum-known-j : tie.Need-enum-known-j
-enum-known-j c = search needs
-
-enum-told : tie.Need-enum-told
-enum-told c = search needs
-
 returns : tie.Need-returns
 returns c = let m = c .before .before in
     let t = m .before .before .before in
@@ -30,4 +18,5 @@ returns-2 c = let m = c .before in
 pub text-step-spec : {M : Type 1} → statement M
 text-step-spec =
     tie.close
-    (tie.spec add-string-end string-end-requires enum-known-j enum-told returns returns-2)
+    (tie.spec
+    (λ c. search needs) (λ c κs. search needs) (λ c. search needs) (λ c. search needs) returns returns-2)

@@ -13,9 +13,6 @@ shared-slice-read-b c = omega (arith, c .before .before .pre .place)
 comma-step-requires : tie.Need-comma-step-requires
 comma-step-requires c κs = record { standing = c .before .before .before .pre; byte = omega (arith, c .if1 .taken) }
 
-returns : tie.Need-returns
-returns c = search needs
-
 add-t9 : tie.Need-add-t9
 add-t9 c = omega (arith, c .before .before .before .before .pre .place, c .before .before .before .before .pre .bounded)
 
@@ -34,32 +31,17 @@ add-t12 c = omega (arith, c .before .before .before .before .before .pre .place,
 add-t13 : tie.Need-add-t13
 add-t13 c = omega (arith, c .before .before .before .before .before .pre .place, c .before .before .before .before .before .pre .bounded)
 
-lowered-requires : tie.Need-lowered-requires
-lowered-requires c κs = search needs
-
 returns-3 : tie.Need-returns-3
 returns-3 c = on-byte (now (c .before .before .before .before .before .before .args .part)) (c .before .before .before .before .before .before .args .i) (c .before .before .before .before .before .before .args .solid) (c .before .before .before .before .before .before .args .depth) (c .lowered .result) (c .before .before .before .before .before .before .pre) (step-closing (now (c .before .before .before .before .before .before .args .part)) (c .before .before .before .before .before .before .args .i) (c .before .before .before .before .before .before .args .solid) (c .before .before .before .before .before .before .args .depth) (c .before .before .before .before .before .before .pre .place) (c .before .if3 .taken) ∙ ap (onward (now (c .before .before .before .before .before .before .args .part)) (c .before .before .before .before .before .before .args .i + 1) (c .before .before .before .before .before .before .args .i + 1)) (sym (c .lowered .ensures))) (omega (arith, c .lowered .ensures))
 
 text-step-requires : tie.Need-text-step-requires
 text-step-requires c κs = record { standing = c .before .before .before .before .before .before .pre; byte = omega (arith, c .if4 .taken) }
 
-returns-4 : tie.Need-returns-4
-returns-4 c = search needs
-
 binary-step-requires : tie.Need-binary-step-requires
 binary-step-requires c κs = record { standing = c .before .before .before .before .before .before .before .pre; byte = omega (arith, c .if5 .taken) }
 
-returns-5 : tie.Need-returns-5
-returns-5 c = search needs
-
 slash-step-requires : tie.Need-slash-step-requires
 slash-step-requires c κs = record { standing = c .before .before .before .before .before .before .before .before .pre; byte = omega (arith, c .if6 .taken) }
-
-returns-6 : tie.Need-returns-6
-returns-6 c = search needs
-
-is-space-requires : tie.Need-is-space-requires
-is-space-requires c κs = search needs
 
 add-t16 : tie.Need-add-t16
 add-t16 c = omega (arith, c .before .before .before .before .before .before .before .before .before .before .pre .place, c .before .before .before .before .before .before .before .before .before .before .pre .bounded)
@@ -81,26 +63,6 @@ pub token-at-spec : {M : Type 1} → statement M
 token-at-spec =
     tie.close
     (tie.spec
-    shared-slice-read-b
-    comma-step-requires
-    returns
-    add-t9
-    add-t10
-    add-t11
-    returns-2
-    add-t12
-    add-t13
-    lowered-requires
-    returns-3
-    text-step-requires
-    returns-4
-    binary-step-requires
-    returns-5
-    slash-step-requires
-    returns-6
-    is-space-requires
-    add-t16
-    returns-7
-    add-t17
-    add-t18
-    returns-8)
+    shared-slice-read-b comma-step-requires (λ c. search needs) add-t9 add-t10 add-t11 returns-2 add-t12 add-t13 (λ c κs. search needs)
+    returns-3 text-step-requires (λ c. search needs) binary-step-requires (λ c. search needs) slash-step-requires (λ c. search needs)
+    (λ c κs. search needs) add-t16 returns-7 add-t17 add-t18 returns-8)

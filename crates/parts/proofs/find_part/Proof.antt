@@ -22,31 +22,16 @@ abbrev μ-loop : tie.MeasureT-loop
 loop-holds : tie.Need-loop-holds Inv-loop μ-loop
 loop-holds c = sift-starts (now (c .before .args .s)) (c .before .args .kind) (c .before .args .start) (c .before .args .end) (c .before .pre)
 
-next-part-requires : tie.Need-next-part-requires Inv-loop μ-loop
-next-part-requires c κs = tt
-
-enum-told : tie.Need-enum-told Inv-loop μ-loop
-enum-told c = search needs
-
 returns : tie.Need-returns Inv-loop μ-loop
 returns c = sift-over (now (c .before .before .before .before .before .args .s)) (c .before .before .before .before .before .args .kind) (c .before .before .before .before .before .args .start) (c .before .before .before .before .before .args .end) (c .before .before .before .loop .i) (c .before .before .before .loop .got) (c .before .before .before .loop .inv) (sym (c .before .before .next-part .ensures) ∙ ap toldNext (c .enum-told .given .1))
 
-enum-known-f : tie.Need-enum-known-f Inv-loop μ-loop
-enum-known-f c = search needs
-
 returns-2 : tie.Need-returns-2 Inv-loop μ-loop
 returns-2 c = sift-refused (now (c .before .before .before .before .before .before .args .s)) (c .before .before .before .before .before .before .args .kind) (c .before .before .before .before .before .before .args .start) (c .before .before .before .before .before .before .args .end) (c .before .before .before .before .loop .i) (c .before .before .before .before .loop .got) (c .before .before .before .before .loop .inv) _ (sym (c .before .before .before .next-part .ensures) ∙ ap toldNext (c .before .f .given .1))
-
-enum-known-p : tie.Need-enum-known-p Inv-loop μ-loop
-enum-known-p c = search needs
 
 part-is-requires : tie.Need-part-is-requires Inv-loop μ-loop
 part-is-requires c κs =
     let (a, b, d, e) = next-ahead (now (c .before .before .before .before .before .before .args .s)) (c .before .before .before .before .loop .i) (c .before .before .before .before .before .before .args .end) (headerRowOf (c .before .p .given .0 .0)) (sym (c .before .before .before .next-part .ensures) ∙ ap toldNext (c .before .p .given .1)) in
     (a, b)
-
-first-of-requires : tie.Need-first-of-requires Inv-loop μ-loop
-first-of-requires c κs = search needs
 
 add-i : tie.Need-add-i Inv-loop μ-loop
 add-i c =
@@ -68,17 +53,5 @@ pub find-part-spec : {M : Type 1} → statement M
 find-part-spec =
     tie.close
     (tie.spec
-    Inv-loop
-    μ-loop
-    loop-holds
-    next-part-requires
-    enum-told
-    returns
-    enum-known-f
-    returns-2
-    enum-known-p
-    part-is-requires
-    first-of-requires
-    add-i
-    loop-less
-    loop-again)
+    Inv-loop μ-loop loop-holds (λ c κs. tt) (λ c. search needs) returns (λ c. search needs) returns-2 (λ c. search needs) part-is-requires
+    (λ c κs. search needs) add-i loop-less loop-again)

@@ -24,20 +24,8 @@ loop-holds : tie.Need-loop-holds Inv-loop μ-loop
 unfolding past
 loop-holds c = (omega arith, refl)
 
-shared-slice-read-separates : tie.Need-shared-slice-read-separates Inv-loop μ-loop
-shared-slice-read-separates c = search needs
-
-separates-requires : tie.Need-separates-requires Inv-loop μ-loop
-separates-requires c κs = search needs
-
 returns : tie.Need-returns Inv-loop μ-loop
 returns c = (past-stops (now (c .before .before .before .before .before .before .args .t)) (c .before .before .before .before .loop .i) (omega arith) separator _ (sym (c .before .separates .ensures) ∙ not-true _ (c .if1 .taken)) (c .before .before .before .before .loop .inv .1), omega arith)
-
-add-i : tie.Need-add-i Inv-loop μ-loop
-add-i c = search needs
-
-loop-less : tie.Need-loop-less Inv-loop μ-loop
-loop-less c = search needs
 
 loop-again : tie.Need-loop-again Inv-loop μ-loop
 loop-again c = (omega arith, past-goes (now (c .before .before .before .before .before .before .args .t)) (c .before .before .before .before .loop .i) (omega arith) separator _ (sym (c .before .separates .ensures) ∙ not-false _ (c .if1 .left)) (c .before .before .before .before .loop .inv .1))
@@ -49,13 +37,5 @@ pub leading-spec : {M : Type 1} → statement M
 leading-spec =
     tie.close
     (tie.spec
-    Inv-loop
-    μ-loop
-    loop-holds
-    shared-slice-read-separates
-    separates-requires
-    returns
-    add-i
-    loop-less
-    loop-again
+    Inv-loop μ-loop loop-holds (λ c. search needs) (λ c κs. search needs) returns (λ c. search needs) (λ c. search needs) loop-again
     returns-2)

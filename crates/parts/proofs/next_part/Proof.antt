@@ -15,42 +15,6 @@ returns c = next-outside (now (c .before .before .args .s)) (c .before .before .
 returns-2 : tie.Need-returns-2
 returns-2 c = next-done (now (c .before .before .before .args .s)) (c .before .before .before .args .at) (c .before .before .before .args .end) (c .before .if1 .left) (c .if2 .taken)
 
-sub-t : tie.Need-sub-t
-sub-t c = search needs
-
-part-t-start : tie.Need-part-t-start
-part-t-start c = search needs
-
-part-t-end : tie.Need-part-t-end
-part-t-end c = search needs
-
-leading-requires : tie.Need-leading-requires
-leading-requires c κs = search needs
-
-sub-header-head : tie.Need-sub-header-head
-sub-header-head c = search needs
-
-part-header-head-start : tie.Need-part-header-head-start
-part-header-head-start c = search needs
-
-part-header-head-end : tie.Need-part-header-head-end
-part-header-head-end c = search needs
-
-header-head-requires : tie.Need-header-head-requires
-header-head-requires c κs = search needs
-
-enum-told : tie.Need-enum-told
-enum-told c = search needs
-
-enum-told-2 : tie.Need-enum-told-2
-enum-told-2 c = search needs
-
-enum-known-k : tie.Need-enum-known-k
-enum-known-k c = search needs
-
-add-part-at : tie.Need-add-part-at
-add-part-at c = search needs
-
 part-at-requires : tie.Need-part-at-requires
 part-at-requires c κs =
     let b = c .before .before .before .before .before .before .before .before .before .before .args in
@@ -74,21 +38,6 @@ pub next-part-spec : {M : Type 1} → statement M
 next-part-spec =
     tie.close
     (tie.spec
-    returns
-    returns-2
-    sub-t
-    part-t-start
-    part-t-end
-    leading-requires
-    sub-header-head
-    part-header-head-start
-    part-header-head-end
-    header-head-requires
-    enum-told
-    enum-told-2
-    enum-known-k
-    add-part-at
-    part-at-requires
-    returns-3
-    returns-4
-    returns-5)
+    returns returns-2 (λ c. search needs) (λ c. search needs) (λ c. search needs) (λ c κs. search needs) (λ c. search needs)
+    (λ c. search needs) (λ c. search needs) (λ c κs. search needs) (λ c. search needs) (λ c. search needs) (λ c. search needs)
+    (λ c. search needs) part-at-requires returns-3 returns-4 returns-5)

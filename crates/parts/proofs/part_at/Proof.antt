@@ -7,30 +7,6 @@ use mathlib.Core.Option.{some}
 use Rattle.parts.proofs.part_at.Statement.{statement}
 use Rattle.parts.proofs.part_at.Tie as tie
 
-add-matching-paren : tie.Need-add-matching-paren
-add-matching-paren c = search needs
-
-matching-paren-requires : tie.Need-matching-paren-requires
-matching-paren-requires c κs = search needs
-
-enum-known-f : tie.Need-enum-known-f
-enum-known-f c = search needs
-
-enum-known-close : tie.Need-enum-known-close
-enum-known-close c = search needs
-
-add-t13 : tie.Need-add-t13
-add-t13 c = search needs
-
-add-t14 : tie.Need-add-t14
-add-t14 c = search needs
-
-add-t13-2 : tie.Need-add-t13-2
-add-t13-2 c = search needs
-
-add-t14-2 : tie.Need-add-t14-2
-add-t14-2 c = search needs
-
 returns : tie.Need-returns
 returns c = ap (mapped _) (sym (ap toldFound (c .before .f .given .1)) ∙ c .before .before .before .matching-paren .ensures)
 
@@ -42,13 +18,5 @@ pub part-at-spec : {M : Type 1} → statement M
 part-at-spec =
     tie.close
     (tie.spec
-    add-matching-paren
-    matching-paren-requires
-    enum-known-f
-    enum-known-close
-    add-t13
-    add-t14
-    add-t13-2
-    add-t14-2
-    returns
-    returns-2)
+    (λ c. search needs) (λ c κs. search needs) (λ c. search needs) (λ c. search needs) (λ c. search needs) (λ c. search needs)
+    (λ c. search needs) (λ c. search needs) returns returns-2)

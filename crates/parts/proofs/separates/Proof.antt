@@ -5,11 +5,9 @@ use lib.Dec.{eqb}
 use Rattle.parts.proofs.separates.Statement.{statement}
 use Rattle.parts.proofs.separates.Tie as tie
 
-is-space-requires : tie.Need-is-space-requires
-is-space-requires c κs = search needs
-
 returns : tie.Need-returns
 returns c = ap (λ (t : Bool). t || eqb (c .before .args .b) 44) (c .is-space .ensures)
 
 pub separates-spec : {M : Type 1} → statement M
-separates-spec = tie.close (tie.spec is-space-requires returns)
+separates-spec = tie.close (tie.spec
+    (λ c κs. search needs) returns)

@@ -12,41 +12,20 @@ use Rattle.plain.proofs.put_ids.Tie as tie
 returns : tie.Need-returns
 returns c = rw (lt-leb _ _ (c .if1 .taken)) refl
 
-slice-write-out : tie.Need-slice-write-out
-slice-write-out c = search needs
-
-cast-out : tie.Need-cast-out
-cast-out c = search needs
-
 slice-write-out-2 : tie.Need-slice-write-out-2
 slice-write-out-2 c = simp length-set (omega arith)
-
-cast-out-2 : tie.Need-cast-out-2
-cast-out-2 c = search needs
 
 slice-write-out-3 : tie.Need-slice-write-out-3
 slice-write-out-3 c = simp length-set (omega arith)
 
-flags-of-requires : tie.Need-flags-of-requires
-flags-of-requires c κs = search needs
-
 slice-write-out-4 : tie.Need-slice-write-out-4
 slice-write-out-4 c = simp length-set (omega arith)
-
-bit-of-requires : tie.Need-bit-of-requires
-bit-of-requires c κs = search needs
 
 slice-write-out-5 : tie.Need-slice-write-out-5
 slice-write-out-5 c = simp length-set (omega arith)
 
-cast-out-3 : tie.Need-cast-out-3
-cast-out-3 c = search needs
-
 slice-write-out-6 : tie.Need-slice-write-out-6
 slice-write-out-6 c = simp length-set (omega arith)
-
-same-length : tie.Need-same-length
-same-length c = search needs
 
 returns-2 : tie.Need-returns-2
 returns-2 c =
@@ -58,17 +37,5 @@ pub put-ids-spec : {M : Type 1} → statement M
 put-ids-spec =
     tie.close
     (tie.spec
-    returns
-    slice-write-out
-    cast-out
-    slice-write-out-2
-    cast-out-2
-    slice-write-out-3
-    flags-of-requires
-    slice-write-out-4
-    bit-of-requires
-    slice-write-out-5
-    cast-out-3
-    slice-write-out-6
-    same-length
-    returns-2)
+    returns (λ c. search needs) (λ c. search needs) slice-write-out-2 (λ c. search needs) slice-write-out-3 (λ c κs. search needs)
+    slice-write-out-4 (λ c κs. search needs) slice-write-out-5 (λ c. search needs) slice-write-out-6 (λ c. search needs) returns-2)

@@ -14,23 +14,11 @@ use Rattle.plain.proofs.put_tables.Tie as tie
 returns : tie.Need-returns
 returns c = rw (lt-leb _ _ (c .if1 .taken)) refl
 
-put-ids-requires : tie.Need-put-ids-requires
-put-ids-requires c κs = search needs
-
-slice-write-out : tie.Need-slice-write-out
-slice-write-out c = search needs
-
 slice-write-out-2 : tie.Need-slice-write-out-2
 slice-write-out-2 c = simp length-set (omega arith)
 
-cast-out : tie.Need-cast-out
-cast-out c = search needs
-
 slice-write-out-3 : tie.Need-slice-write-out-3
 slice-write-out-3 c = simp length-set (omega arith)
-
-same-length : tie.Need-same-length
-same-length c = search needs
 
 returns-2 : tie.Need-returns-2
 returns-2 c =
@@ -44,11 +32,4 @@ pub put-tables-spec : {M : Type 1} → statement M
 put-tables-spec =
     tie.close
     (tie.spec
-    returns
-    put-ids-requires
-    slice-write-out
-    slice-write-out-2
-    cast-out
-    slice-write-out-3
-    same-length
-    returns-2)
+    returns (λ c κs. search needs) (λ c. search needs) slice-write-out-2 (λ c. search needs) slice-write-out-3 (λ c. search needs) returns-2)

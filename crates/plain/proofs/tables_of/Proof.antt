@@ -6,21 +6,6 @@ use borrow.Author.Needs.{needs}
 use Rattle.plain.proofs.tables_of.Statement.{statement}
 use Rattle.plain.proofs.tables_of.Tie as tie
 
-number-at-requires : tie.Need-number-at-requires
-number-at-requires c κs = search needs
-
-number-at-requires-2 : tie.Need-number-at-requires-2
-number-at-requires-2 c κs = search needs
-
-number-at-requires-3 : tie.Need-number-at-requires-3
-number-at-requires-3 c κs = search needs
-
-narrow-requires : tie.Need-narrow-requires
-narrow-requires c κs = search needs
-
-ids-of-requires : tie.Need-ids-of-requires
-ids-of-requires c κs = search needs
-
 returns : tie.Need-returns
 returns c =
     let n3 = c .before .before in
@@ -34,9 +19,4 @@ pub tables-of-spec : {M : Type 1} → statement M
 tables-of-spec =
     tie.close
     (tie.spec
-    number-at-requires
-    number-at-requires-2
-    number-at-requires-3
-    narrow-requires
-    ids-of-requires
-    returns)
+    (λ c κs. search needs) (λ c κs. search needs) (λ c κs. search needs) (λ c κs. search needs) (λ c κs. search needs) returns)

@@ -9,12 +9,6 @@ use Rattle.prefixes.specs.Prefix.{thousand}
 use Rattle.prefixes.proofs.length_factor.Statement.{statement}
 use Rattle.prefixes.proofs.length_factor.Tie as tie
 
-prefix-factor-requires : tie.Need-prefix-factor-requires
-prefix-factor-requires c κs = search needs
-
-times-requires : tie.Need-times-requires
-times-requires c κs = search needs
-
 returns : tie.Need-returns
 returns c =
     c .times .ensures
@@ -22,4 +16,5 @@ returns c =
     ∙ ap (λ (q : ℕ). product (near 1000 1) q) (c .before .prefix-factor .ensures)
 
 pub length-factor-spec : {M : Type 1} → statement M
-length-factor-spec = tie.close (tie.spec prefix-factor-requires times-requires returns)
+length-factor-spec = tie.close (tie.spec
+    (λ c κs. search needs) (λ c κs. search needs) returns)

@@ -12,9 +12,6 @@ use Rattle.prefixes.specs.Rules.{tenUp, tenDown, prefixes, unity}
 use Rattle.prefixes.proofs.prefix_factor.Statement.{statement}
 use Rattle.prefixes.proofs.prefix_factor.Tie as tie
 
-prefix-row-requires : tie.Need-prefix-row-requires
-prefix-row-requires c κs = search needs
-
 mul-result : tie.Need-mul-result
 mul-result c =
     let e = c .prefix-row .ensures in
@@ -36,4 +33,5 @@ returns c =
     subst (λ (j : ℕ). toBits binary64 (getD factors k nan) ≡ near (tenUp (getD prefixes j unity)) (tenDown (getD prefixes j unity))) e (factor-at k l)
 
 pub prefix-factor-spec : {M : Type 1} → statement M
-prefix-factor-spec = tie.close (tie.spec prefix-row-requires mul-result array-read-result returns)
+prefix-factor-spec = tie.close (tie.spec
+    (λ c κs. search needs) mul-result array-read-result returns)

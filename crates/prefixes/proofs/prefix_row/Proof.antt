@@ -18,21 +18,6 @@ abbrev μ-loop : tie.MeasureT-loop
 loop-holds : tie.Need-loop-holds Inv-loop μ-loop
 loop-holds c = (omega arith, omega arith)
 
-mul-a : tie.Need-mul-a Inv-loop μ-loop
-mul-a c = search needs
-
-array-read-a : tie.Need-array-read-a Inv-loop μ-loop
-array-read-a c = search needs
-
-add-e : tie.Need-add-e Inv-loop μ-loop
-add-e c = search needs
-
-mul-e : tie.Need-mul-e Inv-loop μ-loop
-mul-e c = search needs
-
-array-read-e : tie.Need-array-read-e Inv-loop μ-loop
-array-read-e c = search needs
-
 sub-is-word : tie.Need-sub-is-word Inv-loop μ-loop
 sub-is-word c = order-at (c .before .loop .k) (c .loop-test .taken)
 
@@ -42,9 +27,6 @@ part-is-word-start c = order-at (c .before .before .loop .k) (c .before .loop-te
 part-is-word-end : tie.Need-part-is-word-end Inv-loop μ-loop
 part-is-word-end c = within-at (c .before .before .loop .k) (c .before .loop-test .taken)
 
-is-word-requires : tie.Need-is-word-requires Inv-loop μ-loop
-is-word-requires c κs = search needs
-
 returns : tie.Need-returns Inv-loop μ-loop
 returns c =
     let w = c .before in
@@ -52,12 +34,6 @@ returns c =
     let l = t .before in
     let name = now (l .before .before .args .name) in
     search-finds name (l .loop .k) (t .loop-test .taken) (sym (word-at name (l .loop .k) (t .loop-test .taken)) ∙ sym (w .is-word .ensures) ∙ c .if1 .taken) (l .loop .inv)
-
-add-k : tie.Need-add-k Inv-loop μ-loop
-add-k c = search needs
-
-loop-less : tie.Need-loop-less Inv-loop μ-loop
-loop-less c = search needs
 
 loop-again : tie.Need-loop-again Inv-loop μ-loop
 loop-again c =
@@ -74,20 +50,6 @@ pub prefix-row-spec : {M : Type 1} → statement M
 prefix-row-spec =
     tie.close
     (tie.spec
-    Inv-loop
-    μ-loop
-    loop-holds
-    mul-a
-    array-read-a
-    add-e
-    mul-e
-    array-read-e
-    sub-is-word
-    part-is-word-start
-    part-is-word-end
-    is-word-requires
-    returns
-    add-k
-    loop-less
-    loop-again
+    Inv-loop μ-loop loop-holds (λ c. search needs) (λ c. search needs) (λ c. search needs) (λ c. search needs) (λ c. search needs)
+    sub-is-word part-is-word-start part-is-word-end (λ c κs. search needs) returns (λ c. search needs) (λ c. search needs) loop-again
     returns-2)

@@ -7,9 +7,6 @@ use borrow.Author.Tests.{lt-ltb, le-ltb}
 use Rattle.reals.proofs.above_zero.Statement.{statement}
 use Rattle.reals.proofs.above_zero.Tie as tie
 
-cast-t3 : tie.Need-cast-t3
-cast-t3 c = search needs
-
 returns : tie.Need-returns
 returns c =
     let n = c .before .args .n in
@@ -23,4 +20,5 @@ returns-2 c =
     rw (le-ltb n (2 ^ 63) h) refl
 
 pub above-zero-spec : {M : Type 1} → statement M
-above-zero-spec = tie.close (tie.spec cast-t3 returns returns-2)
+above-zero-spec = tie.close (tie.spec
+    (λ c. search needs) returns returns-2)

@@ -13,12 +13,6 @@ use Rattle.long.specs.DigitsRight.{number-lt, digits-le}
 use Rattle.reals.proofs.any_real.Statement.{statement}
 use Rattle.reals.proofs.any_real.Tie as tie
 
-scale-of-requires : tie.Need-scale-of-requires
-scale-of-requires c κs = search needs
-
-by-wide-requires : tie.Need-by-wide-requires
-by-wide-requires c κs = search needs
-
 returns : tie.Need-returns
 returns c =
     let s = c .before .before in
@@ -33,9 +27,6 @@ returns c =
     ∙ ap (λ (n : ℕ). signed (a .neg) (nearBy (s .scale-of .result .down) n (s .scale-of .result .size))) m
     ∙ ap (signed (a .neg)) (s .scale-of .ensures (numberIn 0 t) X (digitsIn t) (number-lt t) (omega arith) e)
 
-decimal-requires : tie.Need-decimal-requires
-decimal-requires c κs = search needs
-
 returns-2 : tie.Need-returns-2
 returns-2 c =
     let s = c .before .before in
@@ -47,4 +38,5 @@ returns-2 c =
 
 pub any-real-spec : {M : Type 1} → statement M
 any-real-spec =
-    tie.close (tie.spec scale-of-requires by-wide-requires returns decimal-requires returns-2)
+    tie.close (tie.spec
+    (λ c κs. search needs) (λ c κs. search needs) returns (λ c κs. search needs) returns-2)

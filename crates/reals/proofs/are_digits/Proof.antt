@@ -4,22 +4,11 @@ use borrow.Author.Needs.{needs}
 use Rattle.reals.proofs.are_digits.Statement.{statement}
 use Rattle.reals.proofs.are_digits.Tie as tie
 
-is-digit-requires : tie.Need-is-digit-requires
-is-digit-requires c κs = search needs
-
-is-digit-requires-2 : tie.Need-is-digit-requires-2
-is-digit-requires-2 c κs = search needs
-
-is-digit-requires-3 : tie.Need-is-digit-requires-3
-is-digit-requires-3 c κs = search needs
-
-is-digit-requires-4 : tie.Need-is-digit-requires-4
-is-digit-requires-4 c κs = search needs
-
 returns : tie.Need-returns
 returns c = rw (c .before .before .before .is-digit .ensures, c .before .before .is-digit2 .ensures, c .before .is-digit3 .ensures, c .is-digit4 .ensures) refl
 
 pub are-digits-spec : {M : Type 1} → statement M
 are-digits-spec =
     tie.close
-    (tie.spec is-digit-requires is-digit-requires-2 is-digit-requires-3 is-digit-requires-4 returns)
+    (tie.spec
+    (λ c κs. search needs) (λ c κs. search needs) (λ c κs. search needs) (λ c κs. search needs) returns)

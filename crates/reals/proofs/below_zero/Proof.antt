@@ -41,12 +41,6 @@ returns c = go (c .before .args .n) (c .if1 .taken)
     go : (n : ℕ) → n ≡ 0 → read (pos 0) ≡ ranged true n
     go n e = rw e refl
 
-sub-t3 : tie.Need-sub-t3
-sub-t3 c = search needs
-
-cast-t4 : tie.Need-cast-t4
-cast-t4 c = search needs
-
 sub-t5 : tie.Need-sub-t5
 sub-t5 c =
     let n = c .before .before .args .n in
@@ -67,4 +61,5 @@ returns-3 c =
     rw (lt-leb n (2 ^ 63) h) refl
 
 pub below-zero-spec : {M : Type 1} → statement M
-below-zero-spec = tie.close (tie.spec returns sub-t3 cast-t4 sub-t5 returns-2 returns-3)
+below-zero-spec = tie.close (tie.spec
+    returns (λ c. search needs) (λ c. search needs) sub-t5 returns-2 returns-3)

@@ -7,16 +7,10 @@ use Rattle.nearest.specs.Power.{nearBy}
 use Rattle.reals.proofs.by_wide.Statement.{statement}
 use Rattle.reals.proofs.by_wide.Tie as tie
 
-lowered-requires : tie.Need-lowered-requires
-lowered-requires c κs = search needs
-
 returns : tie.Need-returns
 returns c =
     let a = c .before .before .args in
     c .lowered .ensures ∙ ap (λ (d : Bool). signed (a .neg) (nearBy d (a .m) (a .k))) (sym (c .before .if1 .taken))
-
-raised-requires : tie.Need-raised-requires
-raised-requires c κs = search needs
 
 returns-2 : tie.Need-returns-2
 returns-2 c =
@@ -24,4 +18,5 @@ returns-2 c =
     c .raised .ensures ∙ ap (λ (d : Bool). signed (a .neg) (nearBy d (a .m) (a .k))) (sym (c .before .if1 .left))
 
 pub by-wide-spec : {M : Type 1} → statement M
-by-wide-spec = tie.close (tie.spec lowered-requires returns raised-requires returns-2)
+by-wide-spec = tie.close (tie.spec
+    (λ c κs. search needs) returns (λ c κs. search needs) returns-2)

@@ -20,12 +20,6 @@ abbrev μ-loop : tie.MeasureT-loop
 loop-holds : tie.Need-loop-holds Inv-loop μ-loop
 loop-holds c = let a = c .before .args in reading-starts (now (a .t)) (a .at) (a .from) (a .cap) (c .before .pre .0) (c .before .pre .1)
 
-shared-slice-read-c : tie.Need-shared-slice-read-c Inv-loop μ-loop
-shared-slice-read-c c = search needs
-
-is-digit-requires : tie.Need-is-digit-requires Inv-loop μ-loop
-is-digit-requires c κs = search needs
-
 returns : tie.Need-returns Inv-loop μ-loop
 returns c =
     let l = c .before .before .before .before in
@@ -37,12 +31,6 @@ with-digit-requires c κs =
     let l = c .before .before .before .before in
     let k = bounds 48 (getD (now (l .before .before .args .t)) (l .loop .i) 0) 57 (sym (c .before .is-digit .ensures) ∙ not-false _ (c .if1 .left)) in
     (k .0, k .1, l .loop .inv .held)
-
-add-i : tie.Need-add-i Inv-loop μ-loop
-add-i c = search needs
-
-loop-less : tie.Need-loop-less Inv-loop μ-loop
-loop-less c = search needs
 
 loop-again : tie.Need-loop-again Inv-loop μ-loop
 loop-again c =
@@ -60,14 +48,5 @@ pub digits-from-spec : {M : Type 1} → statement M
 digits-from-spec =
     tie.close
     (tie.spec
-    Inv-loop
-    μ-loop
-    loop-holds
-    shared-slice-read-c
-    is-digit-requires
-    returns
-    with-digit-requires
-    add-i
-    loop-less
-    loop-again
-    returns-2)
+    Inv-loop μ-loop loop-holds (λ c. search needs) (λ c κs. search needs) returns with-digit-requires (λ c. search needs)
+    (λ c. search needs) loop-again returns-2)

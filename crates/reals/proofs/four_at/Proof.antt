@@ -25,30 +25,6 @@ told t i e =
 low : (t : List ℕ) (i : ℕ) → digit (getD t i 0) ≡ true → 48 ≤ getD t i 0
 low t i e = bounds 48 (getD t i 0) 57 e .0
 
-shared-slice-read-a : tie.Need-shared-slice-read-a
-shared-slice-read-a c = search needs
-
-add-b : tie.Need-add-b
-add-b c = search needs
-
-shared-slice-read-b : tie.Need-shared-slice-read-b
-shared-slice-read-b c = search needs
-
-add-c : tie.Need-add-c
-add-c c = search needs
-
-shared-slice-read-c : tie.Need-shared-slice-read-c
-shared-slice-read-c c = search needs
-
-add-d : tie.Need-add-d
-add-d c = search needs
-
-shared-slice-read-d : tie.Need-shared-slice-read-d
-shared-slice-read-d c = search needs
-
-are-digits-requires : tie.Need-are-digits-requires
-are-digits-requires c κs = search needs
-
 four-value-requires : tie.Need-four-value-requires
 four-value-requires c κs =
     let a = c .before .before .before .before .before .before .before .args in
@@ -70,14 +46,5 @@ pub four-at-spec : {M : Type 1} → statement M
 four-at-spec =
     tie.close
     (tie.spec
-    shared-slice-read-a
-    add-b
-    shared-slice-read-b
-    add-c
-    shared-slice-read-c
-    add-d
-    shared-slice-read-d
-    are-digits-requires
-    four-value-requires
-    returns
-    returns-2)
+    (λ c. search needs) (λ c. search needs) (λ c. search needs) (λ c. search needs) (λ c. search needs) (λ c. search needs)
+    (λ c. search needs) (λ c κs. search needs) four-value-requires returns returns-2)

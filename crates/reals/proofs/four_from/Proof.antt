@@ -6,18 +6,6 @@ use Rattle.reals.specs.Parts.{reading-starts, reading-digits}
 use Rattle.reals.proofs.four_from.Statement.{statement}
 use Rattle.reals.proofs.four_from.Tie as tie
 
-sub-if1 : tie.Need-sub-if1
-sub-if1 c = search needs
-
-four-at-requires : tie.Need-four-at-requires
-four-at-requires c κs = search needs
-
-with-digits-requires : tie.Need-with-digits-requires
-with-digits-requires c κs = search needs
-
-add-t11 : tie.Need-add-t11
-add-t11 c = search needs
-
 returns : tie.Need-returns
 returns c =
     let f = c .before .before in
@@ -40,4 +28,5 @@ returns-3 c =
 pub four-from-spec : {M : Type 1} → statement M
 four-from-spec =
     tie.close
-    (tie.spec sub-if1 four-at-requires with-digits-requires add-t11 returns returns-2 returns-3)
+    (tie.spec
+    (λ c. search needs) (λ c κs. search needs) (λ c κs. search needs) (λ c. search needs) returns returns-2 returns-3)

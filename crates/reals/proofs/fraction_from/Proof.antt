@@ -8,21 +8,6 @@ use Rattle.reals.specs.Parts.{decimal-pointed, decimal-whole, decimal-en
 use Rattle.reals.proofs.fraction_from.Statement.{statement}
 use Rattle.reals.proofs.fraction_from.Tie as tie
 
-shared-slice-read-if2 : tie.Need-shared-slice-read-if2
-shared-slice-read-if2 c = search needs
-
-add-many-digits-from : tie.Need-add-many-digits-from
-add-many-digits-from c = search needs
-
-many-digits-from-requires : tie.Need-many-digits-from-requires
-many-digits-from-requires c κs = search needs
-
-add-t10 : tie.Need-add-t10
-add-t10 c = search needs
-
-sub-t11 : tie.Need-sub-t11
-sub-t11 c = search needs
-
 returns : tie.Need-returns
 returns c =
     let b = c .before .before in
@@ -41,11 +26,4 @@ pub fraction-from-spec : {M : Type 1} → statement M
 fraction-from-spec =
     tie.close
     (tie.spec
-    shared-slice-read-if2
-    add-many-digits-from
-    many-digits-from-requires
-    add-t10
-    sub-t11
-    returns
-    returns-2
-    returns-3)
+    (λ c. search needs) (λ c. search needs) (λ c κs. search needs) (λ c. search needs) (λ c. search needs) returns returns-2 returns-3)

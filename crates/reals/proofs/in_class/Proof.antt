@@ -14,12 +14,6 @@ returns c =
     let a = c .before .args in
     λ M X e f. out-long (a .neg) (a .m) (a .f) (a .x) M X e f (a .down) (omega arith)
 
-add-lowered : tie.Need-add-lowered
-add-lowered c = search needs
-
-lowered-requires : tie.Need-lowered-requires
-lowered-requires c κs = search needs
-
 returns-2 : tie.Need-returns-2
 returns-2 c =
     let i = c .before .before .before in
@@ -44,9 +38,6 @@ returns-4 c =
     out-down (a .neg) (a .m) (a .f) (a .x) M X e f (omega arith)
     ∙ ap (λ (d : Bool). classOf (parsed (a .neg) M (a .f) d X)) (sym (i .if2 .taken))
 
-raised-requires : tie.Need-raised-requires
-raised-requires c κs = search needs
-
 returns-5 : tie.Need-returns-5
 returns-5 c =
     let i = c .before .before .before in
@@ -62,15 +53,6 @@ returns-6 c =
     λ M X e f.
     out-up (a .neg) (a .m) (a .f) (a .x) M X e f (omega arith) (omega arith)
     ∙ ap (λ (d : Bool). classOf (parsed (a .neg) M (a .f) d X)) (sym (i .if2 .left))
-
-sub-if7 : tie.Need-sub-if7
-sub-if7 c = search needs
-
-sub-lowered : tie.Need-sub-lowered
-sub-lowered c = search needs
-
-lowered-requires-2 : tie.Need-lowered-requires-2
-lowered-requires-2 c κs = search needs
 
 returns-7 : tie.Need-returns-7
 returns-7 c =
@@ -92,17 +74,5 @@ pub in-class-spec : {M : Type 1} → statement M
 in-class-spec =
     tie.close
     (tie.spec
-    returns
-    add-lowered
-    lowered-requires
-    returns-2
-    returns-3
-    returns-4
-    raised-requires
-    returns-5
-    returns-6
-    sub-if7
-    sub-lowered
-    lowered-requires-2
-    returns-7
-    returns-8)
+    returns (λ c. search needs) (λ c κs. search needs) returns-2 returns-3 returns-4 (λ c κs. search needs) returns-5 returns-6
+    (λ c. search needs) (λ c. search needs) (λ c κs. search needs) returns-7 returns-8)

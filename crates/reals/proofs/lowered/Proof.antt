@@ -23,9 +23,6 @@ power-of-ten-requires c κs =
     let h : a .k ≤ 22 = leb-true (a .k) 22 (both (leb (a .m) (2 ^ 53)) (leb (a .k) 22) (c .before .if1 .taken) .1) in
     omega arith
 
-over-requires : tie.Need-over-requires
-over-requires c κs = search needs
-
 returns : tie.Need-returns
 returns c =
     let p = c .before in
@@ -34,11 +31,9 @@ returns c =
     c .over .ensures
     ∙ quotient-exact (toBits binary64 (e .exact .result)) (toBits binary64 (p .power-of-ten .result)) (a .neg) (a .m) (10 ^ a .k) (one-le-pow (a .k) 10 (omega arith)) (e .exact .ensures) (p .power-of-ten .ensures)
 
-by-wide-requires : tie.Need-by-wide-requires
-by-wide-requires c κs = search needs
-
 returns-2 : tie.Need-returns-2
 returns-2 c = c .by-wide .ensures
 
 pub lowered-spec : {M : Type 1} → statement M
-lowered-spec = tie.close (tie.spec exact-requires power-of-ten-requires over-requires returns by-wide-requires returns-2)
+lowered-spec = tie.close (tie.spec
+    exact-requires power-of-ten-requires (λ c κs. search needs) returns (λ c κs. search needs) returns-2)

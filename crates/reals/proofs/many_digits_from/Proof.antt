@@ -5,9 +5,6 @@ use Rattle.reals.specs.Parts.{reading-then}
 use Rattle.reals.proofs.many_digits_from.Statement.{statement}
 use Rattle.reals.proofs.many_digits_from.Tie as tie
 
-eight-from-requires : tie.Need-eight-from-requires
-eight-from-requires c κs = search needs
-
 eight-from-requires-2 : tie.Need-eight-from-requires-2
 eight-from-requires-2 c κs = (c .eight-from .ensures .within, c .eight-from .ensures .held)
 
@@ -29,4 +26,5 @@ returns c =
     reading-then t (a .at) (a .from) (a .cap) (d .eight-from .result .value) (d .eight-from .result .next) (c .digits-from .result) (d .eight-from .ensures) s
 
 pub many-digits-from-spec : {M : Type 1} → statement M
-many-digits-from-spec = tie.close (tie.spec eight-from-requires eight-from-requires-2 four-from-requires digits-from-requires returns)
+many-digits-from-spec = tie.close (tie.spec
+    (λ c κs. search needs) eight-from-requires-2 four-from-requires digits-from-requires returns)

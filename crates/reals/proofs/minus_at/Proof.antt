@@ -6,9 +6,6 @@ use Rattle.reals.specs.Parts.{minus-here, minus-none}
 use Rattle.reals.proofs.minus_at.Statement.{statement}
 use Rattle.reals.proofs.minus_at.Tie as tie
 
-shared-slice-read-result : tie.Need-shared-slice-read-result
-shared-slice-read-result c = search needs
-
 returns : tie.Need-returns
 returns c = let a = c .before .before .args in minus-here (now (a .t)) (a .at) (omega arith)
 
@@ -16,4 +13,5 @@ returns-2 : tie.Need-returns-2
 returns-2 c = let a = c .before .args in minus-none (now (a .t)) (a .at) (omega arith)
 
 pub minus-at-spec : {M : Type 1} → statement M
-minus-at-spec = tie.close (tie.spec shared-slice-read-result returns returns-2)
+minus-at-spec = tie.close (tie.spec
+    (λ c. search needs) returns returns-2)

@@ -3,11 +3,9 @@ use borrow.Author.Needs.{needs}
 use Rattle.reals.proofs.parse_real.Statement.{statement}
 use Rattle.reals.proofs.parse_real.Tie as tie
 
-read-real-requires : tie.Need-read-real-requires
-read-real-requires c κs = search needs
-
 returns : tie.Need-returns
 returns c = c .read-real .ensures
 
 pub parse-real-spec : {M : Type 1} → statement M
-parse-real-spec = tie.close (tie.spec read-real-requires returns)
+parse-real-spec = tie.close (tie.spec
+    (λ c κs. search needs) returns)

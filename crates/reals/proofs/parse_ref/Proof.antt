@@ -9,29 +9,14 @@ use Rattle.reals.proofs.parse_ref.Tie as tie
 returns : tie.Need-returns
 returns c = reference-none (now (c .before .before .args .t)) (omega arith)
 
-shared-slice-read-if2 : tie.Need-shared-slice-read-if2
-shared-slice-read-if2 c = search needs
-
 returns-2 : tie.Need-returns-2
 returns-2 c = reference-other (now (c .before .before .before .before .args .t)) (omega arith) (c .if2 .taken)
-
-plain-from-requires : tie.Need-plain-from-requires
-plain-from-requires c κs = search needs
-
-enum-known-n : tie.Need-enum-known-n
-enum-known-n c = search needs
-
-enum-told : tie.Need-enum-told
-enum-told c = search needs
 
 returns-3 : tie.Need-returns-3
 returns-3 c =
     let p = c .before .before in
     let i = p .before in
     reference-bad (now (i .before .before .before .before .args .t)) (omega arith) (i .if2 .left) (rw (c .enum-told .given .1) at (p .plain-from .ensures))
-
-cast-t8 : tie.Need-cast-t8
-cast-t8 c = search needs
 
 returns-4 : tie.Need-returns-4
 returns-4 c =
@@ -51,13 +36,5 @@ pub parse-ref-spec : {M : Type 1} → statement M
 parse-ref-spec =
     tie.close
     (tie.spec
-    returns
-    shared-slice-read-if2
-    returns-2
-    plain-from-requires
-    enum-known-n
-    enum-told
-    returns-3
-    cast-t8
-    returns-4
-    returns-5)
+    returns (λ c. search needs) returns-2 (λ c κs. search needs) (λ c. search needs) (λ c. search needs) returns-3 (λ c. search needs)
+    returns-4 returns-5)

@@ -6,12 +6,6 @@ use Rattle.reals.specs.Parts.{sign-passed, sign-none, sign-end}
 use Rattle.reals.proofs.past_sign.Statement.{statement}
 use Rattle.reals.proofs.past_sign.Tie as tie
 
-shared-slice-read-c : tie.Need-shared-slice-read-c
-shared-slice-read-c c = search needs
-
-add-result : tie.Need-add-result
-add-result c = search needs
-
 returns : tie.Need-returns
 returns c = let a = c .before .before .before .args in (sign-passed (now (a .t)) (a .at) (omega arith) (c .if2 .taken), omega arith, omega arith)
 
@@ -22,4 +16,5 @@ returns-3 : tie.Need-returns-3
 returns-3 c = let a = c .before .args in (sign-end (now (a .t)) (a .at) (omega arith), omega arith, omega arith)
 
 pub past-sign-spec : {M : Type 1} → statement M
-past-sign-spec = tie.close (tie.spec shared-slice-read-c add-result returns returns-2 returns-3)
+past-sign-spec = tie.close (tie.spec
+    (λ c. search needs) (λ c. search needs) returns returns-2 returns-3)

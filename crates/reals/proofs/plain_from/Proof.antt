@@ -7,9 +7,6 @@ use Rattle.reals.specs.Parts.{plain-read, plain-other, both}
 use Rattle.reals.proofs.plain_from.Statement.{statement}
 use Rattle.reals.proofs.plain_from.Tie as tie
 
-digits-from-requires : tie.Need-digits-from-requires
-digits-from-requires c κs = search needs
-
 returns : tie.Need-returns
 returns c =
     let d = c .before .before in
@@ -24,4 +21,5 @@ returns-2 c =
     plain-other (now (a .t)) (a .at) (a .cap) (d .digits-from .result) (d .digits-from .ensures) (c .if1 .left)
 
 pub plain-from-spec : {M : Type 1} → statement M
-plain-from-spec = tie.close (tie.spec digits-from-requires returns returns-2)
+plain-from-spec = tie.close (tie.spec
+    (λ c κs. search needs) returns returns-2)

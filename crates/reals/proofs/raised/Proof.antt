@@ -22,9 +22,6 @@ power-of-ten-requires c κs =
     let h : a .k ≤ 22 = leb-true (a .k) 22 (both (leb (a .m) (2 ^ 53)) (leb (a .k) 22) (c .before .if1 .taken) .1) in
     omega arith
 
-times-requires : tie.Need-times-requires
-times-requires c κs = search needs
-
 returns : tie.Need-returns
 returns c =
     let p = c .before in
@@ -33,11 +30,9 @@ returns c =
     c .times .ensures
     ∙ product-exact (toBits binary64 (e .exact .result)) (toBits binary64 (p .power-of-ten .result)) (a .neg) (a .m) (10 ^ a .k) (e .exact .ensures) (p .power-of-ten .ensures)
 
-by-wide-requires : tie.Need-by-wide-requires
-by-wide-requires c κs = search needs
-
 returns-2 : tie.Need-returns-2
 returns-2 c = c .by-wide .ensures
 
 pub raised-spec : {M : Type 1} → statement M
-raised-spec = tie.close (tie.spec exact-requires power-of-ten-requires times-requires returns by-wide-requires returns-2)
+raised-spec = tie.close (tie.spec
+    exact-requires power-of-ten-requires (λ c κs. search needs) returns (λ c κs. search needs) returns-2)

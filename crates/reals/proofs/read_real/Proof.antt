@@ -9,15 +9,6 @@ use Rattle.reals.specs.Read.{no-digit, bad-tens, good-class, good-any, m
 use Rattle.reals.proofs.read_real.Statement.{statement}
 use Rattle.reals.proofs.read_real.Tie as tie
 
-minus-at-requires : tie.Need-minus-at-requires
-minus-at-requires c κs = search needs
-
-past-sign-requires : tie.Need-past-sign-requires
-past-sign-requires c κs = search needs
-
-digits-from-requires : tie.Need-digits-from-requires
-digits-from-requires c κs = search needs
-
 fraction-from-requires : tie.Need-fraction-from-requires
 fraction-from-requires c κs = let v = c .digits-from .ensures .value 0 refl in (c .digits-from .ensures .within, omega arith)
 
@@ -32,15 +23,6 @@ returns c =
     let s = w .before in
     no-digit (now (s .before .before .before .args .t)) (s .past-sign .result) (s .past-sign .ensures .0) (s .past-sign .ensures .1) (w .digits-from .result) (w .digits-from .ensures) (f .fraction-from .result) (f .fraction-from .ensures) (s .before .before .before .args .which) (c .if1 .taken)
 
-tens-from-requires : tie.Need-tens-from-requires
-tens-from-requires c κs = search needs
-
-enum-known-down : tie.Need-enum-known-down
-enum-known-down c = search needs
-
-enum-told : tie.Need-enum-told
-enum-told c = search needs
-
 returns-2 : tie.Need-returns-2
 returns-2 c =
     let i = c .before .before .before in
@@ -49,26 +31,11 @@ returns-2 c =
     let s = w .before in
     bad-tens (now (s .before .before .before .args .t)) (s .past-sign .result) (s .past-sign .ensures .0) (s .past-sign .ensures .1) (w .digits-from .result) (w .digits-from .ensures) (f .fraction-from .result) (f .fraction-from .ensures) (s .before .before .before .args .which) (i .if1 .left) (rw (c .enum-told .given .1) at (c .before .before .tens-from .ensures))
 
-enum-told-2 : tie.Need-enum-told-2
-enum-told-2 c = search needs
-
 in-class-requires : tie.Need-in-class-requires
 in-class-requires c κs =
     let f = c .before .before .before .before .before .before .before .before in
     let v = f .fraction-from .ensures .value _ (f .before .digits-from .ensures .value 0 refl) in
     (omega (arith, v), short f)
-
-enum-told-3 : tie.Need-enum-told-3
-enum-told-3 c = search needs
-
-sub-any-real : tie.Need-sub-any-real
-sub-any-real c = search needs
-
-part-any-real-start : tie.Need-part-any-real-start
-part-any-real-start c = search needs
-
-part-any-real-end : tie.Need-part-any-real-end
-part-any-real-end c = search needs
 
 any-real-requires : tie.Need-any-real-requires
 any-real-requires c κs =
@@ -101,21 +68,6 @@ pub read-real-spec : {M : Type 1} → statement M
 read-real-spec =
     tie.close
     (tie.spec
-    minus-at-requires
-    past-sign-requires
-    digits-from-requires
-    fraction-from-requires
-    returns
-    tens-from-requires
-    enum-known-down
-    enum-told
-    returns-2
-    enum-told-2
-    in-class-requires
-    enum-told-3
-    sub-any-real
-    part-any-real-start
-    part-any-real-end
-    any-real-requires
-    returns-3
-    returns-4)
+    (λ c κs. search needs) (λ c κs. search needs) (λ c κs. search needs) fraction-from-requires returns (λ c κs. search needs)
+    (λ c. search needs) (λ c. search needs) returns-2 (λ c. search needs) in-class-requires (λ c. search needs) (λ c. search needs)
+    (λ c. search needs) (λ c. search needs) any-real-requires returns-3 returns-4)

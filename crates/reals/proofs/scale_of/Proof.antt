@@ -8,12 +8,6 @@ use Rattle.reals.specs.Any.{down-held, down-far, up-held, mid-held}
 use Rattle.reals.proofs.scale_of.Statement.{statement}
 use Rattle.reals.proofs.scale_of.Tie as tie
 
-sub-if2 : tie.Need-sub-if2
-sub-if2 c = search needs
-
-add-t8 : tie.Need-add-t8
-add-t8 c = search needs
-
 returns : tie.Need-returns
 returns c =
     let i = c .before in
@@ -29,9 +23,6 @@ returns-2 c =
     λ M X n h l e.
     down-far M X n (a .f) (a .x) h l (i .before .pre) e (omega arith)
     ∙ ap (λ (d : Bool). nearTen M (a .f) d X) (sym (i .if1 .taken))
-
-sub-t9 : tie.Need-sub-t9
-sub-t9 c = search needs
 
 returns-3 : tie.Need-returns-3
 returns-3 c =
@@ -50,4 +41,5 @@ returns-4 c =
     ∙ ap (λ (d : Bool). nearTen M (a .f) d X) (sym (i .if1 .left))
 
 pub scale-of-spec : {M : Type 1} → statement M
-scale-of-spec = tie.close (tie.spec sub-if2 add-t8 returns returns-2 sub-t9 returns-3 returns-4)
+scale-of-spec = tie.close (tie.spec
+    (λ c. search needs) (λ c. search needs) returns returns-2 (λ c. search needs) returns-3 returns-4)

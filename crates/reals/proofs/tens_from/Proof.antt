@@ -9,36 +9,12 @@ use Rattle.reals.proofs.tens_from.Tie as tie
 returns : tie.Need-returns
 returns c = let a = c .before .before .args in tens-none (now (a .t)) (a .at) (omega arith)
 
-shared-slice-read-c : tie.Need-shared-slice-read-c
-shared-slice-read-c c = search needs
-
-add-past-sign : tie.Need-add-past-sign
-add-past-sign c = search needs
-
-past-sign-requires : tie.Need-past-sign-requires
-past-sign-requires c κs = search needs
-
-plain-from-requires : tie.Need-plain-from-requires
-plain-from-requires c κs = search needs
-
-enum-known-x : tie.Need-enum-known-x
-enum-known-x c = search needs
-
-enum-told : tie.Need-enum-told
-enum-told c = search needs
-
 returns-2 : tie.Need-returns-2
 returns-2 c =
     let p = c .before .before in
     let s = p .before in
     let a = s .before .before .before .before .before .args in
     tens-bad (now (a .t)) (a .at) (omega arith) (s .before .if2 .taken) (s .past-sign .result) (s .past-sign .ensures .0) (rw (c .enum-told .given .1) at (p .plain-from .ensures))
-
-add-minus-at : tie.Need-add-minus-at
-add-minus-at c = search needs
-
-minus-at-requires : tie.Need-minus-at-requires
-minus-at-requires c κs = search needs
 
 returns-3 : tie.Need-returns-3
 returns-3 c =
@@ -55,15 +31,5 @@ pub tens-from-spec : {M : Type 1} → statement M
 tens-from-spec =
     tie.close
     (tie.spec
-    returns
-    shared-slice-read-c
-    add-past-sign
-    past-sign-requires
-    plain-from-requires
-    enum-known-x
-    enum-told
-    returns-2
-    add-minus-at
-    minus-at-requires
-    returns-3
-    returns-4)
+    returns (λ c. search needs) (λ c. search needs) (λ c κs. search needs) (λ c κs. search needs) (λ c. search needs) (λ c. search needs)
+    returns-2 (λ c. search needs) (λ c κs. search needs) returns-3 returns-4)

@@ -19,9 +19,6 @@ part x v cap most l h = omega arith
 above : (x y : ℕ) → y ≤ x → (x ≡ y → ⊥) → y < x
 above x y l n = omega arith
 
-div-upper : tie.Need-div-upper
-div-upper c = search needs
-
 mul-result : tie.Need-mul-result
 mul-result c =
     let a = c .before .args in
@@ -36,9 +33,6 @@ returns : tie.Need-returns
 returns c =
     let a = c .before .args in
     held-below (a .cap) (a .n * a .scale + a .v) (below-cap (a .n) (a .v) (a .scale) (a .cap) (c .before .pre .0) (c .if1 .taken))
-
-rem-if3 : tie.Need-rem-if3
-rem-if3 c = search needs
 
 mul-result-2 : tie.Need-mul-result-2
 mul-result-2 c =
@@ -74,13 +68,4 @@ pub with-digits-spec : {M : Type 1} → statement M
 with-digits-spec =
     tie.close
     (tie.spec
-    div-upper
-    mul-result
-    add-result
-    returns
-    rem-if3
-    mul-result-2
-    add-result-2
-    returns-2
-    returns-3
-    returns-4)
+    (λ c. search needs) mul-result add-result returns (λ c. search needs) mul-result-2 add-result-2 returns-2 returns-3 returns-4)

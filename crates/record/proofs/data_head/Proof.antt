@@ -9,20 +9,8 @@ use Rattle.record.proofs.data_head.Tie as tie
 returns : tie.Need-returns
 returns c = data-none (now (c .before .before .args .b)) (c .if1 .taken)
 
-shared-slice-read-if2 : tie.Need-shared-slice-read-if2
-shared-slice-read-if2 c = search needs
-
 returns-2 : tie.Need-returns-2
 returns-2 c = data-other (now (c .before .before .before .before .args .b)) (omega arith) (c .if2 .taken)
-
-digits-at-requires : tie.Need-digits-at-requires
-digits-at-requires c κs = search needs
-
-enum-told : tie.Need-enum-told
-enum-told c = search needs
-
-enum-known-id : tie.Need-enum-known-id
-enum-known-id c = search needs
 
 returns-3 : tie.Need-returns-3
 returns-3 c = let d = c .before .before .before .before in
@@ -48,13 +36,5 @@ pub data-head-spec : {M : Type 1} → statement M
 data-head-spec =
     tie.close
     (tie.spec
-    returns
-    shared-slice-read-if2
-    returns-2
-    digits-at-requires
-    enum-told
-    enum-known-id
-    returns-3
-    equal-head-requires
-    returns-4
-    returns-5)
+    returns (λ c. search needs) returns-2 (λ c κs. search needs) (λ c. search needs) (λ c. search needs) returns-3 equal-head-requires
+    returns-4 returns-5)

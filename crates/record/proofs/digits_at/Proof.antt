@@ -23,22 +23,10 @@ loop-holds : tie.Need-loop-holds Inv-loop μ-loop
 unfolding numberFrom
 loop-holds c = (omega arith, omega arith, omega arith, refl)
 
-shared-slice-read-c : tie.Need-shared-slice-read-c Inv-loop μ-loop
-shared-slice-read-c c = search needs
-
-is-digit-requires : tie.Need-is-digit-requires Inv-loop μ-loop
-is-digit-requires c κs = search needs
-
-cast-t11 : tie.Need-cast-t11 Inv-loop μ-loop
-cast-t11 c = search needs
-
 returns : tie.Need-returns Inv-loop μ-loop
 returns c = let t = c .before .before .before .before in
     let b = now (t .before .before .args .b) in
     (sym (digit-stops b (t .loop .i) (omega arith) (t .loop .n) _ (sym (c .before .is-digit .ensures) ∙ not-true _ (c .if1 .taken)) (t .loop .inv .3)), omega arith, omega arith, omega arith)
-
-mul-n : tie.Need-mul-n Inv-loop μ-loop
-mul-n c = omega arith
 
 sub-n : tie.Need-sub-n Inv-loop μ-loop
 sub-n c = let t = c .before .before .before .before in
@@ -66,19 +54,10 @@ returns-2 c = let t = c .before .before .before .before .before in
     digit-goes b (t .loop .i) (omega arith) (t .loop .n) _ (sym (c .before .before .is-digit .ensures) ∙ not-false _ (c .before .if1 .left)) (t .loop .inv .3) in
     rw (← e) (omega (arith, number-grows n (drop (t .loop .i + 1) b)))
 
-add-i : tie.Need-add-i Inv-loop μ-loop
-add-i c = search needs
-
-loop-less : tie.Need-loop-less Inv-loop μ-loop
-loop-less c = search needs
-
 loop-again : tie.Need-loop-again Inv-loop μ-loop
 loop-again c = let t = c .before .before .before .before .before in
     let b = now (t .before .before .args .b) in
     (omega arith, omega arith, omega arith, digit-goes b (t .loop .i) (omega arith) (t .loop .n) _ (sym (c .before .before .is-digit .ensures) ∙ not-false _ (c .before .if1 .left)) (t .loop .inv .3))
-
-cast-t14 : tie.Need-cast-t14 Inv-loop μ-loop
-cast-t14 c = search needs
 
 returns-3 : tie.Need-returns-3 Inv-loop μ-loop
 returns-3 c = let t = c .before in
@@ -90,20 +69,5 @@ pub digits-at-spec : {M : Type 1} → statement M
 digits-at-spec =
     tie.close
     (tie.spec
-    Inv-loop
-    μ-loop
-    loop-holds
-    shared-slice-read-c
-    is-digit-requires
-    cast-t11
-    returns
-    mul-n
-    sub-n
-    cast-n
-    add-n
-    returns-2
-    add-i
-    loop-less
-    loop-again
-    cast-t14
-    returns-3)
+    Inv-loop μ-loop loop-holds (λ c. search needs) (λ c κs. search needs) (λ c. search needs) returns (λ c. omega arith) sub-n cast-n add-n
+    returns-2 (λ c. search needs) (λ c. search needs) loop-again (λ c. search needs) returns-3)

@@ -6,26 +6,14 @@ use borrow.Author.Needs.{needs}
 use Rattle.record.proofs.equal_head.Statement.{statement}
 use Rattle.record.proofs.equal_head.Tie as tie
 
-past-space-requires : tie.Need-past-space-requires
-past-space-requires c κs = search needs
-
 returns : tie.Need-returns
 returns c = let a = c .before .before .before .args in
     equal-none (now (a .b)) (a .id) (c .before .past-space .result) _ (c .before .past-space .ensures .0) (c .if1 .taken)
-
-shared-slice-read-if2 : tie.Need-shared-slice-read-if2
-shared-slice-read-if2 c = search needs
 
 returns-2 : tie.Need-returns-2
 returns-2 c = let p = c .before .before .before in
     let a = p .before .before .args in
     equal-other (now (a .b)) (a .id) (p .past-space .result) _ (p .past-space .ensures .0) (omega arith) (c .if2 .taken)
-
-add-value-head : tie.Need-add-value-head
-add-value-head c = search needs
-
-value-head-requires : tie.Need-value-head-requires
-value-head-requires c κs = search needs
 
 returns-3 : tie.Need-returns-3
 returns-3 c = let p = c .before .before .before .before in
@@ -37,10 +25,4 @@ pub equal-head-spec : {M : Type 1} → statement M
 equal-head-spec =
     tie.close
     (tie.spec
-    past-space-requires
-    returns
-    shared-slice-read-if2
-    returns-2
-    add-value-head
-    value-head-requires
-    returns-3)
+    (λ c κs. search needs) returns (λ c. search needs) returns-2 (λ c. search needs) (λ c κs. search needs) returns-3)

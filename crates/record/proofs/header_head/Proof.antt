@@ -5,18 +5,6 @@ use borrow.Author.Needs.{needs}
 use Rattle.record.proofs.header_head.Statement.{statement}
 use Rattle.record.proofs.header_head.Tie as tie
 
-past-space-requires : tie.Need-past-space-requires
-past-space-requires c κs = search needs
-
-keyword-at-requires : tie.Need-keyword-at-requires
-keyword-at-requires c κs = search needs
-
-enum-told : tie.Need-enum-told
-enum-told c = search needs
-
-enum-known-e : tie.Need-enum-known-e
-enum-known-e c = search needs
-
 returns : tie.Need-returns
 returns c = let p = c .before .before .before in
     let k = rw (c .enum-told .given .1) at (c .before .before .keyword-at .ensures) in
@@ -30,4 +18,5 @@ returns-2 c = let p = c .before .before .before .before in
 pub header-head-spec : {M : Type 1} → statement M
 header-head-spec =
     tie.close
-    (tie.spec past-space-requires keyword-at-requires enum-told enum-known-e returns returns-2)
+    (tie.spec
+    (λ c κs. search needs) (λ c κs. search needs) (λ c. search needs) (λ c. search needs) returns returns-2)

@@ -18,37 +18,19 @@ abbrev μ-loop : tie.MeasureT-loop
 μ-loop b from end₀ i₀ end i = length b - i
 
 -- the name
-name-run-requires : tie.Need-name-run-requires Inv-loop μ-loop
-name-run-requires c κs = search needs
-
 loop-holds : tie.Need-loop-holds Inv-loop μ-loop
 unfolding keyword
 loop-holds c = (omega arith, omega arith, c .name-run .ensures .0)
-
-shared-slice-read-c : tie.Need-shared-slice-read-c Inv-loop μ-loop
-shared-slice-read-c c = search needs
 
 returns : tie.Need-returns Inv-loop μ-loop
 returns c = let t = c .before .before .before in
     let b = now (t .before .before .before .args .b) in
     (sym (key-stops b (t .loop .i) (omega arith) (t .loop .end) _ (eq-eqb _ _ (c .if1 .taken)) (t .loop .inv .2)), omega arith, omega arith)
 
-add-i : tie.Need-add-i Inv-loop μ-loop
-add-i c = search needs
-
-is-space-requires : tie.Need-is-space-requires Inv-loop μ-loop
-is-space-requires c κs = search needs
-
-loop-less : tie.Need-loop-less Inv-loop μ-loop
-loop-less c = search needs
-
 loop-again : tie.Need-loop-again Inv-loop μ-loop
 loop-again c = let t = c .before .before .before .before .before in
     let b = now (t .before .before .before .args .b) in
     (omega arith, omega arith, key-goes b (t .loop .i) (omega arith) (t .loop .end) (t .loop .i + 1) _ (ne-eqb _ _ (c .before .before .if1 .left)) (rw (sym (c .before .is-space .ensures) ∙ not-true _ (c .if2 .taken)) refl) (t .loop .inv .2))
-
-loop-less-2 : tie.Need-loop-less-2 Inv-loop μ-loop
-loop-less-2 c = search needs
 
 loop-again-2 : tie.Need-loop-again-2 Inv-loop μ-loop
 loop-again-2 c = let t = c .before .before .before .before .before in
@@ -64,16 +46,5 @@ pub keyword-at-spec : {M : Type 1} → statement M
 keyword-at-spec =
     tie.close
     (tie.spec
-    Inv-loop
-    μ-loop
-    name-run-requires
-    loop-holds
-    shared-slice-read-c
-    returns
-    add-i
-    is-space-requires
-    loop-less
-    loop-again
-    loop-less-2
-    loop-again-2
-    returns-2)
+    Inv-loop μ-loop (λ c κs. search needs) loop-holds (λ c. search needs) returns (λ c. search needs) (λ c κs. search needs)
+    (λ c. search needs) loop-again (λ c. search needs) loop-again-2 returns-2)

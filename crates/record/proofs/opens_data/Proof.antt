@@ -14,20 +14,8 @@ returns c = opens-short (now (c .before .before .args .t)) (c .if1 .taken)
 slice-aggregate-is-word : tie.Need-slice-aggregate-is-word
 slice-aggregate-is-word c = simp length-take (omega arith)
 
-slice-aggregate-is-word-2 : tie.Need-slice-aggregate-is-word-2
-slice-aggregate-is-word-2 c = search needs
-
-is-word-requires : tie.Need-is-word-requires
-is-word-requires c κs = search needs
-
 returns-2 : tie.Need-returns-2
 returns-2 c = opens-other (now (c .before .before .before .before .before .before .args .t)) (sym (not-true _ (c .if2 .taken)) ∙ c .before .is-word .ensures)
-
-past-space-requires : tie.Need-past-space-requires
-past-space-requires c κs = search needs
-
-shared-slice-read-result : tie.Need-shared-slice-read-result
-shared-slice-read-result c = search needs
 
 returns-3 : tie.Need-returns-3
 returns-3 c = let p = c .before .before in
@@ -43,12 +31,5 @@ pub opens-data-spec : {M : Type 1} → statement M
 opens-data-spec =
     tie.close
     (tie.spec
-    returns
-    slice-aggregate-is-word
-    slice-aggregate-is-word-2
-    is-word-requires
-    returns-2
-    past-space-requires
-    shared-slice-read-result
-    returns-3
-    returns-4)
+    returns slice-aggregate-is-word (λ c. search needs) (λ c κs. search needs) returns-2 (λ c κs. search needs) (λ c. search needs)
+    returns-3 returns-4)

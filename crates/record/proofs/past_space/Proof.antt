@@ -24,27 +24,15 @@ loop-holds : tie.Need-loop-holds Inv-loop μ-loop
 unfolding past
 loop-holds c = ((omega arith, omega arith), refl)
 
-shared-slice-read-c : tie.Need-shared-slice-read-c Inv-loop μ-loop
-shared-slice-read-c c = search needs
-
 returns : tie.Need-returns Inv-loop μ-loop
 returns c = let t = c .before .before .before in
     let b = now (t .before .before .args .b) in
     (past-stops b (t .loop .i) (omega arith) white _ (above-white b (t .loop .i) (omega arith) (c .if1 .taken)) (t .loop .inv .1), (omega arith, omega arith))
 
-is-space-requires : tie.Need-is-space-requires Inv-loop μ-loop
-is-space-requires c κs = search needs
-
 returns-2 : tie.Need-returns-2 Inv-loop μ-loop
 returns-2 c = let t = c .before .before .before .before .before in
     let b = now (t .before .before .args .b) in
     (past-stops b (t .loop .i) (omega arith) white _ (sym (c .before .is-space .ensures) ∙ not-true _ (c .if2 .taken)) (t .loop .inv .1), (omega arith, omega arith))
-
-add-i : tie.Need-add-i Inv-loop μ-loop
-add-i c = search needs
-
-loop-less : tie.Need-loop-less Inv-loop μ-loop
-loop-less c = search needs
 
 loop-again : tie.Need-loop-again Inv-loop μ-loop
 loop-again c = let t = c .before .before .before .before .before in
@@ -60,14 +48,5 @@ pub past-space-spec : {M : Type 1} → statement M
 past-space-spec =
     tie.close
     (tie.spec
-    Inv-loop
-    μ-loop
-    loop-holds
-    shared-slice-read-c
-    returns
-    is-space-requires
-    returns-2
-    add-i
-    loop-less
-    loop-again
-    returns-3)
+    Inv-loop μ-loop loop-holds (λ c. search needs) returns (λ c κs. search needs) returns-2 (λ c. search needs) (λ c. search needs)
+    loop-again returns-3)

@@ -21,25 +21,10 @@ loop-holds : tie.Need-loop-holds Inv-loop μ-loop
 unfolding trail
 loop-holds c = (omega arith, omega arith, omega arith, refl)
 
-shared-slice-read-c : tie.Need-shared-slice-read-c Inv-loop μ-loop
-shared-slice-read-c c = search needs
-
-add-i : tie.Need-add-i Inv-loop μ-loop
-add-i c = search needs
-
-is-space-requires : tie.Need-is-space-requires Inv-loop μ-loop
-is-space-requires c κs = search needs
-
-loop-less : tie.Need-loop-less Inv-loop μ-loop
-loop-less c = search needs
-
 loop-again : tie.Need-loop-again Inv-loop μ-loop
 loop-again c = let t = c .before .before .before .before in
     let b = now (t .before .before .args .b) in
     (omega arith, omega arith, omega arith, trail-goes b (t .loop .i) (omega arith) (t .loop .end) (t .loop .i + 1) _ (rw (sym (c .before .is-space .ensures) ∙ not-true _ (c .if1 .taken)) refl) (t .loop .inv .3))
-
-loop-less-2 : tie.Need-loop-less-2 Inv-loop μ-loop
-loop-less-2 c = search needs
 
 loop-again-2 : tie.Need-loop-again-2 Inv-loop μ-loop
 loop-again-2 c = let t = c .before .before .before .before in
@@ -55,14 +40,5 @@ pub trail-at-spec : {M : Type 1} → statement M
 trail-at-spec =
     tie.close
     (tie.spec
-    Inv-loop
-    μ-loop
-    loop-holds
-    shared-slice-read-c
-    add-i
-    is-space-requires
-    loop-less
-    loop-again
-    loop-less-2
-    loop-again-2
-    returns)
+    Inv-loop μ-loop loop-holds (λ c. search needs) (λ c. search needs) (λ c κs. search needs) (λ c. search needs) loop-again
+    (λ c. search needs) loop-again-2 returns)

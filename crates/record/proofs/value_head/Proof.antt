@@ -6,29 +6,14 @@ use borrow.Author.Needs.{needs}
 use Rattle.record.proofs.value_head.Statement.{statement}
 use Rattle.record.proofs.value_head.Tie as tie
 
-past-space-requires : tie.Need-past-space-requires
-past-space-requires c κs = search needs
-
 returns : tie.Need-returns
 returns c = let a = c .before .before .before .args in
     value-none (now (a .b)) (a .id) (c .before .past-space .result) _ (c .before .past-space .ensures .0) (c .if1 .taken)
-
-shared-slice-read-if2 : tie.Need-shared-slice-read-if2
-shared-slice-read-if2 c = search needs
 
 returns-2 : tie.Need-returns-2
 returns-2 c = let p = c .before .before .before in
     let a = p .before .before .args in
     value-complex (now (a .b)) (a .id) (p .past-space .result) _ (p .past-space .ensures .0) (omega arith) (c .if2 .taken)
-
-keyword-at-requires : tie.Need-keyword-at-requires
-keyword-at-requires c κs = search needs
-
-enum-told : tie.Need-enum-told
-enum-told c = search needs
-
-enum-known-e : tie.Need-enum-known-e
-enum-known-e c = search needs
 
 returns-3 : tie.Need-returns-3
 returns-3 c = let p = c .before .before .before .before .before .before in
@@ -48,12 +33,5 @@ pub value-head-spec : {M : Type 1} → statement M
 value-head-spec =
     tie.close
     (tie.spec
-    past-space-requires
-    returns
-    shared-slice-read-if2
-    returns-2
-    keyword-at-requires
-    enum-told
-    enum-known-e
-    returns-3
+    (λ c κs. search needs) returns (λ c. search needs) returns-2 (λ c κs. search needs) (λ c. search needs) (λ c. search needs) returns-3
     returns-4)

@@ -3,36 +3,15 @@ use borrow.Author.Needs.{needs}
 use Rattle.record.proofs.word_in.Statement.{statement}
 use Rattle.record.proofs.word_in.Tie as tie
 
-slice-aggregate-is-word : tie.Need-slice-aggregate-is-word
-slice-aggregate-is-word c = search needs
-
-is-word-requires : tie.Need-is-word-requires
-is-word-requires c κs = search needs
-
 returns : tie.Need-returns
 returns c = rw (sym (c .before .is-word .ensures) ∙ c .if1 .taken) refl
-
-slice-aggregate-is-word-2 : tie.Need-slice-aggregate-is-word-2
-slice-aggregate-is-word-2 c = search needs
-
-is-word-requires-2 : tie.Need-is-word-requires-2
-is-word-requires-2 c κs = search needs
 
 returns-2 : tie.Need-returns-2
 returns-2 c = rw (sym (c .before .before .before .before .is-word .ensures) ∙ c .before .before .before .if1 .left, sym (c .before .is-word2 .ensures) ∙ c .if2 .taken) refl
 
-opens-data-requires : tie.Need-opens-data-requires
-opens-data-requires c κs = search needs
-
 returns-3 : tie.Need-returns-3
 returns-3 c = let d = c .before .before in
     rw (sym (d .before .before .before .before .is-word .ensures) ∙ d .before .before .before .if1 .left, sym (d .before .is-word2 .ensures) ∙ d .if2 .left, sym (c .before .opens-data .ensures) ∙ c .if3 .taken) refl
-
-slice-aggregate-is-word-3 : tie.Need-slice-aggregate-is-word-3
-slice-aggregate-is-word-3 c = search needs
-
-is-word-requires-3 : tie.Need-is-word-requires-3
-is-word-requires-3 c κs = search needs
 
 returns-4 : tie.Need-returns-4
 returns-4 c = let e = c .before .before .before in
@@ -48,15 +27,5 @@ pub word-in-spec : {M : Type 1} → statement M
 word-in-spec =
     tie.close
     (tie.spec
-    slice-aggregate-is-word
-    is-word-requires
-    returns
-    slice-aggregate-is-word-2
-    is-word-requires-2
-    returns-2
-    opens-data-requires
-    returns-3
-    slice-aggregate-is-word-3
-    is-word-requires-3
-    returns-4
-    returns-5)
+    (λ c. search needs) (λ c κs. search needs) returns (λ c. search needs) (λ c κs. search needs) returns-2 (λ c κs. search needs) returns-3
+    (λ c. search needs) (λ c κs. search needs) returns-4 returns-5)

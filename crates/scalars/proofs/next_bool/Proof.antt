@@ -9,15 +9,6 @@ use denote.Ref.{now}
 use Rattle.scalars.proofs.next_bool.Statement.{statement}
 use Rattle.scalars.proofs.next_bool.Tie as tie
 
-param-span-requires : tie.Need-param-span-requires
-param-span-requires c κs = search needs
-
-enum-known-f : tie.Need-enum-known-f
-enum-known-f c = search needs
-
-enum-known-start : tie.Need-enum-known-start
-enum-known-start c = search needs
-
 sub-parse-truth : tie.Need-sub-parse-truth
 sub-parse-truth c = let w = cut-places _ _ _ _ _ (c .before .before .before .param-span .ensures .1) (c .before .start .given .1) in w .0
 
@@ -26,12 +17,6 @@ part-parse-truth-start c = let (u, v) = cut-places _ _ _ _ _ (c .before .before 
 
 part-parse-truth-end : tie.Need-part-parse-truth-end
 part-parse-truth-end c = let (u, v) = cut-places _ _ _ _ _ (c .before .before .before .param-span .ensures .1) (c .before .start .given .1) in omega (arith, u, v)
-
-parse-truth-requires : tie.Need-parse-truth-requires
-parse-truth-requires c κs = search needs
-
-truth-read-requires : tie.Need-truth-read-requires
-truth-read-requires c κs = search needs
 
 returns : tie.Need-returns
 returns c = let a = c .before .before .before .before .before .args in
@@ -47,13 +32,5 @@ pub next-bool-spec : {M : Type 1} → statement M
 next-bool-spec =
     tie.close
     (tie.spec
-    param-span-requires
-    enum-known-f
-    enum-known-start
-    sub-parse-truth
-    part-parse-truth-start
-    part-parse-truth-end
-    parse-truth-requires
-    truth-read-requires
-    returns
-    returns-2)
+    (λ c κs. search needs) (λ c. search needs) (λ c. search needs) sub-parse-truth part-parse-truth-start part-parse-truth-end
+    (λ c κs. search needs) (λ c κs. search needs) returns returns-2)

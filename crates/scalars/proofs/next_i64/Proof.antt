@@ -9,15 +9,6 @@ use denote.Ref.{now}
 use Rattle.scalars.proofs.next_i64.Statement.{statement}
 use Rattle.scalars.proofs.next_i64.Tie as tie
 
-param-span-requires : tie.Need-param-span-requires
-param-span-requires c κs = search needs
-
-enum-known-f : tie.Need-enum-known-f
-enum-known-f c = search needs
-
-enum-known-start : tie.Need-enum-known-start
-enum-known-start c = search needs
-
 sub-parse-int : tie.Need-sub-parse-int
 sub-parse-int c = let w = cut-places _ _ _ _ _ (c .before .before .before .param-span .ensures .1) (c .before .start .given .1) in w .0
 
@@ -26,12 +17,6 @@ part-parse-int-start c = let (u, v) = cut-places _ _ _ _ _ (c .before .before .b
 
 part-parse-int-end : tie.Need-part-parse-int-end
 part-parse-int-end c = let (u, v) = cut-places _ _ _ _ _ (c .before .before .before .param-span .ensures .1) (c .before .start .given .1) in omega (arith, u, v)
-
-parse-int-requires : tie.Need-parse-int-requires
-parse-int-requires c κs = search needs
-
-whole-read-requires : tie.Need-whole-read-requires
-whole-read-requires c κs = search needs
 
 returns : tie.Need-returns
 returns c = let a = c .before .before .before .before .before .args in
@@ -47,13 +32,5 @@ pub next-i64-spec : {M : Type 1} → statement M
 next-i64-spec =
     tie.close
     (tie.spec
-    param-span-requires
-    enum-known-f
-    enum-known-start
-    sub-parse-int
-    part-parse-int-start
-    part-parse-int-end
-    parse-int-requires
-    whole-read-requires
-    returns
-    returns-2)
+    (λ c κs. search needs) (λ c. search needs) (λ c. search needs) sub-parse-int part-parse-int-start part-parse-int-end
+    (λ c κs. search needs) (λ c κs. search needs) returns returns-2)

@@ -10,15 +10,6 @@ use denote.Ref.{now}
 use Rattle.scalars.proofs.next_measure.Statement.{statement}
 use Rattle.scalars.proofs.next_measure.Tie as tie
 
-param-span-requires : tie.Need-param-span-requires
-param-span-requires c κs = search needs
-
-enum-known-f : tie.Need-enum-known-f
-enum-known-f c = search needs
-
-enum-known-start : tie.Need-enum-known-start
-enum-known-start c = search needs
-
 sub-parse-measure : tie.Need-sub-parse-measure
 sub-parse-measure c = let w = cut-places _ _ _ _ _ (c .before .before .before .param-span .ensures .1) (c .before .start .given .1) in w .0
 
@@ -27,12 +18,6 @@ part-parse-measure-start c = let (u, v) = cut-places _ _ _ _ _ (c .before .befor
 
 part-parse-measure-end : tie.Need-part-parse-measure-end
 part-parse-measure-end c = let (u, v) = cut-places _ _ _ _ _ (c .before .before .before .param-span .ensures .1) (c .before .start .given .1) in omega (arith, u, v)
-
-parse-measure-requires : tie.Need-parse-measure-requires
-parse-measure-requires c κs = search needs
-
-real-read-requires : tie.Need-real-read-requires
-real-read-requires c κs = search needs
 
 returns : tie.Need-returns
 returns c = let a = c .before .before .before .before .before .args in
@@ -48,13 +33,5 @@ pub next-measure-spec : {M : Type 1} → statement M
 next-measure-spec =
     tie.close
     (tie.spec
-    param-span-requires
-    enum-known-f
-    enum-known-start
-    sub-parse-measure
-    part-parse-measure-start
-    part-parse-measure-end
-    parse-measure-requires
-    real-read-requires
-    returns
-    returns-2)
+    (λ c κs. search needs) (λ c. search needs) (λ c. search needs) sub-parse-measure part-parse-measure-start part-parse-measure-end
+    (λ c κs. search needs) (λ c κs. search needs) returns returns-2)

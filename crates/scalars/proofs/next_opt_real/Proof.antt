@@ -10,15 +10,6 @@ use denote.Ref.{now}
 use Rattle.scalars.proofs.next_opt_real.Statement.{statement}
 use Rattle.scalars.proofs.next_opt_real.Tie as tie
 
-param-span-requires : tie.Need-param-span-requires
-param-span-requires c κs = search needs
-
-enum-known-f : tie.Need-enum-known-f
-enum-known-f c = search needs
-
-enum-known-start : tie.Need-enum-known-start
-enum-known-start c = search needs
-
 sub-t : tie.Need-sub-t
 sub-t c = let w = cut-places _ _ _ _ _ (c .before .before .before .param-span .ensures .1) (c .before .start .given .1) in w .0
 
@@ -28,20 +19,11 @@ part-t-start c = let (u, v) = cut-places _ _ _ _ _ (c .before .before .before .p
 part-t-end : tie.Need-part-t-end
 part-t-end c = let (u, v) = cut-places _ _ _ _ _ (c .before .before .before .param-span .ensures .1) (c .before .start .given .1) in omega (arith, u, v)
 
-is-unset-requires : tie.Need-is-unset-requires
-is-unset-requires c κs = search needs
-
 returns : tie.Need-returns
 returns c = let g = c .before .before .before .before in
     let a = g .before .before .before .before .args in
     next-read (optionOf (realBy (a .which))) (now (a .file)) (a .at .place) (a .at .end) _ _ _ _ _ (ap toldCut (sym (g .start .given .1)) ∙ g .before .before .param-span .ensures .0)
     (option-unset (realBy (a .which)) _ (sym (c .before .is-unset .ensures) ∙ c .if1 .taken))
-
-read-real-requires : tie.Need-read-real-requires
-read-real-requires c κs = search needs
-
-opt-real-read-requires : tie.Need-opt-real-read-requires
-opt-real-read-requires c κs = search needs
 
 returns-2 : tie.Need-returns-2
 returns-2 c = let a = c .before .before .before .before .before .args in
@@ -59,15 +41,5 @@ pub next-opt-real-spec : {M : Type 1} → statement M
 next-opt-real-spec =
     tie.close
     (tie.spec
-    param-span-requires
-    enum-known-f
-    enum-known-start
-    sub-t
-    part-t-start
-    part-t-end
-    is-unset-requires
-    returns
-    read-real-requires
-    opt-real-read-requires
-    returns-2
-    returns-3)
+    (λ c κs. search needs) (λ c. search needs) (λ c. search needs) sub-t part-t-start part-t-end (λ c κs. search needs) returns
+    (λ c κs. search needs) (λ c κs. search needs) returns-2 returns-3)

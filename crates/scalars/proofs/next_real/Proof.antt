@@ -9,15 +9,6 @@ use denote.Ref.{now}
 use Rattle.scalars.proofs.next_real.Statement.{statement}
 use Rattle.scalars.proofs.next_real.Tie as tie
 
-param-span-requires : tie.Need-param-span-requires
-param-span-requires c κs = search needs
-
-enum-known-f : tie.Need-enum-known-f
-enum-known-f c = search needs
-
-enum-known-start : tie.Need-enum-known-start
-enum-known-start c = search needs
-
 sub-read-real : tie.Need-sub-read-real
 sub-read-real c = let w = cut-places _ _ _ _ _ (c .before .before .before .param-span .ensures .1) (c .before .start .given .1) in w .0
 
@@ -26,12 +17,6 @@ part-read-real-start c = let (u, v) = cut-places _ _ _ _ _ (c .before .before .b
 
 part-read-real-end : tie.Need-part-read-real-end
 part-read-real-end c = let (u, v) = cut-places _ _ _ _ _ (c .before .before .before .param-span .ensures .1) (c .before .start .given .1) in omega (arith, u, v)
-
-read-real-requires : tie.Need-read-real-requires
-read-real-requires c κs = search needs
-
-real-read-requires : tie.Need-real-read-requires
-real-read-requires c κs = search needs
 
 returns : tie.Need-returns
 returns c = let a = c .before .before .before .before .before .args in
@@ -47,13 +32,5 @@ pub next-real-spec : {M : Type 1} → statement M
 next-real-spec =
     tie.close
     (tie.spec
-    param-span-requires
-    enum-known-f
-    enum-known-start
-    sub-read-real
-    part-read-real-start
-    part-read-real-end
-    read-real-requires
-    real-read-requires
-    returns
-    returns-2)
+    (λ c κs. search needs) (λ c. search needs) (λ c. search needs) sub-read-real part-read-real-start part-read-real-end
+    (λ c κs. search needs) (λ c κs. search needs) returns returns-2)

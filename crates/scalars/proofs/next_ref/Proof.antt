@@ -9,15 +9,6 @@ use denote.Ref.{now}
 use Rattle.scalars.proofs.next_ref.Statement.{statement}
 use Rattle.scalars.proofs.next_ref.Tie as tie
 
-param-span-requires : tie.Need-param-span-requires
-param-span-requires c κs = search needs
-
-enum-known-f : tie.Need-enum-known-f
-enum-known-f c = search needs
-
-enum-known-start : tie.Need-enum-known-start
-enum-known-start c = search needs
-
 sub-parse-ref : tie.Need-sub-parse-ref
 sub-parse-ref c = let w = cut-places _ _ _ _ _ (c .before .before .before .param-span .ensures .1) (c .before .start .given .1) in w .0
 
@@ -26,12 +17,6 @@ part-parse-ref-start c = let (u, v) = cut-places _ _ _ _ _ (c .before .before .b
 
 part-parse-ref-end : tie.Need-part-parse-ref-end
 part-parse-ref-end c = let (u, v) = cut-places _ _ _ _ _ (c .before .before .before .param-span .ensures .1) (c .before .start .given .1) in omega (arith, u, v)
-
-parse-ref-requires : tie.Need-parse-ref-requires
-parse-ref-requires c κs = search needs
-
-ref-read-requires : tie.Need-ref-read-requires
-ref-read-requires c κs = search needs
 
 returns : tie.Need-returns
 returns c = let a = c .before .before .before .before .before .args in
@@ -47,13 +32,5 @@ pub next-ref-spec : {M : Type 1} → statement M
 next-ref-spec =
     tie.close
     (tie.spec
-    param-span-requires
-    enum-known-f
-    enum-known-start
-    sub-parse-ref
-    part-parse-ref-start
-    part-parse-ref-end
-    parse-ref-requires
-    ref-read-requires
-    returns
-    returns-2)
+    (λ c κs. search needs) (λ c. search needs) (λ c. search needs) sub-parse-ref part-parse-ref-start part-parse-ref-end
+    (λ c κs. search needs) (λ c κs. search needs) returns returns-2)

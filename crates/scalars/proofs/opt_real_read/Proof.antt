@@ -3,15 +3,6 @@ use mathlib.Core.Path.{refl}
 use Rattle.scalars.proofs.opt_real_read.Statement.{statement}
 use Rattle.scalars.proofs.opt_real_read.Tie as tie
 
-enum-known-v : tie.Need-enum-known-v
-enum-known-v c = search needs
-
-enum-told : tie.Need-enum-told
-enum-told c = search needs
-
-enum-told-2 : tie.Need-enum-told-2
-enum-told-2 c = search needs
-
 returns : tie.Need-returns
 returns c = rw (c .before .v .given .1) refl
 
@@ -23,4 +14,5 @@ returns-3 c = rw (c .enum-told2 .given .1) refl
 
 pub opt-real-read-spec : {M : Type 1} → statement M
 opt-real-read-spec =
-    tie.close (tie.spec enum-known-v enum-told enum-told-2 returns returns-2 returns-3)
+    tie.close (tie.spec
+    (λ c. search needs) (λ c. search needs) (λ c. search needs) returns returns-2 returns-3)

@@ -3,12 +3,6 @@ use mathlib.Core.Path.{refl}
 use Rattle.scalars.proofs.opt_ref_read.Statement.{statement}
 use Rattle.scalars.proofs.opt_ref_read.Tie as tie
 
-enum-known-v : tie.Need-enum-known-v
-enum-known-v c = search needs
-
-enum-told : tie.Need-enum-told
-enum-told c = search needs
-
 returns : tie.Need-returns
 returns c = rw (c .before .v .given .1) refl
 
@@ -16,4 +10,5 @@ returns-2 : tie.Need-returns-2
 returns-2 c = rw (c .enum-told .given .1) refl
 
 pub opt-ref-read-spec : {M : Type 1} → statement M
-opt-ref-read-spec = tie.close (tie.spec enum-known-v enum-told returns returns-2)
+opt-ref-read-spec = tie.close (tie.spec
+    (λ c. search needs) (λ c. search needs) returns returns-2)

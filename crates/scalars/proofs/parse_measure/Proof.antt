@@ -10,24 +10,6 @@ use borrow.Author.Tests.{eqb-false}
 use Rattle.scalars.proofs.parse_measure.Statement.{statement}
 use Rattle.scalars.proofs.parse_measure.Tie as tie
 
-read-real-requires : tie.Need-read-real-requires
-read-real-requires c κs = search needs
-
-enum-known-x : tie.Need-enum-known-x
-enum-known-x c = search needs
-
-enum-told : tie.Need-enum-told
-enum-told c = search needs
-
-enum-told-2 : tie.Need-enum-told-2
-enum-told-2 c = search needs
-
-inner-of-requires : tie.Need-inner-of-requires
-inner-of-requires c κs = search needs
-
-enum-known-a : tie.Need-enum-known-a
-enum-known-a c = search needs
-
 sub-read-real : tie.Need-sub-read-real
 sub-read-real c = let i = inner-part _ _ _ _ (c .before .before .before .inner-of .ensures) (c .before .a .given .1) in i .1
 
@@ -36,12 +18,6 @@ part-read-real-start c = let (e, u, v) = inner-part _ _ _ _ (c .before .before .
 
 part-read-real-end : tie.Need-part-read-real-end
 part-read-real-end c = let (e, u, v) = inner-part _ _ _ _ (c .before .before .before .inner-of .ensures) (c .before .a .given .1) in omega (arith, u, v)
-
-read-real-requires-2 : tie.Need-read-real-requires-2
-read-real-requires-2 c κs = search needs
-
-enum-told-3 : tie.Need-enum-told-3
-enum-told-3 c = search needs
 
 returns : tie.Need-returns
 returns c = measure-real (realBy (c .before .before .before .before .before .args .which)) (now (c .before .before .before .before .before .args .t)) _ (ap toldReal (sym (c .before .x .given .1)) ∙ c .before .before .before .read-real .ensures) (λ e. clash (cc))
@@ -63,18 +39,5 @@ pub parse-measure-spec : {M : Type 1} → statement M
 parse-measure-spec =
     tie.close
     (tie.spec
-    read-real-requires
-    enum-known-x
-    enum-told
-    enum-told-2
-    inner-of-requires
-    enum-known-a
-    sub-read-real
-    part-read-real-start
-    part-read-real-end
-    read-real-requires-2
-    enum-told-3
-    returns
-    returns-2
-    returns-3
-    returns-4)
+    (λ c κs. search needs) (λ c. search needs) (λ c. search needs) (λ c. search needs) (λ c κs. search needs) (λ c. search needs)
+    sub-read-real part-read-real-start part-read-real-end (λ c κs. search needs) (λ c. search needs) returns returns-2 returns-3 returns-4)

@@ -21,25 +21,10 @@ abbrev μ-loop : tie.MeasureT-loop
 loop-holds : tie.Need-loop-holds Inv-loop μ-loop
 loop-holds c = let b = now (c .before .args .b) in (omega arith, omega arith, rw (drop-end b (length b) (omega arith)) tt)
 
-sub-is-space : tie.Need-sub-is-space Inv-loop μ-loop
-sub-is-space c = search needs
-
-shared-slice-read-is-space : tie.Need-shared-slice-read-is-space Inv-loop μ-loop
-shared-slice-read-is-space c = search needs
-
-is-space-requires : tie.Need-is-space-requires Inv-loop μ-loop
-is-space-requires c κs = search needs
-
 returns : tie.Need-returns Inv-loop μ-loop
 returns c = let l = c .before .before .before .before in
     let b = now (l .before .before .args .b) in
     (trail-stops b (l .before .before .args .from) (l .loop .e) (omega arith) (l .loop .inv .2) (omega arith) (sym (c .before .is-space .ensures) ∙ not-true _ (c .if1 .taken)), (omega arith, omega arith))
-
-sub-e : tie.Need-sub-e Inv-loop μ-loop
-sub-e c = search needs
-
-loop-less : tie.Need-loop-less Inv-loop μ-loop
-loop-less c = search needs
 
 loop-again : tie.Need-loop-again Inv-loop μ-loop
 loop-again c = let l = c .before .before .before .before in
@@ -55,14 +40,5 @@ pub trail-from-spec : {M : Type 1} → statement M
 trail-from-spec =
     tie.close
     (tie.spec
-    Inv-loop
-    μ-loop
-    loop-holds
-    sub-is-space
-    shared-slice-read-is-space
-    is-space-requires
-    returns
-    sub-e
-    loop-less
-    loop-again
-    returns-2)
+    Inv-loop μ-loop loop-holds (λ c. search needs) (λ c. search needs) (λ c κs. search needs) returns (λ c. search needs)
+    (λ c. search needs) loop-again returns-2)

@@ -4,12 +4,6 @@ use denote.Ref.{now}
 use Rattle.scalars.proofs.trim.Statement.{statement}
 use Rattle.scalars.proofs.trim.Tie as tie
 
-leading-space-requires : tie.Need-leading-space-requires
-leading-space-requires c κs = search needs
-
-trail-from-requires : tie.Need-trail-from-requires
-trail-from-requires c κs = search needs
-
 returns : tie.Need-returns
 returns c = let b = now (c .before .before .before .args .b) in
     let l = c .before .leading-space in
@@ -17,4 +11,5 @@ returns c = let b = now (c .before .before .before .args .b) in
     (l .ensures .0, (trimmed-at b (l .result) (t .result) (l .ensures .0) (t .ensures .0) (t .ensures .1 .0) (t .ensures .1 .1), (t .ensures .1 .0, t .ensures .1 .1)))
 
 pub trim-spec : {M : Type 1} → statement M
-trim-spec = tie.close (tie.spec leading-space-requires trail-from-requires returns)
+trim-spec = tie.close (tie.spec
+    (λ c κs. search needs) (λ c κs. search needs) returns)

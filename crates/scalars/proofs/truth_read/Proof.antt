@@ -3,18 +3,6 @@ use mathlib.Core.Path.{refl}
 use Rattle.scalars.proofs.truth_read.Statement.{statement}
 use Rattle.scalars.proofs.truth_read.Tie as tie
 
-enum-told : tie.Need-enum-told
-enum-told c = search needs
-
-enum-told-2 : tie.Need-enum-told-2
-enum-told-2 c = search needs
-
-enum-told-3 : tie.Need-enum-told-3
-enum-told-3 c = search needs
-
-enum-told-4 : tie.Need-enum-told-4
-enum-told-4 c = search needs
-
 returns : tie.Need-returns
 returns c = rw (c .enum-told .given .1) refl
 
@@ -30,4 +18,5 @@ returns-4 c = rw (c .enum-told4 .given .1) refl
 pub truth-read-spec : {M : Type 1} → statement M
 truth-read-spec =
     tie.close
-    (tie.spec enum-told enum-told-2 enum-told-3 enum-told-4 returns returns-2 returns-3 returns-4)
+    (tie.spec
+    (λ c. search needs) (λ c. search needs) (λ c. search needs) (λ c. search needs) returns returns-2 returns-3 returns-4)

@@ -10,24 +10,6 @@ use borrow.Author.Needs.{needs}
 use Rattle.scan.proofs.is_marker.Statement.{statement}
 use Rattle.scan.proofs.is_marker.Tie as tie
 
-leading-space-requires : tie.Need-leading-space-requires
-leading-space-requires c κs = search needs
-
-sub-starts-with : tie.Need-sub-starts-with
-sub-starts-with c = search needs
-
-part-starts-with-start : tie.Need-part-starts-with-start
-part-starts-with-start c = search needs
-
-part-starts-with-end : tie.Need-part-starts-with-end
-part-starts-with-end c = search needs
-
-slice-aggregate-starts-with : tie.Need-slice-aggregate-starts-with
-slice-aggregate-starts-with c = search needs
-
-starts-with-requires : tie.Need-starts-with-requires
-starts-with-requires c κs = search needs
-
 returns : tie.Need-returns
 returns c = let b = c .before .before .before in
     let t = now (b .before .before .args .t) in
@@ -39,10 +21,4 @@ pub is-marker-spec : {M : Type 1} → statement M
 is-marker-spec =
     tie.close
     (tie.spec
-    leading-space-requires
-    sub-starts-with
-    part-starts-with-start
-    part-starts-with-end
-    slice-aggregate-starts-with
-    starts-with-requires
-    returns)
+    (λ c κs. search needs) (λ c. search needs) (λ c. search needs) (λ c. search needs) (λ c. search needs) (λ c κs. search needs) returns)

@@ -9,7 +9,7 @@ use denote.Ref.{now}
 use borrow.Author.Needs.{needs}
 use native.Mathlib.Omega.{arith}
 use mathlib.Core.Path.{_≡_, ap, sym, refl, _∙_}
-use Prim.Native.Nat.{_/_, _-_}
+use Prim.Native.Nat.{_-_}
 use Rattle.scan.proofs.pass.Statement.{statement}
 use Rattle.scan.proofs.pass.Tie as tie
 
@@ -20,9 +20,6 @@ Inv-loop s headers₀ rows₀ slots write known room i₀ section₀ h₀ r₀ m
 abbrev μ-loop : tie.MeasureT-loop
 μ-loop s headers₀ rows₀ slots write known room i₀ section₀ h₀ r₀ max₀ all₀ headers rows i section h r max all = length s - i
 
-data-room-requires : tie.Need-data-room-requires Inv-loop μ-loop
-data-room-requires c κs = search needs
-
 loop-holds : tie.Need-loop-holds Inv-loop μ-loop
 loop-holds c = let b = c .before .before .before .before in
     let a = b .args in (
@@ -31,18 +28,6 @@ loop-holds c = let b = c .before .before .before .before in
       going-starts (now (a .s)) (headerRoom (now (a .headers))) (c .data-room .result) (a .write) (now (a .headers)) (now (a .rows)),
       tidying-starts (now (a .s)) (a .known) (b .pre .2),
     )
-
-noted-statement-requires : tie.Need-noted-statement-requires Inv-loop μ-loop
-noted-statement-requires c κs = search needs
-
-enum-told : tie.Need-enum-told Inv-loop μ-loop
-enum-told c = search needs
-
-same-length : tie.Need-same-length Inv-loop μ-loop
-same-length c = search needs
-
-same-length-2 : tie.Need-same-length-2 Inv-loop μ-loop
-same-length-2 c = search needs
 
 returns : tie.Need-returns Inv-loop μ-loop
 returns c = let n = c .before .before .before in
@@ -56,15 +41,6 @@ returns c = let n = c .before .before .before in
     let l = done _ _ _ _ _ _ _ _ _ _ _ _ _ g _ (t .before .data-room .ensures) e in
     (l .0, (l .1 .0, (l .1 .1, tidying-ends _ _ _ _ _ y _ b e)))
 
-enum-known-said : tie.Need-enum-known-said Inv-loop μ-loop
-enum-known-said c = search needs
-
-same-length-3 : tie.Need-same-length-3 Inv-loop μ-loop
-same-length-3 c = search needs
-
-same-length-4 : tie.Need-same-length-4 Inv-loop μ-loop
-same-length-4 c = search needs
-
 returns-2 : tie.Need-returns-2 Inv-loop μ-loop
 returns-2 c = let n = c .before .before .before .before in
     let t = n .before in
@@ -76,9 +52,6 @@ returns-2 c = let n = c .before .before .before .before in
     let b = n .noted-statement .ensures .1 .1 in
     let l = failed _ _ _ _ _ _ _ _ _ _ _ _ _ g _ (t .before .data-room .ensures) _ (going-refused _ _ _ _ _ _ _ _ _ _ _ _ _ g _ e) in
     (l .0, (l .1 .0, (l .1 .1, tt)))
-
-enum-known-said-2 : tie.Need-enum-known-said-2 Inv-loop μ-loop
-enum-known-said-2 c = search needs
 
 loop-less : tie.Need-loop-less Inv-loop μ-loop
 loop-less c = let n = c .before .before .before .before in
@@ -103,18 +76,6 @@ loop-again c = let n = c .before .before .before .before in
     let y = t .loop .inv .3 in
     let b = n .noted-statement .ensures .1 .1 in
     (t .loop .inv .0, t .loop .inv .1, going-moves _ _ _ _ _ _ _ _ _ _ _ _ _ g _ _ e (w .0) (w .1), tidying-moves _ _ _ _ _ y _ b _ _ e)
-
-enum-known-said-3 : tie.Need-enum-known-said-3 Inv-loop μ-loop
-enum-known-said-3 c = search needs
-
-headers-fit-requires : tie.Need-headers-fit-requires Inv-loop μ-loop
-headers-fit-requires c κs = search needs
-
-same-length-5 : tie.Need-same-length-5 Inv-loop μ-loop
-same-length-5 c = search needs
-
-same-length-6 : tie.Need-same-length-6 Inv-loop μ-loop
-same-length-6 c = search needs
 
 returns-3 : tie.Need-returns-3 Inv-loop μ-loop
 returns-3 c = let n = c .before .before .before .before .before .before in
@@ -170,15 +131,6 @@ loop-again-2 c = let n = c .before .before .before .before .before .before .befo
       tidying-header _ _ _ _ _ y _ b _ (v .given .0 .1 .0) _ e,
     )
 
-enum-known-said-4 : tie.Need-enum-known-said-4 Inv-loop μ-loop
-enum-known-said-4 c = search needs
-
-same-length-7 : tie.Need-same-length-7 Inv-loop μ-loop
-same-length-7 c = search needs
-
-same-length-8 : tie.Need-same-length-8 Inv-loop μ-loop
-same-length-8 c = search needs
-
 returns-4 : tie.Need-returns-4 Inv-loop μ-loop
 returns-4 c = let n = c .before .before .before .before .before in
     let t = n .before in
@@ -206,9 +158,6 @@ put-record-requires c κs = let n = c .before .before .before .before .before .b
 
 add-run : tie.Need-add-run Inv-loop μ-loop
 add-run c = let t = c .before .before .before .before .before .before .before .before .before .before .before in omega (arith, t .before .data-room .ensures)
-
-greater-requires : tie.Need-greater-requires Inv-loop μ-loop
-greater-requires c κs = search needs
 
 run-requires : tie.Need-run-requires Inv-loop μ-loop
 run-requires c κs = let n = c .before .before .before .before .before .before .before .before .before .before .before in
@@ -265,37 +214,8 @@ pub pass-spec : {M : Type 1} → statement M
 pass-spec =
     tie.close
     (tie.spec
-    Inv-loop
-    μ-loop
-    data-room-requires
-    loop-holds
-    noted-statement-requires
-    enum-told
-    same-length
-    same-length-2
-    returns
-    enum-known-said
-    same-length-3
-    same-length-4
-    returns-2
-    enum-known-said-2
-    loop-less
-    loop-again
-    enum-known-said-3
-    headers-fit-requires
-    same-length-5
-    same-length-6
-    returns-3
-    put-header-requires
-    loop-less-2
-    loop-again-2
-    enum-known-said-4
-    same-length-7
-    same-length-8
-    returns-4
-    put-record-requires
-    add-run
-    greater-requires
-    run-requires
-    loop-less-3
-    loop-again-3)
+    Inv-loop μ-loop (λ c κs. search needs) loop-holds (λ c κs. search needs) (λ c. search needs) (λ c. search needs) (λ c. search needs)
+    returns (λ c. search needs) (λ c. search needs) (λ c. search needs) returns-2 (λ c. search needs) loop-less loop-again
+    (λ c. search needs) (λ c κs. search needs) (λ c. search needs) (λ c. search needs) returns-3 put-header-requires loop-less-2
+    loop-again-2 (λ c. search needs) (λ c. search needs) (λ c. search needs) returns-4 put-record-requires add-run (λ c κs. search needs)
+    run-requires loop-less-3 loop-again-3)

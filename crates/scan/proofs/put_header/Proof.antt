@@ -1,5 +1,4 @@
-use Prim.Native.Nat.{ℕ}
-use mathlib.Core.Path.{refl, sym, _∙_, ap}
+use mathlib.Core.Path.{refl, _∙_, ap}
 use borrow.Author.Tests.{not-true, not-false}
 use Rattle.statement.specs.Rows.{HeaderRow, headerRowOf}
 use Rattle.table.specs.Table.{headerPut}
@@ -8,20 +7,8 @@ use borrow.Author.Needs.{needs}
 use Rattle.scan.proofs.put_header.Statement.{statement}
 use Rattle.scan.proofs.put_header.Tie as tie
 
-add-result : tie.Need-add-result
-add-result c = search needs
-
 returns : tie.Need-returns
 returns c = (rw (not-true (c .before .before .args .write) (c .if1 .taken)) refl, refl)
-
-put-header-requires : tie.Need-put-header-requires
-put-header-requires c κs = search needs
-
-add-result-2 : tie.Need-add-result-2
-add-result-2 c = search needs
-
-same-length : tie.Need-same-length
-same-length c = search needs
 
 returns-2 : tie.Need-returns-2
 returns-2 c =
@@ -31,4 +18,5 @@ returns-2 c =
 
 pub put-header-spec : {M : Type 1} → statement M
 put-header-spec =
-    tie.close (tie.spec add-result returns put-header-requires add-result-2 same-length returns-2)
+    tie.close (tie.spec
+    (λ c. search needs) returns (λ c κs. search needs) (λ c. search needs) (λ c. search needs) returns-2)

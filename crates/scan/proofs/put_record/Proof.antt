@@ -10,12 +10,6 @@ use Rattle.scan.proofs.put_record.Tie as tie
 returns : tie.Need-returns
 returns c = rw (not-true (c .before .before .args .write) (c .if1 .taken)) refl
 
-put-row-requires : tie.Need-put-row-requires
-put-row-requires c κs = search needs
-
-same-length : tie.Need-same-length
-same-length c = search needs
-
 returns-2 : tie.Need-returns-2
 returns-2 c =
     let a = c .before .before .before .before .before .before .args in
@@ -23,4 +17,5 @@ returns-2 c =
     rw (not-false (a .write) (c .before .before .before .before .if1 .left)) (c .before .before .put-row .ensures ∙ ap (λ (w : Row). rowPut (a .out .now) (a .k) w) (narrow-row (rowOf (a .span)) (f .keyStart) (f .keyEnd) (f .argStart) (f .argEnd)))
 
 pub put-record-spec : {M : Type 1} → statement M
-put-record-spec = tie.close (tie.spec returns put-row-requires same-length returns-2)
+put-record-spec = tie.close (tie.spec
+    returns (λ c κs. search needs) (λ c. search needs) returns-2)

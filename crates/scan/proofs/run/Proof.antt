@@ -26,15 +26,6 @@ abbrev μ-loop : tie.MeasureT-loop
 loop-holds : tie.Need-loop-holds Inv-loop μ-loop
 loop-holds c = (Ran.none, c .before .before .pre .3)
 
-tidy-record-requires : tie.Need-tidy-record-requires Inv-loop μ-loop
-tidy-record-requires c κs = search needs
-
-enum-known-span : tie.Need-enum-known-span Inv-loop μ-loop
-enum-known-span c = search needs
-
-enum-told : tie.Need-enum-told Inv-loop μ-loop
-enum-told c = search needs
-
 same-length : tie.Need-same-length Inv-loop μ-loop
 same-length c = ran-length _ _ _ _ _ _ _ (c .before .before .before .before .loop .inv .0)
 
@@ -70,9 +61,6 @@ add-count c = let b = c .before .before .before .before .before .before .before 
     let u = ran-length _ _ _ _ _ _ _ (t .inv .0) in
     let f = ltb-true (t .count) (a .room) (both (a .known) _ (c .before .before .before .before .before .before .before .before .loop-test .taken) .1) in
     record { fits = omega (arith, f) }
-
-greater-requires : tie.Need-greater-requires Inv-loop μ-loop
-greater-requires c κs = search needs
 
 loop-less : tie.Need-loop-less Inv-loop μ-loop
 loop-less c = let b = c .before .before .before .before .before .before .before .before .before .before .before .before .before in
@@ -117,18 +105,5 @@ pub run-spec : {M : Type 1} → statement M
 run-spec =
     tie.close
     (tie.spec
-    Inv-loop
-    μ-loop
-    loop-holds
-    tidy-record-requires
-    enum-known-span
-    enum-told
-    same-length
-    returns
-    put-record-requires
-    add-count
-    greater-requires
-    loop-less
-    loop-again
-    same-length-2
-    returns-2)
+    Inv-loop μ-loop loop-holds (λ c κs. search needs) (λ c. search needs) (λ c. search needs) same-length returns put-record-requires
+    add-count (λ c κs. search needs) loop-less loop-again same-length-2 returns-2)

@@ -13,9 +13,6 @@ returns : tie.Need-returns
 returns c = let a = c .before .before .before .before .args in
     scan-long (now (a .file)) _ _ (now (a .headers)) (now (a .rows)) (c .if1 .taken)
 
-is-marked-requires : tie.Need-is-marked-requires
-is-marked-requires c κs = search needs
-
 returns-2 : tie.Need-returns-2
 returns-2 c = let a = c .before .before .before .before .before .before .args in
     scan-unmarked (now (a .file)) _ _ (now (a .headers)) (now (a .rows)) (omega arith) (sym (c .before .is-marked .ensures) ∙ not-true _ (c .if2 .taken))
@@ -23,29 +20,8 @@ returns-2 c = let a = c .before .before .before .before .before .before .args in
 pass-requires : tie.Need-pass-requires
 pass-requires c κs = (omega arith, λ z. clash (cc), λ z. clash (cc))
 
-enum-known-f : tie.Need-enum-known-f
-enum-known-f c = search needs
-
-enum-known-tidy : tie.Need-enum-known-tidy
-enum-known-tidy c = search needs
-
 pass-requires-2 : tie.Need-pass-requires-2
 pass-requires-2 c κs = (omega arith, λ z. refl, rw (c .before .before .before .tidy .given .1) at (c .before .before .before .before .before .before .before .before .before .pass .ensures .1 .1 .1))
-
-enum-known-f-2 : tie.Need-enum-known-f-2
-enum-known-f-2 c = search needs
-
-enum-known-h : tie.Need-enum-known-h
-enum-known-h c = search needs
-
-rows-found-requires : tie.Need-rows-found-requires
-rows-found-requires c κs = search needs
-
-same-length : tie.Need-same-length
-same-length c = search needs
-
-same-length-2 : tie.Need-same-length-2
-same-length-2 c = search needs
 
 returns-3 : tie.Need-returns-3
 returns-3 c = let p = c .before .before .before .before .before .before .before in
@@ -53,12 +29,6 @@ returns-3 c = let p = c .before .before .before .before .before .before .before 
     let a = c .before .before .before .before .before .before .before .before .before .before .before .before .before .before .before .before .args in
     scan-refused (now (a .file)) _ _ (now (a .headers)) (now (a .rows)) (omega arith) (sym (m .before .is-marked .ensures) ∙ not-false _ (m .if2 .left)) _ _ _
     (sym (ap toldPassed (c .before .f .given .1)) ∙ p .pass .ensures .0, (p .pass .ensures .1 .0, p .pass .ensures .1 .1 .0))
-
-same-length-3 : tie.Need-same-length-3
-same-length-3 c = search needs
-
-same-length-4 : tie.Need-same-length-4
-same-length-4 c = search needs
 
 returns-4 : tie.Need-returns-4
 returns-4 c = let q = c .before .before .before .before .before .before .before in
@@ -69,12 +39,6 @@ returns-4 c = let q = c .before .before .before .before .before .before .before 
     let z = rw (p .pass .ensures .1 .0, p .pass .ensures .1 .1 .0) at (q .pass2 .ensures) in
     scan-done (now (a .file)) _ _ (now (a .headers)) (now (a .rows)) (omega arith) (sym (m .before .is-marked .ensures) ∙ not-false _ (m .if2 .left)) _ _ _ _
     (sym (ap toldPassed (t .tidy .given .1)) ∙ p .pass .ensures .0) (sym (ap toldPassed (c .before .f2 .given .1)) ∙ z .0, (z .1 .0, z .1 .1 .0))
-
-same-length-5 : tie.Need-same-length-5
-same-length-5 c = search needs
-
-same-length-6 : tie.Need-same-length-6
-same-length-6 c = search needs
 
 returns-5 : tie.Need-returns-5
 returns-5 c = let q = c .before .before .before .before .before .before .before .before in
@@ -91,22 +55,6 @@ pub scan-spec : {M : Type 1} → statement M
 scan-spec =
     tie.close
     (tie.spec
-    returns
-    is-marked-requires
-    returns-2
-    pass-requires
-    enum-known-f
-    enum-known-tidy
-    pass-requires-2
-    enum-known-f-2
-    enum-known-h
-    rows-found-requires
-    same-length
-    same-length-2
-    returns-3
-    same-length-3
-    same-length-4
-    returns-4
-    same-length-5
-    same-length-6
-    returns-5)
+    returns (λ c κs. search needs) returns-2 pass-requires (λ c. search needs) (λ c. search needs) pass-requires-2 (λ c. search needs)
+    (λ c. search needs) (λ c κs. search needs) (λ c. search needs) (λ c. search needs) returns-3 (λ c. search needs) (λ c. search needs)
+    returns-4 (λ c. search needs) (λ c. search needs) returns-5)

@@ -14,12 +14,7 @@ returns c = let a = c .before .before .before .args in
 slice-aggregate-same-bytes : tie.Need-slice-aggregate-same-bytes
 slice-aggregate-same-bytes c = simp length-take (omega arith)
 
-same-bytes-requires : tie.Need-same-bytes-requires
-same-bytes-requires c κs = search needs
-
-returns-2 : tie.Need-returns-2
-returns-2 c = search needs
-
 pub starts-with-spec : {M : Type 1} → statement M
 starts-with-spec =
-    tie.close (tie.spec returns slice-aggregate-same-bytes same-bytes-requires returns-2)
+    tie.close (tie.spec
+    returns slice-aggregate-same-bytes (λ c κs. search needs) (λ c. search needs))

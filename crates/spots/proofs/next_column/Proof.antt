@@ -4,9 +4,6 @@ use borrow.Author.Needs.{needs}
 use Rattle.spots.proofs.next_column.Statement.{statement}
 use Rattle.spots.proofs.next_column.Tie as tie
 
-add-result : tie.Need-add-result
-add-result c = search needs
-
 returns : tie.Need-returns
 returns c = rw (eq-eqb (c .before .args .b) 10 (c .if1 .taken)) refl
 
@@ -14,4 +11,5 @@ returns-2 : tie.Need-returns-2
 returns-2 c = rw (ne-eqb (c .before .args .b) 10 (c .if1 .left)) refl
 
 pub next-column-spec : {M : Type 1} → statement M
-next-column-spec = tie.close (tie.spec add-result returns returns-2)
+next-column-spec = tie.close (tie.spec
+    (λ c. search needs) returns returns-2)

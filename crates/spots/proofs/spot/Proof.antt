@@ -15,21 +15,6 @@ abbrev μ-loop : tie.MeasureT-loop
 loop-holds : tie.Need-loop-holds Inv-loop μ-loop
 loop-holds c = counted-start (now (c .before .args .before))
 
-shared-slice-read-b : tie.Need-shared-slice-read-b Inv-loop μ-loop
-shared-slice-read-b c = search needs
-
-next-line-requires : tie.Need-next-line-requires Inv-loop μ-loop
-next-line-requires c κs = search needs
-
-next-column-requires : tie.Need-next-column-requires Inv-loop μ-loop
-next-column-requires c κs = search needs
-
-add-i : tie.Need-add-i Inv-loop μ-loop
-add-i c = search needs
-
-loop-less : tie.Need-loop-less Inv-loop μ-loop
-loop-less c = search needs
-
 loop-again : tie.Need-loop-again Inv-loop μ-loop
 loop-again c = counted-again (now (c .before .before .before .before .before .before .args .before)) (c .before .before .before .before .loop .line) (c .before .before .before .before .loop .column) (c .before .before .before .before .loop .i) (c .before .next-line .result) (c .next-column .result) (c .before .before .before .loop-test .taken) (c .before .before .before .before .loop .inv) (c .before .next-line .ensures) (c .next-column .ensures)
 
@@ -40,13 +25,5 @@ pub spot-spec : {M : Type 1} → statement M
 spot-spec =
     tie.close
     (tie.spec
-    Inv-loop
-    μ-loop
-    loop-holds
-    shared-slice-read-b
-    next-line-requires
-    next-column-requires
-    add-i
-    loop-less
-    loop-again
-    returns)
+    Inv-loop μ-loop loop-holds (λ c. search needs) (λ c κs. search needs) (λ c κs. search needs) (λ c. search needs) (λ c. search needs)
+    loop-again returns)

@@ -17,9 +17,6 @@ abbrev μ-loop : tie.MeasureT-loop
 loop-holds : tie.Need-loop-holds Inv-loop μ-loop
 loop-holds c = ((omega arith, omega arith), refl)
 
-is-open-requires : tie.Need-is-open-requires Inv-loop μ-loop
-is-open-requires c κs = search needs
-
 add-i : tie.Need-add-i Inv-loop μ-loop
 add-i c = let w = c .before .is-open .ensures (c .if1 .taken) in omega arith
 
@@ -30,9 +27,6 @@ loop-again : tie.Need-loop-again Inv-loop μ-loop
 loop-again c = let t = c .before .before in
     let w = c .before .is-open .ensures (c .if1 .taken) in ((omega arith, omega arith), w .1 ∙ t .loop .inv .1)
 
-near-end-requires : tie.Need-near-end-requires Inv-loop μ-loop
-near-end-requires c κs = search needs
-
 returns : tie.Need-returns Inv-loop μ-loop
 returns c = (c .near-end .ensures .0 ∙ c .before .before .before .loop .inv .1, (omega arith, omega arith))
 
@@ -40,12 +34,4 @@ pub first-end-spec : {M : Type 1} → statement M
 first-end-spec =
     tie.close
     (tie.spec
-    Inv-loop
-    μ-loop
-    loop-holds
-    is-open-requires
-    add-i
-    loop-less
-    loop-again
-    near-end-requires
-    returns)
+    Inv-loop μ-loop loop-holds (λ c κs. search needs) add-i loop-less loop-again (λ c κs. search needs) returns)

@@ -6,15 +6,10 @@ use borrow.Author.Needs.{needs}
 use Rattle.statement.proofs.is_mark.Statement.{statement}
 use Rattle.statement.proofs.is_mark.Tie as tie
 
-wide-requires : tie.Need-wide-requires
-wide-requires c κs = search needs
-
-shr-result : tie.Need-shr-result
-shr-result c = search needs
-
 returns : tie.Need-returns
 unfolding mark
 returns c = ap (λ (k : ℕ). eqb ((marks / 2 ^ k) % 2) 1) (c .wide .ensures)
 
 pub is-mark-spec : {M : Type 1} → statement M
-is-mark-spec = tie.close (tie.spec wide-requires shr-result returns)
+is-mark-spec = tie.close (tie.spec
+    (λ c κs. search needs) (λ c. search needs) returns)

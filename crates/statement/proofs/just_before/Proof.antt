@@ -7,11 +7,9 @@ use Rattle.statement.proofs.just_before.Tie as tie
 returns : tie.Need-returns
 returns c = let a = c .before .args in next-not (a .a) (a .b) (c .if1 .taken)
 
-sub-result : tie.Need-sub-result
-sub-result c = search needs
-
 returns-2 : tie.Need-returns-2
 returns-2 c = let a = c .before .args in next-is (a .a) (a .b) (omega arith)
 
 pub just-before-spec : {M : Type 1} → statement M
-just-before-spec = tie.close (tie.spec returns sub-result returns-2)
+just-before-spec = tie.close (tie.spec
+    returns (λ c. search needs) returns-2)

@@ -24,22 +24,10 @@ loop-holds : tie.Need-loop-holds Inv-loop μ-loop
 unfolding past
 loop-holds c = ((omega arith, omega arith), refl)
 
-shared-slice-read-is-mark : tie.Need-shared-slice-read-is-mark Inv-loop μ-loop
-shared-slice-read-is-mark c = search needs
-
-is-mark-requires : tie.Need-is-mark-requires Inv-loop μ-loop
-is-mark-requires c κs = search needs
-
 returns : tie.Need-returns Inv-loop μ-loop
 returns c = let t = c .before .before .before .before in
     let s = now (t .before .before .args .s) in
     (past-stops s (t .loop .i) (omega arith) plain _ (ap not (sym (c .before .is-mark .ensures) ∙ c .if1 .taken)) (t .loop .inv .1), (omega arith, omega arith))
-
-add-i : tie.Need-add-i Inv-loop μ-loop
-add-i c = search needs
-
-loop-less : tie.Need-loop-less Inv-loop μ-loop
-loop-less c = search needs
 
 loop-again : tie.Need-loop-again Inv-loop μ-loop
 loop-again c = let t = c .before .before .before .before in
@@ -55,13 +43,5 @@ pub last-run-spec : {M : Type 1} → statement M
 last-run-spec =
     tie.close
     (tie.spec
-    Inv-loop
-    μ-loop
-    loop-holds
-    shared-slice-read-is-mark
-    is-mark-requires
-    returns
-    add-i
-    loop-less
-    loop-again
+    Inv-loop μ-loop loop-holds (λ c. search needs) (λ c κs. search needs) returns (λ c. search needs) (λ c. search needs) loop-again
     returns-2)

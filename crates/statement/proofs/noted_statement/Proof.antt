@@ -14,22 +14,10 @@ returns : tie.Need-returns
 returns c = let a = c .before .before .args in
     let e = statement-none (now (a .s)) (a .i) (a .section) (c .if1 .taken) in (e, (tt, ap (tidy (now (a .s))) e))
 
-lead-past-requires : tie.Need-lead-past-requires
-lead-past-requires c κs = search needs
-
-enum-known-f : tie.Need-enum-known-f
-enum-known-f c = search needs
-
-enum-known-start : tie.Need-enum-known-start
-enum-known-start c = search needs
-
 returns-2 : tie.Need-returns-2
 returns-2 c = let t = c .before .before .before .before in
     let a = t .before .before .before .args in
     let e = statement-over (now (a .s)) (a .i) (a .section) _ (omega arith) (sym (ap toldFound (c .before .before .start .given .1)) ∙ t .lead-past .ensures) (c .if2 .taken) in (e, (tt, ap (tidy (now (a .s))) e))
-
-statement-at-requires : tie.Need-statement-at-requires
-statement-at-requires c κs = search needs
 
 returns-3 : tie.Need-returns-3
 returns-3 c = let t = c .before .before .before in
@@ -52,11 +40,4 @@ pub noted-statement-spec : {M : Type 1} → statement M
 noted-statement-spec =
     tie.close
     (tie.spec
-    returns
-    lead-past-requires
-    enum-known-f
-    enum-known-start
-    returns-2
-    statement-at-requires
-    returns-3
-    returns-4)
+    returns (λ c κs. search needs) (λ c. search needs) (λ c. search needs) returns-2 (λ c κs. search needs) returns-3 returns-4)

@@ -19,29 +19,11 @@ abbrev μ-loop : tie.MeasureT-loop
 loop-holds : tie.Need-loop-holds Inv-loop μ-loop
 loop-holds c = ((omega arith, omega arith), refl)
 
-sub-loop : tie.Need-sub-loop Inv-loop μ-loop
-sub-loop c = search needs
-
-shared-slice-read-is-mark : tie.Need-shared-slice-read-is-mark Inv-loop μ-loop
-shared-slice-read-is-mark c = search needs
-
-is-mark-requires : tie.Need-is-mark-requires Inv-loop μ-loop
-is-mark-requires c κs = search needs
-
 returns : tie.Need-returns Inv-loop μ-loop
 returns c = let l = c .before .before .before .before in
     let s = now (l .before .before .args .s) in
     let i = l .loop .i in
     (run-stops s (i) (omega arith) (sym (c .before .is-mark .ensures) ∙ c .if1 .taken) ∙ l .loop .inv .1, (omega arith, omega arith))
-
-add-second : tie.Need-add-second Inv-loop μ-loop
-add-second c = search needs
-
-shared-slice-read-is-mark-2 : tie.Need-shared-slice-read-is-mark-2 Inv-loop μ-loop
-shared-slice-read-is-mark-2 c = search needs
-
-is-mark-requires-2 : tie.Need-is-mark-requires-2 Inv-loop μ-loop
-is-mark-requires-2 c κs = search needs
 
 returns-2 : tie.Need-returns-2 Inv-loop μ-loop
 returns-2 c = let l = c .before .before .before .before .before .before .before in
@@ -50,15 +32,6 @@ returns-2 c = let l = c .before .before .before .before .before .before .before 
     let e1 = run-goes s (i) (omega arith) (sym (c .before .before .before .before .is-mark .ensures) ∙ c .before .before .before .if1 .left) ∙ l .loop .inv .1 in
     (run-stops s (i + 1) (omega arith) (sym (c .before .is-mark2 .ensures) ∙ c .if2 .taken) ∙ e1, (omega arith, omega arith))
 
-add-third : tie.Need-add-third Inv-loop μ-loop
-add-third c = search needs
-
-shared-slice-read-is-mark-3 : tie.Need-shared-slice-read-is-mark-3 Inv-loop μ-loop
-shared-slice-read-is-mark-3 c = search needs
-
-is-mark-requires-3 : tie.Need-is-mark-requires-3 Inv-loop μ-loop
-is-mark-requires-3 c κs = search needs
-
 returns-3 : tie.Need-returns-3 Inv-loop μ-loop
 returns-3 c = let l = c .before .before .before .before .before .before .before .before .before .before in
     let s = now (l .before .before .args .s) in
@@ -66,15 +39,6 @@ returns-3 c = let l = c .before .before .before .before .before .before .before 
     let e1 = run-goes s (i) (omega arith) (sym (c .before .before .before .before .before .before .before .is-mark .ensures) ∙ c .before .before .before .before .before .before .if1 .left) ∙ l .loop .inv .1 in
     let e2 = run-goes s (i + 1) (omega arith) (sym (c .before .before .before .before .is-mark2 .ensures) ∙ c .before .before .before .if2 .left) ∙ e1 in
     (run-stops s (i + 1 + 1) (omega arith) (sym (c .before .is-mark3 .ensures) ∙ c .if3 .taken) ∙ e2, (omega arith, omega arith))
-
-add-fourth : tie.Need-add-fourth Inv-loop μ-loop
-add-fourth c = search needs
-
-shared-slice-read-is-mark-4 : tie.Need-shared-slice-read-is-mark-4 Inv-loop μ-loop
-shared-slice-read-is-mark-4 c = search needs
-
-is-mark-requires-4 : tie.Need-is-mark-requires-4 Inv-loop μ-loop
-is-mark-requires-4 c κs = search needs
 
 returns-4 : tie.Need-returns-4 Inv-loop μ-loop
 returns-4 c = let l = c .before .before .before .before .before .before .before .before .before .before .before .before .before in
@@ -85,12 +49,6 @@ returns-4 c = let l = c .before .before .before .before .before .before .before 
     let e3 = run-goes s (i + 1 + 1) (omega arith) (sym (c .before .before .before .before .is-mark3 .ensures) ∙ c .before .before .before .if3 .left) ∙ e2 in
     (run-stops s (i + 1 + 1 + 1) (omega arith) (sym (c .before .is-mark4 .ensures) ∙ c .if4 .taken) ∙ e3, (omega arith, omega arith))
 
-add-i : tie.Need-add-i Inv-loop μ-loop
-add-i c = search needs
-
-loop-less : tie.Need-loop-less Inv-loop μ-loop
-loop-less c = search needs
-
 loop-again : tie.Need-loop-again Inv-loop μ-loop
 loop-again c = let l = c .before .before .before .before .before .before .before .before .before .before .before .before .before in
     let s = now (l .before .before .args .s) in
@@ -100,9 +58,6 @@ loop-again c = let l = c .before .before .before .before .before .before .before
     let e3 = run-goes s (i + 1 + 1) (omega arith) (sym (c .before .before .before .before .is-mark3 .ensures) ∙ c .before .before .before .if3 .left) ∙ e2 in
     ((omega arith, omega arith), run-goes s (i + 1 + 1 + 1) (omega arith) (sym (c .before .is-mark4 .ensures) ∙ c .if4 .left) ∙ e3)
 
-last-run-requires : tie.Need-last-run-requires Inv-loop μ-loop
-last-run-requires c κs = search needs
-
 returns-5 : tie.Need-returns-5 Inv-loop μ-loop
 returns-5 c = let l = c .before .before in
     (c .last-run .ensures .0 ∙ l .loop .inv .1, (omega (arith, c .last-run .ensures .1), c .last-run .ensures .1 .1))
@@ -111,27 +66,7 @@ pub plain-run-spec : {M : Type 1} → statement M
 plain-run-spec =
     tie.close
     (tie.spec
-    Inv-loop
-    μ-loop
-    loop-holds
-    sub-loop
-    shared-slice-read-is-mark
-    is-mark-requires
-    returns
-    add-second
-    shared-slice-read-is-mark-2
-    is-mark-requires-2
-    returns-2
-    add-third
-    shared-slice-read-is-mark-3
-    is-mark-requires-3
-    returns-3
-    add-fourth
-    shared-slice-read-is-mark-4
-    is-mark-requires-4
-    returns-4
-    add-i
-    loop-less
-    loop-again
-    last-run-requires
-    returns-5)
+    Inv-loop μ-loop loop-holds (λ c. search needs) (λ c. search needs) (λ c κs. search needs) returns (λ c. search needs)
+    (λ c. search needs) (λ c κs. search needs) returns-2 (λ c. search needs) (λ c. search needs) (λ c κs. search needs) returns-3
+    (λ c. search needs) (λ c. search needs) (λ c κs. search needs) returns-4 (λ c. search needs) (λ c. search needs) loop-again
+    (λ c κs. search needs) returns-5)

@@ -7,45 +7,6 @@ use borrow.Author.Needs.{needs}
 use Rattle.statement.proofs.record_said.Statement.{statement}
 use Rattle.statement.proofs.record_said.Tie as tie
 
-sub-section-word : tie.Need-sub-section-word
-sub-section-word c = search needs
-
-part-section-word-start : tie.Need-part-section-word-start
-part-section-word-start c = search needs
-
-part-section-word-end : tie.Need-part-section-word-end
-part-section-word-end c = search needs
-
-section-word-requires : tie.Need-section-word-requires
-section-word-requires c κs = search needs
-
-enum-told : tie.Need-enum-told
-enum-told c = search needs
-
-add-t12 : tie.Need-add-t12
-add-t12 c = search needs
-
-enum-told-2 : tie.Need-enum-told-2
-enum-told-2 c = search needs
-
-add-t14 : tie.Need-add-t14
-add-t14 c = search needs
-
-enum-told-3 : tie.Need-enum-told-3
-enum-told-3 c = search needs
-
-add-t16 : tie.Need-add-t16
-add-t16 c = search needs
-
-enum-told-4 : tie.Need-enum-told-4
-enum-told-4 c = search needs
-
-enum-told-5 : tie.Need-enum-told-5
-enum-told-5 c = search needs
-
-in-section-requires : tie.Need-in-section-requires
-in-section-requires c κs = search needs
-
 returns : tie.Need-returns
 returns c = let a = c .before .before .before .before .before .args in (
   moved-at (now (a .s)) (a .start) (a .end) (omega arith) (omega arith) Outside ∙ worded-at (now (a .s)) (a .start) (a .end) (omega arith) (omega arith) (a .section) _
@@ -85,21 +46,6 @@ pub record-said-spec : {M : Type 1} → statement M
 record-said-spec =
     tie.close
     (tie.spec
-    sub-section-word
-    part-section-word-start
-    part-section-word-end
-    section-word-requires
-    enum-told
-    add-t12
-    enum-told-2
-    add-t14
-    enum-told-3
-    add-t16
-    enum-told-4
-    enum-told-5
-    in-section-requires
-    returns
-    returns-2
-    returns-3
-    returns-4
-    returns-5)
+    (λ c. search needs) (λ c. search needs) (λ c. search needs) (λ c κs. search needs) (λ c. search needs) (λ c. search needs)
+    (λ c. search needs) (λ c. search needs) (λ c. search needs) (λ c. search needs) (λ c. search needs) (λ c. search needs)
+    (λ c κs. search needs) returns returns-2 returns-3 returns-4 returns-5)

@@ -8,32 +8,11 @@ use borrow.Author.Needs.{needs}
 use Rattle.statement.proofs.scan_data_record.Statement.{statement}
 use Rattle.statement.proofs.scan_data_record.Tie as tie
 
-sub-data-head : tie.Need-sub-data-head
-sub-data-head c = search needs
-
-part-data-head-start : tie.Need-part-data-head-start
-part-data-head-start c = search needs
-
-part-data-head-end : tie.Need-part-data-head-end
-part-data-head-end c = search needs
-
-data-head-requires : tie.Need-data-head-requires
-data-head-requires c κs = search needs
-
-enum-known-why : tie.Need-enum-known-why
-enum-known-why c = search needs
-
-enum-known-id : tie.Need-enum-known-id
-enum-known-id c = search needs
-
 add-record-args : tie.Need-add-record-args
 add-record-args c = let a = c .before .before .before .before .before .before .args in let w = complex-fits (now (a .s)) (a .start) (a .end) (omega arith) (omega arith) _ _ (sym (c .before .before .before .data-head .ensures) ∙ c .before .id .given .1) in omega arith
 
 record-args-requires : tie.Need-record-args-requires
 record-args-requires c κs = let a = c .before .before .before .before .before .before .args in let w = complex-fits (now (a .s)) (a .start) (a .end) (omega arith) (omega arith) _ _ (sym (c .before .before .before .data-head .ensures) ∙ c .before .id .given .1) in omega arith
-
-enum-known-id-2 : tie.Need-enum-known-id-2
-enum-known-id-2 c = search needs
 
 add-record-args-2 : tie.Need-add-record-args-2
 add-record-args-2 c = let a = c .before .before .before .before .before .before .args in let w = simple-fits (now (a .s)) (a .start) (a .end) (omega arith) (omega arith) _ _ _ _ (sym (c .before .before .before .data-head .ensures) ∙ c .before .id2 .given .1) in omega arith
@@ -67,19 +46,6 @@ pub scan-data-record-spec : {M : Type 1} → statement M
 scan-data-record-spec =
     tie.close
     (tie.spec
-    sub-data-head
-    part-data-head-start
-    part-data-head-end
-    data-head-requires
-    enum-known-why
-    enum-known-id
-    add-record-args
-    record-args-requires
-    enum-known-id-2
-    add-record-args-2
-    add-t22
-    add-record-args-3
-    record-args-requires-2
-    returns
-    returns-2
-    returns-3)
+    (λ c. search needs) (λ c. search needs) (λ c. search needs) (λ c κs. search needs) (λ c. search needs) (λ c. search needs)
+    add-record-args record-args-requires (λ c. search needs) add-record-args-2 add-t22 add-record-args-3 record-args-requires-2 returns
+    returns-2 returns-3)

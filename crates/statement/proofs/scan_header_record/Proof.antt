@@ -9,27 +9,6 @@ use borrow.Author.Needs.{needs}
 use Rattle.statement.proofs.scan_header_record.Statement.{statement}
 use Rattle.statement.proofs.scan_header_record.Tie as tie
 
-sub-header-head : tie.Need-sub-header-head
-sub-header-head c = search needs
-
-part-header-head-start : tie.Need-part-header-head-start
-part-header-head-start c = search needs
-
-part-header-head-end : tie.Need-part-header-head-end
-part-header-head-end c = search needs
-
-header-head-requires : tie.Need-header-head-requires
-header-head-requires c κs = search needs
-
-enum-known-why : tie.Need-enum-known-why
-enum-known-why c = search needs
-
-enum-told : tie.Need-enum-told
-enum-told c = search needs
-
-enum-known-a : tie.Need-enum-known-a
-enum-known-a c = search needs
-
 add-header-args : tie.Need-add-header-args
 add-header-args c = let a = c .before .before .before .before .before .before .args in let w = header-fits (now (a .s)) (a .start) (a .end) (omega arith) (omega arith) _ _ _ _ (sym (c .before .before .before .header-head .ensures) ∙ c .before .a .given .1) in omega arith
 
@@ -59,17 +38,5 @@ pub scan-header-record-spec : {M : Type 1} → statement M
 scan-header-record-spec =
     tie.close
     (tie.spec
-    sub-header-head
-    part-header-head-start
-    part-header-head-end
-    header-head-requires
-    enum-known-why
-    enum-told
-    enum-known-a
-    add-header-args
-    add-t18
-    add-header-args-2
-    header-args-requires
-    returns
-    returns-2
-    returns-3)
+    (λ c. search needs) (λ c. search needs) (λ c. search needs) (λ c κs. search needs) (λ c. search needs) (λ c. search needs)
+    (λ c. search needs) add-header-args add-t18 add-header-args-2 header-args-requires returns returns-2 returns-3)

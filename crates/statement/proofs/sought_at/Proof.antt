@@ -8,19 +8,10 @@ use borrow.Author.Needs.{needs}
 use Rattle.statement.proofs.sought_at.Statement.{statement}
 use Rattle.statement.proofs.sought_at.Tie as tie
 
-find-record-end-requires : tie.Need-find-record-end-requires
-find-record-end-requires c κs = search needs
-
-enum-known-end : tie.Need-enum-known-end
-enum-known-end c = search needs
-
 record-said-requires : tie.Need-record-said-requires
 record-said-requires c κs = let a = c .before .before .before .before .before .args in
     let e = end-at (now (a .s)) (a .start) _ (omega arith) (sym (ap toldFound (c .before .end .given .1)) ∙ c .before .before .before .find-record-end .ensures) in
     (e .1, e .2)
-
-enum-known-f : tie.Need-enum-known-f
-enum-known-f c = search needs
 
 returns : tie.Need-returns
 returns c = let a = c .before .before .before .before .before .before .args in
@@ -34,9 +25,4 @@ pub sought-at-spec : {M : Type 1} → statement M
 sought-at-spec =
     tie.close
     (tie.spec
-    find-record-end-requires
-    enum-known-end
-    record-said-requires
-    enum-known-f
-    returns
-    returns-2)
+    (λ c κs. search needs) (λ c. search needs) record-said-requires (λ c. search needs) returns returns-2)

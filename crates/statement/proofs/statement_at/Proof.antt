@@ -5,18 +5,6 @@ use borrow.Author.Needs.{needs}
 use Rattle.statement.proofs.statement_at.Statement.{statement}
 use Rattle.statement.proofs.statement_at.Tie as tie
 
-usual-at-requires : tie.Need-usual-at-requires
-usual-at-requires c κs = search needs
-
-enum-told : tie.Need-enum-told
-enum-told c = search needs
-
-sought-at-requires : tie.Need-sought-at-requires
-sought-at-requires c κs = search needs
-
-enum-known-span : tie.Need-enum-known-span
-enum-known-span c = search needs
-
 -- what was sought, and the note of it
 returns : tie.Need-returns
 returns c = let a = c .before .before .before .before .before .before .args in
@@ -31,10 +19,8 @@ returns-2 c = let a = c .before .before .before .before .before .args in
     (e .0, ((e .1, e .1, e .2), e .3 ∙ ap (tidy (now (a .s))) (e .0)))
 
 -- src/lib.rt
-note-requires : tie.Need-note-requires
-note-requires c κs = search needs
-
 pub statement-at-spec : {M : Type 1} → statement M
 statement-at-spec =
     tie.close
-    (tie.spec usual-at-requires enum-told sought-at-requires note-requires enum-known-span returns returns-2)
+    (tie.spec
+    (λ c κs. search needs) (λ c. search needs) (λ c κs. search needs) (λ c κs. search needs) (λ c. search needs) returns returns-2)

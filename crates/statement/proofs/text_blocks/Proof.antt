@@ -17,20 +17,8 @@ abbrev μ-loop : tie.MeasureT-loop
 loop-holds : tie.Need-loop-holds Inv-loop μ-loop
 loop-holds c = ((omega arith, omega arith), refl)
 
-sub-loop : tie.Need-sub-loop Inv-loop μ-loop
-sub-loop c = search needs
-
-block-stops-requires : tie.Need-block-stops-requires Inv-loop μ-loop
-block-stops-requires c κs = search needs
-
 returns : tie.Need-returns Inv-loop μ-loop
 returns c = let l = c .before .before .before .loop in (l .inv .1, (omega arith, omega arith))
-
-add-i : tie.Need-add-i Inv-loop μ-loop
-add-i c = search needs
-
-loop-less : tie.Need-loop-less Inv-loop μ-loop
-loop-less c = search needs
 
 loop-again : tie.Need-loop-again Inv-loop μ-loop
 loop-again c = let l = c .before .before .before .loop in ((omega arith, omega arith), c .before .block-stops .ensures (c .if1 .left) ∙ l .inv .1)
@@ -42,13 +30,5 @@ pub text-blocks-spec : {M : Type 1} → statement M
 text-blocks-spec =
     tie.close
     (tie.spec
-    Inv-loop
-    μ-loop
-    loop-holds
-    sub-loop
-    block-stops-requires
-    returns
-    add-i
-    loop-less
-    loop-again
+    Inv-loop μ-loop loop-holds (λ c. search needs) (λ c κs. search needs) returns (λ c. search needs) (λ c. search needs) loop-again
     returns-2)

@@ -9,24 +9,6 @@ use borrow.Author.Needs.{needs}
 use Rattle.statement.proofs.tidy_at.Statement.{statement}
 use Rattle.statement.proofs.tidy_at.Tie as tie
 
-sub-data-head : tie.Need-sub-data-head
-sub-data-head c = search needs
-
-part-data-head-start : tie.Need-part-data-head-start
-part-data-head-start c = search needs
-
-part-data-head-end : tie.Need-part-data-head-end
-part-data-head-end c = search needs
-
-data-head-requires : tie.Need-data-head-requires
-data-head-requires c κs = search needs
-
-enum-told : tie.Need-enum-told
-enum-told c = search needs
-
-enum-known-id : tie.Need-enum-known-id
-enum-known-id c = search needs
-
 add-t24 : tie.Need-add-t24
 add-t24 c = let a = c .before .before .before .before .before .before .args in
     let e = sym (c .before .before .before .data-head .ensures) ∙ c .before .id .given .1 in
@@ -47,12 +29,6 @@ sub-t26 c = let a = c .before .before .before .before .before .before .args in
     let w = complex-fits (now (a .s)) (a .start) (a .end) (omega arith) (omega arith) _ _ e in
     let l = head-after (now (a .s)) (a .start) (a .end) _ (omega arith) (omega arith) tt e in
     omega arith
-
-add-t24-2 : tie.Need-add-t24-2
-add-t24-2 c = search needs
-
-enum-known-id-2 : tie.Need-enum-known-id-2
-enum-known-id-2 c = search needs
 
 add-t27 : tie.Need-add-t27
 add-t27 c = let a = c .before .before .before .before .before .before .args in
@@ -89,9 +65,6 @@ sub-t29 c = let a = c .before .before .before .before .before .before .args in
     let l = head-after (now (a .s)) (a .start) (a .end) _ (omega arith) (omega arith) tt e in
     omega arith
 
-add-t27-3 : tie.Need-add-t27-3
-add-t27-3 c = search needs
-
 returns : tie.Need-returns
 returns c = let a = c .before .before .before .before .before .args in
     let e = sym (c .before .before .data-head .ensures) ∙ c .enum-told .given .1 in
@@ -115,23 +88,6 @@ pub tidy-at-spec : {M : Type 1} → statement M
 tidy-at-spec =
     tie.close
     (tie.spec
-    sub-data-head
-    part-data-head-start
-    part-data-head-end
-    data-head-requires
-    enum-told
-    enum-known-id
-    add-t24
-    add-t25
-    sub-t26
-    add-t24-2
-    enum-known-id-2
-    add-t27
-    add-t28
-    add-t27-2
-    add-t28-2
-    sub-t29
-    add-t27-3
-    returns
-    returns-2
-    returns-3)
+    (λ c. search needs) (λ c. search needs) (λ c. search needs) (λ c κs. search needs) (λ c. search needs) (λ c. search needs) add-t24
+    add-t25 sub-t26 (λ c. search needs) (λ c. search needs) add-t27 add-t28 add-t27-2 add-t28-2 sub-t29 (λ c. search needs) returns
+    returns-2 returns-3)

@@ -17,17 +17,11 @@ abbrev μ-loop : tie.MeasureT-loop
 loop-holds : tie.Need-loop-holds Inv-loop μ-loop
 loop-holds c = let a = c .before .args in (omega arith, omega arith, omega arith, way-none 0 (drop (a .from) (now (a .s))))
 
-plain-run-requires : tie.Need-plain-run-requires Inv-loop μ-loop
-plain-run-requires c κs = search needs
-
 returns : tie.Need-returns Inv-loop μ-loop
 returns c = λ h. absurd (omega arith)
 
 mark-step-requires : tie.Need-mark-step-requires Inv-loop μ-loop
 mark-step-requires c κs = (omega arith, omega (arith, c .before .plain-run .ensures .1))
-
-enum-known-at : tie.Need-enum-known-at Inv-loop μ-loop
-enum-known-at c = search needs
 
 returns-2 : tie.Need-returns-2 Inv-loop μ-loop
 returns-2 c = λ h.
@@ -37,9 +31,6 @@ returns-2 c = λ h.
     let s = now (k .before .before .before .before .before .args .s) in
     let e = (rw (c .before .at .given .1) at (k .mark-step .ensures)) h in
     stop-at s (k .before .before .before .before .before .args .from) (r .result) _ (l .depth) e (omega (arith, r .ensures .1)) (way-on (l .inv .3) (run-at (l .depth) s (l .i) (r .result) (r .ensures .0)))
-
-enum-known-next : tie.Need-enum-known-next Inv-loop μ-loop
-enum-known-next c = search needs
 
 loop-less : tie.Need-loop-less Inv-loop μ-loop
 loop-less c = let k = c .before .before .before in
@@ -58,14 +49,5 @@ pub usual-close-spec : {M : Type 1} → statement M
 usual-close-spec =
     tie.close
     (tie.spec
-    Inv-loop
-    μ-loop
-    loop-holds
-    plain-run-requires
-    returns
-    mark-step-requires
-    enum-known-at
-    returns-2
-    enum-known-next
-    loop-less
+    Inv-loop μ-loop loop-holds (λ c κs. search needs) returns mark-step-requires (λ c. search needs) returns-2 (λ c. search needs) loop-less
     loop-again)

@@ -5,24 +5,6 @@ use borrow.Author.Needs.{needs}
 use Rattle.statement.proofs.usual_row.Statement.{statement}
 use Rattle.statement.proofs.usual_row.Tie as tie
 
-add-t18 : tie.Need-add-t18
-add-t18 c = search needs
-
-enum-told : tie.Need-enum-told
-enum-told c = search needs
-
-enum-known-head : tie.Need-enum-known-head
-enum-known-head c = search needs
-
-add-t20 : tie.Need-add-t20
-add-t20 c = search needs
-
-add-t21 : tie.Need-add-t21
-add-t21 c = search needs
-
-enum-known-head-2 : tie.Need-enum-known-head-2
-enum-known-head-2 c = search needs
-
 add-t23 : tie.Need-add-t23
 add-t23 c = let b = c .before .before .before in
     let a = b .args in
@@ -36,15 +18,6 @@ add-t24 c = let b = c .before .before .before in
     let w = b .pre .0 in
     let f = head-fits (now (a .s)) (a .start) (a .opening) (a .close) (a .end) w _ _ _ _ (rw (c .before .head2 .given .1) at (b .pre .1)) in
     record { fits = omega (arith, f .0, f .1, w .over, w .upto, w .within) }
-
-add-t23-2 : tie.Need-add-t23-2
-add-t23-2 c = search needs
-
-add-t24-2 : tie.Need-add-t24-2
-add-t24-2 c = search needs
-
-returns : tie.Need-returns
-returns c = search needs
 
 returns-2 : tie.Need-returns-2
 returns-2 c = let b = c .before .before .before in
@@ -70,16 +43,5 @@ pub usual-row-spec : {M : Type 1} → statement M
 usual-row-spec =
     tie.close
     (tie.spec
-    add-t18
-    enum-told
-    enum-known-head
-    add-t20
-    add-t21
-    enum-known-head-2
-    add-t23
-    add-t24
-    add-t23-2
-    add-t24-2
-    returns
-    returns-2
-    returns-3)
+    (λ c. search needs) (λ c. search needs) (λ c. search needs) (λ c. search needs) (λ c. search needs) (λ c. search needs) add-t23 add-t24
+    (λ c. search needs) (λ c. search needs) (λ c. search needs) returns-2 returns-3)

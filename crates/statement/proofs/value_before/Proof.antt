@@ -7,48 +7,6 @@ use borrow.Author.Needs.{needs}
 use Rattle.statement.proofs.value_before.Statement.{statement}
 use Rattle.statement.proofs.value_before.Tie as tie
 
-sub-leading-space : tie.Need-sub-leading-space
-sub-leading-space c = search needs
-
-part-leading-space-start : tie.Need-part-leading-space-start
-part-leading-space-start c = search needs
-
-part-leading-space-end : tie.Need-part-leading-space-end
-part-leading-space-end c = search needs
-
-leading-space-requires : tie.Need-leading-space-requires
-leading-space-requires c κs = search needs
-
-add-q : tie.Need-add-q
-add-q c = search needs
-
-returns : tie.Need-returns
-returns c = search needs
-
-shared-slice-read-if2 : tie.Need-shared-slice-read-if2
-shared-slice-read-if2 c = search needs
-
-returns-2 : tie.Need-returns-2
-returns-2 c = search needs
-
-add-value : tie.Need-add-value
-add-value c = search needs
-
-sub-leading-space-2 : tie.Need-sub-leading-space-2
-sub-leading-space-2 c = search needs
-
-part-leading-space-start-2 : tie.Need-part-leading-space-start-2
-part-leading-space-start-2 c = search needs
-
-part-leading-space-end-2 : tie.Need-part-leading-space-end-2
-part-leading-space-end-2 c = search needs
-
-leading-space-requires-2 : tie.Need-leading-space-requires-2
-leading-space-requires-2 c κs = search needs
-
-add-a : tie.Need-add-a
-add-a c = search needs
-
 returns-3 : tie.Need-returns-3
 returns-3 c = let b = c .before .before .before .before .before .before .before .before .before in
     let t = now (b .args .t) in
@@ -59,9 +17,6 @@ returns-3 c = let b = c .before .before .before .before .before .before .before 
     (space-at t (b .args .from) _ (p .1 .2) (c .before .before .before .before .before .before .leading-space .ensures .0)) (omega arith) (c .before .before .before .if2 .left)
     (space-at t (q + 1) _ (omega arith) (c .before .leading-space2 .ensures .0)) in
     (omega arith, head-complex t (b .args .id) a f (c .if3 .taken) (omega arith))
-
-trim-at-requires : tie.Need-trim-at-requires
-trim-at-requires c κs = search needs
 
 returns-4 : tie.Need-returns-4
 returns-4 c = let b = c .before .before .before .before .before .before .before .before .before .before in
@@ -78,20 +33,6 @@ pub value-before-spec : {M : Type 1} → statement M
 value-before-spec =
     tie.close
     (tie.spec
-    sub-leading-space
-    part-leading-space-start
-    part-leading-space-end
-    leading-space-requires
-    add-q
-    returns
-    shared-slice-read-if2
-    returns-2
-    add-value
-    sub-leading-space-2
-    part-leading-space-start-2
-    part-leading-space-end-2
-    leading-space-requires-2
-    add-a
-    returns-3
-    trim-at-requires
-    returns-4)
+    (λ c. search needs) (λ c. search needs) (λ c. search needs) (λ c κs. search needs) (λ c. search needs) (λ c. search needs)
+    (λ c. search needs) (λ c. search needs) (λ c. search needs) (λ c. search needs) (λ c. search needs) (λ c. search needs)
+    (λ c κs. search needs) (λ c. search needs) returns-3 (λ c κs. search needs) returns-4)

@@ -6,9 +6,6 @@ use Rattle.strings.specs.Hex.{byte-past}
 use Rattle.strings.proofs.byte_at.Statement.{statement}
 use Rattle.strings.proofs.byte_at.Tie as tie
 
-shared-slice-read-result : tie.Need-shared-slice-read-result
-shared-slice-read-result c = search needs
-
 cast-result : tie.Need-cast-result
 cast-result c = omega (arith, c .shared-slice-known .given (c .before .before .args .k))
 
@@ -19,4 +16,5 @@ returns-2 : tie.Need-returns-2
 returns-2 c = byte-past (now (c .before .args .s)) (c .before .args .k) (omega arith)
 
 pub byte-at-spec : {M : Type 1} → statement M
-byte-at-spec = tie.close (tie.spec shared-slice-read-result cast-result returns returns-2)
+byte-at-spec = tie.close (tie.spec
+    (λ c. search needs) cast-result returns returns-2)

@@ -8,15 +8,6 @@ use Rattle.utf8.specs.Utf8.{byteAt}
 use Rattle.strings.proofs.closing_len.Statement.{statement}
 use Rattle.strings.proofs.closing_len.Tie as tie
 
-byte-at-requires : tie.Need-byte-at-requires
-byte-at-requires c κs = search needs
-
-byte-at-requires-2 : tie.Need-byte-at-requires-2
-byte-at-requires-2 c κs = search needs
-
-byte-at-requires-3 : tie.Need-byte-at-requires-3
-byte-at-requires-3 c κs = search needs
-
 returns : tie.Need-returns
 returns c =
     let k = c .before .before in
@@ -41,4 +32,5 @@ returns-3 c =
 pub closing-len-spec : {M : Type 1} → statement M
 closing-len-spec =
     tie.close
-    (tie.spec byte-at-requires byte-at-requires-2 byte-at-requires-3 returns returns-2 returns-3)
+    (tie.spec
+    (λ c κs. search needs) (λ c κs. search needs) (λ c κs. search needs) returns returns-2 returns-3)

@@ -6,9 +6,6 @@ use borrow.Author.Needs.{needs}
 use Rattle.strings.proofs.decode_string.Statement.{statement}
 use Rattle.strings.proofs.decode_string.Tie as tie
 
-first-plain-requires : tie.Need-first-plain-requires
-first-plain-requires c κs = search needs
-
 returns : tie.Need-returns
 returns c =
     let k = c .before in
@@ -16,12 +13,6 @@ returns c =
     let s = now (b .args .raw) in
     let o = now (b .args .out) in
     decoded-plain s o (plain-whole s (k .first-plain .result) (omega arith) (k .first-plain .ensures .plainly))
-
-run-requires : tie.Need-run-requires
-run-requires c κs = search needs
-
-same-length : tie.Need-same-length
-same-length c = search needs
 
 returns-2 : tie.Need-returns-2
 returns-2 c =
@@ -31,9 +22,6 @@ returns-2 c =
     let o = now (b .args .out) in
     decoded-ample s o (c .before .before .run .last .1 .1 .0) (c .before .before .run .result) (k .first-plain .ensures .stops (omega (arith, k .first-plain .ensures .within))) (λ i. omega (arith, k .before .before .shared-slice-known .given i)) (omega arith) (omega (arith, b .good .1 .0 .1)) (c .before .before .run .ensures)
 
-text-length-requires : tie.Need-text-length-requires
-text-length-requires c κs = search needs
-
 returns-3 : tie.Need-returns-3
 returns-3 c =
     let k = c .before .before .before .before in
@@ -41,12 +29,6 @@ returns-3 c =
     let s = now (b .args .raw) in
     let o = now (b .args .out) in
     decoded-short s o (c .before .text-length .result) (k .first-plain .ensures .stops (omega (arith, k .first-plain .ensures .within))) (c .before .text-length .ensures) (omega arith)
-
-run-requires-2 : tie.Need-run-requires-2
-run-requires-2 c κs = search needs
-
-same-length-2 : tie.Need-same-length-2
-same-length-2 c = search needs
 
 returns-4 : tie.Need-returns-4
 returns-4 c =
@@ -61,13 +43,5 @@ pub decode-string-spec : {M : Type 1} → statement M
 decode-string-spec =
     tie.close
     (tie.spec
-    first-plain-requires
-    returns
-    run-requires
-    same-length
-    returns-2
-    text-length-requires
-    returns-3
-    run-requires-2
-    same-length-2
-    returns-4)
+    (λ c κs. search needs) returns (λ c κs. search needs) (λ c. search needs) returns-2 (λ c κs. search needs) returns-3
+    (λ c κs. search needs) (λ c. search needs) returns-4)

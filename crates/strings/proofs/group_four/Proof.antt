@@ -10,12 +10,6 @@ use Rattle.strings.specs.Hex.{neither, four-wrong, four-char}
 use Rattle.strings.proofs.group_four.Statement.{statement}
 use Rattle.strings.proofs.group_four.Tie as tie
 
-hex-four-requires : tie.Need-hex-four-requires
-hex-four-requires c κs = search needs
-
-hex-four-requires-2 : tie.Need-hex-four-requires-2
-hex-four-requires-2 c κs = search needs
-
 returns : tie.Need-returns
 returns c = four-wrong (now (c .before .before .before .before .args .s)) (c .before .before .hex-four .result) (c .before .hex-four2 .result) (c .before .before .hex-four .ensures) (c .before .hex-four2 .ensures) (c .if1 .taken)
 
@@ -25,9 +19,6 @@ mul-shown-code c = let a = c .before .before .hex-four .result in let h = leb-fa
 add-shown-code : tie.Need-add-shown-code
 add-shown-code c = let a = c .before .before .hex-four .result in let b = c .before .hex-four2 .result in let k = neither (leb 65536 a) (leb 65536 b) (c .if1 .left) in let h = leb-false 65536 a (k .0) in let l = leb-false 65536 b (k .1) in omega arith
 
-shown-code-requires : tie.Need-shown-code-requires
-shown-code-requires c κs = search needs
-
 returns-2 : tie.Need-returns-2
 returns-2 c = let k = c .before in ap (λ (z : ℕ). char z 8) (c .shown-code .ensures) ∙ four-char (now (k .before .before .before .before .args .s)) (k .before .before .hex-four .result) (k .before .hex-four2 .result) (k .before .before .hex-four .ensures) (k .before .hex-four2 .ensures) (k .if1 .left)
 
@@ -35,10 +26,4 @@ pub group-four-spec : {M : Type 1} → statement M
 group-four-spec =
     tie.close
     (tie.spec
-    hex-four-requires
-    hex-four-requires-2
-    returns
-    mul-shown-code
-    add-shown-code
-    shown-code-requires
-    returns-2)
+    (λ c κs. search needs) (λ c κs. search needs) returns mul-shown-code add-shown-code (λ c κs. search needs) returns-2)

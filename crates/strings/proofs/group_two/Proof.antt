@@ -10,14 +10,8 @@ use Rattle.strings.specs.Hex.{both, two-wrong, two-single, two-pair, two
 use Rattle.strings.proofs.group_two.Statement.{statement}
 use Rattle.strings.proofs.group_two.Tie as tie
 
-hex-four-requires : tie.Need-hex-four-requires
-hex-four-requires c κs = search needs
-
 returns : tie.Need-returns
 returns c = two-wrong (now (c .before .before .before .args .s)) (c .before .hex-four .result) (c .before .hex-four .ensures) (omega arith)
-
-hex-four-requires-2 : tie.Need-hex-four-requires-2
-hex-four-requires-2 c κs = search needs
 
 returns-2 : tie.Need-returns-2
 returns-2 c = let k = c .before .before .before .before in two-single (now (k .before .before .args .s)) (k .hex-four .result) (c .before .hex-four2 .result) (k .hex-four .ensures) (omega arith) (c .before .before .if2 .taken) (c .before .hex-four2 .ensures) (omega arith)
@@ -28,9 +22,6 @@ joined-code-requires c κs = let a = c .before .before .before .before .hex-four
 returns-3 : tie.Need-returns-3
 returns-3 c = let k = c .before .before .before .before .before in ap (λ (z : ℕ). char z 8) (c .joined-code .ensures) ∙ two-pair (now (k .before .before .args .s)) (k .hex-four .result) (c .before .before .hex-four2 .result) (k .hex-four .ensures) (omega arith) (c .before .before .before .if2 .taken) (c .before .before .hex-four2 .ensures) (omega arith)
 
-shown-code-requires : tie.Need-shown-code-requires
-shown-code-requires c κs = search needs
-
 returns-4 : tie.Need-returns-4
 returns-4 c = let k = c .before .before .before in ap (λ (z : ℕ). char z 4) (c .shown-code .ensures) ∙ two-alone (now (k .before .before .args .s)) (k .hex-four .result) (k .hex-four .ensures) (omega arith) (c .before .if2 .left)
 
@@ -38,11 +29,4 @@ pub group-two-spec : {M : Type 1} → statement M
 group-two-spec =
     tie.close
     (tie.spec
-    hex-four-requires
-    returns
-    hex-four-requires-2
-    returns-2
-    joined-code-requires
-    returns-3
-    shown-code-requires
-    returns-4)
+    (λ c κs. search needs) returns (λ c κs. search needs) returns-2 joined-code-requires returns-3 (λ c κs. search needs) returns-4)

@@ -20,21 +20,6 @@ abbrev μ-loop : tie.MeasureT-loop
 loop-holds : tie.Need-loop-holds Inv-loop μ-loop
 loop-holds c = let a = c .before .before .args in reading-starts (a .width) (now (a .s)) (a .at) (now (a .out)) (omega (arith, c .before .before .pre)) (omega arith)
 
-sub-t : tie.Need-sub-t Inv-loop μ-loop
-sub-t c = search needs
-
-part-t-start : tie.Need-part-t-start Inv-loop μ-loop
-part-t-start c = search needs
-
-part-t-end : tie.Need-part-t-end Inv-loop μ-loop
-part-t-end c = search needs
-
-byte-at-requires : tie.Need-byte-at-requires Inv-loop μ-loop
-byte-at-requires c κs = search needs
-
-closing-len-requires : tie.Need-closing-len-requires Inv-loop μ-loop
-closing-len-requires c κs = search needs
-
 add-t18 : tie.Need-add-t18 Inv-loop μ-loop
 add-t18 c =
     let l = c .before .before .before .before .before in
@@ -55,12 +40,6 @@ returns c =
     let k : c .closing-len .result ≡ closing (drop (l .loop .i) s) = c .closing-len .ensures ∙ ap closing (rest-is s (l .loop .i)) in
     rw k (reading-stops (a .width) s (a .at) (now (a .out)) (l .loop .i) (l .loop .n) (l .loop .out) (l .loop .inv) (omega arith) e)
 
-group-requires : tie.Need-group-requires Inv-loop μ-loop
-group-requires c κs = search needs
-
-put-char-requires : tie.Need-put-char-requires Inv-loop μ-loop
-put-char-requires c κs = search needs
-
 same-length-2 : tie.Need-same-length-2 Inv-loop μ-loop
 same-length-2 c = c .before .before .put-char .kept .0 ∙ c .before .before .before .before .before .before .before .before .before .before .loop .inv .kept
 
@@ -72,9 +51,6 @@ returns-2 c =
     let s = now (a .s) in
     let e : ends (a .width) (drop (l .loop .i) s) ≡ false = rw (sym (rest-is s (l .loop .i)), sym (k .before .before .byte-at .ensures)) (k .before .if1 .left) in
     reading-breaks (a .width) s (a .at) (now (a .out)) (l .loop .i) (l .loop .n) (l .loop .out) (l .loop .inv) (c .before .before .put-char .result) (c .before .before .put-char .last .0) (omega arith) (omega arith) e (told-wrong (a .width) (drop (l .loop .i) s) (take (length s - l .loop .i) (drop (l .loop .i) s)) (k .group .result) (rest-is s (l .loop .i)) (k .group .ensures) (omega arith)) (c .before .before .put-char .ensures)
-
-put-char-requires-2 : tie.Need-put-char-requires-2 Inv-loop μ-loop
-put-char-requires-2 c κs = search needs
 
 add-i : tie.Need-add-i Inv-loop μ-loop
 add-i c =
@@ -108,24 +84,6 @@ pub groups-spec : {M : Type 1} → statement M
 groups-spec =
     tie.close
     (tie.spec
-    Inv-loop
-    μ-loop
-    loop-holds
-    sub-t
-    part-t-start
-    part-t-end
-    byte-at-requires
-    closing-len-requires
-    add-t18
-    same-length
-    returns
-    group-requires
-    put-char-requires
-    same-length-2
-    returns-2
-    put-char-requires-2
-    add-i
-    loop-less
-    loop-again
-    same-length-3
-    returns-3)
+    Inv-loop μ-loop loop-holds (λ c. search needs) (λ c. search needs) (λ c. search needs) (λ c κs. search needs) (λ c κs. search needs)
+    add-t18 same-length returns (λ c κs. search needs) (λ c κs. search needs) same-length-2 returns-2 (λ c κs. search needs) add-i loop-less
+    loop-again same-length-3 returns-3)

@@ -20,56 +20,20 @@ digit s k = hexDigit (getD s k 0)
 abbrev four : List ℕ → ℕ → Bool
 four s k = (digit s k && digit s (k + 1)) && (digit s (k + 2) && digit s (k + 3))
 
-add-if1 : tie.Need-add-if1
-add-if1 c = search needs
-
 returns : tie.Need-returns
 returns c = let a = c .before .before .args in four-past (now (a .s)) (a .k) (omega arith)
-
-shared-slice-read-a : tie.Need-shared-slice-read-a
-shared-slice-read-a c = search needs
 
 cast-a : tie.Need-cast-a
 cast-a c = omega (arith, c .shared-slice-known2 .given (c .before .before .before .args .k))
 
-add-b : tie.Need-add-b
-add-b c = search needs
-
-shared-slice-read-b : tie.Need-shared-slice-read-b
-shared-slice-read-b c = search needs
-
 cast-b : tie.Need-cast-b
 cast-b c = omega (arith, c .shared-slice-known3 .given (c .before .before .before .before .args .k + 1))
-
-add-c : tie.Need-add-c
-add-c c = search needs
-
-shared-slice-read-c : tie.Need-shared-slice-read-c
-shared-slice-read-c c = search needs
 
 cast-c : tie.Need-cast-c
 cast-c c = omega (arith, c .shared-slice-known4 .given (c .before .before .before .before .before .args .k + 2))
 
-add-d : tie.Need-add-d
-add-d c = search needs
-
-shared-slice-read-d : tie.Need-shared-slice-read-d
-shared-slice-read-d c = search needs
-
 cast-d : tie.Need-cast-d
 cast-d c = omega (arith, c .shared-slice-known5 .given (c .before .before .before .before .before .before .args .k + 3))
-
-is-hex-requires : tie.Need-is-hex-requires
-is-hex-requires c κs = search needs
-
-is-hex-requires-2 : tie.Need-is-hex-requires-2
-is-hex-requires-2 c κs = search needs
-
-is-hex-requires-3 : tie.Need-is-hex-requires-3
-is-hex-requires-3 c κs = search needs
-
-is-hex-requires-4 : tie.Need-is-hex-requires-4
-is-hex-requires-4 c κs = search needs
 
 pair-value-requires : tie.Need-pair-value-requires
 pair-value-requires c κs =
@@ -79,9 +43,6 @@ pair-value-requires c κs =
     let h : four s (a .k) ≡ true = rw (sym (i .before .before .before .is-hex .ensures), sym (i .before .before .is-hex2 .ensures), sym (i .before .is-hex3 .ensures), sym (i .is-hex4 .ensures)) (c .if2 .taken) in
     both (digit s (a .k)) (digit s (a .k + 1)) (both (digit s (a .k) && digit s (a .k + 1)) (digit s (a .k + 2) && digit s (a .k + 3)) h .0)
 
-mul-result : tie.Need-mul-result
-mul-result c = search needs
-
 pair-value-requires-2 : tie.Need-pair-value-requires-2
 pair-value-requires-2 c κs =
     let i = c .before .before in
@@ -89,9 +50,6 @@ pair-value-requires-2 c κs =
     let s = now (a .s) in
     let h : four s (a .k) ≡ true = rw (sym (i .before .before .before .is-hex .ensures), sym (i .before .before .is-hex2 .ensures), sym (i .before .is-hex3 .ensures), sym (i .is-hex4 .ensures)) (c .before .if2 .taken) in
     both (digit s (a .k + 2)) (digit s (a .k + 3)) (both (digit s (a .k) && digit s (a .k + 1)) (digit s (a .k + 2) && digit s (a .k + 3)) h .1)
-
-add-result : tie.Need-add-result
-add-result c = search needs
 
 returns-2 : tie.Need-returns-2
 returns-2 c =
@@ -113,26 +71,7 @@ pub hex-four-spec : {M : Type 1} → statement M
 hex-four-spec =
     tie.close
     (tie.spec
-    add-if1
-    returns
-    shared-slice-read-a
-    cast-a
-    add-b
-    shared-slice-read-b
-    cast-b
-    add-c
-    shared-slice-read-c
-    cast-c
-    add-d
-    shared-slice-read-d
-    cast-d
-    is-hex-requires
-    is-hex-requires-2
-    is-hex-requires-3
-    is-hex-requires-4
-    pair-value-requires
-    mul-result
-    pair-value-requires-2
-    add-result
-    returns-2
-    returns-3)
+    (λ c. search needs) returns (λ c. search needs) cast-a (λ c. search needs) (λ c. search needs) cast-b (λ c. search needs)
+    (λ c. search needs) cast-c (λ c. search needs) (λ c. search needs) cast-d (λ c κs. search needs) (λ c κs. search needs)
+    (λ c κs. search needs) (λ c κs. search needs) pair-value-requires (λ c. search needs) pair-value-requires-2 (λ c. search needs)
+    returns-2 returns-3)

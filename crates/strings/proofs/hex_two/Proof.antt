@@ -11,32 +11,14 @@ use borrow.Author.Needs.{needs}
 use Rattle.strings.proofs.hex_two.Statement.{statement}
 use Rattle.strings.proofs.hex_two.Tie as tie
 
-add-if1 : tie.Need-add-if1
-add-if1 c = search needs
-
 returns : tie.Need-returns
 returns c = let a = c .before .before .args in two-past (now (a .s)) (a .k) (omega arith)
-
-shared-slice-read-a : tie.Need-shared-slice-read-a
-shared-slice-read-a c = search needs
 
 cast-a : tie.Need-cast-a
 cast-a c = omega (arith, c .shared-slice-known2 .given (c .before .before .before .args .k))
 
-add-b : tie.Need-add-b
-add-b c = search needs
-
-shared-slice-read-b : tie.Need-shared-slice-read-b
-shared-slice-read-b c = search needs
-
 cast-b : tie.Need-cast-b
 cast-b c = omega (arith, c .shared-slice-known3 .given (c .before .before .before .before .args .k + 1))
-
-is-hex-requires : tie.Need-is-hex-requires
-is-hex-requires c κs = search needs
-
-is-hex-requires-2 : tie.Need-is-hex-requires-2
-is-hex-requires-2 c κs = search needs
 
 pair-value-requires : tie.Need-pair-value-requires
 pair-value-requires c κs =
@@ -64,15 +46,5 @@ pub hex-two-spec : {M : Type 1} → statement M
 hex-two-spec =
     tie.close
     (tie.spec
-    add-if1
-    returns
-    shared-slice-read-a
-    cast-a
-    add-b
-    shared-slice-read-b
-    cast-b
-    is-hex-requires
-    is-hex-requires-2
-    pair-value-requires
-    returns-2
-    returns-3)
+    (λ c. search needs) returns (λ c. search needs) cast-a (λ c. search needs) (λ c. search needs) cast-b (λ c κs. search needs)
+    (λ c κs. search needs) pair-value-requires returns-2 returns-3)

@@ -7,15 +7,6 @@ use Rattle.strings.specs.Hex.{both}
 use Rattle.strings.proofs.joined_code.Statement.{statement}
 use Rattle.strings.proofs.joined_code.Tie as tie
 
-sub-result : tie.Need-sub-result
-sub-result c = search needs
-
-mul-result : tie.Need-mul-result
-mul-result c = search needs
-
-add-result : tie.Need-add-result
-add-result c = search needs
-
 sub-result-2 : tie.Need-sub-result-2
 sub-result-2 c = let l = c .before .args .l in let h = leb-true 56320 l (both (leb 56320 l) (ltb l 57344) (c .if1 .taken) .0) in omega arith
 
@@ -31,4 +22,5 @@ returns-2 c = rw (c .if1 .left) refl
 pub joined-code-spec : {M : Type 1} → statement M
 joined-code-spec =
     tie.close
-    (tie.spec sub-result mul-result add-result sub-result-2 add-result-2 returns returns-2)
+    (tie.spec
+    (λ c. search needs) (λ c. search needs) (λ c. search needs) sub-result-2 add-result-2 returns returns-2)

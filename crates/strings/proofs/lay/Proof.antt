@@ -9,15 +9,6 @@ use borrow.Author.Needs.{needs}
 use Rattle.strings.proofs.lay.Statement.{statement}
 use Rattle.strings.proofs.lay.Tie as tie
 
-plus-requires : tie.Need-plus-requires
-plus-requires c κs = search needs
-
-copy-requires : tie.Need-copy-requires
-copy-requires c κs = search needs
-
-same-length : tie.Need-same-length
-same-length c = search needs
-
 returns : tie.Need-returns
 returns c =
     let k = c .before .before in
@@ -35,4 +26,5 @@ returns-2 c =
     put-run (a .at) o (now (a .s)) (a .n) (u .plus .result) o (omega arith) (rw (lt-leb (a .at + a .n) (length o) (omega (arith, u .plus .ensures))) refl) (u .plus .ensures)
 
 pub lay-spec : {M : Type 1} → statement M
-lay-spec = tie.close (tie.spec plus-requires copy-requires same-length returns returns-2)
+lay-spec = tie.close (tie.spec
+    (λ c κs. search needs) (λ c κs. search needs) (λ c. search needs) returns returns-2)

@@ -5,20 +5,11 @@ use Rattle.strings.specs.Ways.{is-quote, is-ascii, is-latin, is-sequence
 use Rattle.strings.proofs.ordinary.Statement.{statement}
 use Rattle.strings.proofs.ordinary.Tie as tie
 
-byte-at-requires : tie.Need-byte-at-requires
-byte-at-requires c κs = search needs
-
-byte-at-requires-2 : tie.Need-byte-at-requires-2
-byte-at-requires-2 c κs = search needs
-
 returns : tie.Need-returns
 returns c = let q = c .before .before in λ g. is-quote g (now (q .before .before .args .s)) (q .before .before .pre) (q .byte-at .result) (c .before .byte-at2 .result) (q .byte-at .ensures) (c .before .byte-at2 .ensures) (c .if1 .taken)
 
 returns-2 : tie.Need-returns-2
 returns-2 c = let q = c .before .before .before in λ g. is-ascii g (now (q .before .before .args .s)) (q .before .before .pre) (q .byte-at .result) (c .before .before .byte-at2 .result) (q .byte-at .ensures) (c .before .before .byte-at2 .ensures) (c .before .if1 .left) (omega arith)
-
-sequence-requires : tie.Need-sequence-requires
-sequence-requires c κs = search needs
 
 returns-3 : tie.Need-returns-3
 returns-3 c = let k = c .before .before .before .before .before in let q = k .before in λ g. is-latin g (now (q .before .before .args .s)) (q .before .before .pre) (q .byte-at .result) (k .byte-at2 .result) (q .byte-at .ensures) (k .byte-at2 .ensures) (c .before .before .before .before .if1 .left) (omega arith) (omega (arith, c .before .before .sequence .ensures .1))
@@ -30,10 +21,4 @@ pub ordinary-spec : {M : Type 1} → statement M
 ordinary-spec =
     tie.close
     (tie.spec
-    byte-at-requires
-    byte-at-requires-2
-    returns
-    returns-2
-    sequence-requires
-    returns-3
-    returns-4)
+    (λ c κs. search needs) (λ c κs. search needs) returns returns-2 (λ c κs. search needs) returns-3 returns-4)

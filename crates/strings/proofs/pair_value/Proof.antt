@@ -4,14 +4,8 @@ use borrow.Author.Needs.{needs}
 use Rattle.strings.proofs.pair_value.Statement.{statement}
 use Rattle.strings.proofs.pair_value.Tie as tie
 
-hex-value-requires : tie.Need-hex-value-requires
-hex-value-requires c κs = search needs
-
 mul-result : tie.Need-mul-result
 mul-result c = let d = c .before in omega (arith, hex-below (d .args .a) (d .pre .0))
-
-hex-value-requires-2 : tie.Need-hex-value-requires-2
-hex-value-requires-2 c κs = search needs
 
 add-result : tie.Need-add-result
 add-result c = let d = c .before .before in omega (arith, hex-below (d .args .a) (d .pre .0), hex-below (d .args .b) (d .pre .1))
@@ -21,4 +15,5 @@ returns c = let d = c .before .before in let e = c .before .hex-value .ensures i
 
 pub pair-value-spec : {M : Type 1} → statement M
 pair-value-spec =
-    tie.close (tie.spec hex-value-requires mul-result hex-value-requires-2 add-result returns)
+    tie.close (tie.spec
+    (λ c κs. search needs) mul-result (λ c κs. search needs) add-result returns)

@@ -9,32 +9,14 @@ use Rattle.strings.proofs.plain_len.Tie as tie
 plain-to-requires : tie.Need-plain-to-requires
 plain-to-requires c κs = (omega arith, omega arith, plain-none (now (c .before .before .args .s)))
 
-returns : tie.Need-returns
-returns c = search needs
-
 plain-to-requires-2 : tie.Need-plain-to-requires-2
 plain-to-requires-2 c κs = (omega arith, omega arith, plain-none (now (c .before .before .args .s)))
 
 returns-2 : tie.Need-returns-2
 returns-2 c = let p = c .before .plain-to2 .ensures in record { within = omega arith; plainly = p .plainly; stops = λ h. p .stops (omega arith) }
 
-plain-blocks-requires : tie.Need-plain-blocks-requires
-plain-blocks-requires c κs = search needs
-
-plain-to-requires-3 : tie.Need-plain-to-requires-3
-plain-to-requires-3 c κs = search needs
-
-returns-3 : tie.Need-returns-3
-returns-3 c = search needs
-
 pub plain-len-spec : {M : Type 1} → statement M
 plain-len-spec =
     tie.close
     (tie.spec
-    plain-to-requires
-    returns
-    plain-to-requires-2
-    returns-2
-    plain-blocks-requires
-    plain-to-requires-3
-    returns-3)
+    plain-to-requires (λ c. search needs) plain-to-requires-2 returns-2 (λ c κs. search needs) (λ c κs. search needs) (λ c. search needs))

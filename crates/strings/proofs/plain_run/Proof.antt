@@ -9,18 +9,6 @@ use borrow.Author.Needs.{needs}
 use Rattle.strings.proofs.plain_run.Statement.{statement}
 use Rattle.strings.proofs.plain_run.Tie as tie
 
-fitting-requires : tie.Need-fitting-requires
-fitting-requires c κs = search needs
-
-follow-requires : tie.Need-follow-requires
-follow-requires c κs = search needs
-
-add-t13 : tie.Need-add-t13
-add-t13 c = search needs
-
-same-length : tie.Need-same-length
-same-length c = search needs
-
 returns : tie.Need-returns
 returns c =
     let f = c .before .before .before in
@@ -30,30 +18,6 @@ returns c =
     let k = f .follow .result in
     let l = put-part (a .at) (now (a .out)) s k (f .follow .last .1 .1 .0) (omega arith) (omega arith) (omega (arith, f .follow .ensures .0, g .fitting .ensures .0)) (omega (arith, f .follow .ensures .0, g .fitting .ensures .1)) (f .follow .ensures .2) in
     record { within = omega (arith, f .follow .ensures .0, g .fitting .ensures .0); plainly = f .follow .ensures .1; put = l }
-
-sub-t : tie.Need-sub-t
-sub-t c = search needs
-
-part-t-start : tie.Need-part-t-start
-part-t-start c = search needs
-
-part-t-end : tie.Need-part-t-end
-part-t-end c = search needs
-
-plain-len-requires : tie.Need-plain-len-requires
-plain-len-requires c κs = search needs
-
-add-lay : tie.Need-add-lay
-add-lay c = search needs
-
-lay-requires : tie.Need-lay-requires
-lay-requires c κs = search needs
-
-add-t18 : tie.Need-add-t18
-add-t18 c = search needs
-
-same-length-2 : tie.Need-same-length-2
-same-length-2 c = search needs
 
 returns-2 : tie.Need-returns-2
 returns-2 c =
@@ -71,17 +35,5 @@ pub plain-run-spec : {M : Type 1} → statement M
 plain-run-spec =
     tie.close
     (tie.spec
-    fitting-requires
-    follow-requires
-    add-t13
-    same-length
-    returns
-    sub-t
-    part-t-start
-    part-t-end
-    plain-len-requires
-    add-lay
-    lay-requires
-    add-t18
-    same-length-2
-    returns-2)
+    (λ c κs. search needs) (λ c κs. search needs) (λ c. search needs) (λ c. search needs) returns (λ c. search needs) (λ c. search needs)
+    (λ c. search needs) (λ c κs. search needs) (λ c. search needs) (λ c κs. search needs) (λ c. search needs) (λ c. search needs) returns-2)

@@ -6,24 +6,6 @@ use borrow.Author.Needs.{needs}
 use Rattle.strings.proofs.run.Statement.{statement}
 use Rattle.strings.proofs.run.Tie as tie
 
-lay-requires : tie.Need-lay-requires
-lay-requires c κs = search needs
-
-sub-turns : tie.Need-sub-turns
-sub-turns c = search needs
-
-part-turns-start : tie.Need-part-turns-start
-part-turns-start c = search needs
-
-part-turns-end : tie.Need-part-turns-end
-part-turns-end c = search needs
-
-turns-requires : tie.Need-turns-requires
-turns-requires c κs = search needs
-
-same-length : tie.Need-same-length
-same-length c = search needs
-
 returns : tie.Need-returns
 returns c =
     let t = c .before .before in
@@ -35,10 +17,4 @@ pub run-spec : {M : Type 1} → statement M
 run-spec =
     tie.close
     (tie.spec
-    lay-requires
-    sub-turns
-    part-turns-start
-    part-turns-end
-    turns-requires
-    same-length
-    returns)
+    (λ c κs. search needs) (λ c. search needs) (λ c. search needs) (λ c. search needs) (λ c κs. search needs) (λ c. search needs) returns)

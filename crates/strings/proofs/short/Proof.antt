@@ -7,20 +7,8 @@ use borrow.Author.Needs.{needs}
 use Rattle.strings.proofs.short.Statement.{statement}
 use Rattle.strings.proofs.short.Tie as tie
 
-byte-at-requires : tie.Need-byte-at-requires
-byte-at-requires c κs = search needs
-
-byte-at-requires-2 : tie.Need-byte-at-requires-2
-byte-at-requires-2 c κs = search needs
-
-byte-at-requires-3 : tie.Need-byte-at-requires-3
-byte-at-requires-3 c κs = search needs
-
 add-code-on : tie.Need-add-code-on
 add-code-on c = let q = c .before in let k = byte-small (now (q .before .before .before .before .args .s)) 3 (omega (arith, q .before .before .before .shared-slice-known .given 3)) in omega (arith, q .byte-at3 .ensures)
-
-code-on-requires : tie.Need-code-on-requires
-code-on-requires c κs = search needs
 
 returns : tie.Need-returns
 returns c =
@@ -50,9 +38,6 @@ returns-4 c =
     let x = q .before .before .byte-at .result in
     is-tab (b .args .page) (now (b .args .s)) x (q .before .byte-at2 .result) (q .byte-at3 .result) (q .before .before .byte-at .ensures) (q .before .byte-at2 .ensures) (q .byte-at3 .ensures) (ne-eqb x 92 (omega arith)) (c .before .if3 .left) (c .if4 .taken)
 
-hex-two-requires : tie.Need-hex-two-requires
-hex-two-requires c κs = search needs
-
 returns-5 : tie.Need-returns-5
 returns-5 c =
     let q = c .before .before .before .before .before .before .before in
@@ -78,16 +63,5 @@ pub short-spec : {M : Type 1} → statement M
 short-spec =
     tie.close
     (tie.spec
-    byte-at-requires
-    byte-at-requires-2
-    byte-at-requires-3
-    add-code-on
-    code-on-requires
-    returns
-    returns-2
-    returns-3
-    returns-4
-    hex-two-requires
-    returns-5
-    returns-6
-    returns-7)
+    (λ c κs. search needs) (λ c κs. search needs) (λ c κs. search needs) add-code-on (λ c κs. search needs) returns returns-2 returns-3
+    returns-4 (λ c κs. search needs) returns-5 returns-6 returns-7)

@@ -7,16 +7,10 @@ use Rattle.strings.specs.Ways.{moved-one, is-directive, piece-directive,
 use Rattle.strings.proofs.step.Statement.{statement}
 use Rattle.strings.proofs.step.Tie as tie
 
-byte-at-requires : tie.Need-byte-at-requires
-byte-at-requires c κs = search needs
-
 directive-requires : tie.Need-directive-requires
 directive-requires c κs =
     let k = c .before .before in
     is-directive (now (k .before .before .before .args .s)) (k .byte-at .result) (k .byte-at .ensures) (omega arith)
-
-same-length : tie.Need-same-length
-same-length c = search needs
 
 returns : tie.Need-returns
 returns c =
@@ -30,12 +24,6 @@ ordinary-requires c κs =
     let k = c .before in
     no-directive (now (k .before .before .before .args .s)) (k .byte-at .result) (k .byte-at .ensures) (omega arith)
 
-put-char-requires : tie.Need-put-char-requires
-put-char-requires c κs = search needs
-
-same-length-2 : tie.Need-same-length-2
-same-length-2 c = search needs
-
 returns-2 : tie.Need-returns-2
 returns-2 c =
     let k = c .before .before .before .before in
@@ -47,11 +35,5 @@ pub step-spec : {M : Type 1} → statement M
 step-spec =
     tie.close
     (tie.spec
-    byte-at-requires
-    directive-requires
-    same-length
-    returns
-    ordinary-requires
-    put-char-requires
-    same-length-2
+    (λ c κs. search needs) directive-requires (λ c. search needs) returns ordinary-requires (λ c κs. search needs) (λ c. search needs)
     returns-2)

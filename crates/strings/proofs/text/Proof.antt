@@ -7,15 +7,6 @@ use Rattle.strings.specs.Decoded.{shown-all}
 use Rattle.strings.proofs.text.Statement.{statement}
 use Rattle.strings.proofs.text.Tie as tie
 
-enum-told : tie.Need-enum-told
-enum-told c = search needs
-
-returns : tie.Need-returns
-returns c = search needs
-
-enum-known-answer : tie.Need-enum-known-answer
-enum-known-answer c = search needs
-
 slice-aggregate-result : tie.Need-slice-aggregate-result
 slice-aggregate-result c = sym (length-take-le _ (now (c .before .before .before .before .before .args .out)) (omega arith))
 
@@ -25,25 +16,9 @@ returns-2 c = rw (c .before .before .before .answer .given .1) refl
 returns-3 : tie.Need-returns-3
 returns-3 c = let a = c .before .before .before .before .args in shown-all (now (a .raw)) (now (a .out)) (a .answer) (c .before .before .answer .given .0 .0) (c .before .before .answer .given .1) (omega arith)
 
-enum-told-2 : tie.Need-enum-told-2
-enum-told-2 c = search needs
-
-slice-aggregate-result-2 : tie.Need-slice-aggregate-result-2
-slice-aggregate-result-2 c = search needs
-
-returns-4 : tie.Need-returns-4
-returns-4 c = search needs
-
 pub text-spec : {M : Type 1} → statement M
 text-spec =
     tie.close
     (tie.spec
-    enum-told
-    returns
-    enum-known-answer
-    slice-aggregate-result
-    returns-2
-    returns-3
-    enum-told-2
-    slice-aggregate-result-2
-    returns-4)
+    (λ c. search needs) (λ c. search needs) (λ c. search needs) slice-aggregate-result returns-2 returns-3 (λ c. search needs)
+    (λ c. search needs) (λ c. search needs))

@@ -8,26 +8,11 @@ use borrow.Author.Needs.{needs}
 use Rattle.strings.proofs.turn.Statement.{statement}
 use Rattle.strings.proofs.turn.Tie as tie
 
-step-requires : tie.Need-step-requires
-step-requires c κs = search needs
-
 sub-plain-run : tie.Need-sub-plain-run
 sub-plain-run c = let k = c .before .before in let b = k .before .before .before .before in omega (arith, k .step .ensures .0 .read, piece-fits (b .args .page) (now (b .args .s)) (b .pre))
 
 part-plain-run-start : tie.Need-part-plain-run-start
 part-plain-run-start c = let k = c .before .before in let b = k .before .before .before .before in omega (arith, k .step .ensures .0 .read, piece-fits (b .args .page) (now (b .args .s)) (b .pre))
-
-part-plain-run-end : tie.Need-part-plain-run-end
-part-plain-run-end c = search needs
-
-plain-run-requires : tie.Need-plain-run-requires
-plain-run-requires c κs = search needs
-
-add-t11 : tie.Need-add-t11
-add-t11 c = search needs
-
-same-length : tie.Need-same-length
-same-length c = search needs
 
 returns : tie.Need-returns
 returns c =
@@ -42,11 +27,5 @@ pub turn-spec : {M : Type 1} → statement M
 turn-spec =
     tie.close
     (tie.spec
-    step-requires
-    sub-plain-run
-    part-plain-run-start
-    part-plain-run-end
-    plain-run-requires
-    add-t11
-    same-length
-    returns)
+    (λ c κs. search needs) sub-plain-run part-plain-run-start (λ c. search needs) (λ c κs. search needs) (λ c. search needs)
+    (λ c. search needs) returns)

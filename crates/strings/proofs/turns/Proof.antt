@@ -17,18 +17,6 @@ abbrev μ-loop : tie.MeasureT-loop
 loop-holds : tie.Need-loop-holds Inv-loop μ-loop
 loop-holds c = let a = c .before .before .args in running-starts (now (a .s)) (a .from) (now (a .out)) (omega arith)
 
-sub-turn : tie.Need-sub-turn Inv-loop μ-loop
-sub-turn c = search needs
-
-part-turn-start : tie.Need-part-turn-start Inv-loop μ-loop
-part-turn-start c = search needs
-
-part-turn-end : tie.Need-part-turn-end Inv-loop μ-loop
-part-turn-end c = search needs
-
-turn-requires : tie.Need-turn-requires Inv-loop μ-loop
-turn-requires c κs = search needs
-
 add-i : tie.Need-add-i Inv-loop μ-loop
 add-i c =
     let k = c .before .before .before in
@@ -68,15 +56,5 @@ pub turns-spec : {M : Type 1} → statement M
 turns-spec =
     tie.close
     (tie.spec
-    Inv-loop
-    μ-loop
-    loop-holds
-    sub-turn
-    part-turn-start
-    part-turn-end
-    turn-requires
-    add-i
-    loop-less
-    loop-again
-    same-length
-    returns)
+    Inv-loop μ-loop loop-holds (λ c. search needs) (λ c. search needs) (λ c. search needs) (λ c κs. search needs) add-i loop-less loop-again
+    same-length returns)

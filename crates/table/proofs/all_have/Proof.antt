@@ -14,17 +14,8 @@ returns-2 c = ((λ z. clash (cc)), λ h. let f = h .asked in let t = c .if2 .tak
 returns-3 : tie.Need-returns-3
 returns-3 c = ((λ z. clash (cc)), λ h. let f = h .told in let t = c .if3 .taken in absurd (omega (arith, f, t)))
 
-rows-fit-requires : tie.Need-rows-fit-requires
-rows-fit-requires c κs = search needs
-
 returns-4 : tie.Need-returns-4
 returns-4 c = ((λ z. clash (cc)), λ h. let f = h .there in let t = c .if4 .taken in let e = c .before .rows-fit .ensures in absurd (omega (arith, f, t, e)))
-
-highest-requires : tie.Need-highest-requires
-highest-requires c κs = search needs
-
-cast-if5 : tie.Need-cast-if5
-cast-if5 c = search needs
 
 returns-5 : tie.Need-returns-5
 returns-5 c = ((λ z. clash (cc)), λ h. let f = c .before .highest .ensures .1 (c .before .before .before .before .before .before .before .before .before .before .args .n) (h .some) (h .below) in let t = c .if5 .taken in absurd (omega (arith, f, t)))
@@ -55,13 +46,5 @@ pub all-have-spec : {M : Type 1} → statement M
 all-have-spec =
     tie.close
     (tie.spec
-    returns
-    returns-2
-    returns-3
-    rows-fit-requires
-    returns-4
-    highest-requires
-    cast-if5
-    returns-5
-    misses-requires
+    returns returns-2 returns-3 (λ c κs. search needs) returns-4 (λ c κs. search needs) (λ c. search needs) returns-5 misses-requires
     returns-6)

@@ -7,12 +7,6 @@ use borrow.Author.Needs.{needs}
 use Rattle.table.proofs.has_header.Statement.{statement}
 use Rattle.table.proofs.has_header.Tie as tie
 
-mul-result : tie.Need-mul-result
-mul-result c = search needs
-
-add-result : tie.Need-add-result
-add-result c = search needs
-
 returns : tie.Need-returns
 returns c = header-test (length (c .before .args .heads .now)) (c .before .args .k)
 
@@ -20,4 +14,5 @@ returns-2 : tie.Need-returns-2
 returns-2 c = sym (le-ltb (c .before .args .k) _ (let h = c .if1 .left in omega (arith, h)))
 
 pub has-header-spec : {M : Type 1} → statement M
-has-header-spec = tie.close (tie.spec mul-result add-result returns returns-2)
+has-header-spec = tie.close (tie.spec
+    (λ c. search needs) (λ c. search needs) returns returns-2)

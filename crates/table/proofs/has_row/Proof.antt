@@ -4,14 +4,9 @@ use borrow.Author.Needs.{needs}
 use Rattle.table.proofs.has_row.Statement.{statement}
 use Rattle.table.proofs.has_row.Tie as tie
 
-mul-result : tie.Need-mul-result
-mul-result c = search needs
-
-add-result : tie.Need-add-result
-add-result c = search needs
-
 returns : tie.Need-returns
 returns c = row-test (length (c .args .rows .now)) (c .args .r)
 
 pub has-row-spec : {M : Type 1} → statement M
-has-row-spec = tie.close (tie.spec mul-result add-result returns)
+has-row-spec = tie.close (tie.spec
+    (λ c. search needs) (λ c. search needs) returns)

@@ -15,21 +15,6 @@ abbrev μ-loop : tie.MeasureT-loop
 loop-holds : tie.Need-loop-holds Inv-loop μ-loop
 loop-holds c = (omega arith, omega arith, (λ j x y. absurd (omega arith)), λ m p h. p)
 
-mul-greater : tie.Need-mul-greater Inv-loop μ-loop
-mul-greater c = search needs
-
-shared-slice-read-greater : tie.Need-shared-slice-read-greater Inv-loop μ-loop
-shared-slice-read-greater c = search needs
-
-greater-requires : tie.Need-greater-requires Inv-loop μ-loop
-greater-requires c κs = search needs
-
-add-i : tie.Need-add-i Inv-loop μ-loop
-add-i c = search needs
-
-loop-less : tie.Need-loop-less Inv-loop μ-loop
-loop-less c = search needs
-
 loop-again : tie.Need-loop-again Inv-loop μ-loop
 loop-again c =
     let a = c .before .before .before .before .before .args in
@@ -44,13 +29,5 @@ pub highest-spec : {M : Type 1} → statement M
 highest-spec =
     tie.close
     (tie.spec
-    Inv-loop
-    μ-loop
-    loop-holds
-    mul-greater
-    shared-slice-read-greater
-    greater-requires
-    add-i
-    loop-less
-    loop-again
-    returns)
+    Inv-loop μ-loop loop-holds (λ c. search needs) (λ c. search needs) (λ c κs. search needs) (λ c. search needs) (λ c. search needs)
+    loop-again returns)

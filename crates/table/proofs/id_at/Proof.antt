@@ -7,18 +7,6 @@ use borrow.Author.Needs.{needs}
 use Rattle.table.proofs.id_at.Statement.{statement}
 use Rattle.table.proofs.id_at.Tie as tie
 
-mul-at : tie.Need-mul-at
-mul-at c = search needs
-
-add-if1 : tie.Need-add-if1
-add-if1 c = search needs
-
-mul-result : tie.Need-mul-result
-mul-result c = search needs
-
-shared-slice-read-result : tie.Need-shared-slice-read-result
-shared-slice-read-result c = search needs
-
 returns : tie.Need-returns
 returns c = let h = c .before .if1 .taken in sym (field-there 6 (c .before .before .args .rows .now) (c .before .before .args .r) (omega (arith, h)) 0 ∙ ap (λ (z : ℕ). getD (c .before .before .args .rows .now) z 0) (omega arith))
 
@@ -27,4 +15,5 @@ returns-2 c = let h = c .if1 .left in sym (field-none 6 (c .before .args .rows .
 
 pub id-at-spec : {M : Type 1} → statement M
 id-at-spec =
-    tie.close (tie.spec mul-at add-if1 mul-result shared-slice-read-result returns returns-2)
+    tie.close (tie.spec
+    (λ c. search needs) (λ c. search needs) (λ c. search needs) (λ c. search needs) returns returns-2)

@@ -17,12 +17,6 @@ abbrev μ-loop : tie.MeasureT-loop
 loop-holds : tie.Need-loop-holds Inv-loop μ-loop
 loop-holds c = (omega arith, omega arith, omega arith, (λ _ j x y. absurd (omega arith)), λ h. omega arith)
 
-mul-row : tie.Need-mul-row Inv-loop μ-loop
-mul-row c = search needs
-
-shared-slice-read-row : tie.Need-shared-slice-read-row Inv-loop μ-loop
-shared-slice-read-row c = search needs
-
 cast-row : tie.Need-cast-row Inv-loop μ-loop
 cast-row c = let l = c .before .before .loop in omega (arith, c .shared-slice-known4 .given (l .i))
 
@@ -35,23 +29,8 @@ mul-differs-2 c = let l = c .before .before .loop in let p = c .before .before .
 shared-slice-read-differs : tie.Need-shared-slice-read-differs Inv-loop μ-loop
 shared-slice-read-differs c = let l = c .before .before .before .loop in let p = c .before .before .before .before .before .before .before .pre in let q = p .3 (l .i) (l .inv .0) (omega arith) in omega (arith, q)
 
-mul-differs-3 : tie.Need-mul-differs-3 Inv-loop μ-loop
-mul-differs-3 c = search needs
-
-shared-slice-read-differs-2 : tie.Need-shared-slice-read-differs-2 Inv-loop μ-loop
-shared-slice-read-differs-2 c = search needs
-
-differs-requires : tie.Need-differs-requires Inv-loop μ-loop
-differs-requires c κs = search needs
-
 add-missed : tie.Need-add-missed Inv-loop μ-loop
 add-missed c = let l = c .before .before .before .before .before .loop in let e = c .differs .ensures .0 in let m = l .inv .2 in record { fits = omega (arith, e, m) }
-
-add-i : tie.Need-add-i Inv-loop μ-loop
-add-i c = search needs
-
-loop-less : tie.Need-loop-less Inv-loop μ-loop
-loop-less c = search needs
 
 loop-again : tie.Need-loop-again Inv-loop μ-loop
 loop-again c =
@@ -76,20 +55,5 @@ pub misses-spec : {M : Type 1} → statement M
 misses-spec =
     tie.close
     (tie.spec
-    Inv-loop
-    μ-loop
-    loop-holds
-    mul-row
-    shared-slice-read-row
-    cast-row
-    mul-differs
-    mul-differs-2
-    shared-slice-read-differs
-    mul-differs-3
-    shared-slice-read-differs-2
-    differs-requires
-    add-missed
-    add-i
-    loop-less
-    loop-again
-    returns)
+    Inv-loop μ-loop loop-holds (λ c. search needs) (λ c. search needs) cast-row mul-differs mul-differs-2 shared-slice-read-differs
+    (λ c. search needs) (λ c. search needs) (λ c κs. search needs) add-missed (λ c. search needs) (λ c. search needs) loop-again returns)

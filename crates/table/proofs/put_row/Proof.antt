@@ -7,23 +7,12 @@ use Rattle.table.specs.Laws.{put-there, put-none}
 use borrow.Author.Needs.{needs}
 use Rattle.table.proofs.put_row.Statement.{statement}
 use Rattle.table.proofs.put_row.Tie as tie
-use Rattle.table.proofs.has_row.Reads as among-rows-reads
-use Rattle.table.proofs.store_row.Reads as store-row-reads
-
-among-rows-requires : tie.Need-among-rows-requires
-among-rows-requires c κs = search needs
 
 store-row-requires : tie.Need-store-row-requires
 store-row-requires c κs = let h = ltb-true (c .before .before .before .before .before .args .k) _ (sym (c .before .before .among-rows .ensures) ∙ c .before .if1 .taken) in omega (arith, h)
 
-same-length : tie.Need-same-length
-same-length c = search needs
-
 returns : tie.Need-returns
 returns c = c .before .before .store-row .ensures ∙ sym (put-there 6 (c .before .before .before .before .before .before .before .before .args .out .now) (c .before .before .before .before .before .before .before .before .args .k) (ltb-true (c .before .before .before .before .before .before .before .before .args .k) _ (sym (c .before .before .before .before .before .among-rows .ensures) ∙ c .before .before .before .before .if1 .taken)) (six (narrowRow (rowOf (c .before .before .before .before .before .before .before .before .args .w)))))
-
-same-length-2 : tie.Need-same-length-2
-same-length-2 c = search needs
 
 returns-2 : tie.Need-returns-2
 returns-2 c = sym (put-none 6 (c .before .before .before .before .args .out .now) (c .before .before .before .before .args .k) (ltb-false (c .before .before .before .before .args .k) _ (sym (c .before .among-rows .ensures) ∙ c .if1 .left)) (six (narrowRow (rowOf (c .before .before .before .before .args .w)))))
@@ -31,4 +20,5 @@ returns-2 c = sym (put-none 6 (c .before .before .before .before .args .out .now
 pub put-row-spec : {M : Type 1} → statement M
 put-row-spec =
     tie.close
-    (tie.spec among-rows-requires store-row-requires same-length returns same-length-2 returns-2)
+    (tie.spec
+    (λ c κs. search needs) store-row-requires (λ c. search needs) returns (λ c. search needs) returns-2)

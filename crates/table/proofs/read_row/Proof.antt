@@ -5,25 +5,14 @@ use Rattle.table.specs.Laws.{row-none}
 use borrow.Author.Needs.{needs}
 use Rattle.table.proofs.read_row.Statement.{statement}
 use Rattle.table.proofs.read_row.Tie as tie
-use Rattle.table.proofs.has_row.Reads as among-rows-reads
-use Rattle.table.proofs.no_row.Reads as no-row-reads
-use Rattle.table.proofs.row_there.Reads as row-there-reads
-
-among-rows-requires : tie.Need-among-rows-requires
-among-rows-requires c κs = search needs
 
 row-there-requires : tie.Need-row-there-requires
 row-there-requires c κs = let h = ltb-true (c .before .before .before .args .k) _ (sym (c .before .among-rows .ensures) ∙ c .if1 .taken) in omega (arith, h)
-
-returns : tie.Need-returns
-returns c = search needs
-
-no-row-requires : tie.Need-no-row-requires
-no-row-requires c κs = search needs
 
 returns-2 : tie.Need-returns-2
 returns-2 c = c .no-row .ensures ∙ sym (row-none (c .before .before .before .before .args .rows .now) (c .before .before .before .before .args .k) (ltb-false (c .before .before .before .before .args .k) _ (sym (c .before .before .among-rows .ensures) ∙ c .before .if1 .left)))
 
 pub read-row-spec : {M : Type 1} → statement M
 read-row-spec =
-    tie.close (tie.spec among-rows-requires row-there-requires returns no-row-requires returns-2)
+    tie.close (tie.spec
+    (λ c κs. search needs) row-there-requires (λ c. search needs) (λ c κs. search needs) returns-2)

@@ -7,21 +7,6 @@ use borrow.Author.Needs.{needs}
 use Rattle.text.proofs.decimal.Statement.{statement}
 use Rattle.text.proofs.decimal.Tie as tie
 
-decimal-requires : tie.Need-decimal-requires
-decimal-requires c κs = search needs
-
-array-share-prefix-figures : tie.Need-array-share-prefix-figures
-array-share-prefix-figures c = search needs
-
-slice-aggregate-bytes : tie.Need-slice-aggregate-bytes
-slice-aggregate-bytes c = search needs
-
-bytes-requires : tie.Need-bytes-requires
-bytes-requires c κs = search needs
-
-same-length : tie.Need-same-length
-same-length c = search needs
-
 returns : tie.Need-returns
 returns c =
     let a = c .before .before .before .before .before .before .before .before .args in
@@ -37,9 +22,4 @@ pub decimal-spec : {M : Type 1} → statement M
 decimal-spec =
     tie.close
     (tie.spec
-    decimal-requires
-    array-share-prefix-figures
-    slice-aggregate-bytes
-    bytes-requires
-    same-length
-    returns)
+    (λ c κs. search needs) (λ c. search needs) (λ c. search needs) (λ c κs. search needs) (λ c. search needs) returns)

@@ -10,113 +10,15 @@ Inv-loop chunk₀ line₀ room₀ out₀ table feed₀ pen₀ left₀ chunk line
 abbrev μ-loop : tie.MeasureT-loop
 μ-loop chunk₀ line₀ room₀ out₀ table feed₀ pen₀ left₀ chunk line room out feed pen left = left
 
-large-buffer-requires : tie.Need-large-buffer-requires Inv-loop μ-loop
-large-buffer-requires c κs = search needs
-
-large-buffer-requires-2 : tie.Need-large-buffer-requires-2 Inv-loop μ-loop
-large-buffer-requires-2 c κs = search needs
-
-large-buffer-requires-3 : tie.Need-large-buffer-requires-3 Inv-loop μ-loop
-large-buffer-requires-3 c κs = search needs
-
-large-buffer-requires-4 : tie.Need-large-buffer-requires-4 Inv-loop μ-loop
-large-buffer-requires-4 c κs = search needs
-
-patterns-requires : tie.Need-patterns-requires Inv-loop μ-loop
-patterns-requires c κs = search needs
-
-start-requires : tie.Need-start-requires Inv-loop μ-loop
-start-requires c κs = search needs
-
-fresh-requires : tie.Need-fresh-requires Inv-loop μ-loop
-fresh-requires c κs = search needs
-
-loop-holds : tie.Need-loop-holds Inv-loop μ-loop
-loop-holds c = search needs
-
-slice-aggregate-pass : tie.Need-slice-aggregate-pass Inv-loop μ-loop
-slice-aggregate-pass c = search needs
-
-slice-aggregate-pass-2 : tie.Need-slice-aggregate-pass-2 Inv-loop μ-loop
-slice-aggregate-pass-2 c = search needs
-
-pass-requires : tie.Need-pass-requires Inv-loop μ-loop
-pass-requires c κs = search needs
-
-left-requires : tie.Need-left-requires Inv-loop μ-loop
-left-requires c κs = search needs
-
-slice-aggregate-said : tie.Need-slice-aggregate-said Inv-loop μ-loop
-slice-aggregate-said c = search needs
-
-slice-aggregate-said-2 : tie.Need-slice-aggregate-said-2 Inv-loop μ-loop
-slice-aggregate-said-2 c = search needs
-
-said-requires : tie.Need-said-requires Inv-loop μ-loop
-said-requires c κs = search needs
-
-slice-aggregate-form : tie.Need-slice-aggregate-form Inv-loop μ-loop
-slice-aggregate-form c = search needs
-
 slice-aggregate-form-2 : tie.Need-slice-aggregate-form-2 Inv-loop μ-loop
 slice-aggregate-form-2 c = let p = c .before .before .before .before .before .before .before .before .before .before .before .before .before .before .before .before .before .patterns in search needs
-
-slice-aggregate-shown : tie.Need-slice-aggregate-shown Inv-loop μ-loop
-slice-aggregate-shown c = search needs
-
-slice-aggregate-shown-2 : tie.Need-slice-aggregate-shown-2 Inv-loop μ-loop
-slice-aggregate-shown-2 c = search needs
-
-shown-requires : tie.Need-shown-requires Inv-loop μ-loop
-shown-requires c κs = search needs
-
-form-requires : tie.Need-form-requires Inv-loop μ-loop
-form-requires c κs = search needs
-
-loop-less : tie.Need-loop-less Inv-loop μ-loop
-loop-less c = search needs
-
-loop-again : tie.Need-loop-again Inv-loop μ-loop
-loop-again c = search needs
-
-slice-aggregate-finish : tie.Need-slice-aggregate-finish Inv-loop μ-loop
-slice-aggregate-finish c = search needs
-
-finish-requires : tie.Need-finish-requires Inv-loop μ-loop
-finish-requires c κs = search needs
-
-returns : tie.Need-returns Inv-loop μ-loop
-returns c = search needs
 
 pub main-spec : {M : Type 1} → statement M
 main-spec =
     tie.close
     (tie.spec
-    Inv-loop
-    μ-loop
-    large-buffer-requires
-    large-buffer-requires-2
-    large-buffer-requires-3
-    large-buffer-requires-4
-    patterns-requires
-    start-requires
-    fresh-requires
-    loop-holds
-    slice-aggregate-pass
-    slice-aggregate-pass-2
-    pass-requires
-    left-requires
-    slice-aggregate-said
-    slice-aggregate-said-2
-    said-requires
-    slice-aggregate-form
-    slice-aggregate-form-2
-    slice-aggregate-shown
-    slice-aggregate-shown-2
-    shown-requires
-    form-requires
-    loop-less
-    loop-again
-    slice-aggregate-finish
-    finish-requires
-    returns)
+    Inv-loop μ-loop (λ c κs. search needs) (λ c κs. search needs) (λ c κs. search needs) (λ c κs. search needs) (λ c κs. search needs)
+    (λ c κs. search needs) (λ c κs. search needs) (λ c. search needs) (λ c. search needs) (λ c. search needs) (λ c κs. search needs)
+    (λ c κs. search needs) (λ c. search needs) (λ c. search needs) (λ c κs. search needs) (λ c. search needs) slice-aggregate-form-2
+    (λ c. search needs) (λ c. search needs) (λ c κs. search needs) (λ c κs. search needs) (λ c. search needs) (λ c. search needs)
+    (λ c. search needs) (λ c κs. search needs) (λ c. search needs))

@@ -7,27 +7,9 @@ use Rattle.titles.specs.Laws.{title-few, title-read}
 use Rattle.titles.proofs.title_at.Statement.{statement}
 use Rattle.titles.proofs.title_at.Tie as tie
 
-skip-n-requires : tie.Need-skip-n-requires
-skip-n-requires c κs = search needs
-
-enum-told : tie.Need-enum-told
-enum-told c = search needs
-
-enum-known-to : tie.Need-enum-known-to
-enum-known-to c = search needs
-
-next-str-requires : tie.Need-next-str-requires
-next-str-requires c κs = search needs
-
-titled-requires : tie.Need-titled-requires
-titled-requires c κs = search needs
-
 returns : tie.Need-returns
 returns c = let k = c .before .before in let a = k .before .before .before .args in
     title-few (now (a .file)) (now (a .out)) (length (now (a .out))) (a .before) (a .place) (a .end) _ _ _ (ap toldSkipped (sym (c .enum-told .given .1)) ∙ k .skip-n .ensures)
-
-same-length : tie.Need-same-length
-same-length c = search needs
 
 returns-2 : tie.Need-returns-2
 returns-2 c = let n = c .before .before .before in let t = n .before .before .before in let a = t .before .before .before .before .before .args in
@@ -37,11 +19,5 @@ pub title-at-spec : {M : Type 1} → statement M
 title-at-spec =
     tie.close
     (tie.spec
-    skip-n-requires
-    enum-told
-    enum-known-to
-    next-str-requires
-    titled-requires
-    returns
-    same-length
+    (λ c κs. search needs) (λ c. search needs) (λ c. search needs) (λ c κs. search needs) (λ c κs. search needs) returns (λ c. search needs)
     returns-2)

@@ -6,18 +6,6 @@ use Rattle.error.specs.Refusal.{told}
 use Rattle.titles.proofs.titled.Statement.{statement}
 use Rattle.titles.proofs.titled.Tie as tie
 
-enum-known-r : tie.Need-enum-known-r
-enum-known-r c = search needs
-
-enum-known-r-2 : tie.Need-enum-known-r-2
-enum-known-r-2 c = search needs
-
-enum-known-r-3 : tie.Need-enum-known-r-3
-enum-known-r-3 c = search needs
-
-number-requires : tie.Need-number-requires
-number-requires c κs = search needs
-
 returns : tie.Need-returns
 returns c = rw (c .before .before .before .r3 .given .1, eq-eqb (told (c .before .before .before .r3 .given .0 .0) .number) 16 (omega (arith, c .before .number .ensures))) refl
 
@@ -34,11 +22,4 @@ pub titled-spec : {M : Type 1} → statement M
 titled-spec =
     tie.close
     (tie.spec
-    enum-known-r
-    enum-known-r-2
-    enum-known-r-3
-    number-requires
-    returns
-    returns-2
-    returns-3
-    returns-4)
+    (λ c. search needs) (λ c. search needs) (λ c. search needs) (λ c κs. search needs) returns returns-2 returns-3 returns-4)

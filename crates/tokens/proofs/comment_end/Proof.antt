@@ -16,18 +16,12 @@ Inv-loop s start i₀ i = (min start (length s) ≤ i) × (i ≤ length s) × (c
 abbrev μ-loop : tie.MeasureT-loop
 μ-loop s start i₀ i = length s - i
 
-within-requires : tie.Need-within-requires Inv-loop μ-loop
-within-requires c κs = search needs
-
 loop-holds : tie.Need-loop-holds Inv-loop μ-loop
 loop-holds c = let s = now (c .before .before .args .s) in (
   omega (arith, c .within .ensures),
   omega (arith, c .within .ensures),
   ap commentRest (ap (λ (k : ℕ). drop k s) (c .within .ensures) ∙ drop-within s (c .before .before .args .start)),
 )
-
-find-byte-requires : tie.Need-find-byte-requires Inv-loop μ-loop
-find-byte-requires c κs = search needs
 
 returns : tie.Need-returns Inv-loop μ-loop
 returns c = let l = c .before .before .loop in
@@ -36,9 +30,6 @@ returns c = let l = c .before .before .loop in
 
 add-is-at : tie.Need-add-is-at Inv-loop μ-loop
 add-is-at c = omega (arith, c .before .find-byte .ensures .1)
-
-is-at-requires : tie.Need-is-at-requires Inv-loop μ-loop
-is-at-requires c κs = search needs
 
 add-t9 : tie.Need-add-t9 Inv-loop μ-loop
 add-t9 c = omega (arith, c .before .before .before .find-byte .ensures .1)
@@ -72,16 +63,5 @@ pub comment-end-spec : {M : Type 1} → statement M
 comment-end-spec =
     tie.close
     (tie.spec
-    Inv-loop
-    μ-loop
-    within-requires
-    loop-holds
-    find-byte-requires
-    returns
-    add-is-at
-    is-at-requires
-    add-t9
-    returns-2
-    add-i
-    loop-less
-    loop-again)
+    Inv-loop μ-loop (λ c κs. search needs) loop-holds (λ c κs. search needs) returns add-is-at (λ c κs. search needs) add-t9 returns-2 add-i
+    loop-less loop-again)

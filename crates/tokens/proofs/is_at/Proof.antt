@@ -6,9 +6,6 @@ use denote.Ref.{now}
 use Rattle.tokens.proofs.is_at.Statement.{statement}
 use Rattle.tokens.proofs.is_at.Tie as tie
 
-shared-slice-read-result : tie.Need-shared-slice-read-result
-shared-slice-read-result c = search needs
-
 returns : tie.Need-returns
 returns c = heads-at (c .before .before .args .b) (now (c .before .before .args .s)) (c .before .before .args .i) (omega arith)
 
@@ -16,4 +13,5 @@ returns-2 : tie.Need-returns-2
 returns-2 c = heads-past (c .before .args .b) (now (c .before .args .s)) (c .before .args .i) (omega arith)
 
 pub is-at-spec : {M : Type 1} → statement M
-is-at-spec = tie.close (tie.spec shared-slice-read-result returns returns-2)
+is-at-spec = tie.close (tie.spec
+    (λ c. search needs) returns returns-2)

@@ -6,15 +6,6 @@ use borrow.Author.Needs.{needs}
 use Rattle.tokens.proofs.string_end.Statement.{statement}
 use Rattle.tokens.proofs.string_end.Tie as tie
 
-text-end-requires : tie.Need-text-end-requires
-text-end-requires c κs = search needs
-
-enum-known-next : tie.Need-enum-known-next
-enum-known-next c = search needs
-
-enum-told : tie.Need-enum-told
-enum-told c = search needs
-
 returns : tie.Need-returns
 returns c = let m = c .before .before .before in
     let a = m .before .before .args in
@@ -27,4 +18,5 @@ returns-2 c = let m = c .before .before in
     (sym (string-never-only (subst (λ r. TextEnds (now (a .s)) (a .start) r) (c .enum-told .given .1) (m .text-end .ensures))), tt)
 
 pub string-end-spec : {M : Type 1} → statement M
-string-end-spec = tie.close (tie.spec text-end-requires enum-known-next enum-told returns returns-2)
+string-end-spec = tie.close (tie.spec
+    (λ c κs. search needs) (λ c. search needs) (λ c. search needs) returns returns-2)

@@ -12,27 +12,6 @@ use Rattle.units.specs.Laws.{context-is, whole-reads}
 use Rattle.units.proofs.is_context.Statement.{statement}
 use Rattle.units.proofs.is_context.Tie as tie
 
-self-or-requires : tie.Need-self-or-requires
-self-or-requires c κs = search needs
-
-enum-known-f : tie.Need-enum-known-f
-enum-known-f c = search needs
-
-enum-told : tie.Need-enum-told
-enum-told c = search needs
-
-enum-known-a : tie.Need-enum-known-a
-enum-known-a c = search needs
-
-next-i64-requires : tie.Need-next-i64-requires
-next-i64-requires c κs = search needs
-
-enum-told-2 : tie.Need-enum-told-2
-enum-told-2 c = search needs
-
-enum-told-3 : tie.Need-enum-told-3
-enum-told-3 c = search needs
-
 returns : tie.Need-returns
 returns c = let a = c .before .before .before .before .before .args in ap (λ (x : Run). goodBy (readsInteger (now (a .file))) (toldRun x)) (sym (c .before .f .given .1)) ∙ context-is (now (a .file)) (thingOf (now (a .file)) (rowOf (a .row))) (c .before .before .before .self-or .ensures)
 
@@ -49,14 +28,5 @@ pub is-context-spec : {M : Type 1} → statement M
 is-context-spec =
     tie.close
     (tie.spec
-    self-or-requires
-    enum-known-f
-    enum-told
-    enum-known-a
-    next-i64-requires
-    enum-told-2
-    enum-told-3
-    returns
-    returns-2
-    returns-3
-    returns-4)
+    (λ c κs. search needs) (λ c. search needs) (λ c. search needs) (λ c. search needs) (λ c κs. search needs) (λ c. search needs)
+    (λ c. search needs) returns returns-2 returns-3 returns-4)

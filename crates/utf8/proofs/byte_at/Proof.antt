@@ -7,9 +7,6 @@ use Rattle.utf8.specs.Laws.{byte-at}
 use Rattle.utf8.proofs.byte_at.Statement.{statement}
 use Rattle.utf8.proofs.byte_at.Tie as tie
 
-shared-slice-read-result : tie.Need-shared-slice-read-result
-shared-slice-read-result c = search needs
-
 cast-result : tie.Need-cast-result
 cast-result c = omega (arith, c .shared-slice-known .given (c .before .before .args .k))
 
@@ -20,4 +17,5 @@ returns-2 : tie.Need-returns-2
 returns-2 c = sym (List·getD-eq-default (now (c .before .args .bytes)) 256 (c .if1 .left))
 
 pub byte-at-spec : {M : Type 1} → statement M
-byte-at-spec = tie.close (tie.spec shared-slice-read-result cast-result returns returns-2)
+byte-at-spec = tie.close (tie.spec
+    (λ c. search needs) cast-result returns returns-2)

@@ -5,21 +5,6 @@ use Rattle.utf8.specs.Laws.{four-tests}
 use Rattle.utf8.proofs.four.Statement.{statement}
 use Rattle.utf8.proofs.four.Tie as tie
 
-is-second-requires : tie.Need-is-second-requires
-is-second-requires c κs = search needs
-
-is-tail-requires : tie.Need-is-tail-requires
-is-tail-requires c κs = search needs
-
-is-tail-requires-2 : tie.Need-is-tail-requires-2
-is-tail-requires-2 c κs = search needs
-
-sub-t10 : tie.Need-sub-t10
-sub-t10 c = search needs
-
-mul-t11 : tie.Need-mul-t11
-mul-t11 c = search needs
-
 sub-t12 : tie.Need-sub-t12
 sub-t12 c = omega (arith, four-tests (c .before .before .before .before .args .a) (c .before .before .before .before .args .b) (c .before .before .before .before .args .c) (c .before .before .before .before .args .d) (c .before .before .before .is-second .result) (c .before .before .is-tail .result) (c .before .is-tail2 .result) (c .before .before .before .is-second .ensures) (c .before .before .is-tail .ensures) (c .before .is-tail2 .ensures) (c .if1 .taken))
 
@@ -47,9 +32,6 @@ add-t19 c = omega (arith, four-tests (c .before .before .before .before .args .a
 returns : tie.Need-returns
 returns c = rw (four-tests (c .before .before .before .before .args .a) (c .before .before .before .before .args .b) (c .before .before .before .before .args .c) (c .before .before .before .before .args .d) (c .before .before .before .is-second .result) (c .before .before .is-tail .result) (c .before .is-tail2 .result) (c .before .before .before .is-second .ensures) (c .before .before .is-tail .ensures) (c .before .is-tail2 .ensures) (c .if1 .taken) .0) (refl, refl)
 
-nothing-requires : tie.Need-nothing-requires
-nothing-requires c κs = search needs
-
 returns-2 : tie.Need-returns-2
 returns-2 c = rw (← c .before .before .before .before .is-second .ensures, ← c .before .before .before .is-tail .ensures, ← c .before .before .is-tail2 .ensures, c .before .if1 .left) (c .nothing .ensures)
 
@@ -57,19 +39,5 @@ pub four-spec : {M : Type 1} → statement M
 four-spec =
     tie.close
     (tie.spec
-    is-second-requires
-    is-tail-requires
-    is-tail-requires-2
-    sub-t10
-    mul-t11
-    sub-t12
-    mul-t13
-    add-t14
-    sub-t15
-    mul-t16
-    add-t17
-    sub-t18
-    add-t19
-    returns
-    nothing-requires
-    returns-2)
+    (λ c κs. search needs) (λ c κs. search needs) (λ c κs. search needs) (λ c. search needs) (λ c. search needs) sub-t12 mul-t13 add-t14
+    sub-t15 mul-t16 add-t17 sub-t18 add-t19 returns (λ c κs. search needs) returns-2)

@@ -9,9 +9,6 @@ use mathlib.Core.Path.{_≡_}
 use Rattle.utf8.proofs.put.Statement.{statement}
 use Rattle.utf8.proofs.put.Tie as tie
 
-width-requires : tie.Need-width-requires
-width-requires c κs = search needs
-
 returns : tie.Need-returns
 returns c = put-short (c .before .before .before .args .at) (encode (c .before .before .before .args .code)) (now (c .before .before .before .args .out)) (omega arith)
 
@@ -30,32 +27,20 @@ put-three-requires c κs = let (l, h, e) = sized (c .before .before .before .bef
 put-four-requires : tie.Need-put-four-requires
 put-four-requires c κs = let (l, h) = sized (c .before .before .before .before .before .before .before .before .before .args .code) (c .before .before .before .before .before .before .before .width .result) (c .before .before .before .before .before .before .before .width .ensures) .at-four (c .before .if6 .taken) in (omega arith, l, h)
 
-same-length : tie.Need-same-length
-same-length c = search needs
-
 returns-3 : tie.Need-returns-3
 returns-3 c = let o = now (c .before .before .before .before .before .before .before .before .before .args .out) in
     let (w, p) = put-fits (c .before .before .before .before .before .before .before .before .before .args .at) (encode (c .before .before .before .before .before .before .before .before .before .args .code)) o (omega (arith, c .before .before .before .before .before .before .before .width .ensures)) in
     (c .before .before .before .before .before .before .before .width .ensures ∙ w, c .before .before .put-one .ensures ∙ p)
-
-same-length-2 : tie.Need-same-length-2
-same-length-2 c = search needs
 
 returns-4 : tie.Need-returns-4
 returns-4 c = let o = now (c .before .before .before .before .before .before .before .before .before .before .args .out) in
     let (w, p) = put-fits (c .before .before .before .before .before .before .before .before .before .before .args .at) (encode (c .before .before .before .before .before .before .before .before .before .before .args .code)) o (omega (arith, c .before .before .before .before .before .before .before .before .width .ensures)) in
     (c .before .before .before .before .before .before .before .before .width .ensures ∙ w, c .before .before .put-two .ensures ∙ p)
 
-same-length-3 : tie.Need-same-length-3
-same-length-3 c = search needs
-
 returns-5 : tie.Need-returns-5
 returns-5 c = let o = now (c .before .before .before .before .before .before .before .before .before .before .before .args .out) in
     let (w, p) = put-fits (c .before .before .before .before .before .before .before .before .before .before .before .args .at) (encode (c .before .before .before .before .before .before .before .before .before .before .before .args .code)) o (omega (arith, c .before .before .before .before .before .before .before .before .before .width .ensures)) in
     (c .before .before .before .before .before .before .before .before .before .width .ensures ∙ w, c .before .before .put-three .ensures ∙ p)
-
-same-length-4 : tie.Need-same-length-4
-same-length-4 c = search needs
 
 returns-6 : tie.Need-returns-6
 returns-6 c = let o = now (c .before .before .before .before .before .before .before .before .before .before .before .before .args .out) in
@@ -72,19 +57,5 @@ pub put-spec : {M : Type 1} → statement M
 put-spec =
     tie.close
     (tie.spec
-    width-requires
-    returns
-    returns-2
-    put-one-requires
-    put-two-requires
-    put-three-requires
-    put-four-requires
-    same-length
-    returns-3
-    same-length-2
-    returns-4
-    same-length-3
-    returns-5
-    same-length-4
-    returns-6
-    returns-7)
+    (λ c κs. search needs) returns returns-2 put-one-requires put-two-requires put-three-requires put-four-requires (λ c. search needs)
+    returns-3 (λ c. search needs) returns-4 (λ c. search needs) returns-5 (λ c. search needs) returns-6 returns-7)

@@ -6,41 +6,11 @@ use Rattle.utf8.specs.Laws.{encode-three}
 use Rattle.utf8.proofs.put_three.Statement.{statement}
 use Rattle.utf8.proofs.put_three.Tie as tie
 
-add-out : tie.Need-add-out
-add-out c = search needs
-
-cast-out : tie.Need-cast-out
-cast-out c = omega arith
-
-slice-write-out : tie.Need-slice-write-out
-slice-write-out c = search needs
-
-add-out-2 : tie.Need-add-out-2
-add-out-2 c = search needs
-
-cast-out-2 : tie.Need-cast-out-2
-cast-out-2 c = search needs
-
-add-out-3 : tie.Need-add-out-3
-add-out-3 c = search needs
-
 slice-write-out-2 : tie.Need-slice-write-out-2
 slice-write-out-2 c = simp length-set (omega arith)
 
-add-out-4 : tie.Need-add-out-4
-add-out-4 c = search needs
-
-cast-out-3 : tie.Need-cast-out-3
-cast-out-3 c = search needs
-
-add-out-5 : tie.Need-add-out-5
-add-out-5 c = search needs
-
 slice-write-out-3 : tie.Need-slice-write-out-3
 slice-write-out-3 c = simp length-set (omega arith)
-
-same-length : tie.Need-same-length
-same-length c = search needs
 
 returns : tie.Need-returns
 returns c = rw (encode-three (c .args .code) (c .pre .1) (c .pre .2) (c .pre .3)) (simp towards-suc)
@@ -49,16 +19,5 @@ pub put-three-spec : {M : Type 1} → statement M
 put-three-spec =
     tie.close
     (tie.spec
-    add-out
-    cast-out
-    slice-write-out
-    add-out-2
-    cast-out-2
-    add-out-3
-    slice-write-out-2
-    add-out-4
-    cast-out-3
-    add-out-5
-    slice-write-out-3
-    same-length
-    returns)
+    (λ c. search needs) (λ c. omega arith) (λ c. search needs) (λ c. search needs) (λ c. search needs) (λ c. search needs) slice-write-out-2
+    (λ c. search needs) (λ c. search needs) (λ c. search needs) slice-write-out-3 (λ c. search needs) returns)

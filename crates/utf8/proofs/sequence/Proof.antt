@@ -6,15 +6,9 @@ use Rattle.utf8.specs.Laws.{bounds, lead-one, lead-two, lead-three, lead
 use Rattle.utf8.proofs.sequence.Statement.{statement}
 use Rattle.utf8.proofs.sequence.Tie as tie
 
-byte-at-requires : tie.Need-byte-at-requires
-byte-at-requires c κs = search needs
-
 returns : tie.Need-returns
 returns c = let e = lead-one (now (c .before .before .before .args .bytes)) (c .before .byte-at .result) (c .before .byte-at .ensures) (c .if1 .taken) in
     (ap codeOfLead e, ap usedOfLead e)
-
-byte-at-requires-2 : tie.Need-byte-at-requires-2
-byte-at-requires-2 c κs = search needs
 
 two-requires : tie.Need-two-requires
 two-requires c κs = bounds 194 (c .before .before .before .byte-at .result) 223 (c .before .if2 .taken)
@@ -24,12 +18,6 @@ returns-2 c = let s = now (c .before .before .before .before .before .before .ar
     let e = lead-two s _ _ (c .before .before .before .before .byte-at .ensures) (c .before .byte-at2 .ensures) (c .before .before .if2 .taken) in
     (c .two .ensures .0 ∙ ap codeOfLead e, c .two .ensures .1 ∙ ap usedOfLead e)
 
-byte-at-requires-3 : tie.Need-byte-at-requires-3
-byte-at-requires-3 c κs = search needs
-
-byte-at-requires-4 : tie.Need-byte-at-requires-4
-byte-at-requires-4 c κs = search needs
-
 three-requires : tie.Need-three-requires
 three-requires c κs = bounds 224 (c .before .before .before .before .before .byte-at .result) 239 (c .before .before .if3 .taken)
 
@@ -38,15 +26,6 @@ returns-3 c = let s = now (c .before .before .before .before .before .before .be
     let e = lead-three s _ _ _ (c .before .before .before .before .before .before .byte-at .ensures) (c .before .before .byte-at3 .ensures) (c .before .byte-at4 .ensures) (c .before .before .before .if3 .taken) in
     (c .three .ensures .0 ∙ ap codeOfLead e, c .three .ensures .1 ∙ ap usedOfLead e)
 
-byte-at-requires-5 : tie.Need-byte-at-requires-5
-byte-at-requires-5 c κs = search needs
-
-byte-at-requires-6 : tie.Need-byte-at-requires-6
-byte-at-requires-6 c κs = search needs
-
-byte-at-requires-7 : tie.Need-byte-at-requires-7
-byte-at-requires-7 c κs = search needs
-
 four-requires : tie.Need-four-requires
 four-requires c κs = bounds 240 (c .before .before .before .before .before .before .before .byte-at .result) 244 (c .before .before .before .if4 .taken)
 
@@ -54,9 +33,6 @@ returns-4 : tie.Need-returns-4
 returns-4 c = let s = now (c .before .before .before .before .before .before .before .before .before .before .args .bytes) in
     let e = lead-four s _ _ _ _ (c .before .before .before .before .before .before .before .before .byte-at .ensures) (c .before .before .before .byte-at5 .ensures) (c .before .before .byte-at6 .ensures) (c .before .byte-at7 .ensures) (c .before .before .before .before .if4 .taken) in
     (c .four .ensures .0 ∙ ap codeOfLead e, c .four .ensures .1 ∙ ap usedOfLead e)
-
-nothing-requires : tie.Need-nothing-requires
-nothing-requires c κs = search needs
 
 returns-5 : tie.Need-returns-5
 returns-5 c = let s = now (c .before .before .before .before .before .before .before .args .bytes) in
@@ -67,19 +43,6 @@ pub sequence-spec : {M : Type 1} → statement M
 sequence-spec =
     tie.close
     (tie.spec
-    byte-at-requires
-    returns
-    byte-at-requires-2
-    two-requires
-    returns-2
-    byte-at-requires-3
-    byte-at-requires-4
-    three-requires
-    returns-3
-    byte-at-requires-5
-    byte-at-requires-6
-    byte-at-requires-7
-    four-requires
-    returns-4
-    nothing-requires
-    returns-5)
+    (λ c κs. search needs) returns (λ c κs. search needs) two-requires returns-2 (λ c κs. search needs) (λ c κs. search needs)
+    three-requires returns-3 (λ c κs. search needs) (λ c κs. search needs) (λ c κs. search needs) four-requires returns-4
+    (λ c κs. search needs) returns-5)

@@ -5,18 +5,6 @@ use Rattle.utf8.specs.Laws.{three-tests}
 use Rattle.utf8.proofs.three.Statement.{statement}
 use Rattle.utf8.proofs.three.Tie as tie
 
-is-second-requires : tie.Need-is-second-requires
-is-second-requires c κs = search needs
-
-is-tail-requires : tie.Need-is-tail-requires
-is-tail-requires c κs = search needs
-
-sub-t7 : tie.Need-sub-t7
-sub-t7 c = search needs
-
-mul-t8 : tie.Need-mul-t8
-mul-t8 c = search needs
-
 sub-t9 : tie.Need-sub-t9
 sub-t9 c = omega (arith, three-tests (c .before .before .before .args .a) (c .before .before .before .args .b) (c .before .before .before .args .c) (c .before .before .is-second .result) (c .before .is-tail .result) (c .before .before .is-second .ensures) (c .before .is-tail .ensures) (c .if1 .taken))
 
@@ -35,9 +23,6 @@ add-t13 c = omega (arith, three-tests (c .before .before .before .args .a) (c .b
 returns : tie.Need-returns
 returns c = rw (three-tests (c .before .before .before .args .a) (c .before .before .before .args .b) (c .before .before .before .args .c) (c .before .before .is-second .result) (c .before .is-tail .result) (c .before .before .is-second .ensures) (c .before .is-tail .ensures) (c .if1 .taken) .0) (refl, refl)
 
-nothing-requires : tie.Need-nothing-requires
-nothing-requires c κs = search needs
-
 returns-2 : tie.Need-returns-2
 returns-2 c = rw (← c .before .before .before .is-second .ensures, ← c .before .before .is-tail .ensures, c .before .if1 .left) (c .nothing .ensures)
 
@@ -45,15 +30,5 @@ pub three-spec : {M : Type 1} → statement M
 three-spec =
     tie.close
     (tie.spec
-    is-second-requires
-    is-tail-requires
-    sub-t7
-    mul-t8
-    sub-t9
-    mul-t10
-    add-t11
-    sub-t12
-    add-t13
-    returns
-    nothing-requires
-    returns-2)
+    (λ c κs. search needs) (λ c κs. search needs) (λ c. search needs) (λ c. search needs) sub-t9 mul-t10 add-t11 sub-t12 add-t13 returns
+    (λ c κs. search needs) returns-2)

@@ -16,17 +16,8 @@ first-lt n d h l = let p : 0 < d = omega arith in let g : n < 4 * d = omega arit
 first-ge : (n d : ℕ) → 9223372036854775808 ≤ n → d < 9223372036854775808 → 0 < d → 1 ≤ n / d
 first-ge n d h l p = let g : 1 * d ≤ n = omega arith in le-div-iff-mul-le {x = 1} {y = n} p .1 g
 
-rem-next-digit : tie.Need-rem-next-digit
-rem-next-digit c = search needs
-
 next-digit-requires : tie.Need-next-digit-requires
 next-digit-requires c κs = let l = c .pre .1 in (l, c .pre .2, mod-lt (c .args .n) (omega arith))
-
-next-digit-requires-2 : tie.Need-next-digit-requires-2
-next-digit-requires-2 c κs = search needs
-
-div-t5 : tie.Need-div-t5
-div-t5 c = search needs
 
 mul-t6 : tie.Need-mul-t6
 mul-t6 c =
@@ -80,4 +71,5 @@ returns c =
     )
 
 pub divide-spec : {M : Type 1} → statement M
-divide-spec = tie.close (tie.spec rem-next-digit next-digit-requires next-digit-requires-2 div-t5 mul-t6 mul-t7 add-t8 add-t9 returns)
+divide-spec = tie.close (tie.spec
+    (λ c. search needs) next-digit-requires (λ c κs. search needs) (λ c. search needs) mul-t6 mul-t7 add-t8 add-t9 returns)

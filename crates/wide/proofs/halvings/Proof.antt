@@ -4,11 +4,6 @@ use borrow.Author.Needs.{needs}
 use Rattle.wide.proofs.halvings.Statement.{statement}
 use Rattle.wide.proofs.halvings.Tie as tie
 
-mul-result : tie.Need-mul-result
-mul-result c = search needs
-
-returns : tie.Need-returns
-returns c = refl
-
 pub halvings-spec : {M : Type 1} → statement M
-halvings-spec = tie.close (tie.spec mul-result returns)
+halvings-spec = tie.close (tie.spec
+    (λ c. search needs) (λ c. refl))

@@ -5,12 +5,6 @@ use Rattle.wide.specs.Tens.{places-le, lifted-is}
 use Rattle.wide.proofs.lifted_five.Statement.{statement}
 use Rattle.wide.proofs.lifted_five.Tie as tie
 
-places-requires : tie.Need-places-requires
-places-requires c κs = search needs
-
-power-of-five-requires : tie.Need-power-of-five-requires
-power-of-five-requires c κs = search needs
-
 shl-t4 : tie.Need-shl-t4
 shl-t4 c =
     let e = c .before .places .ensures in
@@ -30,4 +24,5 @@ returns c =
 
 pub lifted-five-spec : {M : Type 1} → statement M
 lifted-five-spec =
-    tie.close (tie.spec places-requires power-of-five-requires shl-t4 cast-t5 returns)
+    tie.close (tie.spec
+    (λ c κs. search needs) (λ c κs. search needs) shl-t4 cast-t5 returns)

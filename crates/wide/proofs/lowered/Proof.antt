@@ -14,26 +14,12 @@ use Rattle.wide.proofs.lowered.Tie as tie
 none : (m k : ℕ) → m ≡ 0 → near m (10 ^ k) ≡ 0
 none m k e = ap (λ (x : ℕ). near x (10 ^ k)) e ∙ near-nothing (10 ^ k) (one-le-pow k 10 (omega arith))
 
-zero-requires : tie.Need-zero-requires
-zero-requires c κs = search needs
-
 returns : tie.Need-returns
 returns c =
     let a = c .before .before .args in
     c .zero .ensures ∙ ap (signed (a .neg)) (sym (none (a .m) (a .k) (c .before .if1 .taken)))
 
-lowered-requires : tie.Need-lowered-requires
-lowered-requires c κs = search needs
-
-returns-2 : tie.Need-returns-2
-returns-2 c = search needs
-
-lowered-within-requires : tie.Need-lowered-within-requires
-lowered-within-requires c κs = search needs
-
-returns-3 : tie.Need-returns-3
-returns-3 c = search needs
-
 pub lowered-spec : {M : Type 1} → statement M
 lowered-spec =
-    tie.close (tie.spec zero-requires returns lowered-requires returns-2 lowered-within-requires returns-3)
+    tie.close (tie.spec
+    (λ c κs. search needs) returns (λ c κs. search needs) (λ c. search needs) (λ c κs. search needs) (λ c. search needs))

@@ -6,33 +6,6 @@ use Rattle.wide.specs.Tens.{lowered-cut}
 use Rattle.wide.proofs.lowered_exactly.Statement.{statement}
 use Rattle.wide.proofs.lowered_exactly.Tie as tie
 
-lift-requires : tie.Need-lift-requires
-lift-requires c κs = search needs
-
-lifted-five-requires : tie.Need-lifted-five-requires
-lifted-five-requires c κs = search needs
-
-divide-requires : tie.Need-divide-requires
-divide-requires c κs = search needs
-
-cast-rounded : tie.Need-cast-rounded
-cast-rounded c = search needs
-
-add-rounded : tie.Need-add-rounded
-add-rounded c = search needs
-
-cast-rounded-2 : tie.Need-cast-rounded-2
-cast-rounded-2 c = search needs
-
-sub-rounded : tie.Need-sub-rounded
-sub-rounded c = search needs
-
-sub-rounded-2 : tie.Need-sub-rounded-2
-sub-rounded-2 c = search needs
-
-rounded-requires : tie.Need-rounded-requires
-rounded-requires c κs = search needs
-
 returns : tie.Need-returns
 returns c =
     let q = c .before .before .before .before in
@@ -48,13 +21,5 @@ pub lowered-exactly-spec : {M : Type 1} → statement M
 lowered-exactly-spec =
     tie.close
     (tie.spec
-    lift-requires
-    lifted-five-requires
-    divide-requires
-    cast-rounded
-    add-rounded
-    cast-rounded-2
-    sub-rounded
-    sub-rounded-2
-    rounded-requires
-    returns)
+    (λ c κs. search needs) (λ c κs. search needs) (λ c κs. search needs) (λ c. search needs) (λ c. search needs) (λ c. search needs)
+    (λ c. search needs) (λ c. search needs) (λ c κs. search needs) returns)

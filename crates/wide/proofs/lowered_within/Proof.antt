@@ -8,36 +8,12 @@ use Rattle.wide.specs.Tens.{lowered-near, high-enough}
 use Rattle.wide.proofs.lowered_within.Statement.{statement}
 use Rattle.wide.proofs.lowered_within.Tie as tie
 
-lift-requires : tie.Need-lift-requires
-lift-requires c κs = search needs
-
-reciprocal-requires : tie.Need-reciprocal-requires
-reciprocal-requires c κs = search needs
-
-multiply-requires : tie.Need-multiply-requires
-multiply-requires c κs = search needs
-
 is-sure-requires : tie.Need-is-sure-requires
 is-sure-requires c κs =
     let r = c .before in
     let n = r .before in
     let a = n .lift .ensures .1 in
     high-enough (c .multiply .result .high) (c .multiply .result .low) (n .lift .result .value) (r .reciprocal .result) (c .multiply .ensures .0) (c .multiply .ensures .1) (omega arith) (r .reciprocal .ensures .long)
-
-halvings-requires : tie.Need-halvings-requires
-halvings-requires c κs = search needs
-
-sub-rounded : tie.Need-sub-rounded
-sub-rounded c = search needs
-
-cast-rounded : tie.Need-cast-rounded
-cast-rounded c = search needs
-
-sub-rounded-2 : tie.Need-sub-rounded-2
-sub-rounded-2 c = search needs
-
-sub-rounded-3 : tie.Need-sub-rounded-3
-sub-rounded-3 c = search needs
 
 rounded-requires : tie.Need-rounded-requires
 rounded-requires c κs =
@@ -61,17 +37,8 @@ returns c =
     c .rounded .ensures .1 (sym (s .is-sure .ensures) ∙ c .before .before .before .if1 .taken) (a .m) (10 ^ a .k)
     (subst (λ (b : ℕ). Within (a .m) (10 ^ a .k) (p .multiply .result .high) (1074 - b - n .lift .result .by - a .k)) (sym (c .before .before .halvings .ensures)) there)
 
-lowered-requires : tie.Need-lowered-requires
-lowered-requires c κs = search needs
-
-returns-2 : tie.Need-returns-2
-returns-2 c = search needs
-
-lowered-exactly-requires : tie.Need-lowered-exactly-requires
-lowered-exactly-requires c κs = search needs
-
-returns-3 : tie.Need-returns-3
-returns-3 c = search needs
-
 pub lowered-within-spec : {M : Type 1} → statement M
-lowered-within-spec = tie.close (tie.spec lift-requires reciprocal-requires multiply-requires is-sure-requires halvings-requires sub-rounded cast-rounded sub-rounded-2 sub-rounded-3 rounded-requires returns lowered-requires returns-2 lowered-exactly-requires returns-3)
+lowered-within-spec = tie.close (tie.spec
+    (λ c κs. search needs) (λ c κs. search needs) (λ c κs. search needs) is-sure-requires (λ c κs. search needs) (λ c. search needs)
+    (λ c. search needs) (λ c. search needs) (λ c. search needs) rounded-requires returns (λ c κs. search needs) (λ c. search needs)
+    (λ c κs. search needs) (λ c. search needs))

@@ -42,14 +42,9 @@ add-t14 c =
     let m = column (c .args .a % 4294967296) (c .args .b / 4294967296) (omega arith) (omega arith) in
     record { fits = omega (arith, h, k, l, m) }
 
-mul-t16 : tie.Need-mul-t16
-mul-t16 c = search needs
-
-add-t18 : tie.Need-add-t18
-add-t18 c = search needs
-
 returns : tie.Need-returns
 returns c = (multiplied (c .args .a) (c .args .b), omega arith)
 
 pub multiply-spec : {M : Type 1} → statement M
-multiply-spec = tie.close (tie.spec mul-first mul-second add-second mul-third add-third mul-t10 add-t12 add-t14 mul-t16 add-t18 returns)
+multiply-spec = tie.close (tie.spec
+    mul-first mul-second add-second mul-third add-third mul-t10 add-t12 add-t14 (λ c. search needs) (λ c. search needs) returns)

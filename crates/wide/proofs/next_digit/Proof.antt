@@ -5,24 +5,12 @@ use Rattle.wide.specs.Long.{error-le, mod-le, digit-right, digit-more, d
 use Rattle.wide.proofs.next_digit.Statement.{statement}
 use Rattle.wide.proofs.next_digit.Tie as tie
 
-add-upper : tie.Need-add-upper
-add-upper c = search needs
-
-div-digit : tie.Need-div-digit
-div-digit c = search needs
-
-rem-rest : tie.Need-rem-rest
-rem-rest c = search needs
-
 mul-rest : tie.Need-mul-rest
 mul-rest c =
     let p = c .pre in
     let m = mod-le (c .args .r) (c .args .d) (p .0) (p .1) (p .2) in
     let h = p .1 in
     record { fits = omega (arith, m, h) }
-
-sub-rest : tie.Need-sub-rest
-sub-rest c = search needs
 
 mul-rest-2 : tie.Need-mul-rest-2
 mul-rest-2 c =
@@ -57,4 +45,5 @@ returns-2 c =
     digit-more (a .r) (a .d) (p .0) (p .1) (p .2) (omega arith)
 
 pub next-digit-spec : {M : Type 1} → statement M
-next-digit-spec = tie.close (tie.spec add-upper div-digit rem-rest mul-rest sub-rest mul-rest-2 add-rest returns add-t6 returns-2)
+next-digit-spec = tie.close (tie.spec
+    (λ c. search needs) (λ c. search needs) (λ c. search needs) mul-rest (λ c. search needs) mul-rest-2 add-rest returns add-t6 returns-2)

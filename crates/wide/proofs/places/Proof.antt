@@ -6,9 +6,6 @@ use Rattle.wide.specs.Tens.{places-is}
 use Rattle.wide.proofs.places.Statement.{statement}
 use Rattle.wide.proofs.places.Tie as tie
 
-halvings-requires : tie.Need-halvings-requires
-halvings-requires c κs = search needs
-
 sub-result : tie.Need-sub-result
 sub-result c = let e = c .halvings .ensures in search needs
 
@@ -16,4 +13,5 @@ returns : tie.Need-returns
 returns c = ap (λ (n : ℕ). 62 - n) (c .halvings .ensures) ∙ places-is (c .before .args .k) (c .before .pre)
 
 pub places-spec : {M : Type 1} → statement M
-places-spec = tie.close (tie.spec halvings-requires sub-result returns)
+places-spec = tie.close (tie.spec
+    (λ c κs. search needs) sub-result returns)

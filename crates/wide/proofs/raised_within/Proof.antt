@@ -7,30 +7,6 @@ use Rattle.wide.specs.Tens.{raised-cut, high-enough}
 use Rattle.wide.proofs.raised_within.Statement.{statement}
 use Rattle.wide.proofs.raised_within.Tie as tie
 
-lift-requires : tie.Need-lift-requires
-lift-requires c κs = search needs
-
-lifted-five-requires : tie.Need-lifted-five-requires
-lifted-five-requires c κs = search needs
-
-multiply-requires : tie.Need-multiply-requires
-multiply-requires c κs = search needs
-
-add-rounded : tie.Need-add-rounded
-add-rounded c = search needs
-
-cast-rounded : tie.Need-cast-rounded
-cast-rounded c = search needs
-
-sub-rounded : tie.Need-sub-rounded
-sub-rounded c = search needs
-
-cast-rounded-2 : tie.Need-cast-rounded-2
-cast-rounded-2 c = search needs
-
-sub-rounded-2 : tie.Need-sub-rounded-2
-sub-rounded-2 c = search needs
-
 rounded-requires : tie.Need-rounded-requires
 rounded-requires c κs =
     let p = c .before .before .before in
@@ -57,13 +33,5 @@ pub raised-within-spec : {M : Type 1} → statement M
 raised-within-spec =
     tie.close
     (tie.spec
-    lift-requires
-    lifted-five-requires
-    multiply-requires
-    add-rounded
-    cast-rounded
-    sub-rounded
-    cast-rounded-2
-    sub-rounded-2
-    rounded-requires
-    returns)
+    (λ c κs. search needs) (λ c κs. search needs) (λ c κs. search needs) (λ c. search needs) (λ c. search needs) (λ c. search needs)
+    (λ c. search needs) (λ c. search needs) rounded-requires returns)

@@ -12,20 +12,11 @@ use Rattle.wide.specs.Pattern.{made-le, made-near, made-sure}
 use Rattle.wide.proofs.rounded.Statement.{statement}
 use Rattle.wide.proofs.rounded.Tie as tie
 
-surplus-requires : tie.Need-surplus-requires
-surplus-requires c κs = search needs
-
-cast-pattern : tie.Need-cast-pattern
-cast-pattern c = search needs
-
 add-pattern : tie.Need-add-pattern
 add-pattern c = let e = c .surplus .ensures in search needs
 
 mul-pattern : tie.Need-mul-pattern
 mul-pattern c = let e = c .surplus .ensures in search needs
-
-rounded-off-requires : tie.Need-rounded-off-requires
-rounded-off-requires c κs = search needs
 
 add-pattern-2 : tie.Need-add-pattern-2
 add-pattern-2 c =
@@ -82,4 +73,6 @@ returns-2 c =
     )
 
 pub rounded-spec : {M : Type 1} → statement M
-rounded-spec = tie.close (tie.spec surplus-requires cast-pattern add-pattern mul-pattern rounded-off-requires add-pattern-2 add-result float-from-bits-result returns float-from-bits-result-2 returns-2)
+rounded-spec = tie.close (tie.spec
+    (λ c κs. search needs) (λ c. search needs) add-pattern mul-pattern (λ c κs. search needs) add-pattern-2 add-result
+    float-from-bits-result returns float-from-bits-result-2 returns-2)

@@ -8,8 +8,6 @@ use Rattle.wide.proofs.surplus.Tie as tie
 sub-result : tie.Need-sub-result
 sub-result c = let h = drops (c .args .w) (c .pre) (c .fits .w .fits) .0 in omega arith
 
-returns : tie.Need-returns
-returns c = search needs
-
 pub surplus-spec : {M : Type 1} → statement M
-surplus-spec = tie.close (tie.spec sub-result returns)
+surplus-spec = tie.close (tie.spec
+    sub-result (λ c. search needs))

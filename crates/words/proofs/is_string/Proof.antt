@@ -12,12 +12,10 @@ returns : tie.Need-returns
 unfolding isString
 returns c = rw (lt-leb 2 (length (now (c .before .args .t))) (omega arith)) refl
 
-shared-slice-read-result : tie.Need-shared-slice-read-result
-shared-slice-read-result c = search needs
-
 returns-2 : tie.Need-returns-2
 unfolding isString
 returns-2 c = rw (le-leb 2 (length (now (c .before .before .args .t))) (omega arith)) refl
 
 pub is-string-spec : {M : Type 1} → statement M
-is-string-spec = tie.close (tie.spec returns shared-slice-read-result returns-2)
+is-string-spec = tie.close (tie.spec
+    returns (λ c. search needs) returns-2)

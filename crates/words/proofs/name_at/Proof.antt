@@ -10,21 +10,6 @@ use Rattle.words.specs.Laws.{name-two, part-length}
 use Rattle.words.proofs.name_at.Statement.{statement}
 use Rattle.words.proofs.name_at.Tie as tie
 
-sub-is-name : tie.Need-sub-is-name
-sub-is-name c = search needs
-
-part-is-name-start : tie.Need-part-is-name-start
-part-is-name-start c = search needs
-
-part-is-name-end : tie.Need-part-is-name-end
-part-is-name-end c = search needs
-
-is-name-requires : tie.Need-is-name-requires
-is-name-requires c κs = search needs
-
-add-t10 : tie.Need-add-t10
-add-t10 c = search needs
-
 sub-t11 : tie.Need-sub-t11
 sub-t11 c =
     let a = c .before .before .before .before .args in
@@ -49,11 +34,4 @@ pub name-at-spec : {M : Type 1} → statement M
 name-at-spec =
     tie.close
     (tie.spec
-    sub-is-name
-    part-is-name-start
-    part-is-name-end
-    is-name-requires
-    add-t10
-    sub-t11
-    returns
-    returns-2)
+    (λ c. search needs) (λ c. search needs) (λ c. search needs) (λ c κs. search needs) (λ c. search needs) sub-t11 returns returns-2)

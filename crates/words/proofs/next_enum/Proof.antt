@@ -7,15 +7,6 @@ use Rattle.words.specs.Laws.{name-next, name-refused}
 use Rattle.words.proofs.next_enum.Statement.{statement}
 use Rattle.words.proofs.next_enum.Tie as tie
 
-param-span-requires : tie.Need-param-span-requires
-param-span-requires c κs = search needs
-
-enum-known-f : tie.Need-enum-known-f
-enum-known-f c = search needs
-
-enum-known-start : tie.Need-enum-known-start
-enum-known-start c = search needs
-
 name-at-requires : tie.Need-name-at-requires
 name-at-requires c κs = cut-places _ _ _ _ _ (c .before .before .before .param-span .ensures .1) (c .before .start .given .1)
 
@@ -31,4 +22,5 @@ returns-2 c = let g = c .before .before in
 pub next-enum-spec : {M : Type 1} → statement M
 next-enum-spec =
     tie.close
-    (tie.spec param-span-requires enum-known-f enum-known-start name-at-requires returns returns-2)
+    (tie.spec
+    (λ c κs. search needs) (λ c. search needs) (λ c. search needs) name-at-requires returns returns-2)

@@ -8,24 +8,12 @@ use lib.ListN.{length}
 use Rattle.words.proofs.next_str.Statement.{statement}
 use Rattle.words.proofs.next_str.Tie as tie
 
-param-span-requires : tie.Need-param-span-requires
-param-span-requires c κs = search needs
-
-enum-known-f : tie.Need-enum-known-f
-enum-known-f c = search needs
-
-enum-known-start : tie.Need-enum-known-start
-enum-known-start c = search needs
-
 text-at-requires : tie.Need-text-at-requires
 text-at-requires c κs = cut-places _ _ _ _ _ (c .before .before .before .before .param-span .ensures .1) (c .before .before .start .given .1)
 
 returns : tie.Need-returns
 returns c = let a = c .before .before .before .before .before .before .args in
     text-refused (now (a .file)) (now (a .out)) (length (now (a .out))) _ _ _ _ (ap toldCut (sym (c .before .f .given .1)) ∙ c .before .before .before .param-span .ensures .0)
-
-same-length : tie.Need-same-length
-same-length c = search needs
 
 returns-2 : tie.Need-returns-2
 returns-2 c = let g = c .before .before .before .before .before in
@@ -36,10 +24,4 @@ pub next-str-spec : {M : Type 1} → statement M
 next-str-spec =
     tie.close
     (tie.spec
-    param-span-requires
-    enum-known-f
-    enum-known-start
-    text-at-requires
-    returns
-    same-length
-    returns-2)
+    (λ c κs. search needs) (λ c. search needs) (λ c. search needs) text-at-requires returns (λ c. search needs) returns-2)

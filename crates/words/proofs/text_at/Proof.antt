@@ -13,29 +13,11 @@ use Rattle.params.specs.Answer.{span}
 use Rattle.words.proofs.text_at.Statement.{statement}
 use Rattle.words.proofs.text_at.Tie as tie
 
-sub-t : tie.Need-sub-t
-sub-t c = search needs
-
-part-t-start : tie.Need-part-t-start
-part-t-start c = search needs
-
-part-t-end : tie.Need-part-t-end
-part-t-end c = search needs
-
-slice-aggregate-same-bytes : tie.Need-slice-aggregate-same-bytes
-slice-aggregate-same-bytes c = search needs
-
-same-bytes-requires : tie.Need-same-bytes-requires
-same-bytes-requires c κs = search needs
-
 returns : tie.Need-returns
 unfolding isUnset
 returns c =
     let a = c .before .before .before .before .before .before .args in
     text-unset (now (a .file)) (now (a .out)) (a .start) (a .stop) (a .to .place) (a .to .end) (sym (c .before .same-bytes .ensures) ∙ c .if1 .taken)
-
-is-string-requires : tie.Need-is-string-requires
-is-string-requires c κs = search needs
 
 returns-2 : tie.Need-returns-2
 unfolding isUnset
@@ -43,9 +25,6 @@ returns-2 c =
     let k = c .before .before in
     let a = k .before .before .before .before .before .before .args in
     text-wrong (now (a .file)) (now (a .out)) (a .start) (a .stop) (a .to .place) (a .to .end) (sym (k .before .same-bytes .ensures) ∙ k .if1 .left) (sym (c .before .is-string .ensures) ∙ not-true _ (c .if2 .taken))
-
-add-decode-string : tie.Need-add-decode-string
-add-decode-string c = search needs
 
 sub-decode-string : tie.Need-sub-decode-string
 sub-decode-string c =
@@ -71,18 +50,6 @@ part-decode-string-start c =
     let l = part-length (now (a .file)) (a .start) (a .stop) (omega arith) (omega arith) in
     omega arith
 
-part-decode-string-end : tie.Need-part-decode-string-end
-part-decode-string-end c = search needs
-
-decode-string-requires : tie.Need-decode-string-requires
-decode-string-requires c κs = search needs
-
-enum-told : tie.Need-enum-told
-enum-told c = search needs
-
-add-t27 : tie.Need-add-t27
-add-t27 c = search needs
-
 sub-t28 : tie.Need-sub-t28
 sub-t28 c =
     let i = c .before .before .before .before .before .before .before in
@@ -91,15 +58,6 @@ sub-t28 c =
     let k = string-two (take (a .stop - a .start) (drop (a .start) (now (a .file)))) h in
     let l = part-length (now (a .file)) (a .start) (a .stop) (omega arith) (omega arith) in
     omega arith
-
-enum-known-n : tie.Need-enum-known-n
-enum-known-n c = search needs
-
-enum-told-2 : tie.Need-enum-told-2
-enum-told-2 c = search needs
-
-same-length : tie.Need-same-length
-same-length c = search needs
 
 returns-3 : tie.Need-returns-3
 unfolding isUnset
@@ -110,9 +68,6 @@ returns-3 c =
     let a = u .before .before .before .before .before .before .args in
     text-read (now (a .file)) (now (a .out)) (a .start) (a .stop) (a .to .place) (a .to .end) (sym (u .before .same-bytes .ensures) ∙ u .if1 .left) (d .decode-string .result) (d .decode-string .last .1 .0) _ (sym (i .before .is-string .ensures) ∙ not-false _ (i .if2 .left)) (d .decode-string .ensures .0) (d .decode-string .ensures .1 .0) (ap (decodedAt (span (a .start) (a .stop))) (sym (c .enum-told .given .1)))
 
-same-length-2 : tie.Need-same-length-2
-same-length-2 c = search needs
-
 returns-4 : tie.Need-returns-4
 unfolding isUnset
 returns-4 c =
@@ -121,9 +76,6 @@ returns-4 c =
     let u = i .before .before in
     let a = u .before .before .before .before .before .before .args in
     text-read (now (a .file)) (now (a .out)) (a .start) (a .stop) (a .to .place) (a .to .end) (sym (u .before .same-bytes .ensures) ∙ u .if1 .left) (d .decode-string .result) (d .decode-string .last .1 .0) _ (sym (i .before .is-string .ensures) ∙ not-false _ (i .if2 .left)) (d .decode-string .ensures .0) (d .decode-string .ensures .1 .0) (ap (decodedAt (span (a .start) (a .stop))) (sym (c .before .n .given .1)))
-
-same-length-3 : tie.Need-same-length-3
-same-length-3 c = search needs
 
 returns-5 : tie.Need-returns-5
 unfolding isUnset
@@ -138,28 +90,7 @@ pub text-at-spec : {M : Type 1} → statement M
 text-at-spec =
     tie.close
     (tie.spec
-    sub-t
-    part-t-start
-    part-t-end
-    slice-aggregate-same-bytes
-    same-bytes-requires
-    returns
-    is-string-requires
-    returns-2
-    add-decode-string
-    sub-decode-string
-    sub-decode-string-2
-    part-decode-string-start
-    part-decode-string-end
-    decode-string-requires
-    enum-told
-    add-t27
-    sub-t28
-    enum-known-n
-    enum-told-2
-    same-length
-    returns-3
-    same-length-2
-    returns-4
-    same-length-3
-    returns-5)
+    (λ c. search needs) (λ c. search needs) (λ c. search needs) (λ c. search needs) (λ c κs. search needs) returns (λ c κs. search needs)
+    returns-2 (λ c. search needs) sub-decode-string sub-decode-string-2 part-decode-string-start (λ c. search needs) (λ c κs. search needs)
+    (λ c. search needs) (λ c. search needs) sub-t28 (λ c. search needs) (λ c. search needs) (λ c. search needs) returns-3
+    (λ c. search needs) returns-4 (λ c. search needs) returns-5)

@@ -21,24 +21,6 @@ returns c =
     let a = c .before .before .args in
     record { alone = λ h. put-start (now (a .out)) (a .pen .used); several = λ h. let z : ⊥ = omega (arith, c .if1 .taken) in absurd z }
 
-slice-aggregate-bytes : tie.Need-slice-aggregate-bytes
-slice-aggregate-bytes c = search needs
-
-bytes-requires : tie.Need-bytes-requires
-bytes-requires c κs = search needs
-
-decimal-requires : tie.Need-decimal-requires
-decimal-requires c κs = search needs
-
-slice-aggregate-bytes-2 : tie.Need-slice-aggregate-bytes-2
-slice-aggregate-bytes-2 c = search needs
-
-bytes-requires-2 : tie.Need-bytes-requires-2
-bytes-requires-2 c κs = search needs
-
-same-length : tie.Need-same-length
-same-length c = search needs
-
 returns-2 : tie.Need-returns-2
 returns-2 c =
     let a = c .before .before .before .before .before .before .before .before .before .before .before .before .before .before .before .before .args in
@@ -69,11 +51,5 @@ pub superseded-spec : {M : Type 1} → statement M
 superseded-spec =
     tie.close
     (tie.spec
-    returns
-    slice-aggregate-bytes
-    bytes-requires
-    decimal-requires
-    slice-aggregate-bytes-2
-    bytes-requires-2
-    same-length
+    returns (λ c. search needs) (λ c κs. search needs) (λ c κs. search needs) (λ c. search needs) (λ c κs. search needs) (λ c. search needs)
     returns-2)

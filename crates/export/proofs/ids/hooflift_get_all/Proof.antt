@@ -8,23 +8,11 @@ use borrow.Author.Needs.{needs}
 use Rattle.export.proofs.ids.hooflift_get_all.Statement.{statement}
 use Rattle.export.proofs.ids.hooflift_get_all.Tie as tie
 
-ids-of-requires : tie.Need-ids-of-requires
-ids-of-requires c κs = search needs
-
-get-all-requires : tie.Need-get-all-requires
-get-all-requires c κs = search needs
-
-same-length : tie.Need-same-length
-same-length c = search needs
-
 returns : tie.Need-returns
 returns c = let a = c .before .before .before .before .before .before .before .before .before .before .before .args in
     let g = c .before .before .before .get-all in
     let q : leb (length (now (a .ids))) (length (now (a .found))) ≡ true = sym (g .ensures .0) ∙ c .if1 .taken in
     (rw q refl, told-by (now (a .rows)) (now (a .slots)) _ _ _ _ _ (c .before .before .before .before .before .ids-of .ensures) (g .ensures .1))
-
-same-length-2 : tie.Need-same-length-2
-same-length-2 c = search needs
 
 returns-2 : tie.Need-returns-2
 returns-2 c = let a = c .before .before .before .before .before .before .before .before .before .before .before .args in
@@ -35,4 +23,5 @@ returns-2 c = let a = c .before .before .before .before .before .before .before 
 pub hooflift-get-all-spec : {M : Type 1} → statement M
 hooflift-get-all-spec =
     tie.close
-    (tie.spec ids-of-requires get-all-requires same-length returns same-length-2 returns-2)
+    (tie.spec
+    (λ c κs. search needs) (λ c κs. search needs) (λ c. search needs) returns (λ c. search needs) returns-2)

@@ -10,21 +10,6 @@ use borrow.Author.Needs.{needs}
 use Rattle.export.proofs.ids.hooflift_index.Statement.{statement}
 use Rattle.export.proofs.ids.hooflift_index.Tie as tie
 
-enough-requires : tie.Need-enough-requires
-enough-requires c κs = search needs
-
-build-requires : tie.Need-build-requires
-build-requires c κs = search needs
-
-put-ids-requires : tie.Need-put-ids-requires
-put-ids-requires c κs = search needs
-
-same-length : tie.Need-same-length
-same-length c = search needs
-
-same-length-2 : tie.Need-same-length-2
-same-length-2 c = search needs
-
 returns : tie.Need-returns
 returns c = let a = c .before .before .before .before .before .before .before .before .before .before .before .before .before .args in
     let q : lentEnough (length (now (a .rows))) (a .count) (length (now (a .slots))) (length (now (a .ids))) ≡ true = sym (c .before .before .before .before .before .before .before .before .before .enough .ensures) ∙ c .before .before .before .before .before .before .before .before .if1 .taken in
@@ -40,10 +25,4 @@ pub hooflift-index-spec : {M : Type 1} → statement M
 hooflift-index-spec =
     tie.close
     (tie.spec
-    enough-requires
-    build-requires
-    put-ids-requires
-    same-length
-    same-length-2
-    returns
-    returns-2)
+    (λ c κs. search needs) (λ c κs. search needs) (λ c κs. search needs) (λ c. search needs) (λ c. search needs) returns returns-2)

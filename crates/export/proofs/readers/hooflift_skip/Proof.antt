@@ -6,21 +6,6 @@ use Rattle.plain.specs.AnswersLaws.{leaves-good, leaves-bad}
 use Rattle.export.proofs.readers.hooflift_skip.Statement.{statement}
 use Rattle.export.proofs.readers.hooflift_skip.Tie as tie
 
-skip-requires : tie.Need-skip-requires
-skip-requires c κs = search needs
-
-enum-known-to : tie.Need-enum-known-to
-enum-known-to c = search needs
-
-enum-known-f : tie.Need-enum-known-f
-enum-known-f c = search needs
-
-place-requires : tie.Need-place-requires
-place-requires c κs = search needs
-
-number-requires : tie.Need-number-requires
-number-requires c κs = search needs
-
 returns : tie.Need-returns
 returns c =
     let k = c .before .before .before in
@@ -39,10 +24,4 @@ pub hooflift-skip-spec : {M : Type 1} → statement M
 hooflift-skip-spec =
     tie.close
     (tie.spec
-    skip-requires
-    enum-known-to
-    enum-known-f
-    place-requires
-    number-requires
-    returns
-    returns-2)
+    (λ c κs. search needs) (λ c. search needs) (λ c. search needs) (λ c κs. search needs) (λ c κs. search needs) returns returns-2)

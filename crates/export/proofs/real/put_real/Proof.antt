@@ -8,21 +8,6 @@ use borrow.Author.Needs.{needs}
 use Rattle.export.proofs.real.put_real.Statement.{statement}
 use Rattle.export.proofs.real.put_real.Tie as tie
 
-read-real-requires : tie.Need-read-real-requires
-read-real-requires c κs = search needs
-
-enum-known-x : tie.Need-enum-known-x
-enum-known-x c = search needs
-
-bits-requires : tie.Need-bits-requires
-bits-requires c κs = search needs
-
-enum-told : tie.Need-enum-told
-enum-told c = search needs
-
-enum-told-2 : tie.Need-enum-told-2
-enum-told-2 c = search needs
-
 returns : tie.Need-returns
 returns c =
     let p = c .before .before .before .before in
@@ -48,11 +33,4 @@ pub put-real-spec : {M : Type 1} → statement M
 put-real-spec =
     tie.close
     (tie.spec
-    read-real-requires
-    enum-known-x
-    bits-requires
-    enum-told
-    enum-told-2
-    returns
-    returns-2
-    returns-3)
+    (λ c κs. search needs) (λ c. search needs) (λ c κs. search needs) (λ c. search needs) (λ c. search needs) returns returns-2 returns-3)

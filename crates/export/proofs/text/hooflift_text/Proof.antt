@@ -10,21 +10,6 @@ use Rattle.export.specs.Texts.{textCode, textPlace, textCount}
 use Rattle.export.proofs.text.hooflift_text.Statement.{statement}
 use Rattle.export.proofs.text.hooflift_text.Tie as tie
 
-decode-string-requires : tie.Need-decode-string-requires
-decode-string-requires c κs = search needs
-
-enum-told : tie.Need-enum-told
-enum-told c = search needs
-
-enum-known-n : tie.Need-enum-known-n
-enum-known-n c = search needs
-
-enum-told-2 : tie.Need-enum-told-2
-enum-told-2 c = search needs
-
-same-length : tie.Need-same-length
-same-length c = search needs
-
 returns : tie.Need-returns
 returns c =
     let p = c .before .before .before .before in
@@ -40,9 +25,6 @@ returns c =
       ),
     )
 
-same-length-2 : tie.Need-same-length-2
-same-length-2 c = search needs
-
 returns-2 : tie.Need-returns-2
 returns-2 c =
     let p = c .before .before .before .before .before in
@@ -57,9 +39,6 @@ returns-2 c =
         ),
       ),
     )
-
-same-length-3 : tie.Need-same-length-3
-same-length-3 c = search needs
 
 returns-3 : tie.Need-returns-3
 returns-3 c =
@@ -80,13 +59,5 @@ pub hooflift-text-spec : {M : Type 1} → statement M
 hooflift-text-spec =
     tie.close
     (tie.spec
-    decode-string-requires
-    enum-told
-    enum-known-n
-    enum-told-2
-    same-length
-    returns
-    same-length-2
-    returns-2
-    same-length-3
-    returns-3)
+    (λ c κs. search needs) (λ c. search needs) (λ c. search needs) (λ c. search needs) (λ c. search needs) returns (λ c. search needs)
+    returns-2 (λ c. search needs) returns-3)

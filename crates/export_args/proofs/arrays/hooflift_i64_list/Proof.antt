@@ -9,33 +9,12 @@ use Rattle.lists.specs.Answer.{toldNextList}
 use Rattle.export_args.proofs.arrays.hooflift_i64_list.Statement.{statement}
 use Rattle.export_args.proofs.arrays.hooflift_i64_list.Tie as tie
 
-next-i64-list-requires : tie.Need-next-i64-list-requires
-next-i64-list-requires c κs = search needs
-
-enum-known-n : tie.Need-enum-known-n
-enum-known-n c = search needs
-
-enum-known-f : tie.Need-enum-known-f
-enum-known-f c = search needs
-
-place-requires : tie.Need-place-requires
-place-requires c κs = search needs
-
-number-requires : tie.Need-number-requires
-number-requires c κs = search needs
-
-same-length : tie.Need-same-length
-same-length c = search needs
-
 returns : tie.Need-returns
 returns c =
     let k = c .before .before .before .before in
     let a = k .before .before .before .before .args in
     let e = ap toldNextList (sym (c .before .n .given .1)) ∙ k .next-i64-list .ensures .0 in
     (leaves-good e, (k .next-i64-list .ensures .1, ap (λ (r : Read ℕ). readValue (λ (n : ℕ). n) (r .answer) (now (a .count))) e))
-
-same-length-2 : tie.Need-same-length-2
-same-length-2 c = search needs
 
 returns-2 : tie.Need-returns-2
 returns-2 c =
@@ -48,12 +27,5 @@ pub hooflift-i64-list-spec : {M : Type 1} → statement M
 hooflift-i64-list-spec =
     tie.close
     (tie.spec
-    next-i64-list-requires
-    enum-known-n
-    enum-known-f
-    place-requires
-    number-requires
-    same-length
-    returns
-    same-length-2
-    returns-2)
+    (λ c κs. search needs) (λ c. search needs) (λ c. search needs) (λ c κs. search needs) (λ c κs. search needs) (λ c. search needs) returns
+    (λ c. search needs) returns-2)

@@ -8,39 +8,12 @@ use Rattle.grids.specs.Grid.{Size, toldNextGrid}
 use Rattle.export_args.proofs.arrays.put_real_grid.Statement.{statement}
 use Rattle.export_args.proofs.arrays.put_real_grid.Tie as tie
 
-next-real-grid-requires : tie.Need-next-real-grid-requires
-next-real-grid-requires c κs = search needs
-
-enum-known-r : tie.Need-enum-known-r
-enum-known-r c = search needs
-
-enum-known-f : tie.Need-enum-known-f
-enum-known-f c = search needs
-
-place-requires : tie.Need-place-requires
-place-requires c κs = search needs
-
-number-requires : tie.Need-number-requires
-number-requires c κs = search needs
-
-same-length : tie.Need-same-length
-same-length c = search needs
-
-same-length-2 : tie.Need-same-length-2
-same-length-2 c = search needs
-
 returns : tie.Need-returns
 returns c =
     let k = c .before .before .before .before .before .before .before in
     let a = k .before .before .before .before .before .before .before .args in
     let e = ap toldNextGrid (sym (c .before .r .given .1)) ∙ k .next-real-grid .ensures .0 in
     (leaves-good e, (k .next-real-grid .ensures .1 .0, (k .next-real-grid .ensures .1 .1, (ap (λ (r : Read Size). readValue (λ (s : Size). s .numbers) (r .answer) (now (a .count))) e, ap (λ (r : Read Size). readValue (λ (s : Size). s .rows) (r .answer) (now (a .rows))) e))))
-
-same-length-3 : tie.Need-same-length-3
-same-length-3 c = search needs
-
-same-length-4 : tie.Need-same-length-4
-same-length-4 c = search needs
 
 returns-2 : tie.Need-returns-2
 returns-2 c =
@@ -53,14 +26,5 @@ pub put-real-grid-spec : {M : Type 1} → statement M
 put-real-grid-spec =
     tie.close
     (tie.spec
-    next-real-grid-requires
-    enum-known-r
-    enum-known-f
-    place-requires
-    number-requires
-    same-length
-    same-length-2
-    returns
-    same-length-3
-    same-length-4
-    returns-2)
+    (λ c κs. search needs) (λ c. search needs) (λ c. search needs) (λ c κs. search needs) (λ c κs. search needs) (λ c. search needs)
+    (λ c. search needs) returns (λ c. search needs) (λ c. search needs) returns-2)

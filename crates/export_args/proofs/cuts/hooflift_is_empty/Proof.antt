@@ -8,24 +8,6 @@ use Rattle.plain.specs.AnswersLaws.{leaves-good, leaves-bad}
 use Rattle.export_args.proofs.cuts.hooflift_is_empty.Statement.{statement}
 use Rattle.export_args.proofs.cuts.hooflift_is_empty.Tie as tie
 
-is-empty-requires : tie.Need-is-empty-requires
-is-empty-requires c κs = search needs
-
-enum-known-b : tie.Need-enum-known-b
-enum-known-b c = search needs
-
-number-of-requires : tie.Need-number-of-requires
-number-of-requires c κs = search needs
-
-enum-known-f : tie.Need-enum-known-f
-enum-known-f c = search needs
-
-place-requires : tie.Need-place-requires
-place-requires c κs = search needs
-
-number-requires : tie.Need-number-requires
-number-requires c κs = search needs
-
 returns : tie.Need-returns
 returns c =
     let k = c .before .before .before .before in
@@ -44,11 +26,5 @@ pub hooflift-is-empty-spec : {M : Type 1} → statement M
 hooflift-is-empty-spec =
     tie.close
     (tie.spec
-    is-empty-requires
-    enum-known-b
-    number-of-requires
-    enum-known-f
-    place-requires
-    number-requires
-    returns
-    returns-2)
+    (λ c κs. search needs) (λ c. search needs) (λ c κs. search needs) (λ c. search needs) (λ c κs. search needs) (λ c κs. search needs)
+    returns returns-2)

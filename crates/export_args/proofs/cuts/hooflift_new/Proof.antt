@@ -7,18 +7,6 @@ use Rattle.plain.specs.Answers.{readCode}
 use Rattle.export_args.proofs.cuts.hooflift_new.Statement.{statement}
 use Rattle.export_args.proofs.cuts.hooflift_new.Tie as tie
 
-new-requires : tie.Need-new-requires
-new-requires c κs = search needs
-
-enum-told : tie.Need-enum-told
-enum-told c = search needs
-
-enum-known-f : tie.Need-enum-known-f
-enum-known-f c = search needs
-
-number-requires : tie.Need-number-requires
-number-requires c κs = search needs
-
 returns : tie.Need-returns
 returns c =
     let k = c .before .before in
@@ -35,4 +23,5 @@ returns-2 c =
 
 pub hooflift-new-spec : {M : Type 1} → statement M
 hooflift-new-spec =
-    tie.close (tie.spec new-requires enum-told enum-known-f number-requires returns returns-2)
+    tie.close (tie.spec
+    (λ c κs. search needs) (λ c. search needs) (λ c. search needs) (λ c κs. search needs) returns returns-2)

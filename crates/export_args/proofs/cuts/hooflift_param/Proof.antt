@@ -7,21 +7,6 @@ use Rattle.plain.specs.AnswersLaws.{leaves-good, leaves-bad}
 use Rattle.export_args.proofs.cuts.hooflift_param.Statement.{statement}
 use Rattle.export_args.proofs.cuts.hooflift_param.Tie as tie
 
-param-span-requires : tie.Need-param-span-requires
-param-span-requires c κs = search needs
-
-enum-known-a : tie.Need-enum-known-a
-enum-known-a c = search needs
-
-enum-known-f : tie.Need-enum-known-f
-enum-known-f c = search needs
-
-place-requires : tie.Need-place-requires
-place-requires c κs = search needs
-
-number-requires : tie.Need-number-requires
-number-requires c κs = search needs
-
 returns : tie.Need-returns
 returns c =
     let k = c .before .before .before in
@@ -40,10 +25,4 @@ pub hooflift-param-spec : {M : Type 1} → statement M
 hooflift-param-spec =
     tie.close
     (tie.spec
-    param-span-requires
-    enum-known-a
-    enum-known-f
-    place-requires
-    number-requires
-    returns
-    returns-2)
+    (λ c κs. search needs) (λ c. search needs) (λ c. search needs) (λ c κs. search needs) (λ c κs. search needs) returns returns-2)

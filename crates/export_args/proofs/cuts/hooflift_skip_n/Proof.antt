@@ -6,21 +6,6 @@ use Rattle.plain.specs.AnswersLaws.{leaves-good, leaves-bad}
 use Rattle.export_args.proofs.cuts.hooflift_skip_n.Statement.{statement}
 use Rattle.export_args.proofs.cuts.hooflift_skip_n.Tie as tie
 
-skip-n-requires : tie.Need-skip-n-requires
-skip-n-requires c κs = search needs
-
-enum-known-to : tie.Need-enum-known-to
-enum-known-to c = search needs
-
-enum-known-f : tie.Need-enum-known-f
-enum-known-f c = search needs
-
-place-requires : tie.Need-place-requires
-place-requires c κs = search needs
-
-number-requires : tie.Need-number-requires
-number-requires c κs = search needs
-
 returns : tie.Need-returns
 returns c =
     let k = c .before .before .before in
@@ -39,10 +24,4 @@ pub hooflift-skip-n-spec : {M : Type 1} → statement M
 hooflift-skip-n-spec =
     tie.close
     (tie.spec
-    skip-n-requires
-    enum-known-to
-    enum-known-f
-    place-requires
-    number-requires
-    returns
-    returns-2)
+    (λ c κs. search needs) (λ c. search needs) (λ c. search needs) (λ c κs. search needs) (λ c κs. search needs) returns returns-2)

@@ -8,21 +8,6 @@ use Rattle.plain.specs.AnswersLaws.{leaves-good, leaves-bad}
 use Rattle.export_args.proofs.texts.hooflift_enum.Statement.{statement}
 use Rattle.export_args.proofs.texts.hooflift_enum.Tie as tie
 
-next-enum-requires : tie.Need-next-enum-requires
-next-enum-requires c κs = search needs
-
-enum-known-a : tie.Need-enum-known-a
-enum-known-a c = search needs
-
-enum-known-f : tie.Need-enum-known-f
-enum-known-f c = search needs
-
-place-requires : tie.Need-place-requires
-place-requires c κs = search needs
-
-number-requires : tie.Need-number-requires
-number-requires c κs = search needs
-
 returns : tie.Need-returns
 returns c =
     let k = c .before .before .before in
@@ -41,10 +26,4 @@ pub hooflift-enum-spec : {M : Type 1} → statement M
 hooflift-enum-spec =
     tie.close
     (tie.spec
-    next-enum-requires
-    enum-known-a
-    enum-known-f
-    place-requires
-    number-requires
-    returns
-    returns-2)
+    (λ c κs. search needs) (λ c. search needs) (λ c. search needs) (λ c κs. search needs) (λ c κs. search needs) returns returns-2)

@@ -9,27 +9,6 @@ use Rattle.export_args.specs.Values.{logicalNumber}
 use Rattle.export_args.proofs.values.hooflift_bool.Statement.{statement}
 use Rattle.export_args.proofs.values.hooflift_bool.Tie as tie
 
-next-bool-requires : tie.Need-next-bool-requires
-next-bool-requires c κs = search needs
-
-enum-known-to : tie.Need-enum-known-to
-enum-known-to c = search needs
-
-enum-known-to-2 : tie.Need-enum-known-to-2
-enum-known-to-2 c = search needs
-
-enum-known-to-3 : tie.Need-enum-known-to-3
-enum-known-to-3 c = search needs
-
-enum-known-f : tie.Need-enum-known-f
-enum-known-f c = search needs
-
-place-requires : tie.Need-place-requires
-place-requires c κs = search needs
-
-number-requires : tie.Need-number-requires
-number-requires c κs = search needs
-
 returns : tie.Need-returns
 returns c =
     let k = c .before .before .before in
@@ -62,14 +41,5 @@ pub hooflift-bool-spec : {M : Type 1} → statement M
 hooflift-bool-spec =
     tie.close
     (tie.spec
-    next-bool-requires
-    enum-known-to
-    enum-known-to-2
-    enum-known-to-3
-    enum-known-f
-    place-requires
-    number-requires
-    returns
-    returns-2
-    returns-3
-    returns-4)
+    (λ c κs. search needs) (λ c. search needs) (λ c. search needs) (λ c. search needs) (λ c. search needs) (λ c κs. search needs)
+    (λ c κs. search needs) returns returns-2 returns-3 returns-4)

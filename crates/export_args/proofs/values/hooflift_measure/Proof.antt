@@ -3,12 +3,10 @@ use Rattle.scalars.specs.Scalars.{measureOf}
 use Rattle.export_args.proofs.values.hooflift_measure.Statement.{statement}
 use Rattle.export_args.proofs.values.hooflift_measure.Tie as tie
 
-put-measure-requires : tie.Need-put-measure-requires
-put-measure-requires c κs = search needs
-
 returns : tie.Need-returns
 unfolding measureOf
 returns c = c .put-measure .ensures
 
 pub hooflift-measure-spec : {M : Type 1} → statement M
-hooflift-measure-spec = tie.close (tie.spec put-measure-requires returns)
+hooflift-measure-spec = tie.close (tie.spec
+    (λ c κs. search needs) returns)

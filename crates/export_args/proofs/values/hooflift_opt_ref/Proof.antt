@@ -10,24 +10,6 @@ use Rattle.export_args.specs.Values.{givenValue, givenSet}
 use Rattle.export_args.proofs.values.hooflift_opt_ref.Statement.{statement}
 use Rattle.export_args.proofs.values.hooflift_opt_ref.Tie as tie
 
-next-opt-ref-requires : tie.Need-next-opt-ref-requires
-next-opt-ref-requires c κs = search needs
-
-enum-known-x : tie.Need-enum-known-x
-enum-known-x c = search needs
-
-enum-known-to : tie.Need-enum-known-to
-enum-known-to c = search needs
-
-enum-known-f : tie.Need-enum-known-f
-enum-known-f c = search needs
-
-place-requires : tie.Need-place-requires
-place-requires c κs = search needs
-
-number-requires : tie.Need-number-requires
-number-requires c κs = search needs
-
 returns : tie.Need-returns
 returns c =
     let k = c .before .before .before in
@@ -53,12 +35,5 @@ pub hooflift-opt-ref-spec : {M : Type 1} → statement M
 hooflift-opt-ref-spec =
     tie.close
     (tie.spec
-    next-opt-ref-requires
-    enum-known-x
-    enum-known-to
-    enum-known-f
-    place-requires
-    number-requires
-    returns
-    returns-2
-    returns-3)
+    (λ c κs. search needs) (λ c. search needs) (λ c. search needs) (λ c. search needs) (λ c κs. search needs) (λ c κs. search needs) returns
+    returns-2 returns-3)

@@ -9,21 +9,6 @@ use Rattle.plain.specs.AnswersLaws.{leaves-good, leaves-bad}
 use Rattle.export_args.proofs.values.hooflift_ref.Statement.{statement}
 use Rattle.export_args.proofs.values.hooflift_ref.Tie as tie
 
-next-ref-requires : tie.Need-next-ref-requires
-next-ref-requires c κs = search needs
-
-enum-known-x : tie.Need-enum-known-x
-enum-known-x c = search needs
-
-enum-known-f : tie.Need-enum-known-f
-enum-known-f c = search needs
-
-place-requires : tie.Need-place-requires
-place-requires c κs = search needs
-
-number-requires : tie.Need-number-requires
-number-requires c κs = search needs
-
 returns : tie.Need-returns
 returns c =
     let k = c .before .before .before in
@@ -42,10 +27,4 @@ pub hooflift-ref-spec : {M : Type 1} → statement M
 hooflift-ref-spec =
     tie.close
     (tie.spec
-    next-ref-requires
-    enum-known-x
-    enum-known-f
-    place-requires
-    number-requires
-    returns
-    returns-2)
+    (λ c κs. search needs) (λ c. search needs) (λ c. search needs) (λ c κs. search needs) (λ c κs. search needs) returns returns-2)

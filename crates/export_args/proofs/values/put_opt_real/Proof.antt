@@ -11,24 +11,6 @@ use Rattle.export_args.specs.Values.{givenValue, givenSet}
 use Rattle.export_args.proofs.values.put_opt_real.Statement.{statement}
 use Rattle.export_args.proofs.values.put_opt_real.Tie as tie
 
-next-opt-real-requires : tie.Need-next-opt-real-requires
-next-opt-real-requires c κs = search needs
-
-enum-known-x : tie.Need-enum-known-x
-enum-known-x c = search needs
-
-enum-known-to : tie.Need-enum-known-to
-enum-known-to c = search needs
-
-enum-known-f : tie.Need-enum-known-f
-enum-known-f c = search needs
-
-place-requires : tie.Need-place-requires
-place-requires c κs = search needs
-
-number-requires : tie.Need-number-requires
-number-requires c κs = search needs
-
 returns : tie.Need-returns
 returns c =
     let k = c .before .before .before in
@@ -54,12 +36,5 @@ pub put-opt-real-spec : {M : Type 1} → statement M
 put-opt-real-spec =
     tie.close
     (tie.spec
-    next-opt-real-requires
-    enum-known-x
-    enum-known-to
-    enum-known-f
-    place-requires
-    number-requires
-    returns
-    returns-2
-    returns-3)
+    (λ c κs. search needs) (λ c. search needs) (λ c. search needs) (λ c. search needs) (λ c κs. search needs) (λ c κs. search needs) returns
+    returns-2 returns-3)

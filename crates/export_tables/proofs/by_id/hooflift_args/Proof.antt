@@ -10,15 +10,6 @@ use borrow.Author.Needs.{needs}
 use Rattle.export_tables.proofs.by_id.hooflift_args.Statement.{statement}
 use Rattle.export_tables.proofs.by_id.hooflift_args.Tie as tie
 
-tables-of-requires : tie.Need-tables-of-requires
-tables-of-requires c κs = search needs
-
-args-requires : tie.Need-args-requires
-args-requires c κs = search needs
-
-put-span-requires : tie.Need-put-span-requires
-put-span-requires c κs = search needs
-
 returns : tie.Need-returns
 returns c =
     let t = c .before .before .before .before in
@@ -28,4 +19,5 @@ returns c =
 
 pub hooflift-args-spec : {M : Type 1} → statement M
 hooflift-args-spec =
-    tie.close (tie.spec tables-of-requires args-requires put-span-requires returns)
+    tie.close (tie.spec
+    (λ c κs. search needs) (λ c κs. search needs) (λ c κs. search needs) returns)

@@ -8,15 +8,6 @@ use borrow.Author.Needs.{needs}
 use Rattle.export_tables.proofs.by_id.hooflift_kind_of.Statement.{statement}
 use Rattle.export_tables.proofs.by_id.hooflift_kind_of.Tie as tie
 
-tables-of-requires : tie.Need-tables-of-requires
-tables-of-requires c κs = search needs
-
-kind-of-requires : tie.Need-kind-of-requires
-kind-of-requires c κs = search needs
-
-kind-number-requires : tie.Need-kind-number-requires
-kind-number-requires c κs = search needs
-
 returns : tie.Need-returns
 returns c =
     let t = c .before .before in
@@ -25,4 +16,5 @@ returns c =
 
 pub hooflift-kind-of-spec : {M : Type 1} → statement M
 hooflift-kind-of-spec =
-    tie.close (tie.spec tables-of-requires kind-of-requires kind-number-requires returns)
+    tie.close (tie.spec
+    (λ c κs. search needs) (λ c κs. search needs) (λ c κs. search needs) returns)

@@ -13,27 +13,6 @@ use borrow.Author.Needs.{needs}
 use Rattle.export_tables.proofs.by_id.hooflift_require.Statement.{statement}
 use Rattle.export_tables.proofs.by_id.hooflift_require.Tie as tie
 
-tables-of-requires : tie.Need-tables-of-requires
-tables-of-requires c κs = search needs
-
-require-requires : tie.Need-require-requires
-require-requires c κs = search needs
-
-enum-known-w : tie.Need-enum-known-w
-enum-known-w c = search needs
-
-put-row-requires : tie.Need-put-row-requires
-put-row-requires c κs = search needs
-
-enum-known-f : tie.Need-enum-known-f
-enum-known-f c = search needs
-
-number-requires : tie.Need-number-requires
-number-requires c κs = search needs
-
-same-length : tie.Need-same-length
-same-length c = search needs
-
 returns : tie.Need-returns
 returns c =
     let k = c .before .before .before .before .before .before .before in
@@ -53,12 +32,5 @@ pub hooflift-require-spec : {M : Type 1} → statement M
 hooflift-require-spec =
     tie.close
     (tie.spec
-    tables-of-requires
-    require-requires
-    enum-known-w
-    put-row-requires
-    enum-known-f
-    number-requires
-    same-length
-    returns
-    returns-2)
+    (λ c κs. search needs) (λ c κs. search needs) (λ c. search needs) (λ c κs. search needs) (λ c. search needs) (λ c κs. search needs)
+    (λ c. search needs) returns returns-2)

@@ -13,24 +13,6 @@ use borrow.Author.Needs.{needs}
 use Rattle.export_tables.proofs.by_row.hooflift_args_of.Statement.{statement}
 use Rattle.export_tables.proofs.by_row.hooflift_args_of.Tie as tie
 
-tables-of-requires : tie.Need-tables-of-requires
-tables-of-requires c κs = search needs
-
-entity-requires : tie.Need-entity-requires
-entity-requires c κs = search needs
-
-enum-known-w : tie.Need-enum-known-w
-enum-known-w c = search needs
-
-args-of-requires : tie.Need-args-of-requires
-args-of-requires c κs = search needs
-
-put-span-requires : tie.Need-put-span-requires
-put-span-requires c κs = search needs
-
-enum-told : tie.Need-enum-told
-enum-told c = search needs
-
 returns : tie.Need-returns
 returns c =
     let k = c .before .before .before .before .before .before .before in
@@ -59,11 +41,5 @@ pub hooflift-args-of-spec : {M : Type 1} → statement M
 hooflift-args-of-spec =
     tie.close
     (tie.spec
-    tables-of-requires
-    entity-requires
-    enum-known-w
-    args-of-requires
-    put-span-requires
-    enum-told
-    returns
-    returns-2)
+    (λ c κs. search needs) (λ c κs. search needs) (λ c. search needs) (λ c κs. search needs) (λ c κs. search needs) (λ c. search needs)
+    returns returns-2)

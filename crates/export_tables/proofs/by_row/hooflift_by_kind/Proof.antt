@@ -14,21 +14,6 @@ use borrow.Author.Needs.{needs}
 use Rattle.export_tables.proofs.by_row.hooflift_by_kind.Statement.{statement}
 use Rattle.export_tables.proofs.by_row.hooflift_by_kind.Tie as tie
 
-tables-of-requires : tie.Need-tables-of-requires
-tables-of-requires c κs = search needs
-
-kind-by-requires : tie.Need-kind-by-requires
-kind-by-requires c κs = search needs
-
-by-kind-requires : tie.Need-by-kind-requires
-by-kind-requires c κs = search needs
-
-enum-known-i : tie.Need-enum-known-i
-enum-known-i c = search needs
-
-enum-told : tie.Need-enum-told
-enum-told c = search needs
-
 returns : tie.Need-returns
 returns c =
     let k = c .before .before .before in
@@ -49,10 +34,4 @@ pub hooflift-by-kind-spec : {M : Type 1} → statement M
 hooflift-by-kind-spec =
     tie.close
     (tie.spec
-    tables-of-requires
-    kind-by-requires
-    by-kind-requires
-    enum-known-i
-    enum-told
-    returns
-    returns-2)
+    (λ c κs. search needs) (λ c κs. search needs) (λ c κs. search needs) (λ c. search needs) (λ c. search needs) returns returns-2)

@@ -12,24 +12,6 @@ use borrow.Author.Needs.{needs}
 use Rattle.export_tables.proofs.by_row.hooflift_entity.Statement.{statement}
 use Rattle.export_tables.proofs.by_row.hooflift_entity.Tie as tie
 
-tables-of-requires : tie.Need-tables-of-requires
-tables-of-requires c κs = search needs
-
-entity-requires : tie.Need-entity-requires
-entity-requires c κs = search needs
-
-enum-known-w : tie.Need-enum-known-w
-enum-known-w c = search needs
-
-put-row-requires : tie.Need-put-row-requires
-put-row-requires c κs = search needs
-
-enum-told : tie.Need-enum-told
-enum-told c = search needs
-
-same-length : tie.Need-same-length
-same-length c = search needs
-
 returns : tie.Need-returns
 returns c =
     let k = c .before .before .before .before .before .before .before in
@@ -49,11 +31,5 @@ pub hooflift-entity-spec : {M : Type 1} → statement M
 hooflift-entity-spec =
     tie.close
     (tie.spec
-    tables-of-requires
-    entity-requires
-    enum-known-w
-    put-row-requires
-    enum-told
-    same-length
-    returns
+    (λ c κs. search needs) (λ c κs. search needs) (λ c. search needs) (λ c κs. search needs) (λ c. search needs) (λ c. search needs) returns
     returns-2)

@@ -4,14 +4,9 @@ use borrow.Author.Needs.{needs}
 use Rattle.export_tables.proofs.by_row.hooflift_intern.Statement.{statement}
 use Rattle.export_tables.proofs.by_row.hooflift_intern.Tie as tie
 
-intern-requires : tie.Need-intern-requires
-intern-requires c κs = search needs
-
-kind-number-requires : tie.Need-kind-number-requires
-kind-number-requires c κs = search needs
-
 returns : tie.Need-returns
 returns c = c .kind-number .ensures ∙ ap rankOf (c .before .intern .ensures)
 
 pub hooflift-intern-spec : {M : Type 1} → statement M
-hooflift-intern-spec = tie.close (tie.spec intern-requires kind-number-requires returns)
+hooflift-intern-spec = tie.close (tie.spec
+    (λ c κs. search needs) (λ c κs. search needs) returns)

@@ -9,24 +9,6 @@ use borrow.Author.Needs.{needs}
 use Rattle.export_tables.proofs.by_row.hooflift_kind.Statement.{statement}
 use Rattle.export_tables.proofs.by_row.hooflift_kind.Tie as tie
 
-tables-of-requires : tie.Need-tables-of-requires
-tables-of-requires c κs = search needs
-
-entity-requires : tie.Need-entity-requires
-entity-requires c κs = search needs
-
-enum-known-w : tie.Need-enum-known-w
-enum-known-w c = search needs
-
-kind-in-requires : tie.Need-kind-in-requires
-kind-in-requires c κs = search needs
-
-kind-number-requires : tie.Need-kind-number-requires
-kind-number-requires c κs = search needs
-
-enum-told : tie.Need-enum-told
-enum-told c = search needs
-
 returns : tie.Need-returns
 returns c =
     let k = c .before .before .before .before .before in
@@ -45,11 +27,5 @@ pub hooflift-kind-spec : {M : Type 1} → statement M
 hooflift-kind-spec =
     tie.close
     (tie.spec
-    tables-of-requires
-    entity-requires
-    enum-known-w
-    kind-in-requires
-    kind-number-requires
-    enum-told
-    returns
-    returns-2)
+    (λ c κs. search needs) (λ c κs. search needs) (λ c. search needs) (λ c κs. search needs) (λ c κs. search needs) (λ c. search needs)
+    returns returns-2)

@@ -12,30 +12,6 @@ use Rattle.export_tables.proofs.needing.hooflift_needs.Tie as tie
 returns : tie.Need-returns
 returns c = Needing.short (c .if1 .taken) refl refl refl refl
 
-count-requires : tie.Need-count-requires
-count-requires c κs = search needs
-
-enum-known-n : tie.Need-enum-known-n
-enum-known-n c = search needs
-
-put-needs-requires : tie.Need-put-needs-requires
-put-needs-requires c κs = search needs
-
-enum-known-f : tie.Need-enum-known-f
-enum-known-f c = search needs
-
-reason-requires : tie.Need-reason-requires
-reason-requires c κs = search needs
-
-place-requires : tie.Need-place-requires
-place-requires c κs = search needs
-
-number-requires : tie.Need-number-requires
-number-requires c κs = search needs
-
-same-length : tie.Need-same-length
-same-length c = search needs
-
 returns-2 : tie.Need-returns-2
 returns-2 c =
     let a = c .before .before .before .before .before .before .before .before .before .before .before .args in
@@ -54,14 +30,5 @@ pub hooflift-needs-spec : {M : Type 1} → statement M
 hooflift-needs-spec =
     tie.close
     (tie.spec
-    returns
-    count-requires
-    enum-known-n
-    put-needs-requires
-    enum-known-f
-    reason-requires
-    place-requires
-    number-requires
-    same-length
-    returns-2
-    returns-3)
+    returns (λ c κs. search needs) (λ c. search needs) (λ c κs. search needs) (λ c. search needs) (λ c κs. search needs)
+    (λ c κs. search needs) (λ c κs. search needs) (λ c. search needs) returns-2 returns-3)

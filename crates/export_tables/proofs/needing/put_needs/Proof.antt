@@ -4,14 +4,8 @@ use borrow.Author.Needs.{needs}
 use Rattle.export_tables.proofs.needing.put_needs.Statement.{statement}
 use Rattle.export_tables.proofs.needing.put_needs.Tie as tie
 
-slice-write-out : tie.Need-slice-write-out
-slice-write-out c = search needs
-
 slice-write-out-2 : tie.Need-slice-write-out-2
 slice-write-out-2 c = simp length-set (omega arith)
-
-cast-out : tie.Need-cast-out
-cast-out c = search needs
 
 slice-write-out-3 : tie.Need-slice-write-out-3
 slice-write-out-3 c = simp length-set (omega arith)
@@ -25,22 +19,9 @@ slice-write-out-5 c = simp length-set (omega arith)
 slice-write-out-6 : tie.Need-slice-write-out-6
 slice-write-out-6 c = simp length-set (omega arith)
 
-same-length : tie.Need-same-length
-same-length c = search needs
-
-returns : tie.Need-returns
-returns c = search needs
-
 pub put-needs-spec : {M : Type 1} → statement M
 put-needs-spec =
     tie.close
     (tie.spec
-    slice-write-out
-    slice-write-out-2
-    cast-out
-    slice-write-out-3
-    slice-write-out-4
-    slice-write-out-5
-    slice-write-out-6
-    same-length
-    returns)
+    (λ c. search needs) slice-write-out-2 (λ c. search needs) slice-write-out-3 slice-write-out-4 slice-write-out-5 slice-write-out-6
+    (λ c. search needs) (λ c. search needs))

@@ -13,18 +13,6 @@ use borrow.Author.Needs.{needs}
 use Rattle.export_units.proofs.header.hooflift_file_name.Statement.{statement}
 use Rattle.export_units.proofs.header.hooflift_file_name.Tie as tie
 
-tables-of-requires : tie.Need-tables-of-requires
-tables-of-requires c κs = search needs
-
-file-name-requires : tie.Need-file-name-requires
-file-name-requires c κs = search needs
-
-put-title-requires : tie.Need-put-title-requires
-put-title-requires c κs = search needs
-
-same-length : tie.Need-same-length
-same-length c = search needs
-
 returns : tie.Need-returns
 returns c =
     let k = c .before .before .before .before .before .before .before in
@@ -36,4 +24,5 @@ returns c =
 pub hooflift-file-name-spec : {M : Type 1} → statement M
 hooflift-file-name-spec =
     tie.close
-    (tie.spec tables-of-requires file-name-requires put-title-requires same-length returns)
+    (tie.spec
+    (λ c κs. search needs) (λ c κs. search needs) (λ c κs. search needs) (λ c. search needs) returns)

@@ -12,24 +12,6 @@ use borrow.Author.Needs.{needs}
 use Rattle.export_units.proofs.header.hooflift_header_args.Statement.{statement}
 use Rattle.export_units.proofs.header.hooflift_header_args.Tie as tie
 
-tables-of-requires : tie.Need-tables-of-requires
-tables-of-requires c κs = search needs
-
-header-args-requires : tie.Need-header-args-requires
-header-args-requires c κs = search needs
-
-enum-known-r : tie.Need-enum-known-r
-enum-known-r c = search needs
-
-enum-told : tie.Need-enum-told
-enum-told c = search needs
-
-enum-known-f : tie.Need-enum-known-f
-enum-known-f c = search needs
-
-number-requires : tie.Need-number-requires
-number-requires c κs = search needs
-
 returns : tie.Need-returns
 returns c =
     let k = c .before .before .before in
@@ -55,12 +37,5 @@ pub hooflift-header-args-spec : {M : Type 1} → statement M
 hooflift-header-args-spec =
     tie.close
     (tie.spec
-    tables-of-requires
-    header-args-requires
-    enum-known-r
-    enum-told
-    enum-known-f
-    number-requires
-    returns
-    returns-2
-    returns-3)
+    (λ c κs. search needs) (λ c κs. search needs) (λ c. search needs) (λ c. search needs) (λ c. search needs) (λ c κs. search needs) returns
+    returns-2 returns-3)

@@ -11,18 +11,6 @@ use borrow.Author.Needs.{needs}
 use Rattle.export_units.proofs.header.hooflift_header_row.Statement.{statement}
 use Rattle.export_units.proofs.header.hooflift_header_row.Tie as tie
 
-tables-of-requires : tie.Need-tables-of-requires
-tables-of-requires c κs = search needs
-
-header-row-requires : tie.Need-header-row-requires
-header-row-requires c κs = search needs
-
-enum-known-i : tie.Need-enum-known-i
-enum-known-i c = search needs
-
-enum-told : tie.Need-enum-told
-enum-told c = search needs
-
 returns : tie.Need-returns
 returns c =
     let k = c .before .before .before in
@@ -40,4 +28,5 @@ returns-2 c =
 pub hooflift-header-row-spec : {M : Type 1} → statement M
 hooflift-header-row-spec =
     tie.close
-    (tie.spec tables-of-requires header-row-requires enum-known-i enum-told returns returns-2)
+    (tie.spec
+    (λ c κs. search needs) (λ c κs. search needs) (λ c. search needs) (λ c. search needs) returns returns-2)

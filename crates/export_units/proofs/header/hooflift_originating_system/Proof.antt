@@ -13,18 +13,6 @@ use borrow.Author.Needs.{needs}
 use Rattle.export_units.proofs.header.hooflift_originating_system.Statement.{statement}
 use Rattle.export_units.proofs.header.hooflift_originating_system.Tie as tie
 
-tables-of-requires : tie.Need-tables-of-requires
-tables-of-requires c κs = search needs
-
-originating-system-requires : tie.Need-originating-system-requires
-originating-system-requires c κs = search needs
-
-put-title-requires : tie.Need-put-title-requires
-put-title-requires c κs = search needs
-
-same-length : tie.Need-same-length
-same-length c = search needs
-
 returns : tie.Need-returns
 returns c =
     let k = c .before .before .before .before .before .before .before in
@@ -37,8 +25,4 @@ pub hooflift-originating-system-spec : {M : Type 1} → statement M
 hooflift-originating-system-spec =
     tie.close
     (tie.spec
-    tables-of-requires
-    originating-system-requires
-    put-title-requires
-    same-length
-    returns)
+    (λ c κs. search needs) (λ c κs. search needs) (λ c κs. search needs) (λ c. search needs) returns)

@@ -10,21 +10,6 @@ use borrow.Author.Needs.{needs}
 use Rattle.export_units.proofs.header.put_title.Statement.{statement}
 use Rattle.export_units.proofs.header.put_title.Tie as tie
 
-enum-known-t : tie.Need-enum-known-t
-enum-known-t c = search needs
-
-enum-known-t-2 : tie.Need-enum-known-t-2
-enum-known-t-2 c = search needs
-
-enum-known-t-3 : tie.Need-enum-known-t-3
-enum-known-t-3 c = search needs
-
-place-requires : tie.Need-place-requires
-place-requires c κs = search needs
-
-number-requires : tie.Need-number-requires
-number-requires c κs = search needs
-
 returns : tie.Need-returns
 returns c =
     let a = c .before .before .before .args in
@@ -47,11 +32,4 @@ pub put-title-spec : {M : Type 1} → statement M
 put-title-spec =
     tie.close
     (tie.spec
-    enum-known-t
-    enum-known-t-2
-    enum-known-t-3
-    place-requires
-    number-requires
-    returns
-    returns-2
-    returns-3)
+    (λ c. search needs) (λ c. search needs) (λ c. search needs) (λ c κs. search needs) (λ c κs. search needs) returns returns-2 returns-3)

@@ -8,30 +8,12 @@ use borrow.Author.Needs.{needs}
 use Rattle.export_units.proofs.keeping.hooflift_read_rows.Statement.{statement}
 use Rattle.export_units.proofs.keeping.hooflift_read_rows.Tie as tie
 
-read-rows-requires : tie.Need-read-rows-requires
-read-rows-requires c κs = search needs
-
-enum-known-n : tie.Need-enum-known-n
-enum-known-n c = search needs
-
-enum-known-f : tie.Need-enum-known-f
-enum-known-f c = search needs
-
-number-requires : tie.Need-number-requires
-number-requires c κs = search needs
-
-same-length : tie.Need-same-length
-same-length c = search needs
-
 returns : tie.Need-returns
 returns c =
     let k = c .before .before .before .before .before in
     let a = c .before .before .before .before .before .before .before .before .before .args in
     let e = ap toldKept (sym (c .before .n .given .1)) ∙ k .read-rows .ensures .0 in
     (ap (λ (r : Told ℕ). readCode r) e, (k .read-rows .ensures .1, ap (λ (r : Told ℕ). readValue (λ (x : ℕ). x) r (now (a .count))) e))
-
-same-length-2 : tie.Need-same-length-2
-same-length-2 c = search needs
 
 returns-2 : tie.Need-returns-2
 returns-2 c =
@@ -44,11 +26,5 @@ pub hooflift-read-rows-spec : {M : Type 1} → statement M
 hooflift-read-rows-spec =
     tie.close
     (tie.spec
-    read-rows-requires
-    enum-known-n
-    enum-known-f
-    number-requires
-    same-length
-    returns
-    same-length-2
+    (λ c κs. search needs) (λ c. search needs) (λ c. search needs) (λ c κs. search needs) (λ c. search needs) returns (λ c. search needs)
     returns-2)

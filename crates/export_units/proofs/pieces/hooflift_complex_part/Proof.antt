@@ -13,18 +13,6 @@ use borrow.Author.Needs.{needs}
 use Rattle.export_units.proofs.pieces.hooflift_complex_part.Statement.{statement}
 use Rattle.export_units.proofs.pieces.hooflift_complex_part.Tie as tie
 
-kind-by-requires : tie.Need-kind-by-requires
-kind-by-requires c κs = search needs
-
-complex-part-requires : tie.Need-complex-part-requires
-complex-part-requires c κs = search needs
-
-put-next-requires : tie.Need-put-next-requires
-put-next-requires c κs = search needs
-
-same-length : tie.Need-same-length
-same-length c = search needs
-
 returns : tie.Need-returns
 returns c =
     let a = c .before .before .before .before .before .before .before .before .before .args in
@@ -34,4 +22,5 @@ returns c =
 pub hooflift-complex-part-spec : {M : Type 1} → statement M
 hooflift-complex-part-spec =
     tie.close
-    (tie.spec kind-by-requires complex-part-requires put-next-requires same-length returns)
+    (tie.spec
+    (λ c κs. search needs) (λ c κs. search needs) (λ c κs. search needs) (λ c. search needs) returns)

@@ -11,15 +11,6 @@ use borrow.Author.Needs.{needs}
 use Rattle.export_units.proofs.pieces.hooflift_next_part.Statement.{statement}
 use Rattle.export_units.proofs.pieces.hooflift_next_part.Tie as tie
 
-next-part-requires : tie.Need-next-part-requires
-next-part-requires c κs = search needs
-
-put-next-requires : tie.Need-put-next-requires
-put-next-requires c κs = search needs
-
-same-length : tie.Need-same-length
-same-length c = search needs
-
 returns : tie.Need-returns
 returns c =
     let a = c .before .before .before .before .before .before .before .before .args in
@@ -28,4 +19,5 @@ returns c =
 
 pub hooflift-next-part-spec : {M : Type 1} → statement M
 hooflift-next-part-spec =
-    tie.close (tie.spec next-part-requires put-next-requires same-length returns)
+    tie.close (tie.spec
+    (λ c κs. search needs) (λ c κs. search needs) (λ c. search needs) returns)

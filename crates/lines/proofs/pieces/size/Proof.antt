@@ -52,14 +52,9 @@ cast-result c = below (c .before .args .n) (c .if1 .taken) (record { sfits = c .
 add-result : tie.Need-add-result
 add-result c = below (c .before .args .n) (c .if1 .taken) (record { sfits = c .before .good .0 }) .1 .1
 
-returns : tie.Need-returns
-returns c = search needs
-
 cast-result-2 : tie.Need-cast-result-2
 cast-result-2 c = above (c .before .args .n) (c .if1 .left) (record { sfits = c .before .good .0 })
 
-returns-2 : tie.Need-returns-2
-returns-2 c = search needs
-
 pub size-spec : {M : Type 1} → statement M
-size-spec = tie.close (tie.spec sub-result cast-result add-result returns cast-result-2 returns-2)
+size-spec = tie.close (tie.spec
+    sub-result cast-result add-result (λ c. search needs) cast-result-2 (λ c. search needs))

@@ -13,32 +13,11 @@ abbrev μ-loop : tie.MeasureT-loop
 μ-loop s heads₀ rows₀ slots₀ chars₀ refs₀ ints₀ reals₀ ends₀ out₀ t table last₀ c₀ left₀ heads rows slots chars refs ints reals ends out last c left =
     left
 
-table-requires : tie.Need-table-requires Inv-loop μ-loop
-table-requires c κs = tt
-
-loop-holds : tie.Need-loop-holds Inv-loop μ-loop
-loop-holds c = search needs
-
 sub-left : tie.Need-sub-left Inv-loop μ-loop
 sub-left c = let h = c .before .before .loop-test in omega arith
 
-next-line-requires : tie.Need-next-line-requires Inv-loop μ-loop
-next-line-requires c κs = tt
-
-in-room-requires : tie.Need-in-room-requires Inv-loop μ-loop
-in-room-requires c κs = tt
-
-source-requires : tie.Need-source-requires Inv-loop μ-loop
-source-requires c κs = tt
-
 slice-aggregate-put-line : tie.Need-slice-aggregate-put-line Inv-loop μ-loop
 slice-aggregate-put-line c = c .before .before .before .before .before .before .before .before .before .before .before .before .before .before .before .before .before .before .before .before .before .before .before .before .before .before .before .before .before .before .before .loop .inv .9
-
-put-line-requires : tie.Need-put-line-requires Inv-loop μ-loop
-put-line-requires c κs = tt
-
-onward-requires : tie.Need-onward-requires Inv-loop μ-loop
-onward-requires c κs = tt
 
 loop-less : tie.Need-loop-less Inv-loop μ-loop
 loop-less c = let h = c .before .before .before .before .before .before .before .before .before .before .before .before .before .before .before .before .before .before .before .before .before .before .before .before .before .before .before .before .before .before .before .before .before .before .before .before .before .before .before .loop-test in omega arith
@@ -77,9 +56,6 @@ same-length-8 c = c .before .before .before .loop .inv .7
 same-length-9 : tie.Need-same-length-9 Inv-loop μ-loop
 same-length-9 c = c .before .before .before .loop .inv .8
 
-returns : tie.Need-returns Inv-loop μ-loop
-returns c = search needs
-
 same-length-10 : tie.Need-same-length-10 Inv-loop μ-loop
 same-length-10 c = c .before .loop .inv .0
 
@@ -107,43 +83,11 @@ same-length-17 c = c .before .loop .inv .7
 same-length-18 : tie.Need-same-length-18 Inv-loop μ-loop
 same-length-18 c = c .before .loop .inv .8
 
-returns-2 : tie.Need-returns-2 Inv-loop μ-loop
-returns-2 c = search needs
-
 pub tell-spec : {M : Type 1} → statement M
 tell-spec =
     tie.close
     (tie.spec
-    Inv-loop
-    μ-loop
-    table-requires
-    loop-holds
-    sub-left
-    next-line-requires
-    in-room-requires
-    source-requires
-    slice-aggregate-put-line
-    put-line-requires
-    onward-requires
-    loop-less
-    loop-again
-    same-length
-    same-length-2
-    same-length-3
-    same-length-4
-    same-length-5
-    same-length-6
-    same-length-7
-    same-length-8
-    same-length-9
-    returns
-    same-length-10
-    same-length-11
-    same-length-12
-    same-length-13
-    same-length-14
-    same-length-15
-    same-length-16
-    same-length-17
-    same-length-18
-    returns-2)
+    Inv-loop μ-loop (λ c κs. tt) (λ c. search needs) sub-left (λ c κs. tt) (λ c κs. tt) (λ c κs. tt) slice-aggregate-put-line (λ c κs. tt)
+    (λ c κs. tt) loop-less loop-again same-length same-length-2 same-length-3 same-length-4 same-length-5 same-length-6 same-length-7
+    same-length-8 same-length-9 (λ c. search needs) same-length-10 same-length-11 same-length-12 same-length-13 same-length-14
+    same-length-15 same-length-16 same-length-17 same-length-18 (λ c. search needs))

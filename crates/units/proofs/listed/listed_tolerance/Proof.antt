@@ -14,21 +14,6 @@ use Rattle.units.specs.Laws.{refs-refused, refs-nothing, refs-inside, th
 use Rattle.units.proofs.listed.listed_tolerance.Statement.{statement}
 use Rattle.units.proofs.listed.listed_tolerance.Tie as tie
 
-self-or-requires : tie.Need-self-or-requires
-self-or-requires c κs = search needs
-
-refs-in-requires : tie.Need-refs-in-requires
-refs-in-requires c κs = search needs
-
-enum-known-f : tie.Need-enum-known-f
-enum-known-f c = search needs
-
-enum-told : tie.Need-enum-told
-enum-told c = search needs
-
-enum-known-a : tie.Need-enum-known-a
-enum-known-a c = search needs
-
 sub-tolerance-from : tie.Need-sub-tolerance-from
 sub-tolerance-from c = let a = c .before .before .before .before .before .before .before .before .args in let s = now (a .file) in let find = findOf s (rowFor (now (a .rows)) (now (a .slots)) (a .t .ids)) in let t = thingOf s (rowOf (a .row)) in let h = refs-inside s (onward (refsIn s) (toldRun (c .before .before .before .before .self-or .result))) (c .before .before .before .refs-in .result) (c .before .a .given .0 .0) (c .before .a .given .0 .1 .0) (c .before .before .before .refs-in .ensures) (c .before .a .given .1) in h .0
 
@@ -57,15 +42,5 @@ pub listed-tolerance-spec : {M : Type 1} → statement M
 listed-tolerance-spec =
     tie.close
     (tie.spec
-    self-or-requires
-    refs-in-requires
-    enum-known-f
-    enum-told
-    enum-known-a
-    sub-tolerance-from
-    part-tolerance-from-start
-    part-tolerance-from-end
-    tolerance-from-requires
-    returns
-    returns-2
-    returns-3)
+    (λ c κs. search needs) (λ c κs. search needs) (λ c. search needs) (λ c. search needs) (λ c. search needs) sub-tolerance-from
+    part-tolerance-from-start part-tolerance-from-end tolerance-from-requires returns returns-2 returns-3)

@@ -14,24 +14,6 @@ use Rattle.units.specs.Laws.{refs-refused, refs-nothing, refs-inside, un
 use Rattle.units.proofs.listed.listed_units.Statement.{statement}
 use Rattle.units.proofs.listed.listed_units.Tie as tie
 
-self-or-requires : tie.Need-self-or-requires
-self-or-requires c κs = search needs
-
-refs-in-requires : tie.Need-refs-in-requires
-refs-in-requires c κs = search needs
-
-enum-known-f : tie.Need-enum-known-f
-enum-known-f c = search needs
-
-enum-told : tie.Need-enum-told
-enum-told c = search needs
-
-assumed-requires : tie.Need-assumed-requires
-assumed-requires c κs = search needs
-
-enum-known-a : tie.Need-enum-known-a
-enum-known-a c = search needs
-
 sub-units-from : tie.Need-sub-units-from
 sub-units-from c = let a = c .before .before .before .before .before .before .before .before .args in let s = now (a .file) in let find = findOf s (rowFor (now (a .rows)) (now (a .slots)) (a .t .ids)) in let t = thingOf s (rowOf (a .row)) in let h = refs-inside s (onward (refsIn s) (toldRun (c .before .before .before .before .self-or .result))) (c .before .before .before .refs-in .result) (c .before .a .given .0 .0) (c .before .a .given .0 .1 .0) (c .before .before .before .refs-in .ensures) (c .before .a .given .1) in h .0
 
@@ -60,16 +42,5 @@ pub listed-units-spec : {M : Type 1} → statement M
 listed-units-spec =
     tie.close
     (tie.spec
-    self-or-requires
-    refs-in-requires
-    enum-known-f
-    enum-told
-    assumed-requires
-    enum-known-a
-    sub-units-from
-    part-units-from-start
-    part-units-from-end
-    units-from-requires
-    returns
-    returns-2
-    returns-3)
+    (λ c κs. search needs) (λ c κs. search needs) (λ c. search needs) (λ c. search needs) (λ c κs. search needs) (λ c. search needs)
+    sub-units-from part-units-from-start part-units-from-end units-from-requires returns returns-2 returns-3)

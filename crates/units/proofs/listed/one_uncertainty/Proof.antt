@@ -15,50 +15,20 @@ use Rattle.units.specs.Laws.{uncertain-missing, uncertain-row, uncertain
 use Rattle.units.proofs.listed.one_uncertainty.Statement.{statement}
 use Rattle.units.proofs.listed.one_uncertainty.Tie as tie
 
-get-requires : tie.Need-get-requires
-get-requires c κs = search needs
-
-enum-known-w : tie.Need-enum-known-w
-enum-known-w c = search needs
-
-enum-told : tie.Need-enum-told
-enum-told c = search needs
-
 returns : tie.Need-returns
 returns c = let a = c .before .before .before .before .before .before .args in let s = now (a .file) in let find = findOf s (rowFor (now (a .rows)) (now (a .slots)) (a .t .ids)) in
     uncertain-missing s find (a .id) (find-none s (now (a .rows)) (now (a .slots)) (a .t .ids) (a .id) (ap toldEntry (sym (c .enum-told .given .1)) ∙ c .before .before .get .ensures))
-
-args-of-requires : tie.Need-args-of-requires
-args-of-requires c κs = search needs
-
-enum-known-a : tie.Need-enum-known-a
-enum-known-a c = search needs
-
-enum-told-2 : tie.Need-enum-told-2
-enum-told-2 c = search needs
 
 returns-2 : tie.Need-returns-2
 returns-2 c = let a = c .before .before .before .before .before .before .before .before .before .before .args in let s = now (a .file) in let find = findOf s (rowFor (now (a .rows)) (now (a .slots)) (a .t .ids)) in let w = rowOf (c .before .before .before .before .w .given .0 .0) in
     uncertain-row s find (a .id) (thingOf s w) (find-row s (now (a .rows)) (now (a .slots)) (a .t .ids) (a .id) (ap toldEntry (sym (c .before .before .before .before .w .given .1)) ∙ c .before .before .before .before .before .before .get .ensures))
     (thing-out (uncertaintyOf s) s w (ap toldSpan (sym (c .enum-told2 .given .1)) ∙ c .before .before .args-of .ensures))
 
-kind-in-requires : tie.Need-kind-in-requires
-kind-in-requires c κs = search needs
-
-same-kind-requires : tie.Need-same-kind-requires
-same-kind-requires c κs = search needs
-
 returns-3 : tie.Need-returns-3
 returns-3 c = let a = c .before .before .before .before .before .before .before .before .before .before .before .before .before .before .args in let s = now (a .file) in let find = findOf s (rowFor (now (a .rows)) (now (a .slots)) (a .t .ids)) in let w = rowOf (c .before .before .before .before .before .before .before .before .w .given .0 .0) in
     let k = ap (λ (x : Kind). eqb (rankOf x) (rankOf UncertaintyMeasureWithUnit)) (sym (c .before .before .kind-in .ensures)) ∙ sym (c .before .same-kind .ensures) ∙ not-true _ (c .if1 .taken) in
     uncertain-row s find (a .id) (thingOf s w) (find-row s (now (a .rows)) (now (a .slots)) (a .t .ids) (a .id) (ap toldEntry (sym (c .before .before .before .before .before .before .before .before .w .given .1)) ∙ c .before .before .before .before .before .before .before .before .before .before .get .ensures))
     (uncertain-other s find w (ap toldSpan (sym (c .before .before .before .before .a .given .1)) ∙ c .before .before .before .before .before .before .args-of .ensures) k)
-
-next-measure-f64-requires : tie.Need-next-measure-f64-requires
-next-measure-f64-requires c κs = search needs
-
-uncertain-by-requires : tie.Need-uncertain-by-requires
-uncertain-by-requires c κs = search needs
 
 returns-4 : tie.Need-returns-4
 returns-4 c = let a = c .before .before .before .before .before .before .before .before .before .before .before .before .before .before .before .before .args in let s = now (a .file) in let find = findOf s (rowFor (now (a .rows)) (now (a .slots)) (a .t .ids)) in let w = rowOf (c .before .before .before .before .before .before .before .before .before .before .w .given .0 .0) in
@@ -70,17 +40,5 @@ pub one-uncertainty-spec : {M : Type 1} → statement M
 one-uncertainty-spec =
     tie.close
     (tie.spec
-    get-requires
-    enum-known-w
-    enum-told
-    returns
-    args-of-requires
-    enum-known-a
-    enum-told-2
-    returns-2
-    kind-in-requires
-    same-kind-requires
-    returns-3
-    next-measure-f64-requires
-    uncertain-by-requires
-    returns-4)
+    (λ c κs. search needs) (λ c. search needs) (λ c. search needs) returns (λ c κs. search needs) (λ c. search needs) (λ c. search needs)
+    returns-2 (λ c κs. search needs) (λ c κs. search needs) returns-3 (λ c κs. search needs) (λ c κs. search needs) returns-4)

@@ -10,48 +10,9 @@ use Rattle.units.specs.Laws.{unit-missing, unit-row, role-refused, role-
 use Rattle.units.proofs.listed.one_unit.Statement.{statement}
 use Rattle.units.proofs.listed.one_unit.Tie as tie
 
-get-requires : tie.Need-get-requires
-get-requires c κs = search needs
-
-enum-known-w : tie.Need-enum-known-w
-enum-known-w c = search needs
-
-enum-told : tie.Need-enum-told
-enum-told c = search needs
-
 returns : tie.Need-returns
 returns c = let a = c .before .before .before .before .before .before .args in let s = now (a .file) in let find = findOf s (rowFor (now (a .rows)) (now (a .slots)) (a .t .ids)) in
     unit-missing s find (valuesIn (a .u)) (a .id) (find-none s (now (a .rows)) (now (a .slots)) (a .t .ids) (a .id) (ap toldEntry (sym (c .enum-told .given .1)) ∙ c .before .before .get .ensures))
-
-role-of-requires : tie.Need-role-of-requires
-role-of-requires c κs = search needs
-
-enum-known-f : tie.Need-enum-known-f
-enum-known-f c = search needs
-
-enum-told-2 : tie.Need-enum-told-2
-enum-told-2 c = search needs
-
-enum-told-3 : tie.Need-enum-told-3
-enum-told-3 c = search needs
-
-enum-told-4 : tie.Need-enum-told-4
-enum-told-4 c = search needs
-
-length-factor-requires : tie.Need-length-factor-requires
-length-factor-requires c κs = search needs
-
-with-length-requires : tie.Need-with-length-requires
-with-length-requires c κs = search needs
-
-enum-told-5 : tie.Need-enum-told-5
-enum-told-5 c = search needs
-
-angle-factor-requires : tie.Need-angle-factor-requires
-angle-factor-requires c κs = search needs
-
-with-angle-requires : tie.Need-with-angle-requires
-with-angle-requires c κs = search needs
 
 returns-2 : tie.Need-returns-2
 returns-2 c = let a = c .before .before .before .before .before .before .before .before .before .before .before .args in let s = now (a .file) in let find = findOf s (rowFor (now (a .rows)) (now (a .slots)) (a .t .ids)) in let t = thingOf s (rowOf (c .before .before .before .before .before .w .given .0 .0)) in
@@ -82,22 +43,6 @@ pub one-unit-spec : {M : Type 1} → statement M
 one-unit-spec =
     tie.close
     (tie.spec
-    get-requires
-    enum-known-w
-    enum-told
-    returns
-    role-of-requires
-    enum-known-f
-    enum-told-2
-    enum-told-3
-    enum-told-4
-    length-factor-requires
-    with-length-requires
-    enum-told-5
-    angle-factor-requires
-    with-angle-requires
-    returns-2
-    returns-3
-    returns-4
-    returns-5
-    returns-6)
+    (λ c κs. search needs) (λ c. search needs) (λ c. search needs) returns (λ c κs. search needs) (λ c. search needs) (λ c. search needs)
+    (λ c. search needs) (λ c. search needs) (λ c κs. search needs) (λ c κs. search needs) (λ c. search needs) (λ c κs. search needs)
+    (λ c κs. search needs) returns-2 returns-3 returns-4 returns-5 returns-6)

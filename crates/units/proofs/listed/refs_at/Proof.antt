@@ -12,15 +12,6 @@ use Rattle.units.specs.Laws.{cut-length, refs-uncut, refs-bad, refs-empt
 use Rattle.units.proofs.listed.refs_at.Statement.{statement}
 use Rattle.units.proofs.listed.refs_at.Tie as tie
 
-param-span-requires : tie.Need-param-span-requires
-param-span-requires c κs = search needs
-
-enum-known-f : tie.Need-enum-known-f
-enum-known-f c = search needs
-
-enum-known-start : tie.Need-enum-known-start
-enum-known-start c = search needs
-
 sub-count-list : tie.Need-sub-count-list
 sub-count-list c = let (u, v) = cut-places _ _ _ _ _ (c .before .before .before .param-span .ensures .1) (c .before .start .given .1) in u
 
@@ -30,27 +21,15 @@ part-count-list-start c = let (u, v) = cut-places _ _ _ _ _ (c .before .before .
 part-count-list-end : tie.Need-part-count-list-end
 part-count-list-end c = let (u, v) = cut-places _ _ _ _ _ (c .before .before .before .param-span .ensures .1) (c .before .start .given .1) in omega (arith, u, v)
 
-count-list-requires : tie.Need-count-list-requires
-count-list-requires c κs = search needs
-
-enum-known-o : tie.Need-enum-known-o
-enum-known-o c = search needs
-
 add-t20 : tie.Need-add-t20
 add-t20 c = let s = now (c .before .before .before .before .before .before .before .before .before .before .args .file) in let x = c .before .before .before .before .before .before .start .given .0 .0 in let y = c .before .before .before .before .before .before .start .given .0 .1 .0 in
     let (u, v) = cut-places (length s) (c .before .before .before .before .before .before .before .before .param-span .result) x y (c .before .before .before .before .before .before .start .given .0 .1 .1 .0) (c .before .before .before .before .before .before .before .before .param-span .ensures .1) (c .before .before .before .before .before .before .start .given .1) in
     omega (arith, u, v, cut-length s x y u v, counted-wrong (length (cut s x y)) (c .before .o .given .0 .0) (c .before .before .before .count-list .result) (c .before .before .before .count-list .ensures .1) (c .before .o .given .1))
 
-enum-known-o-2 : tie.Need-enum-known-o-2
-enum-known-o-2 c = search needs
-
 add-t22 : tie.Need-add-t22
 add-t22 c = let s = now (c .before .before .before .before .before .before .before .before .before .before .args .file) in let x = c .before .before .before .before .before .before .start .given .0 .0 in let y = c .before .before .before .before .before .before .start .given .0 .1 .0 in
     let (u, v) = cut-places (length s) (c .before .before .before .before .before .before .before .before .param-span .result) x y (c .before .before .before .before .before .before .start .given .0 .1 .1 .0) (c .before .before .before .before .before .before .before .before .param-span .ensures .1) (c .before .before .before .before .before .before .start .given .1) in
     omega (arith, u, v, cut-length s x y u v, counted-outside (length (cut s x y)) (c .before .o2 .given .0 .0) (c .before .before .before .count-list .result) (c .before .before .before .count-list .ensures .1) (c .before .o2 .given .1))
-
-enum-known-n : tie.Need-enum-known-n
-enum-known-n c = search needs
 
 returns : tie.Need-returns
 returns c = let a = c .before .before .before .before .before .before .before .before .before .before .before .args in refs-empty (now (a .file)) (a .a) (a .z) (c .before .before .before .before .before .before .before .start .given .0 .0) (c .before .before .before .before .before .before .before .start .given .0 .1 .0) _ _ (ap toldCut (sym (c .before .before .before .before .before .before .before .start .given .1)) ∙ c .before .before .before .before .before .before .before .before .before .param-span .ensures .0) (ap toldCounted (sym (c .before .before .n .given .1)) ∙ c .before .before .before .before .count-list .ensures .0) (c .if1 .taken)
@@ -86,22 +65,6 @@ pub refs-at-spec : {M : Type 1} → statement M
 refs-at-spec =
     tie.close
     (tie.spec
-    param-span-requires
-    enum-known-f
-    enum-known-start
-    sub-count-list
-    part-count-list-start
-    part-count-list-end
-    count-list-requires
-    enum-known-o
-    add-t20
-    enum-known-o-2
-    add-t22
-    enum-known-n
-    returns
-    add-t25
-    sub-t26
-    returns-2
-    returns-3
-    returns-4
-    returns-5)
+    (λ c κs. search needs) (λ c. search needs) (λ c. search needs) sub-count-list part-count-list-start part-count-list-end
+    (λ c κs. search needs) (λ c. search needs) add-t20 (λ c. search needs) add-t22 (λ c. search needs) returns add-t25 sub-t26 returns-2
+    returns-3 returns-4 returns-5)

@@ -10,18 +10,6 @@ use Rattle.units.specs.Laws.{refs-none}
 use Rattle.units.proofs.listed.refs_in.Statement.{statement}
 use Rattle.units.proofs.listed.refs_in.Tie as tie
 
-enum-known-run : tie.Need-enum-known-run
-enum-known-run c = search needs
-
-enum-told : tie.Need-enum-told
-enum-told c = search needs
-
-enum-known-run-2 : tie.Need-enum-known-run-2
-enum-known-run-2 c = search needs
-
-refs-at-requires : tie.Need-refs-at-requires
-refs-at-requires c κs = search needs
-
 returns : tie.Need-returns
 returns c = ap (λ (x : Run). onward (refsIn (now (c .before .before .before .before .args .file))) (toldRun x)) (c .before .run .given .1)
 
@@ -35,10 +23,4 @@ pub refs-in-spec : {M : Type 1} → statement M
 refs-in-spec =
     tie.close
     (tie.spec
-    enum-known-run
-    enum-told
-    enum-known-run-2
-    refs-at-requires
-    returns
-    returns-2
-    returns-3)
+    (λ c. search needs) (λ c. search needs) (λ c. search needs) (λ c κs. search needs) returns returns-2 returns-3)

@@ -25,9 +25,6 @@ loop-holds : tie.Need-loop-holds Inv-loop μ-loop
 loop-holds c = let a = c .before .before .before .before .args in let s = now (a .file) in let b = now (a .b) in let find = findOf s (rowFor (now (a .rows)) (now (a .slots)) (a .t .ids)) in
     reading-starts b (toleranceBy s find) (toleranceBy s find (idsOf b)) (c .before .before .before .before .pre) refl
 
-item-at-requires : tie.Need-item-at-requires Inv-loop μ-loop
-item-at-requires c κs = search needs
-
 sub-parse-ref : tie.Need-sub-parse-ref Inv-loop μ-loop
 sub-parse-ref c = c .item-at .ensures .ordered
 
@@ -37,40 +34,19 @@ part-parse-ref-start c = omega (arith, c .item-at .ensures .ordered, c .item-at 
 part-parse-ref-end : tie.Need-part-parse-ref-end Inv-loop μ-loop
 part-parse-ref-end c = omega (arith, c .item-at .ensures .ordered, c .item-at .ensures .short, c .item-at .ensures .within)
 
-parse-ref-requires : tie.Need-parse-ref-requires Inv-loop μ-loop
-parse-ref-requires c κs = search needs
-
-enum-known-id : tie.Need-enum-known-id Inv-loop μ-loop
-enum-known-id c = search needs
-
-enum-told : tie.Need-enum-told Inv-loop μ-loop
-enum-told c = search needs
-
 returns : tie.Need-returns Inv-loop μ-loop
 returns c = let a = c .before .before .before .before .before .before .before .before .before .before .args in let s = now (a .file) in let b = now (a .b) in let find = findOf s (rowFor (now (a .rows)) (now (a .slots)) (a .t .ids)) in
     absurd (reading-bad b (toleranceBy s find) (toleranceBy s find (idsOf b)) (c .before .before .before .before .before .loop .i) (c .before .before .before .before .before .loop .inv) (c .before .before .before .before .item-at .result) (c .before .before .before .before .item-at .ensures) 12 0 (ap (λ (x : Answer ℕ). asFate x) (ap toldReference (sym (c .enum-told .given .1)) ∙ c .before .before .parse-ref .ensures)))
-
-one-uncertainty-requires : tie.Need-one-uncertainty-requires Inv-loop μ-loop
-one-uncertainty-requires c κs = search needs
-
-enum-known-v : tie.Need-enum-known-v Inv-loop μ-loop
-enum-known-v c = search needs
 
 returns-2 : tie.Need-returns-2 Inv-loop μ-loop
 returns-2 c = let a = c .before .before .before .before .before .before .before .before .before .before .before .before .before .before .before .args in let s = now (a .file) in let b = now (a .b) in let find = findOf s (rowFor (now (a .rows)) (now (a .slots)) (a .t .ids)) in
     let (l, k) = reading-here b (toleranceBy s find) (toleranceBy s find (idsOf b)) (c .before .before .before .before .before .before .before .before .before .before .loop .i) (c .before .before .before .before .before .before .before .before .before .before .loop .inv) (c .before .before .before .before .before .before .before .before .before .item-at .result) (c .before .before .before .before .before .before .before .before .before .item-at .ensures) (c .before .before .before .before .before .id .given .0 .0) (ap (λ (x : Answer ℕ). asFate x) (ap toldReference (sym (c .before .before .before .before .before .id .given .1)) ∙ c .before .before .before .before .before .before .before .parse-ref .ensures)) in
     tolerance-is s find (c .before .before .before .before .before .id .given .0 .0) l (ap toldUncertain (sym (c .before .v .given .1)) ∙ c .before .before .before .one-uncertainty .ensures) ∙ k
 
-enum-known-f : tie.Need-enum-known-f Inv-loop μ-loop
-enum-known-f c = search needs
-
 returns-3 : tie.Need-returns-3 Inv-loop μ-loop
 returns-3 c = let a = c .before .before .before .before .before .before .before .before .before .before .before .before .before .before .before .args in let s = now (a .file) in let b = now (a .b) in let find = findOf s (rowFor (now (a .rows)) (now (a .slots)) (a .t .ids)) in
     let (l, k) = reading-here b (toleranceBy s find) (toleranceBy s find (idsOf b)) (c .before .before .before .before .before .before .before .before .before .before .loop .i) (c .before .before .before .before .before .before .before .before .before .before .loop .inv) (c .before .before .before .before .before .before .before .before .before .item-at .result) (c .before .before .before .before .before .before .before .before .before .item-at .ensures) (c .before .before .before .before .before .id .given .0 .0) (ap (λ (x : Answer ℕ). asFate x) (ap toldReference (sym (c .before .before .before .before .before .id .given .1)) ∙ c .before .before .before .before .before .before .before .parse-ref .ensures)) in
     tolerance-bad s find (c .before .before .before .before .before .id .given .0 .0) l (ap toldUncertain (sym (c .before .f .given .1)) ∙ c .before .before .before .one-uncertainty .ensures) ∙ k
-
-enum-told-2 : tie.Need-enum-told-2 Inv-loop μ-loop
-enum-told-2 c = search needs
 
 returns-4 : tie.Need-returns-4 Inv-loop μ-loop
 returns-4 c = let a = c .before .before .before .before .before .before .before .before .before .before .before .before .before .before .before .args in let s = now (a .file) in let b = now (a .b) in let find = findOf s (rowFor (now (a .rows)) (now (a .slots)) (a .t .ids)) in
@@ -90,24 +66,6 @@ pub tolerance-from-spec : {M : Type 1} → statement M
 tolerance-from-spec =
     tie.close
     (tie.spec
-    Inv-loop
-    μ-loop
-    loop-holds
-    item-at-requires
-    sub-parse-ref
-    part-parse-ref-start
-    part-parse-ref-end
-    parse-ref-requires
-    enum-known-id
-    enum-told
-    returns
-    one-uncertainty-requires
-    enum-known-v
-    returns-2
-    enum-known-f
-    returns-3
-    enum-told-2
-    returns-4
-    add-i
-    loop-less
-    loop-again)
+    Inv-loop μ-loop loop-holds (λ c κs. search needs) sub-parse-ref part-parse-ref-start part-parse-ref-end (λ c κs. search needs)
+    (λ c. search needs) (λ c. search needs) returns (λ c κs. search needs) (λ c. search needs) returns-2 (λ c. search needs) returns-3
+    (λ c. search needs) returns-4 add-i loop-less loop-again)

@@ -6,15 +6,6 @@ use Rattle.error.specs.Refusal.{told}
 use Rattle.units.proofs.listed.uncertain_by.Statement.{statement}
 use Rattle.units.proofs.listed.uncertain_by.Tie as tie
 
-enum-known-n : tie.Need-enum-known-n
-enum-known-n c = search needs
-
-enum-known-n-2 : tie.Need-enum-known-n-2
-enum-known-n-2 c = search needs
-
-number-requires : tie.Need-number-requires
-number-requires c κs = search needs
-
 returns : tie.Need-returns
 returns c = rw (c .before .before .before .n2 .given .1, eq-eqb (told (c .before .before .before .n2 .given .0 .0) .number) 13 (omega (arith, c .before .number .ensures))) refl
 
@@ -26,4 +17,5 @@ returns-3 c = rw (c .before .before .before .n2 .given .1, ne-eqb (told (c .befo
 
 pub uncertain-by-spec : {M : Type 1} → statement M
 uncertain-by-spec =
-    tie.close (tie.spec enum-known-n enum-known-n-2 number-requires returns returns-2 returns-3)
+    tie.close (tie.spec
+    (λ c. search needs) (λ c. search needs) (λ c κs. search needs) returns returns-2 returns-3)

@@ -21,15 +21,9 @@ Inv-loop file rows slots t b u₀ i₀ u i = Reading b (unitsBy file (findOf fil
 abbrev μ-loop : tie.MeasureT-loop
 μ-loop file rows slots t b u₀ i₀ u i = length b - i
 
-assumed-requires : tie.Need-assumed-requires Inv-loop μ-loop
-assumed-requires c κs = search needs
-
 loop-holds : tie.Need-loop-holds Inv-loop μ-loop
 loop-holds c = let a = c .before .before .before .before .before .args in let s = now (a .file) in let b = now (a .b) in let find = findOf s (rowFor (now (a .rows)) (now (a .slots)) (a .t .ids)) in
     reading-starts b (unitsBy s find (valuesIn (c .assumed .result))) (unitsBy s find defaults (idsOf b)) (c .before .before .before .before .before .pre) (ap (λ (u : Units). unitsBy s find u (idsOf b)) (c .assumed .ensures))
-
-item-at-requires : tie.Need-item-at-requires Inv-loop μ-loop
-item-at-requires c κs = search needs
 
 sub-parse-ref : tie.Need-sub-parse-ref Inv-loop μ-loop
 sub-parse-ref c = c .item-at .ensures .ordered
@@ -40,27 +34,9 @@ part-parse-ref-start c = omega (arith, c .item-at .ensures .ordered, c .item-at 
 part-parse-ref-end : tie.Need-part-parse-ref-end Inv-loop μ-loop
 part-parse-ref-end c = omega (arith, c .item-at .ensures .ordered, c .item-at .ensures .short, c .item-at .ensures .within)
 
-parse-ref-requires : tie.Need-parse-ref-requires Inv-loop μ-loop
-parse-ref-requires c κs = search needs
-
-enum-known-id : tie.Need-enum-known-id Inv-loop μ-loop
-enum-known-id c = search needs
-
-enum-told : tie.Need-enum-told Inv-loop μ-loop
-enum-told c = search needs
-
 returns : tie.Need-returns Inv-loop μ-loop
 returns c = let a = c .before .before .before .before .before .before .before .before .before .before .before .args in let s = now (a .file) in let b = now (a .b) in let find = findOf s (rowFor (now (a .rows)) (now (a .slots)) (a .t .ids)) in
     absurd (reading-bad b (unitsBy s find (valuesIn (c .before .before .before .before .before .loop .u))) (unitsBy s find defaults (idsOf b)) (c .before .before .before .before .before .loop .i) (c .before .before .before .before .before .loop .inv) (c .before .before .before .before .item-at .result) (c .before .before .before .before .item-at .ensures) 12 0 (ap (λ (x : Answer ℕ). asFate x) (ap toldReference (sym (c .enum-told .given .1)) ∙ c .before .before .parse-ref .ensures)))
-
-one-unit-requires : tie.Need-one-unit-requires Inv-loop μ-loop
-one-unit-requires c κs = search needs
-
-enum-known-r : tie.Need-enum-known-r Inv-loop μ-loop
-enum-known-r c = search needs
-
-enum-told-2 : tie.Need-enum-told-2 Inv-loop μ-loop
-enum-told-2 c = search needs
 
 returns-2 : tie.Need-returns-2 Inv-loop μ-loop
 returns-2 c = let a = c .before .before .before .before .before .before .before .before .before .before .before .before .before .before .before .args in let s = now (a .file) in let b = now (a .b) in let find = findOf s (rowFor (now (a .rows)) (now (a .slots)) (a .t .ids)) in
@@ -85,23 +61,6 @@ pub units-from-spec : {M : Type 1} → statement M
 units-from-spec =
     tie.close
     (tie.spec
-    Inv-loop
-    μ-loop
-    assumed-requires
-    loop-holds
-    item-at-requires
-    sub-parse-ref
-    part-parse-ref-start
-    part-parse-ref-end
-    parse-ref-requires
-    enum-known-id
-    enum-told
-    returns
-    one-unit-requires
-    enum-known-r
-    enum-told-2
-    returns-2
-    returns-3
-    add-i
-    loop-less
-    loop-again)
+    Inv-loop μ-loop (λ c κs. search needs) loop-holds (λ c κs. search needs) sub-parse-ref part-parse-ref-start part-parse-ref-end
+    (λ c κs. search needs) (λ c. search needs) (λ c. search needs) returns (λ c κs. search needs) (λ c. search needs) (λ c. search needs)
+    returns-2 returns-3 add-i loop-less loop-again)

@@ -10,24 +10,6 @@ use Rattle.units.specs.Laws.{context-refused, context-late, context-both
 use Rattle.units.proofs.listed.units_of_context.Statement.{statement}
 use Rattle.units.proofs.listed.units_of_context.Tie as tie
 
-listed-units-requires : tie.Need-listed-units-requires
-listed-units-requires c κs = search needs
-
-enum-known-f : tie.Need-enum-known-f
-enum-known-f c = search needs
-
-enum-known-u : tie.Need-enum-known-u
-enum-known-u c = search needs
-
-listed-tolerance-requires : tie.Need-listed-tolerance-requires
-listed-tolerance-requires c κs = search needs
-
-enum-known-f-2 : tie.Need-enum-known-f-2
-enum-known-f-2 c = search needs
-
-enum-known-v : tie.Need-enum-known-v
-enum-known-v c = search needs
-
 returns : tie.Need-returns
 returns c = let a = c .before .before .before .before .before .before .before .args in let s = now (a .file) in let find = findOf s (rowFor (now (a .rows)) (now (a .slots)) (a .t .ids)) in let t = thingOf s (rowOf (a .row)) in context-refused s find t (ap toldUnits (sym (c .before .f .given .1)) ∙ c .before .before .before .listed-units .ensures)
 
@@ -41,12 +23,5 @@ pub units-of-context-spec : {M : Type 1} → statement M
 units-of-context-spec =
     tie.close
     (tie.spec
-    listed-units-requires
-    enum-known-f
-    enum-known-u
-    listed-tolerance-requires
-    enum-known-f-2
-    enum-known-v
-    returns
-    returns-2
-    returns-3)
+    (λ c κs. search needs) (λ c. search needs) (λ c. search needs) (λ c κs. search needs) (λ c. search needs) (λ c. search needs) returns
+    returns-2 returns-3)

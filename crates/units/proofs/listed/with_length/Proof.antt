@@ -7,15 +7,6 @@ use Rattle.units.specs.Answer.{withLength, valuesIn}
 use Rattle.units.proofs.listed.with_length.Statement.{statement}
 use Rattle.units.proofs.listed.with_length.Tie as tie
 
-enum-known-f : tie.Need-enum-known-f
-enum-known-f c = search needs
-
-enum-told : tie.Need-enum-told
-enum-told c = search needs
-
-enum-known-f-2 : tie.Need-enum-known-f-2
-enum-known-f-2 c = search needs
-
 returns : tie.Need-returns
 returns c = ap (λ (x : Factor). goodBy (withLength (valuesIn (c .before .before .before .args .u))) (toldFactor x)) (sym (c .before .f .given .1))
 
@@ -27,4 +18,5 @@ returns-3 c = ap (λ (x : Factor). goodBy (withLength (valuesIn (c .before .befo
 
 pub with-length-spec : {M : Type 1} → statement M
 with-length-spec =
-    tie.close (tie.spec enum-known-f enum-told enum-known-f-2 returns returns-2 returns-3)
+    tie.close (tie.spec
+    (λ c. search needs) (λ c. search needs) (λ c. search needs) returns returns-2 returns-3)

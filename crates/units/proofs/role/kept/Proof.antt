@@ -5,21 +5,6 @@ use Rattle.units.specs.declared.role.Role.{Role}
 use Rattle.units.proofs.role.kept.Statement.{statement}
 use Rattle.units.proofs.role.kept.Tie as tie
 
-enum-told : tie.Need-enum-told
-enum-told c = search needs
-
-enum-told-2 : tie.Need-enum-told-2
-enum-told-2 c = search needs
-
-enum-told-3 : tie.Need-enum-told-3
-enum-told-3 c = search needs
-
-enum-told-4 : tie.Need-enum-told-4
-enum-told-4 c = search needs
-
-enum-known-before : tie.Need-enum-known-before
-enum-known-before c = search needs
-
 returns : tie.Need-returns
 returns c = ap (λ (x : Role). keptRole x (c .before .before .args .now)) (sym (c .enum-told .given .1))
 
@@ -39,13 +24,5 @@ pub kept-spec : {M : Type 1} → statement M
 kept-spec =
     tie.close
     (tie.spec
-    enum-told
-    enum-told-2
-    enum-told-3
-    enum-told-4
-    enum-known-before
-    returns
-    returns-2
-    returns-3
-    returns-4
-    returns-5)
+    (λ c. search needs) (λ c. search needs) (λ c. search needs) (λ c. search needs) (λ c. search needs) returns returns-2 returns-3
+    returns-4 returns-5)

@@ -16,9 +16,6 @@ part-intern-start c = let k = bounds (c .before .before .args .p .keyword .start
 part-intern-end : tie.Need-part-intern-end
 part-intern-end c = let k = bounds (c .before .before .args .p .keyword .start) (c .before .before .args .p .keyword .end) (length (now (c .before .before .args .file))) (c .if1 .taken) in omega (arith, k .0, k .1)
 
-intern-requires : tie.Need-intern-requires
-intern-requires c κs = search needs
-
 returns : tie.Need-returns
 returns c = rw (c .before .before .if1 .taken) (c .intern .ensures)
 
@@ -28,4 +25,5 @@ returns-2 c = rw (c .if1 .left) refl
 pub part-kind-spec : {M : Type 1} → statement M
 part-kind-spec =
     tie.close
-    (tie.spec sub-intern part-intern-start part-intern-end intern-requires returns returns-2)
+    (tie.spec
+    sub-intern part-intern-start part-intern-end (λ c κs. search needs) returns returns-2)

@@ -3,20 +3,11 @@ use mathlib.Core.Path.{sym, refl, _∙_}
 use Rattle.units.proofs.role.role_by.Statement.{statement}
 use Rattle.units.proofs.role.role_by.Tie as tie
 
-same-kind-requires : tie.Need-same-kind-requires
-same-kind-requires c κs = search needs
-
 returns : tie.Need-returns
 returns c = rw (sym (c .before .same-kind .ensures) ∙ c .if1 .taken) refl
 
-same-kind-requires-2 : tie.Need-same-kind-requires-2
-same-kind-requires-2 c κs = search needs
-
 returns-2 : tie.Need-returns-2
 returns-2 c = rw (sym (c .before .before .before .same-kind .ensures) ∙ c .before .before .if1 .left, sym (c .before .same-kind2 .ensures) ∙ c .if2 .taken) refl
-
-same-kind-requires-3 : tie.Need-same-kind-requires-3
-same-kind-requires-3 c κs = search needs
 
 returns-3 : tie.Need-returns-3
 returns-3 c = rw (sym (c .before .before .before .before .before .same-kind .ensures) ∙ c .before .before .before .before .if1 .left, sym (c .before .before .before .same-kind2 .ensures) ∙ c .before .before .if2 .left, sym (c .before .same-kind3 .ensures) ∙ c .if3 .taken) refl
@@ -28,10 +19,4 @@ pub role-by-spec : {M : Type 1} → statement M
 role-by-spec =
     tie.close
     (tie.spec
-    same-kind-requires
-    returns
-    same-kind-requires-2
-    returns-2
-    same-kind-requires-3
-    returns-3
-    returns-4)
+    (λ c κs. search needs) returns (λ c κs. search needs) returns-2 (λ c κs. search needs) returns-3 returns-4)

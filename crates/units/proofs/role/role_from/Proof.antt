@@ -24,32 +24,11 @@ abbrev μ-loop : tie.MeasureT-loop
 loop-holds : tie.Need-loop-holds Inv-loop μ-loop
 loop-holds c = seek-starts (now (c .before .args .file)) (c .before .args .start) (c .before .args .end) (c .before .pre)
 
-next-part-requires : tie.Need-next-part-requires Inv-loop μ-loop
-next-part-requires c κs = tt
-
-enum-told : tie.Need-enum-told Inv-loop μ-loop
-enum-told c = search needs
-
 returns : tie.Need-returns Inv-loop μ-loop
 returns c = seek-over (now (c .before .before .before .before .before .args .file)) (c .before .before .before .before .before .args .start) (c .before .before .before .before .before .args .end) (c .before .before .before .loop .i) (c .before .before .before .loop .got) (c .before .before .before .loop .inv) (sym (c .before .before .next-part .ensures) ∙ ap toldNext (c .enum-told .given .1))
 
-enum-known-f : tie.Need-enum-known-f Inv-loop μ-loop
-enum-known-f c = search needs
-
 returns-2 : tie.Need-returns-2 Inv-loop μ-loop
 returns-2 c = seek-refused (now (c .before .before .before .before .before .before .args .file)) (c .before .before .before .before .before .before .args .start) (c .before .before .before .before .before .before .args .end) (c .before .before .before .before .loop .i) (c .before .before .before .before .loop .got) (c .before .before .before .before .loop .inv) (told (c .before .f .given .0 .0)) (sym (c .before .before .before .next-part .ensures) ∙ ap toldNext (c .before .f .given .1))
-
-enum-known-p : tie.Need-enum-known-p Inv-loop μ-loop
-enum-known-p c = search needs
-
-part-kind-requires : tie.Need-part-kind-requires Inv-loop μ-loop
-part-kind-requires c κs = search needs
-
-role-by-requires : tie.Need-role-by-requires Inv-loop μ-loop
-role-by-requires c κs = search needs
-
-kept-requires : tie.Need-kept-requires Inv-loop μ-loop
-kept-requires c κs = search needs
 
 add-i : tie.Need-add-i Inv-loop μ-loop
 add-i c = let (a, b, d, e) = next-ahead (now (c .before .before .before .before .before .before .before .before .before .before .args .file)) (c .before .before .before .before .before .before .before .before .loop .i) (c .before .before .before .before .before .before .before .before .before .before .args .end) (headerRowOf (c .before .before .before .before .before .p .given .0 .0)) (sym (c .before .before .before .before .before .before .before .next-part .ensures) ∙ ap toldNext (c .before .before .before .before .before .p .given .1)) in
@@ -69,18 +48,5 @@ pub role-from-spec : {M : Type 1} → statement M
 role-from-spec =
     tie.close
     (tie.spec
-    Inv-loop
-    μ-loop
-    loop-holds
-    next-part-requires
-    enum-told
-    returns
-    enum-known-f
-    returns-2
-    enum-known-p
-    part-kind-requires
-    role-by-requires
-    kept-requires
-    add-i
-    loop-less
-    loop-again)
+    Inv-loop μ-loop loop-holds (λ c κs. tt) (λ c. search needs) returns (λ c. search needs) returns-2 (λ c. search needs)
+    (λ c κs. search needs) (λ c κs. search needs) (λ c κs. search needs) add-i loop-less loop-again)

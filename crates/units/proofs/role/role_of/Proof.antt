@@ -11,15 +11,6 @@ use Rattle.units.specs.Laws.{span-starts, role-simple, role-parts}
 use Rattle.units.proofs.role.role_of.Statement.{statement}
 use Rattle.units.proofs.role.role_of.Tie as tie
 
-args-of-requires : tie.Need-args-of-requires
-args-of-requires c κs = search needs
-
-enum-known-a : tie.Need-enum-known-a
-enum-known-a c = search needs
-
-enum-told : tie.Need-enum-told
-enum-told c = search needs
-
 returns : tie.Need-returns
 returns c = let a = c .before .before .before .before .args in thing-out roleOf (now (a .file)) (rowOf (a .row)) (ap toldSpan (sym (c .enum-told .given .1)) ∙ c .before .before .args-of .ensures)
 
@@ -36,10 +27,4 @@ pub role-of-spec : {M : Type 1} → statement M
 role-of-spec =
     tie.close
     (tie.spec
-    args-of-requires
-    enum-known-a
-    enum-told
-    returns
-    returns-2
-    role-from-requires
-    returns-3)
+    (λ c κs. search needs) (λ c. search needs) (λ c. search needs) returns returns-2 role-from-requires returns-3)
