@@ -3,11 +3,14 @@
 
 Holds the working tree against the revision REV and prints a line for each public function that is new or gone, or whose signature,
 `requires` or `ensures` has changed, and for each declaration in specs/ (definition, record, law with its proof) that is gone or has
-another text. What stands elsewhere word for word is `moved`. The last line counts. Layout and comments do not count.
+another text. What stands elsewhere word for word is `moved`. The last line counts. Layout and comments do not count. Names that docs/NAMES.md
+renames count as their new ones, and short names in a contract as what they stand for.
 """
 import re
 import subprocess
 import sys
+
+import names
 
 
 def git(*words):
@@ -87,16 +90,22 @@ def all_of(files, reader, ending):
 def main():
     if len(sys.argv) != 2:
         sys.exit(__doc__)
-    old, new = tree(sys.argv[1]), tree(None)
+    page = names.rows()
+    known = names.shorts(page)
+    old, new = names.renamed(tree(sys.argv[1]), page), tree(None)
     kinds = (('contract', functions, '.rt'), ('declaration', declarations, '.antt'))
     words = {kind: all_of(new, reader, ending) for kind, reader, ending in kinds}
     before = {kind: all_of(old, reader, ending) for kind, reader, ending in kinds}
+    words['contract'] = {(name, names.spelt(text, known)) for name, text in words['contract']}
+    before['contract'] = {(name, names.spelt(text, known)) for name, text in before['contract']}
     count = {}
     for kind, reader, ending in kinds:
         for path in sorted(set(old) | set(new)):
             if not path.endswith(ending):
                 continue
             a, b = reader(old.get(path, '')), reader(new.get(path, ''))
+            if kind == 'contract':
+                a, b = ({n: names.spelt(x, known) for n, x in y.items()} for y in (a, b))
             for name in sorted(set(a) | set(b)):
                 if a.get(name) == b.get(name):
                     continue

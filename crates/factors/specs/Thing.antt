@@ -15,7 +15,8 @@ use Rattle.kinds.specs.Rules.{rankOf}
 use Rattle.kinds.specs.declared.Kind.{Kind}
 use Rattle.params.specs.Answer.{Span, span}
 use Rattle.parts.specs.Part.{partsOf}
-use Rattle.lookup.specs.Lookup.{cut, spanFine, kindIn}
+use Rattle.index.specs.declared.Ids.{Ids}
+use Rattle.lookup.specs.Lookup.{cut, spanFine, kindIn, rowFor}
 
 -- an answer that is good, by f
 abbrev pub goodBy : {A B : Type 0} → (A → B) → Told A → Told B
@@ -64,6 +65,10 @@ thingFound s (some w) = goodBy some (thingOf s w)
 -- the record that an id names, by a lookup that gives its row
 unfoldable pub findOf : List ℕ → (ℕ → Option Row) → ℕ → Told (Option Thing)
 findOf s row k = thingFound s (row k)
+
+-- the record that an id names, by the rows and the slots of a table in lent memory
+abbrev pub tableFind : List ℕ → List ℕ → List ℕ → Ids → ℕ → Told (Option Thing)
+tableFind s rows slots ids = findOf s (rowFor rows slots ids)
 
 -- the first part of a kind
 abbrev pub firstPiece : Kind → List Piece → Option Span

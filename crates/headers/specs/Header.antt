@@ -41,6 +41,10 @@ abbrev pub headerArgs : ℕ → (ℕ → HeaderRow) → Option ℕ → Told (Opt
 headerArgs len head none = good none
 headerArgs len head (some i) = argued len (head i)
 
+-- the arguments of the first header record with a keyword, over a table in lent memory of which n rows are told
+abbrev pub argsFound : List ℕ → List ℕ → ℕ → List ℕ → Told (Option Span)
+argsFound s heads n name = headerArgs (length s) (headerNumbers heads) (headerFound s heads n name)
+
 -- what the code's answer says: a header record's arguments, or none, or 9
 abbrev pub toldHeader : HeaderFound → Told (Option Span)
 toldHeader (heading.Span r) = good (some (span (r .start) (r .end)))

@@ -5,7 +5,7 @@ ghost use mathlib.Core.Path.{_≡_};
 ghost use lib.ListN.{length};
 ghost use mathlib.Core.Option.{some};
 ghost use Rattle.lookup.specs.Lookup.{toldPlace};
-ghost use Rattle.headers.specs.Header.{named, isHeader, headerFound, headerArgs, toldHeader};
+ghost use Rattle.headers.specs.Header.{named, isHeader, headerFound, headerArgs, toldHeader, argsFound};
 ghost use Rattle.table.specs.Table.{headerNumbers};
 ghost use Rattle.statement.specs.Rows.{headerRowOf};
 use error::Fault;
@@ -76,7 +76,7 @@ fn named_args(file: &[u8], heads: &[u32], i: usize) -> HeaderFound
 
 // The arguments of the first header record with this keyword; none where there is no such record; 9 where they lie outside the file.
 pub fn header_args(file: &[u8], heads: &[u32], t: Tables, name: &[u8]) -> HeaderFound
-    ensures { λ r. ⌜ toldHeader r ≡ headerArgs (length (now (file .entry))) (headerNumbers (now (heads .entry))) (headerFound (now (file .entry)) (now (heads .entry)) (t .headers) (now (name .entry))) ⌝ }
+    ensures { λ r. ⌜ toldHeader r ≡ argsFound (now (file .entry)) (now (heads .entry)) (t .headers) (now (name .entry)) ⌝ }
 {
     match header_row(file, heads, t, name) {
         Place::Nothing => HeaderFound::Nothing,

@@ -11,7 +11,7 @@ use lib.ListN.{length, drop, getD}
 use Rattle.common.specs.Pick.{pick}
 use Rattle.error.specs.Refusal.{refusal, Told, good, bad, told}
 use Rattle.statement.specs.Rows.{Row, row}
-use Rattle.table.specs.Table.{six, rowsLaid}
+use Rattle.table.specs.Table.{six, rowsLaid, tableRows, rowNumbers}
 use Rattle.kept.specs.declared.Kept.{Kept}
 use Rattle.kept.specs.declared.Kept.the-variants.{Rows, Refused}
 
@@ -80,6 +80,10 @@ judged okay short n = pick okay (pick short (bad (refusal 16 0 0)) (good n)) (ba
 -- writing: n rows, for a file of this length, into so many bytes
 abbrev pub keepOf : ℕ → (ℕ → Row) → ℕ → ℕ → Told ℕ
 keepOf len r n out = judged (fineAll len r n) (ltb out (n * 24)) n
+
+-- writing the rows of a table in lent memory of which n are told, for a file of this length, into so many bytes
+abbrev pub keepTable : ℕ → List ℕ → ℕ → ℕ → Told ℕ
+keepTable len rows n out = keepOf len (rowNumbers rows) (tableRows rows n) out
 
 -- reading: bytes, for a file of this length, into room for so many rows; "left-over bytes" are 9 too
 abbrev pub readOf : ℕ → List ℕ → ℕ → Told ℕ

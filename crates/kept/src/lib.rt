@@ -7,8 +7,8 @@ ghost use Prim.Native.Nat.{_+_, _*_, _≤_, _<_};
 ghost use lib.ListN.{length};
 ghost use lib.Seq.{sets};
 ghost use Rattle.statement.specs.Rows.{rowOf};
-ghost use Rattle.table.specs.Table.{rowsFit, tableRows, rowNumbers, rowsLaid, narrowRow};
-ghost use Rattle.kept.specs.Kept.{littleFour, rowBytes, numberAt, rowAt, firstRows, fineRow, fineAll, toldKept, keepOf, bytesAfter, keptAfter, readOf, readAfter};
+ghost use Rattle.table.specs.Table.{rowsFit, rowNumbers, rowsLaid, narrowRow};
+ghost use Rattle.kept.specs.Kept.{littleFour, rowBytes, numberAt, rowAt, firstRows, fineRow, fineAll, toldKept, bytesAfter, keptAfter, readOf, readAfter, keepTable};
 use error::Fault;
 use statement::Range;
 use statement::RecordSpan;
@@ -161,8 +161,8 @@ fn get_rows(bytes: &[u8], n: usize, rows: &mut [u32])
 // Writes the first `count` rows of a table, for a file of this length. 9 where a span lies outside the file or runs backwards, or a
 // mark is neither 0 nor 1; then 16 where the bytes do not suffice.
 pub fn keep_rows(len: usize, rows: &[u32], count: usize, out: &mut [u8]) -> Kept
-    ensures { λ r. ⌜ toldKept r ≡ keepOf len (rowNumbers (now (rows .entry))) (tableRows (now (rows .entry)) count) (length (now (out .entry))) ⌝ }
-    ensures { λ _. ⌜ now (out .exit) ≡ keptAfter (rowNumbers (now (rows .entry))) (keepOf len (rowNumbers (now (rows .entry))) (tableRows (now (rows .entry)) count) (length (now (out .entry)))) (now (out .entry)) ⌝ }
+    ensures { λ r. ⌜ toldKept r ≡ keepTable len (now (rows .entry)) count (length (now (out .entry))) ⌝ }
+    ensures { λ _. ⌜ now (out .exit) ≡ keptAfter (rowNumbers (now (rows .entry))) (keepTable len (now (rows .entry)) count (length (now (out .entry)))) (now (out .entry)) ⌝ }
 {
     let n = table::table_rows(rows.len(), count);
     if !fine_table(len, rows, n) {

@@ -1,20 +1,24 @@
 -- Document 01, 'Units': the factor of a prefix by its name, computed; Rules.antt has the table. Assumes nothing.
 use Prim.Native.Nat.{ℕ, zero, suc, _+_, _-_, _≤_, _<_}
 use mathlib.Core.Path.{_≡_, refl, sym, _∙_, ap, subst}
-use mathlib.Core.Bool.{Bool, true, false}
+use mathlib.Core.Bool.{Bool, true, false, _&&_}
 use mathlib.Core.List.{List, [], _∷_}
 use native.Mathlib.Omega.{arith}
 use native.Mathlib.Nat.{add-zero, zero-add, add-suc, suc-add, le-of-suc-le-suc, not-suc-le-zero}
 use native.Mathlib.Numerals.{add-one}
 use native.Mathlib.Decide.{decLt}
 use mathlib.Core.Logic.{_⊎_, inl, inr}
-use lib.Dec.{lit≤}
+use lib.Dec.{T, leb, eqb}
+use lib.Ieee.Bits.{is-true}
+use lib.Ieee.Fits.{and-l, and-r}
+use borrow.Author.Tests.{leb-true, eqb-true}
 use lib.ListN.{length, take, drop, getD}
 use lib.Seq.{drop-cons}
 use lib.Ieee.{Float, nan, binary64, ofBits, toBits, size}
 use Rattle.common.specs.Pick.{pick}
-use Rattle.record.specs.Word.{isWord}
+use Rattle.record.specs.Word.{same, isWord}
 use Rattle.record.specs.Form.{bytes}
+use Rattle.record.specs.FormRight.{same-is}
 use Rattle.nearest.specs.Near.{near, nearUnits}
 use Rattle.prefixes.specs.Rules.{Prefix, prefixes, unity, tenUp, tenDown}
 
@@ -34,7 +38,7 @@ factorOf t = near (tenUp (prefixOf t)) (tenDown (prefixOf t))
 -- ---- the code's tables: all names in a row, where each begins, and the factors, 1.0 the last
 -- the names one after another
 abbrev pub names : List ℕ
-names = 69 ∷ 88 ∷ 65 ∷ 80 ∷ 69 ∷ 84 ∷ 65 ∷ 84 ∷ 69 ∷ 82 ∷ 65 ∷ 71 ∷ 73 ∷ 71 ∷ 65 ∷ 77 ∷ 69 ∷ 71 ∷ 65 ∷ 75 ∷ 73 ∷ 76 ∷ 79 ∷ 72 ∷ 69 ∷ 67 ∷ 84 ∷ 79 ∷ 68 ∷ 69 ∷ 67 ∷ 65 ∷ 68 ∷ 69 ∷ 67 ∷ 73 ∷ 67 ∷ 69 ∷ 78 ∷ 84 ∷ 73 ∷ 77 ∷ 73 ∷ 76 ∷ 76 ∷ 73 ∷ 77 ∷ 73 ∷ 67 ∷ 82 ∷ 79 ∷ 78 ∷ 65 ∷ 78 ∷ 79 ∷ 80 ∷ 73 ∷ 67 ∷ 79 ∷ 70 ∷ 69 ∷ 77 ∷ 84 ∷ 79 ∷ 65 ∷ 84 ∷ 84 ∷ 79 ∷ []
+names = bytes "EXAPETATERAGIGAMEGAKILOHECTODECADECICENTIMILLIMICRONANOPICOFEMTOATTO"
 
 -- where each name begins, and where the last ends
 abbrev pub starts : List ℕ
@@ -69,26 +73,50 @@ pub record Rule (i : ℕ) (p : Prefix) : Type 0 where
   pub named : take (getD starts (suc i) 0 - getD starts i 0) (drop (getD starts i 0) names) ≡ bytes (p .name)
   pub factor : toBits binary64 (getD factors i nan) ≡ near (tenUp p) (tenDown p)
 
--- the rule at each row, counted from i
-abbrev Rules : ℕ → List Prefix → Type 0
-Rules i [] = Unit {0}
-Rules i (p ∷ ps) = Rule i p × Rules (suc i) ps
+-- whether the rule holds at a row, as a test: two comparisons of places, one of a name and one of a pattern
+abbrev keepsRule : ℕ → Prefix → Bool
+keepsRule i p =
+    leb (getD starts i 0) (getD starts (suc i) 0) && leb (getD starts (suc i) 0) 68
+    && same (take (getD starts (suc i) 0 - getD starts i 0) (drop (getD starts i 0) names)) (bytes (p .name))
+    && eqb (toBits binary64 (getD factors i nan)) (near (tenUp p) (tenDown p))
 
--- the rule at every row
-all-rules : Rules 0 prefixes
-unfolding toBits ofBits near nearUnits size
-all-rules = (record { order = lit≤ tt; within = lit≤ tt; named = refl; factor = refl }, (record { order = lit≤ tt; within = lit≤ tt; named = refl; factor = refl }, (record { order = lit≤ tt; within = lit≤ tt; named = refl; factor = refl }, (record { order = lit≤ tt; within = lit≤ tt; named = refl; factor = refl }, (record { order = lit≤ tt; within = lit≤ tt; named = refl; factor = refl }, (record { order = lit≤ tt; within = lit≤ tt; named = refl; factor = refl }, (record { order = lit≤ tt; within = lit≤ tt; named = refl; factor = refl }, (record { order = lit≤ tt; within = lit≤ tt; named = refl; factor = refl }, (record { order = lit≤ tt; within = lit≤ tt; named = refl; factor = refl }, (record { order = lit≤ tt; within = lit≤ tt; named = refl; factor = refl }, (record { order = lit≤ tt; within = lit≤ tt; named = refl; factor = refl }, (record { order = lit≤ tt; within = lit≤ tt; named = refl; factor = refl }, (record { order = lit≤ tt; within = lit≤ tt; named = refl; factor = refl }, (record { order = lit≤ tt; within = lit≤ tt; named = refl; factor = refl }, (record { order = lit≤ tt; within = lit≤ tt; named = refl; factor = refl }, (record { order = lit≤ tt; within = lit≤ tt; named = refl; factor = refl }, tt))))))))))))))))
+-- the test at each row, counted from i
+abbrev keepRules : ℕ → List Prefix → Bool
+keepRules i [] = true
+keepRules i (p ∷ ps) = keepsRule i p && keepRules (suc i) ps
+
+-- it holds at all sixteen rows: antt computes it
+all-keep : T (keepRules 0 prefixes)
+unfolding toBits ofBits near nearUnits size same
+all-keep = tt
+
+-- four tests that all hold, one by one
+all-four : (a b c d : Bool) → T (a && b && c && d) → (a ≡ true) × (b ≡ true) × (c ≡ true) × (d ≡ true)
+all-four true true true true h = (refl, refl, refl, refl)
+all-four true true true false h = absurd h
+all-four true true false d h = absurd h
+all-four true false c d h = absurd h
+all-four false b c d h = absurd h
+
+-- what the test says of a row
+rule-of : (i : ℕ) (p : Prefix) → T (keepsRule i p) → Rule i p
+rule-of i p h =
+    let (a, b, n, f) = all-four (leb (getD starts i 0) (getD starts (suc i) 0)) (leb (getD starts (suc i) 0) 68)
+        (same (take (getD starts (suc i) 0 - getD starts i 0) (drop (getD starts i 0) names)) (bytes (p .name)))
+        (eqb (toBits binary64 (getD factors i nan)) (near (tenUp p) (tenDown p))) h in
+    record { order = leb-true _ _ a; within = leb-true _ _ b; named = same-is _ _ n; factor = eqb-true _ _ f }
 
 -- the rule at a row that is counted from i
-rule-from : (ps : List Prefix) (i : ℕ) → Rules i ps → (k : ℕ) → k < length ps → Rule (i + k) (getD ps k unity)
+rule-from : (ps : List Prefix) (i : ℕ) → T (keepRules i ps) → (k : ℕ) → k < length ps → Rule (i + k) (getD ps k unity)
 rule-from [] i r k h = absurd (not-suc-le-zero h)
-rule-from (p ∷ ps) i r zero h = subst (λ (m : ℕ). Rule m p) (sym (add-zero i)) (r .0)
+rule-from (p ∷ ps) i r zero h = subst (λ (m : ℕ). Rule m p) (sym (add-zero i)) (rule-of i p (and-l (keepsRule i p) (keepRules (suc i) ps) r))
 rule-from (p ∷ ps) i r (suc k) h =
-    subst (λ (m : ℕ). Rule m (getD ps k unity)) (suc-add i k ∙ sym (add-suc i k)) (rule-from ps (suc i) (r .1) k (le-of-suc-le-suc h))
+    subst (λ (m : ℕ). Rule m (getD ps k unity)) (suc-add i k ∙ sym (add-suc i k))
+    (rule-from ps (suc i) (and-r (keepsRule i p) (keepRules (suc i) ps) r) k (le-of-suc-le-suc h))
 
 -- the rule at row k
 pub rule-at : (k : ℕ) → k < 16 → Rule k (getD prefixes k unity)
-rule-at k h = subst (λ (m : ℕ). Rule m (getD prefixes k unity)) (zero-add k) (rule-from prefixes 0 all-rules k h)
+rule-at k h = subst (λ (m : ℕ). Rule m (getD prefixes k unity)) (zero-add k) (rule-from prefixes 0 all-keep k h)
 
 -- the same, as the code counts
 pub order-at : (k : ℕ) → k < 16 → getD starts k 0 ≤ getD starts (k + 1) 0

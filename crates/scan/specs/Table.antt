@@ -7,6 +7,7 @@ use lib.ListN.{length}
 use Rattle.error.specs.Refusal.{Refusal, Told, good, bad, told}
 use Rattle.table.specs.Table.{rowsFit, headersFit, rowsLaid, headersLaid}
 use Rattle.scan.specs.Records.{Table, largest}
+use Rattle.scan.specs.File.{scanOf}
 use Rattle.scan.specs.declared.Scanned.{Scanned}
 use Rattle.scan.specs.declared.Scanned.the-variants.{Rows, Refused}
 
@@ -18,22 +19,27 @@ headerRoom h = headersFit (length h)
 abbrev pub dataRoom : List ℕ → ℕ → ℕ
 dataRoom r slots = min (rowsFit (length r)) slots
 
--- the lent memory with a table's header rows, and with its data rows
+-- the lent memory with a table's header rows
 abbrev pub headersOf : Table → List ℕ → List ℕ
 headersOf t old = headersLaid (t .headers) old
 
+-- the lent memory with a table's data rows
 abbrev pub recordsOf : Table → List ℕ → List ℕ
 recordsOf t old = rowsLaid (t .records) old
 
--- the lent header rows and data rows after an answer; a refusal leaves them as they were
+-- the lent header rows after an answer; a refusal leaves them as they were
 abbrev pub headersAfter : Told Table → List ℕ → List ℕ
 headersAfter (good t) old = headersOf t old
 headersAfter (bad q) old = old
 
--- the lent data rows likewise
+-- the lent data rows after an answer; a refusal leaves them as they were
 abbrev pub rowsAfter : Told Table → List ℕ → List ℕ
 rowsAfter (good t) old = recordsOf t old
 rowsAfter (bad q) old = old
+
+-- the scan of a file into lent memory: so many header rows and data rows as this has room for, with so many slots
+abbrev pub scanInto : List ℕ → List ℕ → List ℕ → ℕ → Told Table
+scanInto s headers rows slots = scanOf s (headerRoom headers) (dataRoom rows slots)
 
 -- an answer's values: the counts of both kinds of row, and the largest id
 pub record Counts : Type 0 where

@@ -5,8 +5,7 @@
 // file's.
 ghost use mathlib.Core.Path.{_≡_};
 ghost use lib.ListN.{length};
-ghost use Rattle.table.specs.Table.{headerNumbers};
-ghost use Rattle.headers.specs.Header.{headerArgs, headerFound};
+ghost use Rattle.headers.specs.Header.{argsFound};
 ghost use Rattle.words.specs.Answer.{toldNextText};
 ghost use Rattle.titles.specs.Title.{toldTitle, asTitle, titleIn, roomIn, titleBy, roomBy, fileName};
 use error::Fault;
@@ -53,8 +52,8 @@ fn title_at(file: &[u8], place: usize, end: usize, before: usize, out: &mut [u8]
 
 // The text of FILE_NAME that stands after so many parameters.
 fn title_of(file: &[u8], heads: &[u32], t: Tables, before: usize, out: &mut [u8]) -> Title
-    ensures { λ r. ⌜ toldTitle r ≡ titleBy (now (file .entry)) (length (now (out .entry))) before (headerArgs (length (now (file .entry))) (headerNumbers (now (heads .entry))) (headerFound (now (file .entry)) (now (heads .entry)) (t .headers) fileName)) ⌝ }
-    ensures { λ _. ⌜ now (out .exit) ≡ roomBy (now (file .entry)) (now (out .entry)) before (headerArgs (length (now (file .entry))) (headerNumbers (now (heads .entry))) (headerFound (now (file .entry)) (now (heads .entry)) (t .headers) fileName)) ⌝ }
+    ensures { λ r. ⌜ toldTitle r ≡ titleBy (now (file .entry)) (length (now (out .entry))) before (argsFound (now (file .entry)) (now (heads .entry)) (t .headers) fileName) ⌝ }
+    ensures { λ _. ⌜ now (out .exit) ≡ roomBy (now (file .entry)) (now (out .entry)) before (argsFound (now (file .entry)) (now (heads .entry)) (t .headers) fileName) ⌝ }
 {
     match headers::header_args(file, heads, t, b"FILE_NAME") {
         HeaderFound::Nothing => Title::InFile(0, 0),
@@ -65,16 +64,16 @@ fn title_of(file: &[u8], heads: &[u32], t: Tables, before: usize, out: &mut [u8]
 
 // The file's name: the first parameter.
 pub fn file_name(file: &[u8], heads: &[u32], t: Tables, out: &mut [u8]) -> Title
-    ensures { λ r. ⌜ toldTitle r ≡ titleBy (now (file .entry)) (length (now (out .entry))) 0 (headerArgs (length (now (file .entry))) (headerNumbers (now (heads .entry))) (headerFound (now (file .entry)) (now (heads .entry)) (t .headers) fileName)) ⌝ }
-    ensures { λ _. ⌜ now (out .exit) ≡ roomBy (now (file .entry)) (now (out .entry)) 0 (headerArgs (length (now (file .entry))) (headerNumbers (now (heads .entry))) (headerFound (now (file .entry)) (now (heads .entry)) (t .headers) fileName)) ⌝ }
+    ensures { λ r. ⌜ toldTitle r ≡ titleBy (now (file .entry)) (length (now (out .entry))) 0 (argsFound (now (file .entry)) (now (heads .entry)) (t .headers) fileName) ⌝ }
+    ensures { λ _. ⌜ now (out .exit) ≡ roomBy (now (file .entry)) (now (out .entry)) 0 (argsFound (now (file .entry)) (now (heads .entry)) (t .headers) fileName) ⌝ }
 {
     title_of(file, heads, t, 0, out)
 }
 
 // The system that wrote the file: the sixth parameter.
 pub fn originating_system(file: &[u8], heads: &[u32], t: Tables, out: &mut [u8]) -> Title
-    ensures { λ r. ⌜ toldTitle r ≡ titleBy (now (file .entry)) (length (now (out .entry))) 5 (headerArgs (length (now (file .entry))) (headerNumbers (now (heads .entry))) (headerFound (now (file .entry)) (now (heads .entry)) (t .headers) fileName)) ⌝ }
-    ensures { λ _. ⌜ now (out .exit) ≡ roomBy (now (file .entry)) (now (out .entry)) 5 (headerArgs (length (now (file .entry))) (headerNumbers (now (heads .entry))) (headerFound (now (file .entry)) (now (heads .entry)) (t .headers) fileName)) ⌝ }
+    ensures { λ r. ⌜ toldTitle r ≡ titleBy (now (file .entry)) (length (now (out .entry))) 5 (argsFound (now (file .entry)) (now (heads .entry)) (t .headers) fileName) ⌝ }
+    ensures { λ _. ⌜ now (out .exit) ≡ roomBy (now (file .entry)) (now (out .entry)) 5 (argsFound (now (file .entry)) (now (heads .entry)) (t .headers) fileName) ⌝ }
 {
     title_of(file, heads, t, 5, out)
 }

@@ -9,6 +9,7 @@ use lib.Ieee.{binary64, toBits}
 use Rattle.common.specs.Pick.{pick}
 use Rattle.error.specs.Refusal.{Told, good, bad, told}
 use Rattle.statement.specs.Rows.{Row, HeaderRow}
+use Rattle.table.specs.Table.{tableRows, rowNumbers}
 use Rattle.reals.specs.Scalar.{referenceOf}
 use Rattle.kinds.specs.Kind.{kindOf}
 use Rattle.kinds.specs.declared.Kind.{Kind}
@@ -47,6 +48,10 @@ deciding (bad q) = true
 unfoldable pub thingsFrom : List ℕ → (ℕ → Row) → ℕ → ℕ → List (Told Thing)
 thingsFrom s row zero k = []
 thingsFrom s row (suc n) k = thingOf s (row k) ∷ thingsFrom s row n (suc k)
+
+-- the records of a table in lent memory of which n rows are told
+abbrev pub tableThings : List ℕ → List ℕ → ℕ → List (Told Thing)
+tableThings s rows n = thingsFrom s (rowNumbers rows) (tableRows rows n) 0
 
 -- the code's role of a kind
 abbrev pub roleAfter : Kind → RoleCode.Role

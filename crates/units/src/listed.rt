@@ -1,10 +1,9 @@
 // The units and the tolerance that a context lists.
 ghost use mathlib.Core.Path.{_≡_};
-ghost use Rattle.lookup.specs.Lookup.{rowFor};
 ghost use Rattle.statement.specs.Rows.{rowOf};
 ghost use Rattle.params.specs.Answer.{onward};
 ghost use Rattle.scalars.specs.Answer.{toldNextReal};
-ghost use Rattle.factors.specs.Thing.{goodBy, thingOf, findOf};
+ghost use Rattle.factors.specs.Thing.{goodBy, thingOf, tableFind};
 ghost use Rattle.factors.specs.Answer.{toldFactor};
 ghost use Rattle.units.specs.Answer.{defaults, withLength, withAngle, valuesIn, toldUnits, uncertainBy, uncertaintyBy};
 ghost use Rattle.units.specs.Units.{unitBy, unitsBy, toleranceBy, listedUnits, listedTolerance, contextOf};
@@ -114,7 +113,7 @@ fn with_angle(u: Values, f: Factor) -> Resolved
 
 // One unit of a list, by its id.
 fn one_unit(file: &[u8], rows: &[u32], slots: &[u64], t: Tables, u: Values, id: u32) -> Resolved
-    ensures { λ r. ⌜ toldUnits r ≡ unitBy (now (file .entry)) (findOf (now (file .entry)) (rowFor (now (rows .entry)) (now (slots .entry)) (t .ids))) (valuesIn u) id ⌝ }
+    ensures { λ r. ⌜ toldUnits r ≡ unitBy (now (file .entry)) (tableFind (now (file .entry)) (now (rows .entry)) (now (slots .entry)) (t .ids)) (valuesIn u) id ⌝ }
 {
     let Entry::Row(w) = lookup::get(rows, slots, t, id) else {
         return Resolved::Is(u);
@@ -131,7 +130,7 @@ fn one_unit(file: &[u8], rows: &[u32], slots: &[u64], t: Tables, u: Values, id: 
 // The units of the list whose inside is b.
 fn units_from(file: &[u8], rows: &[u32], slots: &[u64], t: Tables, b: &[u8]) -> Resolved
     requires { ⌜ ReadsAll (now b) ⌝ }
-    ensures { λ r. ⌜ toldUnits r ≡ unitsBy (now (file .entry)) (findOf (now (file .entry)) (rowFor (now (rows .entry)) (now (slots .entry)) (t .ids))) defaults (idsOf (now (b .entry))) ⌝ }
+    ensures { λ r. ⌜ toldUnits r ≡ unitsBy (now (file .entry)) (tableFind (now (file .entry)) (now (rows .entry)) (now (slots .entry)) (t .ids)) defaults (idsOf (now (b .entry))) ⌝ }
 {
     let mut u = assumed();
     let mut i: usize = 0;
@@ -157,7 +156,7 @@ fn units_from(file: &[u8], rows: &[u32], slots: &[u64], t: Tables, b: &[u8]) -> 
 
 // The units that a context lists.
 fn listed_units(file: &[u8], rows: &[u32], slots: &[u64], t: Tables, row: RecordSpan) -> Resolved
-    ensures { λ r. ⌜ toldUnits r ≡ onward (listedUnits (now (file .entry)) (findOf (now (file .entry)) (rowFor (now (rows .entry)) (now (slots .entry)) (t .ids)))) (thingOf (now (file .entry)) (rowOf row)) ⌝ }
+    ensures { λ r. ⌜ toldUnits r ≡ onward (listedUnits (now (file .entry)) (tableFind (now (file .entry)) (now (rows .entry)) (now (slots .entry)) (t .ids))) (thingOf (now (file .entry)) (rowOf row)) ⌝ }
 {
     match refs_in(
         file,
@@ -171,7 +170,7 @@ fn listed_units(file: &[u8], rows: &[u32], slots: &[u64], t: Tables, row: Record
 
 // One listed uncertainty: a simple UNCERTAINTY_MEASURE_WITH_UNIT that reads.
 fn one_uncertainty(file: &[u8], rows: &[u32], slots: &[u64], t: Tables, id: u32) -> Uncertain
-    ensures { λ r. ⌜ toldUncertain r ≡ uncertaintyBy (now (file .entry)) (findOf (now (file .entry)) (rowFor (now (rows .entry)) (now (slots .entry)) (t .ids))) id ⌝ }
+    ensures { λ r. ⌜ toldUncertain r ≡ uncertaintyBy (now (file .entry)) (tableFind (now (file .entry)) (now (rows .entry)) (now (slots .entry)) (t .ids)) id ⌝ }
 {
     let Entry::Row(w) = lookup::get(rows, slots, t, id) else {
         return Uncertain::Next;
@@ -209,7 +208,7 @@ fn uncertain_by(n: NextReal) -> Uncertain
 // The tolerance of the list whose inside is b.
 fn tolerance_from(file: &[u8], rows: &[u32], slots: &[u64], t: Tables, b: &[u8]) -> Tolerance
     requires { ⌜ ReadsAll (now b) ⌝ }
-    ensures { λ r. ⌜ toldTolerance r ≡ toleranceBy (now (file .entry)) (findOf (now (file .entry)) (rowFor (now (rows .entry)) (now (slots .entry)) (t .ids))) (idsOf (now (b .entry))) ⌝ }
+    ensures { λ r. ⌜ toldTolerance r ≡ toleranceBy (now (file .entry)) (tableFind (now (file .entry)) (now (rows .entry)) (now (slots .entry)) (t .ids)) (idsOf (now (b .entry))) ⌝ }
 {
     let mut i: usize = 0;
     loop {
@@ -240,7 +239,7 @@ fn listed_tolerance(
     t: Tables,
     row: RecordSpan,
 ) -> Tolerance
-    ensures { λ r. ⌜ toldTolerance r ≡ onward (listedTolerance (now (file .entry)) (findOf (now (file .entry)) (rowFor (now (rows .entry)) (now (slots .entry)) (t .ids)))) (thingOf (now (file .entry)) (rowOf row)) ⌝ }
+    ensures { λ r. ⌜ toldTolerance r ≡ onward (listedTolerance (now (file .entry)) (tableFind (now (file .entry)) (now (rows .entry)) (now (slots .entry)) (t .ids))) (thingOf (now (file .entry)) (rowOf row)) ⌝ }
 {
     match refs_in(
         file,
@@ -260,7 +259,7 @@ pub fn units_of_context(
     t: Tables,
     row: RecordSpan,
 ) -> Resolved
-    ensures { λ r. ⌜ toldUnits r ≡ onward (contextOf (now (file .entry)) (findOf (now (file .entry)) (rowFor (now (rows .entry)) (now (slots .entry)) (t .ids)))) (thingOf (now (file .entry)) (rowOf row)) ⌝ }
+    ensures { λ r. ⌜ toldUnits r ≡ onward (contextOf (now (file .entry)) (tableFind (now (file .entry)) (now (rows .entry)) (now (slots .entry)) (t .ids))) (thingOf (now (file .entry)) (rowOf row)) ⌝ }
 {
     match listed_units(file, rows, slots, t, row) {
         Resolved::Refused(f) => Resolved::Refused(f),
