@@ -23,7 +23,7 @@ pub data Encoded : ℕ → List ℕ → Type 0 where
   line-four : {c x y z w : ℕ} → In 65536 1114111 c → c ≡ x * 262144 + y * 4096 + z * 64 + w → x < 8 → y < 64 → z < 64 → w < 64
       → Encoded c ((240 + x) ∷ (128 + y) ∷ (128 + z) ∷ (128 + w) ∷ [])
 
--- `UTF8-tail = %x80-BF`
+-- section 4: `UTF8-tail = %x80-BF`
 abbrev pub Tail : ℕ → Type 0
 Tail b = In 128 191 b
 
@@ -48,7 +48,7 @@ pub data Sequence : List ℕ → Type 0 where
   -- `%xF4 %x80-8F 2( UTF8-tail )`
   utf8-4-f4 : {b c d : ℕ} → In 128 143 b → Tail c → Tail d → Sequence (244 ∷ b ∷ c ∷ d ∷ [])
 
--- `UTF8-octets = *( UTF8-char )`
+-- section 4: `UTF8-octets = *( UTF8-char )`
 pub data Valid : List ℕ → Type 0 where
   none : Valid []
   more : {bs r : List ℕ} → Sequence bs → Valid r → Valid (bs ++ r)
