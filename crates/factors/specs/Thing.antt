@@ -17,7 +17,7 @@ use Rattle.params.specs.Answer.{Span, span}
 use Rattle.parts.specs.Part.{partsOf}
 use Rattle.lookup.specs.Lookup.{cut, spanFine, kindIn}
 
--- an answer that is good, by f
+-- an answer that is good, changed by f; a refusal as it is
 abbrev pub goodBy : {A B : Type 0} → (A → B) → Told A → Told B
 goodBy f (good a) = good (f a)
 goodBy f (bad q) = bad q
@@ -65,7 +65,7 @@ thingFound s (some w) = goodBy some (thingOf s w)
 unfoldable pub findOf : List ℕ → (ℕ → Option Row) → ℕ → Told (Option Thing)
 findOf s row k = thingFound s (row k)
 
--- the first part of a kind
+-- the arguments of the first part of a kind, or none
 abbrev pub firstPiece : Kind → List Piece → Option Span
 firstPiece k [] = none
 firstPiece k (p ∷ ps) = pick (sameKind (p .kind) k) (some (p .run)) (firstPiece k ps)

@@ -63,8 +63,8 @@ abbrev pub under : ℕ → Bool → ℕ → ℕ
 under f false x = 10 ^ f
 under f true x = 10 ^ (x + f)
 
--- what a text answers as a real. #101: "answered with the nearest f64, ties to even", by its pattern, and "13 now means outside the wider class"; 01: "sign kept
--- at zero", "all else, `inf` and `nan` included, is 12"
+-- what a text answers as a real. #101: "answered with the nearest f64, ties to even", by its pattern, and "13 now means outside the wider class";
+-- 01: "sign kept at zero", "all else, `inf` and `nan` included, is 12"
 pub data RealForm : List ℕ → Answer ℕ → Type 0 where
   real : {t w f x : List ℕ} {s down : Bool} {b : ℕ} → Written t s w f down x → Classed longest farthest (valueOf (w ++ f)) (length f) down (valueOf x)
       → IsNearest (over (valueOf (w ++ f)) down (valueOf x)) (under (length f) down (valueOf x)) b → RealForm t (read (signed s b))
