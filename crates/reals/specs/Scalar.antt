@@ -134,7 +134,7 @@ ranged true n = pick (leb n (2 ^ 63)) (read (negℤ (pos n))) (refused 12)
 unfoldable pub wholeOf : List ℕ → Answer ℤ
 wholeOf t = pick (digitsOnly (unsigned t)) (ranged (minus t) (numberFrom 0 (unsigned t) .value)) (refused 12)
 
--- what the bytes after `#` answer: "digits up to 4294967295"
+-- what the bytes after `#` answer: "`#` and digits up to 4294967295"
 abbrev pub idOf : List ℕ → Answer ℕ
 idOf ds = pick (digitsOnly ds && leb (numberFrom 0 ds .value) 4294967295) (read (numberFrom 0 ds .value)) (refused 12)
 
