@@ -29,7 +29,7 @@ pub record Cut (num den w : ℕ) (more : Bool) (x : ℕ) : Type 0 where
   pub below : rest < den * 2 ^ unit
   pub left : more ≡ ltb 0 rest
 
--- b rounds off w as the head of a cut number: whatever number is cut to w, `more` and x, its nearest f64 has the pattern b with its sign
+-- whatever number is cut to w, `more` and x as `Cut` says, its nearest f64 has the pattern b with its sign
 abbrev pub RoundsTo : Bool → ℕ → Bool → ℕ → ℕ → Type 0
 RoundsTo s w more x b = (num den : ℕ) → Cut num den w more x → b ≡ signed s (near num den)
 

@@ -25,7 +25,7 @@ pub record Window (num den w : ℕ) (more : Bool) (y : ℕ) : Type 0 where
   pub below : rest < den * 2 ^ y
   pub left : more ≡ ltb 0 rest
 
--- b rounds off w as the head of a number: whatever number is seen as w, `more` and y, its nearest f64 has the pattern b with its sign
+-- whatever number is seen as w, `more` and y as `Window` says, its nearest f64 has the pattern b with its sign
 abbrev pub RoundsAs : Bool → ℕ → Bool → ℕ → ℕ → Type 0
 RoundsAs s w more y b = (num den : ℕ) → Window num den w more y → b ≡ signed s (near num den)
 

@@ -15,15 +15,15 @@ use Rattle.record.specs.Turns.{bounds}
 use Rattle.eights.specs.Fields.{Each, each-map, each-two, fieldsBy, same, and-fields, sum-fields, fields-same, same-fields, fields-ap, lowest, others}
 use Rattle.eights.specs.Eights.{joinedOf, eightOf, Says, Tells}
 
--- the upper half of each of eight bytes
+-- the mask of the upper half of each of eight bytes
 abbrev pub uppers : ℕ
 uppers = 0xf0f0_f0f0_f0f0_f0f0
 
--- 3 in each upper half
+-- eight bytes with 3 in each upper half, and 0 in each lower
 abbrev pub threes : ℕ
 threes = 0x3030_3030_3030_3030
 
--- 6 in each byte
+-- eight bytes that are 6 each
 abbrev pub sixes : ℕ
 sixes = 0x0606_0606_0606_0606
 

@@ -172,7 +172,7 @@ read-placed n (bad q) k h l = go (eqb (q .number) 13)
     go true = h
     go false = tt
 
--- an unreadable base refuses nothing, so what refuses it, read on, lies in the file
+-- what refuses a base that is read on lies in the file; an unreadable one refuses nothing
 base-placed : (n : ℕ) (x : Told ℕ) (k : ℕ → Told (Option ℕ)) → ((v : ℕ) → PlacedIn n (k v)) → PlacedIn n (orNone x k)
 base-placed n (good v) k l = l v
 base-placed n (bad q) k l = tt

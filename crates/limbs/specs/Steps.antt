@@ -35,7 +35,7 @@ drop-next xs ys i e =
 pub product-le : (x m : ℕ) → x < 4294967296 → m < 4294967296 → x * m ≤ 18446744065119617025
 product-le x m h k = let a : x ≤ 4294967295 = omega arith in let b : m ≤ 4294967295 = omega arith in mul-le-mul a b
 
--- after i digits: they are multiplied, those above are as they were, and c is carried
+-- a multiplication after i digits: these are multiplied, those above are as they were, and c is carried
 pub record Scaling (xs : List ℕ) (m a : ℕ) (ys : List ℕ) (c i : ℕ) : Type 0 where
   pub within : i ≤ length xs
   pub same : length ys ≡ length xs
@@ -123,7 +123,7 @@ brought r x = r * 4294967296 + x
 pub digit-lt : (x d r : ℕ) → x < 4294967296 → r < d → brought r x / d < 4294967296
 digit-lt x d r h k = div-lt-iff-lt-mul {k = d} {x = brought r x} {y = 4294967296} (omega arith) .1 (omega arith)
 
--- before digit i: it and those above are divided, those below are as they were, and r is left
+-- a division down to digit i: it and those above are divided, those below are as they were, and r is left
 pub record Dividing (xs : List ℕ) (d : ℕ) (ys : List ℕ) (r i : ℕ) : Type 0 where
   pub within : i ≤ length xs
   pub same : length ys ≡ length xs

@@ -149,7 +149,7 @@ head-leads x y c z h = omega arith
 pub head-short : (xs : List ℕ) (n d : ℕ) → Highest xs n → d ≡ worth (take n xs) → HeadOf (worth xs) (record { digits = d; limbs = 0; bits = 0; more = false })
 head-short xs n d h e = let m = h .same in record { rest = 0; whole = omega arith; under = omega arith; left = refl; leads = inl (refl, refl) }
 
--- of three digits or more
+-- the head of a number of three digits or more
 module _ (xs : List ℕ) (n : ℕ) (each : Digits xs) (high : Highest xs n) (more : 3 ≤ n) where
   -- the highest digit is not 0
   pub high-pos : 0 < getD xs (n - 1) 0

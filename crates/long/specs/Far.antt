@@ -11,7 +11,7 @@ use Rattle.nearest.specs.Near.{near}
 use Rattle.nearest.specs.Borders.{near-zero, near-infinity}
 use Rattle.nearest.specs.PowerLaws.{ten-pos}
 
--- where one of two tests or both pass is false, each of them fails
+-- two tests of which none passes fail each
 pub neither : (a b : Bool) → (a || b) ≡ false → (a ≡ false) × (b ≡ false)
 neither false b e = (refl, e)
 neither true b e = absurd (never e)

@@ -7,7 +7,7 @@ use Rattle.nearest.specs.Units.{infinity, unitsOf}
 use Rattle.nearest.specs.Near.{near, nearUnits}
 use Rattle.nearest.specs.Product.{product, quotient, quiet, worthOf}
 
--- the pattern of 1
+-- the f64 nearest to 1 is 1, whose exponent field is 1023
 one : near 1 1 ≡ 0x3ff0_0000_0000_0000
 unfolding near nearUnits size
 one = refl

@@ -34,15 +34,15 @@ no-and true = refl
 no-and false = refl
 
 module _ (s : Bool) (m f x M X : ℕ) (a : m ≡ min most M) (b : x ≡ min largest X) where
-  -- m has too many digits: 13
+  -- a real whose m has too many digits is 13
   pub out-long : (d : Bool) → most ≤ m → refused 13 ≡ classOf (parsed s M f d X)
   out-long d h = let l : most ≤ M = omega arith in rw (le-ltb M most l) refl
 
-  -- the exponent is out of reach: 13
+  -- a real whose exponent is out of reach is 13
   out-far : (d : Bool) → reaches farthest f d X ≡ false → refused 13 ≡ classOf (parsed s M f d X)
   out-far d e = rw (e, no-and (ltb M most)) refl
 
-  -- m has few enough digits and the exponent is in reach: the nearest f64
+  -- a real whose m has few enough digits and whose exponent is in reach is the nearest f64
   inside : (d : Bool) (p : ℕ) → m < most → reaches farthest f d X ≡ true → p ≡ signed s (nearTen M f d X) → read p ≡ classOf (parsed s M f d X)
   inside d p h e q = let l : M < most = omega arith in rw (lt-ltb M most l, e) (ap read q)
 

@@ -81,7 +81,7 @@ sixteen-before : realBefore (bytes "1234567890123456.") ≡ refused 13
 unfolding parseOf numberFrom walk
 sixteen-before = refl
 
--- sixteen digits are read now
+-- a real of sixteen digits, 13 by the old class, is read now
 sixteen : realOf (bytes "1234567890123456.") ≡ read 0x4311_8b54_f22a_eb00
 unfolding realOf parseOf numberFrom walk near nearUnits size
 sixteen = refl

@@ -34,7 +34,7 @@ pub record Reading (t : List ℕ) (at from cap value i : ℕ) : Type 0 where
   pub held : value ≤ cap
   pub so-far : (n : ℕ) → (k : ℕ) × (numberFrom k (drop i t) ≡ numberFrom n (drop at t)) × (from ≡ min cap n → value ≡ min cap k)
 
--- a digit more behind a number that is held up to the cap: it makes no odds that it was held
+-- a number with one digit more is held up to the cap the same, whether it was held before that or not
 one-more : (cap v k d : ℕ) → v ≡ min cap k → min cap (v * 10 + d) ≡ min cap (k * 10 + d)
 one-more cap v k d e = omega arith
 
@@ -79,7 +79,7 @@ module _ (t : List ℕ) (at from cap : ℕ) where
       made value i (λ k. walk-ends digitTurn (λ m. digits m []) k t i l ∙ ap (digits k) (sym (drop-end t i l))) r
 
 -- ---- some digits at once
--- these bytes stand in the text from the place on
+-- a text has these bytes from a place on
 abbrev pub Stands : List ℕ → ℕ → List ℕ → Type 0
 Stands t at [] = Unit {0}
 Stands t at (b ∷ bs) = (getD t at 0 ≡ b) × Stands t (at + 1) bs
@@ -96,7 +96,7 @@ pub record DigitsAt (t : List ℕ) (at n v : ℕ) : Type 0 where
 there : (t : List ℕ) {p q : ℕ} → p ≡ q → getD t p 0 ≡ getD t q 0
 there t e = ap (λ (n : ℕ). getD t n 0) e
 
--- four bytes from the place
+-- the four bytes of a text from a place on
 abbrev pub fourFrom : List ℕ → ℕ → List ℕ
 fourFrom t i = getD t i 0 ∷ getD t (i + 1) 0 ∷ getD t (i + 2) 0 ∷ getD t (i + 3) 0 ∷ []
 
@@ -114,7 +114,7 @@ four-at t i v a e = record {
     by-places : (a b c d : ℕ) → a * 1000 + b * 100 + c * 10 + d ≡ a * 10 ^ 3 + (b * 10 ^ 2 + (c * 10 ^ 1 + (d * 10 ^ 0 + 0)))
     by-places a b c d = omega arith
 
--- eight bytes from the place
+-- the eight bytes of a text from a place on
 abbrev pub eightFrom : List ℕ → ℕ → List ℕ
 eightFrom t i = getD t i 0 ∷ getD t (i + 1) 0 ∷ getD t (i + 2) 0 ∷ getD t (i + 3) 0 ∷ getD t (i + 4) 0 ∷ getD t (i + 5) 0 ∷ getD t (i + 6) 0 ∷ getD t (i + 7) 0 ∷ []
 
@@ -155,7 +155,7 @@ value-lt (b ∷ bs) a =
 pub digits-lt : (t : List ℕ) (at n v : ℕ) → DigitsAt t at n v → v < 10 ^ n
 digits-lt t at n v d = subst (λ (x : ℕ). x < 10 ^ n) (sym (d .makes)) (subst (λ (k : ℕ). valueOf (d .bytes) < 10 ^ k) (d .many) (value-lt (d .bytes) (d .all)))
 
--- a number moved up and added to is held the same, whether it was held up to the cap before that or not
+-- a number moved up and added to is held up to the cap the same, whether it was held before that or not
 capped : (cap x p v : ℕ) → 0 < p → min cap (min cap x * p + v) ≡ min cap (x * p + v)
 capped cap x p v h = go (decLe x cap)
   where
@@ -255,7 +255,7 @@ module _ (t : List ℕ) (at from cap : ℕ) where
 
 -- ---- one byte of the text, or its end
 module _ (t : List ℕ) (i : ℕ) where
-  -- the byte tells whether the sign is `-`
+  -- the byte at the place tells whether the sign is `-`
   pub minus-here : i < length t → eqb (getD t i 0) 45 ≡ minus (drop i t)
   minus-here h = rw (split t i h) refl
 
@@ -263,7 +263,7 @@ module _ (t : List ℕ) (i : ℕ) where
   pub minus-none : length t ≤ i → false ≡ minus (drop i t)
   minus-none h = rw (drop-end t i h) refl
 
-  -- a sign is passed over
+  -- a sign that stands at the place is passed over
   pub sign-passed : i < length t → eqb (getD t i 0) 43 || eqb (getD t i 0) 45 ≡ true → drop (i + 1) t ≡ unsigned (drop i t)
   sign-passed h e = rw (split t i h, e) refl
 

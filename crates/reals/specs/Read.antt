@@ -74,11 +74,11 @@ module _ (t : List ℕ) (a : ℕ) (here : drop a t ≡ unsigned t) (within : a �
       ∙ ap (λ (f : ℕ). pick (eqb (w .next) a && eqb f 0) unparsed (joined (minus t) M (exponentOf (M .rest)))) places
       ∙ ap (λ (l : List ℕ). pick (eqb (w .next) a && eqb (d .places) 0) unparsed (joined (minus t) M (exponentOf l))) after
 
-  -- no digit before or after the point: 12
+  -- a text without a digit before or after the point is 12
   pub no-digit : (which : Reals) → eqb (w .next) a && eqb (d .places) 0 ≡ true → refused 12 ≡ realBy which t
   no-digit which e = sym (unparsed-by which t (parsed-at ∙ rw e refl))
 
-  -- a malformed exponent: 12
+  -- a text with a malformed exponent is 12
   pub bad-tens : (which : Reals) → eqb (w .next) a && eqb (d .places) 0 ≡ false → TensAt (drop (d .next) t) Malformed → refused 12 ≡ realBy which t
   bad-tens which e f = sym (unparsed-by which t (parsed-at ∙ rw (e, f) refl))
 

@@ -168,7 +168,7 @@ data Weighs (s : List ℕ) (p : Text.Piece) : Type 0 where
   light : width (p .chars) ≤ p .used + p .used → Weighs s p
   heavy : (a d k : ℕ) (t : List ℕ) → s ≡ a ∷ 88 ∷ d ∷ 92 ∷ t → special d ≡ false → Digits k t → p .used ≡ 1 → width (p .chars) ≤ k + 2 → Weighs s p
 
--- of two pieces that a test picks from, each weighs no more than is told, so the one picked does
+-- of two pieces that a test picks from, each weighs no more than `Weighs` allows, so the one picked does
 pick-weighs : (s : List ℕ) (t : Bool) (p q : Text.Piece) → (t ≡ true → Weighs s p) → (t ≡ false → Weighs s q) → Weighs s (pick t p q)
 pick-weighs s true p q f g = f refl
 pick-weighs s false p q f g = g refl
@@ -181,7 +181,7 @@ one-weighs s c k h = light (omega (arith, width-four c))
 byte-weighs : (s : List ℕ) (c : ℕ) → c < 256 → Weighs s (Text.gives (c ∷ []) 1)
 byte-weighs s c h = light (omega (arith, width-two c h))
 
--- the piece of a directive with groups weighs no more than is told
+-- the piece of a directive with groups weighs no more than `Weighs` allows
 extended-weighs : (w d : ℕ) (s : List ℕ) → d < 256 → special d ≡ false → Text.is s 1 88 && (Text.is s 2 d && Text.is s 3 92) ≡ true → Weighs s (Text.extended (Text.groupsFrom w 0 (drop 4 s)))
 extended-weighs w d s h n e = shape s (is-within s 3 92 (omega arith) (y .1)) (eqb-true (byteAt s 1) 88 (x .0)) (eqb-true (byteAt s 2) d (y .0)) (eqb-true (byteAt s 3) 92 (y .1))
   where
@@ -202,11 +202,11 @@ extended-weighs w d s h n e = shape s (is-within s 3 92 (omega arith) (y .1)) (e
     shape (a ∷ b ∷ c ∷ []) l p q r = absurd (omega arith)
     shape (a ∷ b ∷ c ∷ z ∷ t) l p q r = go a (a ∷ b ∷ c ∷ z ∷ t) t (Text.groupsFrom w 0 t) (rw (p, q, r) refl) (groups-told w 0 t)
 
--- the piece of a directive with groups, or of an unknown one, weighs no more than is told
+-- the piece of a directive with groups, or of an unknown one, weighs no more than `Weighs` allows
 long-weighs : (s : List ℕ) → Weighs s (Text.longOf s)
 long-weighs s = pick-weighs s (Text.is s 1 88 && (Text.is s 2 50 && Text.is s 3 92)) _ _ (λ e. extended-weighs 4 50 s (omega arith) refl e) (λ n. pick-weighs s (Text.is s 1 88 && (Text.is s 2 52 && Text.is s 3 92)) _ _ (λ e. extended-weighs 8 52 s (omega arith) refl e) (λ m. byte-weighs s 92 (omega arith)))
 
--- the piece of every directive weighs no more than is told
+-- the piece of every directive weighs no more than `Weighs` allows
 directive-weighs : (g : ℕ) (s : List ℕ) → Weighs s (Text.directiveOf g s)
 unfolding Text.directiveOf
 directive-weighs g s =
@@ -217,7 +217,7 @@ directive-weighs g s =
     pick-weighs s (Text.is s 1 83 && (Text.is s 2 92 && leb 4 (length s))) _ _ (λ e. one-weighs s (codeOf g (byteAt s 3 + 128)) 4 (omega arith)) (λ n5.
     pick-weighs s (Text.is s 1 88 && (Text.is s 2 92 && Text.twoAt s 3)) _ _ (λ e. one-weighs s (Text.twoOf s 3) 5 (omega arith)) (λ n6. long-weighs s))))))
 
--- every piece of a list of bytes weighs no more than is told
+-- every piece of a list of bytes weighs no more than `Weighs` allows
 piece-weighs : (g : ℕ) (s : List ℕ) → byteAt s 0 < 256 → Weighs s (Text.pieceOf g s)
 unfolding Text.pieceOf
 piece-weighs g s h =
@@ -261,7 +261,7 @@ width-again g d k t n h m = omega (arith, width-plain g 2 (88 ∷ d ∷ 92 ∷ t
 drop-three : (k d : ℕ) (t : List ℕ) → drop (4 + k) (88 ∷ d ∷ 92 ∷ t) ≡ drop (suc k) t
 drop-three k d t = let e : 4 + k ≡ suc (suc (suc (suc k))) = omega arith in rw e refl
 
--- a piece that weighs no more than is told, and the text of what follows it on a page
+-- a piece that weighs no more than `Weighs` allows, and the text of what follows it on a page
 module _ (b : ℕ) (r : List ℕ) (g : ℕ) (ih : (n : ℕ) → width (Text.textFrom g n r) ≤ (length r - n) + (length r - n)) where
   -- a piece of at most two bytes for each byte read, with the text after it, has at most twice the string's bytes
   light-ample : (p : Text.Piece) → width (p .chars) ≤ p .used + p .used → (0 < p .used) × (p .used ≤ length (b ∷ r)) → width (p .chars) + width (Text.textFrom g (p .used - 1) r) ≤ (length (b ∷ r) - 0) + (length (b ∷ r) - 0)

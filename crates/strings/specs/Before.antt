@@ -20,7 +20,7 @@ use Rattle.strings.specs.RulesRight.{page-bytes, piece-is, piece-only, r
 -- a string's bytes and its characters by document 01 alone: each piece is read on page A, whatever page a `\P?\` before it named. A piece that is
 -- no `\S\` is the same on every page (page-blind)
 pub data Forgetful : List ℕ → List ℕ → Type 0 where
-  -- no bytes, no characters
+  -- a string without bytes has no characters
   none : Forgetful [] []
   -- a piece, and the text of the bytes after it
   more : {h k : ℕ} {s cs ds : List ℕ} → Rules.Reads pageA s cs k h → Forgetful (drop k s) ds → Forgetful s (cs ++ ds)

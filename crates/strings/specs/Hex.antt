@@ -31,7 +31,7 @@ neither false b e = (refl, e)
 pub byte-past : (s : List ℕ) (k : ℕ) → length s ≤ k → 256 ≡ byteAt s k
 byte-past s k h = sym (List·getD-eq-default s 256 h)
 
--- what a hex digit is
+-- a hex digit by its range: `0` to `9`, `A` to `F` or `a` to `f`
 pub data Digit (b : ℕ) : Type 0 where
   decimal : 48 ≤ b → b ≤ 57 → Digit b
   capital : 65 ≤ b → b ≤ 70 → Digit b

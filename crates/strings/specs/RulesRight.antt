@@ -182,12 +182,12 @@ good-only {s = s} (Rules.eight {n = n} {m = m} f g h) =
     let (t, e) = second-only s m g in
     rw (p, q, t, e, shown-only h) refl
 
--- a group as computed is told: a good one of this character and these bytes, or none
+-- what a group as computed is by the rules: a good one of its character and its bytes, or nothing is said
 abbrev Told : ℕ → List ℕ → Text.Group → Type 0
 Told w s (Text.char c k) = Rules.GoodGroup w s c k
 Told w s Text.wrong = Unit {0}
 
--- a group of four digits as computed is told
+-- a group of four digits as computed is as `Told` says
 two-told : (s : List ℕ) → Told 4 s (Text.groupTwo s)
 unfolding Text.groupTwo
 two-told s = go (Text.fourAt s 0) refl
@@ -220,7 +220,7 @@ two-told s = go (Text.fourAt s 0) refl
     go true p = first (Text.high (Text.fourOf s 0)) refl p
     go false p = tt
 
--- a group of eight digits as computed is told
+-- a group of eight digits as computed is as `Told` says
 four-told : (s : List ℕ) → Told 8 s (Text.groupFour s)
 unfolding Text.groupFour
 four-told s = go (Text.fourAt s 0 && Text.fourAt s 4) refl
@@ -231,7 +231,7 @@ four-told s = go (Text.fourAt s 0 && Text.fourAt s 4) refl
         Rules.eight (four-is s p) (second-is s q) (shown-is (Text.fourOf s 0 * 65536 + Text.fourOf s 4))
     go false e = tt
 
--- a group as computed is told, of four digits or of eight
+-- a group as computed, of four digits or of eight, is as `Told` says
 told : {d w : ℕ} (s : List ℕ) → Rules.Named d w → Told w s (Text.groupOf w s)
 told s Rules.two = two-told s
 told s Rules.four = four-told s
@@ -369,12 +369,12 @@ broken-only {w = w} {s = s} n (Rules.good {cs = cs} {c = c} {k = k} g t) =
     let (l, b, p, q) = good-starts g in
     groups-char w s c k (omega arith) (group-starts w s l b) (good-only g) q ∙ ap (Text.withChar c k) (broken-only n t)
 
--- the groups as computed are told: to their end, or up to a bad one
+-- what the groups as computed are by the rules: groups to their end, or groups up to a bad one
 abbrev Run : ℕ → List ℕ → Text.Groups → Type 0
 Run w s (Text.ended cs n) = Rules.Groups w s cs n
 Run w s (Text.broken cs) = Rules.Broken w s cs
 
--- one group more in front of groups as computed: they are told too
+-- one group more in front of groups that are as `Run` says: so are all of them
 run-next : (w : ℕ) (s : List ℕ) (c k : ℕ) (g : Text.Groups) → Rules.GoodGroup w s c k → Run w (drop k s) g → Run w s (Text.withChar c k g)
 run-next w s c k (Text.ended cs n) h t = Rules.next h t
 run-next w s c k (Text.broken cs) h t = Rules.good h t
@@ -408,7 +408,7 @@ run-stop w b r e = go (eqb b 92) refl
         let f : 0 ≡ Text.closing (b ∷ r) = rw p refl in
         subst (Rules.Groups w (b ∷ r) []) f (Rules.cut (eqb-false b 92 p) (ltb-true (length (b ∷ r)) w (short (ltb (length (b ∷ r)) w) (eqb b 92) e p)))
 
--- the groups as computed are told where those of shorter lists are
+-- the groups as computed are as `Run` says, where those of shorter lists are
 run-step : {d w : ℕ} (s : List ℕ) → Rules.Named d w → ((t : List ℕ) → length t < length s → Run w t (Text.groupsFrom w 0 t)) → Run w s (Text.groupsFrom w 0 s)
 run-step {w = w} [] n ih = subst (Run w []) (sym (groups-none w)) Rules.at-end
 run-step {w = w} (b ∷ r) n ih = go (ends w (b ∷ r)) refl
@@ -432,7 +432,7 @@ run-step {w = w} (b ∷ r) n ih = go (ends w (b ∷ r)) refl
     go true e = subst (Run w (b ∷ r)) (sym (groups-stop w (b ∷ r) (omega arith) e)) (run-stop w b r e)
     go false e = group (Text.groupOf w (b ∷ r)) refl e
 
--- the groups of a directive as computed are told
+-- the groups of a directive as computed are as `Run` says
 run-is : {d w : ℕ} (s : List ℕ) → Rules.Named d w → Run w s (Text.groupsFrom w 0 s)
 run-is {d} {w} s n = go (length s) s (omega arith)
   where
@@ -505,7 +505,7 @@ module _ (g : ℕ) (s : List ℕ) (o : Text.is s 0 92 ≡ true) where
   backslash-is : Text.is s 1 92 ≡ true → Directs g s (Text.gives (92 ∷ []) 2) g
   backslash-is e = subst (λ (z : List ℕ). Directs g z (Text.gives (92 ∷ []) 2) g) (sym (here-two s 92 92 (omega arith) (omega arith) o e)) Rules.backslash
 
-  -- where the test for a letter and a backslash passes, these are the list's first bytes
+  -- where the test for a letter and a backslash passes, the list begins with `\`, that letter and `\`
   letter : (a : ℕ) → a < 256 → Text.is s 1 a && Text.is s 2 92 ≡ true → s ≡ 92 ∷ a ∷ 92 ∷ drop 3 s
   letter a h e =
       let (p, q) = both (Text.is s 1 a) (Text.is s 2 92) e in
@@ -519,7 +519,7 @@ module _ (g : ℕ) (s : List ℕ) (o : Text.is s 0 92 ≡ true) where
   tab-is : Text.is s 1 84 && Text.is s 2 92 ≡ true → Directs g s (Text.gives (9 ∷ []) 3) g
   tab-is e = subst (λ (z : List ℕ). Directs g z (Text.gives (9 ∷ []) 3) g) (sym (letter 84 (omega arith) e)) Rules.tab
 
-  -- where the test for `\P?\` passes, these are the list's first bytes
+  -- where the test for `\P?\` passes, the list begins with these four bytes
   pub page-bytes : Text.is s 1 80 && Text.is s 3 92 ≡ true → s ≡ 92 ∷ 80 ∷ byteAt s 2 ∷ 92 ∷ drop 4 s
   page-bytes e =
       let (p, q) = both (Text.is s 1 80) (Text.is s 3 92) e in

@@ -71,7 +71,7 @@ module _ (g : ℕ) (s : List ℕ) (x y z : ℕ) (ex : x ≡ byteAt s 1) (ey : y 
       module _ (n3 : eqb x 84 && eqb y 92 ≡ false) where
         module _ (n4 : Text.is s 1 80 && Text.is s 3 92 ≡ false) (n5 : eqb x 83 && (eqb y 92 && leb 4 (length s)) ≡ false) where
           module _ (v : ℕ) (ev : v ≡ pick (Text.twoAt s 3) (Text.twoOf s 3) 256) (h : eqb x 88 && eqb y 92 ≡ true) where
-            -- `X` and a backslash, as the code tests them
+            -- where the code's test for `X` and a backslash passes, both stand there
             octet : (Text.is s 1 88 ≡ true) × (Text.is s 2 92 ≡ true)
             octet = both (Text.is s 1 88) (Text.is s 2 92) (slashed 88 true h)
 

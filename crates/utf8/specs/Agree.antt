@@ -278,7 +278,7 @@ sequence-table (utf8-4-f1 {a = a} {b = b} {c = d} {d = e} (l, h) s t u) =
     (_, four-bytes a b d e (omega arith, omega arith) (free a b (λ q. omega arith) (λ q. omega arith) (λ q. omega arith) (λ q. omega arith) s) t u)
 sequence-table (utf8-4-f4 {b = b} {c = d} {d = e} (l, h) t u) = (_, four-bytes 244 b d e (omega arith, omega arith) (second-only 244 b (in-is 128 b 143 l h)) t u)
 
--- three bytes of these ranges are one of the four alternatives of UTF8-3
+-- three bytes in section 4's ranges are one of the four alternatives of UTF8-3
 three-sequence : (a b d : ℕ) → In 224 239 a → Second a b → Tail d → Sequence (a ∷ b ∷ d ∷ [])
 three-sequence a b d (l, h) s t = go (ℕ-discrete a 224) (ℕ-discrete a 237) (decLt a 237)
   where
@@ -288,7 +288,7 @@ three-sequence a b d (l, h) s t = go (ℕ-discrete a 224) (ℕ-discrete a 237) (
     go (no n) (no m) (yes k) = utf8-3-e1 {a = a} (omega arith, omega arith) (s .is-tail) t
     go (no n) (no m) (no k) = utf8-3-ee {a = a} (omega arith, h) (s .is-tail) t
 
--- four bytes of these ranges are one of the three alternatives of UTF8-4
+-- four bytes in section 4's ranges are one of the three alternatives of UTF8-4
 four-sequence : (a b d e : ℕ) → In 240 244 a → Second a b → Tail d → Tail e → Sequence (a ∷ b ∷ d ∷ e ∷ [])
 four-sequence a b d e (l, h) s t u = go (ℕ-discrete a 240) (ℕ-discrete a 244)
   where
