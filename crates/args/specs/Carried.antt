@@ -15,7 +15,7 @@ use Rattle.args.specs.declared.Opening.{Opening}
 abbrev pub over : {A : Type 0} → (List ℕ → ℕ → ℕ → A) → Args → A
 over f w = f (now (w .file)) (w .at .place) (w .at .end)
 
--- what a relation of the by-value core says of them
+-- what a relation of the by-value core says of the file, the place and the end that the reader carries
 abbrev pub Says : (List ℕ → ℕ → ℕ → Type 0) → Args → Type 0
 Says P w = P (now (w .file)) (w .at .place) (w .at .end)
 
@@ -31,10 +31,10 @@ Opens file p e r = (toldOpened (r .opened) ≡ openedOf (now file) p e) × (r .a
 abbrev pub Forwards : {A : Type 0} → (List ℕ → ℕ → ℕ → Read A) → Args → Args → Read A → Type 0
 Forwards f w z a = (a ≡ over f w) × (z ≡ standing w a)
 
--- the same of a reader that writes to lent room: the room then holds what the core leaves in it
+-- a reader that writes to lent room forwards to the core, and the room then holds what the core leaves in it
 abbrev pub Fills : {A C : Type 0} → (ℕ → List ℕ → ℕ → ℕ → Read A) → (List C → List C → List ℕ → ℕ → ℕ → Type 0) → Args → Args → List C → List C → Read A → Type 0
 Fills f left w z xs ys a = Forwards (f (length xs)) w z a × Says (left xs ys) w
 
--- the same of a reader that writes to two
+-- a reader that writes to two lent rooms forwards to the core, and both then hold what the core leaves in them
 abbrev pub FillsBoth : {A C : Type 0} → (ℕ → ℕ → List ℕ → ℕ → ℕ → Read A) → (List C → List ℕ → List C → List ℕ → ℕ → ℕ → Type 0) → (List C → List ℕ → List ℕ → List ℕ → ℕ → ℕ → Type 0) → Args → Args → List C → List C → List ℕ → List ℕ → Read A → Type 0
 FillsBoth f left ends w z xs ys es ds a = Forwards (f (length xs) (length es)) w z a × (Says (left xs es ys) w × Says (ends xs es ds) w)

@@ -26,34 +26,34 @@ nextName s p e = mapped (nameAt s) (paramOf s p e)
 abbrev pub nextText : ℕ → List ℕ → ℕ → ℕ → Read Shown
 nextText n s p e = mapped (stringAt s n) (paramOf s p e)
 
--- the text room after it; "lent rows and output keep their bytes, as does all room beyond an answer"
+-- the text room after `next_str`; "lent rows and output keep their bytes, as does all room beyond an answer"
 abbrev pub textRoom : List ℕ → List ℕ → List ℕ → ℕ → ℕ → Type 0
 textRoom xs ys s p e = ys ≡ roomOf s xs (paramOf s p e .answer)
 
--- "A list is `(`..`)`", whose items are read by g: how many there are
+-- the next parameter as a list: "A list is `(`..`)`", whose items are read by g: how many there are
 abbrev pub nextList : {A : Type 0} → (List ℕ → Answer A) → ℕ → List ℕ → ℕ → ℕ → Read ℕ
 nextList g n s p e = howMany (nextBy (listOf g) (fitsIn n) s p e)
 
--- the room of a list of numbers after it
+-- the room of a list of numbers after the list is read
 abbrev pub listRoom : {A : Type 0} → (List ℕ → Answer A) → List A → List A → List ℕ → ℕ → ℕ → Type 0
 listRoom g xs ys s p e = ys ≡ written (nextBy (listOf g) (fitsIn (length xs)) s p e .answer) xs
 
--- the room of a list of reals after it, by their bits
+-- the room of a list of reals after the list is read, by their bits
 abbrev pub realRoom : List Float → List Float → List ℕ → ℕ → ℕ → Type 0
 realRoom xs ys s p e = map (toBits binary64) ys ≡ written (nextBy (listOf realOf) (fitsIn (length xs)) s p e .answer) (map (toBits binary64) xs)
 
--- "Grids go to a lent list of numbers and one of row ends", whose items are read by g: how many numbers and rows there are
+-- the next parameter as a grid: "Grids go to a lent list of numbers and one of row ends", whose items are read by g: how many numbers and rows
 abbrev pub nextGrid : {A : Type 0} → (List ℕ → Answer A) → ℕ → ℕ → List ℕ → ℕ → ℕ → Read Size
 nextGrid g n k s p e = howLarge (nextBy (gridOf g) (gridFits n k) s p e)
 
--- the room of a grid's numbers after it, which is by what both rooms had
+-- the room of a grid's numbers after the grid is read, which is by what both rooms had
 abbrev pub gridRoom : {A : Type 0} → (List ℕ → Answer A) → List A → List ℕ → List A → List ℕ → ℕ → ℕ → Type 0
 gridRoom g xs es ys s p e = ys ≡ written (numbersOf (nextBy (gridOf g) (gridFits (length xs) (length es)) s p e .answer)) xs
 
--- the room of a grid's reals after it, by their bits
+-- the room of a grid's reals after the grid is read, by their bits
 abbrev pub realGridRoom : List Float → List ℕ → List Float → List ℕ → ℕ → ℕ → Type 0
 realGridRoom xs es ys s p e = map (toBits binary64) ys ≡ written (numbersOf (nextBy (gridOf realOf) (gridFits (length xs) (length es)) s p e .answer)) (map (toBits binary64) xs)
 
--- the room of a grid's row ends after it: "numbers so far"
+-- the room of a grid's row ends after the grid is read: "numbers so far"
 abbrev pub endsRoom : {A C : Type 0} → (List ℕ → Answer A) → List C → List ℕ → List ℕ → List ℕ → ℕ → ℕ → Type 0
 endsRoom g xs es ys s p e = ys ≡ written (endsOf (nextBy (gridOf g) (gridFits (length xs) (length es)) s p e .answer)) es

@@ -12,13 +12,13 @@ use Rattle.args.specs.declared.Args.{Args}
 use Rattle.args.specs.declared.Opening.{Opening}
 use Rattle.args.specs.Carried.{over, standing, Opens, Forwards}
 
--- a reader answers one thing, and stands at one place
+-- two answers that forwarding allows are the same, and so is the reader after them
 pub forwards-only : {A : Type 0} (f : List ℕ → ℕ → ℕ → Read A) (w z y : Args) (a b : Read A) → Forwards f w z a → Forwards f w y b → (a ≡ b) × (z ≡ y)
 forwards-only f w z y a b g h =
     let e : a ≡ b = g .0 ∙ sym (h .0) in
     (e, g .1 ∙ ap (standing w) e ∙ sym (h .1))
 
--- what opening tells is one thing, and the reader is one
+-- two openings of a reader that are allowed tell the same, and so is the reader
 pub opens-only : (file : RefT (List ℕ)) (p e : ℕ) (r q : Opening) → Opens file p e r → Opens file p e q → (toldOpened (r .opened) ≡ toldOpened (q .opened)) × (r .args ≡ q .args)
 opens-only file p e r q g h =
     let same : toldOpened (r .opened) ≡ toldOpened (q .opened) = g .0 ∙ sym (h .0) in

@@ -14,14 +14,14 @@ use Rattle.nearest.specs.Units.{infinity}
 up-to : (b : ℕ) → b % 2 ^ 63 ≤ infinity → T (not (nanBits binary64 b))
 up-to b h = rw (nanBits-above binary64 b, le-ltb infinity (b % 2 ^ 63) h) tt
 
--- so without a sign
+-- a pattern up to infinity's, without a sign, is no NaN's
 pub no-nan : (b : ℕ) → b ≤ infinity → T (not (nanBits binary64 b))
 no-nan b h = up-to b (omega arith)
 
--- and with it
+-- a pattern up to infinity's, with the negative sign, is no NaN's
 pub no-nan-minus : (b : ℕ) → b ≤ infinity → T (not (nanBits binary64 (2 ^ 63 + b)))
 no-nan-minus b h = up-to (2 ^ 63 + b) (omega arith)
 
--- so it is the pattern of what is made of it
+-- a pattern that is no NaN's is the pattern of the f64 that is made of it
 pub bits-back : (b : ℕ) → b < 2 ^ 64 → T (not (nanBits binary64 b)) → toBits binary64 (ofBits binary64 b) ≡ b
 bits-back b h k = toBits-ofBits binary64 b h (subst (λ (t : Bool). T (not t)) (nanBits-is binary64 b) k)

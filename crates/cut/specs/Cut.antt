@@ -29,7 +29,7 @@ pub record Cut (num den w : ℕ) (more : Bool) (x : ℕ) : Type 0 where
   pub below : rest < den * 2 ^ unit
   pub left : more ≡ ltb 0 rest
 
--- whatever number is cut so, its nearest f64 has the pattern b with its sign
+-- whatever number is cut to w, `more` and x as `Cut` says, its nearest f64 has the pattern b with its sign
 abbrev pub RoundsTo : Bool → ℕ → Bool → ℕ → ℕ → Type 0
 RoundsTo s w more x b = (num den : ℕ) → Cut num den w more x → b ≡ signed s (near num den)
 
@@ -43,7 +43,7 @@ pub record Within (num den w x : ℕ) : Type 0 where
   pub from : w * (den * 2 ^ unit) ≤ num * 2 ^ up
   pub to : num * 2 ^ up < (w + 2) * (den * 2 ^ unit)
 
--- what is dropped, `low` of `unit`, is on one side of half a unit, and two more would not bring it to the other
+-- rounding is sure: what is dropped, `low` of `unit`, is on one side of half a unit, and two more would not bring it to the other
 abbrev pub sure : ℕ → ℕ → Bool
 sure low unit = leb ((low + 2) * 2) unit || ltb unit (low * 2)
 
@@ -51,7 +51,7 @@ sure low unit = leb ((low + 2) * 2) unit || ltb unit (low * 2)
 abbrev pub beyond : ℕ → ℕ
 beyond w = 11 - leadingZeros 64 w
 
--- where w's own digits leave no doubt: whatever number lies so near above it, its nearest f64 has the pattern b with its sign
+-- where w's own digits leave no doubt: any number within two units above w, at x, has a nearest f64 of the pattern b with its sign
 abbrev pub RoundsNear : Bool → ℕ → ℕ → ℕ → Type 0
 RoundsNear s w x b = sure (w % 2 ^ beyond w) (2 ^ beyond w) ≡ true → (num den : ℕ) → Within num den w x → b ≡ signed s (near num den)
 
@@ -90,21 +90,21 @@ order Ordering·gt u low half rest more up b l h =
     over a c d e g = omega arith
 
 module _ (num den w : ℕ) (more : Bool) (x : ℕ) (c : Cut num den w more x) (drop half q low : ℕ) (double : 2 ^ drop ≡ half * 2) (split : q * 2 ^ drop + low ≡ w) (within : low < 2 ^ drop) where
-  -- one unit, multiplied out
+  -- one unit of a cut number, multiplied out
   u : ℕ
   u = den * 2 ^ c .unit
 
-  -- a unit is positive
+  -- the unit of a cut number is positive
   u-pos : 0 < u
   unfolding u
   u-pos = mul-pos (c .divisor) (pow-pos (c .unit))
 
-  -- 2 ^ drop units
+  -- the divisor of the digits kept is 2 ^ drop units
   units : den * 2 ^ (c .unit + drop) ≡ u * 2 ^ drop
   unfolding u
   units = ap (λ (n : ℕ). den * n) (pow-add 2 (c .unit) drop) ∙ sym (mul-assoc den (2 ^ c .unit) (2 ^ drop))
 
-  -- the number is q times so many, and what was dropped
+  -- the cut number is q times 2 ^ drop units, and what was dropped
   whole : q * (den * 2 ^ (c .unit + drop)) + (low * u + c .rest) ≡ num * 2 ^ c .up
   unfolding u
   whole =
@@ -114,7 +114,7 @@ module _ (num den w : ℕ) (more : Bool) (x : ℕ) (c : Cut num den w more x) (d
       ∙ ap (λ (n : ℕ). n + c .rest) (sym (add-mul (q * 2 ^ drop) low u) ∙ ap (λ (n : ℕ). n * u) split)
       ∙ c .whole
 
-  -- which is less than so many
+  -- what was dropped of the cut number is less than 2 ^ drop units
   short : low * u + c .rest < den * 2 ^ (c .unit + drop)
   unfolding u
   short =
@@ -125,7 +125,7 @@ module _ (num den w : ℕ) (more : Bool) (x : ℕ) (c : Cut num den w more x) (d
       less : (a d : ℕ) → a + u ≤ d → c .rest < u → a + c .rest < d
       less a d g b = omega arith
 
-  -- and compares with half of so many as its digits say, and the rest
+  -- what was dropped compares with half of 2 ^ drop units as w's low digits and `more` say
   half-way : compare ((low * u + c .rest) * 2) (den * 2 ^ (c .unit + drop)) ≡ against low (2 ^ drop) more
   unfolding u
   half-way =
@@ -134,7 +134,7 @@ module _ (num den w : ℕ) (more : Bool) (x : ℕ) (c : Cut num den w more x) (d
       let e : u * (half * 2) ≡ den * 2 ^ (c .unit + drop) = ap (λ (n : ℕ). u * n) (sym double) ∙ sym units in
       order-is (compare ((low * u + c .rest) * 2) (den * 2 ^ (c .unit + drop))) (against low (2 ^ drop) more) ((low * u + c .rest) * 2) (den * 2 ^ (c .unit + drop)) (cmp ((low * u + c .rest) * 2) (den * 2 ^ (c .unit + drop))) (subst (λ (n : ℕ). Cmp (against low (2 ^ drop) more) ((low * u + c .rest) * 2) n) e g)
 
-  -- so 53 digits of w, and what was dropped of it, tell the nearest
+  -- 53 digits of w, what was dropped of it and `more` tell the nearest of a cut number
   pub near-cut : q < 2 ^ 53 → 2 ^ 52 ≤ q → near num den ≡ min infinity ((x + drop) * 2 ^ 52 + nearest q (against low (2 ^ drop) more))
   unfolding u
   near-cut l g =
@@ -146,21 +146,21 @@ module _ (num den w : ℕ) (more : Bool) (x : ℕ) (c : Cut num den w more x) (d
 
 -- ---- the law of what is near above
 module _ (num den w x : ℕ) (c : Within num den w x) where
-  -- one unit, multiplied out
+  -- one unit of a number near above w, multiplied out
   one : ℕ
   one = den * 2 ^ c .unit
 
-  -- a unit is positive
+  -- the unit of a number near above w is positive
   one-pos : 0 < one
   unfolding one
   one-pos = mul-pos (c .divisor) (pow-pos (c .unit))
 
-  -- 2 ^ d units
+  -- the divisor of the digits kept is 2 ^ d units
   ones : (d : ℕ) → den * 2 ^ (c .unit + d) ≡ 2 ^ d * one
   unfolding one
   ones d = ap (λ (n : ℕ). den * n) (pow-add 2 (c .unit) d) ∙ sym (mul-assoc den (2 ^ c .unit) (2 ^ d)) ∙ mul-comm (den * 2 ^ c .unit) (2 ^ d)
 
-  -- q times so many, and r, whose double stands so to it
+  -- the number is q times 2 ^ d units, and r: how twice r compares with 2 ^ d units tells the nearest
   at-digits : (d q r : ℕ) (o : Ordering) → q * (2 ^ d * one) + r ≡ num * 2 ^ c .up → r < 2 ^ d * one → Cmp o (r * 2) (2 ^ d * one) → q < 2 ^ 53 → 2 ^ 52 ≤ q → near num den ≡ min infinity ((x + d) * 2 ^ 52 + nearest q o)
   at-digits d q r o e l h a b =
       let s : c .up + (1074 - c .up) ≡ 1074 = let z = c .scale in omega arith in
@@ -174,15 +174,15 @@ module _ (num den w x : ℕ) (c : Within num den w x) where
       ∙ ap (λ (y : Ordering). min infinity ((x + d) * 2 ^ 52 + nearest q y)) g
 
   module _ (drop half q low : ℕ) (double : 2 ^ drop ≡ half * 2) (half-pos : 0 < half) (split : q * 2 ^ drop + low ≡ w) (within : low < 2 ^ drop) (few : q < 2 ^ 53) (lead : 2 ^ 52 ≤ q) where
-    -- the number less q times 2 ^ drop units
+    -- what the number near above w has over q times 2 ^ drop units
     over : ℕ
     over = num * 2 ^ c .up - q * (2 ^ drop * one)
 
-    -- w by its parts
+    -- w in units is q times 2 ^ drop units and `low` units
     parts : w * one ≡ q * (2 ^ drop * one) + low * one
     parts = ap (λ (n : ℕ). n * one) (sym split) ∙ add-mul (q * 2 ^ drop) low one ∙ ap (λ (n : ℕ). n + low * one) (mul-assoc q (2 ^ drop) one)
 
-    -- the number is q times so many and that
+    -- the number near above w is q times 2 ^ drop units and what it has over them
     whole-over : q * (2 ^ drop * one) + over ≡ num * 2 ^ c .up
     unfolding over one
     whole-over = back (q * (2 ^ drop * one)) (low * one) (num * 2 ^ c .up) (subst (λ (n : ℕ). n ≤ num * 2 ^ c .up) parts (c .from))
@@ -190,7 +190,7 @@ module _ (num den w x : ℕ) (c : Within num den w x) where
         back : (a b n : ℕ) → a + b ≤ n → a + (n - a) ≡ n
         back a b n h = omega arith
 
-    -- which is low units or more
+    -- what the number has over q times 2 ^ drop units is `low` units or more
     over-ge : low * one ≤ over
     unfolding over one
     over-ge = back (q * (2 ^ drop * one)) (low * one) (num * 2 ^ c .up) (subst (λ (n : ℕ). n ≤ num * 2 ^ c .up) parts (c .from))
@@ -198,7 +198,7 @@ module _ (num den w x : ℕ) (c : Within num den w x) where
         back : (a b n : ℕ) → a + b ≤ n → b ≤ n - a
         back a b n h = omega arith
 
-    -- and less than two above
+    -- what the number has over q times 2 ^ drop units is less than `low` and two units
     over-lt : over < (low + 2) * one
     unfolding over one
     over-lt =
@@ -209,11 +209,11 @@ module _ (num den w x : ℕ) (c : Within num den w x) where
         back : (a b d n : ℕ) → n < a + b → a + d ≤ n → n - a < b
         back a b d n h g = omega arith
 
-    -- so many units by halves
+    -- 2 ^ drop units are two times half of them
     by-halves : 2 ^ drop * one ≡ half * one * 2
     by-halves = ap (λ (n : ℕ). n * one) double ∙ mul-right-comm half 2 one
 
-    -- two more bring it to half at most: down
+    -- where `low` and two more are half of 2 ^ drop at most, q is rounded down
     pub sure-down : low + 2 ≤ half → near num den ≡ min infinity ((x + drop) * 2 ^ 52 + q)
     sure-down h =
         let g : (low + 2) * one ≤ half * one = mul-le-mul-right one h in
@@ -227,11 +227,11 @@ module _ (num den w x : ℕ) (c : Within num den w x) where
         half-less : (a b : ℕ) → a * 2 < b → a < b
         half-less a b h = omega arith
 
-    -- it is past half: up, and so where two more bring it to the next digit
+    -- where `low` is past half of 2 ^ drop, q is rounded up, also where two more units bring the number to the next digit
     pub sure-up : half < low → near num den ≡ min infinity ((x + drop) * 2 ^ 52 + suc q)
     sure-up h = go (decLt over (2 ^ drop * one))
       where
-        -- the next digit, of 53, or the first of 54
+        -- the number is q + 1 times 2 ^ drop units or a little more, q + 1 having 53 digits or being the first of 54: q + 1 is the nearest
         next : (r : ℕ) → suc q * (2 ^ drop * one) + r ≡ num * 2 ^ c .up → r < one → Dec (suc q < 2 ^ 53) → near num den ≡ min infinity ((x + drop) * 2 ^ 52 + suc q)
         next r e l (yes f) =
             let g : one ≤ half * one = subst (λ (n : ℕ). n ≤ half * one) (one-mul one) (mul-le-mul-right one half-pos) in

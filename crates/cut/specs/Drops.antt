@@ -11,7 +11,7 @@ use Rattle.nearest.specs.Round.{pow-lt-back}
 use Rattle.cut.specs.Cut.{beyond}
 use Rattle.cut.specs.Window.{spareOf}
 
--- of w, which has from 54 to 64 digits, so many are dropped that 53 are left
+-- of w, which has from 54 to 64 digits, as many are dropped as leave 53
 pub drops : (w : ℕ) → 2 ^ 53 ≤ w → w < 2 ^ 64 → (leadingZeros 64 w ≤ 10) × (2 ^ 52 ≤ w / 2 ^ beyond w) × (w / 2 ^ beyond w < 2 ^ 53)
 drops w l h =
     let t = leading-top 64 w (lt-of-lt-of-le (pow-pos 53) l) h in
@@ -26,7 +26,7 @@ drops w l h =
       div-lt-iff-lt-mul {x = w} {y = 2 ^ 53} (pow-pos (11 - z)) .1 (subst (λ (x : ℕ). w < x) (ap (λ (x : ℕ). 2 ^ x) (sym f) ∙ pow-add 2 53 (11 - z)) (t .3)),
     )
 
--- of 55 digits or more, two are dropped or more
+-- where w has 55 to 64 digits, two of them are dropped or more
 pub drops-two : (w : ℕ) → 2 ^ 54 ≤ w → w < 2 ^ 64 → leadingZeros 64 w ≤ 9
 drops-two w l h =
     let t = leading-top 64 w (lt-of-lt-of-le (pow-pos 54) l) h in
@@ -49,7 +49,7 @@ spare-is w h = go (decLt w (2 ^ 53))
         let z : leadingZeros 64 w ≤ 10 = drops w l h .0 in
         inr (l, omega arith)
 
--- so 53 are left at most; and just 53, unless one is dropped
+-- where `spareOf w` digits of w are dropped, at most 53 are left; and just 53, unless one is dropped
 pub spare-leaves : (w : ℕ) → w < 2 ^ 64 → (w / 2 ^ spareOf w < 2 ^ 53) × ((spareOf w ≡ 1) ⊎ (2 ^ 52 ≤ w / 2 ^ spareOf w))
 spare-leaves w h = go (spare-is w h)
   where

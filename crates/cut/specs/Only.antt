@@ -10,7 +10,7 @@ use Rattle.cut.specs.Cut.{Cut, RoundsTo}
 use Rattle.cut.specs.Window.{Window, RoundsAs}
 
 -- ---- no promise by `RoundsTo` is empty: for all w, `more` and x there is a number that is cut so
--- nothing is left: w * 2 ^ x in units of 2 ^ -1074
+-- a number that is cut with nothing left: w * 2 ^ x in units of 2 ^ -1074
 cut-whole : (w x : ℕ) → Cut (w * 2 ^ x) (2 ^ 1074) w false x
 cut-whole w x = record {
   up = 1074;
@@ -27,7 +27,7 @@ cut-whole w x = record {
   left = refl;
 }
 
--- something is left: 2 ^ -(x + 1) of a unit
+-- a number that is cut with something left: 2 ^ -(x + 1) of a unit
 cut-more : (w x : ℕ) → Cut (w * 2 ^ suc x + 1) (2 ^ 1075) w true x
 cut-more w x = record {
   up = 1074;
@@ -50,13 +50,13 @@ cut-more w x = record {
     less : 1074 < 1075 + x
     less = omega arith
 
--- so two patterns that it allows are the same
+-- two patterns that `RoundsTo` allows are the same
 pub rounds-only : (s : Bool) (w : ℕ) (more : Bool) (x a b : ℕ) → RoundsTo s w more x a → RoundsTo s w more x b → a ≡ b
 rounds-only s w false x a b h k = h (w * 2 ^ x) (2 ^ 1074) (cut-whole w x) ∙ sym (k (w * 2 ^ x) (2 ^ 1074) (cut-whole w x))
 rounds-only s w true x a b h k = h (w * 2 ^ suc x + 1) (2 ^ 1075) (cut-more w x) ∙ sym (k (w * 2 ^ suc x + 1) (2 ^ 1075) (cut-more w x))
 
 -- ---- nor is one by `RoundsAs`
--- nothing is left: w * 2 ^ y in units of 2 ^ -1075
+-- a number that is seen with nothing left: w * 2 ^ y in units of 2 ^ -1075
 window-whole : (w y : ℕ) → Window (w * 2 ^ y) (2 ^ 1075) w false y
 window-whole w y = record {
   rest = 0;
@@ -69,7 +69,7 @@ window-whole w y = record {
   left = refl;
 }
 
--- something is left: 2 ^ -(y + 1) of a unit
+-- a number that is seen with something left: 2 ^ -(y + 1) of a unit
 window-more : (w y : ℕ) → Window (w * 2 ^ suc y + 1) (2 ^ 1076) w true y
 window-more w y = record {
   rest = 1 * 2 ^ 1075;
@@ -88,7 +88,7 @@ window-more w y = record {
     less : 1075 < 1076 + y
     less = omega arith
 
--- so two patterns that it allows are the same
+-- two patterns that `RoundsAs` allows are the same
 pub rounds-as-only : (s : Bool) (w : ℕ) (more : Bool) (y a b : ℕ) → RoundsAs s w more y a → RoundsAs s w more y b → a ≡ b
 rounds-as-only s w false y a b h k = h (w * 2 ^ y) (2 ^ 1075) (window-whole w y) ∙ sym (k (w * 2 ^ y) (2 ^ 1075) (window-whole w y))
 rounds-as-only s w true y a b h k = h (w * 2 ^ suc y + 1) (2 ^ 1076) (window-more w y) ∙ sym (k (w * 2 ^ suc y + 1) (2 ^ 1076) (window-more w y))

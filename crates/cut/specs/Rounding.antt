@@ -13,11 +13,11 @@ use Rattle.nearest.specs.Near.{Cmp, cmp}
 use Rattle.nearest.specs.Scaled.{order-is}
 use Rattle.cut.specs.Half.{by, against}
 
--- how `against` answers, by the order of the two numbers
+-- how `against` answers, by the order of twice `low` and the unit
 pub told : (o : Ordering) (low unit : ℕ) (more : Bool) → Cmp o (low * 2) unit → against low unit more ≡ by o more
 told o low unit more h = ap (λ (p : Ordering). by p more) (order-is (compare (low * 2) unit) o (low * 2) unit (cmp (low * 2) unit) h)
 
--- the machine's 2 ^ drop
+-- 2 ^ drop, as the machine shifts 1, is 2 ^ drop where drop is below 64
 pub unit-is : (drop : ℕ) → drop < 64 → 1 * 2 ^ drop % 18446744073709551616 ≡ 2 ^ drop
 unit-is drop h = ap (λ (x : ℕ). x % 18446744073709551616) (one-mul (2 ^ drop)) ∙ mod-eq-of-lt (pow-lt h)
 
@@ -29,11 +29,11 @@ module _ (w drop unit : ℕ) (e : unit ≡ 2 ^ drop) where
       rest : (a b : ℕ) → w / 2 ^ drop * unit ≡ a → a + b ≡ w → w - w / 2 ^ drop * unit ≡ b
       rest a b f g = omega arith
 
-  -- which is less than that
+  -- what the code drops of w is less than 2 ^ drop
   pub dropped-lt : w - w / 2 ^ drop * unit < 2 ^ drop
   dropped-lt = subst (λ (x : ℕ). x < 2 ^ drop) (sym dropped-is) (mod-lt w (pow-pos drop))
 
-  -- and what is kept, times that, is no more than w
+  -- what the code keeps of w, times 2 ^ drop, is no more than w
   pub kept-le : w / 2 ^ drop * unit ≤ w
   kept-le = part (w / 2 ^ drop * 2 ^ drop) (w % 2 ^ drop) (ap (λ (x : ℕ). w / 2 ^ drop * x) e) (div-add-mod' w (2 ^ drop))
     where
@@ -41,15 +41,15 @@ module _ (w drop unit : ℕ) (e : unit ≡ 2 ^ drop) where
       part a b f g = omega arith
 
   module _ (more : Bool) where
-    -- an order of the code's numbers is one of the definition's
+    -- the order of the code's numbers is the order of the definition's: `against` answers by it
     as-is : (o : Ordering) → Cmp o ((w - w / 2 ^ drop * unit) * 2) unit → against (w % 2 ^ drop) (2 ^ drop) more ≡ by o more
     as-is o h = told o (w % 2 ^ drop) (2 ^ drop) more (subst (λ (x : ℕ). Cmp o (w % 2 ^ drop * 2) x) e (subst (λ (x : ℕ). Cmp o (x * 2) unit) dropped-is h))
 
-    -- the code's test: past half, or just half and more left or an odd digit
+    -- the code's test for rounding up: past half, or just half and more left or an odd digit
     abbrev pub rounds-up : Bool
     rounds-up = ltb unit ((w - w / 2 ^ drop * unit) * 2) || (eqb ((w - w / 2 ^ drop * unit) * 2) unit && (more || eqb (w / 2 ^ drop % 2) 1))
 
-    -- what it answers is what the order says
+    -- the code's test for rounding up gives the digits that the order with half tells
     test-is : (o : Ordering) (m odd : Bool) → Cmp o ((w - w / 2 ^ drop * unit) * 2) unit → more ≡ m → eqb (w / 2 ^ drop % 2) 1 ≡ odd → cond rounds-up (w / 2 ^ drop + 1) (w / 2 ^ drop) ≡ nearest (w / 2 ^ drop) (by o m)
     test-is Ordering·lt m odd c f g =
         let l : (w - w / 2 ^ drop * unit) * 2 ≤ unit = omega arith in
@@ -68,14 +68,14 @@ module _ (w drop unit : ℕ) (e : unit ≡ 2 ^ drop) where
         rw (le-ltb unit ((w - w / 2 ^ drop * unit) * 2) l, eq-eqb ((w - w / 2 ^ drop * unit) * 2) unit c, f, g) (omega arith)
     test-is Ordering·gt m odd c f g = rw (lt-ltb unit ((w - w / 2 ^ drop * unit) * 2) c) (omega arith)
 
-    -- so what is kept is the nearest
+    -- the digits that the code keeps and rounds are the nearest
     pub rounded-is : cond rounds-up (w / 2 ^ drop + 1) (w / 2 ^ drop) ≡ nearest (w / 2 ^ drop) (against (w % 2 ^ drop) (2 ^ drop) more)
     rounded-is =
         let o = compare ((w - w / 2 ^ drop * unit) * 2) unit in
         let c = cmp ((w - w / 2 ^ drop * unit) * 2) unit in
         test-is o more (eqb (w / 2 ^ drop % 2) 1) c refl refl ∙ ap (nearest (w / 2 ^ drop)) (sym (as-is o c))
 
-    -- where it rounds up, the carry has room
+    -- where the code rounds up, the carry has room: what is kept and 1 is at most w
     pub room : rounds-up ≡ true → w / 2 ^ drop + 1 ≤ w
     room h = go (decLt ((w - w / 2 ^ drop * unit) * 2) unit)
       where
@@ -92,6 +92,6 @@ module _ (w drop unit : ℕ) (e : unit ≡ 2 ^ drop) where
             let o : w / 2 ^ drop * 1 ≡ w / 2 ^ drop = mul-one (w / 2 ^ drop) in
             omega arith
 
--- fewer than 64 digits are dropped: so many
+-- where fewer than 64 digits are dropped, the machine's shift by drop drops just so many
 pub few-dropped : (w : ℕ) (more : Bool) (drop k : ℕ) → drop < 64 → k ≡ nearest (w / 2 ^ (drop % 64)) (against (w % 2 ^ (drop % 64)) (2 ^ (drop % 64)) more) → k ≡ nearest (w / 2 ^ drop) (against (w % 2 ^ drop) (2 ^ drop) more)
 few-dropped w more drop k h e = subst (λ (n : ℕ). k ≡ nearest (w / 2 ^ n) (against (w % 2 ^ n) (2 ^ n) more)) (mod-eq-of-lt h) e

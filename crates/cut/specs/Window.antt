@@ -25,7 +25,7 @@ pub record Window (num den w : ℕ) (more : Bool) (y : ℕ) : Type 0 where
   pub below : rest < den * 2 ^ y
   pub left : more ≡ ltb 0 rest
 
--- whatever number is seen so, its nearest f64 has the pattern b with its sign
+-- whatever number is seen as w, `more` and y as `Window` says, its nearest f64 has the pattern b with its sign
 abbrev pub RoundsAs : Bool → ℕ → Bool → ℕ → ℕ → Type 0
 RoundsAs s w more y b = (num den : ℕ) → Window num den w more y → b ≡ signed s (near num den)
 
@@ -34,7 +34,7 @@ abbrev pub spareOf : ℕ → ℕ
 spareOf w = 1 + (10 - leadingZeros 64 w)
 
 -- ---- how a number comes to be seen so
--- of k units and R something is left just where it is of the one or of the other
+-- of k units and R something is left just where k or R is not 0
 pub left-told : (k U R : ℕ) → 0 < U → ltb 0 k || ltb 0 R ≡ ltb 0 (k * U + R)
 left-told zero U R p = ap (λ (n : ℕ). ltb 0 n) (sym (ap (λ (n : ℕ). n + R) (zero-mul U) ∙ zero-add R))
 left-told (suc k) U R p =
@@ -45,7 +45,7 @@ left-told (suc k) U R p =
     more : (a : ℕ) → 0 < a → 0 < a + R
     more a h = omega arith
 
--- W units and a rest, of which z binary digits of W are cut off: what is left is the low digits and the rest
+-- W units and a rest, with z binary digits of W cut off, make a window: what is left is those low digits and the rest
 pub window-of : (num den W U R z w low y : ℕ) → 0 < den → num * 2 ^ 1075 ≡ W * U + R → R < U → den * 2 ^ y ≡ 2 ^ z * U → w * 2 ^ z + low ≡ W → low < 2 ^ z → Window num den w (ltb 0 low || ltb 0 R) y
 window-of num den W U R z w low y dp e b f g l = record {
   rest = low * U + R;
@@ -65,16 +65,16 @@ window-of num den W U R z w low y dp e b f g l = record {
 
 -- ---- the law of what is seen
 module _ (num den w : ℕ) (more : Bool) (y : ℕ) (c : Window num den w more y) (d half q low : ℕ) (double : 2 ^ suc d ≡ half * 2) (split : q * 2 ^ suc d + low ≡ w) (within : low < 2 ^ suc d) where
-  -- one unit, multiplied out
+  -- one unit of a number seen by its digits, multiplied out
   u : ℕ
   u = den * 2 ^ y
 
-  -- a unit is positive
+  -- the unit of a number seen by its digits is positive
   u-pos : 0 < u
   unfolding u
   u-pos = mul-pos (c .divisor) (pow-pos y)
 
-  -- the divisor of the digits kept is so many units
+  -- the divisor of the digits kept is 2 ^ (d + 1) units
   units : den * 2 * 2 ^ (y + d) ≡ 2 ^ suc d * u
   unfolding u
   units = ap (λ (n : ℕ). den * 2 * n) (pow-add 2 y d) ∙ regroup den (2 ^ y) (2 ^ d) ∙ ap (λ (n : ℕ). n * (den * 2 ^ y)) (sym (pow-suc 2 d))
@@ -82,7 +82,7 @@ module _ (num den w : ℕ) (more : Bool) (y : ℕ) (c : Window num den w more y)
       regroup : (a b e : ℕ) → a * 2 * (b * e) ≡ e * 2 * (a * b)
       regroup a b e = simp (mul-assoc, mul-comm, mul-left-comm) refl
 
-  -- the number is q times so many, and what was dropped
+  -- the number is q times 2 ^ (d + 1) units, and what was dropped
   whole : q * (den * 2 * 2 ^ (y + d)) + (low * u + c .rest) ≡ num * 2 * 2 ^ 1074
   unfolding u
   whole =
@@ -93,7 +93,7 @@ module _ (num den w : ℕ) (more : Bool) (y : ℕ) (c : Window num den w more y)
       ∙ c .whole
       ∙ sym (mul-assoc num 2 (2 ^ 1074))
 
-  -- which is less than so many
+  -- what was dropped of the number is less than 2 ^ (d + 1) units
   short : low * u + c .rest < den * 2 * 2 ^ (y + d)
   unfolding u
   short = subst (λ (n : ℕ). low * u + c .rest < n) (sym units) (less (low * u) (2 ^ suc d * u) (subst (λ (n : ℕ). n ≤ 2 ^ suc d * u) (suc-mul low u) (mul-le-mul-right u within)) (c .below))
@@ -101,7 +101,7 @@ module _ (num den w : ℕ) (more : Bool) (y : ℕ) (c : Window num den w more y)
       less : (a e : ℕ) → a + u ≤ e → c .rest < u → a + c .rest < e
       less a e g b = omega arith
 
-  -- and compares with half of so many as its digits say, and the rest
+  -- what was dropped compares with half of 2 ^ (d + 1) units as w's low digits and `more` say
   half-way : compare ((low * u + c .rest) * 2) (den * 2 * 2 ^ (y + d)) ≡ against low (2 ^ suc d) more
   unfolding u
   half-way =
@@ -113,7 +113,7 @@ module _ (num den w : ℕ) (more : Bool) (y : ℕ) (c : Window num den w more y)
       let e : u * (half * 2) ≡ U = ap (λ (m : ℕ). u * m) (sym double) ∙ mul-comm u D ∙ sym units in
       order-is (compare n U) (against low D more) n U (cmp n U) (subst (λ (m : ℕ). Cmp (against low D more) n m) e g)
 
-  -- so 53 digits of w, or all that there are at the lowest place, and what was dropped of it, tell the nearest
+  -- 53 digits of w, or all that there are at the lowest place, and what was dropped of it, tell the nearest
   near-seen : q < 2 ^ 53 → (y + suc d ≡ 1) ⊎ (2 ^ 52 ≤ q) → near num den ≡ min infinity ((y + suc d - 1) * 2 ^ 52 + nearest q (against low (2 ^ suc d) more))
   near-seen few lead =
       let p : y + d ≡ y + suc d - 1 = omega arith in

@@ -10,7 +10,7 @@ use Rattle.eights.specs.Told.{EightTold}
 use Rattle.eights.specs.declared.Eight.{Eight}
 use Rattle.eights.specs.declared.Eight.the-variants.{Digits, Other}
 
--- that allows one answer
+-- what `number` promises of eight bytes allows one answer
 pub eight-told-only : (bs : List ℕ) (x y : Eight) → EightTold bs x → EightTold bs y → x ≡ y
 eight-told-only bs (Digits v) (Digits u) h k = ap Digits (h .1 ∙ sym (k .1))
 eight-told-only bs (Digits v) Other h k = absurd (k (h .0))
@@ -22,11 +22,11 @@ eight-told-only bs Other Other h k = refl
 abbrev pub joinedOf : List ℕ → ℕ
 joinedOf bs = fieldsBy 8 (λ (b : ℕ). b) bs
 
--- a list of eight
+-- a list of eight bytes
 abbrev pub eightOf : ℕ → ℕ → ℕ → ℕ → ℕ → ℕ → ℕ → ℕ → List ℕ
 eightOf a b c d e f g h = a ∷ b ∷ c ∷ d ∷ e ∷ f ∷ g ∷ h ∷ []
 
--- a test that tells whether A holds
+-- a test answers r, which tells whether A holds
 abbrev pub Says : Bool → Type 0 → Type 0
 Says true A = A
 Says false A = A → ⊥

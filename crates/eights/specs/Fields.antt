@@ -7,17 +7,17 @@ use lib.Bits.{bitAnd, and-block, and-zero-l}
 use lib.ListN.{length}
 use lib.Pow.{pow-pos}
 
--- P holds of each entry
+-- P holds of each entry of a list
 abbrev pub Each : (ℕ → Type 0) → List ℕ → Type 0
 Each P [] = Unit {0}
 Each P (b ∷ bs) = P b × Each P bs
 
--- what holds of each entry follows of each
+-- where P gives Q, and P holds of each entry, Q does
 pub each-map : {P Q : ℕ → Type 0} → ((b : ℕ) → P b → Q b) → (bs : List ℕ) → Each P bs → Each Q bs
 each-map f [] h = tt
 each-map f (b ∷ bs) h = (f b (h .0), each-map f bs (h .1))
 
--- and from two facts of each entry
+-- where P and Q give R, and both hold of each entry, R does
 pub each-two : {P Q R : ℕ → Type 0} → ((b : ℕ) → P b → Q b → R b) → (bs : List ℕ) → Each P bs → Each Q bs → Each R bs
 each-two f [] h k = tt
 each-two f (b ∷ bs) h k = (f b (h .0) (k .0), each-two f bs (h .1) (k .1))
@@ -39,7 +39,7 @@ module _ (s : ℕ) where
   and-fields f v l (b ∷ bs) h =
       and-block s (fieldsBy f bs) (same v (length bs)) (f b) v (h .0) l ∙ ap (λ (n : ℕ). n * 2 ^ s + bitAnd (f b) v) (and-fields f v l bs (h .1))
 
-  -- what is added to each field
+  -- v added to each field is one sum with v in each field
   pub sum-fields : (f : ℕ → ℕ) (v : ℕ) (bs : List ℕ) → fieldsBy f bs + same v (length bs) ≡ fieldsBy (λ (b : ℕ). f b + v) bs
   sum-fields f v [] = refl
   sum-fields f v (b ∷ bs) =
@@ -54,11 +54,11 @@ module _ (s : ℕ) where
   pub lowest : (x u : ℕ) → u < 2 ^ s → (x * 2 ^ s + u) % 2 ^ s ≡ u
   lowest x u h = mul-add-mod-self-right x (2 ^ s) u ∙ mod-eq-of-lt h
 
-  -- the others
+  -- the fields above the lowest of a number
   pub others : (x u : ℕ) → u < 2 ^ s → (x * 2 ^ s + u) / 2 ^ s ≡ x
   others x u h = ap (λ (n : ℕ). n / 2 ^ s) (add-comm (x * 2 ^ s) u) ∙ add-mul-div-right u x (pow-pos s) ∙ ap (λ (n : ℕ). n + x) (div-eq-of-lt h) ∙ zero-add x
 
-  -- where all fields are u, each is
+  -- where the fields are u all together, each is u
   pub fields-same : (f : ℕ → ℕ) (u : ℕ) → u < 2 ^ s → (bs : List ℕ) → Each (λ (b : ℕ). f b < 2 ^ s) bs → fieldsBy f bs ≡ same u (length bs) → Each (λ (b : ℕ). f b ≡ u) bs
   fields-same f u l [] h e = tt
   fields-same f u l (b ∷ bs) h e =
@@ -68,7 +68,7 @@ module _ (s : ℕ) where
         fields-same f u l bs (h .1) (sym (others x (f b) (h .0)) ∙ ap (λ (n : ℕ). n / 2 ^ s) e ∙ others y u l),
       )
 
-  -- and where each is, all fields are
+  -- where each field is u, they are u all together
   pub same-fields : (f : ℕ → ℕ) (u : ℕ) (bs : List ℕ) → Each (λ (b : ℕ). f b ≡ u) bs → fieldsBy f bs ≡ same u (length bs)
   same-fields f u [] h = refl
   same-fields f u (b ∷ bs) h = ap (λ (n : ℕ). n * 2 ^ s + f b) (same-fields f u bs (h .1)) ∙ ap (λ (n : ℕ). same u (length bs) * 2 ^ s + n) (h .0)

@@ -20,7 +20,7 @@ use Rattle.plain.specs.Numbers.{idsNumbers}
 abbrev pub lentEnough : ℕ → ℕ → ℕ → ℕ → Bool
 lentEnough rows count slots ids = (leb 8 ids && leb (min count (rowsFit rows)) slots) && leb (min count (rowsFit rows)) 1073741824
 
--- 0, or 16 where what is lent does not suffice
+-- a host's answer to indexing: 0, or 16 where what is lent does not suffice
 abbrev pub indexCode : List ℕ → ℕ → List ℕ → List ℕ → ℕ
 indexCode rows count slots ids = pick (lentEnough (length rows) count (length slots) (length ids)) 0 16
 

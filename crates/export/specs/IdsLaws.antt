@@ -24,23 +24,23 @@ use Rattle.plain.specs.Numbers.{idsNumbers, idsBy}
 use Rattle.plain.specs.Laws.{ids-back}
 use Rattle.export.specs.Ids.{lentEnough, Indexed, short, built}
 
--- it does not both suffice and not
+-- no test passes and fails
 lent-once : (t : Bool) → t ≡ true → t ≡ false → ⊥
 lent-once true e f = let q : _≡_ {A = ℕ} 0 1 = cc in omega arith
 lent-once false e f = let q : _≡_ {A = ℕ} 0 1 = cc in omega arith
 
--- two that hold together hold each
+-- two tests that pass together pass each
 both : (a b : Bool) → (a && b) ≡ true → (a ≡ true) × (b ≡ true)
 both true b e = (refl, e)
 both false b e = absurd (lent-once false e refl)
 
--- what suffices has room for eight numbers
+-- what a host lends that suffices has room for eight numbers
 pub lent-eight : (rows count slots ids : ℕ) → lentEnough rows count slots ids ≡ true → 8 ≤ ids
 lent-eight rows count slots ids e =
     let h = both (leb 8 ids && leb (min count (rowsFit rows)) slots) (leb (min count (rowsFit rows)) 1073741824) e in
     leb-true 8 ids (both (leb 8 ids) (leb (min count (rowsFit rows)) slots) (h .0) .0)
 
--- and for every record that is to be indexed: none is left out
+-- what a host lends that suffices has a slot for every record that is to be indexed: none is left out
 pub lent-all : (rows count slots ids : ℕ) → lentEnough rows count slots ids ≡ true → tableRoom (rowsFit rows) slots count ≡ min count (rowsFit rows)
 lent-all rows count slots ids e =
     let h = both (leb 8 ids && leb (min count (rowsFit rows)) slots) (leb (min count (rowsFit rows)) 1073741824) e in
@@ -49,7 +49,7 @@ lent-all rows count slots ids e =
     go : (n : ℕ) → n ≤ slots → n ≤ 1073741824 → min n (min slots 1073741824) ≡ n
     go n a b = omega arith
 
--- what two such answers leave is the same
+-- what two answers to indexing leave with a host is the same
 pub indexed-only : {rows : List ℕ} {count : ℕ} {slots xs ys ids us vs : List ℕ} → Indexed rows count slots xs ids us → Indexed rows count slots ys ids vs → (xs ≡ ys) × (us ≡ vs)
 indexed-only (short h e f) (short k p q) = (e ∙ sym p, f ∙ sym q)
 indexed-only (short h e f) (built k b p q) = absurd (lent-once _ k h)
@@ -62,7 +62,7 @@ indexed-only {rows} {count} {slots} {xs} {ys} {ids} (built h a e f) (built k b p
     same : xs ≡ ys
     same = built-slots-only (idOf rows) n slots xs ys a b e p
 
--- the id of a row of numbers of 32 bits is one
+-- where all numbers of the rows have 32 bits, the id of each row has
 id-small : (rows : List ℕ) → ((i : ℕ) → getD rows i 0 < 4294967296) → (r : ℕ) → idOf rows r < 4294967296
 id-small rows h r = field-below 6 rows r 4294967296 (omega arith) h 0
 
@@ -86,6 +86,6 @@ host-right {rows} {slots} {after} {ids} {told} {count} h w (built g b e f) k = a
 pub row-told : (rows slots : List ℕ) (b : Ids) (k r : ℕ) → searched rows slots b k ≡ some r → r < 4294967295
 row-told rows slots b k r e = let h = found-safe rows slots b k r e .0 in omega arith
 
--- what is told of many ids goes by what stands beside the slots
+-- what is told of many ids is told alike where the same stands beside the slots
 pub told-by : (rows slots ids before after : List ℕ) (b c : Ids) → b ≡ c → Told (λ k. rowNumber (searched rows slots b k)) ids before after → Told (λ k. rowNumber (searched rows slots c k)) ids before after
 told-by rows slots ids before after b c e h = subst (λ (d : Ids). Told (λ k. rowNumber (searched rows slots d k)) ids before after) e h

@@ -5,7 +5,7 @@ use Prim.Native.Nat.{ℕ}
 use Rattle.strings.specs.declared.Decoded.{Decoded}
 use Rattle.strings.specs.declared.Decoded.the-variants.{Plain, Written, Short}
 
--- 0, or the number of the refusal
+-- a text's answer as a number: 0, or the number of the refusal
 abbrev pub textCode : Decoded → ℕ
 textCode Plain = 0
 textCode (Written n) = 0

@@ -6,18 +6,18 @@ use Rattle.error.specs.Refusal.{Told, good, bad}
 use Rattle.scalars.specs.Answer.{Given, given, unset, Logical, holds, fails, unknown}
 use Rattle.words.specs.Answer.{Shown, inFile, inRoom}
 
--- the value, where one is set; or what stood there
+-- the value of a parameter, where one is set; or what stood there
 abbrev pub givenValue : {A : Type 0} → Told (Given A) → A → A
 givenValue (good (given a)) old = a
 givenValue (good unset) old = old
 givenValue (bad q) old = old
 
--- whether one is set: 1, or 0 for `$`
+-- whether a parameter has a value: 1, or 0 for `$`
 abbrev pub givenSet : {A : Type 0} → Given A → ℕ
 givenSet (given a) = 1
 givenSet unset = 0
 
--- `.F.` is 0, `.T.` 1 and `.U.` 2
+-- a boolean as a number: `.F.` is 0, `.T.` 1 and `.U.` 2
 abbrev pub logicalNumber : Logical → ℕ
 logicalNumber fails = 0
 logicalNumber holds = 1
@@ -28,12 +28,12 @@ abbrev pub shownRoom : Shown → ℕ
 shownRoom (inFile a) = 0
 shownRoom (inRoom n) = 1
 
--- where it begins there
+-- where a text begins in the file or in the lent room
 abbrev pub shownStart : Shown → ℕ
 shownStart (inFile a) = a .start
 shownStart (inRoom n) = 0
 
--- where it ends there
+-- where a text ends in the file or in the lent room
 abbrev pub shownStop : Shown → ℕ
 shownStop (inFile a) = a .stop
 shownStop (inRoom n) = n

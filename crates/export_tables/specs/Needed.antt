@@ -11,20 +11,20 @@ use Rattle.needs.specs.declared.Needs.{Needs}
 use Rattle.needs.specs.Needs.{needsOf}
 use Rattle.plain.specs.Answers.{readCode, readFault}
 
--- how many numbers a host lends at least: more than are told so far
+-- how many numbers a host lends at least for what a file needs: more than are told so far
 abbrev pub needsRoom : ℕ
 needsRoom = 12
 
--- header rows, data rows, the largest id, the most numbers of a list or a grid, the longest text, and the most rows of a grid
+-- what a file needs: header rows, data rows, the largest id, the most numbers of a list or a grid, the longest text, and the most rows of a grid
 abbrev pub needNumbers : Needs → List ℕ
 needNumbers c = c .headers ∷ c .records ∷ c .max ∷ c .items ∷ c .text ∷ c .rows ∷ []
 
--- the lent numbers afterwards: a refusal leaves them as they were
+-- the lent numbers once a file's needs are told: a refusal leaves them as they were
 abbrev pub needsAfter : Told Needs → List ℕ → List ℕ
 needsAfter (good c) old = sets old 0 (needNumbers c)
 needsAfter (bad q) old = old
 
--- the refusal's reason, or what stood there
+-- the reason of what refuses a file's needs, or what stood there
 abbrev pub needsReason : Told Needs → ℕ → ℕ
 needsReason (good c) old = old
 needsReason (bad q) old = q .reason

@@ -14,7 +14,7 @@ use Rattle.export_tables.specs.Tables.{readReason, openTables, Host}
 use Rattle.export_tables.specs.Tables.Host.{short, opened}
 use Rattle.export_tables.specs.Needed.{Needing}
 
--- `hooflift_open`
+-- `hooflift_open`: two answers that it allows are the same, and so is each lent thing after it
 pub host-only : {s heads rows slots tables : List ℕ} {reason fault m n : ℕ} {ha hb ra rb xa xb ta tb : List ℕ} {ya yb fa fb : ℕ}
     → Host s heads rows slots tables reason fault m ha ra xa ta ya fa → Host s heads rows slots tables reason fault n hb rb xb tb yb fb
     → (m ≡ n) × (ha ≡ hb) × (ra ≡ rb) × (xa ≡ xb) × (ta ≡ tb) × (ya ≡ yb) × (fa ≡ fb)
@@ -33,7 +33,7 @@ host-only {s} {heads} {rows} {slots} {tables} {reason} {fault} {ha} {hb} {ra} {r
       e ∙ ap (λ (z : Opened). readFault (toldOpened z) fault) v ∙ sym p,
     )
 
--- "that two allowed answers coincide is proved"
+-- "that two allowed answers coincide is proved": of what a file needs, and of each lent thing after it
 pub needing-only : {s needs : List ℕ} {reason fault m n : ℕ} {a b : List ℕ} {x y f g : ℕ} → Needing s needs reason fault m a x f → Needing s needs reason fault n b y g → (m ≡ n) × (a ≡ b) × (x ≡ y) × (f ≡ g)
 needing-only (Needing.short k c d e h) (Needing.short l i j o p) = (c ∙ sym i, d ∙ sym j, e ∙ sym o, h ∙ sym p)
 needing-only (Needing.short k c d e h) (Needing.told l i j o p) = absurd (omega arith)

@@ -15,7 +15,7 @@ use Rattle.store.specs.declared.Opened.the-variants.{Good, Refused}
 use Rattle.plain.specs.Answers.{readCode, readFault}
 use Rattle.plain.specs.Numbers.{tablesIn}
 
--- the refusal's reason, or what stood there
+-- the reason of a refusal, or what stood there
 abbrev pub readReason : {A : Type 0} → Told A → ℕ → ℕ
 readReason (good a) old = old
 readReason (bad q) old = q .reason
@@ -36,7 +36,7 @@ abbrev pub keySpan : ℕ → Option Row → Told (Option Span)
 keySpan len none = good none
 keySpan len (some w) = mapped some (spanIn len (w .keyStart) (w .keyEnd))
 
--- where its arguments stand
+-- where a row's arguments stand in a file of this length; none where there is no row; or 9
 abbrev pub argSpan : ℕ → Option Row → Told (Option Span)
 argSpan len none = good none
 argSpan len (some w) = mapped some (spanIn len (w .argStart) (w .argEnd))

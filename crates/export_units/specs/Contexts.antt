@@ -11,7 +11,7 @@ use Rattle.factors.specs.Thing.{Thing, thingOf}
 use Rattle.units.specs.Answer.{Units}
 use Rattle.units.specs.Units.{contextOf}
 
--- none where there is no row; else the units of the context in it, or what refuses them. `find` gives the record of an id
+-- the units of the context in a row, or what refuses them; none where there is no row. `find` gives the record of an id
 abbrev pub unitsIn : List ℕ → (ℕ → Told (Option Thing)) → Option Row → Told (Option Units)
 unitsIn s find none = good none
 unitsIn s find (some w) = mapped some (onward (contextOf s find) (thingOf s w))

@@ -8,13 +8,13 @@ use Rattle.params.specs.Answer.{Span, span}
 use Rattle.factors.specs.declared.Run as RunCode
 use Rattle.factors.specs.declared.Factor as FactorCode
 
--- arguments, none, or a refusal
+-- what the code's answer about a record's arguments says: arguments, none, or a refusal
 abbrev pub toldRun : RunCode.Run → Told (Option Span)
 toldRun (RunCode.the-variants.Args a z) = good (some (span a z))
 toldRun RunCode.the-variants.Nothing = good none
 toldRun (RunCode.the-variants.Refused f) = bad (told f)
 
--- a factor by its bits, none, or a refusal
+-- what the code's answer about a factor says: a factor by its bits, none, or a refusal
 abbrev pub toldFactor : FactorCode.Factor → Told (Option ℕ)
 toldFactor (FactorCode.the-variants.Is x) = good (some (toBits binary64 x))
 toldFactor FactorCode.the-variants.Nothing = good none

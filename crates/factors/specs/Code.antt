@@ -14,12 +14,12 @@ use Rattle.factors.specs.Answer.{toldFactor}
 use Rattle.factors.specs.declared.Link as LinkCode
 use Rattle.factors.specs.declared.Named as NamedCode
 
--- an id, or a refusal
+-- what the code's answer about an id says: an id, or a refusal
 abbrev pub toldId : NamedCode.Named → Told ℕ
 toldId (NamedCode.the-variants.Id k) = good k
 toldId (NamedCode.the-variants.Refused f) = bad (told f)
 
--- a unit's factor, or the measure it leads to, or a refusal
+-- what the code's answer about one unit of a chain says: its factor, or the measure it leads to, or a refusal
 abbrev pub toldLink : LinkCode.Link → Told Chain
 toldLink (LinkCode.the-variants.Known f) = goodBy known (toldFactor f)
 toldLink (LinkCode.the-variants.Measure k) = good (leads k)

@@ -43,14 +43,14 @@ abbrev pub Shallow : {A : Type 0} → Told A → Type 0
 Shallow (good a) = Unit {0}
 Shallow (bad q) = q .number ≡ 15 → ⊥
 
--- a record that was looked up: neither the lookup nor a fault in its parts has the number 15
+-- a record that was looked up, where neither the lookup nor a fault in the record's parts has the number 15
 abbrev pub FoundShallow : Told (Option Thing) → Type 0
 FoundShallow (good none) = Unit {0}
 FoundShallow (good (some t)) = Shallow (t .parts)
 FoundShallow (bad q) = q .number ≡ 15 → ⊥
 
 -- ---- what refuses with another number
--- the arguments of a record or of its first part of a kind
+-- the arguments of a record, or of its first part of a kind, are not refused with 15, where the record's parts are not
 self-shallow : (k : Kind) (t : Thing) → Shallow (t .parts) → Shallow (selfOr k t)
 self-shallow k t h = go (sameKind (t .kind) k) (t .parts) h
   where
@@ -59,7 +59,7 @@ self-shallow k t h = go (sameKind (t .kind) k) (t .parts) h
     go false (good ps) h = tt
     go false (bad q) h = h
 
--- the arguments of a measure
+-- the arguments of a measure are not refused with 15, where its parts are not
 run-shallow : (t : Thing) → Shallow (t .parts) → Shallow (measureRun t)
 run-shallow t h = go (sameKind (t .kind) Kinds.Complex) (t .parts) h
   where
@@ -68,7 +68,7 @@ run-shallow t h = go (sameKind (t .kind) Kinds.Complex) (t .parts) h
     go true (bad q) h = h
     go false ps h = tt
 
--- a parameter: 9, 10 or 11
+-- a parameter is refused with 9, 10 or 11, and not with 15
 param-shallow : (s : List ℕ) (p e : ℕ) → Shallow (paramOf s p e .answer)
 param-shallow s p e = go (paramOf s p e) (next-is s p e)
   where
@@ -79,7 +79,7 @@ param-shallow s p e = go (paramOf s p e) (next-is s p e)
     go _ (NextForm.last h a b c d f) = tt
     go _ (NextForm.unclosed h a b c d) = λ z. absurd (omega (arith, z))
 
--- a reference: 12
+-- a reference is refused with 12, and not with 15
 reference-shallow : (s : List ℕ) (a : Span) → Shallow (scalarAt referenceOf s a)
 reference-shallow s a = go (referenceOf (take (a .stop - a .start) (drop (a .start) s))) (reference-is (take (a .stop - a .start) (drop (a .start) s)))
   where
@@ -87,12 +87,12 @@ reference-shallow s a = go (referenceOf (take (a .stop - a .start) (drop (a .sta
     go _ (ReferenceForm.reference ds i) = tt
     go _ (ReferenceForm.other h) = λ z. absurd (omega (arith, z))
 
--- an answer read on
+-- an answer that is read on is not refused with 15, where neither of the two is
 on-shallow : {A B : Type 0} (f : A → Told B) (x : Told A) → Shallow x → ((a : A) → Shallow (f a)) → Shallow (onward f x)
 on-shallow f (good a) h k = k a
 on-shallow f (bad q) h k = h
 
--- the measure's reference
+-- the measure's reference is not refused with 15
 ref-shallow : (s : List ℕ) (r : Span) → Shallow (measureRef s r)
 unfolding measureRef nextOf skipOf
 ref-shallow s r =
@@ -100,12 +100,12 @@ ref-shallow s r =
     (on-shallow (λ a. good tt) (paramOf s (r .start) (r .stop) .answer) (param-shallow s (r .start) (r .stop)) (λ a. tt))
     (λ u. on-shallow (scalarAt referenceOf s) (paramOf s (skipOf s (r .start) (r .stop) .place) (r .stop) .answer) (param-shallow s (skipOf s (r .start) (r .stop) .place) (r .stop)) (reference-shallow s))
 
--- a factor is scaled only where it is no refusal
+-- where the factor times a measure's number is refused, the factor is
 scaled-bad : (v : ℕ) (a : Told (Option ℕ)) (q : Refusal) → scaledBy v a ≡ bad q → a ≡ bad q
 scaled-bad v (good o) q e = clash (cc)
 scaled-bad v (bad r) q e = e
 
--- what a measure leads to
+-- what a measure leads to is not refused with 15, nor are its base unit's parts
 BasedShallow : Based → Type 0
 BasedShallow (ends a) = Shallow a
 BasedShallow (base v u) = Shallow (u .parts)
@@ -124,7 +124,7 @@ module _ (s : List ℕ) (find : ℕ → Told (Option Thing)) where
   too-deep-is {t} {p} f = sym (length-form-only s find (follows-deep 16 0 t p refl f))
 
   module _ (finds : (i : ℕ) → FoundShallow (find i)) where
-    -- a measure refuses with another number, and its base unit's parts do
+    -- what a measure of the file leads to is not refused with 15, nor are its base unit's parts
     measure-shallow : {i : ℕ} {b : Based} → MeasureForm s find i b → BasedShallow b
     unfolding BasedShallow
     measure-shallow (MeasureForm.leads {b} h n e u) = subst FoundShallow u (finds b)
@@ -157,19 +157,19 @@ module _ (s : List ℕ) (find : ℕ → Told (Option Thing)) where
     deep-follows (LengthForm.unnamed {r} {q = o} m e f) h q c d n l = absurd (subst Shallow c (subst (λ (x : Told ℕ). Shallow x) f (ref-shallow s r)) d)
     deep-follows {t = t} (LengthForm.faulty e) h q c d n l = absurd (subst Shallow c (subst (λ (x : Told (Option Span)). Shallow x) e (self-shallow SiUnit t h)) d)
 
-    -- and nothing else is 15
+    -- a length unit is refused with 15 only where sixteen steps lead to one more conversion unit
     pub too-deep-only : {t : Thing} {q : Refusal} → Shallow (t .parts) → lengthOf s find 16 t ≡ bad q → q .number ≡ 15 → (q ≡ refusal 15 0 (q .place)) × Follows s find 16 t (q .place)
     too-deep-only {t} {q} h e d = deep-follows (length-form-is s find t) h q e d 16 refl
 
 -- ---- the records of a file
--- a fault in parts is 3, 4, 6 or 9
+-- a fault in parts is 3, 4, 6 or 9, and not 15
 fault-shallow : (n : ℕ) (q : Refusal) → FaultIn n q → q .number ≡ 15 → ⊥
 fault-shallow n q (inl h, l) z = absurd (omega (arith, h, z))
 fault-shallow n q (inr (inl h), l) z = absurd (omega (arith, h, z))
 fault-shallow n q (inr (inr (inl h)), l) z = absurd (omega (arith, h, z))
 fault-shallow n q (inr (inr (inr h)), l) z = absurd (omega (arith, h, z))
 
--- the parts of a row
+-- the parts of a row are not refused with 15
 pieces-shallow : (s : List ℕ) (w : Row) → Shallow (piecesOf s w)
 pieces-shallow s w = go (eqb (w .complex) 1) (partsOf s (w .argStart) (w .argEnd)) (parts-placed s (w .argStart) (w .argEnd))
   where
@@ -178,7 +178,7 @@ pieces-shallow s w = go (eqb (w .complex) 1) (partsOf s (w .argStart) (w .argEnd
     go true (good ps) h = tt
     go true (bad q) h = fault-shallow (length s) q h
 
--- the record of a row
+-- the parts of a row's record are not refused with 15
 pub thing-shallow : (s : List ℕ) (w : Row) {t : Thing} → thingOf s w ≡ good t → Shallow (t .parts)
 thing-shallow s w {t} = go (spanFine (length s) (w .argStart) (w .argEnd))
   where
@@ -186,7 +186,7 @@ thing-shallow s w {t} = go (spanFine (length s) (w .argStart) (w .argEnd))
     go true e = let z : thingAt s w ≡ t = cc in subst (λ (x : Thing). Shallow (x .parts)) z (pieces-shallow s w)
     go false e = clash (cc)
 
--- the record of an id, whatever the lent tables hold
+-- the record of an id and its parts are not refused with 15, whatever the lent tables hold
 pub find-shallow : (s rows slots : List ℕ) (ids : Ids) (i : ℕ) → FoundShallow (findOf s (rowFor rows slots ids) i)
 unfolding findOf
 find-shallow s rows slots ids i = go (rowFound rows (searched rows slots ids i))
@@ -199,7 +199,7 @@ find-shallow s rows slots ids i = go (rowFound rows (searched rows slots ids i))
     go none = tt
     go (some w) = one w (spanFine (length s) (w .argStart) (w .argEnd))
 
--- of the records of a file: 15 is given only where the seventeenth conversion unit on a chain is met
+-- of a file's length unit: 15 is given only where the seventeenth conversion unit on a chain is met
 pub file-too-deep : (s rows slots : List ℕ) (ids : Ids) (w : Row) {t : Thing} {q : Refusal} → thingOf s w ≡ good t → lengthOf s (findOf s (rowFor rows slots ids)) 16 t ≡ bad q → q .number ≡ 15
     → (q ≡ refusal 15 0 (q .place)) × Follows s (findOf s (rowFor rows slots ids)) 16 t (q .place)
 file-too-deep s rows slots ids w h e d = too-deep-only s (findOf s (rowFor rows slots ids)) (find-shallow s rows slots ids) (thing-shallow s w h) e d

@@ -5,11 +5,11 @@ use mathlib.Core.Path.{_≡_}
 use mathlib.Core.List.{List, _∷_, _++_}
 use mathlib.Core.Option.{Option, none, some}
 
--- each member is so, wherever the list is cut around one
+-- P holds of each member of a list, wherever it is cut around one
 abbrev pub Each : {A : Type 0} → (A → Type 0) → List A → Type 0
 Each {A} P xs = (front back : List A) (x : A) → xs ≡ front ++ (x ∷ back) → P x
 
--- the first member that gives an answer: it stands in the list and gives it, and each before it is passed over
+-- the first member of a list that gives an answer: it gives a, and each before it is passed over
 pub record IsFirst {A R : Type 0} (Passed : A → Type 0) (Gives : A → R → Type 0) (xs : List A) (a : R) : Type 0 where
   pub front : List A
   pub one : A
@@ -18,7 +18,7 @@ pub record IsFirst {A R : Type 0} (Passed : A → Type 0) (Gives : A → R → T
   pub before : Each Passed front
   pub gives : Gives one a
 
--- the last member of which g tells something: it stands in the list, and of each after it g tells nothing
+-- the last member of a list of which g tells something: it tells a, and of each after it g tells nothing
 pub record IsLast {A R : Type 0} (g : A → Option R) (xs : List A) (a : R) : Type 0 where
   pub front : List A
   pub one : A

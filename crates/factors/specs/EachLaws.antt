@@ -8,26 +8,26 @@ use Rattle.lookup.specs.Records.{orElse}
 use Rattle.factors.specs.Each.{Each, IsFirst, LastForm}
 
 module _ {A : Type 0} (P : A → Type 0) where
-  -- no list has none
+  -- of an empty list each member is so
   pub each-nil : Each P []
   each-nil [] back x e = clash cc
   each-nil (v ∷ front) back x e = clash cc
 
-  -- one more
+  -- one member more in front: where it is so and the others are, each is
   pub each-more : (v : A) (xs : List A) → P v → Each P xs → Each P (v ∷ xs)
   each-more v xs p h [] back x e = let q : v ≡ x = cc in subst P q p
   each-more v xs p h (u ∷ front) back x e = h front back x cc
 
-  -- the first of them
+  -- where each member is so, the first is
   pub each-head : (v : A) (xs : List A) → Each P (v ∷ xs) → P v
   each-head v xs h = h [] xs v refl
 
-  -- those after the first
+  -- where each member is so, each after the first is
   pub each-less : (v : A) (xs : List A) → Each P (v ∷ xs) → Each P xs
   each-less v xs h front back x e = h (v ∷ front) back x (ap (λ (ys : List A). v ∷ ys) e)
 
 module _ {A R : Type 0} (Passed : A → Type 0) (Gives : A → R → Type 0) where
-  -- one in front that is passed over
+  -- the first to give an answer, with one more in front that is passed over
   pub first-more : (v : A) (xs : List A) (a : R) → Passed v → IsFirst Passed Gives xs a → IsFirst Passed Gives (v ∷ xs) a
   first-more v xs a p h = record { front = v ∷ h .front; one = h .one; back = h .back; cut = ap (λ (ys : List A). v ∷ ys) (h .cut); before = each-more Passed v (h .front) p (h .before); gives = h .gives }
 
@@ -43,27 +43,27 @@ module _ {A R : Type 0} (Passed : A → Type 0) (Gives : A → R → Type 0) whe
 
   -- what is computed from a list, where a member that is passed over changes nothing and one that gives an answer decides
   module _ {S : Type 0} (say : R → S) (f : List A → S) (on : (x : A) (xs : List A) → Passed x → f xs ≡ f (x ∷ xs)) (here : (x : A) (xs : List A) (a : R) → Gives x a → say a ≡ f (x ∷ xs)) where
-    -- all are passed over
+    -- where all members are passed over, what is computed is that of the empty list
     pub first-never : (xs : List A) → Each Passed xs → f [] ≡ f xs
     first-never [] h = refl
     first-never (v ∷ xs) h = first-never xs (each-less Passed v xs h) ∙ on v xs (each-head Passed v xs h)
 
-    -- one decides behind some that are passed over
+    -- where a member gives an answer behind some that are passed over, it decides
     first-behind : (front : List A) (x : A) (back : List A) (a : R) → Each Passed front → Gives x a → say a ≡ f (front ++ (x ∷ back))
     first-behind [] x back a p g = here x back a g
     first-behind (v ∷ front) x back a p g = first-behind front x back a (each-less Passed v front p) g ∙ on v (front ++ (x ∷ back)) (each-head Passed v front p)
 
-    -- the first decides
+    -- the first member that gives an answer decides
     pub first-decides : (xs : List A) (a : R) → IsFirst Passed Gives xs a → say a ≡ f xs
     first-decides xs a h = first-behind (h .front) (h .one) (h .back) a (h .before) (h .gives) ∙ ap f (sym (h .cut))
 
--- what g tells of the last member, computed: that of the later members, or else of this one
+-- what g tells of the last member of which it tells something, computed: that of the later members, or else of this one
 abbrev pub lastBy : {A R : Type 0} → (A → Option R) → List A → Option R
 lastBy g [] = none
 lastBy g (x ∷ xs) = orElse (lastBy g xs) (g x)
 
 module _ {A R : Type 0} (g : A → Option R) where
-  -- what is computed is told of the last member, or there is none
+  -- what `lastBy` computes is what g tells of the last member, or there is none
   pub last-is : (xs : List A) → LastForm g xs (lastBy g xs)
   last-is [] = each-nil (λ x. g x ≡ none)
   last-is (v ∷ xs) = go (lastBy g xs) (last-is xs) (g v) refl
@@ -73,17 +73,17 @@ module _ {A R : Type 0} (g : A → Option R) where
       go none h (some a) e = record { front = []; one = v; back = xs; cut = refl; gives = e; after = h }
       go none h none e = each-more (λ x. g x ≡ none) v xs e h
 
-  -- of which g tells nothing
+  -- where g tells nothing of each member, `lastBy` computes none
   last-none : (xs : List A) → Each (λ x. g x ≡ none) xs → none ≡ lastBy g xs
   last-none [] h = refl
   last-none (v ∷ xs) h = rw (← last-none xs (each-less (λ x. g x ≡ none) v xs h)) (sym (each-head (λ x. g x ≡ none) v xs h))
 
-  -- the last behind any others
+  -- the last member of which g tells something, behind any others, is what `lastBy` computes
   last-behind : (front : List A) (x : A) (back : List A) (a : R) → g x ≡ some a → Each (λ x. g x ≡ none) back → some a ≡ lastBy g (front ++ (x ∷ back))
   last-behind [] x back a e h = rw (← last-none back h) (sym e)
   last-behind (v ∷ front) x back a e h = rw (← last-behind front x back a e h) refl
 
-  -- and nothing else is
+  -- nothing but what `lastBy` computes is told of the last member
   pub last-only : (xs : List A) (o : Option R) → LastForm g xs o → o ≡ lastBy g xs
   last-only xs none h = last-none xs h
   last-only xs (some a) h = last-behind (h .front) (h .one) (h .back) a (h .gives) (h .after) ∙ ap (lastBy g) (sym (h .cut))

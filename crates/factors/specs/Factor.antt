@@ -19,12 +19,12 @@ abbrev pub unreadOf : Told ℕ → Told (Option ℕ)
 unreadOf (good v) = good none
 unreadOf (bad q) = pick (eqb (q .number) 13) (bad q) (good none)
 
--- a number that reads goes on by k
+-- a measure's number that reads goes on by k
 abbrev pub readOr : Told ℕ → (ℕ → Told (Option ℕ)) → Told (Option ℕ)
 readOr (good v) k = k v
 readOr (bad q) k = unreadOf (bad q)
 
--- "an unreadable [..] base [..] gives no factor"
+-- a base's reference that reads goes on by k: "an unreadable [..] base [..] gives no factor"
 abbrev pub orNone : Told ℕ → (ℕ → Told (Option ℕ)) → Told (Option ℕ)
 orNone (good v) k = k v
 orNone (bad q) k = good none
@@ -34,7 +34,7 @@ pub data Chain : Type 0 where
   known : Option ℕ → Chain
   leads : ℕ → Chain
 
--- a conversion unit, with so many left: "The seventeenth conversion unit on one chain is 15, before its name", at "the unit record's
+-- a conversion unit, with `left` of them left: "The seventeenth conversion unit on one chain is 15, before its name", at "the unit record's
 -- argument start"; else its measure
 abbrev pub conversionOf : List ℕ → ℕ → ℕ → Span → Told Chain
 conversionOf s left start r = pick (eqb left 0) (bad (refusal 15 0 start)) (goodBy leads (measureRef s r))
@@ -43,11 +43,11 @@ conversionOf s left start r = pick (eqb left 0) (bad (refusal 15 0 start)) (good
 abbrev pub unitBy : {A : Type 0} → (Span → Told A) → (Span → Told A) → A → Thing → Told A
 unitBy si conversion neither t = onward (optionBy (onward (optionBy (good neither) conversion) (selfOr ConversionBasedUnit t)) si) (selfOr SiUnit t)
 
--- a length unit, with so many conversion units left on its chain
+-- one length unit of a chain, with `left` conversion units left on it
 unfoldable pub linkOf : List ℕ → ℕ → Thing → Told Chain
 linkOf s left t = unitBy (λ r. good (known (siLength s r))) (conversionOf s left (t .run .start)) (known none) t
 
--- a chain goes on by k
+-- a chain goes on by k where the unit leads to a measure
 abbrev pub chained : (ℕ → Told (Option ℕ)) → Chain → Told (Option ℕ)
 chained k (known f) = good f
 chained k (leads i) = k i
@@ -58,7 +58,7 @@ module _ (s : List ℕ) (find : ℕ → Told (Option Thing)) where
   abbrev pub baseOf : (Thing → Told (Option ℕ)) → ℕ → ℕ → ℕ → Told (Option ℕ)
   baseOf k v p e = orNone (nextOf referenceOf s p e .answer) (λ b. onward (optionBy (good none) (λ t. scaledBy v (k t))) (find b))
 
-  -- a measure's number and then its base
+  -- a measure's number and then its base unit, where k gives a unit's factor
   abbrev pub measureAt : (Thing → Told (Option ℕ)) → Span → Told (Option ℕ)
   measureAt k r = readOr (nextOf measureOf s (r .start) (r .stop) .answer) (λ v. baseOf k v (nextOf measureOf s (r .start) (r .stop) .place) (r .stop))
 
@@ -77,6 +77,6 @@ module _ (s : List ℕ) (find : ℕ → Told (Option Thing)) where
   unfoldable pub numberIn : ℕ → Told (Option ℕ)
   numberIn i = onward (optionBy (good none) (λ t. readOr (nextOf measureOf s (t .run .start) (t .run .stop) .answer) (λ v. good (some v)))) (find i)
 
-  -- an angle unit's factor
+  -- an angle unit's factor, none, or a refusal
   unfoldable pub angleOf : Thing → Told (Option ℕ)
   angleOf t = unitBy (λ r. good (siAngle s r)) (λ r. onward numberIn (measureRef s r)) none t

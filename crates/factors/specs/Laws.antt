@@ -74,13 +74,13 @@ thing-out k s w {q} = go (spanFine (length s) (w .argStart) (w .argEnd))
     go true h = clash (cc)
     go false h = refl
 
--- the arguments of a part
+-- the arguments of a part that was found
 abbrev pub runOf : Told (Option HeaderRow) → Told (Option Span)
 runOf (good none) = good none
 runOf (good (some p)) = good (some (span (p .argStart) (p .argEnd)))
 runOf (bad q) = bad q
 
--- the first part of a kind, by its row and by its piece
+-- the arguments of the first part of a kind, by its row and by its piece
 first-run : (s : List ℕ) (k : Kind) (ps : List HeaderRow) → runOf (good (firstKind s k ps)) ≡ good (firstPiece k (map (pieceOf s) ps))
 first-run s k [] = refl
 first-run s k (p ∷ ps) = go (isKind s k p) (firstKind s k ps) (firstPiece k (map (pieceOf s) ps)) (first-run s k ps)
@@ -89,7 +89,7 @@ first-run s k (p ∷ ps) = go (isKind s k p) (firstKind s k ps) (firstPiece k (m
     go true x y h = refl
     go false x y h = h
 
--- `complex_part` gives the first piece's arguments
+-- `complex_part` gives the arguments of the first part of the kind
 part-run : (s : List ℕ) (a z c : ℕ) (k : Kind) → spanFine (length s) a z ≡ true → runOf (partOf s a z c k) ≡ goodBy (firstPiece k) (pick (eqb c 1) (goodBy (map (pieceOf s)) (partsOf s a z)) (good []))
 part-run s a z c k h =
     let (l, m) = bounds a z (length s) h in
@@ -104,21 +104,21 @@ part-run s a z c k h =
     go false x = refl
 
 module _ (s : List ℕ) (w : Row) {p : Lookup.Span} (given : good p ≡ spanIn (length s) (w .argStart) (w .argEnd)) where
-  -- a record of the kind itself
+  -- the arguments of a record of the kind itself are its own
   pub self-own : (k : Kind) → sameKind (kindIn s w) k ≡ true → good (some (span (p .start) (p .end))) ≡ onward (selfOr k) (thingOf s w)
   self-own k e = let (f, g) = span-good (length s) (w .argStart) (w .argEnd) given in rw (g, f, e) refl
 
-  -- a record of another kind, by its parts
+  -- the arguments of a record of another kind are those of its first part of the kind
   pub self-part : (k : Kind) {x : Told (Option HeaderRow)} → sameKind (kindIn s w) k ≡ false → x ≡ partOf s (p .start) (p .end) (w .complex) k → runOf x ≡ onward (selfOr k) (thingOf s w)
   self-part k e h = let (f, g) = span-good (length s) (w .argStart) (w .argEnd) given in
       rw (f, e) (ap runOf (rw g at h) ∙ part-run s (w .argStart) (w .argEnd) (w .complex) k f)
 
-  -- a complex measure, by its parts
+  -- the arguments of a complex measure are those of its first LENGTH_MEASURE_WITH_UNIT part
   pub measure-part : {x : Told (Option HeaderRow)} → eqb (w .complex) 1 ≡ true → x ≡ partOf s (p .start) (p .end) 1 LengthMeasureWithUnit → runOf x ≡ onward measureRun (thingOf s w)
   measure-part e h = let (f, g) = span-good (length s) (w .argStart) (w .argEnd) given in
       rw (f, e) (ap runOf (rw g at h) ∙ part-run s (w .argStart) (w .argEnd) 1 LengthMeasureWithUnit f)
 
--- none of the ten kinds is that of a complex record
+-- none of the named kinds is that of a complex record
 named-simple : (k : Kind) → Named k → eqb (rankOf k) 10 ≡ false
 named-simple GeometricRepresentationContext n = refl
 named-simple GlobalUnitAssignedContext n = refl
@@ -133,7 +133,7 @@ named-simple LengthMeasureWithUnit n = refl
 named-simple Complex n = absurd n
 named-simple Other n = absurd n
 
--- nor is any keyword's
+-- no keyword is of the kind of a complex record
 word-simple : {t : List ℕ} {k : Kind} → KindForm t k → eqb (rankOf k) 10 ≡ false
 word-simple (KindForm.spelt k n m) = named-simple k n
 word-simple (KindForm.other m) = refl
@@ -151,15 +151,17 @@ pub measure-own : (s : List ℕ) (w : Row) {p : Lookup.Span} → good p ≡ span
 measure-own s w h e = let (f, g) = span-good (length s) (w .argStart) (w .argEnd) h in rw (g, f, kind-simple s w e) refl
 
 -- ---- where the reader reads up to
--- a parameter leaves the reader's end
+-- what a parameter's cut gives leaves the reader's end as it is
 bounded-end : (xs : List ℕ) (e : ℕ) (ys : List ℕ) (c : Cut) → bounded xs e ys c .end ≡ e
 bounded-end xs e ys (cut a b) = refl
 bounded-end xs e ys (unclosed o) = refl
 
+-- what a started parameter gives leaves the reader's end as it is
 begun-end : (xs : List ℕ) (e : ℕ) (ys : List ℕ) → begun xs e ys .end ≡ e
 begun-end xs e [] = refl
 begun-end xs e (c ∷ r) = bounded-end xs e (c ∷ r) (cutOf (c ∷ r))
 
+-- a parameter leaves the reader's end as it is
 param-end : (s : List ℕ) (p e : ℕ) → paramOf s p e .end ≡ e
 unfolding paramOf
 param-end s p e = go (inFile (length s) p e) (begun (take e s) e (started (drop p (take e s)))) (begun-end (take e s) e (started (drop p (take e s))))
@@ -168,32 +170,34 @@ param-end s p e = go (inFile (length s) p e) (begun (take e s) e (started (drop 
     go true r h = h
     go false r h = refl
 
--- so does what is read of it
+-- what is read of a parameter leaves the reader's end as it is
 next-end : {A : Type 0} (f : List ℕ → Answer A) (s : List ℕ) (p e : ℕ) → nextOf f s p e .end ≡ e
 unfolding nextOf
 next-end f s p e = param-end s p e
 
+-- a parameter that is skipped leaves the reader's end as it is
 skip-end : (s : List ℕ) (p e : ℕ) → skipOf s p e .end ≡ e
 unfolding skipOf
 skip-end s p e = param-end s p e
 
 -- ---- SI units
--- a name that was read, or none
+-- the bytes of a prefix that was read, or none where it is unreadable
 prefix-told : (s : List ℕ) (n : NextNameCode.NextName) (t : Told Span) → toldNextName n .answer ≡ t → ToldIn (length s) (SpanIn (length s)) t → namedIn s n ≡ nameOr [] s t
 prefix-told s (NextNameCode.the-variants.Name a z to) t h = subst (λ (u : Told Span). ToldIn (length s) (SpanIn (length s)) u → namedIn s (NextNameCode.the-variants.Name a z to) ≡ nameOr [] s u) h
     (λ k. rw (le-leb a z (k .0), le-leb z (length s) (k .1)) refl)
 prefix-told s (NextNameCode.the-variants.Refused f to) t h = subst (λ (u : Told Span). ToldIn (length s) (SpanIn (length s)) u → [] ≡ nameOr [] s u) h (λ k. refl)
 
--- a unit's own name is its name
+-- METRE has the name METRE
 metre-self : isWord (bytes "METRE") (bytes "METRE") ≡ true
 unfolding same
 metre-self = refl
 
+-- RADIAN has the name RADIAN
 radian-self : isWord (bytes "RADIAN") (bytes "RADIAN") ≡ true
 unfolding same
 radian-self = refl
 
--- a name that was read, or the unit's own
+-- a unit has a name that was read, or its own where that is unreadable
 unit-told : (s w : List ℕ) → isWord w w ≡ true → (n : NextNameCode.NextName) (t : Told Span) → toldNextName n .answer ≡ t → ToldIn (length s) (SpanIn (length s)) t → isNamed s n w ≡ isWord (nameOr w s t) w
 unit-told s w e (NextNameCode.the-variants.Name a z to) t h = subst (λ (u : Told Span). ToldIn (length s) (SpanIn (length s)) u → isNamed s (NextNameCode.the-variants.Name a z to) w ≡ isWord (nameOr w s u) w) h
     (λ k. rw (le-leb a z (k .0), le-leb z (length s) (k .1)) refl)
@@ -207,15 +211,15 @@ module _ (s : List ℕ) (a z : ℕ) (first second : NextNameCode.NextName) {p e 
       let g : e ≡ z = end ∙ ap (λ (x : Read Span). x .end) one ∙ param-end s a z in
       two ∙ ap (λ (x : ℕ). nextName s x e) f ∙ ap (λ (x : ℕ). nextName s (nextName s a z .place) x) g
 
-  -- whether the unit has the name
+  -- whether the code finds that the unit has the name is whether it has it
   unit-is : (name : String) → isWord (bytes name) (bytes name) ≡ true → isNamed s second (bytes name) ≡ isWord (unitIn name s (span a z)) (bytes name)
   unit-is name k = unit-told s (bytes name) k second (nextName s (nextName s a z .place) z .answer) (ap (λ (x : Read Span). x .answer) second-told) (name-in s (nextName s a z .place) z)
 
-  -- the prefix
+  -- the prefix that the code finds is the first parameter's
   prefix-is : namedIn s first ≡ prefixIn s (span a z)
   prefix-is = prefix-told s first (nextName s a z .answer) (ap (λ (x : Read Span). x .answer) one) (name-in s a z)
 
-  -- "another name no factor"
+  -- an SI length unit: "another name no factor"
   pub length-other : isNamed s second (bytes "METRE") ≡ false → good none ≡ good (siLength s (span a z))
   unfolding siLength
   length-other h = ap good (go (isWord (unitIn "METRE" s (span a z)) (bytes "METRE")) (sym (unit-is "METRE" metre-self) ∙ h))
@@ -223,6 +227,7 @@ module _ (s : List ℕ) (a z : ℕ) (first second : NextNameCode.NextName) {p e 
       go : (b : Bool) → b ≡ false → none ≡ pick b (some (lengthFactorOf (prefixIn s (span a z)))) none
       go b k = rw k refl
 
+  -- an SI length unit that is a METRE has the prefix's factor in mm
   pub length-is : isNamed s second (bytes "METRE") ≡ true → {v : ℕ} → v ≡ lengthFactorOf (namedIn s first) → good (some v) ≡ good (siLength s (span a z))
   unfolding siLength
   length-is h {v} l = ap good (go (isWord (unitIn "METRE" s (span a z)) (bytes "METRE")) (sym (unit-is "METRE" metre-self) ∙ h))
@@ -230,6 +235,7 @@ module _ (s : List ℕ) (a z : ℕ) (first second : NextNameCode.NextName) {p e 
       go : (b : Bool) → b ≡ true → some v ≡ pick b (some (lengthFactorOf (prefixIn s (span a z)))) none
       go b k = rw k (ap some (l ∙ ap lengthFactorOf prefix-is))
 
+  -- an SI angle unit: "another name no factor"
   pub angle-other : isNamed s second (bytes "RADIAN") ≡ false → good none ≡ good (siAngle s (span a z))
   unfolding siAngle
   angle-other h = ap good (go (isWord (unitIn "RADIAN" s (span a z)) (bytes "RADIAN")) (sym (unit-is "RADIAN" radian-self) ∙ h))
@@ -237,6 +243,7 @@ module _ (s : List ℕ) (a z : ℕ) (first second : NextNameCode.NextName) {p e 
       go : (b : Bool) → b ≡ false → none ≡ pick b (some (factorOf (prefixIn s (span a z)))) none
       go b k = rw k refl
 
+  -- an SI angle unit that is a RADIAN has the prefix's factor
   pub angle-is : isNamed s second (bytes "RADIAN") ≡ true → {v : ℕ} → v ≡ factorOf (namedIn s first) → good (some v) ≡ good (siAngle s (span a z))
   unfolding siAngle
   angle-is h {v} l = ap good (go (isWord (unitIn "RADIAN" s (span a z)) (bytes "RADIAN")) (sym (unit-is "RADIAN" radian-self) ∙ h))
@@ -246,12 +253,12 @@ module _ (s : List ℕ) (a z : ℕ) (first second : NextNameCode.NextName) {p e 
 
 -- ---- conversion units
 module _ (s : List ℕ) (a z : ℕ) where
-  -- a name that cannot be skipped
+  -- a conversion unit whose name cannot be skipped: what refuses it refuses the measure's reference
   pub ref-refused : {q : Refusal} {p e : ℕ} → reading (bad q) p e ≡ skipOf s a z → bad q ≡ measureRef s (span a z)
   unfolding measureRef
   ref-refused h = rw (← h) refl
 
-  -- behind it the reference
+  -- behind a conversion unit's name stands the measure's reference
   pub ref-past : {p e : ℕ} {x : Read ℕ} → reading (good tt) p e ≡ skipOf s a z → x ≡ nextOf referenceOf s p e → x .answer ≡ measureRef s (span a z)
   unfolding measureRef
   ref-past {p} {e} h k =
@@ -259,44 +266,45 @@ module _ (s : List ℕ) (a z : ℕ) where
       rw (← h) (ap (λ (r : Read ℕ). r .answer) (k ∙ ap (λ (y : ℕ). nextOf referenceOf s p y) l))
 
 module _ (s : List ℕ) (left start : ℕ) (r : Span) where
-  -- none is left
+  -- a conversion unit where none is left is 15
   pub conversion-deep : left ≡ 0 → bad (refusal 15 0 start) ≡ conversionOf s left start r
   conversion-deep h = rw h refl
 
-  -- one is left
+  -- a conversion unit whose measure's reference is refused, where one is left, is refused
   pub conversion-refused : {q : Refusal} → eqb left 0 ≡ false → bad q ≡ measureRef s r → bad q ≡ conversionOf s left start r
   conversion-refused h k = rw (h, ← k) refl
 
+  -- a conversion unit, where one is left, leads to its measure
   pub conversion-leads : {i : ℕ} → eqb left 0 ≡ false → good i ≡ measureRef s r → good (leads i) ≡ conversionOf s left start r
   conversion-leads h k = rw (h, ← k) refl
 
 -- ---- an SI part goes before a conversion
 module _ {A : Type 0} (si : Span → Told A) (conversion : Thing → Span → Told A) (neither : A) where
-  -- what is made of a unit
+  -- what is made of a unit by its SI part or its conversion
   abbrev By : Told Thing → Told A
   By x = onward (λ t. unitBy si (conversion t) neither t) x
 
-  -- a fault in the parts
+  -- a unit with a fault in its parts is refused
   unit-refused : {q : Refusal} (x : Told Thing) → bad q ≡ onward (selfOr SiUnit) x → bad q ≡ By x
   unit-refused (good t) h = rw (← h) refl
   unit-refused {q} (bad r) h = let e : q ≡ r = cc in ap bad e
 
-  -- an SI unit
+  -- of an SI unit its arguments decide
   unit-si : {r : Span} {y : Told A} (x : Told Thing) → good (some r) ≡ onward (selfOr SiUnit) x → y ≡ si r → y ≡ By x
   unit-si (good t) h e = rw (← h) e
   unit-si (bad r) h e = clash (cc)
 
-  -- neither
+  -- a unit that is neither gives what stands for neither
   unit-neither : (x : Told Thing) → good none ≡ onward (selfOr SiUnit) x → good none ≡ onward (selfOr ConversionBasedUnit) x → good neither ≡ By x
   unit-neither (good t) h k = rw (← h, ← k) refl
   unit-neither (bad r) h k = clash (cc)
 
-  -- a fault that is met only then
+  -- a unit with a fault that is met only when a conversion part is sought is refused
   unit-late : {q : Refusal} (x : Told Thing) → good none ≡ onward (selfOr SiUnit) x → bad q ≡ onward (selfOr ConversionBasedUnit) x → bad q ≡ By x
   unit-late (good t) h k = rw (← h, ← k) refl
   unit-late (bad r) h k = clash (cc)
 
-  -- a conversion unit
+  -- of a conversion unit that has no SI part its arguments decide
   unit-conversion : {r : Span} {y : Told A} (s : List ℕ) (w : Row) → good none ≡ onward (selfOr SiUnit) (thingOf s w) → good (some r) ≡ onward (selfOr ConversionBasedUnit) (thingOf s w)
       → y ≡ conversion (thingAt s w) r → y ≡ By (thingOf s w)
   unit-conversion {r} {y} s w h k e = go (spanFine (length s) (w .argStart) (w .argEnd)) h k
@@ -309,27 +317,27 @@ module _ {A : Type 0} (si : Span → Told A) (conversion : Thing → Span → To
 
 -- ---- a length unit
 module _ (s : List ℕ) (left : ℕ) where
-  -- a fault in the parts
+  -- a length unit with a fault in its parts is refused
   pub link-refused : {q : Refusal} (x : Told Thing) → bad q ≡ onward (selfOr SiUnit) x → bad q ≡ onward (linkOf s left) x
   unfolding linkOf
   link-refused x h = unit-refused (λ r. good (known (siLength s r))) (λ t. conversionOf s left (t .run .start)) (known none) x h
 
-  -- an SI unit
+  -- an SI length unit has its factor
   pub link-si : {r : Span} {y : Told (Option ℕ)} (x : Told Thing) → good (some r) ≡ onward (selfOr SiUnit) x → y ≡ good (siLength s r) → goodBy known y ≡ onward (linkOf s left) x
   unfolding linkOf
   link-si x h e = unit-si (λ r. good (known (siLength s r))) (λ t. conversionOf s left (t .run .start)) (known none) x h (ap (goodBy known) e)
 
-  -- neither
+  -- a length unit that is neither has no factor
   pub link-neither : (x : Told Thing) → good none ≡ onward (selfOr SiUnit) x → good none ≡ onward (selfOr ConversionBasedUnit) x → good (known none) ≡ onward (linkOf s left) x
   unfolding linkOf
   link-neither x h k = unit-neither (λ r. good (known (siLength s r))) (λ t. conversionOf s left (t .run .start)) (known none) x h k
 
-  -- a fault that is met only then
+  -- a length unit with a fault that is met only when a conversion part is sought is refused
   pub link-late : {q : Refusal} (x : Told Thing) → good none ≡ onward (selfOr SiUnit) x → bad q ≡ onward (selfOr ConversionBasedUnit) x → bad q ≡ onward (linkOf s left) x
   unfolding linkOf
   link-late x h k = unit-late (λ r. good (known (siLength s r))) (λ t. conversionOf s left (t .run .start)) (known none) x h k
 
-  -- a conversion unit
+  -- a conversion unit of length leads to its measure
   pub link-conversion : {r : Span} {y : Told Chain} (w : Row) → good none ≡ onward (selfOr SiUnit) (thingOf s w) → good (some r) ≡ onward (selfOr ConversionBasedUnit) (thingOf s w)
       → y ≡ conversionOf s left (w .argStart) r → y ≡ onward (linkOf s left) (thingOf s w)
   unfolding linkOf
@@ -337,34 +345,34 @@ module _ (s : List ℕ) (left : ℕ) where
 
 -- ---- an angle unit
 module _ (s : List ℕ) (find : ℕ → Told (Option Thing)) where
-  -- a fault in the parts
+  -- an angle unit with a fault in its parts is refused
   pub angle-refused : {q : Refusal} (x : Told Thing) → bad q ≡ onward (selfOr SiUnit) x → bad q ≡ onward (angleOf s find) x
   unfolding angleOf
   angle-refused x h = unit-refused (λ r. good (siAngle s r)) (λ t r. onward (numberIn s find) (measureRef s r)) none x h
 
-  -- an SI unit
+  -- an SI angle unit has its factor
   pub angle-si : {r : Span} {y : Told (Option ℕ)} (x : Told Thing) → good (some r) ≡ onward (selfOr SiUnit) x → y ≡ good (siAngle s r) → y ≡ onward (angleOf s find) x
   unfolding angleOf
   angle-si x h e = unit-si (λ r. good (siAngle s r)) (λ t r. onward (numberIn s find) (measureRef s r)) none x h e
 
-  -- neither
+  -- an angle unit that is neither has no factor
   pub angle-neither : (x : Told Thing) → good none ≡ onward (selfOr SiUnit) x → good none ≡ onward (selfOr ConversionBasedUnit) x → good none ≡ onward (angleOf s find) x
   unfolding angleOf
   angle-neither x h k = unit-neither (λ r. good (siAngle s r)) (λ t r. onward (numberIn s find) (measureRef s r)) none x h k
 
-  -- a fault that is met only then
+  -- an angle unit with a fault that is met only when a conversion part is sought is refused
   pub angle-late : {q : Refusal} (x : Told Thing) → good none ≡ onward (selfOr SiUnit) x → bad q ≡ onward (selfOr ConversionBasedUnit) x → bad q ≡ onward (angleOf s find) x
   unfolding angleOf
   angle-late x h k = unit-late (λ r. good (siAngle s r)) (λ t r. onward (numberIn s find) (measureRef s r)) none x h k
 
-  -- a conversion unit
+  -- a conversion unit of angle has the measure's number
   pub angle-conversion : {r : Span} {y : Told (Option ℕ)} (w : Row) → good none ≡ onward (selfOr SiUnit) (thingOf s w) → good (some r) ≡ onward (selfOr ConversionBasedUnit) (thingOf s w)
       → y ≡ onward (numberIn s find) (measureRef s r) → y ≡ onward (angleOf s find) (thingOf s w)
   unfolding angleOf
   angle-conversion w h k e = unit-conversion (λ r. good (siAngle s r)) (λ t r. onward (numberIn s find) (measureRef s r)) none s w h k e
 
 -- ---- the chain of conversion units
--- the conversion unit for which none is left leads nowhere
+-- a length unit on a chain on which no conversion unit is left leads to no measure
 link-ends : (s : List ℕ) {i : ℕ} (x : Told Thing) → good (leads i) ≡ onward (linkOf s 0) x → ⊥
 unfolding linkOf
 link-ends s (bad r) h = clash (cc)
@@ -377,17 +385,17 @@ link-ends s {i} (good t) h = go (selfOr SiUnit t) (selfOr ConversionBasedUnit t)
     go (good none) (good none) k = clash (cc)
     go (good none) (good (some r)) k = clash (cc)
 
--- a factor that is known goes on unchanged
+-- a factor that is known goes on unchanged along the chain
 known-on : (k : ℕ → Told (Option ℕ)) (x : Told (Option ℕ)) (y : Told Chain) → goodBy known x ≡ y → x ≡ onward (chained k) y
 known-on k (good f) y h = subst (λ (u : Told Chain). good f ≡ onward (chained k) u) h refl
 known-on k (bad q) y h = subst (λ (u : Told Chain). bad q ≡ onward (chained k) u) h refl
 
--- a refusal is the same whatever is told
+-- a refusal is the same, of whichever type the answer would have been
 same-bad : {A B : Type 0} {q r : Refusal} → _≡_ {A = Told A} (bad q) (bad r) → _≡_ {A = Told B} (bad q) (bad r)
 same-bad {q} {r} h = let e : q ≡ r = cc in ap bad e
 
 module _ (s : List ℕ) (find : ℕ → Told (Option Thing)) where
-  -- a unit whose factor is known
+  -- a length unit whose factor is known has it at the chain's end
   pub chain-known : (left : ℕ) (t : Told Thing) (x : Told (Option ℕ)) → goodBy known x ≡ onward (linkOf s left) t → x ≡ onward (lengthOf s find left) t
   unfolding lengthOf
   chain-known left (bad r) (good f) h = clash (cc)
@@ -395,92 +403,92 @@ module _ (s : List ℕ) (find : ℕ → Told (Option Thing)) where
   chain-known zero (good t) x h = known-on (λ i. good none) x (linkOf s zero t) h
   chain-known (suc n) (good t) x h = known-on (measureIn s find (λ b. lengthOf s find n b)) x (linkOf s (suc n) t) h
 
-  -- a unit that leads to a measure
+  -- a length unit that leads to a measure has the factor that the measure gives
   pub chain-leads : (left : ℕ) (t : Told Thing) {i : ℕ} {x : Told (Option ℕ)} → good (leads i) ≡ onward (linkOf s left) t → x ≡ measureIn s find (lengthOf s find (left - 1)) i → x ≡ onward (lengthOf s find left) t
   unfolding lengthOf
   chain-leads zero t h e = absurd (link-ends s t h)
   chain-leads (suc n) (bad r) h e = clash (cc)
   chain-leads (suc n) (good t) h e = let k : suc n - 1 ≡ n = omega arith in rw (← h) (rw k at e)
 
--- one is left for the unit that leads on
+-- where a length unit leads to a measure, one conversion unit is left for it
 pub chain-left : (s : List ℕ) (left : ℕ) (t : Told Thing) {i : ℕ} → good (leads i) ≡ onward (linkOf s left) t → 1 ≤ left
 chain-left s zero t h = absurd (link-ends s t h)
 chain-left s (suc n) t h = omega arith
 
 -- ---- records by their ids
 module _ (s rows slots : List ℕ) (ids : Ids) (i : ℕ) where
-  -- none has the id
+  -- where no row has the id there is no record
   pub find-none : none ≡ rowFound rows (searched rows slots ids i) → findOf s (rowFor rows slots ids) i ≡ good none
   unfolding findOf
   find-none h = rw (← h) refl
 
-  -- one has
+  -- where a row has the id the record is that row's
   pub find-row : {w : Row} → some w ≡ rowFound rows (searched rows slots ids i) → findOf s (rowFor rows slots ids) i ≡ goodBy some (thingOf s w)
   unfolding findOf
   find-row h = rw (← h) refl
 
 -- ---- measures
 module _ (s : List ℕ) (find : ℕ → Told (Option Thing)) (k : Thing → Told (Option ℕ)) (i : ℕ) where
-  -- "a missing record [..] gives no factor"
+  -- a measure's record: "a missing record [..] gives no factor"
   pub measure-missing : find i ≡ good none → good none ≡ measureIn s find k i
   unfolding measureIn
   measure-missing h = rw h refl
 
-  -- a fault in its parts
+  -- a measure with a fault in its parts is refused
   pub measure-refused : (t : Told Thing) {q : Refusal} → find i ≡ goodBy some t → bad q ≡ onward measureRun t → bad q ≡ measureIn s find k i
   unfolding measureIn
   measure-refused (good t) h e = rw (h, ← e) refl
   measure-refused (bad r) h e = rw h (same-bad e)
 
-  -- "nor does a complex length measure lacking a LENGTH_MEASURE_WITH_UNIT part"
+  -- a measure without arguments: "nor does a complex length measure lacking a LENGTH_MEASURE_WITH_UNIT part"
   pub measure-none : (t : Told Thing) → find i ≡ goodBy some t → good none ≡ onward measureRun t → good none ≡ measureIn s find k i
   unfolding measureIn
   measure-none (good t) h e = rw (h, ← e) refl
   measure-none (bad r) h e = clash (cc)
 
-  -- its arguments
+  -- a measure that has arguments gives what these say
   pub measure-some : (t : Told Thing) {r : Span} → find i ≡ goodBy some t → good (some r) ≡ onward measureRun t → measureIn s find k i ≡ measureAt s find k r
   unfolding measureIn
   measure-some (good t) h e = rw (h, ← e) refl
   measure-some (bad r) h e = clash (cc)
 
--- an unreadable number, whatever would follow
+-- an unreadable number gives no factor or refuses, whatever would follow
 unread-or : (k : ℕ → Told (Option ℕ)) (x : Told ℕ) {q : Refusal} → x ≡ bad q → unreadOf x ≡ readOr x k
 unread-or k x h = rw h refl
 
 module _ (s : List ℕ) (find : ℕ → Told (Option Thing)) (k : Thing → Told (Option ℕ)) (a z : ℕ) where
-  -- an unreadable number
+  -- a measure with an unreadable number has no factor, or 13 refuses
   pub at-unread : {y : Read ℕ} {q : Refusal} → y ≡ nextOf measureOf s a z → y .answer ≡ bad q → unreadOf (y .answer) ≡ measureAt s find k (span a z)
   at-unread {y} h e = subst (λ (u : Read ℕ). unreadOf (y .answer) ≡ readOr (u .answer) (λ v. baseOf s find k v (u .place) z)) h (unread-or (λ v. baseOf s find k v (y .place) z) (y .answer) e)
 
-  -- a number, and behind it the base
+  -- a measure whose number reads gives what its base does
   pub at-read : {v p e : ℕ} → reading (good v) p e ≡ nextOf measureOf s a z → measureAt s find k (span a z) ≡ baseOf s find k v p e
   at-read {v} {p} {e} h =
       let l : e ≡ z = ap (λ (r : Read ℕ). r .end) h ∙ next-end measureOf s a z in
       rw (← h, l) refl
 
 module _ (s : List ℕ) (find : ℕ → Told (Option Thing)) (k : Thing → Told (Option ℕ)) (v p e : ℕ) where
-  -- "an unreadable [..] base"
+  -- a measure with "an unreadable [..] base" has no factor
   pub base-unread : {q : Refusal} {o f : ℕ} → reading (bad q) o f ≡ nextOf referenceOf s p e → good none ≡ baseOf s find k v p e
   base-unread h = rw (← h) refl
 
-  -- a base that has no record
+  -- a measure whose base has no record has no factor
   pub base-missing : {b o f : ℕ} → reading (good b) o f ≡ nextOf referenceOf s p e → find b ≡ good none → good none ≡ baseOf s find k v p e
   base-missing h g = rw (← h, g) refl
 
-  -- "value times base factor"
+  -- a measure whose base has a record: "value times base factor"
   pub base-row : {b o f : ℕ} (t : Told Thing) {x : Told (Option ℕ)} → reading (good b) o f ≡ nextOf referenceOf s p e → find b ≡ goodBy some t → x ≡ onward k t → scaledBy v x ≡ baseOf s find k v p e
   base-row (good t) h g l = rw (← h, g, ← l) refl
   base-row (bad r) h g l = rw (← h, g, l) refl
 
 -- ---- angles
 module _ (s : List ℕ) (find : ℕ → Told (Option Thing)) (i : ℕ) where
-  -- "a missing record [..] gives no factor"
+  -- an angle's measure: "a missing record [..] gives no factor"
   pub number-missing : find i ≡ good none → good none ≡ numberIn s find i
   unfolding numberIn
   number-missing h = rw h refl
 
-  -- a record outside the file
+  -- an angle's measure whose arguments do not lie in the file is 9
   pub number-out : (w : Row) {q : Refusal} → find i ≡ goodBy some (thingOf s w) → bad q ≡ spanIn (length s) (w .argStart) (w .argEnd) → bad (refusal 9 0 0) ≡ numberIn s find i
   unfolding numberIn
   number-out w h e = rw h (go (thingOf s w) (thing-out (λ t. good t) s w e))
@@ -489,7 +497,7 @@ module _ (s : List ℕ) (find : ℕ → Told (Option Thing)) (i : ℕ) where
       go (good t) l = clash (cc)
       go (bad r) l = same-bad l
 
-  -- the number's answer
+  -- an angle's measure gives what its number does
   number-some : (w : Row) {p : Lookup.Span} {y : Read ℕ} → find i ≡ goodBy some (thingOf s w) → good p ≡ spanIn (length s) (w .argStart) (w .argEnd) → y ≡ nextOf measureOf s (p .start) (p .end)
       → numberIn s find i ≡ readOr (y .answer) (λ v. good (some v))
   unfolding numberIn
@@ -497,7 +505,7 @@ module _ (s : List ℕ) (find : ℕ → Told (Option Thing)) (i : ℕ) where
       let (f, l) = span-good (length s) (w .argStart) (w .argEnd) e in
       rw (h, f) (ap (λ (x : Read ℕ). readOr (x .answer) (λ v. good (some v))) (sym (rw l at g)))
 
-  -- an unreadable number
+  -- an angle's measure with an unreadable number has no factor, or 13 refuses
   pub number-unread : (w : Row) {p : Lookup.Span} {y : Read ℕ} {q : Refusal} → find i ≡ goodBy some (thingOf s w) → good p ≡ spanIn (length s) (w .argStart) (w .argEnd) → y ≡ nextOf measureOf s (p .start) (p .end)
       → y .answer ≡ bad q → unreadOf (y .answer) ≡ numberIn s find i
   number-unread w {p} {y} h e g l = unread-or (λ v. good (some v)) (y .answer) l ∙ sym (number-some w h e g)

@@ -56,29 +56,29 @@ use Rattle.factors.specs.Unit.{
 }
 
 -- ---- the parts of a complex record
--- what refuses them lies in the file
+-- a fault in the parts of a complex record lies in the file
 answer-placed : {A : Type 0} (n : ℕ) (F : A → Type 0) (x : Told A) → AnswerIn n F x → PlacedIn n x
 answer-placed n F (good a) h = tt
 answer-placed n F (bad q) h = h .1
 
 -- ---- answers put together
 module _ {A B : Type 0} (n : ℕ) where
-  -- by a function
+  -- an answer changed by a function refuses in the file where the answer does
   pub by-placed : (f : A → B) (x : Told A) → PlacedIn n x → PlacedIn n (goodBy f x)
   by-placed f (good a) h = tt
   by-placed f (bad q) h = h
 
-  -- read on
+  -- an answer that is read on refuses in the file where it does, and where what is read of what holds of it does
   pub on-placed : (F : A → Type 0) (f : A → Told B) (x : Told A) → ToldIn n F x → ((a : A) → F a → PlacedIn n (f a)) → PlacedIn n (onward f x)
   on-placed F f (good a) h k = k a h
   on-placed F f (bad q) h k = h
 
-  -- read on, whatever was told
+  -- an answer that is read on, whatever was told, refuses in the file where both do
   pub any-placed : (f : A → Told B) (x : Told A) → PlacedIn n x → ((a : A) → PlacedIn n (f a)) → PlacedIn n (onward f x)
   any-placed f (good a) h k = k a
   any-placed f (bad q) h k = h
 
-  -- where there may be none
+  -- an answer that may be none, read on, refuses in the file where all that may follow does
   pub option-placed : (other : Told B) (f : A → Told B) (x : Told (Option A)) → PlacedIn n x → PlacedIn n other → ((a : A) → PlacedIn n (f a)) → PlacedIn n (onward (optionBy other f) x)
   option-placed other f (good none) h o k = o
   option-placed other f (good (some a)) h o k = k a
@@ -89,12 +89,12 @@ module _ {A B : Type 0} (n : ℕ) where
 abbrev pub ThingIn : ℕ → Thing → Type 0
 ThingIn n t = (t .run .start ≤ n) × PlacedIn n (t .parts)
 
--- one that was found, or none
+-- a record that was found lies in a file of n bytes, or there is none
 abbrev pub FoundIn : ℕ → Option Thing → Type 0
 FoundIn n none = Unit {0}
 FoundIn n (some t) = ThingIn n t
 
--- the record of a row
+-- the record of a row lies in the file, and so does what refuses it
 pub thing-in : (s : List ℕ) (w : Row) → ToldIn (length s) (ThingIn (length s)) (thingOf s w)
 thing-in s w = go (spanFine (length s) (w .argStart) (w .argEnd)) refl
   where
@@ -106,7 +106,7 @@ thing-in s w = go (spanFine (length s) (w .argStart) (w .argEnd)) refl
     go true e = let (h, k) = bounds (w .argStart) (w .argEnd) (length s) e in (omega arith, pieces (eqb (w .complex) 1))
     go false e = omega arith
 
--- the record of an id
+-- the record of an id lies in the file, and so does what refuses it
 pub find-in : (s rows slots : List ℕ) (ids : Ids) (i : ℕ) → ToldIn (length s) (FoundIn (length s)) (findOf s (rowFor rows slots ids) i)
 unfolding findOf
 find-in s rows slots ids i = go (rowFound rows (searched rows slots ids i))
@@ -119,7 +119,7 @@ find-in s rows slots ids i = go (rowFound rows (searched rows slots ids i))
     go none = tt
     go (some w) = one (thingOf s w) (thing-in s w)
 
--- the arguments of a record of a kind, or of its first part of that kind
+-- what refuses the arguments of a record of a kind, or of its first part of that kind, lies in the file
 pub self-in : (n : ℕ) (k : Kind) (t : Thing) → ThingIn n t → PlacedIn n (selfOr k t)
 self-in n k t h = go (sameKind (t .kind) k)
   where
@@ -127,7 +127,7 @@ self-in n k t h = go (sameKind (t .kind) k)
     go true = tt
     go false = by-placed n (firstPiece k) (t .parts) (h .1)
 
--- the arguments of a measure
+-- what refuses the arguments of a measure lies in the file
 run-in : (n : ℕ) (t : Thing) → ThingIn n t → PlacedIn n (measureRun t)
 run-in n t h = go (sameKind (t .kind) Kinds.Complex)
   where
@@ -135,26 +135,26 @@ run-in n t h = go (sameKind (t .kind) Kinds.Complex)
     go true = by-placed n (firstPiece LengthMeasureWithUnit) (t .parts) (h .1)
     go false = tt
 
--- `self_or`
+-- what refuses an answer of `self_or` lies in the file
 pub self-placed : (s : List ℕ) (k : Kind) (w : Row) → PlacedIn (length s) (onward (selfOr k) (thingOf s w))
 self-placed s k w = on-placed (length s) (ThingIn (length s)) (selfOr k) (thingOf s w) (thing-in s w) (self-in (length s) k)
 
 -- ---- units
--- an SI part before a conversion
+-- what refuses a unit, by its SI part or its conversion, lies in the file
 unit-in : {A : Type 0} (n : ℕ) (si conversion : Span → Told A) (neither : A) (t : Thing) → ThingIn n t → ((r : Span) → PlacedIn n (si r)) → ((r : Span) → PlacedIn n (conversion r)) → PlacedIn n (unitBy si conversion neither t)
 unit-in n si conversion neither t h k l =
     option-placed n (onward (optionBy (good neither) conversion) (selfOr ConversionBasedUnit t)) si (selfOr SiUnit t) (self-in n SiUnit t h)
     (option-placed n (good neither) conversion (selfOr ConversionBasedUnit t) (self-in n ConversionBasedUnit t h) tt l)
     k
 
--- a measure's reference
+-- what refuses a measure's reference lies in the file
 ref-placed : (s : List ℕ) (r : Span) → PlacedIn (length s) (measureRef s r)
 unfolding measureRef
 ref-placed s r =
     any-placed (length s) (λ u. nextOf referenceOf s (skipOf s (r .start) (r .stop) .place) (r .stop) .answer) (skipOf s (r .start) (r .stop) .answer) (skip-placed s (r .start) (r .stop))
     (λ u. next-placed referenceOf s (skipOf s (r .start) (r .stop) .place) (r .stop))
 
--- one unit of a chain: 15 stands at the record's arguments
+-- what refuses one unit of a chain lies in the file: 15 stands at the record's arguments
 link-in : (s : List ℕ) (left : ℕ) (t : Thing) → ThingIn (length s) t → PlacedIn (length s) (linkOf s left t)
 unfolding linkOf
 link-in s left t h = unit-in (length s) (λ r. good (known (siLength s r))) (conversionOf s left (t .run .start)) (known none) t h (λ r. tt) (λ r. go (eqb left 0) r)
@@ -163,7 +163,7 @@ link-in s left t h = unit-in (length s) (λ r. good (known (siLength s r))) (con
     go true r = h .0
     go false r = by-placed (length s) leads (measureRef s r) (ref-placed s r)
 
--- a number that reads goes on, and 13 refuses at its own place
+-- what refuses a number that is read on lies in the file: 13 stands at its own place
 read-placed : (n : ℕ) (x : Told ℕ) (k : ℕ → Told (Option ℕ)) → PlacedIn n x → ((v : ℕ) → PlacedIn n (k v)) → PlacedIn n (readOr x k)
 read-placed n (good v) k h l = l v
 read-placed n (bad q) k h l = go (eqb (q .number) 13)
@@ -172,13 +172,13 @@ read-placed n (bad q) k h l = go (eqb (q .number) 13)
     go true = h
     go false = tt
 
--- an unreadable base refuses nothing
+-- what refuses a base that is read on lies in the file; an unreadable one refuses nothing
 base-placed : (n : ℕ) (x : Told ℕ) (k : ℕ → Told (Option ℕ)) → ((v : ℕ) → PlacedIn n (k v)) → PlacedIn n (orNone x k)
 base-placed n (good v) k l = l v
 base-placed n (bad q) k l = tt
 
 module _ (s : List ℕ) (find : ℕ → Told (Option Thing)) (finds : (i : ℕ) → ToldIn (length s) (FoundIn (length s)) (find i)) where
-  -- what is made of a record that was found
+  -- what refuses a record that was found, or what is made of it, lies in the file
   found-placed : (f : Thing → Told (Option ℕ)) (i : ℕ) → ((t : Thing) → ThingIn (length s) t → PlacedIn (length s) (f t)) → PlacedIn (length s) (onward (optionBy (good none) f) (find i))
   found-placed f i k = on-placed (length s) (FoundIn (length s)) (optionBy (good none) f) (find i) (finds i) go
     where
@@ -186,7 +186,7 @@ module _ (s : List ℕ) (find : ℕ → Told (Option Thing)) (finds : (i : ℕ) 
       go none h = tt
       go (some t) h = k t h
 
-  -- a measure, where k gives the factor of its base
+  -- what refuses a measure lies in the file, where k gives the factor of its base
   measure-in : (k : Thing → Told (Option ℕ)) → ((t : Thing) → ThingIn (length s) t → PlacedIn (length s) (k t)) → (i : ℕ) → PlacedIn (length s) (measureIn s find k i)
   unfolding measureIn
   measure-in k h i = found-placed (λ t. onward (optionBy (good none) (measureAt s find k)) (measureRun t)) i
@@ -200,7 +200,7 @@ module _ (s : List ℕ) (find : ℕ → Told (Option Thing)) (finds : (i : ℕ) 
           read-placed (length s) (nextOf measureOf s (r .start) (r .stop) .answer) (λ v. baseOf s find k v (nextOf measureOf s (r .start) (r .stop) .place) (r .stop)) (next-placed measureOf s (r .start) (r .stop))
           (λ v. base-placed (length s) (nextOf referenceOf s (nextOf measureOf s (r .start) (r .stop) .place) (r .stop) .answer) (λ b. onward (optionBy (good none) (λ t. scaledBy v (k t))) (find b)) (base v))
 
-  -- a length unit
+  -- what refuses a length unit lies in the file
   pub length-in : (left : ℕ) (t : Thing) → ThingIn (length s) t → PlacedIn (length s) (lengthOf s find left t)
   unfolding lengthOf
   length-in zero t h = any-placed (length s) (chained (λ i. good none)) (linkOf s zero t) (link-in s zero t h) go
@@ -214,22 +214,22 @@ module _ (s : List ℕ) (find : ℕ → Told (Option Thing)) (finds : (i : ℕ) 
       go k (known f) = tt
       go k (leads i) = k i
 
-  -- an angle's number
+  -- what refuses an angle's number lies in the file
   number-in : (i : ℕ) → PlacedIn (length s) (numberIn s find i)
   unfolding numberIn
   number-in i = found-placed (λ t. readOr (nextOf measureOf s (t .run .start) (t .run .stop) .answer) (λ v. good (some v))) i
       (λ t l. read-placed (length s) (nextOf measureOf s (t .run .start) (t .run .stop) .answer) (λ v. good (some v)) (next-placed measureOf s (t .run .start) (t .run .stop)) (λ v. tt))
 
-  -- an angle unit
+  -- what refuses an angle unit lies in the file
   pub angle-in : (t : Thing) → ThingIn (length s) t → PlacedIn (length s) (angleOf s find t)
   unfolding angleOf
   angle-in t h = unit-in (length s) (λ r. good (siAngle s r)) (λ r. onward (numberIn s find) (measureRef s r)) none t h (λ r. tt) (λ r. any-placed (length s) (numberIn s find) (measureRef s r) (ref-placed s r) number-in)
 
 module _ (s rows slots : List ℕ) (ids : Ids) (w : Row) where
-  -- `length_factor`
+  -- what refuses an answer of `length_factor` lies in the file
   pub length-placed : (left : ℕ) → PlacedIn (length s) (onward (lengthOf s (findOf s (rowFor rows slots ids)) left) (thingOf s w))
   length-placed left = on-placed (length s) (ThingIn (length s)) (lengthOf s (findOf s (rowFor rows slots ids)) left) (thingOf s w) (thing-in s w) (length-in s (findOf s (rowFor rows slots ids)) (find-in s rows slots ids) left)
 
-  -- `angle_factor`
+  -- what refuses an answer of `angle_factor` lies in the file
   pub angle-placed : PlacedIn (length s) (onward (angleOf s (findOf s (rowFor rows slots ids))) (thingOf s w))
   angle-placed = on-placed (length s) (ThingIn (length s)) (angleOf s (findOf s (rowFor rows slots ids))) (thingOf s w) (thing-in s w) (angle-in s (findOf s (rowFor rows slots ids)) (find-in s rows slots ids))

@@ -39,7 +39,7 @@ Converts t r = (selfOr SiUnit t ≡ good none) × (selfOr ConversionBasedUnit t 
 abbrev pub numberAt : List ℕ → Span → Told ℕ
 numberAt s r = nextOf measureOf s (r .start) (r .stop) .answer
 
--- the reference of its base unit, behind the number
+-- the reference of a measure's base unit, behind the number
 abbrev pub baseAt : List ℕ → Span → Told ℕ
 baseAt s r = nextOf referenceOf s (nextOf measureOf s (r .start) (r .stop) .place) (r .stop) .answer
 
@@ -71,11 +71,12 @@ module _ (s : List ℕ) (find : ℕ → Told (Option Thing)) where
     classless : {r : Span} {q : Refusal} → Has i r → numberAt s r ≡ bad q → q .number ≡ 13 → MeasureForm i (ends (bad q))
     -- "a fault in the parts of a complex record met, refuses the whole answer"
     faulty : {m : Thing} {q : Refusal} → find i ≡ good (some m) → measureRun m ≡ bad q → MeasureForm i (ends (bad q))
-    -- "9 span [..] outside the file or backwards": the measure's record, or the base's, cannot be had
+    -- "9 span [..] outside the file or backwards": the measure's record cannot be had
     lost : {q : Refusal} → find i ≡ bad q → MeasureForm i (ends (bad q))
+    -- "9 span [..] outside the file or backwards": the base's record cannot be had
     base-lost : {r : Span} {v b : ℕ} {q : Refusal} → Has i r → numberAt s r ≡ good v → baseAt s r ≡ good b → find b ≡ bad q → MeasureForm i (ends (bad q))
 
-  -- the factor of a length unit that has so many conversion units before it on its chain
+  -- the factor of a length unit that has k conversion units before it on its chain
   pub data LengthForm : ℕ → Thing → Told (Option ℕ) → Type 0 where
     -- "An SI part goes before a conversion"
     si : {k : ℕ} {t : Thing} {r : Span} → selfOr SiUnit t ≡ good (some r) → LengthForm k t (good (siLength s r))
@@ -101,12 +102,12 @@ module _ (s : List ℕ) (find : ℕ → Told (Option Thing)) where
     pub number : ℕ
     pub leads : MeasureForm measure (base number u)
 
-  -- so many steps lead from the unit t to the unit u
+  -- n steps lead from the unit t to the unit u
   abbrev pub Links : ℕ → Thing → Thing → Type 0
   Links zero t u = t ≡ u
   Links (suc n) t u = (v : Thing) × (Step t v × Links n v u)
 
-  -- after so many steps from the unit t comes one more conversion unit, whose record's arguments start at p: with sixteen, "The seventeenth
+  -- after n steps from the unit t comes one more conversion unit, whose record's arguments start at p: with sixteen, "The seventeenth
   -- conversion unit on one chain"
   pub record Follows (n : ℕ) (t : Thing) (p : ℕ) : Type 0 where
     pub unit : Thing
@@ -116,6 +117,7 @@ module _ (s : List ℕ) (find : ℕ → Told (Option Thing)) where
     pub place : p ≡ unit .run .start
 
   -- ---- an angle unit
+  -- the factor of an angle unit
   pub data AngleForm (t : Thing) : Told (Option ℕ) → Type 0 where
     -- "Angle: the prefix factor."
     si : {r : Span} → selfOr SiUnit t ≡ good (some r) → AngleForm t (good (siAngle s r))
@@ -123,8 +125,9 @@ module _ (s : List ℕ) (find : ℕ → Told (Option Thing)) where
     neither : selfOr SiUnit t ≡ good none → selfOr ConversionBasedUnit t ≡ good none → AngleForm t (good none)
     -- "An angle's conversion gives the measure's number alone."
     conversion : {r : Span} {i v : ℕ} {m : Thing} → Converts t r → measureRef s r ≡ good i → find i ≡ good (some m) → numberAt s (m .run) ≡ good v → AngleForm t (good (some v))
-    -- "a missing record, or an unreadable number [..], gives no factor"
+    -- "a missing record, or an unreadable number [..], gives no factor": the measure's record is missing
     missing : {r : Span} {i : ℕ} → Converts t r → measureRef s r ≡ good i → find i ≡ good none → AngleForm t (good none)
+    -- "a missing record, or an unreadable number [..], gives no factor": the measure's number is unreadable
     unreadable : {r : Span} {i : ℕ} {m : Thing} {q : Refusal} → Converts t r → measureRef s r ≡ good i → find i ≡ good (some m) → numberAt s (m .run) ≡ bad q → (q .number ≡ 13 → ⊥) → AngleForm t (good none)
     -- "13 inside units refuses the whole answer."
     classless : {r : Span} {i : ℕ} {m : Thing} {q : Refusal} → Converts t r → measureRef s r ≡ good i → find i ≡ good (some m) → numberAt s (m .run) ≡ bad q → q .number ≡ 13 → AngleForm t (bad q)

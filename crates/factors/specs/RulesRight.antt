@@ -25,11 +25,11 @@ use Rattle.factors.specs.Rules.{OfKind, PieceForm, Converts, numberAt, b
 
 -- ---- the first part of a kind
 module _ (k : Kind) where
-  -- a part of another kind changes nothing
+  -- a part of another kind in front does not change which is the first of the kind
   piece-on : (p : Piece) (ps : List Piece) → sameKind (p .kind) k ≡ false → firstPiece k ps ≡ firstPiece k (p ∷ ps)
   piece-on p ps e = rw e refl
 
-  -- one of the kind decides
+  -- a part of the kind in front is the first of the kind
   piece-here : (p : Piece) (ps : List Piece) (r : Span) → OfKind k p r → some r ≡ firstPiece k (p ∷ ps)
   piece-here p ps r (e, f) = rw (e, f) refl
 
@@ -38,7 +38,7 @@ module _ (k : Kind) where
   piece-form-only {ps} (PieceForm.part {r} h) = first-decides (λ p. sameKind (p .kind) k ≡ false) (OfKind k) some (firstPiece k) piece-on piece-here ps r h
   piece-form-only {ps} (PieceForm.without h) = first-never (λ p. sameKind (p .kind) k ≡ false) (OfKind k) some (firstPiece k) piece-on piece-here ps h
 
-  -- and that one is the first part by the rules
+  -- the first part of a kind that is computed is the one by the rules
   pub piece-form-is : (ps : List Piece) → PieceForm k ps (firstPiece k ps)
   piece-form-is ps = sole (PieceForm k ps) (λ o. piece-form-only) (go (first-comes (λ p. sameKind (p .kind) k ≡ false) (OfKind k) (λ p. by p (sameKind (p .kind) k) refl) ps))
     where
@@ -60,7 +60,7 @@ no-fault a b t e = go (sameKind (t .kind) a) (sameKind (t .kind) b) (t .parts) e
     go false false (good ps) e = (_, refl)
     go false false (bad q) e = clash (cc)
 
--- what a measure leads to, where k gives the factor of its base unit
+-- the factor that a measure leads to, where k gives the factor of its base unit
 basedBy : (Thing → Told (Option ℕ)) → Based → Told (Option ℕ)
 basedBy k (ends a) = a
 basedBy k (base v u) = scaledBy v (k u)
@@ -113,12 +113,12 @@ module _ (s : List ℕ) (find : ℕ → Told (Option Thing)) where
       found (bad q) f = (_, MeasureForm.lost f)
 
   -- ---- a length unit
-  -- a conversion unit, where some are left
+  -- a conversion unit of length leads to its measure, where some are left
   link-leads : (n : ℕ) (t : Thing) (r : Span) → (n ≡ 0 → ⊥) → Converts t r → linkOf s n t ≡ goodBy leads (measureRef s r)
   unfolding linkOf
   link-leads n t r d (e, f) = rw (e, f, ne-eqb n 0 d) refl
 
-  -- the factor by the rules is the one that is computed, where those before the unit and those left are sixteen
+  -- a length unit's factor by the rules is the one that is computed, where those before the unit and those left are sixteen
   length-steps : {k : ℕ} {t : Thing} {a : Told (Option ℕ)} → LengthForm s find k t a → (n : ℕ) → k + n ≡ 16 → a ≡ lengthOf s find n t
   unfolding linkOf basedBy
   length-steps {t = t} (LengthForm.si {r} e) n h = chain-known s find n (good t) (good (siLength s r)) (rw e refl)
@@ -131,7 +131,7 @@ module _ (s : List ℕ) (find : ℕ → Told (Option Thing)) where
   length-steps {t = t} (LengthForm.conversion {v} {u} {r} l c m g f) n h =
       chain-leads s find n (good t) (sym (link-leads n t r (λ z. absurd (omega arith)) c ∙ ap (goodBy leads) m)) (ap (scaledBy v) (length-steps f (n - 1) (omega arith)) ∙ measure-only (lengthOf s find (n - 1)) g)
 
-  -- a unit has a factor by the rules, where its base unit would have one
+  -- a length unit has a factor by the rules, where its base unit would have one
   length-comes : (k : ℕ) → (k ≡ 16) ⊎ ((k < 16) × ((u : Thing) → (a : Told (Option ℕ)) × LengthForm s find (suc k) u a)) → (t : Thing) → (a : Told (Option ℕ)) × LengthForm s find k t a
   length-comes k next t = by (selfOr SiUnit t) refl
     where
@@ -156,7 +156,7 @@ module _ (s : List ℕ) (find : ℕ → Told (Option Thing)) where
       by (good (some r)) e = (_, LengthForm.si e)
       by (good none) e = let (o, f) = no-fault SiUnit ConversionBasedUnit t e in other e o f
 
-  -- every unit has one, where those before it and those left are sixteen
+  -- every length unit has a factor by the rules, where those before it and those left are sixteen
   length-all : (n k : ℕ) → k + n ≡ 16 → (t : Thing) → (a : Told (Option ℕ)) × LengthForm s find k t a
   length-all zero k h t = length-comes k (inl (omega arith)) t
   length-all (suc n) k h t = length-comes k (inr (omega arith, λ u. length-all n (suc k) (omega arith) u)) t
@@ -165,12 +165,12 @@ module _ (s : List ℕ) (find : ℕ → Told (Option Thing)) where
   pub length-form-only : {t : Thing} {a : Told (Option ℕ)} → LengthForm s find 0 t a → a ≡ lengthOf s find 16 t
   length-form-only h = length-steps h 16 refl
 
-  -- and that one is the factor by the rules
+  -- the factor of a length unit that is computed is the one by the rules
   pub length-form-is : (t : Thing) → LengthForm s find 0 t (lengthOf s find 16 t)
   length-form-is t = sole (LengthForm s find 0 t) (λ a. length-form-only) (length-all 16 0 refl t)
 
   -- ---- an angle unit
-  -- the factor by the rules is the one that is computed
+  -- the factor of an angle unit by the rules is the one that is computed
   pub angle-form-only : {t : Thing} {a : Told (Option ℕ)} → AngleForm s find t a → a ≡ angleOf s find t
   unfolding angleOf numberIn
   angle-form-only (AngleForm.si e) = rw e refl
@@ -183,7 +183,7 @@ module _ (s : List ℕ) (find : ℕ → Told (Option Thing)) where
   angle-form-only (AngleForm.unnamed (e, f) m) = rw (e, f, m) refl
   angle-form-only (AngleForm.faulty e) = rw e refl
 
-  -- and that one is the factor by the rules
+  -- the factor of an angle unit that is computed is the one by the rules
   pub angle-form-is : (t : Thing) → AngleForm s find t (angleOf s find t)
   angle-form-is t = sole (AngleForm s find t) (λ a. angle-form-only) (by (selfOr SiUnit t) refl)
     where

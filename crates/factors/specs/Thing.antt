@@ -18,7 +18,7 @@ use Rattle.parts.specs.Part.{partsOf}
 use Rattle.index.specs.declared.Ids.{Ids}
 use Rattle.lookup.specs.Lookup.{cut, spanFine, kindIn, rowFor}
 
--- an answer that is good, by f
+-- an answer that is good, changed by f; a refusal as it is
 abbrev pub goodBy : {A B : Type 0} → (A → B) → Told A → Told B
 goodBy f (good a) = good (f a)
 goodBy f (bad q) = bad q
@@ -70,7 +70,7 @@ findOf s row k = thingFound s (row k)
 abbrev pub tableFind : List ℕ → List ℕ → List ℕ → Ids → ℕ → Told (Option Thing)
 tableFind s rows slots ids = findOf s (rowFor rows slots ids)
 
--- the first part of a kind
+-- the arguments of the first part of a kind, or none
 abbrev pub firstPiece : Kind → List Piece → Option Span
 firstPiece k [] = none
 firstPiece k (p ∷ ps) = pick (sameKind (p .kind) k) (some (p .run)) (firstPiece k ps)

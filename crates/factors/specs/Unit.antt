@@ -30,23 +30,23 @@ nameOr other s (bad q) = other
 abbrev pub nextName : List ℕ → ℕ → ℕ → Read Span
 nextName s p e = mapped (nameAt s) (paramOf s p e)
 
--- "an unreadable prefix is none": the first parameter
+-- "an unreadable prefix is none": the first parameter of an SI unit
 abbrev pub prefixIn : List ℕ → Span → List ℕ
 prefixIn s r = nameOr [] s (nextName s (r .start) (r .stop) .answer)
 
--- "an unreadable name METRE or RADIAN": the second parameter, from where the reader stands after the first
+-- "an unreadable name METRE or RADIAN": the second parameter of an SI unit, from where the reader stands after the first
 abbrev pub unitIn : String → List ℕ → Span → List ℕ
 unitIn other s r = nameOr (bytes other) s (nextName s (nextName s (r .start) (r .stop) .place) (r .stop) .answer)
 
--- "another name no factor; all in either case"
+-- the factor f where an SI unit has the name: "another name no factor; all in either case"
 abbrev pub named : String → List ℕ → Span → ℕ → Option ℕ
 named name s r f = pick (isWord (unitIn name s r) (bytes name)) (some f) none
 
--- "Length in mm: 1000.0 times the prefix factor, one rounding."
+-- the factor of an SI length unit: "Length in mm: 1000.0 times the prefix factor, one rounding."
 unfoldable pub siLength : List ℕ → Span → Option ℕ
 siLength s r = named "METRE" s r (lengthFactorOf (prefixIn s r))
 
--- "Angle: the prefix factor."
+-- the factor of an SI angle unit: "Angle: the prefix factor."
 unfoldable pub siAngle : List ℕ → Span → Option ℕ
 siAngle s r = named "RADIAN" s r (factorOf (prefixIn s r))
 
@@ -55,12 +55,12 @@ siAngle s r = named "RADIAN" s r (factorOf (prefixIn s r))
 unfoldable pub measureRef : List ℕ → Span → Told ℕ
 measureRef s r = onward (λ u. nextOf referenceOf s (skipOf s (r .start) (r .stop) .place) (r .stop) .answer) (skipOf s (r .start) (r .stop) .answer)
 
--- an option taken apart
+-- an option taken apart: `other` for none, and k of what it holds
 abbrev pub optionBy : {A B : Type 0} → B → (A → B) → Option A → B
 optionBy other k none = other
 optionBy other k (some a) = k a
 
--- "value times base factor", where the base has one
+-- a factor times a measure's number: "value times base factor", where the base has one
 abbrev pub scaledBy : ℕ → Told (Option ℕ) → Told (Option ℕ)
 scaledBy v a = goodBy (optionBy none (λ f. some (product v f))) a
 

@@ -23,7 +23,7 @@ little a b c d = a + b * 256 + c * 65536 + d * 16777216
 abbrev pub littleFour : ℕ → List ℕ
 littleFour x = x % 256 ∷ (x / 256 % 256) ∷ (x / 65536 % 256) ∷ (x / 16777216 % 256) ∷ []
 
--- numbers as bytes, one after the other
+-- numbers of 32 bits as bytes, four for each, one after the other
 unfoldable pub littles : List ℕ → List ℕ
 littles [] = []
 littles (x ∷ xs) = littleFour x ++ littles xs
@@ -60,12 +60,12 @@ rowsOf s = firstRows (rowAt s) (length s / 24)
 abbrev pub fineRow : ℕ → Row → Bool
 fineRow len w = leb (w .keyStart) (w .keyEnd) && leb (w .keyEnd) len && leb (w .argStart) (w .argEnd) && leb (w .argEnd) len && leb (w .complex) 1
 
--- the first n rows are all so
+-- the first n rows are all fine by the test
 unfoldable pub fineAll : ℕ → (ℕ → Row) → ℕ → Bool
 fineAll len r zero = true
 fineAll len r (suc n) = fineAll len r n && fineRow len (r n)
 
--- a row that is fine, without a loop (`fine-each`, `fine-every`): its spans run forwards and lie in the file, and its mark is 0 or 1
+-- a row is fine, without a loop (`fine-each`, `fine-every`): its spans run forwards and lie in the file, and its mark is 0 or 1
 pub record FineRow (len : ℕ) (w : Row) : Type 0 where
   pub key : w .keyStart ≤ w .keyEnd
   pub keyIn : w .keyEnd ≤ len
@@ -77,7 +77,7 @@ pub record FineRow (len : ℕ) (w : Row) : Type 0 where
 abbrev pub judged : Bool → Bool → ℕ → Told ℕ
 judged okay short n = pick okay (pick short (bad (refusal 16 0 0)) (good n)) (bad (refusal 9 0 0))
 
--- writing: n rows, for a file of this length, into so many bytes
+-- the answer to writing n rows, for a file of length len, into `out` bytes
 abbrev pub keepOf : ℕ → (ℕ → Row) → ℕ → ℕ → Told ℕ
 keepOf len r n out = judged (fineAll len r n) (ltb out (n * 24)) n
 
@@ -85,12 +85,12 @@ keepOf len r n out = judged (fineAll len r n) (ltb out (n * 24)) n
 abbrev pub keepTable : ℕ → List ℕ → ℕ → ℕ → Told ℕ
 keepTable len rows n out = keepOf len (rowNumbers rows) (tableRows rows n) out
 
--- reading: bytes, for a file of this length, into room for so many rows; "left-over bytes" are 9 too
+-- the answer to reading bytes, for a file of length len, into room for so many rows; "left-over bytes" are 9 too
 abbrev pub readOf : ℕ → List ℕ → ℕ → Told ℕ
 readOf len bytes room =
     judged (eqb (length bytes % 24) 0 && fineAll len (rowAt bytes) (length bytes / 24)) (ltb room (length bytes / 24)) (length bytes / 24)
 
--- "all room beyond an answer" keeps its bytes: those of rows in front of what was there
+-- the lent bytes once rows are written: "all room beyond an answer" keeps its bytes, behind those of the rows
 abbrev pub bytesAfter : List Row → List ℕ → List ℕ
 bytesAfter ws old = bytesOf ws ++ drop (length (bytesOf ws)) old
 
@@ -99,12 +99,12 @@ abbrev pub keptAfter : (ℕ → Row) → Told ℕ → List ℕ → List ℕ
 keptAfter r (good n) old = bytesAfter (firstRows r n) old
 keptAfter r (bad q) old = old
 
--- the lent rows after reading
+-- the lent rows after reading; a refusal leaves them as they were
 abbrev pub readAfter : List ℕ → Told ℕ → List ℕ → List ℕ
 readAfter bytes (good n) old = rowsLaid (rowsOf bytes) old
 readAfter bytes (bad q) old = old
 
--- what the code's answer says
+-- what the code's answer about kept rows says
 abbrev pub toldKept : Kept → Told ℕ
 toldKept (Rows n) = good n
 toldKept (Refused f) = bad (told f)

@@ -28,15 +28,15 @@ abbrev pub Small : List Row → Type 0
 Small [] = Unit {0}
 Small (w ∷ ws) = Below 4294967296 (six w) × Small ws
 
--- a number is the number of its four bytes
+-- a number of 32 bits is the number of its four bytes
 little-four : (x : ℕ) → x < 4294967296 → little (x % 256) (x / 256 % 256) (x / 65536 % 256) (x / 16777216 % 256) ≡ x
 little-four x h = let e : x / 16777216 % 256 ≡ x / 16777216 = omega arith in omega (arith, e)
 
--- a byte behind others
+-- a byte at a place behind others is one of those that follow
 behind : (xs ys : List ℕ) (p q : ℕ) → q ≡ length xs + p → getD (xs ++ ys) q 0 ≡ getD ys p 0
 behind xs ys p q e = ap (λ (z : ℕ). getD (xs ++ ys) z 0) e ∙ getD-append-add xs ys p 0
 
--- so a number
+-- a number at a place behind other bytes is one of those that follow
 number-behind : (xs ys : List ℕ) (p q : ℕ) → q ≡ length xs + p → numberAt (xs ++ ys) q ≡ numberAt ys p
 number-behind xs ys p q e =
     rw (behind xs ys p q e, behind xs ys (p + 1) (q + 1) (omega arith), behind xs ys (p + 2) (q + 2) (omega arith), behind xs ys (p + 3) (q + 3) (omega arith)) refl
@@ -53,7 +53,7 @@ row-behind w s k =
     (number-behind (rowBytes w) s (k * 24 + 16) (suc k * 24 + 16) (omega (arith, l)))
     (number-behind (rowBytes w) s (k * 24 + 20) (suc k * 24 + 20) (omega (arith, l)))
 
--- the first row of bytes that begin with a row
+-- the first row of bytes that begin with a row is that row
 row-front : (w : Row) (s : List ℕ) → Below 4294967296 (six w) → rowAt (rowBytes w ++ s) 0 ≡ w
 unfolding littles
 row-front w s h =
@@ -65,19 +65,19 @@ row-front w s h =
     (little-four (w .argEnd) (h .1 .1 .1 .1 .0))
     (little-four (w .complex) (h .1 .1 .1 .1 .1 .0))
 
--- the first row, and then the others
+-- the first n + 1 rows are row 0 and then the others
 first-cons : (r : ℕ → Row) (n : ℕ) → firstRows r (suc n) ≡ r 0 ∷ firstRows (λ k. r (suc k)) n
 unfolding firstRows
 first-cons r zero = refl
 first-cons r (suc n) = ap (λ (l : List Row). l ++ (r (suc n) ∷ [])) (first-cons r n)
 
--- rows that agree, number by number, are the same
+-- two ways to number rows that agree on the first n have the same first n
 first-same : (r q : ℕ → Row) (n : ℕ) → ((k : ℕ) → k < n → r k ≡ q k) → firstRows r n ≡ firstRows q n
 unfolding firstRows
 first-same r q zero h = refl
 first-same r q (suc n) h = ap₂ (λ (l : List Row) (w : Row). l ++ (w ∷ [])) (first-same r q n (λ k l. h k (omega arith))) (h n (omega arith))
 
--- each row of written bytes, read back
+-- each row, written as bytes, is read back
 each-back : (ws : List Row) → Small ws → firstRows (rowAt (bytesOf ws)) (length ws) ≡ ws
 unfolding firstRows bytesOf
 each-back [] h = refl
@@ -90,31 +90,34 @@ each-back (w ∷ ws) h =
 pub numbers-back : (ws : List Row) → Small ws → rowsOf (bytesOf ws) ≡ ws
 numbers-back ws h = let l = length-bytes ws in ap (firstRows (rowAt (bytesOf ws))) (omega (arith, l)) ∙ each-back ws h
 
--- the first byte of a number of four bytes, and the others
+-- the first byte of a number of four bytes
 byte-0 : (a b c d : ℕ) → a < 256 → little a b c d % 256 ≡ a
 byte-0 a b c d h = omega arith
 
+-- the second byte of a number of four bytes
 byte-1 : (a b c d : ℕ) → a < 256 → b < 256 → little a b c d / 256 % 256 ≡ b
 byte-1 a b c d h g = omega arith
 
+-- the third byte of a number of four bytes
 byte-2 : (a b c d : ℕ) → a < 256 → b < 256 → c < 256 → little a b c d / 65536 % 256 ≡ c
 byte-2 a b c d h g k = omega arith
 
+-- the fourth byte of a number of four bytes
 byte-3 : (a b c d : ℕ) → a < 256 → b < 256 → c < 256 → d < 256 → little a b c d / 16777216 % 256 ≡ d
 byte-3 a b c d h g k l = omega arith
 
--- each byte of a list, and 0 past its end
+-- each byte of a list is below 256, and so is the 0 past its end
 below-at : (s : List ℕ) → Below 256 s → (i : ℕ) → getD s i 0 < 256
 below-at [] h i = omega arith
 below-at (x ∷ xs) h zero = h .0
 below-at (x ∷ xs) h (suc i) = below-at xs (h .1) i
 
--- one byte more
+-- the first bytes of a list, and the next one
 take-more : (s : List ℕ) (p q : ℕ) (l : List ℕ) → p < length s → suc p ≡ q → take p s ++ (getD s p 0 ∷ l) ≡ take q s ++ l
 take-more s p q l h e =
     sym (append-assoc (take p s) (getD s p 0 ∷ []) l) ∙ ap (λ (z : List ℕ). z ++ l) (sym (take-suc s p 0 h) ∙ ap (λ (z : ℕ). take z s) e)
 
--- the four bytes of a number that was read
+-- the four bytes of a number that was read, behind the bytes before it, are the list's own
 number-more : (s : List ℕ) → Below 256 s → (p q : ℕ) (l : List ℕ) → p + 4 ≤ length s → p + 4 ≡ q → take p s ++ (littleFour (numberAt s p) ++ l) ≡ take q s ++ l
 number-more s w p q l h e =
     let b = below-at s w in
@@ -128,7 +131,7 @@ number-more s w p q l h e =
     ∙ take-more s (p + 2) (p + 3) _ (omega arith) (omega arith)
     ∙ take-more s (p + 3) q _ (omega arith) (omega arith))
 
--- the 24 bytes of a row that was read
+-- the 24 bytes of a row that was read, behind the bytes before it, are the list's own
 row-more : (s : List ℕ) → Below 256 s → (k : ℕ) → k * 24 + 24 ≤ length s → take (k * 24) s ++ rowBytes (rowAt s k) ≡ take (suc k * 24) s
 unfolding littles
 row-more s w k h =
@@ -140,7 +143,7 @@ row-more s w k h =
     ∙ number-more s w (k * 24 + 20) (suc k * 24) _ (omega arith) (omega arith)
     ∙ append-nil (take (suc k * 24) s)
 
--- the bytes of the first rows that were read
+-- the bytes of the first n rows that were read are the list's first
 front-back : (s : List ℕ) → Below 256 s → (n : ℕ) → n * 24 ≤ length s → bytesOf (firstRows (rowAt s) n) ≡ take (n * 24) s
 unfolding firstRows bytesOf
 front-back s w zero h = refl
@@ -153,12 +156,12 @@ front-back s w (suc n) h =
 pub bytes-back : (s : List ℕ) → Below 256 s → length s % 24 ≡ 0 → bytesOf (rowsOf s) ≡ s
 bytes-back s w e = front-back s w (length s / 24) (omega arith) ∙ take-all (length s / 24 * 24) s (omega arith)
 
--- both tests hold
+-- two tests that pass together pass each
 both : (s t : Bool) → s && t ≡ true → (s ≡ true) × (t ≡ true)
 both true t e = (refl, e)
 both false t e = clash (cc)
 
--- a row that is fine by the test is fine
+-- a row that is fine by the test is fine by the rule
 pub fine-is : (len : ℕ) (w : Row) → fineRow len w ≡ true → FineRow len w
 fine-is len w e =
     let (r, m) = both _ _ e in
@@ -167,11 +170,11 @@ fine-is len w e =
     let (a, b) = both _ _ p in
     record { key = leb-true _ _ a; keyIn = leb-true _ _ b; args = leb-true _ _ c; argsIn = leb-true _ _ d; mark = leb-true _ _ m }
 
--- a row that is fine is so by the test
+-- a row that is fine by the rule is so by the test
 pub fine-only : (len : ℕ) (w : Row) → FineRow len w → fineRow len w ≡ true
 fine-only len w f = rw (le-leb _ _ (f .key), le-leb _ _ (f .keyIn), le-leb _ _ (f .args), le-leb _ _ (f .argsIn), le-leb _ _ (f .mark)) refl
 
--- rows are fine where each is
+-- where n rows are fine by the test, each is fine by the rule
 pub fine-each : (len : ℕ) (r : ℕ → Row) (n : ℕ) → fineAll len r n ≡ true → (k : ℕ) → k < n → FineRow len (r k)
 fine-each len r n e k h = go (fineRow len (r k)) refl
   where
@@ -179,29 +182,29 @@ fine-each len r n e k h = go (fineRow len (r k)) refl
     go true f = fine-is len (r k) f
     go false f = clash (let z : true ≡ false = sym e ∙ fine-not len r k n h f in cc)
 
--- and where each is they are
+-- where each of n rows is fine by the rule, they are fine by the test
 pub fine-every : (len : ℕ) (r : ℕ → Row) (n : ℕ) → ((k : ℕ) → k < n → FineRow len (r k)) → fineAll len r n ≡ true
 unfolding fineAll
 fine-every len r zero h = refl
 fine-every len r (suc n) h = rw (fine-every len r n (λ k l. h k (omega arith)), fine-only len (r n) (h n (omega arith))) refl
 
--- rows that agree are fine alike
+-- two ways to number rows that agree on the first n are fine alike
 same-fine : (len : ℕ) (r q : ℕ → Row) (n : ℕ) → ((k : ℕ) → k < n → r k ≡ q k) → fineAll len r n ≡ fineAll len q n
 unfolding fineAll
 same-fine len r q zero h = refl
 same-fine len r q (suc n) h = ap₂ _&&_ (same-fine len r q n (λ k l. h k (omega arith))) (ap (fineRow len) (h n (omega arith)))
 
--- row k of so many rows
+-- row k of the first n is row k
 first-at : (r : ℕ → Row) (n k : ℕ) → k < n → getElem? (firstRows r n) k ≡ some (r k)
 first-at r zero k h = absurd (omega arith)
 first-at r (suc n) zero h = ap (λ (l : List Row). getElem? l 0) (first-cons r n)
 first-at r (suc n) (suc k) h = ap (λ (l : List Row). getElem? l (suc k)) (first-cons r n) ∙ first-at (λ j. r (suc j)) n k (omega arith)
 
--- equal rows agree, number by number
+-- where two ways to number rows have the same first n, they agree on each of these
 first-each : (r q : ℕ → Row) (n : ℕ) → firstRows r n ≡ firstRows q n → (k : ℕ) → k < n → r k ≡ q k
 first-each r q n e k h = Option·some-injective _ _ (sym (first-at r n k h) ∙ ap (λ (l : List Row). getElem? l k) e ∙ first-at q n k h)
 
--- rows that were put into lent rows are the lent rows' first
+-- rows that were put into lent rows are had back by their numbers
 laid-first : (r : ℕ → Row) (n : ℕ) (old : List ℕ) (k : ℕ) → k < n → rowNumbers (rowsLaid (firstRows r n) old) k ≡ r k
 laid-first r n old k h =
     let l = length-first r n in
@@ -219,7 +222,7 @@ kept-back len r n room w f h =
     let g : fineAll len (rowAt s) (length s / 24) ≡ true = ap (fineAll len (rowAt s)) d ∙ same-fine len (rowAt s) r n (first-each (rowAt s) r n i) ∙ f in
     (read-good len s room (omega arith) g (omega arith) ∙ ap good d, e)
 
--- bytes that read, written again, are the same bytes: from the lent rows into which they were read
+-- bytes that read, written again from the lent rows into which they were read, are the same bytes
 pub read-back : (len : ℕ) (s old : List ℕ) (out : ℕ) → Below 256 s → length s % 24 ≡ 0 → fineAll len (rowAt s) (length s / 24) ≡ true → length s ≤ out
     → (keepOf len (rowNumbers (rowsLaid (rowsOf s) old)) (length s / 24) out ≡ good (length s / 24))
     × (bytesOf (firstRows (rowNumbers (rowsLaid (rowsOf s) old)) (length s / 24)) ≡ s)

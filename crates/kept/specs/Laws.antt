@@ -16,17 +16,17 @@ use Rattle.table.specs.Table.{rowsFit, rowsLaid, rowPut}
 use Rattle.table.specs.Laid.{rows-laid-none, rows-laid-more}
 use Rattle.kept.specs.Kept.{littleFour, littles, rowBytes, bytesOf, rowAt, firstRows, fineRow, fineAll, keepOf, readOf, bytesAfter}
 
--- one row more is fine
+-- where k rows are fine and row k is, k + 1 rows are
 pub fine-more : (len : ℕ) (r : ℕ → Row) (k : ℕ) → fineAll len r k ≡ true → fineRow len (r k) ≡ true → fineAll len r (k + 1) ≡ true
 unfolding fineAll
 fine-more len r k a b = ap (fineAll len r) (add-one k) ∙ rw (a, b) refl
 
--- no rows are fine
+-- of no rows all are fine
 pub fine-none : (len : ℕ) (r : ℕ → Row) → fineAll len r 0 ≡ true
 unfolding fineAll
 fine-none len r = refl
 
--- one row that is not fine spoils them all
+-- one row that is not fine spoils them all: the test fails
 pub fine-not : (len : ℕ) (r : ℕ → Row) (k n : ℕ) → k < n → fineRow len (r k) ≡ false → fineAll len r n ≡ false
 unfolding fineAll
 fine-not len r k zero h e = absurd (omega arith)
@@ -44,13 +44,13 @@ fine-not len r k (suc n) h e = go (ltb k n) refl (λ l. fine-not len r k n l e)
         let w : fineRow len (r n) ≡ false = subst (λ (z : ℕ). fineRow len (r z) ≡ false) d e in
         rw w (any (fineAll len r n))
 
--- so many rows
+-- there are n first rows
 pub length-first : (r : ℕ → Row) (n : ℕ) → length (firstRows r n) ≡ n
 unfolding firstRows
 length-first r zero = refl
 length-first r (suc n) = length-append (firstRows r n) (r n ∷ []) ∙ ap (λ (z : ℕ). z + 1) (length-first r n) ∙ add-one n
 
--- one row more
+-- the first k + 1 rows are the first k and row k
 pub first-more : (r : ℕ → Row) (k : ℕ) → firstRows r (k + 1) ≡ firstRows r k ++ (r k ∷ [])
 unfolding firstRows
 first-more r k = ap (firstRows r) (add-one k)
@@ -66,7 +66,7 @@ unfolding bytesOf
 length-bytes [] = omega arith
 length-bytes (w ∷ ws) = let e = length-bytes ws in omega (arith, e, length-row w, length-append (rowBytes w) (bytesOf ws))
 
--- the bytes of one row more
+-- the bytes of rows and one more are those of the rows and then its own
 pub bytes-more : (ws : List Row) (w : Row) → bytesOf (ws ++ (w ∷ [])) ≡ bytesOf ws ++ rowBytes w
 unfolding bytesOf
 bytes-more [] w = append-nil (rowBytes w)
@@ -95,7 +95,7 @@ row-stored s p w =
     ∙ ap (λ (z : List ℕ). sets z (p + 20) f) (sets-more s p (p + 16) (a ++ b ++ c ++ d) e (omega arith))
     ∙ sets-more s p (p + 20) (a ++ b ++ c ++ d ++ e) f (omega arith)
 
--- bytes behind others that stand in front of what was there
+-- bytes stored behind others, which stand in front of what was there: both stand there now
 laid-more : (front new old : List ℕ) → length front + length new ≤ length old
     → sets (front ++ drop (length front) old) (length front) new ≡ (front ++ new) ++ drop (length (front ++ new)) old
 laid-more front new old h =
@@ -105,7 +105,7 @@ laid-more front new old h =
     drop-drop (length new) (length front) old ∙ ap (λ (j : ℕ). drop j old) (sym (length-append front new)) in
     sets-eq new (front ++ rest) (length front) m ∙ rw (take-append-seam front rest, drop-append-add front rest (length new), d) refl
 
--- one row more is written
+-- one row more is written, behind the first k
 pub put-more : (r : ℕ → Row) (old : List ℕ) (k : ℕ) → k * 24 + 24 ≤ length old
     → sets (bytesAfter (firstRows r k) old) (k * 24) (rowBytes (r k)) ≡ bytesAfter (firstRows r (k + 1)) old
 put-more r old k h =
@@ -116,12 +116,12 @@ put-more r old k h =
     ∙ laid-more (bytesOf ws) (rowBytes (r k)) old (omega (arith, h, l, length-row (r k)))
     ∙ ap (λ (z : List ℕ). z ++ drop (length z) old) (sym e)
 
--- no row is read, and nothing changes
+-- before the first row is read nothing changes
 pub none-laid : (r : ℕ → Row) (old : List ℕ) → old ≡ rowsLaid (firstRows r 0) old
 unfolding firstRows
 none-laid r old = sym (rows-laid-none old)
 
--- one row more is read
+-- one row more is read into the lent rows, behind the first k
 pub get-more : (r : ℕ → Row) (old : List ℕ) (k : ℕ) → k < rowsFit (length old) → rowPut (rowsLaid (firstRows r k) old) k (r k) ≡ rowsLaid (firstRows r (k + 1)) old
 get-more r old k h =
     let ws : List Row = firstRows r k in
@@ -131,31 +131,31 @@ get-more r old k h =
     ∙ ap (λ (z : List Row). rowsLaid z old) (sym (first-more r k))
 
 module _ (len : ℕ) (r : ℕ → Row) (m out n : ℕ) (e : n ≡ m) where
-  -- a row that is not fine is 9
+  -- writing: where a row is not fine the answer is 9
   pub keep-nine : fineAll len r n ≡ false → keepOf len r m out ≡ bad (refusal 9 0 0)
   keep-nine f = rw (sym e, f) refl
 
-  -- then too little room is 16
+  -- writing: where all rows are fine and the room is too little the answer is 16
   pub keep-short : fineAll len r n ≡ true → out < n * 24 → keepOf len r m out ≡ bad (refusal 16 0 0)
   keep-short f h = rw (sym e, f, lt-ltb out (n * 24) h) refl
 
-  -- else the rows are kept
+  -- writing: where all rows are fine and there is room they are kept
   pub keep-good : fineAll len r n ≡ true → n * 24 ≤ out → keepOf len r m out ≡ good n
   keep-good f h = rw (sym e, f, le-ltb out (n * 24) h) refl
 
 module _ (len : ℕ) (bytes : List ℕ) (room : ℕ) where
-  -- bytes that are left over are 9
+  -- reading: where bytes are left over the answer is 9
   pub read-over : (length bytes % 24 ≡ 0 → ⊥) → readOf len bytes room ≡ bad (refusal 9 0 0)
   read-over h = rw (ne-eqb (length bytes % 24) 0 h) refl
 
-  -- and so is a row that is not fine
+  -- reading: where a row is not fine the answer is 9
   pub read-nine : length bytes % 24 ≡ 0 → fineAll len (rowAt bytes) (length bytes / 24) ≡ false → readOf len bytes room ≡ bad (refusal 9 0 0)
   read-nine h f = rw (eq-eqb (length bytes % 24) 0 h, f) refl
 
-  -- then too little room is 16
+  -- reading: where all rows are fine and the room is too little the answer is 16
   pub read-short : length bytes % 24 ≡ 0 → fineAll len (rowAt bytes) (length bytes / 24) ≡ true → room < length bytes / 24 → readOf len bytes room ≡ bad (refusal 16 0 0)
   read-short h f l = rw (eq-eqb (length bytes % 24) 0 h, f, lt-ltb room (length bytes / 24) l) refl
 
-  -- else the rows are read
+  -- reading: where all rows are fine and there is room they are read
   pub read-good : length bytes % 24 ≡ 0 → fineAll len (rowAt bytes) (length bytes / 24) ≡ true → length bytes / 24 ≤ room → readOf len bytes room ≡ good (length bytes / 24)
   read-good h f l = rw (eq-eqb (length bytes % 24) 0 h, f, le-ltb room (length bytes / 24) l) refl

@@ -8,17 +8,17 @@ use Rattle.kept.specs.Kept.{toldKept}
 use Rattle.kept.specs.declared.Kept.{Kept}
 use Rattle.kept.specs.declared.Kept.the-variants.{Rows, Refused}
 
--- the answer that tells this
+-- the code's answer that tells this of kept rows
 keptOf : Told ℕ → Kept
 keptOf (good n) = Rows n
 keptOf (bad q) = Refused (faultOf q)
 
--- it is the answer that told it
+-- an answer about kept rows can be had back from what it tells
 kept-answer : (a : Kept) → keptOf (toldKept a) ≡ a
 unfolding keptOf
 kept-answer (Rows n) = refl
 kept-answer (Refused f) = ap Refused (faultOf-told f)
 
--- `keep_rows`, `read_rows`
+-- `keep_rows` and `read_rows`: two answers that tell the same are the same
 pub kept-only : (a b : Kept) → toldKept a ≡ toldKept b → a ≡ b
 kept-only a b e = sym (kept-answer a) ∙ ap keptOf e ∙ kept-answer b

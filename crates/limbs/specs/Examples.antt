@@ -6,12 +6,12 @@ use mathlib.Core.List.{[], _∷_}
 use native.Mathlib.Omega.{arith}
 use Rattle.limbs.specs.Worth.{worth, Scaled, Divided, HeadOf}
 
--- two digits, the lower first
+-- digits 7 and 2, the lower first, make 7 + 2 * 2 ^ 32
 two : worth (7 ∷ 2 ∷ []) ≡ 8589934599
 unfolding worth
 two = refl
 
--- zeros above add nothing
+-- digits 0 above others add nothing
 above : worth (7 ∷ 2 ∷ 0 ∷ 0 ∷ []) ≡ worth (7 ∷ 2 ∷ [])
 unfolding worth
 above = refl
@@ -31,11 +31,11 @@ by-ten : Divided (0 ∷ 1 ∷ []) 10 (429496729 ∷ 0 ∷ []) 6
 unfolding worth
 by-ten = record { same = refl; by-zero = λ e. absurd (omega arith); quotient = λ l. (refl, omega arith) }
 
--- by 0 the digits stay
+-- a number divided by 0 keeps its digits, and 0 is left
 by-none : Divided (3 ∷ 4 ∷ []) 0 (3 ∷ 4 ∷ []) 0
 by-none = record { same = refl; by-zero = λ e. (refl, refl); quotient = λ l. absurd (omega arith) }
 
--- a short number is its head
+-- a number of two digits is its own head
 short : HeadOf (worth (7 ∷ 2 ∷ 0 ∷ [])) (record { digits = 8589934599; limbs = 0; bits = 0; more = false })
 unfolding worth
 short = record { rest = 0; whole = refl; under = omega arith; left = refl; leads = inl (refl, refl) }

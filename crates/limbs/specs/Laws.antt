@@ -13,7 +13,7 @@ use Rattle.limbs.specs.Worth.{worth, Digits}
 pub power-more : (n : ℕ) → 2 ^ (32 * suc n) ≡ 4294967296 * 2 ^ (32 * n)
 power-more n = let e : 32 * suc n ≡ 32 + 32 * n = omega arith in ap (λ (k : ℕ). 2 ^ k) e ∙ pow-add 2 32 (32 * n)
 
--- two numbers one above the other
+-- digits with others above them: the number of the lower, and that of the upper moved up past them
 pub worth-append : (xs ys : List ℕ) → worth (xs ++ ys) ≡ worth xs + 2 ^ (32 * length xs) * worth ys
 unfolding worth
 worth-append [] ys = omega arith
@@ -31,12 +31,12 @@ worth-split n xs h =
     ∙ worth-append (take n xs) (drop n xs)
     ∙ ap (λ (k : ℕ). worth (take n xs) + 2 ^ (32 * k) * worth (drop n xs)) (length-take-le n xs h)
 
--- one digit alone
+-- a single digit is the number itself
 pub worth-one : (x : ℕ) → worth (x ∷ []) ≡ x
 unfolding worth
 worth-one x = omega arith
 
--- one digit more above
+-- one digit more above i digits: their number, and that digit at its place
 pub worth-take : (xs : List ℕ) (i : ℕ) → i < length xs → worth (take (suc i) xs) ≡ worth (take i xs) + 2 ^ (32 * i) * getD xs i 0
 worth-take xs i h =
     ap worth (take-suc xs i 0 h)
@@ -44,12 +44,12 @@ worth-take xs i h =
     ∙ ap (λ (k : ℕ). worth (take i xs) + 2 ^ (32 * k) * worth (getD xs i 0 ∷ [])) (length-take-le i xs (omega arith))
     ∙ ap (λ (n : ℕ). worth (take i xs) + 2 ^ (32 * i) * n) (worth-one (getD xs i 0))
 
--- one digit more below
+-- one digit more below: the digit at i, and the number of those above moved up by one digit
 pub worth-drop : (xs : List ℕ) (i : ℕ) → i < length xs → worth (drop i xs) ≡ getD xs i 0 + 4294967296 * worth (drop (suc i) xs)
 unfolding worth
 worth-drop xs i h = ap worth (drop-cons xs i 0 h)
 
--- digits of 32 binary digits make a number below the power that stands above them
+-- n digits of 32 binary digits make a number below 2 ^ (32 * n)
 pub worth-lt : (xs : List ℕ) → Digits xs → worth xs < 2 ^ (32 * length xs)
 unfolding worth
 worth-lt [] d = omega arith
@@ -59,7 +59,7 @@ worth-lt (x ∷ xs) d =
     let l : x < 4294967296 = d 0 in
     omega arith
 
--- so do the lower n of them
+-- the lower n digits of a number are below 2 ^ (32 * n)
 pub worth-take-lt : (n : ℕ) (xs : List ℕ) → Digits xs → n ≤ length xs → worth (take n xs) < 2 ^ (32 * n)
 unfolding worth
 worth-take-lt zero xs d h = omega arith
@@ -70,14 +70,14 @@ worth-take-lt (suc n) (x ∷ xs) d h =
     let l : x < 4294967296 = d 0 in
     omega arith
 
--- a digit that is not 0 makes the number not 0
+-- digits of which one is not 0 make a number that is not 0
 pub worth-pos : (xs : List ℕ) (i : ℕ) → 0 < getD xs i 0 → 0 < worth xs
 unfolding worth
 worth-pos [] i h = absurd (omega arith)
 worth-pos (x ∷ xs) zero h = omega arith
 worth-pos (x ∷ xs) (suc i) h = let p = worth-pos xs i h in omega arith
 
--- a number that is 0 has no other digit
+-- a number that is 0 has no digit other than 0
 pub worth-zero : (xs : List ℕ) (i : ℕ) → worth xs ≡ 0 → getD xs i 0 ≡ 0
 unfolding worth
 worth-zero [] i h = refl
@@ -90,13 +90,13 @@ unfolding worth
 worth-none [] h = refl
 worth-none (x ∷ xs) h = let a : x ≡ 0 = h 0 in let b = worth-none xs (λ i. h (suc i)) in omega arith
 
--- so do those of an array that is new
+-- the digits of a new array, all 0, make 0
 pub worth-replicate : (n : ℕ) → worth (replicate n 0) ≡ 0
 unfolding worth
 worth-replicate zero = refl
 worth-replicate (suc n) = let e = worth-replicate n in omega arith
 
--- one digit changed
+-- digit i changed to v: the number changes by that digit's difference at its place
 pub worth-set : (xs : List ℕ) (i v : ℕ) → i < length xs → worth (set xs i v) + 2 ^ (32 * i) * getD xs i 0 ≡ worth xs + 2 ^ (32 * i) * v
 unfolding worth
 worth-set [] i v h = absurd (omega arith)

@@ -63,7 +63,7 @@ divided-only xs (suc d) ys zs r s f g h k =
 
 -- ---- `top`
 module _ (n : ℕ) where
-  -- a number is below what its head reaches
+  -- a number is below 2 ^ 64 moved up by what stands below its head
   reach : (r : Head) → r .digits < 2 ^ 64 → HeadOf n r → n < 2 ^ (64 + lower r)
   reach r f h =
       let p = 2 ^ lower r in
@@ -86,7 +86,7 @@ module _ (n : ℕ) where
           let w = k .whole in
           omega arith
 
-  -- so two heads leave the same below
+  -- two heads of one number leave the same number of digits below
   places : (r s : Head) → r .digits < 2 ^ 64 → s .digits < 2 ^ 64 → (h : HeadOf n r) (k : HeadOf n s) → ((r .limbs ≡ 0) × (r .bits ≡ 0)) ⊎ ((0 < r .bits) × (r .bits ≤ 32) × (2 ^ 63 ≤ r .digits)) → ((s .limbs ≡ 0) × (s .bits ≡ 0)) ⊎ ((0 < s .bits) × (s .bits ≤ 32) × (2 ^ 63 ≤ s .digits)) → (r .limbs ≡ s .limbs) × (r .bits ≡ s .bits)
   places r s f g h k (inl a) (inl b) = (a .0 ∙ sym (b .0), a .1 ∙ sym (b .1))
   places r s f g h k (inl a) (inr b) = let l = shorter r s f (b .2) h k in absurd (omega arith)
@@ -96,7 +96,7 @@ module _ (n : ℕ) where
       let m = shorter s r g (a .2) k h in
       (omega arith, omega arith)
 
-  -- a head of its parts
+  -- a head made of its four parts
   abbrev made : ℕ → ℕ → ℕ → Bool → Head
   made d l b m = record { digits = d; limbs = l; bits = b; more = m }
 

@@ -16,39 +16,39 @@ use Rattle.limbs.specs.Worth.{worth, Digits, Highest, HeadOf}
 use Rattle.limbs.specs.Laws.{power-more, worth-take, worth-take-lt}
 
 -- ---- a short number
--- one digit is the number
+-- a number of one digit is that digit
 pub one-digit : (xs : List ℕ) (n : ℕ) → n ≡ 1 → n ≤ length xs → getD xs 0 0 ≡ worth (take n xs)
 unfolding worth
 one-digit [] n e h = absurd (omega arith)
 one-digit (x ∷ xs) n e h = rw e (omega arith)
 
--- two digits are
+-- a number of two digits is the upper moved up by 32 binary digits, and the lower
 pub two-digits : (xs : List ℕ) (n : ℕ) → n ≡ 2 → n ≤ length xs → getD xs 1 0 * 4294967296 + getD xs 0 0 ≡ worth (take n xs)
 unfolding worth
 two-digits [] n e h = absurd (omega arith)
 two-digits (x ∷ []) n e h = let l : n ≤ 1 = h in absurd (omega arith)
 two-digits (x ∷ (y ∷ xs)) n e h = rw e (omega arith)
 
--- none is 0
+-- a number of no digits is 0
 pub no-digit : (xs : List ℕ) (n : ℕ) → n ≡ 0 → 0 ≡ worth (take n xs)
 unfolding worth
 no-digit xs n e = rw e refl
 
 -- ---- joining three digits
 module _ (h m l b : ℕ) (p : 0 < b) (q : b ≤ 32) (f : h < 2 ^ b) (g : m < 4294967296) (k : l < 4294967296) where
-  -- the upper two have 32 binary digits more than the highest
+  -- the upper two of three digits, the highest of b binary digits, have b + 32 binary digits
   upper-lt : h * 4294967296 + m < 2 ^ (b + 32)
   upper-lt = let e = pow-add 2 b 32 in omega arith
 
-  -- moved up, they still fit
+  -- the upper two of three digits, moved up by 32 - b, still fit a `u64`
   pub shifted : (h * 4294967296 + m) * 2 ^ (32 - b) % 18446744073709551616 ≡ (h * 4294967296 + m) * 2 ^ (32 - b)
   shifted = shl-exact {a = h * 4294967296 + m} (b + 32) (32 - b) 64 upper-lt (omega arith)
 
-  -- what the lowest adds
+  -- what the lowest of three digits adds to the head is below 2 ^ (32 - b)
   added-lt : l / 2 ^ b < 2 ^ (32 - b)
   added-lt = let e : 32 ≡ 32 - b + b = omega arith in shr-lt {n = l} (32 - b) b (subst (λ (n : ℕ). l < 2 ^ n) e k)
 
-  -- together they have 64
+  -- three digits joined to a head have at most 64 binary digits
   pub joined-lt : (h * 4294967296 + m) * 2 ^ (32 - b) + l / 2 ^ b < 18446744073709551616
   joined-lt =
       let a = added-lt in
@@ -61,12 +61,12 @@ module _ (h m l b : ℕ) (p : 0 < b) (q : b ≤ 32) (f : h < 2 ^ b) (g : m < 429
       put : (x y z t : ℕ) → t ≡ x + y → z < y → t ≤ 18446744073709551616 → x + z < 18446744073709551616
       put x y z t e a b = omega arith
 
-  -- the sum as the code has it
+  -- the head of three digits as the code sums it, none of it lost
   pub joins : (h * 4294967296 + m) * 2 ^ (32 - b) % 18446744073709551616 + l / 2 ^ b ≡ (h * 4294967296 + m) * 2 ^ (32 - b) + l / 2 ^ b
   joins = ap (λ (n : ℕ). n + l / 2 ^ b) shifted
 
 -- ---- the three highest digits
--- one after the other
+-- a number by its digits k + 2, k + 1 and k and those below
 three-at : (xs : List ℕ) (k : ℕ) → suc (suc (suc k)) ≤ length xs
     → worth (take (suc (suc (suc k))) xs) ≡ worth (take k xs) + 2 ^ (32 * k) * ((getD xs (suc (suc k)) 0 * 4294967296 + getD xs (suc k) 0) * 4294967296 + getD xs k 0)
 three-at xs k h =
@@ -91,10 +91,11 @@ three-top xs n l h =
     ∙ ap (λ (i : ℕ). worth (take (n - 3) xs) + 2 ^ (32 * (n - 3)) * ((getD xs (n - 1) 0 * 4294967296 + getD xs i 0) * 4294967296 + getD xs (n - 3) 0)) g
 
 -- ---- how many binary digits the highest has
+-- how many binary digits a digit has without its leading zeros
 abbrev pub bitsOf : ℕ → ℕ
 bitsOf x = 32 - leadingZeros 32 x
 
--- a digit that is not 0 has one to 32, and moved up by the rest its first is the 64th
+-- a digit that is not 0 has 1 to 32 binary digits, and moved up by the rest its first is the 64th
 pub bits-are : (x : ℕ) → 0 < x → x < 4294967296 → (0 < bitsOf x) × (bitsOf x ≤ 32) × (x < 2 ^ bitsOf x) × (9223372036854775808 ≤ x * 4294967296 * 2 ^ (32 - bitsOf x))
 bits-are x p h =
     let t = leading-top 32 x p h in
@@ -110,12 +111,12 @@ bits-are x p h =
       subst (λ (n : ℕ). n ≤ x * 4294967296 * 2 ^ (32 - bitsOf x)) w (mul-le-mul-right (2 ^ (32 - bitsOf x)) m),
     )
 
--- the power that the code divides by
+-- 2 ^ b, as the machine shifts 1, is 2 ^ b where b is at most 32
 pub unit-is : (b : ℕ) → b ≤ 32 → 1 * 2 ^ b % 18446744073709551616 ≡ 2 ^ b
 unit-is b h = shl-exact {a = 1} 1 b 64 (omega arith) (omega arith) ∙ one-mul (2 ^ b)
 
 -- ---- the head
--- the leading digits and what is left make the number again
+-- the head's digits and what is left below them make the number again
 head-whole : (b u l w k : ℕ) → b ≤ 32 → (u * 2 ^ (32 - b) + l / 2 ^ b) * 2 ^ (32 * k + b) + (w + 2 ^ (32 * k) * (l % 2 ^ b)) ≡ w + 2 ^ (32 * k) * (u * 4294967296 + l)
 head-whole b u l w k h =
     let z : 32 - b + b ≡ 32 = omega arith in
@@ -127,7 +128,7 @@ head-whole b u l w k h =
         let b : p * (q * d + r) ≡ p * l = ap (λ (n : ℕ). p * n) g in
         rw e (omega arith)
 
--- what is left is below them
+-- what is left below a head is less than one of its last digit
 head-under : (b l w k : ℕ) → w < 2 ^ (32 * k) → w + 2 ^ (32 * k) * (l % 2 ^ b) < 2 ^ (32 * k + b)
 head-under b l w k h =
     let m : l % 2 ^ b < 2 ^ b = mod-lt l (pow-pos b) in
@@ -135,22 +136,22 @@ head-under b l w k h =
     let v : 2 ^ (32 * k) * (l % 2 ^ b + 1) ≤ 2 ^ (32 * k) * 2 ^ b = mul-le-mul-left (2 ^ (32 * k)) s in
     subst (λ (n : ℕ). w + 2 ^ (32 * k) * (l % 2 ^ b) < n) (sym (pow-add 2 (32 * k) b)) (omega arith)
 
--- whether anything is left: in the digit that was cut, or below it
+-- whether anything is left below a head: in the digit that was cut, or in those below it
 head-left : (p r w : ℕ) → 0 < p → not (eqb r 0) || ltb 0 w ≡ ltb 0 (w + p * r)
 head-left p zero w h = let e : w ≡ w + p * 0 = omega arith in ap (ltb 0) e
 head-left p (suc r) w h = rw (ne-eqb (suc r) 0 (λ e. omega arith)) (sym (lt-ltb 0 (w + p * suc r) (let m : 0 < p * suc r = mul-pos h (omega arith) in omega arith)))
 
--- the first digit is not 0
+-- the first of a head's 64 binary digits is not 0
 head-leads : (x y c z : ℕ) → 9223372036854775808 ≤ x * 4294967296 * c → 9223372036854775808 ≤ (x * 4294967296 + y) * c + z
 head-leads x y c z h = omega arith
 
--- of a short number
+-- the head of a number of one or two digits is the number itself, and nothing is left
 pub head-short : (xs : List ℕ) (n d : ℕ) → Highest xs n → d ≡ worth (take n xs) → HeadOf (worth xs) (record { digits = d; limbs = 0; bits = 0; more = false })
 head-short xs n d h e = let m = h .same in record { rest = 0; whole = omega arith; under = omega arith; left = refl; leads = inl (refl, refl) }
 
--- of three digits or more
+-- the head of a number of three digits or more
 module _ (xs : List ℕ) (n : ℕ) (each : Digits xs) (high : Highest xs n) (more : 3 ≤ n) where
-  -- the highest is not 0
+  -- the highest digit is not 0
   pub high-pos : 0 < getD xs (n - 1) 0
   high-pos = pos (high .leads)
     where
@@ -158,11 +159,11 @@ module _ (xs : List ℕ) (n : ℕ) (each : Digits xs) (high : Highest xs n) (mor
       pos (inl e) = absurd (omega arith)
       pos (inr h) = h
 
-  -- what is known of its binary digits
+  -- the highest digit has 1 to 32 binary digits, and moved up its first is the 64th
   pub high-bits : (0 < bitsOf (getD xs (n - 1) 0)) × (bitsOf (getD xs (n - 1) 0) ≤ 32) × (getD xs (n - 1) 0 < 2 ^ bitsOf (getD xs (n - 1) 0)) × (9223372036854775808 ≤ getD xs (n - 1) 0 * 4294967296 * 2 ^ (32 - bitsOf (getD xs (n - 1) 0)))
   high-bits = bits-are (getD xs (n - 1) 0) high-pos (each (n - 1))
 
-  -- as the code puts it together
+  -- what the code puts together from the three highest digits, and from whether any below is not 0, is the number's head
   pub head-long : (d : ℕ) (t : Bool) → d ≡ (getD xs (n - 1) 0 * 4294967296 + getD xs (n - 2) 0) * 2 ^ (32 - bitsOf (getD xs (n - 1) 0)) + getD xs (n - 3) 0 / 2 ^ bitsOf (getD xs (n - 1) 0) → t ≡ ltb 0 (worth (take (n - 3) xs))
       → HeadOf (worth xs) (record { digits = d; limbs = n - 3; bits = bitsOf (getD xs (n - 1) 0); more = not (eqb (getD xs (n - 3) 0 % (1 * 2 ^ bitsOf (getD xs (n - 1) 0) % 18446744073709551616)) 0) || t })
   head-long d t e f =

@@ -29,7 +29,7 @@ pub record Divided (xs : List ℕ) (d : ℕ) (ys : List ℕ) (r : ℕ) : Type 0 
   pub by-zero : d ≡ 0 → (ys ≡ xs) × (r ≡ 0)
   pub quotient : 0 < d → (worth ys * d + r ≡ worth xs) × (r < d)
 
--- the digits from n on are 0, and the one below is not
+-- a number has n digits: those from n on are 0, and the one below is not, if there is one
 pub record Highest (xs : List ℕ) (n : ℕ) : Type 0 where
   pub within : n ≤ length xs
   pub same : worth (take n xs) ≡ worth xs

@@ -11,7 +11,7 @@ use Rattle.limbs.specs.Worth.{worth}
 use Rattle.long.specs.Number.{numberIn}
 use Rattle.long.specs.declared.Filled.{Filled}
 
--- how many digits there are
+-- how many digits a text has
 unfoldable pub digitsIn : List ℕ → ℕ
 digitsIn [] = 0
 digitsIn (c ∷ r) = pick (digit c) (suc (digitsIn r)) (digitsIn r)
@@ -20,7 +20,7 @@ digitsIn (c ∷ r) = pick (digit c) (suc (digitsIn r)) (digitsIn r)
 pub data Leads : List ℕ → Type 0 where
   leads : (c : ℕ) (r : List ℕ) → digit c ≡ true → 48 < c → Leads (c ∷ r)
 
--- the place of the first digit that is not `0`, or the end; what is passed over is worth nothing
+-- i is the place of the first digit that is not `0`, or the end; what is passed over is worth nothing
 pub record FirstAt (t : List ℕ) (from i : ℕ) : Type 0 where
   pub above : from ≤ i
   pub within : i ≤ length t

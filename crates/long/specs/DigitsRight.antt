@@ -21,7 +21,7 @@ use Rattle.long.specs.Number.{numberIn}
 pub digit-le : (c : ℕ) → digit c ≡ true → c - 48 ≤ 9
 digit-le c e = let b = bounds 48 c 57 e in omega arith
 
--- digits before others count as much as there are others
+-- a number before a text's digits counts 10 ^ n times, where n is how many digits there are
 pub number-from : (n : ℕ) (xs : List ℕ) → numberIn n xs ≡ n * 10 ^ digitsIn xs + numberIn 0 xs
 unfolding numberIn digitsIn
 number-from n [] = omega arith
@@ -34,21 +34,21 @@ number-from n (c ∷ r) = go (digit c) (λ (m : ℕ). number-from m r)
         put p q d e y z f = rw (e, f) (omega arith)
     go false h = h n
 
--- a digit after others
+-- a digit first in a text moves the number before it up by one
 pub number-next : (n c : ℕ) (r : List ℕ) → digit c ≡ true → numberIn n (c ∷ r) ≡ numberIn (n * 10 + (c - 48)) r
 unfolding numberIn
 number-next n c r e = ap (λ (b : Bool). numberIn (pick b (n * 10 + (c - 48)) n) r) e
 
--- one digit and those after it
+-- the number of a text that begins with a digit: that digit at its place, and those after it
 pub number-first : (c : ℕ) (r : List ℕ) → digit c ≡ true → numberIn 0 (c ∷ r) ≡ (c - 48) * 10 ^ digitsIn r + numberIn 0 r
 number-first c r e = let z : 0 * 10 + (c - 48) ≡ c - 48 = omega arith in number-next 0 c r e ∙ ap (λ (n : ℕ). numberIn n r) z ∙ number-from (c - 48) r
 
--- one digit more
+-- a text that begins with a digit has one digit more than what follows
 pub digits-first : (c : ℕ) (r : List ℕ) → digit c ≡ true → digitsIn (c ∷ r) ≡ suc (digitsIn r)
 unfolding digitsIn
 digits-first c r e = ap (λ (b : Bool). pick b (suc (digitsIn r)) (digitsIn r)) e
 
--- the end has no digits
+-- at the text's end there are no digits
 pub digits-end : (xs : List ℕ) (i : ℕ) → i ≡ length xs → digitsIn (drop i xs) ≡ 0
 unfolding digitsIn
 digits-end xs i e = ap (λ (n : ℕ). digitsIn (drop n xs)) e ∙ ap digitsIn (drop-length xs)
@@ -58,7 +58,7 @@ pub number-past : (n c : ℕ) (r : List ℕ) → digit c ≡ false → numberIn 
 unfolding numberIn
 number-past n c r e = ap (λ (b : Bool). numberIn (pick b (n * 10 + (c - 48)) n) r) e
 
--- and not counted
+-- a byte that is no digit is not counted
 pub digits-past : (c : ℕ) (r : List ℕ) → digit c ≡ false → digitsIn (c ∷ r) ≡ digitsIn r
 unfolding digitsIn
 digits-past c r e = ap (λ (b : Bool). pick b (suc (digitsIn r)) (digitsIn r)) e
@@ -80,7 +80,7 @@ number-lt (c ∷ r) = go (digit c) refl (number-lt r)
         put p y d l h = omega arith
     go false e h = h
 
--- no digits make nothing more
+-- a text without digits leaves the number before it as it is
 pub number-none : (n : ℕ) (xs : List ℕ) → digitsIn xs ≡ 0 → numberIn n xs ≡ n
 number-none n xs e =
     let l : numberIn 0 xs < 1 = subst (λ (k : ℕ). numberIn 0 xs < 10 ^ k) e (number-lt xs) in
@@ -103,17 +103,17 @@ leads-le xs (leads c r e l) =
     put : (p y d : ℕ) → 1 * p ≤ d * p → p * 10 ≤ 10 * (d * p + y)
     put p y d h = omega arith
 
--- it is not 0
+-- a text that leads with a digit other than `0` makes a number that is not 0
 pub leads-pos : (xs : List ℕ) → Leads xs → 0 < numberIn 0 xs
 leads-pos xs h = let l = leads-le xs h in let p : 1 ≤ 10 ^ digitsIn xs = one-le-pow (digitsIn xs) 10 (omega arith) in omega arith
 
--- one text after another
+-- the number of one text after another: the second's digits go on from the first's
 pub number-append : (n : ℕ) (xs ys : List ℕ) → numberIn n (xs ++ ys) ≡ numberIn (numberIn n xs) ys
 unfolding numberIn
 number-append n [] ys = refl
 number-append n (c ∷ r) ys = number-append (pick (digit c) (n * 10 + (c - 48)) n) r ys
 
--- has the digits of both
+-- one text after another has the digits of both
 pub digits-append : (xs ys : List ℕ) → digitsIn (xs ++ ys) ≡ digitsIn xs + digitsIn ys
 unfolding digitsIn
 digits-append [] ys = omega arith
@@ -157,11 +157,11 @@ first-told t from i f = go (f .found)
 
 -- ---- the digits from the first on that is not `0`
 module _ (t : List ℕ) (i n : ℕ) (f : FirstAt t 0 i) (e : n ≡ digitsIn (drop i t)) where
-  -- n of them make the text's number, which is below 10 ^ n
+  -- the n digits from the first that is not `0` on make the text's number, which is below 10 ^ n
   pub read-lt : numberIn 0 t < 10 ^ n
   read-lt = subst (λ (k : ℕ). numberIn 0 t < 10 ^ k) (sym e) (subst (λ (x : ℕ). x < 10 ^ digitsIn (drop i t)) (f .same) (number-lt (drop i t)))
 
-  -- where there is one, the text leads with it
+  -- where there is a digit from place i on, the text leads with one that is not `0` there
   first-leading : 0 < n → Leads (drop i t)
   first-leading h = go (f .found)
     where
@@ -169,10 +169,10 @@ module _ (t : List ℕ) (i n : ℕ) (f : FirstAt t 0 i) (e : n ≡ digitsIn (dro
       go (inl g) = let z = digits-end t i g in absurd (omega arith)
       go (inr l) = l
 
-  -- and its number is a tenth of 10 ^ n or more
+  -- where n digits follow from the first that is not `0` on, the text's number is a tenth of 10 ^ n or more
   pub read-le : 0 < n → 10 ^ n ≤ 10 * numberIn 0 t
   read-le h = subst (λ (k : ℕ). 10 ^ k ≤ 10 * numberIn 0 t) (sym e) (subst (λ (x : ℕ). 10 ^ digitsIn (drop i t) ≤ 10 * x) (f .same) (leads-le (drop i t) (first-leading h)))
 
-  -- so it is not 0
+  -- where digits follow from the first that is not `0` on, their number is not 0
   pub read-pos : 0 < n → 0 < numberIn 0 (drop i t)
   read-pos h = leads-pos (drop i t) (first-leading h)

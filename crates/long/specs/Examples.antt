@@ -10,32 +10,32 @@ use Rattle.record.specs.Form.{bytes}
 use Rattle.long.specs.Digits.{digitsIn}
 use Rattle.long.specs.Number.{numberIn}
 
--- the point is passed over
+-- the point between digits is passed over
 point : numberIn 0 (bytes "3.14") ≡ 314
 unfolding numberIn
 point = refl
 
--- and not counted
+-- the point between digits is not counted
 point-digits : digitsIn (bytes "3.14") ≡ 3
 unfolding digitsIn
 point-digits = refl
 
--- digits before go on
+-- digits go on from the number before them
 after-twelve : numberIn 12 (bytes ".3") ≡ 123
 unfolding numberIn
 after-twelve = refl
 
--- no digits make nothing
+-- a text without digits makes 0
 no-digits : numberIn 0 (bytes "-.") ≡ 0
 unfolding numberIn
 no-digits = refl
 
--- a leading `0` is a digit, and worth nothing
+-- leading zeros are worth nothing: `0.0050` makes 50
 leading : numberIn 0 (bytes "0.0050") ≡ 50
 unfolding numberIn
 leading = refl
 
--- so this has five
+-- leading zeros are counted: `0.0050` has five digits
 leading-digits : digitsIn (bytes "0.0050") ≡ 5
 unfolding digitsIn
 leading-digits = refl
@@ -45,27 +45,27 @@ lowest-two : nearBy true (numberIn 0 (bytes "9.")) 324 ≡ 2
 unfolding numberIn near nearUnits size
 lowest-two = refl
 
--- 2E-324 is below the half of the least
+-- 2E-324 is below half of the least f64, and gives 0
 lowest-none : nearBy true (numberIn 0 (bytes "2.")) 324 ≡ 0
 unfolding numberIn near nearUnits size
 lowest-none = refl
 
--- 2 ^ 53 + 1 lies half way, and goes down to the even pattern
+-- 2 ^ 53 + 1 as a decimal lies half way, and goes down to the even pattern
 tie : nearBy true (numberIn 0 (bytes "9007199254740993.000")) 3 ≡ 0x4340_0000_0000_0000
 unfolding numberIn near nearUnits size
 tie = refl
 
--- one digit further down takes it up
+-- 2 ^ 53 + 1 and a digit 1 far behind the point is past half way, and goes up
 past-tie : nearBy true (numberIn 0 (bytes "9007199254740993.00000000000000000000000000000001")) 32 ≡ 0x4340_0000_0000_0001
 unfolding numberIn near nearUnits size
 past-tie = refl
 
--- 1.7976931348623158E308 is the largest f64
+-- 1.7976931348623158E308 gives the largest f64
 largest : nearBy false (numberIn 0 (bytes "1.7976931348623158")) 292 ≡ 0x7fef_ffff_ffff_ffff
 unfolding numberIn near nearUnits size
 largest = refl
 
--- 1.7976931348623159E308 is infinity
+-- 1.7976931348623159E308 gives infinity
 past-largest : nearBy false (numberIn 0 (bytes "1.7976931348623159")) 292 ≡ infinity
 unfolding numberIn near nearUnits size
 past-largest = refl

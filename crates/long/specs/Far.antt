@@ -11,7 +11,7 @@ use Rattle.nearest.specs.Near.{near}
 use Rattle.nearest.specs.Borders.{near-zero, near-infinity}
 use Rattle.nearest.specs.PowerLaws.{ten-pos}
 
--- neither of two tests is true
+-- two tests of which none passes fail each
 pub neither : (a b : Bool) → (a || b) ≡ false → (a ≡ false) × (b ≡ false)
 neither false b e = (refl, e)
 neither true b e = absurd (never e)
@@ -19,11 +19,11 @@ neither true b e = absurd (never e)
     never : true ≡ false → ⊥
     never z = let y : _≡_ {A = ℕ} 0 1 = cc in omega arith
 
--- 10 to minus so much is below half the least f64
+-- the power of ten from which on down a decimal is a zero: 10 ^ -324 is below half the least f64
 abbrev pub lowest : ℕ
 lowest = 324
 
--- so it is
+-- 10 ^ -324 is at most half the least f64
 zero-border : 2 ^ 1075 ≤ 10 ^ lowest
 zero-border = leb-true (2 ^ 1075) (10 ^ lowest) refl
 
@@ -31,20 +31,20 @@ zero-border = leb-true (2 ^ 1075) (10 ^ lowest) refl
 infinity-border : (2 ^ 54 - 1) * 2 ^ 970 ≤ 10 ^ 309
 infinity-border = leb-true ((2 ^ 54 - 1) * 2 ^ 970) (10 ^ 309) refl
 
--- a number below 10 ^ n, divided by 10 ^ (n + 324) or more
+-- a number below 10 ^ n, divided by 10 ^ (n + 324) or more, has the nearest f64 0
 pub far-zero : (num n k : ℕ) → num < 10 ^ n → n + lowest ≤ k → near num (10 ^ k) ≡ 0
 far-zero num n k l h =
     near-zero num (10 ^ k) (ten-pos k)
     (le-trans (mul-le-mul (le-of-lt l) zero-border) (subst (λ (x : ℕ). x ≤ 10 ^ k) (pow-add 10 n lowest) (pow-le-pow-right {n = 10} (omega arith) {i = n + lowest} {j = k} h)))
 
--- a number of n digits that is a tenth of 10 ^ n or more, divided by less than 10 ^ (n - 309)
+-- a number of n digits that is a tenth of 10 ^ n or more, divided by less than 10 ^ (n - 309), has the nearest f64 infinity
 pub far-infinity : (num n k : ℕ) → 10 ^ n ≤ 10 * num → k + 309 < n → near num (10 ^ k) ≡ infinity
 far-infinity num n k l h =
     let a : 10 ^ (k + 309) ≤ num =
     le-of-mul-le-mul-left {k = 10} (le-trans (subst (λ (x : ℕ). x ≤ 10 ^ n) (pow-succ' 10 (k + 309)) (pow-le-pow-right {n = 10} (omega arith) {i = suc (k + 309)} {j = n} h)) l) (omega arith) in
     near-infinity num (10 ^ k) (ten-pos k) (le-trans (mul-le-mul-left (10 ^ k) infinity-border) (subst (λ (x : ℕ). x ≤ num) (pow-add 10 k 309) a))
 
--- the same times 10 ^ k, where that has 310 digits or more
+-- a number of n digits that is a tenth of 10 ^ n or more, times 10 ^ k, is infinity where n + k is above 309
 pub high-infinity : (num n k : ℕ) → 10 ^ n ≤ 10 * num → 309 < n + k → near (num * 10 ^ k) 1 ≡ infinity
 high-infinity num n k l h =
     let a : 10 * 10 ^ 309 ≤ 10 ^ (n + k) = pow-le-pow-right {n = 10} (omega arith) {i = 310} {j = n + k} h in
@@ -56,7 +56,7 @@ high-infinity num n k l h =
 pub word-lt : (m : ℕ) → m < 2 ^ 64 → m < 10 ^ 20
 word-lt m h = omega arith
 
--- 5 is below 2 ^ 3
+-- 5 ^ k is at most 2 ^ (3 k)
 five-le : (k : ℕ) → 5 ^ k ≤ 2 ^ (3 * k)
 five-le zero = omega arith
 five-le (suc k) =
@@ -67,7 +67,7 @@ five-le (suc k) =
     five : 5 ≤ 8
     five = omega arith
 
--- so a number moved up by 3 k + 64 binary digits has 64 of them left, divided by 5 ^ k
+-- a number moved up by 3 k + 64 binary digits has 64 of them left when it is divided by 5 ^ k
 pub ahead-enough : (m k s : ℕ) → 0 < m → s ≡ 3 * k + 64 → 5 ^ k * 2 ^ 64 ≤ m * 2 ^ s
 ahead-enough m k s h e =
     let a : 5 ^ k * 2 ^ 64 ≤ 2 ^ s = subst (λ (x : ℕ). 5 ^ k * 2 ^ 64 ≤ x) (sym (ap (λ (n : ℕ). 2 ^ n) e ∙ pow-add 2 (3 * k) 64)) (mul-le-mul-right (2 ^ 64) (five-le k)) in

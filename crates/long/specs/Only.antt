@@ -11,14 +11,14 @@ use Rattle.nearest.specs.Power.{nearBy}
 use Rattle.nearest.specs.Only.{bits-only}
 use Rattle.long.specs.Number.{numberIn}
 
--- `lowered`; that of the crate `wide` promises the same
+-- `lowered` has one answer; that of the crate `wide` promises the same
 pub lowered-only : (x y : Float) (neg : Bool) (m k : ℕ) → T (fits binary64 x) → T (fits binary64 y) → toBits binary64 x ≡ signed neg (near m (10 ^ k)) → toBits binary64 y ≡ signed neg (near m (10 ^ k)) → x ≡ y
 lowered-only x y neg m k f g a b = bits-only x y f g (a ∙ sym b)
 
--- `raised`, and that of the crate `wide`
+-- `raised` has one answer; that of the crate `wide` promises the same
 pub raised-only : (x y : Float) (neg : Bool) (m k : ℕ) → T (fits binary64 x) → T (fits binary64 y) → toBits binary64 x ≡ signed neg (near (m * 10 ^ k) 1) → toBits binary64 y ≡ signed neg (near (m * 10 ^ k) 1) → x ≡ y
 raised-only x y neg m k f g a b = bits-only x y f g (a ∙ sym b)
 
--- `decimal`
+-- `decimal` has one answer
 pub decimal-only : (x y : Float) (neg : Bool) (t : List ℕ) (down : Bool) (k : ℕ) → T (fits binary64 x) → T (fits binary64 y) → toBits binary64 x ≡ signed neg (nearBy down (numberIn 0 t) k) → toBits binary64 y ≡ signed neg (nearBy down (numberIn 0 t) k) → x ≡ y
 decimal-only x y neg t down k f g a b = bits-only x y f g (a ∙ sym b)

@@ -27,7 +27,7 @@ border-le = leb→le ((2 ^ 54 - 1) * 2 ^ 970) (2 ^ 1024) tt
 in-halves : 2 ^ 1024 * 2 ^ 1075 ≡ 2 ^ 63 * 2 ^ 2036
 in-halves = refl
 
--- 64 digits at such a place are 2 ^ 1024 or more
+-- 64 digits at the place 2036 or above, in halves of the least f64, are 2 ^ 1024 or more: the nearest is infinity
 pub past-infinity : (num den w : ℕ) (more : Bool) (y : ℕ) → Window num den w more y → 2 ^ 63 ≤ w → 2036 ≤ y → near num den ≡ infinity
 past-infinity num den w more y c l h =
     let T = (2 ^ 54 - 1) * 2 ^ 970 in
@@ -42,15 +42,15 @@ past-infinity num den w more y c l h =
 
 -- ---- below that place: d digits are dropped, and k is what the rest is rounded to
 module _ (w : ℕ) (more : Bool) (y k d : ℕ) (most : w < 2 ^ 64) (lead : (y ≡ 0) ⊎ (2 ^ 63 ≤ w)) (near-by : y < 2036) (is : d ≡ spareOf w) (kept : k ≡ nearest (w / 2 ^ (d % 64)) (against (w % 2 ^ (d % 64)) (2 ^ (d % 64)) more)) where
-  -- what is kept
+  -- what is kept and rounded, the machine's shift written out
   kept-there : k ≡ nearest (w / 2 ^ d) (against (w % 2 ^ d) (2 ^ d) more)
   kept-there = few-dropped w more d k (omega arith) kept
 
-  -- it has 53 digits at most
+  -- what is kept of w has 53 digits at most
   few : w / 2 ^ d < 2 ^ 53
   few = subst (λ (n : ℕ). w / 2 ^ n < 2 ^ 53) (sym is) (spare-leaves w most .0)
 
-  -- and its leading one, or it stands at the lowest place
+  -- what is kept of w has its leading digit, or stands at the lowest place
   leads : (y + d ≡ 1) ⊎ (2 ^ 52 ≤ w / 2 ^ d)
   leads = go lead (spare-leaves w most .1)
     where
@@ -59,7 +59,7 @@ module _ (w : ℕ) (more : Bool) (y k d : ℕ) (most : w < 2 ^ 64) (lead : (y �
       go (inr l) (inl o) = inr (subst (λ (n : ℕ). 2 ^ 52 ≤ w / 2 ^ n) (sym (is ∙ o)) (omega arith))
       go z (inr l) = inr (subst (λ (n : ℕ). 2 ^ 52 ≤ w / 2 ^ n) (sym is) l)
 
-  -- the pattern is a number's or infinity's
+  -- the pattern that is made of what is kept is a number's or infinity's
   pub seen-le : (y + d - 1) * 2 ^ 52 + k ≤ infinity
   seen-le =
       let q = w / 2 ^ d in
@@ -68,7 +68,7 @@ module _ (w : ℕ) (more : Bool) (y k d : ℕ) (most : w < 2 ^ 64) (lead : (y �
       let b : nearest q (against (w % 2 ^ d) (2 ^ d) more) ≤ suc q = nearest-le q (against (w % 2 ^ d) (2 ^ d) more) in
       omega arith
 
-  -- and it is the nearest
+  -- the pattern that is made of what is kept is the nearest of every number that is seen so
   pub seen-near : (num den : ℕ) → Window num den w more y → (y + d - 1) * 2 ^ 52 + k ≡ near num den
   seen-near num den c =
       let z = leadingZeros 64 w in

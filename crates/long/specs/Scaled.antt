@@ -23,7 +23,7 @@ pub record Scaled (num den n s k : ℕ) (more : Bool) : Type 0 where
   pub below : tail < group
   pub left : more ≡ ltb 0 tail
 
--- whatever fraction n stands for so, its nearest f64 has the pattern b with its sign
+-- b is what n is lowered to: whatever fraction n stands for as `Scaled` says, its nearest f64 has the pattern b with its sign
 abbrev pub LowersTo : Bool → ℕ → ℕ → ℕ → Bool → ℕ → Type 0
 LowersTo s n up k more b = (num den : ℕ) → Scaled num den n up k more → b ≡ signed s (near num den)
 

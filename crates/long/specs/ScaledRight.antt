@@ -16,32 +16,32 @@ use Rattle.limbs.specs.declared.Head.{Head}
 use Rattle.long.specs.Scaled.{Lowered, Scaled, LowersTo, RaisesTo}
 
 -- ---- what is left
--- of a multiple something is left just where it is of the number
+-- of x times a positive number something is left just where x is not 0
 left-times : (x p : ℕ) → 0 < p → ltb 0 (x * p) ≡ ltb 0 x
 left-times zero p h = ap (λ (n : ℕ). ltb 0 n) (zero-mul p)
 left-times (suc x) p h = let r : 0 < suc x = omega arith in lt-ltb 0 (suc x * p) (mul-pos r h) ∙ sym (lt-ltb 0 (suc x) r)
 
--- three tests in a row
+-- three tests joined by or, in either grouping
 or-assoc : (a b c : Bool) → a || (b || c) ≡ (a || b) || c
 or-assoc true b c = refl
 or-assoc false b c = refl
 
--- nothing is left of nothing
+-- a test joined by or with false is that test
 or-false : (a : Bool) → a || false ≡ a
 or-false true = refl
 or-false false = refl
 
 -- ---- divided
 module _ (num den n s k : ℕ) (more left : Bool) (W z w low : ℕ) (c : Scaled num den n s k more) (d : Lowered n (5 ^ k) W left) (near-by : s + k ≤ 1075) where
-  -- one unit of W
+  -- one unit of W, multiplied out
   U : ℕ
   U = 5 ^ k * c .group * 2 ^ (1075 - s)
 
-  -- what is left below W: of the division, and of the group
+  -- what is left below W, multiplied out: of the division, and of the group
   R : ℕ
   R = (d .rest * c .group + c .tail) * 2 ^ (1075 - s)
 
-  -- the number by W
+  -- the number is W units and what is left below W
   in-units : num * 2 ^ 1075 ≡ W * U + R
   unfolding U R
   in-units =
@@ -55,7 +55,7 @@ module _ (num den n s k : ℕ) (more left : Bool) (W z w low : ℕ) (c : Scaled 
       ∙ add-mul (W * (5 ^ k * g)) (d .rest * g + t) P
       ∙ ap (λ (x : ℕ). x + (d .rest * g + t) * P) (mul-assoc W (5 ^ k * g) P)
 
-  -- which is less than a unit
+  -- what is left below W is less than a unit
   rest-lt : R < U
   unfolding U R
   rest-lt =
@@ -66,7 +66,7 @@ module _ (num den n s k : ℕ) (more left : Bool) (W z w low : ℕ) (c : Scaled 
       less : (x y t g : ℕ) → x + g ≤ y → t < g → x + t < y
       less x y t g h l = omega arith
 
-  -- 2 ^ z units
+  -- the divisor of the digits seen is 2 ^ z units
   units : den * 2 ^ (z + (1075 - s - k)) ≡ 2 ^ z * U
   unfolding U
   units =
@@ -80,14 +80,14 @@ module _ (num den n s k : ℕ) (more left : Bool) (W z w low : ℕ) (c : Scaled 
       regroup : (f a g z b : ℕ) → f * a * g * (z * b) ≡ z * (f * g * (a * b))
       regroup f a g z b = simp (mul-assoc, mul-comm, mul-left-comm) refl
 
-  -- the divisor is positive
+  -- the divisor of the fraction that n stands for is positive
   den-pos : 0 < den
   den-pos =
       let b : c .tail < c .group = c .below in
       let p : 0 < c .group = omega arith in
       subst (λ (x : ℕ). 0 < x) (sym (c .divisor)) (mul-pos (ten-pos k) p)
 
-  -- something is left just where it is of the division or of the group
+  -- something is left below W just where it is of the division or of the group
   left-of : left || more ≡ ltb 0 R
   unfolding R
   left-of =
@@ -97,7 +97,7 @@ module _ (num den n s k : ℕ) (more left : Bool) (W z w low : ℕ) (c : Scaled 
       ∙ left-told (d .rest) (c .group) (c .tail) (omega arith)
       ∙ sym (left-times (d .rest * c .group + c .tail) (2 ^ (1075 - s)) (pow-pos (1075 - s)))
 
-  -- so the fraction is seen by W's leading digits
+  -- a fraction whose n is divided by 5 ^ k to W is seen by W's leading digits
   pub lowered-window : w * 2 ^ z + low ≡ W → low < 2 ^ z → Window num den w ((ltb 0 low || left) || more) (z + (1075 - s - k))
   lowered-window e l = subst (λ (t : Bool). Window num den w t (z + (1075 - s - k))) (ap (λ (t : Bool). ltb 0 low || t) (sym left-of) ∙ or-assoc (ltb 0 low) left more) (window-of num den W U R z w low (z + (1075 - s - k)) den-pos in-units rest-lt units e l)
 
@@ -133,7 +133,7 @@ head-leads W h c l m = go (c .leads)
         let u : c .rest < 2 ^ 0 = subst (λ (x : ℕ). c .rest < 2 ^ x) z (c .under) in
         absurd (omega arith)
 
--- n divided by 5 ^ k: there are 64 digits, or all down to the lowest place
+-- the head of n divided by 5 ^ k has 64 digits, or all down to the lowest place
 pub lowered-leads : (n s k : ℕ) (left : Bool) (W : ℕ) (h : Head) → (s + k ≡ 1075) ⊎ (5 ^ k * 2 ^ 64 ≤ n) → Lowered n (5 ^ k) W left → HeadOf W h → h .digits < 2 ^ 64 → (lower h + (1075 - s - k) ≡ 0) ⊎ (2 ^ 63 ≤ h .digits)
 lowered-leads n s k left W h r d c m = go r (c .leads)
   where
@@ -153,15 +153,15 @@ lowered-leads n s k left W h r d c m = go r (c .leads)
     go (inl e) (inl t) = inl (let a = t .0 in let b = t .1 in omega arith)
     go (inr l) (inl t) = inr (head-leads W h c (long l) m)
 
--- and what is rounded so is the fraction that n stands for
+-- what is rounded by the head of n divided by 5 ^ k is the fraction that n stands for
 pub lowers-to : (neg : Bool) (n s k : ℕ) (more left : Bool) (W : ℕ) (h : Head) (b : ℕ) → s + k ≤ 1075 → Lowered n (5 ^ k) W left → HeadOf W h → RoundsAs neg (h .digits) ((h .more || left) || more) (lower h + (1075 - s - k)) b → LowersTo neg n s k more b
 lowers-to neg n s k more left W h b l d c r num den t =
     r num den (subst (λ (x : Bool). Window num den (h .digits) ((x || left) || more) (lower h + (1075 - s - k))) (sym (c .left)) (lowered-window num den n s k more left W (lower h) (h .digits) (c .rest) t d l (c .whole) (c .under)))
 
--- n times 5 ^ k: there are 64 digits
+-- the head of n times 5 ^ k has 64 digits
 pub raised-leads : (n k W : ℕ) (h : Head) → 2 ^ 64 ≤ n → W ≡ n * 5 ^ k → HeadOf W h → h .digits < 2 ^ 64 → 2 ^ 63 ≤ h .digits
 raised-leads n k W h l e c m = head-leads W h c (subst (λ (x : ℕ). 2 ^ 64 ≤ x) (sym e) (subst (λ (x : ℕ). x ≤ n * 5 ^ k) (mul-one (2 ^ 64)) (mul-le-mul l (one-le-pow k 5 (omega arith))))) m
 
--- and what is rounded so is the number that n stands for, times 10 ^ k
+-- what is rounded by the head of n times 5 ^ k is the number that n stands for, times 10 ^ k
 pub raises-to : (neg : Bool) (n k W : ℕ) (h : Head) (b : ℕ) → W ≡ n * 5 ^ k → HeadOf W h → RoundsAs neg (h .digits) (h .more) (lower h + (1011 + k)) b → RaisesTo neg n k b
 raises-to neg n k W h b e c r num f = r (num * 10 ^ k) 1 (subst (λ (x : Bool). Window (num * 10 ^ k) 1 (h .digits) x (lower h + (1011 + k))) (sym (c .left)) (raised-window num n k W (lower h) (h .digits) (c .rest) f e (c .whole) (c .under)))

@@ -25,11 +25,11 @@ use Rattle.long.specs.DigitsRight.{digit-le, number-next, number-past, d
 use Rattle.long.specs.Scaled.{Lowered}
 
 -- ---- division
--- nothing is divided yet
+-- before the first division: n by 1 is n, and nothing is left
 pub lowered-starts : (n : ℕ) → Lowered n 1 n false
 lowered-starts n = record { rest = 0; whole = omega arith; below = omega arith; left = refl }
 
--- anything left of a part is something left of the whole
+-- something is left of the whole just where it is left of an earlier division or of this one
 told-left : (r d rest : ℕ) (more : Bool) → 0 < d → more ≡ ltb 0 rest → (more || not (eqb r 0)) ≡ ltb 0 (r * d + rest)
 told-left zero d rest more p e = both more ∙ e ∙ ap (ltb 0) z
   where
@@ -51,7 +51,7 @@ told-left (suc r) d rest more p e = ap (λ (t : Bool). more || not t) (eqb·suc-
     both true = refl
     both false = refl
 
--- ⌊⌊a/b⌋/c⌋ = ⌊a/(b·c)⌋, and the whole rest is 0 just where each one is
+-- a quotient divided on, ⌊⌊a/b⌋/c⌋ = ⌊a/(b·c)⌋; the whole rest is 0 just where each one is
 pub lowered-more : (n d q e p r : ℕ) (more : Bool) → Lowered n d q more → p * e + r ≡ q → r < e → Lowered n (d * e) p (more || not (eqb r 0))
 lowered-more n d q e p r more l w h = record {
   rest = r * d + l .rest;
@@ -69,12 +69,12 @@ lowered-more n d q e p r more l w h = record {
     some : (x : ℕ) → x < d → 0 < d
     some x a = omega arith
 
--- two powers, one after the other
+-- two powers of one number multiplied
 pub powers : (b i j k : ℕ) → i + j ≡ k → b ^ i * b ^ j ≡ b ^ k
 powers b i j k e = sym (pow-add b i j) ∙ ap (λ (n : ℕ). b ^ n) e
 
 -- ---- one digit more
--- the lower digits multiplied, and what no longer fits above them
+-- one more digit above: the lower ones multiplied and added to, and what no longer fits put above them
 pub pushed : (xs : List ℕ) (used by add : ℕ) (ys : List ℕ) (c : ℕ) → used < length xs → limbs.Scaled (take used xs) by add ys c
     → worth (take (used + 1) (set (ys ++ drop used xs) used c)) ≡ worth (take used xs) * by + add
 pushed xs used by add ys c h s =
@@ -92,14 +92,14 @@ pushed xs used by add ys c h s =
     ∙ s .whole
 
 -- ---- a number moved up
--- the lower part of 0 is 0
+-- where a number is 0, so are its lower n digits
 pub take-none : (n : ℕ) (xs : List ℕ) → n ≤ length xs → worth xs ≡ 0 → worth (take n xs) ≡ 0
 take-none n xs h e = let s = worth-split n xs h in put (2 ^ (32 * n) * worth (drop n xs)) (sym e ∙ s)
   where
     put : (x : ℕ) → 0 ≡ worth (take n xs) + x → worth (take n xs) ≡ 0
     put x f = omega arith
 
--- m in two digits above c that are 0
+-- m put in two digits above c that are 0 is m moved up by c digits
 pub put-in : (xs : List ℕ) (c m : ℕ) → worth xs ≡ 0 → c + 2 ≤ length xs
     → worth (take (c + 2) (set (set xs c (m % 4294967296)) (c + 1) (m / 4294967296))) ≡ m * 2 ^ (32 * c)
 put-in xs c m z h =
@@ -127,7 +127,7 @@ put-in xs c m z h =
     parts : (p q lo hi : ℕ) → q ≡ 4294967296 * p → hi * 4294967296 + lo ≡ m → 0 + p * lo + q * hi ≡ m * p
     parts p q lo hi e f = rw (e, ← f) (omega arith)
 
--- by whole digits and by what is left of s, where the power is a shift of the code's
+-- a number moved up by s: by whole digits of 32, and by what is left of s, as the code shifts
 pub moved-up : (s n w v : ℕ) → w ≡ n * 2 ^ (32 * (s / 32)) → v ≡ w * (1 * 2 ^ (s % 32) % 4294967296) + 0 → v ≡ n * 2 ^ s
 moved-up s n w v e f =
     f
@@ -152,7 +152,7 @@ pub record Reading (t : List ℕ) (from count : ℕ) (a : List ℕ) (used held w
   pub value : numberIn (worth (take used a) * weight + held) (drop i t) ≡ numberIn 0 (drop from t)
   pub rest : digitsIn (drop i t) + count ≡ digitsIn (drop from t) + left
 
--- before the first
+-- before the first digit is read
 pub reading-starts : (t : List ℕ) (from count : ℕ) (a : List ℕ) → from ≤ length t → Reading t from count a 0 0 1 count from
 unfolding worth
 reading-starts t from count a h = record {
@@ -166,11 +166,11 @@ reading-starts t from count a h = record {
   rest = refl;
 }
 
--- the weight is 10 ^ 8 at most
+-- the weight of the digits that are held is 10 ^ 8 at most
 pub weight-le : (t : List ℕ) (from count : ℕ) (a : List ℕ) (used held weight left i : ℕ) → Reading t from count a used held weight left i → weight ≤ 100000000
 weight-le t from count a used held weight left i r = subst (λ (n : ℕ). n ≤ 100000000) (sym (r .power)) (pow-le-pow-right {n = 10} (omega arith) {i = r .p} {j = 8} (r .short))
 
--- a byte that is no digit
+-- a byte that is no digit is passed over
 pub reading-past : (t : List ℕ) (from count : ℕ) (a : List ℕ) (used held weight left i : ℕ) → i < length t → digit (getD t i 0) ≡ false → Reading t from count a used held weight left i → Reading t from count a used held weight left (i + 1)
 reading-past t from count a used held weight left i h e r =
     let d : drop i t ≡ getD t i 0 ∷ drop (suc i) t = drop-cons t i 0 h in
@@ -185,13 +185,13 @@ reading-past t from count a used held weight left i h e r =
       rest = ap (λ (n : ℕ). n + count) (sym (ap digitsIn d ∙ digits-past (getD t i 0) (drop (suc i) t) e)) ∙ r .rest;
     })
 
--- a digit: its value, and that one fewer is left
+-- a digit is read: its value, and that one fewer is left
 module _ (t : List ℕ) (from count : ℕ) (a : List ℕ) (used held weight left i : ℕ) (h : i < length t) (e : digit (getD t i 0) ≡ true) (r : Reading t from count a used held weight left i) where
-  -- the byte
+  -- the byte at i, which is a digit
   abbrev byte : ℕ
   byte = getD t i 0
 
-  -- what is read with it
+  -- the number of what is read, with the digit at i held
   value-on : numberIn (worth (take used a) * (weight * 10) + (held * 10 + (byte - 48))) (drop (suc i) t) ≡ numberIn 0 (drop from t)
   value-on =
       ap (λ (n : ℕ). numberIn n (drop (suc i) t)) (put (worth (take used a)) (byte - 48))
@@ -202,19 +202,19 @@ module _ (t : List ℕ) (from count : ℕ) (a : List ℕ) (used held weight left
       put : (w d : ℕ) → w * (weight * 10) + (held * 10 + d) ≡ (w * weight + held) * 10 + d
       put w d = omega arith
 
-  -- the digits after it
+  -- how many digits follow the one at i
   rest-on : 0 < left → digitsIn (drop (suc i) t) + count ≡ digitsIn (drop from t) + (left - 1)
   rest-on l = let d : digitsIn (drop i t) ≡ suc (digitsIn (drop (suc i) t)) = ap digitsIn (drop-cons t i 0 h) ∙ digits-first byte (drop (suc i) t) e in let q = r .rest in omega arith
 
-  -- the weight of one digit more
+  -- the weight of one digit more is ten times as much
   power-on : weight * 10 ≡ 10 ^ suc (r .p)
   power-on = ap (λ (n : ℕ). n * 10) (r .power) ∙ sym (pow-suc 10 (r .p))
 
-  -- it is held, and still below its weight
+  -- what is held with the digit at i is still below its weight
   pub held-on : held * 10 + (byte - 48) < weight * 10
   held-on = let d = digit-le byte e in let s = r .small in omega arith
 
-  -- there is room for more
+  -- a digit is held, and there is room to hold more
   pub reading-digit : 0 < left → (weight * 10 ≡ 1000000000 → ⊥) → Reading t from count a used (held * 10 + (byte - 48)) (weight * 10) (left - 1) (i + 1)
   reading-digit l n = let k = r .steps in rw add-one (record {
     p = suc (r .p);
@@ -234,7 +234,7 @@ module _ (t : List ℕ) (from count : ℕ) (a : List ℕ) (used held weight left
           go (yes l) = l
           go (no k) = absurd (f (omega arith))
 
-  -- nine are held: they are one more digit of the room
+  -- nine digits are held: they are put in as one more digit of the room
   pub reading-full : (b : List ℕ) → 0 < left → weight * 10 ≡ 1000000000 → worth (take (used + 1) b) ≡ worth (take used a) * (weight * 10) + (held * 10 + (byte - 48)) → Reading t from count b (used + 1) 0 1 (left - 1) (i + 1)
   reading-full b l n w = let k = r .steps in let f = nine (r .p) (r .short) (sym power-on ∙ n) in rw (add-one i) (record {
     p = 0;
@@ -257,7 +257,7 @@ module _ (t : List ℕ) (from count : ℕ) (a : List ℕ) (used held weight left
           go (yes l) = let m : 10 ^ suc p ≤ 100000000 = pow-le-pow-right {n = 10} (omega arith) {i = suc p} {j = 8} l in absurd (omega arith)
           go (no k) = omega arith
 
--- the same numbers
+-- what is read, of equal numbers, is the same
 pub reading-same : {t : List ℕ} {from count : ℕ} {a b : List ℕ} {u v g h w x l m i : ℕ} → a ≡ b → u ≡ v → g ≡ h → w ≡ x → l ≡ m → Reading t from count b v h x m i → Reading t from count a u g w l i
 reading-same {t} {from} {count} {a} {b} {u} {v} {g} {h} {w} {x} {l} {m} {i} p q e f d r =
     subst (λ (z : List ℕ). Reading t from count z u g w l i) (sym p)
@@ -266,7 +266,7 @@ reading-same {t} {from} {count} {a} {b} {u} {v} {g} {h} {w} {x} {l} {m} {i} p q 
     (subst (λ (z : ℕ). Reading t from count b v h z l i) (sym f)
     (subst (λ (z : ℕ). Reading t from count b v h x z i) (sym d) r))))
 
--- after the last: what is held is one more digit of the room
+-- after the last digit: what is held is put in as one more digit of the room
 pub reading-ends : (t : List ℕ) (from count : ℕ) (a : List ℕ) (used held weight left i : ℕ) (b : List ℕ) → count ≤ digitsIn (drop from t) → (0 < left → length t ≤ i) → worth (take (used + 1) b) ≡ worth (take used a) * weight + held → Reading t from count a used held weight left i → ReadAt t from count b (record { used = used + 1; next = i })
 reading-ends t from count a used held weight left i b h o w r =
     let z : left ≡ 0 = none (decLt 0 left) in
@@ -289,7 +289,7 @@ reading-ends t from count a used held weight left i b h o w r =
     none (no k) = omega arith
 
 -- ---- the first digit
--- a byte that is no digit, or `0`, is worth nothing
+-- where a search for the first digit passes a byte that is no digit, or is `0`, the number stays
 pub first-past : (t : List ℕ) (i : ℕ) → i < length t → (digit (getD t i 0) && not (eqb (getD t i 0) 48)) ≡ false → numberIn 0 (drop (i + 1) t) ≡ numberIn 0 (drop i t)
 first-past t i h e =
     let c = getD t i 0 in
@@ -303,7 +303,7 @@ first-past t i h e =
     go true true d f g = let q = f refl in let z : 0 ≡ 0 * 10 + (getD t i 0 - 48) = omega arith in ap (λ (n : ℕ). numberIn n (drop (suc i) t)) z ∙ sym (number-next 0 (getD t i 0) (drop (suc i) t) d)
     go true false d f g = let z : true ≡ false = g in absurd (never z)
 
--- another digit leads
+-- a digit that is not `0` leads the text from its place on
 pub first-leads : (t : List ℕ) (i : ℕ) → i < length t → (digit (getD t i 0) && not (eqb (getD t i 0) 48)) ≡ true → Leads (drop i t)
 first-leads t i h e = subst Leads (sym (drop-cons t i 0 h)) (go (digit (getD t i 0)) (eqb (getD t i 0) 48) refl (eqb-false (getD t i 0) 48) e)
   where

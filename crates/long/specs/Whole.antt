@@ -17,11 +17,11 @@ use Rattle.long.specs.Scaled.{Scaled}
 use Rattle.long.specs.Steps.{take-none, powers}
 use Rattle.long.specs.declared.Filled.{Filled}
 
--- the room from c on has so many digits
+-- the part of the room from c on has as many digits as the room has above c
 part-length : (xs : List ℕ) (c : ℕ) → length (take (length xs - c) (drop c xs)) ≡ length xs - c
 part-length xs c = let d = length-drop c xs in length-take-le (length xs - c) (drop c xs) (omega arith)
 
--- digits read into the room above c digits that are 0
+-- digits that are read into the room above c digits that are 0 make their number moved up by c digits
 pub placed : (xs ys : List ℕ) (c u : ℕ) → worth xs ≡ 0 → c + u ≤ length xs → length ys ≡ length (take (length xs - c) (drop c xs))
     → worth (take (c + u) (take c xs ++ (ys ++ drop (length xs - c) (drop c xs)))) ≡ worth (take u ys) * 2 ^ (32 * c)
 placed xs ys c u z h l =
@@ -37,11 +37,11 @@ placed xs ys c u z h l =
     ∙ ap (λ (s : List ℕ). 2 ^ (32 * c) * worth s) (take-append-le u ys g (omega arith))
     ∙ mul-comm (2 ^ (32 * c)) (worth (take u ys))
 
--- all digits are read: the room has the number
+-- where all digits are read, the room has the number
 pub read-all : (t : List ℕ) (i n : ℕ) (a : List ℕ) (r : Filled) → n ≡ digitsIn (drop i t) → ReadAt t i n a r → worth (take (r .used) a) ≡ numberIn 0 (drop i t)
 read-all t i n a r e h = let q = h .rest in sym (number-none (worth (take (r .used) a)) (drop (r .next) t) (omega arith)) ∙ h .value
 
--- a whole number divided by 10 ^ k, moved up by s
+-- a whole number moved up by s stands for its fraction by 10 ^ k, with nothing left out
 pub scaled-whole : (num n s k : ℕ) → n ≡ num * 2 ^ s → Scaled num (10 ^ k) n s k false
 scaled-whole num n s k e = record {
   group = 1;

@@ -13,12 +13,12 @@ use Rattle.nearest.specs.Nearest.{IsNearest}
 use Rattle.nearest.specs.Near.{near, near-is, near-only, near-digits, Cmp, cmp}
 
 -- ---- zeros: up to and including half the least subnormal
--- 0 is worth nothing
+-- the pattern 0 is worth 0 units
 units-zero : unitsOf 0 ≡ 0
 unfolding unitsOf
 units-zero = refl
 
--- the least subnormal is one unit
+-- the pattern 1, the least subnormal's, is worth one unit
 units-one : unitsOf 1 ≡ 1
 unfolding unitsOf
 units-one = refl
@@ -28,7 +28,7 @@ module _ (num den : ℕ) (dp : 0 < den) where
   twice : num * 2 ^ 1075 ≡ num * 2 ^ 1074 * 2
   twice = sym (mul-assoc num (2 ^ 1074) 2)
 
-  -- half the least subnormal, or less: the nearest is 0, which is the even one of the two at the tie
+  -- a number of at most half the least subnormal has the nearest pattern 0, which is the even one of the two at the tie
   pub near-zero : num * 2 ^ 1075 ≤ den → near num den ≡ 0
   near-zero h =
       let n = num * 2 ^ 1074 in
@@ -44,7 +44,7 @@ module _ (num den : ℕ) (dp : 0 < den) where
       last Ordering·eq n l c = refl
       last Ordering·gt n l c = absurd (omega arith)
 
-  -- and where the nearest is 0, the number is no more
+  -- where the nearest pattern is 0, the number is at most half the least subnormal
   pub near-zero-only : near num den ≡ 0 → num * 2 ^ 1075 ≤ den
   near-zero-only e =
       let n = num * 2 ^ 1074 in
@@ -56,51 +56,51 @@ module _ (num den : ℕ) (dp : 0 < den) where
       half : (n : ℕ) → gap 0 n ≤ gap den n → n * 2 ≤ den
       half n c = omega arith
 
--- 0 itself
+-- the pattern nearest to the number 0 is 0
 pub near-nothing : (den : ℕ) → 0 < den → near 0 den ≡ 0
 near-nothing den dp = near-zero 0 den dp (subst (λ (x : ℕ). x ≤ den) (sym (zero-mul (2 ^ 1075))) (omega arith))
 
 -- ---- infinities: from halfway between the largest finite value and 2 ^ 1024 on
--- the largest finite value, that border and 2 ^ 1024 in parts of 2 ^ 970
+-- the largest finite value in units: 2 ^ 54 - 2 parts of 2 ^ 970
 units-last : unitsOf (infinity - 1) ≡ 18014398509481982 * 2 ^ 2044
 unfolding unitsOf
 units-last = refl
 
--- infinity's pattern counts as 2 ^ 1024
+-- infinity's pattern counts as 2 ^ 1024: 2 ^ 54 parts of 2 ^ 970
 units-infinity : unitsOf infinity ≡ 18014398509481984 * 2 ^ 2044
 unfolding unitsOf
 units-infinity = refl
 
--- the border lies between the two
+-- the border of the infinities in units: 2 ^ 54 - 1 parts of 2 ^ 970, half way from the largest finite value to 2 ^ 1024
 border-is : (2 ^ 54 - 1) * 2 ^ 970 * 2 ^ 1074 ≡ 18014398509481983 * 2 ^ 2044
 border-is = refl
 
 module _ (num den : ℕ) (dp : 0 < den) where
-  -- one such part, in units and times den
+  -- 2 ^ 970 in units, times den: the part by which the border of the infinities is counted
   part : ℕ
   part = 2 ^ 2044 * den
 
-  -- it is positive
+  -- 2 ^ 970 in units, times den, is positive
   part-pos : 0 < part
   unfolding part
   part-pos = mul-pos (pow-pos 2044) dp
 
-  -- the largest finite value in parts
+  -- the largest finite value times den is 2 ^ 54 - 2 parts of 2 ^ 970
   last-parts : unitsOf (infinity - 1) * den ≡ 18014398509481982 * part
   unfolding part
   last-parts = ap (λ (x : ℕ). x * den) units-last ∙ mul-assoc 18014398509481982 (2 ^ 2044) den
 
-  -- 2 ^ 1024 in parts
+  -- 2 ^ 1024 times den is 2 ^ 54 parts of 2 ^ 970
   infinity-parts : unitsOf infinity * den ≡ 18014398509481984 * part
   unfolding part
   infinity-parts = ap (λ (x : ℕ). x * den) units-infinity ∙ mul-assoc 18014398509481984 (2 ^ 2044) den
 
-  -- the border in parts
+  -- the border of the infinities times den is 2 ^ 54 - 1 parts of 2 ^ 970
   border-parts : den * ((2 ^ 54 - 1) * 2 ^ 970) * 2 ^ 1074 ≡ 18014398509481983 * part
   unfolding part
   border-parts = mul-assoc den ((2 ^ 54 - 1) * 2 ^ 970) (2 ^ 1074) ∙ ap (λ (x : ℕ). den * x) border-is ∙ mul-comm den (18014398509481983 * 2 ^ 2044) ∙ mul-assoc 18014398509481983 (2 ^ 2044) den
 
-  -- at the border or past it the nearest is infinity, which is the even one of the two at the tie
+  -- from the border 2 ^ 1024 - 2 ^ 970 on the nearest is infinity, which is the even one of the two at the tie
   pub near-infinity : den * ((2 ^ 54 - 1) * 2 ^ 970) ≤ num → near num den ≡ infinity
   near-infinity h = go (decLt (near num den) (infinity - 1)) (decLt (near num den) infinity)
     where
@@ -128,7 +128,7 @@ module _ (num den : ℕ) (dp : 0 < den) where
           absurd (omega arith)
       go (no k) (no j) = let p : near num den ≤ infinity = near-is num den dp .pattern in omega arith
 
-  -- and below the border it is a number
+  -- below the border 2 ^ 1024 - 2 ^ 970 the nearest pattern is a number's
   pub near-finite : num < den * ((2 ^ 54 - 1) * 2 ^ 970) → near num den < infinity
   near-finite h = go (decLt (near num den) infinity)
     where
@@ -146,7 +146,7 @@ module _ (num den : ℕ) (dp : 0 < den) where
           let f : unitsOf (near num den) * den ≡ 18014398509481984 * part = ap (λ (x : ℕ). unitsOf x * den) e ∙ infinity-parts in
           absurd (below n part (subst (λ (x : ℕ). n < x) border-parts (mul-lt-mul-of-pos-right h (pow-pos 1074))) (subst (λ (x : ℕ). gap x n ≤ gap (18014398509481982 * part) n) f c))
 
-  -- so where the nearest is infinity, the number is at the border or past it
+  -- where the nearest is infinity, the number is 2 ^ 1024 - 2 ^ 970 or more
   pub near-infinity-only : near num den ≡ infinity → den * ((2 ^ 54 - 1) * 2 ^ 970) ≤ num
   near-infinity-only e = go (decLe (den * ((2 ^ 54 - 1) * 2 ^ 970)) num)
     where
@@ -156,18 +156,18 @@ module _ (num den : ℕ) (dp : 0 < den) where
 
 -- ---- the same of the definition
 module _ (num den : ℕ) (dp : 0 < den) where
-  -- 0 is the nearest up to 2 ^ -1075, half the least subnormal, and there too
+  -- 0 is the nearest of a number up to 2 ^ -1075, half the least subnormal, and at that tie too
   pub zero-is : num * 2 ^ 1075 ≤ den → IsNearest num den 0
   zero-is l = subst (λ (b : ℕ). IsNearest num den b) (near-zero num den dp l) (near-is num den dp)
 
-  -- and no farther
+  -- 0 is the nearest of no number above 2 ^ -1075
   pub zero-only : IsNearest num den 0 → num * 2 ^ 1075 ≤ den
   zero-only h = near-zero-only num den dp (sym (near-only num den 0 dp h))
 
-  -- infinity is the nearest from the border on
+  -- infinity is the nearest of a number from 2 ^ 1024 - 2 ^ 970 on
   pub infinity-is : den * ((2 ^ 54 - 1) * 2 ^ 970) ≤ num → IsNearest num den infinity
   infinity-is l = subst (λ (b : ℕ). IsNearest num den b) (near-infinity num den dp l) (near-is num den dp)
 
-  -- and not below it
+  -- infinity is the nearest of no number below 2 ^ 1024 - 2 ^ 970
   pub infinity-only : IsNearest num den infinity → den * ((2 ^ 54 - 1) * 2 ^ 970) ≤ num
   infinity-only h = near-infinity-only num den dp (sym (near-only num den infinity dp h))

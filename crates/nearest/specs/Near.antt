@@ -37,13 +37,13 @@ unfoldable pub near : ℕ → ℕ → ℕ
 near num den = nearUnits (num * 2 ^ 1074) den
 
 -- ---- what `compare` says
--- what each answer of `compare` says of two numbers
+-- what each answer of `compare` says of two numbers: less, equal or greater
 abbrev pub Cmp : Ordering → ℕ → ℕ → Type 0
 Cmp Ordering·lt a b = a < b
 Cmp Ordering·eq a b = a ≡ b
 Cmp Ordering·gt a b = b < a
 
--- `compare` says so of its arguments
+-- what `compare` answers holds of its two arguments
 pub cmp : (a b : ℕ) → Cmp (compare a b) a b
 cmp a b = go (compare a b) (leb→le a b) (nleb→lt a b) (eqb→eq a b) (λ (e : a ≡ b). subst (λ (x : ℕ). T (eqb a x)) e (eqb-refl a))
   where
@@ -54,7 +54,7 @@ cmp a b = go (compare a b) (leb→le a b) (nleb→lt a b) (eqb→eq a b) (λ (e 
 
 -- ---- n lies between the pattern b and the next, r above the one and u - r below the other
 module _ (n den b r u : ℕ) (dp : 0 < den) (lo : unitsOf b * den + r ≡ n) (hi : unitsOf (suc b) * den ≡ unitsOf b * den + u) (rl : r < u) (fit : suc b ≤ infinity) where
-  -- every other pattern lies below the one or above the other
+  -- every pattern is worth at most what b is, or at least what the next one is
   side : (c : ℕ) → ((c ≤ b) × (unitsOf c * den ≤ unitsOf b * den)) ⊎ (unitsOf (suc b) * den ≤ unitsOf c * den)
   side c = go (decLe c b)
     where
@@ -62,23 +62,23 @@ module _ (n den b r u : ℕ) (dp : 0 < den) (lo : unitsOf b * den + r ≡ n) (hi
       go (yes l) = inl (l, mul-le-mul-right den (units-le c b l))
       go (no k) = let l : suc b ≤ c = omega arith in inr (mul-le-mul-right den (units-le (suc b) c l))
 
-  -- a pattern below the one is worth less
+  -- a pattern below b is worth less than b
   lower : (c : ℕ) → c ≤ b → (c ≡ b → ⊥) → unitsOf c * den < unitsOf b * den
   lower c l ne = mul-lt-mul-of-pos-right (units-lt c b (lt-of-le-ne l ne)) dp
 
-  -- a pattern above the other is worth more
+  -- a pattern above the one next to b is worth more than that one
   upper : (c : ℕ) → suc b ≤ c → (c ≡ suc b → ⊥) → unitsOf (suc b) * den < unitsOf c * den
   upper c l ne = let m : suc b < c = omega arith in mul-lt-mul-of-pos-right (units-lt (suc b) c m) dp
 
-  -- plain numbers: v, w are the two patterns' worths and x another's
+  -- of plain numbers: where n is r above v, a number up to v is no closer to n than v
   far-down : (v w x : ℕ) → v + r ≡ n → w ≡ v + u → x ≤ v → gap v n ≤ gap x n
   far-down v w x p q l = omega arith
 
-  -- where r is at most half of u, a number from w on is no closer than v
+  -- of plain numbers: n is r above v, and r at most half of u: a number from v + u on is no closer to n than v
   far-up : (v w x : ℕ) → v + r ≡ n → w ≡ v + u → w ≤ x → r * 2 ≤ u → gap v n ≤ gap x n
   far-up v w x p q l h = omega arith
 
-  -- where r is at most half of u, and b even if it is just half, b is the nearest
+  -- where n lies at most half way from b to the next pattern, and b is even if it is just half way, b is the nearest
   near-down : r * 2 ≤ u → (r * 2 ≡ u → b % 2 ≡ 0) → NearestTo n den b
   near-down h t = record {
     pattern = omega arith;
@@ -100,7 +100,7 @@ module _ (n den b r u : ℕ) (dp : 0 < den) (lo : unitsOf b * den + r ≡ n) (hi
       tie c ne e (inl s) = absurd (less (unitsOf b * den) (unitsOf c * den) lo (lower c (s .0) ne) e)
       tie c ne e (inr s) = t (level (unitsOf b * den) (unitsOf (suc b) * den) (unitsOf c * den) lo hi s e)
 
-  -- where r is at least half of u, and the next pattern even if it is just half, that one is the nearest
+  -- where n lies at least half way from b to the next pattern, which is even if it is just half way, that one is the nearest
   near-up : u ≤ r * 2 → (r * 2 ≡ u → suc b % 2 ≡ 0) → NearestTo n den (suc b)
   near-up h t = record {
     pattern = fit;
@@ -143,11 +143,11 @@ past n den h = record {
     far v x l k = omega arith
 
 -- ---- the law of the digits
--- what is dropped does not change whether a pattern is even
+-- a pattern k * 2 ^ 52 + q is even where q is
 even-sum : (k q : ℕ) → q % 2 ≡ 0 → (k * 2 ^ 52 + q) % 2 ≡ 0
 even-sum k q e = omega arith
 
--- one more than what is kept is kept too, the carry included
+-- one more than a kept q of at most 53 digits is kept too, the carry to 2 ^ 53 included
 kept-suc : (k q : ℕ) → q < 2 ^ 53 → (k ≡ 0) ⊎ (2 ^ 52 ≤ q) → Kept k (suc q)
 kept-suc k q h l = record { most = omega arith; leads = go l }
   where
@@ -156,14 +156,14 @@ kept-suc k q h l = record { most = omega arith; leads = go l }
     go (inr m) = inr (omega arith)
 
 module _ (n den k q r : ℕ) (dp : 0 < den) (split : q * (den * 2 ^ k) + r ≡ n) (rl : r < den * 2 ^ k) (qk : q < 2 ^ 53) (lead : (k ≡ 0) ⊎ (2 ^ 52 ≤ q)) where
-  -- the pattern with q kept is worth q times the divisor
+  -- the pattern with q kept and k digits dropped is worth q times the divisor den * 2 ^ k
   here : unitsOf (k * 2 ^ 52 + q) * den ≡ q * (den * 2 ^ k)
   here =
       ap (λ (x : ℕ). x * den) (units-kept k q (record { most = le-of-lt qk; leads = lead }))
       ∙ mul-assoc q (2 ^ k) den
       ∙ ap (λ (x : ℕ). q * x) (mul-comm (2 ^ k) den)
 
-  -- the next pattern is worth one divisor more
+  -- the pattern after the one with q kept is worth one divisor den * 2 ^ k more
   next : unitsOf (suc (k * 2 ^ 52 + q)) * den ≡ unitsOf (k * 2 ^ 52 + q) * den + den * 2 ^ k
   next =
       let i : suc (k * 2 ^ 52 + q) ≡ k * 2 ^ 52 + suc q = omega arith in
@@ -174,11 +174,11 @@ module _ (n den k q r : ℕ) (dp : 0 < den) (split : q * (den * 2 ^ k) + r ≡ n
       ∙ suc-mul q (den * 2 ^ k)
       ∙ ap (λ (x : ℕ). x + den * 2 ^ k) (sym here)
 
-  -- n lies r above the pattern with q kept
+  -- n lies r above what the pattern with q kept is worth
   lo : unitsOf (k * 2 ^ 52 + q) * den + r ≡ n
   lo = ap (λ (x : ℕ). x + r) here ∙ split
 
-  -- by how twice r compares with the divisor, q or the next is the nearest
+  -- by how twice r compares with the divisor den * 2 ^ k, the pattern with q kept or the next is the nearest
   at-order : (o : Ordering) → Cmp o (r * 2) (den * 2 ^ k) → suc (k * 2 ^ 52 + q) ≤ infinity → NearestTo n den (min infinity (k * 2 ^ 52 + nearest q o))
   at-order Ordering·lt c f =
       let e : min infinity (k * 2 ^ 52 + q) ≡ k * 2 ^ 52 + q = omega arith in
@@ -219,7 +219,7 @@ module _ (n den k q r : ℕ) (dp : 0 < den) (split : q * (den * 2 ^ k) + r ≡ n
   nearest-ge Ordering·eq = omega arith
   nearest-ge Ordering·gt = omega arith
 
-  -- q digits are kept, with r left over: twice r against the divisor decides
+  -- n is q times den * 2 ^ k with r left over: how twice r compares with that divisor decides which pattern is the nearest
   pub digits-nearest : NearestTo n den (min infinity (k * 2 ^ 52 + nearest q (compare (r * 2) (den * 2 ^ k))))
   digits-nearest = go (decLt (k * 2 ^ 52 + q) infinity)
     where
@@ -236,11 +236,11 @@ module _ (n den k q r : ℕ) (dp : 0 < den) (split : q * (den * 2 ^ k) + r ≡ n
           (past n den (up-to (unitsOf infinity) (unitsOf (k * 2 ^ 52 + q)) n (mul-le-mul-right den (units-le infinity (k * 2 ^ 52 + q) i)) lo))
 
 -- ---- the digits that `near` keeps
--- of z digits, more than 53, the dropped ones and 52 more are fewer than z
+-- of z digits, more than 53, those that are dropped and 52 more are fewer than z
 spare : (z : ℕ) → 0 < z - 53 → 52 + (z - 53) < z
 spare z h = omega arith
 
--- where digits are dropped, the leading one is kept
+-- where digits of w are dropped, so that 53 are left, the leading one is kept
 pub lead-kept : (w : ℕ) → (size w - 53 ≡ 0) ⊎ (2 ^ 52 ≤ w / 2 ^ (size w - 53))
 lead-kept w = go (eq-zero-or-pos (size w - 53))
   where
@@ -251,7 +251,7 @@ lead-kept w = go (eq-zero-or-pos (size w - 53))
         (le-div-iff-mul-le (pow-pos (size w - 53)) .1
         (subst (λ (x : ℕ). x ≤ w) (pow-add 2 52 (size w - 53)) (size-reaches w (52 + (size w - 53)) (spare (size w) p))))
 
--- what is computed is the nearest pattern, in units
+-- what `nearUnits` computes is the nearest pattern to n / den units
 nearUnits-is : (n den : ℕ) → 0 < den → NearestTo n den (nearUnits n den)
 unfolding nearUnits
 nearUnits-is n den dp =
@@ -263,16 +263,16 @@ nearUnits-is n den dp =
     (subst (λ (x : ℕ). (k ≡ 0) ⊎ (2 ^ 52 ≤ x)) (sym e) (lead-kept (n / den)))
 
 -- ---- the theorems
--- what is computed is the nearest pattern
+-- what `near` computes is the nearest pattern to num / den
 pub near-is : (num den : ℕ) → 0 < den → IsNearest num den (near num den)
 unfolding near
 near-is num den dp = nearUnits-is (num * 2 ^ 1074) den dp
 
--- and there is no other
+-- no pattern but what `near` computes is the nearest to num / den
 pub near-only : (num den b : ℕ) → 0 < den → IsNearest num den b → b ≡ near num den
 near-only num den b dp h = nearest-only (num * 2 ^ 1074) den dp b (near num den) h (near-is num den dp)
 
--- q digits are kept at the place 2 ^ k, with r left over
+-- num / den has the digits q at 2 ^ k units and r left over: how twice r compares with the divisor tells what `near` gives
 pub near-digits : (num den k q r : ℕ) → 0 < den → q * (den * 2 ^ k) + r ≡ num * 2 ^ 1074 → r < den * 2 ^ k → q < 2 ^ 53 → (k ≡ 0) ⊎ (2 ^ 52 ≤ q) → near num den ≡ min infinity (k * 2 ^ 52 + nearest q (compare (r * 2) (den * 2 ^ k)))
 near-digits num den k q r dp s rl qk l =
     sym (near-only num den (min infinity (k * 2 ^ 52 + nearest q (compare (r * 2) (den * 2 ^ k)))) dp (digits-nearest (num * 2 ^ 1074) den k q r dp s rl qk l))

@@ -17,6 +17,6 @@ pub record NearestTo (n den b : ℕ) : Type 0 where
 abbrev pub IsNearest : ℕ → ℕ → ℕ → Type 0
 IsNearest num den b = NearestTo (num * 2 ^ 1074) den b
 
--- a pattern with its sign
+-- a pattern with its sign, the highest of the 64 bits: true is the negative one
 abbrev pub signed : Bool → ℕ → ℕ
 signed s b = cond s (2 ^ 63) 0 + b

@@ -8,16 +8,16 @@ use Rattle.nearest.specs.Units.{unitsOf, infinity, gap}
 use Rattle.nearest.specs.UnitsLaws.{units-lt}
 use Rattle.nearest.specs.Nearest.{NearestTo}
 
--- one of two even neighbours is not as close as the number between them
+-- where a and b are equally far from n, a number between a and b is closer to n
 between : (a b m n : ℕ) → a < m → m < b → gap a n ≡ gap b n → gap a n ≤ gap m n → ⊥
 between a b m n h k e l = omega arith
 
--- two even numbers have a number between them
+-- two different even numbers have a number between them
 two-apart : (b c : ℕ) → b % 2 ≡ 0 → c % 2 ≡ 0 → b < c → suc b < c
 two-apart b c e f l = omega arith
 
 module _ (n den : ℕ) (dp : 0 < den) where
-  -- of two different patterns one is not the nearest
+  -- of two different patterns one is not the nearest to n / den units
   no-two : (b c : ℕ) → NearestTo n den b → NearestTo n den c → b < c → ⊥
   no-two b c p q l =
       let x : gap (unitsOf b * den) n ≤ gap (unitsOf c * den) n = p .closest c (q .pattern) in
@@ -49,7 +49,7 @@ module _ (n den : ℕ) (dp : 0 < den) where
       below : (b : ℕ) → b < suc b
       below b = omega arith
 
-  -- there is one nearest pattern
+  -- there is one pattern nearest to n / den units
   pub nearest-only : (b c : ℕ) → NearestTo n den b → NearestTo n den c → b ≡ c
   nearest-only b c p q = go (decLt b c) (decLt c b)
     where

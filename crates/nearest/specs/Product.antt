@@ -15,11 +15,11 @@ pub data Worth : Type 0 where
   infinite : Bool → Worth
   finite : Bool → ℕ → Worth
 
--- the sign is the highest of the 64 bits
+-- a pattern is negative where the highest of its 64 bits is set
 abbrev pub negative : ℕ → Bool
 negative p = leb (2 ^ 63) p
 
--- the pattern without its sign: below infinity's a number, above it none
+-- what a pattern stands for: without its sign, below infinity's it is a number, above it none
 unfoldable pub worthOf : ℕ → Worth
 worthOf p =
     cond (ltb (p % 2 ^ 63) infinity) (finite (negative p) (unitsOf (p % 2 ^ 63))) (cond (eqb (p % 2 ^ 63) infinity) (infinite (negative p)) none)
@@ -38,7 +38,7 @@ timesOf (finite s a) none = quiet
 timesOf (finite s a) (infinite t) = cond (eqb a 0) quiet (signed (unlike s t) infinity)
 timesOf (finite s a) (finite t b) = signed (unlike s t) (near (a * b) (2 ^ 1074 * 2 ^ 1074))
 
--- zero by zero and infinity by infinity are no number; any other by zero is infinite, and any other by infinity zero
+-- a quotient's pattern: 0 / 0 and infinity by infinity are no number; any other by 0 is infinite, and any other by infinity zero
 abbrev pub overOf : Worth → Worth → ℕ
 overOf none y = quiet
 overOf (infinite s) none = quiet

@@ -33,7 +33,7 @@ of-value nan s a h = absurd h
 of-value (inf t) s a h = absurd h
 of-value (fin t m e) s a h = subst (λ (b : Bool). Like (fin t m e) (finite b a)) (h .0) (like-fin (h .1))
 
--- what is read from the fields x and t, where the pattern without its sign is r
+-- what the language reads from the fields x and t is what the pattern r without its sign stands for, r having these fields
 like-fields : (s : Bool) (r x t : ℕ) → r / 2 ^ 52 ≡ x → r % 2 ^ 52 ≡ t → r < 2 ^ 63 → Like (ofFields binary64 s x t) (cond (ltb r infinity) (finite s (unitsOf r)) (cond (eqb r infinity) (infinite s) none))
 unfolding ofFields unitsOf
 like-fields s r zero t e f l =
@@ -66,11 +66,11 @@ like-bits p =
     let l : p % 2 ^ 63 < 2 ^ 63 = omega arith in
     like-fields (negative p) (p % 2 ^ 63) (p % 2 ^ 63 / 2 ^ 52) (p % 2 ^ 52) refl (mod-mod-pow p 11 52) l
 
--- a value that an f64 holds, and its own pattern
+-- a value that an f64 holds is what its own pattern stands for
 like-own : (x : Float) → T (fits binary64 x) → Like x (worthOf (toBits binary64 x))
 like-own x h = subst (λ (y : Float). Like y (worthOf (toBits binary64 x))) (ofBits-toBits binary64 x h) (like-bits (toBits binary64 x))
 
--- a number is zero where its units are
+-- a float is zero just where its number of units is
 zero-both : (m u a d : ℕ) → 0 < u → 0 < d → m * u * 2 ^ 1074 ≡ a * d → eqb m 0 ≡ eqb a 0
 zero-both m u a d up dp e = go m a e
   where
@@ -97,12 +97,12 @@ zero-both m u a d up dp e = go m a e
 swap-middle : (a b c d : ℕ) → a * b * (c * d) ≡ a * c * (b * d)
 swap-middle a b c d = mul-assoc a b (c * d) ∙ ap (λ (x : ℕ). a * x) (mul-left-comm b c d) ∙ sym (mul-assoc a c (b * d))
 
--- x / s is a / c and y / t is b / d: so are the products
+-- where x / c is a / s and y / d is b / t, their products are equal too
 cross : (x y s t a b c d : ℕ) → x * s ≡ a * c → y * t ≡ b * d → x * y * (s * t) ≡ a * b * (c * d)
 cross x y s t a b c d e f =
     swap-middle x y s t ∙ ap (λ (z : ℕ). z * (y * t)) e ∙ ap (λ (z : ℕ). a * c * z) f ∙ swap-middle a c b d
 
--- x * S is a * c and y * S is b * d: so x / c by y / d is a / b
+-- where x * S is a * c and y * S is b * d, x / c by y / d is a / b
 ratio : (x y S a b c d : ℕ) → 0 < S → x * S ≡ a * c → y * S ≡ b * d → x * d * b ≡ a * (y * c)
 ratio x y S a b c d sp e f =
     eq-of-mul-eq-mul-right S sp (x * d * b) (a * (y * c))
@@ -115,7 +115,7 @@ ratio x y S a b c d sp e f =
     ∙ ap (λ (z : ℕ). a * z) (sym (mul-assoc c y S) ∙ ap (λ (z : ℕ). z * S) (mul-comm c y))
     ∙ sym (mul-assoc a (y * c) S))
 
--- the pattern of no number
+-- the pattern of the language's NaN is `quiet`
 toBits-nan : toBits binary64 nan ≡ quiet
 unfolding toBits
 toBits-nan = refl
@@ -126,7 +126,7 @@ unfolding toBits
 toBits-zero true = refl
 toBits-zero false = refl
 
--- infinity times a number: no number at zero
+-- infinity times a number, as the language has it and as `timesOf` does: no number where that is zero
 inf-or-nan : (b c : Bool) (s : Bool) → b ≡ c → toBits binary64 (cond b nan (inf s)) ≡ cond c quiet (signed s infinity)
 inf-or-nan true c s e = rw (← e) toBits-nan
 inf-or-nan false c s e = rw (← e) (toBits-inf s)
@@ -150,7 +150,7 @@ mul-like x y a b (like-fin {s = s} {m = m} {e = d} {a = u} f) (like-fin {s = t} 
     (mul-pos (pow-pos 1074) (pow-pos 1074))
     (cross (m * up d) (n * up k) (2 ^ 1074) (2 ^ 1074) u v (down d) (down k) f g))
 
--- the quotient of two numbers, by whether the divisor and the dividend are zero
+-- the quotient of two numbers as the language has it and as `overOf` does, by whether the divisor and the dividend are zero
 over-cases : (z w z′ w′ : Bool) (s : Bool) (x : Float) (r : ℕ) → z ≡ z′ → w ≡ w′ → (z′ ≡ false → toBits binary64 x ≡ r) → toBits binary64 (cond z (cond w nan (inf s)) x) ≡ cond z′ (cond w′ quiet (signed s infinity)) r
 over-cases true w z′ w′ s x r e f h = rw (← e) (inf-or-nan w w′ s f)
 over-cases false w z′ w′ s x r e f h = rw (← e) (h (sym e))
@@ -180,15 +180,15 @@ div-like x y a b (like-fin {s = s} {m = m} {e = d} {a = u} f) (like-fin {s = t} 
     not-zero zero e = let q : _≡_ {A = ℕ} 0 1 = cc in absurd (omega arith)
     not-zero (suc n) e = omega arith
 
--- `*` gives the product's pattern
+-- the language's `*` gives the pattern that `product` does
 pub mul-bits : (x y : Float) → T (fits binary64 x) → T (fits binary64 y) → toBits binary64 (mul binary64 x y) ≡ product (toBits binary64 x) (toBits binary64 y)
 mul-bits x y h k = mul-like x y (worthOf (toBits binary64 x)) (worthOf (toBits binary64 y)) (like-own x h) (like-own y k)
 
--- `/` gives the quotient's pattern
+-- the language's `/` gives the pattern that `quotient` does
 pub div-bits : (x y : Float) → T (fits binary64 x) → T (fits binary64 y) → toBits binary64 (div binary64 x y) ≡ quotient (toBits binary64 x) (toBits binary64 y)
 div-bits x y h k = div-like x y (worthOf (toBits binary64 x)) (worthOf (toBits binary64 y)) (like-own x h) (like-own y k)
 
--- a value of a units in size is like nothing else than a units
+-- where a value is a units in size, what stands for the same number is a units
 worth-like : (x : Float) (w : Worth) (s : Bool) (a : ℕ) → Like x w → HasValue x s a (2 ^ 1074) → w ≡ finite s a
 worth-like x w s a like-nan h = absurd h
 worth-like x w s a like-inf h = absurd h
@@ -206,14 +206,14 @@ in-units (inf t) s n h = h
 in-units (fin t m e) s n h =
     (h .0, ap (λ (x : ℕ). x * 2 ^ 1074) (sym (mul-one (m * up e)) ∙ h .1) ∙ mul-right-comm n (down e) (2 ^ 1074))
 
--- the negative of a value has its size
+-- the negative of a value has its size, and the negative sign
 minus-value : (x : Float) (a c : ℕ) → HasValue x false a c → HasValue (neg x) true a c
 unfolding neg
 minus-value nan a c h = h
 minus-value (inf t) a c h = h
 minus-value (fin t m e) a c h = (ap not (h .0), h .1)
 
--- a whole number up to 2 ^ 53, and its negative: of zero too
+-- a whole number up to 2 ^ 53 as an f64 is worth itself exactly
 pub worth-whole : (m : ℕ) → m ≤ 2 ^ 53 → worthOf (toBits binary64 (ofInt binary64 (pos m))) ≡ finite false (m * 2 ^ 1074)
 unfolding ofInt
 worth-whole m h = worth-value (round binary64 false m 1) false (m * 2 ^ 1074) (ofInt-fits binary64 (pos m)) (in-units (round binary64 false m 1) false m (round-whole binary64 false m h))
@@ -234,7 +234,7 @@ as-first false = refl
 some : (n : ℕ) → 0 < n → n ≡ 0 → ⊥
 some n h z = omega arith
 
--- the product of two whole numbers, and their quotient
+-- the product of two whole numbers is the nearest pattern to the exact product, with the first one's sign
 pub product-exact : (p q : ℕ) (s : Bool) (a b : ℕ) → worthOf p ≡ finite s (a * 2 ^ 1074) → worthOf q ≡ finite false (b * 2 ^ 1074) → product p q ≡ signed s (near (a * b) 1)
 product-exact p q s a b e f =
     ap (λ (w : Worth). timesOf w (worthOf q)) e
@@ -244,7 +244,7 @@ product-exact p q s a b e f =
     (near-same (a * 2 ^ 1074 * (b * 2 ^ 1074)) (2 ^ 1074 * 2 ^ 1074) (a * b) 1 (mul-pos (pow-pos 1074) (pow-pos 1074)) (pow-pos 0)
     (mul-one (a * 2 ^ 1074 * (b * 2 ^ 1074)) ∙ swap-middle a (2 ^ 1074) b (2 ^ 1074)))
 
--- the quotient of two whole numbers is the nearest pattern to their fraction
+-- the quotient of two whole numbers is the nearest pattern to their fraction, with the first one's sign
 pub quotient-exact : (p q : ℕ) (s : Bool) (a b : ℕ) → 0 < b → worthOf p ≡ finite s (a * 2 ^ 1074) → worthOf q ≡ finite false (b * 2 ^ 1074) → quotient p q ≡ signed s (near a b)
 quotient-exact p q s a b bp e f =
     let d = b * 2 ^ 1074 in
@@ -255,7 +255,7 @@ quotient-exact p q s a b bp e f =
     ∙ ap (λ (t : Bool). signed t (near (a * 2 ^ 1074) (b * 2 ^ 1074))) (as-first s)
     ∙ ap (signed s) (near-same (a * 2 ^ 1074) (b * 2 ^ 1074) a b dp bp (mul-right-comm a (2 ^ 1074) b ∙ mul-assoc a b (2 ^ 1074)))
 
--- a product of two numbers of a and b units is the nearest pattern to it, with its sign
+-- the product of numbers of a and b units is the nearest pattern to the exact product, negative where just one of them is
 pub product-nearest : (p q : ℕ) (s t : Bool) (a b : ℕ) → worthOf p ≡ finite s a → worthOf q ≡ finite t b
     → (c : ℕ) × (product p q ≡ signed (unlike s t) c) × IsNearest (a * b) (2 ^ 1074 * 2 ^ 1074) c
 product-nearest p q s t a b e f = (
@@ -264,7 +264,7 @@ product-nearest p q s t a b e f = (
   near-is (a * b) (2 ^ 1074 * 2 ^ 1074) (mul-pos (pow-pos 1074) (pow-pos 1074)),
 )
 
--- a quotient of two numbers of a and b units, b not zero, is the nearest pattern to a / b, with its sign
+-- the quotient of numbers of a and b units, b not zero, is the nearest pattern to a / b, negative where just one of them is
 pub quotient-nearest : (p q : ℕ) (s t : Bool) (a b : ℕ) → 0 < b → worthOf p ≡ finite s a → worthOf q ≡ finite t b
     → (c : ℕ) × (quotient p q ≡ signed (unlike s t) c) × IsNearest a b c
 quotient-nearest p q s t a b bp e f = (

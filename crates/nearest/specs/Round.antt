@@ -27,7 +27,7 @@ pow-lt-back i p h = lt-of-not-le (λ (g : p ≤ i). lt-irrefl (2 ^ i) (lt-of-lt-
 size-exact : (a n : ℕ) → 2 ^ a ≤ n → n < 2 ^ suc a → size n ≡ suc a
 size-exact a n l h = le-antisymm (size-le n (suc a) h) (pow-lt-back a (size n) (lt-of-le-of-lt l (size-lt n)))
 
--- the pattern that is written for a units
+-- the pattern that is written for a units, where a has z digits
 abbrev written : ℕ → ℕ → ℕ
 written a z = (z - 53) * 2 ^ 52 + a / 2 ^ (z - 53)
 
@@ -88,7 +88,7 @@ written-kept k q h = go (decLt q (2 ^ 52)) (decLt q (2 ^ 53)) (h .leads)
             double : (x : ℕ) → 0 < x → x < 2 * x
             double x p = omega arith
 
--- the bits of a finite value that is a units in size
+-- the bits of a finite value that is a units in size are those written for a units, with its sign
 toBits-value : (x : Float) (s : Bool) (a : ℕ) → HasValue x s a (2 ^ 1074) → toBits binary64 x ≡ signed s (written a (size a))
 unfolding toBits
 toBits-value nan s a h = absurd h
@@ -109,7 +109,7 @@ worth-infinity : unitsOf infinity ≡ 2 ^ (1074 + 1024)
 unfolding unitsOf
 worth-infinity = refl
 
--- in the row of patterns the next after the largest is infinity's
+-- where q kept and k dropped count as less than 2 ^ 1024, their pattern is below infinity's
 under-infinity : (k q : ℕ) → Kept k q → q * 2 ^ k < 2 ^ (1074 + 1024) → k * 2 ^ 52 + q < infinity
 under-infinity k q h l = go (decLt (k * 2 ^ 52 + q) infinity)
   where
@@ -128,7 +128,7 @@ over-infinity k q h l = go (decLt (k * 2 ^ 52 + q) infinity)
     go (yes m) =
         absurd (lt-irrefl (q * 2 ^ k) (lt-of-lt-of-le (subst (λ (x : ℕ). q * 2 ^ k < x) worth-infinity (subst (λ (x : ℕ). x < unitsOf infinity) (units-kept k q h) (units-lt (k * 2 ^ 52 + q) infinity m))) l))
 
--- what the kit makes of q kept and k dropped has that pattern, infinity's at most
+-- what the kit makes of q kept and k dropped has the pattern k * 2 ^ 52 + q, infinity's at most, with its sign
 units-pattern : (s : Bool) (q k : ℕ) → Kept k q → toBits binary64 (units binary64 s q k) ≡ signed s (min infinity (k * 2 ^ 52 + q))
 unfolding units
 units-pattern s q k h = go (ltb (q * 2 ^ k) (2 ^ (1074 + 1024))) (ltb→lt (q * 2 ^ k) (2 ^ (1074 + 1024))) (nltb→le (q * 2 ^ k) (2 ^ (1074 + 1024)))

@@ -10,7 +10,7 @@ use lib.Ieee.{nearest}
 use Rattle.nearest.specs.Units.{infinity}
 use Rattle.nearest.specs.Near.{Cmp, cmp, near, near-digits}
 
--- what `compare` answers is told by the order
+-- the order of two numbers leaves one answer to `compare`
 pub order-is : (o p : Ordering) (a b : ℕ) → Cmp o a b → Cmp p a b → o ≡ p
 order-is Ordering·lt Ordering·lt a b h k = refl
 order-is Ordering·lt Ordering·eq a b h k = absurd (omega arith)
@@ -22,13 +22,13 @@ order-is Ordering·gt Ordering·lt a b h k = absurd (omega arith)
 order-is Ordering·gt Ordering·eq a b h k = absurd (omega arith)
 order-is Ordering·gt Ordering·gt a b h k = refl
 
--- two numbers times a third stand in the same order
+-- two numbers times a positive third stand in the same order
 scaled-order : (o : Ordering) (a b c : ℕ) → 0 < c → Cmp o a b → Cmp o (a * c) (b * c)
 scaled-order Ordering·lt a b c p h = mul-lt-mul-of-pos-right h p
 scaled-order Ordering·eq a b c p h = ap (λ (x : ℕ). x * c) h
 scaled-order Ordering·gt a b c p h = mul-lt-mul-of-pos-right h p
 
--- so `compare` gives the same
+-- `compare` answers the same of two numbers and of both times a positive third
 compare-scaled : (a b c : ℕ) → 0 < c → compare (a * c) (b * c) ≡ compare a b
 compare-scaled a b c p = order-is (compare (a * c) (b * c)) (compare a b) (a * c) (b * c) (cmp (a * c) (b * c)) (scaled-order (compare a b) a b c p (cmp a b))
 

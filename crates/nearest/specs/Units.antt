@@ -3,12 +3,12 @@
 -- Definitions to be believed: no law, and nothing computed that no theorem ties (docs/BELIEVE.md).
 use Prim.Native.Nat.{ℕ, zero, suc, _+_, _-_, _*_, _/_, _%_, _^_}
 
--- IEEE 754, binary64: an exponent's field of 0 has no leading digit and counts as 1; every other has one
+-- a pattern's units by its fields: IEEE 754, binary64: an exponent's field of 0 has no leading digit and counts as 1; every other has one
 abbrev pub unitsAt : ℕ → ℕ → ℕ
 unitsAt zero t = t
 unitsAt (suc x) t = (2 ^ 52 + t) * 2 ^ x
 
--- the exponent's field stands above the 52 digits
+-- the units of a pattern without its sign: the exponent's field stands above the 52 digits
 unfoldable pub unitsOf : ℕ → ℕ
 unitsOf b = unitsAt (b / 2 ^ 52) (b % 2 ^ 52)
 

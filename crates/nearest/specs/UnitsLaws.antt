@@ -41,7 +41,7 @@ units-kept k q h = go (decLt q (2 ^ 52)) (decLt q (2 ^ 53)) (h .leads)
         ∙ sym (mul-assoc (2 ^ 52) 2 (2 ^ k))
         ∙ ap (λ (y : ℕ). y * 2 ^ k) (sym e)
 
--- the next pattern is worth more
+-- the next pattern after b is worth more than b
 step : (b : ℕ) → unitsOf b < unitsOf (suc b)
 step b = go (b / 2 ^ 52) refl
   where
@@ -77,7 +77,7 @@ units-lt a (suc b) h = go (decLt a b) (step b) (units-lt a b)
     go (yes l) s r = let t : unitsOf a < unitsOf b = r l in omega arith
     go (no n) s r = let e : a ≡ b = omega arith in subst (λ (x : ℕ). unitsOf x < unitsOf (suc b)) (sym e) s
 
--- and no pattern is worth less than one below it
+-- no pattern is worth less than one below it
 pub units-le : (a b : ℕ) → a ≤ b → unitsOf a ≤ unitsOf b
 units-le a b h = go (eq-or-lt-of-le h)
   where

@@ -14,11 +14,11 @@ four a b c d = ((a * 0x1_0000 + b) * 0x1_0000 + c) * 0x1_0000 + d
 abbrev pub packed : ℕ → ℕ → ℕ
 packed p k = four (entry p (0xA0 + 4 * k)) (entry p (0xA1 + 4 * k)) (entry p (0xA2 + 4 * k)) (entry p (0xA3 + 4 * k))
 
--- the line that a test has found
+-- the four characters in the line that a test has found
 pub found : (p j : ℕ) {k : ℕ} → k ≡ j → packed p j ≡ packed p k
 found p j e = ap (packed p) (sym e)
 
--- the page that a test has found
+-- the four characters on the page that a test has found
 pub turned-to : (q k : ℕ) {p : ℕ} → p ≡ q → packed q k ≡ packed p k
 turned-to q k e = ap (λ (p : ℕ). packed p k) (sym e)
 
@@ -27,20 +27,20 @@ abbrev pub Avoids : ℕ → ℕ → Type 0
 Avoids zero k = Unit
 Avoids (suc n) k = Avoids n k × (k ≡ n → ⊥)
 
--- so it is n or more
+-- where k is none of the first n numbers, it is n or more
 least : (n k : ℕ) → Avoids n k → n ≤ k
 least zero k h = omega arith
 least (suc n) k h = let below = least n k (h .0) in let other = h .1 in omega arith
 
--- four codes that are undefined
+-- the number of four codes that are undefined
 abbrev nothing : ℕ
 nothing = 0xFFFD_FFFD_FFFD_FFFD
 
--- all four, one by one
+-- where all codes from the first of four on are undefined, so are the four
 none-four : (p k : ℕ) → ((n : ℕ) → 0xA0 + 4 * k ≤ n → 0xFFFD ≡ entry p n) → nothing ≡ packed p k
 none-four p k f = rw (sym (f (0xA0 + 4 * k) (omega arith)), sym (f (0xA1 + 4 * k) (omega arith)), sym (f (0xA2 + 4 * k) (omega arith)), sym (f (0xA3 + 4 * k) (omega arith))) refl
 
--- no line is left: the codes lie above FF
+-- where k is no line of the 24, the codes lie above FF, and are undefined
 pub avoided : (p : ℕ) {k : ℕ} → Avoids 24 k → nothing ≡ packed p k
 avoided p {k} h = let m = least 24 k h in none-four p k (λ n l. entry-past p n (omega arith))
 
@@ -49,22 +49,22 @@ abbrev pub Passes : ℕ → ℕ → Type 0
 Passes zero p = Unit
 Passes (suc n) p = Passes n p × (p ≡ suc n → ⊥)
 
--- so it comes after them
+-- where p is none of the first n pages after page A, it comes after them
 after : (n p : ℕ) → 0 < p → Passes n p → n < p
 after zero p l h = l
 after (suc n) p l h = let below = after n p l (h .0) in let other = h .1 in omega arith
 
--- there is no such page
+-- where p is none of the nine pages, all codes on it are undefined
 pub no-page : (k : ℕ) {p : ℕ} → Passes 8 p → 0 < p → nothing ≡ packed p k
 no-page k {p} h l = let m = after 8 p l h in none-four p k (λ n e. entry-none p n m)
 
 -- one code of four, read from their number
 module _ (p k w : ℕ) (e : w ≡ packed p (k / 4)) where
-  -- a code by its place among four
+  -- the code whose place among its four is i
   at-code : (i : ℕ) → k % 4 ≡ i → entry p (0xA0 + i + 4 * (k / 4)) ≡ entry p (0xA0 + k)
   at-code i h = let z : 0xA0 + i + 4 * (k / 4) ≡ 0xA0 + k = omega arith in ap (entry p) z
 
-  -- what a shift gives of them
+  -- what four shifts give of four codes in one number: the character of each
   quarters : (w / 0x1_0000_0000_0000 % 0x1_0000 ≡ entry p (0xA0 + 4 * (k / 4))) × (w / 0x1_0000_0000 % 0x1_0000 ≡ entry p (0xA1 + 4 * (k / 4))) × (w / 0x1_0000 % 0x1_0000 ≡ entry p (0xA2 + 4 * (k / 4))) × (w / 1 % 0x1_0000 ≡ entry p (0xA3 + 4 * (k / 4)))
   quarters =
       split (entry p (0xA0 + 4 * (k / 4))) (entry p (0xA1 + 4 * (k / 4))) (entry p (0xA2 + 4 * (k / 4))) (entry p (0xA3 + 4 * (k / 4)))
@@ -74,7 +74,7 @@ module _ (p k w : ℕ) (e : w ≡ packed p (k / 4)) where
           → (w / 0x1_0000_0000_0000 % 0x1_0000 ≡ a) × (w / 0x1_0000_0000 % 0x1_0000 ≡ b) × (w / 0x1_0000 % 0x1_0000 ≡ c) × (w / 1 % 0x1_0000 ≡ d)
       split a b c d ha hb hc hd f = (omega arith, omega arith, omega arith, omega arith)
 
-  -- the one that is asked for
+  -- what the shift for code k gives of four codes in one number: the character of k
   pub quarter : w / 2 ^ (48 - k % 4 * 16) % 0x1_0000 ≡ entry p (0xA0 + k)
   quarter = go (k % 4) refl (omega arith)
     where

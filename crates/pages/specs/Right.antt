@@ -23,7 +23,7 @@ use Rattle.pages.specs.Rules
 inside : (l h n : ℕ) → In l h n → leb l n && leb n h ≡ true
 inside l h n (p, q) = rw (le-leb l n p, le-leb n h q) refl
 
--- one outside it fails it
+-- a number outside a range fails its test
 beyond : (l h n : ℕ) → (In l h n → ⊥) → leb l n && leb n h ≡ false
 beyond l h n f = go (decLt n l) (decLt h n)
   where
@@ -42,7 +42,7 @@ within l h n = go (decLt n l) (decLt h n)
     go (no a) (no b) = yes (omega arith, omega arith)
 
 -- ---- the page of a letter
--- the page that is computed is the one that is selected
+-- the page that is computed of a letter is the one that is selected
 pub page-is : (b : ℕ) → Rules.Selects b (pageOf b)
 page-is b = go (within 65 73 b) (within 97 105 b)
   where
@@ -55,7 +55,7 @@ page-is b = go (within 65 73 b) (within 97 105 b)
         rw (beyond 65 73 b n, inside 97 105 b (l, h)) (subst (λ (z : ℕ). Rules.Selects z (b - 97)) e (Rules.small {p = b - 97} (omega arith)))
     go (no n) (no m) = rw (beyond 65 73 b n, beyond 97 105 b m) (Rules.other n m)
 
--- and no other is
+-- no page but the one that is computed is selected by a letter
 pub page-only : {b p : ℕ} → Rules.Selects b p → p ≡ pageOf b
 page-only (Rules.capital {p = p} h) =
     let e : p ≡ 65 + p - 65 = omega arith in
@@ -65,7 +65,7 @@ page-only (Rules.small {p = p} h) =
     rw (beyond 65 73 (97 + p) (λ (a, b). omega arith), inside 97 105 (97 + p) (omega arith, omega arith)) e
 page-only (Rules.other {b = b} n m) = rw (beyond 65 73 b n, beyond 97 105 b m) refl
 
--- it is one of nine
+-- the page that is computed of a letter is one of nine
 pub page-below : (b : ℕ) → pageOf b < 9
 page-below b = go (page-is b)
   where
@@ -75,7 +75,7 @@ page-below b = go (page-is b)
     go (Rules.other n m) = omega arith
 
 -- ---- the character of a sum
--- the character that is computed is the sum's
+-- the character that is computed of a sum on a page is the one of the rule
 pub code-is : (p n : ℕ) → Rules.Coded p n (codeOf p n)
 code-is p n = go (within 0xA0 0xFF n)
   where
@@ -83,7 +83,7 @@ code-is p n = go (within 0xA0 0xFF n)
     go (yes h) = rw (inside 0xA0 0xFF n h) (Rules.listed h)
     go (no h) = rw (beyond 0xA0 0xFF n h) (Rules.outside h)
 
--- and no other is
+-- no character but the one that is computed is a sum's on a page
 pub code-only : {p n c : ℕ} → Rules.Coded p n c → c ≡ codeOf p n
 code-only (Rules.listed {n = n} h) = rw (inside 0xA0 0xFF n h) refl
 code-only (Rules.outside {n = n} h) = rw (beyond 0xA0 0xFF n h) refl
@@ -104,30 +104,30 @@ abbrev pub every : (List ℕ → Bool) → List (List ℕ) → Bool
 every f [] = true
 every f (x ∷ xs) = f x && every f xs
 
--- where both of two tests hold, each does
+-- two tests that pass together pass each
 both : (a b : Bool) → a && b ≡ true → (a ≡ true) × (b ≡ true)
 both true b e = (refl, e)
 both false b e = let z : _≡_ {A = ℕ} 0 1 = ap (λ (t : Bool). pick t 1 0) e in absurd (omega arith)
 
--- so it passes at each place, and past the end where it passes at what stands for none
+-- a test that passes at each number of a list passes at each place, and past the end where it passes at what stands for none
 each-at : (f : ℕ → Bool) (xs : List ℕ) (k d : ℕ) → each f xs ≡ true → f d ≡ true → f (getD xs k d) ≡ true
 each-at f [] k d e h = h
 each-at f (x ∷ xs) zero d e h = both (f x) (each f xs) e .0
 each-at f (x ∷ xs) (suc k) d e h = each-at f xs k d (both (f x) (each f xs) e .1) h
 
--- a number of a list that counts on
+-- entry k of a list that counts on from i is i + k
 counts-at : (i : ℕ) (xs : List ℕ) (k d : ℕ) → counts i xs ≡ true → k < length xs → getD xs k d ≡ i + k
 counts-at i [] k d e h = absurd (omega arith)
 counts-at i (x ∷ xs) zero d e h = let z = eqb-true x i (both (eqb x i) (counts (suc i) xs) e .0) in omega arith
 counts-at i (x ∷ xs) (suc k) d e h = let z = counts-at (suc i) xs k d (both (eqb x i) (counts (suc i) xs) e .1) (omega arith) in omega arith
 
--- a table that passes: each of them does, and past the last what stands for none
+-- a test that every table passes is passed by the table at k, and past the last by what stands for none
 every-at : (f : List ℕ → Bool) (xs : List (List ℕ)) (k : ℕ) → every f xs ≡ true → f [] ≡ true → f (getD xs k []) ≡ true
 every-at f [] k e h = h
 every-at f (x ∷ xs) zero e h = both (f x) (every f xs) e .0
 every-at f (x ∷ xs) (suc k) e h = every-at f xs k (both (f x) (every f xs) e .1) h
 
--- all numbers of all tables, tried one by one
+-- every number of every table is a Unicode scalar: tried one by one
 all-scalar : every (each scalar) Tables.pages ≡ true
 unfolding Tables.pages Tables.latin1 Tables.latin2 Tables.latin3 Tables.latin4 Tables.cyrillic Tables.arabic Tables.greek Tables.hebrew Tables.latin5
 all-scalar = refl
@@ -137,16 +137,16 @@ pub entry-scalar : (p n : ℕ) → scalar (Tables.entry p n) ≡ true
 unfolding Tables.entry
 entry-scalar p n = each-at scalar (getD Tables.pages p []) (n - 0xA0) 0xFFFD (every-at (each scalar) Tables.pages p all-scalar refl) refl
 
--- a number of 16 bits
+-- a number has at most 16 bits
 abbrev narrow : ℕ → Bool
 narrow x = ltb x 0x1_0000
 
--- all numbers of all tables, tried one by one
+-- every number of every table has at most 16 bits: tried one by one
 all-narrow : every (each narrow) Tables.pages ≡ true
 unfolding Tables.pages Tables.latin1 Tables.latin2 Tables.latin3 Tables.latin4 Tables.cyrillic Tables.arabic Tables.greek Tables.hebrew Tables.latin5
 all-narrow = refl
 
--- each entry has 16 bits
+-- each entry of the tables has at most 16 bits
 pub entry-below : (p n : ℕ) → Tables.entry p n < 0x1_0000
 unfolding Tables.entry
 entry-below p n = ltb-true (Tables.entry p n) 0x1_0000 (each-at narrow (getD Tables.pages p []) (n - 0xA0) 0xFFFD (every-at (each narrow) Tables.pages p all-narrow refl) refl)
@@ -155,27 +155,27 @@ entry-below p n = ltb-true (Tables.entry p n) 0x1_0000 (each-at narrow (getD Tab
 abbrev pub whole : List ℕ → Bool
 whole t = eqb (length t) 96
 
--- all of them do, and there are nine
+-- there are nine tables, and each has 96 codes
 pub all-whole : (length Tables.pages ≡ 9) × (every whole Tables.pages ≡ true)
 unfolding Tables.pages Tables.latin1 Tables.latin2 Tables.latin3 Tables.latin4 Tables.cyrillic Tables.arabic Tables.greek Tables.hebrew Tables.latin5
 all-whole = (refl, refl)
 
--- a table that is there passes a test that all of them pass
+-- a test that every table passes is passed by the table at k, where there is one
 every-in : (f : List ℕ → Bool) (xs : List (List ℕ)) (k : ℕ) → every f xs ≡ true → k < length xs → f (getD xs k []) ≡ true
 every-in f [] k e h = absurd (omega arith)
 every-in f (x ∷ xs) zero e h = both (f x) (every f xs) e .0
 every-in f (x ∷ xs) (suc k) e h = every-in f xs k (both (f x) (every f xs) e .1) (omega arith)
 
--- it comes after the last
+-- a page from number 9 on comes after the last
 past : (p : ℕ) → 9 ≤ p → length Tables.pages ≤ p
 past p h = omega (arith, all-whole .0)
 
--- a page that there is not has no code
+-- on a page that there is not no code is defined
 pub entry-none : (p n : ℕ) → 9 ≤ p → 0xFFFD ≡ Tables.entry p n
 unfolding Tables.entry
 entry-none p n h = ap (λ (t : List ℕ). getD t (n - 0xA0) 0xFFFD) (sym (List·getD-eq-default Tables.pages [] (past p h)))
 
--- nor is one above FF defined
+-- a code above FF is not defined on any page
 pub entry-past : (p n : ℕ) → 0xFF < n → 0xFFFD ≡ Tables.entry p n
 unfolding Tables.entry
 entry-past p n h = go (decLt p 9)
@@ -187,12 +187,12 @@ entry-past p n h = go (decLt p 9)
         sym (List·getD-eq-default (getD Tables.pages p []) 0xFFFD k)
     go (no l) = entry-none p n (omega arith)
 
--- page A, tried number by number
+-- the table of page A counts on from A0: tried number by number
 a-counts : counts 0xA0 (getD Tables.pages 0 []) ≡ true
 unfolding Tables.pages Tables.latin1
 a-counts = refl
 
--- its codes end with FF
+-- the codes of page A's table go up to FF
 a-long : (n : ℕ) → n ≤ 0xFF → n - 0xA0 < length (getD Tables.pages 0 [])
 unfolding Tables.pages Tables.latin1
 a-long n h = omega arith
@@ -202,7 +202,7 @@ pub page-a : (n : ℕ) → In 0xA0 0xFF n → Tables.entry 0 n ≡ n
 unfolding Tables.entry
 page-a n (l, h) = let e = counts-at 0xA0 (getD Tables.pages 0 []) (n - 0xA0) 0xFFFD a-counts (a-long n h) in omega arith
 
--- so on page A each sum is its own character, and `\S\` gives what it gave before there were pages
+-- on page A each sum is its own character, and `\S\` gives what it gave before there were pages
 pub code-a : (n : ℕ) → codeOf pageA n ≡ n
 code-a n = go (within 0xA0 0xFF n)
   where
@@ -223,23 +223,23 @@ code-scalar p n h = go (leb 0xA0 n && leb n 0xFF)
 pub above : (l h n : ℕ) → leb l n && leb n h ≡ true → l ≤ n
 above l h n e = leb-true l n (both (leb l n) (leb n h) e .0)
 
--- a capital letter
+-- a capital letter from A to I selects the page that is computed
 pub selects-capital : (b : ℕ) → leb 65 b && leb b 73 ≡ true → b - 65 ≡ pageOf b
 selects-capital b e = rw e refl
 
--- a small one
+-- a small letter from a to i selects the page that is computed
 pub selects-small : (b : ℕ) → leb 65 b && leb b 73 ≡ false → leb 97 b && leb b 105 ≡ true → b - 97 ≡ pageOf b
 selects-small b n e = rw (n, e) refl
 
--- no letter of a page
+-- a byte that is no letter of a page selects page A
 pub selects-none : (b : ℕ) → leb 65 b && leb b 73 ≡ false → leb 97 b && leb b 105 ≡ false → 0 ≡ pageOf b
 selects-none b n e = rw (n, e) refl
 
--- page A
+-- on page A a sum is its own character
 pub code-first : (p n : ℕ) → p ≡ 0 → n ≡ codeOf p n
 code-first p n e = sym (ap (λ (q : ℕ). codeOf q n) e ∙ code-a n)
 
--- a sum outside A0 to FF
+-- a sum outside A0 to FF is its own character
 pub code-same : (p n : ℕ) → ltb n 160 || ltb 255 n ≡ true → n ≡ codeOf p n
 code-same p n e = go (within 0xA0 0xFF n)
   where
@@ -247,7 +247,7 @@ code-same p n e = go (within 0xA0 0xFF n)
     go (yes (l, h)) = let z : _≡_ {A = Bool} false true = sym (rw (le-ltb n 160 l, le-ltb 255 n h) refl) ∙ e in let w : _≡_ {A = ℕ} 0 1 = ap (λ (t : Bool). pick t 1 0) z in absurd (omega arith)
     go (no h) = rw (beyond 0xA0 0xFF n h) refl
 
--- a code of the page's table
+-- a sum from A0 to FF is the character that the page's table has for it
 pub code-listed : (p n : ℕ) → ltb n 160 || ltb 255 n ≡ false → (In 0xA0 0xFF n) × ((c : ℕ) → c ≡ Tables.entry p (0xA0 + (n - 160)) → c ≡ codeOf p n)
 code-listed p n e =
     let (b, c) = neither (ltb n 160) (ltb 255 n) e in

@@ -5,7 +5,7 @@ use Prim.Native.Nat.{ℕ, _+_, _<_}
 use Rattle.utf8.specs.Table.{In}
 use Rattle.pages.specs.Tables.{entry}
 
--- a byte, and the page that it selects
+-- the page that a byte selects
 pub data Selects : ℕ → ℕ → Type 0 where
   -- "Page letters A to I select ISO 8859-1 to 8859-9"
   capital : {p : ℕ} → p < 9 → Selects (65 + p) p
@@ -14,7 +14,7 @@ pub data Selects : ℕ → ℕ → Type 0 where
   -- "any other byte [..] means page A"
   other : {b : ℕ} → (In 65 73 b → ⊥) → (In 97 105 b → ⊥) → Selects b 0
 
--- a page, a sum, and the character that it gives there
+-- the character that a sum gives on a page
 pub data Coded : ℕ → ℕ → ℕ → Type 0 where
   -- "the tables for codes A0 to FF"
   listed : {p n : ℕ} → In 0xA0 0xFF n → Coded p n (entry p n)

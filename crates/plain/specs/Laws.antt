@@ -17,18 +17,18 @@ use Rattle.kinds.specs.declared.Kind.the-variants.{Other}
 use Rattle.lookup.specs.declared.Tables.{Tables}
 use Rattle.plain.specs.Numbers.{flagsOf, narrowAt, idsNumbers, idsBy, tablesIn, tablesBy, kindBy}
 
--- what stands beside the slots, part by part
+-- what stands beside the slots, made from a host's numbers part by part
 pub ids-are : {count first last flags even shift : ℕ} (xs : List ℕ) → count ≡ getD xs 0 0 → first ≡ narrowAt xs 1 → last ≡ narrowAt xs 2 → flags ≡ getD xs 3 0
     → even ≡ getD xs 4 0 → shift ≡ narrowAt xs 5
     → _≡_ {A = Ids} (record { count = count; first = first; last = last; direct = eqb (flags % 2) 1; distinct = eqb (flags / 2 % 2) 1; even = eqb (even % 2) 1; shift = shift }) (idsBy xs)
 ids-are xs c f l g e s = λ i. record { count = c i; first = f i; last = l i; direct = eqb (g i % 2) 1; distinct = eqb (g i / 2 % 2) 1; even = eqb (e i % 2) 1; shift = s i }
 
--- what goes with the tables, part by part
+-- what goes with the tables, made from a host's numbers part by part
 pub tables-are : {headers records max : ℕ} {ids : Ids} (xs : List ℕ) → headers ≡ getD xs 8 0 → records ≡ getD xs 9 0 → max ≡ narrowAt xs 10 → ids ≡ idsBy xs
     → _≡_ {A = Tables} (record { headers = headers; records = records; max = max; ids = ids }) (tablesBy xs)
 tables-are xs h r m b = λ i. record { headers = h i; records = r i; max = m i; ids = b i }
 
--- a number that is none of the eleven is `Other`
+-- a number that is none of the eleven kinds' is `Other`
 pub kind-other : (n : ℕ) → (n ≡ 0 → ⊥) → (n ≡ 1 → ⊥) → (n ≡ 2 → ⊥) → (n ≡ 3 → ⊥) → (n ≡ 4 → ⊥) → (n ≡ 5 → ⊥) → (n ≡ 6 → ⊥) → (n ≡ 7 → ⊥) → (n ≡ 8 → ⊥) → (n ≡ 9 → ⊥) → (n ≡ 10 → ⊥) → Other ≡ kindBy n
 kind-other zero a b c d e f g h i j k = absurd (a refl)
 kind-other (suc zero) a b c d e f g h i j k = absurd (b refl)
@@ -43,21 +43,22 @@ kind-other (suc (suc (suc (suc (suc (suc (suc (suc (suc zero))))))))) a b c d e 
 kind-other (suc (suc (suc (suc (suc (suc (suc (suc (suc (suc zero)))))))))) a b c d e f g h i j k = absurd (k refl)
 kind-other (suc (suc (suc (suc (suc (suc (suc (suc (suc (suc (suc n))))))))))) a b c d e f g h i j k = refl
 
--- six numbers put at the start stand there
+-- six numbers put at the start of a list stand there
 six-first : (ids : List ℕ) (a b c d e f : ℕ) → 6 ≤ length ids → sets ids 0 (a ∷ b ∷ c ∷ d ∷ e ∷ f ∷ []) ≡ a ∷ b ∷ c ∷ d ∷ e ∷ f ∷ drop 6 ids
 six-first ids a b c d e f h = sets-eq (a ∷ b ∷ c ∷ d ∷ e ∷ f ∷ []) ids 0 h
 
--- ids fit into 32 bits, and so a remainder changes nothing
+-- a number of 32 bits is its own remainder by 2 ^ 32
 small : (x : ℕ) → x < 4294967296 → x % 4294967296 ≡ x
 small x h = omega arith
 
--- and so do the findings
+-- what was found of the ids comes back from its number
 flags-back : (s t : Bool) → (eqb (flagsOf s t % 2) 1 ≡ s) × (eqb (flagsOf s t / 2 % 2) 1 ≡ t)
 flags-back true true = (refl, refl)
 flags-back true false = (refl, refl)
 flags-back false true = (refl, refl)
 flags-back false false = (refl, refl)
 
+-- a truth comes back from its number
 bit-back : (s : Bool) → eqb (pick s 1 0 % 2) 1 ≡ s
 bit-back true = refl
 bit-back false = refl
@@ -72,7 +73,7 @@ ids-back b old h f l s = ap idsBy (six-first old (b .count) (b .first) (b .last)
     whole : idsBy (b .count ∷ b .first ∷ b .last ∷ flagsOf (b .direct) (b .distinct) ∷ pick (b .even) 1 0 ∷ b .shift ∷ drop 6 old) ≡ b
     whole = λ i. record { count = b .count; first = small (b .first) f i; last = small (b .last) l i; direct = g .0 i; distinct = g .1 i; even = bit-back (b .even) i; shift = small (b .shift) s i }
 
--- a table's numbers, once they stand in eleven places
+-- what goes with the tables comes back from eleven numbers that stand in a list
 tables-stand : (t : Tables) (a b c d e f g h i j k : ℕ) (r : List ℕ) → t .ids .first < 4294967296 → t .ids .last < 4294967296 → t .ids .shift < 4294967296 → t .max < 4294967296
     → tablesBy (sets (sets (a ∷ b ∷ c ∷ d ∷ e ∷ f ∷ g ∷ h ∷ i ∷ j ∷ k ∷ r) 0 (idsNumbers (t .ids))) 8 (t .headers ∷ t .records ∷ t .max ∷ [])) ≡ t
 tables-stand t a b c d e f g h i j k r u v s w = λ x. record { headers = t .headers; records = t .records; max = small (t .max) w x; ids = ids x }

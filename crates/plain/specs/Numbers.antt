@@ -38,25 +38,25 @@ putIn m xs old = pick (leb m (length old)) (sets old 0 xs) old
 abbrev pub flagsOf : Bool → Bool → ℕ
 flagsOf direct distinct = pick direct 1 0 + pick distinct 2 0
 
--- the number of a list, as one of 32 bits
+-- the number at i of a list, as one of 32 bits
 abbrev pub narrowAt : List ℕ → ℕ → ℕ
 narrowAt xs i = getD xs i 0 % 4294967296
 
--- what goes to a host: how many slots hold a row, the least id, the greatest, what was found, 1 where ids rise by one step, and the
+-- what goes to a host of the index: how many slots hold a row, the least id, the greatest, what was found, 1 where ids rise by one step, and the
 -- binary digits of a range of the guide
 abbrev pub idsNumbers : Ids → List ℕ
 idsNumbers b = b .count ∷ b .first ∷ b .last ∷ flagsOf (b .direct) (b .distinct) ∷ pick (b .even) 1 0 ∷ b .shift ∷ []
 
--- what comes back; of the fourth number the last two binary digits count, of the fifth the last, and a number that is not there is 0
+-- the index from what comes back; of the fourth number the last two binary digits count, of the fifth the last, and a number that is not there is 0
 abbrev pub idsBy : List ℕ → Ids
 idsBy xs = record { count = getD xs 0 0; first = narrowAt xs 1; last = narrowAt xs 2; direct = eqb (getD xs 3 0 % 2) 1; distinct = eqb (getD xs 3 0 / 2 % 2) 1; even = eqb (getD xs 4 0 % 2) 1; shift = narrowAt xs 5 }
 
 -- ---- what goes with the tables
--- the numbers beside the slots in the first eight; and then how many header rows and data rows there are, and the largest id
+-- what goes to a host with the tables: the numbers beside the slots in the first eight; then how many header rows and data rows, and the largest id
 abbrev pub tablesIn : Tables → List ℕ → List ℕ
 tablesIn t old = pick (leb 16 (length old)) (sets (sets old 0 (idsNumbers (t .ids))) 8 (t .headers ∷ t .records ∷ t .max ∷ [])) old
 
--- what comes back
+-- what goes with the tables, from the numbers that come back
 abbrev pub tablesBy : List ℕ → Tables
 tablesBy xs = record { headers = getD xs 8 0; records = getD xs 9 0; max = narrowAt xs 10; ids = idsBy xs }
 
@@ -68,7 +68,7 @@ outCode m n (good none) = 255
 outCode m n (good (some a)) = pick (leb m n) 0 16
 outCode m n (bad q) = q .number
 
--- the lent list afterwards
+-- the lent list once what is found goes into it; as it was where it is too short, nothing is found or a refusal comes
 abbrev pub outAfter : {A : Type 0} → ℕ → (A → List ℕ) → Told (Option A) → List ℕ → List ℕ
 outAfter m f (good none) old = old
 outAfter m f (good (some a)) old = putIn m (f a) old

@@ -19,29 +19,29 @@ use Rattle.prefixes.specs.Prefix.{placeIn, prefixOf, factorOf, place-mos
 use Rattle.prefixes.specs.Rules.{Prefix, prefixes, unity, tenUp, tenDown, PrefixForm, named, other}
 
 -- ---- no two rows have one name: one test that antt computes
--- no row has this name
+-- no row of the table is named w
 abbrev absent : List ℕ → List Prefix → Bool
 absent w [] = true
 absent w (q ∷ qs) = not (same (bytes (q .name)) w) && absent w qs
 
--- no row has a later one's name
+-- no row of the table has a later one's name
 abbrev distinct : List Prefix → Bool
 distinct [] = true
 distinct (p ∷ ps) = absent (bytes (p .name)) ps && distinct ps
 
--- the table's names are distinct
+-- the names of the sixteen prefixes are distinct
 all-distinct : T (distinct prefixes)
 unfolding same
 all-distinct = tt
 
--- so the name at a row is another
+-- where no row is named w, the name at row j is another
 absent-at : (w : List ℕ) (ps : List Prefix) (j : ℕ) → T (absent w ps) → j < length ps → same (bytes (getD ps j unity .name)) w ≡ false
 absent-at w [] j a h = absurd (omega arith)
 absent-at w (q ∷ qs) zero a h = is-false (same (bytes (q .name)) w) (and-l (not (same (bytes (q .name)) w)) (absent w qs) a)
 absent-at w (q ∷ qs) (suc j) a h = absent-at w qs j (and-r (not (same (bytes (q .name)) w)) (absent w qs) a) (le-of-suc-le-suc h)
 
 -- ---- the search finds the row that is named so
--- the place of a row that is named so is that row's
+-- where row j has the name t, the search finds row j
 place-only : (t : List ℕ) (ps : List Prefix) (j : ℕ) → T (distinct ps) → j < length ps → Spelt t (getD ps j unity .name) → placeIn ps t ≡ j
 unfolding placeIn
 place-only t [] j d h s = absurd (omega arith)
@@ -51,7 +51,7 @@ place-only t (p ∷ ps) (suc j) d h s =
     let e : isWord t (bytes (p .name)) ≡ false = ap (λ (l : List ℕ). same l (bytes (p .name))) s ∙ absent-at (bytes (p .name)) ps j a (le-of-suc-le-suc h) in
     rw e (ap suc (place-only t ps j (and-r (absent (bytes (p .name)) ps) (distinct ps) d) (le-of-suc-le-suc h) s))
 
--- the row at the place is named so
+-- the row that the search finds has the name t
 place-is : (t : List ℕ) (ps : List Prefix) → placeIn ps t < length ps → Spelt t (getD ps (placeIn ps t) unity .name)
 unfolding placeIn
 place-is t [] h = absurd (omega arith)
@@ -62,7 +62,7 @@ place-is t (p ∷ ps) h = go (isWord t (bytes (p .name))) refl h (place-is t ps)
     go false e h r = r (le-of-suc-le-suc h)
 
 -- ---- the theorems
--- the lower side is positive
+-- the lower side of a power of ten as a fraction is positive
 up-pos : (p : Prefix) → 0 < tenDown p
 up-pos p = go (p .down) (p .tens)
   where
@@ -70,11 +70,11 @@ up-pos p = go (p .down) (p .tens)
     go true k = one-le-pow k 10 (omega arith)
     go false k = omega arith
 
--- where no name fits the factor is 1.0
+-- where the search finds no row, the factor is 1.0
 at-end : (t : List ℕ) → placeIn prefixes t ≡ 16 → factorOf t ≡ near 1 1
 at-end t e = ap (λ (k : ℕ). near (tenUp (getD prefixes k unity)) (tenDown (getD prefixes k unity))) e
 
--- what is computed is the factor
+-- the factor that `factorOf` computes is the one of the rule
 pub prefix-is : (t : List ℕ) → PrefixForm t (factorOf t)
 prefix-is t = go (decLt (placeIn prefixes t) 16) (place-most t)
   where
@@ -87,7 +87,7 @@ prefix-is t = go (decLt (placeIn prefixes t) 16) (place-most t)
         let e : placeIn prefixes t ≡ 16 = omega arith in
         subst (PrefixForm t) (sym (at-end t e)) (other (λ k l s. never (placeIn prefixes t) k e (place-only t prefixes k all-distinct l s) l) (near-is 1 1 (omega arith)))
 
--- and there is no other
+-- no factor but the one that `factorOf` computes is allowed by the rule
 pub prefix-only : {t : List ℕ} {b : ℕ} → PrefixForm t b → b ≡ factorOf t
 prefix-only {t} {b} (named k h s n) =
     near-only (tenUp (getD prefixes k unity)) (tenDown (getD prefixes k unity)) b (up-pos (getD prefixes k unity)) n

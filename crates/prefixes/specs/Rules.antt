@@ -16,7 +16,7 @@ pub record Prefix : Type 0 where
   pub down : Bool
   pub tens : ℕ
 
--- a row of the table
+-- a row of the table of prefixes
 abbrev pub row : String → Bool → ℕ → Prefix
 row n d k = record { name = n; down = d; tens = k }
 
@@ -41,15 +41,15 @@ prefixes =
     ∷ row "ATTO" true 18
     ∷ []
 
--- "any other 1.0"
+-- "any other 1.0": the prefix of no name, with 10 ^ 0
 abbrev pub unity : Prefix
 unity = row "" false 0
 
--- the power of ten as a fraction
+-- the upper side of a prefix's power of ten as a fraction
 abbrev pub tenUp : Prefix → ℕ
 tenUp p = pick (p .down) 1 (10 ^ p .tens)
 
--- the fraction's lower side
+-- the lower side of a prefix's power of ten as a fraction
 abbrev pub tenDown : Prefix → ℕ
 tenDown p = pick (p .down) (10 ^ p .tens) 1
 

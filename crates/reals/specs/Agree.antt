@@ -19,7 +19,7 @@ pub agree-up : (s : Bool) (m k x y : ℕ) (r : Float) → worthOf x ≡ finite s
     → toBits binary64 r ≡ signed s (near (m * 10 ^ k) 1) → toBits binary64 r ≡ product x y
 agree-up s m k x y r e f t = t ∙ sym (product-exact x y s m (10 ^ k) e f)
 
--- and what it answers for m / 10^k those of their quotient
+-- whatever patterns stand for m, with its sign, and for 10^k: what the wide path answers for m / 10^k has the bits of their quotient
 pub agree-down : (s : Bool) (m k x y : ℕ) (r : Float) → worthOf x ≡ finite s (m * 2 ^ 1074) → worthOf y ≡ finite false (10 ^ k * 2 ^ 1074)
     → toBits binary64 r ≡ signed s (near m (10 ^ k)) → toBits binary64 r ≡ quotient x y
 agree-down s m k x y r e f t = t ∙ sym (quotient-exact x y s m (10 ^ k) (ten-pos k) e f)
@@ -30,18 +30,18 @@ abbrev pub operand : Bool → ℕ → Float
 operand true m = neg (ofInt binary64 (pos m))
 operand false m = ofInt binary64 (pos m)
 
--- up to 2^53 it is m exactly
+-- m as an f64 is m exactly, up to 2^53
 operand-worth : (s : Bool) (m : ℕ) → m ≤ 2 ^ 53 → worthOf (toBits binary64 (operand s m)) ≡ finite s (m * 2 ^ 1074)
 operand-worth true m h = worth-minus m h
 operand-worth false m h = worth-whole m h
 
--- so the wide path answers the product of m and of the table's 10^k
+-- up to 2^53 and 10^22 the wide path's m * 10^k is the product of the f64 m and of the table's 10^k
 pub short-up : (s : Bool) (m k : ℕ) (r : Float) → m ≤ 2 ^ 53 → k < 23 → toBits binary64 r ≡ signed s (near (m * 10 ^ k) 1)
     → toBits binary64 r ≡ product (toBits binary64 (operand s m)) (toBits binary64 (getD powers k nan))
 short-up s m k r h l t =
     agree-up s m k (toBits binary64 (operand s m)) (toBits binary64 (getD powers k nan)) r (operand-worth s m h) (power-worth k l) t
 
--- and their quotient
+-- up to 2^53 and 10^22 the wide path's m / 10^k is the quotient of the f64 m and of the table's 10^k
 pub short-down : (s : Bool) (m k : ℕ) (r : Float) → m ≤ 2 ^ 53 → k < 23 → toBits binary64 r ≡ signed s (near m (10 ^ k))
     → toBits binary64 r ≡ quotient (toBits binary64 (operand s m)) (toBits binary64 (getD powers k nan))
 short-down s m k r h l t =

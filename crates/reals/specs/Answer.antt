@@ -21,20 +21,20 @@ toldReal (Value x) = read (toBits binary64 x)
 toldReal Outside = refused 13
 toldReal NotReal = refused 12
 
--- #101: "m has at most 19 digits". This and the next are the class's two bounds; no other definition repeats them
+-- #101: "m has at most 19 digits". This and `farthest` are the class's two bounds; no other definition repeats them
 abbrev pub longest : ℕ
 longest = 19
 
--- "−27 ≤ e ≤ 27"
+-- #101: "−27 ≤ e ≤ 27": how far e may lie from 0 in the class
 abbrev pub farthest : ℕ
 farthest = 27
 
--- an integer, or 12
+-- what `parse_int` answers: an integer, or 12
 abbrev pub toldWhole : Whole → Answer ℤ
 toldWhole (Whole.Value z) = read z
 toldWhole NotWhole = refused 12
 
--- a reference, or 12
+-- what `parse_ref` answers: a reference, or 12
 abbrev pub toldReference : Reference → Answer ℕ
 toldReference (Reference.Value n) = read n
 toldReference NotReference = refused 12

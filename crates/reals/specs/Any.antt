@@ -24,7 +24,7 @@ use Rattle.reals.specs.Scalar.{nearTen, largest, mantissa, pointed, frac
 use Rattle.reals.specs.Class.{raised-same, lowered-same}
 
 -- ---- exponents that are too large to be held
--- so from there on one power of ten is as good as another
+-- from 10 ^ 309 on one power of ten is as good as another: a whole number times it has one nearest pattern
 up-same : (M j k : ℕ) → 309 ≤ j → 309 ≤ k → near (M * 10 ^ j) 1 ≡ near (M * 10 ^ k) 1
 up-same M j k h l = go (eq-zero-or-pos M)
   where
@@ -40,7 +40,7 @@ up-same M j k h l = go (eq-zero-or-pos M)
         high-infinity M 1 j one a ∙ sym (high-infinity M 1 k one b)
 
 module _ (M X n f x : ℕ) (h : M < 10 ^ n) (l : n < 2 ^ 63) (g : f < 2 ^ 63) (e : x ≡ min largest X) where
-  -- a negative exponent that can be held with the fraction
+  -- a negative exponent that can be held together with the fraction's length: the power of ten is their sum
   pub down-held : x + f ≤ largest → nearBy true M (x + f) ≡ nearTen M f true X
   down-held w = go (decLt x largest)
     where
@@ -51,14 +51,14 @@ module _ (M X n f x : ℕ) (h : M < 10 ^ n) (l : n < 2 ^ 63) (g : f < 2 ^ 63) (e
           let b : n + 324 ≤ X + f = omega arith in
           far-zero M n (x + f) h a ∙ sym (far-zero M n (X + f) h b)
 
-  -- one that cannot
+  -- a negative exponent that cannot be held together with the fraction's length: the largest number serves as well
   pub down-far : largest < x + f → nearBy true M largest ≡ nearTen M f true X
   down-far w =
       let a : n + 324 ≤ largest = omega arith in
       let b : n + 324 ≤ X + f = omega arith in
       far-zero M n largest h a ∙ sym (far-zero M n (X + f) h b)
 
-  -- an exponent that outweighs the fraction
+  -- an exponent of the fraction's length or more: the power of ten is what it has over
   pub up-held : f ≤ x → nearBy false M (x - f) ≡ nearTen M f false X
   up-held w = go (decLt x largest)
     where
@@ -70,12 +70,12 @@ module _ (M X n f x : ℕ) (h : M < 10 ^ n) (l : n < 2 ^ 63) (g : f < 2 ^ 63) (e
           let c : f ≤ X = omega arith in
           up-same M (x - f) (X - f) a b ∙ raised-same M f X c
 
-  -- a fraction that weighs as much as the exponent, or more
+  -- a fraction as long as the exponent says, or longer: the power of ten is negative, what the fraction has over
   pub mid-held : x ≤ f → nearBy true M (f - x) ≡ nearTen M f false X
   mid-held w = let y : x ≡ X = omega arith in lowered-same M f x w ∙ ap (λ (i : ℕ). near (M * 10 ^ i) (10 ^ f)) y
 
 -- ---- the digits of the mantissa
--- a text's digits, and then those of the rest
+-- the number of a text's digits goes on, after those at its start, with those of the rest
 pub number-rest : (n : ℕ) (xs : List ℕ) → numberIn n xs ≡ numberIn (numberFrom n xs .value) (numberFrom n xs .rest)
 unfolding numberFrom walk
 number-rest n [] = refl
@@ -86,7 +86,7 @@ number-rest n (c ∷ r) = go (digit c) refl (number-rest (n * 10 + (c - 48)) r)
     go true e h = number-next n c r e ∙ h
     go false e h = refl
 
--- and of a fraction, whose point is no digit
+-- the number of a text's digits goes on, after a fraction, whose point is no digit, with those of the rest
 pub fraction-rest : (w : ℕ) (xs : List ℕ) → numberIn w xs ≡ numberIn (fractionOf w xs .value) (fractionOf w xs .rest)
 fraction-rest w [] = refl
 fraction-rest w (c ∷ r) = go (eqb c 46) refl

@@ -16,43 +16,43 @@ use Rattle.reals.specs.Answer.{Answer, read, refused}
 use Rattle.reals.specs.Form.{Written, over, under, AnyForm}
 use Rattle.reals.specs.FormRight.{any-of, any-only, under-pos}
 
--- two patterns with one sign are one
+-- two patterns that are the same with one sign are the same
 signed-one : (s : Bool) (a b : ℕ) → signed s a ≡ signed s b → a ≡ b
 signed-one true a b e = omega arith
 signed-one false a b e = omega arith
 
--- the pattern that is read
+-- the pattern that is read, 0 at a refusal
 pattern : Answer ℕ → ℕ
 pattern (read b) = b
 pattern (refused n) = 0
 
 -- a text that is written as a real, and its number as a fraction
 module _ {t w f x : List ℕ} {s down : Bool} (r : Written t s w f down x) where
-  -- the upper side
+  -- the upper side of a written real's number as a fraction
   abbrev num : ℕ
   num = over (valueOf (w ++ f)) down (valueOf x)
 
-  -- the lower side
+  -- the lower side of a written real's number as a fraction
   abbrev den : ℕ
   den = under (length f) down (valueOf x)
 
-  -- the pattern that a text reads as is the nearest one
+  -- the pattern that a written real reads as, without its sign, is the nearest one
   nearest-read : (b : ℕ) → anyRealOf t ≡ read (signed s b) → near num den ≡ b
   unfolding pattern
   nearest-read b e = signed-one s (near num den) b (ap pattern (sym (any-of r) ∙ e))
 
-  -- at most half the least subnormal: a zero with its sign
+  -- a written real of at most half the least subnormal is a zero with its sign
   pub any-zero-is : num * 2 ^ 1075 ≤ den → anyRealOf t ≡ read (signed s 0)
   any-zero-is l = sym (any-only (AnyForm.real r (zero-is num den (under-pos (length f) down (valueOf x)) l)))
 
-  -- and nothing above it is one
+  -- no written real above half the least subnormal is a zero with its sign
   pub any-zero-only : anyRealOf t ≡ read (signed s 0) → num * 2 ^ 1075 ≤ den
   any-zero-only e = near-zero-only num den (under-pos (length f) down (valueOf x)) (nearest-read 0 e)
 
-  -- from halfway between the largest f64 and 2 ^ 1024 on: an infinity with its sign
+  -- a written real from halfway between the largest f64 and 2 ^ 1024 on is an infinity with its sign
   pub any-infinity-is : den * ((2 ^ 54 - 1) * 2 ^ 970) ≤ num → anyRealOf t ≡ read (signed s infinity)
   any-infinity-is l = sym (any-only (AnyForm.real r (infinity-is num den (under-pos (length f) down (valueOf x)) l)))
 
-  -- and nothing below it is one
+  -- no written real below halfway between the largest f64 and 2 ^ 1024 is an infinity with its sign
   pub any-infinity-only : anyRealOf t ≡ read (signed s infinity) → den * ((2 ^ 54 - 1) * 2 ^ 970) ≤ num
   any-infinity-only e = near-infinity-only num den (under-pos (length f) down (valueOf x)) (nearest-read infinity e)

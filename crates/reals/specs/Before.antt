@@ -19,21 +19,21 @@ abbrev pub realBefore : List ℕ → Answer ℕ
 realBefore t = classIn 15 22 (parseOf t)
 
 -- ---- two classes by their bounds, the second with bounds as large or larger
--- what is in reach is in reach of more
+-- an exponent in reach is in reach by a wider bound
 reach-wider : (far far' f : ℕ) (d : Bool) (x : ℕ) → far ≤ far' → Reach far f d x → Reach far' f d x
 reach-wider far far' f false x h r = let a = r .0 in let b = r .1 in (omega arith, omega arith)
 reach-wider far far' f true x h r = omega arith
 
--- what is of the class is of the wider one
+-- a real of a class is of every class with bounds as large or larger
 pub classed-wider : (long far long' far' m f : ℕ) (d : Bool) (x : ℕ) → long ≤ long' → far ≤ far' → Classed long far m f d x → Classed long' far' m f d x
 classed-wider long far long' far' m f d x l h c =
     record { few = lt-of-lt-of-le (c .few) (pow-le-pow-right (omega arith) l); reach = reach-wider far far' f d x h (c .reach) }
 
--- an answer is not two
+-- an answer that is read is no refusal
 read-not-refused : {b n : ℕ} → read b ≡ refused n → ⊥
 read-not-refused e = clash (cc)
 
--- 13 is not 12
+-- refusal 13 is not refusal 12
 outside-not-other : _≡_ {A = Answer ℕ} (refused 13) (refused 12) → ⊥
 outside-not-other e = let z : _≡_ {A = ℕ} 13 12 = ap number e in absurd (omega arith)
   where
@@ -41,11 +41,11 @@ outside-not-other e = let z : _≡_ {A = ℕ} 13 12 = ap number e in absurd (ome
     number (read b) = 0
     number (refused n) = n
 
--- of the class, the nearest f64
+-- a real of a class is answered by the nearest f64
 read-in : (long far : ℕ) (s : Bool) (m f : ℕ) (d : Bool) (x : ℕ) → belongs long far m f d x ≡ true → classIn long far (parsed s m f d x) ≡ read (signed s (nearTen m f d x))
 read-in long far s m f d x e = rw e refl
 
--- outside it, 13
+-- a well-formed real outside a class is 13
 out-of : (long far : ℕ) (s : Bool) (m f : ℕ) (d : Bool) (x : ℕ) → belongs long far m f d x ≡ false → classIn long far (parsed s m f d x) ≡ refused 13
 out-of long far s m f d x e = rw e refl
 
@@ -83,12 +83,12 @@ pub before-kept : (t : List ℕ) (b : ℕ) → realBefore t ≡ read b → realO
 unfolding realOf
 before-kept t b e = class-kept 15 22 longest farthest (parseOf t) b (omega arith) (omega arith) e
 
--- what was 12 is 12
+-- a text that was 12 by document 01's class is 12 by this one
 pub before-12 : (t : List ℕ) → realBefore t ≡ refused 12 → realOf t ≡ refused 12
 unfolding realOf
 before-12 t e = class-other 15 22 longest farthest (parseOf t) e
 
--- what is 12 was 12
+-- a text that is 12 by this class was 12 by document 01's
 pub before-12-back : (t : List ℕ) → realOf t ≡ refused 12 → realBefore t ≡ refused 12
 unfolding realOf
 before-12-back t e = class-other longest farthest 15 22 (parseOf t) e
@@ -98,12 +98,12 @@ pub before-13 : (t : List ℕ) → realBefore t ≡ refused 13 → ((b : ℕ) ×
 unfolding realOf
 before-13 t e = class-outside 15 22 longest farthest (parseOf t) e
 
--- the same of the rules: a real of the old class is one of this
+-- by the rules, too, a real of document 01's class is one of this
 pub before-classed : (m f : ℕ) (d : Bool) (x : ℕ) → Classed 15 22 m f d x → Classed longest farthest m f d x
 before-classed m f d x c = classed-wider 15 22 longest farthest m f d x (omega arith) (omega arith) c
 
 -- ---- the class and any real
--- what the class reads, any real's reading reads the same
+-- what a class reads, the reading of any real reads the same
 any-in : (long far : ℕ) (p : Parsed) (b : ℕ) → classIn long far p ≡ read b → anyOf p ≡ read b
 any-in long far unparsed b e = absurd (read-not-refused (sym e))
 any-in long far (parsed s m f d x) b e = go (class-is long far m f d x)
@@ -117,7 +117,7 @@ pub any-kept : (t : List ℕ) (b : ℕ) → realOf t ≡ read b → anyRealOf t 
 unfolding realOf anyRealOf
 any-kept t b e = any-in longest farthest (parseOf t) b e
 
--- what is 12 is 12 by both
+-- a text that is 12 by the class is 12 where any real is read
 pub any-12 : (t : List ℕ) → realOf t ≡ refused 12 → anyRealOf t ≡ refused 12
 unfolding realOf anyRealOf
 any-12 t e = go (parseOf t) e
@@ -130,7 +130,7 @@ any-12 t e = go (parseOf t) e
         by (inl c) = absurd (read-not-refused (sym (read-in longest farthest s m f d x (c .1)) ∙ e))
         by (inr c) = absurd (outside-not-other (sym (out-of longest farthest s m f d x (c .1)) ∙ e))
 
--- what is 13 by the class is answered
+-- a text that is 13 by the class is answered where any real is read
 pub any-13 : (t : List ℕ) → realOf t ≡ refused 13 → (b : ℕ) × (anyRealOf t ≡ read b)
 unfolding realOf anyRealOf
 any-13 t e = go (parseOf t) e
@@ -139,7 +139,7 @@ any-13 t e = go (parseOf t) e
     go unparsed e = absurd (outside-not-other (sym e))
     go (parsed s m f d x) e = (signed s (nearTen m f d x), refl)
 
--- and no refusal is other than 12
+-- where any real is read, no refusal is other than 12
 pub any-refused : (t : List ℕ) (n : ℕ) → anyRealOf t ≡ refused n → n ≡ 12
 unfolding anyRealOf
 any-refused t n e = go (parseOf t) e

@@ -11,7 +11,7 @@ use Rattle.reals.specs.Form.{Written}
 use Rattle.reals.specs.FormRight.{written-is, unparsed-by}
 use Rattle.reals.specs.declared.Reals.{Reals}
 
--- "all else, `inf` and `nan` included, is 12": a text that is not written as a real
+-- "all else, `inf` and `nan` included, is 12": so is a text that is not written as a real
 pub unwritten-by : (which : Reals) (t : List ℕ) → ((s d : Bool) (w f x : List ℕ) → Written t s w f d x → ⊥) → realBy which t ≡ refused 12
 unwritten-by which t h = go (written-is t)
   where

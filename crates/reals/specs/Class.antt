@@ -14,43 +14,43 @@ use Rattle.nearest.specs.PowerLaws.{ten-pos}
 use Rattle.reals.specs.Scalar.{parsed, classOf, reaches, nearTen, most, largest}
 use Rattle.reals.specs.Answer.{Answer, read, refused, farthest}
 
--- an exponent that outweighs the fraction
+-- an exponent that is the fraction's length or more: m times 10 ^ (x - f) has the nearest f64 of m·10^x / 10^f
 pub raised-same : (m f x : ℕ) → f ≤ x → near (m * 10 ^ (x - f)) 1 ≡ near (m * 10 ^ x) (10 ^ f)
 raised-same m f x g =
     let t : x - f + f ≡ x = omega arith in
     near-same (m * 10 ^ (x - f)) 1 (m * 10 ^ x) (10 ^ f) (ten-pos 0) (ten-pos f)
     (mul-assoc m (10 ^ (x - f)) (10 ^ f) ∙ ap (λ (n : ℕ). m * n) (sym (pow-add 10 (x - f) f) ∙ ap (λ (n : ℕ). 10 ^ n) t) ∙ sym (mul-one (m * 10 ^ x)))
 
--- a fraction that weighs as much as the exponent, or more
+-- a fraction as long as the exponent says, or longer: m by 10 ^ (f - x) has the nearest f64 of m·10^x / 10^f
 pub lowered-same : (m f x : ℕ) → x ≤ f → near m (10 ^ (f - x)) ≡ near (m * 10 ^ x) (10 ^ f)
 lowered-same m f x g =
     let t : x + (f - x) ≡ f = omega arith in
     near-same m (10 ^ (f - x)) (m * 10 ^ x) (10 ^ f) (ten-pos (f - x)) (ten-pos f)
     (ap (λ (n : ℕ). m * n) (ap (λ (n : ℕ). 10 ^ n) (sym t) ∙ pow-add 10 x (f - x)) ∙ sym (mul-assoc m (10 ^ x) (10 ^ (f - x))))
 
--- a test that fails makes both fail
+-- where the second of two tests fails, both together do
 pub no-and : (a : Bool) → a && false ≡ false
 no-and true = refl
 no-and false = refl
 
 module _ (s : Bool) (m f x M X : ℕ) (a : m ≡ min most M) (b : x ≡ min largest X) where
-  -- m has too many digits: 13
+  -- a real whose m has too many digits is 13
   pub out-long : (d : Bool) → most ≤ m → refused 13 ≡ classOf (parsed s M f d X)
   out-long d h = let l : most ≤ M = omega arith in rw (le-ltb M most l) refl
 
-  -- the exponent is out of reach: 13
+  -- a real whose exponent is out of reach is 13
   out-far : (d : Bool) → reaches farthest f d X ≡ false → refused 13 ≡ classOf (parsed s M f d X)
   out-far d e = rw (e, no-and (ltb M most)) refl
 
-  -- m has few enough digits and the exponent is in reach: the nearest f64
+  -- a real whose m has few enough digits and whose exponent is in reach is the nearest f64
   inside : (d : Bool) (p : ℕ) → m < most → reaches farthest f d X ≡ true → p ≡ signed s (nearTen M f d X) → read p ≡ classOf (parsed s M f d X)
   inside d p h e q = let l : M < most = omega arith in rw (lt-ltb M most l, e) (ap read q)
 
-  -- below its cap m is held as itself
+  -- below its cap m is held as it is
   held : m < most → m ≡ M
   held h = omega arith
 
-  -- a negative exponent
+  -- a real with a negative exponent within the bounds of the class: the nearest f64
   pub in-down : (p : ℕ) → m < most → x + f ≤ farthest → p ≡ signed s (near m (10 ^ (x + f))) → read p ≡ classOf (parsed s M f true X)
   in-down p h l q =
       let y : x ≡ X = omega arith in
@@ -61,7 +61,7 @@ module _ (s : Bool) (m f x M X : ℕ) (a : m ≡ min most M) (b : x ≡ min larg
   pub out-down : farthest < x + f → refused 13 ≡ classOf (parsed s M f true X)
   out-down l = let z : farthest < X + f = omega arith in out-far true (lt-leb (X + f) farthest z)
 
-  -- the exponent outweighs the fraction
+  -- a real of the class whose exponent is the fraction's length or more: the nearest f64
   pub in-up : (p : ℕ) → f < 2 ^ 63 → m < most → f ≤ x → x - f ≤ farthest → p ≡ signed s (near (m * 10 ^ (x - f)) 1) → read p ≡ classOf (parsed s M f false X)
   in-up p w h g l q =
       let y : x ≡ X = omega arith in
@@ -77,7 +77,7 @@ module _ (s : Bool) (m f x M X : ℕ) (a : m ≡ min most M) (b : x ≡ min larg
   pub out-up : f ≤ x → farthest < x - f → refused 13 ≡ classOf (parsed s M f false X)
   out-up g l = let z : f + farthest < X = omega arith in out-far false (rw (lt-leb X (f + farthest) z) refl)
 
-  -- the fraction outweighs the exponent
+  -- a real of the class whose fraction is longer than the exponent says: the nearest f64
   pub in-mid : (p : ℕ) → f < 2 ^ 63 → m < most → x < f → f - x ≤ farthest → p ≡ signed s (near m (10 ^ (f - x))) → read p ≡ classOf (parsed s M f false X)
   in-mid p w h g l q =
       let y : x ≡ X = omega arith in

@@ -53,18 +53,18 @@ pub record Classed (long far m f : ℕ) (down : Bool) (x : ℕ) : Type 0 where
   pub few : m < 10 ^ long
   pub reach : Reach far f down x
 
--- m·10^e as a fraction, the powers of ten multiplied out
+-- m·10^e as a fraction, the powers of ten multiplied out: its upper side
 abbrev pub over : ℕ → Bool → ℕ → ℕ
 over m false x = m * 10 ^ x
 over m true x = m
 
--- the fraction's lower side
+-- m·10^e as a fraction, the powers of ten multiplied out: its lower side
 abbrev pub under : ℕ → Bool → ℕ → ℕ
 under f false x = 10 ^ f
 under f true x = 10 ^ (x + f)
 
--- what a text answers. #101: "answered with the nearest f64, ties to even", by its pattern, and "13 now means outside the wider class"; 01: "sign kept
--- at zero", "all else, `inf` and `nan` included, is 12"
+-- what a text answers as a real. #101: "answered with the nearest f64, ties to even", by its pattern, and "13 now means outside the wider class";
+-- 01: "sign kept at zero", "all else, `inf` and `nan` included, is 12"
 pub data RealForm : List ℕ → Answer ℕ → Type 0 where
   real : {t w f x : List ℕ} {s down : Bool} {b : ℕ} → Written t s w f down x → Classed longest farthest (valueOf (w ++ f)) (length f) down (valueOf x)
       → IsNearest (over (valueOf (w ++ f)) down (valueOf x)) (under (length f) down (valueOf x)) b → RealForm t (read (signed s b))
@@ -89,19 +89,19 @@ abbrev pub valued : Bool → ℕ → ℤ
 valued false n = pos n
 valued true n = negℤ (pos n)
 
--- "integers with optional sign": digits, at least one
+-- "integers with optional sign": digits, at least one, whose number is in the signed 64-bit range
 pub record Integer (t : List ℕ) (s : Bool) (ds : List ℕ) : Type 0 where
   pub sign : Signed t s ds
   pub all : All digit ds
   pub some : ds ≡ [] → ⊥
   pub within : Ranged s (valueOf ds)
 
--- what a text answers: the integer, or 12
+-- what a text answers as an integer: the integer, or 12
 pub data WholeForm : List ℕ → Answer ℤ → Type 0 where
   whole : {t ds : List ℕ} {s : Bool} → Integer t s ds → WholeForm t (read (valued s (valueOf ds)))
   other : {t : List ℕ} → ((s : Bool) (ds : List ℕ) → Integer t s ds → ⊥) → WholeForm t (refused 12)
 
--- "`#` and digits up to 4294967295": as a record's id
+-- what a text answers as a reference: "`#` and digits up to 4294967295", as a record's id, or 12
 pub data ReferenceForm : List ℕ → Answer ℕ → Type 0 where
   reference : (ds : List ℕ) → Id ds → ReferenceForm (35 ∷ ds) (read (valueOf ds))
   other : {t : List ℕ} → ((ds : List ℕ) → t ≡ 35 ∷ ds → Id ds → ⊥) → ReferenceForm t (refused 12)

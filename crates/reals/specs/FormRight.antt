@@ -31,24 +31,24 @@ use Rattle.reals.specs.declared.Reals.{Reals}
 use Rattle.reals.specs.declared.Reals.the-variants.{Class, Any}
 
 -- ---- the sign
--- the first byte, if there is one, is neither sign
+-- a text does not begin with a sign: what is computed after one is the text itself, and it is not `-`
 abbrev pub Bare : List ℕ → Type 0
 Bare u = (unsigned u ≡ u) × (minus u ≡ false)
 
--- a byte after `-` is no sign
+-- a text that begins with a byte above `-` begins with no sign
 bare : (c : ℕ) (r : List ℕ) → 46 ≤ c → Bare (c ∷ r)
 bare c r h =
     let a : c ≡ 43 → ⊥ = λ e. omega arith in
     let b : c ≡ 45 → ⊥ = λ e. omega arith in
     (rw (ne-eqb c 43 a, ne-eqb c 45 b) refl, ne-eqb c 45 b)
 
--- what follows an optional sign, and the sign, are what is computed
+-- what follows an optional sign by the rule, and that sign, are what is computed
 pub signed-only : (t u : List ℕ) (s : Bool) → Signed t s u → Bare u → (unsigned t ≡ u) × (minus t ≡ s)
 signed-only t u s (unmarked v) h = h
 signed-only t u s (plus v) h = (refl, refl)
 signed-only t u s (Form.minus v) h = (refl, refl)
 
--- what is computed is an optional sign and what follows it
+-- what is computed splits a text in an optional sign and what follows it
 pub signed-is : (t : List ℕ) → Signed t (minus t) (unsigned t)
 signed-is [] = unmarked []
 signed-is (c ∷ r) = go (eqb c 43) (eqb c 45) refl refl
@@ -59,7 +59,7 @@ signed-is (c ∷ r) = go (eqb c 43) (eqb c 45) refl refl
     go false true p q = rw (eqb-true c 45 q) (Form.minus r)
     go false false p q = unmarked (c ∷ r)
 
--- a digit is no sign
+-- a text that begins with a digit begins with no sign
 digit-bare : (c : ℕ) (r : List ℕ) → digit c ≡ true → Bare (c ∷ r)
 digit-bare c r h = let k = bounds 48 c 57 h in bare c r (omega arith)
 
@@ -72,7 +72,7 @@ not-digit c h = rw (lt-leb c 57 h) (go (leb 48 c))
     go true = refl
     go false = refl
 
--- `E` and `e` pass the test, and stand above `9`
+-- `E` and `e` pass the test for an exponent's letter, and stand above `9`
 letter : (c : ℕ) → (c ≡ 69) ⊎ (c ≡ 101) → (eqb c 69 || eqb c 101 ≡ true) × (57 < c)
 letter c (inl e) = (rw (eq-eqb c 69 e) refl, omega arith)
 letter c (inr e) = (rw (eq-eqb c 101 e) (go (eqb c 69)), omega arith)
@@ -90,12 +90,12 @@ digits-bare (c ∷ x) (h, a) n = digit-bare c x h
 nothing : NotFirst digit []
 nothing c r e = clash (cc)
 
--- a text that is not empty has a length
+-- a text that is not empty has a positive length
 pub some-length : (x : List ℕ) → (x ≡ [] → ⊥) → 0 < length x
 some-length [] n = absurd (n refl)
 some-length (c ∷ x) n = omega arith
 
--- of digits alone the number is all there is
+-- of a text of digits alone all is read, and its number is the digits' value
 pub number-all : (x : List ℕ) → All digit x → numberFrom 0 x ≡ digits (valueOf x) []
 number-all x a = ap (numberFrom 0) (sym (append-nil x)) ∙ number-only x [] record { all = a; over = nothing }
 
@@ -112,7 +112,7 @@ powered-not-first : (e x : List ℕ) (d : Bool) → Powered e d x → NotFirst d
 powered-not-first e x d powerless = nothing
 powered-not-first e x d (powered c xs y s l g a n) = first-other digit c xs (not-digit c (letter c l .1))
 
--- an exponent, or what is none
+-- a text is an exponent by the rule, or what is computed is malformed
 pub powered-is : (e : List ℕ) → ((d : Bool) × (x : List ℕ) × Powered e d x) ⊎ (exponentOf e ≡ malformed)
 powered-is [] = inl (false, [], powerless)
 powered-is (c ∷ r) = go (eqb c 69) (eqb c 101) refl refl
@@ -152,7 +152,7 @@ powered-is (c ∷ r) = go (eqb c 69) (eqb c 101) refl refl
     go false false p q = inr refl
 
 -- ---- the digits and the point
--- the number of two runs of digits
+-- the number of two runs of digits, one after the other
 value-join : (w f : List ℕ) → valueOf w * 10 ^ length f + valueOf f ≡ valueOf (w ++ f)
 unfolding valueOf
 value-join [] f = omega arith
@@ -164,12 +164,12 @@ value-join (c ∷ w) f =
     ∙ ap (λ (n : ℕ). d * 10 ^ length w * 10 ^ length f + n) (value-join w f)
     ∙ ap (λ (n : ℕ). n + valueOf (w ++ f)) (mul-assoc d (10 ^ length w) (10 ^ length f) ∙ ap (λ (n : ℕ). d * n) (sym e))
 
--- a point, or what follows where there is none, is no digit
+-- after the digits before the point there is no digit: a point, or what follows where there is none
 fraction-first : (p f e : List ℕ) → Fraction p f → NotFirst digit e → NotFirst digit (p ++ e)
 fraction-first p f e pointless h = h
 fraction-first p f e (point g a) h = first-other digit 46 (g ++ e) refl
 
--- an exponent's first byte is no point
+-- an exponent's first byte is no point: before one there is no fraction
 after-point : (n : ℕ) (e x : List ℕ) (d : Bool) → Powered e d x → fractionOf n e ≡ mantissa n 0 e
 after-point n e x d powerless = refl
 after-point n e x d (powered c xs y s l g a m) =
@@ -192,7 +192,7 @@ whole-bare [] p f e a pointless n = absurd (n refl)
 whole-bare [] p f e a (point g b) n = bare 46 (g ++ e) (omega arith)
 whole-bare (c ∷ w) p f e (h, a) g n = digit-bare c (w ++ (p ++ e)) h
 
--- there is a digit
+-- a real has a digit before or after the point, so the test for none fails
 counts : (w p f e : List ℕ) → (w ++ f ≡ [] → ⊥) → eqb (length (p ++ e)) (length (w ++ (p ++ e))) && eqb (length f) 0 ≡ false
 counts [] p f e n = rw (eq-eqb (length (p ++ e)) (length (p ++ e)) refl, ne-eqb (length f) 0 (none f n)) refl
   where
@@ -206,7 +206,7 @@ counts (c ∷ w) p f e n =
     more : length (p ++ e) ≡ suc (length (w ++ (p ++ e))) → length (w ++ (p ++ e)) ≡ length w + length (p ++ e) → ⊥
     more z y = omega arith
 
--- what is written is parsed
+-- what is written as a real is parsed to its parts
 pub written-only : {t w f x : List ℕ} {s d : Bool} → Written t s w f d x → parseOf t ≡ parsed s (valueOf (w ++ f)) (length f) d (valueOf x)
 unfolding parseOf
 written-only {t} {w} {f} {x} {s} {d} r =
@@ -225,11 +225,11 @@ written-only {t} {w} {f} {x} {s} {d} r =
     ∙ ap (λ (z : Bool). counted z (w ++ (p ++ e)) (digits (valueOf w) (p ++ e)) (mantissa (valueOf (w ++ f)) (length f) e)) (k .1)
     ∙ rw (counts w p f e (r .some), powered-only e x d (r .power)) refl
 
--- the point and its digits, or none
+-- r begins with a point and digits, or with neither, and this is the fraction that is computed
 Split : ℕ → List ℕ → Type 0
 Split n r = (p f e : List ℕ) × (r ≡ p ++ e) × Fraction p f × (fractionOf n r .places ≡ length f) × (fractionOf n r .rest ≡ e)
 
--- every text splits so
+-- every text begins with a point and digits, or with neither, as is computed
 fraction-is : (n : ℕ) (r : List ℕ) → Split n r
 unfolding Split
 fraction-is n [] = ([], [], [], refl, pointless, refl, refl)
@@ -252,7 +252,7 @@ fraction-is n (c ∷ r) = go (eqb c 46) refl
             (46 ∷ f, f, e, subst (λ (b : ℕ). b ∷ r ≡ 46 ∷ (f ++ e)) (sym (eqb-true c 46 h)) (ap (λ (y : List ℕ). 46 ∷ y) s), point f a, omega arith, q)
     go false h = ([], [], c ∷ r, refl, pointless, refl, refl)
 
--- a text is written so, or is not parsed
+-- a text is written as a real, or is not parsed
 pub written-is : (t : List ℕ) → ((s d : Bool) × (w f x : List ℕ) × Written t s w f d x) ⊎ (parseOf t ≡ unparsed)
 unfolding parseOf Split
 written-is t = at (number-is (unsigned t) (numberFrom 0 (unsigned t) .value) (numberFrom 0 (unsigned t) .rest) refl) (fraction-is (numberFrom 0 (unsigned t) .value) (numberFrom 0 (unsigned t) .rest))
@@ -279,17 +279,17 @@ written-is t = at (number-is (unsigned t) (numberFrom 0 (unsigned t) .value) (nu
             inl (minus t, d, [], c ∷ f, x, record { u = unsigned t; p = p; e = e; sign = signed-is t; shape = shape [] h; whole = a; fraction = g; some = λ z. clash (cc); power = q })
 
 -- ---- the class
--- the lower side is positive
+-- the lower side of m·10^e as a fraction is positive
 pub under-pos : (f : ℕ) (d : Bool) (x : ℕ) → 0 < under f d x
 under-pos f false x = ten-pos f
 under-pos f true x = ten-pos (x + f)
 
--- m·10^e computed is the nearest to the fraction
+-- the nearest f64 to m·10^e, as `nearTen` has it, is the one to the fraction
 near-ten : (m f : ℕ) (d : Bool) (x : ℕ) → nearTen m f d x ≡ near (over m d x) (under f d x)
 near-ten m f false x = refl
 near-ten m f true x = refl
 
--- e is in reach and the test passes, or neither
+-- either e is in reach and the test for it passes, or neither
 reach-is : (far f : ℕ) (d : Bool) (x : ℕ) → (Reach far f d x × (reaches far f d x ≡ true)) ⊎ ((Reach far f d x → ⊥) × (reaches far f d x ≡ false))
 reach-is far f false x = go (decLe x (f + far)) (decLe f (x + far))
   where
@@ -303,11 +303,11 @@ reach-is far f true x = go (decLe (x + f) far)
     go (yes a) = inl (a, le-leb (x + f) far a)
     go (no a) = let l : far < x + f = omega arith in inr (a, lt-leb (x + f) far l)
 
--- a real is of the class and the test passes, or neither
+-- either a real is of the class and the test for it passes, or neither
 abbrev pub Decided : ℕ → ℕ → ℕ → ℕ → Bool → ℕ → Type 0
 Decided long far m f d x = (Classed long far m f d x × (belongs long far m f d x ≡ true)) ⊎ ((Classed long far m f d x → ⊥) × (belongs long far m f d x ≡ false))
 
--- this holds at all bounds
+-- at all bounds a real is of the class just where the test for it passes
 pub class-is : (long far m f : ℕ) (d : Bool) (x : ℕ) → Decided long far m f d x
 class-is long far m f d x = go (decLt m (10 ^ long)) (reach-is far f d x)
   where
@@ -317,7 +317,7 @@ class-is long far m f d x = go (decLt m (10 ^ long)) (reach-is far f d x)
     go (no a) r = let l : 10 ^ long ≤ m = omega arith in inr (λ k. a (k .few), rw (le-ltb m (10 ^ long) l) refl)
 
 -- ---- the theorems
--- what is written is answered by its class
+-- what is written as a real is answered by the class
 real-of : {t w f x : List ℕ} {s d : Bool} → Written t s w f d x → realOf t ≡ classOf (parsed s (valueOf (w ++ f)) (length f) d (valueOf x))
 unfolding realOf
 real-of r = ap classOf (written-only r)
@@ -336,7 +336,7 @@ unfolding realOf anyRealOf
 unparsed-by Class t e = ap classOf e
 unparsed-by Any t e = ap anyOf e
 
--- what is computed is the answer
+-- what `realOf` computes is the answer by the rule
 pub real-is : (t : List ℕ) → RealForm t (realOf t)
 real-is t = go (written-is t)
   where
@@ -353,7 +353,7 @@ real-is t = go (written-is t)
         never : {s d : Bool} {m f x : ℕ} → parsed s m f d x ≡ unparsed → ⊥
         never e = clash (cc)
 
--- and there is no other
+-- no answer but what `realOf` computes is allowed by the rule for reals
 pub real-only : {t : List ℕ} {a : Answer ℕ} → RealForm t a → a ≡ realOf t
 real-only {t} (real {w = w} {f = f} {x = x} {s = s} {down = d} {b = b} r c n) = by (class-is longest farthest (valueOf (w ++ f)) (length f) d (valueOf x))
   where
@@ -374,12 +374,12 @@ real-only {t} (RealForm.other h) = go (written-is t)
     go (inr e) = sym (unparsed-by Class t e)
 
 -- ---- any real
--- what is written is answered by the nearest f64
+-- what is written as a real is answered by the nearest f64, where any real is
 pub any-of : {t w f x : List ℕ} {s d : Bool} → Written t s w f d x → anyRealOf t ≡ read (signed s (near (over (valueOf (w ++ f)) d (valueOf x)) (under (length f) d (valueOf x))))
 unfolding anyRealOf
 any-of {w = w} {f = f} {x = x} {s = s} {d = d} r = ap anyOf (written-only r) ∙ ap (λ (b : ℕ). read (signed s b)) (near-ten (valueOf (w ++ f)) (length f) d (valueOf x))
 
--- what is computed is the answer
+-- what `anyRealOf` computes is the answer by the rule for any real
 pub any-is : (t : List ℕ) → AnyForm t (anyRealOf t)
 any-is t = go (written-is t)
   where
@@ -392,7 +392,7 @@ any-is t = go (written-is t)
         never : {s d : Bool} {m f x : ℕ} → parsed s m f d x ≡ unparsed → ⊥
         never e = clash (cc)
 
--- and there is no other
+-- no answer but what `anyRealOf` computes is allowed by the rule for any real
 pub any-only : {t : List ℕ} {a : Answer ℕ} → AnyForm t a → a ≡ anyRealOf t
 any-only {t} (AnyForm.real {w = w} {f = f} {x = x} {s = s} {down = d} {b = b} r n) =
     ap (λ (y : ℕ). read (signed s y)) (near-only (over (valueOf (w ++ f)) d (valueOf x)) (under (length f) d (valueOf x)) b (under-pos (length f) d (valueOf x)) n)

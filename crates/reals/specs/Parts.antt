@@ -27,23 +27,23 @@ use Rattle.reals.specs.declared.Plain.{Plain}
 use Rattle.reals.specs.declared.Plain.the-variants.{Other}
 use Rattle.reals.specs.declared.Number.{Number}
 
--- up to i the digits have been read: whatever number n stood before them, k stands there now, held up to the cap
+-- the digits from `at` to i have been read: whatever number n stood before them, k stands there now, held up to the cap
 pub record Reading (t : List ℕ) (at from cap value i : ℕ) : Type 0 where
   pub above : at ≤ i
   pub within : i ≤ length t
   pub held : value ≤ cap
   pub so-far : (n : ℕ) → (k : ℕ) × (numberFrom k (drop i t) ≡ numberFrom n (drop at t)) × (from ≡ min cap n → value ≡ min cap k)
 
--- a digit more, where the number is held up to the cap
+-- a number with one digit more is held up to the cap the same, whether it was held before that or not
 one-more : (cap v k d : ℕ) → v ≡ min cap k → min cap (v * 10 + d) ≡ min cap (k * 10 + d)
 one-more cap v k d e = omega arith
 
 module _ (t : List ℕ) (at from cap : ℕ) where
-  -- before the first digit
+  -- before the first digit the number is as it was
   pub reading-starts : at ≤ length t → from ≤ cap → Reading t at from cap from at
   reading-starts h l = record { above = omega arith; within = h; held = l; so-far = λ n. (n, refl, λ e. e) }
 
-  -- a digit is read
+  -- a digit more is read
   pub reading-goes : (value i next : ℕ) → i < length t → digit (getD t i 0) ≡ true → next ≡ min cap (value * 10 + (getD t i 0 - 48)) → Reading t at from cap value i → Reading t at from cap next (i + 1)
   unfolding numberFrom
   reading-goes value i next l d e r = record {
@@ -58,7 +58,7 @@ module _ (t : List ℕ) (at from cap : ℕ) where
         );
   }
 
-  -- at a byte that is no digit, or at the end, the number is read
+  -- at a byte that is no digit, or at the end, the number of the digits is read
   made : (value i : ℕ) → ((k : ℕ) → numberFrom k (drop i t) ≡ digits k (drop i t)) → Reading t at from cap value i → NumberAt t at from cap record { value = value; next = i }
   made value i h r = record {
     value = λ n e. let s = r .so-far n in s .2 e ∙ ap (min cap) (sym (ap (λ (d : Digits). d .value) (sym (s .1) ∙ h (s .0))));
@@ -72,14 +72,14 @@ module _ (t : List ℕ) (at from cap : ℕ) where
   unfolding numberFrom
   reading-stops value i l d r = made value i (λ k. sym (digit-stops t i l k (numberFrom k (drop i t)) d refl)) r
 
-  -- the text's end ends it
+  -- the text's end ends the number
   pub reading-ends : (value i : ℕ) → length t ≤ i → Reading t at from cap value i → NumberAt t at from cap record { value = value; next = i }
   unfolding numberFrom
   reading-ends value i l r =
       made value i (λ k. walk-ends digitTurn (λ m. digits m []) k t i l ∙ ap (digits k) (sym (drop-end t i l))) r
 
 -- ---- some digits at once
--- these bytes stand from the place on
+-- a text has these bytes from a place on
 abbrev pub Stands : List ℕ → ℕ → List ℕ → Type 0
 Stands t at [] = Unit {0}
 Stands t at (b ∷ bs) = (getD t at 0 ≡ b) × Stands t (at + 1) bs
@@ -92,15 +92,15 @@ pub record DigitsAt (t : List ℕ) (at n v : ℕ) : Type 0 where
   pub all : All digit bytes
   pub makes : v ≡ valueOf bytes
 
--- a place by another sum
+-- the byte of a text at a place that is written as another sum
 there : (t : List ℕ) {p q : ℕ} → p ≡ q → getD t p 0 ≡ getD t q 0
 there t e = ap (λ (n : ℕ). getD t n 0) e
 
--- four bytes from the place
+-- the four bytes of a text from a place on
 abbrev pub fourFrom : List ℕ → ℕ → List ℕ
 fourFrom t i = getD t i 0 ∷ getD t (i + 1) 0 ∷ getD t (i + 2) 0 ∷ getD t (i + 3) 0 ∷ []
 
--- four digits there, by what they are worth
+-- four digits at the place, by what each is worth
 pub four-at : (t : List ℕ) (i v : ℕ) → All digit (fourFrom t i) → v ≡ (getD t i 0 - 48) * 1000 + (getD t (i + 1) 0 - 48) * 100 + (getD t (i + 2) 0 - 48) * 10 + (getD t (i + 3) 0 - 48) → DigitsAt t i 4 v
 unfolding valueOf
 four-at t i v a e = record {
@@ -114,7 +114,7 @@ four-at t i v a e = record {
     by-places : (a b c d : ℕ) → a * 1000 + b * 100 + c * 10 + d ≡ a * 10 ^ 3 + (b * 10 ^ 2 + (c * 10 ^ 1 + (d * 10 ^ 0 + 0)))
     by-places a b c d = omega arith
 
--- eight bytes from the place
+-- the eight bytes of a text from a place on
 abbrev pub eightFrom : List ℕ → ℕ → List ℕ
 eightFrom t i = getD t i 0 ∷ getD t (i + 1) 0 ∷ getD t (i + 2) 0 ∷ getD t (i + 3) 0 ∷ getD t (i + 4) 0 ∷ getD t (i + 5) 0 ∷ getD t (i + 6) 0 ∷ getD t (i + 7) 0 ∷ []
 
@@ -123,7 +123,7 @@ abbrev pub EightAt : List ℕ → ℕ → Eight → Type 0
 EightAt t at (Eight.Digits v) = DigitsAt t at 8 v
 EightAt t at Eight.Other = Unit {0}
 
--- what is told of the eight bytes there says this
+-- what is told of the eight bytes at the place says whether eight digits stand there
 pub eight-at : (t : List ℕ) (i : ℕ) (x : Eight) → EightTold (eightFrom t i) x → EightAt t i x
 eight-at t i (Eight.Digits v) h = record {
   bytes = eightFrom t i;
@@ -151,11 +151,11 @@ value-lt (b ∷ bs) a =
     less : (x p v : ℕ) → x ≤ 9 * p → v < p → x + v < p * 10
     less x p v g l = omega arith
 
--- so do those at the place
+-- n digits at a place make less than 10 ^ n
 pub digits-lt : (t : List ℕ) (at n v : ℕ) → DigitsAt t at n v → v < 10 ^ n
 digits-lt t at n v d = subst (λ (x : ℕ). x < 10 ^ n) (sym (d .makes)) (subst (λ (k : ℕ). valueOf (d .bytes) < 10 ^ k) (d .many) (value-lt (d .bytes) (d .all)))
 
--- held up to the cap before some digits more, or after them alone
+-- a number moved up and added to is held up to the cap the same, whether it was held before that or not
 capped : (cap x p v : ℕ) → 0 < p → min cap (min cap x * p + v) ≡ min cap (x * p + v)
 capped cap x p v h = go (decLe x cap)
   where
@@ -172,7 +172,7 @@ capped cap x p v h = go (decLe x cap)
 
 -- ---- a number n with digits more that make v and move it up by s: is it below the cap?
 module _ (n v s cap : ℕ) (less : v < s) where
-  -- n is below the cap's upper part
+  -- n is below the cap's upper part: the number is below the cap
   pub below-cap : n < cap / s → n * s + v < cap
   below-cap h =
       let a : suc n * s ≤ cap / s * s = mul-le-mul-right s h in
@@ -182,21 +182,21 @@ module _ (n v s cap : ℕ) (less : v < s) where
       go : (x y : ℕ) → y ≡ x + s → y ≤ cap → x + v < cap
       go x y e l = omega arith
 
-  -- n is that part, and v below the rest
+  -- n is the cap's upper part, and v below the rest: the number is below the cap
   pub at-cap : n ≡ cap / s → v < cap % s → n * s + v < cap
   at-cap e h = subst (λ (x : ℕ). n * s + v < x) (ap (λ (x : ℕ). x * s + cap % s) e ∙ div-add-mod' cap s) (go (n * s) (cap % s) h)
     where
       go : (x y : ℕ) → v < y → x + v < x + y
       go x y h = omega arith
 
-  -- n is that part, and v not below the rest
+  -- n is the cap's upper part, and v not below the rest: the number reaches the cap
   pub full-cap : n ≡ cap / s → cap % s ≤ v → cap ≤ n * s + v
   full-cap e h = subst (λ (x : ℕ). x ≤ n * s + v) (ap (λ (x : ℕ). x * s + cap % s) e ∙ div-add-mod' cap s) (go (n * s) (cap % s) h)
     where
       go : (x y : ℕ) → y ≤ v → x + y ≤ x + v
       go x y h = omega arith
 
-  -- n is above that part
+  -- n is above the cap's upper part: the number reaches the cap
   pub past-cap : cap / s < n → cap ≤ n * s + v
   past-cap h =
       let a : suc (cap / s) * s ≤ n * s = mul-le-mul-right s h in
@@ -213,12 +213,12 @@ module _ (n v s cap : ℕ) (less : v < s) where
 pub held-below : (cap x : ℕ) → x < cap → x ≡ min cap x
 held-below cap x h = omega arith
 
--- any other as the cap
+-- a number from the cap on is held as the cap
 pub held-above : (cap x : ℕ) → cap ≤ x → cap ≡ min cap x
 held-above cap x h = omega arith
 
 module _ (t : List ℕ) (at from cap : ℕ) where
-  -- digits that stand there are read
+  -- digits that stand at the place are read one after the other
   reading-all : (bs : List ℕ) (value i next : ℕ) → i + length bs ≤ length t → Stands t i bs → All digit bs → next ≡ min cap (value * 10 ^ length bs + valueOf bs) → Reading t at from cap value i → Reading t at from cap next (i + length bs)
   unfolding valueOf
   reading-all [] value i next l s a e r = let h = r .held in subst (λ (v : ℕ). Reading t at from cap v (i + 0)) (omega arith) (subst (λ (p : ℕ). Reading t at from cap value p) (omega arith) r)
@@ -237,7 +237,7 @@ module _ (t : List ℕ) (at from cap : ℕ) where
       further : (i n : ℕ) → i + 1 + n ≡ i + suc n
       further i n = omega arith
 
-  -- so many digits at the place are read
+  -- n digits at the place, which make v, are read at once
   pub reading-digits : (value i next n v : ℕ) → i + n ≤ length t → DigitsAt t i n v → next ≡ min cap (value * 10 ^ n + v) → Reading t at from cap value i → Reading t at from cap next (i + n)
   reading-digits value i next n v l d e r =
       subst (λ (k : ℕ). Reading t at from cap next (i + k)) (d .many)
@@ -255,7 +255,7 @@ module _ (t : List ℕ) (at from cap : ℕ) where
 
 -- ---- one byte of the text, or its end
 module _ (t : List ℕ) (i : ℕ) where
-  -- the byte tells whether the sign is `-`
+  -- the byte at the place tells whether the sign is `-`
   pub minus-here : i < length t → eqb (getD t i 0) 45 ≡ minus (drop i t)
   minus-here h = rw (split t i h) refl
 
@@ -263,27 +263,27 @@ module _ (t : List ℕ) (i : ℕ) where
   pub minus-none : length t ≤ i → false ≡ minus (drop i t)
   minus-none h = rw (drop-end t i h) refl
 
-  -- a sign is passed over
+  -- a sign that stands at the place is passed over
   pub sign-passed : i < length t → eqb (getD t i 0) 43 || eqb (getD t i 0) 45 ≡ true → drop (i + 1) t ≡ unsigned (drop i t)
   sign-passed h e = rw (split t i h, e) refl
 
-  -- another byte is not
+  -- a byte that is no sign is not passed over
   pub sign-none : i < length t → eqb (getD t i 0) 43 || eqb (getD t i 0) 45 ≡ false → drop i t ≡ unsigned (drop i t)
   sign-none h e = rw (split t i h, e) refl
 
-  -- nor is the end
+  -- at the end no sign is passed over
   pub sign-end : length t ≤ i → drop i t ≡ unsigned (drop i t)
   sign-end h = rw (drop-end t i h) refl
 
-  -- after a point the digits are read on
+  -- after a point the digits are read on as a fraction
   point : (n : ℕ) → i < length t → eqb (getD t i 0) 46 ≡ true → fractionOf n (drop i t) ≡ pointed (drop (i + 1) t) (numberFrom n (drop (i + 1) t))
   point n h e = rw (split t i h, e) refl
 
-  -- another byte leaves the number as it is
+  -- at a byte that is no point there is no fraction
   no-point : (n : ℕ) → i < length t → eqb (getD t i 0) 46 ≡ false → fractionOf n (drop i t) ≡ mantissa n 0 (drop i t)
   no-point n h e = rw (split t i h, e) refl
 
-  -- so does the end
+  -- at the text's end there is no fraction
   no-byte : (n : ℕ) → length t ≤ i → fractionOf n (drop i t) ≡ mantissa n 0 (drop i t)
   no-byte n h = rw (drop-end t i h) refl
 
@@ -302,7 +302,7 @@ module _ (t : List ℕ) (i : ℕ) where
       gone : i + 1 ≤ r .next → r .next ≤ length t → length (drop (i + 1) t) - length (drop (r .next) t) ≡ r .next - (i + 1)
       gone a b = simp length-drop (omega arith)
 
-  -- no fraction: the number as it is
+  -- where there is no fraction the number stays as it is
   decimal-plain : (from : ℕ) → i ≤ length t → ((n : ℕ) → fractionOf n (drop i t) ≡ mantissa n 0 (drop i t)) → DecimalAt t i from record { value = from; places = 0; next = i }
   decimal-plain from l h = record {
     value = λ n f. f ∙ ap (λ (m : Mantissa). min most (m .value)) (sym (h n));
@@ -313,11 +313,11 @@ module _ (t : List ℕ) (i : ℕ) where
     short = omega arith;
   }
 
-  -- at a byte that is no point
+  -- at a byte that is no point the number stays as it is
   pub decimal-whole : (from : ℕ) → i < length t → eqb (getD t i 0) 46 ≡ false → DecimalAt t i from record { value = from; places = 0; next = i }
   decimal-whole from h e = let l : i ≤ length t = omega arith in decimal-plain from l (λ n. no-point n h e)
 
-  -- at the end
+  -- at the text's end the number stays as it is
   pub decimal-end : (from : ℕ) → i ≤ length t → length t ≤ i → DecimalAt t i from record { value = from; places = 0; next = i }
   decimal-end from l h = decimal-plain from l (λ n. no-byte n h)
 
@@ -329,27 +329,27 @@ module _ (t : List ℕ) (i : ℕ) where
   pub tens-other : i < length t → eqb (getD t i 0) 69 || eqb (getD t i 0) 101 ≡ false → TensAt (drop i t) Malformed
   tens-other h e = rw (split t i h, e) refl
 
-  -- after the letter: u is where the digits begin
+  -- after an exponent's letter: u is where the digits begin
   module _ (h : i < length t) (e : eqb (getD t i 0) 69 || eqb (getD t i 0) 101 ≡ true) (u : ℕ) (us : drop u t ≡ unsigned (drop (i + 1) t)) where
     -- what follows the letter is the exponent, by its sign and digits
     letter : exponentOf (drop i t) ≡ ended (minus (drop (i + 1) t)) (drop u t) (numberFrom 0 (drop u t))
     letter = rw (split t i h, e, us) refl
 
-    -- digits after it are the exponent
+    -- digits after an exponent's letter and sign are the exponent
     pub tens-read : (m : Bool) (x : ℕ) → m ≡ minus (drop (i + 1) t) → PlainAt (drop u t) largest (Plain.Digits x) → TensAt (drop i t) (Power m x)
     tens-read m x s p = (numberFrom 0 (drop u t) .value, letter ∙ rw (p .0, s) refl, p .1)
 
-    -- anything else is malformed
+    -- anything but digits after an exponent's letter and sign is malformed
     pub tens-bad : PlainAt (drop u t) largest Other → TensAt (drop i t) Malformed
     tens-bad p = letter ∙ rw p refl
 
 -- ---- a rest that is digits only
 module _ (t : List ℕ) (u cap : ℕ) (d : Number) (at : NumberAt t u 0 cap d) where
-  -- what is left after the digits begins at their place
+  -- what is left after the digits begins at the place where the code stands
   rest : numberFrom 0 (drop u t) .rest ≡ drop (d .next) t
   rest = at .rest 0
 
-  -- the digits reach the end, and there is one: a number
+  -- the digits reach the text's end, and there is one: the rest is a number
   pub plain-read : d .next ≡ length t → u < length t → PlainAt (drop u t) cap (Plain.Digits (d .value))
   plain-read n l =
       let z : length (numberFrom 0 (drop u t) .rest) ≡ 0 = ap length rest ∙ simp length-drop (omega arith) in
@@ -358,7 +358,7 @@ module _ (t : List ℕ) (u cap : ℕ) (d : Number) (at : NumberAt t u 0 cap d) w
         at .value 0 (omega arith),
       )
 
-  -- they do not, or there is none: no number
+  -- the digits do not reach the text's end, or there is none: the rest is no number
   pub plain-other : eqb (d .next) (length t) && ltb u (length t) ≡ false → PlainAt (drop u t) cap Other
   plain-other f = go (eqb (d .next) (length t)) (ltb u (length t)) refl refl f
     where
@@ -377,7 +377,7 @@ module _ (t : List ℕ) (u cap : ℕ) (d : Number) (at : NumberAt t u 0 cap d) w
           let z : length (numberFrom 0 (drop u t) .rest) ≡ 0 → ⊥ = λ o. n (full (ap length (sym rest) ∙ o) w) in
           rw (ne-eqb (length (numberFrom 0 (drop u t) .rest)) 0 z) refl
 
--- two tests that both hold
+-- two tests that pass together pass each
 pub both : (a b : Bool) → a && b ≡ true → (a ≡ true) × (b ≡ true)
 both true true e = (refl, refl)
 both true false e = let z : _≡_ {A = ℕ} 0 1 = cc in absurd (omega arith)

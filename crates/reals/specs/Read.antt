@@ -25,7 +25,7 @@ use Rattle.reals.specs.declared.Decimal.{Decimal}
 use Rattle.reals.specs.declared.Tens.{Tens}
 use Rattle.reals.specs.declared.Tens.the-variants.{Power, Malformed}
 
--- two rests of a text are as long where they begin at one place
+-- two rests of a text have the same length just where they begin at one place
 same-place : (t : List ℕ) (i j : ℕ) → i ≤ length t → j ≤ length t → eqb (length (drop i t)) (length (drop j t)) ≡ eqb i j
 same-place t i j h k = simp length-drop (go (ℕ-discrete i j))
   where
@@ -40,17 +40,17 @@ module _ (t : List ℕ) (a : ℕ) (here : drop a t ≡ unsigned t) (within : a �
   rest-is : numberFrom 0 (unsigned t) .rest ≡ drop (w .next) t
   rest-is = ap (λ (l : List ℕ). numberFrom 0 l .rest) (sym here) ∙ whole .rest 0
 
-  -- so the fraction is read from there
+  -- the fraction is read from where the code stands after the digits before the point
   mant-is : fractionOf (numberFrom 0 (unsigned t) .value) (numberFrom 0 (unsigned t) .rest) ≡ fractionOf (numberFrom 0 (unsigned t) .value) (drop (w .next) t)
   mant-is = ap (fractionOf (numberFrom 0 (unsigned t) .value)) rest-is
 
-  -- m is held up to its cap
+  -- m, as the code has it, is held up to its cap
   held : d .value ≡ min most (fractionOf (numberFrom 0 (unsigned t) .value) (numberFrom 0 (unsigned t) .rest) .value)
   held =
       decimal .value (numberFrom 0 (unsigned t) .value) (whole .value 0 refl ∙ ap (λ (l : List ℕ). min most (numberFrom 0 l .value)) here)
       ∙ ap (λ (m : Mantissa). min most (m .value)) (sym mant-is)
 
-  -- the number of fraction digits
+  -- the number of fraction digits is as the code has counted
   places : fractionOf (numberFrom 0 (unsigned t) .value) (numberFrom 0 (unsigned t) .rest) .places ≡ d .places
   places = ap (λ (m : Mantissa). m .places) mant-is ∙ decimal .places (numberFrom 0 (unsigned t) .value)
 
@@ -65,7 +65,7 @@ module _ (t : List ℕ) (a : ℕ) (here : drop a t ≡ unsigned t) (within : a �
       ∙ ap (λ (l : List ℕ). eqb (length (drop (w .next) t)) (length l)) (sym here)
       ∙ same-place t (w .next) a (whole .within) within
 
-  -- the parts, by the code's places
+  -- the parse of the text, by the code's places
   parsed-at : parseOf t ≡ pick (eqb (w .next) a && eqb (d .places) 0) unparsed (joined (minus t) (fractionOf (numberFrom 0 (unsigned t) .value) (numberFrom 0 (unsigned t) .rest)) (exponentOf (drop (d .next) t)))
   unfolding parseOf
   parsed-at =
@@ -74,15 +74,15 @@ module _ (t : List ℕ) (a : ℕ) (here : drop a t ≡ unsigned t) (within : a �
       ∙ ap (λ (f : ℕ). pick (eqb (w .next) a && eqb f 0) unparsed (joined (minus t) M (exponentOf (M .rest)))) places
       ∙ ap (λ (l : List ℕ). pick (eqb (w .next) a && eqb (d .places) 0) unparsed (joined (minus t) M (exponentOf l))) after
 
-  -- no digit before or after the point: 12
+  -- a text without a digit before or after the point is 12
   pub no-digit : (which : Reals) → eqb (w .next) a && eqb (d .places) 0 ≡ true → refused 12 ≡ realBy which t
   no-digit which e = sym (unparsed-by which t (parsed-at ∙ rw e refl))
 
-  -- a malformed exponent: 12
+  -- a text with a malformed exponent is 12
   pub bad-tens : (which : Reals) → eqb (w .next) a && eqb (d .places) 0 ≡ false → TensAt (drop (d .next) t) Malformed → refused 12 ≡ realBy which t
   bad-tens which e f = sym (unparsed-by which t (parsed-at ∙ rw (e, f) refl))
 
-  -- else the parts are these
+  -- else the parse has the sign, m, the number of fraction digits and the exponent that the code holds
   good-tens : (s down : Bool) (x : ℕ) → eqb (w .next) a && eqb (d .places) 0 ≡ false → s ≡ minus t → (f : TensAt (drop (d .next) t) (Power down x)) → parsed s (fractionOf (numberFrom 0 (unsigned t) .value) (numberFrom 0 (unsigned t) .rest) .value) (d .places) down (f .0) ≡ parseOf t
   good-tens s down x e m f =
       let M = fractionOf (numberFrom 0 (unsigned t) .value) (numberFrom 0 (unsigned t) .rest) in
@@ -90,7 +90,7 @@ module _ (t : List ℕ) (a : ℕ) (here : drop a t ≡ unsigned t) (within : a �
       ∙ ap (λ (k : ℕ). parsed (minus t) (M .value) k down (f .0)) (sym places)
       ∙ sym (parsed-at ∙ rw (e, f .1) refl)
 
-  -- and the answer the class's
+  -- a text whose parts are well formed answers as the class does of what the code holds
   pub good-class : (s down : Bool) (x : ℕ) (r : Real) → eqb (w .next) a && eqb (d .places) 0 ≡ false → s ≡ minus t → TensAt (drop (d .next) t) (Power down x) → ClassOf s (d .value) (d .places) down x r → toldReal r ≡ realOf t
   unfolding realOf
   good-class s down x r e m f c =
@@ -111,11 +111,11 @@ module _ (t : List ℕ) (a : ℕ) (here : drop a t ≡ unsigned t) (within : a �
       ∙ fraction-rest (numberFrom 0 (unsigned t) .value) (numberFrom 0 (unsigned t) .rest)
       ∙ ap (numberIn (M .value)) after)
 
-  -- which the code holds up to its cap
+  -- m, as the code has it, is the number of the mantissa's digits held up to its cap
   pub m-held : d .value ≡ min most (numberIn 0 (take (d .next - a) (drop a t)))
   m-held = held ∙ ap (min most) (sym digits-held)
 
-  -- and the answer any real's
+  -- a text whose parts are well formed answers as any real does of what the code holds
   pub good-any : (s down : Bool) (x b : ℕ) → eqb (w .next) a && eqb (d .places) 0 ≡ false → s ≡ minus t → TensAt (drop (d .next) t) (Power down x) → AnyAt s (numberIn 0 (take (d .next - a) (drop a t))) (d .places) down x b → read b ≡ anyRealOf t
   unfolding anyRealOf
   good-any s down x b e m f c =

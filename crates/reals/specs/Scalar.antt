@@ -22,23 +22,23 @@ use Rattle.reals.specs.declared.Tens.the-variants.{Power, Malformed}
 use Rattle.reals.specs.declared.Plain.{Plain}
 use Rattle.reals.specs.declared.Plain.the-variants.{Other}
 
--- "Optional sign": what follows it
+-- "Optional sign": what follows it in a text
 abbrev pub unsigned : List ℕ → List ℕ
 unsigned [] = []
 unsigned (c ∷ r) = pick (eqb c 43 || eqb c 45) r (c ∷ r)
 
--- whether the sign is `-`
+-- whether a text's sign is `-`
 abbrev pub minus : List ℕ → Bool
 minus [] = false
 minus (c ∷ r) = eqb c 45
 
--- the number m of all digits, how many stand after the point, and what follows
+-- a mantissa: the number m of all digits, how many stand after the point, and what follows
 pub record Mantissa : Type 0 where
   pub value : ℕ
   pub places : ℕ
   pub rest : List ℕ
 
--- a mantissa of these three
+-- a mantissa of its three parts
 abbrev pub mantissa : ℕ → ℕ → List ℕ → Mantissa
 mantissa m f r = record { value = m; places = f; rest = r }
 
@@ -60,21 +60,21 @@ pub data Exponent : Type 0 where
 abbrev pub digitsOnly : List ℕ → Bool
 digitsOnly u = eqb (length (numberFrom 0 u .rest)) 0 && ltb 0 (length u)
 
--- an exponent is digits only, at least one
+-- an exponent's digits u, of which d is what was read: they are digits only, at least one, or it is malformed
 abbrev pub ended : Bool → List ℕ → Digits → Exponent
 ended s u d = pick (eqb (length (d .rest)) 0 && ltb 0 (length u)) (power s (d .value)) malformed
 
--- nothing is the exponent 0; else the letter, an optional sign and digits
+-- the exponent of a text: 0 of an empty one; else the letter, an optional sign and digits
 abbrev pub exponentOf : List ℕ → Exponent
 exponentOf [] = power false 0
 exponentOf (c ∷ r) = pick (eqb c 69 || eqb c 101) (ended (minus r) (unsigned r) (numberFrom 0 (unsigned r))) malformed
 
--- a real's sign, m, number of fraction digits, and exponent
+-- a real's sign, m, number of fraction digits, and exponent; or what is not written as a real
 pub data Parsed : Type 0 where
   parsed : Bool → ℕ → ℕ → Bool → ℕ → Parsed
   unparsed : Parsed
 
--- a real has a mantissa and a well-formed exponent
+-- a real of a sign, a mantissa and an exponent, which must be well formed
 abbrev pub joined : Bool → Mantissa → Exponent → Parsed
 joined s m (power d x) = parsed s (m .value) (m .places) d x
 joined s m malformed = unparsed
@@ -107,7 +107,7 @@ abbrev pub classIn : ℕ → ℕ → Parsed → Answer ℕ
 classIn long far (parsed s m f d x) = pick (belongs long far m f d x) (read (signed s (nearTen m f d x))) (refused 13)
 classIn long far unparsed = refused 12
 
--- #101: "13 now means outside the wider class"
+-- #101: "13 now means outside the wider class": the answer by the class's own bounds
 abbrev pub classOf : Parsed → Answer ℕ
 classOf p = classIn longest farthest p
 
@@ -115,7 +115,7 @@ classOf p = classIn longest farthest p
 unfoldable pub realOf : List ℕ → Answer ℕ
 realOf t = classOf (parseOf t)
 
--- every well-formed real is answered with the nearest f64, whatever its digits and its exponent: the same without a class
+-- every well-formed real is answered with the nearest f64, whatever its digits and its exponent: there is no class
 abbrev pub anyOf : Parsed → Answer ℕ
 anyOf (parsed s m f d x) = read (signed s (nearTen m f d x))
 anyOf unparsed = refused 12
@@ -125,16 +125,16 @@ unfoldable pub anyRealOf : List ℕ → Answer ℕ
 anyRealOf t = anyOf (parseOf t)
 
 -- ---- integers and references
--- "in the signed 64-bit range"
+-- "in the signed 64-bit range": an integer of this sign and size, or 12
 abbrev pub ranged : Bool → ℕ → Answer ℤ
 ranged false n = pick (ltb n (2 ^ 63)) (read (pos n)) (refused 12)
 ranged true n = pick (leb n (2 ^ 63)) (read (negℤ (pos n))) (refused 12)
 
--- "integers with optional sign"
+-- what a text answers as an integer: "integers with optional sign"
 unfoldable pub wholeOf : List ℕ → Answer ℤ
 wholeOf t = pick (digitsOnly (unsigned t)) (ranged (minus t) (numberFrom 0 (unsigned t) .value)) (refused 12)
 
--- "`#` and digits up to 4294967295"
+-- what the bytes after `#` answer: "`#` and digits up to 4294967295"
 abbrev pub idOf : List ℕ → Answer ℕ
 idOf ds = pick (digitsOnly ds && leb (numberFrom 0 ds .value) 4294967295) (read (numberFrom 0 ds .value)) (refused 12)
 
@@ -145,14 +145,14 @@ referenceOf (c ∷ r) = pick (eqb c 35) (idOf r) (refused 12)
 
 -- ---- what the code's parts promise, at a place of the text; a number is held as itself or, from the cap on, as the cap
 
--- the digits from `at`, after those that gave n: their number, and the place after them
+-- the digits from `at`, after those that gave n: their number, held up to the cap, and the place after them
 pub record NumberAt (t : List ℕ) (at from cap : ℕ) (r : Number) : Type 0 where
   pub value : (n : ℕ) → from ≡ min cap n → r .value ≡ min cap (numberFrom n (drop at t) .value)
   pub rest : (n : ℕ) → numberFrom n (drop at t) .rest ≡ drop (r .next) t
   pub above : at ≤ r .next
   pub within : r .next ≤ length t
 
--- the bytes are a number's digits, or not
+-- the bytes are digits only, and their number is held up to the cap; or they are not
 abbrev pub PlainAt : List ℕ → ℕ → Plain → Type 0
 PlainAt xs cap (Plain.Digits n) = (digitsOnly xs ≡ true) × (n ≡ min cap (numberFrom 0 xs .value))
 PlainAt xs cap Other = digitsOnly xs ≡ false
@@ -174,19 +174,19 @@ pub record DecimalAt (t : List ℕ) (at from : ℕ) (r : Decimal) : Type 0 where
 abbrev pub largest : ℕ
 largest = 2 ^ 64 - 1
 
--- the exponent, held up to the largest number, or none
+-- the exponent of a text, its size held up to the largest number, or malformed
 abbrev pub TensAt : List ℕ → Tens → Type 0
 TensAt xs (Power d x) = (n : ℕ) × (exponentOf xs ≡ power d n) × (x ≡ min largest n)
 TensAt xs Malformed = exponentOf xs ≡ malformed
 
--- the answer for numbers that are held so
+-- r is the answer of the class, where m is held up to its cap and the exponent up to the largest number
 abbrev pub ClassOf : Bool → ℕ → ℕ → Bool → ℕ → Real → Type 0
 ClassOf s m f d x r = (M X : ℕ) → m ≡ min most M → x ≡ min largest X → toldReal r ≡ classOf (parsed s M f d X)
 
--- the power of ten that n digits are multiplied by, where the exponent is held so; no text has 2 ^ 63 of them
+-- the power of ten that n digits are multiplied by, the exponent held up to the largest number; no text has 2 ^ 63 digits
 abbrev pub ScaleAt : ℕ → Bool → ℕ → Scale → Type 0
 ScaleAt f d x r = (M X n : ℕ) → M < 10 ^ n → n < 2 ^ 63 → x ≡ min largest X → nearBy (r .down) M (r .size) ≡ nearTen M f d X
 
--- the answer for any real whose digits make M, where the exponent is held so
+-- b is the answer for any real whose digits make M, where the exponent is held up to the largest number
 abbrev pub AnyAt : Bool → ℕ → ℕ → Bool → ℕ → ℕ → Type 0
 AnyAt s M f d x b = (X : ℕ) → x ≡ min largest X → b ≡ signed s (nearTen M f d X)

@@ -18,7 +18,7 @@ abbrev pub every : (ℕ → Float → Bool) → ℕ → List Float → Bool
 every f i [] = true
 every f i (x ∷ xs) = f i x && every f (suc i) xs
 
--- it passes at entry k, whose place is i + k
+-- a test that passes at each entry of a table, counted from i, passes at entry k
 from : (f : ℕ → Float → Bool) (xs : List Float) (i : ℕ) → T (every f i xs) → (k : ℕ) → k < length xs → T (f (i + k) (getD xs k nan))
 from f [] i t k h = absurd (not-suc-le-zero h)
 from f (x ∷ xs) i t zero h = subst (λ (m : ℕ). T (f m x)) (sym (add-zero i)) (and-l (f i x) (every f (suc i) xs) t)
@@ -26,12 +26,12 @@ from f (x ∷ xs) i t (suc k) h =
     subst (λ (m : ℕ). T (f m (getD xs k nan))) (suc-add i k ∙ sym (add-suc i k))
     (from f xs (suc i) (and-r (f i x) (every f (suc i) xs) t) k (le-of-suc-le-suc h))
 
--- it passes at entry k
+-- a test that passes at each entry of a table passes at entry k
 pub at : (f : ℕ → Float → Bool) (xs : List Float) → T (every f 0 xs) → (k : ℕ) → k < length xs → T (f k (getD xs k nan))
 at f xs t k h = subst (λ (m : ℕ). T (f m (getD xs k nan))) (zero-add k) (from f xs 0 t k h)
 
 -- ---- powers of ten that an f64 holds exactly
--- 10^0 to 10^22, by their patterns
+-- the table of 10^0 to 10^22, by their patterns
 abbrev pub powers : List Float
 powers =
     ofBits binary64 4607182418800017408
@@ -59,16 +59,16 @@ powers =
     ∷ ofBits binary64 4936209963552724370
     ∷ []
 
--- entry k is worth 10 ^ k
+-- the test of the table of powers at entry k: it is worth 10 ^ k, and finite
 abbrev isPower : ℕ → Float → Bool
 isPower k x = eqb (unitsOf (toBits binary64 x)) (10 ^ k * 2 ^ 1074) && ltb (toBits binary64 x) infinity
 
--- every entry is worth its power
+-- every entry of the table of powers is worth its power
 all-powers : T (every isPower 0 powers)
 unfolding toBits ofBits unitsOf
 all-powers = tt
 
--- a positive number's pattern
+-- a finite pattern without a sign is worth its units, and is positive
 plain : (p a : ℕ) → unitsOf p ≡ a → p < infinity → worthOf p ≡ finite false a
 unfolding worthOf
 plain p a e l =
@@ -77,7 +77,7 @@ plain p a e l =
     ap (λ (r : ℕ). cond (ltb r infinity) (finite (negative p) (unitsOf r)) (cond (eqb r infinity) (infinite (negative p)) none)) m
     ∙ rw (lt-ltb p infinity l, lt-leb (2 ^ 63) p g) (ap (finite false) e)
 
--- so entry k is worth 10 ^ k exactly
+-- entry k of the table of powers is worth 10 ^ k exactly
 pub power-worth : (k : ℕ) → k < 23 → worthOf (toBits binary64 (getD powers k nan)) ≡ finite false (10 ^ k * 2 ^ 1074)
 power-worth k h =
     let x = getD powers k nan in
@@ -86,6 +86,6 @@ power-worth k h =
     let B = ltb (toBits binary64 x) infinity in
     plain (toBits binary64 x) (10 ^ k * 2 ^ 1074) (eqb→eq (unitsOf (toBits binary64 x)) (10 ^ k * 2 ^ 1074) (and-l A B t)) (ltb→lt (toBits binary64 x) infinity (and-r A B t))
 
--- the same of the entry that a test has found
+-- entry j of the table of powers is worth 10 ^ k exactly, where a test has found that j is k
 pub power-found : (k j : ℕ) → k ≡ j → j < 23 → worthOf (toBits binary64 (getD powers j nan)) ≡ finite false (10 ^ k * 2 ^ 1074)
 power-found k j e h = power-worth j h ∙ ap (λ (n : ℕ). finite false (10 ^ n * 2 ^ 1074)) (sym e)

@@ -17,7 +17,7 @@ use Rattle.reals.specs.Answer.{Answer, read, refused}
 use Rattle.reals.specs.declared.Plain.{Plain}
 use Rattle.reals.specs.declared.Plain.the-variants.{Other}
 
--- past the cap every number is out of range
+-- a number held up to 2 ^ 64 - 1 is in the signed 64-bit range just where the number itself is
 capped : (s : Bool) (n N : ℕ) → n ≡ min largest N → ranged s n ≡ ranged s N
 capped s n N e = go (decLe N largest)
   where
@@ -33,12 +33,12 @@ capped s n N e = go (decLe N largest)
         out s n a ∙ sym (out s N b)
 
 module _ (t : List ℕ) (a : ℕ) (here : drop a t ≡ unsigned t) where
-  -- the rest is not digits only: 12
+  -- what follows the sign is not digits only: 12
   pub whole-other : PlainAt (drop a t) largest Other → refused 12 ≡ wholeOf t
   unfolding wholeOf
   whole-other p = let q : digitsOnly (unsigned t) ≡ false = ap digitsOnly (sym here) ∙ p in rw q refl
 
-  -- the rest is digits: the number, if it is in range
+  -- what follows the sign is digits: the number, if it is in range
   pub whole-read : (s : Bool) (n : ℕ) → s ≡ minus t → PlainAt (drop a t) largest (Plain.Digits n) → ranged s n ≡ wholeOf t
   unfolding wholeOf
   whole-read s n m p =
@@ -47,7 +47,7 @@ module _ (t : List ℕ) (a : ℕ) (here : drop a t ≡ unsigned t) where
       capped s n (numberFrom 0 (unsigned t) .value) e ∙ ap (λ (b : Bool). ranged b (numberFrom 0 (unsigned t) .value)) m ∙ sym (rw q refl)
 
 module _ (t : List ℕ) where
-  -- an empty text: 12
+  -- an empty text is no reference: 12
   pub reference-none : length t ≤ 0 → refused 12 ≡ referenceOf t
   unfolding referenceOf
   reference-none h = go t h
@@ -56,7 +56,7 @@ module _ (t : List ℕ) where
       go [] h = refl
       go (c ∷ r) h = absurd (omega arith)
 
-  -- the first byte decides
+  -- a reference's first byte decides: `#`, or 12
   at-first : 0 < length t → referenceOf t ≡ pick (eqb (getD t 0 0) 35) (idOf (drop 1 t)) (refused 12)
   unfolding referenceOf
   at-first h = go t h
@@ -65,19 +65,19 @@ module _ (t : List ℕ) where
       go [] h = absurd (omega arith)
       go (c ∷ r) h = refl
 
-  -- another first byte: 12
+  -- a text whose first byte is not `#` is no reference: 12
   pub reference-other : 0 < length t → (getD t 0 0 ≡ 35 → ⊥) → refused 12 ≡ referenceOf t
   reference-other h n = sym (at-first h ∙ rw (ne-eqb (getD t 0 0) 35 n) refl)
 
-  -- after `#` the digits decide
+  -- after `#` the digits decide whether a text is a reference
   hashed : 0 < length t → getD t 0 0 ≡ 35 → referenceOf t ≡ idOf (drop 1 t)
   hashed h e = at-first h ∙ rw (eq-eqb (getD t 0 0) 35 e) refl
 
-  -- not digits only: 12
+  -- after `#` stand not digits only: 12
   pub reference-bad : 0 < length t → getD t 0 0 ≡ 35 → PlainAt (drop 1 t) largest Other → refused 12 ≡ referenceOf t
   reference-bad h e p = sym (hashed h e ∙ rw p refl)
 
-  -- digits up to 4294967295: the number
+  -- after `#` stand digits up to 4294967295: the number
   pub reference-read : (n : ℕ) → 0 < length t → getD t 0 0 ≡ 35 → PlainAt (drop 1 t) largest (Plain.Digits n) → n ≤ 4294967295 → read n ≡ referenceOf t
   reference-read n h e p l = sym (hashed h e ∙ at (numberFrom 0 (drop 1 t) .value) (p .1))
     where
@@ -87,7 +87,7 @@ module _ (t : List ℕ) where
           let y : N ≤ 4294967295 = omega arith in
           rw (p .0, le-leb N 4294967295 y) (ap read z)
 
-  -- a larger number: 12
+  -- after `#` stand digits of a larger number than 4294967295: 12
   pub reference-over : (n : ℕ) → 0 < length t → getD t 0 0 ≡ 35 → PlainAt (drop 1 t) largest (Plain.Digits n) → 4294967295 < n → refused 12 ≡ referenceOf t
   reference-over n h e p l = sym (hashed h e ∙ at (numberFrom 0 (drop 1 t) .value) (p .1))
     where

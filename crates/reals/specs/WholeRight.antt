@@ -24,11 +24,11 @@ use Rattle.reals.specs.Form as Form
 use Rattle.reals.specs.FormRight.{signed-only, signed-is, digits-bare, number-all, some-length}
 
 -- ---- digits, at least one
--- digits, at least one, pass the test
+-- digits, at least one, pass the test of `digitsOnly`
 only-digits : (u : List ℕ) → All digit u → (u ≡ [] → ⊥) → digitsOnly u ≡ true
 only-digits u a n = rw (number-all u a, lt-ltb 0 (length u) (some-length u n)) refl
 
--- their number is the one that is computed
+-- the number of digits is the one that `numberFrom` computes
 value-digits : (u : List ℕ) → All digit u → numberFrom 0 u .value ≡ valueOf u
 value-digits u a = ap (λ (d : Digits). d .value) (number-all u a)
 
@@ -37,7 +37,7 @@ empty : (r : List ℕ) → length r ≡ 0 → r ≡ []
 empty [] e = refl
 empty (c ∷ r) e = absurd (omega arith)
 
--- what passes the test are digits, at least one
+-- what passes the test of `digitsOnly` are digits, at least one
 are-digits : (u : List ℕ) → digitsOnly u ≡ true → All digit u × (u ≡ [] → ⊥)
 are-digits u e = by (number-is u (numberFrom 0 u .value) (numberFrom 0 u .rest) refl)
   where
@@ -55,12 +55,12 @@ are-digits u e = by (number-is u (numberFrom 0 u .value) (numberFrom 0 u .rest) 
         none a b = omega arith
 
 -- ---- integers
--- a number in range is read as it is
+-- an integer in the signed 64-bit range is read as it is
 ranged-in : (s : Bool) (n : ℕ) → Ranged s n → ranged s n ≡ read (valued s n)
 ranged-in false n h = rw (lt-ltb n (2 ^ 63) h) refl
 ranged-in true n h = rw (le-leb n (2 ^ 63) h) refl
 
--- a number is in range, or is refused
+-- an integer is in the signed 64-bit range, or is refused
 ranged-is : (s : Bool) (n : ℕ) → Ranged s n ⊎ ((Ranged s n → ⊥) × (ranged s n ≡ refused 12))
 ranged-is false n = go (decLt n (2 ^ 63))
   where
@@ -99,7 +99,7 @@ integer-is t = go (digitsOnly (unsigned t)) refl
         by d (inl r) = inl (minus t, unsigned t, record { sign = signed-is t; all = d .0; some = d .1; within = r })
         by d (inr r) = inr (ap (ranged (minus t)) (value-digits (unsigned t) (d .0)) ∙ r .1)
 
--- what is computed is the answer, and there is no other
+-- what `wholeOf` computes is the answer by the rule for integers
 pub whole-is : (t : List ℕ) → WholeForm t (wholeOf t)
 whole-is t = go (integer-is t)
   where
@@ -110,7 +110,7 @@ whole-is t = go (integer-is t)
     go (inl (s, ds, i)) = subst (WholeForm t) (sym (integer-only i)) (whole i)
     go (inr e) = subst (WholeForm t) (sym e) (WholeForm.other (λ s ds i. never (sym (integer-only i) ∙ e)))
 
--- and there is no other
+-- no answer but what `wholeOf` computes is allowed by the rule for integers
 pub whole-only : {t : List ℕ} {a : Answer ℤ} → WholeForm t a → a ≡ wholeOf t
 whole-only (whole i) = sym (integer-only i)
 whole-only {t} (WholeForm.other h) = go (integer-is t)
@@ -140,7 +140,7 @@ id-is (c ∷ r) = go (eqb c 35) (digitsOnly r) refl refl
     go true false p q = inr refl
     go true true p q = by (eqb-true c 35 p) (are-digits r q) (decLe (valueOf r) 4294967295)
 
--- what is computed is the answer
+-- what `referenceOf` computes is the answer by the rule for references
 pub reference-is : (t : List ℕ) → ReferenceForm t (referenceOf t)
 reference-is t = go (id-is t)
   where
@@ -151,7 +151,7 @@ reference-is t = go (id-is t)
     go (inl (ds, e, i)) = subst (λ (l : List ℕ). ReferenceForm l (referenceOf l)) (sym e) (subst (ReferenceForm (35 ∷ ds)) (sym (id-only ds i)) (reference ds i))
     go (inr e) = subst (ReferenceForm t) (sym e) (ReferenceForm.other (λ ds f i. never (sym (id-only ds i) ∙ ap referenceOf (sym f) ∙ e)))
 
--- and there is no other
+-- no answer but what `referenceOf` computes is allowed by the rule for references
 pub reference-only : {t : List ℕ} {a : Answer ℕ} → ReferenceForm t a → a ≡ referenceOf t
 reference-only (reference ds i) = sym (id-only ds i)
 reference-only {t} (ReferenceForm.other h) = go (id-is t)

@@ -17,7 +17,7 @@ use Rattle.scalars.specs.declared.NextReal as NextRealCode
 use Rattle.scalars.specs.declared.NextOptReal as NextOptRealCode
 use Rattle.scalars.specs.declared.NextTruth as NextTruthCode
 
--- a value, or `$`
+-- what a parameter that may be unset gives: a value, or `$`
 pub data Given (A : Type 0) : Type 0 where
   given : A → Given A
   unset : Given A

@@ -15,22 +15,22 @@ use Rattle.scalars.specs.Scalars.{isUnset, asGiven, optionOf, Kernel, in
 use Rattle.scalars.specs.Answer.{Given, unset}
 
 -- ---- no refusal but 12
--- an answer that is read, or 12
+-- an answer is read, or is 12
 abbrev pub Twelve : {A : Type 0} → Answer A → Type 0
 Twelve (read a) = Unit {0}
 Twelve (refused n) = n ≡ 12
 
--- where it is a refusal, that is 12
+-- where an answer is read or 12, a refusal of it is 12
 pub twelve-only : {A : Type 0} {a : Answer A} → Twelve a → (n : ℕ) → a ≡ refused n → n ≡ 12
 twelve-only {a = read v} h n e = clash (cc)
 twelve-only {a = refused m} h n e = let z : n ≡ m = cc in z ∙ h
 
--- and where each refusal is 12, it is so
+-- where each refusal of an answer is 12, it is read or 12
 pub twelve-is : {A : Type 0} (a : Answer A) → ((n : ℕ) → a ≡ refused n → n ≡ 12) → Twelve a
 twelve-is (read v) h = tt
 twelve-is (refused n) h = h n refl
 
--- a measure of reals that are refused with 12 alone
+-- a measure is refused with 12 alone, where reals are
 pub measure-12 : (g : List ℕ → Answer ℕ) → ((t : List ℕ) (n : ℕ) → g t ≡ refused n → n ≡ 12) → (t : List ℕ) (n : ℕ) → measureBy g t ≡ refused n → n ≡ 12
 measure-12 g only t = twelve-only (go (g t) (twelve-is (g t) (only t)) (kernelOf t))
   where
@@ -46,7 +46,7 @@ measure-12 g only t = twelve-only (go (g t) (twelve-is (g t) (only t)) (kernelOf
     go (read b) h k = tt
     go (refused m) h k = by (eqb m 12) m h k
 
--- a value that may be unset
+-- a value that may be unset is refused with 12 alone, where the value is
 pub option-12 : {A : Type 0} (g : List ℕ → Answer A) → ((t : List ℕ) (n : ℕ) → g t ≡ refused n → n ≡ 12) → (t : List ℕ) (n : ℕ) → optionOf g t ≡ refused n → n ≡ 12
 option-12 {A} g only t = twelve-only (go (isUnset t) (g t) (twelve-is (g t) (only t)))
   where
@@ -59,16 +59,16 @@ option-12 {A} g only t = twelve-only (go (isUnset t) (g t) (twelve-is (g t) (onl
 pub any-measure-refused : (t : List ℕ) (n : ℕ) → measureBy anyRealOf t ≡ refused n → n ≡ 12
 any-measure-refused = measure-12 anyRealOf any-refused
 
--- so is any real that may be unset
+-- any real that may be unset is read or 12, never 13
 pub opt-any-refused : (t : List ℕ) (n : ℕ) → optionOf anyRealOf t ≡ refused n → n ≡ 12
 opt-any-refused = option-12 anyRealOf any-refused
 
--- and a measure of any real that may be unset
+-- a measure of any real that may be unset is read or 12, never 13
 pub opt-any-measure-refused : (t : List ℕ) (n : ℕ) → optionOf (measureBy anyRealOf) t ≡ refused n → n ≡ 12
 opt-any-measure-refused = option-12 (measureBy anyRealOf) any-measure-refused
 
 -- ---- what f reads, g reads the same
--- in a measure, where what is 12 by f is 12 by g: then both look inside
+-- what f reads as a measure, g reads the same, where what is 12 by f is 12 by g: then both look inside
 pub measure-kept : (f g : List ℕ → Answer ℕ) → ((t : List ℕ) (b : ℕ) → f t ≡ read b → g t ≡ read b) → ((t : List ℕ) → f t ≡ refused 12 → g t ≡ refused 12)
     → (t : List ℕ) (b : ℕ) → measureBy f t ≡ read b → measureBy g t ≡ read b
 measure-kept f g kept other t b e = go (f t) refl (kernelOf t) e
@@ -85,7 +85,7 @@ measure-kept f g kept other t b e = go (f t) refl (kernelOf t) e
     go (read c) h k d = ap (λ (a : Answer ℕ). measured g a k) (kept t c h) ∙ d
     go (refused m) h k d = by (eqb m 12) m refl h k d
 
--- where it may be unset
+-- what f reads as a value that may be unset, g reads the same
 pub option-kept : {A : Type 0} (f g : List ℕ → Answer A) → ((t : List ℕ) (b : A) → f t ≡ read b → g t ≡ read b) → (t : List ℕ) (v : Given A) → optionOf f t ≡ read v → optionOf g t ≡ read v
 option-kept {A} f g kept t v e = go (isUnset t) (f t) refl e
   where
@@ -99,10 +99,10 @@ pub any-measure-kept : (t : List ℕ) (b : ℕ) → measureOf t ≡ read b → m
 unfolding measureOf
 any-measure-kept = measure-kept realOf anyRealOf any-kept any-12
 
--- so do its reals that may be unset
+-- document 01's reals that may be unset keep their values where any real is read
 pub opt-any-kept : (t : List ℕ) (v : Given ℕ) → optionOf realOf t ≡ read v → optionOf anyRealOf t ≡ read v
 opt-any-kept = option-kept realOf anyRealOf any-kept
 
--- and its measures that may be
+-- document 01's measures that may be unset keep their values where any real is read
 pub opt-any-measure-kept : (t : List ℕ) (v : Given ℕ) → optionOf measureOf t ≡ read v → optionOf (measureBy anyRealOf) t ≡ read v
 opt-any-measure-kept = option-kept measureOf (measureBy anyRealOf) any-measure-kept

@@ -26,112 +26,112 @@ use Rattle.scalars.specs.declared.NextReal as NextRealCode
 use Rattle.scalars.specs.declared.NextOptReal as NextOptRealCode
 use Rattle.scalars.specs.declared.NextTruth as NextTruthCode
 
--- the reader that an answer leaves
+-- where the reader stands after an answer
 abbrev stateOf : {A : Type 0} → Read A → State
 stateOf r = record { place = r .place; end = r .end }
 
 -- ---- references
--- the answer that tells this
+-- the code's answer that tells this reference or refusal
 refBack : Told ℕ → State → NextRefCode.NextRef
 refBack (good n) t = NextRefCode.the-variants.Value n t
 refBack (bad q) t = NextRefCode.the-variants.Refused (faultOf q) t
 
--- it is the answer that told it
+-- an answer of `next_ref` can be had back from what it tells
 ref-told : (a : NextRefCode.NextRef) → refBack (toldNextRef a .answer) (stateOf (toldNextRef a)) ≡ a
 unfolding refBack
 ref-told (NextRefCode.the-variants.Value n t) = refl
 ref-told (NextRefCode.the-variants.Refused f t) = ap (λ g. NextRefCode.the-variants.Refused g t) (faultOf-told f)
 
--- `next_ref`
+-- `next_ref`: two answers that tell the same are the same
 pub ref-only : (a b : NextRefCode.NextRef) → toldNextRef a ≡ toldNextRef b → a ≡ b
 ref-only a b e = sym (ref-told a) ∙ ap (λ (r : Read ℕ). refBack (r .answer) (stateOf r)) e ∙ ref-told b
 
--- the answer that tells this reference or `$`
+-- the code's answer that tells this reference, `$` or refusal
 optRefBack : Told (Given ℕ) → State → NextOptRefCode.NextOptRef
 optRefBack (good (given n)) t = NextOptRefCode.the-variants.Value n t
 optRefBack (good unset) t = NextOptRefCode.the-variants.Unset t
 optRefBack (bad q) t = NextOptRefCode.the-variants.Refused (faultOf q) t
 
--- it is the answer that told it
+-- an answer of `next_opt_ref` can be had back from what it tells
 opt-ref-told : (a : NextOptRefCode.NextOptRef) → optRefBack (toldNextOptRef a .answer) (stateOf (toldNextOptRef a)) ≡ a
 unfolding optRefBack
 opt-ref-told (NextOptRefCode.the-variants.Value n t) = refl
 opt-ref-told (NextOptRefCode.the-variants.Unset t) = refl
 opt-ref-told (NextOptRefCode.the-variants.Refused f t) = ap (λ g. NextOptRefCode.the-variants.Refused g t) (faultOf-told f)
 
--- `next_opt_ref`
+-- `next_opt_ref`: two answers that tell the same are the same
 pub opt-ref-only : (a b : NextOptRefCode.NextOptRef) → toldNextOptRef a ≡ toldNextOptRef b → a ≡ b
 opt-ref-only a b e = sym (opt-ref-told a) ∙ ap (λ (r : Read (Given ℕ)). optRefBack (r .answer) (stateOf r)) e ∙ opt-ref-told b
 
 -- ---- integers
--- the answer that tells this
+-- the code's answer that tells this integer or refusal
 wholeBack : Told ℤ → State → NextWholeCode.NextWhole
 wholeBack (good z) t = NextWholeCode.the-variants.Value z t
 wholeBack (bad q) t = NextWholeCode.the-variants.Refused (faultOf q) t
 
--- it is the answer that told it
+-- an answer of `next_i64` can be had back from what it tells
 whole-told : (a : NextWholeCode.NextWhole) → wholeBack (toldNextWhole a .answer) (stateOf (toldNextWhole a)) ≡ a
 unfolding wholeBack
 whole-told (NextWholeCode.the-variants.Value z t) = refl
 whole-told (NextWholeCode.the-variants.Refused f t) = ap (λ g. NextWholeCode.the-variants.Refused g t) (faultOf-told f)
 
--- `next_i64`
+-- `next_i64`: two answers that tell the same are the same
 pub whole-only : (a b : NextWholeCode.NextWhole) → toldNextWhole a ≡ toldNextWhole b → a ≡ b
 whole-only a b e = sym (whole-told a) ∙ ap (λ (r : Read ℤ). wholeBack (r .answer) (stateOf r)) e ∙ whole-told b
 
 -- ---- reals
--- an answer's float is an f64, as every value of the type is
+-- the float of a reader's answer to a real is an f64, as every value of the type is
 abbrev pub NextRealFits : NextRealCode.NextReal → Type 0
 NextRealFits (NextRealCode.the-variants.Value x t) = T (fits binary64 x)
 NextRealFits (NextRealCode.the-variants.Refused f t) = Unit {0}
 
--- the answer that tells this
+-- the code's answer that tells this real or refusal
 realBack : Told ℕ → State → NextRealCode.NextReal
 realBack (good b) t = NextRealCode.the-variants.Value (ofBits binary64 b) t
 realBack (bad q) t = NextRealCode.the-variants.Refused (faultOf q) t
 
--- it is the answer that told it
+-- a reader's answer to a real can be had back from what it tells
 real-told : (a : NextRealCode.NextReal) → NextRealFits a → realBack (toldNextReal a .answer) (stateOf (toldNextReal a)) ≡ a
 unfolding realBack
 real-told (NextRealCode.the-variants.Value x t) h = ap (λ y. NextRealCode.the-variants.Value y t) (ofBits-toBits binary64 x h)
 real-told (NextRealCode.the-variants.Refused f t) h = ap (λ g. NextRealCode.the-variants.Refused g t) (faultOf-told f)
 
--- `next_f64`, `next_measure_f64`, `next_real`, `next_measure`
+-- `next_f64`, `next_measure_f64`, `next_real` and `next_measure`: two answers that tell the same are the same
 pub real-only : (a b : NextRealCode.NextReal) → NextRealFits a → NextRealFits b → toldNextReal a ≡ toldNextReal b → a ≡ b
 real-only a b h k e = sym (real-told a h) ∙ ap (λ (r : Read ℕ). realBack (r .answer) (stateOf r)) e ∙ real-told b k
 
--- the same of an answer that may be unset
+-- the float of a reader's answer to a real that may be unset is an f64, as every value of the type is
 abbrev pub NextOptRealFits : NextOptRealCode.NextOptReal → Type 0
 NextOptRealFits (NextOptRealCode.the-variants.Value x t) = T (fits binary64 x)
 NextOptRealFits (NextOptRealCode.the-variants.Unset t) = Unit {0}
 NextOptRealFits (NextOptRealCode.the-variants.Refused f t) = Unit {0}
 
--- the answer that tells this real or `$`
+-- the code's answer that tells this real, `$` or refusal
 optRealBack : Told (Given ℕ) → State → NextOptRealCode.NextOptReal
 optRealBack (good (given b)) t = NextOptRealCode.the-variants.Value (ofBits binary64 b) t
 optRealBack (good unset) t = NextOptRealCode.the-variants.Unset t
 optRealBack (bad q) t = NextOptRealCode.the-variants.Refused (faultOf q) t
 
--- it is the answer that told it
+-- a reader's answer to a real that may be unset can be had back from what it tells
 opt-real-told : (a : NextOptRealCode.NextOptReal) → NextOptRealFits a → optRealBack (toldNextOptReal a .answer) (stateOf (toldNextOptReal a)) ≡ a
 unfolding optRealBack
 opt-real-told (NextOptRealCode.the-variants.Value x t) h = ap (λ y. NextOptRealCode.the-variants.Value y t) (ofBits-toBits binary64 x h)
 opt-real-told (NextOptRealCode.the-variants.Unset t) h = refl
 opt-real-told (NextOptRealCode.the-variants.Refused f t) h = ap (λ g. NextOptRealCode.the-variants.Refused g t) (faultOf-told f)
 
--- `next_opt_f64`, `next_opt_real`
+-- `next_opt_f64` and `next_opt_real`: two answers that tell the same are the same
 pub opt-real-only : (a b : NextOptRealCode.NextOptReal) → NextOptRealFits a → NextOptRealFits b → toldNextOptReal a ≡ toldNextOptReal b → a ≡ b
 opt-real-only a b h k e = sym (opt-real-told a h) ∙ ap (λ (r : Read (Given ℕ)). optRealBack (r .answer) (stateOf r)) e ∙ opt-real-told b k
 
 -- ---- booleans
--- the answer that tells this
+-- the code's answer that tells this boolean or refusal
 truthBack : Told Logical → State → NextTruthCode.NextTruth
 truthBack (good holds) t = NextTruthCode.the-variants.True t
 truthBack (good fails) t = NextTruthCode.the-variants.False t
 truthBack (good unknown) t = NextTruthCode.the-variants.Unknown t
 truthBack (bad q) t = NextTruthCode.the-variants.Refused (faultOf q) t
 
--- it is the answer that told it
+-- an answer of `next_bool` can be had back from what it tells
 truth-told : (a : NextTruthCode.NextTruth) → truthBack (toldNextTruth a .answer) (stateOf (toldNextTruth a)) ≡ a
 unfolding truthBack
 truth-told (NextTruthCode.the-variants.True t) = refl
@@ -139,7 +139,7 @@ truth-told (NextTruthCode.the-variants.False t) = refl
 truth-told (NextTruthCode.the-variants.Unknown t) = refl
 truth-told (NextTruthCode.the-variants.Refused f t) = ap (λ g. NextTruthCode.the-variants.Refused g t) (faultOf-told f)
 
--- `next_bool`
+-- `next_bool`: two answers that tell the same are the same
 pub truth-only : (a b : NextTruthCode.NextTruth) → toldNextTruth a ≡ toldNextTruth b → a ≡ b
 truth-only a b e = sym (truth-told a) ∙ ap (λ (r : Read Logical). truthBack (r .answer) (stateOf r)) e ∙ truth-told b
 
@@ -151,7 +151,7 @@ pub record TrimmedAt (b : List ℕ) (r : Part) : Type 0 where
   pub ordered : r .start ≤ r .stop
   pub within : r .stop ≤ length b
 
--- `trim`
+-- `trim`: two parts that it may give are the same
 pub trim-only : (b : List ℕ) (x y : Part) → TrimmedAt b x → TrimmedAt b y → x ≡ y
 trim-only b x y h k =
     let a = h .ordered in

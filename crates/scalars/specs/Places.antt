@@ -16,7 +16,7 @@ use Rattle.scalars.specs.Answer.{answered, scalarAt, nextOf}
 
 -- whatever a parameter is read as
 module _ {A : Type 0} (f : List ℕ → Answer A) (s : List ℕ) (p e : ℕ) where
-  -- a refusal lies in the file
+  -- what refuses a scalar lies in the file
   pub next-placed : PlacedIn (length s) (nextOf f s p e .answer)
   unfolding nextOf
   next-placed = mapped-placed (scalarAt f s) s p e (λ a h k. go a (omega arith) (f (take (a .stop - a .start) (drop (a .start) s))))
@@ -25,17 +25,17 @@ module _ {A : Type 0} (f : List ℕ → Answer A) (s : List ℕ) (p e : ℕ) whe
       go a h (read v) = tt
       go a h (refused n) = h
 
-  -- the reader stands between where it was and its end
+  -- after a scalar the reader stands between where it was and its end
   pub next-stands : Inside s p e → Stands p e (nextOf f s p e)
   unfolding nextOf
   next-stands = mapped-stands (scalarAt f s) s p e
 
-  -- outside the file it stays as it came
+  -- a reader that does not lie in the file stays as it came, and answers 9
   pub next-stays : inFile (length s) p e ≡ false → nextOf f s p e ≡ reading (bad (refusal 9 0 0)) p e
   unfolding nextOf
   next-stays = mapped-stays (scalarAt f s) s p e
 
-  -- 12 and 13 stand at the parameter's start, and the reader past the parameter and its comma
+  -- a scalar's 12 and 13 stand at the parameter's start, and the reader past the parameter and its comma
   pub next-past : (q : Refusal) → nextOf f s p e .answer ≡ bad q → 11 < q .number
       → (a : Span) × (paramOf s p e .answer ≡ good a) × (q .place ≡ a .start) × (f (take (a .stop - a .start) (drop (a .start) s)) ≡ refused (q .number)) × Past s p e a (nextOf f s p e .place)
   unfolding nextOf

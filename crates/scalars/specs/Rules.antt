@@ -22,12 +22,12 @@ pub record Typed (t u : List ℕ) : Type 0 where
 -- "A measure is a real or `KEYWORD(real)`.": what it answers, as a real does by its own rule P. Document 01's is this
 -- at `RealForm`, which is document 01's class, as #101 has it
 pub data MeasureForm (P : List ℕ → Answer ℕ → Type 0) : List ℕ → Answer ℕ → Type 0 where
-  -- "a real"
+  -- "a real": the measure has no keyword
   bare : {t : List ℕ} {a : Answer ℕ} → ((u : List ℕ) → Typed t u → ⊥) → P t a → MeasureForm P t a
-  -- "or `KEYWORD(real)`"
+  -- "or `KEYWORD(real)`": what stands in the parentheses decides
   typed : {t u : List ℕ} {a : Answer ℕ} → Typed t u → P u a → MeasureForm P t a
 
--- "`.T.` `.F.` `.U.`": capitals only, as the Rust decides
+-- what a text answers as a boolean: "`.T.` `.F.` `.U.`", capitals only, as the Rust decides
 pub data TruthForm : List ℕ → Answer Logical → Type 0 where
   true : TruthForm (bytes ".T.") (read Scalars.holds)
   false : TruthForm (bytes ".F.") (read Scalars.fails)

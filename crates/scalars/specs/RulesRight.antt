@@ -33,7 +33,7 @@ use Rattle.scalars.specs.Answer.{Given, Logical}
 use Rattle.scalars.specs.Rules.{Typed, MeasureForm, TruthForm, OptionForm}
 
 -- ---- the same bytes
--- texts that differ
+-- texts that differ fail the test for the same bytes
 pub same-not : (x y : List ℕ) → (x ≡ y → ⊥) → same x y ≡ false
 same-not x y h = go (same x y) refl
   where
@@ -46,32 +46,33 @@ same-not x y h = go (same x y) refl
 digit-free : (c : ℕ) → digit c ≡ true → not (eqb c 40) ≡ true
 digit-free c h = let k = bounds 48 c 57 h in rw (ne-eqb c 40 (λ e. absurd (omega arith))) refl
 
+-- digits have no `(`
 digits-free : (f : List ℕ) → All digit f → Free 40 f
 digits-free f = all-kind digit (λ c. not (eqb c 40)) f digit-free
 
--- nor is a sign
+-- an optional sign before a text without `(` has no `(`
 signed-free : {t u : List ℕ} {s : Bool} → Signed t s u → Free 40 u → Free 40 t
 signed-free (Signed.unmarked u) h = h
 signed-free (Signed.plus u) h = (refl, h)
 signed-free (Signed.minus u) h = (refl, h)
 
--- nor the point
+-- a point and its digits have no `(`
 fraction-free : {p f : List ℕ} → Fraction p f → Free 40 p
 fraction-free Fraction.pointless = tt
 fraction-free (Fraction.point f a) = (refl, digits-free f a)
 
--- nor an exponent's letter
+-- an exponent has no `(`
 powered-free : {e x : List ℕ} {d : Bool} → Powered e d x → Free 40 e
 powered-free Powered.powerless = tt
 powered-free (Powered.powered c xs x s (inl e) g a n) = (rw e refl, signed-free g (digits-free x a))
 powered-free (Powered.powered c xs x s (inr e) g a n) = (rw e refl, signed-free g (digits-free x a))
 
--- a real as it is written
+-- what is written as a real has no `(`
 written-free : {t w f x : List ℕ} {s d : Bool} → Written t s w f d x → Free 40 t
 written-free {w} r =
     signed-free (r .sign) (rw (r .shape) (all-join _ w (r .p ++ r .e) (digits-free w (r .whole)) (all-join _ (r .p) (r .e) (fraction-free (r .fraction)) (powered-free (r .power)))))
 
--- a text with a `(` has one
+-- a text with a keyword has a `(`
 typed-opens : {t u : List ℕ} → Typed t u → Free 40 t → ⊥
 typed-opens y h = let (n, k) = all-back (λ c. not (eqb c 40)) (y .keyword) (40 ∷ (y .body ++ (41 ∷ []))) (rw (y .shape) at h) in clash (cc)
 
@@ -80,7 +81,7 @@ pub typed-by : (which : Reals) {t u : List ℕ} → Typed t u → realBy which t
 typed-by which {t} y = unwritten-by which t (λ s d w f x r. typed-opens y (written-free r))
 
 -- ---- `KEYWORD(real)`
--- what follows the `(`, where its last byte is a `)`
+-- what follows the `(` of a text that ends in `)` has a part in parentheses: all but its last byte, trimmed
 enclosed-only : (b : List ℕ) → enclosed (b ++ (41 ∷ [])) ≡ inside (trimmed b)
 enclosed-only b =
     let n : length (b ++ (41 ∷ [])) - 1 ≡ length b = simp length-append (omega arith) in
@@ -90,7 +91,7 @@ enclosed-only b =
     last [] = refl
     last (c ∷ b) = last b
 
--- a text with a keyword has what is computed
+-- the part in parentheses by the rule is the one that is computed
 pub typed-only : {t u : List ℕ} → Typed t u → kernelOf t ≡ inside u
 unfolding kernelOf
 typed-only {t} {u} y =
@@ -98,10 +99,11 @@ typed-only {t} {u} y =
     let e : past unopening t ≡ 40 ∷ r = rw (y .shape) (past-only unopening (y .keyword) (40 ∷ r) record { all = y .first; over = first-other unopening 40 r refl }) in
     ap kernelFrom e ∙ enclosed-only (y .body) ∙ ap inside (sym (trimmed-only (y .trims)))
 
--- a list ends in a `)`, or what stands at its end is none
+-- a list ends in a `)`, or has no part in parentheses
 Ended : List ℕ → Type 0
 Ended r = ((b : List ℕ) × (r ≡ b ++ (41 ∷ []))) ⊎ (enclosed r ≡ bare)
 
+-- every list ends in a `)`, or has no part in parentheses
 ended : (r : List ℕ) → Ended r
 unfolding Ended
 ended [] = inr refl
@@ -121,7 +123,7 @@ ended (c ∷ r) = go c r
         by true e = inl (back c r (eqb-true _ 41 e))
         by false e = inr (rw (n, e) refl)
 
--- a text has a keyword, or none is found
+-- a text has a keyword and parentheses by the rule, or none are found
 pub typed-comes : (t : List ℕ) → ((u : List ℕ) × Typed t u) ⊎ (kernelOf t ≡ bare)
 unfolding kernelOf Ended
 typed-comes t = go (past unopening t) refl (past-is unopening t)
@@ -138,17 +140,17 @@ typed-comes t = go (past unopening t) refl (past-is unopening t)
         cut f r (e ∙ ap (λ (l : List ℕ). f ++ l) (q ∙ ap (λ (d : ℕ). d ∷ r) h)) (s .all) (ended r)
 
 -- ---- measures
--- no text is found in parentheses and not
+-- a text for which no part in parentheses is computed has none by the rule
 none-inside : {t u : List ℕ} → kernelOf t ≡ bare → Typed t u → ⊥
 none-inside e y = clash (cc (typed-only y))
 
--- as g reads reals, none of which has a keyword
+-- measures, as g reads reals, none of which has a keyword
 module _ (g : List ℕ → Answer ℕ) (keyless : (t u : List ℕ) → Typed t u → g t ≡ refused 12) where
-  -- a text with a keyword is read by what stands inside
+  -- a measure with a keyword is read by what stands inside
   measure-typed : {t u : List ℕ} → Typed t u → measureBy g t ≡ g u
   measure-typed {t} {u} y = rw (keyless t u y, typed-only y) refl
 
-  -- another one is read as it stands
+  -- a measure without a keyword is read as it stands
   measure-bare : (t : List ℕ) → kernelOf t ≡ bare → measureBy g t ≡ g t
   measure-bare t e = rw e (go (g t))
     where
@@ -168,7 +170,7 @@ module _ (g : List ℕ → Answer ℕ) (keyless : (t u : List ℕ) → Typed t u
       go (inl (u, y)) = subst (MeasureForm P t) (sym (measure-typed y)) (MeasureForm.typed y (h u))
       go (inr e) = subst (MeasureForm P t) (sym (measure-bare t e)) (MeasureForm.bare (λ u. none-inside e) (h t))
 
-  -- and there is no other
+  -- no answer but what is computed is a measure's by the rule, where that is so of reals
   pub measured-only : (P : List ℕ → Answer ℕ → Type 0) → ((t : List ℕ) (a : Answer ℕ) → P t a → a ≡ g t) → {t : List ℕ} {a : Answer ℕ} → MeasureForm P t a → a ≡ measureBy g t
   measured-only P h (MeasureForm.typed {u} {a} y r) = h u a r ∙ sym (measure-typed y)
   measured-only P h {t} {a} (MeasureForm.bare n r) = go (typed-comes t)
@@ -182,16 +184,16 @@ pub measure-is : (t : List ℕ) → MeasureForm RealForm t (measureOf t)
 unfolding measureOf
 measure-is = measured-is realOf (λ t u. typed-by Class) RealForm real-is
 
--- and nothing else
+-- `next_measure_f64`: no answer but what is computed is a measure's by the rule
 pub measure-only : {t : List ℕ} {a : Answer ℕ} → MeasureForm RealForm t a → a ≡ measureOf t
 unfolding measureOf
 measure-only = measured-only realOf (λ t u. typed-by Class) RealForm (λ t a. real-only)
 
--- "A measure is a real or `KEYWORD(real)`", of any real
+-- "A measure is a real or `KEYWORD(real)`": what is computed of any real is the answer by the rule
 pub any-measure-is : (t : List ℕ) → MeasureForm AnyForm t (measureBy anyRealOf t)
 any-measure-is = measured-is anyRealOf (λ t u. typed-by Any) AnyForm any-is
 
--- and there is no other
+-- no answer but what is computed is by the rule a measure's of any real
 pub any-measure-only : {t : List ℕ} {a : Answer ℕ} → MeasureForm AnyForm t a → a ≡ measureBy anyRealOf t
 any-measure-only = measured-only anyRealOf (λ t u. typed-by Any) AnyForm (λ t a. any-only)
 
@@ -204,7 +206,7 @@ truth-only TruthForm.false = refl
 truth-only TruthForm.unknown = refl
 truth-only {t} (TruthForm.other h k l) = rw (same-not t (bytes ".T.") h, same-not t (bytes ".F.") k, same-not t (bytes ".U.") l) refl
 
--- every text is a boolean, or none
+-- every text has an answer as a boolean by the rules
 truth-comes : (t : List ℕ) → (a : Answer Logical) × TruthForm t a
 truth-comes t = go (same t (bytes ".T.")) (same t (bytes ".F.")) (same t (bytes ".U.")) refl refl refl
   where
@@ -217,13 +219,13 @@ truth-comes t = go (same t (bytes ".T.")) (same t (bytes ".F.")) (same t (bytes 
     go false false true p q r = (_, subst (λ (x : List ℕ). TruthForm x (read Scalars.unknown)) (sym (same-is t _ r)) TruthForm.unknown)
     go false false false p q r = (refused 12, TruthForm.other (differs _ p) (differs _ q) (differs _ r))
 
--- what is computed is the answer
+-- what is computed of a boolean is the answer by the rules
 pub truth-is : (t : List ℕ) → TruthForm t (truthOf t)
 truth-is t = let (a, h) = truth-comes t in subst (TruthForm t) (truth-only h) h
 
 -- ---- `$`
 module _ {A : Type 0} (P : List ℕ → Answer A → Type 0) (f : List ℕ → Answer A) where
-  -- what is computed is the answer, where it is for values
+  -- what is computed of a parameter that may be unset is the answer by the rule, where that is so of values
   pub option-is : ((t : List ℕ) → P t (f t)) → (t : List ℕ) → OptionForm P t (optionOf f t)
   unfolding isUnset
   option-is h t = go (same t (bytes "$")) refl (f t) (h t)
@@ -236,33 +238,33 @@ module _ {A : Type 0} (P : List ℕ → Answer A → Type 0) (f : List ℕ → A
       go false e (read a) p = OptionForm.given (differs e) p
       go false e (refused n) p = OptionForm.other (differs e) p
 
-  -- and there is no other
+  -- no answer but what is computed is by the rule that of a parameter that may be unset, where that is so of values
   pub option-only : ((t : List ℕ) (a : Answer A) → P t a → a ≡ f t) → {t : List ℕ} {a : Answer (Given A)} → OptionForm P t a → a ≡ optionOf f t
   unfolding isUnset same
   option-only h OptionForm.unset = refl
   option-only h {t} (OptionForm.given {a} n p) = rw (same-not t (bytes "$") n) (ap asGiven (h t (read a) p))
   option-only h {t} (OptionForm.other {n} k p) = rw (same-not t (bytes "$") k) (ap asGiven (h t (refused n) p))
 
--- `next_opt_ref`: a reference, or `$`
+-- `next_opt_ref`: what is computed of a reference or `$` is the answer by the rule
 pub opt-reference-is : (t : List ℕ) → OptionForm ReferenceForm t (optionOf referenceOf t)
 opt-reference-is = option-is ReferenceForm referenceOf reference-is
 
--- and nothing else
+-- `next_opt_ref`: no answer but what is computed is by the rule that of a reference or `$`
 pub opt-reference-only : {t : List ℕ} {a : Answer (Given ℕ)} → OptionForm ReferenceForm t a → a ≡ optionOf referenceOf t
 opt-reference-only = option-only ReferenceForm referenceOf (λ t a. reference-only)
 
--- `next_opt_f64`: a real, or `$`
+-- `next_opt_f64`: what is computed of a real or `$` is the answer by the rule
 pub opt-real-is : (t : List ℕ) → OptionForm RealForm t (optionOf realOf t)
 opt-real-is = option-is RealForm realOf real-is
 
--- and nothing else
+-- `next_opt_f64`: no answer but what is computed is by the rule that of a real or `$`
 pub opt-real-only : {t : List ℕ} {a : Answer (Given ℕ)} → OptionForm RealForm t a → a ≡ optionOf realOf t
 opt-real-only = option-only RealForm realOf (λ t a. real-only)
 
--- any real, or `$`
+-- what is computed of any real or `$` is the answer by the rule
 pub opt-any-is : (t : List ℕ) → OptionForm AnyForm t (optionOf anyRealOf t)
 opt-any-is = option-is AnyForm anyRealOf any-is
 
--- and there is no other
+-- no answer but what is computed is by the rule that of any real or `$`
 pub opt-any-only : {t : List ℕ} {a : Answer (Given ℕ)} → OptionForm AnyForm t a → a ≡ optionOf anyRealOf t
 opt-any-only = option-only AnyForm anyRealOf (λ t a. any-only)

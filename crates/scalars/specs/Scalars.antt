@@ -17,11 +17,11 @@ use Rattle.scalars.specs.declared.Inner.the-variants.{Inside, Bare}
 use Rattle.scalars.specs.declared.Truth.{Truth}
 use Rattle.scalars.specs.declared.Truth.the-variants.{True, False, Unknown, NotTruth}
 
--- "`$` unset"
+-- whether a parameter is `$`: "`$` unset"
 unfoldable pub isUnset : List ℕ → Bool
 isUnset t = same t (36 ∷ [])
 
--- a value that is read
+-- an answer as that of a parameter that may be unset, where one is given
 abbrev pub asGiven : {A : Type 0} → Answer A → Answer (Given A)
 asGiven (read a) = read (given a)
 asGiven (refused n) = refused n
@@ -30,7 +30,7 @@ asGiven (refused n) = refused n
 abbrev pub optionOf : {A : Type 0} → (List ℕ → Answer A) → List ℕ → Answer (Given A)
 optionOf f t = pick (isUnset t) (read unset) (asGiven (f t))
 
--- no `(`
+-- a byte is no `(`
 abbrev pub unopening : ℕ → Bool
 unopening c = not (eqb c 40)
 
@@ -43,21 +43,21 @@ pub data Kernel : Type 0 where
 abbrev pub enclosed : List ℕ → Kernel
 enclosed r = pick (eqb (getD r (length r - 1) 0) 41) (inside (trimmed (take (length r - 1) r))) bare
 
--- the rest from the first `(`, if there is one
+-- the part in parentheses by the rest from the first `(`, if there is one
 abbrev pub kernelFrom : List ℕ → Kernel
 kernelFrom [] = bare
 kernelFrom (c ∷ r) = enclosed r
 
--- "`KEYWORD(real)`", where the Rust takes any bytes for the keyword
+-- the part in parentheses of a text: "`KEYWORD(real)`", where the Rust takes any bytes for the keyword
 unfoldable pub kernelOf : List ℕ → Kernel
 kernelOf t = kernelFrom (past unopening t)
 
--- the real that stands inside, as g reads reals
+-- the answer of the part in parentheses, as g reads reals; 12 without one
 abbrev pub kernelReal : (List ℕ → Answer ℕ) → Kernel → Answer ℕ
 kernelReal g (inside t) = g t
 kernelReal g bare = refused 12
 
--- what is no real is looked at once more; "real outside the class" is 13
+-- a measure's answer: what is no real is looked at once more by its parentheses; "real outside the class" is 13
 abbrev pub measured : (List ℕ → Answer ℕ) → Answer ℕ → Kernel → Answer ℕ
 measured g (read b) k = read b
 measured g (refused n) k = pick (eqb n 12) (kernelReal g k) (refused n)
@@ -66,11 +66,11 @@ measured g (refused n) k = pick (eqb n 12) (kernelReal g k) (refused n)
 abbrev pub measureBy : (List ℕ → Answer ℕ) → List ℕ → Answer ℕ
 measureBy g t = measured g (g t) (kernelOf t)
 
--- document 01's own: its reals are those of document 01's class, as #101 has it
+-- document 01's measure: its reals are those of document 01's class, as #101 has it
 unfoldable pub measureOf : List ℕ → Answer ℕ
 measureOf t = measureBy realOf t
 
--- "`.T.` `.F.` `.U.`"
+-- what a text answers as a boolean: "`.T.` `.F.` `.U.`"
 unfoldable pub truthOf : List ℕ → Answer Logical
 truthOf t =
     pick (same t (46 ∷ 84 ∷ 46 ∷ [])) (read holds) (pick (same t (46 ∷ 70 ∷ 46 ∷ [])) (read fails) (pick (same t (46 ∷ 85 ∷ 46 ∷ [])) (read unknown) (refused 12)))

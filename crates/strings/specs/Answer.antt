@@ -10,7 +10,7 @@ use Rattle.strings.specs.Text.{plain, bytesOf}
 use Rattle.strings.specs.declared.Decoded.{Decoded}
 use Rattle.strings.specs.declared.Decoded.the-variants.{Plain, Written, Short}
 
--- "If no quote, backslash or high byte occurs, the text shown is that part of the file; otherwise a part of the lent output. 16
+-- the decoder's answer: "If no quote, backslash or high byte occurs, the text shown is that part of the file; otherwise a part of the lent output. 16
 -- exactly when a text of this second kind is longer than the output."
 abbrev pub decodedOf : List ℕ → ℕ → Decoded
 decodedOf s n = pick (plain s) Plain (pick (leb (length (bytesOf s)) n) (Written (length (bytesOf s))) Short)
@@ -36,7 +36,7 @@ toldText s o Plain = text s
 toldText s o (Written n) = text (take n o)
 toldText s o Short = refused 16
 
--- "16 exactly when a text of this second kind is longer than the output"
+-- the answer of a string by document 01: its text, or "16 exactly when a text of this second kind is longer than the output"
 abbrev pub answerOf : List ℕ → ℕ → Answer
 answerOf s n = pick (plain s || leb (length (bytesOf s)) n) (text (bytesOf s)) (refused 16)
 

@@ -20,7 +20,7 @@ use Rattle.strings.specs.RulesRight.{page-bytes, piece-is, piece-only, r
 -- a string's bytes and its characters by document 01 alone: each piece is read on page A, whatever page a `\P?\` before it named. A piece that is
 -- no `\S\` is the same on every page (page-blind)
 pub data Forgetful : List ℕ → List ℕ → Type 0 where
-  -- no bytes, no characters
+  -- a string without bytes has no characters
   none : Forgetful [] []
   -- a piece, and the text of the bytes after it
   more : {h k : ℕ} {s cs ds : List ℕ} → Rules.Reads pageA s cs k h → Forgetful (drop k s) ds → Forgetful s (cs ++ ds)
@@ -29,7 +29,7 @@ pub data Forgetful : List ℕ → List ℕ → Type 0 where
 abbrev shifts : List ℕ → Bool
 shifts s = Text.is s 0 92 && (Text.is s 1 83 && (Text.is s 2 92 && leb 4 (length s)))
 
--- any other piece is the same on every page
+-- a piece that is no `\S\` is the same on every page
 pub page-blind : (g h : ℕ) (s : List ℕ) → shifts s ≡ false → Text.pieceOf g s ≡ Text.pieceOf h s
 unfolding Text.pieceOf Text.directiveOf
 page-blind g h s n = go (Text.is s 0 92) refl
@@ -47,7 +47,7 @@ forgetful-shift {c} {r = r} d =
 
 -- page A is in force at each piece of a string, and after the last: `\PB\` alone is left out, though its text is the same
 pub data OnPageA : List ℕ → Type 0 where
-  -- there is none
+  -- a string without bytes
   none : OnPageA []
   -- a piece that leaves page A in force, and those after it
   more : {k : ℕ} {s cs : List ℕ} → Rules.Reads pageA s cs k pageA → OnPageA (drop k s) → OnPageA s
@@ -61,7 +61,7 @@ kept {s} (more {h = h} {k = k} {cs = cs} r t) (more {k = n} q a) =
     let (u, v, w) = piece-only q in
     Rules.more (subst (Rules.Reads pageA s cs k) (z ∙ sym w) r) (kept t (subst (λ (m : ℕ). OnPageA (drop m s)) (v ∙ sym y) a))
 
--- and the text is one by document 01 alone
+-- where page A stays in force, the text is one by document 01 alone
 pub kept-back : {s cs : List ℕ} → Rules.Text s cs → OnPageA s → Forgetful s cs
 kept-back t a = back t refl a
   where
@@ -78,7 +78,7 @@ kept-back t a = back t refl a
 abbrev pub Unpaged : List ℕ → Type 0
 Unpaged s = (x r : List ℕ) (b p : ℕ) → s ≡ x ++ (92 ∷ 80 ∷ b ∷ 92 ∷ r) → Selects b p → p ≡ pageA
 
--- the first piece of such bytes leaves page A in force
+-- the first piece of bytes in which no other page is named leaves page A in force
 unpaged-stays : (s : List ℕ) → Unpaged s → Text.pageAfter pageA s ≡ pageA
 unpaged-stays s n = go (Text.is s 0 92 && (Text.is s 1 80 && Text.is s 3 92)) refl
   where
@@ -88,7 +88,7 @@ unpaged-stays s n = go (Text.is s 0 92 && (Text.is s 1 80 && Text.is s 3 92)) re
         page-named pageA s e ∙ n [] (drop 4 s) (byteAt s 2) (pageOf (byteAt s 2)) (page-bytes pageA s o p) (Page.page-is (byteAt s 2))
     go false e = page-stays pageA s e
 
--- and the bytes after a piece are such bytes too
+-- the bytes after a piece of bytes in which no other page is named name none either
 unpaged-rest : (s : List ℕ) (k : ℕ) → Unpaged s → Unpaged (drop k s)
 unpaged-rest s k n x r b p e h = n (take k s ++ x) r b p (sym (take-append-drop k s) ∙ ap (λ (z : List ℕ). take k s ++ z) e ∙ sym (append-assoc (take k s) x (92 ∷ 80 ∷ b ∷ 92 ∷ r))) h
 
@@ -109,10 +109,10 @@ unpaged-on-a s = go (length s) s (omega arith)
     go zero s h = step s (λ t l. absurd (omega arith))
     go (suc m) s h = step s (λ t l. go m t (omega arith))
 
--- so the text that is computed is one by document 01 alone
+-- where no other page is named, the text that is computed is one by document 01 alone
 pub unpaged-back : (s : List ℕ) → Unpaged s → Forgetful s (Text.textOf s)
 unpaged-back s n = kept-back (text-is s) (unpaged-on-a s n)
 
--- and there is no other
+-- where no other page is named, a text by document 01 alone is the one that is computed
 pub unpaged-kept : {s cs : List ℕ} → Forgetful s cs → Unpaged s → cs ≡ Text.textOf s
 unpaged-kept {s} t n = text-only (kept t (unpaged-on-a s n))

@@ -11,7 +11,7 @@ use Rattle.strings.specs.declared.Char.{Char}
 use Rattle.strings.specs.Text.{Group, char, wrong, Piece, plain, pageAfter, textOn}
 use Rattle.strings.specs.Put.{Laid}
 
--- a group that took no byte is a bad one
+-- the group that the code's answer tells: one that took no byte is a bad one
 abbrev pub toldGroup : Char → Group
 toldGroup c = pick (eqb (c .used) 0) wrong (char (c .code) (c .used))
 
@@ -20,7 +20,7 @@ pub record View : Type 0 where
   pub written : List ℕ
   pub used : ℕ
 
--- a piece's view
+-- a piece as the code sees it, of a piece as the text has it
 abbrev pub viewOf : Piece → View
 viewOf p = record { written = encodeAll (p .chars); used = p .used }
 
@@ -33,13 +33,13 @@ pub record Moved (p : Piece) (a : ℕ) (o : List ℕ) (e k : ℕ) (q : List ℕ)
   pub put : Laid a o (encodeAll (p .chars)) e q
   pub read : k ≡ p .used
 
--- the first n bytes are plain, and where n is before a place, plain is not all
+-- the first n bytes of s are plain, and where n is less than `to`, not all of s is plain
 pub record Passed (s : List ℕ) (to n : ℕ) : Type 0 where
   pub within : n ≤ to
   pub plainly : plain (take n s) ≡ true
   pub stops : n < to → plain s ≡ false
 
--- plain bytes at the start are put from place a on
+-- k plain bytes at the start are put from place a on
 pub record Ran (s : List ℕ) (a : ℕ) (o : List ℕ) (e k : ℕ) (q : List ℕ) : Type 0 where
   pub within : k ≤ length s
   pub plainly : plain (take k s) ≡ true

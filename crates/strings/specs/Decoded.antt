@@ -17,23 +17,23 @@ use Rattle.strings.specs.Answer.{most, decodedOf, roomAfter, shownOf, to
 use Rattle.strings.specs.Ample.{text-ample}
 use Rattle.strings.specs.Shown.{told-text}
 
--- what `decode_string` owes: the answer, the room, and what the two tell
+-- what `decode_string` owes: the answer, the room, and what these two tell
 abbrev pub Answered : List ℕ → List ℕ → List ℕ → Decoded → Type 0
 Answered s o p d = (d ≡ decodedOf s (length o)) × ((p ≡ roomAfter s o) × (toldText s p d ≡ answerOf s (length o)))
 
--- the answer and the room tell the text or 16
+-- an answer and a room that are as defined tell the text or 16
 answered : (s o p : List ℕ) (d : Decoded) → d ≡ decodedOf s (length o) → p ≡ roomAfter s o → Answered s o p d
 answered s o p d e f = (e, (f, told-text s o p d e f))
 
--- the text is the string's bytes
+-- a string that is plain: its text is the string's own bytes, and the room is untouched
 pub decoded-plain : (s o : List ℕ) → plain s ≡ true → Answered s o o Plain
 decoded-plain s o h = answered s o o Plain (rw h refl) (rw h refl)
 
--- the text is longer than the room
+-- a text that is longer than the room: the answer is `Short`, and the room is untouched
 pub decoded-short : (s o : List ℕ) (n : ℕ) → plain s ≡ false → n ≡ min most (length (bytesOf s)) → length o < n → Answered s o o Short
 decoded-short s o n h e l = let k = lt-leb (length (bytesOf s)) (length o) (omega arith) in answered s o o Short (rw (h, k) refl) (rw (h, k) refl)
 
--- the text is put into the room
+-- a text that fits is put into the room: the answer is how many bytes it has
 pub decoded-written : (s o p : List ℕ) (n r : ℕ) → plain s ≡ false → n ≡ min most (length (bytesOf s)) → n ≤ length o → length o < most → Laid 0 o (bytesOf s) r p → Answered s o p (Written n)
 decoded-written s o p n r h e l m d =
     let q : n ≡ length (bytesOf s) = omega arith in

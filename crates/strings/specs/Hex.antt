@@ -11,7 +11,7 @@ use Rattle.common.specs.Pick.{pick}
 use Rattle.utf8.specs.Utf8.{byteAt, scalar}
 use Rattle.strings.specs.Text.{hexDigit, hexValue, twoAt, twoOf, fourAt, fourOf, Group, char, wrong, shown, high, low, joined, pairOf, groupTwo, groupFour}
 
--- the parts of a conjunction
+-- two tests that pass together pass each
 pub both : (a b : Bool) → a && b ≡ true → (a ≡ true) × (b ≡ true)
 both true b e = (refl, e)
 both false b e = let z : _≡_ {A = Bool} false true = e in (z, absurd (false-true z))
@@ -19,7 +19,7 @@ both false b e = let z : _≡_ {A = Bool} false true = e in (z, absurd (false-tr
     false-true : _≡_ {A = Bool} false true → ⊥
     false-true z = let w : _≡_ {A = ℕ} 0 1 = ap (λ (t : Bool). pick t 1 0) z in absurd (omega arith)
 
--- one of two that do not hold together
+-- two tests of which none passes fail each
 pub neither : (a b : Bool) → a || b ≡ false → (a ≡ false) × (b ≡ false)
 neither true b e = (e, absurd (true-false e))
   where
@@ -31,7 +31,7 @@ neither false b e = (refl, e)
 pub byte-past : (s : List ℕ) (k : ℕ) → length s ≤ k → 256 ≡ byteAt s k
 byte-past s k h = sym (List·getD-eq-default s 256 h)
 
--- what a hex digit is
+-- a hex digit by its range: `0` to `9`, `A` to `F` or `a` to `f`
 pub data Digit (b : ℕ) : Type 0 where
   decimal : 48 ≤ b → b ≤ 57 → Digit b
   capital : 65 ≤ b → b ≤ 70 → Digit b
@@ -47,7 +47,7 @@ digit b e = go (leb 48 b && leb b 57) (leb 65 b && leb b 70) (leb 97 b && leb b 
     go false false true p q r = let k = both (leb 97 b) (leb b 102) r in small (leb-true 97 b (k .0)) (leb-true b 102 (k .1))
     go false false false p q r = let w : _≡_ {A = Bool} false true = sym (rw (p, q, r) refl) ∙ e in let u : _≡_ {A = ℕ} 0 1 = ap (λ (t : Bool). pick t 1 0) w in absurd (omega arith)
 
--- a hex digit's value, and the code's sum for it
+-- a hex digit's value is below 16, and is the code's sum for it
 hex-both : (b : ℕ) → hexDigit b ≡ true → (hexValue b < 16) × (b % 16 + b / 64 * 9 ≡ hexValue b)
 hex-both b e = go (digit b e)
   where
@@ -83,48 +83,48 @@ four-within s k e =
     let z = hex-within s (k + 2 + 1) (y .1) in
     omega arith
 
--- what would hold only within the list does not hold past its end
+-- a number asked for past the end of the list is what stands for none, if it could stand only within the list
 pub not-past : (t : Bool) (v n e l : ℕ) → (t ≡ true → e ≤ l) → l < e → n ≡ pick t v n
 not-past true v n e l f h = let k = f refl in absurd (omega arith)
 not-past false v n e l f h = refl
 
--- fewer than two bytes are no two hex digits
+-- fewer than two bytes are no two hex digits: 256 stands for them
 pub two-past : (s : List ℕ) (k : ℕ) → length s < k + 2 → 256 ≡ pick (twoAt s k) (twoOf s k) 256
 two-past s k = not-past (twoAt s k) (twoOf s k) 256 (k + 2) (length s) (λ e. let z = hex-within s (k + 1) (both (hexDigit (byteAt s k)) (hexDigit (byteAt s (k + 1))) e .1) in omega arith)
 
--- fewer than four bytes are no four
+-- fewer than four bytes are no four hex digits: 65536 stands for them
 pub four-past : (s : List ℕ) (k : ℕ) → length s < k + 4 → 65536 ≡ pick (fourAt s k) (fourOf s k) 65536
 four-past s k = not-past (fourAt s k) (fourOf s k) 65536 (k + 4) (length s) (four-within s k)
 
 -- two bytes of a list, as the code reads them
 module _ (s : List ℕ) (k a b : ℕ) (ea : a ≡ byteAt s k) (eb : b ≡ byteAt s (k + 1)) where
-  -- they are hex digits
+  -- two bytes that are hex digits: v is their number
   pub two-is : (v : ℕ) → hexDigit a && hexDigit b ≡ true → v ≡ hexValue a * 16 + hexValue b → v ≡ pick (twoAt s k) (twoOf s k) 256
   two-is v h e = rw (sym ea, sym eb, h) e
 
-  -- they are not
+  -- two bytes that are not both hex digits: 256 stands for them
   pub two-not : hexDigit a && hexDigit b ≡ false → 256 ≡ pick (twoAt s k) (twoOf s k) 256
   two-not h = rw (sym ea, sym eb, h) refl
 
-  -- four bytes of it
+  -- four bytes of a list, as the code reads them
   module _ (c d : ℕ) (ec : c ≡ byteAt s (k + 2)) (ed : d ≡ byteAt s (k + 3)) where
     last : d ≡ byteAt s (k + 2 + 1)
     last = let e : k + 3 ≡ k + 2 + 1 = omega arith in ed ∙ ap (byteAt s) e
 
-    -- they are hex digits
+    -- four bytes that are hex digits: their number is that of the two pairs
     pub four-is : (v w : ℕ) → (hexDigit a && hexDigit b) && (hexDigit c && hexDigit d) ≡ true → v ≡ hexValue a * 16 + hexValue b → w ≡ hexValue c * 16 + hexValue d → v * 256 + w ≡ pick (fourAt s k) (fourOf s k) 65536
     four-is v w h e f = rw (sym ea, sym eb, sym ec, sym last, h, e, f) refl
 
-    -- they are not
+    -- four bytes that are not all hex digits: 65536 stands for them
     pub four-not : (hexDigit a && hexDigit b) && (hexDigit c && hexDigit d) ≡ false → 65536 ≡ pick (fourAt s k) (fourOf s k) 65536
     four-not h = rw (sym ea, sym eb, sym ec, sym last, h) refl
 
--- a value below the bound is one that was there
+-- what is picked is below its bound only where the test passes
 pub there : (t : Bool) (v n : ℕ) → pick t v n < n → t ≡ true
 there true v n h = refl
 there false v n h = absurd (omega arith)
 
--- and one at the bound was not
+-- what is picked is at its bound only where the test fails
 pub absent : (t : Bool) (v n : ℕ) → (t ≡ true → v < n) → n ≤ pick t v n → t ≡ false
 absent true v n k h = let l = k refl in absurd (omega arith)
 absent false v n k h = refl
@@ -137,7 +137,7 @@ two-below s k e =
     let y = hex-below (byteAt s (k + 1)) (j .1) in
     omega arith
 
--- that of four is below 65536
+-- the number of four hex digits is below 65536
 pub four-below : (s : List ℕ) (k : ℕ) → fourAt s k ≡ true → fourOf s k < 65536
 four-below s k e =
     let j = both (twoAt s k) (twoAt s (k + 2)) e in
@@ -145,20 +145,20 @@ four-below s k e =
     let y = two-below s (k + 2) (j .1) in
     omega arith
 
--- the parts of what is there or above its bound
+-- what is picked and below its bound: the test passes, and it is the value
 pub found : (t : Bool) (v n a : ℕ) → a ≡ pick t v n → a < n → (t ≡ true) × (a ≡ v)
 found t v n a e h = let x = there t v n (rw (sym e) h) in (x, e ∙ rw x refl)
 
--- what is at its bound is not there
+-- what is picked and at its bound or above: the test fails
 pub missed : (t : Bool) (v n a : ℕ) → (t ≡ true → v < n) → a ≡ pick t v n → n ≤ a → t ≡ false
 missed t v n a k e h = absent t v n k (rw (sym e) h)
 
--- a group of four digits that is none
+-- where no four hex digits stand there is no group of four
 pub two-wrong : (s : List ℕ) (a : ℕ) → a ≡ pick (fourAt s 0) (fourOf s 0) 65536 → 65536 ≤ a → wrong ≡ groupTwo s
 unfolding groupTwo
 two-wrong s a e h = rw (missed (fourAt s 0) (fourOf s 0) 65536 a (four-below s 0) e h) refl
 
--- a high surrogate without a second group
+-- a high surrogate without four hex digits after it is no group
 pub two-single : (s : List ℕ) (a b : ℕ) → a ≡ pick (fourAt s 0) (fourOf s 0) 65536 → a < 65536 → high a ≡ true → b ≡ pick (fourAt s 4) (fourOf s 4) 65536 → 65536 ≤ b → wrong ≡ groupTwo s
 unfolding groupTwo
 two-single s a b e h g f l =
@@ -166,7 +166,7 @@ two-single s a b e h g f l =
     let hi : high (fourOf s 0) ≡ true = rw (sym (x .1)) g in
     rw (x .0, hi, missed (fourAt s 4) (fourOf s 4) 65536 b (four-below s 4) f l) refl
 
--- a high surrogate and a second group
+-- a high surrogate and a second group are one character of eight digits
 pub two-pair : (s : List ℕ) (a b : ℕ) → a ≡ pick (fourAt s 0) (fourOf s 0) 65536 → a < 65536 → high a ≡ true → b ≡ pick (fourAt s 4) (fourOf s 4) 65536 → b < 65536 → char (joined a b) 8 ≡ groupTwo s
 unfolding groupTwo
 two-pair s a b e h g f l =
@@ -175,7 +175,7 @@ two-pair s a b e h g f l =
     let hi : high (fourOf s 0) ≡ true = rw (sym (x .1)) g in
     rw (x .0, hi, y .0, x .1, y .1) refl
 
--- a group of four digits alone
+-- four hex digits that are no high surrogate are a group of their own
 pub two-alone : (s : List ℕ) (a : ℕ) → a ≡ pick (fourAt s 0) (fourOf s 0) 65536 → a < 65536 → high a ≡ false → char (shown a) 4 ≡ groupTwo s
 unfolding groupTwo
 two-alone s a e h g =
@@ -183,7 +183,7 @@ two-alone s a e h g =
     let hi : high (fourOf s 0) ≡ false = rw (sym (x .1)) g in
     rw (x .0, hi, x .1) refl
 
--- a group of eight digits that is none
+-- where no eight hex digits stand there is no group of eight
 pub four-wrong : (s : List ℕ) (a b : ℕ) → a ≡ pick (fourAt s 0) (fourOf s 0) 65536 → b ≡ pick (fourAt s 4) (fourOf s 4) 65536 → leb 65536 a || leb 65536 b ≡ true → wrong ≡ groupFour s
 unfolding groupFour
 four-wrong s a b e f h = go (fourAt s 0) (fourAt s 4) (leb 65536 a) (leb 65536 b) refl refl refl refl h
@@ -203,7 +203,7 @@ four-wrong s a b e f h = go (fourAt s 0) (fourAt s 4) (leb 65536 a) (leb 65536 b
         absurd (omega arith)
     go true true false false p q i j k = let z : _≡_ {A = ℕ} 0 1 = ap (λ (o : Bool). pick o 1 0) k in absurd (omega arith)
 
--- a group of eight digits
+-- eight hex digits are a group
 pub four-char : (s : List ℕ) (a b : ℕ) → a ≡ pick (fourAt s 0) (fourOf s 0) 65536 → b ≡ pick (fourAt s 4) (fourOf s 4) 65536 → leb 65536 a || leb 65536 b ≡ false → char (shown (a * 65536 + b)) 8 ≡ groupFour s
 unfolding groupFour
 four-char s a b e f h =
@@ -212,7 +212,7 @@ four-char s a b e f h =
     let y = found (fourAt s 4) (fourOf s 4) 65536 b f (leb-false 65536 b (k .1)) in
     rw (x .0, y .0, x .1, y .1) refl
 
--- no byte is above 256, nor is what stands for none
+-- a byte of a list, or what stands for none past its end, is 256 at most
 pub byte-small : (s : List ℕ) (k : ℕ) → getD s k 0 < 256 → byteAt s k ≤ 256
 byte-small [] k h = omega arith
 byte-small (b ∷ r) zero h = omega arith

@@ -65,6 +65,7 @@ endExtended = 92 ∷ 88 ∷ 48 ∷ 92 ∷ []
 -- what stands between the apostrophes, and its text; the first argument is the page in force, its letter's byte less 65: 0 to 8 for A to I, from 9
 -- up no page. Page A is in force at the start
 pub data Iso : ℕ → List ℕ → List ℕ → Type 0 where
+  -- nothing stands there, or nothing more
   ends : {p : ℕ} → Iso p [] []
   -- "SPECIAL | DIGIT | SPACE | LOWER | UPPER"
   basic : {p : ℕ} {b : ℕ} {r cs : List ℕ} → Basic b → Iso p r cs → Iso p (b ∷ r) (b ∷ cs)

@@ -30,7 +30,7 @@ hex-is b (Iso.letter h) = go (leb 48 b && leb b 57)
     go true = refl
     go false = rw (le-leb 65 b (h .0), le-leb b 70 (h .1)) refl
 
--- and no backslash
+-- a hex digit of ISO is no backslash
 hex-no-backslash : (b : ℕ) → Iso.Hex b → eqb b 92 ≡ false
 hex-no-backslash b (Iso.digit h) = ne-eqb b 92 (λ e. absurd (omega arith))
 hex-no-backslash b (Iso.letter h) = ne-eqb b 92 (λ e. absurd (omega arith))
@@ -40,7 +40,7 @@ character-scalar : (c : ℕ) → Iso.Character c → scalar c ≡ true
 character-scalar c (Iso.below h) = rw (lt-ltb c 55296 (omega arith)) refl
 character-scalar c (Iso.above h) = rw (le-ltb c 55296 (omega arith), le-leb 57344 c (h .0), le-leb c 1114111 (h .1)) refl
 
--- and no high surrogate
+-- a character of ISO 10646 is no high surrogate
 character-low : (c : ℕ) → Iso.Character c → Text.high c ≡ false
 character-low c (Iso.below h) = rw (lt-leb 55296 c (omega arith)) refl
 character-low c (Iso.above h) = rw (le-leb 55296 c (omega arith), le-ltb c 56320 (omega arith)) refl
@@ -54,23 +54,23 @@ piece-then g h s r cs ds k l e f p d t =
     ∙ ap (λ (z : List ℕ). cs ++ Text.textOn h z) d
     ∙ ap (λ (z : List ℕ). cs ++ z) t
 
--- no page is named where no `P` comes after a backslash
+-- where no `P` comes after a backslash the page stays
 slash-stays : (g a : ℕ) (r : List ℕ) → eqb a 80 ≡ false → Text.pageAfter g (92 ∷ a ∷ r) ≡ g
 slash-stays g a r e = page-stays g (92 ∷ a ∷ r) (rw e refl)
 
--- a byte that stands for itself
+-- a byte of ISO's basic alphabet is its own piece
 piece-basic : (g b : ℕ) (r : List ℕ) → Iso.Basic b → Text.pieceOf g (b ∷ r) ≡ Text.gives (b ∷ []) 1
 unfolding Text.pieceOf
 piece-basic g b r (Iso.to-ampersand h) = rw (ne-eqb b 92 (λ e. absurd (omega arith)), ne-eqb b 39 (λ e. absurd (omega arith)), lt-ltb b 128 (omega arith)) refl
 piece-basic g b r (Iso.to-bracket h) = rw (ne-eqb b 92 (λ e. absurd (omega arith)), ne-eqb b 39 (λ e. absurd (omega arith)), lt-ltb b 128 (omega arith)) refl
 piece-basic g b r (Iso.to-tilde h) = rw (ne-eqb b 92 (λ e. absurd (omega arith)), ne-eqb b 39 (λ e. absurd (omega arith)), lt-ltb b 128 (omega arith)) refl
 
--- a valid sequence whose first byte is 80 or more
+-- a valid sequence whose first byte is 80 or more is a piece
 piece-lead : (g f : ℕ) (t : List ℕ) (c k : ℕ) → 128 ≤ f → leadOf (f ∷ t) ≡ valid c k → Text.pieceOf g (f ∷ t) ≡ Text.gives (c ∷ []) k
 unfolding Text.pieceOf
 piece-lead g f t c k h e = rw (ne-eqb f 92 (λ z. absurd (omega arith)), ne-eqb f 39 (λ z. absurd (omega arith)), le-ltb f 128 h, e) refl
 
--- a character from 80 up, in UTF-8
+-- a character from 80 up, in UTF-8, is a piece, and the page stays
 piece-high : (g c : ℕ) (x r : List ℕ) → In 128 1114111 c → Encoded c x → (0 < length x) × (Text.pieceOf g (x ++ r) ≡ Text.gives (c ∷ []) (length x)) × (Text.pageAfter g (x ++ r) ≡ g)
 piece-high g c _ r h (Encoded.line-one l) = absurd (omega arith)
 piece-high g c _ r h (Encoded.line-two {x = x} {y = y} l e p q) = (omega arith, piece-lead g (192 + x) ((128 + y) ∷ r) c 2 (omega arith) (table-leads (Encoded.line-two l e p q) r), plain-stays g ((192 + x) ∷ (128 + y) ∷ r) (λ z. omega arith))
@@ -79,7 +79,7 @@ piece-high g c _ r h (Encoded.line-three {x = x} {y = y} {z = z} l n e p q s) =
 piece-high g c _ r h (Encoded.line-four {x = x} {y = y} {z = z} {w = w} l e p q s u) =
     (omega arith, piece-lead g (240 + x) ((128 + y) ∷ (128 + z) ∷ (128 + w) ∷ r) c 4 (omega arith) (table-leads (Encoded.line-four l e p q s u) r), plain-stays g ((240 + x) ∷ (128 + y) ∷ (128 + z) ∷ (128 + w) ∷ r) (λ z. omega arith))
 
--- the digits of a group, and the group of document 01
+-- ISO's four hex digits of a character are a group of document 01
 two-group : (x : List ℕ) (c : ℕ) (t : List ℕ) → Iso.Two x c → Iso.Character c
     → (Text.groupOf 4 (x ++ t) ≡ Text.char c 4) × (length x ≡ 4) × (Text.is (x ++ t) 0 92 ≡ false)
 unfolding Text.groupTwo
@@ -87,7 +87,7 @@ two-group _ _ t (Iso.two (Iso.one {a = a} {b = b} ha hb) (Iso.one {a = d} {b = e
     let n = (Text.hexValue a * 16 + Text.hexValue b) * 256 + (Text.hexValue d * 16 + Text.hexValue e) in
     (rw (hex-is a ha, hex-is b hb, hex-is d hd, hex-is e he, character-low n k, character-scalar n k) refl, refl, hex-no-backslash a ha)
 
--- the same of eight digits
+-- ISO's eight hex digits of a character are a group of document 01
 four-group : (x : List ℕ) (c : ℕ) (t : List ℕ) → Iso.Four x c → Iso.Character c
     → (Text.groupOf 8 (x ++ t) ≡ Text.char c 8) × (length x ≡ 8) × (Text.is (x ++ t) 0 92 ≡ false)
 unfolding Text.groupFour
@@ -96,7 +96,7 @@ four-group _ _ t (Iso.four (Iso.two (Iso.one {a = a} {b = b} ha hb) (Iso.one {a 
     let n = (Text.hexValue f * 16 + Text.hexValue g) * 256 + (Text.hexValue i * 16 + Text.hexValue j) in
     (rw (hex-is a ha, hex-is b hb, hex-is d hd, hex-is e he, hex-is f hf, hex-is g hg, hex-is i hi, hex-is j hj, character-scalar (m * 65536 + n) k) refl, refl, hex-no-backslash a ha)
 
--- one group, and the groups after it
+-- one group, and the groups after it, as document 01 reads them
 group-then : (w : ℕ) (x t : List ℕ) (c : ℕ) (cs : List ℕ) (n : ℕ) → 0 < w → Text.groupOf w (x ++ t) ≡ Text.char c w → length x ≡ w → Text.is (x ++ t) 0 92 ≡ false
     → Text.groupsFrom w 0 t ≡ Text.ended cs n → Text.groupsFrom w 0 (x ++ t) ≡ Text.ended (c ∷ cs) (length x + n)
 group-then w x t c cs n p g l b e =
@@ -114,7 +114,7 @@ end-groups w r = groups-stop w (Iso.endExtended ++ r) (omega arith) (stop (ltb (
     stop true = refl
     stop false = refl
 
--- "HEX_TWO { HEX_TWO } END_EXTENDED"
+-- "HEX_TWO { HEX_TWO } END_EXTENDED": document 01 reads these groups to their end
 twos-groups : {g cs : List ℕ} (r : List ℕ) → Iso.Twos g cs → Text.groupsFrom 4 0 (g ++ (Iso.endExtended ++ r)) ≡ Text.ended cs (length g + 4)
 twos-groups r (Iso.Twos.last {x = x} {c = c} t k) =
     let g = two-group x c (Iso.endExtended ++ r) t k in
@@ -125,7 +125,7 @@ twos-groups r (Iso.Twos.next {x = x} {r = y} {c = c} {cs = cs} t k m) =
     ∙ group-then 4 x (y ++ (Iso.endExtended ++ r)) c cs (length y + 4) (omega arith) (g .0) (g .1) (g .2) (twos-groups r m)
     ∙ ap (Text.ended (c ∷ cs)) (omega (arith, length-append x y))
 
--- "HEX_FOUR { HEX_FOUR } END_EXTENDED"
+-- "HEX_FOUR { HEX_FOUR } END_EXTENDED": document 01 reads these groups to their end
 fours-groups : {g cs : List ℕ} (r : List ℕ) → Iso.Fours g cs → Text.groupsFrom 8 0 (g ++ (Iso.endExtended ++ r)) ≡ Text.ended cs (length g + 4)
 fours-groups r (Iso.Fours.last {x = x} {c = c} t k) =
     let g = four-group x c (Iso.endExtended ++ r) t k in
@@ -140,12 +140,12 @@ fours-groups r (Iso.Fours.next {x = x} {r = y} {c = c} {cs = cs} t k m) =
 drop-groups : (g r : List ℕ) → drop (length g + 4) (g ++ (Iso.endExtended ++ r)) ≡ r
 drop-groups g r = sym (drop-drop 4 (length g) (g ++ (Iso.endExtended ++ r))) ∙ ap (drop 4) (drop-append-seam g (Iso.endExtended ++ r))
 
--- "`\X2\` groups of four"
+-- "`\X2\` groups of four": the piece with their characters
 piece-two : (q : ℕ) (g r cs : List ℕ) → Text.groupsFrom 4 0 (g ++ (Iso.endExtended ++ r)) ≡ Text.ended cs (length g + 4) → Text.pieceOf q (92 ∷ 88 ∷ 50 ∷ 92 ∷ (g ++ (Iso.endExtended ++ r))) ≡ Text.gives cs (4 + (length g + 4))
 unfolding Text.pieceOf Text.directiveOf
 piece-two q g r cs e = rw e refl
 
--- "and `\X4\` of eight hex digits"
+-- "and `\X4\` of eight hex digits": the piece with their characters
 piece-four : (q : ℕ) (g r cs : List ℕ) → Text.groupsFrom 8 0 (g ++ (Iso.endExtended ++ r)) ≡ Text.ended cs (length g + 4) → Text.pieceOf q (92 ∷ 88 ∷ 52 ∷ 92 ∷ (g ++ (Iso.endExtended ++ r))) ≡ Text.gives cs (4 + (length g + 4))
 unfolding Text.pieceOf Text.directiveOf
 piece-four q g r cs e = rw e refl
@@ -169,7 +169,7 @@ piece-page g a r = refl
 abbrev known : ℕ → ℕ
 known p = pick (ltb p 9) p pageA
 
--- a capital letter, or the low line
+-- the page that a capital letter or the low line selects, as ISO and as document 02 have it
 page-known : (a : ℕ) → Iso.Upper a → pageOf a ≡ known (a - 65)
 page-known a (Iso.capital (l, h)) = go (ltb a 74) refl
   where
@@ -182,7 +182,7 @@ page-known a (Iso.capital (l, h)) = go (ltb a 74) refl
         rw (le-leb 65 a l, lt-leb a 73 (omega arith), lt-leb 97 a (omega arith), le-ltb (a - 65) 9 (omega arith)) refl
 page-known _ Iso.low-line = refl
 
--- "apply the page to every later `\S\`": it is named
+-- "apply the page to every later `\S\`": after ISO's `\P?\` that page is in force
 alphabet-names : (g a : ℕ) (r : List ℕ) → Iso.Upper a → Text.pageAfter g (92 ∷ 80 ∷ a ∷ 92 ∷ r) ≡ known (a - 65)
 alphabet-names g a r h = page-named g (92 ∷ 80 ∷ a ∷ 92 ∷ r) refl ∙ page-known a h
 
@@ -202,7 +202,7 @@ basic-other b (Iso.to-ampersand h) e = omega (arith, h)
 basic-other b (Iso.to-bracket h) e = omega (arith, h)
 basic-other b (Iso.to-tilde h) e = omega (arith, h)
 
--- what stands between the apostrophes of such a string has ISO's text, from every page on
+-- what stands between the apostrophes of a string of ISO has ISO's text, from every page on
 pub iso-on : {p : ℕ} {s cs : List ℕ} → Iso.Iso p s cs → Text.textOn (known p) s ≡ cs
 unfolding Text.textOn Text.textFrom
 iso-on Iso.Iso.ends = refl
@@ -223,12 +223,12 @@ iso-on {p} (Iso.Iso.arbitrary {x = x} {r = r} {cs = cs} {c = c} o i) =
     let k = piece-octet (known p) x r c o in
     piece-then (known p) (known p) (92 ∷ 88 ∷ 92 ∷ (x ++ r)) r (c ∷ []) cs 5 (omega arith) (k .0) (slash-stays (known p) 88 (92 ∷ (x ++ r)) refl) (omega arith) (k .1) (iso-on i)
 
--- what stands between the apostrophes of such a string has ISO's text
+-- what stands between the apostrophes of a string of ISO has ISO's text
 pub iso-text : {s cs : List ℕ} → Iso.Iso 0 s cs → Text.textOf s ≡ cs
 unfolding Text.textOf
 iso-text i = iso-on i
 
--- `\X2\00C40042\X0\` stands for U+00C4 and B
+-- document 01's example 7: `\X2\00C40042\X0\` stands for U+00C4 and B
 pub seven : Iso.Iso 0 (92 ∷ 88 ∷ 50 ∷ 92 ∷ 48 ∷ 48 ∷ 67 ∷ 52 ∷ 48 ∷ 48 ∷ 52 ∷ 50 ∷ 92 ∷ 88 ∷ 48 ∷ 92 ∷ []) (196 ∷ 66 ∷ [])
 seven =
     Iso.Iso.extended2

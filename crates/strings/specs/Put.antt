@@ -21,11 +21,11 @@ pub record Laid (a : ℕ) (o bs : List ℕ) (e : ℕ) (p : List ℕ) : Type 0 wh
   pub counted : e ≡ min most (a + length bs)
   pub laid : (pre post : List ℕ) → o ≡ pre ++ post → length pre ≡ a → length bs ≤ length post → p ≡ pre ++ (bs ++ drop (length bs) post)
 
--- no byte changes nothing
+-- where no byte is put the room stays
 pub laid-none : (a : ℕ) (o : List ℕ) → a ≤ most → Laid a o [] a o
 laid-none a o h = record { counted = omega arith; laid = λ pre post e l k. e }
 
--- bytes, and then further bytes
+-- bytes are put, and then further bytes after them
 pub laid-then : (a : ℕ) (o xs : List ℕ) (e : ℕ) (p ys : List ℕ) (f : ℕ) (q : List ℕ) → length o ≤ most → Laid a o xs e p → Laid e p ys f q → Laid a o (xs ++ ys) f q
 laid-then a o xs e p ys f q m x y = record { counted = rw (length-append xs ys) (omega (arith, x .counted, y .counted)); laid = go }
   where
@@ -46,11 +46,11 @@ unfolding encodeAll
 encode-append [] ys = refl
 encode-append (x ∷ xs) ys = ap (λ (z : List ℕ). encode x ++ z) (encode-append xs ys) ∙ sym (append-assoc (encode x) (encodeAll xs) (encodeAll ys))
 
--- characters, and then further characters
+-- characters are put, and then further characters after them
 pub laid-chars : (a : ℕ) (o xs : List ℕ) (e : ℕ) (p ys : List ℕ) (f : ℕ) (q : List ℕ) → length o ≤ most → Laid a o (encodeAll xs) e p → Laid e p (encodeAll ys) f q → Laid a o (encodeAll (xs ++ ys)) f q
 laid-chars a o xs e p ys f q m x y = rw (encode-append xs ys) (laid-then a o (encodeAll xs) e p (encodeAll ys) f q m x y)
 
--- no character
+-- where no character is put the room stays
 pub laid-nothing : (a : ℕ) (o : List ℕ) → a ≤ most → Laid a o (encodeAll []) a o
 unfolding encodeAll
 laid-nothing a o h = laid-none a o h
@@ -85,7 +85,7 @@ put-run a o s n e p h k l =
     let w : length (take n s) ≡ n = length-take-le n s h in
     put-laid a o (take n s) p e (rw w k) (rw w l)
 
--- a turn of a loop that copies
+-- a turn of a loop that copies: one byte more is pasted
 pub paste-more : (o : List ℕ) (a : ℕ) (s : List ℕ) (k : ℕ) (p : List ℕ) → a + k < length o → k < length s → p ≡ paste o a s k → set p (a + k) (getD s k 0) ≡ paste o a s (k + 1)
 paste-more o a s k p h l e = rw (add-one, e) (paste-suc o a s k 0 h l)
 

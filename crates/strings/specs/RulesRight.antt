@@ -25,7 +25,7 @@ use Rattle.strings.specs.Hex.{both, neither, hex-within, four-within}
 use Rattle.strings.specs.Steps.{is-within, ends, groups-stop, groups-wrong, groups-char, piece-fits, text-goes, page-stays, plain-stays}
 use Rattle.strings.specs.Rules
 
--- a test that holds does not fail
+-- from a test that passes and fails anything follows
 differ : {A : Type 0} (t : Bool) → t ≡ true → t ≡ false → A
 differ t p q = let z : _≡_ {A = ℕ} 0 1 = ap (λ (u : Bool). pick u 0 1) (sym p ∙ q) in absurd (omega arith)
 
@@ -61,7 +61,7 @@ hex-is b e = go (leb 48 b && leb b 57) (leb 65 b && leb b 70) (leb 97 b && leb b
 within : (l h b : ℕ) → l ≤ b → b ≤ h → leb l b && leb b h ≡ true
 within l h b p q = rw (le-leb l b p, le-leb b h q) refl
 
--- one above it fails it
+-- a number above a range fails its test
 over : (l h b : ℕ) → l ≤ b → h < b → leb l b && leb b h ≡ false
 over l h b p q = rw (le-leb l b p, lt-leb b h q) refl
 
@@ -86,7 +86,7 @@ hex-only (Rules.small {v = v} h) = one (97 + v) v refl h
       rw (lt-leb b 57 (omega arith), lt-leb b 70 (omega arith)) (omega arith),
     )
 
--- four hex digits as computed are four
+-- four bytes that are computed to be hex digits are four by the rule
 pub four-is : (s : List ℕ) → Text.fourAt s 0 ≡ true → Rules.Four s (Text.fourOf s 0)
 four-is [] e = let h = four-within [] 0 e in absurd (omega arith)
 four-is (a ∷ []) e = let h = four-within (a ∷ []) 0 e in absurd (omega arith)
@@ -102,7 +102,7 @@ four-is (a ∷ b ∷ c ∷ d ∷ r) e =
     sum : (i j k l : ℕ) → i * 4096 + j * 256 + k * 16 + l ≡ (i * 16 + j) * 256 + (k * 16 + l)
     sum i j k l = omega arith
 
--- four hex digits are computed to be four, of their number
+-- four hex digits by the rule are computed to be four, of their number
 pub four-only : {s : List ℕ} {n : ℕ} → Rules.Four s n → (Text.fourAt s 0 ≡ true) × (Text.fourOf s 0 ≡ n)
 four-only (Rules.digits {i = i} {j = j} {k = k} {l = l} p q t u) =
     let (a, e) = hex-only p in
@@ -111,18 +111,18 @@ four-only (Rules.digits {i = i} {j = j} {k = k} {l = l} p q t u) =
     let (d, h) = hex-only u in
     (rw (a, b, c, d) refl, rw (e, f, g, h) (omega arith))
 
--- the four after the first four
+-- the four digits after the first four, counted from there or from the start
 four-next : (s : List ℕ) → (Text.fourAt (drop 4 s) 0 ≡ Text.fourAt s 4) × (Text.fourOf (drop 4 s) 0 ≡ Text.fourOf s 4)
 four-next s = (
   rw (getD-drop 4 s 0 256, getD-drop 4 s 1 256, getD-drop 4 s 2 256, getD-drop 4 s 3 256) refl,
   rw (getD-drop 4 s 0 256, getD-drop 4 s 1 256, getD-drop 4 s 2 256, getD-drop 4 s 3 256) refl,
 )
 
--- computed after the first four
+-- four bytes after the first four that are computed to be hex digits are four by the rule
 second-is : (s : List ℕ) → Text.fourAt s 4 ≡ true → Rules.Four (drop 4 s) (Text.fourOf s 4)
 second-is s e = let (p, q) = four-next s in subst (Rules.Four (drop 4 s)) q (four-is (drop 4 s) (p ∙ e))
 
--- standing after the first four
+-- four hex digits by the rule after the first four are computed to be four, of their number
 second-only : (s : List ℕ) (n : ℕ) → Rules.Four (drop 4 s) n → (Text.fourAt s 4 ≡ true) × (Text.fourOf s 4 ≡ n)
 second-only s n f = let (p, q) = four-next s in let (t, u) = four-only f in (sym p ∙ t, sym q ∙ u)
 
@@ -137,7 +137,7 @@ shown-is n = go (decLt n 55296) (decLt n 57344) (decLt 1114111 n)
     go (no a) (no b) (yes h) = rw (scalar-above n h) (Rules.beyond h)
     go (no a) (no b) (no c) = rw (scalar-high n (omega arith) (omega arith)) (Rules.above {n = n} (omega arith, omega arith))
 
--- and no other
+-- no character but the one that is computed is a code's
 pub shown-only : {n c : ℕ} → Rules.Shown n c → Text.shown n ≡ c
 shown-only {n} (Rules.below h) = rw (scalar-low n h) refl
 shown-only {n} (Rules.above (l, h)) = rw (scalar-high n l h) refl
@@ -148,7 +148,7 @@ shown-only {n} (Rules.beyond h) = rw (scalar-above n h) refl
 half : (l h b : ℕ) → l ≤ b → b < h → leb l b && ltb b h ≡ true
 half l h b p q = rw (le-leb l b p, lt-ltb b h q) refl
 
--- one outside it fails it
+-- a number outside a range whose end is left out fails its test
 outside : (l h b : ℕ) → (l ≤ b → b < h → ⊥) → leb l b && ltb b h ≡ false
 outside l h b n = go (leb l b && ltb b h) refl
   where
@@ -156,7 +156,7 @@ outside l h b n = go (leb l b && ltb b h) refl
     go true e = let (p, q) = both (leb l b) (ltb b h) e in absurd (n (leb-true l b p) (ltb-true b h q))
     go false e = e
 
--- a good group is computed to be one
+-- a good group by the rule is computed to be one
 pub good-only : {w : ℕ} {s : List ℕ} {c k : ℕ} → Rules.GoodGroup w s c k → Text.groupOf w s ≡ Text.char c k
 unfolding Text.groupTwo Text.groupFour
 good-only {s = s} (Rules.single {n = n} f h g) =
@@ -182,12 +182,12 @@ good-only {s = s} (Rules.eight {n = n} {m = m} f g h) =
     let (t, e) = second-only s m g in
     rw (p, q, t, e, shown-only h) refl
 
--- a group as computed is told: a good one of this character and these bytes, or none
+-- what a group as computed is by the rules: a good one of its character and its bytes, or nothing is said
 abbrev Told : ℕ → List ℕ → Text.Group → Type 0
 Told w s (Text.char c k) = Rules.GoodGroup w s c k
 Told w s Text.wrong = Unit {0}
 
--- a group of four digits
+-- a group of four digits as computed is as `Told` says
 two-told : (s : List ℕ) → Told 4 s (Text.groupTwo s)
 unfolding Text.groupTwo
 two-told s = go (Text.fourAt s 0) refl
@@ -220,7 +220,7 @@ two-told s = go (Text.fourAt s 0) refl
     go true p = first (Text.high (Text.fourOf s 0)) refl p
     go false p = tt
 
--- a group of eight
+-- a group of eight digits as computed is as `Told` says
 four-told : (s : List ℕ) → Told 8 s (Text.groupFour s)
 unfolding Text.groupFour
 four-told s = go (Text.fourAt s 0 && Text.fourAt s 4) refl
@@ -231,20 +231,20 @@ four-told s = go (Text.fourAt s 0 && Text.fourAt s 4) refl
         Rules.eight (four-is s p) (second-is s q) (shown-is (Text.fourOf s 0 * 65536 + Text.fourOf s 4))
     go false e = tt
 
--- a group of either kind
+-- a group as computed, of four digits or of eight, is as `Told` says
 told : {d w : ℕ} (s : List ℕ) → Rules.Named d w → Told w s (Text.groupOf w s)
 told s Rules.two = two-told s
 told s Rules.four = four-told s
 
--- a group as computed is a good one
+-- a group as computed is a good one by the rule
 pub good-is : {d w : ℕ} (s : List ℕ) (c k : ℕ) → Rules.Named d w → Text.groupOf w s ≡ Text.char c k → Rules.GoodGroup w s c k
 good-is {w = w} s c k n e = subst (Told w s) e (told s n)
 
--- a group is a character or none
+-- from a group that is a character and is none anything follows
 apart : {A : Type 0} (c k : ℕ) → Text.char c k ≡ Text.wrong → A
 apart c k e = let z : _≡_ {A = ℕ} 0 1 = cc in absurd (omega arith)
 
--- where no good group stands, none is computed
+-- where no good group stands by the rule, none is computed
 pub good-none : {d w : ℕ} (s : List ℕ) → Rules.Named d w → ((c k : ℕ) → Rules.GoodGroup w s c k → ⊥) → Text.groupOf w s ≡ Text.wrong
 good-none {w = w} s n h = go (Text.groupOf w s) refl
   where
@@ -299,11 +299,11 @@ high-alone {s} {n} f (l, h) g =
     go false e = refl
 
 -- ---- the groups of a directive
--- the list from a byte that is there
+-- where the byte at k is a, the list from k on begins with a
 here : (s : List ℕ) (k a : ℕ) → a < 256 → Text.is s k a ≡ true → drop k s ≡ a ∷ drop (suc k) s
 here s k a h e = drop-cons s k 256 (is-within s k a h e) ∙ ap (λ (b : ℕ). b ∷ drop (suc k) s) (eqb-true (byteAt s k) a e)
 
--- two bytes that are there
+-- where the first two bytes are a and b, the list begins with them
 here-two : (s : List ℕ) (a b : ℕ) → a < 256 → b < 256 → Text.is s 0 a ≡ true → Text.is s 1 b ≡ true → s ≡ a ∷ b ∷ drop 2 s
 here-two s a b h i p q = here s 0 a h p ∙ ap (λ (r : List ℕ). a ∷ r) (here s 1 b i q)
 
@@ -315,11 +315,11 @@ slash-ends w r = go (ltb (length (92 ∷ r)) w)
     go true = refl
     go false = refl
 
--- they do not end where a group may start
+-- the groups do not end where a group may start
 group-starts : (w : ℕ) (s : List ℕ) → w ≤ length s → Text.is s 0 92 ≡ false → ends w s ≡ false
 group-starts w s h e = rw (le-ltb (length s) w h, e) refl
 
--- no `\X0` after the backslash
+-- where no `\X0` stands, the test for one behind the backslash fails
 unclosed : (r : List ℕ) → ((q : List ℕ) → r ≡ 88 ∷ 48 ∷ q → ⊥) → Text.is r 0 88 && Text.is r 1 48 ≡ false
 unclosed r h = go (Text.is r 0 88 && Text.is r 1 48) refl
   where
@@ -327,12 +327,12 @@ unclosed r h = go (Text.is r 0 88 && Text.is r 1 48) refl
     go true e = let (p, q) = both (Text.is r 0 88) (Text.is r 1 48) e in absurd (h (drop 2 r) (here-two r 88 48 (omega arith) (omega arith) p q))
     go false e = refl
 
--- no byte is left
+-- where no byte is left the groups end
 groups-none : (w : ℕ) → Text.groupsFrom w 0 [] ≡ Text.ended [] 0
 unfolding Text.groupsFrom
 groups-none w = refl
 
--- groups to their end are computed so
+-- groups to their end by the rule are computed so
 pub groups-only : {w : ℕ} {s cs : List ℕ} {n : ℕ} → Rules.Groups w s cs n → Text.groupsFrom w 0 s ≡ Text.ended cs n
 groups-only {w} Rules.at-end = groups-none w
 groups-only {w} (Rules.closed {b = b} {r = r}) =
@@ -350,7 +350,7 @@ groups-only {w} {s} (Rules.next {cs = cs} {c = c} {k = k} {n = n} g t) =
     let (l, b, p, q) = good-starts g in
     groups-char w s c k (omega arith) (group-starts w s l b) (good-only g) q ∙ ap (Text.withChar c k) (groups-only t)
 
--- no backslash stands first
+-- where no backslash stands first, the test for one fails
 unslashed : (s : List ℕ) → (Begins 92 s → ⊥) → Text.is s 0 92 ≡ false
 unslashed s h = go (Text.is s 0 92) refl
   where
@@ -358,7 +358,7 @@ unslashed s h = go (Text.is s 0 92) refl
     go true e = absurd (h (drop 1 s, here s 0 92 (omega arith) e))
     go false e = refl
 
--- groups up to a bad one are computed so
+-- groups up to a bad one by the rule are computed so
 pub broken-only : {d w : ℕ} {s cs : List ℕ} → Rules.Named d w → Rules.Broken w s cs → Text.groupsFrom w 0 s ≡ Text.broken cs
 broken-only {w = w} {s = s} n (Rules.bad b) = groups-wrong w s (omega (arith, b .whole, wide n)) (group-starts w s (b .whole) (unslashed s (b .unmarked))) (good-none s n (b .not-good))
   where
@@ -369,12 +369,12 @@ broken-only {w = w} {s = s} n (Rules.good {cs = cs} {c = c} {k = k} g t) =
     let (l, b, p, q) = good-starts g in
     groups-char w s c k (omega arith) (group-starts w s l b) (good-only g) q ∙ ap (Text.withChar c k) (broken-only n t)
 
--- the groups as computed are told: to their end, or up to a bad one
+-- what the groups as computed are by the rules: groups to their end, or groups up to a bad one
 abbrev Run : ℕ → List ℕ → Text.Groups → Type 0
 Run w s (Text.ended cs n) = Rules.Groups w s cs n
 Run w s (Text.broken cs) = Rules.Broken w s cs
 
--- one group more in front
+-- one group more in front of groups that are as `Run` says: so are all of them
 run-next : (w : ℕ) (s : List ℕ) (c k : ℕ) (g : Text.Groups) → Rules.GoodGroup w s c k → Run w (drop k s) g → Run w s (Text.withChar c k g)
 run-next w s c k (Text.ended cs n) h t = Rules.next h t
 run-next w s c k (Text.broken cs) h t = Rules.good h t
@@ -394,7 +394,7 @@ run-slash w r = go (Text.is r 0 88 && Text.is r 1 48) refl
         subst (λ (z : List ℕ). Rules.Groups w (92 ∷ z) [] (min 4 (length (92 ∷ z)))) f (last (drop 2 r))
     go false e = Rules.another (λ q f. differ (Text.is r 0 88 && Text.is r 1 48) (ap (λ (z : List ℕ). Text.is z 0 88 && Text.is z 1 48) f) e)
 
--- the groups end
+-- where the groups end as computed, they do by the rule
 run-stop : (w b : ℕ) (r : List ℕ) → ends w (b ∷ r) ≡ true → Rules.Groups w (b ∷ r) [] (Text.closing (b ∷ r))
 run-stop w b r e = go (eqb b 92) refl
   where
@@ -408,7 +408,7 @@ run-stop w b r e = go (eqb b 92) refl
         let f : 0 ≡ Text.closing (b ∷ r) = rw p refl in
         subst (Rules.Groups w (b ∷ r) []) f (Rules.cut (eqb-false b 92 p) (ltb-true (length (b ∷ r)) w (short (ltb (length (b ∷ r)) w) (eqb b 92) e p)))
 
--- the groups as computed are told where those of shorter lists are
+-- the groups as computed are as `Run` says, where those of shorter lists are
 run-step : {d w : ℕ} (s : List ℕ) → Rules.Named d w → ((t : List ℕ) → length t < length s → Run w t (Text.groupsFrom w 0 t)) → Run w s (Text.groupsFrom w 0 s)
 run-step {w = w} [] n ih = subst (Run w []) (sym (groups-none w)) Rules.at-end
 run-step {w = w} (b ∷ r) n ih = go (ends w (b ∷ r)) refl
@@ -432,7 +432,7 @@ run-step {w = w} (b ∷ r) n ih = go (ends w (b ∷ r)) refl
     go true e = subst (Run w (b ∷ r)) (sym (groups-stop w (b ∷ r) (omega arith) e)) (run-stop w b r e)
     go false e = group (Text.groupOf w (b ∷ r)) refl e
 
--- the groups as computed are told
+-- the groups of a directive as computed are as `Run` says
 run-is : {d w : ℕ} (s : List ℕ) → Rules.Named d w → Run w s (Text.groupsFrom w 0 s)
 run-is {d} {w} s n = go (length s) s (omega arith)
   where
@@ -440,11 +440,11 @@ run-is {d} {w} s n = go (length s) s (omega arith)
     go zero s h = run-step s n (λ t l. absurd (omega arith))
     go (suc m) s h = run-step s n (λ t l. go m t (omega arith))
 
--- groups that are computed to end do
+-- groups that are computed to end do by the rule
 pub groups-is : {d w : ℕ} (s cs : List ℕ) (n : ℕ) → Rules.Named d w → Text.groupsFrom w 0 s ≡ Text.ended cs n → Rules.Groups w s cs n
 groups-is {w = w} s cs n m e = subst (Run w s) e (run-is s m)
 
--- and those that are computed to be broken off are
+-- groups that are computed to be broken off are by the rule
 pub broken-is : {d w : ℕ} (s cs : List ℕ) → Rules.Named d w → Text.groupsFrom w 0 s ≡ Text.broken cs → Rules.Broken w s cs
 broken-is {w = w} s cs m e = subst (Run w s) e (run-is s m)
 
@@ -453,7 +453,7 @@ broken-is {w = w} s cs m e = subst (Run w s) e (run-is s m)
 abbrev Directs : ℕ → List ℕ → Text.Piece → ℕ → Type 0
 Directs g s p h = Rules.Directive g s (p .chars) (p .used) h
 
--- the piece that a directive with groups gives
+-- the piece that is computed of a directive with groups is the one of the rule
 extended-is : {d w : ℕ} (g : ℕ) (r : List ℕ) → Rules.Named d w → Directs g (92 ∷ 88 ∷ d ∷ 92 ∷ r) (Text.extended (Text.groupsFrom w 0 r)) g
 extended-is {d} {w} g r n = go (Text.groupsFrom w 0 r) (run-is r n)
   where
@@ -467,12 +467,12 @@ unfolding Text.pieceOf Text.directiveOf
 named-is g r Rules.two = refl
 named-is g r Rules.four = refl
 
--- two hex digits after `\X\`
+-- two hex digits after `\X\` are computed to be one octet
 octet-is : (g a b : ℕ) (r : List ℕ) → Text.hexDigit a ≡ true → Text.hexDigit b ≡ true → Text.pieceOf g (92 ∷ 88 ∷ 92 ∷ a ∷ b ∷ r) ≡ Text.gives ((Text.hexValue a * 16 + Text.hexValue b) ∷ []) 5
 unfolding Text.pieceOf Text.directiveOf
 octet-is g a b r p q = rw (p, q) refl
 
--- a directive is computed so
+-- what a directive gives by the rule is computed
 pub directive-only : {g h k : ℕ} {s cs : List ℕ} → Rules.Directive g s cs k h → Text.pieceOf g s ≡ Text.gives cs k
 unfolding Text.pieceOf Text.directiveOf
 directive-only Rules.backslash = refl
@@ -487,7 +487,7 @@ directive-only {g} (Rules.octet {a = a} {b = b} {i = i} {j = j} {r = r} x y) =
 directive-only {g} (Rules.long {r = r} n e) = named-is g r n ∙ ap Text.extended (groups-only e)
 directive-only {g} (Rules.long-bad {r = r} n e) = named-is g r n ∙ ap Text.extended (broken-only n e)
 
--- and so is the page that it leaves
+-- the page that a directive leaves by the rule is computed
 pub directive-page : {g h k : ℕ} {s cs : List ℕ} → Rules.Directive g s cs k h → h ≡ Text.pageAfter g s
 unfolding Text.pageAfter
 directive-page Rules.backslash = refl
@@ -501,36 +501,36 @@ directive-page (Rules.long-bad n e) = refl
 
 -- each test that is computed at a backslash is the rule that it stands for
 module _ (g : ℕ) (s : List ℕ) (o : Text.is s 0 92 ≡ true) where
-  -- `\\`
+  -- the test for `\\` is its rule
   backslash-is : Text.is s 1 92 ≡ true → Directs g s (Text.gives (92 ∷ []) 2) g
   backslash-is e = subst (λ (z : List ℕ). Directs g z (Text.gives (92 ∷ []) 2) g) (sym (here-two s 92 92 (omega arith) (omega arith) o e)) Rules.backslash
 
-  -- a letter and a backslash
+  -- where the test for a letter and a backslash passes, the list begins with `\`, that letter and `\`
   letter : (a : ℕ) → a < 256 → Text.is s 1 a && Text.is s 2 92 ≡ true → s ≡ 92 ∷ a ∷ 92 ∷ drop 3 s
   letter a h e =
       let (p, q) = both (Text.is s 1 a) (Text.is s 2 92) e in
       here-two s 92 a (omega arith) h o p ∙ ap (λ (z : List ℕ). 92 ∷ a ∷ z) (here s 2 92 (omega arith) q)
 
-  -- `\N\`
+  -- the test for `\N\` is its rule
   newline-is : Text.is s 1 78 && Text.is s 2 92 ≡ true → Directs g s (Text.gives (10 ∷ []) 3) g
   newline-is e = subst (λ (z : List ℕ). Directs g z (Text.gives (10 ∷ []) 3) g) (sym (letter 78 (omega arith) e)) Rules.newline
 
-  -- `\T\`
+  -- the test for `\T\` is its rule
   tab-is : Text.is s 1 84 && Text.is s 2 92 ≡ true → Directs g s (Text.gives (9 ∷ []) 3) g
   tab-is e = subst (λ (z : List ℕ). Directs g z (Text.gives (9 ∷ []) 3) g) (sym (letter 84 (omega arith) e)) Rules.tab
 
-  -- the bytes of `\P?\`
+  -- where the test for `\P?\` passes, the list begins with these four bytes
   pub page-bytes : Text.is s 1 80 && Text.is s 3 92 ≡ true → s ≡ 92 ∷ 80 ∷ byteAt s 2 ∷ 92 ∷ drop 4 s
   page-bytes e =
       let (p, q) = both (Text.is s 1 80) (Text.is s 3 92) e in
       let l = is-within s 3 92 (omega arith) q in
       here-two s 92 80 (omega arith) (omega arith) o p ∙ ap (λ (z : List ℕ). 92 ∷ 80 ∷ z) (drop-cons s 2 256 (omega arith)) ∙ ap (λ (z : List ℕ). 92 ∷ 80 ∷ byteAt s 2 ∷ z) (here s 3 92 (omega arith) q)
 
-  -- `\P?\`
+  -- the test for `\P?\` is its rule
   page-is : Text.is s 1 80 && Text.is s 3 92 ≡ true → Directs g s (Text.gives [] 4) (pageOf (byteAt s 2))
   page-is e = subst (λ (z : List ℕ). Directs g z (Text.gives [] 4) (pageOf (byteAt s 2))) (sym (page-bytes e)) (Rules.page (Page.page-is (byteAt s 2)))
 
-  -- `\S\c`
+  -- the test for `\S\c` is its rule
   shift-is : Text.is s 1 83 && (Text.is s 2 92 && leb 4 (length s)) ≡ true → Directs g s (Text.gives (codeOf g (byteAt s 3 + 128) ∷ []) 4) g
   shift-is e =
       let (p, x) = both (Text.is s 1 83) (Text.is s 2 92 && leb 4 (length s)) e in
@@ -540,7 +540,7 @@ module _ (g : ℕ) (s : List ℕ) (o : Text.is s 0 92 ≡ true) where
       here-two s 92 83 (omega arith) (omega arith) o p ∙ ap (λ (z : List ℕ). 92 ∷ 83 ∷ z) (here s 2 92 (omega arith) q) ∙ ap (λ (z : List ℕ). 92 ∷ 83 ∷ 92 ∷ z) (drop-cons s 3 256 (omega arith)) in
       subst (λ (z : List ℕ). Directs g z (Text.gives (codeOf g (byteAt s 3 + 128) ∷ []) 4) g) (sym f) (Rules.shift (Page.code-is g (byteAt s 3 + 128)))
 
-  -- `\X\HH`
+  -- the test for `\X\HH` is its rule
   two-digits : Text.is s 1 88 && (Text.is s 2 92 && Text.twoAt s 3) ≡ true → Directs g s (Text.gives (Text.twoOf s 3 ∷ []) 5) g
   two-digits e =
       let (p, x) = both (Text.is s 1 88) (Text.is s 2 92 && Text.twoAt s 3) e in
@@ -551,7 +551,7 @@ module _ (g : ℕ) (s : List ℕ) (o : Text.is s 0 92 ≡ true) where
       here-two s 92 88 (omega arith) (omega arith) o p ∙ ap (λ (z : List ℕ). 92 ∷ 88 ∷ z) (here s 2 92 (omega arith) q) ∙ ap (λ (z : List ℕ). 92 ∷ 88 ∷ 92 ∷ z) (drop-cons s 3 256 (omega arith)) ∙ ap (λ (z : List ℕ). 92 ∷ 88 ∷ 92 ∷ byteAt s 3 ∷ z) (drop-cons s 4 256 (omega arith)) in
       subst (λ (z : List ℕ). Directs g z (Text.gives (Text.twoOf s 3 ∷ []) 5) g) (sym f) (Rules.octet (hex-is (byteAt s 3) u) (hex-is (byteAt s 4) v))
 
-  -- `\X2\` and `\X4\`
+  -- the test for `\X2\` or `\X4\` is its rule
   long-is : {d w : ℕ} → Rules.Named d w → d < 256 → Text.is s 1 88 && (Text.is s 2 d && Text.is s 3 92) ≡ true → Directs g s (Text.extended (Text.groupsFrom w 0 (drop 4 s))) g
   long-is {d} {w} n h e =
       let (p, x) = both (Text.is s 1 88) (Text.is s 2 d && Text.is s 3 92) e in
@@ -560,7 +560,7 @@ module _ (g : ℕ) (s : List ℕ) (o : Text.is s 0 92 ≡ true) where
       here-two s 92 88 (omega arith) (omega arith) o p ∙ ap (λ (z : List ℕ). 92 ∷ 88 ∷ z) (here s 2 d h q) ∙ ap (λ (z : List ℕ). 92 ∷ 88 ∷ d ∷ z) (here s 3 92 (omega arith) y) in
       subst (λ (z : List ℕ). Directs g z (Text.extended (Text.groupsFrom w 0 (drop 4 s))) g) (sym f) (extended-is g (drop 4 s) n)
 
--- no test that is computed at a backslash holds
+-- no test that is computed at a backslash passes
 record Undirected (s : List ℕ) : Type 0 where
   no-backslash : Text.is s 1 92 ≡ false
   no-newline : Text.is s 1 78 && Text.is s 2 92 ≡ false
@@ -571,7 +571,7 @@ record Undirected (s : List ℕ) : Type 0 where
   no-two : Text.is s 1 88 && (Text.is s 2 50 && Text.is s 3 92) ≡ false
   no-four : Text.is s 1 88 && (Text.is s 2 52 && Text.is s 3 92) ≡ false
 
--- then a backslash alone is computed
+-- where no test at a backslash passes, a backslash alone is computed
 undirected-only : (g : ℕ) (s : List ℕ) → Undirected s → Text.directiveOf g s ≡ Text.gives (92 ∷ []) 1
 unfolding Text.directiveOf
 undirected-only g s u = rw (u .no-backslash, u .no-newline, u .no-tab, u .no-page, u .no-shift, u .no-octet, u .no-two, u .no-four) refl
@@ -585,7 +585,7 @@ named-none : {d w : ℕ} (r : List ℕ) → Rules.Named d w → Undirected (92 �
 named-none r Rules.two u = never (u .no-two)
 named-none r Rules.four u = never (u .no-four)
 
--- and no directive stands there
+-- where no test at a backslash passes, no directive stands by the rule
 undirected-none : {g h k : ℕ} {s cs : List ℕ} → Rules.Directive g s cs k h → Undirected s → ⊥
 undirected-none Rules.backslash u = never (u .no-backslash)
 undirected-none Rules.newline u = never (u .no-newline)
@@ -601,7 +601,7 @@ fails : (t : Bool) → (t ≡ true → ⊥) → t ≡ false
 fails true h = absurd (h refl)
 fails false h = refl
 
--- where no directive stands no test holds
+-- where no directive stands by the rule, no test at a backslash passes
 undirected-is : (g : ℕ) (s : List ℕ) → Text.is s 0 92 ≡ true → ((cs : List ℕ) (k h : ℕ) → Rules.Directive g s cs k h → ⊥) → Undirected s
 undirected-is g s o n = record {
   no-backslash = fails _ (λ e. n _ _ _ (backslash-is g s o e));
@@ -619,7 +619,7 @@ undirected-is g s o n = record {
 abbrev Says : ℕ → List ℕ → Text.Piece → Type 0
 Says g s p = Rules.Reads g s (p .chars) (p .used) g
 
--- one of two, by a test
+-- of two pieces that a test picks from, each is given by the rules, so the one picked is
 pick-says : (g : ℕ) (s : List ℕ) (t : Bool) (p q : Text.Piece) → (t ≡ true → Says g s p) → (t ≡ false → Says g s q) → Says g s (pick t p q)
 pick-says g s true p q x y = x refl
 pick-says g s false p q x y = y refl
@@ -679,7 +679,7 @@ raw-says g b r h = go (leadOf (b ∷ r)) refl
             let z : _≡_ {A = ℕ} 0 1 = cc in
             absurd (omega arith)
 
--- what is computed where none stands is what the rules give
+-- what is computed where no `\P?\` stands is what the rules give
 piece-says : (g : ℕ) (s : List ℕ) → 0 < length s → Text.is s 0 92 && (Text.is s 1 80 && Text.is s 3 92) ≡ false → Says g s (Text.pieceOf g s)
 unfolding Text.pieceOf
 piece-says g [] h m = absurd (omega arith)
@@ -701,7 +701,7 @@ piece-says g (b ∷ r) h m =
 abbrev Told-of : ℕ → List ℕ → Type 0
 Told-of g s = Rules.Reads g s (Text.pieceOf g s .chars) (Text.pieceOf g s .used) (Text.pageAfter g s)
 
--- so it is where a `\P?\` stands
+-- where a `\P?\` stands, the rules give what is computed and leave the page that is computed
 page-says : (g b : ℕ) (r : List ℕ) → Told-of g (92 ∷ 80 ∷ b ∷ 92 ∷ r)
 unfolding Text.pieceOf Text.directiveOf Text.pageAfter
 page-says g b r = Rules.directive (Rules.page (Page.page-is b))
@@ -716,7 +716,7 @@ piece-is g s h = go (Text.is s 0 92 && (Text.is s 1 80 && Text.is s 3 92)) refl
         subst (Told-of g) (sym (page-bytes g s o p)) (page-says g (byteAt s 2) (drop 4 s))
     go false e = subst (Rules.Reads g s (Text.pieceOf g s .chars) (Text.pieceOf g s .used)) (sym (page-stays g s e)) (piece-says g s h e)
 
--- a piece as the two things that are told of it
+-- the two parts of a piece that is known
 gives-parts : (p : Text.Piece) (cs : List ℕ) (k : ℕ) → p ≡ Text.gives cs k → (cs ≡ p .chars) × (k ≡ p .used)
 gives-parts p cs k e = (sym (ap (λ (q : Text.Piece). q .chars) e), sym (ap (λ (q : Text.Piece). q .used) e))
 
@@ -725,7 +725,7 @@ raw-only : (g : ℕ) (s : List ℕ) → 128 ≤ byteAt s 0 → Text.pieceOf g s 
 unfolding Text.pieceOf
 raw-only g s h = rw (ne-eqb (byteAt s 0) 92 (λ e. omega arith), ne-eqb (byteAt s 0) 39 (λ e. omega arith), le-ltb (byteAt s 0) 128 h) refl
 
--- where no sequence begins none is read
+-- where no sequence begins by the rule none is read
 led-none : (s : List ℕ) → ((c : ℕ) (bs q : List ℕ) → Encoded c bs → s ≡ bs ++ q → ⊥) → leadOf s ≡ invalid
 led-none s n = go (leadOf s) refl
   where
@@ -735,7 +735,7 @@ led-none s n = go (leadOf s) refl
         absurd (n c (encode c) (drop k s) (table-is c t) (sym (ap (λ (z : List ℕ). z ++ drop k s) (sym x) ∙ take-append-drop k s)))
     go invalid e = refl
 
--- a byte below 80 that is itself
+-- a byte below 80 that is itself by the rule is computed so
 itself-only : (g b : ℕ) (r : List ℕ) → b < 128 → (b ≡ 92 → ⊥) → (b ≡ 39 → Begins 39 r → ⊥) → Text.pieceOf g (b ∷ r) ≡ Text.gives (b ∷ []) 1
 unfolding Text.pieceOf
 itself-only g b r h n q = rw (ne-eqb b 92 n, fails (eqb b 39 && Text.is r 0 39) single, lt-ltb b 128 h) refl
@@ -745,17 +745,17 @@ itself-only g b r h n q = rw (ne-eqb b 92 n, fails (eqb b 39 && Text.is r 0 39) 
         let (x, y) = both (eqb b 39) (Text.is r 0 39) e in
         q (eqb-true b 39 x) (drop 1 r, here r 0 39 (omega arith) y)
 
--- an unknown directive
+-- an unknown directive by the rule is computed to be a backslash alone
 unknown-only : (g : ℕ) (r : List ℕ) → ((cs : List ℕ) (k h : ℕ) → Rules.Directive g (92 ∷ r) cs k h → ⊥) → Text.pieceOf g (92 ∷ r) ≡ Text.gives (92 ∷ []) 1
 unfolding Text.pieceOf
 unknown-only g r n = undirected-only g (92 ∷ r) (undirected-is g (92 ∷ r) refl n)
 
--- two quotes
+-- two quotes are computed to be one quote
 quote-only : (g : ℕ) (r : List ℕ) → Text.pieceOf g (39 ∷ 39 ∷ r) ≡ Text.gives (39 ∷ []) 2
 unfolding Text.pieceOf
 quote-only g r = refl
 
--- what the rules give is computed
+-- the piece that the rules give is computed
 pub reads-only : {g h k : ℕ} {s cs : List ℕ} → Rules.Reads g s cs k h → Text.pieceOf g s ≡ Text.gives cs k
 reads-only {g} (Rules.quote {r = r}) = quote-only g r
 reads-only (Rules.directive d) = directive-only d
@@ -780,7 +780,7 @@ reads-page {g} (Rules.itself {b = b} {r = r} h n q) = sym (plain-stays g (b ∷ 
 reads-page {g} (Rules.sequence bs r t h) = let k = encoded-high r t h in sym (plain-stays g (bs ++ r) (λ e. omega arith))
 reads-page {g} (Rules.latin {b = b} {r = r} h n) = sym (plain-stays g (b ∷ r) (λ e. omega arith))
 
--- and nothing else is: the rules give one piece at most, and leave one page
+-- the rules give no piece but the one that is computed, and leave no page but that one
 pub piece-only : {g h k : ℕ} {s cs : List ℕ} → Rules.Reads g s cs k h → (cs ≡ Text.pieceOf g s .chars) × (k ≡ Text.pieceOf g s .used) × (h ≡ Text.pageAfter g s)
 piece-only {g} {h} {k} {s} {cs} r = let (p, q) = gives-parts (Text.pieceOf g s) cs k (reads-only r) in (p, q, reads-page r)
 
@@ -810,7 +810,7 @@ reads-some (Rules.sequence bs r t h) = encoded-some r t
     encoded-some r (line-four h e p q t u) = omega arith
 reads-some (Rules.latin h n) = omega arith
 
--- no bytes have no characters
+-- no bytes have no characters, on every page
 text-none : (g : ℕ) → Text.textOn g [] ≡ []
 unfolding Text.textOn Text.textFrom
 text-none g = refl
@@ -834,7 +834,7 @@ text-on-is g s = go (length s) g s (omega arith)
     go zero g s h = text-step g s (λ i t l. absurd (omega arith))
     go (suc n) g s h = text-step g s (λ i t l. go n i t (omega arith))
 
--- and there is no other
+-- no text but the one that is computed is one by the rules, from every page on
 pub text-on-only : {g : ℕ} {s cs : List ℕ} → Rules.TextOn g s cs → cs ≡ Text.textOn g s
 text-on-only {g} Rules.none = sym (text-none g)
 text-on-only {g} {s} (Rules.more {h = h} {k = k} {cs = cs} {ds = ds} r t) =
@@ -848,7 +848,7 @@ pub text-is : (s : List ℕ) → Rules.Text s (Text.textOf s)
 unfolding Text.textOf
 text-is s = text-on-is pageA s
 
--- and there is no other
+-- no text but the one that is computed is a string's by the rules
 pub text-only : {s cs : List ℕ} → Rules.Text s cs → cs ≡ Text.textOf s
 unfolding Text.textOf
 text-only t = text-on-only t

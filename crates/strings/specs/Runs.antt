@@ -20,11 +20,11 @@ use Rattle.strings.specs.Answer.{most}
 use Rattle.strings.specs.Code.{Ran}
 use Rattle.strings.specs.Steps.{text-goes}
 
--- a quote, a backslash or a high byte
+-- a byte is special: a quote, a backslash or a high byte
 abbrev pub special : ℕ → Bool
 special b = eqb b 39 || (eqb b 92 || leb 128 b)
 
--- any other byte is its own piece, and names no page
+-- a byte that is not special is its own piece, and names no page
 pub plain-piece : (g b : ℕ) (r : List ℕ) → special b ≡ false → (Text.pieceOf g (b ∷ r) ≡ Text.gives (b ∷ []) 1) × (b < 128) × (Text.pageAfter g (b ∷ r) ≡ g)
 unfolding Text.pieceOf Text.pageAfter
 plain-piece g b r h =
@@ -33,7 +33,7 @@ plain-piece g b r h =
     let z = leb-false 128 b (y .1) in
     (rw (y .0, x .0, lt-ltb b 128 z) refl, z, rw (y .0) refl)
 
--- the first byte of a plain list and the others
+-- a plain list's first byte is not special, and the others are plain
 plain-parts : (b : ℕ) (r : List ℕ) → Text.plain (b ∷ r) ≡ true → (special b ≡ false) × (Text.plain r ≡ true)
 unfolding Text.plain
 plain-parts b r h = go (special b) refl h
@@ -42,23 +42,23 @@ plain-parts b r h = go (special b) refl h
     go true p q = let z : _≡_ {A = ℕ} 0 1 = ap (λ (t : Bool). pick t 1 0) q in absurd (omega arith)
     go false p q = (p, q)
 
--- no byte is plain
+-- the first no bytes of a list are plain
 pub plain-none : (s : List ℕ) → Text.plain (take 0 s) ≡ true
 unfolding Text.plain
 plain-none s = refl
 
--- one plain byte more, counted from zero
+-- one plain byte more after the first i, which are plain
 plain-suc : (s : List ℕ) (i : ℕ) → i < length s → special (getD s i 0) ≡ false → Text.plain (take i s) ≡ true → Text.plain (take (suc i) s) ≡ true
 unfolding Text.plain
 plain-suc [] i h e p = absurd (omega arith)
 plain-suc (b ∷ r) zero h e p = rw e refl
 plain-suc (b ∷ r) (suc i) h e p = let q = plain-parts b (take i r) p in rw (q .0) (plain-suc r i (omega arith) e (q .1))
 
--- one plain byte more
+-- one plain byte more after the first i, which are plain, as the code counts
 pub plain-more : (s : List ℕ) (i : ℕ) → i < length s → special (getD s i 0) ≡ false → Text.plain (take i s) ≡ true → Text.plain (take (i + 1) s) ≡ true
 plain-more s i h e p = rw add-one (plain-suc s i h e p)
 
--- a list with another byte is not plain
+-- a list with a special byte is not plain
 pub plain-hit : (s : List ℕ) (i : ℕ) → i < length s → special (getD s i 0) ≡ true → Text.plain s ≡ false
 unfolding Text.plain
 plain-hit [] i h e = absurd (omega arith)
@@ -69,7 +69,7 @@ plain-hit (b ∷ r) (suc i) h e = go (special b) (plain-hit r i (omega arith) e)
     go true k = refl
     go false k = k
 
--- plain up to the end is plain
+-- a list whose bytes up to the end are plain is plain
 pub plain-whole : (s : List ℕ) (n : ℕ) → length s ≤ n → Text.plain (take n s) ≡ true → Text.plain s ≡ true
 plain-whole s n h p = rw (take-all n s h) at p
 
@@ -79,7 +79,7 @@ unfolding Text.plain
 plain-append [] ys p q = q
 plain-append (b ∷ r) ys p q = let z = plain-parts b r p in rw (z .0) (plain-append r ys (z .1) q)
 
--- a run is put, and then the rest of it
+-- plain bytes are put, and then further plain bytes after them: both are one run
 pub ran-on : (s : List ℕ) (a : ℕ) (o : List ℕ) (k e : ℕ) (p t : List ℕ) (n f : ℕ) (q : List ℕ) → length o ≤ most → k ≤ length s → t ≡ drop k s → Text.plain (take k s) ≡ true → Laid a o (take k s) e p → n ≤ length t → Text.plain (take n t) ≡ true → Laid e p (take n t) f q → Ran s a o f (k + n) q
 ran-on s a o k e p t n f q m h w g x l i y =
     let z : take (k + n) s ≡ take k s ++ take n t = take-add k n s ∙ ap (λ (u : List ℕ). take k s ++ take n u) (sym w) in
@@ -98,7 +98,7 @@ text-plain g (suc n) (b ∷ r) h p =
     let (x, l, k) = plain-piece g b r (q .0) in
     text-goes g (b ∷ r) 1 (omega arith) (sym (ap (λ (z : Text.Piece). z .used) x)) (omega arith) ∙ rw (x, k) (ap (λ (z : List ℕ). b ∷ z) (text-plain g n r (omega arith) (q .1)))
 
--- and their own encoding
+-- plain bytes are their own encoding
 pub encode-plain : (s : List ℕ) → Text.plain s ≡ true → encodeAll s ≡ s
 unfolding encodeAll
 encode-plain [] p = refl
@@ -106,7 +106,7 @@ encode-plain (b ∷ r) p =
     let q = plain-parts b r p in
     rw (encode-one b (plain-piece 0 b r (q .0) .1)) (ap (λ (z : List ℕ). b ∷ z) (encode-plain r (q .1)))
 
--- and so the bytes of the text
+-- plain bytes at the start are the first bytes of the text
 pub bytes-plain : (n : ℕ) (s : List ℕ) → n ≤ length s → Text.plain (take n s) ≡ true → Text.bytesOf s ≡ take n s ++ Text.bytesOf (drop n s)
 unfolding Text.bytesOf Text.textOf
 bytes-plain n s h p = ap encodeAll (text-plain pageA n s h p) ∙ encode-append (take n s) (Text.textOn pageA (drop n s)) ∙ ap (λ (z : List ℕ). z ++ encodeAll (Text.textOn pageA (drop n s))) (encode-plain (take n s) p)

@@ -30,18 +30,18 @@ abbrev pub Bytes : List ℕ → Type 0
 Bytes [] = Unit
 Bytes (b ∷ r) = (b < 256) × Bytes r
 
--- a byte of a list of bytes, or what stands for none
+-- what stands at a place of a list of bytes, or for none past its end, is 256 at most
 byte-least : (s : List ℕ) (k : ℕ) → Bytes s → byteAt s k ≤ 256
 byte-least [] k h = omega arith
 byte-least (b ∷ r) zero (h, t) = omega arith
 byte-least (b ∷ r) (suc k) (h, t) = byte-least r k t
 
--- the characters of two lists
+-- two lists of characters make one
 scalars-append : (xs ys : List ℕ) → Scalars xs → Scalars ys → Scalars (xs ++ ys)
 scalars-append [] ys h k = k
 scalars-append (x ∷ xs) ys (h, t) k = (h, scalars-append xs ys t k)
 
--- "other surrogates and codes above 10FFFF give U+FFFD"
+-- "other surrogates and codes above 10FFFF give U+FFFD": so a code gives a character
 shown-scalar : (c : ℕ) → scalar (Text.shown c) ≡ true
 shown-scalar c = go (scalar c) refl
   where
@@ -49,7 +49,7 @@ shown-scalar c = go (scalar c) refl
     go true e = e
     go false e = refl
 
--- "a high and a low surrogate join"
+-- "a high and a low surrogate join": they give a character
 joined-scalar : (h l : ℕ) → Text.high h ≡ true → scalar (Text.joined h l) ≡ true
 joined-scalar h l e = go (Text.low l) refl
   where
@@ -63,12 +63,12 @@ joined-scalar h l e = go (Text.low l) refl
         let n = 65536 + (h - 55296) * 1024 + (l - 56320) in
         rw (le-ltb n 55296 (omega arith), le-leb 57344 n (omega arith), le-leb n 1114111 (omega arith)) refl
 
--- a group's character
+-- what a group gives is a character, where it is good
 abbrev GroupScalar : Text.Group → Type 0
 GroupScalar (Text.char c k) = scalar c ≡ true
 GroupScalar Text.wrong = Unit
 
--- a group gives a character
+-- every good group gives a character
 group-scalar : (w : ℕ) (s : List ℕ) → GroupScalar (Text.groupOf w s)
 unfolding Text.groupTwo Text.groupFour
 group-scalar w s = go (eqb w 4)
@@ -90,12 +90,12 @@ group-scalar w s = go (eqb w 4)
     go true = two (Text.fourAt s 0)
     go false = four (Text.fourAt s 0 && Text.fourAt s 4)
 
--- the characters of groups
+-- what groups give are characters
 abbrev GroupsScalar : Text.Groups → Type 0
 GroupsScalar (Text.ended cs n) = Scalars cs
 GroupsScalar (Text.broken cs) = Scalars cs
 
--- groups give characters
+-- the groups of a directive give characters
 groups-scalar : (w n : ℕ) (t : List ℕ) → GroupsScalar (Text.groupsFrom w n t)
 unfolding Text.groupsFrom
 groups-scalar w n [] = tt
@@ -116,7 +116,7 @@ extended-scalar : (g : Text.Groups) → GroupsScalar g → Scalars (Text.extende
 extended-scalar (Text.ended cs n) h = h
 extended-scalar (Text.broken cs) h = scalars-append cs (92 ∷ []) h (refl, tt)
 
--- one of two pieces that both give characters
+-- of two pieces that a test picks from, each gives characters, so the one picked does
 pick-scalar : (t : Bool) (p q : Text.Piece) → (t ≡ true → Scalars (p .chars)) → (t ≡ false → Scalars (q .chars)) → Scalars (pick t p q .chars)
 pick-scalar true p q f g = f refl
 pick-scalar false p q f g = g refl
@@ -153,7 +153,7 @@ text-scalars g n [] h = tt
 text-scalars g (suc n) (b ∷ r) (h, t) = text-scalars g n r t
 text-scalars g zero (b ∷ r) (h, t) = scalars-append (Text.pieceOf g (b ∷ r) .chars) _ (piece-scalar g (b ∷ r) (h, t)) (text-scalars (Text.pageAfter g (b ∷ r)) (Text.pieceOf g (b ∷ r) .used - 1) r t)
 
--- the output is always valid UTF-8
+-- a text is always valid UTF-8
 pub text-valid : (s : List ℕ) → Bytes s → Valid (Text.bytesOf s)
 unfolding Text.bytesOf Text.textOf Text.textOn
 text-valid s h = all-valid (Text.textFrom pageA 0 s) (text-scalars pageA 0 s h)
@@ -163,7 +163,7 @@ none-text : Text.bytesOf [] ≡ []
 unfolding Text.bytesOf Text.textOf Text.textOn Text.textFrom encodeAll
 none-text = refl
 
--- past the last byte there is none
+-- past the last byte of a list there is none
 past : (s : List ℕ) → drop (length s) s ≡ []
 past s = let l : length s ≤ length s = omega arith in drop-of-length-le s l
 
@@ -183,7 +183,7 @@ shown-text s o n = go (Text.plain s) (leb (length (Text.bytesOf s)) (length o)) 
     go false true e k = take-append-seam (Text.bytesOf s) (drop (length (Text.bytesOf s)) o)
     go false false e k = absurd (k refl)
 
--- and it is valid UTF-8
+-- what is shown after `decode_string` is valid UTF-8, unless it is 16
 pub shown-valid : (s o : List ℕ) → Bytes s → (decodedOf s (length o) ≡ Short → ⊥) → Valid (shownOf s (roomAfter s o) (decodedOf s (length o)))
 shown-valid s o h n = rw (shown-text s o n) (text-valid s h)
 

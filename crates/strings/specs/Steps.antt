@@ -23,7 +23,7 @@ use Rattle.strings.specs.Answer.{most}
 use Rattle.strings.specs.Code.{Moved, toldGroup}
 use Rattle.strings.specs.declared.Char.{Char}
 
--- a byte that is told stands within the list
+-- where the byte at k is b, k is a place in the list
 pub is-within : (s : List ℕ) (k b : ℕ) → b < 256 → Text.is s k b ≡ true → k < length s
 is-within s k b h e = go (ltb k (length s)) refl
   where
@@ -59,7 +59,7 @@ group-fits w s = go (eqb w 4)
     go true = two (Text.fourAt s 0) (Text.high (Text.fourOf s 0)) (Text.fourAt s 4) refl refl refl
     go false = four (Text.fourAt s 0) (Text.fourAt s 4) refl refl
 
--- the groups from a place on
+-- the groups after n bytes that are passed over are those from place n on
 pub groups-skip : (w n : ℕ) (s : List ℕ) → Text.groupsFrom w n s ≡ Text.groupsFrom w 0 (drop n s)
 unfolding Text.groupsFrom
 groups-skip w zero s = refl
@@ -70,19 +70,19 @@ groups-skip w (suc n) (b ∷ r) = groups-skip w n r
 abbrev pub ends : ℕ → List ℕ → Bool
 ends w t = ltb (length t) w || Text.is t 0 92
 
--- the groups end
+-- where the groups end, no character is read, and a `\X0` is eaten
 pub groups-stop : (w : ℕ) (t : List ℕ) → 0 < length t → ends w t ≡ true → Text.groupsFrom w 0 t ≡ Text.ended [] (Text.closing t)
 unfolding Text.groupsFrom
 groups-stop w [] h e = absurd (omega arith)
 groups-stop w (b ∷ r) h e = rw e refl
 
--- a bad group
+-- where a bad group stands, the groups are broken off
 pub groups-wrong : (w : ℕ) (t : List ℕ) → 0 < length t → ends w t ≡ false → Text.groupOf w t ≡ Text.wrong → Text.groupsFrom w 0 t ≡ Text.broken []
 unfolding Text.groupsFrom
 groups-wrong w [] h e g = absurd (omega arith)
 groups-wrong w (b ∷ r) h e g = rw (e, g) refl
 
--- a group, and those after it
+-- where a good group stands, the groups are its character and those after it
 pub groups-char : (w : ℕ) (t : List ℕ) (c k : ℕ) → 0 < length t → ends w t ≡ false → Text.groupOf w t ≡ Text.char c k → 0 < k → Text.groupsFrom w 0 t ≡ Text.withChar c k (Text.groupsFrom w 0 (drop k t))
 unfolding Text.groupsFrom
 groups-char w [] c k h e g p = absurd (omega arith)
@@ -116,14 +116,14 @@ groups-fit w zero (b ∷ r) =
     go false (Text.char c k) h f = more c k (Text.groupsFrom w (k - 1) r) h (f k)
     go false Text.wrong h f = omega arith
 
--- the text from a place on
+-- the text after n bytes that are passed over is that from place n on
 pub text-skip : (g n : ℕ) (s : List ℕ) → Text.textFrom g n s ≡ Text.textOn g (drop n s)
 unfolding Text.textFrom Text.textOn
 text-skip g zero s = refl
 text-skip g (suc n) [] = refl
 text-skip g (suc n) (b ∷ r) = text-skip g n r
 
--- a piece, and the text after it
+-- the text is a piece, and the text after it on the page that it leaves
 pub text-goes : (g : ℕ) (s : List ℕ) (n : ℕ) → 0 < length s → n ≡ Text.pieceOf g s .used → 0 < n → Text.textOn g s ≡ Text.pieceOf g s .chars ++ Text.textOn (Text.pageAfter g s) (drop n s)
 unfolding Text.textFrom Text.textOn
 text-goes g [] n h e p = absurd (omega arith)
@@ -137,16 +137,16 @@ pub page-stays : (g : ℕ) (s : List ℕ) → Text.is s 0 92 && (Text.is s 1 80 
 unfolding Text.pageAfter
 page-stays g s e = rw e refl
 
--- so it does where no backslash stands first
+-- where no backslash stands first the page stays
 pub plain-stays : (g : ℕ) (s : List ℕ) → (byteAt s 0 ≡ 92 → ⊥) → Text.pageAfter g s ≡ g
 plain-stays g s n = page-stays g s (rw (ne-eqb (byteAt s 0) 92 n) refl)
 
--- where a `\P?\` stands it is the page that this selects
+-- where a `\P?\` stands the page is the one that this selects
 pub page-named : (g : ℕ) (s : List ℕ) → Text.is s 0 92 && (Text.is s 1 80 && Text.is s 3 92) ≡ true → Text.pageAfter g s ≡ pageOf (byteAt s 2)
 unfolding Text.pageAfter
 page-named g s e = rw e refl
 
--- no byte, no text
+-- where no byte is left there is no text
 pub text-ends : (g : ℕ) (s : List ℕ) (i : ℕ) → length s ≤ i → Text.textOn g (drop i s) ≡ []
 unfolding Text.textFrom Text.textOn
 text-ends g s i h = rw (drop-of-length-le s h) refl
@@ -159,16 +159,16 @@ extended-fits w s h = go (Text.groupsFrom w 0 (drop 4 s)) (groups-fit w 0 (drop 
     go (Text.ended cs n) l = let k : length (drop 4 s) ≡ length s - 4 = length-drop 4 s in (omega arith, omega arith)
     go (Text.broken cs) l = (omega arith, omega arith)
 
--- whether a piece takes bytes that are there, at least one
+-- a piece takes bytes that are there, at least one
 abbrev pub Fits : List ℕ → Text.Piece → Type 0
 Fits s p = (0 < p .used) × (p .used ≤ length s)
 
--- one of two that both do
+-- of two pieces that a test picks from, each takes bytes that are there, so the one picked does
 pub pick-fits : (s : List ℕ) (t : Bool) (p q : Text.Piece) → (t ≡ true → Fits s p) → (t ≡ false → Fits s q) → Fits s (pick t p q)
 pick-fits s true p q f g = f refl
 pick-fits s false p q f g = g refl
 
--- a directive with groups, or an unknown one
+-- a directive with groups, or an unknown one, takes bytes that are there, at least one
 pub long-fits : (s : List ℕ) → 0 < length s → Fits s (Text.longOf s)
 long-fits s h = pick-fits s (Text.is s 1 88 && (Text.is s 2 50 && Text.is s 3 92)) _ _ (λ e. extended-fits 4 s (three 50 e)) (λ n. pick-fits s (Text.is s 1 88 && (Text.is s 2 52 && Text.is s 3 92)) _ _ (λ e. extended-fits 8 s (three 52 e)) (λ m. (omega arith, omega arith)))
   where
@@ -179,7 +179,7 @@ long-fits s h = pick-fits s (Text.is s 1 88 && (Text.is s 2 50 && Text.is s 3 92
         let z = is-within s 3 92 (omega arith) (y .1) in
         omega arith
 
--- every directive
+-- every directive takes bytes that are there, at least one
 pub directive-fits : (g : ℕ) (s : List ℕ) → 0 < length s → Fits s (Text.directiveOf g s)
 unfolding Text.directiveOf
 directive-fits g s h =
@@ -207,14 +207,14 @@ abbrev pub onward : List ℕ → ℕ → Text.Groups → Text.Piece
 onward cs i (Text.ended ds n) = Text.gives (cs ++ ds) (i + n)
 onward cs i (Text.broken ds) = Text.gives (cs ++ (ds ++ 92 ∷ [])) 1
 
--- one group more is read
+-- the piece of a directive, one group more being read
 pub onward-char : (cs : List ℕ) (i c k : ℕ) (g : Text.Groups) → onward cs i (Text.withChar c k g) ≡ onward (cs ++ c ∷ []) (i + k) g
 onward-char cs i c k (Text.ended ds n) =
     let e : i + (k + n) ≡ i + k + n = omega arith in
     rw (e, append-snoc cs c ds) refl
 onward-char cs i c k (Text.broken ds) = rw (append-snoc cs c (ds ++ 92 ∷ [])) refl
 
--- at the start none is read
+-- the piece of a directive at its start, where no group is read
 pub onward-none : (g : Text.Groups) → Text.extended g ≡ onward [] 4 g
 onward-none (Text.ended ds n) = refl
 onward-none (Text.broken ds) = refl
@@ -233,12 +233,12 @@ pub rest-is : (s : List ℕ) (i : ℕ) → take (length s - i) (drop i s) ≡ dr
 rest-is s i = take-all (length s - i) (drop i s) (omega (arith, length-drop i s))
 
 module _ (w : ℕ) (s : List ℕ) (a₀ : ℕ) (o₀ : List ℕ) where
-  -- at the start
+  -- before the first group of a directive is read
   pub reading-starts : 4 ≤ length s → a₀ ≤ most → Reading w s a₀ o₀ 4 a₀ o₀
   reading-starts h m = record { done = []; from = omega arith; within = h; ahead = onward-none (Text.groupsFrom w 0 (drop 4 s)); put = laid-nothing a₀ o₀ m; kept = refl }
 
   module _ (i a : ℕ) (o : List ℕ) (r : Reading w s a₀ o₀ i a o) where
-    -- no byte is left
+    -- no byte is left: the directive is read
     pub reading-ends : length s ≤ i → Moved (Text.extended (Text.groupsFrom w 0 (drop 4 s))) a₀ o₀ a i o
     unfolding Text.groupsFrom
     reading-ends h =
@@ -248,7 +248,7 @@ module _ (w : ℕ) (s : List ℕ) (a₀ : ℕ) (o₀ : List ℕ) where
         moved : Text.extended (Text.groupsFrom w 0 (drop 4 s)) ≡ Text.gives (r .done ++ []) (i + 0) → i ≡ i + 0 → Moved (Text.extended (Text.groupsFrom w 0 (drop 4 s))) a₀ o₀ a i o
         moved e k = rw e (record { put = rw (append-nil (r .done)) (r .put); read = k })
 
-    -- the groups end
+    -- the groups end: the directive is read, with a `\X0` that stands there
     pub reading-stops : i < length s → ends w (drop i s) ≡ true → Moved (Text.extended (Text.groupsFrom w 0 (drop 4 s))) a₀ o₀ a (i + Text.closing (drop i s)) o
     reading-stops h e =
         let n : 0 < length (drop i s) = omega (arith, length-drop i s) in
@@ -263,7 +263,7 @@ module _ (w : ℕ) (s : List ℕ) (a₀ : ℕ) (o₀ : List ℕ) where
           let f : Text.extended (Text.groupsFrom w 0 (drop 4 s)) ≡ Text.gives (r .done ++ 92 ∷ []) 1 = r .ahead ∙ ap (onward (r .done) i) (groups-wrong w (drop i s) n g b) in
           rw f (record { put = laid-chars a₀ o₀ (r .done) a o (92 ∷ []) e p m (r .put) l; read = refl })
 
-      -- a group is read
+      -- a good group is read: its character is put
       pub reading-goes : (c k : ℕ) → Text.groupOf w (drop i s) ≡ Text.char c k → 0 < k → Laid a o (encodeAll (c ∷ [])) e p → length p ≡ length o → Reading w s a₀ o₀ (i + k) e p
       reading-goes c k b q l j =
           let n : 0 < length (drop i s) = omega (arith, length-drop i s) in
@@ -278,15 +278,15 @@ module _ (w : ℕ) (s : List ℕ) (a₀ : ℕ) (o₀ : List ℕ) where
             kept = j ∙ r .kept;
           }
 
--- what the code's group tells, where it took bytes
+-- where the code's group took bytes, it is a good one of its code and its bytes
 pub told-char : (w : ℕ) (t u : List ℕ) (c : Char) → u ≡ t → toldGroup c ≡ Text.groupOf w u → (c .used ≡ 0 → ⊥) → Text.groupOf w t ≡ Text.char (c .code) (c .used)
 told-char w t u c e h n = rw (sym e) (sym h ∙ rw (ne-eqb (c .used) 0 n) refl)
 
--- and where it took none
+-- where the code's group took no bytes, it is a bad one
 pub told-wrong : (w : ℕ) (t u : List ℕ) (c : Char) → u ≡ t → toldGroup c ≡ Text.groupOf w u → c .used ≡ 0 → Text.groupOf w t ≡ Text.wrong
 told-wrong w t u c e h n = rw (sym e) (sym h ∙ rw n refl)
 
--- the `\X0` takes bytes that are there
+-- what a `\X0` takes are bytes that are there
 pub closing-fits : (s : List ℕ) → Text.closing s ≤ length s
 closing-fits s = go (Text.is s 0 92 && (Text.is s 1 88 && Text.is s 2 48))
   where

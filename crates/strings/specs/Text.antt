@@ -29,11 +29,11 @@ twoAt s k = hexDigit (byteAt s k) && hexDigit (byteAt s (k + 1))
 abbrev pub fourAt : List ℕ → ℕ → Bool
 fourAt s k = twoAt s k && twoAt s (k + 2)
 
--- the number of two hex digits
+-- the number of two hex digits at k
 abbrev pub twoOf : List ℕ → ℕ → ℕ
 twoOf s k = hexValue (byteAt s k) * 16 + hexValue (byteAt s (k + 1))
 
--- the number of four hex digits
+-- the number of four hex digits at k
 abbrev pub fourOf : List ℕ → ℕ → ℕ
 fourOf s k = twoOf s k * 256 + twoOf s (k + 2)
 
@@ -42,15 +42,15 @@ pub data Group : Type 0 where
   char : ℕ → ℕ → Group
   wrong : Group
 
--- "other surrogates and codes above 10FFFF give U+FFFD"
+-- the character of a code: "other surrogates and codes above 10FFFF give U+FFFD"
 abbrev pub shown : ℕ → ℕ
 shown c = pick (scalar c) c 65533
 
--- a high surrogate of UTF-16
+-- a high surrogate of UTF-16, D800 to DBFF
 abbrev pub high : ℕ → Bool
 high c = leb 55296 c && ltb c 56320
 
--- a low one
+-- a low surrogate of UTF-16, DC00 to DFFF
 abbrev pub low : ℕ → Bool
 low c = leb 56320 c && ltb c 57344
 
@@ -58,7 +58,7 @@ low c = leb 56320 c && ltb c 57344
 abbrev pub joined : ℕ → ℕ → ℕ
 joined h l = pick (low l) (65536 + (h - 55296) * 1024 + (l - 56320)) 65533
 
--- "a high one not followed by four hex digits is a bad group"
+-- the group of a high surrogate: "a high one not followed by four hex digits is a bad group"
 abbrev pub pairOf : List ℕ → Group
 pairOf s = pick (fourAt s 4) (char (joined (fourOf s 0) (fourOf s 4)) 8) wrong
 
@@ -66,7 +66,7 @@ pairOf s = pick (fourAt s 4) (char (joined (fourOf s 0) (fourOf s 4)) 8) wrong
 unfoldable pub groupTwo : List ℕ → Group
 groupTwo s = pick (fourAt s 0) (pick (high (fourOf s 0)) (pairOf s) (char (shown (fourOf s 0)) 4)) wrong
 
--- "and `\X4\` of eight"
+-- "and `\X4\` of eight" hex digits
 unfoldable pub groupFour : List ℕ → Group
 groupFour s = pick (fourAt s 0 && fourAt s 4) (char (shown (fourOf s 0 * 65536 + fourOf s 4)) 8) wrong
 
@@ -79,12 +79,12 @@ pub data Groups : Type 0 where
   ended : List ℕ → ℕ → Groups
   broken : List ℕ → Groups
 
--- one group more in front
+-- the groups of a directive, with one more in front
 abbrev pub withChar : ℕ → ℕ → Groups → Groups
 withChar c k (ended cs n) = ended (c ∷ cs) (k + n)
 withChar c k (broken cs) = broken (c ∷ cs)
 
--- a group, and what follows it
+-- the groups from a group on: it and what follows it, or broken off where it is bad
 abbrev pub grouped : Group → (ℕ → Groups) → Groups
 grouped (char c k) f = withChar c k (f k)
 grouped wrong f = broken []
@@ -109,11 +109,11 @@ pub record Piece : Type 0 where
   pub chars : List ℕ
   pub used : ℕ
 
--- a piece of so many characters and bytes
+-- a piece of these characters and so many bytes
 abbrev pub gives : List ℕ → ℕ → Piece
 gives cs k = record { chars = cs; used = k }
 
--- "A bad group gives the characters already read, then a literal backslash, and reading goes on after the directive's first byte"
+-- groups as a piece: "A bad group gives the characters already read, then a literal backslash, and reading goes on after the directive's first byte"
 abbrev pub extended : Groups → Piece
 extended (ended cs n) = gives cs (4 + n)
 extended (broken cs) = gives (cs ++ 92 ∷ []) 1

@@ -25,14 +25,14 @@ use Rattle.lists.specs.Items.{listOf}
 use Rattle.lists.specs.Answer.{nextBy}
 use Rattle.units.specs.declared.role.Role as RoleCode
 
--- the four values: length in mm, angle and tolerance as patterns of f64s, and whether a length unit was found
+-- a unit answer's four values: length in mm, angle and tolerance as patterns of f64s, and whether a length unit was found
 pub record Units : Type 0 where
   pub length : ℕ
   pub angle : ℕ
   pub tolerance : ℕ
   pub resolved : Bool
 
--- such an answer by its parts
+-- a unit answer of its four values
 abbrev pub units : ℕ → ℕ → ℕ → Bool → Units
 units l a t r = record { length = l; angle = a; tolerance = t; resolved = r }
 
@@ -40,13 +40,13 @@ units l a t r = record { length = l; angle = a; tolerance = t; resolved = r }
 abbrev pub defaults : Units
 defaults = units (near 1 1) (near 1 1) (near 1 1000) false
 
--- what a unit measures
+-- what a listed unit measures
 pub data Role : Type 0 where
   lengthRole : Role
   angleRole : Role
   solidRole : Role
 
--- the role that a part gives
+-- the role that a part of this kind gives, or none
 abbrev pub roleBy : Kind → Option Role
 roleBy k = pick (sameKind k LengthUnit) (some lengthRole) (pick (sameKind k PlaneAngleUnit) (some angleRole) (pick (sameKind k SolidAngleUnit) (some solidRole) none))
 
@@ -55,7 +55,7 @@ abbrev pub withLength : Units → Option ℕ → Units
 withLength u none = u
 withLength u (some f) = units f (u .angle) (u .tolerance) true
 
--- "as with angles"
+-- "as with angles": a later angle unit overwrites an earlier; one without a factor overwrites nothing
 abbrev pub withAngle : Units → Option ℕ → Units
 withAngle u none = u
 withAngle u (some f) = units (u .length) f (u .tolerance) (u .resolved)
@@ -64,12 +64,12 @@ withAngle u (some f) = units (u .length) f (u .tolerance) (u .resolved)
 abbrev pub withTolerance : Units → ℕ → Units
 withTolerance u v = units (u .length) (u .angle) v (u .resolved)
 
--- what was read, reads: the answer is a value, of whatever type
+-- whether an answer is a value, and no refusal
 abbrev pub reads : {A : Type 0} → Told A → Bool
 reads (good a) = true
 reads (bad q) = false
 
--- "whose first parameter reads as an integer"
+-- whether the arguments are there and their first parameter reads: "whose first parameter reads as an integer"
 abbrev pub readsInteger : List ℕ → Option Span → Bool
 readsInteger s none = false
 readsInteger s (some r) = reads (nextOf wholeOf s (r .start) (r .stop) .answer)
@@ -79,11 +79,11 @@ readsInteger s (some r) = reads (nextOf wholeOf s (r .start) (r .stop) .answer)
 unfoldable pub isContext : List ℕ → Thing → Told Bool
 isContext s t = goodBy (readsInteger s) (selfOr GeometricRepresentationContext t)
 
--- four values, as patterns
+-- the code's four values of a unit answer, as patterns
 abbrev pub valuesIn : ValuesCode.Values → Units
 valuesIn v = units (toBits binary64 (v .length)) (toBits binary64 (v .angle)) (toBits binary64 (v .tolerance)) (v .resolved)
 
--- four values, or a refusal
+-- what the code's unit answer says: four values, or a refusal
 abbrev pub toldUnits : ResolvedCode.Resolved → Told Units
 toldUnits (ResolvedCode.the-variants.Is v) = good (valuesIn v)
 toldUnits (ResolvedCode.the-variants.Refused f) = bad (told f)
@@ -94,12 +94,12 @@ unfoldable pub refsIn : List ℕ → Option Span → Told (List ℕ)
 refsIn s none = good []
 refsIn s (some r) = nextBy (listOf referenceOf) (λ vs. true) s (r .start) (r .stop) .answer
 
--- a measure that reads, or none; "13 inside units refuses the whole answer"
+-- a listed uncertainty's measure that reads, or none; "13 inside units refuses the whole answer"
 abbrev pub uncertainBy : Told ℕ → Told (Option ℕ)
 uncertainBy (good v) = good (some v)
 uncertainBy (bad q) = pick (eqb (q .number) 13) (bad q) (good none)
 
--- a role, none, or a refusal
+-- what the code's answer about a unit's role says: a role, none, or a refusal
 abbrev pub toldRole : RoleCode.Role → Told (Option Role)
 toldRole RoleCode.the-variants.Length = good (some lengthRole)
 toldRole RoleCode.the-variants.Angle = good (some angleRole)
@@ -112,6 +112,6 @@ toldRole (RoleCode.the-variants.Refused f) = bad (told f)
 abbrev pub uncertaintyOf : List ℕ → Thing → Told (Option ℕ)
 uncertaintyOf s t = pick (sameKind (t .kind) UncertaintyMeasureWithUnit) (uncertainBy (nextOf measureOf s (t .run .start) (t .run .stop) .answer)) (good none)
 
--- the same by its id; a missing record is none
+-- one listed uncertainty by its id; a missing record is none
 unfoldable pub uncertaintyBy : List ℕ → (ℕ → Told (Option Thing)) → ℕ → Told (Option ℕ)
 uncertaintyBy s find i = onward (optionBy (good none) (uncertaintyOf s)) (find i)

@@ -29,17 +29,17 @@ use Rattle.units.specs.declared.listed.Tolerance as ToleranceCode
 use Rattle.units.specs.declared.listed.Refs as RefsCode
 use Rattle.units.specs.declared.listed.Uncertain as UncertainCode
 
--- yes, no, or a refusal
+-- what the code's answer to a question says: yes, no, or a refusal
 abbrev pub toldAsked : AskedCode.Asked → Told Bool
 toldAsked AskedCode.the-variants.Yes = good true
 toldAsked AskedCode.the-variants.No = good false
 toldAsked (AskedCode.the-variants.Refused f) = bad (told f)
 
--- a context's units; those that are assumed for any other record
+-- a context's units; the default values for any other record
 unfoldable pub contextOr : List ℕ → (ℕ → Told (Option Thing)) → Thing → Told Units
 contextOr s find t = onward (λ c. pick c (contextOf s find t) (good defaults)) (isContext s t)
 
--- an answer that decides: a refusal, or one with a length unit
+-- a unit answer decides: it is a refusal, or has a length unit
 abbrev pub deciding : Told Units → Bool
 deciding (good u) = u .resolved
 deciding (bad q) = true
@@ -57,7 +57,7 @@ tableThings s rows n = thingsFrom s (rowNumbers rows) (tableRows rows n) 0
 abbrev pub roleAfter : Kind → RoleCode.Role
 roleAfter k = pick (sameKind k KindCode.the-variants.LengthUnit) RoleCode.the-variants.Length (pick (sameKind k KindCode.the-variants.PlaneAngleUnit) RoleCode.the-variants.Angle (pick (sameKind k KindCode.the-variants.SolidAngleUnit) RoleCode.the-variants.Solid RoleCode.the-variants.Nothing))
 
--- the role that was found before, or another
+-- the role that was found before, or r where none was
 abbrev pub keptRole : RoleCode.Role → RoleCode.Role → RoleCode.Role
 keptRole RoleCode.the-variants.Length r = RoleCode.the-variants.Length
 keptRole RoleCode.the-variants.Angle r = RoleCode.the-variants.Angle
@@ -73,7 +73,7 @@ kindAt s p = pick (spanFine (length s) (p .keyStart) (p .keyEnd)) (kindOf (cut s
 abbrev pub idsOf : List ℕ → List ℕ
 idsOf b = valuesOf (itemsFrom (suc (length b)) (λ u. asFate (referenceOf u)) 0 b)
 
--- they all read
+-- the references of a list's inside all read
 abbrev pub ReadsAll : List ℕ → Type 0
 ReadsAll b = itemsFrom (suc (length b)) (λ u. asFate (referenceOf u)) 0 b ≡ fine (idsOf b)
 
@@ -83,15 +83,15 @@ RefsTo s x (RefsCode.the-variants.Refused f) = x ≡ bad (told f)
 RefsTo s x RefsCode.the-variants.Nothing = x ≡ good []
 RefsTo s x (RefsCode.the-variants.Inside a z) = (a ≤ z) × ((z ≤ length s) × (ReadsAll (cut s a z) × (x ≡ good (idsOf (cut s a z)))))
 
--- the references that the arguments begin with
+-- the references in the list that the arguments begin with, told or refused
 abbrev pub RefsAt : List ℕ → RunCode.Run → RefsCode.Refs → Type 0
 RefsAt s run r = RefsTo s (onward (refsIn s) (toldRun run)) r
 
--- the same of arguments from a up to z
+-- the references in the list that the arguments from a up to z begin with
 abbrev pub RefsBy : List ℕ → ℕ → ℕ → RefsCode.Refs → Type 0
 RefsBy s a z r = RefsTo s (refsIn s (some (span a z))) r
 
--- a tolerance, or a refusal
+-- what the code's answer about a tolerance says: a tolerance, or a refusal
 abbrev pub toldTolerance : ToleranceCode.Tolerance → Told ℕ
 toldTolerance (ToleranceCode.the-variants.Is v) = good (toBits binary64 v)
 toldTolerance (ToleranceCode.the-variants.Refused f) = bad (told f)

@@ -63,7 +63,7 @@ unfolding toBits ofBits near nearUnits size
 thousandth-bits = refl
 
 -- ---- roles, the parts read one by one
--- the role that was found so far
+-- the role that the code has found so far, or none
 abbrev pub roleIn : Role → Option unit.Role
 roleIn Length = some lengthRole
 roleIn Angle = some angleRole
@@ -71,7 +71,7 @@ roleIn Solid = some solidRole
 roleIn Nothing = none
 roleIn (Refused f) = none
 
--- nothing was refused so far
+-- no part was refused so far
 abbrev pub Fine : Role → Type 0
 Fine Length = Unit {0}
 Fine Angle = Unit {0}
@@ -79,11 +79,11 @@ Fine Solid = Unit {0}
 Fine Nothing = Unit {0}
 Fine (Refused f) = ⊥
 
--- the role of the first part of those that gives one
+-- the role of the first part that gives one
 abbrev pub roleAmong : List ℕ → List HeaderRow → Option unit.Role
 roleAmong s ps = firstRole (map (pieceOf s) ps)
 
--- where the reading stands at the place i: so many steps are enough, and what was found and what is left give the answer
+-- where the reading of parts stands at the place i: so many steps are enough, and what was found and what is left give the answer
 pub record Seeking (s : List ℕ) (start end i : ℕ) (got : Role) : Type 0 where
   pub steps : ℕ
   pub enough : length s < steps + i
@@ -91,7 +91,7 @@ pub record Seeking (s : List ℕ) (start end i : ℕ) (got : Role) : Type 0 wher
   pub fine : Fine got
   pub gives : goodBy (λ ps. optionBy (roleAmong s ps) some (roleIn got)) (partsFrom steps s i end) ≡ goodBy (roleAmong s) (partsOf s start end)
 
--- what was found, told
+-- the role that was found, told
 found-told : (got : Role) → Fine got → toldRole got ≡ good (optionBy none some (roleIn got))
 found-told Length h = refl
 found-told Angle h = refl
@@ -99,7 +99,7 @@ found-told Solid h = refl
 found-told Nothing h = refl
 found-told (Refused f) h = absurd h
 
--- no kind refuses
+-- no kind's role is a refusal
 after-fine : (k : Kind) → Fine (roleAfter k)
 after-fine k = go (sameKind k LengthUnit) (sameKind k PlaneAngleUnit) (sameKind k SolidAngleUnit)
   where
@@ -109,7 +109,7 @@ after-fine k = go (sameKind k LengthUnit) (sameKind k PlaneAngleUnit) (sameKind 
     go false false true = tt
     go false false false = tt
 
--- a part more leaves it fine
+-- a part more, whatever its kind, refuses nothing
 fine-more : (got : Role) (k : Kind) → Fine got → Fine (keptRole got (roleAfter k))
 fine-more Length k h = tt
 fine-more Angle k h = tt
@@ -127,7 +127,7 @@ after-is k = go (sameKind k LengthUnit) (sameKind k PlaneAngleUnit) (sameKind k 
     go false false true = refl
     go false false false = refl
 
--- a part more, and the parts after it
+-- the role that was found, or a further part's, or that of the parts after it
 more-found : (got : Role) (k : Kind) (rest : Option unit.Role) → Fine got → optionBy rest some (roleIn (keptRole got (roleAfter k))) ≡ optionBy (optionBy rest some (roleBy k)) some (roleIn got)
 more-found Length k rest h = refl
 more-found Angle k rest h = refl
@@ -136,12 +136,12 @@ more-found Nothing k rest h = ap (optionBy rest some) (after-is k)
 more-found (Refused f) k rest h = absurd h
 
 module _ (s : List ℕ) (start end : ℕ) where
-  -- no part has been read
+  -- before the first part is read no role is found
   pub seek-starts : start ≤ length s → Seeking s start end start Nothing
   seek-starts h = record { steps = suc (length s); enough = omega arith; inside = h; fine = tt; gives = refl }
 
   module _ (i : ℕ) (got : Role) (f : Seeking s start end i got) where
-    -- the steps that are left after one
+    -- the steps that are left after one part
     later : (n : ℕ) × (suc n ≡ f .steps) × (goodBy (λ ps. optionBy (roleAmong s ps) some (roleIn got)) (partsBy (nextOf s i end) (λ p. partsFrom n s (p .argEnd + 1) end)) ≡ goodBy (roleAmong s) (partsOf s start end))
     unfolding partsFrom
     later = go (f .steps) (f .enough) (f .gives)
@@ -151,15 +151,15 @@ module _ (s : List ℕ) (start end : ℕ) where
         go zero l e = let w = f .inside in absurd (omega arith)
         go (suc m) l e = (m, refl, e)
 
-    -- no part is left: what was found is the answer
+    -- no part is left: the role that was found is the answer
     pub seek-over : nextOf s i end ≡ good none → toldRole got ≡ goodBy (roleAmong s) (partsOf s start end)
     seek-over e = found-told got (f .fine) ∙ (rw e at (later .2))
 
-    -- a fault refuses all
+    -- a fault in the parts refuses the role
     pub seek-refused : (q : Refusal) → nextOf s i end ≡ bad q → bad q ≡ goodBy (roleAmong s) (partsOf s start end)
     seek-refused q e = rw e at (later .2)
 
-    -- one part more
+    -- one part more is read
     pub seek-goes : (p : HeaderSpan) → nextOf s i end ≡ good (some (headerRowOf p)) → Seeking s start end (p .args .end + 1) (keptRole got (roleAfter (kindAt s (headerRowOf p))))
     seek-goes p e =
         let (n, c, g) = later in
@@ -190,12 +190,12 @@ span-good n a z {p} = go (spanFine n a z)
     go true h = (refl, cc)
     go false h = clash (cc)
 
--- and begins in it
+-- a span that was given begins in the file
 pub span-starts : (n a z : ℕ) {p : Lookup.Span} → good p ≡ spanIn n a z → p .start ≤ n
 span-starts n a z h = let (f, g) = span-good n a z h in let (l, m) = bounds a z n f in rw g (omega (arith, l, m))
 
 module _ (s : List ℕ) (w : Row) {p : Lookup.Span} (given : good p ≡ spanIn (length s) (w .argStart) (w .argEnd)) where
-  -- "a simple record gives no factor there"
+  -- the role of a simple record: "a simple record gives no factor there"
   pub role-simple : eqb (w .complex) 1 ≡ false → good none ≡ onward roleOf (thingOf s w)
   role-simple e = let (f, g) = span-good (length s) (w .argStart) (w .argEnd) given in rw (f, e) refl
 
@@ -215,111 +215,111 @@ module _ (s : List ℕ) where
   context-is (good t) h = ap (goodBy (readsInteger s)) h
   context-is (bad q) h = ap (goodBy (readsInteger s)) h
 
-  -- whether its first parameter reads
+  -- whether a record is a context, by whether its first parameter reads
   pub whole-reads : (a z : ℕ) {x : Read ℤ} → x ≡ Scalars.nextOf wholeOf s a z → good (reads (x .answer)) ≡ goodBy (readsInteger s) (good (some (span a z)))
   whole-reads a z h = ap (λ (y : Read ℤ). good (reads (y .answer))) h
 
 -- ---- listed units
--- a refusal is the same whatever is told
+-- a refusal is the same, of whichever type the answer would have been
 same-bad : {A B : Type 0} {q r : Refusal} → _≡_ {A = Told A} (bad q) (bad r) → _≡_ {A = Told B} (bad q) (bad r)
 same-bad {q} {r} h = let e : q ≡ r = cc in ap bad e
 
 module _ (s : List ℕ) (find : ℕ → Told (Option Thing)) (u : Units) where
-  -- no record has the id
+  -- a listed unit whose id no record has changes nothing
   pub unit-missing : (i : ℕ) → find i ≡ good none → good u ≡ unitBy s find u i
   unfolding unitBy
   unit-missing i h = rw h refl
 
-  -- the record that has it
+  -- a listed unit by the record that has its id
   pub unit-row : (i : ℕ) (t : Told Thing) {x : Told Units} → find i ≡ goodBy some t → x ≡ onward (unitOf s find u) t → x ≡ unitBy s find u i
   unfolding unitBy
   unit-row i (good t) h e = rw h e
   unit-row i (bad r) h e = rw h e
 
-  -- a fault in its parts
+  -- a listed unit with a fault in its parts is refused
   pub role-refused : (t : Told Thing) {q : Refusal} → bad q ≡ onward roleOf t → bad q ≡ onward (unitOf s find u) t
   role-refused (good t) h = rw (← h) refl
   role-refused (bad r) h = same-bad h
 
-  -- none of the roles
+  -- a listed unit that has none of the roles changes nothing
   pub role-none : (t : Told Thing) → good none ≡ onward roleOf t → good u ≡ onward (unitOf s find u) t
   role-none (good t) h = rw (← h) refl
   role-none (bad r) h = clash (cc)
 
-  -- a solid angle
+  -- a listed unit of solid angle changes nothing
   pub role-solid : (t : Told Thing) → good (some solidRole) ≡ onward roleOf t → good u ≡ onward (unitOf s find u) t
   role-solid (good t) h = rw (← h) refl
   role-solid (bad r) h = clash (cc)
 
-  -- a length
+  -- a listed unit of length sets the length by its factor
   pub role-length : (t : Told Thing) {x : Told Units} {y : Told (Option ℕ)} → good (some lengthRole) ≡ onward roleOf t → x ≡ goodBy (withLength u) y → y ≡ onward (lengthOf s find 16) t → x ≡ onward (unitOf s find u) t
   role-length (good t) h e k = rw (← h) (e ∙ ap (goodBy (withLength u)) k)
   role-length (bad r) h e k = clash (cc)
 
-  -- an angle
+  -- a listed unit of angle sets the angle by its factor
   pub role-angle : (t : Told Thing) {x : Told Units} {y : Told (Option ℕ)} → good (some angleRole) ≡ onward roleOf t → x ≡ goodBy (withAngle u) y → y ≡ onward (angleOf s find) t → x ≡ onward (unitOf s find u) t
   role-angle (good t) h e k = rw (← h) (e ∙ ap (goodBy (withAngle u)) k)
   role-angle (bad r) h e k = clash (cc)
 
-  -- a unit that is refused refuses the list
+  -- a listed unit that is refused refuses the list
   pub units-bad : (i : ℕ) (l : List ℕ) {q : Refusal} → bad q ≡ unitBy s find u i → bad q ≡ unitsBy s find u (i ∷ l)
   unfolding unitsBy
   units-bad i l h = rw (← h) refl
 
-  -- after another the rest is gone through
+  -- after a listed unit that is not refused the rest of the list is gone through
   pub units-more : (i : ℕ) {v : Units} → good v ≡ unitBy s find u i → (l : List ℕ) → unitsBy s find v l ≡ unitsBy s find u (i ∷ l)
   unfolding unitsBy
   units-more i h l = rw (← h) refl
 
-  -- the last one's values are the list's
+  -- the values after the last listed unit are the list's
   pub units-last : (i : ℕ) {v : Units} → good v ≡ unitBy s find u i → good v ≡ unitsBy s find u (i ∷ [])
   unfolding unitsBy
   units-last i h = rw (← h) refl
 
 -- ---- listed uncertainties
 module _ (s : List ℕ) (find : ℕ → Told (Option Thing)) where
-  -- no record has the id
+  -- a listed uncertainty whose id no record has is none
   pub uncertain-missing : (i : ℕ) → find i ≡ good none → good none ≡ uncertaintyBy s find i
   unfolding uncertaintyBy
   uncertain-missing i h = rw h refl
 
-  -- the record that has it
+  -- a listed uncertainty by the record that has its id
   pub uncertain-row : (i : ℕ) (t : Told Thing) {x : Told (Option ℕ)} → find i ≡ goodBy some t → x ≡ onward (uncertaintyOf s) t → x ≡ uncertaintyBy s find i
   unfolding uncertaintyBy
   uncertain-row i (good t) h e = rw h e
   uncertain-row i (bad r) h e = rw h e
 
   module _ (w : Row) {p : Lookup.Span} (given : good p ≡ spanIn (length s) (w .argStart) (w .argEnd)) where
-    -- a record of another kind
+    -- a listed uncertainty whose record is of another kind is none
     pub uncertain-other : sameKind (kindIn s w) UncertaintyMeasureWithUnit ≡ false → good none ≡ onward (uncertaintyOf s) (thingOf s w)
     uncertain-other e = let (f, g) = span-good (length s) (w .argStart) (w .argEnd) given in rw (f, e) refl
 
-    -- one of this kind, by its measure
+    -- a listed uncertainty whose record is of the kind, by its measure
     pub uncertain-own : {x : Told (Option ℕ)} {y : Read ℕ} → sameKind (kindIn s w) UncertaintyMeasureWithUnit ≡ true → x ≡ uncertainBy (y .answer) → y ≡ Scalars.nextOf measureOf s (p .start) (p .end) → x ≡ onward (uncertaintyOf s) (thingOf s w)
     uncertain-own e h k = let (f, g) = span-good (length s) (w .argStart) (w .argEnd) given in rw (f, e) (h ∙ ap (λ (y : Read ℕ). uncertainBy (y .answer)) (rw g at k))
 
-  -- "the first [..] that reads"
+  -- the tolerance is a listed uncertainty: "the first [..] that reads"
   pub tolerance-is : (i : ℕ) (l : List ℕ) {v : ℕ} → good (some v) ≡ uncertaintyBy s find i → good v ≡ toleranceBy s find (i ∷ l)
   unfolding toleranceBy
   tolerance-is i l h = rw (← h) refl
 
-  -- a refusal refuses the list
+  -- a listed uncertainty that is refused refuses the tolerance
   pub tolerance-bad : (i : ℕ) (l : List ℕ) {q : Refusal} → bad q ≡ uncertaintyBy s find i → bad q ≡ toleranceBy s find (i ∷ l)
   unfolding toleranceBy
   tolerance-bad i l h = rw (← h) refl
 
-  -- after another the next one is asked
+  -- after a listed uncertainty that is none the next one is asked
   pub tolerance-more : (i : ℕ) → good none ≡ uncertaintyBy s find i → (l : List ℕ) → toleranceBy s find l ≡ toleranceBy s find (i ∷ l)
   unfolding toleranceBy
   tolerance-more i h l = rw (← h) refl
 
-  -- "else 1e-3"
+  -- where the last listed uncertainty is none: "else 1e-3"
   pub tolerance-last : (i : ℕ) → good none ≡ uncertaintyBy s find i → good (near 1 1000) ≡ toleranceBy s find (i ∷ [])
   unfolding toleranceBy
   tolerance-last i h = rw (← h) refl
 
 -- ---- lists of references
--- the inside of a list, and that it has both parentheses
+-- a list that has both parentheses, and its inside
 body-full : (t b : List ℕ) → bodyOf t ≡ inside b → (2 ≤ length t) × (b ≡ take (length t - 1 - 1) (drop 1 t))
 unfolding bodyOf
 body-full [] b e = clash (cc)
@@ -355,12 +355,12 @@ full-list {A} g t vs h k = go (bodyOf t) refl h
     go bare e f = clash (cc)
     go (inside b) e f = let (n, m) = body-full t b e in (n, subst (λ (y : List ℕ). itemsFrom (suc (length y)) g 0 y ≡ fine vs) m (by b (isBlank b) f))
 
--- the first byte left out
+-- a part of a list without its first byte
 one-in : (m : ℕ) (l : List ℕ) → 1 ≤ length l → drop 1 (take (suc m) l) ≡ take m (drop 1 l)
 one-in m [] h = absurd (omega arith)
 one-in m (c ∷ l) h = refl
 
--- the inside of a text of the file is one too
+-- the inside of a text of the file is a part of the file
 inside-cut : (s : List ℕ) (x y : ℕ) → x ≤ y → y ≤ length s → 2 ≤ y - x → take (y - x - 1 - 1) (drop 1 (cut s x y)) ≡ cut s (x + 1) (y - 1)
 inside-cut s x y h k l =
     let m : y - x ≡ suc (y - x - 1) = omega arith in
@@ -369,46 +369,46 @@ inside-cut s x y h k l =
     let e : y - x - 1 - 1 ≡ y - 1 - (x + 1) = omega arith in
     ap (take (y - x - 1 - 1)) d ∙ take-take (y - x - 1 - 1) (y - x - 1) (drop (x + 1) s) (omega arith) ∙ ap (λ (j : ℕ). take j (drop (x + 1) s)) e
 
--- how long such a text is
+-- how long a part of the file is
 pub cut-length : (s : List ℕ) (x y : ℕ) → x ≤ y → y ≤ length s → length (cut s x y) ≡ y - x
 cut-length s x y h k = length-take-le (y - x) (drop x s) (simp length-drop (omega arith))
 
--- a count that is a refusal is the list's
+-- where the count of a list is a refusal, the list is refused so
 count-bad : {A : Type 0} (x : Fate (List A)) {n o : ℕ} → faulty n o ≡ fated length x → x ≡ faulty n o
 count-bad (fine vs) h = clash (cc)
 count-bad (faulty m p) {n} {o} h = let a : n ≡ m = cc in let b : o ≡ p = cc in ap (λ (j : ℕ). faulty j p) (sym a) ∙ ap (λ (j : ℕ). faulty n j) (sym b)
 
--- a count of a list that reads
+-- where a list's items were counted, it reads, and they are so many
 count-fine : {A : Type 0} (x : Fate (List A)) {n : ℕ} → fine n ≡ fated length x → (vs : List A) × (x ≡ fine vs) × (n ≡ length vs)
 count-fine (fine vs) h = (vs, refl, cc)
 count-fine (faulty m p) h = clash (cc)
 
--- the code's reader of a reference
+-- the code's reader of a reference in a list
 abbrev pub refer : List ℕ → Fate ℕ
 refer u = asFate (referenceOf u)
 
--- no arguments
+-- without arguments there are no references
 pub refs-none : (s : List ℕ) → refsIn s none ≡ good []
 unfolding refsIn
 refs-none s = refl
 
 module _ (s : List ℕ) (a z : ℕ) where
-  -- no parameter is cut
+  -- where no parameter can be cut the references are refused
   pub refs-uncut : {q : Refusal} {p e : ℕ} → reading (bad q) p e ≡ paramOf s a z → refsIn s (some (span a z)) ≡ bad q
   unfolding refsIn nextBy
   refs-uncut h = rw (← h) refl
 
   module _ (x y p e : ℕ) (given : reading (good (span x y)) p e ≡ paramOf s a z) where
-    -- the text of one
+    -- the references are those of the parameter's text
     refs-cut : refsIn s (some (span a z)) ≡ roomed (λ vs. true) x (listBy refer (cut s x y))
     unfolding refsIn nextBy
     refs-cut = rw (← given) refl
 
-    -- a list that does not read
+    -- a list of references that does not read is refused
     pub refs-bad : {n o : ℕ} → faulty n o ≡ fated length (listBy (λ u. mute (refer u)) (cut s x y)) → refsIn s (some (span a z)) ≡ bad (refusal n 0 (x + o))
     refs-bad h = refs-cut ∙ ap (roomed (λ vs. true) x) (count-bad (listBy refer (cut s x y)) (h ∙ count-mute refer (cut s x y)))
 
-    -- a list without items
+    -- a list of references without items gives none
     pub refs-empty : {n : ℕ} → fine n ≡ fated length (listBy (λ u. mute (refer u)) (cut s x y)) → n ≡ 0 → refsIn s (some (span a z)) ≡ good []
     refs-empty {n} h k =
         let (vs, f, l) = count-fine (listBy refer (cut s x y)) (h ∙ count-mute refer (cut s x y)) in
@@ -418,7 +418,7 @@ module _ (s : List ℕ) (a z : ℕ) where
         nothing [] j = refl
         nothing (v ∷ vs) j = absurd (omega (arith, j))
 
-    -- a list with items
+    -- a list of references with items gives those of its inside
     pub refs-full : {n : ℕ} → x ≤ y → y ≤ length s → fine n ≡ fated length (listBy (λ u. mute (refer u)) (cut s x y)) → (n ≡ 0 → ⊥)
         → (2 ≤ y - x) × (ReadsAll (cut s (x + 1) (y - 1)) × (refsIn s (some (span a z)) ≡ good (idsOf (cut s (x + 1) (y - 1)))))
     refs-full {n} o r h k =
@@ -432,7 +432,7 @@ module _ (s : List ℕ) (a z : ℕ) where
         (two, (i ∙ ap fine v, refs-cut ∙ ap (roomed (λ vs. true) x) f ∙ ap good v))
 
 -- ---- the references of a list's inside, one after another
--- where the reading stands at the place i: so many references were passed, and what is left of them gives the answer
+-- where the reading of references stands at the place i: so many were passed, and what is left of them gives the answer
 pub record Reading {A : Type 0} (b : List ℕ) (left : List ℕ → Told A) (all : Told A) (i : ℕ) : Type 0 where
   pub passed : ℕ
   pub few : passed ≤ i
@@ -440,7 +440,7 @@ pub record Reading {A : Type 0} (b : List ℕ) (left : List ℕ → Told A) (all
   pub rest : itemsFrom (suc (length b) - passed) refer i (drop i b) ≡ fine (drop passed (idsOf b))
   pub gives : left (drop passed (idsOf b)) ≡ all
 
--- none is passed yet
+-- before the first reference is read none is passed
 pub reading-starts : {A : Type 0} (b : List ℕ) (left : List ℕ → Told A) (all : Told A) → ReadsAll b → left (idsOf b) ≡ all → Reading b left all 0
 reading-starts b left all h e = let m : suc (length b) - 0 ≡ suc (length b) = omega arith in record {
   passed = 0;
@@ -451,26 +451,28 @@ reading-starts b left all h e = let m : suc (length b) - 0 ≡ suc (length b) = 
 }
 
 module _ {A : Type 0} (b : List ℕ) (left : List ℕ → Told A) (all : Told A) (i : ℕ) (f : Reading b left all i) (r : Item) (found : ItemAt b (min i (length b)) r) where
+  -- the item that the code found stands at the place i
   here : ItemAt b i r
   here = item-in b i r (f .within) found
 
+  -- no more references were passed than the list's inside has bytes
   few-enough : f .passed ≤ length b
   few-enough = omega (arith, f .few, f .within)
 
-  -- no item is bad
+  -- no item of a list whose references all read is bad
   pub reading-bad : (k o : ℕ) → faulty k o ≡ refer (take (r .stop - r .start) (drop (r .start) b)) → ⊥
   reading-bad k o e = fill-bad refer b i (f .passed) r here few-enough (idsOf b) (f .rest) k o e
 
   module _ (v : ℕ) (e : fine v ≡ refer (take (r .stop - r .start) (drop (r .start) b))) where
-    -- a reference, and some after it
+    -- a reference stands at the place, and those after it give the answer with it
     pub reading-here : (l : List ℕ) × (left (v ∷ l) ≡ all)
     reading-here = let (l, k) = fill-head refer b i (f .passed) r here few-enough (idsOf b) (f .rest) v e in (l, ap left (sym k) ∙ f .gives)
 
-    -- the last one
+    -- a reference that stands last gives the answer alone
     pub reading-last : r .bound ≡ length b → left (v ∷ []) ≡ all
     reading-last k = ap left (sym (fill-last refer b i (f .passed) r here few-enough (idsOf b) (f .rest) v e k)) ∙ f .gives
 
-    -- another one
+    -- after a reference that is not the last the reading goes on behind its comma
     pub reading-goes : (left′ : List ℕ → Told A) → ((l : List ℕ) → left′ l ≡ left (v ∷ l)) → r .bound < length b → Reading b left′ all (r .bound + 1)
     reading-goes left′ g k =
         let (q, s) = fill-more refer b i (f .passed) r here few-enough (idsOf b) (f .rest) v e k in
@@ -482,80 +484,80 @@ module _ {A : Type 0} (b : List ℕ) (left : List ℕ → Told A) (all : Told A)
           gives = g (drop (f .passed + 1) (idsOf b)) ∙ ap left (sym q) ∙ f .gives;
         }
 
--- what the code's answer says of the references
+-- where the code refuses the references they are refused so
 pub refs-refused : (s : List ℕ) (x : Told (List ℕ)) (r : Refs) (f : Fault) → RefsTo s x r → r ≡ refs.Refused f → x ≡ bad (told f)
 refs-refused s x r f h e = subst (RefsTo s x) e h
 
--- there are none
+-- where the code finds no references there are none
 pub refs-nothing : (s : List ℕ) (x : Told (List ℕ)) (r : Refs) → RefsTo s x r → r ≡ refs.Nothing → x ≡ good []
 refs-nothing s x r h e = subst (RefsTo s x) e h
 
--- they are those of a list's inside
+-- where the code gives a list's inside the references are those in it
 pub refs-inside : (s : List ℕ) (x : Told (List ℕ)) (r : Refs) (a z : ℕ) → RefsTo s x r → r ≡ refs.Inside a z → (a ≤ z) × ((z ≤ length s) × (ReadsAll (cut s a z) × (x ≡ good (idsOf (cut s a z)))))
 refs-inside s x r a z h e = subst (RefsTo s x) e h
 
 -- ---- contexts, by their lists
 module _ (s : List ℕ) (find : ℕ → Told (Option Thing)) where
-  -- no unit is listed
+  -- where no unit is listed the units stay
   pub units-none : (u : Units) → good u ≡ unitsBy s find u []
   unfolding unitsBy
   units-none u = refl
 
-  -- no uncertainty is
+  -- where no uncertainty is listed the tolerance is 1e-3
   pub tolerance-none : good (near 1 1000) ≡ toleranceBy s find []
   unfolding toleranceBy
   tolerance-none = refl
 
-  -- the units of a context, by its arguments
+  -- the units that a context lists, by its arguments
   pub listed-units-is : (x : Told Thing) {y : Told (Option Span)} → y ≡ onward (selfOr GlobalUnitAssignedContext) x → onward (unitsBy s find defaults) (onward (refsIn s) y) ≡ onward (listedUnits s find) x
   unfolding listedUnits
   listed-units-is (good t) h = ap (λ (y : Told (Option Span)). onward (unitsBy s find defaults) (onward (refsIn s) y)) h
   listed-units-is (bad q) h = ap (λ (y : Told (Option Span)). onward (unitsBy s find defaults) (onward (refsIn s) y)) h
 
-  -- its tolerance
+  -- the tolerance that a context lists, by its arguments
   pub listed-tolerance-is : (x : Told Thing) {y : Told (Option Span)} → y ≡ onward (selfOr GlobalUncertaintyAssignedContext) x → onward (toleranceBy s find) (onward (refsIn s) y) ≡ onward (listedTolerance s find) x
   unfolding listedTolerance
   listed-tolerance-is (good t) h = ap (λ (y : Told (Option Span)). onward (toleranceBy s find) (onward (refsIn s) y)) h
   listed-tolerance-is (bad q) h = ap (λ (y : Told (Option Span)). onward (toleranceBy s find) (onward (refsIn s) y)) h
 
-  -- units that are refused
+  -- a context whose listed units are refused is refused
   pub context-refused : (x : Told Thing) {q : Refusal} → bad q ≡ onward (listedUnits s find) x → bad q ≡ onward (contextOf s find) x
   unfolding contextOf
   context-refused (good t) h = rw (← h) refl
   context-refused (bad r) h = h
 
-  -- a tolerance that is refused
+  -- a context whose tolerance is refused is refused
   pub context-late : (x : Told Thing) {u : Units} {q : Refusal} → good u ≡ onward (listedUnits s find) x → bad q ≡ onward (listedTolerance s find) x → bad q ≡ onward (contextOf s find) x
   unfolding contextOf
   context-late (good t) h e = rw (← h, ← e) refl
   context-late (bad r) h e = clash (cc)
 
-  -- both
+  -- a context whose units and tolerance read has both
   pub context-both : (x : Told Thing) {u : Units} {v : ℕ} → good u ≡ onward (listedUnits s find) x → good v ≡ onward (listedTolerance s find) x → good (withTolerance u v) ≡ onward (contextOf s find) x
   unfolding contextOf
   context-both (good t) h e = rw (← h, ← e) refl
   context-both (bad r) h e = clash (cc)
 
-  -- a fault in a record's parts
+  -- a record with a fault in its parts is refused as a context
   pub or-refused : (x : Told Thing) {q : Refusal} → bad q ≡ onward (isContext s) x → bad q ≡ onward (contextOr s find) x
   unfolding contextOr
   or-refused (good t) h = rw (← h) refl
   or-refused (bad r) h = same-bad h
 
-  -- a record that is no context
+  -- a record that is no context has the default values
   pub or-other : (x : Told Thing) → good false ≡ onward (isContext s) x → good defaults ≡ onward (contextOr s find) x
   unfolding contextOr
   or-other (good t) h = rw (← h) refl
   or-other (bad r) h = clash (cc)
 
-  -- a context
+  -- a record that is a context has its units
   pub or-context : (x : Told Thing) {y : Told Units} → good true ≡ onward (isContext s) x → y ≡ onward (contextOf s find) x → y ≡ onward (contextOr s find) x
   unfolding contextOr
   or-context (good t) h e = rw (← h) e
   or-context (bad r) h e = clash (cc)
 
   -- ---- the records in file order
-  -- a record that decides
+  -- a record that decides gives the answer
   pub record-last : (k : Unit {0} → Told Units) (t : Told Thing) (x : Told Units) → x ≡ onward (contextOr s find) t → deciding x ≡ true → x ≡ onward (recordOf s find k) t
   unfolding contextOr
   record-last k (bad r) x h d = h
@@ -567,7 +569,7 @@ module _ (s : List ℕ) (find : ℕ → Told (Option Thing)) where
       go (good true) (bad q) e = e
       go (good true) (good u) e = let r : u .resolved ≡ true = sym (ap deciding e) ∙ d in e ∙ ap (λ (b : Bool). pick b (good u) (k tt)) (sym r)
 
-  -- a record that does not
+  -- a record that does not decide leaves it to those after it
   pub record-next : (k : Unit {0} → Told Units) (t : Told Thing) (x : Told Units) → x ≡ onward (contextOr s find) t → deciding x ≡ false → k tt ≡ onward (recordOf s find k) t
   unfolding contextOr
   record-next k (bad r) x h d = clash (cc (sym d ∙ ap deciding h))
@@ -580,19 +582,19 @@ module _ (s : List ℕ) (find : ℕ → Told (Option Thing)) where
       go (good true) (good u) e = let r : u .resolved ≡ false = sym (ap deciding e) ∙ d in rw r refl
 
   module _ (rows : List ℕ) (records : ℕ) where
-    -- where the seeking stands at row k: what is left gives the answer
+    -- where the search for a deciding record stands at row k: what is left gives the answer
     pub record Resolving (k : ℕ) : Type 0 where
       pub most : k ≤ tableRows rows records
       pub gives : resolveOf s find (thingsFrom s (rowNumbers rows) (tableRows rows records - k) k) ≡ resolveOf s find (thingsFrom s (rowNumbers rows) (tableRows rows records) 0)
 
-    -- no row has been seen
+    -- before the first row is looked at
     pub resolve-starts : Resolving 0
     resolve-starts = let m : tableRows rows records - 0 ≡ tableRows rows records = omega arith in record {
       most = omega arith;
       gives = ap (λ (n : ℕ). resolveOf s find (thingsFrom s (rowNumbers rows) n 0)) m;
     }
 
-    -- a row, and that it is one of the table
+    -- a row that was given is one of the table
     pub row-there : (k : ℕ) {w : Row} → some w ≡ rowIn rows records k → (k < tableRows rows records) × (rowNumbers rows k ≡ w)
     row-there k {w} h = go (ltb k (tableRows rows records)) refl h
       where
@@ -601,7 +603,7 @@ module _ (s : List ℕ) (find : ℕ → Told (Option Thing)) where
         go false e f = clash (cc)
 
     module _ (k : ℕ) (f : Resolving k) where
-      -- no row is left
+      -- no row is left: the default values are the answer
       pub resolve-over : none ≡ rowIn rows records k → good defaults ≡ resolveOf s find (thingsFrom s (rowNumbers rows) (tableRows rows records) 0)
       unfolding resolveOf thingsFrom
       resolve-over h = go (tableRows rows records - k) refl (f .gives)
@@ -611,7 +613,7 @@ module _ (s : List ℕ) (find : ℕ → Told (Option Thing)) where
           go (suc n) e g = let l = lt-ltb k (tableRows rows records) (omega (arith, e)) in clash (cc (rw l at h))
 
       module _ {w : Row} (row : some w ≡ rowIn rows records k) where
-        -- the row's record, and those after it
+        -- the answer is by the row's record, and those after it
         step : onward (recordOf s find (λ u. resolveOf s find (thingsFrom s (rowNumbers rows) (tableRows rows records - (k + 1)) (k + 1)))) (thingOf s w) ≡ resolveOf s find (thingsFrom s (rowNumbers rows) (tableRows rows records) 0)
         unfolding resolveOf thingsFrom
         step =
@@ -622,11 +624,11 @@ module _ (s : List ℕ) (find : ℕ → Told (Option Thing)) where
             ∙ ap (λ (y : Row). onward (recordOf s find (λ u. resolveOf s find (thingsFrom s (rowNumbers rows) (tableRows rows records - (k + 1)) (suc k)))) (thingOf s y)) (sym e)
             ∙ ap (λ (j : ℕ). resolveOf s find (thingsFrom s (rowNumbers rows) j k)) (sym m) ∙ f .gives
 
-        -- it decides
+        -- the row's record decides
         pub resolve-last : {x : Told Units} → x ≡ onward (contextOr s find) (thingOf s w) → deciding x ≡ true → x ≡ resolveOf s find (thingsFrom s (rowNumbers rows) (tableRows rows records) 0)
         resolve-last {x} h d = record-last (λ u. resolveOf s find (thingsFrom s (rowNumbers rows) (tableRows rows records - (k + 1)) (k + 1))) (thingOf s w) x h d ∙ step
 
-        -- it does not
+        -- the row's record does not decide, and the search goes on
         pub resolve-goes : {x : Told Units} → x ≡ onward (contextOr s find) (thingOf s w) → deciding x ≡ false → Resolving (k + 1)
         resolve-goes {x} h d = let (l, e) = row-there k row in record {
           most = omega (arith, l);

@@ -33,7 +33,7 @@ use Rattle.units.specs.Answer.{Units, Role, lengthRole, angleRole, solid
 use Rattle.units.specs.Units.{roleOf, firstRole, byRole, unitOf, unitBy, unitsBy, toleranceBy, listedUnits, listedTolerance, contextOf, decided, recordOf, resolveOf}
 use Rattle.units.specs.Code.{thingsFrom}
 
--- a list of references
+-- what refuses a list of references lies in the file
 refs-placed : (s : List ℕ) (x : Option Span) → PlacedIn (length s) (refsIn s x)
 unfolding refsIn
 refs-placed s none = tt
@@ -43,7 +43,7 @@ refs-placed s (some r) = go (nextBy (listOf referenceOf) (λ vs. true) s (r .sta
     go (good vs) e = tt
     go (bad q) e = Lists.next-placed (listOf referenceOf) (list-inward (λ u. asFate (referenceOf u)) (scalar-inward referenceOf)) (λ vs. true) s (r .start) (r .stop) q e
 
--- whether a record is a context
+-- what refuses whether a record is a context lies in the file
 is-placed : (s : List ℕ) (t : Thing) → ThingIn (length s) t → PlacedIn (length s) (isContext s t)
 unfolding isContext
 is-placed s t h = by-placed (length s) (readsInteger s) (selfOr GeometricRepresentationContext t) (self-in (length s) GeometricRepresentationContext t h)
@@ -58,7 +58,7 @@ uncertain-placed n (bad q) h = go (eqb (q .number) 13)
     go false = tt
 
 module _ (s : List ℕ) (find : ℕ → Told (Option Thing)) (finds : (i : ℕ) → ToldIn (length s) (FoundIn (length s)) (find i)) where
-  -- what is made of a record that was found
+  -- what refuses a record that was found, or what is made of it, lies in the file
   found-placed : {A : Type 0} (other : Told A) (f : Thing → Told A) (i : ℕ) → PlacedIn (length s) other
       → ((t : Thing) → ThingIn (length s) t → PlacedIn (length s) (f t)) → PlacedIn (length s) (onward (optionBy other f) (find i))
   found-placed other f i o k = on-placed (length s) (FoundIn (length s)) (optionBy other f) (find i) (finds i) go
@@ -67,27 +67,27 @@ module _ (s : List ℕ) (find : ℕ → Told (Option Thing)) (finds : (i : ℕ) 
       go none h = o
       go (some t) h = k t h
 
-  -- a unit by its role
+  -- what refuses a unit by its role lies in the file
   role-placed : (u : Units) (t : Thing) → ThingIn (length s) t → (r : Option Role) → PlacedIn (length s) (byRole s find u t r)
   role-placed u t h none = tt
   role-placed u t h (some lengthRole) = by-placed (length s) (withLength u) (lengthOf s find 16 t) (length-in s find finds 16 t h)
   role-placed u t h (some angleRole) = by-placed (length s) (withAngle u) (angleOf s find t) (angle-in s find finds t h)
   role-placed u t h (some solidRole) = tt
 
-  -- a unit by its id
+  -- what refuses a unit by its id lies in the file
   unit-placed : (u : Units) (i : ℕ) → PlacedIn (length s) (unitBy s find u i)
   unfolding unitBy
   unit-placed u i =
       found-placed (good u) (unitOf s find u) i tt
       (λ t h. any-placed (length s) (byRole s find u t) (roleOf t) (by-placed (length s) firstRole (t .parts) (h .1)) (role-placed u t h))
 
-  -- the units of a list
+  -- what refuses the units of a list lies in the file
   units-placed : (u : Units) (is : List ℕ) → PlacedIn (length s) (unitsBy s find u is)
   unfolding unitsBy
   units-placed u [] = tt
   units-placed u (i ∷ is) = any-placed (length s) (λ v. unitsBy s find v is) (unitBy s find u i) (unit-placed u i) (λ v. units-placed v is)
 
-  -- a listed uncertainty
+  -- what refuses a listed uncertainty lies in the file
   uncertainty-placed : (i : ℕ) → PlacedIn (length s) (uncertaintyBy s find i)
   unfolding uncertaintyBy
   uncertainty-placed i = found-placed (good none) (uncertaintyOf s) i tt (λ t h. go t (sameKind (t .kind) UncertaintyMeasureWithUnit))
@@ -96,14 +96,14 @@ module _ (s : List ℕ) (find : ℕ → Told (Option Thing)) (finds : (i : ℕ) 
       go t true = uncertain-placed (length s) (nextOf measureOf s (t .run .start) (t .run .stop) .answer) (next-placed measureOf s (t .run .start) (t .run .stop))
       go t false = tt
 
-  -- the tolerance of a list
+  -- what refuses the tolerance of a list lies in the file
   tolerance-placed : (is : List ℕ) → PlacedIn (length s) (toleranceBy s find is)
   unfolding toleranceBy
   tolerance-placed [] = tt
   tolerance-placed (i ∷ is) =
       option-placed (length s) (toleranceBy s find is) good (uncertaintyBy s find i) (uncertainty-placed i) (tolerance-placed is) (λ v. tt)
 
-  -- the units of a context
+  -- what refuses the units of a context lies in the file
   listed-placed : (t : Thing) → ThingIn (length s) t → PlacedIn (length s) (listedUnits s find t)
   unfolding listedUnits
   listed-placed t h =
@@ -111,7 +111,7 @@ module _ (s : List ℕ) (find : ℕ → Told (Option Thing)) (finds : (i : ℕ) 
       (any-placed (length s) (refsIn s) (selfOr GlobalUnitAssignedContext t) (self-in (length s) GlobalUnitAssignedContext t h) (refs-placed s))
       (units-placed defaults)
 
-  -- its tolerance
+  -- what refuses the tolerance of a context lies in the file
   bound-placed : (t : Thing) → ThingIn (length s) t → PlacedIn (length s) (listedTolerance s find t)
   unfolding listedTolerance
   bound-placed t h =
@@ -119,14 +119,14 @@ module _ (s : List ℕ) (find : ℕ → Told (Option Thing)) (finds : (i : ℕ) 
       (any-placed (length s) (refsIn s) (selfOr GlobalUncertaintyAssignedContext t) (self-in (length s) GlobalUncertaintyAssignedContext t h) (refs-placed s))
       tolerance-placed
 
-  -- all that a context declares
+  -- what refuses all that a context declares lies in the file
   context-in : (t : Thing) → ThingIn (length s) t → PlacedIn (length s) (contextOf s find t)
   unfolding contextOf
   context-in t h =
       any-placed (length s) (λ u. goodBy (withTolerance u) (listedTolerance s find t)) (listedUnits s find t) (listed-placed t h)
       (λ u. by-placed (length s) (withTolerance u) (listedTolerance s find t) (bound-placed t h))
 
-  -- one record, where what comes after it lies in the file
+  -- what refuses one record lies in the file, where what comes after it does
   record-placed : (k : Unit {0} → Told Units) → PlacedIn (length s) (k tt) → (t : Thing) → ThingIn (length s) t → PlacedIn (length s) (recordOf s find k t)
   record-placed k l t h =
       any-placed (length s) (λ c. pick c (onward (decided s find k) (contextOf s find t)) (k tt)) (isContext s t) (is-placed s t h) go
@@ -139,7 +139,7 @@ module _ (s : List ℕ) (find : ℕ → Told (Option Thing)) (finds : (i : ℕ) 
       go true = any-placed (length s) (decided s find k) (contextOf s find t) (context-in t h) (λ u. by u (u .resolved))
       go false = l
 
-  -- the records of rows
+  -- what refuses the records of rows lies in the file
   rows-placed : (rows : List ℕ) (n k : ℕ) → PlacedIn (length s) (resolveOf s find (thingsFrom s (rowNumbers rows) n k))
   unfolding resolveOf thingsFrom
   rows-placed rows zero k = tt
@@ -148,11 +148,11 @@ module _ (s : List ℕ) (find : ℕ → Told (Option Thing)) (finds : (i : ℕ) 
       (record-placed (λ u. resolveOf s find (thingsFrom s (rowNumbers rows) n (suc k))) (rows-placed rows n (suc k)))
 
 module _ (s rows slots : List ℕ) (ids : Ids) where
-  -- `resolve`
+  -- what refuses an answer of `resolve` lies in the file
   pub resolve-placed : (n : ℕ) → PlacedIn (length s) (resolveOf s (findOf s (rowFor rows slots ids)) (thingsFrom s (rowNumbers rows) n 0))
   resolve-placed n = rows-placed s (findOf s (rowFor rows slots ids)) (find-in s rows slots ids) rows n 0
 
-  -- `units_of_context`
+  -- what refuses an answer of `units_of_context` lies in the file
   pub context-placed : (w : Row) → PlacedIn (length s) (onward (contextOf s (findOf s (rowFor rows slots ids))) (thingOf s w))
   context-placed w =
       on-placed (length s) (ThingIn (length s)) (contextOf s (findOf s (rowFor rows slots ids))) (thingOf s w) (thing-in s w)

@@ -14,11 +14,11 @@ use Rattle.scan.specs.Table.{rowsAfter}
 use Rattle.factors.specs.Thing.{Thing, thingOf}
 use Rattle.units.specs.Code.{thingsFrom}
 
--- the same row of both
+-- two rows that are given as one are the same
 some-one : {a b : Row} → some a ≡ some b → a ≡ b
 some-one e = cc
 
--- a row function that tells these rows, from row k on, gives their records
+-- where the row function tells these rows, from row k on, the records that are gone through are theirs
 things-by : (s : List ℕ) (row : ℕ → Row) (rs : List Row) (k : ℕ) → ((r : ℕ) → r < length rs → getElem? rs r ≡ some (row (k + r))) → thingsFrom s row (length rs) k ≡ map (thingOf s) rs
 unfolding thingsFrom
 things-by s row [] k h = refl

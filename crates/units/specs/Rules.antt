@@ -24,9 +24,9 @@ use Rattle.units.specs.Units.{roleOf}
 -- ---- the role of a listed unit
 -- "the role is a complex record's first part of LENGTH_UNIT, PLANE_ANGLE_UNIT and SOLID_ANGLE_UNIT": over the record's parts
 pub data RoleForm (ps : List Piece) : Option Role → Type 0 where
-  -- the first part that is one of the three gives it
+  -- the first part that is a length, plane angle or solid angle unit gives the role
   part : {r : Role} → IsFirst (λ p. roleBy (p .kind) ≡ none) (λ p r. roleBy (p .kind) ≡ some r) ps r → RoleForm ps (some r)
-  -- no part is one of them; "a simple record gives no factor there": it has no parts
+  -- no part is a length, plane angle or solid angle unit; "a simple record gives no factor there": it has no parts
   roleless : Each (λ p. roleBy (p .kind) ≡ none) ps → RoleForm ps none
 
 -- ---- the units of a list
@@ -36,26 +36,26 @@ pub data Given : Type 0 where
   anAngle : ℕ → Given
   nothing : Given
 
--- the length factor that was given, if it was one
+-- the length factor that a listed unit gave, if it was one
 abbrev pub lengthGiven : Told Given → Option ℕ
 lengthGiven (good (aLength f)) = some f
 lengthGiven (good (anAngle f)) = none
 lengthGiven (good nothing) = none
 lengthGiven (bad q) = none
 
--- the angle factor likewise
+-- the angle factor that a listed unit gave, if it was one
 abbrev pub angleGiven : Told Given → Option ℕ
 angleGiven (good (aLength f)) = none
 angleGiven (good (anAngle f)) = some f
 angleGiven (good nothing) = none
 angleGiven (bad q) = none
 
--- "(1.0 without one)"
+-- a factor, or "(1.0 without one)"
 abbrev pub orOne : Option ℕ → ℕ
 orOne (some f) = f
 orOne none = near 1 1
 
--- "unresolved" without a length factor
+-- whether there is a length factor: "unresolved" without one
 abbrev pub isGiven : Option ℕ → Bool
 isGiven (some f) = true
 isGiven none = false
@@ -69,7 +69,7 @@ abbrev pub listIn : List ℕ → Kind → Thing → Told (List ℕ)
 listIn s k t = onward (refsIn s) (selfOr k t)
 
 module _ (s : List ℕ) (find : ℕ → Told (Option Thing)) where
-  -- "In a unit list the role is ..": what a record gives in that role; a solid angle, or no role, gives neither factor
+  -- "In a unit list the role is ..": what a listed record gives in that role; a solid angle, or no role, gives neither factor
   abbrev pub givenAs : Thing → Option Role → Told Given
   givenAs t (some lengthRole) = goodBy (optionBy nothing aLength) (lengthOf s find 16 t)
   givenAs t (some angleRole) = goodBy (optionBy nothing anAngle) (angleOf s find t)
@@ -111,26 +111,26 @@ module _ (s : List ℕ) (find : ℕ → Told (Option Thing)) where
   -- ---- a context
   -- the units that a record declares: as the Rust has it, "units before uncertainties whatever their order" (open points)
   pub data ContextForm (t : Thing) : Told Units → Type 0 where
-    -- its unit list and then its uncertainty list
+    -- the record's unit list and then its uncertainty list read
     read : {is js : List ℕ} {u : Units} {v : ℕ} → listIn s GlobalUnitAssignedContext t ≡ good is → UnitsForm is (good u)
         → listIn s GlobalUncertaintyAssignedContext t ≡ good js → ToleranceForm js (good v) → ContextForm t (good (withTolerance u v))
     -- "An unreadable unit [..] list [..] refuses the whole answer."
     unlisted : {q : Refusal} → listIn s GlobalUnitAssignedContext t ≡ bad q → ContextForm t (bad q)
-    -- so does a listed unit that refuses
+    -- a listed unit that refuses refuses the whole answer
     unit : {is : List ℕ} {q : Refusal} → listIn s GlobalUnitAssignedContext t ≡ good is → UnitsForm is (bad q) → ContextForm t (bad q)
     -- "An unreadable [..] uncertainty list [..] refuses the whole answer."
     unbounded : {is : List ℕ} {u : Units} {q : Refusal} → listIn s GlobalUnitAssignedContext t ≡ good is → UnitsForm is (good u)
         → listIn s GlobalUncertaintyAssignedContext t ≡ bad q → ContextForm t (bad q)
-    -- so does a listed uncertainty that refuses
+    -- a listed uncertainty that refuses refuses the whole answer
     uncertain : {is js : List ℕ} {u : Units} {q : Refusal} → listIn s GlobalUnitAssignedContext t ≡ good is → UnitsForm is (good u)
         → listIn s GlobalUncertaintyAssignedContext t ≡ good js → ToleranceForm js (bad q) → ContextForm t (bad q)
 
   -- ---- the records of the file
   -- a record that is passed over
   pub data Passed : Told Thing → Type 0 where
-    -- it is no "unit context"
+    -- a record that is no "unit context"
     other : {t : Thing} → isContext s t ≡ good false → Passed (good t)
-    -- it is one, all of it reads, and its units give no length factor
+    -- a unit context of which all reads, and whose units give no length factor
     fruitless : {t : Thing} {u : Units} → isContext s t ≡ good true → ContextForm t (good u) → u .resolved ≡ false → Passed (good t)
 
   -- a record that decides, and the answer

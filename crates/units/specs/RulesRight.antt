@@ -20,11 +20,11 @@ use Rattle.units.specs.Units.{roleOf, firstRole, byRole, unitOf, unitBy,
 use Rattle.units.specs.Rules.{RoleForm, Given, aLength, anAngle, nothing, lengthGiven, angleGiven, unitsWith, givenAs, givenBy, Reads, UnitsForm, Settles, ToleranceForm, listIn, ContextForm, Passed, Decides, ResolveForm}
 
 -- ---- the role of a listed unit
--- a part that gives no role changes nothing
+-- a part in front that gives no role changes nothing
 role-on : (p : Piece) (ps : List Piece) → roleBy (p .kind) ≡ none → firstRole ps ≡ firstRole (p ∷ ps)
 role-on p ps e = rw e refl
 
--- one that does decides
+-- a part in front that gives a role decides
 role-here : (p : Piece) (ps : List Piece) (r : Role) → roleBy (p .kind) ≡ some r → some r ≡ firstRole (p ∷ ps)
 role-here p ps r e = rw e refl
 
@@ -33,7 +33,7 @@ pub role-form-only : {ps : List Piece} {o : Option Role} → RoleForm ps o → o
 role-form-only {ps} (RoleForm.part {r} h) = first-decides (λ p. roleBy (p .kind) ≡ none) (λ p r. roleBy (p .kind) ≡ some r) some firstRole role-on role-here ps r h
 role-form-only {ps} (RoleForm.roleless h) = first-never (λ p. roleBy (p .kind) ≡ none) (λ p r. roleBy (p .kind) ≡ some r) some firstRole role-on role-here ps h
 
--- and that one is the role by the rules
+-- the role that is computed is the one by the rules
 pub role-form-is : (ps : List Piece) → RoleForm ps (firstRole ps)
 role-form-is ps = sole (RoleForm ps) (λ o. role-form-only) (go (first-comes (λ p. roleBy (p .kind) ≡ none) (λ p r. roleBy (p .kind) ≡ some r) (λ p. by (roleBy (p .kind))) ps))
   where
@@ -45,7 +45,7 @@ role-form-is ps = sole (RoleForm ps) (λ o. role-form-only) (go (first-comes (λ
     go (inl h) = (none, RoleForm.roleless h)
     go (inr (r, h)) = (some r, RoleForm.part h)
 
--- of a record whose parts read, its role by the rules; where they do not, their fault
+-- the role of a record whose parts read is the one by the rules
 pub role-of-is : (t : Thing) (ps : List Piece) → t .parts ≡ good ps → (o : Option Role) × (roleOf t ≡ good o) × RoleForm ps o
 role-of-is t ps e = (firstRole ps, rw e refl, role-form-is ps)
 
@@ -56,19 +56,19 @@ put u (aLength f) = withLength u (some f)
 put u (anAngle f) = withAngle u (some f)
 put u nothing = u
 
--- a factor that was not given changes nothing
+-- a listed unit that gives no length factor changes nothing
 put-length : (u : Units) (o : Option ℕ) → withLength u o ≡ put u (optionBy nothing aLength o)
 unfolding put
 put-length u none = refl
 put-length u (some f) = refl
 
--- nor does an angle
+-- a listed unit that gives no angle factor changes nothing
 put-angle : (u : Units) (o : Option ℕ) → withAngle u o ≡ put u (optionBy nothing anAngle o)
 unfolding put
 put-angle u none = refl
 put-angle u (some f) = refl
 
--- what is given first, and then the last factors of the others
+-- units with what one listed unit gives, and then with the last factors of those after it
 put-last : (u : Units) (g : Given) (l a : Option ℕ) → withAngle (withLength (put u g) l) a ≡ withAngle (withLength u (orElse l (lengthGiven (good g)))) (orElse a (angleGiven (good g)))
 unfolding put
 put-last u (aLength f) none none = refl
@@ -84,7 +84,7 @@ put-last u nothing none (some b) = refl
 put-last u nothing (some m) none = refl
 put-last u nothing (some m) (some b) = refl
 
--- over the default values
+-- the last factors laid over the default values
 with-defaults : (l a : Option ℕ) → withAngle (withLength defaults l) a ≡ unitsWith l a
 with-defaults none none = refl
 with-defaults none (some b) = refl
@@ -92,7 +92,7 @@ with-defaults (some m) none = refl
 with-defaults (some m) (some b) = refl
 
 module _ (s : List ℕ) (find : ℕ → Told (Option Thing)) where
-  -- one listed unit
+  -- one listed unit sets what it gives, or refuses
   unit-given : (u : Units) (i : ℕ) → unitBy s find u i ≡ goodBy (put u) (givenBy s find i)
   unfolding unitBy givenBy put
   unit-given u i = found (find i)
@@ -117,14 +117,15 @@ module _ (s : List ℕ) (find : ℕ → Told (Option Thing)) where
       found (good none) = refl
       found (good (some t)) = role t (roleOf t)
 
-  -- the length factor and the angle factor that an id gives
+  -- the length factor that an id gives, or none
   lengthFrom : ℕ → Option ℕ
   lengthFrom i = lengthGiven (givenBy s find i)
 
+  -- the angle factor that an id gives, or none
   angleFrom : ℕ → Option ℕ
   angleFrom i = angleGiven (givenBy s find i)
 
-  -- where none refuses, the last factors are laid over the units that were there
+  -- where no listed unit refuses, the last factors are laid over the units that were there
   units-read : (is : List ℕ) (u : Units) → Each (Reads s find) is → good (withAngle (withLength u (lastBy lengthFrom is)) (lastBy angleFrom is)) ≡ unitsBy s find u is
   unfolding unitsBy lengthFrom angleFrom
   units-read [] u h = refl
@@ -134,7 +135,7 @@ module _ (s : List ℕ) (find : ℕ → Told (Option Thing)) where
           → good (withAngle (withLength u (orElse (lastBy lengthFrom is) (lengthGiven (givenBy s find i)))) (orElse (lastBy angleFrom is) (angleGiven (givenBy s find i)))) ≡ onward (λ v. unitsBy s find v is) (unitBy s find u i)
       go (g, e) ih = rw (unit-given u i, e) (ap good (sym (put-last u g (lastBy lengthFrom is) (lastBy angleFrom is))) ∙ ih (put u g))
 
-  -- the first that refuses, behind some that do not
+  -- the first listed unit that refuses, behind some that do not, refuses the list
   units-refused : (front : List ℕ) (i : ℕ) (back : List ℕ) (q : Refusal) (u : Units) → Each (Reads s find) front → givenBy s find i ≡ bad q → bad q ≡ unitsBy s find u (front ++ (i ∷ back))
   unfolding unitsBy
   units-refused [] i back q u h e = rw (unit-given u i, e) refl
@@ -143,7 +144,7 @@ module _ (s : List ℕ) (find : ℕ → Told (Option Thing)) where
       go : Reads s find j → ((v : Units) → bad q ≡ unitsBy s find v (front ++ (i ∷ back))) → bad q ≡ onward (λ v. unitsBy s find v (front ++ (i ∷ back))) (unitBy s find u j)
       go (g, d) ih = rw (unit-given u j, d) (ih (put u g))
 
-  -- the units by the rules are those that are computed
+  -- the units of a list by the rules are those that are computed
   pub units-form-only : {is : List ℕ} {a : Told Units} → UnitsForm s find is a → a ≡ unitsBy s find defaults is
   unfolding lengthFrom angleFrom
   units-form-only {is} (UnitsForm.read l a h m n) =
@@ -153,7 +154,7 @@ module _ (s : List ℕ) (find : ℕ → Told (Option Thing)) where
       ∙ units-read is defaults h
   units-form-only {is} (UnitsForm.refused {q} h) = units-refused (h .front) (h .one) (h .back) q defaults (h .before) (h .gives) ∙ ap (unitsBy s find defaults) (sym (h .cut))
 
-  -- and those are the units by the rules
+  -- the units of a list that are computed are those by the rules
   pub units-form-is : (is : List ℕ) → UnitsForm s find is (unitsBy s find defaults is)
   unfolding lengthFrom angleFrom
   units-form-is is = sole (UnitsForm s find is) (λ a. units-form-only) (go (first-comes (Reads s find) (λ i q. givenBy s find i ≡ bad q) (λ i. by (givenBy s find i)) is))
@@ -167,12 +168,12 @@ module _ (s : List ℕ) (find : ℕ → Told (Option Thing)) where
       go (inr (q, h)) = (_, UnitsForm.refused h)
 
   -- ---- the tolerance
-  -- a listed uncertainty that is none changes nothing
+  -- a listed uncertainty in front that is none changes nothing
   tolerance-on : (i : ℕ) (is : List ℕ) → uncertaintyBy s find i ≡ good none → toleranceBy s find is ≡ toleranceBy s find (i ∷ is)
   unfolding toleranceBy
   tolerance-on i is e = rw e refl
 
-  -- one that reads or refuses decides
+  -- a listed uncertainty in front that reads or refuses decides
   tolerance-here : (i : ℕ) (is : List ℕ) (a : Told ℕ) → Settles s find i a → a ≡ toleranceBy s find (i ∷ is)
   unfolding toleranceBy
   tolerance-here i is _ (Settles.reads e) = rw e refl
@@ -184,7 +185,7 @@ module _ (s : List ℕ) (find : ℕ → Told (Option Thing)) where
   tolerance-form-only {is} {a} (ToleranceForm.listed h) = first-decides (λ i. uncertaintyBy s find i ≡ good none) (Settles s find) (λ x. x) (toleranceBy s find) tolerance-on tolerance-here is a h
   tolerance-form-only {is} (ToleranceForm.assumed h) = first-never (λ i. uncertaintyBy s find i ≡ good none) (Settles s find) (λ x. x) (toleranceBy s find) tolerance-on tolerance-here is h
 
-  -- and that one is the tolerance by the rules
+  -- the tolerance that is computed is the one by the rules
   pub tolerance-form-is : (is : List ℕ) → ToleranceForm s find is (toleranceBy s find is)
   tolerance-form-is is = sole (ToleranceForm s find is) (λ a. tolerance-form-only) (go (first-comes (λ i. uncertaintyBy s find i ≡ good none) (Settles s find) (λ i. by i (uncertaintyBy s find i) refl) is))
     where
@@ -198,7 +199,7 @@ module _ (s : List ℕ) (find : ℕ → Told (Option Thing)) where
       go (inr (a, h)) = (a, ToleranceForm.listed h)
 
   -- ---- a context
-  -- the units by the rules are those that are computed
+  -- the units of a context by the rules are those that are computed
   pub context-form-only : {t : Thing} {a : Told Units} → ContextForm s find t a → a ≡ contextOf s find t
   unfolding contextOf listedUnits listedTolerance
   context-form-only (ContextForm.read e u f v) = rw (e, ← units-form-only u, f, ← tolerance-form-only v) refl
@@ -207,7 +208,7 @@ module _ (s : List ℕ) (find : ℕ → Told (Option Thing)) where
   context-form-only (ContextForm.unbounded e u f) = rw (e, ← units-form-only u, f) refl
   context-form-only (ContextForm.uncertain e u f v) = rw (e, ← units-form-only u, f, ← tolerance-form-only v) refl
 
-  -- and those are the units by the rules
+  -- the units of a context that are computed are those by the rules
   pub context-form-is : (t : Thing) → ContextForm s find t (contextOf s find t)
   context-form-is t = sole (ContextForm s find t) (λ a. context-form-only) (by (listIn s GlobalUnitAssignedContext t) refl)
     where
@@ -229,13 +230,13 @@ module _ (s : List ℕ) (find : ℕ → Told (Option Thing)) where
       by (bad q) e = (_, ContextForm.unlisted e)
 
   -- ---- the records of the file
-  -- a record that is passed over changes nothing
+  -- a record in front that is passed over changes nothing
   resolve-on : (t : Told Thing) (ts : List (Told Thing)) → Passed s find t → resolveOf s find ts ≡ resolveOf s find (t ∷ ts)
   unfolding resolveOf
   resolve-on _ ts (Passed.other e) = rw e refl
   resolve-on _ ts (Passed.fruitless e c r) = rw (e, ← context-form-only c, r) refl
 
-  -- one that decides
+  -- a record in front that decides gives the answer
   resolve-here : (t : Told Thing) (ts : List (Told Thing)) (a : Told Units) → Decides s find t a → a ≡ resolveOf s find (t ∷ ts)
   unfolding resolveOf
   resolve-here _ ts _ (Decides.resolves e c r) = rw (e, ← context-form-only c, r) refl
@@ -267,7 +268,7 @@ module _ (s : List ℕ) (find : ℕ → Told (Option Thing)) where
       by (good false) e = inl (Passed.other e)
       by (good true) e = context e (contextOf s find t) (context-form-is t)
 
-  -- and that one is the unit answer by the rules
+  -- the unit answer that is computed is the one by the rules
   pub resolve-form-is : (ts : List (Told Thing)) → ResolveForm s find ts (resolveOf s find ts)
   resolve-form-is ts = sole (ResolveForm s find ts) (λ a. resolve-form-only) (go (first-comes (Passed s find) (Decides s find) passed-or ts))
     where

@@ -20,27 +20,27 @@ abbrev pub firstRole : List Piece → Option Role
 firstRole [] = none
 firstRole (p ∷ ps) = optionBy (firstRole ps) some (roleBy (p .kind))
 
--- "a simple record gives no factor there": it has no parts
+-- the role of a record, or the fault in its parts; "a simple record gives no factor there": it has no parts
 abbrev pub roleOf : Thing → Told (Option Role)
 roleOf t = goodBy firstRole (t .parts)
 
 module _ (s : List ℕ) (find : ℕ → Told (Option Thing)) where
-  -- "In a unit list the role is ..": one unit by its role; a solid angle, or no role, changes nothing
+  -- "In a unit list the role is ..": what one unit sets by its role; a solid angle, or no role, changes nothing
   abbrev pub byRole : Units → Thing → Option Role → Told Units
   byRole u t none = good u
   byRole u t (some lengthRole) = goodBy (withLength u) (lengthOf s find 16 t)
   byRole u t (some angleRole) = goodBy (withAngle u) (angleOf s find t)
   byRole u t (some solidRole) = good u
 
-  -- a unit of the list by its record
+  -- what a unit of the list sets, by its record
   abbrev pub unitOf : Units → Thing → Told Units
   unitOf u t = onward (byRole u t) (roleOf t)
 
-  -- a unit of the list by its id; "a missing record [..] gives no factor"
+  -- what a unit of the list sets, by its id; "a missing record [..] gives no factor"
   unfoldable pub unitBy : Units → ℕ → Told Units
   unitBy u i = onward (optionBy (good u) (unitOf u)) (find i)
 
-  -- the units of a list in order
+  -- what the units of a list set, one after the other
   unfoldable pub unitsBy : Units → List ℕ → Told Units
   unitsBy u [] = good u
   unitsBy u (i ∷ is) = onward (λ v. unitsBy v is) (unitBy u i)
@@ -50,12 +50,12 @@ module _ (s : List ℕ) (find : ℕ → Told (Option Thing)) where
   toleranceBy [] = good (near 1 1000)
   toleranceBy (i ∷ is) = onward (optionBy (toleranceBy is) good) (uncertaintyBy s find i)
 
-  -- the units of a context. That they come "before uncertainties whatever their order" is no sentence of document 01: the list of open
+  -- the units that a context lists. That they come "before uncertainties whatever their order" is no sentence of document 01: the list of open
   -- points says so of the Rust
   unfoldable pub listedUnits : Thing → Told Units
   listedUnits t = onward (unitsBy defaults) (onward (refsIn s) (selfOr GlobalUnitAssignedContext t))
 
-  -- its tolerance
+  -- the tolerance that a context lists
   unfoldable pub listedTolerance : Thing → Told ℕ
   listedTolerance t = onward toleranceBy (onward (refsIn s) (selfOr GlobalUncertaintyAssignedContext t))
 
@@ -67,7 +67,7 @@ module _ (s : List ℕ) (find : ℕ → Told (Option Thing)) where
   abbrev pub decided : (Unit {0} → Told Units) → Units → Told Units
   decided k u = pick (u .resolved) (good u) (k tt)
 
-  -- one record: a context that decides, or what comes after it
+  -- one record: where it is a context that decides, its units, else what comes after it
   abbrev pub recordOf : (Unit {0} → Told Units) → Thing → Told Units
   recordOf k t = onward (λ c. pick c (onward (decided k) (contextOf t)) (k tt)) (isContext s t)
 

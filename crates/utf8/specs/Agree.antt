@@ -21,26 +21,26 @@ use Rattle.utf8.specs.Table.{In, Tail, Encoded, line-one, line-two, line
 use Rattle.utf8.specs.Table as table
 
 -- ---- section 3's table and `encode`
--- digits of six bits: the last is the remainder, the others the quotient
+-- a number in digits of six bits: the last is the remainder by 64, the others the quotient
 split : (x y : ℕ) → y < 64 → ((x * 64 + y) / 64 ≡ x) × ((x * 64 + y) % 64 ≡ y)
 split x y h =
     let e : (x * 64 + y) / 64 * 64 + (x * 64 + y) % 64 ≡ x * 64 + y = div-add-mod' (x * 64 + y) 64 in
     let l : (x * 64 + y) % 64 < 64 = mod-lt (x * 64 + y) (omega arith) in
     (omega arith, omega arith)
 
--- two digits dropped at once
+-- two digits of six bits dropped at once, or one after the other
 twice : (c : ℕ) → c / 4096 ≡ c / 64 / 64
 twice c = sym (div-div-eq-div-mul c 64 64)
 
--- three
+-- three digits of six bits dropped at once, or one after the other
 thrice : (c : ℕ) → c / 262144 ≡ c / 64 / 64 / 64
 thrice c = sym (ap (λ (n : ℕ). n / 64) (div-div-eq-div-mul c 64 64) ∙ div-div-eq-div-mul c 4096 64)
 
--- a number is a character or is none
+-- no number is a character and is none
 never : (c : ℕ) → scalar c ≡ true → scalar c ≡ false → ⊥
 never c t f = let e : _≡_ {A = Bool} true false = sym t ∙ f in let z : _≡_ {A = ℕ} 0 1 = cc in omega arith
 
--- a character below 10000 that is no surrogate
+-- a number below 10000 (hex) that is no surrogate is a character
 apart : (c : ℕ) → c < 65536 → (In 55296 57343 c → ⊥) → scalar c ≡ true
 apart c h n = go (decLt c 55296) (decLe 57344 c)
   where
@@ -49,7 +49,7 @@ apart c h n = go (decLt c 55296) (decLe 57344 c)
     go (no k) (yes l) = scalar-high c l (omega arith)
     go (no k) (no j) = absurd (n (omega arith, omega arith))
 
--- what the table says of a number is its encoding, and the number is a character
+-- what section 3's table says of a number is its encoding, and the number is a character
 pub table-only : {c : ℕ} {bs : List ℕ} → Encoded c bs → (scalar c ≡ true) × (bs ≡ encode c)
 table-only {c} (line-one (l, h)) = (scalar-low c (omega arith), sym (encode-one c (omega arith)))
 table-only {c} (line-two {x = x} {y = y} (l, h) e xl yl) =
@@ -80,7 +80,7 @@ table-only {c} (line-four {x = x} {y = y} {z = z} {w = w} (l, h) e xl yl zl wl) 
     let d₃ : c / 262144 ≡ x = thrice c ∙ ap (λ (k : ℕ). k / 64) d₂ ∙ p₃ in
     (scalar-high c (omega arith) h, sym (encode-four c l h ∙ rw (d₃, m₃, m₂, m)))
 
--- the encoding of a character is what the table says
+-- the encoding of a character is what section 3's table says
 pub table-is : (c : ℕ) → scalar c ≡ true → Encoded c (encode c)
 table-is c s = go (ranged c)
   where
@@ -121,7 +121,7 @@ record Second (a b : ℕ) : Type 0 where
   after-f4 : a ≡ 244 → b ≤ 143
   is-tail : Tail b
 
--- it passes the test
+-- a second byte of section 4 passes the test
 second-is : (a b : ℕ) → Second a b → second a b ≡ true
 second-is a b s = rw (le-leb (lowest a) b (low (eqb a 224) refl (eqb a 240) refl), le-leb b (highest a) (high (eqb a 237) refl (eqb a 244) refl))
   where
@@ -135,7 +135,7 @@ second-is a b s = rw (le-leb (lowest a) b (low (eqb a 224) refl (eqb a 240) refl
     high false e true f = s .after-f4 (eqb-true a 244 f)
     high false e false f = s .is-tail .1
 
--- and no other does
+-- a byte that passes the test for a second byte is one of section 4
 second-only : (a b : ℕ) → second a b ≡ true → Second a b
 second-only a b e =
     let (l, h, x, y) = second-byte a b e in
@@ -155,7 +155,7 @@ tail-is b (l, h) = rw (le-leb 128 b l, le-leb b 191 h)
 in-is : (l a h : ℕ) → l ≤ a → a ≤ h → leb l a && leb a h ≡ true
 in-is l a h x y = rw (le-leb l a x, le-leb a h y)
 
--- the second byte of the table's third line
+-- the second byte of the third line of section 3's table is one of section 4
 second-three : {c : ℕ} (x y z : ℕ) → In 2048 65535 c → (In 55296 57343 c → ⊥) → c ≡ x * 4096 + y * 64 + z → x < 16 → y < 64 → z < 64 → Second (224 + x) (128 + y)
 second-three {c} x y z (l, h) s e xl yl zl = record {
   after-e0 = λ q. omega arith;
@@ -169,7 +169,7 @@ second-three {c} x y z (l, h) s e xl yl zl = record {
     below q (yes j) = j
     below q (no j) = absurd (s (omega arith, omega arith))
 
--- the second byte of its fourth line
+-- the second byte of the fourth line of section 3's table is one of section 4
 second-four : {c : ℕ} (x y z w : ℕ) → In 65536 1114111 c → c ≡ x * 262144 + y * 4096 + z * 64 + w → x < 8 → y < 64 → z < 64 → w < 64 → Second (240 + x) (128 + y)
 second-four x y z w (l, h) e xl yl zl wl = record {
   after-e0 = λ q. absurd (omega arith);
@@ -179,7 +179,7 @@ second-four x y z w (l, h) e xl yl zl wl = record {
   is-tail = (omega arith, omega arith);
 }
 
--- whatever follows, the bytes of a character are read as that character, in all of them
+-- whatever follows, the bytes of a character in section 3's table are read as that character, in all of them
 pub table-leads : {c : ℕ} {bs : List ℕ} → Encoded c bs → (r : List ℕ) → leadOf (bs ++ r) ≡ valid c (length bs)
 table-leads {c} (line-one (l, h)) r = sym (lead-one (c ∷ r) c refl (omega arith))
 table-leads {c} (line-two {x = x} {y = y} (l, h) e xl yl) r =
@@ -204,14 +204,14 @@ table-leads {c} (line-four {x = x} {y = y} {z = z} {w = w} (l, h) e xl yl zl wl)
     sym (lead-four ((240 + x) ∷ (128 + y) ∷ (128 + z) ∷ (128 + w) ∷ r) (240 + x) (128 + y) (128 + z) (128 + w) refl refl refl refl
     (in-is 240 (240 + x) 244 (omega arith) (omega arith))) ∙ k
 
--- two bytes are a line of section 3's table
+-- two bytes of section 4 are a line of section 3's table
 two-bytes : (a b : ℕ) → In 194 223 a → Tail b → Encoded ((a - 192) * 64 + (b - 128)) (a ∷ b ∷ [])
 two-bytes a b (al, ah) (bl, bh) =
     let p : 192 + (a - 192) ≡ a = omega arith in
     let q : 128 + (b - 128) ≡ b = omega arith in
     rw (p, q) at (line-two {c = (a - 192) * 64 + (b - 128)} {x = a - 192} {y = b - 128} (omega arith, omega arith) refl (omega arith) (omega arith))
 
--- so are three
+-- three bytes of section 4 are a line of section 3's table
 three-bytes : (a b d : ℕ) → In 224 239 a → Second a b → Tail d → Encoded ((a - 224) * 4096 + (b - 128) * 64 + (d - 128)) (a ∷ b ∷ d ∷ [])
 three-bytes a b d (al, ah) s (dl, dh) =
     let (bl, bh) = s .is-tail in
@@ -232,7 +232,7 @@ three-bytes a b d (al, ah) s (dl, dh) =
         let k : b ≤ 159 = s .after-ed (omega arith) in
         omega arith
 
--- so are four
+-- four bytes of section 4 are a line of section 3's table
 four-bytes : (a b d e : ℕ) → In 240 244 a → Second a b → Tail d → Tail e
     → Encoded ((a - 240) * 262144 + (b - 128) * 4096 + (d - 128) * 64 + (e - 128)) (a ∷ b ∷ d ∷ e ∷ [])
 four-bytes a b d e (al, ah) s (dl, dh) (el, eh) =
@@ -253,7 +253,7 @@ four-bytes a b d e (al, ah) s (dl, dh) (el, eh) =
     most (yes h) = let (bl, bh) = s .is-tail in omega arith
     most (no h) = let k : b ≤ 143 = s .after-f4 (omega arith) in omega arith
 
--- a byte after a first byte that does not narrow it
+-- a tail byte after a first byte that does not narrow the second's range is a second byte
 free : (a b : ℕ) → (a ≡ 224 → ⊥) → (a ≡ 237 → ⊥) → (a ≡ 240 → ⊥) → (a ≡ 244 → ⊥) → Tail b → Second a b
 free a b w x y z t = record {
   after-e0 = λ q. absurd (w q);
@@ -263,7 +263,7 @@ free a b w x y z t = record {
   is-tail = t;
 }
 
--- each sequence is a line of section 3's table
+-- each sequence of section 4 is a line of section 3's table
 sequence-table : {bs : List ℕ} → Sequence bs → (c : ℕ) × Encoded c bs
 sequence-table (utf8-1 {a = a} h) = (a, line-one h)
 sequence-table (utf8-2 {a = a} {b = b} h t) = (_, two-bytes a b h t)
@@ -278,7 +278,7 @@ sequence-table (utf8-4-f1 {a = a} {b = b} {c = d} {d = e} (l, h) s t u) =
     (_, four-bytes a b d e (omega arith, omega arith) (free a b (λ q. omega arith) (λ q. omega arith) (λ q. omega arith) (λ q. omega arith) s) t u)
 sequence-table (utf8-4-f4 {b = b} {c = d} {d = e} (l, h) t u) = (_, four-bytes 244 b d e (omega arith, omega arith) (second-only 244 b (in-is 128 b 143 l h)) t u)
 
--- three bytes are one of the four alternatives of UTF8-3
+-- three bytes in section 4's ranges are one of the four alternatives of UTF8-3
 three-sequence : (a b d : ℕ) → In 224 239 a → Second a b → Tail d → Sequence (a ∷ b ∷ d ∷ [])
 three-sequence a b d (l, h) s t = go (ℕ-discrete a 224) (ℕ-discrete a 237) (decLt a 237)
   where
@@ -288,7 +288,7 @@ three-sequence a b d (l, h) s t = go (ℕ-discrete a 224) (ℕ-discrete a 237) (
     go (no n) (no m) (yes k) = utf8-3-e1 {a = a} (omega arith, omega arith) (s .is-tail) t
     go (no n) (no m) (no k) = utf8-3-ee {a = a} (omega arith, h) (s .is-tail) t
 
--- four bytes are one of the three alternatives of UTF8-4
+-- four bytes in section 4's ranges are one of the three alternatives of UTF8-4
 four-sequence : (a b d e : ℕ) → In 240 244 a → Second a b → Tail d → Tail e → Sequence (a ∷ b ∷ d ∷ e ∷ [])
 four-sequence a b d e (l, h) s t u = go (ℕ-discrete a 240) (ℕ-discrete a 244)
   where
@@ -297,7 +297,7 @@ four-sequence a b d e (l, h) s t u = go (ℕ-discrete a 240) (ℕ-discrete a 244
     go (no n) (yes q) = rw q (utf8-4-f4 (s .is-tail .0, s .after-f4 q) t u)
     go (no n) (no m) = utf8-4-f1 {a = a} (omega arith, omega arith) (s .is-tail) t u
 
--- each line of section 3's table is a sequence
+-- each line of section 3's table is a sequence of section 4
 table-sequence : {c : ℕ} {bs : List ℕ} → Encoded c bs → Sequence bs
 table-sequence (line-one h) = utf8-1 h
 table-sequence (line-two {x = x} {y = y} (l, h) e xl yl) = utf8-2 {a = 192 + x} {b = 128 + y} (omega arith, omega arith) (omega arith, omega arith)
@@ -331,22 +331,22 @@ encode-injective c d s t e =
 pub sequence-leads : {bs : List ℕ} (r : List ℕ) → Sequence bs → (c : ℕ) × ((bs ≡ encode c) × (scalar c ≡ true) × (leadOf (bs ++ r) ≡ valid c (length bs)))
 sequence-leads r q = let (c, e) = sequence-table q in let (s, b) = table-only e in (c, (b, s, table-leads e r))
 
--- the first bytes of a list
+-- the first byte of a list, as a list
 first-one : (s : List ℕ) → 0 < length s → byteAt s 0 ∷ [] ≡ take 1 s
 first-one [] h = absurd (omega arith)
 first-one (a ∷ r) h = refl
 
--- the first two
+-- the first two bytes of a list
 first-two : (s : List ℕ) → 1 < length s → byteAt s 0 ∷ byteAt s 1 ∷ [] ≡ take 2 s
 first-two [] h = absurd (omega arith)
 first-two (a ∷ r) h = ap (λ (x : List ℕ). a ∷ x) (first-one r (omega arith))
 
--- the first three
+-- the first three bytes of a list
 first-three : (s : List ℕ) → 2 < length s → byteAt s 0 ∷ byteAt s 1 ∷ byteAt s 2 ∷ [] ≡ take 3 s
 first-three [] h = absurd (omega arith)
 first-three (a ∷ r) h = ap (λ (x : List ℕ). a ∷ x) (first-two r (omega arith))
 
--- the first four
+-- the first four bytes of a list
 first-four : (s : List ℕ) → 3 < length s → byteAt s 0 ∷ byteAt s 1 ∷ byteAt s 2 ∷ byteAt s 3 ∷ [] ≡ take 4 s
 first-four [] h = absurd (omega arith)
 first-four (a ∷ r) h = ap (λ (x : List ℕ). a ∷ x) (first-three r (omega arith))
@@ -378,7 +378,7 @@ lead-table s c k = go (leadOf s) (leads s)
         (four-bytes (byteAt s 0) (byteAt s 1) (byteAt s 2) (byteAt s 3) (l, h) (second-only (byteAt s 0) (byteAt s 1) t) (tail-byte (byteAt s 2) u) b)
     go _ led-none e = let z : _≡_ {A = ℕ} 0 1 = cc in absurd (omega arith)
 
--- (d) and the other way: what is read as a character is one, and its encoding stands there
+-- (d) the other way round: what is read as a character is one, and its encoding stands there
 pub lead-is : (s : List ℕ) (c k : ℕ) → leadOf s ≡ valid c k → (scalar c ≡ true) × (take k s ≡ encode c) × (k ≡ length (encode c))
 lead-is s c k e =
     let (t, b) = table-only (lead-table s c k e) in
@@ -404,7 +404,7 @@ unfolding encodeAll
 all-valid [] h = table.none
 all-valid (c ∷ r) (h, t) = more (encode-is c h) (all-valid r t)
 
--- (e) and the other way: valid bytes are the encodings of characters
+-- (e) the other way round: valid bytes are the encodings of characters
 pub valid-all : {bs : List ℕ} → Valid bs → (cs : List ℕ) × (Scalars cs × (bs ≡ encodeAll cs))
 unfolding encodeAll
 valid-all table.none = ([], (tt, refl))
@@ -421,7 +421,7 @@ valid-only (more {bs = bs} {r = r} q v) =
     let (c, e) = sequence-table q in
     valid-after (bs ++ r) c (length bs) (table-leads e r) ∙ ap validOf (drop-append-seam bs r) ∙ valid-only v
 
--- bytes that pass the test are valid where the shorter ones are
+-- bytes that pass the test are valid, if those that are fewer are
 valid-step : (s : List ℕ) → ((t : List ℕ) → length t < length s → validOf t ≡ true → Valid t) → validOf s ≡ true → Valid s
 valid-step [] ih e = table.none
 valid-step (a ∷ r) ih e = go (a ∷ r) (omega arith) ih e (leadOf (a ∷ r)) refl

@@ -16,7 +16,7 @@ abbrev pub codeOfLead : Lead → ℕ
 codeOfLead (valid c n) = c
 codeOfLead invalid = 0
 
--- in how many bytes, 0 where there is none
+-- in how many bytes the character that bytes begin with stands, 0 where there is none
 abbrev pub usedOfLead : Lead → ℕ
 usedOfLead (valid c n) = n
 usedOfLead invalid = 0
@@ -25,6 +25,6 @@ usedOfLead invalid = 0
 unfoldable pub putAt : ℕ → List ℕ → List ℕ → List ℕ
 putAt at e o = pick (leb (at + length e) (length o)) (take at o ++ e ++ drop (at + length e) o) o
 
--- how many bytes were put
+-- how many bytes of an encoding were put into a room: all, or none where it does not fit
 unfoldable pub putWidth : ℕ → List ℕ → List ℕ → ℕ
 putWidth at e o = pick (leb (at + length e) (length o)) (length e) 0

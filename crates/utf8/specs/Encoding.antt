@@ -4,7 +4,7 @@ use Prim.Native.Nat.{ℕ, _+_}
 use mathlib.Core.List.{List, [], _∷_, _++_}
 use Rattle.utf8.specs.Utf8.{encode}
 
--- the encodings one after another
+-- the encodings of characters one after another
 unfoldable pub encodeAll : List ℕ → List ℕ
 encodeAll [] = []
 encodeAll (c ∷ r) = encode c ++ encodeAll r

@@ -27,12 +27,12 @@ stump : encodeAll (0xfeff ∷ 0x233b4 ∷ []) ≡ 0xef ∷ 0xbb ∷ 0xbf ∷ 0xf
 unfolding encodeAll encode
 stump = refl
 
--- the same bytes pass the test
+-- the bytes of "U+233B4 prepended with a UTF-8 BOM" pass the test
 stump-valid : validOf (0xef ∷ 0xbb ∷ 0xbf ∷ 0xf0 ∷ 0xa3 ∷ 0x8e ∷ 0xb4 ∷ []) ≡ true
 unfolding validFrom leadOf
 stump-valid = refl
 
--- cut short they do not
+-- the bytes of "U+233B4 prepended with a UTF-8 BOM", cut short by one, do not pass the test
 cut-short : validOf (0xef ∷ 0xbb ∷ 0xbf ∷ 0xf0 ∷ 0xa3 ∷ 0x8e ∷ []) ≡ false
 unfolding validFrom leadOf
 cut-short = refl
@@ -52,7 +52,7 @@ above : leadOf (0xf4 ∷ 0x90 ∷ 0x80 ∷ 0x80 ∷ []) ≡ invalid
 unfolding leadOf
 above = refl
 
--- the last character
+-- the last character, 10FFFF, is read
 greatest : leadOf (0xf4 ∷ 0x8f ∷ 0xbf ∷ 0xbf ∷ []) ≡ valid 0x10ffff 4
 unfolding leadOf
 greatest = refl

@@ -14,12 +14,12 @@ use Rattle.common.specs.Pick.{pick}
 use Rattle.utf8.specs.Utf8.{scalar, encode, byteAt, tail, lowest, highest, second, leadTwo, leadThree, leadFour, leadOf, validFrom, validOf}
 use Rattle.utf8.specs.Answer.{Lead, valid, invalid, codeOfLead, usedOfLead, putAt, putWidth}
 
--- two tests that hold together
+-- two tests that pass together pass each
 pub both : (a b : Bool) → a && b ≡ true → (a ≡ true) × (b ≡ true)
 both true b e = (refl, e)
 both false b e = let z : _≡_ {A = Bool} false true = e in absurd (let w : _≡_ {A = ℕ} 0 1 = cc in omega arith)
 
--- a number in a range
+-- a number that passes the test of a range lies in it
 pub bounds : (l c m : ℕ) → leb l c && leb c m ≡ true → (l ≤ c) × (c ≤ m)
 bounds l c m e = let p = both (leb l c) (leb c m) e in (leb-true l c (p .0), leb-true c m (p .1))
 
@@ -28,15 +28,15 @@ bounds l c m e = let p = both (leb l c) (leb c m) e in (leb-true l c (p .0), leb
 pub scalar-low : (c : ℕ) → c < 55296 → scalar c ≡ true
 scalar-low c h = rw (lt-ltb c 55296 h)
 
--- a number from above the surrogates to 10FFFF is one
+-- a number from above the surrogates to 10FFFF is a character
 pub scalar-high : (c : ℕ) → 57344 ≤ c → c ≤ 1114111 → scalar c ≡ true
 scalar-high c l h = rw (le-ltb c 55296 (omega arith), le-leb 57344 c l, le-leb c 1114111 h)
 
--- a surrogate is none
+-- a surrogate is no character
 pub scalar-between : (c : ℕ) → 55296 ≤ c → c ≤ 57343 → scalar c ≡ false
 scalar-between c l h = rw (le-ltb c 55296 l, lt-leb 57344 c (omega arith))
 
--- a number above 10FFFF is none
+-- a number above 10FFFF is no character
 pub scalar-above : (c : ℕ) → 1114111 < c → scalar c ≡ false
 scalar-above c h = rw (le-ltb c 55296 (omega arith), le-leb 57344 c (omega arith), lt-leb c 1114111 h)
 
@@ -52,22 +52,22 @@ scalar-apart c e h = go (decLt c 55296) (decLe c 57343)
         absurd (let w : _≡_ {A = ℕ} 0 1 = cc in omega arith)
 
 -- ---- the table's lines
--- `0xxxxxxx`
+-- a character below 80 (hex) is encoded as `0xxxxxxx`
 pub encode-one : (c : ℕ) → c < 128 → encode c ≡ c ∷ []
 unfolding encode
 encode-one c h = rw (scalar-low c (omega arith), lt-ltb c 128 h)
 
--- `110xxxxx 10xxxxxx`
+-- a character from 80 to 7FF (hex) is encoded as `110xxxxx 10xxxxxx`
 pub encode-two : (c : ℕ) → 128 ≤ c → c < 2048 → encode c ≡ (192 + c / 64) ∷ (128 + c % 64) ∷ []
 unfolding encode
 encode-two c l h = rw (scalar-low c (omega arith), le-ltb c 128 l, lt-ltb c 2048 h)
 
--- `1110xxxx 10xxxxxx 10xxxxxx`
+-- a character from 800 to FFFF (hex) is encoded as `1110xxxx 10xxxxxx 10xxxxxx`
 pub encode-three : (c : ℕ) → 2048 ≤ c → c < 65536 → scalar c ≡ true → encode c ≡ (224 + c / 4096) ∷ (128 + (c / 64) % 64) ∷ (128 + c % 64) ∷ []
 unfolding encode
 encode-three c l h e = rw (e, le-ltb c 128 (omega arith), le-ltb c 2048 l, lt-ltb c 65536 h)
 
--- `11110xxx 10xxxxxx 10xxxxxx 10xxxxxx`
+-- a character from 10000 (hex) on is encoded as `11110xxx 10xxxxxx 10xxxxxx 10xxxxxx`
 pub encode-four : (c : ℕ) → 65536 ≤ c → c ≤ 1114111
     → encode c ≡ (240 + c / 262144) ∷ (128 + (c / 4096) % 64) ∷ (128 + (c / 64) % 64) ∷ (128 + c % 64) ∷ []
 unfolding encode
@@ -78,7 +78,7 @@ pub encode-none : (c : ℕ) → scalar c ≡ false → encode c ≡ []
 unfolding encode
 encode-none c e = rw e
 
--- the line of the table that a number belongs to
+-- the line of section 3's table that a number belongs to
 pub data Ranged (c : ℕ) : Type 0 where
   one : c < 128 → Ranged c
   two : 128 ≤ c → c < 2048 → Ranged c
@@ -86,7 +86,7 @@ pub data Ranged (c : ℕ) : Type 0 where
   four : 65536 ≤ c → c ≤ 1114111 → Ranged c
   none : scalar c ≡ false → Ranged c
 
--- each number has one
+-- each number belongs to a line of section 3's table, or is no character
 pub ranged : (c : ℕ) → Ranged c
 ranged c = go (decLt c 128) (decLt c 2048) (decLt c 55296) (decLt c 57344) (decLt c 65536) (decLe c 1114111)
   where
@@ -99,7 +99,7 @@ ranged c = go (decLt c 128) (decLt c 2048) (decLt c 55296) (decLt c 57344) (decL
     go (no n) (no m) (no k) (no j) (no i) (yes h) = four (omega arith) h
     go (no n) (no m) (no k) (no j) (no i) (no h) = none (scalar-above c (omega arith))
 
--- the line of the table by the encoding's length n
+-- what a number's encoding of n bytes says of it: the line of section 3's table by n
 pub record Sized (c n : ℕ) : Type 0 where
   pub at-one : n ≡ 1 → c < 128
   pub at-two : n ≡ 2 → (128 ≤ c) × (c < 2048)
@@ -108,7 +108,7 @@ pub record Sized (c n : ℕ) : Type 0 where
   pub at-most : n ≤ 4
   pub at-none : n ≡ 0 → encode c ≡ []
 
--- an encoding's length tells the line
+-- an encoding's length tells the line of section 3's table
 pub sized : (c n : ℕ) → n ≡ length (encode c) → Sized c n
 sized c n e = go (ranged c)
   where
@@ -165,7 +165,7 @@ sized c n e = go (ranged c)
         }
 
 -- ---- what bytes begin with
--- a byte that is one stands in the list
+-- where the byte at k is one, k is a place in the list
 pub byte-in : (s : List ℕ) (k : ℕ) → byteAt s k < 256 → k < length s
 byte-in s k h = go (decLt k (length s))
   where
@@ -189,14 +189,14 @@ pub lead-two : (s : List ℕ) (a b : ℕ) → a ≡ byteAt s 0 → b ≡ byteAt 
 unfolding leadOf
 lead-two s a b ea eb t = rw (← ea, ← eb, le-ltb a 128 (omega (arith, bounds 194 a 223 t .0)), t)
 
--- E0 to EF begin three
+-- E0 to EF begin three bytes
 pub lead-three : (s : List ℕ) (a b c : ℕ) → a ≡ byteAt s 0 → b ≡ byteAt s 1 → c ≡ byteAt s 2 → leb 224 a && leb a 239 ≡ true → leadThree a b c ≡ leadOf s
 unfolding leadOf
 lead-three s a b c ea eb ec t =
     let l : 224 ≤ a = bounds 224 a 239 t .0 in
     rw (← ea, ← eb, ← ec, le-ltb a 128 (omega arith), le-leb 194 a (omega arith), lt-leb a 223 (omega arith), t)
 
--- F0 to F4 begin four
+-- F0 to F4 begin four bytes
 pub lead-four : (s : List ℕ) (a b c d : ℕ) → a ≡ byteAt s 0 → b ≡ byteAt s 1 → c ≡ byteAt s 2 → d ≡ byteAt s 3
     → leb 240 a && leb a 244 ≡ true → leadFour a b c d ≡ leadOf s
 unfolding leadOf
@@ -220,7 +220,7 @@ pub data Leads (s : List ℕ) : Lead → Type 0 where
       → Leads s (valid ((byteAt s 0 - 240) * 262144 + (byteAt s 1 - 128) * 4096 + (byteAt s 2 - 128) * 64 + (byteAt s 3 - 128)) 4)
   led-none : Leads s invalid
 
--- each list of bytes begins in one of them
+-- each list of bytes begins in one of the five ways
 pub leads : (s : List ℕ) → Leads s (leadOf s)
 unfolding leadOf
 leads s = one (ltb (byteAt s 0) 128) refl
@@ -269,11 +269,11 @@ leads s = one (ltb (byteAt s 0) 128) refl
     one true h = led-one (ltb-true (byteAt s 0) 128 h)
     one false h = next (leb 194 (byteAt s 0) && leb (byteAt s 0) 223) refl
 
--- a tail byte is a byte
+-- a tail byte lies from 80 to BF
 pub tail-byte : (b : ℕ) → tail b ≡ true → (128 ≤ b) × (b ≤ 191)
 tail-byte b e = bounds 128 b 191 e
 
--- the least second byte is a tail byte
+-- the least second byte is not below the tail bytes
 pub lowest-tail : (a : ℕ) → 128 ≤ lowest a
 lowest-tail a = go (eqb a 224) (eqb a 240)
   where
@@ -282,7 +282,7 @@ lowest-tail a = go (eqb a 224) (eqb a 240)
     go false true = omega arith
     go false false = omega arith
 
--- and so is the greatest
+-- the greatest second byte is not above the tail bytes
 pub highest-tail : (a : ℕ) → highest a ≤ 191
 highest-tail a = go (eqb a 237) (eqb a 244)
   where
@@ -291,7 +291,7 @@ highest-tail a = go (eqb a 237) (eqb a 244)
     go false true = omega arith
     go false false = omega arith
 
--- what a second byte is
+-- a second byte lies in the range of its first byte, and is a tail byte
 pub second-byte : (a b : ℕ) → second a b ≡ true → (lowest a ≤ b) × (b ≤ highest a) × (128 ≤ b) × (b ≤ 191)
 second-byte a b e =
     let (l, h) = bounds (lowest a) b (highest a) e in
@@ -327,18 +327,18 @@ used-within s c n = go (leadOf s) (leads s)
     go _ led-none e = let z : _≡_ {A = ℕ} 0 1 = cc in absurd (omega arith)
 
 -- ---- an encoding put into a room
--- it does not fit: no byte is put
+-- an encoding that does not fit a room: no byte is put
 pub put-short : (at : ℕ) (e o : List ℕ) → length o < at + length e → (0 ≡ putWidth at e o) × (o ≡ putAt at e o)
 unfolding putWidth putAt
 put-short at e o h = (rw (lt-leb (at + length e) (length o) h), rw (lt-leb (at + length e) (length o) h))
 
--- it fits: its bytes are stored one after another
+-- an encoding that fits a room: its bytes are stored one after another
 pub put-fits : (at : ℕ) (e o : List ℕ) → at + length e ≤ length o → (length e ≡ putWidth at e o) × (sets o at e ≡ putAt at e o)
 unfolding putWidth putAt
 put-fits at e o h = (rw (le-leb (at + length e) (length o) h), rw (le-leb (at + length e) (length o) h) (sets-eq e o at h))
 
 -- ---- one sequence after another
--- so many bytes are passed over
+-- bytes are valid after n are passed over just where those from n on are
 pub valid-skip : (s : List ℕ) (n : ℕ) → n ≤ length s → validFrom s n ≡ validOf (drop n s)
 unfolding validFrom
 valid-skip [] zero h = refl
@@ -346,12 +346,12 @@ valid-skip [] (suc n) h = absurd (omega arith)
 valid-skip (b ∷ r) zero h = refl
 valid-skip (b ∷ r) (suc n) h = valid-skip r n (omega arith)
 
--- no bytes are valid
+-- at the end there is no byte left, and that is valid
 pub valid-ends : (s : List ℕ) (i : ℕ) → length s ≤ i → true ≡ validOf (drop i s)
 unfolding validFrom
 valid-ends s i h = rw (drop-of-length-le s h)
 
--- after a character the rest decides
+-- bytes that begin with a character are valid just where the rest is
 pub valid-after : (s : List ℕ) (c n : ℕ) → leadOf s ≡ valid c n → validOf s ≡ validOf (drop n s)
 unfolding validFrom
 valid-after [] c n e = let (p, q) = used-within [] c n e in absurd (omega arith)
@@ -383,7 +383,7 @@ used-some s n = go (leadOf s) refl
     go (valid c m) e k h = ap (valid c) (sym k)
     go invalid e k h = absurd (h k)
 
--- the loop over the bytes, at an index: a byte below 128
+-- the test of all bytes, at place i: a byte below 128 is passed
 pub valid-one : (s : List ℕ) (i : ℕ) → i < length s → getD s i 0 < 128 → validOf (drop i s) ≡ validOf (drop (i + 1) s)
 valid-one s i h l =
     let a : getD s i 0 ≡ byteAt (drop i s) 0 = byte-at s i 0 h ∙ ap (getD′ s) (omega arith) ∙ sym (getD-drop i s 0 256) in
@@ -392,11 +392,11 @@ valid-one s i h l =
     getD′ : List ℕ → ℕ → ℕ
     getD′ xs k = getD xs k 256
 
--- the rest from i, as a part that runs to the end
+-- the rest of the bytes from i, as a part that runs to the end
 part : (s : List ℕ) (i : ℕ) → take (length s - i) (drop i s) ≡ drop i s
 part s i = take-all (length s - i) (drop i s) (omega (arith, length-drop i s))
 
--- a character of n bytes
+-- the test of all bytes, at place i: a character of n bytes is passed
 pub valid-here : (s : List ℕ) (i n : ℕ) → i ≤ length s → n ≡ usedOfLead (leadOf (take (length s - i) (drop i s))) → (n ≡ 0 → ⊥)
     → (i + n ≤ length s) × (validOf (drop i s) ≡ validOf (drop (i + n) s))
 valid-here s i n h e ne =
@@ -405,7 +405,7 @@ valid-here s i n h e ne =
     let (p, q) = used-within (drop i s) (codeOfLead (leadOf (drop i s))) n l in
     (omega (arith, length-drop i s), valid-after (drop i s) (codeOfLead (leadOf (drop i s))) n l ∙ ap validOf (drop-drop n i s))
 
--- no sequence
+-- the test of all bytes, at place i: where no sequence begins, it fails
 pub valid-fails : (s : List ℕ) (i n : ℕ) → i < length s → n ≡ usedOfLead (leadOf (take (length s - i) (drop i s))) → n ≡ 0 → validOf (drop i s) ≡ false
 valid-fails s i n h e z =
     let e′ : 0 ≡ usedOfLead (leadOf (drop i s)) = sym z ∙ e ∙ ap (λ (x : List ℕ). usedOfLead (leadOf x)) (part s i) in

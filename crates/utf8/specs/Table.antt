@@ -23,7 +23,7 @@ pub data Encoded : ℕ → List ℕ → Type 0 where
   line-four : {c x y z w : ℕ} → In 65536 1114111 c → c ≡ x * 262144 + y * 4096 + z * 64 + w → x < 8 → y < 64 → z < 64 → w < 64
       → Encoded c ((240 + x) ∷ (128 + y) ∷ (128 + z) ∷ (128 + w) ∷ [])
 
--- `UTF8-tail = %x80-BF`
+-- section 4: `UTF8-tail = %x80-BF`
 abbrev pub Tail : ℕ → Type 0
 Tail b = In 128 191 b
 
@@ -35,20 +35,20 @@ pub data Sequence : List ℕ → Type 0 where
   utf8-2 : {a b : ℕ} → In 194 223 a → Tail b → Sequence (a ∷ b ∷ [])
   -- `UTF8-3 = %xE0 %xA0-BF UTF8-tail /`
   utf8-3-e0 : {b c : ℕ} → In 160 191 b → Tail c → Sequence (224 ∷ b ∷ c ∷ [])
-  -- `%xE1-EC 2( UTF8-tail ) /`
+  -- UTF8-3, second alternative: `%xE1-EC 2( UTF8-tail ) /`
   utf8-3-e1 : {a b c : ℕ} → In 225 236 a → Tail b → Tail c → Sequence (a ∷ b ∷ c ∷ [])
-  -- `%xED %x80-9F UTF8-tail /`
+  -- UTF8-3, third alternative: `%xED %x80-9F UTF8-tail /`
   utf8-3-ed : {b c : ℕ} → In 128 159 b → Tail c → Sequence (237 ∷ b ∷ c ∷ [])
-  -- `%xEE-EF 2( UTF8-tail )`
+  -- UTF8-3, last alternative: `%xEE-EF 2( UTF8-tail )`
   utf8-3-ee : {a b c : ℕ} → In 238 239 a → Tail b → Tail c → Sequence (a ∷ b ∷ c ∷ [])
   -- `UTF8-4 = %xF0 %x90-BF 2( UTF8-tail ) /`
   utf8-4-f0 : {b c d : ℕ} → In 144 191 b → Tail c → Tail d → Sequence (240 ∷ b ∷ c ∷ d ∷ [])
-  -- `%xF1-F3 3( UTF8-tail ) /`
+  -- UTF8-4, second alternative: `%xF1-F3 3( UTF8-tail ) /`
   utf8-4-f1 : {a b c d : ℕ} → In 241 243 a → Tail b → Tail c → Tail d → Sequence (a ∷ b ∷ c ∷ d ∷ [])
-  -- `%xF4 %x80-8F 2( UTF8-tail )`
+  -- UTF8-4, last alternative: `%xF4 %x80-8F 2( UTF8-tail )`
   utf8-4-f4 : {b c d : ℕ} → In 128 143 b → Tail c → Tail d → Sequence (244 ∷ b ∷ c ∷ d ∷ [])
 
--- `UTF8-octets = *( UTF8-char )`
+-- section 4: `UTF8-octets = *( UTF8-char )`
 pub data Valid : List ℕ → Type 0 where
   none : Valid []
   more : {bs r : List ℕ} → Sequence bs → Valid r → Valid (bs ++ r)

@@ -33,31 +33,31 @@ encode c =
 abbrev pub byteAt : List ℕ → ℕ → ℕ
 byteAt s k = getD s k 256
 
--- `UTF8-tail = %x80-BF`
+-- a tail byte: `UTF8-tail = %x80-BF`
 abbrev pub tail : ℕ → Bool
 tail b = leb 128 b && leb b 191
 
--- the least second byte: after E0 and F0 no longer form than needed
+-- the least second byte after a first one: after E0 and F0 no longer form than needed
 abbrev pub lowest : ℕ → ℕ
 lowest a = pick (eqb a 224) 160 (pick (eqb a 240) 144 128)
 
--- the greatest second byte: after ED no surrogate, after F4 nothing above 10FFFF
+-- the greatest second byte after a first one: after ED no surrogate, after F4 nothing above 10FFFF
 abbrev pub highest : ℕ → ℕ
 highest a = pick (eqb a 237) 159 (pick (eqb a 244) 143 191)
 
--- the second byte's range, which section 4 narrows after E0, ED, F0 and F4
+-- whether b is in the second byte's range, which section 4 narrows after the first bytes E0, ED, F0 and F4
 abbrev pub second : ℕ → ℕ → Bool
 second a b = leb (lowest a) b && leb b (highest a)
 
--- two bytes: the character, or no sequence where the second byte is no tail
+-- what two bytes begin with: the character, or no sequence where the second byte is no tail
 abbrev pub leadTwo : ℕ → ℕ → Lead
 leadTwo a b = pick (tail b) (valid ((a - 192) * 64 + (b - 128)) 2) invalid
 
--- three bytes: the second in its narrowed range
+-- what three bytes begin with: the character, or no sequence where the second byte is out of its range or the third no tail
 abbrev pub leadThree : ℕ → ℕ → ℕ → Lead
 leadThree a b c = pick (second a b && tail c) (valid ((a - 224) * 4096 + (b - 128) * 64 + (c - 128)) 3) invalid
 
--- four bytes: the second in its narrowed range
+-- what four bytes begin with: the character, or no sequence where the second byte is out of its range or a later one no tail
 abbrev pub leadFour : ℕ → ℕ → ℕ → ℕ → Lead
 leadFour a b c d = pick (second a b && tail c && tail d) (valid ((a - 240) * 262144 + (b - 128) * 4096 + (c - 128) * 64 + (d - 128)) 4) invalid
 
@@ -78,12 +78,12 @@ leadOf s =
     (leadFour (byteAt s 0) (byteAt s 1) (byteAt s 2) (byteAt s 3))
     invalid)))
 
--- what follows a character: the rest of its bytes are passed over, and no sequence ends all
+-- what follows in a test of all bytes: the rest of a character's bytes are passed over, and no sequence ends all
 abbrev pub onward : Lead → (ℕ → Bool) → Bool
 onward (valid c n) k = k (n - 1)
 onward invalid k = false
 
--- the bytes are one valid sequence after another, once so many are passed over that belong to one already begun
+-- the bytes are one valid sequence after another, once n are passed over that belong to one already begun
 unfoldable pub validFrom : List ℕ → ℕ → Bool
 validFrom [] zero = true
 validFrom [] (suc n) = false

@@ -17,11 +17,11 @@ top w n j s l h e =
       subst (λ (x : ℕ). n * 2 ^ s < 2 ^ x) b (shl-lt {a = n} (suc j) s h),
     )
 
--- so does a number that is moved up by as many places as stand free above it
+-- a number moved up by as many places as stand free above it has w + 1 digits
 pub moved-up : (w n : ℕ) → 0 < n → n < 2 ^ suc w → (2 ^ w ≤ n * 2 ^ leadingZeros (suc w) n) × (n * 2 ^ leadingZeros (suc w) n < 2 ^ suc w)
 moved-up w n p h = let t = leading-top (suc w) n p h in top w n (t .0) (leadingZeros (suc w) n) (t .2) (t .3) (t .1)
 
--- what the code's `lift` computes
+-- what the code's `lift` computes: the number moved up so that it has 64 digits, none of it lost
 pub lifts : (n : ℕ) → 0 < n → n < 2 ^ 64
     → (n * 2 ^ leadingZeros 64 n % 2 ^ 64 ≡ n * 2 ^ leadingZeros 64 n) × (2 ^ 63 ≤ n * 2 ^ leadingZeros 64 n % 2 ^ 64) × (n * 2 ^ leadingZeros 64 n % 2 ^ 64 < 2 ^ 64) × (leadingZeros 64 n < 64)
 lifts n p h =
@@ -32,19 +32,19 @@ lifts n p h =
     (m, subst (λ (x : ℕ). 2 ^ 63 ≤ x) (sym m) (r .0), subst (λ (x : ℕ). x < 2 ^ 64) (sym m) (r .1), omega arith)
 
 -- ---- multiplication, by columns of 32 digits
--- the two factors by their halves
+-- the product of two factors by their halves
 halves : (P a₁ a₀ b₁ b₀ : ℕ) → (a₁ * P + a₀) * (b₁ * P + b₀) ≡ a₁ * b₁ * (P * P) + a₁ * b₀ * P + a₀ * b₁ * P + a₀ * b₀
 halves P a₁ a₀ b₁ b₀ = simp (mul-add, add-mul, mul-assoc, mul-comm, mul-left-comm, add-assoc, add-comm, add-left-comm) refl
 
--- the first column's carry goes to the second
+-- in a product by columns, the first column's carry goes to the second
 carry : (P x y z q r : ℕ) → x * (P * P) + y * P + z * P + (q * P + r) ≡ x * (P * P) + (y + q) * P + z * P + r
 carry P x y z q r = simp (mul-add, add-mul, mul-assoc, mul-comm, mul-left-comm, add-assoc, add-comm, add-left-comm) refl
 
--- the second column's to the upper half
+-- in a product by columns, the second column's carry goes to the upper half
 carry-up : (P x z q r t : ℕ) → x * (P * P) + (q * P + r) * P + z * P + t ≡ (x + q) * (P * P) + (r + z) * P + t
 carry-up P x z q r t = simp (mul-add, add-mul, mul-assoc, mul-comm, mul-left-comm, add-assoc, add-comm, add-left-comm) refl
 
--- and the third's
+-- in a product by columns, the third column's carry goes to the upper half
 carry-last : (P x q r t : ℕ) → x * (P * P) + (q * P + r) * P + t ≡ (x + q) * (P * P) + (r * P + t)
 carry-last P x q r t = simp (mul-add, add-mul, mul-assoc, mul-comm, mul-left-comm, add-assoc, add-comm, add-left-comm) refl
 
@@ -59,19 +59,19 @@ columns P a₁ a₀ b₁ b₀ q₁ r₁ q₂ r₂ q₃ r₃ e f g =
     ∙ ap (λ (x : ℕ). (a₁ * b₁ + q₂) * (P * P) + x * P + r₁) g
     ∙ carry-last P (a₁ * b₁ + q₂) q₃ r₃ r₁
 
--- the columns' sums, as the code has them
+-- the first column's sum of a product, as the code has it
 abbrev pub first : ℕ → ℕ → ℕ
 first a b = a % 4294967296 * (b % 4294967296)
 
--- the second column's sum
+-- the second column's sum of a product, with the first one's carry, as the code has it
 abbrev pub second : ℕ → ℕ → ℕ
 second a b = a / 4294967296 * (b % 4294967296) + first a b / 4294967296
 
--- the third column's sum
+-- the third column's sum of a product, as the code has it
 abbrev pub third : ℕ → ℕ → ℕ
 third a b = second a b % 4294967296 + a % 4294967296 * (b / 4294967296)
 
--- the upper half is the product's, and so is the lower
+-- the upper and the lower half that the code makes of its columns are the product's
 pub multiplied : (a b : ℕ) → (a / 4294967296 * (b / 4294967296) + second a b / 4294967296 + third a b / 4294967296) * 18446744073709551616 + (third a b % 4294967296 * 4294967296 + first a b % 4294967296) ≡ a * b
 multiplied a b =
     let P : ℕ = 4294967296 in
@@ -79,7 +79,7 @@ multiplied a b =
     ∙ ap (λ (x : ℕ). x * (b / P * P + b % P)) (div-add-mod' a P)
     ∙ ap (λ (x : ℕ). a * x) (div-add-mod' b P)
 
--- a product of two halves leaves room for a carry from each side
+-- a product of two halves of 32 digits leaves room for a carry from each side
 pub column : (x y : ℕ) → x ≤ 4294967295 → y ≤ 4294967295 → x * y ≤ 18446744065119617025
 column x y h k = mul-le-mul h k
 
@@ -89,11 +89,11 @@ module _ (r d : ℕ) where
   abbrev pub upper : ℕ
   upper = d / 134217728 + 1
 
-  -- what is left of r * 2 ^ 27 after so many times the divisor
+  -- what is left of r * 2 ^ 27 after r / upper times the divisor
   abbrev pub after : ℕ
   after = r % upper * 134217728 + r / upper * (134217728 - d % 134217728)
 
-  -- that it is
+  -- r * 2 ^ 27 is r / upper times the divisor and what is left after that
   pub digit-splits : r / upper * d + after ≡ r * 134217728
   digit-splits =
       let q = r / upper in
@@ -107,30 +107,30 @@ module _ (r d : ℕ) where
       put a b c s t e f = omega arith
 
   module _ (least : 2 ^ 62 ≤ d) (most : d < 2 ^ 63) (less : r < d) where
-    -- the digit has 27 binary digits
+    -- a digit of the quotient has 27 binary digits at most
     pub digit-lt : r / upper < 134217728
     digit-lt =
         let p : 0 < upper = omega arith in
         let l : r < 134217728 * upper = omega arith in
         div-lt-iff-lt-mul {k = upper} {x = r} {y = 134217728} p .1 l
 
-    -- what the digit's error may add
+    -- what the error of a quotient's digit may add to the rest is at most 2 ^ 54
     pub error-le : r / upper * (134217728 - d % 134217728) ≤ 18014398509481984
     error-le = let l : r / upper < 134217728 = digit-lt in let a : r / upper ≤ 134217728 = omega arith in let b : 134217728 - d % 134217728 ≤ 134217728 = omega arith in mul-le-mul a b
 
-    -- the rest of r by the upper part
+    -- what r leaves by the upper part of the divisor is at most d / 2 ^ 27
     pub mod-le : r % upper ≤ d / 134217728
     mod-le = let l : r % upper < upper = mod-lt r (omega arith) in omega arith
 
-    -- the digit is right or one too small
+    -- after a digit of the quotient less than two divisors are left: it is right or one too small
     pub after-lt : after < d * 2
     after-lt = let a = error-le in let b = mod-le in omega arith
 
-    -- right
+    -- a digit of the quotient that leaves less than the divisor is right
     pub digit-right : after < d → (r / upper * d + after ≡ r * 134217728) × (after < d)
     digit-right h = (digit-splits, h)
 
-    -- one too small
+    -- a digit of the quotient that leaves the divisor or more is one too small
     pub digit-more : d ≤ after → ((r / upper + 1) * d + (after - d) ≡ r * 134217728) × (after - d < d)
     digit-more h =
         let a = after-lt in (
@@ -141,7 +141,7 @@ module _ (r d : ℕ) where
         back : (a b x : ℕ) → b ≡ d → d ≤ x → a + b + (x - d) ≡ a + x
         back a b x e h = omega arith
 
--- a digit of a rest below the divisor is below 2 ^ 27
+-- a quotient's digit of a rest below the divisor is below 2 ^ 27
 pub digit-short : (q s r d : ℕ) → 0 < d → q * d + s ≡ r * 134217728 → r < d → q < 134217728
 digit-short q s r d p e l =
     lt-of-mul-lt-mul-right d (lt-of-le-of-lt (le-of-eq-add (q * d) s (r * 134217728) e) (subst (λ (x : ℕ). r * 134217728 < x) (mul-comm d 134217728) (mul-lt-mul-of-pos-right l (omega arith))))
@@ -149,7 +149,7 @@ digit-short q s r d p e l =
     le-of-eq-add : (a b c : ℕ) → a + b ≡ c → a ≤ c
     le-of-eq-add a b c e = omega arith
 
--- three digits one after the other are the quotient with 54 binary digits below the point
+-- three digits of a quotient one after the other are the quotient with 54 binary digits below the point
 pub quotient-splits : (n d p a r b s : ℕ) → p * d + n ≡ r → a * d + b ≡ n * 134217728 → s ≡ b * 134217728 → (e f : ℕ) → e * d + f ≡ s → (p * 18014398509481984 + a * 134217728 + e) * d + f ≡ r * 18014398509481984
 quotient-splits n d p a r b s h k g e f l =
     ap (λ (x : ℕ). x + f) (add-mul (p * 18014398509481984 + a * 134217728) e d ∙ ap (λ (x : ℕ). x + e * d) (add-mul (p * 18014398509481984) (a * 134217728) d ∙ ap (λ (x : ℕ). x + a * 134217728 * d) (mul-right-comm p 18014398509481984 d) ∙ ap (λ (x : ℕ). p * d * 18014398509481984 + x) (mul-right-comm a 134217728 d)))

@@ -20,7 +20,7 @@ use Rattle.cut.specs.Rounding.{told, few-dropped}
 use Rattle.cut.specs.Drops.{drops}
 
 -- ---- the test for no doubt
--- the code's one test for what is just half, or the one below, where a unit is a multiple of four
+-- the code's one test for no doubt: what is dropped is not just half, nor the one below, where a unit is a multiple of four
 pub sure-test : (low unit : ℕ) → unit % 4 ≡ 0 → not (eqb ((low + 1) / 2 * 4) unit) ≡ sure low unit
 sure-test low unit m = go (ℕ-discrete ((low + 1) / 2 * 4) unit)
   where
@@ -41,7 +41,7 @@ sure-test low unit m = go (ℕ-discrete ((low + 1) / 2 * 4) unit)
             let b : unit < low * 2 = omega arith in
             rw (ne-eqb ((low + 1) / 2 * 4) unit n, lt-ltb unit (low * 2) b) (sym (other (leb ((low + 2) * 2) unit)))
 
--- a unit of two digits or more is a multiple of four
+-- a unit of two binary digits or more is a multiple of four
 pub unit-four : (z d : ℕ) → d ≡ 11 - z → z ≤ 9 → 2 ^ d % 4 ≡ 0
 unit-four z d e l =
     let f : 9 - z + 2 ≡ d = omega arith in
@@ -52,7 +52,7 @@ unit-four z d e l =
 
 -- ---- the pattern. A place up to 2000 keeps it below infinity's, which 2047 begins
 module _ (w : ℕ) (more : Bool) (x k : ℕ) (least : 2 ^ 53 ≤ w) (most : w < 2 ^ 64) (far : x ≤ 2000) (kept : k ≡ nearest (w / 2 ^ beyond w) (against (w % 2 ^ beyond w) (2 ^ beyond w) more)) where
-  -- the pattern is a number's
+  -- the pattern that is made of what is kept is a number's
   pattern-lt : (x + beyond w) * 2 ^ 52 + k < infinity
   pattern-lt =
       let d = beyond w in
@@ -61,7 +61,7 @@ module _ (w : ℕ) (more : Bool) (x k : ℕ) (least : 2 ^ 53 ≤ w) (most : w < 
       let b : nearest q (against (w % 2 ^ d) (2 ^ d) more) ≤ suc q = nearest-le q (against (w % 2 ^ d) (2 ^ d) more) in
       omega arith
 
-  -- and it is the nearest
+  -- the pattern that is made of what is kept is the nearest of every number that is cut to w
   pattern-near : (num den : ℕ) → Cut num den w more x → (x + beyond w) * 2 ^ 52 + k ≡ near num den
   pattern-near num den c =
       let z = leadingZeros 64 w in
@@ -78,7 +78,7 @@ module _ (w : ℕ) (more : Bool) (x k : ℕ) (least : 2 ^ 53 ≤ w) (most : w < 
       whole : (p : ℕ) → p < infinity → p ≡ min infinity p
       whole p h = omega arith
 
-  -- where w's own digits leave no doubt, it is that of every number near above
+  -- where w's own digits leave no doubt, the pattern of what is kept is the nearest of every number near above w
   pattern-sure : sure (w % 2 ^ beyond w) (2 ^ beyond w) ≡ true → (num den : ℕ) → Within num den w x → (x + beyond w) * 2 ^ 52 + k ≡ near num den
   pattern-sure t num den c =
       let z = leadingZeros 64 w in
@@ -114,20 +114,20 @@ module _ (w : ℕ) (more : Bool) (x k : ℕ) (least : 2 ^ 53 ≤ w) (most : w < 
           halves : (a b e : ℕ) → e ≡ b * 2 → e < a * 2 → b < a
           halves a b e f g = omega arith
 
--- the same where d is what the code drops
+-- the pattern where d is what the code drops of w
 module _ (w : ℕ) (more : Bool) (x k d : ℕ) (least : 2 ^ 53 ≤ w) (most : w < 2 ^ 64) (far : x ≤ 2000) (is : d ≡ beyond w) (kept : k ≡ nearest (w / 2 ^ (d % 64)) (against (w % 2 ^ (d % 64)) (2 ^ (d % 64)) more)) where
-  -- what is kept
+  -- what is kept and rounded, the machine's shift written out
   kept-there : k ≡ nearest (w / 2 ^ beyond w) (against (w % 2 ^ beyond w) (2 ^ beyond w) more)
   kept-there = subst (λ (n : ℕ). k ≡ nearest (w / 2 ^ n) (against (w % 2 ^ n) (2 ^ n) more)) is (few-dropped w more d k (omega arith) kept)
 
-  -- the pattern is a number's
+  -- the pattern that the code makes of what is kept is no NaN's
   pub made-le : (x + d) * 2 ^ 52 + k ≤ infinity
   made-le = le-of-lt (subst (λ (n : ℕ). (x + n) * 2 ^ 52 + k < infinity) (sym is) (pattern-lt w more x k least most far kept-there))
 
-  -- and it is the nearest
+  -- the pattern that the code makes of what is kept is the nearest of every number that is cut to w
   pub made-near : (num den : ℕ) → Cut num den w more x → (x + d) * 2 ^ 52 + k ≡ near num den
   made-near num den c = ap (λ (n : ℕ). (x + n) * 2 ^ 52 + k) is ∙ pattern-near w more x k least most far kept-there num den c
 
-  -- and near above, where there is no doubt
+  -- where there is no doubt, the pattern that the code makes is the nearest of every number near above w
   pub made-sure : sure (w % 2 ^ beyond w) (2 ^ beyond w) ≡ true → (num den : ℕ) → Within num den w x → (x + d) * 2 ^ 52 + k ≡ near num den
   made-sure t num den c = ap (λ (n : ℕ). (x + n) * 2 ^ 52 + k) is ∙ pattern-sure w more x k least most far kept-there t num den c

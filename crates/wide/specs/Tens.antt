@@ -16,7 +16,7 @@ use Rattle.wide.specs.Long.{moved-up}
 use Rattle.cut.specs.Cut.{Cut, Within}
 use Rattle.wide.specs.Reach.{reach, far}
 
--- something is left just where it is left of a multiple
+-- something is left of r just where it is left of r times a power of two
 pub left-of : (r k : ℕ) → not (eqb r 0) ≡ ltb 0 (r * 2 ^ k)
 left-of zero k = sym (ap (λ (x : ℕ). ltb 0 x) (zero-mul (2 ^ k)))
 left-of (suc r) k = let n : suc r ≡ 0 → ⊥ = λ e. omega arith in ap not (ne-eqb (suc r) 0 n) ∙ sym (lt-ltb 0 (suc r * 2 ^ k) (mul-pos (omega arith) (pow-pos k)))
@@ -89,19 +89,19 @@ five-lt k h = lt-of-le-of-lt (pow-le-pow-right (omega arith) h) (omega arith)
 abbrev pub placesOf : ℕ → ℕ
 placesOf k = leadingZeros 63 (5 ^ k)
 
--- by no more than all 63
+-- 5 ^ k is moved up by 63 digits at most
 pub places-le : (k : ℕ) → placesOf k ≤ 63
 places-le k = leading-le 63 (5 ^ k)
 
--- 5 ^ k, moved up
+-- 5 ^ k, moved up as far as 63 digits allow
 abbrev pub lifted-five : ℕ → ℕ
 lifted-five k = 5 ^ k * 2 ^ placesOf k
 
--- it has 63 digits then
+-- 5 ^ k, moved up, has 63 digits
 pub lifted-bounds : (k : ℕ) → k ≤ reach → (2 ^ 62 ≤ lifted-five k) × (lifted-five k < 2 ^ 63)
 lifted-bounds k h = moved-up 62 (5 ^ k) (one-le-pow k 5 (omega arith)) (five-lt k h)
 
--- what the code's `lifted_five` computes
+-- what the code's `lifted_five` computes: 5 ^ k moved up, none of it lost, with 63 digits
 pub lifted-is : (k p b : ℕ) → k ≤ reach → p ≡ 5 ^ k → b ≡ placesOf k → (p * 2 ^ b % 2 ^ 64 ≡ 5 ^ k * 2 ^ b) × (2 ^ 62 ≤ p * 2 ^ b % 2 ^ 64) × (p * 2 ^ b % 2 ^ 64 < 2 ^ 63) × (b < 64)
 lifted-is k p b h e f =
     let r = lifted-bounds k h in
@@ -121,7 +121,7 @@ lifted-is k p b h e f =
 abbrev pub halvingsOf : ℕ → ℕ
 halvingsOf k = k * 4755 / 2048
 
--- r is 2 ^ (64 + e) divided by 5 ^ k, or below that by one at most, e being that number; and it has 63 binary digits or more
+-- r is 2 ^ (64 + e) divided by 5 ^ k, or below that by one at most, e being `halvingsOf k`; and it has 63 binary digits or more
 pub record Reciprocal (k r : ℕ) : Type 0 where
   pub long : 2 ^ 62 ≤ r
   pub not-above : r * 5 ^ k ≤ 2 ^ (64 + halvingsOf k)
@@ -132,7 +132,7 @@ abbrev each : (ℕ → Bool) → ℕ → Bool
 each f zero = true
 each f (suc n) = f n && each f n
 
--- so it passes at any of them
+-- a test that passes at each number below n passes at k
 each-at : (f : ℕ → Bool) (n k : ℕ) → T (each f n) → k < n → T (f k)
 each-at f zero k t h = absurd (omega arith)
 each-at f (suc n) k t h = go (λ l. each-at f n k (and-r (f n) (each f n) t) l) (decLt k n)
@@ -141,24 +141,24 @@ each-at f (suc n) k t h = go (λ l. each-at f n k (and-r (f n) (each f n) t) l) 
     go below (yes l) = below l
     go below (no g) = let e : n ≡ k = omega arith in subst (λ (j : ℕ). T (f j)) e (and-l (f n) (each f n) t)
 
--- the code's sum for the places
+-- the code's sum for how far 5 ^ k is moved up
 abbrev sumOf : ℕ → ℕ
 sumOf k = 62 - halvingsOf k
 
--- it is right at each k in reach
+-- the code's sum for how far 5 ^ k is moved up is right at each k in reach: one test that antt computes
 all-places : T (each (λ (k : ℕ). eqb (sumOf k) (placesOf k)) (suc reach))
 unfolding leadingZeros
 all-places = tt
 
--- so it is right at any
+-- the code's sum for how far 5 ^ k is moved up is right at any k in reach
 pub places-is : (k : ℕ) → k ≤ reach → sumOf k ≡ placesOf k
 places-is k h = eqb→eq (sumOf k) (placesOf k) (each-at (λ (j : ℕ). eqb (sumOf j) (placesOf j)) (suc reach) k all-places (omega arith))
 
--- a reciprocal as a test of d, which is 5 ^ k, and of n, which is 2 ^ (64 + e)
+-- a reciprocal as a test of d, which is 5 ^ k, of n, which is 2 ^ (64 + e), and of r
 abbrev isReciprocal : ℕ → ℕ → ℕ → Bool
 isReciprocal d n r = leb (2 ^ 62) r && (leb (r * d) n && leb n (suc r * d))
 
--- the entry that the code's match has found is one where the test passes
+-- the entry of the table of reciprocals that the code's match has found is one where the test passes
 pub reciprocal-found : (k j r : ℕ) → k ≡ j → T (isReciprocal (5 ^ j) (2 ^ (64 + halvingsOf j)) r) → Reciprocal k r
 reciprocal-found k j r e t =
     let d = 5 ^ j in
@@ -175,11 +175,11 @@ reciprocal-found k j r e t =
 
 -- r times d is 2 ^ (64 + e), or below that by less than d; high is the upper half of n times r
 module _ (n r d e high low : ℕ) (product : high * 2 ^ 64 + low ≡ n * r) (above : r * d ≤ 2 ^ (64 + e)) (below : 2 ^ (64 + e) ≤ suc r * d) where
-  -- n moved up by all of it
+  -- n moved up by 64 + e digits is n moved up by e and by 64
   moved : n * 2 ^ (64 + e) ≡ n * 2 ^ e * 2 ^ 64
   moved = ap (λ (x : ℕ). n * x) (pow-add 2 64 e ∙ mul-comm (2 ^ 64) (2 ^ e)) ∙ sym (mul-assoc n (2 ^ e) (2 ^ 64))
 
-  -- so the upper half is not above n * 2 ^ e by d
+  -- the upper half of n times a reciprocal, times d, is at most n * 2 ^ e
   product-le : high * d ≤ n * 2 ^ e
   product-le =
       let a : high * 2 ^ 64 ≤ n * r = part (high * 2 ^ 64) (n * r) product in
@@ -189,7 +189,7 @@ module _ (n r d e high low : ℕ) (product : high * 2 ^ 64 + low ≡ n * r) (abo
       part : (a b : ℕ) → a + low ≡ b → a ≤ b
       part a b f = omega arith
 
-  -- and less than two below
+  -- the upper half of n times a reciprocal is less than two below n * 2 ^ e by d
   product-lt : low < 2 ^ 64 → n < 2 ^ 64 → 0 < d → n * 2 ^ e < (high + 2) * d
   product-lt l h p =
       let a : n * r + n < (high + 2) * 2 ^ 64 = subst (λ (x : ℕ). n * r + n < x) (sym (add-mul high 2 (2 ^ 64))) (more (high * 2 ^ 64) (n * r) product) in
@@ -201,11 +201,11 @@ module _ (n r d e high low : ℕ) (product : high * 2 ^ 64 + low ≡ n * r) (abo
       more : (a b : ℕ) → a + low ≡ b → b + n < a + 2 * 2 ^ 64
       more a b g = omega arith
 
--- e is small as far as the table goes
+-- the number of halvings is 148 at most as far as the table of reciprocals goes
 pub halvings-le : (k : ℕ) → k ≤ far → halvingsOf k ≤ 148
 halvings-le k h = omega arith
 
--- m moved up by a, times the reciprocal, is m / 10 ^ k or less than two below it, in units
+-- m moved up by a, times the reciprocal of 5 ^ k, is m / 10 ^ k or less than two below it, in units
 pub lowered-near : (m k a r high low : ℕ) → high * 2 ^ 64 + low ≡ m * 2 ^ a * r → low < 2 ^ 64 → m * 2 ^ a < 2 ^ 64 → Reciprocal k r → k ≤ far → a < 64 → Within m (10 ^ k) high (1074 - halvingsOf k - a - k)
 lowered-near m k a r high low product l h t f g =
     let e = halvingsOf k in
