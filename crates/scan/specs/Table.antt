@@ -18,19 +18,20 @@ headerRoom h = headersFit (length h)
 abbrev pub dataRoom : List ℕ → ℕ → ℕ
 dataRoom r slots = min (rowsFit (length r)) slots
 
--- the lent memory with a table's header rows, and with its data rows
+-- the lent memory with a table's header rows in it
 abbrev pub headersOf : Table → List ℕ → List ℕ
 headersOf t old = headersLaid (t .headers) old
 
+-- the lent memory with a table's data rows in it
 abbrev pub recordsOf : Table → List ℕ → List ℕ
 recordsOf t old = rowsLaid (t .records) old
 
--- the lent header rows and data rows after an answer; a refusal leaves them as they were
+-- the lent header rows after an answer; a refusal leaves them as they were
 abbrev pub headersAfter : Told Table → List ℕ → List ℕ
 headersAfter (good t) old = headersOf t old
 headersAfter (bad q) old = old
 
--- the lent data rows likewise
+-- the lent data rows after an answer; a refusal leaves them as they were
 abbrev pub rowsAfter : Told Table → List ℕ → List ℕ
 rowsAfter (good t) old = recordsOf t old
 rowsAfter (bad q) old = old
@@ -41,15 +42,15 @@ pub record Counts : Type 0 where
   pub records : ℕ
   pub max : ℕ
 
--- such values by their parts
+-- an answer's values from the counts of both kinds of row and the largest id
 abbrev pub counts : ℕ → ℕ → ℕ → Counts
 counts h r m = record { headers = h; records = r; max = m }
 
--- the values of a table
+-- the counts of a table's rows, and their largest id
 abbrev pub countsOf : Table → Counts
 countsOf t = counts (length (t .headers)) (length (t .records)) (largest (t .records))
 
--- what the code's answer says
+-- what the code's answer to a scan says: counts and the largest id, or a refusal
 abbrev pub toldScan : Scanned → Told Counts
 toldScan (Rows h r m) = good (counts h r m)
 toldScan (Refused f) = bad (told f)
