@@ -41,7 +41,7 @@ BothList R [] (b ∷ m) = ⊥
 BothList R (a ∷ l) [] = ⊥
 BothList R (a ∷ l) (b ∷ m) = R a b × BothList R l m
 
--- "the same, or the same refusal number" (demand 3)
+-- "the same, or the same refusal number" (demand 3): two answers that are equal values, or the same refusal
 abbrev pub SameTold : {A : Type 0} → Told A → Told A → Type 0
 SameTold x y = BothTold (λ a b. a ≡ b) x y
 
@@ -82,39 +82,39 @@ pub same-refl : {A : Type 0} (x : Told A) → SameTold x x
 same-refl (good a) = refl
 same-refl (bad q) = (refl, refl)
 
--- answers that are equal
+-- answers that are equal are the same
 pub same-of : {A : Type 0} (x y : Told A) → x ≡ y → SameTold x y
 same-of x y e = rw (← e) (same-refl x)
 
 module _ {A B : Type 0} (R : A → B → Type 0) where
-  -- a test picks the same on both sides
+  -- where a test picks of two answers on either side, what it picks is alike
   pub both-pick : (b : Bool) (x u : Told A) (y v : Told B) → BothTold R x y → BothTold R u v → BothTold R (pick b x u) (pick b y v)
   both-pick true x u y v h k = h
   both-pick false x u y v h k = k
 
   module _ {C D : Type 0} (Q : C → D → Type 0) where
-    -- read on
+    -- answers that are alike are alike when they are read on by functions that keep it so
     pub both-on : (f : A → Told C) (g : B → Told D) (x : Told A) (y : Told B) → BothTold R x y → ((a : A) (b : B) → R a b → BothTold Q (f a) (g b)) → BothTold Q (onward f x) (onward g y)
     both-on f g (good a) (good b) h k = k a b h
     both-on f g (good a) (bad q) h k = absurd h
     both-on f g (bad q) (good b) h k = absurd h
     both-on f g (bad q) (bad q′) h k = h
 
-    -- by a function
+    -- answers that are alike are alike by functions that keep it so
     pub both-by : (f : A → C) (g : B → D) (x : Told A) (y : Told B) → BothTold R x y → ((a : A) (b : B) → R a b → Q (f a) (g b)) → BothTold Q (goodBy f x) (goodBy g y)
     both-by f g (good a) (good b) h k = k a b h
     both-by f g (good a) (bad q) h k = absurd h
     both-by f g (bad q) (good b) h k = absurd h
     both-by f g (bad q) (bad q′) h k = h
 
-    -- where there may be none
+    -- what is made of two options that are alike is alike
     pub both-option : (o : C) (o′ : D) (f : A → C) (g : B → D) (x : Option A) (y : Option B) → BothOption R x y → Q o o′ → ((a : A) (b : B) → R a b → Q (f a) (g b)) → Q (optionBy o f x) (optionBy o′ g y)
     both-option o o′ f g none none h l k = l
     both-option o o′ f g none (some b) h l k = absurd h
     both-option o o′ f g (some a) none h l k = absurd h
     both-option o o′ f g (some a) (some b) h l k = k a b h
 
-    -- read on, where there may be none
+    -- answers that may be none and are alike are alike when they are read on
     pub both-on-option : (o : Told C) (o′ : Told D) (f : A → Told C) (g : B → Told D) (x : Told (Option A)) (y : Told (Option B)) → BothTold (BothOption R) x y → BothTold Q o o′ → ((a : A) (b : B) → R a b → BothTold Q (f a) (g b)) → BothTold Q (onward (optionBy o f) x) (onward (optionBy o′ g) y)
     both-on-option o o′ f g (good none) (good none) h l k = l
     both-on-option o o′ f g (good none) (good (some b)) h l k = absurd h
@@ -124,24 +124,24 @@ module _ {A B : Type 0} (R : A → B → Type 0) where
     both-on-option o o′ f g (bad q) (good b) h l k = absurd h
     both-on-option o o′ f g (bad q) (bad q′) h l k = h
 
--- the same, read on
+-- answers that are the same are the same when they are read on
 pub same-on : {A B : Type 0} (f g : A → Told B) (x y : Told A) → SameTold x y → ((a : A) → SameTold (f a) (g a)) → SameTold (onward f x) (onward g y)
 same-on f g x y h k = both-on (λ a b. a ≡ b) (λ a b. a ≡ b) f g x y h (λ a b e. rw (← e) (k a))
 
--- the same, read on, where it is known what was read
+-- answers that are the same are the same when they are read on, where it is known what was read
 pub same-on-read : {A B : Type 0} (f g : A → Told B) (x y : Told A) → SameTold x y → ((a : A) → x ≡ good a → SameTold (f a) (g a)) → SameTold (onward f x) (onward g y)
 same-on-read f g (good a) (good b) h k = rw (← h) (k a refl)
 same-on-read f g (good a) (bad q) h k = absurd h
 same-on-read f g (bad q) (good b) h k = absurd h
 same-on-read f g (bad q) (bad q′) h k = h
 
--- the same, by a function
+-- answers that are the same are the same by a function
 pub same-by : {A B : Type 0} (f : A → B) (x y : Told A) → SameTold x y → SameTold (goodBy f x) (goodBy f y)
 same-by f x y h = both-by (λ a b. a ≡ b) (λ a b. a ≡ b) f f x y h (λ a b e. ap f e)
 
 -- ---- records
 module _ (Named : ℕ → Type 0) (s s′ : List ℕ) where
-  -- the first part of a kind
+  -- in two lists of alike parts, the arguments of the first part of a kind are alike
   pub first-alike : (k : Kind) (ps ps′ : List Piece) → BothList (AlikePiece Named s s′) ps ps′ → BothOption (AlikeRun Named s s′) (firstPiece k ps) (firstPiece k ps′)
   first-alike k [] [] h = tt
   first-alike k [] (p ∷ ps) h = absurd h
@@ -153,10 +153,10 @@ module _ (Named : ℕ → Type 0) (s s′ : List ℕ) where
       go false l = l
 
   module _ (t t′ : Thing) (h : AlikeThing Named s s′ t t′) where
-    -- the arguments of the first part of a kind
+    -- the arguments of the first part of a kind of two alike records are alike
     pub piece-alike : (k : Kind) → BothTold (BothOption (AlikeRun Named s s′)) (goodBy (firstPiece k) (t .parts)) (goodBy (firstPiece k) (t′ .parts))
     piece-alike k = both-by (BothList (AlikePiece Named s s′)) (BothOption (AlikeRun Named s s′)) (firstPiece k) (firstPiece k) (t .parts) (t′ .parts) (h .parts) (first-alike k)
 
-    -- the arguments of a record of a kind, or of its first part of that kind
+    -- the arguments of two alike records of a kind, or of their first parts of that kind, are alike
     pub self-alike : (k : Kind) → BothTold (BothOption (AlikeRun Named s s′)) (selfOr k t) (selfOr k t′)
     self-alike k = rw (← h .kind) (both-pick (BothOption (AlikeRun Named s s′)) (sameKind (t .kind) k) (good (some (t .run))) (goodBy (firstPiece k) (t .parts)) (good (some (t′ .run))) (goodBy (firstPiece k) (t′ .parts)) (h .run) (piece-alike k))

@@ -42,17 +42,17 @@ use Rattle.alike.specs.Alike.{BothList, AlikeRun, AlikePiece, AlikeThing
 use Rattle.factors.specs.Thing.{goodBy, Piece, pieceOf, thingAt, thingOf}
 
 -- ---- bytes in the file
--- a test that passes
+-- a part that lies in a file of n bytes and runs forwards passes the test for that
 fine-in : (n : ℕ) (a : Span) → SpanIn n a → spanFine n (a .start) (a .stop) ≡ true
 fine-in n a (h, k) = rw (le-leb (a .start) (a .stop) h, le-leb (a .stop) n k)
 
--- the bytes between two places of b, where b stands after q
+-- the bytes between two places of b, where b stands after q in the file, are those of b
 cut-after : (q b y : List ℕ) (a z : ℕ) → a ≤ z → z ≤ length b → cut (q ++ (b ++ y)) (length q + a) (length q + z) ≡ cut b a z
 cut-after q b y a z h k =
     let n : length q + z - (length q + a) ≡ z - a = omega arith in
     rw (n, drop-append-add q (b ++ y) a, drop-append-le a b y (omega arith)) (take-append-le (z - a) (drop a b) y (omega (arith, length-drop a b)))
 
--- all bytes of b
+-- the bytes where all of b stands after q in the file are b
 cut-whole : (q b y : List ℕ) → cut (q ++ (b ++ y)) (length q) (length q + length b) ≡ b
 cut-whole q b y =
     let n : length q + length b - length q ≡ length b = omega arith in
@@ -60,39 +60,39 @@ cut-whole q b y =
 
 -- the bytes b of the file s, which stand from m up to n
 module _ {s b : List ℕ} {m n : ℕ} (w : Window s m n b) where
-  -- how long the file is
+  -- how long the file is that has the bytes b from m on
   window-length : length s ≡ m + length b + length (w .back)
   window-length = omega (arith, ap length (w .shape), length-append (w .front) (b ++ w .back), length-append b (w .back), w .starts)
 
-  -- they lie in the file
+  -- the bytes b from m up to n lie in the file
   window-in : SpanIn (length s) (span m n)
   window-in = (omega (arith, w .starts, w .ends), omega (arith, window-length, w .starts, w .ends))
 
-  -- they are what is cut out
+  -- what is cut out of the file from m up to n is b
   window-cut : cut s m n ≡ b
   window-cut = rw (w .shape, ← w .ends, ← w .starts) (cut-whole (w .front) b (w .back))
 
-  -- a part of them lies in the file
+  -- a part of the bytes b lies in the file, m bytes further on
   inner-in : (i j : ℕ) → i ≤ j → j ≤ length b → SpanIn (length s) (span (m + i) (m + j))
   inner-in i j h k = (omega arith, omega (arith, window-length))
 
-  -- and is cut out of them
+  -- a part of the bytes b is cut out of the file as it is out of b
   inner-cut : (i j : ℕ) → i ≤ j → j ≤ length b → cut s (m + i) (m + j) ≡ cut b i j
   inner-cut i j h k = rw (w .shape, ← w .starts) (cut-after (w .front) b (w .back) i j h k)
 
-  -- their parts, where these depend on them alone
+  -- the parts in the bytes b, where they depend on b alone, are so in the file, m bytes further on
   window-parts : (rel : List HeaderRow)
       → ((q y : List ℕ) → partsOf (q ++ (b ++ y)) (length q) (length q + length b) ≡ good (map (shiftRow (length q)) rel))
       → partsOf s m n ≡ good (map (shiftRow m) rel)
   window-parts rel h = rw (w .shape, ← w .ends, ← w .starts) (h (w .front) (w .back))
 
 -- ---- what follows a part's arguments
--- "its `)` ends the part": no digit
+-- "its `)` ends the part": no digit stands at the end of any of these parts' arguments
 abbrev Shut : List ℕ → List HeaderRow → Type 0
 Shut s [] = Unit {0}
 Shut s (p ∷ ps) = NotFirst digit (drop (p .argEnd) s) × Shut s ps
 
--- a `)` that was sought from the rest u on
+-- where a `)` was sought from the rest u on and found, no digit stands there
 argued-shut : {s u : List ℕ} {x : Told ℕ} → Argued s u x → Rest s u → (e : ℕ) → x ≡ good e → NotFirst digit (drop e s)
 argued-shut {s} {u} (ArguedTo.closed {r} j v) h e k =
     let c : Closes u r = rw j v in
@@ -104,7 +104,7 @@ argued-shut (ArguedTo.text-open j d o) h e k = clash (cc)
 argued-shut (ArguedTo.remark-open j d o) h e k = clash (cc)
 argued-shut (ArguedTo.unclosed j d) h e k = clash (cc)
 
--- the next part
+-- at the end of the next part's arguments stands no digit
 next-shut : {s : List ℕ} {from end : ℕ} {x : Told (Option HeaderRow)} → NextForm s from end x → (p : HeaderRow) → x ≡ good (some p) → NotFirst digit (drop (p .argEnd) s)
 next-shut {s} (NextForm.part {f} {v} {k} {w} {r} {e} m d y a) p g =
     let h : s ≡ (m .front ++ (f ++ (k ++ (w ++ (40 ∷ []))))) ++ (r ++ m .back) =
@@ -115,7 +115,7 @@ next-shut (NextForm.done h k) p g = clash (cc)
 next-shut (NextForm.over m d h) p g = clash (cc)
 next-shut (NextForm.refused m d y a) p g = clash (cc)
 
--- all parts
+-- at the end of each part's arguments stands no digit
 parts-shut : {s : List ℕ} {from end : ℕ} {x : Told (List HeaderRow)} → PartsForm s end from x → (ps : List HeaderRow) → x ≡ good ps → Shut s ps
 parts-shut {s} (PartsForm.over h) ps g = let d : [] ≡ ps = cc in subst (Shut s) d tt
 parts-shut (PartsForm.fault h) ps g = clash (cc)
@@ -125,7 +125,7 @@ parts-shut {s} (PartsForm.more {p} {a} h f) ps g = go a (λ qs d. parts-shut f q
     go (good qs) k g = let d : p ∷ qs ≡ ps = cc in subst (Shut s) d (next-shut h p refl, k qs refl)
     go (bad q) k g = clash (cc)
 
--- those that depend on the bytes alone
+-- at the end of each part's arguments stands no digit, where the parts depend on the bytes b alone
 rows-shut : (b : List ℕ) (rel : List HeaderRow) → ((q y : List ℕ) → partsOf (q ++ (b ++ y)) (length q) (length q + length b) ≡ good (map (shiftRow (length q)) rel)) → Shut b rel
 rows-shut b rel n =
     let e : partsOf b 0 (0 + length b) ≡ good (map (shiftRow 0) rel) = simp append-nil at (n [] []) in
@@ -136,16 +136,16 @@ rows-shut b rel n =
     own (p ∷ ps) (h, t) = let z : 0 + p .argEnd ≡ p .argEnd = omega arith in (rw z at h, own ps t)
 
 module _ {Named : ℕ → Type 0} where
-  -- two parts of files that lie there and have the same bytes b, which name only ids that matter
+  -- two parts of files that lie there and have the same bytes b, which name only ids that matter, are alike
   run-of : {s z : List ℕ} {a c : Span} (b : List ℕ) → SpanIn (length s) a → SpanIn (length z) c → cut s (a .start) (a .stop) ≡ b → cut z (c .start) (c .stop) ≡ b
       → ((k : ℕ) → Names b k → Named k) → AlikeRun Named s z a c
   run-of b (h, k) (i, j) e f n = record { ordered = h; within = k; ordered′ = i; within′ = j; same = e ∙ sym f; names = λ k m. n k (rw e at m) }
 
-  -- the same bytes at two places are alike
+  -- the same bytes at two places, which name only ids that matter, are alike
   runs-alike : {s z b : List ℕ} {i j m n : ℕ} → Window s i j b → Window z m n b → ((k : ℕ) → Names b k → Named k) → AlikeRun Named s z (span i j) (span m n)
   runs-alike {b} v w = run-of b (window-in v) (window-in w) (window-cut v) (window-cut w)
 
-  -- and so are their parts
+  -- the parts of complex records in the same bytes at two places are alike
   pieces-alike : {s z b : List ℕ} {i j m n : ℕ} → Window s i j b → Window z m n b → ((k : ℕ) → Names b k → Named k) → (rel : List HeaderRow) → RowsIn (length b) rel → Shut b rel
       → BothList (AlikePiece Named s z) (map (pieceOf s) (map (shiftRow i) rel)) (map (pieceOf z) (map (shiftRow m) rel))
   pieces-alike v w l [] h o = tt
@@ -159,7 +159,7 @@ module _ {Named : ℕ → Type 0} where
   )
 
 -- ---- a closed record
--- its arguments in the file
+-- a closed record's arguments stand in the file where its row says: q precedes its text, and y follows
 args-window : {b : List ℕ} {o : ℕ} (c : ClosedAt b o) (q y : List ℕ)
     → Window (q ++ (b ++ y)) (length q + (o + 1)) (length q + (o + 1 + length (c .args))) (c .args)
 args-window c q y =
@@ -173,25 +173,25 @@ args-window c q y =
       ends = omega (arith, n, c .place);
     }
 
--- they lie there
+-- a closed record's arguments lie in the file and run forwards
 pub closed-run-in : {b : List ℕ} (c : ClosedData b) (q y : List ℕ)
     → SpanIn (length (q ++ (b ++ y))) (span (rowFrom (length q) c .argStart) (rowFrom (length q) c .argEnd))
 closed-run-in (ClosedData.simple e c) q y = window-in (args-window c q y)
 closed-run-in (ClosedData.complex e c p) q y = window-in (args-window c q y)
 
--- "the same [..] argument bytes": they are those of its text
+-- "the same [..] argument bytes": those of a closed record in the file are those of its text
 pub closed-run-cut : {b : List ℕ} (c : ClosedData b) (q y : List ℕ)
     → cut (q ++ (b ++ y)) (rowFrom (length q) c .argStart) (rowFrom (length q) c .argEnd) ≡ contentOf c .args
 closed-run-cut (ClosedData.simple e c) q y = window-cut (args-window c q y)
 closed-run-cut (ClosedData.complex e c p) q y = window-cut (args-window c q y)
 
--- no "span outside the file or backwards": the units see it
+-- a closed record has no "span outside the file or backwards": the units see it
 pub closed-thing-good : {b : List ℕ} (c : ClosedData b) (q y : List ℕ)
     → thingOf (q ++ (b ++ y)) (rowFrom (length q) c) ≡ good (thingAt (q ++ (b ++ y)) (rowFrom (length q) c))
 closed-thing-good {b} c q y =
     rw (fine-in (length (q ++ (b ++ y))) (span (rowFrom (length q) c .argStart) (rowFrom (length q) c .argEnd)) (closed-run-in c q y))
 
--- its kind is that of the keyword in its text
+-- a simple closed record's kind is that of the keyword in its text
 simple-kind : {b : List ℕ} {i a z o : ℕ} (e : dataHead b ≡ Simple i a z o) (c : ClosedAt b o) (q y : List ℕ)
     → kindIn (q ++ (b ++ y)) (rowFrom (length q) (ClosedData.simple e c)) ≡ kindOf (cut b a z)
 simple-kind {b} {i} {a} {z} {o} e c q y =
@@ -201,14 +201,14 @@ simple-kind {b} {i} {a} {z} {o} e c q y =
     fine-in (length (q ++ (b ++ y))) (span (length q + a) (length q + z)) (omega arith, omega (arith, w .1, length-append q (b ++ y), length-append b y)) in
     rw f (ap kindOf (cut-after q b y a z l (w .1)))
 
--- its parts have no fault
+-- a closed record's parts have no fault
 pub closed-parts-good : {b : List ℕ} (c : ClosedData b) (q y : List ℕ) → (ps : List Piece) × (thingAt (q ++ (b ++ y)) (rowFrom (length q) c) .parts ≡ good ps)
 closed-parts-good (ClosedData.simple e c) q y = ([], refl)
 closed-parts-good {b} (ClosedData.complex e c p) q y =
     let (rel, i, n) = parts-closed-good p in
     (_, ap (goodBy (map (pieceOf (q ++ (b ++ y))))) (window-parts (args-window c q y) rel n))
 
--- what the units see of it, wherever it stands
+-- what the units see of a closed record is alike wherever it stands, where its arguments name only ids that matter
 closed-alike : {Named : ℕ → Type 0} {b : List ℕ} (c : ClosedData b) → ((k : ℕ) → Names (contentOf c .args) k → Named k) → (q y r z : List ℕ)
     → AlikeThing Named (q ++ (b ++ y)) (r ++ (b ++ z)) (thingAt (q ++ (b ++ y)) (rowFrom (length q) c)) (thingAt (r ++ (b ++ z)) (rowFrom (length r) c))
 closed-alike (ClosedData.simple e c) l q y r z = record {
@@ -226,7 +226,7 @@ closed-alike {b} (ClosedData.complex e c p) l q y r z =
       parts = rw (h, k) (pieces-alike (args-window c q y) (args-window c r z) l rel i (rows-shut (c .args) rel n));
     }
 
--- a text's row is one, however it is seen to be closed
+-- a closed text has one row, however it is seen to be closed
 row-one : {b : List ℕ} (c d : ClosedData b) (q : List ℕ) → rowFrom (length q) c ≡ rowFrom (length q) d
 row-one c d q = let a = record-row c q [] in let b = record-row d q [] in cc
 

@@ -16,7 +16,7 @@ use Rattle.units.specs.Units.{contextOf, decided, recordOf, resolveOf}
 use Rattle.alike.specs.Alike.{BothTold, BothList, SameTold, AlikeThing, AlikeFind, same-refl, both-pick, both-on, same-on}
 use Rattle.alike.specs.Answers.{is-context-alike, context-alike}
 
--- a record is told to be a context
+-- an answer says that a record is a context; a refusal says that it is none
 abbrev pub toldTrue : Told Bool → Bool
 toldTrue (good b) = b
 toldTrue (bad q) = false
@@ -31,7 +31,7 @@ abbrev pub Asked : List ℕ → List (Told Thing) → Type 0
 Asked s [] = Unit {0}
 Asked s (t ∷ ts) = ((b : Bool) × (onward (isContext s) t ≡ good b)) × Asked s ts
 
--- all records can be had, and their parts
+-- all records can be had without a refusal, and so can their parts
 abbrev pub Sound : List (Told Thing) → Type 0
 Sound [] = Unit {0}
 Sound (good t ∷ ts) = ((ps : List Piece) × (t .parts ≡ good ps)) × Sound ts
@@ -46,7 +46,7 @@ context-told s t ps e = rw e (go (sameKind (t .kind) GeometricRepresentationCont
     go true = (readsInteger s (some (t .run)), refl)
     go false = (readsInteger s (firstPiece GeometricRepresentationContext ps), refl)
 
--- and so of all of them
+-- where all records and their parts can be had, it is told of each whether it is a context
 pub sound-asked : (s : List ℕ) (ts : List (Told Thing)) → Sound ts → Asked s ts
 sound-asked s [] h = tt
 sound-asked s (good t ∷ ts) ((ps, e), h) = (context-told s t ps e, sound-asked s ts h)
@@ -62,29 +62,29 @@ context-same {Named} {s} {s′} {t} {t′} h b e = go (isContext s t) (isContext
     go (bad q) (good d) k l = absurd k
     go (bad q) (bad q′) k l = clash (cc)
 
--- no record, no context
+-- among no records there is no context
 contexts-none : (s : List ℕ) → contextsOf s [] ≡ []
 unfolding contextsOf
 contexts-none s = refl
 
 module _ (s : List ℕ) (t : Thing) (ts : List (Told Thing)) where
-  -- a context is one of them
+  -- a record in front that is a context is the first of the contexts
   contexts-yes : isContext s t ≡ good true → contextsOf s (good t ∷ ts) ≡ good t ∷ contextsOf s ts
   unfolding contextsOf
   contexts-yes e = rw e refl
 
-  -- another record is none
+  -- a record in front that is no context is none of the contexts
   contexts-no : isContext s t ≡ good false → contextsOf s (good t ∷ ts) ≡ contextsOf s ts
   unfolding contextsOf
   contexts-no e = rw e refl
 
   module _ (find : ℕ → Told (Option Thing)) where
-    -- a context decides, or those after it do
+    -- a record in front that is a context decides the unit answer, or those after it do
     resolve-yes : isContext s t ≡ good true → resolveOf s find (good t ∷ ts) ≡ onward (decided s find (λ u. resolveOf s find ts)) (contextOf s find t)
     unfolding resolveOf
     resolve-yes e = rw e refl
 
-    -- another record decides nothing
+    -- a record in front that is no context decides nothing of the unit answer
     resolve-no : isContext s t ≡ good false → resolveOf s find (good t ∷ ts) ≡ resolveOf s find ts
     unfolding resolveOf
     resolve-no e = rw e refl
@@ -103,7 +103,7 @@ resolve-contexts s find (good t ∷ ts) ((false, e), h) =
     resolve-no s t ts find e ∙ resolve-contexts s find ts h ∙ ap (resolveOf s find) (sym (contexts-no s t ts e))
 
 module _ {Named : ℕ → Type 0} {s s′ : List ℕ} {find find′ : ℕ → Told (Option Thing)} (finds : AlikeFind Named s s′ find find′) where
-  -- one record, where what comes after it is the same
+  -- what two alike records make of the unit answer is the same, where what comes after them is
   record-alike : (k l : Unit {0} → Told Units) → SameTold (k tt) (l tt) → (t t′ : Thing) → AlikeThing Named s s′ t t′ → SameTold (recordOf s find k t) (recordOf s′ find′ l t′)
   record-alike k l e t t′ h = same-on (λ c. pick c (onward (decided s find k) (contextOf s find t)) (k tt)) (λ c. pick c (onward (decided s′ find′ l) (contextOf s′ find′ t′)) (l tt)) (isContext s t) (isContext s′ t′) (is-context-alike h)
       (λ c. both-pick (λ a b. a ≡ b) c (onward (decided s find k) (contextOf s find t)) (k tt) (onward (decided s′ find′ l) (contextOf s′ find′ t′)) (l tt)

@@ -73,7 +73,7 @@ use Rattle.alike.specs.Alike.{
 use Rattle.alike.specs.Runs.{read-first, read-second, ref-second, name-first, name-second}
 
 -- ---- answers put together
--- a refused number refuses, or gives no factor
+-- two refused numbers with the same refusal refuse alike, or give no factor alike
 pub unread-alike : (q q′ : Refusal) → SameRefusal q q′ → SameTold (unreadOf (bad q)) (unreadOf (bad q′))
 unread-alike q q′ h = subst (λ (n : ℕ). SameTold (unreadOf (bad q)) (pick (eqb n 13) (bad q′) (good none))) (h .0) (go (eqb (q .number) 13))
   where
@@ -81,14 +81,14 @@ unread-alike q q′ h = subst (λ (n : ℕ). SameTold (unreadOf (bad q)) (pick (
     go true = h
     go false = refl
 
--- a number that reads goes on
+-- two numbers that are the same are read on alike, or refuse or give no factor alike
 pub read-or-alike : (x y : Told ℕ) (k l : ℕ → Told (Option ℕ)) → SameTold x y → ((v : ℕ) → SameTold (k v) (l v)) → SameTold (readOr x k) (readOr y l)
 read-or-alike (good v) (good w) k l h g = rw (← h) (g v)
 read-or-alike (good v) (bad q) k l h g = absurd h
 read-or-alike (bad q) (good w) k l h g = absurd h
 read-or-alike (bad q) (bad q′) k l h g = unread-alike q q′ h
 
--- a base that reads goes on
+-- two bases that are the same are read on alike, or give no factor alike
 or-none-alike : (x y : Told ℕ) (k l : ℕ → Told (Option ℕ)) → SameTold x y → ((v : ℕ) → x ≡ good v → SameTold (k v) (l v)) → SameTold (orNone x k) (orNone y l)
 or-none-alike (good v) (good w) k l h g = rw (← h) (g v refl)
 or-none-alike (good v) (bad q) k l h g = absurd h
@@ -105,23 +105,23 @@ SameChain Named (leads i) (leads j) = (i ≡ j) × Named i
 module _ {Named : ℕ → Type 0} {s s′ : List ℕ} where
   -- ---- arguments
   module _ {r r′ : Span} (h : AlikeRun Named s s′ r r′) where
-    -- the factor of a named unit
+    -- the factor of a named unit is the same for alike arguments
     named-alike : (name : String) (f : List ℕ → ℕ) → named name s r (f (prefixIn s r)) ≡ named name s′ r′ (f (prefixIn s′ r′))
     named-alike name f =
         ap (λ (t : List ℕ). pick (isWord t (bytes name)) (some (f (prefixIn s r))) none) (name-second h (bytes name))
         ∙ ap (λ (t : List ℕ). pick (isWord (unitIn name s′ r′) (bytes name)) (some (f t)) none) (name-first h [])
 
-    -- an SI unit's length factor
+    -- an SI unit's length factor is the same for alike arguments
     pub si-length-alike : siLength s r ≡ siLength s′ r′
     unfolding siLength
     si-length-alike = named-alike "METRE" lengthFactorOf
 
-    -- its angle factor
+    -- an SI unit's angle factor is the same for alike arguments
     pub si-angle-alike : siAngle s r ≡ siAngle s′ r′
     unfolding siAngle
     si-angle-alike = named-alike "RADIAN" factorOf
 
-    -- the measure's reference
+    -- a measure's reference is the same for alike arguments
     pub ref-alike : SameTold (measureRef s r) (measureRef s′ r′)
     unfolding measureRef skipOf
     ref-alike = same-on
@@ -129,7 +129,7 @@ module _ {Named : ℕ → Type 0} {s s′ : List ℕ} where
         (skipOf s (r .start) (r .stop) .answer) (skipOf s′ (r′ .start) (r′ .stop) .answer)
         (read-first h skipOf skip-shift) (λ u. read-second h (nextOf referenceOf) (λ s a z m n. next-shift s a z m n referenceOf))
 
-    -- it is one of the ids that matter
+    -- a measure's reference in alike arguments is one of the ids that matter
     ref-named : (k : ℕ) → measureRef s r ≡ good k → Named k
     unfolding measureRef skipOf
     ref-named k e = go (skipOf s (r .start) (r .stop) .answer) e
@@ -138,19 +138,19 @@ module _ {Named : ℕ → Type 0} {s s′ : List ℕ} where
         go (good u) e = ref-second h k e
         go (bad q) e = clash (cc)
 
-    -- the first parameter as a measure's number
+    -- the first parameter of alike arguments is the same as a measure's number
     pub number-alike : SameTold (nextOf measureOf s (r .start) (r .stop) .answer) (nextOf measureOf s′ (r′ .start) (r′ .stop) .answer)
     number-alike = read-first h (nextOf measureOf) (λ s a z k l. next-shift s a z k l measureOf)
 
   -- ---- records
   module _ {t t′ : Thing} (h : AlikeThing Named s s′ t t′) where
-    -- the measure's arguments
+    -- the arguments of two alike records as measures are alike
     pub run-alike : BothTold (BothOption (AlikeRun Named s s′)) (measureRun t) (measureRun t′)
     run-alike = rw (← h .kind) (both-pick (BothOption (AlikeRun Named s s′)) (sameKind (t .kind) Complex)
         (goodBy (firstPiece LengthMeasureWithUnit) (t .parts)) (good (some (t .run))) (goodBy (firstPiece LengthMeasureWithUnit) (t′ .parts)) (good (some (t′ .run)))
         (piece-alike Named s s′ t t′ h LengthMeasureWithUnit) (h .run))
 
-    -- an SI part before a conversion
+    -- what two alike records give, by an SI part before a conversion, is alike
     pub by-alike : {A : Type 0} (R : A → A → Type 0) (si si′ conversion conversion′ : Span → Told A) (neither : A) → R neither neither
         → ((r r′ : Span) → AlikeRun Named s s′ r r′ → BothTold R (si r) (si′ r′)) → ((r r′ : Span) → AlikeRun Named s s′ r r′ → BothTold R (conversion r) (conversion′ r′))
         → BothTold R (unitBy si conversion neither t) (unitBy si′ conversion′ neither t′)
@@ -162,7 +162,7 @@ module _ {Named : ℕ → Type 0} {s s′ : List ℕ} where
         (selfOr ConversionBasedUnit t) (selfOr ConversionBasedUnit t′) (self-alike Named s s′ t t′ h ConversionBasedUnit) n g)
         f
 
-    -- one unit of a chain
+    -- two alike records give the same as a unit of a chain
     pub link-alike : (left : ℕ) → BothTold (SameChain Named) (linkOf s left t) (linkOf s′ left t′)
     unfolding linkOf
     link-alike left = by-alike (SameChain Named) (λ r. good (known (siLength s r))) (λ r. good (known (siLength s′ r))) (conversionOf s left (t .run .start)) (conversionOf s′ left (t′ .run .start)) (known none) refl
@@ -178,12 +178,12 @@ module _ {Named : ℕ → Type 0} {s s′ : List ℕ} where
 
   -- ---- records and lookups
   module _ {find find′ : ℕ → Told (Option Thing)} (finds : AlikeFind Named s s′ find find′) where
-    -- what is made of a record that is found, or of none
+    -- what is made of the records found for an id that matters, or of none, is the same
     pub found-alike : {A : Type 0} (other : Told A) (f g : Thing → Told A) (i : ℕ) → Named i → ((t t′ : Thing) → AlikeThing Named s s′ t t′ → SameTold (f t) (g t′)) → SameTold (onward (optionBy other f) (find i)) (onward (optionBy other g) (find′ i))
     found-alike other f g i n k = both-on-option (AlikeThing Named s s′) (λ a b. a ≡ b) other other f g (find i) (find′ i) (finds .found i n) (same-refl other) k
 
     module _ (k l : Thing → Told (Option ℕ)) (units : (t t′ : Thing) → AlikeThing Named s s′ t t′ → SameTold (k t) (l t′)) where
-      -- a measure's number and then its base, where k and l give a unit's factor
+      -- a measure's number and then its base give the same for alike arguments, where k and l give a unit's factor
       measure-at-alike : (r r′ : Span) → AlikeRun Named s s′ r r′ → SameTold (measureAt s find k r) (measureAt s′ find′ l r′)
       unfolding nextOf
       measure-at-alike r r′ h =
@@ -195,20 +195,20 @@ module _ {Named : ℕ → Type 0} {s s′ : List ℕ} where
           (read-second h (nextOf referenceOf) (λ s a z m n. next-shift s a z m n referenceOf))
           (λ b d. found-alike (good none) (λ t. scaledBy v (k t)) (λ t. scaledBy v (l t)) b (ref-second h b d) (λ t t′ e. same-by (optionBy none (λ f. some (product v f))) (k t) (l t′) (units t t′ e))))
 
-      -- a measure
+      -- the factor of a measure, by an id that matters, is the same
       pub measure-alike : (i : ℕ) → Named i → SameTold (measureIn s find k i) (measureIn s′ find′ l i)
       unfolding measureIn
       measure-alike i n = found-alike (good none) (λ t. onward (optionBy (good none) (measureAt s find k)) (measureRun t)) (λ t. onward (optionBy (good none) (measureAt s′ find′ l)) (measureRun t)) i n
           (λ t t′ h. both-on-option (AlikeRun Named s s′) (λ a b. a ≡ b) (good none) (good none) (measureAt s find k) (measureAt s′ find′ l) (measureRun t) (measureRun t′) (run-alike h) refl measure-at-alike)
 
-    -- a chain goes on the same way
+    -- two units of a chain that are the same lead on the same way
     chained-alike : (k l : ℕ → Told (Option ℕ)) → ((i : ℕ) → Named i → SameTold (k i) (l i)) → (c d : Chain) → SameChain Named c d → SameTold (chained k c) (chained l d)
     chained-alike k l h (known f) (known g) e = e
     chained-alike k l h (known f) (leads j) e = absurd e
     chained-alike k l h (leads i) (known g) e = absurd e
     chained-alike k l h (leads i) (leads j) (e, n) = rw (← e) (h i n)
 
-    -- a length unit
+    -- two alike length units have the same factor
     pub length-alike : (n : ℕ) (t t′ : Thing) → AlikeThing Named s s′ t t′ → SameTold (lengthOf s find n t) (lengthOf s′ find′ n t′)
     unfolding lengthOf
     length-alike zero t t′ h =
@@ -217,13 +217,13 @@ module _ {Named : ℕ → Type 0} {s s′ : List ℕ} where
         both-on (SameChain Named) (λ a b. a ≡ b) (chained (measureIn s find (λ b. lengthOf s find n b))) (chained (measureIn s′ find′ (λ b. lengthOf s′ find′ n b))) (linkOf s (suc n) t) (linkOf s′ (suc n) t′) (link-alike h (suc n))
         (chained-alike (measureIn s find (λ b. lengthOf s find n b)) (measureIn s′ find′ (λ b. lengthOf s′ find′ n b)) (measure-alike (λ b. lengthOf s find n b) (λ b. lengthOf s′ find′ n b) (length-alike n)))
 
-    -- an angle's number
+    -- an angle's number, by an id that matters, is the same
     pub number-in-alike : (i : ℕ) → Named i → SameTold (numberIn s find i) (numberIn s′ find′ i)
     unfolding numberIn
     number-in-alike i n = found-alike (good none) (λ t. readOr (nextOf measureOf s (t .run .start) (t .run .stop) .answer) (λ v. good (some v))) (λ t. readOr (nextOf measureOf s′ (t .run .start) (t .run .stop) .answer) (λ v. good (some v))) i n
         (λ t t′ h. read-or-alike (nextOf measureOf s (t .run .start) (t .run .stop) .answer) (nextOf measureOf s′ (t′ .run .start) (t′ .run .stop) .answer) (λ v. good (some v)) (λ v. good (some v)) (number-alike (h .run)) (λ v. refl))
 
-    -- an angle unit
+    -- two alike angle units have the same factor
     pub angle-alike : (t t′ : Thing) → AlikeThing Named s s′ t t′ → SameTold (angleOf s find t) (angleOf s′ find′ t′)
     unfolding angleOf
     angle-alike t t′ h = by-alike h (λ a b. a ≡ b) (λ r. good (siAngle s r)) (λ r. good (siAngle s′ r)) (λ r. onward (numberIn s find) (measureRef s r)) (λ r. onward (numberIn s′ find′) (measureRef s′ r)) none refl

@@ -52,11 +52,11 @@ pub each-by : {P Q : ℕ → Type 0} → ((k : ℕ) → P k → Q k) → (ks : L
 each-by f ks h front back k e = f k (h front back k e)
 
 -- ---- bytes that no digit begins
--- nothing at all
+-- no digit begins an empty list
 first-none : NotFirst digit []
 first-none c r e = clash (cc)
 
--- such bytes after such bytes
+-- where no digit begins x nor y, none begins x and then y
 first-join : (x y : List ℕ) → NotFirst digit x → NotFirst digit y → NotFirst digit (x ++ y)
 first-join [] y h k = k
 first-join (c ∷ x) y h k = first-other digit c (x ++ y) (h c x refl)
@@ -73,23 +73,23 @@ white-digit c h = go (digit c) refl
         let w : white c ≡ false = rw (n 32 (omega arith), n 9 (omega arith), n 10 (omega arith), n 12 (omega arith), n 13 (omega arith)) in
         clash (cc)
 
--- whitespace and such bytes
+-- where no digit begins y, none begins whitespace and then y
 first-white : (w y : List ℕ) → All white w → NotFirst digit y → NotFirst digit (w ++ y)
 first-white [] y h k = k
 first-white (c ∷ w) y (h, t) k = first-other digit c (w ++ y) (white-digit c h)
 
--- trivia and such bytes
+-- where no digit begins what follows trivia, none begins the trivia
 first-trivia : {xs ys : List ℕ} → Trivia xs ys → NotFirst digit ys → NotFirst digit xs
 first-trivia Trivia.none h = h
 first-trivia (Trivia.blank {c} {xs} w t) h = first-other digit c xs (white-digit c w)
 first-trivia (Trivia.comment q t) h = subst (NotFirst digit) (sym (q .shape)) (first-other digit 47 _ refl)
 
--- a comma, or nothing
+-- no digit begins a comma at depth 0, nor the end
 first-bound : {d : ℕ} {ys : List ℕ} → Bound d ys → NotFirst digit ys
 first-bound (Bound.comma {r}) = first-other digit 44 r refl
 first-bound Bound.end = first-none
 
--- what follows a parameter, from the trivia after it on
+-- no digit begins what follows a parameter, from the trivia after it on
 first-after : {xs z b : List ℕ} → Parameter xs z b → NotFirst digit z
 first-after p = go (p .trails) (p .bounds)
   where
@@ -110,7 +110,7 @@ names-part x t y h k n = record {
   value = n .value;
 }
 
--- so of the part from a up to z
+-- what the part from a up to z names the whole names, where no digit follows it
 pub names-cut : (u : List ℕ) (a z : ℕ) → a ≤ z → NotFirst digit (drop z u) → (k : ℕ) → Names (take (z - a) (drop a u)) k → Names u k
 names-cut u a z h o k n =
     let m : a + (z - a) ≡ z = omega arith in
@@ -133,18 +133,18 @@ reference-names (ReferenceForm.reference ds i) e = record {
 }
 reference-names (ReferenceForm.other n) e = clash (cc)
 
--- so does an item
+-- an item that reads as a reference names its id
 scalar-names : {t : List ℕ} {a : Fate ℕ} {k : ℕ} → Scalar ReferenceForm t a → a ≡ fine k → Names t k
 scalar-names (Scalar.value p) e = reference-names p (cc)
 scalar-names (Scalar.other p) e = clash (cc)
 
--- its text is a part of the list's inside
+-- what an item's text names the list's inside names, where no digit follows the item
 item-names : {xs f t r : List ℕ} {k : ℕ} → Item xs f t r → NotFirst digit r → Names t k → Names xs k
 item-names {xs} {f} {t} {r} {k} i h n =
     let e : xs ≡ f ++ (t ++ (i .back ++ r)) = i .shape ∙ simp append-assoc in
     subst (λ (u : List ℕ). Names u k) (sym e) (names-part f t (i .back ++ r) (first-white (i .back) r (i .after) h) k n)
 
--- all items
+-- the references of all items are ids that the list's inside names
 items-names : {xs : List ℕ} {a : Fate (List ℕ)} → Items (Scalar ReferenceForm) xs a → (vs : List ℕ) → a ≡ fine vs → Each (Names xs) vs
 items-names {xs} (Items.last {v} i p) vs e =
     let d : v ∷ [] ≡ vs = cc in
@@ -160,7 +160,7 @@ items-names (Items.next w {f} {t} {r} {v} {a} i p q) vs e = go a (λ us d. items
     go (faulty n o) ih e = clash (cc)
 items-names (Items.bad i p) vs e = clash (cc)
 
--- a list
+-- the references of a list are ids that its text names
 listed-names : {t : List ℕ} {a : Fate (List ℕ)} → Listed (Scalar ReferenceForm) t a → (vs : List ℕ) → a ≡ fine vs → Each (Names t) vs
 listed-names (Listed.none b w) vs e = let d : [] ≡ vs = cc in subst (Each (Names (40 ∷ (b ++ (41 ∷ []))))) d (each-nil (Names (40 ∷ (b ++ (41 ∷ [])))))
 listed-names (Listed.items b {a} n q) vs e = go a (λ us d. items-names q us d) e
@@ -171,12 +171,12 @@ listed-names (Listed.items b {a} n q) vs e = go a (λ us d. items-names q us d) 
 listed-names (Listed.other n) vs e = clash (cc)
 
 -- ---- a reader of the bytes u
--- a parameter lies in the bytes, and no digit follows it
+-- a parameter runs forwards in the bytes, and no digit follows it
 record Apart (s : List ℕ) (e : ℕ) (b : Span) : Type 0 where
   ordered : b .start ≤ b .stop
   over : NotFirst digit (rest s e (b .stop))
 
--- by the rules
+-- the next parameter by the rules runs forwards, and no digit follows it
 form-apart : {s : List ℕ} {p e : ℕ} {x : Read Span} → NextForm s p e x → (b : Span) → x .answer ≡ good b → Apart s e b
 form-apart {s} {e} (NextForm.comma {a} {z} i az zb be h q) b k =
     let d : span a z ≡ b = cc in
@@ -189,13 +189,13 @@ form-apart (NextForm.none i h) b k = clash (cc)
 form-apart (NextForm.unclosed i aq qe h u) b k = clash (cc)
 
 module _ (u : List ℕ) (i : ℕ) where
-  -- what a parameter names
+  -- what the next parameter names the bytes name
   param-names : (b : Span) → paramOf u i (length u) .answer ≡ good b → (k : ℕ) → Names (partOf u b) k → Names u k
   param-names b h =
       let a = form-apart (next-is u i (length u)) b h in
       names-cut u (b .start) (b .stop) (a .ordered) (rw (take-length u) at (a .over))
 
-  -- the next parameter, read as a reference
+  -- the id of the next parameter, read as a reference, is one that the bytes name
   pub next-names : (k : ℕ) → nextOf referenceOf u i (length u) .answer ≡ good k → Names u k
   unfolding nextOf
   next-names k h = go (paramOf u i (length u) .answer) refl h
@@ -208,7 +208,7 @@ module _ (u : List ℕ) (i : ℕ) where
       go (good b) e g = param-names b e k (reference-names (reference-is (partOf u b)) (reads (b .start) (referenceOf (partOf u b)) g))
       go (bad q) e g = clash (cc)
 
-  -- as a list of references
+  -- the ids of the next parameter, read as a list of references, are ones that the bytes name
   pub list-names : (fits : List ℕ → Bool) (vs : List ℕ) → nextBy (listOf referenceOf) fits u i (length u) .answer ≡ good vs → Each (Names u) vs
   unfolding nextBy
   list-names fits vs h = go (paramOf u i (length u) .answer) refl h

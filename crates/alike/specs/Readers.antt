@@ -32,11 +32,11 @@ kept x = x
 
 -- ---- the bytes of the file s from a up to z
 module _ (s : List ℕ) (a z : ℕ) (az : a ≤ z) (zs : z ≤ length s) where
-  -- a part of them, by its bytes
+  -- a part of the bytes from a up to z has the same bytes in the file, a bytes further on
   pub part-shift : (b : Span) → SpanIn (length (cut s a z)) b → partOf s (ahead a b) ≡ partOf (cut s a z) b
   part-shift b (h, k) = sym (part-part s a (z - a) (b .start) (b .stop) h (omega (arith, cut-length s a z az zs)))
 
-  -- a parameter that is read on: g in the file is f of the bytes, a bytes further on
+  -- the next parameter, read on by g in the file, is what f reads of the bytes alone, a bytes further on
   pub mapped-shift : {A : Type 0} (v : A → A) (g f : Span → Told A) → ((b : Span) → SpanIn (length (cut s a z)) b → g (ahead a b) ≡ toldAhead v a (f b))
       → (i : ℕ) → i ≤ z - a → mapped g (paramOf s (a + i) z) ≡ shiftedRead v a z (mapped f (paramOf (cut s a z) i (length (cut s a z))))
   mapped-shift {A} v g f same i h = rw (param-shift s a z az zs i h) (ap (λ (x : Told A). reading x (a + paramOf u i (length u) .place) z) (go (paramOf u i (length u) .answer) refl))
@@ -52,12 +52,12 @@ module _ (s : List ℕ) (a z : ℕ) (az : a ≤ z) (zs : z ≤ length s) where
           let n = k .within in
           same b (k .ordered, omega arith)
 
-  -- one that is skipped
+  -- the next parameter that is skipped in the file is that of the bytes alone, a bytes further on
   pub skip-shift : (i : ℕ) → i ≤ z - a → skipOf s (a + i) z ≡ shiftedRead kept a z (skipOf (cut s a z) i (length (cut s a z)))
   unfolding skipOf
   skip-shift = mapped-shift kept (λ b. good tt) (λ b. good tt) (λ b h. refl)
 
-  -- one that is read as a scalar
+  -- the next parameter, read as a scalar in the file, is that of the bytes alone, a bytes further on
   pub next-shift : {A : Type 0} (f : List ℕ → Answer A) (i : ℕ) → i ≤ z - a → nextOf f s (a + i) z ≡ shiftedRead kept a z (nextOf f (cut s a z) i (length (cut s a z)))
   unfolding nextOf
   next-shift {A} f = mapped-shift kept (scalarAt f s) (scalarAt f (cut s a z)) (λ b h. ap (λ (t : List ℕ). answered (a + b .start) (f t)) (part-shift b h) ∙ go b (f (partOf (cut s a z) b)))
@@ -66,7 +66,7 @@ module _ (s : List ℕ) (a z : ℕ) (az : a ≤ z) (zs : z ≤ length s) where
       go b (read v) = refl
       go b (refused n) = refl
 
-  -- one that is read as a list or a grid
+  -- the next parameter, read as a list or a grid in the file, is that of the bytes alone, a bytes further on
   pub list-shift : {A : Type 0} (g : List ℕ → Fate A) (fits : A → Bool) (i : ℕ) → i ≤ z - a → nextBy g fits s (a + i) z ≡ shiftedRead kept a z (nextBy g fits (cut s a z) i (length (cut s a z)))
   unfolding nextBy
   list-shift {A} g fits = mapped-shift kept (λ b. roomed fits (b .start) (g (partOf s b))) (λ b. roomed fits (b .start) (g (partOf (cut s a z) b)))
@@ -80,7 +80,7 @@ module _ (s : List ℕ) (a z : ℕ) (az : a ≤ z) (zs : z ≤ length s) where
       go b (fine v) = room b v (fits v)
       go b (faulty n o) = let e : a + b .start + o ≡ a + (b .start + o) = omega arith in ap (λ (k : ℕ). bad (refusal n 0 k)) e
 
-  -- a name has its two dots
+  -- a parameter that is a name has at least its two dots
   name-long : (b : Span) → SpanIn (length (cut s a z)) b → isName (partOf (cut s a z) b) ≡ true → b .start + 2 ≤ b .stop
   name-long b (h, k) e = go (nameform-is u b) (rw e refl)
     where
@@ -91,7 +91,7 @@ module _ (s : List ℕ) (a z : ℕ) (az : a ≤ z) (zs : z ≤ length s) where
       go (NameForm.name {n} m) l = part-long u b n 46 46 h k (m .dots)
       go (NameForm.other n) l = clash (cc)
 
-  -- one that is read as a name
+  -- the next parameter, read as a name in the file, is that of the bytes alone, a bytes further on
   pub name-shift : (i : ℕ) → i ≤ z - a → nextName s (a + i) z ≡ shiftedRead (ahead a) a z (nextName (cut s a z) i (length (cut s a z)))
   name-shift = mapped-shift (ahead a) (nameAt s) (nameAt (cut s a z)) (λ b h. rw (part-shift b h) (go b h (isName (partOf (cut s a z) b)) refl))
     where
@@ -104,7 +104,7 @@ module _ (s : List ℕ) (a z : ℕ) (az : a ≤ z) (zs : z ≤ length s) where
           ap (λ (k : ℕ). good (span k (a + b .stop - 1))) x ∙ ap (λ (k : ℕ). good (span (a + (b .start + 1)) k)) y
       go b h false e = refl
 
-  -- and what the name is
+  -- the bytes of the next parameter's name in the file are those of the name in the bytes alone
   pub named-shift : (other : List ℕ) (i : ℕ) → i ≤ z - a → nameOr other s (nextName s (a + i) z .answer) ≡ nameOr other (cut s a z) (nextName (cut s a z) i (length (cut s a z)) .answer)
   named-shift other i h = ap (λ (r : Read Span). nameOr other s (r .answer)) (name-shift i h) ∙ go (nextName (cut s a z) i (length (cut s a z)) .answer) (name-in (cut s a z) i (length (cut s a z)))
     where

@@ -30,18 +30,18 @@ toldAhead f a (bad q) = bad (refusal (q .number) (q .reason) (a + q .place))
 abbrev pub shiftedRead : {A : Type 0} → (A → A) → ℕ → ℕ → Read A → Read A
 shiftedRead f a z r = reading (toldAhead f a (r .answer)) (a + r .place) z
 
--- past the comma, or at the end, is no longer
+-- what is left past a comma, or at the end, is no longer than before
 eaten-within : (r : List ℕ) → length (eaten r) ≤ length r
 eaten-within [] = omega arith
 eaten-within (c ∷ r) = omega arith
 
 -- ---- two lists of bytes, the second a bytes shorter: places in both
 module _ (xs u : List ℕ) (a z : ℕ) (longer : length xs ≡ a + length u) where
-  -- a rest's place
+  -- a rest's place in the longer list is that in the shorter, a bytes further on
   place-shift : (r : List ℕ) → length r ≤ length u → place xs r ≡ a + place u r
   place-shift r h = omega (arith, longer)
 
-  -- a parameter by its end
+  -- a parameter by its end, in the longer list, is that in the shorter, a bytes further on
   bounded-shift : (ys : List ℕ) (x : Cut.Cut) → cutOf ys ≡ x → length ys ≤ length u → bounded xs z ys x ≡ shiftedRead (ahead a) a z (bounded u (length u) ys x)
   bounded-shift ys (Cut.cut stop bound) k h =
       let (w, v) = param-rest (param-is ys stop bound k) in
@@ -62,18 +62,18 @@ module _ (xs u : List ℕ) (a z : ℕ) (longer : length xs ≡ a + length u) whe
       ap (λ (i : ℕ). reading (bad (refusal 11 0 i)) (place xs ys) z) q
       ∙ ap (λ (i : ℕ). reading (bad (refusal 11 0 (a + place u o))) i z) p
 
-  -- a parameter by its start
+  -- what is answered at a parameter's start, in the longer list, is that in the shorter, a bytes further on
   begun-shift : (ys : List ℕ) → length ys ≤ length u → begun xs z ys ≡ shiftedRead (ahead a) a z (begun u (length u) ys)
   begun-shift [] h = ap (λ (i : ℕ). reading (bad (refusal 10 0 i)) i z) (place-shift [] h)
   begun-shift (c ∷ r) h = bounded-shift (c ∷ r) (cutOf (c ∷ r)) refl h
 
 -- ---- the bytes of the file s from a up to z
 module _ (s : List ℕ) (a z : ℕ) (az : a ≤ z) (zs : z ≤ length s) where
-  -- how many they are
+  -- the bytes from a up to z are z - a in number
   pub cut-length : length (cut s a z) ≡ z - a
   cut-length = length-take-le (z - a) (drop a s) (omega (arith, length-drop a s))
 
-  -- they are those from a on of the bytes up to z
+  -- the bytes from a up to z are those from a on of the bytes up to z
   pub cut-drop : drop a (take z s) ≡ cut s a z
   cut-drop =
       let l : length (drop a (take z s)) ≡ z - a = length-drop a (take z s) ∙ ap (λ (n : ℕ). n - a) (length-take-le z s zs) in

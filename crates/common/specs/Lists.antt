@@ -7,7 +7,7 @@ use native.Mathlib.Numerals.{add-one}
 use lib.ListN.{length, drop, getD, drop-of-length-le}
 use lib.Seq.{drop-cons}
 
--- the list from i, with its first byte apart
+-- the list from i on is the byte at i and the list from the next on
 pub split : (xs : List ℕ) (i : ℕ) → i < length xs → drop i xs ≡ getD xs i 0 ∷ drop (i + 1) xs
 split xs i h = rw (add-one, drop-cons xs i 0)
 

@@ -37,7 +37,7 @@ use Rattle.needs.specs.Most.{text-most, items-most, rows-most}
 use Rattle.needs.specs.Needs.{Among}
 
 -- ---- a parameter
--- as many numbers as before, whatever they are told as
+-- the rows of a grid have as many numbers, whatever these are told as
 flat-length : {A B : Type 0} (h : A → B) (vs : List (List A)) → length (flat (map (map h) vs)) ≡ length (flat vs)
 flat-length h [] = refl
 flat-length h (r ∷ rs) = omega (arith, length-append (map h r) (flat (map (map h) rs)), length-append r (flat rs), length-map r h, flat-length h rs)
@@ -51,12 +51,12 @@ list-len {A} f t vs e = sym (length-map vs (λ (a : A). tt {0})) ∙ ap (λ (x :
 pub grid-numbers : {A : Type 0} (f : List ℕ → Answer A) (t : List ℕ) (vs : List (List A)) → gridOf f t ≡ fine vs → length (flat vs) ≡ length (flat (rowsIn t))
 grid-numbers {A} f t vs e = sym (flat-length (λ (a : A). tt {0}) vs) ∙ ap (λ (x : Fate (List (List (Unit {0})))). length (flat (valuesOf x))) (sym (rows-counted (λ u. asFate (f u)) t vs e))
 
--- and as many rows
+-- a grid that any reader reads has as many rows as are counted of it
 pub grid-rows : {A : Type 0} (f : List ℕ → Answer A) (t : List ℕ) (vs : List (List A)) → gridOf f t ≡ fine vs → length vs ≡ rowsLen t
 unfolding rowsLen
 grid-rows {A} f t vs e = sym (length-map vs (map (λ (a : A). tt {0}))) ∙ ap (λ (x : Fate (List (List (Unit {0})))). length (valuesOf x)) (sym (rows-counted (λ u. asFate (f u)) t vs e))
 
--- "its text lies between first and last byte"
+-- "its text lies between first and last byte": what is cut out of a string parameter is its inside
 text-body : (t b : List ℕ) → Quoted t b → take (length t - 1 - 1) (drop 1 t) ≡ b
 text-body t b d = quoted-body t (span 0 (length t)) b (omega arith) (omega arith) (subst (λ (u : List ℕ). Quoted u b) (sym (take-all (length t - 0) t (omega arith))) d)
 
@@ -66,35 +66,35 @@ module _ (s : List ℕ) (c : Needs) (b : Behind s c) where
   abbrev pub Parameter : List ℕ → Type 0
   Parameter t = Among s (b .table) t
 
-  -- the longest text; there is no other such number (lengths/specs/Greatest.greatest-only)
+  -- the longest text of a file's parameters is what is told; there is no other such number (lengths/specs/Greatest.greatest-only)
   pub text-exact : Greatest Parameter textLen (c .text)
   text-exact = subst (λ (x : Needs). Greatest Parameter textLen (x .text)) (b .counted) (text-most s (b .table))
 
-  -- the most numbers of a list or a grid
+  -- the most numbers of a list or a grid among a file's parameters are what is told
   pub items-exact : Greatest Parameter numbersLen (c .items)
   items-exact = subst (λ (x : Needs). Greatest Parameter numbersLen (x .items)) (b .counted) (items-most s (b .table))
 
-  -- the most rows of a grid
+  -- the most rows of a grid among a file's parameters are what is told
   pub rows-exact : Greatest Parameter rowsLen (c .rows)
   rows-exact = subst (λ (x : Needs). Greatest Parameter rowsLen (x .rows)) (b .counted) (rows-most s (b .table))
 
   module _ (t : List ℕ) (d : Parameter t) where
-    -- a list's numbers fit
+    -- a list among a file's parameters has no more numbers than are told
     pub list-enough : {A : Type 0} (f : List ℕ → Answer A) (vs : List A) → listOf f t ≡ fine vs → length vs ≤ c .items
     unfolding numbersLen
     list-enough f vs h = omega (arith, items-exact .all t d, list-len f t vs h)
 
-    -- a grid's numbers fit, and its row ends
+    -- a grid among a file's parameters has no more numbers and no more rows than are told
     pub grid-enough : {A : Type 0} (f : List ℕ → Answer A) (vs : List (List A)) → gridOf f t ≡ fine vs → (length (flat vs) ≤ c .items) × (length vs ≤ c .rows)
     unfolding numbersLen
     grid-enough f vs h = (omega (arith, items-exact .all t d, grid-numbers f t vs h), omega (arith, rows-exact .all t d, grid-rows f t vs h))
 
-    -- a string's text fits
+    -- a string among a file's parameters has no longer text than is told
     pub text-enough : isString t ≡ true → min most (length (bytesOf (take (length t - 1 - 1) (drop 1 t)))) ≤ c .text
     unfolding textLen
     text-enough h = subst (λ (k : Bool). pick k (min most (length (bytesOf (take (length t - 1 - 1) (drop 1 t))))) 0 ≤ c .text) h (text-exact .all t d)
 
-    -- so where the parameter that a reader finds is a list that reads, it is answered, and never 16, with a room of that size or more
+    -- a list that reads is answered, and never 16, with a room for as many numbers as are told or more
     pub list-answered : {A : Type 0} (f : List ℕ → Answer A) (vs : List A) → listOf f t ≡ fine vs → (p e : ℕ) (a : Span) → paramOf s p e .answer ≡ good a → partOf s a ≡ t
         → (room : ℕ) → c .items ≤ room → nextBy (listOf f) (fitsIn room) s p e .answer ≡ good vs
     unfolding nextBy
@@ -102,7 +102,7 @@ module _ (s : List ℕ) (c : Needs) (b : Behind s c) where
         ap (onward (λ (x : Span). roomed (fitsIn room) (x .start) (listOf f (partOf s x)))) g ∙ ap (λ (u : List ℕ). roomed (fitsIn room) (a .start) (listOf f u)) w ∙ ap (roomed (fitsIn room) (a .start)) h
         ∙ ap (λ (z : Bool). pick z (good vs) (bad (refusal 16 0 (a .start)))) (le-leb (length vs) room (omega (arith, list-enough f vs h)))
 
-    -- and so is a grid, with row ends for that many rows or more
+    -- a grid that reads is answered, and never 16, with rooms for as many numbers and row ends as are told or more
     pub grid-answered : {A : Type 0} (f : List ℕ → Answer A) (vs : List (List A)) → gridOf f t ≡ fine vs → (p e : ℕ) (a : Span) → paramOf s p e .answer ≡ good a → partOf s a ≡ t
         → (room ends : ℕ) → c .items ≤ room → c .rows ≤ ends → nextBy (gridOf f) (gridFits room ends) s p e .answer ≡ good vs
     unfolding nextBy
@@ -114,17 +114,17 @@ module _ (s : List ℕ) (c : Needs) (b : Behind s c) where
         ∙ ap (λ (z : Bool). pick (z && leb (length vs) ends) (good vs) (bad (refusal 16 0 (a .start)))) (le-leb (length (flat vs)) room i)
         ∙ ap (λ (z : Bool). pick (true && z) (good vs) (bad (refusal 16 0 (a .start)))) (le-leb (length vs) ends j)
 
-    -- and a text of it is never 16, in a room of that many bytes or more: only what is no string is refused. A lent room has fewer than 2^64
-    -- bytes
+    -- a parameter's text is never 16, in a room of as many bytes as are told or more: only what is no string is refused. A lent room has
+    -- fewer than 2^64 bytes
     pub text-answered : (p e : ℕ) (a : Span) → paramOf s p e .answer ≡ good a → partOf s a ≡ t → (room : ℕ) → c .text ≤ room → room < most → (q : Refusal) → stringAt s room a ≡ bad q → q .number ≡ 12
     unfolding stringAt
     text-answered p e a g w room k m q h = go (isUnset (partOf s a)) (isString (partOf s a)) refl h
       where
-        -- it lies in the file
+        -- the parameter lies in the file
         inside : (a .start ≤ a .stop) × (a .stop ≤ length s)
         inside = let (i, u) = param-past s p e a g in let b = u .ordered in let x = u .passed in let y = u .within in let z = i .1 in (omega arith, omega arith)
 
-        -- what is written fits
+        -- a string's text that is written fits the room
         fits : isString (partOf s a) ≡ true → leb (length (bytesOf (bodyOf s a))) room ≡ true
         fits v =
             let (b, d) = quoted-is (partOf s a) v in
@@ -137,7 +137,7 @@ module _ (s : List ℕ) (c : Needs) (b : Behind s c) where
             below : (n : ℕ) → min most n ≤ c .text → n ≤ room
             below n j = omega arith
 
-        -- a string
+        -- a string whose text fits the room is not refused
         shown : (x y : Bool) → y ≡ true → decodedAt a (pick x Plain (pick y (Written (length (bytesOf (bodyOf s a)))) Short)) ≡ bad q → q .number ≡ 12
         shown true y f j = clash (cc)
         shown false true f j = clash (cc)

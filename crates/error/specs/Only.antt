@@ -30,7 +30,7 @@ pub record Line : Type 0 where
   pub number : ℕ
   pub case : ℕ → ℕ → Fault
 
--- such a line by its parts
+-- a line of the table read the other way, from its number and its case
 abbrev pub line : ℕ → (ℕ → ℕ → Fault) → Line
 line n f = record { number = n; case = f }
 
@@ -64,7 +64,7 @@ caseIn (l ∷ ls) q = pick (eqb (l .number) (q .number)) (l .case (q .reason) (q
 pub faultOf : Refusal → Fault
 faultOf q = caseIn lines q
 
--- read the other way, the table gives the case back
+-- what a case tells, read the other way in the table, gives back that case
 pub faultOf-told : (f : Fault) → faultOf (told f) ≡ f
 unfolding faultOf caseIn
 faultOf-told NoMarker = refl

@@ -38,7 +38,7 @@ pub record Line : Type 0 where
   pub argStart : ℕ
   pub argEnd : ℕ
 
--- such a line, the keyword as text
+-- a line of the program `list` from its parts, the keyword as text
 abbrev pub line : ℕ → String → ℕ → ℕ → Line
 line i k a e = record { id = i; keyword = bytes k; argStart = a; argEnd = e }
 
@@ -48,7 +48,7 @@ pub record Listing : Type 0 where
   pub max : ℕ
   pub lines : List Line
 
--- such a listing by its parts
+-- what the program `list` prints, from its parts
 abbrev pub listing : ℕ → ℕ → List Line → Listing
 listing n m ls = record { records = n; max = m; lines = ls }
 

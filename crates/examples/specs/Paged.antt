@@ -15,11 +15,11 @@ pub record Paged : Type 0 where
   pub string : List ℕ
   pub text : List ℕ
 
--- one of them
+-- a string and its characters, the string as text
 abbrev pub paged : String → List ℕ → Paged
 paged s cs = record { string = bytes s; text = cs }
 
--- strings and their characters
+-- the list of strings and their characters, most with a page named
 abbrev pub paged-strings : List Paged
 paged-strings =
     -- "Greek and Cyrillic part names": an alpha of ISO 8859-7, an a of ISO 8859-5
@@ -43,26 +43,26 @@ paged-strings =
     ∷ paged "\\PG\\\\S\\$\\S\\%\\S\\*\\PH\\\\S\\}\\S\\~" (0x20AC ∷ 0x20AF ∷ 0x037A ∷ 0x200E ∷ 0x200F ∷ [])
     -- "sums outside A0 to FF stay as before": bytes below 20 and from 80 up
     ∷ record { string = bytes "\\PE\\\\S\\" ++ 0x1F ∷ bytes "\\S\\" ++ 0x80 ∷ []; text = 0x9F ∷ 0x0100 ∷ [] }
-    -- and FF is inside
+    -- the sum FF is inside A0 to FF
     ∷ record { string = bytes "\\PE\\\\S\\" ++ 0x7F ∷ []; text = 0x045F ∷ [] }
     -- a page changes nothing but `\S\`
     ∷ paged "\\PE\\P''\\X\\D0\\X2\\00D0\\X0\\\\\\" (0x50 ∷ 0x27 ∷ 0xD0 ∷ 0xD0 ∷ 0x5C ∷ [])
-    -- a bad group leaves the page as it is; and what is read again is read as ever, a page among it
+    -- a bad group leaves the page as it is, and what is read again after it is read as ever, a page among it
     ∷ paged "\\PE\\\\X2\\ZZZZ \\S\\P" (0x5C ∷ 0x58 ∷ 0x32 ∷ 0x5C ∷ 0x5A ∷ 0x5A ∷ 0x5A ∷ 0x5A ∷ 0x20 ∷ 0x0430 ∷ [])
     ∷ paged "\\X2\\PE\\0\\S\\P" (0x5C ∷ 0x58 ∷ 0x32 ∷ 0x30 ∷ 0x0430 ∷ [])
     ∷ []
 
--- each has these characters
+-- each string of a list has the characters that stand beside it, by the definitions
 abbrev pub Holds : List Paged → Type 0
 Holds [] = Unit {0}
 Holds (p ∷ ps) = (textOf (p .string) ≡ p .text) × Holds ps
 
--- all of them
+-- each string of the list `paged-strings` has its characters
 pub paged-hold : Holds paged-strings
 unfolding latin1 latin2 latin3 latin4 cyrillic arabic greek hebrew latin5 pages entry leadOf groupTwo groupFour groupsFrom directiveOf pieceOf pageAfter textFrom textOn textOf
 paged-hold = (refl, (refl, (refl, (refl, (refl, (refl, (refl, (refl, (refl, (refl, (refl, (refl, (refl, (refl, (refl, (refl, tt))))))))))))))))
 
--- the alpha's bytes in UTF-8: a text is its characters' encoding
+-- the bytes of an alpha in UTF-8: a text is its characters' encoding
 pub alpha-bytes : bytesOf (bytes "\\PG\\\\S\\a") ≡ 0xCE ∷ 0xB1 ∷ []
 unfolding greek pages entry leadOf groupTwo groupFour groupsFrom directiveOf pieceOf pageAfter textFrom textOn textOf bytesOf encode encodeAll
 alpha-bytes = refl

@@ -19,7 +19,7 @@ pub record UnitExample : Type 0 where
   pub file : String
   pub owed : Told Units
 
--- such an example by its parts
+-- an example from its file and the answer that is owed
 abbrev pub example : String → Told Units → UnitExample
 example f u = record { file = f; owed = u }
 
@@ -75,12 +75,12 @@ simple = example
     "ISO-10303-21;DATA;#1=(GEOMETRIC_REPRESENTATION_CONTEXT(3)GLOBAL_UNIT_ASSIGNED_CONTEXT((#2)));#2=SI_UNIT(.MILLI.,.METRE.);"
     (good (units 4607182418800017408 4607182418800017408 4562254508917369340 false))
 
--- all of them
+-- all examples of units
 unfoldable pub examples : List UnitExample
 unfolding later angle tolerance passed superseded circle faulty simple
 examples = later ∷ angle ∷ tolerance ∷ passed ∷ superseded ∷ circle ∷ faulty ∷ simple ∷ []
 
--- each is answered as it is owed
+-- each example of units is answered as it is owed
 pub unit-examples-hold : map answered examples ≡ map (λ (x : UnitExample). x .owed) examples
 unfolding resolving examples later angle tolerance passed superseded circle faulty simple
 unit-examples-hold = refl

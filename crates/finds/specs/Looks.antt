@@ -21,7 +21,7 @@ use Rattle.index.specs.SearchRight.{get-first, get-later, seek-hit}
 use Rattle.index.specs.declared.Ids.{Ids}
 use Rattle.finds.specs.Finds.{rowNumber}
 
--- both of two
+-- where two tests hold together, each of them holds
 pub both : (s t : Bool) → (s && t) ≡ true → (s ≡ true) × (t ≡ true)
 both true t e = (refl, e)
 both false t e = absurd (let z : _≡_ {A = ℕ} 0 1 = cc in omega arith)
@@ -51,23 +51,23 @@ module _ (rows slots : List ℕ) (b : Ids) (k : ℕ) where
   pub first-hint : (r : ℕ) → r ≡ firstRow slots b k → Hint rows slots b k r
   first-hint r e h = get-first (idOf rows) (rowsFit (length rows)) slots b k r e true (sym h) refl
 
-  -- a number that no row has is one
+  -- a number that no row has is a hint
   pub none-hint : (r : ℕ) → r ≡ 4294967295 → Hint rows slots b k r
   none-hint r e h = let z : false ≡ true = out-of-room rows slots b k ∙ ap (λ (m : ℕ). standing (idOf rows) (roomOf rows slots b) m k) (sym e) ∙ h in absurd (let y : _≡_ {A = ℕ} 0 1 = cc in omega arith)
 
   module _ (r : ℕ) (from : b .first ≤ k) where
-    -- where ids are dense in file order: as far from the first row as the id is from the first id
+    -- where ids are dense in file order, the row as far from the first as the id is from the first id is a hint
     pub dense-hint : b .direct ≡ true → (b .distinct && eqb (b .shift) 0) ≡ true → r ≡ k - b .first → Hint rows slots b k r
     dense-hint d e q = first-hint r (first-dense k b slots r from e (q ∙ sym (rw d refl)))
 
     module _ (d : b .direct ≡ true) (e : (b .distinct && eqb (b .shift) 0) ≡ false) where
-      -- elsewhere no row is looked at first, so that the row before an end of the search is a hint
+      -- where ids rise in file order and are not dense, the row before an end of the search is a hint
       end-hint : r + 1 ≡ endOf k b slots (slotId (idOf rows) (b .direct) slots) (roomOf rows slots b) → Hint rows slots b k r
       end-hint q h =
           seek-hit (idOf rows) (rowsFit (length rows)) slots b k (roomOf rows slots b) (r + 1) refl q r (rw d (omega arith)) (λ z. omega arith) true (sym h) refl
           ∙ get-later (idOf rows) (rowsFit (length rows)) slots b k 4294967295 (first-none k b slots from e) false (out-of-room rows slots b k) refl
 
-      -- where ids rise by one step: so many steps from the first row as the id is from the first id
+      -- where ids rise by one step, the row so many steps from the first as the id is from the first id is a hint
       pub even-hint : (step : ℕ) → 0 < step → step * (roomOf rows slots b - 1) ≡ b .last - b .first → 1 < roomOf rows slots b → b .even ≡ true → r * step ≡ k - b .first → Hint rows slots b k r
       even-hint step pos span two even far h = go (less-or k (b .last))
         where
@@ -99,7 +99,7 @@ module _ (rows slots : List ℕ) (b : Ids) (k : ℕ) where
           go (inl l) = end-hint (end-even k b slots (slotId (idOf rows) (b .direct) slots) n (r + 1) l from even (ap (λ (z : ℕ). z + 1) (sym place))) h
           go (inr l) = end-hint (let q = last-row l in omega (arith, two, q) ∙ end-all k b slots (slotId (idOf rows) (b .direct) slots) n l) h
 
-      -- by the guide: where the id would stand if its range, which has rows, were filled evenly
+      -- by the guide, the row where the id would stand if its range, which has rows, were filled evenly is a hint
       pub guide-hint : (q lo hi : ℕ) → b .even ≡ false → b .distinct ≡ true → k < b .last
           → q ≡ (k - b .first) / wide (b .shift) → q + 1 < roomOf rows slots b
           → lo ≡ max 1 (min (getD slots q 0) (roomOf rows slots b)) → hi ≡ min (min (getD slots (q + 1) 0) (roomOf rows slots b)) (roomOf rows slots b - 1)
@@ -146,7 +146,7 @@ startNear slots n b k = min (getD slots (min (rangeNear b k) (n - 2)) 0) n
 abbrev pub lowNear : List ℕ → ℕ → Ids → ℕ → ℕ
 lowNear slots n b k = max 1 (min (getD slots (rangeNear b k) 0) n)
 
--- the row behind the last row of an id's range, of those too
+-- the row behind the last row of an id's range, of those between the first row of all and the last
 abbrev pub highNear : List ℕ → ℕ → Ids → ℕ → ℕ
 highNear slots n b k = min (min (getD slots (rangeNear b k + 1) 0) n) (n - 1)
 
@@ -158,15 +158,15 @@ pub record Evenly (slots : List ℕ) (n : ℕ) (b : Ids) (k r : ℕ) : Type 0 wh
   pub filled : lowNear slots n b k < highNear slots n b k
   pub there : r ≡ lowNear slots n b k + (k - (b .first + rangeNear b k * wide (b .shift))) * (highNear slots n b k - lowNear slots n b k) / wide (b .shift)
 
--- such a row, or a number that no row has
+-- the row where an id would stand if its range were filled evenly, or a number that no row has
 abbrev pub NearRow : List ℕ → ℕ → Ids → ℕ → ℕ → Type 0
 NearRow slots n b k r = (r ≡ 4294967295) ⊎ Evenly slots n b k r
 
--- a number that is at most n - 1 is at most n
+-- the least of x and n - 1 is the least of x, n and n - 1
 twice-least : (x n : ℕ) → min x (n - 1) ≡ min (min x n) (n - 1)
 twice-least x n = omega arith
 
--- the code's numbers are such a row
+-- the row that the code computes is the one where the id would stand if its range were filled evenly
 pub evenly-is : (slots : List ℕ) (n : ℕ) (b : Ids) (k q lo hi d sh : ℕ) → b .first ≤ k → k < b .last → q ≡ rangeNear b k → q + 1 < n
     → lo ≡ max 1 (startNear slots n b k) → hi ≡ min (getD slots (q + 1) 0) (n - 1) → lo < hi
     → d ≡ (k - b .first) % wide (b .shift) → sh ≡ d * (hi - lo) / wide (b .shift) → Evenly slots n b k (lo + sh)
@@ -216,17 +216,17 @@ apart-by true n h = ne-eqb n 0 h
 apart-by false n h = refl
 
 module _ (rows slots : List ℕ) (b : Ids) where
-  -- what is told by the guide is a hint
+  -- a row that is told by the guide is a hint
   pub near-hint : (n : ℕ) → n ≡ roomOf rows slots b → Guided b (roomOf rows slots b) → (k r : ℕ) → NearRow slots n b k r → Hint rows slots b k r
   near-hint n room h k r (inl z) = none-hint rows slots b k r z
   near-hint n room h k r (inr z) = subst (λ (m : ℕ). Evenly slots m b k r → Hint rows slots b k r) (sym room) (λ y. guide-hint rows slots b k r (y .from) (h .direct) (h .apart) (rangeNear b k) (lowNear slots (roomOf rows slots b) b k) (highNear slots (roomOf rows slots b) b k) (h .even) (h .distinct) (y .below) refl (y .inside) refl refl (y .filled) (y .there)) z
 
-  -- and what is told by the step
+  -- a row that is told by the step is a hint
   pub step-hint : (step : ℕ) → 0 < step → Stepped b (roomOf rows slots b) step → (k r : ℕ) → EvenRow (b .first) step k r → Hint rows slots b k r
   step-hint step pos h k r (inl z) = none-hint rows slots b k r z
   step-hint step pos h k r (inr z) = even-hint rows slots b k r (z .0) (h .direct) (h .apart) step pos (h .span) (h .two) (h .even) (z .1)
 
-  -- and what is told by the distance from the first, where ids are dense in file order
+  -- a row that is told by the distance from the first is a hint, where ids are dense in file order
   pub far-hint : b .direct ≡ true → (b .distinct && eqb (b .shift) 0) ≡ true → (k r : ℕ) → DenseRow (b .first) k r → Hint rows slots b k r
   far-hint d e k r (inl z) = none-hint rows slots b k r z
   far-hint d e k r (inr z) = dense-hint rows slots b k r (z .0) d e (z .1)

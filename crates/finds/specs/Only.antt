@@ -11,7 +11,7 @@ use lib.Seq.{ext-getD}
 use borrow.Author.Tests.{ltb-true, ltb-false}
 use Rattle.finds.specs.Finds.{Told, short, full}
 
--- of two lists that tell the same there is one
+-- two lists that tell the same of many ids are one
 pub told-only : (f : ℕ → ℕ) (ids before xs ys : List ℕ) → Told f ids before xs → Told f ids before ys → xs ≡ ys
 told-only f ids before xs ys (short h e) (short k d) = e ∙ sym d
 told-only f ids before xs ys (short h e) (full k d) = absurd (omega arith)

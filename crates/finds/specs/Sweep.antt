@@ -25,12 +25,12 @@ pub record Swept (P : ℕ → ℕ → Type 0) (ids before : List ℕ) (from to :
   pub rest : (i : ℕ) → to ≤ i → getD after i 0 ≡ getD before i 0
 
 module _ (P : ℕ → ℕ → Type 0) (ids before : List ℕ) (from : ℕ) where
-  -- nothing is swept yet
+  -- a sweep over no numbers leaves the list as it was
   pub swept-none : Swept P ids before from from before
   swept-none = record { size = refl; each = λ i h l. absurd (omega arith); front = λ i h. refl; rest = λ i h. refl }
 
   module _ (m : ℕ) (after : List ℕ) (h : Swept P ids before from m after) (f : from ≤ m) where
-    -- the next number is written
+    -- a sweep goes one number further, once that is written
     pub swept-next : (x : ℕ) → m < length before → P (getD ids m 0) x → Swept P ids before from (m + 1) (set after m x)
     swept-next x l p = record { size = length-set after m x ∙ h .size; each = each; front = front; rest = rest }
       where
@@ -51,20 +51,20 @@ module _ (P : ℕ → ℕ → Type 0) (ids before : List ℕ) (from : ℕ) where
         rest : (i : ℕ) → m + 1 ≤ i → getD (set after m x) i 0 ≡ getD before i 0
         rest i a = getD-set-other after m i x 0 (λ z. omega arith) ∙ h .rest i (omega arith)
 
--- a sweep that has come to the part's end
+-- a sweep that has come to the part's end is one over the part
 pub swept-end : (P : ℕ → ℕ → Type 0) (ids before after : List ℕ) (from m to : ℕ) → Swept P ids before from m after → m ≡ to → Swept P ids before from to after
 swept-end P ids before after from m to h e = subst (λ (z : ℕ). Swept P ids before from z after) e h
 
--- a sweep after a sweep over the same part
+-- a second sweep over the same part is one over what stood there before the first
 pub swept-then : (P Q : ℕ → ℕ → Type 0) (ids xs ys zs : List ℕ) (from to : ℕ) → Swept P ids xs from to ys → Swept Q ids ys from to zs → Swept Q ids xs from to zs
 swept-then P Q ids xs ys zs from to a b =
     record { size = b .size ∙ a .size; each = b .each; front = λ i h. b .front i h ∙ a .front i h; rest = λ i h. b .rest i h ∙ a .rest i h }
 
--- what is less said
+-- a sweep after which P holds is one after which Q holds, where Q follows from P
 pub swept-map : (P Q : ℕ → ℕ → Type 0) (ids xs ys : List ℕ) (from to : ℕ) → ((k v : ℕ) → P k v → Q k v) → Swept P ids xs from to ys → Swept Q ids xs from to ys
 swept-map P Q ids xs ys from to f a = record { size = a .size; each = λ i h l. f (getD ids i 0) (getD ys i 0) (a .each i h l); front = a .front; rest = a .rest }
 
--- what stands beside the next id before it is swept is what stood there
+-- what stands beside the next id, before it is swept, is what stood there before the sweep
 pub swept-old : (P Q : ℕ → ℕ → Type 0) (ids before after : List ℕ) (from m to : ℕ) → Swept P ids before from m after → from ≤ m → m < to → ((i : ℕ) → from ≤ i → i < to → Q (getD ids i 0) (getD before i 0)) → Q (getD ids m 0) (getD after m 0)
 swept-old P Q ids before after from m to h f l q = subst (λ (z : ℕ). Q (getD ids m 0) z) (sym (h .rest m (omega arith))) (q m f l)
 
@@ -72,7 +72,7 @@ swept-old P Q ids before after from m to h f l q = subst (λ (z : ℕ). Q (getD 
 abbrev pub AllStand : List ℕ → ℕ → List ℕ → List ℕ → ℕ → ℕ → Type 0
 AllStand rows n ids found from to = (i : ℕ) → from ≤ i → i < to → standing (idOf rows) n (getD found i 0) (getD ids i 0) ≡ true
 
--- rows that have their ids stand
+-- rows that are told for the ids of a part and have them are each one of n, and have their ids
 pub have-stand : (rows : List ℕ) (n : ℕ) (ids found : List ℕ) (from to : ℕ) → AllHave rows n ids found from to → AllStand rows n ids found from to
 have-stand rows n ids found from to h i a l = rw (lt-ltb (getD found i 0) n (h .below i a l)) (eq-eqb (idOf rows (getD found i 0)) (getD ids i 0) (h .have i a l))
 
@@ -81,7 +81,7 @@ pub swept-stood : (rows slots : List ℕ) (b : Ids) (n : ℕ) (ids xs ys : List 
 swept-stood rows slots b n ids xs ys from to room h s =
     record { size = h .size; each = λ i a l. hint-row rows slots b (getD ids i 0) (getD ys i 0) (h .each i a l) (subst (λ (m : ℕ). standing (idOf rows) m (getD ys i 0) (getD ids i 0) ≡ true) room (s i a l)); front = h .front; rest = h .rest }
 
--- a sweep and one from where it ended
+-- a sweep up to m and one from m on are one over both parts
 pub swept-more : (P : ℕ → ℕ → Type 0) (ids xs ys zs : List ℕ) (from m to : ℕ) → from ≤ m → m ≤ to → Swept P ids xs from m ys → Swept P ids ys m to zs → Swept P ids xs from to zs
 swept-more P ids xs ys zs from m to l o a b =
     record { size = b .size ∙ a .size; each = each; front = λ i h. b .front i (omega arith) ∙ a .front i h; rest = λ i h. b .rest i h ∙ a .rest i (omega arith) }

@@ -20,15 +20,15 @@ use Rattle.headers.specs.declared.HeaderFound.the-variants as heading
 abbrev pub named : List ℕ → List ℕ → HeaderRow → Bool
 named s name w = spanFine (length s) (w .keyStart) (w .keyEnd) && same (map upper (cut s (w .keyStart) (w .keyEnd))) (map upper name)
 
--- header row i has it
+-- header row i has this keyword
 abbrev pub isHeader : List ℕ → (ℕ → HeaderRow) → List ℕ → ℕ → Bool
 isHeader s head name i = named s name (head i)
 
--- "The first header record with a given keyword"
+-- "The first header record with a given keyword": its number among n header rows
 abbrev pub headerFirst : List ℕ → (ℕ → HeaderRow) → ℕ → List ℕ → Option ℕ
 headerFirst s head n name = firstFrom (isHeader s head name) n 0
 
--- the same search over a table in lent memory of which n rows are told
+-- the first header record with a given keyword, in a table in lent memory of which n rows are told
 abbrev pub headerFound : List ℕ → List ℕ → ℕ → List ℕ → Option ℕ
 headerFound s heads n name = headerFirst s (headerNumbers heads) (headerRows heads n) name
 

@@ -18,28 +18,28 @@ use Rattle.lookup.specs.Laws.{first-right}
 use Rattle.headers.specs.Header.{named, isHeader, headerFirst, argued}
 
 module _ (s name : List ℕ) (w : HeaderRow) where
-  -- a keyword that runs backwards is none
+  -- a header row whose keyword runs backwards has not the keyword sought
   pub named-backwards : w .keyEnd < w .keyStart → false ≡ named s name w
   named-backwards h = sym (rw (lt-leb (w .keyStart) (w .keyEnd) h) refl)
 
-  -- nor is one outside the file
+  -- a header row whose keyword ends outside the file has not the keyword sought
   pub named-outside : w .keyStart ≤ w .keyEnd → length s < w .keyEnd → false ≡ named s name w
   named-outside l h = sym (rw (le-leb (w .keyStart) (w .keyEnd) l, lt-leb (w .keyEnd) (length s) h) refl)
 
-  -- another is compared
+  -- a header row whose keyword lies in the file has the keyword sought just where the two are the same, letters in either case
   pub named-by : w .keyStart ≤ w .keyEnd → w .keyEnd ≤ length s → same (map upper (cut s (w .keyStart) (w .keyEnd))) (map upper name) ≡ named s name w
   named-by l h = sym (rw (le-leb (w .keyStart) (w .keyEnd) l, le-leb (w .keyEnd) (length s) h) refl)
 
 module _ (len : ℕ) (w : HeaderRow) where
-  -- arguments that run backwards are 9
+  -- a header row's arguments that run backwards are 9
   pub argued-backwards : w .argEnd < w .argStart → bad (refusal 9 0 0) ≡ argued len w
   argued-backwards h = sym (rw (lt-leb (w .argStart) (w .argEnd) h) refl)
 
-  -- and so are those outside the file
+  -- a header row's arguments that end outside the file are 9
   pub argued-outside : w .argStart ≤ w .argEnd → len < w .argEnd → bad (refusal 9 0 0) ≡ argued len w
   argued-outside l h = sym (rw (le-leb (w .argStart) (w .argEnd) l, lt-leb (w .argEnd) len h) refl)
 
-  -- others are given
+  -- a header row's arguments that lie in the file are given
   pub argued-by : w .argStart ≤ w .argEnd → w .argEnd ≤ len → good (some (span (w .argStart) (w .argEnd))) ≡ argued len w
   argued-by l h = sym (rw (le-leb (w .argStart) (w .argEnd) l, le-leb (w .argEnd) len h) refl)
 

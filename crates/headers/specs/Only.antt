@@ -9,19 +9,19 @@ use Rattle.headers.specs.Header.{toldHeader}
 use Rattle.headers.specs.declared.HeaderFound.{HeaderFound}
 use Rattle.headers.specs.declared.HeaderFound.the-variants as heading
 
--- the answer that tells this
+-- the code's answer that tells these arguments, none or a refusal
 headerBack : Told (Option Span) → HeaderFound
 headerBack (good none) = heading.Nothing
 headerBack (good (some r)) = heading.Span (record { start = r .start; end = r .end })
 headerBack (bad q) = heading.Refused (faultOf q)
 
--- it is the answer that told it
+-- what an answer about a header record tells gives back that answer
 header-told : (a : HeaderFound) → headerBack (toldHeader a) ≡ a
 unfolding headerBack
 header-told (heading.Span r) = refl
 header-told heading.Nothing = refl
 header-told (heading.Refused f) = ap heading.Refused (faultOf-told f)
 
--- `header_args`
+-- `header_args` has one answer: two that tell the same are one
 pub header-only : (a b : HeaderFound) → toldHeader a ≡ toldHeader b → a ≡ b
 header-only a b e = sym (header-told a) ∙ ap headerBack e ∙ header-told b

@@ -11,10 +11,10 @@ use Rattle.statement.specs.declared.HeaderSpan.{HeaderSpan}
 abbrev pub noSpan : HeaderSpan
 noSpan = record { keyword = record { start = 0; end = 0 }; args = record { start = 0; end = 0 } }
 
--- record i; past the end that one
+-- record i of a slice; past its end one whose places are all 0
 abbrev pub spanAt : List HeaderSpan → ℕ → HeaderSpan
 spanAt hs i = getD hs i noSpan
 
--- its row
+-- the row of record i of a slice
 abbrev pub headAt : List HeaderSpan → ℕ → HeaderRow
 headAt hs i = headerRowOf (spanAt hs i)

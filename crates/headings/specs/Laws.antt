@@ -23,23 +23,23 @@ module _ (s name : List ℕ) (hs : List HeaderSpan) where
   abbrev pub Sought : ℕ → Type 0
   Sought i = firstFrom (isHeader s (headAt hs) name) (length hs - i) i ≡ headerFirst s (headAt hs) (length hs) name
 
-  -- whether record i has it
+  -- whether record i has the keyword sought
   abbrev pub Has : ℕ → Bool
   Has i = named s name (headAt hs i)
 
-  -- the search begins
+  -- where the search begins, the first record from 0 on is sought
   pub begins : Sought 0
   begins = let z : length hs - 0 ≡ length hs = omega arith in ap (λ (m : ℕ). firstFrom (isHeader s (headAt hs) name) m 0) z
 
-  -- record i has it
+  -- where record i has the keyword sought, it is the first that has
   pub stops : (i : ℕ) → i < length hs → Sought i → Has i ≡ true → some i ≡ headerFirst s (headAt hs) (length hs) name
   stops i l e t = sym (first-stops (isHeader s (headAt hs) name) (length hs) i l t) ∙ e
 
-  -- it has not
+  -- where record i has not the keyword sought, the first from the next on is sought
   pub goes : (i : ℕ) → i < length hs → Sought i → Has i ≡ false → Sought (i + 1)
   goes i l e f = sym (first-goes (isHeader s (headAt hs) name) (length hs) i l f) ∙ e
 
-  -- no record is left
+  -- where no record is left, none has the keyword sought
   pub ends : (i : ℕ) → length hs ≤ i → Sought i → none ≡ headerFirst s (headAt hs) (length hs) name
   ends i l e = sym (first-ends (isHeader s (headAt hs) name) (length hs) i l) ∙ e
 
@@ -51,13 +51,13 @@ first-same p q (suc n) i h =
     ap (λ (t : Bool). pick t (some i) (firstFrom p n (suc i))) (h i (omega arith))
     ∙ ap (λ (o : Option ℕ). pick (q i) (some i) o) (first-same p q n (suc i) (λ j l. h j (omega arith)))
 
--- record i of the rows of records
+-- row i of the rows of records is the row of record i
 elem-row : (hs : List HeaderSpan) (i : ℕ) → i < length hs → getElem? (map headerRowOf hs) i ≡ some (headAt hs i)
 elem-row [] i l = absurd (omega arith)
 elem-row (w ∷ hs) zero l = refl
 elem-row (w ∷ hs) (suc i) l = elem-row hs i (omega arith)
 
--- the same row of both
+-- two rows that are told as the same are one
 some-one : {a b : HeaderRow} → some a ≡ some b → a ≡ b
 some-one e = cc
 

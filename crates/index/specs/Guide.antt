@@ -20,7 +20,7 @@ use Rattle.index.specs.IndexRight.{rises-far}
 use Rattle.index.specs.Search.{Bracket, bracket, looked, ended, opening, startAt, wide, ranged, among, rangeEnd, guideEnd, evenEnd, endOf, firstRow}
 use Rattle.index.specs.declared.Ids.{Ids}
 
--- a range has ids
+-- a range of the guide has at least one id
 pub wide-pos : (s : ℕ) → 0 < 2 ^ s
 wide-pos s = one-le-pow s 2 (omega arith)
 
@@ -29,14 +29,14 @@ module _ (k first w : ℕ) (pos : 0 < w) where
   pub range-low : first ≤ k → first + (k - first) / w * w ≤ k
   range-low h = let e = div-mul-le-self (k - first) w in omega arith
 
-  -- and the next one behind it
+  -- the range behind that of an id begins behind the id
   pub range-high : k < first + ((k - first) / w + 1) * w
   range-high =
       let e = lt-div-mul-add {a = k - first} {b = w} pos in
       let f : ((k - first) / w + 1) * w ≡ (k - first) / w * w + w = add-mul ((k - first) / w) 1 w ∙ omega arith in
       omega arith
 
-  -- the id is less than a range behind its begin
+  -- an id is less than a range behind where its own range begins
   pub range-far : k - (first + (k - first) / w * w) < w
   range-far = let e = lt-div-mul-add {a = k - first} {b = w} pos in omega arith
 
@@ -52,11 +52,11 @@ range-most d span w pos h =
     add-mul-one : (a b : ℕ) → suc a * b ≡ a * b + b
     add-mul-one a b = let q : suc a ≡ a + 1 = omega arith in ap (λ (z : ℕ). z * b) q ∙ add-mul a 1 b ∙ omega arith
 
--- a place among the rows of a bracket lies in it
+-- the row where an id would stand in a bracket is not before the bracket's first
 pub among-low : (k w : ℕ) (b : Bracket) → b .lo ≤ among k w b
 among-low k w b = omega arith
 
--- and before its end, where it has rows
+-- the row where an id would stand in a bracket that has rows is before the bracket's end
 pub among-high : (k w : ℕ) (b : Bracket) → 0 < w → k - b .under < w → b .lo < b .hi → among k w b < b .hi
 among-high k w b pos f h =
     let m : (k - b .under) * (b .hi - b .lo) < w * (b .hi - b .lo) = mul-lt-mul-of-pos-right {m = k - b .under} {n = w} {k = b .hi - b .lo} f (omega arith) in
@@ -64,24 +64,24 @@ among-high k w b pos f h =
     let l = div-lt-iff-lt-mul {k = w} {x = (k - b .under) * (b .hi - b .lo)} {y = b .hi - b .lo} pos .1 (omega arith) in
     omega arith
 
--- a share of y is at most y
+-- a share x of z of y is at most y
 pub share-most : (x y z : ℕ) → x ≤ z → x * y / z ≤ y
 share-most x y z h = div-le-of-le-mul z (mul-le-mul-right {m = x} {n = z} y h)
 
--- where a range begins, for a slot of the guide and past the slots
+-- for a slot of the guide, its range begins where the slot says, and not past the rows
 pub start-in : (slots : List ℕ) (n i : ℕ) → i < n → startAt slots n i ≡ min (getD slots i 0) n
 start-in slots n i h = rw (lt-ltb i n h) refl
 
--- past the slots it is the end of all rows
+-- past the slots of the guide, a range begins at the end of all rows
 pub start-out : (slots : List ℕ) (n i : ℕ) → n ≤ i → startAt slots n i ≡ n
 start-out slots n i h = rw (le-ltb i n h) refl
 
 module _ (f g : ℕ → ℕ) where
-  -- one slot's id rises by any step
+  -- along one slot, ids rise by one step
   pub steady-starts : Steady f g 1
   steady-starts i h = absurd (omega arith)
 
-  -- ids rise by one step up to slot i, and from slot i - 1 to slot i
+  -- ids that rise by one step up to slot i - 1, and by that step from there to slot i, rise by it along one slot more
   pub steady-next : (i : ℕ) → 1 ≤ i → Steady f g i → f (g i) - f (g (i - 1)) ≡ stepOf f g → Steady f g (i + 1)
   steady-next i h r l j b = go (ordered (j + 1) i)
     where
@@ -90,13 +90,13 @@ module _ (f g : ℕ → ℕ) where
       go (inr (inl e)) = let d : i - 1 ≡ j = omega arith in subst (λ (z : ℕ). f (g z) - f (g j) ≡ stepOf f g) (sym e) (subst (λ (z : ℕ). f (g i) - f (g z) ≡ stepOf f g) d l)
       go (inr (inr k)) = absurd (omega arith)
 
-  -- where they do not from slot i - 1 to slot i they do not
+  -- where ids do not rise by the step from slot i - 1 to slot i, they do not rise by one step along all slots
   pub steady-not : (i n : ℕ) → 1 ≤ i → i < n → (f (g i) - f (g (i - 1)) ≡ stepOf f g → ⊥) → Steady f g n → ⊥
   steady-not i n h b l r =
       let e : i - 1 + 1 ≡ i = omega arith in
       l (subst (λ (z : ℕ). f (g z) - f (g (i - 1)) ≡ stepOf f g) e (r (i - 1) (omega arith)))
 
-  -- fewer slots do too
+  -- ids that rise by one step along some slots rise by it along fewer
   pub steady-fewer : (i n : ℕ) → n ≤ i → Steady f g i → Steady f g n
   steady-fewer i n h r j b = r j (omega arith)
 
@@ -104,7 +104,7 @@ module _ (f g : ℕ → ℕ) where
   pub steady-rises : (n : ℕ) → Steady f g n → Rises f g n
   steady-rises n r i h = let e = r i h in omega arith
 
-  -- each id is so many steps above the first
+  -- where ids rise by one step, the id in slot i is i steps above the first
   pub steady-at : (n : ℕ) → Steady f g n → (i : ℕ) → i < n → f (g i) ≡ f (g 0) + i * stepOf f g
   steady-at n r zero h = omega arith
   steady-at n r (suc i) h =
@@ -114,13 +114,13 @@ module _ (f g : ℕ → ℕ) where
       let m : suc i * stepOf f g ≡ i * stepOf f g + stepOf f g = ap (λ (z : ℕ). z * stepOf f g) (sym q) ∙ add-mul i 1 (stepOf f g) ∙ omega arith in
       omega arith
 
-  -- whether they rise by one step, with one slot more
+  -- whether ids rise by one step, with one slot more
   pub steady-more : (i : ℕ) (s t : Bool) → 1 ≤ i → Says s (Steady f g i) → eqb (f (g i) - f (g (i - 1))) (stepOf f g) ≡ t → Says (s && t) (Steady f g (i + 1))
   steady-more i true true h r e = steady-next i h r (eqb-true (f (g i) - f (g (i - 1))) (stepOf f g) e)
   steady-more i true false h r e = steady-not i (i + 1) h (omega arith) (eqb-false (f (g i) - f (g (i - 1))) (stepOf f g) e)
   steady-more i false t h r e = λ w. r (steady-fewer (i + 1) i (omega arith) w)
 
-  -- whether they do once all slots are seen: one, where there is none
+  -- whether ids rise by one step is known once all slots are seen, and once one is, where there is none
   pub steady-all : (i n : ℕ) (s : Bool) → i ≡ max 1 n → Says s (Steady f g i) → Says s (Steady f g n)
   steady-all i n true e r = steady-fewer i n (omega arith) r
   steady-all i n false e r = λ w. r (go (less-or 0 n) w)
@@ -133,22 +133,22 @@ module _ (f g : ℕ → ℕ) where
 pub even-place : (d top step : ℕ) → 0 < top → d * top / (top * step) ≡ d / step
 even-place d top step h = ap (λ (z : ℕ). z / (top * step)) (mul-comm d top) ∙ mul-div-mul-left {m = top} d step h
 
--- for a step of one it is that distance
+-- for ids that rise by one a slot, the place of an id is its distance from the first
 pub even-one : (d top span : ℕ) → 0 < span → span ≡ top → d + 1 ≡ d * top / span + 1
 even-one d top span h e = ap (λ (z : ℕ). z + 1) (sym (mul-div-cancel d {n = span} h) ∙ ap (λ (z : ℕ). d * z / span) e)
 
--- where a shift is sought: so much of the span is left after s halvings
+-- the search for a shift: so much of the span is left after s halvings
 pub record Shifting (span n left s : ℕ) : Type 0 where
   pub halved : left ≡ span / 2 ^ s
   pub least : (t : ℕ) → t < s → max 2 n ≤ span / 2 ^ t
   pub small : left < 2 ^ (32 - s)
   pub short : s ≤ 31
 
--- none has been made
+-- before the first halving all of the span is left
 pub shift-starts : (span n : ℕ) → span < 4294967296 → Shifting span n span 0
 shift-starts span n h = record { halved = sym (div-one span); least = λ t l. absurd (omega arith); small = h; short = omega arith }
 
--- one more
+-- where still too many ranges are left, one halving more is made
 pub shift-next : (span n left s : ℕ) → Shifting span n left s → max 2 n ≤ left → (s < 31) × Shifting span n (left / 2) (s + 1)
 shift-next span n left s h l = (below, record { halved = halved; least = least; small = small; short = omega (arith, below) })
   where
@@ -184,15 +184,15 @@ shift-next span n left s h l = (below, record { halved = halved; least = least; 
         let q : left < 2 ^ suc (32 - (s + 1)) = subst (λ (x : ℕ). left < 2 ^ x) (sym e) (h .small) in
         omega arith
 
--- enough
+-- where few enough ranges are left, s is the shift
 pub shift-ends : (span n left s : ℕ) → Shifting span n left s → left < max 2 n → IsShift span n s
 shift-ends span n left s h l = let b : s ≤ 31 = h .short in record { fits = subst (λ (x : ℕ). x < max 2 n) (h .halved) l; least = h .least; short = omega arith }
 
--- a range's ids fit a machine number, and so do as many ranges as ids
+-- a range of the guide has at most 2^31 ids
 pub wide-fits : (s : ℕ) → s < 32 → 2 ^ s ≤ 2147483648
 wide-fits s h = pow-le-pow-right {n = 2} (omega arith) {i = s} {j = 31} (omega arith)
 
--- as many ranges as there are ids
+-- the ids of at most 2^32 ranges of the guide fit a machine number
 pub ranges-fit : (q s : ℕ) → q ≤ 4294967296 → s < 32 → q * 2 ^ s ≤ 9223372036854775808
 ranges-fit q s h l = mul-le-mul {n₁ = q} {m₁ = 2 ^ s} {n₂ = 4294967296} {m₂ = 2147483648} h (wide-fits s l)
 
@@ -205,7 +205,7 @@ pub record Laying (f : ℕ → ℕ) (n first w : ℕ) (slots : List ℕ) (from r
   pub below : (i : ℕ) → i < r → f i < from
   pub laid : (j : ℕ) → j < k → Starts f n (first + j * w) (getD slots j 0)
 
--- one more row is passed
+-- where the rows from r up to i have ids below x, and row i too, one row more is passed
 pub passed-on : (f : ℕ → ℕ) (r x i : ℕ) → ((j : ℕ) → r ≤ j → j < i → f j < x) → f i < x → (j : ℕ) → r ≤ j → j < i + 1 → f j < x
 passed-on f r x i h l j a b = go (less-or j i)
   where
@@ -214,11 +214,11 @@ passed-on f r x i h l j a b = go (less-or j i)
     go (inr c) = let e : i ≡ j = omega arith in subst (λ (z : ℕ). f z < x) e l
 
 module _ (f : ℕ → ℕ) (n first w : ℕ) where
-  -- no slot is laid
+  -- the laying of the guide begins with no slot laid
   pub laying-starts : (slots : List ℕ) → length slots ≡ n → Laying f n first w slots first 0 0
   laying-starts slots e = record { size = e; done = omega arith; inside = omega arith; bound = omega arith; below = λ i h. absurd (omega arith); laid = λ j h. absurd (omega arith) }
 
-  -- rows that are passed begin there
+  -- the first row that is not passed is where the ids from `from` on begin
   passed-starts : Rises f (λ i. i) n → (from r e : ℕ) → ((i : ℕ) → i < r → f i < from) → Passed f r n from e → Starts f n from e
   passed-starts rises from r e below p = record { inside = p .inside; below = low; from = high }
     where
@@ -242,7 +242,7 @@ module _ (f : ℕ → ℕ) (n first w : ℕ) where
               omega (arith, here, b)
           go (inr a) = let q : e ≡ i = omega arith in subst (λ (z : ℕ). from ≤ f z) q here
 
-  -- one more slot
+  -- one slot more of the guide is laid
   pub laying-next : (slots : List ℕ) (from r k e : ℕ) → Rises f (λ i. i) n → Laying f n first w slots from r k → k < n → Passed f r n from e → Laying f n first w (set slots k e) (from + w) e (k + 1)
   laying-next slots from r k e rises h l p =
       record {
@@ -268,35 +268,35 @@ module _ (f : ℕ → ℕ) (n first w : ℕ) where
           (subst (λ (c : ℕ). Starts f n (first + k * w) c) (sym (getD-set-same slots k e 0 (omega (arith, size, l))))
           (subst (λ (x : ℕ). Starts f n x e) (h .bound) starts))
 
-  -- all are laid
+  -- where all slots of the guide are laid, each holds where its range begins
   pub laying-ends : (slots : List ℕ) (from r k : ℕ) → Laying f n first w slots from r k → n ≤ k → (j : ℕ) → j < n → Starts f n (first + j * w) (getD slots j 0)
   laying-ends slots from r k h l j a = h .laid j (omega arith)
 
 module _ (k : ℕ) (distinct : Bool) (g : ℕ → ℕ) (b : Bracket) (w : ℕ) where
-  -- a range without rows
+  -- in a range without rows, the rows up to the id end where the range begins
   pub range-empty : b .hi ≤ b .lo → b .lo ≡ rangeEnd k distinct g b w
   range-empty h = rw (le-ltb (b .lo) (b .hi) h) refl
 
   module _ (m id : ℕ) (at : m ≡ among k w b) (there : id ≡ g m) (h : b .lo < b .hi) where
-    -- one with rows is looked at in slot m
+    -- in a range with rows, the search looks at slot m first
     range-looks : turned (looked k distinct b m id) (λ c. ended k distinct g c) ≡ rangeEnd k distinct g b w
     range-looks =
         subst (λ (i : ℕ). turned (looked k distinct b m i) (λ c. ended k distinct g c) ≡ rangeEnd k distinct g b w) (sym there)
         (subst (λ (z : ℕ). turned (looked k distinct b z (g z)) (λ c. ended k distinct g c) ≡ rangeEnd k distinct g b w) (sym at) (rw (lt-ltb (b .lo) (b .hi) h) refl))
 
-    -- it has the id
+    -- where slot m has the id sought and no id stands twice, the rows up to it end there
     pub range-finds : (distinct && eqb id k) ≡ true → m + 1 ≡ rangeEnd k distinct g b w
     range-finds e = rw e at range-looks
 
-    -- a lesser one
+    -- where slot m has an id up to the one sought, the search goes on behind it
     pub range-under : (r : ℕ) → (distinct && eqb id k) ≡ false → id ≤ k → r ≡ ended k distinct g (bracket (m + 1) (b .hi) id (b .over) (b .guided - 1)) → r ≡ rangeEnd k distinct g b w
     range-under r e l q = q ∙ rw (e, le-leb id k l) at range-looks
 
-    -- a greater one
+    -- where slot m has a greater id than the one sought, the search goes on before it
     pub range-over : (r : ℕ) → (distinct && eqb id k) ≡ false → k < id → r ≡ ended k distinct g (bracket (b .lo) m (b .under) id (b .guided - 1)) → r ≡ rangeEnd k distinct g b w
     range-over r e l q = q ∙ rw (e, lt-leb id k l) at range-looks
 
--- the code's bracket is the guide's
+-- where the code's bracket is the one that the guide gives, what is found in it is what is found by the guide
 pub guide-is : (k : ℕ) (distinct : Bool) (g : ℕ → ℕ) (slots : List ℕ) (n first last shift q lo hi under over r : ℕ)
     → q ≡ (k - first) / wide shift → lo ≡ max 1 (startAt slots n q) → hi ≡ min (startAt slots n (q + 1)) (n - 1)
     → under ≡ first + q * wide shift → over ≡ min (first + (q + 1) * wide shift) last
@@ -312,23 +312,29 @@ guide-is k distinct g slots n first last shift q lo hi under over r e a b c d f 
 
 -- the ways of a search, by its tests
 module _ (k : ℕ) (b : Ids) (slots : List ℕ) (g : ℕ → ℕ) (n : ℕ) where
+  -- where the last id is not above the one sought, all slots hold ids up to it
   pub end-all : b .last ≤ k → n ≡ endOf k b slots g n
   end-all h = rw (le-leb (b .last) k h) refl
 
+  -- where the first id is above the one sought, no slot holds an id up to it
   pub end-none : k < b .last → k < b .first → 0 ≡ endOf k b slots g n
   end-none h l = rw (lt-leb (b .last) k h, lt-ltb k (b .first) l) refl
 
+  -- where ids rise by one step, the slots up to the id sought end by the step
   pub end-even : (r : ℕ) → k < b .last → b .first ≤ k → b .even ≡ true → r ≡ evenEnd k n (b .first) (b .last) → r ≡ endOf k b slots g n
   end-even r h l e q = q ∙ rw (lt-leb (b .last) k h, le-ltb k (b .first) l, e) refl
 
+  -- where ids rise in file order, but by no one step, the rows up to the id sought end by the guide
   pub end-guide : (r : ℕ) → k < b .last → b .first ≤ k → b .even ≡ false → b .direct ≡ true → r ≡ guideEnd k (b .distinct) g slots n (b .first) (b .last) (b .shift) → r ≡ endOf k b slots g n
   end-guide r h l e d q = q ∙ rw (lt-leb (b .last) k h, le-ltb k (b .first) l, e, d) refl
 
+  -- where ids rise neither by one step nor in file order, the slots up to the id sought end by the search through all
   pub end-whole : (r hi : ℕ) → k < b .last → b .first ≤ k → b .even ≡ false → b .direct ≡ false → hi ≡ n - 1 → r ≡ ended k (b .distinct) g (bracket 1 hi (b .first) (b .last) 6) → r ≡ endOf k b slots g n
   end-whole r hi h l e d f q = q ∙ ap (λ (z : ℕ). ended k (b .distinct) g (bracket 1 z (b .first) (b .last) 6)) f ∙ rw (lt-leb (b .last) k h, le-ltb k (b .first) l, e, d) refl
 
 -- a row is one of those that the index speaks of where it is below each of the bounds
 module _ (rows slots count r : ℕ) where
+  -- the code's test of a row against each bound is that of the row against the number of rows that the index speaks of
   pub room-test : (((ltb r count && ltb r slots) && ltb r 1073741824) && ltb r rows) ≡ ltb r (tableRoom rows slots count)
   room-test = go (ltb r count) (ltb r slots) (ltb r 1073741824) (ltb r rows) refl refl refl refl
     where
@@ -344,20 +350,24 @@ module _ (rows slots count r : ℕ) where
       go true false u v a b c d = let h = ltb-false r slots b in sym (le-ltb r (tableRoom rows slots count) (omega (arith, h)))
       go false t u v a b c d = let h = ltb-false r count a in sym (le-ltb r (tableRoom rows slots count) (omega (arith, h)))
 
-  -- and it stands there where it has the id
+  -- a row below each of the bounds stands in the index just where x holds, that it has the id
   pub room-yes : (x : Bool) → (((ltb r count && ltb r slots) && ltb r 1073741824) && ltb r rows) ≡ true → x ≡ (ltb r (tableRoom rows slots count) && x)
   room-yes x e = rw (sym room-test ∙ e) refl
 
+  -- a row that is not below each of the bounds does not stand in the index, whatever x says
   pub room-no : (x : Bool) → (((ltb r count && ltb r slots) && ltb r 1073741824) && ltb r rows) ≡ false → false ≡ (ltb r (tableRoom rows slots count) && x)
   room-no x e = rw (sym room-test ∙ e) refl
 
 -- the row to look at first, by its tests
 module _ (k : ℕ) (b : Ids) (slots : List ℕ) where
+  -- for an id below the first, no row is looked at first
   pub first-below : k < b .first → 4294967295 ≡ firstRow slots b k
   first-below h = rw (lt-ltb k (b .first) h) refl
 
+  -- where ids are dense, the row looked at first is as far from the first as the id is from the first id
   pub first-dense : (r : ℕ) → b .first ≤ k → (b .distinct && eqb (b .shift) 0) ≡ true → r ≡ rowAt (b .direct) slots (k - b .first) → r ≡ firstRow slots b k
   first-dense r h e q = q ∙ rw (le-ltb k (b .first) h, e) refl
 
+  -- where ids are not dense, no row is looked at first
   pub first-none : b .first ≤ k → (b .distinct && eqb (b .shift) 0) ≡ false → 4294967295 ≡ firstRow slots b k
   first-none h e = rw (le-ltb k (b .first) h, e) refl

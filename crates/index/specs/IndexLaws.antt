@@ -15,7 +15,7 @@ use Rattle.index.specs.declared.Ids.{Ids}
 use Rattle.index.specs.declared.Spacing.{Spacing}
 use Rattle.index.specs.Index.{Stands, Keeps, IsIndex, Starts, Held, IsShift, endId, Built}
 
--- where there are some it is that row's
+-- where there are rows, the id at an end of the slots is that of the row there
 pub end-some : (f : ℕ → ℕ) (n r : ℕ) → 0 < n → endId f n r ≡ f r
 end-some f n r h = rw (ne-eqb n 0 (λ e. omega arith)) refl
 
@@ -102,7 +102,7 @@ joined n xs ys l e r = ext-getD 0 xs ys l (λ i h. go i (less-or i n))
     go i (inl h) = e i h
     go i (inr h) = let q : n + (i - n) ≡ i = omega arith in ap (λ (z : ℕ). getD xs z 0) (sym q) ∙ sym (getD-drop n xs (i - n) 0) ∙ ap (λ (z : List ℕ). getD z (i - n) 0) r ∙ getD-drop n ys (i - n) 0 ∙ ap (λ (z : ℕ). getD ys z 0) q
 
--- rows begin at one place
+-- rows with ids from x on begin at one row only
 pub starts-one : (f : ℕ → ℕ) (n x c d : ℕ) → Starts f n x c → Starts f n x d → c ≡ d
 starts-one f n x c d h g = go (ordered c d)
   where
@@ -111,7 +111,7 @@ starts-one f n x c d h g = go (ordered c d)
     go (inr (inl e)) = e
     go (inr (inr l)) = let i = h .inside in let u = g .from d (omega arith) (omega arith) in let v = h .below d l in absurd (omega arith)
 
--- there is one shift
+-- a span and a number of rows have one shift only
 pub shift-one : (span n s t : ℕ) → IsShift span n s → IsShift span n t → s ≡ t
 shift-one span n s t h g = go (ordered s t)
   where
@@ -140,7 +140,7 @@ built-slots-only f n old xs ys a b h g = joined n xs ys (h .size ∙ sym (g .siz
         here : (i : ℕ) → i < n → Starts f n (b .first + i * 2 ^ b .shift) (getD xs i 0)
         here i l = subst (λ (x : ℕ). Starts f n (x + i * 2 ^ b .shift) (getD xs i 0)) first (subst (λ (s : ℕ). Starts f n (a .first + i * 2 ^ s) (getD xs i 0)) shift (subst (λ (t : Bool). Held t f n (a .first) (a .shift) xs) p (h .held) i l))
 
--- and one set of numbers beside them
+-- what `build` leaves beside the slots is one set of numbers
 pub built-only : (f : ℕ → ℕ) (n : ℕ) (old xs : List ℕ) (a b : Ids) → Built f n old xs a → Built f n old xs b → a ≡ b
 built-only f n old xs a b h g = go (says-one (Rises f (λ i. i) n) (a .direct) (b .direct) (h .direct) (g .direct))
   where

@@ -20,7 +20,7 @@ use Rattle.index.specs.Laws.{probe-low, probe-high}
 use Rattle.index.specs.Guide.{wide-pos, among-low}
 use Rattle.index.specs.declared.Ids.{Ids}
 
--- what follows a look: nothing where the search stops there, else the looks at what is left
+-- how many looks follow a look: none where the search stops there, else those at what is left
 abbrev looksAfter : Turn Bracket ℕ → (Bracket → ℕ) → ℕ
 looksAfter (stop e) go = 0
 looksAfter (on c) go = go c
@@ -50,11 +50,11 @@ looksOf i k b slots g n = pick (leb (b .last) k) 0 (pick (ltb k (b .first)) 0 (p
 abbrev Enough : ℕ → ℕ → Bracket → Type 0
 Enough i t b = (b .guided ≤ t) × (b .hi - b .lo < 2 ^ (i + (t - b .guided)))
 
--- with no guided probe left the slot in the middle is looked at
+-- with no guided probe left, a search looks at the slot in the middle
 probe-mid : (k : ℕ) (b : Bracket) → b .lo < b .hi → b .guided ≡ 0 → probeOf k b ≡ b .lo + (b .hi - b .lo) / 2
 probe-mid k b h e = rw (eq-eqb (b .guided) 0 e) (omega arith)
 
--- one turn fewer is enough for either side of the slot p, with one guided probe fewer
+-- one turn fewer is enough for the slots on either side of the slot p, with one guided probe fewer
 fewer : (i q t lo hi p : ℕ) → q ≤ suc t → hi - lo < 2 ^ (i + (suc t - q)) → lo ≤ p → p < hi → (q ≡ 0 → p ≡ lo + (hi - lo) / 2)
     → (q - 1 ≤ t) × ((hi - (p + 1) < 2 ^ (i + (t - (q - 1)))) × (p - lo < 2 ^ (i + (t - (q - 1)))))
 fewer i zero t lo hi p a w l h m =
@@ -99,18 +99,18 @@ module _ (k : ℕ) (distinct : Bool) (g : ℕ → ℕ) where
           → (b .guided - 1 ≤ t) × ((b .hi - (probeOf k b + 1) < 2 ^ (i + (t - (b .guided - 1)))) × (probeOf k b - b .lo < 2 ^ (i + (t - (b .guided - 1)))))
       less o = fewer i (b .guided) t (b .lo) (b .hi) (probeOf k b) (h .0) (h .1) (probe-low k b) (probe-high k b o) (probe-mid k b o)
 
-  -- a bracket of fewer than 2^i slots needs none
+  -- a bracket for which no turn is needed has fewer than 2^i slots
   enough-none : (i : ℕ) (b : Bracket) → Enough i 0 b → b .hi < b .lo + 2 ^ i
   enough-none i b h =
       let e : i + (0 - b .guided) ≡ i = omega arith in
       let w : b .hi - b .lo < 2 ^ i = subst (λ (x : ℕ). b .hi - b .lo < 2 ^ x) e (h .1) in
       omega arith
 
-  -- an empty one in all
+  -- a bracket for which no turn is needed at all is empty
   enough-empty : (b : Bracket) → Enough 0 0 b → b .hi ≤ b .lo
   enough-empty b h = let w = enough-none 0 b h in let z : 2 ^ 0 ≡ 1 = refl in omega (arith, w, z)
 
-  -- with t turns a search is over: more change nothing
+  -- a search is over after t turns, where these are enough: more change nothing
   end-settled : (t m : ℕ) (b : Bracket) → Enough 0 t b → t ≤ m → endFrom m k distinct g b ≡ endFrom t k distinct g b
   unfolding endFrom
   end-settled zero zero b h l = refl
@@ -123,7 +123,7 @@ module _ (k : ℕ) (distinct : Bool) (g : ℕ → ℕ) where
       go (stop e) r f = refl
       go (on c) r f = f c r
 
-  -- and it looks at no more than t slots while 2^i are left
+  -- a search looks at no more than t slots while 2^i are left, where t turns are enough
   looks-few : (i t m : ℕ) (b : Bracket) → Enough i t b → looksFrom i m k distinct g b ≤ t
   unfolding looksFrom
   looks-few i t zero b h = omega arith
@@ -140,7 +140,7 @@ module _ (k : ℕ) (distinct : Bool) (g : ℕ → ℕ) where
       by true r = omega arith
       by false r = omega arith
 
-  -- q + j turns are enough for fewer than 2^(i + j) slots and q guided probes
+  -- q + j turns are enough for a bracket of fewer than 2^(i + j) slots and q guided probes
   enough-few : (i q j : ℕ) (b : Bracket) → b .guided ≤ q → b .hi - b .lo < 2 ^ (i + j) → Enough i (q + j) b
   enough-few i q j b u h =
       let p : 2 ^ (i + j) ≤ 2 ^ (i + (q + j - b .guided)) = pow-le-pow-right {n = 2} (omega arith) {i = i + j} {j = i + (q + j - b .guided)} (omega arith) in
@@ -150,18 +150,18 @@ module _ (k : ℕ) (distinct : Bool) (g : ℕ → ℕ) where
   few-log : (i q j m : ℕ) (b : Bracket) → b .guided ≤ q → b .hi - b .lo < 2 ^ (i + j) → looksFrom i m k distinct g b ≤ q + j
   few-log i q j m b u h = looks-few i (q + j) m b (enough-few i q j b u h)
 
-  -- and has its answer after q + j looks at fewer than 2^j: that of `Search.ended`, whose turns are never all needed
+  -- after q + j looks a search of fewer than 2^j slots has its answer: the turns of `Search.ended` are never all needed
   pub end-log : (q j m : ℕ) (b : Bracket) → b .guided ≤ q → b .hi - b .lo < 2 ^ j → q + j ≤ m → endFrom m k distinct g b ≡ endFrom (q + j) k distinct g b
   end-log q j m b u h l = end-settled (q + j) m b (enough-few 0 q j b u (rw zero-add h)) l
     where
       zero-add : 0 + j ≡ j
       zero-add = omega arith
 
-  -- n slots without the first and the last are fewer than 2^j
+  -- of n slots, at most 2^j, those without the first and the last are fewer than 2^j
   fewer-than : (j n lo hi : ℕ) → n ≤ 2 ^ j → 1 ≤ lo → hi ≤ n - 1 → hi - lo < 2 ^ j
   fewer-than j n lo hi h a b = let z = wide-pos j in omega (arith, h, a, b, z)
 
-  -- by the guide: one look, three guided probes, and then halving
+  -- by the guide, to at most 2^(i + j) rows, a search makes at most 4 + j looks: one, three guided probes, and then halving
   guide-log : (i j n first last shift : ℕ) (slots : List ℕ) → n ≤ 2 ^ (i + j) → guideLooks i k distinct g slots n first last shift ≤ 4 + j
   unfolding guideLooks
   guide-log i j n first last shift slots h = by (leb (b .lo + 2 ^ i) (b .hi)) (after (turnAt k distinct g b m) left)

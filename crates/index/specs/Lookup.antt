@@ -25,7 +25,7 @@ unfoldable pub written : (ℕ → ℕ) → ℕ → Map
 written f zero k = none
 written f (suc n) k = put (f n) n (written f n) k
 
--- "Lookup of an id answers like a map written to in file order"
+-- "Lookup of an id answers like a map written to in file order": the row of an id among n rows
 abbrev pub lookupOf : (ℕ → ℕ) → ℕ → ℕ → Option ℕ
 lookupOf f n k = written f n k
 
@@ -42,7 +42,7 @@ cut j n h = go (ordered j n)
 written-here : (f : ℕ → ℕ) (n k : ℕ) → f n ≡ k → IsLast f (suc n) k n
 written-here f n k e = record { row = omega arith; named = e; last = λ j a b z. absurd (omega arith) }
 
--- a row of another id changes nothing
+-- a row of another id, written last, changes no answer of the map
 written-past : (f : ℕ → ℕ) (n k : ℕ) (o : Option ℕ) → (f n ≡ k → ⊥) → LookupForm f n k o → LookupForm f (suc n) k o
 written-past f n k none d h = λ j b z. ⊎-elim (λ l. h j l z) (λ e. d (ap f (sym e) ∙ z)) (cut j n b)
 written-past f n k (some r) d h =
@@ -68,13 +68,13 @@ last-one f n k a b h g = go (ordered a b)
     go (inr (inl e)) = e
     go (inr (inr l)) = absurd (g .last a l (h .row) (h .named))
 
--- there is only one answer of this form
+-- a lookup has only one answer by the rules
 pub lookup-one : (f : ℕ → ℕ) (n k : ℕ) (a b : Option ℕ) → LookupForm f n k a → LookupForm f n k b → a ≡ b
 lookup-one f n k none none h g = refl
 lookup-one f n k none (some b) h g = absurd (h b (g .row) (g .named))
 lookup-one f n k (some a) none h g = absurd (g a (h .row) (h .named))
 lookup-one f n k (some a) (some b) h g = ap some (last-one f n k a b h g)
 
--- an answer of this form is what the map has
+-- an answer to a lookup by the rules is what the map has
 pub lookup-only : (f : ℕ → ℕ) (n k : ℕ) (o : Option ℕ) → LookupForm f n k o → lookupOf f n k ≡ o
 lookup-only f n k o h = lookup-one f n k (lookupOf f n k) o (lookup-is f n k) h

@@ -7,17 +7,17 @@ use Rattle.index.specs.Answer.{toldFound}
 use Rattle.index.specs.declared.Found.{Found}
 use Rattle.index.specs.declared.Found.the-variants.{At, Nothing}
 
--- the answer that tells this
+-- the code's answer that tells this row or none
 foundOf : Option ℕ → Found
 foundOf none = Nothing
 foundOf (some r) = At r
 
--- it is the answer that told it
+-- what an answer about a row tells gives back that answer
 found-back : (a : Found) → foundOf (toldFound a) ≡ a
 unfolding foundOf
 found-back (At r) = refl
 found-back Nothing = refl
 
--- `get`
+-- `get` has one answer: two that tell the same are one
 pub found-only : (a b : Found) → toldFound a ≡ toldFound b → a ≡ b
 found-only a b e = sym (found-back a) ∙ ap foundOf e ∙ found-back b

@@ -21,7 +21,7 @@ pub record Bracket : Type 0 where
   pub over : ℕ
   pub guided : ℕ
 
--- a bracket by its parts
+-- a bracket from its parts
 abbrev pub bracket : ℕ → ℕ → ℕ → ℕ → ℕ → Bracket
 bracket l h u o g = record { lo = l; hi = h; under = u; over = o; guided = g }
 
@@ -33,15 +33,15 @@ evenly k b = b .lo - 1 + (k - b .under) * (b .hi + 1 - b .lo) / (b .over - b .un
 abbrev pub stepped : ℕ → Bracket → ℕ
 stepped k b = pick (leb (k - b .under) (b .over - k)) (b .lo - 1 + (k - b .under)) (b .hi - (b .over - k))
 
--- the slot in the middle
+-- the slot in the middle of a bracket
 abbrev pub middle : Bracket → ℕ
 middle b = b .lo + (b .hi - b .lo) / 2
 
--- the slot to look at: evenly while guided probes are left, stepped at the last of them, and then the middle
+-- the slot of a bracket to look at: evenly while guided probes are left, stepped at the last of them, and then the middle
 abbrev pub guess : ℕ → Bracket → ℕ
 guess k b = pick (eqb (b .guided) 0) (middle b) (pick (eqb (b .guided) 1) (stepped k b) (evenly k b))
 
--- the guess, brought into the bracket
+-- the slot of a bracket to look at, brought into the bracket
 abbrev pub probeOf : ℕ → Bracket → ℕ
 probeOf k b = max (b .lo) (min (guess k b) (b .hi - 1))
 
@@ -57,7 +57,7 @@ looked k distinct b m id = pick (distinct && eqb id k) (stop (m + 1)) (on (narro
 abbrev pub turnAt : ℕ → Bool → (ℕ → ℕ) → Bracket → ℕ → Turn Bracket ℕ
 turnAt k distinct g b m = pick (ltb (b .lo) (b .hi)) (looked k distinct b m (g m)) (stop (b .lo))
 
--- the slot being the one that the bracket gives
+-- one turn of a search: the bracket is empty, or the slot is looked at that the bracket gives
 abbrev pub turn : ℕ → Bool → (ℕ → ℕ) → Bracket → Turn Bracket ℕ
 turn k distinct g b = turnAt k distinct g b (probeOf k b)
 
@@ -66,7 +66,7 @@ unfoldable pub endFrom : ℕ → ℕ → Bool → (ℕ → ℕ) → Bracket → 
 endFrom zero k distinct g b = b .lo
 endFrom (suc n) k distinct g b = turned (turn k distinct g b) (λ c. endFrom n k distinct g c)
 
--- as many turns as there are slots before the bracket's end are never all needed (`Looks.end-log`)
+-- where the slots up to the id sought end, by as many turns as the bracket's end, which are never all needed (`Looks.end-log`)
 abbrev pub ended : ℕ → Bool → (ℕ → ℕ) → Bracket → ℕ
 ended k distinct g b = endFrom (b .hi) k distinct g b
 

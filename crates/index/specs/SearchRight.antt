@@ -75,7 +75,7 @@ end-within k distinct g top m b l h =
     (λ o _. let w = probe-high k c o in let y = q .1 in (q .0, omega arith)))
     m b (l, h)
 
--- a fact of a turn and of what follows it
+-- a fact of a turn's answer, or of what follows its bracket, holds of what comes of both
 pub turned-by : (P : ℕ → Type 0) (Q : Bracket → Type 0) (u : Turn Bracket ℕ) (after : Bracket → ℕ) → Turns P Q u → ((c : Bracket) → Q c → P (after c)) → P (turned u after)
 turned-by P Q (stop e) after h f = h
 turned-by P Q (on c) after h f = f c h
@@ -157,7 +157,7 @@ module _ (k : ℕ) (distinct : Bool) (g : ℕ → ℕ) (n : ℕ)
     pub low : (i : ℕ) → i < b .lo → g i ≤ k
     pub high : (i : ℕ) → b .hi ≤ i → i < n → k < g i
 
-  -- one turn at slot p keeps it
+  -- one turn at a slot of the bracket keeps that slots before the bracket hold ids up to k, those behind it greater ones
   between-turns : (m : ℕ) (b : Bracket) (p : ℕ) → b .lo ≤ p → (b .lo < b .hi → p < b .hi) → Between (suc m) b → Turns (Ends g n k) (Between m) (turnAt k distinct g b p)
   between-turns m b p u v q = turn-by k distinct g (Ends g n k) (Between m) b p
       (λ h. record { inside = q .inside; low = q .low; high = λ i l o. q .high i (omega arith) o })
@@ -184,7 +184,7 @@ module _ (k : ℕ) (distinct : Bool) (g : ℕ → ℕ) (n : ℕ)
         high = λ i l o. let z = mono p i l o in omega arith;
       })
 
-  -- so the search finds the end from such a bracket
+  -- from a bracket before which slots hold ids up to k, and behind which greater ones, the search finds the end
   ended-right : (b : Bracket) → Between (b .hi) b → Ends g n k (ended k distinct g b)
   ended-right b q =
       end-by k distinct g (Ends g n k) Between
@@ -192,7 +192,7 @@ module _ (k : ℕ) (distinct : Bool) (g : ℕ → ℕ) (n : ℕ)
       (λ m c r. between-turns m c (probeOf k c) (probe-low k c) (probe-high k c) r) (b .hi) b q
 
   module _ (first last : ℕ) (some-row : 0 < n) (a : first ≡ g 0) (z : last ≡ g (n - 1)) (l : first ≤ k) (o : k < last) where
-    -- there are two rows then
+    -- where the id sought lies from the first id on and below the last, there are at least two rows
     two : 2 ≤ n
     two = go (less-or 1 n)
       where
@@ -200,7 +200,7 @@ module _ (k : ℕ) (distinct : Bool) (g : ℕ → ℕ) (n : ℕ)
         go (inl h) = h
         go (inr h) = let e : n - 1 ≡ 0 = omega arith in let f : g (n - 1) ≡ g 0 = ap g e in absurd (omega arith)
 
-    -- from the ids beside the slots
+    -- the search through all slots, from the ids beside them, finds the end of those with ids up to the one sought
     opening-right : Ends g n k (ended k distinct g (opening n first last))
     opening-right =
         ended-right (opening n first last)
@@ -212,7 +212,7 @@ module _ (k : ℕ) (distinct : Bool) (g : ℕ → ℕ) (n : ℕ)
           high = λ i u v. let y = mono (n - 1) i u v in omega arith;
         })
 
-    -- by the step
+    -- the end by the step is that of the slots with ids up to the one sought
     even-right : Steady (λ x. x) g n → Ends g n k (evenEnd k n first last)
     even-right r = by (even-place (k - first) (n - 1) step (omega (arith, two)))
       where
@@ -240,7 +240,7 @@ module _ (k : ℕ) (distinct : Bool) (g : ℕ → ℕ) (n : ℕ)
                 inside (inl h) = h
                 inside (inr h) = let x = mul-le-mul-right {m = n - 1} {n = q} step h in absurd (omega (arith, x, u, span, o))
 
-    -- by the guide
+    -- the end by the guide is that of the rows with ids up to the one sought
     guide-right : (slots : List ℕ) (shift : ℕ) → shift < 32 → (last - first) / 2 ^ shift < max 2 n → Guides g n first shift slots → Ends g n k (guideEnd k distinct g slots n first last shift)
     unfolding guideEnd
     guide-right slots shift short fits guides =
@@ -305,7 +305,7 @@ module _ (k : ℕ) (distinct : Bool) (g : ℕ → ℕ) (n : ℕ)
         between : Between (suc n) b
         between = record { enough = omega arith; inside = let e = here .inside in omega (arith, e, start, two); room = omega arith; low = low; high = high }
 
-  -- so the search finds the end, from what stands in the slots and beside them
+  -- what a search finds, from what stands in the slots and beside them, is the end of the slots with ids up to the one sought
   pub end-right : (b : Ids) (slots : List ℕ) → b .distinct ≡ distinct → 0 < n → b .first ≡ g 0 → b .last ≡ g (n - 1) → (b .even ≡ true → Steady (λ x. x) g n) → (b .direct ≡ true → Guides g n (b .first) (b .shift) slots) → (b .last - b .first) / 2 ^ b .shift < max 2 n → b .shift < 32 → Ends g n k (endOf k b slots g n)
   end-right b slots same h a z steady guides fits short = go (leb (b .last) k) refl
     where
@@ -330,7 +330,7 @@ module _ (k : ℕ) (distinct : Bool) (g : ℕ → ℕ) (n : ℕ)
       go false e = inner (leb-false (b .last) k e) (ltb k (b .first)) refl
 
 module _ (f : ℕ → ℕ) (slots : List ℕ) (direct : Bool) (n k : ℕ) where
-  -- what is served lies in the table and has the id, whatever the slots hold
+  -- a row that is served lies in the table and has the id, whatever the slots hold
   pub served-safe : (e r : ℕ) → servedOf f slots direct n k e ≡ some r → (r < n) × (f r ≡ k)
   served-safe e r = go (eqb e 0)
     where
@@ -382,7 +382,7 @@ module _ (f : ℕ → ℕ) (slots : List ℕ) (direct : Bool) (n k : ℕ) where
             go (inr (inl l)) = let p : rowAt direct slots (e - 1) ≡ j = ap (λ (z : ℕ). rowAt direct slots z) (sym l) ∙ s .holds in omega arith
             go (inr (inr l)) = omega (arith, t)
 
-    -- where it has not, no row has
+    -- where the row before the end has not the id, no row has
     served-missing : (0 < e → f (rowAt direct slots (e - 1)) ≡ k → ⊥) → Missing f n k
     served-missing h j b c = go (x .whole j b)
       where
@@ -410,7 +410,7 @@ module _ (f : ℕ → ℕ) (slots : List ℕ) (direct : Bool) (n k : ℕ) where
             by (inr (inl l)) = h (omega (arith, t)) (ap (λ (z : ℕ). f (rowAt direct slots z)) (sym l) ∙ p)
             by (inr (inr l)) = omega (arith, t)
 
-    -- so what is served is the last row of the id, or there is none
+    -- what is served by an end is the last row of the id, or there is none
     pub served-right : LookupForm f n k (servedOf f slots direct n k e)
     served-right = go (eqb e 0) refl
       where
@@ -546,7 +546,7 @@ one-row f n old slots b m h d i j a c e = go (s .whole i a) (s .whole j c)
         by (inr (inl l)) = sym x ∙ ap g l ∙ y
         by (inr (inr l)) = let o = strict (q .slot) (p .slot) l (p .inside) in absurd (omega (arith, o, same))
 
--- the row that is looked at first, where it has the id, is the map's
+-- the row that is looked at first, where it has the id, is the one that the map has
 first-right : (f : ℕ → ℕ) (old slots : List ℕ) (n k : ℕ) (b : Ids) → n ≤ 1073741824 → Built f n old slots b → firstRow slots b k < n → f (firstRow slots b k) ≡ k → some (firstRow slots b k) ≡ lookupOf f n k
 first-right f old slots n k b m h l e = sym (lookup-only f n k (some (firstRow slots b k)) (record { row = l; named = e; last = λ j a c d. let q = one-row f n old slots b m h single (firstRow slots b k) j l c (e ∙ sym d) in omega arith }))
   where
@@ -600,45 +600,47 @@ get-safe f R slots b k r = go (ltb (firstRow slots b k) n) (eqb (f (firstRow slo
     go false t a c d = found d
 
 module _ (f : ℕ → ℕ) (R : ℕ) (slots : List ℕ) (b : Ids) (k : ℕ) where
-  -- the row that is looked at first has the id
+  -- where the row that is looked at first has the id, it is the search's answer
   pub get-first : (r : ℕ) → r ≡ firstRow slots b k → (t : Bool) → t ≡ standing f (tableRoom R (length slots) (b .count)) r k → t ≡ true → some r ≡ searchIn f R slots b k
   get-first r e t q h = subst (λ (z : ℕ). some r ≡ pick (standing f (tableRoom R (length slots) (b .count)) z k) (some z) (soughtIn f R slots b k)) e (rw (sym q ∙ h) refl)
 
-  -- it has not
+  -- where the row that is looked at first has not the id, the search's answer is what is sought through brackets
   pub get-later : (r : ℕ) → r ≡ firstRow slots b k → (t : Bool) → t ≡ standing f (tableRoom R (length slots) (b .count)) r k → t ≡ false → soughtIn f R slots b k ≡ searchIn f R slots b k
   get-later r e t q h = subst (λ (z : ℕ). soughtIn f R slots b k ≡ pick (standing f (tableRoom R (length slots) (b .count)) z k) (some z) (soughtIn f R slots b k)) e (rw (sym q ∙ h) refl)
 
 module _ (f : ℕ → ℕ) (R : ℕ) (slots : List ℕ) (b : Ids) (k n e : ℕ) (room : n ≡ tableRoom R (length slots) (b .count)) (end : e ≡ endOf k b slots (slotId f (b .direct) slots) n) where
-  -- an end is at most one past the slots
+  -- an end of the slots is at most one past 2^30, the most rows that the index speaks of
   pub end-small : e ≤ 1073741825
   end-small = let q = end-of-within k b slots (slotId f (b .direct) slots) n in omega (arith, room, end, q)
 
-  -- the code's row count and end are the search's
+  -- what is served by the code's row count and end is what is sought through brackets
   sought-is : servedOf f slots (b .direct) (tableRoom R (length slots) (b .count)) k e ≡ soughtIn f R slots b k
   sought-is = ap (λ (z : ℕ). servedOf f slots (b .direct) (tableRoom R (length slots) (b .count)) k z) (end ∙ ap (λ (z : ℕ). endOf k b slots (slotId f (b .direct) slots) z) room)
 
-  -- no slot holds an id up to the one sought
+  -- where no slot holds an id up to the one sought, none is answered
   pub seek-none : e ≡ 0 → none ≡ soughtIn f R slots b k
   seek-none h = sym (rw (eq-eqb e 0 h) refl) ∙ sought-is
 
   module _ (r : ℕ) (row : r ≡ rowAt (b .direct) slots (e - 1)) (some-slot : e ≡ 0 → ⊥) (t : Bool) (told : t ≡ standing f (tableRoom R (length slots) (b .count)) r k) where
-    -- the last that does holds a row with it, or not
+    -- the row of the last slot with an id up to the one sought is the answer where it has that id, else there is none
     served : pick t (some r) none ≡ soughtIn f R slots b k
     served =
         subst (λ (u : Bool). pick u (some r) none ≡ soughtIn f R slots b k) (sym told)
         (subst (λ (z : ℕ). pick (standing f (tableRoom R (length slots) (b .count)) z k) (some z) none ≡ soughtIn f R slots b k) (sym row) (sym (rw (ne-eqb e 0 some-slot) refl) ∙ sought-is))
 
+    -- where the row of the last slot with an id up to the one sought has that id, it is the answer
     pub seek-hit : t ≡ true → some r ≡ soughtIn f R slots b k
     seek-hit h = rw h at served
 
+    -- where the row of the last slot with an id up to the one sought has not that id, none is answered
     pub seek-other : t ≡ false → none ≡ soughtIn f R slots b k
     seek-other h = rw h at served
 
--- of a table in lent memory: over what `build` left it is the map's answer
+-- a lookup in a table in lent memory, over what `build` left, gives the map's answer
 pub found-right : (rows old slots : List ℕ) (count k : ℕ) (b : Ids) → Built (idOf rows) (tableRoom (rowsFit (length rows)) (length old) count) old slots b
     → searched rows slots b k ≡ lookupOf (idOf rows) (tableRoom (rowsFit (length rows)) (length old) count) k
 found-right rows old slots count k b h = get-right (idOf rows) (rowsFit (length rows)) old slots count k b h
 
--- and whatever was lent, what is served lies in the table and has the id
+-- whatever was lent, a row that a lookup in a table serves lies in the table and has the id
 pub found-safe : (rows slots : List ℕ) (b : Ids) (k r : ℕ) → searched rows slots b k ≡ some r → (r < tableRoom (rowsFit (length rows)) (length slots) (b .count)) × (idOf rows r ≡ k)
 found-safe rows slots b k r e = get-safe (idOf rows) (rowsFit (length rows)) slots b k r e

@@ -35,7 +35,7 @@ use Rattle.kinds.specs.declared.Kind.the-variants.{
 abbrev pub named : List Kind
 named = GeometricRepresentationContext ∷ GlobalUnitAssignedContext ∷ GlobalUncertaintyAssignedContext ∷ LengthUnit ∷ PlaneAngleUnit ∷ SolidAngleUnit ∷ SiUnit ∷ ConversionBasedUnit ∷ UncertaintyMeasureWithUnit ∷ LengthMeasureWithUnit ∷ []
 
--- the first of these kinds that is spelt so, letters in either case; none is `Other`
+-- the first kind of a list whose name the text is, letters in either case; `Other` where there is none
 abbrev pub kindIn : List Kind → List ℕ → Kind
 kindIn [] t = Other
 kindIn (k ∷ ks) t = pick (isWord t (bytes (nameOf k))) k (kindIn ks t)
@@ -44,7 +44,7 @@ kindIn (k ∷ ks) t = pick (isWord t (bytes (nameOf k))) k (kindIn ks t)
 unfoldable pub kindOf : List ℕ → Kind
 kindOf t = kindIn named t
 
--- the kind at a place
+-- the kind at a place of the list of kinds
 kindAt : ℕ → Kind
 kindAt n = getD (GeometricRepresentationContext ∷ GlobalUnitAssignedContext ∷ GlobalUncertaintyAssignedContext ∷ LengthUnit ∷ PlaneAngleUnit ∷ SolidAngleUnit ∷ SiUnit ∷ ConversionBasedUnit ∷ UncertaintyMeasureWithUnit ∷ LengthMeasureWithUnit ∷ Complex ∷ Other ∷ []) n Other
 
@@ -64,22 +64,22 @@ kind-back LengthMeasureWithUnit = refl
 kind-back Complex = refl
 kind-back Other = refl
 
--- kinds of one place are the same
+-- kinds with the same place in the list of kinds are the same
 pub rank-one : (a b : Kind) → rankOf a ≡ rankOf b → a ≡ b
 rank-one a b e = sym (kind-back a) ∙ ap kindAt e ∙ kind-back b
 
 -- ---- the theorems
--- no kind of a list is spelt so
+-- the text is the name of no kind of a list, letters in either case
 abbrev Unspelt : List Kind → List ℕ → Type 0
 Unspelt [] t = Unit {0}
 Unspelt (k ∷ ks) t = (Spelt t (nameOf k) → ⊥) × Unspelt ks t
 
--- each kind of a list is one of the ten
+-- each kind of a list is one of the ten that have a keyword
 abbrev Nameds : List Kind → Type 0
 Nameds [] = Unit {0}
 Nameds (k ∷ ks) = Named k × Nameds ks
 
--- a kind of a list is spelt so, or none is
+-- what the search in a list finds is a kind whose name the text is, or the text is the name of none and `Other` is found
 found : (ks : List Kind) (t : List ℕ) → Nameds ks → (Named (kindIn ks t) × Spelt t (nameOf (kindIn ks t))) ⊎ (Unspelt ks t × (kindIn ks t ≡ Other))
 found [] t n = inr (tt, refl)
 found (k ∷ ks) t n = go (isWord t (bytes (nameOf k))) refl (found ks t (n .1))
@@ -90,7 +90,7 @@ found (k ∷ ks) t n = go (isWord t (bytes (nameOf k))) refl (found ks t (n .1))
     go false e (inl s) = inl s
     go false e (inr u) = inr ((λ s. let q : false ≡ true = sym e ∙ ap (λ (x : List ℕ). same x (bytes (nameOf k))) s ∙ same-self (bytes (nameOf k)) in clash (cc), u .0), u .1)
 
--- none of the ten, one by one
+-- a text that is the name of none in the list of ten is the name of none of the ten
 none-named : (t : List ℕ) → Unspelt named t → (k : Kind) → Named k → Spelt t (nameOf k) → ⊥
 none-named t u GeometricRepresentationContext n = u .0
 none-named t u GlobalUnitAssignedContext n = u .1 .0
@@ -105,11 +105,11 @@ none-named t u LengthMeasureWithUnit n = u .1 .1 .1 .1 .1 .1 .1 .1 .1 .0
 none-named t u Complex n = absurd n
 none-named t u Other n = absurd n
 
--- the ten are the ten
+-- each kind in the list of ten is one of the ten that have a keyword
 all-named : Nameds named
 all-named = (tt, (tt, (tt, (tt, (tt, (tt, (tt, (tt, (tt, (tt, tt))))))))))
 
--- the kind that is computed is that of the keyword
+-- the kind that is computed is that of the keyword by the rule
 pub kind-is : (t : List ℕ) → KindForm t (kindOf t)
 unfolding kindOf
 kind-is t = go (found named t all-named)
@@ -139,7 +139,7 @@ by-name LengthMeasureWithUnit n = refl
 by-name Complex n = absurd n
 by-name Other n = absurd n
 
--- it is the only kind
+-- the kind of a keyword by the rule is the one that is computed
 pub kind-only : {t : List ℕ} {k : Kind} → KindForm t k → kindOf t ≡ k
 unfolding kindOf
 kind-only {t} (spelt k n s) = ap (λ (u : List ℕ). kindBy named u) s ∙ by-name k n

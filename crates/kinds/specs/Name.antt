@@ -34,7 +34,7 @@ use Rattle.kinds.specs.declared.Kind.the-variants.{
 use Rattle.kinds.specs.declared.Name.{Name}
 use Rattle.kinds.specs.declared.Name.the-variants.{Bytes, Short}
 
--- a name is its own keyword, letters being capitals
+-- the name of one of the ten kinds, which is in capitals, is spelt as the name
 name-spelt : (k : Kind) → Named k → Spelt (bytes (nameOf k)) (nameOf k)
 name-spelt GeometricRepresentationContext n = refl
 name-spelt GlobalUnitAssignedContext n = refl
@@ -57,17 +57,17 @@ name-kind k n = kind-only (spelt k n (name-spelt k n))
 pub written-kind : (k : Kind) (out : List ℕ) → Named k → length (bytes (nameOf k)) ≤ length out → kindOf (take (length (bytes (nameOf k))) (nameAfter (bytes (nameOf k)) out)) ≡ k
 written-kind k out n h = ap kindOf (rw (le-leb (length (bytes (nameOf k))) (length out) h) (take-append-seam (bytes (nameOf k)) (drop (length (bytes (nameOf k))) out))) ∙ name-kind k n
 
--- the names of `Complex` and of `Other` are no keywords of the ten
+-- the kind of the name of `Complex` is `Other`: it is no keyword of the ten
 pub complex-kind : kindOf (bytes (nameOf Complex)) ≡ Other
 unfolding kindOf same
 complex-kind = refl
 
--- the same for the empty name
+-- the kind of the empty name of `Other` is `Other`
 pub other-kind : kindOf (bytes (nameOf Other)) ≡ Other
 unfolding kindOf same
 other-kind = refl
 
--- one byte of a name is put behind those before it
+-- after one byte more was put, the room begins with one byte more of the name
 pub name-next : (name old : List ℕ) (i : ℕ) → i < length name → i < length old → set (take i name ++ drop i old) i (getD name i 0) ≡ take (i + 1) name ++ drop (i + 1) old
 name-next name old i h k =
     ap (λ (z : List ℕ). set (take i name ++ z) i (getD name i 0)) (drop-cons old i 0 k)
@@ -76,28 +76,28 @@ name-next name old i h k =
     ∙ ap (λ (z : List ℕ). z ++ drop (suc i) old) (sym (take-suc name i 0 h))
     ∙ ap (λ (z : ℕ). take z name ++ drop z old) (sym (add-one i))
 
--- all bytes of a name are put
+-- where all bytes of a name are put, the answer and the room are those for the name
 pub name-done : (name old out : List ℕ) (i : ℕ) → length name ≤ length old → i ≡ length name → out ≡ take i name ++ drop i old → (toldName (Bytes i) ≡ nameIn name old) × (out ≡ nameAfter name old)
 name-done name old out i h e d =
     let l : leb (length name) (length old) ≡ true = le-leb (length name) (length old) h in
     (rw l (ap good e), rw l (d ∙ ap (λ (z : ℕ). take z name ++ drop z old) e ∙ ap (λ (z : List ℕ). z ++ drop (length name) old) (take-length name)))
 
--- all names, one after another
+-- the names of all kinds, one after another
 abbrev pub names : List ℕ
 names = bytes "GEOMETRIC_REPRESENTATION_CONTEXTGLOBAL_UNIT_ASSIGNED_CONTEXTGLOBAL_UNCERTAINTY_ASSIGNED_CONTEXTLENGTH_UNITPLANE_ANGLE_UNITSOLID_ANGLE_UNITSI_UNITCONVERSION_BASED_UNITUNCERTAINTY_MEASURE_WITH_UNITLENGTH_MEASURE_WITH_UNIT(complex)"
 
--- where each name begins, and where the last ends
+-- where each name begins in `names`, and where the last ends
 abbrev pub starts : List ℕ
 starts = 0 ∷ 32 ∷ 60 ∷ 95 ∷ 106 ∷ 122 ∷ 138 ∷ 145 ∷ 166 ∷ 195 ∷ 219 ∷ 228 ∷ 228 ∷ []
 
--- the part of `names` at a kind's place is the kind's name
+-- the part of `names` at a kind's place n is the kind's name
 pub record Part (k : Kind) (n : ℕ) : Type 0 where
   pub row : n < 12
   pub order : getD starts n 0 ≤ getD starts (n + 1) 0
   pub inside : getD starts (n + 1) 0 ≤ 228
   pub named : take (getD starts (n + 1) 0 - getD starts n 0) (drop (getD starts n 0) names) ≡ bytes (nameOf k)
 
--- the same by the place
+-- each kind's name is the part of `names` at the kind's place
 pub part-at : (k : Kind) (n : ℕ) → n ≡ rankOf k → Part k n
 part-at k n e = subst (Part k) (sym e) (go k)
   where
@@ -115,17 +115,17 @@ part-at k n e = subst (Part k) (sym e) (go k)
     go Complex = record { row = lit≤ tt; order = lit≤ tt; inside = lit≤ tt; named = refl }
     go Other = record { row = lit≤ tt; order = lit≤ tt; inside = lit≤ tt; named = refl }
 
--- the answer that tells this
+-- the answer of `as_str` that tells this
 nameBy : Told ℕ → Name
 nameBy (good n) = Bytes n
 nameBy (bad q) = Short
 
--- it is the answer that told it
+-- what an answer of `as_str` tells gives back that answer
 name-back : (a : Name) → nameBy (toldName a) ≡ a
 unfolding nameBy
 name-back (Bytes n) = refl
 name-back Short = refl
 
--- "that two allowed answers coincide is proved": `as_str`
+-- "that two allowed answers coincide is proved": `as_str` has one answer
 pub name-only : (a b : Name) → toldName a ≡ toldName b → a ≡ b
 name-only a b e = sym (name-back a) ∙ ap nameBy e ∙ name-back b

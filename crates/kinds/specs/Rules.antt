@@ -42,7 +42,7 @@ nameOf LengthMeasureWithUnit = "LENGTH_MEASURE_WITH_UNIT"
 nameOf Complex = "(complex)"
 nameOf Other = ""
 
--- one of the ten
+-- the kind is one of the ten that have a keyword
 abbrev pub Named : Kind → Type 0
 Named GeometricRepresentationContext = Unit {0}
 Named GlobalUnitAssignedContext = Unit {0}
@@ -77,7 +77,7 @@ rankOf LengthMeasureWithUnit = 9
 rankOf Complex = 10
 rankOf Other = 11
 
--- what the code's answer says: how many bytes; "16 output too short", at 0, since no parameter is read
+-- what the code's answer about a kind's name says: how many bytes; "16 output too short", at 0, since no parameter is read
 abbrev pub toldName : Name → Told ℕ
 toldName (Bytes n) = good n
 toldName Short = bad (refusal 16 0 0)

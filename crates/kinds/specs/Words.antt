@@ -11,12 +11,12 @@ use Rattle.record.specs.Word.{same}
 use Rattle.record.specs.Byte.{upper}
 
 module _ (x y : List ℕ) (i : ℕ) (a : Bool) (h : i < length x) (k : i < length y) where
-  -- the bytes there differ
+  -- where the bytes at the index differ, letters in either case, the comparison fails
   pub both-stops : eqb (upper (getD x i 0)) (upper (getD y i 0)) ≡ false → same (map upper (drop i x)) (map upper (drop i y)) ≡ a → false ≡ a
   unfolding same
   both-stops e inv = sym (rw (split x i h, split y i k, e) refl) ∙ inv
 
-  -- they agree
+  -- where the bytes at the index agree, letters in either case, the comparison goes on after them
   pub both-goes : eqb (upper (getD x i 0)) (upper (getD y i 0)) ≡ true → same (map upper (drop i x)) (map upper (drop i y)) ≡ a → same (map upper (drop (i + 1) x)) (map upper (drop (i + 1) y)) ≡ a
   unfolding same
   both-goes e inv = sym (rw (split x i h, split y i k, e) refl) ∙ inv

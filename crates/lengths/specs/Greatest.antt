@@ -25,7 +25,7 @@ use Rattle.lengths.specs.Rules.{textLen, numbersLen, rowsLen, both, noth
 use Rattle.lengths.specs.Laws.{after}
 
 -- ---- the greatest
--- there is only one
+-- the greatest f of those of which P holds is only one number
 pub greatest-only : {P : List ℕ → Type 0} {f : List ℕ → ℕ} {l m : ℕ} → Greatest P f l → Greatest P f m → l ≡ m
 greatest-only {P} {f} {l} {m} a b = omega (arith, under l m (a .one) (b .all), under m l (b .one) (a .all))
   where
@@ -33,7 +33,7 @@ greatest-only {P} {f} {l} {m} a b = omega (arith, under l m (a .one) (b .all), u
     under i j (inl z) h = omega arith
     under i j (inr (t, p, q)) h = omega (arith, h t p)
 
--- the greater of two is one of them
+-- where one has just i and one just j, one has just the greater of the two
 pub either : (f : List ℕ → ℕ) (P : List ℕ → Type 0) (i j l : ℕ) → l ≡ max i j → Found f P i → Found f P j → Found f P l
 either f P i j l e a b = go (leb i j) refl a b
   where
@@ -43,13 +43,13 @@ either f P i j l e a b = go (leb i j) refl a b
     go false h (inl z) y = let w = leb-false i j h in inl (omega arith)
     go false h (inr (t, p, q)) y = let w = leb-false i j h in inr (t, p, omega arith)
 
--- what is found of these is found of those
+-- where P has one with just l, so has Q, which follows from P
 pub found-also : (f : List ℕ → ℕ) (P Q : List ℕ → Type 0) (l : ℕ) → ((t : List ℕ) → P t → Q t) → Found f P l → Found f Q l
 found-also f P Q l h (inl z) = inl z
 found-also f P Q l h (inr (t, d, q)) = inr (t, h t d, q)
 
 -- ---- the computed ones are such
--- each parameter takes a byte at least
+-- each parameter that a reader passes takes a byte at least
 passes-far : {s : List ℕ} {e n p q : ℕ} → Passes s e n p q → p + n ≤ q
 passes-far here = omega arith
 passes-far {s} {e} {p} (past a g d) =
@@ -63,7 +63,7 @@ passes-far {s} {e} {p} (past a g d) =
 part-in : (s : List ℕ) (p e : ℕ) (w : HeaderRow) → nextOf s p e ≡ good (some w) → PartIn (length s) p w
 part-in s p e w g = subst (λ (x : Told (Option HeaderRow)). AnswerIn (length s) (SomeIn (length s) p) x) g (next-placed s p e)
 
--- each part takes a byte at least
+-- each part that is passed takes a byte at least
 seeks-far : {s : List ℕ} {e n p q : ℕ} → Seeks s e n p q → p + n ≤ q
 seeks-far first = omega arith
 seeks-far {s} {e} {p} (later w g d) =
@@ -77,20 +77,20 @@ seeks-far {s} {e} {p} (later w g d) =
 
 -- one of the sizes, π, which is the number f of a parameter
 module _ (π : Sizes → ℕ) (f : List ℕ → ℕ) (least : π nothing ≡ 0) (join : (a b : Sizes) → π (both a b) ≡ max (π a) (π b)) (own : (t : List ℕ) → π (sizesOf t) ≡ f t) (s : List ℕ) where
-  -- a turn over parameters
+  -- a turn of the walk over parameters takes the greater of the next one's number and of those after it
   args-turn : (p e k : ℕ) (a : Span) → paramOf s p e .answer ≡ good a → π (argsFrom (suc k) s p e) ≡ max (f (partOf s a)) (π (argsFrom k s (paramOf s p e .place) e))
   unfolding argsFrom
   args-turn p e k a g =
       ap (λ (t : Told Span). π (argsBy s t (argsFrom k s (paramOf s p e .place) e))) g ∙ join (sizesOf (partOf s a)) (argsFrom k s (paramOf s p e .place) e)
       ∙ ap (λ (n : ℕ). max n (π (argsFrom k s (paramOf s p e .place) e))) (own (partOf s a))
 
-  -- a parameter that is found, where the walk goes on for more than n
+  -- a parameter that stands behind n others has no more than is told, where the walk goes on for more than n
   args-passed : {e n p q : ℕ} (k : ℕ) (a : Span) → Passes s e n p q → n < k → paramOf s q e .answer ≡ good a → f (partOf s a) ≤ π (argsFrom k s p e)
   args-passed zero a d l g = absurd (omega arith)
   args-passed {e} {p} (suc k) a here l g = omega (arith, args-turn p e k a g)
   args-passed {e} {p} (suc k) a (past b h d) l g = let ih = args-passed k a d (omega arith) g in omega (arith, ih, args-turn p e k b h)
 
-  -- no parameter has more than is told
+  -- no parameter of the arguments has more than is told
   args-all : (p e : ℕ) (t : List ℕ) → Param s p e t → f t ≤ π (argsOf s p e)
   args-all p e t d =
       let (i, u) = param-past s (d .place) e (d .span) (d .found) in
@@ -101,11 +101,11 @@ module _ (π : Sizes → ℕ) (f : List ℕ → ℕ) (least : π nothing ≡ 0) 
       let k = passes-far (d .passes) in
       subst (λ (x : List ℕ). f x ≤ π (argsOf s p e)) (d .text) (args-passed (length s) (d .span) (d .passes) (omega arith) (d .found))
 
-  -- one parameter further
+  -- a parameter of what follows the next one is one of the arguments
   further : (p e : ℕ) (a : Span) → paramOf s p e .answer ≡ good a → (t : List ℕ) → Param s (paramOf s p e .place) e t → Param s p e t
   further p e a g t d = record { count = suc (d .count); place = d .place; passes = past a g (d .passes); span = d .span; found = d .found; text = d .text }
 
-  -- one parameter has as much as is told
+  -- one parameter of the arguments has as much as is told
   args-one : (k p e : ℕ) → Found f (Param s p e) (π (argsFrom k s p e))
   unfolding argsFrom
   args-one zero p e = inl least
@@ -118,18 +118,18 @@ module _ (π : Sizes → ℕ) (f : List ℕ → ℕ) (least : π nothing ≡ 0) 
           (found-also f (Param s (paramOf s p e .place) e) (Param s p e) (π (argsFrom k s (paramOf s p e .place) e)) (further p e a g) rest)
       go (bad q) g rest = inl (ap (λ (t : Told Span). π (argsBy s t (argsFrom k s (paramOf s p e .place) e))) g ∙ least)
 
-  -- a turn over parts
+  -- a turn of the walk over parts takes the greater of the next one's number and of those after it
   parts-turn : (p e k : ℕ) (w : HeaderRow) → nextOf s p e ≡ good (some w) → π (partsFrom (suc k) s p e) ≡ max (π (argsOf s (w .argStart) (w .argEnd))) (π (partsFrom k s (w .argEnd + 1) e))
   unfolding partsFrom
   parts-turn p e k w g = ap (λ (x : Told (Option HeaderRow)). π (after k s e x)) g ∙ join (argsOf s (w .argStart) (w .argEnd)) (partsFrom k s (w .argEnd + 1) e)
 
-  -- a part that is found, where the walk goes on for more than n
+  -- a part that stands behind n others has no more than is told, where the walk goes on for more than n
   parts-passed : {e n p q : ℕ} (k : ℕ) (w : HeaderRow) → Seeks s e n p q → n < k → nextOf s q e ≡ good (some w) → π (argsOf s (w .argStart) (w .argEnd)) ≤ π (partsFrom k s p e)
   parts-passed zero w d l g = absurd (omega arith)
   parts-passed {e} {p} (suc k) w first l g = omega (arith, parts-turn p e k w g)
   parts-passed {e} {p} (suc k) w (later v h d) l g = let ih = parts-passed k w d (omega arith) g in omega (arith, ih, parts-turn p e k v h)
 
-  -- no part has more than is told, the parts after the first included
+  -- no parameter of a part has more than is told, the parts after the first included
   parts-all : (p e : ℕ) (w : HeaderRow) (t : List ℕ) → Part s p e w → Param s (w .argStart) (w .argEnd) t → f t ≤ π (partsOf s p e)
   parts-all p e w t d h =
       let u = part-in s (d .place) e w (d .found) in
@@ -142,19 +142,19 @@ module _ (π : Sizes → ℕ) (f : List ℕ → ℕ) (least : π nothing ≡ 0) 
       let m = parts-passed (length s) w (d .seeks) (omega arith) (d .found) in
       omega (arith, m, args-all (w .argStart) (w .argEnd) t h)
 
-  -- a parameter of a part
+  -- a parameter of one of a complex record's parts
   abbrev InPart : ℕ → ℕ → List ℕ → Type 0
   InPart p e t = (w : HeaderRow) × Part s p e w × Param s (w .argStart) (w .argEnd) t
 
-  -- one of this part
+  -- a parameter of the next part is one of the record's parts
   of-part : (p e : ℕ) (w : HeaderRow) → nextOf s p e ≡ good (some w) → (t : List ℕ) → Param s (w .argStart) (w .argEnd) t → InPart p e t
   of-part p e w g t d = (w, record { count = 0; place = p; seeks = first; found = g }, d)
 
-  -- one of a part after it
+  -- a parameter of a part after the next is one of the record's parts
   of-later : (p e : ℕ) (w : HeaderRow) → nextOf s p e ≡ good (some w) → (t : List ℕ) → InPart (w .argEnd + 1) e t → InPart p e t
   of-later p e w g t (v, h, d) = (v, record { count = suc (h .count); place = h .place; seeks = later w g (h .seeks); found = h .found }, d)
 
-  -- a parameter of one part has as much as is told
+  -- one parameter of a part has as much as is told
   parts-one : (k p e : ℕ) → Found f (InPart p e) (π (partsFrom k s p e))
   unfolding partsFrom
   parts-one zero p e = inl least
@@ -168,7 +168,7 @@ module _ (π : Sizes → ℕ) (f : List ℕ → ℕ) (least : π nothing ≡ 0) 
           (found-also f (InPart (w .argEnd + 1) e) (InPart p e) (π (partsFrom k s (w .argEnd + 1) e)) (of-later p e w g) (rest w))
       go (bad q) g rest = inl (ap (λ (x : Told (Option HeaderRow)). π (after k s e x)) g ∙ least)
 
-  -- a record's, by its mark
+  -- no parameter of a record has more than is told, whether it is complex or not
   record-all : (p e complex : ℕ) (t : List ℕ) → Arg s p e complex t → f t ≤ π (recordOf s p e complex)
   unfolding recordOf
   record-all p e complex t (Arg.plain d) = go (eqb complex 1)
@@ -178,11 +178,11 @@ module _ (π : Sizes → ℕ) (f : List ℕ → ℕ) (least : π nothing ≡ 0) 
       go false = args-all p e t d
   record-all p e complex t (Arg.inPart c w h d) = rw (eq-eqb complex 1 c) (omega (arith, parts-all p e w t h d, join (argsOf s p e) (partsOf s p e)))
 
-  -- of a part
+  -- a parameter of a complex record's part is one of the record
   as-part : (p e complex : ℕ) → complex ≡ 1 → (t : List ℕ) → InPart p e t → Arg s p e complex t
   as-part p e complex c t (w, h, d) = Arg.inPart c w h d
 
-  -- one has as much as is told
+  -- one parameter of a record has as much as is told
   record-one : (p e complex : ℕ) → Found f (Arg s p e complex) (π (recordOf s p e complex))
   unfolding recordOf
   record-one p e complex = go (eqb complex 1) refl
@@ -193,18 +193,18 @@ module _ (π : Sizes → ℕ) (f : List ℕ → ℕ) (least : π nothing ≡ 0) 
           (found-also f (InPart p e) (Arg s p e complex) (π (partsOf s p e)) (as-part p e complex (eqb-true complex 1 h)) (parts-one (length s) p e))
       go false h = found-also f (Param s p e) (Arg s p e complex) (π (argsOf s p e)) (λ t. Arg.plain) (args-one (length s) p e)
 
-  -- the record's number is the greatest
+  -- what is told of a record is the greatest of its parameters
   record-greatest : (p e complex : ℕ) → Greatest (Arg s p e complex) f (π (recordOf s p e complex))
   record-greatest p e complex = record { all = record-all p e complex; one = record-one p e complex }
 
--- the longest text of a record
+-- what is told of a record's texts is the longest among its parameters
 pub text-greatest : (s : List ℕ) (p e complex : ℕ) → Greatest (Arg s p e complex) textLen (recordOf s p e complex .text)
 text-greatest s p e complex = record-greatest (λ a. a .text) textLen refl (λ a b. refl) (λ t. refl) s p e complex
 
--- the most numbers of a list or a grid
+-- what is told of a record's numbers is the most of a list or a grid among its parameters
 pub items-greatest : (s : List ℕ) (p e complex : ℕ) → Greatest (Arg s p e complex) numbersLen (recordOf s p e complex .items)
 items-greatest s p e complex = record-greatest (λ a. a .items) numbersLen refl (λ a b. refl) (λ t. refl) s p e complex
 
--- the most rows of a grid
+-- what is told of a record's rows is the most of a grid among its parameters
 pub rows-greatest : (s : List ℕ) (p e complex : ℕ) → Greatest (Arg s p e complex) rowsLen (recordOf s p e complex .rows)
 rows-greatest s p e complex = record-greatest (λ a. a .rows) rowsLen refl (λ a b. refl) (λ t. refl) s p e complex

@@ -25,23 +25,23 @@ use Rattle.lengths.specs.Lengths.{sizesOf, argsBy, argsFrom, argsOf, par
 use Rattle.lengths.specs.Rules.{textLen, itemsLen, numbersLen, rowsLen, rowsIn, sizes, both, nothing}
 
 -- ---- texts
--- one byte or none is no string
+-- a parameter of one byte or none is no string, and its text has the length 0
 pub len-short : (t : List ℕ) → length t < 2 → _≡_ {A = ℕ} 0 (textLen t)
 unfolding textLen isString
 len-short t h = rw (lt-leb 2 (length t) h) refl
 
--- nor is what has no quote first
+-- a parameter without a quote first is no string, and its text has the length 0
 pub len-other : (t : List ℕ) → 2 ≤ length t → (getD t 0 0 ≡ 39 → ⊥) → _≡_ {A = ℕ} 0 (textLen t)
 unfolding textLen isString
 len-other t h n = rw (le-leb 2 (length t) h, ne-eqb (getD t 0 0) 39 n) refl
 
--- a string's text
+-- the length of a string parameter's text
 pub len-string : (t : List ℕ) → 2 ≤ length t → getD t 0 0 ≡ 39 → min most (length (bytesOf (take (length t - 1 - 1) (drop 1 t)))) ≡ textLen t
 unfolding textLen isString
 len-string t h e = rw (le-leb 2 (length t) h, eq-eqb (getD t 0 0) 39 e) refl
 
 -- ---- lists
--- items that were counted
+-- items that were counted are as many as the list has
 pub items-all : (t : List ℕ) (n : ℕ) → fine n ≡ fated length (listBy anything t) → n ≡ itemsLen t
 unfolding itemsLen
 items-all t n e = go (listBy anything t) e
@@ -50,7 +50,7 @@ items-all t n e = go (listBy anything t) e
     go (fine vs) d = cc
     go (faulty k o) d = clash (cc)
 
--- no list
+-- where no list was found to count, the parameter has no items
 pub items-none : (t : List ℕ) (k o : ℕ) → faulty k o ≡ fated length (listBy anything t) → _≡_ {A = ℕ} 0 (itemsLen t)
 unfolding itemsLen
 items-none t k o e = go (listBy anything t) e
@@ -63,7 +63,7 @@ items-none t k o e = go (listBy anything t) e
 pub same-sizes : {x n r x′ n′ r′ : ℕ} → x ≡ x′ → n ≡ n′ → r ≡ r′ → sizes x n r ≡ sizes x′ n′ r′
 same-sizes a b c = λ i. record { text = a i; items = b i; rows = c i }
 
--- rows that were counted
+-- rows and numbers that were counted are as many as the grid has
 pub grid-all : (t : List ℕ) (r n : ℕ) → fine (size r n) ≡ fated sizeOf (listBy (listBy anything) t) → sizes 0 n r ≡ gridLen t
 grid-all t r n e = go (listBy (listBy anything) t) e
   where
@@ -71,7 +71,7 @@ grid-all t r n e = go (listBy (listBy anything) t) e
     go (fine g) d = let w : size r n ≡ sizeOf g = cc in same-sizes refl (ap (λ (z : Size). z .numbers) w) (ap (λ (z : Size). z .rows) w)
     go (faulty k o) d = clash (cc)
 
--- no list of lists
+-- where no list of lists was found to count, the parameter has no rows and no numbers of a grid
 pub grid-none : (t : List ℕ) (k o : ℕ) → faulty k o ≡ fated sizeOf (listBy (listBy anything) t) → nothing ≡ gridLen t
 grid-none t k o e = go (listBy (listBy anything) t) e
   where
@@ -79,7 +79,7 @@ grid-none t k o e = go (listBy (listBy anything) t) e
     go (fine g) d = clash (cc)
     go (faulty l p) d = refl
 
--- what a parameter needs, put together
+-- what a parameter needs, put together from its text, its items and its rows
 pub sizes-joined : (t : List ℕ) → both (sizes (textLen t) (itemsLen t) 0) (gridLen t) ≡ sizesOf t
 unfolding numbersLen rowsLen
 sizes-joined t = same-sizes (left (textLen t)) refl (right (length (rowsIn t)))
@@ -91,21 +91,21 @@ sizes-joined t = same-sizes (left (textLen t)) refl (right (length (rowsIn t)))
     right k = omega arith
 
 -- ---- the greater of each
--- of three
+-- the greater of each of three sizes is the same, whichever two are taken first
 pub both-assoc : (a b c : Sizes) → both (both a b) c ≡ both a (both b c)
 both-assoc a b c = same-sizes (one (a .text) (b .text) (c .text)) (one (a .items) (b .items) (c .items)) (one (a .rows) (b .rows) (c .rows))
   where
     one : (i j k : ℕ) → max (max i j) k ≡ max i (max j k)
     one i j k = omega arith
 
--- of one alone
+-- the greater of each of some sizes and of nothing are those sizes
 pub both-nothing : (a : Sizes) → both a nothing ≡ a
 both-nothing a = same-sizes (one (a .text)) (one (a .items)) (one (a .rows))
   where
     one : (k : ℕ) → max k 0 ≡ k
     one k = omega arith
 
--- the other way round
+-- the greater of each of nothing and of some sizes are those sizes
 pub nothing-both : (a : Sizes) → both nothing a ≡ a
 nothing-both a = same-sizes (one (a .text)) (one (a .items)) (one (a .rows))
   where
@@ -113,7 +113,7 @@ nothing-both a = same-sizes (one (a .text)) (one (a .items)) (one (a .rows))
     one k = omega arith
 
 -- ---- turns of the walk over parameters: m is needed so far, k parameters are left
--- a parameter
+-- after a parameter, the walk goes on with what that needs too
 pub args-more : (s : List ℕ) (p e k : ℕ) (m r : Sizes) (a z q f : ℕ) → 0 < k → both m (argsFrom k s p e) ≡ r → reading (good (record { start = a; stop = z })) q f ≡ paramOf s p e → both (both m (sizesOf (take (z - a) (drop a s)))) (argsFrom (k - 1) s q e) ≡ r
 unfolding argsFrom
 args-more s p e zero m r a z q f l h g = absurd (omega arith)
@@ -122,24 +122,24 @@ args-more s p e (suc k) m r a z q f l h g =
     let w = ap (λ (x : Read Span). argsBy s (x .answer) (argsFrom k s (x .place) e)) g in
     rw j (both-assoc m (sizesOf (take (z - a) (drop a s))) (argsFrom k s q e) ∙ ap (both m) w ∙ h)
 
--- no further parameter
+-- where the next parameter is refused, the walk over parameters ends with what is needed so far
 pub args-over : (s : List ℕ) (p e k : ℕ) (m r : Sizes) (b : Refusal) (q f : ℕ) → both m (argsFrom k s p e) ≡ r → reading (bad b) q f ≡ paramOf s p e → m ≡ r
 unfolding argsFrom
 args-over s p e zero m r b q f h g = sym (both-nothing m) ∙ h
 args-over s p e (suc k) m r b q f h g = sym (both-nothing m) ∙ ap (both m) (ap (λ (x : Read Span). argsBy s (x .answer) (argsFrom k s (x .place) e)) g) ∙ h
 
--- none is left
+-- where no parameter is to be looked at any more, the walk over parameters ends with what is needed so far
 pub args-none : (s : List ℕ) (p e k : ℕ) (m r : Sizes) → k ≤ 0 → both m (argsFrom k s p e) ≡ r → m ≡ r
 unfolding argsFrom
 args-none s p e zero m r l h = sym (both-nothing m) ∙ h
 args-none s p e (suc k) m r l h = absurd (omega arith)
 
 -- ---- turns of the walk over parts
--- what the next part leads to
+-- what the next part and those after it need, where at most k follow
 abbrev pub after : ℕ → List ℕ → ℕ → Told (Option HeaderRow) → Sizes
 after k s e x = partsBy x (λ y. both (argsOf s (y .argStart) (y .argEnd)) (partsFrom k s (y .argEnd + 1) e))
 
--- a part
+-- after a part, the walk goes on with what that needs too
 pub parts-more : (s : List ℕ) (p e k : ℕ) (m r : Sizes) (w : HeaderRow) → 0 < k → both m (partsFrom k s p e) ≡ r → good (some w) ≡ nextOf s p e → both (both m (argsOf s (w .argStart) (w .argEnd))) (partsFrom (k - 1) s (w .argEnd + 1) e) ≡ r
 unfolding partsFrom
 parts-more s p e zero m r w l h g = absurd (omega arith)
@@ -147,19 +147,19 @@ parts-more s p e (suc k) m r w l h g =
     let j : suc k - 1 ≡ k = omega arith in
     rw j (both-assoc m (argsOf s (w .argStart) (w .argEnd)) (partsFrom k s (w .argEnd + 1) e) ∙ ap (both m) (ap (after k s e) g) ∙ h)
 
--- no further part
+-- where there is no next part, the walk over parts ends with what is needed so far
 pub parts-over : (s : List ℕ) (p e k : ℕ) (m r : Sizes) → both m (partsFrom k s p e) ≡ r → good none ≡ nextOf s p e → m ≡ r
 unfolding partsFrom
 parts-over s p e zero m r h g = sym (both-nothing m) ∙ h
 parts-over s p e (suc k) m r h g = sym (both-nothing m) ∙ ap (both m) (ap (after k s e) g) ∙ h
 
--- a part that cannot be read
+-- where the next part is refused, the walk over parts ends with what is needed so far
 pub parts-bad : (s : List ℕ) (p e k : ℕ) (m r : Sizes) (q : Refusal) → both m (partsFrom k s p e) ≡ r → bad q ≡ nextOf s p e → m ≡ r
 unfolding partsFrom
 parts-bad s p e zero m r q h g = sym (both-nothing m) ∙ h
 parts-bad s p e (suc k) m r q h g = sym (both-nothing m) ∙ ap (both m) (ap (after k s e) g) ∙ h
 
--- none is left
+-- where no part is to be looked at any more, the walk over parts ends with what is needed so far
 pub parts-none : (s : List ℕ) (p e k : ℕ) (m r : Sizes) → k ≤ 0 → both m (partsFrom k s p e) ≡ r → m ≡ r
 unfolding partsFrom
 parts-none s p e zero m r l h = sym (both-nothing m) ∙ h
@@ -170,12 +170,12 @@ pub part-end : (s : List ℕ) (p e : ℕ) (w : HeaderRow) → good (some w) ≡ 
 part-end s p e w g = let k = subst (λ (x : Told (Option HeaderRow)). AnswerIn (length s) (SomeIn (length s) p) x) (sym g) (next-placed s p e) in omega (arith, k)
 
 -- ---- a record
--- a complex one
+-- a complex record needs what its arguments need, as they stand and part by part
 pub record-complex : (s : List ℕ) (p e complex : ℕ) → complex ≡ 1 → both (argsOf s p e) (partsOf s p e) ≡ recordOf s p e complex
 unfolding recordOf
 record-complex s p e complex h = rw (eq-eqb complex 1 h) refl
 
--- any other
+-- a record that is not complex needs what its arguments need
 pub record-simple : (s : List ℕ) (p e complex : ℕ) → (complex ≡ 1 → ⊥) → argsOf s p e ≡ recordOf s p e complex
 unfolding recordOf
 record-simple s p e complex h = rw (ne-eqb complex 1 h) refl

@@ -24,36 +24,36 @@ abbrev pub sizesOf : List ℕ → Sizes
 sizesOf t = sizes (textLen t) (numbersLen t) (rowsLen t)
 
 -- ---- those of a record
--- a parameter, and those after it
+-- what a parameter and those after it need; nothing where it is refused
 abbrev pub argsBy : List ℕ → Told Span → Sizes → Sizes
 argsBy s (good a) rest = both (sizesOf (partOf s a)) rest
 argsBy s (bad q) rest = nothing
 
--- the next k parameters, as far as they are read
+-- what the next k parameters need, as far as they are read
 unfoldable pub argsFrom : ℕ → List ℕ → ℕ → ℕ → Sizes
 argsFrom zero s p e = nothing
 argsFrom (suc k) s p e = argsBy s (paramOf s p e .answer) (argsFrom k s (paramOf s p e .place) e)
 
--- all parameters from p up to e: each takes a byte at least
+-- what all parameters from p up to e need: each takes a byte at least
 abbrev pub argsOf : List ℕ → ℕ → ℕ → Sizes
 argsOf s p e = argsFrom (length s) s p e
 
--- a part, and those after it
+-- what a part and those after it need, as f says; nothing where there is none, or it is refused
 abbrev pub partsBy : Told (Option HeaderRow) → (HeaderRow → Sizes) → Sizes
 partsBy (good none) f = nothing
 partsBy (good (some w)) f = f w
 partsBy (bad q) f = nothing
 
--- the next k parts, as far as they are read
+-- what the next k parts need, as far as they are read
 unfoldable pub partsFrom : ℕ → List ℕ → ℕ → ℕ → Sizes
 partsFrom zero s p e = nothing
 partsFrom (suc k) s p e = partsBy (nextOf s p e) (λ w. both (argsOf s (w .argStart) (w .argEnd)) (partsFrom k s (w .argEnd + 1) e))
 
--- all parts: each takes a byte at least
+-- what all parts from p up to e need: each takes a byte at least
 abbrev pub partsOf : List ℕ → ℕ → ℕ → Sizes
 partsOf s p e = partsFrom (length s) s p e
 
--- a record: a complex one may be read as it stands, and part by part
+-- what a record needs: a complex one may be read as it stands, and part by part
 unfoldable pub recordOf : List ℕ → ℕ → ℕ → ℕ → Sizes
 recordOf s p e complex = pick (eqb complex 1) (both (argsOf s p e) (partsOf s p e)) (argsOf s p e)
 

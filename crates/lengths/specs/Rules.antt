@@ -42,15 +42,15 @@ numbersLen t = max (itemsLen t) (length (flat (rowsIn t)))
 unfoldable pub rowsLen : List ℕ → ℕ
 rowsLen t = length (rowsIn t)
 
--- such sizes by their numbers
+-- sizes from their three numbers
 abbrev pub sizes : ℕ → ℕ → ℕ → Sizes
 sizes x n r = record { text = x; items = n; rows = r }
 
--- the greater of each
+-- the greater of each of two sizes
 abbrev pub both : Sizes → Sizes → Sizes
 both a b = sizes (max (a .text) (b .text)) (max (a .items) (b .items)) (max (a .rows) (b .rows))
 
--- nothing is needed
+-- the sizes where nothing is needed
 abbrev pub nothing : Sizes
 nothing = sizes 0 0 0
 
@@ -85,7 +85,7 @@ pub data Arg (s : List ℕ) (p e complex : ℕ) (t : List ℕ) : Type 0 where
   plain : Param s p e t → Arg s p e complex t
   inPart : complex ≡ 1 → (w : HeaderRow) → Part s p e w → Param s (w .argStart) (w .argEnd) t → Arg s p e complex t
 
--- one of which P holds has just so much, or l is 0
+-- one of which P holds has just l, or l is 0
 abbrev pub Found : (List ℕ → ℕ) → (List ℕ → Type 0) → ℕ → Type 0
 Found f P l = (l ≡ 0) ⊎ ((t : List ℕ) × P t × (f t ≡ l))
 

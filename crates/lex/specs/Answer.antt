@@ -24,7 +24,7 @@ abbrev pub placed : List ℕ → Sought → Told ℕ
 placed s (at r) = good (place s r)
 placed s (fault n r) = bad (refusal n 0 (place s r))
 
--- what the code's answer says
+-- what the code's answer of a search says: a place, or a refusal
 abbrev pub toldFound : Found → Told ℕ
 toldFound (At p) = good p
 toldFound (Refused f) = bad (told f)

@@ -19,7 +19,7 @@ pub record RestAt (s : List ℕ) (i p : ℕ) (r : List ℕ) : Type 0 where
   pub after : i ≤ p
   pub within : p ≤ length s
 
--- what is left of the rest from i after some bytes is a rest
+-- what is left after some bytes of the rest from i is a rest of the file, and begins at or after i
 rest-at : (s : List ℕ) (i : ℕ) (b r : List ℕ) → i ≤ length s → drop i s ≡ b ++ r → RestAt s i (place s r) r
 rest-at s i b r h e =
     let n : length (drop i s) ≡ length b + length r = ap length e ∙ length-append b r in
@@ -31,11 +31,11 @@ rest-at s i b r h e =
       within = omega arith;
     }
 
--- no place is a refusal
+-- an answer that is a place is not a refusal
 no-place : {A : Type 0} (p : ℕ) (q : Refusal) → good p ≡ bad q → A
 no-place p q e = let z : _≡_ {A = ℕ} 0 1 = cc in absurd (omega arith)
 
--- trivia end at the place that was answered
+-- trivia from i on end at the place that was answered
 pub trivia-at : (s : List ℕ) (i p : ℕ) → i ≤ length s → good p ≡ placed s (trivia (drop i s)) → (trivia (drop i s) ≡ at (drop p s)) × (i ≤ p) × (p ≤ length s)
 trivia-at s i p h = go (trivia (drop i s)) refl
   where
@@ -47,7 +47,7 @@ trivia-at s i p h = go (trivia (drop i s)) refl
         let f : p ≡ place s ys = cc in
         (e ∙ ap at (r .rest ∙ ap (λ (j : ℕ). drop j s) (sym f)), omega arith, omega arith)
 
--- a record ends at the place that was answered, where a `;` stands
+-- a record from i on ends at the place that was answered, where a `;` stands
 pub end-at : (s : List ℕ) (i p : ℕ) → i ≤ length s → good p ≡ placed s (recordEnd (drop i s)) → (recordEnd (drop i s) ≡ at (drop p s)) × (i ≤ p) × (p < length s)
 end-at s i p h = go (recordEnd (drop i s)) refl
   where

@@ -41,23 +41,23 @@ use Rattle.error.specs.declared.Fault.the-variants.{
 }
 use Rattle.lex.specs.declared.Mode.the-variants.{Plain, Remark, Starred}
 
--- the search that halts at any byte outside strings and comments
+-- a search that halts at any byte outside strings and comments
 abbrev anywhere : ℕ → ℕ → Look
 anywhere d c = halt
 
--- what trivia come to from where that search halts; its own refusal, 0, is the file's end
+-- what trivia come to from where the search `anywhere` halts; its own refusal, 0, is the file's end
 abbrev resumed : Sought → Sought
 resumed (at r) = trivia r
 resumed (fault zero w) = at []
 resumed (fault (suc n) w) = fault (suc n) w
 
--- outside comments
+-- outside comments, the trivia come to what they come to from where the search `anywhere` halts
 resumes : (o xs : List ℕ) → past Plain o xs ≡ resumed (seek anywhere (missed 0 []) Plain 0 o xs)
 unfolding walk trivia
 resumes o [] = refl
 resumes o (c ∷ r) = refl
 
--- in a comment, and after a star in one
+-- in a comment, and after a star in one, the trivia come to what they come to from where the search `anywhere` halts
 inside : (o xs : List ℕ)
     → (past Remark o xs ≡ resumed (seek anywhere (missed 0 []) Remark 0 o xs)) × (past Starred o xs ≡ resumed (seek anywhere (missed 0 []) Starred 0 o xs))
 unfolding walk
@@ -73,7 +73,7 @@ inside o (c ∷ r) = go (eqb c 47) (eqb c 42) refl refl (inside o r)
     go false true e f (x, y) = (rw f y, rw (e, f) y)
     go false false e f (x, y) = (rw f x, rw (e, f) x)
 
--- no refusal has the number 0
+-- a fault's number is at least 1
 numbered : (g : Fault) → 1 ≤ told g .number
 numbered NoMarker = omega arith
 numbered TooLong = omega arith
@@ -92,36 +92,36 @@ numbered NoRecord = omega arith
 numbered (TooDeep p) = omega arith
 numbered (TooShort p) = omega arith
 
--- a refusal in a comment is one of the trivia
+-- a refusal of the search `anywhere` in a comment is one of the trivia
 refused : (s : List ℕ) (g : Fault) (x : Sought) → placed s x ≡ bad (told g) → placed s (resumed x) ≡ bad (told g)
 refused s g (at r) e = clash (cc)
 refused s g (fault zero w) e = let z : told g .number ≡ 0 = cc in absurd (omega (arith, numbered g))
 refused s g (fault (suc n) w) e = e
 
--- the trivia from i on go on after a place, or are refused
+-- what the code answers of the trivia from i on: they go on from a place after i, or are refused
 abbrev pub Beyond : List ℕ → ℕ → Found → Type 0
 Beyond s i (At p) = (i < p) × (p ≤ length s) × (trivia (drop i s) ≡ trivia (drop p s))
 Beyond s i (Refused g) = placed s (trivia (drop i s)) ≡ bad (told g)
 
--- nothing is left
+-- past the file's end the trivia leave nothing
 pub trivia-end : (s : List ℕ) (i : ℕ) → length s ≤ i → trivia (drop i s) ≡ at []
 unfolding trivia walk
 trivia-end s i h = rw (drop-end s i h)
 
 -- What stands at i outside comments.
 module _ (s : List ℕ) (i : ℕ) (h : i < length s) where
-  -- whitespace
+  -- a byte of whitespace at i is passed over: the trivia go on after it
   pub trivia-blank : white (getD s i 0) ≡ true → trivia (drop i s) ≡ trivia (drop (i + 1) s)
   trivia-blank w = ap trivia (split s i h) ∙ blank-step (getD s i 0) (drop (i + 1) s) w
 
-  -- another byte that opens no comment
+  -- where the byte at i is not white and opens no comment, the trivia end there
   pub trivia-here : white (getD s i 0) ≡ false → (getD s i 0 ≡ 47 → i + 1 < length s → getD s (i + 1) 0 ≡ 42 → ⊥) → trivia (drop i s) ≡ at (drop i s)
   trivia-here w k =
       led-stops (drop i s)
       (λ c v (r, e). let g : getD s i 0 ≡ c = cc (split s i h) in clash (cc))
       (λ (r, e). let g : getD s i 0 ≡ 47 = cc (split s i h) in unbegun s (i + 1) 42 (k g) (r, cc (split s i h)))
 
-  -- a comment
+  -- where a comment opens at i, the trivia go on where the comment ends, or are refused
   pub trivia-remark : getD s i 0 ≡ 47 → i + 1 < length s → getD s (i + 1) 0 ≡ 42 → (r : Found) → Shut s Remark i (i + 2) r → Beyond s i r
   unfolding trivia
   trivia-remark a k b r = go r

@@ -9,7 +9,7 @@ use Rattle.lex.specs.Answer.{at}
 use Rattle.lex.specs.Local.{closing-local}
 use Rattle.lex.specs.Right.{closing-only, closing-is}
 
--- a `)` that is found in t, whatever follows t, is found there whatever else follows it
+-- a `)` that is found in t when z follows t is found there whatever else follows t
 pub closing-inside : (c : ℕ) (t v z : List ℕ) → closing (c ∷ (t ++ z)) ≡ at (41 ∷ (v ++ z))
     → (y : List ℕ) → closing (c ∷ (t ++ y)) ≡ at (41 ∷ (v ++ y))
 closing-inside c t v z h y =
@@ -17,7 +17,7 @@ closing-inside c t v z h y =
     let k : t ≡ a ++ (41 ∷ v) = append-cancel-right t (a ++ (41 ∷ v)) z (e ∙ sym (append-assoc a (41 ∷ v) z)) in
     rw (k, append-assoc a (41 ∷ v) y) (l (v ++ y))
 
--- so "closes before that record's `;`" is that it closes in the record's own text: z is the `;` and what follows
+-- "closes before that record's `;`" is that the `(` closes in the record's own text t: z is the `;` and what follows
 pub closes-own : (t v z : List ℕ) → closing (40 ∷ (t ++ z)) ≡ at (41 ∷ (v ++ z)) → Closes t v
 closes-own t v z h =
     let e : closing (40 ∷ t) ≡ at (41 ∷ v) = simp append-nil at (closing-inside 40 t v z h []) in
@@ -25,6 +25,6 @@ closes-own t v z h =
     let f : r ≡ v = cc in
     rw f at k
 
--- and a `)` in a record's text is found there, whatever follows the text
+-- a `(` that closes in a record's text has its `)` found there, whatever follows the text
 pub closes-any : {t v : List ℕ} → Closes t v → (y : List ℕ) → closing (40 ∷ (t ++ y)) ≡ at (41 ∷ (v ++ y))
 closes-any {t} {v} h = closing-inside 40 t v [] (simp append-nil (closing-only 40 h))

@@ -29,7 +29,7 @@ pub record Leapt (m : Mode) (xs : List ℕ) (i r : ℕ) : Type 0 where
   pub same : (j : ℕ) → i ≤ j → j < r → next m (getD xs j 0) ≡ m
   pub quiet : (j : ℕ) → i ≤ j → j < r → calm m (getD xs j 0) ≡ false
 
--- of two numbers one is less, or the other is at most it
+-- of two numbers a and b, a is less than b, or b is at most a
 less-or : (a b : ℕ) → (a < b) ⊎ (b ≤ a)
 less-or a b = go (ltb a b) refl
   where
@@ -37,12 +37,12 @@ less-or a b = go (ltb a b) refl
     go true e = inl (ltb-true a b e)
     go false e = inr (ltb-false a b e)
 
--- no bytes are none
+-- where there are no bytes from i on and before r, none of them is b
 pub lacks-none : (b : ℕ) (xs : List ℕ) (i r : ℕ) → r ≤ i → Lacks b xs i r
 unfolding Lacks
 lacks-none b xs i r q j h l e = omega arith
 
--- bytes that lack b, and then others
+-- bytes that lack b, and bytes after them that lack b, together lack b
 pub lacks-on : (b : ℕ) (xs : List ℕ) (i k r : ℕ) → Lacks b xs i k → Lacks b xs k r → Lacks b xs i r
 unfolding Lacks
 lacks-on b xs i k r f g j h l e = go (less-or j k)
@@ -51,13 +51,14 @@ lacks-on b xs i k r f g j h l e = go (less-or j k)
     go (inl m) = f j h m e
     go (inr m) = g j m l e
 
--- bytes that lack b, and then one
+-- bytes that lack b, and one byte after them that is not b, together lack b
 pub lacks-next : (b : ℕ) (xs : List ℕ) (i k : ℕ) → Lacks b xs i k → (getD xs k 0 ≡ b → ⊥) → Lacks b xs i (k + 1)
 unfolding Lacks
 lacks-next b xs i k f g = lacks-on b xs i k (k + 1) f (λ j h l e. let q : j ≡ k = omega arith in g (subst (λ (n : ℕ). getD xs n 0 ≡ b) q e))
 
--- a walk whose turns leave its state passes over bytes
+-- A walk whose turns leave its state as it is over some bytes.
 module _ {S A : Type 0} (t : S → ℕ → List ℕ → Turn S A) (z : S → A) (s : S) (xs : List ℕ) where
+  -- a walk whose turns leave its state over n bytes from i on answers from after them as from i
   pub walk-stays : (n i : ℕ) → i + n ≤ length xs → ((j : ℕ) → i ≤ j → j < i + n → t s (getD xs j 0) (drop (j + 1) xs) ≡ on s) → walk t z s (drop i xs) ≡ walk t z s (drop (i + n) xs)
   walk-stays zero i h f = let e : i + 0 ≡ i = omega arith in ap (λ (k : ℕ). walk t z s (drop k xs)) (sym e)
   walk-stays (suc n) i h f =
@@ -66,7 +67,7 @@ module _ {S A : Type 0} (t : S → ℕ → List ℕ → Turn S A) (z : S → A) 
       ∙ walk-stays n (i + 1) (omega arith) (λ j a b. f j (omega arith) (omega arith))
       ∙ ap (λ (k : ℕ). walk t z s (drop k xs)) e
 
--- a leap leaves what a search for what f looks for will find
+-- a search for what f looks for answers from the end of a leap as from its start
 pub seek-leaps : (f : ℕ → ℕ → Look) (z : Seen → Sought) (xs : List ℕ) (m : Mode) (d : ℕ) (o : List ℕ) (i r : ℕ) → Leapt m xs i r → walk (seekTurn f) z (seen m d o) (drop i xs) ≡ walk (seekTurn f) z (seen m d o) (drop r xs)
 seek-leaps f z xs m d o i r h =
     let a : i ≤ r = h .on in
@@ -75,7 +76,7 @@ seek-leaps f z xs m d o i r h =
     walk-stays (seekTurn f) z (seen m d o) xs (r - i) i (omega arith) (λ j p q. rw (h .quiet j p (omega arith), h .same j p (omega arith)) refl)
     ∙ ap (λ (k : ℕ). walk (seekTurn f) z (seen m d o) (drop k xs)) e
 
--- in a comment, to a `*`
+-- in a comment a search leaps to the first `*`
 pub leapt-remark : (xs : List ℕ) (i r : ℕ) → i ≤ length xs → Stopped 42 xs (min i (length xs)) (length xs) r → Leapt Remark xs i r
 unfolding Lacks
 leapt-remark xs i r h s =
@@ -83,7 +84,7 @@ leapt-remark xs i r h s =
     let b : r ≤ length xs = s .inside in
     record { on = omega arith; inside = b; same = λ j p q. rw (ne-eqb (getD xs j 0) 42 (s .lacks j (omega arith) q)) refl; quiet = λ j p q. refl }
 
--- a note of hits, with one byte more
+-- a note whether the byte b was met, with one byte more: where it says no, b is lacking up to there too
 pub noted-next : (b : ℕ) (xs : List ℕ) (at k : ℕ) (hit hit′ : Bool) → (hit ≡ false → Lacks b xs at (at + k)) → hit′ ≡ (hit || eqb (getD xs (at + k) 0) b) → hit′ ≡ false → Lacks b xs at (at + (k + 1))
 noted-next b xs at k hit hit′ f e g = go hit (eqb (getD xs (at + k) 0) b) refl f (sym e ∙ g)
   where
@@ -92,13 +93,13 @@ noted-next b xs at k hit hit′ f e g = go hit (eqb (getD xs (at + k) 0) b) refl
     go false true q f e = absurd (let q : _≡_ {A = ℕ} 0 1 = cc in omega arith)
     go false false q f e = let r : at + k + 1 ≡ at + (k + 1) = omega arith in subst (λ (n : ℕ). Lacks b xs at n) r (lacks-next b xs at (at + k) (f refl) (eqb-false (getD xs (at + k) 0) b q))
 
--- the first place before a nearer end, where there is one, is the first of all
+-- the first place of b before a nearer end, where there is one, is the first before the farther end too
 pub stopped-near : (b : ℕ) (xs : List ℕ) (i near end r : ℕ) → Stopped b xs i near r → r < near → near ≤ end → Stopped b xs i end r
 stopped-near b xs i near end r s l h =
     let a : r ≤ near = s .inside in
     record { on = s .on; inside = omega arith; lacks = s .lacks; here = λ _. s .here l }
 
--- and where there is none it is sought on from what lacks b
+-- where the bytes up to `far` lack b, the first place of b from `far` on is the first of all
 pub stopped-far : (b : ℕ) (xs : List ℕ) (i k far end r : ℕ) → i ≤ k → Lacks b xs i k → Without b xs k far → Stopped b xs far end r → Stopped b xs i end r
 stopped-far b xs i k far end r h l w s =
     let p : k ≤ far = w .on in

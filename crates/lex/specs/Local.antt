@@ -26,12 +26,12 @@ module _ (f : ℕ → ℕ → Look) (z : Seen → Sought) (m : Mode) (d : ℕ) (
   unfolding walk
   seek-within h = rw h
 
-  -- a byte outside, at which the search does not halt
+  -- a byte outside strings and comments at which the search does not halt is passed over
   pub seek-past : (e : ℕ) → calm m c ≡ true → f d c ≡ look e → seek f z m d o (c ∷ r) ≡ seek f z (next m c) e (c ∷ r) r
   unfolding walk
   seek-past e h k = rw (h, k)
 
-  -- a byte outside, at which the search halts
+  -- at a byte outside strings and comments at which it halts, the search is answered
   pub seek-halts : calm m c ≡ true → f d c ≡ halt → seek f z m d o (c ∷ r) ≡ at (c ∷ r)
   unfolding walk
   seek-halts h k = rw (h, k)
@@ -54,7 +54,7 @@ missed-fault n w Quoted d o = (n, w, refl)
 missed-fault n w Remark d o = (3, o, refl)
 missed-fault n w Starred d o = (3, o, refl)
 
--- one more byte in front
+-- one more byte in front, which the search passes over, does not change where it stops
 stops-on : (f : ℕ → ℕ → Look) (m k : Mode) (d e c : ℕ) (t ys : List ℕ)
     → ((z : Seen → Sought) (o r : List ℕ) → (p : List ℕ) × (seek f z m d o (c ∷ r) ≡ seek f z k e p r)) → Stops f k e t ys → Stops f m d (c ∷ t) ys
 stops-on f m k d e c t ys step s = record {
@@ -66,7 +66,7 @@ stops-on f m k d e c t ys step s = record {
   local = λ z o r. let (p, q) = step z o (s .before ++ (s .byte ∷ r)) in cc (s .local z p r);
 }
 
--- a search that stops is local
+-- a search that stops does so by the bytes up to there alone, whatever follows them
 pub seek-stops : (f : ℕ → ℕ → Look) (n : ℕ) (w : List ℕ) (m : Mode) (d : ℕ) (o xs ys : List ℕ)
     → seek f (missed n w) m d o xs ≡ at ys → Stops f m d xs ys
 unfolding walk
@@ -113,12 +113,12 @@ abbrev pub left : Sought → List ℕ
 left (at r) = r
 left (fault n r) = r
 
--- no turn of a search leaves more than n bytes
+-- a turn of a search leaves at most n bytes: in its answer, or from the last byte outside strings and comments
 abbrev within : ℕ → Turn Seen Sought → Type 0
 within n (stop a) = length (left a) ≤ n
 within n (on s) = length (s .opened) ≤ n
 
--- a walk whose turns and end leave no more than n bytes leaves no more
+-- a walk of a search whose turns and end leave at most n bytes answers at most n
 walk-shorter : (n : ℕ) (t : Seen → ℕ → List ℕ → Turn Seen Sought) (z : Seen → Sought)
     → ((s : Seen) (c : ℕ) (r : List ℕ) → length (s .opened) ≤ n → length (c ∷ r) ≤ n → within n (t s c r))
     → ((s : Seen) → length (s .opened) ≤ n → length (left (z s)) ≤ n)
@@ -132,12 +132,12 @@ walk-shorter n t z turns ends s (c ∷ r) h l = go (t s c r) (turns s c r h l) (
     go (stop a) k ih = k
     go (on u) k ih = ih u k
 
--- one of two turns
+-- where each of two turns leaves at most n bytes, so does the one that is picked
 within-pick : (n : ℕ) (k : Bool) (a b : Turn Seen Sought) → within n a → within n b → within n (pick k a b)
 within-pick n true a b p q = p
 within-pick n false a b p q = q
 
--- where a search's bytes end it leaves the whole, or the rest from what is open
+-- where the bytes end, a search answers at most n bytes, if it began with at most n
 missed-shorter : (n k : ℕ) (w : List ℕ) (m : Mode) (o : List ℕ) → length w ≤ n → length o ≤ n → length (left (unclosed m k w o)) ≤ n
 missed-shorter n k w Plain o h l = h
 missed-shorter n k w Slash o h l = h
@@ -146,12 +146,12 @@ missed-shorter n k w Quoted o h l = h
 missed-shorter n k w Remark o h l = l
 missed-shorter n k w Starred o h l = l
 
--- what a look leaves
+-- a turn at a byte outside strings and comments leaves at most n bytes
 looked-shorter : (n : ℕ) (l : Look) (m : Mode) (xs : List ℕ) → length xs ≤ n → within n (looked l m xs)
 looked-shorter n halt m xs h = h
 looked-shorter n (look d) m xs h = h
 
--- a search answers no more than it was given
+-- a search answers no more bytes than it was given
 seek-shorter : (n k : ℕ) (f : ℕ → ℕ → Look) (w : List ℕ) (m : Mode) (d : ℕ) (o xs : List ℕ)
     → length w ≤ n → length o ≤ n → length xs ≤ n → length (left (seek f (missed k w) m d o xs)) ≤ n
 seek-shorter n k f w m d o xs hw ho hx = walk-shorter n (seekTurn f) (missed k w)
@@ -168,7 +168,7 @@ pub closing-shorter : (c : ℕ) (t : List ℕ) {a : Sought} → closing (c ∷ t
 unfolding closing
 closing-shorter c t h = rw h at (seek-shorter (length (c ∷ t)) 6 paren (c ∷ t) Plain 0 t t (omega arith) (omega arith) (omega arith))
 
--- what the first byte after trivia leaves
+-- a turn at a byte outside comments on the way past trivia leaves at most n bytes
 lead-shorter : (n : ℕ) (m : Mode) (o : List ℕ) (c : ℕ) (r : List ℕ) → length o ≤ n → length (c ∷ r) ≤ n → within n (lead m o c r)
 lead-shorter n Plain o c r h l = within-pick n (white c) _ _ l (within-pick n (eqb c 47) _ _ l l)
 lead-shorter n Slash o c r h l = h
@@ -177,7 +177,7 @@ lead-shorter n Quoted o c r h l = h
 lead-shorter n Remark o c r h l = h
 lead-shorter n Starred o c r h l = h
 
--- where trivia's bytes end
+-- where the bytes end on the way past trivia, at most n bytes are answered
 trailed-shorter : (n : ℕ) (m : Mode) (o : List ℕ) → length o ≤ n → length (left (trailed m o)) ≤ n
 trailed-shorter n Plain o h = omega arith
 trailed-shorter n Slash o h = h

@@ -8,7 +8,7 @@ use Rattle.lex.specs.Answer.{toldFound}
 use Rattle.lex.specs.declared.Found.{Found}
 use Rattle.lex.specs.declared.Found.the-variants.{At, Refused}
 
--- the answer that tells this
+-- the code's answer that tells this place or refusal
 foundOf : Told ℕ → Found
 foundOf (good p) = At p
 foundOf (bad q) = Refused (faultOf q)
@@ -18,6 +18,6 @@ unfolding foundOf
 found-back (At p) = refl
 found-back (Refused f) = ap Refused (faultOf-told f)
 
--- `find_record_end`, `matching_paren`, `skip_trivia`
+-- `find_record_end`, `matching_paren` and `skip_trivia` have one answer: two that tell the same are one
 pub found-only : (a b : Found) → toldFound a ≡ toldFound b → a ≡ b
 found-only a b e = sym (found-back a) ∙ ap foundOf e ∙ found-back b

@@ -39,11 +39,11 @@ pub record IsAt (b : ℕ) (s : List ℕ) (i : ℕ) (r : Bool) : Type 0 where
 abbrev pub Held : List ℕ → Mode → ℕ → ℕ → ℕ → Type 0
 Held s m q i j = (f : ℕ → ℕ → Look) (n : ℕ) (w : List ℕ) (d : ℕ) → seek f (missed n w) m d (drop q s) (drop i s) ≡ seek f (missed n w) m d (drop q s) (drop j s)
 
--- such a search from i on leaves the string or the comment at p
+-- a search in mode m, in a string or a comment that began at q, leaves it at p, read from i on
 abbrev pub Left : List ℕ → Mode → ℕ → ℕ → ℕ → Type 0
 Left s m q i p = (f : ℕ → ℕ → Look) (n : ℕ) (w : List ℕ) (d : ℕ) → seek f (missed n w) m d (drop q s) (drop i s) ≡ plainly f n w d (drop p s)
 
--- such a search from i on leaves the string or the comment at a place, or is refused
+-- a search in mode m, in a string or a comment that began at q, read from i on, leaves it at a place, or is refused
 abbrev pub Shut : List ℕ → Mode → ℕ → ℕ → Found → Type 0
 Shut s m q i (At p) = (i ≤ p) × (p ≤ length s) × Left s m q i p
 Shut s m q i (Refused g) = (f : ℕ → ℕ → Look) (n : ℕ) (w : List ℕ) (d : ℕ) → placed s (seek f (missed n w) m d (drop q s) (drop i s)) ≡ bad (told g)
@@ -73,16 +73,16 @@ pub record Stood (s : List ℕ) (i d : ℕ) (t : Stand) : Type 0 where
 abbrev pub ahead : ℕ → ℕ → ℕ → ℕ
 ahead n i near = n - i + (n - i) + (1 - (near - i))
 
--- blocks were tried
+-- less is left for a search after blocks were tried
 pub blocks-less : (n i near r : ℕ) → near ≤ i → i ≤ r → ahead n r (r + 64) < ahead n i near
 blocks-less n i near r h k = let a : near - i ≡ 0 = omega arith in
     let b : 1 - (r + 64 - r) ≡ 0 = omega arith in rw (a, b) (omega arith)
 
--- bytes were passed
+-- less is left for a search after bytes were passed
 pub bytes-less : (n i near r : ℕ) → i < near → i < r → r ≤ n → ahead n r near < ahead n i near
 bytes-less n i near r h k l = let a : 1 - (near - i) ≡ 0 = omega arith in rw a (omega arith)
 
--- where the byte c does not stand, the rest does not begin with it
+-- where the byte c does not stand at j, the rest from j on does not begin with it
 pub unbegun : (s : List ℕ) (j c : ℕ) → (j < length s → getD s j 0 ≡ c → ⊥) → Begins c (drop j s) → ⊥
 unbegun s j c h (r, e) = go (decLe (length s) j)
   where
@@ -92,13 +92,13 @@ unbegun s j c h (r, e) = go (decLe (length s) j)
 
 -- A string that began at q, and one piece of a comment that did.
 module _ (s : List ℕ) (q i : ℕ) where
-  -- a string that ends
+  -- a search in a string leaves it where the string ends
   pub text-left : (p : ℕ) → Quotation (39 ∷ drop i s) (drop p s) → Left s Text q i p
   text-left p t f n w d =
       let e : drop i s ≡ t .body ++ (39 ∷ drop p s) = cc (t .shape) in
       rw e (text-shut f n w d (drop q s) (drop p s) (drop p s) (t .inside) (t .single))
 
-  -- a string that never ends
+  -- a search in a string that never ends is refused with 4 at the string's quote
   pub text-stays : q ≤ length s → OpenText (39 ∷ drop i s) → (f : ℕ → ℕ → Look) (n : ℕ) (w : List ℕ) (d : ℕ)
       → placed s (seek f (missed n w) Text d (drop q s) (drop i s)) ≡ bad (refusal 4 0 q)
   text-stays k t f n w d =
@@ -106,22 +106,22 @@ module _ (s : List ℕ) (q i : ℕ) where
       let g : drop i s ≡ u = cc in
       rw (g, text-open f n w d (drop q s) j, place-drop s q k) refl
 
-  -- to the first star
+  -- a search in a comment goes on from the first star as from i
   pub remark-found : (r : ℕ) → i ≤ length s → Stopped 42 s (min i (length s)) (length s) r → Held s Remark q i r
   remark-found r h t f n w d = seek-leaps f (missed n w) s Remark d (drop q s) i r (leapt-remark s i r h t)
 
-  -- a star in a comment
+  -- a search in a comment goes on after a star as one that has seen it
   remark-star : i < length s → getD s i 0 ≡ 42 → (f : ℕ → ℕ → Look) (n : ℕ) (w : List ℕ) (d : ℕ)
       → seek f (missed n w) Remark d (drop q s) (drop i s) ≡ seek f (missed n w) Starred d (drop q s) (drop (i + 1) s)
   remark-star h a f n w d = walk-goes (seekTurn f) (missed n w) (seen Remark d (drop q s)) (seen Starred d (drop q s)) s i h (rw (eq-eqb (getD s i 0) 42 a) refl)
 
-  -- a star that no slash follows
+  -- a search in a comment goes on after a star that no slash follows
   pub remark-byte : i < length s → getD s i 0 ≡ 42 → (i + 1 < length s → getD s (i + 1) 0 ≡ 47 → ⊥) → Held s Remark q i (i + 1)
   remark-byte h a b f n w d =
       remark-star h a f n w d
       ∙ unstarred (seekTurn f) (missed n w) (λ m. seen m d (drop q s)) (seek-deaf f n w d (drop q s)) (drop (i + 1) s) (unbegun s (i + 1) 47 b)
 
-  -- a star and a slash
+  -- a search in a comment leaves it after a star and a slash
   pub remark-last : (j : ℕ) → j ≡ i + 2 → i + 1 < length s → getD s i 0 ≡ 42 → getD s (i + 1) 0 ≡ 47 → Left s Remark q i j
   remark-last j g h a b f n w d =
       let e : i + 1 + 1 ≡ j = omega arith in
@@ -130,29 +130,29 @@ module _ (s : List ℕ) (q i : ℕ) where
       ∙ unopened f n w d (drop q s) (drop (i + 1 + 1) s) (drop (i + 1 + 1) s)
       ∙ ap (λ (k : ℕ). plainly f n w d (drop k s)) e
 
-  -- the bytes end in a comment
+  -- where the bytes end in a comment, a search is refused with 3 at the comment's slash
   pub remark-none : length s ≤ i → q ≤ length s → (f : ℕ → ℕ → Look) (n : ℕ) (w : List ℕ) (d : ℕ)
       → placed s (seek f (missed n w) Remark d (drop q s) (drop i s)) ≡ bad (refusal 3 0 q)
   remark-none h k f n w d = rw (walk-ends (seekTurn f) (missed n w) (seen Remark d (drop q s)) s i h, place-drop s q k) refl
 
--- one piece after another
+-- a search in a string or a comment goes on over one piece and over the next
 pub held-on : (s : List ℕ) (m : Mode) (q i j k : ℕ) → Held s m q i j → Held s m q j k → Held s m q i k
 held-on s m q i j k a b f n w d = a f n w d ∙ b f n w d
 
--- a piece, and then the end
+-- a search in a string or a comment goes on over a piece, and leaves it after the next
 pub left-on : (s : List ℕ) (m : Mode) (q i j p : ℕ) → Held s m q i j → Left s m q j p → Left s m q i p
 left-on s m q i j p a b f n w d = a f n w d ∙ b f n w d
 
 -- What stands at i outside strings and comments.
 module _ (s : List ℕ) (i : ℕ) (h : i < length s) where
-  -- the byte there
+  -- a search outside strings and comments that does not halt at the byte at i goes on in the mode that the byte leaves
   first : (f : ℕ → ℕ → Look) (n : ℕ) (w : List ℕ) (d e : ℕ) → f d (getD s i 0) ≡ look e
       → plainly f n w d (drop i s) ≡ seek f (missed n w) (fresh (getD s i 0)) e (drop i s) (drop (i + 1) s)
   first f n w d e l =
       walk-goes (seekTurn f) (missed n w) (seen Plain d (drop i s)) (seen (fresh (getD s i 0)) e (drop i s)) s i h
       (rw l (ap (λ (x : List ℕ). on (seen (fresh (getD s i 0)) e x)) (sym (split s i h))))
 
-  -- a byte that opens nothing
+  -- a search goes on after a byte at i that is no quote and no slash
   pub onward-byte : (getD s i 0 ≡ 39 → ⊥) → (getD s i 0 ≡ 47 → ⊥) → Onward s i (At (i + 1))
   onward-byte a b = (
     omega arith,
@@ -160,7 +160,7 @@ module _ (s : List ℕ) (i : ℕ) (h : i < length s) where
     λ f n w d e l. first f n w d e l ∙ rw (ne-eqb (getD s i 0) 39 a, ne-eqb (getD s i 0) 47 b) (unopened f n w e (drop i s) (drop (i + 1) s) (drop (i + 1) s)),
   )
 
-  -- a slash that no star follows
+  -- a search goes on after a slash at i that no star follows
   pub onward-slash : getD s i 0 ≡ 47 → (i + 1 < length s → getD s (i + 1) 0 ≡ 42 → ⊥) → Onward s i (At (i + 1))
   onward-slash a b = (
     omega arith,
@@ -168,12 +168,12 @@ module _ (s : List ℕ) (i : ℕ) (h : i < length s) where
     λ f n w d e l. first f n w d e l ∙ rw (eq-eqb (getD s i 0) 47 a, ne-eqb (getD s i 0) 39 (λ z. omega arith)) (unslashed f n w e (drop i s) (drop (i + 1) s) (drop (i + 1) s) (unbegun s (i + 1) 42 b)),
   )
 
-  -- a string
+  -- a search goes on after a string that opens at i, or is refused in it
   pub onward-text : getD s i 0 ≡ 39 → (r : Found) → Shut s Text i (i + 1) r → Onward s i r
   onward-text a (At p) (x, y, b) = (omega arith, y, λ f n w d e l. first f n w d e l ∙ rw (eq-eqb (getD s i 0) 39 a) (b f n w e))
   onward-text a (Refused g) b = λ f n w d e l. ap (placed s) (first f n w d e l) ∙ rw (eq-eqb (getD s i 0) 39 a) (b f n w e)
 
-  -- a slash and a star open a comment
+  -- where a slash and a star stand at i, a search goes on in a comment
   opens : getD s i 0 ≡ 47 → i + 1 < length s → getD s (i + 1) 0 ≡ 42 → (f : ℕ → ℕ → Look) (n : ℕ) (w : List ℕ) (d e : ℕ) → f d (getD s i 0) ≡ look e
       → plainly f n w d (drop i s) ≡ seek f (missed n w) Remark e (drop i s) (drop (i + 2) s)
   opens a k b f n w d e l =
@@ -183,12 +183,12 @@ module _ (s : List ℕ) (i : ℕ) (h : i < length s) where
       (walk-goes (seekTurn f) (missed n w) (seen Slash e (drop i s)) (seen Remark e (drop i s)) s (i + 1) k (rw (eq-eqb (getD s (i + 1) 0) 42 b) refl))
       ∙ ap (λ (j : ℕ). seek f (missed n w) Remark e (drop i s) (drop j s)) g
 
-  -- a comment
+  -- a search goes on after a comment that opens at i, or is refused in it
   pub onward-remark : getD s i 0 ≡ 47 → i + 1 < length s → getD s (i + 1) 0 ≡ 42 → (r : Found) → Shut s Remark i (i + 2) r → Onward s i r
   onward-remark a k b (At p) (x, y, c) = (omega arith, y, λ f n w d e l. opens a k b f n w d e l ∙ c f n w e)
   onward-remark a k b (Refused g) c = λ f n w d e l. ap (placed s) (opens a k b f n w d e l) ∙ c f n w e
 
--- one byte more of a block in which neither a quote nor a slash nor a `;` was noted
+-- one byte more of a block in which neither a quote nor a slash nor a `;` was noted: the search for a `;` goes on after it
 pub quiet-next : (s : List ℕ) (i j : ℕ) (quote slash end : Bool) → j < length s → (((quote || slash) || end) ≡ false → Quiet s i j)
     → (((quote || eqb (getD s j 0) 39) || (slash || eqb (getD s j 0) 47)) || (end || eqb (getD s j 0) 59)) ≡ false → Quiet s i (j + 1)
 quiet-next s i j quote slash end h p e = go quote slash end (eqb (getD s j 0) 39) (eqb (getD s j 0) 47) (eqb (getD s j 0) 59) refl refl refl p e
@@ -204,16 +204,16 @@ quiet-next s i j quote slash end h p e = go quote slash end (eqb (getD s j 0) 39
     go false false false false false false k l m p e =
         λ n w. p refl n w ∙ onward-byte s j h (eqb-false (getD s j 0) 39 k) (eqb-false (getD s j 0) 47 l) .2 semicolon n w 0 0 (rw m refl)
 
--- no block
+-- a search for a `)` goes on from a place as from itself, with no parenthesis between
 pub counted-none : (s : List ℕ) (i j : ℕ) → j ≡ i → Counted s i j 0 0
 counted-none s i j g n w d e h k = let x : e ≡ d = omega arith in rw (g, x) refl
 
--- two tests of which none holds
+-- where neither of two tests holds, each of them fails
 pub neither : (a b : Bool) → (a || b) ≡ false → (a ≡ false) × (b ≡ false)
 neither true b e = clash (cc)
 neither false b e = (refl, e)
 
--- one byte more of a block in which neither a quote nor a slash was noted
+-- one byte more of a block in which neither a quote nor a slash was noted: the search for a `)` goes on after it, the parentheses counted
 pub counted-next : (s : List ℕ) (i j up down : ℕ) (quote slash : Bool) → j < length s → ((quote || slash) ≡ false → Counted s i j up down)
     → ((quote || eqb (getD s j 0) 39) || (slash || eqb (getD s j 0) 47)) ≡ false
     → Counted s i (j + 1) (up + pick (eqb (getD s j 0) 40) 1 0) (down + pick (eqb (getD s j 0) 41) 1 0)

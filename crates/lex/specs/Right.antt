@@ -25,7 +25,7 @@ use Steps.{Deaf, remark-shut, remark-open, Passing, plainly, byte-step, string-s
 use Tokens.{open-text, open-remark, Reads, tokens}
 use Answer.{Outcome, further, Answers, found-is, fault-is}
 
--- past trivia, from a mode
+-- the search past trivia, from a mode on, with o for the last byte outside comments
 abbrev pub past : Mode → List ℕ → List ℕ → Sought
 past m o xs = walk triviaTurn triviaEnd (seen m 0 o) xs
 
@@ -39,34 +39,34 @@ past-any o p (c ∷ r) = refl
 trivia-deaf : (o : List ℕ) → Deaf triviaTurn triviaEnd (λ m. seen m 0 o)
 trivia-deaf o = record { quiet = λ m c r h. rw h; starred = refl }
 
--- whitespace is passed over
+-- the trivia go on after whitespace
 pub blank-step : (c : ℕ) (t : List ℕ) → white c ≡ true → trivia (c ∷ t) ≡ trivia t
 unfolding trivia walk
 blank-step c t h = rw h (past-any (c ∷ t) t t)
 
--- a slash and a star open a comment
+-- a slash and a star open a comment on the way past trivia
 pub past-start : (t : List ℕ) → trivia (47 ∷ 42 ∷ t) ≡ past Remark (47 ∷ 42 ∷ t) t
 unfolding trivia walk
 past-start t = refl
 
--- a comment that ends
+-- the trivia go on after a comment that ends
 past-shut : (o b r : List ℕ) → Remarked b → past Remark o (b ++ (42 ∷ 47 ∷ r)) ≡ trivia r
 unfolding trivia
 past-shut o b r h = remark-shut triviaTurn triviaEnd (λ m. seen m 0 o) (trivia-deaf o) b r h ∙ past-any o r r
 
--- trivia is passed over
+-- the trivia go on after any run of whitespace and comments
 trivia-step : {xs ys : List ℕ} → Trivia xs ys → trivia xs ≡ trivia ys
 trivia-step Trivia.none = refl
 trivia-step (Trivia.blank {c} {xs} h r) = blank-step c xs h ∙ trivia-step r
 trivia-step (Trivia.comment {zs} q r) = rw (q .shape) (past-start (q .body ++ (42 ∷ 47 ∷ zs)) ∙ past-shut _ (q .body) zs (q .first)) ∙ trivia-step r
 
--- a slash that opens no comment is where the trivia ends
+-- a slash that opens no comment is where the trivia end
 slash-stops : (o t : List ℕ) → (Begins 42 t → ⊥) → past Slash o t ≡ at o
 unfolding walk
 slash-stops o [] h = refl
 slash-stops o (c ∷ r) h = rw (ne-eqb c 42 (λ e. h (r, cc)))
 
--- where no trivia begins the search stops
+-- where no whitespace and no comment begins, the trivia end
 pub led-stops : (ys : List ℕ) → ((c : ℕ) → white c ≡ true → Begins c ys → ⊥) → (Opens ys → ⊥) → trivia ys ≡ at ys
 unfolding trivia walk
 led-stops [] h k = refl
@@ -77,29 +77,29 @@ led-stops (c ∷ t) h k = go (white c) (eqb c 47) refl refl
     go false true p q = rw (p, q) (slash-stops (c ∷ t) t (λ (r, e). k (r, cc (eqb-true c 47 q))))
     go false false p q = rw (p, q)
 
--- "A record starts at the first non-trivia byte": where it starts, it is found
+-- "A record starts at the first non-trivia byte": where it starts by the grammar, the search past trivia finds it
 pub trivia-only : {xs ys : List ℕ} → Led xs ys → trivia xs ≡ at ys
 trivia-only {ys} l = trivia-step (l .before) ∙ led-stops ys (l .unblank) (l .unopened)
 
--- refusal 3, "comment open", at the comment's slash
+-- refusal 3, "comment open": a comment after trivia that never ends is refused at its slash
 pub trivia-open-only : {xs o : List ℕ} → Trivia xs o → OpenRemark o → trivia xs ≡ fault 3 o
 trivia-open-only r q = let (t, e, h) = open-remark q in
     trivia-step r ∙ rw e (past-start t ∙ remark-open triviaTurn triviaEnd (λ m. seen m 0 (47 ∷ 42 ∷ t)) (trivia-deaf (47 ∷ 42 ∷ t)) t h)
 
--- what becomes of the search past trivia: a byte that is none, or a comment that never ends
+-- what becomes of the search past trivia: a byte that is not trivia, or a comment that never ends
 abbrev Leads : List ℕ → Type 0
 Leads xs = ((ys : List ℕ) × Led xs ys) ⊎ ((o : List ℕ) × Trivia xs o × OpenRemark o)
 
--- trivia may go before
+-- what becomes of the search past trivia is the same with trivia before
 leads-before : {xs ts : List ℕ} → ((zs : List ℕ) → Trivia ts zs → Trivia xs zs) → Leads ts → Leads xs
 leads-before g (inl (ys, l)) = inl (ys, record { before = g ys (l .before); unblank = l .unblank; unopened = l .unopened })
 leads-before g (inr (o, r, q)) = inr (o, g o r, q)
 
--- a byte that is none
+-- a byte that is not white and opens no comment is where the search past trivia ends
 leads-here : (c : ℕ) (xs : List ℕ) → Begins c xs → white c ≡ false → (Opens xs → ⊥) → Leads xs
 leads-here c xs (t, e) h k = inl (xs, record { before = Trivia.none; unblank = λ b w (r, g). clash (cc); unopened = k })
 
--- what becomes of it, by the tokens
+-- what becomes of the search past trivia, by the tokens that the list is read as
 trivia-comes : {xs : List ℕ} → Reads xs → Leads xs
 trivia-comes Reads.end = inl ([], record { before = Trivia.none; unblank = λ c w (r, e). clash (cc); unopened = λ (r, e). clash (cc) })
 trivia-comes (Reads.byte {c} {t} h k s) = go (white c) refl (trivia-comes s)
@@ -112,7 +112,7 @@ trivia-comes (Reads.comment q s) = leads-before (λ zs. Trivia.comment q) (trivi
 trivia-comes {xs} (Reads.text q) = leads-here 39 xs (q .0) refl (λ (r, e). eqb-false 39 47 refl (cc))
 trivia-comes {xs} (Reads.remark q) = inr (xs, Trivia.none, q)
 
--- "A record starts at the first non-trivia byte": what is found is that
+-- "A record starts at the first non-trivia byte": where the search past trivia ends, it starts by the grammar
 pub trivia-is : (xs ys : List ℕ) → trivia xs ≡ at ys → Led xs ys
 trivia-is xs ys h = go (trivia-comes (tokens xs))
   where
@@ -120,7 +120,7 @@ trivia-is xs ys h = go (trivia-comes (tokens xs))
     go (inl (zs, l)) = let e : ys ≡ zs = cc (trivia-only l) in rw e l
     go (inr (o, r, q)) = clash (cc (trivia-open-only r q))
 
--- refusal 3 of trivia says what it says
+-- a refusal of the search past trivia is 3, at a comment that never ends
 pub trivia-open : (xs o : List ℕ) (n : ℕ) → trivia xs ≡ fault n o → (n ≡ 3) × Trivia xs o × OpenRemark o
 trivia-open xs o n h = go (trivia-comes (tokens xs))
   where
@@ -132,18 +132,18 @@ trivia-open xs o n h = go (trivia-comes (tokens xs))
 pub trivia-one : {xs ys zs : List ℕ} → Led xs ys → Led xs zs → ys ≡ zs
 trivia-one h k = cc (trivia-only h, trivia-only k)
 
--- a comment with b after it, whatever follows
+-- a comment is one whatever follows it: b stands after it, and ys after b
 comment-local : {xs r : List ℕ} (q : Comment xs r) (b ys : List ℕ) → Comment ((47 ∷ 42 ∷ (q .body ++ (42 ∷ 47 ∷ b))) ++ ys) (b ++ ys)
 comment-local q b ys = record { body = q .body; first = q .first; shape = cc (append-assoc (q .body) (42 ∷ 47 ∷ b) ys) }
 
--- trivia is trivia whatever follows
+-- trivia are trivia whatever follows them
 trivia-splits : {xs ys : List ℕ} → Trivia xs ys → (b : List ℕ) × (xs ≡ b ++ ys) × ((zs : List ℕ) → Trivia (b ++ zs) zs)
 trivia-splits Trivia.none = ([], refl, λ zs. Trivia.none)
 trivia-splits (Trivia.blank {c} h r) = let (b, e, k) = trivia-splits r in (c ∷ b, cc, λ zs. Trivia.blank h (k zs))
 trivia-splits {ys} (Trivia.comment q r) = let (b, e, k) = trivia-splits r in
     (47 ∷ 42 ∷ (q .body ++ (42 ∷ 47 ∷ b)), cc (append-assoc (q .body) (42 ∷ 47 ∷ b) ys), λ zs. Trivia.comment (comment-local q b zs) (k zs))
 
--- "Trivia is any run of both": what stands before the first byte that is none has no part in what follows it
+-- "Trivia is any run of both": what stands before the first byte that is not trivia has no part in what follows it
 pub trivia-local : (xs ys : List ℕ) → trivia xs ≡ at ys → (b : List ℕ) × (xs ≡ b ++ ys) × ((zs : List ℕ) → trivia (b ++ zs) ≡ trivia zs)
 trivia-local xs ys h = let (b, e, k) = trivia-splits (trivia-is xs ys h .before) in (b, e, λ zs. trivia-step (k zs))
 
@@ -163,34 +163,34 @@ remark-fault f n w passing d q = let (t, e, i) = open-remark q in rw e (remark-s
 semicolon-passing : Passing semicolon
 semicolon-passing = record { quote = λ d. refl; slash = λ d. refl }
 
--- whole strings and comments, and bytes that are no `;`, are passed over
+-- whole strings and comments, and bytes that are no `;`, are passed over by the search for a record's end
 runs-step : (n : ℕ) (w : List ℕ) {xs ys : List ℕ} → Runs xs ys → plainly semicolon n w 0 xs ≡ plainly semicolon n w 0 ys
 runs-step n w Runs.none = refl
 runs-step n w (Runs.byte {c} {xs} h k l r) = byte-step semicolon n w 0 0 c xs k l (rw (ne-eqb c 59 h)) ∙ runs-step n w r
 runs-step n w (Runs.string q r) = string-step semicolon n w semicolon-passing 0 q ∙ runs-step n w r
 runs-step n w (Runs.comment q r) = comment-step semicolon n w semicolon-passing 0 q ∙ runs-step n w r
 
--- "ends at the first `;` outside strings and comments": where one is, it is found
+-- "ends at the first `;` outside strings and comments": where the grammar has one, the search for a record's end finds it
 pub end-only : {xs r : List ℕ} → Ends xs r → recordEnd xs ≡ at (59 ∷ r)
 unfolding recordEnd
 end-only {xs} {r} h = runs-step 5 xs h ∙ seek-halts semicolon (missed 5 xs) Plain 0 (59 ∷ r) 59 r refl refl
 
--- refusal 4, "string open", at the string's quote
+-- refusal 4, "string open": on the way to a record's end, at the string's quote
 pub end-text-only : {xs o : List ℕ} → Runs xs o → OpenText o → recordEnd xs ≡ fault 4 o
 unfolding recordEnd
 end-text-only {xs} h q = runs-step 5 xs h ∙ text-fault semicolon 5 xs semicolon-passing 0 q
 
--- refusal 3, "comment open", at the comment's slash
+-- refusal 3, "comment open": on the way to a record's end, at the comment's slash
 pub end-remark-only : {xs o : List ℕ} → Runs xs o → OpenRemark o → recordEnd xs ≡ fault 3 o
 unfolding recordEnd
 end-remark-only {xs} h q = runs-step 5 xs h ∙ remark-fault semicolon 5 xs semicolon-passing 0 q
 
--- refusal 5, no `;`, at the record's start
+-- refusal 5, no `;` up to the file's end: at the record's start
 pub end-over-only : {xs : List ℕ} → Runs xs [] → recordEnd xs ≡ fault 5 xs
 unfolding recordEnd walk
 end-over-only {xs} h = runs-step 5 xs h
 
--- what becomes of a search for a record's end
+-- what becomes of a search for a record's end, by the tokens that the list is read as
 end-comes : {xs : List ℕ} → Reads xs → Outcome (Ends xs) (Runs xs)
 end-comes Reads.end = Outcome.over Runs.none
 end-comes (Reads.byte {c} {t} h k s) = go (ℕ-discrete c 59) (end-comes s)
@@ -203,7 +203,7 @@ end-comes (Reads.comment q s) = further (λ r. Runs.comment q) (λ o. Runs.comme
 end-comes {xs} (Reads.text q) = Outcome.text xs Runs.none q
 end-comes {xs} (Reads.remark q) = Outcome.remark xs Runs.none q
 
--- each way it comes out, with its answer
+-- each outcome of a search for a record's end, with its answer
 end-answers : (xs : List ℕ) → Answers (recordEnd xs) 59 5 xs (Ends xs) (Runs xs)
 end-answers xs = record {
   comes = end-comes (tokens xs);
@@ -213,11 +213,11 @@ end-answers xs = record {
   overs = end-over-only;
 }
 
--- "ends at the first `;` outside strings and comments": what is found is that
+-- "ends at the first `;` outside strings and comments": what the search for a record's end finds is that by the grammar
 pub end-is : (xs ys : List ℕ) → recordEnd xs ≡ at ys → (r : List ℕ) × (ys ≡ 59 ∷ r) × Ends xs r
 end-is xs = found-is (end-answers xs)
 
--- refusals 3, 4 and 5 of a record's end say what they say
+-- a refusal of a record's end is 4, 3 or 5, and the grammar has what each says
 pub end-open : (xs : List ℕ) (n : ℕ) (o : List ℕ) → recordEnd xs ≡ fault n o
     → ((n ≡ 4) × Runs xs o × OpenText o) ⊎ (((n ≡ 3) × Runs xs o × OpenRemark o) ⊎ ((n ≡ 5) × (o ≡ xs) × Runs xs []))
 end-open xs = fault-is (end-answers xs)
@@ -231,15 +231,15 @@ paren-passing : Passing paren
 paren-passing = record { quote = λ d. refl; slash = λ d. refl }
 
 module _ (n : ℕ) (w : List ℕ) where
-  -- a `(` opens one more
+  -- a `(` opens one parenthesis more for the search for a `)`
   deeper : (d : ℕ) (t : List ℕ) → plainly paren n w d (40 ∷ t) ≡ plainly paren n w (suc d) t
   deeper d t = byte-step paren n w d (suc d) 40 t (eqb-false 40 39 refl) (λ (r, e). eqb-false 40 47 refl (cc)) refl
 
-  -- a `)` closes the innermost
+  -- a `)` closes the innermost parenthesis for the search for a `)`
   shallower : (d : ℕ) (t : List ℕ) → plainly paren n w (suc d) (41 ∷ t) ≡ plainly paren n w d t
   shallower d t = byte-step paren n w (suc d) d 41 t (eqb-false 41 39 refl) (λ (r, e). eqb-false 41 47 refl (cc)) refl
 
-  -- balanced bytes leave the depth as it is
+  -- balanced bytes leave the depth of the search for a `)` as it is
   balanced-step : (d : ℕ) {xs ys : List ℕ} → Balanced xs ys → plainly paren n w d xs ≡ plainly paren n w d ys
   balanced-step d Balanced.none = refl
   balanced-step d (Balanced.byte {c} {xs} h k l m r) =
@@ -248,27 +248,27 @@ module _ (n : ℕ) (w : List ℕ) where
   balanced-step d (Balanced.comment q r) = comment-step paren n w paren-passing d q ∙ balanced-step d r
   balanced-step d (Balanced.group {xs} {zs} r s) = deeper d xs ∙ balanced-step (suc d) r ∙ shallower d zs ∙ balanced-step d s
 
-  -- bytes that leave parentheses open lead to some depth
+  -- bytes that leave parentheses open lead the search for a `)` to some depth
   deep-step : (d : ℕ) {k : ℕ} {xs ys : List ℕ} → Deep k xs ys → (e : ℕ) × (plainly paren n w d xs ≡ plainly paren n w e ys)
   deep-step d (Deep.flat r) = (d, balanced-step d r)
   deep-step d (Deep.nested {zs} r s) = let (e, p) = deep-step (suc d) s in (e, balanced-step d r ∙ deeper d zs ∙ p)
 
--- "The closing `)`": where it is, it is found
+-- "The closing `)`": where the grammar has it, the search finds it
 pub closing-only : (c : ℕ) {t r : List ℕ} → Closes t r → closing (c ∷ t) ≡ at (41 ∷ r)
 unfolding closing
 closing-only c {t} {r} h = balanced-step 6 (c ∷ t) 0 h ∙ seek-halts paren (missed 6 (c ∷ t)) Plain 0 (41 ∷ r) 41 r refl refl
 
--- refusal 4, "string open", at the string's quote
+-- refusal 4, "string open": on the way to the closing `)`, at the string's quote
 pub closing-text-only : (c : ℕ) {d : ℕ} {t o : List ℕ} → Deep d t o → OpenText o → closing (c ∷ t) ≡ fault 4 o
 unfolding closing
 closing-text-only c {t} h q = let (e, p) = deep-step 6 (c ∷ t) 0 h in p ∙ text-fault paren 6 (c ∷ t) paren-passing e q
 
--- refusal 3, "comment open", at the comment's slash
+-- refusal 3, "comment open": on the way to the closing `)`, at the comment's slash
 pub closing-remark-only : (c : ℕ) {d : ℕ} {t o : List ℕ} → Deep d t o → OpenRemark o → closing (c ∷ t) ≡ fault 3 o
 unfolding closing
 closing-remark-only c {t} h q = let (e, p) = deep-step 6 (c ∷ t) 0 h in p ∙ remark-fault paren 6 (c ∷ t) paren-passing e q
 
--- refusal 6, no closing `)`, at the `(`
+-- refusal 6, no closing `)` up to the file's end: at the `(`
 pub closing-over-only : (c : ℕ) {d : ℕ} {t : List ℕ} → Deep d t [] → closing (c ∷ t) ≡ fault 6 (c ∷ t)
 unfolding closing walk
 closing-over-only c {t} h = let (e, p) = deep-step 6 (c ∷ t) 0 h in p
@@ -278,30 +278,30 @@ data Sunk : ℕ → ℕ → List ℕ → List ℕ → Type 0 where
   stay : {d k : ℕ} {xs ys : List ℕ} (i : ℕ) → k ≡ i + d → Deep i xs ys → Sunk d k xs ys
   rise : {d k : ℕ} {xs zs ys : List ℕ} → Balanced xs (41 ∷ zs) → Sunk d k zs ys → Sunk (suc d) k xs ys
 
--- nothing read
+-- where nothing is read, the depth is as it was
 sunk-none : (d : ℕ) (xs : List ℕ) → Sunk d d xs xs
 sunk-none d xs = Sunk.stay {d = d} {k = d} 0 (omega arith) (Deep.flat Balanced.none)
 
--- balanced bytes may go before
+-- balanced bytes may go before bytes that leave parentheses open
 deep-before : {i : ℕ} {xs ts ys : List ℕ} → ((zs : List ℕ) → Balanced ts zs → Balanced xs zs) → Deep i ts ys → Deep i xs ys
 deep-before {ys} g (Deep.flat r) = Deep.flat (g ys r)
 deep-before g (Deep.nested {zs} r s) = Deep.nested (g (40 ∷ zs) r) s
 
--- the same at every depth
+-- balanced bytes may go before bytes that close some of the open parentheses and open others
 sunk-before : {d k : ℕ} {xs ts ys : List ℕ} → ((zs : List ℕ) → Balanced ts zs → Balanced xs zs) → Sunk d k ts ys → Sunk d k xs ys
 sunk-before g (Sunk.stay i e s) = Sunk.stay i e (deep-before g s)
 sunk-before g (Sunk.rise {zs} r s) = Sunk.rise (g (41 ∷ zs) r) s
 
--- and a `(`
+-- a `(` before bytes that begin one deeper
 sunk-open : {d k : ℕ} {t ys : List ℕ} → Sunk (suc d) k t ys → Sunk d k (40 ∷ t) ys
 sunk-open {d} {k} (Sunk.stay i e s) = Sunk.stay {d = d} {k = k} (suc i) (omega arith) (Deep.nested Balanced.none s)
 sunk-open (Sunk.rise r s) = sunk-before (λ zs. Balanced.group r) s
 
--- from the outermost depth
+-- bytes that begin with no parenthesis open leave k open
 sunk-deep : {k : ℕ} {xs ys : List ℕ} → Sunk 0 k xs ys → Deep k xs ys
 sunk-deep {k} (Sunk.stay i e s) = let g : k ≡ i = omega arith in rw g s
 
--- with none left open
+-- bytes that leave no parenthesis open up to a `)` close there
 deep-closes : {xs r : List ℕ} → Deep 0 xs (41 ∷ r) → Closes xs r
 deep-closes (Deep.flat r) = r
 
@@ -309,16 +309,16 @@ deep-closes (Deep.flat r) = r
 abbrev Comes : ℕ → List ℕ → Type 0
 Comes d xs = Outcome (λ r. Sunk d 0 xs (41 ∷ r)) (λ o. (k : ℕ) × Sunk d k xs o)
 
--- from further on, at another depth
+-- what becomes of a search for a `)` from further on, at another depth, becomes of it from here
 sunken : (d e : ℕ) (xs ts : List ℕ) → ((k : ℕ) (ys : List ℕ) → Sunk e k ts ys → Sunk d k xs ys) → Comes e ts → Comes d xs
 sunken d e xs ts g u = further (λ r. g 0 (41 ∷ r)) (λ o s. (s .0, g (s .0) o (s .1))) u
 
--- where a `)` stands
+-- what becomes of a search for a `)` where a `)` stands
 closed-comes : (d : ℕ) (t : List ℕ) → ((e : ℕ) → Comes e t) → Comes d (41 ∷ t)
 closed-comes zero t u = Outcome.found t (sunk-none 0 (41 ∷ t))
 closed-comes (suc d) t u = sunken (suc d) d (41 ∷ t) t (λ k ys. Sunk.rise Balanced.none) (u d)
 
--- what becomes of it, by the tokens
+-- what becomes of a search for a `)`, by the tokens that the list is read as
 closing-comes : {xs : List ℕ} → Reads xs → (d : ℕ) → Comes d xs
 closing-comes Reads.end d = Outcome.over (d, sunk-none d [])
 closing-comes (Reads.byte {c} {t} h v s) d = go (ℕ-discrete c 40) (ℕ-discrete c 41) (closing-comes s)
@@ -332,11 +332,11 @@ closing-comes {xs} (Reads.comment {zs} q s) d = sunken d d xs zs (λ k ys. sunk-
 closing-comes {xs} (Reads.text q) d = Outcome.text xs (d, sunk-none d xs) q
 closing-comes {xs} (Reads.remark q) d = Outcome.remark xs (d, sunk-none d xs) q
 
--- from a `(`
+-- what becomes of a search for the `)` that closes a `(`, which t follows
 closes-comes : (t : List ℕ) → Outcome (Closes t) (λ o. (d : ℕ) × Deep d t o)
 closes-comes t = further (λ r s. deep-closes (sunk-deep s)) (λ o s. (s .0, sunk-deep (s .1))) (closing-comes (tokens t) 0)
 
--- each way it comes out, with its answer
+-- each outcome of a search for a closing `)`, with its answer
 closing-answers : (c : ℕ) (t : List ℕ) → Answers (closing (c ∷ t)) 41 6 (c ∷ t) (Closes t) (λ o. (d : ℕ) × Deep d t o)
 closing-answers c t = record {
   comes = closes-comes t;
@@ -346,11 +346,11 @@ closing-answers c t = record {
   overs = λ (d, h). closing-over-only c h;
 }
 
--- "The closing `)`": what is found is that
+-- "The closing `)`": what the search finds is that by the grammar
 pub closing-is : (c : ℕ) (t ys : List ℕ) → closing (c ∷ t) ≡ at ys → (r : List ℕ) × (ys ≡ 41 ∷ r) × Closes t r
 closing-is c t = found-is (closing-answers c t)
 
--- refusals 3, 4 and 6 of a closing `)` say what they say
+-- a refusal of a closing `)` is 4, 3 or 6, and the grammar has what each says
 pub closing-open : (c : ℕ) (t : List ℕ) (n : ℕ) (o : List ℕ) → closing (c ∷ t) ≡ fault n o
     → ((n ≡ 4) × ((d : ℕ) × Deep d t o) × OpenText o)
     ⊎ (((n ≡ 3) × ((d : ℕ) × Deep d t o) × OpenRemark o) ⊎ ((n ≡ 6) × (o ≡ c ∷ t) × ((d : ℕ) × Deep d t [])))

@@ -23,7 +23,7 @@ pub record Seen : Type 0 where
   pub depth : ℕ
   pub opened : List ℕ
 
--- such a state by its parts
+-- a search's state from its mode, its open parentheses, and the rest from the last byte outside strings and comments
 abbrev pub seen : Mode → ℕ → List ℕ → Seen
 seen m d o = record { mode = m; depth = d; opened = o }
 
@@ -32,7 +32,7 @@ pub data Look : Type 0 where
   halt : Look
   look : ℕ → Look
 
--- "ends at the first `;`"
+-- "ends at the first `;`": where a search for a record's end halts
 abbrev pub semicolon : ℕ → ℕ → Look
 semicolon d c = pick (eqb c 59) halt (look d)
 
@@ -41,11 +41,11 @@ abbrev pub under : ℕ → Look
 under zero = halt
 under (suc d) = look d
 
--- "The closing `)`"
+-- "The closing `)`": where a search for it halts, and how many parentheses are open after a byte
 abbrev pub paren : ℕ → ℕ → Look
 paren d c = pick (eqb c 40) (look (suc d)) (pick (eqb c 41) (under d) (look d))
 
--- "outside strings and comments": only such a byte is looked at
+-- "outside strings and comments": only such a byte is looked at, and the search halts there or goes on
 abbrev pub looked : Look → Mode → List ℕ → Turn Seen Sought
 looked halt m here = stop (at here)
 looked (look d) m here = on (seen m d here)
@@ -66,7 +66,7 @@ unclosed Quoted n whole o = fault n whole
 unclosed Remark n whole o = fault 3 o
 unclosed Starred n whole o = fault 3 o
 
--- the same of a state
+-- the refusal of a search whose bytes have ended, by its state
 abbrev pub missed : ℕ → List ℕ → Seen → Sought
 missed n whole s = unclosed (s .mode) n whole (s .opened)
 
@@ -92,7 +92,7 @@ lead Starred o c r = stop (at o)
 abbrev pub triviaTurn : Seen → ℕ → List ℕ → Turn Seen Sought
 triviaTurn s c r = pick (calm (s .mode) c) (lead (s .mode) (s .opened) c r) (on (seen (next (s .mode) c) 0 (s .opened)))
 
--- the file ended in the trivia
+-- the file ended on the way past trivia: nothing is left, a slash is, or a comment is open
 abbrev pub trailed : Mode → List ℕ → Sought
 trailed Plain o = at []
 trailed Slash o = at o
@@ -101,7 +101,7 @@ trailed Quoted o = at []
 trailed Remark o = fault 3 o
 trailed Starred o = fault 3 o
 
--- the same of a state
+-- the answer of a search past trivia whose bytes have ended, by its state
 abbrev pub triviaEnd : Seen → Sought
 triviaEnd s = trailed (s .mode) (s .opened)
 
@@ -109,7 +109,7 @@ triviaEnd s = trailed (s .mode) (s .opened)
 unfoldable pub trivia : List ℕ → Sought
 trivia xs = walk triviaTurn triviaEnd (seen Plain 0 xs) xs
 
--- `paren` of the code: what its answer says
+-- what the answer of the code's `paren` says
 abbrev pub lookOf : Level → Look
 lookOf Closed = halt
 lookOf (Open d) = look d

@@ -29,6 +29,7 @@ drop-within xs i = go (decLe i (length xs))
 
 -- A search halts at the byte at i.
 module _ (f : ℕ → ℕ → Look) (z : Seen → Sought) (xs : List ℕ) (i : ℕ) (h : i < length xs) (m : Mode) (d since : ℕ) (a : Sought) where
+  -- a search that halts at the byte at i answers the rest from i on
   pub seek-halts : calm m (getD xs i 0) ≡ true → f d (getD xs i 0) ≡ halt → walk (seekTurn f) z (seen m d (drop since xs)) (drop i xs) ≡ a → at (drop i xs) ≡ a
   seek-halts e g inv =
       sym
@@ -36,7 +37,7 @@ module _ (f : ℕ → ℕ → Look) (z : Seen → Sought) (xs : List ℕ) (i : �
       (rw (e, g) (ap (λ (l : List ℕ). stop (at l)) (sym (split xs i h)))))
       ∙ inv
 
--- a byte opens one parenthesis at most
+-- a byte of a search for a `)` opens one parenthesis at most
 pub paren-up : (d c d′ : ℕ) → paren d c ≡ look d′ → d′ ≤ d + 1
 paren-up d c d′ e = go (eqb c 40) (eqb c 41) d e
   where
@@ -46,7 +47,7 @@ paren-up d c d′ e = go (eqb c 40) (eqb c 41) d e
     go false true (suc d) e = let q : d ≡ d′ = cc in omega arith
     go false false d e = let q : d ≡ d′ = cc in omega arith
 
--- one open parenthesis less
+-- a `)` leaves one open parenthesis less, where one is open
 pub under-less : (d : ℕ) → (d ≡ 0 → ⊥) → look (d - 1) ≡ under d
 under-less zero h = absurd (h refl)
 under-less (suc d) h = let e : suc d - 1 ≡ d = omega arith in ap look e

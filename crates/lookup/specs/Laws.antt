@@ -22,22 +22,22 @@ use Rattle.lookup.specs.First.{firstFrom}
 use Rattle.lookup.specs.Lookup.{FirstForm, rowFound}
 
 module _ (p : ℕ → Bool) where
-  -- the test holds of row i
+  -- where the test holds of row i, the search from there answers it
   pub first-stops : (n i : ℕ) → i < n → p i ≡ true → firstFrom p (n - i) i ≡ some i
   unfolding firstFrom
   first-stops n i h e = let q : n - i ≡ suc (n - (i + 1)) = omega arith in ap (λ (z : ℕ). firstFrom p z i) q ∙ rw e refl
 
-  -- it does not
+  -- where the test does not hold of row i, the search goes on from the next row
   pub first-goes : (n i : ℕ) → i < n → p i ≡ false → firstFrom p (n - i) i ≡ firstFrom p (n - (i + 1)) (i + 1)
   unfolding firstFrom
   first-goes n i h e = let q : n - i ≡ suc (n - (i + 1)) = omega arith in ap (λ (z : ℕ). firstFrom p z i) q ∙ (rw e refl) ∙ ap (firstFrom p (n - (i + 1))) (sym (add-one i))
 
-  -- no row is left
+  -- where no row is left, the search answers none
   pub first-ends : (n i : ℕ) → n ≤ i → firstFrom p (n - i) i ≡ none
   unfolding firstFrom
   first-ends n i h = let q : n - i ≡ 0 = omega arith in ap (λ (z : ℕ). firstFrom p z i) q
 
-  -- a row more in front, of which the test does not hold
+  -- the first row of which a test holds is so too with a row in front of which it does not hold
   form-more : (i z : ℕ) (o : Option ℕ) → p i ≡ false → FirstForm p (suc i) z o → FirstForm p i z o
   form-more i z none e h = λ j a b. go j b (ordered i j) a
     where
@@ -54,7 +54,7 @@ module _ (p : ℕ → Bool) where
       go j b (inr (inl l)) a = subst (λ (x : ℕ). p x ≡ false) l e
       go j b (inr (inr l)) a = absurd (omega arith)
 
-  -- the first row of which a test holds, among the next n from row i on
+  -- what `firstFrom` answers is the first row of which a test holds, among the next n from row i on
   first-is : (n i : ℕ) → FirstForm p i (i + n) (firstFrom p n i)
   unfolding firstFrom
   first-is zero i = λ j a b. absurd (omega arith)
@@ -64,7 +64,7 @@ module _ (p : ℕ → Bool) where
       go true e f = (omega arith, omega arith, e, λ j a b. absurd (omega arith))
       go false e f = subst (λ (z : ℕ). FirstForm p i z (firstFrom p n (suc i))) (omega arith) (form-more i (suc i + n) (firstFrom p n (suc i)) e f)
 
-  -- there is only one answer of this form
+  -- there is only one first row of which a test holds, or none
   pub first-one : (i z : ℕ) (a b : Option ℕ) → FirstForm p i z a → FirstForm p i z b → a ≡ b
   first-one i z none none f g = refl
   first-one i z none (some k) f g = clash (let q : false ≡ true = sym (f k (g .0) (g .1)) ∙ g .2 in cc)

@@ -50,7 +50,7 @@ pub record Span : Type 0 where
   pub start : ℕ
   pub end : ℕ
 
--- such a part by its places
+-- a part of the file from its start and its end
 abbrev pub span : ℕ → ℕ → Span
 span a z = record { start = a; end = z }
 
@@ -80,7 +80,7 @@ abbrev pub kindFound : List ℕ → Option Row → Kind
 kindFound s none = Other
 kindFound s (some w) = kindIn s w
 
--- row k is of a kind
+-- row i is of the kind k
 abbrev pub isKind : List ℕ → List ℕ → Kind → ℕ → Bool
 isKind s rows k i = eqb (rankOf (kindIn s (rowNumbers rows i))) (rankOf k)
 
@@ -90,22 +90,22 @@ FirstForm p i z none = (j : ℕ) → i ≤ j → j < z → p j ≡ false
 FirstForm p i z (some k) = (i ≤ k) × (k < z) × (p k ≡ true) × ((j : ℕ) → i ≤ j → j < k → p j ≡ false)
 
 -- ---- what the code's answers say
--- a row or none
+-- what the code's answer says of a row: the row or none
 abbrev pub toldEntry : Entry → Option Row
 toldEntry (entry.Row w) = some (rowOf w)
 toldEntry entry.Nothing = none
 
--- a row or 14
+-- what the code's answer says of a row that is required: the row or 14
 abbrev pub toldRequired : Required → Told Row
 toldRequired (need.Row w) = good (rowOf w)
 toldRequired (need.Refused f) = bad (told f)
 
--- a part of the file, or 9 or 14
+-- what the code's answer says of a part of the file: the part, or 9 or 14
 abbrev pub toldSpan : Spanned → Told Span
 toldSpan (spanned.Span r) = good (span (r .start) (r .end))
 toldSpan (spanned.Refused f) = bad (told f)
 
--- a row's number or none
+-- what the code's answer says of a row's number: the number or none
 abbrev pub toldPlace : Place → Option ℕ
 toldPlace (place.At i) = some i
 toldPlace place.Nothing = none

@@ -21,27 +21,27 @@ use Rattle.lookup.specs.declared.Place.the-variants as place
 unfoldable pub rowBack : Row → RecordSpan
 rowBack w = record { id = w .id; keyword = record { start = w .keyStart; end = w .keyEnd }; args = record { start = w .argStart; end = w .argEnd }; complex = w .complex }
 
--- the answers that tell this
+-- the code's answer that tells this row or none
 entryOf : Option Row → Entry
 entryOf none = entry.Nothing
 entryOf (some w) = entry.Row (rowBack w)
 
--- a row or 14
+-- the code's answer that tells this row or 14
 requiredOf : Told Row → Required
 requiredOf (good w) = need.Row (rowBack w)
 requiredOf (bad q) = need.Refused (faultOf q)
 
--- a part of the file, or 9 or 14
+-- the code's answer that tells this part of the file, or 9 or 14
 spannedOf : Told Span → Spanned
 spannedOf (good r) = spanned.Span (record { start = r .start; end = r .end })
 spannedOf (bad q) = spanned.Refused (faultOf q)
 
--- a row's number or none
+-- the code's answer that tells this row's number or none
 placeOf : Option ℕ → Place
 placeOf none = place.Nothing
 placeOf (some i) = place.At i
 
--- each is the answer that told it
+-- what an answer about a row tells gives back that answer
 entry-back : (a : Entry) → entryOf (toldEntry a) ≡ a
 unfolding entryOf rowBack
 entry-back (entry.Row w) = refl
@@ -62,18 +62,18 @@ unfolding placeOf
 place-back (place.At i) = refl
 place-back place.Nothing = refl
 
--- `entity`, `get`
+-- `entity` and `get` have one answer: two that tell the same are one
 pub entry-only : (a b : Entry) → toldEntry a ≡ toldEntry b → a ≡ b
 entry-only a b e = sym (entry-back a) ∙ ap entryOf e ∙ entry-back b
 
--- `require`
+-- `require` has one answer: two that tell the same are one
 pub required-only : (a b : Required) → toldRequired a ≡ toldRequired b → a ≡ b
 required-only a b e = sym (required-back a) ∙ ap requiredOf e ∙ required-back b
 
--- `keyword`, `args_of`, `args`
+-- `keyword`, `args_of` and `args` have one answer: two that tell the same are one
 pub spanned-only : (a b : Spanned) → toldSpan a ≡ toldSpan b → a ≡ b
 spanned-only a b e = sym (spanned-back a) ∙ ap spannedOf e ∙ spanned-back b
 
--- `by_kind`
+-- `by_kind` has one answer: two that tell the same are one
 pub place-only : (a b : Place) → toldPlace a ≡ toldPlace b → a ≡ b
 place-only a b e = sym (place-back a) ∙ ap placeOf e ∙ place-back b

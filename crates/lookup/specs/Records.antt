@@ -25,30 +25,30 @@ abbrev pub orElse : {A : Type 0} → Option A → Option A → Option A
 orElse (some a) o = some a
 orElse none o = o
 
--- the same computed: that of the later records, or else this one
+-- the last record of an id, computed: that of the later records, or else this one
 unfoldable pub lastOf : ℕ → List Row → Option Row
 lastOf k [] = none
 lastOf k (w ∷ rs) = orElse (lastOf k rs) (pick (eqb (w .id) k) (some w) none)
 
--- there is none among no records
+-- among no records, none has the id
 none-nil : (k : ℕ) → NoneOf k []
 none-nil k [] back w e n = clash cc
 none-nil k (v ∷ front) back w e n = clash cc
 
--- nor among one more that does not have the id
+-- where no record has the id, none has it with one more in front that does not
 none-more : (k : ℕ) (v : Row) (rs : List Row) → (v .id ≡ k → ⊥) → NoneOf k rs → NoneOf k (v ∷ rs)
 none-more k v rs d h [] back w e n = d (let q : v ≡ w = cc in ap (λ (x : Row). x .id) q ∙ n)
 none-more k v rs d h (u ∷ front) back w e n = h front back w (cc) n
 
--- nor among those after the first
+-- where no record has the id, none of those after the first has it
 none-less : (k : ℕ) (v : Row) (rs : List Row) → NoneOf k (v ∷ rs) → NoneOf k rs
 none-less k v rs h front back w e n = h (v ∷ front) back w (ap (λ (x : List Row). v ∷ x) e) n
 
--- a record in front of those with the last of an id
+-- the last record of an id is so too with a record in front
 last-more : (k : ℕ) (v : Row) (rs : List Row) (w : Row) → IsLastOf k rs w → IsLastOf k (v ∷ rs) w
 last-more k v rs w h = record { front = v ∷ h .front; back = h .back; cut = ap (λ (x : List Row). v ∷ x) (h .cut); named = h .named; after = h .after }
 
--- what is computed is the last record of that id, or there is none
+-- the last record of an id that is computed is that by the rules, or there is none
 pub last-is : (k : ℕ) (rs : List Row) → LastForm k rs (lastOf k rs)
 unfolding lastOf
 last-is k [] = none-nil k
@@ -59,7 +59,7 @@ last-is k (v ∷ rs) = go (lastOf k rs) (last-is k rs) (eqb (v .id) k) refl
     go none h true e = record { front = []; back = rs; cut = refl; named = eqb-true (v .id) k e; after = h }
     go none h false e = none-more k v rs (eqb-false (v .id) k e) h
 
--- an answer of this form is what is computed
+-- the last record of an id by the rules, or none, is what is computed
 pub last-only : (k : ℕ) (rs : List Row) (o : Option Row) → LastForm k rs o → lastOf k rs ≡ o
 unfolding lastOf
 last-only k [] none h = refl

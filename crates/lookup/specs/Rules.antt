@@ -20,7 +20,7 @@ pub record IsLastOf (k : ℕ) (rs : List Row) (w : Row) : Type 0 where
   pub named : w .id ≡ k
   pub after : NoneOf k back
 
--- "the last record of that id, or none"
+-- "the last record of that id, or none": the answer of a lookup among records in file order
 abbrev pub LastForm : ℕ → List Row → Option Row → Type 0
 LastForm k rs none = NoneOf k rs
 LastForm k rs (some w) = IsLastOf k rs w

@@ -13,13 +13,13 @@ use Rattle.scan.specs.Rooms.{scan-roomy, scan-fit}
 use Rattle.needs.specs.Needs.{needsIn, needsOf}
 use Rattle.needs.specs.declared.Needs.{Needs}
 
--- the table behind an answer
+-- the table behind what a file is said to need
 pub record Behind (s : List ℕ) (c : Needs) : Type 0 where
   pub table : Table
   pub scanned : scanOf s (length s) (length s) ≡ good table
   pub counted : needsIn s table ≡ c
 
--- there is one
+-- where a file is said to need something, there is a table behind that
 pub behind : (s : List ℕ) (c : Needs) → needsOf s ≡ good c → Behind s c
 unfolding needsOf
 behind s c e = go (scanOf s (length s) (length s)) refl
@@ -36,7 +36,7 @@ needs-enough s c e H R h r =
     let l : length (b .table .records) ≤ R = subst (λ (n : ℕ). n ≤ R) (sym (ap (λ (x : Needs). x .records) (b .counted))) r in
     ap (mapped (needsIn s)) (scan-roomy s (length s) (length s) (b .table) (b .scanned) H R k l) ∙ ap good (b .counted)
 
--- and with fewer it does not: where the scan answers at all, so many rows of each kind were lent
+-- with fewer rows than a file is said to need the scan does not answer: where it does, so many rows of each kind were lent
 pub needs-least : (s : List ℕ) (c : Needs) → needsOf s ≡ good c → (H R : ℕ) (t : Table) → scanOf s H R ≡ good t → (c .headers ≤ H) × (c .records ≤ R)
 needs-least s c e H R t p =
     let b = behind s c e in

@@ -26,7 +26,7 @@ use Rattle.lengths.specs.Laws.{same-sizes, both-nothing, nothing-both}
 use Rattle.needs.specs.declared.Needs.{Needs}
 use Rattle.needs.specs.Needs.{mostOf, headSizes, rowSizes, needs, needsIn, needsOf}
 
--- needs before those of the table that the rest of the file has
+-- the needs so far, with those of the table that the rest of the file has
 abbrev pub plus : List ℕ → ℕ → ℕ → ℕ → Sizes → Table → Needs
 plus s h r m z t = needs (h + length (t .headers)) (r + length (t .records)) (max m (largest (t .records))) (both z (both (headSizes s (t .headers)) (rowSizes s (t .records))))
 
@@ -46,7 +46,7 @@ pub record Counting (s : List ℕ) (i : ℕ) (sec : Section) (h r m : ℕ) (z : 
   pub hroom : h ≤ i
   pub rroom : r ≤ i
 
--- 0 is the least
+-- the greater of 0 and k is k
 max-none : (k : ℕ) → max 0 k ≡ k
 max-none k = omega arith
 
@@ -54,26 +54,26 @@ max-none k = omega arith
 same-needs : {h r m h′ r′ m′ : ℕ} {z z′ : Sizes} → h ≡ h′ → r ≡ r′ → m ≡ m′ → z ≡ z′ → needs h r m z ≡ needs h′ r′ m′ z′
 same-needs a b c d = λ i. record { headers = a i; records = b i; max = c i; items = d i .items; text = d i .text; rows = d i .rows }
 
--- the greatest of a header record's and of what follows
+-- a header record's sizes taken first from what is left count as those taken to what is so far
 first-most : (z i a b : Sizes) → both z (both (both i a) b) ≡ both (both z i) (both a b)
 first-most z i a b = same-sizes (one (z .text) (i .text) (a .text) (b .text)) (one (z .items) (i .items) (a .items) (b .items)) (one (z .rows) (i .rows) (a .rows) (b .rows))
   where
     one : (j k l n : ℕ) → max j (max (max k l) n) ≡ max (max j k) (max l n)
     one j k l n = omega arith
 
--- and of a data record's
+-- a data record's sizes taken first from what is left count as those taken to what is so far
 later-most : (z i a b : Sizes) → both z (both a (both i b)) ≡ both (both z i) (both a b)
 later-most z i a b = same-sizes (one (z .text) (i .text) (a .text) (b .text)) (one (z .items) (i .items) (a .items) (b .items)) (one (z .rows) (i .rows) (a .rows) (b .rows))
   where
     one : (j k l n : ℕ) → max j (max l (max k n)) ≡ max (max j k) (max l n)
     one j k l n = omega arith
 
--- nothing before
+-- with nothing counted so far, the needs are those of the table
 plus-none : (s : List ℕ) (y : Told Table) → mapped (plus s 0 0 0 nothing) y ≡ mapped (needsIn s) y
 plus-none s (good t) = ap good (same-needs (omega arith) (omega arith) (max-none (largest (t .records))) (nothing-both (both (headSizes s (t .headers)) (rowSizes s (t .records)))))
 plus-none s (bad q) = refl
 
--- one header row more
+-- with one header row more in the table that is left, the needs are those with its row and sizes counted so far
 plus-header : (s : List ℕ) (h r m : ℕ) (z : Sizes) (w : HeaderRow) (y : Told Table)
     → mapped (plus s h r m z) (mapped (withHeader w) y) ≡ mapped (plus s (h + 1) r m (both z (recordOf s (w .argStart) (w .argEnd) 0))) y
 unfolding mostOf
@@ -81,7 +81,7 @@ plus-header s h r m z w (good t) =
     ap good (same-needs (omega arith) refl refl (first-most z (recordOf s (w .argStart) (w .argEnd) 0) (headSizes s (t .headers)) (rowSizes s (t .records))))
 plus-header s h r m z w (bad q) = refl
 
--- one data row more
+-- with one data row more in the table that is left, the needs are those with its row, id and sizes counted so far
 plus-record : (s : List ℕ) (h r m : ℕ) (z : Sizes) (w : Row) (y : Told Table)
     → mapped (plus s h r m z) (mapped (withRecord w) y) ≡ mapped (plus s h (r + 1) (max m (w .id)) (both z (recordOf s (w .argStart) (w .argEnd) (w .complex)))) y
 unfolding largest mostOf
@@ -92,7 +92,7 @@ plus-record s h r m z w (good t) =
     biggest i a = omega arith
 plus-record s h r m z w (bad q) = refl
 
--- where the loop begins
+-- the counting as the loop keeps it holds where the loop begins
 pub counting-starts : (s : List ℕ) → Counting s 0 Outside 0 0 0 nothing
 counting-starts s = record {
   fuel = length s + 1;
@@ -104,21 +104,21 @@ counting-starts s = record {
 }
 
 module _ (s : List ℕ) (i : ℕ) (sec : Section) (h r m : ℕ) (z : Sizes) (g : Counting s i sec h r m z) where
-  -- the whole counting, by the next statement
+  -- the whole counting is what is counted so far and what the next statement makes of the rest
   turn : (y : Stmt) → y ≡ statement s sec (drop i s)
       → mapped (plus s h r m z) (taken s (length s) (length s) h r y (λ sec h r t. readFrom (g .fuel - 1) s (length s) (length s) sec h r t)) ≡ mapped (needsIn s) (readingOf s (length s) (length s))
   turn y e = rw (e, ← unrolled (g .fuel) s (length s) (length s) sec h r (drop i s) (omega (arith, g .enough))) (g .same)
 
-  -- the file ends
+  -- where the next statement ends the reading, what is counted so far is what the file needs
   pub counting-ends : ends ≡ statement s sec (drop i s) → good (needs h r m z) ≡ mapped (needsIn s) (readingOf s (length s) (length s))
   unfolding largest mostOf
   counting-ends e = ap good (same-needs (omega arith) (omega arith) (omega arith) (sym (both-nothing z))) ∙ turn ends e
 
-  -- a refusal
+  -- where the next statement is refused, so is the whole counting
   pub counting-refused : (q : Refusal) → refused q ≡ statement s sec (drop i s) → bad q ≡ mapped (needsIn s) (readingOf s (length s) (length s))
   counting-refused q e = turn (refused q) e
 
-  -- a section word, or a record that is ignored
+  -- after a section word, or a record that is ignored, the counting goes on with the same numbers
   pub counting-moves : (to : Section) (j : ℕ) → moved to (drop j s) ≡ statement s sec (drop i s) → i < j → j ≤ length s → Counting s j to h r m z
   counting-moves to j e p q = record {
     fuel = g .fuel - 1;
@@ -129,7 +129,7 @@ module _ (s : List ℕ) (i : ℕ) (sec : Section) (h r m : ℕ) (z : Sizes) (g :
     rroom = omega (arith, g .rroom);
   }
 
-  -- a header record: there are never more rows than bytes
+  -- after a header record the counting goes on with its row and sizes: there are never more rows than bytes
   pub counting-header : (w : HeaderRow) (p j : ℕ) → header w (drop p s) (drop j s) ≡ statement s sec (drop i s) → i < j → j ≤ length s → Counting s j InHeader (h + 1) r m (both z (recordOf s (w .argStart) (w .argEnd) 0))
   counting-header w p j e a b = record {
     fuel = g .fuel - 1;
@@ -140,7 +140,7 @@ module _ (s : List ℕ) (i : ℕ) (sec : Section) (h r m : ℕ) (z : Sizes) (g :
     rroom = omega (arith, g .rroom);
   }
 
-  -- a data record
+  -- after a data record the counting goes on with its row, id and sizes
   pub counting-record : (w : Row) (p j : ℕ) → record′ w (drop p s) (drop j s) ≡ statement s sec (drop i s) → i < j → j ≤ length s → Counting s j InData h (r + 1) (max m (w .id)) (both z (recordOf s (w .argStart) (w .argEnd) (w .complex)))
   counting-record w p j e a b = record {
     fuel = g .fuel - 1;
@@ -151,7 +151,7 @@ module _ (s : List ℕ) (i : ℕ) (sec : Section) (h r m : ℕ) (z : Sizes) (g :
     rroom = omega (arith, g .rroom);
   }
 
--- a refusal's number
+-- refusals that are told as the same have the same number
 pub refused-number : {A : Type 0} {p : Refusal} (q : Refusal) → _≡_ {A = Told A} (bad p) (bad q) → p .number ≡ q .number
 refused-number {A} {p} q e = let w : p ≡ q = cc in ap (λ (z : Refusal). z .number) w
 
@@ -171,7 +171,7 @@ needs-refused s q e n = go (scanOf s 0 0) refl
         let v : f ≡ q = cc in
         subst (λ (z : Refusal). bad z ≡ mapped (needsIn s) (scanOf s (length s) (length s))) v (ap (mapped (needsIn s)) (sym (refusal-roomy s 0 0 f p (λ k. n (ap (λ (z : Refusal). z .number) (sym v) ∙ k)) (length s) (length s) (omega arith) (omega arith))))
 
--- else the file is read
+-- where the scan refuses nothing but 8 with nothing lent, what the file needs is what reading it gives
 pub needs-read : (s : List ℕ) → ((q : Refusal) → bad q ≡ mapped countsOf (scanOf s 0 0) → q .number ≡ 8) → mapped (needsIn s) (readingOf s (length s) (length s)) ≡ needsOf s
 unfolding needsOf scanOf
 needs-read s n = go (ltb 4294967295 (length s)) (marked s) refl refl

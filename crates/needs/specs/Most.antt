@@ -16,29 +16,29 @@ use Rattle.needs.specs.Needs.{mostOf, headSizes, rowSizes, needsIn, In, 
 module _ (π : Sizes → ℕ) (f : List ℕ → ℕ) (least : π nothing ≡ 0) (join : (a b : Sizes) → π (both a b) ≡ max (π a) (π b)) where
   -- rows of any kind, each of whose own parameters has at most what g tells, and one just so much
   module _ {R : Type 0} (g : R → Sizes) (P : R → List ℕ → Type 0) (each : (w : R) → Greatest (P w) f (π (g w))) where
-    -- a parameter of one of them
+    -- a parameter of one of some rows
     abbrev Of : List R → List ℕ → Type 0
     Of ws t = (w : R) × In w ws × P w t
 
-    -- none has more than is told of all
+    -- no row has more than is told of all rows
     rows-all : (vs : List R) (w : R) (ws : List R) → π (g w) ≤ π (mostOf g (vs ++ (w ∷ ws)))
     unfolding mostOf
     rows-all [] w ws = omega (arith, join (g w) (mostOf g ws))
     rows-all (v ∷ vs) w ws = omega (arith, join (g v) (mostOf g (vs ++ (w ∷ ws))), rows-all vs w ws)
 
-    -- a parameter has no more
+    -- a parameter of one of some rows has no more than is told of all
     of-all : (ws : List R) (t : List ℕ) → Of ws t → f t ≤ π (mostOf g ws)
     of-all ws t (w, i, d) = let k = subst (λ (l : List R). π (g w) ≤ π (mostOf g l)) (sym (i .shape)) (rows-all (i .before) w (i .behind)) in omega (arith, k, each w .all t d)
 
-    -- of the first
+    -- a parameter of the first row is one of some rows'
     of-first : (w : R) (ws : List R) (t : List ℕ) → P w t → Of (w ∷ ws) t
     of-first w ws t d = (w, record { before = []; behind = ws; shape = refl }, d)
 
-    -- of a later one
+    -- a parameter of a later row is one of some rows'
     of-later : (w : R) (ws : List R) (t : List ℕ) → Of ws t → Of (w ∷ ws) t
     of-later w ws t (v, i, d) = (v, record { before = w ∷ i .before; behind = i .behind; shape = ap (λ (l : List R). w ∷ l) (i .shape) }, d)
 
-    -- one has just so much
+    -- a parameter of one of some rows has just as much as is told of all
     of-one : (ws : List R) → Found f (Of ws) (π (mostOf g ws))
     unfolding mostOf
     of-one [] = inl least
@@ -51,7 +51,7 @@ module _ (π : Sizes → ℕ) (f : List ℕ → ℕ) (least : π nothing ≡ 0) 
     abbrev headOf : HeaderRow → Sizes
     headOf w = recordOf s (w .argStart) (w .argEnd) 0
 
-    -- its parameters
+    -- the parameters of a header record
     abbrev HeadArg : HeaderRow → List ℕ → Type 0
     HeadArg w t = Arg s (w .argStart) (w .argEnd) 0 t
 
@@ -59,28 +59,28 @@ module _ (π : Sizes → ℕ) (f : List ℕ → ℕ) (least : π nothing ≡ 0) 
     abbrev rowOf : Row → Sizes
     rowOf w = recordOf s (w .argStart) (w .argEnd) (w .complex)
 
-    -- its parameters
+    -- the parameters of a data record
     abbrev RowArg : Row → List ℕ → Type 0
     RowArg w t = Arg s (w .argStart) (w .argEnd) (w .complex) t
 
-    -- those of both kinds of rows
+    -- what the rows of both kinds of a table need
     abbrev told : Sizes
     told = both (headSizes s (k .headers)) (rowSizes s (k .records))
 
-    -- no parameter has more than is told
+    -- no parameter of a table's records has more than is told
     among-all : (t : List ℕ) → Among s k t → f t ≤ π told
     among-all t (Among.header w i d) = omega (arith, of-all headOf HeadArg (λ v. each (v .argStart) (v .argEnd) 0) (k .headers) t (w, i, d), join (headSizes s (k .headers)) (rowSizes s (k .records)))
     among-all t (Among.datum w i d) = omega (arith, of-all rowOf RowArg (λ v. each (v .argStart) (v .argEnd) (v .complex)) (k .records) t (w, i, d), join (headSizes s (k .headers)) (rowSizes s (k .records)))
 
-    -- of a header record
+    -- a parameter of a header record is one of a table's records
     as-header : (t : List ℕ) → Of headOf HeadArg (λ v. each (v .argStart) (v .argEnd) 0) (k .headers) t → Among s k t
     as-header t (w, i, d) = Among.header w i d
 
-    -- of a data record
+    -- a parameter of a data record is one of a table's records
     as-datum : (t : List ℕ) → Of rowOf RowArg (λ v. each (v .argStart) (v .argEnd) (v .complex)) (k .records) t → Among s k t
     as-datum t (w, i, d) = Among.datum w i d
 
-    -- the most of all
+    -- what is told of a table is the greatest of all its records' parameters
     among-greatest : Greatest (Among s k) f (π told)
     among-greatest = record {
       all = among-all;
@@ -90,14 +90,14 @@ module _ (π : Sizes → ℕ) (f : List ℕ → ℕ) (least : π nothing ≡ 0) 
           (found-also f (Of rowOf RowArg (λ v. each (v .argStart) (v .argEnd) (v .complex)) (k .records)) (Among s k) (π (rowSizes s (k .records))) as-datum (of-one rowOf RowArg (λ v. each (v .argStart) (v .argEnd) (v .complex)) (k .records)));
     }
 
--- the longest text of a file
+-- what is told of a file's texts is the longest among all its records' parameters
 pub text-most : (s : List ℕ) (k : Table) → Greatest (Among s k) textLen (needsIn s k .text)
 text-most s k = among-greatest (λ a. a .text) textLen refl (λ a b. refl) s (text-greatest s) k
 
--- the most numbers of a list or a grid
+-- what is told of a file's numbers is the most of a list or a grid among all its records' parameters
 pub items-most : (s : List ℕ) (k : Table) → Greatest (Among s k) numbersLen (needsIn s k .items)
 items-most s k = among-greatest (λ a. a .items) numbersLen refl (λ a b. refl) s (items-greatest s) k
 
--- the most rows of a grid
+-- what is told of a file's rows is the most of a grid among all its records' parameters
 pub rows-most : (s : List ℕ) (k : Table) → Greatest (Among s k) rowsLen (needsIn s k .rows)
 rows-most s k = among-greatest (λ a. a .rows) rowsLen refl (λ a b. refl) s (rows-greatest s) k

@@ -20,15 +20,15 @@ unfoldable pub mostOf : {R : Type 0} → (R → Sizes) → List R → Sizes
 mostOf g [] = nothing
 mostOf g (w ∷ ws) = both (g w) (mostOf g ws)
 
--- what the header records need
+-- the most that any of the header records needs
 abbrev pub headSizes : List ℕ → List HeaderRow → Sizes
 headSizes s ws = mostOf (λ (w : HeaderRow). recordOf s (w .argStart) (w .argEnd) 0) ws
 
--- what the data records need
+-- the most that any of the data records needs
 abbrev pub rowSizes : List ℕ → List Row → Sizes
 rowSizes s ws = mostOf (λ (w : Row). recordOf s (w .argStart) (w .argEnd) (w .complex)) ws
 
--- such needs by their numbers
+-- what a file needs, from its numbers
 abbrev pub needs : ℕ → ℕ → ℕ → Sizes → Needs
 needs h r m z = record { headers = h; records = r; max = m; items = z .items; text = z .text; rows = z .rows }
 
@@ -36,7 +36,7 @@ needs h r m z = record { headers = h; records = r; max = m; items = z .items; te
 abbrev pub needsIn : List ℕ → Table → Needs
 needsIn s t = needs (length (t .headers)) (length (t .records)) (largest (t .records)) (both (headSizes s (t .headers)) (rowSizes s (t .records)))
 
--- what the code's answer says
+-- what the code's answer about a file's needs says: the needs, or a refusal
 abbrev pub toldNeeded : NeededCode.Needed → Told Needs
 toldNeeded (NeededCode.the-variants.Is n) = good n
 toldNeeded (NeededCode.the-variants.Refused f) = bad (told f)

@@ -8,17 +8,17 @@ use Rattle.needs.specs.declared.Needs.{Needs}
 use Rattle.needs.specs.declared.Needed.{Needed}
 use Rattle.needs.specs.declared.Needed.the-variants.{Is, Refused}
 
--- the answer that says this
+-- the code's answer that says this of a file's needs
 neededOf : Told Needs → Needed
 neededOf (good n) = Is n
 neededOf (bad q) = Refused (faultOf q)
 
--- it is the answer that said it
+-- what an answer about a file's needs says gives back that answer
 needed-back : (a : Needed) → neededOf (toldNeeded a) ≡ a
 unfolding neededOf
 needed-back (Is n) = refl
 needed-back (Refused f) = ap Refused (faultOf-told f)
 
--- `count`
+-- `count` has one answer: two that say the same are one
 pub needed-only : (a b : Needed) → toldNeeded a ≡ toldNeeded b → a ≡ b
 needed-only a b e = sym (needed-back a) ∙ ap neededOf e ∙ needed-back b

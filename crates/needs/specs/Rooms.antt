@@ -26,12 +26,12 @@ reached-few Reached.start data-kind = omega arith
 reached-few (Reached.on u f) j = let m = reached-few u j in let l = moved-shorter f in omega arith
 reached-few (Reached.row {t} {n} k w ys u f) j = let m = reached-few u j in let l = row-shorter k w ys t f in omega (arith, of-more j k n)
 
--- so many rows are never used up
+-- as many rows of each kind as the file has bytes are never used up
 never-full : {s : List ℕ} {q : Refusal} → Full s (perKind (length s) (length s)) q → ⊥
 never-full (Full.full header-kind w ys t u h e f) = let k = reached-few u header-kind in let l = header-shorter f in omega arith
 never-full (Full.full data-kind w ys t u h e f) = let k = reached-few u data-kind in let l = data-shorter f in omega arith
 
--- the scan's refusal behind that of the needs
+-- where a file's needs are refused, the scan is, and with the same refusal
 refused-scan : (s : List ℕ) (q : Refusal) → needsOf s ≡ bad q → scanOf s (length s) (length s) ≡ bad q
 unfolding needsOf
 refused-scan s q e = go (scanOf s (length s) (length s)) e
@@ -40,11 +40,11 @@ refused-scan s q e = go (scanOf s (length s) (length s)) e
     go (good t) p = clash (cc)
     go (bad f) p = let v : f ≡ q = cc in ap bad v
 
--- "8 is given exactly when [..] the lent rows of its kind (or id slots, one a record) are already used up": never here
+-- "8 is given exactly when [..] the lent rows of its kind (or id slots, one a record) are already used up": never for a file's needs
 pub needs-never-full : (s : List ℕ) (q : Refusal) → needsOf s ≡ bad q → q .number ≡ 8 → ⊥
 needs-never-full s q e n = let k = rw (refused-scan s q e) at (scans-bad (scans-is s (length s) (length s))) in never-full (k .1 n)
 
--- a file that is refused here is read in no room
+-- a file whose needs are refused is read in no room
 pub needs-hopeless : (s : List ℕ) (q : Refusal) → needsOf s ≡ bad q → (H R : ℕ) (t : Table) → scanOf s H R ≡ good t → ⊥
 needs-hopeless s q e H R t p =
     let k = scan-fit s H R t p in

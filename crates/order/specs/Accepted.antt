@@ -33,14 +33,14 @@ permuted-length (Permuted.front p) = omega (arith, permuted-length p)
 permuted-length Permuted.swap = refl
 permuted-length (Permuted.then p q) = permuted-length q ∙ permuted-length p
 
--- and each of them fits where another stood
+-- where each text fits where another stood, so does each of them in another order
 pub permuted-fit : {ts us : List (List ℕ)} → Permuted ts us → AllFit ts → AllFit us
 permuted-fit Permuted.empty a = a
 permuted-fit (Permuted.front p) (a, r) = (a, permuted-fit p r)
 permuted-fit Permuted.swap (a, (b, r)) = (b, (a, r))
 permuted-fit (Permuted.then p q) a = permuted-fit q (permuted-fit p a)
 
--- all their bytes
+-- how many bytes texts have in all
 abbrev total : List (List ℕ) → ℕ
 total [] = 0
 total (b ∷ bs) = length b + total bs
@@ -51,7 +51,7 @@ permuted-total (Permuted.front p) = omega (arith, permuted-total p)
 permuted-total Permuted.swap = omega arith
 permuted-total (Permuted.then p q) = permuted-total q ∙ permuted-total p
 
--- the file's bytes are those of the texts and of what stands between
+-- the bytes of a file with other texts in its records' places, and those of its own texts, are as many as its own and those of the others
 filled-total : (c : Cut) (us : List (List ℕ)) → length us ≡ length (texts c) → length (filled c us) + total (texts c) ≡ length (filled c (texts c)) + total us
 filled-total (rest g) [] n = refl
 filled-total (rest g) (u ∷ us) n = absurd (omega (arith, n))
@@ -59,7 +59,7 @@ filled-total (piece g b c) [] n = absurd (omega (arith, n))
 filled-total (piece g b c) (u ∷ us) n =
     simp length-append (omega (arith, filled-total c us (omega (arith, n))))
 
--- the new file is as long as the old one
+-- the new file, with the same texts in another order, is as long as the old one
 pub filled-length : {s : List ℕ} {c : Cut} {us : List (List ℕ)} → Cuts s Outside s c → Permuted (texts c) us → length (filled c us) ≡ length s
 filled-length {s} {c} {us} k p =
     omega (arith, filled-total c us (permuted-length p), permuted-total p, ap length (filled-own k))
@@ -78,7 +78,7 @@ white-free w a = all-kind white (λ d. not (eqb d 59)) w (λ c h. go c h (ℕ-di
     go c h (yes p) = let f : white 59 ≡ true = rw p at h in clash (cc)
     go c h (no n) = rw (ne-eqb c 59 n) refl
 
--- nor is a byte of the marker
+-- no byte of the marker is a `;`
 marker-free : Free 59 (bytes "ISO-10303-21")
 marker-free = (refl, (refl, (refl, (refl, (refl, (refl, (refl, (refl, (refl, (refl, (refl, (refl, tt))))))))))))
 
@@ -91,28 +91,28 @@ marked-any (Marked.mark w r a) x y e z =
     let (v, p) = free-front (239 ∷ 187 ∷ 191 ∷ (w ++ bytes "ISO-10303-21")) r x y (refl, (refl, (refl, all-join _ w _ (white-free w a) marker-free))) (cc (append-assoc w (bytes "ISO-10303-21") r)) in
     rw (p, append-assoc (w ++ bytes "ISO-10303-21") v (59 ∷ z), append-assoc w (bytes "ISO-10303-21") (v ++ (59 ∷ z))) (Marked.mark w (v ++ (59 ∷ z)) a)
 
--- so the new file is marked
+-- the file with other texts in its records' places has the marker, where it had it before
 filled-marked : {c : Cut} {hs : List (List ℕ)} → Shape Outside c hs → (ts us : List (List ℕ)) → Marked (filled c ts) → Marked (filled c us)
 filled-marked (Shape.over e) ts us m = m
 filled-marked (Shape.turn {c} g e d) ts us m =
     rw (led-filled (g ++ (59 ∷ [])) c us, append-assoc g (59 ∷ []) (filled c us))
     (marked-any m g (filled c ts) (led-filled (g ++ (59 ∷ [])) c ts ∙ append-assoc g (59 ∷ []) _) (filled c us))
 
--- a file of so many texts, and the rows that it is read to have
+-- a file whose records have the texts us, and header records hs, is accepted with these rooms: the rows that it is read to have
 pub record Accepted (f : List ℕ) (hs us : List (List ℕ)) (H R : ℕ) : Type 0 where
   pub result : Table
   pub scanned : scanOf f H R ≡ good result
   pub rows : AllSay f (result .records) us
   pub heads : AllHead f (result .headers) hs
 
--- the rows that texts are read to have are as many
+-- the rows of texts are as many as the texts
 pub say-length : (f : List ℕ) (ws : List Row) (us : List (List ℕ)) → AllSay f ws us → length ws ≡ length us
 say-length f [] [] a = refl
 say-length f [] (u ∷ us) a = absurd a
 say-length f (w ∷ ws) [] a = absurd a
 say-length f (w ∷ ws) (u ∷ us) (k, a) = omega (arith, say-length f ws us a)
 
--- so are header rows
+-- the header rows of texts are as many as the texts
 pub head-length : (f : List ℕ) (ws : List HeaderRow) (us : List (List ℕ)) → AllHead f ws us → length ws ≡ length us
 head-length f [] [] a = refl
 head-length f [] (u ∷ us) a = absurd a
@@ -126,7 +126,7 @@ accepted-tight {c} {hs} d us a n l m =
     let r = read-filled (filled c us) [] (length hs) (length us) d us a n refl 0 0 (omega arith) (omega arith) in
     record { result = r .result; scanned = sym (scans-only (Scans.read l m (r .reads))); rows = r .rows; heads = r .heads }
 
--- and with all rooms that have those rows
+-- an accepted file is accepted with all rooms that have its rows
 accepted-roomy : {f : List ℕ} {hs us : List (List ℕ)} {H R : ℕ} → Accepted f hs us H R → (H' R' : ℕ) → length hs ≤ H' → length us ≤ R' → Accepted f hs us H' R'
 accepted-roomy {f} {hs} {us} {H} {R} a H' R' l m = record {
   result = a .result;
@@ -151,7 +151,7 @@ tables-one s H R H' R' t u e f =
     let y : scanOf s (H + H') (R + R') ≡ good u = scan-roomy s H' R' u f (H + H') (R + R') (omega arith) (omega arith) in
     cc
 
--- an answer of a file whose texts are known
+-- an answer for a file whose texts are known has the rows of these texts
 accepted-as : (s : List ℕ) {hs ts : List (List ℕ)} {h r : ℕ} (H R : ℕ) (t : Table) → Accepted s hs ts h r → scanOf s H R ≡ good t
     → AllSay s (t .records) ts × AllHead s (t .headers) hs
 accepted-as s {hs} {ts} {h} {r} H R t a e =
@@ -165,7 +165,7 @@ pub record Both (s : List ℕ) (t : Table) (c : Cut) (us : List (List ℕ)) (H R
   pub heads : AllHead s (t .headers) headings
   pub after : Accepted (filled c us) headings us H R
 
--- "The new file is accepted with the same rooms": so both are, and the rows of each are those of its texts
+-- "The new file is accepted with the same rooms": both files are, and the rows of each are those of its texts
 pub both-accepted : (s : List ℕ) (H R : ℕ) (t : Table) → scanOf s H R ≡ good t → Closed s → (c : Cut) → Cuts s Outside s c
     → (us : List (List ℕ)) → Permuted (texts c) us → Both s t c us H R
 both-accepted s H R t e k c d us p = go (closed-shaped k)

@@ -33,7 +33,7 @@ use Rattle.statement.specs.declared.Section.the-variants.{Outside, InHeader, In
 use Rattle.order.specs.Order.{Cut, rest, piece, led, Cuts, named, ofId, contextText}
 use Rattle.order.specs.Exchange.{Lone}
 
--- what stands before a rest of a list
+-- the bytes of f and r before the rest r are f
 before-rest : (f r : List ℕ) → before (f ++ r) r ≡ f
 before-rest f r = take-at f r (length (f ++ r) - length r) (simp length-append (omega arith))
 
@@ -42,7 +42,7 @@ before-whole : {xs : List ℕ} (f r : List ℕ) → xs ≡ f ++ r → xs ≡ bef
 before-whole f r e = rw e (ap (λ (z : List ℕ). z ++ r) (sym (before-rest f r)))
 
 -- ---- a place outside strings and comments
--- a search for `;` that finds the last byte
+-- a search for a `;` finds the last byte of the list
 abbrev atLast : Sought → Bool
 atLast (at r) = eqb (length r) 1
 atLast (fault n o) = false
@@ -94,12 +94,12 @@ closed-by t k h = go (closing (40 ∷ t)) refl h
         (rw n q, rw m at u)
 
 -- ---- a record's `(`
--- what follows a `(` at the start
+-- what follows a `(` at the start of a list, if there is one
 abbrev opening : List ℕ → Option (List ℕ)
 opening [] = none
 opening (c ∷ t) = pick (eqb c 40) (some t) none
 
--- an option goes on by k
+-- an option goes on by k; none stays none
 abbrev andSo : {A B : Type 0} → Option A → (A → Option B) → Option B
 andSo none k = none
 andSo (some a) k = k a
@@ -152,11 +152,11 @@ args-at b o a h = by (clear (take o b)) refl h
     by true u g = from (drop o b) u refl g
 
 -- ---- a complex record's parts
--- no `(`
+-- a byte that is no `(`
 abbrev unopening : ℕ → Bool
 unopening d = not (eqb d 40)
 
--- there is something, and k holds of it
+-- an option is something, and k holds of it
 abbrev holdsBy : Option (List ℕ) → (List ℕ → Bool) → Bool
 holdsBy none k = false
 holdsBy (some t) k = k t
@@ -206,13 +206,13 @@ parts-closed zero a h = clash (cc)
 parts-closed (suc n) a h = part-by a (λ t. partsClosed n t) h (λ t g. parts-closed n t g)
 
 -- ---- a record's text
--- a data record's text, by its head
+-- a data record's text is closed, by its head
 abbrev dataBy : List ℕ → Head → Bool
 dataBy b (Bad why) = false
 dataBy b (Simple i a z o) = holdsBy (argsAt b o) (λ a. true)
 dataBy b (Complex i o) = holdsBy (argsAt b o) (partsClosed (length b))
 
--- "each [..] data record's `(` [..], and each complex record's parts"
+-- "each [..] data record's `(` [..], and each complex record's parts": a data record's text is closed
 unfoldable pub dataClosed : List ℕ → Bool
 dataClosed b = dataBy b (dataHead b)
 
@@ -233,13 +233,13 @@ data-closed b h = go (dataHead b) refl h
     go (Simple i a z o) e m = simple e (argsAt b o) refl m
     go (Complex i o) e m = complex e (argsAt b o) refl m
 
--- a header record's text, by its head
+-- a header record's text is closed, by its head
 abbrev headerBy : List ℕ → Head → Bool
 headerBy b (Bad why) = false
 headerBy b (Simple i a z o) = holdsBy (argsAt b o) (λ a. true)
 headerBy b (Complex i o) = false
 
--- "each header [..] record's `(`"
+-- "each header [..] record's `(`": a header record's text is closed
 unfoldable pub headerClosed : List ℕ → Bool
 headerClosed b = headerBy b (headerHead b)
 
@@ -261,7 +261,7 @@ header-closed b h = go (headerHead b) refl h
 abbrev textOf : List ℕ → List ℕ → List ℕ
 textOf ys r = before ys (59 ∷ r)
 
--- what a statement says, and k of what follows it
+-- a statement is closed by what it says, and k holds of what follows it
 abbrev closedStep : Stmt → (Section → List ℕ → Bool) → Bool
 closedStep ends k = true
 closedStep (refused q) k = false
@@ -294,7 +294,7 @@ closed-step s sec xs k h i = go (step s sec xs) refl h
         let (u, v) = both (dataClosed (textOf (b ++ (59 ∷ r)) r)) (k InData r) m in
         ClosedFrom.entry e (data-closed b (rw (before-rest b (59 ∷ r)) at u)) (i InData r v)
 
--- what the computation calls closed is closed
+-- what the computation calls a closed file is closed
 pub closed-from : (n : ℕ) (s : List ℕ) (sec : Section) (xs : List ℕ) → closedFrom n s sec xs ≡ true → ClosedFrom s sec xs
 unfolding closedFrom
 closed-from zero s sec xs h = clash (cc)
@@ -350,7 +350,7 @@ cut-step s sec xs k c h i = go (step s sec xs) refl h
     go (Step.heading t b r w p st l o) e m = headed ((t ++ b) ++ (59 ∷ [])) r (p ∙ ahead t b r) e (k InHeader r) refl m
     go (Step.entry t b r w p st l) e m = entered t b r p e (k InData r) refl m
 
--- what the computation calls the cut is the cut
+-- what the computation calls the cut of a file is its cut
 pub cut-from : (n : ℕ) (s : List ℕ) (sec : Section) (xs : List ℕ) (c : Cut) → cutFrom n s sec xs ≡ some c → Cuts s sec xs c
 unfolding cutFrom
 cut-from zero s sec xs c h = clash (cc)
@@ -361,7 +361,7 @@ cut-from (suc n) s sec xs c h = cut-step s sec xs (λ to r. cutFrom n s to r) c 
 abbrev pub HasId : List ℕ → ℕ → Type 0
 HasId b i = (k : ℕ) → named k (dataHead b) ≡ eqb i k
 
--- texts with different ids: no id is that of both
+-- texts with different ids have no id in common
 pub ids-apart : (a b : List ℕ) (i j : ℕ) → HasId a i → HasId b j → eqb i j ≡ false → (k : ℕ) → (named k (dataHead a) && named k (dataHead b)) ≡ false
 ids-apart a b i j h g e k = rw (h k, g k) (go (eqb i k) (eqb j k) refl refl)
   where
@@ -370,6 +370,6 @@ ids-apart a b i j h g e k = rw (h k, g k) (go (eqb i k) (eqb j k) refl refl)
     go true false p q = refl
     go true true p q = absurd (eqb-false i j e (eqb-true i k p ∙ sym (eqb-true j k q)))
 
--- a text whose id no other has and that is no unit context
+-- a text whose id no other has and that is no unit context is a lone one
 pub lone-text : {b : List ℕ} {rs : List (List ℕ)} (i : ℕ) → HasId b i → ofId i rs ≡ [] → contextText b ≡ false → Lone b rs
 lone-text {rs} i h e p = record { id = λ k g. subst (λ (j : ℕ). ofId j rs ≡ []) (eqb-true i k (sym (h k) ∙ g)) e; plain = p }

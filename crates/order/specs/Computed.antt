@@ -34,17 +34,17 @@ use Rattle.lookup.specs.Records.{lastOf}
 use Rattle.order.specs.Order.{those, contextText}
 use Rattle.order.specs.Check.{clear, closedBy, argsAt, partsClosed, dataClosed, headerClosed, closedFrom, cutFrom}
 
--- the reading of a file
+-- what is unfolded to read a file
 unfoldable pub reading : Unit {0}
 unfolding walk trivia recordEnd closing past numberFrom keyword trail same wordOf dataHead headerHead recordOf headerOf statement readFrom scanOf
 reading = tt
 
--- its cut, and whether it is closed
+-- what is unfolded to cut a file, and to tell whether it is closed
 unfoldable pub checking : Unit {0}
 unfolding reading clear closedBy argsAt partsClosed dataClosed headerClosed closedFrom cutFrom
 checking = tt
 
--- the unit answer, and which texts are unit contexts
+-- what is unfolded for the unit answer, and to tell which texts are unit contexts
 unfoldable pub resolving : Unit {0}
 unfolding reading those contextText lastOf kindOf Part.nextOf Part.partsFrom cutOf started paramOf skipOf kernelOf measureOf nextOf parseOf realOf wholeOf referenceOf placeIn itemEnd itemText indent itemBy itemsFrom isBlank itemsBy bodyOf listBy nextBy siLength siAngle measureRef linkOf measureIn lengthOf numberIn angleOf isContext refsIn unitBy unitsBy uncertaintyBy toleranceBy listedUnits listedTolerance contextOf resolveOf size near nearUnits worthOf Nearest.unitsOf fromByte stringRest commentRest isName validFrom leadOf
 resolving = tt

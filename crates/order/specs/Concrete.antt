@@ -27,7 +27,7 @@ use Rattle.order.specs.Computed.{reading, checking, resolving}
 unfoldable pub inches : List ℕ
 inches = bytes "#1=(GEOMETRIC_REPRESENTATION_CONTEXT(3)GLOBAL_UNIT_ASSIGNED_CONTEXT((#3)))"
 
--- another: its lengths are in millimetres
+-- a second unit context, a complex record: its lengths are in millimetres
 unfoldable pub millimetres : List ℕ
 millimetres = bytes "#2=(GEOMETRIC_REPRESENTATION_CONTEXT(3)GLOBAL_UNIT_ASSIGNED_CONTEXT((#5)))"
 
@@ -35,11 +35,11 @@ millimetres = bytes "#2=(GEOMETRIC_REPRESENTATION_CONTEXT(3)GLOBAL_UNIT_ASSIGNED
 unfoldable pub inch : List ℕ
 inch = bytes "#3=(CONVERSION_BASED_UNIT('INCH',#4)LENGTH_UNIT()NAMED_UNIT(*))"
 
--- what it converts by: 25.4 of the next
+-- what the inch converts by: 25.4 of the millimetre
 unfoldable pub measure : List ℕ
 measure = bytes "#4=LENGTH_MEASURE_WITH_UNIT(LENGTH_MEASURE(25.4),#5)"
 
--- the millimetre
+-- the millimetre, an SI unit
 unfoldable pub millimetre : List ℕ
 millimetre = bytes "#5=(LENGTH_UNIT()NAMED_UNIT(*)SI_UNIT(.MILLI.,.METRE.))"
 
@@ -47,21 +47,21 @@ millimetre = bytes "#5=(LENGTH_UNIT()NAMED_UNIT(*)SI_UNIT(.MILLI.,.METRE.))"
 unfoldable pub earlier : List ℕ
 earlier = bytes "#6=A('x')"
 
--- the later of them
+-- the later of two records with one id
 unfoldable pub later : List ℕ
 later = bytes "#6=B(';','/*')"
 
--- all of them, where they are unfolded
+-- all texts of the file's records, unfolded together
 unfoldable pub known : Unit {0}
 unfolding inches millimetres inch measure millimetre earlier later
 known = tt
 
 -- ---- the file and its rearrangement
--- the file
+-- the file that meets demand 3's premises
 abbrev pub file : List ℕ
 file = bytes "ISO-10303-21;\nHEADER;FILE_NAME('a;b');ENDSEC;\nDATA;\n#1=(GEOMETRIC_REPRESENTATION_CONTEXT(3)GLOBAL_UNIT_ASSIGNED_CONTEXT((#3)));\n/* #9=C(; */ #2=(GEOMETRIC_REPRESENTATION_CONTEXT(3)GLOBAL_UNIT_ASSIGNED_CONTEXT((#5)));\n  #3=(CONVERSION_BASED_UNIT('INCH',#4)LENGTH_UNIT()NAMED_UNIT(*));#4=LENGTH_MEASURE_WITH_UNIT(LENGTH_MEASURE(25.4),#5);ENDSEC;\nDATA;\n#5=(LENGTH_UNIT()NAMED_UNIT(*)SI_UNIT(.MILLI.,.METRE.));/* stays */#6=A('x');\n#6=B(';','/*');\nENDSEC;END-ISO-10303-21;\n"
 
--- the new file
+-- the new file: the same records with six of them in other places
 abbrev pub newFile : List ℕ
 newFile = bytes "ISO-10303-21;\nHEADER;FILE_NAME('a;b');ENDSEC;\nDATA;\n#5=(LENGTH_UNIT()NAMED_UNIT(*)SI_UNIT(.MILLI.,.METRE.));\n/* #9=C(; */ #1=(GEOMETRIC_REPRESENTATION_CONTEXT(3)GLOBAL_UNIT_ASSIGNED_CONTEXT((#3)));\n  #6=A('x');#4=LENGTH_MEASURE_WITH_UNIT(LENGTH_MEASURE(25.4),#5);ENDSEC;\nDATA;\n#2=(GEOMETRIC_REPRESENTATION_CONTEXT(3)GLOBAL_UNIT_ASSIGNED_CONTEXT((#5)));/* stays */#6=B(';','/*');\n#3=(CONVERSION_BASED_UNIT('INCH',#4)LENGTH_UNIT()NAMED_UNIT(*));\nENDSEC;END-ISO-10303-21;\n"
 
@@ -85,7 +85,7 @@ fileCut =
     (piece (bytes ";\n") later
     (rest (bytes ";\nENDSEC;END-ISO-10303-21;\n"))))))))
 
--- the texts rearranged
+-- the texts of the file's records, rearranged
 abbrev pub moved : List (List ℕ)
 moved = millimetre ∷ inches ∷ earlier ∷ measure ∷ millimetres ∷ later ∷ inch ∷ []
 
@@ -95,37 +95,37 @@ pub file-accepted : scanOf file 1 7 ≡ good fileRows
 unfolding reading
 file-accepted = refl
 
--- "that is closed"
+-- "that is closed": the file is
 pub file-closed : Closed file
 unfolding checking
 file-closed = closed-from 20 file Outside file refl
 
--- "its whole data records"
+-- "its whole data records": the file's cut is its own
 pub file-cut : Cuts file Outside file fileCut
 unfolding checking known
 file-cut = cut-from 20 file Outside file fileCut refl
 
--- with the texts rearranged it is the new file
+-- the file with its texts rearranged is the new file
 pub file-filled : filled fileCut moved ≡ newFile
 unfolding known
 file-filled = refl
 
--- the ids of its records
+-- the ids of the file's records
 pub ids-are : HasId inches 1 × HasId millimetres 2 × HasId inch 3 × HasId measure 4 × HasId millimetre 5 × HasId earlier 6 × HasId later 6
 unfolding reading known
 ids-are = (λ k. refl, λ k. refl, λ k. refl, λ k. refl, λ k. refl, λ k. refl, λ k. refl)
 
--- the first two are unit contexts, and no other
+-- the file's first two records are its unit contexts, and no other is
 pub contexts-are : contextsIn (texts fileCut) ≡ inches ∷ millimetres ∷ []
 unfolding resolving known
 contexts-are = refl
 
--- the others one by one
+-- the file's other five records are no unit contexts
 plain : (contextText inch ≡ false) × (contextText measure ≡ false) × (contextText millimetre ≡ false) × (contextText earlier ≡ false) × (contextText later ≡ false)
 unfolding resolving known
 plain = (refl, refl, refl, refl, refl)
 
--- the units change places: nobody else has their ids
+-- the inch and the millimetre change places: no other record has their ids
 two : Rearranged (texts fileCut) (inches ∷ millimetres ∷ millimetre ∷ measure ∷ inch ∷ earlier ∷ later ∷ [])
 unfolding resolving known
 two =
@@ -154,26 +154,26 @@ file-rearranged =
     (ahead (millimetre ∷ inches ∷ earlier ∷ measure ∷ millimetres ∷ []) inch later [] 3 6 (ids-are .2) (ids-are .6) refl (plain .4))))))))
 
 -- ---- what it says
--- of the two records with the id 6 the later is served
+-- of the file's two records with the id 6 the later is served
 pub file-served : served file fileRows 6 ≡ some (record { id = 6; keyword = bytes "B"; args = bytes "';','/*'"; complex = 0 })
 unfolding resolving
 file-served = refl
 
--- its unit is resolved, by the first context and its conversion: lengths by 25.4, angles by 1.0, and the tolerance is 1e-3
+-- the file's unit answer, by the first context and its conversion: lengths by 25.4, angles by 1.0, and the tolerance is 1e-3
 pub file-units : unitsOf file fileRows ≡ good (units 4627842682090579558 4607182418800017408 4562254508917369340 true)
 unfolding resolving
 file-units = refl
 
--- so demand 3 speaks of this file
+-- demand 3 holds of this file and the new one
 pub concrete : Same file fileRows newFile 1 7
 concrete = subst (λ (f : List ℕ). Same file fileRows f 1 7) file-filled (order file 1 7 fileRows file-accepted file-closed fileCut file-cut moved file-rearranged)
 
--- and what it says of the new file is what is computed
+-- the new file is accepted with the table that is computed, as demand 3 says
 pub new-accepted : scanOf newFile 1 7 ≡ good newRows
 unfolding reading
 new-accepted = refl
 
--- the unit answer is the same
+-- the new file's unit answer is that of the file
 pub new-units : unitsOf newFile newRows ≡ good (units 4627842682090579558 4607182418800017408 4562254508917369340 true)
 unfolding resolving
 new-units = refl

@@ -22,21 +22,21 @@ use Rattle.order.specs.Order.{those, ofId, contextText, contextsIn}
 use Rattle.order.specs.Shape.{Says, AllSay}
 use Rattle.order.specs.Found.{FoundSay, lastText, found-says}
 
--- the record of a row that is a closed text's
+-- the record of a row that is a closed text's has no fault
 says-thing : {f : List ℕ} {w : Row} {b : List ℕ} → Says f w b → thingOf f w ≡ good (thingAt f w)
 says-thing {f} {w} {b} k = go f w (k .shape) (k .row)
   where
     go : (f : List ℕ) (w : Row) → f ≡ k .front ++ (b ++ k .back) → w ≡ rowFrom (length (k .front)) (k .closed) → thingOf f w ≡ good (thingAt f w)
     go f w e h = rw (e, h) (closed-thing-good (k .closed) (k .front) (k .back))
 
--- its parts have no fault
+-- the parts of a record that is a closed text's have no fault
 says-parts : {f : List ℕ} {w : Row} {b : List ℕ} → Says f w b → (ps : List Piece) × (thingAt f w .parts ≡ good ps)
 says-parts {f} {w} {b} k = go f w (k .shape) (k .row)
   where
     go : (f : List ℕ) (w : Row) → f ≡ k .front ++ (b ++ k .back) → w ≡ rowFrom (length (k .front)) (k .closed) → (ps : List Piece) × (thingAt f w .parts ≡ good ps)
     go f w e h = rw (e, h) (closed-parts-good (k .closed) (k .front) (k .back))
 
--- two records of one text are alike
+-- two records of one closed text are alike
 says-alike : {f g : List ℕ} {w v : Row} {b : List ℕ} → Says f w b → Says g v b → AlikeThing Every f g (thingAt f w) (thingAt g v)
 says-alike {f} {g} {w} {v} {b} k l = go f g w v (k .shape) (l .shape) (k .row) (l .row)
   where
@@ -45,7 +45,7 @@ says-alike {f} {g} {w} {v} {b} k l = go f g w v (k .shape) (l .shape) (k .row) (
     go f g w v e h i j = rw (e, h, i, j) (closed-things-alike (k .closed) (l .closed) (λ n m. tt) (k .front) (k .back) (l .front) (l .back))
 
 -- ---- lookups
--- two records that are served for one text, or none
+-- two records that are served for one text, or none for none, are alike
 found-alike : (f g : List ℕ) (x y : Option Row) (z : Option (List ℕ)) → FoundSay f x z → FoundSay g y z → AlikeFound Every f g (thingFound f x) (thingFound g y)
 found-alike f g none none none h k = tt
 found-alike f g none (some v) none h k = absurd k
@@ -54,7 +54,7 @@ found-alike f g none y (some b) h k = absurd h
 found-alike f g (some w) none (some b) h k = absurd k
 found-alike f g (some w) (some v) (some b) h k = rw (says-thing h, says-thing k) (says-alike h k)
 
--- so are all lookups, where the order of records with equal ids is kept
+-- all lookups are alike, where the order of records with equal ids is kept
 pub finds-alike : (f g : List ℕ) (ws vs : List Row) (ts us : List (List ℕ)) → AllSay f ws ts → AllSay g vs us → ((k : ℕ) → ofId k ts ≡ ofId k us)
     → AlikeFind Every f g (λ k. thingFound f (lastOf k ws)) (λ k. thingFound g (lastOf k vs))
 finds-alike f g ws vs ts us a b e = record {
@@ -62,11 +62,11 @@ finds-alike f g ws vs ts us a b e = record {
 }
 
 -- ---- contexts
--- a closed text as a file of its own
+-- a closed text says what it says as a file of its own too
 own : {b : List ℕ} (c : ClosedData b) → Says b (rowFrom 0 c) b
 own {b} c = record { closed = c; front = []; back = []; shape = sym (append-nil b); row = refl }
 
--- its row there
+-- the row of a closed text as a file of its own
 own-row : {b : List ℕ} (c : ClosedData b) → recordOf b b b ≡ good (rowFrom 0 c)
 own-row {b} c = simp append-nil at (record-row c [] [])
 
@@ -80,18 +80,18 @@ says-context {f} {w} {b} k =
     let g : isContext f (thingAt f w) ≡ good x = context-same (says-alike o k) x e in
     rw (says-thing k, own-row (k .closed), says-thing o, e, g) refl
 
--- of each record it is told whether it is one
+-- of each record that is a closed text's it is told whether it is a unit context
 pub all-asked : (f : List ℕ) (ws : List Row) (ts : List (List ℕ)) → AllSay f ws ts → Asked f (map (thingOf f) ws)
 all-asked f [] [] a = tt
 all-asked f [] (b ∷ ts) a = absurd a
 all-asked f (w ∷ ws) [] a = absurd a
 all-asked f (w ∷ ws) (b ∷ ts) (k, a) = ((contextText b, says-context k), all-asked f ws ts a)
 
--- a record that a text stands for
+-- what is told of a record is that of a row of the text b
 abbrev ThingSay : List ℕ → Told Thing → List ℕ → Type 0
 ThingSay f x b = (w : Row) × Says f w b × (x ≡ thingOf f w)
 
--- the contexts are the records of the contexts' texts
+-- the unit contexts of a file are the records of the texts that are unit contexts
 contexts-say : (f : List ℕ) (ws : List Row) (ts : List (List ℕ)) → AllSay f ws ts → BothList (ThingSay f) (contextsOf f (map (thingOf f) ws)) (those contextText ts)
 unfolding contextsOf those
 contexts-say f [] [] a = tt
@@ -104,7 +104,7 @@ contexts-say f (w ∷ ws) (b ∷ ts) (k, a) = rw (says-context k) (go (contextTe
     go true xs bs h = ((w, k, refl), h)
     go false xs bs h = h
 
--- records of the same texts are alike
+-- lists of records of the same texts are alike, two by two in order
 things-alike : (f g : List ℕ) (xs ys : List (Told Thing)) (bs : List (List ℕ)) → BothList (ThingSay f) xs bs → BothList (ThingSay g) ys bs
     → BothList (BothTold (AlikeThing Every f g)) xs ys
 things-alike f g [] [] [] h k = tt
@@ -114,7 +114,7 @@ things-alike f g (x ∷ xs) ys [] h k = absurd h
 things-alike f g (x ∷ xs) [] (b ∷ bs) h k = absurd k
 things-alike f g (x ∷ xs) (y ∷ ys) (b ∷ bs) ((w, p, i), h) ((v, q, j), k) = (rw (i, j, says-thing p, says-thing q) (says-alike p q), things-alike f g xs ys bs h k)
 
--- so are the contexts, where their order is kept
+-- the unit contexts of two files are alike, two by two in order, where their texts are the same in order
 pub contexts-alike : (f g : List ℕ) (ws vs : List Row) (ts us : List (List ℕ)) → AllSay f ws ts → AllSay g vs us → contextsIn ts ≡ contextsIn us
     → BothList (BothTold (AlikeThing Every f g)) (contextsOf f (map (thingOf f) ws)) (contextsOf g (map (thingOf g) vs))
 contexts-alike f g ws vs ts us a b e = things-alike f g (contextsOf f (map (thingOf f) ws)) (contextsOf g (map (thingOf g) vs)) (contextsIn us) (rw e at (contexts-say f ws ts a)) (contexts-say g vs us b)

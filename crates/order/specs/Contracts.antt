@@ -52,11 +52,11 @@ pub record Moved (s : List ℕ) (H R : ℕ) : Type 0 where
   pub texts′ : List (List ℕ)
   pub rearranged : Rearranged (texts cut) texts′
 
--- the new file
+-- the new file: the old one with its records' texts rearranged
 abbrev pub newFile : {s : List ℕ} {H R : ℕ} → Moved s H R → List ℕ
 newFile m = filled (m .cut) (m .texts′)
 
--- what stays the same of it
+-- what stays the same of the new file, by demand 3
 abbrev kept : {s : List ℕ} {H R : ℕ} (m : Moved s H R) → Same s (m .before) (newFile m) H R
 kept {s} {H} {R} m = order s H R (m .before) (m .scanned) (m .closed) (m .cut) (m .cuts) (m .texts′) (m .rearranged)
 
@@ -74,14 +74,14 @@ RowsSay f [] (b ∷ bs) = ⊥
 RowsSay f (w ∷ ws) [] = ⊥
 RowsSay f (w ∷ ws) (b ∷ bs) = (alone b ≡ good (content f w)) × RowsSay f ws bs
 
--- rows of closed texts do
+-- rows of closed texts each say what their text says by itself
 rows-say : (f : List ℕ) (ws : List Row) (bs : List (List ℕ)) → AllSay f ws bs → RowsSay f ws bs
 rows-say f [] [] a = tt
 rows-say f [] (b ∷ bs) a = a
 rows-say f (w ∷ ws) [] a = a
 rows-say f (w ∷ ws) (b ∷ bs) (k, a) = (says-content k, rows-say f ws bs a)
 
--- `scan`: the rows of both files, each in its order
+-- `scan`: the rows of both files say what their texts say, each in its order
 pub scan-rows : (s : List ℕ) (H R : ℕ) (m : Moved s H R) (u : Table) → scanOf (newFile m) H R ≡ good u
     → RowsSay s (m .before .records) (texts (m .cut)) × RowsSay (newFile m) (u .records) (m .texts′)
 scan-rows s H R m u e =
@@ -105,7 +105,7 @@ pub record Lent (s : List ℕ) (H R : ℕ) : Type 0 where
   pub room : headerRoom heads ≡ H
   pub rooms : dataRoom rows (length slots) ≡ R
 
--- the scan that it did
+-- the scan that opening the file did gives the file's table
 lent-scan : {s : List ℕ} {H R : ℕ} (l : Lent s H R) (t : Table) → scanOf s H R ≡ good t → scanInto s (l .heads) (l .rows) (l .slots) ≡ good t
 lent-scan l t e = rw (l .room, l .rooms) e
 
@@ -126,11 +126,11 @@ open-good {s} {H} {R} a t e = go (a .answer) (a .opens .answer ∙ ap (mapped co
 
 -- the tables that opening an accepted file left: a are the answer's
 module _ {s : List ℕ} {H R : ℕ} (l : Lent s H R) (a : Tables) (is : l .answer ≡ Good a) (t : Table) (scanned : scanOf s H R ≡ good t) where
-  -- what `open` promises of them
+  -- what `open` promises of the tables that it left
   promised : Opens s (l .heads) (l .rows) (l .slots) (Good a) (l .heads′) (l .rows′) (l .slots′)
   promised = rw is at (l .opens)
 
-  -- the lookup over them is that of the file's records
+  -- the lookup over the tables that opening the file left is that of the file's records
   pub lookups-are : (k : ℕ) → rowFound (l .rows′) (searched (l .rows′) (l .slots′) (a .ids) k) ≡ lastOf k (t .records)
   lookups-are k = Serve.lookups-are s (l .heads) (l .rows) (l .slots) a promised t (lent-scan l t scanned) k
 
@@ -144,7 +144,7 @@ module _ {s : List ℕ} {H R : ℕ} (l : Lent s H R) (a : Tables) (is : l .answe
       → toldUnits x ≡ unitsOf s t
   resolve-is x e = e ∙ Serve.units-are s (l .heads) (l .rows) (l .slots) a promised ∙ ap (onward (unitsOf s)) (lent-scan l t scanned)
 
--- both files, opened
+-- Both files, opened.
 module _ (s : List ℕ) (H R : ℕ) (m : Moved s H R) (l : Lent s H R) (a : Tables) (is : l .answer ≡ Good a) (n : Lent (newFile m) H R) (b : Tables) (is′ : n .answer ≡ Good b) where
   -- `get`: the records served for an id have the same keyword and argument bytes, or there is none in either
   pub get-order : (k : ℕ) (x y : Entry) → toldEntry x ≡ rowFound (l .rows′) (searched (l .rows′) (l .slots′) (a .ids) k)
@@ -169,8 +169,8 @@ pub lone-same : (s : List ℕ) (H R : ℕ) (t : Table) → scanOf s H R ≡ good
     → Lone a (xs ++ (ys ++ (b ∷ zs))) → Lone b (xs ++ (a ∷ (ys ++ zs))) → Same s t (filled c (xs ++ (b ∷ (ys ++ (a ∷ zs))))) H R
 lone-same s H R t e k c d xs a ys b zs q h l = order s H R t e k c d (xs ++ (b ∷ (ys ++ (a ∷ zs)))) (rw q (rearranged-lone xs a ys b zs h l))
 
--- both files, served in one call with lent memory of the same room: hypotheses are the contracts of `serve::record_of` and
--- `serve::units_of`, which speak of the file alone
+-- Both files, served in one call with lent memory of the same room: hypotheses are the contracts of `serve::record_of` and
+-- `serve::units_of`, which speak of the file alone.
 module _ (s : List ℕ) (H R : ℕ) (m : Moved s H R) where
   -- `record_of`: the records of an id have the same keyword and argument bytes, or there is none in either
   pub record-order : (k : ℕ) (x y : Served) → toldServed x ≡ onward (recordIn k) (scanOf s H R) → toldServed y ≡ onward (recordIn k) (scanOf (newFile m) H R)

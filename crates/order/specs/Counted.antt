@@ -18,13 +18,13 @@ use Rattle.order.specs.Order.{Permuted}
 use Rattle.order.specs.Shape.{Says, AllSay, SaysHeader, AllHead}
 use Rattle.order.specs.Accepted.{permuted-length, say-length, head-length}
 
--- the id in a head
+-- the id in a data record's head; 0 in a bad one
 abbrev idIn : Head → ℕ
 idIn (Bad why) = 0
 idIn (Complex i o) = i
 idIn (Simple i a z o) = i
 
--- the largest id of texts
+-- the largest id of data records' texts
 abbrev top : List (List ℕ) → ℕ
 top [] = 0
 top (b ∷ bs) = max (idIn (dataHead b)) (top bs)
@@ -38,7 +38,7 @@ permuted-top (Permuted.swap {a} {b} {ts}) = swap-max (idIn (dataHead b)) (idIn (
     swap-max x y z = omega arith
 permuted-top (Permuted.then p q) = permuted-top q ∙ permuted-top p
 
--- a row has its text's id
+-- a row has the id in its text's head
 says-named : {f : List ℕ} {w : Row} {b : List ℕ} → Says f w b → w .id ≡ idIn (dataHead b)
 says-named {f} {w} {b} y = go (length (y .front)) (y .closed) (y .row)
   where
@@ -54,7 +54,7 @@ say-largest f [] (u ∷ us) a = absurd a
 say-largest f (w ∷ ws) [] a = absurd a
 say-largest f (w ∷ ws) (u ∷ us) (y, a) = rw (says-named y, say-largest f ws us a) refl
 
--- "so many header and data rows, and the same largest id"
+-- "so many header and data rows, and the same largest id": where the texts are the same in another order
 pub same-counts : (s f : List ℕ) (t u : Table) (hs ts us : List (List ℕ)) → AllSay s (t .records) ts → AllSay f (u .records) us
     → AllHead s (t .headers) hs → AllHead f (u .headers) hs → Permuted ts us → countsOf t ≡ countsOf u
 same-counts s f t u hs ts us a b c d p =
@@ -79,7 +79,7 @@ header-says {f} {w} {b} k =
     ap (λ (g : List ℕ). headerContent g w) (k .shape) ∙ ap (headerContent (k .front ++ (b ++ k .back))) (k .row)
     ∙ header-content (k .closed) (k .front) (k .back)
 
--- "the header records say the same"
+-- "the header records say the same": where their texts are the same
 pub same-headers : (s f : List ℕ) (ws vs : List HeaderRow) (hs : List (List ℕ)) → AllHead s ws hs → AllHead f vs hs
     → map (headerContent s) ws ≡ map (headerContent f) vs
 same-headers s f [] [] hs a b = refl

@@ -12,7 +12,7 @@ use Rattle.statement.specs.declared.Section.the-variants.{Outside, InHeader, In
 use Rattle.order.specs.Order.{Cut, rest, piece, led, texts, filled, Cuts}
 use Rattle.order.specs.Shape.{Fit, AllFit, Shape, led-filled, led-texts}
 
--- there is only one cut
+-- a file has only one cut
 pub cuts-one : {s : List ℕ} {sec : Section} {xs : List ℕ} {c d : Cut} → Cuts s sec xs c → Cuts s sec xs d → c ≡ d
 cuts-one (Cuts.over e) (Cuts.over k) = refl
 cuts-one (Cuts.over e) (Cuts.turn h q k b) = clash (cc)
@@ -42,7 +42,7 @@ cuts-one (Cuts.entry {g} {b = x} {r} p e a) (Cuts.entry {g = h} {b = y} {r = r'}
     let n : g ≡ h = append-cancel-right g h (x ++ (59 ∷ r)) (cc) in
     rw (m, n, cuts-one a (rw j at b)) refl
 
--- the file again, where each record's own text stands in its place
+-- the file with each record's own text in its place is the file
 pub filled-own : {s : List ℕ} {sec : Section} {xs : List ℕ} {c : Cut} → Cuts s sec xs c → filled c (texts c) ≡ xs
 filled-own (Cuts.over e) = refl
 filled-own (Cuts.turn {c} g p e a) = rw (led-texts g c, led-filled g c (texts c), filled-own a) (sym p)
@@ -57,11 +57,11 @@ pub record Shaped (s : List ℕ) (sec : Section) (xs : List ℕ) : Type 0 where
   pub shape : Shape sec pieces heads
   pub fit : AllFit (texts pieces)
 
--- a section that is another
+-- what is read in a section is read so in one that is equal
 shape-in : {a b : Section} {c : Cut} {hs : List (List ℕ)} → a ≡ b → Shape b c hs → Shape a c hs
 shape-in i d = rw i d
 
--- one statement after the other
+-- How a closed file is read and cut, one statement after the other.
 module _ {s : List ℕ} {sec : Section} {xs : List ℕ} where
   shaped-over : statement s sec xs ≡ ends → Shaped s sec xs
   shaped-over e = go (rw e at (step s sec xs))
@@ -106,7 +106,7 @@ module _ {s : List ℕ} {sec : Section} {xs : List ℕ} where
         fit = (record { closed = cd; before = t; after = r; stands = st }, rw (led-texts (59 ∷ []) (d .pieces)) (d .fit));
       }
 
--- a closed file has a cut
+-- a closed file has a cut, and a shape by which it is read
 pub closed-shaped : {s : List ℕ} {sec : Section} {xs : List ℕ} → ClosedFrom s sec xs → Shaped s sec xs
 closed-shaped (ClosedFrom.over e) = shaped-over e
 closed-shaped (ClosedFrom.turn e c) = shaped-turn e (closed-shaped c)

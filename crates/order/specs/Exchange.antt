@@ -11,27 +11,27 @@ use Rattle.record.specs.Head.{dataHead}
 use Rattle.order.specs.Order.{Permuted, named, those, ofId, contextText, contextsIn, Rearranged}
 
 -- ---- the same texts in another order
--- nothing changes places
+-- texts are themselves in another order, where nothing changes places
 pub permuted-same : (ts : List (List ℕ)) → Permuted ts ts
 permuted-same [] = Permuted.empty
 permuted-same (b ∷ ts) = Permuted.front (permuted-same ts)
 
--- behind others that stay
+-- texts in another order are so behind others that stay
 permuted-behind : (xs : List (List ℕ)) {ts us : List (List ℕ)} → Permuted ts us → Permuted (xs ++ ts) (xs ++ us)
 permuted-behind [] p = p
 permuted-behind (x ∷ xs) p = Permuted.front (permuted-behind xs p)
 
--- one comes to the front
+-- a text comes to the front
 permuted-first : (ys : List (List ℕ)) (b : List ℕ) (zs : List (List ℕ)) → Permuted (ys ++ (b ∷ zs)) (b ∷ (ys ++ zs))
 permuted-first [] b zs = permuted-same (b ∷ zs)
 permuted-first (y ∷ ys) b zs = Permuted.then (Permuted.front (permuted-first ys b zs)) Permuted.swap
 
--- and goes back there
+-- a text goes from the front to a place behind others
 permuted-back : (ys : List (List ℕ)) (b : List ℕ) (zs : List (List ℕ)) → Permuted (b ∷ (ys ++ zs)) (ys ++ (b ∷ zs))
 permuted-back [] b zs = permuted-same (b ∷ zs)
 permuted-back (y ∷ ys) b zs = Permuted.then Permuted.swap (Permuted.front (permuted-back ys b zs))
 
--- two change places
+-- two texts change places
 permuted-two : (xs : List (List ℕ)) (a : List ℕ) (ys : List (List ℕ)) (b : List ℕ) (zs : List (List ℕ))
     → Permuted (xs ++ (a ∷ (ys ++ (b ∷ zs)))) (xs ++ (b ∷ (ys ++ (a ∷ zs))))
 permuted-two xs a ys b zs =
@@ -40,7 +40,7 @@ permuted-two xs a ys b zs =
 
 -- ---- the order of those of which a test holds
 module _ (p : List ℕ → Bool) where
-  -- those of two lists
+  -- the texts of two lists of which a test holds are those of each
   those-join : (xs ys : List (List ℕ)) → those p (xs ++ ys) ≡ those p xs ++ those p ys
   unfolding those
   those-join [] ys = refl
@@ -51,17 +51,17 @@ module _ (p : List ℕ → Bool) where
       go true e = ap (λ (z : List (List ℕ)). x ∷ z) e
       go false e = e
 
-  -- one of which it holds comes first
+  -- where the test holds of the first text, that comes first among the texts of which it holds
   those-one : (b : List ℕ) (bs : List (List ℕ)) → p b ≡ true → those p (b ∷ bs) ≡ b ∷ those p bs
   unfolding those
   those-one b bs h = rw h refl
 
-  -- one of which it does not hold drops out
+  -- where the test does not hold of the first text, that drops out of the texts of which it holds
   those-not : (b : List ℕ) (bs : List (List ℕ)) → p b ≡ false → those p (b ∷ bs) ≡ those p bs
   unfolding those
   those-not b bs h = rw h refl
 
-  -- neighbours of which it does not hold at once
+  -- neighbours of which the test does not hold at once change places, and the texts of which it holds stay in order
   pub those-swap : (a b : List ℕ) (zs : List (List ℕ)) → (p a && p b) ≡ false → those p (a ∷ b ∷ zs) ≡ those p (b ∷ a ∷ zs)
   unfolding those
   those-swap a b zs = go (p a) (p b)
@@ -72,16 +72,16 @@ module _ (p : List ℕ → Bool) where
       go true false h = refl
       go false u h = refl
 
-  -- behind others that stay
+  -- where the texts of which the test holds are the same in two lists, they are so behind others that stay
   those-behind : (xs ts us : List (List ℕ)) → those p ts ≡ those p us → those p (xs ++ ts) ≡ those p (xs ++ us)
   those-behind xs ts us e = those-join xs ts ∙ ap (λ (z : List (List ℕ)). those p xs ++ z) e ∙ sym (those-join xs us)
 
-  -- one of which it holds, past others of which it does not
+  -- a text goes past others of which the test does not hold, and the texts of which it holds stay in order
   those-past : (a : List ℕ) (ys zs : List (List ℕ)) → those p ys ≡ [] → those p (a ∷ (ys ++ zs)) ≡ those p (ys ++ (a ∷ zs))
   unfolding those
   those-past a ys zs e = rw (those-join ys zs, those-join ys (a ∷ zs), e) refl
 
-  -- where it holds of none in two lists, it holds of none in the first
+  -- where the test holds of none in two lists joined, it holds of none in the first
   those-fore : (xs ys : List (List ℕ)) → those p (xs ++ ys) ≡ [] → those p xs ≡ []
   those-fore xs ys e = go (those p xs) (those p ys) (sym (those-join xs ys) ∙ e)
     where
@@ -89,7 +89,7 @@ module _ (p : List ℕ → Bool) where
       go [] vs e = refl
       go (w ∷ ws) vs e = clash (cc)
 
-  -- nor in the second
+  -- where the test holds of none in two lists joined, it holds of none in the second
   those-aft : (xs ys : List (List ℕ)) → those p (xs ++ ys) ≡ [] → those p ys ≡ []
   those-aft xs ys e = go (those p xs) (those p ys) (sym (those-join xs ys) ∙ e)
     where
@@ -97,7 +97,7 @@ module _ (p : List ℕ → Bool) where
       go [] vs e = e
       go (w ∷ ws) vs e = clash (cc)
 
-  -- two that change places: where it holds of one, it holds of no other there
+  -- two texts change places, each of which the test holds of only if of no other there, and the texts of which it holds stay in order
   those-two : (a : List ℕ) (ys : List (List ℕ)) (b : List ℕ) (zs : List (List ℕ)) → (p a ≡ true → those p (ys ++ (b ∷ zs)) ≡ [])
       → (p b ≡ true → those p (a ∷ (ys ++ zs)) ≡ []) → those p (a ∷ (ys ++ (b ∷ zs))) ≡ those p (b ∷ (ys ++ (a ∷ zs)))
   those-two a ys b zs h k = go (p a) (p b) refl refl
@@ -115,15 +115,15 @@ module _ (p : List ℕ → Bool) where
       go true true i j = clash (cc (those-one a (ys ++ zs) i, k j))
 
 -- ---- rearrangements
--- nothing changes places
+-- a rearrangement in which nothing changes places
 pub rearranged-same : (ts : List (List ℕ)) → Rearranged ts ts
 rearranged-same ts = record { whole = permuted-same ts; ids = λ k. refl; contexts = refl }
 
--- one rearrangement after the other
+-- one rearrangement after the other is a rearrangement
 pub rearranged-then : {ts us vs : List (List ℕ)} → Rearranged ts us → Rearranged us vs → Rearranged ts vs
 rearranged-then a b = record { whole = Permuted.then (a .whole) (b .whole); ids = λ k. a .ids k ∙ b .ids k; contexts = a .contexts ∙ b .contexts }
 
--- neighbours with different ids that are not both unit contexts, behind others that stay
+-- neighbours with different ids that are not both unit contexts may change places, behind others that stay
 pub rearranged-swap : (xs : List (List ℕ)) (a b : List ℕ) (zs : List (List ℕ)) → ((k : ℕ) → (named k (dataHead a) && named k (dataHead b)) ≡ false)
     → (contextText a && contextText b) ≡ false → Rearranged (xs ++ (a ∷ b ∷ zs)) (xs ++ (b ∷ a ∷ zs))
 rearranged-swap xs a b zs h k = record {
@@ -137,7 +137,7 @@ pub record Lone (b : List ℕ) (rs : List (List ℕ)) : Type 0 where
   pub id : (k : ℕ) → named k (dataHead b) ≡ true → ofId k rs ≡ []
   pub plain : contextText b ≡ false
 
--- it "may change places with any other such record"
+-- a record whose id no other has, and that is no unit context, "may change places with any other such record"
 pub rearranged-lone : (xs : List (List ℕ)) (a : List ℕ) (ys : List (List ℕ)) (b : List ℕ) (zs : List (List ℕ))
     → Lone a (xs ++ (ys ++ (b ∷ zs))) → Lone b (xs ++ (a ∷ (ys ++ zs)))
     → Rearranged (xs ++ (a ∷ (ys ++ (b ∷ zs)))) (xs ++ (b ∷ (ys ++ (a ∷ zs))))

@@ -17,7 +17,7 @@ use Rattle.lookup.specs.Records.{lastOf, orElse}
 use Rattle.order.specs.Order.{named, those, ofId, contentFound}
 use Rattle.order.specs.Shape.{Says, AllSay}
 
--- the last text
+-- the last of some texts; none where there is none
 abbrev pub lastText : List (List ℕ) → Option (List ℕ)
 lastText [] = none
 lastText (b ∷ bs) = orElse (lastText bs) (some b)
@@ -71,7 +71,7 @@ found-says k f (w ∷ ws) (b ∷ bs) (y, a) = rw (says-id k y) (go (eqb (w .id) 
 pub says-content : {f : List ℕ} {w : Row} {b : List ℕ} → Says f w b → alone b ≡ good (content f w)
 says-content {f} {w} {b} y = alone-is (y .closed) ∙ ap good (sym (ap (λ (g : List ℕ). content g w) (y .shape) ∙ ap (content _) (y .row) ∙ record-content (y .closed) (y .front) (y .back)))
 
--- two rows of one text say the same
+-- two rows of one text, or none for none, say the same
 pub same-content : (f g : List ℕ) (x y : Option Row) (z : Option (List ℕ)) → FoundSay f x z → FoundSay g y z → contentFound f x ≡ contentFound g y
 same-content f g none none none h k = refl
 same-content f g none (some v) none h k = absurd k

@@ -63,25 +63,25 @@ pub data Cuts (s : List ℕ) : Section → List ℕ → Cut → Type 0 where
   -- a section word or a record that is ignored: g is the statement with what leads up to it
   turn : {sec to : Section} {xs r : List ℕ} {c : Cut} (g : List ℕ) → xs ≡ g ++ r → statement s sec xs ≡ moved to r → Cuts s to r c
       → Cuts s sec xs (led g c)
-  -- a header record likewise
+  -- a header record: g is the statement with what leads up to it
   heading : {sec : Section} {xs ys r : List ℕ} {w : HeaderRow} {c : Cut} (g : List ℕ) → xs ≡ g ++ r → statement s sec xs ≡ header w ys r
       → Cuts s InHeader r c → Cuts s sec xs (led g c)
   -- a data record: after g its text b, its `;` and the rest
   entry : {sec : Section} {xs g b r : List ℕ} {w : Row} {c : Cut} → xs ≡ g ++ (b ++ (59 ∷ r))
       → statement s sec xs ≡ record′ w (b ++ (59 ∷ r)) r → Cuts s InData r c → Cuts s sec xs (piece g b (led (59 ∷ []) c))
 
--- the same texts in another order
+-- two lists of the same texts, in another order
 pub data Permuted : List (List ℕ) → List (List ℕ) → Type 0 where
-  -- nothing
+  -- no texts are themselves
   empty : Permuted [] []
-  -- one that stays in front of others in another order
+  -- a text stays in front of others in another order
   front : {b : List ℕ} {ts us : List (List ℕ)} → Permuted ts us → Permuted (b ∷ ts) (b ∷ us)
   -- the first two change places
   swap : {a b : List ℕ} {ts : List (List ℕ)} → Permuted (a ∷ b ∷ ts) (b ∷ a ∷ ts)
-  -- one change after the other
+  -- one change of the order after another
   then : {ts us vs : List (List ℕ)} → Permuted ts us → Permuted us vs → Permuted ts vs
 
--- a data record's text has the id k
+-- the head of a data record's text has the id k
 abbrev pub named : ℕ → Head → Bool
 named k (Bad why) = false
 named k (Complex i o) = eqb i k
@@ -96,7 +96,7 @@ those p (b ∷ bs) = pick (p b) (b ∷ those p bs) (those p bs)
 abbrev pub ofId : ℕ → List (List ℕ) → List (List ℕ)
 ofId k bs = those (λ b. named k (dataHead b)) bs
 
--- yes, where that is the answer
+-- what an answer says, where it is one; false where it is a refusal
 abbrev pub truly : Told Bool → Bool
 truly (good b) = b
 truly (bad q) = false

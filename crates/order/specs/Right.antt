@@ -23,14 +23,14 @@ use Rattle.order.specs.Found.{lastText, found-says, same-content}
 use Rattle.order.specs.Counted.{same-counts, same-headers}
 use Rattle.order.specs.Contexts.{finds-alike, all-asked, contexts-alike}
 
--- the same answer, or the same refusal's number
+-- answers that are the same, or the same refusal, are the same units or have the same refusal number
 units-number : (x y : Told Units) → SameTold x y → SameUnits x y
 units-number (good u) (good v) h = h
 units-number (good u) (bad q) h = absurd h
 units-number (bad p) (good v) h = absurd h
 units-number (bad p) (bad q) (h, k) = h
 
--- the unit answers of two files whose rows are those of rearranged texts
+-- the unit answers of two files whose rows are those of rearranged texts are the same
 same-units : (s f : List ℕ) (t u : Table) (ts us : List (List ℕ)) → AllSay s (t .records) ts → AllSay f (u .records) us → Rearranged ts us
     → SameUnits (unitsOf s t) (unitsOf f u)
 same-units s f t u ts us a b r =

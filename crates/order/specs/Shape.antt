@@ -29,7 +29,7 @@ pub record Fit (b : List ℕ) : Type 0 where
   pub after : List ℕ
   pub stands : Stands before b after
 
--- all of them
+-- all of some texts are closed and stand as records somewhere
 abbrev pub AllFit : List (List ℕ) → Type 0
 AllFit [] = Unit {0}
 AllFit (b ∷ bs) = Fit b × AllFit bs
@@ -42,7 +42,7 @@ pub record Says (f : List ℕ) (w : Row) (b : List ℕ) : Type 0 where
   pub shape : f ≡ front ++ (b ++ back)
   pub row : w ≡ rowFrom (length front) closed
 
--- the rows are those of these texts, in order
+-- data rows of the file f are those of these texts, in order
 abbrev pub AllSay : List ℕ → List Row → List (List ℕ) → Type 0
 AllSay f [] [] = Unit {0}
 AllSay f [] (b ∷ bs) = ⊥
@@ -57,7 +57,7 @@ pub record SaysHeader (f : List ℕ) (w : HeaderRow) (b : List ℕ) : Type 0 whe
   pub shape : f ≡ front ++ (b ++ back)
   pub row : w ≡ headerRowFrom (length front) closed
 
--- the header rows are those of these texts, in order
+-- header rows of the file f are those of these texts, in order
 abbrev pub AllHead : List ℕ → List HeaderRow → List (List ℕ) → Type 0
 AllHead f [] [] = Unit {0}
 AllHead f [] (b ∷ bs) = ⊥
@@ -74,13 +74,13 @@ pub data Shape : Section → Cut → List (List ℕ) → Type 0 where
       → Shape InHeader c hs → Shape InHeader (led ((t ++ b) ++ (59 ∷ [])) c) (b ∷ hs)
   entry : {c : Cut} {hs : List (List ℕ)} (t b r : List ℕ) → Stands t b r → Shape InData c hs → Shape InData (piece t b (led (59 ∷ []) c)) hs
 
--- the file with bytes in front
+-- a cut with bytes in front, with texts in its records' places, is these bytes and then the cut's own
 pub led-filled : (g : List ℕ) (c : Cut) (us : List (List ℕ)) → filled (led g c) us ≡ g ++ filled c us
 led-filled g (rest h) us = refl
 led-filled g (piece h b c) [] = append-assoc g h _
 led-filled g (piece h b c) (u ∷ us) = append-assoc g h _
 
--- bytes in front are no record
+-- bytes in front of a cut add no record
 pub led-texts : (g : List ℕ) (c : Cut) → texts (led g c) ≡ texts c
 led-texts g (rest h) = refl
 led-texts g (piece h b c) = refl
@@ -92,7 +92,7 @@ pub record Read (f : List ℕ) (sec : Section) (h r : ℕ) (xs : List ℕ) (hs u
   pub rows : AllSay f (result .records) us
   pub heads : AllHead f (result .headers) hs
 
--- one statement after the other
+-- What a reading of the file gives, one statement after the other.
 module _ (f : List ℕ) (H R : ℕ) where
   read-over : (sec : Section) (h r : ℕ) (xs : List ℕ) → statement f sec xs ≡ ends → Read f sec h r xs [] [] H R
   read-over sec h r xs e = record { result = table [] []; reads = Reads.over (rw e at (statement-is f sec xs)); rows = tt; heads = tt }
@@ -119,7 +119,7 @@ module _ (f : List ℕ) (H R : ℕ) where
     heads = d .heads;
   }
 
--- the file f, read from what stands in the place of a cut, with these texts in its records' places: q precedes it
+-- the file f is read, from where a cut begins with these texts in its records' places, to their rows: q precedes it
 pub read-filled : (f q : List ℕ) (H R : ℕ) {sec : Section} {c : Cut} {hs : List (List ℕ)} → Shape sec c hs → (us : List (List ℕ)) → AllFit us
     → length us ≡ length (texts c) → f ≡ q ++ filled c us → (h r : ℕ) → h + length hs ≤ H → r + length us ≤ R
     → Read f sec h r (filled c us) hs us H R

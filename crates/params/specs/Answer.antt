@@ -29,7 +29,7 @@ pub record Read (A : Type 0) : Type 0 where
   pub place : ℕ
   pub end : ℕ
 
--- such an answer by its parts
+-- a reader's answer from its value or refusal, and the place and end where the reader then stands
 abbrev pub reading : {A : Type 0} → Told A → ℕ → ℕ → Read A
 reading a p e = record { answer = a; place = p; end = e }
 
@@ -38,7 +38,7 @@ pub record Span : Type 0 where
   pub start : ℕ
   pub stop : ℕ
 
--- such a parameter by its places
+-- a parameter in the file from its start and its stop
 abbrev pub span : ℕ → ℕ → Span
 span a z = record { start = a; stop = z }
 
@@ -50,7 +50,7 @@ inFile n p e = leb p e && leb e n
 abbrev pub within : {A : Type 0} → List ℕ → ℕ → ℕ → Read A → Read A
 within s p e a = pick (inFile (length s) p e) a (reading (bad (refusal 9 0 0)) p e)
 
--- what the code's answer says
+-- what the code's answer says of the next parameter: its span or a refusal, and where the reader then stands
 abbrev pub toldCut : Code.Cut → Read Span
 toldCut (Code.the-variants.Span a z t) = reading (good (span a z)) (t .place) (t .end)
 toldCut (Code.the-variants.Refused f t) = reading (bad (told f)) (t .place) (t .end)
@@ -60,16 +60,16 @@ abbrev pub CutIn : ℕ → Code.Cut → Type 0
 CutIn n (Code.the-variants.Span a z t) = (a ≤ z) × (z ≤ n)
 CutIn n (Code.the-variants.Refused f t) = Unit {0}
 
--- a reader of the file s, or 9
+-- a reader of the file s at this place and end; 9 where they are outside the file or backwards
 abbrev pub openedOf : List ℕ → ℕ → ℕ → Told State
 openedOf s p e = pick (inFile (length s) p e) (good (record { place = p; end = e })) (bad (refusal 9 0 0))
 
--- what the code's answer says
+-- what the code's answer says of a new reader: the reader, or a refusal
 abbrev pub toldOpened : Opened → Told State
 toldOpened (OpenedCode.the-variants.Reader t) = good t
 toldOpened (OpenedCode.the-variants.Refused f) = bad (told f)
 
--- what the code's answer says
+-- what the code's answer says of whether no parameter is left: that, or a refusal, and where the reader then stands
 abbrev pub toldEmptiness : Emptiness → Read Bool
 toldEmptiness (EmptyCode.the-variants.Empty b t) = reading (good b) (t .place) (t .end)
 toldEmptiness (EmptyCode.the-variants.Refused f t) = reading (bad (told f)) (t .place) (t .end)
@@ -79,21 +79,21 @@ abbrev pub onward : {A B : Type 0} → (A → Told B) → Told A → Told B
 onward f (good a) = f a
 onward f (bad q) = bad q
 
--- the same of a reader's answer, which leaves the reader where it stands
+-- a reader's answer, read on where it is no refusal; the reader stays where it stands
 abbrev pub mapped : {A B : Type 0} → (A → Told B) → Read A → Read B
 mapped f a = reading (onward f (a .answer)) (a .place) (a .end)
 
--- what the code's answer says
+-- what the code's answer says of parameters that are skipped: that they were, or a refusal, and where the reader then stands
 abbrev pub toldSkipped : Skipped → Read (Unit {0})
 toldSkipped (SkippedCode.the-variants.Past t) = reading (good tt) (t .place) (t .end)
 toldSkipped (SkippedCode.the-variants.Refused f t) = reading (bad (told f)) (t .place) (t .end)
 
--- what the code's answer says, of the bytes xs
+-- what the code's answer says of a parameter's end in the bytes xs: where it stops and is bounded, or an open literal's quote
 abbrev pub endedAt : List ℕ → Ended → Cut
 endedAt xs (At z bound) = cut (drop z xs) (drop bound xs)
 endedAt xs (Open q) = unclosed (drop q xs)
 
--- its places lie from the parameter's start, in order, to the end
+-- the places of a parameter's end lie from the parameter's start, in order, to n
 abbrev pub EndedIn : ℕ → ℕ → Ended → Type 0
 EndedIn start n (At z bound) = (start ≤ z) × (z ≤ bound) × (bound ≤ n)
 EndedIn start n (Open q) = (start ≤ q) × (q ≤ n)

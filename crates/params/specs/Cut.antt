@@ -23,7 +23,7 @@ pub record Stand : Type 0 where
   pub opened : List ℕ
   pub solid : List ℕ
 
--- such a state by its parts
+-- the state of a parameter's reading, from its parts
 abbrev pub stand : Mode → Bool → ℕ → List ℕ → List ℕ → Stand
 stand m b d o s = record { mode = m; binary = b; depth = d; opened = o; solid = s }
 
@@ -31,7 +31,7 @@ stand m b d o s = record { mode = m; binary = b; depth = d; opened = o; solid = 
 abbrev pub outside : Bool → Mode → ℕ → Bool
 outside b m c = pick b false (calm m c)
 
--- a slash that opened no comment and a quote that ended a string are no trivia: what the parameter reaches to before the place here
+-- what the parameter reaches to before the place `here`: a slash that opened no comment and a quote that ended a string are no trivia
 abbrev pub settled : {P : Type 0} → Mode → P → P → P
 settled Plain s here = s
 settled Slash s here = here
@@ -40,8 +40,8 @@ settled Quoted s here = here
 settled Remark s here = s
 settled Starred s here = s
 
--- what it reaches to after the byte c, where s is what it reaches to before the byte and k what it reached to when the last byte outside
--- was read: whitespace is left out, and so is a slash, until it is known to open no comment
+-- what the parameter reaches to after the byte c; s is that before the byte, k that when the last byte outside was read: whitespace is
+-- left out, and so is a slash, until it is known to open no comment
 abbrev pub solidAfter : {P : Type 0} → Bool → Bool → ℕ → P → P → P → P
 solidAfter out b c s k past = pick out (pick (white c || eqb c 47) s past) (pick b past k)
 
@@ -57,7 +57,7 @@ modeAfter b m c = pick b m (next m c)
 abbrev pub binaryAfter : Bool → Bool → ℕ → Bool
 binaryAfter out b c = pick b (not (eqb c 34)) (out && eqb c 34)
 
--- the state after the byte c
+-- the state of a parameter's reading after the byte c
 abbrev pub passed : Stand → Bool → ℕ → List ℕ → Stand
 passed s out c r =
     stand
@@ -83,7 +83,7 @@ over Quoted s o = cut [] []
 over Remark s o = cut s []
 over Starred s o = cut s []
 
--- the bytes ended in this state
+-- a parameter whose bytes ended in this state
 abbrev pub cutEnd : Stand → Cut
 cutEnd s = pick (s .binary) (unclosed (s .opened)) (over (s .mode) (s .solid) (s .opened))
 
@@ -91,7 +91,7 @@ cutEnd s = pick (s .binary) (unclosed (s .opened)) (over (s .mode) (s .solid) (s
 unfoldable pub cutOf : List ℕ → Cut
 cutOf xs = walk cutTurn cutEnd (stand Plain false 0 xs xs) xs
 
--- "an open comment runs to the end"
+-- "an open comment runs to the end": what is left after trivia
 abbrev pub runsOut : Sought → List ℕ
 runsOut (at r) = r
 runsOut (fault n r) = []
@@ -100,7 +100,7 @@ runsOut (fault n r) = []
 unfoldable pub started : List ℕ → List ℕ
 started xs = runsOut (trivia xs)
 
--- "one comma is eaten"
+-- "one comma is eaten": what is left after it
 abbrev pub eaten : List ℕ → List ℕ
 eaten [] = []
 eaten (c ∷ r) = r

@@ -21,32 +21,32 @@ one-parameter : paramOf (49 ∷ 44 ∷ []) 0 2 ≡ reading (good (span 0 1)) 2 2
 unfolding paramOf started cutOf trivia walk
 one-parameter = refl
 
--- and then 10
+-- after the one parameter of `A(1,)` there is none: 10
 then-none : paramOf (49 ∷ 44 ∷ []) 2 2 ≡ reading (bad (refusal 10 0 2)) 2 2
 unfolding paramOf started trivia walk
 then-none = refl
 
--- an empty one before another: `,1`
+-- an empty parameter before another, `,1`, is a parameter
 empty-first : paramOf (44 ∷ 49 ∷ []) 0 2 ≡ reading (good (span 0 0)) 1 2
 unfolding paramOf started cutOf trivia walk
 empty-first = refl
 
--- a comma in a string, in a binary literal, in a nested list and in a comment: `'1,',2`
+-- a comma in a string ends no parameter: `'1,',2`
 in-a-string : paramOf (39 ∷ 49 ∷ 44 ∷ 39 ∷ 44 ∷ 50 ∷ []) 0 6 ≡ reading (good (span 0 4)) 5 6
 unfolding paramOf started cutOf trivia walk
 in-a-string = refl
 
--- `"1,",2`
+-- a comma in a binary literal ends no parameter: `"1,",2`
 in-a-binary : paramOf (34 ∷ 49 ∷ 44 ∷ 34 ∷ 44 ∷ 50 ∷ []) 0 6 ≡ reading (good (span 0 4)) 5 6
 unfolding paramOf started cutOf trivia walk
 in-a-binary = refl
 
--- `(1,),2`
+-- a comma in a nested list ends no parameter: `(1,),2`
 in-a-list : paramOf (40 ∷ 49 ∷ 44 ∷ 41 ∷ 44 ∷ 50 ∷ []) 0 6 ≡ reading (good (span 0 4)) 5 6
 unfolding paramOf started cutOf trivia walk
 in-a-list = refl
 
--- `1/*,*/,2`: and the comment is dropped
+-- a comma in a comment ends no parameter, and the comment is dropped: `1/*,*/,2`
 in-a-comment : paramOf (49 ∷ 47 ∷ 42 ∷ 44 ∷ 42 ∷ 47 ∷ 44 ∷ 50 ∷ []) 0 8 ≡ reading (good (span 0 1)) 7 8
 unfolding paramOf started cutOf trivia walk
 in-a-comment = refl

@@ -51,7 +51,7 @@ pub data Runs : ℕ → List ℕ → ℕ → List ℕ → Type 0 where
   blank : {d e c : ℕ} {xs ys : List ℕ} → Runs d xs e (c ∷ ys) → white c ≡ true → Runs d xs e ys
   comment : {d e : ℕ} {xs ys zs : List ℕ} → Runs d xs e ys → Comment ys zs → Runs d xs e zs
 
--- the same, and what is read ends in no trivia: it is empty, or its last is a token
+-- from xs at depth d up to ys at depth e no comma at depth 0, and what is read ends in no trivia: it is empty, or its last is a token
 pub data Whole : ℕ → List ℕ → ℕ → List ℕ → Type 0 where
   none : {d : ℕ} {xs : List ℕ} → Whole d xs d xs
   last : {d e f : ℕ} {xs ys zs : List ℕ} → Runs d xs e ys → Token e ys f zs → Whole d xs f zs
@@ -61,7 +61,7 @@ pub data Trails : List ℕ → List ℕ → Type 0 where
   shut : {xs ys : List ℕ} → Trivia xs ys → Trails xs ys
   unclosed : {xs o : List ℕ} → Trivia xs o → OpenRemark o → Trails xs []
 
--- "runs to a comma at depth 0 or to the end"
+-- "runs to a comma at depth 0 or to the end": one of these stands here, at this depth
 pub data Bound : ℕ → List ℕ → Type 0 where
   comma : {r : List ℕ} → Bound 0 (44 ∷ r)
   end : {d : ℕ} → Bound d []

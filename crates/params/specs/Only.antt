@@ -22,67 +22,67 @@ use Rattle.params.specs.declared.Emptiness as EmptyCode
 use Rattle.params.specs.declared.Skipped.{Skipped}
 use Rattle.params.specs.declared.Skipped as SkippedCode
 
--- the reader that an answer leaves
+-- the reader that an answer leaves, by its place and end
 abbrev stateOf : {A : Type 0} → Read A → State
 stateOf r = record { place = r .place; end = r .end }
 
--- the answer that tells this
+-- the code's answer about the next parameter that tells this
 cutBack : Told Span → State → CutCode.Cut
 cutBack (good a) t = CutCode.the-variants.Span (a .start) (a .stop) t
 cutBack (bad q) t = CutCode.the-variants.Refused (faultOf q) t
 
--- it is the answer that told it
+-- what an answer about the next parameter tells gives back that answer
 cut-told : (a : CutCode.Cut) → cutBack (toldCut a .answer) (stateOf (toldCut a)) ≡ a
 unfolding cutBack
 cut-told (CutCode.the-variants.Span a z t) = refl
 cut-told (CutCode.the-variants.Refused f t) = ap (λ g. CutCode.the-variants.Refused g t) (faultOf-told f)
 
--- `param_span`
+-- `param_span` has one answer: two that tell the same are one
 pub cut-only : (a b : CutCode.Cut) → toldCut a ≡ toldCut b → a ≡ b
 cut-only a b e = sym (cut-told a) ∙ ap (λ (r : Read Span). cutBack (r .answer) (stateOf r)) e ∙ cut-told b
 
--- the reader, or the refusal, that tells this
+-- the code's answer about a new reader that tells this
 openedBack : Told State → Opened
 openedBack (good t) = OpenedCode.the-variants.Reader t
 openedBack (bad q) = OpenedCode.the-variants.Refused (faultOf q)
 
--- it is the answer that told it
+-- what an answer about a new reader tells gives back that answer
 opened-told : (a : Opened) → openedBack (toldOpened a) ≡ a
 unfolding openedBack
 opened-told (OpenedCode.the-variants.Reader t) = refl
 opened-told (OpenedCode.the-variants.Refused f) = ap OpenedCode.the-variants.Refused (faultOf-told f)
 
--- `new`
+-- `new` has one answer: two that tell the same are one
 pub opened-only : (a b : Opened) → toldOpened a ≡ toldOpened b → a ≡ b
 opened-only a b e = sym (opened-told a) ∙ ap openedBack e ∙ opened-told b
 
--- whether none is left, or the refusal, that tells this
+-- the code's answer about whether no parameter is left that tells this
 emptyBack : Told Bool → State → Emptiness
 emptyBack (good b) t = EmptyCode.the-variants.Empty b t
 emptyBack (bad q) t = EmptyCode.the-variants.Refused (faultOf q) t
 
--- it is the answer that told it
+-- what an answer about whether no parameter is left tells gives back that answer
 empty-told : (a : Emptiness) → emptyBack (toldEmptiness a .answer) (stateOf (toldEmptiness a)) ≡ a
 unfolding emptyBack
 empty-told (EmptyCode.the-variants.Empty b t) = refl
 empty-told (EmptyCode.the-variants.Refused f t) = ap (λ g. EmptyCode.the-variants.Refused g t) (faultOf-told f)
 
--- `is_empty`
+-- `is_empty` has one answer: two that tell the same are one
 pub empty-only : (a b : Emptiness) → toldEmptiness a ≡ toldEmptiness b → a ≡ b
 empty-only a b e = sym (empty-told a) ∙ ap (λ (r : Read Bool). emptyBack (r .answer) (stateOf r)) e ∙ empty-told b
 
--- what was skipped, or the refusal, that tells this
+-- the code's answer about skipped parameters that tells this
 skippedBack : Told (Unit {0}) → State → Skipped
 skippedBack (good u) t = SkippedCode.the-variants.Past t
 skippedBack (bad q) t = SkippedCode.the-variants.Refused (faultOf q) t
 
--- it is the answer that told it
+-- what an answer about skipped parameters tells gives back that answer
 skipped-told : (a : Skipped) → skippedBack (toldSkipped a .answer) (stateOf (toldSkipped a)) ≡ a
 unfolding skippedBack
 skipped-told (SkippedCode.the-variants.Past t) = refl
 skipped-told (SkippedCode.the-variants.Refused f t) = ap (λ g. SkippedCode.the-variants.Refused g t) (faultOf-told f)
 
--- `skip`, `skip_n`
+-- `skip` and `skip_n` have one answer: two that tell the same are one
 pub skipped-only : (a b : Skipped) → toldSkipped a ≡ toldSkipped b → a ≡ b
 skipped-only a b e = sym (skipped-told a) ∙ ap (λ (r : Read (Unit {0})). skippedBack (r .answer) (stateOf r)) e ∙ skipped-told b
 
@@ -90,7 +90,7 @@ skipped-only a b e = sym (skipped-told a) ∙ ap (λ (r : Read (Unit {0})). skip
 rest-one : (xs : List ℕ) (i j : ℕ) → i ≤ length xs → j ≤ length xs → drop i xs ≡ drop j xs → i ≡ j
 rest-one xs i j h k e = omega (arith, length-drop i xs, length-drop j xs, ap length e)
 
--- `param_end`
+-- `param_end` has one answer: two that say the same of the parameter's end are one
 pub ended-only : (xs : List ℕ) (start : ℕ) (a b : Ended) → endedAt xs a ≡ cutOf (drop start xs) → endedAt xs b ≡ cutOf (drop start xs)
     → EndedIn (min start (length xs)) (length xs) a → EndedIn (min start (length xs)) (length xs) b → a ≡ b
 ended-only xs start a b e f h k = go a b (e ∙ sym f) h k

@@ -28,7 +28,7 @@ abbrev pub PlacedIn : {A : Type 0} → ℕ → Told A → Type 0
 PlacedIn n (good a) = Unit {0}
 PlacedIn n (bad q) = q .place ≤ n
 
--- a reader that stood at p and reads up to e stands between the two, and reads up to e still
+-- a reader that stood at p and reads up to e now stands between the two, and reads up to e still
 pub record Stands {A : Type 0} (p e : ℕ) (r : Read A) : Type 0 where
   pub above : p ≤ r .place
   pub within : r .place ≤ e
@@ -43,7 +43,7 @@ pub record Past (s : List ℕ) (p e : ℕ) (a : Span) (q : ℕ) : Type 0 where
   pub within : q ≤ e
   pub comma : (q ≡ e) ⊎ ((a .stop < q) × (getD s (q - 1) 0 ≡ 44))
 
--- what an answer says of the reader's own: a parameter is passed; a refusal is 9, 10 or 11
+-- what an answer for the next parameter says: a parameter in the file, which the reader has passed; or a refusal up to 11
 abbrev pub ToldPast : List ℕ → ℕ → ℕ → Told Span → ℕ → Type 0
 ToldPast s p e (good a) q = Inside s p e × Past s p e a q
 ToldPast s p e (bad f) q = f .number ≤ 11
@@ -69,7 +69,7 @@ module _ (s : List ℕ) (p e : ℕ) where
       go : {d : ℕ} → Bound d (rest s e b) → getD (take e s) b 0 ≡ 44
       go = byte (rest s e b) refl
 
-  -- a refusal of the reader's own lies in the file
+  -- the place of a refusal of the next parameter lies in the file
   form-placed : {r : Read Span} → NextForm s p e r → PlacedIn (length s) (r .answer)
   form-placed (NextForm.outside n) = omega arith
   form-placed (NextForm.none i h) = i .1
@@ -77,7 +77,7 @@ module _ (s : List ℕ) (p e : ℕ) where
   form-placed (NextForm.last i ae az ze h q) = tt
   form-placed (NextForm.unclosed i aq qe h u) = let k = i .1 in omega arith
 
-  -- where the reader then stands
+  -- after the next parameter the reader stands between where it was and its end
   form-stands : {r : Read Span} → NextForm s p e r → Inside s p e → Stands p e r
   form-stands (NextForm.outside n) i = absurd (n i)
   form-stands (NextForm.none i h) k = record { above = i .0; within = omega arith; kept = refl }
@@ -85,7 +85,7 @@ module _ (s : List ℕ) (p e : ℕ) where
   form-stands (NextForm.last i ae az ze h q) k = record { above = i .0; within = omega arith; kept = refl }
   form-stands (NextForm.unclosed {a} i aq qe h u) k = let l = starts-from i a (omega arith) h in record { above = l; within = omega arith; kept = refl }
 
-  -- and what it has passed
+  -- what the reader has passed after the next parameter, by the rules
   form-past : {r : Read Span} → NextForm s p e r → ToldPast s p e (r .answer) (r .place)
   form-past (NextForm.outside n) = omega arith
   form-past (NextForm.none i h) = omega arith
@@ -105,15 +105,15 @@ module _ (s : List ℕ) (p e : ℕ) where
       (i, record { starts = starts-from i a (omega arith) h; ordered = az; passed = ze; moved = ae; within = omega arith; comma = inl refl })
   form-past (NextForm.unclosed i aq qe h u) = omega arith
 
--- the next parameter: its refusal lies in the file
+-- the next parameter's refusal, if it is one, lies in the file
 pub param-placed : (s : List ℕ) (p e : ℕ) → PlacedIn (length s) (paramOf s p e .answer)
 param-placed s p e = form-placed s p e (next-is s p e)
 
--- the reader stands between where it was and its end
+-- after the next parameter that is computed, the reader stands between where it was and its end
 pub param-stands : (s : List ℕ) (p e : ℕ) → Inside s p e → Stands p e (paramOf s p e)
 param-stands s p e = form-stands s p e (next-is s p e)
 
--- outside the file it stays as it came
+-- a reader outside the file or backwards stays as it came, and its answer is 9
 pub param-stays : (s : List ℕ) (p e : ℕ) → inFile (length s) p e ≡ false → paramOf s p e ≡ reading (bad (refusal 9 0 0)) p e
 unfolding paramOf
 param-stays s p e h = rw h refl
@@ -124,11 +124,11 @@ param-past s p e a h = subst (λ (t : Told Span). ToldPast s p e t (paramOf s p 
 
 -- ---- what a parameter is read as, by any reader f
 module _ {A : Type 0} (f : Span → Told A) (s : List ℕ) (p e : ℕ) where
-  -- it leaves the reader where the parameter left it
+  -- the reader stands after what the next parameter is read as between where it was and its end
   pub mapped-stands : Inside s p e → Stands p e (mapped f (paramOf s p e))
   mapped-stands i = let k = param-stands s p e i in record { above = k .above; within = k .within; kept = k .kept }
 
-  -- its refusal lies in the file, where that of each parameter in the file does
+  -- the refusal of what the next parameter is read as lies in the file, if f's does for each parameter in the file
   pub mapped-placed : ((a : Span) → a .start ≤ a .stop → a .stop ≤ length s → PlacedIn (length s) (f a)) → PlacedIn (length s) (mapped f (paramOf s p e) .answer)
   mapped-placed h = go (paramOf s p e .answer) refl (param-placed s p e)
     where
@@ -136,7 +136,7 @@ module _ {A : Type 0} (f : Span → Told A) (s : List ℕ) (p e : ℕ) where
       go (good a) k l = let (i, u) = param-past s p e a k in let n = i .1 in let m = u .passed in let o = u .within in h a (u .ordered) (omega arith)
       go (bad q) k l = l
 
-  -- outside the file it stays as it came
+  -- a reader outside the file or backwards stays as it came, whatever the next parameter is read as, and its answer is 9
   pub mapped-stays : inFile (length s) p e ≡ false → mapped f (paramOf s p e) ≡ reading (bad (refusal 9 0 0)) p e
   mapped-stays h = rw (param-stays s p e h) refl
 
@@ -151,7 +151,7 @@ module _ {A : Type 0} (f : Span → Told A) (s : List ℕ) (p e : ℕ) where
       go (bad r) k l m = let z : r .number ≡ q .number = cc in absurd (omega arith)
 
 -- ---- `is_empty`, `skip`, `skip_n`
--- whether no parameter is left: the reader goes past the trivia
+-- after the question whether no parameter is left, the reader stands between where it was and its end
 pub empty-stands : (s : List ℕ) (p e : ℕ) → Inside s p e → Stands p e (emptyOf s p e)
 unfolding emptyOf
 empty-stands s p e i = rw (inside-true s p e i) (go (started (rest s e p)) (started-is (rest s e p)))
@@ -166,7 +166,7 @@ empty-stands s p e i = rw (inside-true s p e i) (go (started (rest s e p)) (star
         let l = rest-within (starts-rest h) in
         record { above = omega (arith, n, l, length-drop p (take e s)); within = omega (arith, n); kept = refl }
 
--- its refusal is 9 at 0
+-- a refusal of the question whether no parameter is left lies in the file
 pub empty-placed : (s : List ℕ) (p e : ℕ) → PlacedIn (length s) (emptyOf s p e .answer)
 unfolding emptyOf
 empty-placed s p e = go (inFile (length s) p e) (started (rest s e p))
@@ -176,17 +176,17 @@ empty-placed s p e = go (inFile (length s) p e) (started (rest s e p))
     go true (c ∷ r) = tt
     go false ys = omega arith
 
--- one parameter is skipped
+-- after one parameter was skipped, the reader stands between where it was and its end
 pub skip-stands : (s : List ℕ) (p e : ℕ) → Inside s p e → Stands p e (skipOf s p e)
 unfolding skipOf
 skip-stands s p e = mapped-stands (λ a. good tt) s p e
 
--- its refusal lies in the file
+-- a refusal of one parameter's skipping lies in the file
 pub skip-placed : (s : List ℕ) (p e : ℕ) → PlacedIn (length s) (skipOf s p e .answer)
 unfolding skipOf
 skip-placed s p e = mapped-placed (λ a. good tt) s p e (λ a h k. tt)
 
--- n parameters are skipped, from inside the file
+-- after n parameters were skipped, from inside the file, the reader stands between where it was and its end, and a refusal lies in the file
 skip-from : (n : ℕ) (s : List ℕ) (p e : ℕ) → Inside s p e → Stands p e (skipFrom n s p e) × PlacedIn (length s) (skipFrom n s p e .answer)
 unfolding skipFrom
 skip-from zero s p e i = let k = i .0 in (record { above = omega arith; within = k; kept = refl }, tt)
@@ -208,12 +208,12 @@ skip-from (suc n) s p e i = go (skipOf s p e .answer) (skip-stands s p e i) (ski
         let d = x .kept in
         (record { above = omega arith; within = omega arith; kept = d ∙ f }, y)
 
--- n parameters are skipped
+-- after n parameters were skipped, the reader stands between where it was and its end
 pub skips-stands : (n : ℕ) (s : List ℕ) (p e : ℕ) → Inside s p e → Stands p e (skipsOf n s p e)
 unfolding skipsOf
 skips-stands n s p e i = rw (inside-true s p e i) (skip-from n s p e i .0)
 
--- the refusal that stops it lies in the file
+-- a refusal that stops the skipping of n parameters lies in the file
 pub skips-placed : (n : ℕ) (s : List ℕ) (p e : ℕ) → PlacedIn (length s) (skipsOf n s p e .answer)
 unfolding skipsOf
 skips-placed n s p e = go (inFile (length s) p e) refl

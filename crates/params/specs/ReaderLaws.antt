@@ -27,23 +27,23 @@ use Rattle.params.specs.declared.Cut as Code
 use Rattle.params.specs.declared.Ended.{Ended}
 use Rattle.params.specs.declared.Ended.the-variants.{At, Open}
 
--- both of two tests
+-- where two tests hold together, each of them holds
 and-true : (a b : Bool) → a && b ≡ true → (a ≡ true) × (b ≡ true)
 and-true true true h = (refl, refl)
 and-true true false h = (refl, h)
 and-true false true h = (h, refl)
 and-true false false h = (h, h)
 
--- a place and an end in a file of n bytes
+-- where the test for a place and an end in a file of n bytes passes, they lie in it and not backwards
 pub in-true : (n p e : ℕ) → inFile n p e ≡ true → (p ≤ e) × (e ≤ n)
 in-true n p e h = let (a, b) = and-true (leb p e) (leb e n) h in (leb-true p e a, leb-true e n b)
 
--- where the trivia end
+-- where the search past trivia answers a place, what is left there is what is left after trivia
 pub started-at : (xs : List ℕ) (i p : ℕ) → i ≤ length xs → good p ≡ placed xs (trivia (drop i xs)) → (drop p xs ≡ started (drop i xs)) × (i ≤ p) × (p ≤ length xs)
 unfolding started
 started-at xs i p h e = let (a, b, c) = trivia-at xs i p h e in (sym (ap runsOut a), b, c)
 
--- "an open comment runs to the end"
+-- "an open comment runs to the end": where the search past trivia is refused, nothing is left after trivia
 pub started-open : (xs : List ℕ) (i : ℕ) (q : Refusal) → bad q ≡ placed xs (trivia (drop i xs)) → drop (length xs) xs ≡ started (drop i xs)
 unfolding started
 started-open xs i q = go (trivia (drop i xs))
@@ -61,15 +61,15 @@ started-here xs i h e = let (a, b) = and-true (ltb 32 (getD xs i 0)) (not (eqb (
     rw (split xs i h) (ap runsOut (trivia-here (getD xs i 0) (drop (i + 1) xs) w (eqb-false (getD xs i 0) 47 (not-true (eqb (getD xs i 0) 47) b))))
 
 module _ (s : List ℕ) (p e : ℕ) (inside : inFile (length s) p e ≡ true) (start : ℕ) (begins : drop start (take e s) ≡ started (drop p (take e s))) (short : start ≤ e) where
-  -- the bytes up to the reader's end
+  -- the bytes up to the reader's end are e in number
   total : length (take e s) ≡ e
   total = length-take-le e s (in-true (length s) p e inside .1)
 
-  -- a place among them
+  -- a place up to e is that of the rest from there on
   there : (k : ℕ) → k ≤ e → place (take e s) (drop k (take e s)) ≡ k
   there k h = place-drop (take e s) k (omega (arith, total))
 
-  -- past the comma or at the end
+  -- the place past a comma at k, or the end where none is left
   comma : (k : ℕ) → k ≤ e → place (take e s) (eaten (drop k (take e s))) ≡ min (k + 1) e
   comma k h = go (decLe e k)
     where
@@ -77,7 +77,7 @@ module _ (s : List ℕ) (p e : ℕ) (inside : inFile (length s) p e ≡ true) (s
       go (yes l) = rw (drop-end (take e s) k (omega (arith, total))) (omega (arith, total))
       go (no l) = rw (split (take e s) k (omega (arith, total))) (there (k + 1) (omega arith) ∙ omega arith)
 
-  -- whether no parameter is left
+  -- no parameter is left just where the trivia reach the reader's end, and the answer says so
   pub empty-told : reading (good (eqb start e)) start e ≡ emptyOf s p e
   unfolding emptyOf
   empty-told = rw (inside, ← begins) (go (decLe e start))
@@ -92,18 +92,18 @@ module _ (s : List ℕ) (p e : ℕ) (inside : inFile (length s) p e ≡ true) (s
           let t : place (take e s) (getD (take e s) start 0 ∷ drop (start + 1) (take e s)) ≡ start = ap (place (take e s)) (sym (split (take e s) start (omega (arith, total)))) ∙ there start short in
           rw (split (take e s) start (omega (arith, total)), ne-eqb start e q) (ap (λ (k : ℕ). reading (good false) k e) (sym t))
 
-  -- "At the end there is none (10)"
+  -- "At the end there is none (10)": where the trivia reach the reader's end
   pub param-none : start ≡ e → reading (bad (refusal 10 0 e)) e e ≡ paramOf s p e
   unfolding paramOf
   param-none h =
       let r : place (take e s) [] ≡ e = omega (arith, total) in
       rw (inside, ← begins, drop-end (take e s) start (omega (arith, total))) (ap (λ (k : ℕ). reading (bad (refusal 10 0 k)) k e) (sym r))
 
-  -- a parameter, by its end
+  -- what starts before the reader's end is bounded by the parameter's end
   begun-at : start < e → bounded (take e s) e (drop start (take e s)) (cutOf (drop start (take e s))) ≡ begun (take e s) e (drop start (take e s))
   begun-at h = rw (split (take e s) start (omega (arith, total))) refl
 
-  -- a parameter is cut
+  -- a parameter that is cut is the answer, and the reader stands past its comma or at the end
   pub param-cut : start < e → (z b : ℕ) → z ≤ e → b ≤ e → cut (drop z (take e s)) (drop b (take e s)) ≡ cutOf (drop start (take e s))
       → reading (good (span start z)) (min (b + 1) e) e ≡ paramOf s p e
   unfolding paramOf
@@ -115,7 +115,7 @@ module _ (s : List ℕ) (p e : ℕ) (inside : inFile (length s) p e ≡ true) (s
       ∙ ap (bounded (take e s) e (drop start (take e s))) k
       ∙ begun-at h)
 
-  -- refusal 11
+  -- a parameter with an open literal is 11 at the literal's quote, and the reader stands at the parameter's start
   pub param-open : start < e → (q : ℕ) → q ≤ e → unclosed (drop q (take e s)) ≡ cutOf (drop start (take e s))
       → reading (bad (refusal 11 0 q)) start e ≡ paramOf s p e
   unfolding paramOf
@@ -126,13 +126,13 @@ module _ (s : List ℕ) (p e : ℕ) (inside : inFile (length s) p e ≡ true) (s
       ∙ ap (bounded (take e s) e (drop start (take e s))) k
       ∙ begun-at h)
 
--- what the first of n parameters does to them: its refusal is the answer
+-- where the first of n parameters is refused, so is the skipping of all
 pub skip-stops : (n : ℕ) (s : List ℕ) (p e : ℕ) (q : Refusal) (p′ e′ : ℕ) → 0 < n → reading (bad q) p′ e′ ≡ skipOf s p e → reading (bad q) p′ e′ ≡ skipFrom n s p e
 unfolding skipFrom
 skip-stops zero s p e q p′ e′ h k = absurd (omega arith)
 skip-stops (suc n) s p e q p′ e′ h k = ap (λ (r : Read (Unit {0})). andThen (r .answer) (r .place) (r .end) (λ q f. skipFrom n s q f)) k
 
--- or the others follow
+-- where the first of n parameters is skipped, the others follow from where the reader then stands
 pub skip-goes : (n : ℕ) (s : List ℕ) (p e p′ e′ : ℕ) → 0 < n → reading (good tt) p′ e′ ≡ skipOf s p e → skipFrom (n - 1) s p′ e′ ≡ skipFrom n s p e
 unfolding skipFrom
 skip-goes zero s p e p′ e′ h k = absurd (omega arith)
@@ -140,16 +140,16 @@ skip-goes (suc n) s p e p′ e′ h k =
     let m : suc n - 1 ≡ n = omega arith in
     ap (λ (i : ℕ). skipFrom i s p′ e′) m ∙ ap (λ (r : Read (Unit {0})). andThen (r .answer) (r .place) (r .end) (λ q f. skipFrom n s q f)) k
 
--- none is left
+-- where no parameter is to be skipped, the reader stays
 pub skip-ends : (n : ℕ) (s : List ℕ) (p e : ℕ) → n ≡ 0 → reading (good tt) p e ≡ skipFrom n s p e
 unfolding skipFrom
 skip-ends n s p e h = rw h refl
 
--- for a place and an end in the file
+-- for a place and an end in the file, the skipping of n parameters is that of the reader
 pub skips-in : (n : ℕ) (s : List ℕ) (p e : ℕ) → inFile (length s) p e ≡ true → skipFrom n s p e ≡ skipsOf n s p e
 unfolding skipsOf
 skips-in n s p e h = rw h refl
 
--- where a parameter lies that is cut
+-- a parameter that is cut lies in the file, and runs forwards
 pub cut-places : (n : ℕ) (r : Code.Cut) (a z : ℕ) (t : State) → CutIn n r → r ≡ Code.the-variants.Span a z t → (a ≤ z) × (z ≤ n)
 cut-places n r a z t h e = subst (CutIn n) e h

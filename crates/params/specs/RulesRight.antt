@@ -26,19 +26,19 @@ use Rattle.params.specs.Rules.{Inside, rest, NextForm}
 abbrev pub Rest : List ℕ → List ℕ → Type 0
 Rest xs r = (b : List ℕ) × (xs ≡ b ++ r)
 
--- all of it is one
+-- all of a list is a rest of it
 rest-all : {xs : List ℕ} → Rest xs xs
 rest-all = ([], refl)
 
--- and so is nothing
+-- nothing is a rest of every list
 rest-none : {xs : List ℕ} → Rest xs []
 rest-none {xs} = (xs, sym (append-nil xs))
 
--- one more byte in front
+-- a rest of a list is one of the list with one more byte in front
 rest-on : {c : ℕ} {xs r : List ℕ} → Rest xs r → Rest (c ∷ xs) r
 rest-on {c} (b, e) = (c ∷ b, cc)
 
--- a rest of a rest
+-- a rest of a rest is a rest
 pub rest-of : {xs ys r : List ℕ} → Rest xs ys → Rest ys r → Rest xs r
 rest-of {r} (b, e) (c, f) = (b ++ c, e ∙ ap (λ (l : List ℕ). b ++ l) f ∙ sym (append-assoc b c r))
 
@@ -50,29 +50,29 @@ rest-within (b, e) = omega (arith, simp length-append at (ap length e))
 pub rest-place : {xs r : List ℕ} → Rest xs r → drop (place xs r) xs ≡ r
 rest-place {r} (b, e) = rw e (drop-at b r (length (b ++ r) - length r) (simp length-append (omega arith)))
 
--- the rest from a place on
+-- what is left from a place on is a rest
 rest-from : (xs : List ℕ) (i : ℕ) → Rest xs (drop i xs)
 rest-from xs i = (take i xs, sym (take-append-drop i xs))
 
--- what follows a comment
+-- what follows a comment is a rest
 comment-rest : {xs r : List ℕ} → Comment xs r → Rest xs r
 comment-rest {r} q = (47 ∷ 42 ∷ (q .body ++ (42 ∷ 47 ∷ [])), q .shape ∙ ap (λ (l : List ℕ). 47 ∷ 42 ∷ l) (sym (append-assoc (q .body) (42 ∷ 47 ∷ []) r)))
 
--- what follows a string
+-- what follows a string is a rest
 string-rest : {xs r : List ℕ} → Quotation xs r → Rest xs r
 string-rest {r} q = (39 ∷ (q .body ++ (39 ∷ [])), q .shape ∙ ap (λ (l : List ℕ). 39 ∷ l) (sym (append-assoc (q .body) (39 ∷ []) r)))
 
--- what follows a binary literal
+-- what follows a binary literal is a rest
 binary-rest : {xs r : List ℕ} → Binary xs r → Rest xs r
 binary-rest {r} q = (34 ∷ (q .body ++ (34 ∷ [])), q .shape ∙ ap (λ (l : List ℕ). 34 ∷ l) (sym (append-assoc (q .body) (34 ∷ []) r)))
 
--- what follows trivia
+-- what follows trivia is a rest
 trivia-rest : {xs ys : List ℕ} → Trivia xs ys → Rest xs ys
 trivia-rest Trivia.none = rest-all
 trivia-rest (Trivia.blank h r) = rest-on (trivia-rest r)
 trivia-rest (Trivia.comment q r) = rest-of (comment-rest q) (trivia-rest r)
 
--- what follows a token
+-- what follows a token is a rest
 token-rest : {d e : ℕ} {xs ys : List ℕ} → Token d xs e ys → Rest xs ys
 token-rest (Token.byte q) = rest-on rest-all
 token-rest Token.nested = rest-on rest-all
@@ -82,43 +82,43 @@ token-rest Token.opening = rest-on rest-all
 token-rest Token.closing = rest-on rest-all
 token-rest Token.stray = rest-on rest-all
 
--- what follows tokens and trivia
+-- what follows tokens and trivia is a rest
 runs-rest : {d e : ℕ} {xs ys : List ℕ} → Runs d xs e ys → Rest xs ys
 runs-rest Runs.none = rest-all
 runs-rest (Runs.token r q) = rest-of (runs-rest r) (token-rest q)
 runs-rest (Runs.blank r h) = rest-of (runs-rest r) (rest-on rest-all)
 runs-rest (Runs.comment r q) = rest-of (runs-rest r) (comment-rest q)
 
--- what follows a parameter
+-- what follows bytes that end in a token is a rest
 whole-rest : {d e : ℕ} {xs ys : List ℕ} → Whole d xs e ys → Rest xs ys
 whole-rest Whole.none = rest-all
 whole-rest (Whole.last r q) = rest-of (runs-rest r) (token-rest q)
 
--- what follows its trailing trivia
+-- what follows trailing trivia is a rest
 trails-rest : {xs ys : List ℕ} → Trails xs ys → Rest xs ys
 trails-rest (Trails.shut r) = trivia-rest r
 trails-rest (Trails.unclosed r q) = rest-none
 
--- where a parameter stops, and where its comma or the end is
+-- what follows a parameter is a rest, and so is what its comma or the end begins
 pub param-rest : {xs z b : List ℕ} → Parameter xs z b → Rest xs z × Rest z b
 param-rest p = (whole-rest (p .whole), trails-rest (p .trails))
 
--- where an open literal begins
+-- what begins with an open literal is a rest, and is not empty
 pub unclosed-rest : {xs o : List ℕ} → Unclosed xs o → Rest xs o × (0 < length o)
 unclosed-rest (Unclosed.text r ((t, e), q)) = (runs-rest r, rw e (omega arith))
 unclosed-rest (Unclosed.binary r ((t, e), q)) = (runs-rest r, rw e (omega arith))
 
--- where a parameter starts
+-- what begins where a parameter starts is a rest
 pub starts-rest : {xs ys : List ℕ} → Starts xs ys → Rest xs ys
 starts-rest (Starts.led l) = trivia-rest (l .before)
 starts-rest (Starts.unclosed r q) = rest-none
 
 -- ---- the reader's place and end
--- they lie in the file, and the test passes
+-- where the reader's place and end lie in the file, and not backwards, the test passes
 pub inside-true : (s : List ℕ) (p e : ℕ) → Inside s p e → inFile (length s) p e ≡ true
 inside-true s p e (h, k) = rw (le-leb p e h, le-leb e (length s) k) refl
 
--- or they do not, and it fails
+-- where the reader's place or end does not lie in the file, or they are backwards, the test fails
 pub inside-false : (s : List ℕ) (p e : ℕ) → (Inside s p e → ⊥) → inFile (length s) p e ≡ false
 inside-false s p e n = go (inFile (length s) p e) refl
   where
@@ -128,23 +128,23 @@ inside-false s p e n = go (inFile (length s) p e) refl
 
 -- ---- what is computed is so
 module _ (s : List ℕ) (p e : ℕ) (i : Inside s p e) where
-  -- the bytes up to the end
+  -- the bytes up to the reader's end are e in number
   total : length (take e s) ≡ e
   total = length-take-le e s (i .1)
 
-  -- a rest's place
+  -- a rest of the bytes up to the reader's end is what is left from its place on
   there : (r : List ℕ) → Rest (take e s) r → rest s e (place (take e s) r) ≡ r
   there r h = rest-place h
 
-  -- the place of the end
+  -- the place of an empty rest is the reader's end
   at-end : place (take e s) [] ≡ e
   at-end = omega (arith, total)
 
-  -- a place in the bytes
+  -- the place of a rest is at most the reader's end
   place-of : (r : List ℕ) → Rest (take e s) r → place (take e s) r ≤ e
   place-of r h = omega (arith, total)
 
-  -- what follows the parameter's start, by its end
+  -- what is computed from a parameter's start on, by its end, is an answer by the rules
   bounded-is : (c : ℕ) (r : List ℕ) → Starts (rest s e p) (c ∷ r) → (x : Cut) → cutOf (c ∷ r) ≡ x → NextForm s p e (bounded (take e s) e (c ∷ r) x)
   bounded-is c r h (unclosed o) k =
       let xs = take e s in
@@ -175,12 +175,12 @@ module _ (s : List ℕ) (p e : ℕ) (i : Inside s p e) where
       (NextForm.comma {a = place xs (c ∷ r)} {z = place xs z} {b = place xs (d ∷ t)} i (omega (arith, rest-within w)) (omega (arith, rest-within v)) (omega (arith, total, rest-within b))
       (rw (there (c ∷ r) y) h) (rw (there (c ∷ r) y, there z x, there (d ∷ t) b) q))
 
-  -- by the parameter's start
+  -- what is computed where a parameter starts is an answer by the rules
   begun-is : (ys : List ℕ) → Starts (rest s e p) ys → NextForm s p e (begun (take e s) e ys)
   begun-is [] h = rw at-end (NextForm.none i h)
   begun-is (c ∷ r) h = bounded-is c r h (cutOf (c ∷ r)) refl
 
--- what is computed is the answer
+-- the answer for the next parameter that is computed is one by the rules
 pub next-is : (s : List ℕ) (p e : ℕ) → NextForm s p e (paramOf s p e)
 unfolding paramOf
 next-is s p e = go (inFile (length s) p e) refl
@@ -193,7 +193,7 @@ next-is s p e = go (inFile (length s) p e) refl
     go true h = begun-is s p e (in-true (length s) p e h) (started (drop p (take e s))) (started-is (drop p (take e s)))
     go false h = NextForm.outside (off h)
 
--- and there is no other
+-- the answer for the next parameter by the rules is the one that is computed
 pub next-only : {s : List ℕ} {p e : ℕ} {r : Read Span} → NextForm s p e r → r ≡ paramOf s p e
 unfolding paramOf
 next-only {s} {p} {e} (NextForm.outside n) = rw (inside-false s p e n) refl

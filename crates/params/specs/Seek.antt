@@ -38,7 +38,7 @@ pub record Standing (xs : List ℕ) (i z d : ℕ) : Type 0 where
   pub few : d ≤ i
   pub bounded : length xs < 2 ^ 63
 
--- and the byte c is there
+-- the search for a parameter's end stands at i, and the byte c is there
 pub record Stands (xs : List ℕ) (i z d c : ℕ) : Type 0 where
   pub standing : Standing xs i z d
   pub byte : getD xs i 0 ≡ c
@@ -49,7 +49,7 @@ Stepped xs i z d StepCode.the-variants.Comma = onward xs i z d ≡ cut (drop z x
 Stepped xs i z d StepCode.the-variants.Open = onward xs i z d ≡ unclosed (drop i xs)
 Stepped xs i z d (StepCode.the-variants.On j y e) = (onward xs i z d ≡ onward xs j y e) × (i < j) × (j ≤ length xs) × (z ≤ y) × (y ≤ j) × (e ≤ d + 1)
 
--- what stands before the byte that is found holds none
+-- what stands before the first byte b of a list has no b
 found-after : (b : ℕ) (xs : List ℕ) → (u : List ℕ) × Without b u × (xs ≡ u ++ fromByte b xs)
 unfolding fromByte
 found-after b [] = ([], without-nil b, refl)
@@ -59,20 +59,20 @@ found-after b (c ∷ r) = go (eqb c b) refl (found-after b r)
     go true e f = ([], without-nil b, refl)
     go false e (u, w, f) = (c ∷ u, without-cons b c u (eqb-false c b e) w, ap (λ (l : List ℕ). c ∷ l) f)
 
--- a byte above the slash is none that means something here
+-- a byte above the slash is not white
 pub plain-white : (c : ℕ) → 47 < c → white c ≡ false
 plain-white c h = rw (ne-eqb c 32 (λ e. absurd (omega arith)), ne-eqb c 9 (λ e. absurd (omega arith)), ne-eqb c 10 (λ e. absurd (omega arith)), ne-eqb c 12 (λ e. absurd (omega arith)), ne-eqb c 13 (λ e. absurd (omega arith))) refl
 
 module _ (xs : List ℕ) (i z d : ℕ) (h : i < length xs) where
-  -- the search, with the byte at i apart
+  -- where the byte c stands at i, the rest from i on is c and the rest after it
   here : (c : ℕ) → getD xs i 0 ≡ c → drop i xs ≡ c ∷ drop (i + 1) xs
   here c e = split xs i h ∙ ap (λ (k : ℕ). k ∷ drop (i + 1) xs) e
 
-  -- "a comma at depth 0"
+  -- "a comma at depth 0": the parameter is cut there
   pub step-comma : getD xs i 0 ≡ 44 → d ≡ 0 → onward xs i z d ≡ cut (drop z xs) (drop i xs)
   step-comma e f = rw (here 44 e, f) (bound-stops (drop z xs) Bound.comma)
 
-  -- a comma of a nested list
+  -- the search goes on after a comma of a nested list, to which the parameter reaches
   pub step-nested : getD xs i 0 ≡ 44 → (d ≡ 0 → ⊥) → onward xs i z d ≡ onward xs (i + 1) (i + 1) d
   step-nested e f = rw (here 44 e) (go d f)
     where
@@ -80,11 +80,11 @@ module _ (xs : List ℕ) (i z d : ℕ) (h : i < length xs) where
       go zero f = absurd (f refl)
       go (suc d) f = token-step (drop z xs) Token.nested
 
-  -- a `(`
+  -- the search goes on after a `(` with one more open, and the parameter reaches to it
   pub step-opening : getD xs i 0 ≡ 40 → onward xs i z d ≡ onward xs (i + 1) (i + 1) (d + 1)
   step-opening e = let f : d + 1 ≡ suc d = omega arith in rw (here 40 e, f) (token-step (drop z xs) Token.opening)
 
-  -- a `)`: "at depth 0 leaves it 0"
+  -- the search goes on after a `)`, to which the parameter reaches: "at depth 0 leaves it 0"
   pub step-closing : getD xs i 0 ≡ 41 → onward xs i z d ≡ onward xs (i + 1) (i + 1) (d - 1)
   step-closing e = rw (here 41 e) (go d)
     where
@@ -92,15 +92,15 @@ module _ (xs : List ℕ) (i z d : ℕ) (h : i < length xs) where
       go zero = token-step (drop z xs) Token.stray
       go (suc d) = let f : suc d - 1 ≡ d = omega arith in rw f (token-step (drop z xs) Token.closing)
 
-  -- a string that ends
+  -- the search goes on after a string, to which the parameter reaches
   pub step-string : (j : ℕ) → getD xs i 0 ≡ 39 → ends (drop j xs) ≡ stringRest (drop (i + 1) xs) → onward xs i z d ≡ onward xs j j d
   step-string j e f = rw (here 39 e) (string-step d (drop z xs) (string-is (drop (i + 1) xs) (drop j xs) (sym f)))
 
-  -- a string that is open
+  -- a string that never ends stops the search at its quote
   pub step-open : getD xs i 0 ≡ 39 → never ≡ stringRest (drop (i + 1) xs) → onward xs i z d ≡ unclosed (drop i xs)
   step-open e f = rw (here 39 e) (text-stuck d (drop z xs) (string-never (drop (i + 1) xs) (sym f)))
 
-  -- a binary literal that ends
+  -- the search goes on after a binary literal, to which the parameter reaches
   pub step-binary : (q : ℕ) → getD xs i 0 ≡ 34 → drop q xs ≡ fromByte 34 (drop (i + 1) xs) → q < length xs → onward xs i z d ≡ onward xs (q + 1) (q + 1) d
   step-binary q e f k =
       let (u, w, g) = found-after 34 (drop (i + 1) xs) in
@@ -109,7 +109,7 @@ module _ (xs : List ℕ) (i z d : ℕ) (h : i < length xs) where
       let t : drop (i + 1) xs ≡ u ++ (34 ∷ drop (q + 1) xs) = g ∙ ap (λ (l : List ℕ). u ++ l) (p ∙ ap (λ (c : ℕ). c ∷ drop (q + 1) xs) o) in
       rw (here 34 e) (binary-step d (drop z xs) {xs = 34 ∷ drop (i + 1) xs} {ys = drop (q + 1) xs} (record { body = u; inside = w; shape = ap (λ (l : List ℕ). 34 ∷ l) t }))
 
-  -- a binary literal that is open
+  -- a binary literal that never ends stops the search at its quote
   pub step-binary-open : (q : ℕ) → getD xs i 0 ≡ 34 → drop q xs ≡ fromByte 34 (drop (i + 1) xs) → length xs ≤ q → onward xs i z d ≡ unclosed (drop i xs)
   step-binary-open q e f k =
       let (u, w, g) = found-after 34 (drop (i + 1) xs) in
@@ -117,7 +117,7 @@ module _ (xs : List ℕ) (i z d : ℕ) (h : i < length xs) where
       let v : drop (i + 1) xs ≡ u = t ∙ append-nil u in
       rw (here 34 e) (binary-stuck d (drop z xs) ((drop (i + 1) xs, refl), unended (rw v w)))
 
-  -- two bytes that open a comment
+  -- a slash at i and a star after it are the two bytes that open a comment
   opened : getD xs i 0 ≡ 47 → heads 42 (drop (i + 1) xs) ≡ true → drop i xs ≡ 47 ∷ 42 ∷ drop (i + 2) xs
   opened e f =
       let k : i + 1 + 1 ≡ i + 2 = omega arith in
@@ -127,25 +127,25 @@ module _ (xs : List ℕ) (i z d : ℕ) (h : i < length xs) where
       go [] f = clash (cc)
       go (c ∷ l) f = ap (λ (k : ℕ). k ∷ l) (eqb-true c 42 f)
 
-  -- a comment that ends
+  -- the search goes on after a comment, to which the parameter does not reach
   pub step-comment : (j : ℕ) → getD xs i 0 ≡ 47 → true ≡ heads 42 (drop (i + 1) xs) → ends (drop j xs) ≡ commentRest (drop (i + 2) xs) → onward xs i z d ≡ onward xs j z d
   step-comment j e f g = rw (opened e (sym f)) (comment-step d (drop z xs) (comment-is (drop (i + 2) xs) (drop j xs) (sym g)))
 
-  -- "an open comment runs to the end"
+  -- "an open comment runs to the end": the search goes on there
   pub step-remark : getD xs i 0 ≡ 47 → true ≡ heads 42 (drop (i + 1) xs) → never ≡ commentRest (drop (i + 2) xs) → onward xs i z d ≡ onward xs (length xs) z d
   step-remark e f g =
       rw (opened e (sym f), drop-end xs (length xs) (omega arith))
       (remark-stuck d (drop z xs) (comment-never (drop (i + 2) xs) (sym g)) ∙ sym (bound-stops (drop z xs) {d = d} Bound.end))
 
-  -- whitespace
+  -- the search goes on after whitespace, to which the parameter does not reach
   pub step-blank : white (getD xs i 0) ≡ true → onward xs i z d ≡ onward xs (i + 1) z d
   step-blank e = rw (split xs i h) (blank-step d (drop z xs) (getD xs i 0) (drop (i + 1) xs) e)
 
-  -- any other byte
+  -- the search goes on after an ordinary byte, to which the parameter reaches
   pub step-byte : Ordinary (getD xs i 0) (drop (i + 1) xs) → onward xs i z d ≡ onward xs (i + 1) (i + 1) d
   step-byte o = rw (split xs i h) (byte-step d (drop z xs) (getD xs i 0) (drop (i + 1) xs) o)
 
-  -- a byte above the slash
+  -- the search goes on after a byte above the slash, to which the parameter reaches
   pub step-plain : 47 < getD xs i 0 → onward xs i z d ≡ onward xs (i + 1) (i + 1) d
   step-plain k = step-byte (record {
     unblank = plain-white (getD xs i 0) k;
@@ -157,7 +157,7 @@ module _ (xs : List ℕ) (i z d : ℕ) (h : i < length xs) where
     comma = λ e. absurd (omega arith);
   })
 
-  -- a slash that opens no comment
+  -- the search goes on after a slash that opens no comment, to which the parameter reaches
   pub step-slash : getD xs i 0 ≡ 47 → false ≡ heads 42 (drop (i + 1) xs) → onward xs i z d ≡ onward xs (i + 1) (i + 1) d
   step-slash e f = step-byte (record {
     unblank = rw e refl;
@@ -169,7 +169,7 @@ module _ (xs : List ℕ) (i z d : ℕ) (h : i < length xs) where
     comma = λ k. absurd (omega arith);
   })
 
-  -- one that is none of the marks
+  -- the search goes on after a byte that is no comma, parenthesis, quote, `"`, slash or whitespace, to which the parameter reaches
   pub step-other : (getD xs i 0 ≡ 44 → ⊥) → (getD xs i 0 ≡ 40 → ⊥) → (getD xs i 0 ≡ 41 → ⊥) → (getD xs i 0 ≡ 39 → ⊥) → (getD xs i 0 ≡ 34 → ⊥) → (getD xs i 0 ≡ 47 → ⊥) → white (getD xs i 0) ≡ false
       → onward xs i z d ≡ onward xs (i + 1) (i + 1) d
   step-other n44 n40 n41 n39 n34 n47 w = step-byte (record {
@@ -182,41 +182,41 @@ module _ (xs : List ℕ) (i z d : ℕ) (h : i < length xs) where
     comma = n44;
   })
 
--- where the bytes end
+-- where the bytes end, the search cuts the parameter
 pub onward-over : (xs : List ℕ) (i z d : ℕ) → length xs ≤ i → onward xs i z d ≡ cut (drop z xs) (drop (length xs) xs)
 onward-over xs i z d h = rw (drop-end xs i h, drop-end xs (length xs) (omega arith)) (bound-stops (drop z xs) {d = d} Bound.end)
 
--- where it begins
+-- the search begins at the parameter's start, with no parenthesis open
 pub onward-starts : (xs : List ℕ) (start from : ℕ) → drop from xs ≡ drop start xs → onward xs from from 0 ≡ cutOf (drop start xs)
 unfolding cutOf
 onward-starts xs start from e = rw e refl
 
 -- The ways out of the code's steps.
 module _ (xs : List ℕ) (i z d : ℕ) where
-  -- a string
+  -- where a string that opens at i ends, the code's step goes on after it
   pub text-past : (r : Past) (j : ℕ) → Stands xs i z d 39 → toldPast xs r ≡ stringRest (drop (i + 1) xs) → PastIn (i + 1) (length xs) r → r ≡ PastCode.the-variants.At j
       → Stepped xs i z d (StepCode.the-variants.On j j d)
   text-past r j s e (w) f = let (a, b) = rw f at w in
       let k = s .standing in
       (step-string xs i z d (k .place) j (s .byte) (ap (toldPast xs) (sym f) ∙ e), omega arith, b, omega (arith, k .reach), omega arith, omega arith)
 
-  -- an open one
+  -- where a string that opens at i never ends, the code's step is an open literal
   pub text-never : (r : Past) → Stands xs i z d 39 → toldPast xs r ≡ stringRest (drop (i + 1) xs) → r ≡ PastCode.the-variants.Never → Stepped xs i z d StepCode.the-variants.Open
   text-never r s e f = step-open xs i z d (s .standing .place) (s .byte) (ap (toldPast xs) (sym f) ∙ e)
 
-  -- a comment
+  -- where a comment that opens at i ends, the code's step goes on after it
   pub comment-past : (r : Past) (j : ℕ) → Stands xs i z d 47 → heads 42 (drop (i + 1) xs) ≡ true → toldPast xs r ≡ commentRest (drop (i + 2) xs) → PastIn (i + 2) (length xs) r → r ≡ PastCode.the-variants.At j
       → Stepped xs i z d (StepCode.the-variants.On j z d)
   comment-past r j s g e w f = let (a, b) = rw f at w in
       let k = s .standing in
       (step-comment xs i z d (k .place) j (s .byte) (sym g) (ap (toldPast xs) (sym f) ∙ e), omega arith, b, omega arith, omega (arith, k .reach), omega arith)
 
-  -- an open one
+  -- where a comment that opens at i never ends, the code's step goes on at the end
   pub comment-stuck : (r : Past) → Stands xs i z d 47 → heads 42 (drop (i + 1) xs) ≡ true → toldPast xs r ≡ commentRest (drop (i + 2) xs) → r ≡ PastCode.the-variants.Never
       → Stepped xs i z d (StepCode.the-variants.On (length xs) z d)
   comment-stuck r s g e f = let k = s .standing in
       (step-remark xs i z d (k .place) (s .byte) (sym g) (ap (toldPast xs) (sym f) ∙ e), k .place, omega arith, omega arith, omega (arith, k .reach, k .place), omega arith)
 
-  -- one byte that is the parameter's
+  -- after one byte that is the parameter's, the code's step goes on at the next
   pub on-byte : (e : ℕ) → Standing xs i z d → onward xs i z d ≡ onward xs (i + 1) (i + 1) e → e ≤ d + 1 → Stepped xs i z d (StepCode.the-variants.On (i + 1) (i + 1) e)
   on-byte e k f g = (f, omega arith, omega (arith, k .place), omega (arith, k .reach), omega arith, g)

@@ -30,7 +30,7 @@ shiftRow n p = headerRow (n + p .keyStart) (n + p .keyEnd) (n + p .argStart) (n 
 abbrev pub RowIn : ℕ → HeaderRow → Type 0
 RowIn n p = (p .keyStart ≤ p .keyEnd) × (p .keyEnd ≤ n) × (p .argStart ≤ p .argEnd) × (p .argEnd ≤ n)
 
--- parts that all do
+-- parts that all lie in arguments of n bytes
 abbrev pub RowsIn : ℕ → List HeaderRow → Type 0
 RowsIn n [] = Unit {0}
 RowsIn n (p ∷ ps) = RowIn n p × RowsIn n ps
@@ -40,7 +40,7 @@ abbrev Reads : List ℕ → List HeaderRow → Type 0
 Reads a rel = (q y : List ℕ) → PartsForm (q ++ (a ++ y)) (length q + length a) (length q) (good (map (shiftRow (length q)) rel))
 
 -- ---- places
--- a place that counts from a place that counts from another
+-- the row of a part that counts from a place n, which counts from m, counts from m + n
 shift-row : (m n : ℕ) (p : HeaderRow) → shiftRow m (shiftRow n p) ≡ shiftRow (m + n) p
 shift-row m n p =
     let a : m + (n + p .keyStart) ≡ m + n + p .keyStart = omega arith in
@@ -49,17 +49,17 @@ shift-row m n p =
     let d : m + (n + p .argEnd) ≡ m + n + p .argEnd = omega arith in
     rw (a, b, c, d)
 
--- so it is with all parts
+-- the rows of parts that count from a place n, which counts from m, count from m + n
 shift-rows : (m n : ℕ) (ps : List HeaderRow) → map (shiftRow m) (map (shiftRow n) ps) ≡ map (shiftRow (m + n)) ps
 shift-rows m n [] = refl
 shift-rows m n (p ∷ ps) = rw (shift-row m n p, shift-rows m n ps)
 
--- parts of what follows n bytes lie in all
+-- parts that lie in what follows n bytes lie in all the bytes
 rows-after : (n m : ℕ) (ps : List HeaderRow) → RowsIn m ps → RowsIn (n + m) (map (shiftRow n) ps)
 rows-after n m [] h = tt
 rows-after n m (p ∷ ps) ((a, b, c, d), t) = ((omega arith, omega arith, omega arith, omega arith), rows-after n m ps t)
 
--- the same parts by equal places
+-- what is told of all parts holds of equal files, places and rows
 parts-at : {s z : List ℕ} {d e m n : ℕ} {ps rs : List HeaderRow}
     → s ≡ z → d ≡ e → m ≡ n → ps ≡ rs → PartsForm s d m (good ps) → PartsForm z e n (good rs)
 parts-at a b c d f = rw (a, b, c, d) at f
@@ -95,12 +95,12 @@ record Headed (a t : List ℕ) : Type 0 where
   split : rest ≡ args ++ (41 ∷ t)
   closes : Closes rest t
 
--- a `(` is no separator
+-- bytes that begin with no separator begin with none when a `(` follows them
 first-open : (x r : List ℕ) → NotFirst separator x → NotFirst separator (x ++ (40 ∷ r))
 first-open [] r h = first-other separator 40 r refl
 first-open (c ∷ x) r h = first-other separator c (x ++ (40 ∷ r)) (h c x refl)
 
--- a closed part is one
+-- a closed part is the first part of the arguments
 headed : (a k r t : List ℕ) → a ≡ k ++ (40 ∷ r) → Free 40 k → Closes r t → Headed a t
 headed a k r t g h c = go (span separator k)
   where
@@ -125,7 +125,7 @@ headed a k r t g h c = go (span separator k)
     go : Spanned separator k → Headed a t
     go (f, x, e, s) = taken f x e s (tail-split x)
 
--- a `)` is found whatever follows
+-- a `(` that closes closes whatever follows
 closes-more : {r t : List ℕ} → Closes r t → (y : List ℕ) → Closes (r ++ y) (t ++ y)
 closes-more {r} {t} h y =
     let (z, e, k) = closing-is 40 (r ++ y) (41 ∷ (t ++ y)) (closes-any h y) in
@@ -133,27 +133,27 @@ closes-more {r} {t} h y =
     rw f at k
 
 module _ {a t : List ℕ} (d : Headed a t) where
-  -- the place of its `(`, counted from the arguments' first byte
+  -- the place of the part's `(`, counted from the arguments' first byte
   abbrev opening : ℕ
   opening = length (d .front) + length (d .word ++ d .blank)
 
-  -- its row, counted so
+  -- the part's row, its places counted from the arguments' first byte
   abbrev rowOf : HeaderRow
   rowOf = headerRow (length (d .front)) (length (d .front) + length (d .word)) (opening + 1) (opening + 1 + length (d .args))
 
-  -- the bytes up to its `)`, and that one too
+  -- the arguments' bytes up to the part's `)`, that one too
   abbrev upTo : List ℕ
   upTo = d .front ++ (d .word ++ (d .blank ++ (40 ∷ (d .args ++ (41 ∷ [])))))
 
-  -- the arguments are those bytes and what follows
+  -- the arguments are the bytes up to the part's `)` and what follows them
   part-shape : a ≡ upTo ++ t
   part-shape = d .shape ∙ rw (d .split) (simp append-assoc)
 
-  -- how many bytes those are
+  -- how many bytes of the arguments stand up to the part's `)`, that one too
   up-to-length : length upTo ≡ opening + 1 + length (d .args) + 1
   up-to-length = simp length-append (omega arith)
 
-  -- and how many the arguments
+  -- how many bytes the arguments have, by the part's places
   part-length : length a ≡ opening + 1 + length (d .args) + 1 + length t
   part-length = omega (arith, ap length part-shape, length-append upTo t, up-to-length)
 
@@ -180,7 +180,7 @@ module _ {a t : List ℕ} (d : Headed a t) where
           let j : length q + length (d .front) + length (d .word ++ d .blank) + 1 ≡ length q + (opening + 1) = omega arith in
           rw (i, j, ends)
 
-  -- "repeat": the parts after it
+  -- "repeat": the parts after the first one, wherever the arguments stand
   part-rest : (rel : List HeaderRow) → Reads t rel → (q y : List ℕ)
       → PartsForm (q ++ (a ++ y)) (length q + length a) (length q + (opening + 1 + length (d .args)) + 1) (good (map (shiftRow (length q)) (map (shiftRow (length upTo)) rel)))
   part-rest rel n q y =
@@ -190,7 +190,7 @@ module _ {a t : List ℕ} (d : Headed a t) where
       rw l (sym (shift-rows (length q) (length upTo) rel)) in
       parts-at b (omega (arith, part-length, up-to-length)) (omega (arith, up-to-length)) c (n (q ++ upTo) y)
 
--- closed parts by the rules
+-- closed parts have rows by the rules that lie in the arguments and are the same wherever these stand
 parts-closed : {a : List ℕ} → ClosedParts a → (rel : List HeaderRow) × RowsIn (length a) rel × Reads a rel
 parts-closed {a} (ClosedParts.none h) = ([], tt, parts-none a h)
 parts-closed {a} (ClosedParts.part k {r} {t} e f o h p) =

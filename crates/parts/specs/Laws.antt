@@ -34,12 +34,12 @@ use Rattle.parts.specs.Rules.{separator, before, isKind, toldNext}
 use Rattle.parts.specs.declared.Next.{Next}
 use Rattle.parts.specs.declared.Next.the-variants.{Is, Over, Refused}
 
--- "9 span outside the file"
+-- "9 span outside the file": where the arguments' end is outside, that is the answer for the next part
 pub next-outside : (s : List ℕ) (from end : ℕ) → length s < end → bad (refusal 9 0 0) ≡ nextOf s from end
 unfolding nextOf
 next-outside s from end h = sym (rw (lt-ltb (length s) end h) refl)
 
--- nothing is left before the end
+-- where the place is at the arguments' end or past it, there is no next part
 pub next-done : (s : List ℕ) (from end : ℕ) → end ≤ length s → end ≤ from → good none ≡ nextOf s from end
 unfolding nextOf past walk headerHead keyword
 next-done s from end h l =
@@ -65,7 +65,7 @@ head-inside (HeaderForm.named {a} {v} {k} {w} {r} s f) =
     let n : length v ≡ length k + (length w + length (40 ∷ r)) = ap (λ (x : List ℕ). length x) (f .shape) ∙ length-append k (w ++ (40 ∷ r)) ∙ ap (λ (x : ℕ). length k + x) (length-append w (40 ∷ r)) in
     (omega arith, omega arith, omega arith)
 
--- the same of the head that is computed
+-- the head that is computed has a keyword that ends before its `(`, which stands in the text
 pub head-places : (b : List ℕ) (i a z o : ℕ) → headerHead b ≡ Simple i a z o → (a ≤ z) × (z ≤ o) × (o < length b)
 head-places b i a z o e = head-inside (subst (λ (h : Head). HeaderForm b h) e (headerform-is b))
 
@@ -87,7 +87,7 @@ close-ahead s p q h = go (closing (drop p s)) refl
         let w : length s - suc p ≡ length b + suc (length r) = sym (length-drop (suc p) s) ∙ ap (λ (x : List ℕ). length x) d ∙ length-append b (41 ∷ r) in
         (omega arith, omega arith)
 
--- an argued row's place of the `)`
+-- where a row is made by the search for a `)`, that search answered a place, and the row is made from it
 argued-end : (s o : List ℕ) (f : ℕ → Option HeaderRow) (x : Option HeaderRow) → argued s o f ≡ good x → (q : ℕ) × (placed s (closing o) ≡ good q) × (f q ≡ x)
 argued-end s o f x = go (placed s (closing o)) refl
   where
@@ -95,7 +95,7 @@ argued-end s o f x = go (placed s (closing o)) refl
     go (good q) e h = (q, e, cc)
     go (bad r) e h = let z : _≡_ {A = ℕ} 0 1 = cc in absurd (omega arith)
 
--- what is left past separators is no longer
+-- what is left past separators is no longer than the list
 past-shorter : (m : List ℕ) → length (past separator m) ≤ length m
 past-shorter m = let (f, e, k) = past-is separator m in let l : length m ≡ length f + length (past separator m) = ap (λ (x : List ℕ). length x) e ∙ length-append f (past separator m) in omega arith
 
@@ -103,7 +103,7 @@ past-shorter m = let (f, e, k) = past-is separator m in let l : length m ≡ len
 window-fits : (s : List ℕ) (from end : ℕ) → length (take (end - from) (drop from s)) ≤ length s - from
 window-fits s from end = simp (length-take, length-drop) (omega arith)
 
--- a part lies in the file, behind the place where it is sought
+-- the next part lies in the file, and not before the place where it is sought
 pub next-in : (s : List ℕ) (from end : ℕ) (p : HeaderRow) → nextOf s from end ≡ good (some p) → PartIn (length s) from p
 unfolding nextOf
 next-in s from end p = go (ltb (length s) end)
@@ -146,7 +146,7 @@ foundOf (Is p) = some (headerRowOf p)
 foundOf Over = none
 foundOf (Refused f) = none
 
--- nothing was refused so far
+-- no part that was read so far was refused
 abbrev pub Fine : Next → Type 0
 Fine (Is p) = Unit {0}
 Fine Over = Unit {0}
@@ -165,20 +165,20 @@ pub record Sifting (s : List ℕ) (k : Kind) (start end i : ℕ) (got : Next) : 
   pub fine : Fine got
   pub gives : mapped (λ ps. orElse (foundOf got) (firstKind s k ps)) (partsFrom steps s i end) ≡ mapped (firstKind s k) (partsOf s start end)
 
--- what was found, told
+-- what was found so far, as the code's answer tells it
 found-told : (got : Next) → Fine got → toldNext got ≡ good (foundOf got)
 found-told (Is p) h = refl
 found-told Over h = refl
 found-told (Refused f) h = absurd h
 
--- a part more leaves it fine
+-- where nothing was refused so far, nothing is with one part more
 fine-more : (got : Next) (p : HeaderSpan) (hit : Bool) → Fine got → Fine (firstOf got p hit)
 fine-more (Is q) p hit h = tt
 fine-more (Refused f) p hit h = absurd h
 fine-more Over p true h = tt
 fine-more Over p false h = tt
 
--- a part more, and the parts after it
+-- what is found with one part more: what was found before, or that part where it is of the kind, or what the rest gives
 more-found : (got : Next) (p : HeaderSpan) (hit : Bool) (rest : Option HeaderRow) → Fine got → orElse (foundOf (firstOf got p hit)) rest ≡ orElse (foundOf got) (pick hit (some (headerRowOf p)) rest)
 more-found (Is q) p hit rest h = refl
 more-found (Refused f) p hit rest h = absurd h
@@ -186,12 +186,12 @@ more-found Over p true rest h = refl
 more-found Over p false rest h = refl
 
 module _ (s : List ℕ) (k : Kind) (start end : ℕ) where
-  -- no part has been read
+  -- where no part has been read, the reading stands at the start
   pub sift-starts : start ≤ length s → Sifting s k start end start Over
   sift-starts h = record { steps = suc (length s); enough = omega arith; inside = h; fine = tt; gives = refl }
 
   module _ (i : ℕ) (got : Next) (f : Sifting s k start end i got) where
-    -- the steps that are left after one
+    -- the steps that are left after one, and that they give the answer
     later : (n : ℕ) × (suc n ≡ f .steps) × (mapped (λ ps. orElse (foundOf got) (firstKind s k ps)) (partsBy (nextOf s i end) (λ p. partsFrom n s (p .argEnd + 1) end)) ≡ mapped (firstKind s k) (partsOf s start end))
     unfolding partsFrom
     later = go (f .steps) (f .enough) (f .gives)
@@ -201,7 +201,7 @@ module _ (s : List ℕ) (k : Kind) (start end : ℕ) where
         go zero l e = let w = f .inside in absurd (omega arith)
         go (suc m) l e = (m, refl, e)
 
-    -- no part is left: what was found is the answer
+    -- where no part is left, what was found is the answer
     pub sift-over : nextOf s i end ≡ good none → toldNext got ≡ mapped (firstKind s k) (partsOf s start end)
     sift-over e = found-told got (f .fine) ∙ ap good (none-left (foundOf got)) ∙ (rw e at (later .2))
       where
@@ -209,11 +209,11 @@ module _ (s : List ℕ) (k : Kind) (start end : ℕ) where
         none-left none = refl
         none-left (some p) = refl
 
-    -- a fault refuses all
+    -- where a part is refused, so are all
     pub sift-refused : (q : Refusal) → nextOf s i end ≡ bad q → bad q ≡ mapped (firstKind s k) (partsOf s start end)
     sift-refused q e = rw e at (later .2)
 
-    -- one part more
+    -- after one part more the reading stands past its `)`
     pub sift-goes : (p : HeaderSpan) → nextOf s i end ≡ good (some (headerRowOf p)) → Sifting s k start end (p .args .end + 1) (firstOf got p (isKind s k (headerRowOf p)))
     sift-goes p e =
         let (n, c, g) = later in

@@ -10,23 +10,23 @@ use Rattle.parts.specs.Rules.{toldNext}
 use Rattle.parts.specs.declared.Next.{Next}
 use Rattle.parts.specs.declared.Next.the-variants.{Is, Over, Refused}
 
--- the part that has these numbers
+-- the span of a part that has these numbers
 spanOf : HeaderRow → HeaderSpan
 spanOf w = record { keyword = record { start = w .keyStart; end = w .keyEnd }; args = record { start = w .argStart; end = w .argEnd } }
 
--- the answer that tells this
+-- the code's answer that tells this part, none or a refusal
 nextBy : Told (Option HeaderRow) → Next
 nextBy (good none) = Over
 nextBy (good (some w)) = Is (spanOf w)
 nextBy (bad q) = Refused (faultOf q)
 
--- it is the answer that told it
+-- what an answer about a part tells gives back that answer
 next-back : (a : Next) → nextBy (toldNext a) ≡ a
 unfolding nextBy spanOf
 next-back (Is p) = refl
 next-back Over = refl
 next-back (Refused f) = ap Refused (faultOf-told f)
 
--- `next_part`, `complex_part`
+-- `next_part` and `complex_part` have one answer: two that tell the same are one
 pub answer-only : (a b : Next) → toldNext a ≡ toldNext b → a ≡ b
 answer-only a b e = sym (next-back a) ∙ ap nextBy e ∙ next-back b

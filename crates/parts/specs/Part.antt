@@ -61,7 +61,7 @@ partsFrom (suc n) s from end = partsBy (nextOf s from end) (λ p. partsFrom n s 
 abbrev pub partsOf : List ℕ → ℕ → ℕ → Told (List HeaderRow)
 partsOf s from end = partsFrom (suc (length s)) s from end
 
--- the first part of a kind
+-- the first part of a kind, none where no part is of it
 abbrev pub firstKind : List ℕ → Kind → List HeaderRow → Option HeaderRow
 firstKind s k [] = none
 firstKind s k (p ∷ ps) = pick (isKind s k p) (some p) (firstKind s k ps)

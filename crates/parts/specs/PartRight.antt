@@ -33,7 +33,7 @@ use Rattle.parts.specs.Part.{partBy, partIn, nextOf, partsBy, partsFrom,
 use Rattle.parts.specs.Rules.{separator, Window, NextForm, before, PartsForm, isKind, NoPart, IsFirstPart, FirstPart, ComplexPart}
 use Rattle.parts.specs.Laws.{next-outside, next-done, next-ahead}
 
--- what is not a separator is not white
+-- what does not begin with a separator does not begin with whitespace
 not-white : (v : List ℕ) → NotFirst separator v → NotFirst white v
 not-white v h c r e = go (white c) refl (h c r e)
   where
@@ -55,7 +55,7 @@ window-ends {s} {from} {end} {m} w =
     let b = w .ends in
     omega arith
 
--- the next part of a window, past its separators
+-- the next part of a window is that of the head past its separators
 window-next : {s : List ℕ} {from end : ℕ} {f v : List ℕ} (w : Window s from end (f ++ v)) → Skipped separator f v → (h : Head) → h ≡ headerHead v → nextOf s from end ≡ partBy s (from + length f) h
 unfolding nextOf
 window-next {s} {from} {end} {f} {v} w k h e =
@@ -69,7 +69,7 @@ window-next {s} {from} {end} {f} {v} w k h e =
 key-head : {f v k w r : List ℕ} → Skipped separator f v → Keyword v k w r → Simple 0 0 (length k) (length (k ++ w)) ≡ headerHead v
 key-head {f} {v} p g = headerform-only (HeaderForm.named {a = []} (record { all = tt; over = not-white v (p .over) }) g)
 
--- the file from the `(` on
+-- the file from a part's `(` on, by the window that it stands in
 from-open : (s : List ℕ) (from end : ℕ) (f v k w r : List ℕ) (m : Window s from end (f ++ v)) → Keyword v k w r → drop (from + length f + length (k ++ w)) s ≡ 40 ∷ (r ++ m .back)
 from-open s from end f v k w r m g =
     let x : List ℕ = m .front ++ (f ++ (k ++ w)) in
@@ -103,7 +103,7 @@ window-of s from end h l =
       ends = simp (length-take, length-drop) (omega arith);
     }
 
--- every place has a next part, by the rules
+-- from every place on there is an answer for the next part by the rules
 next-comes : (s : List ℕ) (from end : ℕ) → (a : Told (Option HeaderRow)) × NextForm s from end a
 next-comes s from end = by-end (decLt (length s) end)
   where
@@ -125,7 +125,7 @@ next-comes s from end = by-end (decLt (length s) end)
     by-end (yes h) = (_, NextForm.outside h)
     by-end (no h) = by-start (omega arith) (decLt from end)
 
--- the next part that is computed is so
+-- the next part that is computed is one by the rules
 pub next-is : (s : List ℕ) (from end : ℕ) → NextForm s from end (nextOf s from end)
 next-is s from end = sole (NextForm s from end) (λ a. next-only) (next-comes s from end)
 
@@ -139,11 +139,11 @@ parts-steps {s} {from} {end} (PartsForm.more {p = p} g f) (suc n) h l =
     let (a, b, c, d) = next-ahead s from end p (sym (next-only g)) in
     rw (← next-only g) (ap (before p) (parts-steps f n (omega arith) (omega arith)))
 
--- all parts from a place in the file
+-- all parts by the rules, from a place in the file on, are those that are computed
 pub parts-only : {s : List ℕ} {from end : ℕ} {a : Told (List HeaderRow)} → PartsForm s end from a → from ≤ length s → a ≡ partsOf s from end
 parts-only {s} {from} f h = parts-steps f (suc (length s)) h (omega arith)
 
--- the parts that are computed are so, where the steps are enough
+-- the parts that are computed, where the steps are enough, are those by the rules
 parts-come : (n : ℕ) (s : List ℕ) (from end : ℕ) → from ≤ length s → length s < n + from → PartsForm s end from (partsFrom n s from end)
 unfolding partsFrom
 parts-come zero s from end h l = absurd (omega arith)
@@ -155,32 +155,32 @@ parts-come (suc n) s from end h l = go (nextOf s from end) refl (next-is s from 
     go (good none) e f k = PartsForm.over f
     go (good (some p)) e f k = let (a, b, c, d) = next-ahead s from end p e in PartsForm.more f (k p (omega arith) (omega arith))
 
--- all parts that are computed are so
+-- all parts that are computed are those by the rules
 pub parts-are : (s : List ℕ) (from end : ℕ) → from ≤ length s → PartsForm s end from (partsOf s from end)
 parts-are s from end h = parts-come (suc (length s)) s from end h (omega arith)
 
 -- ---- the first part of a kind
 module _ (s : List ℕ) (k : Kind) where
-  -- there is none among no parts
+  -- among no parts, none is of the kind
   no-nil : NoPart s k []
   no-nil [] back p e = clash cc
   no-nil (v ∷ front) back p e = clash cc
 
-  -- nor among one more that is not of the kind
+  -- where no part is of the kind, none is with one more in front that is not
   no-more : (v : HeaderRow) (ps : List HeaderRow) → isKind s k v ≡ false → NoPart s k ps → NoPart s k (v ∷ ps)
   no-more v ps d h [] back p e = let q : v ≡ p = cc in subst (λ (x : HeaderRow). isKind s k x ≡ false) q d
   no-more v ps d h (u ∷ front) back p e = h front back p cc
 
-  -- nor among those after the first
+  -- where no part is of the kind, none of those after the first is
   no-less : (v : HeaderRow) (ps : List HeaderRow) → NoPart s k (v ∷ ps) → NoPart s k ps
   no-less v ps h front back p e = h (v ∷ front) back p (ap (λ (x : List HeaderRow). v ∷ x) e)
 
-  -- a part in front that is not of the kind
+  -- the first part of a kind is so too with a part in front that is not of the kind
   first-more : (v : HeaderRow) (ps : List HeaderRow) (o : Option HeaderRow) → isKind s k v ≡ false → FirstPart s k ps o → FirstPart s k (v ∷ ps) o
   first-more v ps none d h = no-more v ps d h
   first-more v ps (some p) d h = record { front = v ∷ h .front; back = h .back; cut = ap (λ (x : List HeaderRow). v ∷ x) (h .cut); kind = h .kind; before = no-more v (h .front) d (h .before) }
 
-  -- the first part that is computed is so
+  -- the first part of a kind that is computed is that by the rules
   pub first-part-is : (ps : List HeaderRow) → FirstPart s k ps (firstKind s k ps)
   first-part-is [] = no-nil
   first-part-is (v ∷ ps) = go (isKind s k v) refl (first-part-is ps)
@@ -189,7 +189,7 @@ module _ (s : List ℕ) (k : Kind) where
       go true e h = record { front = []; back = ps; cut = refl; kind = e; before = no-nil }
       go false e h = first-more v ps (firstKind s k ps) e h
 
-  -- and nothing else is
+  -- the first part of a kind by the rules is the one that is computed
   pub first-part-only : (ps : List HeaderRow) (o : Option HeaderRow) → FirstPart s k ps o → o ≡ firstKind s k ps
   first-part-only [] none h = refl
   first-part-only [] (some p) h = let z : false ≡ true = sym (no-nil (h .front) (h .back) p (h .cut)) ∙ h .kind in clash cc
@@ -205,7 +205,7 @@ module _ (s : List ℕ) (k : Kind) where
           let d : isKind s k v ≡ false = subst (λ (x : HeaderRow). isKind s k x ≡ false) q (n [] front u refl) in
           rw d (ih (some p) (record { front = front; back = h .back; cut = r; kind = h .kind; before = no-less u front n }))
 
--- what `complex_part` computes is so
+-- what is computed for `complex_part` is an answer by the rules
 pub complex-is : (s : List ℕ) (from end c : ℕ) (k : Kind) → ComplexPart s from end c k (partOf s from end c k)
 complex-is s from end c k = by-mark (eqb c 1) refl
   where
@@ -225,7 +225,7 @@ complex-is s from end c k = by-mark (eqb c 1) refl
     by-mark true e = by-end (eqb-true c 1 e) (ltb (length s) end) refl
     by-mark false e = ComplexPart.simple (eqb-false c 1 e)
 
--- and nothing else is
+-- the answer for `complex_part` by the rules is the one that is computed
 pub complex-only : {s : List ℕ} {from end c : ℕ} {k : Kind} {a : Told (Option HeaderRow)} → ComplexPart s from end c k a → a ≡ partOf s from end c k
 complex-only {s} {from} {end} {c} {k} (ComplexPart.simple n) = rw (ne-eqb c 1 n) refl
 complex-only {s} {from} {end} {c} {k} (ComplexPart.outside m l) = rw (eq-eqb c 1 m, lt-ltb (length s) end l) refl

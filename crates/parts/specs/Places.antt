@@ -24,7 +24,7 @@ use Rattle.parts.specs.PartRight.{next-is, next-only, parts-are}
 abbrev pub FaultIn : ℕ → Refusal → Type 0
 FaultIn n q = ((q .number ≡ 3) ⊎ ((q .number ≡ 4) ⊎ ((q .number ≡ 6) ⊎ (q .number ≡ 9)))) × (q .place ≤ n)
 
--- an answer about a file of n bytes: a value of which F holds, or such a refusal
+-- an answer about a file of n bytes: a value of which F holds, or a refusal 3, 4, 6 or 9 at a place in the file
 abbrev pub AnswerIn : {A : Type 0} → ℕ → (A → Type 0) → Told A → Type 0
 AnswerIn n F (good a) = F a
 AnswerIn n F (bad q) = FaultIn n q
@@ -39,22 +39,22 @@ abbrev pub AllIn : ℕ → ℕ → List HeaderRow → Type 0
 AllIn n from [] = Unit {0}
 AllIn n from (p ∷ ps) = PartIn n from p × AllIn n (p .argEnd + 1) ps
 
--- what refuses where a `)` is sought
+-- what refuses where a part's `)` is sought is 3, 4, 6 or 9 at a place in the file
 argued-fault : {s t : List ℕ} {q : Refusal} → Argued s t (bad q) → FaultIn (length s) q
 argued-fault (ArguedTo.text-open e d o) = (inr (inl refl), omega arith)
 argued-fault (ArguedTo.remark-open e d o) = (inl refl, omega arith)
 argued-fault (ArguedTo.unclosed e d) = (inr (inr (inl refl)), omega arith)
 
--- "9 span [..] outside the file or backwards, 0"
+-- "9 span [..] outside the file or backwards, 0": a refusal at a place in any file
 nine-in : (n : ℕ) → FaultIn n (refusal 9 0 0)
 nine-in n = (inr (inr (inr refl)), omega arith)
 
--- what refuses the next part
+-- what refuses the next part by the rules is 3, 4, 6 or 9 at a place in the file
 next-fault : {s : List ℕ} {from end : ℕ} {q : Refusal} → NextForm s from end (bad q) → FaultIn (length s) q
 next-fault {s} (NextForm.outside h) = nine-in (length s)
 next-fault (NextForm.refused m p g t) = argued-fault t
 
--- the next part
+-- the next part lies in the file, behind where it is sought; or it is refused with 3, 4, 6 or 9 at a place in the file
 pub next-placed : (s : List ℕ) (from end : ℕ) → AnswerIn (length s) (SomeIn (length s) from) (nextOf s from end)
 next-placed s from end = go (nextOf s from end) refl (next-is s from end)
   where
@@ -63,18 +63,18 @@ next-placed s from end = go (nextOf s from end) refl (next-is s from end)
     go (good (some p)) e f = next-in s from end p e
     go (bad q) e f = next-fault f
 
--- one part more in front
+-- parts that lie in the file, with one more in front that does
 add-in : (n from : ℕ) (p : HeaderRow) (x : Told (List HeaderRow)) → PartIn n from p → AnswerIn n (AllIn n (p .argEnd + 1)) x → AnswerIn n (AllIn n from) (before p x)
 add-in n from p (good ps) h k = (h, k)
 add-in n from p (bad q) h k = k
 
--- all parts by the rules
+-- all parts by the rules lie in the file; or they are refused with 3, 4, 6 or 9 at a place in the file
 parts-in : {s : List ℕ} {from end : ℕ} {a : Told (List HeaderRow)} → PartsForm s end from a → AnswerIn (length s) (AllIn (length s) from) a
 parts-in (PartsForm.over f) = tt
 parts-in (PartsForm.fault f) = next-fault f
 parts-in {s} {from} {end} (PartsForm.more {p = p} {a = a} f g) = add-in (length s) from p a (next-in s from end p (sym (next-only f))) (parts-in g)
 
--- all parts
+-- all parts that are computed lie in the file; or they are refused with 3, 4, 6 or 9 at a place in the file
 pub parts-placed : (s : List ℕ) (from end : ℕ) → AnswerIn (length s) (AllIn (length s) from) (partsOf s from end)
 unfolding partsFrom
 parts-placed s from end = by (decLt (length s) from)
@@ -92,7 +92,7 @@ parts-placed s from end = by (decLt (length s) from)
 in-less : (n a b : ℕ) (p : HeaderRow) → a ≤ b → PartIn n b p → PartIn n a p
 in-less n a b p l h = record { ahead = omega (arith, h .ahead); key = h .key; opens = h .opens; args = h .args; closes = h .closes }
 
--- the first of a kind
+-- the first part of a kind lies in the file, where all parts do
 first-in : (s : List ℕ) (k : Kind) (n from : ℕ) (ps : List HeaderRow) → AllIn n from ps → SomeIn n from (firstKind s k ps)
 first-in s k n from [] h = tt
 first-in s k n from (p ∷ ps) h = go (isKind s k p) (firstKind s k ps) (first-in s k n (p .argEnd + 1) ps (h .1))
@@ -102,7 +102,7 @@ first-in s k n from (p ∷ ps) h = go (isKind s k p) (firstKind s k ps) (first-i
     go false none k = tt
     go false (some q) k = let f = h .0 in in-less n from (p .argEnd + 1) q (omega (arith, f .ahead, f .key, f .opens, f .args)) k
 
--- `complex_part`
+-- what `complex_part` answers lies in the file, or is refused with 3, 4, 6 or 9 at a place in the file
 pub complex-placed : (s : List ℕ) (from end c : ℕ) (k : Kind) → AnswerIn (length s) (SomeIn (length s) from) (partOf s from end c k)
 complex-placed s from end c k = by-mark (eqb c 1) (ltb (length s) end) (ltb end from)
   where

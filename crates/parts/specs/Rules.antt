@@ -20,11 +20,11 @@ use Rattle.statement.specs.Form.{Argued}
 use Rattle.parts.specs.declared.Next.{Next}
 use Rattle.parts.specs.declared.Next.the-variants.{Is, Over, Refused}
 
--- "whitespace and commas"
+-- "whitespace and commas": what is skipped before a part
 abbrev pub separator : ℕ → Bool
 separator b = white b || eqb b 44
 
--- what the code's answer says
+-- what the code's answer about a part says: the part, that there is none, or a refusal
 abbrev pub toldNext : Next → Told (Option HeaderRow)
 toldNext (Is p) = good (some (headerRowOf p))
 toldNext Over = good none
@@ -38,7 +38,7 @@ pub record Window (s : List ℕ) (from end : ℕ) (m : List ℕ) : Type 0 where
   pub starts : length front ≡ from
   pub ends : length front + length m ≡ end
 
--- the next part without a loop
+-- the next part from a place on, without a loop
 pub data NextForm (s : List ℕ) (from end : ℕ) : Told (Option HeaderRow) → Type 0 where
   -- "9 span outside the file"
   outside : length s < end → NextForm s from end (bad (refusal 9 0 0))
@@ -60,11 +60,11 @@ abbrev pub before : HeaderRow → Told (List HeaderRow) → Told (List HeaderRow
 before p (good ps) = good (p ∷ ps)
 before p (bad q) = bad q
 
--- all parts without a loop
+-- all parts from a place on, without a loop
 pub data PartsForm (s : List ℕ) (end : ℕ) : ℕ → Told (List HeaderRow) → Type 0 where
-  -- no part is left
+  -- no part is left from the place on
   over : {from : ℕ} → NextForm s from end (good none) → PartsForm s end from (good [])
-  -- a fault in one
+  -- the next part is refused, and so are all
   fault : {from : ℕ} {q : Refusal} → NextForm s from end (bad q) → PartsForm s end from (bad q)
   -- "its `)` ends the part; repeat"
   more : {from : ℕ} {p : HeaderRow} {a : Told (List HeaderRow)} → NextForm s from end (good (some p)) → PartsForm s end (p .argEnd + 1) a

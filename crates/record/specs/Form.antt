@@ -59,7 +59,7 @@ pub record Gapped (f r : List ℕ) : Type 0 where
   pub all : Gap f
   pub over : NoGapFirst r
 
--- "the first byte `(`": it does not stand in the list
+-- "the first byte `(`": no `(` stands in the list
 abbrev pub NoParen : List ℕ → Type 0
 NoParen b = Free 40 b
 

@@ -32,11 +32,11 @@ pub mod Gaps
 use Parts.{sole, first-other, all-front, all-back, all-join, all-any, Spanned, span, Tailed, tail-split, past-pass, past-halt, number-pass, number-halt, word-pass}
 use Gaps.{gap-other, gap-more, gap-part, gap-join, gap-only, gap-is, gap-comes, gap-free, gap-digit}
 
--- what is left past bytes of a kind, where they are given
+-- `past` answers r, where before r stand bytes of the kind p and r begins with no more of them
 pub past-only : (p : ℕ → Bool) (f r : List ℕ) → Skipped p f r → past p (f ++ r) ≡ r
 past-only p f r s = past-pass p f r (s .all) ∙ past-halt p r (s .over)
 
--- what is left past bytes of a kind is that
+-- what `past` answers follows the bytes of the kind p at the list's start, and begins with no more of them
 pub past-is : (p : ℕ → Bool) (xs : List ℕ) → (f : List ℕ) × (xs ≡ f ++ past p xs) × Skipped p f (past p xs)
 past-is p xs = go (span p xs)
   where
@@ -45,11 +45,11 @@ past-is p xs = go (span p xs)
         let g : past p xs ≡ r = ap (past p) e ∙ past-only p f r s in
         (f, rw g e, rw g s)
 
--- the number of digits and what follows them, where they are given
+-- `numberFrom` answers the number of the digits ds and the rest r, where r begins with no more digits
 pub number-only : (ds r : List ℕ) → Skipped digit ds r → numberFrom 0 (ds ++ r) ≡ digits (valueOf ds) r
 number-only ds r s = number-pass 0 ds r (s .all) ∙ number-halt _ r (s .over) ∙ ap (λ (m : ℕ). digits m r) (omega arith)
 
--- the number that is read is that of the digits, and what is left follows them
+-- the number that `numberFrom` answers is that of all digits at the start, and its rest follows them
 pub number-is : (xs : List ℕ) (n : ℕ) (r : List ℕ) → numberFrom 0 xs ≡ digits n r
     → (ds : List ℕ) × (xs ≡ ds ++ r) × Skipped digit ds r × (n ≡ valueOf ds)
 number-is xs n r h = go (span digit xs)
@@ -64,14 +64,14 @@ number-is xs n r h = go (span digit xs)
 key-goes : (c : ℕ) → not (eqb c 40) ≡ true → (e r : List ℕ) → keyTurn e c r ≡ on (pick (white c) e r)
 key-goes c h e r = rw (not-true (eqb c 40) h)
 
--- "a keyword and the first byte `(`": where they are given they are found
+-- "a keyword and the first byte `(`": where a text has them, `keyword` finds them
 pub keyword-only : {xs k w r : List ℕ} → Keyword xs k w r → keyword xs ≡ opened (w ++ (40 ∷ r)) (40 ∷ r)
 unfolding keyword walk
 keyword-only {k} {w} {r} f =
     let free : NoParen w = gap-free w (f .blank) in
     rw (f .shape) (word-pass keyTurn (λ e. unopened) (λ c. not (eqb c 40)) key-goes k w (40 ∷ r) (f .first) (f .ended) free (f .blank))
 
--- without a `(` none is found
+-- in a text without a `(`, `keyword` finds none
 pub keyword-none-only : (xs : List ℕ) → NoParen xs → keyword xs ≡ unopened
 unfolding keyword walk
 keyword-none-only xs h = go xs xs h
@@ -97,7 +97,7 @@ keyword-comes xs = go (span (λ c. not (eqb c 40)) xs)
         let h : c ≡ 40 = eqb-true c 40 (not-false (eqb c 40) (s .over c r refl)) in
         cut f r (rw h at e) (s .all) (tail-split f)
 
--- "a keyword and the first byte `(`": what is found is that
+-- "a keyword and the first byte `(`": what `keyword` finds in a text is its keyword, the whitespace after it and its first `(`
 pub keyword-is : (xs e o : List ℕ) → keyword xs ≡ opened e o → (k w r : List ℕ) × (o ≡ 40 ∷ r) × (e ≡ w ++ (40 ∷ r)) × Keyword xs k w r
 keyword-is xs e o h = go (keyword-comes xs)
   where
@@ -105,7 +105,7 @@ keyword-is xs e o h = go (keyword-comes xs)
     go (inl (k, w, r, f)) = (k, w, r, cc (keyword-only f), cc (keyword-only f), f)
     go (inr f) = clash (cc (keyword-none-only xs f))
 
--- where none is found, there is no `(`
+-- where `keyword` finds no `(`, the text has none
 pub keyword-none : (xs : List ℕ) → keyword xs ≡ unopened → NoParen xs
 keyword-none xs h = go (keyword-comes xs)
   where
@@ -113,12 +113,12 @@ keyword-none xs h = go (keyword-comes xs)
     go (inl (k, w, r, f)) = clash (cc (keyword-only f))
     go (inr f) = f
 
--- the whitespace at the end, where it is given
+-- `trail` answers the whitespace z at a text's end, where what stands before z does not end in whitespace
 pub trail-only : (t z : List ℕ) → NoGapLast t → Gap z → trail (t ++ z) ≡ z
 unfolding trail walk
 trail-only t z l a = rw (append-nil z) at (word-pass trailTurn (λ e. e) (λ c. true) (λ c h e r. refl) t z [] (all-any t) l (all-any z) a)
 
--- "Trimmed of whitespace": the trimmed text is the one that is computed
+-- "Trimmed of whitespace": the trimmed text by the rules is the one that `trimmed` computes
 pub trimmed-only : {xs t : List ℕ} → Trimmed xs t → t ≡ trimmed xs
 trimmed-only {t} f = rw (f .shape) (go t (f .first) (f .last))
   where
@@ -145,11 +145,11 @@ trimmed-comes xs = go (gap-comes xs)
     go : (f r : List ℕ) × (xs ≡ f ++ r) × Gapped f r → (t : List ℕ) × Trimmed xs t
     go (a, r, e, s) = cut a r e s (tail-split r)
 
--- "Trimmed of whitespace": what is computed is that
+-- "Trimmed of whitespace": what `trimmed` computes is the trimmed text by the rules
 pub trimmed-is : (xs : List ℕ) → Trimmed xs (trimmed xs)
 trimmed-is xs = sole (Trimmed xs) (λ t. trimmed-only) (trimmed-comes xs)
 
--- an id was read
+-- after `#` and an id, a data record's head is that of what follows the id and whitespace
 id-only : (ds y : List ℕ) → Id ds → NotFirst digit y → dataHead (35 ∷ (ds ++ y)) ≡ equalHead (35 ∷ (ds ++ y)) (valueOf ds) (pastGap y)
 unfolding dataHead
 id-only ds y i h =
@@ -160,7 +160,7 @@ id-only ds y i h =
     longer [] n e = n refl
     longer (d ∷ f) n e = omega (arith, length-append f y)
 
--- all up to the value was read
+-- after `#`, an id, `=` and whitespace, a data record's head is that of the value that follows
 lead-only : {a : List ℕ} {n : ℕ} {v : List ℕ} → Lead a n v → dataHead (a ++ v) ≡ valueHead (a ++ v) n v
 lead-only (Lead.lead ds w u v i b s) =
     let e : (35 ∷ (ds ++ (w ++ (61 ∷ u)))) ++ v ≡ 35 ∷ (ds ++ (w ++ (61 ∷ (u ++ v)))) = simp append-assoc in
@@ -168,7 +168,7 @@ lead-only (Lead.lead ds w u v i b s) =
     rw e (id-only ds (w ++ (61 ∷ (u ++ v))) i (gap-digit w _ b (first-other digit 61 (u ++ v) refl))
     ∙ rw (gap-only w (61 ∷ (u ++ v)) (record { all = b; over = o }), gap-only u v s) refl)
 
--- what stands where an `=` should, and after it
+-- in a data record, what stands where an `=` should, and what stands after the `=`
 module _ (b : List ℕ) (n : ℕ) where
   equal-none : (r : List ℕ) → (Begins 61 r → ⊥) → equalHead b n r ≡ Bad 5
   equal-none [] h = refl
@@ -209,7 +209,7 @@ headform-only (HeadForm.unopened {a} {v} {n} l z f) = sym (lead-only l ∙ value
 headform-only (HeadForm.complex {a} {r} {n} l) = ap (Complex n) (simp length-append (omega arith)) ∙ sym (lead-only l)
 headform-only (HeadForm.simple {a} {v} {k} {w} {r} {n} l h f) = keyed-places n a f ∙ sym (lead-only l ∙ value-keyed (a ++ v) n v k w r h f)
 
--- every text has a head: by what stands after `=`, in place of `=`, after `#`, and at the start
+-- the text b has a data record's head by the rules: shown of every text, by what stands after `=`, in place of `=`, after `#`, and at the start
 abbrev Heads : List ℕ → Type 0
 Heads b = (h : Head) × HeadForm b h
 
@@ -273,7 +273,7 @@ header-comes b = go (gap-comes b)
 pub headerform-is : (b : List ℕ) → HeaderForm b (headerHead b)
 headerform-is b = sole (HeaderForm b) (λ h. headerform-only) (header-comes b)
 
--- a test that two texts are the same, both ways
+-- two texts of which the test `same` holds are equal
 pub same-is : (x y : List ℕ) → same x y ≡ true → x ≡ y
 unfolding same
 same-is [] [] h = refl
@@ -285,17 +285,17 @@ same-is (a ∷ x) (b ∷ y) h = go (eqb a b) refl (same-is x y)
     go true e g = let f : same x y ≡ true = rw e at h in cc (g f, eqb-true a b e)
     go false e g = let f : false ≡ true = rw e at h in clash (cc)
 
--- a text is the same as itself
+-- the test `same` holds of a text and itself
 pub same-self : (x : List ℕ) → same x x ≡ true
 unfolding same
 same-self [] = refl
 same-self (a ∷ x) = rw (eq-eqb a a refl) (same-self x)
 
--- "letters in either case": the test for a word, both ways
+-- "letters in either case": a text that passes the test `isWord` is spelt as the word
 pub spelt-is : (t : List ℕ) (w : String) → isWord t (bytes w) ≡ true → Spelt t w
 spelt-is t w h = same-is (map upper t) (bytes w) h
 
--- a text that is spelt so passes the test
+-- a text that is spelt as a word, letters in either case, passes the test `isWord`
 pub spelt-only : (t : List ℕ) (w : String) → Spelt t w → isWord t (bytes w) ≡ true
 spelt-only t w h = rw h (same-self (bytes w))
 
@@ -304,7 +304,7 @@ fails : (t : Bool) → (t ≡ true → ⊥) → t ≡ false
 fails true h = absurd (h refl)
 fails false h = refl
 
--- the test for what opens data, both ways
+-- a text that passes the test `opensData` opens data by the rules
 opens-is : (t : List ℕ) → opensData t ≡ true → Says t Data
 opens-is t h = go (isWord t dataWord) (isWord (take 4 t) dataWord) (pastGap (drop 4 t)) refl refl refl h
   where
@@ -328,13 +328,13 @@ opens-only d w r h a =
     let e : pastGap (w ++ (40 ∷ r)) ≡ 40 ∷ r = gap-only w (40 ∷ r) (record { all = a; over = gap-other 40 r refl }) in
     rw (take-at d (w ++ (40 ∷ r)) 4 n, drop-at d (w ++ (40 ∷ r)) 4 n, spelt-only d "DATA" h, e) (or-true (isWord (d ++ (w ++ (40 ∷ r))) dataWord))
 
--- the first letters of a word
+-- the capitals of a text's first n bytes are the first n of its capitals
 map-take : (n : ℕ) (t : List ℕ) → map upper (take n t) ≡ take n (map upper t)
 map-take zero t = refl
 map-take (suc n) [] = refl
 map-take (suc n) (c ∷ t) = ap (λ (l : List ℕ). upper c ∷ l) (map-take n t)
 
--- what a trimmed text says by the rules is what is computed
+-- what a trimmed text says by the rules is what `wordIn` computes
 says-only : {t : List ℕ} {w : Word} → Says t w → w ≡ wordIn t
 unfolding same
 says-only (Says.headed t h) = rw h
@@ -343,11 +343,11 @@ says-only (Says.data-opened d w r h a) = rw (opens-only d w r h a, map-append, h
 says-only (Says.left t h) = rw h
 says-only (Says.ended t h) = rw (map-take, h)
 
--- no text says that it is no word
+-- no trimmed text says by the rules that it is no word
 says-other : {t : List ℕ} → Says t Other → ⊥
 says-other s = elim s [ ]
 
--- every text is a word, or none
+-- every trimmed text is a section word or none by the rules
 word-comes : {b t : List ℕ} → Trimmed b t → (w : Word) × WordForm b w
 word-comes {b} {t} f = go (isWord t endsec) (isWord t header) (opensData t) (isWord t endFile) refl refl refl refl
   where

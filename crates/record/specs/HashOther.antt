@@ -15,7 +15,7 @@ use Rattle.record.specs.Word.{same, trimmed, wordOf}
 use Rattle.record.specs.declared.Word.{Word}
 use Rattle.record.specs.declared.Word.the-variants.{Other}
 
--- trimmed it begins so too
+-- a text that begins with `#` begins with it when trimmed
 hash-trimmed : {t u : List ℕ} → Trimmed (35 ∷ t) u → Begins 35 u
 hash-trimmed {t} {u} f = go (f .front) u (f .back) (f .shape) (f .before) (f .after)
   where
@@ -25,17 +25,17 @@ hash-trimmed {t} {u} f = go (f .front) u (f .back) (f .shape) (f .before) (f .af
     go [] [] [] e h w = clash (cc)
     go [] [] (c ∷ z) e h (w, k) = clash (cc)
 
--- `#` begins none of the words
+-- a text that begins with `#` is no section word
 pub hash-other : (t : List ℕ) → wordOf (35 ∷ t) ≡ Other
 unfolding wordOf same
 hash-other t = let (u, e) = hash-trimmed (trimmed-is (35 ∷ t)) in rw e refl
 
--- at its first place
+-- a text with `#` at its first place is no section word
 pub hash-word : (b : List ℕ) → 0 < length b → getD b 0 0 ≡ 35 → Other ≡ wordOf b
 hash-word [] h e = absurd (omega arith)
 hash-word (c ∷ t) h e = rw e (sym (hash-other t))
 
--- an empty text is none either
+-- an empty text is no section word
 pub empty-word : (b : List ℕ) → length b ≡ 0 → Other ≡ wordOf b
 unfolding wordOf same past trail walk
 empty-word [] h = refl

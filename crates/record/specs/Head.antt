@@ -46,6 +46,6 @@ abbrev pub namedHead : List ℕ → List ℕ → Keyed → Head
 namedHead b v unopened = Bad 1
 namedHead b v (opened e o) = Simple 0 (place b v) (place b e) (place b o)
 
--- a header record: a keyword and the first byte `(`
+-- the head of a header record by its text: a keyword and the first byte `(`
 unfoldable pub headerHead : List ℕ → Head
 headerHead b = namedHead b (pastGap b) (keyword (pastGap b))

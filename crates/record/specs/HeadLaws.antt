@@ -25,51 +25,58 @@ use Rattle.record.specs.declared.Head.the-variants.{Bad, Complex, Simple
 place-cons : (b : List ℕ) (v : ℕ) → v < length b → place b (getD b v 0 ∷ drop (v + 1) b) ≡ v
 place-cons b v h = ap (place b) (sym (split b v h)) ∙ place-drop b v (omega arith)
 
--- what stands from the value on, where that is the rest r from v
+-- laws of a data record's head b with the id `id`, where the rest r that is left to read begins at v
 module _ (b : List ℕ) (id v : ℕ) (r : List ℕ) (e : drop v b ≡ r) where
+  -- where no byte is left for the value, the head is reason 6
   pub value-none : length b ≤ v → Bad 6 ≡ valueHead b id r
   value-none h = rw (← e, drop-end b v h) refl
 
+  -- where the value begins with `(`, the head is that of a complex record
   pub value-complex : v < length b → getD b v 0 ≡ 40 → Complex id v ≡ valueHead b id r
   value-complex h k = rw (← e, split b v h, eq-eqb _ _ k) (ap (Complex id) (sym (place-cons b v h)))
 
+  -- where the value begins with another byte than `(`, the head is by its keyword
   pub value-keyed : v < length b → (getD b v 0 ≡ 40 → ⊥) → keyedHead b id (drop v b) (keyword (drop v b)) ≡ valueHead b id r
   value-keyed h k = rw (← e, split b v h, ne-eqb _ _ k) refl
 
+  -- where no byte is left for the `=`, the head is reason 5
   pub equal-none : length b ≤ v → Bad 5 ≡ equalHead b id r
   equal-none h = rw (← e, drop-end b v h) refl
 
+  -- where another byte stands for the `=`, the head is reason 5
   pub equal-other : v < length b → (getD b v 0 ≡ 61 → ⊥) → Bad 5 ≡ equalHead b id r
   equal-other h k = rw (← e, split b v h, ne-eqb _ _ k) refl
 
+  -- where the `=` stands there, the head is that of the value after it and whitespace
   pub equal-found : v < length b → getD b v 0 ≡ 61 → valueHead b id (pastGap (drop (v + 1) b)) ≡ equalHead b id r
   equal-found h k = rw (← e, split b v h, eq-eqb _ _ k) refl
 
--- a keyword that was found or not
+-- where no `(` is found after a data record's `=`, the head is reason 7
 pub keyed-absent : (b : List ℕ) (id v : ℕ) (k : Keyed) → k ≡ unopened → Bad 7 ≡ keyedHead b id (drop v b) k
 keyed-absent b id v k q = rw q refl
 
--- a keyword that was found, by its places
+-- where a data record's keyword and `(` are found, the head has their places
 pub keyed-found : (b : List ℕ) (id v e o : ℕ) (k : Keyed) → v ≤ length b → e ≤ length b → o ≤ length b → k ≡ opened (drop e b) (drop o b) → Simple id v e o ≡ keyedHead b id (drop v b) k
 keyed-found b id v e o k hv he ho q = rw (q, place-drop b v hv, place-drop b e he, place-drop b o ho) refl
 
--- a header record without `(`
+-- the head of a header record without `(` is reason 1
 pub named-absent : (b : List ℕ) (v : ℕ) → drop v b ≡ pastGap b → keyword (drop v b) ≡ unopened → Bad 1 ≡ headerHead b
 unfolding headerHead
 named-absent b v p q = rw (← p, q) refl
 
--- a header record's keyword, by its places
+-- where a header record's keyword and `(` are found, the head has their places
 pub named-found : (b : List ℕ) (v e o : ℕ) → drop v b ≡ pastGap b → v ≤ length b → e ≤ length b → o ≤ length b → keyword (drop v b) ≡ opened (drop e b) (drop o b) → Simple 0 v e o ≡ headerHead b
 unfolding headerHead
 named-found b v e o p hv he ho q = rw (← p, q, place-drop b v hv, place-drop b e he, place-drop b o ho) refl
 
--- the `#` and the id
+-- the head of an empty data record is reason 2
 pub data-none : (b : List ℕ) → length b ≡ 0 → Bad 2 ≡ dataHead b
 unfolding dataHead
 data-none [] h = refl
 data-none (c ∷ r) h = absurd (omega arith)
 
 module _ (b : List ℕ) (h : 0 < length b) where
+  -- the head of a data record that does not begin with `#` is reason 2
   pub data-other : (getD b 0 0 ≡ 35 → ⊥) → Bad 2 ≡ dataHead b
   unfolding dataHead
   data-other k = go b k h
@@ -78,6 +85,7 @@ module _ (b : List ℕ) (h : 0 < length b) where
       go [] k h = refl
       go (c ∷ r) k h = rw (ne-eqb c 35 k) refl
 
+  -- the head of a data record with an id above 4294967295 is reason 3
   pub data-over : getD b 0 0 ≡ 35 → 4294967295 < numberFrom 0 (drop 1 b) .value → Bad 3 ≡ dataHead b
   unfolding dataHead
   data-over k n = go b k h n
@@ -86,7 +94,7 @@ module _ (b : List ℕ) (h : 0 < length b) where
       go [] k h n = absurd (omega arith)
       go (c ∷ r) k h n = rw (eq-eqb c 35 k, lt-ltb _ _ n) refl
 
-  -- the id's digits were read: none of them, or some
+  -- the head of a data record with no digits after its `#` is reason 4
   pub data-empty : (n : ℕ) → getD b 0 0 ≡ 35 → numberFrom 0 (drop 1 b) ≡ digits n (drop 1 b) → n ≤ 4294967295 → Bad 4 ≡ dataHead b
   unfolding dataHead
   data-empty n k q m = go b k h q
@@ -95,6 +103,7 @@ module _ (b : List ℕ) (h : 0 < length b) where
       go [] k h q = absurd (omega arith)
       go (c ∷ r) k h q = rw (eq-eqb c 35 k, q, le-ltb _ _ m, eq-eqb (length r) (length r) refl) refl
 
+  -- after `#` and the id's digits, a data record's head is that of what follows them and whitespace
   pub data-value : (n p : ℕ) → getD b 0 0 ≡ 35 → numberFrom 0 (drop 1 b) ≡ digits n (drop p b) → n ≤ 4294967295 → 1 ≤ p → p ≤ length b → (p ≡ 1 → ⊥) → equalHead b n (pastGap (drop p b)) ≡ dataHead b
   unfolding dataHead
   data-value n p k q m a z o = go b k h q z
@@ -105,17 +114,17 @@ module _ (b : List ℕ) (h : 0 < length b) where
           let f : length (drop p (c ∷ r)) ≡ length r → ⊥ = λ e. omega (arith, length-drop p (c ∷ r)) in
           rw (eq-eqb c 35 k, q, le-ltb _ _ m, ne-eqb (length (drop p (c ∷ r))) (length r) f) refl
 
--- a text of the word's length and with its first bytes is the word; any other is not
+-- a text that has not four bytes is not the word `DATA`
 data-short : (t : List ℕ) → (length t ≡ 4 → ⊥) → isWord t dataWord ≡ false
 data-short t h = same-lengths (map upper t) dataWord (λ e. h (sym (length-map t upper) ∙ e))
 
--- a text that is shorter than the word opens no data
+-- a text of fewer than four bytes opens no data
 pub opens-short : (t : List ℕ) → length t < 4 → false ≡ opensData t
 opens-short t h =
     let a : take 4 t ≡ t = take-all 4 t (omega arith) in
     rw (a, data-short t (omega arith)) refl
 
--- nor does one that begins otherwise
+-- a text whose first four bytes are not `DATA` opens no data
 pub opens-other : (t : List ℕ) → false ≡ isWord (take 4 t) dataWord → false ≡ opensData t
 opens-other t e = go (ℕ-discrete (length t) 4)
   where
@@ -126,11 +135,11 @@ opens-other t e = go (ℕ-discrete (length t) 4)
         rw (a, f) refl
     go (no h) = rw (data-short t h, sym e) refl
 
--- one that begins so and goes on opens data where a `(` is next
+-- a text of `DATA`, whitespace or none and more opens data just where a `(` is next
 pub opens-after : (t : List ℕ) (p : ℕ) → true ≡ isWord (take 4 t) dataWord → 4 ≤ p → drop p t ≡ pastGap (drop 4 t) → p < length t → eqb (getD t p 0) 40 ≡ opensData t
 opens-after t p e h q k = rw (data-short t (omega arith), sym e, ← q, split t p k) refl
 
--- one that begins so and has only whitespace after opens data where it is the word alone
+-- a text of `DATA` and nothing but whitespace opens data just where it is `DATA` alone
 pub opens-alone : (t : List ℕ) (p : ℕ) → true ≡ isWord (take 4 t) dataWord → drop p t ≡ pastGap (drop 4 t) → length t ≤ p → eqb (length t) 4 ≡ opensData t
 opens-alone t p e q k = go (ℕ-discrete (length t) 4)
   where

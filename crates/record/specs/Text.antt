@@ -19,7 +19,7 @@ use Rattle.record.specs.Byte.{digit}
 abbrev pub before : List ℕ → List ℕ → List ℕ
 before xs r = take (length xs - length r) xs
 
--- a byte of the kind p is passed over
+-- a turn of `past`: a byte of the kind p is passed over, at any other the walk stops
 abbrev pub pastTurn : (ℕ → Bool) → Unit {0} → ℕ → List ℕ → Turn (Unit {0}) (List ℕ)
 pastTurn p u c r = pick (p c) (on u) (stop (c ∷ r))
 
@@ -36,11 +36,11 @@ pub record Digits : Type 0 where
   pub value : ℕ
   pub rest : List ℕ
 
--- such a number by its parts
+-- a number and the rest after its digits, from these two
 abbrev pub digits : ℕ → List ℕ → Digits
 digits n r = record { value = n; rest = r }
 
--- a digit makes the number ten times as large, and its own value larger
+-- a turn of `numberFrom`: a digit makes the number ten times as large and adds its own value
 abbrev pub digitTurn : ℕ → ℕ → List ℕ → Turn ℕ Digits
 digitTurn n c r = pick (digit c) (on (n * 10 + (c - 48))) (stop (digits n (c ∷ r)))
 
@@ -53,7 +53,7 @@ pub data Keyed : Type 0 where
   opened : List ℕ → List ℕ → Keyed
   unopened : Keyed
 
--- e is the rest after the last byte that is not white
+-- a turn of `keyword`, which stops at a `(`: e is the rest after the last byte that is not white
 abbrev pub keyTurn : List ℕ → ℕ → List ℕ → Turn (List ℕ) Keyed
 keyTurn e c r = pick (eqb c 40) (stop (opened e (c ∷ r))) (on (pick (white c) e r))
 
@@ -61,7 +61,7 @@ keyTurn e c r = pick (eqb c 40) (stop (opened e (c ∷ r))) (on (pick (white c) 
 unfoldable pub keyword : List ℕ → Keyed
 keyword xs = walk keyTurn (λ e. unopened) xs xs
 
--- e is the rest after the last byte that is not white
+-- a turn of `trail`: e is the rest after the last byte that is not white
 abbrev pub trailTurn : List ℕ → ℕ → List ℕ → Turn (List ℕ) (List ℕ)
 trailTurn e c r = on (pick (white c) e r)
 
@@ -74,7 +74,7 @@ abbrev pub Numbered : List ℕ → ℕ → Number → Type 0
 Numbered b from Over = 4294967295 < numberFrom 0 (drop from b) .value
 Numbered b from (Value n p) = (numberFrom 0 (drop from b) ≡ digits n (drop p b)) × (from ≤ p) × (p ≤ length b) × (n ≤ 4294967295)
 
--- what the code's answer says of the keyword from a place on
+-- what the code's answer says of the keyword from a place on: there is no `(`, or where the keyword ends and the `(` stands
 abbrev pub KeyedAt : List ℕ → ℕ → Key → Type 0
 KeyedAt b from Absent = keyword (drop from b) ≡ unopened
 KeyedAt b from (Found e o) = (keyword (drop from b) ≡ opened (drop e b) (drop o b)) × (e ≤ length b) × (o ≤ length b)

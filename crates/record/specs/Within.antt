@@ -20,7 +20,7 @@ HeadWithin n (Bad why) = Unit {0}
 HeadWithin n (Complex id o) = o ≤ n
 HeadWithin n (Simple id a z o) = (a ≤ n) × (z ≤ n) × (o ≤ n)
 
--- one of two heads
+-- where each of two heads has its places within n, so has the one that is picked
 either : (n : ℕ) (t : Bool) (g h : Head) → HeadWithin n g → HeadWithin n h → HeadWithin n (pick t g h)
 either n true g h p q = p
 either n false g h p q = q

@@ -11,14 +11,14 @@ use Rattle.record.specs.declared.Word.{Word}
 use Rattle.record.specs.declared.Word.the-variants.{Header, Data, EndSection, EndFile, Other}
 use Rattle.record.specs.Byte.{upper}
 
--- the same bytes
+-- the test whether two lists have the same bytes
 unfoldable pub same : List ℕ → List ℕ → Bool
 same [] [] = true
 same [] (b ∷ y) = false
 same (a ∷ x) [] = false
 same (a ∷ x) (b ∷ y) = eqb a b && same x y
 
--- "Trimmed of whitespace"
+-- "Trimmed of whitespace": what is left of a text
 abbrev pub trimmed : List ℕ → List ℕ
 trimmed xs = before (pastGap xs) (trail (pastGap xs))
 
@@ -31,23 +31,23 @@ abbrev pub opens : List ℕ → Bool
 opens [] = false
 opens (c ∷ r) = eqb c 40
 
--- `ENDSEC`
+-- the bytes of `ENDSEC`
 abbrev pub endsec : List ℕ
 endsec = 69 ∷ 78 ∷ 68 ∷ 83 ∷ 69 ∷ 67 ∷ []
 
--- `HEADER`
+-- the bytes of `HEADER`
 abbrev pub header : List ℕ
 header = 72 ∷ 69 ∷ 65 ∷ 68 ∷ 69 ∷ 82 ∷ []
 
--- `DATA`
+-- the bytes of `DATA`
 abbrev pub dataWord : List ℕ
 dataWord = 68 ∷ 65 ∷ 84 ∷ 65 ∷ []
 
--- `ISO-10303-21`
+-- the bytes of `ISO-10303-21`
 abbrev pub marker : List ℕ
 marker = 73 ∷ 83 ∷ 79 ∷ 45 ∷ 49 ∷ 48 ∷ 51 ∷ 48 ∷ 51 ∷ 45 ∷ 50 ∷ 49 ∷ []
 
--- `END-ISO-10303-21`
+-- the bytes of `END-ISO-10303-21`
 abbrev pub endFile : List ℕ
 endFile = 69 ∷ 78 ∷ 68 ∷ 45 ∷ marker
 

@@ -43,11 +43,11 @@ readingOf s H R = readFrom (length s + 1) s H R Outside 0 0 s
 abbrev pub mark : List ℕ
 mark = 239 ∷ 187 ∷ 191 ∷ []
 
--- "after an optional EF BB BF and whitespace only"
+-- "after an optional EF BB BF and whitespace only": what is left of the file after its byte-order mark, if it has one
 abbrev pub unmarked : List ℕ → List ℕ
 unmarked s = pick (same (take 3 s) mark) (drop 3 s) s
 
--- "The marker is `ISO-10303-21`"
+-- "The marker is `ISO-10303-21`": whether it stands at the file's start, after a byte-order mark and whitespace
 abbrev pub marked : List ℕ → Bool
 marked s = same (take 12 (past white (unmarked s))) marker
 

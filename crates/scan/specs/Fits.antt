@@ -28,7 +28,7 @@ use Rattle.statement.specs.declared.Section.the-variants.{Outside, InHeader, In
 use Rattle.scan.specs.Records.{Table, withHeader, withRecord}
 use Rattle.scan.specs.File.{taken, readFrom, readingOf, marked, scanOf}
 
--- each place of a row is at most n
+-- each place of a header row is at most n
 pub record HeaderFits (n : ℕ) (w : HeaderRow) : Type 0 where
   pub keyStart : w .keyStart ≤ n
   pub keyEnd : w .keyEnd ≤ n
@@ -47,12 +47,12 @@ abbrev pub ToldFits : {A : Type 0} → ℕ → (A → Type 0) → Told A → Typ
 ToldFits n F (good a) = F a
 ToldFits n F (bad q) = q .place ≤ n
 
--- each row of a list
+-- each row of a list is as F says
 abbrev pub Each : {A : Type 0} → (A → Type 0) → List A → Type 0
 Each F [] = Unit {0}
 Each F (w ∷ ws) = F w × Each F ws
 
--- each place of each row is at most n
+-- each place of each row of a table is at most n
 pub record TableFits (n : ℕ) (t : Table) : Type 0 where
   pub headers : Each (HeaderFits n) (t .headers)
   pub records : Each (RecordFits n) (t .records)
@@ -66,7 +66,7 @@ StmtFits n (header w ys r) = HeaderFits n w
 StmtFits n (record′ w ys r) = RecordFits n w
 
 module _ (s : List ℕ) where
-  -- a row by the place of its `)`
+  -- a row by the place of its `)` is as F says, if F holds of it for each place in the file; or the refusal's place is in the file
   argued-fits : {A : Type 0} (F : A → Type 0) (f : ℕ → A) → ((q : ℕ) → q ≤ length s → F (f q)) → (x : Sought) → ToldFits (length s) F (mapped f (placed s x))
   argued-fits F f h (at r) = h (place s r) (place-within s r)
   argued-fits F f h (fault n r) = place-within s r
@@ -140,7 +140,7 @@ module _ (s : List ℕ) where
   unfolding statement
   statement-fits sec xs = led-fits sec (trivia xs)
 
-  -- rows before an answer's
+  -- rows put before those of an answer keep its places in the file
   mapped-fits : (f : Table → Table) → ((t : Table) → TableFits (length s) t → TableFits (length s) (f t)) → (x : Told Table) → ToldFits (length s) (TableFits (length s)) x → ToldFits (length s) (TableFits (length s)) (mapped f x)
   mapped-fits f h (good t) k = h t k
   mapped-fits f h (bad q) k = k
@@ -166,7 +166,7 @@ module _ (s : List ℕ) where
   read-fits zero H R sec h r xs = omega arith
   read-fits (suc k) H R sec h r xs = taken-fits H R h r (statement s sec xs) _ (statement-fits sec xs) (λ sec h r t. read-fits k H R sec h r t)
 
-  -- the whole answer's places lie in the file
+  -- the places of a scan's answer lie in the file
   pub scan-fits : (H R : ℕ) → ToldFits (length s) (TableFits (length s)) (scanOf s H R)
   unfolding scanOf
   scan-fits H R = go (ltb 4294967295 (length s)) (marked s)
@@ -176,7 +176,7 @@ module _ (s : List ℕ) where
       go false true = read-fits (length s + 1) H R Outside 0 0 s
       go false false = omega arith
 
--- a greater bound
+-- places of a header row that are at most n are at most any greater bound
 pub header-fits-more : (n m : ℕ) (w : HeaderRow) → n ≤ m → HeaderFits n w → HeaderFits m w
 header-fits-more n m w h f = record {
   keyStart = omega (arith, f .keyStart);
@@ -185,7 +185,7 @@ header-fits-more n m w h f = record {
   argEnd = omega (arith, f .argEnd);
 }
 
--- a greater bound for a data row
+-- places of a data row that are at most n are at most any greater bound
 pub record-fits-more : (n m : ℕ) (w : Row) → n ≤ m → RecordFits n w → RecordFits m w
 record-fits-more n m w h f = record {
   keyStart = omega (arith, f .keyStart);

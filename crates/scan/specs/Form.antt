@@ -23,21 +23,21 @@ pub record PerKind : Type 0 where
   pub headers : ℕ
   pub records : ℕ
 
--- such numbers by kind
+-- rows counted by kind, from the number of header rows and of data rows
 abbrev pub perKind : ℕ → ℕ → PerKind
 perKind h r = record { headers = h; records = r }
 
--- how many there are of a kind
+-- how many rows of a kind are counted
 abbrev pub of : RowKind → PerKind → ℕ
 of header-kind n = n .headers
 of data-kind n = n .records
 
--- one more of a kind
+-- one row more of a kind
 abbrev pub more : RowKind → PerKind → PerKind
 more header-kind n = perKind (n .headers + 1) (n .records)
 more data-kind n = perKind (n .headers) (n .records + 1)
 
--- of no kind more than there are lent
+-- of no kind more rows than are lent
 abbrev pub Within : PerKind → PerKind → Type 0
 Within n lent = (k : RowKind) → of k n ≤ of k lent
 
@@ -48,7 +48,7 @@ pub data Reads (s : List ℕ) (lent : PerKind) : Section → PerKind → List �
   over : {sec : Section} {n : PerKind} {xs : List ℕ} → StatementForm s sec xs ends → Reads s lent sec n xs (good (table [] []))
   -- "the first fault is given"
   fault : {sec : Section} {n : PerKind} {xs : List ℕ} {q : Refusal} → StatementForm s sec xs (refused q) → Reads s lent sec n xs (bad q)
-  -- a section word, or a record that is ignored
+  -- a section word, or a record that is ignored: the answer is that of the rest of the file
   on : {sec to : Section} {n : PerKind} {xs t : List ℕ} {a : Told Table} → StatementForm s sec xs (moved to t) → Reads s lent to n t a
       → Reads s lent sec n xs a
   -- a record that gives a row: its row comes before those of the rest of the file
@@ -61,9 +61,9 @@ pub data Reads (s : List ℕ) (lent : PerKind) : Section → PerKind → List �
 
 -- "The marker is `ISO-10303-21` after an optional EF BB BF and whitespace only."
 pub data Marked : List ℕ → Type 0 where
-  -- whitespace only
+  -- whitespace only stands before the marker
   plain : (w r : List ℕ) → All white w → Marked (w ++ (bytes "ISO-10303-21" ++ r))
-  -- EF BB BF and whitespace only
+  -- EF BB BF and whitespace only stand before the marker
   mark : (w r : List ℕ) → All white w → Marked (239 ∷ 187 ∷ 191 ∷ (w ++ (bytes "ISO-10303-21" ++ r)))
 
 -- the answer for the file s, with so many rows of each kind lent
@@ -77,17 +77,17 @@ pub data Scans (s : List ℕ) (lent : PerKind) : Told Table → Type 0 where
 
 -- the file s, read in order, comes to the rest xs in this section, and so many rows of each kind have been read by then
 pub data Reached (s : List ℕ) : Section → List ℕ → PerKind → Type 0 where
-  -- at first, outside of every section, none
+  -- at first the reading stands at the file's start, outside of every section, and has read no row
   start : Reached s Outside s (perKind 0 0)
-  -- a section word, or a record that is ignored
+  -- after a section word, or a record that is ignored, the reading stands after it
   on : {sec to : Section} {xs t : List ℕ} {n : PerKind} → Reached s sec xs n → StatementForm s sec xs (moved to t) → Reached s to t n
-  -- a record that gives a row, read whole: one row of its kind more
+  -- after a record that gives a row, read whole, the reading stands after it and has read one row of its kind more
   row : {sec : Section} {xs t : List ℕ} {n : PerKind} (k : RowKind) (w : RowOf k) (ys : List ℕ) → Reached s sec xs n
       → StatementForm s sec xs (rowed k w ys t) → Reached s (sectionOf k) t (more k n)
 
 -- "8 is given exactly when a record has been read whole and the lent rows of its kind [..] are already used up": as many rows of
 -- the kind as are lent, and of no kind more, have been read when one more record, which starts with ys, is read whole
 pub data Full (s : List ℕ) (lent : PerKind) : Refusal → Type 0 where
-  -- one record of the kind k too many
+  -- the reading has come to one record of the kind k too many
   full : {sec : Section} {xs : List ℕ} {n : PerKind} (k : RowKind) (w : RowOf k) (ys t : List ℕ) → Reached s sec xs n → Within n lent
       → of k n ≡ of k lent → StatementForm s sec xs (rowed k w ys t) → Full s lent (refusal 8 0 (place s ys))

@@ -54,7 +54,7 @@ module _ (s : List ℕ) (lent : PerKind) where
   reads-only {n} (Reads.full header-kind w ys t f p) k l = turn n k l f ∙ rw (le-ltb (n .headers) (lent .headers) p) refl
   reads-only {n} (Reads.full data-kind w ys t f p) k l = turn n k l f ∙ rw (le-ltb (n .records) (lent .records) p) refl
 
-  -- every rest of at most n bytes has an answer
+  -- every rest of fewer than k bytes has an answer by the rules
   reads-comes : (k : ℕ) (sec : Section) (n : PerKind) (xs : List ℕ) → length xs < k → (a : Told Table) × Reads s lent sec n xs a
   reads-comes zero sec n xs l = absurd (omega arith)
   reads-comes (suc k) sec n xs l = go (statement-comes s sec xs) (λ sec n t m. reads-comes k sec n t (omega arith))
@@ -72,7 +72,7 @@ module _ (s : List ℕ) (lent : PerKind) where
       go (header w ys t, f) ih = rows header-kind w ys t f (decLe _ _) (ih InHeader (more header-kind n) t (header-shorter f))
       go (record′ w ys t, f) ih = rows data-kind w ys t f (decLe _ _) (ih InData (more data-kind n) t (data-shorter f))
 
-  -- the answer that is computed, with enough fuel, is that by the rules
+  -- the answer that is computed from a rest on, with enough fuel, is that by the rules
   pub reads-is : (k : ℕ) (sec : Section) (n : PerKind) (xs : List ℕ) → length xs < k → Reads s lent sec n xs (readBy k s lent sec n xs)
   reads-is k sec n xs l = sole (Reads s lent sec n xs) (λ a d. sym (reads-only d k l)) (reads-comes k sec n xs l)
 
@@ -81,7 +81,7 @@ module _ (s : List ℕ) (lent : PerKind) where
       → readBy j s lent sec n xs ≡ readBy k s lent sec n xs
   fuel-free j k sec n xs l m = reads-only (reads-is k sec n xs m) j l
 
--- a list that begins with w
+-- a list whose first bytes are the same as w begins with w
 begins-is : (w s : List ℕ) → same (take (length w) s) w ≡ true → (r : List ℕ) × (s ≡ w ++ r)
 unfolding same
 begins-is [] s h = (s, refl)
@@ -93,7 +93,7 @@ begins-is (c ∷ w) (d ∷ s) h = go (eqb d c) refl (begins-is w s)
     go true e ih = let (r, g) = ih (rw e at h) in (r, cc (eqb-true d c e))
     go false e ih = clash (cc)
 
--- "The marker is `ISO-10303-21` after [..] whitespace only": the test, both ways
+-- "The marker is `ISO-10303-21` after [..] whitespace only": a file that begins so passes the test
 marker-only : (w r : List ℕ) → All white w → same (take 12 (past white (w ++ (marker ++ r)))) marker ≡ true
 unfolding same
 marker-only w r a = rw (past-only white w (marker ++ r) (record { all = a; over = first-other white 73 _ refl })) refl
@@ -112,7 +112,7 @@ marked-only (Marked.plain (c ∷ w) r a) =
     rw (ne-eqb c 239 (λ e. let f : white 239 ≡ true = rw e at (a .0) in clash (cc))) (marker-only (c ∷ w) r a)
 marked-only (Marked.mark w r a) = marker-only w r a
 
--- and what passes the test is marked by the rules
+-- a file that passes the test for the marker is marked by the rules
 pub marked-is : (s : List ℕ) → marked s ≡ true → Marked s
 unfolding same
 marked-is s h = go (same (take 3 s) mark) refl
@@ -137,7 +137,7 @@ scans-only (Scans.long h) = rw (lt-ltb _ _ h)
 scans-only {s} (Scans.unmarked h n) = rw (le-ltb _ _ h, fails (marked s) (λ e. n (marked-is s e)))
 scans-only {s} {H} {R} (Scans.read h m d) = rw (le-ltb _ _ h, marked-only m) (sym (reads-only s (perKind H R) d (length s + 1) (omega arith)))
 
--- every file has an answer
+-- every file has an answer by the rules
 scans-comes : (s : List ℕ) (H R : ℕ) → (a : Told Table) × Scans s (perKind H R) a
 scans-comes s H R = go (decLe (length s) 4294967295) (marked s) refl
   where
@@ -146,7 +146,7 @@ scans-comes s H R = go (decLe (length s) 4294967295) (marked s) refl
     go (yes h) true e = (_, Scans.read h (marked-is s e) (reads-is s (perKind H R) (length s + 1) Outside (perKind 0 0) s (omega arith)))
     go (yes h) false e = (_, Scans.unmarked h (λ m. clash (cc (marked-only m))))
 
--- the answer that is computed is that by the rules
+-- the answer for a file that is computed is that by the rules
 pub scans-is : (s : List ℕ) (H R : ℕ) → Scans s (perKind H R) (scanOf s H R)
 scans-is s H R = sole (Scans s (perKind H R)) (λ a. scans-only) (scans-comes s H R)
 
@@ -156,11 +156,11 @@ scans-one d e = scans-only d ∙ sym (scans-only e)
 
 -- what holds of each refusal by the rules holds of the one that is computed
 module _ (s : List ℕ) (H R : ℕ) (q : Refusal) (e : scanOf s H R ≡ bad q) where
-  -- the numbers of the table that a scan can answer
+  -- a scan's refusal has a number from 1 to 8
   pub scan-number : Between 1 8 q
   scan-number = scans-bad (rw e at (scans-is s H R)) .0
 
-  -- the number that stands for too little fuel is never answered
+  -- a scan's refusal never has the number 0, which stands for too little fuel
   pub scan-fueled : q .number ≡ 0 → ⊥
   scan-fueled z = omega (arith, scan-number)
 
@@ -168,6 +168,6 @@ module _ (s : List ℕ) (H R : ℕ) (q : Refusal) (e : scanOf s H R ≡ bad q) w
   pub scan-full-only : q .number ≡ 8 → Full s (perKind H R) q
   scan-full-only = scans-bad (rw e at (scans-is s H R)) .1
 
--- and always then
+-- 8 is given always when a record has been read whole and the lent rows of its kind are already used up
 pub scan-full : (s : List ℕ) (H R : ℕ) (q : Refusal) → length s ≤ 4294967295 → Marked s → Full s (perKind H R) q → scanOf s H R ≡ bad q
 scan-full s H R q h m f = sym (scans-only (Scans.read h m (full-reads f)))

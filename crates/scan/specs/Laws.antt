@@ -22,7 +22,7 @@ use Rattle.scan.specs.Records.{Table, table, withHeader, withRecord, lar
 use Rattle.scan.specs.File.{taken, readFrom, readingOf}
 use Rattle.scan.specs.Table.{headersOf, recordsOf, Counts, counts, countsOf}
 
--- rows before those of the rest of the file
+-- a table with the rows hs and rs before its own
 abbrev pub join : List HeaderRow → List Row → Table → Table
 join hs rs t = table (hs ++ t .headers) (rs ++ t .records)
 
@@ -33,7 +33,7 @@ unfolding readFrom
 unrolled zero s H R sec h r xs p = absurd (omega arith)
 unrolled (suc k) s H R sec h r xs p = let e : suc k - 1 ≡ k = omega arith in rw e refl
 
--- the ids' maximum with one record more
+-- the largest id with one record more is the greater of the largest before and its id
 largest-more : (rs : List Row) (w : Row) → largest (rs ++ (w ∷ [])) ≡ max (largest rs) (w .id)
 unfolding largest
 largest-more [] w = omega arith
@@ -61,12 +61,12 @@ Written false o f old new = new ≡ old
 Written true (good t) f old new = new ≡ f t old
 Written true (bad q) f old new = Unit {0}
 
--- nothing before
+-- no rows before those of an answer leave it as it is
 join-none : (x : Told Table) → mapped (join [] []) x ≡ x
 join-none (good t) = refl
 join-none (bad q) = refl
 
--- rows before rows, and one more
+-- rows before those of an answer, which begins with the header row w: w goes to the end of the rows before
 join-header : (hs : List HeaderRow) (rs : List Row) (w : HeaderRow) (x : Told Table) → mapped (join hs rs) (mapped (withHeader w) x) ≡ mapped (join (hs ++ (w ∷ [])) rs) x
 join-header hs rs w (good t) = ap (λ (l : List HeaderRow). good (table l (rs ++ t .records))) (sym (append-assoc hs (w ∷ []) (t .headers)))
 join-header hs rs w (bad q) = refl
@@ -75,7 +75,7 @@ join-record : (hs : List HeaderRow) (rs : List Row) (w : Row) (x : Told Table) �
 join-record hs rs w (good t) = ap (λ (l : List Row). good (table (hs ++ t .headers) l)) (sym (append-assoc rs (w ∷ []) (t .records)))
 join-record hs rs w (bad q) = refl
 
--- where the loop begins
+-- the reading as the loop keeps it holds where the loop begins
 pub going-starts : (s : List ℕ) (H R : ℕ) (write : Bool) (h₀ r₀ : List ℕ) → Going s H R write h₀ r₀ 0 Outside 0 0 0 h₀ r₀
 unfolding largest
 going-starts s H R write h₀ r₀ = record {
@@ -100,19 +100,19 @@ going-starts s H R write h₀ r₀ = record {
 
 module _ (s : List ℕ) (H R : ℕ) (write : Bool) (h₀ r₀ : List ℕ) (i : ℕ) (sec : Section) (h r m : ℕ) (hnow rnow : List ℕ)
     (g : Going s H R write h₀ r₀ i sec h r m hnow rnow) where
-  -- the whole reading, by the next statement
+  -- the whole reading is the rows so far and what the next statement makes of the rest
   turn : (x : Stmt) → x ≡ statement s sec (drop i s) → mapped (join (g .hs) (g .rs)) (taken s H R h r x (λ sec h r t. readFrom (g .fuel - 1) s H R sec h r t)) ≡ readingOf s H R
   turn x e = rw (e, ← unrolled (g .fuel) s H R sec h r (drop i s) (omega (arith, g .enough))) (g .same)
 
-  -- the file ends
+  -- where the next statement ends the reading, the rows so far are its answer
   pub going-ends : ends ≡ statement s sec (drop i s) → good (table (g .hs) (g .rs)) ≡ readingOf s H R
   going-ends e = rw (append-nil (g .hs), append-nil (g .rs)) at (turn ends e)
 
-  -- a refusal
+  -- where the next statement is refused, so is the whole reading
   pub going-refused : (q : Refusal) → refused q ≡ statement s sec (drop i s) → bad q ≡ readingOf s H R
   going-refused q e = turn (refused q) e
 
-  -- a section word, or a record that is ignored
+  -- after a section word, or a record that is ignored, the reading goes on with the same rows
   pub going-moves : (to : Section) (n : ℕ) → moved to (drop n s) ≡ statement s sec (drop i s) → i < n → n ≤ length s → Going s H R write h₀ r₀ n to h r m hnow rnow
   going-moves to n e p q = record {
     fuel = g .fuel - 1;
@@ -130,14 +130,15 @@ module _ (s : List ℕ) (H R : ℕ) (write : Bool) (h₀ r₀ : List ℕ) (i : �
     rlaid = g .rlaid;
   }
 
-  -- a header record with no row left
+  -- a header record with no row left is 8 at the record's start
   pub header-full : (w : HeaderRow) (p n : ℕ) → p ≤ length s → header w (drop p s) (drop n s) ≡ statement s sec (drop i s) → H ≤ h → bad (refusal 8 0 p) ≡ readingOf s H R
   header-full w p n l e k = rw (le-ltb h H k, place-drop s p l) at (turn (header w (drop p s) (drop n s)) e)
 
+  -- a data record with no row left is 8 at the record's start
   pub record-full : (w : Row) (p n : ℕ) → p ≤ length s → record′ w (drop p s) (drop n s) ≡ statement s sec (drop i s) → R ≤ r → bad (refusal 8 0 p) ≡ readingOf s H R
   record-full w p n l e k = rw (le-ltb r R k, place-drop s p l) at (turn (record′ w (drop p s) (drop n s)) e)
 
-  -- a header record, and its row
+  -- after a header record, for which a row is left, the reading goes on with its row
   pub going-header : (w : HeaderRow) (p n : ℕ) → header w (drop p s) (drop n s) ≡ statement s sec (drop i s) → i < n → n ≤ length s → h < H → h < headersFit (length h₀)
       → Going s H R write h₀ r₀ n InHeader (h + 1) r m (pick write (headerPut hnow h w) hnow) rnow
   going-header w p n e a b k l = record {
@@ -160,7 +161,7 @@ module _ (s : List ℕ) (H R : ℕ) (write : Bool) (h₀ r₀ : List ℕ) (i : �
       go false = refl
       go true = rw (← g .hcount) (sym (headers-laid-more (g .hs) w h₀ (rw (g .hcount) l)))
 
-  -- a data record, and its row
+  -- after a data record, for which a row is left, the reading goes on with its row
   pub going-record : (w : Row) (p n : ℕ) → record′ w (drop p s) (drop n s) ≡ statement s sec (drop i s) → i < n → n ≤ length s → r < R → r < rowsFit (length r₀)
       → Going s H R write h₀ r₀ n InData h (r + 1) (max m (w .id)) hnow (pick write (rowPut rnow r w) rnow)
   going-record w p n e a b k l = record {
@@ -183,11 +184,11 @@ module _ (s : List ℕ) (H R : ℕ) (write : Bool) (h₀ r₀ : List ℕ) (i : �
       go false = refl
       go true = rw (← g .rcount) (sym (rows-laid-more (g .rs) w r₀ (rw (g .rcount) l)))
 
-  -- the answer's counts
+  -- the answer's counts are those that the loop has kept
   pub going-counts : (x : Told Table) → good (table (g .hs) (g .rs)) ≡ x → good (counts h r m) ≡ mapped countsOf x
   going-counts x e = rw (← e, g .hcount, g .rcount, g .most) refl
 
-  -- the memory after an answer and after a refusal
+  -- the lent memory after an answer is what the loop must leave
   pub going-wrote : (x : Told Table) → good (table (g .hs) (g .rs)) ≡ x → Written write x headersOf h₀ hnow × Written write x recordsOf r₀ rnow
   going-wrote x e = rw (← e, g .hlaid, g .rlaid) (go write)
     where
@@ -197,6 +198,7 @@ module _ (s : List ℕ) (H R : ℕ) (write : Bool) (h₀ r₀ : List ℕ) (i : �
       go true = (refl, refl)
       go false = (refl, refl)
 
+  -- the lent memory after a refusal is what the loop must leave
   pub going-kept : (q : Refusal) (x : Told Table) → bad q ≡ x → Written write x headersOf h₀ hnow × Written write x recordsOf r₀ rnow
   going-kept q x e = rw (← e, g .hlaid, g .rlaid) (go write)
     where
@@ -213,12 +215,14 @@ Left s H R′ write h₀ r₀ hnow rnow a =
 
 module _ (s : List ℕ) (H R : ℕ) (write : Bool) (h₀ r₀ : List ℕ) (i : ℕ) (sec : Section) (h r m : ℕ) (hnow rnow : List ℕ)
     (g : Going s H R write h₀ r₀ i sec h r m hnow rnow) (R′ : ℕ) (k : R ≡ R′) where
+  -- where the reading ends, the loop leaves what it must and answers its counts
   pub done : ends ≡ statement s sec (drop i s) → Left s H R′ write h₀ r₀ hnow rnow (good (counts h r m))
   done e =
       let x = going-ends s H R write h₀ r₀ i sec h r m hnow rnow g e in
       let w = going-wrote s H R write h₀ r₀ i sec h r m hnow rnow g (readingOf s H R) x in
       rw (← k) (going-counts s H R write h₀ r₀ i sec h r m hnow rnow g (readingOf s H R) x, (w .0, w .1))
 
+  -- where the reading is refused, the loop leaves what it must and answers the refusal
   pub failed : (q : Refusal) → bad q ≡ readingOf s H R → Left s H R′ write h₀ r₀ hnow rnow (bad q)
   failed q x =
       let w = going-kept s H R write h₀ r₀ i sec h r m hnow rnow g q (readingOf s H R) x in

@@ -25,12 +25,12 @@ pub data Neat (s : List ℕ) : Section → List ℕ → Type 0 where
   row : {sec : Section} {xs : List ℕ} (w : Row) (ys t : List ℕ) → record′ w ys t ≡ statement s sec xs → tidy s (record′ w ys t) ≡ true → Neat s InData t
       → Neat s sec xs
 
--- what a pass tells
+-- what a pass over the file tells: its counts, or a refusal
 abbrev pub toldPassed : Passed → Told Counts
 toldPassed (Counted h r m b) = good (counts h r m)
 toldPassed (Stopped f) = bad (told f)
 
--- and of what kind the file is
+-- where a pass tells that all data records were tidy, the file is neat
 abbrev pub NeatTold : List ℕ → Passed → Type 0
 NeatTold s (Counted h r m b) = b ≡ true → Neat s Outside s
 NeatTold s (Stopped f) = Unit {0}
@@ -40,7 +40,7 @@ pub record Tidying (s : List ℕ) (known all : Bool) (i : ℕ) (sec : Section) :
   pub back : all ≡ true → Neat s sec (drop i s) → Neat s Outside s
   pub ahead : known ≡ true → Neat s sec (drop i s)
 
--- two tests that both hold
+-- where two tests hold together, each of them holds
 pub both : (a b : Bool) → a && b ≡ true → (a ≡ true) × (b ≡ true)
 both true b e = (refl, e)
 both false b e = clash (cc)
@@ -53,56 +53,56 @@ module _ (s : List ℕ) (sec : Section) (xs : List ℕ) where
   neat-tidy (Neat.head w ys t q n) = ap (tidy s) (sym q)
   neat-tidy (Neat.row w ys t q h n) = ap (tidy s) (sym q) ∙ h
 
-  -- what follows a section word
+  -- what follows a section word or an ignored record in a neat file is neat
   neat-on : (to : Section) (t : List ℕ) → moved to t ≡ statement s sec xs → Neat s sec xs → Neat s to t
   neat-on to t e (Neat.over q) = clash (cc)
   neat-on to t e (Neat.on to' t' q n) = let a : to' ≡ to = cc in let b : t' ≡ t = cc in rw (← a, ← b) n
   neat-on to t e (Neat.head w ys t' q n) = clash (cc)
   neat-on to t e (Neat.row w ys t' q h n) = clash (cc)
 
-  -- what follows a header record
+  -- what follows a header record in a neat file is neat
   neat-head : (w : HeaderRow) (ys t : List ℕ) → header w ys t ≡ statement s sec xs → Neat s sec xs → Neat s InHeader t
   neat-head w ys t e (Neat.over q) = clash (cc)
   neat-head w ys t e (Neat.on to' t' q n) = clash (cc)
   neat-head w ys t e (Neat.head w' ys' t' q n) = let b : t' ≡ t = cc in rw (← b) n
   neat-head w ys t e (Neat.row w' ys' t' q h n) = clash (cc)
 
-  -- what follows a data record
+  -- what follows a data record in a neat file is neat
   pub neat-row : (w : Row) (ys t : List ℕ) → record′ w ys t ≡ statement s sec xs → Neat s sec xs → Neat s InData t
   neat-row w ys t e (Neat.over q) = clash (cc)
   neat-row w ys t e (Neat.on to' t' q n) = clash (cc)
   neat-row w ys t e (Neat.head w' ys' t' q n) = clash (cc)
   neat-row w ys t e (Neat.row w' ys' t' q h n) = let b : t' ≡ t = cc in rw (← b) n
 
--- where the loop begins
+-- what the pass knows of tidy records holds where the loop begins
 pub tidying-starts : (s : List ℕ) (known : Bool) → (known ≡ true → Neat s Outside s) → Tidying s known true 0 Outside
 tidying-starts s known h = record { back = λ z n. n; ahead = h }
 
 module _ (s : List ℕ) (known all : Bool) (i : ℕ) (sec : Section) (g : Tidying s known all i sec) where
-  -- what is read by its first `;` may be
+  -- where the whole file is known to be neat, the next statement is tidy
   pub tidying-known : known ≡ true → tidy s (statement s sec (drop i s)) ≡ true
   tidying-known k = neat-tidy s sec (drop i s) (g .ahead k)
 
   module _ (b : Bool) (e : b ≡ tidy s (statement s sec (drop i s))) where
-    -- the file ends
+    -- where the file ends and all its records were tidy, it is neat
     pub tidying-ends : ends ≡ statement s sec (drop i s) → all && b ≡ true → Neat s Outside s
     tidying-ends q z = g .back (both all b z .0) (Neat.over q)
 
-    -- a section word, or a record that is ignored
+    -- what the pass knows of tidy records holds after a section word or an ignored record
     pub tidying-moves : (to : Section) (n : ℕ) → moved to (drop n s) ≡ statement s sec (drop i s) → Tidying s known (all && b) n to
     tidying-moves to n q = record {
       back = λ z m. g .back (both all b z .0) (Neat.on to (drop n s) q m);
       ahead = λ k. neat-on s sec (drop i s) to (drop n s) q (g .ahead k);
     }
 
-    -- a header record
+    -- what the pass knows of tidy records holds after a header record
     pub tidying-header : (w : HeaderRow) (p n : ℕ) → header w (drop p s) (drop n s) ≡ statement s sec (drop i s) → Tidying s known (all && b) n InHeader
     tidying-header w p n q = record {
       back = λ z m. g .back (both all b z .0) (Neat.head w (drop p s) (drop n s) q m);
       ahead = λ k. neat-head s sec (drop i s) w (drop p s) (drop n s) q (g .ahead k);
     }
 
-    -- a data record
+    -- what the pass knows of tidy records holds after a data record
     pub tidying-record : (w : Row) (p n : ℕ) → record′ w (drop p s) (drop n s) ≡ statement s sec (drop i s) → Tidying s known (all && b) n InData
     tidying-record w p n q = record {
       back = λ z m. g .back (both all b z .0) (Neat.row w (drop p s) (drop n s) q (ap (tidy s) q ∙ sym e ∙ both all b z .1) m);

@@ -7,7 +7,7 @@ use Rattle.scan.specs.Table.{Counts, toldScan}
 use Rattle.scan.specs.declared.Scanned.{Scanned}
 use Rattle.scan.specs.declared.Scanned.the-variants.{Rows, Refused}
 
--- the answer that tells this
+-- the code's answer that tells these counts or this refusal
 scannedOf : Told Counts → Scanned
 scannedOf (good c) = Rows (c .headers) (c .records) (c .max)
 scannedOf (bad q) = Refused (faultOf q)
@@ -17,6 +17,6 @@ unfolding scannedOf
 scanned-back (Rows h r m) = refl
 scanned-back (Refused f) = ap Refused (faultOf-told f)
 
--- `scan`
+-- `scan` has one answer: two that tell the same are one
 pub scanned-only : (a b : Scanned) → toldScan a ≡ toldScan b → a ≡ b
 scanned-only a b e = sym (scanned-back a) ∙ ap scannedOf e ∙ scanned-back b

@@ -16,39 +16,39 @@ use Rattle.scan.specs.Fits.{Each}
 use Rattle.statement.specs.Form.{After, ArguedTo, Argued, DataForm, HeaderRecordForm}
 use Rattle.scan.specs.Rests.{Rest, rest-of, rest-within, balanced-rest, after-rest, scan-tells}
 
--- a header row of a file of n bytes
+-- the places of a header row of a file of n bytes are in order
 pub record HeaderOrdered (n : ℕ) (w : HeaderRow) : Type 0 where
   -- the keyword does not end before it starts
   pub keyword : w .keyStart ≤ w .keyEnd
-  -- it ends before the arguments start, since a `(` stands between
+  -- the keyword ends before the arguments start, since a `(` stands between
   pub between : w .keyEnd < w .argStart
   -- the arguments do not end before they start
   pub arguments : w .argStart ≤ w .argEnd
-  -- they end in the file, at a `)`
+  -- the arguments end in the file, at a `)`
   pub within : w .argEnd < n
 
--- a data row of a file of n bytes
+-- the numbers of a data row of a file of n bytes are in order
 pub record RowOrdered (n : ℕ) (w : Row) : Type 0 where
   -- an id is not "above 4294967295"
   pub id : w .id ≤ 4294967295
   -- the keyword does not end before it starts
   pub keyword : w .keyStart ≤ w .keyEnd
-  -- it ends before the arguments start, since a `(` stands between
+  -- the keyword ends before the arguments start, since a `(` stands between
   pub between : w .keyEnd < w .argStart
   -- the arguments do not end before they start
   pub arguments : w .argStart ≤ w .argEnd
-  -- they end in the file, at a `)`
+  -- the arguments end in the file, at a `)`
   pub within : w .argEnd < n
   -- "complex 0 or 1"
   pub complex : w .complex ≤ 1
   -- "keyword start and end (0, 0 if complex)"
   pub unnamed : w .complex ≡ 1 → (w .keyStart ≡ 0) × (w .keyEnd ≡ 0)
 
--- the lengths of what is left after so many bytes
+-- what is left after n bytes is n bytes shorter
 after-length : {n : ℕ} {ys zs : List ℕ} → After n ys zs → length ys ≡ n + length zs
 after-length (b, e, l) = omega (arith, simp length-append at (ap length e))
 
--- the `)` is not before the arguments' start, and it is in the file
+-- the `)` of a record's arguments is not before their start, and it is in the file
 argued-ordered : {s t : List ℕ} {e : ℕ} → Rest s (40 ∷ t) → Argued s t (good e) → (place s t ≤ e) × (e < length s)
 argued-ordered {t} u (ArguedTo.closed {r} e h) = let c : Closes t r = rw e h in omega (arith, rest-within u, rest-within (balanced-rest c))
 
@@ -66,7 +66,7 @@ data-row-ordered u (DataForm.simple h a z o g) =
     let k = argued-ordered (rest-of u (after-rest o)) g in
     omega (arith, simple-ordered h, rest-within u, after-length a, after-length z, after-length o)
 
--- all rows of an answer are in order
+-- all rows of a scan's answer are in order
 pub scan-ordered : (s : List ℕ) (H R : ℕ) (t : Table) → scanOf s H R ≡ good t
     → Each (HeaderOrdered (length s)) (t .headers) × Each (RowOrdered (length s)) (t .records)
 scan-ordered s H R t e = scan-tells s (HeaderOrdered (length s)) (RowOrdered (length s)) (λ q. Unit {0})

@@ -37,12 +37,12 @@ pub data Stands (s : List ℕ) : ℕ → List ℕ → Type 0 where
   -- "8 [..], record start"
   full : {xs ys body t : List ℕ} → Rest s xs → Record xs ys body t → Stands s 8 ys
 
--- a list that is not empty has a byte
+-- a list that is not empty has at least one byte
 some : (xs : List ℕ) → (xs ≡ [] → ⊥) → 0 < length xs
 some [] h = absurd (h refl)
 some (c ∷ xs) h = omega arith
 
--- but for 1 and 2, a refusal stands at a byte
+-- but for refusals 1 and 2, what stands at a refusal's place has at least one byte
 stands-some : {s : List ℕ} {n : ℕ} {xs : List ℕ} → Stands s n xs → 3 ≤ n → 0 < length xs
 stands-some Stands.unmarked h = absurd (omega arith)
 stands-some Stands.long h = absurd (omega arith)
@@ -53,33 +53,33 @@ stands-some (Stands.paren d) h = omega arith
 stands-some (Stands.bad-record u d) h = omega (arith, simp length-append at (ap length (d .text)))
 stands-some (Stands.full u d) h = omega (arith, simp length-append at (ap length (d .text)))
 
--- a refusal of the file s stands where it should
+-- what a refusal's number names stands at its place in the file s
 abbrev pub Pointed : List ℕ → Refusal → Type 0
 Pointed s q = Stands s (q .number) (drop (q .place) s)
 
--- a refusal at a rest
+-- a refusal at a rest of the file, where what its number names stands, points at that
 pointed : {s r : List ℕ} (n why : ℕ) → Rest s r → Stands s n r → Pointed s (refusal n why (place s r))
 pointed n why u p = rw (rest-place u) p
 
--- a refusal of a record's arguments
+-- a refusal of a record's arguments points at what its number names
 argued-points : {s t : List ℕ} {q : Refusal} → Rest s (40 ∷ t) → Argued s t (bad q) → Pointed s q
 argued-points {t} u (ArguedTo.text-open {d} {o} e h k) = let m : Deep d t o = rw e h in pointed 4 0 (rest-of u (rest-on (deep-rest m))) (Stands.string k)
 argued-points {t} u (ArguedTo.remark-open {d} {o} e h k) = let m : Deep d t o = rw e h in pointed 3 0 (rest-of u (rest-on (deep-rest m))) (Stands.comment k)
 argued-points {t} u (ArguedTo.unclosed {d} e h) = let m : Deep d t [] = rw e h in pointed 6 0 u (Stands.paren m)
 
 module _ {s xs ys body t : List ℕ} (u : Rest s xs) (d : Record xs ys body t) where
-  -- a refusal of a header record
+  -- a refusal of a header record points at what its number names
   header-points : {q : Refusal} → HeaderRecordForm s ys body (bad q) → Pointed s q
   header-points (HeaderRecordForm.bad-record {why} h) = pointed 7 why (rest-of u (record-rest d .0)) (Stands.bad-record u d)
   header-points (HeaderRecordForm.named-refused h o g) = argued-points (rest-of (rest-of u (record-rest d .0)) (after-rest o)) g
 
-  -- a refusal of a data record
+  -- a refusal of a data record points at what its number names
   data-points : {q : Refusal} → DataForm s ys body (bad q) → Pointed s q
   data-points (DataForm.bad-record {why} h) = pointed 7 why (rest-of u (record-rest d .0)) (Stands.bad-record u d)
   data-points (DataForm.complex-refused h o g) = argued-points (rest-of (rest-of u (record-rest d .0)) (after-rest o)) g
   data-points (DataForm.simple-refused h o g) = argued-points (rest-of (rest-of u (record-rest d .0)) (after-rest o)) g
 
--- a refusal of a statement
+-- a refusal of a statement points at what its number names
 pub refused-points : {s : List ℕ} {sec : Section} {xs : List ℕ} {q : Refusal} → Rest s xs → StatementForm s sec xs (refused q) → Pointed s q
 refused-points u (StatementForm.trivia-open r o) = pointed 3 0 (rest-of u (trivia-rest r)) (Stands.comment o)
 refused-points u (StatementForm.endless l h r) = pointed 5 0 (rest-of u (trivia-rest (l .before))) (Stands.endless u l h r)
@@ -97,7 +97,7 @@ pub record Enclosed (s : List ℕ) (a e : ℕ) : Type 0 where
   pub closed : Closes (drop a s) after
   pub ended : drop e s ≡ 41 ∷ after
 
--- the arguments of a record
+-- a record's arguments stand between a `(` and its closing `)`
 argued-encloses : {s t : List ℕ} {e : ℕ} → Rest s (40 ∷ t) → Argued s t (good e) → Enclosed s (place s t) e
 argued-encloses {s} {t} u (ArguedTo.closed {r} e h) =
     let c : Closes t r = rw e h in
@@ -105,16 +105,16 @@ argued-encloses {s} {t} u (ArguedTo.closed {r} e h) =
     let p : drop (place s t) s ≡ t = rest-place k in
     record { after = r; opened = rw p u; closed = rw p c; ended = rest-place (rest-of k (balanced-rest c)) }
 
--- the arguments of a header row
+-- the arguments of a header row stand between a `(` and its closing `)`
 pub header-encloses : {s ys body : List ℕ} {w : HeaderRow} → Rest s ys → HeaderRecordForm s ys body (good w) → Enclosed s (w .argStart) (w .argEnd)
 header-encloses u (HeaderRecordForm.named h a z o g) = argued-encloses (rest-of u (after-rest o)) g
 
--- the arguments of a data row
+-- the arguments of a data row stand between a `(` and its closing `)`
 pub data-encloses : {s ys body : List ℕ} {w : Row} → Rest s ys → DataForm s ys body (good w) → Enclosed s (w .argStart) (w .argEnd)
 data-encloses u (DataForm.complex h o g) = argued-encloses (rest-of u (after-rest o)) g
 data-encloses u (DataForm.simple h a z o g) = argued-encloses (rest-of u (after-rest o)) g
 
--- the lists and the places of a statement
+-- what a statement says of its lists, which are rests of the file, and of its places, which point at what they name
 abbrev pub Says : List ℕ → Stmt → Type 0
 Says s ends = Unit {0}
 Says s (refused q) = Pointed s q
@@ -136,12 +136,12 @@ statement-says (record′ w ys t) u f =
     let (k, l) = record-rest d in
     (rest-of u k, rest-of u (rest-of k l), data-encloses (rest-of u k) g)
 
--- so it is with the statement that is computed
+-- a statement that is computed has rests of the file for lists, and its places point at what they name
 pub statement-points : (s : List ℕ) (sec : Section) (xs : List ℕ) → Rest s xs → Says s (statement s sec xs)
 statement-points s sec xs u = statement-says (statement s sec xs) u (statement-is s sec xs)
 
 module _ (s : List ℕ) (H R : ℕ) where
-  -- the places of an answer point at what they name
+  -- the places of a scan's answer point at what they name
   scan-points : (a : Told Table) → scanOf s H R ≡ a
       → Tells (λ w. Enclosed s (w .argStart) (w .argEnd)) (λ w. Enclosed s (w .argStart) (w .argEnd)) (Pointed s) a
   scan-points = scan-tells s _ _ (Pointed s) (λ ys body w u g. header-encloses u g) (λ ys body w u g. data-encloses u g)
@@ -158,7 +158,7 @@ module _ (s : List ℕ) (H R : ℕ) where
     pub scan-stands : Pointed s q
     scan-stands = scan-points (bad q) e
 
-    -- but for 1 and 2, its place is that of a byte of the file
+    -- but for refusals 1 and 2, the place of a scan's refusal is that of a byte of the file
     pub scan-inside : 3 ≤ q .number → q .place < length s
     scan-inside h = omega (arith, stands-some scan-stands h, length-drop (q .place) s)
 

@@ -10,19 +10,19 @@ pub record Table : Type 0 where
   pub headers : List HeaderRow
   pub records : List Row
 
--- such a table by its parts
+-- a table from its header rows and its data rows
 abbrev pub table : List HeaderRow → List Row → Table
 table hs rs = record { headers = hs; records = rs }
 
--- a row before those of the rest of the file
+-- a table with a header row before those of the rest of the file
 abbrev pub withHeader : HeaderRow → Table → Table
 withHeader w t = table (w ∷ t .headers) (t .records)
 
--- a data row likewise
+-- a table with a data row before those of the rest of the file
 abbrev pub withRecord : Row → Table → Table
 withRecord w t = table (t .headers) (w ∷ t .records)
 
--- a row of this kind likewise
+-- a table with a row of the kind before those of the rest of the file
 abbrev pub withRow : (k : RowKind) → RowOf k → Table → Table
 withRow header-kind w t = withHeader w t
 withRow data-kind w t = withRecord w t

@@ -27,11 +27,11 @@ pub record Rest (xs r : List ℕ) : Type 0 where
 pub rest-all : {xs : List ℕ} → Rest xs xs
 rest-all = record { before = []; splits = refl }
 
--- one more byte in front
+-- a rest of a list is one of the list with one more byte in front
 pub rest-on : {c : ℕ} {xs r : List ℕ} → Rest xs r → Rest (c ∷ xs) r
 rest-on {c} d = record { before = c ∷ d .before; splits = cc }
 
--- a rest of a rest
+-- a rest of a rest is a rest
 pub rest-of : {xs ys r : List ℕ} → Rest xs ys → Rest ys r → Rest xs r
 rest-of d e = record { before = d .before ++ e .before; splits = rw append-assoc (cc) }
 
@@ -43,28 +43,28 @@ rest-within d = omega (arith, simp length-append at (ap length (d .splits)))
 pub rest-place : {s r : List ℕ} → Rest s r → drop (place s r) s ≡ r
 rest-place {r} d = rw (d .splits) (drop-at (d .before) r (length (d .before ++ r) - length r) (simp length-append (omega arith)))
 
--- what follows a comment
+-- what follows a comment is a rest
 comment-rest : {xs r : List ℕ} → Comment xs r → Rest xs r
 comment-rest q = record { before = 47 ∷ 42 ∷ (q .body ++ (42 ∷ 47 ∷ [])); splits = rw append-assoc (q .shape) }
 
--- what follows a string
+-- what follows a string is a rest
 string-rest : {xs r : List ℕ} → Quotation xs r → Rest xs r
 string-rest q = record { before = 39 ∷ (q .body ++ (39 ∷ [])); splits = rw append-assoc (q .shape) }
 
--- what follows trivia
+-- what follows trivia is a rest
 pub trivia-rest : {xs ys : List ℕ} → Trivia xs ys → Rest xs ys
 trivia-rest Trivia.none = rest-all
 trivia-rest (Trivia.blank h r) = rest-on (trivia-rest r)
 trivia-rest (Trivia.comment q r) = rest-of (comment-rest q) (trivia-rest r)
 
--- what follows bytes without a `;`
+-- what follows whole strings, comments and bytes without a `;` is a rest
 pub runs-rest : {xs ys : List ℕ} → Runs xs ys → Rest xs ys
 runs-rest Runs.none = rest-all
 runs-rest (Runs.byte h k l r) = rest-on (runs-rest r)
 runs-rest (Runs.string q r) = rest-of (string-rest q) (runs-rest r)
 runs-rest (Runs.comment q r) = rest-of (comment-rest q) (runs-rest r)
 
--- what follows balanced bytes
+-- what follows balanced bytes is a rest
 pub balanced-rest : {xs ys : List ℕ} → Balanced xs ys → Rest xs ys
 balanced-rest Balanced.none = rest-all
 balanced-rest (Balanced.byte h k l m r) = rest-on (balanced-rest r)
@@ -72,16 +72,16 @@ balanced-rest (Balanced.string q r) = rest-of (string-rest q) (balanced-rest r)
 balanced-rest (Balanced.comment q r) = rest-of (comment-rest q) (balanced-rest r)
 balanced-rest (Balanced.group r t) = rest-on (rest-of (balanced-rest r) (rest-on (balanced-rest t)))
 
--- what follows bytes in which parentheses are open
+-- what follows bytes in which parentheses are open is a rest
 pub deep-rest : {d : ℕ} {xs ys : List ℕ} → Deep d xs ys → Rest xs ys
 deep-rest (Deep.flat r) = balanced-rest r
 deep-rest (Deep.nested r d) = rest-of (balanced-rest r) (rest-on (deep-rest d))
 
--- what is left after so many bytes
+-- what is left after n bytes is a rest
 pub after-rest : {n : ℕ} {ys zs : List ℕ} → After n ys zs → Rest ys zs
 after-rest (b, e, l) = record { before = b; splits = e }
 
--- a record's start, and what follows the record
+-- what begins with a record is a rest, and so is what follows the record
 pub record-rest : {xs ys body t : List ℕ} → Record xs ys body t → Rest xs ys × Rest ys t
 record-rest d = (trivia-rest (d .starts .before), rest-of (runs-rest (d .finishes)) (rest-on rest-all))
 
@@ -102,11 +102,11 @@ pub data-form : {s : List ℕ} {sec : Section} {xs ys t : List ℕ} {w : Row} �
     → (body : List ℕ) × Record xs ys body t × DataForm s ys body (good w)
 data-form (StatementForm.data-row d f g) = (_, d, g)
 
--- a header record starts at a rest, and what follows it is one
+-- what begins with a header record is a rest, and so is what follows it
 pub header-rest : {s : List ℕ} {sec : Section} {xs ys t : List ℕ} {w : HeaderRow} → StatementForm s sec xs (header w ys t) → Rest xs ys × Rest ys t
 header-rest f = record-rest (header-form f .1)
 
--- and so it is with a data record
+-- what begins with a data record is a rest, and so is what follows it
 pub data-rest : {s : List ℕ} {sec : Section} {xs ys t : List ℕ} {w : Row} → StatementForm s sec xs (record′ w ys t) → Rest xs ys × Rest ys t
 data-rest f = record-rest (data-form f .1)
 
@@ -117,7 +117,7 @@ reached-rest (Reached.on u f) = rest-of (reached-rest u) (moved-rest f)
 reached-rest (Reached.row header-kind w ys u f) = let (a, b) = header-rest f in rest-of (reached-rest u) (rest-of a b)
 reached-rest (Reached.row data-kind w ys u f) = let (a, b) = data-rest f in rest-of (reached-rest u) (rest-of a b)
 
--- each header row of an answer is so, and each data row; or its refusal is
+-- P holds of each header row of an answer and Q of each data row; or B holds of its refusal
 abbrev pub Tells : (HeaderRow → Type 0) → (Row → Type 0) → (Refusal → Type 0) → Told Table → Type 0
 Tells P Q B (good t) = Each P (t .headers) × Each Q (t .records)
 Tells P Q B (bad q) = B q
@@ -127,12 +127,12 @@ module _ (s : List ℕ) (P : HeaderRow → Type 0) (Q : Row → Type 0) (B : Ref
     (records : (ys body : List ℕ) (w : Row) → Rest s ys → DataForm s ys body (good w) → Q w)
     (refusals : (sec : Section) (xs : List ℕ) (q : Refusal) → Rest s xs → StatementForm s sec xs (refused q) → B q)
     (full : (xs ys body t : List ℕ) → Rest s xs → Record xs ys body t → B (refusal 8 0 (place s ys))) where
-  -- one header row more
+  -- a header row of which P holds may go before those of an answer
   with-header : (w : HeaderRow) (a : Told Table) → P w → Tells P Q B a → Tells P Q B (mapped (withHeader w) a)
   with-header w (good t) p (h, r) = ((p, h), r)
   with-header w (bad q) p h = h
 
-  -- one data row more
+  -- a data row of which Q holds may go before those of an answer
   with-record : (w : Row) (a : Told Table) → Q w → Tells P Q B a → Tells P Q B (mapped (withRecord w) a)
   with-record w (good t) p (h, r) = (h, (p, r))
   with-record w (bad q) p h = h
@@ -154,7 +154,7 @@ module _ (s : List ℕ) (P : HeaderRow → Type 0) (Q : Row → Type 0) (B : Ref
       with-record w a (records _ body w (rest-of u k) g) (reads-tell (rest-of u (rest-of k l)) d)
   reads-tell u (Reads.full data-kind w ys t f p) = full _ _ _ _ u (data-form f .1)
 
-  -- and of the answer for the file, if it holds of the refusals 1 and 2 at its start
+  -- what holds of each record and of each refusal holds of the answer for the file, if it holds of the refusals 1 and 2 at its start
   pub scan-tells : B (refusal 1 0 0) → B (refusal 2 0 0) → (H R : ℕ) (a : Told Table) → scanOf s H R ≡ a → Tells P Q B a
   scan-tells b c H R a e = go (rw e at (scans-is s H R))
     where

@@ -21,12 +21,12 @@ use Rattle.scan.specs.File.{readFrom, scanOf}
 use Rattle.scan.specs.Form.{perKind, Reads, Scans}
 use Rattle.scan.specs.FormRight.{scans-is, scans-only}
 
--- the rows of an answer, with h and r rows used before, find room in H and R
+-- the answer gives rows, and these, with h and r rows used before, find room in H and R
 abbrev Holds : ℕ → ℕ → ℕ → ℕ → Told Table → Type 0
 Holds H R h r (good t) = (h + length (t .headers) ≤ H) × (r + length (t .records) ≤ R)
 Holds H R h r (bad q) = ⊥
 
--- one row less to come
+-- One row less to come, and one more used: the room is the same.
 module _ (H R h r : ℕ) where
   holds-header : (w : HeaderRow) (a : Told Table) → Holds H R h r (mapped (withHeader w) a) → (h < H) × Holds H R (h + 1) r a
   holds-header w (good t) (k, l) = (omega arith, (omega arith, l))
@@ -58,12 +58,12 @@ pub scan-roomy : (s : List ℕ) (H R : ℕ) (t : Table) → scanOf s H R ≡ goo
     → (H' R' : ℕ) → length (t .headers) ≤ H' → length (t .records) ≤ R' → scanOf s H' R' ≡ good t
 scan-roomy s H R t e H' R' h r = sym (scans-only (scans-roomy H' R' (rw e at (scans-is s H R)) (omega arith)))
 
--- the rows of an answer find room, if it is one
+-- the rows of an answer, if it gives any, find room in H and R, with h and r rows used before
 abbrev Fits : ℕ → ℕ → ℕ → ℕ → Told Table → Type 0
 Fits H R h r (good t) = Holds H R h r (good t)
 Fits H R h r (bad q) = Unit {0}
 
--- one row more
+-- One row more to come, and one less used: the room is the same.
 module _ (H R h r : ℕ) where
   fits-header : (w : HeaderRow) (a : Told Table) → Fits H R (h + 1) r a → Fits H R h r (mapped (withHeader w) a)
   fits-header w (good t) k = omega arith
@@ -92,16 +92,16 @@ scans-fit (Scans.read h m d) = reads-fit (omega arith) (omega arith) d
 pub scan-fit : (s : List ℕ) (H R : ℕ) (t : Table) → scanOf s H R ≡ good t → (length (t .headers) ≤ H) × (length (t .records) ≤ R)
 scan-fit s H R t e = let k = scans-fit (rw e at (scans-is s H R)) in omega arith
 
--- the file `#4294967295=A();` in data needs one row and one id slot, whatever its id
+-- a file with the one record `#4294967295=A();`, which has the largest id there is
 abbrev largeId : List ℕ
 largeId = bytes "ISO-10303-21;DATA;#4294967295=A();"
 
--- it needs one row and one id slot
+-- a file with one record needs one row and one id slot, however large its id
 pub large-id : scanOf largeId 0 1 ≡ good (table [] (row 4294967295 30 31 32 32 0 ∷ []))
 unfolding scanOf readFrom statement trivia recordEnd closing walk past numberFrom keyword trail same wordOf dataHead recordOf
 large-id = refl
 
--- without a row it is 8 at the record's start
+-- a file with one record and no row lent is 8 at the record's start
 pub large-id-full : scanOf largeId 0 0 ≡ bad (refusal 8 0 18)
 unfolding scanOf readFrom statement trivia recordEnd closing walk past numberFrom keyword trail same wordOf dataHead recordOf
 large-id-full = refl

@@ -21,7 +21,7 @@ use Rattle.scan.specs.Rooms.{scan-fit}
 abbrev Roomy : Told Table → Type 0
 Roomy a = IfBad (λ q. q .number ≡ 8 → ⊥) a
 
--- what is not 8 with a row in front is not 8 without it
+-- an answer that is not the refusal 8 with a row in front is not that without it
 roomy-tail : (f : Table → Table) (a : Told Table) → Roomy (mapped f a) → Roomy a
 roomy-tail f (good t) h = tt
 roomy-tail f (bad q) h = h
@@ -36,7 +36,7 @@ module _ (s : List ℕ) {H R : ℕ} (H' R' : ℕ) (k : H ≤ H') (l : R ≤ R') 
   reads-larger {h} {r} (Reads.row {a} data-kind w ys f p d) n = Reads.row {n = perKind h r} data-kind w ys f (omega arith) (reads-larger d (roomy-tail (withRecord w) a n))
   reads-larger (Reads.full kind w ys t f p) n = absurd (n refl)
 
-  -- and so for a whole file
+  -- what the rules answer for a whole file, other than 8, they answer in all rooms at least as large
   scans-larger : {a : Told Table} → Scans s (perKind H R) a → Roomy a → Scans s (perKind H' R') a
   scans-larger (Scans.long h) n = Scans.long h
   scans-larger (Scans.unmarked h m) n = Scans.unmarked h m
@@ -47,7 +47,7 @@ pub refusal-roomy : (s : List ℕ) (H R : ℕ) (q : Refusal) → scanOf s H R �
     → (H' R' : ℕ) → H ≤ H' → R ≤ R' → scanOf s H' R' ≡ bad q
 refusal-roomy s H R q e n H' R' h r = sym (scans-only (scans-larger s H' R' h r (rw e at (scans-is s H R)) n))
 
--- the lent header rows keep their length
+-- the lent header rows keep their length in a scan
 pub headers-length : (s : List ℕ) (H R : ℕ) (old : List ℕ) → H ≤ headersFit (length old) → length (headersAfter (scanOf s H R) old) ≡ length old
 headers-length s H R old h = go (scanOf s H R) refl
   where
@@ -55,7 +55,7 @@ headers-length s H R old h = go (scanOf s H R) refl
     go (good t) e = headers-laid-length (t .headers) old (omega (arith, scan-fit s H R t e))
     go (bad q) e = refl
 
--- and so do the lent data rows
+-- the lent data rows keep their length in a scan
 pub rows-length : (s : List ℕ) (H R : ℕ) (old : List ℕ) → R ≤ rowsFit (length old) → length (rowsAfter (scanOf s H R) old) ≡ length old
 rows-length s H R old h = go (scanOf s H R) refl
   where
@@ -63,7 +63,7 @@ rows-length s H R old h = go (scanOf s H R) refl
     go (good t) e = rows-laid-length (t .records) old (omega (arith, scan-fit s H R t e))
     go (bad q) e = refl
 
--- with as many rows lent as the memory and the slots for ids hold, both keep their length
+-- with as many rows lent as the memory and the slots for ids hold, header rows and data rows keep their length in a scan
 pub lent-length : (s headers rows : List ℕ) (slots : ℕ)
     → let x = scanOf s (headerRoom headers) (dataRoom rows slots) in
     (length (headersAfter x headers) ≡ length headers) × (length (rowsAfter x rows) ≡ length rows)

@@ -25,22 +25,22 @@ pub data Ran (s : List ℕ) (room : ℕ) (known : Bool) (i r m : ℕ) (xs : List
       → tidy s (statement s InData (drop j s)) ≡ true → j < n → n ≤ length s → q < room → Ran s room known i r m xs n (q + 1) (max k (w .id)) (rowPut ys q w)
 
 module _ (s : List ℕ) (room : ℕ) (known : Bool) (i r m : ℕ) (xs : List ℕ) where
-  -- it goes forwards
+  -- a run of tidy records does not end before it begins
   pub ran-on : {j q k : ℕ} {ys : List ℕ} → Ran s room known i r m xs j q k ys → i ≤ j
   ran-on Ran.none = omega arith
   ran-on (Ran.more h e w p n d t l b a) = let z = ran-on h in omega arith
 
-  -- and stays in the file
+  -- a run of tidy records ends in the file
   pub ran-in : {j q k : ℕ} {ys : List ℕ} → i ≤ length s → Ran s room known i r m xs j q k ys → j ≤ length s
   ran-in o Ran.none = o
   ran-in o (Ran.more h e w p n d t l b a) = b
 
-  -- the rows are as many numbers as before
+  -- a run of tidy records leaves the lent rows as long as before
   pub ran-length : {j q k : ℕ} {ys : List ℕ} → Ran s room known i r m xs j q k ys → length ys ≡ length xs
   ran-length Ran.none = refl
   ran-length (Ran.more {q = q} {ys = ys} h e w p n d t l b a) = row-put-length ys q w ∙ ran-length h
 
-  -- the reading goes on as if each record had been taken by itself
+  -- after a run of tidy records the reading goes on as if each record had been taken by itself
   pub going-ran : (H : ℕ) (write : Bool) (h₀ r₀ : List ℕ) (h : ℕ) (hnow : List ℕ) {j q k : ℕ} {ys : List ℕ} → room ≤ rowsFit (length r₀) → (known ≡ true → write ≡ true)
       → Going s H room write h₀ r₀ i InData h r m hnow xs → Ran s room known i r m xs j q k ys → Going s H room write h₀ r₀ j InData h q k hnow ys
   going-ran H write h₀ r₀ h hnow o f g Ran.none = g
@@ -49,12 +49,12 @@ module _ (s : List ℕ) (room : ℕ) (known : Bool) (i r m : ℕ) (xs : List ℕ
       (ap (λ (c : Bool). pick c (rowPut ys q w) ys) (f e))
       (going-record s H room write h₀ r₀ j InData h q k hnow ys (going-ran H write h₀ r₀ h hnow o f g z) w p n d l b a (omega arith))
 
--- one of two tests that holds
+-- a test and one that holds are the test
 and-true : (b : Bool) → b && true ≡ b
 and-true true = refl
 and-true false = refl
 
--- and what is known of the tidy records stays known
+-- after a run of tidy records, what is known of tidy records is known still
 pub tidying-ran : (s : List ℕ) (room : ℕ) (known all : Bool) (i r m : ℕ) (xs : List ℕ) {j q k : ℕ} {ys : List ℕ} → Tidying s known all i InData → Ran s room known i r m xs j q k ys → Tidying s known all j InData
 tidying-ran s room known all i r m xs y Ran.none = y
 tidying-ran s room known all i r m xs y (Ran.more {j} z e w p n d t l b a) =

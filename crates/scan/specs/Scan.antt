@@ -18,12 +18,13 @@ abbrev pub Leaves : List ℕ → ℕ → ℕ → List ℕ → List ℕ → List 
 Leaves s H R h₀ r₀ hnow rnow a = (a ≡ mapped countsOf (scanOf s H R)) × ((hnow ≡ headersAfter (scanOf s H R) h₀) × (rnow ≡ rowsAfter (scanOf s H R) r₀))
 
 module _ (s : List ℕ) (H R : ℕ) (h₀ r₀ : List ℕ) where
-  -- "2 is tested before 1"
+  -- "2 is tested before 1": a file that is too long is refused with 2, and no lent row is changed
   pub scan-long : 4294967295 < length s → Leaves s H R h₀ r₀ h₀ r₀ (bad (refusal 2 0 0))
   unfolding scanOf
   scan-long h = rw (lt-ltb _ _ h) (refl, (refl, refl))
 
   module _ (h : length s ≤ 4294967295) where
+    -- a file that is not too long and has no marker is refused with 1, and no lent row is changed
     pub scan-unmarked : marked s ≡ false → Leaves s H R h₀ r₀ h₀ r₀ (bad (refusal 1 0 0))
     unfolding scanOf
     scan-unmarked m = rw (le-ltb _ _ h, m) (refl, (refl, refl))
@@ -33,7 +34,7 @@ module _ (s : List ℕ) (H R : ℕ) (h₀ r₀ : List ℕ) where
       unfolding scanOf
       scan-reads = rw (le-ltb _ _ h, m) refl
 
-      -- the first pass refuses, and has written nothing
+      -- where the first pass refuses, the scan does, and has written nothing
       pub scan-refused : (q : Refusal) (hnow rnow : List ℕ) → Left s H R false h₀ r₀ hnow rnow (bad q) → Leaves s H R h₀ r₀ hnow rnow (bad q)
       scan-refused q hnow rnow w = rw scan-reads (go (readingOf s H R) (w .0))
         where
@@ -41,7 +42,7 @@ module _ (s : List ℕ) (H R : ℕ) (h₀ r₀ : List ℕ) where
           go (good t) e = let z : _≡_ {A = ℕ} 0 1 = cc in absurd (omega arith)
           go (bad p) e = (e, (w .1 .0, w .1 .1))
 
-      -- the first pass answers, and the second writes
+      -- where the first pass answers, the scan leaves what the second writes and answers
       pub scan-done : (n : Counts) (a : Told Counts) (hnow rnow : List ℕ) → good n ≡ mapped countsOf (readingOf s H R) → Left s H R true h₀ r₀ hnow rnow a → Leaves s H R h₀ r₀ hnow rnow a
       scan-done n a hnow rnow k w = rw scan-reads (go (readingOf s H R) k (w .0) (w .1 .0) (w .1 .1))
         where

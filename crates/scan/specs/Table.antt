@@ -47,15 +47,15 @@ pub record Counts : Type 0 where
   pub records : ℕ
   pub max : ℕ
 
--- such values by their parts
+-- an answer's values from the counts of both kinds of row and the largest id
 abbrev pub counts : ℕ → ℕ → ℕ → Counts
 counts h r m = record { headers = h; records = r; max = m }
 
--- the values of a table
+-- the counts of a table's rows, and their largest id
 abbrev pub countsOf : Table → Counts
 countsOf t = counts (length (t .headers)) (length (t .records)) (largest (t .records))
 
--- what the code's answer says
+-- what the code's answer to a scan says: counts and the largest id, or a refusal
 abbrev pub toldScan : Scanned → Told Counts
 toldScan (Rows h r m) = good (counts h r m)
 toldScan (Refused f) = bad (told f)

@@ -38,24 +38,24 @@ module _ (s heads rows slots : List ℕ) where
         go (good t) e = clash (cc)
         go (bad q) e = cc
 
-    -- and so whatever is asked of it is
+    -- whatever is asked of a file that is not opened is refused as the scan refuses it
     pub refused-all : {A : Type 0} (g : Table → Told A) → bad (told f) ≡ onward g (scanInto s heads rows slots)
     refused-all g = rw refused-scan refl
 
   -- the tables that opening a file left
   module _ (a : Tables) {heads′ rows′ slots′ : List ℕ} (opens : Opens s heads rows slots (Good a) heads′ rows′ slots′) where
-    -- the lookup over them is that of the file's records
+    -- the lookup over the tables that opening a file left is that of the file's records
     pub lookups-are : (t : Table) → scanInto s heads rows slots ≡ good t → (k : ℕ) → rowFound rows′ (searched rows′ slots′ (a .ids) k) ≡ lastOf k (t .records)
     lookups-are t g k =
         let (u, e, h) = opened-served s heads rows slots a heads′ rows′ slots′ opens in
         let q : u ≡ t = cc in
         h k ∙ ap (λ (v : Table). lastOf k (v .records)) q
 
-    -- `get` serves the file's record
+    -- `get` over the tables that opening a file left serves the file's record
     pub record-is : (k : ℕ) → good (rowFound rows′ (searched rows′ slots′ (a .ids) k)) ≡ onward (recordIn k) (scanInto s heads rows slots)
     record-is k = let (t, e, h) = opened-served s heads rows slots a heads′ rows′ slots′ opens in rw e (ap good (h k))
 
-    -- the records that `resolve` goes through are the file's
+    -- the records that `resolve` goes through in these tables are the file's
     things-of : (t : Table) → scanInto s heads rows slots ≡ good t → thingsFrom s (rowNumbers rows′) (tableRows rows′ (a .records)) 0 ≡ map (thingOf s) (t .records)
     things-of t g =
         let (u, f, n) = counted (scanInto s heads rows slots) (a .headers) (a .records) (a .max) (opens .answer) in
@@ -64,12 +64,12 @@ module _ (s heads rows slots : List ℕ) where
         let r : rows′ ≡ rowsAfter (good t) rows = opens .records ∙ ap (λ (x : Told Table). rowsAfter x rows) g in
         rw (i, r) (things-are s t rows)
 
-    -- and its lookup is the file's
+    -- the lookup that `resolve` asks over these tables is that of the file's records
     finds-of : (t : Table) → scanInto s heads rows slots ≡ good t → findOf s (rowFor rows′ slots′ (a .ids)) ≡ (λ k. thingFound s (lastOf k (t .records)))
     unfolding findOf
     finds-of t g = fun-ext (λ k. ap (thingFound s) (lookups-are t g k))
 
-    -- `resolve` answers the file's unit answer
+    -- `resolve` over the tables that opening a file left answers the file's unit answer
     pub units-are : resolveOf s (findOf s (rowFor rows′ slots′ (a .ids))) (thingsFrom s (rowNumbers rows′) (tableRows rows′ (a .records)) 0) ≡ onward (unitsOf s) (scanInto s heads rows slots)
     units-are =
         let (t, g, h) = opened-served s heads rows slots a heads′ rows′ slots′ opens in
@@ -77,7 +77,7 @@ module _ (s heads rows slots : List ℕ) where
         (ap (resolveOf s (findOf s (rowFor rows′ slots′ (a .ids)))) (things-of t g)
         ∙ ap (λ (y : ℕ → Told (Option Thing)). resolveOf s y (map (thingOf s) (t .records))) (finds-of t g))
 
--- what `open` promises, of its answer taken apart
+-- what `open` promises, put together from what it promises of its answer and of the lent memory
 pub promised : (s heads rows slots : List ℕ) {a b : Opened} {heads′ rows′ slots′ : List ℕ} → a ≡ b → toldOpened a ≡ mapped countsOf (scanInto s heads rows slots)
     → heads′ ≡ headersAfter (scanInto s heads rows slots) heads → rows′ ≡ rowsAfter (scanInto s heads rows slots) rows → Indexed a rows′ slots slots′
     → Opens s heads rows slots b heads′ rows′ slots′
@@ -89,18 +89,18 @@ promised s heads rows slots {a} {b} {heads′} {rows′} {slots′} e h k l i = 
 }
 
 module _ {s heads rows slots heads′ rows′ slots′ : List ℕ} where
-  -- a file that is refused
+  -- for a file that is refused, whatever is asked is the scan's refusal, and the memory is as opening leaves it
   pub refused-out : {A : Type 0} (g : Table → Told A) (f : Fault) → Opens s heads rows slots (Refused f) heads′ rows′ slots′
       → (bad (told f) ≡ onward g (scanInto s heads rows slots)) × Left s heads rows slots heads′ rows′ slots′
   refused-out g f o = (refused-all s heads rows slots f o g, (Refused f, o))
 
   module _ (a : Tables) (o : Opens s heads rows slots (Good a) heads′ rows′ slots′) where
-    -- its units
+    -- for a file that is opened, what `resolve` answers is its unit answer, and the memory is as opening leaves it
     pub units-out : (x : Told Units) → x ≡ resolveOf s (findOf s (rowFor rows′ slots′ (a .ids))) (thingsFrom s (rowNumbers rows′) (tableRows rows′ (a .records)) 0)
         → (x ≡ onward (unitsOf s) (scanInto s heads rows slots)) × Left s heads rows slots heads′ rows′ slots′
     units-out x e = (e ∙ units-are s heads rows slots a o, (Good a, o))
 
-    -- a record of it
+    -- for a file that is opened, what `get` answers is its record of the id, and the memory is as opening leaves it
     pub record-out : (k : ℕ) (x : Option Row) → x ≡ rowFound rows′ (searched rows′ slots′ (a .ids) k)
         → (good x ≡ onward (recordIn k) (scanInto s heads rows slots)) × Left s heads rows slots heads′ rows′ slots′
     record-out k x e = (ap good e ∙ record-is s heads rows slots a o k, (Good a, o))

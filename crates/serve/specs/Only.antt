@@ -10,19 +10,19 @@ use Rattle.serve.specs.Serve.{toldServed}
 use Rattle.serve.specs.declared.Served.{Served}
 use Rattle.serve.specs.declared.Served.the-variants as served
 
--- the answer that tells this
+-- the code's answer that tells this record, none or a refusal
 servedBack : Told (Option Row) → Served
 servedBack (good (some w)) = served.Row (rowBack w)
 servedBack (good none) = served.Nothing
 servedBack (bad q) = served.Refused (faultOf q)
 
--- it is the answer that told it
+-- what an answer about a served record tells gives back that answer
 served-told : (a : Served) → servedBack (toldServed a) ≡ a
 unfolding servedBack rowBack
 served-told (served.Row w) = refl
 served-told served.Nothing = refl
 served-told (served.Refused f) = ap served.Refused (faultOf-told f)
 
--- `record_of`
+-- `record_of` has one answer: two that tell the same are one
 pub served-only : (a b : Served) → toldServed a ≡ toldServed b → a ≡ b
 served-only a b e = sym (served-told a) ∙ ap servedBack e ∙ served-told b

@@ -24,12 +24,12 @@ recordIn k t = good (lastOf k (t .records))
 abbrev pub unitsOf : List ℕ → Table → Told Units
 unitsOf s t = resolveOf s (λ k. thingFound s (lastOf k (t .records))) (map (thingOf s) (t .records))
 
--- a row, none, or a refusal
+-- what the code's answer about a served record says: a row, none, or a refusal
 abbrev pub toldServed : Served → Told (Option Row)
 toldServed (served.Row w) = good (some (rowOf w))
 toldServed served.Nothing = good none
 toldServed (served.Refused f) = bad (told f)
 
--- the lent memory after it: what opening the file leaves there, and that is one thing (`opened-only` of store/specs/Only)
+-- the lent memory after a call: what opening the file leaves there, and that is one thing (`opened-only` of store/specs/Only)
 abbrev pub Left : List ℕ → List ℕ → List ℕ → List ℕ → List ℕ → List ℕ → List ℕ → Type 0
 Left s heads rows slots heads′ rows′ slots′ = (a : Opened) × Opens s heads rows slots a heads′ rows′ slots′

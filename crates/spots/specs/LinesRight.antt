@@ -16,7 +16,7 @@ unfolding breaks
 breaks-line k [] r h = refl
 breaks-line k (b ∷ l) r h = ap (λ (t : Bool). breaks (choice t (k + 1) k) (l ++ r)) (ne-eqb b 10 (h .0)) ∙ breaks-line k l r (h .1)
 
--- and move the column
+-- bytes without an LF move the column by as many
 trail-line : (k : ℕ) (l r : List ℕ) → Unbroken l → trail k (l ++ r) ≡ trail (k + length l) r
 unfolding trail
 trail-line k [] r h = let e : k ≡ k + 0 = omega arith in ap (λ (n : ℕ). trail n r) e
@@ -24,7 +24,7 @@ trail-line k (b ∷ l) r h =
     let e : k + 1 + length l ≡ k + suc (length l) = omega arith in
     ap (λ (t : Bool). trail (choice t 0 (k + 1)) (l ++ r)) (ne-eqb b 10 (h .0)) ∙ trail-line (k + 1) l r (h .1) ∙ ap (λ (n : ℕ). trail n r) e
 
--- whole lines are counted
+-- n whole lines move the line by n
 breaks-lines : {n : ℕ} {w : List ℕ} (k : ℕ) (b : List ℕ) → Lines n w → breaks k (w ++ b) ≡ breaks (k + n) b
 unfolding breaks
 breaks-lines k b none = let e : k ≡ k + 0 = omega arith in ap (λ (m : ℕ). breaks m b) e
@@ -32,25 +32,25 @@ breaks-lines k b (more {n} {r} l h d) =
     let e : k + 1 + n ≡ k + suc n = omega arith in
     ap (breaks k) (append-assoc l (10 ∷ r) b) ∙ breaks-line k l (10 ∷ (r ++ b)) h ∙ breaks-lines (k + 1) b d ∙ ap (λ (m : ℕ). breaks m b) e
 
--- and each begins the column anew
+-- after whole lines the column begins anew
 trail-lines : {n : ℕ} {w : List ℕ} (b : List ℕ) → Lines n w → trail 0 (w ++ b) ≡ trail 0 b
 unfolding trail
 trail-lines b none = refl
 trail-lines b (more {n} {r} l h d) = ap (trail 0) (append-assoc l (10 ∷ r) b) ∙ trail-line 0 l (10 ∷ (r ++ b)) h ∙ trail-lines b d
 
--- the line begun has no further end
+-- bytes without an LF at the end leave the line as it is
 breaks-all : (k : ℕ) (b : List ℕ) → Unbroken b → breaks k b ≡ k
 unfolding breaks
 breaks-all k [] h = refl
 breaks-all k (x ∷ b) h = rw (ne-eqb x 10 (h .0)) (breaks-all k b (h .1))
 
--- and its bytes are the column
+-- bytes without an LF at the end are as many as the column moves by
 trail-all : (k : ℕ) (b : List ℕ) → Unbroken b → trail k b ≡ k + length b
 unfolding trail
 trail-all k [] h = omega arith
 trail-all k (x ∷ b) h = rw (ne-eqb x 10 (h .0)) (omega (arith, trail-all (k + 1) b (h .1)))
 
--- there is no other line and column than those that are computed
+-- the line and column of a place by the rules are those that are computed
 pub at-only : {s : List ℕ} {l c : ℕ} → At s l c → (l ≡ breaks 0 s) × (c ≡ trail 0 s)
 at-only {s} {l} {c} a =
     let e : 0 + l ≡ l = omega arith in
@@ -59,22 +59,22 @@ at-only {s} {l} {c} a =
       a .long ∙ sym (ap (trail 0) (a .shape) ∙ trail-lines (a .begun) (a .lines) ∙ trail-all 0 (a .begun) (a .open′) ∙ f),
     )
 
--- a line and a column
+-- a line and a column of the place behind the bytes s
 record Some (s : List ℕ) : Type 0 where
   line : ℕ
   column : ℕ
   here : At s line column
 
--- an LF in front is a line of its own
+-- with an LF in front, one more whole line stands before the place
 ahead-end : {n : ℕ} {w : List ℕ} (g : List ℕ) → Lines n w → Unbroken g → Some (10 ∷ (w ++ g))
 ahead-end {n} {w} g d h = record { line = suc n; column = length g; here = record { whole = 10 ∷ w; begun = g; shape = refl; lines = more [] tt d; open′ = h; long = refl } }
 
--- any other byte stands in the first line
+-- with any other byte in front, that byte stands in the first line
 ahead-other : {n : ℕ} {w : List ℕ} (b : ℕ) (g : List ℕ) → (b ≡ 10 → ⊥) → Lines n w → Unbroken g → Some (b ∷ (w ++ g))
 ahead-other b g k none h = record { line = 0; column = suc (length g); here = record { whole = []; begun = b ∷ g; shape = refl; lines = none; open′ = (k, h); long = refl } }
 ahead-other b g k (more {n} {r} l u d) h = record { line = suc n; column = length g; here = record { whole = (b ∷ l) ++ (10 ∷ r); begun = g; shape = refl; lines = more (b ∷ l) (k, u) d; open′ = h; long = refl } }
 
--- byte by byte from the end
+-- every place has a line and a column, found byte by byte from the end
 found : (s : List ℕ) → Some s
 found [] = record { line = 0; column = 0; here = record { whole = []; begun = []; shape = refl; lines = none; open′ = tt; long = refl } }
 found (b ∷ s) = let a = found s .here in subst (λ (t : List ℕ). Some (b ∷ t)) (sym (a .shape)) (go (eqb b 10) refl a)
@@ -83,7 +83,7 @@ found (b ∷ s) = let a = found s .here in subst (λ (t : List ℕ). Some (b ∷
     go true e a = subst (λ (x : ℕ). Some (x ∷ (a .whole ++ a .begun))) (sym (eqb-true b 10 e)) (ahead-end (a .begun) (a .lines) (a .open′))
     go false e a = ahead-other b (a .begun) (eqb-false b 10 e) (a .lines) (a .open′)
 
--- the computed line and column are the place's
+-- the line and column that are computed are the place's by the rules
 pub at-is : (s : List ℕ) → At s (breaks 0 s) (trail 0 s)
 at-is s =
     let a = found s in

@@ -9,12 +9,12 @@ use lib.Seq.{drop-cons}
 use native.Mathlib.Numerals.{add-one}
 use native.Mathlib.Omega.{arith}
 
--- One of two numbers.
+-- One of two numbers, by a test.
 abbrev pub choice : Bool → ℕ → ℕ → ℕ
 choice true a b = a
 choice false a b = b
 
--- Neither is more than n, so the one is not.
+-- Where neither of two numbers is more than n, the one that is chosen is not.
 pub choice-most : (t : Bool) (a b n : ℕ) → a ≤ n → b ≤ n → choice t a b ≤ n
 choice-most true a b n h k = h
 choice-most false a b n h k = k
@@ -29,7 +29,7 @@ unfoldable pub trail : ℕ → List ℕ → ℕ
 trail k [] = k
 trail k (b ∷ r) = trail (choice (eqb b 10) 0 (k + 1)) r
 
--- What a walk from the front knows at place i.
+-- What a walk from the front knows at place i of the lines and columns.
 pub record Counted (s : List ℕ) (line column i : ℕ) : Type 0 where
   pub few : line ≤ i
   pub short : column ≤ i
@@ -40,11 +40,11 @@ pub record Counted (s : List ℕ) (line column i : ℕ) : Type 0 where
 split : (xs : List ℕ) (i : ℕ) → i < length xs → drop i xs ≡ getD xs i 0 ∷ drop (i + 1) xs
 split xs i h = rw (add-one, drop-cons xs i 0)
 
--- Where the walk begins.
+-- What the walk knows where it begins.
 pub counted-start : (s : List ℕ) → Counted s 0 0 0
 counted-start s = record { few = omega arith; short = omega arith; lines = refl; columns = refl }
 
--- One byte further.
+-- What the walk knows one byte further.
 pub counted-next : (s : List ℕ) (l c i : ℕ) → i < length s → Counted s l c i
     → Counted s (choice (eqb (getD s i 0) 10) (l + 1) l) (choice (eqb (getD s i 0) 10) 0 (c + 1)) (i + 1)
 unfolding breaks trail
@@ -55,12 +55,12 @@ counted-next s l c i h k = record {
   columns = sym (ap (trail c) (split s i h)) ∙ k .columns;
 }
 
--- Where it ends.
+-- Where the walk ends, its line and column are those of the whole.
 pub counted-end : (s : List ℕ) (l c i : ℕ) → length s ≤ i → Counted s l c i → (l ≡ breaks 0 s) × (c ≡ trail 0 s)
 unfolding breaks trail
 counted-end s l c i h k = (sym (ap (breaks l) (drop-of-length-le s h)) ∙ k .lines, sym (ap (trail c) (drop-of-length-le s h)) ∙ k .columns)
 
--- The same of a turn's own numbers.
+-- What the walk knows one byte further, by the numbers that a turn of the code has computed.
 pub counted-again : (s : List ℕ) (l c i l' c' : ℕ) → i < length s → Counted s l c i
     → l' ≡ choice (eqb (getD s i 0) 10) (l + 1) l → c' ≡ choice (eqb (getD s i 0) 10) 0 (c + 1) → Counted s l' c' (i + 1)
 counted-again s l c i l' c' h k p q = subst (λ (x : ℕ). Counted s x c' (i + 1)) (sym p) (subst (λ (x : ℕ). Counted s (choice (eqb (getD s i 0) 10) (l + 1) l) x (i + 1)) (sym q) (counted-next s l c i h k))

@@ -16,12 +16,12 @@ use Rattle.statement.specs.declared.Said.the-variants.{Ends, Refuses, Mo
 use Rattle.statement.specs.declared.Tidied.{Tidied}
 use Rattle.statement.specs.declared.Tidied.the-variants.{Untidy, Tidy}
 
--- what `scan_data_record` answers
+-- what an answer of `scan_data_record` says: a row or a refusal
 abbrev pub toldRecord : RecordRead → Told Row
 toldRecord (RecordIs r) = good (rowOf r)
 toldRecord (NoRecord f) = bad (told f)
 
--- what `scan_header_record` answers
+-- what an answer of `scan_header_record` says: a row or a refusal
 abbrev pub toldHeader : HeaderRead → Told HeaderRow
 toldHeader (HeaderIs r) = good (headerRowOf r)
 toldHeader (NoHeader f) = bad (told f)
@@ -42,7 +42,7 @@ Ahead i n (Moves sec p) = (i < p) × (p ≤ n)
 Ahead i n (Heads r q p) = (i < p) × (q < p) × (p ≤ n)
 Ahead i n (Records r q p) = (i < p) × (q < p) × (p ≤ n)
 
--- what `tidy_record` answers
+-- what an answer of `tidy_record` says, with rests of the file s for places; `ends` where no record is had
 abbrev pub toldTidied : List ℕ → Tidied → Stmt
 toldTidied s Untidy = ends
 toldTidied s (Tidy r p n) = record′ (rowOf r) (drop p s) (drop n s)

@@ -36,17 +36,17 @@ closed-closing {b} {o} c y =
     let e : b ++ y ≡ c .front ++ (40 ∷ ((c .args ++ (41 ∷ c .back)) ++ y)) = rw (c .shape) (append-assoc (c .front) _ y) in
     rw (e, drop-at (c .front) _ o (c .place)) (closes-any (c .closes) y)
 
--- and so it is where what follows the text is not searched
+-- the `)` of a closed record is found too where the search ends with the record's text
 pub closed-bounded : {b : List ℕ} {o : ℕ} (c : ClosedAt b o) (y : List ℕ) → sought (some y) (drop o (b ++ y)) ≡ at (41 ∷ (c .back ++ y))
 closed-bounded {b} {o} c y =
     let e : b ++ y ≡ c .front ++ (40 ∷ ((c .args ++ (41 ∷ c .back)) ++ y)) = rw (c .shape) (append-assoc (c .front) _ y) in
     rw (e, drop-at (c .front) _ o (c .place)) (sought-at (some y) (c .args ++ (41 ∷ c .back)) (41 ∷ c .back) (closing-only 40 (c .closes)))
 
--- so it is found up to the record's bound
+-- the `)` of a closed record is found up to the record's bound
 closed-sought : {b : List ℕ} {o : ℕ} (c : ClosedAt b o) (y : List ℕ) → sought (bound (b ++ y) b) (drop o (b ++ y)) ≡ at (41 ∷ (c .back ++ y))
 closed-sought c y = closed-closing c y
 
--- a `(` outside strings and comments that closes before what follows the record's text is closed: the definition is the paper's
+-- a `(` outside strings and comments whose `)` is found before the text's end is closed: the definition is the paper's
 pub closed-at : {b : List ℕ} (f t v y : List ℕ) → b ≡ f ++ (40 ∷ t) → OutsideBoth b (40 ∷ t)
     → closing (40 ∷ (t ++ y)) ≡ at (41 ∷ (v ++ y)) → ClosedAt b (length f)
 closed-at f t v y e h k =
@@ -74,7 +74,7 @@ module _ {b : List ℕ} {o : ℕ} (c : ClosedAt b o) where
   args-within : o + 1 + length (c .args) ≤ length b
   args-within = omega (arith, c .place, simp length-append at (ap length (c .shape)))
 
-  -- the bytes between its `(` and its `)`
+  -- the bytes between a closed record's `(` and its `)` are its arguments
   args-slice : slice (o + 1) (o + 1 + length (c .args)) b ≡ c .args
   args-slice =
       let e : b ≡ (c .front ++ (40 ∷ [])) ++ (c .args ++ (41 ∷ c .back)) = c .shape ∙ sym (append-assoc (c .front) (40 ∷ []) _) in
@@ -84,7 +84,7 @@ module _ {b : List ℕ} {o : ℕ} (c : ClosedAt b o) where
       slice-of : (f a k : List ℕ) → slice (length f) (length f + length a) (f ++ (a ++ k)) ≡ a
       slice-of f a k = rw (take-append-add f (a ++ k) (length a), drop-append-seam f (take (length a) (a ++ k))) (take-append-seam a k)
 
-  -- its row comes from the place of its `)`, which depends on its text alone
+  -- what is made of the place of a closed record's `)` depends on the record's text alone and on where it begins
   argued-local : {A : Type 0} (q y : List ℕ) (f : ℕ → A)
       → arguedTo (bound (b ++ y) b) (q ++ (b ++ y)) (drop o (b ++ y)) f ≡ good (f (length q + (o + 1 + length (c .args))))
   argued-local q y f = rw (closed-sought c y) (ap (λ (n : ℕ). good (f n)) places)
@@ -95,17 +95,17 @@ module _ {b : List ℕ} {o : ℕ} (c : ClosedAt b o) where
           omega (arith, c .place, simp length-append at (ap length (c .shape))) in
           simp length-append (omega arith)
 
--- the row of a closed data record that begins at the place n of the file, and what it says: both depend on its text alone
+-- the row of a closed data record that begins at the place n of the file: it depends on the record's text alone
 abbrev pub rowFrom : {b : List ℕ} → ℕ → ClosedData b → Row
 rowFrom n (ClosedData.simple {i} {a} {z} {o} e c) = row i (n + a) (n + z) (n + (o + 1)) (n + (o + 1 + length (c .args))) 0
 rowFrom n (ClosedData.complex {i} {o} e c p) = row i 0 0 (n + (o + 1)) (n + (o + 1 + length (c .args))) 1
 
--- what a closed data text says, from the text alone
+-- what a closed data record says, from its text alone
 abbrev pub contentOf : {b : List ℕ} → ClosedData b → Content
 contentOf {b} (ClosedData.simple {i} {a} {z} e c) = record { id = i; keyword = slice a z b; args = c .args; complex = 0 }
 contentOf (ClosedData.complex {i} e c p) = record { id = i; keyword = []; args = c .args; complex = 1 }
 
--- a closed data record is read so wherever it stands: q precedes it in the file, and y follows its text
+-- a closed data record has the row `rowFrom` wherever it stands: q precedes it in the file, and y follows its text
 pub record-row : {b : List ℕ} (c : ClosedData b) (q y : List ℕ) → recordOf (q ++ (b ++ y)) (b ++ y) b ≡ good (rowFrom (length q) c)
 unfolding recordOf
 record-row {b} (ClosedData.simple {i} {a} {z} {o} e c) q y =
@@ -116,7 +116,7 @@ record-row {b} (ClosedData.complex {i} {o} e c p) q y =
     let h : o + 1 ≤ length b = omega (arith, args-within c) in
     rw e (argued-local c q y _ ∙ rw (place-after q b y (o + 1) h) refl)
 
--- and its row says the same
+-- the row of a closed data record says the same wherever the record stands: q precedes it in the file, and y follows its text
 pub record-content : {b : List ℕ} (c : ClosedData b) (q y : List ℕ) → content (q ++ (b ++ y)) (rowFrom (length q) c) ≡ contentOf c
 record-content {b} (ClosedData.simple {i} {a} {z} {o} e c) q y =
     let w : (a ≤ length b) × (z ≤ length b) × (o ≤ length b) = rw e at (data-within b) in
@@ -134,22 +134,22 @@ record-local c = (contentOf c, λ p r. (rowFrom (length p) c, record-row c p (59
 abbrev pub alone : List ℕ → Told Content
 alone b = mapped (content b) (recordOf b b b)
 
--- a closed one says that wherever it stands
+-- what a closed data record's text says, read as a file of its own, is what it says anywhere
 pub alone-is : {b : List ℕ} (c : ClosedData b) → alone b ≡ good (contentOf c)
 alone-is {b} c =
     let e : recordOf b b b ≡ good (rowFrom 0 c) = simp append-nil at (record-row c [] []) in
     let f : content b (rowFrom 0 c) ≡ contentOf c = simp append-nil at (record-content c [] []) in
     rw (e, f) refl
 
--- the row of a closed header record that begins at the place n of the file, and what it says
+-- the row of a closed header record that begins at the place n of the file: it depends on the record's text alone
 abbrev pub headerRowFrom : {b : List ℕ} → ℕ → ClosedHeader b → HeaderRow
 headerRowFrom n (ClosedHeader.named {i} {a} {z} {o} e c) = headerRow (n + a) (n + z) (n + (o + 1)) (n + (o + 1 + length (c .args)))
 
--- what a closed header text says, from the text alone
+-- what a closed header record says, from its text alone
 abbrev pub headerContentOf : {b : List ℕ} → ClosedHeader b → HeaderContent
 headerContentOf {b} (ClosedHeader.named {i} {a} {z} e c) = record { keyword = slice a z b; args = c .args }
 
--- a closed header record is read so wherever it stands, and its row says the same
+-- a closed header record has the row `headerRowFrom` wherever it stands: q precedes it in the file, and y follows its text
 pub header-row : {b : List ℕ} (c : ClosedHeader b) (q y : List ℕ) → headerOf (q ++ (b ++ y)) (b ++ y) b ≡ good (headerRowFrom (length q) c)
 unfolding headerOf
 header-row {b} (ClosedHeader.named {i} {a} {z} {o} e c) q y =
@@ -157,7 +157,7 @@ header-row {b} (ClosedHeader.named {i} {a} {z} {o} e c) q y =
     let h : o + 1 ≤ length b = omega (arith, args-within c) in
     rw e (argued-local c q y _ ∙ rw (place-after q b y a (w .0), place-after q b y z (w .1), place-after q b y (o + 1) h) refl)
 
--- its row says just that, wherever it stands
+-- the row of a closed header record says the same wherever the record stands: q precedes it in the file, and y follows its text
 pub header-content : {b : List ℕ} (c : ClosedHeader b) (q y : List ℕ) → headerContent (q ++ (b ++ y)) (headerRowFrom (length q) c) ≡ headerContentOf c
 header-content {b} (ClosedHeader.named {i} {a} {z} {o} e c) q y =
     let w : (a ≤ length b) × (z ≤ length b) × (o ≤ length b) = rw e at (header-within b) in
@@ -169,7 +169,7 @@ pub header-local : {b : List ℕ} → ClosedHeader b
     × ((p r : List ℕ) → (w : HeaderRow) × (headerOf (p ++ (b ++ (59 ∷ r))) (b ++ (59 ∷ r)) b ≡ good w) × (headerContent (p ++ (b ++ (59 ∷ r))) w ≡ k))
 header-local c = (headerContentOf c, λ p r. (headerRowFrom (length p) c, header-row c p (59 ∷ r), header-content c p (59 ∷ r)))
 
--- a text with a head that is not of reason 2 begins with `#`
+-- a text whose head as a data record is not reason 2 begins with `#`
 hash-first : (b : List ℕ) → (dataHead b ≡ Bad 2 → ⊥) → Begins 35 b
 unfolding dataHead
 hash-first [] h = absurd (h refl)

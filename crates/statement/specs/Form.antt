@@ -59,7 +59,7 @@ pub data DataForm (s ys body : List ℕ) : Told Row → Type 0 where
   -- "else a keyword and the first byte `(`": the keyword is what stands between the rests k and l, and t follows the `(`
   simple : {i a z o e : ℕ} {k l t : List ℕ} → HeadForm body (Simple i a z o) → After a ys k → After z ys l → After o ys (40 ∷ t)
       → ArguedTo (bound ys body) s t (good e) → DataForm s ys body (good (row i (place s k) (place s l) (place s t) e 0))
-  -- "Faults met on the way are given at once.": a fault in its arguments
+  -- "Faults met on the way are given at once.": a fault in a simple record's arguments
   simple-refused : {i a z o : ℕ} {t : List ℕ} {q : Refusal} → HeadForm body (Simple i a z o) → After o ys (40 ∷ t) → ArguedTo (bound ys body) s t (bad q)
       → DataForm s ys body (bad q)
 
@@ -71,7 +71,7 @@ pub data HeaderRecordForm (s ys body : List ℕ) : Told HeaderRow → Type 0 whe
   -- a keyword, which stands between the rests k and l, and the first byte `(`, which t follows
   named : {i a z o e : ℕ} {k l t : List ℕ} → HeaderForm body (Simple i a z o) → After a ys k → After z ys l → After o ys (40 ∷ t)
       → ArguedTo (bound ys body) s t (good e) → HeaderRecordForm s ys body (good (headerRow (place s k) (place s l) (place s t) e))
-  -- "Faults met on the way are given at once.": a fault in its arguments
+  -- "Faults met on the way are given at once.": a fault in a header record's arguments
   named-refused : {i a z o : ℕ} {t : List ℕ} {q : Refusal} → HeaderForm body (Simple i a z o) → After o ys (40 ∷ t) → ArguedTo (bound ys body) s t (bad q)
       → HeaderRecordForm s ys body (bad q)
 

@@ -33,24 +33,25 @@ use Rattle.statement.specs.declared.Section.{Section}
 use Rattle.statement.specs.declared.Section.the-variants.{Outside, InHeader, InData}
 use Rattle.statement.specs.Form.{After, onto, ArguedTo, Argued, DataForm, HeaderRecordForm, Record, StatementForm}
 
--- what is left after so many bytes, and after one more
+-- what is left after n bytes is what `drop n` leaves
 after-drop : {n : ℕ} {ys zs : List ℕ} → After n ys zs → drop n ys ≡ zs
 after-drop {n} {zs} (b, e, l) = rw e (drop-at b zs n l)
 
 after-next : {n c : ℕ} {ys zs : List ℕ} → After n ys (c ∷ zs) → drop (n + 1) ys ≡ zs
 after-next {n} {ys} a = sym (drop-drop 1 n ys) ∙ ap (drop 1) (after-drop a)
 
--- a byte before a rest of what stands before the bound
+-- a byte before what is left up to a bound stands before it in the file too
 onto-on : (b : Option (List ℕ)) (c : ℕ) (u : List ℕ) → onto b (c ∷ u) ≡ c ∷ onto b u
 onto-on none c u = refl
 onto-on (some e) c u = refl
 
--- what stands before a rest
+-- the bytes of u and e before the rest e are u
 before-own : (u e : List ℕ) → before (u ++ e) e ≡ u
 before-own u e = take-at u e (length (u ++ e) - length e) (simp length-append (omega arith))
 
 -- the search up to a bound is that of what stands before it, as if nothing followed
 module _ (b : Option (List ℕ)) (u : List ℕ) where
+  -- a `)` found in what stands before the bound is found by the search up to the bound
   pub sought-at : (r : List ℕ) → closing (40 ∷ u) ≡ at r → sought b (40 ∷ onto b u) ≡ at (onto b r)
   sought-at r h = go b
     where
@@ -58,6 +59,7 @@ module _ (b : Option (List ℕ)) (u : List ℕ) where
       go none = h
       go (some e) = rw (before-own (40 ∷ u) e, h) refl
 
+  -- a fault met in what stands before the bound is met by the search up to the bound
   pub sought-fault : (n : ℕ) (r : List ℕ) → closing (40 ∷ u) ≡ fault n r → sought b (40 ∷ onto b u) ≡ fault n (onto b r)
   sought-fault n r h = go b
     where
@@ -77,15 +79,15 @@ sought-whole u e r h = go (closing (40 ∷ u)) refl
         let k : at ((41 ∷ v) ++ e) ≡ at r = ap (λ (l : List ℕ). at (l ++ e)) (sym g) ∙ sym f ∙ h in
         closes-any c e ∙ k
 
--- the `(` stands before the bound
+-- t, which follows a `(`, goes up to the bound at least
 abbrev pub Bounded : Option (List ℕ) → List ℕ → Type 0
 Bounded b t = (u : List ℕ) × (t ≡ onto b u)
 
--- without a bound it always does
+-- where there is no bound, every rest goes up to it
 pub bounded-none : (t : List ℕ) → Bounded none t
 bounded-none t = (t, refl)
 
--- a record's `(` stands before the record's bound: e follows the record's text, and r its `(` in it
+-- what follows a record's `(` goes up to the record's bound at least: e follows the record's text, and r its `(` in that text
 bounded-own : (body e r : List ℕ) → Bounded (bound (body ++ e) body) (r ++ e)
 bounded-own body e r = bounded-none (r ++ e)
 
@@ -115,10 +117,11 @@ arguedto-comes b s t (u, h) = go (closing (40 ∷ u)) refl
 pub arguedto-is : (b : Option (List ℕ)) (s t : List ℕ) → Bounded b t → ArguedTo b s t (placed s (sought b (40 ∷ t)))
 arguedto-is b s t h = sole (ArguedTo b s t) (λ a. arguedto-only) (arguedto-comes b s t h)
 
--- "through the whole file": so it is without a bound
+-- "through the whole file": without a bound, the answer by the rules is the one that is computed
 pub argued-only : {s t : List ℕ} {a : Told ℕ} → Argued s t a → a ≡ placed s (closing (40 ∷ t))
 argued-only g = arguedto-only g
 
+-- "through the whole file": without a bound, the answer that is computed is that by the rules
 pub argued-is : (s t : List ℕ) → Argued s t (placed s (closing (40 ∷ t)))
 argued-is s t = arguedto-is none s t (bounded-none t)
 
@@ -132,7 +135,7 @@ dataform-only (DataForm.simple h a z o g) =
     rw (← headform-only h, after-drop o, after-next o, after-drop a, after-drop z, ← arguedto-only g)
 dataform-only (DataForm.simple-refused h o g) = rw (← headform-only h, after-drop o, ← arguedto-only g)
 
--- and so for a header record
+-- the row or refusal of a header record by the rules is the one that is computed
 pub headerrecord-only : {s ys body : List ℕ} {a : Told HeaderRow} → HeaderRecordForm s ys body a → a ≡ headerOf s ys body
 unfolding headerOf
 headerrecord-only (HeaderRecordForm.bad-record h) = rw (← headerform-only h)
@@ -177,7 +180,7 @@ header-placed e (HeaderForm.named {a} s f) = keyed-placed 0 a e f
 header-simple : {body : List ℕ} {i o : ℕ} → HeaderForm body (Complex i o) → ⊥
 header-simple f = elim f [ ]
 
--- every data record has a row or a refusal
+-- every data record has a row or a refusal by the rules
 dataform-comes : (s ys body : List ℕ) (h : Head) → HeadForm body h → Placed (bound ys body) ys h → (a : Told Row) × DataForm s ys body a
 dataform-comes s ys body (Bad why) f p = (_, DataForm.bad-record f)
 dataform-comes s ys body (Complex i o) f (t, p, m) = go (arguedto-comes (bound ys body) s t m)
@@ -191,7 +194,7 @@ dataform-comes s ys body (Simple i a z o) f (k, l, t, pa, pz, p, m) = go (argued
     go (good e, g) = (_, DataForm.simple f pa pz p g)
     go (bad q, g) = (_, DataForm.simple-refused f p g)
 
--- and so has every header record
+-- every header record has a row or a refusal by the rules
 headerrecord-comes : (s ys body : List ℕ) (h : Head) → HeaderForm body h → Placed (bound ys body) ys h → (a : Told HeaderRow) × HeaderRecordForm s ys body a
 headerrecord-comes s ys body (Bad why) f p = (_, HeaderRecordForm.bad-record f)
 headerrecord-comes s ys body (Complex i o) f p = absurd (header-simple f)
@@ -207,20 +210,20 @@ dataform-is s body e =
     sole (DataForm s (body ++ e) body) (λ a. dataform-only)
     (dataform-comes s (body ++ e) body (dataHead body) (headform-is body) (head-placed e (headform-is body)))
 
--- what is computed of a header record follows the rules
+-- what is computed of a header record, whose text the file begins with from its start, is that by the rules
 pub headerrecord-is : (s body e : List ℕ) → HeaderRecordForm s (body ++ e) body (headerOf s (body ++ e) body)
 headerrecord-is s body e =
     sole (HeaderRecordForm s (body ++ e) body) (λ a. headerrecord-only)
     (headerrecord-comes s (body ++ e) body (headerHead body) (headerform-is body) (header-placed e (headerform-is body)))
 
--- bytes that lead to some byte are not none
+-- bytes that lead outside strings and comments to a rest that is not empty are not none
 runs-some : {ys o : List ℕ} → Runs ys o → (o ≡ [] → ⊥) → ys ≡ [] → ⊥
 runs-some Runs.none h e = h e
 runs-some (Runs.byte l k m r) h e = clash (cc)
 runs-some (Runs.string q r) h e = clash (cc (q .shape))
 runs-some (Runs.comment q r) h e = clash (cc (q .shape))
 
--- a record that starts with ys, by what becomes of the search for its end
+-- what is made of a record that starts with ys, by the search for its end, is what the statement says
 led-says : (s : List ℕ) (sec : Section) {xs ys : List ℕ} {x : Sought} → Led xs ys → (ys ≡ [] → ⊥) → recordEnd ys ≡ x
     → ended s ys sec x ≡ statement s sec xs
 unfolding statement
@@ -236,7 +239,7 @@ text-before {body} {t} d =
     let n : length body ≡ length (body ++ (59 ∷ t)) - length (59 ∷ t) = simp length-append (omega arith) in
     rw (d .text) (take-at body (59 ∷ t) _ n)
 
--- a record, by the word that it is
+-- what is made of a record, by the word that it is, is what the statement says
 record-says : (s : List ℕ) (sec : Section) {xs ys body t : List ℕ} {w : Word} → Record xs ys body t → WordForm body w
     → worded s ys (59 ∷ t) sec w ≡ statement s sec xs
 record-says s sec {ys} {t} d f =
@@ -267,12 +270,12 @@ statement-only {s} (StatementForm.data-row {ys} {t} d f g) =
 statement-only {s} (StatementForm.data-refused {ys} {t} d f g) =
     ap (recorded ys t) (dataform-only g ∙ ap (recordOf s ys) (sym (text-before d))) ∙ record-says s InData d f
 
--- what becomes of a statement
+-- a statement of the file s from the rest xs on says something by the rules
 abbrev pub Stated : List ℕ → Section → List ℕ → Type 0
 Stated s sec xs = (x : Stmt) × StatementForm s sec xs x
 
 module _ (s : List ℕ) {xs ys body t : List ℕ} (d : Record xs ys body t) where
-  -- a record that is no section word
+  -- a record that is no section word says something by the rules
   section-comes : (sec : Section) → WordForm body Other → Stated s sec xs
   section-comes Outside f = (_, StatementForm.ignored d f)
   section-comes InHeader f = go (headerOf s ys body) (rw (← d .text) at (headerrecord-is s body (59 ∷ t)))
@@ -286,7 +289,7 @@ module _ (s : List ℕ) {xs ys body t : List ℕ} (d : Record xs ys body t) wher
       go (good w) g = (_, StatementForm.data-row d f g)
       go (bad q) g = (_, StatementForm.data-refused d f g)
 
-  -- a record, by the word that it is
+  -- a record says something by the rules, whatever word it is
   word-comes : (sec : Section) (w : Word) → WordForm body w → Stated s sec xs
   word-comes sec Header f = (_, StatementForm.heads d f)
   word-comes sec Data f = (_, StatementForm.opens d f)
@@ -294,7 +297,7 @@ module _ (s : List ℕ) {xs ys body t : List ℕ} (d : Record xs ys body t) wher
   word-comes sec EndFile f = (_, StatementForm.closes d f)
   word-comes sec Other f = section-comes sec f
 
--- a record, by what becomes of the search for its end
+-- a record that starts with ys says something by the rules, whatever the search for its end finds
 end-comes : (s : List ℕ) (sec : Section) {xs ys : List ℕ} → Led xs ys → (ys ≡ [] → ⊥) → Stated s sec xs
 end-comes s sec {xs} {ys} l h = go (recordEnd ys) refl
   where
@@ -312,7 +315,7 @@ end-comes s sec {xs} {ys} l h = go (recordEnd ys) refl
         let (body, q, z) = end-local ys t (e ∙ ap at g) in
         word-comes s (record { starts = l; finishes = r; text = q }) sec (wordOf body) (wordform-is body)
 
--- every statement says something
+-- every statement says something by the rules
 pub statement-comes : (s : List ℕ) (sec : Section) (xs : List ℕ) → Stated s sec xs
 statement-comes s sec xs = go (trivia xs) refl
   where
@@ -354,7 +357,7 @@ row-shorter data-kind w ys t f = data-shorter f
 abbrev pub Between : ℕ → ℕ → Refusal → Type 0
 Between l m q = (l ≤ q .number) × (q .number ≤ m)
 
--- a record's arguments are refused with 3, 4 or 6, and a record with 7 besides
+-- a record's arguments are refused with a number from 3 to 6
 argued-number : {b : Option (List ℕ)} {s t : List ℕ} {q : Refusal} → ArguedTo b s t (bad q) → Between 3 6 q
 argued-number (ArguedTo.text-open e d o) = omega arith
 argued-number (ArguedTo.remark-open e d o) = omega arith

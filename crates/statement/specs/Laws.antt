@@ -39,27 +39,32 @@ module _ (s body : List ℕ) (p : ℕ) where
   past-open : (o : ℕ) → p + o < length s → p + o + 1 ≡ place s (drop (o + 1) (drop p s))
   past-open o h = omega (arith, place-in s p (o + 1) (omega arith))
 
+  -- a data record with a bad head is refused with 7 and the head's reason, at the record's start p
   pub record-bad : (why : ℕ) → p ≤ length s → dataHead body ≡ Bad why → bad (refusal 7 why p) ≡ recordOf s (drop p s) body
   unfolding recordOf
   record-bad why h e = rw (e, place-drop s p h) refl
 
+  -- a complex data record's row, by the search for its `)` from its `(` on
   pub record-complex : (i o : ℕ) → p + o < length s → dataHead body ≡ Complex i o → arguedTo (bound (drop p s) body) s (drop (p + o) s) (λ q. row i 0 0 (p + o + 1) q 1) ≡ recordOf s (drop p s) body
   unfolding recordOf
   record-complex i o h e = rw (e, ← drop-drop o p s, past-open o h) refl
 
+  -- a simple data record's row, by the search for its `)` from its `(` on
   pub record-simple : (i a z o : ℕ) → p + a ≤ length s → p + z ≤ length s → p + o < length s → dataHead body ≡ Simple i a z o → arguedTo (bound (drop p s) body) s (drop (p + o) s) (λ q. row i (p + a) (p + z) (p + o + 1) q 0) ≡ recordOf s (drop p s) body
   unfolding recordOf
   record-simple i a z o ha hz h e = rw (e, ← drop-drop o p s, past-open o h, place-in s p a ha, place-in s p z hz) refl
 
+  -- a header record with a bad head is refused with 7 and the head's reason, at the record's start p
   pub header-bad : (why : ℕ) → p ≤ length s → headerHead body ≡ Bad why → bad (refusal 7 why p) ≡ headerOf s (drop p s) body
   unfolding headerOf
   header-bad why h e = rw (e, place-drop s p h) refl
 
+  -- a header record's row, by the search for its `)` from its `(` on
   pub header-simple : (i a z o : ℕ) → p + a ≤ length s → p + z ≤ length s → p + o < length s → headerHead body ≡ Simple i a z o → arguedTo (bound (drop p s) body) s (drop (p + o) s) (λ q. headerRow (p + a) (p + z) (p + o + 1) q) ≡ headerOf s (drop p s) body
   unfolding headerOf
   header-simple i a z o ha hz h e = rw (e, ← drop-drop o p s, past-open o h, place-in s p a ha, place-in s p z hz) refl
 
--- a record's text, from its start up to its `;`
+-- a record's text, from its start p up to its `;` at e, has e - p bytes
 pub text-length : (s : List ℕ) (p e : ℕ) → p ≤ e → e ≤ length s → length (take (e - p) (drop p s)) ≡ e - p
 text-length s p e h k = simp (length-take, length-drop) (omega arith)
 
@@ -68,20 +73,23 @@ module _ (s : List ℕ) (p e : ℕ) (h : p ≤ e) (k : e < length s) where
   within : (g : Head) → HeadWithin (length (take (e - p) (drop p s))) g → HeadWithin (e - p) g
   within g w = rw (text-length s p e h (omega arith)) at w
 
+  -- a complex record's `(` stands at most where its `;` does
   pub complex-fits : (i o : ℕ) → dataHead (take (e - p) (drop p s)) ≡ Complex i o → p + o ≤ e
   complex-fits i o q = let w : o ≤ e - p = within (Complex i o) (rw q at (data-within (take (e - p) (drop p s)))) in omega arith
 
+  -- a simple data record's places stand at most where its `;` does
   pub simple-fits : (i a z o : ℕ) → dataHead (take (e - p) (drop p s)) ≡ Simple i a z o → (p + a ≤ e) × (p + z ≤ e) × (p + o ≤ e)
   simple-fits i a z o q =
       let w : (a ≤ e - p) × (z ≤ e - p) × (o ≤ e - p) = within (Simple i a z o) (rw q at (data-within (take (e - p) (drop p s)))) in
       (omega arith, omega arith, omega arith)
 
+  -- a header record's places stand at most where its `;` does
   pub header-fits : (i a z o : ℕ) → headerHead (take (e - p) (drop p s)) ≡ Simple i a z o → (p + a ≤ e) × (p + z ≤ e) × (p + o ≤ e)
   header-fits i a z o q =
       let w : (a ≤ e - p) × (z ≤ e - p) × (o ≤ e - p) = within (Simple i a z o) (rw q at (header-within (take (e - p) (drop p s)))) in
       (omega arith, omega arith, omega arith)
 
--- a record's text, as the bytes before its `;`
+-- the bytes before a record's `;` are its text, by its places
 pub before-at : (s : List ℕ) (p e : ℕ) → p ≤ e → e ≤ length s → before (drop p s) (drop e s) ≡ take (e - p) (drop p s)
 before-at s p e h k =
     let n : length (drop p s) - length (drop e s) ≡ e - p = omega (arith, length-drop p s, length-drop e s) in
@@ -89,31 +97,36 @@ before-at s p e h k =
 
 -- a record in its section, at places of the file
 module _ (s : List ℕ) (p e : ℕ) (h : p ≤ e) (k : e ≤ length s) where
+  -- a record outside of every section is passed over
   pub section-outside : moved Outside (drop (e + 1) s) ≡ inSection s (drop p s) (drop e s) Outside
   section-outside = ap (moved Outside) (sym (drop-drop 1 e s))
 
+  -- a record in the header is read as a header record
   pub section-header : (t : Told HeaderRow) → t ≡ headerOf s (drop p s) (take (e - p) (drop p s)) → headed (drop p s) (drop (e + 1) s) t ≡ inSection s (drop p s) (drop e s) InHeader
   section-header t q = rw (before-at s p e h k, drop-drop 1 e s) (ap (headed (drop p s) (drop (e + 1) s)) q)
 
+  -- a record in the data section is read as a data record
   pub section-data : (t : Told Row) → t ≡ recordOf s (drop p s) (take (e - p) (drop p s)) → recorded (drop p s) (drop (e + 1) s) t ≡ inSection s (drop p s) (drop e s) InData
   section-data t q = rw (before-at s p e h k, drop-drop 1 e s) (ap (recorded (drop p s) (drop (e + 1) s)) q)
 
-  -- the word that the record is
+  -- a record that ends at e says what the word says that its text is
   pub worded-at : (sec : Section) (w : Word) → w ≡ wordOf (take (e - p) (drop p s)) → worded s (drop p s) (drop e s) sec w ≡ ended s (drop p s) sec (at (drop e s))
   worded-at sec w q = ap (worded s (drop p s) (drop e s) sec) (q ∙ ap wordOf (sym (before-at s p e h k)))
 
-  -- a section word moves past the record
+  -- the rest after a record is the rest after its `;`
   pub moved-at : (sec : Section) → moved sec (drop (e + 1) s) ≡ moved sec (drop 1 (drop e s))
   moved-at sec = ap (moved sec) (sym (drop-drop 1 e s))
 
--- a statement whose first byte stands at p
+-- a statement whose first byte stands at p, by the search for the record's end
 module _ (s : List ℕ) (p : ℕ) (sec : Section) (h : p < length s) where
   begun-is : begun s sec (drop p s) ≡ ended s (drop p s) sec (recordEnd (drop p s))
   begun-is = rw (split s p h) refl
 
+  -- where the record's end is found at e, the statement is that of a record that ends there
   pub begun-found : (e : ℕ) → good e ≡ placed s (recordEnd (drop p s)) → ended s (drop p s) sec (at (drop e s)) ≡ begun s sec (drop p s)
   begun-found e q = ap (ended s (drop p s) sec) (sym (end-at s p e (omega arith) q .0)) ∙ sym begun-is
 
+  -- where the search for the record's end is refused, so is the statement
   pub begun-refused : (q : Refusal) → bad q ≡ placed s (recordEnd (drop p s)) → refused q ≡ begun s sec (drop p s)
   begun-refused q r = go (recordEnd (drop p s)) refl r
     where
@@ -123,19 +136,23 @@ module _ (s : List ℕ) (p : ℕ) (sec : Section) (h : p < length s) where
           let f : q ≡ refusal n 0 (place s o) = cc in
           ap refused f ∙ ap (ended s (drop p s) sec) (sym e) ∙ sym begun-is
 
--- a statement from the place i on
+-- a statement from the place i on, by the search past trivia
 module _ (s : List ℕ) (i : ℕ) (sec : Section) where
+  -- from the file's end on, the reading ends
   pub statement-none : length s ≤ i → ends ≡ statement s sec (drop i s)
   unfolding statement trivia walk
   statement-none h = rw (drop-end s i h) refl
 
+  -- where the trivia end at p, the statement is the one that begins there
   pub statement-found : (p : ℕ) → i ≤ length s → good p ≡ placed s (trivia (drop i s)) → begun s sec (drop p s) ≡ statement s sec (drop i s)
   unfolding statement
   statement-found p h q = ap (led s sec) (sym (trivia-at s i p h q .0))
 
+  -- where the trivia end at the file's end, the reading ends
   pub statement-over : (p : ℕ) → i ≤ length s → good p ≡ placed s (trivia (drop i s)) → length s ≤ p → ends ≡ statement s sec (drop i s)
   statement-over p h q k = rw (← statement-found p h q, drop-end s p k) refl
 
+  -- where the trivia are refused, so is the statement
   pub statement-refused : (q : Refusal) → bad q ≡ placed s (trivia (drop i s)) → refused q ≡ statement s sec (drop i s)
   unfolding statement
   statement-refused q r = go (trivia (drop i s)) refl r

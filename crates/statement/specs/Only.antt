@@ -33,7 +33,7 @@ headerSpanOf w = record {
   args = record { start = w .argStart; end = w .argEnd };
 }
 
--- the answer that says this
+-- the answer of `next_statement` that says this of the file
 saidOf : List ℕ → Stmt → Said
 saidOf s ends = Ends
 saidOf s (refused q) = Refuses (faultOf q)
@@ -49,11 +49,11 @@ said-back s i (Moves sec p) h = ap (Moves sec) (place-drop s p (omega arith))
 said-back s i (Heads w o p) h = rw (place-drop s o (omega arith), place-drop s p (omega arith)) refl
 said-back s i (Records w o p) h = rw (place-drop s o (omega arith), place-drop s p (omega arith)) refl
 
--- `next_statement`
+-- `next_statement` has one answer: two that say the same of the file are one
 pub said-only : (s : List ℕ) (i : ℕ) (a b : Said) → Ahead i (length s) a → Ahead i (length s) b → toldSaid s a ≡ toldSaid s b → a ≡ b
 said-only s i a b h k e = sym (said-back s i a h) ∙ ap (saidOf s) e ∙ said-back s i b k
 
--- the answer that a record is had so, or not
+-- the answer of `tidy_record` that says this of the file
 tidiedOf : List ℕ → Stmt → Tidied
 tidiedOf s ends = Untidy
 tidiedOf s (refused q) = Untidy
@@ -61,12 +61,12 @@ tidiedOf s (moved sec r) = Untidy
 tidiedOf s (header w ys r) = Untidy
 tidiedOf s (record′ w ys r) = Tidy (spanOf w) (place s ys) (place s r)
 
--- it is the answer that said it
+-- what an answer of `tidy_record` says gives back that answer
 tidied-back : (s : List ℕ) (i : ℕ) (a : Tidied) → TidyAhead i (length s) a → tidiedOf s (toldTidied s a) ≡ a
 unfolding tidiedOf
 tidied-back s i Untidy h = refl
 tidied-back s i (Tidy w o p) h = rw (place-drop s o (omega arith), place-drop s p (omega arith)) refl
 
--- `tidy_record`
+-- `tidy_record` has one answer: two that say the same of the file are one
 pub tidied-only : (s : List ℕ) (i : ℕ) (a b : Tidied) → TidyAhead i (length s) a → TidyAhead i (length s) b → toldTidied s a ≡ toldTidied s b → a ≡ b
 tidied-only s i a b h k e = sym (tidied-back s i a h) ∙ ap (tidiedOf s) e ∙ tidied-back s i b k

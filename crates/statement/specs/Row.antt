@@ -49,7 +49,7 @@ recordBy b s ys (Complex i o) = arguedTo b s (drop o ys) (λ q. row i 0 0 (place
 recordBy b s ys (Simple i a z o) =
     arguedTo b s (drop o ys) (λ q. row i (place s (drop a ys)) (place s (drop z ys)) (place s (drop (o + 1) ys)) q 0)
 
--- a header record likewise; its head is never that of a complex record
+-- a header record of the file s that starts with the rest ys, by its head, which is never a complex record's; its `)` is sought up to the bound b
 abbrev pub headerBy : Option (List ℕ) → List ℕ → List ℕ → Head → Told HeaderRow
 headerBy b s ys (Bad why) = badRecord s ys why
 headerBy b s ys (Complex i o) = badRecord s ys 1
@@ -60,6 +60,6 @@ headerBy b s ys (Simple i a z o) =
 unfoldable pub recordOf : List ℕ → List ℕ → List ℕ → Told Row
 recordOf s ys body = recordBy (bound ys body) s ys (dataHead body)
 
--- a header record of the file s
+-- a header record of the file s: its text is body, and the file's rest from its start is ys
 unfoldable pub headerOf : List ℕ → List ℕ → List ℕ → Told HeaderRow
 headerOf s ys body = headerBy (bound ys body) s ys (headerHead body)

@@ -19,7 +19,7 @@ pub record Row : Type 0 where
   pub argEnd : ℕ
   pub complex : ℕ
 
--- such a row by its numbers
+-- a data record's row from its six numbers
 abbrev pub row : ℕ → ℕ → ℕ → ℕ → ℕ → ℕ → Row
 row i k l a b c = record { id = i; keyStart = k; keyEnd = l; argStart = a; argEnd = b; complex = c }
 
@@ -30,7 +30,7 @@ pub record HeaderRow : Type 0 where
   pub argStart : ℕ
   pub argEnd : ℕ
 
--- such a row by its numbers
+-- a header record's row from its four numbers
 abbrev pub headerRow : ℕ → ℕ → ℕ → ℕ → HeaderRow
 headerRow k l a b = record { keyStart = k; keyEnd = l; argStart = a; argEnd = b }
 
@@ -53,17 +53,17 @@ pub data RowKind : Type 0 where
   header-kind : RowKind
   data-kind : RowKind
 
--- what such a row holds
+-- what a row of the kind holds
 abbrev pub RowOf : RowKind → Type 0
 RowOf header-kind = HeaderRow
 RowOf data-kind = Row
 
--- a statement that gives such a row: that of the record that starts with the rest ys, and the rest after it
+-- a statement that gives a row of the kind: that of the record that starts with the rest ys, and the rest t after it
 abbrev pub rowed : (k : RowKind) → RowOf k → List ℕ → List ℕ → Stmt
 rowed header-kind w ys t = header w ys t
 rowed data-kind w ys t = record′ w ys t
 
--- the section that such records stand in
+-- the section that records of the kind stand in
 abbrev pub sectionOf : RowKind → Section
 sectionOf header-kind = InHeader
 sectionOf data-kind = InData
@@ -73,10 +73,10 @@ abbrev pub mapped : {A B : Type 0} → (A → B) → Told A → Told B
 mapped f (good a) = good (f a)
 mapped f (bad q) = bad q
 
--- what the code's answers say
+-- the row that the code's answer for a data record holds
 abbrev pub rowOf : RecordSpan → Row
 rowOf r = row (r .id) (r .keyword .start) (r .keyword .end) (r .args .start) (r .args .end) (r .complex)
 
--- a header row likewise
+-- the row that the code's answer for a header record holds
 abbrev pub headerRowOf : HeaderSpan → HeaderRow
 headerRowOf r = headerRow (r .keyword .start) (r .keyword .end) (r .args .start) (r .args .end)

@@ -17,12 +17,12 @@ use Rattle.statement.specs.declared.Section.{Section}
 use Rattle.statement.specs.declared.Section.the-variants.{Outside, InHeader, InData}
 use Rattle.statement.specs.declared.Said.the-variants.{Records}
 
--- a header record's row, or its refusal
+-- what a header record says: its row, or its refusal
 abbrev pub headed : List ℕ → List ℕ → Told HeaderRow → Stmt
 headed ys r (good w) = header w ys r
 headed ys r (bad q) = refused q
 
--- a data record's row, or its refusal
+-- what a data record says: its row, or its refusal
 abbrev pub recorded : List ℕ → List ℕ → Told Row → Stmt
 recorded ys r (good w) = record′ w ys r
 recorded ys r (bad q) = refused q
@@ -41,7 +41,7 @@ worded s ys e sec Data = moved InData (drop 1 e)
 worded s ys e sec EndFile = ends
 worded s ys e sec Other = inSection s ys e sec
 
--- the record's end, or its refusal
+-- what a record that starts with ys says, by the search for its end: by the word that its text is, or a refusal
 abbrev pub ended : List ℕ → List ℕ → Section → Sought → Stmt
 ended s ys sec (fault n o) = refused (refusal n 0 (place s o))
 ended s ys sec (at e) = worded s ys e sec (wordOf (before ys e))
@@ -51,7 +51,7 @@ abbrev pub begun : List ℕ → Section → List ℕ → Stmt
 begun s sec [] = ends
 begun s sec (c ∷ r) = ended s (c ∷ r) sec (recordEnd (c ∷ r))
 
--- what follows the trivia, or the comment that is open in them
+-- what a statement says, by the search past trivia: what follows them, or the comment that is open in them
 abbrev pub led : List ℕ → Section → Sought → Stmt
 led s sec (fault n o) = refused (refusal n 0 (place s o))
 led s sec (at ys) = begun s sec ys

@@ -35,7 +35,7 @@ tidyBy s ys e (Complex i o) = record′ (row i 0 0 (place s (drop (o + 1) ys)) (
 tidyBy s ys e (Simple i a z o) =
     record′ (row i (place s (drop a ys)) (place s (drop z ys)) (place s (drop (o + 1) ys)) (place s e - 1) 0) ys (drop 1 e)
 
--- the same by the rest e from its first `;` on
+-- the record that starts with the rest ys, were its `;` the first byte of e and its `)` the byte before that; `ends` for none
 abbrev pub tidyEnded : List ℕ → List ℕ → List ℕ → Stmt
 tidyEnded s ys [] = ends
 tidyEnded s ys (c ∷ r) = tidyBy s ys (c ∷ r) (dataHead (before ys (c ∷ r)))
@@ -44,7 +44,7 @@ tidyEnded s ys (c ∷ r) = tidyBy s ys (c ∷ r) (dataHead (before ys (c ∷ r))
 unfoldable pub tidyRecord : List ℕ → List ℕ → Stmt
 tidyRecord s xs = tidyEnded s (past white xs) (past unended (past white xs))
 
--- the place after such a record lies after the place i and after the record's start
+-- the place after a record that `tidy_record` answers lies after the place i and after the record's start, in a file of n bytes
 abbrev pub TidyAhead : ℕ → ℕ → Tidied → Type 0
 TidyAhead i n Untidy = Unit {0}
 TidyAhead i n (Tidy r q p) = (i < p) × (q < p) × (p ≤ n)

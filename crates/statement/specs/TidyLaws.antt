@@ -24,12 +24,14 @@ use Rattle.statement.specs.Tidy.{unended, tidy, tidyBy, tidyEnded, tidyR
 use Rattle.statement.specs.declared.Tidied.{Tidied}
 use Rattle.statement.specs.declared.Tidied.the-variants.{Untidy, Tidy}
 
--- One byte of a search for a `;`, at a place.
+-- one byte of a search for a `;`, at the place i
 module _ (s : List ℕ) (i : ℕ) (h : i < length s) where
+  -- the search for a `;` ends at a `;`
   pub end-stops : getD s i 0 ≡ 59 → drop i s ≡ past unended (drop i s)
   unfolding past
   end-stops e = past-stops s i h unended (past unended (drop i s)) (ap not (eq-eqb _ _ e)) refl
 
+  -- the search for a `;` goes on after any other byte
   pub end-goes : (getD s i 0 ≡ 59 → ⊥) → past unended (drop (i + 1) s) ≡ past unended (drop i s)
   unfolding past
   end-goes e = past-goes s i h unended (past unended (drop i s)) (ap not (ne-eqb _ _ e)) refl
@@ -40,7 +42,7 @@ Whole (Bad why) = ⊥
 Whole (Complex i o) = Unit {0}
 Whole (Simple i a z o) = Unit {0}
 
--- is that of a text with bytes in it
+-- a text whose head is not bad has bytes in it
 head-some : (b : List ℕ) → (h : Head) → Whole h → dataHead b ≡ h → 0 < length b
 unfolding dataHead
 head-some [] h k e = absurd (rw (← e) at k)
@@ -48,32 +50,35 @@ head-some (c ∷ r) h k e = omega arith
 
 -- a record by its head and its `;`, at places of the file
 module _ (s : List ℕ) (p e : ℕ) (b : List ℕ) (h : p ≤ e) (k : e < length s) where
+  -- where the head is bad, no record is had by the `;`
   pub tidy-none : (why : ℕ) → dataHead b ≡ Bad why → ends ≡ tidyBy s (drop p s) (drop e s) (dataHead b)
   tidy-none why q = rw q refl
 
+  -- the row of a complex record by its head and its `;`
   pub tidy-complex : (i o : ℕ) → p + o + 1 ≤ length s → dataHead b ≡ Complex i o
       → record′ (row i 0 0 (p + o + 1) (e - 1) 1) (drop p s) (drop (e + 1) s) ≡ tidyBy s (drop p s) (drop e s) (dataHead b)
   tidy-complex i o l q =
       let n : p + o + 1 ≡ place s (drop (o + 1) (drop p s)) = omega (arith, place-in s p (o + 1) (omega arith)) in
       rw (q, place-drop s e (omega arith), drop-drop 1 e s, ← n) refl
 
+  -- the row of a simple record by its head and its `;`
   pub tidy-simple : (i a z o : ℕ) → p + a ≤ length s → p + z ≤ length s → p + o + 1 ≤ length s → dataHead b ≡ Simple i a z o
       → record′ (row i (p + a) (p + z) (p + o + 1) (e - 1) 0) (drop p s) (drop (e + 1) s) ≡ tidyBy s (drop p s) (drop e s) (dataHead b)
   tidy-simple i a z o ha hz l q =
       let n : p + o + 1 ≡ place s (drop (o + 1) (drop p s)) = omega (arith, place-in s p (o + 1) (omega arith)) in
       rw (q, place-drop s e (omega arith), drop-drop 1 e s, place-in s p a ha, place-in s p z hz, ← n) refl
 
--- a record from the place i on, by what was sought
+-- `tidyRecord` from the place i on: whitespace ends at p, and the first `;` from there on is at e
 module _ (s : List ℕ) (i p e : ℕ) (led : drop p s ≡ past white (drop i s)) (sought : drop e s ≡ past unended (drop p s)) where
   tidy-is : tidyRecord s (drop i s) ≡ tidyEnded s (drop p s) (drop e s)
   unfolding tidyRecord
   tidy-is = rw (← led, ← sought) refl
 
-  -- no `;`
+  -- where no `;` is found, there is no tidy record
   pub tidy-over : length s ≤ e → ends ≡ tidyRecord s (drop i s)
   tidy-over h = rw (tidy-is, drop-end s e h) refl
 
-  -- the first `;` stands at e
+  -- where the first `;` stands at e, the record is read by the head of its text and that `;`
   pub tidy-found : p ≤ e → e < length s → tidyBy s (drop p s) (drop e s) (dataHead (take (e - p) (drop p s))) ≡ tidyRecord s (drop i s)
   tidy-found h k = sym (tidy-is ∙ go (drop e s) refl)
     where
@@ -82,32 +87,32 @@ module _ (s : List ℕ) (i p e : ℕ) (led : drop p s ≡ past white (drop i s))
           let m : length (drop e s) ≡ 0 = ap length q in absurd (omega arith)
       go (c ∷ r) q = ap (λ (b : List ℕ). tidyBy s (drop p s) (c ∷ r) (dataHead b)) (ap (before (drop p s)) (sym q) ∙ before-at s p e h (omega arith))
 
--- from the file's end on there is none
+-- from the file's end on there is no tidy record
 pub tidy-past : (s : List ℕ) (i : ℕ) → length s ≤ i → ends ≡ tidyRecord s (drop i s)
 unfolding tidyRecord past walk
 tidy-past s i h = rw (drop-end s i h) refl
 
--- whether a record is tidy, at places
+-- a record is tidy just where the first `;` from its start is its own and its arguments end just before that, at places
 pub tidy-noted : (s : List ℕ) (w : Row) (p n e : ℕ) → n ≤ length s → e ≤ length s → drop e s ≡ past unended (drop p s)
     → eqb (e + 1) n && eqb (w .argEnd + 1) e ≡ tidy s (record′ w (drop p s) (drop n s))
 tidy-noted s w p n e h k q = rw (← q, place-drop s n h, place-drop s e k) refl
 
--- one byte more of a block without a `;`
+-- one byte more of a block without a `;`: the search goes on after the block
 pub block-on : (s : List ℕ) (i k : ℕ) (hit : Bool) → i + k < length s → (hit ≡ false → past unended (drop (i + k) s) ≡ past unended (drop i s))
     → hit || eqb (getD s (i + k) 0) 59 ≡ false → past unended (drop (i + (k + 1)) s) ≡ past unended (drop i s)
 block-on s i k true h p e = clash (cc)
 block-on s i k false h p e = let n : i + (k + 1) ≡ i + k + 1 = omega arith in rw n (end-goes s (i + k) h (eqb-false _ _ e) ∙ p refl)
 
--- the bytes end without a `;`
+-- the search for a `;` ends at the file's end
 pub end-none : (s : List ℕ) (i : ℕ) → length s ≤ i → drop i s ≡ past unended (drop i s)
 unfolding past walk
 end-none s i h = rw (drop-end s i h) refl
 
--- whether a place is the one after another
+-- a place b that is not behind a is not the one after a
 pub next-not : (a b : ℕ) → b ≤ a → false ≡ eqb (a + 1) b
 next-not a b h = sym (ne-eqb (a + 1) b (λ e. omega arith))
 
--- where it is behind, by the distance
+-- a place b behind a is the one after a just where their distance is 1
 pub next-is : (a b : ℕ) → a < b → eqb (b - a) 1 ≡ eqb (a + 1) b
 next-is a b h = go (eqb (a + 1) b) refl
   where

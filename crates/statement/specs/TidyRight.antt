@@ -34,7 +34,7 @@ use Rattle.statement.specs.TidyLaws.{Whole}
 use Rattle.statement.specs.UsualRight.{blanks}
 use Rattle.statement.specs.declared.Section.the-variants.{InData}
 
--- two tests that both hold
+-- where two tests hold together, each of them holds
 both : (a b : Bool) → a && b ≡ true → (a ≡ true) × (b ≡ true)
 both true b e = (refl, e)
 both false b e = clash (cc)
@@ -49,7 +49,7 @@ head-hash (c ∷ r) k = go (eqb c 35) refl
     go true e = (r, ap (λ (d : ℕ). d ∷ r) (eqb-true c 35 e))
     go false e = absurd (rw e at k)
 
--- what stands before a rest
+-- the bytes of b and e before the rest e are b
 before-seam : (b e : List ℕ) → before (b ++ e) e ≡ b
 before-seam b e =
     let n : length (b ++ e) - length e ≡ length b = omega (arith, length-append b e) in
@@ -78,9 +78,9 @@ row-tidy b s ys e (Simple i a z o) w q n = go (sought b (drop o ys)) q
         let m : place s e - 1 ≡ place s c = omega arith in
         rw m (ap (λ (v : Row). record′ v ys (drop 1 e)) (sym f))
 
--- a record of the file s whose text begins with `#`, ys, and whose first `;` is where e begins
+-- a record ys of the file s that begins with `#`, and whose first `;` is where e begins
 module _ (s ys f e : List ℕ) (sought : past unended ys ≡ e) (shape : ys ≡ f ++ e) (less : length ys ≤ length s) (hash : (r : List ℕ) × (ys ≡ 35 ∷ r)) where
-  -- both rests are one where they are as long
+  -- two rests of the record of the same length are one
   same-rest : (b g : List ℕ) → ys ≡ b ++ g → length e ≡ length g → (e ≡ g) × (f ≡ b)
   same-rest b g q n =
       let l : length ys ≡ length f + length e = ap length shape ∙ length-append f e in
@@ -90,7 +90,7 @@ module _ (s ys f e : List ℕ) (sought : past unended ys ≡ e) (shape : ys ≡ 
         sym (take-append-seam f e) ∙ ap (take (length f)) (sym shape ∙ q) ∙ ap (λ (j : ℕ). take j (b ++ g)) k ∙ take-append-seam b g,
       )
 
-  -- the record ends at a `;` with the rest r after it
+  -- where the record ends at a `;` with r after it and is tidy, its first `;` gives what it says
   ended-tidy : (b r : List ℕ) → ys ≡ b ++ (59 ∷ r) → tidy s (recorded ys r (recordOf s ys b)) ≡ true → tidyBy s ys e (dataHead f) ≡ recorded ys r (recordOf s ys b)
   unfolding recordOf
   ended-tidy b r q = go (recordBy (bound ys b) s ys (dataHead b)) refl
@@ -107,7 +107,7 @@ module _ (s ys f e : List ℕ) (sought : past unended ys ≡ e) (shape : ys ≡ 
           let (p1, p2) = same-rest b (59 ∷ r) q k in
           ap (λ (g : List ℕ). tidyBy s ys e (dataHead g)) p2 ∙ row-tidy (bound ys b) s ys e (dataHead b) w (sym y) n2 ∙ ap (λ (g : List ℕ). record′ w ys (drop 1 g)) p1
 
-  -- what stands before that `;` is no section word
+  -- what stands before a `;` of the record is no section word
   word-tidy : (b r : List ℕ) → ys ≡ b ++ (59 ∷ r) → Other ≡ wordOf b
   word-tidy [] r q = let (t, g) = hash in absurd (eqb-false 35 59 refl (cc))
   word-tidy (c ∷ b) r q = let (t, g) = hash in let z : c ≡ 35 = cc in hash-word (c ∷ b) (omega arith) z
@@ -128,7 +128,7 @@ module _ (s ys f e : List ℕ) (sought : past unended ys ≡ e) (shape : ys ≡ 
           ∙ ap (λ (j : List ℕ). recorded ys r (recordOf s ys j)) z in
           ended-tidy b r q (rw m at k) ∙ sym m
 
--- a record's head is not bad
+-- the head of a record that `tidyBy` gives is not bad
 whole-of : (s ys e zs t : List ℕ) (w : Row) (h : Head) → record′ w zs t ≡ tidyBy s ys e h → Whole h
 whole-of s ys e zs t w (Bad why) q = clash (cc)
 whole-of s ys e zs t w (Complex i o) q = tt

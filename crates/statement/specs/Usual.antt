@@ -41,7 +41,7 @@ plain c = not (mark c)
 abbrev pub stops : ℕ → Bool
 stops c = eqb c 39 || eqb c 59
 
--- any other
+-- a byte at which the walk over a string's inside does not stop
 abbrev pub spoken : ℕ → Bool
 spoken c = not (stops c)
 
@@ -84,7 +84,7 @@ pub record Walked (s : List ℕ) (p o c e : ℕ) : Type 0 where
   pub upto : c < e
   pub within : e < length s
 
--- a usual record is the statement that begins at p, and it is told whether it is tidy
+-- what `usual_record` answers: a record that is the statement that begins at p, and whether it is tidy; or nothing
 abbrev pub UsualSaid : List ℕ → ℕ → Section → Usual → Type 0
 UsualSaid s p sec Unusual = Unit {0}
 UsualSaid s p sec (Whole span n b) =

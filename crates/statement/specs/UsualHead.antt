@@ -29,11 +29,11 @@ pub record Fronted (t : List ℕ) (id a : ℕ) : Type 0 where
   pub leads : (v : List ℕ) → NoGapFirst v → Lead front id v
   pub over : NoGapFirst (drop a t)
 
--- of an id by its digits
+-- bytes that lead up to a value with the id m do so with the same id named n
 lead-id : (p v : List ℕ) (n m : ℕ) → n ≡ m → Lead p m v → Lead p n v
 lead-id p v n m e l = rw e l
 
--- such bytes, from what the code found of them
+-- the bytes before the value, from what the code found of the `#`, the id's digits, the whitespace and the `=`
 pub fronted : (t : List ℕ) (id from q a : ℕ) → getD t 0 0 ≡ 35 → numberFrom 0 (drop 1 t) ≡ digits id (drop from t) → id ≤ 4294967295
     → 1 < from → from ≤ length t → drop q t ≡ past white (drop from t) → q < length t → getD t q 0 ≡ 61
     → drop a t ≡ past white (drop (q + 1) t) → Fronted t id a
@@ -61,7 +61,7 @@ fronted t id from q a hash num most some within eq hq is eqa =
       over = rw (sym eqa) at (k3 .over);
     }
 
--- nothing before the `(`: a complex record
+-- where nothing stands between the `=` and the `(`, the head is a complex record's
 pub head-complex : (t : List ℕ) (id a : ℕ) → Fronted t id a → length t ≤ a → a ≤ length t → (r : List ℕ) → Complex id a ≡ dataHead (t ++ (40 ∷ r))
 head-complex t id a f h k r =
     let e : t ≡ f .front = f .shape ∙ ap (λ (l : List ℕ). f .front ++ l) (drop-end t a h) ∙ append-nil (f .front) in
@@ -69,7 +69,7 @@ head-complex t id a f h k r =
     let g : Complex id (length (f .front)) ≡ dataHead (f .front ++ (40 ∷ r)) = headform-only (HeadForm.complex (f .leads (40 ∷ r) (gap-other 40 r refl))) in
     ap (Complex id) n ∙ g ∙ ap (λ (l : List ℕ). dataHead (l ++ (40 ∷ r))) (sym e)
 
--- else a keyword, trimmed at its end
+-- where a keyword stands between the `=` and the `(`, the head has its places, trimmed at its end
 pub head-simple : (t : List ℕ) (id a z : ℕ) → Free 40 t → Fronted t id a → a < length t → z ≤ length t → drop z t ≡ trail (drop a t)
     → (r : List ℕ) → Simple id a z (length t) ≡ dataHead (t ++ (40 ∷ r))
 head-simple t id a z free f h hz e r = go (tail-split (drop a t))

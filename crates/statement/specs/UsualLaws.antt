@@ -29,12 +29,12 @@ use Rattle.statement.specs.Usual.{mark, plain, stops, spoken, Way}
 pub plain-other : (b c : ℕ) → mark b ≡ true → plain c ≡ true → c ≡ b → ⊥
 plain-other b c h k e = let g : mark c ≡ false = not-true (mark c) k in clash (cc)
 
--- the five bytes are marked
+-- a quote is a marked byte
 mark-quote : mark 39 ≡ true
 unfolding mark
 mark-quote = refl
 
--- a `(` is
+-- a `(` is a marked byte
 pub mark-open : mark 40 ≡ true
 unfolding mark
 mark-open = refl
@@ -51,24 +51,24 @@ mark-end : mark 59 ≡ true
 unfolding mark
 mark-end = refl
 
--- One byte of the walk over a string's inside, at a place.
+-- one byte of the walk over a string's inside, at the place i
 module _ (s : List ℕ) (i : ℕ) (h : i < length s) where
-  -- it ends at a quote or a `;`
+  -- the walk over a string's inside ends at a quote or a `;`
   pub spoken-stops : stops (getD s i 0) ≡ true → drop i s ≡ past spoken (drop i s)
   unfolding past
   spoken-stops e = past-stops s i h spoken (past spoken (drop i s)) (ap not e) refl
 
-  -- and goes on at any other byte
+  -- the walk over a string's inside goes on after any byte that is no quote and no `;`
   pub spoken-goes : stops (getD s i 0) ≡ false → past spoken (drop (i + 1) s) ≡ past spoken (drop i s)
   unfolding past
   spoken-goes e = past-goes s i h spoken (past spoken (drop i s)) (ap not e) refl
 
--- the bytes end in the string
+-- the walk over a string's inside ends at the file's end
 pub spoken-none : (s : List ℕ) (i : ℕ) → length s ≤ i → drop i s ≡ past spoken (drop i s)
 unfolding past walk
 spoken-none s i h = rw (drop-end s i h) refl
 
--- a place that stops the walk where it lies before the end
+-- a place that ends the walk over a string's inside if it lies in the file ends it in any case
 pub spoken-last : (s : List ℕ) (i : ℕ) → (i < length s → drop i s ≡ past spoken (drop i s)) → drop i s ≡ past spoken (drop i s)
 spoken-last s i h = go (decLe (length s) i)
   where
@@ -76,7 +76,7 @@ spoken-last s i h = go (decLe (length s) i)
     go (yes l) = spoken-none s i l
     go (no l) = h (omega arith)
 
--- one byte more of a block in which neither a quote nor a `;` was noted
+-- one byte more of a block in which neither a quote nor a `;` was noted: the walk over a string's inside goes on after it
 pub spoken-on : (s : List ℕ) (i k : ℕ) (quote end : Bool) → i + k < length s → ((quote || end) ≡ false → past spoken (drop (i + k) s) ≡ past spoken (drop i s))
     → ((quote || eqb (getD s (i + k) 0) 39) || (end || eqb (getD s (i + k) 0) 59)) ≡ false → past spoken (drop (i + (k + 1)) s) ≡ past spoken (drop i s)
 spoken-on s i k quote end h p e = go quote end (eqb (getD s (i + k) 0) 39) (eqb (getD s (i + k) 0) 59) refl refl p e
@@ -89,11 +89,11 @@ spoken-on s i k quote end h p e = go quote end (eqb (getD s (i + k) 0) 39) (eqb 
     go false false false true l m p e = clash (cc)
     go false false false false l m p e = let n : i + (k + 1) ≡ i + k + 1 = omega arith in rw n (spoken-goes s (i + k) h (rw (l, m) refl) ∙ p refl)
 
--- nothing on the way
+-- from a rest to itself there is a way that changes nothing
 pub way-none : (d : ℕ) (xs : List ℕ) → Way d d xs xs
 way-none d xs = record { ends = λ n w. refl; closes = λ n w. refl; first = refl }
 
--- one way after another
+-- two ways, one after the other, are a way
 pub way-on : {d e f : ℕ} {xs ys zs : List ℕ} → Way d e xs ys → Way e f ys zs → Way d f xs zs
 way-on v u = record {
   ends = λ n w. v .ends n w ∙ u .ends n w;
@@ -101,7 +101,7 @@ way-on v u = record {
   first = v .first ∙ u .first;
 }
 
--- a byte that opens no string and no comment and ends nothing
+-- a byte that opens no string and no comment and ends nothing is a way
 way-byte : (d e c : ℕ) (t : List ℕ) → (c ≡ 39 → ⊥) → (c ≡ 47 → ⊥) → (c ≡ 59 → ⊥) → paren d c ≡ look e → Way d e (c ∷ t) t
 way-byte d e c t h k l m = record {
   ends = λ n w. byte-step semicolon n w 0 0 c t h (λ (r, g). k (cc)) (rw (ne-eqb c 59 l));
@@ -109,33 +109,33 @@ way-byte d e c t h k l m = record {
   first = past-pass (λ b. not (eqb b 59)) (c ∷ []) t (rw (ne-eqb c 59 l) refl, tt);
 }
 
--- a byte but the five leaves the depth as it is
+-- a byte that is none of the five marked ones is a way that leaves the depth as it is
 way-other : (d c : ℕ) (t : List ℕ) → (c ≡ 39 → ⊥) → (c ≡ 40 → ⊥) → (c ≡ 41 → ⊥) → (c ≡ 47 → ⊥) → (c ≡ 59 → ⊥) → Way d d (c ∷ t) t
 way-other d c t h i j k l = way-byte d d c t h k l (rw (ne-eqb c 40 i, ne-eqb c 41 j))
 
--- plain bytes
+-- plain bytes are a way that leaves the depth as it is
 pub way-plain : (d : ℕ) (f r : List ℕ) → All plain f → Way d d (f ++ r) r
 way-plain d [] r h = way-none d r
 way-plain d (c ∷ f) r (h, t) = way-on
     (way-other d c (f ++ r) (plain-other 39 c mark-quote h) (plain-other 40 c mark-open h) (plain-other 41 c mark-close h)
     (plain-other 47 c mark-slash h) (plain-other 59 c mark-end h)) (way-plain d f r t)
 
--- up to the first marked byte
+-- up to the first marked byte there is a way that leaves the depth as it is
 pub run-way : (d : ℕ) (xs : List ℕ) → Way d d xs (past plain xs)
 run-way d xs = let (f, e, k) = past-is plain xs in go f (past plain xs) e (k .all)
   where
     go : (f r : List ℕ) → xs ≡ f ++ r → All plain f → Way d d xs r
     go f r e h = rw e (way-plain d f r h)
 
--- up to the first marked byte, at places
+-- up to the first marked byte, at places, there is a way that leaves the depth as it is
 pub run-at : (d : ℕ) (s : List ℕ) (i r : ℕ) → drop r s ≡ past plain (drop i s) → Way d d (drop i s) (drop r s)
 run-at d s i r e = rw e (run-way d (drop i s))
 
--- a `(`
+-- a `(` is a way to one more open parenthesis
 open-way : (d : ℕ) (t : List ℕ) → Way d (suc d) (40 ∷ t) t
 open-way d t = way-byte d (suc d) 40 t (eqb-false 40 39 refl) (eqb-false 40 47 refl) (eqb-false 40 59 refl) refl
 
--- a `)` that closes what was opened on the way
+-- a `)` is a way to one open parenthesis fewer, where one is open
 close-way : (d : ℕ) (t : List ℕ) → Way (suc d) d (41 ∷ t) t
 close-way d t = way-byte (suc d) d 41 t (eqb-false 41 39 refl) (eqb-false 41 47 refl) (eqb-false 41 59 refl) refl
 
@@ -148,12 +148,12 @@ spoken-other c = go (eqb c 39) (eqb c 59) refl refl
     go false true p q h = clash (cc)
     go true b p q h = clash (cc)
 
--- such bytes are a string's inside
+-- bytes that are no quote and no `;` are a string's inside
 spoken-inside : (f : List ℕ) → All spoken f → Inside f
 spoken-inside [] h = Inside.none
 spoken-inside (c ∷ f) (h, t) = Inside.other (spoken-other c h .0) (spoken-inside f t)
 
--- a string without a `;`
+-- a string without a `;` and without a doubled quote is a way that leaves the depth as it is
 pub string-way : (d : ℕ) (f r : List ℕ) → All spoken f → (Begins 39 r → ⊥) → Way d d (39 ∷ (f ++ (39 ∷ r))) r
 string-way d f r h k =
     let q : Quotation (39 ∷ (f ++ (39 ∷ r))) r = record { body = f; inside = spoken-inside f h; shape = refl; single = k } in
@@ -166,18 +166,22 @@ string-way d f r h k =
           ∙ past-pass p (39 ∷ []) r (refl, tt);
     }
 
--- The same at places of the file.
+-- steps of the walk over a usual record, from the place i with d open parentheses
 module _ (s : List ℕ) (i d : ℕ) (h : i < length s) where
+  -- a `(` at i is a way to one more open parenthesis
   pub open-at : getD s i 0 ≡ 40 → Way d (d + 1) (drop i s) (drop (i + 1) s)
   open-at e = let n : d + 1 ≡ suc d = omega arith in rw (split s i h, e, n) (open-way d (drop (i + 1) s))
 
+  -- a `)` at i is a way to one open parenthesis fewer, where one is open
   pub close-at : getD s i 0 ≡ 41 → (d ≡ 0 → ⊥) → Way d (d - 1) (drop i s) (drop (i + 1) s)
   close-at e k = let n : suc (d - 1) ≡ d = omega arith in
       rw (split s i h, e) (rw n at (close-way (d - 1) (drop (i + 1) s)))
 
+  -- a byte at i that is none of the five marked ones is a way that leaves the depth as it is
   pub other-at : (getD s i 0 ≡ 39 → ⊥) → (getD s i 0 ≡ 40 → ⊥) → (getD s i 0 ≡ 41 → ⊥) → (getD s i 0 ≡ 47 → ⊥) → (getD s i 0 ≡ 59 → ⊥) → Way d d (drop i s) (drop (i + 1) s)
   other-at a b c e f = rw (split s i h) (way-other d (getD s i 0) (drop (i + 1) s) a b c e f)
 
+  -- a string from i up to its quote at q, with no `;` in it and no quote after it, is a way that leaves the depth as it is
   pub string-at : (q : ℕ) → getD s i 0 ≡ 39 → drop q s ≡ past spoken (drop (i + 1) s) → q < length s → getD s q 0 ≡ 39
       → (Begins 39 (drop (q + 1) s) → ⊥) → Way d d (drop i s) (drop (q + 1) s)
   string-at q e p k g o =
@@ -187,26 +191,29 @@ module _ (s : List ℕ) (i d : ℕ) (h : i < length s) where
       let v : drop i s ≡ 39 ∷ (f ++ (39 ∷ drop (q + 1) s)) = split s i h ∙ cc in
       rw v (string-way d f (drop (q + 1) s) (y .all) o)
 
--- bytes with one more at the end that is not of the kind
+-- bytes with one more at the end are not none
 snoc-none : (f : List ℕ) (b : ℕ) → f ++ (b ∷ []) ≡ [] → ⊥
 snoc-none [] b e = clash (cc)
 snoc-none (a ∷ f) b e = clash (cc)
 
--- such bytes do not end in one of the kind
+-- bytes with one more at the end that is not of the kind p do not end in a byte of that kind
 snoc-last : (p : ℕ → Bool) (f : List ℕ) (b : ℕ) → p b ≡ false → NotLast p (f ++ (b ∷ []))
 snoc-last p [] b h [] c e = ap p (cc) ∙ h
 snoc-last p [] b h (x ∷ r) c e = absurd (snoc-none r c (cc))
 snoc-last p (a ∷ f) b h [] c e = absurd (snoc-none f b (cc))
 snoc-last p (a ∷ f) b h (x ∷ r) c e = snoc-last p f b h r c (cc)
 
--- The whitespace at the end, sought from the end.
+-- the whitespace at a text's end, sought from the end
 module _ (t : List ℕ) where
+  -- where a white byte stands before the whitespace at the end, that byte belongs to it
   pub trim-more : (z : ℕ) → 0 < z → z ≤ length t → white (getD t (z - 1) 0) ≡ true → All white (drop z t) → All white (drop (z - 1) t)
   trim-more z h k w a = let n : z - 1 + 1 ≡ z = omega arith in rw (split t (z - 1) (omega arith), n) (w, a)
 
+  -- where all bytes from a place on are white, they are the whitespace at the end
   pub trim-none : (from : ℕ) → All white (drop from t) → drop from t ≡ trail (drop from t)
   trim-none from a = sym (trail-only [] (drop from t) (last-none white) a)
 
+  -- where a byte that is not white stands before z and all are white from z on, the whitespace at the end begins at z
   pub trim-here : (from z : ℕ) → from < z → z ≤ length t → white (getD t (z - 1) 0) ≡ false → All white (drop z t) → drop z t ≡ trail (drop from t)
   trim-here from z h k w a =
       let f : List ℕ = take (z - 1 - from) (drop from t) in
@@ -219,24 +226,26 @@ module _ (t : List ℕ) where
       sym (take-append-drop (z - 1 - from) (drop from t)) ∙ ap (λ (l : List ℕ). f ++ l) e ∙ sym (append-assoc f (b ∷ []) (drop z t)) in
       sym (ap trail g ∙ trail-only (f ++ (b ∷ [])) (drop z t) (snoc-last white f b w) a)
 
--- past whitespace from a place on, where the bytes from there were handed on as a part
+-- the place past whitespace, counted in a part that was handed on, is the one in the whole text
 pub space-at : (t : List ℕ) (from r : ℕ) → from ≤ length t → drop r (take (length t - from) (drop from t)) ≡ past white (take (length t - from) (drop from t))
     → drop (from + r) t ≡ past white (drop from t)
 space-at t from r h e =
     let n : take (length t - from) (drop from t) ≡ drop from t = take-all (length t - from) (drop from t) (omega (arith, length-drop from t)) in
     sym (drop-drop r from t) ∙ ap (drop r) (sym n) ∙ e ∙ ap (past white) n
 
--- where the walk stops at the closing `)`
+-- where a step of the walk stops at the closing `)`, the walk has its way up to there
 pub stop-at : (s : List ℕ) (from i j d : ℕ) → (j ≡ i) × (d ≡ 0) × (getD s i 0 ≡ 41) → from ≤ i → Way 0 d (drop from s) (drop i s)
     → (from ≤ j) × (getD s j 0 ≡ 41) × Way 0 0 (drop from s) (drop j s)
 stop-at s from i j d (e, z, g) h w = (omega arith, rw e g, rw e (rw z at w))
 
--- One byte of a run of plain bytes, at a place.
+-- one byte of a run of plain bytes, at the place i
 module _ (s : List ℕ) (i : ℕ) (h : i < length s) where
+  -- a run of plain bytes ends at a marked byte
   pub run-stops : mark (getD s i 0) ≡ true → drop i s ≡ past plain (drop i s)
   unfolding past
   run-stops e = past-stops s i h plain (past plain (drop i s)) (ap not e) refl
 
+  -- a run of plain bytes goes on after a byte that is not marked
   pub run-goes : mark (getD s i 0) ≡ false → past plain (drop (i + 1) s) ≡ past plain (drop i s)
   unfolding past
   run-goes e = past-goes s i h plain (past plain (drop i s)) (ap not e) refl

@@ -42,7 +42,7 @@ use Rattle.statement.specs.Usual.{plain, Way, Headed, Walked}
 use Rattle.statement.specs.UsualLaws.{plain-other, mark-open, way-on, run-at, open-at, close-at}
 use Rattle.statement.specs.declared.Section.the-variants.{InData}
 
--- what the walk finds is what the searches find
+-- what the walk over a usual record finds is what the searches find
 pub walked : (s : List ℕ) (p o c e : ℕ) → getD s p 0 ≡ 35 → drop o s ≡ past plain (drop p s) → p ≤ o → o < length s → getD s o 0 ≡ 40
     → (o + 1 ≤ c) × (getD s c 0 ≡ 41) × Way 0 0 (drop (o + 1) s) (drop c s) → c < length s
     → drop e s ≡ past plain (drop (c + 1) s) → c + 1 ≤ e → e < length s → getD s e 0 ≡ 59 → Walked s p o c e
@@ -95,7 +95,7 @@ module _ (s : List ℕ) (p o c e : ℕ) (w : Walked s p o c e) where
       let m : e - p ≡ length t + suc (e - o - 1) = omega arith in
       ap (λ (k : ℕ). take k (drop p s)) m ∙ ap (take (length t + suc (e - o - 1))) x ∙ take-append-add t (40 ∷ drop (o + 1) s) (suc (e - o - 1))
 
-  -- it is no section word
+  -- a usual record's text is no section word
   word-is : Other ≡ wordOf (take (e - p) (drop p s))
   word-is =
       let a = w .from in let b = w .over in let d = w .upto in let f = w .within in
@@ -114,17 +114,17 @@ module _ (s : List ℕ) (p o c e : ℕ) (w : Walked s p o c e) where
       section-data s p e (omega arith) (omega arith) (good r) q ∙ worded-at s p e (omega arith) (omega arith) InData Other word-is
       ∙ begun-found s p InData (omega arith) e g
 
-  -- its arguments run up to the closing `)`
+  -- a usual record's arguments run up to the closing `)`
   argued-is : (f : ℕ → Row) → good (f c) ≡ argued s (drop o s) f
   argued-is f = let a = w .upto in let b = w .within in
       sym (ap (λ (x : Sought). mapped f (placed s x)) (w .closed) ∙ ap (λ (k : ℕ). good (f k)) (place-drop s c (omega arith)))
 
-  -- it is tidy where its `)` stands just before its `;`, whatever else is in its row
+  -- a usual record is tidy where its `)` stands just before its `;`, whatever else is in its row
   pub tidy-walked : eqb (c + 1) e ≡ tidy s (record′ (row 0 0 0 0 c 0) (drop p s) (drop (e + 1) s))
   tidy-walked = let d = w .within in
       rw (w .first, place-drop s e (omega arith), place-drop s (e + 1) (omega arith), eq-eqb (e + 1) (e + 1) refl) refl
 
-  -- a complex record
+  -- a usual record with a complex record's head is the statement that begins at p
   pub complex-said : (i k : ℕ) → Headed (take (o - p) (drop p s)) (Complex i k) → record′ (row i 0 0 (o + 1) c 1) (drop p s) (drop (e + 1) s) ≡ begun s InData (drop p s)
   complex-said i k (z, h) =
       let a = w .from in let b = w .over in let d = w .upto in let f = w .within in
@@ -133,7 +133,7 @@ module _ (s : List ℕ) (p o c e : ℕ) (w : Walked s p o c e) where
       said (row i 0 0 (o + 1) c 1) (argued-is (λ q. row i 0 0 (o + 1) q 1)
       ∙ (rw m at (record-complex s (take (e - p) (drop p s)) p i k (omega arith) (ap dataHead body-is ∙ sym (h _)))))
 
-  -- a simple one
+  -- a usual record with a simple record's head is the statement that begins at p
   pub simple-said : (i x y k : ℕ) → Headed (take (o - p) (drop p s)) (Simple i x y k) → record′ (row i (p + x) (p + y) (o + 1) c 0) (drop p s) (drop (e + 1) s) ≡ begun s InData (drop p s)
   simple-said i x y k (u, v, z, h) =
       let a = w .from in let b = w .over in let d = w .upto in let f = w .within in
@@ -142,7 +142,7 @@ module _ (s : List ℕ) (p o c e : ℕ) (w : Walked s p o c e) where
       said (row i (p + x) (p + y) (o + 1) c 0) (argued-is (λ q. row i (p + x) (p + y) (o + 1) q 0)
       ∙ (rw m at (record-simple s (take (e - p) (drop p s)) p i x y k (omega arith) (omega arith) (omega arith) (ap dataHead body-is ∙ sym (h _)))))
 
-  -- the head's places lie before the `(`
+  -- the places of a simple record's head lie before its `(`
   pub head-fits : (i x y k : ℕ) → Headed (take (o - p) (drop p s)) (Simple i x y k) → (p + x ≤ o) × (p + y ≤ o)
   head-fits i x y k (u, v, z, h) =
       let a = w .from in let b = w .over in let d = w .upto in let f = w .within in
@@ -154,7 +154,7 @@ pub blanks : (f r : List ℕ) → All white f → Trivia (f ++ r) r
 blanks [] r h = Trivia.none
 blanks (c ∷ f) r (h, t) = Trivia.blank h (blanks f r t)
 
--- past whitespace, before a byte that opens no comment
+-- past whitespace, before a byte that opens no comment, the trivia end
 pub lead-at : (s : List ℕ) (i p : ℕ) → drop p s ≡ past white (drop i s) → p < length s → (getD s p 0 ≡ 47 → ⊥) → good p ≡ placed s (trivia (drop i s))
 lead-at s i p e h k =
     let (f, x, y) = past-is white (drop i s) in

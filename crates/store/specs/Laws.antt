@@ -26,7 +26,7 @@ recordsIn : Told Counts → ℕ
 recordsIn (good c) = c .records
 recordsIn (bad q) = 0
 
--- a scan that gives rows gives a table
+-- a scan whose answer has counts gives a table with so many records
 pub counted : (a : Told Table) (h r m : ℕ) → good (counts h r m) ≡ mapped countsOf a → (t : Table) × (a ≡ good t) × (r ≡ length (t .records))
 unfolding recordsIn
 counted (good t) h r m e = (t, refl, ap recordsIn e)

@@ -17,12 +17,12 @@ use Rattle.store.specs.Store.{toldOpened, Indexed, Opens}
 use Rattle.store.specs.declared.Opened.{Opened}
 use Rattle.store.specs.declared.Opened.the-variants.{Good, Refused}
 
--- the counts of an answer; none of a refusal
+-- the counts that an answer tells; none for a refusal
 countsIn : Told Counts → Counts
 countsIn (good c) = c
 countsIn (bad q) = counts 0 0 0
 
--- the fault of a refusal
+-- the fault that an answer tells, or else another
 faultIn : Fault → Told Counts → Fault
 faultIn f (good c) = f
 faultIn f (bad q) = faultOf q
@@ -57,7 +57,7 @@ same-index rows old xs ys (Refused f) (Refused k) e h g =
 same-index rows old xs ys (Good t) (Refused k) e h g = let z : _≡_ {A = ℕ} 0 1 = cc in absurd (omega arith)
 same-index rows old xs ys (Refused f) (Good u) e h g = let z : _≡_ {A = ℕ} 0 1 = cc in absurd (omega arith)
 
--- `open`
+-- `open` has one answer, and leaves one list of header rows, one of data rows and one of slots
 pub opened-only : (s heads rows slots : List ℕ) (a b : Opened) (ha hb ra rb xa xb : List ℕ) → Opens s heads rows slots a ha ra xa → Opens s heads rows slots b hb rb xb
     → (a ≡ b) × (ha ≡ hb) × (ra ≡ rb) × (xa ≡ xb)
 opened-only s heads rows slots a b ha hb ra rb xa xb p q =

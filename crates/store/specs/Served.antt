@@ -52,11 +52,11 @@ module _ (t : Table) (old : List ℕ) where
         ap (rowFound rowsOf) (open-right rowsOf before slots (length (t .records)) k b served-room built)
         ∙ found-last (t .records) old k (lookupOf (idOf rowsOf) (length (t .records)) k) (lookup-is (idOf rowsOf) (length (t .records)) k)
 
-    -- the same without a loop: it is the last record of that id, or the file has none
+    -- what lookup serves is, by the rules, the last record of that id in the file, or the file has none
     pub served-form : (k : ℕ) → LastForm k (t .records) (rowFound rowsOf (searched rowsOf slots b k))
     served-form k = subst (LastForm k (t .records)) (sym (served-is k)) (last-is k (t .records))
 
--- of all that opening a file leaves: the file has records, and what lookup serves over them is the last of that id, or none
+-- over all that opening a file leaves, the file has records, and what lookup serves is the last of that id, or none
 pub opened-served : (s heads rows slots : List ℕ) (a : Tables) (heads′ rows′ slots′ : List ℕ) → Opens s heads rows slots (Good a) heads′ rows′ slots′
     → (t : Table) × (scanInto s heads rows slots ≡ good t) × ((k : ℕ) → rowFound rows′ (searched rows′ slots′ (a .ids) k) ≡ lastOf k (t .records))
 opened-served s heads rows slots a heads′ rows′ slots′ o =

@@ -20,7 +20,7 @@ abbrev pub toldOpened : Opened → Told Counts
 toldOpened (Good t) = good (counts (t .headers) (t .records) (t .max))
 toldOpened (Refused f) = bad (told f)
 
--- the slots after it: the index of all records, with what stands beside it; a refusal leaves them as they were
+-- the slots after `open`: the index of all records, with what stands beside it; a refusal leaves them as they were
 abbrev pub Indexed : Opened → List ℕ → List ℕ → List ℕ → Type 0
 Indexed (Good t) rows old new = Built (idOf rows) (t .records) old new (t .ids)
 Indexed (Refused f) rows old new = new ≡ old

@@ -13,13 +13,13 @@ use Rattle.statement.specs.Rows.{Row, HeaderRow}
 use Rattle.table.specs.Table.{rowsFit, headersFit, field, rowNumbers, headerNumbers, six, four, flat, laid, rowsLaid, headersLaid, rowPut, headerPut}
 use Rattle.table.specs.Laws.{field-there, put-there, row-same, header-same}
 
--- the flat rows with one row more
+-- the numbers of rows with one row more are those of the rows and then those of that row
 flat-more : {A : Type 0} (f : A → List ℕ) (ws : List A) (w : A) → flat f (ws ++ (w ∷ [])) ≡ flat f ws ++ f w
 unfolding flat
 flat-more f [] w = append-nil (f w)
 flat-more f (v ∷ ws) w = ap (λ (l : List ℕ). f v ++ l) (flat-more f ws w) ∙ sym (append-assoc (f v) (flat f ws) (f w))
 
--- so many rows of n numbers each
+-- the numbers of rows of n numbers each are n times as many as the rows
 flat-length : {A : Type 0} (n : ℕ) (f : A → List ℕ) → ((w : A) → length (f w) ≡ n) → (ws : List A) → length (flat f ws) ≡ length ws * n
 unfolding flat
 flat-length n f e [] = omega arith
@@ -42,11 +42,11 @@ laid-more n f e ws w old h =
     (sets-eq (f w) (laid l old) (length l) m
     ∙ rw (take-append-seam l (drop (length l) old), drop-append-add l (drop (length l) old) (length (f w)), d) refl))
 
--- the memory is as long as before, where the rows fit
+-- the memory is as long as before rows were laid, where they fit
 laid-length : {A : Type 0} (n : ℕ) (f : A → List ℕ) → ((w : A) → length (f w) ≡ n) → (ws : List A) (old : List ℕ) → length ws * n ≤ length old → length (laid (flat f ws) old) ≡ length old
 laid-length n f e ws old h = let k = flat-length n f e ws in omega (arith, k, length-append (flat f ws) (drop (length (flat f ws)) old), length-drop (length (flat f ws)) old)
 
--- a row below the number of rows is one of them
+-- a number below the number of rows is that of one of them
 there : {A : Type 0} (ws : List A) (r : ℕ) → r < length ws → (w : A) × (getElem? ws r ≡ some w)
 there [] r h = absurd (omega arith)
 there (w ∷ ws) zero h = (w, refl)
@@ -73,22 +73,22 @@ flat-at n f e (v ∷ ws) rest (suc r) w g i h =
     ∙ flat-at n f e ws rest r w g i h
 
 -- ---- data rows
--- no row is laid, and nothing changes
+-- where no data row is laid, the memory is as it was
 pub rows-laid-none : (old : List ℕ) → rowsLaid [] old ≡ old
 unfolding flat
 rows-laid-none old = refl
 
--- one row more is put behind those that were laid
+-- one data row more is put behind those that were laid
 pub rows-laid-more : (ws : List Row) (w : Row) (old : List ℕ) → length ws < rowsFit (length old) → rowsLaid (ws ++ (w ∷ [])) old ≡ rowPut (rowsLaid ws old) (length ws) w
 rows-laid-more ws w old h =
     let l : length (rowsLaid ws old) ≡ length old = laid-length 6 six (λ v. refl) ws old (omega (arith, h)) in
     laid-more 6 six (λ v. refl) ws w old (omega (arith, h)) ∙ sym (put-there 6 (rowsLaid ws old) (length ws) (omega (arith, h, l)) (six w))
 
--- the memory keeps its length, where the rows fit
+-- the memory keeps its length where data rows are laid that fit
 pub rows-laid-length : (ws : List Row) (old : List ℕ) → length ws ≤ rowsFit (length old) → length (rowsLaid ws old) ≡ length old
 rows-laid-length ws old h = laid-length 6 six (λ v. refl) ws old (omega (arith, h))
 
--- whether or not they fit, the memory then has so many rows
+-- after data rows were laid, whether or not they fit, the memory has so many rows
 pub rows-laid-in : (ws : List Row) (old : List ℕ) → length ws ≤ rowsFit (length (rowsLaid ws old))
 rows-laid-in ws old = let k = flat-length 6 six (λ v. refl) ws in omega (arith, k, length-append (flat six ws) (drop (length (flat six ws)) old))
 
@@ -102,18 +102,22 @@ row-is ws old r h =
     g ∙ ap some (sym (row-same (on 0 (omega arith)) (on 1 (omega arith)) (on 2 (omega arith)) (on 3 (omega arith)) (on 4 (omega arith)) (on 5 (omega arith))))
 
 -- ---- header rows
+-- where no header row is laid, the memory is as it was
 pub headers-laid-none : (old : List ℕ) → headersLaid [] old ≡ old
 unfolding flat
 headers-laid-none old = refl
 
+-- one header row more is put behind those that were laid
 pub headers-laid-more : (ws : List HeaderRow) (w : HeaderRow) (old : List ℕ) → length ws < headersFit (length old) → headersLaid (ws ++ (w ∷ [])) old ≡ headerPut (headersLaid ws old) (length ws) w
 headers-laid-more ws w old h =
     let l : length (headersLaid ws old) ≡ length old = laid-length 4 four (λ v. refl) ws old (omega (arith, h)) in
     laid-more 4 four (λ v. refl) ws w old (omega (arith, h)) ∙ sym (put-there 4 (headersLaid ws old) (length ws) (omega (arith, h, l)) (four w))
 
+-- the memory keeps its length where header rows are laid that fit
 pub headers-laid-length : (ws : List HeaderRow) (old : List ℕ) → length ws ≤ headersFit (length old) → length (headersLaid ws old) ≡ length old
 headers-laid-length ws old h = laid-length 4 four (λ v. refl) ws old (omega (arith, h))
 
+-- after header rows were laid, whether or not they fit, the memory has so many rows
 pub headers-laid-in : (ws : List HeaderRow) (old : List ℕ) → length ws ≤ headersFit (length (headersLaid ws old))
 headers-laid-in ws old = let k = flat-length 4 four (λ v. refl) ws in omega (arith, k, length-append (flat four ws) (drop (length (flat four ws)) old))
 

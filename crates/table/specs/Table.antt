@@ -12,10 +12,11 @@ use lib.Seq.{sets}
 use Rattle.common.specs.Pick.{pick}
 use Rattle.statement.specs.Rows.{Row, row, HeaderRow, headerRow}
 
--- how many numbers a data row has, and a header row
+-- how many numbers a data row has
 abbrev pub rowWidth : ℕ
 rowWidth = 6
 
+-- how many numbers a header row has
 abbrev pub headerWidth : ℕ
 headerWidth = 4
 
@@ -23,7 +24,7 @@ headerWidth = 4
 abbrev pub rowsFit : ℕ → ℕ
 rowsFit n = n / 6
 
--- how many header rows, four a row
+-- how many header rows lie in so many numbers, four a row
 abbrev pub headersFit : ℕ → ℕ
 headersFit n = n / 4
 
@@ -31,7 +32,7 @@ headersFit n = n / 4
 abbrev pub tableRows : List ℕ → ℕ → ℕ
 tableRows rows n = min n (rowsFit (length rows))
 
--- how many header rows
+-- how many header rows a table has: as many as are told, where the numbers suffice
 abbrev pub headerRows : List ℕ → ℕ → ℕ
 headerRows heads n = min n (headersFit (length heads))
 
@@ -39,7 +40,7 @@ headerRows heads n = min n (headersFit (length heads))
 abbrev pub field : ℕ → List ℕ → ℕ → ℕ → ℕ
 field w xs k i = pick (ltb k (length xs / w)) (getD xs (k * w + i) 0) 0
 
--- the id of row k
+-- the id of data row k of a table
 abbrev pub idOf : List ℕ → ℕ → ℕ
 idOf rows k = field 6 rows k 0
 
@@ -47,7 +48,7 @@ idOf rows k = field 6 rows k 0
 abbrev pub rowNumbers : List ℕ → ℕ → Row
 rowNumbers rows k = row (idOf rows k) (field 6 rows k 1) (field 6 rows k 2) (field 6 rows k 3) (field 6 rows k 4) (field 6 rows k 5)
 
--- header row k: keyword start and end, argument start and end
+-- header row k of a table: keyword start and end, argument start and end
 abbrev pub headerNumbers : List ℕ → ℕ → HeaderRow
 headerNumbers heads k = headerRow (field 4 heads k 0) (field 4 heads k 1) (field 4 heads k 2) (field 4 heads k 3)
 
@@ -55,11 +56,11 @@ headerNumbers heads k = headerRow (field 4 heads k 0) (field 4 heads k 1) (field
 abbrev pub six : Row → List ℕ
 six w = w .id ∷ w .keyStart ∷ w .keyEnd ∷ w .argStart ∷ w .argEnd ∷ w .complex ∷ []
 
--- the four numbers of a header row
+-- the four numbers of a header row, in document 01's order
 abbrev pub four : HeaderRow → List ℕ
 four w = w .keyStart ∷ w .keyEnd ∷ w .argStart ∷ w .argEnd ∷ []
 
--- rows one after the other
+-- the numbers of rows, one row after the other
 unfoldable pub flat : {A : Type 0} → (A → List ℕ) → List A → List ℕ
 flat f [] = []
 flat f (w ∷ ws) = f w ++ flat f ws
@@ -72,7 +73,7 @@ laid new old = new ++ drop (length new) old
 abbrev pub rowsLaid : List Row → List ℕ → List ℕ
 rowsLaid ws old = laid (flat six ws) old
 
--- the memory after these header rows were laid
+-- the memory after these header rows were laid at its start
 abbrev pub headersLaid : List HeaderRow → List ℕ → List ℕ
 headersLaid ws old = laid (flat four ws) old
 
@@ -92,11 +93,11 @@ headerPut heads k w = putAt 4 heads k (four w)
 abbrev pub narrow : ℕ → ℕ
 narrow p = p % 4294967296
 
--- a data row with its places so
+-- a data row with its places as numbers of 32 bits
 abbrev pub narrowRow : Row → Row
 narrowRow w = row (w .id) (narrow (w .keyStart)) (narrow (w .keyEnd)) (narrow (w .argStart)) (narrow (w .argEnd)) (w .complex)
 
--- a header row with its places so
+-- a header row with its places as numbers of 32 bits
 abbrev pub narrowHeader : HeaderRow → HeaderRow
 narrowHeader w = headerRow (narrow (w .keyStart)) (narrow (w .keyEnd)) (narrow (w .argStart)) (narrow (w .argEnd))
 

@@ -7,19 +7,19 @@ use Rattle.words.specs.Answer.{Shown, inFile, inRoom}
 use Rattle.titles.specs.Title.{toldTitle}
 use Rattle.titles.specs.declared.Title as TitleCode
 
--- the answer that tells this
+-- the code's answer that tells this text or refusal
 titleBack : Told Shown → TitleCode.Title
 titleBack (good (inFile a)) = TitleCode.the-variants.InFile (a .start) (a .stop)
 titleBack (good (inRoom n)) = TitleCode.the-variants.InRoom n
 titleBack (bad q) = TitleCode.the-variants.Refused (faultOf q)
 
--- it is the answer that told it
+-- what an answer about a header's text tells gives back that answer
 title-told : (a : TitleCode.Title) → titleBack (toldTitle a) ≡ a
 unfolding titleBack
 title-told (TitleCode.the-variants.InFile a z) = refl
 title-told (TitleCode.the-variants.InRoom n) = refl
 title-told (TitleCode.the-variants.Refused f) = ap TitleCode.the-variants.Refused (faultOf-told f)
 
--- `file_name`, `originating_system`
+-- `file_name` and `originating_system` have one answer: two that tell the same are one
 pub title-only : (a b : TitleCode.Title) → toldTitle a ≡ toldTitle b → a ≡ b
 title-only a b e = sym (title-told a) ∙ ap titleBack e ∙ title-told b

@@ -31,16 +31,16 @@ pub record Owes (n m : ℕ) (o q : List ℕ) (r : Told Shown) : Type 0 where
   pub number : (f : Refusal) → r ≡ bad f → (f .number ≡ 9) ⊎ (f .number ≡ 16)
   pub kept : (f : Refusal) → r ≡ bad f → q ≡ o
 
--- a text that is no refusal
+-- a text in the file or in the room is what an answer owes
 owes-good : {n m : ℕ} {o q : List ℕ} (x : Shown) → ShownIn n m x → Owes n m o q (good x)
 owes-good x h = record { lies = h; number = λ f e. clash (cc); kept = λ f e. clash (cc) }
 
--- a refusal
+-- a refusal 9 or 16 at a place in the file, with the room as it was, is what an answer owes
 owes-bad : {n m : ℕ} {o q : List ℕ} (f : Refusal) → f .place ≤ n → (f .number ≡ 9) ⊎ (f .number ≡ 16) → q ≡ o → Owes n m o q (bad f)
 owes-bad f h (inl k) l = record { lies = h; number = λ g e. let z : f ≡ g = cc in inl (sym (ap (λ (x : Refusal). x .number) z) ∙ k); kept = λ g e. l }
 owes-bad f h (inr k) l = record { lies = h; number = λ g e. let z : f ≡ g = cc in inr (sym (ap (λ (x : Refusal). x .number) z) ∙ k); kept = λ g e. l }
 
--- a parameter's text: 16 alone refuses
+-- a parameter's text, where 16 alone refuses, is what an answer owes
 as-title : {n m : ℕ} {o q : List ℕ} (a : Told Shown) → ToldIn n (ShownIn n m) a → ((f : Refusal) → a ≡ bad f → q ≡ o) → Owes n m o q (asTitle a)
 as-title (good x) h k = owes-good x h
 as-title {n} {m} {o} {q} (bad f) h k = go (eqb (f .number) 16) refl
@@ -49,7 +49,7 @@ as-title {n} {m} {o} {q} (bad f) h k = go (eqb (f .number) 16) refl
     go true e = owes-bad f h (inr (eqb-true (f .number) 16 e)) (k f refl)
     go false e = owes-good empty (omega arith, omega arith)
 
--- the text after k parameters of a span
+-- the text after k parameters of a span is what an answer owes
 title-in : (s o : List ℕ) (k p e : ℕ) → Owes (length s) (length o) o (roomIn s o k p e) (titleIn s (length o) k p e)
 unfolding titleIn roomIn
 title-in s o k p e = go (skipsOf k s p e .answer)
@@ -61,7 +61,7 @@ title-in s o k p e = go (skipsOf k s p e .answer)
         as-title (mapped (stringAt s (length o)) (paramOf s p′ e′) .answer) (text-in s o p′ e′) (text-kept s o p′ e′)
     go (bad q) = owes-good empty (omega arith, omega arith)
 
--- a header record's arguments: 9 at 0 alone refuses
+-- a header record's arguments are refused with 9 at 0 alone
 args-bad : (n : ℕ) (heads : List ℕ) (i : Option ℕ) (f : Refusal) → headerArgs n (headerNumbers heads) i ≡ bad f → f ≡ refusal 9 0 0
 args-bad n heads none f h = clash (cc)
 args-bad n heads (some i) f h = go (rows.spanFine n (headerNumbers heads i .argStart) (headerNumbers heads i .argEnd)) h
@@ -70,7 +70,7 @@ args-bad n heads (some i) f h = go (rows.spanFine n (headerNumbers heads i .argS
     go true k = clash (cc)
     go false k = cc
 
--- `file_name`, `originating_system`
+-- the answers of `file_name` and `originating_system` are what an answer owes
 pub title-owes : (s o heads : List ℕ) (k : ℕ) (i : Option ℕ) → Owes (length s) (length o) o (roomBy s o k (headerArgs (length s) (headerNumbers heads) i)) (titleBy s (length o) k (headerArgs (length s) (headerNumbers heads) i))
 title-owes s o heads k i = go (headerArgs (length s) (headerNumbers heads) i) refl
   where

@@ -16,7 +16,7 @@ use Rattle.words.specs.Answer.{Shown, inFile, inRoom}
 use Rattle.lookup.specs.Lookup as rows
 use Rattle.titles.specs.declared.Title as TitleCode
 
--- `FILE_NAME`
+-- the bytes of `FILE_NAME`
 abbrev pub fileName : List ℕ
 fileName = 70 ∷ 73 ∷ 76 ∷ 69 ∷ 95 ∷ 78 ∷ 65 ∷ 77 ∷ 69 ∷ []
 
@@ -24,7 +24,7 @@ fileName = 70 ∷ 73 ∷ 76 ∷ 69 ∷ 95 ∷ 78 ∷ 65 ∷ 77 ∷ 69 ∷ []
 abbrev pub empty : Shown
 empty = inFile (span 0 0)
 
--- a text, and the empty one for a parameter that is none; 16 refuses
+-- a parameter's text, the empty one for a parameter that is no text; 16 refuses
 abbrev pub asTitle : Told Shown → Told Shown
 asTitle (good x) = good x
 asTitle (bad q) = pick (eqb (q .number) 16) (bad q) (good empty)
@@ -38,28 +38,28 @@ skipped s n (bad q) p e = good empty
 unfoldable pub titleIn : List ℕ → ℕ → ℕ → ℕ → ℕ → Told Shown
 titleIn s n k p e = skipped s n (skipsOf k s p e .answer) (skipsOf k s p e .place) (skipsOf k s p e .end)
 
--- the lent output afterwards
+-- the lent output after the text that follows the parameters that were passed
 abbrev pub roomSkipped : List ℕ → List ℕ → Told (Unit {0}) → ℕ → ℕ → List ℕ
 roomSkipped s o (good u) p e = roomOf s o (paramOf s p e .answer)
 roomSkipped s o (bad q) p e = o
 
--- the same from a span's start
+-- the lent output after the text that stands after k parameters of a span
 unfoldable pub roomIn : List ℕ → List ℕ → ℕ → ℕ → ℕ → List ℕ
 roomIn s o k p e = roomSkipped s o (skipsOf k s p e .answer) (skipsOf k s p e .place) (skipsOf k s p e .end)
 
--- the text of a header record, where there is one
+-- the text that the arguments of a header record give; the empty one where there is no such record
 abbrev pub titleBy : List ℕ → ℕ → ℕ → Told (Option rows.Span) → Told Shown
 titleBy s n k (good none) = good empty
 titleBy s n k (good (some a)) = titleIn s n k (a .start) (a .end)
 titleBy s n k (bad q) = bad q
 
--- the lent output afterwards
+-- the lent output after the text that the arguments of a header record give
 abbrev pub roomBy : List ℕ → List ℕ → ℕ → Told (Option rows.Span) → List ℕ
 roomBy s o k (good none) = o
 roomBy s o k (good (some a)) = roomIn s o k (a .start) (a .end)
 roomBy s o k (bad q) = o
 
--- what the code's answer says
+-- what the code's answer about a header's text says: where it stands, or a refusal
 abbrev pub toldTitle : TitleCode.Title → Told Shown
 toldTitle (TitleCode.the-variants.InFile a z) = good (inFile (span a z))
 toldTitle (TitleCode.the-variants.InRoom n) = good (inRoom n)

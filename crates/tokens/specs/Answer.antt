@@ -24,7 +24,7 @@ pub data Rest : Type 0 where
   ends : List ℕ → Rest
   never : Rest
 
--- what the code's answer says, of the bytes s
+-- what the code's answer about an end says, of the bytes s: the rest after it, or that it never comes
 abbrev pub toldPast : List ℕ → Past → Rest
 toldPast s (At p) = ends (drop p s)
 toldPast s Never = never

@@ -28,38 +28,38 @@ use Rattle.tokens.specs.Answer.{fromByte, heads, Rest, ends, never}
 leap-deaf : Deaf leapTurn leapEnd (λ m. m)
 leap-deaf = record { quiet = λ m c r h. rw h; starred = refl }
 
--- after a string
+-- after the quote that ends a string, and that no quote follows, the string is left
 quoted-ends : (r : List ℕ) → (Begins 39 r → ⊥) → walk leapTurn leapEnd Quoted r ≡ ends r
 unfolding walk
 quoted-ends [] h = refl
 quoted-ends (c ∷ r) h = rw (ne-eqb c 39 (λ e. h (r, cc)))
 
--- after a comment
+-- outside strings and comments, what was opened has been left
 plain-ends : (r : List ℕ) → walk leapTurn leapEnd Plain r ≡ ends r
 unfolding walk
 plain-ends [] = refl
 plain-ends (c ∷ r) = refl
 
--- a string that ends is left there
+-- a string that ends by the grammar is left where it ends
 pub string-only : {t r : List ℕ} → Quotation (39 ∷ t) r → stringRest t ≡ ends r
 unfolding stringRest
 string-only {t} {r} q =
     let e : t ≡ q .body ++ (39 ∷ r) = cc (q .shape) in
     rw e (text-ends leapTurn leapEnd (λ m. m) leap-deaf r (q .inside) ∙ quoted-ends r (q .single))
 
--- a string that never ends is never left
+-- a string that never ends by the grammar is never left
 pub string-never-only : {t : List ℕ} → OpenText (39 ∷ t) → stringRest t ≡ never
 unfolding stringRest
 string-never-only {t} h = let (u, e, i) = open-text h in let f : t ≡ u = cc in rw f (text-over leapTurn leapEnd (λ m. m) leap-deaf i)
 
--- a comment that ends is left there
+-- a comment that ends by the grammar is left where it ends
 pub comment-only : {t r : List ℕ} → Comment (47 ∷ 42 ∷ t) r → commentRest t ≡ ends r
 unfolding commentRest
 comment-only {t} {r} q =
     let e : t ≡ q .body ++ (42 ∷ 47 ∷ r) = cc (q .shape) in
     rw e (remark-shut leapTurn leapEnd (λ m. m) leap-deaf (q .body) r (q .first) ∙ plain-ends r)
 
--- a comment that never ends is never left
+-- a comment that never ends by the grammar is never left
 pub comment-never-only : {t : List ℕ} → OpenRemark (47 ∷ 42 ∷ t) → commentRest t ≡ never
 unfolding commentRest
 comment-never-only {t} h = let (u, e, i) = open-remark h in let f : t ≡ u = cc in rw f (remark-open leapTurn leapEnd (λ m. m) leap-deaf u i)
@@ -69,7 +69,7 @@ pub data Spells (t : List ℕ) : Type 0 where
   whole : {r : List ℕ} → Quotation (39 ∷ t) r → Spells t
   cut : OpenText (39 ∷ t) → Spells t
 
--- every string comes to one of these
+-- every string ends, or never does
 pub spells : (t : List ℕ) → Spells t
 spells t = go (39 ∷ t) refl (tokens (39 ∷ t))
   where
@@ -81,12 +81,12 @@ spells t = go (39 ∷ t) refl (tokens (39 ∷ t))
     go xs e (Reads.text q) = Spells.cut (rw e at q)
     go xs e (Reads.remark ((r, f), h)) = absurd (eqb-false 39 47 refl (cc))
 
--- what becomes of a comment
+-- what becomes of a comment: it ends, or it never does
 pub data Remarks (t : List ℕ) : Type 0 where
   whole : {r : List ℕ} → Comment (47 ∷ 42 ∷ t) r → Remarks t
   cut : OpenRemark (47 ∷ 42 ∷ t) → Remarks t
 
--- and every comment
+-- every comment ends, or never does
 pub remarks : (t : List ℕ) → Remarks t
 remarks t = go (47 ∷ 42 ∷ t) refl (tokens (47 ∷ 42 ∷ t))
   where
@@ -98,7 +98,7 @@ remarks t = go (47 ∷ 42 ∷ t) refl (tokens (47 ∷ 42 ∷ t))
     go xs e (Reads.text ((r, f), h)) = absurd (eqb-false 39 47 refl (cc))
     go xs e (Reads.remark q) = Remarks.cut (rw e at q)
 
--- where a string is left, it is one
+-- where a string is left, it ends by the grammar
 pub string-is : (t r : List ℕ) → stringRest t ≡ ends r → Quotation (39 ∷ t) r
 string-is t r e = go (spells t)
   where
@@ -106,7 +106,7 @@ string-is t r e = go (spells t)
     go (Spells.whole {r = z} q) = let f : r ≡ z = cc (string-only q) in rw f q
     go (Spells.cut q) = clash (cc (string-never-only q))
 
--- where it is never left, it is open
+-- a string that is never left never ends by the grammar
 pub string-never : (t : List ℕ) → stringRest t ≡ never → OpenText (39 ∷ t)
 string-never t e = go (spells t)
   where
@@ -114,7 +114,7 @@ string-never t e = go (spells t)
     go (Spells.whole q) = clash (cc (string-only q))
     go (Spells.cut q) = q
 
--- where a comment is left, it is one
+-- where a comment is left, it ends by the grammar
 pub comment-is : (t r : List ℕ) → commentRest t ≡ ends r → Comment (47 ∷ 42 ∷ t) r
 comment-is t r e = go (remarks t)
   where
@@ -122,7 +122,7 @@ comment-is t r e = go (remarks t)
     go (Remarks.whole {r = z} q) = let f : r ≡ z = cc (comment-only q) in rw f q
     go (Remarks.cut q) = clash (cc (comment-never-only q))
 
--- where it is never left, it is open
+-- a comment that is never left never ends by the grammar
 pub comment-never : (t : List ℕ) → commentRest t ≡ never → OpenRemark (47 ∷ 42 ∷ t)
 comment-never t e = go (remarks t)
   where
@@ -130,22 +130,22 @@ comment-never t e = go (remarks t)
     go (Remarks.whole q) = clash (cc (comment-only q))
     go (Remarks.cut q) = q
 
--- the byte is found
+-- where the byte b stands at i, the first b from i on is there
 pub byte-here : (b : ℕ) (s : List ℕ) (i : ℕ) → i < length s → getD s i 0 ≡ b → drop i s ≡ fromByte b (drop i s)
 unfolding fromByte
 byte-here b s i h e = rw (split s i h) (rw (eq-eqb (getD s i 0) b e) refl)
 
--- or another byte stands there
+-- where another byte stands at i, the first b from i on is the first from the next on
 pub byte-next : (b : ℕ) (s : List ℕ) (i : ℕ) → i < length s → (getD s i 0 ≡ b → ⊥) → fromByte b (drop (i + 1) s) ≡ fromByte b (drop i s)
 unfolding fromByte
 byte-next b s i h e = rw (split s i h) (rw (ne-eqb (getD s i 0) b e) refl)
 
--- or there is none
+-- past the bytes' end there is no b
 pub byte-none : (b : ℕ) (s : List ℕ) (i : ℕ) → length s ≤ i → drop i s ≡ fromByte b (drop i s)
 unfolding fromByte
 byte-none b s i h = rw (drop-end s i h) refl
 
--- bytes that are not b are passed
+-- bytes that are not b are passed over in the search for b
 byte-lacks : (b : ℕ) (s : List ℕ) (n i : ℕ) → i + n ≤ length s → Lacks b s i (i + n) → fromByte b (drop (i + n) s) ≡ fromByte b (drop i s)
 unfolding Lacks
 byte-lacks b s zero i h f = let e : i + 0 ≡ i = omega arith in ap (λ (k : ℕ). fromByte b (drop k s)) e
@@ -173,7 +173,7 @@ byte-stopped b s start r h = here (leb (length s) r) refl ∙ passed ∙ ap (fro
         let e : i + (r - i) ≡ r = omega arith in
         ap (λ (k : ℕ). fromByte b (drop k s)) (sym e) ∙ byte-lacks b s (r - i) i (omega arith) (subst (λ (k : ℕ). Lacks b s i k) (sym e) (h .lacks))
 
--- what is found begins with the byte
+-- what is found in the search for b begins with b
 pub byte-found : (b : ℕ) (xs : List ℕ) (c : ℕ) (r : List ℕ) → fromByte b xs ≡ c ∷ r → c ≡ b
 unfolding fromByte
 byte-found b [] c r e = clash (cc)
@@ -183,7 +183,7 @@ byte-found b (x ∷ xs) c r e = go (eqb x b) refl e (byte-found b xs c r)
     go true h e ih = let f : x ≡ b = eqb-true x b h in cc
     go false h e ih = ih e
 
--- a comment goes on to its next star
+-- in a comment the end is sought on from the next star
 comment-skips : (xs : List ℕ) → commentRest xs ≡ commentRest (fromByte 42 xs)
 unfolding commentRest walk fromByte
 comment-skips [] = refl
@@ -194,50 +194,53 @@ comment-skips (c ∷ r) = go (eqb c 42) refl (comment-skips r)
     go true e ih = rw e refl
     go false e ih = ih
 
--- where the bytes end, a comment is open
+-- where the bytes end in a comment, it never ends
 comment-empty : commentRest [] ≡ never
 unfolding commentRest walk
 comment-empty = refl
 
--- a star that a slash follows
+-- a star that a slash follows ends a comment
 comment-ends : (r : List ℕ) → heads 47 r ≡ true → commentRest (42 ∷ r) ≡ ends (drop 1 r)
 unfolding commentRest walk
 comment-ends [] h = clash (cc)
 comment-ends (c ∷ r) h = rw h (plain-ends r)
 
--- any other star
+-- after a star that no slash follows, the end of a comment is sought on
 comment-star : (r : List ℕ) → heads 47 r ≡ false → commentRest (42 ∷ r) ≡ commentRest r
 unfolding commentRest walk
 comment-star [] h = refl
 comment-star (c ∷ r) h = rw h refl
 
--- The same at places of the bytes: q is where the byte sought from i on is found.
+-- A comment's end at places of the bytes: q is where the byte sought from i on is found.
 module _ (s : List ℕ) (i q : ℕ) where
-  -- nothing is found
+  -- where q is past the bytes' end, the byte sought is not found
   found-none : (b : ℕ) → drop q s ≡ fromByte b (drop i s) → length s ≤ q → fromByte b (drop i s) ≡ []
   found-none b e h = sym e ∙ drop-end s q h
 
-  -- the byte is found
+  -- where q is in the bytes, the byte sought is found there
   found-here : (b : ℕ) → drop q s ≡ fromByte b (drop i s) → q < length s → fromByte b (drop i s) ≡ b ∷ drop (q + 1) s
   found-here b e h =
       let f : fromByte b (drop i s) ≡ getD s q 0 ∷ drop (q + 1) s = sym e ∙ split s q h in
       f ∙ ap (λ (c : ℕ). c ∷ drop (q + 1) s) (byte-found b (drop i s) (getD s q 0) (drop (q + 1) s) f)
 
-  -- one byte further
+  -- what is left one byte behind q + 1 is what is left behind q + 2
   drop-one : drop 1 (drop (q + 1) s) ≡ drop (q + 2) s
   drop-one = let e : q + 1 + 1 ≡ q + 2 = omega arith in drop-drop 1 (q + 1) s ∙ ap (λ (k : ℕ). drop k s) e
 
   module _ (e : drop q s ≡ fromByte 42 (drop i s)) where
+    -- where no star is found from i on, the comment never ends
     pub comment-none : length s ≤ q → commentRest (drop i s) ≡ never
     comment-none h = comment-skips (drop i s) ∙ ap commentRest (found-none 42 e h) ∙ comment-empty
 
+    -- where a slash follows the star at q, the comment ends behind it
     pub comment-last : q < length s → heads 47 (drop (q + 1) s) ≡ true → commentRest (drop i s) ≡ ends (drop (q + 2) s)
     comment-last h k = comment-skips (drop i s) ∙ ap commentRest (found-here 42 e h) ∙ comment-ends (drop (q + 1) s) k ∙ ap ends drop-one
 
+    -- where no slash follows the star at q, the comment's end is sought on behind the star
     pub comment-more : q < length s → heads 47 (drop (q + 1) s) ≡ false → commentRest (drop i s) ≡ commentRest (drop (q + 1) s)
     comment-more h k = comment-skips (drop i s) ∙ ap commentRest (found-here 42 e h) ∙ comment-star (drop (q + 1) s) k
 
--- a byte that stands somewhere is no rest's end
+-- where a rest begins with a byte, its place is before the bytes' end
 pub heads-short : (b : ℕ) (s : List ℕ) (i : ℕ) → heads b (drop i s) ≡ true → i < length s
 heads-short b s i h = go (leb (length s) i) refl
   where
@@ -245,10 +248,10 @@ heads-short b s i h = go (leb (length s) i) refl
     go true e = let f : heads b [] ≡ true = ap (heads b) (sym (drop-end s i (leb-true (length s) i e))) ∙ h in clash (cc)
     go false e = leb-false (length s) i e
 
--- the byte at a place
+-- a rest begins with b just where b stands at its place
 pub heads-at : (b : ℕ) (s : List ℕ) (i : ℕ) → i < length s → eqb (getD s i 0) b ≡ heads b (drop i s)
 heads-at b s i h = rw (split s i h) refl
 
--- none past the end
+-- past the bytes' end, no rest begins with b
 pub heads-past : (b : ℕ) (s : List ℕ) (i : ℕ) → length s ≤ i → false ≡ heads b (drop i s)
 heads-past b s i h = rw (drop-end s i h) refl

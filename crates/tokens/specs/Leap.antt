@@ -14,7 +14,7 @@ use Rattle.tokens.specs.Answer.{Rest, ends, never}
 abbrev pub leapTurn : Mode → ℕ → List ℕ → Turn Mode Rest
 leapTurn m c r = pick (calm m c) (stop (ends (c ∷ r))) (on (next m c))
 
--- the bytes ended: in a string or a comment, or after one
+-- the bytes ended: in a string or a comment, which then never ends, or after one
 abbrev pub leapEnd : Mode → Rest
 leapEnd Plain = ends []
 leapEnd Slash = ends []

@@ -13,7 +13,7 @@ use Rattle.tokens.specs.declared.Past.the-variants.{At, Never}
 pub place-only : (s : List ℕ) (a b : ℕ) → a ≤ length s → b ≤ length s → drop a s ≡ drop b s → a ≡ b
 place-only s a b h k e = let l : length (drop a s) ≡ length (drop b s) = ap length e in omega (arith, length-drop a s, length-drop b s)
 
--- `string_end`, `comment_end`
+-- `string_end` and `comment_end` have one answer: two that leave the same rest are one
 pub past-only : (s : List ℕ) (start : ℕ) (a b : Past) → PastIn start (length s) a → PastIn start (length s) b → toldPast s a ≡ toldPast s b → a ≡ b
 past-only s start (At p) (At q) h k e = ap At (place-only s p q (h .1) (k .1) (cc))
 past-only s start (At p) Never h k e = clash (cc)

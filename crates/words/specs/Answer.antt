@@ -15,7 +15,7 @@ use Rattle.words.specs.declared.NextText as NextTextCode
 abbrev pub partOf : List ℕ → Span → List ℕ
 partOf s a = take (a .stop - a .start) (drop (a .start) s)
 
--- what `next_enum` answers
+-- what an answer of `next_enum` says: where a name stands, or a refusal, and where the reader then stands
 abbrev pub toldNextName : NextNameCode.NextName → Read Span
 toldNextName (NextNameCode.the-variants.Name a z t) = reading (good (span a z)) (t .place) (t .end)
 toldNextName (NextNameCode.the-variants.Refused f t) = reading (bad (told f)) (t .place) (t .end)
@@ -25,13 +25,13 @@ pub data Shown : Type 0 where
   inFile : Span → Shown
   inRoom : ℕ → Shown
 
--- what `next_str` answers
+-- what an answer of `next_str` says: where a text stands, or a refusal, and where the reader then stands
 abbrev pub toldNextText : NextTextCode.NextText → Read Shown
 toldNextText (NextTextCode.the-variants.InFile a z t) = reading (good (inFile (span a z))) (t .place) (t .end)
 toldNextText (NextTextCode.the-variants.InRoom n t) = reading (good (inRoom n)) (t .place) (t .end)
 toldNextText (NextTextCode.the-variants.Refused f t) = reading (bad (told f)) (t .place) (t .end)
 
--- the bytes of a text that stands there; none where the places are not in the file or the room, nor for a refusal
+-- the bytes of a text where an answer says it stands; none where the places are not in the file or the room, nor for a refusal
 abbrev pub shownBy : List ℕ → List ℕ → NextTextCode.NextText → List ℕ
 shownBy s o (NextTextCode.the-variants.InFile a z t) = pick (leb a z && leb z (length s)) (take (z - a) (drop a s)) []
 shownBy s o (NextTextCode.the-variants.InRoom n t) = pick (leb n (length o)) (take n o) []

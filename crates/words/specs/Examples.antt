@@ -17,22 +17,22 @@ empty-name : nameAt (bytes "..") (span 0 2) ≡ good (span 1 1)
 unfolding isName validFrom
 empty-name = refl
 
--- a dot alone is none
+-- `.` is no name
 one-dot : nameAt (bytes ".") (span 0 1) ≡ bad (refusal 12 0 0)
 unfolding isName
 one-dot = refl
 
--- nor is one that is not valid UTF-8: C0 80
+-- bytes that are not valid UTF-8 between two dots are no name: C0 80
 overlong-name : nameAt (46 ∷ 0xc0 ∷ 0x80 ∷ 46 ∷ []) (span 0 4) ≡ bad (refusal 12 0 0)
 unfolding isName validFrom leadOf
 overlong-name = refl
 
--- an empty parameter is no name and no text
+-- an empty parameter is no name
 nameless : nameAt [] (span 0 0) ≡ bad (refusal 12 0 0)
 unfolding isName
 nameless = refl
 
--- no text either
+-- an empty parameter is no text
 textless : stringAt [] 0 (span 0 0) ≡ bad (refusal 12 0 0)
 unfolding stringAt isUnset same isString
 textless = refl
@@ -47,7 +47,7 @@ half-quoted : stringAt (bytes "'a'b") 2 (span 0 4) ≡ good (inRoom 2)
 unfolding stringAt isUnset same isString plain bytesOf textOf textOn textFrom pageAfter pieceOf encodeAll encode
 half-quoted = refl
 
--- which is written to the room
+-- the text of `'a'b` is written to the room
 half-quoted-room : roomAt (bytes "'a'b") (0 ∷ 0 ∷ []) (span 0 4) ≡ bytes "a'"
 unfolding roomAt isUnset same isString plain bytesOf textOf textOn textFrom pageAfter pieceOf encodeAll encode
 half-quoted-room = refl

@@ -26,7 +26,7 @@ pub name-short : (t : List ℕ) → length t < 2 → false ≡ isName t
 unfolding isName
 name-short t h = rw (lt-leb 2 (length t) h) refl
 
--- a byte at an end that is no dot
+-- where the first or the last byte is no dot, there is no name
 pub name-undotted : (t : List ℕ) → 2 ≤ length t → not (eqb (getD t 0 0) 46) || not (eqb (getD t (length t - 1) 0) 46) ≡ true → false ≡ isName t
 unfolding isName
 name-undotted t h e = rw (le-leb 2 (length t) h) (go (eqb (getD t 0 0) 46) (eqb (getD t (length t - 1) 0) 46) e)
@@ -36,7 +36,7 @@ name-undotted t h e = rw (le-leb 2 (length t) h) (go (eqb (getD t 0 0) 46) (eqb 
     go true false k = refl
     go false b k = refl
 
--- two dots
+-- where the first and the last byte are dots, there is a name just where what stands between is valid UTF-8
 pub name-dotted : (t : List ℕ) (v : Bool) → 2 ≤ length t → not (eqb (getD t 0 0) 46) || not (eqb (getD t (length t - 1) 0) 46) ≡ false → v ≡ validOf (take (length t - 1 - 1) (drop 1 t)) → v ≡ isName t
 unfolding isName
 name-dotted t v h e f = rw (le-leb 2 (length t) h) (go (eqb (getD t 0 0) 46) (eqb (getD t (length t - 1) 0) 46) e)
@@ -46,12 +46,12 @@ name-dotted t v h e f = rw (le-leb 2 (length t) h) (go (eqb (getD t 0 0) 46) (eq
     go true false k = let z : _≡_ {A = ℕ} 0 1 = ap (λ (x : Bool). pick x 0 1) k in absurd (omega arith)
     go false b k = let z : _≡_ {A = ℕ} 0 1 = ap (λ (x : Bool). pick x 0 1) k in absurd (omega arith)
 
--- a name has two bytes
+-- a name has at least two bytes
 pub name-two : (t : List ℕ) → isName t ≡ true → 2 ≤ length t
 unfolding isName
 name-two t e = leb-true 2 (length t) (both (leb 2 (length t)) _ e .0)
 
--- a string has two bytes
+-- a string has at least two bytes
 pub string-two : (t : List ℕ) → isString t ≡ true → 2 ≤ length t
 unfolding isString
 string-two t e = leb-true 2 (length t) (both (leb 2 (length t)) _ e .0)
@@ -67,29 +67,29 @@ module _ (s o : List ℕ) (a z p e : ℕ) where
   text-unset h = (rw h refl, rw h refl)
 
   module _ (n : isUnset (partOf s (span a z)) ≡ false) where
-    -- what is no string is 12
+    -- a parameter that is neither `$` nor a string is 12 at its start, and the room stays
     pub text-wrong : isString (partOf s (span a z)) ≡ false → (reading (bad (refusal 12 0 a)) p e ≡ reading (stringAt s (length o) (span a z)) p e) × (o ≡ roomAt s o (span a z))
     unfolding stringAt roomAt
     text-wrong h = (rw (n, h) refl, rw (n, h) refl)
 
-    -- a string's text
+    -- a string parameter's text is what was decoded of it, and the room is what that left
     pub text-read : (d : Decoded) (q : List ℕ) (t : Told Shown) → isString (partOf s (span a z)) ≡ true → d ≡ decodedOf (bodyOf s (span a z)) (length o) → q ≡ roomAfter (bodyOf s (span a z)) o → t ≡ decodedAt (span a z) d
         → (reading t p e ≡ reading (stringAt s (length o) (span a z)) p e) × (q ≡ roomAt s o (span a z))
     unfolding stringAt roomAt
     text-read d q t h f g k = (ap (λ (x : Told Shown). reading x p e) (k ∙ ap (decodedAt (span a z)) f ∙ rw (n, h) refl), g ∙ rw (n, h) refl)
 
--- no parameter: the room stays, and so does the answer
+-- where the next parameter is refused, so is its text, and the room stays
 pub text-refused : (s o : List ℕ) (n : ℕ) (q : Refusal) (p e : ℕ) (r : Read Span) → reading (bad q) p e ≡ r → (reading (bad q) p e ≡ mapped (stringAt s n) r) × (o ≡ roomOf s o (r .answer))
 text-refused s o n q p e r h = (rw (sym h) refl, rw (sym h) refl)
 
--- a parameter's text
+-- the next parameter's text is that of its span, and so is the room after it
 pub text-next : (s o : List ℕ) (n a z p e : ℕ) (t : Read Shown) (m : List ℕ) (r : Read Span) → reading (good (span a z)) p e ≡ r → (t ≡ reading (stringAt s n (span a z)) p e) → (m ≡ roomAt s o (span a z)) → (t ≡ mapped (stringAt s n) r) × (m ≡ roomOf s o (r .answer))
 text-next s o n a z p e t m r h k l = (k ∙ rw (sym h) refl, l ∙ rw (sym h) refl)
 
--- a parameter's name
+-- the next parameter's name is that of its span
 pub name-next : (s : List ℕ) (a z p e : ℕ) (t : Read Span) (r : Read Span) → reading (good (span a z)) p e ≡ r → t ≡ reading (nameAt s (span a z)) p e → t ≡ mapped (nameAt s) r
 name-next s a z p e t r h k = k ∙ rw (sym h) refl
 
--- no parameter, no name
+-- where the next parameter is refused, so is its name
 pub name-refused : (s : List ℕ) (q : Refusal) (p e : ℕ) (r : Read Span) → reading (bad q) p e ≡ r → reading (bad q) p e ≡ mapped (nameAt s) r
 name-refused s q p e r h = rw (sym h) refl

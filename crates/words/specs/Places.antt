@@ -23,12 +23,12 @@ use Rattle.words.specs.RulesRight.{part-long, nameform-is, textform-is}
 abbrev pub SpanIn : ℕ → Span → Type 0
 SpanIn n a = (a .start ≤ a .stop) × (a .stop ≤ n)
 
--- a refusal's place is at most n, or the value is as it should be
+-- F holds of the answer's value, or the place of its refusal is at most n
 abbrev pub ToldIn : {A : Type 0} → ℕ → (A → Type 0) → Told A → Type 0
 ToldIn n F (good a) = F a
 ToldIn n F (bad q) = q .place ≤ n
 
--- what each parameter in the file is read as, the next one is
+-- what holds of how each parameter in the file is read holds of how the next one is read
 next-in : {A : Type 0} (F : A → Type 0) (f : Span → Told A) (s : List ℕ) (p e : ℕ) → ((a : Span) → SpanIn (length s) a → ToldIn (length s) F (f a)) → ToldIn (length s) F (mapped f (paramOf s p e) .answer)
 next-in F f s p e h = go (paramOf s p e .answer) refl (param-placed s p e)
   where
@@ -37,13 +37,13 @@ next-in F f s p e h = go (paramOf s p e .answer) refl (param-placed s p e)
     go (bad q) k l = l
 
 -- ---- names
--- 12 stands at the parameter's start
+-- a refusal of a name is at the parameter's start
 name-start : {s : List ℕ} {a : Span} {r : Told Span} (q : Refusal) → NameForm s a r → r ≡ bad q → q .place ≡ a .start
 name-start q (NameForm.name m) e = clash (cc)
 name-start {a} q (NameForm.other n) e = let z : refusal 12 0 (a .start) ≡ q = cc in sym (ap (λ (x : Refusal). x .place) z)
 
 module _ (s : List ℕ) (p e : ℕ) where
-  -- a name lies in the file, and so does a refusal
+  -- the next parameter's name lies in the file, and so does the place of a refusal
   pub name-in : ToldIn (length s) (SpanIn (length s)) (mapped (nameAt s) (paramOf s p e) .answer)
   name-in = next-in (SpanIn (length s)) (nameAt s) s p e (λ a h. go a (nameAt s a) (nameform-is s a) h)
     where
@@ -51,26 +51,26 @@ module _ (s : List ℕ) (p e : ℕ) where
       go a r (NameForm.name {n} m) (h, k) = let l = part-long s a n 46 46 h k (m .dots) in (omega arith, omega arith)
       go a r (NameForm.other n) (h, k) = omega arith
 
-  -- the reader stands between where it was and its end
+  -- after a name the reader stands between where it was and its end
   pub name-stands : Inside s p e → Stands p e (mapped (nameAt s) (paramOf s p e))
   name-stands = mapped-stands (nameAt s) s p e
 
-  -- outside the file it stays as it came
+  -- a reader outside the file or backwards that is asked for a name stays as it came, and its answer is 9
   pub name-stays : inFile (length s) p e ≡ false → mapped (nameAt s) (paramOf s p e) ≡ reading (bad (refusal 9 0 0)) p e
   name-stays = mapped-stays (nameAt s) s p e
 
-  -- 12 stands at the parameter's start, and the reader past the parameter and its comma
+  -- a name's refusal 12 stands at the parameter's start, and the reader past the parameter and its comma
   pub name-past : (q : Refusal) → mapped (nameAt s) (paramOf s p e) .answer ≡ bad q → 11 < q .number
       → (a : Span) × (paramOf s p e .answer ≡ good a) × (q .place ≡ a .start) × Past s p e a (paramOf s p e .place)
   name-past q h n = let (a, j, k, i, l) = refused-past (nameAt s) s p e q h n in (a, j, name-start q (nameform-is s a) k, l)
 
 -- ---- texts
--- a text in the file, or from the room's start
+-- a text lies in a file of n bytes, or in a room of m bytes from its start on
 abbrev pub ShownIn : ℕ → ℕ → Shown → Type 0
 ShownIn n m (Words.inFile a) = SpanIn n a
 ShownIn n m (inRoom k) = k ≤ m
 
--- 12 and 16 stand at the parameter's start
+-- a refusal of a text is at the parameter's start
 text-start : {s : List ℕ} {a : Span} {o m : List ℕ} {r : Told Shown} (q : Refusal) → TextForm s a o r m → r ≡ bad q → q .place ≡ a .start
 text-start q (TextForm.unset h) e = clash (cc)
 text-start q (TextForm.plain h k) e = clash (cc)
@@ -79,7 +79,7 @@ text-start {a} q (TextForm.short h k t l) e = let z : refusal 16 0 (a .start) �
 text-start {a} q (TextForm.other h k) e = let z : refusal 12 0 (a .start) ≡ q = cc in sym (ap (λ (x : Refusal). x .place) z)
 
 module _ (s o : List ℕ) (p e : ℕ) where
-  -- a text lies in the file or in the lent output, and a refusal in the file
+  -- the next parameter's text lies in the file or in the lent output, and the place of a refusal in the file
   pub text-in : ToldIn (length s) (ShownIn (length s) (length o)) (mapped (stringAt s (length o)) (paramOf s p e) .answer)
   text-in = next-in (ShownIn (length s) (length o)) (stringAt s (length o)) s p e (λ a h. go a (stringAt s (length o) a) (roomAt s o a) (textform-is s a o (h .0) (h .1)) h)
     where
@@ -90,15 +90,15 @@ module _ (s o : List ℕ) (p e : ℕ) where
       go a r m (TextForm.short u v t l) (h, k) = omega arith
       go a r m (TextForm.other u v) (h, k) = omega arith
 
-  -- the reader stands between where it was and its end
+  -- after a text the reader stands between where it was and its end
   pub text-stands : Inside s p e → Stands p e (mapped (stringAt s (length o)) (paramOf s p e))
   text-stands = mapped-stands (stringAt s (length o)) s p e
 
-  -- outside the file it stays as it came, and so does the lent output
+  -- a reader outside the file or backwards that is asked for a text stays as it came, and so does the lent output; its answer is 9
   pub text-stays : inFile (length s) p e ≡ false → (mapped (stringAt s (length o)) (paramOf s p e) ≡ reading (bad (refusal 9 0 0)) p e) × (roomOf s o (paramOf s p e .answer) ≡ o)
   text-stays h = (mapped-stays (stringAt s (length o)) s p e h, rw (param-stays s p e h) refl)
 
-  -- 12 and 16 stand at the parameter's start, and the reader past the parameter and its comma
+  -- a text's refusals 12 and 16 stand at the parameter's start, and the reader past the parameter and its comma
   pub text-past : (q : Refusal) → mapped (stringAt s (length o)) (paramOf s p e) .answer ≡ bad q → 11 < q .number
       → (a : Span) × (paramOf s p e .answer ≡ good a) × (q .place ≡ a .start) × Past s p e a (paramOf s p e .place)
   text-past q h n = let (a, j, k, i, l) = refused-past (stringAt s (length o)) s p e q h n in

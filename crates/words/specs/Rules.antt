@@ -30,7 +30,7 @@ pub record Quoted (t b : List ℕ) : Type 0 where
   pub end : ℕ
   pub shape : t ≡ 39 ∷ (b ++ (end ∷ []))
 
--- "no quote, backslash or high byte occurs"
+-- "no quote, backslash or high byte occurs": in the bytes of a string
 abbrev pub Plainly : List ℕ → Type 0
 Plainly [] = Unit {0}
 Plainly (c ∷ b) = ((c ≡ 39 → ⊥) × (c ≡ 92 → ⊥) × (c < 128)) × Plainly b

@@ -32,37 +32,37 @@ use Rattle.words.specs.Answer.{partOf, Shown}
 use Rattle.words.specs.Rules.{Name, NameForm, Quoted, Plainly, TextForm}
 
 -- ---- a first byte, a middle and a last byte
--- a text of two bytes or more is such
+-- a text of two bytes or more is a first byte, a middle and a last byte
 parted : (c d : ℕ) (r : List ℕ) → (b : List ℕ) × (z : ℕ) × (c ∷ d ∷ r ≡ c ∷ (b ++ (z ∷ [])))
 parted c d [] = ([], d, refl)
 parted c d (e ∷ r) = let (b, z, h) = parted d e r in (d ∷ b, z, cc)
 
--- its last byte
+-- the last byte of a text of two bytes or more stands at its length less one
 last-of : (c z : ℕ) (b : List ℕ) → getD (c ∷ (b ++ (z ∷ []))) (length (c ∷ (b ++ (z ∷ []))) - 1) 0 ≡ z
 last-of c z [] = refl
 last-of c z (d ∷ b) =
     let e : length (c ∷ d ∷ (b ++ (z ∷ []))) - 1 ≡ suc (length (d ∷ (b ++ (z ∷ []))) - 1) = omega arith in
     rw e (last-of d z b)
 
--- its middle
+-- the middle of a text of two bytes or more is what is left without its first and its last byte
 middle-of : (c z : ℕ) (b : List ℕ) → take (length (c ∷ (b ++ (z ∷ []))) - 1 - 1) (b ++ (z ∷ [])) ≡ b
 middle-of c z b = take-at b (z ∷ []) (length (c ∷ (b ++ (z ∷ []))) - 1 - 1) (simp length-append (omega arith))
 
--- places of a part of two bytes or more, without its first and last
+-- the places of a part of two bytes or more, without its first and its last byte
 inner-places : (a z : ℕ) → a + 2 ≤ z → (a + (z - a - 1) - (a + 1) ≡ z - 1 - (a + 1)) × (1 ≤ z - a - 1) × (z - a - 1 ≤ z - a)
 inner-places a z h = (omega arith, omega arith, omega arith)
 
 -- what stands between the first and the last byte of a part of the file
 module _ (s : List ℕ) (a : Span) (b : List ℕ) (c z : ℕ) (ordered : a .start ≤ a .stop) (within : a .stop ≤ length s) (shape : partOf s a ≡ c ∷ (b ++ (z ∷ []))) where
-  -- the part's length
+  -- the part of the file is as long as its places are apart
   whole : length (partOf s a) ≡ a .stop - a .start
   whole = length-take-le (a .stop - a .start) (drop (a .start) s) (omega (arith, length-drop (a .start) s))
 
-  -- which is two at least
+  -- the part of the file has at least two bytes
   pub part-long : a .start + 2 ≤ a .stop
   part-long = let n : length (c ∷ (b ++ (z ∷ []))) ≡ length b + 2 = simp length-append (omega arith) in omega (arith, whole, n, ap length shape)
 
-  -- it is that part of the file
+  -- what is computed as the part's inside is what stands between its first and its last byte
   body-part : bodyOf s a ≡ b
   body-part =
       let (i, l, m) = inner-places (a .start) (a .stop) part-long in
@@ -81,7 +81,7 @@ name-only {t} {n} m =
     let l : 2 ≤ length (46 ∷ (n ++ (46 ∷ []))) = simp length-append (omega arith) in
     rw (m .dots, le-leb 2 (length (46 ∷ (n ++ (46 ∷ [])))) l, last-of 46 46 n, middle-of 46 46 n, valid-only (m .valid)) refl
 
--- what passes the test is one
+-- what passes the test for a name is a name by the rule
 pub name-is : (t : List ℕ) → isName t ≡ true → (n : List ℕ) × Name t n
 unfolding isName
 name-is [] h = clash (cc)
@@ -102,7 +102,7 @@ name-is (c ∷ d ∷ r) h = let (b, z, e) = parted c d r in go b z e
 pub name-part : (s : List ℕ) (a : Span) (n : List ℕ) → a .start ≤ a .stop → a .stop ≤ length s → Name (partOf s a) n → partOf s (span (a .start + 1) (a .stop - 1)) ≡ n
 name-part s a n h k m = body-part s a n 46 46 h k (m .dots)
 
--- where a name stands: what is computed is the answer
+-- where a parameter's name stands: what is computed is an answer by the rules
 pub nameform-is : (s : List ℕ) (a : Span) → NameForm s a (nameAt s a)
 nameform-is s a = go (isName (partOf s a)) refl
   where
@@ -110,7 +110,7 @@ nameform-is s a = go (isName (partOf s a)) refl
     go true h = let (n, m) = name-is (partOf s a) h in NameForm.name m
     go false h = NameForm.other (λ n m. clash (cc (name-only m)))
 
--- and there is no other
+-- where a parameter's name stands: the answer by the rules is the one that is computed
 pub nameform-only : {s : List ℕ} {a : Span} {r : Told Span} → NameForm s a r → r ≡ nameAt s a
 nameform-only (NameForm.name m) = rw (name-only m) refl
 nameform-only {s} {a} (NameForm.other h) = go (isName (partOf s a)) refl
@@ -127,7 +127,7 @@ quoted-only {t} {b} q =
     let l : 2 ≤ length (39 ∷ (b ++ (q .end ∷ []))) = simp length-append (omega arith) in
     rw (q .shape, le-leb 2 (length (39 ∷ (b ++ (q .end ∷ [])))) l) refl
 
--- what passes the test is one
+-- what passes the test for a string parameter is one by the rule
 pub quoted-is : (t : List ℕ) → isString t ≡ true → (b : List ℕ) × Quoted t b
 unfolding isString
 quoted-is [] h = clash (cc)
@@ -137,22 +137,22 @@ quoted-is (c ∷ d ∷ r) h =
     let (x, y) = both (leb 2 (length (c ∷ d ∷ r))) (eqb c 39) h in
     (b, record { end = z; shape = e ∙ ap (λ (k : ℕ). k ∷ (b ++ (z ∷ []))) (eqb-true c 39 y) })
 
--- "its text lies between first and last byte": in the file
+-- "its text lies between first and last byte": what is computed as it is what stands there in the file
 pub quoted-body : (s : List ℕ) (a : Span) (b : List ℕ) → a .start ≤ a .stop → a .stop ≤ length s → Quoted (partOf s a) b → bodyOf s a ≡ b
 quoted-body s a b h k q = body-part s a b 39 (q .end) h k (q .shape)
 
--- a text of two bytes or more is not `$`
+-- a string parameter is not `$`
 quoted-given : {t b : List ℕ} → Quoted t b → isUnset t ≡ false
 unfolding isUnset same
 quoted-given q = rw (q .shape) refl
 
--- "no quote, backslash or high byte occurs": the test, both ways
+-- "no quote, backslash or high byte occurs": bytes of which this holds by the rule pass the test
 pub plain-only : (b : List ℕ) → Plainly b → String.plain b ≡ true
 unfolding String.plain
 plain-only [] h = refl
 plain-only (c ∷ b) ((x, y, z), t) = rw (ne-eqb c 39 x, ne-eqb c 92 y, lt-leb 128 c z) (plain-only b t)
 
--- what passes the test is plain
+-- bytes that pass the test for plain ones are plain by the rule
 pub plain-is : (b : List ℕ) → String.plain b ≡ true → Plainly b
 unfolding String.plain
 plain-is [] h = tt
@@ -165,7 +165,7 @@ plain-is (c ∷ b) h = go (eqb c 39 || (eqb c 92 || leb 128 c)) refl h (plain-is
         let (u, v) = neither (eqb c 92) (leb 128 c) y in
         ((eqb-false c 39 x, eqb-false c 92 u, leb-false 128 c v), ih k)
 
--- what is not plain fails it
+-- bytes that are not plain by the rule fail the test
 plain-not : (b : List ℕ) → (Plainly b → ⊥) → String.plain b ≡ false
 plain-not b n = go (String.plain b) refl
   where
@@ -173,29 +173,30 @@ plain-not b n = go (String.plain b) refl
     go true e = absurd (n (plain-is b e))
     go false e = e
 
--- a string's characters in UTF-8
+-- a string's characters by the rules, in UTF-8, are the bytes that are computed
 pub bytes-only : {b cs : List ℕ} → Text b cs → encodeAll cs ≡ String.bytesOf b
 unfolding String.bytesOf
 bytes-only t = ap encodeAll (text-only t)
 
+-- the bytes that are computed of a string are its characters by the rules, in UTF-8
 pub bytes-is : (b : List ℕ) → (cs : List ℕ) × Text b cs × (encodeAll cs ≡ String.bytesOf b)
 bytes-is b = (String.textOf b, text-is b, bytes-only (text-is b))
 
 module _ (s : List ℕ) (a : Span) (o : List ℕ) (ordered : a .start ≤ a .stop) (within : a .stop ≤ length s) where
-  -- what is computed of a string parameter
+  -- what is computed of a string parameter and of the room is what is decoded of its inside
   string-at : (b : List ℕ) → Quoted (partOf s a) b → (stringAt s (length o) a ≡ decodedAt a (decodedOf b (length o))) × (roomAt s o a ≡ roomAfter b o)
   unfolding stringAt roomAt
   string-at b q =
       let e = quoted-body s a b ordered within q in
       (rw (quoted-given q, quoted-only q) (ap (λ (x : List ℕ). decodedAt a (decodedOf x (length o))) e), rw (quoted-given q, quoted-only q) (ap (λ (x : List ℕ). roomAfter x o) e))
 
-  -- of a text that is written
+  -- what is computed of a string parameter that is not plain: its text is written where the room has space for it, or refused
   write-at : (b : List ℕ) → Quoted (partOf s a) b → (Plainly b → ⊥) → (t : Bool) → leb (length (String.bytesOf b)) (length o) ≡ t
       → (stringAt s (length o) a ≡ decodedAt a (pick t (Written (length (String.bytesOf b))) Short)) × (roomAt s o a ≡ pick t (String.bytesOf b ++ drop (length (String.bytesOf b)) o) o)
   write-at b q n t e = let (x, y) = string-at b q in
       (x ∙ rw (plain-not b n, e) refl, y ∙ rw (plain-not b n, e) refl)
 
-  -- the text of a parameter: what is computed is the answer
+  -- what is computed of a string parameter, and the room after it, are an answer by the rules
   quoted-form : (b : List ℕ) → Quoted (partOf s a) b → TextForm s a o (stringAt s (length o) a) (roomAt s o a)
   quoted-form b q = go (String.plain b) (leb (length (String.bytesOf b)) (length o)) refl refl
     where
@@ -212,6 +213,7 @@ module _ (s : List ℕ) (a : Span) (o : List ℕ) (ordered : a .start ≤ a .sto
           let (cs, t, g) = bytes-is b in
           rw (x, y) (TextForm.short q n t (rw g (leb-false (length (String.bytesOf b)) (length o) f)))
 
+  -- what is computed as a parameter's text, and the room after it, are an answer by the rules
   pub textform-is : TextForm s a o (stringAt s (length o) a) (roomAt s o a)
   unfolding stringAt roomAt isUnset
   textform-is = go (same (partOf s a) (bytes "$")) (isString (partOf s a)) refl refl
@@ -222,7 +224,7 @@ module _ (s : List ℕ) (a : Span) (o : List ℕ) (ordered : a .start ≤ a .sto
       go false false e f =
           rw (e, f) (TextForm.other (λ k. clash (cc (ap (λ (x : List ℕ). same x (bytes "$")) k ∙ same-self (bytes "$")))) (λ b q. clash (cc (quoted-only q))))
 
-  -- and there is no other
+  -- a parameter's text by the rules, and the room after it, are those that are computed
   pub textform-only : {r : Told Shown} {q : List ℕ} → TextForm s a o r q → (r ≡ stringAt s (length o) a) × (q ≡ roomAt s o a)
   unfolding stringAt roomAt isUnset
   textform-only (TextForm.unset e) = (rw (e, same-self (bytes "$")) refl, rw (e, same-self (bytes "$")) refl)

@@ -15,15 +15,15 @@ use Rattle.params.specs.Answer.{Span, span}
 use Rattle.scalars.specs.Scalars.{isUnset}
 use Rattle.words.specs.Answer.{partOf, Shown, inFile, inRoom}
 
--- "a name between two dots, valid UTF-8"
+-- "a name between two dots, valid UTF-8": the test for it
 unfoldable pub isName : List ℕ → Bool
 isName t = leb 2 (length t) && (eqb (getD t 0 0) 46 && (eqb (getD t (length t - 1) 0) 46 && validOf (take (length t - 1 - 1) (drop 1 t))))
 
--- where the name stands, without its dots; else 12 at the parameter's start
+-- where a parameter's name stands, without its dots; else 12 at the parameter's start
 abbrev pub nameAt : List ℕ → Span → Told Span
 nameAt s a = pick (isName (partOf s a)) (good (span (a .start + 1) (a .stop - 1))) (bad (refusal 12 0 (a .start)))
 
--- "A string parameter has two bytes or more and a quote first"
+-- "A string parameter has two bytes or more and a quote first": the test for it
 unfoldable pub isString : List ℕ → Bool
 isString t = leb 2 (length t) && eqb (getD t 0 0) 39
 
@@ -37,7 +37,7 @@ decodedAt a Plain = good (inFile (span (a .start + 1) (a .stop - 1)))
 decodedAt a (Written n) = good (inRoom n)
 decodedAt a Short = bad (refusal 16 0 (a .start))
 
--- "`$` gives an empty text"; what is no string is 12 at the parameter's start
+-- a parameter's text: "`$` gives an empty text"; what is no string is 12 at the parameter's start
 unfoldable pub stringAt : List ℕ → ℕ → Span → Told Shown
 stringAt s n a =
     pick

@@ -14,7 +14,7 @@ pub data Outcome (H P : List ℕ → Type 0) : Type 0 where
   remark : (o : List ℕ) → P o → OpenRemark o → Outcome H P
   over : P [] → Outcome H P
 
--- what becomes of it, seen from further back
+-- an outcome of a search, seen from further back: found there is found here, and what leads there leads here
 pub further : {H P H' P' : List ℕ → Type 0} → ((r : List ℕ) → H r → H' r) → ((o : List ℕ) → P o → P' o) → Outcome H P → Outcome H' P'
 further f g (Outcome.found r h) = Outcome.found r (f r h)
 further f g (Outcome.text o p q) = Outcome.text o (g o p) q
@@ -31,7 +31,7 @@ pub record Answers (a : Sought) (b n : ℕ) (w : List ℕ) (H P : List ℕ → T
   pub overs : P [] → a ≡ fault n w
 
 module _ {a : Sought} {b n : ℕ} {w : List ℕ} {H P : List ℕ → Type 0} (s : Answers a b n w H P) where
-  -- so what is found is right
+  -- what a search answers as found is the byte b with what follows, as the grammar has it
   pub found-is : (ys : List ℕ) → a ≡ at ys → (r : List ℕ) × (ys ≡ b ∷ r) × H r
   found-is ys e = go (s .comes)
     where
@@ -41,7 +41,7 @@ module _ {a : Sought} {b n : ℕ} {w : List ℕ} {H P : List ℕ → Type 0} (s 
       go (Outcome.remark o p q) = clash (cc (s .remarks o p q))
       go (Outcome.over p) = clash (cc (s .overs p))
 
-  -- and so is what is refused
+  -- what a search answers as a refusal is 4 or 3 where a string or a comment opens that never ends, or n at w
   pub fault-is : (k : ℕ) (o : List ℕ) → a ≡ fault k o
       → ((k ≡ 4) × P o × OpenText o) ⊎ (((k ≡ 3) × P o × OpenRemark o) ⊎ ((k ≡ n) × (o ≡ w) × P []))
   fault-is k o e = go (s .comes)

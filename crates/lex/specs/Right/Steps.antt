@@ -24,7 +24,7 @@ Pair a b xs = (r : List ℕ) × (xs ≡ a ∷ b ∷ r)
 abbrev pub Starless : List ℕ → Type 0
 Starless xs = (u v : List ℕ) → xs ≡ u ++ (42 ∷ 47 ∷ v) → ⊥
 
--- nor in what follows its first byte
+-- where the list has no `*/`, what follows its first byte has none
 pub starless-tail : (c : ℕ) (xs : List ℕ) → Starless (c ∷ xs) → Starless xs
 starless-tail c xs h u v e = h (c ∷ u) v (cc)
 
@@ -40,13 +40,13 @@ pub record Deaf {S A : Type 0} (t : S → ℕ → List ℕ → Turn S A) (z : S 
   pub starred : z (st Starred) ≡ z (st Remark)
 
 module _ {S A : Type 0} (t : S → ℕ → List ℕ → Turn S A) (z : S → A) (st : Mode → S) (deaf : Deaf t z st) where
-  -- a star that no slash follows
+  -- in a comment, a star that no slash follows leaves a deaf search as it was before the star
   pub unstarred : (xs : List ℕ) → (Begins 47 xs → ⊥) → walk t z (st Starred) xs ≡ walk t z (st Remark) xs
   unfolding walk
   unstarred [] h = deaf .starred
   unstarred (c ∷ r) h = rw (deaf .quiet Starred c r refl, deaf .quiet Remark c r refl, ne-eqb c 47 (λ e. h (r, cc)))
 
-  -- a byte in a comment at which no `*/` begins
+  -- in a comment, a deaf search stays as it is at a byte at which no `*/` begins
   remark-step : (c : ℕ) (xs : List ℕ) → (Pair 42 47 (c ∷ xs) → ⊥) → walk t z (st Remark) (c ∷ xs) ≡ walk t z (st Remark) xs
   unfolding walk
   remark-step c xs h = go (eqb c 42) refl
@@ -55,7 +55,7 @@ module _ {S A : Type 0} (t : S → ℕ → List ℕ → Turn S A) (z : S → A) 
       go true e = rw (deaf .quiet Remark c xs refl, e) (unstarred xs (λ (r, g). h (r, cc (eqb-true c 42 e))))
       go false e = rw (deaf .quiet Remark c xs refl, e)
 
-  -- a comment that ends
+  -- a deaf search in a comment is outside again after the comment's first `*/`
   pub remark-shut : (b r : List ℕ) → Remarked b → walk t z (st Remark) (b ++ (42 ∷ 47 ∷ r)) ≡ walk t z (st Plain) r
   unfolding walk
   remark-shut [] r h = rw (deaf .quiet Remark 42 (47 ∷ r) refl, deaf .quiet Starred 47 r refl)
@@ -63,25 +63,25 @@ module _ {S A : Type 0} (t : S → ℕ → List ℕ → Turn S A) (z : S → A) 
       remark-step c (b ++ (42 ∷ 47 ∷ r)) (λ p. let (v, e) = pair-swap c b (47 ∷ r) [] p in h [] v e)
       ∙ remark-shut b r (starless-tail c (b ++ (42 ∷ [])) h)
 
-  -- a comment that never ends
+  -- a deaf search in a comment that never ends stays in it up to the bytes' end
   pub remark-open : (xs : List ℕ) → Starless xs → walk t z (st Remark) xs ≡ z (st Remark)
   unfolding walk
   remark-open [] h = refl
   remark-open (c ∷ xs) h = remark-step c xs (λ (v, e). h [] v e) ∙ remark-open xs (starless-tail c xs h)
 
-  -- the inside of a string
+  -- a deaf search in a string stays as it is over the inside of a string
   pub inside-step : (ys : List ℕ) {b : List ℕ} → Inside b → walk t z (st Text) (b ++ ys) ≡ walk t z (st Text) ys
   unfolding walk
   inside-step ys Inside.none = refl
   inside-step ys (Inside.other {c} {b} h i) = rw (deaf .quiet Text c (b ++ ys) refl, ne-eqb c 39 h) (inside-step ys i)
   inside-step ys (Inside.doubled {b} i) = rw (deaf .quiet Text 39 (39 ∷ (b ++ ys)) refl, deaf .quiet Quoted 39 (b ++ ys) refl) (inside-step ys i)
 
-  -- a string up to the quote that ends it
+  -- a deaf search in a string has seen the quote that ends it after the string's inside
   pub text-ends : (r : List ℕ) {b : List ℕ} → Inside b → walk t z (st Text) (b ++ (39 ∷ r)) ≡ walk t z (st Quoted) r
   unfolding walk
   text-ends r i = inside-step (39 ∷ r) i ∙ rw (deaf .quiet Text 39 r refl) refl
 
-  -- a string that never ends
+  -- a deaf search in a string that never ends stays in it up to the bytes' end
   pub text-over : {b : List ℕ} → Inside b → walk t z (st Text) b ≡ z (st Text)
   unfolding walk
   text-over {b} i = rw (append-nil b) at (inside-step [] i)
@@ -102,13 +102,13 @@ module _ (f : ℕ → ℕ → Look) (n : ℕ) (w : List ℕ) where
   unopened d o p [] = refl
   unopened d o p (c ∷ r) = refl
 
-  -- a slash that no star follows
+  -- after a slash that no star follows, a search goes on as outside strings and comments
   pub unslashed : (d : ℕ) (o p xs : List ℕ) → (Begins 42 xs → ⊥) → seek f (missed n w) Slash d o xs ≡ seek f (missed n w) Plain d p xs
   unfolding walk
   unslashed d o p [] h = refl
   unslashed d o p (c ∷ r) h = rw (ne-eqb c 42 (λ e. h (r, cc)))
 
-  -- a quote that no quote follows
+  -- after a quote that ends a string and that no quote follows, a search goes on as outside strings and comments
   pub unquoted : (d : ℕ) (o p xs : List ℕ) → (Begins 39 xs → ⊥) → seek f (missed n w) Quoted d o xs ≡ seek f (missed n w) Plain d p xs
   unfolding walk
   unquoted d o p [] h = refl
@@ -118,16 +118,16 @@ module _ (f : ℕ → ℕ → Look) (n : ℕ) (w : List ℕ) where
   pub seek-deaf : (d : ℕ) (o : List ℕ) → Deaf (seekTurn f) (missed n w) (λ m. seen m d o)
   seek-deaf d o = record { quiet = λ m c r h. rw h; starred = refl }
 
-  -- a string that ends
+  -- a search in a string that ends goes on outside after it
   pub text-shut : (d : ℕ) (o p r : List ℕ) {b : List ℕ} → Inside b → (Begins 39 r → ⊥)
       → seek f (missed n w) Text d o (b ++ (39 ∷ r)) ≡ seek f (missed n w) Plain d p r
   text-shut d o p r i h = text-ends (seekTurn f) (missed n w) (λ m. seen m d o) (seek-deaf d o) r i ∙ unquoted d o p r h
 
-  -- a string that never ends
+  -- a search in a string that never ends is refused with 4
   pub text-open : (d : ℕ) (o : List ℕ) {b : List ℕ} → Inside b → seek f (missed n w) Text d o b ≡ fault 4 o
   text-open d o i = text-over (seekTurn f) (missed n w) (λ m. seen m d o) (seek-deaf d o) i
 
-  -- a byte that opens no string and no comment
+  -- a search goes on after a byte that opens no string and no comment, at the depth that the byte leaves
   pub byte-step : (d e c : ℕ) (t : List ℕ) → (c ≡ 39 → ⊥) → (Opens (c ∷ t) → ⊥) → f d c ≡ look e
       → plainly f n w d (c ∷ t) ≡ plainly f n w e t
   byte-step d e c t h k l = seek-past f (missed n w) Plain d (c ∷ t) c t e refl l ∙ go (eqb c 47) refl
@@ -146,19 +146,19 @@ module _ (f : ℕ → ℕ → Look) (n : ℕ) (w : List ℕ) where
     remark-start t = seek-past f (missed n w) Plain d (47 ∷ 42 ∷ t) 47 (42 ∷ t) d refl (passing .slash d)
         ∙ seek-within f (missed n w) Slash d (47 ∷ 42 ∷ t) 42 t refl
 
-    -- a whole string
+    -- a search goes on after a whole string
     pub string-step : {xs zs : List ℕ} → Quotation xs zs → plainly f n w d xs ≡ plainly f n w d zs
     string-step {zs} q = rw (q .shape) (text-start (q .body ++ (39 ∷ zs)) ∙ text-shut d _ zs zs (q .inside) (q .single))
 
-    -- a whole comment
+    -- a search goes on after a whole comment
     pub comment-step : {xs zs : List ℕ} → Comment xs zs → plainly f n w d xs ≡ plainly f n w d zs
     comment-step {zs} q = let xs₀ : List ℕ = 47 ∷ 42 ∷ (q .body ++ (42 ∷ 47 ∷ zs)) in rw (q .shape) (remark-start (q .body ++ (42 ∷ 47 ∷ zs))
         ∙ remark-shut (seekTurn f) (missed n w) (λ m. seen m d xs₀) (seek-deaf d xs₀) (q .body) zs (q .first) ∙ unopened d _ zs zs)
 
-    -- a string that never ends
+    -- a search before a string that never ends is refused with 4 there
     pub text-stuck : (t : List ℕ) → Inside t → plainly f n w d (39 ∷ t) ≡ fault 4 (39 ∷ t)
     text-stuck t i = text-start t ∙ text-open d (39 ∷ t) i
 
-    -- a comment that never ends
+    -- a search before a comment that never ends is refused with 3 there
     pub remark-stuck : (t : List ℕ) → Starless t → plainly f n w d (47 ∷ 42 ∷ t) ≡ fault 3 (47 ∷ 42 ∷ t)
     remark-stuck t h = remark-start t ∙ remark-open (seekTurn f) (missed n w) (λ m. seen m d (47 ∷ 42 ∷ t)) (seek-deaf d (47 ∷ 42 ∷ t)) t h

@@ -32,12 +32,12 @@ pair a b (x ∷ xs) = go (ℕ-discrete x a) (begins b xs)
     go (yes p) (no h) = no (λ (r, e). h (r, cc))
     go (no h) k = no (λ (r, e). h (cc))
 
--- one more byte, at which no `*/` begins
+-- a list without `*/`, with one more byte in front at which no `*/` begins, has none
 starless-cons : (c : ℕ) (xs : List ℕ) → (Pair 42 47 (c ∷ xs) → ⊥) → Starless xs → Starless (c ∷ xs)
 starless-cons c xs h k [] v e = h (v, e)
 starless-cons c xs h k (x ∷ u) v e = k u v (cc)
 
--- no byte, no `*/`
+-- an empty list has no `*/`
 starless-nil : Starless []
 starless-nil [] v e = clash (cc)
 starless-nil (x ∷ u) v e = clash (cc)
@@ -72,17 +72,17 @@ record Closed (t : List ℕ) : Type 0 where
   shape : t ≡ body ++ (39 ∷ rest)
   single : Begins 39 rest → ⊥
 
--- one more byte that is no quote
+-- one more byte in front that is no quote: a string's inside ends as before, or never
 inside-cons : (c : ℕ) (t : List ℕ) → (c ≡ 39 → ⊥) → Closed t ⊎ Inside t → Closed (c ∷ t) ⊎ Inside (c ∷ t)
 inside-cons c t h (inl s) = inl (record { body = c ∷ s .body; rest = s .rest; inside = Inside.other h (s .inside); shape = cc; single = s .single })
 inside-cons c t h (inr i) = inr (Inside.other h i)
 
--- one more pair of quotes
+-- one more pair of quotes in front: a string's inside ends as before, or never
 inside-pair : (t : List ℕ) → Closed t ⊎ Inside t → Closed (39 ∷ 39 ∷ t) ⊎ Inside (39 ∷ 39 ∷ t)
 inside-pair t (inl s) = inl (record { body = 39 ∷ 39 ∷ s .body; rest = s .rest; inside = Inside.doubled (s .inside); shape = cc; single = s .single })
 inside-pair t (inr i) = inr (Inside.doubled i)
 
--- a single quote ends the string
+-- a single quote ends a string's inside
 inside-ends : (t : List ℕ) → (Begins 39 t → ⊥) → Closed (39 ∷ t) ⊎ Inside (39 ∷ t)
 inside-ends t h = inl (record { body = []; rest = t; inside = Inside.none; shape = refl; single = h })
 
@@ -105,13 +105,13 @@ text-ends (c ∷ e ∷ t) = go (ℕ-discrete c 39) (ℕ-discrete e 39) (text-end
 abbrev first-outside : ℕ → ℕ → Look
 first-outside d c = halt
 
--- what is all a string's inside holds no end of it: else that search would answer twice
+-- bytes that are all a string's inside hold no end of that string: else the search `first-outside` would answer twice
 pub unended : {t : List ℕ} → Inside t → (r : List ℕ) → Quotation (39 ∷ t) r → ⊥
 unfolding walk
 unended i [] q = clash (cc (text-open first-outside 5 [] 0 [] i, text-shut first-outside 5 [] 0 [] [] [] (q .inside) (q .single)))
 unended i (c ∷ r) q = clash (cc (text-open first-outside 5 [] 0 [] i, text-shut first-outside 5 [] 0 [] [] (c ∷ r) (q .inside) (q .single)))
 
--- and a string has one end
+-- a string has one end
 pub one-end : (t r z : List ℕ) → Quotation (39 ∷ t) r → Quotation (39 ∷ t) z → r ≡ z
 unfolding walk
 one-end t [] [] p q = refl
@@ -135,7 +135,7 @@ open-remark {xs} ((t, e), h) = go (remark-ends t)
     go (inl s) = absurd (h (s .rest) (record { body = s .body; first = s .first; shape = cc }))
     go (inr k) = (t, e, k)
 
--- a list as tokens
+-- a list of bytes read as tokens
 pub data Reads : List ℕ → Type 0 where
   end : Reads []
   byte : {c : ℕ} {t : List ℕ} → (c ≡ 39 → ⊥) → (Opens (c ∷ t) → ⊥) → Reads t → Reads (c ∷ t)
@@ -152,7 +152,7 @@ quotation-shorter q = omega (arith, simp length-append at (ap length (q .shape))
 pub comment-shorter : {xs r : List ℕ} → Comment xs r → length r < length xs
 comment-shorter q = omega (arith, simp length-append at (ap length (q .shape)))
 
--- every list of at most n bytes
+-- every list of at most n bytes reads as tokens
 tokens-to : (n : ℕ) (xs : List ℕ) → length xs ≤ n → Reads xs
 tokens-to zero [] h = Reads.end
 tokens-to zero (c ∷ t) h = absurd (omega arith)
@@ -176,6 +176,6 @@ tokens-to (suc n) (c ∷ t) h = go (ℕ-discrete c 39) (pair 47 42 (c ∷ t)) (�
     go (no k) (yes (r, e)) ih = remarks r e (remark-ends r) ih
     go (no k) (no l) ih = Reads.byte k l (ih t (omega arith))
 
--- every list
+-- every list of bytes reads as tokens
 pub tokens : (xs : List ℕ) → Reads xs
 tokens xs = tokens-to (length xs) xs (omega arith)

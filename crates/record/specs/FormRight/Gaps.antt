@@ -18,27 +18,27 @@ use Rattle.record.specs.FormRight.Parts.{first-other, first-part, all-jo
 abbrev pub token : ℕ → Bool
 token c = not (white c)
 
--- nor does a list with such a byte first
+-- a list whose first byte is not white begins with no gap
 pub gap-other : (c : ℕ) (xs : List ℕ) → token c ≡ true → NoGapFirst (c ∷ xs)
 gap-other c xs h = first-other white c xs (not-true (white c) h)
 
--- nor does the first part of a list of which that is known
+-- where a list begins with no gap, its front part begins with none
 pub gap-part : (t z : List ℕ) → NoGapFirst (t ++ z) → NoGapFirst t
 gap-part t z = first-part white t z
 
--- a list with more behind it begins like the list
+-- a list that begins with no gap begins with none when more follows it
 pub gap-more : (c : ℕ) (t z : List ℕ) → NoGapFirst (c ∷ t) → NoGapFirst (c ∷ (t ++ z))
 gap-more c t z h = first-other white c (t ++ z) (h c t refl)
 
--- a gap after a gap is one
+-- two gaps, one after the other, are a gap
 pub gap-join : (f g : List ℕ) → Gap f → Gap g → Gap (f ++ g)
 gap-join = all-join white
 
--- what is left past a gap, where it is given
+-- `pastGap` answers r, where the whole gap f stands before r
 pub gap-only : (f r : List ℕ) → Gapped f r → pastGap (f ++ r) ≡ r
 gap-only f r s = past-pass white f r (s .all) ∙ past-halt white r (s .over)
 
--- what is left past a gap is that
+-- what `pastGap` answers follows the whole gap at the list's start
 pub gap-is : (xs : List ℕ) → (f : List ℕ) × (xs ≡ f ++ pastGap xs) × Gapped f (pastGap xs)
 gap-is xs = go (span white xs)
   where
@@ -68,7 +68,7 @@ white-digit c h = go (digit c) refl
         let w : white c ≡ false = rw (n 32 (omega arith), n 9 (omega arith), n 10 (omega arith), n 12 (omega arith), n 13 (omega arith)) in
         clash (cc)
 
--- so digits end before a gap
+-- where y begins with no digit, a gap and y after it begin with no digit
 pub gap-digit : (w y : List ℕ) → Gap w → NotFirst digit y → NotFirst digit (w ++ y)
 gap-digit [] y h k = k
 gap-digit (c ∷ w) y (h, t) k = first-other digit c (w ++ y) (white-digit c h)

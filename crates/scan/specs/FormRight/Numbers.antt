@@ -11,7 +11,7 @@ use Rattle.statement.specs.declared.Section.the-variants.{Outside}
 use Rattle.scan.specs.Records.{Table, withRow}
 use Rattle.scan.specs.Form.{PerKind, perKind, of, more, Within, Reads, Scans, Reached, Full}
 
--- an answer whose refusal, if it is one, is so
+-- where the answer is a refusal, P holds of it
 abbrev pub IfBad : {A : Type 0} → (Refusal → Type 0) → Told A → Type 0
 IfBad P (good a) = Unit {0}
 IfBad P (bad q) = P q
@@ -20,25 +20,25 @@ bad-mapped : {A B : Type 0} (P : Refusal → Type 0) (f : A → B) (a : Told A) 
 bad-mapped P f (good a) h = tt
 bad-mapped P f (bad q) h = h
 
--- the number is one of 1 to 8, and 8 only where the rows are used up
+-- a refusal's number is one of 1 to 8, and 8 only where the lent rows are used up
 abbrev pub Refusing : List ℕ → PerKind → Refusal → Type 0
 Refusing s lent q = Between 1 8 q × (q .number ≡ 8 → Full s lent q)
 
--- one more of a kind is at most one more of any
+-- one row more of a kind is at most one more of any kind
 pub of-more : (j k : RowKind) (n : PerKind) → of j (more k n) ≤ of j n + 1
 of-more header-kind header-kind n = omega arith
 of-more header-kind data-kind n = omega arith
 of-more data-kind header-kind n = omega arith
 of-more data-kind data-kind n = omega arith
 
--- one row more of a kind that is not used up
+-- one row more of a kind that is not used up leaves the rows within those lent
 within-more : (n lent : PerKind) (k : RowKind) → Within n lent → of k n < of k lent → Within (more k n) lent
 within-more n lent header-kind h l header-kind = omega arith
 within-more n lent header-kind h l data-kind = h data-kind
 within-more n lent data-kind h l header-kind = h header-kind
 within-more n lent data-kind h l data-kind = omega arith
 
--- and one row less
+-- where one row more of a kind is within those lent, the kind is not used up before it
 within-less : (n lent : PerKind) (k : RowKind) → Within (more k n) lent → Within n lent × (of k n < of k lent)
 within-less n lent header-kind h = let i = h header-kind in let j = h data-kind in (both i j, omega arith)
   where
@@ -51,12 +51,12 @@ within-less n lent data-kind h = let i = h header-kind in let j = h data-kind in
     both i j header-kind = i
     both i j data-kind = omega arith
 
--- no row is used at first
+-- with no row used, the rows are within those lent
 within-none : (lent : PerKind) → Within (perKind 0 0) lent
 within-none lent header-kind = omega arith
 within-none lent data-kind = omega arith
 
--- so it is with the refusal of a reading that has come to some rest, and with that of a whole file
+-- the refusal of a reading that has come to some rest is from 1 to 8, and 8 only where the lent rows are used up
 reads-bad : {s : List ℕ} {lent : PerKind} {sec : Section} {n : PerKind} {xs : List ℕ} {a : Told Table}
     → Reached s sec xs n → Within n lent → Reads s lent sec n xs a → IfBad (Refusing s lent) a
 reads-bad u h (Reads.over f) = tt
@@ -65,7 +65,7 @@ reads-bad u h (Reads.on f d) = reads-bad (Reached.on u f) h d
 reads-bad {lent} {n} u h (Reads.row {a} k w ys f p d) = bad-mapped _ (withRow k w) a (reads-bad (Reached.row k w ys u f) (within-more n lent k h p) d)
 reads-bad {lent} {n} u h (Reads.full k w ys t f p) = let l = h k in (omega arith, λ z. Full.full k w ys t u h (omega arith) f)
 
--- what is known of a refusal of the whole scan
+-- the refusal of a whole scan is from 1 to 8, and 8 only where the lent rows are used up
 pub scans-bad : {s : List ℕ} {lent : PerKind} {a : Told Table} → Scans s lent a → IfBad (Refusing s lent) a
 scans-bad (Scans.long h) = (omega arith, λ e. absurd (omega arith))
 scans-bad (Scans.unmarked h n) = (omega arith, λ e. absurd (omega arith))
@@ -78,6 +78,6 @@ reached-bad Reached.start h d = d
 reached-bad (Reached.on u f) h d = reached-bad u h (Reads.on f d)
 reached-bad {lent} (Reached.row {n} k w ys u f) h d = let (i, p) = within-less n lent k h in reached-bad u i (Reads.row k w ys f p d)
 
--- where the rows are used up, 8 is given
+-- where the lent rows are used up, the whole file's reading gives 8
 pub full-reads : {s : List ℕ} {lent : PerKind} {q : Refusal} → Full s lent q → Reads s lent Outside (perKind 0 0) s (bad q)
 full-reads (Full.full k w ys t u h e f) = reached-bad u h (Reads.full k w ys t f (omega arith))

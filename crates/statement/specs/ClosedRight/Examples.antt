@@ -22,7 +22,7 @@ use Rattle.statement.specs.ClosedRight.Parts.{closed-part}
 use Rattle.statement.specs.ClosedRight.Statements.{closed-turn, closed-entry}
 use Rattle.statement.specs.declared.Section.the-variants.{Outside, InData}
 
--- a `(` after f, with a between it and its `)`, where the searches find that f does not end in a string or a comment
+-- a `(` after f, with a between it and its `)`, is closed where the searches find that f does not end in a string or a comment
 closed-after : (f a k : List ℕ) → recordEnd (f ++ (59 ∷ [])) ≡ at (59 ∷ []) → closing (40 ∷ (a ++ (41 ∷ k))) ≡ at (41 ∷ k)
     → ClosedAt (f ++ (40 ∷ (a ++ (41 ∷ k)))) (length f)
 closed-after f a k h e = record {
@@ -35,12 +35,12 @@ closed-after f a k h e = record {
   closes = closes-own (a ++ (41 ∷ k)) k [] (simp append-nil e);
 }
 
--- a part likewise: k before its `(`, a between, t after its `)`
+-- a part is closed where the searches find so: k stands before its `(`, a between, t after its `)`
 part-after : (k a t : List ℕ) → Free 40 k → recordEnd (k ++ (59 ∷ [])) ≡ at (59 ∷ []) → closing (40 ∷ (a ++ (41 ∷ t))) ≡ at (41 ∷ t)
     → ClosedParts t → ClosedParts (k ++ (40 ∷ (a ++ (41 ∷ t))))
 part-after k a t f h e = ClosedParts.part k refl f (outside-of k _ [] h) (closes-own (a ++ (41 ∷ t)) t [] (simp append-nil e))
 
--- example 1, the second record: its `(` is outside, and so are those of its two parts
+-- example 1, the second record is closed: its `(` is outside, and so are those of its two parts
 pub closed-complex : ClosedData (bytes "#2=(P(1.)Q($))")
 unfolding dataHead past numberFrom keyword walk recordEnd closing closed-after
 closed-complex =
@@ -48,7 +48,7 @@ closed-complex =
     (part-after (bytes "P") (bytes "1.") (bytes "Q($)") (refl, tt) refl refl
     (part-after (bytes "Q") (bytes "$") [] (refl, tt) refl refl (ClosedParts.none tt)))
 
--- example 1, the first record, with a `;` and a doubled quote in its string
+-- example 1, the first record is closed, with a `;` and a doubled quote in its string
 pub closed-simple : ClosedData (bytes "#1=A('a;''b',#2)")
 unfolding dataHead past numberFrom keyword walk recordEnd closing
 closed-simple = ClosedData.simple refl (closed-after (bytes "#1=A") (bytes "'a;''b',#2") [] refl refl)
@@ -57,24 +57,24 @@ closed-simple = ClosedData.simple refl (closed-after (bytes "#1=A") (bytes "'a;'
 refuses : {n : ℕ} {o r : List ℕ} → fault n o ≡ at r → ⊥
 refuses e = clash (cc)
 
--- example 11, the first record: its `(` does not close in it
+-- example 11, the first record is not closed: its `(` does not close in it
 pub unclosed : ClosedData (bytes "#1=A((1)") → ⊥
 unfolding dataHead past numberFrom keyword walk closing
 unclosed (ClosedData.simple {o} e c) = let h : o ≡ 4 = cc in refuses (rw h at (closed-closing c []))
 unclosed (ClosedData.complex e c p) = clash (cc)
 
--- a record whose first `(` byte lies in a comment
+-- a record whose first `(` byte lies in a comment is not closed
 pub unclosed-comment : ClosedData (bytes "#1=A/*(*/(1)") → ⊥
 unfolding dataHead past numberFrom keyword walk recordEnd
 unclosed-comment (ClosedData.simple {o} e c) = let h : o ≡ 6 = cc in refuses (rw h at (closed-seen c []))
 unclosed-comment (ClosedData.complex e c p) = clash (cc)
 
--- the arguments that are told
+-- the arguments that an answer tells, none where it is a refusal
 abbrev told-args : Told Content → List ℕ
 told-args (good k) = k .args
 told-args (bad q) = []
 
--- a complex record with a `(` byte in a string after its part
+-- a complex record with a `(` byte in a string after its part is not closed
 pub unclosed-part : ClosedData (bytes "#1=(P(1)'(')") → ⊥
 unfolding recordOf dataHead past numberFrom keyword walk recordEnd closing
 unclosed-part (ClosedData.simple e c) = clash (cc)
@@ -106,11 +106,11 @@ closed-example =
     (ClosedFrom.turn refl
     (ClosedFrom.over refl))))))))
 
--- example 11 in a file, which is not closed
+-- a file with the records of example 11
 abbrev crossing : List ℕ
 crossing = bytes "ISO-10303-21;DATA;#1=A((1);#2=B(2));ENDSEC;"
 
--- a file with the records of example 11 is not
+-- a file with the records of example 11 is not closed
 pub unclosed-file : Closed crossing → ⊥
 unfolding statement trivia recordEnd closing walk recordOf dataHead past numberFrom keyword trail wordOf same
 unclosed-file c =

@@ -13,7 +13,7 @@ use Rattle.lex.specs.Answer.{at}
 use Rattle.lex.specs.Right.{end-only, end-is}
 use Rattle.statement.specs.Closed.{OutsideBoth, ClosedAt}
 
--- what is left is no longer
+-- what is left of a list after bytes outside strings and comments is no longer than the list
 pub runs-longer : {xs ys : List ℕ} → Runs xs ys → length ys ≤ length xs
 runs-longer Runs.none = omega arith
 runs-longer (Runs.byte h k l r) = omega (arith, runs-longer r)
@@ -26,10 +26,12 @@ module _ (z : List ℕ) where
   begins-more a [] h b = absurd (omega arith)
   begins-more a (c ∷ xs) h (r, e) = (xs, cc)
 
+  -- where the list has a byte after c, a comment that begins with more bytes after the list begins without them
   pub opens-more : (c : ℕ) (xs : List ℕ) → 0 < length xs → Opens (c ∷ (xs ++ z)) → Opens (c ∷ xs)
   opens-more c [] h b = absurd (omega arith)
   opens-more c (d ∷ xs) h (r, e) = (xs, cc)
 
+  -- a string that ends before the list does is a string with more bytes after the list
   pub quotation-more : {xs zs : List ℕ} → Quotation xs zs → 0 < length zs → Quotation (xs ++ z) (zs ++ z)
   quotation-more {zs} q h = record {
     body = q .body;
@@ -38,6 +40,7 @@ module _ (z : List ℕ) where
     single = λ b. q .single (begins-more 39 zs h b);
   }
 
+  -- a comment is a comment with more bytes after the list
   pub comment-more : {xs zs : List ℕ} → Comment xs zs → Comment (xs ++ z) (zs ++ z)
   comment-more {zs} q = record { body = q .body; first = q .first; shape = cc (append-assoc (q .body) (42 ∷ 47 ∷ zs) z) }
 
@@ -88,7 +91,7 @@ outside-seen f t h y =
     let p : f ≡ g = append-cancel-right f g t e in
     rw p (end-only (k 59 y (eqb-false 59 39 refl) (eqb-false 59 42 refl)))
 
--- and a `(` where a `;` would end the record lies outside both
+-- a `(` that stands where a `;` would end the record lies outside strings and comments
 pub outside-of : (f t y : List ℕ) → recordEnd (f ++ (59 ∷ y)) ≡ at (59 ∷ y) → OutsideBoth (f ++ (40 ∷ t)) (40 ∷ t)
 outside-of f t y h =
     let (r, e, k) = end-is (f ++ (59 ∷ y)) (59 ∷ y) h in
@@ -96,7 +99,7 @@ outside-of f t y h =
     let q : f ≡ g = append-cancel-right f g (59 ∷ y) (cc) in
     rw q (l 40 t (eqb-false 40 39 refl) (eqb-false 40 42 refl))
 
--- so it is with a closed record's `(`
+-- where a closed record's `(` stands, a `;` would end the record
 pub closed-seen : {b : List ℕ} {o : ℕ} → ClosedAt b o → (y : List ℕ) → recordEnd (take o b ++ (59 ∷ y)) ≡ at (59 ∷ y)
 closed-seen {b} {o} c y =
     let t : List ℕ = 40 ∷ (c .args ++ (41 ∷ c .back)) in

@@ -34,12 +34,12 @@ free-first (c ∷ k) r (h, t) (x ∷ u) v e = free-first k r t u v (cc)
 abbrev UpTo : List ℕ → List ℕ → Type 0
 UpTo xs r = Balanced xs (40 ∷ r) ⊎ ((v : List ℕ) × Closes xs v × (length r < length v))
 
--- balanced bytes may go before
+-- balanced bytes before ys do not change that all is balanced up to a `(`, or that a `)` stands outside before it
 up-to : {xs ys r : List ℕ} → ((ws : List ℕ) → Balanced ys ws → Balanced xs ws) → UpTo ys r → UpTo xs r
 up-to {r} g (inl b) = inl (g (40 ∷ r) b)
 up-to g (inr (v, b, n)) = inr (v, g (41 ∷ v) b, n)
 
--- so it is up to the first `(` byte, where that lies outside
+-- all is balanced up to the first `(` byte, or a `)` stands outside before it, where that `(` lies outside strings and comments
 before-first : (z : List ℕ) {xs r : List ℕ} → Runs xs (40 ∷ r) → First xs r → UpTo (xs ++ z) (r ++ z)
 before-first z Runs.none f = inl Balanced.none
 before-first z {r} (Runs.byte {c} {xs} h k l s) f = go (ℕ-discrete c 40) (ℕ-discrete c 41) (before-first z s (λ u v e. f (c ∷ u) v (cc)))
@@ -58,7 +58,7 @@ before-first z (Runs.comment q s) f =
     up-to (λ ws. Balanced.comment (comment-more z q))
     (before-first z s (λ u v e. f (47 ∷ 42 ∷ (q .body ++ (42 ∷ 47 ∷ u))) v (cc (append-assoc (q .body) (42 ∷ 47 ∷ u) (40 ∷ v)))))
 
--- balanced bytes, and balanced bytes after them
+-- balanced bytes after balanced bytes are balanced
 balanced-join : {xs ys zs : List ℕ} → Balanced xs ys → Balanced ys zs → Balanced xs zs
 balanced-join Balanced.none s = s
 balanced-join (Balanced.byte h k l m r) s = Balanced.byte h k l m (balanced-join r s)
@@ -106,7 +106,7 @@ pub data OutsideParts : List ℕ → Type 0 where
   part : {a : List ℕ} (k : List ℕ) {r : List ℕ} → a ≡ k ++ (40 ∷ r) → Free 40 k → OutsideBoth a (40 ∷ r)
       → ((t : List ℕ) → Closes r t → OutsideParts t) → OutsideParts a
 
--- in arguments that close they say the same
+-- where the arguments close, parts whose `(` lie outside strings and comments are closed parts
 pub parts-closed : {a : List ℕ} → OutsideParts a → (z : List ℕ) → Closes (a ++ (41 ∷ z)) z → ClosedParts a
 parts-closed (OutsideParts.none h) z c = ClosedParts.none h
 parts-closed (OutsideParts.part k {r} e f o g) z c =
@@ -119,14 +119,14 @@ parts-outside (ClosedParts.none h) = OutsideParts.none h
 parts-outside (ClosedParts.part k {r} {t} e f o h p) =
     OutsideParts.part k e f o (λ u c. rw (closing-one h c) at (parts-outside p))
 
--- the first `(` byte is one
+-- the first `(` byte of a list stands at one place
 pub part-first : (k r l s : List ℕ) → Free 40 k → Free 40 l → k ++ (40 ∷ r) ≡ l ++ (40 ∷ s) → (k ≡ l) × (r ≡ s)
 part-first [] r [] s h i e = (refl, cc)
 part-first [] r (d ∷ l) s h (i, j) e = clash (cc)
 part-first (c ∷ k) r [] s (h, t) i e = clash (cc)
 part-first (c ∷ k) r (d ∷ l) s (h, t) (i, j) e = let (p, q) = part-first k r l s t j (cc) in (cc, q)
 
--- what closed parts say of the part that comes first
+-- what closed parts say of the first part: its `(` lies outside strings and comments, and closed parts follow its `)`
 pub closed-part : {a : List ℕ} → ClosedParts a → (k r : List ℕ) → a ≡ k ++ (40 ∷ r) → Free 40 k
     → OutsideBoth a (40 ∷ r) × ((t : List ℕ) → Closes r t → ClosedParts t)
 closed-part (ClosedParts.none h) k r e f = let n : Free 40 (40 ∷ r) = all-back _ k (40 ∷ r) (rw e at h) in clash (cc (n .0))

@@ -32,7 +32,7 @@ use Rattle.statement.specs.declared.Section.the-variants.{Outside, InHea
 before-end : (b r : List ℕ) → before (b ++ (59 ∷ r)) (59 ∷ r) ≡ b
 before-end b r = take-at b (59 ∷ r) (length (b ++ (59 ∷ r)) - length (59 ∷ r)) (simp length-append (omega arith))
 
--- a record begins with its first byte, or with its `;`
+-- a statement that begins with a record's text is that of the search for the record's end
 begun-is : (s : List ℕ) (sec : Section) (b r : List ℕ) → begun s sec (b ++ (59 ∷ r)) ≡ ended s (b ++ (59 ∷ r)) sec (recordEnd (b ++ (59 ∷ r)))
 begun-is s sec [] r = refl
 begun-is s sec (c ∷ b) r = refl
@@ -42,7 +42,7 @@ pub record Stands (t b r : List ℕ) : Type 0 where
   pub lead : trivia (t ++ (b ++ (59 ∷ r))) ≡ at (b ++ (59 ∷ r))
   pub end : recordEnd (b ++ (59 ∷ r)) ≡ at (59 ∷ r)
 
--- then what follows the `;` has no part in it: whatever follows b, no trivia begins where b does
+-- where no trivia begins with b before one rest, none begins with b before any other
 unled : (b r y : List ℕ) → Led (b ++ (59 ∷ r)) (b ++ (59 ∷ r)) → Led (b ++ (59 ∷ y)) (b ++ (59 ∷ y))
 unled b r y l = record { before = Trivia.none; unblank = λ c w (u, e). l .unblank c w (blank b e); unopened = λ (u, e). l .unopened (opens b e) }
   where
@@ -55,21 +55,21 @@ unled b r y l = record { before = Trivia.none; unblank = λ c w (u, e). l .unbla
     opens (d ∷ []) e = absurd (eqb-false 59 42 refl (cc))
     opens (d ∷ c ∷ b) e = (b ++ (59 ∷ r), cc)
 
--- a statement's trivia, whatever follows them
+-- trivia t that lead to some rest are passed before any other rest
 lead-any : (t ys : List ℕ) → trivia (t ++ ys) ≡ at ys → (zs : List ℕ) → trivia (t ++ zs) ≡ trivia zs
 lead-any t ys h zs =
     let (u, e, l) = trivia-local (t ++ ys) ys h in
     let k : t ≡ u = append-cancel-right t u ys e in
     rw k (l zs)
 
--- a record's text, whatever follows its `;`
+-- a record's text ends at its `;` whatever follows the `;`
 text-any : (b r : List ℕ) → recordEnd (b ++ (59 ∷ r)) ≡ at (59 ∷ r) → (y : List ℕ) → recordEnd (b ++ (59 ∷ y)) ≡ at (59 ∷ y)
 text-any b r h y =
     let (u, e, l) = end-local (b ++ (59 ∷ r)) r h in
     let k : b ≡ u = append-cancel-right b u (59 ∷ r) e in
     rw k (l y)
 
--- a text stands so before any rest
+-- trivia and a record's text that stand before some rest stand before any other
 pub stands-any : {t b r : List ℕ} → Stands t b r → (y : List ℕ) → Stands t b y
 stands-any {t} {b} {r} h y =
     let l : trivia (b ++ (59 ∷ r)) ≡ at (b ++ (59 ∷ r)) = sym (lead-any t _ (h .lead) (b ++ (59 ∷ r))) ∙ h .lead in
@@ -78,7 +78,7 @@ stands-any {t} {b} {r} h y =
       end = text-any b r (h .end) y;
     }
 
--- a data record's text may stand after the trivia of another
+-- a data record's text may stand after another record's trivia, before any rest
 pub stands-moved : {t b r u c v : List ℕ} → Stands t b r → Stands u c v → Begins 35 c → (y : List ℕ) → Stands t c y
 stands-moved {t} {b} {r} {u} {c} {v} h k (d, e) y = record {
   lead = lead-any t _ (h .lead) (c ++ (59 ∷ y)) ∙ rw e (trivia-here 35 (d ++ (59 ∷ y)) refl (eqb-false 35 47 refl));
@@ -122,7 +122,7 @@ statement-local {b} {r} c s q e h =
     let w : wordOf b ≡ Other = rw g (hash-other u) in
     statement-says s InData h ∙ rw (w, e, record-row c q (59 ∷ r)) refl
 
--- a statement that is a closed header record likewise
+-- a statement that is a closed header record gives its row, wherever it stands: q precedes the record in the file s
 pub statement-header-local : {t b r : List ℕ} (c : ClosedHeader b) (s q : List ℕ) → s ≡ q ++ (b ++ (59 ∷ r)) → Stands t b r → wordOf b ≡ Other
     → statement s InHeader (t ++ (b ++ (59 ∷ r))) ≡ header (headerRowFrom (length q) c) (b ++ (59 ∷ r)) r
 statement-header-local {b} {r} c s q e h w = statement-says s InHeader h ∙ rw (w, e, header-row c q (59 ∷ r)) refl
@@ -137,7 +137,7 @@ pub data Step (s : List ℕ) (sec : Section) (xs : List ℕ) : Stmt → Type 0 w
       → Step s sec xs (header w (b ++ (59 ∷ r)) r)
   entry : (t b r : List ℕ) (w : Row) → xs ≡ t ++ (b ++ (59 ∷ r)) → Stands t b r → sec ≡ InData → Step s sec xs (record′ w (b ++ (59 ∷ r)) r)
 
--- where a record stands
+-- what is made of a record that stands after trivia, by the word that it is
 module _ (s : List ℕ) (sec : Section) (xs : List ℕ) {t b r : List ℕ} (e : xs ≡ t ++ (b ++ (59 ∷ r))) (h : Stands t b r) where
   stood-over : ((f y : List ℕ) → textSays f b y sec (wordOf b) ≡ ends) → Step s sec xs ends
   stood-over g = Step.over (λ f. rw e (statement-says f sec h ∙ g f r))
@@ -162,7 +162,7 @@ module _ (s : List ℕ) (sec : Section) (xs : List ℕ) {t b r : List ℕ} (e : 
   stood Other InHeader p i = stood-header i p (headerOf s (b ++ (59 ∷ r)) b)
   stood Other InData p i = stood-record i (recordOf s (b ++ (59 ∷ r)) b)
 
--- every statement is one of these
+-- every statement is a `Step`, by what it says
 pub step : (s : List ℕ) (sec : Section) (xs : List ℕ) → Step s sec xs (statement s sec xs)
 unfolding statement
 step s sec xs = go (trivia xs) refl
@@ -192,7 +192,7 @@ data-stands s sec xs w b r h = go (rw h at (step s sec xs)) refl
         → (t : List ℕ) × (xs ≡ t ++ (b ++ (59 ∷ r))) × Stands t b r × (sec ≡ InData)
     go (Step.entry t c y v e k i) g = let f : c ≡ b = append-cancel-right c b (59 ∷ y) g in (t, rw f at e, rw f at k, i)
 
--- a statement that gives a header row likewise, in the header
+-- a statement that gives a header row is a record that stands there, in the header, and no section word
 pub header-stands : (s : List ℕ) (sec : Section) (xs : List ℕ) (w : HeaderRow) (b r : List ℕ) → statement s sec xs ≡ header w (b ++ (59 ∷ r)) r
     → (t : List ℕ) × (xs ≡ t ++ (b ++ (59 ∷ r))) × Stands t b r × (sec ≡ InHeader) × (wordOf b ≡ Other)
 header-stands s sec xs w b r h = go (rw h at (step s sec xs)) refl
@@ -201,7 +201,7 @@ header-stands s sec xs w b r h = go (rw h at (step s sec xs)) refl
         → (t : List ℕ) × (xs ≡ t ++ (b ++ (59 ∷ r))) × Stands t b r × (sec ≡ InHeader) × (wordOf b ≡ Other)
     go (Step.heading t c y v e k i l) g = let f : c ≡ b = append-cancel-right c b (59 ∷ y) g in (t, rw f at e, rw f at k, i, rw f at l)
 
--- the row of a closed data record in a file
+-- the row that a statement gives of a closed data record is `rowFrom` at the record's start
 pub data-row : {b : List ℕ} (c : ClosedData b) (s q : List ℕ) (sec : Section) (xs : List ℕ) (w : Row) (r : List ℕ) → s ≡ q ++ (b ++ (59 ∷ r))
     → statement s sec xs ≡ record′ w (b ++ (59 ∷ r)) r → w ≡ rowFrom (length q) c
 data-row {b} c s q sec xs w r g h =
@@ -210,6 +210,7 @@ data-row {b} c s q sec xs w r g h =
 
 -- what follows a statement in a closed file
 module _ {s : List ℕ} {sec : Section} {xs : List ℕ} where
+  -- what follows a section word or an ignored record in a closed file is closed
   pub closed-turn : ClosedFrom s sec xs → (to : Section) (r : List ℕ) → statement s sec xs ≡ moved to r → ClosedFrom s to r
   closed-turn (ClosedFrom.over e) to r h = clash (cc)
   closed-turn (ClosedFrom.turn {to = u} {r = y} e c) to r h =
@@ -219,6 +220,7 @@ module _ {s : List ℕ} {sec : Section} {xs : List ℕ} where
   closed-turn (ClosedFrom.heading e d c) to r h = clash (cc)
   closed-turn (ClosedFrom.entry e d c) to r h = clash (cc)
 
+  -- a data record in a closed file is closed, and so is what follows it
   pub closed-entry : ClosedFrom s sec xs → (w : Row) (b r : List ℕ) → statement s sec xs ≡ record′ w (b ++ (59 ∷ r)) r
       → ClosedData b × ClosedFrom s InData r
   closed-entry (ClosedFrom.over e) w b r h = clash (cc)
