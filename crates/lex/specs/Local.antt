@@ -21,7 +21,7 @@ abbrev pub seek : (ℕ → ℕ → Look) → (Seen → Sought) → Mode → ℕ 
 seek f z m d o xs = walk (seekTurn f) z (seen m d o) xs
 
 module _ (f : ℕ → ℕ → Look) (z : Seen → Sought) (m : Mode) (d : ℕ) (o : List ℕ) (c : ℕ) (r : List ℕ) where
-  -- a byte in a string or a comment is passed over
+  -- a search passes over a byte in a string or a comment
   pub seek-within : calm m c ≡ false → seek f z m d o (c ∷ r) ≡ seek f z (next m c) d o r
   unfolding walk
   seek-within h = rw h

@@ -54,14 +54,14 @@ max-none k = omega arith
 same-needs : {h r m h′ r′ m′ : ℕ} {z z′ : Sizes} → h ≡ h′ → r ≡ r′ → m ≡ m′ → z ≡ z′ → needs h r m z ≡ needs h′ r′ m′ z′
 same-needs a b c d = λ i. record { headers = a i; records = b i; max = c i; items = d i .items; text = d i .text; rows = d i .rows }
 
--- a header record's sizes taken first from what is left count as those taken to what is so far
+-- a header record's sizes count the same joined to those so far as joined to those of what is left
 first-most : (z i a b : Sizes) → both z (both (both i a) b) ≡ both (both z i) (both a b)
 first-most z i a b = same-sizes (one (z .text) (i .text) (a .text) (b .text)) (one (z .items) (i .items) (a .items) (b .items)) (one (z .rows) (i .rows) (a .rows) (b .rows))
   where
     one : (j k l n : ℕ) → max j (max (max k l) n) ≡ max (max j k) (max l n)
     one j k l n = omega arith
 
--- a data record's sizes taken first from what is left count as those taken to what is so far
+-- a data record's sizes count the same joined to those so far as joined to those of what is left
 later-most : (z i a b : Sizes) → both z (both a (both i b)) ≡ both (both z i) (both a b)
 later-most z i a b = same-sizes (one (z .text) (i .text) (a .text) (b .text)) (one (z .items) (i .items) (a .items) (b .items)) (one (z .rows) (i .rows) (a .rows) (b .rows))
   where

@@ -163,7 +163,7 @@ module _ (s : List ℕ) (i : ℕ) (sec : Section) where
           let f : q ≡ refusal n 0 (place s o) = cc in
           ap refused f ∙ ap (led s sec) (sym e)
 
--- what lies after a later place lies after an earlier one
+-- an answer of `next_statement` that lies after a later place lies after an earlier one
 pub ahead-from : (i p n : ℕ) (r : Said) → i ≤ p → Ahead p n r → Ahead i n r
 ahead-from i p n Ends h w = tt
 ahead-from i p n (Refuses f) h w = tt

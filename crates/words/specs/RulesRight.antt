@@ -74,7 +74,7 @@ module _ (s : List ℕ) (a : Span) (b : List ℕ) (c z : ℕ) (ordered : a .star
       ∙ middle-of c z b
 
 -- ---- names
--- a name by the rule passes the test
+-- a name by the rule passes the test for a name
 pub name-only : {t n : List ℕ} → Name t n → isName t ≡ true
 unfolding isName
 name-only {t} {n} m =
@@ -120,7 +120,7 @@ nameform-only {s} {a} (NameForm.other h) = go (isName (partOf s a)) refl
     go false k = refl
 
 -- ---- string parameters
--- a string parameter by the rule passes the test
+-- a string parameter by the rule passes the test for one
 pub quoted-only : {t b : List ℕ} → Quoted t b → isString t ≡ true
 unfolding isString
 quoted-only {t} {b} q =
