@@ -31,7 +31,7 @@ module _ (f : ℕ → ℕ → Look) (z : Seen → Sought) (m : Mode) (d : ℕ) (
   unfolding walk
   seek-past e h k = rw (h, k)
 
-  -- at a byte outside strings and comments at which it halts, the search is answered
+  -- a search that halts at a byte outside strings and comments answers what is left from there
   pub seek-halts : calm m c ≡ true → f d c ≡ halt → seek f z m d o (c ∷ r) ≡ at (c ∷ r)
   unfolding walk
   seek-halts h k = rw (h, k)

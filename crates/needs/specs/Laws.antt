@@ -171,7 +171,7 @@ needs-refused s q e n = go (scanOf s 0 0) refl
         let v : f ≡ q = cc in
         subst (λ (z : Refusal). bad z ≡ mapped (needsIn s) (scanOf s (length s) (length s))) v (ap (mapped (needsIn s)) (sym (refusal-roomy s 0 0 f p (λ k. n (ap (λ (z : Refusal). z .number) (sym v) ∙ k)) (length s) (length s) (omega arith) (omega arith))))
 
--- where the scan refuses nothing but 8 with nothing lent, what the file needs is what reading it gives
+-- where the scan with nothing lent refuses with 8 or not at all, what the file needs is what reading it gives
 pub needs-read : (s : List ℕ) → ((q : Refusal) → bad q ≡ mapped countsOf (scanOf s 0 0) → q .number ≡ 8) → mapped (needsIn s) (readingOf s (length s) (length s)) ≡ needsOf s
 unfolding needsOf scanOf
 needs-read s n = go (ltb 4294967295 (length s)) (marked s) refl refl

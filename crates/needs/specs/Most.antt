@@ -38,7 +38,7 @@ module _ (π : Sizes → ℕ) (f : List ℕ → ℕ) (least : π nothing ≡ 0) 
     of-later : (w : R) (ws : List R) (t : List ℕ) → Of ws t → Of (w ∷ ws) t
     of-later w ws t (v, i, d) = (v, record { before = w ∷ i .before; behind = i .behind; shape = ap (λ (l : List R). w ∷ l) (i .shape) }, d)
 
-    -- a parameter of one of some rows has just as much as is told of all
+    -- some parameter of one of some rows has just as much as is told of all
     of-one : (ws : List R) → Found f (Of ws) (π (mostOf g ws))
     unfolding mostOf
     of-one [] = inl least

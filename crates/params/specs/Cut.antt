@@ -83,7 +83,7 @@ over Quoted s o = cut [] []
 over Remark s o = cut s []
 over Starred s o = cut s []
 
--- a parameter whose bytes ended in this state
+-- what is cut of a parameter where the bytes ended in this state
 abbrev pub cutEnd : Stand → Cut
 cutEnd s = pick (s .binary) (unclosed (s .opened)) (over (s .mode) (s .solid) (s .opened))
 

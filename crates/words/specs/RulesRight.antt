@@ -137,7 +137,7 @@ quoted-is (c ∷ d ∷ r) h =
     let (x, y) = both (leb 2 (length (c ∷ d ∷ r))) (eqb c 39) h in
     (b, record { end = z; shape = e ∙ ap (λ (k : ℕ). k ∷ (b ++ (z ∷ []))) (eqb-true c 39 y) })
 
--- "its text lies between first and last byte": what is computed as it is what stands there in the file
+-- "its text lies between first and last byte": `bodyOf` is what stands there in the file
 pub quoted-body : (s : List ℕ) (a : Span) (b : List ℕ) → a .start ≤ a .stop → a .stop ≤ length s → Quoted (partOf s a) b → bodyOf s a ≡ b
 quoted-body s a b h k q = body-part s a b 39 (q .end) h k (q .shape)
 
