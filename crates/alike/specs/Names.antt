@@ -52,11 +52,11 @@ pub each-by : {P Q : ℕ → Type 0} → ((k : ℕ) → P k → Q k) → (ks : L
 each-by f ks h front back k e = f k (h front back k e)
 
 -- ---- bytes that no digit begins
--- no digit begins an empty list
+-- an empty list begins with no digit
 first-none : NotFirst digit []
 first-none c r e = clash (cc)
 
--- where no digit begins x nor y, none begins x and then y
+-- where neither x nor y begins with a digit, x and then y do not
 first-join : (x y : List ℕ) → NotFirst digit x → NotFirst digit y → NotFirst digit (x ++ y)
 first-join [] y h k = k
 first-join (c ∷ x) y h k = first-other digit c (x ++ y) (h c x refl)
@@ -73,23 +73,23 @@ white-digit c h = go (digit c) refl
         let w : white c ≡ false = rw (n 32 (omega arith), n 9 (omega arith), n 10 (omega arith), n 12 (omega arith), n 13 (omega arith)) in
         clash (cc)
 
--- where no digit begins y, none begins whitespace and then y
+-- where y begins with no digit, whitespace and then y begin with none
 first-white : (w y : List ℕ) → All white w → NotFirst digit y → NotFirst digit (w ++ y)
 first-white [] y h k = k
 first-white (c ∷ w) y (h, t) k = first-other digit c (w ++ y) (white-digit c h)
 
--- where no digit begins what follows trivia, none begins the trivia
+-- where what follows trivia begins with no digit, the trivia and that begin with none
 first-trivia : {xs ys : List ℕ} → Trivia xs ys → NotFirst digit ys → NotFirst digit xs
 first-trivia Trivia.none h = h
 first-trivia (Trivia.blank {c} {xs} w t) h = first-other digit c xs (white-digit c w)
 first-trivia (Trivia.comment q t) h = subst (NotFirst digit) (sym (q .shape)) (first-other digit 47 _ refl)
 
--- no digit begins a comma at depth 0, nor the end
+-- a comma at depth 0, and the end, begin with no digit
 first-bound : {d : ℕ} {ys : List ℕ} → Bound d ys → NotFirst digit ys
 first-bound (Bound.comma {r}) = first-other digit 44 r refl
 first-bound Bound.end = first-none
 
--- no digit begins what follows a parameter, from the trivia after it on
+-- what follows a parameter, from the trivia after it on, begins with no digit
 first-after : {xs z b : List ℕ} → Parameter xs z b → NotFirst digit z
 first-after p = go (p .trails) (p .bounds)
   where

@@ -24,7 +24,7 @@ ordered a b = go (ltb a b) refl
     go true e = inl (ltb-true a b e)
     go false e = inr (same (eqb a b) refl (ltb-false a b e))
 
--- of two numbers one is less, or the other is at most it
+-- of two numbers a and b, a is less than b, or b is at most a
 pub less-or : (a b : ℕ) → (a < b) ⊎ (b ≤ a)
 less-or a b = go (ltb a b) refl
   where

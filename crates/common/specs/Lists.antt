@@ -11,6 +11,6 @@ use lib.Seq.{drop-cons}
 pub split : (xs : List ℕ) (i : ℕ) → i < length xs → drop i xs ≡ getD xs i 0 ∷ drop (i + 1) xs
 split xs i h = rw (add-one, drop-cons xs i 0)
 
--- nothing is left from the end on
+-- nothing is left of a list from its end on
 pub drop-end : (xs : List ℕ) (i : ℕ) → length xs ≤ i → drop i xs ≡ []
 drop-end xs i h = drop-of-length-le xs h

@@ -6,7 +6,7 @@ use mathlib.Core.Option.{Option, none, some}
 use Rattle.index.specs.declared.Found.{Found}
 use Rattle.index.specs.declared.Found.the-variants.{At, Nothing}
 
--- what the code's answer says: a row, or none
+-- what the code's answer to a lookup says: a row, or none
 abbrev pub toldFound : Found → Option ℕ
 toldFound (At r) = some r
 toldFound Nothing = none

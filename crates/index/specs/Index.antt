@@ -11,13 +11,13 @@ use Rattle.common.specs.Pick.{pick}
 use Rattle.index.specs.Order.{keyOf, rowAt, Rises, Steady, Says}
 use Rattle.index.specs.declared.Ids.{Ids}
 
--- the slot that holds the key of row r
+-- a slot, one of the first n, holds the key of row r
 pub record Stands (f : ℕ → ℕ) (n r : ℕ) (xs : List ℕ) : Type 0 where
   pub slot : ℕ
   pub inside : slot < n
   pub holds : getD xs slot 0 ≡ keyOf f r
 
--- the row, one of n, whose key this is
+-- a row, one of n, whose key is s
 pub record Keeps (f : ℕ → ℕ) (n s : ℕ) : Type 0 where
   pub row : ℕ
   pub inside : row < n

@@ -45,7 +45,7 @@ guess k b = pick (eqb (b .guided) 0) (middle b) (pick (eqb (b .guided) 1) (stepp
 abbrev pub probeOf : ℕ → Bracket → ℕ
 probeOf k b = max (b .lo) (min (guess k b) (b .hi - 1))
 
--- the bracket after slot m, which holds this id
+-- the bracket of a search after a look at slot m, which holds this id
 abbrev pub narrowed : ℕ → Bracket → ℕ → ℕ → Bracket
 narrowed k b m id = pick (leb id k) (bracket (m + 1) (b .hi) id (b .over) (b .guided - 1)) (bracket (b .lo) m (b .under) id (b .guided - 1))
 

@@ -118,12 +118,12 @@ kind-is t = go (found named t all-named)
     go (inl s) = spelt (kindIn named t) (s .0) (s .1)
     go (inr u) = subst (λ (k : Kind). KindForm t k) (sym (u .1)) (other (none-named t (u .0)))
 
--- the search in a text that is already in capitals
+-- the search for a kind by a text that is already in capitals
 abbrev kindBy : List Kind → List ℕ → Kind
 kindBy [] u = Other
 kindBy (k ∷ ks) u = pick (same u (bytes (nameOf k))) k (kindBy ks u)
 
--- the search finds each of the ten by its name
+-- the search by a text in capitals finds each of the ten kinds by its name
 by-name : (k : Kind) → Named k → kindBy named (bytes (nameOf k)) ≡ k
 unfolding same
 by-name GeometricRepresentationContext n = refl

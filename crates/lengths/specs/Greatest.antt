@@ -43,7 +43,7 @@ either f P i j l e a b = go (leb i j) refl a b
     go false h (inl z) y = let w = leb-false i j h in inl (omega arith)
     go false h (inr (t, p, q)) y = let w = leb-false i j h in inr (t, p, omega arith)
 
--- where P has one with just l, so has Q, which follows from P
+-- where one of which P holds has just l, one of which Q holds has, if Q follows from P
 pub found-also : (f : List ℕ → ℕ) (P Q : List ℕ → Type 0) (l : ℕ) → ((t : List ℕ) → P t → Q t) → Found f P l → Found f Q l
 found-also f P Q l h (inl z) = inl z
 found-also f P Q l h (inr (t, d, q)) = inr (t, h t d, q)
@@ -101,7 +101,7 @@ module _ (π : Sizes → ℕ) (f : List ℕ → ℕ) (least : π nothing ≡ 0) 
       let k = passes-far (d .passes) in
       subst (λ (x : List ℕ). f x ≤ π (argsOf s p e)) (d .text) (args-passed (length s) (d .span) (d .passes) (omega arith) (d .found))
 
-  -- a parameter of what follows the next one is one of the arguments
+  -- a parameter of what follows the next parameter is one of the arguments
   further : (p e : ℕ) (a : Span) → paramOf s p e .answer ≡ good a → (t : List ℕ) → Param s (paramOf s p e .place) e t → Param s p e t
   further p e a g t d = record { count = suc (d .count); place = d .place; passes = past a g (d .passes); span = d .span; found = d .found; text = d .text }
 
@@ -146,11 +146,11 @@ module _ (π : Sizes → ℕ) (f : List ℕ → ℕ) (least : π nothing ≡ 0) 
   abbrev InPart : ℕ → ℕ → List ℕ → Type 0
   InPart p e t = (w : HeaderRow) × Part s p e w × Param s (w .argStart) (w .argEnd) t
 
-  -- a parameter of the next part is one of the record's parts
+  -- a parameter of the next part is a parameter of one of the record's parts
   of-part : (p e : ℕ) (w : HeaderRow) → nextOf s p e ≡ good (some w) → (t : List ℕ) → Param s (w .argStart) (w .argEnd) t → InPart p e t
   of-part p e w g t d = (w, record { count = 0; place = p; seeks = first; found = g }, d)
 
-  -- a parameter of a part after the next is one of the record's parts
+  -- a parameter of a part after the next is a parameter of one of the record's parts
   of-later : (p e : ℕ) (w : HeaderRow) → nextOf s p e ≡ good (some w) → (t : List ℕ) → InPart (w .argEnd + 1) e t → InPart p e t
   of-later p e w g t (v, h, d) = (v, record { count = suc (h .count); place = h .place; seeks = later w g (h .seeks); found = h .found }, d)
 
@@ -178,7 +178,7 @@ module _ (π : Sizes → ℕ) (f : List ℕ → ℕ) (least : π nothing ≡ 0) 
       go false = args-all p e t d
   record-all p e complex t (Arg.inPart c w h d) = rw (eq-eqb complex 1 c) (omega (arith, parts-all p e w t h d, join (argsOf s p e) (partsOf s p e)))
 
-  -- a parameter of a complex record's part is one of the record
+  -- a parameter of a complex record's part is a parameter of the record
   as-part : (p e complex : ℕ) → complex ≡ 1 → (t : List ℕ) → InPart p e t → Arg s p e complex t
   as-part p e complex c t (w, h, d) = Arg.inPart c w h d
 

@@ -21,7 +21,7 @@ abbrev pub seek : (ℕ → ℕ → Look) → (Seen → Sought) → Mode → ℕ 
 seek f z m d o xs = walk (seekTurn f) z (seen m d o) xs
 
 module _ (f : ℕ → ℕ → Look) (z : Seen → Sought) (m : Mode) (d : ℕ) (o : List ℕ) (c : ℕ) (r : List ℕ) where
-  -- a byte in a string or a comment is passed over
+  -- a search passes over a byte in a string or a comment
   pub seek-within : calm m c ≡ false → seek f z m d o (c ∷ r) ≡ seek f z (next m c) d o r
   unfolding walk
   seek-within h = rw h
@@ -31,7 +31,7 @@ module _ (f : ℕ → ℕ → Look) (z : Seen → Sought) (m : Mode) (d : ℕ) (
   unfolding walk
   seek-past e h k = rw (h, k)
 
-  -- at a byte outside strings and comments at which it halts, the search is answered
+  -- a search that halts at a byte outside strings and comments answers what is left from there
   pub seek-halts : calm m c ≡ true → f d c ≡ halt → seek f z m d o (c ∷ r) ≡ at (c ∷ r)
   unfolding walk
   seek-halts h k = rw (h, k)

@@ -292,7 +292,7 @@ sunk-before : {d k : ℕ} {xs ts ys : List ℕ} → ((zs : List ℕ) → Balance
 sunk-before g (Sunk.stay i e s) = Sunk.stay i e (deep-before g s)
 sunk-before g (Sunk.rise {zs} r s) = Sunk.rise (g (41 ∷ zs) r) s
 
--- a `(` before bytes that begin one deeper
+-- a `(` may go before bytes that begin with one parenthesis more open
 sunk-open : {d k : ℕ} {t ys : List ℕ} → Sunk (suc d) k t ys → Sunk d k (40 ∷ t) ys
 sunk-open {d} {k} (Sunk.stay i e s) = Sunk.stay {d = d} {k = k} (suc i) (omega arith) (Deep.nested Balanced.none s)
 sunk-open (Sunk.rise r s) = sunk-before (λ zs. Balanced.group r) s

@@ -16,7 +16,7 @@ use Rattle.lex.specs.Search.{Seen, seen, Look, halt, look, seekTurn, und
 use Rattle.lex.specs.Answer.{Sought, at}
 use Rattle.lex.specs.declared.Mode.{Mode}
 
--- a start past the end counts as the end
+-- what is left from a start past the list's end is what is left from the end
 pub drop-within : (xs : List ℕ) (i : ℕ) → drop (min i (length xs)) xs ≡ drop i xs
 drop-within xs i = go (decLe i (length xs))
   where

@@ -40,7 +40,7 @@ rowFound rows (some k) = some (rowNumbers rows k)
 abbrev pub rowFor : List ℕ → List ℕ → Ids → ℕ → Option Row
 rowFor rows slots ids k = rowFound rows (searched rows slots ids k)
 
--- "14 arguments asked of an id with no record, 0"
+-- "14 arguments asked of an id with no record, 0": what is made of a row that was looked up, or of none
 abbrev pub required : Option Row → Told Row
 required none = bad (refusal 14 0 0)
 required (some w) = good w
@@ -58,7 +58,7 @@ span a z = record { start = a; end = z }
 abbrev pub spanFine : ℕ → ℕ → ℕ → Bool
 spanFine len a z = leb a z && leb z len
 
--- "9 span outside the file or backwards, 0"
+-- "9 span outside the file or backwards, 0": what is made of a span, in a file of this length
 abbrev pub spanIn : ℕ → ℕ → ℕ → Told Span
 spanIn len a z = pick (spanFine len a z) (good (span a z)) (bad (refusal 9 0 0))
 

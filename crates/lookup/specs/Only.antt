@@ -17,7 +17,7 @@ use Rattle.lookup.specs.declared.Spanned.the-variants as spanned
 use Rattle.lookup.specs.declared.Place.{Place}
 use Rattle.lookup.specs.declared.Place.the-variants as place
 
--- the row that has these numbers
+-- the code's record that has the numbers of a row
 unfoldable pub rowBack : Row → RecordSpan
 rowBack w = record { id = w .id; keyword = record { start = w .keyStart; end = w .keyEnd }; args = record { start = w .argStart; end = w .argEnd }; complex = w .complex }
 

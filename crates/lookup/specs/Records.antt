@@ -78,7 +78,7 @@ last-only k (v ∷ rs) (some w) h = go (h .front) (h .cut) (λ o. last-only k rs
         rw (ih (some w) (record { front = front; back = h .back; cut = q; named = h .named; after = h .after })) refl
 
 -- ---- the rows in lent memory
--- the record between those before it and those after it
+-- the record between two lists of records has as its number how many stand before it
 elem-mid : {A : Type 0} (front : List A) (w : A) (back : List A) → getElem? (front ++ (w ∷ back)) (length front) ≡ some w
 elem-mid [] w back = refl
 elem-mid (v ∷ front) w back = elem-mid front w back

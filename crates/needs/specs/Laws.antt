@@ -54,14 +54,14 @@ max-none k = omega arith
 same-needs : {h r m h′ r′ m′ : ℕ} {z z′ : Sizes} → h ≡ h′ → r ≡ r′ → m ≡ m′ → z ≡ z′ → needs h r m z ≡ needs h′ r′ m′ z′
 same-needs a b c d = λ i. record { headers = a i; records = b i; max = c i; items = d i .items; text = d i .text; rows = d i .rows }
 
--- a header record's sizes taken first from what is left count as those taken to what is so far
+-- a header record's sizes count the same joined to those so far as joined to those of what is left
 first-most : (z i a b : Sizes) → both z (both (both i a) b) ≡ both (both z i) (both a b)
 first-most z i a b = same-sizes (one (z .text) (i .text) (a .text) (b .text)) (one (z .items) (i .items) (a .items) (b .items)) (one (z .rows) (i .rows) (a .rows) (b .rows))
   where
     one : (j k l n : ℕ) → max j (max (max k l) n) ≡ max (max j k) (max l n)
     one j k l n = omega arith
 
--- a data record's sizes taken first from what is left count as those taken to what is so far
+-- a data record's sizes count the same joined to those so far as joined to those of what is left
 later-most : (z i a b : Sizes) → both z (both a (both i b)) ≡ both (both z i) (both a b)
 later-most z i a b = same-sizes (one (z .text) (i .text) (a .text) (b .text)) (one (z .items) (i .items) (a .items) (b .items)) (one (z .rows) (i .rows) (a .rows) (b .rows))
   where
@@ -171,7 +171,7 @@ needs-refused s q e n = go (scanOf s 0 0) refl
         let v : f ≡ q = cc in
         subst (λ (z : Refusal). bad z ≡ mapped (needsIn s) (scanOf s (length s) (length s))) v (ap (mapped (needsIn s)) (sym (refusal-roomy s 0 0 f p (λ k. n (ap (λ (z : Refusal). z .number) (sym v) ∙ k)) (length s) (length s) (omega arith) (omega arith))))
 
--- where the scan refuses nothing but 8 with nothing lent, what the file needs is what reading it gives
+-- where the scan with nothing lent refuses with 8 or not at all, what the file needs is what reading it gives
 pub needs-read : (s : List ℕ) → ((q : Refusal) → bad q ≡ mapped countsOf (scanOf s 0 0) → q .number ≡ 8) → mapped (needsIn s) (readingOf s (length s) (length s)) ≡ needsOf s
 unfolding needsOf scanOf
 needs-read s n = go (ltb 4294967295 (length s)) (marked s) refl refl

@@ -30,15 +30,15 @@ module _ (π : Sizes → ℕ) (f : List ℕ → ℕ) (least : π nothing ≡ 0) 
     of-all : (ws : List R) (t : List ℕ) → Of ws t → f t ≤ π (mostOf g ws)
     of-all ws t (w, i, d) = let k = subst (λ (l : List R). π (g w) ≤ π (mostOf g l)) (sym (i .shape)) (rows-all (i .before) w (i .behind)) in omega (arith, k, each w .all t d)
 
-    -- a parameter of the first row is one of some rows'
+    -- a parameter of the first of some rows is a parameter of one of them
     of-first : (w : R) (ws : List R) (t : List ℕ) → P w t → Of (w ∷ ws) t
     of-first w ws t d = (w, record { before = []; behind = ws; shape = refl }, d)
 
-    -- a parameter of a later row is one of some rows'
+    -- a parameter of one of the later rows is a parameter of one of all of them
     of-later : (w : R) (ws : List R) (t : List ℕ) → Of ws t → Of (w ∷ ws) t
     of-later w ws t (v, i, d) = (v, record { before = w ∷ i .before; behind = i .behind; shape = ap (λ (l : List R). w ∷ l) (i .shape) }, d)
 
-    -- a parameter of one of some rows has just as much as is told of all
+    -- some parameter of one of some rows has just as much as is told of all
     of-one : (ws : List R) → Found f (Of ws) (π (mostOf g ws))
     unfolding mostOf
     of-one [] = inl least
@@ -72,11 +72,11 @@ module _ (π : Sizes → ℕ) (f : List ℕ → ℕ) (least : π nothing ≡ 0) 
     among-all t (Among.header w i d) = omega (arith, of-all headOf HeadArg (λ v. each (v .argStart) (v .argEnd) 0) (k .headers) t (w, i, d), join (headSizes s (k .headers)) (rowSizes s (k .records)))
     among-all t (Among.datum w i d) = omega (arith, of-all rowOf RowArg (λ v. each (v .argStart) (v .argEnd) (v .complex)) (k .records) t (w, i, d), join (headSizes s (k .headers)) (rowSizes s (k .records)))
 
-    -- a parameter of a header record is one of a table's records
+    -- a parameter of one of a table's header records is a parameter of one of its records
     as-header : (t : List ℕ) → Of headOf HeadArg (λ v. each (v .argStart) (v .argEnd) 0) (k .headers) t → Among s k t
     as-header t (w, i, d) = Among.header w i d
 
-    -- a parameter of a data record is one of a table's records
+    -- a parameter of one of a table's data records is a parameter of one of its records
     as-datum : (t : List ℕ) → Of rowOf RowArg (λ v. each (v .argStart) (v .argEnd) (v .complex)) (k .records) t → Among s k t
     as-datum t (w, i, d) = Among.datum w i d
 

@@ -26,7 +26,7 @@ use Rattle.order.specs.Order.{Cut, rest, piece, led, texts, filled, Cuts
 use Rattle.order.specs.Shape.{Fit, AllFit, AllSay, AllHead, Shape, led-filled, Read, read-filled}
 use Rattle.order.specs.Cuts.{cuts-one, filled-own, Shaped, closed-shaped}
 
--- texts in another order are as many
+-- texts in another order are as many as before
 pub permuted-length : {ts us : List (List ℕ)} → Permuted ts us → length us ≡ length ts
 permuted-length Permuted.empty = refl
 permuted-length (Permuted.front p) = omega (arith, permuted-length p)
@@ -64,7 +64,7 @@ pub filled-length : {s : List ℕ} {c : Cut} {us : List (List ℕ)} → Cuts s O
 filled-length {s} {c} {us} k p =
     omega (arith, filled-total c us (permuted-length p), permuted-total p, ap length (filled-own k))
 
--- bytes that are no `;` stand before a `;`
+-- bytes without a `;` at the start of a list stand before any `;` of it
 free-front : (u r x y : List ℕ) → Free 59 u → u ++ r ≡ x ++ (59 ∷ y) → (v : List ℕ) × (x ≡ u ++ v)
 free-front [] r x y f e = (x, refl)
 free-front (a ∷ u) r [] y (f, g) e = clash (cc)
@@ -135,7 +135,7 @@ accepted-roomy {f} {hs} {us} {H} {R} a H' R' l m = record {
   heads = a .heads;
 }
 
--- what is accepted is marked and not too long
+-- a file that is accepted is marked and not too long
 accepted-file : (s : List ℕ) (H R : ℕ) {t : Table} → scanOf s H R ≡ good t → (length s ≤ 4294967295) × Marked s
 accepted-file s H R e = go (rw e at (scans-is s H R))
   where

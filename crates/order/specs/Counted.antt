@@ -54,7 +54,7 @@ say-largest f [] (u ∷ us) a = absurd a
 say-largest f (w ∷ ws) [] a = absurd a
 say-largest f (w ∷ ws) (u ∷ us) (y, a) = rw (says-named y, say-largest f ws us a) refl
 
--- "so many header and data rows, and the same largest id": where the texts are the same in another order
+-- where the texts are the same in another order, there are as many header and data rows, and the largest id is the same
 pub same-counts : (s f : List ℕ) (t u : Table) (hs ts us : List (List ℕ)) → AllSay s (t .records) ts → AllSay f (u .records) us
     → AllHead s (t .headers) hs → AllHead f (u .headers) hs → Permuted ts us → countsOf t ≡ countsOf u
 same-counts s f t u hs ts us a b c d p =
@@ -79,7 +79,7 @@ header-says {f} {w} {b} k =
     ap (λ (g : List ℕ). headerContent g w) (k .shape) ∙ ap (headerContent (k .front ++ (b ++ k .back))) (k .row)
     ∙ header-content (k .closed) (k .front) (k .back)
 
--- "the header records say the same": where their texts are the same
+-- where the texts of header records are the same, the header records say the same
 pub same-headers : (s f : List ℕ) (ws vs : List HeaderRow) (hs : List (List ℕ)) → AllHead s ws hs → AllHead f vs hs
     → map (headerContent s) ws ≡ map (headerContent f) vs
 same-headers s f [] [] hs a b = refl

@@ -39,7 +39,7 @@ pub data Cut : Type 0 where
   rest : List ℕ → Cut
   piece : List ℕ → List ℕ → Cut → Cut
 
--- bytes in front of what is cut
+-- a cut with the bytes g in front
 abbrev pub led : List ℕ → Cut → Cut
 led g (rest h) = rest (g ++ h)
 led g (piece h b c) = piece (g ++ h) b c
@@ -136,12 +136,13 @@ SameUnits (bad p) (bad q) = p .number ≡ q .number
 
 -- what stays the same: s is the file, t its table, f the new file, and there is room for H header rows and R data rows
 pub record Same (s : List ℕ) (t : Table) (f : List ℕ) (H R : ℕ) : Type 0 where
+  -- the table of the new file
   pub after : Table
   -- "The new file is accepted with the same rooms"
   pub accepted : scanOf f H R ≡ good after
-  -- (besides, so many header and data rows, and the same largest id)
+  -- (not demanded: the new file has as many header and data rows, and the same largest id)
   pub counted : countsOf t ≡ countsOf after
-  -- (and the header records say the same)
+  -- (not demanded: the header records of the new file say the same)
   pub headed : map (headerContent s) (t .headers) ≡ map (headerContent f) (after .headers)
   -- "each id then yields a record with the same keyword and argument bytes, or none as before"
   pub found : (k : ℕ) → served s t k ≡ served f after k

@@ -53,7 +53,7 @@ level out d c = pick out (pick (eqb c 40) (suc d) (pick (eqb c 41) (d - 1) d)) d
 abbrev pub modeAfter : Bool → Mode → ℕ → Mode
 modeAfter b m c = pick b m (next m c)
 
--- "`"` opens a binary literal", which the next one ends
+-- "`"` opens a binary literal", which the next one ends: whether one is open after the byte c
 abbrev pub binaryAfter : Bool → Bool → ℕ → Bool
 binaryAfter out b c = pick b (not (eqb c 34)) (out && eqb c 34)
 
@@ -83,7 +83,7 @@ over Quoted s o = cut [] []
 over Remark s o = cut s []
 over Starred s o = cut s []
 
--- a parameter whose bytes ended in this state
+-- what is cut of a parameter where the bytes ended in this state
 abbrev pub cutEnd : Stand → Cut
 cutEnd s = pick (s .binary) (unclosed (s .opened)) (over (s .mode) (s .solid) (s .opened))
 

@@ -35,11 +35,17 @@ pub record Ordinary (c : ℕ) (xs : List ℕ) : Type 0 where
 
 -- one token that is no trivia and no comma at depth 0, from depth d to depth e
 pub data Token : ℕ → List ℕ → ℕ → List ℕ → Type 0 where
+  -- an ordinary byte
   byte : {d c : ℕ} {xs : List ℕ} → Ordinary c xs → Token d (c ∷ xs) d xs
+  -- a comma of a nested list
   nested : {d : ℕ} {xs : List ℕ} → Token (suc d) (44 ∷ xs) (suc d) xs
+  -- a whole string
   string : {d : ℕ} {xs ys : List ℕ} → Quotation xs ys → Token d xs d ys
+  -- a whole binary literal
   binary : {d : ℕ} {xs ys : List ℕ} → Binary xs ys → Token d xs d ys
+  -- a `(` leads one deeper
   opening : {d : ℕ} {xs : List ℕ} → Token d (40 ∷ xs) (suc d) xs
+  -- a `)` of a nested list leads one up
   closing : {d : ℕ} {xs : List ℕ} → Token (suc d) (41 ∷ xs) d xs
   -- "A `)` at depth 0 leaves it 0."
   stray : {xs : List ℕ} → Token 0 (41 ∷ xs) 0 xs

@@ -124,7 +124,7 @@ param-past s p e a h = subst (λ (t : Told Span). ToldPast s p e t (paramOf s p 
 
 -- ---- what a parameter is read as, by any reader f
 module _ {A : Type 0} (f : Span → Told A) (s : List ℕ) (p e : ℕ) where
-  -- the reader stands after what the next parameter is read as between where it was and its end
+  -- whatever the next parameter is read as, the reader then stands between where it was and its end
   pub mapped-stands : Inside s p e → Stands p e (mapped f (paramOf s p e))
   mapped-stands i = let k = param-stands s p e i in record { above = k .above; within = k .within; kept = k .kept }
 

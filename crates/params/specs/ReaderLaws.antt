@@ -145,7 +145,7 @@ pub skip-ends : (n : ℕ) (s : List ℕ) (p e : ℕ) → n ≡ 0 → reading (go
 unfolding skipFrom
 skip-ends n s p e h = rw h refl
 
--- for a place and an end in the file, the skipping of n parameters is that of the reader
+-- a reader whose place and end lie in the file skips n parameters as `skipFrom` says
 pub skips-in : (n : ℕ) (s : List ℕ) (p e : ℕ) → inFile (length s) p e ≡ true → skipFrom n s p e ≡ skipsOf n s p e
 unfolding skipsOf
 skips-in n s p e h = rw h refl

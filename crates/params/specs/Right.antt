@@ -346,13 +346,13 @@ unclosed-is xs o h = go (comes xs)
 pub param-one : {xs y z a b : List ℕ} → Parameter xs y a → Parameter xs z b → (y ≡ z) × (a ≡ b)
 param-one p q = (cc (param-only p, param-only q), cc (param-only p, param-only q))
 
--- where a parameter starts by the grammar, it is sought
+-- where a parameter starts by the grammar is where `started` has it
 pub started-only : {xs ys : List ℕ} → Starts xs ys → started xs ≡ ys
 unfolding started
 started-only (Starts.led l) = ap runsOut (trivia-only l)
 started-only (Starts.unclosed r q) = ap runsOut (trivia-open-only r q)
 
--- where a parameter is sought, it starts by the grammar
+-- where `started` has a parameter, it starts by the grammar
 pub started-is : (xs : List ℕ) → Starts xs (started xs)
 unfolding started
 started-is xs = go (trivia xs) refl

@@ -27,7 +27,7 @@ pub data NextForm (s : List ℕ) (p e : ℕ) : Read Span → Type 0 where
   -- "A parameter starts after trivia and runs to a comma at depth 0", which stands at b, before the end; "one comma is eaten"
   comma : {a z b : ℕ} → Inside s p e → a ≤ z → z ≤ b → b < e → Starts (rest s e p) (rest s e a)
       → Parameter (rest s e a) (rest s e z) (rest s e b) → NextForm s p e (reading (good (span a z)) (suc b) e)
-  -- "or to the end"
+  -- "or to the end": the last parameter, after which the reader stands at its end
   last : {a z : ℕ} → Inside s p e → a < e → a ≤ z → z ≤ e → Starts (rest s e p) (rest s e a)
       → Parameter (rest s e a) (rest s e z) [] → NextForm s p e (reading (good (span a z)) e e)
   -- 11, "literal open in a parameter", at "its quote"; the reader stands "after 11 at the parameter's start"

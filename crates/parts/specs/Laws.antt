@@ -140,7 +140,7 @@ next-ahead s from end p e =
 
 -- ---- all parts, read one by one, of which the first of a kind is kept
 
--- the part that was found so far
+-- the part that an answer has found so far; none where there is none
 abbrev pub foundOf : Next → Option HeaderRow
 foundOf (Is p) = some (headerRowOf p)
 foundOf Over = none
@@ -152,7 +152,7 @@ Fine (Is p) = Unit {0}
 Fine Over = Unit {0}
 Fine (Refused f) = ⊥
 
--- the part that was found so far, or another
+-- the part that was found so far, or another where there is none
 abbrev pub orElse : Option HeaderRow → Option HeaderRow → Option HeaderRow
 orElse none b = b
 orElse (some a) b = some a

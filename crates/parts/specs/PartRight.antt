@@ -65,7 +65,7 @@ window-next {s} {from} {end} {f} {v} w k h e =
     rw (le-ltb (length s) end (window-ends w), window-cut w)
     (ap (λ (x : List ℕ). partBy s (from + place (f ++ v) x) (headerHead x)) p ∙ ap (λ (n : ℕ). partBy s (from + n) (headerHead v)) q ∙ ap (partBy s (from + length f)) (sym e))
 
--- the head of a keyword that follows separators
+-- a keyword that follows separators has the head of its places
 key-head : {f v k w r : List ℕ} → Skipped separator f v → Keyword v k w r → Simple 0 0 (length k) (length (k ++ w)) ≡ headerHead v
 key-head {f} {v} p g = headerform-only (HeaderForm.named {a = []} (record { all = tt; over = not-white v (p .over) }) g)
 
@@ -92,7 +92,7 @@ next-only {s} {from} {end} (NextForm.refused {f} {v} {k} {w} {r} {q} m p g t) =
     ∙ ap (λ (x : List ℕ). argued s x (λ q. some (headerRow (from + length f + 0) (from + length f + length k) (from + length f + length (k ++ w) + 1) q))) (from-open s from end f v k w r m g)
     ∙ ap (mapped (λ q. some (headerRow (from + length f + 0) (from + length f + length k) (from + length f + length (k ++ w) + 1) q))) (sym (argued-only t)))
 
--- the bytes between two places of the file
+-- the bytes between two places of the file are its window there
 window-of : (s : List ℕ) (from end : ℕ) → from ≤ end → end ≤ length s → Window s from end (take (end - from) (drop from s))
 window-of s from end h l =
     record {

@@ -63,7 +63,7 @@ next-placed s from end = go (nextOf s from end) refl (next-is s from end)
     go (good (some p)) e f = next-in s from end p e
     go (bad q) e f = next-fault f
 
--- parts that lie in the file, with one more in front that does
+-- where parts lie in the file, they do with one more in front that lies there before them
 add-in : (n from : ℕ) (p : HeaderRow) (x : Told (List HeaderRow)) → PartIn n from p → AnswerIn n (AllIn n (p .argEnd + 1)) x → AnswerIn n (AllIn n from) (before p x)
 add-in n from p (good ps) h k = (h, k)
 add-in n from p (bad q) h k = k

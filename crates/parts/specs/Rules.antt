@@ -97,7 +97,7 @@ pub data ComplexPart (s : List ℕ) (from end c : ℕ) (k : Kind) : Told (Option
   simple : (c ≡ 1 → ⊥) → ComplexPart s from end c k (good none)
   -- "9 span outside the file"
   outside : c ≡ 1 → length s < end → ComplexPart s from end c k (bad (refusal 9 0 0))
-  -- "or backwards"
+  -- "or backwards": the arguments end before they start
   backwards : c ≡ 1 → end < from → ComplexPart s from end c k (bad (refusal 9 0 0))
   -- a fault in any of the parts, also in one behind the part sought
   fault : {q : Refusal} → c ≡ 1 → from ≤ end → end ≤ length s → PartsForm s end from (bad q) → ComplexPart s from end c k (bad q)

@@ -54,7 +54,7 @@ NoGapFirst t = NotFirst white t
 abbrev pub NoGapLast : List ℕ → Type 0
 NoGapLast t = NotLast white t
 
--- the gap f, as long as it is, before r
+-- f is a gap, and all of it: r, which follows, begins with no more
 pub record Gapped (f r : List ℕ) : Type 0 where
   pub all : Gap f
   pub over : NoGapFirst r
@@ -91,7 +91,7 @@ pub data Says : List ℕ → Word → Type 0 where
   left : (t : List ℕ) → Spelt t "ENDSEC" → Says t EndSection
   ended : (t : List ℕ) → Spelt t "END-ISO-10303-21" → Says t EndFile
 
--- the word that a record's text is, if it is one
+-- the section word that a record's text is, or that it is none
 pub data WordForm : List ℕ → Word → Type 0 where
   word : {b t : List ℕ} {w : Word} → Trimmed b t → Says t w → WordForm b w
   other : {b t : List ℕ} → Trimmed b t → ((w : Word) → Says t w → ⊥) → WordForm b Other

@@ -12,27 +12,27 @@ use Rattle.record.specs.Text.{pastGap, Digits, numberFrom, Keyed, opened
 use Rattle.record.specs.declared.Head.{Head}
 use Rattle.record.specs.declared.Head.the-variants.{Bad, Complex, Simple}
 
--- "else a keyword and the first byte `(` up to the record's end"; reason 7 "no `(`"
+-- a data record's head by its keyword: "else a keyword and the first byte `(` up to the record's end"; reason 7 "no `(`"
 abbrev pub keyedHead : List ℕ → ℕ → List ℕ → Keyed → Head
 keyedHead b id v unopened = Bad 7
 keyedHead b id v (opened e o) = Simple id (place b v) (place b e) (place b o)
 
--- "then `(` for a complex record, else a keyword"; reason 6 "nothing after `=`"
+-- a data record's head by its value: "then `(` for a complex record, else a keyword"; reason 6 "nothing after `=`"
 abbrev pub valueHead : List ℕ → ℕ → List ℕ → Head
 valueHead b id [] = Bad 6
 valueHead b id (c ∷ r) = pick (eqb c 40) (Complex id (place b (c ∷ r))) (keyedHead b id (c ∷ r) (keyword (c ∷ r)))
 
--- "`=`, whitespace"; reason 5 "no `=`"
+-- a data record's head by what follows its id: "`=`, whitespace"; reason 5 "no `=`"
 abbrev pub equalHead : List ℕ → ℕ → List ℕ → Head
 equalHead b id [] = Bad 5
 equalHead b id (c ∷ r) = pick (eqb c 61) (valueHead b id (pastGap r)) (Bad 5)
 
--- "digits, whitespace": reason 3 "id above 4294967295", then reason 4 "no digits": r is what the digits follow
+-- a data record's head by the digits that r begins with: "digits, whitespace"; reason 3 "id above 4294967295", then reason 4 "no digits"
 abbrev pub idHead : List ℕ → List ℕ → Digits → Head
 idHead b r d =
     pick (ltb 4294967295 (d .value)) (Bad 3) (pick (eqb (length (d .rest)) (length r)) (Bad 4) (equalHead b (d .value) (pastGap (d .rest))))
 
--- "`#`"; reason 2 "no `#`"
+-- a data record's head by its first byte: "`#`"; reason 2 "no `#`"
 abbrev pub hashHead : List ℕ → List ℕ → Head
 hashHead b [] = Bad 2
 hashHead b (c ∷ r) = pick (eqb c 35) (idHead b r (numberFrom 0 r)) (Bad 2)

@@ -22,11 +22,11 @@ same (a ∷ x) (b ∷ y) = eqb a b && same x y
 abbrev pub trimmed : List ℕ → List ℕ
 trimmed xs = before (pastGap xs) (trail (pastGap xs))
 
--- the text is this word, letters in either case
+-- the test whether the text t is the word w, letters in either case
 abbrev pub isWord : List ℕ → List ℕ → Bool
 isWord t w = same (map upper t) w
 
--- the list begins with a `(`
+-- the test whether a list begins with a `(`
 abbrev pub opens : List ℕ → Bool
 opens [] = false
 opens (c ∷ r) = eqb c 40
@@ -51,7 +51,7 @@ marker = 73 ∷ 83 ∷ 79 ∷ 45 ∷ 49 ∷ 48 ∷ 51 ∷ 48 ∷ 51 ∷ 45 ∷ 5
 abbrev pub endFile : List ℕ
 endFile = 69 ∷ 78 ∷ 68 ∷ 45 ∷ marker
 
--- "`DATA`, or `DATA`, whitespace or none, then `(`, opens data"
+-- "`DATA`, or `DATA`, whitespace or none, then `(`, opens data": the test of a trimmed text for it
 abbrev pub opensData : List ℕ → Bool
 opensData t = isWord t dataWord || (isWord (take 4 t) dataWord && opens (pastGap (drop 4 t)))
 
@@ -60,6 +60,6 @@ abbrev pub wordIn : List ℕ → Word
 wordIn t =
     pick (isWord t endsec) EndSection (pick (isWord t header) Header (pick (opensData t) Data (pick (isWord t endFile) EndFile Other)))
 
--- the word that a record's text is
+-- the section word that a record's text is; `Other` where it is none
 unfoldable pub wordOf : List ℕ → Word
 wordOf body = wordIn (trimmed body)

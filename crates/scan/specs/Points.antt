@@ -154,7 +154,7 @@ module _ (s : List ℕ) (H R : ℕ) where
   scan-encloses t e = scan-points (good t) e
 
   module _ (q : Refusal) (e : scanOf s H R ≡ bad q) where
-    -- what a refusal's number names stands at its place
+    -- what the number of a scan's refusal names stands at its place
     pub scan-stands : Pointed s q
     scan-stands = scan-points (bad q) e
 

@@ -53,7 +53,7 @@ scans-roomy H' R' (Scans.long h) k = absurd k
 scans-roomy H' R' (Scans.unmarked h n) k = absurd k
 scans-roomy H' R' (Scans.read h m d) k = Scans.read h m (reads-roomy H' R' d k)
 
--- rooms larger than needed change nothing
+-- rooms larger than a scan's answer needs do not change the answer
 pub scan-roomy : (s : List ℕ) (H R : ℕ) (t : Table) → scanOf s H R ≡ good t
     → (H' R' : ℕ) → length (t .headers) ≤ H' → length (t .records) ≤ R' → scanOf s H' R' ≡ good t
 scan-roomy s H R t e H' R' h r = sym (scans-only (scans-roomy H' R' (rw e at (scans-is s H R)) (omega arith)))

@@ -61,7 +61,7 @@ closed-at f t v y e h k =
       closes = rw g at (closes-own t v y k);
     }
 
--- where a place of b lies in the file, where b stands after q
+-- a place of b lies in the file as many bytes further on as q has, where b stands after q
 place-after : (q b y : List ℕ) (a : ℕ) → a ≤ length b → place (q ++ (b ++ y)) (drop a (b ++ y)) ≡ length q + a
 place-after q b y a h = omega (arith, length-append q (b ++ y), length-append b y, length-drop a (b ++ y))
 

@@ -41,7 +41,7 @@ pub data ArguedTo (b : Option (List ℕ)) (s t : List ℕ) : Told ℕ → Type 0
   -- "6 parenthesis open, its `(`"
   unclosed : {d : ℕ} {u : List ℕ} → t ≡ onto b u → Deep d u [] → ArguedTo b s t (bad (refusal 6 0 (place s (40 ∷ t))))
 
--- "through the whole file, even past the record's `;`"
+-- "through the whole file, even past the record's `;`": a record's arguments, where there is no bound
 abbrev pub Argued : List ℕ → List ℕ → Told ℕ → Type 0
 Argued s t a = ArguedTo none s t a
 

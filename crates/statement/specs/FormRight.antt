@@ -372,7 +372,7 @@ header-number : {s ys body : List ℕ} {q : Refusal} → HeaderRecordForm s ys b
 header-number (HeaderRecordForm.bad-record h) = omega arith
 header-number (HeaderRecordForm.named-refused h o g) = omega (arith, argued-number g)
 
--- a statement is refused with 3 to 7
+-- a statement is refused with a number from 3 to 7
 pub statement-number : {s : List ℕ} {sec : Section} {xs : List ℕ} {q : Refusal} → StatementForm s sec xs (refused q) → Between 3 7 q
 statement-number (StatementForm.trivia-open r o) = omega arith
 statement-number (StatementForm.endless l h r) = omega arith

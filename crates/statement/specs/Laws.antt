@@ -73,17 +73,17 @@ module _ (s : List ℕ) (p e : ℕ) (h : p ≤ e) (k : e < length s) where
   within : (g : Head) → HeadWithin (length (take (e - p) (drop p s))) g → HeadWithin (e - p) g
   within g w = rw (text-length s p e h (omega arith)) at w
 
-  -- a complex record's `(` stands at most where its `;` does
+  -- a complex record's `(` does not stand behind its `;`
   pub complex-fits : (i o : ℕ) → dataHead (take (e - p) (drop p s)) ≡ Complex i o → p + o ≤ e
   complex-fits i o q = let w : o ≤ e - p = within (Complex i o) (rw q at (data-within (take (e - p) (drop p s)))) in omega arith
 
-  -- a simple data record's places stand at most where its `;` does
+  -- the places of a simple data record's head do not lie behind its `;`
   pub simple-fits : (i a z o : ℕ) → dataHead (take (e - p) (drop p s)) ≡ Simple i a z o → (p + a ≤ e) × (p + z ≤ e) × (p + o ≤ e)
   simple-fits i a z o q =
       let w : (a ≤ e - p) × (z ≤ e - p) × (o ≤ e - p) = within (Simple i a z o) (rw q at (data-within (take (e - p) (drop p s)))) in
       (omega arith, omega arith, omega arith)
 
-  -- a header record's places stand at most where its `;` does
+  -- the places of a header record's head do not lie behind its `;`
   pub header-fits : (i a z o : ℕ) → headerHead (take (e - p) (drop p s)) ≡ Simple i a z o → (p + a ≤ e) × (p + z ≤ e) × (p + o ≤ e)
   header-fits i a z o q =
       let w : (a ≤ e - p) × (z ≤ e - p) × (o ≤ e - p) = within (Simple i a z o) (rw q at (header-within (take (e - p) (drop p s)))) in
@@ -163,7 +163,7 @@ module _ (s : List ℕ) (i : ℕ) (sec : Section) where
           let f : q ≡ refusal n 0 (place s o) = cc in
           ap refused f ∙ ap (led s sec) (sym e)
 
--- what lies after a later place lies after an earlier one
+-- an answer of `next_statement` that lies after a later place lies after an earlier one
 pub ahead-from : (i p n : ℕ) (r : Said) → i ≤ p → Ahead p n r → Ahead i n r
 ahead-from i p n Ends h w = tt
 ahead-from i p n (Refuses f) h w = tt

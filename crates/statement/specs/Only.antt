@@ -18,7 +18,7 @@ use Rattle.statement.specs.declared.Said.the-variants.{Ends, Refuses, Mo
 use Rattle.statement.specs.declared.Tidied.{Tidied}
 use Rattle.statement.specs.declared.Tidied.the-variants.{Untidy, Tidy}
 
--- the spans of a row
+-- the code's spans of a data row
 abbrev spanOf : Row → RecordSpan
 spanOf w = record {
   id = w .id;

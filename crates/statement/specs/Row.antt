@@ -34,7 +34,7 @@ sought b o = lifted b (closing (upTo b o))
 abbrev pub arguedTo : {A : Type 0} → Option (List ℕ) → List ℕ → List ℕ → (ℕ → A) → Told A
 arguedTo b s o f = mapped f (placed s (sought b o))
 
--- "through the whole file, even past the record's `;`"
+-- "through the whole file, even past the record's `;`": what the place of the `)` makes, where there is no bound
 abbrev pub argued : {A : Type 0} → List ℕ → List ℕ → (ℕ → A) → Told A
 argued s o f = arguedTo none s o f
 

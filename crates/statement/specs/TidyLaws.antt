@@ -120,16 +120,16 @@ next-is a b h = go (eqb (a + 1) b) refl
     go true e = let f = eqb-true (a + 1) b e in eq-eqb (b - a) 1 (omega arith)
     go false e = let f = eqb-false (a + 1) b e in ne-eqb (b - a) 1 (λ z. f (omega arith))
 
--- no step from a place
+-- no bytes further on is the place itself
 pub add-none : (i : ℕ) → i + 0 ≡ i
 add-none i = omega arith
 
--- a record with a head begins before its `;`
+-- a record whose head is not bad begins before its `;`
 pub head-after : (s : List ℕ) (p e : ℕ) (h : Head) → p ≤ e → e < length s → Whole h → dataHead (take (e - p) (drop p s)) ≡ h → p < e
 head-after s p e h l m k q =
     let n : 0 < length (take (e - p) (drop p s)) = head-some (take (e - p) (drop p s)) h k q in omega (arith, text-length s p e l (omega arith))
 
--- what lies after a later place lies after an earlier one
+-- an answer of `tidy_record` that lies after a later place lies after an earlier one
 pub tidy-ahead : (i p n : ℕ) (r : Tidied) → i ≤ p → TidyAhead p n r → TidyAhead i n r
 tidy-ahead i p n Untidy h w = tt
 tidy-ahead i p n (Tidy r q m) h w = (omega arith, omega arith, omega arith)

@@ -39,7 +39,7 @@ both : (a b : Bool) → a && b ≡ true → (a ≡ true) × (b ≡ true)
 both true b e = (refl, e)
 both false b e = clash (cc)
 
--- a text with a head begins with `#`
+-- a text whose head is not bad begins with `#`
 head-hash : (b : List ℕ) → Whole (dataHead b) → (r : List ℕ) × (b ≡ 35 ∷ r)
 unfolding dataHead
 head-hash [] k = absurd k
@@ -112,7 +112,7 @@ module _ (s ys f e : List ℕ) (sought : past unended ys ≡ e) (shape : ys ≡ 
   word-tidy [] r q = let (t, g) = hash in absurd (eqb-false 35 59 refl (cc))
   word-tidy (c ∷ b) r q = let (t, g) = hash in let z : c ≡ 35 = cc in hash-word (c ∷ b) (omega arith) z
 
-  -- what the record says is what its first `;` gives
+  -- where the record is tidy, what it says is what its first `;` gives
   said-tidy : tidy s (ended s ys InData (recordEnd ys)) ≡ true → tidyBy s ys e (dataHead f) ≡ ended s ys InData (recordEnd ys)
   said-tidy h = go (recordEnd ys) refl h
     where

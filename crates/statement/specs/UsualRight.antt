@@ -82,7 +82,7 @@ run-free s p o e h k = let (f, x, y) = past-is plain (drop p s) in go f (x ∙ a
         rw t (all-kind plain (λ d. not (eqb d 40)) f (λ c q. rw (ne-eqb c 40 (plain-other 40 c mark-open q)) refl) a)
 
 module _ (s : List ℕ) (p o c e : ℕ) (w : Walked s p o c e) where
-  -- the record's text begins with what stands before its `(`
+  -- a usual record's text begins with what stands before its `(`, and then the `(`
   body-is : take (e - p) (drop p s) ≡ take (o - p) (drop p s) ++ (40 ∷ take (e - o - 1) (drop (o + 1) s))
   body-is =
       let t : List ℕ = take (o - p) (drop p s) in
@@ -106,7 +106,7 @@ module _ (s : List ℕ) (p o c e : ℕ) (w : Walked s p o c e) where
       ∙ ap (λ (y : List ℕ). getD y 0 0) (take-append-drop (e - p) (drop p s)) ∙ g in
       hash-word (take (e - p) (drop p s)) (omega arith) h
 
-  -- what the record gives is what the statement says
+  -- what a usual record's text gives as a row is what the statement says
   said : (r : Row) → good r ≡ recordOf s (drop p s) (take (e - p) (drop p s)) → record′ r (drop p s) (drop (e + 1) s) ≡ begun s InData (drop p s)
   said r q =
       let a = w .from in let b = w .over in let d = w .upto in let f = w .within in

@@ -70,7 +70,7 @@ row-none rows k h = let z = field-none 6 rows k h in row-same (z 0) (z 1) (z 2) 
 pub header-none : (heads : List ℕ) (k : ℕ) → headersFit (length heads) ≤ k → headerNumbers heads k ≡ headerRow 0 0 0 0
 header-none heads k h = let z = field-none 4 heads k h in header-same (z 0) (z 1) (z 2) (z 3)
 
--- a number of 32 bits is itself
+-- a place that has 32 bits is itself as a number of 32 bits
 narrow-small : (p : ℕ) → p ≤ 4294967295 → narrow p ≡ p
 narrow-small p h = omega arith
 

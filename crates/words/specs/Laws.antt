@@ -61,7 +61,7 @@ pub part-length : (s : List ℕ) (a z : ℕ) → a ≤ z → z ≤ length s → 
 part-length s a z h k = length-take-le (z - a) (drop a s) (omega (arith, length-drop a s))
 
 module _ (s o : List ℕ) (a z p e : ℕ) where
-  -- "`$` gives an empty text"
+  -- "`$` gives an empty text": that is the answer, and the room stays
   pub text-unset : isUnset (partOf s (span a z)) ≡ true → (reading (good (inFile (span a a))) p e ≡ reading (stringAt s (length o) (span a z)) p e) × (o ≡ roomAt s o (span a z))
   unfolding stringAt roomAt
   text-unset h = (rw h refl, rw h refl)

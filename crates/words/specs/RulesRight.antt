@@ -74,7 +74,7 @@ module _ (s : List ℕ) (a : Span) (b : List ℕ) (c z : ℕ) (ordered : a .star
       ∙ middle-of c z b
 
 -- ---- names
--- a name by the rule passes the test
+-- a name by the rule passes the test for a name
 pub name-only : {t n : List ℕ} → Name t n → isName t ≡ true
 unfolding isName
 name-only {t} {n} m =
@@ -120,7 +120,7 @@ nameform-only {s} {a} (NameForm.other h) = go (isName (partOf s a)) refl
     go false k = refl
 
 -- ---- string parameters
--- a string parameter by the rule passes the test
+-- a string parameter by the rule passes the test for one
 pub quoted-only : {t b : List ℕ} → Quoted t b → isString t ≡ true
 unfolding isString
 quoted-only {t} {b} q =
@@ -137,7 +137,7 @@ quoted-is (c ∷ d ∷ r) h =
     let (x, y) = both (leb 2 (length (c ∷ d ∷ r))) (eqb c 39) h in
     (b, record { end = z; shape = e ∙ ap (λ (k : ℕ). k ∷ (b ++ (z ∷ []))) (eqb-true c 39 y) })
 
--- "its text lies between first and last byte": what is computed as it is what stands there in the file
+-- "its text lies between first and last byte": `bodyOf` is what stands there in the file
 pub quoted-body : (s : List ℕ) (a : Span) (b : List ℕ) → a .start ≤ a .stop → a .stop ≤ length s → Quoted (partOf s a) b → bodyOf s a ≡ b
 quoted-body s a b h k q = body-part s a b 39 (q .end) h k (q .shape)
 

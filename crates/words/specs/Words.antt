@@ -27,7 +27,7 @@ nameAt s a = pick (isName (partOf s a)) (good (span (a .start + 1) (a .stop - 1)
 unfoldable pub isString : List ℕ → Bool
 isString t = leb 2 (length t) && eqb (getD t 0 0) 39
 
--- "its text lies between first and last byte"
+-- "its text lies between first and last byte": what stands there of the parameter a
 abbrev pub bodyOf : List ℕ → Span → List ℕ
 bodyOf s a = take (a .stop - 1 - (a .start + 1)) (drop (a .start + 1) s)
 

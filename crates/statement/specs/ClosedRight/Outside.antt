@@ -20,18 +20,18 @@ runs-longer (Runs.byte h k l r) = omega (arith, runs-longer r)
 runs-longer (Runs.string q r) = omega (arith, runs-longer r, simp length-append at (ap length (q .shape)))
 runs-longer (Runs.comment q r) = omega (arith, runs-longer r, simp length-append at (ap length (q .shape)))
 
--- more bytes after one that is left change neither strings nor comments
+-- More bytes z behind a list change no string and no comment that ends before the list does.
 module _ (z : List ℕ) where
   begins-more : (a : ℕ) (xs : List ℕ) → 0 < length xs → Begins a (xs ++ z) → Begins a xs
   begins-more a [] h b = absurd (omega arith)
   begins-more a (c ∷ xs) h (r, e) = (xs, cc)
 
-  -- where the list has a byte after c, a comment that begins with more bytes after the list begins without them
+  -- where a byte follows c in the list, a comment that opens at c with more bytes behind the list opens there without them
   pub opens-more : (c : ℕ) (xs : List ℕ) → 0 < length xs → Opens (c ∷ (xs ++ z)) → Opens (c ∷ xs)
   opens-more c [] h b = absurd (omega arith)
   opens-more c (d ∷ xs) h (r, e) = (xs, cc)
 
-  -- a string that ends before the list does is a string with more bytes after the list
+  -- a string that ends before the list does is one with more bytes behind the list too
   pub quotation-more : {xs zs : List ℕ} → Quotation xs zs → 0 < length zs → Quotation (xs ++ z) (zs ++ z)
   quotation-more {zs} q h = record {
     body = q .body;
@@ -40,18 +40,18 @@ module _ (z : List ℕ) where
     single = λ b. q .single (begins-more 39 zs h b);
   }
 
-  -- a comment is a comment with more bytes after the list
+  -- a comment that ends in the list is one with more bytes behind the list too
   pub comment-more : {xs zs : List ℕ} → Comment xs zs → Comment (xs ++ z) (zs ++ z)
   comment-more {zs} q = record { body = q .body; first = q .first; shape = cc (append-assoc (q .body) (42 ∷ 47 ∷ zs) z) }
 
-  -- what lies outside both in a record's text lies outside both in the file
+  -- what lies outside strings and comments in a record's text lies outside them in the file
   pub outside-more : {xs : List ℕ} {c : ℕ} {r : List ℕ} → OutsideBoth xs (c ∷ r) → OutsideBoth (xs ++ z) (c ∷ (r ++ z))
   outside-more Runs.none = Runs.none
   outside-more (Runs.byte {c} {xs} h k l r) = Runs.byte h k (λ o. l (opens-more c xs (omega (arith, runs-longer r)) o)) (outside-more r)
   outside-more (Runs.string q r) = Runs.string (quotation-more q (omega (arith, runs-longer r))) (outside-more r)
   outside-more (Runs.comment q r) = Runs.comment (comment-more q) (outside-more r)
 
--- up to a place outside both, whatever byte stands there, but for a quote or a `*`, and whatever follows it
+-- a place outside strings and comments is one whatever byte stands there, but for a quote or a `*`, and whatever follows it
 runs-swap : {xs ys : List ℕ} → Runs xs ys
     → (f : List ℕ) × (xs ≡ f ++ ys) × ((d : ℕ) (y : List ℕ) → (d ≡ 39 → ⊥) → (d ≡ 42 → ⊥) → Runs (f ++ (d ∷ y)) (d ∷ y))
 runs-swap Runs.none = ([], refl, λ d y m n. Runs.none)
@@ -84,7 +84,7 @@ runs-swap {ys} (Runs.comment q r) =
     remark : (f y : List ℕ) → Comment ((47 ∷ 42 ∷ (q .body ++ (42 ∷ 47 ∷ f))) ++ y) (f ++ y)
     remark f y = record { body = q .body; first = q .first; shape = cc (append-assoc (q .body) (42 ∷ 47 ∷ f) y) }
 
--- a place outside both is one where a `;` would end the record
+-- a place outside strings and comments is one where a `;` would end the record
 pub outside-seen : (f t : List ℕ) → OutsideBoth (f ++ t) t → (y : List ℕ) → recordEnd (f ++ (59 ∷ y)) ≡ at (59 ∷ y)
 outside-seen f t h y =
     let (g, e, k) = runs-swap h in

@@ -85,8 +85,8 @@ closes-within ys c g = go (closing (40 ∷ ys)) refl
     go (at vs) e = let (v, p, h) = closing-is 40 ys vs e in (v, h)
     go (fault n o) e = fails (closing-open 40 ys n o e)
 
--- "the next `(` byte before the arguments' end", outside both: its `)` stands in the arguments, whose own is the 41 here, and what
--- follows it is balanced again
+-- "the next `(` byte before the arguments' end", outside strings and comments: its `)` stands in the arguments, whose own is the 41
+-- here, and what follows it is balanced again
 pub part-closes : (k r z : List ℕ) → Free 40 k → OutsideBoth (k ++ (40 ∷ r)) (40 ∷ r) → Closes ((k ++ (40 ∷ r)) ++ (41 ∷ z)) z
     → (t : List ℕ) × Closes r t × Closes (t ++ (41 ∷ z)) z
 part-closes k r z f s c = go (before-first (41 ∷ z) s (free-first k r f))
@@ -100,7 +100,7 @@ part-closes k r z f s c = go (before-first (41 ∷ z) s (free-first k r f))
         (t, closes-own r t (41 ∷ z) (closing-only 40 h ∙ ap (λ (y : List ℕ). at (41 ∷ y)) p), rw (e, p) at m)
     go (inr (v, b, g)) = absurd (omega (arith, ap length (closing-one b c), length-append r (41 ∷ z)))
 
--- the paper's words alone: each part's `(` lies outside both, wherever its `)` may be
+-- the paper's words alone: each part's `(` lies outside strings and comments, wherever its `)` may be
 pub data OutsideParts : List ℕ → Type 0 where
   none : {a : List ℕ} → Free 40 a → OutsideParts a
   part : {a : List ℕ} (k : List ℕ) {r : List ℕ} → a ≡ k ++ (40 ∷ r) → Free 40 k → OutsideBoth a (40 ∷ r)
@@ -113,7 +113,7 @@ parts-closed (OutsideParts.part k {r} e f o g) z c =
     let (t, h, m) = part-closes k r z f (rw e at o) (rw e at c) in
     ClosedParts.part k e f o h (parts-closed (g t h) z m)
 
--- closed parts have their `(` outside both
+-- closed parts have their `(` outside strings and comments
 pub parts-outside : {a : List ℕ} → ClosedParts a → OutsideParts a
 parts-outside (ClosedParts.none h) = OutsideParts.none h
 parts-outside (ClosedParts.part k {r} {t} e f o h p) =
