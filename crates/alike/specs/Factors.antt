@@ -11,7 +11,7 @@ use Rattle.common.specs.Pick.{pick}
 use Rattle.common.specs.Compare.{clash}
 use Rattle.error.specs.Refusal.{Refusal, refusal, Told, good, bad}
 use Rattle.record.specs.Word.{isWord}
-use Rattle.record.specs.Form.{bytes}
+use Rattle.common.specs.Bytes.{bytes}
 use Rattle.nearest.specs.Product.{product}
 use Rattle.reals.specs.Scalar.{referenceOf}
 use Rattle.prefixes.specs.Prefix.{factorOf}

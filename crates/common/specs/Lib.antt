@@ -1,4 +1,5 @@
 pub mod Pick
+pub mod Bytes
 pub mod Compare
 pub mod Lists
 pub mod Walk

@@ -4,7 +4,7 @@ use mathlib.Core.Path.{_≡_, refl}
 use Rattle.error.specs.Refusal.{good}
 use Rattle.common.specs.Walk.{walk}
 use Rattle.lex.specs.Search.{trivia, recordEnd, closing}
-use Rattle.record.specs.Form.{bytes}
+use Rattle.common.specs.Bytes.{bytes}
 use Rattle.record.specs.Text.{past, numberFrom, keyword, trail}
 use Rattle.record.specs.Word.{same, wordOf}
 use Rattle.record.specs.Head.{dataHead, headerHead}

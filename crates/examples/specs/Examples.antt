@@ -13,7 +13,7 @@ use Rattle.common.specs.Pick.{pick}
 use Rattle.error.specs.Refusal.{Refusal, refusal, Told, good, bad}
 use Rattle.common.specs.Walk.{walk}
 use Rattle.lex.specs.Search.{trivia, recordEnd, closing}
-use Rattle.record.specs.Form.{bytes}
+use Rattle.common.specs.Bytes.{bytes}
 use Rattle.record.specs.Text.{past, numberFrom, keyword, trail}
 use Rattle.record.specs.Word.{same, wordOf}
 use Rattle.record.specs.Head.{dataHead, headerHead}

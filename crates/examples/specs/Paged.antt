@@ -4,7 +4,7 @@ use Prim.Native.Nat.{ℕ}
 use Prim.Native.String.{String}
 use mathlib.Core.Path.{_≡_, refl}
 use mathlib.Core.List.{List, [], _∷_, _++_}
-use Rattle.record.specs.Form.{bytes}
+use Rattle.common.specs.Bytes.{bytes}
 use Rattle.utf8.specs.Utf8.{encode, leadOf}
 use Rattle.utf8.specs.Encoding.{encodeAll}
 use Rattle.pages.specs.Tables.{latin1, latin2, latin3, latin4, cyrillic, arabic, greek, hebrew, latin5, pages, entry}

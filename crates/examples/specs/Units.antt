@@ -7,7 +7,7 @@ use mathlib.Core.Path.{_≡_, refl}
 use mathlib.Core.Bool.{true, false}
 use mathlib.Core.List.{List, [], _∷_, map}
 use Rattle.error.specs.Refusal.{refusal, Told, good, bad}
-use Rattle.record.specs.Form.{bytes}
+use Rattle.common.specs.Bytes.{bytes}
 use Rattle.params.specs.Answer.{onward}
 use Rattle.scan.specs.File.{scanOf}
 use Rattle.units.specs.Answer.{Units, units}

@@ -14,7 +14,7 @@ use Rattle.common.specs.Compare.{clash}
 use Rattle.error.specs.Refusal.{Refusal, refusal, Told, good, bad}
 use Rattle.record.specs.Turns.{bounds}
 use Rattle.record.specs.Word.{same, isWord}
-use Rattle.record.specs.Form.{bytes}
+use Rattle.common.specs.Bytes.{bytes}
 use Rattle.statement.specs.Rows.{Row, HeaderRow}
 use Rattle.kinds.specs.Kind.{kindOf, kind-is}
 use Rattle.kinds.specs.Rules.{rankOf, Named, KindForm}

@@ -8,7 +8,7 @@ use Rattle.common.specs.Pick.{pick}
 use Rattle.error.specs.Refusal.{Told, good, bad}
 use Rattle.nearest.specs.Product.{product}
 use Rattle.record.specs.Word.{isWord}
-use Rattle.record.specs.Form.{bytes}
+use Rattle.common.specs.Bytes.{bytes}
 use Rattle.params.specs.Reader.{paramOf}
 use Rattle.params.specs.Skips.{skipOf}
 use Rattle.params.specs.Answer.{Read, Span, mapped, onward}

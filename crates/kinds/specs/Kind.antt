@@ -12,7 +12,8 @@ use Rattle.common.specs.Pick.{pick}
 use Rattle.common.specs.Compare.{clash}
 use Rattle.record.specs.Byte.{upper}
 use Rattle.record.specs.Word.{same, isWord}
-use Rattle.record.specs.Form.{bytes, Spelt}
+use Rattle.record.specs.Form.{Spelt}
+use Rattle.common.specs.Bytes.{bytes}
 use Rattle.record.specs.FormRight.{same-is, same-self}
 use Rattle.kinds.specs.Rules.{nameOf, Named, KindForm, spelt, other, rankOf}
 use Rattle.kinds.specs.declared.Kind.{Kind}

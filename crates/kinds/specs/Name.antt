@@ -11,7 +11,8 @@ use lib.ListN.{length, getD, take, drop, set}
 use lib.Seq.{drop-cons, set-at, take-suc, length-take-le, take-length, take-append-seam}
 use borrow.Author.Tests.{le-leb}
 use Rattle.error.specs.Refusal.{Told, good, bad}
-use Rattle.record.specs.Form.{bytes, Spelt}
+use Rattle.record.specs.Form.{Spelt}
+use Rattle.common.specs.Bytes.{bytes}
 use Rattle.record.specs.Word.{same}
 use Rattle.kinds.specs.Kind.{kindOf, kind-only}
 use Rattle.kinds.specs.Rules.{nameOf, rankOf, Named, toldName, nameIn, nameAfter}

@@ -5,7 +5,7 @@
 ghost use mathlib.Core.Path.{_≡_};
 ghost use mathlib.Core.List.{map};
 ghost use lib.Dec.{eqb};
-ghost use Rattle.record.specs.Form.{bytes};
+ghost use Rattle.common.specs.Bytes.{bytes};
 ghost use Rattle.record.specs.Word.{same};
 ghost use Rattle.record.specs.Byte.{upper};
 ghost use Rattle.kinds.specs.Kind.{kindOf};

@@ -6,7 +6,7 @@ use lib.Ieee.{size}
 use Rattle.nearest.specs.Units.{infinity}
 use Rattle.nearest.specs.Near.{near, nearUnits}
 use Rattle.nearest.specs.Power.{nearBy}
-use Rattle.record.specs.Form.{bytes}
+use Rattle.common.specs.Bytes.{bytes}
 use Rattle.long.specs.Digits.{digitsIn}
 use Rattle.long.specs.Number.{numberIn}
 

@@ -11,7 +11,8 @@ use lib.ListN.{length, length-append}
 use Rattle.common.specs.Compare.{clash}
 use Rattle.error.specs.Refusal.{Told, good, bad}
 use Rattle.lex.specs.Byte.{white}
-use Rattle.record.specs.Form.{All, Free, bytes}
+use Rattle.record.specs.Form.{All, Free}
+use Rattle.common.specs.Bytes.{bytes}
 use Rattle.record.specs.FormRight.Parts.{all-join, all-kind}
 use Rattle.statement.specs.Rows.{Row, HeaderRow}
 use Rattle.statement.specs.Closed.{Closed}

@@ -8,7 +8,7 @@ use mathlib.Core.List.{List, [], _∷_, _++_}
 use mathlib.Core.Option.{some}
 use lib.Dec.{eqb}
 use Rattle.error.specs.Refusal.{good}
-use Rattle.record.specs.Form.{bytes}
+use Rattle.common.specs.Bytes.{bytes}
 use Rattle.statement.specs.Rows.{row, headerRow}
 use Rattle.statement.specs.Closed.{Closed}
 use Rattle.statement.specs.declared.Section.the-variants.{Outside}

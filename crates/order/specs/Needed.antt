@@ -7,7 +7,7 @@ use mathlib.Core.Option.{Option, none, some}
 use borrow.Author.Tests.{eqb-false}
 use Rattle.common.specs.Compare.{clash}
 use Rattle.error.specs.Refusal.{refusal, Told, good, bad}
-use Rattle.record.specs.Form.{bytes}
+use Rattle.common.specs.Bytes.{bytes}
 use Rattle.record.specs.Head.{dataHead}
 use Rattle.statement.specs.Rows.{row}
 use Rattle.statement.specs.Closed.{Closed, Content}

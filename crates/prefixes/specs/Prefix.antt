@@ -17,7 +17,7 @@ use lib.Seq.{drop-cons}
 use lib.Ieee.{Float, nan, binary64, ofBits, toBits, size}
 use Rattle.common.specs.Pick.{pick}
 use Rattle.record.specs.Word.{same, isWord}
-use Rattle.record.specs.Form.{bytes}
+use Rattle.common.specs.Bytes.{bytes}
 use Rattle.record.specs.FormRight.{same-is}
 use Rattle.nearest.specs.Near.{near, nearUnits}
 use Rattle.prefixes.specs.Rules.{Prefix, prefixes, unity, tenUp, tenDown}

@@ -12,7 +12,8 @@ use lib.Ieee.Bits.{is-false}
 use lib.Ieee.Fits.{and-l, and-r}
 use Rattle.common.specs.Pick.{pick}
 use Rattle.record.specs.Word.{same, isWord}
-use Rattle.record.specs.Form.{bytes, Spelt}
+use Rattle.record.specs.Form.{Spelt}
+use Rattle.common.specs.Bytes.{bytes}
 use Rattle.record.specs.FormRight.{spelt-is, spelt-only}
 use Rattle.nearest.specs.Near.{near, near-is, near-only}
 use Rattle.prefixes.specs.Prefix.{placeIn, prefixOf, factorOf, place-most}

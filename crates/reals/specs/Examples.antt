@@ -4,7 +4,7 @@ use mathlib.Core.Path.{_≡_, refl}
 use lib.IntN.{pos, negℤ}
 use lib.Ieee.{size}
 use Rattle.common.specs.Walk.{walk}
-use Rattle.record.specs.Form.{bytes}
+use Rattle.common.specs.Bytes.{bytes}
 use Rattle.record.specs.Text.{numberFrom}
 use Rattle.nearest.specs.Near.{near, nearUnits}
 use Rattle.reals.specs.Scalar.{parseOf, realOf, anyRealOf, wholeOf, referenceOf}

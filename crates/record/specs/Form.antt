@@ -5,13 +5,13 @@
 -- Assumes nothing.
 -- Definitions to be believed: no law, and nothing computed that no theorem ties (docs/BELIEVE.md).
 use Prim.Native.Nat.{ℕ, _+_, _*_, _-_, _^_, _≤_, _<_}
-use Prim.Native.Char.{code}
 use Prim.Native.String.{String}
 use mathlib.Core.Path.{_≡_}
 use mathlib.Core.Bool.{Bool, true, false, not}
 use mathlib.Core.List.{List, [], _∷_, _++_, map}
 use lib.Dec.{eqb}
 use lib.ListN.{length}
+use Rattle.common.specs.Bytes.{bytes}
 use Rattle.lex.specs.Byte.{white}
 use Rattle.lex.specs.Grammar.{Begins}
 use Rattle.record.specs.Byte.{digit, upper}
@@ -72,11 +72,6 @@ pub record Trimmed (xs t : List ℕ) : Type 0 where
   pub after : Gap back
   pub first : NoGapFirst t
   pub last : NoGapLast t
-
--- a text's bytes, where it is in ASCII
-abbrev pub bytes : String → List ℕ
-bytes String.[] = []
-bytes (String._∷_ c s) = code c ∷ bytes s
 
 -- "letters in either case": t is the word w, which is written in capitals
 abbrev pub Spelt : List ℕ → String → Type 0

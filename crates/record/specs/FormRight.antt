@@ -22,7 +22,8 @@ use Rattle.record.specs.Byte.{digit, upper}
 use Rattle.record.specs.Turns.{number-grows}
 use Rattle.record.specs.Head.{valueHead, equalHead, dataHead, headerHead}
 use Rattle.record.specs.Word.{same, isWord, opens, endsec, header, dataWord, endFile, opensData, trimmed, wordIn, wordOf}
-use Rattle.record.specs.Form.{NotFirst, Skipped, valueOf, Id, Keyword, Lead, HeadForm, HeaderForm, Gap, NoGapFirst, NoGapLast, Gapped, NoParen, Trimmed, bytes, Spelt, Says, WordForm}
+use Rattle.record.specs.Form.{NotFirst, Skipped, valueOf, Id, Keyword, Lead, HeadForm, HeaderForm, Gap, NoGapFirst, NoGapLast, Gapped, NoParen, Trimmed, Spelt, Says, WordForm}
+use Rattle.common.specs.Bytes.{bytes}
 use Rattle.record.specs.declared.Head.{Head}
 use Rattle.record.specs.declared.Head.the-variants.{Bad, Complex, Simple}
 use Rattle.record.specs.declared.Word.{Word}

@@ -3,7 +3,7 @@
 use mathlib.Core.Path.{_≡_, refl}
 use mathlib.Core.List.{[]}
 use Rattle.common.specs.Walk.{walk}
-use Rattle.record.specs.Form.{bytes}
+use Rattle.common.specs.Bytes.{bytes}
 use Rattle.record.specs.Text.{past, trail, numberFrom}
 use Rattle.record.specs.Word.{same}
 use Rattle.reals.specs.Scalar.{parseOf, realOf, wholeOf, referenceOf}

@@ -5,7 +5,8 @@
 use Prim.Native.Nat.{ℕ}
 use mathlib.Core.Path.{_≡_}
 use mathlib.Core.List.{List, [], _∷_, _++_}
-use Rattle.record.specs.Form.{Free, Trimmed, bytes}
+use Rattle.record.specs.Form.{Free, Trimmed}
+use Rattle.common.specs.Bytes.{bytes}
 use Rattle.reals.specs.Answer.{Answer, read, refused}
 use Rattle.scalars.specs.Answer.{Given, Logical}
 use Rattle.scalars.specs.Answer as Scalars

@@ -15,7 +15,8 @@ use Rattle.record.specs.Text.{past}
 use Rattle.record.specs.Byte.{digit}
 use Rattle.record.specs.Turns.{bounds}
 use Rattle.record.specs.Word.{same, trimmed}
-use Rattle.record.specs.Form.{All, Free, Skipped, bytes}
+use Rattle.record.specs.Form.{All, Free, Skipped}
+use Rattle.common.specs.Bytes.{bytes}
 use Rattle.record.specs.FormRight.{past-is, past-only, trimmed-is, trimmed-only, same-is, same-self}
 use Rattle.record.specs.FormRight.Parts.{first-other, all-back, all-join, all-kind}
 use Rattle.reals.specs.Scalar.{referenceOf, realOf, anyRealOf}

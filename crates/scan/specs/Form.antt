@@ -11,7 +11,8 @@ use mathlib.Core.List.{List, [], _∷_, _++_}
 use lib.ListN.{length}
 use Rattle.error.specs.Refusal.{Refusal, refusal, Told, good, bad}
 use Rattle.lex.specs.Byte.{white, place}
-use Rattle.record.specs.Form.{All, bytes}
+use Rattle.record.specs.Form.{All}
+use Rattle.common.specs.Bytes.{bytes}
 use Rattle.statement.specs.Rows.{ends, refused, moved, RowKind, header-kind, data-kind, RowOf, rowed, sectionOf, mapped}
 use Rattle.statement.specs.Form.{StatementForm}
 use Rattle.statement.specs.declared.Section.{Section}

@@ -11,7 +11,7 @@ use Rattle.common.specs.Walk.{walk}
 use Rattle.record.specs.Text.{past, numberFrom, keyword, trail}
 use Rattle.record.specs.Word.{same, wordOf}
 use Rattle.record.specs.Head.{dataHead}
-use Rattle.record.specs.Form.{bytes}
+use Rattle.common.specs.Bytes.{bytes}
 use Rattle.statement.specs.Rows.{Row, row, HeaderRow, header-kind, data-kind, mapped}
 use Rattle.statement.specs.Row.{recordOf}
 use Rattle.statement.specs.Statement.{statement}

@@ -2,7 +2,7 @@
 use mathlib.Core.Path.{_≡_, refl}
 use mathlib.Core.List.{[], _∷_}
 use Rattle.error.specs.Refusal.{refusal, good, bad}
-use Rattle.record.specs.Form.{bytes}
+use Rattle.common.specs.Bytes.{bytes}
 use Rattle.record.specs.Word.{same}
 use Rattle.utf8.specs.Utf8.{encode, leadOf, validFrom}
 use Rattle.utf8.specs.Encoding.{encodeAll}

@@ -13,7 +13,7 @@ use Rattle.common.specs.Compare.{clash}
 use Rattle.error.specs.Refusal.{refusal, Told, good, bad}
 use Rattle.record.specs.FormRight.{same-is, same-self}
 use Rattle.record.specs.Word.{same}
-use Rattle.record.specs.Form.{bytes}
+use Rattle.common.specs.Bytes.{bytes}
 use Rattle.utf8.specs.Utf8.{validOf}
 use Rattle.utf8.specs.Encoding.{encodeAll}
 use Rattle.utf8.specs.Agree.{valid-is, valid-only}

@@ -9,7 +9,8 @@ use Rattle.common.specs.Walk.{walk}
 use Rattle.lex.specs.Search.{trivia, recordEnd, closing}
 use Rattle.lex.specs.Answer.{at, fault}
 use Rattle.lex.specs.Inside.{closes-own}
-use Rattle.record.specs.Form.{Free, bytes}
+use Rattle.record.specs.Form.{Free}
+use Rattle.common.specs.Bytes.{bytes}
 use Rattle.record.specs.Text.{past, numberFrom, keyword, trail}
 use Rattle.record.specs.Head.{dataHead, headerHead}
 use Rattle.record.specs.Word.{same, wordOf}
