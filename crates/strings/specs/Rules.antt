@@ -1,13 +1,14 @@
 -- Document 01, 'Strings', with document 02's #109: what a string's bytes stand for, as rules that name no loop. A rule speaks of a list of
 -- bytes, of what stands at its start, of the characters that this gives and of how many bytes it takes. The rules of a directive and of a piece also
--- name the page before it and after it (crate pages: page A is 0, page I is 8). The quote is 39, the backslash 92, `N` is 78, `P` 80, `S` 83,
--- `T` 84, `X` 88, and the digits `0`, `2`, `4` are 48, 50, 52. Words quoted from the documents count in hex. RulesRight.antt shows that Text.antt
--- computes just this, and that there is no other answer. Assumes nothing.
+-- name the page before it and after it (crate pages: page A is 0, page I is 8). Bytes are written as characters: `bytes "\\N\\"` is the three bytes of
+-- `\N\`, since a backslash in quotation marks is doubled. Words quoted from the documents count in hex. RulesRight.antt shows that Text.antt computes
+-- just this, and that there is no other answer. Assumes nothing.
 -- Definitions to be believed: no law, and nothing computed that no theorem ties (docs/BELIEVE.md).
 use Prim.Native.Nat.{ℕ, _+_, _*_, _≤_, _<_}
 use mathlib.Core.Path.{_≡_}
 use mathlib.Core.List.{List, [], _∷_, _++_}
 use lib.ListN.{length, drop}
+use Rattle.common.specs.Bytes.{bytes, byte}
 use Rattle.lex.specs.Grammar.{Begins}
 use Rattle.utf8.specs.Table.{In, Encoded}
 use Rattle.pages.specs.Rules.{pageA, Selects, Coded}
@@ -15,11 +16,11 @@ use Rattle.pages.specs.Rules.{pageA, Selects, Coded}
 -- "hex digits, either case": a byte and the digit's value
 pub data Hex : ℕ → ℕ → Type 0 where
   -- `0` to `9`
-  decimal : {v : ℕ} → v < 10 → Hex (48 + v) v
+  decimal : {v : ℕ} → v < 10 → Hex (byte "0" + v) v
   -- `A` to `F`
-  capital : {v : ℕ} → v < 6 → Hex (65 + v) (10 + v)
+  capital : {v : ℕ} → v < 6 → Hex (byte "A" + v) (10 + v)
   -- `a` to `f`
-  small : {v : ℕ} → v < 6 → Hex (97 + v) (10 + v)
+  small : {v : ℕ} → v < 6 → Hex (byte "a" + v) (10 + v)
 
 -- "four .. hex digits" stand at the start, and this is their number
 pub data Four : List ℕ → ℕ → Type 0 where
@@ -61,7 +62,7 @@ pub data GoodGroup : ℕ → List ℕ → ℕ → ℕ → Type 0 where
 -- followed by four hex digits is a bad group" is a theorem of RulesRight.antt (high-alone)
 pub record BadGroup (w : ℕ) (s : List ℕ) : Type 0 where
   pub whole : w ≤ length s
-  pub unmarked : Begins 92 s → ⊥
+  pub unmarked : Begins (byte "\\") s → ⊥
   pub not-good : (c k : ℕ) → GoodGroup w s c k → ⊥
 
 -- the groups of a directive, good ones to their end: their characters, and how many bytes they take
@@ -69,13 +70,13 @@ pub data Groups : ℕ → List ℕ → List ℕ → ℕ → Type 0 where
   -- "up to the end"
   at-end : {w : ℕ} → Groups w [] [] 0
   -- "or a backslash at a group's start; a `\X0` there is eaten with the byte after it"
-  closed : {w b : ℕ} {r : List ℕ} → Groups w (92 ∷ 88 ∷ 48 ∷ b ∷ r) [] 4
+  closed : {w b : ℕ} {r : List ℕ} → Groups w (bytes "\\X0" ++ b ∷ r) [] 4
   -- alone where no byte comes after it
-  closed-last : {w : ℕ} → Groups w (92 ∷ 88 ∷ 48 ∷ []) [] 3
+  closed-last : {w : ℕ} → Groups w (bytes "\\X0") [] 3
   -- "another directive is read as such": a backslash with no `X0` after it is left to be read
-  another : {w : ℕ} {r : List ℕ} → ((q : List ℕ) → r ≡ 88 ∷ 48 ∷ q → ⊥) → Groups w (92 ∷ r) [] 0
+  another : {w : ℕ} {r : List ℕ} → ((q : List ℕ) → r ≡ bytes "X0" ++ q → ⊥) → Groups w (bytes "\\" ++ r) [] 0
   -- "a group cut short by the end is literal": its bytes are left, to be read on as text (the Rust, which decides, does not copy them)
-  cut : {w b : ℕ} {r : List ℕ} → (b ≡ 92 → ⊥) → length (b ∷ r) < w → Groups w (b ∷ r) [] 0
+  cut : {w b : ℕ} {r : List ℕ} → (b ≡ byte "\\" → ⊥) → length (b ∷ r) < w → Groups w (b ∷ r) [] 0
   -- a group, and those after it
   next : {w : ℕ} {s cs : List ℕ} {c k n : ℕ} → GoodGroup w s c k → Groups w (drop k s) cs n → Groups w s (c ∷ cs) (k + n)
 
@@ -89,39 +90,39 @@ pub data Broken : ℕ → List ℕ → List ℕ → Type 0 where
 -- "`\X2\` groups of four and `\X4\` of eight hex digits": the digit in the directive's name, and how many digits its groups have
 pub data Named : ℕ → ℕ → Type 0 where
   -- `\X2\`
-  two : Named 50 4
+  two : Named (byte "2") 4
   -- `\X4\`
-  four : Named 52 8
+  four : Named (byte "4") 8
 
 -- a directive stands at the start: the page before it, its characters, how many bytes it takes, the page after it
 pub data Directive : ℕ → List ℕ → List ℕ → ℕ → ℕ → Type 0 where
   -- "`\\` a backslash"
-  backslash : {g : ℕ} {r : List ℕ} → Directive g (92 ∷ 92 ∷ r) (92 ∷ []) 2 g
+  backslash : {g : ℕ} {r : List ℕ} → Directive g (bytes "\\\\" ++ r) (bytes "\\") 2 g
   -- "`\N\` LF"
-  newline : {g : ℕ} {r : List ℕ} → Directive g (92 ∷ 78 ∷ 92 ∷ r) (10 ∷ []) 3 g
+  newline : {g : ℕ} {r : List ℕ} → Directive g (bytes "\\N\\" ++ r) (10 ∷ []) 3 g
   -- "`\T\` tab"
-  tab : {g : ℕ} {r : List ℕ} → Directive g (92 ∷ 84 ∷ 92 ∷ r) (9 ∷ []) 3 g
+  tab : {g : ℕ} {r : List ℕ} → Directive g (bytes "\\T\\" ++ r) (9 ∷ []) 3 g
   -- "`\P?\` nothing", whatever byte the `?` is; and the page that this byte selects is in force from here on (#109)
-  page : {g h b : ℕ} {r : List ℕ} → Selects b h → Directive g (92 ∷ 80 ∷ b ∷ 92 ∷ r) [] 4 h
+  page : {g h b : ℕ} {r : List ℕ} → Selects b h → Directive g (bytes "\\P" ++ b ∷ bytes "\\" ++ r) [] 4 h
   -- "`\S\c` code c+128", and "apply the page to every later `\S\` in that string" (#109): the character that the page has for the sum
-  shift : {g c d : ℕ} {r : List ℕ} → Coded g (c + 128) d → Directive g (92 ∷ 83 ∷ 92 ∷ c ∷ r) (d ∷ []) 4 g
+  shift : {g c d : ℕ} {r : List ℕ} → Coded g (c + 128) d → Directive g (bytes "\\S\\" ++ c ∷ r) (d ∷ []) 4 g
   -- "`\X\HH` one octet"
-  octet : {g a b i j : ℕ} {r : List ℕ} → Hex a i → Hex b j → Directive g (92 ∷ 88 ∷ 92 ∷ a ∷ b ∷ r) ((i * 16 + j) ∷ []) 5 g
+  octet : {g a b i j : ℕ} {r : List ℕ} → Hex a i → Hex b j → Directive g (bytes "\\X\\" ++ a ∷ b ∷ r) ((i * 16 + j) ∷ []) 5 g
   -- "`\X2\` groups of four and `\X4\` of eight"
-  long : {g d w n : ℕ} {r cs : List ℕ} → Named d w → Groups w r cs n → Directive g (92 ∷ 88 ∷ d ∷ 92 ∷ r) cs (4 + n) g
+  long : {g d w n : ℕ} {r cs : List ℕ} → Named d w → Groups w r cs n → Directive g (bytes "\\X" ++ d ∷ bytes "\\" ++ r) cs (4 + n) g
   -- "A bad group gives the characters already read, then a literal backslash, and reading goes on after the directive's first byte"
-  long-bad : {g d w : ℕ} {r cs : List ℕ} → Named d w → Broken w r cs → Directive g (92 ∷ 88 ∷ d ∷ 92 ∷ r) (cs ++ 92 ∷ []) 1 g
+  long-bad : {g d w : ℕ} {r cs : List ℕ} → Named d w → Broken w r cs → Directive g (bytes "\\X" ++ d ∷ bytes "\\" ++ r) (cs ++ bytes "\\") 1 g
 
 -- a piece stands at the start: the page before it, its characters, how many bytes it takes, the page after it
 pub data Reads : ℕ → List ℕ → List ℕ → ℕ → ℕ → Type 0 where
   -- "`''` gives a quote"
-  quote : {g : ℕ} {r : List ℕ} → Reads g (39 ∷ 39 ∷ r) (39 ∷ []) 2 g
+  quote : {g : ℕ} {r : List ℕ} → Reads g (bytes "''" ++ r) (bytes "'") 2 g
   -- a directive, as above
   directive : {g h k : ℕ} {s cs : List ℕ} → Directive g s cs k h → Reads g s cs k h
   -- "An unknown directive is a literal backslash": a backslash at which no directive stands
-  unknown : {g : ℕ} {r : List ℕ} → ((cs : List ℕ) (k h : ℕ) → Directive g (92 ∷ r) cs k h → ⊥) → Reads g (92 ∷ r) (92 ∷ []) 1 g
+  unknown : {g : ℕ} {r : List ℕ} → ((cs : List ℕ) (k h : ℕ) → Directive g (bytes "\\" ++ r) cs k h → ⊥) → Reads g (bytes "\\" ++ r) (bytes "\\") 1 g
   -- any other byte below 80 is itself: no backslash, and no quote that a quote follows
-  itself : {g b : ℕ} {r : List ℕ} → b < 128 → (b ≡ 92 → ⊥) → (b ≡ 39 → Begins 39 r → ⊥) → Reads g (b ∷ r) (b ∷ []) 1 g
+  itself : {g b : ℕ} {r : List ℕ} → b < 128 → (b ≡ byte "\\" → ⊥) → (b ≡ byte "'" → Begins (byte "'") r → ⊥) → Reads g (b ∷ r) (b ∷ []) 1 g
   -- "Raw bytes from 80 up: a valid UTF-8 sequence"
   sequence : {g c : ℕ} (bs r : List ℕ) → Encoded c bs → 128 ≤ c → Reads g (bs ++ r) (c ∷ []) (length bs) g
   -- "else Latin-1": a byte with which no valid sequence begins
