@@ -2,27 +2,25 @@
 use Prim.Native.Nat.{ℕ, suc, _+_, _-_, _≤_, _<_}
 use mathlib.Core.Path.{_≡_, refl, sym, _∙_, ap}
 use mathlib.Core.Bool.{Bool, true, false, not, _||_}
-use mathlib.Core.List.{List, [], _∷_, _++_, append-assoc}
+use mathlib.Core.List.{List, [], _∷_, _++_}
 use native.Mathlib.Omega.{arith}
 use native.Mathlib.Decide.{decLe}
 use lib.Dec.{eqb}
-use lib.ListN.{length, take, drop, getD, length-drop, length-append, take-append-drop}
+use lib.ListN.{length, take, drop, getD, length-drop}
 use lib.Seq.{drop-drop, take-all}
-use borrow.Author.Tests.{eqb-true, eqb-false, ne-eqb, not-true, not-false}
-use Rattle.common.specs.Pick.{pick}
+use borrow.Author.Tests.{eqb-false, ne-eqb, not-true}
 use Rattle.common.specs.Lists.{split, drop-end}
 use Rattle.common.specs.Compare.{clash}
 use Rattle.lex.specs.Byte.{white}
 use Rattle.common.specs.Walk.{walk}
-use Rattle.lex.specs.Grammar.{Begins, Opens, Inside, Quotation}
-use Rattle.lex.specs.Search.{Look, look, semicolon, paren, under}
-use Rattle.lex.specs.Seek.{under-less}
-use Rattle.lex.specs.Right.Steps.{plainly, Passing, byte-step, string-step}
-use Rattle.record.specs.Text.{past, trail}
+use Rattle.lex.specs.Grammar.{Begins, Inside, Quotation}
+use Rattle.lex.specs.Search.{look, semicolon, paren}
+use Rattle.lex.specs.Right.Steps.{byte-step, string-step}
+use Rattle.record.specs.Text.{past}
 use Rattle.record.specs.Turns.{past-stops, past-goes}
-use Rattle.record.specs.Form.{All, Free, NotLast, Skipped}
-use Rattle.record.specs.FormRight.{past-is, trail-only}
-use Rattle.record.specs.FormRight.Parts.{past-pass, all-kind, last-none}
+use Rattle.record.specs.Form.{All}
+use Rattle.record.specs.FormRight.{past-is}
+use Rattle.record.specs.FormRight.Parts.{past-pass, all-kind}
 use Rattle.statement.specs.Usual.{mark, plain, stops, spoken, Way}
 
 -- no marked byte is plain
@@ -186,38 +184,6 @@ module _ (s : List ℕ) (i d : ℕ) (h : i < length s) where
       let z : drop (i + 1) s ≡ f ++ (39 ∷ drop (q + 1) s) = x ∙ ap (λ (l : List ℕ). f ++ l) (sym p ∙ u) in
       let v : drop i s ≡ 39 ∷ (f ++ (39 ∷ drop (q + 1) s)) = split s i h ∙ cc in
       rw v (string-way d f (drop (q + 1) s) (y .all) o)
-
--- bytes with one more at the end that is not of the kind
-snoc-none : (f : List ℕ) (b : ℕ) → f ++ (b ∷ []) ≡ [] → ⊥
-snoc-none [] b e = clash (cc)
-snoc-none (a ∷ f) b e = clash (cc)
-
--- such bytes do not end in one of the kind
-snoc-last : (p : ℕ → Bool) (f : List ℕ) (b : ℕ) → p b ≡ false → NotLast p (f ++ (b ∷ []))
-snoc-last p [] b h [] c e = ap p (cc) ∙ h
-snoc-last p [] b h (x ∷ r) c e = absurd (snoc-none r c (cc))
-snoc-last p (a ∷ f) b h [] c e = absurd (snoc-none f b (cc))
-snoc-last p (a ∷ f) b h (x ∷ r) c e = snoc-last p f b h r c (cc)
-
--- The whitespace at the end, sought from the end.
-module _ (t : List ℕ) where
-  pub trim-more : (z : ℕ) → 0 < z → z ≤ length t → white (getD t (z - 1) 0) ≡ true → All white (drop z t) → All white (drop (z - 1) t)
-  trim-more z h k w a = let n : z - 1 + 1 ≡ z = omega arith in rw (split t (z - 1) (omega arith), n) (w, a)
-
-  pub trim-none : (from : ℕ) → All white (drop from t) → drop from t ≡ trail (drop from t)
-  trim-none from a = sym (trail-only [] (drop from t) (last-none white) a)
-
-  pub trim-here : (from z : ℕ) → from < z → z ≤ length t → white (getD t (z - 1) 0) ≡ false → All white (drop z t) → drop z t ≡ trail (drop from t)
-  trim-here from z h k w a =
-      let f : List ℕ = take (z - 1 - from) (drop from t) in
-      let b : ℕ = getD t (z - 1) 0 in
-      let n : z - 1 + 1 ≡ z = omega arith in
-      let m : from + (z - 1 - from) ≡ z - 1 = omega arith in
-      let e : drop (z - 1 - from) (drop from t) ≡ b ∷ drop z t =
-      drop-drop (z - 1 - from) from t ∙ ap (λ (k : ℕ). drop k t) m ∙ split t (z - 1) (omega arith) ∙ ap (λ (k : ℕ). b ∷ drop k t) n in
-      let g : drop from t ≡ (f ++ (b ∷ [])) ++ drop z t =
-      sym (take-append-drop (z - 1 - from) (drop from t)) ∙ ap (λ (l : List ℕ). f ++ l) e ∙ sym (append-assoc f (b ∷ []) (drop z t)) in
-      sym (ap trail g ∙ trail-only (f ++ (b ∷ [])) (drop z t) (snoc-last white f b w) a)
 
 -- past whitespace from a place on, where the bytes from there were handed on as a part
 pub space-at : (t : List ℕ) (from r : ℕ) → from ≤ length t → drop r (take (length t - from) (drop from t)) ≡ past white (take (length t - from) (drop from t))
