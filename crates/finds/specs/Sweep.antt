@@ -31,7 +31,7 @@ module _ (P : ℕ → ℕ → Type 0) (ids before : List ℕ) (from : ℕ) where
 
   module _ (m : ℕ) (after : List ℕ) (h : Swept P ids before from m after) (f : from ≤ m) where
     -- a sweep goes one number further, once that is written
-    pub swept-next : (x : ℕ) → m < length before → P (getD ids m 0) x → Swept P ids before from (m + 1) (set after m x)
+    swept-next : (x : ℕ) → m < length before → P (getD ids m 0) x → Swept P ids before from (m + 1) (set after m x)
     swept-next x l p = record { size = length-set after m x ∙ h .size; each = each; front = front; rest = rest }
       where
         here : getD (set after m x) m 0 ≡ x
@@ -55,6 +55,32 @@ module _ (P : ℕ → ℕ → Type 0) (ids before : List ℕ) (from : ℕ) where
 pub swept-end : (P : ℕ → ℕ → Type 0) (ids before after : List ℕ) (from m to : ℕ) → Swept P ids before from m after → m ≡ to → Swept P ids before from to after
 swept-end P ids before after from m to h e = subst (λ (z : ℕ). Swept P ids before from z after) e h
 
+-- a sweep over a part, which both lists have, that has come to m
+pub record Sweeping (P : ℕ → ℕ → Type 0) (ids before : List ℕ) (from to : ℕ) (after : List ℕ) (m : ℕ) : Type 0 where
+  pub low : from ≤ m
+  pub high : m ≤ to
+  pub asked : to ≤ length ids
+  pub room : to ≤ length before
+  pub swept : Swept P ids before from m after
+
+module _ {P : ℕ → ℕ → Type 0} {ids before : List ℕ} {from to : ℕ} where
+  -- it begins
+  pub sweep-none : from ≤ to → to ≤ length ids → to ≤ length before → Sweeping P ids before from to before from
+  sweep-none f a r = record { low = omega arith; high = f; asked = a; room = r; swept = swept-none P ids before from }
+
+  module _ {after : List ℕ} {m : ℕ} (h : Sweeping P ids before from to after m) where
+    -- it writes the next number
+    pub sweep-next : m < to → {x : ℕ} → P (getD ids m 0) x → Sweeping P ids before from to (set after m x) (m + 1)
+    sweep-next l {x} p = let r = h .room in record { low = omega arith; high = omega arith; asked = h .asked; room = r; swept = swept-next P ids before from m after (h .swept) (h .low) x (omega arith) p }
+
+    -- what stands beside the next id before it is swept is what stood there
+    pub sweep-old : (Q : ℕ → ℕ → Type 0) → m < to → ((i : ℕ) → from ≤ i → i < to → Q (getD ids i 0) (getD before i 0)) → Q (getD ids m 0) (getD after m 0)
+    sweep-old Q l q = subst (λ (z : ℕ). Q (getD ids m 0) z) (sym (h .swept .rest m (omega arith))) (q m (h .low) l)
+
+    -- it has come to the part's end
+    pub sweep-end : to ≤ m → Swept P ids before from to after
+    sweep-end e = swept-end P ids before after from m to (h .swept) (omega arith)
+
 -- a second sweep over the same part is one over what stood there before the first
 pub swept-then : (P Q : ℕ → ℕ → Type 0) (ids xs ys zs : List ℕ) (from to : ℕ) → Swept P ids xs from to ys → Swept Q ids ys from to zs → Swept Q ids xs from to zs
 swept-then P Q ids xs ys zs from to a b =
@@ -63,10 +89,6 @@ swept-then P Q ids xs ys zs from to a b =
 -- a sweep after which P holds is one after which Q holds, where Q follows from P
 pub swept-map : (P Q : ℕ → ℕ → Type 0) (ids xs ys : List ℕ) (from to : ℕ) → ((k v : ℕ) → P k v → Q k v) → Swept P ids xs from to ys → Swept Q ids xs from to ys
 swept-map P Q ids xs ys from to f a = record { size = a .size; each = λ i h l. f (getD ids i 0) (getD ys i 0) (a .each i h l); front = a .front; rest = a .rest }
-
--- what stands beside the next id, before it is swept, is what stood there before the sweep
-pub swept-old : (P Q : ℕ → ℕ → Type 0) (ids before after : List ℕ) (from m to : ℕ) → Swept P ids before from m after → from ≤ m → m < to → ((i : ℕ) → from ≤ i → i < to → Q (getD ids i 0) (getD before i 0)) → Q (getD ids m 0) (getD after m 0)
-swept-old P Q ids before after from m to h f l q = subst (λ (z : ℕ). Q (getD ids m 0) z) (sym (h .rest m (omega arith))) (q m f l)
 
 -- each of the rows that are told for the ids of a part is one of n, and has its id
 abbrev pub AllStand : List ℕ → ℕ → List ℕ → List ℕ → ℕ → ℕ → Type 0

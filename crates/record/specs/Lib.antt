@@ -7,6 +7,7 @@ pub mod HeadLaws
 pub mod Within
 pub mod Form
 pub mod FormRight
+pub mod Trail
 pub mod HashOther
 pub mod Only
 pub mod Ordered

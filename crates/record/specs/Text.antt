@@ -1,6 +1,6 @@
 -- Parts of a record's text: what stands before a rest, what is left past bytes of a kind, digits and their number, a keyword.
 -- Assumes nothing.
-use Prim.Native.Nat.{ℕ, _+_, _*_, _-_, _≤_, _<_}
+use Prim.Native.Nat.{ℕ, _+_, _*_, _-_, _≤_, _<_, max}
 use mathlib.Core.Path.{_≡_}
 use mathlib.Core.Bool.{Bool}
 use mathlib.Core.List.{List, [], _∷_}
@@ -72,7 +72,7 @@ trail xs = walk trailTurn (λ e. e) xs xs
 -- what the code's answer says of the digits from a place on: "id above 4294967295", or the number and the place after them
 abbrev pub Numbered : List ℕ → ℕ → Number → Type 0
 Numbered b from Over = 4294967295 < numberFrom 0 (drop from b) .value
-Numbered b from (Value n p) = (numberFrom 0 (drop from b) ≡ digits n (drop p b)) × (from ≤ p) × (p ≤ length b) × (n ≤ 4294967295)
+Numbered b from (Value n p) = (numberFrom 0 (drop from b) ≡ digits n (drop p b)) × (from ≤ p) × (p ≤ max from (length b)) × (n ≤ 4294967295)
 
 -- what the code's answer says of the keyword from a place on: there is no `(`, or where the keyword ends and the `(` stands
 abbrev pub KeyedAt : List ℕ → ℕ → Key → Type 0

@@ -12,8 +12,8 @@ use lib.ListN.{length, drop, getD}
 use Rattle.common.specs.Pick.{pick}
 use Rattle.common.specs.Lists.{split}
 use Rattle.lex.specs.Byte.{white}
-use Rattle.common.specs.Walk.{Turn, stop, on, turned, walk, walk-ends, walk-stops, walk-goes}
-use Rattle.record.specs.Text.{pastTurn, Digits, digits, digitTurn, numberFrom, Keyed, opened, unopened, keyTurn, keyword, trailTurn}
+use Rattle.common.specs.Walk.{stop, on, turned, walk, walk-stops, walk-goes}
+use Rattle.record.specs.Text.{pastTurn, Digits, digits, digitTurn, numberFrom, Keyed, opened, unopened, keyTurn, keyword}
 use Rattle.record.specs.Byte.{digit}
 use Rattle.record.specs.Word.{same}
 
@@ -42,7 +42,6 @@ module _ (b : List ℕ) (i : ℕ) (h : i < length b) where
   pub key-goes : (e k : ℕ) (a : Keyed) → eqb (getD b i 0) 40 ≡ false → pick (white (getD b i 0)) (drop e b) (drop (i + 1) b) ≡ drop k b → walk keyTurn (λ l. unopened) (drop e b) (drop i b) ≡ a → walk keyTurn (λ l. unopened) (drop k b) (drop (i + 1) b) ≡ a
   key-goes e k a q w inv = sym (walk-goes keyTurn (λ l. unopened) (drop e b) (drop k b) b i h (rw q (ap on w))) ∙ inv
 
-  -- `trail` goes on after any byte; the whitespace at the end begins at e before it, at k after it
   pub trail-goes : (e k : ℕ) (a : List ℕ) → pick (white (getD b i 0)) (drop e b) (drop (i + 1) b) ≡ drop k b → walk trailTurn (λ l. l) (drop e b) (drop i b) ≡ a → walk trailTurn (λ l. l) (drop k b) (drop (i + 1) b) ≡ a
   trail-goes e k a w inv = sym (walk-goes trailTurn (λ l. l) (drop e b) (drop k b) b i h (ap on w)) ∙ inv
 

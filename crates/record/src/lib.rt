@@ -4,7 +4,7 @@
 // what a record says cannot depend on what stands around it; places count from the record's start.
 ghost use mathlib.Core.Path.{_≡_};
 ghost use mathlib.Core.Bool.{true, false};
-ghost use Prim.Native.Nat.{_≤_, _<_};
+ghost use Prim.Native.Nat.{_≤_, _<_, min};
 ghost use lib.ListN.{length, drop};
 ghost use Rattle.lex.specs.Byte.{white};
 ghost use Rattle.record.specs.Text.{past, trail, keyword, Numbered, KeyedAt};
@@ -58,13 +58,13 @@ pub fn is_digit(c: u8) -> bool
 }
 
 // An id's digits: their number and the place after them, or that the number is above the largest id.
-enum Number {
+pub enum Number {
     Over,
     Value(u32, usize),
 }
 
-fn digits_at(b: &[u8], from: usize) -> Number
-    requires { ⌜ from ≤ length (now b) ⌝ }
+// The id whose digits begin at `from`.
+pub fn digits_at(b: &[u8], from: usize) -> Number
     ensures { λ r. ⌜ Numbered (now (b .entry)) from r ⌝ }
 {
     let mut n: u64 = 0;
@@ -124,21 +124,18 @@ fn keyword_at(b: &[u8], from: usize) -> Key
     Key::Absent
 }
 
-// The place after the last byte from `from` on that is not white, or `from`.
-fn trail_at(b: &[u8], from: usize) -> usize
-    requires { ⌜ from ≤ length (now b) ⌝ }
+// The place after the last byte from `from` on that is not white, or `from`, or the length where that is less; sought from the end.
+pub fn trail_at(b: &[u8], from: usize) -> usize
     ensures { λ r. ⌜ drop r (now (b .entry)) ≡ trail (drop from (now (b .entry))) ⌝ }
-    ensures { λ r. ⌜ from ≤ r ⌝ }
-    ensures { λ r. ⌜ r ≤ length (now (b .entry)) ⌝ }
+    ensures { λ r. ⌜ (min from (length (now (b .entry))) ≤ r) × (r ≤ length (now (b .entry))) ⌝ }
 {
-    let mut end = from;
-    let mut i = from;
-    while i < b.len() {
-        let c = b[i];
-        i += 1;
-        if !lex::is_space(c) {
-            end = i;
+    let mut end = b.len();
+    while from < end {
+        let last = end - 1;
+        if !lex::is_space(b[last]) {
+            return end;
         }
+        end = last;
     }
     end
 }

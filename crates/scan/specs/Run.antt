@@ -12,8 +12,8 @@ use Rattle.statement.specs.Rows.{Row, record′}
 use Rattle.statement.specs.Statement.{statement}
 use Rattle.statement.specs.Tidy.{tidy}
 use Rattle.statement.specs.declared.Section.the-variants.{InData}
-use Rattle.table.specs.Table.{rowsFit, rowPut}
-use Rattle.table.specs.Laws.{row-put-length}
+use Rattle.table.specs.Table.{rowsFit, six, rowPut}
+use Rattle.table.specs.Laws.{put-length}
 use Rattle.scan.specs.Laws.{Going, going-record}
 use Rattle.scan.specs.Neat.{Tidying, tidying-record}
 
@@ -38,7 +38,7 @@ module _ (s : List ℕ) (room : ℕ) (known : Bool) (i r m : ℕ) (xs : List ℕ
   -- a run of tidy records leaves the lent rows as long as before
   pub ran-length : {j q k : ℕ} {ys : List ℕ} → Ran s room known i r m xs j q k ys → length ys ≡ length xs
   ran-length Ran.none = refl
-  ran-length (Ran.more {q = q} {ys = ys} h e w p n d t l b a) = row-put-length ys q w ∙ ran-length h
+  ran-length (Ran.more {q = q} {ys = ys} h e w p n d t l b a) = put-length 6 ys q (six w) ∙ ran-length h
 
   -- after a run of tidy records the reading goes on as if each record had been taken by itself
   pub going-ran : (H : ℕ) (write : Bool) (h₀ r₀ : List ℕ) (h : ℕ) (hnow : List ℕ) {j q k : ℕ} {ys : List ℕ} → room ≤ rowsFit (length r₀) → (known ≡ true → write ≡ true)

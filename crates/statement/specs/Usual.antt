@@ -1,25 +1,23 @@
 -- A usual data record, read in one walk: what its pieces promise. No contract of a public function cites these: UsualRight.antt shows that
 -- what such a walk answers is what Statement.antt says, and a record that is not usual is read by the searches themselves.
 -- Assumes nothing.
-use Prim.Native.Nat.{ℕ, suc, _+_, _-_, _/_, _%_, _^_, _≤_, _<_}
+use Prim.Native.Nat.{ℕ, _+_, _/_, _%_, _^_, _≤_, _<_}
 use mathlib.Core.Path.{_≡_}
-use mathlib.Core.Bool.{Bool, true, false, not, _||_}
-use mathlib.Core.List.{List, [], _∷_, _++_}
+use mathlib.Core.Bool.{Bool, not, _||_}
+use mathlib.Core.List.{List, _∷_, _++_}
 use lib.Dec.{eqb}
-use lib.ListN.{length, take, drop, getD}
+use lib.ListN.{length, drop, getD}
 use Rattle.lex.specs.Search.{recordEnd, closing, semicolon, paren}
 use Rattle.lex.specs.Answer.{at}
 use Rattle.lex.specs.Right.Steps.{plainly}
-use Rattle.record.specs.Text.{past, digits, numberFrom}
+use Rattle.record.specs.Text.{past}
 use Rattle.record.specs.Head.{dataHead}
 use Rattle.record.specs.declared.Head.{Head}
 use Rattle.record.specs.declared.Head.the-variants.{Bad, Complex, Simple}
-use Rattle.statement.specs.Rows.{Stmt, record′, rowOf}
+use Rattle.statement.specs.Rows.{record′, rowOf}
 use Rattle.statement.specs.Statement.{begun}
 use Rattle.statement.specs.Tidy.{unended, tidy}
 use Rattle.statement.specs.declared.Section.{Section}
-use Rattle.statement.specs.declared.IdRead.{IdRead}
-use Rattle.statement.specs.declared.IdRead.the-variants.{NoId, IdIs}
 use Rattle.statement.specs.declared.Step.{Step}
 use Rattle.statement.specs.declared.Step.the-variants.{Stop, On}
 use Rattle.statement.specs.declared.Usual.{Usual}
@@ -60,11 +58,6 @@ Stepped s i d (On j e) = (i < j) × (j ≤ length s) × (e ≤ d + 1) × Way d e
 -- what the walk answers: the place of the closing `)`, or the length
 abbrev pub Closed : List ℕ → ℕ → ℕ → Type 0
 Closed s from r = r < length s → (from ≤ r) × (getD s r 0 ≡ 41) × Way 0 0 (drop from s) (drop r s)
-
--- what the digits of an id give, where they give one
-abbrev pub IdAt : List ℕ → ℕ → IdRead → Type 0
-IdAt t from NoId = Unit {0}
-IdAt t from (IdIs n p) = (numberFrom 0 (drop from t) ≡ digits n (drop p t)) × (from ≤ p) × (p ≤ length t) × (n ≤ 4294967295)
 
 -- what stands before the `(` of a data record, t, says whatever follows the `(`
 abbrev pub Headed : List ℕ → Head → Type 0

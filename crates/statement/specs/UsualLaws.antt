@@ -2,27 +2,25 @@
 use Prim.Native.Nat.{ℕ, suc, _+_, _-_, _≤_, _<_}
 use mathlib.Core.Path.{_≡_, refl, sym, _∙_, ap}
 use mathlib.Core.Bool.{Bool, true, false, not, _||_}
-use mathlib.Core.List.{List, [], _∷_, _++_, append-assoc}
+use mathlib.Core.List.{List, [], _∷_, _++_}
 use native.Mathlib.Omega.{arith}
 use native.Mathlib.Decide.{decLe}
 use lib.Dec.{eqb}
-use lib.ListN.{length, take, drop, getD, length-drop, length-append, take-append-drop}
+use lib.ListN.{length, take, drop, getD, length-drop}
 use lib.Seq.{drop-drop, take-all}
-use borrow.Author.Tests.{eqb-true, eqb-false, ne-eqb, not-true, not-false}
-use Rattle.common.specs.Pick.{pick}
+use borrow.Author.Tests.{eqb-false, ne-eqb, not-true}
 use Rattle.common.specs.Lists.{split, drop-end}
 use Rattle.common.specs.Compare.{clash}
 use Rattle.lex.specs.Byte.{white}
 use Rattle.common.specs.Walk.{walk}
-use Rattle.lex.specs.Grammar.{Begins, Opens, Inside, Quotation}
-use Rattle.lex.specs.Search.{Look, look, semicolon, paren, under}
-use Rattle.lex.specs.Seek.{under-less}
-use Rattle.lex.specs.Right.Steps.{plainly, Passing, byte-step, string-step}
-use Rattle.record.specs.Text.{past, trail}
+use Rattle.lex.specs.Grammar.{Begins, Inside, Quotation}
+use Rattle.lex.specs.Search.{look, semicolon, paren}
+use Rattle.lex.specs.Right.Steps.{byte-step, string-step}
+use Rattle.record.specs.Text.{past}
 use Rattle.record.specs.Turns.{past-stops, past-goes}
-use Rattle.record.specs.Form.{All, Free, NotLast, Skipped}
-use Rattle.record.specs.FormRight.{past-is, trail-only}
-use Rattle.record.specs.FormRight.Parts.{past-pass, all-kind, last-none}
+use Rattle.record.specs.Form.{All}
+use Rattle.record.specs.FormRight.{past-is}
+use Rattle.record.specs.FormRight.Parts.{past-pass, all-kind}
 use Rattle.statement.specs.Usual.{mark, plain, stops, spoken, Way}
 
 -- no marked byte is plain
@@ -226,7 +224,7 @@ module _ (t : List ℕ) where
       sym (take-append-drop (z - 1 - from) (drop from t)) ∙ ap (λ (l : List ℕ). f ++ l) e ∙ sym (append-assoc f (b ∷ []) (drop z t)) in
       sym (ap trail g ∙ trail-only (f ++ (b ∷ [])) (drop z t) (snoc-last white f b w) a)
 
--- the place past whitespace, counted in a part that was handed on, is the one in the whole text
+-- past whitespace from a place on, where the bytes from there were handed on as a part
 pub space-at : (t : List ℕ) (from r : ℕ) → from ≤ length t → drop r (take (length t - from) (drop from t)) ≡ past white (take (length t - from) (drop from t))
     → drop (from + r) t ≡ past white (drop from t)
 space-at t from r h e =

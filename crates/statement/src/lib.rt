@@ -10,7 +10,7 @@ ghost use lib.ListN.{length, take, drop, getD};
 ghost use Rattle.lex.specs.Byte.{white};
 ghost use Rattle.lex.specs.Search.{trivia};
 ghost use Rattle.lex.specs.Answer.{at, placed, toldFound};
-ghost use Rattle.record.specs.Text.{past, trail};
+ghost use Rattle.record.specs.Text.{past, Numbered};
 ghost use Rattle.record.specs.Form.{Free};
 ghost use Rattle.record.specs.Head.{dataHead};
 ghost use Rattle.statement.specs.Rows.{row, headerRow};
@@ -18,11 +18,12 @@ ghost use Rattle.statement.specs.Row.{argued, recordOf, headerOf};
 ghost use Rattle.statement.specs.Answer.{toldRecord, toldHeader, toldSaid, Ahead, toldTidied};
 ghost use Rattle.statement.specs.Statement.{inSection, ended, begun, statement};
 ghost use Rattle.statement.specs.Tidy.{unended, tidy, tidyBy, tidyRecord, TidyAhead};
-ghost use Rattle.statement.specs.Usual.{mark, plain, stops, spoken, Stepped, Closed, IdAt, Headed, Walked, UsualSaid};
+ghost use Rattle.statement.specs.Usual.{mark, plain, stops, spoken, Stepped, Closed, Headed, Walked, UsualSaid};
 use error::Fault;
 use lex::Found;
 use lex::Quote;
 use record::Head;
+use record::Number;
 use record::Word;
 
 // Where a statement stands: in the header, in data, or elsewhere, where records are ignored.
@@ -88,12 +89,6 @@ pub enum Tidied {
 enum Usual {
     Unusual,
     Whole(RecordSpan, usize, bool),
-}
-
-// An id and the place after its digits, or none that is usual.
-enum IdRead {
-    NoId,
-    IdIs(u32, usize),
 }
 
 // What a walk does next: it stops at a place, or goes on from a place with so many open parentheses.
@@ -411,47 +406,9 @@ fn usual_close(s: &[u8], from: usize) -> usize
     }
 }
 
-// The id whose digits begin at `from`.
-fn id_at(t: &[u8], from: usize) -> IdRead
-    requires { ⌜ from ≤ length (now t) ⌝ }
-    ensures { λ r. ⌜ IdAt (now (t .entry)) from r ⌝ }
-{
-    let mut n: u64 = 0;
-    let mut i = from;
-    while i < t.len() {
-        let c = t[i];
-        if !record::is_digit(c) {
-            return IdRead::IdIs(n as u32, i);
-        }
-        n = n * 10 + ((c - 48) as u64);
-        if 4294967295 < n {
-            return IdRead::NoId;
-        }
-        i += 1;
-    }
-    IdRead::IdIs(n as u32, i)
-}
-
-// The place after the last byte from `from` on that is not white, or `from`; sought from the end.
-fn trim_at(t: &[u8], from: usize) -> usize
-    requires { ⌜ from ≤ length (now t) ⌝ }
-    ensures { λ r. ⌜ drop r (now (t .entry)) ≡ trail (drop from (now (t .entry))) ⌝ }
-    ensures { λ r. ⌜ (from ≤ r) × (r ≤ length (now (t .entry))) ⌝ }
-{
-    let mut z = t.len();
-    while from < z {
-        let last = z - 1;
-        if !lex::is_space(t[last]) {
-            return z;
-        }
-        z = last;
-    }
-    z
-}
-
 // What stands from the `=` on, before the `(`.
 fn value_before(t: &[u8], id: u32, from: usize) -> Head
-    requires { ⌜ Free 40 (now t) × IdAt (now t) 1 (IdRead.IdIs id from) × (1 < from) × (getD (now t) 0 0 ≡ 35) ⌝ }
+    requires { ⌜ Free 40 (now t) × Numbered (now t) 1 (Number.Value id from) × (1 < from) × (getD (now t) 0 0 ≡ 35) ⌝ }
     ensures { λ r. ⌜ Headed (now (t .entry)) r ⌝ }
 {
     let q = from + record::leading_space(&t[from..]);
@@ -466,7 +423,7 @@ fn value_before(t: &[u8], id: u32, from: usize) -> Head
     if t.len() <= a {
         return Head::Complex(id, a);
     }
-    Head::Simple(id, a, trim_at(t, a), t.len())
+    Head::Simple(id, a, record::trail_at(t, a), t.len())
 }
 
 // The head of a data record by what stands before its first `(`.
@@ -480,9 +437,9 @@ fn head_before(t: &[u8]) -> Head
     if t[0] != b'#' {
         return Head::Bad(2);
     }
-    match id_at(t, 1) {
-        IdRead::NoId => Head::Bad(4),
-        IdRead::IdIs(id, at) => {
+    match record::digits_at(t, 1) {
+        Number::Over => Head::Bad(3),
+        Number::Value(id, at) => {
             if at == 1 {
                 return Head::Bad(4);
             }

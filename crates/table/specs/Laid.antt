@@ -3,14 +3,14 @@
 use Prim.Native.Nat.{ℕ, zero, suc, _+_, _*_, _/_, _≤_, _<_}
 use mathlib.Core.Path.{_≡_, refl, sym, _∙_, ap}
 use mathlib.Core.List.{List, [], _∷_, _++_, append-assoc, append-nil}
-use mathlib.Core.Option.{Option, some}
+use mathlib.Core.Option.{some}
 use native.Mathlib.Omega.{arith}
-use native.Mathlib.Nat.{suc-mul, zero-mul, zero-add}
+use native.Mathlib.Nat.{suc-mul, zero-mul, zero-add, le-div-iff-mul-le}
 use lib.ListN.{length, drop, getD, getElem?, length-append, length-drop, List·getD-append}
-use lib.Seq.{sets, sets-eq, getD-append-add, take-append-seam, drop-append-add, drop-drop}
+use lib.Seq.{sets-eq, getD-append-add, take-append-seam, drop-append-add, drop-drop}
 use Rattle.common.specs.Compare.{clash}
 use Rattle.statement.specs.Rows.{Row, HeaderRow}
-use Rattle.table.specs.Table.{rowsFit, headersFit, field, rowNumbers, headerNumbers, six, four, flat, laid, rowsLaid, headersLaid, rowPut, headerPut}
+use Rattle.table.specs.Table.{rowsFit, headersFit, field, rowNumbers, headerNumbers, six, four, flat, laid, rowsLaid, headersLaid, putAt, rowPut, headerPut}
 use Rattle.table.specs.Laws.{field-there, put-there, row-same, header-same}
 
 -- the numbers of rows with one row more are those of the rows and then those of that row
@@ -19,113 +19,107 @@ unfolding flat
 flat-more f [] w = append-nil (f w)
 flat-more f (v ∷ ws) w = ap (λ (l : List ℕ). f v ++ l) (flat-more f ws w) ∙ sym (append-assoc (f v) (flat f ws) (f w))
 
--- the numbers of rows of n numbers each are n times as many as the rows
-flat-length : {A : Type 0} (n : ℕ) (f : A → List ℕ) → ((w : A) → length (f w) ≡ n) → (ws : List A) → length (flat f ws) ≡ length ws * n
-unfolding flat
-flat-length n f e [] = omega arith
-flat-length n f e (w ∷ ws) =
-    let m : suc (length ws) * n ≡ length ws * n + n = suc-mul (length ws) n in
-    let ih = flat-length n f e ws in
-    omega (arith, length-append (f w) (flat f ws), e w)
-
--- the numbers of one row more are stored after those of the rows before
-laid-more : {A : Type 0} (n : ℕ) (f : A → List ℕ) → ((w : A) → length (f w) ≡ n) → (ws : List A) (w : A) (old : List ℕ) → length ws * n + n ≤ length old
-    → laid (flat f (ws ++ (w ∷ []))) old ≡ sets (laid (flat f ws) old) (length ws * n) (f w)
-laid-more n f e ws w old h =
-    let l = flat f ws in
-    let k : length l ≡ length ws * n = flat-length n f e ws in
-    let m : length l + length (f w) ≤ length (laid l old) = omega (arith, e w, length-append l (drop (length l) old), length-drop (length l) old) in
-    let d : drop (length (f w)) (drop (length l) old) ≡ drop (length (l ++ f w)) old =
-    drop-drop (length (f w)) (length l) old ∙ ap (λ (j : ℕ). drop j old) (sym (length-append l (f w))) in
-    rw (flat-more f ws w, ← k)
-    (sym
-    (sets-eq (f w) (laid l old) (length l) m
-    ∙ rw (take-append-seam l (drop (length l) old), drop-append-add l (drop (length l) old) (length (f w)), d) refl))
-
--- the memory is as long as before rows were laid, where they fit
-laid-length : {A : Type 0} (n : ℕ) (f : A → List ℕ) → ((w : A) → length (f w) ≡ n) → (ws : List A) (old : List ℕ) → length ws * n ≤ length old → length (laid (flat f ws) old) ≡ length old
-laid-length n f e ws old h = let k = flat-length n f e ws in omega (arith, k, length-append (flat f ws) (drop (length (flat f ws)) old), length-drop (length (flat f ws)) old)
-
 -- a number below the number of rows is that of one of them
 there : {A : Type 0} (ws : List A) (r : ℕ) → r < length ws → (w : A) × (getElem? ws r ≡ some w)
 there [] r h = absurd (omega arith)
 there (w ∷ ws) zero h = (w, refl)
 there (w ∷ ws) (suc r) h = there ws r (omega arith)
 
--- number i of row r stands at its place, whatever follows the rows
-flat-at : {A : Type 0} (n : ℕ) (f : A → List ℕ) → ((w : A) → length (f w) ≡ n) → (ws : List A) (rest : List ℕ) (r : ℕ) (w : A) → getElem? ws r ≡ some w
-    → (i : ℕ) → i < n → getD (flat f ws ++ rest) (r * n + i) 0 ≡ getD (f w) i 0
+-- rows of n numbers each, one number at least
+module _ {A : Type 0} (n : ℕ) (f : A → List ℕ) (e : (w : A) → length (f w) ≡ n) (z : 0 < n) where
+  -- the numbers of rows of n numbers each are n times as many as the rows
+  flat-length : (ws : List A) → length (flat f ws) ≡ length ws * n
+  unfolding flat
+  flat-length [] = omega arith
+  flat-length (w ∷ ws) =
+      let m : suc (length ws) * n ≡ length ws * n + n = suc-mul (length ws) n in
+      let ih = flat-length ws in
+      omega (arith, length-append (f w) (flat f ws), e w)
+
+  -- the memory is as long as before rows were laid, where they fit
+  pub laid-length : (ws : List A) (old : List ℕ) → length ws ≤ length old / n → length (laid (flat f ws) old) ≡ length old
+  laid-length ws old h =
+      let k = flat-length ws in
+      omega (arith, le-div-iff-mul-le {x = length ws} {y = length old} z .0 h, length-append (flat f ws) (drop (length (flat f ws)) old), length-drop (length (flat f ws)) old)
+
+  -- whether or not they fit, the memory then has so many rows
+  pub laid-in : (ws : List A) (old : List ℕ) → length ws ≤ length (laid (flat f ws) old) / n
+  laid-in ws old =
+      let k = flat-length ws in
+      le-div-iff-mul-le {x = length ws} {y = length (laid (flat f ws) old)} z .1 (omega (arith, length-append (flat f ws) (drop (length (flat f ws)) old)))
+
+  -- the numbers of one row more are stored after those of the rows before
+  pub laid-more : (ws : List A) (w : A) (old : List ℕ) → length ws < length old / n → laid (flat f (ws ++ (w ∷ []))) old ≡ putAt n (laid (flat f ws) old) (length ws) (f w)
+  laid-more ws w old h =
+      let l = flat f ws in
+      let k : length l ≡ length ws * n = flat-length ws in
+      let o : length (laid l old) ≡ length old = laid-length ws old (omega arith) in
+      let m : length l + length (f w) ≤ length (laid l old) = omega (arith, e w, suc-mul (length ws) n, le-div-iff-mul-le {x = suc (length ws)} {y = length old} z .0 (omega arith)) in
+      let d : drop (length (f w)) (drop (length l) old) ≡ drop (length (l ++ f w)) old =
+      drop-drop (length (f w)) (length l) old ∙ ap (λ (j : ℕ). drop j old) (sym (length-append l (f w))) in
+      rw (flat-more f ws w, put-there n (laid l old) (length ws) (rw o h) (f w), ← k)
+      (sym
+      (sets-eq (f w) (laid l old) (length l) m
+      ∙ rw (take-append-seam l (drop (length l) old), drop-append-add l (drop (length l) old) (length (f w)), d) refl))
+
+  -- number i of row r stands at its place, whatever follows the rows
+  flat-at : (ws : List A) (rest : List ℕ) (r : ℕ) (w : A) → getElem? ws r ≡ some w → (i : ℕ) → i < n → getD (flat f ws ++ rest) (r * n + i) 0 ≡ getD (f w) i 0
+  unfolding flat
+  flat-at [] rest r w g i h = clash cc
+  flat-at (v ∷ ws) rest zero w g i h =
+      let q : v ≡ w = cc in
+      let y : 0 * n + i ≡ i = ap (λ (m : ℕ). m + i) (zero-mul n) ∙ zero-add i in
+      ap (λ (l : List ℕ). getD l (0 * n + i) 0) (append-assoc (f v) (flat f ws) rest)
+      ∙ ap (λ (j : ℕ). getD (f v ++ (flat f ws ++ rest)) j 0) y
+      ∙ List·getD-append (f v) (flat f ws ++ rest) 0 i (omega (arith, e v, h))
+      ∙ ap (λ (u : _). getD (f u) i 0) q
+  flat-at (v ∷ ws) rest (suc r) w g i h =
+      let m : suc r * n ≡ r * n + n = suc-mul r n in
+      let y : suc r * n + i ≡ length (f v) + (r * n + i) = omega (arith, m, e v) in
+      ap (λ (l : List ℕ). getD l (suc r * n + i) 0) (append-assoc (f v) (flat f ws) rest)
+      ∙ ap (λ (j : ℕ). getD (f v ++ (flat f ws ++ rest)) j 0) y
+      ∙ getD-append-add (f v) (flat f ws ++ rest) (r * n + i) 0
+      ∙ flat-at ws rest r w g i h
+
+  -- row r of the memory has the numbers of the row that was laid as the r-th
+  laid-at : (ws : List A) (old : List ℕ) (r : ℕ) → r < length ws → (w : A) × (getElem? ws r ≡ some w) × ((i : ℕ) → i < n → field n (laid (flat f ws) old) r i ≡ getD (f w) i 0)
+  laid-at ws old r h =
+      let (w, g) = there ws r h in
+      let k : r < length (laid (flat f ws) old) / n = omega (arith, laid-in ws old) in
+      (w, g, λ i l. field-there n (laid (flat f ws) old) r k i ∙ flat-at ws (drop (length (flat f ws)) old) r w g i l)
+
+-- no row is laid, and nothing changes
+pub laid-none : {A : Type 0} (f : A → List ℕ) (old : List ℕ) → laid (flat f []) old ≡ old
 unfolding flat
-flat-at n f e [] rest r w g i h = clash cc
-flat-at n f e (v ∷ ws) rest zero w g i h =
-    let q : v ≡ w = cc in
-    let z : 0 * n + i ≡ i = ap (λ (m : ℕ). m + i) (zero-mul n) ∙ zero-add i in
-    ap (λ (l : List ℕ). getD l (0 * n + i) 0) (append-assoc (f v) (flat f ws) rest)
-    ∙ ap (λ (j : ℕ). getD (f v ++ (flat f ws ++ rest)) j 0) z
-    ∙ List·getD-append (f v) (flat f ws ++ rest) 0 i (omega (arith, e v, h))
-    ∙ ap (λ (u : _). getD (f u) i 0) q
-flat-at n f e (v ∷ ws) rest (suc r) w g i h =
-    let m : suc r * n ≡ r * n + n = suc-mul r n in
-    let z : suc r * n + i ≡ length (f v) + (r * n + i) = omega (arith, m, e v) in
-    ap (λ (l : List ℕ). getD l (suc r * n + i) 0) (append-assoc (f v) (flat f ws) rest)
-    ∙ ap (λ (j : ℕ). getD (f v ++ (flat f ws ++ rest)) j 0) z
-    ∙ getD-append-add (f v) (flat f ws ++ rest) (r * n + i) 0
-    ∙ flat-at n f e ws rest r w g i h
-
--- ---- data rows
--- where no data row is laid, the memory is as it was
-pub rows-laid-none : (old : List ℕ) → rowsLaid [] old ≡ old
-unfolding flat
-rows-laid-none old = refl
-
--- one data row more is put behind those that were laid
-pub rows-laid-more : (ws : List Row) (w : Row) (old : List ℕ) → length ws < rowsFit (length old) → rowsLaid (ws ++ (w ∷ [])) old ≡ rowPut (rowsLaid ws old) (length ws) w
-rows-laid-more ws w old h =
-    let l : length (rowsLaid ws old) ≡ length old = laid-length 6 six (λ v. refl) ws old (omega (arith, h)) in
-    laid-more 6 six (λ v. refl) ws w old (omega (arith, h)) ∙ sym (put-there 6 (rowsLaid ws old) (length ws) (omega (arith, h, l)) (six w))
-
--- the memory keeps its length where data rows are laid that fit
-pub rows-laid-length : (ws : List Row) (old : List ℕ) → length ws ≤ rowsFit (length old) → length (rowsLaid ws old) ≡ length old
-rows-laid-length ws old h = laid-length 6 six (λ v. refl) ws old (omega (arith, h))
-
--- after data rows were laid, whether or not they fit, the memory has so many rows
-pub rows-laid-in : (ws : List Row) (old : List ℕ) → length ws ≤ rowsFit (length (rowsLaid ws old))
-rows-laid-in ws old = let k = flat-length 6 six (λ v. refl) ws in omega (arith, k, length-append (flat six ws) (drop (length (flat six ws)) old))
+laid-none f old = refl
 
 -- "A row holds id, keyword start and end [..]": row r of the memory is the row that was laid as the r-th
 pub row-is : (ws : List Row) (old : List ℕ) (r : ℕ) → r < length ws → getElem? ws r ≡ some (rowNumbers (rowsLaid ws old) r)
 row-is ws old r h =
-    let (w, g) = there ws r h in
-    let k : r < rowsFit (length (rowsLaid ws old)) = omega (arith, rows-laid-in ws old) in
-    let on : (i : ℕ) → i < 6 → field 6 (rowsLaid ws old) r i ≡ getD (six w) i 0 =
-    λ i l. field-there 6 (rowsLaid ws old) r k i ∙ flat-at 6 six (λ v. refl) ws (drop (length (flat six ws)) old) r w g i l in
+    let (w, g, on) = laid-at 6 six (λ v. refl) (omega arith) ws old r h in
     g ∙ ap some (sym (row-same (on 0 (omega arith)) (on 1 (omega arith)) (on 2 (omega arith)) (on 3 (omega arith)) (on 4 (omega arith)) (on 5 (omega arith))))
-
--- ---- header rows
--- where no header row is laid, the memory is as it was
-pub headers-laid-none : (old : List ℕ) → headersLaid [] old ≡ old
-unfolding flat
-headers-laid-none old = refl
-
--- one header row more is put behind those that were laid
-pub headers-laid-more : (ws : List HeaderRow) (w : HeaderRow) (old : List ℕ) → length ws < headersFit (length old) → headersLaid (ws ++ (w ∷ [])) old ≡ headerPut (headersLaid ws old) (length ws) w
-headers-laid-more ws w old h =
-    let l : length (headersLaid ws old) ≡ length old = laid-length 4 four (λ v. refl) ws old (omega (arith, h)) in
-    laid-more 4 four (λ v. refl) ws w old (omega (arith, h)) ∙ sym (put-there 4 (headersLaid ws old) (length ws) (omega (arith, h, l)) (four w))
-
--- the memory keeps its length where header rows are laid that fit
-pub headers-laid-length : (ws : List HeaderRow) (old : List ℕ) → length ws ≤ headersFit (length old) → length (headersLaid ws old) ≡ length old
-headers-laid-length ws old h = laid-length 4 four (λ v. refl) ws old (omega (arith, h))
-
--- after header rows were laid, whether or not they fit, the memory has so many rows
-pub headers-laid-in : (ws : List HeaderRow) (old : List ℕ) → length ws ≤ headersFit (length (headersLaid ws old))
-headers-laid-in ws old = let k = flat-length 4 four (λ v. refl) ws in omega (arith, k, length-append (flat four ws) (drop (length (flat four ws)) old))
 
 -- header row r of the memory is the header row that was laid as the r-th
 pub header-is : (ws : List HeaderRow) (old : List ℕ) (r : ℕ) → r < length ws → getElem? ws r ≡ some (headerNumbers (headersLaid ws old) r)
 header-is ws old r h =
-    let (w, g) = there ws r h in
-    let k : r < headersFit (length (headersLaid ws old)) = omega (arith, headers-laid-in ws old) in
-    let on : (i : ℕ) → i < 4 → field 4 (headersLaid ws old) r i ≡ getD (four w) i 0 =
-    λ i l. field-there 4 (headersLaid ws old) r k i ∙ flat-at 4 four (λ v. refl) ws (drop (length (flat four ws)) old) r w g i l in
+    let (w, g, on) = laid-at 4 four (λ v. refl) (omega arith) ws old r h in
     g ∙ ap some (sym (header-same (on 0 (omega arith)) (on 1 (omega arith)) (on 2 (omega arith)) (on 3 (omega arith))))
+
+-- the memory keeps its length where data rows are laid that fit
+pub rows-laid-length : (ws : List Row) (old : List ℕ) → length ws ≤ rowsFit (length old) → length (rowsLaid ws old) ≡ length old
+rows-laid-length = laid-length 6 six (λ v. refl) (omega arith)
+
+pub headers-laid-length : (ws : List HeaderRow) (old : List ℕ) → length ws ≤ headersFit (length old) → length (headersLaid ws old) ≡ length old
+headers-laid-length = laid-length 4 four (λ v. refl) (omega arith)
+
+pub rows-laid-in : (ws : List Row) (old : List ℕ) → length ws ≤ rowsFit (length (rowsLaid ws old))
+rows-laid-in = laid-in 6 six (λ v. refl) (omega arith)
+
+pub headers-laid-in : (ws : List HeaderRow) (old : List ℕ) → length ws ≤ headersFit (length (headersLaid ws old))
+headers-laid-in = laid-in 4 four (λ v. refl) (omega arith)
+
+pub rows-laid-more : (ws : List Row) (w : Row) (old : List ℕ) → length ws < rowsFit (length old) → rowsLaid (ws ++ (w ∷ [])) old ≡ rowPut (rowsLaid ws old) (length ws) w
+rows-laid-more = laid-more 6 six (λ v. refl) (omega arith)
+
+pub headers-laid-more : (ws : List HeaderRow) (w : HeaderRow) (old : List ℕ) → length ws < headersFit (length old) → headersLaid (ws ++ (w ∷ [])) old ≡ headerPut (headersLaid ws old) (length ws) w
+headers-laid-more = laid-more 4 four (λ v. refl) (omega arith)

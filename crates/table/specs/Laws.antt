@@ -1,33 +1,28 @@
 -- Laws of rows in lent memory: a row that the memory has, and one that it has not.
 -- Assumes nothing.
-use Prim.Native.Nat.{ℕ, _+_, _*_, _/_, _%_, _≤_, _<_}
-use mathlib.Core.Path.{_≡_, refl, sym, _∙_, ap}
+use Prim.Native.Nat.{ℕ, suc, _+_, _*_, _/_, _≤_, _<_}
+use mathlib.Core.Path.{_≡_, refl, ap}
 use mathlib.Core.Bool.{Bool, true, false}
-use mathlib.Core.List.{List, []}
+use mathlib.Core.List.{List}
 use native.Mathlib.Omega.{arith}
+use native.Mathlib.Nat.{suc-mul, le-div-iff-mul-le, div-lt-iff-lt-mul, zero-lt-suc}
 use lib.Dec.{ltb}
 use lib.ListN.{length, getD}
 use lib.Seq.{sets, length-sets}
 use borrow.Author.Tests.{ltb-true, ltb-false, lt-ltb, le-ltb}
 use Rattle.common.specs.Pick.{pick}
 use Rattle.statement.specs.Rows.{Row, row, HeaderRow, headerRow}
-use Rattle.table.specs.Table.{rowsFit, headersFit, field, idOf, rowNumbers, headerNumbers, six, four, putAt, rowPut, headerPut, narrow, narrowRow, narrowHeader}
+use Rattle.table.specs.Table.{field, putAt, narrow, narrowRow, narrowHeader}
 
--- a data row's last number lies in the memory just where the memory has the row
-pub row-test : (n k : ℕ) → ltb (k * 6 + 5) n ≡ ltb k (rowsFit n)
-row-test n k = go (ltb k (rowsFit n)) refl
+-- a row of w + 1 numbers has its last number in the memory just where the memory has the row
+pub last-test : (w n k : ℕ) → ltb (k * suc w + w) n ≡ ltb k (n / suc w)
+last-test w n k = go (ltb k (n / suc w)) refl
   where
-    go : (t : Bool) → ltb k (rowsFit n) ≡ t → ltb (k * 6 + 5) n ≡ t
-    go true e = let h = ltb-true k (rowsFit n) e in lt-ltb (k * 6 + 5) n (omega (arith, h))
-    go false e = let h = ltb-false k (rowsFit n) e in le-ltb (k * 6 + 5) n (omega (arith, h))
-
--- a header row's last number lies in the memory just where the memory has the row
-pub header-test : (n k : ℕ) → ltb (k * 4 + 3) n ≡ ltb k (headersFit n)
-header-test n k = go (ltb k (headersFit n)) refl
-  where
-    go : (t : Bool) → ltb k (headersFit n) ≡ t → ltb (k * 4 + 3) n ≡ t
-    go true e = let h = ltb-true k (headersFit n) e in lt-ltb (k * 4 + 3) n (omega (arith, h))
-    go false e = let h = ltb-false k (headersFit n) e in le-ltb (k * 4 + 3) n (omega (arith, h))
+    go : (t : Bool) → ltb k (n / suc w) ≡ t → ltb (k * suc w + w) n ≡ t
+    go true e = let h = ltb-true k (n / suc w) e in
+        lt-ltb (k * suc w + w) n (omega (arith, le-div-iff-mul-le {x = suc k} {y = n} (zero-lt-suc w) .0 (omega arith), suc-mul k (suc w)))
+    go false e = let h = ltb-false k (n / suc w) e in
+        le-ltb (k * suc w + w) n (omega (arith, div-lt-iff-lt-mul {x = n} {y = suc k} (zero-lt-suc w) .0 (omega arith), suc-mul k (suc w)))
 
 module _ (w : ℕ) (xs : List ℕ) (k : ℕ) where
   -- a number of a row that the memory has is the one at its place
@@ -50,9 +45,17 @@ module _ (w : ℕ) (xs : List ℕ) (k : ℕ) where
   pub put-there : k < length xs / w → (new : List ℕ) → putAt w xs k new ≡ sets xs (k * w) new
   put-there h new = ap (λ (t : Bool). pick t (sets xs (k * w) new) xs) (lt-ltb k (length xs / w) h)
 
-  -- a row that the memory has not is not put
-  pub put-none : length xs / w ≤ k → (new : List ℕ) → putAt w xs k new ≡ xs
-  put-none h new = ap (λ (t : Bool). pick t (sets xs (k * w) new) xs) (le-ltb k (length xs / w) h)
+  -- a row that is put changes no length
+  pub put-length : (new : List ℕ) → length (putAt w xs k new) ≡ length xs
+  put-length new = go (ltb k (length xs / w))
+    where
+      go : (t : Bool) → length (pick t (sets xs (k * w) new) xs) ≡ length xs
+      go true = length-sets xs (k * w) new
+      go false = refl
+
+-- the keyword and the arguments of which the four numbers from a place on tell
+abbrev pub spansAt : List ℕ → ℕ → HeaderRow
+spansAt xs at = headerRow (getD xs at 0) (getD xs (at + 1) 0) (getD xs (at + 2) 0) (getD xs (at + 3) 0)
 
 -- data rows with the same numbers are the same
 pub row-same : {a b c d e f a′ b′ c′ d′ e′ f′ : ℕ} → a ≡ a′ → b ≡ b′ → c ≡ c′ → d ≡ d′ → e ≡ e′ → f ≡ f′ → row a b c d e f ≡ row a′ b′ c′ d′ e′ f′
@@ -61,14 +64,6 @@ row-same p q r s t u = λ i. record { id = p i; keyStart = q i; keyEnd = r i; ar
 -- header rows with the same numbers are the same
 pub header-same : {a b c d a′ b′ c′ d′ : ℕ} → a ≡ a′ → b ≡ b′ → c ≡ c′ → d ≡ d′ → headerRow a b c d ≡ headerRow a′ b′ c′ d′
 header-same p q r s = λ i. record { keyStart = p i; keyEnd = q i; argStart = r i; argEnd = s i }
-
--- a data row that the memory has not is one of zeros
-pub row-none : (rows : List ℕ) (k : ℕ) → rowsFit (length rows) ≤ k → rowNumbers rows k ≡ row 0 0 0 0 0 0
-row-none rows k h = let z = field-none 6 rows k h in row-same (z 0) (z 1) (z 2) (z 3) (z 4) (z 5)
-
--- a header row that the memory has not is one of zeros
-pub header-none : (heads : List ℕ) (k : ℕ) → headersFit (length heads) ≤ k → headerNumbers heads k ≡ headerRow 0 0 0 0
-header-none heads k h = let z = field-none 4 heads k h in header-same (z 0) (z 1) (z 2) (z 3)
 
 -- a place that has 32 bits is itself as a number of 32 bits
 narrow-small : (p : ℕ) → p ≤ 4294967295 → narrow p ≡ p
@@ -81,35 +76,3 @@ narrow-row w a b c d = row-same refl (narrow-small _ a) (narrow-small _ b) (narr
 -- a header row whose places have 32 bits is put as it is
 pub narrow-header : (w : HeaderRow) → w .keyStart ≤ 4294967295 → w .keyEnd ≤ 4294967295 → w .argStart ≤ 4294967295 → w .argEnd ≤ 4294967295 → narrowHeader w ≡ w
 narrow-header w a b c d = header-same (narrow-small _ a) (narrow-small _ b) (narrow-small _ c) (narrow-small _ d)
-
--- a data row that the memory has is the row of its six numbers
-pub row-read : (rows : List ℕ) (k : ℕ) → k * 6 + 6 ≤ length rows
-    → row (getD rows (k * 6) 0) (getD rows (k * 6 + 1) 0) (getD rows (k * 6 + 2) 0) (getD rows (k * 6 + 3) 0) (getD rows (k * 6 + 4) 0) (getD rows (k * 6 + 5) 0) ≡ rowNumbers rows k
-row-read rows k h =
-    let z = field-there 6 rows k (omega (arith, h)) in
-    let e : k * 6 ≡ k * 6 + 0 = omega arith in
-    sym (row-same (z 0 ∙ ap (λ (j : ℕ). getD rows j 0) (sym e)) (z 1) (z 2) (z 3) (z 4) (z 5))
-
--- a header row that the memory has is the row of its four numbers
-pub header-read : (heads : List ℕ) (k : ℕ) → k * 4 + 4 ≤ length heads
-    → headerRow (getD heads (k * 4) 0) (getD heads (k * 4 + 1) 0) (getD heads (k * 4 + 2) 0) (getD heads (k * 4 + 3) 0) ≡ headerNumbers heads k
-header-read heads k h =
-    let z = field-there 4 heads k (omega (arith, h)) in
-    let e : k * 4 ≡ k * 4 + 0 = omega arith in
-    sym (header-same (z 0 ∙ ap (λ (j : ℕ). getD heads j 0) (sym e)) (z 1) (z 2) (z 3))
-
--- a data row that is put leaves the memory's length as it was
-pub row-put-length : (rows : List ℕ) (k : ℕ) (w : Row) → length (rowPut rows k w) ≡ length rows
-row-put-length rows k w = go (ltb k (rowsFit (length rows)))
-  where
-    go : (t : Bool) → length (pick t (sets rows (k * 6) (six w)) rows) ≡ length rows
-    go true = length-sets rows (k * 6) (six w)
-    go false = refl
-
--- a header row that is put leaves the memory's length as it was
-pub header-put-length : (heads : List ℕ) (k : ℕ) (w : HeaderRow) → length (headerPut heads k w) ≡ length heads
-header-put-length heads k w = go (ltb k (headersFit (length heads)))
-  where
-    go : (t : Bool) → length (pick t (sets heads (k * 4) (four w)) heads) ≡ length heads
-    go true = length-sets heads (k * 4) (four w)
-    go false = refl

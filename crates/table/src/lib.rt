@@ -12,6 +12,7 @@ ghost use lib.ListN.{length};
 ghost use lib.Seq.{sets};
 ghost use Rattle.statement.specs.Rows.{rowOf, headerRowOf};
 ghost use Rattle.table.specs.Table.{rowsFit, headersFit, AllIds, AllBelow, AllHave, idOf, rowNumbers, headerNumbers, six, four, rowPut, headerPut, narrowRow, narrowHeader, narrow};
+ghost use Rattle.table.specs.Laws.{spansAt};
 use statement::HeaderSpan;
 use statement::Range;
 use statement::RecordSpan;
@@ -25,14 +26,14 @@ pub const HEADER_WIDTH: usize = 4;
 pub fn rows_fit(numbers: usize) -> usize
     ensures { λ r. ⌜ r ≡ rowsFit numbers ⌝ }
 {
-    numbers / 6
+    numbers / ROW_WIDTH
 }
 
 // How many header rows lie in so many numbers.
 pub fn headers_fit(numbers: usize) -> usize
     ensures { λ r. ⌜ r ≡ headersFit numbers ⌝ }
 {
-    numbers / 4
+    numbers / HEADER_WIDTH
 }
 
 // How many data rows a table of so many numbers has: as many as are told, where the numbers suffice.
@@ -94,20 +95,31 @@ fn no_row() -> RecordSpan
     }
 }
 
+// The keyword and the arguments of which the four numbers from `at` on tell.
+fn spans_at(xs: &[u32], at: usize) -> HeaderSpan
+    requires { ⌜ at + 4 ≤ length (now xs) ⌝ }
+    ensures { λ r. ⌜ headerRowOf r ≡ spansAt (now (xs .entry)) at ⌝ }
+{
+    let keyword = Range {
+        start: common::wide(xs[at]),
+        end: common::wide(xs[at + 1]),
+    };
+    let args = Range {
+        start: common::wide(xs[at + 2]),
+        end: common::wide(xs[at + 3]),
+    };
+    HeaderSpan { keyword, args }
+}
+
 // Row k of a table that has it.
 fn row_there(rows: &[u32], k: usize) -> RecordSpan
     requires { ⌜ k * 6 + 6 ≤ length (now rows) ⌝ }
     ensures { λ r. ⌜ rowOf r ≡ rowNumbers (now (rows .entry)) k ⌝ }
 {
     let at = k * 6;
-    let keyword = Range {
-        start: common::wide(rows[at + 1]),
-        end: common::wide(rows[at + 2]),
-    };
-    let args = Range {
-        start: common::wide(rows[at + 3]),
-        end: common::wide(rows[at + 4]),
-    };
+    let spans = spans_at(rows, at + 1);
+    let keyword = spans.keyword;
+    let args = spans.args;
     RecordSpan {
         id: rows[at],
         keyword,
@@ -136,29 +148,12 @@ fn no_header() -> HeaderSpan
     }
 }
 
-// Header row k of a table that has it.
-fn header_there(heads: &[u32], k: usize) -> HeaderSpan
-    requires { ⌜ k * 4 + 4 ≤ length (now heads) ⌝ }
-    ensures { λ r. ⌜ headerRowOf r ≡ headerNumbers (now (heads .entry)) k ⌝ }
-{
-    let at = k * 4;
-    let keyword = Range {
-        start: common::wide(heads[at]),
-        end: common::wide(heads[at + 1]),
-    };
-    let args = Range {
-        start: common::wide(heads[at + 2]),
-        end: common::wide(heads[at + 3]),
-    };
-    HeaderSpan { keyword, args }
-}
-
 // Header row k; zeros where the table has none.
 pub fn read_header(heads: &[u32], k: usize) -> HeaderSpan
     ensures { λ r. ⌜ headerRowOf r ≡ headerNumbers (now (heads .entry)) k ⌝ }
 {
     if has_header(heads, k) {
-        return header_there(heads, k);
+        return spans_at(heads, k * 4);
     }
     no_header()
 }
@@ -170,6 +165,17 @@ fn low(p: usize) -> u32
     (p % 4294967296) as u32
 }
 
+// Stores a keyword and arguments as the four numbers from `at` on, which the memory has.
+fn store_spans(out: &mut [u32], at: usize, w: HeaderSpan)
+    requires { ⌜ at + 4 ≤ length (now out) ⌝ }
+    ensures { λ _. ⌜ now (out .exit) ≡ sets (now (out .entry)) at (four (narrowHeader (headerRowOf w))) ⌝ }
+{
+    out[at] = low(w.keyword.start);
+    out[at + 1] = low(w.keyword.end);
+    out[at + 2] = low(w.args.start);
+    out[at + 3] = low(w.args.end);
+}
+
 // Stores a data row as row k of memory that has it.
 fn store_row(out: &mut [u32], k: usize, w: RecordSpan)
     requires { ⌜ k * 6 + 6 ≤ length (now out) ⌝ }
@@ -177,10 +183,9 @@ fn store_row(out: &mut [u32], k: usize, w: RecordSpan)
 {
     let at = k * 6;
     out[at] = w.id;
-    out[at + 1] = low(w.keyword.start);
-    out[at + 2] = low(w.keyword.end);
-    out[at + 3] = low(w.args.start);
-    out[at + 4] = low(w.args.end);
+    let keyword = w.keyword;
+    let args = w.args;
+    store_spans(out, at + 1, HeaderSpan { keyword, args });
     out[at + 5] = w.complex;
 }
 
@@ -193,24 +198,12 @@ pub fn put_row(out: &mut [u32], k: usize, w: RecordSpan)
     }
 }
 
-// Stores a header row as row k of memory that has it.
-fn store_header(out: &mut [u32], k: usize, w: HeaderSpan)
-    requires { ⌜ k * 4 + 4 ≤ length (now out) ⌝ }
-    ensures { λ _. ⌜ now (out .exit) ≡ sets (now (out .entry)) (k * 4) (four (narrowHeader (headerRowOf w))) ⌝ }
-{
-    let at = k * 4;
-    out[at] = low(w.keyword.start);
-    out[at + 1] = low(w.keyword.end);
-    out[at + 2] = low(w.args.start);
-    out[at + 3] = low(w.args.end);
-}
-
 // Puts a header row as row k. Memory that has no such row keeps its numbers.
 pub fn put_header(out: &mut [u32], k: usize, w: HeaderSpan)
     ensures { λ _. ⌜ now (out .exit) ≡ headerPut (now (out .entry)) k (narrowHeader (headerRowOf w)) ⌝ }
 {
     if has_header(out, k) {
-        store_header(out, k, w);
+        store_spans(out, k * 4, w);
     }
 }
 

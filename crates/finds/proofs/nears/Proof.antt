@@ -1,43 +1,33 @@
 use Rattle.finds.specs.Looks.{startNear, NearRow}
-use Rattle.finds.specs.Sweep.{Swept, swept-none, swept-next, swept-end, swept-old}
+use Rattle.finds.specs.Sweep.{Sweeping, sweep-none, sweep-next, sweep-old, sweep-end}
 use mathlib.Core.Path.{_≡_}
 use borrow.Author.Needs.{needs}
-use lib.ListN.{length}
-use Prim.Native.Nat.{_-_, _≤_}
+use Prim.Native.Nat.{_-_}
 use native.Mathlib.Omega.{arith}
 use Rattle.finds.proofs.nears.Statement.{statement}
 use Rattle.finds.proofs.nears.Tie as tie
 
 abbrev Inv-loop : tie.InvT-loop
-Inv-loop slots n b ids found₀ from to i₀ found i = (from ≤ i) × (i ≤ to) × (to ≤ length ids) × (to ≤ length found₀) × Swept (NearRow slots n b) ids found₀ from i found
+Inv-loop slots n b ids found₀ from to i₀ found i = Sweeping (NearRow slots n b) ids found₀ from to found i
 
 abbrev μ-loop : tie.MeasureT-loop
 μ-loop slots n b ids found₀ from to i₀ found i = to - i
 
 loop-holds : tie.Need-loop-holds Inv-loop μ-loop
-loop-holds c = (omega arith, omega arith, omega arith, omega arith, swept-none _ _ _ _)
-
-slice-read-near-row : tie.Need-slice-read-near-row Inv-loop μ-loop
-slice-read-near-row c = let l = c .before .before .loop in let n = l .inv .4 .size in omega (arith, n)
+loop-holds c = sweep-none (omega arith) (omega arith) (omega arith)
 
 near-row-requires : tie.Need-near-row-requires Inv-loop μ-loop
-near-row-requires c κs = let l = c .before .before .before .loop in let a = c .before .before .before .before .before .before .before .args in let p = c .before .before .before .before .before .before .before .pre in (p .3, p .4, p .5, swept-old _ (λ k v. v ≡ startNear (a .slots .now) (a .n) (a .b) k) _ _ _ _ (l .i) _ (l .inv .4) (l .inv .0) (omega arith) (p .6))
-
-slice-write-found : tie.Need-slice-write-found Inv-loop μ-loop
-slice-write-found c = let l = c .before .before .before .before .loop in let n = l .inv .4 .size in omega (arith, n)
+near-row-requires c κs = let l = c .before .before .before .loop in let a = c .before .before .before .before .before .before .before .args in let p = c .before .before .before .before .before .before .before .pre in (p .3, p .4, p .5, sweep-old (l .inv) (λ k v. v ≡ startNear (a .slots .now) (a .n) (a .b) k) (omega arith) (p .6))
 
 loop-again : tie.Need-loop-again Inv-loop μ-loop
-loop-again c = let l = c .before .before .before .before .loop in let n = l .inv .4 .size in (omega arith, omega arith, l .inv .2, l .inv .3, swept-next _ _ _ _ (l .i) _ (l .inv .4) (l .inv .0) _ (omega arith) (c .near-row .ensures))
-
-same-length : tie.Need-same-length Inv-loop μ-loop
-same-length c = c .before .loop .inv .4 .size
+loop-again c = let l = c .before .before .before .before .loop in sweep-next (l .inv) (omega arith) (c .near-row .ensures)
 
 returns : tie.Need-returns Inv-loop μ-loop
-returns c = let l = c .before .loop in swept-end _ _ _ _ _ _ _ (l .inv .4) (omega arith)
+returns c = sweep-end (c .before .loop .inv) (omega arith)
 
 pub nears-spec : {M : Type 1} → statement M
 nears-spec =
     tie.close
     (tie.spec
-    Inv-loop μ-loop loop-holds (λ c. search needs) slice-read-near-row (λ c. search needs) (λ c. search needs) near-row-requires
-    (λ c. search needs) slice-write-found (λ c. search needs) (λ c. search needs) loop-again same-length returns)
+    Inv-loop μ-loop loop-holds (λ c. search needs) (λ c. search needs) (λ c. search needs) (λ c. search needs) near-row-requires
+    (λ c. search needs) (λ c. search needs) (λ c. search needs) (λ c. search needs) loop-again (λ c. search needs) returns)

@@ -19,7 +19,7 @@ returns-3 c = let d = c .before .before .before .before in
 
 equal-head-requires : tie.Need-equal-head-requires
 equal-head-requires c κs = let d = c .before .before .before .before in
-    let k = rw (c .before .before .id .given .1) at (d .digits-at .ensures) in k .2
+    let k = rw (c .before .before .id .given .1) at (d .digits-at .ensures) in omega (arith, k .2)
 
 returns-4 : tie.Need-returns-4
 returns-4 c = let d = c .before .before in
@@ -30,7 +30,7 @@ returns-5 : tie.Need-returns-5
 returns-5 c = let d = c .before .before .before .before .before in
     let k = rw (c .before .before .before .id .given .1) at (d .digits-at .ensures) in
     c .equal-head .ensures
-    ∙ data-value (now (d .before .before .before .before .before .args .b)) (omega arith) _ _ (d .before .if2 .left) (k .0) (k .3) (k .1) (k .2) (c .before .if3 .left)
+    ∙ data-value (now (d .before .before .before .before .before .args .b)) (omega arith) _ _ (d .before .if2 .left) (k .0) (k .3) (k .1) (omega (arith, k .2)) (c .before .if3 .left)
 
 pub data-head-spec : {M : Type 1} → statement M
 data-head-spec =

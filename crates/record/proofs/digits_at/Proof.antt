@@ -9,12 +9,12 @@ use borrow.Author.Needs.{needs}
 use native.Mathlib.Omega.{arith}
 use mathlib.Core.List.{[]}
 use mathlib.Core.Path.{_≡_, ap, sym, refl, _∙_}
-use Prim.Native.Nat.{_+_, _-_, _*_, _≤_}
+use Prim.Native.Nat.{_+_, _-_, _*_, _≤_, max}
 use Rattle.record.proofs.digits_at.Statement.{statement}
 use Rattle.record.proofs.digits_at.Tie as tie
 
 abbrev Inv-loop : tie.InvT-loop
-Inv-loop b from n₀ i₀ n i = (from ≤ i) × (i ≤ length b) × (n ≤ 4294967295) × (walk digitTurn (λ m. digits m []) n (drop i b) ≡ numberFrom 0 (drop from b))
+Inv-loop b from n₀ i₀ n i = (from ≤ i) × (i ≤ max from (length b)) × (n ≤ 4294967295) × (walk digitTurn (λ m. digits m []) n (drop i b) ≡ numberFrom 0 (drop from b))
 
 abbrev μ-loop : tie.MeasureT-loop
 μ-loop b from n₀ i₀ n i = length b - i

@@ -19,7 +19,7 @@ unfolding wordOf
 returns-3 c = let t = c .before .before in
     let b = now (t .before .before .before .before .before .before .args .b) in
     c .word-in .ensures
-    ∙ ap wordIn (trimmed-at b (t .before .past-space .result) (t .trail-at .result) (t .before .past-space .ensures .0) (t .trail-at .ensures .0) (t .trail-at .ensures .1 .0) (t .trail-at .ensures .1 .1))
+    ∙ ap wordIn (trimmed-at b (t .before .past-space .result) (t .trail-at .result) (t .before .past-space .ensures .0) (t .trail-at .ensures .0) (omega (arith, t .trail-at .ensures .1 .0)) (t .trail-at .ensures .1 .1))
 
 pub section-word-spec : {M : Type 1} → statement M
 section-word-spec =

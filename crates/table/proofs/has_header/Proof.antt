@@ -2,13 +2,13 @@ use mathlib.Core.Path.{sym}
 use native.Mathlib.Omega.{arith}
 use lib.ListN.{length}
 use borrow.Author.Tests.{le-ltb}
-use Rattle.table.specs.Laws.{header-test}
+use Rattle.table.specs.Laws.{last-test}
 use borrow.Author.Needs.{needs}
 use Rattle.table.proofs.has_header.Statement.{statement}
 use Rattle.table.proofs.has_header.Tie as tie
 
 returns : tie.Need-returns
-returns c = header-test (length (c .before .args .heads .now)) (c .before .args .k)
+returns c = last-test 3 (length (c .before .args .heads .now)) (c .before .args .k)
 
 returns-2 : tie.Need-returns-2
 returns-2 c = sym (le-ltb (c .before .args .k) _ (let h = c .if1 .left in omega (arith, h)))

@@ -1,9 +1,6 @@
-use Rattle.statement.specs.Rows.{rowOf}
-use Rattle.table.specs.Table.{six, narrowRow}
-use mathlib.Core.Path.{sym, _∙_}
+use mathlib.Core.Path.{sym, refl, _∙_}
 use native.Mathlib.Omega.{arith}
-use borrow.Author.Tests.{ltb-true, ltb-false}
-use Rattle.table.specs.Laws.{put-there, put-none}
+use borrow.Author.Tests.{ltb-true}
 use borrow.Author.Needs.{needs}
 use Rattle.table.proofs.put_row.Statement.{statement}
 use Rattle.table.proofs.put_row.Tie as tie
@@ -12,10 +9,10 @@ store-row-requires : tie.Need-store-row-requires
 store-row-requires c κs = let h = ltb-true (c .before .before .before .before .before .args .k) _ (sym (c .before .before .among-rows .ensures) ∙ c .before .if1 .taken) in omega (arith, h)
 
 returns : tie.Need-returns
-returns c = c .before .before .store-row .ensures ∙ sym (put-there 6 (c .before .before .before .before .before .before .before .before .args .out .now) (c .before .before .before .before .before .before .before .before .args .k) (ltb-true (c .before .before .before .before .before .before .before .before .args .k) _ (sym (c .before .before .before .before .before .among-rows .ensures) ∙ c .before .before .before .before .if1 .taken)) (six (narrowRow (rowOf (c .before .before .before .before .before .before .before .before .args .w)))))
+returns c = rw (sym (c .before .before .before .before .before .among-rows .ensures) ∙ c .before .before .before .before .if1 .taken) (c .before .before .store-row .ensures)
 
 returns-2 : tie.Need-returns-2
-returns-2 c = sym (put-none 6 (c .before .before .before .before .args .out .now) (c .before .before .before .before .args .k) (ltb-false (c .before .before .before .before .args .k) _ (sym (c .before .among-rows .ensures) ∙ c .if1 .left)) (six (narrowRow (rowOf (c .before .before .before .before .args .w)))))
+returns-2 c = rw (sym (c .before .among-rows .ensures) ∙ c .if1 .left) refl
 
 pub put-row-spec : {M : Type 1} → statement M
 put-row-spec =

@@ -2,8 +2,8 @@ use lib.ListN.{length-set}
 use native.Mathlib.Numerals.{towards-suc}
 use native.Mathlib.Omega.{arith}
 use borrow.Author.Needs.{needs}
-use Rattle.table.proofs.store_header.Statement.{statement}
-use Rattle.table.proofs.store_header.Tie as tie
+use Rattle.table.proofs.store_spans.Statement.{statement}
+use Rattle.table.proofs.store_spans.Tie as tie
 
 slice-write-out-2 : tie.Need-slice-write-out-2
 slice-write-out-2 c = simp length-set (omega arith)
@@ -17,10 +17,10 @@ slice-write-out-4 c = simp length-set (omega arith)
 returns : tie.Need-returns
 returns c = rw (c .before .before .before .low .ensures, c .before .before .low2 .ensures, c .before .low3 .ensures, c .low4 .ensures) (simp towards-suc)
 
-pub store-header-spec : {M : Type 1} → statement M
-store-header-spec =
+pub store-spans-spec : {M : Type 1} → statement M
+store-spans-spec =
     tie.close
     (tie.spec
-    (λ c. search needs) (λ c κs. search needs) (λ c. search needs) (λ c. search needs) (λ c κs. search needs) (λ c. search needs)
-    (λ c. search needs) slice-write-out-2 (λ c κs. search needs) (λ c. search needs) (λ c. search needs) slice-write-out-3
-    (λ c κs. search needs) (λ c. search needs) (λ c. search needs) slice-write-out-4 (λ c. search needs) returns)
+    (λ c κs. search needs) (λ c. search needs) (λ c. search needs) (λ c κs. search needs) (λ c. search needs) (λ c. search needs)
+    slice-write-out-2 (λ c κs. search needs) (λ c. search needs) (λ c. search needs) slice-write-out-3 (λ c κs. search needs)
+    (λ c. search needs) (λ c. search needs) slice-write-out-4 (λ c. search needs) returns)
