@@ -12,7 +12,7 @@ use Rattle.table.specs.Laid.{rows-laid-in, row-is}
 use Rattle.scan.specs.Records.{Table}
 use Rattle.scan.specs.Table.{rowsAfter}
 use Rattle.factors.specs.Thing.{Thing, thingOf}
-use Rattle.units.specs.Code.{thingsFrom}
+use Rattle.units.specs.Code.{thingsFrom, tableThings}
 
 -- two rows that are given as one are the same
 some-one : {a b : Row} → some a ≡ some b → a ≡ b
@@ -30,7 +30,7 @@ things-by s row (w ∷ rs) k h =
 
 -- the records that the units go through are those of the file, in file order
 pub things-are : (s : List ℕ) (t : Table) (old : List ℕ)
-    → thingsFrom s (rowNumbers (rowsAfter (good t) old)) (tableRows (rowsAfter (good t) old) (length (t .records))) 0 ≡ map (thingOf s) (t .records)
+    → tableThings s (rowsAfter (good t) old) (length (t .records)) ≡ map (thingOf s) (t .records)
 things-are s t old =
     let e : tableRows (rowsAfter (good t) old) (length (t .records)) ≡ length (t .records) = omega (arith, rows-laid-in (t .records) old) in
     ap (λ (n : ℕ). thingsFrom s (rowNumbers (rowsAfter (good t) old)) n 0) e
