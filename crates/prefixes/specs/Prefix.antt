@@ -102,8 +102,8 @@ all-four false b c d h = absurd h
 rule-of : (i : ℕ) (p : Prefix) → T (keepsRule i p) → Rule i p
 rule-of i p h =
     let (a, b, n, f) = all-four (leb (getD starts i 0) (getD starts (suc i) 0)) (leb (getD starts (suc i) 0) 68)
-        (same (take (getD starts (suc i) 0 - getD starts i 0) (drop (getD starts i 0) names)) (bytes (p .name)))
-        (eqb (toBits binary64 (getD factors i nan)) (near (tenUp p) (tenDown p))) h in
+    (same (take (getD starts (suc i) 0 - getD starts i 0) (drop (getD starts i 0) names)) (bytes (p .name)))
+    (eqb (toBits binary64 (getD factors i nan)) (near (tenUp p) (tenDown p))) h in
     record { order = leb-true _ _ a; within = leb-true _ _ b; named = same-is _ _ n; factor = eqb-true _ _ f }
 
 -- the rule at a row that is counted from i

@@ -14,3 +14,4 @@ pub mod Ordered
 pub mod Roomy
 pub mod Points
 pub mod Run
+pub mod LargestRight

@@ -1,8 +1,12 @@
 -- The rows of a file, each kind in file order, and the largest id.
 -- Assumes nothing.
 -- Definitions to be believed: no law, and nothing computed that no theorem ties (docs/BELIEVE.md).
-use Prim.Native.Nat.{ℕ, max}
+use Prim.Native.Nat.{ℕ, max, _≤_}
+use mathlib.Core.Path.{_≡_}
+use mathlib.Core.Logic.{_⊎_}
 use mathlib.Core.List.{List, [], _∷_}
+use mathlib.Core.Option.{some}
+use lib.ListN.{getElem?}
 use Rattle.statement.specs.Rows.{Row, HeaderRow, RowKind, header-kind, data-kind, RowOf}
 
 -- the rows of a file, each kind in file order
@@ -31,3 +35,8 @@ withRow data-kind w t = withRecord w t
 unfoldable pub largest : List Row → ℕ
 largest [] = 0
 largest (w ∷ ws) = max (w .id) (largest ws)
+
+-- m is the largest id of these records: none has a greater one, and one has it, or there is no record and m is 0 (`largest-is`, `largest-only`)
+pub record IsLargest (ws : List Row) (m : ℕ) : Type 0 where
+  pub above : (i : ℕ) (w : Row) → getElem? ws i ≡ some w → w .id ≤ m
+  pub reached : ((ws ≡ []) × (m ≡ 0)) ⊎ ((i : ℕ) × ((w : Row) × ((getElem? ws i ≡ some w) × (w .id ≡ m))))

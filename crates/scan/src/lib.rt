@@ -21,6 +21,7 @@ ghost use Rattle.scan.specs.Laws.{Written};
 ghost use Rattle.scan.specs.Neat.{Neat, toldPassed, NeatTold};
 ghost use Rattle.scan.specs.Run.{Ran};
 ghost use Rattle.scan.specs.Fits.{HeaderFits, RecordFits};
+use common::greater;
 use error::Fault;
 use statement::HeaderSpan;
 use statement::RecordSpan;
@@ -141,7 +142,7 @@ fn run(
         };
         put_record(rows, count, span, true);
         count += 1;
-        max = common::greater(max, span.id);
+        max = greater(max, span.id);
         place = next;
     }
     Reached { place, count, max }
@@ -203,15 +204,7 @@ fn pass(
                 }
                 put_record(rows, r, span, write);
                 section = Section::InData;
-                let t = run(
-                    s,
-                    rows,
-                    room,
-                    next,
-                    r + 1,
-                    common::greater(max, span.id),
-                    known,
-                );
+                let t = run(s, rows, room, next, r + 1, greater(max, span.id), known);
                 r = t.count;
                 max = t.max;
                 i = t.place;
