@@ -18,32 +18,23 @@ use Rattle.record.specs.Byte.{digit}
 use Rattle.record.specs.Word.{same}
 
 module _ (b : List ℕ) (i : ℕ) (h : i < length b) where
-  -- `past` ends at a byte that is not of the kind p
   pub past-stops : (p : ℕ → Bool) (a : List ℕ) → p (getD b i 0) ≡ false → walk (pastTurn p) (λ u. []) tt (drop i b) ≡ a → drop i b ≡ a
   past-stops p a e inv = sym (walk-stops (pastTurn p) (λ u. []) tt b i (drop i b) h (rw e (ap stop (sym (split b i h))))) ∙ inv
 
-  -- `past` goes on after a byte of the kind p
   pub past-goes : (p : ℕ → Bool) (a : List ℕ) → p (getD b i 0) ≡ true → walk (pastTurn p) (λ u. []) tt (drop i b) ≡ a → walk (pastTurn p) (λ u. []) tt (drop (i + 1) b) ≡ a
   past-goes p a e inv = sym (walk-goes (pastTurn p) (λ u. []) tt tt b i h (rw e refl)) ∙ inv
 
-  -- `numberFrom` ends at a byte that is no digit
   pub digit-stops : (n : ℕ) (a : Digits) → digit (getD b i 0) ≡ false → walk digitTurn (λ m. digits m []) n (drop i b) ≡ a → digits n (drop i b) ≡ a
   digit-stops n a e inv = sym (walk-stops digitTurn (λ m. digits m []) n b i (digits n (drop i b)) h (rw e (ap (λ (l : List ℕ). stop (digits n l)) (sym (split b i h))))) ∙ inv
 
-  -- `numberFrom` goes on after a digit, with the number that it makes
   pub digit-goes : (n : ℕ) (a : Digits) → digit (getD b i 0) ≡ true → walk digitTurn (λ m. digits m []) n (drop i b) ≡ a → walk digitTurn (λ m. digits m []) (n * 10 + (getD b i 0 - 48)) (drop (i + 1) b) ≡ a
   digit-goes n a e inv = sym (walk-goes digitTurn (λ m. digits m []) n (n * 10 + (getD b i 0 - 48)) b i h (rw e refl)) ∙ inv
 
-  -- `keyword` ends at a `(`
   pub key-stops : (e : ℕ) (a : Keyed) → eqb (getD b i 0) 40 ≡ true → walk keyTurn (λ k. unopened) (drop e b) (drop i b) ≡ a → opened (drop e b) (drop i b) ≡ a
   key-stops e a q inv = sym (walk-stops keyTurn (λ k. unopened) (drop e b) b i (opened (drop e b) (drop i b)) h (rw q (ap (λ (l : List ℕ). stop (opened (drop e b) l)) (sym (split b i h))))) ∙ inv
 
-  -- `keyword` goes on after a byte that is no `(`; the keyword ends at e before it, at k after it
   pub key-goes : (e k : ℕ) (a : Keyed) → eqb (getD b i 0) 40 ≡ false → pick (white (getD b i 0)) (drop e b) (drop (i + 1) b) ≡ drop k b → walk keyTurn (λ l. unopened) (drop e b) (drop i b) ≡ a → walk keyTurn (λ l. unopened) (drop k b) (drop (i + 1) b) ≡ a
   key-goes e k a q w inv = sym (walk-goes keyTurn (λ l. unopened) (drop e b) (drop k b) b i h (rw q (ap on w))) ∙ inv
-
-  pub trail-goes : (e k : ℕ) (a : List ℕ) → pick (white (getD b i 0)) (drop e b) (drop (i + 1) b) ≡ drop k b → walk trailTurn (λ l. l) (drop e b) (drop i b) ≡ a → walk trailTurn (λ l. l) (drop k b) (drop (i + 1) b) ≡ a
-  trail-goes e k a w inv = sym (walk-goes trailTurn (λ l. l) (drop e b) (drop k b) b i h (ap on w)) ∙ inv
 
   -- a byte above a space is not white
   pub above-white : 32 < getD b i 0 → white (getD b i 0) ≡ false
@@ -78,12 +69,10 @@ same-lengths (a ∷ x) (b ∷ y) h = go (eqb a b) (same-lengths x y (λ e. h (om
 
 -- at an index of two texts, the first seen through f, the bytes there differ or agree
 module _ (f : ℕ → ℕ) (x y : List ℕ) (i : ℕ) (a : Bool) (h : i < length x) (k : i < length y) where
-  -- `same` fails where the bytes at the index differ
   pub same-stops : eqb (f (getD x i 0)) (getD y i 0) ≡ false → same (map f (drop i x)) (drop i y) ≡ a → false ≡ a
   unfolding same
   same-stops e inv = sym (rw (split x i h, split y i k, e) refl) ∙ inv
 
-  -- where the bytes at the index agree, `same` answers by what follows them
   pub same-goes : eqb (f (getD x i 0)) (getD y i 0) ≡ true → same (map f (drop i x)) (drop i y) ≡ a → same (map f (drop (i + 1) x)) (drop (i + 1) y) ≡ a
   unfolding same
   same-goes e inv = sym (rw (split x i h, split y i k, e) refl) ∙ inv

@@ -49,7 +49,7 @@ mark-end : mark 59 ≡ true
 unfolding mark
 mark-end = refl
 
--- one byte of the walk over a string's inside, at the place i
+-- One byte of the walk over a string's inside, at a place.
 module _ (s : List ℕ) (i : ℕ) (h : i < length s) where
   -- the walk over a string's inside ends at a quote or a `;`
   pub spoken-stops : stops (getD s i 0) ≡ true → drop i s ≡ past spoken (drop i s)
@@ -164,22 +164,18 @@ string-way d f r h k =
           ∙ past-pass p (39 ∷ []) r (refl, tt);
     }
 
--- steps of the walk over a usual record, from the place i with d open parentheses
+-- The same at places of the file.
 module _ (s : List ℕ) (i d : ℕ) (h : i < length s) where
-  -- a `(` at i is a way to one more open parenthesis
   pub open-at : getD s i 0 ≡ 40 → Way d (d + 1) (drop i s) (drop (i + 1) s)
   open-at e = let n : d + 1 ≡ suc d = omega arith in rw (split s i h, e, n) (open-way d (drop (i + 1) s))
 
-  -- a `)` at i is a way to one open parenthesis fewer, where one is open
   pub close-at : getD s i 0 ≡ 41 → (d ≡ 0 → ⊥) → Way d (d - 1) (drop i s) (drop (i + 1) s)
   close-at e k = let n : suc (d - 1) ≡ d = omega arith in
       rw (split s i h, e) (rw n at (close-way (d - 1) (drop (i + 1) s)))
 
-  -- a byte at i that is none of the five marked ones is a way that leaves the depth as it is
   pub other-at : (getD s i 0 ≡ 39 → ⊥) → (getD s i 0 ≡ 40 → ⊥) → (getD s i 0 ≡ 41 → ⊥) → (getD s i 0 ≡ 47 → ⊥) → (getD s i 0 ≡ 59 → ⊥) → Way d d (drop i s) (drop (i + 1) s)
   other-at a b c e f = rw (split s i h) (way-other d (getD s i 0) (drop (i + 1) s) a b c e f)
 
-  -- a string from i up to its quote at q, with no `;` in it and no quote after it, is a way that leaves the depth as it is
   pub string-at : (q : ℕ) → getD s i 0 ≡ 39 → drop q s ≡ past spoken (drop (i + 1) s) → q < length s → getD s q 0 ≡ 39
       → (Begins 39 (drop (q + 1) s) → ⊥) → Way d d (drop i s) (drop (q + 1) s)
   string-at q e p k g o =
@@ -189,42 +185,7 @@ module _ (s : List ℕ) (i d : ℕ) (h : i < length s) where
       let v : drop i s ≡ 39 ∷ (f ++ (39 ∷ drop (q + 1) s)) = split s i h ∙ cc in
       rw v (string-way d f (drop (q + 1) s) (y .all) o)
 
--- bytes with one more at the end are not none
-snoc-none : (f : List ℕ) (b : ℕ) → f ++ (b ∷ []) ≡ [] → ⊥
-snoc-none [] b e = clash (cc)
-snoc-none (a ∷ f) b e = clash (cc)
-
--- bytes with one more at the end that is not of the kind p do not end in a byte of that kind
-snoc-last : (p : ℕ → Bool) (f : List ℕ) (b : ℕ) → p b ≡ false → NotLast p (f ++ (b ∷ []))
-snoc-last p [] b h [] c e = ap p (cc) ∙ h
-snoc-last p [] b h (x ∷ r) c e = absurd (snoc-none r c (cc))
-snoc-last p (a ∷ f) b h [] c e = absurd (snoc-none f b (cc))
-snoc-last p (a ∷ f) b h (x ∷ r) c e = snoc-last p f b h r c (cc)
-
--- the whitespace at a text's end, sought from the end
-module _ (t : List ℕ) where
-  -- where a white byte stands before the whitespace at the end, that byte belongs to it
-  pub trim-more : (z : ℕ) → 0 < z → z ≤ length t → white (getD t (z - 1) 0) ≡ true → All white (drop z t) → All white (drop (z - 1) t)
-  trim-more z h k w a = let n : z - 1 + 1 ≡ z = omega arith in rw (split t (z - 1) (omega arith), n) (w, a)
-
-  -- where all bytes from a place on are white, they are the whitespace at the end
-  pub trim-none : (from : ℕ) → All white (drop from t) → drop from t ≡ trail (drop from t)
-  trim-none from a = sym (trail-only [] (drop from t) (last-none white) a)
-
-  -- where a byte that is not white stands before z and all are white from z on, the whitespace at the end begins at z
-  pub trim-here : (from z : ℕ) → from < z → z ≤ length t → white (getD t (z - 1) 0) ≡ false → All white (drop z t) → drop z t ≡ trail (drop from t)
-  trim-here from z h k w a =
-      let f : List ℕ = take (z - 1 - from) (drop from t) in
-      let b : ℕ = getD t (z - 1) 0 in
-      let n : z - 1 + 1 ≡ z = omega arith in
-      let m : from + (z - 1 - from) ≡ z - 1 = omega arith in
-      let e : drop (z - 1 - from) (drop from t) ≡ b ∷ drop z t =
-      drop-drop (z - 1 - from) from t ∙ ap (λ (k : ℕ). drop k t) m ∙ split t (z - 1) (omega arith) ∙ ap (λ (k : ℕ). b ∷ drop k t) n in
-      let g : drop from t ≡ (f ++ (b ∷ [])) ++ drop z t =
-      sym (take-append-drop (z - 1 - from) (drop from t)) ∙ ap (λ (l : List ℕ). f ++ l) e ∙ sym (append-assoc f (b ∷ []) (drop z t)) in
-      sym (ap trail g ∙ trail-only (f ++ (b ∷ [])) (drop z t) (snoc-last white f b w) a)
-
--- past whitespace from a place on, where the bytes from there were handed on as a part
+-- the place past whitespace, counted in a part that was handed on, is the one in the whole text
 pub space-at : (t : List ℕ) (from r : ℕ) → from ≤ length t → drop r (take (length t - from) (drop from t)) ≡ past white (take (length t - from) (drop from t))
     → drop (from + r) t ≡ past white (drop from t)
 space-at t from r h e =
@@ -236,14 +197,12 @@ pub stop-at : (s : List ℕ) (from i j d : ℕ) → (j ≡ i) × (d ≡ 0) × (g
     → (from ≤ j) × (getD s j 0 ≡ 41) × Way 0 0 (drop from s) (drop j s)
 stop-at s from i j d (e, z, g) h w = (omega arith, rw e g, rw e (rw z at w))
 
--- one byte of a run of plain bytes, at the place i
+-- One byte of a run of plain bytes, at a place.
 module _ (s : List ℕ) (i : ℕ) (h : i < length s) where
-  -- a run of plain bytes ends at a marked byte
   pub run-stops : mark (getD s i 0) ≡ true → drop i s ≡ past plain (drop i s)
   unfolding past
   run-stops e = past-stops s i h plain (past plain (drop i s)) (ap not e) refl
 
-  -- a run of plain bytes goes on after a byte that is not marked
   pub run-goes : mark (getD s i 0) ≡ false → past plain (drop (i + 1) s) ≡ past plain (drop i s)
   unfolding past
   run-goes e = past-goes s i h plain (past plain (drop i s)) (ap not e) refl
