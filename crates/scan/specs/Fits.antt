@@ -1,14 +1,12 @@
 -- "with a place from 0 to the input's length" (demand 1): every place that a statement or the whole reading answers, in a row
 -- or in a refusal, lies from 0 to the file's length. Assumes nothing.
-use Prim.Native.Nat.{ℕ, zero, suc, _+_, _≤_}
-use mathlib.Core.Bool.{Bool, true, false}
+use Prim.Native.Nat.{ℕ, _+_, _≤_}
+use mathlib.Core.Path.{refl}
 use mathlib.Core.List.{List, [], _∷_}
 use mathlib.Core.Option.{Option}
 use native.Mathlib.Omega.{arith}
-use lib.Dec.{ltb}
 use lib.ListN.{length, drop}
-use Rattle.common.specs.Pick.{pick}
-use Rattle.error.specs.Refusal.{refusal, Told, good, bad}
+use Rattle.error.specs.Refusal.{Told, good, bad}
 use Rattle.lex.specs.Byte.{place}
 use Rattle.lex.specs.Place.{place-within}
 use Rattle.lex.specs.Answer.{Sought, at, fault, placed}
@@ -25,8 +23,11 @@ use Rattle.statement.specs.Row.{sought, recordBy, recordOf, headerBy, headerOf}
 use Rattle.statement.specs.Statement.{headed, recorded, inSection, worded, ended, begun, led, statement}
 use Rattle.statement.specs.declared.Section.{Section}
 use Rattle.statement.specs.declared.Section.the-variants.{Outside, InHeader, InData}
-use Rattle.scan.specs.Records.{Table, withHeader, withRecord}
-use Rattle.scan.specs.File.{taken, readFrom, readingOf, marked, scanOf}
+use Rattle.statement.specs.FormRight.{statement-only}
+use Rattle.scan.specs.Records.{Table}
+use Rattle.scan.specs.File.{scanOf}
+use Rattle.scan.specs.Rests.{Each, Tells, scan-tells}
+use Rattle.scan.specs.Ordered.{HeaderOrdered, RowOrdered, header-row-ordered, data-row-ordered}
 
 -- each place of a header row is at most n
 pub record HeaderFits (n : ℕ) (w : HeaderRow) : Type 0 where
@@ -46,11 +47,6 @@ pub record RecordFits (n : ℕ) (w : Row) : Type 0 where
 abbrev pub ToldFits : {A : Type 0} → ℕ → (A → Type 0) → Told A → Type 0
 ToldFits n F (good a) = F a
 ToldFits n F (bad q) = q .place ≤ n
-
--- each row of a list is as F says
-abbrev pub Each : {A : Type 0} → (A → Type 0) → List A → Type 0
-Each F [] = Unit {0}
-Each F (w ∷ ws) = F w × Each F ws
 
 -- each place of each row of a table is at most n
 pub record TableFits (n : ℕ) (t : Table) : Type 0 where
@@ -140,41 +136,29 @@ module _ (s : List ℕ) where
   unfolding statement
   statement-fits sec xs = led-fits sec (trivia xs)
 
-  -- rows put before those of an answer keep its places in the file
-  mapped-fits : (f : Table → Table) → ((t : Table) → TableFits (length s) t → TableFits (length s) (f t)) → (x : Told Table) → ToldFits (length s) (TableFits (length s)) x → ToldFits (length s) (TableFits (length s)) (mapped f x)
-  mapped-fits f h (good t) k = h t k
-  mapped-fits f h (bad q) k = k
+-- the places of an answer lie in the file where its rows are in order and its refusal's place lies there
+tells-fit : (n : ℕ) (a : Told Table) → Tells (HeaderOrdered n) (RowOrdered n) (λ q. q .place ≤ n) a → ToldFits n (TableFits n) a
+tells-fit n (good t) (h, r) = record { headers = each-of header-fits (t .headers) h; records = each-of record-fits (t .records) r }
+  where
+    each-of : {A : Type 0} {P Q : A → Type 0} → ((w : A) → P w → Q w) → (ws : List A) → Each P ws → Each Q ws
+    each-of f [] k = tt
+    each-of f (w ∷ ws) (p, k) = (f w p, each-of f ws k)
 
-  roomed-fits : (ys : List ℕ) (b : Bool) (x : Told Table) → ToldFits (length s) (TableFits (length s)) x → ToldFits (length s) (TableFits (length s)) (pick b x (bad (refusal 8 0 (place s ys))))
-  roomed-fits ys true x h = h
-  roomed-fits ys false x h = place-within s ys
+    header-fits : (w : HeaderRow) → HeaderOrdered n w → HeaderFits n w
+    header-fits w o = record { keyStart = omega arith; keyEnd = omega arith; argStart = omega arith; argEnd = omega arith }
 
-  taken-fits : (H R h r : ℕ) (x : Stmt) (go : Section → ℕ → ℕ → List ℕ → Told Table) → StmtFits (length s) x
-      → ((sec : Section) (h r : ℕ) (t : List ℕ) → ToldFits (length s) (TableFits (length s)) (go sec h r t)) → ToldFits (length s) (TableFits (length s)) (taken s H R h r x go)
-  taken-fits H R h r ends go p k = record { headers = tt; records = tt }
-  taken-fits H R h r (refused q) go p k = p
-  taken-fits H R h r (moved sec t) go p k = k sec h r t
-  taken-fits H R h r (header w ys t) go p k =
-      roomed-fits ys (ltb h H) _
-      (mapped-fits (withHeader w) (λ u v. record { headers = (p, v .headers); records = v .records }) (go InHeader (h + 1) r t) (k InHeader (h + 1) r t))
-  taken-fits H R h r (record′ w ys t) go p k =
-      roomed-fits ys (ltb r R) _
-      (mapped-fits (withRecord w) (λ u v. record { headers = v .headers; records = (p, v .records) }) (go InData h (r + 1) t) (k InData h (r + 1) t))
+    record-fits : (w : Row) → RowOrdered n w → RecordFits n w
+    record-fits w o = record { keyStart = omega arith; keyEnd = omega arith; argStart = omega arith; argEnd = omega arith }
+tells-fit n (bad q) h = h
 
-  read-fits : (k H R : ℕ) (sec : Section) (h r : ℕ) (xs : List ℕ) → ToldFits (length s) (TableFits (length s)) (readFrom k s H R sec h r xs)
-  unfolding readFrom
-  read-fits zero H R sec h r xs = omega arith
-  read-fits (suc k) H R sec h r xs = taken-fits H R h r (statement s sec xs) _ (statement-fits sec xs) (λ sec h r t. read-fits k H R sec h r t)
-
-  -- the places of a scan's answer lie in the file
-  pub scan-fits : (H R : ℕ) → ToldFits (length s) (TableFits (length s)) (scanOf s H R)
-  unfolding scanOf
-  scan-fits H R = go (ltb 4294967295 (length s)) (marked s)
-    where
-      go : (a b : Bool) → ToldFits (length s) (TableFits (length s)) (pick a (bad (refusal 2 0 0)) (pick b (readingOf s H R) (bad (refusal 1 0 0))))
-      go true b = omega arith
-      go false true = read-fits (length s + 1) H R Outside 0 0 s
-      go false false = omega arith
+-- the places of a scan's answer lie in the file
+pub scan-fits : (s : List ℕ) (H R : ℕ) → ToldFits (length s) (TableFits (length s)) (scanOf s H R)
+scan-fits s H R =
+    tells-fit (length s) (scanOf s H R)
+    (scan-tells s (HeaderOrdered (length s)) (RowOrdered (length s)) (λ q. q .place ≤ length s)
+    (λ ys body w u g. header-row-ordered u g) (λ ys body w u g. data-row-ordered u g)
+    (λ sec xs q u f. rw (← statement-only f) at (statement-fits s sec xs)) (λ xs ys body t u d. place-within s ys)
+    (omega arith) (omega arith) H R (scanOf s H R) refl)
 
 -- places of a header row that are at most n are at most any greater bound
 pub header-fits-more : (n m : ℕ) (w : HeaderRow) → n ≤ m → HeaderFits n w → HeaderFits m w

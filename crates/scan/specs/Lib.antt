@@ -3,7 +3,6 @@ pub mod File
 pub mod Table
 pub mod Laws
 pub mod Neat
-pub mod Fits
 pub mod Scan
 pub mod Only
 pub mod Form
@@ -11,6 +10,7 @@ pub mod FormRight
 pub mod Rooms
 pub mod Rests
 pub mod Ordered
+pub mod Fits
 pub mod Roomy
 pub mod Points
 pub mod Run

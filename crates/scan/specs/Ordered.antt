@@ -12,9 +12,8 @@ use Rattle.record.specs.Ordered.{complex-id, simple-ordered, header-ordered}
 use Rattle.statement.specs.Rows.{Row, HeaderRow}
 use Rattle.scan.specs.Records.{Table}
 use Rattle.scan.specs.File.{scanOf}
-use Rattle.scan.specs.Fits.{Each}
 use Rattle.statement.specs.Form.{After, ArguedTo, Argued, DataForm, HeaderRecordForm}
-use Rattle.scan.specs.Rests.{Rest, rest-of, rest-within, balanced-rest, after-rest, scan-tells}
+use Rattle.scan.specs.Rests.{Each, Rest, rest-of, rest-within, balanced-rest, after-rest, scan-tells}
 
 -- the places of a header row of a file of n bytes are in order
 pub record HeaderOrdered (n : ℕ) (w : HeaderRow) : Type 0 where
@@ -53,13 +52,13 @@ argued-ordered : {s t : List ℕ} {e : ℕ} → Rest s (40 ∷ t) → Argued s t
 argued-ordered {t} u (ArguedTo.closed {r} e h) = let c : Closes t r = rw e h in omega (arith, rest-within u, rest-within (balanced-rest c))
 
 -- a header record's row is in order
-header-row-ordered : {s ys body : List ℕ} {w : HeaderRow} → Rest s ys → HeaderRecordForm s ys body (good w) → HeaderOrdered (length s) w
+pub header-row-ordered : {s ys body : List ℕ} {w : HeaderRow} → Rest s ys → HeaderRecordForm s ys body (good w) → HeaderOrdered (length s) w
 header-row-ordered u (HeaderRecordForm.named h a z o g) =
     let k = argued-ordered (rest-of u (after-rest o)) g in
     omega (arith, header-ordered h, rest-within u, after-length a, after-length z, after-length o)
 
 -- a data record's row is in order
-data-row-ordered : {s ys body : List ℕ} {w : Row} → Rest s ys → DataForm s ys body (good w) → RowOrdered (length s) w
+pub data-row-ordered : {s ys body : List ℕ} {w : Row} → Rest s ys → DataForm s ys body (good w) → RowOrdered (length s) w
 data-row-ordered u (DataForm.complex h o g) =
     let k = argued-ordered (rest-of u (after-rest o)) g in omega (arith, complex-id h, rest-within u, after-length o)
 data-row-ordered u (DataForm.simple h a z o g) =

@@ -13,7 +13,6 @@ use Rattle.statement.specs.Rows.{Row, HeaderRow, refused, moved, header, record
 use Rattle.statement.specs.declared.Section.{Section}
 use Rattle.scan.specs.Records.{Table, withHeader, withRecord}
 use Rattle.scan.specs.File.{scanOf}
-use Rattle.scan.specs.Fits.{Each}
 use Rattle.statement.specs.Form.{After, DataForm, HeaderRecordForm, Record, StatementForm}
 use Rattle.scan.specs.Form.{PerKind, perKind, Reads, Scans, Reached}
 use Rattle.scan.specs.FormRight.{scans-is}
@@ -116,6 +115,11 @@ reached-rest Reached.start = rest-all
 reached-rest (Reached.on u f) = rest-of (reached-rest u) (moved-rest f)
 reached-rest (Reached.row header-kind w ys u f) = let (a, b) = header-rest f in rest-of (reached-rest u) (rest-of a b)
 reached-rest (Reached.row data-kind w ys u f) = let (a, b) = data-rest f in rest-of (reached-rest u) (rest-of a b)
+
+-- each row of a list is as F says
+abbrev pub Each : {A : Type 0} → (A → Type 0) → List A → Type 0
+Each F [] = Unit {0}
+Each F (w ∷ ws) = F w × Each F ws
 
 -- P holds of each header row of an answer and Q of each data row; or B holds of its refusal
 abbrev pub Tells : (HeaderRow → Type 0) → (Row → Type 0) → (Refusal → Type 0) → Told Table → Type 0
