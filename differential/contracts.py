@@ -97,7 +97,7 @@ def main():
     words = {kind: all_of(new, reader, ending) for kind, reader, ending in kinds}
     before = {kind: all_of(old, reader, ending) for kind, reader, ending in kinds}
     words['contract'] = {(name, names.spelt(text, known)) for name, text in words['contract']}
-    before['contract'] = {(name, names.spelt(text, known)) for name, text in before['contract']}
+    before['contract'] = {(name, names.spelt(text, {})) for name, text in before['contract']}
     count = {}
     for kind, reader, ending in kinds:
         for path in sorted(set(old) | set(new)):
@@ -105,7 +105,7 @@ def main():
                 continue
             a, b = reader(old.get(path, '')), reader(new.get(path, ''))
             if kind == 'contract':
-                a, b = ({n: names.spelt(x, known) for n, x in y.items()} for y in (a, b))
+                a, b = ({n: names.spelt(x, k) for n, x in y.items()} for y, k in ((a, {}), (b, known)))
             for name in sorted(set(a) | set(b)):
                 if a.get(name) == b.get(name):
                     continue

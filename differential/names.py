@@ -110,7 +110,8 @@ def opened(term, shorts):
             names, body = shorts[word]
             if len(term) - i > len(names):
                 given = dict(zip(names, term[i + 1:i + 1 + len(names)]))
-                out.append(opened(filled(parsed(body), given), shorts))
+                rest = {k: v for k, v in shorts.items() if k != word}
+                out.append(opened(filled(parsed(body), given), rest))
                 i += 1 + len(names)
                 continue
         out.append(word)
