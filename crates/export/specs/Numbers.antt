@@ -6,11 +6,6 @@ use mathlib.Core.List.{List, [], _∷_}
 use Rattle.error.specs.Refusal.{Refusal, Told, good, bad}
 use Rattle.scan.specs.Table.{Counts}
 
--- 0, or the number of the refusal
-abbrev pub code : Told Counts → ℕ
-code (good c) = 0
-code (bad q) = q .number
-
 -- header rows, data rows and the largest id; or the refusal's reason and place
 abbrev pub numbers : Told Counts → List ℕ
 numbers (good c) = c .headers ∷ c .records ∷ c .max ∷ []
