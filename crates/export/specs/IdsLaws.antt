@@ -19,7 +19,6 @@ use Rattle.index.specs.IndexLaws.{built-slots-only, built-only}
 use Rattle.index.specs.Search.{searched}
 use Rattle.index.specs.SearchRight.{found-right, found-safe}
 use Rattle.index.specs.declared.Ids.{Ids}
-use Rattle.finds.specs.Finds.{rowNumber, Told}
 use Rattle.plain.specs.Numbers.{idsNumbers, idsBy}
 use Rattle.plain.specs.Laws.{ids-back}
 use Rattle.export.specs.Ids.{lentEnough, Indexed, short, built}
@@ -85,7 +84,3 @@ host-right {rows} {slots} {after} {ids} {told} {count} h w (built g b e f) k = a
 -- no row has the number that says that there is none
 pub row-told : (rows slots : List ℕ) (b : Ids) (k r : ℕ) → searched rows slots b k ≡ some r → r < 4294967295
 row-told rows slots b k r e = let h = found-safe rows slots b k r e .0 in omega arith
-
--- what is told of many ids is told alike where the same stands beside the slots
-pub told-by : (rows slots ids before after : List ℕ) (b c : Ids) → b ≡ c → Told (λ k. rowNumber (searched rows slots b k)) ids before after → Told (λ k. rowNumber (searched rows slots c k)) ids before after
-told-by rows slots ids before after b c e h = subst (λ (d : Ids). Told (λ k. rowNumber (searched rows slots d k)) ids before after) e h

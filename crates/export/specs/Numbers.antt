@@ -1,15 +1,11 @@
 -- A scan's answer as plain numbers, for a host in another language.
+-- A scan's answer as plain numbers, for a host in another language.
 -- Assumes nothing.
 -- Definitions to be believed: no law, and nothing computed that no theorem ties (docs/BELIEVE.md).
 use Prim.Native.Nat.{ℕ}
 use mathlib.Core.List.{List, [], _∷_}
 use Rattle.error.specs.Refusal.{Refusal, Told, good, bad}
 use Rattle.scan.specs.Table.{Counts}
-
--- a scan's answer as a number: 0, or the number of the refusal
-abbrev pub code : Told Counts → ℕ
-code (good c) = 0
-code (bad q) = q .number
 
 -- what goes with a scan's answer: header rows, data rows and the largest id; or the refusal's reason and place
 abbrev pub numbers : Told Counts → List ℕ

@@ -16,23 +16,20 @@ pub use real::hooflift_real;
 pub use text::hooflift_text;
 pub use text::hooflift_text_length;
 ghost use mathlib.Core.Path.{_≡_};
-ghost use Prim.Native.Nat.{_/_, min};
-ghost use lib.ListN.{length};
 ghost use mathlib.Core.List.{[], _∷_};
-ghost use lib.Seq.{sets};
-ghost use lib.Dec.{leb};
-ghost use Rattle.common.specs.Pick.{pick};
 ghost use Rattle.statement.specs.Rows.{mapped};
 ghost use Rattle.scan.specs.File.{scanOf};
 ghost use Rattle.scan.specs.Table.{headerRoom, dataRoom, countsOf, headersAfter, rowsAfter, toldScan};
-ghost use Rattle.export.specs.Numbers.{code, numbers};
+ghost use Rattle.plain.specs.Answers.{readCode};
+ghost use Rattle.plain.specs.Numbers.{putIn};
+ghost use Rattle.export.specs.Numbers.{numbers};
 use scan::Scanned;
 
 // Puts an answer's numbers at the start of `out`, where there is room for three: the counts, or a refusal's reason and place;
 // and answers 0 or the refusal's number.
 fn told_to(r: Scanned, out: &mut [u64]) -> u8
-    ensures { λ n. ⌜ n ≡ code (toldScan r) ⌝ }
-    ensures { λ _. ⌜ now (out .exit) ≡ pick (leb 3 (length (now (out .entry)))) (sets (now (out .entry)) 0 (numbers (toldScan r))) (now (out .entry)) ⌝ }
+    ensures { λ n. ⌜ n ≡ readCode (toldScan r) ⌝ }
+    ensures { λ _. ⌜ now (out .exit) ≡ putIn 3 (numbers (toldScan r)) (now (out .entry)) ⌝ }
 {
     match r {
         Scanned::Rows {
@@ -51,7 +48,7 @@ fn told_to(r: Scanned, out: &mut [u64]) -> u8
 }
 
 fn put_counts(out: &mut [u64], headers: u64, records: u64, max: u64)
-    ensures { λ _. ⌜ now (out .exit) ≡ pick (leb 3 (length (now (out .entry)))) (sets (now (out .entry)) 0 (headers ∷ records ∷ max ∷ [])) (now (out .entry)) ⌝ }
+    ensures { λ _. ⌜ now (out .exit) ≡ putIn 3 (headers ∷ records ∷ max ∷ []) (now (out .entry)) ⌝ }
 {
     if out.len() < 3 {
         return;
@@ -62,7 +59,7 @@ fn put_counts(out: &mut [u64], headers: u64, records: u64, max: u64)
 }
 
 fn put_place(out: &mut [u64], reason: u64, place: u64)
-    ensures { λ _. ⌜ now (out .exit) ≡ pick (leb 3 (length (now (out .entry)))) (sets (now (out .entry)) 0 (reason ∷ place ∷ [])) (now (out .entry)) ⌝ }
+    ensures { λ _. ⌜ now (out .exit) ≡ putIn 3 (reason ∷ place ∷ []) (now (out .entry)) ⌝ }
 {
     if out.len() < 3 {
         return;
@@ -81,10 +78,10 @@ pub extern "C" fn hooflift_scan(
     slots: usize,
     out: &mut [u64],
 ) -> u8
-    ensures { λ n. ⌜ n ≡ code (mapped countsOf (scanOf (now (file .entry)) (headerRoom (now (headers .entry))) (dataRoom (now (rows .entry)) slots))) ⌝ }
+    ensures { λ n. ⌜ n ≡ readCode (mapped countsOf (scanOf (now (file .entry)) (headerRoom (now (headers .entry))) (dataRoom (now (rows .entry)) slots))) ⌝ }
     ensures { λ _. ⌜ now (headers .exit) ≡ headersAfter (scanOf (now (file .entry)) (headerRoom (now (headers .entry))) (dataRoom (now (rows .entry)) slots)) (now (headers .entry)) ⌝ }
     ensures { λ _. ⌜ now (rows .exit) ≡ rowsAfter (scanOf (now (file .entry)) (headerRoom (now (headers .entry))) (dataRoom (now (rows .entry)) slots)) (now (rows .entry)) ⌝ }
-    ensures { λ _. ⌜ now (out .exit) ≡ pick (leb 3 (length (now (out .entry)))) (sets (now (out .entry)) 0 (numbers (mapped countsOf (scanOf (now (file .entry)) (headerRoom (now (headers .entry))) (dataRoom (now (rows .entry)) slots))))) (now (out .entry)) ⌝ }
+    ensures { λ _. ⌜ now (out .exit) ≡ putIn 3 (numbers (mapped countsOf (scanOf (now (file .entry)) (headerRoom (now (headers .entry))) (dataRoom (now (rows .entry)) slots)))) (now (out .entry)) ⌝ }
 {
     let r = scan::scan(file, headers, rows, slots);
     told_to(r, out)

@@ -1,65 +1,20 @@
 // The argument reader, for hosts in other languages: its place goes in and comes back, and a refusal's place goes beside it.
-ghost use mathlib.Core.Path.{_≡_};
 ghost use lib.ListN.{length};
-ghost use mathlib.Core.List.{map};
-ghost use lib.Ieee.{binary64, toBits};
 ghost use Rattle.reals.specs.Scalar.{realOf, anyRealOf};
-ghost use Rattle.reals.specs.Which.{realBy};
 ghost use Rattle.params.specs.Skips.{skipOf};
-ghost use Rattle.lists.specs.Items.{listOf};
-ghost use Rattle.lists.specs.Answer.{nextBy, fitsIn, howMany, written};
-ghost use Rattle.plain.specs.Answers.{Leaves, readValue};
-use lists::NextList;
-use params::Skipped;
+ghost use Rattle.lists.specs.Answer.{howMany};
+ghost use Rattle.lists.specs.Read.{listRead};
+ghost use Rattle.plain.specs.Answers.{Leaves, Puts, PutsReals};
 use params::State;
 use reals::Reals;
 
 // Goes past one parameter: 0, or the refusal's number, with its place in `fault`; `place` is where the reader then stands.
 #[no_mangle]
 pub extern "C" fn hooflift_skip(file: &[u8], place: &mut usize, end: usize, fault: &mut usize) -> u8
-    ensures { λ n. ⌜ Leaves (skipOf (now (file .entry)) (now (place .entry)) end) (now (fault .entry)) n (now (place .exit)) (now (fault .exit)) ⌝ }
+    ensures { λ n. ⌜ Leaves (skipOf (now (file .entry)) (now (place .entry)) end) n place fault ⌝ }
 {
     let at = State { place: *place, end };
-    match params::skip(file, at) {
-        Skipped::Past(to) => {
-            *place = to.place;
-            0
-        }
-        Skipped::Refused(f, to) => {
-            *place = to.place;
-            *fault = error::place(f);
-            error::number(f)
-        }
-    }
-}
-
-// Reads a list of reals, of the class or any: what both functions below answer and leave.
-fn put_real_list(
-    which: Reals,
-    file: &[u8],
-    place: &mut usize,
-    end: usize,
-    out: &mut [f64],
-    count: &mut usize,
-    fault: &mut usize,
-) -> u8
-    ensures { λ n. ⌜ Leaves (howMany (nextBy (listOf (realBy which)) (fitsIn (length (now (out .entry)))) (now (file .entry)) (now (place .entry)) end)) (now (fault .entry)) n (now (place .exit)) (now (fault .exit)) ⌝ }
-    ensures { λ _. ⌜ map (toBits binary64) (now (out .exit)) ≡ written (nextBy (listOf (realBy which)) (fitsIn (length (now (out .entry)))) (now (file .entry)) (now (place .entry)) end .answer) (map (toBits binary64) (now (out .entry))) ⌝ }
-    ensures { λ _. ⌜ now (count .exit) ≡ readValue (λ n. n) (howMany (nextBy (listOf (realBy which)) (fitsIn (length (now (out .entry)))) (now (file .entry)) (now (place .entry)) end) .answer) (now (count .entry)) ⌝ }
-{
-    let at = State { place: *place, end };
-    match lists::next_real_list(which, file, at, out) {
-        NextList::Count(n, to) => {
-            *place = to.place;
-            *count = n;
-            0
-        }
-        NextList::Refused(f, to) => {
-            *place = to.place;
-            *fault = error::place(f);
-            error::number(f)
-        }
-    }
+    plain::put_skipped(params::skip(file, at), place, fault)
 }
 
 // Reads a list of reals into `out`: 0, with how many in `count`; or the refusal's number, with its place in `fault`.
@@ -72,11 +27,12 @@ pub extern "C" fn hooflift_f64_list(
     count: &mut usize,
     fault: &mut usize,
 ) -> u8
-    ensures { λ n. ⌜ Leaves (howMany (nextBy (listOf realOf) (fitsIn (length (now (out .entry)))) (now (file .entry)) (now (place .entry)) end)) (now (fault .entry)) n (now (place .exit)) (now (fault .exit)) ⌝ }
-    ensures { λ _. ⌜ map (toBits binary64) (now (out .exit)) ≡ written (nextBy (listOf realOf) (fitsIn (length (now (out .entry)))) (now (file .entry)) (now (place .entry)) end .answer) (map (toBits binary64) (now (out .entry))) ⌝ }
-    ensures { λ _. ⌜ now (count .exit) ≡ readValue (λ n. n) (howMany (nextBy (listOf realOf) (fitsIn (length (now (out .entry)))) (now (file .entry)) (now (place .entry)) end) .answer) (now (count .entry)) ⌝ }
+    ensures { λ n. ⌜ Leaves (howMany (listRead realOf (length (now (out .entry))) (now (file .entry)) (now (place .entry)) end)) n place fault ⌝ }
+    ensures { λ _. ⌜ PutsReals (listRead realOf (length (now (out .entry))) (now (file .entry)) (now (place .entry)) end .answer) out ⌝ }
+    ensures { λ _. ⌜ Puts (λ n. n) (howMany (listRead realOf (length (now (out .entry))) (now (file .entry)) (now (place .entry)) end) .answer) count ⌝ }
 {
-    put_real_list(Reals::Class, file, place, end, out, count, fault)
+    let at = State { place: *place, end };
+    plain::put_list(lists::next_f64_list(file, at, out), place, count, fault)
 }
 
 // Reads a list of any reals: as `hooflift_f64_list`, and never 13.
@@ -89,9 +45,11 @@ pub extern "C" fn hooflift_any_f64_list(
     count: &mut usize,
     fault: &mut usize,
 ) -> u8
-    ensures { λ n. ⌜ Leaves (howMany (nextBy (listOf anyRealOf) (fitsIn (length (now (out .entry)))) (now (file .entry)) (now (place .entry)) end)) (now (fault .entry)) n (now (place .exit)) (now (fault .exit)) ⌝ }
-    ensures { λ _. ⌜ map (toBits binary64) (now (out .exit)) ≡ written (nextBy (listOf anyRealOf) (fitsIn (length (now (out .entry)))) (now (file .entry)) (now (place .entry)) end .answer) (map (toBits binary64) (now (out .entry))) ⌝ }
-    ensures { λ _. ⌜ now (count .exit) ≡ readValue (λ n. n) (howMany (nextBy (listOf anyRealOf) (fitsIn (length (now (out .entry)))) (now (file .entry)) (now (place .entry)) end) .answer) (now (count .entry)) ⌝ }
+    ensures { λ n. ⌜ Leaves (howMany (listRead anyRealOf (length (now (out .entry))) (now (file .entry)) (now (place .entry)) end)) n place fault ⌝ }
+    ensures { λ _. ⌜ PutsReals (listRead anyRealOf (length (now (out .entry))) (now (file .entry)) (now (place .entry)) end .answer) out ⌝ }
+    ensures { λ _. ⌜ Puts (λ n. n) (howMany (listRead anyRealOf (length (now (out .entry))) (now (file .entry)) (now (place .entry)) end) .answer) count ⌝ }
 {
-    put_real_list(Reals::Any, file, place, end, out, count, fault)
+    let at = State { place: *place, end };
+    let r = lists::next_real_list(Reals::Any, file, at, out);
+    plain::put_list(r, place, count, fault)
 }

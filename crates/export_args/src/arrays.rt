@@ -1,16 +1,11 @@
 // Lists and grids, for hosts in other languages: in lent numbers, and for grids the row ends in others.
-ghost use mathlib.Core.Path.{_≡_};
 ghost use lib.ListN.{length};
-ghost use mathlib.Core.List.{map};
-ghost use lib.Ieee.{binary64, toBits};
 ghost use Rattle.reals.specs.Scalar.{referenceOf, wholeOf, realOf, anyRealOf};
-ghost use Rattle.reals.specs.Which.{realBy};
-ghost use Rattle.lists.specs.Items.{listOf};
-ghost use Rattle.lists.specs.Answer.{nextBy, fitsIn, howMany, written};
-ghost use Rattle.grids.specs.Grid.{gridOf, gridFits, howLarge, numbersOf, endsOf};
-ghost use Rattle.plain.specs.Answers.{Leaves, readValue};
+ghost use Rattle.lists.specs.Answer.{howMany};
+ghost use Rattle.lists.specs.Read.{listRead};
+ghost use Rattle.grids.specs.Grid.{gridRead, howLarge, numbersOf, endsOf, toldNextGrid};
+ghost use Rattle.plain.specs.Answers.{Leaves, Puts, PutsList, PutsReals};
 use grids::NextGrid;
-use lists::NextList;
 use params::State;
 use reals::Reals;
 
@@ -24,23 +19,12 @@ pub extern "C" fn hooflift_ref_list(
     count: &mut usize,
     fault: &mut usize,
 ) -> u8
-    ensures { λ n. ⌜ Leaves (howMany (nextBy (listOf referenceOf) (fitsIn (length (now (out .entry)))) (now (file .entry)) (now (place .entry)) end)) (now (fault .entry)) n (now (place .exit)) (now (fault .exit)) ⌝ }
-    ensures { λ _. ⌜ now (out .exit) ≡ written (nextBy (listOf referenceOf) (fitsIn (length (now (out .entry)))) (now (file .entry)) (now (place .entry)) end .answer) (now (out .entry)) ⌝ }
-    ensures { λ _. ⌜ now (count .exit) ≡ readValue (λ n. n) (howMany (nextBy (listOf referenceOf) (fitsIn (length (now (out .entry)))) (now (file .entry)) (now (place .entry)) end) .answer) (now (count .entry)) ⌝ }
+    ensures { λ n. ⌜ Leaves (howMany (listRead referenceOf (length (now (out .entry))) (now (file .entry)) (now (place .entry)) end)) n place fault ⌝ }
+    ensures { λ _. ⌜ PutsList (listRead referenceOf (length (now (out .entry))) (now (file .entry)) (now (place .entry)) end .answer) out ⌝ }
+    ensures { λ _. ⌜ Puts (λ n. n) (howMany (listRead referenceOf (length (now (out .entry))) (now (file .entry)) (now (place .entry)) end) .answer) count ⌝ }
 {
     let at = State { place: *place, end };
-    match lists::next_ref_list(file, at, out) {
-        NextList::Count(n, to) => {
-            *place = to.place;
-            *count = n;
-            0
-        }
-        NextList::Refused(f, to) => {
-            *place = to.place;
-            *fault = error::place(f);
-            error::number(f)
-        }
-    }
+    plain::put_list(lists::next_ref_list(file, at, out), place, count, fault)
 }
 
 // Reads a list of integers into `out`: 0, with how many in `count`.
@@ -53,22 +37,34 @@ pub extern "C" fn hooflift_i64_list(
     count: &mut usize,
     fault: &mut usize,
 ) -> u8
-    ensures { λ n. ⌜ Leaves (howMany (nextBy (listOf wholeOf) (fitsIn (length (now (out .entry)))) (now (file .entry)) (now (place .entry)) end)) (now (fault .entry)) n (now (place .exit)) (now (fault .exit)) ⌝ }
-    ensures { λ _. ⌜ now (out .exit) ≡ written (nextBy (listOf wholeOf) (fitsIn (length (now (out .entry)))) (now (file .entry)) (now (place .entry)) end .answer) (now (out .entry)) ⌝ }
-    ensures { λ _. ⌜ now (count .exit) ≡ readValue (λ n. n) (howMany (nextBy (listOf wholeOf) (fitsIn (length (now (out .entry)))) (now (file .entry)) (now (place .entry)) end) .answer) (now (count .entry)) ⌝ }
+    ensures { λ n. ⌜ Leaves (howMany (listRead wholeOf (length (now (out .entry))) (now (file .entry)) (now (place .entry)) end)) n place fault ⌝ }
+    ensures { λ _. ⌜ PutsList (listRead wholeOf (length (now (out .entry))) (now (file .entry)) (now (place .entry)) end .answer) out ⌝ }
+    ensures { λ _. ⌜ Puts (λ n. n) (howMany (listRead wholeOf (length (now (out .entry))) (now (file .entry)) (now (place .entry)) end) .answer) count ⌝ }
 {
     let at = State { place: *place, end };
-    match lists::next_i64_list(file, at, out) {
-        NextList::Count(n, to) => {
+    plain::put_list(lists::next_i64_list(file, at, out), place, count, fault)
+}
+
+// What a reader of a grid answers and leaves: how many numbers it has goes to `count`, and how many rows to `rows`.
+fn put_grid(
+    r: NextGrid,
+    place: &mut usize,
+    count: &mut usize,
+    rows: &mut usize,
+    fault: &mut usize,
+) -> u8
+    ensures { λ n. ⌜ Leaves (toldNextGrid r) n place fault ⌝ }
+    ensures { λ _. ⌜ Puts (λ s. s .numbers) (toldNextGrid r .answer) count ⌝ }
+    ensures { λ _. ⌜ Puts (λ s. s .rows) (toldNextGrid r .answer) rows ⌝ }
+{
+    match r {
+        NextGrid::Count(high, n, to) => {
             *place = to.place;
             *count = n;
+            *rows = high;
             0
         }
-        NextList::Refused(f, to) => {
-            *place = to.place;
-            *fault = error::place(f);
-            error::number(f)
-        }
+        NextGrid::Refused(f, to) => plain::put_refusal(f, to, place, fault),
     }
 }
 
@@ -85,60 +81,15 @@ pub extern "C" fn hooflift_ref_grid(
     rows: &mut usize,
     fault: &mut usize,
 ) -> u8
-    ensures { λ n. ⌜ Leaves (howLarge (nextBy (gridOf referenceOf) (gridFits (length (now (out .entry))) (length (now (ends .entry)))) (now (file .entry)) (now (place .entry)) end)) (now (fault .entry)) n (now (place .exit)) (now (fault .exit)) ⌝ }
-    ensures { λ _. ⌜ now (out .exit) ≡ written (numbersOf (nextBy (gridOf referenceOf) (gridFits (length (now (out .entry))) (length (now (ends .entry)))) (now (file .entry)) (now (place .entry)) end .answer)) (now (out .entry)) ⌝ }
-    ensures { λ _. ⌜ now (ends .exit) ≡ written (endsOf (nextBy (gridOf referenceOf) (gridFits (length (now (out .entry))) (length (now (ends .entry)))) (now (file .entry)) (now (place .entry)) end .answer)) (now (ends .entry)) ⌝ }
-    ensures { λ _. ⌜ now (count .exit) ≡ readValue (λ s. s .numbers) (howLarge (nextBy (gridOf referenceOf) (gridFits (length (now (out .entry))) (length (now (ends .entry)))) (now (file .entry)) (now (place .entry)) end) .answer) (now (count .entry)) ⌝ }
-    ensures { λ _. ⌜ now (rows .exit) ≡ readValue (λ s. s .rows) (howLarge (nextBy (gridOf referenceOf) (gridFits (length (now (out .entry))) (length (now (ends .entry)))) (now (file .entry)) (now (place .entry)) end) .answer) (now (rows .entry)) ⌝ }
+    ensures { λ n. ⌜ Leaves (howLarge (gridRead referenceOf (length (now (out .entry))) (length (now (ends .entry))) (now (file .entry)) (now (place .entry)) end)) n place fault ⌝ }
+    ensures { λ _. ⌜ PutsList (numbersOf (gridRead referenceOf (length (now (out .entry))) (length (now (ends .entry))) (now (file .entry)) (now (place .entry)) end .answer)) out ⌝ }
+    ensures { λ _. ⌜ PutsList (endsOf (gridRead referenceOf (length (now (out .entry))) (length (now (ends .entry))) (now (file .entry)) (now (place .entry)) end .answer)) ends ⌝ }
+    ensures { λ _. ⌜ Puts (λ s. s .numbers) (howLarge (gridRead referenceOf (length (now (out .entry))) (length (now (ends .entry))) (now (file .entry)) (now (place .entry)) end) .answer) count ⌝ }
+    ensures { λ _. ⌜ Puts (λ s. s .rows) (howLarge (gridRead referenceOf (length (now (out .entry))) (length (now (ends .entry))) (now (file .entry)) (now (place .entry)) end) .answer) rows ⌝ }
 {
     let at = State { place: *place, end };
-    match grids::next_ref_grid(file, at, out, ends) {
-        NextGrid::Count(r, n, to) => {
-            *place = to.place;
-            *count = n;
-            *rows = r;
-            0
-        }
-        NextGrid::Refused(f, to) => {
-            *place = to.place;
-            *fault = error::place(f);
-            error::number(f)
-        }
-    }
-}
-
-// Reads a list of lists of reals, of the class or any: what both functions below answer and leave.
-fn put_real_grid(
-    which: Reals,
-    file: &[u8],
-    place: &mut usize,
-    end: usize,
-    out: &mut [f64],
-    ends: &mut [usize],
-    count: &mut usize,
-    rows: &mut usize,
-    fault: &mut usize,
-) -> u8
-    ensures { λ n. ⌜ Leaves (howLarge (nextBy (gridOf (realBy which)) (gridFits (length (now (out .entry))) (length (now (ends .entry)))) (now (file .entry)) (now (place .entry)) end)) (now (fault .entry)) n (now (place .exit)) (now (fault .exit)) ⌝ }
-    ensures { λ _. ⌜ map (toBits binary64) (now (out .exit)) ≡ written (numbersOf (nextBy (gridOf (realBy which)) (gridFits (length (now (out .entry))) (length (now (ends .entry)))) (now (file .entry)) (now (place .entry)) end .answer)) (map (toBits binary64) (now (out .entry))) ⌝ }
-    ensures { λ _. ⌜ now (ends .exit) ≡ written (endsOf (nextBy (gridOf (realBy which)) (gridFits (length (now (out .entry))) (length (now (ends .entry)))) (now (file .entry)) (now (place .entry)) end .answer)) (now (ends .entry)) ⌝ }
-    ensures { λ _. ⌜ now (count .exit) ≡ readValue (λ s. s .numbers) (howLarge (nextBy (gridOf (realBy which)) (gridFits (length (now (out .entry))) (length (now (ends .entry)))) (now (file .entry)) (now (place .entry)) end) .answer) (now (count .entry)) ⌝ }
-    ensures { λ _. ⌜ now (rows .exit) ≡ readValue (λ s. s .rows) (howLarge (nextBy (gridOf (realBy which)) (gridFits (length (now (out .entry))) (length (now (ends .entry)))) (now (file .entry)) (now (place .entry)) end) .answer) (now (rows .entry)) ⌝ }
-{
-    let at = State { place: *place, end };
-    match grids::next_real_grid(which, file, at, out, ends) {
-        NextGrid::Count(r, n, to) => {
-            *place = to.place;
-            *count = n;
-            *rows = r;
-            0
-        }
-        NextGrid::Refused(f, to) => {
-            *place = to.place;
-            *fault = error::place(f);
-            error::number(f)
-        }
-    }
+    let r = grids::next_ref_grid(file, at, out, ends);
+    put_grid(r, place, count, rows, fault)
 }
 
 // Reads a list of lists of reals: 0, with all its numbers in `out` and how many in `count`, and where each row ends in `ends` and how many
@@ -154,23 +105,15 @@ pub extern "C" fn hooflift_f64_grid(
     rows: &mut usize,
     fault: &mut usize,
 ) -> u8
-    ensures { λ n. ⌜ Leaves (howLarge (nextBy (gridOf realOf) (gridFits (length (now (out .entry))) (length (now (ends .entry)))) (now (file .entry)) (now (place .entry)) end)) (now (fault .entry)) n (now (place .exit)) (now (fault .exit)) ⌝ }
-    ensures { λ _. ⌜ map (toBits binary64) (now (out .exit)) ≡ written (numbersOf (nextBy (gridOf realOf) (gridFits (length (now (out .entry))) (length (now (ends .entry)))) (now (file .entry)) (now (place .entry)) end .answer)) (map (toBits binary64) (now (out .entry))) ⌝ }
-    ensures { λ _. ⌜ now (ends .exit) ≡ written (endsOf (nextBy (gridOf realOf) (gridFits (length (now (out .entry))) (length (now (ends .entry)))) (now (file .entry)) (now (place .entry)) end .answer)) (now (ends .entry)) ⌝ }
-    ensures { λ _. ⌜ now (count .exit) ≡ readValue (λ s. s .numbers) (howLarge (nextBy (gridOf realOf) (gridFits (length (now (out .entry))) (length (now (ends .entry)))) (now (file .entry)) (now (place .entry)) end) .answer) (now (count .entry)) ⌝ }
-    ensures { λ _. ⌜ now (rows .exit) ≡ readValue (λ s. s .rows) (howLarge (nextBy (gridOf realOf) (gridFits (length (now (out .entry))) (length (now (ends .entry)))) (now (file .entry)) (now (place .entry)) end) .answer) (now (rows .entry)) ⌝ }
+    ensures { λ n. ⌜ Leaves (howLarge (gridRead realOf (length (now (out .entry))) (length (now (ends .entry))) (now (file .entry)) (now (place .entry)) end)) n place fault ⌝ }
+    ensures { λ _. ⌜ PutsReals (numbersOf (gridRead realOf (length (now (out .entry))) (length (now (ends .entry))) (now (file .entry)) (now (place .entry)) end .answer)) out ⌝ }
+    ensures { λ _. ⌜ PutsList (endsOf (gridRead realOf (length (now (out .entry))) (length (now (ends .entry))) (now (file .entry)) (now (place .entry)) end .answer)) ends ⌝ }
+    ensures { λ _. ⌜ Puts (λ s. s .numbers) (howLarge (gridRead realOf (length (now (out .entry))) (length (now (ends .entry))) (now (file .entry)) (now (place .entry)) end) .answer) count ⌝ }
+    ensures { λ _. ⌜ Puts (λ s. s .rows) (howLarge (gridRead realOf (length (now (out .entry))) (length (now (ends .entry))) (now (file .entry)) (now (place .entry)) end) .answer) rows ⌝ }
 {
-    put_real_grid(
-        Reals::Class,
-        file,
-        place,
-        end,
-        out,
-        ends,
-        count,
-        rows,
-        fault,
-    )
+    let at = State { place: *place, end };
+    let r = grids::next_f64_grid(file, at, out, ends);
+    put_grid(r, place, count, rows, fault)
 }
 
 // Reads a list of lists of any reals: as `hooflift_f64_grid`, and never 13.
@@ -185,11 +128,13 @@ pub extern "C" fn hooflift_any_f64_grid(
     rows: &mut usize,
     fault: &mut usize,
 ) -> u8
-    ensures { λ n. ⌜ Leaves (howLarge (nextBy (gridOf anyRealOf) (gridFits (length (now (out .entry))) (length (now (ends .entry)))) (now (file .entry)) (now (place .entry)) end)) (now (fault .entry)) n (now (place .exit)) (now (fault .exit)) ⌝ }
-    ensures { λ _. ⌜ map (toBits binary64) (now (out .exit)) ≡ written (numbersOf (nextBy (gridOf anyRealOf) (gridFits (length (now (out .entry))) (length (now (ends .entry)))) (now (file .entry)) (now (place .entry)) end .answer)) (map (toBits binary64) (now (out .entry))) ⌝ }
-    ensures { λ _. ⌜ now (ends .exit) ≡ written (endsOf (nextBy (gridOf anyRealOf) (gridFits (length (now (out .entry))) (length (now (ends .entry)))) (now (file .entry)) (now (place .entry)) end .answer)) (now (ends .entry)) ⌝ }
-    ensures { λ _. ⌜ now (count .exit) ≡ readValue (λ s. s .numbers) (howLarge (nextBy (gridOf anyRealOf) (gridFits (length (now (out .entry))) (length (now (ends .entry)))) (now (file .entry)) (now (place .entry)) end) .answer) (now (count .entry)) ⌝ }
-    ensures { λ _. ⌜ now (rows .exit) ≡ readValue (λ s. s .rows) (howLarge (nextBy (gridOf anyRealOf) (gridFits (length (now (out .entry))) (length (now (ends .entry)))) (now (file .entry)) (now (place .entry)) end) .answer) (now (rows .entry)) ⌝ }
+    ensures { λ n. ⌜ Leaves (howLarge (gridRead anyRealOf (length (now (out .entry))) (length (now (ends .entry))) (now (file .entry)) (now (place .entry)) end)) n place fault ⌝ }
+    ensures { λ _. ⌜ PutsReals (numbersOf (gridRead anyRealOf (length (now (out .entry))) (length (now (ends .entry))) (now (file .entry)) (now (place .entry)) end .answer)) out ⌝ }
+    ensures { λ _. ⌜ PutsList (endsOf (gridRead anyRealOf (length (now (out .entry))) (length (now (ends .entry))) (now (file .entry)) (now (place .entry)) end .answer)) ends ⌝ }
+    ensures { λ _. ⌜ Puts (λ s. s .numbers) (howLarge (gridRead anyRealOf (length (now (out .entry))) (length (now (ends .entry))) (now (file .entry)) (now (place .entry)) end) .answer) count ⌝ }
+    ensures { λ _. ⌜ Puts (λ s. s .rows) (howLarge (gridRead anyRealOf (length (now (out .entry))) (length (now (ends .entry))) (now (file .entry)) (now (place .entry)) end) .answer) rows ⌝ }
 {
-    put_real_grid(Reals::Any, file, place, end, out, ends, count, rows, fault)
+    let at = State { place: *place, end };
+    let r = grids::next_real_grid(Reals::Any, file, at, out, ends);
+    put_grid(r, place, count, rows, fault)
 }

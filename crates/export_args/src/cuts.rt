@@ -3,11 +3,10 @@ ghost use mathlib.Core.Path.{_≡_};
 ghost use Rattle.params.specs.Reader.{paramOf};
 ghost use Rattle.params.specs.Skips.{emptyOf, skipsOf};
 ghost use Rattle.params.specs.Answer.{openedOf};
-ghost use Rattle.plain.specs.Answers.{Leaves, readCode, readValue, truthNumber};
+ghost use Rattle.plain.specs.Answers.{Leaves, Puts, readCode, truthNumber};
 use params::Cut;
 use params::Emptiness;
 use params::Opened;
-use params::Skipped;
 use params::State;
 
 // Whether a reader from `place` up to `end` lies in the file: 0, or 9.
@@ -31,9 +30,9 @@ pub extern "C" fn hooflift_param(
     stop: &mut usize,
     fault: &mut usize,
 ) -> u8
-    ensures { λ n. ⌜ Leaves (paramOf (now (file .entry)) (now (place .entry)) end) (now (fault .entry)) n (now (place .exit)) (now (fault .exit)) ⌝ }
-    ensures { λ _. ⌜ now (start .exit) ≡ readValue (λ x. x .start) (paramOf (now (file .entry)) (now (place .entry)) end .answer) (now (start .entry)) ⌝ }
-    ensures { λ _. ⌜ now (stop .exit) ≡ readValue (λ x. x .stop) (paramOf (now (file .entry)) (now (place .entry)) end .answer) (now (stop .entry)) ⌝ }
+    ensures { λ n. ⌜ Leaves (paramOf (now (file .entry)) (now (place .entry)) end) n place fault ⌝ }
+    ensures { λ _. ⌜ Puts (λ x. x .start) (paramOf (now (file .entry)) (now (place .entry)) end .answer) start ⌝ }
+    ensures { λ _. ⌜ Puts (λ x. x .stop) (paramOf (now (file .entry)) (now (place .entry)) end .answer) stop ⌝ }
 {
     let at = State { place: *place, end };
     match params::param_span(file, at) {
@@ -43,11 +42,7 @@ pub extern "C" fn hooflift_param(
             *stop = z;
             0
         }
-        Cut::Refused(f, to) => {
-            *place = to.place;
-            *fault = error::place(f);
-            error::number(f)
-        }
+        Cut::Refused(f, to) => plain::put_refusal(f, to, place, fault),
     }
 }
 
@@ -60,8 +55,8 @@ pub extern "C" fn hooflift_is_empty(
     empty: &mut u8,
     fault: &mut usize,
 ) -> u8
-    ensures { λ n. ⌜ Leaves (emptyOf (now (file .entry)) (now (place .entry)) end) (now (fault .entry)) n (now (place .exit)) (now (fault .exit)) ⌝ }
-    ensures { λ _. ⌜ now (empty .exit) ≡ readValue (truthNumber) (emptyOf (now (file .entry)) (now (place .entry)) end .answer) (now (empty .entry)) ⌝ }
+    ensures { λ n. ⌜ Leaves (emptyOf (now (file .entry)) (now (place .entry)) end) n place fault ⌝ }
+    ensures { λ _. ⌜ Puts truthNumber (emptyOf (now (file .entry)) (now (place .entry)) end .answer) empty ⌝ }
 {
     let at = State { place: *place, end };
     match params::is_empty(file, at) {
@@ -70,11 +65,7 @@ pub extern "C" fn hooflift_is_empty(
             *empty = plain::number_of(b);
             0
         }
-        Emptiness::Refused(f, to) => {
-            *place = to.place;
-            *fault = error::place(f);
-            error::number(f)
-        }
+        Emptiness::Refused(f, to) => plain::put_refusal(f, to, place, fault),
     }
 }
 
@@ -87,18 +78,8 @@ pub extern "C" fn hooflift_skip_n(
     count: usize,
     fault: &mut usize,
 ) -> u8
-    ensures { λ n. ⌜ Leaves (skipsOf count (now (file .entry)) (now (place .entry)) end) (now (fault .entry)) n (now (place .exit)) (now (fault .exit)) ⌝ }
+    ensures { λ n. ⌜ Leaves (skipsOf count (now (file .entry)) (now (place .entry)) end) n place fault ⌝ }
 {
     let at = State { place: *place, end };
-    match params::skip_n(file, at, count) {
-        Skipped::Past(to) => {
-            *place = to.place;
-            0
-        }
-        Skipped::Refused(f, to) => {
-            *place = to.place;
-            *fault = error::place(f);
-            error::number(f)
-        }
-    }
+    plain::put_skipped(params::skip_n(file, at, count), place, fault)
 }

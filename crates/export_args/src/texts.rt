@@ -5,7 +5,7 @@ ghost use Rattle.params.specs.Reader.{paramOf};
 ghost use Rattle.params.specs.Answer.{mapped};
 ghost use Rattle.words.specs.Words.{nameAt, stringAt};
 ghost use Rattle.words.specs.Room.{roomOf};
-ghost use Rattle.plain.specs.Answers.{Leaves, readValue};
+ghost use Rattle.plain.specs.Answers.{Leaves, Puts};
 ghost use Rattle.export_args.specs.Values.{shownRoom, shownStart, shownStop};
 use params::State;
 use words::NextName;
@@ -21,9 +21,9 @@ pub extern "C" fn hooflift_enum(
     stop: &mut usize,
     fault: &mut usize,
 ) -> u8
-    ensures { λ n. ⌜ Leaves (mapped (nameAt (now (file .entry))) (paramOf (now (file .entry)) (now (place .entry)) end)) (now (fault .entry)) n (now (place .exit)) (now (fault .exit)) ⌝ }
-    ensures { λ _. ⌜ now (start .exit) ≡ readValue (λ x. x .start) (mapped (nameAt (now (file .entry))) (paramOf (now (file .entry)) (now (place .entry)) end) .answer) (now (start .entry)) ⌝ }
-    ensures { λ _. ⌜ now (stop .exit) ≡ readValue (λ x. x .stop) (mapped (nameAt (now (file .entry))) (paramOf (now (file .entry)) (now (place .entry)) end) .answer) (now (stop .entry)) ⌝ }
+    ensures { λ n. ⌜ Leaves (mapped (nameAt (now (file .entry))) (paramOf (now (file .entry)) (now (place .entry)) end)) n place fault ⌝ }
+    ensures { λ _. ⌜ Puts (λ x. x .start) (mapped (nameAt (now (file .entry))) (paramOf (now (file .entry)) (now (place .entry)) end) .answer) start ⌝ }
+    ensures { λ _. ⌜ Puts (λ x. x .stop) (mapped (nameAt (now (file .entry))) (paramOf (now (file .entry)) (now (place .entry)) end) .answer) stop ⌝ }
 {
     let at = State { place: *place, end };
     match words::next_enum(file, at) {
@@ -33,11 +33,7 @@ pub extern "C" fn hooflift_enum(
             *stop = z;
             0
         }
-        NextName::Refused(f, to) => {
-            *place = to.place;
-            *fault = error::place(f);
-            error::number(f)
-        }
+        NextName::Refused(f, to) => plain::put_refusal(f, to, place, fault),
     }
 }
 
@@ -53,11 +49,11 @@ pub extern "C" fn hooflift_str(
     stop: &mut usize,
     fault: &mut usize,
 ) -> u8
-    ensures { λ n. ⌜ Leaves (mapped (stringAt (now (file .entry)) (length (now (out .entry)))) (paramOf (now (file .entry)) (now (place .entry)) end)) (now (fault .entry)) n (now (place .exit)) (now (fault .exit)) ⌝ }
+    ensures { λ n. ⌜ Leaves (mapped (stringAt (now (file .entry)) (length (now (out .entry)))) (paramOf (now (file .entry)) (now (place .entry)) end)) n place fault ⌝ }
     ensures { λ _. ⌜ now (out .exit) ≡ roomOf (now (file .entry)) (now (out .entry)) (paramOf (now (file .entry)) (now (place .entry)) end .answer) ⌝ }
-    ensures { λ _. ⌜ now (room .exit) ≡ readValue (shownRoom) (mapped (stringAt (now (file .entry)) (length (now (out .entry)))) (paramOf (now (file .entry)) (now (place .entry)) end) .answer) (now (room .entry)) ⌝ }
-    ensures { λ _. ⌜ now (start .exit) ≡ readValue (shownStart) (mapped (stringAt (now (file .entry)) (length (now (out .entry)))) (paramOf (now (file .entry)) (now (place .entry)) end) .answer) (now (start .entry)) ⌝ }
-    ensures { λ _. ⌜ now (stop .exit) ≡ readValue (shownStop) (mapped (stringAt (now (file .entry)) (length (now (out .entry)))) (paramOf (now (file .entry)) (now (place .entry)) end) .answer) (now (stop .entry)) ⌝ }
+    ensures { λ _. ⌜ Puts shownRoom (mapped (stringAt (now (file .entry)) (length (now (out .entry)))) (paramOf (now (file .entry)) (now (place .entry)) end) .answer) room ⌝ }
+    ensures { λ _. ⌜ Puts shownStart (mapped (stringAt (now (file .entry)) (length (now (out .entry)))) (paramOf (now (file .entry)) (now (place .entry)) end) .answer) start ⌝ }
+    ensures { λ _. ⌜ Puts shownStop (mapped (stringAt (now (file .entry)) (length (now (out .entry)))) (paramOf (now (file .entry)) (now (place .entry)) end) .answer) stop ⌝ }
 {
     let at = State { place: *place, end };
     match words::next_str(file, at, out) {
@@ -75,10 +71,6 @@ pub extern "C" fn hooflift_str(
             *stop = n;
             0
         }
-        NextText::Refused(f, to) => {
-            *place = to.place;
-            *fault = error::place(f);
-            error::number(f)
-        }
+        NextText::Refused(f, to) => plain::put_refusal(f, to, place, fault),
     }
 }

@@ -4,8 +4,8 @@ ghost use lib.Ieee.{binary64, toBits};
 ghost use Rattle.reals.specs.Scalar.{referenceOf, wholeOf, realOf, anyRealOf};
 ghost use Rattle.reals.specs.Which.{realBy};
 ghost use Rattle.scalars.specs.Scalars.{optionOf, measureBy, measureOf, truthOf};
-ghost use Rattle.scalars.specs.Answer.{nextOf};
-ghost use Rattle.plain.specs.Answers.{Leaves, readValue};
+ghost use Rattle.scalars.specs.Answer.{nextOf, toldNextReal};
+ghost use Rattle.plain.specs.Answers.{Leaves, Puts, PutsReal};
 ghost use Rattle.export_args.specs.Values.{givenValue, givenSet, logicalNumber};
 use params::State;
 use reals::Reals;
@@ -25,8 +25,8 @@ pub extern "C" fn hooflift_ref(
     value: &mut u32,
     fault: &mut usize,
 ) -> u8
-    ensures { λ n. ⌜ Leaves (nextOf referenceOf (now (file .entry)) (now (place .entry)) end) (now (fault .entry)) n (now (place .exit)) (now (fault .exit)) ⌝ }
-    ensures { λ _. ⌜ now (value .exit) ≡ readValue (λ x. x) (nextOf referenceOf (now (file .entry)) (now (place .entry)) end .answer) (now (value .entry)) ⌝ }
+    ensures { λ n. ⌜ Leaves (nextOf referenceOf (now (file .entry)) (now (place .entry)) end) n place fault ⌝ }
+    ensures { λ _. ⌜ Puts (λ x. x) (nextOf referenceOf (now (file .entry)) (now (place .entry)) end .answer) value ⌝ }
 {
     let at = State { place: *place, end };
     match scalars::next_ref(file, at) {
@@ -35,11 +35,7 @@ pub extern "C" fn hooflift_ref(
             *value = x;
             0
         }
-        NextRef::Refused(f, to) => {
-            *place = to.place;
-            *fault = error::place(f);
-            error::number(f)
-        }
+        NextRef::Refused(f, to) => plain::put_refusal(f, to, place, fault),
     }
 }
 
@@ -53,9 +49,9 @@ pub extern "C" fn hooflift_opt_ref(
     set: &mut u8,
     fault: &mut usize,
 ) -> u8
-    ensures { λ n. ⌜ Leaves (nextOf (optionOf referenceOf) (now (file .entry)) (now (place .entry)) end) (now (fault .entry)) n (now (place .exit)) (now (fault .exit)) ⌝ }
+    ensures { λ n. ⌜ Leaves (nextOf (optionOf referenceOf) (now (file .entry)) (now (place .entry)) end) n place fault ⌝ }
     ensures { λ _. ⌜ now (value .exit) ≡ givenValue (nextOf (optionOf referenceOf) (now (file .entry)) (now (place .entry)) end .answer) (now (value .entry)) ⌝ }
-    ensures { λ _. ⌜ now (set .exit) ≡ readValue (givenSet) (nextOf (optionOf referenceOf) (now (file .entry)) (now (place .entry)) end .answer) (now (set .entry)) ⌝ }
+    ensures { λ _. ⌜ Puts givenSet (nextOf (optionOf referenceOf) (now (file .entry)) (now (place .entry)) end .answer) set ⌝ }
 {
     let at = State { place: *place, end };
     match scalars::next_opt_ref(file, at) {
@@ -70,11 +66,7 @@ pub extern "C" fn hooflift_opt_ref(
             *set = 0;
             0
         }
-        NextOptRef::Refused(f, to) => {
-            *place = to.place;
-            *fault = error::place(f);
-            error::number(f)
-        }
+        NextOptRef::Refused(f, to) => plain::put_refusal(f, to, place, fault),
     }
 }
 
@@ -87,8 +79,8 @@ pub extern "C" fn hooflift_i64(
     value: &mut i64,
     fault: &mut usize,
 ) -> u8
-    ensures { λ n. ⌜ Leaves (nextOf wholeOf (now (file .entry)) (now (place .entry)) end) (now (fault .entry)) n (now (place .exit)) (now (fault .exit)) ⌝ }
-    ensures { λ _. ⌜ now (value .exit) ≡ readValue (λ x. x) (nextOf wholeOf (now (file .entry)) (now (place .entry)) end .answer) (now (value .entry)) ⌝ }
+    ensures { λ n. ⌜ Leaves (nextOf wholeOf (now (file .entry)) (now (place .entry)) end) n place fault ⌝ }
+    ensures { λ _. ⌜ Puts (λ x. x) (nextOf wholeOf (now (file .entry)) (now (place .entry)) end .answer) value ⌝ }
 {
     let at = State { place: *place, end };
     match scalars::next_i64(file, at) {
@@ -97,38 +89,22 @@ pub extern "C" fn hooflift_i64(
             *value = x;
             0
         }
-        NextWhole::Refused(f, to) => {
-            *place = to.place;
-            *fault = error::place(f);
-            error::number(f)
-        }
+        NextWhole::Refused(f, to) => plain::put_refusal(f, to, place, fault),
     }
 }
 
-// The next parameter as a real, of the class or any: what both functions below answer and leave.
-fn put_real(
-    which: Reals,
-    file: &[u8],
-    place: &mut usize,
-    end: usize,
-    value: &mut f64,
-    fault: &mut usize,
-) -> u8
-    ensures { λ n. ⌜ Leaves (nextOf (realBy which) (now (file .entry)) (now (place .entry)) end) (now (fault .entry)) n (now (place .exit)) (now (fault .exit)) ⌝ }
-    ensures { λ _. ⌜ toBits binary64 (now (value .exit)) ≡ readValue (λ x. x) (nextOf (realBy which) (now (file .entry)) (now (place .entry)) end .answer) (toBits binary64 (now (value .entry))) ⌝ }
+// What a reader of a real or a measure answers and leaves.
+fn put_real(r: NextReal, place: &mut usize, value: &mut f64, fault: &mut usize) -> u8
+    ensures { λ n. ⌜ Leaves (toldNextReal r) n place fault ⌝ }
+    ensures { λ _. ⌜ PutsReal (λ x. x) (toldNextReal r .answer) value ⌝ }
 {
-    let at = State { place: *place, end };
-    match scalars::next_real(which, file, at) {
+    match r {
         NextReal::Value(x, to) => {
             *place = to.place;
             *value = x;
             0
         }
-        NextReal::Refused(f, to) => {
-            *place = to.place;
-            *fault = error::place(f);
-            error::number(f)
-        }
+        NextReal::Refused(f, to) => plain::put_refusal(f, to, place, fault),
     }
 }
 
@@ -141,10 +117,11 @@ pub extern "C" fn hooflift_f64(
     value: &mut f64,
     fault: &mut usize,
 ) -> u8
-    ensures { λ n. ⌜ Leaves (nextOf realOf (now (file .entry)) (now (place .entry)) end) (now (fault .entry)) n (now (place .exit)) (now (fault .exit)) ⌝ }
-    ensures { λ _. ⌜ toBits binary64 (now (value .exit)) ≡ readValue (λ x. x) (nextOf realOf (now (file .entry)) (now (place .entry)) end .answer) (toBits binary64 (now (value .entry))) ⌝ }
+    ensures { λ n. ⌜ Leaves (nextOf realOf (now (file .entry)) (now (place .entry)) end) n place fault ⌝ }
+    ensures { λ _. ⌜ PutsReal (λ x. x) (nextOf realOf (now (file .entry)) (now (place .entry)) end .answer) value ⌝ }
 {
-    put_real(Reals::Class, file, place, end, value, fault)
+    let at = State { place: *place, end };
+    put_real(scalars::next_f64(file, at), place, value, fault)
 }
 
 // The next parameter as any real, whatever its digits and its exponent: as `hooflift_f64`, and never 13.
@@ -156,10 +133,16 @@ pub extern "C" fn hooflift_any_f64(
     value: &mut f64,
     fault: &mut usize,
 ) -> u8
-    ensures { λ n. ⌜ Leaves (nextOf anyRealOf (now (file .entry)) (now (place .entry)) end) (now (fault .entry)) n (now (place .exit)) (now (fault .exit)) ⌝ }
-    ensures { λ _. ⌜ toBits binary64 (now (value .exit)) ≡ readValue (λ x. x) (nextOf anyRealOf (now (file .entry)) (now (place .entry)) end .answer) (toBits binary64 (now (value .entry))) ⌝ }
+    ensures { λ n. ⌜ Leaves (nextOf anyRealOf (now (file .entry)) (now (place .entry)) end) n place fault ⌝ }
+    ensures { λ _. ⌜ PutsReal (λ x. x) (nextOf anyRealOf (now (file .entry)) (now (place .entry)) end .answer) value ⌝ }
 {
-    put_real(Reals::Any, file, place, end, value, fault)
+    let at = State { place: *place, end };
+    put_real(
+        scalars::next_real(Reals::Any, file, at),
+        place,
+        value,
+        fault,
+    )
 }
 
 // The next parameter as a real, of the class or any, or `$`: what both functions below answer and leave.
@@ -172,9 +155,9 @@ fn put_opt_real(
     set: &mut u8,
     fault: &mut usize,
 ) -> u8
-    ensures { λ n. ⌜ Leaves (nextOf (optionOf (realBy which)) (now (file .entry)) (now (place .entry)) end) (now (fault .entry)) n (now (place .exit)) (now (fault .exit)) ⌝ }
+    ensures { λ n. ⌜ Leaves (nextOf (optionOf (realBy which)) (now (file .entry)) (now (place .entry)) end) n place fault ⌝ }
     ensures { λ _. ⌜ toBits binary64 (now (value .exit)) ≡ givenValue (nextOf (optionOf (realBy which)) (now (file .entry)) (now (place .entry)) end .answer) (toBits binary64 (now (value .entry))) ⌝ }
-    ensures { λ _. ⌜ now (set .exit) ≡ readValue (givenSet) (nextOf (optionOf (realBy which)) (now (file .entry)) (now (place .entry)) end .answer) (now (set .entry)) ⌝ }
+    ensures { λ _. ⌜ Puts givenSet (nextOf (optionOf (realBy which)) (now (file .entry)) (now (place .entry)) end .answer) set ⌝ }
 {
     let at = State { place: *place, end };
     match scalars::next_opt_real(which, file, at) {
@@ -189,11 +172,7 @@ fn put_opt_real(
             *set = 0;
             0
         }
-        NextOptReal::Refused(f, to) => {
-            *place = to.place;
-            *fault = error::place(f);
-            error::number(f)
-        }
+        NextOptReal::Refused(f, to) => plain::put_refusal(f, to, place, fault),
     }
 }
 
@@ -207,9 +186,9 @@ pub extern "C" fn hooflift_opt_f64(
     set: &mut u8,
     fault: &mut usize,
 ) -> u8
-    ensures { λ n. ⌜ Leaves (nextOf (optionOf realOf) (now (file .entry)) (now (place .entry)) end) (now (fault .entry)) n (now (place .exit)) (now (fault .exit)) ⌝ }
+    ensures { λ n. ⌜ Leaves (nextOf (optionOf realOf) (now (file .entry)) (now (place .entry)) end) n place fault ⌝ }
     ensures { λ _. ⌜ toBits binary64 (now (value .exit)) ≡ givenValue (nextOf (optionOf realOf) (now (file .entry)) (now (place .entry)) end .answer) (toBits binary64 (now (value .entry))) ⌝ }
-    ensures { λ _. ⌜ now (set .exit) ≡ readValue (givenSet) (nextOf (optionOf realOf) (now (file .entry)) (now (place .entry)) end .answer) (now (set .entry)) ⌝ }
+    ensures { λ _. ⌜ Puts givenSet (nextOf (optionOf realOf) (now (file .entry)) (now (place .entry)) end .answer) set ⌝ }
 {
     put_opt_real(Reals::Class, file, place, end, value, set, fault)
 }
@@ -224,38 +203,11 @@ pub extern "C" fn hooflift_any_opt_f64(
     set: &mut u8,
     fault: &mut usize,
 ) -> u8
-    ensures { λ n. ⌜ Leaves (nextOf (optionOf anyRealOf) (now (file .entry)) (now (place .entry)) end) (now (fault .entry)) n (now (place .exit)) (now (fault .exit)) ⌝ }
+    ensures { λ n. ⌜ Leaves (nextOf (optionOf anyRealOf) (now (file .entry)) (now (place .entry)) end) n place fault ⌝ }
     ensures { λ _. ⌜ toBits binary64 (now (value .exit)) ≡ givenValue (nextOf (optionOf anyRealOf) (now (file .entry)) (now (place .entry)) end .answer) (toBits binary64 (now (value .entry))) ⌝ }
-    ensures { λ _. ⌜ now (set .exit) ≡ readValue (givenSet) (nextOf (optionOf anyRealOf) (now (file .entry)) (now (place .entry)) end .answer) (now (set .entry)) ⌝ }
+    ensures { λ _. ⌜ Puts givenSet (nextOf (optionOf anyRealOf) (now (file .entry)) (now (place .entry)) end .answer) set ⌝ }
 {
     put_opt_real(Reals::Any, file, place, end, value, set, fault)
-}
-
-// The next parameter as a measure, its real of the class or any: what both functions below answer and leave.
-fn put_measure(
-    which: Reals,
-    file: &[u8],
-    place: &mut usize,
-    end: usize,
-    value: &mut f64,
-    fault: &mut usize,
-) -> u8
-    ensures { λ n. ⌜ Leaves (nextOf (measureBy (realBy which)) (now (file .entry)) (now (place .entry)) end) (now (fault .entry)) n (now (place .exit)) (now (fault .exit)) ⌝ }
-    ensures { λ _. ⌜ toBits binary64 (now (value .exit)) ≡ readValue (λ x. x) (nextOf (measureBy (realBy which)) (now (file .entry)) (now (place .entry)) end .answer) (toBits binary64 (now (value .entry))) ⌝ }
-{
-    let at = State { place: *place, end };
-    match scalars::next_measure(which, file, at) {
-        NextReal::Value(x, to) => {
-            *place = to.place;
-            *value = x;
-            0
-        }
-        NextReal::Refused(f, to) => {
-            *place = to.place;
-            *fault = error::place(f);
-            error::number(f)
-        }
-    }
 }
 
 // The next parameter as a measure, a real or `KEYWORD(real)`: 0, with its f64 in `value`.
@@ -267,10 +219,11 @@ pub extern "C" fn hooflift_measure(
     value: &mut f64,
     fault: &mut usize,
 ) -> u8
-    ensures { λ n. ⌜ Leaves (nextOf measureOf (now (file .entry)) (now (place .entry)) end) (now (fault .entry)) n (now (place .exit)) (now (fault .exit)) ⌝ }
-    ensures { λ _. ⌜ toBits binary64 (now (value .exit)) ≡ readValue (λ x. x) (nextOf measureOf (now (file .entry)) (now (place .entry)) end .answer) (toBits binary64 (now (value .entry))) ⌝ }
+    ensures { λ n. ⌜ Leaves (nextOf measureOf (now (file .entry)) (now (place .entry)) end) n place fault ⌝ }
+    ensures { λ _. ⌜ PutsReal (λ x. x) (nextOf measureOf (now (file .entry)) (now (place .entry)) end .answer) value ⌝ }
 {
-    put_measure(Reals::Class, file, place, end, value, fault)
+    let at = State { place: *place, end };
+    put_real(scalars::next_measure_f64(file, at), place, value, fault)
 }
 
 // The next parameter as a measure with any real: as `hooflift_measure`, and never 13.
@@ -282,10 +235,16 @@ pub extern "C" fn hooflift_any_measure(
     value: &mut f64,
     fault: &mut usize,
 ) -> u8
-    ensures { λ n. ⌜ Leaves (nextOf (measureBy anyRealOf) (now (file .entry)) (now (place .entry)) end) (now (fault .entry)) n (now (place .exit)) (now (fault .exit)) ⌝ }
-    ensures { λ _. ⌜ toBits binary64 (now (value .exit)) ≡ readValue (λ x. x) (nextOf (measureBy anyRealOf) (now (file .entry)) (now (place .entry)) end .answer) (toBits binary64 (now (value .entry))) ⌝ }
+    ensures { λ n. ⌜ Leaves (nextOf (measureBy anyRealOf) (now (file .entry)) (now (place .entry)) end) n place fault ⌝ }
+    ensures { λ _. ⌜ PutsReal (λ x. x) (nextOf (measureBy anyRealOf) (now (file .entry)) (now (place .entry)) end .answer) value ⌝ }
 {
-    put_measure(Reals::Any, file, place, end, value, fault)
+    let at = State { place: *place, end };
+    put_real(
+        scalars::next_measure(Reals::Any, file, at),
+        place,
+        value,
+        fault,
+    )
 }
 
 // The next parameter as a boolean: 0, with 0 in `value` for `.F.`, 1 for `.T.` and 2 for `.U.`.
@@ -297,8 +256,8 @@ pub extern "C" fn hooflift_bool(
     value: &mut u8,
     fault: &mut usize,
 ) -> u8
-    ensures { λ n. ⌜ Leaves (nextOf truthOf (now (file .entry)) (now (place .entry)) end) (now (fault .entry)) n (now (place .exit)) (now (fault .exit)) ⌝ }
-    ensures { λ _. ⌜ now (value .exit) ≡ readValue (logicalNumber) (nextOf truthOf (now (file .entry)) (now (place .entry)) end .answer) (now (value .entry)) ⌝ }
+    ensures { λ n. ⌜ Leaves (nextOf truthOf (now (file .entry)) (now (place .entry)) end) n place fault ⌝ }
+    ensures { λ _. ⌜ Puts logicalNumber (nextOf truthOf (now (file .entry)) (now (place .entry)) end .answer) value ⌝ }
 {
     let at = State { place: *place, end };
     match scalars::next_bool(file, at) {
@@ -317,10 +276,6 @@ pub extern "C" fn hooflift_bool(
             *value = 2;
             0
         }
-        NextTruth::Refused(f, to) => {
-            *place = to.place;
-            *fault = error::place(f);
-            error::number(f)
-        }
+        NextTruth::Refused(f, to) => plain::put_refusal(f, to, place, fault),
     }
 }

@@ -1,4 +1,5 @@
 -- What a file needs, as plain numbers.
+-- What a file needs, as plain numbers.
 -- Assumes nothing.
 -- Definitions to be believed: no law, and nothing computed that no theorem ties (docs/BELIEVE.md).
 use Prim.Native.Nat.{ℕ, _≤_, _<_}
@@ -10,6 +11,7 @@ use Rattle.error.specs.Refusal.{Told, good, bad}
 use Rattle.needs.specs.declared.Needs.{Needs}
 use Rattle.needs.specs.Needs.{needsOf}
 use Rattle.plain.specs.Answers.{readCode, readFault}
+use Rattle.export_tables.specs.Tables.{readReason}
 
 -- how many numbers a host lends at least for what a file needs: more than are told so far
 abbrev pub needsRoom : ℕ
@@ -24,13 +26,8 @@ abbrev pub needsAfter : Told Needs → List ℕ → List ℕ
 needsAfter (good c) old = sets old 0 (needNumbers c)
 needsAfter (bad q) old = old
 
--- the reason of what refuses a file's needs, or what stood there
-abbrev pub needsReason : Told Needs → ℕ → ℕ
-needsReason (good c) old = old
-needsReason (bad q) old = q .reason
-
 -- what a host is told, and what stands in its numbers, its reason and its place then: "16 output too short" where it lends too few
 -- numbers, and nothing is set; else what the file needs, or its refusal
 pub data Needing (s needs : List ℕ) (reason fault code : ℕ) (needs′ : List ℕ) (reason′ fault′ : ℕ) : Type 0 where
   short : length needs < needsRoom → code ≡ 16 → needs′ ≡ needs → reason′ ≡ reason → fault′ ≡ fault → Needing s needs reason fault code needs′ reason′ fault′
-  told : needsRoom ≤ length needs → code ≡ readCode (needsOf s) → needs′ ≡ needsAfter (needsOf s) needs → reason′ ≡ needsReason (needsOf s) reason → fault′ ≡ readFault (needsOf s) fault → Needing s needs reason fault code needs′ reason′ fault′
+  told : needsRoom ≤ length needs → code ≡ readCode (needsOf s) → needs′ ≡ needsAfter (needsOf s) needs → reason′ ≡ readReason (needsOf s) reason → fault′ ≡ readFault (needsOf s) fault → Needing s needs reason fault code needs′ reason′ fault′

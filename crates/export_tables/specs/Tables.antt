@@ -1,19 +1,23 @@
 -- A file's tables for a host in another language.
 -- Assumes nothing.
 -- Definitions to be believed: no law, and nothing computed that no theorem ties (docs/BELIEVE.md).
-use Prim.Native.Nat.{ℕ, _≤_, _<_}
+use Prim.Native.Nat.{ℕ, _-_, _≤_, _<_}
 use mathlib.Core.Path.{_≡_}
 use mathlib.Core.List.{List}
 use mathlib.Core.Option.{Option, none, some}
 use lib.ListN.{length}
+use denote.Ref.{now}
 use Rattle.error.specs.Refusal.{Refusal, Told, good, bad}
 use Rattle.statement.specs.Rows.{Row, mapped}
-use Rattle.lookup.specs.Lookup.{Span, spanIn}
+use Rattle.table.specs.Table.{tableRows}
+use Rattle.index.specs.Search.{searched}
+use Rattle.lookup.specs.Lookup.{Span, spanIn, rowFound, rowIn, isKind}
+use Rattle.lookup.specs.First.{firstFrom}
 use Rattle.store.specs.Store.{toldOpened, Opens}
 use Rattle.store.specs.declared.Opened.{Opened}
 use Rattle.store.specs.declared.Opened.the-variants.{Good, Refused}
-use Rattle.plain.specs.Answers.{readCode, readFault}
-use Rattle.plain.specs.Numbers.{tablesIn}
+use Rattle.plain.specs.Answers.{Lent, readCode, readFault}
+use Rattle.plain.specs.Numbers.{tablesIn, tablesBy, kindBy}
 
 -- the reason of a refusal, or what stood there
 abbrev pub readReason : {A : Type 0} → Told A → ℕ → ℕ
@@ -30,6 +34,24 @@ openTables (Refused f) old = old
 pub data Host (s heads rows slots tables : List ℕ) (reason fault code : ℕ) (heads′ rows′ slots′ tables′ : List ℕ) (reason′ fault′ : ℕ) : Type 0 where
   short : length tables < 16 → code ≡ 16 → heads′ ≡ heads → rows′ ≡ rows → slots′ ≡ slots → tables′ ≡ tables → reason′ ≡ reason → fault′ ≡ fault → Host s heads rows slots tables reason fault code heads′ rows′ slots′ tables′ reason′ fault′
   opened : 16 ≤ length tables → (a : Opened) → Opens s heads rows slots a heads′ rows′ slots′ → code ≡ readCode (toldOpened a) → tables′ ≡ openTables a tables → reason′ ≡ readReason (toldOpened a) reason → fault′ ≡ readFault (toldOpened a) fault → Host s heads rows slots tables reason fault code heads′ rows′ slots′ tables′ reason′ fault′
+
+-- the same of what a host lends, when it asks and when it is answered
+abbrev pub Hosts : List ℕ → Lent (List ℕ) → Lent (List ℕ) → Lent (List ℕ) → Lent (List ℕ) → Lent ℕ → Lent ℕ → ℕ → Type 0
+Hosts s heads rows slots tables reason fault code =
+    Host s (now (heads .entry)) (now (rows .entry)) (now (slots .entry)) (now (tables .entry)) (now (reason .entry)) (now (fault .entry)) code
+    (now (heads .exit)) (now (rows .exit)) (now (slots .exit)) (now (tables .exit)) (now (reason .exit)) (now (fault .exit))
+
+-- the last record with an id, by a host's tables and numbers
+abbrev pub recordBy : List ℕ → List ℕ → List ℕ → ℕ → Option Row
+recordBy rows slots tables id = rowFound rows (searched rows slots (tablesBy tables .ids) id)
+
+-- the record in row k
+abbrev pub rowBy : List ℕ → List ℕ → ℕ → Option Row
+rowBy rows tables k = rowIn rows (tablesBy tables .records) k
+
+-- the next row of a kind from a row on, of a file s
+abbrev pub nextOfKind : List ℕ → List ℕ → List ℕ → ℕ → ℕ → Option ℕ
+nextOfKind s rows tables kind first = firstFrom (isKind s rows (kindBy kind)) (tableRows rows (tablesBy tables .records) - first) first
 
 -- where a row's keyword stands in a file of this length; none where there is no row; or 9
 abbrev pub keySpan : ℕ → Option Row → Told (Option Span)

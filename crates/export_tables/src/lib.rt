@@ -20,14 +20,14 @@ pub use needing::hooflift_needs;
 pub use opening::hooflift_open;
 ghost use mathlib.Core.Path.{_≡_};
 ghost use Rattle.lookup.specs.Lookup.{toldSpan};
-ghost use Rattle.plain.specs.Answers.{readCode, readValue};
+ghost use Rattle.plain.specs.Answers.{Puts, readCode};
 use lookup::Spanned;
 
 // Tells where a span stands: 0, or the refusal's number.
 fn put_span(s: Spanned, start: &mut usize, stop: &mut usize) -> u8
     ensures { λ n. ⌜ n ≡ readCode (toldSpan s) ⌝ }
-    ensures { λ _. ⌜ now (start .exit) ≡ readValue (λ x. x .start) (toldSpan s) (now (start .entry)) ⌝ }
-    ensures { λ _. ⌜ now (stop .exit) ≡ readValue (λ x. x .end) (toldSpan s) (now (stop .entry)) ⌝ }
+    ensures { λ _. ⌜ Puts (λ x. x .start) (toldSpan s) start ⌝ }
+    ensures { λ _. ⌜ Puts (λ x. x .end) (toldSpan s) stop ⌝ }
 {
     match s {
         Spanned::Span(r) => {

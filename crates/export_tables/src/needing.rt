@@ -45,8 +45,7 @@ pub extern "C" fn hooflift_needs(
         }
         Needed::Refused(f) => {
             *reason = error::reason(f);
-            *fault = error::place(f);
-            error::number(f)
+            plain::put_fault(f, fault)
         }
     }
 }

@@ -1,5 +1,5 @@
 // A file opened.
-ghost use Rattle.export_tables.specs.Tables.{Host};
+ghost use Rattle.export_tables.specs.Tables.{Hosts};
 use store::Opened;
 
 // Scans a file into lent rows and indexes its ids in the lent slots, one a record: 0, with what goes with the tables in sixteen numbers; or
@@ -14,7 +14,7 @@ pub extern "C" fn hooflift_open(
     reason: &mut u8,
     fault: &mut usize,
 ) -> u8
-    ensures { λ n. ⌜ Host (now (file .entry)) (now (headers .entry)) (now (rows .entry)) (now (slots .entry)) (now (tables .entry)) (now (reason .entry)) (now (fault .entry)) n (now (headers .exit)) (now (rows .exit)) (now (slots .exit)) (now (tables .exit)) (now (reason .exit)) (now (fault .exit)) ⌝ }
+    ensures { λ n. ⌜ Hosts (now (file .entry)) headers rows slots tables reason fault n ⌝ }
 {
     if tables.len() < 16 {
         return 16;
@@ -26,8 +26,7 @@ pub extern "C" fn hooflift_open(
         }
         Opened::Refused(f) => {
             *reason = error::reason(f);
-            *fault = error::place(f);
-            error::number(f)
+            plain::put_fault(f, fault)
         }
     }
 }

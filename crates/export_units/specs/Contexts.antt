@@ -1,4 +1,4 @@
--- The units of a context that a host names by its row.
+-- A file's units for a host in another language, and those of a context that it names by its row.
 -- Assumes nothing.
 -- Definitions to be believed: no law, and nothing computed that no theorem ties (docs/BELIEVE.md).
 use mathlib.Core.List.{List}
@@ -7,11 +7,23 @@ use Prim.Native.Nat.{ℕ}
 use Rattle.error.specs.Refusal.{Told, good}
 use Rattle.statement.specs.Rows.{Row, mapped}
 use Rattle.params.specs.Answer.{onward}
-use Rattle.factors.specs.Thing.{Thing, thingOf}
+use Rattle.table.specs.Table.{tableRows, rowNumbers}
+use Rattle.lookup.specs.Lookup.{rowIn, rowFor}
+use Rattle.factors.specs.Thing.{Thing, thingOf, findOf}
 use Rattle.units.specs.Answer.{Units}
-use Rattle.units.specs.Units.{contextOf}
+use Rattle.units.specs.Units.{contextOf, resolveOf}
+use Rattle.units.specs.Code.{thingsFrom}
+use Rattle.plain.specs.Numbers.{tablesBy}
 
 -- the units of the context in a row, or what refuses them; none where there is no row. `find` gives the record of an id
 abbrev pub unitsIn : List ℕ → (ℕ → Told (Option Thing)) → Option Row → Told (Option Units)
 unitsIn s find none = good none
 unitsIn s find (some w) = mapped some (onward (contextOf s find) (thingOf s w))
+
+-- a file's units, by a host's tables and numbers
+abbrev pub fileUnits : List ℕ → List ℕ → List ℕ → List ℕ → Told Units
+fileUnits s rows slots tables = resolveOf s (findOf s (rowFor rows slots (tablesBy tables .ids))) (thingsFrom s (rowNumbers rows) (tableRows rows (tablesBy tables .records)) 0)
+
+-- the units of the context in row k
+abbrev pub rowUnits : List ℕ → List ℕ → List ℕ → List ℕ → ℕ → Told (Option Units)
+rowUnits s rows slots tables k = unitsIn s (findOf s (rowFor rows slots (tablesBy tables .ids))) (rowIn rows (tablesBy tables .records) k)

@@ -2,12 +2,10 @@
 ghost use mathlib.Core.Path.{_≡_};
 ghost use lib.ListN.{length};
 ghost use Rattle.error.specs.Refusal.{good};
-ghost use Rattle.table.specs.Table.{headerNumbers};
-ghost use Rattle.headers.specs.Header.{headerFound, headerArgs};
 ghost use Rattle.titles.specs.Title.{toldTitle, titleBy, roomBy, fileName};
-ghost use Rattle.plain.specs.Answers.{Tells, readValue, foundCode, foundValue};
-ghost use Rattle.plain.specs.Numbers.{tablesBy};
+ghost use Rattle.plain.specs.Answers.{Tells, Puts, PutsFound, foundCode};
 ghost use Rattle.export_args.specs.Values.{shownRoom, shownStart, shownStop};
+ghost use Rattle.export_units.specs.Records.{headerBy, headerSpan};
 use headers::HeaderFound;
 use lookup::Place;
 use titles::Title;
@@ -21,8 +19,8 @@ pub extern "C" fn hooflift_header_row(
     name: &[u8],
     row: &mut usize,
 ) -> u8
-    ensures { λ n. ⌜ n ≡ foundCode (good (headerFound (now (file .entry)) (now (headers .entry)) (tablesBy (now (tables .entry)) .headers) (now (name .entry)))) ⌝ }
-    ensures { λ _. ⌜ now (row .exit) ≡ foundValue (λ i. i) (good (headerFound (now (file .entry)) (now (headers .entry)) (tablesBy (now (tables .entry)) .headers) (now (name .entry)))) (now (row .entry)) ⌝ }
+    ensures { λ n. ⌜ n ≡ foundCode (good (headerBy (now (file .entry)) (now (headers .entry)) (now (tables .entry)) (now (name .entry)))) ⌝ }
+    ensures { λ _. ⌜ PutsFound (λ i. i) (good (headerBy (now (file .entry)) (now (headers .entry)) (now (tables .entry)) (now (name .entry)))) row ⌝ }
 {
     match headers::header_row(file, headers, plain::tables_of(tables), name) {
         Place::At(i) => {
@@ -43,9 +41,9 @@ pub extern "C" fn hooflift_header_args(
     start: &mut usize,
     stop: &mut usize,
 ) -> u8
-    ensures { λ n. ⌜ n ≡ foundCode (headerArgs (length (now (file .entry))) (headerNumbers (now (headers .entry))) (headerFound (now (file .entry)) (now (headers .entry)) (tablesBy (now (tables .entry)) .headers) (now (name .entry)))) ⌝ }
-    ensures { λ _. ⌜ now (start .exit) ≡ foundValue (λ x. x .start) (headerArgs (length (now (file .entry))) (headerNumbers (now (headers .entry))) (headerFound (now (file .entry)) (now (headers .entry)) (tablesBy (now (tables .entry)) .headers) (now (name .entry)))) (now (start .entry)) ⌝ }
-    ensures { λ _. ⌜ now (stop .exit) ≡ foundValue (λ x. x .end) (headerArgs (length (now (file .entry))) (headerNumbers (now (headers .entry))) (headerFound (now (file .entry)) (now (headers .entry)) (tablesBy (now (tables .entry)) .headers) (now (name .entry)))) (now (stop .entry)) ⌝ }
+    ensures { λ n. ⌜ n ≡ foundCode (headerSpan (now (file .entry)) (now (headers .entry)) (now (tables .entry)) (now (name .entry))) ⌝ }
+    ensures { λ _. ⌜ PutsFound (λ x. x .start) (headerSpan (now (file .entry)) (now (headers .entry)) (now (tables .entry)) (now (name .entry))) start ⌝ }
+    ensures { λ _. ⌜ PutsFound (λ x. x .end) (headerSpan (now (file .entry)) (now (headers .entry)) (now (tables .entry)) (now (name .entry))) stop ⌝ }
 {
     match headers::header_args(file, headers, plain::tables_of(tables), name) {
         HeaderFound::Span(r) => {
@@ -60,10 +58,10 @@ pub extern "C" fn hooflift_header_args(
 
 // Tells where a text stands: 0, or the refusal's number, with its place.
 fn put_title(t: Title, room: &mut u8, start: &mut usize, stop: &mut usize, fault: &mut usize) -> u8
-    ensures { λ n. ⌜ Tells (toldTitle t) (now (fault .entry)) n (now (fault .exit)) ⌝ }
-    ensures { λ _. ⌜ now (room .exit) ≡ readValue shownRoom (toldTitle t) (now (room .entry)) ⌝ }
-    ensures { λ _. ⌜ now (start .exit) ≡ readValue shownStart (toldTitle t) (now (start .entry)) ⌝ }
-    ensures { λ _. ⌜ now (stop .exit) ≡ readValue shownStop (toldTitle t) (now (stop .entry)) ⌝ }
+    ensures { λ n. ⌜ Tells (toldTitle t) n fault ⌝ }
+    ensures { λ _. ⌜ Puts shownRoom (toldTitle t) room ⌝ }
+    ensures { λ _. ⌜ Puts shownStart (toldTitle t) start ⌝ }
+    ensures { λ _. ⌜ Puts shownStop (toldTitle t) stop ⌝ }
 {
     match t {
         Title::InFile(a, z) => {
@@ -78,10 +76,7 @@ fn put_title(t: Title, room: &mut u8, start: &mut usize, stop: &mut usize, fault
             *stop = n;
             0
         }
-        Title::Refused(f) => {
-            *fault = error::place(f);
-            error::number(f)
-        }
+        Title::Refused(f) => plain::put_fault(f, fault),
     }
 }
 
@@ -98,11 +93,11 @@ pub extern "C" fn hooflift_file_name(
     stop: &mut usize,
     fault: &mut usize,
 ) -> u8
-    ensures { λ n. ⌜ Tells (titleBy (now (file .entry)) (length (now (out .entry))) 0 (headerArgs (length (now (file .entry))) (headerNumbers (now (headers .entry))) (headerFound (now (file .entry)) (now (headers .entry)) (tablesBy (now (tables .entry)) .headers) fileName))) (now (fault .entry)) n (now (fault .exit)) ⌝ }
-    ensures { λ _. ⌜ now (out .exit) ≡ roomBy (now (file .entry)) (now (out .entry)) 0 (headerArgs (length (now (file .entry))) (headerNumbers (now (headers .entry))) (headerFound (now (file .entry)) (now (headers .entry)) (tablesBy (now (tables .entry)) .headers) fileName)) ⌝ }
-    ensures { λ _. ⌜ now (room .exit) ≡ readValue shownRoom (titleBy (now (file .entry)) (length (now (out .entry))) 0 (headerArgs (length (now (file .entry))) (headerNumbers (now (headers .entry))) (headerFound (now (file .entry)) (now (headers .entry)) (tablesBy (now (tables .entry)) .headers) fileName))) (now (room .entry)) ⌝ }
-    ensures { λ _. ⌜ now (start .exit) ≡ readValue shownStart (titleBy (now (file .entry)) (length (now (out .entry))) 0 (headerArgs (length (now (file .entry))) (headerNumbers (now (headers .entry))) (headerFound (now (file .entry)) (now (headers .entry)) (tablesBy (now (tables .entry)) .headers) fileName))) (now (start .entry)) ⌝ }
-    ensures { λ _. ⌜ now (stop .exit) ≡ readValue shownStop (titleBy (now (file .entry)) (length (now (out .entry))) 0 (headerArgs (length (now (file .entry))) (headerNumbers (now (headers .entry))) (headerFound (now (file .entry)) (now (headers .entry)) (tablesBy (now (tables .entry)) .headers) fileName))) (now (stop .entry)) ⌝ }
+    ensures { λ n. ⌜ Tells (titleBy (now (file .entry)) (length (now (out .entry))) 0 (headerSpan (now (file .entry)) (now (headers .entry)) (now (tables .entry)) fileName)) n fault ⌝ }
+    ensures { λ _. ⌜ now (out .exit) ≡ roomBy (now (file .entry)) (now (out .entry)) 0 (headerSpan (now (file .entry)) (now (headers .entry)) (now (tables .entry)) fileName) ⌝ }
+    ensures { λ _. ⌜ Puts shownRoom (titleBy (now (file .entry)) (length (now (out .entry))) 0 (headerSpan (now (file .entry)) (now (headers .entry)) (now (tables .entry)) fileName)) room ⌝ }
+    ensures { λ _. ⌜ Puts shownStart (titleBy (now (file .entry)) (length (now (out .entry))) 0 (headerSpan (now (file .entry)) (now (headers .entry)) (now (tables .entry)) fileName)) start ⌝ }
+    ensures { λ _. ⌜ Puts shownStop (titleBy (now (file .entry)) (length (now (out .entry))) 0 (headerSpan (now (file .entry)) (now (headers .entry)) (now (tables .entry)) fileName)) stop ⌝ }
 {
     let t = titles::file_name(file, headers, plain::tables_of(tables), out);
     put_title(t, room, start, stop, fault)
@@ -121,11 +116,11 @@ pub extern "C" fn hooflift_originating_system(
     stop: &mut usize,
     fault: &mut usize,
 ) -> u8
-    ensures { λ n. ⌜ Tells (titleBy (now (file .entry)) (length (now (out .entry))) 5 (headerArgs (length (now (file .entry))) (headerNumbers (now (headers .entry))) (headerFound (now (file .entry)) (now (headers .entry)) (tablesBy (now (tables .entry)) .headers) fileName))) (now (fault .entry)) n (now (fault .exit)) ⌝ }
-    ensures { λ _. ⌜ now (out .exit) ≡ roomBy (now (file .entry)) (now (out .entry)) 5 (headerArgs (length (now (file .entry))) (headerNumbers (now (headers .entry))) (headerFound (now (file .entry)) (now (headers .entry)) (tablesBy (now (tables .entry)) .headers) fileName)) ⌝ }
-    ensures { λ _. ⌜ now (room .exit) ≡ readValue shownRoom (titleBy (now (file .entry)) (length (now (out .entry))) 5 (headerArgs (length (now (file .entry))) (headerNumbers (now (headers .entry))) (headerFound (now (file .entry)) (now (headers .entry)) (tablesBy (now (tables .entry)) .headers) fileName))) (now (room .entry)) ⌝ }
-    ensures { λ _. ⌜ now (start .exit) ≡ readValue shownStart (titleBy (now (file .entry)) (length (now (out .entry))) 5 (headerArgs (length (now (file .entry))) (headerNumbers (now (headers .entry))) (headerFound (now (file .entry)) (now (headers .entry)) (tablesBy (now (tables .entry)) .headers) fileName))) (now (start .entry)) ⌝ }
-    ensures { λ _. ⌜ now (stop .exit) ≡ readValue shownStop (titleBy (now (file .entry)) (length (now (out .entry))) 5 (headerArgs (length (now (file .entry))) (headerNumbers (now (headers .entry))) (headerFound (now (file .entry)) (now (headers .entry)) (tablesBy (now (tables .entry)) .headers) fileName))) (now (stop .entry)) ⌝ }
+    ensures { λ n. ⌜ Tells (titleBy (now (file .entry)) (length (now (out .entry))) 5 (headerSpan (now (file .entry)) (now (headers .entry)) (now (tables .entry)) fileName)) n fault ⌝ }
+    ensures { λ _. ⌜ now (out .exit) ≡ roomBy (now (file .entry)) (now (out .entry)) 5 (headerSpan (now (file .entry)) (now (headers .entry)) (now (tables .entry)) fileName) ⌝ }
+    ensures { λ _. ⌜ Puts shownRoom (titleBy (now (file .entry)) (length (now (out .entry))) 5 (headerSpan (now (file .entry)) (now (headers .entry)) (now (tables .entry)) fileName)) room ⌝ }
+    ensures { λ _. ⌜ Puts shownStart (titleBy (now (file .entry)) (length (now (out .entry))) 5 (headerSpan (now (file .entry)) (now (headers .entry)) (now (tables .entry)) fileName)) start ⌝ }
+    ensures { λ _. ⌜ Puts shownStop (titleBy (now (file .entry)) (length (now (out .entry))) 5 (headerSpan (now (file .entry)) (now (headers .entry)) (now (tables .entry)) fileName)) stop ⌝ }
 {
     let t = titles::originating_system(file, headers, plain::tables_of(tables), out);
     put_title(t, room, start, stop, fault)

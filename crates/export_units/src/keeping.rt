@@ -1,9 +1,10 @@
 // Rows kept beside a file.
 ghost use mathlib.Core.Path.{_≡_};
 ghost use lib.ListN.{length};
-ghost use Rattle.kept.specs.Kept.{keepOf, keptAfter, readOf, readAfter};
-ghost use Rattle.plain.specs.Answers.{readCode, readValue};
-ghost use Rattle.table.specs.Table.{rowsFit, tableRows, rowNumbers};
+ghost use Rattle.kept.specs.Kept.{keptAfter, readOf, readAfter};
+ghost use Rattle.plain.specs.Answers.{Puts, readCode};
+ghost use Rattle.table.specs.Table.{rowsFit, rowNumbers};
+ghost use Rattle.export_units.specs.Records.{keepBy};
 use kept::Kept;
 
 // Writes the first `count` rows of a file of `len` bytes, 24 bytes a row: 0, with how many in `kept`; or 9 or 16.
@@ -15,9 +16,9 @@ pub extern "C" fn hooflift_keep_rows(
     out: &mut [u8],
     kept: &mut usize,
 ) -> u8
-    ensures { λ n. ⌜ n ≡ readCode (keepOf len (rowNumbers (now (rows .entry))) (tableRows (now (rows .entry)) count) (length (now (out .entry)))) ⌝ }
-    ensures { λ _. ⌜ now (out .exit) ≡ keptAfter (rowNumbers (now (rows .entry))) (keepOf len (rowNumbers (now (rows .entry))) (tableRows (now (rows .entry)) count) (length (now (out .entry)))) (now (out .entry)) ⌝ }
-    ensures { λ _. ⌜ now (kept .exit) ≡ readValue (λ n. n) (keepOf len (rowNumbers (now (rows .entry))) (tableRows (now (rows .entry)) count) (length (now (out .entry)))) (now (kept .entry)) ⌝ }
+    ensures { λ n. ⌜ n ≡ readCode (keepBy len (now (rows .entry)) count (length (now (out .entry)))) ⌝ }
+    ensures { λ _. ⌜ now (out .exit) ≡ keptAfter (rowNumbers (now (rows .entry))) (keepBy len (now (rows .entry)) count (length (now (out .entry)))) (now (out .entry)) ⌝ }
+    ensures { λ _. ⌜ Puts (λ n. n) (keepBy len (now (rows .entry)) count (length (now (out .entry)))) kept ⌝ }
 {
     match kept::keep_rows(len, rows, count, out) {
         Kept::Rows(n) => {
@@ -38,7 +39,7 @@ pub extern "C" fn hooflift_read_rows(
 ) -> u8
     ensures { λ n. ⌜ n ≡ readCode (readOf len (now (bytes .entry)) (rowsFit (length (now (rows .entry))))) ⌝ }
     ensures { λ _. ⌜ now (rows .exit) ≡ readAfter (now (bytes .entry)) (readOf len (now (bytes .entry)) (rowsFit (length (now (rows .entry))))) (now (rows .entry)) ⌝ }
-    ensures { λ _. ⌜ now (count .exit) ≡ readValue (λ n. n) (readOf len (now (bytes .entry)) (rowsFit (length (now (rows .entry))))) (now (count .entry)) ⌝ }
+    ensures { λ _. ⌜ Puts (λ n. n) (readOf len (now (bytes .entry)) (rowsFit (length (now (rows .entry))))) count ⌝ }
 {
     match kept::read_rows(len, bytes, rows) {
         Kept::Rows(n) => {

@@ -12,16 +12,9 @@ pub use keeping::hooflift_read_rows;
 pub use pieces::hooflift_complex_part;
 pub use pieces::hooflift_next_part;
 ghost use mathlib.Core.Path.{_≡_};
-ghost use lib.Ieee.{binary64, toBits};
-ghost use Rattle.table.specs.Table.{tableRows, rowNumbers};
-ghost use Rattle.lookup.specs.Lookup.{rowIn, rowFor};
-ghost use Rattle.factors.specs.Thing.{findOf};
-ghost use Rattle.units.specs.Units.{resolveOf};
 ghost use Rattle.units.specs.Answer.{toldUnits};
-ghost use Rattle.units.specs.Code.{thingsFrom};
-ghost use Rattle.plain.specs.Answers.{Tells, readFault, readValue, foundCode, foundValue, truthNumber};
-ghost use Rattle.plain.specs.Numbers.{tablesBy};
-ghost use Rattle.export_units.specs.Contexts.{unitsIn};
+ghost use Rattle.plain.specs.Answers.{Tells, Puts, PutsReal, PutsFound, PutsFoundReal, readFault, foundCode, truthNumber};
+ghost use Rattle.export_units.specs.Contexts.{fileUnits, rowUnits};
 use lookup::Entry;
 use units::Resolved;
 
@@ -34,11 +27,11 @@ fn put_units(
     resolved: &mut u8,
     fault: &mut usize,
 ) -> u8
-    ensures { λ n. ⌜ Tells (toldUnits r) (now (fault .entry)) n (now (fault .exit)) ⌝ }
-    ensures { λ _. ⌜ toBits binary64 (now (mm .exit)) ≡ readValue (λ u. u .length) (toldUnits r) (toBits binary64 (now (mm .entry))) ⌝ }
-    ensures { λ _. ⌜ toBits binary64 (now (rad .exit)) ≡ readValue (λ u. u .angle) (toldUnits r) (toBits binary64 (now (rad .entry))) ⌝ }
-    ensures { λ _. ⌜ toBits binary64 (now (tolerance .exit)) ≡ readValue (λ u. u .tolerance) (toldUnits r) (toBits binary64 (now (tolerance .entry))) ⌝ }
-    ensures { λ _. ⌜ now (resolved .exit) ≡ readValue (λ u. truthNumber (u .resolved)) (toldUnits r) (now (resolved .entry)) ⌝ }
+    ensures { λ n. ⌜ Tells (toldUnits r) n fault ⌝ }
+    ensures { λ _. ⌜ PutsReal (λ u. u .length) (toldUnits r) mm ⌝ }
+    ensures { λ _. ⌜ PutsReal (λ u. u .angle) (toldUnits r) rad ⌝ }
+    ensures { λ _. ⌜ PutsReal (λ u. u .tolerance) (toldUnits r) tolerance ⌝ }
+    ensures { λ _. ⌜ Puts (λ u. truthNumber (u .resolved)) (toldUnits r) resolved ⌝ }
 {
     match r {
         Resolved::Is(v) => {
@@ -48,10 +41,7 @@ fn put_units(
             *resolved = plain::number_of(v.resolved);
             0
         }
-        Resolved::Refused(f) => {
-            *fault = error::place(f);
-            error::number(f)
-        }
+        Resolved::Refused(f) => plain::put_fault(f, fault),
     }
 }
 
@@ -68,11 +58,11 @@ pub extern "C" fn hooflift_units(
     resolved: &mut u8,
     fault: &mut usize,
 ) -> u8
-    ensures { λ n. ⌜ Tells (resolveOf (now (file .entry)) (findOf (now (file .entry)) (rowFor (now (rows .entry)) (now (slots .entry)) ((tablesBy (now (tables .entry))) .ids))) (thingsFrom (now (file .entry)) (rowNumbers (now (rows .entry))) (tableRows (now (rows .entry)) ((tablesBy (now (tables .entry))) .records)) 0)) (now (fault .entry)) n (now (fault .exit)) ⌝ }
-    ensures { λ _. ⌜ toBits binary64 (now (mm .exit)) ≡ readValue (λ u. u .length) (resolveOf (now (file .entry)) (findOf (now (file .entry)) (rowFor (now (rows .entry)) (now (slots .entry)) ((tablesBy (now (tables .entry))) .ids))) (thingsFrom (now (file .entry)) (rowNumbers (now (rows .entry))) (tableRows (now (rows .entry)) ((tablesBy (now (tables .entry))) .records)) 0)) (toBits binary64 (now (mm .entry))) ⌝ }
-    ensures { λ _. ⌜ toBits binary64 (now (rad .exit)) ≡ readValue (λ u. u .angle) (resolveOf (now (file .entry)) (findOf (now (file .entry)) (rowFor (now (rows .entry)) (now (slots .entry)) ((tablesBy (now (tables .entry))) .ids))) (thingsFrom (now (file .entry)) (rowNumbers (now (rows .entry))) (tableRows (now (rows .entry)) ((tablesBy (now (tables .entry))) .records)) 0)) (toBits binary64 (now (rad .entry))) ⌝ }
-    ensures { λ _. ⌜ toBits binary64 (now (tolerance .exit)) ≡ readValue (λ u. u .tolerance) (resolveOf (now (file .entry)) (findOf (now (file .entry)) (rowFor (now (rows .entry)) (now (slots .entry)) ((tablesBy (now (tables .entry))) .ids))) (thingsFrom (now (file .entry)) (rowNumbers (now (rows .entry))) (tableRows (now (rows .entry)) ((tablesBy (now (tables .entry))) .records)) 0)) (toBits binary64 (now (tolerance .entry))) ⌝ }
-    ensures { λ _. ⌜ now (resolved .exit) ≡ readValue (λ u. truthNumber (u .resolved)) (resolveOf (now (file .entry)) (findOf (now (file .entry)) (rowFor (now (rows .entry)) (now (slots .entry)) ((tablesBy (now (tables .entry))) .ids))) (thingsFrom (now (file .entry)) (rowNumbers (now (rows .entry))) (tableRows (now (rows .entry)) ((tablesBy (now (tables .entry))) .records)) 0)) (now (resolved .entry)) ⌝ }
+    ensures { λ n. ⌜ Tells (fileUnits (now (file .entry)) (now (rows .entry)) (now (slots .entry)) (now (tables .entry))) n fault ⌝ }
+    ensures { λ _. ⌜ PutsReal (λ u. u .length) (fileUnits (now (file .entry)) (now (rows .entry)) (now (slots .entry)) (now (tables .entry))) mm ⌝ }
+    ensures { λ _. ⌜ PutsReal (λ u. u .angle) (fileUnits (now (file .entry)) (now (rows .entry)) (now (slots .entry)) (now (tables .entry))) rad ⌝ }
+    ensures { λ _. ⌜ PutsReal (λ u. u .tolerance) (fileUnits (now (file .entry)) (now (rows .entry)) (now (slots .entry)) (now (tables .entry))) tolerance ⌝ }
+    ensures { λ _. ⌜ Puts (λ u. truthNumber (u .resolved)) (fileUnits (now (file .entry)) (now (rows .entry)) (now (slots .entry)) (now (tables .entry))) resolved ⌝ }
 {
     let r = units::resolve(file, rows, slots, plain::tables_of(tables));
     put_units(r, mm, rad, tolerance, resolved, fault)
@@ -92,12 +82,12 @@ pub extern "C" fn hooflift_units_of_context(
     resolved: &mut u8,
     fault: &mut usize,
 ) -> u8
-    ensures { λ n. ⌜ n ≡ foundCode (unitsIn (now (file .entry)) (findOf (now (file .entry)) (rowFor (now (rows .entry)) (now (slots .entry)) ((tablesBy (now (tables .entry))) .ids))) (rowIn (now (rows .entry)) ((tablesBy (now (tables .entry))) .records) k)) ⌝ }
-    ensures { λ _. ⌜ now (fault .exit) ≡ readFault (unitsIn (now (file .entry)) (findOf (now (file .entry)) (rowFor (now (rows .entry)) (now (slots .entry)) ((tablesBy (now (tables .entry))) .ids))) (rowIn (now (rows .entry)) ((tablesBy (now (tables .entry))) .records) k)) (now (fault .entry)) ⌝ }
-    ensures { λ _. ⌜ toBits binary64 (now (mm .exit)) ≡ foundValue (λ u. u .length) (unitsIn (now (file .entry)) (findOf (now (file .entry)) (rowFor (now (rows .entry)) (now (slots .entry)) ((tablesBy (now (tables .entry))) .ids))) (rowIn (now (rows .entry)) ((tablesBy (now (tables .entry))) .records) k)) (toBits binary64 (now (mm .entry))) ⌝ }
-    ensures { λ _. ⌜ toBits binary64 (now (rad .exit)) ≡ foundValue (λ u. u .angle) (unitsIn (now (file .entry)) (findOf (now (file .entry)) (rowFor (now (rows .entry)) (now (slots .entry)) ((tablesBy (now (tables .entry))) .ids))) (rowIn (now (rows .entry)) ((tablesBy (now (tables .entry))) .records) k)) (toBits binary64 (now (rad .entry))) ⌝ }
-    ensures { λ _. ⌜ toBits binary64 (now (tolerance .exit)) ≡ foundValue (λ u. u .tolerance) (unitsIn (now (file .entry)) (findOf (now (file .entry)) (rowFor (now (rows .entry)) (now (slots .entry)) ((tablesBy (now (tables .entry))) .ids))) (rowIn (now (rows .entry)) ((tablesBy (now (tables .entry))) .records) k)) (toBits binary64 (now (tolerance .entry))) ⌝ }
-    ensures { λ _. ⌜ now (resolved .exit) ≡ foundValue (λ u. truthNumber (u .resolved)) (unitsIn (now (file .entry)) (findOf (now (file .entry)) (rowFor (now (rows .entry)) (now (slots .entry)) ((tablesBy (now (tables .entry))) .ids))) (rowIn (now (rows .entry)) ((tablesBy (now (tables .entry))) .records) k)) (now (resolved .entry)) ⌝ }
+    ensures { λ n. ⌜ n ≡ foundCode (rowUnits (now (file .entry)) (now (rows .entry)) (now (slots .entry)) (now (tables .entry)) k) ⌝ }
+    ensures { λ _. ⌜ now (fault .exit) ≡ readFault (rowUnits (now (file .entry)) (now (rows .entry)) (now (slots .entry)) (now (tables .entry)) k) (now (fault .entry)) ⌝ }
+    ensures { λ _. ⌜ PutsFoundReal (λ u. u .length) (rowUnits (now (file .entry)) (now (rows .entry)) (now (slots .entry)) (now (tables .entry)) k) mm ⌝ }
+    ensures { λ _. ⌜ PutsFoundReal (λ u. u .angle) (rowUnits (now (file .entry)) (now (rows .entry)) (now (slots .entry)) (now (tables .entry)) k) rad ⌝ }
+    ensures { λ _. ⌜ PutsFoundReal (λ u. u .tolerance) (rowUnits (now (file .entry)) (now (rows .entry)) (now (slots .entry)) (now (tables .entry)) k) tolerance ⌝ }
+    ensures { λ _. ⌜ PutsFound (λ u. truthNumber (u .resolved)) (rowUnits (now (file .entry)) (now (rows .entry)) (now (slots .entry)) (now (tables .entry)) k) resolved ⌝ }
 {
     let t = plain::tables_of(tables);
     match lookup::entity(rows, t, k) {

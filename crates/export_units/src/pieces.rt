@@ -17,10 +17,7 @@ fn put_next(r: Next, part: &mut [u64], fault: &mut usize) -> u8
     match r {
         Next::Is(p) => plain::put_part(part, p),
         Next::Over => 255,
-        Next::Refused(f) => {
-            *fault = error::place(f);
-            error::number(f)
-        }
+        Next::Refused(f) => plain::put_fault(f, fault),
     }
 }
 

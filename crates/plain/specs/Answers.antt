@@ -1,12 +1,22 @@
 -- Answers as plain numbers, for a host in another language: one number is the answer, and what goes with it stands in lent numbers.
+-- Answers as plain numbers, for a host in another language: one number is the answer, and what goes with it stands in lent numbers.
 -- Assumes nothing.
 -- Definitions to be believed: no law, and nothing computed that no theorem ties (docs/BELIEVE.md).
 use Prim.Native.Nat.{ℕ}
 use mathlib.Core.Path.{_≡_}
 use mathlib.Core.Bool.{Bool, true, false}
 use mathlib.Core.Option.{Option, none, some}
+use mathlib.Core.List.{List, map}
+use lib.Ieee.{Float, binary64, toBits}
+use denote.Ref.{RefT, now}
+use denote.Triple.Both.{Both}
 use Rattle.error.specs.Refusal.{Told, good, bad}
 use Rattle.params.specs.Answer.{Read}
+use Rattle.lists.specs.Answer.{written}
+
+-- what a host lends, when a function is called and when it answers
+abbrev pub Lent : Type 0 → Type 0
+Lent A = Both (RefT A) (RefT A)
 
 -- an answer as a number: 0, or the number of the refusal
 abbrev pub readCode : {A : Type 0} → Told A → ℕ
@@ -23,13 +33,29 @@ abbrev pub readValue : {A B : Type 0} → (A → B) → Told A → B → B
 readValue f (good a) old = f a
 readValue f (bad q) old = old
 
--- what a function answers and leaves in `fault`, told r, where `before` stood there
-abbrev pub Tells : {A : Type 0} → Told A → ℕ → ℕ → ℕ → Type 0
-Tells r before n fault = (n ≡ readCode r) × (fault ≡ readFault r before)
+-- what a function answers, told r, and what it then leaves in `fault`
+abbrev pub Tells : {A : Type 0} → Told A → ℕ → Lent ℕ → Type 0
+Tells r n fault = (n ≡ readCode r) × (now (fault .exit) ≡ readFault r (now (fault .entry)))
 
--- what a reader answers and leaves in `fault` and as its place, told r, where `before` stood in `fault`
-abbrev pub Leaves : {A : Type 0} → Read A → ℕ → ℕ → ℕ → ℕ → Type 0
-Leaves r before n place fault = Tells (r .answer) before n fault × (place ≡ r .place)
+-- the same of a reader, which also leaves its place
+abbrev pub Leaves : {A : Type 0} → Read A → ℕ → Lent ℕ → Lent ℕ → Type 0
+Leaves r n place fault = Tells (r .answer) n fault × (now (place .exit) ≡ r .place)
+
+-- what a lent value then is: what f makes of the answer, or what it was
+abbrev pub Puts : {A B : Type 0} → (A → B) → Told A → Lent B → Type 0
+Puts f r v = now (v .exit) ≡ readValue f r (now (v .entry))
+
+-- the same of a float, which is told by its bits
+abbrev pub PutsReal : {A : Type 0} → (A → ℕ) → Told A → Lent Float → Type 0
+PutsReal f r v = toBits binary64 (now (v .exit)) ≡ readValue f r (toBits binary64 (now (v .entry)))
+
+-- what a lent list then is: the answer's numbers at its start, or what it was
+abbrev pub PutsList : {A : Type 0} → Told (List A) → Lent (List A) → Type 0
+PutsList r out = now (out .exit) ≡ written r (now (out .entry))
+
+-- the same of floats
+abbrev pub PutsReals : Told (List ℕ) → Lent (List Float) → Type 0
+PutsReals r out = map (toBits binary64) (now (out .exit)) ≡ written r (map (toBits binary64) (now (out .entry)))
 
 -- an answer that may be none as a number: 255 where there is none; 0, or the number of the refusal
 abbrev pub foundCode : {A : Type 0} → Told (Option A) → ℕ
@@ -42,6 +68,14 @@ abbrev pub foundValue : {A B : Type 0} → (A → B) → Told (Option A) → B �
 foundValue f (good none) old = old
 foundValue f (good (some a)) old = f a
 foundValue f (bad q) old = old
+
+-- what a lent value then is: what f makes of what is found, or what it was
+abbrev pub PutsFound : {A B : Type 0} → (A → B) → Told (Option A) → Lent B → Type 0
+PutsFound f r v = now (v .exit) ≡ foundValue f r (now (v .entry))
+
+-- the same of a float, which is told by its bits
+abbrev pub PutsFoundReal : {A : Type 0} → (A → ℕ) → Told (Option A) → Lent Float → Type 0
+PutsFoundReal f r v = toBits binary64 (now (v .exit)) ≡ foundValue f r (toBits binary64 (now (v .entry)))
 
 -- a truth as a number: 1 or 0
 abbrev pub truthNumber : Bool → ℕ

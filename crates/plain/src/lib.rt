@@ -2,6 +2,12 @@
 //
 // A host keeps sixteen numbers beside its lent tables: the first eight belong to the id slots, the next to the tables, and not all of
 // either are used, so that a later one finds room.
+mod telling;
+
+pub use telling::put_fault;
+pub use telling::put_list;
+pub use telling::put_refusal;
+pub use telling::put_skipped;
 ghost use mathlib.Core.Path.{_≡_};
 ghost use Prim.Native.Nat.{_%_};
 ghost use lib.ListN.{length, getD};

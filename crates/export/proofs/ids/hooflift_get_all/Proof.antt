@@ -1,24 +1,15 @@
-use denote.Ref.{now}
-use mathlib.Core.Path.{_≡_, refl, sym, _∙_}
-use mathlib.Core.Bool.{true, false}
-use lib.Dec.{leb}
-use lib.ListN.{length}
-use Rattle.export.specs.IdsLaws.{told-by}
+use mathlib.Core.Path.{refl}
 use borrow.Author.Needs.{needs}
 use Rattle.export.proofs.ids.hooflift_get_all.Statement.{statement}
 use Rattle.export.proofs.ids.hooflift_get_all.Tie as tie
 
 returns : tie.Need-returns
-returns c = let a = c .before .before .before .before .before .before .before .before .before .before .before .args in
-    let g = c .before .before .before .get-all in
-    let q : leb (length (now (a .ids))) (length (now (a .found))) ≡ true = sym (g .ensures .0) ∙ c .if1 .taken in
-    (rw q refl, told-by (now (a .rows)) (now (a .slots)) _ _ _ _ _ (c .before .before .before .before .before .ids-of .ensures) (g .ensures .1))
+returns c = let g = c .before .before .before .get-all .ensures in
+    (rw (← g .0, c .if1 .taken) refl, rw (c .before .before .before .before .before .ids-of .ensures) at (g .1))
 
 returns-2 : tie.Need-returns-2
-returns-2 c = let a = c .before .before .before .before .before .before .before .before .before .before .before .args in
-    let g = c .before .before .before .get-all in
-    let q : leb (length (now (a .ids))) (length (now (a .found))) ≡ false = sym (g .ensures .0) ∙ c .if1 .left in
-    (rw q refl, told-by (now (a .rows)) (now (a .slots)) _ _ _ _ _ (c .before .before .before .before .before .ids-of .ensures) (g .ensures .1))
+returns-2 c = let g = c .before .before .before .get-all .ensures in
+    (rw (← g .0, c .if1 .left) refl, rw (c .before .before .before .before .before .ids-of .ensures) at (g .1))
 
 pub hooflift-get-all-spec : {M : Type 1} → statement M
 hooflift-get-all-spec =

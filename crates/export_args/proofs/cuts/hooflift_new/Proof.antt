@@ -1,25 +1,13 @@
 use borrow.Author.Needs.{needs}
-use mathlib.Core.Path.{_∙_, sym, ap}
-use Rattle.params.specs.Answer.{toldOpened}
-use Rattle.error.specs.Refusal.{Told}
-use Rattle.params.specs.declared.State.{State}
-use Rattle.plain.specs.Answers.{readCode}
+use mathlib.Core.Path.{refl}
 use Rattle.export_args.proofs.cuts.hooflift_new.Statement.{statement}
 use Rattle.export_args.proofs.cuts.hooflift_new.Tie as tie
 
 returns : tie.Need-returns
-returns c =
-    let k = c .before .before in
-    let a = k .before .before .args in
-    let e = ap toldOpened (sym (c .enum-told .given .1)) ∙ k .new .ensures in
-    ap (λ (r : Told State). readCode r) e
+returns c = rw (← c .before .before .new .ensures, c .enum-told .given .1) refl
 
 returns-2 : tie.Need-returns-2
-returns-2 c =
-    let k = c .before .before .before .before in
-    let a = k .before .before .args in
-    let e = ap toldOpened (sym (c .before .before .f .given .1)) ∙ k .new .ensures in
-    c .number .ensures ∙ ap (λ (r : Told State). readCode r) e
+returns-2 c = rw (← c .before .before .before .before .new .ensures, c .before .before .f .given .1) (c .number .ensures)
 
 pub hooflift-new-spec : {M : Type 1} → statement M
 hooflift-new-spec =

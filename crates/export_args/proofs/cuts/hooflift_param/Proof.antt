@@ -1,28 +1,16 @@
 use borrow.Author.Needs.{needs}
-use denote.Ref.{now}
-use mathlib.Core.Path.{_∙_, sym, ap}
-use Rattle.params.specs.Answer.{toldCut, Read, Span}
-use Rattle.plain.specs.Answers.{readValue}
-use Rattle.plain.specs.AnswersLaws.{leaves-good, leaves-bad}
+use mathlib.Core.Path.{refl}
 use Rattle.export_args.proofs.cuts.hooflift_param.Statement.{statement}
 use Rattle.export_args.proofs.cuts.hooflift_param.Tie as tie
 
 returns : tie.Need-returns
-returns c =
-    let k = c .before .before .before in
-    let a = k .before .before .before .args in
-    let e = ap toldCut (sym (c .before .a .given .1)) ∙ k .param-span .ensures .0 in
-    (leaves-good e, (ap (λ (r : Read Span). readValue (λ (x : Span). x .start) (r .answer) (now (a .start))) e, ap (λ (r : Read Span). readValue (λ (x : Span). x .stop) (r .answer) (now (a .stop))) e))
+returns c = rw (← c .before .before .before .param-span .ensures .0, c .before .a .given .1) (((refl, refl), refl), (refl, refl))
 
 returns-2 : tie.Need-returns-2
-returns-2 c =
-    let k = c .before .before .before .before .before in
-    let a = k .before .before .before .args in
-    let e = ap toldCut (sym (c .before .before .before .f .given .1)) ∙ k .param-span .ensures .0 in
-    (leaves-bad (now (a .fault)) e (c .number .ensures) (c .before .place .ensures), (ap (λ (r : Read Span). readValue (λ (x : Span). x .start) (r .answer) (now (a .start))) e, ap (λ (r : Read Span). readValue (λ (x : Span). x .stop) (r .answer) (now (a .stop))) e))
+returns-2 c = rw (← c .before .before .before .before .before .before .param-span .ensures .0, c .before .before .before .before .f .given .1) (c .put-refusal .ensures, (refl, refl))
 
 pub hooflift-param-spec : {M : Type 1} → statement M
 hooflift-param-spec =
     tie.close
     (tie.spec
-    (λ c κs. search needs) (λ c. search needs) (λ c. search needs) (λ c κs. search needs) (λ c κs. search needs) returns returns-2)
+    (λ c κs. search needs) (λ c. search needs) (λ c. search needs) (λ c κs. search needs) returns returns-2)

@@ -1,39 +1,19 @@
 use borrow.Author.Needs.{needs}
-use denote.Ref.{now}
-use mathlib.Core.Path.{_∙_, sym, ap}
-use Rattle.scalars.specs.Answer.{toldNextOptRef, Given}
-use Prim.Native.Nat.{ℕ}
-use Rattle.params.specs.Answer.{Read}
-use Rattle.plain.specs.Answers.{readValue}
-use Rattle.plain.specs.AnswersLaws.{leaves-good, leaves-bad}
-use Rattle.export_args.specs.Values.{givenValue, givenSet}
+use mathlib.Core.Path.{refl}
 use Rattle.export_args.proofs.values.hooflift_opt_ref.Statement.{statement}
 use Rattle.export_args.proofs.values.hooflift_opt_ref.Tie as tie
 
 returns : tie.Need-returns
-returns c =
-    let k = c .before .before .before in
-    let a = k .before .before .before .args in
-    let e = ap toldNextOptRef (sym (c .before .x .given .1)) ∙ k .next-opt-ref .ensures in
-    (leaves-good e, (ap (λ (r : Read (Given ℕ)). givenValue (r .answer) (now (a .value))) e, ap (λ (r : Read (Given ℕ)). readValue givenSet (r .answer) (now (a .set))) e))
+returns c = rw (← c .before .before .before .next-opt-ref .ensures, c .before .x .given .1) (((refl, refl), refl), (refl, refl))
 
 returns-2 : tie.Need-returns-2
-returns-2 c =
-    let k = c .before .before .before in
-    let a = k .before .before .before .args in
-    let e = ap toldNextOptRef (sym (c .before .to .given .1)) ∙ k .next-opt-ref .ensures in
-    (leaves-good e, (ap (λ (r : Read (Given ℕ)). givenValue (r .answer) (now (a .value))) e, ap (λ (r : Read (Given ℕ)). readValue givenSet (r .answer) (now (a .set))) e))
+returns-2 c = rw (← c .before .before .before .next-opt-ref .ensures, c .before .to .given .1) (((refl, refl), refl), (refl, refl))
 
 returns-3 : tie.Need-returns-3
-returns-3 c =
-    let k = c .before .before .before .before .before in
-    let a = k .before .before .before .args in
-    let e = ap toldNextOptRef (sym (c .before .before .before .f .given .1)) ∙ k .next-opt-ref .ensures in
-    (leaves-bad (now (a .fault)) e (c .number .ensures) (c .before .place .ensures), (ap (λ (r : Read (Given ℕ)). givenValue (r .answer) (now (a .value))) e, ap (λ (r : Read (Given ℕ)). readValue givenSet (r .answer) (now (a .set))) e))
+returns-3 c = rw (← c .before .before .before .before .before .before .next-opt-ref .ensures, c .before .before .before .before .f .given .1) (c .put-refusal .ensures, (refl, refl))
 
 pub hooflift-opt-ref-spec : {M : Type 1} → statement M
 hooflift-opt-ref-spec =
     tie.close
     (tie.spec
-    (λ c κs. search needs) (λ c. search needs) (λ c. search needs) (λ c. search needs) (λ c κs. search needs) (λ c κs. search needs) returns
-    returns-2 returns-3)
+    (λ c κs. search needs) (λ c. search needs) (λ c. search needs) (λ c. search needs) (λ c κs. search needs) returns returns-2 returns-3)

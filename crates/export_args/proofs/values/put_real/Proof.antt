@@ -1,31 +1,15 @@
 use borrow.Author.Needs.{needs}
-use denote.Ref.{now}
-use mathlib.Core.Path.{_∙_, sym, ap}
-use Rattle.scalars.specs.Answer.{toldNextReal}
-use Prim.Native.Nat.{ℕ}
-use lib.Ieee.{binary64, toBits}
-use Rattle.params.specs.Answer.{Read}
-use Rattle.plain.specs.Answers.{readValue}
-use Rattle.plain.specs.AnswersLaws.{leaves-good, leaves-bad}
+use mathlib.Core.Path.{refl}
 use Rattle.export_args.proofs.values.put_real.Statement.{statement}
 use Rattle.export_args.proofs.values.put_real.Tie as tie
 
 returns : tie.Need-returns
-returns c =
-    let k = c .before .before .before in
-    let a = k .before .before .before .args in
-    let e = ap toldNextReal (sym (c .before .x .given .1)) ∙ k .next-real .ensures in
-    (leaves-good e, ap (λ (r : Read ℕ). readValue (λ (x : ℕ). x) (r .answer) (toBits binary64 (now (a .value)))) e)
+returns c = rw (c .before .r .given .1) (((refl, refl), refl), refl)
 
 returns-2 : tie.Need-returns-2
-returns-2 c =
-    let k = c .before .before .before .before .before in
-    let a = k .before .before .before .args in
-    let e = ap toldNextReal (sym (c .before .before .before .f .given .1)) ∙ k .next-real .ensures in
-    (leaves-bad (now (a .fault)) e (c .number .ensures) (c .before .place .ensures), ap (λ (r : Read ℕ). readValue (λ (x : ℕ). x) (r .answer) (toBits binary64 (now (a .value)))) e)
+returns-2 c = rw (c .before .before .before .before .r2 .given .1) (c .put-refusal .ensures, refl)
 
 pub put-real-spec : {M : Type 1} → statement M
 put-real-spec =
-    tie.close
-    (tie.spec
-    (λ c κs. search needs) (λ c. search needs) (λ c. search needs) (λ c κs. search needs) (λ c κs. search needs) returns returns-2)
+    tie.close (tie.spec
+    (λ c. search needs) (λ c. search needs) (λ c κs. search needs) returns returns-2)

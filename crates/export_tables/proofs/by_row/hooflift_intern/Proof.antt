@@ -1,11 +1,9 @@
-use mathlib.Core.Path.{_∙_, ap}
-use Rattle.kinds.specs.Rules.{rankOf}
 use borrow.Author.Needs.{needs}
 use Rattle.export_tables.proofs.by_row.hooflift_intern.Statement.{statement}
 use Rattle.export_tables.proofs.by_row.hooflift_intern.Tie as tie
 
 returns : tie.Need-returns
-returns c = c .kind-number .ensures ∙ ap rankOf (c .before .intern .ensures)
+returns c = rw (c .before .intern .ensures) at (c .kind-number .ensures)
 
 pub hooflift-intern-spec : {M : Type 1} → statement M
 hooflift-intern-spec = tie.close (tie.spec

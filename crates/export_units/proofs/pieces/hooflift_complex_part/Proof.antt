@@ -1,23 +1,9 @@
-use denote.Ref.{now}
-use mathlib.Core.Path.{_∙_, ap}
-use lib.ListN.{length}
-use mathlib.Core.Option.{Option}
-use Rattle.error.specs.Refusal.{Told}
-use Rattle.table.specs.Table.{headerWidth, four}
-use Rattle.statement.specs.Rows.{HeaderRow}
-use Rattle.plain.specs.Answers.{readFault}
-use Rattle.plain.specs.Numbers.{outCode, outAfter}
-use Rattle.kinds.specs.declared.Kind.{Kind}
-use Rattle.parts.specs.Part.{partOf}
 use borrow.Author.Needs.{needs}
 use Rattle.export_units.proofs.pieces.hooflift_complex_part.Statement.{statement}
 use Rattle.export_units.proofs.pieces.hooflift_complex_part.Tie as tie
 
 returns : tie.Need-returns
-returns c =
-    let a = c .before .before .before .before .before .before .before .before .before .args in
-    let e = c .before .before .before .before .before .complex-part .ensures ∙ ap (λ (q : Kind). partOf (now (a .file)) (a .start) (a .end) (a .complex) q) (c .before .before .before .before .before .before .kind-by .ensures) in
-    (c .before .before .put-next .ensures .0 ∙ ap (λ (r : Told (Option HeaderRow)). outCode headerWidth (length (now (a .part))) r) e, (c .before .before .put-next .ensures .1 .0 ∙ ap (λ (r : Told (Option HeaderRow)). outAfter headerWidth four r (now (a .part))) e, c .before .before .put-next .ensures .1 .1 ∙ ap (λ (r : Told (Option HeaderRow)). readFault r (now (a .fault))) e))
+returns c = rw (c .before .before .before .before .before .complex-part .ensures, c .before .before .before .before .before .before .kind-by .ensures) at (c .before .before .put-next .ensures)
 
 pub hooflift-complex-part-spec : {M : Type 1} → statement M
 hooflift-complex-part-spec =
