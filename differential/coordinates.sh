@@ -1,5 +1,5 @@
 #!/bin/sh
-# Reads the reals of all points, directions and vectors of real files by the program `decimals` and by Rust, and compares them bit for bit.
+# Reads the reals of all points, directions and vectors of real files by the program `compare_reals` and by Rust, and compares them bit for bit.
 #
 #   coordinates.sh DECIMALS_PROGRAM FOLDER..     the files *.stp and *.step below these folders
 #

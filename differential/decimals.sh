@@ -1,5 +1,5 @@
 #!/bin/sh
-# Compares the program `decimals` with Rust's own reading of decimals, byte for byte, on all streams.
+# Compares the program `compare_reals` with Rust's own reading of decimals, byte for byte, on all streams.
 #
 #   decimals.sh DECIMALS_PROGRAM [WORK_FOLDER]
 #   decimals.sh replay FOLDER       writes the chosen list as FOLDER/stdin, and Rust's answers to it as FOLDER/stdout

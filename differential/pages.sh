@@ -1,5 +1,5 @@
 #!/bin/sh
-# Holds the program `texts` against the tables of ISO 8859-1 to 8859-9: 864 codes, each by two sources that are not the program's.
+# Holds the program `compare_strings` against the tables of ISO 8859-1 to 8859-9: 864 codes, each by two sources that are not the program's.
 #
 #   pages.sh TEXTS_PROGRAM
 #

@@ -1,4 +1,4 @@
-//! What the Rust original decodes of strings, in the lines that the program `texts` reads and prints.
+//! What the Rust original decodes of strings, in the lines that the program `compare_strings` reads and prints.
 //!
 //!     texts          answers lines `HEX` or `ROOM:HEX` of standard input
 //!     texts rooms    writes for each line `HEX` lines with rooms of 0, one byte too few, just enough and one byte more

@@ -1,5 +1,5 @@
 #!/bin/sh
-# Compares the program `texts` with the Rust original's decode_string, byte for byte, on all streams; where a string names one of the
+# Compares the program `compare_strings` with the Rust original's decode_string, byte for byte, on all streams; where a string names one of the
 # pages B to I, which the original forgets, with pages.py.
 #
 #   texts.sh TEXTS_PROGRAM [WORK_FOLDER]
