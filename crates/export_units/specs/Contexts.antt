@@ -7,12 +7,11 @@ use Prim.Native.Nat.{ℕ}
 use Rattle.error.specs.Refusal.{Told, good}
 use Rattle.statement.specs.Rows.{Row, mapped}
 use Rattle.params.specs.Answer.{onward}
-use Rattle.table.specs.Table.{tableRows, rowNumbers}
-use Rattle.lookup.specs.Lookup.{rowIn, rowFor}
-use Rattle.factors.specs.Thing.{Thing, thingOf, findOf}
+use Rattle.lookup.specs.Lookup.{rowIn}
+use Rattle.factors.specs.Thing.{Thing, thingOf, tableFind}
 use Rattle.units.specs.Answer.{Units}
-use Rattle.units.specs.Units.{contextOf, resolveOf}
-use Rattle.units.specs.Code.{thingsFrom}
+use Rattle.units.specs.Units.{contextOf}
+use Rattle.units.specs.Code.{resolveTable}
 use Rattle.plain.specs.Numbers.{tablesBy}
 
 -- the units of the context in a row, or what refuses them; none where there is no row. `find` gives the record of an id
@@ -22,8 +21,8 @@ unitsIn s find (some w) = mapped some (onward (contextOf s find) (thingOf s w))
 
 -- a file's units, by a host's tables and numbers
 abbrev pub fileUnits : List ℕ → List ℕ → List ℕ → List ℕ → Told Units
-fileUnits s rows slots tables = resolveOf s (findOf s (rowFor rows slots (tablesBy tables .ids))) (thingsFrom s (rowNumbers rows) (tableRows rows (tablesBy tables .records)) 0)
+fileUnits s rows slots tables = resolveTable s rows slots (tablesBy tables .ids) (tablesBy tables .records)
 
 -- the units of the context in row k
 abbrev pub rowUnits : List ℕ → List ℕ → List ℕ → List ℕ → ℕ → Told (Option Units)
-rowUnits s rows slots tables k = unitsIn s (findOf s (rowFor rows slots (tablesBy tables .ids))) (rowIn rows (tablesBy tables .records) k)
+rowUnits s rows slots tables k = unitsIn s (tableFind s rows slots (tablesBy tables .ids)) (rowIn rows (tablesBy tables .records) k)

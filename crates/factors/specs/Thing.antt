@@ -13,7 +13,7 @@ use Rattle.statement.specs.Rows.{Row, HeaderRow}
 use Rattle.kinds.specs.Kind.{kindOf}
 use Rattle.kinds.specs.Rules.{rankOf}
 use Rattle.kinds.specs.declared.Kind.{Kind}
-use Rattle.params.specs.Answer.{Span, span}
+use Rattle.params.specs.Answer.{Span, span, onward}
 use Rattle.parts.specs.Part.{partsOf}
 use Rattle.index.specs.declared.Ids.{Ids}
 use Rattle.lookup.specs.Lookup.{cut, spanFine, kindIn, rowFor}
@@ -69,6 +69,10 @@ findOf s row k = thingFound s (row k)
 -- the record that an id names, by the rows and the slots of a table in lent memory
 abbrev pub tableFind : List ℕ → List ℕ → List ℕ → Ids → ℕ → Told (Option Thing)
 tableFind s rows slots ids = findOf s (rowFor rows slots ids)
+
+-- what `f` says of the record in a row, where other records are looked up in a table in lent memory; or the refusal of the row
+abbrev pub onRecord : {A : Type 0} → (List ℕ → (ℕ → Told (Option Thing)) → Thing → Told A) → List ℕ → List ℕ → List ℕ → Ids → Row → Told A
+onRecord f s rows slots ids w = onward (f s (tableFind s rows slots ids)) (thingOf s w)
 
 -- the arguments of the first part of a kind, or none
 abbrev pub firstPiece : Kind → List Piece → Option Span

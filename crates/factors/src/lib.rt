@@ -10,8 +10,8 @@ ghost use Rattle.statement.specs.Rows.{rowOf};
 ghost use Rattle.params.specs.Answer.{onward, span};
 ghost use Rattle.scalars.specs.Answer.{toldNextReal};
 ghost use Rattle.words.specs.Answer.{toldNextName};
-ghost use Rattle.factors.specs.Thing.{thingOf, selfOr, tableFind};
-ghost use Rattle.factors.specs.Factor.{conversionOf, linkOf, lengthOf, measureIn, angleOf, numberIn, unreadOf};
+ghost use Rattle.factors.specs.Thing.{thingOf, selfOr, tableFind, onRecord};
+ghost use Rattle.factors.specs.Factor.{conversionOf, linkOf, angleOf, numberIn, unreadOf, lengthLeft, measureLeft, numberAhead};
 ghost use Rattle.factors.specs.Unit.{siLength, siAngle, measureRef, measureRun, scaledBy};
 ghost use Rattle.factors.specs.Code.{toldId, toldLink, namedIn, isNamed};
 ghost use Rattle.factors.specs.Answer.{toldRun, toldFactor};
@@ -227,7 +227,7 @@ fn length_at(
     row: RecordSpan,
     left: usize,
 ) -> Factor
-    ensures { λ r. ⌜ toldFactor r ≡ onward (lengthOf (now (file .entry)) (tableFind (now (file .entry)) (now (rows .entry)) (now (slots .entry)) (t .ids)) left) (thingOf (now (file .entry)) (rowOf row)) ⌝ }
+    ensures { λ r. ⌜ toldFactor r ≡ onRecord (lengthLeft left) (now (file .entry)) (now (rows .entry)) (now (slots .entry)) (t .ids) (rowOf row) ⌝ }
 {
     match link_at(file, row, left) {
         Link::Known(f) => f,
@@ -244,7 +244,7 @@ fn measure_in_mm(
     id: u32,
     left: usize,
 ) -> Factor
-    ensures { λ r. ⌜ toldFactor r ≡ measureIn (now (file .entry)) (tableFind (now (file .entry)) (now (rows .entry)) (now (slots .entry)) (t .ids)) (lengthOf (now (file .entry)) (tableFind (now (file .entry)) (now (rows .entry)) (now (slots .entry)) (t .ids)) left) id ⌝ }
+    ensures { λ r. ⌜ toldFactor r ≡ measureLeft left (now (file .entry)) (tableFind (now (file .entry)) (now (rows .entry)) (now (slots .entry)) (t .ids)) id ⌝ }
 {
     let Entry::Row(w) = lookup::get(rows, slots, t, id) else {
         return Factor::Nothing;
@@ -270,7 +270,7 @@ fn measure_in_mm(
 
 // The factor of a length unit, in millimetres.
 pub fn length_factor(file: &[u8], rows: &[u32], slots: &[u64], t: Tables, row: RecordSpan) -> Factor
-    ensures { λ r. ⌜ toldFactor r ≡ onward (lengthOf (now (file .entry)) (tableFind (now (file .entry)) (now (rows .entry)) (now (slots .entry)) (t .ids)) 16) (thingOf (now (file .entry)) (rowOf row)) ⌝ }
+    ensures { λ r. ⌜ toldFactor r ≡ onRecord (lengthLeft 16) (now (file .entry)) (now (rows .entry)) (now (slots .entry)) (t .ids) (rowOf row) ⌝ }
 {
     length_at(file, rows, slots, t, row, 16)
 }
@@ -307,7 +307,7 @@ fn angle_converted(
     a: usize,
     z: usize,
 ) -> Factor
-    ensures { λ r. ⌜ toldFactor r ≡ onward (numberIn (now (file .entry)) (tableFind (now (file .entry)) (now (rows .entry)) (now (slots .entry)) (t .ids))) (measureRef (now (file .entry)) (span a z)) ⌝ }
+    ensures { λ r. ⌜ toldFactor r ≡ numberAhead (now (file .entry)) (tableFind (now (file .entry)) (now (rows .entry)) (now (slots .entry)) (t .ids)) (span a z) ⌝ }
 {
     match measure_ref(file, a, z) {
         Named::Refused(f) => Factor::Refused(f),
@@ -317,7 +317,7 @@ fn angle_converted(
 
 // The factor of an angle unit, in radians.
 pub fn angle_factor(file: &[u8], rows: &[u32], slots: &[u64], t: Tables, row: RecordSpan) -> Factor
-    ensures { λ r. ⌜ toldFactor r ≡ onward (angleOf (now (file .entry)) (tableFind (now (file .entry)) (now (rows .entry)) (now (slots .entry)) (t .ids))) (thingOf (now (file .entry)) (rowOf row)) ⌝ }
+    ensures { λ r. ⌜ toldFactor r ≡ onRecord angleOf (now (file .entry)) (now (rows .entry)) (now (slots .entry)) (t .ids) (rowOf row) ⌝ }
 {
     match self_or(file, row, Kind::SiUnit) {
         Run::Refused(f) => Factor::Refused(f),

@@ -9,10 +9,9 @@ pub use listed::units_of_context;
 ghost use mathlib.Core.Path.{_≡_};
 ghost use Rattle.statement.specs.Rows.{rowOf};
 ghost use Rattle.params.specs.Answer.{onward};
-ghost use Rattle.factors.specs.Thing.{thingOf, tableFind};
+ghost use Rattle.factors.specs.Thing.{thingOf, onRecord};
 ghost use Rattle.units.specs.Answer.{isContext, defaults, valuesIn, toldUnits};
-ghost use Rattle.units.specs.Units.{resolveOf};
-ghost use Rattle.units.specs.Code.{toldAsked, contextOr, deciding, tableThings};
+ghost use Rattle.units.specs.Code.{toldAsked, contextOr, deciding, resolveTable};
 use error::Fault;
 use factors::Run;
 use kinds::Kind;
@@ -71,7 +70,7 @@ fn is_context(file: &[u8], row: RecordSpan) -> Asked
 
 // The units of a record, where it is a context; else those that are assumed.
 fn context_units(file: &[u8], rows: &[u32], slots: &[u64], t: Tables, row: RecordSpan) -> Resolved
-    ensures { λ r. ⌜ toldUnits r ≡ onward (contextOr (now (file .entry)) (tableFind (now (file .entry)) (now (rows .entry)) (now (slots .entry)) (t .ids))) (thingOf (now (file .entry)) (rowOf row)) ⌝ }
+    ensures { λ r. ⌜ toldUnits r ≡ onRecord contextOr (now (file .entry)) (now (rows .entry)) (now (slots .entry)) (t .ids) (rowOf row) ⌝ }
 {
     match is_context(file, row) {
         Asked::Refused(f) => Resolved::Refused(f),
@@ -82,7 +81,7 @@ fn context_units(file: &[u8], rows: &[u32], slots: &[u64], t: Tables, row: Recor
 
 // The units of the first context, in file order, whose units give a length factor.
 pub fn resolve(file: &[u8], rows: &[u32], slots: &[u64], t: Tables) -> Resolved
-    ensures { λ r. ⌜ toldUnits r ≡ resolveOf (now (file .entry)) (tableFind (now (file .entry)) (now (rows .entry)) (now (slots .entry)) (t .ids)) (tableThings (now (file .entry)) (now (rows .entry)) (t .records)) ⌝ }
+    ensures { λ r. ⌜ toldUnits r ≡ resolveTable (now (file .entry)) (now (rows .entry)) (now (slots .entry)) (t .ids) (t .records) ⌝ }
 {
     let mut k: usize = 0;
     loop {

@@ -1,9 +1,8 @@
 // The units and the tolerance that a context lists.
 ghost use mathlib.Core.Path.{_≡_};
 ghost use Rattle.statement.specs.Rows.{rowOf};
-ghost use Rattle.params.specs.Answer.{onward};
 ghost use Rattle.scalars.specs.Answer.{toldNextReal};
-ghost use Rattle.factors.specs.Thing.{goodBy, thingOf, tableFind};
+ghost use Rattle.factors.specs.Thing.{goodBy, tableFind, onRecord};
 ghost use Rattle.factors.specs.Answer.{toldFactor};
 ghost use Rattle.units.specs.Answer.{defaults, withLength, withAngle, valuesIn, toldUnits, uncertainBy, uncertaintyBy};
 ghost use Rattle.units.specs.Units.{unitBy, unitsBy, toleranceBy, listedUnits, listedTolerance, contextOf};
@@ -156,7 +155,7 @@ fn units_from(file: &[u8], rows: &[u32], slots: &[u64], t: Tables, b: &[u8]) -> 
 
 // The units that a context lists.
 fn listed_units(file: &[u8], rows: &[u32], slots: &[u64], t: Tables, row: RecordSpan) -> Resolved
-    ensures { λ r. ⌜ toldUnits r ≡ onward (listedUnits (now (file .entry)) (tableFind (now (file .entry)) (now (rows .entry)) (now (slots .entry)) (t .ids))) (thingOf (now (file .entry)) (rowOf row)) ⌝ }
+    ensures { λ r. ⌜ toldUnits r ≡ onRecord listedUnits (now (file .entry)) (now (rows .entry)) (now (slots .entry)) (t .ids) (rowOf row) ⌝ }
 {
     match refs_in(
         file,
@@ -239,7 +238,7 @@ fn listed_tolerance(
     t: Tables,
     row: RecordSpan,
 ) -> Tolerance
-    ensures { λ r. ⌜ toldTolerance r ≡ onward (listedTolerance (now (file .entry)) (tableFind (now (file .entry)) (now (rows .entry)) (now (slots .entry)) (t .ids))) (thingOf (now (file .entry)) (rowOf row)) ⌝ }
+    ensures { λ r. ⌜ toldTolerance r ≡ onRecord listedTolerance (now (file .entry)) (now (rows .entry)) (now (slots .entry)) (t .ids) (rowOf row) ⌝ }
 {
     match refs_in(
         file,
@@ -259,7 +258,7 @@ pub fn units_of_context(
     t: Tables,
     row: RecordSpan,
 ) -> Resolved
-    ensures { λ r. ⌜ toldUnits r ≡ onward (contextOf (now (file .entry)) (tableFind (now (file .entry)) (now (rows .entry)) (now (slots .entry)) (t .ids))) (thingOf (now (file .entry)) (rowOf row)) ⌝ }
+    ensures { λ r. ⌜ toldUnits r ≡ onRecord contextOf (now (file .entry)) (now (rows .entry)) (now (slots .entry)) (t .ids) (rowOf row) ⌝ }
 {
     match listed_units(file, rows, slots, t, row) {
         Resolved::Refused(f) => Resolved::Refused(f),
