@@ -12,7 +12,7 @@ use Rattle.error.specs.Refusal.{Told, good, bad, told}
 use Rattle.params.specs.Answer.{Read, reading, onward, mapped}
 use Rattle.reals.specs.Answer.{Answer}
 use Rattle.lists.specs.Items.{listBy, listOf}
-use Rattle.lists.specs.Answer.{Fate, fine, faulty, fated, kindOf}
+use Rattle.lists.specs.Answer.{Fate, fine, faulty, fated, nextBy, kindOf}
 use Rattle.lists.specs.declared.Kind.{Kind}
 use Rattle.grids.specs.declared.Tally as TallyCode
 use Rattle.grids.specs.declared.NextGrid as NextGridCode
@@ -51,6 +51,10 @@ sizeFits room ends s = leb (s .numbers) room && leb (s .rows) ends
 -- a grid fits where its size does
 abbrev pub gridFits : {A : Type 0} → ℕ → ℕ → List (List A) → Bool
 gridFits room ends g = sizeFits room ends (sizeOf g)
+
+-- the next parameter of a reader, read as a grid of scalars that f reads into so many numbers and row ends
+abbrev pub gridRead : {A : Type 0} → (List ℕ → Answer A) → ℕ → ℕ → List ℕ → ℕ → ℕ → Read (List (List A))
+gridRead f room ends s place end = nextBy (gridOf f) (gridFits room ends) s place end
 
 -- the answer's size
 abbrev pub howLarge : {A : Type 0} → Read (List (List A)) → Read Size

@@ -12,9 +12,9 @@ ghost use Rattle.params.specs.Answer.{reading};
 ghost use Rattle.reals.specs.Scalar.{referenceOf, realOf};
 ghost use Rattle.reals.specs.Which.{realBy};
 ghost use Rattle.lists.specs.Items.{itemsFrom, listBy, listOf, moved, filled};
-ghost use Rattle.lists.specs.Answer.{fated, asFate, roomed, nextBy, valuesOf, written};
+ghost use Rattle.lists.specs.Answer.{fated, asFate, roomed, valuesOf, written};
 ghost use Rattle.lists.specs.Laws.{tally};
-ghost use Rattle.grids.specs.Grid.{size, flat, endsFrom, gridOf, gridFits, sizeFits, howLarge, numbersOf, endsOf, addRow, rowOf, toldTally, toldNextGrid};
+ghost use Rattle.grids.specs.Grid.{size, flat, endsFrom, gridOf, gridRead, gridFits, sizeFits, howLarge, numbersOf, endsOf, addRow, rowOf, toldTally, toldNextGrid};
 ghost use Rattle.grids.specs.Code.{sizeTold, toldReadGrid, reachedIn, GridReady};
 use error::Fault;
 use lists::Counted;
@@ -177,9 +177,11 @@ fn read_ref_grid(t: &[u8], out: &mut [u32], ends: &mut [usize]) -> ReadGrid
 
 // Reads a grid of references into lent numbers and row ends.
 pub fn next_ref_grid(file: &[u8], at: State, out: &mut [u32], ends: &mut [usize]) -> NextGrid
-    ensures { λ r. ⌜ toldNextGrid r ≡ howLarge (nextBy (gridOf referenceOf) (gridFits (length (now (out .entry))) (length (now (ends .entry)))) (now (file .entry)) (at .place) (at .end)) ⌝ }
-    ensures { λ r. ⌜ now (out .exit) ≡ written (numbersOf (nextBy (gridOf referenceOf) (gridFits (length (now (out .entry))) (length (now (ends .entry)))) (now (file .entry)) (at .place) (at .end) .answer)) (now (out .entry)) ⌝ }
-    ensures { λ r. ⌜ now (ends .exit) ≡ written (endsOf (nextBy (gridOf referenceOf) (gridFits (length (now (out .entry))) (length (now (ends .entry)))) (now (file .entry)) (at .place) (at .end) .answer)) (now (ends .entry)) ⌝ }
+    ensures { λ r. ⌜ toldNextGrid r ≡ howLarge (gridRead referenceOf (length (now (out .entry))) (length (now (ends .entry))) (now (file .entry)) (at .place) (at .end)) ⌝ }
+    ensures { λ r. ⌜ now (out .exit)
+        ≡ written (numbersOf (gridRead referenceOf (length (now (out .entry))) (length (now (ends .entry))) (now (file .entry)) (at .place) (at .end) .answer)) (now (out .entry)) ⌝ }
+    ensures { λ r. ⌜ now (ends .exit)
+        ≡ written (endsOf (gridRead referenceOf (length (now (out .entry))) (length (now (ends .entry))) (now (file .entry)) (at .place) (at .end) .answer)) (now (ends .entry)) ⌝ }
 {
     match params::param_span(file, at) {
         Cut::Refused(f, to) => NextGrid::Refused(f, to),
@@ -194,7 +196,8 @@ pub fn next_ref_grid(file: &[u8], at: State, out: &mut [u32], ends: &mut [usize]
 // Writes the reals of a grid's inside that all read, and the ends of its rows.
 fn fill_real_rows(which: Reals, b: &[u8], out: &mut [f64], ends: &mut [usize])
     requires { ⌜ GridReady (itemsFrom (suc (length (now b))) (listOf (realBy which)) 0 (now b)) (length (now out)) (length (now ends)) ⌝ }
-    ensures { λ _. ⌜ map (toBits binary64) (now (out .exit)) ≡ filled (flat (valuesOf (itemsFrom (suc (length (now (b .entry)))) (listOf (realBy which)) 0 (now (b .entry))))) (map (toBits binary64) (now (out .entry))) ⌝ }
+    ensures { λ _. ⌜ map (toBits binary64) (now (out .exit))
+        ≡ filled (flat (valuesOf (itemsFrom (suc (length (now (b .entry)))) (listOf (realBy which)) 0 (now (b .entry))))) (map (toBits binary64) (now (out .entry))) ⌝ }
     ensures { λ _. ⌜ now (ends .exit) ≡ filled (endsFrom 0 (valuesOf (itemsFrom (suc (length (now (b .entry)))) (listOf (realBy which)) 0 (now (b .entry))))) (now (ends .entry)) ⌝ }
 {
     let mut i: usize = 0;
@@ -237,7 +240,8 @@ fn fill_real_grid(which: Reals, t: &[u8], out: &mut [f64], ends: &mut [usize])
 // Reads the text of a grid of reals into lent numbers and row ends.
 fn read_real_grid(which: Reals, t: &[u8], out: &mut [f64], ends: &mut [usize]) -> ReadGrid
     ensures { λ r. ⌜ toldReadGrid r ≡ sizeTold (roomed (gridFits (length (now (out .entry))) (length (now (ends .entry)))) 0 (gridOf (realBy which) (now (t .entry)))) ⌝ }
-    ensures { λ r. ⌜ map (toBits binary64) (now (out .exit)) ≡ written (numbersOf (roomed (gridFits (length (now (out .entry))) (length (now (ends .entry)))) 0 (gridOf (realBy which) (now (t .entry))))) (map (toBits binary64) (now (out .entry))) ⌝ }
+    ensures { λ r. ⌜ map (toBits binary64) (now (out .exit))
+        ≡ written (numbersOf (roomed (gridFits (length (now (out .entry))) (length (now (ends .entry)))) 0 (gridOf (realBy which) (now (t .entry))))) (map (toBits binary64) (now (out .entry))) ⌝ }
     ensures { λ r. ⌜ now (ends .exit) ≡ written (endsOf (roomed (gridFits (length (now (out .entry))) (length (now (ends .entry)))) 0 (gridOf (realBy which) (now (t .entry))))) (now (ends .entry)) ⌝ }
 {
     let r = room_for(t, Kind::Floats(which), out.len(), ends.len());
@@ -256,9 +260,12 @@ pub fn next_real_grid(
     out: &mut [f64],
     ends: &mut [usize],
 ) -> NextGrid
-    ensures { λ r. ⌜ toldNextGrid r ≡ howLarge (nextBy (gridOf (realBy which)) (gridFits (length (now (out .entry))) (length (now (ends .entry)))) (now (file .entry)) (at .place) (at .end)) ⌝ }
-    ensures { λ r. ⌜ map (toBits binary64) (now (out .exit)) ≡ written (numbersOf (nextBy (gridOf (realBy which)) (gridFits (length (now (out .entry))) (length (now (ends .entry)))) (now (file .entry)) (at .place) (at .end) .answer)) (map (toBits binary64) (now (out .entry))) ⌝ }
-    ensures { λ r. ⌜ now (ends .exit) ≡ written (endsOf (nextBy (gridOf (realBy which)) (gridFits (length (now (out .entry))) (length (now (ends .entry)))) (now (file .entry)) (at .place) (at .end) .answer)) (now (ends .entry)) ⌝ }
+    ensures { λ r. ⌜ toldNextGrid r ≡ howLarge (gridRead (realBy which) (length (now (out .entry))) (length (now (ends .entry))) (now (file .entry)) (at .place) (at .end)) ⌝ }
+    ensures { λ r. ⌜ map (toBits binary64) (now (out .exit))
+        ≡ written (numbersOf (gridRead (realBy which) (length (now (out .entry))) (length (now (ends .entry))) (now (file .entry)) (at .place) (at .end) .answer))
+        (map (toBits binary64) (now (out .entry))) ⌝ }
+    ensures { λ r. ⌜ now (ends .exit)
+        ≡ written (endsOf (gridRead (realBy which) (length (now (out .entry))) (length (now (ends .entry))) (now (file .entry)) (at .place) (at .end) .answer)) (now (ends .entry)) ⌝ }
 {
     match params::param_span(file, at) {
         Cut::Refused(f, to) => NextGrid::Refused(f, to),
@@ -272,9 +279,12 @@ pub fn next_real_grid(
 
 // Reads a grid of reals of the class into lent numbers and row ends.
 pub fn next_f64_grid(file: &[u8], at: State, out: &mut [f64], ends: &mut [usize]) -> NextGrid
-    ensures { λ r. ⌜ toldNextGrid r ≡ howLarge (nextBy (gridOf realOf) (gridFits (length (now (out .entry))) (length (now (ends .entry)))) (now (file .entry)) (at .place) (at .end)) ⌝ }
-    ensures { λ r. ⌜ map (toBits binary64) (now (out .exit)) ≡ written (numbersOf (nextBy (gridOf realOf) (gridFits (length (now (out .entry))) (length (now (ends .entry)))) (now (file .entry)) (at .place) (at .end) .answer)) (map (toBits binary64) (now (out .entry))) ⌝ }
-    ensures { λ r. ⌜ now (ends .exit) ≡ written (endsOf (nextBy (gridOf realOf) (gridFits (length (now (out .entry))) (length (now (ends .entry)))) (now (file .entry)) (at .place) (at .end) .answer)) (now (ends .entry)) ⌝ }
+    ensures { λ r. ⌜ toldNextGrid r ≡ howLarge (gridRead realOf (length (now (out .entry))) (length (now (ends .entry))) (now (file .entry)) (at .place) (at .end)) ⌝ }
+    ensures { λ r. ⌜ map (toBits binary64) (now (out .exit))
+        ≡ written (numbersOf (gridRead realOf (length (now (out .entry))) (length (now (ends .entry))) (now (file .entry)) (at .place) (at .end) .answer))
+        (map (toBits binary64) (now (out .entry))) ⌝ }
+    ensures { λ r. ⌜ now (ends .exit)
+        ≡ written (endsOf (gridRead realOf (length (now (out .entry))) (length (now (ends .entry))) (now (file .entry)) (at .place) (at .end) .answer)) (now (ends .entry)) ⌝ }
 {
     next_real_grid(Reals::Class, file, at, out, ends)
 }

@@ -1,5 +1,6 @@
 pub mod Answer
 pub mod Items
+pub mod Read
 pub mod Rules
 pub mod RulesRight
 pub mod Laws

@@ -15,7 +15,8 @@ ghost use Rattle.params.specs.Answer.{reading};
 ghost use Rattle.reals.specs.Scalar.{referenceOf, wholeOf, realOf};
 ghost use Rattle.reals.specs.Which.{realBy};
 ghost use Rattle.lists.specs.Items.{moved, reached, itemEnd, ItemAt, toldVerdict, ShapeAt, itemsFrom, listBy, listOf, Ready, filled, Kept, Held};
-ghost use Rattle.lists.specs.Answer.{roomed, countOf, toldReadList, CountedIn, toldCounted, fated, kindOf, asFate, valuesOf, nextBy, fitsIn, howMany, written, toldNextList};
+ghost use Rattle.lists.specs.Answer.{roomed, countOf, toldReadList, CountedIn, toldCounted, fated, kindOf, asFate, valuesOf, fitsIn, howMany, written, toldNextList};
+ghost use Rattle.lists.specs.Read.{listRead};
 use error::Fault;
 use params::Cut;
 use params::Ended;
@@ -271,8 +272,8 @@ fn answer_of(r: ReadList, start: usize, to: State) -> NextList
 
 // Reads a list of references into lent numbers.
 pub fn next_ref_list(file: &[u8], at: State, out: &mut [u32]) -> NextList
-    ensures { λ r. ⌜ toldNextList r ≡ howMany (nextBy (listOf referenceOf) (fitsIn (length (now (out .entry)))) (now (file .entry)) (at .place) (at .end)) ⌝ }
-    ensures { λ r. ⌜ now (out .exit) ≡ written (nextBy (listOf referenceOf) (fitsIn (length (now (out .entry)))) (now (file .entry)) (at .place) (at .end) .answer) (now (out .entry)) ⌝ }
+    ensures { λ r. ⌜ toldNextList r ≡ howMany (listRead referenceOf (length (now (out .entry))) (now (file .entry)) (at .place) (at .end)) ⌝ }
+    ensures { λ r. ⌜ now (out .exit) ≡ written (listRead referenceOf (length (now (out .entry))) (now (file .entry)) (at .place) (at .end) .answer) (now (out .entry)) ⌝ }
 {
     match params::param_span(file, at) {
         Cut::Refused(f, to) => NextList::Refused(f, to),
@@ -336,8 +337,8 @@ pub fn read_wholes(t: &[u8], out: &mut [i64]) -> ReadList
 
 // Reads a list of integers into lent numbers.
 pub fn next_i64_list(file: &[u8], at: State, out: &mut [i64]) -> NextList
-    ensures { λ r. ⌜ toldNextList r ≡ howMany (nextBy (listOf wholeOf) (fitsIn (length (now (out .entry)))) (now (file .entry)) (at .place) (at .end)) ⌝ }
-    ensures { λ r. ⌜ now (out .exit) ≡ written (nextBy (listOf wholeOf) (fitsIn (length (now (out .entry)))) (now (file .entry)) (at .place) (at .end) .answer) (now (out .entry)) ⌝ }
+    ensures { λ r. ⌜ toldNextList r ≡ howMany (listRead wholeOf (length (now (out .entry))) (now (file .entry)) (at .place) (at .end)) ⌝ }
+    ensures { λ r. ⌜ now (out .exit) ≡ written (listRead wholeOf (length (now (out .entry))) (now (file .entry)) (at .place) (at .end) .answer) (now (out .entry)) ⌝ }
 {
     match params::param_span(file, at) {
         Cut::Refused(f, to) => NextList::Refused(f, to),
@@ -348,7 +349,8 @@ pub fn next_i64_list(file: &[u8], at: State, out: &mut [i64]) -> NextList
 // Writes the reals of a list's inside that all read.
 fn fill_real_items(which: Reals, b: &[u8], out: &mut [f64]) -> usize
     requires { ⌜ Ready (itemsFrom (suc (length (now b))) (λ u. asFate (realBy which u)) 0 (now b)) (length (now out)) ⌝ }
-    ensures { λ r. ⌜ map (toBits binary64) (now (out .exit)) ≡ filled (valuesOf (itemsFrom (suc (length (now (b .entry)))) (λ u. asFate (realBy which u)) 0 (now (b .entry)))) (map (toBits binary64) (now (out .entry))) ⌝ }
+    ensures { λ r. ⌜ map (toBits binary64) (now (out .exit))
+        ≡ filled (valuesOf (itemsFrom (suc (length (now (b .entry)))) (λ u. asFate (realBy which u)) 0 (now (b .entry)))) (map (toBits binary64) (now (out .entry))) ⌝ }
     ensures { λ r. ⌜ r ≡ length (valuesOf (itemsFrom (suc (length (now (b .entry)))) (λ u. asFate (realBy which u)) 0 (now (b .entry)))) ⌝ }
 {
     let mut i: usize = 0;
@@ -469,7 +471,8 @@ fn write_reals(which: Reals, t: &[u8], first: &[f64], n: usize, out: &mut [f64])
 // sixteen are written from the first pass.
 pub fn read_reals(which: Reals, t: &[u8], out: &mut [f64]) -> ReadList
     ensures { λ r. ⌜ toldReadList r ≡ countOf (roomed (fitsIn (length (now (out .entry)))) 0 (listOf (realBy which) (now (t .entry)))) ⌝ }
-    ensures { λ r. ⌜ map (toBits binary64) (now (out .exit)) ≡ written (roomed (fitsIn (length (now (out .entry)))) 0 (listOf (realBy which) (now (t .entry)))) (map (toBits binary64) (now (out .entry))) ⌝ }
+    ensures { λ r. ⌜ map (toBits binary64) (now (out .exit))
+        ≡ written (roomed (fitsIn (length (now (out .entry)))) 0 (listOf (realBy which) (now (t .entry)))) (map (toBits binary64) (now (out .entry))) ⌝ }
 {
     let mut first = [0.0; 16];
     match keep_reals(which, t, &mut first) {
@@ -487,8 +490,9 @@ pub fn read_reals(which: Reals, t: &[u8], out: &mut [f64]) -> ReadList
 
 // Reads a list of reals, of the class or any, into lent numbers.
 pub fn next_real_list(which: Reals, file: &[u8], at: State, out: &mut [f64]) -> NextList
-    ensures { λ r. ⌜ toldNextList r ≡ howMany (nextBy (listOf (realBy which)) (fitsIn (length (now (out .entry)))) (now (file .entry)) (at .place) (at .end)) ⌝ }
-    ensures { λ r. ⌜ map (toBits binary64) (now (out .exit)) ≡ written (nextBy (listOf (realBy which)) (fitsIn (length (now (out .entry)))) (now (file .entry)) (at .place) (at .end) .answer) (map (toBits binary64) (now (out .entry))) ⌝ }
+    ensures { λ r. ⌜ toldNextList r ≡ howMany (listRead (realBy which) (length (now (out .entry))) (now (file .entry)) (at .place) (at .end)) ⌝ }
+    ensures { λ r. ⌜ map (toBits binary64) (now (out .exit))
+        ≡ written (listRead (realBy which) (length (now (out .entry))) (now (file .entry)) (at .place) (at .end) .answer) (map (toBits binary64) (now (out .entry))) ⌝ }
 {
     match params::param_span(file, at) {
         Cut::Refused(f, to) => NextList::Refused(f, to),
@@ -502,8 +506,9 @@ pub fn next_real_list(which: Reals, file: &[u8], at: State, out: &mut [f64]) -> 
 
 // Reads a list of reals of the class into lent numbers.
 pub fn next_f64_list(file: &[u8], at: State, out: &mut [f64]) -> NextList
-    ensures { λ r. ⌜ toldNextList r ≡ howMany (nextBy (listOf realOf) (fitsIn (length (now (out .entry)))) (now (file .entry)) (at .place) (at .end)) ⌝ }
-    ensures { λ r. ⌜ map (toBits binary64) (now (out .exit)) ≡ written (nextBy (listOf realOf) (fitsIn (length (now (out .entry)))) (now (file .entry)) (at .place) (at .end) .answer) (map (toBits binary64) (now (out .entry))) ⌝ }
+    ensures { λ r. ⌜ toldNextList r ≡ howMany (listRead realOf (length (now (out .entry))) (now (file .entry)) (at .place) (at .end)) ⌝ }
+    ensures { λ r. ⌜ map (toBits binary64) (now (out .exit))
+        ≡ written (listRead realOf (length (now (out .entry))) (now (file .entry)) (at .place) (at .end) .answer) (map (toBits binary64) (now (out .entry))) ⌝ }
 {
     next_real_list(Reals::Class, file, at, out)
 }
