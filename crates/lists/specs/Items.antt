@@ -19,7 +19,6 @@ use Rattle.lists.specs.Answer.{Fate, fine, faulty, shifted, asFate, cons
 use Rattle.lists.specs.declared.Item.{Item}
 use Rattle.lists.specs.declared.Shape.{Shape}
 use Rattle.lists.specs.declared.Shape.the-variants.{NotList, Blank, Full}
-use Rattle.lists.specs.declared.Counted.the-variants.{Wrong, Outside}
 use Rattle.lists.specs.declared.Verdict.{Verdict}
 use Rattle.lists.specs.declared.Verdict as VerdictCode
 use Rattle.lists.specs.declared.ReadList as ReadListCode
@@ -61,6 +60,10 @@ unfoldable pub itemsFrom : {A : Type 0} → ℕ → (List ℕ → Fate A) → �
 itemsFrom zero g o xs = fine []
 itemsFrom (suc n) g o xs =
     headed (shifted o (itemBy g xs)) (λ u. past-comma (itemEnd xs) (λ r. itemsFrom n g (o + (length xs - length r)) r))
+
+-- all of them in a list's inside
+abbrev pub itemsIn : {A : Type 0} → (List ℕ → Fate A) → List ℕ → Fate (List A)
+itemsIn g b = itemsFrom (suc (length b)) g 0 b
 
 -- whether nothing is left
 abbrev pub isNone : List ℕ → Bool

@@ -17,8 +17,9 @@ use Rattle.error.specs.Refusal.{refusal, good, bad}
 use Rattle.lists.specs.declared.Item.{Item}
 use Rattle.lists.specs.declared.Shape.{Shape}
 use Rattle.lists.specs.declared.Shape.the-variants.{NotList, Blank, Full}
-use Rattle.lists.specs.Items.{itemsFrom, listBy, ItemAt, ShapeAt, Ready, filled, Kept, Held}
-use Rattle.lists.specs.Answer.{Fate, fine, faulty, shifted, fated, roomed, fitsIn, countOf, written, valuesOf}
+use Rattle.lists.specs.Items.{itemsFrom, itemsIn, listBy, ItemAt, ShapeAt, Ready, filled, Kept, Held}
+use Rattle.lists.specs.Answer.{Fate, fine, faulty, shifted, fated, mute, roomed, fitsIn, countOf, written, valuesOf}
+use Rattle.lists.specs.Lent.{putAt}
 use Rattle.lists.specs.Laws.{tally, tally-starts, tally-bad, tally-last, tally-more, list-none, list-blank, list-full, shape-none, shape-blank, shape-full, told-full}
 use Rattle.lists.specs.ReadLaws.{roomed-told, roomed-bad, room-refused, room-written}
 
@@ -81,44 +82,59 @@ keeping-starts g b old = record {
   held = sym (take-length old);
 }
 
--- the list beside is as long as it was
-pub keeping-length : {A : Type 0} (g : List ℕ → Fate A) (b : List ℕ) (old new : List A) (i n : ℕ) → Keeping g b old new i n → length new ≡ length old
-keeping-length g b old new i n f = ap length (f .held) ∙ held-length (f .kept) old
+-- an item that reads has a value
+mute-fine : {A : Type 0} (x : Fate A) → fine tt ≡ mute x → (v : A) × (fine v ≡ x)
+mute-fine (fine v) e = (v, refl)
+mute-fine (faulty k o) e = clash (cc)
 
-module _ {A : Type 0} (g : List ℕ → Fate A) (b : List ℕ) (old new : List A) (i n : ℕ) (f : Keeping g b old new i n) (r : Item) (found : ItemAt b (min i (length b)) r) where
+-- one that does not is refused as it is
+mute-bad : {A : Type 0} (x : Fate A) (k o : ℕ) → faulty k o ≡ mute x → faulty k o ≡ x
+mute-bad (fine v) k o e = clash (cc)
+mute-bad (faulty l p) k o e = let x : k ≡ l = cc in let y : o ≡ p = cc in cc
+
+-- The next item: the code told whether it reads, and put its value at its place in the list beside, which was `was` before.
+module _ {A : Type 0} (g : List ℕ → Fate A) (b : List ℕ) (old was new : List A) (i n : ℕ) (f : Keeping g b old was i n) (r : Item) (found : ItemAt b (min i (length b)) r)
+    (put : new ≡ putAt n (g (take (r .stop - r .start) (drop (r .start) b))) was) where
+  -- as many as there are bytes, at most
   few-enough : n ≤ length b
   few-enough = omega (arith, f .few, f .within)
 
   -- a bad item
-  pub keeping-bad : (k o : ℕ) → faulty k o ≡ g (take (r .stop - r .start) (drop (r .start) b))
-      → (faulty k (r .start + o) ≡ fated length (itemsFrom (suc (length b)) g 0 b)) × Kept (itemsFrom (suc (length b)) g 0 b) old new
+  pub keeping-bad : (k o : ℕ) → faulty k o ≡ mute (g (take (r .stop - r .start) (drop (r .start) b)))
+      → (faulty k (r .start + o) ≡ fated length (itemsIn g b)) × Kept (itemsIn g b) old new
   keeping-bad k o e =
-      let q = tally-bad g snoc b i n r found (f .within) few-enough (f .kept) _ (f .rest) k o e in
+      let q = tally-bad g snoc b i n r found (f .within) few-enough (f .kept) _ (f .rest) k o (mute-bad (g (take (r .stop - r .start) (drop (r .start) b))) k o e) in
       (ap (fated length) q, subst (λ (x : Fate (List A)). Kept x old new) q tt)
 
-  module _ (v : A) (e : fine v ≡ g (take (r .stop - r .start) (drop (r .start) b))) where
-    -- its value is kept
-    more : set new n v ≡ take (length old) (filled (snoc (f .kept) v) old)
-    more = ap (λ (x : List A). set x n v) (f .held) ∙ ap (λ (k : ℕ). set (take (length old) (filled (f .kept) old)) k v) (f .many) ∙ held-more (f .kept) old v
+  module _ (e : fine tt ≡ mute (g (take (r .stop - r .start) (drop (r .start) b)))) where
+    -- its value
+    value : (v : A) × (fine v ≡ g (take (r .stop - r .start) (drop (r .start) b)))
+    value = mute-fine (g (take (r .stop - r .start) (drop (r .start) b))) e
 
-    count : n + 1 ≡ length (snoc (f .kept) v)
-    count = omega (arith, f .many, length-append (f .kept) (v ∷ []))
+    -- it is kept
+    more : new ≡ take (length old) (filled (snoc (f .kept) (value .0)) old)
+    more =
+        put ∙ ap (λ (x : Fate A). putAt n x was) (sym (value .1)) ∙ ap (λ (x : List A). set x n (value .0)) (f .held)
+        ∙ ap (λ (k : ℕ). set (take (length old) (filled (f .kept) old)) k (value .0)) (f .many) ∙ held-more (f .kept) old (value .0)
+
+    count : n + 1 ≡ length (snoc (f .kept) (value .0))
+    count = omega (arith, f .many, length-append (f .kept) (value .0 ∷ []))
 
     -- the last item
-    pub keeping-last : r .bound ≡ length b → (fine (n + 1) ≡ fated length (itemsFrom (suc (length b)) g 0 b)) × Kept (itemsFrom (suc (length b)) g 0 b) old (set new n v)
+    pub keeping-last : r .bound ≡ length b → (fine (n + 1) ≡ fated length (itemsIn g b)) × Kept (itemsIn g b) old new
     keeping-last k =
-        let q = tally-last g snoc b i n r found (f .within) few-enough (f .kept) _ (f .rest) v e k in
-        (ap fine count ∙ ap (fated length) q, subst (λ (x : Fate (List A)). Kept x old (set new n v)) q more)
+        let q = tally-last g snoc b i n r found (f .within) few-enough (f .kept) _ (f .rest) (value .0) (value .1) k in
+        (ap fine count ∙ ap (fated length) q, subst (λ (x : Fate (List A)). Kept x old new) q more)
 
     -- another item
-    pub keeping-goes : r .bound < length b → Keeping g b old (set new n v) (r .bound + 1) (n + 1)
+    pub keeping-goes : r .bound < length b → Keeping g b old new (r .bound + 1) (n + 1)
     keeping-goes k =
         record {
-          kept = snoc (f .kept) v;
+          kept = snoc (f .kept) (value .0);
           many = count;
           few = omega (arith, f .few, found .above, f .within);
           within = omega arith;
-          rest = tally-more g snoc b i n r found (f .within) few-enough (f .kept) _ (f .rest) v e k;
+          rest = tally-more g snoc b i n r found (f .within) few-enough (f .kept) _ (f .rest) (value .0) (value .1) k;
           held = more;
         }
 
@@ -138,12 +154,12 @@ module _ {A : Type 0} (g : List ℕ → Fate A) (t : List ℕ) (r : Shape) (h : 
   kept-blank e = let (b, f, o) = shape-blank t r h e in let q = list-blank g t b f o in (ap (fated length) q, subst (λ (x : Fate (List A)). Kept x old old) q (sym (take-length old)))
 
   -- one with items
-  pub kept-full : r ≡ Full → (a : Fate ℕ) (new : List A) → a ≡ fated length (itemsFrom (suc (length (take (length t - 1 - 1) (drop 1 t)))) g 0 (take (length t - 1 - 1) (drop 1 t)))
-      → Kept (itemsFrom (suc (length (take (length t - 1 - 1) (drop 1 t)))) g 0 (take (length t - 1 - 1) (drop 1 t))) old new → (shifted 1 a ≡ fated length (listBy g t)) × Kept (listBy g t) old new
+  pub kept-full : r ≡ Full → (a : Fate ℕ) (new : List A) → a ≡ fated length (itemsIn g (take (length t - 1 - 1) (drop 1 t)))
+      → Kept (itemsIn g (take (length t - 1 - 1) (drop 1 t))) old new → (shifted 1 a ≡ fated length (listBy g t)) × Kept (listBy g t) old new
   kept-full e a new k l =
       let (n, f, o) = shape-full t r h e in
       let q = list-full g t (take (length t - 1 - 1) (drop 1 t)) f o in
-      (told-full length g t r h e a k, subst (λ (x : Fate (List A)). Kept x old new) q (kept-shifted 1 (itemsFrom (suc (length (take (length t - 1 - 1) (drop 1 t)))) g 0 (take (length t - 1 - 1) (drop 1 t))) old new l))
+      (told-full length g t r h e a k, subst (λ (x : Fate (List A)). Kept x old new) q (kept-shifted 1 (itemsIn g (take (length t - 1 - 1) (drop 1 t))) old new l))
 
 -- what is kept of a list that reads is its values, where there are no more of them
 pub kept-held : {A : Type 0} (x : Fate (List A)) (vs old new : List A) → x ≡ fine vs → Kept x old new → Held x new
@@ -153,6 +169,12 @@ kept-held {A} x vs old new e k = subst (λ (y : Fate (List A)). Held y new) (sym
     go h l =
         let m : length vs ≤ length old = omega (arith, l, ap length h, held-length vs old) in
         ap (take (length vs)) h ∙ take-take (length vs) (length old) (filled vs old) m ∙ take-at vs (drop (length vs) old) (length vs) refl
+
+-- all its values, where there is room for them
+pub kept-all : {A : Type 0} (x : Fate (List A)) (room : ℕ) (old new : List A) → room ≡ length old → Ready x room → Kept x old new → new ≡ filled (valuesOf x) old
+kept-all {A} x room old new e (f, h) k =
+    subst (λ (y : Fate (List A)). Kept y old new) f k
+    ∙ take-all (length old) (filled (valuesOf x) old) (omega (arith, h, e, length-append (valuesOf x) (drop (length (valuesOf x)) old), length-drop (length (valuesOf x)) old))
 
 -- a list that is counted reads
 pub counted-reads : {A : Type 0} (x : Fate (List A)) (n : ℕ) → fine n ≡ fated length x → (vs : List A) × (x ≡ fine vs) × (n ≡ length vs)
@@ -216,6 +238,12 @@ module _ {A B : Type 0} (h : A → B) where
   map-drop zero l = refl
   map-drop (suc n) [] = refl
   map-drop (suc n) (a ∷ l) = map-drop n l
+
+  -- one of them written
+  pub map-set : (l : List A) (n : ℕ) (v : A) → map h (set l n v) ≡ set (map h l) n (h v)
+  map-set [] n v = refl
+  map-set (x ∷ l) zero v = refl
+  map-set (x ∷ l) (suc n) v = ap (λ (t : List B). h x ∷ t) (map-set l n v)
 
   -- all values are copied from where they are held
   pub copy-held : (x : Fate (List B)) (first out w : List A) (n : ℕ) → n ≡ length (valuesOf x) → n ≤ length first → Held x (map h first) → w ≡ take n first ++ drop n out → map h w ≡ filled (valuesOf x) (map h out)

@@ -11,12 +11,10 @@ use lib.Seq.{length-take-le}
 use borrow.Author.Tests.{ne-eqb}
 use Rattle.common.specs.Pick.{pick}
 use Rattle.common.specs.Lists.{split, drop-end}
-use Rattle.error.specs.Refusal.{good, bad}
-use Rattle.lex.specs.Byte.{white, place}
+use Rattle.lex.specs.Byte.{white}
 use Rattle.record.specs.Text.{before, past}
 use Rattle.record.specs.Word.{trimmed}
 use Rattle.scalars.specs.Laws.{part-part}
-use Rattle.reals.specs.Answer.{read}
 use Rattle.params.specs.Cut.{cutOf}
 use Rattle.params.specs.Answer.{cut, endedAt, EndedIn}
 use Rattle.params.specs.declared.Ended.{Ended}
@@ -120,15 +118,6 @@ abbrev pub tally : {A S : Type 0} → (S → A → S) → S → List A → S
 tally f s [] = s
 tally f s (a ∷ vs) = tally f (f s a) vs
 
--- counted: one more for each
-abbrev pub oneMore : {A : Type 0} → ℕ → A → ℕ
-oneMore n a = n + 1
-
--- so many
-tally-counts : {A : Type 0} (n : ℕ) (vs : List A) → tally oneMore n vs ≡ n + length vs
-tally-counts n [] = omega arith
-tally-counts n (a ∷ vs) = tally-counts (n + 1) vs ∙ omega arith
-
 -- a value more
 tally-consed : {A S : Type 0} (f : S → A → S) (s : S) (a : A) (x : Fate (List A)) → fated (tally f s) (consed a x) ≡ fated (tally f (f s a)) x
 tally-consed f s a (fine vs) = refl
@@ -170,14 +159,6 @@ module _ {A S : Type 0} (g : List ℕ → Fate A) (f : S → A → S) (b : List 
 pub tally-starts : {A S : Type 0} (g : List ℕ → Fate A) (f : S → A → S) (s : S) (b : List ℕ)
     → fated (tally f s) (itemsFrom (suc (length b) - 0) g 0 b) ≡ fated (tally f s) (itemsFrom (suc (length b)) g 0 b)
 tally-starts g f s b = let m : suc (length b) - 0 ≡ suc (length b) = omega arith in ap (λ (n : ℕ). fated (tally f s) (itemsFrom n g 0 b)) m
-
--- none counted yet
-pub count-starts : {A : Type 0} (g : List ℕ → Fate A) (b : List ℕ) → fated (tally oneMore 0) (itemsFrom (suc (length b) - 0) g 0 b) ≡ fated length (itemsFrom (suc (length b)) g 0 b)
-count-starts {A} g b = tally-starts g oneMore 0 b ∙ go (itemsFrom (suc (length b)) g 0 b)
-  where
-    go : (a : Fate (List A)) → fated (tally oneMore 0) a ≡ fated length a
-    go (fine vs) = let e : tally oneMore 0 vs ≡ length vs = tally-counts 0 vs ∙ omega arith in ap fine e
-    go (faulty n o) = refl
 
 -- two tests, the second of which fails
 and-false : (a b : Bool) → b ≡ false → a && b ≡ false

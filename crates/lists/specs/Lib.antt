@@ -6,8 +6,10 @@ pub mod RulesRight
 pub mod Laws
 pub mod Fill
 pub mod ReadLaws
+pub mod Lent
 pub mod Places
 pub mod Only
 pub mod Keep
+pub mod First
 pub mod Any
 pub mod AnyReal

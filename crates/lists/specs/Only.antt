@@ -31,8 +31,8 @@ rest-place : (b : List ℕ) (i j : ℕ) → i ≤ length b → j ≤ length b �
 rest-place b i j h k e = omega (arith, ap length e, length-drop i b, length-drop j b)
 
 -- `item_at`
-pub item-only : (b : List ℕ) (i : ℕ) (r s : Item) → ItemAt b i r → ItemAt b i s → r ≡ s
-item-only b i r s h k =
+pub item-told-only : (b : List ℕ) (i : ℕ) (r s : Item) → ItemAt b i r → ItemAt b i s → r ≡ s
+item-told-only b i r s h k =
     let x : r .start ≡ s .start = h .begins ∙ sym (k .begins) in
     let z : r .bound ≡ s .bound = rest-place b (r .bound) (s .bound) (h .within) (k .within) (h .ends ∙ sym (k .ends)) in
     let m : length (take (r .stop - r .start) (drop (r .start) b)) ≡ r .stop - r .start = length-take-le (r .stop - r .start) (drop (r .start) b) (omega (arith, h .ordered, h .short, h .within, length-drop (r .start) b)) in
@@ -108,11 +108,11 @@ AllFit [] = Unit {0}
 AllFit (x ∷ l) = T (fits binary64 x) × AllFit l
 
 -- a lent list of f64s is fixed by their bits: `read_reals`, `next_f64_list`, `next_real_list`
-pub reals-only : (l m : List Float) → AllFit l → AllFit m → map (toBits binary64) l ≡ map (toBits binary64) m → l ≡ m
-reals-only [] [] h k e = refl
-reals-only [] (y ∷ m) h k e = clash (cc)
-reals-only (x ∷ l) [] h k e = clash (cc)
-reals-only (x ∷ l) (y ∷ m) (h, i) (k, j) e =
+pub reals-told-only : (l m : List Float) → AllFit l → AllFit m → map (toBits binary64) l ≡ map (toBits binary64) m → l ≡ m
+reals-told-only [] [] h k e = refl
+reals-told-only [] (y ∷ m) h k e = clash (cc)
+reals-told-only (x ∷ l) [] h k e = clash (cc)
+reals-told-only (x ∷ l) (y ∷ m) (h, i) (k, j) e =
     let a : toBits binary64 x ≡ toBits binary64 y = cc in
     let b : map (toBits binary64) l ≡ map (toBits binary64) m = cc in
-    ap (λ (z : Float). z ∷ l) (bits-only x y h k a) ∙ ap (λ (n : List Float). y ∷ n) (reals-only l m i j b)
+    ap (λ (z : Float). z ∷ l) (bits-only x y h k a) ∙ ap (λ (n : List Float). y ∷ n) (reals-told-only l m i j b)

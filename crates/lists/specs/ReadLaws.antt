@@ -4,19 +4,17 @@ use mathlib.Core.Path.{_≡_, refl, sym, _∙_, ap}
 use mathlib.Core.Bool.{Bool, true, false}
 use mathlib.Core.List.{List, [], _∷_, map}
 use native.Mathlib.Omega.{arith}
-use lib.Dec.{leb}
 use lib.ListN.{length, take, drop, length-map}
-use borrow.Author.Tests.{leb-true}
 use Rattle.common.specs.Pick.{pick}
 use Rattle.common.specs.Compare.{clash}
 use Rattle.error.specs.Refusal.{Refusal, refusal, Told, good, bad}
 use Rattle.params.specs.Answer.{reading, span, onward}
 use Rattle.params.specs.Reader.{paramOf}
 use Rattle.lists.specs.declared.Shape.{Shape}
-use Rattle.lists.specs.declared.Shape.the-variants.{NotList, Blank, Full}
+use Rattle.lists.specs.declared.Shape.the-variants.{NotList, Full}
 use Rattle.lists.specs.Answer.{Fate, fine, faulty, shifted, fated, mute, consed, roomed, nextBy, fitsIn, countOf, howMany, written, valuesOf}
 use Rattle.lists.specs.Items.{itemEnd, itemText, indent, itemBy, headed, past-comma, itemsFrom, isBlank, itemsBy, Body, inside, bare, bodyOf, listed, listBy, moved, Ready, filled, ShapeAt}
-use Rattle.lists.specs.Laws.{list-none, list-blank, list-full, shape-none, shape-blank, shape-full}
+use Rattle.lists.specs.Laws.{list-none, list-full, shape-none, shape-full}
 
 -- Items told by h: the list is the one of those whose items are told by h.
 module _ {A B : Type 0} (h : A → B) where
@@ -109,16 +107,7 @@ pub onward-bad : {A B : Type 0} (h : A → B) (x : Told A) (q : Refusal) → bad
 onward-bad h (good v) q e = clash (cc)
 onward-bad h (bad p) q e = let k : p ≡ q = cc in ap bad k
 
--- what is told of a list whose items are told by kind
-pub read-told : {A : Type 0} (g : List ℕ → Fate A) (t : List ℕ) (room : ℕ) (a : Told ℕ) → a ≡ roomed (λ n. leb n room) 0 (fated length (listBy (λ u. mute (g u)) t))
-    → a ≡ countOf (roomed (fitsIn room) 0 (listBy g t))
-read-told g t room a e = e ∙ ap (roomed (λ (n : ℕ). leb n room) 0) (count-mute g t) ∙ roomed-told length (λ (n : ℕ). leb n room) 0 (listBy g t)
-
--- there is room for a list that is counted
-pub room-fits : {A : Type 0} (x : Fate (List A)) (room n : ℕ) → good n ≡ countOf (roomed (fitsIn room) 0 x) → Ready x room
-room-fits x room n e = let (v, k, l, r) = roomed-good length (fitsIn room) x n e in rw k (refl, leb-true (length v) room l)
-
--- it is written
+-- a list that is counted is written
 pub room-written : {A : Type 0} (x : Fate (List A)) (room n : ℕ) (out w : List A) → good n ≡ countOf (roomed (fitsIn room) 0 x) → w ≡ filled (valuesOf x) out → w ≡ written (roomed (fitsIn room) 0 x) out
 room-written x room n out w e h = let (v, k, l, r) = roomed-good length (fitsIn room) x n e in rw r (rw k at h)
 
@@ -179,10 +168,6 @@ module _ {A : Type 0} (g : List ℕ → Fate A) (t : List ℕ) (r : Shape) (h : 
   -- none is no list
   pub fills-none : r ≡ NotList → ⊥
   fills-none e = clash (cc (list-none g t (shape-none t r h e), fit .0))
-
-  -- nothing
-  pub fills-blank : (out : List A) → r ≡ Blank → (out ≡ filled (valuesOf (listBy g t)) out) × (0 ≡ length (valuesOf (listBy g t)))
-  fills-blank out e = let (b, f, o) = shape-blank t r h e in let q = list-blank g t b f o in (rw (← q) refl, rw (← q) refl)
 
   -- its items
   pub fills-full : r ≡ Full → (valuesOf (listBy g t) ≡ valuesOf (itemsFrom (suc (length (take (length t - 1 - 1) (drop 1 t)))) g 0 (take (length t - 1 - 1) (drop 1 t))))

@@ -5,17 +5,16 @@
 // are kept from the first time. What a text says as a list, and its items one after another, are there for the crates above, which read
 // lists of lists and lists of any length.
 ghost use mathlib.Core.Path.{_≡_};
-ghost use Prim.Native.Nat.{_+_, _-_, _≤_, _<_, _^_, suc, min};
-ghost use lib.Dec.{leb};
-ghost use mathlib.Core.Bool.{true, false};
-ghost use mathlib.Core.List.{_++_, map};
+ghost use Prim.Native.Nat.{_+_, _-_, _≤_, _<_, _^_, min};
+ghost use mathlib.Core.List.{[], _++_, map};
 ghost use lib.ListN.{length, take, drop, set};
 ghost use lib.Ieee.{binary64, toBits};
 ghost use Rattle.params.specs.Answer.{reading};
 ghost use Rattle.reals.specs.Scalar.{referenceOf, wholeOf, realOf};
 ghost use Rattle.reals.specs.Which.{realBy};
-ghost use Rattle.lists.specs.Items.{moved, reached, itemEnd, ItemAt, toldVerdict, ShapeAt, itemsFrom, listBy, listOf, Ready, filled, Kept, Held};
-ghost use Rattle.lists.specs.Answer.{roomed, countOf, toldReadList, CountedIn, toldCounted, fated, kindOf, asFate, valuesOf, fitsIn, howMany, written, toldNextList};
+ghost use Rattle.lists.specs.Items.{moved, reached, itemEnd, ItemAt, toldVerdict, ShapeAt, itemsIn, listBy, listOf, Ready, filled, Kept, Held};
+ghost use Rattle.lists.specs.Answer.{roomed, countOf, toldReadList, CountedIn, toldCounted, fated, mute, kindOf, valuesOf, nextBy, fitsIn, howMany, written, toldNextList};
+ghost use Rattle.lists.specs.Lent.{valueOf, lentOf, roomOf, fitsBy, putAt};
 ghost use Rattle.lists.specs.Read.{listRead};
 use error::Fault;
 use params::Cut;
@@ -122,21 +121,66 @@ pub fn shape_of(t: &[u8]) -> Shape
     Shape::Full
 }
 
-// Whether a text reads as an item of its kind.
-fn verdict_of(kind: Kind, t: &[u8]) -> Verdict
-    ensures { λ r. ⌜ toldVerdict r ≡ kindOf kind (now (t .entry)) ⌝ }
+// Keeps a reference at its place, if there is such a place.
+fn keep_ref(refs: &mut [u32], n: usize, v: u32)
+    ensures { λ _. ⌜ now (refs .exit) ≡ set (now (refs .entry)) n v ⌝ }
+{
+    if n < refs.len() {
+        refs[n] = v;
+    }
+}
+
+// Keeps an integer at its place, if there is such a place.
+fn keep_whole(wholes: &mut [i64], n: usize, v: i64)
+    ensures { λ _. ⌜ now (wholes .exit) ≡ set (now (wholes .entry)) n v ⌝ }
+{
+    if n < wholes.len() {
+        wholes[n] = v;
+    }
+}
+
+// Keeps a real at its place, if there is such a place.
+fn keep_real(reals: &mut [f64], n: usize, v: f64)
+    ensures { λ _. ⌜ now (reals .exit) ≡ set (now (reals .entry)) n v ⌝ }
+{
+    if n < reals.len() {
+        reals[n] = v;
+    }
+}
+
+// Reads an item of its kind, and keeps it as the n-th of the numbers of that kind.
+fn take_item(
+    kind: Kind,
+    t: &[u8],
+    n: usize,
+    refs: &mut [u32],
+    wholes: &mut [i64],
+    reals: &mut [f64],
+) -> Verdict
+    ensures { λ r. ⌜ toldVerdict r ≡ mute (valueOf kind (now (t .entry))) ⌝ }
+    ensures { λ r. ⌜ lentOf kind (now (refs .exit)) (now (wholes .exit)) (now (reals .exit))
+        ≡ putAt n (valueOf kind (now (t .entry))) (lentOf kind (now (refs .entry)) (now (wholes .entry)) (now (reals .entry))) ⌝ }
 {
     match kind {
         Kind::References => match reals::parse_ref(t) {
-            Reference::Value(_) => Verdict::Reads,
+            Reference::Value(v) => {
+                keep_ref(refs, n, v);
+                Verdict::Reads
+            }
             Reference::NotReference => Verdict::Wrong,
         },
         Kind::Integers => match reals::parse_int(t) {
-            Whole::Value(_) => Verdict::Reads,
+            Whole::Value(v) => {
+                keep_whole(wholes, n, v);
+                Verdict::Reads
+            }
             Whole::NotWhole => Verdict::Wrong,
         },
         Kind::Floats(which) => match reals::read_real(which, t) {
-            Real::Value(_) => Verdict::Reads,
+            Real::Value(v) => {
+                keep_real(reals, n, v);
+                Verdict::Reads
+            }
             Real::Outside => Verdict::Outside,
             Real::NotReal => Verdict::Wrong,
         },
@@ -144,10 +188,19 @@ fn verdict_of(kind: Kind, t: &[u8]) -> Verdict
     }
 }
 
-// Counts the items of a list's inside, or finds the first bad one.
-fn count_items(b: &[u8], kind: Kind) -> Counted
-    ensures { λ r. ⌜ toldCounted r ≡ fated length (itemsFrom (suc (length (now (b .entry)))) (kindOf kind) 0 (now (b .entry))) ⌝ }
+// Reads the items of a list's inside and keeps the first of them, as many as there is room for; or finds the first bad one.
+fn take_items(
+    kind: Kind,
+    b: &[u8],
+    refs: &mut [u32],
+    wholes: &mut [i64],
+    reals: &mut [f64],
+) -> Counted
+    ensures { λ r. ⌜ toldCounted r ≡ fated length (itemsIn (valueOf kind) (now (b .entry))) ⌝ }
     ensures { λ r. ⌜ CountedIn (length (now (b .entry)) + 1) r ⌝ }
+    ensures { λ r. ⌜ Kept (itemsIn (valueOf kind) (now (b .entry)))
+        (lentOf kind (now (refs .entry)) (now (wholes .entry)) (now (reals .entry)))
+        (lentOf kind (now (refs .exit)) (now (wholes .exit)) (now (reals .exit))) ⌝ }
 {
     let mut i: usize = 0;
     let mut n: usize = 0;
@@ -156,7 +209,7 @@ fn count_items(b: &[u8], kind: Kind) -> Counted
         let start = w.start;
         let stop = w.stop;
         let bound = w.bound;
-        match verdict_of(kind, &b[start..stop]) {
+        match take_item(kind, &b[start..stop], n, refs, wholes, reals) {
             Verdict::Reads => n += 1,
             Verdict::Wrong => return Counted::Wrong(start),
             Verdict::Outside => return Counted::Outside(start),
@@ -168,276 +221,54 @@ fn count_items(b: &[u8], kind: Kind) -> Counted
     }
 }
 
+// Reads the items of a list and keeps the first of them, as many as there is room for; or finds what is wrong with it.
+fn take_list(
+    kind: Kind,
+    t: &[u8],
+    refs: &mut [u32],
+    wholes: &mut [i64],
+    reals: &mut [f64],
+) -> Counted
+    ensures { λ r. ⌜ toldCounted r ≡ fated length (listBy (valueOf kind) (now (t .entry))) ⌝ }
+    ensures { λ r. ⌜ CountedIn (length (now (t .entry))) r ⌝ }
+    ensures { λ r. ⌜ Kept (listBy (valueOf kind) (now (t .entry)))
+        (lentOf kind (now (refs .entry)) (now (wholes .entry)) (now (reals .entry)))
+        (lentOf kind (now (refs .exit)) (now (wholes .exit)) (now (reals .exit))) ⌝ }
+{
+    match shape_of(t) {
+        Shape::NotList => Counted::Wrong(0),
+        Shape::Blank => Counted::All(0),
+        Shape::Full => {
+            let n = t.len();
+            match take_items(kind, &t[1..n - 1], refs, wholes, reals) {
+                Counted::All(k) => Counted::All(k),
+                Counted::Wrong(o) => Counted::Wrong(1 + o),
+                Counted::Outside(o) => Counted::Outside(1 + o),
+            }
+        }
+    }
+}
+
 // Counts the items of a list, or finds what is wrong with it.
 pub fn count_list(t: &[u8], kind: Kind) -> Counted
     ensures { λ r. ⌜ toldCounted r ≡ fated length (listBy (kindOf kind) (now (t .entry))) ⌝ }
     ensures { λ r. ⌜ CountedIn (length (now (t .entry))) r ⌝ }
 {
-    match shape_of(t) {
-        Shape::NotList => Counted::Wrong(0),
-        Shape::Blank => Counted::All(0),
-        Shape::Full => {
-            let n = t.len();
-            match count_items(&t[1..n - 1], kind) {
-                Counted::All(k) => Counted::All(k),
-                Counted::Wrong(o) => Counted::Wrong(1 + o),
-                Counted::Outside(o) => Counted::Outside(1 + o),
-            }
-        }
-    }
+    let mut refs: [u32; 0] = [];
+    let mut wholes: [i64; 0] = [];
+    let mut reals: [f64; 0] = [];
+    take_list(kind, t, &mut refs, &mut wholes, &mut reals)
 }
 
-// Writes the references of a list's inside that all read.
-fn fill_ref_items(b: &[u8], out: &mut [u32]) -> usize
-    requires { ⌜ Ready (itemsFrom (suc (length (now b))) (λ u. asFate (referenceOf u)) 0 (now b)) (length (now out)) ⌝ }
-    ensures { λ r. ⌜ now (out .exit) ≡ filled (valuesOf (itemsFrom (suc (length (now (b .entry)))) (λ u. asFate (referenceOf u)) 0 (now (b .entry)))) (now (out .entry)) ⌝ }
-    ensures { λ r. ⌜ r ≡ length (valuesOf (itemsFrom (suc (length (now (b .entry)))) (λ u. asFate (referenceOf u)) 0 (now (b .entry)))) ⌝ }
+// The one of three rooms that is for numbers of a kind; there is none for any items.
+fn room_of(kind: Kind, refs: usize, wholes: usize, reals: usize) -> usize
+    ensures { λ r. ⌜ r ≡ roomOf kind refs wholes reals ⌝ }
 {
-    let mut i: usize = 0;
-    let mut n: usize = 0;
-    loop {
-        let w = item_at(b, i);
-        let start = w.start;
-        let stop = w.stop;
-        let bound = w.bound;
-        let Reference::Value(v) = reals::parse_ref(&b[start..stop]) else {
-            return n;
-        };
-        out[n] = v;
-        n += 1;
-        if bound == b.len() {
-            return n;
-        }
-        i = bound + 1;
-    }
-}
-
-// Writes the references of a list that all read.
-fn fill_refs(t: &[u8], out: &mut [u32]) -> usize
-    requires { ⌜ Ready (listOf referenceOf (now t)) (length (now out)) ⌝ }
-    ensures { λ r. ⌜ now (out .exit) ≡ filled (valuesOf (listOf referenceOf (now (t .entry)))) (now (out .entry)) ⌝ }
-    ensures { λ r. ⌜ r ≡ length (valuesOf (listOf referenceOf (now (t .entry)))) ⌝ }
-{
-    match shape_of(t) {
-        Shape::NotList => 0,
-        Shape::Blank => 0,
-        Shape::Full => {
-            let n = t.len();
-            fill_ref_items(&t[1..n - 1], out)
-        }
-    }
-}
-
-// Whether a list reads and fits: how many items it has, or what is wrong with it.
-fn room_for(t: &[u8], kind: Kind, room: usize) -> ReadList
-    ensures { λ r. ⌜ toldReadList r ≡ roomed (λ n. leb n room) 0 (fated length (listBy (kindOf kind) (now (t .entry)))) ⌝ }
-{
-    match count_list(t, kind) {
-        Counted::Wrong(o) => ReadList::Wrong(o),
-        Counted::Outside(o) => ReadList::Outside(o),
-        Counted::All(n) => {
-            if n <= room {
-                return ReadList::Count(n);
-            }
-            ReadList::Short
-        }
-    }
-}
-
-// Reads the text of a list of references into lent numbers.
-pub fn read_refs(t: &[u8], out: &mut [u32]) -> ReadList
-    ensures { λ r. ⌜ toldReadList r ≡ countOf (roomed (fitsIn (length (now (out .entry)))) 0 (listOf referenceOf (now (t .entry)))) ⌝ }
-    ensures { λ r. ⌜ now (out .exit) ≡ written (roomed (fitsIn (length (now (out .entry)))) 0 (listOf referenceOf (now (t .entry)))) (now (out .entry)) ⌝ }
-{
-    let r = room_for(t, Kind::References, out.len());
-    let ReadList::Count(_) = r else {
-        return r;
-    };
-    fill_refs(t, out);
-    r
-}
-
-// What was read of the parameter that starts at `start`, as the reader's answer: places are the file's.
-fn answer_of(r: ReadList, start: usize, to: State) -> NextList
-    requires { ⌜ start + reached r < 2 ^ 63 ⌝ }
-    ensures { λ a. ⌜ toldNextList a ≡ reading (moved start (toldReadList r)) (to .place) (to .end) ⌝ }
-{
-    match r {
-        ReadList::Count(n) => NextList::Count(n, to),
-        ReadList::Wrong(o) => NextList::Refused(Fault::WrongType(start + o), to),
-        ReadList::Outside(o) => NextList::Refused(Fault::OutsideClass(start + o), to),
-        ReadList::Short => NextList::Refused(Fault::TooShort(start), to),
-    }
-}
-
-// Reads a list of references into lent numbers.
-pub fn next_ref_list(file: &[u8], at: State, out: &mut [u32]) -> NextList
-    ensures { λ r. ⌜ toldNextList r ≡ howMany (listRead referenceOf (length (now (out .entry))) (now (file .entry)) (at .place) (at .end)) ⌝ }
-    ensures { λ r. ⌜ now (out .exit) ≡ written (listRead referenceOf (length (now (out .entry))) (now (file .entry)) (at .place) (at .end) .answer) (now (out .entry)) ⌝ }
-{
-    match params::param_span(file, at) {
-        Cut::Refused(f, to) => NextList::Refused(f, to),
-        Cut::Span(start, stop, to) => answer_of(read_refs(&file[start..stop], out), start, to),
-    }
-}
-
-// Writes the integers of a list's inside that all read.
-fn fill_whole_items(b: &[u8], out: &mut [i64]) -> usize
-    requires { ⌜ Ready (itemsFrom (suc (length (now b))) (λ u. asFate (wholeOf u)) 0 (now b)) (length (now out)) ⌝ }
-    ensures { λ r. ⌜ now (out .exit) ≡ filled (valuesOf (itemsFrom (suc (length (now (b .entry)))) (λ u. asFate (wholeOf u)) 0 (now (b .entry)))) (now (out .entry)) ⌝ }
-    ensures { λ r. ⌜ r ≡ length (valuesOf (itemsFrom (suc (length (now (b .entry)))) (λ u. asFate (wholeOf u)) 0 (now (b .entry)))) ⌝ }
-{
-    let mut i: usize = 0;
-    let mut n: usize = 0;
-    loop {
-        let w = item_at(b, i);
-        let start = w.start;
-        let stop = w.stop;
-        let bound = w.bound;
-        let Whole::Value(v) = reals::parse_int(&b[start..stop]) else {
-            return n;
-        };
-        out[n] = v;
-        n += 1;
-        if bound == b.len() {
-            return n;
-        }
-        i = bound + 1;
-    }
-}
-
-// Writes the integers of a list that all read.
-fn fill_wholes(t: &[u8], out: &mut [i64]) -> usize
-    requires { ⌜ Ready (listOf wholeOf (now t)) (length (now out)) ⌝ }
-    ensures { λ r. ⌜ now (out .exit) ≡ filled (valuesOf (listOf wholeOf (now (t .entry)))) (now (out .entry)) ⌝ }
-    ensures { λ r. ⌜ r ≡ length (valuesOf (listOf wholeOf (now (t .entry)))) ⌝ }
-{
-    match shape_of(t) {
-        Shape::NotList => 0,
-        Shape::Blank => 0,
-        Shape::Full => {
-            let n = t.len();
-            fill_whole_items(&t[1..n - 1], out)
-        }
-    }
-}
-
-// Reads the text of a list of integers into lent numbers.
-pub fn read_wholes(t: &[u8], out: &mut [i64]) -> ReadList
-    ensures { λ r. ⌜ toldReadList r ≡ countOf (roomed (fitsIn (length (now (out .entry)))) 0 (listOf wholeOf (now (t .entry)))) ⌝ }
-    ensures { λ r. ⌜ now (out .exit) ≡ written (roomed (fitsIn (length (now (out .entry)))) 0 (listOf wholeOf (now (t .entry)))) (now (out .entry)) ⌝ }
-{
-    let r = room_for(t, Kind::Integers, out.len());
-    let ReadList::Count(_) = r else {
-        return r;
-    };
-    fill_wholes(t, out);
-    r
-}
-
-// Reads a list of integers into lent numbers.
-pub fn next_i64_list(file: &[u8], at: State, out: &mut [i64]) -> NextList
-    ensures { λ r. ⌜ toldNextList r ≡ howMany (listRead wholeOf (length (now (out .entry))) (now (file .entry)) (at .place) (at .end)) ⌝ }
-    ensures { λ r. ⌜ now (out .exit) ≡ written (listRead wholeOf (length (now (out .entry))) (now (file .entry)) (at .place) (at .end) .answer) (now (out .entry)) ⌝ }
-{
-    match params::param_span(file, at) {
-        Cut::Refused(f, to) => NextList::Refused(f, to),
-        Cut::Span(start, stop, to) => answer_of(read_wholes(&file[start..stop], out), start, to),
-    }
-}
-
-// Writes the reals of a list's inside that all read.
-fn fill_real_items(which: Reals, b: &[u8], out: &mut [f64]) -> usize
-    requires { ⌜ Ready (itemsFrom (suc (length (now b))) (λ u. asFate (realBy which u)) 0 (now b)) (length (now out)) ⌝ }
-    ensures { λ r. ⌜ map (toBits binary64) (now (out .exit))
-        ≡ filled (valuesOf (itemsFrom (suc (length (now (b .entry)))) (λ u. asFate (realBy which u)) 0 (now (b .entry)))) (map (toBits binary64) (now (out .entry))) ⌝ }
-    ensures { λ r. ⌜ r ≡ length (valuesOf (itemsFrom (suc (length (now (b .entry)))) (λ u. asFate (realBy which u)) 0 (now (b .entry)))) ⌝ }
-{
-    let mut i: usize = 0;
-    let mut n: usize = 0;
-    loop {
-        let w = item_at(b, i);
-        let start = w.start;
-        let stop = w.stop;
-        let bound = w.bound;
-        let Real::Value(v) = reals::read_real(which, &b[start..stop]) else {
-            return n;
-        };
-        out[n] = v;
-        n += 1;
-        if bound == b.len() {
-            return n;
-        }
-        i = bound + 1;
-    }
-}
-
-// Writes the reals of a list that all read.
-fn fill_reals(which: Reals, t: &[u8], out: &mut [f64]) -> usize
-    requires { ⌜ Ready (listOf (realBy which) (now t)) (length (now out)) ⌝ }
-    ensures { λ r. ⌜ map (toBits binary64) (now (out .exit)) ≡ filled (valuesOf (listOf (realBy which) (now (t .entry)))) (map (toBits binary64) (now (out .entry))) ⌝ }
-    ensures { λ r. ⌜ r ≡ length (valuesOf (listOf (realBy which) (now (t .entry)))) ⌝ }
-{
-    match shape_of(t) {
-        Shape::NotList => 0,
-        Shape::Blank => 0,
-        Shape::Full => {
-            let n = t.len();
-            fill_real_items(which, &t[1..n - 1], out)
-        }
-    }
-}
-
-// Keeps a real at its place among the first ones, if there is such a place.
-fn keep_real(first: &mut [f64], n: usize, x: f64)
-    ensures { λ _. ⌜ now (first .exit) ≡ set (now (first .entry)) n x ⌝ }
-{
-    if n < first.len() {
-        first[n] = x;
-    }
-}
-
-// Reads the reals of a list's inside and keeps the first of them, or finds the first bad one.
-fn keep_real_items(which: Reals, b: &[u8], first: &mut [f64]) -> Counted
-    ensures { λ r. ⌜ toldCounted r ≡ fated length (itemsFrom (suc (length (now (b .entry)))) (λ u. asFate (realBy which u)) 0 (now (b .entry))) ⌝ }
-    ensures { λ r. ⌜ Kept (itemsFrom (suc (length (now (b .entry)))) (λ u. asFate (realBy which u)) 0 (now (b .entry))) (map (toBits binary64) (now (first .entry))) (map (toBits binary64) (now (first .exit))) ⌝ }
-{
-    let mut i: usize = 0;
-    let mut n: usize = 0;
-    loop {
-        let w = item_at(b, i);
-        let start = w.start;
-        let stop = w.stop;
-        let bound = w.bound;
-        match reals::read_real(which, &b[start..stop]) {
-            Real::Value(x) => keep_real(first, n, x),
-            Real::Outside => return Counted::Outside(start),
-            Real::NotReal => return Counted::Wrong(start),
-        }
-        n += 1;
-        if bound == b.len() {
-            return Counted::All(n);
-        }
-        i = bound + 1;
-    }
-}
-
-// Reads the reals of a list and keeps the first of them, or finds what is wrong with it.
-fn keep_reals(which: Reals, t: &[u8], first: &mut [f64]) -> Counted
-    ensures { λ r. ⌜ toldCounted r ≡ fated length (listOf (realBy which) (now (t .entry))) ⌝ }
-    ensures { λ r. ⌜ Kept (listOf (realBy which) (now (t .entry))) (map (toBits binary64) (now (first .entry))) (map (toBits binary64) (now (first .exit))) ⌝ }
-{
-    match shape_of(t) {
-        Shape::NotList => Counted::Wrong(0),
-        Shape::Blank => Counted::All(0),
-        Shape::Full => {
-            let n = t.len();
-            match keep_real_items(which, &t[1..n - 1], first) {
-                Counted::All(k) => Counted::All(k),
-                Counted::Wrong(o) => Counted::Wrong(1 + o),
-                Counted::Outside(o) => Counted::Outside(1 + o),
-            }
-        }
+    match kind {
+        Kind::References => refs,
+        Kind::Integers => wholes,
+        Kind::Floats(_) => reals,
+        Kind::Any => 0,
     }
 }
 
@@ -453,39 +284,180 @@ fn lay_reals(first: &[f64], n: usize, out: &mut [f64])
     }
 }
 
-// Writes the n reals of a list, the first of which were kept: only a list of more than those is gone through again.
-fn write_reals(which: Reals, t: &[u8], first: &[f64], n: usize, out: &mut [f64])
-    requires { ⌜ Ready (listOf (realBy which) (now t)) (length (now out)) ⌝ }
-    requires { ⌜ n ≡ length (valuesOf (listOf (realBy which) (now t))) ⌝ }
-    requires { ⌜ Held (listOf (realBy which) (now t)) (map (toBits binary64) (now first)) ⌝ }
-    ensures { λ _. ⌜ map (toBits binary64) (now (out .exit)) ≡ filled (valuesOf (listOf (realBy which) (now (t .entry)))) (map (toBits binary64) (now (out .entry))) ⌝ }
+// Writes the n numbers of a list, the first of which were kept if they are reals: only what is not all kept is gone through again.
+fn write_list(
+    kind: Kind,
+    t: &[u8],
+    first: &[f64],
+    n: usize,
+    refs: &mut [u32],
+    wholes: &mut [i64],
+    reals: &mut [f64],
+)
+    requires { ⌜ Ready (listBy (valueOf kind) (now t)) (roomOf kind (length (now refs)) (length (now wholes)) (length (now reals))) ⌝ }
+    requires { ⌜ n ≡ length (valuesOf (listBy (valueOf kind) (now t))) ⌝ }
+    requires { ⌜ Held (listBy (valueOf kind) (now t)) (lentOf kind [] [] (now first)) ⌝ }
+    ensures { λ _. ⌜ lentOf kind (now (refs .exit)) (now (wholes .exit)) (now (reals .exit))
+        ≡ filled (valuesOf (listBy (valueOf kind) (now (t .entry)))) (lentOf kind (now (refs .entry)) (now (wholes .entry)) (now (reals .entry))) ⌝ }
 {
-    if n <= first.len() {
-        lay_reals(first, n, out);
+    if n <= room_of(kind, 0, 0, first.len()) {
+        lay_reals(first, n, reals);
         return;
     }
-    fill_reals(which, t, out);
+    take_list(kind, t, refs, wholes, reals);
 }
 
-// Reads the text of a list of reals into lent numbers. Most lists are the coordinates of one point, and a real takes long to read: up to
-// sixteen are written from the first pass.
+// Reads the text of a list into the lent numbers of its kind. Most lists are the coordinates of one point, and a real takes long to
+// read: as many as `first` has places for are written from the first pass.
+fn read_list(
+    kind: Kind,
+    t: &[u8],
+    first: &mut [f64],
+    refs: &mut [u32],
+    wholes: &mut [i64],
+    reals: &mut [f64],
+) -> ReadList
+    ensures { λ r. ⌜ toldReadList r ≡ countOf (roomed (fitsBy kind (now (refs .entry)) (now (wholes .entry)) (now (reals .entry))) 0 (listBy (valueOf kind) (now (t .entry)))) ⌝ }
+    ensures { λ r. ⌜ lentOf kind (now (refs .exit)) (now (wholes .exit)) (now (reals .exit))
+        ≡ written (roomed (fitsBy kind (now (refs .entry)) (now (wholes .entry)) (now (reals .entry))) 0 (listBy (valueOf kind) (now (t .entry)))) (lentOf kind (now (refs .entry)) (now (wholes .entry)) (now (reals .entry))) ⌝ }
+{
+    let mut no_refs: [u32; 0] = [];
+    let mut no_wholes: [i64; 0] = [];
+    match take_list(kind, t, &mut no_refs, &mut no_wholes, first) {
+        Counted::Wrong(o) => ReadList::Wrong(o),
+        Counted::Outside(o) => ReadList::Outside(o),
+        Counted::All(n) => {
+            if room_of(kind, refs.len(), wholes.len(), reals.len()) < n {
+                return ReadList::Short;
+            }
+            write_list(kind, t, first, n, refs, wholes, reals);
+            ReadList::Count(n)
+        }
+    }
+}
+
+// Reads the text of a list of references into lent numbers.
+pub fn read_refs(t: &[u8], out: &mut [u32]) -> ReadList
+    ensures { λ r. ⌜ toldReadList r ≡ countOf (roomed (fitsIn (length (now (out .entry)))) 0 (listOf referenceOf (now (t .entry)))) ⌝ }
+    ensures { λ r. ⌜ now (out .exit) ≡ written (roomed (fitsIn (length (now (out .entry)))) 0 (listOf referenceOf (now (t .entry)))) (now (out .entry)) ⌝ }
+{
+    let mut first: [f64; 0] = [];
+    let mut wholes: [i64; 0] = [];
+    let mut reals: [f64; 0] = [];
+    read_list(
+        Kind::References,
+        t,
+        &mut first,
+        out,
+        &mut wholes,
+        &mut reals,
+    )
+}
+
+// Reads the text of a list of integers into lent numbers.
+pub fn read_wholes(t: &[u8], out: &mut [i64]) -> ReadList
+    ensures { λ r. ⌜ toldReadList r ≡ countOf (roomed (fitsIn (length (now (out .entry)))) 0 (listOf wholeOf (now (t .entry)))) ⌝ }
+    ensures { λ r. ⌜ now (out .exit) ≡ written (roomed (fitsIn (length (now (out .entry)))) 0 (listOf wholeOf (now (t .entry)))) (now (out .entry)) ⌝ }
+{
+    let mut first: [f64; 0] = [];
+    let mut refs: [u32; 0] = [];
+    let mut reals: [f64; 0] = [];
+    read_list(Kind::Integers, t, &mut first, &mut refs, out, &mut reals)
+}
+
+// Reads the text of a list of reals into lent numbers.
 pub fn read_reals(which: Reals, t: &[u8], out: &mut [f64]) -> ReadList
     ensures { λ r. ⌜ toldReadList r ≡ countOf (roomed (fitsIn (length (now (out .entry)))) 0 (listOf (realBy which) (now (t .entry)))) ⌝ }
     ensures { λ r. ⌜ map (toBits binary64) (now (out .exit))
         ≡ written (roomed (fitsIn (length (now (out .entry)))) 0 (listOf (realBy which) (now (t .entry)))) (map (toBits binary64) (now (out .entry))) ⌝ }
 {
     let mut first = [0.0; 16];
-    match keep_reals(which, t, &mut first) {
-        Counted::Wrong(o) => ReadList::Wrong(o),
-        Counted::Outside(o) => ReadList::Outside(o),
-        Counted::All(n) => {
-            if out.len() < n {
-                return ReadList::Short;
-            }
-            write_reals(which, t, &first, n, out);
-            ReadList::Count(n)
-        }
+    let mut refs: [u32; 0] = [];
+    let mut wholes: [i64; 0] = [];
+    read_list(
+        Kind::Floats(which),
+        t,
+        &mut first,
+        &mut refs,
+        &mut wholes,
+        out,
+    )
+}
+
+// What was read of the parameter that starts at `start`, as the reader's answer: places are the file's.
+fn answer_of(r: ReadList, start: usize, to: State) -> NextList
+    requires { ⌜ start + reached r < 2 ^ 63 ⌝ }
+    ensures { λ a. ⌜ toldNextList a ≡ reading (moved start (toldReadList r)) (to .place) (to .end) ⌝ }
+{
+    match r {
+        ReadList::Count(n) => NextList::Count(n, to),
+        ReadList::Wrong(o) => NextList::Refused(Fault::WrongType(start + o), to),
+        ReadList::Outside(o) => NextList::Refused(Fault::OutsideClass(start + o), to),
+        ReadList::Short => NextList::Refused(Fault::TooShort(start), to),
     }
+}
+
+// Reads a list into the lent numbers of its kind.
+fn next_list(
+    kind: Kind,
+    file: &[u8],
+    at: State,
+    first: &mut [f64],
+    refs: &mut [u32],
+    wholes: &mut [i64],
+    reals: &mut [f64],
+) -> NextList
+    ensures { λ r. ⌜ toldNextList r ≡ howMany (nextBy (listBy (valueOf kind)) (fitsBy kind (now (refs .entry)) (now (wholes .entry)) (now (reals .entry))) (now (file .entry)) (at .place) (at .end)) ⌝ }
+    ensures { λ r. ⌜ lentOf kind (now (refs .exit)) (now (wholes .exit)) (now (reals .exit))
+        ≡ written (nextBy (listBy (valueOf kind)) (fitsBy kind (now (refs .entry)) (now (wholes .entry)) (now (reals .entry))) (now (file .entry)) (at .place) (at .end) .answer)
+        (lentOf kind (now (refs .entry)) (now (wholes .entry)) (now (reals .entry))) ⌝ }
+{
+    match params::param_span(file, at) {
+        Cut::Refused(f, to) => NextList::Refused(f, to),
+        Cut::Span(start, stop, to) => answer_of(
+            read_list(kind, &file[start..stop], first, refs, wholes, reals),
+            start,
+            to,
+        ),
+    }
+}
+
+// Reads a list of references into lent numbers.
+pub fn next_ref_list(file: &[u8], at: State, out: &mut [u32]) -> NextList
+    ensures { λ r. ⌜ toldNextList r ≡ howMany (listRead referenceOf (length (now (out .entry))) (now (file .entry)) (at .place) (at .end)) ⌝ }
+    ensures { λ r. ⌜ now (out .exit) ≡ written (listRead referenceOf (length (now (out .entry))) (now (file .entry)) (at .place) (at .end) .answer) (now (out .entry)) ⌝ }
+{
+    let mut first: [f64; 0] = [];
+    let mut wholes: [i64; 0] = [];
+    let mut reals: [f64; 0] = [];
+    next_list(
+        Kind::References,
+        file,
+        at,
+        &mut first,
+        out,
+        &mut wholes,
+        &mut reals,
+    )
+}
+
+// Reads a list of integers into lent numbers.
+pub fn next_i64_list(file: &[u8], at: State, out: &mut [i64]) -> NextList
+    ensures { λ r. ⌜ toldNextList r ≡ howMany (listRead wholeOf (length (now (out .entry))) (now (file .entry)) (at .place) (at .end)) ⌝ }
+    ensures { λ r. ⌜ now (out .exit) ≡ written (listRead wholeOf (length (now (out .entry))) (now (file .entry)) (at .place) (at .end) .answer) (now (out .entry)) ⌝ }
+{
+    let mut first: [f64; 0] = [];
+    let mut refs: [u32; 0] = [];
+    let mut reals: [f64; 0] = [];
+    next_list(
+        Kind::Integers,
+        file,
+        at,
+        &mut first,
+        &mut refs,
+        out,
+        &mut reals,
+    )
 }
 
 // Reads a list of reals, of the class or any, into lent numbers.
@@ -494,14 +466,18 @@ pub fn next_real_list(which: Reals, file: &[u8], at: State, out: &mut [f64]) -> 
     ensures { λ r. ⌜ map (toBits binary64) (now (out .exit))
         ≡ written (listRead (realBy which) (length (now (out .entry))) (now (file .entry)) (at .place) (at .end) .answer) (map (toBits binary64) (now (out .entry))) ⌝ }
 {
-    match params::param_span(file, at) {
-        Cut::Refused(f, to) => NextList::Refused(f, to),
-        Cut::Span(start, stop, to) => answer_of(
-            read_reals(which, &file[start..stop], out),
-            start,
-            to,
-        ),
-    }
+    let mut first = [0.0; 16];
+    let mut refs: [u32; 0] = [];
+    let mut wholes: [i64; 0] = [];
+    next_list(
+        Kind::Floats(which),
+        file,
+        at,
+        &mut first,
+        &mut refs,
+        &mut wholes,
+        out,
+    )
 }
 
 // Reads a list of reals of the class into lent numbers.

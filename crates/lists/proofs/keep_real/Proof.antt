@@ -7,7 +7,7 @@ use Rattle.lists.proofs.keep_real.Statement.{statement}
 use Rattle.lists.proofs.keep_real.Tie as tie
 
 returns-2 : tie.Need-returns-2
-returns-2 c = let t = c .before .args in sym (set-out (now (t .first)) (t .n) (t .x) (omega (arith, c .if1 .left)))
+returns-2 c = let t = c .before .args in sym (set-out (now (t .reals)) (t .n) (t .v) (omega (arith, c .if1 .left)))
 
 pub keep-real-spec : {M : Type 1} → statement M
 keep-real-spec = tie.close (tie.spec
