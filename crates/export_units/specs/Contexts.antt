@@ -11,7 +11,7 @@ use Rattle.lookup.specs.Lookup.{rowIn}
 use Rattle.factors.specs.Thing.{Thing, thingOf, tableFind}
 use Rattle.units.specs.Answer.{Units}
 use Rattle.units.specs.Units.{contextOf}
-use Rattle.units.specs.Code.{resolveTable}
+use Rattle.units.specs.InTable.{resolveTable}
 use Rattle.plain.specs.Numbers.{tablesBy}
 
 -- the units of the context in a row, or what refuses them; none where there is no row. `find` gives the record of an id

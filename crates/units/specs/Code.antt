@@ -10,7 +10,6 @@ use Rattle.common.specs.Pick.{pick}
 use Rattle.error.specs.Refusal.{Told, good, bad, told}
 use Rattle.statement.specs.Rows.{Row, HeaderRow}
 use Rattle.table.specs.Table.{tableRows, rowNumbers}
-use Rattle.index.specs.declared.Ids.{Ids}
 use Rattle.reals.specs.Scalar.{referenceOf}
 use Rattle.kinds.specs.Kind.{kindOf}
 use Rattle.kinds.specs.declared.Kind.{Kind}
@@ -19,11 +18,11 @@ use Rattle.params.specs.Answer.{span, onward}
 use Rattle.lists.specs.Answer.{fine, asFate, valuesOf}
 use Rattle.lists.specs.Items.{itemsFrom}
 use Rattle.lookup.specs.Lookup.{cut, spanFine}
-use Rattle.factors.specs.Thing.{sameKind, Thing, thingOf, tableFind}
+use Rattle.factors.specs.Thing.{sameKind, Thing, thingOf}
 use Rattle.factors.specs.Answer.{toldRun}
 use Rattle.factors.specs.declared.Run as RunCode
 use Rattle.units.specs.Answer.{Units, units, defaults, isContext, refsIn}
-use Rattle.units.specs.Units.{contextOf, resolveOf}
+use Rattle.units.specs.Units.{contextOf}
 use Rattle.units.specs.declared.Asked as AskedCode
 use Rattle.units.specs.declared.role.Role as RoleCode
 use Rattle.units.specs.declared.listed.Tolerance as ToleranceCode
@@ -53,10 +52,6 @@ thingsFrom s row (suc n) k = thingOf s (row k) ∷ thingsFrom s row n (suc k)
 -- the records of a table in lent memory of which n rows are told
 abbrev pub tableThings : List ℕ → List ℕ → ℕ → List (Told Thing)
 tableThings s rows n = thingsFrom s (rowNumbers rows) (tableRows rows n) 0
-
--- the units of a file, by its records' table in lent memory of which n rows are told
-abbrev pub resolveTable : List ℕ → List ℕ → List ℕ → Ids → ℕ → Told Units
-resolveTable s rows slots ids n = resolveOf s (tableFind s rows slots ids) (tableThings s rows n)
 
 -- the code's role of a kind
 abbrev pub roleAfter : Kind → RoleCode.Role

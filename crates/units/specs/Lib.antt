@@ -3,6 +3,7 @@ pub mod Units
 pub mod Rules
 pub mod RulesRight
 pub mod Code
+pub mod InTable
 pub mod Laws
 pub mod Only
 pub mod Places
