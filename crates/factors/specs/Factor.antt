@@ -81,10 +81,6 @@ module _ (s : List ℕ) (find : ℕ → Told (Option Thing)) where
   unfoldable pub angleOf : Thing → Told (Option ℕ)
   angleOf t = unitBy (λ r. good (siAngle s r)) (λ r. onward numberIn (measureRef s r)) none t
 
--- the factor of a length unit, by at most `left` conversions from here on
-abbrev pub lengthLeft : ℕ → List ℕ → (ℕ → Told (Option Thing)) → Thing → Told (Option ℕ)
-lengthLeft left s find = lengthOf s find left
-
 -- the measure that an id names, in millimetres, by at most `left` conversions from its unit on
 abbrev pub measureLeft : ℕ → List ℕ → (ℕ → Told (Option Thing)) → ℕ → Told (Option ℕ)
 measureLeft left s find = measureIn s find (lengthOf s find left)

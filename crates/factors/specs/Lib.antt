@@ -3,6 +3,7 @@ pub mod EachLaws
 pub mod Thing
 pub mod Unit
 pub mod Factor
+pub mod Left
 pub mod Answer
 pub mod Code
 pub mod Laws
