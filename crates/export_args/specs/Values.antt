@@ -4,7 +4,6 @@
 use Prim.Native.Nat.{ℕ}
 use Rattle.error.specs.Refusal.{Told, good, bad}
 use Rattle.scalars.specs.Answer.{Given, given, unset, Logical, holds, fails, unknown}
-use Rattle.words.specs.Answer.{Shown, inFile, inRoom}
 
 -- the value, where one is set; or what stood there
 abbrev pub givenValue : {A : Type 0} → Told (Given A) → A → A
@@ -22,18 +21,3 @@ abbrev pub logicalNumber : Logical → ℕ
 logicalNumber fails = 0
 logicalNumber holds = 1
 logicalNumber unknown = 2
-
--- where a text is: 0 for the file, 1 for the lent room
-abbrev pub shownRoom : Shown → ℕ
-shownRoom (inFile a) = 0
-shownRoom (inRoom n) = 1
-
--- where it begins there
-abbrev pub shownStart : Shown → ℕ
-shownStart (inFile a) = a .start
-shownStart (inRoom n) = 0
-
--- where it ends there
-abbrev pub shownStop : Shown → ℕ
-shownStop (inFile a) = a .stop
-shownStop (inRoom n) = n
