@@ -13,8 +13,9 @@ import sys
 
 ROOT = os.path.dirname(os.path.dirname(os.path.abspath(__file__)))
 KIT = ['io', 'libc', 'os', 'bytes', 'check']
-# Crates that declare a type of which a function has a value and no name: the fields of `r` are read in `HeaderFound::Span(r)`.
-REACHED = {'export_units': ['statement'], 'turns': ['error', 'input']}
+# Crates that declare a type of which a function has a value and no name: the fields of `r` are read in `HeaderFound::Span(r)`,
+# and a kind goes from `plain::kind_by` to `parts::complex_part`.
+REACHED = {'export_records': ['statement', 'kinds'], 'turns': ['error', 'input']}
 
 
 def text_of(crate):

@@ -1,10 +1,10 @@
 -- What a parameter reads as, as plain numbers.
+-- What a parameter reads as, as plain numbers.
 -- Assumes nothing.
 -- Definitions to be believed: no law, and nothing computed that no theorem ties (docs/BELIEVE.md).
 use Prim.Native.Nat.{ℕ}
 use Rattle.error.specs.Refusal.{Told, good, bad}
 use Rattle.scalars.specs.Answer.{Given, given, unset, Logical, holds, fails, unknown}
-use Rattle.words.specs.Answer.{Shown, inFile, inRoom}
 
 -- the value of a parameter, where one is set; or what stood there
 abbrev pub givenValue : {A : Type 0} → Told (Given A) → A → A
@@ -22,18 +22,3 @@ abbrev pub logicalNumber : Logical → ℕ
 logicalNumber fails = 0
 logicalNumber holds = 1
 logicalNumber unknown = 2
-
--- where a text is: 0 for the file, 1 for the lent room
-abbrev pub shownRoom : Shown → ℕ
-shownRoom (inFile a) = 0
-shownRoom (inRoom n) = 1
-
--- where a text begins in the file or in the lent room
-abbrev pub shownStart : Shown → ℕ
-shownStart (inFile a) = a .start
-shownStart (inRoom n) = 0
-
--- where a text ends in the file or in the lent room
-abbrev pub shownStop : Shown → ℕ
-shownStop (inFile a) = a .stop
-shownStop (inRoom n) = n

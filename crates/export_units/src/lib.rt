@@ -1,16 +1,4 @@
-// Header records and their texts, units, parts of complex records and kept rows, for hosts in other languages.
-mod header;
-mod keeping;
-mod pieces;
-
-pub use header::hooflift_file_name;
-pub use header::hooflift_header_args;
-pub use header::hooflift_header_row;
-pub use header::hooflift_originating_system;
-pub use keeping::hooflift_keep_rows;
-pub use keeping::hooflift_read_rows;
-pub use pieces::hooflift_complex_part;
-pub use pieces::hooflift_next_part;
+// Units, for hosts in other languages: the file's, and those of one context.
 ghost use mathlib.Core.Path.{_≡_};
 ghost use Rattle.units.specs.Answer.{toldUnits};
 ghost use Rattle.plain.specs.Answers.{Tells, Puts, PutsReal, PutsFound, PutsFoundReal, readFault, foundCode, truthNumber};

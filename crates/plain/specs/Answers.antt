@@ -13,6 +13,7 @@ use denote.Triple.Both.{Both}
 use Rattle.error.specs.Refusal.{Told, good, bad}
 use Rattle.params.specs.Answer.{Read}
 use Rattle.lists.specs.Answer.{written}
+use Rattle.words.specs.Answer.{Shown, inFile, inRoom}
 
 -- what a host lends, when a function is called and when it answers
 abbrev pub Lent : Type 0 → Type 0
@@ -81,3 +82,18 @@ PutsFoundReal f r v = toBits binary64 (now (v .exit)) ≡ foundValue f r (toBits
 abbrev pub truthNumber : Bool → ℕ
 truthNumber true = 1
 truthNumber false = 0
+
+-- where a text is: 0 for the file, 1 for the lent room
+abbrev pub shownRoom : Shown → ℕ
+shownRoom (inFile a) = 0
+shownRoom (inRoom n) = 1
+
+-- where it begins there
+abbrev pub shownStart : Shown → ℕ
+shownStart (inFile a) = a .start
+shownStart (inRoom n) = 0
+
+-- where it ends there
+abbrev pub shownStop : Shown → ℕ
+shownStop (inFile a) = a .stop
+shownStop (inRoom n) = n

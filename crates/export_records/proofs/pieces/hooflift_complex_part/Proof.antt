@@ -1,6 +1,6 @@
 use borrow.Author.Needs.{needs}
-use Rattle.export_units.proofs.pieces.hooflift_complex_part.Statement.{statement}
-use Rattle.export_units.proofs.pieces.hooflift_complex_part.Tie as tie
+use Rattle.export_records.proofs.pieces.hooflift_complex_part.Statement.{statement}
+use Rattle.export_records.proofs.pieces.hooflift_complex_part.Tie as tie
 
 returns : tie.Need-returns
 returns c = rw (c .before .before .before .before .before .complex-part .ensures, c .before .before .before .before .before .before .kind-by .ensures) at (c .before .before .put-next .ensures)

@@ -1,6 +1,6 @@
 use borrow.Author.Needs.{needs}
-use Rattle.export_units.proofs.header.hooflift_originating_system.Statement.{statement}
-use Rattle.export_units.proofs.header.hooflift_originating_system.Tie as tie
+use Rattle.export_records.proofs.header.hooflift_originating_system.Statement.{statement}
+use Rattle.export_records.proofs.header.hooflift_originating_system.Tie as tie
 
 returns : tie.Need-returns
 returns c = let k = rw (c .before .before .before .before .before .before .before .before .before .tables-of .ensures) at (c .before .before .before .before .before .before .before .originating-system .ensures) in

@@ -1,7 +1,7 @@
 use borrow.Author.Needs.{needs}
 use mathlib.Core.Path.{refl}
-use Rattle.export_units.proofs.header.hooflift_header_args.Statement.{statement}
-use Rattle.export_units.proofs.header.hooflift_header_args.Tie as tie
+use Rattle.export_records.proofs.header.hooflift_header_args.Statement.{statement}
+use Rattle.export_records.proofs.header.hooflift_header_args.Tie as tie
 
 returns : tie.Need-returns
 returns c = let e = rw (c .before .before .before .before .tables-of .ensures) at (c .before .before .before .header-args .ensures) in

@@ -1,7 +1,7 @@
 use borrow.Author.Needs.{needs}
 use mathlib.Core.Path.{refl}
-use Rattle.export_units.proofs.pieces.put_next.Statement.{statement}
-use Rattle.export_units.proofs.pieces.put_next.Tie as tie
+use Rattle.export_records.proofs.pieces.put_next.Statement.{statement}
+use Rattle.export_records.proofs.pieces.put_next.Tie as tie
 
 returns : tie.Need-returns
 returns c = rw (c .before .before .before .before .before .r .given .1) (c .before .before .put-part .ensures .0, (c .before .before .put-part .ensures .1, refl))

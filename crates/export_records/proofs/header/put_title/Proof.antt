@@ -1,7 +1,7 @@
 use borrow.Author.Needs.{needs}
 use mathlib.Core.Path.{refl}
-use Rattle.export_units.proofs.header.put_title.Statement.{statement}
-use Rattle.export_units.proofs.header.put_title.Tie as tie
+use Rattle.export_records.proofs.header.put_title.Statement.{statement}
+use Rattle.export_records.proofs.header.put_title.Tie as tie
 
 returns : tie.Need-returns
 returns c = rw (c .before .t .given .1) ((refl, refl), (refl, (refl, refl)))

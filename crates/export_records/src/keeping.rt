@@ -4,7 +4,7 @@ ghost use lib.ListN.{length};
 ghost use Rattle.kept.specs.Kept.{keptAfter, readOf, readAfter};
 ghost use Rattle.plain.specs.Answers.{Puts, readCode};
 ghost use Rattle.table.specs.Table.{rowsFit, rowNumbers};
-ghost use Rattle.export_units.specs.Records.{keepBy};
+ghost use Rattle.export_records.specs.Records.{keepBy};
 use kept::Kept;
 
 // Writes the first `count` rows of a file of `len` bytes, 24 bytes a row: 0, with how many in `kept`; or 9 or 16.
