@@ -4,7 +4,7 @@ ghost use lib.ListN.{length};
 ghost use Rattle.error.specs.Refusal.{good};
 ghost use Rattle.titles.specs.Title.{toldTitle, titleBy, roomBy, fileName};
 ghost use Rattle.plain.specs.Answers.{Tells, Puts, PutsFound, foundCode, shownRoom, shownStart, shownStop};
-ghost use Rattle.export_records.specs.Records.{headerBy, headerSpan};
+ghost use Rattle.export_records.specs.Records.{hostHeaderRow, hostHeaderArgs};
 use headers::HeaderFound;
 use lookup::Place;
 use titles::Title;
@@ -18,8 +18,8 @@ pub extern "C" fn hooflift_header_row(
     name: &[u8],
     row: &mut usize,
 ) -> u8
-    ensures { λ n. ⌜ n ≡ foundCode (good (headerBy (now (file .entry)) (now (headers .entry)) (now (tables .entry)) (now (name .entry)))) ⌝ }
-    ensures { λ _. ⌜ PutsFound (λ i. i) (good (headerBy (now (file .entry)) (now (headers .entry)) (now (tables .entry)) (now (name .entry)))) row ⌝ }
+    ensures { λ n. ⌜ n ≡ foundCode (good (hostHeaderRow (now (file .entry)) (now (headers .entry)) (now (tables .entry)) (now (name .entry)))) ⌝ }
+    ensures { λ _. ⌜ PutsFound (λ i. i) (good (hostHeaderRow (now (file .entry)) (now (headers .entry)) (now (tables .entry)) (now (name .entry)))) row ⌝ }
 {
     match headers::header_row(file, headers, plain::tables_of(tables), name) {
         Place::At(i) => {
@@ -40,9 +40,9 @@ pub extern "C" fn hooflift_header_args(
     start: &mut usize,
     stop: &mut usize,
 ) -> u8
-    ensures { λ n. ⌜ n ≡ foundCode (headerSpan (now (file .entry)) (now (headers .entry)) (now (tables .entry)) (now (name .entry))) ⌝ }
-    ensures { λ _. ⌜ PutsFound (λ x. x .start) (headerSpan (now (file .entry)) (now (headers .entry)) (now (tables .entry)) (now (name .entry))) start ⌝ }
-    ensures { λ _. ⌜ PutsFound (λ x. x .end) (headerSpan (now (file .entry)) (now (headers .entry)) (now (tables .entry)) (now (name .entry))) stop ⌝ }
+    ensures { λ n. ⌜ n ≡ foundCode (hostHeaderArgs (now (file .entry)) (now (headers .entry)) (now (tables .entry)) (now (name .entry))) ⌝ }
+    ensures { λ _. ⌜ PutsFound (λ x. x .start) (hostHeaderArgs (now (file .entry)) (now (headers .entry)) (now (tables .entry)) (now (name .entry))) start ⌝ }
+    ensures { λ _. ⌜ PutsFound (λ x. x .end) (hostHeaderArgs (now (file .entry)) (now (headers .entry)) (now (tables .entry)) (now (name .entry))) stop ⌝ }
 {
     match headers::header_args(file, headers, plain::tables_of(tables), name) {
         HeaderFound::Span(r) => {
@@ -92,11 +92,11 @@ pub extern "C" fn hooflift_file_name(
     stop: &mut usize,
     fault: &mut usize,
 ) -> u8
-    ensures { λ n. ⌜ Tells (titleBy (now (file .entry)) (length (now (out .entry))) 0 (headerSpan (now (file .entry)) (now (headers .entry)) (now (tables .entry)) fileName)) n fault ⌝ }
-    ensures { λ _. ⌜ now (out .exit) ≡ roomBy (now (file .entry)) (now (out .entry)) 0 (headerSpan (now (file .entry)) (now (headers .entry)) (now (tables .entry)) fileName) ⌝ }
-    ensures { λ _. ⌜ Puts shownRoom (titleBy (now (file .entry)) (length (now (out .entry))) 0 (headerSpan (now (file .entry)) (now (headers .entry)) (now (tables .entry)) fileName)) room ⌝ }
-    ensures { λ _. ⌜ Puts shownStart (titleBy (now (file .entry)) (length (now (out .entry))) 0 (headerSpan (now (file .entry)) (now (headers .entry)) (now (tables .entry)) fileName)) start ⌝ }
-    ensures { λ _. ⌜ Puts shownStop (titleBy (now (file .entry)) (length (now (out .entry))) 0 (headerSpan (now (file .entry)) (now (headers .entry)) (now (tables .entry)) fileName)) stop ⌝ }
+    ensures { λ n. ⌜ Tells (titleBy (now (file .entry)) (length (now (out .entry))) 0 (hostHeaderArgs (now (file .entry)) (now (headers .entry)) (now (tables .entry)) fileName)) n fault ⌝ }
+    ensures { λ _. ⌜ now (out .exit) ≡ roomBy (now (file .entry)) (now (out .entry)) 0 (hostHeaderArgs (now (file .entry)) (now (headers .entry)) (now (tables .entry)) fileName) ⌝ }
+    ensures { λ _. ⌜ Puts shownRoom (titleBy (now (file .entry)) (length (now (out .entry))) 0 (hostHeaderArgs (now (file .entry)) (now (headers .entry)) (now (tables .entry)) fileName)) room ⌝ }
+    ensures { λ _. ⌜ Puts shownStart (titleBy (now (file .entry)) (length (now (out .entry))) 0 (hostHeaderArgs (now (file .entry)) (now (headers .entry)) (now (tables .entry)) fileName)) start ⌝ }
+    ensures { λ _. ⌜ Puts shownStop (titleBy (now (file .entry)) (length (now (out .entry))) 0 (hostHeaderArgs (now (file .entry)) (now (headers .entry)) (now (tables .entry)) fileName)) stop ⌝ }
 {
     let t = titles::file_name(file, headers, plain::tables_of(tables), out);
     put_title(t, room, start, stop, fault)
@@ -115,11 +115,11 @@ pub extern "C" fn hooflift_originating_system(
     stop: &mut usize,
     fault: &mut usize,
 ) -> u8
-    ensures { λ n. ⌜ Tells (titleBy (now (file .entry)) (length (now (out .entry))) 5 (headerSpan (now (file .entry)) (now (headers .entry)) (now (tables .entry)) fileName)) n fault ⌝ }
-    ensures { λ _. ⌜ now (out .exit) ≡ roomBy (now (file .entry)) (now (out .entry)) 5 (headerSpan (now (file .entry)) (now (headers .entry)) (now (tables .entry)) fileName) ⌝ }
-    ensures { λ _. ⌜ Puts shownRoom (titleBy (now (file .entry)) (length (now (out .entry))) 5 (headerSpan (now (file .entry)) (now (headers .entry)) (now (tables .entry)) fileName)) room ⌝ }
-    ensures { λ _. ⌜ Puts shownStart (titleBy (now (file .entry)) (length (now (out .entry))) 5 (headerSpan (now (file .entry)) (now (headers .entry)) (now (tables .entry)) fileName)) start ⌝ }
-    ensures { λ _. ⌜ Puts shownStop (titleBy (now (file .entry)) (length (now (out .entry))) 5 (headerSpan (now (file .entry)) (now (headers .entry)) (now (tables .entry)) fileName)) stop ⌝ }
+    ensures { λ n. ⌜ Tells (titleBy (now (file .entry)) (length (now (out .entry))) 5 (hostHeaderArgs (now (file .entry)) (now (headers .entry)) (now (tables .entry)) fileName)) n fault ⌝ }
+    ensures { λ _. ⌜ now (out .exit) ≡ roomBy (now (file .entry)) (now (out .entry)) 5 (hostHeaderArgs (now (file .entry)) (now (headers .entry)) (now (tables .entry)) fileName) ⌝ }
+    ensures { λ _. ⌜ Puts shownRoom (titleBy (now (file .entry)) (length (now (out .entry))) 5 (hostHeaderArgs (now (file .entry)) (now (headers .entry)) (now (tables .entry)) fileName)) room ⌝ }
+    ensures { λ _. ⌜ Puts shownStart (titleBy (now (file .entry)) (length (now (out .entry))) 5 (hostHeaderArgs (now (file .entry)) (now (headers .entry)) (now (tables .entry)) fileName)) start ⌝ }
+    ensures { λ _. ⌜ Puts shownStop (titleBy (now (file .entry)) (length (now (out .entry))) 5 (hostHeaderArgs (now (file .entry)) (now (headers .entry)) (now (tables .entry)) fileName)) stop ⌝ }
 {
     let t = titles::originating_system(file, headers, plain::tables_of(tables), out);
     put_title(t, room, start, stop, fault)

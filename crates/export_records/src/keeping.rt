@@ -1,10 +1,9 @@
 // Rows kept beside a file.
 ghost use mathlib.Core.Path.{_≡_};
 ghost use lib.ListN.{length};
-ghost use Rattle.kept.specs.Kept.{keptAfter, readOf, readAfter};
+ghost use Rattle.kept.specs.Kept.{keepTable, keptAfter, readOf, readAfter};
 ghost use Rattle.plain.specs.Answers.{Puts, readCode};
 ghost use Rattle.table.specs.Table.{rowsFit, rowNumbers};
-ghost use Rattle.export_records.specs.Records.{keepBy};
 use kept::Kept;
 
 // Writes the first `count` rows of a file of `len` bytes, 24 bytes a row: 0, with how many in `kept`; or 9 or 16.
@@ -16,9 +15,9 @@ pub extern "C" fn hooflift_keep_rows(
     out: &mut [u8],
     kept: &mut usize,
 ) -> u8
-    ensures { λ n. ⌜ n ≡ readCode (keepBy len (now (rows .entry)) count (length (now (out .entry)))) ⌝ }
-    ensures { λ _. ⌜ now (out .exit) ≡ keptAfter (rowNumbers (now (rows .entry))) (keepBy len (now (rows .entry)) count (length (now (out .entry)))) (now (out .entry)) ⌝ }
-    ensures { λ _. ⌜ Puts (λ n. n) (keepBy len (now (rows .entry)) count (length (now (out .entry)))) kept ⌝ }
+    ensures { λ n. ⌜ n ≡ readCode (keepTable len (now (rows .entry)) count (length (now (out .entry)))) ⌝ }
+    ensures { λ _. ⌜ now (out .exit) ≡ keptAfter (rowNumbers (now (rows .entry))) (keepTable len (now (rows .entry)) count (length (now (out .entry)))) (now (out .entry)) ⌝ }
+    ensures { λ _. ⌜ Puts (λ n. n) (keepTable len (now (rows .entry)) count (length (now (out .entry)))) kept ⌝ }
 {
     match kept::keep_rows(len, rows, count, out) {
         Kept::Rows(n) => {
