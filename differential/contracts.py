@@ -91,13 +91,13 @@ def main():
     if len(sys.argv) != 2:
         sys.exit(__doc__)
     page = names.rows()
-    known = names.shorts(page)
     old, new = names.renamed(tree(sys.argv[1]), page), tree(None)
+    past, known = names.shorts(page, old), names.shorts(page, new)
     kinds = (('contract', functions, '.rt'), ('declaration', declarations, '.antt'))
     words = {kind: all_of(new, reader, ending) for kind, reader, ending in kinds}
     before = {kind: all_of(old, reader, ending) for kind, reader, ending in kinds}
     words['contract'] = {(name, names.spelt(text, known)) for name, text in words['contract']}
-    before['contract'] = {(name, names.spelt(text, {})) for name, text in before['contract']}
+    before['contract'] = {(name, names.spelt(text, past)) for name, text in before['contract']}
     count = {}
     for kind, reader, ending in kinds:
         for path in sorted(set(old) | set(new)):
@@ -105,7 +105,7 @@ def main():
                 continue
             a, b = reader(old.get(path, '')), reader(new.get(path, ''))
             if kind == 'contract':
-                a, b = ({n: names.spelt(x, k) for n, x in y.items()} for y, k in ((a, {}), (b, known)))
+                a, b = ({n: names.spelt(x, k) for n, x in y.items()} for y, k in ((a, past), (b, known)))
             for name in sorted(set(a) | set(b)):
                 if a.get(name) == b.get(name):
                     continue

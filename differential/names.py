@@ -8,7 +8,7 @@ import re
 
 WORD = r"\w′'₀-₉·\-"
 USE = re.compile(r"use Rattle·([a-z0-9_]+)(?:·specs)?\.specs\.([A-Za-z0-9_.\-]+?)(?:\.\{([^}]*)\}| as (\S+?))(?=[;\s]|$)", re.M)
-SIGNS = {'≡', '×', '+', '-', '*', '<', '≤', '^', '++', '∷', '→', ',', '.', '=', '&&', '||', '⊎'}
+SIGNS = {'⌜', '⌝', '≡', '×', '+', '-', '*', '<', '≤', '^', '++', '∷', '→', ',', '.', '=', '&&', '||', '⊎'}
 
 
 def rows(path='docs/NAMES.md'):
@@ -119,7 +119,8 @@ def opened(term, shorts):
     flat = []
     for k, word in enumerate(out):
         head = k == 0 or (isinstance(out[k - 1], str) and out[k - 1] in SIGNS)
-        if isinstance(word, list) and (len(word) == 1 or (head and bare(word))):
+        alone = (k == 0 or out[k - 1] == '⌜') and (k == len(out) - 1 or out[k + 1] == '⌝')
+        if isinstance(word, list) and (len(word) == 1 or alone or (head and bare(word))):
             flat += word
         else:
             flat.append(word)
@@ -134,17 +135,23 @@ def shown(term):
     return ' '.join('(' + shown(t) + ')' if isinstance(t, list) else t for t in term)
 
 
-def shorts(page):
-    """The short names of the page: name to its arguments and what it stands for."""
+def shorts(page, files):
+    """The short names of the page: name to its arguments and what it stands for, as the files define it."""
     found = {}
-    for kind, _, old, new in page:
-        if kind == 'short':
-            name, *names = new.split()
-            found[name] = (names, old)
+    for kind, where, _, new in page:
+        if kind != 'short':
+            continue
+        name = new.split()[0]
+        text = files.get('crates/' + where + '.antt', '')
+        lines = re.search(r'^ *%s((?: [^\s=]+)*) =((?: [^\n]*)?(?:\n +[^\n]+)*)' % re.escape(name), text, re.M)
+        if lines:
+            found[name] = (lines[1].split(), lines[2])
     return found
 
 
 def spelt(text, known):
     """A contract with its short names written out."""
-    text = re.sub(r'([⌜⌝{},])', r' \1 ', text)
-    return shown(opened(parsed(text), known))
+    term, before = parsed(re.sub(r'([⌜⌝{},])', r' \1 ', text)), None
+    while term != before:
+        term, before = opened(term, known), term
+    return shown(term)
