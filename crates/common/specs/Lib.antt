@@ -1,4 +1,6 @@
 pub mod Pick
 pub mod Compare
 pub mod Lists
+pub mod Tests
+pub mod Noting
 pub mod Walk

@@ -10,6 +10,7 @@ use borrow.Author.Tests.{leb-true, le-leb}
 use lib.ListN.{length, take, getD, getElem?}
 use lib.Seq.{take-all, take-suc, getD-append-add}
 use Rattle.common.specs.Compare.{clash}
+use Rattle.common.specs.Tests.{both}
 use Rattle.error.specs.Refusal.{good}
 use Rattle.statement.specs.Rows.{Row}
 use Rattle.table.specs.Table.{rowNumbers, six, rowsLaid}
@@ -152,11 +153,6 @@ front-back s w (suc n) h =
 -- bytes read as rows and written again are the same bytes, where none is left over
 pub bytes-back : (s : List ℕ) → Below 256 s → length s % 24 ≡ 0 → bytesOf (rowsOf s) ≡ s
 bytes-back s w e = front-back s w (length s / 24) (omega arith) ∙ take-all (length s / 24 * 24) s (omega arith)
-
--- both tests hold
-both : (s t : Bool) → s && t ≡ true → (s ≡ true) × (t ≡ true)
-both true t e = (refl, e)
-both false t e = clash (cc)
 
 -- a row that is fine by the test is fine
 pub fine-is : (len : ℕ) (w : Row) → fineRow len w ≡ true → FineRow len w

@@ -14,7 +14,8 @@ use Rattle.scan.specs.Records.{Table}
 use Rattle.scan.specs.File.{scanOf}
 use Rattle.scan.specs.Fits.{Each}
 use Rattle.statement.specs.Form.{After, ArguedTo, Argued, DataForm, HeaderRecordForm}
-use Rattle.scan.specs.Rests.{Rest, rest-of, rest-within, balanced-rest, after-rest, scan-tells}
+use Rattle.lex.specs.Rests.{Rest, rest-of, rest-within}
+use Rattle.scan.specs.Rests.{balanced-rest, after-rest, scan-tells}
 
 -- a header row of a file of n bytes
 pub record HeaderOrdered (n : ℕ) (w : HeaderRow) : Type 0 where

@@ -16,7 +16,8 @@ use Rattle.scan.specs.File.{scanOf}
 use Rattle.scan.specs.Fits.{Each}
 use Rattle.statement.specs.Form.{ArguedTo, Argued, DataForm, HeaderRecordForm, Record, StatementForm}
 use Rattle.statement.specs.FormRight.{statement-is}
-use Rattle.scan.specs.Rests.{Rest, rest-all, rest-on, rest-of, rest-place, trivia-rest, runs-rest, balanced-rest, deep-rest, after-rest, record-rest, moved-rest, header-form, data-form, Tells, scan-tells}
+use Rattle.lex.specs.Rests.{Rest, rest-all, rest-on, rest-of, rest-place, trivia-rest}
+use Rattle.scan.specs.Rests.{runs-rest, balanced-rest, deep-rest, after-rest, record-rest, moved-rest, header-form, data-form, Tells, scan-tells}
 
 -- the table of refusal numbers: what the file s is from the place of a refusal with this number on
 pub data Stands (s : List ℕ) : ℕ → List ℕ → Type 0 where

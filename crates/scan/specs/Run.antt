@@ -2,12 +2,11 @@
 -- statement by statement. No contract of a public function cites it. Assumes nothing.
 use Prim.Native.Nat.{ℕ, _+_, _≤_, _<_, max}
 use mathlib.Core.Path.{_≡_, refl, sym, _∙_, ap, subst}
-use mathlib.Core.Bool.{Bool, true, false, _&&_}
+use mathlib.Core.Bool.{Bool, true, and-true}
 use mathlib.Core.List.{List}
 use native.Mathlib.Omega.{arith}
 use lib.ListN.{length, drop}
 use Rattle.common.specs.Pick.{pick}
-use Rattle.common.specs.Compare.{clash}
 use Rattle.statement.specs.Rows.{Row, record′}
 use Rattle.statement.specs.Statement.{statement}
 use Rattle.statement.specs.Tidy.{tidy}
@@ -48,11 +47,6 @@ module _ (s : List ℕ) (room : ℕ) (known : Bool) (i r m : ℕ) (xs : List ℕ
       subst (λ (zs : List ℕ). Going s H room write h₀ r₀ n InData h (q + 1) (max k (w .id)) hnow zs)
       (ap (λ (c : Bool). pick c (rowPut ys q w) ys) (f e))
       (going-record s H room write h₀ r₀ j InData h q k hnow ys (going-ran H write h₀ r₀ h hnow o f g z) w p n d l b a (omega arith))
-
--- one of two tests that holds
-and-true : (b : Bool) → b && true ≡ b
-and-true true = refl
-and-true false = refl
 
 -- and what is known of the tidy records stays known
 pub tidying-ran : (s : List ℕ) (room : ℕ) (known all : Bool) (i r m : ℕ) (xs : List ℕ) {j q k : ℕ} {ys : List ℕ} → Tidying s known all i InData → Ran s room known i r m xs j q k ys → Tidying s known all j InData

@@ -20,7 +20,7 @@ pub sole : {A : Type 0} (P : A → Type 0) {a : A} → ((x : A) → P x → x �
 sole P only (x, h) = rw (only x h) at h
 
 -- an empty list has no first byte; a list has one
-first-none : (p : ℕ → Bool) → NotFirst p []
+pub first-none : (p : ℕ → Bool) → NotFirst p []
 first-none p c r e = clash (cc)
 
 -- a list whose first byte is of another kind
