@@ -14,7 +14,7 @@ import sys
 ROOT = os.path.dirname(os.path.dirname(os.path.abspath(__file__)))
 WIDTH = 140
 # A need with an answer that says nothing of it, and the blank line after it.
-IDLE = re.compile(r'^(\S+) : tie\.Need-[^\n]*\n\1 (c|c κs) = (search needs|omega arith|refl|tt)\n\n', re.M)
+IDLE = re.compile(r'^(\S+) : tie\.Need-[^\n]*\n\1 (c|c κs) = (search needs|omega arith|refl|tt|simp length-set \(omega arith\))\n\n', re.M)
 USE = re.compile(r'^use (\S+?)(?:\.\{([^}]*)\}| as (\S+))?$', re.M)
 
 

@@ -8,7 +8,7 @@ use mathlib.Core.List.{List, [], _∷_, _++_, map, append-assoc, append-nil}
 use mathlib.Core.Option.{Option, some}
 use native.Mathlib.Omega.{arith}
 use borrow.Author.Tests.{le-leb}
-use lib.ListN.{length, take, drop, length-append, length-drop}
+use lib.ListN.{length, drop, length-append, length-drop}
 use lib.Seq.{drop-append-add, drop-append-le, take-append-le, take-append-seam, drop-append-seam}
 use Rattle.common.specs.Compare.{clash}
 use Rattle.error.specs.Refusal.{Told, good, bad}
@@ -30,7 +30,7 @@ use Rattle.statement.specs.ClosedRight.{rowFrom, contentOf, record-row}
 use Rattle.kinds.specs.Kind.{kindOf}
 use Rattle.statement.specs.Form.{ArguedTo, Argued}
 use Rattle.params.specs.Answer.{Span, span}
-use Rattle.params.specs.RulesRight.{Rest, rest-of, rest-place}
+use Rattle.lex.specs.Rests.{Rest, rest-of, rest-place}
 use Rattle.words.specs.Places.{SpanIn}
 use Rattle.parts.specs.Rules.{Window, NextForm, PartsForm, before}
 use Rattle.parts.specs.Part.{partsOf}

@@ -1,23 +1,22 @@
 -- #113: "an id [..] that no `#` number in another record's arguments names, leading zeros disregarded". Which ids bytes name, and that a
+-- #113: "an id [..] that no `#` number in another record's arguments names, leading zeros disregarded". Which ids bytes name, and that a
 -- reader answers only such references: that of a parameter, and those of a list. The byte `#` is 35. Assumes nothing.
 use Prim.Native.Nat.{ℕ, suc, _+_, _-_, _≤_}
 use mathlib.Core.Path.{_≡_, refl, sym, _∙_, ap, subst}
 use mathlib.Core.Bool.{Bool, true, false}
 use mathlib.Core.List.{List, [], _∷_, _++_, append-assoc, append-nil}
 use native.Mathlib.Omega.{arith}
-use borrow.Author.Tests.{ne-eqb}
-use lib.Dec.{eqb}
 use lib.ListN.{length, take, drop, take-append-drop}
 use lib.Seq.{take-length, drop-drop}
 use Rattle.common.specs.Pick.{pick}
 use Rattle.common.specs.Compare.{clash}
+use Rattle.common.specs.Tests.{bounds}
 use Rattle.error.specs.Refusal.{refusal, Told, good, bad}
-use Rattle.lex.specs.Byte.{white}
 use Rattle.lex.specs.Grammar.{Trivia}
 use Rattle.record.specs.Byte.{digit}
-use Rattle.record.specs.Turns.{bounds}
-use Rattle.record.specs.Form.{All, NotFirst, Skipped, valueOf}
-use Rattle.record.specs.FormRight.Parts.{first-other}
+use Rattle.record.specs.Form.{NotFirst, Skipped, valueOf}
+use Rattle.record.specs.FormRight.Parts.{first-none, first-other}
+use Rattle.record.specs.FormRight.Gaps.{white-digit, gap-digit}
 use Rattle.reals.specs.Answer.{Answer, read, refused}
 use Rattle.reals.specs.Scalar.{referenceOf}
 use Rattle.reals.specs.Form.{ReferenceForm}
@@ -52,31 +51,10 @@ pub each-by : {P Q : ℕ → Type 0} → ((k : ℕ) → P k → Q k) → (ks : L
 each-by f ks h front back k e = f k (h front back k e)
 
 -- ---- bytes that no digit begins
--- an empty list begins with no digit
-first-none : NotFirst digit []
-first-none c r e = clash (cc)
-
 -- where neither x nor y begins with a digit, x and then y do not
 first-join : (x y : List ℕ) → NotFirst digit x → NotFirst digit y → NotFirst digit (x ++ y)
 first-join [] y h k = k
 first-join (c ∷ x) y h k = first-other digit c (x ++ y) (h c x refl)
-
--- no whitespace is a digit
-white-digit : (c : ℕ) → white c ≡ true → digit c ≡ false
-white-digit c h = go (digit c) refl
-  where
-    go : (t : Bool) → digit c ≡ t → digit c ≡ false
-    go false e = e
-    go true e =
-        let l : (48 ≤ c) × (c ≤ 57) = bounds 48 c 57 e in
-        let n : (b : ℕ) → (c ≡ b → ⊥) → eqb c b ≡ false = ne-eqb c in
-        let w : white c ≡ false = rw (n 32 (omega arith), n 9 (omega arith), n 10 (omega arith), n 12 (omega arith), n 13 (omega arith)) in
-        clash (cc)
-
--- where y begins with no digit, whitespace and then y begin with none
-first-white : (w y : List ℕ) → All white w → NotFirst digit y → NotFirst digit (w ++ y)
-first-white [] y h k = k
-first-white (c ∷ w) y (h, t) k = first-other digit c (w ++ y) (white-digit c h)
 
 -- where what follows trivia begins with no digit, the trivia and that begin with none
 first-trivia : {xs ys : List ℕ} → Trivia xs ys → NotFirst digit ys → NotFirst digit xs
@@ -87,7 +65,7 @@ first-trivia (Trivia.comment q t) h = subst (NotFirst digit) (sym (q .shape)) (f
 -- a comma at depth 0, and the end, begin with no digit
 first-bound : {d : ℕ} {ys : List ℕ} → Bound d ys → NotFirst digit ys
 first-bound (Bound.comma {r}) = first-other digit 44 r refl
-first-bound Bound.end = first-none
+first-bound Bound.end = first-none digit
 
 -- what follows a parameter, from the trivia after it on, begins with no digit
 first-after : {xs z b : List ℕ} → Parameter xs z b → NotFirst digit z
@@ -127,7 +105,7 @@ reference-names (ReferenceForm.reference ds i) e = record {
   digits = ds;
   back = [];
   shape = ap (λ (u : List ℕ). 35 ∷ u) (sym (append-nil ds));
-  number = record { all = i .all; over = first-none };
+  number = record { all = i .all; over = first-none digit };
   some = i .some;
   value = cc;
 }
@@ -142,20 +120,20 @@ scalar-names (Scalar.other p) e = clash (cc)
 item-names : {xs f t r : List ℕ} {k : ℕ} → Item xs f t r → NotFirst digit r → Names t k → Names xs k
 item-names {xs} {f} {t} {r} {k} i h n =
     let e : xs ≡ f ++ (t ++ (i .back ++ r)) = i .shape ∙ simp append-assoc in
-    subst (λ (u : List ℕ). Names u k) (sym e) (names-part f t (i .back ++ r) (first-white (i .back) r (i .after) h) k n)
+    subst (λ (u : List ℕ). Names u k) (sym e) (names-part f t (i .back ++ r) (gap-digit (i .back) r (i .after) h) k n)
 
 -- the references of all items are ids that the list's inside names
 items-names : {xs : List ℕ} {a : Fate (List ℕ)} → Items (Scalar ReferenceForm) xs a → (vs : List ℕ) → a ≡ fine vs → Each (Names xs) vs
 items-names {xs} (Items.last {v} i p) vs e =
     let d : v ∷ [] ≡ vs = cc in
-    subst (Each (Names xs)) d (each-more (Names xs) v [] (item-names i first-none (scalar-names p refl)) (each-nil (Names xs)))
+    subst (Each (Names xs)) d (each-more (Names xs) v [] (item-names i (first-none digit) (scalar-names p refl)) (each-nil (Names xs)))
 items-names (Items.next w {f} {t} {r} {v} {a} i p q) vs e = go a (λ us d. items-names q us d) e
   where
     go : (b : Fate (List ℕ)) → ((us : List ℕ) → b ≡ fine us → Each (Names r) us) → consed v (shifted (suc (length w)) b) ≡ fine vs → Each (Names (w ++ (44 ∷ r))) vs
     go (fine us) ih e =
         let d : v ∷ us ≡ vs = cc in
         let x : w ++ (44 ∷ r) ≡ (w ++ (44 ∷ [])) ++ (r ++ []) = simp (append-assoc, append-nil) in
-        let k : Each (Names (w ++ (44 ∷ r))) us = subst (λ (u : List ℕ). Each (Names u) us) (sym x) (each-by (names-part (w ++ (44 ∷ [])) r [] first-none) us (ih us refl)) in
+        let k : Each (Names (w ++ (44 ∷ r))) us = subst (λ (u : List ℕ). Each (Names u) us) (sym x) (each-by (names-part (w ++ (44 ∷ [])) r [] (first-none digit)) us (ih us refl)) in
         subst (Each (Names (w ++ (44 ∷ r)))) d (each-more (Names (w ++ (44 ∷ r))) v us (item-names i (first-other digit 44 r refl) (scalar-names p refl)) k)
     go (faulty n o) ih e = clash (cc)
 items-names (Items.bad i p) vs e = clash (cc)

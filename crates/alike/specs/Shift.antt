@@ -13,7 +13,8 @@ use Rattle.params.specs.Cut.{cutOf, started, eaten}
 use Rattle.params.specs.Answer.{unclosed, Read, reading, Span, span}
 use Rattle.params.specs.Right.{param-is, unclosed-is, started-is}
 use Rattle.params.specs.Reader.{bounded, begun, paramOf}
-use Rattle.params.specs.RulesRight.{rest-within, param-rest, unclosed-rest, starts-rest, inside-true}
+use Rattle.lex.specs.Rests.{rest-within}
+use Rattle.params.specs.RulesRight.{param-rest, unclosed-rest, starts-rest, inside-true}
 use Rattle.scalars.specs.Laws.{part-part}
 use Rattle.lookup.specs.Lookup.{cut}
 

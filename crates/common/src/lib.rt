@@ -33,7 +33,7 @@ pub fn less_one(a: usize) -> usize
 }
 
 // By how much b is above a.
-pub fn gap(a: usize, b: usize) -> usize
+pub fn excess(a: usize, b: usize) -> usize
     ensures { λ r. ⌜ r ≡ b - a ⌝ }
 {
     if b < a { 0 } else { b - a }

@@ -7,11 +7,11 @@ use native.Mathlib.Nat.{lt-of-le-of-lt, mod-eq-of-lt}
 use native.Mathlib.Omega.{arith}
 use borrow.Author.Tests.{le-leb, eqb-true, eqb-false}
 use lib.Bits.{bitAnd, and-high, and-mask, and-shr, and-le-r}
-use lib.Dec.{eqb, leb}
+use lib.Dec.{eqb}
 use lib.ListN.{length}
+use Rattle.common.specs.Tests.{bounds}
 use Rattle.record.specs.Byte.{digit}
 use Rattle.record.specs.Form.{All, valueOf}
-use Rattle.record.specs.Turns.{bounds}
 use Rattle.eights.specs.Fields.{Each, each-map, each-two, fieldsBy, same, and-fields, sum-fields, fields-same, same-fields, fields-ap, lowest, others}
 use Rattle.eights.specs.Eights.{joinedOf, eightOf, Says, Tells}
 

@@ -11,28 +11,15 @@ use lib.Dec.{eqb}
 use lib.ListN.{length, take, drop}
 use Rattle.common.specs.Pick.{pick}
 use Rattle.common.specs.Compare.{clash}
+use Rattle.common.specs.Tests.{bounds}
 use Rattle.error.specs.Refusal.{Refusal, refusal, Told, good, bad}
-use Rattle.record.specs.Turns.{bounds}
 use Rattle.record.specs.Word.{same, isWord}
 use Rattle.common.specs.Bytes.{bytes}
 use Rattle.statement.specs.Rows.{Row, HeaderRow}
 use Rattle.kinds.specs.Kind.{kindOf, kind-is}
 use Rattle.kinds.specs.Rules.{rankOf, Named, KindForm}
 use Rattle.kinds.specs.declared.Kind.{Kind}
-use Rattle.kinds.specs.declared.Kind.the-variants.{
-  GeometricRepresentationContext,
-  GlobalUnitAssignedContext,
-  GlobalUncertaintyAssignedContext,
-  LengthUnit,
-  PlaneAngleUnit,
-  SolidAngleUnit,
-  SiUnit,
-  ConversionBasedUnit,
-  UncertaintyMeasureWithUnit,
-  LengthMeasureWithUnit,
-  Complex,
-  Other,
-}
+use Rattle.kinds.specs.declared.Kind.the-variants.{GeometricRepresentationContext, GlobalUnitAssignedContext, GlobalUncertaintyAssignedContext, LengthUnit, PlaneAngleUnit, SolidAngleUnit, SiUnit, ConversionBasedUnit, UncertaintyMeasureWithUnit, LengthMeasureWithUnit, Complex, Other}
 use Rattle.params.specs.Cut.{cutOf, started}
 use Rattle.params.specs.Answer.{Cut, cut, unclosed, Read, reading, Span, span, inFile, onward}
 use Rattle.params.specs.Reader.{bounded, begun, paramOf}
@@ -54,12 +41,12 @@ use Rattle.lookup.specs.Lookup.{spanFine, spanIn, kindIn, rowFound, rowFor}
 use Rattle.lookup.specs.Lookup as Lookup
 use Rattle.factors.specs.Thing.{goodBy, sameKind, pieceOf, Thing, thingAt, thingOf, findOf, firstPiece, selfOr}
 use Rattle.factors.specs.Factor.{unreadOf, readOr, Chain, known, leads, conversionOf, unitBy, linkOf, chained, baseOf, measureAt, measureIn, lengthOf, numberIn, angleOf}
-use Rattle.factors.specs.Unit.{nameOr, nextName, prefixIn, unitIn, siLength, siAngle, measureRef, optionBy, scaledBy, measureRun}
+use Rattle.factors.specs.Unit.{nameOr, nextName, prefixIn, unitIn, named, siLength, siAngle, measureRef, optionBy, scaledBy, measureRun}
 use Rattle.factors.specs.Code.{namedIn, isNamed}
 
 -- ---- a record's arguments
 -- a span that was given lies in the file
-span-good : (n a z : ℕ) {p : Lookup.Span} → good p ≡ spanIn n a z → (spanFine n a z ≡ true) × (p ≡ Lookup.span a z)
+pub span-good : (n a z : ℕ) {p : Lookup.Span} → good p ≡ spanIn n a z → (spanFine n a z ≡ true) × (p ≡ Lookup.span a z)
 span-good n a z {p} = go (spanFine n a z)
   where
     go : (b : Bool) → good p ≡ pick b (good (Lookup.span a z)) (bad (refusal 9 0 0)) → (b ≡ true) × (p ≡ Lookup.span a z)
@@ -156,12 +143,10 @@ bounded-end : (xs : List ℕ) (e : ℕ) (ys : List ℕ) (c : Cut) → bounded xs
 bounded-end xs e ys (cut a b) = refl
 bounded-end xs e ys (unclosed o) = refl
 
--- what a started parameter gives leaves the reader's end as it is
 begun-end : (xs : List ℕ) (e : ℕ) (ys : List ℕ) → begun xs e ys .end ≡ e
 begun-end xs e [] = refl
 begun-end xs e (c ∷ r) = bounded-end xs e (c ∷ r) (cutOf (c ∷ r))
 
--- a parameter leaves the reader's end as it is
 param-end : (s : List ℕ) (p e : ℕ) → paramOf s p e .end ≡ e
 unfolding paramOf
 param-end s p e = go (inFile (length s) p e) (begun (take e s) e (started (drop p (take e s)))) (begun-end (take e s) e (started (drop p (take e s))))
@@ -175,7 +160,6 @@ next-end : {A : Type 0} (f : List ℕ → Answer A) (s : List ℕ) (p e : ℕ) �
 unfolding nextOf
 next-end f s p e = param-end s p e
 
--- a parameter that is skipped leaves the reader's end as it is
 skip-end : (s : List ℕ) (p e : ℕ) → skipOf s p e .end ≡ e
 unfolding skipOf
 skip-end s p e = param-end s p e
@@ -192,7 +176,6 @@ metre-self : isWord (bytes "METRE") (bytes "METRE") ≡ true
 unfolding same
 metre-self = refl
 
--- RADIAN has the name RADIAN
 radian-self : isWord (bytes "RADIAN") (bytes "RADIAN") ≡ true
 unfolding same
 radian-self = refl
@@ -219,37 +202,31 @@ module _ (s : List ℕ) (a z : ℕ) (first second : NextNameCode.NextName) {p e 
   prefix-is : namedIn s first ≡ prefixIn s (span a z)
   prefix-is = prefix-told s first (nextName s a z .answer) (ap (λ (x : Read Span). x .answer) one) (name-in s a z)
 
+  -- "another name no factor"
+  named-other : (name : String) → isWord (bytes name) (bytes name) ≡ true → isNamed s second (bytes name) ≡ false → (f : ℕ) → none ≡ named name s (span a z) f
+  named-other name k h f = let e = sym (unit-is name k) ∙ h in rw e refl
+
+  -- the name
+  named-is : (name : String) → isWord (bytes name) (bytes name) ≡ true → isNamed s second (bytes name) ≡ true → (f : ℕ) → some f ≡ named name s (span a z) f
+  named-is name k h f = let e = sym (unit-is name k) ∙ h in rw e refl
+
   -- an SI length unit: "another name no factor"
   pub length-other : isNamed s second (bytes "METRE") ≡ false → good none ≡ good (siLength s (span a z))
   unfolding siLength
-  length-other h = ap good (go (isWord (unitIn "METRE" s (span a z)) (bytes "METRE")) (sym (unit-is "METRE" metre-self) ∙ h))
-    where
-      go : (b : Bool) → b ≡ false → none ≡ pick b (some (lengthFactorOf (prefixIn s (span a z)))) none
-      go b k = rw k refl
+  length-other h = ap good (named-other "METRE" metre-self h _)
 
-  -- an SI length unit that is a METRE has the prefix's factor in mm
   pub length-is : isNamed s second (bytes "METRE") ≡ true → {v : ℕ} → v ≡ lengthFactorOf (namedIn s first) → good (some v) ≡ good (siLength s (span a z))
   unfolding siLength
-  length-is h {v} l = ap good (go (isWord (unitIn "METRE" s (span a z)) (bytes "METRE")) (sym (unit-is "METRE" metre-self) ∙ h))
-    where
-      go : (b : Bool) → b ≡ true → some v ≡ pick b (some (lengthFactorOf (prefixIn s (span a z)))) none
-      go b k = rw k (ap some (l ∙ ap lengthFactorOf prefix-is))
+  length-is h {v} l = ap good (ap some (l ∙ ap lengthFactorOf prefix-is) ∙ named-is "METRE" metre-self h _)
 
   -- an SI angle unit: "another name no factor"
   pub angle-other : isNamed s second (bytes "RADIAN") ≡ false → good none ≡ good (siAngle s (span a z))
   unfolding siAngle
-  angle-other h = ap good (go (isWord (unitIn "RADIAN" s (span a z)) (bytes "RADIAN")) (sym (unit-is "RADIAN" radian-self) ∙ h))
-    where
-      go : (b : Bool) → b ≡ false → none ≡ pick b (some (factorOf (prefixIn s (span a z)))) none
-      go b k = rw k refl
+  angle-other h = ap good (named-other "RADIAN" radian-self h _)
 
-  -- an SI angle unit that is a RADIAN has the prefix's factor
   pub angle-is : isNamed s second (bytes "RADIAN") ≡ true → {v : ℕ} → v ≡ factorOf (namedIn s first) → good (some v) ≡ good (siAngle s (span a z))
   unfolding siAngle
-  angle-is h {v} l = ap good (go (isWord (unitIn "RADIAN" s (span a z)) (bytes "RADIAN")) (sym (unit-is "RADIAN" radian-self) ∙ h))
-    where
-      go : (b : Bool) → b ≡ true → some v ≡ pick b (some (factorOf (prefixIn s (span a z)))) none
-      go b k = rw k (ap some (l ∙ ap factorOf prefix-is))
+  angle-is h {v} l = ap good (ap some (l ∙ ap factorOf prefix-is) ∙ named-is "RADIAN" radian-self h _)
 
 -- ---- conversion units
 module _ (s : List ℕ) (a z : ℕ) where
@@ -274,7 +251,6 @@ module _ (s : List ℕ) (left start : ℕ) (r : Span) where
   pub conversion-refused : {q : Refusal} → eqb left 0 ≡ false → bad q ≡ measureRef s r → bad q ≡ conversionOf s left start r
   conversion-refused h k = rw (h, ← k) refl
 
-  -- a conversion unit, where one is left, leads to its measure
   pub conversion-leads : {i : ℕ} → eqb left 0 ≡ false → good i ≡ measureRef s r → good (leads i) ≡ conversionOf s left start r
   conversion-leads h k = rw (h, ← k) refl
 
@@ -391,7 +367,7 @@ known-on k (good f) y h = subst (λ (u : Told Chain). good f ≡ onward (chained
 known-on k (bad q) y h = subst (λ (u : Told Chain). bad q ≡ onward (chained k) u) h refl
 
 -- a refusal is the same, of whichever type the answer would have been
-same-bad : {A B : Type 0} {q r : Refusal} → _≡_ {A = Told A} (bad q) (bad r) → _≡_ {A = Told B} (bad q) (bad r)
+pub same-bad : {A B : Type 0} {q r : Refusal} → _≡_ {A = Told A} (bad q) (bad r) → _≡_ {A = Told B} (bad q) (bad r)
 same-bad {q} {r} h = let e : q ≡ r = cc in ap bad e
 
 module _ (s : List ℕ) (find : ℕ → Told (Option Thing)) where

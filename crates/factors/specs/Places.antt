@@ -1,6 +1,6 @@
 -- "with a place from 0 to the input's length" (demand 1), for the factor of a unit: every refusal lies in the file, whatever the lent
 -- tables hold. Assumes nothing.
-use Prim.Native.Nat.{ℕ, zero, suc, _+_, _-_, _≤_}
+use Prim.Native.Nat.{ℕ, zero, suc, _-_, _≤_}
 use mathlib.Core.Path.{_≡_, refl}
 use mathlib.Core.Bool.{Bool, true, false}
 use mathlib.Core.List.{List, [], map}
@@ -9,8 +9,8 @@ use native.Mathlib.Omega.{arith}
 use lib.Dec.{eqb}
 use lib.ListN.{length}
 use Rattle.common.specs.Pick.{pick}
+use Rattle.common.specs.Tests.{bounds}
 use Rattle.error.specs.Refusal.{refusal, Told, good, bad}
-use Rattle.record.specs.Turns.{bounds}
 use Rattle.statement.specs.Rows.{Row}
 use Rattle.kinds.specs.declared.Kind.{Kind}
 use Rattle.kinds.specs.declared.Kind.the-variants.{SiUnit, ConversionBasedUnit, LengthMeasureWithUnit}
@@ -29,31 +29,8 @@ use Rattle.index.specs.Search.{searched}
 use Rattle.index.specs.declared.Ids.{Ids}
 use Rattle.lookup.specs.Lookup.{spanFine, rowFound, rowFor}
 use Rattle.factors.specs.Thing.{goodBy, sameKind, pieceOf, Thing, thingAt, thingOf, thingFound, findOf, firstPiece, selfOr}
-use Rattle.factors.specs.Factor.{
-  readOr,
-  orNone,
-  Chain,
-  known,
-  leads,
-  conversionOf,
-  unitBy,
-  linkOf,
-  chained,
-  baseOf,
-  measureAt,
-  measureIn,
-  lengthOf,
-  numberIn,
-  angleOf,
-}
-use Rattle.factors.specs.Unit.{
-  siLength,
-  siAngle,
-  measureRef,
-  optionBy,
-  scaledBy,
-  measureRun,
-}
+use Rattle.factors.specs.Factor.{readOr, orNone, Chain, known, leads, conversionOf, unitBy, linkOf, chained, baseOf, measureAt, measureIn, lengthOf, numberIn, angleOf}
+use Rattle.factors.specs.Unit.{siLength, siAngle, measureRef, optionBy, scaledBy, measureRun}
 
 -- ---- the parts of a complex record
 -- a fault in the parts of a complex record lies in the file

@@ -1,4 +1,5 @@
 -- The looks that come before a search, for many ids at once: a row that can be told without reading rows is what the search finds,
+-- The looks that come before a search, for many ids at once: a row that can be told without reading rows is what the search finds,
 -- if it has the id. The laws say so for any slots and any numbers beside them.
 -- Assumes nothing.
 use Prim.Native.Nat.{ℕ, _+_, _-_, _*_, _/_, _%_, _≤_, _<_, min, max}
@@ -9,9 +10,9 @@ use mathlib.Core.Logic.{_⊎_, inl, inr}
 use mathlib.Core.Option.{some}
 use native.Mathlib.Omega.{arith}
 use native.Mathlib.Nat.{mul-le-mul-right, mul-div-cancel, div-add-mod'}
-use lib.Dec.{ltb, leb, eqb}
+use lib.Dec.{ltb, eqb}
 use lib.ListN.{length, getD}
-use borrow.Author.Tests.{leb-true, ltb-true, le-ltb, ne-eqb}
+use borrow.Author.Tests.{ltb-true, le-ltb, ne-eqb}
 use Rattle.common.specs.Compare.{less-or}
 use Rattle.table.specs.Table.{idOf, rowsFit}
 use Rattle.index.specs.Order.{slotId, tableRoom}
@@ -20,11 +21,6 @@ use Rattle.index.specs.Guide.{start-in, end-all, end-even, end-guide, guide-is,
 use Rattle.index.specs.SearchRight.{get-first, get-later, seek-hit}
 use Rattle.index.specs.declared.Ids.{Ids}
 use Rattle.finds.specs.Finds.{rowNumber}
-
--- where two tests hold together, each of them holds
-pub both : (s t : Bool) → (s && t) ≡ true → (s ≡ true) × (t ≡ true)
-both true t e = (refl, e)
-both false t e = absurd (let z : _≡_ {A = ℕ} 0 1 = cc in omega arith)
 
 -- how many rows the index speaks of
 abbrev pub roomOf : List ℕ → List ℕ → Ids → ℕ

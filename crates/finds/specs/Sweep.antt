@@ -1,19 +1,18 @@
 -- A sweep over a part of the lent list: what each of its numbers then is, all others being as they were.
 -- Assumes nothing.
-use Prim.Native.Nat.{ℕ, _+_, _-_, _*_, _≤_, _<_, min}
+use Prim.Native.Nat.{ℕ, _+_, _-_, _≤_, _<_}
 use mathlib.Core.Path.{_≡_, refl, sym, _∙_, subst}
-use mathlib.Core.Bool.{Bool, true, _&&_}
+use mathlib.Core.Bool.{true}
 use mathlib.Core.List.{List}
 use mathlib.Core.Logic.{_⊎_, inl, inr}
 use native.Mathlib.Omega.{arith}
-use lib.Dec.{eqb}
 use lib.ListN.{length, getD, set, length-set}
 use lib.Seq.{getD-set-same, getD-set-other}
 use borrow.Author.Tests.{lt-ltb, eq-eqb}
 use Rattle.common.specs.Compare.{ordered, less-or}
 use Rattle.table.specs.Table.{idOf, AllHave}
 use Rattle.finds.specs.Finds.{Told, full}
-use Rattle.finds.specs.Looks.{roomOf, rowOf, Hint, hint-row, both}
+use Rattle.finds.specs.Looks.{roomOf, rowOf, Hint, hint-row}
 use Rattle.index.specs.declared.Ids.{Ids}
 use Rattle.index.specs.Search.{standing}
 

@@ -9,7 +9,7 @@ ghost use Prim.Native.Nat.{_+_, _-_, _*_, _/_, _%_, _≤_, _<_, min, max};
 ghost use lib.Dec.{leb, eqb};
 ghost use lib.ListN.{length, getD};
 ghost use Rattle.index.specs.Order.{tableRoom};
-ghost use Rattle.index.specs.Search.{searched, wide};
+ghost use Rattle.index.specs.Search.{firstRow, searched, wide};
 ghost use Rattle.index.specs.Answer.{toldFound};
 ghost use Rattle.finds.specs.Finds.{rowNumber, Told};
 ghost use Rattle.finds.specs.Looks.{roomOf, rowOf, Hint, DenseRow, EvenRow, startNear, NearRow, Stepped, Guided};
@@ -54,37 +54,21 @@ fn dense_row(first: u32, id: u32) -> u32
 }
 
 // The rows of ids that are dense in file order; they are not read.
-fn dense_near(
-    rows: &[u32],
-    slots: &[u64],
-    b: Ids,
-    ids: &[u32],
-    found: &mut [u32],
-    from: usize,
-    to: usize,
-)
-    requires { ⌜ (from ≤ to) × (to ≤ length (now ids)) × (to ≤ length (now found)) × (b .direct ≡ true) × ((b .distinct && eqb (b .shift) 0) ≡ true) ⌝ }
-    ensures { λ _. ⌜ Swept (Hint (now (rows .entry)) (now (slots .entry)) b) (now (ids .entry)) (now (found .entry)) from to (now (found .exit)) ⌝ }
+fn dense_near(first: u32, ids: &[u32], found: &mut [u32], from: usize, to: usize)
+    requires { ⌜ (from ≤ to) × (to ≤ length (now ids)) × (to ≤ length (now found)) ⌝ }
+    ensures { λ _. ⌜ Swept (DenseRow first) (now (ids .entry)) (now (found .entry)) from to (now (found .exit)) ⌝ }
 {
     let mut i = from;
     while i < to {
-        found[i] = dense_row(b.first, ids[i]);
+        found[i] = dense_row(first, ids[i]);
         i += 1;
     }
 }
 
 // The rows that a search looks at first, where there are such; they are not read.
-fn slot_near(
-    rows: &[u32],
-    slots: &[u64],
-    b: Ids,
-    ids: &[u32],
-    found: &mut [u32],
-    from: usize,
-    to: usize,
-)
+fn slot_near(slots: &[u64], b: Ids, ids: &[u32], found: &mut [u32], from: usize, to: usize)
     requires { ⌜ (from ≤ to) × (to ≤ length (now ids)) × (to ≤ length (now found)) ⌝ }
-    ensures { λ _. ⌜ Swept (Hint (now (rows .entry)) (now (slots .entry)) b) (now (ids .entry)) (now (found .entry)) from to (now (found .exit)) ⌝ }
+    ensures { λ _. ⌜ Swept (λ k v. v ≡ firstRow (now (slots .entry)) b k) (now (ids .entry)) (now (found .entry)) from to (now (found .exit)) ⌝ }
 {
     let mut i = from;
     while i < to {
@@ -160,23 +144,14 @@ fn even_row(first: u32, step: u32, scale: u64, id: u32) -> u32
 }
 
 // The rows of ids that rise by one step; they are not read.
-fn even_near(
-    rows: &[u32],
-    slots: &[u64],
-    b: Ids,
-    step: u32,
-    ids: &[u32],
-    found: &mut [u32],
-    from: usize,
-    to: usize,
-)
-    requires { ⌜ (from ≤ to) × (to ≤ length (now ids)) × (to ≤ length (now found)) × (0 < step) × Stepped b (roomOf (now rows) (now slots) b) step ⌝ }
-    ensures { λ _. ⌜ Swept (Hint (now (rows .entry)) (now (slots .entry)) b) (now (ids .entry)) (now (found .entry)) from to (now (found .exit)) ⌝ }
+fn even_near(first: u32, step: u32, ids: &[u32], found: &mut [u32], from: usize, to: usize)
+    requires { ⌜ (from ≤ to) × (to ≤ length (now ids)) × (to ≤ length (now found)) × (0 < step) ⌝ }
+    ensures { λ _. ⌜ Swept (EvenRow first step) (now (ids .entry)) (now (found .entry)) from to (now (found .exit)) ⌝ }
 {
     let scale = 4294967295 / (step as u64) + 1;
     let mut i = from;
     while i < to {
-        found[i] = even_row(b.first, step, scale, ids[i]);
+        found[i] = even_row(first, step, scale, ids[i]);
         i += 1;
     }
 }
@@ -291,20 +266,20 @@ fn near(rows: &[u32], slots: &[u64], b: Ids, ids: &[u32], found: &mut [u32], fro
     ensures { λ _. ⌜ Swept (Hint (now (rows .entry)) (now (slots .entry)) b) (now (ids .entry)) (now (found .entry)) from to (now (found .exit)) ⌝ }
 {
     if filed(b) {
-        dense_near(rows, slots, b, ids, found, from, to);
+        dense_near(b.first, ids, found, from, to);
         return;
     }
     let n = index::room(rows.len(), slots.len(), b.count);
     let step = step_for(b, n);
     if 0 < step {
-        even_near(rows, slots, b, step, ids, found, from, to);
+        even_near(b.first, step, ids, found, from, to);
         return;
     }
     if is_guided(b, n) {
         guide_near(rows, slots, b, ids, found, from, to);
         return;
     }
-    slot_near(rows, slots, b, ids, found, from, to);
+    slot_near(slots, b, ids, found, from, to);
 }
 
 // The row of an id: the one that is told, where it has the id, else what is sought.

@@ -1,7 +1,7 @@
 -- Laws for the code: each way out of the search, by what was found so far; and that a search over the number columns of the same records
 -- finds the same.
 -- Assumes nothing.
-use Prim.Native.Nat.{ℕ, zero, suc, _+_, _-_, _≤_, _<_, min}
+use Prim.Native.Nat.{ℕ, zero, suc, _+_, _-_, _≤_, _<_}
 use native.Mathlib.Omega.{arith}
 use mathlib.Core.Path.{_≡_, refl, sym, _∙_, ap}
 use mathlib.Core.Bool.{Bool, true, false}
@@ -9,14 +9,14 @@ use mathlib.Core.List.{List, [], _∷_, map}
 use mathlib.Core.Option.{Option, none, some}
 use lib.ListN.{length, getElem?, length-map}
 use Rattle.statement.specs.declared.HeaderSpan.{HeaderSpan}
-use Rattle.statement.specs.Rows.{HeaderRow, headerRowOf}
+use Rattle.statement.specs.Rows.{headerRowOf}
 use Rattle.table.specs.Table.{headerRows, headerNumbers, headersLaid}
 use Rattle.table.specs.Laid.{headers-laid-in, header-is}
 use Rattle.common.specs.Pick.{pick}
 use Rattle.lookup.specs.First.{firstFrom}
 use Rattle.lookup.specs.Laws.{first-stops, first-goes, first-ends}
 use Rattle.headers.specs.Header.{named, isHeader, headerFirst, headerFound}
-use Rattle.headings.specs.Heads.{spanAt, headAt}
+use Rattle.headings.specs.Heads.{headAt}
 
 module _ (s name : List ℕ) (hs : List HeaderSpan) where
   -- none of the records before i has the keyword: what is sought is the first from i on
@@ -57,10 +57,6 @@ elem-row [] i l = absurd (omega arith)
 elem-row (w ∷ hs) zero l = refl
 elem-row (w ∷ hs) (suc i) l = elem-row hs i (omega arith)
 
--- two rows that are told as the same are one
-some-one : {a b : HeaderRow} → some a ≡ some b → a ≡ b
-some-one e = cc
-
 module _ (hs : List HeaderSpan) where
   -- the number columns that hold these records
   abbrev columns : List ℕ
@@ -70,7 +66,7 @@ module _ (hs : List HeaderSpan) where
   pub column-is : (i : ℕ) → i < length hs → headerNumbers columns i ≡ headAt hs i
   column-is i l =
       let n : length (map headerRowOf hs) ≡ length hs = length-map hs headerRowOf in
-      some-one (sym (header-is (map headerRowOf hs) [] i (omega (arith, n))) ∙ elem-row hs i l)
+      let e : some (headerNumbers columns i) ≡ some (headAt hs i) = sym (header-is (map headerRowOf hs) [] i (omega (arith, n))) ∙ elem-row hs i l in cc
 
   -- "the same search over number columns": it finds the same record
   pub columns-same : (s name : List ℕ) → headerFound s columns (length hs) name ≡ headerFirst s (headAt hs) (length hs) name

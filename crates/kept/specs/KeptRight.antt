@@ -1,4 +1,5 @@
 -- Writing rows and reading them back is the identity, and so is reading bytes and writing them again; and what a fine row is
+-- Writing rows and reading them back is the identity, and so is reading bytes and writing them again; and what a fine row is
 -- without a loop. Assumes nothing.
 use Prim.Native.Nat.{ℕ, zero, suc, _+_, _*_, _/_, _%_, _≤_, _<_}
 use mathlib.Core.Path.{_≡_, refl, sym, _∙_, ap, ap₂}
@@ -10,6 +11,7 @@ use borrow.Author.Tests.{leb-true, le-leb}
 use lib.ListN.{length, take, getD, getElem?}
 use lib.Seq.{take-all, take-suc, getD-append-add}
 use Rattle.common.specs.Compare.{clash}
+use Rattle.common.specs.Tests.{both}
 use Rattle.error.specs.Refusal.{good}
 use Rattle.statement.specs.Rows.{Row}
 use Rattle.table.specs.Table.{rowNumbers, six, rowsLaid}
@@ -94,15 +96,12 @@ numbers-back ws h = let l = length-bytes ws in ap (firstRows (rowAt (bytesOf ws)
 byte-0 : (a b c d : ℕ) → a < 256 → little a b c d % 256 ≡ a
 byte-0 a b c d h = omega arith
 
--- the second byte of a number of four bytes
 byte-1 : (a b c d : ℕ) → a < 256 → b < 256 → little a b c d / 256 % 256 ≡ b
 byte-1 a b c d h g = omega arith
 
--- the third byte of a number of four bytes
 byte-2 : (a b c d : ℕ) → a < 256 → b < 256 → c < 256 → little a b c d / 65536 % 256 ≡ c
 byte-2 a b c d h g k = omega arith
 
--- the fourth byte of a number of four bytes
 byte-3 : (a b c d : ℕ) → a < 256 → b < 256 → c < 256 → d < 256 → little a b c d / 16777216 % 256 ≡ d
 byte-3 a b c d h g k l = omega arith
 
@@ -155,11 +154,6 @@ front-back s w (suc n) h =
 -- bytes read as rows and written again are the same bytes, where none is left over
 pub bytes-back : (s : List ℕ) → Below 256 s → length s % 24 ≡ 0 → bytesOf (rowsOf s) ≡ s
 bytes-back s w e = front-back s w (length s / 24) (omega arith) ∙ take-all (length s / 24 * 24) s (omega arith)
-
--- two tests that pass together pass each
-both : (s t : Bool) → s && t ≡ true → (s ≡ true) × (t ≡ true)
-both true t e = (refl, e)
-both false t e = clash (cc)
 
 -- a row that is fine by the test is fine by the rule
 pub fine-is : (len : ℕ) (w : Row) → fineRow len w ≡ true → FineRow len w

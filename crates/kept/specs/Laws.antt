@@ -1,4 +1,5 @@
 -- Laws for the code: rows tested one by one, written and read one by one.
+-- Laws for the code: rows tested one by one, written and read one by one.
 -- Assumes nothing.
 use Prim.Native.Nat.{ℕ, zero, suc, _+_, _*_, _/_, _%_, _≤_, _<_}
 use mathlib.Core.Path.{_≡_, refl, sym, _∙_, ap, subst}
@@ -8,12 +9,12 @@ use native.Mathlib.Omega.{arith}
 use native.Mathlib.Numerals.{add-one}
 use lib.Dec.{ltb}
 use borrow.Author.Tests.{ltb-true, ltb-false, lt-ltb, le-ltb, eq-eqb, ne-eqb}
-use lib.ListN.{length, drop, set, length-append, length-drop}
-use lib.Seq.{sets, sets-eq, take-append-seam, drop-append-add, drop-drop}
+use lib.ListN.{length, drop, set, length-append}
+use lib.Seq.{sets}
 use Rattle.error.specs.Refusal.{refusal, good, bad}
 use Rattle.statement.specs.Rows.{Row}
 use Rattle.table.specs.Table.{rowsFit, six, rowsLaid, rowPut}
-use Rattle.table.specs.Laid.{laid-none, rows-laid-more}
+use Rattle.table.specs.Laid.{laid-none, laid-on, rows-laid-more}
 use Rattle.kept.specs.Kept.{littleFour, littles, rowBytes, bytesOf, rowAt, firstRows, fineRow, fineAll, keepOf, readOf, bytesAfter}
 
 -- where k rows are fine and row k is, k + 1 rows are
@@ -95,16 +96,6 @@ row-stored s p w =
     ∙ ap (λ (z : List ℕ). sets z (p + 20) f) (sets-more s p (p + 16) (a ++ b ++ c ++ d) e (omega arith))
     ∙ sets-more s p (p + 20) (a ++ b ++ c ++ d ++ e) f (omega arith)
 
--- bytes stored behind others, which stand in front of what was there: both stand there now
-laid-more : (front new old : List ℕ) → length front + length new ≤ length old
-    → sets (front ++ drop (length front) old) (length front) new ≡ (front ++ new) ++ drop (length (front ++ new)) old
-laid-more front new old h =
-    let rest : List ℕ = drop (length front) old in
-    let m : length front + length new ≤ length (front ++ rest) = omega (arith, h, length-append front rest, length-drop (length front) old) in
-    let d : drop (length new) rest ≡ drop (length (front ++ new)) old =
-    drop-drop (length new) (length front) old ∙ ap (λ (j : ℕ). drop j old) (sym (length-append front new)) in
-    sets-eq new (front ++ rest) (length front) m ∙ rw (take-append-seam front rest, drop-append-add front rest (length new), d) refl
-
 -- one row more is written, behind the first k
 pub put-more : (r : ℕ → Row) (old : List ℕ) (k : ℕ) → k * 24 + 24 ≤ length old
     → sets (bytesAfter (firstRows r k) old) (k * 24) (rowBytes (r k)) ≡ bytesAfter (firstRows r (k + 1)) old
@@ -113,7 +104,7 @@ put-more r old k h =
     let l : length (bytesOf ws) ≡ k * 24 = length-bytes ws ∙ ap (λ (z : ℕ). z * 24) (length-first r k) in
     let e : bytesOf (firstRows r (k + 1)) ≡ bytesOf ws ++ rowBytes (r k) = ap bytesOf (first-more r k) ∙ bytes-more ws (r k) in
     ap (λ (z : ℕ). sets (bytesAfter ws old) z (rowBytes (r k))) (sym l)
-    ∙ laid-more (bytesOf ws) (rowBytes (r k)) old (omega (arith, h, l, length-row (r k)))
+    ∙ laid-on (bytesOf ws) (rowBytes (r k)) old (omega (arith, h, l, length-row (r k)))
     ∙ ap (λ (z : List ℕ). z ++ drop (length z) old) (sym e)
 
 -- before the first row is read nothing changes

@@ -1,14 +1,15 @@
 -- Leaps: bytes that a search passes without looking at each. A byte is sought; and in a comment a search stays as it is until a `*`.
+-- Leaps: bytes that a search passes without looking at each. A byte is sought; and in a comment a search stays as it is until a `*`.
 -- Assumes nothing.
 use Prim.Native.Nat.{ℕ, zero, suc, _+_, _-_, _≤_, _<_, min}
 use mathlib.Core.Path.{_≡_, refl, sym, _∙_, ap, subst}
-use mathlib.Core.Bool.{Bool, true, false, _||_}
+use mathlib.Core.Bool.{Bool, true, false}
 use mathlib.Core.List.{List}
 use mathlib.Core.Logic.{_⊎_, inl, inr}
 use native.Mathlib.Omega.{arith}
-use lib.Dec.{eqb, ltb}
+use lib.Dec.{ltb}
 use lib.ListN.{length, drop, getD}
-use borrow.Author.Tests.{ne-eqb, eqb-false, ltb-true, ltb-false}
+use borrow.Author.Tests.{ne-eqb, ltb-true, ltb-false}
 use Rattle.common.specs.Walk.{Turn, on, walk, walk-goes}
 use Rattle.lex.specs.Lexer.{calm, next}
 use Rattle.lex.specs.Search.{Seen, seen, Look, seekTurn}
@@ -58,7 +59,6 @@ lacks-next b xs i k f g = lacks-on b xs i k (k + 1) f (λ j h l e. let q : j ≡
 
 -- A walk whose turns leave its state as it is over some bytes.
 module _ {S A : Type 0} (t : S → ℕ → List ℕ → Turn S A) (z : S → A) (s : S) (xs : List ℕ) where
-  -- a walk whose turns leave its state over n bytes from i on answers from after them as from i
   pub walk-stays : (n i : ℕ) → i + n ≤ length xs → ((j : ℕ) → i ≤ j → j < i + n → t s (getD xs j 0) (drop (j + 1) xs) ≡ on s) → walk t z s (drop i xs) ≡ walk t z s (drop (i + n) xs)
   walk-stays zero i h f = let e : i + 0 ≡ i = omega arith in ap (λ (k : ℕ). walk t z s (drop k xs)) (sym e)
   walk-stays (suc n) i h f =
@@ -83,15 +83,6 @@ leapt-remark xs i r h s =
     let a : min i (length xs) ≤ r = s .on in
     let b : r ≤ length xs = s .inside in
     record { on = omega arith; inside = b; same = λ j p q. rw (ne-eqb (getD xs j 0) 42 (s .lacks j (omega arith) q)) refl; quiet = λ j p q. refl }
-
--- a note whether the byte b was met, with one byte more: where it says no, b is lacking up to there too
-pub noted-next : (b : ℕ) (xs : List ℕ) (at k : ℕ) (hit hit′ : Bool) → (hit ≡ false → Lacks b xs at (at + k)) → hit′ ≡ (hit || eqb (getD xs (at + k) 0) b) → hit′ ≡ false → Lacks b xs at (at + (k + 1))
-noted-next b xs at k hit hit′ f e g = go hit (eqb (getD xs (at + k) 0) b) refl f (sym e ∙ g)
-  where
-    go : (h t : Bool) → eqb (getD xs (at + k) 0) b ≡ t → (h ≡ false → Lacks b xs at (at + k)) → (h || t) ≡ false → Lacks b xs at (at + (k + 1))
-    go true t q f e = absurd (let q : _≡_ {A = ℕ} 0 1 = cc in omega arith)
-    go false true q f e = absurd (let q : _≡_ {A = ℕ} 0 1 = cc in omega arith)
-    go false false q f e = let r : at + k + 1 ≡ at + (k + 1) = omega arith in subst (λ (n : ℕ). Lacks b xs at n) r (lacks-next b xs at (at + k) (f refl) (eqb-false (getD xs (at + k) 0) b q))
 
 -- the first place of b before a nearer end, where there is one, is the first before the farther end too
 pub stopped-near : (b : ℕ) (xs : List ℕ) (i near end r : ℕ) → Stopped b xs i near r → r < near → near ≤ end → Stopped b xs i end r

@@ -14,3 +14,4 @@ pub mod Past
 pub mod Blank
 pub mod At
 pub mod Only
+pub mod Rests

@@ -1,4 +1,5 @@
 -- What the code passes at one go on its way to a record's `;` and to a closing `)`: a string, a comment, a byte outside both, and blocks of
+-- What the code passes at one go on its way to a record's `;` and to a closing `)`: a string, a comment, a byte outside both, and blocks of
 -- bytes in which nothing is to be looked at one by one. All is said of `plainly`, the search outside strings and comments, for which it does not
 -- matter where the last byte outside stood. No contract of a public function cites these. Assumes nothing.
 use Prim.Native.Nat.{ℕ, suc, _+_, _-_, _≤_, _<_, min}
@@ -16,6 +17,7 @@ use Rattle.common.specs.Compare.{clash}
 use Rattle.error.specs.Refusal.{bad, refusal, told}
 use Rattle.lex.specs.Place.{place-drop}
 use Rattle.common.specs.Walk.{on, walk-ends, walk-goes}
+use Rattle.common.specs.Tests.{neither}
 use Rattle.lex.specs.Lexer.{fresh}
 use Rattle.lex.specs.Search.{Look, look, seen, seekTurn, missed, semicolon, paren}
 use Rattle.lex.specs.Answer.{placed, Stopped}
@@ -188,36 +190,23 @@ module _ (s : List ℕ) (i : ℕ) (h : i < length s) where
   onward-remark a k b (At p) (x, y, c) = (omega arith, y, λ f n w d e l. opens a k b f n w d e l ∙ c f n w e)
   onward-remark a k b (Refused g) c = λ f n w d e l. ap (placed s) (opens a k b f n w d e l) ∙ c f n w e
 
--- one byte more of a block in which neither a quote nor a slash nor a `;` was noted: the search for a `;` goes on after it
-pub quiet-next : (s : List ℕ) (i j : ℕ) (quote slash end : Bool) → j < length s → (((quote || slash) || end) ≡ false → Quiet s i j)
-    → (((quote || eqb (getD s j 0) 39) || (slash || eqb (getD s j 0) 47)) || (end || eqb (getD s j 0) 59)) ≡ false → Quiet s i (j + 1)
-quiet-next s i j quote slash end h p e = go quote slash end (eqb (getD s j 0) 39) (eqb (getD s j 0) 47) (eqb (getD s j 0) 59) refl refl refl p e
-  where
-    go : (x y z a b c : Bool) → eqb (getD s j 0) 39 ≡ a → eqb (getD s j 0) 47 ≡ b → eqb (getD s j 0) 59 ≡ c → (((x || y) || z) ≡ false → Quiet s i j)
-        → (((x || a) || (y || b)) || (z || c)) ≡ false → Quiet s i (j + 1)
-    go true y z a b c k l m p e = clash (cc)
-    go false y z true b c k l m p e = clash (cc)
-    go false true z false b c k l m p e = clash (cc)
-    go false false z false true c k l m p e = clash (cc)
-    go false false true false false c k l m p e = clash (cc)
-    go false false false false false true k l m p e = clash (cc)
-    go false false false false false false k l m p e =
-        λ n w. p refl n w ∙ onward-byte s j h (eqb-false (getD s j 0) 39 k) (eqb-false (getD s j 0) 47 l) .2 semicolon n w 0 0 (rw m refl)
+-- a byte that is neither a quote nor a slash nor a `;`
+pub quiet-byte : (s : List ℕ) (i j : ℕ) → j < length s → eqb (getD s j 0) 39 ≡ false → eqb (getD s j 0) 47 ≡ false → eqb (getD s j 0) 59 ≡ false → Quiet s i j → Quiet s i (j + 1)
+quiet-byte s i j h k l m q = λ n w. q n w ∙ onward-byte s j h (eqb-false (getD s j 0) 39 k) (eqb-false (getD s j 0) 47 l) .2 semicolon n w 0 0 (rw m refl)
 
 -- a search for a `)` goes on from a place as from itself, with no parenthesis between
 pub counted-none : (s : List ℕ) (i j : ℕ) → j ≡ i → Counted s i j 0 0
 counted-none s i j g n w d e h k = let x : e ≡ d = omega arith in rw (g, x) refl
 
--- where neither of two tests holds, each of them fails
-pub neither : (a b : Bool) → (a || b) ≡ false → (a ≡ false) × (b ≡ false)
-neither true b e = clash (cc)
-neither false b e = (refl, e)
-
 -- one byte more of a block in which neither a quote nor a slash was noted: the search for a `)` goes on after it, the parentheses counted
 pub counted-next : (s : List ℕ) (i j up down : ℕ) (quote slash : Bool) → j < length s → ((quote || slash) ≡ false → Counted s i j up down)
     → ((quote || eqb (getD s j 0) 39) || (slash || eqb (getD s j 0) 47)) ≡ false
     → Counted s i (j + 1) (up + pick (eqb (getD s j 0) 40) 1 0) (down + pick (eqb (getD s j 0) 41) 1 0)
-counted-next s i j up down quote slash h p e = go quote slash (eqb (getD s j 0) 39) (eqb (getD s j 0) 47) refl refl p e
+counted-next s i j up down quote slash h p e =
+    let (q, l) = neither (quote || eqb (getD s j 0) 39) (slash || eqb (getD s j 0) 47) e in
+    let (q₀, q₁) = neither quote (eqb (getD s j 0) 39) q in
+    let (l₀, l₁) = neither slash (eqb (getD s j 0) 47) l in
+    by (eqb (getD s j 0) 40) (eqb (getD s j 0) 41) refl refl (eqb-false (getD s j 0) 39 q₁) (eqb-false (getD s j 0) 47 l₁) (p (rw (q₀, l₀) refl))
   where
     step : (m e n : ℕ) (w : List ℕ) → (getD s j 0 ≡ 39 → ⊥) → (getD s j 0 ≡ 47 → ⊥) → paren m (getD s j 0) ≡ look e → plainly paren n w m (drop j s) ≡ plainly paren n w e (drop (j + 1) s)
     step m e n w a b l = onward-byte s j h a b .2 paren n w m e l
@@ -229,11 +218,3 @@ counted-next s i j up down quote slash h p e = go quote slash (eqb (getD s j 0) 
         let x : suc (e - 1) ≡ e = omega arith in c n w d (e - 1) (omega arith) (omega arith) ∙ step (e - 1) e n w a b (rw (k, x) refl)
     by false true k l a b c n w d e u v = c n w d (suc e) (omega arith) (omega arith) ∙ step (suc e) e n w a b (rw (k, l) refl)
     by false false k l a b c n w d e u v = c n w d e (omega arith) (omega arith) ∙ step e e n w a b (rw (k, l) refl)
-
-    go : (x y a b : Bool) → eqb (getD s j 0) 39 ≡ a → eqb (getD s j 0) 47 ≡ b → ((x || y) ≡ false → Counted s i j up down)
-        → ((x || a) || (y || b)) ≡ false → Counted s i (j + 1) (up + pick (eqb (getD s j 0) 40) 1 0) (down + pick (eqb (getD s j 0) 41) 1 0)
-    go true y a b k l p e = clash (cc)
-    go false y true b k l p e = clash (cc)
-    go false true false b k l p e = clash (cc)
-    go false false false true k l p e = clash (cc)
-    go false false false false k l p e = by (eqb (getD s j 0) 40) (eqb (getD s j 0) 41) refl refl (eqb-false (getD s j 0) 39 k) (eqb-false (getD s j 0) 47 l) (p refl)

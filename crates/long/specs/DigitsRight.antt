@@ -12,8 +12,8 @@ use lib.Dec.{ltb}
 use lib.ListN.{length, drop, length-drop}
 use lib.Seq.{drop-length}
 use Rattle.common.specs.Pick.{pick}
+use Rattle.common.specs.Tests.{bounds}
 use Rattle.record.specs.Byte.{digit}
-use Rattle.record.specs.Turns.{bounds}
 use Rattle.long.specs.Digits.{digitsIn, Leads, leads, FirstAt}
 use Rattle.long.specs.Number.{numberIn}
 

@@ -1,8 +1,7 @@
 -- Where the digits need not be read: the decimals so small that 0 is nearest, and so large that infinity is. Assumes nothing.
 use Prim.Native.Nat.{ℕ, zero, suc, _+_, _-_, _*_, _^_, _≤_, _<_}
 use mathlib.Core.Path.{_≡_, refl, sym, _∙_, ap, subst}
-use mathlib.Core.Bool.{Bool, true, false, _||_}
-use native.Mathlib.Nat.{le-trans, le-of-lt, le-of-mul-le-mul-left, mul-assoc, mul-le-mul, mul-le-mul-left, mul-le-mul-right, one-le-pow, one-mul, pow-le-pow-right, pow-succ', zero-mul}
+use native.Mathlib.Nat.{le-trans, le-of-lt, le-of-mul-le-mul-left, mul-assoc, mul-le-mul, mul-le-mul-left, mul-le-mul-right, one-mul, pow-le-pow-right, pow-succ'}
 use native.Mathlib.Omega.{arith}
 use borrow.Author.Tests.{leb-true}
 use lib.Pow.{pow-add}
@@ -10,14 +9,6 @@ use Rattle.nearest.specs.Units.{infinity}
 use Rattle.nearest.specs.Near.{near}
 use Rattle.nearest.specs.Borders.{near-zero, near-infinity}
 use Rattle.nearest.specs.PowerLaws.{ten-pos}
-
--- two tests of which none passes fail each
-pub neither : (a b : Bool) → (a || b) ≡ false → (a ≡ false) × (b ≡ false)
-neither false b e = (refl, e)
-neither true b e = absurd (never e)
-  where
-    never : true ≡ false → ⊥
-    never z = let y : _≡_ {A = ℕ} 0 1 = cc in omega arith
 
 -- the power of ten from which on down a decimal is a zero: 10 ^ -324 is below half the least f64
 abbrev pub lowest : ℕ

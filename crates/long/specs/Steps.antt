@@ -14,8 +14,8 @@ use lib.Arith.{lt-of-le-ne}
 use lib.Pow.{pow-add, shl-exact}
 use lib.ListN.{length, take, drop, getD, set, length-set, length-append, length-drop}
 use lib.Seq.{length-take-le, take-suc-set, take-at, drop-cons}
+use Rattle.common.specs.Tests.{bounds}
 use Rattle.record.specs.Byte.{digit}
-use Rattle.record.specs.Turns.{bounds}
 use Rattle.limbs.specs.Worth.{worth}
 use Rattle.limbs.specs.Worth as limbs
 use Rattle.limbs.specs.Laws.{power-more, worth-append, worth-one, worth-split}

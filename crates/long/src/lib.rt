@@ -8,7 +8,7 @@
 // Crate wide has a `raised` and a `lowered` with the same answers: they are the fast ones, and call these where they are in doubt.
 ghost use mathlib.Core.Path.{_≡_};
 ghost use mathlib.Core.Logic.{_⊎_};
-ghost use Prim.Native.Nat.{_+_, _-_, _*_, _/_, _≤_, _<_, _^_};
+ghost use Prim.Native.Nat.{_+_, _-_, _*_, _/_, _≤_, _<_, _^_, min};
 ghost use lib.Ieee.{binary64, toBits};
 ghost use lib.ListN.{length, take, drop};
 ghost use Rattle.nearest.specs.Units.{infinity};
@@ -21,10 +21,9 @@ ghost use Rattle.long.specs.Digits.{digitsIn, FirstAt, ReadAt};
 ghost use Rattle.long.specs.Number.{numberIn};
 ghost use Rattle.long.specs.Scaled.{Lowered, LowersTo, RaisesTo};
 
-// 5^k, as far as 32 binary digits hold it. A match is a table of the program's; an array would be laid on the stack at each use.
-fn power_of_five(k: usize) -> u32
-    requires { ⌜ k < 14 ⌝ }
-    ensures { λ r. ⌜ r ≡ 5 ^ k ⌝ }
+// 5^k, or 5^27 where k is more: the last that 63 binary digits hold. A match is a table of the program's; an array would be laid on the stack at each use.
+pub fn power_of_five(k: usize) -> u64
+    ensures { λ r. ⌜ r ≡ 5 ^ min k 27 ⌝ }
 {
     match k {
         0 => 1,
@@ -40,8 +39,30 @@ fn power_of_five(k: usize) -> u32
         10 => 9765625,
         11 => 48828125,
         12 => 244140625,
-        _ => 1220703125,
+        13 => 1220703125,
+        14 => 6103515625,
+        15 => 30517578125,
+        16 => 152587890625,
+        17 => 762939453125,
+        18 => 3814697265625,
+        19 => 19073486328125,
+        20 => 95367431640625,
+        21 => 476837158203125,
+        22 => 2384185791015625,
+        23 => 11920928955078125,
+        24 => 59604644775390625,
+        25 => 298023223876953125,
+        26 => 1490116119384765625,
+        _ => 7450580596923828125,
     }
+}
+
+// 5^k as a digit of 32 binary digits.
+fn small_power(k: usize) -> u32
+    requires { ⌜ k < 14 ⌝ }
+    ensures { λ r. ⌜ r ≡ 5 ^ k ⌝ }
+{
+    power_of_five(k) as u32
 }
 
 // Divides by 5^k, and tells whether anything is left. What is left of the whole division is 0 just where each step leaves nothing.
@@ -55,7 +76,7 @@ fn lower(a: &mut [u32], k: usize) -> bool
         more = more | (rest != 0);
         left -= 13;
     }
-    let last = limbs::divide(a, power_of_five(left));
+    let last = limbs::divide(a, small_power(left));
     more | (last != 0)
 }
 
@@ -139,7 +160,7 @@ fn raise(a: &mut [u32], used: usize, k: usize) -> usize
         n += 1;
         left -= 13;
     }
-    push(a, n, power_of_five(left), 0);
+    push(a, n, small_power(left), 0);
     n + 1
 }
 

@@ -1,23 +1,24 @@
 -- The counting so far, as the loop keeps it, and what each statement does to it.
 -- Assumes nothing.
-use Prim.Native.Nat.{ℕ, zero, suc, _+_, _-_, _≤_, _<_, max}
+use Prim.Native.Nat.{ℕ, _+_, _-_, _≤_, _<_, max}
 use mathlib.Core.Path.{_≡_, refl, sym, _∙_, ap, subst}
 use mathlib.Core.Bool.{Bool, true, false}
-use mathlib.Core.List.{List, [], _∷_}
+use mathlib.Core.List.{List}
 use native.Mathlib.Omega.{arith}
 use borrow.Author.Tests.{lt-ltb}
 use lib.Dec.{ltb}
 use lib.ListN.{length, drop}
 use Rattle.common.specs.Pick.{pick}
 use Rattle.common.specs.Compare.{clash}
+use Rattle.scan.specs.Laws.{unrolled}
 use Rattle.error.specs.Refusal.{Refusal, refusal, Told, good, bad}
 use Rattle.statement.specs.Rows.{Row, HeaderRow, Stmt, ends, refused, moved, header, record′, mapped}
 use Rattle.statement.specs.Statement.{statement}
 use Rattle.statement.specs.declared.Section.{Section}
 use Rattle.statement.specs.declared.Section.the-variants.{Outside, InHeader, InData}
-use Rattle.scan.specs.Records.{Table, table, withHeader, withRecord, largest}
+use Rattle.scan.specs.Records.{Table, withHeader, withRecord, largest}
 use Rattle.scan.specs.File.{taken, readFrom, readingOf, marked, scanOf}
-use Rattle.scan.specs.Table.{Counts, countsOf}
+use Rattle.scan.specs.Table.{countsOf}
 use Rattle.scan.specs.Roomy.{refusal-roomy}
 use Rattle.lengths.specs.declared.Sizes.{Sizes}
 use Rattle.lengths.specs.Lengths.{recordOf}
@@ -29,13 +30,6 @@ use Rattle.needs.specs.Needs.{mostOf, headSizes, rowSizes, needs, needsI
 -- the needs so far, with those of the table that the rest of the file has
 abbrev pub plus : List ℕ → ℕ → ℕ → ℕ → Sizes → Table → Needs
 plus s h r m z t = needs (h + length (t .headers)) (r + length (t .records)) (max m (largest (t .records))) (both z (both (headSizes s (t .headers)) (rowSizes s (t .records))))
-
--- one turn of the reading, while statements may be left
-unrolled : (k : ℕ) (s : List ℕ) (H R : ℕ) (sec : Section) (h r : ℕ) (xs : List ℕ) → 0 < k
-    → readFrom k s H R sec h r xs ≡ taken s H R h r (statement s sec xs) (λ sec h r t. readFrom (k - 1) s H R sec h r t)
-unfolding readFrom
-unrolled zero s H R sec h r xs p = absurd (omega arith)
-unrolled (suc k) s H R sec h r xs p = let e : suc k - 1 ≡ k = omega arith in rw e refl
 
 -- the counting so far: h and r rows, the largest id and the sizes up to the place i, and what is left gives the rest
 pub record Counting (s : List ℕ) (i : ℕ) (sec : Section) (h r m : ℕ) (z : Sizes) : Type 0 where

@@ -12,6 +12,7 @@ use lib.ListN.{length, take, drop, length-append, length-drop, take-append-drop}
 use lib.Seq.{take-at, length-take-le}
 use Rattle.common.specs.Pick.{pick}
 use Rattle.common.specs.Compare.{clash}
+use Rattle.common.specs.Tests.{both}
 use Rattle.lex.specs.Grammar.{Closes}
 use Rattle.lex.specs.Search.{recordEnd, closing}
 use Rattle.lex.specs.Answer.{Sought, at, fault}
@@ -29,7 +30,7 @@ use Rattle.statement.specs.Closed.{OutsideBoth, ClosedAt, ClosedParts, ClosedDa
 use Rattle.statement.specs.ClosedRight.Outside.{outside-of}
 use Rattle.statement.specs.ClosedRight.Statements.{Step, step}
 use Rattle.statement.specs.declared.Section.{Section}
-use Rattle.statement.specs.declared.Section.the-variants.{Outside, InHeader, InData}
+use Rattle.statement.specs.declared.Section.the-variants.{InHeader, InData}
 use Rattle.order.specs.Order.{Cut, rest, piece, led, Cuts, named, ofId, contextText}
 use Rattle.order.specs.Exchange.{Lone}
 
@@ -279,10 +280,6 @@ closed-step : (s : List ℕ) (sec : Section) (xs : List ℕ) (k : Section → Li
     → ((to : Section) (r : List ℕ) → k to r ≡ true → ClosedFrom s to r) → ClosedFrom s sec xs
 closed-step s sec xs k h i = go (step s sec xs) refl h
   where
-    both : (x y : Bool) → (x && y) ≡ true → (x ≡ true) × (y ≡ true)
-    both true y e = (refl, e)
-    both false y e = clash (cc)
-
     go : {x : Stmt} → Step s sec xs x → statement s sec xs ≡ x → closedStep x k ≡ true → ClosedFrom s sec xs
     go (Step.over l) e m = ClosedFrom.over e
     go (Step.faulty q) e m = clash (cc)

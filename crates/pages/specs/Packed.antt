@@ -1,8 +1,10 @@
 -- The characters of four codes of a page in one number, as the program holds its tables: 24 such numbers are the 96 codes from A0 to FF. Assumes
+-- The characters of four codes of a page in one number, as the program holds its tables: 24 such numbers are the 96 codes from A0 to FF. Assumes
 -- nothing.
 use Prim.Native.Nat.{ℕ, zero, suc, _+_, _*_, _/_, _%_, _-_, _^_, _≤_, _<_}
 use mathlib.Core.Path.{_≡_, refl, sym, _∙_, ap}
 use native.Mathlib.Omega.{arith}
+use Rattle.common.specs.Tests.{Avoids, avoided}
 use Rattle.pages.specs.Tables.{entry}
 use Rattle.pages.specs.Right.{entry-below, entry-past, entry-none}
 
@@ -22,16 +24,6 @@ found p j e = ap (packed p) (sym e)
 pub turned-to : (q k : ℕ) {p : ℕ} → p ≡ q → packed q k ≡ packed p k
 turned-to q k e = ap (λ (p : ℕ). packed p k) (sym e)
 
--- k is none of the first n numbers
-abbrev pub Avoids : ℕ → ℕ → Type 0
-Avoids zero k = Unit
-Avoids (suc n) k = Avoids n k × (k ≡ n → ⊥)
-
--- where k is none of the first n numbers, it is n or more
-least : (n k : ℕ) → Avoids n k → n ≤ k
-least zero k h = omega arith
-least (suc n) k h = let below = least n k (h .0) in let other = h .1 in omega arith
-
 -- the number of four codes that are undefined
 abbrev nothing : ℕ
 nothing = 0xFFFD_FFFD_FFFD_FFFD
@@ -40,23 +32,13 @@ nothing = 0xFFFD_FFFD_FFFD_FFFD
 none-four : (p k : ℕ) → ((n : ℕ) → 0xA0 + 4 * k ≤ n → 0xFFFD ≡ entry p n) → nothing ≡ packed p k
 none-four p k f = rw (sym (f (0xA0 + 4 * k) (omega arith)), sym (f (0xA1 + 4 * k) (omega arith)), sym (f (0xA2 + 4 * k) (omega arith)), sym (f (0xA3 + 4 * k) (omega arith))) refl
 
--- where k is no line of the 24, the codes lie above FF, and are undefined
-pub avoided : (p : ℕ) {k : ℕ} → Avoids 24 k → nothing ≡ packed p k
-avoided p {k} h = let m = least 24 k h in none-four p k (λ n l. entry-past p n (omega arith))
+-- no line is left: the codes lie above FF
+pub no-line : (p : ℕ) {k : ℕ} → Avoids 0 24 k → nothing ≡ packed p k
+no-line p {k} h = let m = avoided 0 24 k (omega arith) h in none-four p k (λ n l. entry-past p n (omega arith))
 
--- p is none of the first n pages after page A
-abbrev pub Passes : ℕ → ℕ → Type 0
-Passes zero p = Unit
-Passes (suc n) p = Passes n p × (p ≡ suc n → ⊥)
-
--- where p is none of the first n pages after page A, it comes after them
-after : (n p : ℕ) → 0 < p → Passes n p → n < p
-after zero p l h = l
-after (suc n) p l h = let below = after n p l (h .0) in let other = h .1 in omega arith
-
--- where p is none of the nine pages, all codes on it are undefined
-pub no-page : (k : ℕ) {p : ℕ} → Passes 8 p → 0 < p → nothing ≡ packed p k
-no-page k {p} h l = let m = after 8 p l h in none-four p k (λ n e. entry-none p n m)
+-- there is no such page
+pub no-page : (k : ℕ) {p : ℕ} → Avoids 1 8 p → 0 < p → nothing ≡ packed p k
+no-page k {p} h l = let m = avoided 1 8 p l h in none-four p k (λ n e. entry-none p n (omega arith))
 
 -- one code of four, read from their number
 module _ (p k w : ℕ) (e : w ≡ packed p (k / 4)) where

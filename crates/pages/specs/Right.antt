@@ -1,4 +1,5 @@
 -- What is computed of pages is what the rules give, and nothing else is; and the rule over all nine tables: each entry is a Unicode scalar, and
+-- What is computed of pages is what the rules give, and nothing else is; and the rule over all nine tables: each entry is a Unicode scalar, and
 -- page A is the identity. Assumes nothing.
 use Prim.Native.Nat.{ℕ, zero, suc, _+_, _-_, _≤_, _<_}
 use mathlib.Core.Path.{_≡_, refl, sym, _∙_, ap, subst}
@@ -6,10 +7,11 @@ use mathlib.Core.Bool.{Bool, true, false, _&&_, _||_}
 use mathlib.Core.List.{List, [], _∷_}
 use native.Mathlib.Decide.{decLt}
 use native.Mathlib.Omega.{arith}
-use borrow.Author.Tests.{le-leb, lt-leb, leb-true, le-ltb, ltb-true, ltb-false, eqb-true}
+use borrow.Author.Tests.{le-leb, lt-leb, le-ltb, ltb-true, ltb-false, eqb-true}
 use lib.Dec.{eqb, leb, ltb}
 use lib.ListN.{length, getD, List·getD-eq-default}
 use Rattle.common.specs.Pick.{pick}
+use Rattle.common.specs.Tests.{both, in-range, neither}
 use Rattle.utf8.specs.Utf8.{scalar}
 use Rattle.utf8.specs.Laws.{scalar-low}
 use Rattle.utf8.specs.Table.{In}
@@ -19,10 +21,6 @@ use Rattle.pages.specs.Rules.{pageA}
 use Rattle.pages.specs.Rules
 
 -- ---- tests of a range
--- a number of a range passes its test
-inside : (l h n : ℕ) → In l h n → leb l n && leb n h ≡ true
-inside l h n (p, q) = rw (le-leb l n p, le-leb n h q) refl
-
 -- a number outside a range fails its test
 beyond : (l h n : ℕ) → (In l h n → ⊥) → leb l n && leb n h ≡ false
 beyond l h n f = go (decLt n l) (decLt h n)
@@ -49,20 +47,20 @@ page-is b = go (within 65 73 b) (within 97 105 b)
     go : Dec (In 65 73 b) → Dec (In 97 105 b) → Rules.Selects b (pageOf b)
     go (yes (l, h)) _ =
         let e : 65 + (b - 65) ≡ b = omega arith in
-        rw (inside 65 73 b (l, h)) (subst (λ (z : ℕ). Rules.Selects z (b - 65)) e (Rules.capital {p = b - 65} (omega arith)))
+        rw (in-range 65 b 73 l h) (subst (λ (z : ℕ). Rules.Selects z (b - 65)) e (Rules.capital {p = b - 65} (omega arith)))
     go (no n) (yes (l, h)) =
         let e : 97 + (b - 97) ≡ b = omega arith in
-        rw (beyond 65 73 b n, inside 97 105 b (l, h)) (subst (λ (z : ℕ). Rules.Selects z (b - 97)) e (Rules.small {p = b - 97} (omega arith)))
+        rw (beyond 65 73 b n, in-range 97 b 105 l h) (subst (λ (z : ℕ). Rules.Selects z (b - 97)) e (Rules.small {p = b - 97} (omega arith)))
     go (no n) (no m) = rw (beyond 65 73 b n, beyond 97 105 b m) (Rules.other n m)
 
 -- no page but the one that is computed is selected by a letter
 pub page-only : {b p : ℕ} → Rules.Selects b p → p ≡ pageOf b
 page-only (Rules.capital {p = p} h) =
     let e : p ≡ 65 + p - 65 = omega arith in
-    rw (inside 65 73 (65 + p) (omega arith, omega arith)) e
+    rw (in-range 65 (65 + p) 73 (omega arith) (omega arith)) e
 page-only (Rules.small {p = p} h) =
     let e : p ≡ 97 + p - 97 = omega arith in
-    rw (beyond 65 73 (97 + p) (λ (a, b). omega arith), inside 97 105 (97 + p) (omega arith, omega arith)) e
+    rw (beyond 65 73 (97 + p) (λ (a, b). omega arith), in-range 97 (97 + p) 105 (omega arith) (omega arith)) e
 page-only (Rules.other {b = b} n m) = rw (beyond 65 73 b n, beyond 97 105 b m) refl
 
 -- the page that is computed of a letter is one of nine
@@ -80,12 +78,12 @@ pub code-is : (p n : ℕ) → Rules.Coded p n (codeOf p n)
 code-is p n = go (within 0xA0 0xFF n)
   where
     go : Dec (In 0xA0 0xFF n) → Rules.Coded p n (codeOf p n)
-    go (yes h) = rw (inside 0xA0 0xFF n h) (Rules.listed h)
+    go (yes h) = rw (in-range 0xA0 n 0xFF (h .0) (h .1)) (Rules.listed h)
     go (no h) = rw (beyond 0xA0 0xFF n h) (Rules.outside h)
 
 -- no character but the one that is computed is a sum's on a page
 pub code-only : {p n c : ℕ} → Rules.Coded p n c → c ≡ codeOf p n
-code-only (Rules.listed {n = n} h) = rw (inside 0xA0 0xFF n h) refl
+code-only (Rules.listed {n = n} h) = rw (in-range 0xA0 n 0xFF (h .0) (h .1)) refl
 code-only (Rules.outside {n = n} h) = rw (beyond 0xA0 0xFF n h) refl
 
 -- ---- the rule over all nine tables
@@ -103,11 +101,6 @@ counts i (x ∷ xs) = eqb x i && counts (suc i) xs
 abbrev pub every : (List ℕ → Bool) → List (List ℕ) → Bool
 every f [] = true
 every f (x ∷ xs) = f x && every f xs
-
--- two tests that pass together pass each
-both : (a b : Bool) → a && b ≡ true → (a ≡ true) × (b ≡ true)
-both true b e = (refl, e)
-both false b e = let z : _≡_ {A = ℕ} 0 1 = ap (λ (t : Bool). pick t 1 0) e in absurd (omega arith)
 
 -- a test that passes at each number of a list passes at each place, and past the end where it passes at what stands for none
 each-at : (f : ℕ → Bool) (xs : List ℕ) (k d : ℕ) → each f xs ≡ true → f d ≡ true → f (getD xs k d) ≡ true
@@ -207,7 +200,7 @@ pub code-a : (n : ℕ) → codeOf pageA n ≡ n
 code-a n = go (within 0xA0 0xFF n)
   where
     go : Dec (In 0xA0 0xFF n) → codeOf pageA n ≡ n
-    go (yes h) = rw (inside 0xA0 0xFF n h) (page-a n h)
+    go (yes h) = rw (in-range 0xA0 n 0xFF (h .0) (h .1)) (page-a n h)
     go (no h) = rw (beyond 0xA0 0xFF n h) refl
 
 -- every sum of a byte and 128 gives a Unicode scalar, on every page
@@ -219,10 +212,6 @@ code-scalar p n h = go (leb 0xA0 n && leb n 0xFF)
     go false = scalar-low n h
 
 -- ---- what the code's tests show
--- a number that passes a range's test is not below it
-pub above : (l h n : ℕ) → leb l n && leb n h ≡ true → l ≤ n
-above l h n e = leb-true l n (both (leb l n) (leb n h) e .0)
-
 -- a capital letter from A to I selects the page that is computed
 pub selects-capital : (b : ℕ) → leb 65 b && leb b 73 ≡ true → b - 65 ≡ pageOf b
 selects-capital b e = rw e refl
@@ -254,8 +243,4 @@ code-listed p n e =
     let l = ltb-false n 160 b in
     let h = ltb-false 255 n c in
     let z : 0xA0 + (n - 160) ≡ n = omega arith in
-    ((l, h), λ c k. k ∙ ap (Tables.entry p) z ∙ rw (inside 0xA0 0xFF n (l, h)) refl)
-  where
-    neither : (a b : Bool) → a || b ≡ false → (a ≡ false) × (b ≡ false)
-    neither true b e = let w : _≡_ {A = ℕ} 0 1 = ap (λ (t : Bool). pick t 0 1) e in absurd (omega arith)
-    neither false b e = (refl, e)
+    ((l, h), λ c k. k ∙ ap (Tables.entry p) z ∙ rw (in-range 0xA0 n 0xFF l h) refl)

@@ -21,7 +21,8 @@ use Rattle.params.specs.Skips.{emptied, emptyOf, skipOf, andThen, skipFr
 use Rattle.params.specs.Answer.{Read, reading, Span, inFile, onward, mapped}
 use Rattle.params.specs.ReaderLaws.{in-true}
 use Rattle.params.specs.Rules.{Inside, rest, NextForm}
-use Rattle.params.specs.RulesRight.{starts-rest, rest-within, inside-true, next-is}
+use Rattle.lex.specs.Rests.{rest-within}
+use Rattle.params.specs.RulesRight.{starts-rest, inside-true, next-is}
 
 -- a refusal's place, if there is one, is at most n
 abbrev pub PlacedIn : {A : Type 0} → ℕ → Told A → Type 0

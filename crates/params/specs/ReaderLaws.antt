@@ -1,7 +1,7 @@
 -- What the code's parts promise, put together to the answers of Reader.antt. Assumes nothing.
 use Prim.Native.Nat.{ℕ, zero, suc, _+_, _-_, _≤_, _<_, min}
 use mathlib.Core.Path.{_≡_, refl, sym, _∙_, ap, subst}
-use mathlib.Core.Bool.{Bool, true, false, not, _&&_}
+use mathlib.Core.Bool.{true, false, not, _&&_}
 use mathlib.Core.List.{List, [], _∷_}
 use native.Mathlib.Omega.{arith}
 use native.Mathlib.Decide.{decLe}
@@ -9,9 +9,9 @@ use borrow.Author.Tests.{leb-true, ltb-true, eq-eqb, ne-eqb, eqb-false, not-true
 use lib.Dec.{eqb, leb, ltb}
 use lib.ListN.{length, take, drop, getD}
 use lib.Seq.{length-take-le}
-use Rattle.common.specs.Pick.{pick}
 use Rattle.common.specs.Lists.{split, drop-end}
-use Rattle.error.specs.Refusal.{Refusal, refusal, Told, good, bad}
+use Rattle.common.specs.Tests.{both}
+use Rattle.error.specs.Refusal.{Refusal, refusal, good, bad}
 use Rattle.lex.specs.Byte.{white, place}
 use Rattle.lex.specs.Place.{place-drop}
 use Rattle.lex.specs.Search.{trivia}
@@ -19,24 +19,15 @@ use Rattle.lex.specs.Answer.{Sought, at, fault, placed}
 use Rattle.lex.specs.At.{trivia-at}
 use Rattle.lex.specs.Right.{trivia-here}
 use Rattle.params.specs.Cut.{cutOf, runsOut, started, eaten}
-use Rattle.params.specs.Answer.{Cut, cut, unclosed, Read, reading, Span, span, inFile, within, CutIn, endedAt, EndedIn}
+use Rattle.params.specs.Answer.{Cut, cut, unclosed, Read, reading, Span, span, inFile, CutIn}
 use Rattle.params.specs.Reader.{bounded, begun, paramOf}
 use Rattle.params.specs.Skips.{emptied, emptyOf, skipOf, andThen, skipFrom, skipsOf}
 use Rattle.params.specs.declared.State.{State}
 use Rattle.params.specs.declared.Cut as Code
-use Rattle.params.specs.declared.Ended.{Ended}
-use Rattle.params.specs.declared.Ended.the-variants.{At, Open}
-
--- where two tests hold together, each of them holds
-and-true : (a b : Bool) → a && b ≡ true → (a ≡ true) × (b ≡ true)
-and-true true true h = (refl, refl)
-and-true true false h = (refl, h)
-and-true false true h = (h, refl)
-and-true false false h = (h, h)
 
 -- where the test for a place and an end in a file of n bytes passes, they lie in it and not backwards
 pub in-true : (n p e : ℕ) → inFile n p e ≡ true → (p ≤ e) × (e ≤ n)
-in-true n p e h = let (a, b) = and-true (leb p e) (leb e n) h in (leb-true p e a, leb-true e n b)
+in-true n p e h = let (a, b) = both (leb p e) (leb e n) h in (leb-true p e a, leb-true e n b)
 
 -- where the search past trivia answers a place, what is left there is what is left after trivia
 pub started-at : (xs : List ℕ) (i p : ℕ) → i ≤ length xs → good p ≡ placed xs (trivia (drop i xs)) → (drop p xs ≡ started (drop i xs)) × (i ≤ p) × (p ≤ length xs)
@@ -55,7 +46,7 @@ started-open xs i q = go (trivia (drop i xs))
 -- a byte above the space that is no slash begins no trivia
 pub started-here : (xs : List ℕ) (i : ℕ) → i < length xs → ltb 32 (getD xs i 0) && not (eqb (getD xs i 0) 47) ≡ true → started (drop i xs) ≡ drop i xs
 unfolding started
-started-here xs i h e = let (a, b) = and-true (ltb 32 (getD xs i 0)) (not (eqb (getD xs i 0) 47)) e in
+started-here xs i h e = let (a, b) = both (ltb 32 (getD xs i 0)) (not (eqb (getD xs i 0) 47)) e in
     let k = ltb-true 32 (getD xs i 0) a in
     let w : white (getD xs i 0) ≡ false = rw (ne-eqb (getD xs i 0) 32 (λ q. absurd (omega arith)), ne-eqb (getD xs i 0) 9 (λ q. absurd (omega arith)), ne-eqb (getD xs i 0) 10 (λ q. absurd (omega arith)), ne-eqb (getD xs i 0) 12 (λ q. absurd (omega arith)), ne-eqb (getD xs i 0) 13 (λ q. absurd (omega arith))) refl in
     rw (split xs i h) (ap runsOut (trivia-here (getD xs i 0) (drop (i + 1) xs) w (eqb-false (getD xs i 0) 47 (not-true (eqb (getD xs i 0) 47) b))))

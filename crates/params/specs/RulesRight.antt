@@ -5,14 +5,15 @@ use mathlib.Core.Bool.{Bool, true, false}
 use mathlib.Core.List.{List, [], _∷_, _++_, append-assoc, append-nil}
 use native.Mathlib.Omega.{arith}
 use borrow.Author.Tests.{le-leb}
-use lib.ListN.{length, take, drop, length-append, take-append-drop}
-use lib.Seq.{length-take-le, drop-at}
+use lib.ListN.{length, take, drop, take-append-drop}
+use lib.Seq.{length-take-le}
 use Rattle.common.specs.Pick.{pick}
 use Rattle.common.specs.Lists.{drop-end}
 use Rattle.common.specs.Compare.{clash}
 use Rattle.error.specs.Refusal.{refusal, good, bad}
 use Rattle.lex.specs.Byte.{place}
-use Rattle.lex.specs.Grammar.{Comment, Quotation, Trivia}
+use Rattle.lex.specs.Rests.{rest-all, rest-on, comment-rest, string-rest, trivia-rest}
+pub use Rattle.lex.specs.Rests.{Rest, rest-of, rest-within, rest-place}
 use Rattle.params.specs.Grammar.{Binary, Token, Runs, Whole, Trails, Parameter, Unclosed, Starts}
 use Rattle.params.specs.Cut.{cutOf, started}
 use Rattle.params.specs.Answer.{Cut, cut, unclosed, Read, reading, Span, span, inFile}
@@ -22,55 +23,17 @@ use Rattle.params.specs.ReaderLaws.{in-true, param-none, param-cut, para
 use Rattle.params.specs.Rules.{Inside, rest, NextForm}
 
 -- ---- every list that the rules speak of is a rest of the bytes
--- r is a rest of xs: some bytes, and then r
-abbrev pub Rest : List ℕ → List ℕ → Type 0
-Rest xs r = (b : List ℕ) × (xs ≡ b ++ r)
-
--- all of a list is a rest of it
-rest-all : {xs : List ℕ} → Rest xs xs
-rest-all = ([], refl)
-
 -- nothing is a rest of every list
 rest-none : {xs : List ℕ} → Rest xs []
 rest-none {xs} = (xs, sym (append-nil xs))
-
--- a rest of a list is one of the list with one more byte in front
-rest-on : {c : ℕ} {xs r : List ℕ} → Rest xs r → Rest (c ∷ xs) r
-rest-on {c} (b, e) = (c ∷ b, cc)
-
--- a rest of a rest is a rest
-pub rest-of : {xs ys r : List ℕ} → Rest xs ys → Rest ys r → Rest xs r
-rest-of {r} (b, e) (c, f) = (b ++ c, e ∙ ap (λ (l : List ℕ). b ++ l) f ∙ sym (append-assoc b c r))
-
--- a rest is no longer than the list
-pub rest-within : {xs r : List ℕ} → Rest xs r → length r ≤ length xs
-rest-within (b, e) = omega (arith, simp length-append at (ap length e))
-
--- a place points at the rest that it was given for
-pub rest-place : {xs r : List ℕ} → Rest xs r → drop (place xs r) xs ≡ r
-rest-place {r} (b, e) = rw e (drop-at b r (length (b ++ r) - length r) (simp length-append (omega arith)))
 
 -- what is left from a place on is a rest
 rest-from : (xs : List ℕ) (i : ℕ) → Rest xs (drop i xs)
 rest-from xs i = (take i xs, sym (take-append-drop i xs))
 
--- what follows a comment is a rest
-comment-rest : {xs r : List ℕ} → Comment xs r → Rest xs r
-comment-rest {r} q = (47 ∷ 42 ∷ (q .body ++ (42 ∷ 47 ∷ [])), q .shape ∙ ap (λ (l : List ℕ). 47 ∷ 42 ∷ l) (sym (append-assoc (q .body) (42 ∷ 47 ∷ []) r)))
-
--- what follows a string is a rest
-string-rest : {xs r : List ℕ} → Quotation xs r → Rest xs r
-string-rest {r} q = (39 ∷ (q .body ++ (39 ∷ [])), q .shape ∙ ap (λ (l : List ℕ). 39 ∷ l) (sym (append-assoc (q .body) (39 ∷ []) r)))
-
 -- what follows a binary literal is a rest
 binary-rest : {xs r : List ℕ} → Binary xs r → Rest xs r
 binary-rest {r} q = (34 ∷ (q .body ++ (34 ∷ [])), q .shape ∙ ap (λ (l : List ℕ). 34 ∷ l) (sym (append-assoc (q .body) (34 ∷ []) r)))
-
--- what follows trivia is a rest
-trivia-rest : {xs ys : List ℕ} → Trivia xs ys → Rest xs ys
-trivia-rest Trivia.none = rest-all
-trivia-rest (Trivia.blank h r) = rest-on (trivia-rest r)
-trivia-rest (Trivia.comment q r) = rest-of (comment-rest q) (trivia-rest r)
 
 -- what follows a token is a rest
 token-rest : {d e : ℕ} {xs ys : List ℕ} → Token d xs e ys → Rest xs ys

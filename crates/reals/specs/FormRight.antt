@@ -1,27 +1,27 @@
 -- Form.antt's rules and what Scalar.antt computes are one: what is computed is so, and nothing else is. Assumes nothing.
-use Prim.Native.Nat.{ℕ, zero, suc, _+_, _*_, _-_, _^_, _≤_, _<_}
+use Prim.Native.Nat.{ℕ, suc, _+_, _*_, _-_, _^_, _≤_, _<_}
 use mathlib.Core.Path.{_≡_, refl, sym, _∙_, ap, subst}
 use mathlib.Core.Logic.{_⊎_, inl, inr}
 use mathlib.Core.Bool.{Bool, true, false, _&&_, _||_}
-use mathlib.Core.List.{List, [], _∷_, _++_, append-assoc, append-nil}
+use mathlib.Core.List.{List, [], _∷_, _++_, append-nil}
 use native.Mathlib.Omega.{arith}
 use native.Mathlib.Nat.{mul-assoc, add-assoc, add-mul}
 use lib.Pow.{pow-add}
 use native.Mathlib.Decide.{decLt, decLe}
-use borrow.Author.Tests.{lt-ltb, le-ltb, le-leb, lt-leb, eq-eqb, ne-eqb, eqb-true, eqb-false, leb-true}
-use lib.Dec.{eqb, ltb, leb}
+use borrow.Author.Tests.{lt-ltb, le-ltb, le-leb, lt-leb, eq-eqb, ne-eqb, eqb-true}
+use lib.Dec.{eqb, leb}
 use lib.ListN.{length, length-append}
 use Rattle.common.specs.Pick.{pick}
 use Rattle.common.specs.Compare.{clash}
+use Rattle.common.specs.Tests.{bounds}
 use Rattle.record.specs.Byte.{digit}
 use Rattle.record.specs.Text.{Digits, digits, numberFrom}
 use Rattle.record.specs.Form.{All, NotFirst, Skipped, valueOf}
-use Rattle.record.specs.Turns.{bounds}
 use Rattle.record.specs.FormRight.{number-only, number-is}
 use Rattle.record.specs.FormRight.Parts.{first-other, number-pass, number-halt, Spanned, span}
 use Rattle.nearest.specs.Near.{near, near-is, near-only}
 use Rattle.nearest.specs.Nearest.{signed}
-use Rattle.reals.specs.Scalar.{unsigned, minus, Mantissa, mantissa, pointed, fractionOf, Exponent, power, malformed, ended, exponentOf, Parsed, parsed, unparsed, joined, counted, parseOf, reaches, belongs, nearTen, classOf, realOf, anyOf, anyRealOf}
+use Rattle.reals.specs.Scalar.{unsigned, minus, Mantissa, mantissa, pointed, fractionOf, power, malformed, ended, exponentOf, parsed, unparsed, counted, parseOf, reaches, belongs, nearTen, classOf, realOf, anyOf, anyRealOf}
 use Rattle.reals.specs.Which.{realBy}
 use Rattle.reals.specs.Answer.{Answer, read, refused, longest, farthest}
 use Rattle.nearest.specs.PowerLaws.{ten-pos}

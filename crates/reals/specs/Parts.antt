@@ -1,27 +1,25 @@
 -- The laws by which the code's loop over digits goes, at an index of the whole text. Assumes nothing.
-use Prim.Native.Nat.{ℕ, zero, suc, _+_, _*_, _-_, _/_, _%_, _^_, _≤_, _<_, min}
+use Prim.Native.Nat.{ℕ, suc, _+_, _*_, _-_, _/_, _%_, _^_, _≤_, _<_, min}
 use mathlib.Core.Path.{_≡_, refl, sym, _∙_, ap, subst}
 use mathlib.Core.Bool.{Bool, true, false, _||_, _&&_}
 use mathlib.Core.List.{List, [], _∷_}
 use native.Mathlib.Nat.{le-trans, add-assoc, add-mul, mul-assoc, mul-comm, mul-le-mul-left, mul-le-mul-right, one-le-pow, pow-suc, suc-mul, div-mul-le-self, div-add-mod', mod-lt}
 use native.Mathlib.Decide.{decLe}
 use native.Mathlib.Omega.{arith}
-use borrow.Author.Tests.{lt-ltb, le-ltb, eq-eqb, ne-eqb, ltb-true, ltb-false, eqb-true, eqb-false}
+use borrow.Author.Tests.{lt-ltb, le-ltb, eq-eqb, ne-eqb, ltb-false, eqb-false}
 use lib.Dec.{eqb, ltb}
 use lib.ListN.{length, drop, getD, length-drop}
-use Rattle.common.specs.Pick.{pick}
 use Rattle.common.specs.Lists.{drop-end, split}
-use Rattle.common.specs.Walk.{walk, walk-ends}
+use Rattle.common.specs.Walk.{walk-ends}
+use Rattle.common.specs.Tests.{bounds}
 use Rattle.record.specs.Byte.{digit}
 use Rattle.record.specs.Text.{Digits, digits, digitTurn, numberFrom}
 use Rattle.record.specs.Form.{All, valueOf}
-use Rattle.record.specs.Turns.{bounds, digit-stops, digit-goes}
+use Rattle.record.specs.Turns.{digit-stops, digit-goes}
 use Rattle.eights.specs.declared.Eight.{Eight}
 use Rattle.eights.specs.Told.{EightTold}
-use Rattle.reals.specs.Scalar.{NumberAt, DecimalAt, TensAt, unsigned, minus, most, largest, Mantissa, mantissa, pointed, fractionOf, Exponent, power, malformed, ended, exponentOf, digitsOnly, PlainAt}
+use Rattle.reals.specs.Scalar.{NumberAt, DecimalAt, TensAt, unsigned, minus, most, largest, Mantissa, mantissa, pointed, fractionOf, ended, exponentOf, digitsOnly, PlainAt}
 use Rattle.reals.specs.Class.{no-and}
-use Rattle.reals.specs.declared.Decimal.{Decimal}
-use Rattle.reals.specs.declared.Tens.{Tens}
 use Rattle.reals.specs.declared.Tens.the-variants.{Power, Malformed}
 use Rattle.reals.specs.declared.Plain.{Plain}
 use Rattle.reals.specs.declared.Plain.the-variants.{Other}
@@ -376,9 +374,3 @@ module _ (t : List ℕ) (u cap : ℕ) (d : Number) (at : NumberAt t u 0 cap d) w
           let n : d .next ≡ length t → ⊥ = eqb-false (d .next) (length t) p in
           let z : length (numberFrom 0 (drop u t) .rest) ≡ 0 → ⊥ = λ o. n (full (ap length (sym rest) ∙ o) w) in
           rw (ne-eqb (length (numberFrom 0 (drop u t) .rest)) 0 z) refl
-
--- two tests that pass together pass each
-pub both : (a b : Bool) → a && b ≡ true → (a ≡ true) × (b ≡ true)
-both true true e = (refl, refl)
-both true false e = let z : _≡_ {A = ℕ} 0 1 = cc in absurd (omega arith)
-both false b e = let z : _≡_ {A = ℕ} 0 1 = cc in absurd (omega arith)

@@ -1,17 +1,18 @@
 -- The tables of floats, each with its rule: one test that antt computes at every entry. Assumes nothing.
 use Prim.Native.Nat.{ℕ, zero, suc, _+_, _*_, _%_, _^_, _≤_, _<_}
-use mathlib.Core.Path.{_≡_, refl, sym, _∙_, ap, subst}
+use mathlib.Core.Path.{_≡_, sym, _∙_, ap, subst}
 use mathlib.Core.Bool.{Bool, true, false, _&&_, cond}
 use mathlib.Core.List.{List, [], _∷_}
 use native.Mathlib.Nat.{add-zero, zero-add, add-suc, suc-add, le-of-suc-le-suc, not-suc-le-zero}
 use native.Mathlib.Omega.{arith}
-use borrow.Author.Tests.{lt-ltb, lt-leb}
+use borrow.Author.Tests.{lt-ltb, lt-leb, leb-true}
 use lib.Dec.{T, eqb, ltb, leb, eqb→eq, ltb→lt}
 use lib.ListN.{length, getD}
 use lib.Ieee.{Float, nan, binary64, ofBits, toBits}
 use lib.Ieee.Fits.{and-l, and-r}
+use Rattle.common.specs.Tests.{both}
 use Rattle.nearest.specs.Units.{unitsOf, infinity}
-use Rattle.nearest.specs.Product.{Worth, worthOf, finite, infinite, none, negative}
+use Rattle.nearest.specs.Product.{worthOf, finite, infinite, none, negative}
 
 -- the test f passes at each entry of the list and its place, counted from i
 abbrev pub every : (ℕ → Float → Bool) → ℕ → List Float → Bool
@@ -89,3 +90,7 @@ power-worth k h =
 -- entry j of the table of powers is worth 10 ^ k exactly, where a test has found that j is k
 pub power-found : (k j : ℕ) → k ≡ j → j < 23 → worthOf (toBits binary64 (getD powers j nan)) ≡ finite false (10 ^ k * 2 ^ 1074)
 power-found k j e h = power-worth j h ∙ ap (λ (n : ℕ). finite false (10 ^ n * 2 ^ 1074)) (sym e)
+
+-- the short path's test: the number and the power of ten are f64s
+pub short-path : (m k : ℕ) → leb m (2 ^ 53) && leb k 22 ≡ true → (m ≤ 2 ^ 53) × (k < 23)
+short-path m k e = let (p, q) = both (leb m (2 ^ 53)) (leb k 22) e in let l = leb-true k 22 q in (leb-true m (2 ^ 53) p, omega arith)

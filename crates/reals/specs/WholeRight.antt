@@ -1,26 +1,25 @@
 -- Form.antt's rules for integers and references and what Scalar.antt computes are one. Assumes nothing.
-use Prim.Native.Nat.{ℕ, zero, suc, _+_, _*_, _-_, _^_, _≤_, _<_}
+use Prim.Native.Nat.{ℕ, _+_, _-_, _^_, _≤_, _<_}
 use mathlib.Core.Path.{_≡_, refl, sym, _∙_, ap, subst}
 use mathlib.Core.Bool.{Bool, true, false, _&&_}
 use mathlib.Core.List.{List, [], _∷_, _++_, append-nil}
 use mathlib.Core.Logic.{_⊎_, inl, inr}
 use native.Mathlib.Omega.{arith}
 use native.Mathlib.Decide.{decLt, decLe}
-use borrow.Author.Tests.{lt-ltb, le-ltb, le-leb, lt-leb, eq-eqb, eqb-true, ltb-true, ne-eqb}
+use borrow.Author.Tests.{lt-ltb, le-ltb, le-leb, lt-leb, eqb-true, ltb-true}
 use lib.Dec.{eqb, ltb, leb}
 use lib.IntN.{ℤ}
 use lib.ListN.{length}
 use Rattle.common.specs.Pick.{pick}
 use Rattle.common.specs.Compare.{clash}
+use Rattle.common.specs.Tests.{both}
 use Rattle.record.specs.Byte.{digit}
-use Rattle.record.specs.Text.{Digits, digits, numberFrom}
+use Rattle.record.specs.Text.{Digits, numberFrom}
 use Rattle.record.specs.Form.{All, Skipped, valueOf, Id}
 use Rattle.record.specs.FormRight.{number-is}
-use Rattle.reals.specs.Scalar.{unsigned, minus, digitsOnly, ranged, wholeOf, idOf, referenceOf}
+use Rattle.reals.specs.Scalar.{unsigned, minus, digitsOnly, ranged, wholeOf, referenceOf}
 use Rattle.reals.specs.Answer.{Answer, read, refused}
-use Rattle.reals.specs.Parts.{both}
-use Rattle.reals.specs.Form.{Signed, Ranged, valued, Integer, WholeForm, whole, ReferenceForm, reference}
-use Rattle.reals.specs.Form as Form
+use Rattle.reals.specs.Form.{Ranged, valued, Integer, WholeForm, whole, ReferenceForm, reference}
 use Rattle.reals.specs.FormRight.{signed-only, signed-is, digits-bare, number-all, some-length}
 
 -- ---- digits, at least one

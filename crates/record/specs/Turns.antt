@@ -1,4 +1,5 @@
 -- What one byte does to the walks of Text.antt, at an index of the whole text: the laws that the loops of the code go by.
+-- What one byte does to the walks of Text.antt, at an index of the whole text: the laws that the loops of the code go by.
 -- Assumes nothing.
 use Prim.Native.Nat.{ℕ, _+_, _*_, _-_, _≤_, _<_}
 use mathlib.Core.Path.{_≡_, refl, sym, _∙_, ap}
@@ -6,11 +7,12 @@ use mathlib.Core.Bool.{Bool, true, false, _&&_}
 use mathlib.Core.List.{List, [], _∷_, map}
 use native.Mathlib.Omega.{arith}
 use native.Mathlib.Nat.{le-refl}
-use lib.Dec.{eqb, leb}
-use borrow.Author.Tests.{leb-true, ne-eqb}
+use lib.Dec.{eqb}
+use borrow.Author.Tests.{ne-eqb}
 use lib.ListN.{length, drop, getD}
 use Rattle.common.specs.Pick.{pick}
 use Rattle.common.specs.Lists.{split}
+pub use Rattle.common.specs.Tests.{bounds}
 use Rattle.lex.specs.Byte.{white}
 use Rattle.common.specs.Walk.{stop, on, turned, walk, walk-stops, walk-goes}
 use Rattle.record.specs.Text.{pastTurn, Digits, digits, digitTurn, numberFrom, Keyed, opened, unopened, keyTurn, keyword}
@@ -76,12 +78,3 @@ module _ (f : ℕ → ℕ) (x y : List ℕ) (i : ℕ) (a : Bool) (h : i < length
   pub same-goes : eqb (f (getD x i 0)) (getD y i 0) ≡ true → same (map f (drop i x)) (drop i y) ≡ a → same (map f (drop (i + 1) x)) (drop (i + 1) y) ≡ a
   unfolding same
   same-goes e inv = sym (rw (split x i h, split y i k, e) refl) ∙ inv
-
--- a number that passes both tests lies from l to m
-pub bounds : (l c m : ℕ) → leb l c && leb c m ≡ true → (l ≤ c) × (c ≤ m)
-bounds l c m = go (leb l c) (leb c m) refl refl
-  where
-    go : (a b : Bool) → leb l c ≡ a → leb c m ≡ b → a && b ≡ true → (l ≤ c) × (c ≤ m)
-    go true true p q e = (leb-true l c p, leb-true c m q)
-    go true false p q e = let z : _≡_ {A = ℕ} 0 1 = cc in absurd (omega arith)
-    go false b p q e = let z : _≡_ {A = ℕ} 0 1 = cc in absurd (omega arith)

@@ -1,16 +1,14 @@
 -- The reading so far, as the scan's loop keeps it, and what each statement does to it.
 -- Assumes nothing.
-use Prim.Native.Nat.{ℕ, zero, suc, _+_, _*_, _-_, _≤_, _<_, max}
+use Prim.Native.Nat.{ℕ, zero, suc, _+_, _-_, _≤_, _<_, max}
 use mathlib.Core.Path.{_≡_, refl, sym, _∙_, ap}
 use mathlib.Core.Bool.{Bool, true, false}
 use mathlib.Core.List.{List, [], _∷_, _++_, append-assoc, append-nil}
 use native.Mathlib.Omega.{arith}
 use borrow.Author.Tests.{lt-ltb, le-ltb}
-use lib.Dec.{ltb}
 use lib.ListN.{length, drop, length-append}
 use Rattle.common.specs.Pick.{pick}
 use Rattle.error.specs.Refusal.{Refusal, refusal, Told, good, bad}
-use Rattle.lex.specs.Byte.{place}
 use Rattle.lex.specs.Place.{place-drop}
 use Rattle.statement.specs.Rows.{Row, HeaderRow, Stmt, ends, refused, moved, header, record′, mapped}
 use Rattle.statement.specs.Statement.{statement}
@@ -27,7 +25,7 @@ abbrev pub join : List HeaderRow → List Row → Table → Table
 join hs rs t = table (hs ++ t .headers) (rs ++ t .records)
 
 -- one turn of the reading, while statements may be left
-unrolled : (k : ℕ) (s : List ℕ) (H R : ℕ) (sec : Section) (h r : ℕ) (xs : List ℕ) → 0 < k
+pub unrolled : (k : ℕ) (s : List ℕ) (H R : ℕ) (sec : Section) (h r : ℕ) (xs : List ℕ) → 0 < k
     → readFrom k s H R sec h r xs ≡ taken s H R h r (statement s sec xs) (λ sec h r t. readFrom (k - 1) s H R sec h r t)
 unfolding readFrom
 unrolled zero s H R sec h r xs p = absurd (omega arith)

@@ -1,12 +1,12 @@
 -- A file whose data records are all tidy (statement/specs/Tidy): the deciding pass finds out whether it is one, and the writing pass then
 -- reads each record by its first `;`. No contract of a public function cites these. Assumes nothing.
-use Prim.Native.Nat.{ℕ, _+_, _≤_, _<_}
-use mathlib.Core.Path.{_≡_, refl, sym, _∙_, ap}
-use mathlib.Core.Bool.{Bool, true, false, _&&_}
-use mathlib.Core.List.{List, [], _∷_}
-use native.Mathlib.Omega.{arith}
+use Prim.Native.Nat.{ℕ}
+use mathlib.Core.Path.{_≡_, sym, _∙_, ap}
+use mathlib.Core.Bool.{Bool, true, _&&_}
+use mathlib.Core.List.{List}
 use lib.ListN.{drop}
 use Rattle.common.specs.Compare.{clash}
+use Rattle.common.specs.Tests.{both}
 use Rattle.error.specs.Refusal.{Told, good, bad, told}
 use Rattle.statement.specs.Rows.{Row, HeaderRow, ends, moved, header, record′}
 use Rattle.statement.specs.Statement.{statement}
@@ -39,11 +39,6 @@ NeatTold s (Stopped f) = Unit {0}
 pub record Tidying (s : List ℕ) (known all : Bool) (i : ℕ) (sec : Section) : Type 0 where
   pub back : all ≡ true → Neat s sec (drop i s) → Neat s Outside s
   pub ahead : known ≡ true → Neat s sec (drop i s)
-
--- where two tests hold together, each of them holds
-pub both : (a b : Bool) → a && b ≡ true → (a ≡ true) × (b ≡ true)
-both true b e = (refl, e)
-both false b e = clash (cc)
 
 module _ (s : List ℕ) (sec : Section) (xs : List ℕ) where
   -- each statement of a neat file is tidy

@@ -1,4 +1,5 @@
 -- What stands at the places that are answered: at a refusal's place what its number names, and between a row's arguments' start
+-- What stands at the places that are answered: at a refusal's place what its number names, and between a row's arguments' start
 -- and end a `(`, balanced bytes and a `)`. Assumes nothing.
 use Prim.Native.Nat.{ℕ, _≤_, _<_}
 use mathlib.Core.Path.{_≡_, refl, ap}
@@ -15,7 +16,8 @@ use Rattle.scan.specs.Records.{Table}
 use Rattle.scan.specs.File.{scanOf}
 use Rattle.statement.specs.Form.{ArguedTo, Argued, DataForm, HeaderRecordForm, Record, StatementForm}
 use Rattle.statement.specs.FormRight.{statement-is}
-use Rattle.scan.specs.Rests.{Each, Rest, rest-all, rest-on, rest-of, rest-place, trivia-rest, runs-rest, balanced-rest, deep-rest, after-rest, record-rest, moved-rest, header-form, data-form, Tells, scan-tells}
+use Rattle.lex.specs.Rests.{Rest, rest-all, rest-on, rest-of, rest-place, trivia-rest}
+use Rattle.scan.specs.Rests.{Each, runs-rest, balanced-rest, deep-rest, after-rest, record-rest, moved-rest, header-form, data-form, Tells, scan-tells}
 
 -- the table of refusal numbers: what the file s is from the place of a refusal with this number on
 pub data Stands (s : List ℕ) : ℕ → List ℕ → Type 0 where

@@ -1,14 +1,12 @@
 -- Every list of bytes that the reading speaks of is a rest of the file. So a place, which is the number of bytes before a rest,
 -- points at that rest: a refusal stands where what it names begins. Assumes nothing.
-use Prim.Native.Nat.{ℕ, _-_, _≤_}
-use mathlib.Core.Path.{_≡_, refl, ap}
-use mathlib.Core.List.{List, [], _∷_, _++_, append-assoc}
-use native.Mathlib.Omega.{arith}
-use lib.ListN.{length, drop, length-append}
-use lib.Seq.{drop-at}
+use Prim.Native.Nat.{ℕ, _-_}
+use mathlib.Core.Path.{_≡_}
+use mathlib.Core.List.{List, [], _∷_}
 use Rattle.error.specs.Refusal.{Refusal, refusal, Told, good, bad}
 use Rattle.lex.specs.Byte.{place}
-use Rattle.lex.specs.Grammar.{Comment, Quotation, Trivia, Runs, Balanced, Deep}
+use Rattle.lex.specs.Grammar.{Runs, Balanced, Deep}
+use Rattle.lex.specs.Rests.{Rest, rest-all, rest-on, rest-of, comment-rest, string-rest, trivia-rest}
 use Rattle.statement.specs.Rows.{Row, HeaderRow, refused, moved, header, record′, header-kind, data-kind, mapped}
 use Rattle.statement.specs.declared.Section.{Section}
 use Rattle.scan.specs.Records.{Table, withHeader, withRecord}
@@ -16,45 +14,6 @@ use Rattle.scan.specs.File.{scanOf}
 use Rattle.statement.specs.Form.{After, DataForm, HeaderRecordForm, Record, StatementForm}
 use Rattle.scan.specs.Form.{PerKind, perKind, Reads, Scans, Reached}
 use Rattle.scan.specs.FormRight.{scans-is}
-
--- r is a rest of xs: some bytes, and then r
-pub record Rest (xs r : List ℕ) : Type 0 where
-  pub before : List ℕ
-  pub splits : xs ≡ before ++ r
-
--- all of a list is a rest of it
-pub rest-all : {xs : List ℕ} → Rest xs xs
-rest-all = record { before = []; splits = refl }
-
--- a rest of a list is one of the list with one more byte in front
-pub rest-on : {c : ℕ} {xs r : List ℕ} → Rest xs r → Rest (c ∷ xs) r
-rest-on {c} d = record { before = c ∷ d .before; splits = cc }
-
--- a rest of a rest is a rest
-pub rest-of : {xs ys r : List ℕ} → Rest xs ys → Rest ys r → Rest xs r
-rest-of d e = record { before = d .before ++ e .before; splits = rw append-assoc (cc) }
-
--- a rest is no longer than the list
-pub rest-within : {xs r : List ℕ} → Rest xs r → length r ≤ length xs
-rest-within d = omega (arith, simp length-append at (ap length (d .splits)))
-
--- a place points at the rest that it was given for
-pub rest-place : {s r : List ℕ} → Rest s r → drop (place s r) s ≡ r
-rest-place {r} d = rw (d .splits) (drop-at (d .before) r (length (d .before ++ r) - length r) (simp length-append (omega arith)))
-
--- what follows a comment is a rest
-comment-rest : {xs r : List ℕ} → Comment xs r → Rest xs r
-comment-rest q = record { before = 47 ∷ 42 ∷ (q .body ++ (42 ∷ 47 ∷ [])); splits = rw append-assoc (q .shape) }
-
--- what follows a string is a rest
-string-rest : {xs r : List ℕ} → Quotation xs r → Rest xs r
-string-rest q = record { before = 39 ∷ (q .body ++ (39 ∷ [])); splits = rw append-assoc (q .shape) }
-
--- what follows trivia is a rest
-pub trivia-rest : {xs ys : List ℕ} → Trivia xs ys → Rest xs ys
-trivia-rest Trivia.none = rest-all
-trivia-rest (Trivia.blank h r) = rest-on (trivia-rest r)
-trivia-rest (Trivia.comment q r) = rest-of (comment-rest q) (trivia-rest r)
 
 -- what follows whole strings, comments and bytes without a `;` is a rest
 pub runs-rest : {xs ys : List ℕ} → Runs xs ys → Rest xs ys
@@ -78,7 +37,7 @@ deep-rest (Deep.nested r d) = rest-of (balanced-rest r) (rest-on (deep-rest d))
 
 -- what is left after n bytes is a rest
 pub after-rest : {n : ℕ} {ys zs : List ℕ} → After n ys zs → Rest ys zs
-after-rest (b, e, l) = record { before = b; splits = e }
+after-rest (b, e, l) = (b, e)
 
 -- what begins with a record is a rest, and so is what follows the record
 pub record-rest : {xs ys body t : List ℕ} → Record xs ys body t → Rest xs ys × Rest ys t

@@ -1,13 +1,13 @@
 -- A run of tidy data records, as the writing pass reads them one after the other: what it leaves, and that it is what the reading takes
+-- A run of tidy data records, as the writing pass reads them one after the other: what it leaves, and that it is what the reading takes
 -- statement by statement. No contract of a public function cites it. Assumes nothing.
 use Prim.Native.Nat.{ℕ, _+_, _≤_, _<_, max}
 use mathlib.Core.Path.{_≡_, refl, sym, _∙_, ap, subst}
-use mathlib.Core.Bool.{Bool, true, false, _&&_}
+use mathlib.Core.Bool.{Bool, true, and-true}
 use mathlib.Core.List.{List}
 use native.Mathlib.Omega.{arith}
 use lib.ListN.{length, drop}
 use Rattle.common.specs.Pick.{pick}
-use Rattle.common.specs.Compare.{clash}
 use Rattle.statement.specs.Rows.{Row, record′}
 use Rattle.statement.specs.Statement.{statement}
 use Rattle.statement.specs.Tidy.{tidy}
@@ -48,11 +48,6 @@ module _ (s : List ℕ) (room : ℕ) (known : Bool) (i r m : ℕ) (xs : List ℕ
       subst (λ (zs : List ℕ). Going s H room write h₀ r₀ n InData h (q + 1) (max k (w .id)) hnow zs)
       (ap (λ (c : Bool). pick c (rowPut ys q w) ys) (f e))
       (going-record s H room write h₀ r₀ j InData h q k hnow ys (going-ran H write h₀ r₀ h hnow o f g z) w p n d l b a (omega arith))
-
--- a test and one that holds are the test
-and-true : (b : Bool) → b && true ≡ b
-and-true true = refl
-and-true false = refl
 
 -- after a run of tidy records, what is known of tidy records is known still
 pub tidying-ran : (s : List ℕ) (room : ℕ) (known all : Bool) (i r m : ℕ) (xs : List ℕ) {j q k : ℕ} {ys : List ℕ} → Tidying s known all i InData → Ran s room known i r m xs j q k ys → Tidying s known all j InData

@@ -1,7 +1,7 @@
 -- What Tidy.antt says at places of the file: the laws that the code's proofs cite. Assumes nothing.
-use Prim.Native.Nat.{ℕ, suc, _+_, _-_, _≤_, _<_}
+use Prim.Native.Nat.{ℕ, _+_, _-_, _≤_, _<_}
 use mathlib.Core.Path.{_≡_, refl, sym, _∙_, ap}
-use mathlib.Core.Bool.{Bool, true, false, not, _&&_, _||_}
+use mathlib.Core.Bool.{Bool, true, false, not, _&&_}
 use mathlib.Core.List.{List, [], _∷_}
 use native.Mathlib.Omega.{arith}
 use lib.Dec.{eqb}
@@ -9,7 +9,6 @@ use lib.ListN.{length, take, drop, getD}
 use lib.Seq.{drop-drop}
 use borrow.Author.Tests.{eq-eqb, ne-eqb, eqb-true, eqb-false}
 use Rattle.common.specs.Lists.{split, drop-end}
-use Rattle.common.specs.Compare.{clash}
 use Rattle.lex.specs.Byte.{white, place}
 use Rattle.lex.specs.Place.{place-drop}
 use Rattle.common.specs.Walk.{walk}
@@ -18,7 +17,7 @@ use Rattle.record.specs.Turns.{past-stops, past-goes}
 use Rattle.record.specs.Head.{dataHead}
 use Rattle.record.specs.declared.Head.{Head}
 use Rattle.record.specs.declared.Head.the-variants.{Bad, Complex, Simple}
-use Rattle.statement.specs.Rows.{Row, row, Stmt, ends, record′}
+use Rattle.statement.specs.Rows.{Row, row, ends, record′}
 use Rattle.statement.specs.Laws.{place-in, before-at, text-length}
 use Rattle.statement.specs.Tidy.{unended, tidy, tidyBy, tidyEnded, tidyRecord, TidyAhead}
 use Rattle.statement.specs.declared.Tidied.{Tidied}
@@ -26,12 +25,10 @@ use Rattle.statement.specs.declared.Tidied.the-variants.{Untidy, Tidy}
 
 -- one byte of a search for a `;`, at the place i
 module _ (s : List ℕ) (i : ℕ) (h : i < length s) where
-  -- the search for a `;` ends at a `;`
   pub end-stops : getD s i 0 ≡ 59 → drop i s ≡ past unended (drop i s)
   unfolding past
   end-stops e = past-stops s i h unended (past unended (drop i s)) (ap not (eq-eqb _ _ e)) refl
 
-  -- the search for a `;` goes on after any other byte
   pub end-goes : (getD s i 0 ≡ 59 → ⊥) → past unended (drop (i + 1) s) ≡ past unended (drop i s)
   unfolding past
   end-goes e = past-goes s i h unended (past unended (drop i s)) (ap not (ne-eqb _ _ e)) refl
@@ -50,18 +47,15 @@ head-some (c ∷ r) h k e = omega arith
 
 -- a record by its head and its `;`, at places of the file
 module _ (s : List ℕ) (p e : ℕ) (b : List ℕ) (h : p ≤ e) (k : e < length s) where
-  -- where the head is bad, no record is had by the `;`
   pub tidy-none : (why : ℕ) → dataHead b ≡ Bad why → ends ≡ tidyBy s (drop p s) (drop e s) (dataHead b)
   tidy-none why q = rw q refl
 
-  -- the row of a complex record by its head and its `;`
   pub tidy-complex : (i o : ℕ) → p + o + 1 ≤ length s → dataHead b ≡ Complex i o
       → record′ (row i 0 0 (p + o + 1) (e - 1) 1) (drop p s) (drop (e + 1) s) ≡ tidyBy s (drop p s) (drop e s) (dataHead b)
   tidy-complex i o l q =
       let n : p + o + 1 ≡ place s (drop (o + 1) (drop p s)) = omega (arith, place-in s p (o + 1) (omega arith)) in
       rw (q, place-drop s e (omega arith), drop-drop 1 e s, ← n) refl
 
-  -- the row of a simple record by its head and its `;`
   pub tidy-simple : (i a z o : ℕ) → p + a ≤ length s → p + z ≤ length s → p + o + 1 ≤ length s → dataHead b ≡ Simple i a z o
       → record′ (row i (p + a) (p + z) (p + o + 1) (e - 1) 0) (drop p s) (drop (e + 1) s) ≡ tidyBy s (drop p s) (drop e s) (dataHead b)
   tidy-simple i a z o ha hz l q =
@@ -97,12 +91,6 @@ pub tidy-noted : (s : List ℕ) (w : Row) (p n e : ℕ) → n ≤ length s → e
     → eqb (e + 1) n && eqb (w .argEnd + 1) e ≡ tidy s (record′ w (drop p s) (drop n s))
 tidy-noted s w p n e h k q = rw (← q, place-drop s n h, place-drop s e k) refl
 
--- one byte more of a block without a `;`: the search goes on after the block
-pub block-on : (s : List ℕ) (i k : ℕ) (hit : Bool) → i + k < length s → (hit ≡ false → past unended (drop (i + k) s) ≡ past unended (drop i s))
-    → hit || eqb (getD s (i + k) 0) 59 ≡ false → past unended (drop (i + (k + 1)) s) ≡ past unended (drop i s)
-block-on s i k true h p e = clash (cc)
-block-on s i k false h p e = let n : i + (k + 1) ≡ i + k + 1 = omega arith in rw n (end-goes s (i + k) h (eqb-false _ _ e) ∙ p refl)
-
 -- the search for a `;` ends at the file's end
 pub end-none : (s : List ℕ) (i : ℕ) → length s ≤ i → drop i s ≡ past unended (drop i s)
 unfolding past walk
@@ -119,10 +107,6 @@ next-is a b h = go (eqb (a + 1) b) refl
     go : (x : Bool) → eqb (a + 1) b ≡ x → eqb (b - a) 1 ≡ x
     go true e = let f = eqb-true (a + 1) b e in eq-eqb (b - a) 1 (omega arith)
     go false e = let f = eqb-false (a + 1) b e in ne-eqb (b - a) 1 (λ z. f (omega arith))
-
--- no bytes further on is the place itself
-pub add-none : (i : ℕ) → i + 0 ≡ i
-add-none i = omega arith
 
 -- a record whose head is not bad begins before its `;`
 pub head-after : (s : List ℕ) (p e : ℕ) (h : Head) → p ≤ e → e < length s → Whole h → dataHead (take (e - p) (drop p s)) ≡ h → p < e

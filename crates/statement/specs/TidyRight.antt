@@ -1,15 +1,16 @@
 -- Where a statement in data is tidy, its first `;` gives what it says. Assumes nothing.
-use Prim.Native.Nat.{ℕ, suc, _+_, _-_, _≤_, _<_}
+use Prim.Native.Nat.{ℕ, _+_, _-_, _≤_}
 use mathlib.Core.Path.{_≡_, refl, sym, _∙_, ap}
-use mathlib.Core.Bool.{Bool, true, false, not, _&&_}
+use mathlib.Core.Bool.{Bool, true, false}
 use mathlib.Core.List.{List, [], _∷_, _++_}
 use mathlib.Core.Option.{Option}
 use native.Mathlib.Omega.{arith}
 use lib.Dec.{eqb}
-use lib.ListN.{length, take, drop, getD, length-append, length-drop}
+use lib.ListN.{length, take, drop, length-append, length-drop}
 use lib.Seq.{drop-append-seam, take-append-seam}
 use borrow.Author.Tests.{eqb-true, eqb-false}
 use Rattle.common.specs.Compare.{clash}
+use Rattle.common.specs.Tests.{both}
 use Rattle.error.specs.Refusal.{Told, good, bad}
 use Rattle.lex.specs.Byte.{white, place}
 use Rattle.lex.specs.Answer.{Sought, at, fault, placed}
@@ -24,20 +25,14 @@ use Rattle.record.specs.HashOther.{hash-word}
 use Rattle.record.specs.Word.{wordOf}
 use Rattle.record.specs.declared.Head.{Head}
 use Rattle.record.specs.declared.Head.the-variants.{Bad, Complex, Simple}
-use Rattle.record.specs.declared.Word.{Word}
 use Rattle.record.specs.declared.Word.the-variants.{Other}
-use Rattle.statement.specs.Rows.{Row, row, ends, record′, bound, mapped}
+use Rattle.statement.specs.Rows.{Row, row, record′, bound, mapped}
 use Rattle.statement.specs.Row.{sought, recordBy, recordOf}
 use Rattle.statement.specs.Statement.{recorded, worded, ended, led, statement}
 use Rattle.statement.specs.Tidy.{unended, tidy, tidyBy, tidyEnded, tidyRecord}
 use Rattle.statement.specs.TidyLaws.{Whole}
 use Rattle.statement.specs.UsualRight.{blanks}
 use Rattle.statement.specs.declared.Section.the-variants.{InData}
-
--- where two tests hold together, each of them holds
-both : (a b : Bool) → a && b ≡ true → (a ≡ true) × (b ≡ true)
-both true b e = (refl, e)
-both false b e = clash (cc)
 
 -- a text whose head is not bad begins with `#`
 head-hash : (b : List ℕ) → Whole (dataHead b) → (r : List ℕ) × (b ≡ 35 ∷ r)

@@ -74,19 +74,6 @@ spoken-last s i h = go (decLe (length s) i)
     go (yes l) = spoken-none s i l
     go (no l) = h (omega arith)
 
--- one byte more of a block in which neither a quote nor a `;` was noted: the walk over a string's inside goes on after it
-pub spoken-on : (s : List ℕ) (i k : ℕ) (quote end : Bool) → i + k < length s → ((quote || end) ≡ false → past spoken (drop (i + k) s) ≡ past spoken (drop i s))
-    → ((quote || eqb (getD s (i + k) 0) 39) || (end || eqb (getD s (i + k) 0) 59)) ≡ false → past spoken (drop (i + (k + 1)) s) ≡ past spoken (drop i s)
-spoken-on s i k quote end h p e = go quote end (eqb (getD s (i + k) 0) 39) (eqb (getD s (i + k) 0) 59) refl refl p e
-  where
-    go : (x y a b : Bool) → eqb (getD s (i + k) 0) 39 ≡ a → eqb (getD s (i + k) 0) 59 ≡ b → ((x || y) ≡ false → past spoken (drop (i + k) s) ≡ past spoken (drop i s))
-        → ((x || a) || (y || b)) ≡ false → past spoken (drop (i + (k + 1)) s) ≡ past spoken (drop i s)
-    go true y a b l m p e = clash (cc)
-    go false y true b l m p e = clash (cc)
-    go false true false b l m p e = clash (cc)
-    go false false false true l m p e = clash (cc)
-    go false false false false l m p e = let n : i + (k + 1) ≡ i + k + 1 = omega arith in rw n (spoken-goes s (i + k) h (rw (l, m) refl) ∙ p refl)
-
 -- from a rest to itself there is a way that changes nothing
 pub way-none : (d : ℕ) (xs : List ℕ) → Way d d xs xs
 way-none d xs = record { ends = λ n w. refl; closes = λ n w. refl; first = refl }

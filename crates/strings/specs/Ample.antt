@@ -10,6 +10,7 @@ use lib.Dec.{eqb, leb, ltb}
 use lib.ListN.{length, take, drop, getD, length-append}
 use lib.Seq.{length-take-le, getD-drop}
 use Rattle.common.specs.Pick.{pick}
+use Rattle.common.specs.Tests.{both}
 use Rattle.utf8.specs.Utf8.{byteAt, encode, leadOf}
 use Rattle.utf8.specs.Encoding.{encodeAll}
 use Rattle.utf8.specs.Answer.{Lead}
@@ -17,7 +18,7 @@ use Rattle.utf8.specs.Laws.{encode-one, encode-two, sized, Leads, led-one, led-
 use Rattle.pages.specs.Pages.{codeOf}
 use Rattle.pages.specs.Rules.{pageA}
 use Rattle.strings.specs.Text
-use Rattle.strings.specs.Hex.{both, Digit, decimal, capital, small, digit, four-within}
+use Rattle.strings.specs.Hex.{Digit, decimal, capital, small, digit, four-within}
 use Rattle.strings.specs.Put.{encode-append}
 use Rattle.strings.specs.Steps.{is-within, piece-fits, text-goes, text-skip}
 use Rattle.strings.specs.Runs.{special, text-plain, encode-plain}

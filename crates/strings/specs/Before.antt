@@ -7,12 +7,12 @@ use mathlib.Core.List.{List, [], _∷_, _++_, append-assoc}
 use native.Mathlib.Omega.{arith}
 use lib.Dec.{leb}
 use lib.ListN.{length, take, drop, length-drop, take-append-drop}
+use Rattle.common.specs.Tests.{both}
 use Rattle.utf8.specs.Utf8.{byteAt}
 use Rattle.pages.specs.Pages.{pageOf}
 use Rattle.pages.specs.Rules.{pageA, Selects}
 use Rattle.pages.specs.Right as Page
 use Rattle.strings.specs.Text
-use Rattle.strings.specs.Hex.{both}
 use Rattle.strings.specs.Steps.{piece-fits, page-stays, page-named}
 use Rattle.strings.specs.Rules
 use Rattle.strings.specs.RulesRight.{page-bytes, piece-is, piece-only, reads-some, text-is, text-only}

@@ -1,31 +1,16 @@
 -- Hex digits and groups, as the code computes them: one law for each way out. Assumes nothing.
-use Prim.Native.Nat.{ℕ, zero, suc, _+_, _*_, _-_, _/_, _%_, _≤_, _<_, min}
+use Prim.Native.Nat.{ℕ, zero, suc, _+_, _*_, _-_, _/_, _%_, _≤_, _<_}
 use mathlib.Core.Path.{_≡_, refl, sym, _∙_, ap}
 use mathlib.Core.Bool.{Bool, true, false, _&&_, _||_}
-use mathlib.Core.List.{List, [], _∷_, _++_}
+use mathlib.Core.List.{List, [], _∷_}
 use native.Mathlib.Omega.{arith}
-use borrow.Author.Tests.{ltb-true, ltb-false, leb-true, leb-false, lt-ltb, le-ltb, le-leb, lt-leb}
-use lib.Dec.{eqb, leb, ltb}
-use lib.ListN.{length, drop, getD, List·getD-eq-default}
+use borrow.Author.Tests.{ltb-true, ltb-false, leb-true, leb-false, le-leb, lt-leb}
+use lib.Dec.{leb, ltb}
+use lib.ListN.{length, getD, List·getD-eq-default}
 use Rattle.common.specs.Pick.{pick}
-use Rattle.utf8.specs.Utf8.{byteAt, scalar}
-use Rattle.strings.specs.Text.{hexDigit, hexValue, twoAt, twoOf, fourAt, fourOf, Group, char, wrong, shown, high, low, joined, pairOf, groupTwo, groupFour}
-
--- two tests that pass together pass each
-pub both : (a b : Bool) → a && b ≡ true → (a ≡ true) × (b ≡ true)
-both true b e = (refl, e)
-both false b e = let z : _≡_ {A = Bool} false true = e in (z, absurd (false-true z))
-  where
-    false-true : _≡_ {A = Bool} false true → ⊥
-    false-true z = let w : _≡_ {A = ℕ} 0 1 = ap (λ (t : Bool). pick t 1 0) z in absurd (omega arith)
-
--- two tests of which none passes fail each
-pub neither : (a b : Bool) → a || b ≡ false → (a ≡ false) × (b ≡ false)
-neither true b e = (e, absurd (true-false e))
-  where
-    true-false : _≡_ {A = Bool} true false → ⊥
-    true-false z = let w : _≡_ {A = ℕ} 0 1 = ap (λ (t : Bool). pick t 0 1) z in absurd (omega arith)
-neither false b e = (refl, e)
+use Rattle.common.specs.Tests.{both, neither}
+use Rattle.utf8.specs.Utf8.{byteAt}
+use Rattle.strings.specs.Text.{hexDigit, hexValue, twoAt, twoOf, fourAt, fourOf, char, wrong, shown, high, joined, groupTwo, groupFour}
 
 -- past the end stands no byte
 pub byte-past : (s : List ℕ) (k : ℕ) → length s ≤ k → 256 ≡ byteAt s k

@@ -1,4 +1,5 @@
 -- Rules.antt's rules and what Text.antt computes are one: what is computed is so, and nothing else is. No theorem asks that the
+-- Rules.antt's rules and what Text.antt computes are one: what is computed is so, and nothing else is. No theorem asks that the
 -- numbers of a list are bytes. Assumes nothing.
 use Prim.Native.Nat.{ℕ, zero, suc, _+_, _*_, _-_, _≤_, _<_, min}
 use mathlib.Core.Path.{_≡_, refl, sym, _∙_, ap, subst}
@@ -11,6 +12,7 @@ use lib.Dec.{eqb, leb, ltb}
 use lib.ListN.{length, take, drop, length-drop, take-append-drop}
 use lib.Seq.{drop-cons, getD-drop}
 use Rattle.common.specs.Pick.{pick}
+use Rattle.common.specs.Tests.{both, neither, in-range}
 use Rattle.lex.specs.Grammar.{Begins}
 use Rattle.utf8.specs.Utf8.{encode, byteAt, leadOf}
 use Rattle.utf8.specs.Answer.{Lead, valid, invalid}
@@ -21,7 +23,7 @@ use Rattle.pages.specs.Pages.{pageOf, codeOf}
 use Rattle.pages.specs.Rules.{pageA}
 use Rattle.pages.specs.Right as Page
 use Rattle.strings.specs.Text
-use Rattle.strings.specs.Hex.{both, neither, hex-within, four-within}
+use Rattle.strings.specs.Hex.{hex-within, four-within}
 use Rattle.strings.specs.Steps.{is-within, ends, groups-stop, groups-wrong, groups-char, piece-fits, text-goes, page-stays, plain-stays}
 use Rattle.strings.specs.Rules
 
@@ -57,10 +59,6 @@ hex-is b e = go (leb 48 b && leb b 57) (leb 65 b && leb b 70) (leb 97 b && leb b
         rw (lt-leb b 57 (omega arith), lt-leb b 70 (omega arith), ← g) (subst (λ (c : ℕ). Rules.Hex c (10 + (b - 97))) f (Rules.small {v = b - 97} (omega arith)))
     go false false false p q r = differ (Text.hexDigit b) e (rw (p, q, r) refl)
 
--- a number of a range passes its test
-within : (l h b : ℕ) → l ≤ b → b ≤ h → leb l b && leb b h ≡ true
-within l h b p q = rw (le-leb l b p, le-leb b h q) refl
-
 -- a number above a range fails its test
 over : (l h b : ℕ) → l ≤ b → h < b → leb l b && leb b h ≡ false
 over l h b p q = rw (le-leb l b p, lt-leb b h q) refl
@@ -70,19 +68,19 @@ pub hex-only : {b v : ℕ} → Rules.Hex b v → (Text.hexDigit b ≡ true) × (
 hex-only (Rules.decimal {v = v} h) = one (48 + v) v refl h
   where
     one : (b v : ℕ) → b ≡ 48 + v → v < 10 → (Text.hexDigit b ≡ true) × (Text.hexValue b ≡ v)
-    one b v e h = (rw (within 48 57 b (omega arith) (omega arith)) refl, rw (le-leb b 57 (omega arith)) (omega arith))
+    one b v e h = (rw (in-range 48 b 57 (omega arith) (omega arith)) refl, rw (le-leb b 57 (omega arith)) (omega arith))
 hex-only (Rules.capital {v = v} h) = one (65 + v) v refl h
   where
     one : (b v : ℕ) → b ≡ 65 + v → v < 6 → (Text.hexDigit b ≡ true) × (Text.hexValue b ≡ 10 + v)
     one b v e h = (
-      rw (over 48 57 b (omega arith) (omega arith), within 65 70 b (omega arith) (omega arith)) refl,
+      rw (over 48 57 b (omega arith) (omega arith), in-range 65 b 70 (omega arith) (omega arith)) refl,
       rw (lt-leb b 57 (omega arith), le-leb b 70 (omega arith)) (omega arith),
     )
 hex-only (Rules.small {v = v} h) = one (97 + v) v refl h
   where
     one : (b v : ℕ) → b ≡ 97 + v → v < 6 → (Text.hexDigit b ≡ true) × (Text.hexValue b ≡ 10 + v)
     one b v e h = (
-      rw (over 48 57 b (omega arith) (omega arith), over 65 70 b (omega arith) (omega arith), within 97 102 b (omega arith) (omega arith)) refl,
+      rw (over 48 57 b (omega arith) (omega arith), over 65 70 b (omega arith) (omega arith), in-range 97 b 102 (omega arith) (omega arith)) refl,
       rw (lt-leb b 57 (omega arith), lt-leb b 70 (omega arith)) (omega arith),
     )
 

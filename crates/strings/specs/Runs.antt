@@ -10,11 +10,11 @@ use lib.Dec.{eqb, leb}
 use lib.ListN.{length, take, drop, getD, length-drop}
 use lib.Seq.{take-all, take-add}
 use Rattle.common.specs.Pick.{pick}
+use Rattle.common.specs.Tests.{neither}
 use Rattle.utf8.specs.Encoding.{encodeAll}
 use Rattle.utf8.specs.Laws.{encode-one}
 use Rattle.pages.specs.Rules.{pageA}
 use Rattle.strings.specs.Text
-use Rattle.strings.specs.Hex.{neither}
 use Rattle.strings.specs.Put.{Laid, laid-then, encode-append}
 use Rattle.strings.specs.Answer.{most}
 use Rattle.strings.specs.Code.{Ran}

@@ -10,6 +10,7 @@ use lib.Dec.{eqb, leb, ltb}
 use lib.ListN.{length, take, drop, drop-of-length-le}
 use lib.Seq.{take-append-seam, take-all}
 use Rattle.common.specs.Pick.{pick}
+use Rattle.common.specs.Tests.{both}
 use Rattle.utf8.specs.Utf8.{byteAt, scalar, leadOf}
 use Rattle.utf8.specs.Encoding.{encodeAll}
 use Rattle.utf8.specs.Answer.{Lead, valid, invalid}
@@ -21,7 +22,7 @@ use Rattle.strings.specs.declared.Decoded.the-variants.{Plain, Written, 
 use Rattle.pages.specs.Rules.{pageA}
 use Rattle.pages.specs.Right.{code-scalar}
 use Rattle.strings.specs.Text
-use Rattle.strings.specs.Hex.{both, two-below}
+use Rattle.strings.specs.Hex.{two-below}
 use Rattle.strings.specs.Runs.{bytes-plain}
 use Rattle.strings.specs.Answer.{decodedOf, roomAfter, shownOf, text, refused, toldText, answerOf}
 

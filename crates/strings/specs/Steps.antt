@@ -1,22 +1,21 @@
 -- The text's pieces one after another: the laws that the code's loops go by. Assumes nothing.
-use Prim.Native.Nat.{ℕ, zero, suc, _+_, _*_, _-_, _≤_, _<_, min}
+use Prim.Native.Nat.{ℕ, zero, suc, _+_, _-_, _≤_, _<_, min}
 use mathlib.Core.Path.{_≡_, refl, sym, _∙_, ap}
 use mathlib.Core.Bool.{Bool, true, false, _&&_, _||_}
-use mathlib.Core.List.{List, [], _∷_, _++_, append-assoc, append-nil}
+use mathlib.Core.List.{List, [], _∷_, _++_, append-nil}
 use native.Mathlib.Omega.{arith}
-use native.Mathlib.Nat.{le-refl, add-assoc}
-use borrow.Author.Tests.{ltb-true, ltb-false, leb-true, leb-false, lt-ltb, le-ltb, le-leb, lt-leb, eqb-true, ne-eqb}
+use borrow.Author.Tests.{ltb-true, ltb-false, leb-true, eqb-true, ne-eqb}
 use lib.Dec.{eqb, leb, ltb}
-use lib.ListN.{length, take, drop, getD, length-drop, List·getD-eq-default, drop-of-length-le}
+use lib.ListN.{length, take, drop, length-drop, List·getD-eq-default, drop-of-length-le}
 use lib.Seq.{drop-drop, append-snoc, take-all}
 use Rattle.common.specs.Pick.{pick}
-use Rattle.common.specs.Lists.{split}
+use Rattle.common.specs.Tests.{both}
 use Rattle.utf8.specs.Utf8.{byteAt, leadOf}
 use Rattle.utf8.specs.Encoding.{encodeAll}
 use Rattle.utf8.specs.Answer.{Lead, valid, invalid}
 use Rattle.pages.specs.Pages.{pageOf}
 use Rattle.strings.specs.Text
-use Rattle.strings.specs.Hex.{both, neither, hex-within, four-within}
+use Rattle.strings.specs.Hex.{hex-within, four-within}
 use Rattle.utf8.specs.Laws.{used-within}
 use Rattle.strings.specs.Put.{Laid, laid-nothing, laid-chars}
 use Rattle.strings.specs.Answer.{most}

@@ -10,6 +10,7 @@ use lib.Dec.{eqb, leb, ltb}
 use lib.ListN.{length, take, drop, length-drop}
 use lib.Seq.{drop-drop}
 use Rattle.common.specs.Pick.{pick}
+use Rattle.common.specs.Tests.{both}
 use Rattle.utf8.specs.Utf8.{byteAt, leadOf}
 use Rattle.utf8.specs.Encoding.{encodeAll}
 use Rattle.utf8.specs.Answer.{valid, codeOfLead, usedOfLead}
@@ -21,7 +22,7 @@ use Rattle.strings.specs.declared.Char.{Char}
 use Rattle.strings.specs.Code.{View, viewOf, oneView, Moved, Ran, Turned}
 use Rattle.strings.specs.Put.{Laid, laid-nothing, laid-then, laid-chars}
 use Rattle.strings.specs.Answer.{most}
-use Rattle.strings.specs.Hex.{both, found, missed, two-below}
+use Rattle.strings.specs.Hex.{found, missed, two-below}
 use Rattle.strings.specs.Runs.{text-plain, encode-plain, bytes-plain}
 use Rattle.strings.specs.Steps.{is-within, piece-fits, text-goes, text-ends, page-stays, plain-stays, page-named}
 

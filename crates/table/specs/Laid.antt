@@ -7,7 +7,7 @@ use mathlib.Core.Option.{some}
 use native.Mathlib.Omega.{arith}
 use native.Mathlib.Nat.{suc-mul, zero-mul, zero-add, le-div-iff-mul-le}
 use lib.ListN.{length, drop, getD, getElem?, length-append, length-drop, List·getD-append}
-use lib.Seq.{sets-eq, getD-append-add, take-append-seam, drop-append-add, drop-drop}
+use lib.Seq.{sets, sets-eq, getD-append-add, take-append-seam, drop-append-add, drop-drop}
 use Rattle.common.specs.Compare.{clash}
 use Rattle.statement.specs.Rows.{Row, HeaderRow}
 use Rattle.table.specs.Table.{rowsFit, headersFit, field, rowNumbers, headerNumbers, six, four, flat, laid, rowsLaid, headersLaid, putAt, rowPut, headerPut}
@@ -24,6 +24,15 @@ there : {A : Type 0} (ws : List A) (r : ℕ) → r < length ws → (w : A) × (g
 there [] r h = absurd (omega arith)
 there (w ∷ ws) zero h = (w, refl)
 there (w ∷ ws) (suc r) h = there ws r (omega arith)
+
+-- numbers behind others that stand in front of what was there
+pub laid-on : (front new old : List ℕ) → length front + length new ≤ length old → sets (laid front old) (length front) new ≡ laid (front ++ new) old
+laid-on front new old h =
+    let rest : List ℕ = drop (length front) old in
+    let m : length front + length new ≤ length (front ++ rest) = omega (arith, h, length-append front rest, length-drop (length front) old) in
+    let d : drop (length new) rest ≡ drop (length (front ++ new)) old =
+    drop-drop (length new) (length front) old ∙ ap (λ (j : ℕ). drop j old) (sym (length-append front new)) in
+    sets-eq new (front ++ rest) (length front) m ∙ rw (take-append-seam front rest, drop-append-add front rest (length new), d) refl
 
 -- rows of n numbers each, one number at least
 module _ {A : Type 0} (n : ℕ) (f : A → List ℕ) (e : (w : A) → length (f w) ≡ n) (z : 0 < n) where
@@ -54,13 +63,8 @@ module _ {A : Type 0} (n : ℕ) (f : A → List ℕ) (e : (w : A) → length (f 
       let l = flat f ws in
       let k : length l ≡ length ws * n = flat-length ws in
       let o : length (laid l old) ≡ length old = laid-length ws old (omega arith) in
-      let m : length l + length (f w) ≤ length (laid l old) = omega (arith, e w, suc-mul (length ws) n, le-div-iff-mul-le {x = suc (length ws)} {y = length old} z .0 (omega arith)) in
-      let d : drop (length (f w)) (drop (length l) old) ≡ drop (length (l ++ f w)) old =
-      drop-drop (length (f w)) (length l) old ∙ ap (λ (j : ℕ). drop j old) (sym (length-append l (f w))) in
-      rw (flat-more f ws w, put-there n (laid l old) (length ws) (rw o h) (f w), ← k)
-      (sym
-      (sets-eq (f w) (laid l old) (length l) m
-      ∙ rw (take-append-seam l (drop (length l) old), drop-append-add l (drop (length l) old) (length (f w)), d) refl))
+      let m : length l + length (f w) ≤ length old = omega (arith, e w, suc-mul (length ws) n, le-div-iff-mul-le {x = suc (length ws)} {y = length old} z .0 (omega arith)) in
+      rw (flat-more f ws w, put-there n (laid l old) (length ws) (rw o h) (f w), ← k) (sym (laid-on l (f w) old m))
 
   -- number i of row r stands at its place, whatever follows the rows
   flat-at : (ws : List A) (rest : List ℕ) (r : ℕ) (w : A) → getElem? ws r ≡ some w → (i : ℕ) → i < n → getD (flat f ws ++ rest) (r * n + i) 0 ≡ getD (f w) i 0

@@ -14,9 +14,9 @@ use lib.ListN.{length, take, drop, getD, length-drop}
 use lib.Seq.{take-take, drop-drop, length-take-le}
 use Rattle.common.specs.Pick.{pick}
 use Rattle.common.specs.Compare.{clash}
+use Rattle.common.specs.Tests.{bounds}
 use Rattle.error.specs.Refusal.{Refusal, refusal, Told, good, bad, told}
 use Rattle.error.specs.declared.Fault.{Fault}
-use Rattle.record.specs.Turns.{bounds}
 use Rattle.nearest.specs.Near.{near, nearUnits}
 use Rattle.table.specs.Table.{tableRows, rowNumbers}
 use Rattle.statement.specs.Rows.{Row, HeaderRow, headerRowOf}
@@ -37,11 +37,12 @@ use Rattle.lists.specs.Items.{itemsFrom, isBlank, itemsBy, Body, inside, bare, 
 use Rattle.lists.specs.Laws.{item-in}
 use Rattle.lists.specs.ReadLaws.{count-mute}
 use Rattle.lists.specs.Fill.{fill-bad, fill-last, fill-more, fill-head}
-use Rattle.lookup.specs.Lookup.{cut, spanFine, spanIn, kindIn, rowIn}
+use Rattle.lookup.specs.Lookup.{cut, spanIn, kindIn, rowIn}
 use Rattle.lookup.specs.Lookup as Lookup
 use Rattle.factors.specs.Thing.{goodBy, sameKind, pieceOf, Thing, thingOf, selfOr}
 use Rattle.factors.specs.Factor.{lengthOf, angleOf}
 use Rattle.factors.specs.Unit.{optionBy}
+use Rattle.factors.specs.Laws.{span-good, same-bad}
 use Rattle.units.specs.Answer as unit
 use Rattle.units.specs.Answer.{Units, lengthRole, angleRole, solidRole, roleBy, withLength, withAngle, reads, readsInteger, isContext, defaults, withTolerance, uncertainBy, refsIn, toldRole, uncertaintyOf, uncertaintyBy}
 use Rattle.units.specs.Units.{roleOf, firstRole, unitOf, unitBy, unitsBy, toleranceBy, listedUnits, listedTolerance, contextOf, decided, recordOf, resolveOf}
@@ -182,14 +183,6 @@ module _ (s : List ℕ) (start end : ℕ) where
         by k (bad q) = refl
 
 -- ---- records
--- a span that was given lies in the file
-pub span-good : (n a z : ℕ) {p : Lookup.Span} → good p ≡ spanIn n a z → (spanFine n a z ≡ true) × (p ≡ Lookup.span a z)
-span-good n a z {p} = go (spanFine n a z)
-  where
-    go : (b : Bool) → good p ≡ pick b (good (Lookup.span a z)) (bad (refusal 9 0 0)) → (b ≡ true) × (p ≡ Lookup.span a z)
-    go true h = (refl, cc)
-    go false h = clash (cc)
-
 -- a span that was given begins in the file
 pub span-starts : (n a z : ℕ) {p : Lookup.Span} → good p ≡ spanIn n a z → p .start ≤ n
 span-starts n a z h = let (f, g) = span-good n a z h in let (l, m) = bounds a z n f in rw g (omega (arith, l, m))
@@ -220,10 +213,6 @@ module _ (s : List ℕ) where
   whole-reads a z h = ap (λ (y : Read ℤ). good (reads (y .answer))) h
 
 -- ---- listed units
--- a refusal is the same, of whichever type the answer would have been
-same-bad : {A B : Type 0} {q r : Refusal} → _≡_ {A = Told A} (bad q) (bad r) → _≡_ {A = Told B} (bad q) (bad r)
-same-bad {q} {r} h = let e : q ≡ r = cc in ap bad e
-
 module _ (s : List ℕ) (find : ℕ → Told (Option Thing)) (u : Units) where
   -- a listed unit whose id no record has changes nothing
   pub unit-missing : (i : ℕ) → find i ≡ good none → good u ≡ unitBy s find u i
@@ -451,11 +440,9 @@ reading-starts b left all h e = let m : suc (length b) - 0 ≡ suc (length b) = 
 }
 
 module _ {A : Type 0} (b : List ℕ) (left : List ℕ → Told A) (all : Told A) (i : ℕ) (f : Reading b left all i) (r : Item) (found : ItemAt b (min i (length b)) r) where
-  -- the item that the code found stands at the place i
   here : ItemAt b i r
   here = item-in b i r (f .within) found
 
-  -- no more references were passed than the list's inside has bytes
   few-enough : f .passed ≤ length b
   few-enough = omega (arith, f .few, f .within)
 

@@ -1,8 +1,8 @@
 -- That the records which the units go through are the file's: of rows in lent memory as the scan laid them. Assumes nothing.
-use Prim.Native.Nat.{ℕ, zero, suc, _+_, _≤_, _<_, min}
-use mathlib.Core.Path.{_≡_, refl, sym, _∙_, ap, ap₂}
+use Prim.Native.Nat.{ℕ, suc, _+_, _<_}
+use mathlib.Core.Path.{_≡_, refl, _∙_, ap, ap₂}
 use mathlib.Core.List.{List, [], _∷_, map}
-use mathlib.Core.Option.{Option, some}
+use mathlib.Core.Option.{some}
 use native.Mathlib.Omega.{arith}
 use lib.ListN.{length, getElem?}
 use Rattle.error.specs.Refusal.{Told, good}
@@ -14,17 +14,14 @@ use Rattle.scan.specs.Table.{rowsAfter}
 use Rattle.factors.specs.Thing.{Thing, thingOf}
 use Rattle.units.specs.Code.{thingsFrom, tableThings}
 
--- two rows that are given as one are the same
-some-one : {a b : Row} → some a ≡ some b → a ≡ b
-some-one e = cc
-
 -- where the row function tells these rows, from row k on, the records that are gone through are theirs
 things-by : (s : List ℕ) (row : ℕ → Row) (rs : List Row) (k : ℕ) → ((r : ℕ) → r < length rs → getElem? rs r ≡ some (row (k + r))) → thingsFrom s row (length rs) k ≡ map (thingOf s) rs
 unfolding thingsFrom
 things-by s row [] k h = refl
 things-by s row (w ∷ rs) k h =
     let z : k + 0 ≡ k = omega arith in
-    let e : row k ≡ w = sym (some-one (h 0 (omega arith) ∙ ap (λ (j : ℕ). some (row j)) z)) in
+    let q : some w ≡ some (row k) = h 0 (omega arith) ∙ ap (λ (j : ℕ). some (row j)) z in
+    let e : row k ≡ w = cc in
     let g : (r : ℕ) → r < length rs → getElem? rs r ≡ some (row (suc k + r)) = λ r l. h (suc r) (omega arith) ∙ ap (λ (j : ℕ). some (row j)) (omega arith) in
     ap₂ (λ (x : Row) (ts : List (Told Thing)). thingOf s x ∷ ts) e (things-by s row rs (suc k) g)
 

@@ -1,4 +1,5 @@
 -- What the definitions of Utf8.antt say at each range of numbers and each kind of first byte: the laws that the code's proofs and
+-- What the definitions of Utf8.antt say at each range of numbers and each kind of first byte: the laws that the code's proofs and
 -- the theorems of Agree.antt cite. Assumes nothing.
 use Prim.Native.Nat.{ℕ, zero, suc, _+_, _*_, _-_, _/_, _%_, _≤_, _<_}
 use mathlib.Core.Path.{_≡_, refl, sym, _∙_, ap}
@@ -6,22 +7,14 @@ use mathlib.Core.Bool.{Bool, true, false, _&&_}
 use mathlib.Core.List.{List, [], _∷_}
 use native.Mathlib.Decide.{decLt, decLe}
 use native.Mathlib.Omega.{arith}
-use borrow.Author.Tests.{ltb-true, leb-true, lt-ltb, le-ltb, le-leb, lt-leb}
+use borrow.Author.Tests.{ltb-true, lt-ltb, le-ltb, le-leb, lt-leb}
 use lib.Dec.{eqb, leb, ltb}
 use lib.ListN.{length, take, drop, getD, length-drop, List·getD-eq-default, drop-of-length-le}
 use lib.Seq.{sets, sets-eq, take-all, drop-drop, getD-drop}
 use Rattle.common.specs.Pick.{pick}
+use Rattle.common.specs.Tests.{both, bounds}
 use Rattle.utf8.specs.Utf8.{scalar, encode, byteAt, tail, lowest, highest, second, leadTwo, leadThree, leadFour, leadOf, validFrom, validOf}
 use Rattle.utf8.specs.Answer.{Lead, valid, invalid, codeOfLead, usedOfLead, putAt, putWidth}
-
--- two tests that pass together pass each
-pub both : (a b : Bool) → a && b ≡ true → (a ≡ true) × (b ≡ true)
-both true b e = (refl, e)
-both false b e = let z : _≡_ {A = Bool} false true = e in absurd (let w : _≡_ {A = ℕ} 0 1 = cc in omega arith)
-
--- a number that passes the test of a range lies in it
-pub bounds : (l c m : ℕ) → leb l c && leb c m ≡ true → (l ≤ c) × (c ≤ m)
-bounds l c m e = let p = both (leb l c) (leb c m) e in (leb-true l c (p .0), leb-true c m (p .1))
 
 -- ---- which numbers are characters
 -- a number below the surrogates is a character

@@ -17,43 +17,6 @@ ghost use Rattle.cut.specs.Cut.{RoundsTo, sure, beyond, RoundsNear};
 ghost use Rattle.wide.specs.Tens.{halvingsOf, placesOf, Reciprocal};
 ghost use Rattle.wide.specs.Reach.{reach, far};
 
-// 5^k as far as it has 63 binary digits. A match is a table of the program's; an array would be laid on the stack at each use.
-fn power_of_five(k: usize) -> u64
-    requires { ⌜ k ≤ reach ⌝ }
-    ensures { λ r. ⌜ r ≡ 5 ^ k ⌝ }
-{
-    match k {
-        0 => 1,
-        1 => 5,
-        2 => 25,
-        3 => 125,
-        4 => 625,
-        5 => 3125,
-        6 => 15625,
-        7 => 78125,
-        8 => 390625,
-        9 => 1953125,
-        10 => 9765625,
-        11 => 48828125,
-        12 => 244140625,
-        13 => 1220703125,
-        14 => 6103515625,
-        15 => 30517578125,
-        16 => 152587890625,
-        17 => 762939453125,
-        18 => 3814697265625,
-        19 => 19073486328125,
-        20 => 95367431640625,
-        21 => 476837158203125,
-        22 => 2384185791015625,
-        23 => 11920928955078125,
-        24 => 59604644775390625,
-        25 => 298023223876953125,
-        26 => 1490116119384765625,
-        _ => 7450580596923828125,
-    }
-}
-
 // How often 5^k can be halved: its binary digits but one are 4755 / 2048 times k, rounded down.
 fn halvings(k: usize) -> u64
     requires { ⌜ k ≤ far ⌝ }
@@ -92,7 +55,7 @@ fn lifted_five(k: usize) -> Lifted
 {
     let by = places(k);
     Lifted {
-        value: power_of_five(k) << by,
+        value: long::power_of_five(k) << by,
         by: by as u32,
     }
 }

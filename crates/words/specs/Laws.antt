@@ -1,25 +1,24 @@
 -- Names and texts: one law for each way out of the code. Assumes nothing.
-use Prim.Native.Nat.{ℕ, _+_, _-_, _≤_, _<_}
+use Prim.Native.Nat.{ℕ, _-_, _≤_, _<_}
 use mathlib.Core.Path.{_≡_, refl, sym, _∙_, ap}
 use mathlib.Core.Bool.{Bool, true, false, not, _&&_, _||_}
-use mathlib.Core.List.{List, [], _∷_}
+use mathlib.Core.List.{List}
 use native.Mathlib.Omega.{arith}
-use borrow.Author.Tests.{le-leb, lt-leb, leb-true, not-true, not-false}
+use borrow.Author.Tests.{le-leb, lt-leb, leb-true}
 use lib.Dec.{eqb, leb}
-use lib.ListN.{length, take, drop, getD, length-drop, length-take}
+use lib.ListN.{length, take, drop, getD, length-drop}
 use lib.Seq.{length-take-le}
 use Rattle.common.specs.Pick.{pick}
+use Rattle.common.specs.Tests.{both}
 use Rattle.error.specs.Refusal.{Refusal, refusal, Told, good, bad}
 use Rattle.utf8.specs.Utf8.{validOf}
 use Rattle.strings.specs.declared.Decoded.{Decoded}
 use Rattle.strings.specs.Answer.{decodedOf, roomAfter}
-use Rattle.strings.specs.Hex.{both}
-use Rattle.params.specs.Reader.{paramOf}
 use Rattle.params.specs.Answer.{Read, reading, Span, span, mapped}
 use Rattle.scalars.specs.Scalars.{isUnset}
 use Rattle.words.specs.Words.{isName, nameAt, isString, bodyOf, decodedAt, stringAt, roomAt}
 use Rattle.words.specs.Room.{roomOf}
-use Rattle.words.specs.Answer.{partOf, Shown, inFile, inRoom}
+use Rattle.words.specs.Answer.{partOf, Shown, inFile}
 
 -- fewer than two bytes are no name
 pub name-short : (t : List ℕ) → length t < 2 → false ≡ isName t

@@ -10,6 +10,7 @@ use lib.ListN.{length, take, drop, getD, length-append, length-drop}
 use lib.Seq.{length-take-le, take-at}
 use Rattle.common.specs.Pick.{pick}
 use Rattle.common.specs.Compare.{clash}
+use Rattle.common.specs.Tests.{both, neither}
 use Rattle.error.specs.Refusal.{refusal, Told, good, bad}
 use Rattle.record.specs.FormRight.{same-is, same-self}
 use Rattle.record.specs.Word.{same}
@@ -18,7 +19,6 @@ use Rattle.utf8.specs.Utf8.{validOf}
 use Rattle.utf8.specs.Encoding.{encodeAll}
 use Rattle.utf8.specs.Agree.{valid-is, valid-only}
 use Rattle.strings.specs.Text as String
-use Rattle.strings.specs.Hex.{both, neither}
 use Rattle.strings.specs.Rules.{Text}
 use Rattle.strings.specs.RulesRight.{text-is, text-only}
 use Rattle.strings.specs.Answer.{decodedOf, roomAfter}

@@ -3,7 +3,7 @@ use native.Mathlib.Omega.{arith}
 use mathlib.Core.Path.{refl}
 use denote.Ref.{now}
 use lib.ListN.{length}
-use Rattle.record.specs.Turns.{bounds}
+use Rattle.common.specs.Tests.{bounds}
 use Rattle.factors.proofs.name_in.Statement.{statement}
 use Rattle.factors.proofs.name_in.Tie as tie
 

@@ -1,27 +1,26 @@
+use Rattle.finds.specs.Looks.{EvenRow}
 use native.Mathlib.Nat.{div-le-self}
-use Rattle.finds.specs.Looks.{Hint, step-hint}
 use Rattle.finds.specs.Sweep.{Sweeping, sweep-none, sweep-next, sweep-end}
 use borrow.Author.Needs.{needs}
-use lib.ListN.{getD}
 use Prim.Native.Nat.{_-_, _≤_}
 use native.Mathlib.Omega.{arith}
 use Rattle.finds.proofs.even_near.Statement.{statement}
 use Rattle.finds.proofs.even_near.Tie as tie
 
 abbrev Inv-loop : tie.InvT-loop
-Inv-loop rows slots b step ids found₀ from to scale i₀ found i = (scale ≤ 4294967296) × Sweeping (Hint rows slots b) ids found₀ from to found i
+Inv-loop first step ids found₀ from to scale i₀ found i = (scale ≤ 4294967296) × Sweeping (EvenRow first step) ids found₀ from to found i
 
 abbrev μ-loop : tie.MeasureT-loop
-μ-loop rows slots b step ids found₀ from to scale i₀ found i = to - i
+μ-loop first step ids found₀ from to scale i₀ found i = to - i
 
 add-scale : tie.Need-add-scale Inv-loop μ-loop
-add-scale c = let a = c .before .before .before .before .args in let q = div-le-self 4294967295 (a .step) in record { fits = omega (arith, q) }
+add-scale c = let q = div-le-self 4294967295 (c .before .before .args .step) in record { fits = omega (arith, q) }
 
 loop-holds : tie.Need-loop-holds Inv-loop μ-loop
-loop-holds c = let q = div-le-self 4294967295 (c .before .before .before .before .args .step) in (omega (arith, q), sweep-none (omega arith) (omega arith) (omega arith))
+loop-holds c = let q = div-le-self 4294967295 (c .before .before .args .step) in (omega (arith, q), sweep-none (omega arith) (omega arith) (omega arith))
 
 loop-again : tie.Need-loop-again Inv-loop μ-loop
-loop-again c = let l = c .before .before .before .loop in let a = c .before .before .before .before .before .before .before .before .args in let p = c .before .before .before .before .before .before .before .before .pre in (l .inv .0, sweep-next (l .inv .1) (omega arith) (step-hint (a .rows .now) (a .slots .now) (a .b) (a .step) (p .3) (p .4) (getD (a .ids .now) (l .i) 0) (c .even-row .result) (c .even-row .ensures)))
+loop-again c = let l = c .before .before .before .loop in (l .inv .0, sweep-next (l .inv .1) (omega arith) (c .even-row .ensures))
 
 returns : tie.Need-returns Inv-loop μ-loop
 returns c = sweep-end (c .before .loop .inv .1) (omega arith)

@@ -1,5 +1,6 @@
 use mathlib.Core.Path.{_≡_}
-use Rattle.finds.specs.Looks.{both, apart-by}
+use Rattle.common.specs.Tests.{both}
+use Rattle.finds.specs.Looks.{apart-by}
 use Prim.Native.Nat.{ℕ}
 use native.Mathlib.Omega.{arith}
 use Rattle.finds.proofs.is_guided.Statement.{statement}

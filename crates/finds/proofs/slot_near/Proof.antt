@@ -1,23 +1,23 @@
-use Rattle.finds.specs.Looks.{Hint, first-hint}
+use Rattle.index.specs.Search.{firstRow}
+use mathlib.Core.Path.{_≡_}
 use Rattle.finds.specs.Sweep.{Sweeping, sweep-none, sweep-next, sweep-end}
 use borrow.Author.Needs.{needs}
-use lib.ListN.{getD}
 use Prim.Native.Nat.{_-_}
 use native.Mathlib.Omega.{arith}
 use Rattle.finds.proofs.slot_near.Statement.{statement}
 use Rattle.finds.proofs.slot_near.Tie as tie
 
 abbrev Inv-loop : tie.InvT-loop
-Inv-loop rows slots b ids found₀ from to i₀ found i = Sweeping (Hint rows slots b) ids found₀ from to found i
+Inv-loop slots b ids found₀ from to i₀ found i = Sweeping (λ k v. v ≡ firstRow slots b k) ids found₀ from to found i
 
 abbrev μ-loop : tie.MeasureT-loop
-μ-loop rows slots b ids found₀ from to i₀ found i = to - i
+μ-loop slots b ids found₀ from to i₀ found i = to - i
 
 loop-holds : tie.Need-loop-holds Inv-loop μ-loop
 loop-holds c = sweep-none (omega arith) (omega arith) (omega arith)
 
 loop-again : tie.Need-loop-again Inv-loop μ-loop
-loop-again c = let l = c .before .before .before .loop in let a = c .before .before .before .before .before .before .before .before .args in sweep-next (l .inv) (omega arith) (first-hint (a .rows .now) (a .slots .now) (a .b) (getD (a .ids .now) (l .i) 0) (c .first-row .result) (c .first-row .ensures))
+loop-again c = let l = c .before .before .before .loop in sweep-next (l .inv) (omega arith) (c .first-row .ensures)
 
 returns : tie.Need-returns Inv-loop μ-loop
 returns c = sweep-end (c .before .loop .inv) (omega arith)

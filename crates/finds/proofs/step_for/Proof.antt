@@ -1,6 +1,6 @@
-use Rattle.finds.specs.Looks.{both}
 use native.Mathlib.Omega.{arith}
 use borrow.Author.Needs.{needs}
+use Rattle.common.specs.Tests.{both}
 use Rattle.finds.proofs.step_for.Statement.{statement}
 use Rattle.finds.proofs.step_for.Tie as tie
 

@@ -1,9 +1,9 @@
 use mathlib.Core.List.{List}
-use Rattle.lex.specs.Past.{neither}
 use lib.ListN.{length, drop}
 use mathlib.Core.Path.{_≡_, refl, _∙_}
 use mathlib.Core.Bool.{_||_}
 use Prim.Native.Nat.{ℕ, _-_, _≤_}
+use Rattle.common.specs.Tests.{neither}
 use Rattle.lex.specs.Search.{paren}
 use Rattle.lex.specs.Right.Steps.{plainly}
 use lib.Dec.{ltb}

@@ -45,7 +45,7 @@ returns c =
     let l = c .before .before .before .before .before .before in
     let p = l .before .before .args in
     let d = c .before .before .divide2 in
-    let f = c .before .before .before .power-of-five in
+    let f = c .before .before .before .small-power in
     let i = l .loop .inv in
     let q = d .ensures .quotient (subst (λ (n : ℕ). 0 < n) (sym (f .ensures)) (one-le-pow (l .loop .left) 5 (omega arith))) in
     subst (λ (x : ℕ). Lowered (worth (now (p .a))) x (worth (d .last .0)) (l .loop .more || not (eqb (d .result) 0))) (ap (λ (n : ℕ). 5 ^ (p .k - l .loop .left) * n) (f .ensures) ∙ powers 5 (p .k - l .loop .left) (l .loop .left) (p .k) (omega arith)) (lowered-more (worth (now (p .a))) (5 ^ (p .k - l .loop .left)) (worth (l .loop .a)) (f .result) (worth (d .last .0)) (d .result) (l .loop .more) (i .2) (q .0) (q .1))

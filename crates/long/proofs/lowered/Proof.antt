@@ -10,11 +10,12 @@ use borrow.Author.Tests.{eqb-true, eqb-false, ltb-true, ltb-false}
 use lib.Dec.{eqb, ltb}
 use lib.ListN.{take}
 use lib.Seq.{length-take-le}
+use Rattle.common.specs.Tests.{neither}
 use Rattle.nearest.specs.Near.{near}
 use Rattle.nearest.specs.Nearest.{signed}
 use Rattle.limbs.specs.Worth.{worth}
 use Rattle.limbs.specs.Laws.{worth-replicate}
-use Rattle.long.specs.Far.{far-zero, word-lt, ahead-enough, neither}
+use Rattle.long.specs.Far.{far-zero, word-lt, ahead-enough}
 use Rattle.nearest.specs.Borders.{near-nothing}
 use Rattle.nearest.specs.PowerLaws.{ten-pos}
 use Rattle.long.specs.Whole.{scaled-whole}

@@ -7,12 +7,13 @@ use borrow.Author.Needs.{needs}
 use borrow.Author.Tests.{ltb-true, ltb-false}
 use denote.Ref.{now}
 use lib.Dec.{ltb}
+use Rattle.common.specs.Tests.{neither}
 use Rattle.nearest.specs.Near.{near}
 use Rattle.nearest.specs.Nearest.{signed}
 use Rattle.limbs.specs.Laws.{worth-replicate}
 use Rattle.long.specs.Number.{numberIn}
 use Rattle.long.specs.DigitsRight.{read-le, read-pos}
-use Rattle.long.specs.Far.{high-infinity, neither}
+use Rattle.long.specs.Far.{high-infinity}
 use Rattle.long.proofs.raised_text.Statement.{statement}
 use Rattle.long.proofs.raised_text.Tie as tie
 

@@ -1,27 +1,19 @@
 -- `long::read_digits` meets its contract: after each byte the room and what is held are the number read so far. Assumes nothing.
-use Prim.Native.Nat.{ℕ, _-_, _<_}
+use Prim.Native.Nat.{_-_, _<_}
 use mathlib.Core.Path.{_≡_, refl, sym, _∙_, ap}
 use mathlib.Core.Logic.{⊎-elim}
-use mathlib.Core.Bool.{Bool, true, false, _&&_}
+use mathlib.Core.Bool.{Bool, _&&_}
 use native.Mathlib.Omega.{arith}
 use borrow.Author.Needs.{needs}
 use borrow.Author.Tests.{ltb-true, ltb-false, lt-ltb}
 use lib.Dec.{ltb}
 use denote.Ref.{now}
 use lib.ListN.{length, getD}
-use Rattle.record.specs.Turns.{bounds}
+use Rattle.common.specs.Tests.{bounds, both}
 use Rattle.long.specs.DigitsRight.{digit-le}
 use Rattle.long.specs.Steps.{Reading, reading-starts, reading-past, reading-digit, reading-full, reading-same, reading-ends, weight-le}
 use Rattle.long.proofs.read_digits.Statement.{statement}
 use Rattle.long.proofs.read_digits.Tie as tie
-
--- two tests are both true
-both : (a b : Bool) → (a && b) ≡ true → (a ≡ true) × (b ≡ true)
-both true b e = (refl, e)
-both false b e = absurd (never e)
-  where
-    never : false ≡ true → ⊥
-    never z = let y : _≡_ {A = ℕ} 0 1 = cc in omega arith
 
 abbrev Inv-loop : tie.InvT-loop
 Inv-loop t from count a₀ used₀ held₀ weight₀ left₀ i₀ a used held weight left i = (length a ≡ length a₀) × Reading t from count a used held weight left i

@@ -4,7 +4,7 @@ use Prim.Native.Nat.{_-_}
 use borrow.Author.Tests.{not-true, not-false, eq-eqb, ne-eqb}
 use denote.Ref.{now}
 use lib.ListN.{length}
-use Rattle.record.specs.Turns.{bounds}
+use Rattle.common.specs.Tests.{bounds}
 use Rattle.lookup.proofs.kind_in.Statement.{statement}
 use Rattle.lookup.proofs.kind_in.Tie as tie
 

@@ -6,7 +6,7 @@ use borrow.Author.Needs.{needs}
 use borrow.Author.Tests.{not-true, not-false}
 use denote.Ref.{now}
 use lib.ListN.{length, getD}
-use Rattle.record.specs.Turns.{bounds}
+use Rattle.common.specs.Tests.{bounds}
 use Rattle.reals.specs.Parts.{Reading, reading-starts, reading-goes, reading-stops, reading-ends}
 use Rattle.reals.proofs.digits_from.Statement.{statement}
 use Rattle.reals.proofs.digits_from.Tie as tie

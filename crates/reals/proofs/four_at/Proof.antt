@@ -7,9 +7,9 @@ use mathlib.Core.List.{List}
 use borrow.Author.Needs.{needs}
 use denote.Ref.{now}
 use lib.ListN.{getD}
+use Rattle.common.specs.Tests.{bounds, both}
 use Rattle.record.specs.Byte.{digit}
-use Rattle.record.specs.Turns.{bounds}
-use Rattle.reals.specs.Parts.{both, four-at}
+use Rattle.reals.specs.Parts.{four-at}
 use Rattle.reals.proofs.four_at.Statement.{statement}
 use Rattle.reals.proofs.four_at.Tie as tie
 

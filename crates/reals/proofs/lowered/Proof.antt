@@ -1,27 +1,20 @@
 -- `reals::lowered` meets its contract: one quotient of two exact numbers, or the wide path's answer. Assumes nothing.
-use Prim.Native.Nat.{_^_, _≤_}
+use Prim.Native.Nat.{_^_}
 use mathlib.Core.Path.{_∙_}
 use native.Mathlib.Nat.{one-le-pow}
 use native.Mathlib.Omega.{arith}
 use borrow.Author.Needs.{needs}
-use borrow.Author.Tests.{leb-true}
-use lib.Dec.{leb}
 use lib.Ieee.{binary64, toBits}
+use Rattle.reals.specs.Table.{short-path}
 use Rattle.nearest.specs.ProductRight.{quotient-exact}
-use Rattle.reals.specs.Parts.{both}
 use Rattle.reals.proofs.lowered.Statement.{statement}
 use Rattle.reals.proofs.lowered.Tie as tie
 
 exact-requires : tie.Need-exact-requires
-exact-requires c κs =
-    let a = c .before .args in
-    leb-true (a .m) (2 ^ 53) (both (leb (a .m) (2 ^ 53)) (leb (a .k) 22) (c .if1 .taken) .0)
+exact-requires c κs = short-path (c .before .args .m) (c .before .args .k) (c .if1 .taken) .0
 
 power-of-ten-requires : tie.Need-power-of-ten-requires
-power-of-ten-requires c κs =
-    let a = c .before .before .args in
-    let h : a .k ≤ 22 = leb-true (a .k) 22 (both (leb (a .m) (2 ^ 53)) (leb (a .k) 22) (c .before .if1 .taken) .1) in
-    omega arith
+power-of-ten-requires c κs = short-path (c .before .before .args .m) (c .before .before .args .k) (c .before .if1 .taken) .1
 
 returns : tie.Need-returns
 returns c =
@@ -31,9 +24,6 @@ returns c =
     c .over .ensures
     ∙ quotient-exact (toBits binary64 (e .exact .result)) (toBits binary64 (p .power-of-ten .result)) (a .neg) (a .m) (10 ^ a .k) (one-le-pow (a .k) 10 (omega arith)) (e .exact .ensures) (p .power-of-ten .ensures)
 
-returns-2 : tie.Need-returns-2
-returns-2 c = c .by-wide .ensures
-
 pub lowered-spec : {M : Type 1} → statement M
 lowered-spec = tie.close (tie.spec
-    exact-requires power-of-ten-requires (λ c κs. search needs) returns (λ c κs. search needs) returns-2)
+    exact-requires power-of-ten-requires (λ c κs. search needs) returns (λ c κs. search needs) (λ c. search needs))

@@ -3,7 +3,8 @@ use borrow.Author.Needs.{needs}
 use borrow.Author.Tests.{eqb-true, ltb-true}
 use denote.Ref.{now}
 use lib.ListN.{length}
-use Rattle.reals.specs.Parts.{plain-read, plain-other, both}
+use Rattle.common.specs.Tests.{both}
+use Rattle.reals.specs.Parts.{plain-read, plain-other}
 use Rattle.reals.proofs.plain_from.Statement.{statement}
 use Rattle.reals.proofs.plain_from.Tie as tie
 

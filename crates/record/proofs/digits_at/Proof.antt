@@ -1,7 +1,8 @@
 use Rattle.common.specs.Lists.{drop-end}
-use Rattle.record.specs.Turns.{digit-stops, digit-goes, number-grows, bounds}
+use Rattle.record.specs.Turns.{digit-stops, digit-goes, number-grows}
 use Rattle.record.specs.Text.{digitTurn, digits, numberFrom}
 use Rattle.common.specs.Walk.{walk, walk-ends}
+use Rattle.common.specs.Tests.{bounds}
 use lib.ListN.{length, drop, getD}
 use denote.Ref.{now}
 use borrow.Author.Tests.{not-true, not-false}

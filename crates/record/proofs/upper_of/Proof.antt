@@ -1,6 +1,6 @@
-use Rattle.record.specs.Turns.{bounds}
 use native.Mathlib.Omega.{arith}
 use mathlib.Core.Path.{refl}
+use Rattle.common.specs.Tests.{bounds}
 use Rattle.record.proofs.upper_of.Statement.{statement}
 use Rattle.record.proofs.upper_of.Tie as tie
 

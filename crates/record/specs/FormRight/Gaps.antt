@@ -7,10 +7,10 @@ use native.Mathlib.Omega.{arith}
 use lib.Dec.{eqb}
 use borrow.Author.Tests.{ne-eqb, not-true}
 use Rattle.common.specs.Compare.{clash}
+use Rattle.common.specs.Tests.{bounds}
 use Rattle.lex.specs.Byte.{white}
 use Rattle.record.specs.Text.{past, pastGap}
 use Rattle.record.specs.Byte.{digit}
-use Rattle.record.specs.Turns.{bounds}
 use Rattle.record.specs.Form.{NotFirst, Gap, NoGapFirst, Gapped, NoParen}
 use Rattle.record.specs.FormRight.Parts.{first-other, first-part, all-join, all-kind, Spanned, span, past-pass, past-halt}
 
@@ -57,7 +57,7 @@ pub gap-free : (w : List ℕ) → Gap w → NoParen w
 gap-free w = all-kind white (λ c. not (eqb c 40)) w (λ c k. rw (ne-eqb c 40 (λ e. let f : white 40 ≡ true = rw e at k in clash (cc))))
 
 -- no whitespace is a digit
-white-digit : (c : ℕ) → white c ≡ true → digit c ≡ false
+pub white-digit : (c : ℕ) → white c ≡ true → digit c ≡ false
 white-digit c h = go (digit c) refl
   where
     go : (t : Bool) → digit c ≡ t → digit c ≡ false

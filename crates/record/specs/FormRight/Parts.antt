@@ -1,4 +1,5 @@
 -- The parts of a text: that it can always be taken apart so, and what the walks of Text.antt do with such a part.
+-- The parts of a text: that it can always be taken apart so, and what the walks of Text.antt do with such a part.
 -- Assumes nothing.
 use Prim.Native.Nat.{ℕ, _+_, _*_, _-_, _^_}
 use mathlib.Core.Path.{_≡_, refl, _∙_, ap}
@@ -20,7 +21,7 @@ pub sole : {A : Type 0} (P : A → Type 0) {a : A} → ((x : A) → P x → x �
 sole P only (x, h) = rw (only x h) at h
 
 -- an empty list does not begin with a byte of the kind p
-first-none : (p : ℕ → Bool) → NotFirst p []
+pub first-none : (p : ℕ → Bool) → NotFirst p []
 first-none p c r e = clash (cc)
 
 -- a list whose first byte is not of the kind p does not begin with such a byte
@@ -138,7 +139,6 @@ module _ {A : Type 0} (t : List ℕ → ℕ → List ℕ → Turn (List ℕ) A) 
   word-some e c (d ∷ k) y (a, u) l =
       rw (goes c a e (d ∷ (k ++ y))) (word-some (pick (white c) e (d ∷ (k ++ y))) d k y u (last-next white c (d ∷ k) l))
 
-  -- a walk over k and the whitespace w goes on at y, and keeps that w and y follow the last byte that is not white
   pub word-pass : (k w y : List ℕ) → All q k → NotLast white k → All q w → All white w
       → walk t z (k ++ (w ++ y)) (k ++ (w ++ y)) ≡ walk t z (w ++ y) y
   word-pass [] w y a l b h = blank-pass (w ++ y) w y b h

@@ -1,5 +1,6 @@
+use Rattle.common.specs.Tests.{both}
 use Rattle.scan.specs.Fits.{statement-fits, record-fits-more}
-use Rattle.scan.specs.Neat.{Neat, both, neat-tidy, neat-row}
+use Rattle.scan.specs.Neat.{Neat, neat-tidy, neat-row}
 use Rattle.scan.specs.Run.{Ran, ran-length}
 use Rattle.statement.specs.Rows.{rowOf}
 use Rattle.statement.specs.Answer.{toldTidied}

@@ -5,8 +5,9 @@ use Prim.Native.Nat.{ℕ}
 use lib.Dec.{leb}
 use borrow.Author.Tests.{leb-false}
 use denote.Ref.{now}
+use Rattle.common.specs.Tests.{neither}
 use Rattle.strings.specs.Text.{char}
-use Rattle.strings.specs.Hex.{neither, four-wrong, four-char}
+use Rattle.strings.specs.Hex.{four-wrong, four-char}
 use Rattle.strings.proofs.group_four.Statement.{statement}
 use Rattle.strings.proofs.group_four.Tie as tie
 

@@ -5,8 +5,9 @@ use Prim.Native.Nat.{ℕ}
 use lib.Dec.{leb, ltb}
 use borrow.Author.Tests.{leb-true, ltb-true}
 use denote.Ref.{now}
+use Rattle.common.specs.Tests.{both}
 use Rattle.strings.specs.Text.{char}
-use Rattle.strings.specs.Hex.{both, two-wrong, two-single, two-pair, two-alone}
+use Rattle.strings.specs.Hex.{two-wrong, two-single, two-pair, two-alone}
 use Rattle.strings.proofs.group_two.Statement.{statement}
 use Rattle.strings.proofs.group_two.Tie as tie
 

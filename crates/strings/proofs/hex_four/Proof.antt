@@ -5,9 +5,10 @@ use Prim.Native.Nat.{ℕ, _+_}
 use mathlib.Core.List.{List}
 use lib.ListN.{getD}
 use denote.Ref.{now}
+use Rattle.common.specs.Tests.{both}
 use Rattle.utf8.specs.Laws.{byte-at}
 use Rattle.strings.specs.Text.{hexDigit}
-use Rattle.strings.specs.Hex.{both, four-past, four-is, four-not}
+use Rattle.strings.specs.Hex.{four-past, four-is, four-not}
 use borrow.Author.Needs.{needs}
 use Rattle.strings.proofs.hex_four.Statement.{statement}
 use Rattle.strings.proofs.hex_four.Tie as tie

@@ -4,9 +4,10 @@ use mathlib.Core.Bool.{true, false, _&&_}
 use Prim.Native.Nat.{_+_}
 use lib.ListN.{getD}
 use denote.Ref.{now}
+use Rattle.common.specs.Tests.{both}
 use Rattle.utf8.specs.Laws.{byte-at}
 use Rattle.strings.specs.Text.{hexDigit}
-use Rattle.strings.specs.Hex.{both, two-past, two-is, two-not}
+use Rattle.strings.specs.Hex.{two-past, two-is, two-not}
 use borrow.Author.Needs.{needs}
 use Rattle.strings.proofs.hex_two.Statement.{statement}
 use Rattle.strings.proofs.hex_two.Tie as tie

@@ -3,7 +3,7 @@ use native.Mathlib.Omega.{arith}
 use mathlib.Core.Path.{refl}
 use lib.Dec.{leb, ltb}
 use borrow.Author.Tests.{leb-true, ltb-true}
-use Rattle.strings.specs.Hex.{both}
+use Rattle.common.specs.Tests.{both}
 use Rattle.strings.proofs.joined_code.Statement.{statement}
 use Rattle.strings.proofs.joined_code.Tie as tie
 

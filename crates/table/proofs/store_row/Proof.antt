@@ -11,9 +11,6 @@ use borrow.Author.Needs.{needs}
 use Rattle.table.proofs.store_row.Statement.{statement}
 use Rattle.table.proofs.store_row.Tie as tie
 
-store-spans-requires : tie.Need-store-spans-requires
-store-spans-requires c κs = simp length-set (omega arith)
-
 slice-write-out-2 : tie.Need-slice-write-out-2
 slice-write-out-2 c = simp (c .before .before .store-spans .ensures, length-sets, length-set) (omega arith)
 
@@ -28,5 +25,5 @@ pub store-row-spec : {M : Type 1} → statement M
 store-row-spec =
     tie.close
     (tie.spec
-    (λ c. search needs) (λ c. search needs) (λ c. search needs) (λ c. search needs) store-spans-requires (λ c. search needs)
-    (λ c. search needs) slice-write-out-2 same-length returns)
+    (λ c. search needs) (λ c. search needs) (λ c. search needs) (λ c. search needs) (λ c κs. simp length-set (omega arith))
+    (λ c. search needs) (λ c. search needs) slice-write-out-2 same-length returns)

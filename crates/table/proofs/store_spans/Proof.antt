@@ -5,15 +5,6 @@ use borrow.Author.Needs.{needs}
 use Rattle.table.proofs.store_spans.Statement.{statement}
 use Rattle.table.proofs.store_spans.Tie as tie
 
-slice-write-out-2 : tie.Need-slice-write-out-2
-slice-write-out-2 c = simp length-set (omega arith)
-
-slice-write-out-3 : tie.Need-slice-write-out-3
-slice-write-out-3 c = simp length-set (omega arith)
-
-slice-write-out-4 : tie.Need-slice-write-out-4
-slice-write-out-4 c = simp length-set (omega arith)
-
 returns : tie.Need-returns
 returns c = rw (c .before .before .before .low .ensures, c .before .before .low2 .ensures, c .before .low3 .ensures, c .low4 .ensures) (simp towards-suc)
 
@@ -22,5 +13,5 @@ store-spans-spec =
     tie.close
     (tie.spec
     (λ c κs. search needs) (λ c. search needs) (λ c. search needs) (λ c κs. search needs) (λ c. search needs) (λ c. search needs)
-    slice-write-out-2 (λ c κs. search needs) (λ c. search needs) (λ c. search needs) slice-write-out-3 (λ c κs. search needs)
-    (λ c. search needs) (λ c. search needs) slice-write-out-4 (λ c. search needs) returns)
+    (λ c. simp length-set (omega arith)) (λ c κs. search needs) (λ c. search needs) (λ c. search needs) (λ c. simp length-set (omega arith))
+    (λ c κs. search needs) (λ c. search needs) (λ c. search needs) (λ c. simp length-set (omega arith)) (λ c. search needs) returns)

@@ -6,15 +6,6 @@ use Rattle.utf8.specs.Laws.{encode-four}
 use Rattle.utf8.proofs.put_four.Statement.{statement}
 use Rattle.utf8.proofs.put_four.Tie as tie
 
-slice-write-out-2 : tie.Need-slice-write-out-2
-slice-write-out-2 c = simp length-set (omega arith)
-
-slice-write-out-3 : tie.Need-slice-write-out-3
-slice-write-out-3 c = simp length-set (omega arith)
-
-slice-write-out-4 : tie.Need-slice-write-out-4
-slice-write-out-4 c = simp length-set (omega arith)
-
 returns : tie.Need-returns
 returns c = rw (encode-four (c .args .code) (c .pre .1) (c .pre .2)) (simp towards-suc)
 
@@ -22,6 +13,6 @@ pub put-four-spec : {M : Type 1} → statement M
 put-four-spec =
     tie.close
     (tie.spec
-    (λ c. search needs) (λ c. omega arith) (λ c. search needs) (λ c. search needs) (λ c. search needs) (λ c. search needs) slice-write-out-2
-    (λ c. search needs) (λ c. search needs) (λ c. search needs) slice-write-out-3 (λ c. search needs) (λ c. search needs)
-    (λ c. search needs) slice-write-out-4 (λ c. search needs) returns)
+    (λ c. search needs) (λ c. omega arith) (λ c. search needs) (λ c. search needs) (λ c. search needs) (λ c. search needs)
+    (λ c. simp length-set (omega arith)) (λ c. search needs) (λ c. search needs) (λ c. search needs) (λ c. simp length-set (omega arith))
+    (λ c. search needs) (λ c. search needs) (λ c. search needs) (λ c. simp length-set (omega arith)) (λ c. search needs) returns)

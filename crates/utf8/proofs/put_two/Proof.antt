@@ -6,9 +6,6 @@ use Rattle.utf8.specs.Laws.{encode-two}
 use Rattle.utf8.proofs.put_two.Statement.{statement}
 use Rattle.utf8.proofs.put_two.Tie as tie
 
-slice-write-out-2 : tie.Need-slice-write-out-2
-slice-write-out-2 c = simp length-set (omega arith)
-
 returns : tie.Need-returns
 returns c = rw (encode-two (c .args .code) (c .pre .1) (c .pre .2)) (simp towards-suc)
 
@@ -17,4 +14,4 @@ put-two-spec =
     tie.close
     (tie.spec
     (λ c. search needs) (λ c. search needs) (λ c. search needs) (λ c. search needs) (λ c. search needs) (λ c. search needs)
-    slice-write-out-2 (λ c. search needs) returns)
+    (λ c. simp length-set (omega arith)) (λ c. search needs) returns)

@@ -1,8 +1,9 @@
 use borrow.Author.Needs.{needs}
 use denote.Ref.{now}
 use mathlib.Core.Path.{ap, _∙_}
+use Rattle.common.specs.Tests.{bounds}
 use Rattle.utf8.specs.Answer.{codeOfLead, usedOfLead}
-use Rattle.utf8.specs.Laws.{bounds, lead-one, lead-two, lead-three, lead-four, lead-none}
+use Rattle.utf8.specs.Laws.{lead-one, lead-two, lead-three, lead-four, lead-none}
 use Rattle.utf8.proofs.sequence.Statement.{statement}
 use Rattle.utf8.proofs.sequence.Tie as tie
 

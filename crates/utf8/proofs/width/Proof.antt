@@ -1,5 +1,6 @@
 use native.Mathlib.Omega.{arith}
-use Rattle.utf8.specs.Laws.{encode-one, encode-two, encode-three, encode-four, encode-none, scalar-between, scalar-above, scalar-apart, bounds}
+use Rattle.common.specs.Tests.{bounds}
+use Rattle.utf8.specs.Laws.{encode-one, encode-two, encode-three, encode-four, encode-none, scalar-between, scalar-above, scalar-apart}
 use lib.ListN.{length}
 use mathlib.Core.Path.{sym, ap}
 use Rattle.utf8.proofs.width.Statement.{statement}

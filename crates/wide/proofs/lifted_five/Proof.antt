@@ -1,4 +1,6 @@
 -- `wide::lifted_five` meets its contract: 5 ^ k, by as many digits as it has places free. Assumes nothing.
+use Prim.Native.Nat.{ℕ, _^_}
+use mathlib.Core.Path.{_∙_, ap}
 use native.Mathlib.Omega.{arith}
 use borrow.Author.Needs.{needs}
 use Rattle.wide.specs.Tens.{places-le, lifted-is}
@@ -20,7 +22,7 @@ cast-t5 c =
 returns : tie.Need-returns
 returns c =
     let s = c .before .before in
-    lifted-is (s .args .k) (c .power-of-five .result) (c .before .places .result) (s .pre) (c .power-of-five .ensures) (c .before .places .ensures)
+    lifted-is (s .args .k) (c .power-of-five .result) (c .before .places .result) (s .pre) (c .power-of-five .ensures ∙ ap (λ (n : ℕ). 5 ^ n) (omega arith)) (c .before .places .ensures)
 
 pub lifted-five-spec : {M : Type 1} → statement M
 lifted-five-spec =

@@ -5,7 +5,7 @@ use denote.Ref.{now}
 use borrow.Author.Tests.{le-leb, lt-leb}
 use lib.ListN.{length}
 use lib.Seq.{length-take-le}
-use Rattle.record.specs.Turns.{bounds}
+use Rattle.common.specs.Tests.{bounds}
 use Rattle.words.proofs.shown.Statement.{statement}
 use Rattle.words.proofs.shown.Tie as tie
 

@@ -1,6 +1,6 @@
 -- `pages::tables::arabic` meets its contract: each line of the table is the page's. Assumes nothing.
 use Rattle.pages.specs.Tables.{pages, arabic, entry}
-use Rattle.pages.specs.Packed.{found, avoided}
+use Rattle.pages.specs.Packed.{found, no-line}
 use Rattle.pages.proofs.tables.arabic.Statement.{statement}
 use Rattle.pages.proofs.tables.arabic.Tie as tie
 
@@ -33,4 +33,4 @@ arabic-spec =
     (λ c. found 5 21 (c .match .keys22))
     (λ c. found 5 22 (c .match .keys23))
     (λ c. found 5 23 (c .match .keys24))
-    (λ c. avoided 5 (c .match .rest)))
+    (λ c. no-line 5 (c .match .rest)))

@@ -1,6 +1,6 @@
 -- `pages::tables::cyrillic` meets its contract: each line of the table is the page's. Assumes nothing.
 use Rattle.pages.specs.Tables.{pages, cyrillic, entry}
-use Rattle.pages.specs.Packed.{found, avoided}
+use Rattle.pages.specs.Packed.{found, no-line}
 use Rattle.pages.proofs.tables.cyrillic.Statement.{statement}
 use Rattle.pages.proofs.tables.cyrillic.Tie as tie
 
@@ -33,4 +33,4 @@ cyrillic-spec =
     (λ c. found 4 21 (c .match .keys22))
     (λ c. found 4 22 (c .match .keys23))
     (λ c. found 4 23 (c .match .keys24))
-    (λ c. avoided 4 (c .match .rest)))
+    (λ c. no-line 4 (c .match .rest)))

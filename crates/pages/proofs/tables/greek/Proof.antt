@@ -1,6 +1,6 @@
 -- `pages::tables::greek` meets its contract: each line of the table is the page's. Assumes nothing.
 use Rattle.pages.specs.Tables.{pages, greek, entry}
-use Rattle.pages.specs.Packed.{found, avoided}
+use Rattle.pages.specs.Packed.{found, no-line}
 use Rattle.pages.proofs.tables.greek.Statement.{statement}
 use Rattle.pages.proofs.tables.greek.Tie as tie
 
@@ -33,4 +33,4 @@ greek-spec =
     (λ c. found 6 21 (c .match .keys22))
     (λ c. found 6 22 (c .match .keys23))
     (λ c. found 6 23 (c .match .keys24))
-    (λ c. avoided 6 (c .match .rest)))
+    (λ c. no-line 6 (c .match .rest)))

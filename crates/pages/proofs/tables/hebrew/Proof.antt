@@ -1,6 +1,6 @@
 -- `pages::tables::hebrew` meets its contract: each line of the table is the page's. Assumes nothing.
 use Rattle.pages.specs.Tables.{pages, hebrew, entry}
-use Rattle.pages.specs.Packed.{found, avoided}
+use Rattle.pages.specs.Packed.{found, no-line}
 use Rattle.pages.proofs.tables.hebrew.Statement.{statement}
 use Rattle.pages.proofs.tables.hebrew.Tie as tie
 
@@ -33,4 +33,4 @@ hebrew-spec =
     (λ c. found 7 21 (c .match .keys22))
     (λ c. found 7 22 (c .match .keys23))
     (λ c. found 7 23 (c .match .keys24))
-    (λ c. avoided 7 (c .match .rest)))
+    (λ c. no-line 7 (c .match .rest)))

@@ -1,6 +1,6 @@
 -- `pages::tables::latin_2` meets its contract: each line of the table is the page's. Assumes nothing.
 use Rattle.pages.specs.Tables.{pages, latin2, entry}
-use Rattle.pages.specs.Packed.{found, avoided}
+use Rattle.pages.specs.Packed.{found, no-line}
 use Rattle.pages.proofs.tables.latin_2.Statement.{statement}
 use Rattle.pages.proofs.tables.latin_2.Tie as tie
 
@@ -33,4 +33,4 @@ latin-2-spec =
     (λ c. found 1 21 (c .match .keys22))
     (λ c. found 1 22 (c .match .keys23))
     (λ c. found 1 23 (c .match .keys24))
-    (λ c. avoided 1 (c .match .rest)))
+    (λ c. no-line 1 (c .match .rest)))

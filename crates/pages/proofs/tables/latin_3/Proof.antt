@@ -1,6 +1,6 @@
 -- `pages::tables::latin_3` meets its contract: each line of the table is the page's. Assumes nothing.
 use Rattle.pages.specs.Tables.{pages, latin3, entry}
-use Rattle.pages.specs.Packed.{found, avoided}
+use Rattle.pages.specs.Packed.{found, no-line}
 use Rattle.pages.proofs.tables.latin_3.Statement.{statement}
 use Rattle.pages.proofs.tables.latin_3.Tie as tie
 
@@ -33,4 +33,4 @@ latin-3-spec =
     (λ c. found 2 21 (c .match .keys22))
     (λ c. found 2 22 (c .match .keys23))
     (λ c. found 2 23 (c .match .keys24))
-    (λ c. avoided 2 (c .match .rest)))
+    (λ c. no-line 2 (c .match .rest)))

@@ -1,6 +1,6 @@
 -- `pages::tables::latin_4` meets its contract: each line of the table is the page's. Assumes nothing.
 use Rattle.pages.specs.Tables.{pages, latin4, entry}
-use Rattle.pages.specs.Packed.{found, avoided}
+use Rattle.pages.specs.Packed.{found, no-line}
 use Rattle.pages.proofs.tables.latin_4.Statement.{statement}
 use Rattle.pages.proofs.tables.latin_4.Tie as tie
 
@@ -33,4 +33,4 @@ latin-4-spec =
     (λ c. found 3 21 (c .match .keys22))
     (λ c. found 3 22 (c .match .keys23))
     (λ c. found 3 23 (c .match .keys24))
-    (λ c. avoided 3 (c .match .rest)))
+    (λ c. no-line 3 (c .match .rest)))

@@ -1,6 +1,6 @@
 -- `pages::tables::latin_5` meets its contract: each line of the table is the page's. Assumes nothing.
 use Rattle.pages.specs.Tables.{pages, latin5, entry}
-use Rattle.pages.specs.Packed.{found, avoided}
+use Rattle.pages.specs.Packed.{found, no-line}
 use Rattle.pages.proofs.tables.latin_5.Statement.{statement}
 use Rattle.pages.proofs.tables.latin_5.Tie as tie
 
@@ -33,4 +33,4 @@ latin-5-spec =
     (λ c. found 8 21 (c .match .keys22))
     (λ c. found 8 22 (c .match .keys23))
     (λ c. found 8 23 (c .match .keys24))
-    (λ c. avoided 8 (c .match .rest)))
+    (λ c. no-line 8 (c .match .rest)))
