@@ -1,5 +1,5 @@
 -- A host's lookup answers like the map, and what it is left with is settled. Assumes nothing.
-use Prim.Native.Nat.{ℕ, _*_, _/_, _-_, _≤_, _<_, min}
+use Prim.Native.Nat.{ℕ, _-_, _≤_, _<_, min}
 use mathlib.Core.Path.{_≡_, refl, sym, _∙_, ap, subst}
 use mathlib.Core.Bool.{Bool, true, false, _&&_}
 use mathlib.Core.List.{List}

@@ -4,7 +4,7 @@
 -- Definitions to be believed: no law, and nothing computed that no theorem ties (docs/BELIEVE.md).
 use Prim.Native.Nat.{ℕ}
 use mathlib.Core.List.{List, [], _∷_}
-use Rattle.error.specs.Refusal.{Refusal, Told, good, bad}
+use Rattle.error.specs.Refusal.{Told, good, bad}
 use Rattle.scan.specs.Table.{Counts}
 
 -- what goes with a scan's answer: header rows, data rows and the largest id; or the refusal's reason and place

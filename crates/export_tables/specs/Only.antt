@@ -1,12 +1,11 @@
 -- "that two allowed answers coincide is proved": what opening a file owes a host is one answer, and one of each lent thing after it; and
 -- the numbers that it leaves say again what goes with the tables.
 -- Assumes nothing.
-use Prim.Native.Nat.{ℕ, _≤_, _<_}
-use mathlib.Core.Path.{_≡_, refl, sym, _∙_, ap}
+use Prim.Native.Nat.{ℕ}
+use mathlib.Core.Path.{_≡_, sym, _∙_, ap}
 use mathlib.Core.List.{List}
 use native.Mathlib.Omega.{arith}
-use lib.ListN.{length}
-use Rattle.store.specs.Store.{toldOpened, Opens}
+use Rattle.store.specs.Store.{toldOpened}
 use Rattle.store.specs.Only.{opened-only}
 use Rattle.store.specs.declared.Opened.{Opened}
 use Rattle.plain.specs.Answers.{readCode, readFault}

@@ -7,7 +7,7 @@ use mathlib.Core.List.{List}
 use mathlib.Core.Option.{Option, none, some}
 use lib.ListN.{length}
 use denote.Ref.{now}
-use Rattle.error.specs.Refusal.{Refusal, Told, good, bad}
+use Rattle.error.specs.Refusal.{Told, good, bad}
 use Rattle.statement.specs.Rows.{Row, mapped}
 use Rattle.table.specs.Table.{tableRows}
 use Rattle.index.specs.Search.{searched}

@@ -1,31 +1,22 @@
 -- What the code's parts promise, put together to the answers of Scalars.antt. Assumes nothing.
 use Prim.Native.Nat.{ℕ, zero, suc, _+_, _-_, _≤_, _<_}
-use mathlib.Core.Path.{_≡_, refl, sym, _∙_, ap, subst}
-use mathlib.Core.Bool.{Bool, true, false, not}
-use mathlib.Core.List.{List, [], _∷_, _++_, append-nil}
+use mathlib.Core.Path.{_≡_, refl, sym, _∙_, ap}
+use mathlib.Core.Bool.{true, false}
+use mathlib.Core.List.{List, [], _∷_, _++_}
 use native.Mathlib.Omega.{arith}
 use native.Mathlib.Decide.{decLe}
-use lib.Dec.{eqb}
 use lib.ListN.{length, take, drop, getD, length-drop, take-append-drop}
 use lib.Seq.{take-suc, take-nil, take-take, drop-drop, getD-drop}
 use borrow.Author.Tests.{eq-eqb, ne-eqb}
-use Rattle.common.specs.Pick.{pick}
 use Rattle.common.specs.Lists.{split, drop-end}
 use Rattle.common.specs.Compare.{clash}
-use Rattle.error.specs.Refusal.{Refusal, Told, good, bad}
 use Rattle.lex.specs.Byte.{white}
 use Rattle.record.specs.Text.{past, trail}
 use Rattle.record.specs.Word.{trimmed}
 use Rattle.record.specs.Form.{All, NotLast}
 use Rattle.record.specs.FormRight.{trail-only}
 use Rattle.record.specs.FormRight.Parts.{last-none}
-use Rattle.reals.specs.Answer.{Answer, read, refused}
-use Rattle.params.specs.Reader.{paramOf}
-use Rattle.params.specs.Answer.{Read, reading, Span, span, mapped}
-use Rattle.scalars.specs.declared.Inner.{Inner}
-use Rattle.scalars.specs.declared.Inner.the-variants.{Inside, Bare}
-use Rattle.scalars.specs.Scalars.{InnerAt, isUnset, asGiven, optionOf, unopening, Kernel, inside, bare, enclosed, kernelFrom, kernelOf, kernelReal, measured, measureBy}
-use Rattle.scalars.specs.Answer.{Given, unset, answered, scalarAt, nextOf}
+use Rattle.scalars.specs.Scalars.{unopening, inside, bare, enclosed, kernelFrom, kernelOf}
 
 -- the first m bytes of a list from place s on
 drop-take : (s m : ℕ) (l : List ℕ) → drop s (take m l) ≡ take (m - s) (drop s l)
@@ -110,42 +101,3 @@ module _ (t : List ℕ) (o : ℕ) (found : drop o t ≡ past unopening t) (withi
   kernel-part h k =
       let i : length (drop (o + 1) t) - 1 ≡ length t - 1 - (o + 1) = omega (arith, length-drop (o + 1) t) in
       sym (follows (omega arith)) ∙ rw (last-at h, eq-eqb _ 41 k, i) refl
-
--- a measure that is a real, or 13, by all its bytes answers as that
-pub measure-real : (g : List ℕ → Answer ℕ) (t : List ℕ) (a : Answer ℕ) → a ≡ g t → (a ≡ refused 12 → ⊥) → a ≡ measureBy g t
-measure-real g t (read b) e h = ap (λ (x : Answer ℕ). measured g x (kernelOf t)) e
-measure-real g t (refused n) e h =
-    let k : n ≡ 12 → ⊥ = λ p. h (ap refused p) in
-    let q : measured g (refused n) (kernelOf t) ≡ refused n = rw (ne-eqb n 12 k) refl in
-    sym q ∙ ap (λ (x : Answer ℕ). measured g x (kernelOf t)) e
-
--- a measure that is 12 by all its bytes answers as the part in parentheses does
-pub measure-kernel : (g : List ℕ → Answer ℕ) (t : List ℕ) (k : Kernel) → refused 12 ≡ g t → kernelOf t ≡ k → kernelReal g k ≡ measureBy g t
-measure-kernel g t k e q = ap (kernelReal g) (sym q) ∙ ap (λ (x : Answer ℕ). measured g x (kernelOf t)) e
-
-module _ {A : Type 0} (f : List ℕ → Answer A) (s : List ℕ) (p e : ℕ) where
-  -- where no parameter can be cut, what refuses it refuses the scalar
-  pub next-refused : (q : Refusal) (p′ e′ : ℕ) → reading (bad q) p′ e′ ≡ paramOf s p e → reading (bad q) p′ e′ ≡ nextOf f s p e
-  unfolding nextOf
-  next-refused q p′ e′ h = ap (mapped (scalarAt f s)) h
-
-  -- where a parameter is cut, the scalar is what its bytes read as
-  pub next-read : (a z p′ e′ : ℕ) (v : Answer A) → reading (good (span a z)) p′ e′ ≡ paramOf s p e → v ≡ f (take (z - a) (drop a s)) → reading (answered a v) p′ e′ ≡ nextOf f s p e
-  unfolding nextOf
-  next-read a z p′ e′ v h k = ap (λ (x : Answer A). reading (answered a x) p′ e′) k ∙ ap (mapped (scalarAt f s)) h
-
--- a parameter that may be unset and is `$` is unset
-pub option-unset : {A : Type 0} (f : List ℕ → Answer A) (t : List ℕ) → isUnset t ≡ true → read unset ≡ optionOf f t
-option-unset f t h = rw h refl
-
--- a parameter that may be unset and is not `$` is read as its value
-pub option-given : {A : Type 0} (f : List ℕ → Answer A) (t : List ℕ) (v : Answer A) → isUnset t ≡ false → v ≡ f t → asGiven v ≡ optionOf f t
-option-given f t v h k = rw (h, k) refl
-
--- where the code finds a part in parentheses, it is that part, and lies in the text
-pub inner-part : (t : List ℕ) (r : Inner) (a z : ℕ) → InnerAt t r → r ≡ Inside a z → (kernelOf t ≡ inside (take (z - a) (drop a t))) × (a ≤ z) × (z ≤ length t)
-inner-part t r a z h e = subst (InnerAt t) e h
-
--- where the code finds no part in parentheses, there is none
-pub inner-bare : (t : List ℕ) (r : Inner) → InnerAt t r → r ≡ Bare → kernelOf t ≡ bare
-inner-bare t r h e = subst (InnerAt t) e h

@@ -12,9 +12,9 @@ ghost use Rattle.record.specs.Text.{past, trail};
 ghost use Rattle.record.specs.Word.{trimmed};
 ghost use Rattle.reals.specs.Scalar.{referenceOf, wholeOf, realOf};
 ghost use Rattle.reals.specs.Which.{realBy};
-ghost use Rattle.reals.specs.Answer.{toldReference, toldWhole, toldReal};
+ghost use Rattle.reals.specs.Answer.{toldReal};
 ghost use Rattle.params.specs.Answer.{reading};
-ghost use Rattle.scalars.specs.Scalars.{unopening, InnerAt, measureBy, measureOf, isUnset, optionOf, toldTruth, truthOf, asGiven};
+ghost use Rattle.scalars.specs.Scalars.{unopening, InnerAt, measureBy, measureOf, isUnset, optionOf, toldTruth, truthOf};
 ghost use Rattle.scalars.specs.Answer.{answered, nextOf, toldNextRef, toldNextOptRef, toldNextWhole, toldNextReal, toldNextOptReal, toldNextTruth};
 use error::Fault;
 use params::Cut;
@@ -135,6 +135,14 @@ fn inner_of(t: &[u8]) -> Inner
     Inner::Inside(o + 1 + w.start, o + 1 + w.stop)
 }
 
+// The bytes from start up to stop.
+fn between<'a>(s: &'a [u8], start: usize, stop: usize) -> &'a [u8]
+    requires { ⌜ (start ≤ stop) × (stop ≤ length (now s)) ⌝ }
+    ensures { λ r. ⌜ now r ≡ take (stop - start) (drop start (now (s .entry))) ⌝ }
+{
+    &s[start..stop]
+}
+
 // Reads a measure, its real of the class or any.
 fn parse_measure(which: Reals, t: &[u8]) -> Real
     ensures { λ r. ⌜ toldReal r ≡ measureBy (realBy which) (now (t .entry)) ⌝ }
@@ -143,7 +151,7 @@ fn parse_measure(which: Reals, t: &[u8]) -> Real
         Real::Value(x) => Real::Value(x),
         Real::Outside => Real::Outside,
         Real::NotReal => match inner_of(t) {
-            Inner::Inside(a, z) => reals::read_real(which, &t[a..z]),
+            Inner::Inside(a, z) => reals::read_real(which, between(t, a, z)),
             Inner::Bare => Real::NotReal,
         },
     }
@@ -170,31 +178,16 @@ fn parse_truth(t: &[u8]) -> Truth
     Truth::NotTruth
 }
 
-fn ref_read(v: Reference, start: usize, to: State) -> NextRef
-    ensures { λ r. ⌜ toldNextRef r ≡ reading (answered start (toldReference v)) (to .place) (to .end) ⌝ }
-{
-    match v {
-        Reference::Value(n) => NextRef::Value(n, to),
-        Reference::NotReference => NextRef::Refused(Fault::WrongType(start), to),
-    }
-}
-
 // Reads a reference.
 pub fn next_ref(file: &[u8], at: State) -> NextRef
     ensures { λ r. ⌜ toldNextRef r ≡ nextOf referenceOf (now (file .entry)) (at .place) (at .end) ⌝ }
 {
     match params::param_span(file, at) {
         Cut::Refused(f, to) => NextRef::Refused(f, to),
-        Cut::Span(start, stop, to) => ref_read(reals::parse_ref(&file[start..stop]), start, to),
-    }
-}
-
-fn opt_ref_read(v: Reference, start: usize, to: State) -> NextOptRef
-    ensures { λ r. ⌜ toldNextOptRef r ≡ reading (answered start (asGiven (toldReference v))) (to .place) (to .end) ⌝ }
-{
-    match v {
-        Reference::Value(n) => NextOptRef::Value(n, to),
-        Reference::NotReference => NextOptRef::Refused(Fault::WrongType(start), to),
+        Cut::Span(start, stop, to) => match reals::parse_ref(between(file, start, stop)) {
+            Reference::Value(n) => NextRef::Value(n, to),
+            Reference::NotReference => NextRef::Refused(Fault::WrongType(start), to),
+        },
     }
 }
 
@@ -205,21 +198,15 @@ pub fn next_opt_ref(file: &[u8], at: State) -> NextOptRef
     match params::param_span(file, at) {
         Cut::Refused(f, to) => NextOptRef::Refused(f, to),
         Cut::Span(start, stop, to) => {
-            let t = &file[start..stop];
+            let t = between(file, start, stop);
             if is_unset(t) {
                 return NextOptRef::Unset(to);
             }
-            opt_ref_read(reals::parse_ref(t), start, to)
+            match reals::parse_ref(t) {
+                Reference::Value(n) => NextOptRef::Value(n, to),
+                Reference::NotReference => NextOptRef::Refused(Fault::WrongType(start), to),
+            }
         }
-    }
-}
-
-fn whole_read(v: Whole, start: usize, to: State) -> NextWhole
-    ensures { λ r. ⌜ toldNextWhole r ≡ reading (answered start (toldWhole v)) (to .place) (to .end) ⌝ }
-{
-    match v {
-        Whole::Value(n) => NextWhole::Value(n, to),
-        Whole::NotWhole => NextWhole::Refused(Fault::WrongType(start), to),
     }
 }
 
@@ -229,7 +216,10 @@ pub fn next_i64(file: &[u8], at: State) -> NextWhole
 {
     match params::param_span(file, at) {
         Cut::Refused(f, to) => NextWhole::Refused(f, to),
-        Cut::Span(start, stop, to) => whole_read(reals::parse_int(&file[start..stop]), start, to),
+        Cut::Span(start, stop, to) => match reals::parse_int(between(file, start, stop)) {
+            Whole::Value(n) => NextWhole::Value(n, to),
+            Whole::NotWhole => NextWhole::Refused(Fault::WrongType(start), to),
+        },
     }
 }
 
@@ -250,7 +240,7 @@ pub fn next_real(which: Reals, file: &[u8], at: State) -> NextReal
     match params::param_span(file, at) {
         Cut::Refused(f, to) => NextReal::Refused(f, to),
         Cut::Span(start, stop, to) => real_read(
-            reals::read_real(which, &file[start..stop]),
+            reals::read_real(which, between(file, start, stop)),
             start,
             to,
         ),
@@ -264,16 +254,6 @@ pub fn next_f64(file: &[u8], at: State) -> NextReal
     next_real(Reals::Class, file, at)
 }
 
-fn opt_real_read(v: Real, start: usize, to: State) -> NextOptReal
-    ensures { λ r. ⌜ toldNextOptReal r ≡ reading (answered start (asGiven (toldReal v))) (to .place) (to .end) ⌝ }
-{
-    match v {
-        Real::Value(x) => NextOptReal::Value(x, to),
-        Real::Outside => NextOptReal::Refused(Fault::OutsideClass(start), to),
-        Real::NotReal => NextOptReal::Refused(Fault::WrongType(start), to),
-    }
-}
-
 // Reads a real, of the class or any, or `$`.
 pub fn next_opt_real(which: Reals, file: &[u8], at: State) -> NextOptReal
     ensures { λ r. ⌜ toldNextOptReal r ≡ nextOf (optionOf (realBy which)) (now (file .entry)) (at .place) (at .end) ⌝ }
@@ -281,11 +261,15 @@ pub fn next_opt_real(which: Reals, file: &[u8], at: State) -> NextOptReal
     match params::param_span(file, at) {
         Cut::Refused(f, to) => NextOptReal::Refused(f, to),
         Cut::Span(start, stop, to) => {
-            let t = &file[start..stop];
+            let t = between(file, start, stop);
             if is_unset(t) {
                 return NextOptReal::Unset(to);
             }
-            opt_real_read(reals::read_real(which, t), start, to)
+            match reals::read_real(which, t) {
+                Real::Value(x) => NextOptReal::Value(x, to),
+                Real::Outside => NextOptReal::Refused(Fault::OutsideClass(start), to),
+                Real::NotReal => NextOptReal::Refused(Fault::WrongType(start), to),
+            }
         }
     }
 }
@@ -304,7 +288,7 @@ pub fn next_measure(which: Reals, file: &[u8], at: State) -> NextReal
     match params::param_span(file, at) {
         Cut::Refused(f, to) => NextReal::Refused(f, to),
         Cut::Span(start, stop, to) => real_read(
-            parse_measure(which, &file[start..stop]),
+            parse_measure(which, between(file, start, stop)),
             start,
             to,
         ),
@@ -318,23 +302,17 @@ pub fn next_measure_f64(file: &[u8], at: State) -> NextReal
     next_measure(Reals::Class, file, at)
 }
 
-fn truth_read(v: Truth, start: usize, to: State) -> NextTruth
-    ensures { λ r. ⌜ toldNextTruth r ≡ reading (answered start (toldTruth v)) (to .place) (to .end) ⌝ }
-{
-    match v {
-        Truth::True => NextTruth::True(to),
-        Truth::False => NextTruth::False(to),
-        Truth::Unknown => NextTruth::Unknown(to),
-        Truth::NotTruth => NextTruth::Refused(Fault::WrongType(start), to),
-    }
-}
-
 // Reads a boolean.
 pub fn next_bool(file: &[u8], at: State) -> NextTruth
     ensures { λ r. ⌜ toldNextTruth r ≡ nextOf truthOf (now (file .entry)) (at .place) (at .end) ⌝ }
 {
     match params::param_span(file, at) {
         Cut::Refused(f, to) => NextTruth::Refused(f, to),
-        Cut::Span(start, stop, to) => truth_read(parse_truth(&file[start..stop]), start, to),
+        Cut::Span(start, stop, to) => match parse_truth(between(file, start, stop)) {
+            Truth::True => NextTruth::True(to),
+            Truth::False => NextTruth::False(to),
+            Truth::Unknown => NextTruth::Unknown(to),
+            Truth::NotTruth => NextTruth::Refused(Fault::WrongType(start), to),
+        },
     }
 }

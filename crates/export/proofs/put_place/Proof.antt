@@ -9,13 +9,11 @@ use Rattle.export.proofs.put_place.Tie as tie
 returns : tie.Need-returns
 returns c = rw (lt-leb _ _ (c .if1 .taken)) refl
 
-slice-write-out-2 : tie.Need-slice-write-out-2
-slice-write-out-2 c = simp length-set (omega arith)
-
 returns-2 : tie.Need-returns-2
 returns-2 c = rw (le-leb _ _ (c .if1 .left)) refl
 
 pub put-place-spec : {M : Type 1} → statement M
 put-place-spec =
-    tie.close (tie.spec
-    returns (λ c. search needs) slice-write-out-2 (λ c. search needs) returns-2)
+    tie.close
+    (tie.spec
+    returns (λ c. search needs) (λ c. simp length-set (omega arith)) (λ c. search needs) returns-2)

@@ -12,21 +12,6 @@ use Rattle.plain.proofs.put_ids.Tie as tie
 returns : tie.Need-returns
 returns c = rw (lt-leb _ _ (c .if1 .taken)) refl
 
-slice-write-out-2 : tie.Need-slice-write-out-2
-slice-write-out-2 c = simp length-set (omega arith)
-
-slice-write-out-3 : tie.Need-slice-write-out-3
-slice-write-out-3 c = simp length-set (omega arith)
-
-slice-write-out-4 : tie.Need-slice-write-out-4
-slice-write-out-4 c = simp length-set (omega arith)
-
-slice-write-out-5 : tie.Need-slice-write-out-5
-slice-write-out-5 c = simp length-set (omega arith)
-
-slice-write-out-6 : tie.Need-slice-write-out-6
-slice-write-out-6 c = simp length-set (omega arith)
-
 returns-2 : tie.Need-returns-2
 returns-2 c =
     let p = c .before .before .before .before .before in
@@ -37,5 +22,6 @@ pub put-ids-spec : {M : Type 1} → statement M
 put-ids-spec =
     tie.close
     (tie.spec
-    returns (λ c. search needs) (λ c. search needs) slice-write-out-2 (λ c. search needs) slice-write-out-3 (λ c κs. search needs)
-    slice-write-out-4 (λ c κs. search needs) slice-write-out-5 (λ c. search needs) slice-write-out-6 (λ c. search needs) returns-2)
+    returns (λ c. search needs) (λ c. search needs) (λ c. simp length-set (omega arith)) (λ c. search needs)
+    (λ c. simp length-set (omega arith)) (λ c κs. search needs) (λ c. simp length-set (omega arith)) (λ c κs. search needs)
+    (λ c. simp length-set (omega arith)) (λ c. search needs) (λ c. simp length-set (omega arith)) (λ c. search needs) returns-2)

@@ -1,36 +1,35 @@
 use borrow.Author.Needs.{needs}
-use Rattle.scalars.specs.Laws.{next-refused, next-read}
-use Rattle.params.specs.ReaderLaws.{cut-places}
-use Rattle.params.specs.Answer.{toldCut}
-use Rattle.scalars.specs.Scalars.{truthOf}
-use mathlib.Core.Path.{_∙_, sym, ap}
-use native.Mathlib.Omega.{arith}
-use denote.Ref.{now}
+use Rattle.scalars.specs.Answer.{nextOf}
+use mathlib.Core.Path.{refl}
 use Rattle.scalars.proofs.next_bool.Statement.{statement}
 use Rattle.scalars.proofs.next_bool.Tie as tie
 
-sub-parse-truth : tie.Need-sub-parse-truth
-sub-parse-truth c = let w = cut-places _ _ _ _ _ (c .before .before .before .param-span .ensures .1) (c .before .start .given .1) in w .0
-
-part-parse-truth-start : tie.Need-part-parse-truth-start
-part-parse-truth-start c = let (u, v) = cut-places _ _ _ _ _ (c .before .before .before .param-span .ensures .1) (c .before .start .given .1) in omega (arith, u, v)
-
-part-parse-truth-end : tie.Need-part-parse-truth-end
-part-parse-truth-end c = let (u, v) = cut-places _ _ _ _ _ (c .before .before .before .param-span .ensures .1) (c .before .start .given .1) in omega (arith, u, v)
+between-requires : tie.Need-between-requires
+between-requires c κs = rw (c .before .start .given .1) at (c .before .before .before .param-span .ensures .1)
 
 returns : tie.Need-returns
-returns c = let a = c .before .before .before .before .before .args in
-    next-refused truthOf (now (a .file)) (a .at .place) (a .at .end) _ _ _ (ap toldCut (sym (c .before .f .given .1)) ∙ c .before .before .before .param-span .ensures .0)
+unfolding nextOf
+returns c = rw (← c .before .before .before .param-span .ensures .0, c .before .f .given .1) refl
 
 returns-2 : tie.Need-returns-2
-returns-2 c = let g = c .before .before .before .before in
-    let a = g .before .before .before .before .args in
-    c .truth-read .ensures
-    ∙ next-read truthOf (now (a .file)) (a .at .place) (a .at .end) _ _ _ _ _ (ap toldCut (sym (g .start .given .1)) ∙ g .before .before .param-span .ensures .0) (c .before .parse-truth .ensures)
+unfolding nextOf
+returns-2 c = rw (← c .before .before .before .before .before .before .before .param-span .ensures .0, c .before .before .before .before .before .start .given .1, ← c .before .before .before .between .ensures, ← c .before .before .parse-truth .ensures, c .enum-told .given .1) refl
+
+returns-3 : tie.Need-returns-3
+unfolding nextOf
+returns-3 c = rw (← c .before .before .before .before .before .before .before .param-span .ensures .0, c .before .before .before .before .before .start .given .1, ← c .before .before .before .between .ensures, ← c .before .before .parse-truth .ensures, c .enum-told2 .given .1) refl
+
+returns-4 : tie.Need-returns-4
+unfolding nextOf
+returns-4 c = rw (← c .before .before .before .before .before .before .before .param-span .ensures .0, c .before .before .before .before .before .start .given .1, ← c .before .before .before .between .ensures, ← c .before .before .parse-truth .ensures, c .enum-told3 .given .1) refl
+
+returns-5 : tie.Need-returns-5
+unfolding nextOf
+returns-5 c = rw (← c .before .before .before .before .before .before .before .param-span .ensures .0, c .before .before .before .before .before .start .given .1, ← c .before .before .before .between .ensures, ← c .before .before .parse-truth .ensures, c .enum-told4 .given .1) refl
 
 pub next-bool-spec : {M : Type 1} → statement M
 next-bool-spec =
     tie.close
     (tie.spec
-    (λ c κs. search needs) (λ c. search needs) (λ c. search needs) sub-parse-truth part-parse-truth-start part-parse-truth-end
-    (λ c κs. search needs) (λ c κs. search needs) returns returns-2)
+    (λ c κs. search needs) (λ c. search needs) (λ c. search needs) between-requires (λ c κs. search needs) (λ c. search needs)
+    (λ c. search needs) (λ c. search needs) (λ c. search needs) returns returns-2 returns-3 returns-4 returns-5)

@@ -1,45 +1,35 @@
 use borrow.Author.Needs.{needs}
-use Rattle.scalars.specs.Laws.{next-refused, next-read, option-unset, option-given}
-use Rattle.scalars.specs.Scalars.{optionOf}
-use Rattle.params.specs.ReaderLaws.{cut-places}
-use Rattle.params.specs.Answer.{toldCut}
-use Rattle.reals.specs.Which.{realBy}
-use mathlib.Core.Path.{_∙_, sym, ap}
-use native.Mathlib.Omega.{arith}
-use denote.Ref.{now}
+use Rattle.scalars.specs.Answer.{nextOf}
+use mathlib.Core.Path.{refl}
 use Rattle.scalars.proofs.next_opt_real.Statement.{statement}
 use Rattle.scalars.proofs.next_opt_real.Tie as tie
 
-sub-t : tie.Need-sub-t
-sub-t c = let w = cut-places _ _ _ _ _ (c .before .before .before .param-span .ensures .1) (c .before .start .given .1) in w .0
-
-part-t-start : tie.Need-part-t-start
-part-t-start c = let (u, v) = cut-places _ _ _ _ _ (c .before .before .before .param-span .ensures .1) (c .before .start .given .1) in omega (arith, u, v)
-
-part-t-end : tie.Need-part-t-end
-part-t-end c = let (u, v) = cut-places _ _ _ _ _ (c .before .before .before .param-span .ensures .1) (c .before .start .given .1) in omega (arith, u, v)
+between-requires : tie.Need-between-requires
+between-requires c κs = rw (c .before .start .given .1) at (c .before .before .before .param-span .ensures .1)
 
 returns : tie.Need-returns
-returns c = let g = c .before .before .before .before in
-    let a = g .before .before .before .before .args in
-    next-read (optionOf (realBy (a .which))) (now (a .file)) (a .at .place) (a .at .end) _ _ _ _ _ (ap toldCut (sym (g .start .given .1)) ∙ g .before .before .param-span .ensures .0)
-    (option-unset (realBy (a .which)) _ (sym (c .before .is-unset .ensures) ∙ c .if1 .taken))
+unfolding nextOf
+returns c = rw (← c .before .before .before .before .before .before .param-span .ensures .0, c .before .before .before .before .start .given .1, ← c .before .before .between .ensures, ← c .before .is-unset .ensures, c .if1 .taken) refl
 
 returns-2 : tie.Need-returns-2
-returns-2 c = let a = c .before .before .before .before .before .args in
-    next-refused (optionOf (realBy (a .which))) (now (a .file)) (a .at .place) (a .at .end) _ _ _ (ap toldCut (sym (c .before .f .given .1)) ∙ c .before .before .before .param-span .ensures .0)
+unfolding nextOf
+returns-2 c = rw (← c .before .before .before .param-span .ensures .0, c .before .f .given .1) refl
 
 returns-3 : tie.Need-returns-3
-returns-3 c = let i = c .before .before in
-    let g = i .before .before .before .before in
-    let a = g .before .before .before .before .args in
-    c .opt-real-read .ensures
-    ∙ next-read (optionOf (realBy (a .which))) (now (a .file)) (a .at .place) (a .at .end) _ _ _ _ _ (ap toldCut (sym (g .start .given .1)) ∙ g .before .before .param-span .ensures .0)
-    (option-given (realBy (a .which)) _ _ (sym (i .before .is-unset .ensures) ∙ i .if1 .left) (c .before .read-real .ensures))
+unfolding nextOf
+returns-3 c = rw (← c .before .before .before .before .before .before .before .before .before .before .param-span .ensures .0, c .before .before .before .before .before .before .before .before .start .given .1, ← c .before .before .before .before .before .before .between .ensures, ← c .before .before .before .before .before .is-unset .ensures, c .before .before .before .before .if1 .left, ← c .before .before .before .read-real .ensures, c .before .x .given .1) refl
+
+returns-4 : tie.Need-returns-4
+unfolding nextOf
+returns-4 c = rw (← c .before .before .before .before .before .before .before .before .before .param-span .ensures .0, c .before .before .before .before .before .before .before .start .given .1, ← c .before .before .before .before .before .between .ensures, ← c .before .before .before .before .is-unset .ensures, c .before .before .before .if1 .left, ← c .before .before .read-real .ensures, c .enum-told .given .1) refl
+
+returns-5 : tie.Need-returns-5
+unfolding nextOf
+returns-5 c = rw (← c .before .before .before .before .before .before .before .before .before .param-span .ensures .0, c .before .before .before .before .before .before .before .start .given .1, ← c .before .before .before .before .before .between .ensures, ← c .before .before .before .before .is-unset .ensures, c .before .before .before .if1 .left, ← c .before .before .read-real .ensures, c .enum-told2 .given .1) refl
 
 pub next-opt-real-spec : {M : Type 1} → statement M
 next-opt-real-spec =
     tie.close
     (tie.spec
-    (λ c κs. search needs) (λ c. search needs) (λ c. search needs) sub-t part-t-start part-t-end (λ c κs. search needs) returns
-    (λ c κs. search needs) (λ c κs. search needs) returns-2 returns-3)
+    (λ c κs. search needs) (λ c. search needs) (λ c. search needs) between-requires (λ c κs. search needs) returns (λ c κs. search needs)
+    (λ c. search needs) (λ c. search needs) (λ c. search needs) returns-2 returns-3 returns-4 returns-5)
