@@ -8,11 +8,10 @@ ghost use mathlib.Core.Bool.{true, false, _&&_};
 ghost use Prim.Native.Nat.{_+_, _-_, _*_, _/_, _%_, _≤_, _<_, min, max};
 ghost use lib.Dec.{leb, eqb};
 ghost use lib.ListN.{length, getD};
-ghost use Rattle.index.specs.Order.{tableRoom};
 ghost use Rattle.index.specs.Search.{firstRow, searched, wide};
 ghost use Rattle.index.specs.Answer.{toldFound};
 ghost use Rattle.finds.specs.Finds.{rowNumber, Told};
-ghost use Rattle.finds.specs.Looks.{roomOf, rowOf, Hint, DenseRow, EvenRow, startNear, NearRow, Stepped, Guided};
+ghost use Rattle.finds.specs.Looks.{roomOf, rowOf, Hint, DenseRow, EvenRow, startNear, StartsTold, NearRow, Stepped, Guided};
 ghost use Rattle.finds.specs.Sweep.{Swept};
 use index::Found;
 use index::Ids;
@@ -232,7 +231,7 @@ fn starts(slots: &[u64], n: usize, b: Ids, ids: &[u32], found: &mut [u32], from:
 
 // The rows of ids by the guide, whose ranges begin where they are told to; the rows are not read.
 fn nears(slots: &[u64], n: usize, b: Ids, ids: &[u32], found: &mut [u32], from: usize, to: usize)
-    requires { ⌜ (from ≤ to) × (to ≤ length (now ids)) × (to ≤ length (now found)) × (1 < n) × (n ≤ length (now slots)) × (n ≤ 1073741824) × ((i : _) → from ≤ i → i < to → getD (now found) i 0 ≡ startNear (now slots) n b (getD (now ids) i 0)) ⌝ }
+    requires { ⌜ (from ≤ to) × (to ≤ length (now ids)) × (to ≤ length (now found)) × (1 < n) × (n ≤ length (now slots)) × (n ≤ 1073741824) × StartsTold (now slots) n b (now ids) (now found) from to ⌝ }
     ensures { λ _. ⌜ Swept (NearRow (now (slots .entry)) n b) (now (ids .entry)) (now (found .entry)) from to (now (found .exit)) ⌝ }
 {
     let mut i = from;

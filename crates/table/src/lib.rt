@@ -4,12 +4,12 @@
 // row put: no other crate knows a width or an offset. Every function answers for any memory and any row: a row that the memory has not
 // reads as zeros, and putting it changes nothing.
 ghost use mathlib.Core.Path.{_≡_};
-ghost use mathlib.Core.Bool.{true};
 ghost use Prim.Native.Nat.{_+_, _*_, _≤_, _<_, min};
 ghost use lib.Dec.{ltb};
 ghost use mathlib.Core.List.{[]};
 ghost use lib.ListN.{length};
 ghost use lib.Seq.{sets};
+ghost use Rattle.common.specs.Tests.{JustWhere};
 ghost use Rattle.statement.specs.Rows.{rowOf, headerRowOf};
 ghost use Rattle.table.specs.Table.{rowsFit, headersFit, AllIds, AllBelow, AllHave, idOf, rowNumbers, headerNumbers, six, four, rowPut, headerPut, narrowRow, narrowHeader, narrow};
 ghost use Rattle.table.specs.Laws.{spansAt};
@@ -245,7 +245,7 @@ fn misses(rows: &[u32], ids: &[u32], found: &[u32], from: usize, to: usize) -> u
 
 // Whether the rows that are told for a part of the ids are all some of the first n and have their ids.
 pub fn all_have(rows: &[u32], n: usize, ids: &[u32], found: &[u32], from: usize, to: usize) -> bool
-    ensures { λ r. ⌜ (r ≡ true → AllHave (now (rows .entry)) n (now (ids .entry)) (now (found .entry)) from to) × (AllHave (now (rows .entry)) n (now (ids .entry)) (now (found .entry)) from to → r ≡ true) ⌝ }
+    ensures { λ r. ⌜ JustWhere r (AllHave (now (rows .entry)) n (now (ids .entry)) (now (found .entry)) from to) ⌝ }
 {
     if to < from {
         return false;
