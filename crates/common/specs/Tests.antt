@@ -8,10 +8,6 @@ use lib.Dec.{leb}
 use borrow.Author.Tests.{leb-true, le-leb}
 use Rattle.common.specs.Compare.{clash}
 
--- a test is passed just where A holds
-abbrev pub JustWhere : Bool → Type 0 → Type 0
-JustWhere t A = (t ≡ true → A) × (A → t ≡ true)
-
 -- two tests that both hold
 pub both : (a b : Bool) → a && b ≡ true → (a ≡ true) × (b ≡ true)
 both true b e = (refl, e)

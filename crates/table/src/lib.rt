@@ -9,7 +9,7 @@ ghost use lib.Dec.{ltb};
 ghost use mathlib.Core.List.{[]};
 ghost use lib.ListN.{length};
 ghost use lib.Seq.{sets};
-ghost use Rattle.common.specs.Tests.{JustWhere};
+ghost use Rattle.common.specs.Pick.{JustWhere};
 ghost use Rattle.statement.specs.Rows.{rowOf, headerRowOf};
 ghost use Rattle.table.specs.Table.{rowsFit, headersFit, AllIds, AllBelow, AllHave, idOf, rowNumbers, headerNumbers, six, four, rowPut, headerPut, narrowRow, narrowHeader, narrow};
 ghost use Rattle.table.specs.Laws.{spansAt};
