@@ -186,7 +186,8 @@ impl<'a> Args<'a> {
 
     // A grid's numbers and, apart, its row ends.
     pub fn next_ref_grid(&mut self, out: &mut [u32], ends: &mut [usize]) -> NextGrid
-        ensures { λ r. ⌜ FillsBoth (nextGrid referenceOf) (gridRoom referenceOf) (endsRoom referenceOf) (now (self .entry)) (now (self .exit)) (now (out .entry)) (now (out .exit)) (now (ends .entry)) (now (ends .exit)) (toldNextGrid r) ⌝ }
+        ensures { λ r. ⌜ FillsBoth (nextGrid referenceOf) (gridRoom referenceOf) (endsRoom referenceOf)
+            (now (self .entry)) (now (self .exit)) (now (out .entry)) (now (out .exit)) (now (ends .entry)) (now (ends .exit)) (toldNextGrid r) ⌝ }
     {
         let answer = grids::next_ref_grid(self.file, self.at, out, ends);
         self.at = after::grid(answer);
@@ -194,7 +195,8 @@ impl<'a> Args<'a> {
     }
 
     pub fn next_f64_grid(&mut self, out: &mut [f64], ends: &mut [usize]) -> NextGrid
-        ensures { λ r. ⌜ FillsBoth (nextGrid realOf) realGridRoom (endsRoom realOf) (now (self .entry)) (now (self .exit)) (now (out .entry)) (now (out .exit)) (now (ends .entry)) (now (ends .exit)) (toldNextGrid r) ⌝ }
+        ensures { λ r. ⌜ FillsBoth (nextGrid realOf) realGridRoom (endsRoom realOf)
+            (now (self .entry)) (now (self .exit)) (now (out .entry)) (now (out .exit)) (now (ends .entry)) (now (ends .exit)) (toldNextGrid r) ⌝ }
     {
         let answer = grids::next_f64_grid(self.file, self.at, out, ends);
         self.at = after::grid(answer);

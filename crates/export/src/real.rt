@@ -7,7 +7,7 @@ use reals::Real;
 use reals::Reals;
 
 // Reads a real, of the class or any: what both functions below answer and leave.
-fn put_real(which: Reals, text: &[u8], out: &mut u64) -> u8
+fn put_bits(which: Reals, text: &[u8], out: &mut u64) -> u8
     ensures { λ n. ⌜ n ≡ realCode (realBy which (now (text .entry))) ⌝ }
     ensures { λ _. ⌜ now (out .exit) ≡ realBits (realBy which (now (text .entry))) (now (out .entry)) ⌝ }
 {
@@ -27,7 +27,7 @@ pub extern "C" fn hooflift_real(text: &[u8], out: &mut u64) -> u8
     ensures { λ n. ⌜ n ≡ realCode (realOf (now (text .entry))) ⌝ }
     ensures { λ _. ⌜ now (out .exit) ≡ realBits (realOf (now (text .entry))) (now (out .entry)) ⌝ }
 {
-    put_real(Reals::Class, text, out)
+    put_bits(Reals::Class, text, out)
 }
 
 // Reads any real, whatever its digits and its exponent: as `hooflift_real`, and never 13.
@@ -36,5 +36,5 @@ pub extern "C" fn hooflift_any_real(text: &[u8], out: &mut u64) -> u8
     ensures { λ n. ⌜ n ≡ realCode (anyRealOf (now (text .entry))) ⌝ }
     ensures { λ _. ⌜ now (out .exit) ≡ realBits (anyRealOf (now (text .entry))) (now (out .entry)) ⌝ }
 {
-    put_real(Reals::Any, text, out)
+    put_bits(Reals::Any, text, out)
 }

@@ -1,10 +1,24 @@
 // Rows kept beside a file.
 ghost use mathlib.Core.Path.{_≡_};
 ghost use lib.ListN.{length};
-ghost use Rattle.kept.specs.Kept.{keepTable, keptAfter, readOf, readAfter};
+ghost use Rattle.kept.specs.Kept.{keepTable, toldKept, keptAfter, readOf, readAfter};
 ghost use Rattle.plain.specs.Answers.{Puts, readCode};
 ghost use Rattle.table.specs.Table.{rowsFit, rowNumbers};
 use kept::Kept;
+
+// Tells how many rows there are: 0, or the refusal's number.
+fn put_kept(r: Kept, count: &mut usize) -> u8
+    ensures { λ n. ⌜ n ≡ readCode (toldKept r) ⌝ }
+    ensures { λ _. ⌜ Puts (λ n. n) (toldKept r) count ⌝ }
+{
+    match r {
+        Kept::Rows(n) => {
+            *count = n;
+            0
+        }
+        Kept::Refused(f) => error::number(f),
+    }
+}
 
 // Writes the first `count` rows of a file of `len` bytes, 24 bytes a row: 0, with how many in `kept`; or 9 or 16.
 #[no_mangle]
@@ -19,13 +33,7 @@ pub extern "C" fn hooflift_keep_rows(
     ensures { λ _. ⌜ now (out .exit) ≡ keptAfter (rowNumbers (now (rows .entry))) (keepTable len (now (rows .entry)) count (length (now (out .entry)))) (now (out .entry)) ⌝ }
     ensures { λ _. ⌜ Puts (λ n. n) (keepTable len (now (rows .entry)) count (length (now (out .entry)))) kept ⌝ }
 {
-    match kept::keep_rows(len, rows, count, out) {
-        Kept::Rows(n) => {
-            *kept = n;
-            0
-        }
-        Kept::Refused(f) => error::number(f),
-    }
+    put_kept(kept::keep_rows(len, rows, count, out), kept)
 }
 
 // Reads rows that were kept beside a file of `len` bytes: 0, with how many in `count`; or 9 or 16.
@@ -40,11 +48,5 @@ pub extern "C" fn hooflift_read_rows(
     ensures { λ _. ⌜ now (rows .exit) ≡ readAfter (now (bytes .entry)) (readOf len (now (bytes .entry)) (rowsFit (length (now (rows .entry))))) (now (rows .entry)) ⌝ }
     ensures { λ _. ⌜ Puts (λ n. n) (readOf len (now (bytes .entry)) (rowsFit (length (now (rows .entry))))) count ⌝ }
 {
-    match kept::read_rows(len, bytes, rows) {
-        Kept::Rows(n) => {
-            *count = n;
-            0
-        }
-        Kept::Refused(f) => error::number(f),
-    }
+    put_kept(kept::read_rows(len, bytes, rows), count)
 }

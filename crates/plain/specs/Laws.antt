@@ -1,32 +1,20 @@
 -- Numbers that come back say what they were made from.
+-- Numbers that come back say what they were made from.
 -- Assumes nothing.
 use Prim.Native.Nat.{ℕ, zero, suc, _/_, _%_, _≤_, _<_}
-use mathlib.Core.Path.{_≡_, refl, sym, _∙_, ap}
+use mathlib.Core.Path.{_≡_, refl, _∙_, ap}
 use mathlib.Core.Bool.{Bool, true, false}
 use mathlib.Core.List.{List, [], _∷_}
 use native.Mathlib.Omega.{arith}
 use lib.Dec.{eqb, leb}
-use lib.ListN.{length, getD, drop}
+use lib.ListN.{length, drop}
 use lib.Seq.{sets, sets-eq}
 use borrow.Author.Tests.{le-leb}
 use Rattle.common.specs.Pick.{pick}
 use Rattle.index.specs.declared.Ids.{Ids}
-use Rattle.kinds.specs.Rules.{rankOf}
-use Rattle.kinds.specs.declared.Kind.{Kind}
 use Rattle.kinds.specs.declared.Kind.the-variants.{Other}
 use Rattle.lookup.specs.declared.Tables.{Tables}
-use Rattle.plain.specs.Numbers.{flagsOf, narrowAt, idsNumbers, idsBy, tablesIn, tablesBy, kindBy}
-
--- what stands beside the slots, made from a host's numbers part by part
-pub ids-are : {count first last flags even shift : ℕ} (xs : List ℕ) → count ≡ getD xs 0 0 → first ≡ narrowAt xs 1 → last ≡ narrowAt xs 2 → flags ≡ getD xs 3 0
-    → even ≡ getD xs 4 0 → shift ≡ narrowAt xs 5
-    → _≡_ {A = Ids} (record { count = count; first = first; last = last; direct = eqb (flags % 2) 1; distinct = eqb (flags / 2 % 2) 1; even = eqb (even % 2) 1; shift = shift }) (idsBy xs)
-ids-are xs c f l g e s = λ i. record { count = c i; first = f i; last = l i; direct = eqb (g i % 2) 1; distinct = eqb (g i / 2 % 2) 1; even = eqb (e i % 2) 1; shift = s i }
-
--- what goes with the tables, made from a host's numbers part by part
-pub tables-are : {headers records max : ℕ} {ids : Ids} (xs : List ℕ) → headers ≡ getD xs 8 0 → records ≡ getD xs 9 0 → max ≡ narrowAt xs 10 → ids ≡ idsBy xs
-    → _≡_ {A = Tables} (record { headers = headers; records = records; max = max; ids = ids }) (tablesBy xs)
-tables-are xs h r m b = λ i. record { headers = h i; records = r i; max = m i; ids = b i }
+use Rattle.plain.specs.Numbers.{flagsOf, idsNumbers, idsBy, tablesIn, tablesBy, kindBy}
 
 -- a number that is none of the eleven kinds' is `Other`
 pub kind-other : (n : ℕ) → (n ≡ 0 → ⊥) → (n ≡ 1 → ⊥) → (n ≡ 2 → ⊥) → (n ≡ 3 → ⊥) → (n ≡ 4 → ⊥) → (n ≡ 5 → ⊥) → (n ≡ 6 → ⊥) → (n ≡ 7 → ⊥) → (n ≡ 8 → ⊥) → (n ≡ 9 → ⊥) → (n ≡ 10 → ⊥) → Other ≡ kindBy n
@@ -58,7 +46,6 @@ flags-back true false = (refl, refl)
 flags-back false true = (refl, refl)
 flags-back false false = (refl, refl)
 
--- a truth comes back from its number
 bit-back : (s : Bool) → eqb (pick s 1 0 % 2) 1 ≡ s
 bit-back true = refl
 bit-back false = refl
