@@ -1,10 +1,11 @@
 -- What the code's parts promise of a grid's text. Assumes nothing.
 use Prim.Native.Nat.{ℕ, _≤_}
 use mathlib.Core.Path.{_≡_}
-use mathlib.Core.List.{List}
-use lib.ListN.{length}
+use mathlib.Core.List.{List, _++_}
+use lib.ListN.{length, take, drop}
 use Rattle.error.specs.Refusal.{refusal, Told, good, bad}
 use Rattle.params.specs.Answer.{onward}
+use Rattle.lists.specs.Items.{filled}
 use Rattle.lists.specs.Answer.{Fate, fine, valuesOf}
 use Rattle.grids.specs.Grid.{flat, Size, size, sizeOf}
 use Rattle.grids.specs.declared.ReadGrid as ReadGridCode
@@ -30,3 +31,7 @@ reachedIn ReadGridCode.the-variants.Short = 0
 -- a grid reads, and there is room for its numbers and its row ends
 abbrev pub GridReady : {A : Type 0} → Fate (List (List A)) → ℕ → ℕ → Type 0
 GridReady a room ends = (a ≡ fine (valuesOf a)) × (length (flat (valuesOf a)) ≤ room) × (length (valuesOf a) ≤ ends)
+
+-- a lent list with these numbers in it, from a place on
+abbrev pub put : {A : Type 0} → ℕ → List A → List A → List A
+put n vs out = take n out ++ filled vs (drop n out)

@@ -10,12 +10,14 @@ use borrow.Author.Tests.{leb-true}
 use Rattle.error.specs.Refusal.{Refusal, Told, good, bad}
 use Rattle.params.specs.Reader.{paramOf}
 use Rattle.params.specs.Answer.{reading, span}
-use Rattle.lists.specs.Items.{itemsFrom, listBy, moved, filled, ShapeAt}
+use Rattle.lists.specs.Items.{itemsIn, listBy, moved, filled, ShapeAt}
 use Rattle.lists.specs.Answer.{Fate, fine, faulty, fated, mute, kindOf, roomed, nextBy, written, valuesOf}
 use Rattle.lists.specs.Laws.{tally, list-blank, shape-blank}
 use Rattle.lists.specs.ReadLaws.{fills-none, fills-full, list-map, count-mute, roomed-told, roomed-good, onward-bad, moved-told, moved-written, next-uncut, next-cut}
 use Rattle.lists.specs.Places.{Inward, placeOf, list-inward, roomed-inward, told-inward, told-place, kind-inward, items-inward}
+use Rattle.lists.specs.Lent.{valueOf}
 use Rattle.lists.specs.declared.Kind.{Kind}
+use Rattle.lists.specs.declared.Kind.the-variants.{References, Integers, Floats, Any}
 use Rattle.lists.specs.declared.Shape.{Shape}
 use Rattle.lists.specs.declared.Shape.the-variants.{NotList, Blank, Full}
 use Rattle.grids.specs.declared.ReadGrid.{ReadGrid}
@@ -48,11 +50,17 @@ size-told {A} g t =
         ap fine (tally-rows (size 0 0) rs ∙ ap (λ (k : ℕ). size k (0 + length (flat rs))) e ∙ ap (λ (n : ℕ). size (length rs) n) f)
     go (faulty n o) = refl
 
--- what is told of a grid whose items are told by kind
-pub grid-told : {A : Type 0} (g : List ℕ → Fate A) (t : List ℕ) (room ends : ℕ) (a : Told Size)
-    → a ≡ roomed (sizeFits room ends) 0 (fated (tally addRow (size 0 0)) (listBy (λ u. fated length (listBy (λ v. mute (g v)) u)) t))
-    → a ≡ sizeTold (roomed (gridFits room ends) 0 (listBy (listBy g) t))
-grid-told g t room ends a e = e ∙ ap (roomed (sizeFits room ends) 0) (size-told g t) ∙ roomed-told sizeOf (sizeFits room ends) 0 (listBy (listBy g) t)
+-- the same by the kind of its items
+size-valued : (kind : Kind) (t : List ℕ) → fated (tally addRow (size 0 0)) (listBy (rowOf kind) t) ≡ fated sizeOf (listBy (listBy (valueOf kind)) t)
+size-valued References t = size-told (valueOf References) t
+size-valued Integers t = size-told (valueOf Integers) t
+size-valued (Floats which) t = size-told (valueOf (Floats which)) t
+size-valued Any t = size-told (valueOf Any) t
+
+-- what is told of a grid from its size
+pub grid-told : (kind : Kind) (t : List ℕ) (room ends : ℕ) (a : Told Size) → a ≡ roomed (sizeFits room ends) 0 (fated (tally addRow (size 0 0)) (listBy (rowOf kind) t))
+    → a ≡ sizeTold (roomed (gridFits room ends) 0 (listBy (listBy (valueOf kind)) t))
+grid-told kind t room ends a e = e ∙ ap (roomed (sizeFits room ends) 0) (size-valued kind t) ∙ roomed-told sizeOf (sizeFits room ends) 0 (listBy (listBy (valueOf kind)) t)
 
 -- both of two tests
 and-true : (a b : Bool) → a && b ≡ true → (a ≡ true) × (b ≡ true)
@@ -92,8 +100,8 @@ module _ {A : Type 0} (g : List ℕ → Fate A) (t : List ℕ) (r : Shape) (h : 
 
   -- its rows
   pub grid-full : (room ends : ℕ) → GridReady (listBy (listBy g) t) room ends → r ≡ Full
-      → (valuesOf (listBy (listBy g) t) ≡ valuesOf (itemsFrom (suc (length (take (length t - 1 - 1) (drop 1 t)))) (listBy g) 0 (take (length t - 1 - 1) (drop 1 t))))
-      × GridReady (itemsFrom (suc (length (take (length t - 1 - 1) (drop 1 t)))) (listBy g) 0 (take (length t - 1 - 1) (drop 1 t))) room ends
+      → (valuesOf (listBy (listBy g) t) ≡ valuesOf (itemsIn (listBy g) (take (length t - 1 - 1) (drop 1 t))))
+      × GridReady (itemsIn (listBy g) (take (length t - 1 - 1) (drop 1 t))) room ends
   grid-full room ends (k, l, m) e = let (x, y) = fills-full (listBy g) t r h ends (k, m) e in (x, (y .0, rw x at l, y .1))
 
 -- The answer's three parts: its size, the numbers and the row ends.
@@ -122,9 +130,9 @@ pub row-inward : (kind : Kind) → Inward (rowOf kind)
 row-inward kind = told-inward length (listBy (kindOf kind)) (list-inward (kindOf kind) (kind-inward kind))
 
 -- so has a grid's inside
-pub tally-inward : (kind : Kind) (b : List ℕ) (n o : ℕ) → faulty n o ≡ fated (tally addRow (size 0 0)) (itemsFrom (suc (length b)) (rowOf kind) 0 b) → o ≤ length b
+pub tally-inward : (kind : Kind) (b : List ℕ) (n o : ℕ) → faulty n o ≡ fated (tally addRow (size 0 0)) (itemsIn (rowOf kind) b) → o ≤ length b
 tally-inward kind b n o e =
-    told-place (tally addRow (size 0 0)) (itemsFrom (suc (length b)) (rowOf kind) 0 b) n o (length b) e
+    told-place (tally addRow (size 0 0)) (itemsIn (rowOf kind) b) n o (length b) e
     (omega (arith, items-inward (rowOf kind) (row-inward kind) (suc (length b)) 0 b))
 
 -- how far into the text the code's answer is

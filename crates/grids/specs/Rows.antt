@@ -2,20 +2,17 @@
 -- Assumes nothing.
 use Prim.Native.Nat.{ℕ, suc, _+_, _-_, _≤_, _<_, min}
 use mathlib.Core.Path.{_≡_, refl, sym, _∙_, ap}
-use mathlib.Core.List.{List, [], _∷_, _++_, map, append-assoc, append-nil, map-append}
+use mathlib.Core.List.{List, [], _∷_, _++_, append-assoc, append-nil}
 use native.Mathlib.Omega.{arith}
 use lib.ListN.{length, take, drop, set, length-drop, length-append, take-append-drop}
-use lib.Seq.{length-take-le, drop-length, drop-drop, take-add, take-length, take-at, drop-at, take-append-seam}
-use borrow.Author.Tests.{le-leb}
-use Rattle.error.specs.Refusal.{Told, good}
+use lib.Seq.{length-take-le, drop-drop, take-add, take-length, take-at, drop-at, take-append-seam}
 use Rattle.lists.specs.declared.Item.{Item}
-use Rattle.lists.specs.Items.{itemsFrom, listBy, ItemAt, filled}
-use Rattle.lists.specs.Answer.{Fate, fine, faulty, roomed, fitsIn, countOf, written, valuesOf}
+use Rattle.lists.specs.Items.{itemsFrom, itemsIn, listBy, ItemAt, Ready, filled}
+use Rattle.lists.specs.Answer.{Fate, fine, faulty, valuesOf}
 use Rattle.lists.specs.Laws.{item-in}
-use Rattle.lists.specs.Keep.{map-take, map-drop}
 use Rattle.lists.specs.Fill.{fill-bad, fill-last, fill-more, fill-head, fill-store, fill-ends}
 use Rattle.grids.specs.Grid.{flat, endsFrom}
-use Rattle.grids.specs.Code.{GridReady}
+use Rattle.grids.specs.Code.{GridReady, put}
 
 module _ {A : Type 0} where
   -- rows and more rows
@@ -71,19 +68,14 @@ module _ {A : Type 0} (xs out : List A) (n : ℕ) (v l : List A) (here : drop n 
   pub part-fits : n + length v ≤ length xs
   part-fits = omega (arith, ap length here, length-append v l, length-drop n xs)
 
-  -- they are written behind those that were: w is the lent list before, z long from the n-th place on, and u that part of it after
-  pub part-store : (w u : List A) (z : ℕ) → w ≡ take n xs ++ drop n out → z ≡ length w - n → u ≡ v ++ drop (length v) (take z (drop n w))
-      → take n w ++ (u ++ drop z (drop n w)) ≡ take (n + length v) xs ++ drop (n + length v) out
-  part-store w u z e r k =
+  -- it is written behind those that were, in the lent list w
+  pub part-store : (w : List A) → w ≡ take n xs ++ drop n out → put n v w ≡ take (n + length v) xs ++ drop (n + length v) out
+  part-store w e =
       let p : length (take n xs) ≡ n = length-take-le n xs within in
       let d : drop n w ≡ drop n out = ap (drop n) e ∙ drop-at (take n xs) (drop n out) n p in
       let t : take n w ≡ take n xs = ap (take n) e ∙ take-at (take n xs) (drop n out) n p in
-      let c : z ≡ length (drop n w) = r ∙ sym (length-drop n w) in
-      let y : drop z (drop n w) ≡ [] = ap (λ (k : ℕ). drop k (drop n w)) c ∙ drop-length (drop n w) in
-      let f : take z (drop n w) ≡ drop n w = ap (λ (k : ℕ). take k (drop n w)) c ∙ take-length (drop n w) in
-      let q : u ≡ v ++ drop (n + length v) out = k ∙ ap (λ (x : List A). v ++ drop (length v) x) (f ∙ d) ∙ ap (λ (x : List A). v ++ x) (drop-drop (length v) n out) in
       let h : take (n + length v) xs ≡ take n xs ++ v = take-add n (length v) xs ∙ ap (λ (x : List A). take n xs ++ take (length v) x) here ∙ ap (λ (x : List A). take n xs ++ x) (take-append-seam v l) in
-      ap (λ (x : List A). x ++ (u ++ drop z (drop n w))) t ∙ ap (λ (x : List A). take n xs ++ (u ++ x)) y ∙ ap (λ (x : List A). take n xs ++ x) (append-nil u ∙ q)
+      ap (λ (x : List A). x ++ filled v (drop n w)) t ∙ ap (λ (x : List A). take n xs ++ filled v x) d ∙ ap (λ (x : List A). take n xs ++ (v ++ x)) (drop-drop (length v) n out)
       ∙ sym (append-assoc (take n xs) v (drop (n + length v) out)) ∙ ap (λ (x : List A). x ++ drop (n + length v) out) (sym h)
 
   -- these were the last
@@ -92,32 +84,20 @@ module _ {A : Type 0} (xs out : List A) (n : ℕ) (v l : List A) (here : drop n 
       let m : n + length v ≡ length xs = omega (arith, ap length here, length-append v l, ap length e, length-drop n xs) in
       ap (λ (k : ℕ). take k xs ++ drop k out) m ∙ ap (λ (x : List A). x ++ drop (length xs) out) (take-length xs)
 
--- Lists told by h, as a lent list of reals is by their bits: its parts, and a part of it written.
-module _ {A B : Type 0} (h : A → B) where
-  -- the part of z from the n-th on
-  pub map-part : (n z : ℕ) (l : List A) → map h (take z (drop n l)) ≡ take z (drop n (map h l))
-  map-part n z l = map-take h z (drop n l) ∙ ap (take z) (map-drop h n l)
-
-  -- u in its place
-  pub map-put : (n z : ℕ) (l u : List A) → map h (take n l ++ (u ++ drop z (drop n l))) ≡ take n (map h l) ++ (map h u ++ drop z (drop n (map h l)))
-  map-put n z l u =
-      map-append h (take n l) (u ++ drop z (drop n l)) ∙ ap (λ (x : List B). x ++ map h (u ++ drop z (drop n l))) (map-take h n l)
-      ∙ ap (λ (x : List B). take n (map h l) ++ x) (map-append h u (drop z (drop n l)) ∙ ap (λ (x : List B). map h u ++ x) (map-drop h z (drop n l) ∙ ap (drop z) (map-drop h n l)))
-
 -- so many rows of a grid are written, n numbers in all: the lent lists were out₀ and ends₀ and are out and ends, and i is the place of
 -- the next row
 pub record Gridding {A : Type 0} (g : List ℕ → Fate A) (b : List ℕ) (out₀ out : List A) (ends₀ ends : List ℕ) (i m n : ℕ) : Type 0 where
   pub few : m ≤ i
   pub within : i ≤ length b
-  pub room : length (flat (valuesOf (itemsFrom (suc (length b)) (listBy g) 0 b))) ≤ length out₀
-  pub rows : length (valuesOf (itemsFrom (suc (length b)) (listBy g) 0 b)) ≤ length ends₀
-  pub rest : itemsFrom (suc (length b) - m) (listBy g) i (drop i b) ≡ fine (drop m (valuesOf (itemsFrom (suc (length b)) (listBy g) 0 b)))
-  pub soFar : n ≡ length (flat (take m (valuesOf (itemsFrom (suc (length b)) (listBy g) 0 b))))
-  pub done : out ≡ take n (flat (valuesOf (itemsFrom (suc (length b)) (listBy g) 0 b))) ++ drop n out₀
-  pub marked : ends ≡ take m (endsFrom 0 (valuesOf (itemsFrom (suc (length b)) (listBy g) 0 b))) ++ drop m ends₀
+  pub room : length (flat (valuesOf (itemsIn (listBy g) b))) ≤ length out₀
+  pub rows : length (valuesOf (itemsIn (listBy g) b)) ≤ length ends₀
+  pub rest : itemsFrom (suc (length b) - m) (listBy g) i (drop i b) ≡ fine (drop m (valuesOf (itemsIn (listBy g) b)))
+  pub soFar : n ≡ length (flat (take m (valuesOf (itemsIn (listBy g) b))))
+  pub done : out ≡ take n (flat (valuesOf (itemsIn (listBy g) b))) ++ drop n out₀
+  pub marked : ends ≡ take m (endsFrom 0 (valuesOf (itemsIn (listBy g) b))) ++ drop m ends₀
 
 -- none is written yet
-pub gridding-starts : {A : Type 0} (g : List ℕ → Fate A) (b : List ℕ) (out : List A) (ends : List ℕ) → GridReady (itemsFrom (suc (length b)) (listBy g) 0 b) (length out) (length ends) → Gridding g b out out ends ends 0 0 0
+pub gridding-starts : {A : Type 0} (g : List ℕ → Fate A) (b : List ℕ) (out : List A) (ends : List ℕ) → GridReady (itemsIn (listBy g) b) (length out) (length ends) → Gridding g b out out ends ends 0 0 0
 gridding-starts g b out ends (h, k, l) = let m : suc (length b) - 0 ≡ suc (length b) = omega arith in record {
   few = omega arith;
   within = omega arith;
@@ -136,7 +116,7 @@ flat-few {A} m g = omega (arith, ap (λ (x : List (List A)). length (flat x)) (t
 module _ {A : Type 0} (g : List ℕ → Fate A) (b : List ℕ) (out₀ out : List A) (ends₀ ends : List ℕ) (i m n : ℕ) (f : Gridding g b out₀ out ends₀ ends i m n) where
   -- the rows of the grid
   abbrev rowsOf : List (List A)
-  rowsOf = valuesOf (itemsFrom (suc (length b)) (listBy g) 0 b)
+  rowsOf = valuesOf (itemsIn (listBy g) b)
 
   -- so many numbers are there
   inside : n ≤ length (flat rowsOf)
@@ -156,77 +136,77 @@ module _ {A : Type 0} (g : List ℕ → Fate A) (b : List ℕ) (out₀ out : Lis
     few-enough : m ≤ length b
     few-enough = omega (arith, f .few, f .within)
 
-    -- the next row reads, and its numbers fit
-    row-ready : (v : List A) × (fine v ≡ listBy g (take (r .stop - r .start) (drop (r .start) b))) × (n + length v ≤ length out)
+    -- the numbers of the next row
+    abbrev rowOf : List A
+    rowOf = valuesOf (listBy g (take (r .stop - r .start) (drop (r .start) b)))
+
+    -- it reads, and its numbers fit
+    pub row-ready : Ready (listBy g (take (r .stop - r .start) (drop (r .start) b))) (length out - n)
     row-ready = go (listBy g (take (r .stop - r .start) (drop (r .start) b))) refl
       where
-        go : (x : Fate (List A)) → x ≡ listBy g (take (r .stop - r .start) (drop (r .start) b)) → (v : List A) × (fine v ≡ listBy g (take (r .stop - r .start) (drop (r .start) b))) × (n + length v ≤ length out)
+        go : (x : Fate (List A)) → x ≡ listBy g (take (r .stop - r .start) (drop (r .start) b)) → Ready x (length out - n)
         go (fine v) e =
             let (l, k) = fill-head (listBy g) b i m r here few-enough rowsOf (f .rest) v e in
             let p = part-fits (flat rowsOf) out₀ n v (flat l) (numbers-left rowsOf m v l k n (f .soFar)) inside (f .room) in
-            (v, e, omega (arith, p, f .room, gridding-room .1))
+            (refl, omega (arith, p, f .room, gridding-room .1))
         go (faulty k o) e = absurd (fill-bad (listBy g) b i m r here few-enough rowsOf (f .rest) k o e)
 
-    -- what the code reads of it: all its numbers
-    pub row-read : (room : ℕ) (a : Told ℕ) (s u : List A) → room ≡ length out - n → a ≡ countOf (roomed (fitsIn room) 0 (listBy g (take (r .stop - r .start) (drop (r .start) b))))
-        → u ≡ written (roomed (fitsIn room) 0 (listBy g (take (r .stop - r .start) (drop (r .start) b)))) s
-        → (v : List A) × (fine v ≡ listBy g (take (r .stop - r .start) (drop (r .start) b))) × (a ≡ good (length v)) × (u ≡ v ++ drop (length v) s)
-    row-read room a s u z h k =
-        let (v, e, p) = row-ready in
-        let q : roomed (fitsIn room) 0 (fine v) ≡ good v = rw (le-leb (length v) room (omega arith)) refl in
-        (v, e, rw (← e, q) at h, rw (← e, q) at k)
+    -- The code writes the k of them.
+    module _ (new : List A) (k : ℕ) (many : k ≡ length rowOf) (laid : new ≡ put n rowOf out) where
+      -- what the row reads as
+      reads : fine rowOf ≡ listBy g (take (r .stop - r .start) (drop (r .start) b))
+      reads = sym (row-ready .0)
 
-    module _ (v : List A) (e : fine v ≡ listBy g (take (r .stop - r .start) (drop (r .start) b))) (u : List A) (z : ℕ) (part : z ≡ length out - n) (k : u ≡ v ++ drop (length v) (take z (drop n out))) where
-      module _ (l : List (List A)) (left : drop m rowsOf ≡ v ∷ l) where
+      module _ (l : List (List A)) (left : drop m rowsOf ≡ rowOf ∷ l) where
         -- the numbers are written
-        stored : take n out ++ (u ++ drop z (drop n out)) ≡ take (n + length v) (flat rowsOf) ++ drop (n + length v) out₀
-        stored = part-store (flat rowsOf) out₀ n v (flat l) (numbers-left rowsOf m v l left n (f .soFar)) inside (f .room) out u z (f .done) part k
+        stored : new ≡ take (n + k) (flat rowsOf) ++ drop (n + k) out₀
+        stored =
+            laid ∙ part-store (flat rowsOf) out₀ n rowOf (flat l) (numbers-left rowsOf m rowOf l left n (f .soFar)) inside (f .room) out (f .done)
+            ∙ ap (λ (d : ℕ). take (n + d) (flat rowsOf) ++ drop (n + d) out₀) (sym many)
+
+        -- what is left of the ends
+        ends-here : drop m (endsFrom 0 rowsOf) ≡ (n + k) ∷ endsFrom (n + length rowOf) l
+        ends-here = ends-left rowsOf m rowOf l left n (f .soFar) ∙ ap (λ (d : ℕ). (n + d) ∷ endsFrom (n + length rowOf) l) (sym many)
 
         -- the row's end too
-        ended : set ends m (n + length v) ≡ take (m + 1) (endsFrom 0 rowsOf) ++ drop (m + 1) ends₀
+        ended : set ends m (n + k) ≡ take (m + 1) (endsFrom 0 rowsOf) ++ drop (m + 1) ends₀
         ended =
-            ap (λ (x : List ℕ). set x m (n + length v)) (f .marked)
-            ∙ fill-store (endsFrom 0 rowsOf) ends₀ m (n + length v) (endsFrom (n + length v) l) (ends-left rowsOf m v l left n (f .soFar)) (omega (arith, ends-length 0 rowsOf, f .rows))
+            ap (λ (x : List ℕ). set x m (n + k)) (f .marked)
+            ∙ fill-store (endsFrom 0 rowsOf) ends₀ m (n + k) (endsFrom (n + length rowOf) l) ends-here (omega (arith, ends-length 0 rowsOf, f .rows))
 
       -- an end is written to a place of the list
-      pub row-place : (n + length v ≤ length out₀) × ((m < length ends₀) × (length ends ≡ length ends₀))
+      pub row-place : (n + k ≤ length out₀) × ((m < length ends₀) × (length ends ≡ length ends₀))
       row-place =
-          let (l, left) = fill-head (listBy g) b i m r here few-enough rowsOf (f .rest) v e in
-          let p = part-fits (flat rowsOf) out₀ n v (flat l) (numbers-left rowsOf m v l left n (f .soFar)) inside (f .room) in
+          let (l, left) = fill-head (listBy g) b i m r here few-enough rowsOf (f .rest) rowOf reads in
+          let p = part-fits (flat rowsOf) out₀ n rowOf (flat l) (numbers-left rowsOf m rowOf l left n (f .soFar)) inside (f .room) in
           let q : m < length rowsOf = omega (arith, ap length left, length-drop m rowsOf) in
           let d = length-take-le m (endsFrom 0 rowsOf) (omega (arith, q, ends-length 0 rowsOf)) in (
-            omega (arith, p, f .room),
+            omega (arith, p, many, f .room),
             (omega (arith, q, f .rows), ap length (f .marked) ∙ length-append (take m (endsFrom 0 rowsOf)) (drop m ends₀) ∙ omega (arith, d, q, f .rows, length-drop m ends₀)),
           )
 
-      -- the lent numbers are as many as they were
-      pub row-length : length (take n out ++ (u ++ drop z (drop n out))) ≡ length out₀
-      row-length =
-          let (l, left) = fill-head (listBy g) b i m r here few-enough rowsOf (f .rest) v e in
-          let p = part-fits (flat rowsOf) out₀ n v (flat l) (numbers-left rowsOf m v l left n (f .soFar)) inside (f .room) in
-          ap length (stored l left) ∙ length-append (take (n + length v) (flat rowsOf)) (drop (n + length v) out₀)
-          ∙ omega (arith, p, f .room, length-take-le (n + length v) (flat rowsOf) p, length-drop (n + length v) out₀)
-
       -- the last row
-      pub row-last : r .bound ≡ length b
-          → (take n out ++ (u ++ drop z (drop n out)) ≡ filled (flat rowsOf) out₀) × (set ends m (n + length v) ≡ filled (endsFrom 0 rowsOf) ends₀)
+      pub row-last : r .bound ≡ length b → (new ≡ filled (flat rowsOf) out₀) × (set ends m (n + k) ≡ filled (endsFrom 0 rowsOf) ends₀)
       unfolding endsFrom
       row-last h =
-          let left = fill-last (listBy g) b i m r here few-enough rowsOf (f .rest) v e h in
-          let (x, y) = fill-ends (endsFrom 0 rowsOf) ends₀ m (n + length v) [] (ends-left rowsOf m v [] left n (f .soFar)) (omega (arith, ends-length 0 rowsOf, f .rows)) refl in
-          (stored [] left ∙ part-ends (flat rowsOf) out₀ n v [] (numbers-left rowsOf m v [] left n (f .soFar)) inside (f .room) refl, ended [] left ∙ x)
+          let left = fill-last (listBy g) b i m r here few-enough rowsOf (f .rest) rowOf reads h in
+          let (x, y) = fill-ends (endsFrom 0 rowsOf) ends₀ m (n + k) [] (ends-here [] left) (omega (arith, ends-length 0 rowsOf, f .rows)) refl in (
+            stored [] left ∙ ap (λ (d : ℕ). take (n + d) (flat rowsOf) ++ drop (n + d) out₀) many
+                ∙ part-ends (flat rowsOf) out₀ n rowOf [] (numbers-left rowsOf m rowOf [] left n (f .soFar)) inside (f .room) refl,
+            ended [] left ∙ x,
+          )
 
       -- another row
-      pub row-goes : r .bound < length b → Gridding g b out₀ (take n out ++ (u ++ drop z (drop n out))) ends₀ (set ends m (n + length v)) (r .bound + 1) (m + 1) (n + length v)
+      pub row-goes : r .bound < length b → Gridding g b out₀ new ends₀ (set ends m (n + k)) (r .bound + 1) (m + 1) (n + k)
       row-goes h =
-          let (left, rest) = fill-more (listBy g) b i m r here few-enough rowsOf (f .rest) v e h in
+          let (left, rest) = fill-more (listBy g) b i m r here few-enough rowsOf (f .rest) rowOf reads h in
           record {
             few = omega (arith, f .few, here .above);
             within = omega arith;
             room = f .room;
             rows = f .rows;
             rest = rest;
-            soFar = more-numbers rowsOf m v _ left n (f .soFar);
+            soFar = ap (λ (d : ℕ). n + d) many ∙ more-numbers rowsOf m rowOf _ left n (f .soFar);
             done = stored _ left;
             marked = ended _ left;
           }

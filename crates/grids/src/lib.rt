@@ -4,18 +4,19 @@
 // twice, as a list is: the first time it is only counted, so that a refusal leaves both lent lists alone. A row end is a usize, since
 // it counts the numbers of a file that may have more of them than 32 bits can say.
 ghost use mathlib.Core.Path.{_≡_};
-ghost use Prim.Native.Nat.{_+_, _<_, _^_, suc};
-ghost use mathlib.Core.List.{map};
+ghost use Prim.Native.Nat.{_+_, _-_, _≤_, _<_, _^_};
+ghost use mathlib.Core.List.{[], map};
 ghost use lib.ListN.{length};
 ghost use lib.Ieee.{binary64, toBits};
 ghost use Rattle.params.specs.Answer.{reading};
 ghost use Rattle.reals.specs.Scalar.{referenceOf, realOf};
 ghost use Rattle.reals.specs.Which.{realBy};
-ghost use Rattle.lists.specs.Items.{itemsFrom, listBy, listOf, moved, filled};
-ghost use Rattle.lists.specs.Answer.{fated, asFate, roomed, valuesOf, written};
+ghost use Rattle.lists.specs.Items.{itemsIn, listBy, moved, Ready, filled};
+ghost use Rattle.lists.specs.Answer.{fated, roomed, nextBy, valuesOf, written};
 ghost use Rattle.lists.specs.Laws.{tally};
-ghost use Rattle.grids.specs.Grid.{size, flat, endsFrom, gridOf, gridRead, gridFits, sizeFits, howLarge, numbersOf, endsOf, addRow, rowOf, toldTally, toldNextGrid};
-ghost use Rattle.grids.specs.Code.{sizeTold, toldReadGrid, reachedIn, GridReady};
+ghost use Rattle.lists.specs.Lent.{valueOf, lentOf, roomOf};
+ghost use Rattle.grids.specs.Grid.{size, flat, endsFrom, gridRead, gridFits, sizeFits, howLarge, numbersOf, endsOf, addRow, rowOf, toldTally, toldNextGrid};
+ghost use Rattle.grids.specs.Code.{sizeTold, toldReadGrid, reachedIn, GridReady, put};
 use error::Fault;
 use lists::Counted;
 use lists::Kind;
@@ -48,7 +49,7 @@ pub enum NextGrid {
 
 // Counts the rows of a grid's inside and their numbers, or finds the first bad row or item.
 fn count_rows(b: &[u8], kind: Kind) -> Tally
-    ensures { λ r. ⌜ toldTally r ≡ fated (tally addRow (size 0 0)) (itemsFrom (suc (length (now (b .entry)))) (rowOf kind) 0 (now (b .entry))) ⌝ }
+    ensures { λ r. ⌜ toldTally r ≡ fated (tally addRow (size 0 0)) (itemsIn (rowOf kind) (now (b .entry))) ⌝ }
 {
     let mut i: usize = 0;
     let mut rows: usize = 0;
@@ -118,25 +119,49 @@ fn answer_of(r: ReadGrid, start: usize, to: State) -> NextGrid
     }
 }
 
-// Writes the references of a grid's inside that all read, and the ends of its rows.
-fn fill_ref_rows(b: &[u8], out: &mut [u32], ends: &mut [usize])
-    requires { ⌜ GridReady (itemsFrom (suc (length (now b))) (listOf referenceOf) 0 (now b)) (length (now out)) (length (now ends)) ⌝ }
-    ensures { λ _. ⌜ now (out .exit) ≡ filled (flat (valuesOf (itemsFrom (suc (length (now (b .entry)))) (listOf referenceOf) 0 (now (b .entry))))) (now (out .entry)) ⌝ }
-    ensures { λ _. ⌜ now (ends .exit) ≡ filled (endsFrom 0 (valuesOf (itemsFrom (suc (length (now (b .entry)))) (listOf referenceOf) 0 (now (b .entry))))) (now (ends .entry)) ⌝ }
+// Writes the numbers of a row that reads, from `base` on, and says how many they are: references and reals alone are lent.
+fn fill_row(kind: Kind, t: &[u8], base: usize, refs: &mut [u32], reals: &mut [f64]) -> usize
+    requires { ⌜ base ≤ roomOf kind (length (now refs)) 0 (length (now reals)) ⌝ }
+    requires { ⌜ Ready (listBy (valueOf kind) (now t)) (roomOf kind (length (now refs)) 0 (length (now reals)) - base) ⌝ }
+    ensures { λ r. ⌜ r ≡ length (valuesOf (listBy (valueOf kind) (now (t .entry)))) ⌝ }
+    ensures { λ r. ⌜ lentOf kind (now (refs .exit)) [] (now (reals .exit)) ≡ put base (valuesOf (listBy (valueOf kind) (now (t .entry)))) (lentOf kind (now (refs .entry)) [] (now (reals .entry))) ⌝ }
+{
+    match kind {
+        Kind::References => {
+            let ReadList::Count(k) = lists::read_refs(t, &mut refs[base..]) else {
+                return 0;
+            };
+            k
+        }
+        Kind::Floats(which) => {
+            let ReadList::Count(k) = lists::read_reals(which, t, &mut reals[base..]) else {
+                return 0;
+            };
+            k
+        }
+        Kind::Integers => 0,
+        Kind::Any => 0,
+    }
+}
+
+// Writes the numbers of a grid's inside that all read, and the ends of its rows.
+fn fill_rows(kind: Kind, b: &[u8], refs: &mut [u32], reals: &mut [f64], ends: &mut [usize])
+    requires { ⌜ GridReady (itemsIn (listBy (valueOf kind)) (now b)) (roomOf kind (length (now refs)) 0 (length (now reals))) (length (now ends)) ⌝ }
+    ensures { λ _. ⌜ lentOf kind (now (refs .exit)) [] (now (reals .exit))
+        ≡ filled (flat (valuesOf (itemsIn (listBy (valueOf kind)) (now (b .entry))))) (lentOf kind (now (refs .entry)) [] (now (reals .entry))) ⌝ }
+    ensures { λ _. ⌜ now (ends .exit) ≡ filled (endsFrom 0 (valuesOf (itemsIn (listBy (valueOf kind)) (now (b .entry))))) (now (ends .entry)) ⌝ }
 {
     let mut i: usize = 0;
     let mut rows: usize = 0;
-    let mut refs: usize = 0;
+    let mut numbers: usize = 0;
     loop {
         let w = lists::item_at(b, i);
         let start = w.start;
         let stop = w.stop;
         let bound = w.bound;
-        let ReadList::Count(k) = lists::read_refs(&b[start..stop], &mut out[refs..]) else {
-            return;
-        };
-        refs += k;
-        ends[rows] = refs;
+        let k = fill_row(kind, &b[start..stop], numbers, refs, reals);
+        numbers += k;
+        ends[rows] = numbers;
         rows += 1;
         if bound == b.len() {
             return;
@@ -145,34 +170,73 @@ fn fill_ref_rows(b: &[u8], out: &mut [u32], ends: &mut [usize])
     }
 }
 
-// Writes the references of a grid that all read, and the ends of its rows.
-fn fill_ref_grid(t: &[u8], out: &mut [u32], ends: &mut [usize])
-    requires { ⌜ GridReady (gridOf referenceOf (now t)) (length (now out)) (length (now ends)) ⌝ }
-    ensures { λ _. ⌜ now (out .exit) ≡ filled (flat (valuesOf (gridOf referenceOf (now (t .entry))))) (now (out .entry)) ⌝ }
-    ensures { λ _. ⌜ now (ends .exit) ≡ filled (endsFrom 0 (valuesOf (gridOf referenceOf (now (t .entry))))) (now (ends .entry)) ⌝ }
+// Writes the numbers of a grid that all read, and the ends of its rows.
+fn fill_grid(kind: Kind, t: &[u8], refs: &mut [u32], reals: &mut [f64], ends: &mut [usize])
+    requires { ⌜ GridReady (listBy (listBy (valueOf kind)) (now t)) (roomOf kind (length (now refs)) 0 (length (now reals))) (length (now ends)) ⌝ }
+    ensures { λ _. ⌜ lentOf kind (now (refs .exit)) [] (now (reals .exit))
+        ≡ filled (flat (valuesOf (listBy (listBy (valueOf kind)) (now (t .entry))))) (lentOf kind (now (refs .entry)) [] (now (reals .entry))) ⌝ }
+    ensures { λ _. ⌜ now (ends .exit) ≡ filled (endsFrom 0 (valuesOf (listBy (listBy (valueOf kind)) (now (t .entry))))) (now (ends .entry)) ⌝ }
 {
     match lists::shape_of(t) {
         Shape::NotList => {}
         Shape::Blank => {}
         Shape::Full => {
             let n = t.len();
-            fill_ref_rows(&t[1..n - 1], out, ends)
+            fill_rows(kind, &t[1..n - 1], refs, reals, ends)
         }
     }
 }
 
-// Reads the text of a grid of references into lent numbers and row ends.
-fn read_ref_grid(t: &[u8], out: &mut [u32], ends: &mut [usize]) -> ReadGrid
-    ensures { λ r. ⌜ toldReadGrid r ≡ sizeTold (roomed (gridFits (length (now (out .entry))) (length (now (ends .entry)))) 0 (gridOf referenceOf (now (t .entry)))) ⌝ }
-    ensures { λ r. ⌜ now (out .exit) ≡ written (numbersOf (roomed (gridFits (length (now (out .entry))) (length (now (ends .entry)))) 0 (gridOf referenceOf (now (t .entry))))) (now (out .entry)) ⌝ }
-    ensures { λ r. ⌜ now (ends .exit) ≡ written (endsOf (roomed (gridFits (length (now (out .entry))) (length (now (ends .entry)))) 0 (gridOf referenceOf (now (t .entry))))) (now (ends .entry)) ⌝ }
+// Reads the text of a grid into the lent numbers of its kind, for which there is so much room, and into row ends.
+fn read_grid(
+    kind: Kind,
+    room: usize,
+    t: &[u8],
+    refs: &mut [u32],
+    reals: &mut [f64],
+    ends: &mut [usize],
+) -> ReadGrid
+    requires { ⌜ room ≡ roomOf kind (length (now refs)) 0 (length (now reals)) ⌝ }
+    ensures { λ r. ⌜ toldReadGrid r ≡ sizeTold (roomed (gridFits room (length (now (ends .entry)))) 0 (listBy (listBy (valueOf kind)) (now (t .entry)))) ⌝ }
+    ensures { λ r. ⌜ lentOf kind (now (refs .exit)) [] (now (reals .exit))
+        ≡ written (numbersOf (roomed (gridFits room (length (now (ends .entry)))) 0 (listBy (listBy (valueOf kind)) (now (t .entry))))) (lentOf kind (now (refs .entry)) [] (now (reals .entry))) ⌝ }
+    ensures { λ r. ⌜ now (ends .exit) ≡ written (endsOf (roomed (gridFits room (length (now (ends .entry)))) 0 (listBy (listBy (valueOf kind)) (now (t .entry))))) (now (ends .entry)) ⌝ }
 {
-    let r = room_for(t, Kind::References, out.len(), ends.len());
+    let r = room_for(t, kind, room, ends.len());
     let ReadGrid::Count(_, _) = r else {
         return r;
     };
-    fill_ref_grid(t, out, ends);
+    fill_grid(kind, t, refs, reals, ends);
     r
+}
+
+// Reads a grid into the lent numbers of its kind, for which there is so much room, and into row ends.
+fn next_grid(
+    kind: Kind,
+    room: usize,
+    file: &[u8],
+    at: State,
+    refs: &mut [u32],
+    reals: &mut [f64],
+    ends: &mut [usize],
+) -> NextGrid
+    requires { ⌜ room ≡ roomOf kind (length (now refs)) 0 (length (now reals)) ⌝ }
+    ensures { λ r. ⌜ toldNextGrid r ≡ howLarge (nextBy (listBy (listBy (valueOf kind))) (gridFits room (length (now (ends .entry)))) (now (file .entry)) (at .place) (at .end)) ⌝ }
+    ensures { λ r. ⌜ lentOf kind (now (refs .exit)) [] (now (reals .exit))
+        ≡ written (numbersOf (nextBy (listBy (listBy (valueOf kind))) (gridFits room (length (now (ends .entry)))) (now (file .entry)) (at .place) (at .end) .answer))
+        (lentOf kind (now (refs .entry)) [] (now (reals .entry))) ⌝ }
+    ensures { λ r. ⌜ now (ends .exit)
+        ≡ written (endsOf (nextBy (listBy (listBy (valueOf kind))) (gridFits room (length (now (ends .entry)))) (now (file .entry)) (at .place) (at .end) .answer))
+        (now (ends .entry)) ⌝ }
+{
+    match params::param_span(file, at) {
+        Cut::Refused(f, to) => NextGrid::Refused(f, to),
+        Cut::Span(start, stop, to) => answer_of(
+            read_grid(kind, room, &file[start..stop], refs, reals, ends),
+            start,
+            to,
+        ),
+    }
 }
 
 // Reads a grid of references into lent numbers and row ends.
@@ -183,73 +247,8 @@ pub fn next_ref_grid(file: &[u8], at: State, out: &mut [u32], ends: &mut [usize]
     ensures { λ r. ⌜ now (ends .exit)
         ≡ written (endsOf (gridRead referenceOf (length (now (out .entry))) (length (now (ends .entry))) (now (file .entry)) (at .place) (at .end) .answer)) (now (ends .entry)) ⌝ }
 {
-    match params::param_span(file, at) {
-        Cut::Refused(f, to) => NextGrid::Refused(f, to),
-        Cut::Span(start, stop, to) => answer_of(
-            read_ref_grid(&file[start..stop], out, ends),
-            start,
-            to,
-        ),
-    }
-}
-
-// Writes the reals of a grid's inside that all read, and the ends of its rows.
-fn fill_real_rows(which: Reals, b: &[u8], out: &mut [f64], ends: &mut [usize])
-    requires { ⌜ GridReady (itemsFrom (suc (length (now b))) (listOf (realBy which)) 0 (now b)) (length (now out)) (length (now ends)) ⌝ }
-    ensures { λ _. ⌜ map (toBits binary64) (now (out .exit))
-        ≡ filled (flat (valuesOf (itemsFrom (suc (length (now (b .entry)))) (listOf (realBy which)) 0 (now (b .entry))))) (map (toBits binary64) (now (out .entry))) ⌝ }
-    ensures { λ _. ⌜ now (ends .exit) ≡ filled (endsFrom 0 (valuesOf (itemsFrom (suc (length (now (b .entry)))) (listOf (realBy which)) 0 (now (b .entry))))) (now (ends .entry)) ⌝ }
-{
-    let mut i: usize = 0;
-    let mut rows: usize = 0;
-    let mut reals: usize = 0;
-    loop {
-        let w = lists::item_at(b, i);
-        let start = w.start;
-        let stop = w.stop;
-        let bound = w.bound;
-        let ReadList::Count(k) = lists::read_reals(which, &b[start..stop], &mut out[reals..]) else {
-            return;
-        };
-        reals += k;
-        ends[rows] = reals;
-        rows += 1;
-        if bound == b.len() {
-            return;
-        }
-        i = bound + 1;
-    }
-}
-
-// Writes the reals of a grid that all read, and the ends of its rows.
-fn fill_real_grid(which: Reals, t: &[u8], out: &mut [f64], ends: &mut [usize])
-    requires { ⌜ GridReady (gridOf (realBy which) (now t)) (length (now out)) (length (now ends)) ⌝ }
-    ensures { λ _. ⌜ map (toBits binary64) (now (out .exit)) ≡ filled (flat (valuesOf (gridOf (realBy which) (now (t .entry))))) (map (toBits binary64) (now (out .entry))) ⌝ }
-    ensures { λ _. ⌜ now (ends .exit) ≡ filled (endsFrom 0 (valuesOf (gridOf (realBy which) (now (t .entry))))) (now (ends .entry)) ⌝ }
-{
-    match lists::shape_of(t) {
-        Shape::NotList => {}
-        Shape::Blank => {}
-        Shape::Full => {
-            let n = t.len();
-            fill_real_rows(which, &t[1..n - 1], out, ends)
-        }
-    }
-}
-
-// Reads the text of a grid of reals into lent numbers and row ends.
-fn read_real_grid(which: Reals, t: &[u8], out: &mut [f64], ends: &mut [usize]) -> ReadGrid
-    ensures { λ r. ⌜ toldReadGrid r ≡ sizeTold (roomed (gridFits (length (now (out .entry))) (length (now (ends .entry)))) 0 (gridOf (realBy which) (now (t .entry)))) ⌝ }
-    ensures { λ r. ⌜ map (toBits binary64) (now (out .exit))
-        ≡ written (numbersOf (roomed (gridFits (length (now (out .entry))) (length (now (ends .entry)))) 0 (gridOf (realBy which) (now (t .entry))))) (map (toBits binary64) (now (out .entry))) ⌝ }
-    ensures { λ r. ⌜ now (ends .exit) ≡ written (endsOf (roomed (gridFits (length (now (out .entry))) (length (now (ends .entry)))) 0 (gridOf (realBy which) (now (t .entry))))) (now (ends .entry)) ⌝ }
-{
-    let r = room_for(t, Kind::Floats(which), out.len(), ends.len());
-    let ReadGrid::Count(_, _) = r else {
-        return r;
-    };
-    fill_real_grid(which, t, out, ends);
-    r
+    let mut reals: [f64; 0] = [];
+    next_grid(Kind::References, out.len(), file, at, out, &mut reals, ends)
 }
 
 // Reads a grid of reals, of the class or any, into lent numbers and row ends.
@@ -267,14 +266,16 @@ pub fn next_real_grid(
     ensures { λ r. ⌜ now (ends .exit)
         ≡ written (endsOf (gridRead (realBy which) (length (now (out .entry))) (length (now (ends .entry))) (now (file .entry)) (at .place) (at .end) .answer)) (now (ends .entry)) ⌝ }
 {
-    match params::param_span(file, at) {
-        Cut::Refused(f, to) => NextGrid::Refused(f, to),
-        Cut::Span(start, stop, to) => answer_of(
-            read_real_grid(which, &file[start..stop], out, ends),
-            start,
-            to,
-        ),
-    }
+    let mut refs: [u32; 0] = [];
+    next_grid(
+        Kind::Floats(which),
+        out.len(),
+        file,
+        at,
+        &mut refs,
+        out,
+        ends,
+    )
 }
 
 // Reads a grid of reals of the class into lent numbers and row ends.

@@ -319,7 +319,8 @@ fn read_list(
 ) -> ReadList
     ensures { λ r. ⌜ toldReadList r ≡ countOf (roomed (fitsBy kind (now (refs .entry)) (now (wholes .entry)) (now (reals .entry))) 0 (listBy (valueOf kind) (now (t .entry)))) ⌝ }
     ensures { λ r. ⌜ lentOf kind (now (refs .exit)) (now (wholes .exit)) (now (reals .exit))
-        ≡ written (roomed (fitsBy kind (now (refs .entry)) (now (wholes .entry)) (now (reals .entry))) 0 (listBy (valueOf kind) (now (t .entry)))) (lentOf kind (now (refs .entry)) (now (wholes .entry)) (now (reals .entry))) ⌝ }
+        ≡ written (roomed (fitsBy kind (now (refs .entry)) (now (wholes .entry)) (now (reals .entry))) 0 (listBy (valueOf kind) (now (t .entry))))
+        (lentOf kind (now (refs .entry)) (now (wholes .entry)) (now (reals .entry))) ⌝ }
 {
     let mut no_refs: [u32; 0] = [];
     let mut no_wholes: [i64; 0] = [];
@@ -407,7 +408,8 @@ fn next_list(
     wholes: &mut [i64],
     reals: &mut [f64],
 ) -> NextList
-    ensures { λ r. ⌜ toldNextList r ≡ howMany (nextBy (listBy (valueOf kind)) (fitsBy kind (now (refs .entry)) (now (wholes .entry)) (now (reals .entry))) (now (file .entry)) (at .place) (at .end)) ⌝ }
+    ensures { λ r. ⌜ toldNextList r
+        ≡ howMany (nextBy (listBy (valueOf kind)) (fitsBy kind (now (refs .entry)) (now (wholes .entry)) (now (reals .entry))) (now (file .entry)) (at .place) (at .end)) ⌝ }
     ensures { λ r. ⌜ lentOf kind (now (refs .exit)) (now (wholes .exit)) (now (reals .exit))
         ≡ written (nextBy (listBy (valueOf kind)) (fitsBy kind (now (refs .entry)) (now (wholes .entry)) (now (reals .entry))) (now (file .entry)) (at .place) (at .end) .answer)
         (lentOf kind (now (refs .entry)) (now (wholes .entry)) (now (reals .entry))) ⌝ }
