@@ -42,12 +42,12 @@ Hosts s heads rows slots tables reason fault code =
     (now (heads .exit)) (now (rows .exit)) (now (slots .exit)) (now (tables .exit)) (now (reason .exit)) (now (fault .exit))
 
 -- the last record with an id, by a host's tables and numbers
-abbrev pub recordBy : List ℕ → List ℕ → List ℕ → ℕ → Option Row
-recordBy rows slots tables id = rowFound rows (searched rows slots (tablesBy tables .ids) id)
+abbrev pub hostRecord : List ℕ → List ℕ → List ℕ → ℕ → Option Row
+hostRecord rows slots tables id = rowFound rows (searched rows slots (tablesBy tables .ids) id)
 
 -- the record in row k
-abbrev pub rowBy : List ℕ → List ℕ → ℕ → Option Row
-rowBy rows tables k = rowIn rows (tablesBy tables .records) k
+abbrev pub hostRow : List ℕ → List ℕ → ℕ → Option Row
+hostRow rows tables k = rowIn rows (tablesBy tables .records) k
 
 -- the next row of a kind from a row on, of a file s
 abbrev pub nextOfKind : List ℕ → List ℕ → List ℕ → ℕ → ℕ → Option ℕ

@@ -8,7 +8,7 @@ ghost use Rattle.kinds.specs.Rules.{rankOf};
 ghost use Rattle.lookup.specs.Lookup.{required, argsBy, kindFound};
 ghost use Rattle.plain.specs.Answers.{Puts, readCode};
 ghost use Rattle.plain.specs.Numbers.{outCode, outAfter};
-ghost use Rattle.export_tables.specs.Tables.{recordBy};
+ghost use Rattle.export_tables.specs.Tables.{hostRecord};
 use lookup::Required;
 
 // The last record with this id: 0, with its six numbers in `row`; or 14.
@@ -20,8 +20,8 @@ pub extern "C" fn hooflift_require(
     id: u32,
     row: &mut [u64],
 ) -> u8
-    ensures { λ n. ⌜ n ≡ outCode rowWidth (length (now (row .entry))) (mapped some (required (recordBy (now (rows .entry)) (now (slots .entry)) (now (tables .entry)) id))) ⌝ }
-    ensures { λ _. ⌜ now (row .exit) ≡ outAfter rowWidth six (mapped some (required (recordBy (now (rows .entry)) (now (slots .entry)) (now (tables .entry)) id))) (now (row .entry)) ⌝ }
+    ensures { λ n. ⌜ n ≡ outCode rowWidth (length (now (row .entry))) (mapped some (required (hostRecord (now (rows .entry)) (now (slots .entry)) (now (tables .entry)) id))) ⌝ }
+    ensures { λ _. ⌜ now (row .exit) ≡ outAfter rowWidth six (mapped some (required (hostRecord (now (rows .entry)) (now (slots .entry)) (now (tables .entry)) id))) (now (row .entry)) ⌝ }
 {
     match lookup::require(rows, slots, plain::tables_of(tables), id) {
         Required::Row(w) => plain::put_row(row, w),
@@ -40,9 +40,9 @@ pub extern "C" fn hooflift_args(
     start: &mut usize,
     stop: &mut usize,
 ) -> u8
-    ensures { λ n. ⌜ n ≡ readCode (argsBy (length (now (file .entry))) (recordBy (now (rows .entry)) (now (slots .entry)) (now (tables .entry)) id)) ⌝ }
-    ensures { λ _. ⌜ Puts (λ x. x .start) (argsBy (length (now (file .entry))) (recordBy (now (rows .entry)) (now (slots .entry)) (now (tables .entry)) id)) start ⌝ }
-    ensures { λ _. ⌜ Puts (λ x. x .end) (argsBy (length (now (file .entry))) (recordBy (now (rows .entry)) (now (slots .entry)) (now (tables .entry)) id)) stop ⌝ }
+    ensures { λ n. ⌜ n ≡ readCode (argsBy (length (now (file .entry))) (hostRecord (now (rows .entry)) (now (slots .entry)) (now (tables .entry)) id)) ⌝ }
+    ensures { λ _. ⌜ Puts (λ x. x .start) (argsBy (length (now (file .entry))) (hostRecord (now (rows .entry)) (now (slots .entry)) (now (tables .entry)) id)) start ⌝ }
+    ensures { λ _. ⌜ Puts (λ x. x .end) (argsBy (length (now (file .entry))) (hostRecord (now (rows .entry)) (now (slots .entry)) (now (tables .entry)) id)) stop ⌝ }
 {
     crate::put_span(
         lookup::args(file, rows, slots, plain::tables_of(tables), id),
@@ -60,7 +60,7 @@ pub extern "C" fn hooflift_kind_of(
     tables: &[u64],
     id: u32,
 ) -> u32
-    ensures { λ n. ⌜ n ≡ rankOf (kindFound (now (file .entry)) (recordBy (now (rows .entry)) (now (slots .entry)) (now (tables .entry)) id)) ⌝ }
+    ensures { λ n. ⌜ n ≡ rankOf (kindFound (now (file .entry)) (hostRecord (now (rows .entry)) (now (slots .entry)) (now (tables .entry)) id)) ⌝ }
 {
     plain::kind_number(lookup::kind_of(file, rows, slots, plain::tables_of(tables), id))
 }

@@ -8,7 +8,7 @@ ghost use Rattle.kinds.specs.Rules.{rankOf};
 ghost use Rattle.lookup.specs.Lookup.{kindFound};
 ghost use Rattle.plain.specs.Answers.{PutsFound, foundCode};
 ghost use Rattle.plain.specs.Numbers.{tablesBy, outCode, outAfter};
-ghost use Rattle.export_tables.specs.Tables.{rowBy, nextOfKind, keySpan, argSpan};
+ghost use Rattle.export_tables.specs.Tables.{hostRow, nextOfKind, keySpan, argSpan};
 use lookup::Entry;
 use lookup::Place;
 
@@ -23,8 +23,8 @@ pub extern "C" fn hooflift_len(tables: &[u64]) -> usize
 // Row k in file order: 0, with its six numbers in `row`; 255 past the table.
 #[no_mangle]
 pub extern "C" fn hooflift_entity(rows: &[u32], tables: &[u64], k: usize, row: &mut [u64]) -> u8
-    ensures { λ n. ⌜ n ≡ outCode rowWidth (length (now (row .entry))) (good (rowBy (now (rows .entry)) (now (tables .entry)) k)) ⌝ }
-    ensures { λ _. ⌜ now (row .exit) ≡ outAfter rowWidth six (good (rowBy (now (rows .entry)) (now (tables .entry)) k)) (now (row .entry)) ⌝ }
+    ensures { λ n. ⌜ n ≡ outCode rowWidth (length (now (row .entry))) (good (hostRow (now (rows .entry)) (now (tables .entry)) k)) ⌝ }
+    ensures { λ _. ⌜ now (row .exit) ≡ outAfter rowWidth six (good (hostRow (now (rows .entry)) (now (tables .entry)) k)) (now (row .entry)) ⌝ }
 {
     match lookup::entity(rows, plain::tables_of(tables), k) {
         Entry::Row(w) => plain::put_row(row, w),
@@ -42,9 +42,9 @@ pub extern "C" fn hooflift_keyword(
     start: &mut usize,
     stop: &mut usize,
 ) -> u8
-    ensures { λ n. ⌜ n ≡ foundCode (keySpan (length (now (file .entry))) (rowBy (now (rows .entry)) (now (tables .entry)) k)) ⌝ }
-    ensures { λ _. ⌜ PutsFound (λ x. x .start) (keySpan (length (now (file .entry))) (rowBy (now (rows .entry)) (now (tables .entry)) k)) start ⌝ }
-    ensures { λ _. ⌜ PutsFound (λ x. x .end) (keySpan (length (now (file .entry))) (rowBy (now (rows .entry)) (now (tables .entry)) k)) stop ⌝ }
+    ensures { λ n. ⌜ n ≡ foundCode (keySpan (length (now (file .entry))) (hostRow (now (rows .entry)) (now (tables .entry)) k)) ⌝ }
+    ensures { λ _. ⌜ PutsFound (λ x. x .start) (keySpan (length (now (file .entry))) (hostRow (now (rows .entry)) (now (tables .entry)) k)) start ⌝ }
+    ensures { λ _. ⌜ PutsFound (λ x. x .end) (keySpan (length (now (file .entry))) (hostRow (now (rows .entry)) (now (tables .entry)) k)) stop ⌝ }
 {
     match lookup::entity(rows, plain::tables_of(tables), k) {
         Entry::Row(w) => crate::put_span(lookup::keyword(file, w), start, stop),
@@ -62,9 +62,9 @@ pub extern "C" fn hooflift_args_of(
     start: &mut usize,
     stop: &mut usize,
 ) -> u8
-    ensures { λ n. ⌜ n ≡ foundCode (argSpan (length (now (file .entry))) (rowBy (now (rows .entry)) (now (tables .entry)) k)) ⌝ }
-    ensures { λ _. ⌜ PutsFound (λ x. x .start) (argSpan (length (now (file .entry))) (rowBy (now (rows .entry)) (now (tables .entry)) k)) start ⌝ }
-    ensures { λ _. ⌜ PutsFound (λ x. x .end) (argSpan (length (now (file .entry))) (rowBy (now (rows .entry)) (now (tables .entry)) k)) stop ⌝ }
+    ensures { λ n. ⌜ n ≡ foundCode (argSpan (length (now (file .entry))) (hostRow (now (rows .entry)) (now (tables .entry)) k)) ⌝ }
+    ensures { λ _. ⌜ PutsFound (λ x. x .start) (argSpan (length (now (file .entry))) (hostRow (now (rows .entry)) (now (tables .entry)) k)) start ⌝ }
+    ensures { λ _. ⌜ PutsFound (λ x. x .end) (argSpan (length (now (file .entry))) (hostRow (now (rows .entry)) (now (tables .entry)) k)) stop ⌝ }
 {
     match lookup::entity(rows, plain::tables_of(tables), k) {
         Entry::Row(w) => crate::put_span(lookup::args_of(file, w), start, stop),
@@ -75,7 +75,7 @@ pub extern "C" fn hooflift_args_of(
 // The number of row k's kind; that of `Other` past the table.
 #[no_mangle]
 pub extern "C" fn hooflift_kind(file: &[u8], rows: &[u32], tables: &[u64], k: usize) -> u32
-    ensures { λ n. ⌜ n ≡ rankOf (kindFound (now (file .entry)) (rowBy (now (rows .entry)) (now (tables .entry)) k)) ⌝ }
+    ensures { λ n. ⌜ n ≡ rankOf (kindFound (now (file .entry)) (hostRow (now (rows .entry)) (now (tables .entry)) k)) ⌝ }
 {
     match lookup::entity(rows, plain::tables_of(tables), k) {
         Entry::Row(w) => plain::kind_number(lookup::kind_in(file, w)),
