@@ -15,7 +15,7 @@ use Rattle.error.specs.Refusal.{refusal, Told, good, bad}
 use Rattle.lex.specs.Grammar.{Trivia}
 use Rattle.record.specs.Byte.{digit}
 use Rattle.record.specs.Form.{NotFirst, Skipped, valueOf}
-use Rattle.record.specs.FormRight.Parts.{first-none, first-other}
+use Rattle.record.specs.FormRight.Parts.{empty-not-first, first-other}
 use Rattle.record.specs.FormRight.Gaps.{white-digit, gap-digit}
 use Rattle.reals.specs.Answer.{Answer, read, refused}
 use Rattle.reals.specs.Scalar.{referenceOf}
@@ -65,7 +65,7 @@ first-trivia (Trivia.comment q t) h = subst (NotFirst digit) (sym (q .shape)) (f
 -- a comma at depth 0, and the end, begin with no digit
 first-bound : {d : ℕ} {ys : List ℕ} → Bound d ys → NotFirst digit ys
 first-bound (Bound.comma {r}) = first-other digit 44 r refl
-first-bound Bound.end = first-none digit
+first-bound Bound.end = empty-not-first digit
 
 -- what follows a parameter, from the trivia after it on, begins with no digit
 first-after : {xs z b : List ℕ} → Parameter xs z b → NotFirst digit z
@@ -105,7 +105,7 @@ reference-names (ReferenceForm.reference ds i) e = record {
   digits = ds;
   back = [];
   shape = ap (λ (u : List ℕ). 35 ∷ u) (sym (append-nil ds));
-  number = record { all = i .all; over = first-none digit };
+  number = record { all = i .all; over = empty-not-first digit };
   some = i .some;
   value = cc;
 }
@@ -126,14 +126,14 @@ item-names {xs} {f} {t} {r} {k} i h n =
 items-names : {xs : List ℕ} {a : Fate (List ℕ)} → Items (Scalar ReferenceForm) xs a → (vs : List ℕ) → a ≡ fine vs → Each (Names xs) vs
 items-names {xs} (Items.last {v} i p) vs e =
     let d : v ∷ [] ≡ vs = cc in
-    subst (Each (Names xs)) d (each-more (Names xs) v [] (item-names i (first-none digit) (scalar-names p refl)) (each-nil (Names xs)))
+    subst (Each (Names xs)) d (each-more (Names xs) v [] (item-names i (empty-not-first digit) (scalar-names p refl)) (each-nil (Names xs)))
 items-names (Items.next w {f} {t} {r} {v} {a} i p q) vs e = go a (λ us d. items-names q us d) e
   where
     go : (b : Fate (List ℕ)) → ((us : List ℕ) → b ≡ fine us → Each (Names r) us) → consed v (shifted (suc (length w)) b) ≡ fine vs → Each (Names (w ++ (44 ∷ r))) vs
     go (fine us) ih e =
         let d : v ∷ us ≡ vs = cc in
         let x : w ++ (44 ∷ r) ≡ (w ++ (44 ∷ [])) ++ (r ++ []) = simp (append-assoc, append-nil) in
-        let k : Each (Names (w ++ (44 ∷ r))) us = subst (λ (u : List ℕ). Each (Names u) us) (sym x) (each-by (names-part (w ++ (44 ∷ [])) r [] (first-none digit)) us (ih us refl)) in
+        let k : Each (Names (w ++ (44 ∷ r))) us = subst (λ (u : List ℕ). Each (Names u) us) (sym x) (each-by (names-part (w ++ (44 ∷ [])) r [] (empty-not-first digit)) us (ih us refl)) in
         subst (Each (Names (w ++ (44 ∷ r)))) d (each-more (Names (w ++ (44 ∷ r))) v us (item-names i (first-other digit 44 r refl) (scalar-names p refl)) k)
     go (faulty n o) ih e = clash (cc)
 items-names (Items.bad i p) vs e = clash (cc)

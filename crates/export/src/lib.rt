@@ -18,7 +18,7 @@ pub use text::hooflift_text_length;
 ghost use mathlib.Core.Path.{_≡_};
 ghost use mathlib.Core.List.{[], _∷_};
 ghost use Rattle.statement.specs.Rows.{mapped};
-ghost use Rattle.scan.specs.Table.{scanInto, countsOf, headersAfter, rowsAfter, toldScan};
+ghost use Rattle.scan.specs.Table.{scanLent, countsOf, headersAfter, rowsAfter, toldScan};
 ghost use Rattle.plain.specs.Answers.{readCode};
 ghost use Rattle.plain.specs.Numbers.{putIn};
 ghost use Rattle.export.specs.Numbers.{numbers};
@@ -77,10 +77,10 @@ pub extern "C" fn hooflift_scan(
     slots: usize,
     out: &mut [u64],
 ) -> u8
-    ensures { λ n. ⌜ n ≡ readCode (mapped countsOf (scanInto (now (file .entry)) (now (headers .entry)) (now (rows .entry)) slots)) ⌝ }
-    ensures { λ _. ⌜ now (headers .exit) ≡ headersAfter (scanInto (now (file .entry)) (now (headers .entry)) (now (rows .entry)) slots) (now (headers .entry)) ⌝ }
-    ensures { λ _. ⌜ now (rows .exit) ≡ rowsAfter (scanInto (now (file .entry)) (now (headers .entry)) (now (rows .entry)) slots) (now (rows .entry)) ⌝ }
-    ensures { λ _. ⌜ now (out .exit) ≡ putIn 3 (numbers (mapped countsOf (scanInto (now (file .entry)) (now (headers .entry)) (now (rows .entry)) slots))) (now (out .entry)) ⌝ }
+    ensures { λ n. ⌜ n ≡ readCode (mapped countsOf (scanLent (now (file .entry)) (now (headers .entry)) (now (rows .entry)) slots)) ⌝ }
+    ensures { λ _. ⌜ now (headers .exit) ≡ headersAfter (scanLent (now (file .entry)) (now (headers .entry)) (now (rows .entry)) slots) (now (headers .entry)) ⌝ }
+    ensures { λ _. ⌜ now (rows .exit) ≡ rowsAfter (scanLent (now (file .entry)) (now (headers .entry)) (now (rows .entry)) slots) (now (rows .entry)) ⌝ }
+    ensures { λ _. ⌜ now (out .exit) ≡ putIn 3 (numbers (mapped countsOf (scanLent (now (file .entry)) (now (headers .entry)) (now (rows .entry)) slots))) (now (out .entry)) ⌝ }
 {
     let r = scan::scan(file, headers, rows, slots);
     told_to(r, out)

@@ -16,7 +16,7 @@ use Rattle.lookup.specs.First.{firstFrom}
 use Rattle.store.specs.Store.{toldOpened, Opens}
 use Rattle.store.specs.declared.Opened.{Opened}
 use Rattle.store.specs.declared.Opened.the-variants.{Good, Refused}
-use Rattle.plain.specs.Answers.{Lent, readCode, readFault}
+use Rattle.plain.specs.Answers.{LentByHost, readCode, readFault}
 use Rattle.plain.specs.Numbers.{tablesIn, tablesBy, kindBy}
 
 -- the reason of a refusal, or what stood there
@@ -36,7 +36,7 @@ pub data Host (s heads rows slots tables : List ℕ) (reason fault code : ℕ) (
   opened : 16 ≤ length tables → (a : Opened) → Opens s heads rows slots a heads′ rows′ slots′ → code ≡ readCode (toldOpened a) → tables′ ≡ openTables a tables → reason′ ≡ readReason (toldOpened a) reason → fault′ ≡ readFault (toldOpened a) fault → Host s heads rows slots tables reason fault code heads′ rows′ slots′ tables′ reason′ fault′
 
 -- the same of what a host lends, when it asks and when it is answered
-abbrev pub Hosts : List ℕ → Lent (List ℕ) → Lent (List ℕ) → Lent (List ℕ) → Lent (List ℕ) → Lent ℕ → Lent ℕ → ℕ → Type 0
+abbrev pub Hosts : List ℕ → LentByHost (List ℕ) → LentByHost (List ℕ) → LentByHost (List ℕ) → LentByHost (List ℕ) → LentByHost ℕ → LentByHost ℕ → ℕ → Type 0
 Hosts s heads rows slots tables reason fault code =
     Host s (now (heads .entry)) (now (rows .entry)) (now (slots .entry)) (now (tables .entry)) (now (reason .entry)) (now (fault .entry)) code
     (now (heads .exit)) (now (rows .exit)) (now (slots .exit)) (now (tables .exit)) (now (reason .exit)) (now (fault .exit))

@@ -14,7 +14,7 @@ use Rattle.lists.specs.declared.Kind.the-variants.{References, Integers, Floats
 use Rattle.lists.specs.Items.{listBy, Ready, filled}
 use Rattle.lists.specs.Answer.{Fate, roomed, fitsIn, countOf, written, valuesOf}
 use Rattle.lists.specs.Keep.{map-take, map-drop}
-use Rattle.lists.specs.Lent.{valueOf, lentOf, roomOf}
+use Rattle.lists.specs.Lent.{itemValueOf, lentOf, lentRoom}
 use Rattle.grids.specs.Code.{put}
 
 -- a row without numbers is written by leaving the lent numbers alone
@@ -77,18 +77,18 @@ none-laid x n out (e, h) = (omega (arith, h), none-put n (valuesOf x) out (omega
 
 -- what the code promises of a row, from what it is by its kind
 pub row-laid : (kind : Kind) (t : List ℕ) (n r : ℕ) (refs refs′ : List ℕ) (reals reals′ : List Float) (k : Kind) → kind ≡ k
-    → (r ≡ length (valuesOf (listBy (valueOf k) t))) × (lentOf k refs′ [] reals′ ≡ put n (valuesOf (listBy (valueOf k) t)) (lentOf k refs [] reals))
-    → (r ≡ length (valuesOf (listBy (valueOf kind) t))) × (lentOf kind refs′ [] reals′ ≡ put n (valuesOf (listBy (valueOf kind) t)) (lentOf kind refs [] reals))
+    → (r ≡ length (valuesOf (listBy (itemValueOf k) t))) × (lentOf k refs′ [] reals′ ≡ put n (valuesOf (listBy (itemValueOf k) t)) (lentOf k refs [] reals))
+    → (r ≡ length (valuesOf (listBy (itemValueOf kind) t))) × (lentOf kind refs′ [] reals′ ≡ put n (valuesOf (listBy (itemValueOf kind) t)) (lentOf kind refs [] reals))
 row-laid kind t n r refs refs′ reals reals′ k e h =
-    subst (λ (k : Kind). (r ≡ length (valuesOf (listBy (valueOf k) t))) × (lentOf k refs′ [] reals′ ≡ put n (valuesOf (listBy (valueOf k) t)) (lentOf k refs [] reals))) (sym e) h
+    subst (λ (k : Kind). (r ≡ length (valuesOf (listBy (itemValueOf k) t))) × (lentOf k refs′ [] reals′ ≡ put n (valuesOf (listBy (itemValueOf k) t)) (lentOf k refs [] reals))) (sym e) h
 
 -- there is room for it in the lent numbers of its kind
-pub row-fits : (kind : Kind) (t : List ℕ) (n refs reals : ℕ) (k : Kind) → kind ≡ k → (n ≤ roomOf kind refs 0 reals) × Ready (listBy (valueOf kind) t) (roomOf kind refs 0 reals - n)
-    → (n ≤ roomOf k refs 0 reals) × Ready (listBy (valueOf k) t) (roomOf k refs 0 reals - n)
-row-fits kind t n refs reals k e h = subst (λ (k : Kind). (n ≤ roomOf k refs 0 reals) × Ready (listBy (valueOf k) t) (roomOf k refs 0 reals - n)) e h
+pub row-fits : (kind : Kind) (t : List ℕ) (n refs reals : ℕ) (k : Kind) → kind ≡ k → (n ≤ lentRoom kind refs 0 reals) × Ready (listBy (itemValueOf kind) t) (lentRoom kind refs 0 reals - n)
+    → (n ≤ lentRoom k refs 0 reals) × Ready (listBy (itemValueOf k) t) (lentRoom k refs 0 reals - n)
+row-fits kind t n refs reals k e h = subst (λ (k : Kind). (n ≤ lentRoom k refs 0 reals) × Ready (listBy (itemValueOf k) t) (lentRoom k refs 0 reals - n)) e h
 
 -- no more than both
-pub room-bound : (kind : Kind) (refs reals : ℕ) → roomOf kind refs 0 reals ≤ refs + reals
+pub room-bound : (kind : Kind) (refs reals : ℕ) → lentRoom kind refs 0 reals ≤ refs + reals
 room-bound References refs reals = omega arith
 room-bound Integers refs reals = omega arith
 room-bound (Floats which) refs reals = omega arith

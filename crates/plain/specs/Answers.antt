@@ -16,8 +16,8 @@ use Rattle.lists.specs.Answer.{written}
 use Rattle.words.specs.Answer.{Shown, inFile, inRoom}
 
 -- what a host lends, when a function is called and when it answers
-abbrev pub Lent : Type 0 → Type 0
-Lent A = Both (RefT A) (RefT A)
+abbrev pub LentByHost : Type 0 → Type 0
+LentByHost A = Both (RefT A) (RefT A)
 
 -- an answer as a number: 0, or the number of the refusal
 abbrev pub readCode : {A : Type 0} → Told A → ℕ
@@ -35,27 +35,27 @@ readValue f (good a) old = f a
 readValue f (bad q) old = old
 
 -- what a function answers, told r, and what it then leaves in `fault`
-abbrev pub Tells : {A : Type 0} → Told A → ℕ → Lent ℕ → Type 0
+abbrev pub Tells : {A : Type 0} → Told A → ℕ → LentByHost ℕ → Type 0
 Tells r n fault = (n ≡ readCode r) × (now (fault .exit) ≡ readFault r (now (fault .entry)))
 
 -- the same of a reader, which also leaves its place
-abbrev pub Leaves : {A : Type 0} → Read A → ℕ → Lent ℕ → Lent ℕ → Type 0
+abbrev pub Leaves : {A : Type 0} → Read A → ℕ → LentByHost ℕ → LentByHost ℕ → Type 0
 Leaves r n place fault = Tells (r .answer) n fault × (now (place .exit) ≡ r .place)
 
 -- what a lent value then is: what f makes of the answer, or what it was
-abbrev pub Puts : {A B : Type 0} → (A → B) → Told A → Lent B → Type 0
+abbrev pub Puts : {A B : Type 0} → (A → B) → Told A → LentByHost B → Type 0
 Puts f r v = now (v .exit) ≡ readValue f r (now (v .entry))
 
 -- the same of a float, which is told by its bits
-abbrev pub PutsReal : {A : Type 0} → (A → ℕ) → Told A → Lent Float → Type 0
+abbrev pub PutsReal : {A : Type 0} → (A → ℕ) → Told A → LentByHost Float → Type 0
 PutsReal f r v = toBits binary64 (now (v .exit)) ≡ readValue f r (toBits binary64 (now (v .entry)))
 
 -- what a lent list then is: the answer's numbers at its start, or what it was
-abbrev pub PutsList : {A : Type 0} → Told (List A) → Lent (List A) → Type 0
+abbrev pub PutsList : {A : Type 0} → Told (List A) → LentByHost (List A) → Type 0
 PutsList r out = now (out .exit) ≡ written r (now (out .entry))
 
 -- the same of floats
-abbrev pub PutsReals : Told (List ℕ) → Lent (List Float) → Type 0
+abbrev pub PutsReals : Told (List ℕ) → LentByHost (List Float) → Type 0
 PutsReals r out = map (toBits binary64) (now (out .exit)) ≡ written r (map (toBits binary64) (now (out .entry)))
 
 -- an answer that may be none as a number: 255 where there is none; 0, or the number of the refusal
@@ -71,11 +71,11 @@ foundValue f (good (some a)) old = f a
 foundValue f (bad q) old = old
 
 -- what a lent value then is: what f makes of what is found, or what it was
-abbrev pub PutsFound : {A B : Type 0} → (A → B) → Told (Option A) → Lent B → Type 0
+abbrev pub PutsFound : {A B : Type 0} → (A → B) → Told (Option A) → LentByHost B → Type 0
 PutsFound f r v = now (v .exit) ≡ foundValue f r (now (v .entry))
 
 -- the same of a float, which is told by its bits
-abbrev pub PutsFoundReal : {A : Type 0} → (A → ℕ) → Told (Option A) → Lent Float → Type 0
+abbrev pub PutsFoundReal : {A : Type 0} → (A → ℕ) → Told (Option A) → LentByHost Float → Type 0
 PutsFoundReal f r v = toBits binary64 (now (v .exit)) ≡ foundValue f r (toBits binary64 (now (v .entry)))
 
 -- a truth as a number: 1 or 0

@@ -38,8 +38,8 @@ rowsAfter (good t) old = recordsOf t old
 rowsAfter (bad q) old = old
 
 -- the scan of a file into lent memory: so many header rows and data rows as this has room for, with so many slots
-abbrev pub scanInto : List ℕ → List ℕ → List ℕ → ℕ → Told Table
-scanInto s headers rows slots = scanOf s (headerRoom headers) (dataRoom rows slots)
+abbrev pub scanLent : List ℕ → List ℕ → List ℕ → ℕ → Told Table
+scanLent s headers rows slots = scanOf s (headerRoom headers) (dataRoom rows slots)
 
 -- an answer's values: the counts of both kinds of row, and the largest id
 pub record Counts : Type 0 where

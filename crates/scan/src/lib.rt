@@ -16,7 +16,7 @@ ghost use Rattle.statement.specs.Tidy.{tidy};
 ghost use Rattle.statement.specs.declared.Section.the-variants.{Outside, InData};
 ghost use Rattle.scan.specs.File.{marked, readingOf};
 ghost use Rattle.table.specs.Table.{rowsFit, headersFit, rowPut, headerPut};
-ghost use Rattle.scan.specs.Table.{headerRoom, dataRoom, headersOf, recordsOf, toldScan, countsOf, headersAfter, rowsAfter, scanInto};
+ghost use Rattle.scan.specs.Table.{headerRoom, dataRoom, headersOf, recordsOf, toldScan, countsOf, headersAfter, rowsAfter, scanLent};
 ghost use Rattle.scan.specs.Laws.{Written};
 ghost use Rattle.scan.specs.Neat.{Neat, toldPassed, NeatTold};
 ghost use Rattle.scan.specs.Run.{Ran};
@@ -216,9 +216,9 @@ fn pass(
 // Scans the file into lent rows: header rows of four numbers, data rows of six, and so many id slots, one a record. 8 where
 // the rows of a kind, or the id slots, are used up. A refusal changes nothing; rows beyond the answer's keep their numbers.
 pub fn scan(file: &[u8], headers: &mut [u32], rows: &mut [u32], slots: usize) -> Scanned
-    ensures { λ r. ⌜ toldScan r ≡ mapped countsOf (scanInto (now (file .entry)) (now (headers .entry)) (now (rows .entry)) slots) ⌝ }
-    ensures { λ _. ⌜ now (headers .exit) ≡ headersAfter (scanInto (now (file .entry)) (now (headers .entry)) (now (rows .entry)) slots) (now (headers .entry)) ⌝ }
-    ensures { λ _. ⌜ now (rows .exit) ≡ rowsAfter (scanInto (now (file .entry)) (now (headers .entry)) (now (rows .entry)) slots) (now (rows .entry)) ⌝ }
+    ensures { λ r. ⌜ toldScan r ≡ mapped countsOf (scanLent (now (file .entry)) (now (headers .entry)) (now (rows .entry)) slots) ⌝ }
+    ensures { λ _. ⌜ now (headers .exit) ≡ headersAfter (scanLent (now (file .entry)) (now (headers .entry)) (now (rows .entry)) slots) (now (headers .entry)) ⌝ }
+    ensures { λ _. ⌜ now (rows .exit) ≡ rowsAfter (scanLent (now (file .entry)) (now (headers .entry)) (now (rows .entry)) slots) (now (rows .entry)) ⌝ }
 {
     if 4294967295 < file.len() {
         return Scanned::Refused(Fault::TooLong);

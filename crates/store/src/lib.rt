@@ -4,7 +4,7 @@
 ghost use mathlib.Core.Path.{_≡_};
 ghost use lib.ListN.{length};
 ghost use Rattle.statement.specs.Rows.{mapped};
-ghost use Rattle.scan.specs.Table.{countsOf, headersAfter, rowsAfter, scanInto};
+ghost use Rattle.scan.specs.Table.{countsOf, headersAfter, rowsAfter, scanLent};
 ghost use Rattle.store.specs.Store.{toldOpened, Indexed};
 use error::Fault;
 use lookup::Tables;
@@ -18,9 +18,9 @@ pub enum Opened {
 
 // Scans a file into lent rows and indexes its ids in the lent slots, one a record. A refusal changes nothing that was lent.
 pub fn open(file: &[u8], headers: &mut [u32], rows: &mut [u32], slots: &mut [u64]) -> Opened
-    ensures { λ r. ⌜ toldOpened r ≡ mapped countsOf (scanInto (now (file .entry)) (now (headers .entry)) (now (rows .entry)) (length (now (slots .entry)))) ⌝ }
-    ensures { λ _. ⌜ now (headers .exit) ≡ headersAfter (scanInto (now (file .entry)) (now (headers .entry)) (now (rows .entry)) (length (now (slots .entry)))) (now (headers .entry)) ⌝ }
-    ensures { λ _. ⌜ now (rows .exit) ≡ rowsAfter (scanInto (now (file .entry)) (now (headers .entry)) (now (rows .entry)) (length (now (slots .entry)))) (now (rows .entry)) ⌝ }
+    ensures { λ r. ⌜ toldOpened r ≡ mapped countsOf (scanLent (now (file .entry)) (now (headers .entry)) (now (rows .entry)) (length (now (slots .entry)))) ⌝ }
+    ensures { λ _. ⌜ now (headers .exit) ≡ headersAfter (scanLent (now (file .entry)) (now (headers .entry)) (now (rows .entry)) (length (now (slots .entry)))) (now (headers .entry)) ⌝ }
+    ensures { λ _. ⌜ now (rows .exit) ≡ rowsAfter (scanLent (now (file .entry)) (now (headers .entry)) (now (rows .entry)) (length (now (slots .entry)))) (now (rows .entry)) ⌝ }
     ensures { λ r. ⌜ Indexed r (now (rows .exit)) (now (slots .entry)) (now (slots .exit)) ⌝ }
 {
     let n = slots.len();

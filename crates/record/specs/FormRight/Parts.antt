@@ -21,8 +21,8 @@ pub sole : {A : Type 0} (P : A → Type 0) {a : A} → ((x : A) → P x → x �
 sole P only (x, h) = rw (only x h) at h
 
 -- an empty list does not begin with a byte of the kind p
-pub first-none : (p : ℕ → Bool) → NotFirst p []
-first-none p c r e = clash (cc)
+pub empty-not-first : (p : ℕ → Bool) → NotFirst p []
+empty-not-first p c r e = clash (cc)
 
 -- a list whose first byte is not of the kind p does not begin with such a byte
 pub first-other : (p : ℕ → Bool) (c : ℕ) (xs : List ℕ) → p c ≡ false → NotFirst p (c ∷ xs)
@@ -63,7 +63,7 @@ Spanned p xs = (f r : List ℕ) × (xs ≡ f ++ r) × Skipped p f r
 
 -- every list splits into its bytes of the kind p at the start and what follows them
 pub span : (p : ℕ → Bool) (xs : List ℕ) → Spanned p xs
-span p [] = ([], [], refl, record { all = tt; over = first-none p })
+span p [] = ([], [], refl, record { all = tt; over = empty-not-first p })
 span p (c ∷ xs) = go (p c) refl (span p xs)
   where
     go : (t : Bool) → p c ≡ t → Spanned p xs → Spanned p (c ∷ xs)
