@@ -18,7 +18,7 @@ none-filled : {A : Type 0} (vs out : List A) → length vs ≤ 0 → out ≡ fil
 none-filled [] out h = refl
 none-filled (v ∷ vs) out h = absurd (omega arith)
 
--- it stands whole in no numbers
+-- a list stands whole in a list of no numbers: it is longer than that, or has no values
 none-held : {A : Type 0} (x : Fate (List A)) → Held x []
 none-held (fine []) h = refl
 none-held (fine (v ∷ vs)) h = absurd (omega arith)
@@ -38,7 +38,7 @@ first-held Integers x refs wholes first h = none-held x
 first-held (Floats which) x refs wholes first h = h
 first-held Any x refs wholes first h = h
 
--- a list that is written from there
+-- a list that stands whole in the first reals is written by copying as many of them as it has values
 pub first-laid : (kind : Kind) (x : Fate (List (Value kind))) (refs : List ℕ) (wholes : List ℤ) (first reals reals′ : List Float) (n : ℕ) → n ≡ length (valuesOf x) → n ≤ roomOf kind 0 0 (length first)
     → Held x (lentOf kind [] [] first) → reals′ ≡ take n first ++ drop n reals → lentOf kind refs wholes reals′ ≡ filled (valuesOf x) (lentOf kind refs wholes reals)
 first-laid References x refs wholes first reals reals′ n c h k e = none-filled (valuesOf x) refs (omega (arith, c, h))

@@ -38,14 +38,14 @@ lentOf Integers refs wholes reals = wholes
 lentOf (Floats which) refs wholes reals = map (toBits binary64) reals
 lentOf Any refs wholes reals = []
 
--- how many there are
+-- how many numbers of a kind are lent; for any items none are
 abbrev pub roomOf : Kind → ℕ → ℕ → ℕ → ℕ
 roomOf References refs wholes reals = refs
 roomOf Integers refs wholes reals = wholes
 roomOf (Floats which) refs wholes reals = reals
 roomOf Any refs wholes reals = 0
 
--- a list fits into the lent numbers of its kind
+-- whether a list fits into the lent numbers of its kind
 abbrev pub fitsBy : (kind : Kind) → List ℕ → List ℤ → List Float → List (Value kind) → Bool
 fitsBy kind refs wholes reals vs = fitsIn (roomOf kind (length refs) (length wholes) (length reals)) vs
 
