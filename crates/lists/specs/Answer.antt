@@ -24,22 +24,22 @@ pub data Fate (A : Type 0) : Type 0 where
   fine : A → Fate A
   faulty : ℕ → ℕ → Fate A
 
--- seen from k bytes further back
+-- what a text reads as, seen from k bytes further back: a refusal's place is k bytes further on
 abbrev pub shifted : {A : Type 0} → ℕ → Fate A → Fate A
 shifted k (fine a) = fine a
 shifted k (faulty n o) = faulty n (k + o)
 
--- a value by a function, or its refusal
+-- what f makes of what a text reads as; a refusal stays as it is
 abbrev pub fated : {A B : Type 0} → (A → B) → Fate A → Fate B
 fated h (fine a) = fine (h a)
 fated h (faulty n o) = faulty n o
 
--- a scalar for an item: its refusal is at its start
+-- what a scalar reads as, as an item: its refusal is at its start
 abbrev pub asFate : {A : Type 0} → Answer A → Fate A
 asFate (read a) = fine a
 asFate (refused n) = faulty n 0
 
--- a value in front of what follows
+-- a value in front of the values that follow it; their refusal stays as it is
 abbrev pub consed : {A : Type 0} → A → Fate (List A) → Fate (List A)
 consed a (fine vs) = fine (a ∷ vs)
 consed a (faulty n o) = faulty n o
@@ -61,7 +61,7 @@ fitsIn room vs = leb (length vs) room
 abbrev pub countOf : {A : Type 0} → Told (List A) → Told ℕ
 countOf a = onward (λ vs. good (length vs)) a
 
--- the answer's count
+-- the answer of a reader of lists with the count for the list
 abbrev pub howMany : {A : Type 0} → Read (List A) → Read ℕ
 howMany a = mapped (λ vs. good (length vs)) a
 
@@ -70,13 +70,13 @@ abbrev pub written : {A : Type 0} → Told (List A) → List A → List A
 written (good vs) out = vs ++ drop (length vs) out
 written (bad q) out = out
 
--- how many were read, or the refusal
+-- what the code's count of a list tells: how many items were read, or the refusal
 abbrev pub toldCounted : Counted → Fate ℕ
 toldCounted (All n) = fine n
 toldCounted (Wrong o) = faulty 12 o
 toldCounted (Outside o) = faulty 13 o
 
--- none is more than n
+-- the count of items, or the place of a refusal, that the code tells is at most n
 abbrev pub CountedIn : ℕ → Counted → Type 0
 CountedIn n (All k) = k ≤ n
 CountedIn n (Wrong o) = o ≤ n

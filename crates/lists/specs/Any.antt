@@ -11,7 +11,7 @@ use Rattle.lists.specs.Items.{itemEnd, itemText, indent, itemBy, headed,
 use Rattle.lists.specs.Rules.{Listed}
 use Rattle.lists.specs.RulesRight.{listed-is, listed-only}
 
--- the same as a rule
+-- the rule of an item that any text is: it reads, whatever it is
 abbrev pub Anything : List ℕ → Fate (Unit {0}) → Type 0
 Anything u a = a ≡ fine tt
 
@@ -19,26 +19,26 @@ Anything u a = a ≡ fine tt
 pub items-are : (t : List ℕ) → Listed Anything t (listBy anything t)
 items-are t = listed-is Anything anything (λ u. refl) t
 
--- and there are no others
+-- the items of a list by the rules of document 01, whatever they read as, are no others than those that are computed
 pub items-only : {t : List ℕ} {a : Fate (List (Unit {0}))} → Listed Anything t a → a ≡ listBy anything t
 items-only d = listed-only Anything anything (λ u a e. e) d
 
--- the same of a list of lists
+-- the rows of a grid by the rules of document 01, whatever their items read as, are those that are computed
 pub rows-are : (t : List ℕ) → Listed (Listed Anything) t (listBy (listBy anything) t)
 rows-are t = listed-is (Listed Anything) (listBy anything) items-are t
 
--- and there are no others
+-- the rows of a grid by the rules of document 01, whatever their items read as, are no others than those that are computed
 pub rows-only : {t : List ℕ} {a : Fate (List (List (Unit {0})))} → Listed (Listed Anything) t a → a ≡ listBy (listBy anything) t
 rows-only d = listed-only (Listed Anything) (listBy anything) (λ u a. items-only) d
 
 -- ---- a list that g reads is read by h, which reads what g reads
--- from further back
+-- what reads seen from k bytes further back reads
 shifted-fine : {A : Type 0} (k : ℕ) (x : Fate A) (v : A) → shifted k x ≡ fine v → x ≡ fine v
 shifted-fine k (fine a) v e = e
 shifted-fine k (faulty n o) v e = clash (cc)
 
 module _ {A B : Type 0} (k : A → B) where
-  -- an item, and what follows it
+  -- an item with those that follow it, which g reads, is read by h, where h reads the item and those that follow it
   headed-also : (x : Fate A) (y : Fate B) (p : Unit {0} → Fate (List A)) (q : Unit {0} → Fate (List B)) → ((v : A) → x ≡ fine v → y ≡ fine (k v)) → ((ws : List A) → p tt ≡ fine ws → q tt ≡ fine (map k ws))
       → (vs : List A) → headed x p ≡ fine vs → headed y q ≡ fine (map k vs)
   headed-also (fine a) y p q f g vs e = go (p tt) refl e
@@ -48,20 +48,20 @@ module _ {A B : Type 0} (k : A → B) where
       go (faulty n o) h d = clash (cc)
   headed-also (faulty n o) y p q f g vs e = clash (cc)
 
-  -- what follows a comma
+  -- what follows a comma and is read by g is read by h, where h reads every rest that g reads
   past-also : (xs : List ℕ) (p : List ℕ → Fate (List A)) (q : List ℕ → Fate (List B)) → ((r : List ℕ) (ws : List A) → p r ≡ fine ws → q r ≡ fine (map k ws)) → (vs : List A) → past-comma xs p ≡ fine vs → past-comma xs q ≡ fine (map k vs)
   past-also [] p q f vs e = let w : [] ≡ vs = cc in ap (λ (us : List A). fine (map k us)) w
   past-also (c ∷ r) p q f vs e = f r vs e
 
   module _ (g : List ℕ → Fate A) (h : List ℕ → Fate B) (also : (u : List ℕ) (v : A) → g u ≡ fine v → h u ≡ fine (k v)) where
-    -- an item
+    -- an item that g reads is read by h, where h reads each text that g reads
     item-also : (o : ℕ) (t : List ℕ) (v : A) → shifted o (itemBy g t) ≡ fine v → shifted o (itemBy h t) ≡ fine (k v)
     unfolding itemBy
     item-also o t v e =
         let f = shifted-fine (indent t) (g (itemText t)) v (shifted-fine o (shifted (indent t) (g (itemText t))) v e) in
         ap (λ (x : Fate B). shifted o (shifted (indent t) x)) (also (itemText t) v f)
 
-    -- from a rest on
+    -- the items from a rest on that g reads are read by h, where h reads each text that g reads
     from-also : (n o : ℕ) (xs : List ℕ) (vs : List A) → itemsFrom n g o xs ≡ fine vs → itemsFrom n h o xs ≡ fine (map k vs)
     unfolding itemsFrom
     from-also zero o xs vs e = let w : [] ≡ vs = cc in ap (λ (us : List A). fine (map k us)) w
@@ -71,7 +71,7 @@ module _ {A B : Type 0} (k : A → B) where
         (past-also (itemEnd xs) (λ r. itemsFrom n g (o + (length xs - length r)) r) (λ r. itemsFrom n h (o + (length xs - length r)) r) (λ r ws. from-also n (o + (length xs - length r)) r ws))
         vs e
 
-    -- of a list
+    -- a list that g reads is read by h, with k of each value, where h reads each text that g reads with k of its value
     pub list-also : (t : List ℕ) (vs : List A) → listBy g t ≡ fine vs → listBy h t ≡ fine (map k vs)
     unfolding listBy itemsBy
     list-also t vs e = go (bodyOf t) e
@@ -88,6 +88,6 @@ module _ {A B : Type 0} (k : A → B) where
 pub list-counted : {A : Type 0} (g : List ℕ → Fate A) (t : List ℕ) (vs : List A) → listBy g t ≡ fine vs → listBy anything t ≡ fine (map (λ (a : A). tt {0}) vs)
 list-counted {A} g t vs e = list-also (λ (a : A). tt {0}) g anything (λ u v d. refl) t vs e
 
--- the same of a list of lists
+-- a grid that is read has as many rows, and each as many items, as are counted
 pub rows-counted : {A : Type 0} (g : List ℕ → Fate A) (t : List ℕ) (vs : List (List A)) → listBy (listBy g) t ≡ fine vs → listBy (listBy anything) t ≡ fine (map (map (λ (a : A). tt {0})) vs)
 rows-counted {A} g t vs e = list-also (map (λ (a : A). tt {0})) (listBy g) (listBy anything) (list-counted g) t vs e

@@ -37,7 +37,7 @@ itemEnd xs = boundOf (cutOf xs)
 unfoldable pub itemText : List ℕ → List ℕ
 itemText xs = trimmed (before xs (itemEnd xs))
 
--- how many bytes of the item stand before that
+-- how many bytes of the item that begins xs stand before its text without whitespace
 unfoldable pub indent : List ℕ → ℕ
 indent xs = length (before xs (itemEnd xs)) - length (past white (before xs (itemEnd xs)))
 
@@ -50,7 +50,7 @@ abbrev pub headed : {A : Type 0} → Fate A → (Unit {0} → Fate (List A)) →
 headed (fine a) k = consed a (k tt)
 headed (faulty n o) k = faulty n o
 
--- what follows a comma
+-- what k reads behind a comma; where no comma stands, there is nothing
 abbrev pub past-comma : {A : Type 0} → List ℕ → (List ℕ → Fate (List A)) → Fate (List A)
 past-comma [] k = fine []
 past-comma (c ∷ r) k = k r
@@ -61,11 +61,11 @@ itemsFrom zero g o xs = fine []
 itemsFrom (suc n) g o xs =
     headed (shifted o (itemBy g xs)) (λ u. past-comma (itemEnd xs) (λ r. itemsFrom n g (o + (length xs - length r)) r))
 
--- all of them in a list's inside
+-- all items in a list's inside
 abbrev pub itemsIn : {A : Type 0} → (List ℕ → Fate A) → List ℕ → Fate (List A)
 itemsIn g b = itemsFrom (suc (length b)) g 0 b
 
--- whether nothing is left
+-- whether a list of bytes is empty
 abbrev pub isNone : List ℕ → Bool
 isNone [] = true
 isNone (c ∷ r) = false
@@ -74,7 +74,7 @@ isNone (c ∷ r) = false
 unfoldable pub isBlank : List ℕ → Bool
 isBlank b = isNone (trimmed b)
 
--- all items of a list's inside
+-- all items of a list's inside, none where that is whitespace alone
 unfoldable pub itemsBy : {A : Type 0} → (List ℕ → Fate A) → List ℕ → Fate (List A)
 itemsBy g b = pick (isBlank b) (fine []) (itemsFrom (suc (length b)) g 0 b)
 
@@ -88,7 +88,7 @@ unfoldable pub bodyOf : List ℕ → Body
 bodyOf [] = bare
 bodyOf (c ∷ r) = pick (eqb c 40 && eqb (getD r (length r - 1) 0) 41) (inside (take (length r - 1) r)) bare
 
--- its items; what is no list is 12 at its start
+-- the items of a list, by its inside; what is no list is 12 at its start
 abbrev pub listed : {A : Type 0} → (List ℕ → Fate A) → Body → Fate (List A)
 listed g (inside b) = shifted 1 (itemsBy g b)
 listed g bare = faulty 12 0
@@ -101,7 +101,7 @@ listBy g t = listed g (bodyOf t)
 abbrev pub listOf : {A : Type 0} → (List ℕ → Answer A) → List ℕ → Fate (List A)
 listOf f t = listBy (λ u. asFate (f u)) t
 
--- the same answer seen from k bytes further back: only a refusal has a place
+-- a told answer seen from k bytes further back: only a refusal has a place
 abbrev pub moved : {A : Type 0} → ℕ → Told A → Told A
 moved k (good a) = good a
 moved k (bad q) = bad (refusal (q .number) (q .reason) (k + q .place))
@@ -124,7 +124,7 @@ ShapeAt t NotList = bodyOf t ≡ bare
 ShapeAt t Blank = (b : List ℕ) × (bodyOf t ≡ inside b) × (isBlank b ≡ true)
 ShapeAt t Full = (2 ≤ length t) × (bodyOf t ≡ inside (take (length t - 1 - 1) (drop 1 t))) × (isBlank (take (length t - 1 - 1) (drop 1 t)) ≡ false)
 
--- whether an item reads
+-- what the code's verdict on an item tells: whether it reads
 abbrev pub toldVerdict : Verdict → Fate (Unit {0})
 toldVerdict VerdictCode.the-variants.Reads = fine tt
 toldVerdict VerdictCode.the-variants.Wrong = faulty 12 0
@@ -137,7 +137,7 @@ reached (ReadListCode.the-variants.Wrong o) = o
 reached (ReadListCode.the-variants.Outside o) = o
 reached ReadListCode.the-variants.Short = 0
 
--- it reads, and there is room for its numbers
+-- a list reads, and there is room for its numbers
 abbrev pub Ready : {A : Type 0} → Fate (List A) → ℕ → Type 0
 Ready a room = (a ≡ fine (valuesOf a)) × (length (valuesOf a) ≤ room)
 
@@ -150,6 +150,6 @@ abbrev pub Kept : {A : Type 0} → Fate (List A) → List A → List A → Type 
 Kept (fine vs) old new = new ≡ take (length old) (filled vs old)
 Kept (faulty n o) old new = Unit {0}
 
--- a list no longer than that stands there whole
+-- a list no longer than the numbers beside it stands there whole
 abbrev pub Held : {A : Type 0} → Fate (List A) → List A → Type 0
 Held a first = length (valuesOf a) ≤ length first → take (length (valuesOf a)) first ≡ valuesOf a

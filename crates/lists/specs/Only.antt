@@ -26,11 +26,11 @@ use Rattle.lists.specs.declared.NextList.the-variants as next
 use Rattle.lists.specs.Items.{ItemAt, ShapeAt}
 use Rattle.lists.specs.Answer.{Fate, fine, faulty, toldCounted, toldReadList, toldNextList}
 
--- the place from which a rest of b goes
+-- two places in b from which the same rest goes are one place
 rest-place : (b : List ℕ) (i j : ℕ) → i ≤ length b → j ≤ length b → drop i b ≡ drop j b → i ≡ j
 rest-place b i j h k e = omega (arith, ap length e, length-drop i b, length-drop j b)
 
--- `item_at`
+-- `item_at`: at most one item is what it may tell of a place in the list
 pub item-told-only : (b : List ℕ) (i : ℕ) (r s : Item) → ItemAt b i r → ItemAt b i s → r ≡ s
 item-told-only b i r s h k =
     let x : r .start ≡ s .start = h .begins ∙ sym (k .begins) in
@@ -42,7 +42,7 @@ item-told-only b i r s h k =
     ∙ ap (λ (a : ℕ). record { start = s .start; stop = a; bound = r .bound }) y
     ∙ ap (λ (a : ℕ). record { start = s .start; stop = s .stop; bound = a }) z
 
--- `shape_of`
+-- `shape_of`: at most one shape is what it may tell of a text
 pub shape-only : (t : List ℕ) (a b : Shape) → ShapeAt t a → ShapeAt t b → a ≡ b
 shape-only t NotList NotList h k = refl
 shape-only t NotList Blank h (b, e, n) = clash (cc)
@@ -54,28 +54,28 @@ shape-only t Full NotList (l, e, n) k = clash (cc)
 shape-only t Full Blank (l, f, m) (b, e, n) = clash (cc)
 shape-only t Full Full h k = refl
 
--- the count that tells this
+-- the count that tells this number or this refusal
 countedOf : Fate ℕ → Counted
 countedOf (fine n) = counted.All n
 countedOf (faulty n o) = pick (eqb n 13) (counted.Outside o) (counted.Wrong o)
 
--- it is the count that was told
+-- a count is the one that is made from what it tells
 counted-back : (a : Counted) → countedOf (toldCounted a) ≡ a
 unfolding countedOf
 counted-back (counted.All n) = refl
 counted-back (counted.Wrong o) = refl
 counted-back (counted.Outside o) = refl
 
--- `count_list`
+-- `count_list`: two counts that tell the same are one
 pub counted-only : (a b : Counted) → toldCounted a ≡ toldCounted b → a ≡ b
 counted-only a b e = sym (counted-back a) ∙ ap countedOf e ∙ counted-back b
 
--- the answer to a text that tells this
+-- the answer to a list's text that tells this number or this refusal
 readOf : Told ℕ → ReadList
 readOf (good n) = reading.Count n
 readOf (bad q) = pick (eqb (q .number) 12) (reading.Wrong (q .place)) (pick (eqb (q .number) 13) (reading.Outside (q .place)) reading.Short)
 
--- it is the answer that was told
+-- an answer to a list's text is the one that is made from what it tells
 read-back : (a : ReadList) → readOf (toldReadList a) ≡ a
 unfolding readOf
 read-back (reading.Count n) = refl
@@ -83,22 +83,22 @@ read-back (reading.Wrong o) = refl
 read-back (reading.Outside o) = refl
 read-back reading.Short = refl
 
--- `read_refs`, `read_wholes`, `read_reals`
+-- `read_refs`, `read_wholes`, `read_reals`: two answers that tell the same are one
 pub read-only : (a b : ReadList) → toldReadList a ≡ toldReadList b → a ≡ b
 read-only a b e = sym (read-back a) ∙ ap readOf e ∙ read-back b
 
--- the answer of a reader that tells this
+-- the answer of a reader of lists that tells this number or refusal, place and end
 nextOf : Told ℕ → ℕ → ℕ → NextList
 nextOf (good n) p e = next.Count n (record { place = p; end = e })
 nextOf (bad q) p e = next.Refused (faultOf q) (record { place = p; end = e })
 
--- it is the answer that was told
+-- the answer of a reader of lists is the one that is made from what it tells
 next-back : (a : NextList) → nextOf (toldNextList a .answer) (toldNextList a .place) (toldNextList a .end) ≡ a
 unfolding nextOf
 next-back (next.Count n t) = refl
 next-back (next.Refused f t) = ap (λ f. next.Refused f t) (faultOf-told f)
 
--- `next_ref_list`, `next_i64_list`, `next_f64_list`, `next_real_list`
+-- `next_ref_list`, `next_i64_list`, `next_f64_list`, `next_real_list`: two answers that tell the same are one
 pub next-list-only : (a b : NextList) → toldNextList a ≡ toldNextList b → a ≡ b
 next-list-only a b e = sym (next-back a) ∙ ap (λ (r : Read ℕ). nextOf (r .answer) (r .place) (r .end)) e ∙ next-back b
 

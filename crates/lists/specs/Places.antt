@@ -51,7 +51,7 @@ scalar-inward {A} f t = go (f t)
     go (read a) = omega arith
     go (refused n) = omega arith
 
--- what is told of a value has no other faults
+-- what h makes of what g reads has its faults in the text, as what g reads has
 pub told-inward : {A B : Type 0} (h : A → B) (g : List ℕ → Fate A) → Inward g → Inward (λ u. fated h (g u))
 told-inward {A} h g inward t = go (g t) (inward t)
   where
@@ -59,7 +59,7 @@ told-inward {A} h g inward t = go (g t) (inward t)
     go (fine a) k = k
     go (faulty n o) k = k
 
--- where the fault is of which that is told
+-- a fault in what h makes of a reading is no further into the text than that of the reading
 pub told-place : {A B : Type 0} (h : A → B) (x : Fate A) (n o m : ℕ) → faulty n o ≡ fated h x → offset x ≤ m → o ≤ m
 told-place h (fine a) n o m e k = clash (cc)
 told-place h (faulty l p) n o m e k = let q : o ≡ p = cc in omega arith
@@ -117,12 +117,12 @@ item-short xs =
     let t = before xs (itemEnd xs) in
     omega (arith, past-short white t, length-take (length (past white t) - length (trail (past white t))) (past white t), length-take (length xs - length (itemEnd xs)) xs)
 
--- seen from further back
+-- a fault seen from k bytes further back is at most k bytes further into the text
 offset-shifted : {A : Type 0} (k : ℕ) (x : Fate A) → offset (shifted k x) ≤ k + offset x
 offset-shifted k (fine a) = omega arith
 offset-shifted k (faulty n o) = omega arith
 
--- an item and those after it
+-- the fault of an item with those after it lies no further than m, where the item's does and that of those after it
 offset-headed : {A : Type 0} (m : ℕ) (x : Fate A) (k : Unit {0} → Fate (List A)) → offset x ≤ m → offset (k tt) ≤ m → offset (headed x k) ≤ m
 offset-headed {A} m (fine a) k h l = go (k tt) l
   where
@@ -131,18 +131,18 @@ offset-headed {A} m (fine a) k h l = go (k tt) l
     go (faulty n o) h = h
 offset-headed m (faulty n o) k h l = h
 
--- what follows a comma
+-- the fault of what follows a comma lies no further than m, where that of every shorter rest does
 offset-past : {A : Type 0} (m : ℕ) (xs : List ℕ) (k : List ℕ → Fate (List A)) → ((r : List ℕ) → length r < length xs → offset (k r) ≤ m) → offset (past-comma xs k) ≤ m
 offset-past m [] k h = omega arith
 offset-past m (c ∷ r) k h = h r (omega arith)
 
 module _ {A : Type 0} (g : List ℕ → Fate A) (inward : Inward g) where
-  -- an item
+  -- the fault of an item lies in the bytes it is cut from
   item-inward : (xs : List ℕ) → offset (itemBy g xs) ≤ length xs
   unfolding itemBy
   item-inward xs = omega (arith, offset-shifted (indent xs) (g (itemText xs)), inward (itemText xs), item-short xs)
 
-  -- the items from a rest on
+  -- the fault of the items from a rest on lies in that rest
   pub items-inward : (n o : ℕ) (xs : List ℕ) → offset (itemsFrom n g o xs) ≤ o + length xs
   unfolding itemsFrom
   items-inward zero o xs = omega arith
@@ -151,7 +151,7 @@ module _ {A : Type 0} (g : List ℕ → Fate A) (inward : Inward g) where
       (omega (arith, offset-shifted o (itemBy g xs), item-inward xs))
       (offset-past (o + length xs) (itemEnd xs) _ (λ r h. omega (arith, h, end-short xs, items-inward n (o + (length xs - length r)) r)))
 
-  -- the items of a list
+  -- the fault of the items in a list's inside lies in that inside
   all-inward : (b : List ℕ) → offset (itemsBy g b) ≤ length b
   unfolding itemsBy
   all-inward b = go (isBlank b)
@@ -160,7 +160,7 @@ module _ {A : Type 0} (g : List ℕ → Fate A) (inward : Inward g) where
       go true = omega arith
       go false = omega (arith, items-inward (suc (length b)) 0 b)
 
-  -- a list
+  -- the fault of a list lies in its text
   pub list-inward : Inward (listBy g)
   unfolding listBy bodyOf
   list-inward [] = omega arith
@@ -170,7 +170,7 @@ module _ {A : Type 0} (g : List ℕ → Fate A) (inward : Inward g) where
       go true = omega (arith, offset-shifted 1 (itemsBy g (take (length r - 1) r)), all-inward (take (length r - 1) r), length-take (length r - 1) r)
       go false = omega arith
 
-  -- a list's answer
+  -- the place of the refusal of a text that stands at a lies in that text
   pub roomed-inward : (fits : A → Bool) (a : ℕ) (t : List ℕ) → placeOf (roomed fits a (g t)) ≤ a + length t
   roomed-inward fits a t = go (g t) (inward t)
     where
@@ -213,7 +213,7 @@ next-inward {A} g inward fits s p e = let (h, k) = param-inward s p e in go (par
         omega (arith, roomed-inward g inward fits (a .start) t, k a refl, length-take (a .stop - a .start) (drop (a .start) s), length-drop (a .start) s)
     go (bad q) h k = h
 
--- the same of a refusal
+-- a refusal that a reader of lists, or of grids, answers has its place in the file
 pub next-placed : {A : Type 0} (g : List ℕ → Fate A) → Inward g → (fits : A → Bool) (s : List ℕ) (p e : ℕ) (q : Refusal) → nextBy g fits s p e .answer ≡ bad q → q .place ≤ length s
 next-placed g inward fits s p e q h = omega (arith, ap placeOf h, next-inward g inward fits s p e)
 
@@ -221,7 +221,7 @@ next-placed g inward fits s p e q h = omega (arith, ap placeOf h, next-inward g 
 pub list-placed : {A : Type 0} (f : List ℕ → Answer A) (room : ℕ) (s : List ℕ) (p e : ℕ) (q : Refusal) → nextBy (listOf f) (fitsIn room) s p e .answer ≡ bad q → q .place ≤ length s
 list-placed f room s p e q h = next-placed (listOf f) (list-inward (λ u. asFate (f u)) (scalar-inward f)) (fitsIn room) s p e q h
 
--- how far into the text the code's answer is
+-- the place that the code tells of a list's text lies in that text
 pub read-inward : {A : Type 0} (g : List ℕ → Fate (List A)) → Inward g → (fits : List A → Bool) (t : List ℕ) (r : ReadList) → toldReadList r ≡ countOf (roomed fits 0 (g t)) → reached r ≤ length t
 read-inward {A} g inward fits t r e = omega (arith, told-reached r, ap placeOf e, count-place (roomed fits 0 (g t)), roomed-inward g inward fits 0 t)
   where

@@ -7,6 +7,6 @@ use Rattle.reals.specs.Answer.{Answer}
 use Rattle.lists.specs.Answer.{nextBy, fitsIn}
 use Rattle.lists.specs.Items.{listOf}
 
--- a list of scalars that f reads, into so much room
+-- the next parameter of a reader, read as a list of scalars that f reads, into so much room
 abbrev pub listRead : {A : Type 0} → (List ℕ → Answer A) → ℕ → List ℕ → ℕ → ℕ → Read (List A)
 listRead f room s place end = nextBy (listOf f) (fitsIn room) s place end

@@ -33,7 +33,7 @@ pub record Item (xs f t r : List ℕ) : Type 0 where
 
 -- what the items from xs on read as by the rule P: their values, or the first bad item's refusal, and how far into xs its place is
 pub data Items {A : Type 0} (P : List ℕ → Fate A → Type 0) : List ℕ → Fate (List A) → Type 0 where
-  -- the last item
+  -- the last item, which reads: its value alone
   last : {xs f t : List ℕ} {v : A} → Item xs f t [] → P t (fine v) → Items P xs (fine (v ∷ []))
   -- an item w, its comma, and the items after it
   next : (w : List ℕ) {f t r : List ℕ} {v : A} {a : Fate (List A)} → Item (w ++ (44 ∷ r)) f t (44 ∷ r) → P t (fine v) → Items P r a
@@ -45,7 +45,7 @@ pub data Items {A : Type 0} (P : List ℕ → Fate A → Type 0) : List ℕ → 
 pub data Listed {A : Type 0} (P : List ℕ → Fate A → Type 0) : List ℕ → Fate (List A) → Type 0 where
   -- "`()` has no item", nor has `( )`
   none : (b : List ℕ) → Gap b → Listed P (40 ∷ (b ++ (41 ∷ []))) (fine [])
-  -- the items of its inside: "`(1,)` has two"
+  -- the items of a list's inside: "`(1,)` has two"
   items : (b : List ℕ) {a : Fate (List A)} → (Gap b → ⊥) → Items P b a → Listed P (40 ∷ (b ++ (41 ∷ []))) (shifted 1 a)
   -- what is no list is 12, at its start
   other : {t : List ℕ} → ((b : List ℕ) → t ≡ 40 ∷ (b ++ (41 ∷ [])) → ⊥) → Listed P t (faulty 12 0)

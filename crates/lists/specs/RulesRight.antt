@@ -46,7 +46,7 @@ unfolding itemEnd
 ends-only (Ends.cut p) = sym (ap boundOf (param-only p))
 ends-only (Ends.unclosed u) = sym (ap boundOf (unclosed-only u))
 
--- and where it is computed to it ends
+-- "cut at depth-0 commas": where an item is computed to end, it ends by the rule
 pub ends-is : (xs : List ℕ) → Ends xs (itemEnd xs)
 unfolding itemEnd
 ends-is xs = go (cutOf xs) refl
@@ -59,12 +59,12 @@ ends-is xs = go (cutOf xs) refl
 pub ends-one : {xs r q : List ℕ} → Ends xs r → Ends xs q → r ≡ q
 ends-one h k = ends-only h ∙ sym (ends-only k)
 
--- what is left there is a rest
+-- what is left where an item ends is a rest of its bytes
 ends-rest : {xs r : List ℕ} → Ends xs r → Rest xs r
 ends-rest (Ends.cut p) = let (h, k) = param-rest p in rest-of h k
 ends-rest {xs} (Ends.unclosed u) = (xs, sym (append-nil xs))
 
--- and begins with a comma
+-- what is left where an item ends begins with a comma, if anything is left
 ends-comma : {xs : List ℕ} {c : ℕ} {r : List ℕ} → Ends xs (c ∷ r) → c ≡ 44
 ends-comma {xs} {c} {r} h = go (c ∷ r) refl h
   where
@@ -77,7 +77,7 @@ ends-comma {xs} {c} {r} h = go (c ∷ r) refl h
     go q e (Ends.unclosed u) = clash (cc)
 
 -- ---- an item
--- the bytes before a rest
+-- the bytes before a rest r of b and r are b
 before-only : (b r : List ℕ) → before (b ++ r) r ≡ b
 before-only b r = take-at b r (length (b ++ r) - length r) (simp length-append (omega arith))
 
@@ -93,7 +93,7 @@ item-only {xs} {f} {t} {r} i =
     let m : Trimmed w t = record { front = f; back = i .back; shape = refl; before = i .before; after = i .after; first = first-part white t (i .back) (i .first); last = i .last } in
     (e, trimmed-only m ∙ ap trimmed (sym b), n ∙ ap (λ (x : List ℕ). length w - length x) (sym p) ∙ ap (λ (x : List ℕ). length x - length (past white x)) (sym b))
 
--- what is computed is an item
+-- the item that is computed is one by the rule
 pub item-is : (xs : List ℕ) → (f : List ℕ) × Item xs f (itemText xs) (itemEnd xs)
 unfolding itemText
 item-is xs = go (ends-rest (ends-is xs))
@@ -121,18 +121,18 @@ item-one h k =
     (b ∙ sym e, a ∙ sym d, c ∙ sym f)
 
 -- ---- items
--- seen from further back twice
+-- what is seen from k bytes and then from i bytes further back is seen from i + k bytes further back
 shift-twice : {A : Type 0} (i k : ℕ) (a : Fate A) → shifted i (shifted k a) ≡ shifted (i + k) a
 shift-twice i k (fine a) = refl
 shift-twice i k (faulty n o) = let e : i + (k + o) ≡ i + k + o = omega arith in ap (faulty n) e
 
--- a value in front, seen from further back
+-- a value in front of what is seen from further back is the value in front, seen from further back
 shift-consed : {A : Type 0} (k : ℕ) (v : A) (a : Fate (List A)) → consed v (shifted k a) ≡ shifted k (consed v a)
 shift-consed k v (fine vs) = refl
 shift-consed k v (faulty n o) = refl
 
 module _ {A : Type 0} (g : List ℕ → Fate A) where
-  -- the items from a place further on
+  -- the items from a place o bytes into a list are those from 0 on, seen from o bytes further back
   items-shift : (n o : ℕ) (xs : List ℕ) → itemsFrom n g o xs ≡ shifted o (itemsFrom n g 0 xs)
   unfolding itemsFrom
   items-shift zero o xs = refl
@@ -149,7 +149,7 @@ module _ {A : Type 0} (g : List ℕ → Fate A) where
           let a : Fate (List A) = itemsFrom n g 0 r in
           ap (consed v) (ih (o + d) r ∙ ap (λ (k : ℕ). shifted k a) m ∙ sym (shift-twice o (0 + d) a) ∙ ap (shifted o) (sym (ih (0 + d) r))) ∙ shift-consed o v (itemsFrom n g (0 + d) r)
 
-  -- one item of those that may be left
+  -- the items that begin with one item are that item, and those that follow its comma
   item-step : (n : ℕ) {xs f t r : List ℕ} → Item xs f t r → itemsFrom (suc n) g 0 xs ≡ headed (shifted (length f) (g t)) (λ u. past-comma r (λ q. itemsFrom n g (0 + (length xs - length q)) q))
   unfolding itemsFrom itemBy
   item-step n {xs} {f} {t} {r} i =
@@ -161,17 +161,17 @@ module _ {A : Type 0} (g : List ℕ → Fate A) where
       go (fine v) = refl
       go (faulty k j) = let i = indent xs in let m : 0 + (i + j) ≡ i + j = omega arith in ap (faulty k) m
 
-  -- a bad one
+  -- items that begin with a bad item are refused as that item is
   step-bad : (n : ℕ) {xs f t r : List ℕ} (k o : ℕ) → Item xs f t r → faulty k o ≡ g t → faulty k (length f + o) ≡ itemsFrom (suc n) g 0 xs
   step-bad n {xs} {f} {t} {r} k o i e =
       ap (λ (a : Fate A). headed (shifted (length f) a) (λ u. past-comma r (λ q. itemsFrom n g (0 + (length xs - length q)) q))) e ∙ sym (item-step n i)
 
-  -- the last one
+  -- items that begin with a good item at the end of the list are that item alone
   step-last : (n : ℕ) {xs f t : List ℕ} (v : A) → Item xs f t [] → fine v ≡ g t → fine (v ∷ []) ≡ itemsFrom (suc n) g 0 xs
   step-last n {xs} {f} {t} v i e =
       ap (λ (a : Fate A). headed (shifted (length f) a) (λ u. past-comma [] (λ q. itemsFrom n g (0 + (length xs - length q)) q))) e ∙ sym (item-step n i)
 
-  -- one before others
+  -- items that begin with a good item and a comma are its value in front of those of the items that follow
   step-next : (n : ℕ) (w : List ℕ) {f t r : List ℕ} (v : A) → Item (w ++ (44 ∷ r)) f t (44 ∷ r) → fine v ≡ g t
       → consed v (shifted (suc (length w)) (itemsFrom n g 0 r)) ≡ itemsFrom (suc n) g 0 (w ++ (44 ∷ r))
   step-next n w {f} {t} {r} v i e =
@@ -182,7 +182,7 @@ module _ {A : Type 0} (g : List ℕ → Fate A) where
       ∙ sym (item-step n i)
 
 module _ {A : Type 0} (P : List ℕ → Fate A → Type 0) (g : List ℕ → Fate A) where
-  -- what is computed is the answer, where it is for an item
+  -- what is computed for the items from xs on is what they read as by the rule P, where g reads each item by P
   items-are : ((t : List ℕ) → P t (g t)) → (n : ℕ) (xs : List ℕ) → length xs < n → Items P xs (itemsFrom n g 0 xs)
   items-are is zero xs h = absurd (omega arith)
   items-are is (suc n) xs h = let (f, i) = item-is xs in go f (itemText xs) (itemEnd xs) i (g (itemText xs)) refl (items-are is n)
@@ -201,7 +201,7 @@ module _ {A : Type 0} (P : List ℕ → Fate A → Type 0) (g : List ℕ → Fat
       go f t [] i (fine v) q ih = subst (Items P xs) (step-last g n v i q) (Items.last i (subst (P t) (sym q) (is t)))
       go f t (c ∷ r) i (fine v) q ih = let (w, e) = ends-rest (i .ends) in more w f t c r e (ends-comma (i .ends)) i v q ih
 
-  -- and there is no other
+  -- what the items from xs on read as by the rule P is what is computed, where P has no answer for an item but that of g
   items-only : ((t : List ℕ) (a : Fate A) → P t a → a ≡ g t) → {xs : List ℕ} {a : Fate (List A)} → Items P xs a → (n : ℕ) → length xs < n → a ≡ itemsFrom n g 0 xs
   items-only only q zero h = absurd (omega arith)
   items-only only (Items.last {t} {v} i p) (suc n) h = step-last g n v i (only t (fine v) p)
@@ -211,7 +211,7 @@ module _ {A : Type 0} (P : List ℕ → Fate A → Type 0) (g : List ℕ → Fat
       ap (λ (x : Fate (List A)). consed v (shifted (suc (length w)) x)) (items-only only q n l) ∙ step-next g n w v i (only t (fine v) p)
 
 -- ---- "A list is `(`..`)`"
--- the inside of a list
+-- the inside of `(`, b and `)` is b
 body-only : (b : List ℕ) → bodyOf (40 ∷ (b ++ (41 ∷ []))) ≡ inside b
 unfolding bodyOf
 body-only b =
@@ -241,14 +241,14 @@ body-comes (c ∷ r) = go (eqb c 40) (eqb (getD r (length r - 1) 0) 41) refl ref
     go true false p q = inr refl
     go false v p q = inr refl
 
--- nothing but whitespace is left of whitespace alone
+-- an inside of whitespace alone is computed to be blank
 none-only : (b : List ℕ) → All white b → isBlank b ≡ true
 unfolding isBlank
 none-only b a =
     let m : Trimmed b [] = record { front = b; back = []; shape = sym (append-nil b); before = a; after = tt; first = λ c r e. clash (cc); last = last-none white } in
     ap isNone (sym (trimmed-only m))
 
--- and of whitespace alone nothing
+-- an inside that is computed to be blank is whitespace alone
 none-is : (b : List ℕ) → isBlank b ≡ true → All white b
 unfolding isBlank
 none-is b h = go (trimmed b) (trimmed-is b) h
@@ -258,12 +258,12 @@ none-is b h = go (trimmed b) (trimmed-is b) h
     go (c ∷ t) m k = clash (cc)
 
 module _ {A : Type 0} (P : List ℕ → Fate A → Type 0) (g : List ℕ → Fate A) where
-  -- a list without items
+  -- a list with whitespace alone inside is computed to have no items
   blank-list : (b : List ℕ) → All white b → fine [] ≡ listBy g (40 ∷ (b ++ (41 ∷ [])))
   unfolding listBy itemsBy
   blank-list b a = rw (body-only b, none-only b a) refl
 
-  -- a list with items
+  -- a list with something else than whitespace inside is computed to have the items of that inside
   full-list : (b : List ℕ) → (All white b → ⊥) → shifted 1 (itemsFrom (suc (length b)) g 0 b) ≡ listBy g (40 ∷ (b ++ (41 ∷ [])))
   unfolding listBy itemsBy
   full-list b n = rw (body-only b, some (isBlank b) refl) refl
@@ -272,12 +272,12 @@ module _ {A : Type 0} (P : List ℕ → Fate A → Type 0) (g : List ℕ → Fat
       some true e = absurd (n (none-is b e))
       some false e = e
 
-  -- no list
+  -- a text that is no list is computed to be 12 at its start
   no-list : (t : List ℕ) → bodyOf t ≡ bare → faulty 12 0 ≡ listBy g t
   unfolding listBy
   no-list t e = rw e refl
 
-  -- what a text reads as: what is computed is the answer, where it is for an item
+  -- what is computed for a text is what it reads as by the rules of a list, where g reads each item by P
   pub listed-is : ((t : List ℕ) → P t (g t)) → (t : List ℕ) → Listed P t (listBy g t)
   listed-is is t = go (body-comes t)
     where
@@ -291,7 +291,7 @@ module _ {A : Type 0} (P : List ℕ → Fate A → Type 0) (g : List ℕ → Fat
       go (inl (b, e)) = subst (λ (x : List ℕ). Listed P x (listBy g x)) (sym e) (by b (isBlank b) refl)
       go (inr e) = subst (Listed P t) (no-list t e) (Listed.other (λ b f. clash (cc (ap bodyOf f ∙ body-only b))))
 
-  -- and there is no other
+  -- what a text reads as by the rules of a list is what is computed, where P has no answer for an item but that of g
   pub listed-only : ((t : List ℕ) (a : Fate A) → P t a → a ≡ g t) → {t : List ℕ} {a : Fate (List A)} → Listed P t a → a ≡ listBy g t
   listed-only only (Listed.none b a) = blank-list b a
   listed-only only (Listed.items b n q) = ap (shifted 1) (items-only P g only q (suc (length b)) (omega arith)) ∙ full-list b n
@@ -303,7 +303,7 @@ module _ {A : Type 0} (P : List ℕ → Fate A → Type 0) (g : List ℕ → Fat
 
 -- ---- scalars for items
 module _ {A : Type 0} (P : List ℕ → Answer A → Type 0) (f : List ℕ → Answer A) where
-  -- what is computed is the answer, where it is for the scalar
+  -- what f answers for a scalar is what it reads as for an item, where f answers by P
   scalar-is : ((t : List ℕ) → P t (f t)) → (t : List ℕ) → Scalar P t (asFate (f t))
   scalar-is is t = go (f t) (is t)
     where
@@ -311,80 +311,80 @@ module _ {A : Type 0} (P : List ℕ → Answer A → Type 0) (f : List ℕ → A
       go (read v) p = Scalar.value p
       go (refused n) p = Scalar.other p
 
-  -- and there is no other
+  -- what a scalar reads as for an item is what f answers, where P has no answer but that of f
   scalar-only : ((t : List ℕ) (a : Answer A) → P t a → a ≡ f t) → (t : List ℕ) (a : Fate A) → Scalar P t a → a ≡ asFate (f t)
   scalar-only only t a (Scalar.value {a = v} p) = ap asFate (only t (read v) p)
   scalar-only only t a (Scalar.other {n} p) = ap asFate (only t (refused n) p)
 
-  -- a list of scalars
+  -- a list of scalars reads by the rules as it is computed, where f answers by P
   pub list-is : ((t : List ℕ) → P t (f t)) → (t : List ℕ) → Listed (Scalar P) t (listOf f t)
   list-is is = listed-is (Scalar P) (λ u. asFate (f u)) (scalar-is is)
 
-  -- and nothing else
+  -- a list of scalars reads by the rules as nothing else than what is computed, where P has no answer but that of f
   pub list-only : ((t : List ℕ) (a : Answer A) → P t a → a ≡ f t) → {t : List ℕ} {a : Fate (List A)} → Listed (Scalar P) t a → a ≡ listOf f t
   list-only only = listed-only (Scalar P) (λ u. asFate (f u)) (scalar-only only)
 
-  -- a grid: a list of lists of scalars
+  -- a grid, a list of lists of scalars, reads by the rules as it is computed, where f answers by P
   pub grid-is : ((t : List ℕ) → P t (f t)) → (t : List ℕ) → Listed (Listed (Scalar P)) t (listBy (listOf f) t)
   grid-is is = listed-is (Listed (Scalar P)) (listOf f) (list-is is)
 
-  -- and nothing else
+  -- a grid of scalars reads by the rules as nothing else than what is computed, where P has no answer but that of f
   pub grid-only : ((t : List ℕ) (a : Answer A) → P t a → a ≡ f t) → {t : List ℕ} {a : Fate (List (List A))} → Listed (Listed (Scalar P)) t a → a ≡ listBy (listOf f) t
   grid-only only = listed-only (Listed (Scalar P)) (listOf f) (λ t a. list-only only)
 
--- a list of references
+-- a list of references reads by the rules of document 01 as it is computed
 pub references-are : (t : List ℕ) → Listed (Scalar ReferenceForm) t (listOf referenceOf t)
 references-are = list-is ReferenceForm referenceOf reference-is
 
--- and nothing else
+-- a list of references reads by the rules of document 01 as nothing else than what is computed
 pub references-only : {t : List ℕ} {a : Fate (List ℕ)} → Listed (Scalar ReferenceForm) t a → a ≡ listOf referenceOf t
 references-only = list-only ReferenceForm referenceOf (λ t a. reference-only)
 
--- a list of integers
+-- a list of integers reads by the rules of document 01 as it is computed
 pub wholes-are : (t : List ℕ) → Listed (Scalar WholeForm) t (listOf wholeOf t)
 wholes-are = list-is WholeForm wholeOf whole-is
 
--- and nothing else
+-- a list of integers reads by the rules of document 01 as nothing else than what is computed
 pub wholes-only : {t : List ℕ} {a : Fate (List ℤ)} → Listed (Scalar WholeForm) t a → a ≡ listOf wholeOf t
 wholes-only = list-only WholeForm wholeOf (λ t a. whole-only)
 
--- a list of reals
+-- a list of the class's reals reads by the rules of document 01 as it is computed
 pub reals-are : (t : List ℕ) → Listed (Scalar RealForm) t (listOf realOf t)
 reals-are = list-is RealForm realOf real-is
 
--- and nothing else
+-- a list of the class's reals reads by the rules of document 01 as nothing else than what is computed
 pub reals-only : {t : List ℕ} {a : Fate (List ℕ)} → Listed (Scalar RealForm) t a → a ≡ listOf realOf t
 reals-only = list-only RealForm realOf (λ t a. real-only)
 
--- a list of any reals
+-- a list of any reals reads by the rules of document 01 as it is computed
 pub any-reals-are : (t : List ℕ) → Listed (Scalar AnyForm) t (listOf anyRealOf t)
 any-reals-are = list-is AnyForm anyRealOf any-is
 
--- and nothing else
+-- a list of any reals reads by the rules of document 01 as nothing else than what is computed
 pub any-reals-only : {t : List ℕ} {a : Fate (List ℕ)} → Listed (Scalar AnyForm) t a → a ≡ listOf anyRealOf t
 any-reals-only = list-only AnyForm anyRealOf (λ t a. any-only)
 
--- a grid of references
+-- a grid of references reads by the rules of document 01 as it is computed
 pub reference-grid-is : (t : List ℕ) → Listed (Listed (Scalar ReferenceForm)) t (listBy (listOf referenceOf) t)
 reference-grid-is = grid-is ReferenceForm referenceOf reference-is
 
--- and nothing else
+-- a grid of references reads by the rules of document 01 as nothing else than what is computed
 pub reference-grid-only : {t : List ℕ} {a : Fate (List (List ℕ))} → Listed (Listed (Scalar ReferenceForm)) t a → a ≡ listBy (listOf referenceOf) t
 reference-grid-only = grid-only ReferenceForm referenceOf (λ t a. reference-only)
 
--- a grid of the class's reals
+-- a grid of the class's reals reads by the rules of document 01 as it is computed
 pub real-grid-is : (t : List ℕ) → Listed (Listed (Scalar RealForm)) t (listBy (listOf realOf) t)
 real-grid-is = grid-is RealForm realOf real-is
 
--- and nothing else
+-- a grid of the class's reals reads by the rules of document 01 as nothing else than what is computed
 pub real-grid-only : {t : List ℕ} {a : Fate (List (List ℕ))} → Listed (Listed (Scalar RealForm)) t a → a ≡ listBy (listOf realOf) t
 real-grid-only = grid-only RealForm realOf (λ t a. real-only)
 
--- a grid of any reals
+-- a grid of any reals reads by the rules of document 01 as it is computed
 pub any-grid-is : (t : List ℕ) → Listed (Listed (Scalar AnyForm)) t (listBy (listOf anyRealOf) t)
 any-grid-is = grid-is AnyForm anyRealOf any-is
 
--- and nothing else
+-- a grid of any reals reads by the rules of document 01 as nothing else than what is computed
 pub any-grid-only : {t : List ℕ} {a : Fate (List (List ℕ))} → Listed (Listed (Scalar AnyForm)) t a → a ≡ listBy (listOf anyRealOf) t
 any-grid-only = grid-only AnyForm anyRealOf (λ t a. any-only)
 
@@ -394,17 +394,17 @@ module _ {A : Type 0} (g : List ℕ → Fate A) (fits : A → Bool) (s : List �
   abbrev reads : Span → Told A
   reads a = roomed fits (a .start) (g (take (a .stop - a .start) (drop (a .start) s)))
 
-  -- between where it was and its end
+  -- after an answer a reader of lists or grids stands between where it was and its end
   pub list-stands : Inside s p e → Stands p e (nextBy g fits s p e)
   unfolding nextBy
   list-stands = mapped-stands reads s p e
 
-  -- outside the file it stays as it came
+  -- a reader of lists or grids whose place or end lies outside the file answers 9 and stays as it came
   pub list-stays : inFile (length s) p e ≡ false → nextBy g fits s p e ≡ reading (bad (refusal 9 0 0)) p e
   unfolding nextBy
   list-stays = mapped-stays reads s p e
 
-  -- after 12, 13 and 16 past the parameter and its comma
+  -- after 12, 13 and 16 a reader of lists or grids stands past the parameter and its comma
   pub list-past : (q : Refusal) → nextBy g fits s p e .answer ≡ bad q → 11 < q .number
       → (a : Span) × (paramOf s p e .answer ≡ good a) × (roomed fits (a .start) (g (take (a .stop - a .start) (drop (a .start) s))) ≡ bad q) × Inside s p e × Past s p e a (nextBy g fits s p e .place)
   unfolding nextBy
@@ -416,7 +416,7 @@ no-item : listBy fine (bytes "()") ≡ fine []
 unfolding listBy bodyOf isBlank itemsBy past trail walk
 no-item = refl
 
--- nor has `( )`
+-- `( )` has no item, as `()` has none
 blank-item : listBy fine (bytes "( )") ≡ fine []
 unfolding listBy bodyOf isBlank itemsBy past trail walk
 blank-item = refl
