@@ -16,7 +16,7 @@ def rows(path='docs/NAMES.md'):
     found = []
     for line in open(path, encoding='utf-8'):
         cells = [c.strip().strip('`') for c in line.strip().strip('|').split(' | ')]
-        if line.startswith('| ') and len(cells) >= 4 and cells[0] in ('crate', 'file', 'type', 'definition', 'short'):
+        if line.startswith('| ') and len(cells) >= 4 and cells[0] in ('crate', 'file', 'type', 'function', 'definition', 'short'):
             found.append(tuple(c.strip().strip('`') for c in cells[:4]))
     return found
 
@@ -65,6 +65,9 @@ def renamed(files, page):
         if path.endswith('.rt'):
             for crate, ren in types.items():
                 words.update({o: n for o, n in ren.items() if crate == own or re.search(r'\buse %s::%s\b' % (crate, o), text)})
+            for kind, where, o, n in page:
+                if kind == 'function' and where == own:
+                    text = re.sub(r'\bfn %s\b' % o, 'fn ' + n, text)
         text = replaced(text, words)
         for (where, old), new in modules.items():
             crate = where.split('/')[0]
