@@ -19,7 +19,7 @@ use Rattle.store.specs.declared.Opened.the-variants.{Good, Refused}
 use Rattle.plain.specs.Answers.{Lent, readCode, readFault}
 use Rattle.plain.specs.Numbers.{tablesIn, tablesBy, kindBy}
 
--- the reason of a refusal, or what stood there
+-- what a lent reason then is: the reason of a refusal, or what stood there
 abbrev pub readReason : {A : Type 0} → Told A → ℕ → ℕ
 readReason (good a) old = old
 readReason (bad q) old = q .reason
@@ -35,7 +35,7 @@ pub data Host (s heads rows slots tables : List ℕ) (reason fault code : ℕ) (
   short : length tables < 16 → code ≡ 16 → heads′ ≡ heads → rows′ ≡ rows → slots′ ≡ slots → tables′ ≡ tables → reason′ ≡ reason → fault′ ≡ fault → Host s heads rows slots tables reason fault code heads′ rows′ slots′ tables′ reason′ fault′
   opened : 16 ≤ length tables → (a : Opened) → Opens s heads rows slots a heads′ rows′ slots′ → code ≡ readCode (toldOpened a) → tables′ ≡ openTables a tables → reason′ ≡ readReason (toldOpened a) reason → fault′ ≡ readFault (toldOpened a) fault → Host s heads rows slots tables reason fault code heads′ rows′ slots′ tables′ reason′ fault′
 
--- the same of what a host lends, when it asks and when it is answered
+-- what a host is told on opening a file, and what its lent things are when it asks and when it is answered
 abbrev pub Hosts : List ℕ → Lent (List ℕ) → Lent (List ℕ) → Lent (List ℕ) → Lent (List ℕ) → Lent ℕ → Lent ℕ → ℕ → Type 0
 Hosts s heads rows slots tables reason fault code =
     Host s (now (heads .entry)) (now (rows .entry)) (now (slots .entry)) (now (tables .entry)) (now (reason .entry)) (now (fault .entry)) code
@@ -45,7 +45,7 @@ Hosts s heads rows slots tables reason fault code =
 abbrev pub recordBy : List ℕ → List ℕ → List ℕ → ℕ → Option Row
 recordBy rows slots tables id = rowFound rows (searched rows slots (tablesBy tables .ids) id)
 
--- the record in row k
+-- the record in row k, by a host's tables and numbers
 abbrev pub rowBy : List ℕ → List ℕ → ℕ → Option Row
 rowBy rows tables k = rowIn rows (tablesBy tables .records) k
 

@@ -18,18 +18,18 @@ use Rattle.grids.specs.Grid.{flat, endsFrom}
 use Rattle.grids.specs.Code.{GridReady}
 
 module _ {A : Type 0} where
-  -- rows and more rows
+  -- the numbers of rows and more rows are those of the rows and then those of the more rows
   pub flat-append : (g h : List (List A)) → flat (g ++ h) ≡ flat g ++ flat h
   flat-append [] h = refl
   flat-append (r ∷ g) h = ap (λ (x : List A). r ++ x) (flat-append g h) ∙ sym (append-assoc r (flat g) (flat h))
 
-  -- one end for each row
+  -- there is one row end for each row
   pub ends-length : (n : ℕ) (g : List (List A)) → length (endsFrom n g) ≡ length g
   unfolding endsFrom
   ends-length n [] = refl
   ends-length n (r ∷ g) = ap suc (ends-length (n + length r) g)
 
-  -- the ends of more rows follow
+  -- the ends of more rows follow those of the rows before, counted on from their numbers
   pub ends-append : (n : ℕ) (g h : List (List A)) → endsFrom n (g ++ h) ≡ endsFrom n g ++ endsFrom (n + length (flat g)) h
   unfolding endsFrom
   ends-append n [] h = let e : n ≡ n + 0 = omega arith in ap (λ (k : ℕ). endsFrom k h) e
@@ -39,19 +39,19 @@ module _ {A : Type 0} where
 
   -- After m rows of a grid, the row v and the rows l are left, and n numbers were before them.
   module _ (g : List (List A)) (m : ℕ) (v : List A) (l : List (List A)) (here : drop m g ≡ v ∷ l) (n : ℕ) (soFar : n ≡ length (flat (take m g))) where
-    -- the grid by its rows
+    -- a grid is its first m rows, the row v and the rows l
     whole : g ≡ take m g ++ (v ∷ l)
     whole = sym (take-append-drop m g) ∙ ap (λ (x : List (List A)). take m g ++ x) here
 
-    -- so many rows were before
+    -- there are m rows before the row v
     few : length (take m g) ≡ m
     few = length-take-le m g (omega (arith, ap length here, length-drop m g))
 
-    -- the numbers that are left
+    -- the numbers left after the first m rows are those of the row v and of the rows l
     pub numbers-left : drop n (flat g) ≡ v ++ flat l
     numbers-left = ap (λ (x : List (List A)). drop n (flat x)) whole ∙ ap (drop n) (flat-append (take m g) (v ∷ l)) ∙ drop-at (flat (take m g)) (v ++ flat l) n (sym soFar)
 
-    -- the ends that are left
+    -- the row ends left after the first m are that of the row v and those of the rows l
     pub ends-left : drop m (endsFrom 0 g) ≡ (n + length v) ∷ endsFrom (n + length v) l
     unfolding endsFrom
     ends-left =
@@ -59,7 +59,7 @@ module _ {A : Type 0} where
         ap (λ (x : List (List A)). drop m (endsFrom 0 x)) whole ∙ ap (drop m) (ends-append 0 (take m g) (v ∷ l))
         ∙ drop-at (endsFrom 0 (take m g)) (endsFrom (0 + length (flat (take m g))) (v ∷ l)) m (ends-length 0 (take m g) ∙ few) ∙ ap (λ (k : ℕ). endsFrom k (v ∷ l)) e
 
-    -- one row more
+    -- the numbers so far and those of the row v are the numbers of the first m + 1 rows
     pub more-numbers : n + length v ≡ length (flat (take (m + 1) g))
     more-numbers =
         let t : take (m + 1) g ≡ take m g ++ (v ∷ []) = take-add m 1 g ∙ ap (λ (x : List (List A)). take m g ++ take 1 x) here in
@@ -67,11 +67,11 @@ module _ {A : Type 0} where
 
 -- A part v of the numbers xs is written, from the n-th on.
 module _ {A : Type 0} (xs out : List A) (n : ℕ) (v l : List A) (here : drop n xs ≡ v ++ l) (within : n ≤ length xs) (room : length xs ≤ length out) where
-  -- there is room for it
+  -- the part v from the n-th number on lies within the numbers xs
   pub part-fits : n + length v ≤ length xs
   part-fits = omega (arith, ap length here, length-append v l, length-drop n xs)
 
-  -- they are written behind those that were: w is the lent list before, z long from the n-th place on, and u that part of it after
+  -- the part v is written behind the n numbers before it: w is the lent list before, z long from the n-th place on, and u that part of it after
   pub part-store : (w u : List A) (z : ℕ) → w ≡ take n xs ++ drop n out → z ≡ length w - n → u ≡ v ++ drop (length v) (take z (drop n w))
       → take n w ++ (u ++ drop z (drop n w)) ≡ take (n + length v) xs ++ drop (n + length v) out
   part-store w u z e r k =
@@ -86,7 +86,7 @@ module _ {A : Type 0} (xs out : List A) (n : ℕ) (v l : List A) (here : drop n 
       ap (λ (x : List A). x ++ (u ++ drop z (drop n w))) t ∙ ap (λ (x : List A). take n xs ++ (u ++ x)) y ∙ ap (λ (x : List A). take n xs ++ x) (append-nil u ∙ q)
       ∙ sym (append-assoc (take n xs) v (drop (n + length v) out)) ∙ ap (λ (x : List A). x ++ drop (n + length v) out) (sym h)
 
-  -- these were the last
+  -- once the last part is written, all numbers stand in front of the lent list
   pub part-ends : l ≡ [] → take (n + length v) xs ++ drop (n + length v) out ≡ filled xs out
   part-ends e =
       let m : n + length v ≡ length xs = omega (arith, ap length here, length-append v l, ap length e, length-drop n xs) in
@@ -94,11 +94,11 @@ module _ {A : Type 0} (xs out : List A) (n : ℕ) (v l : List A) (here : drop n 
 
 -- Lists told by h, as a lent list of reals is by their bits: its parts, and a part of it written.
 module _ {A B : Type 0} (h : A → B) where
-  -- the part of z from the n-th on
+  -- the part of z values from the n-th on, told by h, is that part of the list told by h
   pub map-part : (n z : ℕ) (l : List A) → map h (take z (drop n l)) ≡ take z (drop n (map h l))
   map-part n z l = map-take h z (drop n l) ∙ ap (take z) (map-drop h n l)
 
-  -- u in its place
+  -- a list with u for its z values from the n-th on, told by h, is the list told by h with u told by h there
   pub map-put : (n z : ℕ) (l u : List A) → map h (take n l ++ (u ++ drop z (drop n l))) ≡ take n (map h l) ++ (map h u ++ drop z (drop n (map h l)))
   map-put n z l u =
       map-append h (take n l) (u ++ drop z (drop n l)) ∙ ap (λ (x : List B). x ++ map h (u ++ drop z (drop n l))) (map-take h n l)
@@ -116,7 +116,7 @@ pub record Gridding {A : Type 0} (g : List ℕ → Fate A) (b : List ℕ) (out�
   pub done : out ≡ take n (flat (valuesOf (itemsFrom (suc (length b)) (listBy g) 0 b))) ++ drop n out₀
   pub marked : ends ≡ take m (endsFrom 0 (valuesOf (itemsFrom (suc (length b)) (listBy g) 0 b))) ++ drop m ends₀
 
--- none is written yet
+-- before the first row is read none is written
 pub gridding-starts : {A : Type 0} (g : List ℕ → Fate A) (b : List ℕ) (out : List A) (ends : List ℕ) → GridReady (itemsFrom (suc (length b)) (listBy g) 0 b) (length out) (length ends) → Gridding g b out out ends ends 0 0 0
 gridding-starts g b out ends (h, k, l) = let m : suc (length b) - 0 ≡ suc (length b) = omega arith in record {
   few = omega arith;
@@ -129,30 +129,31 @@ gridding-starts g b out ends (h, k, l) = let m : suc (length b) - 0 ≡ suc (len
   marked = refl;
 }
 
--- no more numbers are in the first rows than in all
+-- the first rows of a grid have no more numbers than all its rows
 flat-few : {A : Type 0} (m : ℕ) (g : List (List A)) → length (flat (take m g)) ≤ length (flat g)
 flat-few {A} m g = omega (arith, ap (λ (x : List (List A)). length (flat x)) (take-append-drop m g), ap length (flat-append (take m g) (drop m g)), length-append (flat (take m g)) (flat (drop m g)))
 
 module _ {A : Type 0} (g : List ℕ → Fate A) (b : List ℕ) (out₀ out : List A) (ends₀ ends : List ℕ) (i m n : ℕ) (f : Gridding g b out₀ out ends₀ ends i m n) where
-  -- the rows of the grid
+  -- the rows of the grid whose inside is b
   abbrev rowsOf : List (List A)
   rowsOf = valuesOf (itemsFrom (suc (length b)) (listBy g) 0 b)
 
-  -- so many numbers are there
+  -- no more numbers were written than the grid has
   inside : n ≤ length (flat rowsOf)
   inside = omega (arith, f .soFar, flat-few m rowsOf)
 
-  -- the lent numbers are as many as they were
+  -- the lent numbers are as many as they were, and no fewer than were written
   pub gridding-room : (n ≤ length out) × (length out ≡ length out₀)
   gridding-room =
       let e : length out ≡ length out₀ = ap length (f .done) ∙ length-append (take n (flat rowsOf)) (drop n out₀) ∙ omega (arith, inside, f .room, length-take-le n (flat rowsOf) inside, length-drop n out₀) in
       (omega (arith, inside, f .room, e), e)
 
   module _ (r : Item) (found : ItemAt b (min i (length b)) r) where
-    -- the next row's item
+    -- the item that was found is the next row's
     here : ItemAt b i r
     here = item-in b i r (f .within) found
 
+    -- at most as many rows were written as there are bytes
     few-enough : m ≤ length b
     few-enough = omega (arith, f .few, f .within)
 
@@ -167,7 +168,7 @@ module _ {A : Type 0} (g : List ℕ → Fate A) (b : List ℕ) (out₀ out : Lis
             (v, e, omega (arith, p, f .room, gridding-room .1))
         go (faulty k o) e = absurd (fill-bad (listBy g) b i m r here few-enough rowsOf (f .rest) k o e)
 
-    -- what the code reads of it: all its numbers
+    -- what the code reads of the next row is all its numbers
     pub row-read : (room : ℕ) (a : Told ℕ) (s u : List A) → room ≡ length out - n → a ≡ countOf (roomed (fitsIn room) 0 (listBy g (take (r .stop - r .start) (drop (r .start) b))))
         → u ≡ written (roomed (fitsIn room) 0 (listBy g (take (r .stop - r .start) (drop (r .start) b)))) s
         → (v : List A) × (fine v ≡ listBy g (take (r .stop - r .start) (drop (r .start) b))) × (a ≡ good (length v)) × (u ≡ v ++ drop (length v) s)
@@ -178,17 +179,17 @@ module _ {A : Type 0} (g : List ℕ → Fate A) (b : List ℕ) (out₀ out : Lis
 
     module _ (v : List A) (e : fine v ≡ listBy g (take (r .stop - r .start) (drop (r .start) b))) (u : List A) (z : ℕ) (part : z ≡ length out - n) (k : u ≡ v ++ drop (length v) (take z (drop n out))) where
       module _ (l : List (List A)) (left : drop m rowsOf ≡ v ∷ l) where
-        -- the numbers are written
+        -- the next row's numbers are written behind those of the rows before
         stored : take n out ++ (u ++ drop z (drop n out)) ≡ take (n + length v) (flat rowsOf) ++ drop (n + length v) out₀
         stored = part-store (flat rowsOf) out₀ n v (flat l) (numbers-left rowsOf m v l left n (f .soFar)) inside (f .room) out u z (f .done) part k
 
-        -- the row's end too
+        -- the next row's end is written behind those of the rows before
         ended : set ends m (n + length v) ≡ take (m + 1) (endsFrom 0 rowsOf) ++ drop (m + 1) ends₀
         ended =
             ap (λ (x : List ℕ). set x m (n + length v)) (f .marked)
             ∙ fill-store (endsFrom 0 rowsOf) ends₀ m (n + length v) (endsFrom (n + length v) l) (ends-left rowsOf m v l left n (f .soFar)) (omega (arith, ends-length 0 rowsOf, f .rows))
 
-      -- an end is written to a place of the list
+      -- there is room for the next row's numbers, and its end is written to a place of the list of row ends
       pub row-place : (n + length v ≤ length out₀) × ((m < length ends₀) × (length ends ≡ length ends₀))
       row-place =
           let (l, left) = fill-head (listBy g) b i m r here few-enough rowsOf (f .rest) v e in
@@ -199,7 +200,7 @@ module _ {A : Type 0} (g : List ℕ → Fate A) (b : List ℕ) (out₀ out : Lis
             (omega (arith, q, f .rows), ap length (f .marked) ∙ length-append (take m (endsFrom 0 rowsOf)) (drop m ends₀) ∙ omega (arith, d, q, f .rows, length-drop m ends₀)),
           )
 
-      -- the lent numbers are as many as they were
+      -- with the next row written, the lent numbers are as many as they were
       pub row-length : length (take n out ++ (u ++ drop z (drop n out))) ≡ length out₀
       row-length =
           let (l, left) = fill-head (listBy g) b i m r here few-enough rowsOf (f .rest) v e in
@@ -207,7 +208,7 @@ module _ {A : Type 0} (g : List ℕ → Fate A) (b : List ℕ) (out₀ out : Lis
           ap length (stored l left) ∙ length-append (take (n + length v) (flat rowsOf)) (drop (n + length v) out₀)
           ∙ omega (arith, p, f .room, length-take-le (n + length v) (flat rowsOf) p, length-drop (n + length v) out₀)
 
-      -- the last row
+      -- once the last row is written, all numbers and all row ends stand in front of the lent lists
       pub row-last : r .bound ≡ length b
           → (take n out ++ (u ++ drop z (drop n out)) ≡ filled (flat rowsOf) out₀) × (set ends m (n + length v) ≡ filled (endsFrom 0 rowsOf) ends₀)
       unfolding endsFrom
@@ -216,7 +217,7 @@ module _ {A : Type 0} (g : List ℕ → Fate A) (b : List ℕ) (out₀ out : Lis
           let (x, y) = fill-ends (endsFrom 0 rowsOf) ends₀ m (n + length v) [] (ends-left rowsOf m v [] left n (f .soFar)) (omega (arith, ends-length 0 rowsOf, f .rows)) refl in
           (stored [] left ∙ part-ends (flat rowsOf) out₀ n v [] (numbers-left rowsOf m v [] left n (f .soFar)) inside (f .room) refl, ended [] left ∙ x)
 
-      -- another row
+      -- once a row before others is written, the writing goes on behind its comma
       pub row-goes : r .bound < length b → Gridding g b out₀ (take n out ++ (u ++ drop z (drop n out))) ends₀ (set ends m (n + length v)) (r .bound + 1) (m + 1) (n + length v)
       row-goes h =
           let (left, rest) = fill-more (listBy g) b i m r here few-enough rowsOf (f .rest) v e h in

@@ -24,12 +24,12 @@ abbrev pub readCode : {A : Type 0} → Told A → ℕ
 readCode (good a) = 0
 readCode (bad q) = q .number
 
--- the place of a refusal, or what stood there
+-- what a lent place then is: the place of a refusal, or what stood there
 abbrev pub readFault : {A : Type 0} → Told A → ℕ → ℕ
 readFault (good a) old = old
 readFault (bad q) old = q .place
 
--- what f makes of an answer that is read, or what stood there
+-- what f makes of an answer that is read, or, where it is refused, what stood there
 abbrev pub readValue : {A B : Type 0} → (A → B) → Told A → B → B
 readValue f (good a) old = f a
 readValue f (bad q) old = old
@@ -38,7 +38,7 @@ readValue f (bad q) old = old
 abbrev pub Tells : {A : Type 0} → Told A → ℕ → Lent ℕ → Type 0
 Tells r n fault = (n ≡ readCode r) × (now (fault .exit) ≡ readFault r (now (fault .entry)))
 
--- the same of a reader, which also leaves its place
+-- what a reader answers, told r, and what it then leaves in `place` and in `fault`
 abbrev pub Leaves : {A : Type 0} → Read A → ℕ → Lent ℕ → Lent ℕ → Type 0
 Leaves r n place fault = Tells (r .answer) n fault × (now (place .exit) ≡ r .place)
 
@@ -46,7 +46,7 @@ Leaves r n place fault = Tells (r .answer) n fault × (now (place .exit) ≡ r .
 abbrev pub Puts : {A B : Type 0} → (A → B) → Told A → Lent B → Type 0
 Puts f r v = now (v .exit) ≡ readValue f r (now (v .entry))
 
--- the same of a float, which is told by its bits
+-- what a lent float then is, told by its bits: what f makes of the answer, or what it was
 abbrev pub PutsReal : {A : Type 0} → (A → ℕ) → Told A → Lent Float → Type 0
 PutsReal f r v = toBits binary64 (now (v .exit)) ≡ readValue f r (toBits binary64 (now (v .entry)))
 
@@ -54,7 +54,7 @@ PutsReal f r v = toBits binary64 (now (v .exit)) ≡ readValue f r (toBits binar
 abbrev pub PutsList : {A : Type 0} → Told (List A) → Lent (List A) → Type 0
 PutsList r out = now (out .exit) ≡ written r (now (out .entry))
 
--- the same of floats
+-- what a lent list of floats then is, told by their bits: the answer's numbers at its start, or what it was
 abbrev pub PutsReals : Told (List ℕ) → Lent (List Float) → Type 0
 PutsReals r out = map (toBits binary64) (now (out .exit)) ≡ written r (map (toBits binary64) (now (out .entry)))
 
@@ -64,7 +64,7 @@ foundCode (good none) = 255
 foundCode (good (some a)) = 0
 foundCode (bad q) = q .number
 
--- what f makes of an answer that is found, or what stood there
+-- what f makes of an answer that is found, or, where there is none or it is refused, what stood there
 abbrev pub foundValue : {A B : Type 0} → (A → B) → Told (Option A) → B → B
 foundValue f (good none) old = old
 foundValue f (good (some a)) old = f a
@@ -74,7 +74,7 @@ foundValue f (bad q) old = old
 abbrev pub PutsFound : {A B : Type 0} → (A → B) → Told (Option A) → Lent B → Type 0
 PutsFound f r v = now (v .exit) ≡ foundValue f r (now (v .entry))
 
--- the same of a float, which is told by its bits
+-- what a lent float then is, told by its bits: what f makes of what is found, or what it was
 abbrev pub PutsFoundReal : {A : Type 0} → (A → ℕ) → Told (Option A) → Lent Float → Type 0
 PutsFoundReal f r v = toBits binary64 (now (v .exit)) ≡ foundValue f r (toBits binary64 (now (v .entry)))
 
@@ -88,12 +88,12 @@ abbrev pub shownRoom : Shown → ℕ
 shownRoom (inFile a) = 0
 shownRoom (inRoom n) = 1
 
--- where it begins there
+-- where a text begins, in the file or in the lent room
 abbrev pub shownStart : Shown → ℕ
 shownStart (inFile a) = a .start
 shownStart (inRoom n) = 0
 
--- where it ends there
+-- where a text ends, in the file or in the lent room
 abbrev pub shownStop : Shown → ℕ
 shownStop (inFile a) = a .stop
 shownStop (inRoom n) = n

@@ -25,7 +25,7 @@ there [] r h = absurd (omega arith)
 there (w ∷ ws) zero h = (w, refl)
 there (w ∷ ws) (suc r) h = there ws r (omega arith)
 
--- numbers behind others that stand in front of what was there
+-- numbers that are stored behind those at the front of the memory stand there with them
 pub laid-on : (front new old : List ℕ) → length front + length new ≤ length old → sets (laid front old) (length front) new ≡ laid (front ++ new) old
 laid-on front new old h =
     let rest : List ℕ = drop (length front) old in
@@ -51,7 +51,7 @@ module _ {A : Type 0} (n : ℕ) (f : A → List ℕ) (e : (w : A) → length (f 
       let k = flat-length ws in
       omega (arith, le-div-iff-mul-le {x = length ws} {y = length old} z .0 h, length-append (flat f ws) (drop (length (flat f ws)) old), length-drop (length (flat f ws)) old)
 
-  -- whether or not they fit, the memory then has so many rows
+  -- the memory in which rows were laid has at least so many rows, whether or not they fit
   pub laid-in : (ws : List A) (old : List ℕ) → length ws ≤ length (laid (flat f ws) old) / n
   laid-in ws old =
       let k = flat-length ws in
@@ -92,7 +92,7 @@ module _ {A : Type 0} (n : ℕ) (f : A → List ℕ) (e : (w : A) → length (f 
       let k : r < length (laid (flat f ws) old) / n = omega (arith, laid-in ws old) in
       (w, g, λ i l. field-there n (laid (flat f ws) old) r k i ∙ flat-at ws (drop (length (flat f ws)) old) r w g i l)
 
--- no row is laid, and nothing changes
+-- where no row is laid, the memory stays as it was
 pub laid-none : {A : Type 0} (f : A → List ℕ) (old : List ℕ) → laid (flat f []) old ≡ old
 unfolding flat
 laid-none f old = refl
@@ -113,17 +113,22 @@ header-is ws old r h =
 pub rows-laid-length : (ws : List Row) (old : List ℕ) → length ws ≤ rowsFit (length old) → length (rowsLaid ws old) ≡ length old
 rows-laid-length = laid-length 6 six (λ v. refl) (omega arith)
 
+-- the memory keeps its length where header rows are laid that fit
 pub headers-laid-length : (ws : List HeaderRow) (old : List ℕ) → length ws ≤ headersFit (length old) → length (headersLaid ws old) ≡ length old
 headers-laid-length = laid-length 4 four (λ v. refl) (omega arith)
 
+-- the memory in which data rows were laid has at least so many rows, whether or not they fit
 pub rows-laid-in : (ws : List Row) (old : List ℕ) → length ws ≤ rowsFit (length (rowsLaid ws old))
 rows-laid-in = laid-in 6 six (λ v. refl) (omega arith)
 
+-- the memory in which header rows were laid has at least so many rows, whether or not they fit
 pub headers-laid-in : (ws : List HeaderRow) (old : List ℕ) → length ws ≤ headersFit (length (headersLaid ws old))
 headers-laid-in = laid-in 4 four (λ v. refl) (omega arith)
 
+-- one data row more is laid by putting its numbers after those of the rows before
 pub rows-laid-more : (ws : List Row) (w : Row) (old : List ℕ) → length ws < rowsFit (length old) → rowsLaid (ws ++ (w ∷ [])) old ≡ rowPut (rowsLaid ws old) (length ws) w
 rows-laid-more = laid-more 6 six (λ v. refl) (omega arith)
 
+-- one header row more is laid by putting its numbers after those of the rows before
 pub headers-laid-more : (ws : List HeaderRow) (w : HeaderRow) (old : List ℕ) → length ws < headersFit (length old) → headersLaid (ws ++ (w ∷ [])) old ≡ headerPut (headersLaid ws old) (length ws) w
 headers-laid-more = laid-more 4 four (λ v. refl) (omega arith)
