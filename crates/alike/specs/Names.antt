@@ -1,5 +1,4 @@
 -- #113: "an id [..] that no `#` number in another record's arguments names, leading zeros disregarded". Which ids bytes name, and that a
--- #113: "an id [..] that no `#` number in another record's arguments names, leading zeros disregarded". Which ids bytes name, and that a
 -- reader answers only such references: that of a parameter, and those of a list. The byte `#` is 35. Assumes nothing.
 use Prim.Native.Nat.{ℕ, suc, _+_, _-_, _≤_}
 use mathlib.Core.Path.{_≡_, refl, sym, _∙_, ap, subst}

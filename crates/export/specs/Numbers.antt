@@ -1,5 +1,4 @@
 -- A scan's answer as plain numbers, for a host in another language.
--- A scan's answer as plain numbers, for a host in another language.
 -- Assumes nothing.
 -- Definitions to be believed: no law, and nothing computed that no theorem ties (docs/BELIEVE.md).
 use Prim.Native.Nat.{ℕ}

@@ -1,5 +1,4 @@
 -- What a parameter reads as, as plain numbers.
--- What a parameter reads as, as plain numbers.
 -- Assumes nothing.
 -- Definitions to be believed: no law, and nothing computed that no theorem ties (docs/BELIEVE.md).
 use Prim.Native.Nat.{ℕ}

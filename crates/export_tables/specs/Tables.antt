@@ -19,7 +19,7 @@ use Rattle.store.specs.declared.Opened.the-variants.{Good, Refused}
 use Rattle.plain.specs.Answers.{LentByHost, readCode, readFault}
 use Rattle.plain.specs.Numbers.{tablesIn, tablesBy, kindBy}
 
--- the reason of a refusal, or what stood there
+-- what a lent reason then is: the reason of a refusal, or what stood there
 abbrev pub readReason : {A : Type 0} → Told A → ℕ → ℕ
 readReason (good a) old = old
 readReason (bad q) old = q .reason

@@ -23,6 +23,6 @@ unitsIn s find (some w) = mapped some (onward (contextOf s find) (thingOf s w))
 abbrev pub fileUnits : List ℕ → List ℕ → List ℕ → List ℕ → Told Units
 fileUnits s rows slots tables = resolveTable s rows slots (tablesBy tables .ids) (tablesBy tables .records)
 
--- the units of the context in row k
+-- the units of the context in row k, by a host's tables and numbers; none where there is no such row
 abbrev pub rowUnits : List ℕ → List ℕ → List ℕ → List ℕ → ℕ → Told (Option Units)
 rowUnits s rows slots tables k = unitsIn s (tableFind s rows slots (tablesBy tables .ids)) (rowIn rows (tablesBy tables .records) k)

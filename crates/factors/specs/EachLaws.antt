@@ -8,12 +8,12 @@ use Rattle.lookup.specs.Records.{orElse}
 use Rattle.factors.specs.Each.{Each, IsFirst, LastForm}
 
 module _ {A : Type 0} (P : A → Type 0) where
-  -- of an empty list each member is so
+  -- of an empty list each member is as P says
   pub each-nil : Each P []
   each-nil [] back x e = clash cc
   each-nil (v ∷ front) back x e = clash cc
 
-  -- one member more in front: where it is so and the others are, each is
+  -- where a member in front is so and each of the others is, each is
   pub each-more : (v : A) (xs : List A) → P v → Each P xs → Each P (v ∷ xs)
   each-more v xs p h [] back x e = let q : v ≡ x = cc in subst P q p
   each-more v xs p h (u ∷ front) back x e = h front back x cc
@@ -27,7 +27,7 @@ module _ {A : Type 0} (P : A → Type 0) where
   each-less v xs h front back x e = h (v ∷ front) back x (ap (λ (ys : List A). v ∷ ys) e)
 
 module _ {A R : Type 0} (Passed : A → Type 0) (Gives : A → R → Type 0) where
-  -- the first to give an answer, with one more in front that is passed over
+  -- the first to give an answer is the first also behind one more in front that is passed over
   pub first-more : (v : A) (xs : List A) (a : R) → Passed v → IsFirst Passed Gives xs a → IsFirst Passed Gives (v ∷ xs) a
   first-more v xs a p h = record { front = v ∷ h .front; one = h .one; back = h .back; cut = ap (λ (ys : List A). v ∷ ys) (h .cut); before = each-more Passed v (h .front) p (h .before); gives = h .gives }
 

@@ -143,10 +143,12 @@ bounded-end : (xs : List ℕ) (e : ℕ) (ys : List ℕ) (c : Cut) → bounded xs
 bounded-end xs e ys (cut a b) = refl
 bounded-end xs e ys (unclosed o) = refl
 
+-- a parameter from its first byte on leaves the reader's end as it is
 begun-end : (xs : List ℕ) (e : ℕ) (ys : List ℕ) → begun xs e ys .end ≡ e
 begun-end xs e [] = refl
 begun-end xs e (c ∷ r) = bounded-end xs e (c ∷ r) (cutOf (c ∷ r))
 
+-- a parameter that is cut leaves the reader's end as it is
 param-end : (s : List ℕ) (p e : ℕ) → paramOf s p e .end ≡ e
 unfolding paramOf
 param-end s p e = go (inFile (length s) p e) (begun (take e s) e (started (drop p (take e s)))) (begun-end (take e s) e (started (drop p (take e s))))
@@ -160,6 +162,7 @@ next-end : {A : Type 0} (f : List ℕ → Answer A) (s : List ℕ) (p e : ℕ) �
 unfolding nextOf
 next-end f s p e = param-end s p e
 
+-- a parameter that is skipped leaves the reader's end as it is
 skip-end : (s : List ℕ) (p e : ℕ) → skipOf s p e .end ≡ e
 unfolding skipOf
 skip-end s p e = param-end s p e
@@ -176,6 +179,7 @@ metre-self : isWord (bytes "METRE") (bytes "METRE") ≡ true
 unfolding same
 metre-self = refl
 
+-- RADIAN has the name RADIAN
 radian-self : isWord (bytes "RADIAN") (bytes "RADIAN") ≡ true
 unfolding same
 radian-self = refl
@@ -202,11 +206,11 @@ module _ (s : List ℕ) (a z : ℕ) (first second : NextNameCode.NextName) {p e 
   prefix-is : namedIn s first ≡ prefixIn s (span a z)
   prefix-is = prefix-told s first (nextName s a z .answer) (ap (λ (x : Read Span). x .answer) one) (name-in s a z)
 
-  -- "another name no factor"
+  -- an SI unit of another name has no factor: "another name no factor"
   named-other : (name : String) → isWord (bytes name) (bytes name) ≡ true → isNamed s second (bytes name) ≡ false → (f : ℕ) → none ≡ named name s (span a z) f
   named-other name k h f = let e = sym (unit-is name k) ∙ h in rw e refl
 
-  -- the name
+  -- an SI unit that has the name has the factor f
   named-is : (name : String) → isWord (bytes name) (bytes name) ≡ true → isNamed s second (bytes name) ≡ true → (f : ℕ) → some f ≡ named name s (span a z) f
   named-is name k h f = let e = sym (unit-is name k) ∙ h in rw e refl
 
@@ -215,6 +219,7 @@ module _ (s : List ℕ) (a z : ℕ) (first second : NextNameCode.NextName) {p e 
   unfolding siLength
   length-other h = ap good (named-other "METRE" metre-self h _)
 
+  -- an SI length unit that has the name METRE has the length factor of its prefix
   pub length-is : isNamed s second (bytes "METRE") ≡ true → {v : ℕ} → v ≡ lengthFactorOf (namedIn s first) → good (some v) ≡ good (siLength s (span a z))
   unfolding siLength
   length-is h {v} l = ap good (ap some (l ∙ ap lengthFactorOf prefix-is) ∙ named-is "METRE" metre-self h _)
@@ -224,6 +229,7 @@ module _ (s : List ℕ) (a z : ℕ) (first second : NextNameCode.NextName) {p e 
   unfolding siAngle
   angle-other h = ap good (named-other "RADIAN" radian-self h _)
 
+  -- an SI angle unit that has the name RADIAN has the factor of its prefix
   pub angle-is : isNamed s second (bytes "RADIAN") ≡ true → {v : ℕ} → v ≡ factorOf (namedIn s first) → good (some v) ≡ good (siAngle s (span a z))
   unfolding siAngle
   angle-is h {v} l = ap good (ap some (l ∙ ap factorOf prefix-is) ∙ named-is "RADIAN" radian-self h _)
@@ -251,6 +257,7 @@ module _ (s : List ℕ) (left start : ℕ) (r : Span) where
   pub conversion-refused : {q : Refusal} → eqb left 0 ≡ false → bad q ≡ measureRef s r → bad q ≡ conversionOf s left start r
   conversion-refused h k = rw (h, ← k) refl
 
+  -- a conversion unit whose measure's reference reads, where one is left, leads to that measure
   pub conversion-leads : {i : ℕ} → eqb left 0 ≡ false → good i ≡ measureRef s r → good (leads i) ≡ conversionOf s left start r
   conversion-leads h k = rw (h, ← k) refl
 
@@ -270,7 +277,7 @@ module _ {A : Type 0} (si : Span → Told A) (conversion : Thing → Span → To
   unit-si (good t) h e = rw (← h) e
   unit-si (bad r) h e = clash (cc)
 
-  -- a unit that is neither gives what stands for neither
+  -- a unit with neither an SI part nor a conversion gives what stands for neither
   unit-neither : (x : Told Thing) → good none ≡ onward (selfOr SiUnit) x → good none ≡ onward (selfOr ConversionBasedUnit) x → good neither ≡ By x
   unit-neither (good t) h k = rw (← h, ← k) refl
   unit-neither (bad r) h k = clash (cc)
@@ -303,7 +310,7 @@ module _ (s : List ℕ) (left : ℕ) where
   unfolding linkOf
   link-si x h e = unit-si (λ r. good (known (siLength s r))) (λ t. conversionOf s left (t .run .start)) (known none) x h (ap (goodBy known) e)
 
-  -- a length unit that is neither has no factor
+  -- a length unit with neither an SI part nor a conversion has no factor
   pub link-neither : (x : Told Thing) → good none ≡ onward (selfOr SiUnit) x → good none ≡ onward (selfOr ConversionBasedUnit) x → good (known none) ≡ onward (linkOf s left) x
   unfolding linkOf
   link-neither x h k = unit-neither (λ r. good (known (siLength s r))) (λ t. conversionOf s left (t .run .start)) (known none) x h k
@@ -331,7 +338,7 @@ module _ (s : List ℕ) (find : ℕ → Told (Option Thing)) where
   unfolding angleOf
   angle-si x h e = unit-si (λ r. good (siAngle s r)) (λ t r. onward (numberIn s find) (measureRef s r)) none x h e
 
-  -- an angle unit that is neither has no factor
+  -- an angle unit with neither an SI part nor a conversion has no factor
   pub angle-neither : (x : Told Thing) → good none ≡ onward (selfOr SiUnit) x → good none ≡ onward (selfOr ConversionBasedUnit) x → good none ≡ onward (angleOf s find) x
   unfolding angleOf
   angle-neither x h k = unit-neither (λ r. good (siAngle s r)) (λ t r. onward (numberIn s find) (measureRef s r)) none x h k

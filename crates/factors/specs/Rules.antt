@@ -65,7 +65,7 @@ module _ (s : List ℕ) (find : ℕ → Told (Option Thing)) where
     unreadable : {r : Span} {q : Refusal} → Has i r → numberAt s r ≡ bad q → (q .number ≡ 13 → ⊥) → MeasureForm i (ends (good none))
     -- "an unreadable [..] base, gives no factor"
     unbased : {r : Span} {v : ℕ} {q : Refusal} → Has i r → numberAt s r ≡ good v → baseAt s r ≡ bad q → MeasureForm i (ends (good none))
-    -- "a missing record [..] gives no factor": the base's
+    -- "a missing record [..] gives no factor": the base's record is missing
     baseless : {r : Span} {v b : ℕ} → Has i r → numberAt s r ≡ good v → baseAt s r ≡ good b → find b ≡ good none → MeasureForm i (ends (good none))
     -- "13 inside units refuses the whole answer."
     classless : {r : Span} {q : Refusal} → Has i r → numberAt s r ≡ bad q → q .number ≡ 13 → MeasureForm i (ends (bad q))
@@ -80,11 +80,11 @@ module _ (s : List ℕ) (find : ℕ → Told (Option Thing)) where
   pub data LengthForm : ℕ → Thing → Told (Option ℕ) → Type 0 where
     -- "An SI part goes before a conversion"
     si : {k : ℕ} {t : Thing} {r : Span} → selfOr SiUnit t ≡ good (some r) → LengthForm k t (good (siLength s r))
-    -- a unit that has neither part has no factor
+    -- a unit with neither an SI part nor a conversion has no factor
     neither : {k : ℕ} {t : Thing} → selfOr SiUnit t ≡ good none → selfOr ConversionBasedUnit t ≡ good none → LengthForm k t (good none)
     -- "A conversion unit leads to a measure and the measure to its base unit, value times base factor"
     conversion : {k i v : ℕ} {t u : Thing} {r : Span} {a : Told (Option ℕ)} → k < 16 → Converts t r → measureRef s r ≡ good i → MeasureForm i (base v u) → LengthForm (suc k) u a → LengthForm k t (scaledBy v a)
-    -- a measure that leads to no base unit
+    -- a conversion unit whose measure leads to no base unit has the answer that ends the chain there
     stops : {k i : ℕ} {t : Thing} {r : Span} {a : Told (Option ℕ)} → k < 16 → Converts t r → measureRef s r ≡ good i → MeasureForm i (ends a) → LengthForm k t a
     -- "The seventeenth conversion unit on one chain is 15, before its name", at "the unit record's argument start"
     deep : {k : ℕ} {t : Thing} {r : Span} → k ≡ 16 → Converts t r → LengthForm k t (bad (refusal 15 0 (t .run .start)))
@@ -119,9 +119,9 @@ module _ (s : List ℕ) (find : ℕ → Told (Option Thing)) where
   -- ---- an angle unit
   -- the factor of an angle unit
   pub data AngleForm (t : Thing) : Told (Option ℕ) → Type 0 where
-    -- "Angle: the prefix factor."
+    -- an SI unit of angle: "Angle: the prefix factor."
     si : {r : Span} → selfOr SiUnit t ≡ good (some r) → AngleForm t (good (siAngle s r))
-    -- a unit that has neither part has no factor
+    -- a unit with neither an SI part nor a conversion has no factor
     neither : selfOr SiUnit t ≡ good none → selfOr ConversionBasedUnit t ≡ good none → AngleForm t (good none)
     -- "An angle's conversion gives the measure's number alone."
     conversion : {r : Span} {i v : ℕ} {m : Thing} → Converts t r → measureRef s r ≡ good i → find i ≡ good (some m) → numberAt s (m .run) ≡ good v → AngleForm t (good (some v))

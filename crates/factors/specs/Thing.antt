@@ -23,7 +23,7 @@ abbrev pub goodBy : {A B : Type 0} → (A → B) → Told A → Told B
 goodBy f (good a) = good (f a)
 goodBy f (bad q) = bad q
 
--- two kinds are the same
+-- whether two kinds are the same
 abbrev pub sameKind : Kind → Kind → Bool
 sameKind a b = eqb (rankOf a) (rankOf b)
 

@@ -1,5 +1,4 @@
 -- The looks that come before a search, for many ids at once: a row that can be told without reading rows is what the search finds,
--- The looks that come before a search, for many ids at once: a row that can be told without reading rows is what the search finds,
 -- if it has the id. The laws say so for any slots and any numbers beside them.
 -- Assumes nothing.
 use Prim.Native.Nat.{ℕ, _+_, _-_, _*_, _/_, _%_, _≤_, _<_, min, max}

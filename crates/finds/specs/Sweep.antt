@@ -63,12 +63,12 @@ pub record Sweeping (P : ℕ → ℕ → Type 0) (ids before : List ℕ) (from t
   pub swept : Swept P ids before from m after
 
 module _ {P : ℕ → ℕ → Type 0} {ids before : List ℕ} {from to : ℕ} where
-  -- it begins
+  -- a sweep over a part begins at its start, with the list as it was
   pub sweep-none : from ≤ to → to ≤ length ids → to ≤ length before → Sweeping P ids before from to before from
   sweep-none f a r = record { low = omega arith; high = f; asked = a; room = r; swept = swept-none P ids before from }
 
   module _ {after : List ℕ} {m : ℕ} (h : Sweeping P ids before from to after m) where
-    -- it writes the next number
+    -- a sweep over a part writes the next number and comes one further
     pub sweep-next : m < to → {x : ℕ} → P (getD ids m 0) x → Sweeping P ids before from to (set after m x) (m + 1)
     sweep-next l {x} p = let r = h .room in record { low = omega arith; high = omega arith; asked = h .asked; room = r; swept = swept-next P ids before from m after (h .swept) (h .low) x (omega arith) p }
 
@@ -76,7 +76,7 @@ module _ {P : ℕ → ℕ → Type 0} {ids before : List ℕ} {from to : ℕ} wh
     pub sweep-old : (Q : ℕ → ℕ → Type 0) → m < to → ((i : ℕ) → from ≤ i → i < to → Q (getD ids i 0) (getD before i 0)) → Q (getD ids m 0) (getD after m 0)
     sweep-old Q l q = subst (λ (z : ℕ). Q (getD ids m 0) z) (sym (h .swept .rest m (omega arith))) (q m (h .low) l)
 
-    -- it has come to the part's end
+    -- a sweep over a part that has come to the part's end is done
     pub sweep-end : to ≤ m → Swept P ids before from to after
     sweep-end e = swept-end P ids before after from m to (h .swept) (omega arith)
 

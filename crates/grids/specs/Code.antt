@@ -14,7 +14,7 @@ use Rattle.grids.specs.declared.ReadGrid as ReadGridCode
 abbrev pub sizeTold : {A : Type 0} → Told (List (List A)) → Told Size
 sizeTold a = onward (λ g. good (sizeOf g)) a
 
--- what is read of a text: places are told from its start, and so 16 is at 0
+-- what the code's answer to a grid's text tells: places are told from the text's start, and so 16 is at 0
 abbrev pub toldReadGrid : ReadGridCode.ReadGrid → Told Size
 toldReadGrid (ReadGridCode.the-variants.Count r n) = good (size r n)
 toldReadGrid (ReadGridCode.the-variants.Wrong o) = bad (refusal 12 0 o)

@@ -31,12 +31,12 @@ unfoldable pub endsFrom : {A : Type 0} → ℕ → List (List A) → List ℕ
 endsFrom n [] = []
 endsFrom n (r ∷ rs) = (n + length r) ∷ endsFrom (n + length r) rs
 
--- how many rows and numbers there are
+-- a grid's size: how many rows and numbers it has
 pub record Size : Type 0 where
   pub rows : ℕ
   pub numbers : ℕ
 
--- such a size by its parts
+-- a grid's size by its two numbers
 abbrev pub size : ℕ → ℕ → Size
 size r n = record { rows = r; numbers = n }
 
@@ -44,11 +44,11 @@ size r n = record { rows = r; numbers = n }
 abbrev pub sizeOf : {A : Type 0} → List (List A) → Size
 sizeOf g = size (length g) (length (flat g))
 
--- neither list is too short: a lent list of so many numbers and one of so many row ends
+-- whether a size fits: neither a lent list of so many numbers nor one of so many row ends is too short
 abbrev pub sizeFits : ℕ → ℕ → Size → Bool
 sizeFits room ends s = leb (s .numbers) room && leb (s .rows) ends
 
--- a grid fits where its size does
+-- whether a grid fits: its size does
 abbrev pub gridFits : {A : Type 0} → ℕ → ℕ → List (List A) → Bool
 gridFits room ends g = sizeFits room ends (sizeOf g)
 
@@ -56,7 +56,7 @@ gridFits room ends g = sizeFits room ends (sizeOf g)
 abbrev pub gridRead : {A : Type 0} → (List ℕ → Answer A) → ℕ → ℕ → List ℕ → ℕ → ℕ → Read (List (List A))
 gridRead f room ends s place end = nextBy (gridOf f) (gridFits room ends) s place end
 
--- the answer's size
+-- the answer of a reader of grids with the size for the grid
 abbrev pub howLarge : {A : Type 0} → Read (List (List A)) → Read Size
 howLarge a = mapped (λ g. good (sizeOf g)) a
 
@@ -64,7 +64,7 @@ howLarge a = mapped (λ g. good (sizeOf g)) a
 abbrev pub numbersOf : {A : Type 0} → Told (List (List A)) → Told (List A)
 numbersOf a = onward (λ g. good (flat g)) a
 
--- its row ends, or its refusal
+-- the row ends of a grid that is read, or its refusal
 abbrev pub endsOf : {A : Type 0} → Told (List (List A)) → Told (List ℕ)
 endsOf a = onward (λ g. good (endsFrom 0 g)) a
 
@@ -75,15 +75,15 @@ toldNextGrid (NextGridCode.the-variants.Refused f t) = reading (bad (told f)) (t
 
 -- ---- what the code's parts promise
 
--- how many numbers of a kind a row has
+-- how many numbers of a kind a row has, or its refusal
 abbrev pub rowOf : Kind → List ℕ → Fate ℕ
 rowOf kind u = fated length (listBy (kindOf kind) u)
 
--- a row of k numbers more
+-- a size with a row of k numbers more
 abbrev pub addRow : Size → ℕ → Size
 addRow s k = size (s .rows + 1) (s .numbers + k)
 
--- how many there are, or the refusal
+-- what the code's count of a grid tells: its size, or the refusal
 abbrev pub toldTally : TallyCode.Tally → Fate Size
 toldTally (TallyCode.the-variants.All r n) = fine (size r n)
 toldTally (TallyCode.the-variants.Wrong o) = faulty 12 o

@@ -16,7 +16,7 @@ use Rattle.grids.specs.Grid.{gridOf, gridFits, flat, endsFrom}
 use Rattle.grids.specs.Rows.{numbers-left, ends-left, ends-length, more-numbers}
 
 module _ {A : Type 0} (g : List (List A)) (k : ℕ) (h : k < length g) where
-  -- the k-th row and those after it
+  -- the rows from the k-th on are the k-th and those after it
   here : drop k g ≡ getD g k [] ∷ drop (k + 1) g
   here = rw add-one (drop-cons g k [] h)
 
@@ -34,7 +34,7 @@ module _ {A : Type 0} (g : List (List A)) (k : ℕ) (h : k < length g) where
       ap (take (length (getD g k []))) (numbers-left g k (getD g k []) (drop (k + 1) g) here (length (flat (take k g))) refl)
       ∙ take-append-seam (getD g k []) (flat (drop (k + 1) g))
 
--- there are as many ends as rows
+-- a grid has as many row ends as rows
 pub ends-count : {A : Type 0} (g : List (List A)) → length (endsFrom 0 g) ≡ length g
 ends-count g = ends-length 0 g
 

@@ -25,7 +25,7 @@ use Rattle.grids.specs.declared.ReadGrid.the-variants.{Count, Wrong, Out
 use Rattle.grids.specs.Grid.{Size, size, sizeOf, sizeFits, gridFits, flat, endsFrom, howLarge, numbersOf, endsOf, addRow, rowOf}
 use Rattle.grids.specs.Code.{sizeTold, toldReadGrid, reachedIn, GridReady}
 
--- rows taken in one after another, by their lengths
+-- a size into which rows are taken by their lengths has so many rows and so many numbers more
 tally-rows : {A : Type 0} (s : Size) (g : List (List A)) → tally addRow s (map length g) ≡ size (s .rows + length g) (s .numbers + length (flat g))
 tally-rows s [] =
     let e : s .rows ≡ s .rows + 0 = omega arith in
@@ -36,7 +36,7 @@ tally-rows s (r ∷ g) =
     let f : s .numbers + length r + length (flat g) ≡ s .numbers + length (r ++ flat g) = omega (arith, length-append r (flat g)) in
     tally-rows (addRow s (length r)) g ∙ ap (λ (k : ℕ). size k (s .numbers + length r + length (flat g))) e ∙ ap (λ (n : ℕ). size (s .rows + suc (length g)) n) f
 
--- a grid's size, counted row by row, whatever its items read as
+-- a grid's size, counted row by row whatever its items read as, is that of the grid that is read
 pub size-told : {A : Type 0} (g : List ℕ → Fate A) (t : List ℕ)
     → fated (tally addRow (size 0 0)) (listBy (λ u. fated length (listBy (λ v. mute (g v)) u)) t) ≡ fated sizeOf (listBy (listBy g) t)
 size-told {A} g t =
@@ -62,7 +62,7 @@ pub grid-told : (kind : Kind) (t : List ℕ) (room ends : ℕ) (a : Told Size) �
     → a ≡ sizeTold (roomed (gridFits room ends) 0 (listBy (listBy (itemValueOf kind)) t))
 grid-told kind t room ends a e = e ∙ ap (roomed (sizeFits room ends) 0) (size-valued kind t) ∙ roomed-told sizeOf (sizeFits room ends) 0 (listBy (listBy (itemValueOf kind)) t)
 
--- both of two tests
+-- where two tests put together by `&&` hold, both hold
 and-true : (a b : Bool) → a && b ≡ true → (a ≡ true) × (b ≡ true)
 and-true true true h = (refl, refl)
 and-true true false h = (refl, h)
@@ -77,28 +77,28 @@ module _ {A : Type 0} (x : Fate (List (List A))) (room ends : ℕ) where
       let (m, n) = and-true (leb (length (flat g)) room) (leb (length g) ends) l in
       rw k (refl, leb-true (length (flat g)) room m, leb-true (length g) ends n)
 
-  -- it is written
+  -- a grid whose size is told is written: its numbers and its row ends
   pub grid-written : (s : Size) (out w : List A) (marks m : List ℕ) → good s ≡ sizeTold (roomed (gridFits room ends) 0 x) → w ≡ filled (flat (valuesOf x)) out → m ≡ filled (endsFrom 0 (valuesOf x)) marks
       → (w ≡ written (numbersOf (roomed (gridFits room ends) 0 x)) out) × (m ≡ written (endsOf (roomed (gridFits room ends) 0 x)) marks)
   grid-written s out w marks m e h l = let (g, k, n, r) = roomed-good sizeOf (gridFits room ends) x s e in (rw r (rw k at h), rw r (rw k at l))
 
-  -- nothing is written of another
+  -- a grid that is refused leaves the lent numbers and row ends as they were
   pub grid-refused : (q : Refusal) (out : List A) (marks : List ℕ) → bad q ≡ sizeTold (roomed (gridFits room ends) 0 x)
       → (out ≡ written (numbersOf (roomed (gridFits room ends) 0 x)) out) × (marks ≡ written (endsOf (roomed (gridFits room ends) 0 x)) marks)
   grid-refused q out marks e = let k = onward-bad sizeOf (roomed (gridFits room ends) 0 x) q e in (rw k refl, rw k refl)
 
 -- What a grid that reads writes, by what its text is.
 module _ {A : Type 0} (g : List ℕ → Fate A) (t : List ℕ) (r : Shape) (h : ShapeAt t r) where
-  -- none is no list
+  -- a text that reads as a grid is not told to be no list
   pub grid-none : (room ends : ℕ) → GridReady (listBy (listBy g) t) room ends → r ≡ NotList → ⊥
   grid-none room ends (k, l, m) e = fills-none (listBy g) t r h ends (k, m) e
 
-  -- nothing
+  -- a grid without rows leaves the lent numbers and row ends as they were
   pub grid-blank : (out : List A) (marks : List ℕ) → r ≡ Blank → (out ≡ filled (flat (valuesOf (listBy (listBy g) t))) out) × (marks ≡ filled (endsFrom 0 (valuesOf (listBy (listBy g) t))) marks)
   unfolding endsFrom
   grid-blank out marks e = let (b, f, o) = shape-blank t r h e in let q = list-blank (listBy g) t b f o in (rw (← q) refl, rw (← q) refl)
 
-  -- its rows
+  -- the rows of a grid that has rows are the items between its parentheses, and there is room for them
   pub grid-full : (room ends : ℕ) → GridReady (listBy (listBy g) t) room ends → r ≡ Full
       → (valuesOf (listBy (listBy g) t) ≡ valuesOf (itemsIn (listBy g) (take (length t - 1 - 1) (drop 1 t))))
       × GridReady (itemsIn (listBy g) (take (length t - 1 - 1) (drop 1 t))) room ends
@@ -106,12 +106,12 @@ module _ {A : Type 0} (g : List ℕ → Fate A) (t : List ℕ) (r : Shape) (h : 
 
 -- The answer's three parts: its size, the numbers and the row ends.
 module _ {A : Type 0} (g : List ℕ → Fate (List (List A))) (out : List A) (marks : List ℕ) (room ends : ℕ) (s : List ℕ) (p e : ℕ) where
-  -- no parameter is cut
+  -- where no parameter is cut, a reader of grids answers the cut's refusal, and both lent lists stay as they were
   pub grids-uncut : (q : Refusal) (p′ e′ : ℕ) → reading (bad q) p′ e′ ≡ paramOf s p e
       → (reading (bad q) p′ e′ ≡ howLarge (nextBy g (gridFits room ends) s p e)) × ((out ≡ written (numbersOf (nextBy g (gridFits room ends) s p e .answer)) out) × (marks ≡ written (endsOf (nextBy g (gridFits room ends) s p e .answer)) marks))
   grids-uncut q p′ e′ h = let k = next-uncut g (gridFits room ends) s p e q p′ e′ h in (rw (← k) refl, (rw (← k) refl, rw (← k) refl))
 
-  -- the text of a parameter is read
+  -- where a parameter is cut, a reader of grids answers what its text's grid tells, moved to the file, and writes what that writes
   pub grids-cut : (a z p′ e′ : ℕ) → reading (good (span a z)) p′ e′ ≡ paramOf s p e → (r : Told Size) (w : List A) (m : List ℕ) → r ≡ sizeTold (roomed (gridFits room ends) 0 (g (take (z - a) (drop a s))))
       → w ≡ written (numbersOf (roomed (gridFits room ends) 0 (g (take (z - a) (drop a s))))) out → m ≡ written (endsOf (roomed (gridFits room ends) 0 (g (take (z - a) (drop a s))))) marks
       → (reading (moved a r) p′ e′ ≡ howLarge (nextBy g (gridFits room ends) s p e)) × ((w ≡ written (numbersOf (nextBy g (gridFits room ends) s p e .answer)) out) × (m ≡ written (endsOf (nextBy g (gridFits room ends) s p e .answer)) marks))
@@ -125,7 +125,7 @@ module _ {A : Type 0} (g : List ℕ → Fate (List (List A))) (out : List A) (ma
         ),
       )
 
--- a row of a kind has its faults in it
+-- the fault of a row of a kind lies in its text
 pub row-inward : (kind : Kind) → Inward (rowOf kind)
 row-inward kind = told-inward length (listBy (kindOf kind)) (list-inward (kindOf kind) (kind-inward kind))
 
@@ -135,7 +135,7 @@ tally-inward kind b n o e =
     told-place (tally addRow (size 0 0)) (itemsIn (rowOf kind) b) n o (length b) e
     (omega (arith, items-inward (rowOf kind) (row-inward kind) (suc (length b)) 0 b))
 
--- how far into the text the code's answer is
+-- the place that the code tells of a grid's text lies in that text
 pub grid-inward : {A : Type 0} (g : List ℕ → Fate (List (List A))) → Inward g → (fits : List (List A) → Bool) (t : List ℕ) (r : ReadGrid) → toldReadGrid r ≡ sizeTold (roomed fits 0 (g t)) → reachedIn r ≤ length t
 grid-inward {A} g inward fits t r e = omega (arith, told-reached r, ap placeOf e, size-place (roomed fits 0 (g t)), roomed-inward g inward fits 0 t)
   where

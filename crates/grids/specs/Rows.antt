@@ -15,18 +15,18 @@ use Rattle.grids.specs.Grid.{flat, endsFrom}
 use Rattle.grids.specs.Code.{GridReady, put}
 
 module _ {A : Type 0} where
-  -- rows and more rows
+  -- the numbers of rows and more rows are those of the rows and then those of the more rows
   pub flat-append : (g h : List (List A)) → flat (g ++ h) ≡ flat g ++ flat h
   flat-append [] h = refl
   flat-append (r ∷ g) h = ap (λ (x : List A). r ++ x) (flat-append g h) ∙ sym (append-assoc r (flat g) (flat h))
 
-  -- one end for each row
+  -- there is one row end for each row
   pub ends-length : (n : ℕ) (g : List (List A)) → length (endsFrom n g) ≡ length g
   unfolding endsFrom
   ends-length n [] = refl
   ends-length n (r ∷ g) = ap suc (ends-length (n + length r) g)
 
-  -- the ends of more rows follow
+  -- the ends of more rows follow those of the rows before, counted on from their numbers
   pub ends-append : (n : ℕ) (g h : List (List A)) → endsFrom n (g ++ h) ≡ endsFrom n g ++ endsFrom (n + length (flat g)) h
   unfolding endsFrom
   ends-append n [] h = let e : n ≡ n + 0 = omega arith in ap (λ (k : ℕ). endsFrom k h) e
@@ -36,19 +36,19 @@ module _ {A : Type 0} where
 
   -- After m rows of a grid, the row v and the rows l are left, and n numbers were before them.
   module _ (g : List (List A)) (m : ℕ) (v : List A) (l : List (List A)) (here : drop m g ≡ v ∷ l) (n : ℕ) (soFar : n ≡ length (flat (take m g))) where
-    -- the grid by its rows
+    -- a grid is its first m rows, the row v and the rows l
     whole : g ≡ take m g ++ (v ∷ l)
     whole = sym (take-append-drop m g) ∙ ap (λ (x : List (List A)). take m g ++ x) here
 
-    -- so many rows were before
+    -- there are m rows before the row v
     few : length (take m g) ≡ m
     few = length-take-le m g (omega (arith, ap length here, length-drop m g))
 
-    -- the numbers that are left
+    -- the numbers left after the first m rows are those of the row v and of the rows l
     pub numbers-left : drop n (flat g) ≡ v ++ flat l
     numbers-left = ap (λ (x : List (List A)). drop n (flat x)) whole ∙ ap (drop n) (flat-append (take m g) (v ∷ l)) ∙ drop-at (flat (take m g)) (v ++ flat l) n (sym soFar)
 
-    -- the ends that are left
+    -- the row ends left after the first m are that of the row v and those of the rows l
     pub ends-left : drop m (endsFrom 0 g) ≡ (n + length v) ∷ endsFrom (n + length v) l
     unfolding endsFrom
     ends-left =
@@ -56,7 +56,7 @@ module _ {A : Type 0} where
         ap (λ (x : List (List A)). drop m (endsFrom 0 x)) whole ∙ ap (drop m) (ends-append 0 (take m g) (v ∷ l))
         ∙ drop-at (endsFrom 0 (take m g)) (endsFrom (0 + length (flat (take m g))) (v ∷ l)) m (ends-length 0 (take m g) ∙ few) ∙ ap (λ (k : ℕ). endsFrom k (v ∷ l)) e
 
-    -- one row more
+    -- the numbers so far and those of the row v are the numbers of the first m + 1 rows
     pub more-numbers : n + length v ≡ length (flat (take (m + 1) g))
     more-numbers =
         let t : take (m + 1) g ≡ take m g ++ (v ∷ []) = take-add m 1 g ∙ ap (λ (x : List (List A)). take m g ++ take 1 x) here in
@@ -64,7 +64,7 @@ module _ {A : Type 0} where
 
 -- A part v of the numbers xs is written, from the n-th on.
 module _ {A : Type 0} (xs out : List A) (n : ℕ) (v l : List A) (here : drop n xs ≡ v ++ l) (within : n ≤ length xs) (room : length xs ≤ length out) where
-  -- there is room for it
+  -- the part v from the n-th number on lies within the numbers xs
   pub part-fits : n + length v ≤ length xs
   part-fits = omega (arith, ap length here, length-append v l, length-drop n xs)
 
@@ -78,7 +78,7 @@ module _ {A : Type 0} (xs out : List A) (n : ℕ) (v l : List A) (here : drop n 
       ap (λ (x : List A). x ++ filled v (drop n w)) t ∙ ap (λ (x : List A). take n xs ++ filled v x) d ∙ ap (λ (x : List A). take n xs ++ (v ++ x)) (drop-drop (length v) n out)
       ∙ sym (append-assoc (take n xs) v (drop (n + length v) out)) ∙ ap (λ (x : List A). x ++ drop (n + length v) out) (sym h)
 
-  -- these were the last
+  -- once the last part is written, all numbers stand in front of the lent list
   pub part-ends : l ≡ [] → take (n + length v) xs ++ drop (n + length v) out ≡ filled xs out
   part-ends e =
       let m : n + length v ≡ length xs = omega (arith, ap length here, length-append v l, ap length e, length-drop n xs) in
@@ -109,27 +109,27 @@ gridding-starts g b out ends (h, k, l) = let m : suc (length b) - 0 ≡ suc (len
   marked = refl;
 }
 
--- no more numbers are in the first rows than in all
+-- the first rows of a grid have no more numbers than all its rows
 flat-few : {A : Type 0} (m : ℕ) (g : List (List A)) → length (flat (take m g)) ≤ length (flat g)
 flat-few {A} m g = omega (arith, ap (λ (x : List (List A)). length (flat x)) (take-append-drop m g), ap length (flat-append (take m g) (drop m g)), length-append (flat (take m g)) (flat (drop m g)))
 
 module _ {A : Type 0} (g : List ℕ → Fate A) (b : List ℕ) (out₀ out : List A) (ends₀ ends : List ℕ) (i m n : ℕ) (f : Gridding g b out₀ out ends₀ ends i m n) where
-  -- the rows of the grid
+  -- the rows of the grid whose inside is b
   abbrev rowsOf : List (List A)
   rowsOf = valuesOf (itemsIn (listBy g) b)
 
-  -- so many numbers are there
+  -- no more numbers were written than the grid has
   inside : n ≤ length (flat rowsOf)
   inside = omega (arith, f .soFar, flat-few m rowsOf)
 
-  -- the lent numbers are as many as they were
+  -- the lent numbers are as many as they were, and no fewer than were written
   pub gridding-room : (n ≤ length out) × (length out ≡ length out₀)
   gridding-room =
       let e : length out ≡ length out₀ = ap length (f .done) ∙ length-append (take n (flat rowsOf)) (drop n out₀) ∙ omega (arith, inside, f .room, length-take-le n (flat rowsOf) inside, length-drop n out₀) in
       (omega (arith, inside, f .room, e), e)
 
   module _ (r : Item) (found : ItemAt b (min i (length b)) r) where
-    -- the next row's item
+    -- the item that was found is the next row's
     here : ItemAt b i r
     here = item-in b i r (f .within) found
 

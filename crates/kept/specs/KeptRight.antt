@@ -1,5 +1,4 @@
 -- Writing rows and reading them back is the identity, and so is reading bytes and writing them again; and what a fine row is
--- Writing rows and reading them back is the identity, and so is reading bytes and writing them again; and what a fine row is
 -- without a loop. Assumes nothing.
 use Prim.Native.Nat.{ℕ, zero, suc, _+_, _*_, _/_, _%_, _≤_, _<_}
 use mathlib.Core.Path.{_≡_, refl, sym, _∙_, ap, ap₂}

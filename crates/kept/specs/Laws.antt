@@ -1,5 +1,4 @@
 -- Laws for the code: rows tested one by one, written and read one by one.
--- Laws for the code: rows tested one by one, written and read one by one.
 -- Assumes nothing.
 use Prim.Native.Nat.{ℕ, zero, suc, _+_, _*_, _/_, _%_, _≤_, _<_}
 use mathlib.Core.Path.{_≡_, refl, sym, _∙_, ap, subst}

@@ -1,5 +1,4 @@
 -- Leaps: bytes that a search passes without looking at each. A byte is sought; and in a comment a search stays as it is until a `*`.
--- Leaps: bytes that a search passes without looking at each. A byte is sought; and in a comment a search stays as it is until a `*`.
 -- Assumes nothing.
 use Prim.Native.Nat.{ℕ, zero, suc, _+_, _-_, _≤_, _<_, min}
 use mathlib.Core.Path.{_≡_, refl, sym, _∙_, ap, subst}

@@ -1,5 +1,4 @@
 -- What the code passes at one go on its way to a record's `;` and to a closing `)`: a string, a comment, a byte outside both, and blocks of
--- What the code passes at one go on its way to a record's `;` and to a closing `)`: a string, a comment, a byte outside both, and blocks of
 -- bytes in which nothing is to be looked at one by one. All is said of `plainly`, the search outside strings and comments, for which it does not
 -- matter where the last byte outside stood. No contract of a public function cites these. Assumes nothing.
 use Prim.Native.Nat.{ℕ, suc, _+_, _-_, _≤_, _<_, min}

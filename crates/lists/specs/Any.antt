@@ -32,7 +32,7 @@ pub rows-only : {t : List ℕ} {a : Fate (List (List (Unit {0})))} → Listed (L
 rows-only d = listed-only (Listed Anything) (listBy anything) (λ u a. items-only) d
 
 -- ---- a list that g reads is read by h, which reads what g reads
--- what reads seen from k bytes further back reads
+-- a text that reads as a value seen from k bytes further back reads as that value
 shifted-fine : {A : Type 0} (k : ℕ) (x : Fate A) (v : A) → shifted k x ≡ fine v → x ≡ fine v
 shifted-fine k (fine a) v e = e
 shifted-fine k (faulty n o) v e = clash (cc)

@@ -18,7 +18,7 @@ none-filled : {A : Type 0} (vs out : List A) → length vs ≤ 0 → out ≡ fil
 none-filled [] out h = refl
 none-filled (v ∷ vs) out h = absurd (omega arith)
 
--- it stands whole in no numbers
+-- a list stands whole in a list of no numbers: it is longer than that, or has no values
 none-held : {A : Type 0} (x : Fate (List A)) → Held x []
 none-held (fine []) h = refl
 none-held (fine (v ∷ vs)) h = absurd (omega arith)

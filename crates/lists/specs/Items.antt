@@ -83,7 +83,7 @@ pub data Body : Type 0 where
   inside : List ℕ → Body
   bare : Body
 
--- "A list is `(`..`)`"
+-- "A list is `(`..`)`": the inside of a text that is a list, or that it is none
 unfoldable pub bodyOf : List ℕ → Body
 bodyOf [] = bare
 bodyOf (c ∷ r) = pick (eqb c 40 && eqb (getD r (length r - 1) 0) 41) (inside (take (length r - 1) r)) bare

@@ -23,26 +23,26 @@ use Rattle.lists.specs.Lent.{valuePutAt}
 use Rattle.lists.specs.Laws.{tally, tally-starts, tally-bad, tally-last, tally-more, list-none, list-blank, list-full, shape-none, shape-blank, shape-full, told-full}
 use Rattle.lists.specs.ReadLaws.{roomed-told, roomed-bad, room-refused, room-written}
 
--- a value behind the others
+-- a list of values with one more behind them
 abbrev pub snoc : {A : Type 0} → List A → A → List A
 snoc ws v = ws ++ (v ∷ [])
 
--- values taken in one behind the other
+-- values that are taken in one behind the other stand behind those that were taken in before
 tally-snoc : {A : Type 0} (ws vs : List A) → tally snoc ws vs ≡ ws ++ vs
 tally-snoc ws [] = sym (append-nil ws)
 tally-snoc ws (v ∷ vs) = tally-snoc (snoc ws v) vs ∙ append-assoc ws (v ∷ []) vs
 
--- from the first on they are the list
+-- the values of a list, taken in from none on, are the list
 tally-whole : {A : Type 0} (x : Fate (List A)) → fated (tally snoc []) x ≡ x
 tally-whole (fine vs) = ap fine (tally-snoc [] vs)
 tally-whole (faulty n o) = refl
 
 module _ {A : Type 0} (ws old : List A) where
-  -- as long as the list beside
+  -- the list beside, once values are written over its start as far as it goes, is as long as it was
   pub held-length : length (take (length old) (filled ws old)) ≡ length old
   held-length = omega (arith, length-take (length old) (filled ws old), length-append ws (drop (length ws) old), length-drop (length ws) old)
 
-  -- a value more, at its place or at none
+  -- one value more is written at its place in the list beside, or nowhere if that is too short
   pub held-more : (v : A) → set (take (length old) (filled ws old)) (length ws) v ≡ take (length old) (filled (snoc ws v) old)
   held-more v = go (decLe (length old) (length ws))
     where
@@ -71,7 +71,7 @@ pub record Keeping {A : Type 0} (g : List ℕ → Fate A) (b : List ℕ) (old ne
   pub rest : fated (tally snoc kept) (itemsFrom (suc (length b) - n) g i (drop i b)) ≡ itemsFrom (suc (length b)) g 0 b
   pub held : new ≡ take (length old) (filled kept old)
 
--- none is read yet
+-- before the first item is read none is kept
 pub keeping-starts : {A : Type 0} (g : List ℕ → Fate A) (b : List ℕ) (old : List A) → Keeping g b old old 0 0
 keeping-starts g b old = record {
   kept = [];
@@ -87,7 +87,7 @@ mute-fine : {A : Type 0} (x : Fate A) → fine tt ≡ mute x → (v : A) × (fin
 mute-fine (fine v) e = (v, refl)
 mute-fine (faulty k o) e = clash (cc)
 
--- one that does not is refused as it is
+-- an item that does not read is refused as it is where only its reading is told
 mute-bad : {A : Type 0} (x : Fate A) (k o : ℕ) → faulty k o ≡ mute x → faulty k o ≡ x
 mute-bad (fine v) k o e = clash (cc)
 mute-bad (faulty l p) k o e = let x : k ≡ l = cc in let y : o ≡ p = cc in cc
@@ -95,11 +95,11 @@ mute-bad (faulty l p) k o e = let x : k ≡ l = cc in let y : o ≡ p = cc in cc
 -- The next item: the code told whether it reads, and put its value at its place in the list beside, which was `was` before.
 module _ {A : Type 0} (g : List ℕ → Fate A) (b : List ℕ) (old was new : List A) (i n : ℕ) (f : Keeping g b old was i n) (r : Item) (found : ItemAt b (min i (length b)) r)
     (put : new ≡ valuePutAt n (g (take (r .stop - r .start) (drop (r .start) b))) was) where
-  -- as many as there are bytes, at most
+  -- at most as many items were read as there are bytes
   few-enough : n ≤ length b
   few-enough = omega (arith, f .few, f .within)
 
-  -- a bad item
+  -- a bad item is the answer for the whole list, of which nothing need be kept
   pub keeping-bad : (k o : ℕ) → faulty k o ≡ mute (g (take (r .stop - r .start) (drop (r .start) b)))
       → (faulty k (r .start + o) ≡ fated length (itemsIn g b)) × Kept (itemsIn g b) old new
   keeping-bad k o e =
@@ -107,11 +107,11 @@ module _ {A : Type 0} (g : List ℕ → Fate A) (b : List ℕ) (old was new : Li
       (ap (fated length) q, subst (λ (x : Fate (List A)). Kept x old new) q tt)
 
   module _ (e : fine tt ≡ mute (g (take (r .stop - r .start) (drop (r .start) b)))) where
-    -- its value
+    -- the value of the item that was read
     value : (v : A) × (fine v ≡ g (take (r .stop - r .start) (drop (r .start) b)))
     value = mute-fine (g (take (r .stop - r .start) (drop (r .start) b))) e
 
-    -- it is kept
+    -- the value of the item that was read is kept in the list beside
     more : new ≡ take (length old) (filled (snoc (f .kept) (value .0)) old)
     more =
         put ∙ ap (λ (x : Fate A). valuePutAt n x was) (sym (value .1)) ∙ ap (λ (x : List A). set x n (value .0)) (f .held)
@@ -120,13 +120,13 @@ module _ {A : Type 0} (g : List ℕ → Fate A) (b : List ℕ) (old was new : Li
     count : n + 1 ≡ length (snoc (f .kept) (value .0))
     count = omega (arith, f .many, length-append (f .kept) (value .0 ∷ []))
 
-    -- the last item
+    -- after the last item its number is the list's count, and the list's first values are kept
     pub keeping-last : r .bound ≡ length b → (fine (n + 1) ≡ fated length (itemsIn g b)) × Kept (itemsIn g b) old new
     keeping-last k =
         let q = tally-last g snoc b i n r found (f .within) few-enough (f .kept) _ (f .rest) (value .0) (value .1) k in
         (ap fine count ∙ ap (fated length) q, subst (λ (x : Fate (List A)). Kept x old new) q more)
 
-    -- another item
+    -- after an item before others its value is kept, and the reading goes on behind its comma
     pub keeping-goes : r .bound < length b → Keeping g b old new (r .bound + 1) (n + 1)
     keeping-goes k =
         record {
@@ -138,22 +138,22 @@ module _ {A : Type 0} (g : List ℕ → Fate A) (b : List ℕ) (old was new : Li
           held = more;
         }
 
--- seen from further back
+-- what is kept of a list is kept of it seen from k bytes further back
 kept-shifted : {A : Type 0} (k : ℕ) (x : Fate (List A)) (old new : List A) → Kept x old new → Kept (shifted k x) old new
 kept-shifted k (fine vs) old new h = h
 kept-shifted k (faulty n o) old new h = h
 
 -- What is kept of a list, by what its text is.
 module _ {A : Type 0} (g : List ℕ → Fate A) (t : List ℕ) (r : Shape) (h : ShapeAt t r) (old : List A) where
-  -- no list
+  -- of a text that is no list 12 is told, and the list beside stays as it was
   pub kept-none : r ≡ NotList → (faulty 12 0 ≡ fated length (listBy g t)) × Kept (listBy g t) old old
   kept-none e = let q = list-none g t (shape-none t r h e) in (ap (fated length) q, subst (λ (x : Fate (List A)). Kept x old old) q tt)
 
-  -- one without items
+  -- of a list without items 0 is told, and the list beside stays as it was
   pub kept-blank : r ≡ Blank → (fine 0 ≡ fated length (listBy g t)) × Kept (listBy g t) old old
   kept-blank e = let (b, f, o) = shape-blank t r h e in let q = list-blank g t b f o in (ap (fated length) q, subst (λ (x : Fate (List A)). Kept x old old) q (sym (take-length old)))
 
-  -- one with items
+  -- of a list with items is told and kept what is told and kept of the items between its parentheses
   pub kept-full : r ≡ Full → (a : Fate ℕ) (new : List A) → a ≡ fated length (itemsIn g (take (length t - 1 - 1) (drop 1 t)))
       → Kept (itemsIn g (take (length t - 1 - 1) (drop 1 t))) old new → (shifted 1 a ≡ fated length (listBy g t)) × Kept (listBy g t) old new
   kept-full e a new k l =
@@ -170,7 +170,7 @@ kept-held {A} x vs old new e k = subst (λ (y : Fate (List A)). Held y new) (sym
         let m : length vs ≤ length old = omega (arith, l, ap length h, held-length vs old) in
         ap (take (length vs)) h ∙ take-take (length vs) (length old) (filled vs old) m ∙ take-at vs (drop (length vs) old) (length vs) refl
 
--- all its values, where there is room for them
+-- what is kept of a list that reads is all its values, where there is room for them
 pub kept-all : {A : Type 0} (x : Fate (List A)) (room : ℕ) (old new : List A) → room ≡ length old → Ready x room → Kept x old new → new ≡ filled (valuesOf x) old
 kept-all {A} x room old new e (f, h) k =
     subst (λ (y : Fate (List A)). Kept y old new) f k
@@ -183,36 +183,36 @@ counted-reads (faulty k o) n e = clash (cc)
 
 -- What is told of a list from its count.
 module _ {A : Type 0} (x : Fate (List A)) (room : ℕ) (out : List A) where
-  -- its count, tested
+  -- a list's count, tested against the room, is what is told of the list
   tested : (a : Fate ℕ) → a ≡ fated length x → roomed (λ n. leb n room) 0 a ≡ countOf (roomed (fitsIn room) 0 x)
   tested a e = ap (roomed (λ (n : ℕ). leb n room) 0) e ∙ roomed-told length (λ (n : ℕ). leb n room) 0 x
 
-  -- a bad item
+  -- a list with a bad item is refused, and the lent numbers stay as they were
   pub kept-bad : (n o : ℕ) → faulty n o ≡ fated length x → (bad (refusal n 0 o) ≡ countOf (roomed (fitsIn room) 0 x)) × (out ≡ written (roomed (fitsIn room) 0 x) out)
   kept-bad n o e =
       let q = roomed-bad (λ (n : ℕ). leb n room) n o (fated length x) e ∙ tested (fated length x) refl in
       (q, room-refused x room (refusal n 0 o) out q)
 
-  -- too many items
+  -- a list with more items than there is room for is refused with 16, and the lent numbers stay as they were
   pub kept-short : (n : ℕ) → fine n ≡ fated length x → room < n → (bad (refusal 16 0 0) ≡ countOf (roomed (fitsIn room) 0 x)) × (out ≡ written (roomed (fitsIn room) 0 x) out)
   kept-short n e h =
       let q = ap (λ (k : Bool). pick k (good n) (bad (refusal 16 0 0))) (sym (lt-leb n room h)) ∙ tested (fine n) e in
       (q, room-refused x room (refusal 16 0 0) out q)
 
-  -- a list that fits
+  -- a list that fits is told by its count, and its values are written into the lent numbers
   pub kept-fits : (n : ℕ) (w : List A) → fine n ≡ fated length x → n ≤ room → w ≡ filled (valuesOf x) out → (good n ≡ countOf (roomed (fitsIn room) 0 x)) × (w ≡ written (roomed (fitsIn room) 0 x) out)
   kept-fits n w e h k =
       let q = ap (λ (k : Bool). pick k (good n) (bad (refusal 16 0 0))) (sym (le-leb n room h)) ∙ tested (fine n) e in
       (q, room-written x room n out w q k)
 
--- it is ready to be written, and what was kept of it is held
+-- a list whose count fits is ready to be written, and what was kept of it is held
 pub kept-ready : {A : Type 0} (x : Fate (List A)) (room n : ℕ) (old new : List A) → fine n ≡ fated length x → n ≤ room → Kept x old new → Ready x room × ((n ≡ length (valuesOf x)) × Held x new)
 kept-ready x room n old new e h k =
     let (vs, q, c) = counted-reads x n e in
     let v : valuesOf x ≡ vs = ap valuesOf q in
     ((q ∙ ap fine (sym v), omega (arith, c, ap length v)), (c ∙ sym (ap length v), kept-held x vs old new q k))
 
--- one value more is copied
+-- to write the value at i is to have copied one value more
 pub copy-store : {A : Type 0} (s out : List A) (i : ℕ) (z : A) → i < length s → i < length out → set (take i s ++ drop i out) i (getD s i z) ≡ take (i + 1) s ++ drop (i + 1) out
 copy-store {A} s out i z h k =
     let d : drop i out ≡ getD out i z ∷ drop (i + 1) out = rw add-one (drop-cons out i z k) in
@@ -221,31 +221,31 @@ copy-store {A} s out i z h k =
     ∙ set-at (take i s) (getD out i z) (drop (i + 1) out) (getD s i z) i (length-take-le i s (omega arith))
     ∙ sym (ap (λ (x : List A). x ++ drop (i + 1) out) t ∙ append-assoc (take i s) (getD s i z ∷ []) (drop (i + 1) out))
 
--- the lent list is as long as it was
+-- a lent list into whose start values are copied is as long as it was
 pub copy-length : {A : Type 0} (s out w : List A) (i : ℕ) → i ≤ length s → i ≤ length out → w ≡ take i s ++ drop i out → length w ≡ length out
 copy-length s out w i h k e = ap length e ∙ length-append (take i s) (drop i out) ∙ omega (arith, h, k, length-take-le i s h, length-drop i out)
 
 -- Lists told by h, as a lent list of reals is by their bits.
 module _ {A B : Type 0} (h : A → B) where
-  -- its first values
+  -- the first n values of a list, told by h, are the first n of the list told by h
   pub map-take : (n : ℕ) (l : List A) → map h (take n l) ≡ take n (map h l)
   map-take zero l = refl
   map-take (suc n) [] = refl
   map-take (suc n) (a ∷ l) = ap (λ (x : List B). h a ∷ x) (map-take n l)
 
-  -- the others
+  -- the values from n on of a list, told by h, are those from n on of the list told by h
   pub map-drop : (n : ℕ) (l : List A) → map h (drop n l) ≡ drop n (map h l)
   map-drop zero l = refl
   map-drop (suc n) [] = refl
   map-drop (suc n) (a ∷ l) = map-drop n l
 
-  -- one of them written
+  -- a list with a value written at n, told by h, is the list told by h with that value told by h at n
   pub map-set : (l : List A) (n : ℕ) (v : A) → map h (set l n v) ≡ set (map h l) n (h v)
   map-set [] n v = refl
   map-set (x ∷ l) zero v = refl
   map-set (x ∷ l) (suc n) v = ap (λ (t : List B). h x ∷ t) (map-set l n v)
 
-  -- all values are copied from where they are held
+  -- a list that is copied from where its values are held is written whole, told by h
   pub copy-held : (x : Fate (List B)) (first out w : List A) (n : ℕ) → n ≡ length (valuesOf x) → n ≤ length first → Held x (map h first) → w ≡ take n first ++ drop n out → map h w ≡ filled (valuesOf x) (map h out)
   copy-held x first out w n c l k e =
       let t : take n (map h first) ≡ valuesOf x = ap (λ (m : ℕ). take m (map h first)) c ∙ k (omega (arith, length-map first h)) in

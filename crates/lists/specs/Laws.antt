@@ -41,7 +41,7 @@ end-open b i q r h e = drop-end b (length b) (omega arith) ∙ ap boundOf (ap (e
 pub found-in : (a n z p : ℕ) (r : Ended) → EndedIn a n r → r ≡ At z p → (a ≤ z) × (z ≤ p) × (p ≤ n)
 found-in a n z p r h e = subst (EndedIn a n) e h
 
--- the bytes between two places
+-- the bytes of b from the place i up to the place j are the j - i bytes from i on
 pub between : (b : List ℕ) (i j : ℕ) → i ≤ j → j ≤ length b → before (drop i b) (drop j b) ≡ take (j - i) (drop i b)
 between b i j h k = let e : length (drop i b) - length (drop j b) ≡ j - i = omega (arith, length-drop i b, length-drop j b) in ap (λ (n : ℕ). take n (drop i b)) e
 
@@ -134,7 +134,7 @@ module _ {A S : Type 0} (g : List ℕ → Fate A) (f : S → A → S) (b : List 
   h : ItemAt b i r
   h = item-in b i r inside found
 
-  -- a bad item is the answer
+  -- a bad item is the answer for the list
   pub tally-bad : (k o : ℕ) → faulty k o ≡ g (take (r .stop - r .start) (drop (r .start) b)) → faulty k (r .start + o) ≡ a
   tally-bad k o e =
       ap (fated (tally f s)) (items-bad g b i r h (length b - n) k o e)

@@ -45,7 +45,7 @@ lentRoom Integers refs wholes reals = wholes
 lentRoom (Floats which) refs wholes reals = reals
 lentRoom Any refs wholes reals = 0
 
--- a list fits into the lent numbers of its kind
+-- whether a list fits into the lent numbers of its kind
 abbrev pub fitsBy : (kind : Kind) → List ℕ → List ℤ → List Float → List (Value kind) → Bool
 fitsBy kind refs wholes reals vs = fitsIn (lentRoom kind (length refs) (length wholes) (length reals)) vs
 

@@ -421,7 +421,7 @@ blank-item : listBy fine (bytes "( )") ≡ fine []
 unfolding listBy bodyOf isBlank itemsBy past trail walk
 blank-item = refl
 
--- "`(1,)` has two"
+-- "`(1,)` has two" items, the second of them empty
 two-items : listBy fine (bytes "(1,)") ≡ fine (bytes "1" ∷ [] ∷ [])
 unfolding listBy bodyOf isBlank itemsBy itemsFrom itemBy itemText indent itemEnd cutOf past trail walk
 two-items = refl

@@ -1,5 +1,4 @@
 -- The characters of four codes of a page in one number, as the program holds its tables: 24 such numbers are the 96 codes from A0 to FF. Assumes
--- The characters of four codes of a page in one number, as the program holds its tables: 24 such numbers are the 96 codes from A0 to FF. Assumes
 -- nothing.
 use Prim.Native.Nat.{ℕ, zero, suc, _+_, _*_, _/_, _%_, _-_, _^_, _≤_, _<_}
 use mathlib.Core.Path.{_≡_, refl, sym, _∙_, ap}
@@ -16,11 +15,11 @@ four a b c d = ((a * 0x1_0000 + b) * 0x1_0000 + c) * 0x1_0000 + d
 abbrev pub packed : ℕ → ℕ → ℕ
 packed p k = four (entry p (0xA0 + 4 * k)) (entry p (0xA1 + 4 * k)) (entry p (0xA2 + 4 * k)) (entry p (0xA3 + 4 * k))
 
--- the four characters in the line that a test has found
+-- where a test has found the line k to be j, the four characters of line j are those of line k
 pub found : (p j : ℕ) {k : ℕ} → k ≡ j → packed p j ≡ packed p k
 found p j e = ap (packed p) (sym e)
 
--- the four characters on the page that a test has found
+-- where a test has found the page p to be q, the four characters of page q are those of page p
 pub turned-to : (q k : ℕ) {p : ℕ} → p ≡ q → packed q k ≡ packed p k
 turned-to q k e = ap (λ (p : ℕ). packed p k) (sym e)
 
@@ -32,17 +31,17 @@ nothing = 0xFFFD_FFFD_FFFD_FFFD
 none-four : (p k : ℕ) → ((n : ℕ) → 0xA0 + 4 * k ≤ n → 0xFFFD ≡ entry p n) → nothing ≡ packed p k
 none-four p k f = rw (sym (f (0xA0 + 4 * k) (omega arith)), sym (f (0xA1 + 4 * k) (omega arith)), sym (f (0xA2 + 4 * k) (omega arith)), sym (f (0xA3 + 4 * k) (omega arith))) refl
 
--- no line is left: the codes lie above FF
+-- where k is none of the 24 lines, its codes lie above FF, and all four are undefined
 pub no-line : (p : ℕ) {k : ℕ} → Avoids 0 24 k → nothing ≡ packed p k
 no-line p {k} h = let m = avoided 0 24 k (omega arith) h in none-four p k (λ n l. entry-past p n (omega arith))
 
--- there is no such page
+-- where p is none of the pages 1 to 8, and not 0, there is no such page, and all four codes are undefined
 pub no-page : (k : ℕ) {p : ℕ} → Avoids 1 8 p → 0 < p → nothing ≡ packed p k
 no-page k {p} h l = let m = avoided 1 8 p l h in none-four p k (λ n e. entry-none p n (omega arith))
 
--- one code of four, read from their number
+-- one code k of four, read from the number w that packs the four
 module _ (p k w : ℕ) (e : w ≡ packed p (k / 4)) where
-  -- the code whose place among its four is i
+  -- a code whose place among its four is i comes i after the first of the four
   at-code : (i : ℕ) → k % 4 ≡ i → entry p (0xA0 + i + 4 * (k / 4)) ≡ entry p (0xA0 + k)
   at-code i h = let z : 0xA0 + i + 4 * (k / 4) ≡ 0xA0 + k = omega arith in ap (entry p) z
 

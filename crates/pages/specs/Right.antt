@@ -1,5 +1,4 @@
 -- What is computed of pages is what the rules give, and nothing else is; and the rule over all nine tables: each entry is a Unicode scalar, and
--- What is computed of pages is what the rules give, and nothing else is; and the rule over all nine tables: each entry is a Unicode scalar, and
 -- page A is the identity. Assumes nothing.
 use Prim.Native.Nat.{ℕ, zero, suc, _+_, _-_, _≤_, _<_}
 use mathlib.Core.Path.{_≡_, refl, sym, _∙_, ap, subst}

@@ -1,5 +1,4 @@
 -- Answers as plain numbers, for a host in another language: one number is the answer, and what goes with it stands in lent numbers.
--- Answers as plain numbers, for a host in another language: one number is the answer, and what goes with it stands in lent numbers.
 -- Assumes nothing.
 -- Definitions to be believed: no law, and nothing computed that no theorem ties (docs/BELIEVE.md).
 use Prim.Native.Nat.{ℕ}
@@ -24,12 +23,12 @@ abbrev pub readCode : {A : Type 0} → Told A → ℕ
 readCode (good a) = 0
 readCode (bad q) = q .number
 
--- the place of a refusal, or what stood there
+-- what a lent place then is: the place of a refusal, or what stood there
 abbrev pub readFault : {A : Type 0} → Told A → ℕ → ℕ
 readFault (good a) old = old
 readFault (bad q) old = q .place
 
--- what f makes of an answer that is read, or what stood there
+-- what f makes of an answer that is read, or, where it is refused, what stood there
 abbrev pub readValue : {A B : Type 0} → (A → B) → Told A → B → B
 readValue f (good a) old = f a
 readValue f (bad q) old = old
@@ -64,7 +63,7 @@ foundCode (good none) = 255
 foundCode (good (some a)) = 0
 foundCode (bad q) = q .number
 
--- what f makes of an answer that is found, or what stood there
+-- what f makes of an answer that is found, or, where there is none or it is refused, what stood there
 abbrev pub foundValue : {A B : Type 0} → (A → B) → Told (Option A) → B → B
 foundValue f (good none) old = old
 foundValue f (good (some a)) old = f a
@@ -88,12 +87,12 @@ abbrev pub shownRoom : Shown → ℕ
 shownRoom (inFile a) = 0
 shownRoom (inRoom n) = 1
 
--- where it begins there
+-- where a text begins, in the file or in the lent room
 abbrev pub shownStart : Shown → ℕ
 shownStart (inFile a) = a .start
 shownStart (inRoom n) = 0
 
--- where it ends there
+-- where a text ends, in the file or in the lent room
 abbrev pub shownStop : Shown → ℕ
 shownStop (inFile a) = a .stop
 shownStop (inRoom n) = n

@@ -1,5 +1,4 @@
 -- Numbers that come back say what they were made from.
--- Numbers that come back say what they were made from.
 -- Assumes nothing.
 use Prim.Native.Nat.{ℕ, zero, suc, _/_, _%_, _≤_, _<_}
 use mathlib.Core.Path.{_≡_, refl, _∙_, ap}

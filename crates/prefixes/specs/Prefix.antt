@@ -22,29 +22,29 @@ use Rattle.record.specs.FormRight.{same-is}
 use Rattle.nearest.specs.Near.{near, nearUnits}
 use Rattle.prefixes.specs.Rules.{Prefix, prefixes, unity, tenUp, tenDown}
 
--- the place of the prefix that is named so, letters in either case; the number of prefixes where there is none
+-- the place of the prefix that a text names, letters in either case; the number of prefixes where there is none
 unfoldable pub placeIn : List Prefix → List ℕ → ℕ
 placeIn [] t = 0
 placeIn (p ∷ ps) t = pick (isWord t (bytes (p .name))) 0 (suc (placeIn ps t))
 
--- the prefix that is named so, or the one of factor 1.0
+-- the prefix that a text names, or the one of factor 1.0
 abbrev pub prefixOf : List ℕ → Prefix
 prefixOf t = getD prefixes (placeIn prefixes t) unity
 
--- the f64 nearest to the prefix's power of ten, by its pattern
+-- the f64 nearest to the power of ten of the prefix that a text names, by its pattern
 abbrev pub factorOf : List ℕ → ℕ
 factorOf t = near (tenUp (prefixOf t)) (tenDown (prefixOf t))
 
 -- ---- the code's tables: all names in a row, where each begins, and the factors, 1.0 the last
--- the names one after another
+-- the names of the prefixes one after another
 abbrev pub names : List ℕ
 names = bytes "EXAPETATERAGIGAMEGAKILOHECTODECADECICENTIMILLIMICRONANOPICOFEMTOATTO"
 
--- where each name begins, and where the last ends
+-- where each prefix's name begins in `names`, and where the last ends
 abbrev pub starts : List ℕ
 starts = 0 ∷ 3 ∷ 7 ∷ 11 ∷ 15 ∷ 19 ∷ 23 ∷ 28 ∷ 32 ∷ 36 ∷ 41 ∷ 46 ∷ 51 ∷ 55 ∷ 59 ∷ 64 ∷ 68 ∷ []
 
--- the f64 of each power of ten, and 1.0
+-- the f64 of each prefix's power of ten, and 1.0
 abbrev pub factors : List Float
 factors =
     ofBits binary64 4876203697187506176
@@ -66,26 +66,26 @@ factors =
     ∷ ofBits binary64 4607182418800017408
     ∷ []
 
--- the part of `names` for the row i is the name, and the factor is the nearest f64
+-- the rule of row i of the code's tables: its part of `names` is the prefix's name, and its factor is the nearest f64
 pub record Rule (i : ℕ) (p : Prefix) : Type 0 where
   pub order : getD starts i 0 ≤ getD starts (suc i) 0
   pub within : getD starts (suc i) 0 ≤ 68
   pub named : take (getD starts (suc i) 0 - getD starts i 0) (drop (getD starts i 0) names) ≡ bytes (p .name)
   pub factor : toBits binary64 (getD factors i nan) ≡ near (tenUp p) (tenDown p)
 
--- whether the rule holds at a row, as a test: two comparisons of places, one of a name and one of a pattern
+-- whether the rule of a row holds, as a test: two comparisons of places, one of a name and one of a pattern
 abbrev keepsRule : ℕ → Prefix → Bool
 keepsRule i p =
     leb (getD starts i 0) (getD starts (suc i) 0) && leb (getD starts (suc i) 0) 68
     && same (take (getD starts (suc i) 0 - getD starts i 0) (drop (getD starts i 0) names)) (bytes (p .name))
     && eqb (toBits binary64 (getD factors i nan)) (near (tenUp p) (tenDown p))
 
--- the test at each row, counted from i
+-- the tests of the rules of all rows, counted from i
 abbrev keepRules : ℕ → List Prefix → Bool
 keepRules i [] = true
 keepRules i (p ∷ ps) = keepsRule i p && keepRules (suc i) ps
 
--- it holds at all sixteen rows: antt computes it
+-- the test of the rule holds at all sixteen rows: antt computes it
 all-keep : T (keepRules 0 prefixes)
 unfolding toBits ofBits near nearUnits size same
 all-keep = tt
@@ -98,7 +98,7 @@ all-four true true false d h = absurd h
 all-four true false c d h = absurd h
 all-four false b c d h = absurd h
 
--- what the test says of a row
+-- where the test of a row's rule holds, the rule does
 rule-of : (i : ℕ) (p : Prefix) → T (keepsRule i p) → Rule i p
 rule-of i p h =
     let (a, b, n, f) = all-four (leb (getD starts i 0) (getD starts (suc i) 0)) (leb (getD starts (suc i) 0) 68)
@@ -106,7 +106,7 @@ rule-of i p h =
     (eqb (toBits binary64 (getD factors i nan)) (near (tenUp p) (tenDown p))) h in
     record { order = leb-true _ _ a; within = leb-true _ _ b; named = same-is _ _ n; factor = eqb-true _ _ f }
 
--- the rule at a row that is counted from i
+-- where the tests of rows counted from i hold, the rule of the k-th of them does
 rule-from : (ps : List Prefix) (i : ℕ) → T (keepRules i ps) → (k : ℕ) → k < length ps → Rule (i + k) (getD ps k unity)
 rule-from [] i r k h = absurd (not-suc-le-zero h)
 rule-from (p ∷ ps) i r zero h = subst (λ (m : ℕ). Rule m p) (sym (add-zero i)) (rule-of i p (and-l (keepsRule i p) (keepRules (suc i) ps) r))
@@ -114,15 +114,15 @@ rule-from (p ∷ ps) i r (suc k) h =
     subst (λ (m : ℕ). Rule m (getD ps k unity)) (suc-add i k ∙ sym (add-suc i k))
     (rule-from ps (suc i) (and-r (keepsRule i p) (keepRules (suc i) ps) r) k (le-of-suc-le-suc h))
 
--- the rule at row k
+-- the rule of the code's tables holds at row k
 pub rule-at : (k : ℕ) → k < 16 → Rule k (getD prefixes k unity)
 rule-at k h = subst (λ (m : ℕ). Rule m (getD prefixes k unity)) (zero-add k) (rule-from prefixes 0 all-keep k h)
 
--- the same, as the code counts
+-- no name ends in `names` before it begins, by rows as the code counts them
 pub order-at : (k : ℕ) → k < 16 → getD starts k 0 ≤ getD starts (k + 1) 0
 order-at k h = subst (λ (j : ℕ). getD starts k 0 ≤ getD starts j 0) (sym (add-one k)) (rule-at k h .order)
 
--- each name ends inside the names
+-- each name ends inside `names`, by rows as the code counts them
 pub within-at : (k : ℕ) → k < 16 → getD starts (k + 1) 0 ≤ 68
 within-at k h = subst (λ (j : ℕ). getD starts j 0 ≤ 68) (sym (add-one k)) (rule-at k h .within)
 
@@ -143,7 +143,7 @@ unfolding toBits ofBits near nearUnits size
 thousand = refl
 
 -- ---- the search, from a row on
--- the place among the prefixes from k on, with the k that were passed, is the place among all
+-- the search stands at row k: the place among the prefixes from k on, with the k that were passed, is the place among all
 abbrev pub Searching : List ℕ → ℕ → Type 0
 Searching t k = (k ≤ 16) × (k + placeIn (drop k prefixes) t ≡ placeIn prefixes t)
 
@@ -151,7 +151,7 @@ Searching t k = (k ≤ 16) × (k + placeIn (drop k prefixes) t ≡ placeIn prefi
 head-at : (k : ℕ) → k < 16 → drop k prefixes ≡ getD prefixes k unity ∷ drop (suc k) prefixes
 head-at k h = drop-cons prefixes k unity h
 
--- the name at k fits: k is the place
+-- where the name at row k fits, k is the place that is sought
 pub search-finds : (t : List ℕ) (k : ℕ) → k < 16 → isWord t (bytes (getD prefixes k unity .name)) ≡ true → Searching t k → k ≡ placeIn prefixes t
 unfolding placeIn
 search-finds t k h e s =
@@ -162,7 +162,7 @@ search-finds t k h e s =
     plain : (k a b : ℕ) → a ≡ 0 → k + a ≡ b → k ≡ b
     plain k a b q r = omega arith
 
--- the name at k does not fit: the search goes on
+-- where the name at row k does not fit, the search goes on at the next row
 pub search-goes : (t : List ℕ) (k : ℕ) → k < 16 → isWord t (bytes (getD prefixes k unity .name)) ≡ false → Searching t k → Searching t (k + 1)
 unfolding placeIn
 search-goes t k h e s =
@@ -173,7 +173,7 @@ search-goes t k h e s =
     plain : (k a c b : ℕ) → a ≡ suc c → k + a ≡ b → suc k + c ≡ b
     plain k a c b q r = omega arith
 
--- no name fits: 16 is the place
+-- where no name fits, the place is 16
 pub search-ends : (t : List ℕ) (k : ℕ) → 16 ≤ k → Searching t k → 16 ≡ placeIn prefixes t
 unfolding placeIn
 search-ends t k h s =
@@ -181,7 +181,7 @@ search-ends t k h s =
     let q : 16 + placeIn (drop 16 prefixes) t ≡ placeIn prefixes t = subst (λ (m : ℕ). m + placeIn (drop m prefixes) t ≡ placeIn prefixes t) e (s .1) in
     q
 
--- the place lies in the table or at its end
+-- the place of a prefix lies in the table or at its end
 pub place-within : (t : List ℕ) (ps : List Prefix) → placeIn ps t ≤ length ps
 unfolding placeIn
 place-within t [] = omega arith
@@ -191,11 +191,11 @@ place-within t (p ∷ ps) = go (isWord t (bytes (p .name))) (place-within t ps)
     go true l = omega arith
     go false l = omega arith
 
--- so it is at most 16
+-- the place of a prefix that a text names is at most 16
 pub place-most : (t : List ℕ) → placeIn prefixes t ≤ 16
 place-most t = place-within t prefixes
 
--- the factor at the place that was found
+-- the factor at row k is the f64 nearest to the power of ten of the prefix there; at row 16 it is 1.0
 pub factor-at : (k : ℕ) → k ≤ 16 → toBits binary64 (getD factors k nan) ≡ near (tenUp (getD prefixes k unity)) (tenDown (getD prefixes k unity))
 factor-at k h = go (eq-or k h)
   where

@@ -1,5 +1,4 @@
 -- What one byte does to the walks of Text.antt, at an index of the whole text: the laws that the loops of the code go by.
--- What one byte does to the walks of Text.antt, at an index of the whole text: the laws that the loops of the code go by.
 -- Assumes nothing.
 use Prim.Native.Nat.{ℕ, _+_, _*_, _-_, _≤_, _<_}
 use mathlib.Core.Path.{_≡_, refl, sym, _∙_, ap}
@@ -20,21 +19,27 @@ use Rattle.record.specs.Byte.{digit}
 use Rattle.record.specs.Word.{same}
 
 module _ (b : List ℕ) (i : ℕ) (h : i < length b) where
+  -- the walk past bytes that pass a test ends at one that does not
   pub past-stops : (p : ℕ → Bool) (a : List ℕ) → p (getD b i 0) ≡ false → walk (pastTurn p) (λ u. []) tt (drop i b) ≡ a → drop i b ≡ a
   past-stops p a e inv = sym (walk-stops (pastTurn p) (λ u. []) tt b i (drop i b) h (rw e (ap stop (sym (split b i h))))) ∙ inv
 
+  -- the walk past bytes that pass a test goes on after one that does
   pub past-goes : (p : ℕ → Bool) (a : List ℕ) → p (getD b i 0) ≡ true → walk (pastTurn p) (λ u. []) tt (drop i b) ≡ a → walk (pastTurn p) (λ u. []) tt (drop (i + 1) b) ≡ a
   past-goes p a e inv = sym (walk-goes (pastTurn p) (λ u. []) tt tt b i h (rw e refl)) ∙ inv
 
+  -- the walk over digits ends at a byte that is no digit, with the number so far
   pub digit-stops : (n : ℕ) (a : Digits) → digit (getD b i 0) ≡ false → walk digitTurn (λ m. digits m []) n (drop i b) ≡ a → digits n (drop i b) ≡ a
   digit-stops n a e inv = sym (walk-stops digitTurn (λ m. digits m []) n b i (digits n (drop i b)) h (rw e (ap (λ (l : List ℕ). stop (digits n l)) (sym (split b i h))))) ∙ inv
 
+  -- the walk over digits goes on after a digit, with that digit taken in
   pub digit-goes : (n : ℕ) (a : Digits) → digit (getD b i 0) ≡ true → walk digitTurn (λ m. digits m []) n (drop i b) ≡ a → walk digitTurn (λ m. digits m []) (n * 10 + (getD b i 0 - 48)) (drop (i + 1) b) ≡ a
   digit-goes n a e inv = sym (walk-goes digitTurn (λ m. digits m []) n (n * 10 + (getD b i 0 - 48)) b i h (rw e refl)) ∙ inv
 
+  -- the walk over a keyword ends at a `(`
   pub key-stops : (e : ℕ) (a : Keyed) → eqb (getD b i 0) 40 ≡ true → walk keyTurn (λ k. unopened) (drop e b) (drop i b) ≡ a → opened (drop e b) (drop i b) ≡ a
   key-stops e a q inv = sym (walk-stops keyTurn (λ k. unopened) (drop e b) b i (opened (drop e b) (drop i b)) h (rw q (ap (λ (l : List ℕ). stop (opened (drop e b) l)) (sym (split b i h))))) ∙ inv
 
+  -- the walk over a keyword goes on after a byte that is no `(`; a byte that is not white moves the keyword's end past it
   pub key-goes : (e k : ℕ) (a : Keyed) → eqb (getD b i 0) 40 ≡ false → pick (white (getD b i 0)) (drop e b) (drop (i + 1) b) ≡ drop k b → walk keyTurn (λ l. unopened) (drop e b) (drop i b) ≡ a → walk keyTurn (λ l. unopened) (drop k b) (drop (i + 1) b) ≡ a
   key-goes e k a q w inv = sym (walk-goes keyTurn (λ l. unopened) (drop e b) (drop k b) b i h (rw q (ap on w))) ∙ inv
 
@@ -71,10 +76,12 @@ same-lengths (a ∷ x) (b ∷ y) h = go (eqb a b) (same-lengths x y (λ e. h (om
 
 -- at an index of two texts, the first seen through f, the bytes there differ or agree
 module _ (f : ℕ → ℕ) (x y : List ℕ) (i : ℕ) (a : Bool) (h : i < length x) (k : i < length y) where
+  -- texts that differ at an index, the first seen through f, are not the same from there on
   pub same-stops : eqb (f (getD x i 0)) (getD y i 0) ≡ false → same (map f (drop i x)) (drop i y) ≡ a → false ≡ a
   unfolding same
   same-stops e inv = sym (rw (split x i h, split y i k, e) refl) ∙ inv
 
+  -- texts that agree at an index, the first seen through f, are the same from there on just where they are from the next on
   pub same-goes : eqb (f (getD x i 0)) (getD y i 0) ≡ true → same (map f (drop i x)) (drop i y) ≡ a → same (map f (drop (i + 1) x)) (drop (i + 1) y) ≡ a
   unfolding same
   same-goes e inv = sym (rw (split x i h, split y i k, e) refl) ∙ inv

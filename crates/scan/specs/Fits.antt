@@ -43,7 +43,7 @@ pub record RecordFits (n : ℕ) (w : Row) : Type 0 where
   pub argStart : w .argStart ≤ n
   pub argEnd : w .argEnd ≤ n
 
--- an answer whose value is good, or whose refusal's place is at most n
+-- the value of an answer is as F says, or its refusal's place is at most n
 abbrev pub ToldFits : {A : Type 0} → ℕ → (A → Type 0) → Told A → Type 0
 ToldFits n F (good a) = F a
 ToldFits n F (bad q) = q .place ≤ n
@@ -67,6 +67,7 @@ module _ (s : List ℕ) where
   argued-fits F f h (at r) = h (place s r) (place-within s r)
   argued-fits F f h (fault n r) = place-within s r
 
+  -- the places of a header row, read from the head of its record, lie in the file, or its refusal's place does
   header-by : (b : Option (List ℕ)) (ys : List ℕ) (h : Head) → ToldFits (length s) (HeaderFits (length s)) (headerBy b s ys h)
   header-by b ys (Bad why) = place-within s ys
   header-by b ys (Complex i o) = place-within s ys
@@ -81,6 +82,7 @@ module _ (s : List ℕ) where
       })
       (sought b (drop o ys))
 
+  -- the places of a data row, read from the head of its record, lie in the file, or its refusal's place does
   record-by : (b : Option (List ℕ)) (ys : List ℕ) (h : Head) → ToldFits (length s) (RecordFits (length s)) (recordBy b s ys h)
   record-by b ys (Bad why) = place-within s ys
   record-by b ys (Complex i o) =
@@ -98,20 +100,24 @@ module _ (s : List ℕ) where
       })
       (sought b (drop o ys))
 
+  -- the places of a statement that is a header record lie in the file, where those of its row or its refusal do
   headed-fits : (ys r : List ℕ) (x : Told HeaderRow) → ToldFits (length s) (HeaderFits (length s)) x → StmtFits (length s) (headed ys r x)
   headed-fits ys r (good w) h = h
   headed-fits ys r (bad q) h = h
 
+  -- the places of a statement that is a data record lie in the file, where those of its row or its refusal do
   recorded-fits : (ys r : List ℕ) (x : Told Row) → ToldFits (length s) (RecordFits (length s)) x → StmtFits (length s) (recorded ys r x)
   recorded-fits ys r (good w) h = h
   recorded-fits ys r (bad q) h = h
 
+  -- the places of a statement that is a record in a section lie in the file
   section-fits : (ys e : List ℕ) (sec : Section) → StmtFits (length s) (inSection s ys e sec)
   unfolding headerOf recordOf
   section-fits ys e Outside = tt
   section-fits ys e InHeader = headed-fits ys (drop 1 e) (headerOf s ys (before ys e)) (header-by (bound ys (before ys e)) ys (headerHead (before ys e)))
   section-fits ys e InData = recorded-fits ys (drop 1 e) (recordOf s ys (before ys e)) (record-by (bound ys (before ys e)) ys (dataHead (before ys e)))
 
+  -- the places of a statement, by whether its text is a section's word, lie in the file
   worded-fits : (ys e : List ℕ) (sec : Section) (w : Word) → StmtFits (length s) (worded s ys e sec w)
   worded-fits ys e sec EndSection = tt
   worded-fits ys e sec Header = tt
@@ -119,14 +125,17 @@ module _ (s : List ℕ) where
   worded-fits ys e sec EndFile = tt
   worded-fits ys e sec Other = section-fits ys e sec
 
+  -- the places of a statement, by where its record ends, lie in the file
   ended-fits : (ys : List ℕ) (sec : Section) (x : Sought) → StmtFits (length s) (ended s ys sec x)
   ended-fits ys sec (fault n o) = place-within s o
   ended-fits ys sec (at e) = worded-fits ys e sec (wordOf (before ys e))
 
+  -- the places of a statement from its first byte on lie in the file
   begun-fits : (sec : Section) (ys : List ℕ) → StmtFits (length s) (begun s sec ys)
   begun-fits sec [] = tt
   begun-fits sec (c ∷ r) = ended-fits (c ∷ r) sec (recordEnd (c ∷ r))
 
+  -- the places of a statement behind trivia, or of a fault in these, lie in the file
   led-fits : (sec : Section) (x : Sought) → StmtFits (length s) (led s sec x)
   led-fits sec (fault n o) = place-within s o
   led-fits sec (at ys) = begun-fits sec ys

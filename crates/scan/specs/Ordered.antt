@@ -1,5 +1,4 @@
 -- The numbers of a row are in order: the keyword's start and end, the arguments' start and end, the file's end; an id is at most
--- The numbers of a row are in order: the keyword's start and end, the arguments' start and end, the file's end; an id is at most
 -- 4294967295, and `complex` is 0 or 1. Assumes nothing.
 use Prim.Native.Nat.{ℕ, _+_, _≤_, _<_}
 use mathlib.Core.Path.{_≡_, ap}
@@ -21,11 +20,11 @@ use Rattle.scan.specs.Rests.{Each, balanced-rest, after-rest, scan-tells
 pub record HeaderOrdered (n : ℕ) (w : HeaderRow) : Type 0 where
   -- the keyword does not end before it starts
   pub keyword : w .keyStart ≤ w .keyEnd
-  -- it ends before the arguments start, since a `(` stands between
+  -- the keyword ends before the arguments start, since a `(` stands between
   pub between : w .keyEnd < w .argStart
   -- the arguments do not end before they start
   pub arguments : w .argStart ≤ w .argEnd
-  -- they end in the file, at a `)`
+  -- the arguments end in the file, at a `)`
   pub within : w .argEnd < n
 
 -- the numbers of a data row of a file of n bytes are in order
@@ -34,11 +33,11 @@ pub record RowOrdered (n : ℕ) (w : Row) : Type 0 where
   pub id : w .id ≤ 4294967295
   -- the keyword does not end before it starts
   pub keyword : w .keyStart ≤ w .keyEnd
-  -- it ends before the arguments start, since a `(` stands between
+  -- the keyword ends before the arguments start, since a `(` stands between
   pub between : w .keyEnd < w .argStart
   -- the arguments do not end before they start
   pub arguments : w .argStart ≤ w .argEnd
-  -- they end in the file, at a `)`
+  -- the arguments end in the file, at a `)`
   pub within : w .argEnd < n
   -- "complex 0 or 1"
   pub complex : w .complex ≤ 1

@@ -1,5 +1,4 @@
 -- What stands at the places that are answered: at a refusal's place what its number names, and between a row's arguments' start
--- What stands at the places that are answered: at a refusal's place what its number names, and between a row's arguments' start
 -- and end a `(`, balanced bytes and a `)`. Assumes nothing.
 use Prim.Native.Nat.{ℕ, _≤_, _<_}
 use mathlib.Core.Path.{_≡_, refl, ap}

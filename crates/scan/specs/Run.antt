@@ -1,5 +1,4 @@
 -- A run of tidy data records, as the writing pass reads them one after the other: what it leaves, and that it is what the reading takes
--- A run of tidy data records, as the writing pass reads them one after the other: what it leaves, and that it is what the reading takes
 -- statement by statement. No contract of a public function cites it. Assumes nothing.
 use Prim.Native.Nat.{ℕ, _+_, _≤_, _<_, max}
 use mathlib.Core.Path.{_≡_, refl, sym, _∙_, ap, subst}

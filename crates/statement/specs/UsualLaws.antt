@@ -37,14 +37,17 @@ pub mark-open : mark 40 ≡ true
 unfolding mark
 mark-open = refl
 
+-- a `)` is a marked byte
 mark-close : mark 41 ≡ true
 unfolding mark
 mark-close = refl
 
+-- a `/` is a marked byte
 mark-slash : mark 47 ≡ true
 unfolding mark
 mark-slash = refl
 
+-- a `;` is a marked byte
 mark-end : mark 59 ≡ true
 unfolding mark
 mark-end = refl
@@ -151,18 +154,22 @@ string-way d f r h k =
           ∙ past-pass p (39 ∷ []) r (refl, tt);
     }
 
--- The same at places of the file.
+-- A `(`, a `)`, another byte and a string as ways, at a place of the file.
 module _ (s : List ℕ) (i d : ℕ) (h : i < length s) where
+  -- a `(` at a place is a way to one more open parenthesis
   pub open-at : getD s i 0 ≡ 40 → Way d (d + 1) (drop i s) (drop (i + 1) s)
   open-at e = let n : d + 1 ≡ suc d = omega arith in rw (split s i h, e, n) (open-way d (drop (i + 1) s))
 
+  -- a `)` at a place is a way to one open parenthesis fewer, where one is open
   pub close-at : getD s i 0 ≡ 41 → (d ≡ 0 → ⊥) → Way d (d - 1) (drop i s) (drop (i + 1) s)
   close-at e k = let n : suc (d - 1) ≡ d = omega arith in
       rw (split s i h, e) (rw n at (close-way (d - 1) (drop (i + 1) s)))
 
+  -- a byte at a place that is none of the five marked ones is a way that leaves the depth as it is
   pub other-at : (getD s i 0 ≡ 39 → ⊥) → (getD s i 0 ≡ 40 → ⊥) → (getD s i 0 ≡ 41 → ⊥) → (getD s i 0 ≡ 47 → ⊥) → (getD s i 0 ≡ 59 → ⊥) → Way d d (drop i s) (drop (i + 1) s)
   other-at a b c e f = rw (split s i h) (way-other d (getD s i 0) (drop (i + 1) s) a b c e f)
 
+  -- a string at a place, without a `;` and without a doubled quote, is a way that leaves the depth as it is
   pub string-at : (q : ℕ) → getD s i 0 ≡ 39 → drop q s ≡ past spoken (drop (i + 1) s) → q < length s → getD s q 0 ≡ 39
       → (Begins 39 (drop (q + 1) s) → ⊥) → Way d d (drop i s) (drop (q + 1) s)
   string-at q e p k g o =
@@ -186,10 +193,12 @@ stop-at s from i j d (e, z, g) h w = (omega arith, rw e g, rw e (rw z at w))
 
 -- One byte of a run of plain bytes, at a place.
 module _ (s : List ℕ) (i : ℕ) (h : i < length s) where
+  -- a run of plain bytes ends at a marked byte
   pub run-stops : mark (getD s i 0) ≡ true → drop i s ≡ past plain (drop i s)
   unfolding past
   run-stops e = past-stops s i h plain (past plain (drop i s)) (ap not e) refl
 
+  -- a run of plain bytes goes on after a byte that is not marked
   pub run-goes : mark (getD s i 0) ≡ false → past plain (drop (i + 1) s) ≡ past plain (drop i s)
   unfolding past
   run-goes e = past-goes s i h plain (past plain (drop i s)) (ap not e) refl

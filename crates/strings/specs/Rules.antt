@@ -15,11 +15,11 @@ use Rattle.pages.specs.Rules.{pageA, Selects, Coded}
 
 -- "hex digits, either case": a byte and the digit's value
 pub data Hex : ℕ → ℕ → Type 0 where
-  -- `0` to `9`
+  -- a decimal digit, `0` to `9`
   decimal : {v : ℕ} → v < 10 → Hex (byte "0" + v) v
-  -- `A` to `F`
+  -- a capital hex digit, `A` to `F`
   capital : {v : ℕ} → v < 6 → Hex (byte "A" + v) (10 + v)
-  -- `a` to `f`
+  -- a small hex digit, `a` to `f`
   small : {v : ℕ} → v < 6 → Hex (byte "a" + v) (10 + v)
 
 -- "four .. hex digits" stand at the start, and this is their number
@@ -31,7 +31,7 @@ pub data Four : List ℕ → ℕ → Type 0 where
 abbrev pub High : ℕ → Type 0
 High n = In 55296 56319 n
 
--- a low one, DC00 to DFFF
+-- a low surrogate of UTF-16, DC00 to DFFF
 abbrev pub Low : ℕ → Type 0
 Low n = In 56320 57343 n
 
@@ -39,7 +39,7 @@ Low n = In 56320 57343 n
 pub data Shown : ℕ → ℕ → Type 0 where
   -- a code below the surrogates gives its character
   below : {n : ℕ} → n < 55296 → Shown n n
-  -- and so does one between them and 10FFFF
+  -- a code above the surrogates and up to 10FFFF gives its character
   above : {n : ℕ} → In 57344 1114111 n → Shown n n
   -- "other surrogates .. give U+FFFD"
   surrogate : {n : ℕ} → In 55296 57343 n → Shown n 65533
@@ -53,7 +53,7 @@ pub data GoodGroup : ℕ → List ℕ → ℕ → ℕ → Type 0 where
   -- "In `\X2\` a high and a low surrogate join": D800 + y and DC00 + x are the code 10000 + y·400 + x, in hex
   pair : {s : List ℕ} {y x : ℕ} → Four s (55296 + y) → y < 1024 → Four (drop 4 s) (56320 + x) → x < 1024
       → GoodGroup 4 s (65536 + y * 1024 + x) 8
-  -- U+FFFD, "in `\X2\` a high one together with its second group", which is no low one
+  -- a high surrogate whose second group is no low one is U+FFFD, "in `\X2\` a high one together with its second group"
   unpaired : {s : List ℕ} {n m : ℕ} → Four s n → High n → Four (drop 4 s) m → (Low m → ⊥) → GoodGroup 4 s 65533 8
   -- "and `\X4\` of eight hex digits"
   eight : {s : List ℕ} {n m c : ℕ} → Four s n → Four (drop 4 s) m → Shown (n * 65536 + m) c → GoodGroup 8 s c 8
@@ -67,31 +67,31 @@ pub record BadGroup (w : ℕ) (s : List ℕ) : Type 0 where
 
 -- the groups of a directive, good ones to their end: their characters, and how many bytes they take
 pub data Groups : ℕ → List ℕ → List ℕ → ℕ → Type 0 where
-  -- "up to the end"
+  -- the groups of a directive run "up to the end"
   at-end : {w : ℕ} → Groups w [] [] 0
   -- "or a backslash at a group's start; a `\X0` there is eaten with the byte after it"
   closed : {w b : ℕ} {r : List ℕ} → Groups w (bytes "\\X0" ++ b ∷ r) [] 4
-  -- alone where no byte comes after it
+  -- a `\X0` at the end is eaten alone, since no byte comes after it
   closed-last : {w : ℕ} → Groups w (bytes "\\X0") [] 3
   -- "another directive is read as such": a backslash with no `X0` after it is left to be read
   another : {w : ℕ} {r : List ℕ} → ((q : List ℕ) → r ≡ bytes "X0" ++ q → ⊥) → Groups w (bytes "\\" ++ r) [] 0
   -- "a group cut short by the end is literal": its bytes are left, to be read on as text (the Rust, which decides, does not copy them)
   cut : {w b : ℕ} {r : List ℕ} → (b ≡ byte "\\" → ⊥) → length (b ∷ r) < w → Groups w (b ∷ r) [] 0
-  -- a group, and those after it
+  -- a good group, and the groups after it
   next : {w : ℕ} {s cs : List ℕ} {c k n : ℕ} → GoodGroup w s c k → Groups w (drop k s) cs n → Groups w s (c ∷ cs) (k + n)
 
 -- the groups of a directive up to a bad one: "the characters already read"
 pub data Broken : ℕ → List ℕ → List ℕ → Type 0 where
-  -- the bad one
+  -- a bad group at the start: no character is read before it
   bad : {w : ℕ} {s : List ℕ} → BadGroup w s → Broken w s []
-  -- a good one before it
+  -- a good group, and then the groups up to the bad one
   good : {w : ℕ} {s cs : List ℕ} {c k : ℕ} → GoodGroup w s c k → Broken w (drop k s) cs → Broken w s (c ∷ cs)
 
 -- "`\X2\` groups of four and `\X4\` of eight hex digits": the digit in the directive's name, and how many digits its groups have
 pub data Named : ℕ → ℕ → Type 0 where
-  -- `\X2\`
+  -- a group of `\X2\` has four digits
   two : Named (byte "2") 4
-  -- `\X4\`
+  -- a group of `\X4\` has eight digits
   four : Named (byte "4") 8
 
 -- a directive stands at the start: the page before it, its characters, how many bytes it takes, the page after it
@@ -117,7 +117,7 @@ pub data Directive : ℕ → List ℕ → List ℕ → ℕ → ℕ → Type 0 wh
 pub data Reads : ℕ → List ℕ → List ℕ → ℕ → ℕ → Type 0 where
   -- "`''` gives a quote"
   quote : {g : ℕ} {r : List ℕ} → Reads g (bytes "''" ++ r) (bytes "'") 2 g
-  -- a directive, as above
+  -- a directive at the start is read as such
   directive : {g h k : ℕ} {s cs : List ℕ} → Directive g s cs k h → Reads g s cs k h
   -- "An unknown directive is a literal backslash": a backslash at which no directive stands
   unknown : {g : ℕ} {r : List ℕ} → ((cs : List ℕ) (k h : ℕ) → Directive g (bytes "\\" ++ r) cs k h → ⊥) → Reads g (bytes "\\" ++ r) (bytes "\\") 1 g

@@ -1,5 +1,4 @@
 -- Rules.antt's rules and what Text.antt computes are one: what is computed is so, and nothing else is. No theorem asks that the
--- Rules.antt's rules and what Text.antt computes are one: what is computed is so, and nothing else is. No theorem asks that the
 -- numbers of a list are bytes. Assumes nothing.
 use Prim.Native.Nat.{ℕ, zero, suc, _+_, _*_, _-_, _≤_, _<_, min}
 use mathlib.Core.Path.{_≡_, refl, sym, _∙_, ap, subst}

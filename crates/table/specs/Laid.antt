@@ -25,7 +25,7 @@ there [] r h = absurd (omega arith)
 there (w ∷ ws) zero h = (w, refl)
 there (w ∷ ws) (suc r) h = there ws r (omega arith)
 
--- numbers behind others that stand in front of what was there
+-- numbers that are stored behind those at the front of the memory stand there with them
 pub laid-on : (front new old : List ℕ) → length front + length new ≤ length old → sets (laid front old) (length front) new ≡ laid (front ++ new) old
 laid-on front new old h =
     let rest : List ℕ = drop (length front) old in
@@ -51,7 +51,7 @@ module _ {A : Type 0} (n : ℕ) (f : A → List ℕ) (e : (w : A) → length (f 
       let k = flat-length ws in
       omega (arith, le-div-iff-mul-le {x = length ws} {y = length old} z .0 h, length-append (flat f ws) (drop (length (flat f ws)) old), length-drop (length (flat f ws)) old)
 
-  -- whether or not they fit, the memory then has so many rows
+  -- the memory in which rows were laid has at least so many rows, whether or not they fit
   pub laid-in : (ws : List A) (old : List ℕ) → length ws ≤ length (laid (flat f ws) old) / n
   laid-in ws old =
       let k = flat-length ws in

@@ -92,7 +92,7 @@ pub record Seeking (s : List ℕ) (start end i : ℕ) (got : Role) : Type 0 wher
   pub fine : Fine got
   pub gives : goodBy (λ ps. optionBy (roleAmong s ps) some (roleIn got)) (partsFrom steps s i end) ≡ goodBy (roleAmong s) (partsOf s start end)
 
--- the role that was found, told
+-- what the code tells of the role that it has found so far
 found-told : (got : Role) → Fine got → toldRole got ≡ good (optionBy none some (roleIn got))
 found-told Length h = refl
 found-told Angle h = refl
@@ -128,7 +128,7 @@ after-is k = go (sameKind k LengthUnit) (sameKind k PlaneAngleUnit) (sameKind k 
     go false false true = refl
     go false false false = refl
 
--- the role that was found, or a further part's, or that of the parts after it
+-- a role that was found goes before a further part's, and that before the role of the parts after it
 more-found : (got : Role) (k : Kind) (rest : Option unit.Role) → Fine got → optionBy rest some (roleIn (keptRole got (roleAfter k))) ≡ optionBy (optionBy rest some (roleBy k)) some (roleIn got)
 more-found Length k rest h = refl
 more-found Angle k rest h = refl
@@ -160,7 +160,7 @@ module _ (s : List ℕ) (start end : ℕ) where
     pub seek-refused : (q : Refusal) → nextOf s i end ≡ bad q → bad q ≡ goodBy (roleAmong s) (partsOf s start end)
     seek-refused q e = rw e at (later .2)
 
-    -- one part more is read
+    -- after a part that is read the reading goes on behind it, with the role found before or else that part's
     pub seek-goes : (p : HeaderSpan) → nextOf s i end ≡ good (some (headerRowOf p)) → Seeking s start end (p .args .end + 1) (keptRole got (roleAfter (kindAt s (headerRowOf p))))
     seek-goes p e =
         let (n, c, g) = later in
@@ -344,7 +344,7 @@ full-list {A} g t vs h k = go (bodyOf t) refl h
     go bare e f = clash (cc)
     go (inside b) e f = let (n, m) = body-full t b e in (n, subst (λ (y : List ℕ). itemsFrom (suc (length y)) g 0 y ≡ fine vs) m (by b (isBlank b) f))
 
--- a part of a list without its first byte
+-- the first m + 1 bytes of a list, without its first one, are the first m bytes of the rest
 one-in : (m : ℕ) (l : List ℕ) → 1 ≤ length l → drop 1 (take (suc m) l) ≡ take m (drop 1 l)
 one-in m [] h = absurd (omega arith)
 one-in m (c ∷ l) h = refl
@@ -440,9 +440,11 @@ reading-starts b left all h e = let m : suc (length b) - 0 ≡ suc (length b) = 
 }
 
 module _ {A : Type 0} (b : List ℕ) (left : List ℕ → Told A) (all : Told A) (i : ℕ) (f : Reading b left all i) (r : Item) (found : ItemAt b (min i (length b)) r) where
+  -- the item that was found is the one from i on
   here : ItemAt b i r
   here = item-in b i r (f .within) found
 
+  -- at most as many references were passed as there are bytes
   few-enough : f .passed ≤ length b
   few-enough = omega (arith, f .few, f .within)
 
@@ -574,7 +576,7 @@ module _ (s : List ℕ) (find : ℕ → Told (Option Thing)) where
       pub most : k ≤ tableRows rows records
       pub gives : resolveOf s find (thingsFrom s (rowNumbers rows) (tableRows rows records - k) k) ≡ resolveOf s find (thingsFrom s (rowNumbers rows) (tableRows rows records) 0)
 
-    -- before the first row is looked at
+    -- before the first row is looked at, all records are left to give the answer
     pub resolve-starts : Resolving 0
     resolve-starts = let m : tableRows rows records - 0 ≡ tableRows rows records = omega arith in record {
       most = omega arith;
@@ -590,7 +592,7 @@ module _ (s : List ℕ) (find : ℕ → Told (Option Thing)) where
         go false e f = clash (cc)
 
     module _ (k : ℕ) (f : Resolving k) where
-      -- no row is left: the default values are the answer
+      -- where no row is left, the default values are the answer
       pub resolve-over : none ≡ rowIn rows records k → good defaults ≡ resolveOf s find (thingsFrom s (rowNumbers rows) (tableRows rows records) 0)
       unfolding resolveOf thingsFrom
       resolve-over h = go (tableRows rows records - k) refl (f .gives)
@@ -600,7 +602,7 @@ module _ (s : List ℕ) (find : ℕ → Told (Option Thing)) where
           go (suc n) e g = let l = lt-ltb k (tableRows rows records) (omega (arith, e)) in clash (cc (rw l at h))
 
       module _ {w : Row} (row : some w ≡ rowIn rows records k) where
-        -- the answer is by the row's record, and those after it
+        -- the answer is the one by the record of row k and those after it
         step : onward (recordOf s find (λ u. resolveOf s find (thingsFrom s (rowNumbers rows) (tableRows rows records - (k + 1)) (k + 1)))) (thingOf s w) ≡ resolveOf s find (thingsFrom s (rowNumbers rows) (tableRows rows records) 0)
         unfolding resolveOf thingsFrom
         step =
@@ -611,11 +613,11 @@ module _ (s : List ℕ) (find : ℕ → Told (Option Thing)) where
             ∙ ap (λ (y : Row). onward (recordOf s find (λ u. resolveOf s find (thingsFrom s (rowNumbers rows) (tableRows rows records - (k + 1)) (suc k)))) (thingOf s y)) (sym e)
             ∙ ap (λ (j : ℕ). resolveOf s find (thingsFrom s (rowNumbers rows) j k)) (sym m) ∙ f .gives
 
-        -- the row's record decides
+        -- where the record of row k decides, it gives the answer
         pub resolve-last : {x : Told Units} → x ≡ onward (contextOr s find) (thingOf s w) → deciding x ≡ true → x ≡ resolveOf s find (thingsFrom s (rowNumbers rows) (tableRows rows records) 0)
         resolve-last {x} h d = record-last (λ u. resolveOf s find (thingsFrom s (rowNumbers rows) (tableRows rows records - (k + 1)) (k + 1))) (thingOf s w) x h d ∙ step
 
-        -- the row's record does not decide, and the search goes on
+        -- where the record of row k does not decide, the search goes on at the next row
         pub resolve-goes : {x : Told Units} → x ≡ onward (contextOr s find) (thingOf s w) → deciding x ≡ false → Resolving (k + 1)
         resolve-goes {x} h d = let (l, e) = row-there k row in record {
           most = omega (arith, l);

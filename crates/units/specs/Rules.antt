@@ -105,7 +105,7 @@ module _ (s : List ℕ) (find : ℕ → Told (Option Thing)) where
   pub data ToleranceForm (is : List ℕ) : Told ℕ → Type 0 where
     -- "the first listed simple UNCERTAINTY_MEASURE_WITH_UNIT that reads"
     listed : {a : Told ℕ} → IsFirst (λ i. uncertaintyBy s find i ≡ good none) Settles is a → ToleranceForm is a
-    -- "else 1e-3"
+    -- no listed uncertainty reads: "else 1e-3"
     assumed : Each (λ i. uncertaintyBy s find i ≡ good none) is → ToleranceForm is (good (near 1 1000))
 
   -- ---- a context

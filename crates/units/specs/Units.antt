@@ -67,7 +67,7 @@ module _ (s : List ℕ) (find : ℕ → Told (Option Thing)) where
   abbrev pub decided : (Unit {0} → Told Units) → Units → Told Units
   decided k u = pick (u .resolved) (good u) (k tt)
 
-  -- one record: where it is a context that decides, its units, else what comes after it
+  -- what one record gives: its units, where it is a context that decides, else what comes after it
   abbrev pub recordOf : (Unit {0} → Told Units) → Thing → Told Units
   recordOf k t = onward (λ c. pick c (onward (decided k) (contextOf t)) (k tt)) (isContext s t)
 

@@ -1,5 +1,4 @@
 -- What the definitions of Utf8.antt say at each range of numbers and each kind of first byte: the laws that the code's proofs and
--- What the definitions of Utf8.antt say at each range of numbers and each kind of first byte: the laws that the code's proofs and
 -- the theorems of Agree.antt cite. Assumes nothing.
 use Prim.Native.Nat.{ℕ, zero, suc, _+_, _*_, _-_, _/_, _%_, _≤_, _<_}
 use mathlib.Core.Path.{_≡_, refl, sym, _∙_, ap}

@@ -1,5 +1,4 @@
 -- The parts of a text: that it can always be taken apart so, and what the walks of Text.antt do with such a part.
--- The parts of a text: that it can always be taken apart so, and what the walks of Text.antt do with such a part.
 -- Assumes nothing.
 use Prim.Native.Nat.{ℕ, _+_, _*_, _-_, _^_}
 use mathlib.Core.Path.{_≡_, refl, _∙_, ap}
