@@ -35,7 +35,7 @@ pub data Host (s heads rows slots tables : List ℕ) (reason fault code : ℕ) (
   short : length tables < 16 → code ≡ 16 → heads′ ≡ heads → rows′ ≡ rows → slots′ ≡ slots → tables′ ≡ tables → reason′ ≡ reason → fault′ ≡ fault → Host s heads rows slots tables reason fault code heads′ rows′ slots′ tables′ reason′ fault′
   opened : 16 ≤ length tables → (a : Opened) → Opens s heads rows slots a heads′ rows′ slots′ → code ≡ readCode (toldOpened a) → tables′ ≡ openTables a tables → reason′ ≡ readReason (toldOpened a) reason → fault′ ≡ readFault (toldOpened a) fault → Host s heads rows slots tables reason fault code heads′ rows′ slots′ tables′ reason′ fault′
 
--- the same of what a host lends, when it asks and when it is answered
+-- what a host is told by opening a file, of what it lends when it asks and when it is answered
 abbrev pub Hosts : List ℕ → LentByHost (List ℕ) → LentByHost (List ℕ) → LentByHost (List ℕ) → LentByHost (List ℕ) → LentByHost ℕ → LentByHost ℕ → ℕ → Type 0
 Hosts s heads rows slots tables reason fault code =
     Host s (now (heads .entry)) (now (rows .entry)) (now (slots .entry)) (now (tables .entry)) (now (reason .entry)) (now (fault .entry)) code

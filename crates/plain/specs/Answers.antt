@@ -37,7 +37,7 @@ readValue f (bad q) old = old
 abbrev pub Tells : {A : Type 0} → Told A → ℕ → LentByHost ℕ → Type 0
 Tells r n fault = (n ≡ readCode r) × (now (fault .exit) ≡ readFault r (now (fault .entry)))
 
--- the same of a reader, which also leaves its place
+-- what a reader of arguments answers, told r, and what it then leaves in `fault` and as its place
 abbrev pub Leaves : {A : Type 0} → Read A → ℕ → LentByHost ℕ → LentByHost ℕ → Type 0
 Leaves r n place fault = Tells (r .answer) n fault × (now (place .exit) ≡ r .place)
 
@@ -45,7 +45,7 @@ Leaves r n place fault = Tells (r .answer) n fault × (now (place .exit) ≡ r .
 abbrev pub Puts : {A B : Type 0} → (A → B) → Told A → LentByHost B → Type 0
 Puts f r v = now (v .exit) ≡ readValue f r (now (v .entry))
 
--- the same of a float, which is told by its bits
+-- what a lent float then is, by its bits: what f makes of the answer, or what it was
 abbrev pub PutsReal : {A : Type 0} → (A → ℕ) → Told A → LentByHost Float → Type 0
 PutsReal f r v = toBits binary64 (now (v .exit)) ≡ readValue f r (toBits binary64 (now (v .entry)))
 
@@ -53,7 +53,7 @@ PutsReal f r v = toBits binary64 (now (v .exit)) ≡ readValue f r (toBits binar
 abbrev pub PutsList : {A : Type 0} → Told (List A) → LentByHost (List A) → Type 0
 PutsList r out = now (out .exit) ≡ written r (now (out .entry))
 
--- the same of floats
+-- what a lent list of floats then is, by their bits: the answer's numbers at its start, or what it was
 abbrev pub PutsReals : Told (List ℕ) → LentByHost (List Float) → Type 0
 PutsReals r out = map (toBits binary64) (now (out .exit)) ≡ written r (map (toBits binary64) (now (out .entry)))
 
@@ -73,7 +73,7 @@ foundValue f (bad q) old = old
 abbrev pub PutsFound : {A B : Type 0} → (A → B) → Told (Option A) → LentByHost B → Type 0
 PutsFound f r v = now (v .exit) ≡ foundValue f r (now (v .entry))
 
--- the same of a float, which is told by its bits
+-- what a lent float then is, by its bits: what f makes of what is found, or what it was
 abbrev pub PutsFoundReal : {A : Type 0} → (A → ℕ) → Told (Option A) → LentByHost Float → Type 0
 PutsFoundReal f r v = toBits binary64 (now (v .exit)) ≡ foundValue f r (toBits binary64 (now (v .entry)))
 
