@@ -1,10 +1,14 @@
 #!/usr/bin/env python3
-"""Counts the repeated text of sources, definitions and proofs: of the lines that count, those in a run of eight (or --run N) that stands again.
+"""Counts the text that stands again in sources, specs and proofs: repeated.py [--run N] [--list] [DIR]
 
-White space is folded; blank lines, comments, lone punctuation and imports do not count, as in the usual search for duplicates.
-usage: python3 tools/repeated.py [--run N] [--list] [DIR]"""
-import os, re, sys
+Of the lines that count, those in a run of eight (or N) that stands at another place too. White space is folded; blank lines, comments, lone
+brackets and imports do not count. With --list the files are named, those with most first. DIR is crates, or that of another tree.
+"""
+import os
+import re
+import sys
 from collections import defaultdict
+
 
 def lines(path):
     out = []
@@ -24,12 +28,14 @@ def lines(path):
         out.append((n, t))
     return out
 
+
 def kind(path):
     if path.endswith(".rt"):
         return "sources"
     if "/specs/" in path:
         return "specs"
     return "proofs"
+
 
 def main():
     run, show, root = 8, False, "crates"
@@ -65,4 +71,6 @@ def main():
         if show:
             for p, m in sorted(marked.items(), key=lambda x: -len(x[1])):
                 print(f"  {len(m):5} {p}")
+
+
 main()
