@@ -1,6 +1,6 @@
 -- A host's lookup answers like the map, and what it is left with is settled. Assumes nothing.
 use Prim.Native.Nat.{ℕ, _-_, _≤_, _<_, min}
-use mathlib.Core.Path.{_≡_, refl, sym, _∙_, ap, subst}
+use mathlib.Core.Path.{_≡_, sym, _∙_, ap, subst}
 use mathlib.Core.Bool.{Bool, true, false, _&&_}
 use mathlib.Core.List.{List}
 use mathlib.Core.Option.{some}
@@ -9,6 +9,7 @@ use borrow.Author.Tests.{leb-true}
 use lib.Dec.{leb, eqb}
 use lib.ListN.{length, getD}
 use lib.Seq.{sets}
+use Rattle.common.specs.Tests.{both}
 use Rattle.common.specs.Pick.{pick}
 use Rattle.table.specs.Table.{rowsFit, idOf}
 use Rattle.table.specs.Laws.{field-below}
@@ -27,11 +28,6 @@ use Rattle.export.specs.Ids.{lentEnough, Indexed, short, built}
 lent-once : (t : Bool) → t ≡ true → t ≡ false → ⊥
 lent-once true e f = let q : _≡_ {A = ℕ} 0 1 = cc in omega arith
 lent-once false e f = let q : _≡_ {A = ℕ} 0 1 = cc in omega arith
-
--- two tests that pass together pass each
-both : (a b : Bool) → (a && b) ≡ true → (a ≡ true) × (b ≡ true)
-both true b e = (refl, e)
-both false b e = absurd (lent-once false e refl)
 
 -- what a host lends that suffices has room for eight numbers
 pub lent-eight : (rows count slots ids : ℕ) → lentEnough rows count slots ids ≡ true → 8 ≤ ids

@@ -33,7 +33,8 @@ use Rattle.params.specs.Answer.{Cut, cut, unclosed, reading, Span, inFile}
 use Rattle.params.specs.Right.{param-is, param-only, unclosed-is, unclosed-only}
 use Rattle.params.specs.Reader.{paramOf}
 use Rattle.params.specs.Rules.{Inside}
-use Rattle.params.specs.RulesRight.{Rest, rest-of, param-rest}
+use Rattle.lex.specs.Rests.{Rest, rest-of}
+use Rattle.params.specs.RulesRight.{param-rest}
 use Rattle.params.specs.Places.{Stands, Past, mapped-stands, mapped-stays, refused-past}
 use Rattle.lists.specs.Answer.{Fate, fine, faulty, shifted, asFate, consed, roomed, nextBy}
 use Rattle.lists.specs.Items.{boundOf, itemEnd, itemText, indent, itemBy, headed, past-comma, itemsFrom, isNone, isBlank, itemsBy, inside, bare, bodyOf, listBy, listOf}

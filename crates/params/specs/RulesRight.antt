@@ -13,7 +13,7 @@ use Rattle.common.specs.Compare.{clash}
 use Rattle.error.specs.Refusal.{refusal, good, bad}
 use Rattle.lex.specs.Byte.{place}
 use Rattle.lex.specs.Rests.{rest-all, rest-on, comment-rest, string-rest, trivia-rest}
-pub use Rattle.lex.specs.Rests.{Rest, rest-of, rest-within, rest-place}
+use Rattle.lex.specs.Rests.{Rest, rest-of, rest-within, rest-place}
 use Rattle.params.specs.Grammar.{Binary, Token, Runs, Whole, Trails, Parameter, Unclosed, Starts}
 use Rattle.params.specs.Cut.{cutOf, started}
 use Rattle.params.specs.Answer.{Cut, cut, unclosed, Read, reading, Span, span, inFile}

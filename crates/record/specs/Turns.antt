@@ -11,7 +11,6 @@ use borrow.Author.Tests.{ne-eqb}
 use lib.ListN.{length, drop, getD}
 use Rattle.common.specs.Pick.{pick}
 use Rattle.common.specs.Lists.{split}
-pub use Rattle.common.specs.Tests.{bounds}
 use Rattle.lex.specs.Byte.{white}
 use Rattle.common.specs.Walk.{stop, on, turned, walk, walk-stops, walk-goes}
 use Rattle.record.specs.Text.{pastTurn, Digits, digits, digitTurn, numberFrom, Keyed, opened, unopened, keyTurn, keyword}

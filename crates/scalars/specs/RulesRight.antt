@@ -13,7 +13,7 @@ use Rattle.common.specs.Pick.{pick}
 use Rattle.common.specs.Compare.{clash}
 use Rattle.record.specs.Text.{past}
 use Rattle.record.specs.Byte.{digit}
-use Rattle.record.specs.Turns.{bounds}
+use Rattle.common.specs.Tests.{bounds}
 use Rattle.record.specs.Word.{same, trimmed}
 use Rattle.record.specs.Form.{All, Free, Skipped}
 use Rattle.common.specs.Bytes.{bytes}
