@@ -33,5 +33,5 @@ abbrev pub GridReady : {A : Type 0} → Fate (List (List A)) → ℕ → ℕ →
 GridReady a room ends = (a ≡ fine (valuesOf a)) × (length (flat (valuesOf a)) ≤ room) × (length (valuesOf a) ≤ ends)
 
 -- a lent list with these numbers in it, from a place on
-abbrev pub put : {A : Type 0} → ℕ → List A → List A → List A
-put n vs out = take n out ++ filled vs (drop n out)
+abbrev pub laidFrom : {A : Type 0} → ℕ → List A → List A → List A
+laidFrom n vs out = take n out ++ filled vs (drop n out)

@@ -15,7 +15,7 @@ use Rattle.lists.specs.Answer.{Fate, fine, faulty, fated, mute, kindOf, roomed,
 use Rattle.lists.specs.Laws.{tally, list-blank, shape-blank}
 use Rattle.lists.specs.ReadLaws.{fills-none, fills-full, list-map, count-mute, roomed-told, roomed-good, onward-bad, moved-told, moved-written, next-uncut, next-cut}
 use Rattle.lists.specs.Places.{Inward, placeOf, list-inward, roomed-inward, told-inward, told-place, kind-inward, items-inward}
-use Rattle.lists.specs.Lent.{itemValueOf}
+use Rattle.lists.specs.Lent.{itemValue}
 use Rattle.lists.specs.declared.Kind.{Kind}
 use Rattle.lists.specs.declared.Kind.the-variants.{References, Integers, Floats, Any}
 use Rattle.lists.specs.declared.Shape.{Shape}
@@ -51,16 +51,16 @@ size-told {A} g t =
     go (faulty n o) = refl
 
 -- the same by the kind of its items
-size-valued : (kind : Kind) (t : List ℕ) → fated (tally addRow (size 0 0)) (listBy (rowOf kind) t) ≡ fated sizeOf (listBy (listBy (itemValueOf kind)) t)
-size-valued References t = size-told (itemValueOf References) t
-size-valued Integers t = size-told (itemValueOf Integers) t
-size-valued (Floats which) t = size-told (itemValueOf (Floats which)) t
-size-valued Any t = size-told (itemValueOf Any) t
+size-valued : (kind : Kind) (t : List ℕ) → fated (tally addRow (size 0 0)) (listBy (rowOf kind) t) ≡ fated sizeOf (listBy (listBy (itemValue kind)) t)
+size-valued References t = size-told (itemValue References) t
+size-valued Integers t = size-told (itemValue Integers) t
+size-valued (Floats which) t = size-told (itemValue (Floats which)) t
+size-valued Any t = size-told (itemValue Any) t
 
 -- what is told of a grid from its size
 pub grid-told : (kind : Kind) (t : List ℕ) (room ends : ℕ) (a : Told Size) → a ≡ roomed (sizeFits room ends) 0 (fated (tally addRow (size 0 0)) (listBy (rowOf kind) t))
-    → a ≡ sizeTold (roomed (gridFits room ends) 0 (listBy (listBy (itemValueOf kind)) t))
-grid-told kind t room ends a e = e ∙ ap (roomed (sizeFits room ends) 0) (size-valued kind t) ∙ roomed-told sizeOf (sizeFits room ends) 0 (listBy (listBy (itemValueOf kind)) t)
+    → a ≡ sizeTold (roomed (gridFits room ends) 0 (listBy (listBy (itemValue kind)) t))
+grid-told kind t room ends a e = e ∙ ap (roomed (sizeFits room ends) 0) (size-valued kind t) ∙ roomed-told sizeOf (sizeFits room ends) 0 (listBy (listBy (itemValue kind)) t)
 
 -- where two tests put together by `&&` hold, both hold
 and-true : (a b : Bool) → a && b ≡ true → (a ≡ true) × (b ≡ true)

@@ -12,7 +12,7 @@ use Rattle.lists.specs.Answer.{Fate, fine, faulty, valuesOf}
 use Rattle.lists.specs.Laws.{item-in}
 use Rattle.lists.specs.Fill.{fill-bad, fill-last, fill-more, fill-head, fill-store, fill-ends}
 use Rattle.grids.specs.Grid.{flat, endsFrom}
-use Rattle.grids.specs.Code.{GridReady, put}
+use Rattle.grids.specs.Code.{GridReady, laidFrom}
 
 module _ {A : Type 0} where
   -- the numbers of rows and more rows are those of the rows and then those of the more rows
@@ -69,7 +69,7 @@ module _ {A : Type 0} (xs out : List A) (n : ℕ) (v l : List A) (here : drop n 
   part-fits = omega (arith, ap length here, length-append v l, length-drop n xs)
 
   -- it is written behind those that were, in the lent list w
-  pub part-store : (w : List A) → w ≡ take n xs ++ drop n out → put n v w ≡ take (n + length v) xs ++ drop (n + length v) out
+  pub part-store : (w : List A) → w ≡ take n xs ++ drop n out → laidFrom n v w ≡ take (n + length v) xs ++ drop (n + length v) out
   part-store w e =
       let p : length (take n xs) ≡ n = length-take-le n xs within in
       let d : drop n w ≡ drop n out = ap (drop n) e ∙ drop-at (take n xs) (drop n out) n p in
@@ -137,8 +137,8 @@ module _ {A : Type 0} (g : List ℕ → Fate A) (b : List ℕ) (out₀ out : Lis
     few-enough = omega (arith, f .few, f .within)
 
     -- the numbers of the next row
-    abbrev rowOf : List A
-    rowOf = valuesOf (listBy g (take (r .stop - r .start) (drop (r .start) b)))
+    abbrev thisRow : List A
+    thisRow = valuesOf (listBy g (take (r .stop - r .start) (drop (r .start) b)))
 
     -- it reads, and its numbers fit
     pub row-ready : Ready (listBy g (take (r .stop - r .start) (drop (r .start) b))) (length out - n)
@@ -152,33 +152,33 @@ module _ {A : Type 0} (g : List ℕ → Fate A) (b : List ℕ) (out₀ out : Lis
         go (faulty k o) e = absurd (fill-bad (listBy g) b i m r here few-enough rowsOf (f .rest) k o e)
 
     -- The code writes the k of them.
-    module _ (new : List A) (k : ℕ) (many : k ≡ length rowOf) (laid : new ≡ put n rowOf out) where
+    module _ (new : List A) (k : ℕ) (many : k ≡ length thisRow) (laid : new ≡ laidFrom n thisRow out) where
       -- what the row reads as
-      reads : fine rowOf ≡ listBy g (take (r .stop - r .start) (drop (r .start) b))
-      reads = sym (row-ready .0)
+      row-reads : fine thisRow ≡ listBy g (take (r .stop - r .start) (drop (r .start) b))
+      row-reads = sym (row-ready .0)
 
-      module _ (l : List (List A)) (left : drop m rowsOf ≡ rowOf ∷ l) where
+      module _ (l : List (List A)) (left : drop m rowsOf ≡ thisRow ∷ l) where
         -- the numbers are written
         stored : new ≡ take (n + k) (flat rowsOf) ++ drop (n + k) out₀
         stored =
-            laid ∙ part-store (flat rowsOf) out₀ n rowOf (flat l) (numbers-left rowsOf m rowOf l left n (f .soFar)) inside (f .room) out (f .done)
+            laid ∙ part-store (flat rowsOf) out₀ n thisRow (flat l) (numbers-left rowsOf m thisRow l left n (f .soFar)) inside (f .room) out (f .done)
             ∙ ap (λ (d : ℕ). take (n + d) (flat rowsOf) ++ drop (n + d) out₀) (sym many)
 
         -- what is left of the ends
-        ends-here : drop m (endsFrom 0 rowsOf) ≡ (n + k) ∷ endsFrom (n + length rowOf) l
-        ends-here = ends-left rowsOf m rowOf l left n (f .soFar) ∙ ap (λ (d : ℕ). (n + d) ∷ endsFrom (n + length rowOf) l) (sym many)
+        ends-here : drop m (endsFrom 0 rowsOf) ≡ (n + k) ∷ endsFrom (n + length thisRow) l
+        ends-here = ends-left rowsOf m thisRow l left n (f .soFar) ∙ ap (λ (d : ℕ). (n + d) ∷ endsFrom (n + length thisRow) l) (sym many)
 
         -- the row's end too
         ended : set ends m (n + k) ≡ take (m + 1) (endsFrom 0 rowsOf) ++ drop (m + 1) ends₀
         ended =
             ap (λ (x : List ℕ). set x m (n + k)) (f .marked)
-            ∙ fill-store (endsFrom 0 rowsOf) ends₀ m (n + k) (endsFrom (n + length rowOf) l) ends-here (omega (arith, ends-length 0 rowsOf, f .rows))
+            ∙ fill-store (endsFrom 0 rowsOf) ends₀ m (n + k) (endsFrom (n + length thisRow) l) ends-here (omega (arith, ends-length 0 rowsOf, f .rows))
 
       -- an end is written to a place of the list
       pub row-place : (n + k ≤ length out₀) × ((m < length ends₀) × (length ends ≡ length ends₀))
       row-place =
-          let (l, left) = fill-head (listBy g) b i m r here few-enough rowsOf (f .rest) rowOf reads in
-          let p = part-fits (flat rowsOf) out₀ n rowOf (flat l) (numbers-left rowsOf m rowOf l left n (f .soFar)) inside (f .room) in
+          let (l, left) = fill-head (listBy g) b i m r here few-enough rowsOf (f .rest) thisRow row-reads in
+          let p = part-fits (flat rowsOf) out₀ n thisRow (flat l) (numbers-left rowsOf m thisRow l left n (f .soFar)) inside (f .room) in
           let q : m < length rowsOf = omega (arith, ap length left, length-drop m rowsOf) in
           let d = length-take-le m (endsFrom 0 rowsOf) (omega (arith, q, ends-length 0 rowsOf)) in (
             omega (arith, p, many, f .room),
@@ -189,24 +189,24 @@ module _ {A : Type 0} (g : List ℕ → Fate A) (b : List ℕ) (out₀ out : Lis
       pub row-last : r .bound ≡ length b → (new ≡ filled (flat rowsOf) out₀) × (set ends m (n + k) ≡ filled (endsFrom 0 rowsOf) ends₀)
       unfolding endsFrom
       row-last h =
-          let left = fill-last (listBy g) b i m r here few-enough rowsOf (f .rest) rowOf reads h in
+          let left = fill-last (listBy g) b i m r here few-enough rowsOf (f .rest) thisRow row-reads h in
           let (x, y) = fill-ends (endsFrom 0 rowsOf) ends₀ m (n + k) [] (ends-here [] left) (omega (arith, ends-length 0 rowsOf, f .rows)) refl in (
             stored [] left ∙ ap (λ (d : ℕ). take (n + d) (flat rowsOf) ++ drop (n + d) out₀) many
-                ∙ part-ends (flat rowsOf) out₀ n rowOf [] (numbers-left rowsOf m rowOf [] left n (f .soFar)) inside (f .room) refl,
+                ∙ part-ends (flat rowsOf) out₀ n thisRow [] (numbers-left rowsOf m thisRow [] left n (f .soFar)) inside (f .room) refl,
             ended [] left ∙ x,
           )
 
       -- another row
       pub row-goes : r .bound < length b → Gridding g b out₀ new ends₀ (set ends m (n + k)) (r .bound + 1) (m + 1) (n + k)
       row-goes h =
-          let (left, rest) = fill-more (listBy g) b i m r here few-enough rowsOf (f .rest) rowOf reads h in
+          let (left, rest) = fill-more (listBy g) b i m r here few-enough rowsOf (f .rest) thisRow row-reads h in
           record {
             few = omega (arith, f .few, here .above);
             within = omega arith;
             room = f .room;
             rows = f .rows;
             rest = rest;
-            soFar = ap (λ (d : ℕ). n + d) many ∙ more-numbers rowsOf m rowOf _ left n (f .soFar);
+            soFar = ap (λ (d : ℕ). n + d) many ∙ more-numbers rowsOf m thisRow _ left n (f .soFar);
             done = stored _ left;
             marked = ended _ left;
           }

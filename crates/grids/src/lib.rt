@@ -14,9 +14,9 @@ ghost use Rattle.reals.specs.Which.{realBy};
 ghost use Rattle.lists.specs.Items.{itemsIn, listBy, moved, Ready, filled};
 ghost use Rattle.lists.specs.Answer.{fated, roomed, nextBy, valuesOf, written};
 ghost use Rattle.lists.specs.Laws.{tally};
-ghost use Rattle.lists.specs.Lent.{itemValueOf, lentOf, lentRoom};
+ghost use Rattle.lists.specs.Lent.{itemValue, lentOf, kindRoom};
 ghost use Rattle.grids.specs.Grid.{size, flat, endsFrom, gridRead, gridFits, sizeFits, howLarge, numbersOf, endsOf, addRow, rowOf, toldTally, toldNextGrid};
-ghost use Rattle.grids.specs.Code.{sizeTold, toldReadGrid, reachedIn, GridReady, put};
+ghost use Rattle.grids.specs.Code.{sizeTold, toldReadGrid, reachedIn, GridReady, laidFrom};
 use error::Fault;
 use lists::Counted;
 use lists::Kind;
@@ -121,10 +121,11 @@ fn answer_of(r: ReadGrid, start: usize, to: State) -> NextGrid
 
 // Writes the numbers of a row that reads, from `base` on, and says how many they are: references and reals alone are lent.
 fn fill_row(kind: Kind, t: &[u8], base: usize, refs: &mut [u32], reals: &mut [f64]) -> usize
-    requires { ⌜ base ≤ lentRoom kind (length (now refs)) 0 (length (now reals)) ⌝ }
-    requires { ⌜ Ready (listBy (itemValueOf kind) (now t)) (lentRoom kind (length (now refs)) 0 (length (now reals)) - base) ⌝ }
-    ensures { λ r. ⌜ r ≡ length (valuesOf (listBy (itemValueOf kind) (now (t .entry)))) ⌝ }
-    ensures { λ r. ⌜ lentOf kind (now (refs .exit)) [] (now (reals .exit)) ≡ put base (valuesOf (listBy (itemValueOf kind) (now (t .entry)))) (lentOf kind (now (refs .entry)) [] (now (reals .entry))) ⌝ }
+    requires { ⌜ base ≤ kindRoom kind (length (now refs)) 0 (length (now reals)) ⌝ }
+    requires { ⌜ Ready (listBy (itemValue kind) (now t)) (kindRoom kind (length (now refs)) 0 (length (now reals)) - base) ⌝ }
+    ensures { λ r. ⌜ r ≡ length (valuesOf (listBy (itemValue kind) (now (t .entry)))) ⌝ }
+    ensures { λ r. ⌜ lentOf kind (now (refs .exit)) [] (now (reals .exit))
+        ≡ laidFrom base (valuesOf (listBy (itemValue kind) (now (t .entry)))) (lentOf kind (now (refs .entry)) [] (now (reals .entry))) ⌝ }
 {
     match kind {
         Kind::References => {
@@ -146,10 +147,10 @@ fn fill_row(kind: Kind, t: &[u8], base: usize, refs: &mut [u32], reals: &mut [f6
 
 // Writes the numbers of a grid's inside that all read, and the ends of its rows.
 fn fill_rows(kind: Kind, b: &[u8], refs: &mut [u32], reals: &mut [f64], ends: &mut [usize])
-    requires { ⌜ GridReady (itemsIn (listBy (itemValueOf kind)) (now b)) (lentRoom kind (length (now refs)) 0 (length (now reals))) (length (now ends)) ⌝ }
+    requires { ⌜ GridReady (itemsIn (listBy (itemValue kind)) (now b)) (kindRoom kind (length (now refs)) 0 (length (now reals))) (length (now ends)) ⌝ }
     ensures { λ _. ⌜ lentOf kind (now (refs .exit)) [] (now (reals .exit))
-        ≡ filled (flat (valuesOf (itemsIn (listBy (itemValueOf kind)) (now (b .entry))))) (lentOf kind (now (refs .entry)) [] (now (reals .entry))) ⌝ }
-    ensures { λ _. ⌜ now (ends .exit) ≡ filled (endsFrom 0 (valuesOf (itemsIn (listBy (itemValueOf kind)) (now (b .entry))))) (now (ends .entry)) ⌝ }
+        ≡ filled (flat (valuesOf (itemsIn (listBy (itemValue kind)) (now (b .entry))))) (lentOf kind (now (refs .entry)) [] (now (reals .entry))) ⌝ }
+    ensures { λ _. ⌜ now (ends .exit) ≡ filled (endsFrom 0 (valuesOf (itemsIn (listBy (itemValue kind)) (now (b .entry))))) (now (ends .entry)) ⌝ }
 {
     let mut i: usize = 0;
     let mut rows: usize = 0;
@@ -172,10 +173,10 @@ fn fill_rows(kind: Kind, b: &[u8], refs: &mut [u32], reals: &mut [f64], ends: &m
 
 // Writes the numbers of a grid that all read, and the ends of its rows.
 fn fill_grid(kind: Kind, t: &[u8], refs: &mut [u32], reals: &mut [f64], ends: &mut [usize])
-    requires { ⌜ GridReady (listBy (listBy (itemValueOf kind)) (now t)) (lentRoom kind (length (now refs)) 0 (length (now reals))) (length (now ends)) ⌝ }
+    requires { ⌜ GridReady (listBy (listBy (itemValue kind)) (now t)) (kindRoom kind (length (now refs)) 0 (length (now reals))) (length (now ends)) ⌝ }
     ensures { λ _. ⌜ lentOf kind (now (refs .exit)) [] (now (reals .exit))
-        ≡ filled (flat (valuesOf (listBy (listBy (itemValueOf kind)) (now (t .entry))))) (lentOf kind (now (refs .entry)) [] (now (reals .entry))) ⌝ }
-    ensures { λ _. ⌜ now (ends .exit) ≡ filled (endsFrom 0 (valuesOf (listBy (listBy (itemValueOf kind)) (now (t .entry))))) (now (ends .entry)) ⌝ }
+        ≡ filled (flat (valuesOf (listBy (listBy (itemValue kind)) (now (t .entry))))) (lentOf kind (now (refs .entry)) [] (now (reals .entry))) ⌝ }
+    ensures { λ _. ⌜ now (ends .exit) ≡ filled (endsFrom 0 (valuesOf (listBy (listBy (itemValue kind)) (now (t .entry))))) (now (ends .entry)) ⌝ }
 {
     match lists::shape_of(t) {
         Shape::NotList => {}
@@ -196,11 +197,11 @@ fn read_grid(
     reals: &mut [f64],
     ends: &mut [usize],
 ) -> ReadGrid
-    requires { ⌜ room ≡ lentRoom kind (length (now refs)) 0 (length (now reals)) ⌝ }
-    ensures { λ r. ⌜ toldReadGrid r ≡ sizeTold (roomed (gridFits room (length (now (ends .entry)))) 0 (listBy (listBy (itemValueOf kind)) (now (t .entry)))) ⌝ }
+    requires { ⌜ room ≡ kindRoom kind (length (now refs)) 0 (length (now reals)) ⌝ }
+    ensures { λ r. ⌜ toldReadGrid r ≡ sizeTold (roomed (gridFits room (length (now (ends .entry)))) 0 (listBy (listBy (itemValue kind)) (now (t .entry)))) ⌝ }
     ensures { λ r. ⌜ lentOf kind (now (refs .exit)) [] (now (reals .exit))
-        ≡ written (numbersOf (roomed (gridFits room (length (now (ends .entry)))) 0 (listBy (listBy (itemValueOf kind)) (now (t .entry))))) (lentOf kind (now (refs .entry)) [] (now (reals .entry))) ⌝ }
-    ensures { λ r. ⌜ now (ends .exit) ≡ written (endsOf (roomed (gridFits room (length (now (ends .entry)))) 0 (listBy (listBy (itemValueOf kind)) (now (t .entry))))) (now (ends .entry)) ⌝ }
+        ≡ written (numbersOf (roomed (gridFits room (length (now (ends .entry)))) 0 (listBy (listBy (itemValue kind)) (now (t .entry))))) (lentOf kind (now (refs .entry)) [] (now (reals .entry))) ⌝ }
+    ensures { λ r. ⌜ now (ends .exit) ≡ written (endsOf (roomed (gridFits room (length (now (ends .entry)))) 0 (listBy (listBy (itemValue kind)) (now (t .entry))))) (now (ends .entry)) ⌝ }
 {
     let r = room_for(t, kind, room, ends.len());
     let ReadGrid::Count(_, _) = r else {
@@ -220,13 +221,13 @@ fn next_grid(
     reals: &mut [f64],
     ends: &mut [usize],
 ) -> NextGrid
-    requires { ⌜ room ≡ lentRoom kind (length (now refs)) 0 (length (now reals)) ⌝ }
-    ensures { λ r. ⌜ toldNextGrid r ≡ howLarge (nextBy (listBy (listBy (itemValueOf kind))) (gridFits room (length (now (ends .entry)))) (now (file .entry)) (at .place) (at .end)) ⌝ }
+    requires { ⌜ room ≡ kindRoom kind (length (now refs)) 0 (length (now reals)) ⌝ }
+    ensures { λ r. ⌜ toldNextGrid r ≡ howLarge (nextBy (listBy (listBy (itemValue kind))) (gridFits room (length (now (ends .entry)))) (now (file .entry)) (at .place) (at .end)) ⌝ }
     ensures { λ r. ⌜ lentOf kind (now (refs .exit)) [] (now (reals .exit))
-        ≡ written (numbersOf (nextBy (listBy (listBy (itemValueOf kind))) (gridFits room (length (now (ends .entry)))) (now (file .entry)) (at .place) (at .end) .answer))
+        ≡ written (numbersOf (nextBy (listBy (listBy (itemValue kind))) (gridFits room (length (now (ends .entry)))) (now (file .entry)) (at .place) (at .end) .answer))
         (lentOf kind (now (refs .entry)) [] (now (reals .entry))) ⌝ }
     ensures { λ r. ⌜ now (ends .exit)
-        ≡ written (endsOf (nextBy (listBy (listBy (itemValueOf kind))) (gridFits room (length (now (ends .entry)))) (now (file .entry)) (at .place) (at .end) .answer))
+        ≡ written (endsOf (nextBy (listBy (listBy (itemValue kind))) (gridFits room (length (now (ends .entry)))) (now (file .entry)) (at .place) (at .end) .answer))
         (now (ends .entry)) ⌝ }
 {
     match params::param_span(file, at) {

@@ -10,7 +10,7 @@ use Rattle.lists.specs.declared.Kind.{Kind}
 use Rattle.lists.specs.declared.Kind.the-variants.{References, Integers, Floats, Any}
 use Rattle.lists.specs.Answer.{Fate, fine, faulty, valuesOf}
 use Rattle.lists.specs.Items.{filled, Held}
-use Rattle.lists.specs.Lent.{Value, lentOf, lentRoom}
+use Rattle.lists.specs.Lent.{ItemValue, lentOf, kindRoom}
 use Rattle.lists.specs.Keep.{copy-held}
 
 -- a list without items is written by leaving the lent numbers alone
@@ -25,21 +25,21 @@ none-held (fine (v ∷ vs)) h = absurd (omega arith)
 none-held (faulty n o) h = refl
 
 -- no more than were kept, of a kind of which none are kept but reals, are no more than the reals
-pub first-fits : (kind : Kind) (first refs wholes reals n : ℕ) → n ≤ lentRoom kind 0 0 first → n ≤ lentRoom kind refs wholes reals → (n ≤ first) × (n ≤ reals)
+pub first-fits : (kind : Kind) (first refs wholes reals n : ℕ) → n ≤ kindRoom kind 0 0 first → n ≤ kindRoom kind refs wholes reals → (n ≤ first) × (n ≤ reals)
 first-fits References first refs wholes reals n h k = (omega arith, omega arith)
 first-fits Integers first refs wholes reals n h k = (omega arith, omega arith)
 first-fits (Floats which) first refs wholes reals n h k = (h, k)
 first-fits Any first refs wholes reals n h k = (omega arith, omega arith)
 
 -- what stands whole in what was kept of a kind stands in the reals alone, or is nothing
-pub first-held : (kind : Kind) (x : Fate (List (Value kind))) (refs : List ℕ) (wholes : List ℤ) (first : List Float) → Held x (lentOf kind refs wholes first) → Held x (lentOf kind [] [] first)
+pub first-held : (kind : Kind) (x : Fate (List (ItemValue kind))) (refs : List ℕ) (wholes : List ℤ) (first : List Float) → Held x (lentOf kind refs wholes first) → Held x (lentOf kind [] [] first)
 first-held References x refs wholes first h = none-held x
 first-held Integers x refs wholes first h = none-held x
 first-held (Floats which) x refs wholes first h = h
 first-held Any x refs wholes first h = h
 
 -- a list that is written from there
-pub first-laid : (kind : Kind) (x : Fate (List (Value kind))) (refs : List ℕ) (wholes : List ℤ) (first reals reals′ : List Float) (n : ℕ) → n ≡ length (valuesOf x) → n ≤ lentRoom kind 0 0 (length first)
+pub first-laid : (kind : Kind) (x : Fate (List (ItemValue kind))) (refs : List ℕ) (wholes : List ℤ) (first reals reals′ : List Float) (n : ℕ) → n ≡ length (valuesOf x) → n ≤ kindRoom kind 0 0 (length first)
     → Held x (lentOf kind [] [] first) → reals′ ≡ take n first ++ drop n reals → lentOf kind refs wholes reals′ ≡ filled (valuesOf x) (lentOf kind refs wholes reals)
 first-laid References x refs wholes first reals reals′ n c h k e = none-filled (valuesOf x) refs (omega (arith, c, h))
 first-laid Integers x refs wholes first reals reals′ n c h k e = none-filled (valuesOf x) wholes (omega (arith, c, h))

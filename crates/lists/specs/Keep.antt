@@ -19,7 +19,7 @@ use Rattle.lists.specs.declared.Shape.{Shape}
 use Rattle.lists.specs.declared.Shape.the-variants.{NotList, Blank, Full}
 use Rattle.lists.specs.Items.{itemsFrom, itemsIn, listBy, ItemAt, ShapeAt, Ready, filled, Kept, Held}
 use Rattle.lists.specs.Answer.{Fate, fine, faulty, shifted, fated, mute, roomed, fitsIn, countOf, written, valuesOf}
-use Rattle.lists.specs.Lent.{valuePutAt}
+use Rattle.lists.specs.Lent.{keptAt}
 use Rattle.lists.specs.Laws.{tally, tally-starts, tally-bad, tally-last, tally-more, list-none, list-blank, list-full, shape-none, shape-blank, shape-full, told-full}
 use Rattle.lists.specs.ReadLaws.{roomed-told, roomed-bad, room-refused, room-written}
 
@@ -94,7 +94,7 @@ mute-bad (faulty l p) k o e = let x : k ≡ l = cc in let y : o ≡ p = cc in cc
 
 -- The next item: the code told whether it reads, and put its value at its place in the list beside, which was `was` before.
 module _ {A : Type 0} (g : List ℕ → Fate A) (b : List ℕ) (old was new : List A) (i n : ℕ) (f : Keeping g b old was i n) (r : Item) (found : ItemAt b (min i (length b)) r)
-    (put : new ≡ valuePutAt n (g (take (r .stop - r .start) (drop (r .start) b))) was) where
+    (put : new ≡ keptAt n (g (take (r .stop - r .start) (drop (r .start) b))) was) where
   -- at most as many items were read as there are bytes
   few-enough : n ≤ length b
   few-enough = omega (arith, f .few, f .within)
@@ -114,7 +114,7 @@ module _ {A : Type 0} (g : List ℕ → Fate A) (b : List ℕ) (old was new : Li
     -- the value of the item that was read is kept in the list beside
     more : new ≡ take (length old) (filled (snoc (f .kept) (value .0)) old)
     more =
-        put ∙ ap (λ (x : Fate A). valuePutAt n x was) (sym (value .1)) ∙ ap (λ (x : List A). set x n (value .0)) (f .held)
+        put ∙ ap (λ (x : Fate A). keptAt n x was) (sym (value .1)) ∙ ap (λ (x : List A). set x n (value .0)) (f .held)
         ∙ ap (λ (k : ℕ). set (take (length old) (filled (f .kept) old)) k (value .0)) (f .many) ∙ held-more (f .kept) old (value .0)
 
     count : n + 1 ≡ length (snoc (f .kept) (value .0))

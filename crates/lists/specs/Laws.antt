@@ -130,7 +130,6 @@ module _ {A S : Type 0} (g : List ℕ → Fate A) (f : S → A → S) (b : List 
   left : suc (length b) - n ≡ suc (length b - n)
   left = omega arith
 
-  -- the item that the code found is the one from i on
   h : ItemAt b i r
   h = item-in b i r inside found
 

@@ -14,7 +14,7 @@ ghost use Rattle.reals.specs.Scalar.{referenceOf, wholeOf, realOf};
 ghost use Rattle.reals.specs.Which.{realBy};
 ghost use Rattle.lists.specs.Items.{moved, reached, itemEnd, ItemAt, toldVerdict, ShapeAt, itemsIn, listBy, listOf, Ready, filled, Kept, Held};
 ghost use Rattle.lists.specs.Answer.{roomed, countOf, toldReadList, CountedIn, toldCounted, fated, mute, kindOf, valuesOf, nextBy, fitsIn, howMany, written, toldNextList};
-ghost use Rattle.lists.specs.Lent.{itemValueOf, lentOf, lentRoom, fitsBy, valuePutAt};
+ghost use Rattle.lists.specs.Lent.{itemValue, lentOf, kindRoom, fitsBy, keptAt};
 ghost use Rattle.lists.specs.Read.{listRead};
 use error::Fault;
 use params::Cut;
@@ -157,9 +157,9 @@ fn take_item(
     wholes: &mut [i64],
     reals: &mut [f64],
 ) -> Verdict
-    ensures { λ r. ⌜ toldVerdict r ≡ mute (itemValueOf kind (now (t .entry))) ⌝ }
+    ensures { λ r. ⌜ toldVerdict r ≡ mute (itemValue kind (now (t .entry))) ⌝ }
     ensures { λ r. ⌜ lentOf kind (now (refs .exit)) (now (wholes .exit)) (now (reals .exit))
-        ≡ valuePutAt n (itemValueOf kind (now (t .entry))) (lentOf kind (now (refs .entry)) (now (wholes .entry)) (now (reals .entry))) ⌝ }
+        ≡ keptAt n (itemValue kind (now (t .entry))) (lentOf kind (now (refs .entry)) (now (wholes .entry)) (now (reals .entry))) ⌝ }
 {
     match kind {
         Kind::References => match reals::parse_ref(t) {
@@ -196,9 +196,9 @@ fn take_items(
     wholes: &mut [i64],
     reals: &mut [f64],
 ) -> Counted
-    ensures { λ r. ⌜ toldCounted r ≡ fated length (itemsIn (itemValueOf kind) (now (b .entry))) ⌝ }
+    ensures { λ r. ⌜ toldCounted r ≡ fated length (itemsIn (itemValue kind) (now (b .entry))) ⌝ }
     ensures { λ r. ⌜ CountedIn (length (now (b .entry)) + 1) r ⌝ }
-    ensures { λ r. ⌜ Kept (itemsIn (itemValueOf kind) (now (b .entry)))
+    ensures { λ r. ⌜ Kept (itemsIn (itemValue kind) (now (b .entry)))
         (lentOf kind (now (refs .entry)) (now (wholes .entry)) (now (reals .entry)))
         (lentOf kind (now (refs .exit)) (now (wholes .exit)) (now (reals .exit))) ⌝ }
 {
@@ -229,9 +229,9 @@ fn take_list(
     wholes: &mut [i64],
     reals: &mut [f64],
 ) -> Counted
-    ensures { λ r. ⌜ toldCounted r ≡ fated length (listBy (itemValueOf kind) (now (t .entry))) ⌝ }
+    ensures { λ r. ⌜ toldCounted r ≡ fated length (listBy (itemValue kind) (now (t .entry))) ⌝ }
     ensures { λ r. ⌜ CountedIn (length (now (t .entry))) r ⌝ }
-    ensures { λ r. ⌜ Kept (listBy (itemValueOf kind) (now (t .entry)))
+    ensures { λ r. ⌜ Kept (listBy (itemValue kind) (now (t .entry)))
         (lentOf kind (now (refs .entry)) (now (wholes .entry)) (now (reals .entry)))
         (lentOf kind (now (refs .exit)) (now (wholes .exit)) (now (reals .exit))) ⌝ }
 {
@@ -262,7 +262,7 @@ pub fn count_list(t: &[u8], kind: Kind) -> Counted
 
 // The one of three rooms that is for numbers of a kind; there is none for any items.
 fn room_of(kind: Kind, refs: usize, wholes: usize, reals: usize) -> usize
-    ensures { λ r. ⌜ r ≡ lentRoom kind refs wholes reals ⌝ }
+    ensures { λ r. ⌜ r ≡ kindRoom kind refs wholes reals ⌝ }
 {
     match kind {
         Kind::References => refs,
@@ -294,11 +294,11 @@ fn write_list(
     wholes: &mut [i64],
     reals: &mut [f64],
 )
-    requires { ⌜ Ready (listBy (itemValueOf kind) (now t)) (lentRoom kind (length (now refs)) (length (now wholes)) (length (now reals))) ⌝ }
-    requires { ⌜ n ≡ length (valuesOf (listBy (itemValueOf kind) (now t))) ⌝ }
-    requires { ⌜ Held (listBy (itemValueOf kind) (now t)) (lentOf kind [] [] (now first)) ⌝ }
+    requires { ⌜ Ready (listBy (itemValue kind) (now t)) (kindRoom kind (length (now refs)) (length (now wholes)) (length (now reals))) ⌝ }
+    requires { ⌜ n ≡ length (valuesOf (listBy (itemValue kind) (now t))) ⌝ }
+    requires { ⌜ Held (listBy (itemValue kind) (now t)) (lentOf kind [] [] (now first)) ⌝ }
     ensures { λ _. ⌜ lentOf kind (now (refs .exit)) (now (wholes .exit)) (now (reals .exit))
-        ≡ filled (valuesOf (listBy (itemValueOf kind) (now (t .entry)))) (lentOf kind (now (refs .entry)) (now (wholes .entry)) (now (reals .entry))) ⌝ }
+        ≡ filled (valuesOf (listBy (itemValue kind) (now (t .entry)))) (lentOf kind (now (refs .entry)) (now (wholes .entry)) (now (reals .entry))) ⌝ }
 {
     if n <= room_of(kind, 0, 0, first.len()) {
         lay_reals(first, n, reals);
@@ -317,9 +317,9 @@ fn read_list(
     wholes: &mut [i64],
     reals: &mut [f64],
 ) -> ReadList
-    ensures { λ r. ⌜ toldReadList r ≡ countOf (roomed (fitsBy kind (now (refs .entry)) (now (wholes .entry)) (now (reals .entry))) 0 (listBy (itemValueOf kind) (now (t .entry)))) ⌝ }
+    ensures { λ r. ⌜ toldReadList r ≡ countOf (roomed (fitsBy kind (now (refs .entry)) (now (wholes .entry)) (now (reals .entry))) 0 (listBy (itemValue kind) (now (t .entry)))) ⌝ }
     ensures { λ r. ⌜ lentOf kind (now (refs .exit)) (now (wholes .exit)) (now (reals .exit))
-        ≡ written (roomed (fitsBy kind (now (refs .entry)) (now (wholes .entry)) (now (reals .entry))) 0 (listBy (itemValueOf kind) (now (t .entry))))
+        ≡ written (roomed (fitsBy kind (now (refs .entry)) (now (wholes .entry)) (now (reals .entry))) 0 (listBy (itemValue kind) (now (t .entry))))
         (lentOf kind (now (refs .entry)) (now (wholes .entry)) (now (reals .entry))) ⌝ }
 {
     let mut no_refs: [u32; 0] = [];
@@ -409,9 +409,9 @@ fn next_list(
     reals: &mut [f64],
 ) -> NextList
     ensures { λ r. ⌜ toldNextList r
-        ≡ howMany (nextBy (listBy (itemValueOf kind)) (fitsBy kind (now (refs .entry)) (now (wholes .entry)) (now (reals .entry))) (now (file .entry)) (at .place) (at .end)) ⌝ }
+        ≡ howMany (nextBy (listBy (itemValue kind)) (fitsBy kind (now (refs .entry)) (now (wholes .entry)) (now (reals .entry))) (now (file .entry)) (at .place) (at .end)) ⌝ }
     ensures { λ r. ⌜ lentOf kind (now (refs .exit)) (now (wholes .exit)) (now (reals .exit))
-        ≡ written (nextBy (listBy (itemValueOf kind)) (fitsBy kind (now (refs .entry)) (now (wholes .entry)) (now (reals .entry))) (now (file .entry)) (at .place) (at .end) .answer)
+        ≡ written (nextBy (listBy (itemValue kind)) (fitsBy kind (now (refs .entry)) (now (wholes .entry)) (now (reals .entry))) (now (file .entry)) (at .place) (at .end) .answer)
         (lentOf kind (now (refs .entry)) (now (wholes .entry)) (now (reals .entry))) ⌝ }
 {
     match params::param_span(file, at) {

@@ -1,7 +1,7 @@
 use borrow.Author.Needs.{needs}
 use Rattle.lists.specs.Items.{filled}
 use Rattle.lists.specs.Laws.{shape-full}
-use Rattle.lists.specs.Lent.{Value, itemValueOf, lentOf}
+use Rattle.lists.specs.Lent.{ItemValue, itemValue, lentOf}
 use Rattle.grids.specs.Grid.{flat, endsFrom}
 use Rattle.grids.specs.Laws.{grid-none, grid-blank, grid-full}
 use native.Mathlib.Omega.{arith}
@@ -23,24 +23,24 @@ part-fill-rows-start c = let (n, f, o) = shape-full _ _ (c .before .before .shap
 fill-rows-requires : tie.Need-fill-rows-requires
 fill-rows-requires c κs = let s = c .before .before .before .before in
     let t = c .before .before .before .before .before .before .before .before .before .before .before in
-    grid-full (itemValueOf (t .args .kind)) (now (t .args .t)) _ (s .before .before .shape-of .ensures) _ _ (t .pre) (s .enum-told3 .given .1) .1
+    grid-full (itemValue (t .args .kind)) (now (t .args .t)) _ (s .before .before .shape-of .ensures) _ _ (t .pre) (s .enum-told3 .given .1) .1
 
 returns : tie.Need-returns
 returns c = let t = c .before .before .before .before .before .before .before in
-    absurd (grid-none (itemValueOf (t .args .kind)) (now (t .args .t)) _ (c .before .before .shape-of .ensures) _ _ (t .pre) (c .enum-told .given .1))
+    absurd (grid-none (itemValue (t .args .kind)) (now (t .args .t)) _ (c .before .before .shape-of .ensures) _ _ (t .pre) (c .enum-told .given .1))
 
 returns-2 : tie.Need-returns-2
 returns-2 c = let t = c .before .before .before .before .before .before .before .args in
-    grid-blank (itemValueOf (t .kind)) (now (t .t)) _ (c .before .before .shape-of .ensures) (lentOf (t .kind) (now (t .refs)) [] (now (t .reals))) (now (t .ends)) (c .enum-told2 .given .1)
+    grid-blank (itemValue (t .kind)) (now (t .t)) _ (c .before .before .shape-of .ensures) (lentOf (t .kind) (now (t .refs)) [] (now (t .reals))) (now (t .ends)) (c .enum-told2 .given .1)
 
 returns-3 : tie.Need-returns-3
 returns-3 c = let i = c .before .before .before .before .before .before in
     let s = c .before .before .before .before .before .before .before .before .before .before .before in
     let z = c .before .before .before .before .before .before .before .before .before .before .before .before .before .before .before .before .before .before in
     let t = z .args in
-    let (x, y) = grid-full (itemValueOf (t .kind)) (now (t .t)) _ (s .before .before .shape-of .ensures) _ _ (z .pre) (s .enum-told3 .given .1) in (
-      i .fill-rows .ensures .0 ∙ ap (λ (g : List (List (Value (t .kind)))). filled (flat g) (lentOf (t .kind) (now (t .refs)) [] (now (t .reals)))) (sym x),
-      i .fill-rows .ensures .1 ∙ ap (λ (g : List (List (Value (t .kind)))). filled (endsFrom 0 g) (now (t .ends))) (sym x),
+    let (x, y) = grid-full (itemValue (t .kind)) (now (t .t)) _ (s .before .before .shape-of .ensures) _ _ (z .pre) (s .enum-told3 .given .1) in (
+      i .fill-rows .ensures .0 ∙ ap (λ (g : List (List (ItemValue (t .kind)))). filled (flat g) (lentOf (t .kind) (now (t .refs)) [] (now (t .reals)))) (sym x),
+      i .fill-rows .ensures .1 ∙ ap (λ (g : List (List (ItemValue (t .kind)))). filled (endsFrom 0 g) (now (t .ends))) (sym x),
     )
 
 pub fill-grid-spec : {M : Type 1} → statement M

@@ -1,10 +1,10 @@
 use borrow.Author.Needs.{needs}
 use Rattle.common.specs.Compare.{clash}
-use Rattle.grids.specs.Row.{part-read, part-told, none-laid, row-laid, row-fits}
+use Rattle.grids.specs.Row.{part-read, part-told, none-lent, row-laid, row-fits}
 use Rattle.lists.proofs.Laws.{refused-read}
 use Rattle.lists.specs.Answer.{toldReadList, valuesOf}
 use Rattle.lists.specs.Items.{listBy, listOf}
-use Rattle.lists.specs.Lent.{itemValueOf}
+use Rattle.lists.specs.Lent.{itemValue}
 use Rattle.lists.specs.declared.Kind.the-variants.{References, Integers, Floats, Any}
 use Rattle.reals.specs.Scalar.{referenceOf}
 use Rattle.reals.specs.Which.{realBy}
@@ -78,12 +78,12 @@ returns-4 c = let t = c .before .before .before .before .before .before .before 
 returns-5 : tie.Need-returns-5
 returns-5 c = let t = c .before .before .before .before .before in
     let (h, l) = row-fits (t .args .kind) (now (t .args .t)) (t .args .base) (length (now (t .args .refs))) (length (now (t .args .reals))) Integers (c .enum-told2 .given .1) (t .pre) in
-    row-laid (t .args .kind) (now (t .args .t)) (t .args .base) 0 (now (t .args .refs)) _ (now (t .args .reals)) _ Integers (c .enum-told2 .given .1) (none-laid (listBy (itemValueOf Integers) (now (t .args .t))) (t .args .base) [] l)
+    row-laid (t .args .kind) (now (t .args .t)) (t .args .base) 0 (now (t .args .refs)) _ (now (t .args .reals)) _ Integers (c .enum-told2 .given .1) (none-lent (listBy (itemValue Integers) (now (t .args .t))) (t .args .base) [] l)
 
 returns-6 : tie.Need-returns-6
 returns-6 c = let t = c .before .before .before .before .before in
     let (h, l) = row-fits (t .args .kind) (now (t .args .t)) (t .args .base) (length (now (t .args .refs))) (length (now (t .args .reals))) Any (c .enum-told3 .given .1) (t .pre) in
-    row-laid (t .args .kind) (now (t .args .t)) (t .args .base) 0 (now (t .args .refs)) _ (now (t .args .reals)) _ Any (c .enum-told3 .given .1) (none-laid (listBy (itemValueOf Any) (now (t .args .t))) (t .args .base) [] l)
+    row-laid (t .args .kind) (now (t .args .t)) (t .args .base) 0 (now (t .args .refs)) _ (now (t .args .reals)) _ Any (c .enum-told3 .given .1) (none-lent (listBy (itemValue Any) (now (t .args .t))) (t .args .base) [] l)
 
 pub fill-row-spec : {M : Type 1} → statement M
 fill-row-spec =

@@ -1,7 +1,7 @@
 use borrow.Author.Needs.{needs}
 use Rattle.grids.specs.Rows.{Gridding, gridding-starts, gridding-room, row-ready, row-place, row-last, row-goes}
 use Rattle.grids.specs.Row.{room-bound}
-use Rattle.lists.specs.Lent.{itemValueOf, lentOf, room-lent}
+use Rattle.lists.specs.Lent.{itemValue, lentOf, room-lent}
 use native.Mathlib.Omega.{arith}
 use denote.Ref.{now}
 use lib.ListN.{length, length-set}
@@ -13,7 +13,7 @@ use Rattle.grids.proofs.fill_rows.Tie as tie
 
 abbrev Inv-loop : tie.InvT-loop
 Inv-loop kind b refs₀ reals₀ ends₀ i₀ rows₀ numbers₀ refs reals ends i rows numbers =
-    Gridding (itemValueOf kind) b (lentOf kind refs₀ [] reals₀) (lentOf kind refs [] reals) ends₀ ends i rows numbers × ((length refs ≡ length refs₀) × (length reals ≡ length reals₀))
+    Gridding (itemValue kind) b (lentOf kind refs₀ [] reals₀) (lentOf kind refs [] reals) ends₀ ends i rows numbers × ((length refs ≡ length refs₀) × (length reals ≡ length reals₀))
 
 abbrev μ-loop : tie.MeasureT-loop
 μ-loop kind b refs₀ reals₀ ends₀ i₀ rows₀ numbers₀ refs reals ends i rows numbers = length b - i
@@ -21,7 +21,7 @@ abbrev μ-loop : tie.MeasureT-loop
 loop-holds : tie.Need-loop-holds Inv-loop μ-loop
 loop-holds c = let s = c .before .before .before .before in
     let t = s .args in
-    (gridding-starts (itemValueOf (t .kind)) (now (t .b)) (lentOf (t .kind) (now (t .refs)) [] (now (t .reals))) (now (t .ends)) (s .pre .0, omega (arith, s .pre .1, room-lent (t .kind) (now (t .refs)) [] (now (t .reals))), s .pre .2), (refl, refl))
+    (gridding-starts (itemValue (t .kind)) (now (t .b)) (lentOf (t .kind) (now (t .refs)) [] (now (t .reals))) (now (t .ends)) (s .pre .0, omega (arith, s .pre .1, room-lent (t .kind) (now (t .refs)) [] (now (t .reals))), s .pre .2), (refl, refl))
 
 sub-fill-row : tie.Need-sub-fill-row Inv-loop μ-loop
 sub-fill-row c = c .item-at .ensures .ordered
@@ -37,8 +37,8 @@ fill-row-requires c κs = let m = c .before .before .before in
     let l = m .before in
     let t = l .before .before .before .before .before .args in
     let e = room-lent (t .kind) (l .loop .refs) [] (l .loop .reals) in
-    let (p, q) = gridding-room (itemValueOf (t .kind)) (now (t .b)) _ _ _ _ _ _ _ (l .loop .inv .0) in
-    let (x, y) = row-ready (itemValueOf (t .kind)) (now (t .b)) _ _ _ _ _ _ _ (l .loop .inv .0) (m .item-at .result) (m .item-at .ensures) in
+    let (p, q) = gridding-room (itemValue (t .kind)) (now (t .b)) _ _ _ _ _ _ _ (l .loop .inv .0) in
+    let (x, y) = row-ready (itemValue (t .kind)) (now (t .b)) _ _ _ _ _ _ _ (l .loop .inv .0) (m .item-at .result) (m .item-at .ensures) in
     (omega (arith, p, e), (x, omega (arith, y, e)))
 
 add-numbers : tie.Need-add-numbers Inv-loop μ-loop
@@ -47,7 +47,7 @@ add-numbers c = let p = c .before .before .before .before in
     let l = m .before in
     let s = l .before .before .before .before .before in
     let t = s .args in
-    let (x, y) = row-place (itemValueOf (t .kind)) (now (t .b)) _ _ _ _ _ _ _ (l .loop .inv .0) (m .item-at .result) (m .item-at .ensures) _ _ (p .fill-row .ensures .0) (p .fill-row .ensures .1) in
+    let (x, y) = row-place (itemValue (t .kind)) (now (t .b)) _ _ _ _ _ _ _ (l .loop .inv .0) (m .item-at .result) (m .item-at .ensures) _ _ (p .fill-row .ensures .0) (p .fill-row .ensures .1) in
     omega (arith, x, room-lent (t .kind) (now (t .refs)) [] (now (t .reals)), room-bound (t .kind) (length (now (t .refs))) (length (now (t .reals))), s .good .1 .1 .0 .1, s .good .1 .1 .1 .0 .1)
 
 mul-ends : tie.Need-mul-ends Inv-loop μ-loop
@@ -56,7 +56,7 @@ mul-ends c = let p = c .before .before .before .before in
     let l = m .before in
     let s = l .before .before .before .before .before in
     let t = s .args in
-    let (x, y) = row-place (itemValueOf (t .kind)) (now (t .b)) _ _ _ _ _ _ _ (l .loop .inv .0) (m .item-at .result) (m .item-at .ensures) _ _ (p .fill-row .ensures .0) (p .fill-row .ensures .1) in
+    let (x, y) = row-place (itemValue (t .kind)) (now (t .b)) _ _ _ _ _ _ _ (l .loop .inv .0) (m .item-at .result) (m .item-at .ensures) _ _ (p .fill-row .ensures .0) (p .fill-row .ensures .1) in
     omega (arith, y .0, s .good .1 .1 .1 .1 .0 .1)
 
 slice-write-ends : tie.Need-slice-write-ends Inv-loop μ-loop
@@ -65,7 +65,7 @@ slice-write-ends c = let p = c .before .before .before .before in
     let l = m .before in
     let s = l .before .before .before .before .before in
     let t = s .args in
-    let (x, y) = row-place (itemValueOf (t .kind)) (now (t .b)) _ _ _ _ _ _ _ (l .loop .inv .0) (m .item-at .result) (m .item-at .ensures) _ _ (p .fill-row .ensures .0) (p .fill-row .ensures .1) in
+    let (x, y) = row-place (itemValue (t .kind)) (now (t .b)) _ _ _ _ _ _ _ (l .loop .inv .0) (m .item-at .result) (m .item-at .ensures) _ _ (p .fill-row .ensures .0) (p .fill-row .ensures .1) in
     omega (arith, y .0, y .1)
 
 add-rows : tie.Need-add-rows Inv-loop μ-loop
@@ -82,7 +82,7 @@ same-length-3 c = let p = c .before .before .before .before .before in
     let m = p .before .before .before .before in
     let l = m .before in
     let t = l .before .before .before .before .before .args in
-    let (x, y) = row-place (itemValueOf (t .kind)) (now (t .b)) _ _ _ _ _ _ _ (l .loop .inv .0) (m .item-at .result) (m .item-at .ensures) _ _ (p .fill-row .ensures .0) (p .fill-row .ensures .1) in
+    let (x, y) = row-place (itemValue (t .kind)) (now (t .b)) _ _ _ _ _ _ _ (l .loop .inv .0) (m .item-at .result) (m .item-at .ensures) _ _ (p .fill-row .ensures .0) (p .fill-row .ensures .1) in
     length-set (l .loop .ends) (l .loop .rows) _ ∙ y .1
 
 returns : tie.Need-returns Inv-loop μ-loop
@@ -90,7 +90,7 @@ returns c = let p = c .before .before .before .before .before in
     let m = p .before .before .before .before in
     let l = m .before in
     let t = l .before .before .before .before .before .args in
-    row-last (itemValueOf (t .kind)) (now (t .b)) _ _ _ _ _ _ _ (l .loop .inv .0) (m .item-at .result) (m .item-at .ensures) _ _ (p .fill-row .ensures .0) (p .fill-row .ensures .1) (c .if1 .taken)
+    row-last (itemValue (t .kind)) (now (t .b)) _ _ _ _ _ _ _ (l .loop .inv .0) (m .item-at .result) (m .item-at .ensures) _ _ (p .fill-row .ensures .0) (p .fill-row .ensures .1) (c .if1 .taken)
 
 add-i : tie.Need-add-i Inv-loop μ-loop
 add-i c = omega (arith, c .before .before .before .before .before .before .before .before .before .item-at .ensures .within)
@@ -103,7 +103,7 @@ loop-again c = let p = c .before .before .before .before .before in
     let m = p .before .before .before .before in
     let l = m .before in
     let t = l .before .before .before .before .before .args in
-    (row-goes (itemValueOf (t .kind)) (now (t .b)) _ _ _ _ _ _ _ (l .loop .inv .0) (m .item-at .result) (m .item-at .ensures) _ _ (p .fill-row .ensures .0) (p .fill-row .ensures .1) (omega (arith, m .item-at .ensures .within, c .if1 .left)), (c .before .before .before .before .refs .given ∙ l .loop .inv .1 .0, c .before .before .reals .given ∙ l .loop .inv .1 .1))
+    (row-goes (itemValue (t .kind)) (now (t .b)) _ _ _ _ _ _ _ (l .loop .inv .0) (m .item-at .result) (m .item-at .ensures) _ _ (p .fill-row .ensures .0) (p .fill-row .ensures .1) (omega (arith, m .item-at .ensures .within, c .if1 .left)), (c .before .before .before .before .refs .given ∙ l .loop .inv .1 .0, c .before .before .reals .given ∙ l .loop .inv .1 .1))
 
 pub fill-rows-spec : {M : Type 1} → statement M
 fill-rows-spec =

@@ -1,6 +1,6 @@
 use borrow.Author.Needs.{needs}
 use Rattle.lists.specs.Items.{listBy}
-use Rattle.lists.specs.Lent.{itemValueOf, lentOf, value-inward}
+use Rattle.lists.specs.Lent.{itemValue, lentOf, value-inward}
 use Rattle.lists.specs.Places.{list-inward}
 use Rattle.params.specs.ReaderLaws.{cut-places}
 use Rattle.params.specs.Answer.{toldCut}
@@ -33,18 +33,18 @@ answer-of-requires c κs = let i = c .before .before .before .before .before .be
     let a = g .start .given .0 .0 in
     let z = g .start .given .0 .1 .0 in
     let (u, v) = cut-places _ _ _ _ _ (g .before .before .param-span .ensures .1) (g .start .given .1) in
-    let h = grid-inward (listBy (listBy (itemValueOf (t .kind)))) (list-inward (listBy (itemValueOf (t .kind))) (list-inward (itemValueOf (t .kind)) (value-inward (t .kind)))) (gridFits (t .room) (length (now (t .ends)))) (take (z - a) (drop a s)) (i .read-grid .result) (i .read-grid .ensures .0) in
+    let h = grid-inward (listBy (listBy (itemValue (t .kind)))) (list-inward (listBy (itemValue (t .kind))) (list-inward (itemValue (t .kind)) (value-inward (t .kind)))) (gridFits (t .room) (length (now (t .ends)))) (take (z - a) (drop a s)) (i .read-grid .result) (i .read-grid .ensures .0) in
     omega (arith, u, v, h, w .good .1 .1 .0 .1, length-take (z - a) (drop a s), length-drop a s)
 
 returns : tie.Need-returns
 returns c = let t = c .before .before .before .before .before .before .before .before .args in
-    grids-uncut (listBy (listBy (itemValueOf (t .kind)))) (lentOf (t .kind) (now (t .refs)) [] (now (t .reals))) (now (t .ends)) (t .room) (length (now (t .ends))) (now (t .file)) (t .at .place) (t .at .end) _ _ _ (ap toldCut (sym (c .before .f .given .1)) ∙ c .before .before .before .param-span .ensures .0)
+    grids-uncut (listBy (listBy (itemValue (t .kind)))) (lentOf (t .kind) (now (t .refs)) [] (now (t .reals))) (now (t .ends)) (t .room) (length (now (t .ends))) (now (t .file)) (t .at .place) (t .at .end) _ _ _ (ap toldCut (sym (c .before .f .given .1)) ∙ c .before .before .before .param-span .ensures .0)
 
 returns-2 : tie.Need-returns-2
 returns-2 c = let i = c .before .before .before .before .before .before .before in
     let g = c .before .before .before .before .before .before .before .before .before .before .before .before .before in
     let t = c .before .before .before .before .before .before .before .before .before .before .before .before .before .before .before .before .before .before .before .before .args in
-    let (x, y) = grids-cut (listBy (listBy (itemValueOf (t .kind)))) (lentOf (t .kind) (now (t .refs)) [] (now (t .reals))) (now (t .ends)) (t .room) (length (now (t .ends))) (now (t .file)) (t .at .place) (t .at .end) _ _ _ _
+    let (x, y) = grids-cut (listBy (listBy (itemValue (t .kind)))) (lentOf (t .kind) (now (t .refs)) [] (now (t .reals))) (now (t .ends)) (t .room) (length (now (t .ends))) (now (t .file)) (t .at .place) (t .at .end) _ _ _ _
     (ap toldCut (sym (g .start .given .1)) ∙ g .before .before .param-span .ensures .0) _ _ _ (i .read-grid .ensures .0) (i .read-grid .ensures .1 .0) (i .read-grid .ensures .1 .1) in
     (c .answer-of .ensures ∙ x, y)
 

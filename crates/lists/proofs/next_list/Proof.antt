@@ -1,7 +1,7 @@
 use borrow.Author.Needs.{needs}
 use Rattle.lists.specs.ReadLaws.{lists-uncut, lists-cut}
 use Rattle.lists.specs.Places.{read-inward, list-inward}
-use Rattle.lists.specs.Lent.{itemValueOf, lentOf, lentRoom, value-inward}
+use Rattle.lists.specs.Lent.{itemValue, lentOf, kindRoom, value-inward}
 use Rattle.lists.specs.Items.{listBy}
 use Rattle.lists.specs.Answer.{fitsIn}
 use Rattle.params.specs.ReaderLaws.{cut-places}
@@ -31,18 +31,18 @@ answer-of-requires c κs = let i = c .before .before .before .before .before .be
     let a = g .start .given .0 .0 in
     let z = g .start .given .0 .1 .0 in
     let (u, v) = cut-places _ _ _ _ _ (g .before .before .param-span .ensures .1) (g .start .given .1) in
-    let h = read-inward (listBy (itemValueOf (t .kind))) (list-inward (itemValueOf (t .kind)) (value-inward (t .kind))) (fitsIn (lentRoom (t .kind) (length (now (t .refs))) (length (now (t .wholes))) (length (now (t .reals))))) (take (z - a) (drop a s)) (i .read-list .result) (i .read-list .ensures .0) in
+    let h = read-inward (listBy (itemValue (t .kind))) (list-inward (itemValue (t .kind)) (value-inward (t .kind))) (fitsIn (kindRoom (t .kind) (length (now (t .refs))) (length (now (t .wholes))) (length (now (t .reals))))) (take (z - a) (drop a s)) (i .read-list .result) (i .read-list .ensures .0) in
     omega (arith, u, v, h, length-take (z - a) (drop a s), length-drop a s)
 
 returns : tie.Need-returns
 returns c = let t = c .before .before .before .before .before .before .before .before .args in
-    lists-uncut (listBy (itemValueOf (t .kind))) (lentOf (t .kind) (now (t .refs)) (now (t .wholes)) (now (t .reals))) (lentRoom (t .kind) (length (now (t .refs))) (length (now (t .wholes))) (length (now (t .reals)))) (now (t .file)) (t .at .place) (t .at .end) _ _ _ (ap toldCut (sym (c .before .f .given .1)) ∙ c .before .before .before .param-span .ensures .0)
+    lists-uncut (listBy (itemValue (t .kind))) (lentOf (t .kind) (now (t .refs)) (now (t .wholes)) (now (t .reals))) (kindRoom (t .kind) (length (now (t .refs))) (length (now (t .wholes))) (length (now (t .reals)))) (now (t .file)) (t .at .place) (t .at .end) _ _ _ (ap toldCut (sym (c .before .f .given .1)) ∙ c .before .before .before .param-span .ensures .0)
 
 returns-2 : tie.Need-returns-2
 returns-2 c = let i = c .before .before .before .before .before .before .before .before in
     let g = c .before .before .before .before .before .before .before .before .before .before .before .before .before .before .before in
     let t = c .before .before .before .before .before .before .before .before .before .before .before .before .before .before .before .before .before .before .before .before .before .before .args in
-    let (x, y) = lists-cut (listBy (itemValueOf (t .kind))) (lentOf (t .kind) (now (t .refs)) (now (t .wholes)) (now (t .reals))) (lentRoom (t .kind) (length (now (t .refs))) (length (now (t .wholes))) (length (now (t .reals)))) (now (t .file)) (t .at .place) (t .at .end) _ _ _ _
+    let (x, y) = lists-cut (listBy (itemValue (t .kind))) (lentOf (t .kind) (now (t .refs)) (now (t .wholes)) (now (t .reals))) (kindRoom (t .kind) (length (now (t .refs))) (length (now (t .wholes))) (length (now (t .reals)))) (now (t .file)) (t .at .place) (t .at .end) _ _ _ _
     (ap toldCut (sym (g .start .given .1)) ∙ g .before .before .param-span .ensures .0) _ _ (i .read-list .ensures .0) (i .read-list .ensures .1) in
     (c .answer-of .ensures ∙ x, y)
 

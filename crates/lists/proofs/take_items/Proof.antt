@@ -1,7 +1,7 @@
 use Rattle.lists.specs.Keep.{Keeping, keeping-starts, keeping-bad, keeping-last, keeping-goes}
 use Rattle.lists.specs.Items.{toldVerdict}
 use Rattle.lists.specs.Answer.{faulty}
-use Rattle.lists.specs.Lent.{itemValueOf, lentOf}
+use Rattle.lists.specs.Lent.{itemValue, lentOf}
 use native.Mathlib.Omega.{arith}
 use borrow.Author.Needs.{needs}
 use denote.Ref.{now}
@@ -13,7 +13,7 @@ use Rattle.lists.proofs.take_items.Tie as tie
 
 abbrev Inv-loop : tie.InvT-loop
 Inv-loop kind b refs₀ wholes₀ reals₀ i₀ n₀ refs wholes reals i n =
-    Keeping (itemValueOf kind) b (lentOf kind refs₀ wholes₀ reals₀) (lentOf kind refs wholes reals) i n
+    Keeping (itemValue kind) b (lentOf kind refs₀ wholes₀ reals₀) (lentOf kind refs wholes reals) i n
     × ((length refs ≡ length refs₀) × ((length wholes ≡ length wholes₀) × (length reals ≡ length reals₀)))
 
 abbrev μ-loop : tie.MeasureT-loop
@@ -21,7 +21,7 @@ abbrev μ-loop : tie.MeasureT-loop
 
 loop-holds : tie.Need-loop-holds Inv-loop μ-loop
 loop-holds c = let t = c .before .before .before .args in
-    (keeping-starts (itemValueOf (t .kind)) (now (t .b)) (lentOf (t .kind) (now (t .refs)) (now (t .wholes)) (now (t .reals))), (refl, (refl, refl)))
+    (keeping-starts (itemValue (t .kind)) (now (t .b)) (lentOf (t .kind) (now (t .refs)) (now (t .wholes)) (now (t .reals))), (refl, (refl, refl)))
 
 sub-take-item : tie.Need-sub-take-item Inv-loop μ-loop
 sub-take-item c = c .item-at .ensures .ordered
@@ -68,7 +68,7 @@ returns c = let p = c .before .before .before .before .before .before .before in
     let l = m .before in
     let t = l .before .before .before .before .args in
     let e : m .item-at .result .start ≡ m .item-at .result .start + 0 = omega arith in
-    let (x, y) = keeping-bad (itemValueOf (t .kind)) (now (t .b)) _ _ _ _ _ (l .loop .inv .0) (m .item-at .result) (m .item-at .ensures) (p .take-item .ensures .1) 12 0 (ap toldVerdict (sym (c .enum-told2 .given .1)) ∙ p .take-item .ensures .0) in
+    let (x, y) = keeping-bad (itemValue (t .kind)) (now (t .b)) _ _ _ _ _ (l .loop .inv .0) (m .item-at .result) (m .item-at .ensures) (p .take-item .ensures .1) 12 0 (ap toldVerdict (sym (c .enum-told2 .given .1)) ∙ p .take-item .ensures .0) in
     (ap (faulty 12) e ∙ x, (omega (arith, m .item-at .ensures .ordered, m .item-at .ensures .short, m .item-at .ensures .within), y))
 
 returns-2 : tie.Need-returns-2 Inv-loop μ-loop
@@ -77,7 +77,7 @@ returns-2 c = let p = c .before .before .before .before .before .before .before 
     let l = m .before in
     let t = l .before .before .before .before .args in
     let e : m .item-at .result .start ≡ m .item-at .result .start + 0 = omega arith in
-    let (x, y) = keeping-bad (itemValueOf (t .kind)) (now (t .b)) _ _ _ _ _ (l .loop .inv .0) (m .item-at .result) (m .item-at .ensures) (p .take-item .ensures .1) 13 0 (ap toldVerdict (sym (c .enum-told3 .given .1)) ∙ p .take-item .ensures .0) in
+    let (x, y) = keeping-bad (itemValue (t .kind)) (now (t .b)) _ _ _ _ _ (l .loop .inv .0) (m .item-at .result) (m .item-at .ensures) (p .take-item .ensures .1) 13 0 (ap toldVerdict (sym (c .enum-told3 .given .1)) ∙ p .take-item .ensures .0) in
     (ap (faulty 13) e ∙ x, (omega (arith, m .item-at .ensures .ordered, m .item-at .ensures .short, m .item-at .ensures .within), y))
 
 returns-3 : tie.Need-returns-3 Inv-loop μ-loop
@@ -85,7 +85,7 @@ returns-3 c = let p = c .before .before .before .before .before .before .before 
     let m = p .before .before .before .before .before in
     let l = m .before in
     let t = l .before .before .before .before .args in
-    let (x, y) = keeping-last (itemValueOf (t .kind)) (now (t .b)) _ _ _ _ _ (l .loop .inv .0) (m .item-at .result) (m .item-at .ensures) (p .take-item .ensures .1) (ap toldVerdict (sym (c .before .enum-told .given .1)) ∙ p .take-item .ensures .0) (c .if1 .taken) in
+    let (x, y) = keeping-last (itemValue (t .kind)) (now (t .b)) _ _ _ _ _ (l .loop .inv .0) (m .item-at .result) (m .item-at .ensures) (p .take-item .ensures .1) (ap toldVerdict (sym (c .before .enum-told .given .1)) ∙ p .take-item .ensures .0) (c .if1 .taken) in
     (x, (omega (arith, l .loop .inv .0 .few, l .loop .inv .0 .within), y))
 
 add-i : tie.Need-add-i Inv-loop μ-loop
@@ -99,7 +99,7 @@ loop-again c = let p = c .before .before .before .before .before .before .before
     let m = p .before .before .before .before .before in
     let l = m .before in
     let t = l .before .before .before .before .args in
-    (keeping-goes (itemValueOf (t .kind)) (now (t .b)) _ _ _ _ _ (l .loop .inv .0) (m .item-at .result) (m .item-at .ensures) (p .take-item .ensures .1) (ap toldVerdict (sym (c .before .enum-told .given .1)) ∙ p .take-item .ensures .0) (omega (arith, m .item-at .ensures .within, c .if1 .left)), (c .before .before .before .before .before .before .before .refs .given ∙ l .loop .inv .1 .0, (c .before .before .before .before .before .wholes .given ∙ l .loop .inv .1 .1 .0, c .before .before .before .before .reals .given ∙ l .loop .inv .1 .1 .1)))
+    (keeping-goes (itemValue (t .kind)) (now (t .b)) _ _ _ _ _ (l .loop .inv .0) (m .item-at .result) (m .item-at .ensures) (p .take-item .ensures .1) (ap toldVerdict (sym (c .before .enum-told .given .1)) ∙ p .take-item .ensures .0) (omega (arith, m .item-at .ensures .within, c .if1 .left)), (c .before .before .before .before .before .before .before .refs .given ∙ l .loop .inv .1 .0, (c .before .before .before .before .before .wholes .given ∙ l .loop .inv .1 .1 .0, c .before .before .before .before .reals .given ∙ l .loop .inv .1 .1 .1)))
 
 pub take-items-spec : {M : Type 1} → statement M
 take-items-spec =

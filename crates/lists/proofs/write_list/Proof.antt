@@ -1,6 +1,6 @@
 use borrow.Author.Needs.{needs}
 use Rattle.lists.specs.Keep.{kept-all}
-use Rattle.lists.specs.Lent.{itemValueOf, room-lent}
+use Rattle.lists.specs.Lent.{itemValue, room-lent}
 use Rattle.lists.specs.Items.{listBy}
 use Rattle.lists.specs.First.{first-fits, first-laid}
 use native.Mathlib.Omega.{arith}
@@ -18,12 +18,12 @@ lay-reals-requires c κs = let r = c .before .before .room-of in
 returns : tie.Need-returns
 returns c = let r = c .before .before .before .before .before .room-of in
     let t = c .before .before .before .before .before .before .before .before .before .before in
-    first-laid (t .args .kind) (listBy (itemValueOf (t .args .kind)) (now (t .args .t))) (now (t .args .refs)) (now (t .args .wholes)) (now (t .args .first)) (now (t .args .reals)) _ (t .args .n)
+    first-laid (t .args .kind) (listBy (itemValue (t .args .kind)) (now (t .args .t))) (now (t .args .refs)) (now (t .args .wholes)) (now (t .args .first)) (now (t .args .reals)) _ (t .args .n)
     (t .pre .1 .0) (omega (arith, r .ensures, c .before .before .before .before .if1 .taken)) (t .pre .1 .1) (c .before .before .lay-reals .ensures)
 
 returns-2 : tie.Need-returns-2
 returns-2 c = let t = c .before .before .before .before .before .before .before .before .before .before .before .before .before .before .before in
-    kept-all (listBy (itemValueOf (t .args .kind)) (now (t .args .t))) _ _ _ (room-lent (t .args .kind) (now (t .args .refs)) (now (t .args .wholes)) (now (t .args .reals))) (t .pre .0) (c .before .before .before .before .before .take-list .ensures .1 .1)
+    kept-all (listBy (itemValue (t .args .kind)) (now (t .args .t))) _ _ _ (room-lent (t .args .kind) (now (t .args .refs)) (now (t .args .wholes)) (now (t .args .reals))) (t .pre .0) (c .before .before .before .before .before .take-list .ensures .1 .1)
 
 pub write-list-spec : {M : Type 1} → statement M
 write-list-spec =
