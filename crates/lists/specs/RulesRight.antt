@@ -18,7 +18,8 @@ use Rattle.lex.specs.Byte.{white}
 use Rattle.common.specs.Walk.{walk}
 use Rattle.record.specs.Text.{before, past, trail, numberFrom}
 use Rattle.record.specs.Word.{trimmed}
-use Rattle.record.specs.Form.{All, NotFirst, Skipped, Trimmed, bytes}
+use Rattle.common.specs.Bytes.{bytes}
+use Rattle.record.specs.Form.{All, NotFirst, Skipped, Trimmed}
 use Rattle.record.specs.FormRight.{past-is, past-only, trimmed-is, trimmed-only}
 use Rattle.record.specs.FormRight.Parts.{first-part, all-join, last-none, Tailed, tail-split}
 use Rattle.reals.specs.Scalar.{referenceOf, wholeOf, realOf, anyRealOf}
