@@ -138,8 +138,8 @@ abbrev pub startNear : List ℕ → ℕ → Ids → ℕ → ℕ
 startNear slots n b k = min (getD slots (min (rangeNear b k) (n - 2)) 0) n
 
 -- for the ids of a part it is told where their ranges of the guide begin
-abbrev pub StartsTold : List ℕ → ℕ → Ids → List ℕ → List ℕ → ℕ → ℕ → Type 0
-StartsTold slots n b ids found from to = (i : ℕ) → from ≤ i → i < to → getD found i 0 ≡ startNear slots n b (getD ids i 0)
+abbrev pub StartsAt : List ℕ → ℕ → Ids → List ℕ → List ℕ → ℕ → ℕ → Type 0
+StartsAt slots n b ids found from to = (i : ℕ) → from ≤ i → i < to → getD found i 0 ≡ startNear slots n b (getD ids i 0)
 
 -- the first row of an id's range, of those between the first row of all and the last
 abbrev pub lowNear : List ℕ → ℕ → Ids → ℕ → ℕ

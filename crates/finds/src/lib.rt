@@ -11,7 +11,7 @@ ghost use lib.ListN.{length, getD};
 ghost use Rattle.index.specs.Search.{firstRow, searched, wide};
 ghost use Rattle.index.specs.Answer.{toldFound};
 ghost use Rattle.finds.specs.Finds.{rowNumber, Told};
-ghost use Rattle.finds.specs.Looks.{roomOf, rowOf, Hint, DenseRow, EvenRow, startNear, StartsTold, NearRow, Stepped, Guided};
+ghost use Rattle.finds.specs.Looks.{roomOf, rowOf, Hint, DenseRow, EvenRow, startNear, StartsAt, NearRow, Stepped, Guided};
 ghost use Rattle.finds.specs.Sweep.{Swept};
 use index::Found;
 use index::Ids;
@@ -231,7 +231,7 @@ fn starts(slots: &[u64], n: usize, b: Ids, ids: &[u32], found: &mut [u32], from:
 
 // The rows of ids by the guide, whose ranges begin where they are told to; the rows are not read.
 fn nears(slots: &[u64], n: usize, b: Ids, ids: &[u32], found: &mut [u32], from: usize, to: usize)
-    requires { ⌜ (from ≤ to) × (to ≤ length (now ids)) × (to ≤ length (now found)) × (1 < n) × (n ≤ length (now slots)) × (n ≤ 1073741824) × StartsTold (now slots) n b (now ids) (now found) from to ⌝ }
+    requires { ⌜ (from ≤ to) × (to ≤ length (now ids)) × (to ≤ length (now found)) × (1 < n) × (n ≤ length (now slots)) × (n ≤ 1073741824) × StartsAt (now slots) n b (now ids) (now found) from to ⌝ }
     ensures { λ _. ⌜ Swept (NearRow (now (slots .entry)) n b) (now (ids .entry)) (now (found .entry)) from to (now (found .exit)) ⌝ }
 {
     let mut i = from;

@@ -13,7 +13,7 @@ use lib.Seq.{sets}
 use Rattle.error.specs.Refusal.{refusal, good, bad}
 use Rattle.statement.specs.Rows.{Row}
 use Rattle.table.specs.Table.{rowsFit, six, rowsLaid, rowPut}
-use Rattle.table.specs.Laid.{laid-nothing, laid-on, rows-laid-more}
+use Rattle.table.specs.Laid.{nothing-laid, laid-on, rows-laid-more}
 use Rattle.kept.specs.Kept.{littleFour, littles, rowBytes, bytesOf, rowAt, firstRows, fineRow, fineAll, keepOf, readOf, bytesAfter}
 
 -- where k rows are fine and row k is, k + 1 rows are
@@ -109,7 +109,7 @@ put-more r old k h =
 -- before the first row is read nothing changes
 pub none-laid : (r : ℕ → Row) (old : List ℕ) → old ≡ rowsLaid (firstRows r 0) old
 unfolding firstRows
-none-laid r old = sym (laid-nothing six old)
+none-laid r old = sym (nothing-laid six old)
 
 -- one row more is read into the lent rows, behind the first k
 pub get-more : (r : ℕ → Row) (old : List ℕ) (k : ℕ) → k < rowsFit (length old) → rowPut (rowsLaid (firstRows r k) old) k (r k) ≡ rowsLaid (firstRows r (k + 1)) old

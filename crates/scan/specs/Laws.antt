@@ -15,7 +15,7 @@ use Rattle.statement.specs.Statement.{statement}
 use Rattle.statement.specs.declared.Section.{Section}
 use Rattle.statement.specs.declared.Section.the-variants.{Outside, InHeader, InData}
 use Rattle.table.specs.Table.{rowsFit, headersFit, six, four, rowsLaid, headersLaid, rowPut, headerPut}
-use Rattle.table.specs.Laid.{laid-nothing, rows-laid-more, headers-laid-more}
+use Rattle.table.specs.Laid.{nothing-laid, rows-laid-more, headers-laid-more}
 use Rattle.scan.specs.Records.{Table, table, withHeader, withRecord, largest}
 use Rattle.scan.specs.File.{taken, readFrom, readingOf}
 use Rattle.scan.specs.Table.{headersOf, recordsOf, Counts, counts, countsOf}
@@ -88,8 +88,8 @@ going-starts s H R write h₀ r₀ = record {
   hroom = omega arith;
   rroom = omega arith;
   most = refl;
-  hlaid = sym (kept write h₀ (headersLaid [] h₀) (laid-nothing four h₀));
-  rlaid = sym (kept write r₀ (rowsLaid [] r₀) (laid-nothing six r₀));
+  hlaid = sym (kept write h₀ (headersLaid [] h₀) (nothing-laid four h₀));
+  rlaid = sym (kept write r₀ (rowsLaid [] r₀) (nothing-laid six r₀));
 }
   where
     kept : (b : Bool) (l new : List ℕ) → new ≡ l → pick b new l ≡ l

@@ -93,9 +93,9 @@ module _ {A : Type 0} (n : ℕ) (f : A → List ℕ) (e : (w : A) → length (f 
       (w, g, λ i l. field-there n (laid (flat f ws) old) r k i ∙ flat-at ws (drop (length (flat f ws)) old) r w g i l)
 
 -- no row is laid, and nothing changes
-pub laid-nothing : {A : Type 0} (f : A → List ℕ) (old : List ℕ) → laid (flat f []) old ≡ old
+pub nothing-laid : {A : Type 0} (f : A → List ℕ) (old : List ℕ) → laid (flat f []) old ≡ old
 unfolding flat
-laid-nothing f old = refl
+nothing-laid f old = refl
 
 -- "A row holds id, keyword start and end [..]": row r of the memory is the row that was laid as the r-th
 pub row-is : (ws : List Row) (old : List ℕ) (r : ℕ) → r < length ws → getElem? ws r ≡ some (rowNumbers (rowsLaid ws old) r)
