@@ -11,8 +11,8 @@ use Rattle.common.specs.Pick.{pick}
 use Rattle.error.specs.Refusal.{Refusal, Told, good, bad}
 use Rattle.kinds.specs.declared.Kind.{Kind}
 use Rattle.params.specs.Answer.{Span, onward}
-use Rattle.lookup.specs.Lookup.{cut}
-use Rattle.factors.specs.Thing.{goodBy, sameKind, Piece, Thing, firstPiece, selfOr}
+use Rattle.lookup.specs.Lookup.{bytesBetween}
+use Rattle.factors.specs.SeenRecords.{goodBy, sameKind, UnitPart, SeenRecord, firstUnitPart, selfOr}
 use Rattle.factors.specs.Unit.{optionBy}
 use Rattle.alike.specs.Names.{Names}
 
@@ -46,30 +46,30 @@ abbrev pub SameTold : {A : Type 0} → Told A → Told A → Type 0
 SameTold x y = BothTold (λ a b. a ≡ b) x y
 
 -- two parts of the files s and s′: each lies in its file and runs forwards, both have the same bytes, and these name no other ids
-pub record AlikeRun (Named : ℕ → Type 0) (s s′ : List ℕ) (r r′ : Span) : Type 0 where
+pub record AlikeSpan (Named : ℕ → Type 0) (s s′ : List ℕ) (r r′ : Span) : Type 0 where
   pub ordered : r .start ≤ r .stop
   pub within : r .stop ≤ length s
   pub ordered′ : r′ .start ≤ r′ .stop
   pub within′ : r′ .stop ≤ length s′
-  pub same : cut s (r .start) (r .stop) ≡ cut s′ (r′ .start) (r′ .stop)
-  pub names : (k : ℕ) → Names (cut s (r .start) (r .stop)) k → Named k
+  pub same : bytesBetween s (r .start) (r .stop) ≡ bytesBetween s′ (r′ .start) (r′ .stop)
+  pub names : (k : ℕ) → Names (bytesBetween s (r .start) (r .stop)) k → Named k
 
 -- two parts of complex records: the same kind, the same bytes
-abbrev pub AlikePiece : (ℕ → Type 0) → List ℕ → List ℕ → Piece → Piece → Type 0
-AlikePiece Named s s′ p p′ = (p .kind ≡ p′ .kind) × AlikeRun Named s s′ (p .run) (p′ .run)
+abbrev pub AlikePart : (ℕ → Type 0) → List ℕ → List ℕ → UnitPart → UnitPart → Type 0
+AlikePart Named s s′ p p′ = (p .kind ≡ p′ .kind) × AlikeSpan Named s s′ (p .run) (p′ .run)
 
 -- two records: the same kind, the same bytes, and alike parts or the same fault in them
-pub record AlikeThing (Named : ℕ → Type 0) (s s′ : List ℕ) (t t′ : Thing) : Type 0 where
+pub record AlikeRecord (Named : ℕ → Type 0) (s s′ : List ℕ) (t t′ : SeenRecord) : Type 0 where
   pub kind : t .kind ≡ t′ .kind
-  pub run : AlikeRun Named s s′ (t .run) (t′ .run)
-  pub parts : BothTold (BothList (AlikePiece Named s s′)) (t .parts) (t′ .parts)
+  pub run : AlikeSpan Named s s′ (t .run) (t′ .run)
+  pub parts : BothTold (BothList (AlikePart Named s s′)) (t .parts) (t′ .parts)
 
 -- two records that were looked up: none, or two that are alike
-abbrev pub AlikeFound : (ℕ → Type 0) → List ℕ → List ℕ → Told (Option Thing) → Told (Option Thing) → Type 0
-AlikeFound Named s s′ x y = BothTold (BothOption (AlikeThing Named s s′)) x y
+abbrev pub AlikeFound : (ℕ → Type 0) → List ℕ → List ℕ → Told (Option SeenRecord) → Told (Option SeenRecord) → Type 0
+AlikeFound Named s s′ x y = BothTold (BothOption (AlikeRecord Named s s′)) x y
 
 -- two lookups: "each id then yields a record with the same keyword and argument bytes, or none as before", each of those that matter
-pub record AlikeFind (Named : ℕ → Type 0) (s s′ : List ℕ) (find find′ : ℕ → Told (Option Thing)) : Type 0 where
+pub record AlikeFind (Named : ℕ → Type 0) (s s′ : List ℕ) (find find′ : ℕ → Told (Option SeenRecord)) : Type 0 where
   pub found : (k : ℕ) → Named k → AlikeFound Named s s′ (find k) (find′ k)
 
 -- all ids matter
@@ -142,21 +142,21 @@ same-by f x y h = both-by (λ a b. a ≡ b) (λ a b. a ≡ b) f f x y h (λ a b 
 -- ---- records
 module _ (Named : ℕ → Type 0) (s s′ : List ℕ) where
   -- in two lists of alike parts, the arguments of the first part of a kind are alike
-  pub first-alike : (k : Kind) (ps ps′ : List Piece) → BothList (AlikePiece Named s s′) ps ps′ → BothOption (AlikeRun Named s s′) (firstPiece k ps) (firstPiece k ps′)
+  pub first-alike : (k : Kind) (ps ps′ : List UnitPart) → BothList (AlikePart Named s s′) ps ps′ → BothOption (AlikeSpan Named s s′) (firstUnitPart k ps) (firstUnitPart k ps′)
   first-alike k [] [] h = tt
   first-alike k [] (p ∷ ps) h = absurd h
   first-alike k (p ∷ ps) [] h = absurd h
   first-alike k (p ∷ ps) (p′ ∷ ps′) ((e, r), h) = rw (← e) (go (sameKind (p .kind) k) (first-alike k ps ps′ h))
     where
-      go : (b : Bool) → BothOption (AlikeRun Named s s′) (firstPiece k ps) (firstPiece k ps′) → BothOption (AlikeRun Named s s′) (pick b (some (p .run)) (firstPiece k ps)) (pick b (some (p′ .run)) (firstPiece k ps′))
+      go : (b : Bool) → BothOption (AlikeSpan Named s s′) (firstUnitPart k ps) (firstUnitPart k ps′) → BothOption (AlikeSpan Named s s′) (pick b (some (p .run)) (firstUnitPart k ps)) (pick b (some (p′ .run)) (firstUnitPart k ps′))
       go true l = r
       go false l = l
 
-  module _ (t t′ : Thing) (h : AlikeThing Named s s′ t t′) where
+  module _ (t t′ : SeenRecord) (h : AlikeRecord Named s s′ t t′) where
     -- the arguments of the first part of a kind of two alike records are alike
-    pub piece-alike : (k : Kind) → BothTold (BothOption (AlikeRun Named s s′)) (goodBy (firstPiece k) (t .parts)) (goodBy (firstPiece k) (t′ .parts))
-    piece-alike k = both-by (BothList (AlikePiece Named s s′)) (BothOption (AlikeRun Named s s′)) (firstPiece k) (firstPiece k) (t .parts) (t′ .parts) (h .parts) (first-alike k)
+    pub part-alike : (k : Kind) → BothTold (BothOption (AlikeSpan Named s s′)) (goodBy (firstUnitPart k) (t .parts)) (goodBy (firstUnitPart k) (t′ .parts))
+    part-alike k = both-by (BothList (AlikePart Named s s′)) (BothOption (AlikeSpan Named s s′)) (firstUnitPart k) (firstUnitPart k) (t .parts) (t′ .parts) (h .parts) (first-alike k)
 
     -- the arguments of two alike records of a kind, or of their first parts of that kind, are alike
-    pub self-alike : (k : Kind) → BothTold (BothOption (AlikeRun Named s s′)) (selfOr k t) (selfOr k t′)
-    self-alike k = rw (← h .kind) (both-pick (BothOption (AlikeRun Named s s′)) (sameKind (t .kind) k) (good (some (t .run))) (goodBy (firstPiece k) (t .parts)) (good (some (t′ .run))) (goodBy (firstPiece k) (t′ .parts)) (h .run) (piece-alike k))
+    pub self-alike : (k : Kind) → BothTold (BothOption (AlikeSpan Named s s′)) (selfOr k t) (selfOr k t′)
+    self-alike k = rw (← h .kind) (both-pick (BothOption (AlikeSpan Named s s′)) (sameKind (t .kind) k) (good (some (t .run))) (goodBy (firstUnitPart k) (t .parts)) (good (some (t′ .run))) (goodBy (firstUnitPart k) (t′ .parts)) (h .run) (part-alike k))

@@ -15,20 +15,20 @@ use Rattle.scalars.specs.Scalars.{measureOf}
 use Rattle.scalars.specs.Answer.{nextOf}
 use Rattle.lists.specs.Items.{listOf}
 use Rattle.lists.specs.Answer.{nextBy}
-use Rattle.factors.specs.Thing.{goodBy, sameKind, Piece, Thing, selfOr}
+use Rattle.factors.specs.SeenRecords.{goodBy, sameKind, UnitPart, SeenRecord, selfOr}
 use Rattle.factors.specs.Each.{Each}
 use Rattle.factors.specs.EachLaws.{each-nil, each-head, each-less}
 use Rattle.factors.specs.Unit.{optionBy}
 use Rattle.factors.specs.Factor.{lengthOf, angleOf}
-use Rattle.units.specs.Answer.{Units, defaults, Role, lengthRole, angleRole, solidRole, roleBy, withLength, withAngle, withTolerance, reads, readsInteger, isContext, refsIn, uncertainBy, uncertaintyOf, uncertaintyBy}
+use Rattle.units.specs.Answer.{Units, defaults, Role, lengthRole, angleRole, solidRole, roleBy, withLength, withAngle, withTolerance, isRead, readsInteger, isContext, refsIn, uncertainBy, uncertaintyOf, uncertaintyBy}
 use Rattle.units.specs.Units.{roleOf, firstRole, byRole, unitOf, unitBy, unitsBy, toleranceBy, listedUnits, listedTolerance, contextOf}
 use Rattle.alike.specs.Readers.{next-shift, list-shift}
-use Rattle.alike.specs.Alike.{BothTold, BothOption, BothList, SameTold, AlikeRun, AlikePiece, AlikeThing, AlikeFind, both-pick, both-on, both-by, same-on, same-on-read, same-by, self-alike}
-use Rattle.alike.specs.Runs.{read-first, refs-first}
+use Rattle.alike.specs.Alike.{BothTold, BothOption, BothList, SameTold, AlikeSpan, AlikePart, AlikeRecord, AlikeFind, both-pick, both-on, both-by, same-on, same-on-read, same-by, self-alike}
+use Rattle.alike.specs.SameBytesRead.{read-first, refs-first}
 use Rattle.alike.specs.Factors.{unread-alike, number-alike, found-alike, length-alike, angle-alike}
 
 -- of two answers that are the same both read, or neither does
-reads-alike : {A : Type 0} (x y : Told A) → SameTold x y → reads x ≡ reads y
+reads-alike : {A : Type 0} (x y : Told A) → SameTold x y → isRead x ≡ isRead y
 reads-alike (good a) (good b) h = refl
 reads-alike (good a) (bad q) h = absurd h
 reads-alike (bad q) (good b) h = absurd h
@@ -44,14 +44,14 @@ uncertain-alike (bad q) (bad q′) h = unread-alike q q′ h
 -- ---- arguments and parts
 module _ (Named : ℕ → Type 0) (s s′ : List ℕ) where
   -- the first parameter of alike arguments reads as an integer in both, or in neither
-  integer-alike : (x y : Option Span) → BothOption (AlikeRun Named s s′) x y → readsInteger s x ≡ readsInteger s′ y
+  integer-alike : (x y : Option Span) → BothOption (AlikeSpan Named s s′) x y → readsInteger s x ≡ readsInteger s′ y
   integer-alike none none h = refl
   integer-alike none (some r) h = absurd h
   integer-alike (some r) none h = absurd h
   integer-alike (some r) (some r′) h = reads-alike (nextOf wholeOf s (r .start) (r .stop) .answer) (nextOf wholeOf s′ (r′ .start) (r′ .stop) .answer) (read-first h (nextOf wholeOf) (λ s a z m n. next-shift s a z m n wholeOf))
 
   -- the references that alike arguments list are the same
-  pub refs-alike : (x y : Option Span) → BothOption (AlikeRun Named s s′) x y → SameTold (refsIn s x) (refsIn s′ y)
+  pub refs-alike : (x y : Option Span) → BothOption (AlikeSpan Named s s′) x y → SameTold (refsIn s x) (refsIn s′ y)
   unfolding refsIn
   refs-alike none none h = refl
   refs-alike none (some r) h = absurd h
@@ -59,7 +59,7 @@ module _ (Named : ℕ → Type 0) (s s′ : List ℕ) where
   refs-alike (some r) (some r′) h = read-first h (nextBy (listOf referenceOf) (λ vs. true)) (λ s a z m n. list-shift s a z m n (listOf referenceOf) (λ vs. true))
 
   -- the references that alike arguments list are ids that matter
-  refs-named : (x y : Option Span) → BothOption (AlikeRun Named s s′) x y → (vs : List ℕ) → refsIn s x ≡ good vs → Each Named vs
+  refs-named : (x y : Option Span) → BothOption (AlikeSpan Named s s′) x y → (vs : List ℕ) → refsIn s x ≡ good vs → Each Named vs
   unfolding refsIn
   refs-named none none h vs e = let d : [] ≡ vs = cc in subst (Each Named) d (each-nil Named)
   refs-named none (some r) h vs e = absurd h
@@ -67,7 +67,7 @@ module _ (Named : ℕ → Type 0) (s s′ : List ℕ) where
   refs-named (some r) (some r′) h vs e = refs-first h (λ vs. true) vs e
 
   -- of alike parts, the first that gives a role gives the same
-  first-role-alike : (ps ps′ : List Piece) → BothList (AlikePiece Named s s′) ps ps′ → firstRole ps ≡ firstRole ps′
+  first-role-alike : (ps ps′ : List UnitPart) → BothList (AlikePart Named s s′) ps ps′ → firstRole ps ≡ firstRole ps′
   first-role-alike [] [] h = refl
   first-role-alike [] (p ∷ ps) h = absurd h
   first-role-alike (p ∷ ps) [] h = absurd h
@@ -75,41 +75,41 @@ module _ (Named : ℕ → Type 0) (s s′ : List ℕ) where
 
 module _ {Named : ℕ → Type 0} {s s′ : List ℕ} where
   -- ---- records
-  module _ {t t′ : Thing} (h : AlikeThing Named s s′ t t′) where
+  module _ {t t′ : SeenRecord} (h : AlikeRecord Named s s′ t t′) where
     -- two alike records have the same role as units
     pub role-alike : SameTold (roleOf t) (roleOf t′)
-    role-alike = both-by (BothList (AlikePiece Named s s′)) (λ a b. a ≡ b) firstRole firstRole (t .parts) (t′ .parts) (h .parts) (first-role-alike Named s s′)
+    role-alike = both-by (BothList (AlikePart Named s s′)) (λ a b. a ≡ b) firstRole firstRole (t .parts) (t′ .parts) (h .parts) (first-role-alike Named s s′)
 
     -- two alike records are both unit contexts, or neither is, or both have the same fault
     pub is-context-alike : SameTold (isContext s t) (isContext s′ t′)
     unfolding isContext
     is-context-alike =
-        both-by (BothOption (AlikeRun Named s s′)) (λ a b. a ≡ b) (readsInteger s) (readsInteger s′)
+        both-by (BothOption (AlikeSpan Named s s′)) (λ a b. a ≡ b) (readsInteger s) (readsInteger s′)
         (selfOr GeometricRepresentationContext t) (selfOr GeometricRepresentationContext t′) (self-alike Named s s′ t t′ h GeometricRepresentationContext) (integer-alike Named s s′)
 
     -- the references that two alike records or their parts of a kind list are the same
     listed-alike : (k : Kind) → SameTold (onward (refsIn s) (selfOr k t)) (onward (refsIn s′) (selfOr k t′))
-    listed-alike k = both-on (BothOption (AlikeRun Named s s′)) (λ a b. a ≡ b) (refsIn s) (refsIn s′) (selfOr k t) (selfOr k t′) (self-alike Named s s′ t t′ h k) (refs-alike Named s s′)
+    listed-alike k = both-on (BothOption (AlikeSpan Named s s′)) (λ a b. a ≡ b) (refsIn s) (refsIn s′) (selfOr k t) (selfOr k t′) (self-alike Named s s′ t t′ h k) (refs-alike Named s s′)
 
     -- the references that a record or its part of a kind lists are ids that matter
     listed-named : (k : Kind) (vs : List ℕ) → onward (refsIn s) (selfOr k t) ≡ good vs → Each Named vs
     listed-named k = go (selfOr k t) (selfOr k t′) (self-alike Named s s′ t t′ h k)
       where
-        go : (x y : Told (Option Span)) → BothTold (BothOption (AlikeRun Named s s′)) x y → (vs : List ℕ) → onward (refsIn s) x ≡ good vs → Each Named vs
+        go : (x y : Told (Option Span)) → BothTold (BothOption (AlikeSpan Named s s′)) x y → (vs : List ℕ) → onward (refsIn s) x ≡ good vs → Each Named vs
         go (good x) (good y) l vs e = refs-named Named s s′ x y l vs e
         go (good x) (bad q) l vs e = absurd l
         go (bad q) y l vs e = clash (cc)
 
     -- two alike records give the same uncertainty
-    uncertainty-of-alike : (find find′ : ℕ → Told (Option Thing)) → SameTold (uncertaintyOf s t) (uncertaintyOf s′ t′)
+    uncertainty-of-alike : (find find′ : ℕ → Told (Option SeenRecord)) → SameTold (uncertaintyOf s t) (uncertaintyOf s′ t′)
     uncertainty-of-alike find find′ = rw (← h .kind) (both-pick (λ a b. a ≡ b) (sameKind (t .kind) UncertaintyMeasureWithUnit)
         (uncertainBy (nextOf measureOf s (t .run .start) (t .run .stop) .answer)) (good none) (uncertainBy (nextOf measureOf s′ (t′ .run .start) (t′ .run .stop) .answer)) (good none)
         (uncertain-alike (nextOf measureOf s (t .run .start) (t .run .stop) .answer) (nextOf measureOf s′ (t′ .run .start) (t′ .run .stop) .answer) (number-alike (h .run))) refl)
 
   -- ---- records and lookups
-  module _ {find find′ : ℕ → Told (Option Thing)} (finds : AlikeFind Named s s′ find find′) where
+  module _ {find find′ : ℕ → Told (Option SeenRecord)} (finds : AlikeFind Named s s′ find find′) where
     -- two alike records add the same unit to the units of a list
-    unit-of-alike : (u : Units) (t t′ : Thing) → AlikeThing Named s s′ t t′ → SameTold (unitOf s find u t) (unitOf s′ find′ u t′)
+    unit-of-alike : (u : Units) (t t′ : SeenRecord) → AlikeRecord Named s s′ t t′ → SameTold (unitOf s find u t) (unitOf s′ find′ u t′)
     unit-of-alike u t t′ h = same-on (byRole s find u t) (byRole s′ find′ u t′) (roleOf t) (roleOf t′) (role-alike h) go
       where
         go : (x : Option Role) → SameTold (byRole s find u t x) (byRole s′ find′ u t′ x)
@@ -146,7 +146,7 @@ module _ {Named : ℕ → Type 0} {s s′ : List ℕ} where
         go k none = k
         go k (some v) = refl
 
-    module _ {t t′ : Thing} (h : AlikeThing Named s s′ t t′) where
+    module _ {t t′ : SeenRecord} (h : AlikeRecord Named s s′ t t′) where
       -- two alike records list the same units
       pub listed-units-alike : SameTold (listedUnits s find t) (listedUnits s′ find′ t′)
       unfolding listedUnits

@@ -21,7 +21,7 @@ use Rattle.params.specs.Skips.{skipOf}
 use Rattle.params.specs.Answer.{Span, onward}
 use Rattle.scalars.specs.Scalars.{measureOf}
 use Rattle.scalars.specs.Answer.{nextOf}
-use Rattle.factors.specs.Thing.{goodBy, sameKind, Thing, firstPiece, selfOr}
+use Rattle.factors.specs.SeenRecords.{goodBy, sameKind, SeenRecord, firstUnitPart, selfOr}
 use Rattle.factors.specs.Factor.{
   unreadOf,
   readOr,
@@ -30,20 +30,20 @@ use Rattle.factors.specs.Factor.{
   known,
   leads,
   conversionOf,
-  unitBy,
+  siOrConversion,
   linkOf,
   chained,
   baseOf,
   measureAt,
   measureIn,
   lengthOf,
-  numberIn,
+  angleNumber,
   angleOf,
 }
 use Rattle.factors.specs.Unit.{
   prefixIn,
   unitIn,
-  named,
+  factorIfNamed,
   siLength,
   siAngle,
   measureRef,
@@ -57,8 +57,8 @@ use Rattle.alike.specs.Alike.{
   BothTold,
   BothOption,
   SameTold,
-  AlikeRun,
-  AlikeThing,
+  AlikeSpan,
+  AlikeRecord,
   AlikeFind,
   same-refl,
   both-pick,
@@ -67,10 +67,10 @@ use Rattle.alike.specs.Alike.{
   same-on,
   same-on-read,
   same-by,
-  piece-alike,
+  part-alike,
   self-alike,
 }
-use Rattle.alike.specs.Runs.{read-first, read-second, ref-second, name-first, name-second}
+use Rattle.alike.specs.SameBytesRead.{read-first, read-second, ref-second, name-first, name-second}
 
 -- ---- answers put together
 -- two refused numbers with the same refusal refuse alike, or give no factor alike
@@ -104,9 +104,9 @@ SameChain Named (leads i) (leads j) = (i ≡ j) × Named i
 
 module _ {Named : ℕ → Type 0} {s s′ : List ℕ} where
   -- ---- arguments
-  module _ {r r′ : Span} (h : AlikeRun Named s s′ r r′) where
+  module _ {r r′ : Span} (h : AlikeSpan Named s s′ r r′) where
     -- the factor of a named unit is the same for alike arguments
-    named-alike : (name : String) (f : List ℕ → ℕ) → named name s r (f (prefixIn s r)) ≡ named name s′ r′ (f (prefixIn s′ r′))
+    named-alike : (name : String) (f : List ℕ → ℕ) → factorIfNamed name s r (f (prefixIn s r)) ≡ factorIfNamed name s′ r′ (f (prefixIn s′ r′))
     named-alike name f =
         ap (λ (t : List ℕ). pick (isWord t (bytes name)) (some (f (prefixIn s r))) none) (name-second h (bytes name))
         ∙ ap (λ (t : List ℕ). pick (isWord (unitIn name s′ r′) (bytes name)) (some (f t)) none) (name-first h [])
@@ -143,22 +143,22 @@ module _ {Named : ℕ → Type 0} {s s′ : List ℕ} where
     number-alike = read-first h (nextOf measureOf) (λ s a z k l. next-shift s a z k l measureOf)
 
   -- ---- records
-  module _ {t t′ : Thing} (h : AlikeThing Named s s′ t t′) where
+  module _ {t t′ : SeenRecord} (h : AlikeRecord Named s s′ t t′) where
     -- the arguments of two alike records as measures are alike
-    pub run-alike : BothTold (BothOption (AlikeRun Named s s′)) (measureRun t) (measureRun t′)
-    run-alike = rw (← h .kind) (both-pick (BothOption (AlikeRun Named s s′)) (sameKind (t .kind) Complex)
-        (goodBy (firstPiece LengthMeasureWithUnit) (t .parts)) (good (some (t .run))) (goodBy (firstPiece LengthMeasureWithUnit) (t′ .parts)) (good (some (t′ .run)))
-        (piece-alike Named s s′ t t′ h LengthMeasureWithUnit) (h .run))
+    pub run-alike : BothTold (BothOption (AlikeSpan Named s s′)) (measureRun t) (measureRun t′)
+    run-alike = rw (← h .kind) (both-pick (BothOption (AlikeSpan Named s s′)) (sameKind (t .kind) Complex)
+        (goodBy (firstUnitPart LengthMeasureWithUnit) (t .parts)) (good (some (t .run))) (goodBy (firstUnitPart LengthMeasureWithUnit) (t′ .parts)) (good (some (t′ .run)))
+        (part-alike Named s s′ t t′ h LengthMeasureWithUnit) (h .run))
 
     -- what two alike records give, by an SI part before a conversion, is alike
     pub by-alike : {A : Type 0} (R : A → A → Type 0) (si si′ conversion conversion′ : Span → Told A) (neither : A) → R neither neither
-        → ((r r′ : Span) → AlikeRun Named s s′ r r′ → BothTold R (si r) (si′ r′)) → ((r r′ : Span) → AlikeRun Named s s′ r r′ → BothTold R (conversion r) (conversion′ r′))
-        → BothTold R (unitBy si conversion neither t) (unitBy si′ conversion′ neither t′)
+        → ((r r′ : Span) → AlikeSpan Named s s′ r r′ → BothTold R (si r) (si′ r′)) → ((r r′ : Span) → AlikeSpan Named s s′ r r′ → BothTold R (conversion r) (conversion′ r′))
+        → BothTold R (siOrConversion si conversion neither t) (siOrConversion si′ conversion′ neither t′)
     by-alike R si si′ conversion conversion′ neither n f g =
-        both-on-option (AlikeRun Named s s′) R
+        both-on-option (AlikeSpan Named s s′) R
         (onward (optionBy (good neither) conversion) (selfOr ConversionBasedUnit t)) (onward (optionBy (good neither) conversion′) (selfOr ConversionBasedUnit t′)) si si′
         (selfOr SiUnit t) (selfOr SiUnit t′) (self-alike Named s s′ t t′ h SiUnit)
-        (both-on-option (AlikeRun Named s s′) R (good neither) (good neither) conversion conversion′
+        (both-on-option (AlikeSpan Named s s′) R (good neither) (good neither) conversion conversion′
         (selfOr ConversionBasedUnit t) (selfOr ConversionBasedUnit t′) (self-alike Named s s′ t t′ h ConversionBasedUnit) n g)
         f
 
@@ -177,14 +177,14 @@ module _ {Named : ℕ → Type 0} {s s′ : List ℕ} where
         go (bad q) (bad q′) e n = e
 
   -- ---- records and lookups
-  module _ {find find′ : ℕ → Told (Option Thing)} (finds : AlikeFind Named s s′ find find′) where
+  module _ {find find′ : ℕ → Told (Option SeenRecord)} (finds : AlikeFind Named s s′ find find′) where
     -- what is made of the records found for an id that matters, or of none, is the same
-    pub found-alike : {A : Type 0} (other : Told A) (f g : Thing → Told A) (i : ℕ) → Named i → ((t t′ : Thing) → AlikeThing Named s s′ t t′ → SameTold (f t) (g t′)) → SameTold (onward (optionBy other f) (find i)) (onward (optionBy other g) (find′ i))
-    found-alike other f g i n k = both-on-option (AlikeThing Named s s′) (λ a b. a ≡ b) other other f g (find i) (find′ i) (finds .found i n) (same-refl other) k
+    pub found-alike : {A : Type 0} (other : Told A) (f g : SeenRecord → Told A) (i : ℕ) → Named i → ((t t′ : SeenRecord) → AlikeRecord Named s s′ t t′ → SameTold (f t) (g t′)) → SameTold (onward (optionBy other f) (find i)) (onward (optionBy other g) (find′ i))
+    found-alike other f g i n k = both-on-option (AlikeRecord Named s s′) (λ a b. a ≡ b) other other f g (find i) (find′ i) (finds .found i n) (same-refl other) k
 
-    module _ (k l : Thing → Told (Option ℕ)) (units : (t t′ : Thing) → AlikeThing Named s s′ t t′ → SameTold (k t) (l t′)) where
+    module _ (k l : SeenRecord → Told (Option ℕ)) (units : (t t′ : SeenRecord) → AlikeRecord Named s s′ t t′ → SameTold (k t) (l t′)) where
       -- a measure's number and then its base give the same for alike arguments, where k and l give a unit's factor
-      measure-at-alike : (r r′ : Span) → AlikeRun Named s s′ r r′ → SameTold (measureAt s find k r) (measureAt s′ find′ l r′)
+      measure-at-alike : (r r′ : Span) → AlikeSpan Named s s′ r r′ → SameTold (measureAt s find k r) (measureAt s′ find′ l r′)
       unfolding nextOf
       measure-at-alike r r′ h =
           read-or-alike (nextOf measureOf s (r .start) (r .stop) .answer) (nextOf measureOf s′ (r′ .start) (r′ .stop) .answer)
@@ -199,7 +199,7 @@ module _ {Named : ℕ → Type 0} {s s′ : List ℕ} where
       pub measure-alike : (i : ℕ) → Named i → SameTold (measureIn s find k i) (measureIn s′ find′ l i)
       unfolding measureIn
       measure-alike i n = found-alike (good none) (λ t. onward (optionBy (good none) (measureAt s find k)) (measureRun t)) (λ t. onward (optionBy (good none) (measureAt s′ find′ l)) (measureRun t)) i n
-          (λ t t′ h. both-on-option (AlikeRun Named s s′) (λ a b. a ≡ b) (good none) (good none) (measureAt s find k) (measureAt s′ find′ l) (measureRun t) (measureRun t′) (run-alike h) refl measure-at-alike)
+          (λ t t′ h. both-on-option (AlikeSpan Named s s′) (λ a b. a ≡ b) (good none) (good none) (measureAt s find k) (measureAt s′ find′ l) (measureRun t) (measureRun t′) (run-alike h) refl measure-at-alike)
 
     -- two units of a chain that are the same lead on the same way
     chained-alike : (k l : ℕ → Told (Option ℕ)) → ((i : ℕ) → Named i → SameTold (k i) (l i)) → (c d : Chain) → SameChain Named c d → SameTold (chained k c) (chained l d)
@@ -209,7 +209,7 @@ module _ {Named : ℕ → Type 0} {s s′ : List ℕ} where
     chained-alike k l h (leads i) (leads j) (e, n) = rw (← e) (h i n)
 
     -- two alike length units have the same factor
-    pub length-alike : (n : ℕ) (t t′ : Thing) → AlikeThing Named s s′ t t′ → SameTold (lengthOf s find n t) (lengthOf s′ find′ n t′)
+    pub length-alike : (n : ℕ) (t t′ : SeenRecord) → AlikeRecord Named s s′ t t′ → SameTold (lengthOf s find n t) (lengthOf s′ find′ n t′)
     unfolding lengthOf
     length-alike zero t t′ h =
         both-on (SameChain Named) (λ a b. a ≡ b) (chained (λ i. good none)) (chained (λ i. good none)) (linkOf s zero t) (linkOf s′ zero t′) (link-alike h zero) (chained-alike (λ i. good none) (λ i. good none) (λ i k. refl))
@@ -218,14 +218,14 @@ module _ {Named : ℕ → Type 0} {s s′ : List ℕ} where
         (chained-alike (measureIn s find (λ b. lengthOf s find n b)) (measureIn s′ find′ (λ b. lengthOf s′ find′ n b)) (measure-alike (λ b. lengthOf s find n b) (λ b. lengthOf s′ find′ n b) (length-alike n)))
 
     -- an angle's number, by an id that matters, is the same
-    pub number-in-alike : (i : ℕ) → Named i → SameTold (numberIn s find i) (numberIn s′ find′ i)
-    unfolding numberIn
+    pub number-in-alike : (i : ℕ) → Named i → SameTold (angleNumber s find i) (angleNumber s′ find′ i)
+    unfolding angleNumber
     number-in-alike i n = found-alike (good none) (λ t. readOr (nextOf measureOf s (t .run .start) (t .run .stop) .answer) (λ v. good (some v))) (λ t. readOr (nextOf measureOf s′ (t .run .start) (t .run .stop) .answer) (λ v. good (some v))) i n
         (λ t t′ h. read-or-alike (nextOf measureOf s (t .run .start) (t .run .stop) .answer) (nextOf measureOf s′ (t′ .run .start) (t′ .run .stop) .answer) (λ v. good (some v)) (λ v. good (some v)) (number-alike (h .run)) (λ v. refl))
 
     -- two alike angle units have the same factor
-    pub angle-alike : (t t′ : Thing) → AlikeThing Named s s′ t t′ → SameTold (angleOf s find t) (angleOf s′ find′ t′)
+    pub angle-alike : (t t′ : SeenRecord) → AlikeRecord Named s s′ t t′ → SameTold (angleOf s find t) (angleOf s′ find′ t′)
     unfolding angleOf
-    angle-alike t t′ h = by-alike h (λ a b. a ≡ b) (λ r. good (siAngle s r)) (λ r. good (siAngle s′ r)) (λ r. onward (numberIn s find) (measureRef s r)) (λ r. onward (numberIn s′ find′) (measureRef s′ r)) none refl
+    angle-alike t t′ h = by-alike h (λ a b. a ≡ b) (λ r. good (siAngle s r)) (λ r. good (siAngle s′ r)) (λ r. onward (angleNumber s find) (measureRef s r)) (λ r. onward (angleNumber s′ find′) (measureRef s′ r)) none refl
         (λ r r′ k. si-angle-alike k)
-        (λ r r′ k. same-on-read (numberIn s find) (numberIn s′ find′) (measureRef s r) (measureRef s′ r′) (ref-alike k) (λ i e. number-in-alike i (ref-named k i e)))
+        (λ r r′ k. same-on-read (angleNumber s find) (angleNumber s′ find′) (measureRef s r) (measureRef s′ r′) (ref-alike k) (λ i e. number-in-alike i (ref-named k i e)))

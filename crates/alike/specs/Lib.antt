@@ -2,7 +2,7 @@ pub mod Shift
 pub mod Readers
 pub mod Names
 pub mod Alike
-pub mod Runs
+pub mod SameBytesRead
 pub mod Factors
 pub mod Answers
 pub mod Contexts

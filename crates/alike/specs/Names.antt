@@ -13,7 +13,7 @@ use Rattle.common.specs.Tests.{bounds}
 use Rattle.error.specs.Refusal.{refusal, Told, good, bad}
 use Rattle.lex.specs.Grammar.{Trivia}
 use Rattle.record.specs.Byte.{digit}
-use Rattle.record.specs.Form.{NotFirst, Skipped, valueOf}
+use Rattle.record.specs.Form.{NotFirst, SkippedBytes, valueOf}
 use Rattle.record.specs.FormRight.Parts.{empty-not-first, first-other}
 use Rattle.record.specs.FormRight.Gaps.{white-digit, gap-digit}
 use Rattle.reals.specs.Answer.{Answer, read, refused}
@@ -23,10 +23,10 @@ use Rattle.reals.specs.WholeRight.{reference-is}
 use Rattle.params.specs.Grammar.{Trails, Bound, Parameter}
 use Rattle.params.specs.Answer.{Read, Span, span, onward}
 use Rattle.params.specs.Reader.{paramOf}
-use Rattle.params.specs.Rules.{rest, NextForm}
-use Rattle.params.specs.RulesRight.{next-is}
+use Rattle.params.specs.Rules.{readerRest, NextParamForm}
+use Rattle.params.specs.RulesRight.{param-next-is}
 use Rattle.scalars.specs.Answer.{answered, scalarAt, nextOf}
-use Rattle.words.specs.Answer.{partOf}
+use Rattle.words.specs.Answer.{spanBytes}
 use Rattle.lists.specs.Answer.{Fate, fine, faulty, shifted, consed, roomed, nextBy}
 use Rattle.lists.specs.Items.{listOf}
 use Rattle.lists.specs.Rules.{Item, Items, Listed, Scalar}
@@ -41,7 +41,7 @@ pub record Names (xs : List ℕ) (k : ℕ) : Type 0 where
   pub digits : List ℕ
   pub back : List ℕ
   pub shape : xs ≡ front ++ (35 ∷ (digits ++ back))
-  pub number : Skipped digit digits back
+  pub number : SkippedBytes digit digits back
   pub some : digits ≡ [] → ⊥
   pub value : valueOf digits ≡ k
 
@@ -151,25 +151,25 @@ listed-names (Listed.other n) vs e = clash (cc)
 -- a parameter runs forwards in the bytes, and no digit follows it
 record Apart (s : List ℕ) (e : ℕ) (b : Span) : Type 0 where
   ordered : b .start ≤ b .stop
-  over : NotFirst digit (rest s e (b .stop))
+  over : NotFirst digit (readerRest s e (b .stop))
 
 -- the next parameter by the rules runs forwards, and no digit follows it
-form-apart : {s : List ℕ} {p e : ℕ} {x : Read Span} → NextForm s p e x → (b : Span) → x .answer ≡ good b → Apart s e b
-form-apart {s} {e} (NextForm.comma {a} {z} i az zb be h q) b k =
+form-apart : {s : List ℕ} {p e : ℕ} {x : Read Span} → NextParamForm s p e x → (b : Span) → x .answer ≡ good b → Apart s e b
+form-apart {s} {e} (NextParamForm.comma {a} {z} i az zb be h q) b k =
     let d : span a z ≡ b = cc in
     subst (Apart s e) d record { ordered = az; over = first-after q }
-form-apart {s} {e} (NextForm.last {a} {z} i ae az ze h q) b k =
+form-apart {s} {e} (NextParamForm.last {a} {z} i ae az ze h q) b k =
     let d : span a z ≡ b = cc in
     subst (Apart s e) d record { ordered = az; over = first-after q }
-form-apart (NextForm.outside n) b k = clash (cc)
-form-apart (NextForm.none i h) b k = clash (cc)
-form-apart (NextForm.unclosed i aq qe h u) b k = clash (cc)
+form-apart (NextParamForm.outside n) b k = clash (cc)
+form-apart (NextParamForm.none i h) b k = clash (cc)
+form-apart (NextParamForm.unclosed i aq qe h u) b k = clash (cc)
 
 module _ (u : List ℕ) (i : ℕ) where
   -- what the next parameter names the bytes name
-  param-names : (b : Span) → paramOf u i (length u) .answer ≡ good b → (k : ℕ) → Names (partOf u b) k → Names u k
+  param-names : (b : Span) → paramOf u i (length u) .answer ≡ good b → (k : ℕ) → Names (spanBytes u b) k → Names u k
   param-names b h =
-      let a = form-apart (next-is u i (length u)) b h in
+      let a = form-apart (param-next-is u i (length u)) b h in
       names-cut u (b .start) (b .stop) (a .ordered) (rw (take-length u) at (a .over))
 
   -- the id of the next parameter, read as a reference, is one that the bytes name
@@ -182,7 +182,7 @@ module _ (u : List ℕ) (i : ℕ) where
       reads p (refused n) e = clash (cc)
 
       go : (x : Told Span) → paramOf u i (length u) .answer ≡ x → onward (scalarAt referenceOf u) x ≡ good k → Names u k
-      go (good b) e g = param-names b e k (reference-names (reference-is (partOf u b)) (reads (b .start) (referenceOf (partOf u b)) g))
+      go (good b) e g = param-names b e k (reference-names (reference-is (spanBytes u b)) (reads (b .start) (referenceOf (spanBytes u b)) g))
       go (bad q) e g = clash (cc)
 
   -- the ids of the next parameter, read as a list of references, are ones that the bytes name
@@ -199,5 +199,5 @@ module _ (u : List ℕ) (i : ℕ) where
       reads p (faulty n o) e = clash (cc)
 
       go : (x : Told Span) → paramOf u i (length u) .answer ≡ x → onward (λ a. roomed fits (a .start) (listOf referenceOf (take (a .stop - a .start) (drop (a .start) u)))) x ≡ good vs → Each (Names u) vs
-      go (good b) e g = each-by (param-names b e) vs (listed-names (references-are (partOf u b)) vs (reads (b .start) (listOf referenceOf (partOf u b)) g))
+      go (good b) e g = each-by (param-names b e) vs (listed-names (references-are (spanBytes u b)) vs (reads (b .start) (listOf referenceOf (spanBytes u b)) g))
       go (bad q) e g = clash (cc)

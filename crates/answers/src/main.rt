@@ -79,7 +79,7 @@ fn lend_small(
     ends: &mut [usize; SMALL_ENDS],
     out: &mut [u8; CHUNK],
 ) {
-    turns::all(
+    compare_output::all(
         chunk,
         file,
         heads,
@@ -91,7 +91,7 @@ fn lend_small(
         reals,
         ends,
         out,
-        lines::SCANNED,
+        compare_lines::SCANNED,
         walks(),
     );
 }
@@ -144,7 +144,7 @@ fn lend_large(
     ends: &mut [usize; MIDDLE_ENDS],
     out: &mut [u8; CHUNK],
 ) {
-    turns::all(
+    compare_output::all(
         chunk,
         file,
         heads,
@@ -156,14 +156,18 @@ fn lend_large(
         reals,
         ends,
         out,
-        lines::SCANNED,
+        compare_lines::SCANNED,
         walks(),
     );
 }
 
 // How many cases are told with the walks: all, but in the gate's run.
 fn walks() -> usize {
-    if intake::replays() { WALKS } else { usize::MAX }
+    if compare_input::replays() {
+        WALKS
+    } else {
+        usize::MAX
+    }
 }
 
 // Whether the first argument asks for help.
@@ -179,5 +183,5 @@ fn is_help(word: &[u8]) -> bool {
 
 fn help() {
     let mut out = io::buffer();
-    turns::help(&mut out);
+    compare_output::help(&mut out);
 }

@@ -50,7 +50,7 @@ use Rattle.params.specs.declared.State.{State}
 use Rattle.params.proofs.State as St
 use Rattle.params.proofs.State.Laws as St′
 use Rattle.args.specs.declared.Args.{Args}
-use Rattle.args.specs.Carried.{over, Forwards}
+use Rattle.args.specs.CarryingReader.{overReader, Forwards}
 use Rattle.args.proofs.Args as T
 use Rattle.args.proofs.Args.Laws as T′
 use Rattle.args.proofs.Carry.{α, B}
@@ -124,7 +124,7 @@ module _ (E : ED.Declared) {X : Type 0} (tell : E .D → Read X) (f : List ℕ �
     slice-fits : Holds (hasTy (sliceTy (tyRef (named 0) imm (tyInt w8))) v) × WT v
     slice-fits = shr-slice-lawful 𝓤 H A W (named 0) κ u8 .typed x (v ∷ []) has .0
 
-    exits : (r : E .D) (u : Val) → Is (ED.row E) r (u ∷ []) → tell r ≡ over f h → ent 𝓤 (⋆ 𝓤 H A ((‵ (flft κ q) ⊛ ‵ ftrue) ∷ ‵ Own ∷ [])) (Post u)
+    exits : (r : E .D) (u : Val) → Is (ED.row E) r (u ∷ []) → tell r ≡ overReader f h → ent 𝓤 (⋆ 𝓤 H A ((‵ (flft κ q) ⊛ ‵ ftrue) ∷ ‵ Own ∷ [])) (Post u)
     exits r u is e =
         qed W ((‵ (flft κ q) ⊛ ‵ ftrue) ∷ ‵ Own ∷ []) ∵ suffices ! _ (ends-at 𝓤 H A ended stayed (coreClauses E tell f 𝓤) W (((κ, tt), (q, tt), tt, (x, (s, tt)), at), tt) u r (tt, (tt, tt)) (tt, (tt, tt))) $ says ! e $
         frame ! $ nothing ! $ owned ! St.the-row (Is St.the-row) (LL.makes St.the-type St′.the-plain 𝓤 H A) s _ si $ fjoin ! $ move ! (1 ∷ 0 ∷ []) $ fjoin ! $ frame ! $

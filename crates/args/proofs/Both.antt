@@ -44,9 +44,9 @@ use Rattle.params.specs.Answer.{Read}
 use Rattle.params.specs.declared.State.{State}
 use Rattle.params.proofs.State as St
 use Rattle.params.proofs.State.Laws as St′
-use Rattle.after.specs.Leaving.{Leaves}
+use Rattle.reader_after.specs.Leaving.{Leaves}
 use Rattle.args.specs.declared.Args.{Args}
-use Rattle.args.specs.Carried.{over, Says, FillsBoth}
+use Rattle.args.specs.CarryingReader.{overReader, SaysOfReader, FillsBoth}
 use Rattle.args.proofs.Args as T
 use Rattle.args.proofs.Args.Laws as T′
 use Rattle.args.proofs.Carry.{B, selfTy, fileTy, settled, begun, afterEnded, afterClauses, After, moved, D, K, Own, Fields, opened, put-state, held, spelled, fit, fit-spelled, to-after, asked-after, said-after}
@@ -139,13 +139,13 @@ module _ (R : RattleType) (E : ED.Declared) {X : Type 0} (tell : E .D → Read X
 
       -- what the core's function ensures of an answer and of two last lists
       abbrev Told : E .D → Type 0
-      Told r = tell r ≡ over (f (length (m .now)) (length (k .now))) h
+      Told r = tell r ≡ overReader (f (length (m .now)) (length (k .now))) h
 
       abbrev Left : List (R .Denot) → Type 0
-      Left zs = Says (left (m .now) (k .now) zs) h
+      Left zs = SaysOfReader (left (m .now) (k .now) zs) h
 
       abbrev Ends : List ℕ → Type 0
-      Ends ds = Says (ends (m .now) (k .now) ds) h
+      Ends ds = SaysOfReader (ends (m .now) (k .now) ds) h
 
       exits : (r : E .D) (u : Val) (s : State) (zs : List (R .Denot)) (ds : List ℕ) → Is (ED.row E) r (u ∷ []) → Told r → Left zs → Ends ds → Leaves (tell r) s → length zs ≡ length (m .now) → length ds ≡ length (k .now)
           → ent 𝓤 (⋆ 𝓤 H A (‵ (fobs γ (B κ′ .coded .code (moved h s))) ∷ ‵ (fbor κ (Body (mem (B κ′)) b o γ)) ∷ ‵ (flft κ q) ∷ (‵ (flft κ′ q′) ⊛ ‵ (flft κ″ q″) ⊛ ‵ (flft κ‴ q‴) ⊛ ‵ ftrue) ∷ ‵ (finally usize (k .name) ds) ∷ ‵ (finally R (m .name) zs) ∷ [])) (Post u)

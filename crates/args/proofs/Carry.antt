@@ -33,7 +33,7 @@ use Rattle.params.specs.Answer.{Read}
 use Rattle.params.specs.declared.State.{State}
 use Rattle.params.proofs.State as St
 use Rattle.params.proofs.State.Laws as St′
-use Rattle.after.specs.Leaving.{Leaves}
+use Rattle.reader_after.specs.Leaving.{Leaves}
 use Rattle.args.specs.declared.Args.{Args}
 use Rattle.args.proofs.Args as T
 use Rattle.args.proofs.Args.Laws as T′

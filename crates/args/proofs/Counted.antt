@@ -45,9 +45,9 @@ use Rattle.params.specs.Answer.{Read}
 use Rattle.params.specs.declared.State.{State}
 use Rattle.params.proofs.State as St
 use Rattle.params.proofs.State.Laws as St′
-use Rattle.after.specs.Leaving.{Leaves}
+use Rattle.reader_after.specs.Leaving.{Leaves}
 use Rattle.args.specs.declared.Args.{Args}
-use Rattle.args.specs.Carried.{over, Forwards}
+use Rattle.args.specs.CarryingReader.{overReader, Forwards}
 use Rattle.args.proofs.Args as T
 use Rattle.args.proofs.Args.Laws as T′
 use Rattle.args.proofs.Carry.{B, selfTy, fileTy, settled, begun, afterEnded, afterClauses, After, moved, D, K, Own, Fields, opened, put-state, held, spelled, fit, fit-spelled, to-after, asked-after, said-after}
@@ -123,10 +123,10 @@ module _ (E : ED.Declared) {X : Type 0} (tell : E .D → Read X) (f : ℕ → Li
       asked = qed W ((‵ (flft κ′ q′) ⊛ ‵ ftrue) ∷ ‵ (Fields 𝓤 H A W κ′ h) ∷ ‵ Told ∷ []) ∵
           move ! (1 ∷ []) $ fsplit ! $ move ! (1 ∷ []) $ fsplit ! $ move ! (0 ∷ 4 ∷ []) $ fjoin ! $ move ! (2 ∷ 0 ∷ []) $ fjoin ! $ move ! (2 ∷ 0 ∷ []) $ join ! $ frame ! $ drop ! $ done !
 
-      said : (r : E .D) → ent 𝓤 (ensured 𝓤 H A coreEnded (coreClauses 𝓤) (κ′, tt) a tt r) (fact 𝓤 (tell r ≡ over (f n) h))
-      said r = exE 𝓤 _ (λ ws. snd∗ 𝓤 (sem 𝓤 H A (lasts coreEnded (κ′, tt) a ws)) (fact 𝓤 (tell r ≡ over (f n) h)))
+      said : (r : E .D) → ent 𝓤 (ensured 𝓤 H A coreEnded (coreClauses 𝓤) (κ′, tt) a tt r) (fact 𝓤 (tell r ≡ overReader (f n) h))
+      said r = exE 𝓤 _ (λ ws. snd∗ 𝓤 (sem 𝓤 H A (lasts coreEnded (κ′, tt) a ws)) (fact 𝓤 (tell r ≡ overReader (f n) h)))
 
-      exits : (r : E .D) (u : Val) (s : State) → Is (ED.row E) r (u ∷ []) → tell r ≡ over (f n) h → Leaves (tell r) s
+      exits : (r : E .D) (u : Val) (s : State) → Is (ED.row E) r (u ∷ []) → tell r ≡ overReader (f n) h → Leaves (tell r) s
           → ent 𝓤 (⋆ 𝓤 H A (‵ (fobs γ (B κ′ .coded .code (moved h s))) ∷ ‵ (fbor κ (Body (mem (B κ′)) b o γ)) ∷ ‵ (flft κ q) ∷ (‵ (flft κ′ q′) ⊛ ‵ ftrue) ∷ [])) (Post u)
       exits r u s is e l =
           qed W (‵ (fobs γ (B κ′ .coded .code (moved h s))) ∷ ‵ (fbor κ (Body (mem (B κ′)) b o γ)) ∷ ‵ (flft κ q) ∷ (‵ (flft κ′ q′) ⊛ ‵ ftrue) ∷ []) ∵
@@ -150,7 +150,7 @@ module _ (E : ED.Declared) {X : Type 0} (tell : E .D → Read X) (f : ℕ → Li
             move ! (1 ∷ []) $ use1 W (‵ (Fields 𝓤 H A W κ′ h) ⊛ ‵ (Own 𝓤 H A W κ′ h)) (opened 𝓤 H A W κ′ h) $ split ! $ move ! (6 ∷ 0 ∷ 7 ∷ []) $ use3 W (raw (Core 𝓤 H A .pre to)) asked $
             calls-at ! fm (Core 𝓤 H A) known to (and-then ! (load ! (from ! (stop !)) (look ! 8 refl)) (and-then ! (load ! (from ! (stop !)) (look ! 6 refl)) (and-then ! (load ! (from ! (stop !)) (look ! 12 refl)) (no-more !)))) (λ u.
             use1 W (later (some (λ (r : E .D). ((‵ (flft κ′ q′) ⊛ ‵ ftrue) ⊛ ‵ (ED.row E .own r (u ∷ []))) ⊛ raw (ensured 𝓤 H A coreEnded (coreClauses 𝓤) (κ′, tt) a tt r)))) (id⊢ 𝓤 _) $ await ! tt $ pick ! (λ r.
-            split ! $ move ! (1 ∷ []) $ use1 W (raw (fact 𝓤 (tell r ≡ over (f n) h))) (said r) $ heard ! (tell r ≡ over (f n) h) (λ e. split ! $ move ! (1 ∷ []) $
+            split ! $ move ! (1 ∷ []) $ use1 W (raw (fact 𝓤 (tell r ≡ overReader (f n) h))) (said r) $ heard ! (tell r ≡ overReader (f n) h) (λ e. split ! $ move ! (1 ∷ []) $
             -- [the answer; 'a's token; what the struct owns; its cell; the open borrow; obs; auth; _5; …]
             peeks ! (ED.row E) (Is (ED.row E)) (shows 𝓤 H A (ED.row E)) r (u ∷ []) (λ is. land ! (from ! (stop !)) (init ! 11 refl (EL.lawful E L 𝓤 H A W few .typed r _ is .0)) $
             use1 W (raw (After E tell 𝓤 H A .pre (to-after 𝓤 H A W E tell r u))) (asked-after 𝓤 H A W E tell r u) $

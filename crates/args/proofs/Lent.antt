@@ -44,9 +44,9 @@ use Rattle.params.specs.Answer.{Read}
 use Rattle.params.specs.declared.State.{State}
 use Rattle.params.proofs.State as St
 use Rattle.params.proofs.State.Laws as St′
-use Rattle.after.specs.Leaving.{Leaves}
+use Rattle.reader_after.specs.Leaving.{Leaves}
 use Rattle.args.specs.declared.Args.{Args}
-use Rattle.args.specs.Carried.{over, Says, Fills}
+use Rattle.args.specs.CarryingReader.{overReader, SaysOfReader, Fills}
 use Rattle.args.proofs.Args as T
 use Rattle.args.proofs.Args.Laws as T′
 use Rattle.args.proofs.Carry.{B, selfTy, fileTy, settled, begun, afterEnded, afterClauses, After, moved, D, K, Own, Fields, opened, put-state, held, spelled, fit, fit-spelled, to-after, asked-after, said-after}
@@ -134,7 +134,7 @@ module _ (R : RattleType) (E : ED.Declared) {X : Type 0} (tell : E .D → Read X
       asked = qed W ((‵ (flft κ′ q′) ⊛ ‵ (flft κ″ q″) ⊛ ‵ ftrue) ∷ ‵ (Fields 𝓤 H A W κ′ h) ∷ ‵ (fsep Lent ftrue) ∷ []) ∵
           move ! (1 ∷ []) $ fsplit ! $ move ! (1 ∷ []) $ fsplit ! $ move ! (0 ∷ 4 ∷ []) $ fjoin ! $ move ! (2 ∷ 0 ∷ []) $ fjoin ! $ move ! (2 ∷ 0 ∷ []) $ join ! $ frame ! $ drop ! $ done !
 
-      exits : (r : E .D) (u : Val) (s : State) (zs : List (R .Denot)) → Is (ED.row E) r (u ∷ []) → tell r ≡ over (f (length (m .now))) h → Says (left (m .now) zs) h → Leaves (tell r) s → length zs ≡ length (m .now)
+      exits : (r : E .D) (u : Val) (s : State) (zs : List (R .Denot)) → Is (ED.row E) r (u ∷ []) → tell r ≡ overReader (f (length (m .now))) h → SaysOfReader (left (m .now) zs) h → Leaves (tell r) s → length zs ≡ length (m .now)
           → ent 𝓤 (⋆ 𝓤 H A (‵ (fobs γ (B κ′ .coded .code (moved h s))) ∷ ‵ (fbor κ (Body (mem (B κ′)) b o γ)) ∷ ‵ (flft κ q) ∷ (‵ (flft κ′ q′) ⊛ ‵ (flft κ″ q″) ⊛ ‵ ftrue) ∷ ‵ (finally R (m .name) zs) ∷ [])) (Post u)
       exits r u s zs is e d l n =
           qed W (‵ (fobs γ (B κ′ .coded .code (moved h s))) ∷ ‵ (fbor κ (Body (mem (B κ′)) b o γ)) ∷ ‵ (flft κ q) ∷ (‵ (flft κ′ q′) ⊛ ‵ (flft κ″ q″) ⊛ ‵ ftrue) ∷ ‵ (finally R (m .name) zs) ∷ []) ∵
@@ -161,8 +161,8 @@ module _ (R : RattleType) (E : ED.Declared) {X : Type 0} (tell : E .D → Read X
             calls-at ! fm (Core 𝓤 H A) known to (and-then ! (load ! (from ! (stop !)) (look ! 12 refl)) (and-then ! (load ! (from ! (stop !)) (look ! 10 refl)) (and-then ! (load ! (from ! (stop !)) (look ! 6 refl)) (no-more !)))) (λ u.
             use1 W (later (some (λ (r : E .D). ((‵ (flft κ′ q′) ⊛ ‵ (flft κ″ q″) ⊛ ‵ ftrue) ⊛ ‵ (ED.row E .own r (u ∷ []))) ⊛ raw (ensured 𝓤 H A coreEnded (coreClauses 𝓤) (κ′, (κ″, tt)) a tt r)))) (id⊢ 𝓤 _) $ await ! tt $ pick ! (λ r.
             -- what the core's function ensures, at some last list
-            split ! $ move ! (1 ∷ []) $ use1 W (some (λ (zs : Unit {0} × (Unit {0} × (List (R .Denot) × Unit {0}))). ‵ (lasts coreEnded (κ′, (κ″, tt)) a zs) ⊛ (raw (fact 𝓤 (tell r ≡ over (f (length (m .now))) h)) ⊛ raw (fact 𝓤 (Says (left (m .now) (zs .1 .1 .0)) h))))) (id⊢ 𝓤 _) $ pick ! (λ zs.
-            split ! $ move ! (1 ∷ []) $ split ! $ heard ! (tell r ≡ over (f (length (m .now))) h) (λ e. heard ! (Says (left (m .now) (zs .1 .1 .0)) h) (λ d.
+            split ! $ move ! (1 ∷ []) $ use1 W (some (λ (zs : Unit {0} × (Unit {0} × (List (R .Denot) × Unit {0}))). ‵ (lasts coreEnded (κ′, (κ″, tt)) a zs) ⊛ (raw (fact 𝓤 (tell r ≡ overReader (f (length (m .now))) h)) ⊛ raw (fact 𝓤 (SaysOfReader (left (m .now) (zs .1 .1 .0)) h))))) (id⊢ 𝓤 _) $ pick ! (λ zs.
+            split ! $ move ! (1 ∷ []) $ split ! $ heard ! (tell r ≡ overReader (f (length (m .now))) h) (λ e. heard ! (SaysOfReader (left (m .now) (zs .1 .1 .0)) h) (λ d.
             fsplit ! $ drop ! $ fsplit ! $ drop ! $ fsplit ! $ fsplit ! $ move ! (1 ∷ []) $ feqL ! (λ n. move ! (2 ∷ []) $ split ! $ move ! (1 ∷ []) $
             -- [the answer; the other tokens; the last list; …; what the struct owns; its cell; the open borrow; obs; auth; _7; …]
             peeks ! (ED.row E) (Is (ED.row E)) (shows 𝓤 H A (ED.row E)) r (u ∷ []) (λ is. land ! (from ! (stop !)) (init ! 17 refl (EL.lawful E L 𝓤 H A W few .typed r _ is .0)) $

@@ -10,7 +10,7 @@ use lib.Ieee.{Float, binary64, toBits}
 use Rattle.reals.specs.Scalar.{realOf}
 use Rattle.reals.specs.Answer.{Answer}
 use Rattle.params.specs.Reader.{paramOf}
-use Rattle.params.specs.Answer.{Read, Span, mapped}
+use Rattle.params.specs.Answer.{Read, Span, readMapped}
 use Rattle.words.specs.Words.{nameAt, stringAt}
 use Rattle.words.specs.Room.{roomOf}
 use Rattle.words.specs.Answer.{Shown}
@@ -20,11 +20,11 @@ use Rattle.grids.specs.Grid.{Size, gridRead, howLarge, numbersOf, endsOf}
 
 -- `next_enum`: "a name between two dots, valid UTF-8"
 abbrev pub nextName : List ℕ → ℕ → ℕ → Read Span
-nextName s p e = mapped (nameAt s) (paramOf s p e)
+nextName s p e = readMapped (nameAt s) (paramOf s p e)
 
 -- `next_str`: "the text shown is that part of the file; otherwise a part of the lent output"
 abbrev pub nextText : ℕ → List ℕ → ℕ → ℕ → Read Shown
-nextText n s p e = mapped (stringAt s n) (paramOf s p e)
+nextText n s p e = readMapped (stringAt s n) (paramOf s p e)
 
 -- the text room after `next_str`; "lent rows and output keep their bytes, as does all room beyond an answer"
 abbrev pub textRoom : List ℕ → List ℕ → List ℕ → ℕ → ℕ → Type 0

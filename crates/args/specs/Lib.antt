@@ -1,3 +1,3 @@
-pub mod Carried
+pub mod CarryingReader
 pub mod Core
 pub mod Only

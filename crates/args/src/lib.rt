@@ -12,12 +12,12 @@ ghost use Rattle.scalars.specs.Answer.{nextOf, toldNextRef, toldNextOptRef, tol
 ghost use Rattle.words.specs.Answer.{toldNextName, toldNextText};
 ghost use Rattle.lists.specs.Answer.{toldNextList};
 ghost use Rattle.grids.specs.Grid.{toldNextGrid};
-ghost use Rattle.args.specs.Carried.{Opens, Forwards, Fills, FillsBoth};
+ghost use Rattle.args.specs.CarryingReader.{OpensReader, Forwards, Fills, FillsBoth};
 ghost use Rattle.args.specs.Core.{nextName, nextText, textRoom, nextList, listRoom, realRoom, nextGrid, gridRoom, realGridRoom, endsRoom};
 use grids::NextGrid;
 use lists::NextList;
 use params::Emptiness;
-use params::Opened;
+use params::OpenedReader;
 use params::Skipped;
 use params::State;
 use scalars::NextOptReal;
@@ -36,19 +36,19 @@ pub struct Args<'a> {
 
 // What opening a reader answers, and the reader: after 9 one that has nothing to read. (An enum that holds a reader is refused.)
 pub struct Opening<'a> {
-    pub opened: Opened,
+    pub opened: OpenedReader,
     pub args: Args<'a>,
 }
 
 impl<'a> Args<'a> {
     // A reader of the file from a place up to an end.
     pub fn new(file: &'a [u8], place: usize, end: usize) -> Opening<'a>
-        ensures { λ r. ⌜ Opens (file .entry) place end r ⌝ }
+        ensures { λ r. ⌜ OpensReader (file .entry) place end r ⌝ }
     {
         let opened = params::new(file, place, end);
         let args = Args {
             file,
-            at: after::opened(opened),
+            at: reader_after::opened(opened),
         };
         Opening { opened, args }
     }
@@ -65,7 +65,7 @@ impl<'a> Args<'a> {
         ensures { λ r. ⌜ Forwards emptyOf (now (self .entry)) (now (self .exit)) (toldEmptiness r) ⌝ }
     {
         let answer = params::is_empty(self.file, self.at);
-        self.at = after::emptiness(answer);
+        self.at = reader_after::emptiness(answer);
         answer
     }
 
@@ -74,7 +74,7 @@ impl<'a> Args<'a> {
         ensures { λ r. ⌜ Forwards skipOf (now (self .entry)) (now (self .exit)) (toldSkipped r) ⌝ }
     {
         let answer = params::skip(self.file, self.at);
-        self.at = after::skipped(answer);
+        self.at = reader_after::skipped(answer);
         answer
     }
 
@@ -83,7 +83,7 @@ impl<'a> Args<'a> {
         ensures { λ r. ⌜ Forwards (skipsOf n) (now (self .entry)) (now (self .exit)) (toldSkipped r) ⌝ }
     {
         let answer = params::skip_n(self.file, self.at, n);
-        self.at = after::skipped(answer);
+        self.at = reader_after::skipped(answer);
         answer
     }
 
@@ -91,7 +91,7 @@ impl<'a> Args<'a> {
         ensures { λ r. ⌜ Forwards (nextOf referenceOf) (now (self .entry)) (now (self .exit)) (toldNextRef r) ⌝ }
     {
         let answer = scalars::next_ref(self.file, self.at);
-        self.at = after::reference(answer);
+        self.at = reader_after::reference(answer);
         answer
     }
 
@@ -99,7 +99,7 @@ impl<'a> Args<'a> {
         ensures { λ r. ⌜ Forwards (nextOf (optionOf referenceOf)) (now (self .entry)) (now (self .exit)) (toldNextOptRef r) ⌝ }
     {
         let answer = scalars::next_opt_ref(self.file, self.at);
-        self.at = after::opt_reference(answer);
+        self.at = reader_after::opt_reference(answer);
         answer
     }
 
@@ -107,7 +107,7 @@ impl<'a> Args<'a> {
         ensures { λ r. ⌜ Forwards (nextOf wholeOf) (now (self .entry)) (now (self .exit)) (toldNextWhole r) ⌝ }
     {
         let answer = scalars::next_i64(self.file, self.at);
-        self.at = after::whole(answer);
+        self.at = reader_after::whole(answer);
         answer
     }
 
@@ -115,7 +115,7 @@ impl<'a> Args<'a> {
         ensures { λ r. ⌜ Forwards (nextOf realOf) (now (self .entry)) (now (self .exit)) (toldNextReal r) ⌝ }
     {
         let answer = scalars::next_f64(self.file, self.at);
-        self.at = after::real(answer);
+        self.at = reader_after::real(answer);
         answer
     }
 
@@ -123,7 +123,7 @@ impl<'a> Args<'a> {
         ensures { λ r. ⌜ Forwards (nextOf (optionOf realOf)) (now (self .entry)) (now (self .exit)) (toldNextOptReal r) ⌝ }
     {
         let answer = scalars::next_opt_f64(self.file, self.at);
-        self.at = after::opt_real(answer);
+        self.at = reader_after::opt_real(answer);
         answer
     }
 
@@ -131,7 +131,7 @@ impl<'a> Args<'a> {
         ensures { λ r. ⌜ Forwards (nextOf measureOf) (now (self .entry)) (now (self .exit)) (toldNextReal r) ⌝ }
     {
         let answer = scalars::next_measure_f64(self.file, self.at);
-        self.at = after::real(answer);
+        self.at = reader_after::real(answer);
         answer
     }
 
@@ -139,7 +139,7 @@ impl<'a> Args<'a> {
         ensures { λ r. ⌜ Forwards (nextOf truthOf) (now (self .entry)) (now (self .exit)) (toldNextTruth r) ⌝ }
     {
         let answer = scalars::next_bool(self.file, self.at);
-        self.at = after::truth(answer);
+        self.at = reader_after::truth(answer);
         answer
     }
 
@@ -147,7 +147,7 @@ impl<'a> Args<'a> {
         ensures { λ r. ⌜ Forwards nextName (now (self .entry)) (now (self .exit)) (toldNextName r) ⌝ }
     {
         let answer = words::next_enum(self.file, self.at);
-        self.at = after::name(answer);
+        self.at = reader_after::name(answer);
         answer
     }
 
@@ -156,7 +156,7 @@ impl<'a> Args<'a> {
         ensures { λ r. ⌜ Fills nextText textRoom (now (self .entry)) (now (self .exit)) (now (out .entry)) (now (out .exit)) (toldNextText r) ⌝ }
     {
         let answer = words::next_str(self.file, self.at, out);
-        self.at = after::text(answer);
+        self.at = reader_after::text(answer);
         answer
     }
 
@@ -164,7 +164,7 @@ impl<'a> Args<'a> {
         ensures { λ r. ⌜ Fills (nextList referenceOf) (listRoom referenceOf) (now (self .entry)) (now (self .exit)) (now (out .entry)) (now (out .exit)) (toldNextList r) ⌝ }
     {
         let answer = lists::next_ref_list(self.file, self.at, out);
-        self.at = after::list(answer);
+        self.at = reader_after::list(answer);
         answer
     }
 
@@ -172,7 +172,7 @@ impl<'a> Args<'a> {
         ensures { λ r. ⌜ Fills (nextList wholeOf) (listRoom wholeOf) (now (self .entry)) (now (self .exit)) (now (out .entry)) (now (out .exit)) (toldNextList r) ⌝ }
     {
         let answer = lists::next_i64_list(self.file, self.at, out);
-        self.at = after::list(answer);
+        self.at = reader_after::list(answer);
         answer
     }
 
@@ -180,7 +180,7 @@ impl<'a> Args<'a> {
         ensures { λ r. ⌜ Fills (nextList realOf) realRoom (now (self .entry)) (now (self .exit)) (now (out .entry)) (now (out .exit)) (toldNextList r) ⌝ }
     {
         let answer = lists::next_f64_list(self.file, self.at, out);
-        self.at = after::list(answer);
+        self.at = reader_after::list(answer);
         answer
     }
 
@@ -190,7 +190,7 @@ impl<'a> Args<'a> {
             (now (self .entry)) (now (self .exit)) (now (out .entry)) (now (out .exit)) (now (ends .entry)) (now (ends .exit)) (toldNextGrid r) ⌝ }
     {
         let answer = grids::next_ref_grid(self.file, self.at, out, ends);
-        self.at = after::grid(answer);
+        self.at = reader_after::grid(answer);
         answer
     }
 
@@ -199,7 +199,7 @@ impl<'a> Args<'a> {
             (now (self .entry)) (now (self .exit)) (now (out .entry)) (now (out .exit)) (now (ends .entry)) (now (ends .exit)) (toldNextGrid r) ⌝ }
     {
         let answer = grids::next_f64_grid(self.file, self.at, out, ends);
-        self.at = after::grid(answer);
+        self.at = reader_after::grid(answer);
         answer
     }
 }

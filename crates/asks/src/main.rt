@@ -51,7 +51,7 @@ fn lend(
     ends: &mut [usize; 1],
     out: &mut [u8; CHUNK],
 ) {
-    turns::all(
+    compare_output::all(
         chunk,
         file,
         heads,
@@ -63,7 +63,7 @@ fn lend(
         reals,
         ends,
         out,
-        lines::COUNTS,
+        compare_lines::COUNTS,
         0,
     );
 }

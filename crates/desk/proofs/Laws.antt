@@ -4,7 +4,7 @@ use mathlib.Core.Path.{_≡_, refl, _∙_}
 use mathlib.Core.List.{List, _++_, append-assoc}
 use native.Mathlib.Omega.{arith}
 use lib.ListN.{length, length-append}
-use Rattle.text.specs.Put.{Put}
+use Rattle.printing.specs.Put.{Put}
 
 -- first a, and then b
 pub put-then : (old mid new a b : List ℕ) (used used′ now : ℕ) → length mid ≡ length old → Put old used a mid used′ → Put mid used′ b new now → Put old used (a ++ b) new now

@@ -3,7 +3,7 @@ use Prim.Native.Nat.{ℕ, _≤_, _<_}
 use mathlib.Core.List.{List, [], _∷_, _++_}
 use Rattle.io.specs.Digits.{digits, Fewest}
 use Rattle.common.specs.Bytes.{bytes}
-use Rattle.text.specs.Put.{Put}
+use Rattle.printing.specs.Put.{Put}
 
 -- Behind what a buffer holds: of one record nothing; of n records `the last of n records with this id`, and a line end.
 pub record Superseded (old : List ℕ) (used n : ℕ) (new : List ℕ) (now : ℕ) : Type 0 where

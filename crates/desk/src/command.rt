@@ -15,9 +15,9 @@ pub enum Job {
     Over,
 }
 
-pub struct Course {
+pub struct TaskCourse {
     pub job: Job,
-    pub task: Word,
+    pub task: TaskWord,
     // The id of the record to show.
     pub id: u32,
     // The argument that names the file; standard input is read where it is 0.
@@ -29,7 +29,7 @@ pub struct Course {
 }
 
 // What an argument may be.
-pub enum Word {
+pub enum TaskWord {
     List,
     Scale,
     Show,
@@ -45,16 +45,16 @@ enum Id {
 }
 
 // What the first argument asks for. Where it is no task's word, all usage is told, and nothing else is done.
-pub fn start() -> Course {
+pub fn start() -> TaskCourse {
     let first = argument(1);
     if is_task(first) {
         return begun(1, first);
     }
-    usage(Word::Other, usize::MAX)
+    usage(TaskWord::Other, usize::MAX)
 }
 
 // What comes after.
-pub fn after(last: Course) -> Course {
+pub fn after(last: TaskCourse) -> TaskCourse {
     let at = last.next;
     let word = argument(at);
     if is_task(word) {
@@ -62,7 +62,7 @@ pub fn after(last: Course) -> Course {
     }
     let job = last.job;
     let task = last.task;
-    Course {
+    TaskCourse {
         job: behind(job, word),
         task,
         id: last.id,
@@ -73,7 +73,7 @@ pub fn after(last: Course) -> Course {
 }
 
 // What is done with an argument that is no task's word.
-fn behind(last: Job, word: Word) -> Job {
+fn behind(last: Job, word: TaskWord) -> Job {
     if !is_file(word) {
         return Job::Over;
     }
@@ -83,7 +83,7 @@ fn behind(last: Job, word: Word) -> Job {
     }
 }
 
-pub fn is_over(at: Course) -> bool {
+pub fn is_over(at: TaskCourse) -> bool {
     let job = at.job;
     match job {
         Job::Over => true,
@@ -92,21 +92,21 @@ pub fn is_over(at: Course) -> bool {
 }
 
 // The task whose word an argument is.
-fn begun(at: usize, word: Word) -> Course {
+fn begun(at: usize, word: TaskWord) -> TaskCourse {
     let first = std::num::wrapping_add_usize(at, 1);
     let behind = argument(first);
-    if let Word::Help = behind {
+    if let TaskWord::Help = behind {
         return usage(word, first);
     }
     match word {
-        Word::Show => shown(first),
+        TaskWord::Show => shown(first),
         _ => of(word, 0, first),
     }
 }
 
 // The usage of a task's word, or of all. What follows up to the next such word is passed over.
-fn usage(word: Word, next: usize) -> Course {
-    Course {
+fn usage(word: TaskWord, next: usize) -> TaskCourse {
+    TaskCourse {
         job: Job::Usage,
         task: word,
         id: 0,
@@ -117,7 +117,7 @@ fn usage(word: Word, next: usize) -> Course {
 }
 
 // A task whose first file may be an argument.
-fn of(task: Word, id: u32, first: usize) -> Course {
+fn of(task: TaskWord, id: u32, first: usize) -> TaskCourse {
     if is_file(argument(first)) {
         let second = std::num::wrapping_add_usize(first, 1);
         return over(task, id, first, is_file(argument(second)), second);
@@ -125,8 +125,8 @@ fn of(task: Word, id: u32, first: usize) -> Course {
     over(task, id, 0, false, first)
 }
 
-fn over(task: Word, id: u32, argument: usize, several: bool, next: usize) -> Course {
-    Course {
+fn over(task: TaskWord, id: u32, argument: usize, several: bool, next: usize) -> TaskCourse {
+    TaskCourse {
         job: Job::File,
         task,
         id,
@@ -137,12 +137,12 @@ fn over(task: Word, id: u32, argument: usize, several: bool, next: usize) -> Cou
 }
 
 // The task to show a record whose id an argument gives.
-fn shown(at: usize) -> Course {
+fn shown(at: usize) -> TaskCourse {
     let mut room = io::buffer();
     let n = os::arg(at, &mut room);
     match identified(&room[..n]) {
-        Id::Is(id) => of(Word::Show, id, std::num::wrapping_add_usize(at, 1)),
-        Id::Bad => usage(Word::Show, at),
+        Id::Is(id) => of(TaskWord::Show, id, std::num::wrapping_add_usize(at, 1)),
+        Id::Bad => usage(TaskWord::Show, at),
     }
 }
 
@@ -194,48 +194,48 @@ fn digit(b: u8) -> u64
     (b - b'0') as u64
 }
 
-fn argument(at: usize) -> Word {
+fn argument(at: usize) -> TaskWord {
     let mut room = io::buffer();
     let n = os::arg(at, &mut room);
     if os::arg_count() <= at {
-        return Word::Missing;
+        return TaskWord::Missing;
     }
     named(&room[..n])
 }
 
-fn named(t: &[u8]) -> Word {
+fn named(t: &[u8]) -> TaskWord {
     if record::same_bytes(t, b"-h") || record::same_bytes(t, b"--help") {
-        return Word::Help;
+        return TaskWord::Help;
     }
     task_named(t)
 }
 
-fn task_named(t: &[u8]) -> Word {
+fn task_named(t: &[u8]) -> TaskWord {
     if record::same_bytes(t, b"list") {
-        return Word::List;
+        return TaskWord::List;
     }
     if record::same_bytes(t, b"scale") {
-        return Word::Scale;
+        return TaskWord::Scale;
     }
     if record::same_bytes(t, b"show") {
-        return Word::Show;
+        return TaskWord::Show;
     }
     if record::same_bytes(t, b"inspect") {
-        return Word::Inspect;
+        return TaskWord::Inspect;
     }
-    Word::Other
+    TaskWord::Other
 }
 
-fn is_task(word: Word) -> bool {
+fn is_task(word: TaskWord) -> bool {
     match word {
-        Word::List | Word::Scale | Word::Show | Word::Inspect => true,
+        TaskWord::List | TaskWord::Scale | TaskWord::Show | TaskWord::Inspect => true,
         _ => false,
     }
 }
 
-fn is_file(word: Word) -> bool {
+fn is_file(word: TaskWord) -> bool {
     match word {
-        Word::Help | Word::Other => true,
+        TaskWord::Help | TaskWord::Other => true,
         _ => false,
     }
 }

@@ -1,10 +1,10 @@
 // All that is said of a file, by patterns, and the one place where it is put.
 ghost use Rattle.desk.specs.Superseded.{Superseded};
-use crate::command::Word;
+use crate::command::TaskWord;
 use crate::walk;
-use crate::walk::Step;
-use text::Line;
-use text::Pen;
+use crate::walk::LineStep;
+use printing::Line;
+use printing::Pen;
 
 // The patterns, by their lines in the table.
 pub const ROW: usize = 1;
@@ -119,13 +119,13 @@ fn patterns() -> [u8; 2297] {
 }
 
 // Puts a line and those behind it, of a file and its rows.
-pub fn say(file: &[u8], rows: &[u32], first: Step, out: &mut [u8], pen: Pen) -> Pen {
+pub fn say(file: &[u8], rows: &[u32], first: LineStep, out: &mut [u8], pen: Pen) -> Pen {
     let table = patterns();
     let mut last = pen;
     let mut step = first;
     let mut turns = u64::MAX;
     while turns > 0 && !walk::is_over(step) {
-        let put = text::form(out, last, &table, file, step.line);
+        let put = printing::form(out, last, &table, file, step.line);
         last = superseded(out, put, walk::times(step));
         step = walk::next(file, rows, step);
         turns -= 1;
@@ -136,7 +136,7 @@ pub fn say(file: &[u8], rows: &[u32], first: Step, out: &mut [u8], pen: Pen) -> 
 // Puts one line that speaks of no bytes of a file.
 pub fn told(l: Line, out: &mut [u8], pen: Pen) -> Pen {
     let table = patterns();
-    text::form(out, pen, &table, b"", l)
+    printing::form(out, pen, &table, b"", l)
 }
 
 // Where an id stands more than once, that its last record is shown.
@@ -146,18 +146,18 @@ fn superseded(out: &mut [u8], pen: Pen, n: usize) -> Pen
     if n < 2 {
         return pen;
     }
-    let a = text::bytes(out, pen, b"the last of ");
-    let b = text::decimal(out, a, n as u64);
-    text::bytes(out, b, b" records with this id\n")
+    let a = printing::bytes(out, pen, b"the last of ");
+    let b = printing::decimal(out, a, n as u64);
+    printing::bytes(out, b, b" records with this id\n")
 }
 
 // What a task's word is for, or all of them.
-pub fn usage(what: Word) -> Line {
+pub fn usage(what: TaskWord) -> Line {
     match what {
-        Word::List => of(USAGE, USAGES, USAGES + 4),
-        Word::Scale => of(USAGE, USAGES + 1, USAGES + 4),
-        Word::Show => of(USAGE, USAGES + 2, USAGES + 4),
-        Word::Inspect => of(USAGE, USAGES + 3, USAGES + 4),
+        TaskWord::List => of(USAGE, USAGES, USAGES + 4),
+        TaskWord::Scale => of(USAGE, USAGES + 1, USAGES + 4),
+        TaskWord::Show => of(USAGE, USAGES + 2, USAGES + 4),
+        TaskWord::Inspect => of(USAGE, USAGES + 3, USAGES + 4),
         _ => line(
             ALL_USAGE,
             USAGES,

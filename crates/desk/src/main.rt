@@ -13,22 +13,22 @@ mod walk;
 mod work;
 
 ghost use Rattle.io.specs.Counts.{Counts};
-use command::Course;
 use command::Job;
-use command::Word;
-use input::Opened;
-use text::Line;
-use text::Pen;
+use command::TaskCourse;
+use command::TaskWord;
+use input::OpenedInput;
+use printing::Line;
+use printing::Pen;
 
 fn main() {
     let mut out = io::large_buffer();
     let said = tasks(input::stack_limit(), &mut out);
-    text::finish(&out, said);
+    printing::finish(&out, said);
 }
 
 // Does what the command line asks, one file after the other: all of them, or as many as 64 bits count.
 fn tasks(limit: u64, out: &mut [u8]) -> Pen {
-    let mut last = text::fresh();
+    let mut last = printing::fresh();
     let mut at = command::start();
     let mut turns = u64::MAX;
     while turns > 0 && !command::is_over(at) {
@@ -39,7 +39,7 @@ fn tasks(limit: u64, out: &mut [u8]) -> Pen {
     last
 }
 
-fn turn(limit: u64, at: Course, out: &mut [u8], pen: Pen) -> Pen {
+fn turn(limit: u64, at: TaskCourse, out: &mut [u8], pen: Pen) -> Pen {
     let job = at.job;
     let task = at.task;
     match job {
@@ -50,12 +50,12 @@ fn turn(limit: u64, at: Course, out: &mut [u8], pen: Pen) -> Pen {
 }
 
 // Does a task over the file that an argument names, or over standard input where that is 0.
-fn over_file(limit: u64, at: Course, out: &mut [u8], pen: Pen) -> Pen {
+fn over_file(limit: u64, at: TaskCourse, out: &mut [u8], pen: Pen) -> Pen {
     let task = at.task;
     let mut name = io::buffer();
     let opened = open(at.argument, &mut name);
     let n = opened.name;
-    let titled = text::form(
+    let titled = printing::form(
         out,
         pen,
         b"%b:%n\n%b: ",
@@ -67,11 +67,11 @@ fn over_file(limit: u64, at: Course, out: &mut [u8], pen: Pen) -> Pen {
     said
 }
 
-fn open(argument: usize, name: &mut [u8]) -> Opened
+fn open(argument: usize, name: &mut [u8]) -> OpenedInput
     ensures { λ r. ⌜ Counts (r .name) (now (name .exit)) ⌝ }
 {
     if argument == 0 {
-        return Opened {
+        return OpenedInput {
             fd: libc::STDIN_FILENO,
             name: 0,
         };
@@ -94,11 +94,11 @@ const BEFORE: usize = 2;
 const UNTOLD: usize = 0;
 
 // A file's name: before each verdict, and on a line of its own where there are several.
-fn title(task: Word, several: bool, n: usize) -> Line {
+fn title(task: TaskWord, several: bool, n: usize) -> Line {
     if n == 0 {
         return lines::of(UNTOLD, 0, 0);
     }
-    if let Word::Inspect = task {
+    if let TaskWord::Inspect = task {
         return lines::of(BEFORE, 0, n as u64);
     }
     if several {

@@ -6,7 +6,7 @@
 // reader does. Where there is none, `about` and fifteen digits are put. The bits beside it are what counts.
 ghost use Prim.Native.Nat.{_≤_};
 use crate::lines;
-use text::Line;
+use printing::Line;
 
 const POWERS: [f64; 23] = [
     1.0,
@@ -197,7 +197,7 @@ fn long_below(x: f64, most: f64) -> Digits {
 }
 
 fn read_back(x: f64, m: u64, k: usize) -> Digits {
-    if wide::lowered(false, m, k) == x {
+    if wide_reals::lowered(false, m, k) == x {
         return Digits::Are(m, 0, k);
     }
     Digits::Nothing

@@ -2,10 +2,10 @@
 //
 // A file is read into rooms for 1 MiB. One that is larger, or has more records than these rooms, or of which the size is not told, is read
 // into rooms for 64 MiB, where the stack limit allows them (`ulimit -s`; the script `step` raises it).
-use crate::command::Word;
+use crate::command::TaskWord;
 use crate::lines;
 use crate::walk;
-use crate::walk::Step;
+use crate::walk::LineStep;
 use crate::work;
 use input::FEW_HEADERS;
 use input::LARGE_FILE;
@@ -15,8 +15,8 @@ use input::LARGE_SLOTS;
 use input::MIDDLE_FILE;
 use input::MIDDLE_ROWS;
 use input::MIDDLE_SLOTS;
-use text::Line;
-use text::Pen;
+use printing::Line;
+use printing::Pen;
 
 // What the large rooms take of the stack, with something over.
 const NEEDED: u64 = 188000000;
@@ -28,7 +28,7 @@ struct Said {
 }
 
 // Does a task over what a descriptor reads, which is below 0 where nothing could be opened.
-pub fn read(limit: u64, task: Word, id: u32, fd: i32, out: &mut [u8], pen: Pen) -> Pen {
+pub fn read(limit: u64, task: TaskWord, id: u32, fd: i32, out: &mut [u8], pen: Pen) -> Pen {
     if fd < 0 {
         return lines::told(lines::bare(lines::UNOPENED), out, pen);
     }
@@ -40,7 +40,7 @@ pub fn read(limit: u64, task: Word, id: u32, fd: i32, out: &mut [u8], pen: Pen) 
 }
 
 // The same where there are large rooms for a file that outgrows the small ones.
-fn grown(limit: u64, task: Word, id: u32, fd: i32, out: &mut [u8], pen: Pen) -> Pen {
+fn grown(limit: u64, task: TaskWord, id: u32, fd: i32, out: &mut [u8], pen: Pen) -> Pen {
     if input::size(fd) >= MIDDLE_FILE as u64 {
         return large(limit, task, id, fd, out, pen);
     }
@@ -53,7 +53,7 @@ fn grown(limit: u64, task: Word, id: u32, fd: i32, out: &mut [u8], pen: Pen) -> 
     said.pen
 }
 
-fn small(grows: bool, task: Word, id: u32, fd: i32, out: &mut [u8], pen: Pen) -> Said {
+fn small(grows: bool, task: TaskWord, id: u32, fd: i32, out: &mut [u8], pen: Pen) -> Said {
     let mut file = [0u8; MIDDLE_FILE];
     let mut headers = [0u32; FEW_HEADERS];
     let mut rows = [0u32; MIDDLE_ROWS];
@@ -75,7 +75,7 @@ fn small(grows: bool, task: Word, id: u32, fd: i32, out: &mut [u8], pen: Pen) ->
 // An array behind a reference is lent as a slice with no proof of its length.
 fn lend_small(
     grows: bool,
-    task: Word,
+    task: TaskWord,
     id: u32,
     fd: i32,
     file: &mut [u8; MIDDLE_FILE],
@@ -90,7 +90,7 @@ fn lend_small(
 
 // No descriptor is the largest number, so it never calls itself; but since it might, the compiler keeps its frame apart from its caller's,
 // which else would have these rooms in every run of the program.
-fn large(limit: u64, task: Word, id: u32, fd: i32, out: &mut [u8], pen: Pen) -> Pen {
+fn large(limit: u64, task: TaskWord, id: u32, fd: i32, out: &mut [u8], pen: Pen) -> Pen {
     let mut file = [0u8; LARGE_FILE];
     let mut headers = [0u32; LARGE_HEADERS];
     let mut rows = [0u32; LARGE_ROWS];
@@ -116,7 +116,7 @@ fn large(limit: u64, task: Word, id: u32, fd: i32, out: &mut [u8], pen: Pen) -> 
 }
 
 fn lend_large(
-    task: Word,
+    task: TaskWord,
     id: u32,
     fd: i32,
     file: &mut [u8; LARGE_FILE],
@@ -133,7 +133,7 @@ fn lend_large(
 // Does the task within these rooms, which larger ones may follow.
 fn within(
     grows: bool,
-    task: Word,
+    task: TaskWord,
     id: u32,
     fd: i32,
     file: &mut [u8],
@@ -157,7 +157,7 @@ fn within(
 // The same over a file's bytes.
 fn answered(
     grows: bool,
-    task: Word,
+    task: TaskWord,
     id: u32,
     t: &[u8],
     headers: &mut [u32],
@@ -205,13 +205,13 @@ fn too_large(size: u64, more: u64, most: u64) -> Line {
 }
 
 // Whether it is that the rooms for rows end.
-fn is_outgrown(s: Step) -> bool {
+fn is_outgrown(s: LineStep) -> bool {
     let l = s.line;
     l.pattern == lines::REFUSED && l.a == 8
 }
 
 // What is told of it.
-fn settled(task: Word, file: &[u8], headers: usize, rows: usize, s: Step) -> Step {
+fn settled(task: TaskWord, file: &[u8], headers: usize, rows: usize, s: LineStep) -> LineStep {
     let l = s.line;
     if l.pattern == lines::REFUSED {
         return walk::only(refused(task, file, headers, rows, l));
@@ -221,11 +221,11 @@ fn settled(task: Word, file: &[u8], headers: usize, rows: usize, s: Step) -> Ste
 
 // A refusal: of 8, which speaks of rows that were lent, that the program's room ends and the file may be a good one; of another, where a
 // verdict is asked, with the line and the column.
-fn refused(task: Word, file: &[u8], headers: usize, rows: usize, l: Line) -> Line {
+fn refused(task: TaskWord, file: &[u8], headers: usize, rows: usize, l: Line) -> Line {
     if l.a == 8 {
         return too_many(l.c, table::headers_fit(headers), table::rows_fit(rows));
     }
-    if let Word::Inspect = task {
+    if let TaskWord::Inspect = task {
         return work::refused_at(file, l);
     }
     l

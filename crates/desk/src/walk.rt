@@ -29,15 +29,15 @@ use crate::lines::ROW;
 use crate::numerals;
 use crate::work;
 use error::Fault;
-use params::Cut;
+use params::NextParam;
 use params::State;
 use parts::Next;
+use printing::Line;
 use statement::HeaderSpan;
-use text::Line;
 use units::Values;
 
 // A line, and the values of units that are told behind it.
-pub struct Step {
+pub struct LineStep {
     pub line: Line,
     // The next value and the one after it.
     pub x: f64,
@@ -47,8 +47,8 @@ pub struct Step {
 }
 
 // A line with no values behind it.
-pub fn only(line: Line) -> Step {
-    Step {
+pub fn only(line: Line) -> LineStep {
+    LineStep {
         line,
         x: 0.0,
         y: 0.0,
@@ -56,13 +56,13 @@ pub fn only(line: Line) -> Step {
     }
 }
 
-pub fn is_over(s: Step) -> bool {
+pub fn is_over(s: LineStep) -> bool {
     let l = s.line;
     l.pattern == NOTHING && l.h == 0
 }
 
 // How many records have the id, where a record's line is told.
-pub fn times(s: Step) -> usize {
+pub fn times(s: LineStep) -> usize {
     let l = s.line;
     let pattern = l.pattern;
     match pattern {
@@ -71,7 +71,7 @@ pub fn times(s: Step) -> usize {
     }
 }
 
-pub fn next(file: &[u8], rows: &[u32], s: Step) -> Step {
+pub fn next(file: &[u8], rows: &[u32], s: LineStep) -> LineStep {
     let l = s.line;
     let pattern = l.pattern;
     match pattern {
@@ -82,8 +82,8 @@ pub fn next(file: &[u8], rows: &[u32], s: Step) -> Step {
 }
 
 // The three values, and whether the file gives them.
-pub fn values(v: Values) -> Step {
-    Step {
+pub fn values(v: Values) -> LineStep {
+    LineStep {
         line: numerals::line(0, v.length),
         x: v.angle,
         y: v.tolerance,
@@ -91,13 +91,13 @@ pub fn values(v: Values) -> Step {
     }
 }
 
-fn next_value(s: Step) -> Step {
+fn next_value(s: LineStep) -> LineStep {
     let l = s.line;
     let what = std::num::wrapping_sub_u64(std::num::wrapping_add_u64(l.a, 1), lines::WHATS);
     if what > 2 {
         return only(resolution(s.resolved));
     }
-    Step {
+    LineStep {
         line: numerals::line(what, s.x),
         x: s.y,
         y: 0.0,
@@ -158,8 +158,8 @@ fn parameter(file: &[u8], place: u64, end: u64, number: u64, stop: u64, told: u6
         end: end as usize,
     };
     match params::param_span(file, at) {
-        Cut::Span(a, z, next) => parameter_line(number, a as u64, z as u64, next, stop, told),
-        Cut::Refused(f, _) => no_parameter(f, number, end, stop, told),
+        NextParam::Span(a, z, next) => parameter_line(number, a as u64, z as u64, next, stop, told),
+        NextParam::Refused(f, _) => no_parameter(f, number, end, stop, told),
     }
 }
 

@@ -1,26 +1,26 @@
 // What a task finds in a file's bytes: the first line of what is said of it, with what it takes to find those behind it.
-use crate::command::Word;
+use crate::command::TaskWord;
 use crate::lines;
 use crate::walk;
-use crate::walk::Step;
+use crate::walk::LineStep;
 use error::Fault;
+use line_column::LineColumn;
+use printing::Line;
 use scan::Scanned;
 use serve::Served;
-use spots::Place;
 use statement::RecordSpan;
-use text::Line;
 use units::Resolved;
 
 // What the task finds. The rooms are lent for header rows, data rows and id slots.
 pub fn answer(
-    task: Word,
+    task: TaskWord,
     id: u32,
     file: &[u8],
     headers: &mut [u32],
     rows: &mut [u32],
     slots: &mut [u64],
-) -> Step {
-    if let Word::Scale = task {
+) -> LineStep {
+    if let TaskWord::Scale = task {
         return valued(serve::units_of(file, headers, rows, slots));
     }
     walk::only(scanned(task, id, file, headers, rows, slots))
@@ -28,7 +28,7 @@ pub fn answer(
 
 // What a scan finds, or the record that is asked for.
 fn scanned(
-    task: Word,
+    task: TaskWord,
     id: u32,
     file: &[u8],
     headers: &mut [u32],
@@ -37,7 +37,7 @@ fn scanned(
 ) -> Line {
     let most = table::rows_fit(rows.len());
     let counts = scan::scan(file, headers, rows, most);
-    if let Word::Show = task {
+    if let TaskWord::Show = task {
         let n = times(id, rows, counts);
         return shown(
             id,
@@ -49,7 +49,7 @@ fn scanned(
     counted(task, file.len(), counts)
 }
 
-fn valued(u: Resolved) -> Step {
+fn valued(u: Resolved) -> LineStep {
     match u {
         Resolved::Refused(f) => walk::only(refusal(f)),
         Resolved::Is(v) => walk::values(v),
@@ -120,7 +120,7 @@ fn titled(file: &[u8], w: RecordSpan, times: u64) -> Line {
 }
 
 // What a scan counts: `records N max M`, or that the file is accepted.
-fn counted(task: Word, length: usize, counts: Scanned) -> Line {
+fn counted(task: TaskWord, length: usize, counts: Scanned) -> Line {
     match counts {
         Scanned::Refused(f) => refusal(f),
         Scanned::Rows {
@@ -131,8 +131,8 @@ fn counted(task: Word, length: usize, counts: Scanned) -> Line {
     }
 }
 
-fn accounted(task: Word, h: u64, n: u64, max: u64, length: u64) -> Line {
-    if let Word::List = task {
+fn accounted(task: TaskWord, h: u64, n: u64, max: u64, length: u64) -> Line {
+    if let TaskWord::List = task {
         return lines::of(lines::COUNTS, n, max);
     }
     accepted(h, n, max, length)
@@ -178,11 +178,11 @@ pub fn refused_at(file: &[u8], l: Line) -> Line {
 }
 
 // Where a place stands, by line and column.
-pub fn spot(file: &[u8], place: usize) -> Place {
+pub fn spot(file: &[u8], place: usize) -> LineColumn {
     if place <= file.len() {
-        return spots::spot(&file[..place]);
+        return line_column::spot(&file[..place]);
     }
-    Place { line: 0, column: 0 }
+    LineColumn { line: 0, column: 0 }
 }
 
 // A count from 0 as one from 1.

@@ -5,7 +5,7 @@ use mathlib.Core.Bool.{Bool, true, false}
 use mathlib.Core.List.{List, [], _∷_}
 use Rattle.record.specs.Byte.{digit}
 use Rattle.record.specs.Form.{All, valueOf}
-use Rattle.eights.specs.Fields.{fieldsBy, Each}
+use Rattle.eights.specs.Fields.{fieldsBy, EachNumber}
 use Rattle.eights.specs.Told.{EightTold}
 use Rattle.eights.specs.declared.Eight.{Eight}
 use Rattle.eights.specs.declared.Eight.the-variants.{Digits, Other}
@@ -27,13 +27,13 @@ abbrev pub eightOf : ℕ → ℕ → ℕ → ℕ → ℕ → ℕ → ℕ → ℕ
 eightOf a b c d e f g h = a ∷ b ∷ c ∷ d ∷ e ∷ f ∷ g ∷ h ∷ []
 
 -- a test answers r, which tells whether A holds
-abbrev pub Says : Bool → Type 0 → Type 0
-Says true A = A
-Says false A = A → ⊥
+abbrev pub TestSays : Bool → Type 0 → Type 0
+TestSays true A = A
+TestSays false A = A → ⊥
 
 -- the test tells of any eight bytes that w joins whether they are digits
-abbrev pub Tells : ℕ → Bool → Type 0
-Tells w r = (a b c d e f g h : ℕ) → Each (λ (x : ℕ). x < 2 ^ 8) (eightOf a b c d e f g h) → w ≡ joinedOf (eightOf a b c d e f g h) → Says r (All digit (eightOf a b c d e f g h))
+abbrev pub DigitsTest : ℕ → Bool → Type 0
+DigitsTest w r = (a b c d e f g h : ℕ) → EachNumber (λ (x : ℕ). x < 2 ^ 8) (eightOf a b c d e f g h) → w ≡ joinedOf (eightOf a b c d e f g h) → TestSays r (All digit (eightOf a b c d e f g h))
 
 -- where w joins eight digits, v is the number that they make
 abbrev pub Makes : ℕ → ℕ → Type 0

@@ -8,17 +8,17 @@ use lib.ListN.{length}
 use lib.Pow.{pow-pos}
 
 -- P holds of each entry of a list
-abbrev pub Each : (ℕ → Type 0) → List ℕ → Type 0
-Each P [] = Unit {0}
-Each P (b ∷ bs) = P b × Each P bs
+abbrev pub EachNumber : (ℕ → Type 0) → List ℕ → Type 0
+EachNumber P [] = Unit {0}
+EachNumber P (b ∷ bs) = P b × EachNumber P bs
 
 -- where P gives Q, and P holds of each entry, Q does
-pub each-map : {P Q : ℕ → Type 0} → ((b : ℕ) → P b → Q b) → (bs : List ℕ) → Each P bs → Each Q bs
+pub each-map : {P Q : ℕ → Type 0} → ((b : ℕ) → P b → Q b) → (bs : List ℕ) → EachNumber P bs → EachNumber Q bs
 each-map f [] h = tt
 each-map f (b ∷ bs) h = (f b (h .0), each-map f bs (h .1))
 
 -- where P and Q give R, and both hold of each entry, R does
-pub each-two : {P Q R : ℕ → Type 0} → ((b : ℕ) → P b → Q b → R b) → (bs : List ℕ) → Each P bs → Each Q bs → Each R bs
+pub each-two : {P Q R : ℕ → Type 0} → ((b : ℕ) → P b → Q b → R b) → (bs : List ℕ) → EachNumber P bs → EachNumber Q bs → EachNumber R bs
 each-two f [] h k = tt
 each-two f (b ∷ bs) h k = (f b (h .0) (k .0), each-two f bs (h .1) (k .1))
 
@@ -29,21 +29,21 @@ module _ (s : ℕ) where
   fieldsBy f (b ∷ bs) = fieldsBy f bs * 2 ^ s + f b
 
   -- n fields that are all v
-  abbrev pub same : ℕ → ℕ → ℕ
-  same v zero = 0
-  same v (suc n) = same v n * 2 ^ s + v
+  abbrev pub equalFields : ℕ → ℕ → ℕ
+  equalFields v zero = 0
+  equalFields v (suc n) = equalFields v n * 2 ^ s + v
 
   -- a mask that is the same in each field masks each field
-  pub and-fields : (f : ℕ → ℕ) (v : ℕ) → v < 2 ^ s → (bs : List ℕ) → Each (λ (b : ℕ). f b < 2 ^ s) bs → bitAnd (fieldsBy f bs) (same v (length bs)) ≡ fieldsBy (λ (b : ℕ). bitAnd (f b) v) bs
+  pub and-fields : (f : ℕ → ℕ) (v : ℕ) → v < 2 ^ s → (bs : List ℕ) → EachNumber (λ (b : ℕ). f b < 2 ^ s) bs → bitAnd (fieldsBy f bs) (equalFields v (length bs)) ≡ fieldsBy (λ (b : ℕ). bitAnd (f b) v) bs
   and-fields f v l [] h = and-zero-l 0
   and-fields f v l (b ∷ bs) h =
-      and-block s (fieldsBy f bs) (same v (length bs)) (f b) v (h .0) l ∙ ap (λ (n : ℕ). n * 2 ^ s + bitAnd (f b) v) (and-fields f v l bs (h .1))
+      and-block s (fieldsBy f bs) (equalFields v (length bs)) (f b) v (h .0) l ∙ ap (λ (n : ℕ). n * 2 ^ s + bitAnd (f b) v) (and-fields f v l bs (h .1))
 
   -- v added to each field is one sum with v in each field
-  pub sum-fields : (f : ℕ → ℕ) (v : ℕ) (bs : List ℕ) → fieldsBy f bs + same v (length bs) ≡ fieldsBy (λ (b : ℕ). f b + v) bs
+  pub sum-fields : (f : ℕ → ℕ) (v : ℕ) (bs : List ℕ) → fieldsBy f bs + equalFields v (length bs) ≡ fieldsBy (λ (b : ℕ). f b + v) bs
   sum-fields f v [] = refl
   sum-fields f v (b ∷ bs) =
-      sums (fieldsBy f bs) (same v (length bs)) (2 ^ s) (f b) v ∙ ap (λ (n : ℕ). n * 2 ^ s + (f b + v)) (sum-fields f v bs)
+      sums (fieldsBy f bs) (equalFields v (length bs)) (2 ^ s) (f b) v ∙ ap (λ (n : ℕ). n * 2 ^ s + (f b + v)) (sum-fields f v bs)
     where
       sums : (a b p u v : ℕ) → (a * p + u) + (b * p + v) ≡ (a + b) * p + (u + v)
       sums a b p u v =
@@ -51,29 +51,29 @@ module _ (s : ℕ) where
           ∙ ap (λ (n : ℕ). n + (u + v)) (sym (add-mul a b p))
 
   -- the lowest field of a number
-  pub lowest : (x u : ℕ) → u < 2 ^ s → (x * 2 ^ s + u) % 2 ^ s ≡ u
-  lowest x u h = mul-add-mod-self-right x (2 ^ s) u ∙ mod-eq-of-lt h
+  pub lowest-field : (x u : ℕ) → u < 2 ^ s → (x * 2 ^ s + u) % 2 ^ s ≡ u
+  lowest-field x u h = mul-add-mod-self-right x (2 ^ s) u ∙ mod-eq-of-lt h
 
   -- the fields above the lowest of a number
   pub others : (x u : ℕ) → u < 2 ^ s → (x * 2 ^ s + u) / 2 ^ s ≡ x
   others x u h = ap (λ (n : ℕ). n / 2 ^ s) (add-comm (x * 2 ^ s) u) ∙ add-mul-div-right u x (pow-pos s) ∙ ap (λ (n : ℕ). n + x) (div-eq-of-lt h) ∙ zero-add x
 
   -- where the fields are u all together, each is u
-  pub fields-same : (f : ℕ → ℕ) (u : ℕ) → u < 2 ^ s → (bs : List ℕ) → Each (λ (b : ℕ). f b < 2 ^ s) bs → fieldsBy f bs ≡ same u (length bs) → Each (λ (b : ℕ). f b ≡ u) bs
+  pub fields-same : (f : ℕ → ℕ) (u : ℕ) → u < 2 ^ s → (bs : List ℕ) → EachNumber (λ (b : ℕ). f b < 2 ^ s) bs → fieldsBy f bs ≡ equalFields u (length bs) → EachNumber (λ (b : ℕ). f b ≡ u) bs
   fields-same f u l [] h e = tt
   fields-same f u l (b ∷ bs) h e =
       let x = fieldsBy f bs in
-      let y = same u (length bs) in (
-        sym (lowest x (f b) (h .0)) ∙ ap (λ (n : ℕ). n % 2 ^ s) e ∙ lowest y u l,
+      let y = equalFields u (length bs) in (
+        sym (lowest-field x (f b) (h .0)) ∙ ap (λ (n : ℕ). n % 2 ^ s) e ∙ lowest-field y u l,
         fields-same f u l bs (h .1) (sym (others x (f b) (h .0)) ∙ ap (λ (n : ℕ). n / 2 ^ s) e ∙ others y u l),
       )
 
   -- where each field is u, they are u all together
-  pub same-fields : (f : ℕ → ℕ) (u : ℕ) (bs : List ℕ) → Each (λ (b : ℕ). f b ≡ u) bs → fieldsBy f bs ≡ same u (length bs)
+  pub same-fields : (f : ℕ → ℕ) (u : ℕ) (bs : List ℕ) → EachNumber (λ (b : ℕ). f b ≡ u) bs → fieldsBy f bs ≡ equalFields u (length bs)
   same-fields f u [] h = refl
-  same-fields f u (b ∷ bs) h = ap (λ (n : ℕ). n * 2 ^ s + f b) (same-fields f u bs (h .1)) ∙ ap (λ (n : ℕ). same u (length bs) * 2 ^ s + n) (h .0)
+  same-fields f u (b ∷ bs) h = ap (λ (n : ℕ). n * 2 ^ s + f b) (same-fields f u bs (h .1)) ∙ ap (λ (n : ℕ). equalFields u (length bs) * 2 ^ s + n) (h .0)
 
   -- entries that f and g agree on give the same fields
-  pub fields-ap : {P : ℕ → Type 0} (f g : ℕ → ℕ) → ((b : ℕ) → P b → f b ≡ g b) → (bs : List ℕ) → Each P bs → fieldsBy f bs ≡ fieldsBy g bs
+  pub fields-ap : {P : ℕ → Type 0} (f g : ℕ → ℕ) → ((b : ℕ) → P b → f b ≡ g b) → (bs : List ℕ) → EachNumber P bs → fieldsBy f bs ≡ fieldsBy g bs
   fields-ap f g k [] h = refl
   fields-ap f g k (b ∷ bs) h = ap (λ (n : ℕ). n * 2 ^ s + f b) (fields-ap f g k bs (h .1)) ∙ ap (λ (n : ℕ). fieldsBy g bs * 2 ^ s + n) (k b (h .0))

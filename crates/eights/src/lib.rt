@@ -6,7 +6,7 @@
 ghost use mathlib.Core.Path.{_≡_};
 ghost use mathlib.Core.List.{[], _∷_};
 ghost use Prim.Native.Nat.{_≤_};
-ghost use Rattle.eights.specs.Eights.{joinedOf, Tells, Makes};
+ghost use Rattle.eights.specs.Eights.{joinedOf, DigitsTest, Makes};
 ghost use Rattle.eights.specs.Told.{EightTold};
 
 pub enum Eight {
@@ -27,7 +27,7 @@ fn joined(a: u8, b: u8, c: u8, d: u8, e: u8, f: u8, g: u8, h: u8) -> u64
 
 // Whether all eight bytes are digits: `0` is 0x30 and `9` is 0x39, so the upper half of each is 3, and is still 3 with 6 added.
 fn are_digits(w: u64) -> bool
-    ensures { λ r. ⌜ Tells w r ⌝ }
+    ensures { λ r. ⌜ DigitsTest w r ⌝ }
 {
     if w & 0xf0f0_f0f0_f0f0_f0f0 != 0x3030_3030_3030_3030 {
         return false;

@@ -26,37 +26,37 @@ use Rattle.error.specs.declared.Fault.the-variants.{
 }
 
 -- a line of the table read the other way: a number, and the case that has it, by reason and place
-pub record Line : Type 0 where
+pub record RefusalLine : Type 0 where
   pub number : ℕ
   pub case : ℕ → ℕ → Fault
 
 -- a line of the table read the other way, from its number and its case
-abbrev pub line : ℕ → (ℕ → ℕ → Fault) → Line
-line n f = record { number = n; case = f }
+abbrev pub refusalLine : ℕ → (ℕ → ℕ → Fault) → RefusalLine
+refusalLine n f = record { number = n; case = f }
 
 -- the table read the other way, a line for each case, in any order: a new case is a new line and moves no other
-abbrev pub lines : List Line
+abbrev pub lines : List RefusalLine
 lines =
-    line 1 (λ r p. NoMarker)
-    ∷ line 2 (λ r p. TooLong)
-    ∷ line 3 (λ r p. OpenComment p)
-    ∷ line 4 (λ r p. OpenString p)
-    ∷ line 5 (λ r p. NoEnd p)
-    ∷ line 6 (λ r p. OpenParen p)
-    ∷ line 7 (λ r p. BadRecord r p)
-    ∷ line 8 (λ r p. NoRow p)
-    ∷ line 9 (λ r p. OutOfFile)
-    ∷ line 10 (λ r p. NoParameter p)
-    ∷ line 11 (λ r p. OpenLiteral p)
-    ∷ line 12 (λ r p. WrongType p)
-    ∷ line 13 (λ r p. OutsideClass p)
-    ∷ line 14 (λ r p. NoRecord)
-    ∷ line 15 (λ r p. TooDeep p)
-    ∷ line 16 (λ r p. TooShort p)
+    refusalLine 1 (λ r p. NoMarker)
+    ∷ refusalLine 2 (λ r p. TooLong)
+    ∷ refusalLine 3 (λ r p. OpenComment p)
+    ∷ refusalLine 4 (λ r p. OpenString p)
+    ∷ refusalLine 5 (λ r p. NoEnd p)
+    ∷ refusalLine 6 (λ r p. OpenParen p)
+    ∷ refusalLine 7 (λ r p. BadRecord r p)
+    ∷ refusalLine 8 (λ r p. NoRow p)
+    ∷ refusalLine 9 (λ r p. OutOfFile)
+    ∷ refusalLine 10 (λ r p. NoParameter p)
+    ∷ refusalLine 11 (λ r p. OpenLiteral p)
+    ∷ refusalLine 12 (λ r p. WrongType p)
+    ∷ refusalLine 13 (λ r p. OutsideClass p)
+    ∷ refusalLine 14 (λ r p. NoRecord)
+    ∷ refusalLine 15 (λ r p. TooDeep p)
+    ∷ refusalLine 16 (λ r p. TooShort p)
     ∷ []
 
 -- the case of the first line that has this number; `NoMarker` where none has
-unfoldable pub caseIn : List Line → Refusal → Fault
+unfoldable pub caseIn : List RefusalLine → Refusal → Fault
 caseIn [] q = NoMarker
 caseIn (l ∷ ls) q = pick (eqb (l .number) (q .number)) (l .case (q .reason) (q .place)) (caseIn ls q)
 

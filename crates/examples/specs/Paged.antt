@@ -7,7 +7,7 @@ use mathlib.Core.List.{List, [], _∷_, _++_}
 use Rattle.common.specs.Bytes.{bytes}
 use Rattle.utf8.specs.Utf8.{encode, leadOf}
 use Rattle.utf8.specs.Encoding.{encodeAll}
-use Rattle.pages.specs.Tables.{latin1, latin2, latin3, latin4, cyrillic, arabic, greek, hebrew, latin5, pages, entry}
+use Rattle.pages.specs.Tables.{latin1, latin2, latin3, latin4, cyrillic, arabic, greek, hebrew, latin5, pages, pageEntry}
 use Rattle.strings.specs.Text.{groupTwo, groupFour, groupsFrom, directiveOf, pieceOf, pageAfter, textFrom, textOn, textOf, bytesOf}
 
 -- a string's bytes, and its characters
@@ -53,16 +53,16 @@ paged-strings =
     ∷ []
 
 -- each string of a list has the characters that stand beside it, by the definitions
-abbrev pub Holds : List Paged → Type 0
-Holds [] = Unit {0}
-Holds (p ∷ ps) = (textOf (p .string) ≡ p .text) × Holds ps
+abbrev pub PagedHold : List Paged → Type 0
+PagedHold [] = Unit {0}
+PagedHold (p ∷ ps) = (textOf (p .string) ≡ p .text) × PagedHold ps
 
 -- each string of the list `paged-strings` has its characters
-pub paged-hold : Holds paged-strings
-unfolding latin1 latin2 latin3 latin4 cyrillic arabic greek hebrew latin5 pages entry leadOf groupTwo groupFour groupsFrom directiveOf pieceOf pageAfter textFrom textOn textOf
+pub paged-hold : PagedHold paged-strings
+unfolding latin1 latin2 latin3 latin4 cyrillic arabic greek hebrew latin5 pages pageEntry leadOf groupTwo groupFour groupsFrom directiveOf pieceOf pageAfter textFrom textOn textOf
 paged-hold = (refl, (refl, (refl, (refl, (refl, (refl, (refl, (refl, (refl, (refl, (refl, (refl, (refl, (refl, (refl, (refl, tt))))))))))))))))
 
 -- the bytes of an alpha in UTF-8: a text is its characters' encoding
 pub alpha-bytes : bytesOf (bytes "\\PG\\\\S\\a") ≡ 0xCE ∷ 0xB1 ∷ []
-unfolding greek pages entry leadOf groupTwo groupFour groupsFrom directiveOf pieceOf pageAfter textFrom textOn textOf bytesOf encode encodeAll
+unfolding greek pages pageEntry leadOf groupTwo groupFour groupsFrom directiveOf pieceOf pageAfter textFrom textOn textOf bytesOf encode encodeAll
 alpha-bytes = refl

@@ -10,10 +10,10 @@ use lib.ListN.{length}
 use lib.Seq.{sets}
 use Rattle.common.specs.Pick.{pick}
 use Rattle.table.specs.Table.{rowsFit, idOf}
-use Rattle.index.specs.Order.{tableRoom}
+use Rattle.index.specs.KeyOrder.{tableRoom}
 use Rattle.index.specs.Index.{Built}
 use Rattle.index.specs.declared.Ids.{Ids}
-use Rattle.plain.specs.Numbers.{idsNumbers}
+use Rattle.host_numbers.specs.Numbers.{idsNumbers}
 
 -- what a host lends for the index of so many records suffices: there is room for eight numbers, and a slot for each record that the rows, of
 -- this many numbers, have; and these are no more than 2^30, which is how many the index can hold
@@ -26,6 +26,6 @@ indexCode rows count slots ids = pick (lentEnough (length rows) count (length sl
 
 -- what a host is left with: the index in the slots, and what stands beside them in the lent numbers; where what is lent does not
 -- suffice, all as it was
-pub data Indexed (rows : List ℕ) (count : ℕ) (slots after ids told : List ℕ) : Type 0 where
-  short : lentEnough (length rows) count (length slots) (length ids) ≡ false → after ≡ slots → told ≡ ids → Indexed rows count slots after ids told
-  built : lentEnough (length rows) count (length slots) (length ids) ≡ true → (b : Ids) → Built (idOf rows) (tableRoom (rowsFit (length rows)) (length slots) count) slots after b → told ≡ sets ids 0 (idsNumbers b) → Indexed rows count slots after ids told
+pub data HostIndexed (rows : List ℕ) (count : ℕ) (slots after ids told : List ℕ) : Type 0 where
+  short : lentEnough (length rows) count (length slots) (length ids) ≡ false → after ≡ slots → told ≡ ids → HostIndexed rows count slots after ids told
+  built : lentEnough (length rows) count (length slots) (length ids) ≡ true → (b : Ids) → Built (idOf rows) (tableRoom (rowsFit (length rows)) (length slots) count) slots after b → told ≡ sets ids 0 (idsNumbers b) → HostIndexed rows count slots after ids told

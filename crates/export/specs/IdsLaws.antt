@@ -13,16 +13,16 @@ use Rattle.common.specs.Tests.{both}
 use Rattle.common.specs.Pick.{pick}
 use Rattle.table.specs.Table.{rowsFit, idOf}
 use Rattle.table.specs.Laws.{field-below}
-use Rattle.index.specs.Order.{rowAt, tableRoom}
+use Rattle.index.specs.KeyOrder.{slotRow, tableRoom}
 use Rattle.index.specs.Lookup.{lookupOf}
 use Rattle.index.specs.Index.{Built, endId}
 use Rattle.index.specs.IndexLaws.{built-slots-only, built-only}
 use Rattle.index.specs.Search.{searched}
 use Rattle.index.specs.SearchRight.{found-right, found-safe}
 use Rattle.index.specs.declared.Ids.{Ids}
-use Rattle.plain.specs.Numbers.{idsNumbers, idsBy}
-use Rattle.plain.specs.Laws.{ids-back}
-use Rattle.export.specs.Ids.{lentEnough, Indexed, short, built}
+use Rattle.host_numbers.specs.Numbers.{idsNumbers, idsBy}
+use Rattle.host_numbers.specs.Laws.{ids-back}
+use Rattle.export.specs.Ids.{lentEnough, HostIndexed, short, built}
 
 -- no test passes and fails
 lent-once : (t : Bool) → t ≡ true → t ≡ false → ⊥
@@ -45,7 +45,7 @@ lent-all rows count slots ids e =
     go n a b = omega arith
 
 -- what two answers to indexing leave with a host is the same
-pub indexed-only : {rows : List ℕ} {count : ℕ} {slots xs ys ids us vs : List ℕ} → Indexed rows count slots xs ids us → Indexed rows count slots ys ids vs → (xs ≡ ys) × (us ≡ vs)
+pub indexed-only : {rows : List ℕ} {count : ℕ} {slots xs ys ids us vs : List ℕ} → HostIndexed rows count slots xs ids us → HostIndexed rows count slots ys ids vs → (xs ≡ ys) × (us ≡ vs)
 indexed-only (short h e f) (short k p q) = (e ∙ sym p, f ∙ sym q)
 indexed-only (short h e f) (built k b p q) = absurd (lent-once _ k h)
 indexed-only (built h a e f) (short k p q) = absurd (lent-once _ h k)
@@ -62,10 +62,10 @@ id-small : (rows : List ℕ) → ((i : ℕ) → getD rows i 0 < 4294967296) → 
 id-small rows h r = field-below 6 rows r 4294967296 (omega arith) h 0
 
 -- a host's lookup, by the slots and the numbers that the index left with it, answers like the map of all records that it named
-pub host-right : {rows slots after ids told : List ℕ} {count : ℕ} → lentEnough (length rows) count (length slots) (length ids) ≡ true → ((i : ℕ) → getD rows i 0 < 4294967296) → Indexed rows count slots after ids told → (k : ℕ)
+pub host-right : {rows slots after ids told : List ℕ} {count : ℕ} → lentEnough (length rows) count (length slots) (length ids) ≡ true → ((i : ℕ) → getD rows i 0 < 4294967296) → HostIndexed rows count slots after ids told → (k : ℕ)
     → searched rows after (idsBy told) k ≡ lookupOf (idOf rows) (min count (rowsFit (length rows))) k
 host-right h w (short g e f) k = absurd (lent-once _ h g)
-host-right {rows} {slots} {after} {ids} {told} {count} h w (built g b e f) k = ap (λ (c : Ids). searched rows after c k) (ap idsBy f ∙ ids-back b ids (let q = lent-eight (length rows) count (length slots) (length ids) h in omega (arith, q)) (small (b .first) (rowAt (b .direct) after 0) (e .first)) (small (b .last) (rowAt (b .direct) after ((tableRoom (rowsFit (length rows)) (length slots) count) - 1)) (e .last)) (let s = e .shift .short in omega arith)) ∙ found-right rows slots after count k b e ∙ ap (λ (n : ℕ). lookupOf (idOf rows) n k) (lent-all (length rows) count (length slots) (length ids) h)
+host-right {rows} {slots} {after} {ids} {told} {count} h w (built g b e f) k = ap (λ (c : Ids). searched rows after c k) (ap idsBy f ∙ ids-back b ids (let q = lent-eight (length rows) count (length slots) (length ids) h in omega (arith, q)) (small (b .first) (slotRow (b .direct) after 0) (e .first)) (small (b .last) (slotRow (b .direct) after ((tableRoom (rowsFit (length rows)) (length slots) count) - 1)) (e .last)) (let s = e .shift .short in omega arith)) ∙ found-right rows slots after count k b e ∙ ap (λ (n : ℕ). lookupOf (idOf rows) n k) (lent-all (length rows) count (length slots) (length ids) h)
   where
     room : ℕ
     room = tableRoom (rowsFit (length rows)) (length slots) count

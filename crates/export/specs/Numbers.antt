@@ -4,7 +4,7 @@
 use Prim.Native.Nat.{ℕ}
 use mathlib.Core.List.{List, [], _∷_}
 use Rattle.error.specs.Refusal.{Told, good, bad}
-use Rattle.scan.specs.Table.{Counts}
+use Rattle.scan.specs.ScanMemory.{Counts}
 
 -- what goes with a scan's answer: header rows, data rows and the largest id; or the refusal's reason and place
 abbrev pub numbers : Told Counts → List ℕ

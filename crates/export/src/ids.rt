@@ -4,9 +4,9 @@ ghost use lib.Dec.{leb};
 ghost use lib.ListN.{length};
 ghost use Rattle.common.specs.Pick.{pick};
 ghost use Rattle.index.specs.Search.{searched};
-ghost use Rattle.plain.specs.Numbers.{idsBy};
-ghost use Rattle.finds.specs.Finds.{rowNumber, Told};
-ghost use Rattle.export.specs.Ids.{lentEnough, indexCode, Indexed};
+ghost use Rattle.host_numbers.specs.Numbers.{idsBy};
+ghost use Rattle.find_many.specs.Finds.{rowNumber, RowsTold};
+ghost use Rattle.export.specs.Ids.{lentEnough, indexCode, HostIndexed};
 
 // Whether slots and numbers of these lengths suffice for so many records of a table, and the index can hold them.
 fn enough(rows: usize, count: usize, slots: usize, ids: usize) -> bool
@@ -26,11 +26,11 @@ pub extern "C" fn hooflift_index(
     ids: &mut [u64],
 ) -> u8
     ensures { λ n. ⌜ n ≡ indexCode (now (rows .entry)) count (now (slots .entry)) (now (ids .entry)) ⌝ }
-    ensures { λ _. ⌜ Indexed (now (rows .entry)) count (now (slots .entry)) (now (slots .exit)) (now (ids .entry)) (now (ids .exit)) ⌝ }
+    ensures { λ _. ⌜ HostIndexed (now (rows .entry)) count (now (slots .entry)) (now (slots .exit)) (now (ids .entry)) (now (ids .exit)) ⌝ }
 {
     if enough(rows.len(), count, slots.len(), ids.len()) {
         let b = index::build(rows, count, slots);
-        plain::put_ids(ids, b);
+        host_numbers::put_ids(ids, b);
         return 0;
     }
     16
@@ -42,12 +42,12 @@ pub extern "C" fn hooflift_index(
 pub extern "C" fn hooflift_get(rows: &[u32], slots: &[u64], ids: &[u64], id: u32) -> u32
     ensures { λ r. ⌜ r ≡ rowNumber (searched (now (rows .entry)) (now (slots .entry)) (idsBy (now (ids .entry))) id) ⌝ }
 {
-    let b = plain::ids_of(ids);
+    let b = host_numbers::ids_of(ids);
     let r = index::first_row(slots, b, id);
     if index::stands(rows, slots.len(), b.count, r, id) {
         return r;
     }
-    finds::row_of(rows, slots, plain::ids_of(ids), id)
+    find_many::row_of(rows, slots, host_numbers::ids_of(ids), id)
 }
 
 // The last row of each id, or 4294967295 where there is none, at the start of `found`, in the order of the ids: 0. Or 16 where `found` is
@@ -61,10 +61,10 @@ pub extern "C" fn hooflift_get_all(
     found: &mut [u32],
 ) -> u8
     ensures { λ n. ⌜ n ≡ pick (leb (length (now (ids .entry))) (length (now (found .entry)))) 0 16 ⌝ }
-    ensures { λ _. ⌜ Told (λ k. rowNumber (searched (now (rows .entry)) (now (slots .entry)) (idsBy (now (beside .entry))) k)) (now (ids .entry)) (now (found .entry)) (now (found .exit)) ⌝ }
+    ensures { λ _. ⌜ RowsTold (λ k. rowNumber (searched (now (rows .entry)) (now (slots .entry)) (idsBy (now (beside .entry))) k)) (now (ids .entry)) (now (found .entry)) (now (found .exit)) ⌝ }
 {
-    let b = plain::ids_of(beside);
-    if finds::get_all(rows, slots, b, ids, found) {
+    let b = host_numbers::ids_of(beside);
+    if find_many::get_all(rows, slots, b, ids, found) {
         return 0;
     }
     16

@@ -18,9 +18,9 @@ pub use text::hooflift_text_length;
 ghost use mathlib.Core.Path.{_≡_};
 ghost use mathlib.Core.List.{[], _∷_};
 ghost use Rattle.statement.specs.Rows.{mapped};
-ghost use Rattle.scan.specs.Table.{scanLent, countsOf, headersAfter, rowsAfter, toldScan};
-ghost use Rattle.plain.specs.Answers.{readCode};
-ghost use Rattle.plain.specs.Numbers.{putIn};
+ghost use Rattle.scan.specs.ScanMemory.{scanLent, countsOf, headersAfter, rowsAfter, toldScan};
+ghost use Rattle.host_numbers.specs.Answers.{readCode};
+ghost use Rattle.host_numbers.specs.Numbers.{putIn};
 ghost use Rattle.export.specs.Numbers.{numbers};
 use scan::Scanned;
 

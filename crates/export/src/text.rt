@@ -2,7 +2,7 @@
 ghost use mathlib.Core.Path.{_≡_};
 ghost use Prim.Native.Nat.{min};
 ghost use lib.ListN.{length};
-ghost use Rattle.strings.specs.Answer.{decodedOf, roomAfter, most};
+ghost use Rattle.strings.specs.Answer.{decodedOf, roomAfter, largestU64};
 ghost use Rattle.strings.specs.Text.{bytesOf};
 ghost use Rattle.export.specs.Texts.{textCode, textPlace, textCount};
 use strings::Decoded;
@@ -34,7 +34,7 @@ pub extern "C" fn hooflift_text(raw: &[u8], out: &mut [u8], place: &mut u64, cou
 // How many bytes a string's text has: what `hooflift_text` needs of `out` at most. 18446744073709551615 stands for more.
 #[no_mangle]
 pub extern "C" fn hooflift_text_length(raw: &[u8]) -> usize
-    ensures { λ n. ⌜ n ≡ min most (length (bytesOf (now (raw .entry)))) ⌝ }
+    ensures { λ n. ⌜ n ≡ min largestU64 (length (bytesOf (now (raw .entry)))) ⌝ }
 {
     strings::text_length(raw)
 }

@@ -4,7 +4,7 @@ ghost use Rattle.reals.specs.Scalar.{referenceOf, wholeOf, realOf, anyRealOf};
 ghost use Rattle.lists.specs.Answer.{howMany};
 ghost use Rattle.lists.specs.Read.{listRead};
 ghost use Rattle.grids.specs.Grid.{gridRead, howLarge, numbersOf, endsOf, toldNextGrid};
-ghost use Rattle.plain.specs.Answers.{Leaves, Puts, PutsList, PutsReals};
+ghost use Rattle.host_numbers.specs.Answers.{HostReaderTold, Puts, PutsList, PutsReals};
 use grids::NextGrid;
 use params::State;
 use reals::Reals;
@@ -19,12 +19,12 @@ pub extern "C" fn hooflift_ref_list(
     count: &mut usize,
     fault: &mut usize,
 ) -> u8
-    ensures { λ n. ⌜ Leaves (howMany (listRead referenceOf (length (now (out .entry))) (now (file .entry)) (now (place .entry)) end)) n place fault ⌝ }
+    ensures { λ n. ⌜ HostReaderTold (howMany (listRead referenceOf (length (now (out .entry))) (now (file .entry)) (now (place .entry)) end)) n place fault ⌝ }
     ensures { λ _. ⌜ PutsList (listRead referenceOf (length (now (out .entry))) (now (file .entry)) (now (place .entry)) end .answer) out ⌝ }
     ensures { λ _. ⌜ Puts (λ n. n) (howMany (listRead referenceOf (length (now (out .entry))) (now (file .entry)) (now (place .entry)) end) .answer) count ⌝ }
 {
     let at = State { place: *place, end };
-    plain::put_list(lists::next_ref_list(file, at, out), place, count, fault)
+    host_numbers::put_list(lists::next_ref_list(file, at, out), place, count, fault)
 }
 
 // Reads a list of integers into `out`: 0, with how many in `count`.
@@ -37,12 +37,12 @@ pub extern "C" fn hooflift_i64_list(
     count: &mut usize,
     fault: &mut usize,
 ) -> u8
-    ensures { λ n. ⌜ Leaves (howMany (listRead wholeOf (length (now (out .entry))) (now (file .entry)) (now (place .entry)) end)) n place fault ⌝ }
+    ensures { λ n. ⌜ HostReaderTold (howMany (listRead wholeOf (length (now (out .entry))) (now (file .entry)) (now (place .entry)) end)) n place fault ⌝ }
     ensures { λ _. ⌜ PutsList (listRead wholeOf (length (now (out .entry))) (now (file .entry)) (now (place .entry)) end .answer) out ⌝ }
     ensures { λ _. ⌜ Puts (λ n. n) (howMany (listRead wholeOf (length (now (out .entry))) (now (file .entry)) (now (place .entry)) end) .answer) count ⌝ }
 {
     let at = State { place: *place, end };
-    plain::put_list(lists::next_i64_list(file, at, out), place, count, fault)
+    host_numbers::put_list(lists::next_i64_list(file, at, out), place, count, fault)
 }
 
 // What a reader of a grid answers and leaves: how many numbers it has goes to `count`, and how many rows to `rows`.
@@ -53,7 +53,7 @@ fn put_grid(
     rows: &mut usize,
     fault: &mut usize,
 ) -> u8
-    ensures { λ n. ⌜ Leaves (toldNextGrid r) n place fault ⌝ }
+    ensures { λ n. ⌜ HostReaderTold (toldNextGrid r) n place fault ⌝ }
     ensures { λ _. ⌜ Puts (λ s. s .numbers) (toldNextGrid r .answer) count ⌝ }
     ensures { λ _. ⌜ Puts (λ s. s .rows) (toldNextGrid r .answer) rows ⌝ }
 {
@@ -64,7 +64,7 @@ fn put_grid(
             *rows = high;
             0
         }
-        NextGrid::Refused(f, to) => plain::put_refusal(f, to, place, fault),
+        NextGrid::Refused(f, to) => host_numbers::put_refusal(f, to, place, fault),
     }
 }
 
@@ -81,7 +81,7 @@ pub extern "C" fn hooflift_ref_grid(
     rows: &mut usize,
     fault: &mut usize,
 ) -> u8
-    ensures { λ n. ⌜ Leaves (howLarge (gridRead referenceOf (length (now (out .entry))) (length (now (ends .entry))) (now (file .entry)) (now (place .entry)) end)) n place fault ⌝ }
+    ensures { λ n. ⌜ HostReaderTold (howLarge (gridRead referenceOf (length (now (out .entry))) (length (now (ends .entry))) (now (file .entry)) (now (place .entry)) end)) n place fault ⌝ }
     ensures { λ _. ⌜ PutsList (numbersOf (gridRead referenceOf (length (now (out .entry))) (length (now (ends .entry))) (now (file .entry)) (now (place .entry)) end .answer)) out ⌝ }
     ensures { λ _. ⌜ PutsList (endsOf (gridRead referenceOf (length (now (out .entry))) (length (now (ends .entry))) (now (file .entry)) (now (place .entry)) end .answer)) ends ⌝ }
     ensures { λ _. ⌜ Puts (λ s. s .numbers) (howLarge (gridRead referenceOf (length (now (out .entry))) (length (now (ends .entry))) (now (file .entry)) (now (place .entry)) end) .answer) count ⌝ }
@@ -105,7 +105,7 @@ pub extern "C" fn hooflift_f64_grid(
     rows: &mut usize,
     fault: &mut usize,
 ) -> u8
-    ensures { λ n. ⌜ Leaves (howLarge (gridRead realOf (length (now (out .entry))) (length (now (ends .entry))) (now (file .entry)) (now (place .entry)) end)) n place fault ⌝ }
+    ensures { λ n. ⌜ HostReaderTold (howLarge (gridRead realOf (length (now (out .entry))) (length (now (ends .entry))) (now (file .entry)) (now (place .entry)) end)) n place fault ⌝ }
     ensures { λ _. ⌜ PutsReals (numbersOf (gridRead realOf (length (now (out .entry))) (length (now (ends .entry))) (now (file .entry)) (now (place .entry)) end .answer)) out ⌝ }
     ensures { λ _. ⌜ PutsList (endsOf (gridRead realOf (length (now (out .entry))) (length (now (ends .entry))) (now (file .entry)) (now (place .entry)) end .answer)) ends ⌝ }
     ensures { λ _. ⌜ Puts (λ s. s .numbers) (howLarge (gridRead realOf (length (now (out .entry))) (length (now (ends .entry))) (now (file .entry)) (now (place .entry)) end) .answer) count ⌝ }
@@ -128,7 +128,7 @@ pub extern "C" fn hooflift_any_f64_grid(
     rows: &mut usize,
     fault: &mut usize,
 ) -> u8
-    ensures { λ n. ⌜ Leaves (howLarge (gridRead anyRealOf (length (now (out .entry))) (length (now (ends .entry))) (now (file .entry)) (now (place .entry)) end)) n place fault ⌝ }
+    ensures { λ n. ⌜ HostReaderTold (howLarge (gridRead anyRealOf (length (now (out .entry))) (length (now (ends .entry))) (now (file .entry)) (now (place .entry)) end)) n place fault ⌝ }
     ensures { λ _. ⌜ PutsReals (numbersOf (gridRead anyRealOf (length (now (out .entry))) (length (now (ends .entry))) (now (file .entry)) (now (place .entry)) end .answer)) out ⌝ }
     ensures { λ _. ⌜ PutsList (endsOf (gridRead anyRealOf (length (now (out .entry))) (length (now (ends .entry))) (now (file .entry)) (now (place .entry)) end .answer)) ends ⌝ }
     ensures { λ _. ⌜ Puts (λ s. s .numbers) (howLarge (gridRead anyRealOf (length (now (out .entry))) (length (now (ends .entry))) (now (file .entry)) (now (place .entry)) end) .answer) count ⌝ }

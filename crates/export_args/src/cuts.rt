@@ -3,10 +3,10 @@ ghost use mathlib.Core.Path.{_≡_};
 ghost use Rattle.params.specs.Reader.{paramOf};
 ghost use Rattle.params.specs.Skips.{emptyOf, skipsOf};
 ghost use Rattle.params.specs.Answer.{openedOf};
-ghost use Rattle.plain.specs.Answers.{Leaves, Puts, readCode, truthNumber};
-use params::Cut;
+ghost use Rattle.host_numbers.specs.Answers.{HostReaderTold, Puts, readCode, truthNumber};
 use params::Emptiness;
-use params::Opened;
+use params::NextParam;
+use params::OpenedReader;
 use params::State;
 
 // Whether a reader from `place` up to `end` lies in the file: 0, or 9.
@@ -15,8 +15,8 @@ pub extern "C" fn hooflift_new(file: &[u8], place: usize, end: usize) -> u8
     ensures { λ n. ⌜ n ≡ readCode (openedOf (now (file .entry)) place end) ⌝ }
 {
     match params::new(file, place, end) {
-        Opened::Reader(_) => 0,
-        Opened::Refused(f) => error::number(f),
+        OpenedReader::Reader(_) => 0,
+        OpenedReader::Refused(f) => error::number(f),
     }
 }
 
@@ -30,19 +30,19 @@ pub extern "C" fn hooflift_param(
     stop: &mut usize,
     fault: &mut usize,
 ) -> u8
-    ensures { λ n. ⌜ Leaves (paramOf (now (file .entry)) (now (place .entry)) end) n place fault ⌝ }
+    ensures { λ n. ⌜ HostReaderTold (paramOf (now (file .entry)) (now (place .entry)) end) n place fault ⌝ }
     ensures { λ _. ⌜ Puts (λ x. x .start) (paramOf (now (file .entry)) (now (place .entry)) end .answer) start ⌝ }
     ensures { λ _. ⌜ Puts (λ x. x .stop) (paramOf (now (file .entry)) (now (place .entry)) end .answer) stop ⌝ }
 {
     let at = State { place: *place, end };
     match params::param_span(file, at) {
-        Cut::Span(a, z, to) => {
+        NextParam::Span(a, z, to) => {
             *place = to.place;
             *start = a;
             *stop = z;
             0
         }
-        Cut::Refused(f, to) => plain::put_refusal(f, to, place, fault),
+        NextParam::Refused(f, to) => host_numbers::put_refusal(f, to, place, fault),
     }
 }
 
@@ -55,17 +55,17 @@ pub extern "C" fn hooflift_is_empty(
     empty: &mut u8,
     fault: &mut usize,
 ) -> u8
-    ensures { λ n. ⌜ Leaves (emptyOf (now (file .entry)) (now (place .entry)) end) n place fault ⌝ }
+    ensures { λ n. ⌜ HostReaderTold (emptyOf (now (file .entry)) (now (place .entry)) end) n place fault ⌝ }
     ensures { λ _. ⌜ Puts truthNumber (emptyOf (now (file .entry)) (now (place .entry)) end .answer) empty ⌝ }
 {
     let at = State { place: *place, end };
     match params::is_empty(file, at) {
         Emptiness::Empty(b, to) => {
             *place = to.place;
-            *empty = plain::number_of(b);
+            *empty = host_numbers::number_of(b);
             0
         }
-        Emptiness::Refused(f, to) => plain::put_refusal(f, to, place, fault),
+        Emptiness::Refused(f, to) => host_numbers::put_refusal(f, to, place, fault),
     }
 }
 
@@ -78,8 +78,8 @@ pub extern "C" fn hooflift_skip_n(
     count: usize,
     fault: &mut usize,
 ) -> u8
-    ensures { λ n. ⌜ Leaves (skipsOf count (now (file .entry)) (now (place .entry)) end) n place fault ⌝ }
+    ensures { λ n. ⌜ HostReaderTold (skipsOf count (now (file .entry)) (now (place .entry)) end) n place fault ⌝ }
 {
     let at = State { place: *place, end };
-    plain::put_skipped(params::skip_n(file, at, count), place, fault)
+    host_numbers::put_skipped(params::skip_n(file, at, count), place, fault)
 }

@@ -2,10 +2,10 @@
 ghost use mathlib.Core.Path.{_≡_};
 ghost use lib.ListN.{length};
 ghost use Rattle.params.specs.Reader.{paramOf};
-ghost use Rattle.params.specs.Answer.{mapped};
+ghost use Rattle.params.specs.Answer.{readMapped};
 ghost use Rattle.words.specs.Words.{nameAt, stringAt};
 ghost use Rattle.words.specs.Room.{roomOf};
-ghost use Rattle.plain.specs.Answers.{Leaves, Puts, shownRoom, shownStart, shownStop};
+ghost use Rattle.host_numbers.specs.Answers.{HostReaderTold, Puts, shownRoom, shownStart, shownStop};
 use params::State;
 use words::NextName;
 use words::NextText;
@@ -20,9 +20,9 @@ pub extern "C" fn hooflift_enum(
     stop: &mut usize,
     fault: &mut usize,
 ) -> u8
-    ensures { λ n. ⌜ Leaves (mapped (nameAt (now (file .entry))) (paramOf (now (file .entry)) (now (place .entry)) end)) n place fault ⌝ }
-    ensures { λ _. ⌜ Puts (λ x. x .start) (mapped (nameAt (now (file .entry))) (paramOf (now (file .entry)) (now (place .entry)) end) .answer) start ⌝ }
-    ensures { λ _. ⌜ Puts (λ x. x .stop) (mapped (nameAt (now (file .entry))) (paramOf (now (file .entry)) (now (place .entry)) end) .answer) stop ⌝ }
+    ensures { λ n. ⌜ HostReaderTold (readMapped (nameAt (now (file .entry))) (paramOf (now (file .entry)) (now (place .entry)) end)) n place fault ⌝ }
+    ensures { λ _. ⌜ Puts (λ x. x .start) (readMapped (nameAt (now (file .entry))) (paramOf (now (file .entry)) (now (place .entry)) end) .answer) start ⌝ }
+    ensures { λ _. ⌜ Puts (λ x. x .stop) (readMapped (nameAt (now (file .entry))) (paramOf (now (file .entry)) (now (place .entry)) end) .answer) stop ⌝ }
 {
     let at = State { place: *place, end };
     match words::next_enum(file, at) {
@@ -32,7 +32,7 @@ pub extern "C" fn hooflift_enum(
             *stop = z;
             0
         }
-        NextName::Refused(f, to) => plain::put_refusal(f, to, place, fault),
+        NextName::Refused(f, to) => host_numbers::put_refusal(f, to, place, fault),
     }
 }
 
@@ -48,11 +48,11 @@ pub extern "C" fn hooflift_str(
     stop: &mut usize,
     fault: &mut usize,
 ) -> u8
-    ensures { λ n. ⌜ Leaves (mapped (stringAt (now (file .entry)) (length (now (out .entry)))) (paramOf (now (file .entry)) (now (place .entry)) end)) n place fault ⌝ }
+    ensures { λ n. ⌜ HostReaderTold (readMapped (stringAt (now (file .entry)) (length (now (out .entry)))) (paramOf (now (file .entry)) (now (place .entry)) end)) n place fault ⌝ }
     ensures { λ _. ⌜ now (out .exit) ≡ roomOf (now (file .entry)) (now (out .entry)) (paramOf (now (file .entry)) (now (place .entry)) end .answer) ⌝ }
-    ensures { λ _. ⌜ Puts shownRoom (mapped (stringAt (now (file .entry)) (length (now (out .entry)))) (paramOf (now (file .entry)) (now (place .entry)) end) .answer) room ⌝ }
-    ensures { λ _. ⌜ Puts shownStart (mapped (stringAt (now (file .entry)) (length (now (out .entry)))) (paramOf (now (file .entry)) (now (place .entry)) end) .answer) start ⌝ }
-    ensures { λ _. ⌜ Puts shownStop (mapped (stringAt (now (file .entry)) (length (now (out .entry)))) (paramOf (now (file .entry)) (now (place .entry)) end) .answer) stop ⌝ }
+    ensures { λ _. ⌜ Puts shownRoom (readMapped (stringAt (now (file .entry)) (length (now (out .entry)))) (paramOf (now (file .entry)) (now (place .entry)) end) .answer) room ⌝ }
+    ensures { λ _. ⌜ Puts shownStart (readMapped (stringAt (now (file .entry)) (length (now (out .entry)))) (paramOf (now (file .entry)) (now (place .entry)) end) .answer) start ⌝ }
+    ensures { λ _. ⌜ Puts shownStop (readMapped (stringAt (now (file .entry)) (length (now (out .entry)))) (paramOf (now (file .entry)) (now (place .entry)) end) .answer) stop ⌝ }
 {
     let at = State { place: *place, end };
     match words::next_str(file, at, out) {
@@ -70,6 +70,6 @@ pub extern "C" fn hooflift_str(
             *stop = n;
             0
         }
-        NextText::Refused(f, to) => plain::put_refusal(f, to, place, fault),
+        NextText::Refused(f, to) => host_numbers::put_refusal(f, to, place, fault),
     }
 }

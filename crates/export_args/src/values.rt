@@ -5,7 +5,7 @@ ghost use Rattle.reals.specs.Scalar.{referenceOf, wholeOf, realOf, anyRealOf};
 ghost use Rattle.reals.specs.Which.{realBy};
 ghost use Rattle.scalars.specs.Scalars.{optionOf, measureBy, measureOf, truthOf};
 ghost use Rattle.scalars.specs.Answer.{nextOf, toldNextReal};
-ghost use Rattle.plain.specs.Answers.{Leaves, Puts, PutsReal};
+ghost use Rattle.host_numbers.specs.Answers.{HostReaderTold, Puts, PutsReal};
 ghost use Rattle.export_args.specs.Values.{givenValue, givenSet, logicalNumber};
 use params::State;
 use reals::Reals;
@@ -25,7 +25,7 @@ pub extern "C" fn hooflift_ref(
     value: &mut u32,
     fault: &mut usize,
 ) -> u8
-    ensures { λ n. ⌜ Leaves (nextOf referenceOf (now (file .entry)) (now (place .entry)) end) n place fault ⌝ }
+    ensures { λ n. ⌜ HostReaderTold (nextOf referenceOf (now (file .entry)) (now (place .entry)) end) n place fault ⌝ }
     ensures { λ _. ⌜ Puts (λ x. x) (nextOf referenceOf (now (file .entry)) (now (place .entry)) end .answer) value ⌝ }
 {
     let at = State { place: *place, end };
@@ -35,7 +35,7 @@ pub extern "C" fn hooflift_ref(
             *value = x;
             0
         }
-        NextRef::Refused(f, to) => plain::put_refusal(f, to, place, fault),
+        NextRef::Refused(f, to) => host_numbers::put_refusal(f, to, place, fault),
     }
 }
 
@@ -49,7 +49,7 @@ pub extern "C" fn hooflift_opt_ref(
     set: &mut u8,
     fault: &mut usize,
 ) -> u8
-    ensures { λ n. ⌜ Leaves (nextOf (optionOf referenceOf) (now (file .entry)) (now (place .entry)) end) n place fault ⌝ }
+    ensures { λ n. ⌜ HostReaderTold (nextOf (optionOf referenceOf) (now (file .entry)) (now (place .entry)) end) n place fault ⌝ }
     ensures { λ _. ⌜ now (value .exit) ≡ givenValue (nextOf (optionOf referenceOf) (now (file .entry)) (now (place .entry)) end .answer) (now (value .entry)) ⌝ }
     ensures { λ _. ⌜ Puts givenSet (nextOf (optionOf referenceOf) (now (file .entry)) (now (place .entry)) end .answer) set ⌝ }
 {
@@ -66,7 +66,7 @@ pub extern "C" fn hooflift_opt_ref(
             *set = 0;
             0
         }
-        NextOptRef::Refused(f, to) => plain::put_refusal(f, to, place, fault),
+        NextOptRef::Refused(f, to) => host_numbers::put_refusal(f, to, place, fault),
     }
 }
 
@@ -79,7 +79,7 @@ pub extern "C" fn hooflift_i64(
     value: &mut i64,
     fault: &mut usize,
 ) -> u8
-    ensures { λ n. ⌜ Leaves (nextOf wholeOf (now (file .entry)) (now (place .entry)) end) n place fault ⌝ }
+    ensures { λ n. ⌜ HostReaderTold (nextOf wholeOf (now (file .entry)) (now (place .entry)) end) n place fault ⌝ }
     ensures { λ _. ⌜ Puts (λ x. x) (nextOf wholeOf (now (file .entry)) (now (place .entry)) end .answer) value ⌝ }
 {
     let at = State { place: *place, end };
@@ -89,13 +89,13 @@ pub extern "C" fn hooflift_i64(
             *value = x;
             0
         }
-        NextWhole::Refused(f, to) => plain::put_refusal(f, to, place, fault),
+        NextWhole::Refused(f, to) => host_numbers::put_refusal(f, to, place, fault),
     }
 }
 
 // What a reader of a real or a measure answers and leaves.
 fn put_real(r: NextReal, place: &mut usize, value: &mut f64, fault: &mut usize) -> u8
-    ensures { λ n. ⌜ Leaves (toldNextReal r) n place fault ⌝ }
+    ensures { λ n. ⌜ HostReaderTold (toldNextReal r) n place fault ⌝ }
     ensures { λ _. ⌜ PutsReal (λ x. x) (toldNextReal r .answer) value ⌝ }
 {
     match r {
@@ -104,7 +104,7 @@ fn put_real(r: NextReal, place: &mut usize, value: &mut f64, fault: &mut usize) 
             *value = x;
             0
         }
-        NextReal::Refused(f, to) => plain::put_refusal(f, to, place, fault),
+        NextReal::Refused(f, to) => host_numbers::put_refusal(f, to, place, fault),
     }
 }
 
@@ -117,7 +117,7 @@ pub extern "C" fn hooflift_f64(
     value: &mut f64,
     fault: &mut usize,
 ) -> u8
-    ensures { λ n. ⌜ Leaves (nextOf realOf (now (file .entry)) (now (place .entry)) end) n place fault ⌝ }
+    ensures { λ n. ⌜ HostReaderTold (nextOf realOf (now (file .entry)) (now (place .entry)) end) n place fault ⌝ }
     ensures { λ _. ⌜ PutsReal (λ x. x) (nextOf realOf (now (file .entry)) (now (place .entry)) end .answer) value ⌝ }
 {
     let at = State { place: *place, end };
@@ -133,7 +133,7 @@ pub extern "C" fn hooflift_any_f64(
     value: &mut f64,
     fault: &mut usize,
 ) -> u8
-    ensures { λ n. ⌜ Leaves (nextOf anyRealOf (now (file .entry)) (now (place .entry)) end) n place fault ⌝ }
+    ensures { λ n. ⌜ HostReaderTold (nextOf anyRealOf (now (file .entry)) (now (place .entry)) end) n place fault ⌝ }
     ensures { λ _. ⌜ PutsReal (λ x. x) (nextOf anyRealOf (now (file .entry)) (now (place .entry)) end .answer) value ⌝ }
 {
     let at = State { place: *place, end };
@@ -155,7 +155,7 @@ fn put_opt_real(
     set: &mut u8,
     fault: &mut usize,
 ) -> u8
-    ensures { λ n. ⌜ Leaves (nextOf (optionOf (realBy which)) (now (file .entry)) (now (place .entry)) end) n place fault ⌝ }
+    ensures { λ n. ⌜ HostReaderTold (nextOf (optionOf (realBy which)) (now (file .entry)) (now (place .entry)) end) n place fault ⌝ }
     ensures { λ _. ⌜ toBits binary64 (now (value .exit)) ≡ givenValue (nextOf (optionOf (realBy which)) (now (file .entry)) (now (place .entry)) end .answer) (toBits binary64 (now (value .entry))) ⌝ }
     ensures { λ _. ⌜ Puts givenSet (nextOf (optionOf (realBy which)) (now (file .entry)) (now (place .entry)) end .answer) set ⌝ }
 {
@@ -172,7 +172,7 @@ fn put_opt_real(
             *set = 0;
             0
         }
-        NextOptReal::Refused(f, to) => plain::put_refusal(f, to, place, fault),
+        NextOptReal::Refused(f, to) => host_numbers::put_refusal(f, to, place, fault),
     }
 }
 
@@ -186,7 +186,7 @@ pub extern "C" fn hooflift_opt_f64(
     set: &mut u8,
     fault: &mut usize,
 ) -> u8
-    ensures { λ n. ⌜ Leaves (nextOf (optionOf realOf) (now (file .entry)) (now (place .entry)) end) n place fault ⌝ }
+    ensures { λ n. ⌜ HostReaderTold (nextOf (optionOf realOf) (now (file .entry)) (now (place .entry)) end) n place fault ⌝ }
     ensures { λ _. ⌜ toBits binary64 (now (value .exit)) ≡ givenValue (nextOf (optionOf realOf) (now (file .entry)) (now (place .entry)) end .answer) (toBits binary64 (now (value .entry))) ⌝ }
     ensures { λ _. ⌜ Puts givenSet (nextOf (optionOf realOf) (now (file .entry)) (now (place .entry)) end .answer) set ⌝ }
 {
@@ -203,7 +203,7 @@ pub extern "C" fn hooflift_any_opt_f64(
     set: &mut u8,
     fault: &mut usize,
 ) -> u8
-    ensures { λ n. ⌜ Leaves (nextOf (optionOf anyRealOf) (now (file .entry)) (now (place .entry)) end) n place fault ⌝ }
+    ensures { λ n. ⌜ HostReaderTold (nextOf (optionOf anyRealOf) (now (file .entry)) (now (place .entry)) end) n place fault ⌝ }
     ensures { λ _. ⌜ toBits binary64 (now (value .exit)) ≡ givenValue (nextOf (optionOf anyRealOf) (now (file .entry)) (now (place .entry)) end .answer) (toBits binary64 (now (value .entry))) ⌝ }
     ensures { λ _. ⌜ Puts givenSet (nextOf (optionOf anyRealOf) (now (file .entry)) (now (place .entry)) end .answer) set ⌝ }
 {
@@ -219,7 +219,7 @@ pub extern "C" fn hooflift_measure(
     value: &mut f64,
     fault: &mut usize,
 ) -> u8
-    ensures { λ n. ⌜ Leaves (nextOf measureOf (now (file .entry)) (now (place .entry)) end) n place fault ⌝ }
+    ensures { λ n. ⌜ HostReaderTold (nextOf measureOf (now (file .entry)) (now (place .entry)) end) n place fault ⌝ }
     ensures { λ _. ⌜ PutsReal (λ x. x) (nextOf measureOf (now (file .entry)) (now (place .entry)) end .answer) value ⌝ }
 {
     let at = State { place: *place, end };
@@ -235,7 +235,7 @@ pub extern "C" fn hooflift_any_measure(
     value: &mut f64,
     fault: &mut usize,
 ) -> u8
-    ensures { λ n. ⌜ Leaves (nextOf (measureBy anyRealOf) (now (file .entry)) (now (place .entry)) end) n place fault ⌝ }
+    ensures { λ n. ⌜ HostReaderTold (nextOf (measureBy anyRealOf) (now (file .entry)) (now (place .entry)) end) n place fault ⌝ }
     ensures { λ _. ⌜ PutsReal (λ x. x) (nextOf (measureBy anyRealOf) (now (file .entry)) (now (place .entry)) end .answer) value ⌝ }
 {
     let at = State { place: *place, end };
@@ -256,7 +256,7 @@ pub extern "C" fn hooflift_bool(
     value: &mut u8,
     fault: &mut usize,
 ) -> u8
-    ensures { λ n. ⌜ Leaves (nextOf truthOf (now (file .entry)) (now (place .entry)) end) n place fault ⌝ }
+    ensures { λ n. ⌜ HostReaderTold (nextOf truthOf (now (file .entry)) (now (place .entry)) end) n place fault ⌝ }
     ensures { λ _. ⌜ Puts logicalNumber (nextOf truthOf (now (file .entry)) (now (place .entry)) end .answer) value ⌝ }
 {
     let at = State { place: *place, end };
@@ -276,6 +276,6 @@ pub extern "C" fn hooflift_bool(
             *value = 2;
             0
         }
-        NextTruth::Refused(f, to) => plain::put_refusal(f, to, place, fault),
+        NextTruth::Refused(f, to) => host_numbers::put_refusal(f, to, place, fault),
     }
 }

@@ -2,12 +2,12 @@
 ghost use mathlib.Core.Path.{_≡_};
 ghost use lib.ListN.{length};
 ghost use Rattle.error.specs.Refusal.{good};
-ghost use Rattle.titles.specs.Title.{toldTitle, titleBy, roomBy, fileName};
-ghost use Rattle.plain.specs.Answers.{Tells, Puts, PutsFound, foundCode, shownRoom, shownStart, shownStop};
+ghost use Rattle.file_name_texts.specs.Title.{toldTitle, titleBy, roomBy, fileName};
+ghost use Rattle.host_numbers.specs.Answers.{HostTold, Puts, PutsFound, foundCode, shownRoom, shownStart, shownStop};
 ghost use Rattle.export_records.specs.Records.{hostHeaderRow, hostHeaderArgs};
+use file_name_texts::Title;
 use headers::HeaderFound;
-use lookup::Place;
-use titles::Title;
+use lookup::RowOrNone;
 
 // The first header record with this keyword, letters in either case: 0, with its row's number; 255 where there is none.
 #[no_mangle]
@@ -21,12 +21,12 @@ pub extern "C" fn hooflift_header_row(
     ensures { λ n. ⌜ n ≡ foundCode (good (hostHeaderRow (now (file .entry)) (now (headers .entry)) (now (tables .entry)) (now (name .entry)))) ⌝ }
     ensures { λ _. ⌜ PutsFound (λ i. i) (good (hostHeaderRow (now (file .entry)) (now (headers .entry)) (now (tables .entry)) (now (name .entry)))) row ⌝ }
 {
-    match headers::header_row(file, headers, plain::tables_of(tables), name) {
-        Place::At(i) => {
+    match headers::header_row(file, headers, host_numbers::tables_of(tables), name) {
+        RowOrNone::At(i) => {
             *row = i;
             0
         }
-        Place::Nothing => 255,
+        RowOrNone::Nothing => 255,
     }
 }
 
@@ -44,7 +44,7 @@ pub extern "C" fn hooflift_header_args(
     ensures { λ _. ⌜ PutsFound (λ x. x .start) (hostHeaderArgs (now (file .entry)) (now (headers .entry)) (now (tables .entry)) (now (name .entry))) start ⌝ }
     ensures { λ _. ⌜ PutsFound (λ x. x .end) (hostHeaderArgs (now (file .entry)) (now (headers .entry)) (now (tables .entry)) (now (name .entry))) stop ⌝ }
 {
-    match headers::header_args(file, headers, plain::tables_of(tables), name) {
+    match headers::header_args(file, headers, host_numbers::tables_of(tables), name) {
         HeaderFound::Span(r) => {
             *start = r.start;
             *stop = r.end;
@@ -57,7 +57,7 @@ pub extern "C" fn hooflift_header_args(
 
 // Tells where a text stands: 0, or the refusal's number, with its place.
 fn put_title(t: Title, room: &mut u8, start: &mut usize, stop: &mut usize, fault: &mut usize) -> u8
-    ensures { λ n. ⌜ Tells (toldTitle t) n fault ⌝ }
+    ensures { λ n. ⌜ HostTold (toldTitle t) n fault ⌝ }
     ensures { λ _. ⌜ Puts shownRoom (toldTitle t) room ⌝ }
     ensures { λ _. ⌜ Puts shownStart (toldTitle t) start ⌝ }
     ensures { λ _. ⌜ Puts shownStop (toldTitle t) stop ⌝ }
@@ -75,7 +75,7 @@ fn put_title(t: Title, room: &mut u8, start: &mut usize, stop: &mut usize, fault
             *stop = n;
             0
         }
-        Title::Refused(f) => plain::put_fault(f, fault),
+        Title::Refused(f) => host_numbers::put_fault(f, fault),
     }
 }
 
@@ -92,13 +92,13 @@ pub extern "C" fn hooflift_file_name(
     stop: &mut usize,
     fault: &mut usize,
 ) -> u8
-    ensures { λ n. ⌜ Tells (titleBy (now (file .entry)) (length (now (out .entry))) 0 (hostHeaderArgs (now (file .entry)) (now (headers .entry)) (now (tables .entry)) fileName)) n fault ⌝ }
+    ensures { λ n. ⌜ HostTold (titleBy (now (file .entry)) (length (now (out .entry))) 0 (hostHeaderArgs (now (file .entry)) (now (headers .entry)) (now (tables .entry)) fileName)) n fault ⌝ }
     ensures { λ _. ⌜ now (out .exit) ≡ roomBy (now (file .entry)) (now (out .entry)) 0 (hostHeaderArgs (now (file .entry)) (now (headers .entry)) (now (tables .entry)) fileName) ⌝ }
     ensures { λ _. ⌜ Puts shownRoom (titleBy (now (file .entry)) (length (now (out .entry))) 0 (hostHeaderArgs (now (file .entry)) (now (headers .entry)) (now (tables .entry)) fileName)) room ⌝ }
     ensures { λ _. ⌜ Puts shownStart (titleBy (now (file .entry)) (length (now (out .entry))) 0 (hostHeaderArgs (now (file .entry)) (now (headers .entry)) (now (tables .entry)) fileName)) start ⌝ }
     ensures { λ _. ⌜ Puts shownStop (titleBy (now (file .entry)) (length (now (out .entry))) 0 (hostHeaderArgs (now (file .entry)) (now (headers .entry)) (now (tables .entry)) fileName)) stop ⌝ }
 {
-    let t = titles::file_name(file, headers, plain::tables_of(tables), out);
+    let t = file_name_texts::file_name(file, headers, host_numbers::tables_of(tables), out);
     put_title(t, room, start, stop, fault)
 }
 
@@ -115,12 +115,17 @@ pub extern "C" fn hooflift_originating_system(
     stop: &mut usize,
     fault: &mut usize,
 ) -> u8
-    ensures { λ n. ⌜ Tells (titleBy (now (file .entry)) (length (now (out .entry))) 5 (hostHeaderArgs (now (file .entry)) (now (headers .entry)) (now (tables .entry)) fileName)) n fault ⌝ }
+    ensures { λ n. ⌜ HostTold (titleBy (now (file .entry)) (length (now (out .entry))) 5 (hostHeaderArgs (now (file .entry)) (now (headers .entry)) (now (tables .entry)) fileName)) n fault ⌝ }
     ensures { λ _. ⌜ now (out .exit) ≡ roomBy (now (file .entry)) (now (out .entry)) 5 (hostHeaderArgs (now (file .entry)) (now (headers .entry)) (now (tables .entry)) fileName) ⌝ }
     ensures { λ _. ⌜ Puts shownRoom (titleBy (now (file .entry)) (length (now (out .entry))) 5 (hostHeaderArgs (now (file .entry)) (now (headers .entry)) (now (tables .entry)) fileName)) room ⌝ }
     ensures { λ _. ⌜ Puts shownStart (titleBy (now (file .entry)) (length (now (out .entry))) 5 (hostHeaderArgs (now (file .entry)) (now (headers .entry)) (now (tables .entry)) fileName)) start ⌝ }
     ensures { λ _. ⌜ Puts shownStop (titleBy (now (file .entry)) (length (now (out .entry))) 5 (hostHeaderArgs (now (file .entry)) (now (headers .entry)) (now (tables .entry)) fileName)) stop ⌝ }
 {
-    let t = titles::originating_system(file, headers, plain::tables_of(tables), out);
+    let t = file_name_texts::originating_system(
+        file,
+        headers,
+        host_numbers::tables_of(tables),
+        out,
+    );
     put_title(t, room, start, stop, fault)
 }

@@ -1,22 +1,22 @@
 // Rows kept beside a file.
 ghost use mathlib.Core.Path.{_≡_};
 ghost use lib.ListN.{length};
-ghost use Rattle.kept.specs.Kept.{keepTable, toldKept, keptAfter, readOf, readAfter};
-ghost use Rattle.plain.specs.Answers.{Puts, readCode};
+ghost use Rattle.rows_kept.specs.KeptRows.{keepTable, toldKeptCount, keptAfter, readOf, readAfter};
+ghost use Rattle.host_numbers.specs.Answers.{Puts, readCode};
 ghost use Rattle.table.specs.Table.{rowsFit, rowNumbers};
-use kept::Kept;
+use rows_kept::KeptCount;
 
 // Tells how many rows there are: 0, or the refusal's number.
-fn put_kept(r: Kept, count: &mut usize) -> u8
-    ensures { λ n. ⌜ n ≡ readCode (toldKept r) ⌝ }
-    ensures { λ _. ⌜ Puts (λ n. n) (toldKept r) count ⌝ }
+fn put_kept(r: KeptCount, count: &mut usize) -> u8
+    ensures { λ n. ⌜ n ≡ readCode (toldKeptCount r) ⌝ }
+    ensures { λ _. ⌜ Puts (λ n. n) (toldKeptCount r) count ⌝ }
 {
     match r {
-        Kept::Rows(n) => {
+        KeptCount::Rows(n) => {
             *count = n;
             0
         }
-        Kept::Refused(f) => error::number(f),
+        KeptCount::Refused(f) => error::number(f),
     }
 }
 
@@ -33,7 +33,7 @@ pub extern "C" fn hooflift_keep_rows(
     ensures { λ _. ⌜ now (out .exit) ≡ keptAfter (rowNumbers (now (rows .entry))) (keepTable len (now (rows .entry)) count (length (now (out .entry)))) (now (out .entry)) ⌝ }
     ensures { λ _. ⌜ Puts (λ n. n) (keepTable len (now (rows .entry)) count (length (now (out .entry)))) kept ⌝ }
 {
-    put_kept(kept::keep_rows(len, rows, count, out), kept)
+    put_kept(rows_kept::keep_rows(len, rows, count, out), kept)
 }
 
 // Reads rows that were kept beside a file of `len` bytes: 0, with how many in `count`; or 9 or 16.
@@ -48,5 +48,5 @@ pub extern "C" fn hooflift_read_rows(
     ensures { λ _. ⌜ now (rows .exit) ≡ readAfter (now (bytes .entry)) (readOf len (now (bytes .entry)) (rowsFit (length (now (rows .entry))))) (now (rows .entry)) ⌝ }
     ensures { λ _. ⌜ Puts (λ n. n) (readOf len (now (bytes .entry)) (rowsFit (length (now (rows .entry))))) count ⌝ }
 {
-    put_kept(kept::read_rows(len, bytes, rows), count)
+    put_kept(rows_kept::read_rows(len, bytes, rows), count)
 }

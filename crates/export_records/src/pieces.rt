@@ -2,22 +2,22 @@
 ghost use mathlib.Core.Path.{_≡_};
 ghost use lib.ListN.{length};
 ghost use Rattle.parts.specs.Rules.{toldNext};
-ghost use Rattle.parts.specs.Part.{nextOf, partOf};
-ghost use Rattle.table.specs.Table.{headerWidth, four};
-ghost use Rattle.plain.specs.Answers.{readFault};
-ghost use Rattle.plain.specs.Numbers.{outCode, outAfter, kindBy};
+ghost use Rattle.parts.specs.Part.{nextPartOf, partOf};
+ghost use Rattle.table.specs.Table.{headerWidth, headerRowNumbers};
+ghost use Rattle.host_numbers.specs.Answers.{readFault};
+ghost use Rattle.host_numbers.specs.Numbers.{outCode, outAfter, kindBy};
 use parts::Next;
 
 // Tells a part: 0, with its four numbers; 255 where there is none; or the refusal's number, with its place.
 fn put_next(r: Next, part: &mut [u64], fault: &mut usize) -> u8
     ensures { λ n. ⌜ n ≡ outCode headerWidth (length (now (part .entry))) (toldNext r) ⌝ }
-    ensures { λ _. ⌜ now (part .exit) ≡ outAfter headerWidth four (toldNext r) (now (part .entry)) ⌝ }
+    ensures { λ _. ⌜ now (part .exit) ≡ outAfter headerWidth headerRowNumbers (toldNext r) (now (part .entry)) ⌝ }
     ensures { λ _. ⌜ now (fault .exit) ≡ readFault (toldNext r) (now (fault .entry)) ⌝ }
 {
     match r {
-        Next::Is(p) => plain::put_part(part, p),
+        Next::Is(p) => host_numbers::put_part(part, p),
         Next::Over => 255,
-        Next::Refused(f) => plain::put_fault(f, fault),
+        Next::Refused(f) => host_numbers::put_fault(f, fault),
     }
 }
 
@@ -31,9 +31,9 @@ pub extern "C" fn hooflift_next_part(
     part: &mut [u64],
     fault: &mut usize,
 ) -> u8
-    ensures { λ n. ⌜ n ≡ outCode headerWidth (length (now (part .entry))) (nextOf (now (file .entry)) at end) ⌝ }
-    ensures { λ _. ⌜ now (part .exit) ≡ outAfter headerWidth four (nextOf (now (file .entry)) at end) (now (part .entry)) ⌝ }
-    ensures { λ _. ⌜ now (fault .exit) ≡ readFault (nextOf (now (file .entry)) at end) (now (fault .entry)) ⌝ }
+    ensures { λ n. ⌜ n ≡ outCode headerWidth (length (now (part .entry))) (nextPartOf (now (file .entry)) at end) ⌝ }
+    ensures { λ _. ⌜ now (part .exit) ≡ outAfter headerWidth headerRowNumbers (nextPartOf (now (file .entry)) at end) (now (part .entry)) ⌝ }
+    ensures { λ _. ⌜ now (fault .exit) ≡ readFault (nextPartOf (now (file .entry)) at end) (now (fault .entry)) ⌝ }
 {
     put_next(parts::next_part(file, at, end), part, fault)
 }
@@ -50,11 +50,11 @@ pub extern "C" fn hooflift_complex_part(
     fault: &mut usize,
 ) -> u8
     ensures { λ n. ⌜ n ≡ outCode headerWidth (length (now (part .entry))) (partOf (now (file .entry)) start end complex (kindBy kind)) ⌝ }
-    ensures { λ _. ⌜ now (part .exit) ≡ outAfter headerWidth four (partOf (now (file .entry)) start end complex (kindBy kind)) (now (part .entry)) ⌝ }
+    ensures { λ _. ⌜ now (part .exit) ≡ outAfter headerWidth headerRowNumbers (partOf (now (file .entry)) start end complex (kindBy kind)) (now (part .entry)) ⌝ }
     ensures { λ _. ⌜ now (fault .exit) ≡ readFault (partOf (now (file .entry)) start end complex (kindBy kind)) (now (fault .entry)) ⌝ }
 {
     put_next(
-        parts::complex_part(file, start, end, complex, plain::kind_by(kind)),
+        parts::complex_part(file, start, end, complex, host_numbers::kind_by(kind)),
         part,
         fault,
     )

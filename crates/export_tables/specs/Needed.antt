@@ -9,7 +9,7 @@ use lib.Seq.{sets}
 use Rattle.error.specs.Refusal.{Told, good, bad}
 use Rattle.needs.specs.declared.Needs.{Needs}
 use Rattle.needs.specs.Needs.{needsOf}
-use Rattle.plain.specs.Answers.{readCode, readFault}
+use Rattle.host_numbers.specs.Answers.{readCode, readFault}
 use Rattle.export_tables.specs.Tables.{readReason}
 
 -- how many numbers a host lends at least for what a file needs: more than are told so far

@@ -5,10 +5,10 @@ use Prim.Native.Nat.{ℕ}
 use mathlib.Core.Path.{_≡_, sym, _∙_, ap}
 use mathlib.Core.List.{List}
 use native.Mathlib.Omega.{arith}
-use Rattle.store.specs.Store.{toldOpened}
-use Rattle.store.specs.Only.{opened-only}
-use Rattle.store.specs.declared.Opened.{Opened}
-use Rattle.plain.specs.Answers.{readCode, readFault}
+use Rattle.store.specs.Store.{toldOpenedFile}
+use Rattle.store.specs.Only.{opened-file-only}
+use Rattle.store.specs.declared.OpenedFile.{OpenedFile}
+use Rattle.host_numbers.specs.Answers.{readCode, readFault}
 use Rattle.export_tables.specs.Tables.{readReason, openTables, Host}
 use Rattle.export_tables.specs.Tables.Host.{short, opened}
 use Rattle.export_tables.specs.Needed.{Needing}
@@ -21,15 +21,15 @@ host-only (short k a b c d e f g) (short l h i j o p q r) = (a ∙ sym h, b ∙ 
 host-only (short k a b c d e f g) (opened l x h i j o p) = absurd (omega arith)
 host-only (opened k x a b c d e) (short l h i j o p q r) = absurd (omega arith)
 host-only {s} {heads} {rows} {slots} {tables} {reason} {fault} {ha} {hb} {ra} {rb} {xa} {xb} (opened k x a b c d e) (opened l y h i j o p) =
-    let w = opened-only s heads rows slots x y ha hb ra rb xa xb a h in
+    let w = opened-file-only s heads rows slots x y ha hb ra rb xa xb a h in
     let v = w .0 in (
-      b ∙ ap (λ (z : Opened). readCode (toldOpened z)) v ∙ sym i,
+      b ∙ ap (λ (z : OpenedFile). readCode (toldOpenedFile z)) v ∙ sym i,
       w .1,
       w .2,
       w .3,
-      c ∙ ap (λ (z : Opened). openTables z tables) v ∙ sym j,
-      d ∙ ap (λ (z : Opened). readReason (toldOpened z) reason) v ∙ sym o,
-      e ∙ ap (λ (z : Opened). readFault (toldOpened z) fault) v ∙ sym p,
+      c ∙ ap (λ (z : OpenedFile). openTables z tables) v ∙ sym j,
+      d ∙ ap (λ (z : OpenedFile). readReason (toldOpenedFile z) reason) v ∙ sym o,
+      e ∙ ap (λ (z : OpenedFile). readFault (toldOpenedFile z) fault) v ∙ sym p,
     )
 
 -- "that two allowed answers coincide is proved": of what a file needs, and of each lent thing after it

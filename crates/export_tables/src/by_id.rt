@@ -6,8 +6,8 @@ ghost use Rattle.table.specs.Table.{rowWidth, six};
 ghost use Rattle.statement.specs.Rows.{mapped};
 ghost use Rattle.kinds.specs.Rules.{rankOf};
 ghost use Rattle.lookup.specs.Lookup.{required, argsBy, kindFound};
-ghost use Rattle.plain.specs.Answers.{Puts, readCode};
-ghost use Rattle.plain.specs.Numbers.{outCode, outAfter};
+ghost use Rattle.host_numbers.specs.Answers.{Puts, readCode};
+ghost use Rattle.host_numbers.specs.Numbers.{outCode, outAfter};
 ghost use Rattle.export_tables.specs.Tables.{hostRecord};
 use lookup::Required;
 
@@ -23,8 +23,8 @@ pub extern "C" fn hooflift_require(
     ensures { λ n. ⌜ n ≡ outCode rowWidth (length (now (row .entry))) (mapped some (required (hostRecord (now (rows .entry)) (now (slots .entry)) (now (tables .entry)) id))) ⌝ }
     ensures { λ _. ⌜ now (row .exit) ≡ outAfter rowWidth six (mapped some (required (hostRecord (now (rows .entry)) (now (slots .entry)) (now (tables .entry)) id))) (now (row .entry)) ⌝ }
 {
-    match lookup::require(rows, slots, plain::tables_of(tables), id) {
-        Required::Row(w) => plain::put_row(row, w),
+    match lookup::require(rows, slots, host_numbers::tables_of(tables), id) {
+        Required::Row(w) => host_numbers::put_row(row, w),
         Required::Refused(f) => error::number(f),
     }
 }
@@ -45,7 +45,7 @@ pub extern "C" fn hooflift_args(
     ensures { λ _. ⌜ Puts (λ x. x .end) (argsBy (length (now (file .entry))) (hostRecord (now (rows .entry)) (now (slots .entry)) (now (tables .entry)) id)) stop ⌝ }
 {
     crate::put_span(
-        lookup::args(file, rows, slots, plain::tables_of(tables), id),
+        lookup::args(file, rows, slots, host_numbers::tables_of(tables), id),
         start,
         stop,
     )
@@ -62,5 +62,11 @@ pub extern "C" fn hooflift_kind_of(
 ) -> u32
     ensures { λ n. ⌜ n ≡ rankOf (kindFound (now (file .entry)) (hostRecord (now (rows .entry)) (now (slots .entry)) (now (tables .entry)) id)) ⌝ }
 {
-    plain::kind_number(lookup::kind_of(file, rows, slots, plain::tables_of(tables), id))
+    host_numbers::kind_number(lookup::kind_of(
+        file,
+        rows,
+        slots,
+        host_numbers::tables_of(tables),
+        id,
+    ))
 }

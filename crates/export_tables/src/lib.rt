@@ -20,7 +20,7 @@ pub use needing::hooflift_needs;
 pub use opening::hooflift_open;
 ghost use mathlib.Core.Path.{_≡_};
 ghost use Rattle.lookup.specs.Lookup.{toldSpan};
-ghost use Rattle.plain.specs.Answers.{Puts, readCode};
+ghost use Rattle.host_numbers.specs.Answers.{Puts, readCode};
 use lookup::Spanned;
 
 // Tells where a span stands: 0, or the refusal's number.

@@ -45,7 +45,7 @@ pub extern "C" fn hooflift_needs(
         }
         Needed::Refused(f) => {
             *reason = error::reason(f);
-            plain::put_fault(f, fault)
+            host_numbers::put_fault(f, fault)
         }
     }
 }

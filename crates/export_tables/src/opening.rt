@@ -1,6 +1,6 @@
 // A file opened.
 ghost use Rattle.export_tables.specs.Tables.{Hosts};
-use store::Opened;
+use store::OpenedFile;
 
 // Scans a file into lent rows and indexes its ids in the lent slots, one a record: 0, with what goes with the tables in sixteen numbers; or
 // the refusal's number, with its reason and place; or 16 where `tables` has no room for sixteen.
@@ -20,13 +20,13 @@ pub extern "C" fn hooflift_open(
         return 16;
     }
     match store::open(file, headers, rows, slots) {
-        Opened::Good(t) => {
-            plain::put_tables(tables, t);
+        OpenedFile::Good(t) => {
+            host_numbers::put_tables(tables, t);
             0
         }
-        Opened::Refused(f) => {
+        OpenedFile::Refused(f) => {
             *reason = error::reason(f);
-            plain::put_fault(f, fault)
+            host_numbers::put_fault(f, fault)
         }
     }
 }

@@ -8,16 +8,16 @@ use Rattle.error.specs.Refusal.{Told, good}
 use Rattle.statement.specs.Rows.{Row, mapped}
 use Rattle.params.specs.Answer.{onward}
 use Rattle.lookup.specs.Lookup.{rowIn}
-use Rattle.factors.specs.Thing.{Thing, thingOf, tableFind}
+use Rattle.factors.specs.SeenRecords.{SeenRecord, seenRecordOf, tableFind}
 use Rattle.units.specs.Answer.{Units}
 use Rattle.units.specs.Units.{contextOf}
 use Rattle.units.specs.InTable.{resolveTable}
-use Rattle.plain.specs.Numbers.{tablesBy}
+use Rattle.host_numbers.specs.Numbers.{tablesBy}
 
 -- the units of the context in a row, or what refuses them; none where there is no row. `find` gives the record of an id
-abbrev pub unitsIn : List ℕ → (ℕ → Told (Option Thing)) → Option Row → Told (Option Units)
+abbrev pub unitsIn : List ℕ → (ℕ → Told (Option SeenRecord)) → Option Row → Told (Option Units)
 unitsIn s find none = good none
-unitsIn s find (some w) = mapped some (onward (contextOf s find) (thingOf s w))
+unitsIn s find (some w) = mapped some (onward (contextOf s find) (seenRecordOf s w))
 
 -- a file's units, by a host's tables and numbers
 abbrev pub fileUnits : List ℕ → List ℕ → List ℕ → List ℕ → Told Units

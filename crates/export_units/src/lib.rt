@@ -1,7 +1,7 @@
 // Units, for hosts in other languages: the file's, and those of one context.
 ghost use mathlib.Core.Path.{_≡_};
 ghost use Rattle.units.specs.Answer.{toldUnits};
-ghost use Rattle.plain.specs.Answers.{Tells, Puts, PutsReal, PutsFound, PutsFoundReal, readFault, foundCode, truthNumber};
+ghost use Rattle.host_numbers.specs.Answers.{HostTold, Puts, PutsReal, PutsFound, PutsFoundReal, readFault, foundCode, truthNumber};
 ghost use Rattle.export_units.specs.Contexts.{fileUnits, rowUnits};
 use lookup::Entry;
 use units::Resolved;
@@ -15,7 +15,7 @@ fn put_units(
     resolved: &mut u8,
     fault: &mut usize,
 ) -> u8
-    ensures { λ n. ⌜ Tells (toldUnits r) n fault ⌝ }
+    ensures { λ n. ⌜ HostTold (toldUnits r) n fault ⌝ }
     ensures { λ _. ⌜ PutsReal (λ u. u .length) (toldUnits r) mm ⌝ }
     ensures { λ _. ⌜ PutsReal (λ u. u .angle) (toldUnits r) rad ⌝ }
     ensures { λ _. ⌜ PutsReal (λ u. u .tolerance) (toldUnits r) tolerance ⌝ }
@@ -26,10 +26,10 @@ fn put_units(
             *mm = v.length;
             *rad = v.angle;
             *tolerance = v.tolerance;
-            *resolved = plain::number_of(v.resolved);
+            *resolved = host_numbers::number_of(v.resolved);
             0
         }
-        Resolved::Refused(f) => plain::put_fault(f, fault),
+        Resolved::Refused(f) => host_numbers::put_fault(f, fault),
     }
 }
 
@@ -46,13 +46,13 @@ pub extern "C" fn hooflift_units(
     resolved: &mut u8,
     fault: &mut usize,
 ) -> u8
-    ensures { λ n. ⌜ Tells (fileUnits (now (file .entry)) (now (rows .entry)) (now (slots .entry)) (now (tables .entry))) n fault ⌝ }
+    ensures { λ n. ⌜ HostTold (fileUnits (now (file .entry)) (now (rows .entry)) (now (slots .entry)) (now (tables .entry))) n fault ⌝ }
     ensures { λ _. ⌜ PutsReal (λ u. u .length) (fileUnits (now (file .entry)) (now (rows .entry)) (now (slots .entry)) (now (tables .entry))) mm ⌝ }
     ensures { λ _. ⌜ PutsReal (λ u. u .angle) (fileUnits (now (file .entry)) (now (rows .entry)) (now (slots .entry)) (now (tables .entry))) rad ⌝ }
     ensures { λ _. ⌜ PutsReal (λ u. u .tolerance) (fileUnits (now (file .entry)) (now (rows .entry)) (now (slots .entry)) (now (tables .entry))) tolerance ⌝ }
     ensures { λ _. ⌜ Puts (λ u. truthNumber (u .resolved)) (fileUnits (now (file .entry)) (now (rows .entry)) (now (slots .entry)) (now (tables .entry))) resolved ⌝ }
 {
-    let r = units::resolve(file, rows, slots, plain::tables_of(tables));
+    let r = units::resolve(file, rows, slots, host_numbers::tables_of(tables));
     put_units(r, mm, rad, tolerance, resolved, fault)
 }
 
@@ -77,7 +77,7 @@ pub extern "C" fn hooflift_units_of_context(
     ensures { λ _. ⌜ PutsFoundReal (λ u. u .tolerance) (rowUnits (now (file .entry)) (now (rows .entry)) (now (slots .entry)) (now (tables .entry)) k) tolerance ⌝ }
     ensures { λ _. ⌜ PutsFound (λ u. truthNumber (u .resolved)) (rowUnits (now (file .entry)) (now (rows .entry)) (now (slots .entry)) (now (tables .entry)) k) resolved ⌝ }
 {
-    let t = plain::tables_of(tables);
+    let t = host_numbers::tables_of(tables);
     match lookup::entity(rows, t, k) {
         Entry::Row(w) => {
             let r = units::units_of_context(file, rows, slots, t, w);

@@ -5,14 +5,14 @@ use mathlib.Core.Option.{Option, none, some}
 use lib.Ieee.{binary64, toBits}
 use Rattle.error.specs.Refusal.{Told, good, bad, told}
 use Rattle.params.specs.Answer.{Span, span}
-use Rattle.factors.specs.declared.Run as RunCode
+use Rattle.factors.specs.declared.ArgumentsFound as RunCode
 use Rattle.factors.specs.declared.Factor as FactorCode
 
 -- what the code's answer about a record's arguments says: arguments, none, or a refusal
-abbrev pub toldRun : RunCode.Run → Told (Option Span)
-toldRun (RunCode.the-variants.Args a z) = good (some (span a z))
-toldRun RunCode.the-variants.Nothing = good none
-toldRun (RunCode.the-variants.Refused f) = bad (told f)
+abbrev pub toldArguments : RunCode.ArgumentsFound → Told (Option Span)
+toldArguments (RunCode.the-variants.Args a z) = good (some (span a z))
+toldArguments RunCode.the-variants.Nothing = good none
+toldArguments (RunCode.the-variants.Refused f) = bad (told f)
 
 -- what the code's answer about a factor says: a factor by its bits, none, or a refusal
 abbrev pub toldFactor : FactorCode.Factor → Told (Option ℕ)

@@ -8,7 +8,7 @@ use lib.Dec.{leb}
 use lib.ListN.{length, take, drop}
 use Rattle.record.specs.Word.{isWord}
 use Rattle.words.specs.declared.NextName as NextNameCode
-use Rattle.factors.specs.Thing.{goodBy}
+use Rattle.factors.specs.SeenRecords.{goodBy}
 use Rattle.factors.specs.Factor.{Chain, known, leads}
 use Rattle.factors.specs.Answer.{toldFactor}
 use Rattle.factors.specs.declared.Link as LinkCode

@@ -24,18 +24,18 @@ use Rattle.reals.specs.WholeRight.{reference-is}
 use Rattle.params.specs.Reader.{paramOf}
 use Rattle.params.specs.Skips.{skipOf}
 use Rattle.params.specs.Answer.{Read, Span, onward}
-use Rattle.params.specs.Rules.{NextForm}
-use Rattle.params.specs.RulesRight.{next-is}
+use Rattle.params.specs.Rules.{NextParamForm}
+use Rattle.params.specs.RulesRight.{param-next-is}
 use Rattle.scalars.specs.Answer.{nextOf, answered, scalarAt}
 use Rattle.parts.specs.Part.{partsOf}
 use Rattle.parts.specs.Places.{FaultIn, AnswerIn, AllIn, parts-placed}
 use Rattle.index.specs.Search.{searched}
 use Rattle.index.specs.declared.Ids.{Ids}
 use Rattle.lookup.specs.Lookup.{spanFine, rowFound, rowFor}
-use Rattle.factors.specs.Thing.{goodBy, sameKind, Piece, pieceOf, Thing, piecesOf, thingAt, thingOf, thingFound, findOf, firstPiece, selfOr}
+use Rattle.factors.specs.SeenRecords.{goodBy, sameKind, UnitPart, unitPartOf, SeenRecord, unitPartsOf, seenRecordAt, seenRecordOf, seenRecordFound, findOf, firstUnitPart, selfOr}
 use Rattle.factors.specs.Factor.{lengthOf}
 use Rattle.factors.specs.Unit.{measureRef, scaledBy, measureRun}
-use Rattle.factors.specs.Rules.{Based, ends, base, MeasureForm, LengthForm, Follows}
+use Rattle.factors.specs.Rules.{Based, chainEnds, base, MeasureBaseForm, LengthForm, Follows}
 use Rattle.factors.specs.RulesRight.{length-form-only, length-form-is}
 
 -- an answer that is not refused with 15
@@ -44,40 +44,40 @@ Shallow (good a) = Unit {0}
 Shallow (bad q) = q .number ≡ 15 → ⊥
 
 -- a record that was looked up, where neither the lookup nor a fault in the record's parts has the number 15
-abbrev pub FoundShallow : Told (Option Thing) → Type 0
+abbrev pub FoundShallow : Told (Option SeenRecord) → Type 0
 FoundShallow (good none) = Unit {0}
 FoundShallow (good (some t)) = Shallow (t .parts)
 FoundShallow (bad q) = q .number ≡ 15 → ⊥
 
 -- ---- what refuses with another number
 -- the arguments of a record, or of its first part of a kind, are not refused with 15, where the record's parts are not
-self-shallow : (k : Kind) (t : Thing) → Shallow (t .parts) → Shallow (selfOr k t)
+self-shallow : (k : Kind) (t : SeenRecord) → Shallow (t .parts) → Shallow (selfOr k t)
 self-shallow k t h = go (sameKind (t .kind) k) (t .parts) h
   where
-    go : (b : Bool) (ps : Told (List Piece)) → Shallow ps → Shallow (pick b (good (some (t .run))) (goodBy (firstPiece k) ps))
+    go : (b : Bool) (ps : Told (List UnitPart)) → Shallow ps → Shallow (pick b (good (some (t .run))) (goodBy (firstUnitPart k) ps))
     go true ps h = tt
     go false (good ps) h = tt
     go false (bad q) h = h
 
 -- the arguments of a measure are not refused with 15, where its parts are not
-run-shallow : (t : Thing) → Shallow (t .parts) → Shallow (measureRun t)
+run-shallow : (t : SeenRecord) → Shallow (t .parts) → Shallow (measureRun t)
 run-shallow t h = go (sameKind (t .kind) Kinds.Complex) (t .parts) h
   where
-    go : (b : Bool) (ps : Told (List Piece)) → Shallow ps → Shallow (pick b (goodBy (firstPiece LengthMeasureWithUnit) ps) (good (some (t .run))))
+    go : (b : Bool) (ps : Told (List UnitPart)) → Shallow ps → Shallow (pick b (goodBy (firstUnitPart LengthMeasureWithUnit) ps) (good (some (t .run))))
     go true (good ps) h = tt
     go true (bad q) h = h
     go false ps h = tt
 
 -- a parameter is refused with 9, 10 or 11, and not with 15
 param-shallow : (s : List ℕ) (p e : ℕ) → Shallow (paramOf s p e .answer)
-param-shallow s p e = go (paramOf s p e) (next-is s p e)
+param-shallow s p e = go (paramOf s p e) (param-next-is s p e)
   where
-    go : (x : Read Span) → NextForm s p e x → Shallow (x .answer)
-    go _ (NextForm.outside h) = λ z. absurd (omega (arith, z))
-    go _ (NextForm.none h k) = λ z. absurd (omega (arith, z))
-    go _ (NextForm.comma h a b c d f) = tt
-    go _ (NextForm.last h a b c d f) = tt
-    go _ (NextForm.unclosed h a b c d) = λ z. absurd (omega (arith, z))
+    go : (x : Read Span) → NextParamForm s p e x → Shallow (x .answer)
+    go _ (NextParamForm.outside h) = λ z. absurd (omega (arith, z))
+    go _ (NextParamForm.none h k) = λ z. absurd (omega (arith, z))
+    go _ (NextParamForm.comma h a b c d f) = tt
+    go _ (NextParamForm.last h a b c d f) = tt
+    go _ (NextParamForm.unclosed h a b c d) = λ z. absurd (omega (arith, z))
 
 -- a reference is refused with 12, and not with 15
 reference-shallow : (s : List ℕ) (a : Span) → Shallow (scalarAt referenceOf s a)
@@ -107,39 +107,39 @@ scaled-bad v (bad r) q e = e
 
 -- what a measure leads to is not refused with 15, nor are its base unit's parts
 BasedShallow : Based → Type 0
-BasedShallow (ends a) = Shallow a
+BasedShallow (chainEnds a) = Shallow a
 BasedShallow (base v u) = Shallow (u .parts)
 
-module _ (s : List ℕ) (find : ℕ → Told (Option Thing)) where
+module _ (s : List ℕ) (find : ℕ → Told (Option SeenRecord)) where
   -- ---- sixteen steps
   -- the seventeenth conversion unit on a chain refuses, whatever comes after it
-  follows-deep : (n k : ℕ) (t : Thing) (p : ℕ) → k + n ≡ 16 → Follows s find n t p → LengthForm s find k t (bad (refusal 15 0 p))
-  follows-deep zero k t p h f = subst (λ (x : Thing). LengthForm s find k x (bad (refusal 15 0 p))) (sym (f .links)) (subst (λ (j : ℕ). LengthForm s find k (f .unit) (bad (refusal 15 0 j))) (sym (f .place)) (LengthForm.deep (omega arith) (f .converts)))
+  follows-deep : (n k : ℕ) (t : SeenRecord) (p : ℕ) → k + n ≡ 16 → Follows s find n t p → LengthForm s find k t (bad (refusal 15 0 p))
+  follows-deep zero k t p h f = subst (λ (x : SeenRecord). LengthForm s find k x (bad (refusal 15 0 p))) (sym (f .links)) (subst (λ (j : ℕ). LengthForm s find k (f .unit) (bad (refusal 15 0 j))) (sym (f .place)) (LengthForm.deep (omega arith) (f .converts)))
   follows-deep (suc n) k t p h f =
       let (u, (st, l)) = f .links in
       LengthForm.conversion {k = k} {v = st .number} {a = bad (refusal 15 0 p)} (omega arith) (st .converts) (st .names) (st .leads) (follows-deep n (suc k) u p (omega arith) (record { unit = f .unit; run = f .run; links = l; converts = f .converts; place = f .place }))
 
   -- "The seventeenth conversion unit on one chain is 15, before its name", at "the unit record's argument start"
-  pub too-deep-is : {t : Thing} {p : ℕ} → Follows s find 16 t p → lengthOf s find 16 t ≡ bad (refusal 15 0 p)
+  pub too-deep-is : {t : SeenRecord} {p : ℕ} → Follows s find 16 t p → lengthOf s find 16 t ≡ bad (refusal 15 0 p)
   too-deep-is {t} {p} f = sym (length-form-only s find (follows-deep 16 0 t p refl f))
 
   module _ (finds : (i : ℕ) → FoundShallow (find i)) where
     -- what a measure of the file leads to is not refused with 15, nor are its base unit's parts
-    measure-shallow : {i : ℕ} {b : Based} → MeasureForm s find i b → BasedShallow b
+    measure-shallow : {i : ℕ} {b : Based} → MeasureBaseForm s find i b → BasedShallow b
     unfolding BasedShallow
-    measure-shallow (MeasureForm.leads {b} h n e u) = subst FoundShallow u (finds b)
-    measure-shallow (MeasureForm.missing f) = tt
-    measure-shallow (MeasureForm.lacking f h) = tt
-    measure-shallow (MeasureForm.unreadable h n d) = tt
-    measure-shallow (MeasureForm.unbased h n b) = tt
-    measure-shallow (MeasureForm.baseless h n b u) = tt
-    measure-shallow (MeasureForm.classless h n d) = λ z. absurd (omega (arith, d, z))
-    measure-shallow {i} (MeasureForm.faulty {m} f h) = subst Shallow h (run-shallow m (subst FoundShallow f (finds i)))
-    measure-shallow {i} (MeasureForm.lost f) = subst FoundShallow f (finds i)
-    measure-shallow (MeasureForm.base-lost {b} h n e u) = subst FoundShallow u (finds b)
+    measure-shallow (MeasureBaseForm.leads {b} h n e u) = subst FoundShallow u (finds b)
+    measure-shallow (MeasureBaseForm.missing f) = tt
+    measure-shallow (MeasureBaseForm.lacking f h) = tt
+    measure-shallow (MeasureBaseForm.unreadable h n d) = tt
+    measure-shallow (MeasureBaseForm.unbased h n b) = tt
+    measure-shallow (MeasureBaseForm.baseless h n b u) = tt
+    measure-shallow (MeasureBaseForm.classless h n d) = λ z. absurd (omega (arith, d, z))
+    measure-shallow {i} (MeasureBaseForm.faulty {m} f h) = subst Shallow h (run-shallow m (subst FoundShallow f (finds i)))
+    measure-shallow {i} (MeasureBaseForm.lost f) = subst FoundShallow f (finds i)
+    measure-shallow (MeasureBaseForm.base-lost {b} h n e u) = subst FoundShallow u (finds b)
 
     -- where 15 is given, the steps that are left lead to one more conversion unit
-    deep-follows : {k : ℕ} {t : Thing} {a : Told (Option ℕ)} → LengthForm s find k t a → Shallow (t .parts) → (q : Refusal) → a ≡ bad q → q .number ≡ 15 → (n : ℕ) → k + n ≡ 16
+    deep-follows : {k : ℕ} {t : SeenRecord} {a : Told (Option ℕ)} → LengthForm s find k t a → Shallow (t .parts) → (q : Refusal) → a ≡ bad q → q .number ≡ 15 → (n : ℕ) → k + n ≡ 16
         → (q ≡ refusal 15 0 (q .place)) × Follows s find n t (q .place)
     unfolding BasedShallow
     deep-follows (LengthForm.si e) h q c d n l = clash (cc)
@@ -158,7 +158,7 @@ module _ (s : List ℕ) (find : ℕ → Told (Option Thing)) where
     deep-follows {t = t} (LengthForm.faulty e) h q c d n l = absurd (subst Shallow c (subst (λ (x : Told (Option Span)). Shallow x) e (self-shallow SiUnit t h)) d)
 
     -- a length unit is refused with 15 only where sixteen steps lead to one more conversion unit
-    pub too-deep-only : {t : Thing} {q : Refusal} → Shallow (t .parts) → lengthOf s find 16 t ≡ bad q → q .number ≡ 15 → (q ≡ refusal 15 0 (q .place)) × Follows s find 16 t (q .place)
+    pub too-deep-only : {t : SeenRecord} {q : Refusal} → Shallow (t .parts) → lengthOf s find 16 t ≡ bad q → q .number ≡ 15 → (q ≡ refusal 15 0 (q .place)) × Follows s find 16 t (q .place)
     too-deep-only {t} {q} h e d = deep-follows (length-form-is s find t) h q e d 16 refl
 
 -- ---- the records of a file
@@ -170,20 +170,20 @@ fault-shallow n q (inr (inr (inl h)), l) z = absurd (omega (arith, h, z))
 fault-shallow n q (inr (inr (inr h)), l) z = absurd (omega (arith, h, z))
 
 -- the parts of a row are not refused with 15
-pieces-shallow : (s : List ℕ) (w : Row) → Shallow (piecesOf s w)
+pieces-shallow : (s : List ℕ) (w : Row) → Shallow (unitPartsOf s w)
 pieces-shallow s w = go (eqb (w .complex) 1) (partsOf s (w .argStart) (w .argEnd)) (parts-placed s (w .argStart) (w .argEnd))
   where
-    go : (b : Bool) (x : Told (List HeaderRow)) → AnswerIn (length s) (AllIn (length s) (w .argStart)) x → Shallow (pick b (goodBy (map (pieceOf s)) x) (good []))
+    go : (b : Bool) (x : Told (List HeaderRow)) → AnswerIn (length s) (AllIn (length s) (w .argStart)) x → Shallow (pick b (goodBy (map (unitPartOf s)) x) (good []))
     go false x h = tt
     go true (good ps) h = tt
     go true (bad q) h = fault-shallow (length s) q h
 
 -- the parts of a row's record are not refused with 15
-pub thing-shallow : (s : List ℕ) (w : Row) {t : Thing} → thingOf s w ≡ good t → Shallow (t .parts)
-thing-shallow s w {t} = go (spanFine (length s) (w .argStart) (w .argEnd))
+pub seen-record-shallow : (s : List ℕ) (w : Row) {t : SeenRecord} → seenRecordOf s w ≡ good t → Shallow (t .parts)
+seen-record-shallow s w {t} = go (spanFine (length s) (w .argStart) (w .argEnd))
   where
-    go : (b : Bool) → pick b (good (thingAt s w)) (bad (refusal 9 0 0)) ≡ good t → Shallow (t .parts)
-    go true e = let z : thingAt s w ≡ t = cc in subst (λ (x : Thing). Shallow (x .parts)) z (pieces-shallow s w)
+    go : (b : Bool) → pick b (good (seenRecordAt s w)) (bad (refusal 9 0 0)) ≡ good t → Shallow (t .parts)
+    go true e = let z : seenRecordAt s w ≡ t = cc in subst (λ (x : SeenRecord). Shallow (x .parts)) z (pieces-shallow s w)
     go false e = clash (cc)
 
 -- the record of an id and its parts are not refused with 15, whatever the lent tables hold
@@ -191,15 +191,15 @@ pub find-shallow : (s rows slots : List ℕ) (ids : Ids) (i : ℕ) → FoundShal
 unfolding findOf
 find-shallow s rows slots ids i = go (rowFound rows (searched rows slots ids i))
   where
-    one : (w : Row) (b : Bool) → FoundShallow (goodBy some (pick b (good (thingAt s w)) (bad (refusal 9 0 0))))
+    one : (w : Row) (b : Bool) → FoundShallow (goodBy some (pick b (good (seenRecordAt s w)) (bad (refusal 9 0 0))))
     one w true = pieces-shallow s w
     one w false = λ z. absurd (omega (arith, z))
 
-    go : (x : Option Row) → FoundShallow (thingFound s x)
+    go : (x : Option Row) → FoundShallow (seenRecordFound s x)
     go none = tt
     go (some w) = one w (spanFine (length s) (w .argStart) (w .argEnd))
 
 -- of a file's length unit: 15 is given only where the seventeenth conversion unit on a chain is met
-pub file-too-deep : (s rows slots : List ℕ) (ids : Ids) (w : Row) {t : Thing} {q : Refusal} → thingOf s w ≡ good t → lengthOf s (findOf s (rowFor rows slots ids)) 16 t ≡ bad q → q .number ≡ 15
+pub file-too-deep : (s rows slots : List ℕ) (ids : Ids) (w : Row) {t : SeenRecord} {q : Refusal} → seenRecordOf s w ≡ good t → lengthOf s (findOf s (rowFor rows slots ids)) 16 t ≡ bad q → q .number ≡ 15
     → (q ≡ refusal 15 0 (q .place)) × Follows s (findOf s (rowFor rows slots ids)) 16 t (q .place)
-file-too-deep s rows slots ids w h e d = too-deep-only s (findOf s (rowFor rows slots ids)) (find-shallow s rows slots ids) (thing-shallow s w h) e d
+file-too-deep s rows slots ids w h e d = too-deep-only s (findOf s (rowFor rows slots ids)) (find-shallow s rows slots ids) (seen-record-shallow s w h) e d

@@ -19,7 +19,7 @@ pub record IsFirst {A R : Type 0} (Passed : A → Type 0) (Gives : A → R → T
   pub gives : Gives one a
 
 -- the last member of a list of which g tells something: it tells a, and of each after it g tells nothing
-pub record IsLast {A R : Type 0} (g : A → Option R) (xs : List A) (a : R) : Type 0 where
+pub record IsLastTold {A R : Type 0} (g : A → Option R) (xs : List A) (a : R) : Type 0 where
   pub front : List A
   pub one : A
   pub back : List A
@@ -28,6 +28,6 @@ pub record IsLast {A R : Type 0} (g : A → Option R) (xs : List A) (a : R) : Ty
   pub after : Each (λ x. g x ≡ none) back
 
 -- what g tells of the last member of which it tells something, or that there is none
-abbrev pub LastForm : {A R : Type 0} → (A → Option R) → List A → Option R → Type 0
-LastForm g xs none = Each (λ x. g x ≡ none) xs
-LastForm g xs (some a) = IsLast g xs a
+abbrev pub LastToldForm : {A R : Type 0} → (A → Option R) → List A → Option R → Type 0
+LastToldForm g xs none = Each (λ x. g x ≡ none) xs
+LastToldForm g xs (some a) = IsLastTold g xs a

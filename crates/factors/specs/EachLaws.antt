@@ -5,7 +5,7 @@ use mathlib.Core.List.{List, [], _∷_, _++_}
 use mathlib.Core.Option.{Option, none, some}
 use Rattle.common.specs.Compare.{clash}
 use Rattle.lookup.specs.Records.{orElse}
-use Rattle.factors.specs.Each.{Each, IsFirst, LastForm}
+use Rattle.factors.specs.Each.{Each, IsFirst, LastToldForm}
 
 module _ {A : Type 0} (P : A → Type 0) where
   -- of an empty list each member is as P says
@@ -64,11 +64,11 @@ lastBy g (x ∷ xs) = orElse (lastBy g xs) (g x)
 
 module _ {A R : Type 0} (g : A → Option R) where
   -- what `lastBy` computes is what g tells of the last member, or there is none
-  pub last-is : (xs : List A) → LastForm g xs (lastBy g xs)
-  last-is [] = each-nil (λ x. g x ≡ none)
-  last-is (v ∷ xs) = go (lastBy g xs) (last-is xs) (g v) refl
+  pub last-told-is : (xs : List A) → LastToldForm g xs (lastBy g xs)
+  last-told-is [] = each-nil (λ x. g x ≡ none)
+  last-told-is (v ∷ xs) = go (lastBy g xs) (last-told-is xs) (g v) refl
     where
-      go : (o : Option R) → LastForm g xs o → (w : Option R) → g v ≡ w → LastForm g (v ∷ xs) (orElse o w)
+      go : (o : Option R) → LastToldForm g xs o → (w : Option R) → g v ≡ w → LastToldForm g (v ∷ xs) (orElse o w)
       go (some a) h w e = record { front = v ∷ h .front; one = h .one; back = h .back; cut = ap (λ (ys : List A). v ∷ ys) (h .cut); gives = h .gives; after = h .after }
       go none h (some a) e = record { front = []; one = v; back = xs; cut = refl; gives = e; after = h }
       go none h none e = each-more (λ x. g x ≡ none) v xs e h
@@ -84,6 +84,6 @@ module _ {A R : Type 0} (g : A → Option R) where
   last-behind (v ∷ front) x back a e h = rw (← last-behind front x back a e h) refl
 
   -- nothing but what `lastBy` computes is told of the last member
-  pub last-only : (xs : List A) (o : Option R) → LastForm g xs o → o ≡ lastBy g xs
-  last-only xs none h = last-none xs h
-  last-only xs (some a) h = last-behind (h .front) (h .one) (h .back) a (h .gives) (h .after) ∙ ap (lastBy g) (sym (h .cut))
+  pub last-told-only : (xs : List A) (o : Option R) → LastToldForm g xs o → o ≡ lastBy g xs
+  last-told-only xs none h = last-none xs h
+  last-told-only xs (some a) h = last-behind (h .front) (h .one) (h .back) a (h .gives) (h .after) ∙ ap (lastBy g) (sym (h .cut))

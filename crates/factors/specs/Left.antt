@@ -4,9 +4,9 @@ use Prim.Native.Nat.{ℕ}
 use mathlib.Core.List.{List}
 use mathlib.Core.Option.{Option}
 use Rattle.error.specs.Refusal.{Told}
-use Rattle.factors.specs.Thing.{Thing}
+use Rattle.factors.specs.SeenRecords.{SeenRecord}
 use Rattle.factors.specs.Factor.{lengthOf}
 
 -- the factor of a length unit, by at most `left` conversions from here on
-abbrev pub lengthLeft : ℕ → List ℕ → (ℕ → Told (Option Thing)) → Thing → Told (Option ℕ)
+abbrev pub lengthLeft : ℕ → List ℕ → (ℕ → Told (Option SeenRecord)) → SeenRecord → Told (Option ℕ)
 lengthLeft left s find = lengthOf s find left

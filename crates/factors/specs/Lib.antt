@@ -1,6 +1,6 @@
 pub mod Each
 pub mod EachLaws
-pub mod Thing
+pub mod SeenRecords
 pub mod Unit
 pub mod Factor
 pub mod Left

@@ -9,25 +9,25 @@ use lib.Ieee.Bits.{ofBits-toBits}
 use Rattle.error.specs.Refusal.{Told, good, bad}
 use Rattle.error.specs.Only.{faultOf, faultOf-told}
 use Rattle.params.specs.Answer.{Span}
-use Rattle.factors.specs.Answer.{toldRun, toldFactor}
-use Rattle.factors.specs.declared.Run as RunCode
+use Rattle.factors.specs.Answer.{toldArguments, toldFactor}
+use Rattle.factors.specs.declared.ArgumentsFound as RunCode
 use Rattle.factors.specs.declared.Factor as FactorCode
 
 -- the code's answer that tells these arguments, none or a refusal
-runBack : Told (Option Span) → RunCode.Run
+runBack : Told (Option Span) → RunCode.ArgumentsFound
 runBack (good (some r)) = RunCode.the-variants.Args (r .start) (r .stop)
 runBack (good none) = RunCode.the-variants.Nothing
 runBack (bad q) = RunCode.the-variants.Refused (faultOf q)
 
 -- an answer about arguments can be had back from what it tells
-run-told : (a : RunCode.Run) → runBack (toldRun a) ≡ a
+run-told : (a : RunCode.ArgumentsFound) → runBack (toldArguments a) ≡ a
 unfolding runBack
 run-told (RunCode.the-variants.Args a z) = refl
 run-told RunCode.the-variants.Nothing = refl
 run-told (RunCode.the-variants.Refused f) = ap RunCode.the-variants.Refused (faultOf-told f)
 
 -- `self_or`: two answers that tell the same are the same
-pub run-only : (a b : RunCode.Run) → toldRun a ≡ toldRun b → a ≡ b
+pub run-only : (a b : RunCode.ArgumentsFound) → toldArguments a ≡ toldArguments b → a ≡ b
 run-only a b e = sym (run-told a) ∙ ap runBack e ∙ run-told b
 
 -- the float of an answer about a factor is an f64, as every value of that type is

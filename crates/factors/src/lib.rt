@@ -6,16 +6,16 @@
 ghost use mathlib.Core.Path.{_≡_};
 ghost use lib.Ieee.{binary64, toBits};
 ghost use Rattle.error.specs.Refusal.{good};
-ghost use Rattle.statement.specs.Rows.{rowOf};
+ghost use Rattle.statement.specs.Rows.{toldRow};
 ghost use Rattle.params.specs.Answer.{onward, span};
 ghost use Rattle.scalars.specs.Answer.{toldNextReal};
 ghost use Rattle.words.specs.Answer.{toldNextName};
-ghost use Rattle.factors.specs.Thing.{thingOf, selfOr, tableFind, onRecord};
-ghost use Rattle.factors.specs.Factor.{conversionOf, linkOf, angleOf, numberIn, unreadOf, measureLeft, numberAhead};
+ghost use Rattle.factors.specs.SeenRecords.{seenRecordOf, selfOr, tableFind, onRecord};
+ghost use Rattle.factors.specs.Factor.{conversionOf, linkOf, angleOf, angleNumber, unreadOf, measureLeft, numberAhead};
 ghost use Rattle.factors.specs.Left.{lengthLeft};
 ghost use Rattle.factors.specs.Unit.{siLength, siAngle, measureRef, measureRun, scaledBy};
 ghost use Rattle.factors.specs.Code.{toldId, toldLink, namedIn, isNamed};
-ghost use Rattle.factors.specs.Answer.{toldRun, toldFactor};
+ghost use Rattle.factors.specs.Answer.{toldArguments, toldFactor};
 use error::Fault;
 use kinds::Kind;
 use lookup::Entry;
@@ -30,7 +30,7 @@ use statement::RecordSpan;
 use words::NextName;
 
 // Arguments from a place up to an end; or none; or why they cannot be told.
-pub enum Run {
+pub enum ArgumentsFound {
     Args(usize, usize),
     Nothing,
     Refused(Fault),
@@ -56,19 +56,19 @@ enum Named {
 }
 
 // The arguments of a record of a kind, or of its first part of that kind.
-pub fn self_or(file: &[u8], row: RecordSpan, kind: Kind) -> Run
-    ensures { λ r. ⌜ toldRun r ≡ onward (selfOr kind) (thingOf (now (file .entry)) (rowOf row)) ⌝ }
+pub fn self_or(file: &[u8], row: RecordSpan, kind: Kind) -> ArgumentsFound
+    ensures { λ r. ⌜ toldArguments r ≡ onward (selfOr kind) (seenRecordOf (now (file .entry)) (toldRow row)) ⌝ }
 {
     let Spanned::Span(a) = lookup::args_of(file, row) else {
-        return Run::Refused(Fault::OutOfFile);
+        return ArgumentsFound::Refused(Fault::OutOfFile);
     };
     if kinds::same_kind(lookup::kind_in(file, row), kind) {
-        return Run::Args(a.start, a.end);
+        return ArgumentsFound::Args(a.start, a.end);
     }
     match parts::complex_part(file, a.start, a.end, row.complex, kind) {
-        Next::Is(p) => Run::Args(p.args.start, p.args.end),
-        Next::Over => Run::Nothing,
-        Next::Refused(f) => Run::Refused(f),
+        Next::Is(p) => ArgumentsFound::Args(p.args.start, p.args.end),
+        Next::Over => ArgumentsFound::Nothing,
+        Next::Refused(f) => ArgumentsFound::Refused(f),
     }
 }
 
@@ -174,34 +174,34 @@ fn scaled(v: f64, f: Factor) -> Factor
 }
 
 // The arguments of a length measure: of a complex record its LENGTH_MEASURE_WITH_UNIT part, of a simple one its own.
-fn measure_run(file: &[u8], row: RecordSpan) -> Run
-    ensures { λ r. ⌜ toldRun r ≡ onward measureRun (thingOf (now (file .entry)) (rowOf row)) ⌝ }
+fn measure_run(file: &[u8], row: RecordSpan) -> ArgumentsFound
+    ensures { λ r. ⌜ toldArguments r ≡ onward measureRun (seenRecordOf (now (file .entry)) (toldRow row)) ⌝ }
 {
     let Spanned::Span(a) = lookup::args_of(file, row) else {
-        return Run::Refused(Fault::OutOfFile);
+        return ArgumentsFound::Refused(Fault::OutOfFile);
     };
     if row.complex != 1 {
-        return Run::Args(a.start, a.end);
+        return ArgumentsFound::Args(a.start, a.end);
     }
     match parts::complex_part(file, a.start, a.end, 1, Kind::LengthMeasureWithUnit) {
-        Next::Is(p) => Run::Args(p.args.start, p.args.end),
-        Next::Over => Run::Nothing,
-        Next::Refused(f) => Run::Refused(f),
+        Next::Is(p) => ArgumentsFound::Args(p.args.start, p.args.end),
+        Next::Over => ArgumentsFound::Nothing,
+        Next::Refused(f) => ArgumentsFound::Refused(f),
     }
 }
 
 // One unit of a chain, with so many conversion units left: its factor, or the id of the measure that it leads to. The conversion unit
 // for which none is left is 15, before its name.
 fn link_at(file: &[u8], row: RecordSpan, left: usize) -> Link
-    ensures { λ r. ⌜ toldLink r ≡ onward (linkOf (now (file .entry)) left) (thingOf (now (file .entry)) (rowOf row)) ⌝ }
+    ensures { λ r. ⌜ toldLink r ≡ onward (linkOf (now (file .entry)) left) (seenRecordOf (now (file .entry)) (toldRow row)) ⌝ }
 {
     match self_or(file, row, Kind::SiUnit) {
-        Run::Refused(f) => Link::Known(Factor::Refused(f)),
-        Run::Args(a, z) => Link::Known(si_length(file, a, z)),
-        Run::Nothing => match self_or(file, row, Kind::ConversionBasedUnit) {
-            Run::Refused(f) => Link::Known(Factor::Refused(f)),
-            Run::Nothing => Link::Known(Factor::Nothing),
-            Run::Args(a, z) => conversion_at(file, row, a, z, left),
+        ArgumentsFound::Refused(f) => Link::Known(Factor::Refused(f)),
+        ArgumentsFound::Args(a, z) => Link::Known(si_length(file, a, z)),
+        ArgumentsFound::Nothing => match self_or(file, row, Kind::ConversionBasedUnit) {
+            ArgumentsFound::Refused(f) => Link::Known(Factor::Refused(f)),
+            ArgumentsFound::Nothing => Link::Known(Factor::Nothing),
+            ArgumentsFound::Args(a, z) => conversion_at(file, row, a, z, left),
         },
     }
 }
@@ -228,7 +228,7 @@ fn length_at(
     row: RecordSpan,
     left: usize,
 ) -> Factor
-    ensures { λ r. ⌜ toldFactor r ≡ onRecord (lengthLeft left) (now (file .entry)) (now (rows .entry)) (now (slots .entry)) (t .ids) (rowOf row) ⌝ }
+    ensures { λ r. ⌜ toldFactor r ≡ onRecord (lengthLeft left) (now (file .entry)) (now (rows .entry)) (now (slots .entry)) (t .ids) (toldRow row) ⌝ }
 {
     match link_at(file, row, left) {
         Link::Known(f) => f,
@@ -251,9 +251,9 @@ fn measure_in_mm(
         return Factor::Nothing;
     };
     match measure_run(file, w) {
-        Run::Refused(f) => Factor::Refused(f),
-        Run::Nothing => Factor::Nothing,
-        Run::Args(a, z) => {
+        ArgumentsFound::Refused(f) => Factor::Refused(f),
+        ArgumentsFound::Nothing => Factor::Nothing,
+        ArgumentsFound::Args(a, z) => {
             let number = scalars::next_measure_f64(file, State { place: a, end: z });
             let NextReal::Value(v, to) = number else {
                 return unread(number);
@@ -271,14 +271,14 @@ fn measure_in_mm(
 
 // The factor of a length unit, in millimetres.
 pub fn length_factor(file: &[u8], rows: &[u32], slots: &[u64], t: Tables, row: RecordSpan) -> Factor
-    ensures { λ r. ⌜ toldFactor r ≡ onRecord (lengthLeft 16) (now (file .entry)) (now (rows .entry)) (now (slots .entry)) (t .ids) (rowOf row) ⌝ }
+    ensures { λ r. ⌜ toldFactor r ≡ onRecord (lengthLeft 16) (now (file .entry)) (now (rows .entry)) (now (slots .entry)) (t .ids) (toldRow row) ⌝ }
 {
     length_at(file, rows, slots, t, row, 16)
 }
 
 // The number of an angle's measure, alone.
 fn measure_number(file: &[u8], rows: &[u32], slots: &[u64], t: Tables, id: u32) -> Factor
-    ensures { λ r. ⌜ toldFactor r ≡ numberIn (now (file .entry)) (tableFind (now (file .entry)) (now (rows .entry)) (now (slots .entry)) (t .ids)) id ⌝ }
+    ensures { λ r. ⌜ toldFactor r ≡ angleNumber (now (file .entry)) (tableFind (now (file .entry)) (now (rows .entry)) (now (slots .entry)) (t .ids)) id ⌝ }
 {
     let Entry::Row(w) = lookup::get(rows, slots, t, id) else {
         return Factor::Nothing;
@@ -318,15 +318,15 @@ fn angle_converted(
 
 // The factor of an angle unit, in radians.
 pub fn angle_factor(file: &[u8], rows: &[u32], slots: &[u64], t: Tables, row: RecordSpan) -> Factor
-    ensures { λ r. ⌜ toldFactor r ≡ onRecord angleOf (now (file .entry)) (now (rows .entry)) (now (slots .entry)) (t .ids) (rowOf row) ⌝ }
+    ensures { λ r. ⌜ toldFactor r ≡ onRecord angleOf (now (file .entry)) (now (rows .entry)) (now (slots .entry)) (t .ids) (toldRow row) ⌝ }
 {
     match self_or(file, row, Kind::SiUnit) {
-        Run::Refused(f) => Factor::Refused(f),
-        Run::Args(a, z) => si_angle(file, a, z),
-        Run::Nothing => match self_or(file, row, Kind::ConversionBasedUnit) {
-            Run::Refused(f) => Factor::Refused(f),
-            Run::Nothing => Factor::Nothing,
-            Run::Args(a, z) => angle_converted(file, rows, slots, t, a, z),
+        ArgumentsFound::Refused(f) => Factor::Refused(f),
+        ArgumentsFound::Args(a, z) => si_angle(file, a, z),
+        ArgumentsFound::Nothing => match self_or(file, row, Kind::ConversionBasedUnit) {
+            ArgumentsFound::Refused(f) => Factor::Refused(f),
+            ArgumentsFound::Nothing => Factor::Nothing,
+            ArgumentsFound::Args(a, z) => angle_converted(file, rows, slots, t, a, z),
         },
     }
 }

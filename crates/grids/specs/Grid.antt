@@ -9,7 +9,7 @@ use mathlib.Core.List.{List, [], _∷_, _++_}
 use lib.Dec.{leb}
 use lib.ListN.{length}
 use Rattle.error.specs.Refusal.{Told, good, bad, told}
-use Rattle.params.specs.Answer.{Read, reading, onward, mapped}
+use Rattle.params.specs.Answer.{Read, reading, onward, readMapped}
 use Rattle.reals.specs.Answer.{Answer}
 use Rattle.lists.specs.Items.{listBy, listOf}
 use Rattle.lists.specs.Answer.{Fate, fine, faulty, fated, nextBy, kindOf}
@@ -58,7 +58,7 @@ gridRead f room ends s place end = nextBy (gridOf f) (gridFits room ends) s plac
 
 -- the answer of a reader of grids with the size for the grid
 abbrev pub howLarge : {A : Type 0} → Read (List (List A)) → Read Size
-howLarge a = mapped (λ g. good (sizeOf g)) a
+howLarge a = readMapped (λ g. good (sizeOf g)) a
 
 -- the numbers of a grid that is read, or its refusal
 abbrev pub numbersOf : {A : Type 0} → Told (List (List A)) → Told (List A)

@@ -22,7 +22,7 @@ use lists::Counted;
 use lists::Kind;
 use lists::ReadList;
 use lists::Shape;
-use params::Cut;
+use params::NextParam;
 use params::State;
 use reals::Reals;
 
@@ -231,8 +231,8 @@ fn next_grid(
         (now (ends .entry)) ⌝ }
 {
     match params::param_span(file, at) {
-        Cut::Refused(f, to) => NextGrid::Refused(f, to),
-        Cut::Span(start, stop, to) => answer_of(
+        NextParam::Refused(f, to) => NextGrid::Refused(f, to),
+        NextParam::Span(start, stop, to) => answer_of(
             read_grid(kind, room, &file[start..stop], refs, reals, ends),
             start,
             to,

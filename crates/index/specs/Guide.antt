@@ -13,11 +13,11 @@ use borrow.Author.Tests.{lt-ltb, le-ltb, le-leb, lt-leb, ltb-true, ltb-false, eq
 use Rattle.common.specs.Pick.{pick}
 use Rattle.common.specs.Compare.{ordered, less-or}
 use Rattle.common.specs.Walk.{turned}
-use Rattle.index.specs.Order.{rowAt, tableRoom, Rises, Steady, stepOf, Says}
-use Rattle.index.specs.Index.{Starts, IsShift}
-use Rattle.index.specs.IndexLaws.{Passed}
+use Rattle.index.specs.KeyOrder.{slotRow, tableRoom, Rises, Steady, stepOf, TestTells}
+use Rattle.index.specs.Index.{RowsStart, IsShift}
+use Rattle.index.specs.IndexLaws.{RowsPassed}
 use Rattle.index.specs.IndexRight.{rises-far}
-use Rattle.index.specs.Search.{Bracket, bracket, looked, ended, opening, startAt, wide, ranged, among, rangeEnd, guideEnd, evenEnd, endOf, firstRow}
+use Rattle.index.specs.Search.{Bracket, bracket, lookAtSlot, searchEnd, wholeBracket, startAt, rangeWidth, guideBracket, among, rangeEnd, guideEnd, evenEnd, endOf, firstRow}
 use Rattle.index.specs.declared.Ids.{Ids}
 
 -- a range of the guide has at least one id
@@ -115,13 +115,13 @@ module _ (f g : ℕ → ℕ) where
       omega arith
 
   -- whether ids rise by one step, with one slot more
-  pub steady-more : (i : ℕ) (s t : Bool) → 1 ≤ i → Says s (Steady f g i) → eqb (f (g i) - f (g (i - 1))) (stepOf f g) ≡ t → Says (s && t) (Steady f g (i + 1))
+  pub steady-more : (i : ℕ) (s t : Bool) → 1 ≤ i → TestTells s (Steady f g i) → eqb (f (g i) - f (g (i - 1))) (stepOf f g) ≡ t → TestTells (s && t) (Steady f g (i + 1))
   steady-more i true true h r e = steady-next i h r (eqb-true (f (g i) - f (g (i - 1))) (stepOf f g) e)
   steady-more i true false h r e = steady-not i (i + 1) h (omega arith) (eqb-false (f (g i) - f (g (i - 1))) (stepOf f g) e)
   steady-more i false t h r e = λ w. r (steady-fewer (i + 1) i (omega arith) w)
 
   -- whether ids rise by one step is known once all slots are seen, and once one is, where there is none
-  pub steady-all : (i n : ℕ) (s : Bool) → i ≡ max 1 n → Says s (Steady f g i) → Says s (Steady f g n)
+  pub steady-all : (i n : ℕ) (s : Bool) → i ≡ max 1 n → TestTells s (Steady f g i) → TestTells s (Steady f g n)
   steady-all i n true e r = steady-fewer i n (omega arith) r
   steady-all i n false e r = λ w. r (go (less-or 0 n) w)
     where
@@ -203,7 +203,7 @@ pub record Laying (f : ℕ → ℕ) (n first w : ℕ) (slots : List ℕ) (from r
   pub inside : r ≤ n
   pub bound : from ≡ first + k * w
   pub below : (i : ℕ) → i < r → f i < from
-  pub laid : (j : ℕ) → j < k → Starts f n (first + j * w) (getD slots j 0)
+  pub laid : (j : ℕ) → j < k → RowsStart f n (first + j * w) (getD slots j 0)
 
 -- where the rows from r up to i have ids below x, and row i too, one row more is passed
 pub passed-on : (f : ℕ → ℕ) (r x i : ℕ) → ((j : ℕ) → r ≤ j → j < i → f j < x) → f i < x → (j : ℕ) → r ≤ j → j < i + 1 → f j < x
@@ -219,7 +219,7 @@ module _ (f : ℕ → ℕ) (n first w : ℕ) where
   laying-starts slots e = record { size = e; done = omega arith; inside = omega arith; bound = omega arith; below = λ i h. absurd (omega arith); laid = λ j h. absurd (omega arith) }
 
   -- the first row that is not passed is where the ids from `from` on begin
-  passed-starts : Rises f (λ i. i) n → (from r e : ℕ) → ((i : ℕ) → i < r → f i < from) → Passed f r n from e → Starts f n from e
+  passed-starts : Rises f (λ i. i) n → (from r e : ℕ) → ((i : ℕ) → i < r → f i < from) → RowsPassed f r n from e → RowsStart f n from e
   passed-starts rises from r e below p = record { inside = p .inside; below = low; from = high }
     where
       low : (i : ℕ) → i < e → f i < from
@@ -243,7 +243,7 @@ module _ (f : ℕ → ℕ) (n first w : ℕ) where
           go (inr a) = let q : e ≡ i = omega arith in subst (λ (z : ℕ). from ≤ f z) q here
 
   -- one slot more of the guide is laid
-  pub laying-next : (slots : List ℕ) (from r k e : ℕ) → Rises f (λ i. i) n → Laying f n first w slots from r k → k < n → Passed f r n from e → Laying f n first w (set slots k e) (from + w) e (k + 1)
+  pub laying-next : (slots : List ℕ) (from r k e : ℕ) → Rises f (λ i. i) n → Laying f n first w slots from r k → k < n → RowsPassed f r n from e → Laying f n first w (set slots k e) (from + w) e (k + 1)
   laying-next slots from r k e rises h l p =
       record {
         size = length-set slots k e ∙ h .size;
@@ -254,22 +254,22 @@ module _ (f : ℕ → ℕ) (n first w : ℕ) where
         laid = λ j a. go j a (less-or j k);
       }
     where
-      starts : Starts f n from e
+      starts : RowsStart f n from e
       starts = passed-starts rises from r e (h .below) p
 
       size : length slots ≡ n
       size = h .size
 
-      go : (j : ℕ) → j < k + 1 → (j < k) ⊎ (k ≤ j) → Starts f n (first + j * w) (getD (set slots k e) j 0)
-      go j a (inl b) = subst (λ (c : ℕ). Starts f n (first + j * w) c) (sym (getD-set-other slots k j e 0 (λ q. omega arith))) (h .laid j b)
+      go : (j : ℕ) → j < k + 1 → (j < k) ⊎ (k ≤ j) → RowsStart f n (first + j * w) (getD (set slots k e) j 0)
+      go j a (inl b) = subst (λ (c : ℕ). RowsStart f n (first + j * w) c) (sym (getD-set-other slots k j e 0 (λ q. omega arith))) (h .laid j b)
       go j a (inr b) =
           let q : k ≡ j = omega arith in
-          subst (λ (i : ℕ). Starts f n (first + i * w) (getD (set slots k e) i 0)) q
-          (subst (λ (c : ℕ). Starts f n (first + k * w) c) (sym (getD-set-same slots k e 0 (omega (arith, size, l))))
-          (subst (λ (x : ℕ). Starts f n x e) (h .bound) starts))
+          subst (λ (i : ℕ). RowsStart f n (first + i * w) (getD (set slots k e) i 0)) q
+          (subst (λ (c : ℕ). RowsStart f n (first + k * w) c) (sym (getD-set-same slots k e 0 (omega (arith, size, l))))
+          (subst (λ (x : ℕ). RowsStart f n x e) (h .bound) starts))
 
   -- where all slots of the guide are laid, each holds where its range begins
-  pub laying-ends : (slots : List ℕ) (from r k : ℕ) → Laying f n first w slots from r k → n ≤ k → (j : ℕ) → j < n → Starts f n (first + j * w) (getD slots j 0)
+  pub laying-ends : (slots : List ℕ) (from r k : ℕ) → Laying f n first w slots from r k → n ≤ k → (j : ℕ) → j < n → RowsStart f n (first + j * w) (getD slots j 0)
   laying-ends slots from r k h l j a = h .laid j (omega arith)
 
 module _ (k : ℕ) (distinct : Bool) (g : ℕ → ℕ) (b : Bracket) (w : ℕ) where
@@ -279,35 +279,35 @@ module _ (k : ℕ) (distinct : Bool) (g : ℕ → ℕ) (b : Bracket) (w : ℕ) w
 
   module _ (m id : ℕ) (at : m ≡ among k w b) (there : id ≡ g m) (h : b .lo < b .hi) where
     -- in a range with rows, the search looks at slot m first
-    range-looks : turned (looked k distinct b m id) (λ c. ended k distinct g c) ≡ rangeEnd k distinct g b w
+    range-looks : turned (lookAtSlot k distinct b m id) (λ c. searchEnd k distinct g c) ≡ rangeEnd k distinct g b w
     range-looks =
-        subst (λ (i : ℕ). turned (looked k distinct b m i) (λ c. ended k distinct g c) ≡ rangeEnd k distinct g b w) (sym there)
-        (subst (λ (z : ℕ). turned (looked k distinct b z (g z)) (λ c. ended k distinct g c) ≡ rangeEnd k distinct g b w) (sym at) (rw (lt-ltb (b .lo) (b .hi) h) refl))
+        subst (λ (i : ℕ). turned (lookAtSlot k distinct b m i) (λ c. searchEnd k distinct g c) ≡ rangeEnd k distinct g b w) (sym there)
+        (subst (λ (z : ℕ). turned (lookAtSlot k distinct b z (g z)) (λ c. searchEnd k distinct g c) ≡ rangeEnd k distinct g b w) (sym at) (rw (lt-ltb (b .lo) (b .hi) h) refl))
 
     -- where slot m has the id sought and no id stands twice, the rows up to it end there
     pub range-finds : (distinct && eqb id k) ≡ true → m + 1 ≡ rangeEnd k distinct g b w
     range-finds e = rw e at range-looks
 
     -- where slot m has an id up to the one sought, the search goes on behind it
-    pub range-under : (r : ℕ) → (distinct && eqb id k) ≡ false → id ≤ k → r ≡ ended k distinct g (bracket (m + 1) (b .hi) id (b .over) (b .guided - 1)) → r ≡ rangeEnd k distinct g b w
+    pub range-under : (r : ℕ) → (distinct && eqb id k) ≡ false → id ≤ k → r ≡ searchEnd k distinct g (bracket (m + 1) (b .hi) id (b .over) (b .guided - 1)) → r ≡ rangeEnd k distinct g b w
     range-under r e l q = q ∙ rw (e, le-leb id k l) at range-looks
 
     -- where slot m has a greater id than the one sought, the search goes on before it
-    pub range-over : (r : ℕ) → (distinct && eqb id k) ≡ false → k < id → r ≡ ended k distinct g (bracket (b .lo) m (b .under) id (b .guided - 1)) → r ≡ rangeEnd k distinct g b w
+    pub range-over : (r : ℕ) → (distinct && eqb id k) ≡ false → k < id → r ≡ searchEnd k distinct g (bracket (b .lo) m (b .under) id (b .guided - 1)) → r ≡ rangeEnd k distinct g b w
     range-over r e l q = q ∙ rw (e, lt-leb id k l) at range-looks
 
 -- where the code's bracket is the one that the guide gives, what is found in it is what is found by the guide
 pub guide-is : (k : ℕ) (distinct : Bool) (g : ℕ → ℕ) (slots : List ℕ) (n first last shift q lo hi under over r : ℕ)
-    → q ≡ (k - first) / wide shift → lo ≡ max 1 (startAt slots n q) → hi ≡ min (startAt slots n (q + 1)) (n - 1)
-    → under ≡ first + q * wide shift → over ≡ min (first + (q + 1) * wide shift) last
-    → r ≡ rangeEnd k distinct g (bracket lo hi under over 4) (wide shift) → r ≡ guideEnd k distinct g slots n first last shift
+    → q ≡ (k - first) / rangeWidth shift → lo ≡ max 1 (startAt slots n q) → hi ≡ min (startAt slots n (q + 1)) (n - 1)
+    → under ≡ first + q * rangeWidth shift → over ≡ min (first + (q + 1) * rangeWidth shift) last
+    → r ≡ rangeEnd k distinct g (bracket lo hi under over 4) (rangeWidth shift) → r ≡ guideEnd k distinct g slots n first last shift
 unfolding guideEnd
 guide-is k distinct g slots n first last shift q lo hi under over r e a b c d f =
     f
-    ∙ ap (λ (z : Bracket). rangeEnd k distinct g z (wide shift)) same
-    ∙ ap (λ (z : ℕ). rangeEnd k distinct g (ranged slots n first last (wide shift) z) (wide shift)) e
+    ∙ ap (λ (z : Bracket). rangeEnd k distinct g z (rangeWidth shift)) same
+    ∙ ap (λ (z : ℕ). rangeEnd k distinct g (guideBracket slots n first last (rangeWidth shift) z) (rangeWidth shift)) e
   where
-    same : bracket lo hi under over 4 ≡ ranged slots n first last (wide shift) q
+    same : bracket lo hi under over 4 ≡ guideBracket slots n first last (rangeWidth shift) q
     same = λ i. record { lo = a i; hi = b i; under = c i; over = d i; guided = 4 }
 
 -- the ways of a search, by its tests
@@ -329,8 +329,8 @@ module _ (k : ℕ) (b : Ids) (slots : List ℕ) (g : ℕ → ℕ) (n : ℕ) wher
   end-guide r h l e d q = q ∙ rw (lt-leb (b .last) k h, le-ltb k (b .first) l, e, d) refl
 
   -- where ids rise neither by one step nor in file order, the slots up to the id sought end by the search through all
-  pub end-whole : (r hi : ℕ) → k < b .last → b .first ≤ k → b .even ≡ false → b .direct ≡ false → hi ≡ n - 1 → r ≡ ended k (b .distinct) g (bracket 1 hi (b .first) (b .last) 6) → r ≡ endOf k b slots g n
-  end-whole r hi h l e d f q = q ∙ ap (λ (z : ℕ). ended k (b .distinct) g (bracket 1 z (b .first) (b .last) 6)) f ∙ rw (lt-leb (b .last) k h, le-ltb k (b .first) l, e, d) refl
+  pub end-whole : (r hi : ℕ) → k < b .last → b .first ≤ k → b .even ≡ false → b .direct ≡ false → hi ≡ n - 1 → r ≡ searchEnd k (b .distinct) g (bracket 1 hi (b .first) (b .last) 6) → r ≡ endOf k b slots g n
+  end-whole r hi h l e d f q = q ∙ ap (λ (z : ℕ). searchEnd k (b .distinct) g (bracket 1 z (b .first) (b .last) 6)) f ∙ rw (lt-leb (b .last) k h, le-ltb k (b .first) l, e, d) refl
 
 -- a row is one of those that the index speaks of where it is below each of the bounds
 module _ (rows slots count r : ℕ) where
@@ -365,7 +365,7 @@ module _ (k : ℕ) (b : Ids) (slots : List ℕ) where
   first-below h = rw (lt-ltb k (b .first) h) refl
 
   -- where ids are dense, the row looked at first is as far from the first as the id is from the first id
-  pub first-dense : (r : ℕ) → b .first ≤ k → (b .distinct && eqb (b .shift) 0) ≡ true → r ≡ rowAt (b .direct) slots (k - b .first) → r ≡ firstRow slots b k
+  pub first-dense : (r : ℕ) → b .first ≤ k → (b .distinct && eqb (b .shift) 0) ≡ true → r ≡ slotRow (b .direct) slots (k - b .first) → r ≡ firstRow slots b k
   first-dense r h e q = q ∙ rw (le-ltb k (b .first) h, e) refl
 
   -- where ids are not dense, no row is looked at first

@@ -8,11 +8,11 @@ use mathlib.Core.List.{List}
 use lib.Dec.{eqb}
 use lib.ListN.{length, getD, drop}
 use Rattle.common.specs.Pick.{pick}
-use Rattle.index.specs.Order.{keyOf, rowAt, Rises, Steady, Says}
+use Rattle.index.specs.KeyOrder.{keyOf, slotRow, Rises, Steady, TestTells}
 use Rattle.index.specs.declared.Ids.{Ids}
 
 -- a slot, one of the first n, holds the key of row r
-pub record Stands (f : ℕ → ℕ) (n r : ℕ) (xs : List ℕ) : Type 0 where
+pub record KeySlot (f : ℕ → ℕ) (n r : ℕ) (xs : List ℕ) : Type 0 where
   pub slot : ℕ
   pub inside : slot < n
   pub holds : getD xs slot 0 ≡ keyOf f r
@@ -26,11 +26,11 @@ pub record Keeps (f : ℕ → ℕ) (n s : ℕ) : Type 0 where
 -- the slots xs are the index of n rows: each holds the key of a row, each row's key stands in one, and they rise
 pub record IsIndex (f : ℕ → ℕ) (n : ℕ) (xs : List ℕ) : Type 0 where
   pub keys : (i : ℕ) → i < n → Keeps f n (getD xs i 0)
-  pub whole : (r : ℕ) → r < n → Stands f n r xs
+  pub whole : (r : ℕ) → r < n → KeySlot f n r xs
   pub order : (i j : ℕ) → i < j → j < n → getD xs i 0 < getD xs j 0
 
 -- in rows whose ids rise, those with ids from x on begin at row c: the rows before it have lesser ids, it and the rows behind it have not
-pub record Starts (f : ℕ → ℕ) (n x c : ℕ) : Type 0 where
+pub record RowsStart (f : ℕ → ℕ) (n x c : ℕ) : Type 0 where
   pub inside : c ≤ n
   pub below : (i : ℕ) → i < c → f i < x
   pub from : (i : ℕ) → c ≤ i → i < n → x ≤ f i
@@ -38,12 +38,12 @@ pub record Starts (f : ℕ → ℕ) (n x c : ℕ) : Type 0 where
 -- the slots xs are the guide to n rows whose ids rise: slot k holds the row where the ids from first + k * 2^shift on begin, which is how
 -- many rows have lesser ids
 abbrev pub Guides : (ℕ → ℕ) → ℕ → ℕ → ℕ → List ℕ → Type 0
-Guides f n first shift xs = (k : ℕ) → k < n → Starts f n (first + k * 2 ^ shift) (getD xs k 0)
+Guides f n first shift xs = (k : ℕ) → k < n → RowsStart f n (first + k * 2 ^ shift) (getD xs k 0)
 
 -- what n slots hold: the guide where ids rise in file order, else the index
-abbrev pub Held : Bool → (ℕ → ℕ) → ℕ → ℕ → ℕ → List ℕ → Type 0
-Held true f n first shift xs = Guides f n first shift xs
-Held false f n first shift xs = IsIndex f n xs
+abbrev pub SlotsHold : Bool → (ℕ → ℕ) → ℕ → ℕ → ℕ → List ℕ → Type 0
+SlotsHold true f n first shift xs = Guides f n first shift xs
+SlotsHold false f n first shift xs = IsIndex f n xs
 
 -- the shift for n rows whose ids have this span: the least by which there are not more ranges of 2^s ids than rows (than two, where
 -- there are fewer rows); ids have 32 binary digits
@@ -60,13 +60,13 @@ endId f n r = pick (eqb n 0) 0 (f r)
 -- rows there are, the least id and the greatest (0 where there are none), whether ids rise in file order, whether they rise once sorted and
 -- whether by one step, and the shift
 pub record Built (f : ℕ → ℕ) (n : ℕ) (before after : List ℕ) (b : Ids) : Type 0 where
-  pub held : Held (b .direct) f n (b .first) (b .shift) after
+  pub held : SlotsHold (b .direct) f n (b .first) (b .shift) after
   pub rest : drop n after ≡ drop n before
   pub size : length after ≡ length before
   pub count : b .count ≡ n
-  pub first : b .first ≡ endId f n (rowAt (b .direct) after 0)
-  pub last : b .last ≡ endId f n (rowAt (b .direct) after (n - 1))
-  pub direct : Says (b .direct) (Rises f (λ i. i) n)
-  pub distinct : Says (b .distinct) (Rises f (rowAt (b .direct) after) n)
-  pub even : Says (b .even) (Steady f (rowAt (b .direct) after) n)
+  pub first : b .first ≡ endId f n (slotRow (b .direct) after 0)
+  pub last : b .last ≡ endId f n (slotRow (b .direct) after (n - 1))
+  pub direct : TestTells (b .direct) (Rises f (λ i. i) n)
+  pub distinct : TestTells (b .distinct) (Rises f (slotRow (b .direct) after) n)
+  pub even : TestTells (b .even) (Steady f (slotRow (b .direct) after) n)
   pub shift : IsShift (b .last - b .first) n (b .shift)

@@ -1,5 +1,5 @@
 pub mod OrderLaws
-pub mod Order
+pub mod KeyOrder
 pub mod Rules
 pub mod Lookup
 pub mod IndexLaws
@@ -11,5 +11,5 @@ pub mod Laws
 pub mod IndexRight
 pub mod Guide
 pub mod SearchRight
-pub mod Looks
+pub mod LookCount
 pub mod Only

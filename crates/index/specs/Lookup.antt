@@ -17,17 +17,17 @@ abbrev pub Map : Type 0
 Map = ℕ → Option ℕ
 
 -- a map that row r is written to under the id i: it has r for i, and for every other id what it had
-abbrev pub put : ℕ → ℕ → Map → Map
-put i r m k = pick (eqb i k) (some r) (m k)
+abbrev pub mapWith : ℕ → ℕ → Map → Map
+mapWith i r m k = pick (eqb i k) (some r) (m k)
 
 -- "a map written to in file order": the map after the first n rows
-unfoldable pub written : (ℕ → ℕ) → ℕ → Map
-written f zero k = none
-written f (suc n) k = put (f n) n (written f n) k
+unfoldable pub writtenMap : (ℕ → ℕ) → ℕ → Map
+writtenMap f zero k = none
+writtenMap f (suc n) k = mapWith (f n) n (writtenMap f n) k
 
 -- "Lookup of an id answers like a map written to in file order": the row of an id among n rows
 abbrev pub lookupOf : (ℕ → ℕ) → ℕ → ℕ → Option ℕ
-lookupOf f n k = written f n k
+lookupOf f n k = writtenMap f n k
 
 -- a number below n + 1 is n or below n
 cut : (j n : ℕ) → j < suc n → (j < n) ⊎ (j ≡ n)
@@ -51,13 +51,13 @@ written-past f n k (some r) d h =
 
 -- what the map has for an id is the last record of that id, or there is none
 pub lookup-is : (f : ℕ → ℕ) (n k : ℕ) → LookupForm f n k (lookupOf f n k)
-unfolding written
+unfolding writtenMap
 lookup-is f zero k = λ j b z. absurd (omega arith)
 lookup-is f (suc n) k = go (eqb (f n) k) refl (lookup-is f n k)
   where
-    go : (t : Bool) → eqb (f n) k ≡ t → LookupForm f n k (written f n k) → LookupForm f (suc n) k (pick t (some n) (written f n k))
+    go : (t : Bool) → eqb (f n) k ≡ t → LookupForm f n k (writtenMap f n k) → LookupForm f (suc n) k (pick t (some n) (writtenMap f n k))
     go true e h = written-here f n k (eqb-true (f n) k e)
-    go false e h = written-past f n k (written f n k) (eqb-false (f n) k e) h
+    go false e h = written-past f n k (writtenMap f n k) (eqb-false (f n) k e) h
 
 -- two rows that are the last of one id are the same row
 last-one : (f : ℕ → ℕ) (n k a b : ℕ) → IsLast f n k a → IsLast f n k b → a ≡ b

@@ -24,7 +24,7 @@ pub const LF: usize = 1;
 pub const END: usize = 2;
 
 // A number in decimal, and the line end behind it.
-pub enum Line {
+pub enum NumberLine {
     Number(u64, Feed),
     // The input ended where a number might have begun.
     End(Feed),
@@ -103,19 +103,19 @@ pub fn pass(chunk: &mut [u8], feed: Feed, n: usize, stop: usize, room: &mut [u8]
 }
 
 // Reads a number of at most fifteen digits and its line end.
-pub fn number_line(chunk: &mut [u8], feed: Feed) -> Line {
+pub fn number_line(chunk: &mut [u8], feed: Feed) -> NumberLine {
     let mut room = [0u8; 16];
     let last = pass(chunk, feed, 16, LF, &mut room);
     number(&room, last)
 }
 
 // The number that a line is.
-fn number(t: &[u8], feed: Feed) -> Line {
+fn number(t: &[u8], feed: Feed) -> NumberLine {
     let n = digits(t, 0);
     match kind(feed.stop, feed.count, n.end) {
-        LF => Line::Number(n.number, feed),
-        END => Line::End(feed),
-        _ => Line::Bad(feed),
+        LF => NumberLine::Number(n.number, feed),
+        END => NumberLine::End(feed),
+        _ => NumberLine::Bad(feed),
     }
 }
 

@@ -7,7 +7,7 @@ pub use feed::Brought;
 pub use feed::END;
 pub use feed::Feed;
 pub use feed::LF;
-pub use feed::Line;
+pub use feed::NumberLine;
 pub use feed::bring;
 pub use feed::left;
 pub use feed::number_line;
@@ -42,7 +42,7 @@ ghost use Prim.Native.Nat.{_≤_};
 ghost use lib.ListN.{length};
 ghost use Rattle.io.specs.Counts.{Counts};
 
-pub struct Filled {
+pub struct BytesRead {
     // How many bytes were put at the start of the room.
     pub count: usize,
     // 1 where a read failed, else 0.
@@ -50,7 +50,7 @@ pub struct Filled {
 }
 
 // Reads until the room is full, the input ends or a read fails.
-pub fn fill(fd: i32, room: &mut [u8]) -> Filled
+pub fn fill(fd: i32, room: &mut [u8]) -> BytesRead
     ensures { λ r. ⌜ Counts (r .count) (now (room .exit)) ⌝ }
 {
     let mut count = 0;
@@ -63,7 +63,7 @@ pub fn fill(fd: i32, room: &mut [u8]) -> Filled
         }
         count += got.end;
     }
-    Filled { count, failed }
+    BytesRead { count, failed }
 }
 
 // What one read brings, none of it used.
@@ -74,7 +74,7 @@ fn read(fd: i32, room: &mut [u8]) -> Feed
     feed::fresh(io::count(got, room), (got < 0) as usize)
 }
 
-pub struct Opened {
+pub struct OpenedInput {
     // The descriptor, or -1.
     pub fd: i32,
     // How many bytes the file's name has, at the start of the lent room for it.
@@ -82,12 +82,12 @@ pub struct Opened {
 }
 
 // Opens the file that an argument names, `-` being standard input. Where that fails, standard error says why.
-pub fn open_argument(i: usize, name: &mut [u8]) -> Opened
+pub fn open_argument(i: usize, name: &mut [u8]) -> OpenedInput
     ensures { λ r. ⌜ Counts (r .name) (now (name .exit)) ⌝ }
 {
     let n = os::arg(i, name);
     let fd = open(&name[..n]);
-    Opened { fd, name: n }
+    OpenedInput { fd, name: n }
 }
 
 // Opens the file of a name that was just fetched, or says why not.

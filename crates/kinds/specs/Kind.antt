@@ -11,11 +11,11 @@ use borrow.Author.Tests.{eqb-true, eq-eqb}
 use Rattle.common.specs.Pick.{pick}
 use Rattle.common.specs.Compare.{clash}
 use Rattle.record.specs.Byte.{upper}
-use Rattle.record.specs.Word.{same, isWord}
+use Rattle.record.specs.Word.{sameBytes, isWord}
 use Rattle.record.specs.Form.{Spelt}
 use Rattle.common.specs.Bytes.{bytes}
 use Rattle.record.specs.FormRight.{same-is, same-self}
-use Rattle.kinds.specs.Rules.{nameOf, Named, KindForm, spelt, other, rankOf}
+use Rattle.kinds.specs.Rules.{nameOf, NamedKind, KindForm, spelt, other, rankOf}
 use Rattle.kinds.specs.declared.Kind.{Kind}
 use Rattle.kinds.specs.declared.Kind.the-variants.{
   GeometricRepresentationContext,
@@ -33,17 +33,17 @@ use Rattle.kinds.specs.declared.Kind.the-variants.{
 }
 
 -- the ten kinds that have a keyword
-abbrev pub named : List Kind
-named = GeometricRepresentationContext ∷ GlobalUnitAssignedContext ∷ GlobalUncertaintyAssignedContext ∷ LengthUnit ∷ PlaneAngleUnit ∷ SolidAngleUnit ∷ SiUnit ∷ ConversionBasedUnit ∷ UncertaintyMeasureWithUnit ∷ LengthMeasureWithUnit ∷ []
+abbrev pub namedKinds : List Kind
+namedKinds = GeometricRepresentationContext ∷ GlobalUnitAssignedContext ∷ GlobalUncertaintyAssignedContext ∷ LengthUnit ∷ PlaneAngleUnit ∷ SolidAngleUnit ∷ SiUnit ∷ ConversionBasedUnit ∷ UncertaintyMeasureWithUnit ∷ LengthMeasureWithUnit ∷ []
 
 -- the first kind of a list whose name the text is, letters in either case; `Other` where there is none
-abbrev pub kindIn : List Kind → List ℕ → Kind
-kindIn [] t = Other
-kindIn (k ∷ ks) t = pick (isWord t (bytes (nameOf k))) k (kindIn ks t)
+abbrev pub kindAmong : List Kind → List ℕ → Kind
+kindAmong [] t = Other
+kindAmong (k ∷ ks) t = pick (isWord t (bytes (nameOf k))) k (kindAmong ks t)
 
 -- the kind of a keyword
-unfoldable pub kindOf : List ℕ → Kind
-kindOf t = kindIn named t
+unfoldable pub kindOfKeyword : List ℕ → Kind
+kindOfKeyword t = kindAmong namedKinds t
 
 -- the kind at a place of the list of kinds
 kindAt : ℕ → Kind
@@ -78,21 +78,21 @@ Unspelt (k ∷ ks) t = (Spelt t (nameOf k) → ⊥) × Unspelt ks t
 -- each kind of a list is one of the ten that have a keyword
 abbrev Nameds : List Kind → Type 0
 Nameds [] = Unit {0}
-Nameds (k ∷ ks) = Named k × Nameds ks
+Nameds (k ∷ ks) = NamedKind k × Nameds ks
 
 -- what the search in a list finds is a kind whose name the text is, or the text is the name of none and `Other` is found
-found : (ks : List Kind) (t : List ℕ) → Nameds ks → (Named (kindIn ks t) × Spelt t (nameOf (kindIn ks t))) ⊎ (Unspelt ks t × (kindIn ks t ≡ Other))
+found : (ks : List Kind) (t : List ℕ) → Nameds ks → (NamedKind (kindAmong ks t) × Spelt t (nameOf (kindAmong ks t))) ⊎ (Unspelt ks t × (kindAmong ks t ≡ Other))
 found [] t n = inr (tt, refl)
 found (k ∷ ks) t n = go (isWord t (bytes (nameOf k))) refl (found ks t (n .1))
   where
-    go : (b : Bool) → isWord t (bytes (nameOf k)) ≡ b → (Named (kindIn ks t) × Spelt t (nameOf (kindIn ks t))) ⊎ (Unspelt ks t × (kindIn ks t ≡ Other))
-        → (Named (pick b k (kindIn ks t)) × Spelt t (nameOf (pick b k (kindIn ks t)))) ⊎ (Unspelt (k ∷ ks) t × (pick b k (kindIn ks t) ≡ Other))
+    go : (b : Bool) → isWord t (bytes (nameOf k)) ≡ b → (NamedKind (kindAmong ks t) × Spelt t (nameOf (kindAmong ks t))) ⊎ (Unspelt ks t × (kindAmong ks t ≡ Other))
+        → (NamedKind (pick b k (kindAmong ks t)) × Spelt t (nameOf (pick b k (kindAmong ks t)))) ⊎ (Unspelt (k ∷ ks) t × (pick b k (kindAmong ks t) ≡ Other))
     go true e r = inl (n .0, same-is (map upper t) (bytes (nameOf k)) e)
     go false e (inl s) = inl s
-    go false e (inr u) = inr ((λ s. let q : false ≡ true = sym e ∙ ap (λ (x : List ℕ). same x (bytes (nameOf k))) s ∙ same-self (bytes (nameOf k)) in clash (cc), u .0), u .1)
+    go false e (inr u) = inr ((λ s. let q : false ≡ true = sym e ∙ ap (λ (x : List ℕ). sameBytes x (bytes (nameOf k))) s ∙ same-self (bytes (nameOf k)) in clash (cc), u .0), u .1)
 
 -- a text that is the name of none in the list of ten is the name of none of the ten
-none-named : (t : List ℕ) → Unspelt named t → (k : Kind) → Named k → Spelt t (nameOf k) → ⊥
+none-named : (t : List ℕ) → Unspelt namedKinds t → (k : Kind) → NamedKind k → Spelt t (nameOf k) → ⊥
 none-named t u GeometricRepresentationContext n = u .0
 none-named t u GlobalUnitAssignedContext n = u .1 .0
 none-named t u GlobalUncertaintyAssignedContext n = u .1 .1 .0
@@ -107,26 +107,26 @@ none-named t u Complex n = absurd n
 none-named t u Other n = absurd n
 
 -- each kind in the list of ten is one of the ten that have a keyword
-all-named : Nameds named
+all-named : Nameds namedKinds
 all-named = (tt, (tt, (tt, (tt, (tt, (tt, (tt, (tt, (tt, (tt, tt))))))))))
 
 -- the kind that is computed is that of the keyword by the rule
-pub kind-is : (t : List ℕ) → KindForm t (kindOf t)
-unfolding kindOf
-kind-is t = go (found named t all-named)
+pub kind-is : (t : List ℕ) → KindForm t (kindOfKeyword t)
+unfolding kindOfKeyword
+kind-is t = go (found namedKinds t all-named)
   where
-    go : (Named (kindIn named t) × Spelt t (nameOf (kindIn named t))) ⊎ (Unspelt named t × (kindIn named t ≡ Other)) → KindForm t (kindIn named t)
-    go (inl s) = spelt (kindIn named t) (s .0) (s .1)
+    go : (NamedKind (kindAmong namedKinds t) × Spelt t (nameOf (kindAmong namedKinds t))) ⊎ (Unspelt namedKinds t × (kindAmong namedKinds t ≡ Other)) → KindForm t (kindAmong namedKinds t)
+    go (inl s) = spelt (kindAmong namedKinds t) (s .0) (s .1)
     go (inr u) = subst (λ (k : Kind). KindForm t k) (sym (u .1)) (other (none-named t (u .0)))
 
 -- the search for a kind by a text that is already in capitals
 abbrev kindBy : List Kind → List ℕ → Kind
 kindBy [] u = Other
-kindBy (k ∷ ks) u = pick (same u (bytes (nameOf k))) k (kindBy ks u)
+kindBy (k ∷ ks) u = pick (sameBytes u (bytes (nameOf k))) k (kindBy ks u)
 
 -- the search by a text in capitals finds each of the ten kinds by its name
-by-name : (k : Kind) → Named k → kindBy named (bytes (nameOf k)) ≡ k
-unfolding same
+by-name : (k : Kind) → NamedKind k → kindBy namedKinds (bytes (nameOf k)) ≡ k
+unfolding sameBytes
 by-name GeometricRepresentationContext n = refl
 by-name GlobalUnitAssignedContext n = refl
 by-name GlobalUncertaintyAssignedContext n = refl
@@ -141,11 +141,11 @@ by-name Complex n = absurd n
 by-name Other n = absurd n
 
 -- the kind of a keyword by the rule is the one that is computed
-pub kind-only : {t : List ℕ} {k : Kind} → KindForm t k → kindOf t ≡ k
-unfolding kindOf
-kind-only {t} (spelt k n s) = ap (λ (u : List ℕ). kindBy named u) s ∙ by-name k n
-kind-only {t} (other h) = go (found named t all-named)
+pub kind-only : {t : List ℕ} {k : Kind} → KindForm t k → kindOfKeyword t ≡ k
+unfolding kindOfKeyword
+kind-only {t} (spelt k n s) = ap (λ (u : List ℕ). kindBy namedKinds u) s ∙ by-name k n
+kind-only {t} (other h) = go (found namedKinds t all-named)
   where
-    go : (Named (kindIn named t) × Spelt t (nameOf (kindIn named t))) ⊎ (Unspelt named t × (kindIn named t ≡ Other)) → kindIn named t ≡ Other
-    go (inl s) = absurd (h (kindIn named t) (s .0) (s .1))
+    go : (NamedKind (kindAmong namedKinds t) × Spelt t (nameOf (kindAmong namedKinds t))) ⊎ (Unspelt namedKinds t × (kindAmong namedKinds t ≡ Other)) → kindAmong namedKinds t ≡ Other
+    go (inl s) = absurd (h (kindAmong namedKinds t) (s .0) (s .1))
     go (inr u) = u .1

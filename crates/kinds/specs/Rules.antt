@@ -24,8 +24,8 @@ use Rattle.kinds.specs.declared.Kind.the-variants.{
   Complex,
   Other,
 }
-use Rattle.kinds.specs.declared.Name.{Name}
-use Rattle.kinds.specs.declared.Name.the-variants.{Bytes, Short}
+use Rattle.kinds.specs.declared.KindName.{KindName}
+use Rattle.kinds.specs.declared.KindName.the-variants.{Bytes, Short}
 
 -- the keyword of a kind, in capitals; `(complex)` for a complex record, and none for the others
 abbrev pub nameOf : Kind → String
@@ -43,24 +43,24 @@ nameOf Complex = "(complex)"
 nameOf Other = ""
 
 -- the kind is one of the ten that have a keyword
-abbrev pub Named : Kind → Type 0
-Named GeometricRepresentationContext = Unit {0}
-Named GlobalUnitAssignedContext = Unit {0}
-Named GlobalUncertaintyAssignedContext = Unit {0}
-Named LengthUnit = Unit {0}
-Named PlaneAngleUnit = Unit {0}
-Named SolidAngleUnit = Unit {0}
-Named SiUnit = Unit {0}
-Named ConversionBasedUnit = Unit {0}
-Named UncertaintyMeasureWithUnit = Unit {0}
-Named LengthMeasureWithUnit = Unit {0}
-Named Complex = ⊥
-Named Other = ⊥
+abbrev pub NamedKind : Kind → Type 0
+NamedKind GeometricRepresentationContext = Unit {0}
+NamedKind GlobalUnitAssignedContext = Unit {0}
+NamedKind GlobalUncertaintyAssignedContext = Unit {0}
+NamedKind LengthUnit = Unit {0}
+NamedKind PlaneAngleUnit = Unit {0}
+NamedKind SolidAngleUnit = Unit {0}
+NamedKind SiUnit = Unit {0}
+NamedKind ConversionBasedUnit = Unit {0}
+NamedKind UncertaintyMeasureWithUnit = Unit {0}
+NamedKind LengthMeasureWithUnit = Unit {0}
+NamedKind Complex = ⊥
+NamedKind Other = ⊥
 
 -- the kind of a keyword without a search: the one of the ten whose name it is, letters in either case; "all others are `Other`"
 pub data KindForm (t : List ℕ) : Kind → Type 0 where
-  spelt : (k : Kind) → Named k → Spelt t (nameOf k) → KindForm t k
-  other : ((k : Kind) → Named k → Spelt t (nameOf k) → ⊥) → KindForm t Other
+  spelt : (k : Kind) → NamedKind k → Spelt t (nameOf k) → KindForm t k
+  other : ((k : Kind) → NamedKind k → Spelt t (nameOf k) → ⊥) → KindForm t Other
 
 -- a kind's place in the list of kinds
 abbrev pub rankOf : Kind → ℕ
@@ -78,9 +78,9 @@ rankOf Complex = 10
 rankOf Other = 11
 
 -- what the code's answer about a kind's name says: how many bytes; "16 output too short", at 0, since no parameter is read
-abbrev pub toldName : Name → Told ℕ
-toldName (Bytes n) = good n
-toldName Short = bad (refusal 16 0 0)
+abbrev pub toldKindName : KindName → Told ℕ
+toldKindName (Bytes n) = good n
+toldKindName Short = bad (refusal 16 0 0)
 
 -- how many bytes a name takes in this room; "16 output too short"
 abbrev pub nameIn : List ℕ → List ℕ → Told ℕ

@@ -6,10 +6,10 @@ ghost use mathlib.Core.Path.{_≡_};
 ghost use mathlib.Core.List.{map};
 ghost use lib.Dec.{eqb};
 ghost use Rattle.common.specs.Bytes.{bytes};
-ghost use Rattle.record.specs.Word.{same};
+ghost use Rattle.record.specs.Word.{sameBytes};
 ghost use Rattle.record.specs.Byte.{upper};
-ghost use Rattle.kinds.specs.Kind.{kindOf};
-ghost use Rattle.kinds.specs.Rules.{nameOf, rankOf, toldName, nameIn, nameAfter};
+ghost use Rattle.kinds.specs.Kind.{kindOfKeyword};
+ghost use Rattle.kinds.specs.Rules.{nameOf, rankOf, toldKindName, nameIn, nameAfter};
 
 pub enum Kind {
     GeometricRepresentationContext,
@@ -27,14 +27,14 @@ pub enum Kind {
 }
 
 // A kind's name at the start of lent memory, in so many bytes; or that there is no room for it.
-pub enum Name {
+pub enum KindName {
     Bytes(usize),
     Short,
 }
 
 // The kind of a keyword.
 pub fn intern(kw: &[u8]) -> Kind
-    ensures { λ r. ⌜ r ≡ kindOf (now (kw .entry)) ⌝ }
+    ensures { λ r. ⌜ r ≡ kindOfKeyword (now (kw .entry)) ⌝ }
 {
     if record::is_word(kw, b"GEOMETRIC_REPRESENTATION_CONTEXT") {
         return Kind::GeometricRepresentationContext;
@@ -98,7 +98,7 @@ pub fn same_kind(a: Kind, b: Kind) -> bool
 
 // Whether two texts are the same word, letters in either case.
 pub fn same_word(t: &[u8], w: &[u8]) -> bool
-    ensures { λ r. ⌜ r ≡ same (map upper (now (t .entry))) (map upper (now (w .entry))) ⌝ }
+    ensures { λ r. ⌜ r ≡ sameBytes (map upper (now (t .entry))) (map upper (now (w .entry))) ⌝ }
 {
     if t.len() != w.len() {
         return false;
@@ -114,19 +114,19 @@ pub fn same_word(t: &[u8], w: &[u8]) -> bool
 }
 
 // Puts a name at the start of `out`, where there is room for it.
-fn put_name(out: &mut [u8], name: &[u8]) -> Name
-    ensures { λ r. ⌜ toldName r ≡ nameIn (now (name .entry)) (now (out .entry)) ⌝ }
+fn put_name(out: &mut [u8], name: &[u8]) -> KindName
+    ensures { λ r. ⌜ toldKindName r ≡ nameIn (now (name .entry)) (now (out .entry)) ⌝ }
     ensures { λ _. ⌜ now (out .exit) ≡ nameAfter (now (name .entry)) (now (out .entry)) ⌝ }
 {
     if out.len() < name.len() {
-        return Name::Short;
+        return KindName::Short;
     }
     let mut i = 0;
     while i < name.len() {
         out[i] = name[i];
         i += 1;
     }
-    Name::Bytes(i)
+    KindName::Bytes(i)
 }
 
 // All names in the order of `rank`, one after another.
@@ -138,8 +138,8 @@ const STARTS: [usize; 13] = [0, 32, 60, 95, 106, 122, 138, 145, 166, 195, 219, 2
 
 // A kind's keyword in capitals; `(complex)` for a complex record, and the empty text for `Other`. As the Rust's `as_str`, into lent
 // memory.
-pub fn as_str(k: Kind, out: &mut [u8]) -> Name
-    ensures { λ r. ⌜ toldName r ≡ nameIn (bytes (nameOf k)) (now (out .entry)) ⌝ }
+pub fn as_str(k: Kind, out: &mut [u8]) -> KindName
+    ensures { λ r. ⌜ toldKindName r ≡ nameIn (bytes (nameOf k)) (now (out .entry)) ⌝ }
     ensures { λ _. ⌜ now (out .exit) ≡ nameAfter (bytes (nameOf k)) (now (out .entry)) ⌝ }
 {
     let names = NAMES;

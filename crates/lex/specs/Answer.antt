@@ -7,8 +7,8 @@ use lib.ListN.{getD, length, drop}
 use Rattle.error.specs.Refusal.{refusal, Told, good, bad, told}
 use Rattle.lex.specs.Byte.{place}
 use Rattle.lex.specs.Grammar.{Begins, Quotation, OpenText}
-use Rattle.lex.specs.declared.Found.{Found}
-use Rattle.lex.specs.declared.Found.the-variants.{At, Refused}
+use Rattle.lex.specs.declared.FoundPlace.{FoundPlace}
+use Rattle.lex.specs.declared.FoundPlace.the-variants.{At, Refused}
 use Rattle.lex.specs.declared.Quote.{Quote}
 use Rattle.lex.specs.declared.Quote.the-variants.{Doubled, Single, Last}
 use Rattle.lex.specs.declared.TextEnd.{TextEnd}
@@ -25,9 +25,9 @@ placed s (at r) = good (place s r)
 placed s (fault n r) = bad (refusal n 0 (place s r))
 
 -- what the code's answer of a search says: a place, or a refusal
-abbrev pub toldFound : Found → Told ℕ
-toldFound (At p) = good p
-toldFound (Refused f) = bad (told f)
+abbrev pub toldFoundPlace : FoundPlace → Told ℕ
+toldFoundPlace (At p) = good p
+toldFoundPlace (Refused f) = bad (told f)
 
 -- none of the bytes from i on and before r is b
 unfoldable pub Lacks : ℕ → List ℕ → ℕ → ℕ → Type 0

@@ -14,8 +14,8 @@ abbrev pub Begins : ℕ → List ℕ → Type 0
 Begins c xs = (r : List ℕ) × (xs ≡ c ∷ r)
 
 -- the list begins with a slash and a star, which open a comment
-abbrev pub Opens : List ℕ → Type 0
-Opens xs = (r : List ℕ) × (xs ≡ 47 ∷ 42 ∷ r)
+abbrev pub OpensComment : List ℕ → Type 0
+OpensComment xs = (r : List ℕ) × (xs ≡ 47 ∷ 42 ∷ r)
 
 -- no `*/` begins in b, when a `*` follows b
 abbrev pub Remarked : List ℕ → Type 0
@@ -50,23 +50,23 @@ pub data Trivia : List ℕ → List ℕ → Type 0 where
 pub record Led (xs ys : List ℕ) : Type 0 where
   pub before : Trivia xs ys
   pub unblank : (c : ℕ) → white c ≡ true → Begins c ys → ⊥
-  pub unopened : Opens ys → ⊥
+  pub unopened : OpensComment ys → ⊥
 
 -- from xs up to ys: all strings and comments whole, and no `;` outside them
-pub data Runs : List ℕ → List ℕ → Type 0 where
-  none : {xs : List ℕ} → Runs xs xs
-  byte : {c : ℕ} {xs ys : List ℕ} → (c ≡ 59 → ⊥) → (c ≡ 39 → ⊥) → (Opens (c ∷ xs) → ⊥) → Runs xs ys → Runs (c ∷ xs) ys
-  string : {xs zs ys : List ℕ} → Quotation xs zs → Runs zs ys → Runs xs ys
-  comment : {xs zs ys : List ℕ} → Comment xs zs → Runs zs ys → Runs xs ys
+pub data RecordRuns : List ℕ → List ℕ → Type 0 where
+  none : {xs : List ℕ} → RecordRuns xs xs
+  byte : {c : ℕ} {xs ys : List ℕ} → (c ≡ 59 → ⊥) → (c ≡ 39 → ⊥) → (OpensComment (c ∷ xs) → ⊥) → RecordRuns xs ys → RecordRuns (c ∷ xs) ys
+  string : {xs zs ys : List ℕ} → Quotation xs zs → RecordRuns zs ys → RecordRuns xs ys
+  comment : {xs zs ys : List ℕ} → Comment xs zs → RecordRuns zs ys → RecordRuns xs ys
 
 -- "ends at the first `;` outside strings and comments": the record that starts with xs ends at that `;`, and r follows it
-abbrev pub Ends : List ℕ → List ℕ → Type 0
-Ends xs r = Runs xs (59 ∷ r)
+abbrev pub RecordEnds : List ℕ → List ℕ → Type 0
+RecordEnds xs r = RecordRuns xs (59 ∷ r)
 
 -- balanced bytes from xs up to ys: each parenthesis outside strings and comments has its partner
 pub data Balanced : List ℕ → List ℕ → Type 0 where
   none : {xs : List ℕ} → Balanced xs xs
-  byte : {c : ℕ} {xs ys : List ℕ} → (c ≡ 40 → ⊥) → (c ≡ 41 → ⊥) → (c ≡ 39 → ⊥) → (Opens (c ∷ xs) → ⊥) → Balanced xs ys → Balanced (c ∷ xs) ys
+  byte : {c : ℕ} {xs ys : List ℕ} → (c ≡ 40 → ⊥) → (c ≡ 41 → ⊥) → (c ≡ 39 → ⊥) → (OpensComment (c ∷ xs) → ⊥) → Balanced xs ys → Balanced (c ∷ xs) ys
   string : {xs zs ys : List ℕ} → Quotation xs zs → Balanced zs ys → Balanced xs ys
   comment : {xs zs ys : List ℕ} → Comment xs zs → Balanced zs ys → Balanced xs ys
   group : {xs zs ys : List ℕ} → Balanced xs (41 ∷ zs) → Balanced zs ys → Balanced (40 ∷ xs) ys
@@ -87,4 +87,4 @@ OpenText xs = Begins 39 xs × ((r : List ℕ) → Quotation xs r → ⊥)
 
 -- refusal 3, "comment open": a comment opens here, and none ends
 abbrev pub OpenRemark : List ℕ → Type 0
-OpenRemark xs = Opens xs × ((r : List ℕ) → Comment xs r → ⊥)
+OpenRemark xs = OpensComment xs × ((r : List ℕ) → Comment xs r → ⊥)

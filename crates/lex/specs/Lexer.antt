@@ -24,10 +24,10 @@ fresh c = pick (eqb c 39) Text (pick (eqb c 47) Slash Plain)
 
 -- the mode after the byte c: a `*` after a slash opens the comment, whose own `*` closes nothing; a quote in a string ends it,
 -- unless a second one follows
-abbrev pub next : Mode → ℕ → Mode
-next Plain c = fresh c
-next Slash c = pick (eqb c 42) Remark (fresh c)
-next Text c = pick (eqb c 39) Quoted Text
-next Quoted c = pick (eqb c 39) Text (fresh c)
-next Remark c = pick (eqb c 42) Starred Remark
-next Starred c = pick (eqb c 47) Plain (pick (eqb c 42) Starred Remark)
+abbrev pub nextMode : Mode → ℕ → Mode
+nextMode Plain c = fresh c
+nextMode Slash c = pick (eqb c 42) Remark (fresh c)
+nextMode Text c = pick (eqb c 39) Quoted Text
+nextMode Quoted c = pick (eqb c 39) Text (fresh c)
+nextMode Remark c = pick (eqb c 42) Starred Remark
+nextMode Starred c = pick (eqb c 47) Plain (pick (eqb c 42) Starred Remark)

@@ -1,7 +1,7 @@
 pub mod Byte
 pub mod Place
 pub mod Lexer
-pub mod Leap
+pub mod ByteSearch
 pub mod Answer
 pub mod Search
 pub mod Seek
@@ -10,8 +10,8 @@ pub mod Local
 pub mod Right
 pub mod Inside
 pub mod Quote
-pub mod Past
-pub mod Blank
+pub mod PassedAtOnce
+pub mod TriviaPassed
 pub mod At
 pub mod Only
 pub mod Rests

@@ -10,7 +10,7 @@ use lib.ListN.{length}
 use Rattle.common.specs.Pick.{pick}
 use Rattle.lex.specs.Byte.{white}
 use Rattle.common.specs.Walk.{Turn, stop, on, turned, walk}
-use Rattle.lex.specs.Lexer.{calm, next}
+use Rattle.lex.specs.Lexer.{calm, nextMode}
 use Rattle.lex.specs.Answer.{Sought, at, fault}
 use Rattle.lex.specs.Search.{Seen, seen, Look, halt, look, semicolon, paren, looked, seekTurn, unclosed, missed, recordEnd, closing, lead, triviaTurn, trailed, triviaEnd, trivia}
 use Rattle.lex.specs.declared.Mode.{Mode}
@@ -22,12 +22,12 @@ seek f z m d o xs = walk (seekTurn f) z (seen m d o) xs
 
 module _ (f : ℕ → ℕ → Look) (z : Seen → Sought) (m : Mode) (d : ℕ) (o : List ℕ) (c : ℕ) (r : List ℕ) where
   -- a search passes over a byte in a string or a comment
-  pub seek-within : calm m c ≡ false → seek f z m d o (c ∷ r) ≡ seek f z (next m c) d o r
+  pub seek-within : calm m c ≡ false → seek f z m d o (c ∷ r) ≡ seek f z (nextMode m c) d o r
   unfolding walk
   seek-within h = rw h
 
   -- a byte outside strings and comments at which the search does not halt is passed over
-  pub seek-past : (e : ℕ) → calm m c ≡ true → f d c ≡ look e → seek f z m d o (c ∷ r) ≡ seek f z (next m c) e (c ∷ r) r
+  pub seek-past : (e : ℕ) → calm m c ≡ true → f d c ≡ look e → seek f z m d o (c ∷ r) ≡ seek f z (nextMode m c) e (c ∷ r) r
   unfolding walk
   seek-past e h k = rw (h, k)
 
@@ -76,8 +76,8 @@ seek-stops f n w m d o (c ∷ t) ys h = go (calm m c) (f d c) refl refl (λ k e 
     go : (k : Bool) (l : Look) → calm m c ≡ k → f d c ≡ l
         → ((m : Mode) (d : ℕ) (o : List ℕ) → seek f (missed n w) m d o t ≡ at ys → Stops f m d t ys) → Stops f m d (c ∷ t) ys
     go false l p q ih =
-        stops-on f m (next m c) d d c t ys (λ z o r. (o, seek-within f z m d o c r p))
-        (ih (next m c) d o (rw (seek-within f _ m d o c t p) at h))
+        stops-on f m (nextMode m c) d d c t ys (λ z o r. (o, seek-within f z m d o c r p))
+        (ih (nextMode m c) d o (rw (seek-within f _ m d o c t p) at h))
     go true halt p q ih = record {
       before = [];
       byte = c;
@@ -87,8 +87,8 @@ seek-stops f n w m d o (c ∷ t) ys h = go (calm m c) (f d c) refl refl (λ k e 
       local = λ z o r. seek-halts f z m d o c r p q;
     }
     go true (look e) p q ih =
-        stops-on f m (next m c) d e c t ys (λ z o r. (c ∷ r, seek-past f z m d o c r e p q))
-        (ih (next m c) e (c ∷ t) (rw (seek-past f _ m d o c t e p q) at h))
+        stops-on f m (nextMode m c) d e c t ys (λ z o r. (c ∷ r, seek-past f z m d o c r e p q))
+        (ih (nextMode m c) e (c ∷ t) (rw (seek-past f _ m d o c t e p q) at h))
 
 -- "ends at the first `;` outside strings and comments": what follows the `;` has no part in where it is found
 pub end-local : (xs r : List ℕ) → recordEnd xs ≡ at (59 ∷ r)
@@ -109,26 +109,26 @@ closing-local c t r h =
     (s .before, cc, λ r'. rw e at (s .local (missed 6 (c ∷ (s .before ++ (41 ∷ r')))) (s .before ++ (41 ∷ r')) r'))
 
 -- the rest that a search answers, found or refused
-abbrev pub left : Sought → List ℕ
-left (at r) = r
-left (fault n r) = r
+abbrev pub restLeft : Sought → List ℕ
+restLeft (at r) = r
+restLeft (fault n r) = r
 
 -- a turn of a search leaves at most n bytes: in its answer, or from the last byte outside strings and comments
 abbrev within : ℕ → Turn Seen Sought → Type 0
-within n (stop a) = length (left a) ≤ n
+within n (stop a) = length (restLeft a) ≤ n
 within n (on s) = length (s .opened) ≤ n
 
 -- a walk of a search whose turns and end leave at most n bytes answers at most n
 walk-shorter : (n : ℕ) (t : Seen → ℕ → List ℕ → Turn Seen Sought) (z : Seen → Sought)
     → ((s : Seen) (c : ℕ) (r : List ℕ) → length (s .opened) ≤ n → length (c ∷ r) ≤ n → within n (t s c r))
-    → ((s : Seen) → length (s .opened) ≤ n → length (left (z s)) ≤ n)
-    → (s : Seen) (xs : List ℕ) → length (s .opened) ≤ n → length xs ≤ n → length (left (walk t z s xs)) ≤ n
+    → ((s : Seen) → length (s .opened) ≤ n → length (restLeft (z s)) ≤ n)
+    → (s : Seen) (xs : List ℕ) → length (s .opened) ≤ n → length xs ≤ n → length (restLeft (walk t z s xs)) ≤ n
 unfolding walk
 walk-shorter n t z turns ends s [] h l = ends s h
 walk-shorter n t z turns ends s (c ∷ r) h l = go (t s c r) (turns s c r h l) (λ u k. walk-shorter n t z turns ends u r k (omega arith))
   where
-    go : (a : Turn Seen Sought) → within n a → ((u : Seen) → length (u .opened) ≤ n → length (left (walk t z u r)) ≤ n)
-        → length (left (turned a (λ u. walk t z u r))) ≤ n
+    go : (a : Turn Seen Sought) → within n a → ((u : Seen) → length (u .opened) ≤ n → length (restLeft (walk t z u r)) ≤ n)
+        → length (restLeft (turned a (λ u. walk t z u r))) ≤ n
     go (stop a) k ih = k
     go (on u) k ih = ih u k
 
@@ -138,7 +138,7 @@ within-pick n true a b p q = p
 within-pick n false a b p q = q
 
 -- where the bytes end, a search answers at most n bytes, if it began with at most n
-missed-shorter : (n k : ℕ) (w : List ℕ) (m : Mode) (o : List ℕ) → length w ≤ n → length o ≤ n → length (left (unclosed m k w o)) ≤ n
+missed-shorter : (n k : ℕ) (w : List ℕ) (m : Mode) (o : List ℕ) → length w ≤ n → length o ≤ n → length (restLeft (unclosed m k w o)) ≤ n
 missed-shorter n k w Plain o h l = h
 missed-shorter n k w Slash o h l = h
 missed-shorter n k w Text o h l = l
@@ -153,18 +153,18 @@ looked-shorter n (look d) m xs h = h
 
 -- a search answers no more bytes than it was given
 seek-shorter : (n k : ℕ) (f : ℕ → ℕ → Look) (w : List ℕ) (m : Mode) (d : ℕ) (o xs : List ℕ)
-    → length w ≤ n → length o ≤ n → length xs ≤ n → length (left (seek f (missed k w) m d o xs)) ≤ n
+    → length w ≤ n → length o ≤ n → length xs ≤ n → length (restLeft (seek f (missed k w) m d o xs)) ≤ n
 seek-shorter n k f w m d o xs hw ho hx = walk-shorter n (seekTurn f) (missed k w)
-    (λ s c r p q. within-pick n (calm (s .mode) c) _ _ (looked-shorter n (f (s .depth) c) (next (s .mode) c) (c ∷ r) q) p)
+    (λ s c r p q. within-pick n (calm (s .mode) c) _ _ (looked-shorter n (f (s .depth) c) (nextMode (s .mode) c) (c ∷ r) q) p)
     (λ s p. missed-shorter n k w (s .mode) (s .opened) hw p) (seen m d o) xs ho hx
 
 -- the rest from the record's end, and from a refusal of it, is no longer than the rest from the record's start
-pub end-shorter : (xs : List ℕ) {a : Sought} → recordEnd xs ≡ a → length (left a) ≤ length xs
+pub end-shorter : (xs : List ℕ) {a : Sought} → recordEnd xs ≡ a → length (restLeft a) ≤ length xs
 unfolding recordEnd
 end-shorter xs h = rw h at (seek-shorter (length xs) 5 semicolon xs Plain 0 xs xs (omega arith) (omega arith) (omega arith))
 
 -- the rest from the closing `)`, and from a refusal of it, is no longer than the rest from the `(`
-pub closing-shorter : (c : ℕ) (t : List ℕ) {a : Sought} → closing (c ∷ t) ≡ a → length (left a) ≤ length (c ∷ t)
+pub closing-shorter : (c : ℕ) (t : List ℕ) {a : Sought} → closing (c ∷ t) ≡ a → length (restLeft a) ≤ length (c ∷ t)
 unfolding closing
 closing-shorter c t h = rw h at (seek-shorter (length (c ∷ t)) 6 paren (c ∷ t) Plain 0 t t (omega arith) (omega arith) (omega arith))
 
@@ -178,7 +178,7 @@ lead-shorter n Remark o c r h l = h
 lead-shorter n Starred o c r h l = h
 
 -- where the bytes end on the way past trivia, at most n bytes are answered
-trailed-shorter : (n : ℕ) (m : Mode) (o : List ℕ) → length o ≤ n → length (left (trailed m o)) ≤ n
+trailed-shorter : (n : ℕ) (m : Mode) (o : List ℕ) → length o ≤ n → length (restLeft (trailed m o)) ≤ n
 trailed-shorter n Plain o h = omega arith
 trailed-shorter n Slash o h = h
 trailed-shorter n Text o h = omega arith
@@ -187,7 +187,7 @@ trailed-shorter n Remark o h = h
 trailed-shorter n Starred o h = h
 
 -- the rest after trivia, and from a comment that is open, is no longer than the rest before
-pub trivia-shorter : (xs : List ℕ) {a : Sought} → trivia xs ≡ a → length (left a) ≤ length xs
+pub trivia-shorter : (xs : List ℕ) {a : Sought} → trivia xs ≡ a → length (restLeft a) ≤ length xs
 unfolding trivia
 trivia-shorter xs h = rw h at (walk-shorter (length xs) triviaTurn triviaEnd
     (λ s c r p q. within-pick (length xs) (calm (s .mode) c) _ _ (lead-shorter (length xs) (s .mode) (s .opened) c r p q) p)

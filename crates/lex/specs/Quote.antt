@@ -14,7 +14,7 @@ use Rattle.lex.specs.Search.{recordEnd}
 use Rattle.lex.specs.Answer.{at, fault, Lacks, Stopped, QuoteIs, TextEnds}
 use Rattle.lex.specs.Seek.{drop-within}
 use Rattle.lex.specs.Grammar.{Begins, Inside, OpenText}
-use Rattle.lex.specs.Right.Tokens.{unended, one-end}
+use Rattle.lex.specs.Right.Tokens.{string-unended, one-end}
 use Rattle.lex.specs.declared.Quote.{Quote}
 use Rattle.lex.specs.declared.Quote.the-variants.{Doubled, Single, Last}
 use Rattle.lex.specs.declared.TextEnd.{TextEnd}
@@ -116,7 +116,7 @@ module _ (s : List ℕ) (i q : ℕ) (a : InText s i q) where
   pub text-never : length s ≤ q → OpenText (39 ∷ drop i s)
   text-never h =
       let e : drop i s ≡ a .body = a .shape ∙ ap (λ (r : List ℕ). a .body ++ r) (drop-end s q h) ∙ append-nil (a .body) in
-      ((drop i s, refl), rw e (unended (a .inside)))
+      ((drop i s, refl), rw e (string-unended (a .inside)))
 
   module _ (h : q < length s) (g : getD s q 0 ≡ 39) where
     -- two quotes in a row at q are a pair, and the string's inside goes on after them

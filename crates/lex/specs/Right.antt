@@ -14,7 +14,7 @@ use Rattle.lex.specs.Byte.{white}
 use Rattle.common.specs.Walk.{walk}
 use Rattle.lex.specs.Search.{seen, Look, semicolon, paren, missed, recordEnd, closing, triviaTurn, triviaEnd, trivia}
 use Rattle.lex.specs.Answer.{Sought, at, fault}
-use Rattle.lex.specs.Grammar.{Begins, Opens, Remarked, Comment, Trivia, Led, Runs, Ends, Balanced, Closes, Deep, OpenText, OpenRemark}
+use Rattle.lex.specs.Grammar.{Begins, OpensComment, Remarked, Comment, Trivia, Led, RecordRuns, RecordEnds, Balanced, Closes, Deep, OpenText, OpenRemark}
 use Rattle.lex.specs.Local.{seek-halts}
 use Rattle.lex.specs.declared.Mode.{Mode}
 use Rattle.lex.specs.declared.Mode.the-variants.{Plain, Slash, Remark}
@@ -22,15 +22,15 @@ pub mod Steps
 pub mod Tokens
 pub mod Answer
 use Steps.{Deaf, remark-shut, remark-open, Passing, plainly, byte-step, string-step, comment-step, text-stuck, remark-stuck}
-use Tokens.{open-text, open-remark, Reads, tokens}
+use Tokens.{open-text, open-remark, ReadsAsTokens, tokens}
 use Answer.{Outcome, further, Answers, found-is, fault-is}
 
 -- the search past trivia, from a mode on, with o for the last byte outside comments
-abbrev pub past : Mode → List ℕ → List ℕ → Sought
-past m o xs = walk triviaTurn triviaEnd (seen m 0 o) xs
+abbrev pub pastTrivia : Mode → List ℕ → List ℕ → Sought
+pastTrivia m o xs = walk triviaTurn triviaEnd (seen m 0 o) xs
 
 -- where the last byte outside comments stood has no part in the answer
-pub past-any : (o p xs : List ℕ) → past Plain o xs ≡ past Plain p xs
+pub past-any : (o p xs : List ℕ) → pastTrivia Plain o xs ≡ pastTrivia Plain p xs
 unfolding walk
 past-any o p [] = refl
 past-any o p (c ∷ r) = refl
@@ -45,12 +45,12 @@ unfolding trivia walk
 blank-step c t h = rw h (past-any (c ∷ t) t t)
 
 -- a slash and a star open a comment on the way past trivia
-pub past-start : (t : List ℕ) → trivia (47 ∷ 42 ∷ t) ≡ past Remark (47 ∷ 42 ∷ t) t
+pub past-start : (t : List ℕ) → trivia (47 ∷ 42 ∷ t) ≡ pastTrivia Remark (47 ∷ 42 ∷ t) t
 unfolding trivia walk
 past-start t = refl
 
 -- the trivia go on after a comment that ends
-past-shut : (o b r : List ℕ) → Remarked b → past Remark o (b ++ (42 ∷ 47 ∷ r)) ≡ trivia r
+past-shut : (o b r : List ℕ) → Remarked b → pastTrivia Remark o (b ++ (42 ∷ 47 ∷ r)) ≡ trivia r
 unfolding trivia
 past-shut o b r h = remark-shut triviaTurn triviaEnd (λ m. seen m 0 o) (trivia-deaf o) b r h ∙ past-any o r r
 
@@ -61,13 +61,13 @@ trivia-step (Trivia.blank {c} {xs} h r) = blank-step c xs h ∙ trivia-step r
 trivia-step (Trivia.comment {zs} q r) = rw (q .shape) (past-start (q .body ++ (42 ∷ 47 ∷ zs)) ∙ past-shut _ (q .body) zs (q .first)) ∙ trivia-step r
 
 -- a slash that opens no comment is where the trivia end
-slash-stops : (o t : List ℕ) → (Begins 42 t → ⊥) → past Slash o t ≡ at o
+slash-stops : (o t : List ℕ) → (Begins 42 t → ⊥) → pastTrivia Slash o t ≡ at o
 unfolding walk
 slash-stops o [] h = refl
 slash-stops o (c ∷ r) h = rw (ne-eqb c 42 (λ e. h (r, cc)))
 
 -- where no whitespace and no comment begins, the trivia end
-pub led-stops : (ys : List ℕ) → ((c : ℕ) → white c ≡ true → Begins c ys → ⊥) → (Opens ys → ⊥) → trivia ys ≡ at ys
+pub led-stops : (ys : List ℕ) → ((c : ℕ) → white c ≡ true → Begins c ys → ⊥) → (OpensComment ys → ⊥) → trivia ys ≡ at ys
 unfolding trivia walk
 led-stops [] h k = refl
 led-stops (c ∷ t) h k = go (white c) (eqb c 47) refl refl
@@ -96,21 +96,21 @@ leads-before g (inl (ys, l)) = inl (ys, record { before = g ys (l .before); unbl
 leads-before g (inr (o, r, q)) = inr (o, g o r, q)
 
 -- a byte that is not white and opens no comment is where the search past trivia ends
-leads-here : (c : ℕ) (xs : List ℕ) → Begins c xs → white c ≡ false → (Opens xs → ⊥) → Leads xs
+leads-here : (c : ℕ) (xs : List ℕ) → Begins c xs → white c ≡ false → (OpensComment xs → ⊥) → Leads xs
 leads-here c xs (t, e) h k = inl (xs, record { before = Trivia.none; unblank = λ b w (r, g). clash (cc); unopened = k })
 
 -- what becomes of the search past trivia, by the tokens that the list is read as
-trivia-comes : {xs : List ℕ} → Reads xs → Leads xs
-trivia-comes Reads.end = inl ([], record { before = Trivia.none; unblank = λ c w (r, e). clash (cc); unopened = λ (r, e). clash (cc) })
-trivia-comes (Reads.byte {c} {t} h k s) = go (white c) refl (trivia-comes s)
+trivia-comes : {xs : List ℕ} → ReadsAsTokens xs → Leads xs
+trivia-comes ReadsAsTokens.end = inl ([], record { before = Trivia.none; unblank = λ c w (r, e). clash (cc); unopened = λ (r, e). clash (cc) })
+trivia-comes (ReadsAsTokens.byte {c} {t} h k s) = go (white c) refl (trivia-comes s)
   where
     go : (a : Bool) → white c ≡ a → Leads t → Leads (c ∷ t)
     go true p u = leads-before (λ zs. Trivia.blank p) u
     go false p u = leads-here c (c ∷ t) (t, refl) p k
-trivia-comes {xs} (Reads.string q s) = leads-here 39 xs (_, q .shape) refl (λ (r, e). eqb-false 39 47 refl (cc))
-trivia-comes (Reads.comment q s) = leads-before (λ zs. Trivia.comment q) (trivia-comes s)
-trivia-comes {xs} (Reads.text q) = leads-here 39 xs (q .0) refl (λ (r, e). eqb-false 39 47 refl (cc))
-trivia-comes {xs} (Reads.remark q) = inr (xs, Trivia.none, q)
+trivia-comes {xs} (ReadsAsTokens.string q s) = leads-here 39 xs (_, q .shape) refl (λ (r, e). eqb-false 39 47 refl (cc))
+trivia-comes (ReadsAsTokens.comment q s) = leads-before (λ zs. Trivia.comment q) (trivia-comes s)
+trivia-comes {xs} (ReadsAsTokens.text q) = leads-here 39 xs (q .0) refl (λ (r, e). eqb-false 39 47 refl (cc))
+trivia-comes {xs} (ReadsAsTokens.remark q) = inr (xs, Trivia.none, q)
 
 -- "A record starts at the first non-trivia byte": where the search past trivia ends, it starts by the grammar
 pub trivia-is : (xs ys : List ℕ) → trivia xs ≡ at ys → Led xs ys
@@ -164,47 +164,47 @@ semicolon-passing : Passing semicolon
 semicolon-passing = record { quote = λ d. refl; slash = λ d. refl }
 
 -- whole strings and comments, and bytes that are no `;`, are passed over by the search for a record's end
-runs-step : (n : ℕ) (w : List ℕ) {xs ys : List ℕ} → Runs xs ys → plainly semicolon n w 0 xs ≡ plainly semicolon n w 0 ys
-runs-step n w Runs.none = refl
-runs-step n w (Runs.byte {c} {xs} h k l r) = byte-step semicolon n w 0 0 c xs k l (rw (ne-eqb c 59 h)) ∙ runs-step n w r
-runs-step n w (Runs.string q r) = string-step semicolon n w semicolon-passing 0 q ∙ runs-step n w r
-runs-step n w (Runs.comment q r) = comment-step semicolon n w semicolon-passing 0 q ∙ runs-step n w r
+runs-step : (n : ℕ) (w : List ℕ) {xs ys : List ℕ} → RecordRuns xs ys → plainly semicolon n w 0 xs ≡ plainly semicolon n w 0 ys
+runs-step n w RecordRuns.none = refl
+runs-step n w (RecordRuns.byte {c} {xs} h k l r) = byte-step semicolon n w 0 0 c xs k l (rw (ne-eqb c 59 h)) ∙ runs-step n w r
+runs-step n w (RecordRuns.string q r) = string-step semicolon n w semicolon-passing 0 q ∙ runs-step n w r
+runs-step n w (RecordRuns.comment q r) = comment-step semicolon n w semicolon-passing 0 q ∙ runs-step n w r
 
 -- "ends at the first `;` outside strings and comments": where the grammar has one, the search for a record's end finds it
-pub end-only : {xs r : List ℕ} → Ends xs r → recordEnd xs ≡ at (59 ∷ r)
+pub end-only : {xs r : List ℕ} → RecordEnds xs r → recordEnd xs ≡ at (59 ∷ r)
 unfolding recordEnd
 end-only {xs} {r} h = runs-step 5 xs h ∙ seek-halts semicolon (missed 5 xs) Plain 0 (59 ∷ r) 59 r refl refl
 
 -- refusal 4, "string open": on the way to a record's end, at the string's quote
-pub end-text-only : {xs o : List ℕ} → Runs xs o → OpenText o → recordEnd xs ≡ fault 4 o
+pub end-text-only : {xs o : List ℕ} → RecordRuns xs o → OpenText o → recordEnd xs ≡ fault 4 o
 unfolding recordEnd
 end-text-only {xs} h q = runs-step 5 xs h ∙ text-fault semicolon 5 xs semicolon-passing 0 q
 
 -- refusal 3, "comment open": on the way to a record's end, at the comment's slash
-pub end-remark-only : {xs o : List ℕ} → Runs xs o → OpenRemark o → recordEnd xs ≡ fault 3 o
+pub end-remark-only : {xs o : List ℕ} → RecordRuns xs o → OpenRemark o → recordEnd xs ≡ fault 3 o
 unfolding recordEnd
 end-remark-only {xs} h q = runs-step 5 xs h ∙ remark-fault semicolon 5 xs semicolon-passing 0 q
 
 -- refusal 5, no `;` up to the file's end: at the record's start
-pub end-over-only : {xs : List ℕ} → Runs xs [] → recordEnd xs ≡ fault 5 xs
+pub end-over-only : {xs : List ℕ} → RecordRuns xs [] → recordEnd xs ≡ fault 5 xs
 unfolding recordEnd walk
 end-over-only {xs} h = runs-step 5 xs h
 
 -- what becomes of a search for a record's end, by the tokens that the list is read as
-end-comes : {xs : List ℕ} → Reads xs → Outcome (Ends xs) (Runs xs)
-end-comes Reads.end = Outcome.over Runs.none
-end-comes (Reads.byte {c} {t} h k s) = go (ℕ-discrete c 59) (end-comes s)
+end-comes : {xs : List ℕ} → ReadsAsTokens xs → Outcome (RecordEnds xs) (RecordRuns xs)
+end-comes ReadsAsTokens.end = Outcome.over RecordRuns.none
+end-comes (ReadsAsTokens.byte {c} {t} h k s) = go (ℕ-discrete c 59) (end-comes s)
   where
-    go : Dec (c ≡ 59) → Outcome (Ends t) (Runs t) → Outcome (Ends (c ∷ t)) (Runs (c ∷ t))
-    go (yes p) u = Outcome.found t (rw p Runs.none)
-    go (no l) u = further (λ r. Runs.byte l h k) (λ o. Runs.byte l h k) u
-end-comes (Reads.string q s) = further (λ r. Runs.string q) (λ o. Runs.string q) (end-comes s)
-end-comes (Reads.comment q s) = further (λ r. Runs.comment q) (λ o. Runs.comment q) (end-comes s)
-end-comes {xs} (Reads.text q) = Outcome.text xs Runs.none q
-end-comes {xs} (Reads.remark q) = Outcome.remark xs Runs.none q
+    go : Dec (c ≡ 59) → Outcome (RecordEnds t) (RecordRuns t) → Outcome (RecordEnds (c ∷ t)) (RecordRuns (c ∷ t))
+    go (yes p) u = Outcome.found t (rw p RecordRuns.none)
+    go (no l) u = further (λ r. RecordRuns.byte l h k) (λ o. RecordRuns.byte l h k) u
+end-comes (ReadsAsTokens.string q s) = further (λ r. RecordRuns.string q) (λ o. RecordRuns.string q) (end-comes s)
+end-comes (ReadsAsTokens.comment q s) = further (λ r. RecordRuns.comment q) (λ o. RecordRuns.comment q) (end-comes s)
+end-comes {xs} (ReadsAsTokens.text q) = Outcome.text xs RecordRuns.none q
+end-comes {xs} (ReadsAsTokens.remark q) = Outcome.remark xs RecordRuns.none q
 
 -- each outcome of a search for a record's end, with its answer
-end-answers : (xs : List ℕ) → Answers (recordEnd xs) 59 5 xs (Ends xs) (Runs xs)
+end-answers : (xs : List ℕ) → Answers (recordEnd xs) 59 5 xs (RecordEnds xs) (RecordRuns xs)
 end-answers xs = record {
   comes = end-comes (tokens xs);
   founds = λ r. end-only;
@@ -214,16 +214,16 @@ end-answers xs = record {
 }
 
 -- "ends at the first `;` outside strings and comments": what the search for a record's end finds is that by the grammar
-pub end-is : (xs ys : List ℕ) → recordEnd xs ≡ at ys → (r : List ℕ) × (ys ≡ 59 ∷ r) × Ends xs r
+pub end-is : (xs ys : List ℕ) → recordEnd xs ≡ at ys → (r : List ℕ) × (ys ≡ 59 ∷ r) × RecordEnds xs r
 end-is xs = found-is (end-answers xs)
 
 -- a refusal of a record's end is 4, 3 or 5, and the grammar has what each says
-pub end-open : (xs : List ℕ) (n : ℕ) (o : List ℕ) → recordEnd xs ≡ fault n o
-    → ((n ≡ 4) × Runs xs o × OpenText o) ⊎ (((n ≡ 3) × Runs xs o × OpenRemark o) ⊎ ((n ≡ 5) × (o ≡ xs) × Runs xs []))
-end-open xs = fault-is (end-answers xs)
+pub record-end-open : (xs : List ℕ) (n : ℕ) (o : List ℕ) → recordEnd xs ≡ fault n o
+    → ((n ≡ 4) × RecordRuns xs o × OpenText o) ⊎ (((n ≡ 3) × RecordRuns xs o × OpenRemark o) ⊎ ((n ≡ 5) × (o ≡ xs) × RecordRuns xs []))
+record-end-open xs = fault-is (end-answers xs)
 
 -- a record has at most one end
-pub end-one : {xs r s : List ℕ} → Ends xs r → Ends xs s → r ≡ s
+pub end-one : {xs r s : List ℕ} → RecordEnds xs r → RecordEnds xs s → r ≡ s
 end-one h k = cc (end-only h, end-only k)
 
 -- a search for a closing `)` passes over strings and comments
@@ -319,18 +319,18 @@ closed-comes zero t u = Outcome.found t (sunk-none 0 (41 ∷ t))
 closed-comes (suc d) t u = sunken (suc d) d (41 ∷ t) t (λ k ys. Sunk.rise Balanced.none) (u d)
 
 -- what becomes of a search for a `)`, by the tokens that the list is read as
-closing-comes : {xs : List ℕ} → Reads xs → (d : ℕ) → Comes d xs
-closing-comes Reads.end d = Outcome.over (d, sunk-none d [])
-closing-comes (Reads.byte {c} {t} h v s) d = go (ℕ-discrete c 40) (ℕ-discrete c 41) (closing-comes s)
+closing-comes : {xs : List ℕ} → ReadsAsTokens xs → (d : ℕ) → Comes d xs
+closing-comes ReadsAsTokens.end d = Outcome.over (d, sunk-none d [])
+closing-comes (ReadsAsTokens.byte {c} {t} h v s) d = go (ℕ-discrete c 40) (ℕ-discrete c 41) (closing-comes s)
   where
     go : Dec (c ≡ 40) → Dec (c ≡ 41) → ((e : ℕ) → Comes e t) → Comes d (c ∷ t)
     go (yes p) q u = rw p (sunken d (suc d) (40 ∷ t) t (λ k ys. sunk-open) (u (suc d)))
     go (no l) (yes q) u = rw q (closed-comes d t u)
     go (no l) (no m) u = sunken d d (c ∷ t) t (λ k ys. sunk-before (λ zs. Balanced.byte l m h v)) (u d)
-closing-comes {xs} (Reads.string {zs} q s) d = sunken d d xs zs (λ k ys. sunk-before (λ zs. Balanced.string q)) (closing-comes s d)
-closing-comes {xs} (Reads.comment {zs} q s) d = sunken d d xs zs (λ k ys. sunk-before (λ zs. Balanced.comment q)) (closing-comes s d)
-closing-comes {xs} (Reads.text q) d = Outcome.text xs (d, sunk-none d xs) q
-closing-comes {xs} (Reads.remark q) d = Outcome.remark xs (d, sunk-none d xs) q
+closing-comes {xs} (ReadsAsTokens.string {zs} q s) d = sunken d d xs zs (λ k ys. sunk-before (λ zs. Balanced.string q)) (closing-comes s d)
+closing-comes {xs} (ReadsAsTokens.comment {zs} q s) d = sunken d d xs zs (λ k ys. sunk-before (λ zs. Balanced.comment q)) (closing-comes s d)
+closing-comes {xs} (ReadsAsTokens.text q) d = Outcome.text xs (d, sunk-none d xs) q
+closing-comes {xs} (ReadsAsTokens.remark q) d = Outcome.remark xs (d, sunk-none d xs) q
 
 -- what becomes of a search for the `)` that closes a `(`, which t follows
 closes-comes : (t : List ℕ) → Outcome (Closes t) (λ o. (d : ℕ) × Deep d t o)

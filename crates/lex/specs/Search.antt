@@ -9,7 +9,7 @@ use lib.ListN.{drop}
 use Rattle.common.specs.Pick.{pick}
 use Rattle.lex.specs.Byte.{white}
 use Rattle.common.specs.Walk.{Turn, stop, on, walk}
-use Rattle.lex.specs.Lexer.{calm, next}
+use Rattle.lex.specs.Lexer.{calm, nextMode}
 use Rattle.lex.specs.Answer.{Sought, at, fault}
 use Rattle.lex.specs.declared.Mode.{Mode}
 use Rattle.lex.specs.declared.Mode.the-variants.{Plain, Slash, Text, Quoted, Remark, Starred}
@@ -54,8 +54,8 @@ looked (look d) m here = on (seen m d here)
 abbrev pub seekTurn : (ℕ → ℕ → Look) → Seen → ℕ → List ℕ → Turn Seen Sought
 seekTurn f s c r =
     pick (calm (s .mode) c)
-    (looked (f (s .depth) c) (next (s .mode) c) (c ∷ r))
-    (on (seen (next (s .mode) c) (s .depth) (s .opened)))
+    (looked (f (s .depth) c) (nextMode (s .mode) c) (c ∷ r))
+    (on (seen (nextMode (s .mode) c) (s .depth) (s .opened)))
 
 -- the file ended: in a string, refusal 4 at its first quote; in a comment, 3 at its `/`; else the search's own refusal
 abbrev pub unclosed : Mode → ℕ → List ℕ → List ℕ → Sought
@@ -90,7 +90,7 @@ lead Starred o c r = stop (at o)
 
 -- one byte of trivia: a byte in a comment only moves the mode
 abbrev pub triviaTurn : Seen → ℕ → List ℕ → Turn Seen Sought
-triviaTurn s c r = pick (calm (s .mode) c) (lead (s .mode) (s .opened) c r) (on (seen (next (s .mode) c) 0 (s .opened)))
+triviaTurn s c r = pick (calm (s .mode) c) (lead (s .mode) (s .opened) c r) (on (seen (nextMode (s .mode) c) 0 (s .opened)))
 
 -- the file ended on the way past trivia: nothing is left, a slash is, or a comment is open
 abbrev pub trailed : Mode → List ℕ → Sought

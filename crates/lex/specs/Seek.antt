@@ -30,8 +30,8 @@ drop-within xs i = go (decLe i (length xs))
 -- A search halts at the byte at i.
 module _ (f : ℕ → ℕ → Look) (z : Seen → Sought) (xs : List ℕ) (i : ℕ) (h : i < length xs) (m : Mode) (d since : ℕ) (a : Sought) where
   -- a search that halts at the byte at i answers the rest from i on
-  pub seek-halts : calm m (getD xs i 0) ≡ true → f d (getD xs i 0) ≡ halt → walk (seekTurn f) z (seen m d (drop since xs)) (drop i xs) ≡ a → at (drop i xs) ≡ a
-  seek-halts e g inv =
+  pub seek-halts-at : calm m (getD xs i 0) ≡ true → f d (getD xs i 0) ≡ halt → walk (seekTurn f) z (seen m d (drop since xs)) (drop i xs) ≡ a → at (drop i xs) ≡ a
+  seek-halts-at e g inv =
       sym
       (walk-stops (seekTurn f) z (seen m d (drop since xs)) xs i (at (drop i xs)) h
       (rw (e, g) (ap (λ (l : List ℕ). stop (at l)) (sym (split xs i h)))))

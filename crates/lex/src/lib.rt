@@ -9,9 +9,9 @@ ghost use mathlib.Core.Bool.{true, false, _||_};
 ghost use lib.ListN.{length, drop};
 ghost use Rattle.common.specs.Pick.{pick};
 ghost use Rattle.lex.specs.Byte.{white};
-ghost use Rattle.lex.specs.Leap.{Without};
-ghost use Rattle.lex.specs.Answer.{Lacks, Stopped, placed, toldFound, QuoteIs, TextEnds};
-ghost use Rattle.lex.specs.Past.{IsAt, Shut, Onward, Quiet, Counted, Stood};
+ghost use Rattle.lex.specs.ByteSearch.{NoneBetween};
+ghost use Rattle.lex.specs.Answer.{Lacks, Stopped, placed, toldFoundPlace, QuoteIs, TextEnds};
+ghost use Rattle.lex.specs.PassedAtOnce.{IsAt, LeavesOrRefused, OutsideAgain, Quiet, BlockCounted, Stood};
 ghost use Rattle.lex.specs.Search.{recordEnd, closing, trivia, paren, lookOf};
 use error::Fault;
 
@@ -27,7 +27,7 @@ pub enum Mode {
 }
 
 // A place in the file, or a refusal.
-pub enum Found {
+pub enum FoundPlace {
     At(usize),
     Refused(Fault),
 }
@@ -55,7 +55,7 @@ fn block_has(s: &[u8], at: usize, b: u8) -> bool
 // Past all blocks of 64 bytes that lack b, from `from` on.
 fn pass_blocks(s: &[u8], from: usize, b: u8) -> usize
     requires { ⌜ from ≤ length (now s) ⌝ }
-    ensures { λ r. ⌜ Without b (now (s .entry)) from r ⌝ }
+    ensures { λ r. ⌜ NoneBetween b (now (s .entry)) from r ⌝ }
 {
     let mut i = from;
     while s.len() - i >= 64 {
@@ -167,48 +167,48 @@ pub fn text_end(s: &[u8], from: usize) -> TextEnd
 }
 
 // Past the string whose first quote stands at q.
-fn past_text(s: &[u8], q: usize) -> Found
+fn past_text(s: &[u8], q: usize) -> FoundPlace
     requires { ⌜ q < length (now s) ⌝ }
-    ensures { λ r. ⌜ Shut (now (s .entry)) Mode.Text q (q + 1) r ⌝ }
+    ensures { λ r. ⌜ LeavesOrRefused (now (s .entry)) Mode.Text q (q + 1) r ⌝ }
 {
     match text_end(s, q + 1) {
-        TextEnd::After(next) => Found::At(next),
-        TextEnd::Never => Found::Refused(Fault::OpenString(q)),
+        TextEnd::After(next) => FoundPlace::At(next),
+        TextEnd::Never => FoundPlace::Refused(Fault::OpenString(q)),
     }
 }
 
 // Past the comment whose `/` stands at q and its `*` after it.
-fn past_remark(s: &[u8], q: usize) -> Found
+fn past_remark(s: &[u8], q: usize) -> FoundPlace
     requires { ⌜ q + 2 ≤ length (now s) ⌝ }
-    ensures { λ r. ⌜ Shut (now (s .entry)) Mode.Remark q (q + 2) r ⌝ }
+    ensures { λ r. ⌜ LeavesOrRefused (now (s .entry)) Mode.Remark q (q + 2) r ⌝ }
 {
     let mut i = q + 2;
     loop {
         let e = find(s, i, b'*');
         if s.len() <= e {
-            return Found::Refused(Fault::OpenComment(q));
+            return FoundPlace::Refused(Fault::OpenComment(q));
         }
         if is_at(s, e + 1, b'/') {
-            return Found::At(e + 2);
+            return FoundPlace::At(e + 2);
         }
         i = e + 1;
     }
 }
 
 // Past what stands at i outside strings and comments: a string, a comment, or a byte.
-fn past(s: &[u8], i: usize) -> Found
+fn past(s: &[u8], i: usize) -> FoundPlace
     requires { ⌜ i < length (now s) ⌝ }
-    ensures { λ r. ⌜ Onward (now (s .entry)) i r ⌝ }
+    ensures { λ r. ⌜ OutsideAgain (now (s .entry)) i r ⌝ }
 {
     let c = s[i];
     if c == b'\'' {
         return past_text(s, i);
     }
     if c != b'/' {
-        return Found::At(i + 1);
+        return FoundPlace::At(i + 1);
     }
     if !is_at(s, i + 1, b'*') {
-        return Found::At(i + 1);
+        return FoundPlace::At(i + 1);
     }
     past_remark(s, i)
 }
@@ -251,8 +251,8 @@ fn pass_quiet(s: &[u8], from: usize) -> usize
 
 // Finds the `;` that ends the record that begins at `start`. The bytes are looked at one by one up to `near`, then by blocks while that passes
 // any: most records are short.
-pub fn find_record_end(s: &[u8], start: usize) -> Found
-    ensures { λ r. ⌜ toldFound r ≡ placed (now (s .entry)) (recordEnd (drop start (now (s .entry)))) ⌝ }
+pub fn find_record_end(s: &[u8], start: usize) -> FoundPlace
+    ensures { λ r. ⌜ toldFoundPlace r ≡ placed (now (s .entry)) (recordEnd (drop start (now (s .entry)))) ⌝ }
 {
     let from = common::within(start, s.len());
     let mut i = from;
@@ -263,15 +263,15 @@ pub fn find_record_end(s: &[u8], start: usize) -> Found
             near = i + 64;
         } else {
             if s[i] == b';' {
-                return Found::At(i);
+                return FoundPlace::At(i);
             }
             match past(s, i) {
-                Found::At(next) => i = next,
-                Found::Refused(f) => return Found::Refused(f),
+                FoundPlace::At(next) => i = next,
+                FoundPlace::Refused(f) => return FoundPlace::Refused(f),
             }
         }
     }
-    Found::Refused(Fault::NoEnd(from))
+    FoundPlace::Refused(Fault::NoEnd(from))
 }
 
 // What a byte outside strings and comments does to the open parentheses: it closes the one sought, or so many are open.
@@ -329,7 +329,7 @@ fn wide(n: u8) -> usize
 fn block_tally(s: &[u8], at: usize) -> Tally
     requires { ⌜ at + 64 ≤ length (now s) ⌝ }
     ensures { λ r. ⌜ (r .up ≤ 64) × (r .down ≤ 64) ⌝ }
-    ensures { λ r. ⌜ ((r .quote || r .slash) ≡ false → Counted (now (s .entry)) at (at + 64) (r .up) (r .down)) ⌝ }
+    ensures { λ r. ⌜ ((r .quote || r .slash) ≡ false → BlockCounted (now (s .entry)) at (at + 64) (r .up) (r .down)) ⌝ }
 {
     let mut quote = false;
     let mut slash = false;
@@ -373,8 +373,8 @@ fn pass_calm(s: &[u8], from: usize, opened: usize) -> Stand
 }
 
 // Finds the `)` that closes the `(` at `opening`; what byte stands there is not looked at. By bytes and blocks as the search for a `;`.
-pub fn matching_paren(s: &[u8], opening: usize) -> Found
-    ensures { λ r. ⌜ toldFound r ≡ placed (now (s .entry)) (closing (drop opening (now (s .entry)))) ⌝ }
+pub fn matching_paren(s: &[u8], opening: usize) -> FoundPlace
+    ensures { λ r. ⌜ toldFoundPlace r ≡ placed (now (s .entry)) (closing (drop opening (now (s .entry)))) ⌝ }
 {
     let from = common::within(opening, s.len());
     let mut i = common::within(from + 1, s.len());
@@ -388,21 +388,21 @@ pub fn matching_paren(s: &[u8], opening: usize) -> Found
             near = i + 64;
         } else {
             let Level::Open(d) = depth_after(depth, s[i]) else {
-                return Found::At(i);
+                return FoundPlace::At(i);
             };
             match past(s, i) {
-                Found::At(next) => i = next,
-                Found::Refused(f) => return Found::Refused(f),
+                FoundPlace::At(next) => i = next,
+                FoundPlace::Refused(f) => return FoundPlace::Refused(f),
             }
             depth = d;
         }
     }
-    Found::Refused(Fault::OpenParen(from))
+    FoundPlace::Refused(Fault::OpenParen(from))
 }
 
 // Goes past whitespace and comments: the place of the first byte that is neither, or the file's end.
-pub fn skip_trivia(s: &[u8], start: usize) -> Found
-    ensures { λ r. ⌜ toldFound r ≡ placed (now (s .entry)) (trivia (drop start (now (s .entry)))) ⌝ }
+pub fn skip_trivia(s: &[u8], start: usize) -> FoundPlace
+    ensures { λ r. ⌜ toldFoundPlace r ≡ placed (now (s .entry)) (trivia (drop start (now (s .entry)))) ⌝ }
 {
     let mut i = common::within(start, s.len());
     while i < s.len() {
@@ -411,16 +411,16 @@ pub fn skip_trivia(s: &[u8], start: usize) -> Found
             i += 1;
         } else {
             if c != b'/' {
-                return Found::At(i);
+                return FoundPlace::At(i);
             }
             if !is_at(s, i + 1, b'*') {
-                return Found::At(i);
+                return FoundPlace::At(i);
             }
             match past_remark(s, i) {
-                Found::At(next) => i = next,
-                Found::Refused(f) => return Found::Refused(f),
+                FoundPlace::At(next) => i = next,
+                FoundPlace::Refused(f) => return FoundPlace::Refused(f),
             }
         }
     }
-    Found::At(i)
+    FoundPlace::At(i)
 }

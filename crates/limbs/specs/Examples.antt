@@ -4,7 +4,7 @@ use mathlib.Core.Bool.{true, false}
 use mathlib.Core.Logic.{inl, inr}
 use mathlib.Core.List.{[], _∷_}
 use native.Mathlib.Omega.{arith}
-use Rattle.limbs.specs.Worth.{worth, Scaled, Divided, HeadOf}
+use Rattle.limbs.specs.Worth.{worth, Scaled, Divided, LeadingDigitsOf}
 
 -- digits 7 and 2, the lower first, make 7 + 2 * 2 ^ 32
 two : worth (7 ∷ 2 ∷ []) ≡ 8589934599
@@ -36,16 +36,16 @@ by-none : Divided (3 ∷ 4 ∷ []) 0 (3 ∷ 4 ∷ []) 0
 by-none = record { same = refl; by-zero = λ e. (refl, refl); quotient = λ l. absurd (omega arith) }
 
 -- a number of two digits is its own head
-short : HeadOf (worth (7 ∷ 2 ∷ 0 ∷ [])) (record { digits = 8589934599; limbs = 0; bits = 0; more = false })
+short : LeadingDigitsOf (worth (7 ∷ 2 ∷ 0 ∷ [])) (record { digits = 8589934599; limbs = 0; bits = 0; more = false })
 unfolding worth
 short = record { rest = 0; whole = refl; under = omega arith; left = refl; leads = inl (refl, refl) }
 
 -- 2 ^ 96 + 5: the leading digit and 63 zeros, and something below the 33 that are cut
-long : HeadOf (worth (5 ∷ 0 ∷ 0 ∷ 1 ∷ [])) (record { digits = 9223372036854775808; limbs = 1; bits = 1; more = true })
+long : LeadingDigitsOf (worth (5 ∷ 0 ∷ 0 ∷ 1 ∷ [])) (record { digits = 9223372036854775808; limbs = 1; bits = 1; more = true })
 unfolding worth
 long = record { rest = 5; whole = refl; under = omega arith; left = refl; leads = inr (omega arith, omega arith, omega arith) }
 
 -- 2 ^ 96 - 1 has 32 ones below its head
-ones : HeadOf (worth (4294967295 ∷ 4294967295 ∷ 4294967295 ∷ [])) (record { digits = 18446744073709551615; limbs = 0; bits = 32; more = true })
+ones : LeadingDigitsOf (worth (4294967295 ∷ 4294967295 ∷ 4294967295 ∷ [])) (record { digits = 18446744073709551615; limbs = 0; bits = 32; more = true })
 unfolding worth
 ones = record { rest = 4294967295; whole = refl; under = omega arith; left = refl; leads = inr (omega arith, omega arith, omega arith) }

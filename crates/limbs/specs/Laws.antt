@@ -7,7 +7,7 @@ use native.Mathlib.Omega.{arith}
 use lib.Pow.{pow-add}
 use lib.ListN.{length, take, drop, getD, set, replicate, take-append-drop}
 use lib.Seq.{length-take-le, take-suc, drop-cons}
-use Rattle.limbs.specs.Worth.{worth, Digits}
+use Rattle.limbs.specs.Worth.{worth, LimbDigits}
 
 -- one digit more is 32 binary digits more
 pub power-more : (n : ℕ) → 2 ^ (32 * suc n) ≡ 4294967296 * 2 ^ (32 * n)
@@ -50,7 +50,7 @@ unfolding worth
 worth-drop xs i h = ap worth (drop-cons xs i 0 h)
 
 -- n digits of 32 binary digits make a number below 2 ^ (32 * n)
-pub worth-lt : (xs : List ℕ) → Digits xs → worth xs < 2 ^ (32 * length xs)
+pub worth-lt : (xs : List ℕ) → LimbDigits xs → worth xs < 2 ^ (32 * length xs)
 unfolding worth
 worth-lt [] d = omega arith
 worth-lt (x ∷ xs) d =
@@ -60,7 +60,7 @@ worth-lt (x ∷ xs) d =
     omega arith
 
 -- the lower n digits of a number are below 2 ^ (32 * n)
-pub worth-take-lt : (n : ℕ) (xs : List ℕ) → Digits xs → n ≤ length xs → worth (take n xs) < 2 ^ (32 * n)
+pub worth-take-lt : (n : ℕ) (xs : List ℕ) → LimbDigits xs → n ≤ length xs → worth (take n xs) < 2 ^ (32 * n)
 unfolding worth
 worth-take-lt zero xs d h = omega arith
 worth-take-lt (suc n) [] d h = absurd (omega arith)

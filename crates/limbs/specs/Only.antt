@@ -9,12 +9,12 @@ use native.Mathlib.Omega.{arith, by-contra}
 use lib.Dec.{ltb}
 use lib.ListN.{length}
 use lib.Pow.{pow-add, pow-mono}
-use Rattle.limbs.specs.declared.Head.{Head}
-use Rattle.limbs.specs.Worth.{worth, Digits, Scaled, Divided, lower, HeadOf}
+use Rattle.limbs.specs.declared.LeadingDigits.{LeadingDigits}
+use Rattle.limbs.specs.Worth.{worth, LimbDigits, Scaled, Divided, lower, LeadingDigitsOf}
 use Rattle.limbs.specs.Laws.{worth-lt}
 
 -- a number has one list of digits of a length
-pub worth-only : (xs ys : List ℕ) → Digits xs → Digits ys → length xs ≡ length ys → worth xs ≡ worth ys → xs ≡ ys
+pub worth-only : (xs ys : List ℕ) → LimbDigits xs → LimbDigits ys → length xs ≡ length ys → worth xs ≡ worth ys → xs ≡ ys
 unfolding worth
 worth-only [] [] d e l h = refl
 worth-only [] (y ∷ ys) d e l h = absurd (omega arith)
@@ -39,7 +39,7 @@ rest-only p a b r s h k e =
     part a r h z = add-mul-div-right a r z ∙ ap (λ (n : ℕ). n + r) (div-eq-of-lt h) ∙ omega arith
 
 -- `scale`: one list of digits, and one number that no longer fits
-pub scaled-only : (xs : List ℕ) (m a : ℕ) (ys zs : List ℕ) (r s : ℕ) → Digits ys → Digits zs → Scaled xs m a ys r → Scaled xs m a zs s → (ys ≡ zs) × (r ≡ s)
+pub scaled-only : (xs : List ℕ) (m a : ℕ) (ys zs : List ℕ) (r s : ℕ) → LimbDigits ys → LimbDigits zs → Scaled xs m a ys r → Scaled xs m a zs s → (ys ≡ zs) × (r ≡ s)
 scaled-only xs m a ys zs r s d e h k =
     let p = 2 ^ (32 * length xs) in
     let f : worth ys < p = subst (λ (n : ℕ). worth ys < 2 ^ (32 * n)) (h .same) (worth-lt ys d) in
@@ -50,7 +50,7 @@ scaled-only xs m a ys zs r s d e h k =
     (worth-only ys zs d e (h .same ∙ sym (k .same)) (o .1), o .0)
 
 -- `divide`: one list of digits, and one rest
-pub divided-only : (xs : List ℕ) (d : ℕ) (ys zs : List ℕ) (r s : ℕ) → Digits ys → Digits zs → Divided xs d ys r → Divided xs d zs s → (ys ≡ zs) × (r ≡ s)
+pub divided-only : (xs : List ℕ) (d : ℕ) (ys zs : List ℕ) (r s : ℕ) → LimbDigits ys → LimbDigits zs → Divided xs d ys r → Divided xs d zs s → (ys ≡ zs) × (r ≡ s)
 divided-only xs zero ys zs r s f g h k =
     let u = h .by-zero refl in
     let v = k .by-zero refl in
@@ -64,7 +64,7 @@ divided-only xs (suc d) ys zs r s f g h k =
 -- ---- `top`
 module _ (n : ℕ) where
   -- a number is below 2 ^ 64 moved up by what stands below its head
-  reach : (r : Head) → r .digits < 2 ^ 64 → HeadOf n r → n < 2 ^ (64 + lower r)
+  reach : (r : LeadingDigits) → r .digits < 2 ^ 64 → LeadingDigitsOf n r → n < 2 ^ (64 + lower r)
   reach r f h =
       let p = 2 ^ lower r in
       let a : r .digits + 1 ≤ 18446744073709551616 = omega arith in
@@ -74,7 +74,7 @@ module _ (n : ℕ) where
       subst (λ (k : ℕ). n < k) (sym (pow-add 2 64 (lower r))) (omega arith)
 
   -- a head whose first digit is not 0 is no longer than any other
-  shorter : (r s : Head) → r .digits < 2 ^ 64 → 2 ^ 63 ≤ s .digits → HeadOf n r → HeadOf n s → lower s ≤ lower r
+  shorter : (r s : LeadingDigits) → r .digits < 2 ^ 64 → 2 ^ 63 ≤ s .digits → LeadingDigitsOf n r → LeadingDigitsOf n s → lower s ≤ lower r
   shorter r s f g h k = by-contra (lower s) (lower r) longer
     where
       longer : lower r < lower s → ⊥
@@ -87,7 +87,7 @@ module _ (n : ℕ) where
           omega arith
 
   -- two heads of one number leave the same number of digits below
-  places : (r s : Head) → r .digits < 2 ^ 64 → s .digits < 2 ^ 64 → (h : HeadOf n r) (k : HeadOf n s) → ((r .limbs ≡ 0) × (r .bits ≡ 0)) ⊎ ((0 < r .bits) × (r .bits ≤ 32) × (2 ^ 63 ≤ r .digits)) → ((s .limbs ≡ 0) × (s .bits ≡ 0)) ⊎ ((0 < s .bits) × (s .bits ≤ 32) × (2 ^ 63 ≤ s .digits)) → (r .limbs ≡ s .limbs) × (r .bits ≡ s .bits)
+  places : (r s : LeadingDigits) → r .digits < 2 ^ 64 → s .digits < 2 ^ 64 → (h : LeadingDigitsOf n r) (k : LeadingDigitsOf n s) → ((r .limbs ≡ 0) × (r .bits ≡ 0)) ⊎ ((0 < r .bits) × (r .bits ≤ 32) × (2 ^ 63 ≤ r .digits)) → ((s .limbs ≡ 0) × (s .bits ≡ 0)) ⊎ ((0 < s .bits) × (s .bits ≤ 32) × (2 ^ 63 ≤ s .digits)) → (r .limbs ≡ s .limbs) × (r .bits ≡ s .bits)
   places r s f g h k (inl a) (inl b) = (a .0 ∙ sym (b .0), a .1 ∙ sym (b .1))
   places r s f g h k (inl a) (inr b) = let l = shorter r s f (b .2) h k in absurd (omega arith)
   places r s f g h k (inr a) (inl b) = let l = shorter s r g (a .2) k h in absurd (omega arith)
@@ -97,11 +97,11 @@ module _ (n : ℕ) where
       (omega arith, omega arith)
 
   -- a head made of its four parts
-  abbrev made : ℕ → ℕ → ℕ → Bool → Head
+  abbrev made : ℕ → ℕ → ℕ → Bool → LeadingDigits
   made d l b m = record { digits = d; limbs = l; bits = b; more = m }
 
   -- two heads with the same parts are the same
-  alike : (r s : Head) → r .digits ≡ s .digits → r .limbs ≡ s .limbs → r .bits ≡ s .bits → r .more ≡ s .more → r ≡ s
+  alike : (r s : LeadingDigits) → r .digits ≡ s .digits → r .limbs ≡ s .limbs → r .bits ≡ s .bits → r .more ≡ s .more → r ≡ s
   alike r s a b c d =
       ap (λ (x : ℕ). made x (r .limbs) (r .bits) (r .more)) a
       ∙ ap (λ (x : ℕ). made (s .digits) x (r .bits) (r .more)) b
@@ -109,7 +109,7 @@ module _ (n : ℕ) where
       ∙ ap (λ (x : Bool). made (s .digits) (s .limbs) (s .bits) x) d
 
   -- a number has one head, whose digits are a `u64`
-  pub head-only : (r s : Head) → r .digits < 2 ^ 64 → s .digits < 2 ^ 64 → HeadOf n r → HeadOf n s → r ≡ s
+  pub head-only : (r s : LeadingDigits) → r .digits < 2 ^ 64 → s .digits < 2 ^ 64 → LeadingDigitsOf n r → LeadingDigitsOf n s → r ≡ s
   head-only r s f g h k =
       let p = places r s f g h k (h .leads) (k .leads) in
       let e : lower s ≡ lower r = omega arith in

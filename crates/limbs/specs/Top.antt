@@ -12,7 +12,7 @@ use lib.Count.{leadingZeros, leading-top}
 use lib.Dec.{eqb, ltb}
 use lib.ListN.{length, take, getD}
 use lib.Pow.{pow-add, pow-pos, shl-exact, shr-lt}
-use Rattle.limbs.specs.Worth.{worth, Digits, Highest, HeadOf}
+use Rattle.limbs.specs.Worth.{worth, LimbDigits, Highest, LeadingDigitsOf}
 use Rattle.limbs.specs.Laws.{power-more, worth-take, worth-take-lt}
 
 -- ---- a short number
@@ -30,9 +30,9 @@ two-digits (x ∷ []) n e h = let l : n ≤ 1 = h in absurd (omega arith)
 two-digits (x ∷ (y ∷ xs)) n e h = rw e (omega arith)
 
 -- a number of no digits is 0
-pub no-digit : (xs : List ℕ) (n : ℕ) → n ≡ 0 → 0 ≡ worth (take n xs)
+pub no-limb : (xs : List ℕ) (n : ℕ) → n ≡ 0 → 0 ≡ worth (take n xs)
 unfolding worth
-no-digit xs n e = rw e refl
+no-limb xs n e = rw e refl
 
 -- ---- joining three digits
 module _ (h m l b : ℕ) (p : 0 < b) (q : b ≤ 32) (f : h < 2 ^ b) (g : m < 4294967296) (k : l < 4294967296) where
@@ -41,8 +41,8 @@ module _ (h m l b : ℕ) (p : 0 < b) (q : b ≤ 32) (f : h < 2 ^ b) (g : m < 429
   upper-lt = let e = pow-add 2 b 32 in omega arith
 
   -- the upper two of three digits, moved up by 32 - b, still fit a `u64`
-  pub shifted : (h * 4294967296 + m) * 2 ^ (32 - b) % 18446744073709551616 ≡ (h * 4294967296 + m) * 2 ^ (32 - b)
-  shifted = shl-exact {a = h * 4294967296 + m} (b + 32) (32 - b) 64 upper-lt (omega arith)
+  pub top-shifted : (h * 4294967296 + m) * 2 ^ (32 - b) % 18446744073709551616 ≡ (h * 4294967296 + m) * 2 ^ (32 - b)
+  top-shifted = shl-exact {a = h * 4294967296 + m} (b + 32) (32 - b) 64 upper-lt (omega arith)
 
   -- what the lowest of three digits adds to the head is below 2 ^ (32 - b)
   added-lt : l / 2 ^ b < 2 ^ (32 - b)
@@ -63,7 +63,7 @@ module _ (h m l b : ℕ) (p : 0 < b) (q : b ≤ 32) (f : h < 2 ^ b) (g : m < 429
 
   -- the head of three digits as the code sums it, none of it lost
   pub joins : (h * 4294967296 + m) * 2 ^ (32 - b) % 18446744073709551616 + l / 2 ^ b ≡ (h * 4294967296 + m) * 2 ^ (32 - b) + l / 2 ^ b
-  joins = ap (λ (n : ℕ). n + l / 2 ^ b) shifted
+  joins = ap (λ (n : ℕ). n + l / 2 ^ b) top-shifted
 
 -- ---- the three highest digits
 -- a number by its digits k + 2, k + 1 and k and those below
@@ -112,8 +112,8 @@ bits-are x p h =
     )
 
 -- 2 ^ b, as the machine shifts 1, is 2 ^ b where b is at most 32
-pub unit-is : (b : ℕ) → b ≤ 32 → 1 * 2 ^ b % 18446744073709551616 ≡ 2 ^ b
-unit-is b h = shl-exact {a = 1} 1 b 64 (omega arith) (omega arith) ∙ one-mul (2 ^ b)
+pub bits-unit-is : (b : ℕ) → b ≤ 32 → 1 * 2 ^ b % 18446744073709551616 ≡ 2 ^ b
+bits-unit-is b h = shl-exact {a = 1} 1 b 64 (omega arith) (omega arith) ∙ one-mul (2 ^ b)
 
 -- ---- the head
 -- the head's digits and what is left below them make the number again
@@ -146,11 +146,11 @@ head-leads : (x y c z : ℕ) → 9223372036854775808 ≤ x * 4294967296 * c → 
 head-leads x y c z h = omega arith
 
 -- the head of a number of one or two digits is the number itself, and nothing is left
-pub head-short : (xs : List ℕ) (n d : ℕ) → Highest xs n → d ≡ worth (take n xs) → HeadOf (worth xs) (record { digits = d; limbs = 0; bits = 0; more = false })
+pub head-short : (xs : List ℕ) (n d : ℕ) → Highest xs n → d ≡ worth (take n xs) → LeadingDigitsOf (worth xs) (record { digits = d; limbs = 0; bits = 0; more = false })
 head-short xs n d h e = let m = h .same in record { rest = 0; whole = omega arith; under = omega arith; left = refl; leads = inl (refl, refl) }
 
 -- the head of a number of three digits or more
-module _ (xs : List ℕ) (n : ℕ) (each : Digits xs) (high : Highest xs n) (more : 3 ≤ n) where
+module _ (xs : List ℕ) (n : ℕ) (each : LimbDigits xs) (high : Highest xs n) (more : 3 ≤ n) where
   -- the highest digit is not 0
   pub high-pos : 0 < getD xs (n - 1) 0
   high-pos = pos (high .leads)
@@ -165,7 +165,7 @@ module _ (xs : List ℕ) (n : ℕ) (each : Digits xs) (high : Highest xs n) (mor
 
   -- what the code puts together from the three highest digits, and from whether any below is not 0, is the number's head
   pub head-long : (d : ℕ) (t : Bool) → d ≡ (getD xs (n - 1) 0 * 4294967296 + getD xs (n - 2) 0) * 2 ^ (32 - bitsOf (getD xs (n - 1) 0)) + getD xs (n - 3) 0 / 2 ^ bitsOf (getD xs (n - 1) 0) → t ≡ ltb 0 (worth (take (n - 3) xs))
-      → HeadOf (worth xs) (record { digits = d; limbs = n - 3; bits = bitsOf (getD xs (n - 1) 0); more = not (eqb (getD xs (n - 3) 0 % (1 * 2 ^ bitsOf (getD xs (n - 1) 0) % 18446744073709551616)) 0) || t })
+      → LeadingDigitsOf (worth xs) (record { digits = d; limbs = n - 3; bits = bitsOf (getD xs (n - 1) 0); more = not (eqb (getD xs (n - 3) 0 % (1 * 2 ^ bitsOf (getD xs (n - 1) 0) % 18446744073709551616)) 0) || t })
   head-long d t e f =
       let b = bitsOf (getD xs (n - 1) 0) in
       let w = worth (take (n - 3) xs) in
@@ -182,7 +182,7 @@ module _ (xs : List ℕ) (n : ℕ) (each : Digits xs) (high : Highest xs n) (mor
             ∙ high .same;
         under = head-under b l w (n - 3) (worth-take-lt (n - 3) xs each (omega arith));
         left =
-            ap (λ (v : ℕ). not (eqb (l % v) 0) || t) (unit-is b (k .1))
+            ap (λ (v : ℕ). not (eqb (l % v) 0) || t) (bits-unit-is b (k .1))
             ∙ ap (λ (v : Bool). not (eqb (l % 2 ^ b) 0) || v) f
             ∙ head-left (2 ^ (32 * (n - 3))) (l % 2 ^ b) w (pow-pos (32 * (n - 3)));
         leads = inr (k .0, k .1, subst (λ (v : ℕ). 9223372036854775808 ≤ v) (sym e) (head-leads (getD xs (n - 1) 0) (getD xs (n - 2) 0) (2 ^ (32 - b)) (l / 2 ^ b) (k .3)));

@@ -7,7 +7,7 @@ use mathlib.Core.Logic.{_⊎_}
 use mathlib.Core.List.{List, [], _∷_}
 use lib.Dec.{ltb}
 use lib.ListN.{length, take, getD}
-use Rattle.limbs.specs.declared.Head.{Head}
+use Rattle.limbs.specs.declared.LeadingDigits.{LeadingDigits}
 
 -- the number that digits make, the lowest first
 unfoldable pub worth : List ℕ → ℕ
@@ -15,8 +15,8 @@ worth [] = 0
 worth (x ∷ r) = x + 2 ^ 32 * worth r
 
 -- each digit has 32 binary digits, as every `u32` has
-abbrev pub Digits : List ℕ → Type 0
-Digits xs = (i : ℕ) → getD xs i 0 < 2 ^ 32
+abbrev pub LimbDigits : List ℕ → Type 0
+LimbDigits xs = (i : ℕ) → getD xs i 0 < 2 ^ 32
 
 -- ys is the number in xs times m and a more, and r is what no longer fits
 pub record Scaled (xs : List ℕ) (m a : ℕ) (ys : List ℕ) (r : ℕ) : Type 0 where
@@ -36,11 +36,11 @@ pub record Highest (xs : List ℕ) (n : ℕ) : Type 0 where
   pub leads : (n ≡ 0) ⊎ (0 < getD xs (n - 1) 0)
 
 -- how many binary digits stand below those that a head has
-abbrev pub lower : Head → ℕ
+abbrev pub lower : LeadingDigits → ℕ
 lower r = 32 * r .limbs + r .bits
 
 -- a number by its leading 64 binary digits, and what stands below them; where anything does, the first digit is not 0
-pub record HeadOf (n : ℕ) (r : Head) : Type 0 where
+pub record LeadingDigitsOf (n : ℕ) (r : LeadingDigits) : Type 0 where
   pub rest : ℕ
   pub whole : r .digits * 2 ^ lower r + rest ≡ n
   pub under : rest < 2 ^ lower r

@@ -6,7 +6,7 @@ ghost use mathlib.Core.Path.{_≡_};
 ghost use Prim.Native.Nat.{_+_, _-_, _*_, _/_, _≤_, _<_, _^_};
 ghost use lib.ListN.{length, take};
 ghost use lib.Dec.{ltb};
-ghost use Rattle.limbs.specs.Worth.{worth, Scaled, Divided, Highest, HeadOf};
+ghost use Rattle.limbs.specs.Worth.{worth, Scaled, Divided, Highest, LeadingDigitsOf};
 
 // Multiplies by `by` and adds `add`; the answer is what no longer fits.
 pub fn scale(a: &mut [u32], by: u32, add: u32) -> u32
@@ -72,7 +72,7 @@ fn any_below(a: &[u32], n: usize) -> bool
 
 // The leading 64 binary digits of a number, or all of fewer; how many stand below them, which are 32 for each of `limbs` and `bits` besides (their sum
 // can be larger than a `usize`), and whether one of those is not 0.
-pub struct Head {
+pub struct LeadingDigits {
     pub digits: u64,
     pub limbs: usize,
     pub bits: u32,
@@ -103,12 +103,12 @@ fn joined(high: u32, middle: u32, low: u32, bits: u32) -> u64
 }
 
 // A number's head; no more digits stand below it than there are.
-pub fn top(a: &[u32]) -> Head
-    ensures { λ r. ⌜ HeadOf (worth (now (a .entry))) r × (r .limbs ≤ length (now (a .entry))) ⌝ }
+pub fn top(a: &[u32]) -> LeadingDigits
+    ensures { λ r. ⌜ LeadingDigitsOf (worth (now (a .entry))) r × (r .limbs ≤ length (now (a .entry))) ⌝ }
 {
     let n = highest(a);
     if n < 3 {
-        return Head {
+        return LeadingDigits {
             digits: short_top(a, n),
             limbs: 0,
             bits: 0,
@@ -118,7 +118,7 @@ pub fn top(a: &[u32]) -> Head
     let low = a[n - 3];
     let bits = 32 - u32::leading_zeros(a[n - 1]);
     let rest = low as u64 % (1u64 << bits);
-    Head {
+    LeadingDigits {
         digits: joined(a[n - 1], a[n - 2], low, bits),
         limbs: n - 3,
         bits,

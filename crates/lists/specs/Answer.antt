@@ -7,7 +7,7 @@ use lib.Dec.{leb}
 use lib.ListN.{length, take, drop}
 use Rattle.common.specs.Pick.{pick}
 use Rattle.error.specs.Refusal.{refusal, Told, good, bad, told}
-use Rattle.params.specs.Answer.{Read, reading, onward, mapped}
+use Rattle.params.specs.Answer.{Read, reading, onward, readMapped}
 use Rattle.params.specs.Reader.{paramOf}
 use Rattle.reals.specs.Scalar.{referenceOf, wholeOf}
 use Rattle.reals.specs.Which.{realBy}
@@ -51,7 +51,7 @@ roomed fits a (faulty n o) = bad (refusal n 0 (a + o))
 
 -- the next parameter of a reader, read by g into rooms that fit or not
 unfoldable pub nextBy : {A : Type 0} → (List ℕ → Fate A) → (A → Bool) → List ℕ → ℕ → ℕ → Read A
-nextBy g fits s p e = mapped (λ a. roomed fits (a .start) (g (take (a .stop - a .start) (drop (a .start) s)))) (paramOf s p e)
+nextBy g fits s p e = readMapped (λ a. roomed fits (a .start) (g (take (a .stop - a .start) (drop (a .start) s)))) (paramOf s p e)
 
 -- a list fits where there is room for its numbers
 abbrev pub fitsIn : {A : Type 0} → ℕ → List A → Bool
@@ -63,7 +63,7 @@ countOf a = onward (λ vs. good (length vs)) a
 
 -- the answer of a reader of lists with the count for the list
 abbrev pub howMany : {A : Type 0} → Read (List A) → Read ℕ
-howMany a = mapped (λ vs. good (length vs)) a
+howMany a = readMapped (λ vs. good (length vs)) a
 
 -- "lent rows and output keep their bytes, as does all room beyond an answer": the lent list after an answer
 abbrev pub written : {A : Type 0} → Told (List A) → List A → List A

@@ -9,7 +9,7 @@ use Rattle.common.specs.Pick.{pick}
 use Rattle.common.specs.Compare.{clash}
 use Rattle.reals.specs.Answer.{Answer, read, refused}
 use Rattle.reals.specs.Scalar.{realOf, anyRealOf}
-use Rattle.reals.specs.Before.{any-kept, any-refused}
+use Rattle.reals.specs.OldClass.{any-kept, any-refused}
 use Rattle.lists.specs.Answer.{Fate, fine, faulty, shifted, asFate, consed}
 use Rattle.lists.specs.Items.{itemEnd, itemText, indent, itemBy, headed, past-comma, itemsFrom, isBlank, itemsBy, Body, inside, bare, bodyOf, listed, listBy, listOf}
 use Rattle.lists.specs.Any.{list-also}

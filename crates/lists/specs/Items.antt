@@ -13,8 +13,8 @@ use Rattle.lex.specs.Byte.{white}
 use Rattle.record.specs.Text.{before, past}
 use Rattle.record.specs.Word.{trimmed}
 use Rattle.reals.specs.Answer.{Answer}
-use Rattle.params.specs.Cut.{cutOf}
-use Rattle.params.specs.Answer.{Cut, cut, unclosed}
+use Rattle.params.specs.ParameterEnd.{cutOf}
+use Rattle.params.specs.Answer.{ParamEnd, stopsBefore, literalOpen}
 use Rattle.lists.specs.Answer.{Fate, fine, faulty, shifted, asFate, consed, valuesOf}
 use Rattle.lists.specs.declared.Item.{Item}
 use Rattle.lists.specs.declared.Shape.{Shape}
@@ -25,9 +25,9 @@ use Rattle.lists.specs.declared.ReadList as ReadListCode
 
 -- an item ends as a parameter does, and an open literal runs to the end of the list: the Rust; no list has one, since its parameter would
 -- have been 11
-abbrev pub boundOf : Cut → List ℕ
-boundOf (cut z b) = b
-boundOf (unclosed o) = []
+abbrev pub boundOf : ParamEnd → List ℕ
+boundOf (stopsBefore z b) = b
+boundOf (literalOpen o) = []
 
 -- "cut at depth-0 commas": the rest from the comma that ends the item, or nothing
 unfoldable pub itemEnd : List ℕ → List ℕ

@@ -15,8 +15,8 @@ use Rattle.lex.specs.Byte.{white}
 use Rattle.record.specs.Text.{before, past}
 use Rattle.record.specs.Word.{trimmed}
 use Rattle.scalars.specs.Laws.{part-part}
-use Rattle.params.specs.Cut.{cutOf}
-use Rattle.params.specs.Answer.{cut, endedAt, EndedIn}
+use Rattle.params.specs.ParameterEnd.{cutOf}
+use Rattle.params.specs.Answer.{stopsBefore, endedAt, EndedIn}
 use Rattle.params.specs.declared.Ended.{Ended}
 use Rattle.params.specs.declared.Ended.the-variants.{At, Open}
 use Rattle.lists.specs.declared.Item.{Item}
@@ -46,11 +46,11 @@ pub between : (b : List ℕ) (i j : ℕ) → i ≤ j → j ≤ length b → befo
 between b i j h k = let e : length (drop i b) - length (drop j b) ≡ j - i = omega (arith, length-drop i b, length-drop j b) in ap (λ (n : ℕ). take n (drop i b)) e
 
 -- an item by its end and by what is left of it without whitespace
-pub item-is : (b : List ℕ) (i j s z : ℕ) → i ≤ j → j ≤ length b → drop j b ≡ itemEnd (drop i b)
+pub item-told-is : (b : List ℕ) (i j s z : ℕ) → i ≤ j → j ≤ length b → drop j b ≡ itemEnd (drop i b)
     → drop s (take (j - i) (drop i b)) ≡ past white (take (j - i) (drop i b)) → take (z - s) (drop s (take (j - i) (drop i b))) ≡ trimmed (take (j - i) (drop i b))
     → s ≤ z → z ≤ length (take (j - i) (drop i b)) → ItemAt b i (record { start = i + s; stop = i + z; bound = j })
 unfolding itemText indent
-item-is b i j s z h k e f g o l =
+item-told-is b i j s z h k e f g o l =
     let n : length (take (j - i) (drop i b)) ≡ j - i = simp (length-take, length-drop) (omega arith) in
     let t : before (drop i b) (itemEnd (drop i b)) ≡ take (j - i) (drop i b) = ap (before (drop i b)) (sym e) ∙ between b i j h k in
     let m : length (take (j - i) (drop i b)) - length (past white (take (j - i) (drop i b))) ≡ s = ap (λ (r : List ℕ). length (take (j - i) (drop i b)) - length r) (sym f) ∙ omega (arith, length-drop s (take (j - i) (drop i b))) in
@@ -200,16 +200,16 @@ body-full t h k l =
     let e : length (drop 1 t) - 1 ≡ length t - 1 - 1 = omega (arith, length-drop 1 t) in
     sym (body-split t (omega arith)) ∙ rw (last-byte t h, k, l, e) refl
 
-module _ (xs : List ℕ) (s z : ℕ) (cut : take (z - s) (drop s xs) ≡ trimmed xs) (ordered : s ≤ z) (short : z ≤ length xs) where
+module _ (xs : List ℕ) (s z : ℕ) (stopsBefore : take (z - s) (drop s xs) ≡ trimmed xs) (ordered : s ≤ z) (short : z ≤ length xs) where
   -- where nothing is left between the places s and z, the bytes are whitespace alone
   pub none-true : s ≡ z → isBlank xs ≡ true
   unfolding isBlank
-  none-true h = let e : z - s ≡ 0 = omega arith in ap isNone (sym cut) ∙ ap (λ (n : ℕ). isNone (take n (drop s xs))) e
+  none-true h = let e : z - s ≡ 0 = omega arith in ap isNone (sym stopsBefore) ∙ ap (λ (n : ℕ). isNone (take n (drop s xs))) e
 
   -- where something is left between the places s and z, the bytes are not whitespace alone
   pub none-false : (s ≡ z → ⊥) → isBlank xs ≡ false
   unfolding isBlank
-  none-false h = go (trimmed xs) cut
+  none-false h = go (trimmed xs) stopsBefore
     where
       go : (t : List ℕ) → take (z - s) (drop s xs) ≡ t → isNone t ≡ false
       go [] e = let n : length (take (z - s) (drop s xs)) ≡ z - s = length-take-le (z - s) (drop s xs) (omega (arith, length-drop s xs)) in absurd (h (omega (arith, n, ap length e)))

@@ -19,9 +19,9 @@ use Rattle.record.specs.Text.{before, past, trail}
 use Rattle.reals.specs.Answer.{Answer, read, refused}
 use Rattle.reals.specs.Scalar.{referenceOf, wholeOf}
 use Rattle.reals.specs.Which.{realBy}
-use Rattle.params.specs.Answer.{Cut, cut, unclosed, reading, Span, span, inFile, onward}
-use Rattle.params.specs.Cut.{Stand, outside, settled, passed, cutTurn, over, cutEnd, cutOf, started}
-use Rattle.params.specs.Reader.{bounded, begun, paramOf}
+use Rattle.params.specs.Answer.{ParamEnd, stopsBefore, literalOpen, reading, Span, span, readerInFile, onward}
+use Rattle.params.specs.ParameterEnd.{Stand, outsideLiterals, settled, passed, cutTurn, endedInMode, cutEnd, cutOf, started}
+use Rattle.params.specs.Reader.{bounded, paramBegun, paramOf}
 use Rattle.lists.specs.declared.Kind.{Kind}
 use Rattle.lists.specs.declared.Kind.the-variants.{References, Integers, Floats, Any}
 use Rattle.lists.specs.declared.ReadList.{ReadList}
@@ -82,7 +82,7 @@ past-short p (c ∷ r) = go (p c) refl (past-short p r)
     go false e h = rw e (omega arith)
 
 -- where the bytes ended, nothing is left
-over-short : (m : Mode) (s o : List ℕ) → length (boundOf (over m s o)) ≤ 0
+over-short : (m : Mode) (s o : List ℕ) → length (boundOf (endedInMode m s o)) ≤ 0
 over-short Plain s o = omega arith
 over-short Slash s o = omega arith
 over-short Text s o = omega arith
@@ -95,13 +95,13 @@ cut-short : (s : Stand) (xs : List ℕ) → length (boundOf (walk cutTurn cutEnd
 unfolding walk
 cut-short s [] = go (s .binary)
   where
-    go : (k : Bool) → length (boundOf (pick k (unclosed (s .opened)) (over (s .mode) (s .solid) (s .opened)))) ≤ 0
+    go : (k : Bool) → length (boundOf (pick k (literalOpen (s .opened)) (endedInMode (s .mode) (s .solid) (s .opened)))) ≤ 0
     go true = omega arith
     go false = over-short (s .mode) (s .solid) (s .opened)
-cut-short s (c ∷ r) = go (outside (s .binary) (s .mode) c && (eqb c 44 && eqb (s .depth) 0)) (cut-short (passed s (outside (s .binary) (s .mode) c) c r) r)
+cut-short s (c ∷ r) = go (outsideLiterals (s .binary) (s .mode) c && (eqb c 44 && eqb (s .depth) 0)) (cut-short (passed s (outsideLiterals (s .binary) (s .mode) c) c r) r)
   where
-    go : (k : Bool) → length (boundOf (walk cutTurn cutEnd (passed s (outside (s .binary) (s .mode) c) c r) r)) ≤ length r
-        → length (boundOf (turned (pick k (stop (cut (settled (s .mode) (s .solid) (c ∷ r)) (c ∷ r))) (on (passed s (outside (s .binary) (s .mode) c) c r))) (λ u. walk cutTurn cutEnd u r))) ≤ length (c ∷ r)
+    go : (k : Bool) → length (boundOf (walk cutTurn cutEnd (passed s (outsideLiterals (s .binary) (s .mode) c) c r) r)) ≤ length r
+        → length (boundOf (turned (pick k (stop (stopsBefore (settled (s .mode) (s .solid) (c ∷ r)) (c ∷ r))) (on (passed s (outsideLiterals (s .binary) (s .mode) c) c r))) (λ u. walk cutTurn cutEnd u r))) ≤ length (c ∷ r)
     go true h = omega arith
     go false h = omega (arith, h)
 
@@ -183,21 +183,21 @@ module _ {A : Type 0} (g : List ℕ → Fate A) (inward : Inward g) where
       go (faulty n o) h = omega arith
 
 -- a refusal before a text is read: 9 is at 0, 10 and 11 are among the bytes up to the reader's end
-span-inward : (xs : List ℕ) (e : ℕ) (ys : List ℕ) → (placeOf (begun xs e ys .answer) ≤ length xs) × ((a : Span) → begun xs e ys .answer ≡ good a → a .start ≤ length xs)
+span-inward : (xs : List ℕ) (e : ℕ) (ys : List ℕ) → (placeOf (paramBegun xs e ys .answer) ≤ length xs) × ((a : Span) → paramBegun xs e ys .answer ≡ good a → a .start ≤ length xs)
 span-inward xs e [] = (place-within xs [], λ a h. clash (cc))
 span-inward xs e (c ∷ r) = go (cutOf (c ∷ r))
   where
-    go : (k : Cut) → (placeOf (bounded xs e (c ∷ r) k .answer) ≤ length xs) × ((a : Span) → bounded xs e (c ∷ r) k .answer ≡ good a → a .start ≤ length xs)
-    go (cut z b) = (omega arith, λ a h. let q : span (place xs (c ∷ r)) (place xs z) ≡ a = cc in rw (← q) (place-within xs (c ∷ r)))
-    go (unclosed o) = (place-within xs o, λ a h. clash (cc))
+    go : (k : ParamEnd) → (placeOf (bounded xs e (c ∷ r) k .answer) ≤ length xs) × ((a : Span) → bounded xs e (c ∷ r) k .answer ≡ good a → a .start ≤ length xs)
+    go (stopsBefore z b) = (omega arith, λ a h. let q : span (place xs (c ∷ r)) (place xs z) ≡ a = cc in rw (← q) (place-within xs (c ∷ r)))
+    go (literalOpen o) = (place-within xs o, λ a h. clash (cc))
 
 -- a parameter that is cut begins in the file, and a refusal lies in it
 param-inward : (s : List ℕ) (p e : ℕ) → (placeOf (paramOf s p e .answer) ≤ length s) × ((a : Span) → paramOf s p e .answer ≡ good a → a .start ≤ length s)
 unfolding paramOf
-param-inward s p e = go (inFile (length s) p e)
+param-inward s p e = go (readerInFile (length s) p e)
   where
-    go : (k : Bool) → (placeOf (pick k (begun (take e s) e (started (drop p (take e s)))) (reading (bad (refusal 9 0 0)) p e) .answer) ≤ length s)
-        × ((a : Span) → pick k (begun (take e s) e (started (drop p (take e s)))) (reading (bad (refusal 9 0 0)) p e) .answer ≡ good a → a .start ≤ length s)
+    go : (k : Bool) → (placeOf (pick k (paramBegun (take e s) e (started (drop p (take e s)))) (reading (bad (refusal 9 0 0)) p e) .answer) ≤ length s)
+        × ((a : Span) → pick k (paramBegun (take e s) e (started (drop p (take e s)))) (reading (bad (refusal 9 0 0)) p e) .answer ≡ good a → a .start ≤ length s)
     go true = let (h, k) = span-inward (take e s) e (started (drop p (take e s))) in (omega (arith, h, length-take e s), λ a l. omega (arith, k a l, length-take e s))
     go false = (omega arith, λ a h. clash (cc))
 

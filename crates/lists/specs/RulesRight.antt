@@ -19,7 +19,7 @@ use Rattle.common.specs.Walk.{walk}
 use Rattle.record.specs.Text.{before, past, trail, numberFrom}
 use Rattle.record.specs.Word.{trimmed}
 use Rattle.common.specs.Bytes.{bytes}
-use Rattle.record.specs.Form.{All, NotFirst, Skipped, Trimmed}
+use Rattle.record.specs.Form.{All, NotFirst, SkippedBytes, Trimmed}
 use Rattle.record.specs.FormRight.{past-is, past-only, trimmed-is, trimmed-only}
 use Rattle.record.specs.FormRight.Parts.{first-part, all-join, last-none, Tailed, tail-split}
 use Rattle.reals.specs.Scalar.{referenceOf, wholeOf, realOf, anyRealOf}
@@ -28,14 +28,14 @@ use Rattle.reals.specs.Form.{RealForm, AnyForm, WholeForm, ReferenceForm}
 use Rattle.reals.specs.FormRight.{real-is, real-only, any-is, any-only}
 use Rattle.reals.specs.WholeRight.{whole-is, whole-only, reference-is, reference-only}
 use Rattle.params.specs.Grammar.{Bound}
-use Rattle.params.specs.Cut.{cutOf}
-use Rattle.params.specs.Answer.{Cut, cut, unclosed, reading, Span, inFile}
+use Rattle.params.specs.ParameterEnd.{cutOf}
+use Rattle.params.specs.Answer.{ParamEnd, stopsBefore, literalOpen, reading, Span, readerInFile}
 use Rattle.params.specs.Right.{param-is, param-only, unclosed-is, unclosed-only}
 use Rattle.params.specs.Reader.{paramOf}
-use Rattle.params.specs.Rules.{Inside}
+use Rattle.params.specs.Rules.{ReaderInFile}
 use Rattle.lex.specs.Rests.{Rest, rest-of}
 use Rattle.params.specs.RulesRight.{param-rest}
-use Rattle.params.specs.Places.{Stands, Past, mapped-stands, mapped-stays, refused-past}
+use Rattle.params.specs.Places.{Stands, PastParameter, mapped-stands, mapped-stays, refused-past}
 use Rattle.lists.specs.Answer.{Fate, fine, faulty, shifted, asFate, consed, roomed, nextBy}
 use Rattle.lists.specs.Items.{boundOf, itemEnd, itemText, indent, itemBy, headed, past-comma, itemsFrom, isNone, isBlank, itemsBy, inside, bare, bodyOf, listBy, listOf}
 use Rattle.lists.specs.Rules.{Ends, Item, Items, Listed, Scalar}
@@ -52,9 +52,9 @@ pub ends-is : (xs : List ℕ) → Ends xs (itemEnd xs)
 unfolding itemEnd
 ends-is xs = go (cutOf xs) refl
   where
-    go : (c : Cut) → cutOf xs ≡ c → Ends xs (boundOf c)
-    go (cut z b) e = Ends.cut (param-is xs z b e)
-    go (unclosed o) e = Ends.unclosed (unclosed-is xs o e)
+    go : (c : ParamEnd) → cutOf xs ≡ c → Ends xs (boundOf c)
+    go (stopsBefore z b) e = Ends.cut (param-is xs z b e)
+    go (literalOpen o) e = Ends.unclosed (unclosed-is xs o e)
 
 -- an item ends at one place
 pub ends-one : {xs r q : List ℕ} → Ends xs r → Ends xs q → r ≡ q
@@ -99,7 +99,7 @@ pub item-is : (xs : List ℕ) → (f : List ℕ) × Item xs f (itemText xs) (ite
 unfolding itemText
 item-is xs = go (ends-rest (ends-is xs))
   where
-    cut-up : (w f : List ℕ) → xs ≡ w ++ itemEnd xs → w ≡ f ++ past white w → Skipped white f (past white w) → Tailed (past white w) → (f : List ℕ) × Item xs f (itemText xs) (itemEnd xs)
+    cut-up : (w f : List ℕ) → xs ≡ w ++ itemEnd xs → w ≡ f ++ past white w → SkippedBytes white f (past white w) → Tailed (past white w) → (f : List ℕ) × Item xs f (itemText xs) (itemEnd xs)
     cut-up w f e g s (t, z, h, a, l) =
         let k : NotFirst white (t ++ z) = rw h at (s .over) in
         let v : w ≡ f ++ (t ++ z) = g ∙ ap (λ (x : List ℕ). f ++ x) h in
@@ -396,18 +396,18 @@ module _ {A : Type 0} (g : List ℕ → Fate A) (fits : A → Bool) (s : List �
   reads a = roomed fits (a .start) (g (take (a .stop - a .start) (drop (a .start) s)))
 
   -- after an answer a reader of lists or grids stands between where it was and its end
-  pub list-stands : Inside s p e → Stands p e (nextBy g fits s p e)
+  pub list-stands : ReaderInFile s p e → Stands p e (nextBy g fits s p e)
   unfolding nextBy
   list-stands = mapped-stands reads s p e
 
   -- a reader of lists or grids whose place or end lies outside the file answers 9 and stays as it came
-  pub list-stays : inFile (length s) p e ≡ false → nextBy g fits s p e ≡ reading (bad (refusal 9 0 0)) p e
+  pub list-stays : readerInFile (length s) p e ≡ false → nextBy g fits s p e ≡ reading (bad (refusal 9 0 0)) p e
   unfolding nextBy
   list-stays = mapped-stays reads s p e
 
   -- after 12, 13 and 16 a reader of lists or grids stands past the parameter and its comma
   pub list-past : (q : Refusal) → nextBy g fits s p e .answer ≡ bad q → 11 < q .number
-      → (a : Span) × (paramOf s p e .answer ≡ good a) × (roomed fits (a .start) (g (take (a .stop - a .start) (drop (a .start) s))) ≡ bad q) × Inside s p e × Past s p e a (nextBy g fits s p e .place)
+      → (a : Span) × (paramOf s p e .answer ≡ good a) × (roomed fits (a .start) (g (take (a .stop - a .start) (drop (a .start) s))) ≡ bad q) × ReaderInFile s p e × PastParameter s p e a (nextBy g fits s p e .place)
   unfolding nextBy
   list-past = refused-past reads s p e
 

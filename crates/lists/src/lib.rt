@@ -17,8 +17,8 @@ ghost use Rattle.lists.specs.Answer.{roomed, countOf, toldReadList, Coun
 ghost use Rattle.lists.specs.Lent.{itemValue, lentOf, kindRoom, fitsBy, keptAt};
 ghost use Rattle.lists.specs.Read.{listRead};
 use error::Fault;
-use params::Cut;
 use params::Ended;
+use params::NextParam;
 use params::State;
 use reals::Real;
 use reals::Reals;
@@ -415,8 +415,8 @@ fn next_list(
         (lentOf kind (now (refs .entry)) (now (wholes .entry)) (now (reals .entry))) ⌝ }
 {
     match params::param_span(file, at) {
-        Cut::Refused(f, to) => NextList::Refused(f, to),
-        Cut::Span(start, stop, to) => answer_of(
+        NextParam::Refused(f, to) => NextList::Refused(f, to),
+        NextParam::Span(start, stop, to) => answer_of(
             read_list(kind, &file[start..stop], first, refs, wholes, reals),
             start,
             to,

@@ -12,7 +12,7 @@ use lib.ListN.{length}
 use Rattle.common.specs.Pick.{pick}
 use Rattle.common.specs.Compare.{clash, ordered, less-or}
 use Rattle.table.specs.Table.{rowsFit, idOf}
-use Rattle.index.specs.Order.{tableRoom}
+use Rattle.index.specs.KeyOrder.{tableRoom}
 use Rattle.index.specs.Lookup.{lookupOf}
 use Rattle.index.specs.Index.{Built}
 use Rattle.index.specs.Search.{searched}

@@ -10,11 +10,11 @@ use lib.Dec.{ltb, leb, eqb}
 use lib.ListN.{length, take, drop}
 use Rattle.common.specs.Pick.{pick}
 use Rattle.error.specs.Refusal.{refusal, Told, good, bad, told}
-use Rattle.statement.specs.Rows.{Row, rowOf}
+use Rattle.statement.specs.Rows.{Row, toldRow}
 use Rattle.table.specs.Table.{tableRows, rowNumbers}
 use Rattle.index.specs.Search.{searched}
 use Rattle.index.specs.declared.Ids.{Ids}
-use Rattle.kinds.specs.Kind.{kindOf}
+use Rattle.kinds.specs.Kind.{kindOfKeyword}
 use Rattle.kinds.specs.Rules.{rankOf}
 use Rattle.kinds.specs.declared.Kind.{Kind}
 use Rattle.kinds.specs.declared.Kind.the-variants.{Complex, Other}
@@ -24,8 +24,8 @@ use Rattle.lookup.specs.declared.Required.{Required}
 use Rattle.lookup.specs.declared.Required.the-variants as need
 use Rattle.lookup.specs.declared.Spanned.{Spanned}
 use Rattle.lookup.specs.declared.Spanned.the-variants as spanned
-use Rattle.lookup.specs.declared.Place.{Place}
-use Rattle.lookup.specs.declared.Place.the-variants as place
+use Rattle.lookup.specs.declared.RowOrNone.{RowOrNone}
+use Rattle.lookup.specs.declared.RowOrNone.the-variants as place
 
 -- the row with a number; none past the table
 abbrev pub rowIn : List ℕ → ℕ → ℕ → Option Row
@@ -46,34 +46,34 @@ required none = bad (refusal 14 0 0)
 required (some w) = good w
 
 -- a part of the file: start and end
-pub record Span : Type 0 where
+pub record FileSpan : Type 0 where
   pub start : ℕ
   pub end : ℕ
 
 -- a part of the file from its start and its end
-abbrev pub span : ℕ → ℕ → Span
-span a z = record { start = a; end = z }
+abbrev pub fileSpan : ℕ → ℕ → FileSpan
+fileSpan a z = record { start = a; end = z }
 
 -- a span that lies in a file of this length and runs forwards
 abbrev pub spanFine : ℕ → ℕ → ℕ → Bool
 spanFine len a z = leb a z && leb z len
 
 -- "9 span outside the file or backwards, 0": what is made of a span, in a file of this length
-abbrev pub spanIn : ℕ → ℕ → ℕ → Told Span
-spanIn len a z = pick (spanFine len a z) (good (span a z)) (bad (refusal 9 0 0))
+abbrev pub spanIn : ℕ → ℕ → ℕ → Told FileSpan
+spanIn len a z = pick (spanFine len a z) (good (fileSpan a z)) (bad (refusal 9 0 0))
 
 -- the arguments of a row that was looked up: 14, 9, or the span
-abbrev pub argsBy : ℕ → Option Row → Told Span
+abbrev pub argsBy : ℕ → Option Row → Told FileSpan
 argsBy len none = bad (refusal 14 0 0)
 argsBy len (some w) = spanIn len (w .argStart) (w .argEnd)
 
 -- the bytes of the file from a up to z
-abbrev pub cut : List ℕ → ℕ → ℕ → List ℕ
-cut s a z = take (z - a) (drop a s)
+abbrev pub bytesBetween : List ℕ → ℕ → ℕ → List ℕ
+bytesBetween s a z = take (z - a) (drop a s)
 
 -- a row's kind: a complex record's own, else that of its keyword; one outside the file is `Other`
 abbrev pub kindIn : List ℕ → Row → Kind
-kindIn s w = pick (eqb (w .complex) 1) Complex (pick (spanFine (length s) (w .keyStart) (w .keyEnd)) (kindOf (cut s (w .keyStart) (w .keyEnd))) Other)
+kindIn s w = pick (eqb (w .complex) 1) Complex (pick (spanFine (length s) (w .keyStart) (w .keyEnd)) (kindOfKeyword (bytesBetween s (w .keyStart) (w .keyEnd))) Other)
 
 -- the kind of a row that was looked up
 abbrev pub kindFound : List ℕ → Option Row → Kind
@@ -81,8 +81,8 @@ kindFound s none = Other
 kindFound s (some w) = kindIn s w
 
 -- row i is of the kind k
-abbrev pub isKind : List ℕ → List ℕ → Kind → ℕ → Bool
-isKind s rows k i = eqb (rankOf (kindIn s (rowNumbers rows i))) (rankOf k)
+abbrev pub rowIsKind : List ℕ → List ℕ → Kind → ℕ → Bool
+rowIsKind s rows k i = eqb (rankOf (kindIn s (rowNumbers rows i))) (rankOf k)
 
 -- the first row of which a test holds (`firstFrom` computes it), without a loop: a row from i on and before z of which it holds, and of none before; or of none at all
 abbrev pub FirstForm : (ℕ → Bool) → ℕ → ℕ → Option ℕ → Type 0
@@ -92,20 +92,20 @@ FirstForm p i z (some k) = (i ≤ k) × (k < z) × (p k ≡ true) × ((j : ℕ) 
 -- ---- what the code's answers say
 -- what the code's answer says of a row: the row or none
 abbrev pub toldEntry : Entry → Option Row
-toldEntry (entry.Row w) = some (rowOf w)
+toldEntry (entry.Row w) = some (toldRow w)
 toldEntry entry.Nothing = none
 
 -- what the code's answer says of a row that is required: the row or 14
 abbrev pub toldRequired : Required → Told Row
-toldRequired (need.Row w) = good (rowOf w)
+toldRequired (need.Row w) = good (toldRow w)
 toldRequired (need.Refused f) = bad (told f)
 
 -- what the code's answer says of a part of the file: the part, or 9 or 14
-abbrev pub toldSpan : Spanned → Told Span
-toldSpan (spanned.Span r) = good (span (r .start) (r .end))
+abbrev pub toldSpan : Spanned → Told FileSpan
+toldSpan (spanned.Span r) = good (fileSpan (r .start) (r .end))
 toldSpan (spanned.Refused f) = bad (told f)
 
 -- what the code's answer says of a row's number: the number or none
-abbrev pub toldPlace : Place → Option ℕ
-toldPlace (place.At i) = some i
-toldPlace place.Nothing = none
+abbrev pub toldRowOrNone : RowOrNone → Option ℕ
+toldRowOrNone (place.At i) = some i
+toldRowOrNone place.Nothing = none

@@ -7,15 +7,15 @@ use Rattle.error.specs.Refusal.{Told, good, bad}
 use Rattle.error.specs.Only.{faultOf, faultOf-told}
 use Rattle.statement.specs.Rows.{Row}
 use Rattle.statement.specs.declared.RecordSpan.{RecordSpan}
-use Rattle.lookup.specs.Lookup.{Span, toldEntry, toldRequired, toldSpan, toldPlace}
+use Rattle.lookup.specs.Lookup.{FileSpan, toldEntry, toldRequired, toldSpan, toldRowOrNone}
 use Rattle.lookup.specs.declared.Entry.{Entry}
 use Rattle.lookup.specs.declared.Entry.the-variants as entry
 use Rattle.lookup.specs.declared.Required.{Required}
 use Rattle.lookup.specs.declared.Required.the-variants as need
 use Rattle.lookup.specs.declared.Spanned.{Spanned}
 use Rattle.lookup.specs.declared.Spanned.the-variants as spanned
-use Rattle.lookup.specs.declared.Place.{Place}
-use Rattle.lookup.specs.declared.Place.the-variants as place
+use Rattle.lookup.specs.declared.RowOrNone.{RowOrNone}
+use Rattle.lookup.specs.declared.RowOrNone.the-variants as place
 
 -- the code's record that has the numbers of a row
 unfoldable pub rowBack : Row → RecordSpan
@@ -32,12 +32,12 @@ requiredOf (good w) = need.Row (rowBack w)
 requiredOf (bad q) = need.Refused (faultOf q)
 
 -- the code's answer that tells this part of the file, or 9 or 14
-spannedOf : Told Span → Spanned
+spannedOf : Told FileSpan → Spanned
 spannedOf (good r) = spanned.Span (record { start = r .start; end = r .end })
 spannedOf (bad q) = spanned.Refused (faultOf q)
 
 -- the code's answer that tells this row's number or none
-placeOf : Option ℕ → Place
+placeOf : Option ℕ → RowOrNone
 placeOf none = place.Nothing
 placeOf (some i) = place.At i
 
@@ -57,7 +57,7 @@ unfolding spannedOf
 spanned-back (spanned.Span r) = refl
 spanned-back (spanned.Refused f) = ap spanned.Refused (faultOf-told f)
 
-place-back : (a : Place) → placeOf (toldPlace a) ≡ a
+place-back : (a : RowOrNone) → placeOf (toldRowOrNone a) ≡ a
 unfolding placeOf
 place-back (place.At i) = refl
 place-back place.Nothing = refl
@@ -75,5 +75,5 @@ pub spanned-only : (a b : Spanned) → toldSpan a ≡ toldSpan b → a ≡ b
 spanned-only a b e = sym (spanned-back a) ∙ ap spannedOf e ∙ spanned-back b
 
 -- `by_kind` has one answer: two that tell the same are one
-pub place-only : (a b : Place) → toldPlace a ≡ toldPlace b → a ≡ b
-place-only a b e = sym (place-back a) ∙ ap placeOf e ∙ place-back b
+pub row-or-none-only : (a b : RowOrNone) → toldRowOrNone a ≡ toldRowOrNone b → a ≡ b
+row-or-none-only a b e = sym (place-back a) ∙ ap placeOf e ∙ place-back b

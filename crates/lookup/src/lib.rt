@@ -8,12 +8,12 @@ ghost use Prim.Native.Nat.{_-_};
 ghost use lib.Dec.{eqb};
 ghost use lib.ListN.{length};
 ghost use Rattle.index.specs.Search.{searched};
-ghost use Rattle.statement.specs.Rows.{rowOf};
+ghost use Rattle.statement.specs.Rows.{toldRow};
 ghost use Rattle.table.specs.Table.{tableRows};
-ghost use Rattle.lookup.specs.Lookup.{toldEntry, rowIn, rowFound, toldRequired, required, spanFine, toldSpan, spanIn, argsBy, kindIn, kindFound, toldPlace, isKind};
+ghost use Rattle.lookup.specs.Lookup.{toldEntry, rowIn, rowFound, toldRequired, required, spanFine, toldSpan, spanIn, argsBy, kindIn, kindFound, toldRowOrNone, rowIsKind};
 ghost use Rattle.lookup.specs.First.{firstFrom};
 use error::Fault;
-use index::Found;
+use index::FoundRow;
 use index::Ids;
 use kinds::Kind;
 use statement::Range;
@@ -46,7 +46,7 @@ pub enum Spanned {
 }
 
 // A row's number, or none.
-pub enum Place {
+pub enum RowOrNone {
     At(usize),
     Nothing,
 }
@@ -82,8 +82,8 @@ pub fn get(rows: &[u32], slots: &[u64], t: Tables, id: u32) -> Entry
 {
     let ids = t.ids;
     match index::get(rows, slots, ids, id) {
-        Found::Nothing => Entry::Nothing,
-        Found::At(r) => Entry::Row(table::read_row(rows, common::wide(r))),
+        FoundRow::Nothing => Entry::Nothing,
+        FoundRow::At(r) => Entry::Row(table::read_row(rows, common::wide(r))),
     }
 }
 
@@ -140,7 +140,7 @@ pub fn args(file: &[u8], rows: &[u32], slots: &[u64], t: Tables, id: u32) -> Spa
 
 // A row's kind.
 pub fn kind_in(file: &[u8], row: RecordSpan) -> Kind
-    ensures { λ r. ⌜ r ≡ kindIn (now (file .entry)) (rowOf row) ⌝ }
+    ensures { λ r. ⌜ r ≡ kindIn (now (file .entry)) (toldRow row) ⌝ }
 {
     if row.complex == 1 {
         return Kind::Complex;
@@ -164,17 +164,17 @@ pub fn kind_of(file: &[u8], rows: &[u32], slots: &[u64], t: Tables, id: u32) -> 
 }
 
 // The next row of a kind, from row `from` on, in file order.
-pub fn by_kind(file: &[u8], rows: &[u32], t: Tables, kind: Kind, from: usize) -> Place
-    ensures { λ r. ⌜ toldPlace r ≡ firstFrom (isKind (now (file .entry)) (now (rows .entry)) kind) (tableRows (now (rows .entry)) (t .records) - from) from ⌝ }
+pub fn by_kind(file: &[u8], rows: &[u32], t: Tables, kind: Kind, from: usize) -> RowOrNone
+    ensures { λ r. ⌜ toldRowOrNone r ≡ firstFrom (rowIsKind (now (file .entry)) (now (rows .entry)) kind) (tableRows (now (rows .entry)) (t .records) - from) from ⌝ }
 {
     let n = table::table_rows(rows.len(), t.records);
     let mut i = from;
     while i < n {
         let k = kind_in(file, table::read_row(rows, i));
         if kinds::same_kind(k, kind) {
-            return Place::At(i);
+            return RowOrNone::At(i);
         }
         i += 1;
     }
-    Place::Nothing
+    RowOrNone::Nothing
 }

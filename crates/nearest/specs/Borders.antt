@@ -7,20 +7,20 @@ use native.Mathlib.Decide.{decLt, decLe}
 use native.Mathlib.Omega.{arith}
 use lib.Pow.{pow-pos}
 use lib.Ieee.{nearest}
-use Rattle.nearest.specs.Units.{unitsOf, infinity, gap}
-use Rattle.nearest.specs.UnitsLaws.{units-lt}
+use Rattle.nearest.specs.PatternUnits.{patternUnits, infinity, distanceOf}
+use Rattle.nearest.specs.PatternUnitsLaws.{units-lt}
 use Rattle.nearest.specs.Nearest.{IsNearest}
 use Rattle.nearest.specs.Near.{near, near-is, near-only, near-digits, Cmp, cmp}
 
 -- ---- zeros: up to and including half the least subnormal
 -- the pattern 0 is worth 0 units
-units-zero : unitsOf 0 ≡ 0
-unfolding unitsOf
+units-zero : patternUnits 0 ≡ 0
+unfolding patternUnits
 units-zero = refl
 
 -- the pattern 1, the least subnormal's, is worth one unit
-units-one : unitsOf 1 ≡ 1
-unfolding unitsOf
+units-one : patternUnits 1 ≡ 1
+unfolding patternUnits
 units-one = refl
 
 module _ (num den : ℕ) (dp : 0 < den) where
@@ -48,12 +48,12 @@ module _ (num den : ℕ) (dp : 0 < den) where
   pub near-zero-only : near num den ≡ 0 → num * 2 ^ 1075 ≤ den
   near-zero-only e =
       let n = num * 2 ^ 1074 in
-      let c : gap (unitsOf (near num den) * den) n ≤ gap (unitsOf 1 * den) n = near-is num den dp .closest 1 (omega arith) in
-      let z : unitsOf (near num den) * den ≡ 0 = ap (λ (x : ℕ). x * den) (ap unitsOf e ∙ units-zero) ∙ zero-mul den in
-      let o : unitsOf 1 * den ≡ den = ap (λ (x : ℕ). x * den) units-one ∙ one-mul den in
-      subst (λ (x : ℕ). x ≤ den) (sym twice) (half n (subst (λ (x : ℕ). gap 0 n ≤ gap x n) o (subst (λ (x : ℕ). gap x n ≤ gap (unitsOf 1 * den) n) z c)))
+      let c : distanceOf (patternUnits (near num den) * den) n ≤ distanceOf (patternUnits 1 * den) n = near-is num den dp .closest 1 (omega arith) in
+      let z : patternUnits (near num den) * den ≡ 0 = ap (λ (x : ℕ). x * den) (ap patternUnits e ∙ units-zero) ∙ zero-mul den in
+      let o : patternUnits 1 * den ≡ den = ap (λ (x : ℕ). x * den) units-one ∙ one-mul den in
+      subst (λ (x : ℕ). x ≤ den) (sym twice) (half n (subst (λ (x : ℕ). distanceOf 0 n ≤ distanceOf x n) o (subst (λ (x : ℕ). distanceOf x n ≤ distanceOf (patternUnits 1 * den) n) z c)))
     where
-      half : (n : ℕ) → gap 0 n ≤ gap den n → n * 2 ≤ den
+      half : (n : ℕ) → distanceOf 0 n ≤ distanceOf den n → n * 2 ≤ den
       half n c = omega arith
 
 -- the pattern nearest to the number 0 is 0
@@ -62,13 +62,13 @@ near-nothing den dp = near-zero 0 den dp (subst (λ (x : ℕ). x ≤ den) (sym (
 
 -- ---- infinities: from halfway between the largest finite value and 2 ^ 1024 on
 -- the largest finite value in units: 2 ^ 54 - 2 parts of 2 ^ 970
-units-last : unitsOf (infinity - 1) ≡ 18014398509481982 * 2 ^ 2044
-unfolding unitsOf
+units-last : patternUnits (infinity - 1) ≡ 18014398509481982 * 2 ^ 2044
+unfolding patternUnits
 units-last = refl
 
 -- infinity's pattern counts as 2 ^ 1024: 2 ^ 54 parts of 2 ^ 970
-units-infinity : unitsOf infinity ≡ 18014398509481984 * 2 ^ 2044
-unfolding unitsOf
+units-infinity : patternUnits infinity ≡ 18014398509481984 * 2 ^ 2044
+unfolding patternUnits
 units-infinity = refl
 
 -- the border of the infinities in units: 2 ^ 54 - 1 parts of 2 ^ 970, half way from the largest finite value to 2 ^ 1024
@@ -86,12 +86,12 @@ module _ (num den : ℕ) (dp : 0 < den) where
   part-pos = mul-pos (pow-pos 2044) dp
 
   -- the largest finite value times den is 2 ^ 54 - 2 parts of 2 ^ 970
-  last-parts : unitsOf (infinity - 1) * den ≡ 18014398509481982 * part
+  last-parts : patternUnits (infinity - 1) * den ≡ 18014398509481982 * part
   unfolding part
   last-parts = ap (λ (x : ℕ). x * den) units-last ∙ mul-assoc 18014398509481982 (2 ^ 2044) den
 
   -- 2 ^ 1024 times den is 2 ^ 54 parts of 2 ^ 970
-  infinity-parts : unitsOf infinity * den ≡ 18014398509481984 * part
+  infinity-parts : patternUnits infinity * den ≡ 18014398509481984 * part
   unfolding part
   infinity-parts = ap (λ (x : ℕ). x * den) units-infinity ∙ mul-assoc 18014398509481984 (2 ^ 2044) den
 
@@ -104,27 +104,27 @@ module _ (num den : ℕ) (dp : 0 < den) where
   pub near-infinity : den * ((2 ^ 54 - 1) * 2 ^ 970) ≤ num → near num den ≡ infinity
   near-infinity h = go (decLt (near num den) (infinity - 1)) (decLt (near num den) infinity)
     where
-      far : (n p x : ℕ) → 18014398509481983 * p ≤ n → 0 < p → x < 18014398509481982 * p → gap x n ≤ gap (18014398509481984 * p) n → ⊥
+      far : (n p x : ℕ) → 18014398509481983 * p ≤ n → 0 < p → x < 18014398509481982 * p → distanceOf x n ≤ distanceOf (18014398509481984 * p) n → ⊥
       far n p x a q l c = omega arith
 
-      level : (n p x : ℕ) → 18014398509481983 * p ≤ n → x ≡ 18014398509481982 * p → gap x n ≤ gap (18014398509481984 * p) n → gap (18014398509481984 * p) n ≡ gap x n
+      level : (n p x : ℕ) → 18014398509481983 * p ≤ n → x ≡ 18014398509481982 * p → distanceOf x n ≤ distanceOf (18014398509481984 * p) n → distanceOf (18014398509481984 * p) n ≡ distanceOf x n
       level n p x a e c = omega arith
 
       past : 18014398509481983 * part ≤ num * 2 ^ 1074
       past = subst (λ (x : ℕ). x ≤ num * 2 ^ 1074) border-parts (mul-le-mul-right (2 ^ 1074) h)
 
-      close : gap (unitsOf (near num den) * den) (num * 2 ^ 1074) ≤ gap (18014398509481984 * part) (num * 2 ^ 1074)
-      close = subst (λ (x : ℕ). gap (unitsOf (near num den) * den) (num * 2 ^ 1074) ≤ gap x (num * 2 ^ 1074)) infinity-parts (near-is num den dp .closest infinity (omega arith))
+      close : distanceOf (patternUnits (near num den) * den) (num * 2 ^ 1074) ≤ distanceOf (18014398509481984 * part) (num * 2 ^ 1074)
+      close = subst (λ (x : ℕ). distanceOf (patternUnits (near num den) * den) (num * 2 ^ 1074) ≤ distanceOf x (num * 2 ^ 1074)) infinity-parts (near-is num den dp .closest infinity (omega arith))
 
       go : Dec (near num den < infinity - 1) → Dec (near num den < infinity) → near num den ≡ infinity
       go (yes l) d =
-          let x = unitsOf (near num den) * den in
+          let x = patternUnits (near num den) * den in
           absurd (far (num * 2 ^ 1074) part x past part-pos (subst (λ (z : ℕ). x < z) last-parts (mul-lt-mul-of-pos-right (units-lt (near num den) (infinity - 1) l) dp)) close)
       go (no k) (yes l) =
           let n = num * 2 ^ 1074 in
           let e : near num den ≡ infinity - 1 = omega arith in
-          let v : unitsOf (near num den) * den ≡ 18014398509481982 * part = ap (λ (x : ℕ). unitsOf x * den) e ∙ last-parts in
-          let t : near num den % 2 ≡ 0 = near-is num den dp .even infinity (omega arith) (λ (f : infinity ≡ near num den). omega arith) (ap (λ (x : ℕ). gap x n) infinity-parts ∙ level n part (unitsOf (near num den) * den) past v close) in
+          let v : patternUnits (near num den) * den ≡ 18014398509481982 * part = ap (λ (x : ℕ). patternUnits x * den) e ∙ last-parts in
+          let t : near num den % 2 ≡ 0 = near-is num den dp .even infinity (omega arith) (λ (f : infinity ≡ near num den). omega arith) (ap (λ (x : ℕ). distanceOf x n) infinity-parts ∙ level n part (patternUnits (near num den) * den) past v close) in
           absurd (omega arith)
       go (no k) (no j) = let p : near num den ≤ infinity = near-is num den dp .pattern in omega arith
 
@@ -132,7 +132,7 @@ module _ (num den : ℕ) (dp : 0 < den) where
   pub near-finite : num < den * ((2 ^ 54 - 1) * 2 ^ 970) → near num den < infinity
   near-finite h = go (decLt (near num den) infinity)
     where
-      below : (n p : ℕ) → n < 18014398509481983 * p → gap (18014398509481984 * p) n ≤ gap (18014398509481982 * p) n → ⊥
+      below : (n p : ℕ) → n < 18014398509481983 * p → distanceOf (18014398509481984 * p) n ≤ distanceOf (18014398509481982 * p) n → ⊥
       below n p l c = omega arith
 
       go : Dec (near num den < infinity) → near num den < infinity
@@ -142,9 +142,9 @@ module _ (num den : ℕ) (dp : 0 < den) where
           let s = near-is num den dp in
           let p : near num den ≤ infinity = s .pattern in
           let e : near num den ≡ infinity = omega arith in
-          let c : gap (unitsOf (near num den) * den) n ≤ gap (18014398509481982 * part) n = subst (λ (x : ℕ). gap (unitsOf (near num den) * den) n ≤ gap x n) last-parts (s .closest (infinity - 1) (omega arith)) in
-          let f : unitsOf (near num den) * den ≡ 18014398509481984 * part = ap (λ (x : ℕ). unitsOf x * den) e ∙ infinity-parts in
-          absurd (below n part (subst (λ (x : ℕ). n < x) border-parts (mul-lt-mul-of-pos-right h (pow-pos 1074))) (subst (λ (x : ℕ). gap x n ≤ gap (18014398509481982 * part) n) f c))
+          let c : distanceOf (patternUnits (near num den) * den) n ≤ distanceOf (18014398509481982 * part) n = subst (λ (x : ℕ). distanceOf (patternUnits (near num den) * den) n ≤ distanceOf x n) last-parts (s .closest (infinity - 1) (omega arith)) in
+          let f : patternUnits (near num den) * den ≡ 18014398509481984 * part = ap (λ (x : ℕ). patternUnits x * den) e ∙ infinity-parts in
+          absurd (below n part (subst (λ (x : ℕ). n < x) border-parts (mul-lt-mul-of-pos-right h (pow-pos 1074))) (subst (λ (x : ℕ). distanceOf x n ≤ distanceOf (18014398509481982 * part) n) f c))
 
   -- where the nearest is infinity, the number is 2 ^ 1024 - 2 ^ 970 or more
   pub near-infinity-only : near num den ≡ infinity → den * ((2 ^ 54 - 1) * 2 ^ 970) ≤ num

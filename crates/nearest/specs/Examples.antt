@@ -3,7 +3,7 @@ use Prim.Native.Nat.{ℕ, _+_, _-_, _*_, _^_}
 use mathlib.Core.Path.{_≡_, refl}
 use mathlib.Core.Bool.{true, false}
 use lib.Ieee.{size, nearest}
-use Rattle.nearest.specs.Units.{infinity, unitsOf}
+use Rattle.nearest.specs.PatternUnits.{infinity, patternUnits}
 use Rattle.nearest.specs.Near.{near, nearUnits}
 use Rattle.nearest.specs.Product.{product, quotient, quiet, worthOf}
 
@@ -49,27 +49,27 @@ largest = refl
 
 -- -0 times 1 keeps its sign
 minus-zero : product (2 ^ 63) 0x3ff0_0000_0000_0000 ≡ 2 ^ 63
-unfolding worthOf unitsOf near nearUnits size
+unfolding worthOf patternUnits near nearUnits size
 minus-zero = refl
 
 -- infinity times 0 is no number
 infinity-zero : product infinity 0 ≡ quiet
-unfolding worthOf unitsOf
+unfolding worthOf patternUnits
 infinity-zero = refl
 
 -- 0 by 0 is no number
 zero-zero : quotient 0 0 ≡ quiet
-unfolding worthOf unitsOf
+unfolding worthOf patternUnits
 zero-zero = refl
 
 -- 1 by -0 is negative infinity
 one-zero : quotient 0x3ff0_0000_0000_0000 (2 ^ 63) ≡ 2 ^ 63 + infinity
-unfolding worthOf unitsOf
+unfolding worthOf patternUnits
 one-zero = refl
 
 -- document 01: NANO metre is 1000.0 times the f64 1e-9: its bits end in ed8e, not in ed8d as those of the decimal 1e-6 do
 nano : product (near 1000 1) (near 1 1000000000) ≡ 0x3eb0_c6f7_a0b5_ed8e
-unfolding worthOf unitsOf near nearUnits size
+unfolding worthOf patternUnits near nearUnits size
 nano = refl
 
 -- the f64 nearest to the decimal 1e-6: its bits end in ed8d, and those of 1000.0 times the f64 1e-9 in ed8e

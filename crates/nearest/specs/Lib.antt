@@ -1,5 +1,5 @@
-pub mod Units
-pub mod UnitsLaws
+pub mod PatternUnits
+pub mod PatternUnitsLaws
 pub mod Nearest
 pub mod NearestRight
 pub mod Near

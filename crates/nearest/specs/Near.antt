@@ -15,8 +15,8 @@ use lib.Ieee.{size, nearest}
 use lib.Ieee.Digits.{size-lt, size-le, size-reaches}
 use lib.Ieee.Fits.{kept-lt}
 use lib.Ieee.Nearest.{div-same, closest-same}
-use Rattle.nearest.specs.Units.{unitsOf, infinity, gap}
-use Rattle.nearest.specs.UnitsLaws.{Kept, units-kept, units-lt, units-le}
+use Rattle.nearest.specs.PatternUnits.{patternUnits, infinity, distanceOf}
+use Rattle.nearest.specs.PatternUnitsLaws.{DroppedDigits, units-kept, units-lt, units-le}
 use Rattle.nearest.specs.Nearest.{NearestTo, IsNearest}
 use Rattle.nearest.specs.NearestRight.{nearest-only}
 
@@ -53,29 +53,29 @@ cmp a b = go (compare a b) (leb→le a b) (nleb→lt a b) (eqb→eq a b) (λ (e 
     go Ordering·gt h k e n = k tt
 
 -- ---- n lies between the pattern b and the next, r above the one and u - r below the other
-module _ (n den b r u : ℕ) (dp : 0 < den) (lo : unitsOf b * den + r ≡ n) (hi : unitsOf (suc b) * den ≡ unitsOf b * den + u) (rl : r < u) (fit : suc b ≤ infinity) where
+module _ (n den b r u : ℕ) (dp : 0 < den) (lo : patternUnits b * den + r ≡ n) (hi : patternUnits (suc b) * den ≡ patternUnits b * den + u) (rl : r < u) (fit : suc b ≤ infinity) where
   -- every pattern is worth at most what b is, or at least what the next one is
-  side : (c : ℕ) → ((c ≤ b) × (unitsOf c * den ≤ unitsOf b * den)) ⊎ (unitsOf (suc b) * den ≤ unitsOf c * den)
+  side : (c : ℕ) → ((c ≤ b) × (patternUnits c * den ≤ patternUnits b * den)) ⊎ (patternUnits (suc b) * den ≤ patternUnits c * den)
   side c = go (decLe c b)
     where
-      go : Dec (c ≤ b) → ((c ≤ b) × (unitsOf c * den ≤ unitsOf b * den)) ⊎ (unitsOf (suc b) * den ≤ unitsOf c * den)
+      go : Dec (c ≤ b) → ((c ≤ b) × (patternUnits c * den ≤ patternUnits b * den)) ⊎ (patternUnits (suc b) * den ≤ patternUnits c * den)
       go (yes l) = inl (l, mul-le-mul-right den (units-le c b l))
       go (no k) = let l : suc b ≤ c = omega arith in inr (mul-le-mul-right den (units-le (suc b) c l))
 
   -- a pattern below b is worth less than b
-  lower : (c : ℕ) → c ≤ b → (c ≡ b → ⊥) → unitsOf c * den < unitsOf b * den
+  lower : (c : ℕ) → c ≤ b → (c ≡ b → ⊥) → patternUnits c * den < patternUnits b * den
   lower c l ne = mul-lt-mul-of-pos-right (units-lt c b (lt-of-le-ne l ne)) dp
 
   -- a pattern above the one next to b is worth more than that one
-  upper : (c : ℕ) → suc b ≤ c → (c ≡ suc b → ⊥) → unitsOf (suc b) * den < unitsOf c * den
+  upper : (c : ℕ) → suc b ≤ c → (c ≡ suc b → ⊥) → patternUnits (suc b) * den < patternUnits c * den
   upper c l ne = let m : suc b < c = omega arith in mul-lt-mul-of-pos-right (units-lt (suc b) c m) dp
 
   -- of plain numbers: where n is r above v, a number up to v is no closer to n than v
-  far-down : (v w x : ℕ) → v + r ≡ n → w ≡ v + u → x ≤ v → gap v n ≤ gap x n
+  far-down : (v w x : ℕ) → v + r ≡ n → w ≡ v + u → x ≤ v → distanceOf v n ≤ distanceOf x n
   far-down v w x p q l = omega arith
 
   -- of plain numbers: n is r above v, and r at most half of u: a number from v + u on is no closer to n than v
-  far-up : (v w x : ℕ) → v + r ≡ n → w ≡ v + u → w ≤ x → r * 2 ≤ u → gap v n ≤ gap x n
+  far-up : (v w x : ℕ) → v + r ≡ n → w ≡ v + u → w ≤ x → r * 2 ≤ u → distanceOf v n ≤ distanceOf x n
   far-up v w x p q l h = omega arith
 
   -- where n lies at most half way from b to the next pattern, and b is even if it is just half way, b is the nearest
@@ -86,19 +86,19 @@ module _ (n den b r u : ℕ) (dp : 0 < den) (lo : unitsOf b * den + r ≡ n) (hi
     even = λ c _ ne e. tie c ne e (side c);
   }
     where
-      close : (c : ℕ) → ((c ≤ b) × (unitsOf c * den ≤ unitsOf b * den)) ⊎ (unitsOf (suc b) * den ≤ unitsOf c * den) → gap (unitsOf b * den) n ≤ gap (unitsOf c * den) n
-      close c (inl s) = far-down (unitsOf b * den) (unitsOf (suc b) * den) (unitsOf c * den) lo hi (s .1)
-      close c (inr s) = far-up (unitsOf b * den) (unitsOf (suc b) * den) (unitsOf c * den) lo hi s h
+      close : (c : ℕ) → ((c ≤ b) × (patternUnits c * den ≤ patternUnits b * den)) ⊎ (patternUnits (suc b) * den ≤ patternUnits c * den) → distanceOf (patternUnits b * den) n ≤ distanceOf (patternUnits c * den) n
+      close c (inl s) = far-down (patternUnits b * den) (patternUnits (suc b) * den) (patternUnits c * den) lo hi (s .1)
+      close c (inr s) = far-up (patternUnits b * den) (patternUnits (suc b) * den) (patternUnits c * den) lo hi s h
 
-      less : (v x : ℕ) → v + r ≡ n → x < v → gap x n ≡ gap v n → ⊥
+      less : (v x : ℕ) → v + r ≡ n → x < v → distanceOf x n ≡ distanceOf v n → ⊥
       less v x p l e = omega arith
 
-      level : (v w x : ℕ) → v + r ≡ n → w ≡ v + u → w ≤ x → gap x n ≡ gap v n → r * 2 ≡ u
+      level : (v w x : ℕ) → v + r ≡ n → w ≡ v + u → w ≤ x → distanceOf x n ≡ distanceOf v n → r * 2 ≡ u
       level v w x p q l e = omega arith
 
-      tie : (c : ℕ) → (c ≡ b → ⊥) → gap (unitsOf c * den) n ≡ gap (unitsOf b * den) n → ((c ≤ b) × (unitsOf c * den ≤ unitsOf b * den)) ⊎ (unitsOf (suc b) * den ≤ unitsOf c * den) → b % 2 ≡ 0
-      tie c ne e (inl s) = absurd (less (unitsOf b * den) (unitsOf c * den) lo (lower c (s .0) ne) e)
-      tie c ne e (inr s) = t (level (unitsOf b * den) (unitsOf (suc b) * den) (unitsOf c * den) lo hi s e)
+      tie : (c : ℕ) → (c ≡ b → ⊥) → distanceOf (patternUnits c * den) n ≡ distanceOf (patternUnits b * den) n → ((c ≤ b) × (patternUnits c * den ≤ patternUnits b * den)) ⊎ (patternUnits (suc b) * den ≤ patternUnits c * den) → b % 2 ≡ 0
+      tie c ne e (inl s) = absurd (less (patternUnits b * den) (patternUnits c * den) lo (lower c (s .0) ne) e)
+      tie c ne e (inr s) = t (level (patternUnits b * den) (patternUnits (suc b) * den) (patternUnits c * den) lo hi s e)
 
   -- where n lies at least half way from b to the next pattern, which is even if it is just half way, that one is the nearest
   near-up : u ≤ r * 2 → (r * 2 ≡ u → suc b % 2 ≡ 0) → NearestTo n den (suc b)
@@ -108,38 +108,38 @@ module _ (n den b r u : ℕ) (dp : 0 < den) (lo : unitsOf b * den + r ≡ n) (hi
     even = λ c _ ne e. tie c ne e (decLe c b);
   }
     where
-      down-far : (v w x : ℕ) → v + r ≡ n → w ≡ v + u → x ≤ v → gap w n ≤ gap x n
+      down-far : (v w x : ℕ) → v + r ≡ n → w ≡ v + u → x ≤ v → distanceOf w n ≤ distanceOf x n
       down-far v w x p q l = omega arith
 
-      up-far : (v w x : ℕ) → v + r ≡ n → w ≡ v + u → w ≤ x → gap w n ≤ gap x n
+      up-far : (v w x : ℕ) → v + r ≡ n → w ≡ v + u → w ≤ x → distanceOf w n ≤ distanceOf x n
       up-far v w x p q l = omega arith
 
-      close : (c : ℕ) → ((c ≤ b) × (unitsOf c * den ≤ unitsOf b * den)) ⊎ (unitsOf (suc b) * den ≤ unitsOf c * den) → gap (unitsOf (suc b) * den) n ≤ gap (unitsOf c * den) n
-      close c (inl s) = down-far (unitsOf b * den) (unitsOf (suc b) * den) (unitsOf c * den) lo hi (s .1)
-      close c (inr s) = up-far (unitsOf b * den) (unitsOf (suc b) * den) (unitsOf c * den) lo hi s
+      close : (c : ℕ) → ((c ≤ b) × (patternUnits c * den ≤ patternUnits b * den)) ⊎ (patternUnits (suc b) * den ≤ patternUnits c * den) → distanceOf (patternUnits (suc b) * den) n ≤ distanceOf (patternUnits c * den) n
+      close c (inl s) = down-far (patternUnits b * den) (patternUnits (suc b) * den) (patternUnits c * den) lo hi (s .1)
+      close c (inr s) = up-far (patternUnits b * den) (patternUnits (suc b) * den) (patternUnits c * den) lo hi s
 
-      more : (v w x : ℕ) → v + r ≡ n → w ≡ v + u → w < x → gap x n ≡ gap w n → ⊥
+      more : (v w x : ℕ) → v + r ≡ n → w ≡ v + u → w < x → distanceOf x n ≡ distanceOf w n → ⊥
       more v w x p q l e = omega arith
 
-      level : (v w x : ℕ) → v + r ≡ n → w ≡ v + u → x ≤ v → gap x n ≡ gap w n → r * 2 ≡ u
+      level : (v w x : ℕ) → v + r ≡ n → w ≡ v + u → x ≤ v → distanceOf x n ≡ distanceOf w n → r * 2 ≡ u
       level v w x p q l e = omega arith
 
-      tie : (c : ℕ) → (c ≡ suc b → ⊥) → gap (unitsOf c * den) n ≡ gap (unitsOf (suc b) * den) n → Dec (c ≤ b) → suc b % 2 ≡ 0
-      tie c ne e (yes l) = t (level (unitsOf b * den) (unitsOf (suc b) * den) (unitsOf c * den) lo hi (mul-le-mul-right den (units-le c b l)) e)
+      tie : (c : ℕ) → (c ≡ suc b → ⊥) → distanceOf (patternUnits c * den) n ≡ distanceOf (patternUnits (suc b) * den) n → Dec (c ≤ b) → suc b % 2 ≡ 0
+      tie c ne e (yes l) = t (level (patternUnits b * den) (patternUnits (suc b) * den) (patternUnits c * den) lo hi (mul-le-mul-right den (units-le c b l)) e)
       tie c ne e (no k) =
           let l : suc b ≤ c = omega arith in
-          absurd (more (unitsOf b * den) (unitsOf (suc b) * den) (unitsOf c * den) lo hi (upper c l ne) e)
+          absurd (more (patternUnits b * den) (patternUnits (suc b) * den) (patternUnits c * den) lo hi (upper c l ne) e)
 
 -- ---- at infinity's pattern or past it, infinity's is the nearest
 -- what is worth infinity's pattern or more is nearest to infinity
-past : (n den : ℕ) → unitsOf infinity * den ≤ n → NearestTo n den infinity
+past : (n den : ℕ) → patternUnits infinity * den ≤ n → NearestTo n den infinity
 past n den h = record {
   pattern = omega arith;
-  closest = λ c l. far (unitsOf infinity * den) (unitsOf c * den) (mul-le-mul-right den (units-le c infinity l)) h;
+  closest = λ c l. far (patternUnits infinity * den) (patternUnits c * den) (mul-le-mul-right den (units-le c infinity l)) h;
   even = λ c l ne e. refl;
 }
   where
-    far : (v x : ℕ) → x ≤ v → v ≤ n → gap v n ≤ gap x n
+    far : (v x : ℕ) → x ≤ v → v ≤ n → distanceOf v n ≤ distanceOf x n
     far v x l k = omega arith
 
 -- ---- the law of the digits
@@ -148,7 +148,7 @@ even-sum : (k q : ℕ) → q % 2 ≡ 0 → (k * 2 ^ 52 + q) % 2 ≡ 0
 even-sum k q e = omega arith
 
 -- one more than a kept q of at most 53 digits is kept too, the carry to 2 ^ 53 included
-kept-suc : (k q : ℕ) → q < 2 ^ 53 → (k ≡ 0) ⊎ (2 ^ 52 ≤ q) → Kept k (suc q)
+kept-suc : (k q : ℕ) → q < 2 ^ 53 → (k ≡ 0) ⊎ (2 ^ 52 ≤ q) → DroppedDigits k (suc q)
 kept-suc k q h l = record { most = omega arith; leads = go l }
   where
     go : (k ≡ 0) ⊎ (2 ^ 52 ≤ q) → (k ≡ 0) ⊎ (2 ^ 52 ≤ suc q)
@@ -157,17 +157,17 @@ kept-suc k q h l = record { most = omega arith; leads = go l }
 
 module _ (n den k q r : ℕ) (dp : 0 < den) (split : q * (den * 2 ^ k) + r ≡ n) (rl : r < den * 2 ^ k) (qk : q < 2 ^ 53) (lead : (k ≡ 0) ⊎ (2 ^ 52 ≤ q)) where
   -- the pattern with q kept and k digits dropped is worth q times the divisor den * 2 ^ k
-  here : unitsOf (k * 2 ^ 52 + q) * den ≡ q * (den * 2 ^ k)
+  here : patternUnits (k * 2 ^ 52 + q) * den ≡ q * (den * 2 ^ k)
   here =
       ap (λ (x : ℕ). x * den) (units-kept k q (record { most = le-of-lt qk; leads = lead }))
       ∙ mul-assoc q (2 ^ k) den
       ∙ ap (λ (x : ℕ). q * x) (mul-comm (2 ^ k) den)
 
   -- the pattern after the one with q kept is worth one divisor den * 2 ^ k more
-  next : unitsOf (suc (k * 2 ^ 52 + q)) * den ≡ unitsOf (k * 2 ^ 52 + q) * den + den * 2 ^ k
+  next : patternUnits (suc (k * 2 ^ 52 + q)) * den ≡ patternUnits (k * 2 ^ 52 + q) * den + den * 2 ^ k
   next =
       let i : suc (k * 2 ^ 52 + q) ≡ k * 2 ^ 52 + suc q = omega arith in
-      ap (λ (x : ℕ). unitsOf x * den) i
+      ap (λ (x : ℕ). patternUnits x * den) i
       ∙ ap (λ (x : ℕ). x * den) (units-kept k (suc q) (kept-suc k q qk lead))
       ∙ mul-assoc (suc q) (2 ^ k) den
       ∙ ap (λ (x : ℕ). suc q * x) (mul-comm (2 ^ k) den)
@@ -175,7 +175,7 @@ module _ (n den k q r : ℕ) (dp : 0 < den) (split : q * (den * 2 ^ k) + r ≡ n
       ∙ ap (λ (x : ℕ). x + den * 2 ^ k) (sym here)
 
   -- n lies r above what the pattern with q kept is worth
-  lo : unitsOf (k * 2 ^ 52 + q) * den + r ≡ n
+  lo : patternUnits (k * 2 ^ 52 + q) * den + r ≡ n
   lo = ap (λ (x : ℕ). x + r) here ∙ split
 
   -- by how twice r compares with the divisor den * 2 ^ k, the pattern with q kept or the next is the nearest
@@ -233,7 +233,7 @@ module _ (n den k q r : ℕ) (dp : 0 < den) (split : q * (den * 2 ^ k) + r ≡ n
           let i : infinity ≤ k * 2 ^ 52 + q = omega arith in
           let e : min infinity (k * 2 ^ 52 + nearest q (compare (r * 2) (den * 2 ^ k))) ≡ infinity = omega arith in
           subst (NearestTo n den) (sym e)
-          (past n den (up-to (unitsOf infinity) (unitsOf (k * 2 ^ 52 + q)) n (mul-le-mul-right den (units-le infinity (k * 2 ^ 52 + q) i)) lo))
+          (past n den (up-to (patternUnits infinity) (patternUnits (k * 2 ^ 52 + q)) n (mul-le-mul-right den (units-le infinity (k * 2 ^ 52 + q) i)) lo))
 
 -- ---- the digits that `near` keeps
 -- of z digits, more than 53, those that are dropped and 52 more are fewer than z

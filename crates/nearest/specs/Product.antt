@@ -5,7 +5,7 @@ use Prim.Native.Nat.{ℕ, _+_, _*_, _%_, _^_}
 use mathlib.Core.Bool.{Bool, cond}
 use lib.Dec.{ltb, leb, eqb}
 use lib.Ieee.{unlike}
-use Rattle.nearest.specs.Units.{unitsOf, infinity}
+use Rattle.nearest.specs.PatternUnits.{patternUnits, infinity}
 use Rattle.nearest.specs.Nearest.{signed}
 use Rattle.nearest.specs.Near.{near}
 
@@ -22,7 +22,7 @@ negative p = leb (2 ^ 63) p
 -- what a pattern stands for: without its sign, below infinity's it is a number, above it none
 unfoldable pub worthOf : ℕ → Worth
 worthOf p =
-    cond (ltb (p % 2 ^ 63) infinity) (finite (negative p) (unitsOf (p % 2 ^ 63))) (cond (eqb (p % 2 ^ 63) infinity) (infinite (negative p)) none)
+    cond (ltb (p % 2 ^ 63) infinity) (finite (negative p) (patternUnits (p % 2 ^ 63))) (cond (eqb (p % 2 ^ 63) infinity) (infinite (negative p)) none)
 
 -- every NaN counts as one, and this is its pattern
 abbrev pub quiet : ℕ

@@ -15,7 +15,7 @@ use lib.Ieee.Fits.{up-pos, down-pos, ofInt-fits, neg-fits}
 use lib.Ieee.Back.{round-whole}
 use lib.Ieee.Exact.{HasValue, odd-sign}
 use lib.Ieee.Bits.{ofBits-toBits}
-use Rattle.nearest.specs.Units.{unitsAt, unitsOf, infinity}
+use Rattle.nearest.specs.PatternUnits.{unitsAt, patternUnits, infinity}
 use Rattle.nearest.specs.Nearest.{IsNearest, signed}
 use Rattle.nearest.specs.Near.{near, near-is, near-same}
 use Rattle.nearest.specs.Round.{toBits-inf, round-near}
@@ -34,8 +34,8 @@ of-value (inf t) s a h = absurd h
 of-value (fin t m e) s a h = subst (λ (b : Bool). Like (fin t m e) (finite b a)) (h .0) (like-fin (h .1))
 
 -- what the language reads from the fields x and t is what the pattern r without its sign stands for, r having these fields
-like-fields : (s : Bool) (r x t : ℕ) → r / 2 ^ 52 ≡ x → r % 2 ^ 52 ≡ t → r < 2 ^ 63 → Like (ofFields binary64 s x t) (cond (ltb r infinity) (finite s (unitsOf r)) (cond (eqb r infinity) (infinite s) none))
-unfolding ofFields unitsOf
+like-fields : (s : Bool) (r x t : ℕ) → r / 2 ^ 52 ≡ x → r % 2 ^ 52 ≡ t → r < 2 ^ 63 → Like (ofFields binary64 s x t) (cond (ltb r infinity) (finite s (patternUnits r)) (cond (eqb r infinity) (infinite s) none))
+unfolding ofFields patternUnits
 like-fields s r zero t e f l =
     let b : r < infinity = omega arith in
     let u : unitsAt (r / 2 ^ 52) (r % 2 ^ 52) ≡ t = ap (λ (y : ℕ). unitsAt y (r % 2 ^ 52)) e ∙ f in

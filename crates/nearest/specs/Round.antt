@@ -14,8 +14,8 @@ use lib.Ieee.Digits.{size-lt, size-le}
 use lib.Ieee.Fits.{kept-lt, nearest-le, round-is, down-pos}
 use lib.Ieee.Exact.{HasValue, odd-sign}
 use lib.Ieee.Nearest.{nearest-ge}
-use Rattle.nearest.specs.Units.{unitsOf, infinity}
-use Rattle.nearest.specs.UnitsLaws.{Kept, units-kept, units-lt, units-le}
+use Rattle.nearest.specs.PatternUnits.{patternUnits, infinity}
+use Rattle.nearest.specs.PatternUnitsLaws.{DroppedDigits, units-kept, units-lt, units-le}
 use Rattle.nearest.specs.Near.{near, nearUnits, dropped, lead-kept}
 use Rattle.nearest.specs.Nearest.{signed}
 
@@ -32,7 +32,7 @@ abbrev written : ℕ → ℕ → ℕ
 written a z = (z - 53) * 2 ^ 52 + a / 2 ^ (z - 53)
 
 -- k digits dropped and q kept are written as k * 2 ^ 52 + q, the carry included
-written-kept : (k q : ℕ) → Kept k q → written (q * 2 ^ k) (size (q * 2 ^ k)) ≡ k * 2 ^ 52 + q
+written-kept : (k q : ℕ) → DroppedDigits k q → written (q * 2 ^ k) (size (q * 2 ^ k)) ≡ k * 2 ^ 52 + q
 written-kept k q h = go (decLt q (2 ^ 52)) (decLt q (2 ^ 53)) (h .leads)
   where
     below : (z : ℕ) → z ≤ 52 → z - 53 ≡ 0
@@ -105,31 +105,31 @@ unfolding toBits
 toBits-inf s = refl
 
 -- infinity's pattern counts as 2 ^ 1024
-worth-infinity : unitsOf infinity ≡ 2 ^ (1074 + 1024)
-unfolding unitsOf
+worth-infinity : patternUnits infinity ≡ 2 ^ (1074 + 1024)
+unfolding patternUnits
 worth-infinity = refl
 
 -- where q kept and k dropped count as less than 2 ^ 1024, their pattern is below infinity's
-under-infinity : (k q : ℕ) → Kept k q → q * 2 ^ k < 2 ^ (1074 + 1024) → k * 2 ^ 52 + q < infinity
+under-infinity : (k q : ℕ) → DroppedDigits k q → q * 2 ^ k < 2 ^ (1074 + 1024) → k * 2 ^ 52 + q < infinity
 under-infinity k q h l = go (decLt (k * 2 ^ 52 + q) infinity)
   where
     go : Dec (k * 2 ^ 52 + q < infinity) → k * 2 ^ 52 + q < infinity
     go (yes m) = m
     go (no m) =
         let i : infinity ≤ k * 2 ^ 52 + q = omega arith in
-        absurd (lt-irrefl (q * 2 ^ k) (lt-of-lt-of-le l (subst (λ (x : ℕ). x ≤ q * 2 ^ k) worth-infinity (subst (λ (x : ℕ). unitsOf infinity ≤ x) (units-kept k q h) (units-le infinity (k * 2 ^ 52 + q) i)))))
+        absurd (lt-irrefl (q * 2 ^ k) (lt-of-lt-of-le l (subst (λ (x : ℕ). x ≤ q * 2 ^ k) worth-infinity (subst (λ (x : ℕ). patternUnits infinity ≤ x) (units-kept k q h) (units-le infinity (k * 2 ^ 52 + q) i)))))
 
 -- what counts as 2 ^ 1024 or more has infinity's pattern or one past it
-over-infinity : (k q : ℕ) → Kept k q → 2 ^ (1074 + 1024) ≤ q * 2 ^ k → infinity ≤ k * 2 ^ 52 + q
+over-infinity : (k q : ℕ) → DroppedDigits k q → 2 ^ (1074 + 1024) ≤ q * 2 ^ k → infinity ≤ k * 2 ^ 52 + q
 over-infinity k q h l = go (decLt (k * 2 ^ 52 + q) infinity)
   where
     go : Dec (k * 2 ^ 52 + q < infinity) → infinity ≤ k * 2 ^ 52 + q
     go (no m) = omega arith
     go (yes m) =
-        absurd (lt-irrefl (q * 2 ^ k) (lt-of-lt-of-le (subst (λ (x : ℕ). q * 2 ^ k < x) worth-infinity (subst (λ (x : ℕ). x < unitsOf infinity) (units-kept k q h) (units-lt (k * 2 ^ 52 + q) infinity m))) l))
+        absurd (lt-irrefl (q * 2 ^ k) (lt-of-lt-of-le (subst (λ (x : ℕ). q * 2 ^ k < x) worth-infinity (subst (λ (x : ℕ). x < patternUnits infinity) (units-kept k q h) (units-lt (k * 2 ^ 52 + q) infinity m))) l))
 
 -- what the kit makes of q kept and k dropped has the pattern k * 2 ^ 52 + q, infinity's at most, with its sign
-units-pattern : (s : Bool) (q k : ℕ) → Kept k q → toBits binary64 (units binary64 s q k) ≡ signed s (min infinity (k * 2 ^ 52 + q))
+units-pattern : (s : Bool) (q k : ℕ) → DroppedDigits k q → toBits binary64 (units binary64 s q k) ≡ signed s (min infinity (k * 2 ^ 52 + q))
 unfolding units
 units-pattern s q k h = go (ltb (q * 2 ^ k) (2 ^ (1074 + 1024))) (ltb→lt (q * 2 ^ k) (2 ^ (1074 + 1024))) (nltb→le (q * 2 ^ k) (2 ^ (1074 + 1024)))
   where
@@ -146,15 +146,15 @@ units-pattern s q k h = go (ltb (q * 2 ^ k) (2 ^ (1074 + 1024))) (ltb→lt (q * 
         ∙ ap (signed s) (small (k * 2 ^ 52 + q) (under-infinity k q h (l tt)))
     go false l g = toBits-inf s ∙ ap (signed s) (large (k * 2 ^ 52 + q) (over-infinity k q h (g tt)))
 
--- the digits that `near` keeps are kept in the sense of `Kept`
-kept-near : (n den : ℕ) (o : Ordering) → Kept (dropped n den) (nearest (n / (den * 2 ^ dropped n den)) o)
+-- the digits that `near` keeps are kept in the sense of `DroppedDigits`
+kept-near : (n den : ℕ) (o : Ordering) → DroppedDigits (dropped n den) (nearest (n / (den * 2 ^ dropped n den)) o)
 kept-near n den o =
     let k = dropped n den in
     let q = n / (den * 2 ^ k) in
     let e : q ≡ n / den / 2 ^ k = sym (div-div-eq-div-mul n den (2 ^ k)) in
     made k q (nearest q o) (subst (λ (x : ℕ). x < 2 ^ 53) (sym e) (kept-lt 53 (n / den))) (subst (λ (x : ℕ). (k ≡ 0) ⊎ (2 ^ 52 ≤ x)) (sym e) (lead-kept (n / den))) (nearest-le q o) (nearest-ge q o)
   where
-    made : (k q r : ℕ) → q < 2 ^ 53 → (k ≡ 0) ⊎ (2 ^ 52 ≤ q) → r ≤ suc q → q ≤ r → Kept k r
+    made : (k q r : ℕ) → q < 2 ^ 53 → (k ≡ 0) ⊎ (2 ^ 52 ≤ q) → r ≤ suc q → q ≤ r → DroppedDigits k r
     made k q r a (inl z) l g = record { most = omega arith; leads = inl z }
     made k q r a (inr m) l g = record { most = omega arith; leads = inr (omega arith) }
 

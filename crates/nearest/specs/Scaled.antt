@@ -7,7 +7,7 @@ use native.Mathlib.Nat.{mul-assoc, mul-right-comm, add-mul, mul-lt-mul-of-pos-ri
 use native.Mathlib.Omega.{arith}
 use lib.Pow.{pow-pos, pow-add}
 use lib.Ieee.{nearest}
-use Rattle.nearest.specs.Units.{infinity}
+use Rattle.nearest.specs.PatternUnits.{infinity}
 use Rattle.nearest.specs.Near.{Cmp, cmp, near, near-digits}
 
 -- the order of two numbers leaves one answer to `compare`

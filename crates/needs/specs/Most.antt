@@ -7,18 +7,18 @@ use mathlib.Core.Logic.{inl}
 use native.Mathlib.Omega.{arith}
 use Rattle.statement.specs.Rows.{Row, HeaderRow}
 use Rattle.scan.specs.Records.{Table}
-use Rattle.lengths.specs.declared.Sizes.{Sizes}
-use Rattle.lengths.specs.Lengths.{recordOf}
-use Rattle.lengths.specs.Rules.{textLen, numbersLen, rowsLen, both, nothing, Arg, Found, Greatest}
-use Rattle.lengths.specs.Greatest.{either, found-also, text-greatest, items-greatest, rows-greatest}
-use Rattle.needs.specs.Needs.{mostOf, headSizes, rowSizes, needsIn, In, Among}
+use Rattle.argument_sizes.specs.declared.Sizes.{Sizes}
+use Rattle.argument_sizes.specs.Lengths.{recordSizesOf}
+use Rattle.argument_sizes.specs.Rules.{textLen, numbersLen, rowsLen, greaterSizes, noSizes, Arg, Attained, Greatest}
+use Rattle.argument_sizes.specs.Greatest.{either, found-also, text-greatest, items-greatest, rows-greatest}
+use Rattle.needs.specs.Needs.{mostOf, headSizes, rowSizes, needsIn, RowAmong, Among}
 
-module _ (π : Sizes → ℕ) (f : List ℕ → ℕ) (least : π nothing ≡ 0) (join : (a b : Sizes) → π (both a b) ≡ max (π a) (π b)) where
+module _ (π : Sizes → ℕ) (f : List ℕ → ℕ) (least : π noSizes ≡ 0) (join : (a b : Sizes) → π (greaterSizes a b) ≡ max (π a) (π b)) where
   -- rows of any kind, each of whose own parameters has at most what g tells, and one just so much
   module _ {R : Type 0} (g : R → Sizes) (P : R → List ℕ → Type 0) (each : (w : R) → Greatest (P w) f (π (g w))) where
     -- a parameter of one of some rows
     abbrev Of : List R → List ℕ → Type 0
-    Of ws t = (w : R) × In w ws × P w t
+    Of ws t = (w : R) × RowAmong w ws × P w t
 
     -- no row has more than is told of all rows
     rows-all : (vs : List R) (w : R) (ws : List R) → π (g w) ≤ π (mostOf g (vs ++ (w ∷ ws)))
@@ -39,17 +39,17 @@ module _ (π : Sizes → ℕ) (f : List ℕ → ℕ) (least : π nothing ≡ 0) 
     of-later w ws t (v, i, d) = (v, record { before = w ∷ i .before; behind = i .behind; shape = ap (λ (l : List R). w ∷ l) (i .shape) }, d)
 
     -- some parameter of one of some rows has just as much as is told of all
-    of-one : (ws : List R) → Found f (Of ws) (π (mostOf g ws))
+    of-one : (ws : List R) → Attained f (Of ws) (π (mostOf g ws))
     unfolding mostOf
     of-one [] = inl least
     of-one (w ∷ ws) =
-        either f (Of (w ∷ ws)) (π (g w)) (π (mostOf g ws)) (π (both (g w) (mostOf g ws))) (join (g w) (mostOf g ws)) (found-also f (P w) (Of (w ∷ ws)) (π (g w)) (of-first w ws) (each w .one))
+        either f (Of (w ∷ ws)) (π (g w)) (π (mostOf g ws)) (π (greaterSizes (g w) (mostOf g ws))) (join (g w) (mostOf g ws)) (found-also f (P w) (Of (w ∷ ws)) (π (g w)) (of-first w ws) (each w .one))
         (found-also f (Of ws) (Of (w ∷ ws)) (π (mostOf g ws)) (of-later w ws) (of-one ws))
 
-  module _ (s : List ℕ) (each : (p e complex : ℕ) → Greatest (Arg s p e complex) f (π (recordOf s p e complex))) (k : Table) where
+  module _ (s : List ℕ) (each : (p e complex : ℕ) → Greatest (Arg s p e complex) f (π (recordSizesOf s p e complex))) (k : Table) where
     -- what a header record needs
     abbrev headOf : HeaderRow → Sizes
-    headOf w = recordOf s (w .argStart) (w .argEnd) 0
+    headOf w = recordSizesOf s (w .argStart) (w .argEnd) 0
 
     -- the parameters of a header record
     abbrev HeadArg : HeaderRow → List ℕ → Type 0
@@ -57,7 +57,7 @@ module _ (π : Sizes → ℕ) (f : List ℕ → ℕ) (least : π nothing ≡ 0) 
 
     -- what a data record needs
     abbrev rowOf : Row → Sizes
-    rowOf w = recordOf s (w .argStart) (w .argEnd) (w .complex)
+    rowOf w = recordSizesOf s (w .argStart) (w .argEnd) (w .complex)
 
     -- the parameters of a data record
     abbrev RowArg : Row → List ℕ → Type 0
@@ -65,7 +65,7 @@ module _ (π : Sizes → ℕ) (f : List ℕ → ℕ) (least : π nothing ≡ 0) 
 
     -- what the rows of both kinds of a table need
     abbrev told : Sizes
-    told = both (headSizes s (k .headers)) (rowSizes s (k .records))
+    told = greaterSizes (headSizes s (k .headers)) (rowSizes s (k .records))
 
     -- no parameter of a table's records has more than is told
     among-all : (t : List ℕ) → Among s k t → f t ≤ π told

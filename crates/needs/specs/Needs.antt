@@ -8,25 +8,25 @@ use Rattle.error.specs.Refusal.{Told, good, bad, told}
 use Rattle.statement.specs.Rows.{Row, HeaderRow, mapped}
 use Rattle.scan.specs.Records.{Table, largest}
 use Rattle.scan.specs.File.{scanOf}
-use Rattle.lengths.specs.declared.Sizes.{Sizes}
-use Rattle.lengths.specs.Lengths.{recordOf}
-use Rattle.lengths.specs.Rules.{both, nothing, Arg}
+use Rattle.argument_sizes.specs.declared.Sizes.{Sizes}
+use Rattle.argument_sizes.specs.Lengths.{recordSizesOf}
+use Rattle.argument_sizes.specs.Rules.{greaterSizes, noSizes, Arg}
 use Rattle.needs.specs.declared.Needs.{Needs}
 use Rattle.needs.specs.declared.Needed as NeededCode
 use mathlib.Core.Path.{_≡_}
 
 -- the most that any of a list of rows needs, each as g says
 unfoldable pub mostOf : {R : Type 0} → (R → Sizes) → List R → Sizes
-mostOf g [] = nothing
-mostOf g (w ∷ ws) = both (g w) (mostOf g ws)
+mostOf g [] = noSizes
+mostOf g (w ∷ ws) = greaterSizes (g w) (mostOf g ws)
 
 -- the most that any of the header records needs
 abbrev pub headSizes : List ℕ → List HeaderRow → Sizes
-headSizes s ws = mostOf (λ (w : HeaderRow). recordOf s (w .argStart) (w .argEnd) 0) ws
+headSizes s ws = mostOf (λ (w : HeaderRow). recordSizesOf s (w .argStart) (w .argEnd) 0) ws
 
 -- the most that any of the data records needs
 abbrev pub rowSizes : List ℕ → List Row → Sizes
-rowSizes s ws = mostOf (λ (w : Row). recordOf s (w .argStart) (w .argEnd) (w .complex)) ws
+rowSizes s ws = mostOf (λ (w : Row). recordSizesOf s (w .argStart) (w .argEnd) (w .complex)) ws
 
 -- what a file needs, from its numbers
 abbrev pub needs : ℕ → ℕ → ℕ → Sizes → Needs
@@ -34,7 +34,7 @@ needs h r m z = record { headers = h; records = r; max = m; items = z .items; te
 
 -- what a table needs: its rows of both kinds, the largest id, and the most that any parameter of any of its records needs
 abbrev pub needsIn : List ℕ → Table → Needs
-needsIn s t = needs (length (t .headers)) (length (t .records)) (largest (t .records)) (both (headSizes s (t .headers)) (rowSizes s (t .records)))
+needsIn s t = needs (length (t .headers)) (length (t .records)) (largest (t .records)) (greaterSizes (headSizes s (t .headers)) (rowSizes s (t .records)))
 
 -- what the code's answer about a file's needs says: the needs, or a refusal
 abbrev pub toldNeeded : NeededCode.Needed → Told Needs
@@ -46,12 +46,12 @@ unfoldable pub needsOf : List ℕ → Told Needs
 needsOf s = mapped (needsIn s) (scanOf s (length s) (length s))
 
 -- w is one of a list of rows
-pub record In {R : Type 0} (w : R) (all : List R) : Type 0 where
+pub record RowAmong {R : Type 0} (w : R) (all : List R) : Type 0 where
   pub before : List R
   pub behind : List R
   pub shape : all ≡ before ++ (w ∷ behind)
 
 -- t is a parameter of one of a table's header records or data records
 pub data Among (s : List ℕ) (k : Table) (t : List ℕ) : Type 0 where
-  header : (w : HeaderRow) → In w (k .headers) → Arg s (w .argStart) (w .argEnd) 0 t → Among s k t
-  datum : (w : Row) → In w (k .records) → Arg s (w .argStart) (w .argEnd) (w .complex) t → Among s k t
+  header : (w : HeaderRow) → RowAmong w (k .headers) → Arg s (w .argStart) (w .argEnd) 0 t → Among s k t
+  datum : (w : Row) → RowAmong w (k .records) → Arg s (w .argStart) (w .argEnd) (w .complex) t → Among s k t

@@ -11,23 +11,23 @@ use Rattle.statement.specs.Rows.{RowKind, header-kind, data-kind, mapped}
 use Rattle.statement.specs.declared.Section.{Section}
 use Rattle.scan.specs.Records.{Table}
 use Rattle.scan.specs.File.{scanOf}
-use Rattle.scan.specs.Form.{PerKind, perKind, of, Reached, Full}
+use Rattle.scan.specs.Form.{RowsPerKind, rowsPerKind, countOfKind, Reached, Full}
 use Rattle.scan.specs.FormRight.{scans-is}
 use Rattle.scan.specs.FormRight.Numbers.{of-more, scans-bad}
 use Rattle.statement.specs.FormRight.{moved-shorter, header-shorter, data-shorter, row-shorter}
 use Rattle.scan.specs.Rooms.{scan-roomy, scan-fit}
-use Rattle.scan.specs.Roomy.{refusal-roomy}
+use Rattle.scan.specs.LargerRooms.{refusal-roomy}
 use Rattle.needs.specs.Needs.{needsIn, needsOf}
 
 -- each row that was read took a byte at least
-reached-few : {s : List ℕ} {sec : Section} {xs : List ℕ} {n : PerKind} → Reached s sec xs n → (j : RowKind) → of j n + length xs ≤ length s
+reached-few : {s : List ℕ} {sec : Section} {xs : List ℕ} {n : RowsPerKind} → Reached s sec xs n → (j : RowKind) → countOfKind j n + length xs ≤ length s
 reached-few Reached.start header-kind = omega arith
 reached-few Reached.start data-kind = omega arith
 reached-few (Reached.on u f) j = let m = reached-few u j in let l = moved-shorter f in omega arith
 reached-few (Reached.row {t} {n} k w ys u f) j = let m = reached-few u j in let l = row-shorter k w ys t f in omega (arith, of-more j k n)
 
 -- as many rows of each kind as the file has bytes are never used up
-never-full : {s : List ℕ} {q : Refusal} → Full s (perKind (length s) (length s)) q → ⊥
+never-full : {s : List ℕ} {q : Refusal} → Full s (rowsPerKind (length s) (length s)) q → ⊥
 never-full (Full.full header-kind w ys t u h e f) = let k = reached-few u header-kind in let l = header-shorter f in omega arith
 never-full (Full.full data-kind w ys t u h e f) = let k = reached-few u data-kind in let l = data-shorter f in omega arith
 

@@ -8,11 +8,11 @@ ghost use Prim.Native.Nat.{max};
 ghost use lib.ListN.{length};
 ghost use Rattle.statement.specs.Rows.{mapped};
 ghost use Rattle.scan.specs.File.{readingOf};
-ghost use Rattle.lengths.specs.Lengths.{recordOf};
-ghost use Rattle.lengths.specs.Rules.{both};
+ghost use Rattle.argument_sizes.specs.Lengths.{recordSizesOf};
+ghost use Rattle.argument_sizes.specs.Rules.{greaterSizes};
 ghost use Rattle.needs.specs.Needs.{needs, needsIn, toldNeeded, needsOf};
+use argument_sizes::Sizes;
 use error::Fault;
-use lengths::Sizes;
 use scan::Scanned;
 use statement::Said;
 use statement::Section;
@@ -35,9 +35,9 @@ pub enum Needed {
 
 // What is needed so far, and by one record more.
 fn with_record(most: Sizes, s: &[u8], place: usize, end: usize, complex: u32) -> Sizes
-    ensures { λ r. ⌜ r ≡ both most (recordOf (now (s .entry)) place end complex) ⌝ }
+    ensures { λ r. ⌜ r ≡ greaterSizes most (recordSizesOf (now (s .entry)) place end complex) ⌝ }
 {
-    lengths::larger_each(most, lengths::record_sizes(s, place, end, complex))
+    argument_sizes::larger_each(most, argument_sizes::record_sizes(s, place, end, complex))
 }
 
 // Reads the file in order and counts. There are never more rows than bytes.

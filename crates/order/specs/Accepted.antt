@@ -20,11 +20,11 @@ use Rattle.statement.specs.declared.Section.{Section}
 use Rattle.statement.specs.declared.Section.the-variants.{Outside, InHeader, InData}
 use Rattle.scan.specs.Records.{Table}
 use Rattle.scan.specs.File.{scanOf}
-use Rattle.scan.specs.Form.{perKind, Marked, Reads, Scans}
+use Rattle.scan.specs.Form.{rowsPerKind, Marked, Reads, Scans}
 use Rattle.scan.specs.FormRight.{scans-only, scans-is}
 use Rattle.scan.specs.Rooms.{scan-roomy, scan-fit}
-use Rattle.order.specs.Order.{Cut, rest, piece, led, texts, filled, Cuts, Permuted}
-use Rattle.order.specs.Shape.{Fit, AllFit, AllSay, AllHead, Shape, led-filled, Read, read-filled}
+use Rattle.order.specs.Order.{CutFile, noMoreRecords, nextRecord, frontedBy, texts, fileWith, Cuts, Permuted}
+use Rattle.order.specs.Shape.{Fit, AllFitTexts, AllSay, AllHead, FileShape, led-filled, ReadsTo, read-filled}
 use Rattle.order.specs.Cuts.{cuts-one, filled-own, Shaped, closed-shaped}
 
 -- texts in another order are as many as before
@@ -35,7 +35,7 @@ permuted-length Permuted.swap = refl
 permuted-length (Permuted.then p q) = permuted-length q ∙ permuted-length p
 
 -- where each text fits where another stood, so does each of them in another order
-pub permuted-fit : {ts us : List (List ℕ)} → Permuted ts us → AllFit ts → AllFit us
+pub permuted-fit : {ts us : List (List ℕ)} → Permuted ts us → AllFitTexts ts → AllFitTexts us
 permuted-fit Permuted.empty a = a
 permuted-fit (Permuted.front p) (a, r) = (a, permuted-fit p r)
 permuted-fit Permuted.swap (a, (b, r)) = (b, (a, r))
@@ -53,16 +53,16 @@ permuted-total Permuted.swap = omega arith
 permuted-total (Permuted.then p q) = permuted-total q ∙ permuted-total p
 
 -- the bytes of a file with other texts in its records' places, and those of its own texts, are as many as its own and those of the others
-filled-total : (c : Cut) (us : List (List ℕ)) → length us ≡ length (texts c) → length (filled c us) + total (texts c) ≡ length (filled c (texts c)) + total us
-filled-total (rest g) [] n = refl
-filled-total (rest g) (u ∷ us) n = absurd (omega (arith, n))
-filled-total (piece g b c) [] n = absurd (omega (arith, n))
-filled-total (piece g b c) (u ∷ us) n =
+filled-total : (c : CutFile) (us : List (List ℕ)) → length us ≡ length (texts c) → length (fileWith c us) + total (texts c) ≡ length (fileWith c (texts c)) + total us
+filled-total (noMoreRecords g) [] n = refl
+filled-total (noMoreRecords g) (u ∷ us) n = absurd (omega (arith, n))
+filled-total (nextRecord g b c) [] n = absurd (omega (arith, n))
+filled-total (nextRecord g b c) (u ∷ us) n =
     simp length-append (omega (arith, filled-total c us (omega (arith, n))))
 
 -- the new file, with the same texts in another order, is as long as the old one
-pub filled-length : {s : List ℕ} {c : Cut} {us : List (List ℕ)} → Cuts s Outside s c → Permuted (texts c) us → length (filled c us) ≡ length s
-filled-length {s} {c} {us} k p =
+pub file-with-length : {s : List ℕ} {c : CutFile} {us : List (List ℕ)} → Cuts s Outside s c → Permuted (texts c) us → length (fileWith c us) ≡ length s
+file-with-length {s} {c} {us} k p =
     omega (arith, filled-total c us (permuted-length p), permuted-total p, ap length (filled-own k))
 
 -- bytes without a `;` at the start of a list stand before any `;` of it
@@ -93,11 +93,11 @@ marked-any (Marked.mark w r a) x y e z =
     rw (p, append-assoc (w ++ bytes "ISO-10303-21") v (59 ∷ z), append-assoc w (bytes "ISO-10303-21") (v ++ (59 ∷ z))) (Marked.mark w (v ++ (59 ∷ z)) a)
 
 -- the file with other texts in its records' places has the marker, where it had it before
-filled-marked : {c : Cut} {hs : List (List ℕ)} → Shape Outside c hs → (ts us : List (List ℕ)) → Marked (filled c ts) → Marked (filled c us)
-filled-marked (Shape.over e) ts us m = m
-filled-marked (Shape.turn {c} g e d) ts us m =
-    rw (led-filled (g ++ (59 ∷ [])) c us, append-assoc g (59 ∷ []) (filled c us))
-    (marked-any m g (filled c ts) (led-filled (g ++ (59 ∷ [])) c ts ∙ append-assoc g (59 ∷ []) _) (filled c us))
+filled-marked : {c : CutFile} {hs : List (List ℕ)} → FileShape Outside c hs → (ts us : List (List ℕ)) → Marked (fileWith c ts) → Marked (fileWith c us)
+filled-marked (FileShape.over e) ts us m = m
+filled-marked (FileShape.turn {c} g e d) ts us m =
+    rw (led-filled (g ++ (59 ∷ [])) c us, append-assoc g (59 ∷ []) (fileWith c us))
+    (marked-any m g (fileWith c ts) (led-filled (g ++ (59 ∷ [])) c ts ∙ append-assoc g (59 ∷ []) _) (fileWith c us))
 
 -- a file whose records have the texts us, and header records hs, is accepted with these rooms: the rows that it is read to have
 pub record Accepted (f : List ℕ) (hs us : List (List ℕ)) (H R : ℕ) : Type 0 where
@@ -121,10 +121,10 @@ head-length f (w ∷ ws) [] a = absurd a
 head-length f (w ∷ ws) (u ∷ us) (k, a) = omega (arith, head-length f ws us a)
 
 -- a file of fitting texts is accepted with one row for each
-accepted-tight : {c : Cut} {hs : List (List ℕ)} → Shape Outside c hs → (us : List (List ℕ)) → AllFit us → length us ≡ length (texts c)
-    → length (filled c us) ≤ 4294967295 → Marked (filled c us) → Accepted (filled c us) hs us (length hs) (length us)
+accepted-tight : {c : CutFile} {hs : List (List ℕ)} → FileShape Outside c hs → (us : List (List ℕ)) → AllFitTexts us → length us ≡ length (texts c)
+    → length (fileWith c us) ≤ 4294967295 → Marked (fileWith c us) → Accepted (fileWith c us) hs us (length hs) (length us)
 accepted-tight {c} {hs} d us a n l m =
-    let r = read-filled (filled c us) [] (length hs) (length us) d us a n refl 0 0 (omega arith) (omega arith) in
+    let r = read-filled (fileWith c us) [] (length hs) (length us) d us a n refl 0 0 (omega arith) (omega arith) in
     record { result = r .result; scanned = sym (scans-only (Scans.read l m (r .reads))); rows = r .rows; heads = r .heads }
 
 -- an accepted file is accepted with all rooms that have its rows
@@ -140,7 +140,7 @@ accepted-roomy {f} {hs} {us} {H} {R} a H' R' l m = record {
 accepted-file : (s : List ℕ) (H R : ℕ) {t : Table} → scanOf s H R ≡ good t → (length s ≤ 4294967295) × Marked s
 accepted-file s H R e = go (rw e at (scans-is s H R))
   where
-    go : {t : Table} → Scans s (perKind H R) (good t) → (length s ≤ 4294967295) × Marked s
+    go : {t : Table} → Scans s (rowsPerKind H R) (good t) → (length s ≤ 4294967295) × Marked s
     go (Scans.read l m d) = (l, m)
 
 -- two answers of one file are the same, whatever the rooms
@@ -160,25 +160,25 @@ accepted-as s {hs} {ts} {h} {r} H R t a e =
     (subst (λ (u : Table). AllSay s (u .records) ts) q (a .rows), subst (λ (u : Table). AllHead s (u .headers) hs) q (a .heads))
 
 -- an accepted closed file and the file with its texts in another order: both are accepted, with the same header records
-pub record Both (s : List ℕ) (t : Table) (c : Cut) (us : List (List ℕ)) (H R : ℕ) : Type 0 where
+pub record Both (s : List ℕ) (t : Table) (c : CutFile) (us : List (List ℕ)) (H R : ℕ) : Type 0 where
   pub headings : List (List ℕ)
   pub rows : AllSay s (t .records) (texts c)
   pub heads : AllHead s (t .headers) headings
-  pub after : Accepted (filled c us) headings us H R
+  pub after : Accepted (fileWith c us) headings us H R
 
 -- "The new file is accepted with the same rooms": both files are, and the rows of each are those of its texts
-pub both-accepted : (s : List ℕ) (H R : ℕ) (t : Table) → scanOf s H R ≡ good t → Closed s → (c : Cut) → Cuts s Outside s c
+pub both-accepted : (s : List ℕ) (H R : ℕ) (t : Table) → scanOf s H R ≡ good t → Closed s → (c : CutFile) → Cuts s Outside s c
     → (us : List (List ℕ)) → Permuted (texts c) us → Both s t c us H R
 both-accepted s H R t e k c d us p = go (closed-shaped k)
   where
-    by : {hs : List (List ℕ)} → Shape Outside c hs → AllFit (texts c) → Both s t c us H R
+    by : {hs : List (List ℕ)} → FileShape Outside c hs → AllFitTexts (texts c) → Both s t c us H R
     by {hs} sh fit =
         let (l, m) = accepted-file s H R e in
-        let o : filled c (texts c) ≡ s = filled-own d in
+        let o : fileWith c (texts c) ≡ s = filled-own d in
         let a : Accepted s hs (texts c) (length hs) (length (texts c)) = rw o at (accepted-tight sh (texts c) fit refl (rw o l) (rw o m)) in
         let (x, y) = accepted-as s H R t a e in
         let (i, j) = scan-fit s H R t e in
-        let n = accepted-tight sh us (permuted-fit p fit) (permuted-length p) (omega (arith, filled-length d p)) (filled-marked sh (texts c) us (rw o m)) in
+        let n = accepted-tight sh us (permuted-fit p fit) (permuted-length p) (omega (arith, file-with-length d p)) (filled-marked sh (texts c) us (rw o m)) in
         record {
           headings = hs;
           rows = x;

@@ -20,18 +20,18 @@ use Rattle.lex.specs.Local.{closing-local}
 use Rattle.lex.specs.Right.{end-is, closing-is}
 use Rattle.record.specs.Text.{before, past}
 use Rattle.record.specs.Form.{Free}
-use Rattle.record.specs.FormRight.Parts.{Spanned, span, past-pass, past-halt}
+use Rattle.record.specs.FormRight.Parts.{SplitAfter, split-is, past-pass, past-halt}
 use Rattle.record.specs.Head.{dataHead, headerHead}
 use Rattle.record.specs.declared.Head.{Head}
 use Rattle.record.specs.declared.Head.the-variants.{Bad, Complex, Simple}
-use Rattle.statement.specs.Rows.{Row, HeaderRow, Stmt, ends, refused, moved, header, record′}
+use Rattle.statement.specs.Rows.{Row, HeaderRow, Stmt, readingEnds, statementRefused, sectionNow, headerStatement, dataStatement}
 use Rattle.statement.specs.Statement.{statement}
 use Rattle.statement.specs.Closed.{OutsideBoth, ClosedAt, ClosedParts, ClosedData, ClosedHeader, ClosedFrom}
 use Rattle.statement.specs.ClosedRight.Outside.{outside-of}
-use Rattle.statement.specs.ClosedRight.Statements.{Step, step}
+use Rattle.statement.specs.ClosedRight.Statements.{StatementCase, step}
 use Rattle.statement.specs.declared.Section.{Section}
 use Rattle.statement.specs.declared.Section.the-variants.{InHeader, InData}
-use Rattle.order.specs.Order.{Cut, rest, piece, led, Cuts, named, ofId, contextText}
+use Rattle.order.specs.Order.{CutFile, noMoreRecords, nextRecord, frontedBy, Cuts, headHasId, ofId, contextText}
 use Rattle.order.specs.Exchange.{Lone}
 
 -- the bytes of f and r before the rest r are f
@@ -168,7 +168,7 @@ partBy a [] k = true
 partBy a (c ∷ r) k = clear (before a (c ∷ r)) && holdsBy (closedBy r) k
 
 part-by : (a : List ℕ) (k : List ℕ → Bool) → partBy a (past unopening a) k ≡ true → ((t : List ℕ) → k t ≡ true → ClosedParts t) → ClosedParts a
-part-by a k h i = split (span unopening a)
+part-by a k h i = split (split-is unopening a)
   where
     after : (f r : List ℕ) → a ≡ f ++ (40 ∷ r) → Free 40 f → clear f ≡ true → (x : Option (List ℕ)) → closedBy r ≡ x → holdsBy x k ≡ true
         → ClosedParts a
@@ -187,7 +187,7 @@ part-by a k h i = split (span unopening a)
         by true e n = eqb-true c 40 e
         by false e n = clash (cc)
 
-    split : Spanned unopening a → ClosedParts a
+    split : SplitAfter unopening a → ClosedParts a
     split (f, [], e, u) = ClosedParts.none (subst (λ (z : List ℕ). Free 40 z) (sym (e ∙ append-nil f)) (u .all))
     split (f, c ∷ r, e, u) =
         let p : past unopening a ≡ c ∷ r = rw e (past-pass unopening f (c ∷ r) (u .all) ∙ past-halt unopening (c ∷ r) (u .over)) in
@@ -264,11 +264,11 @@ textOf ys r = before ys (59 ∷ r)
 
 -- a statement is closed by what it says, and k holds of what follows it
 abbrev closedStep : Stmt → (Section → List ℕ → Bool) → Bool
-closedStep ends k = true
-closedStep (refused q) k = false
-closedStep (moved to r) k = k to r
-closedStep (header w ys r) k = headerClosed (textOf ys r) && k InHeader r
-closedStep (record′ w ys r) k = dataClosed (textOf ys r) && k InData r
+closedStep readingEnds k = true
+closedStep (statementRefused q) k = false
+closedStep (sectionNow to r) k = k to r
+closedStep (headerStatement w ys r) k = headerClosed (textOf ys r) && k InHeader r
+closedStep (dataStatement w ys r) k = dataClosed (textOf ys r) && k InData r
 
 -- "A file is closed when each header and data record's `(` lies [..]": the file s, from the rest xs on in a section, of fewer
 -- statements than n
@@ -280,14 +280,14 @@ closed-step : (s : List ℕ) (sec : Section) (xs : List ℕ) (k : Section → Li
     → ((to : Section) (r : List ℕ) → k to r ≡ true → ClosedFrom s to r) → ClosedFrom s sec xs
 closed-step s sec xs k h i = go (step s sec xs) refl h
   where
-    go : {x : Stmt} → Step s sec xs x → statement s sec xs ≡ x → closedStep x k ≡ true → ClosedFrom s sec xs
-    go (Step.over l) e m = ClosedFrom.over e
-    go (Step.faulty q) e m = clash (cc)
-    go (Step.turn t b r to p st l) e m = ClosedFrom.turn e (i to r m)
-    go (Step.heading t b r w p st l o) e m =
+    go : {x : Stmt} → StatementCase s sec xs x → statement s sec xs ≡ x → closedStep x k ≡ true → ClosedFrom s sec xs
+    go (StatementCase.over l) e m = ClosedFrom.over e
+    go (StatementCase.faulty q) e m = clash (cc)
+    go (StatementCase.turn t b r to p st l) e m = ClosedFrom.turn e (i to r m)
+    go (StatementCase.heading t b r w p st l o) e m =
         let (u, v) = both (headerClosed (textOf (b ++ (59 ∷ r)) r)) (k InHeader r) m in
         ClosedFrom.heading e (header-closed b (rw (before-rest b (59 ∷ r)) at u)) (i InHeader r v)
-    go (Step.entry t b r w p st l) e m =
+    go (StatementCase.entry t b r w p st l) e m =
         let (u, v) = both (dataClosed (textOf (b ++ (59 ∷ r)) r)) (k InData r) m in
         ClosedFrom.entry e (data-closed b (rw (before-rest b (59 ∷ r)) at u)) (i InData r v)
 
@@ -298,57 +298,57 @@ closed-from zero s sec xs h = clash (cc)
 closed-from (suc n) s sec xs h = closed-step s sec xs (λ to r. closedFrom n s to r) h (λ to r g. closed-from n s to r g)
 
 -- what a statement adds to the cut of what follows it, which k gives
-abbrev cutStep : List ℕ → Stmt → (Section → List ℕ → Option Cut) → Option Cut
-cutStep xs ends k = some (rest xs)
-cutStep xs (refused q) k = none
-cutStep xs (moved to r) k = andSo (k to r) (λ c. some (led (before xs r) c))
-cutStep xs (header w ys r) k = andSo (k InHeader r) (λ c. some (led (before xs r) c))
-cutStep xs (record′ w ys r) k = andSo (k InData r) (λ c. some (piece (before xs ys) (textOf ys r) (led (59 ∷ []) c)))
+abbrev cutStep : List ℕ → Stmt → (Section → List ℕ → Option CutFile) → Option CutFile
+cutStep xs readingEnds k = some (noMoreRecords xs)
+cutStep xs (statementRefused q) k = none
+cutStep xs (sectionNow to r) k = andSo (k to r) (λ c. some (frontedBy (before xs r) c))
+cutStep xs (headerStatement w ys r) k = andSo (k InHeader r) (λ c. some (frontedBy (before xs r) c))
+cutStep xs (dataStatement w ys r) k = andSo (k InData r) (λ c. some (nextRecord (before xs ys) (textOf ys r) (frontedBy (59 ∷ []) c)))
 
 -- the reader's own cut of the file s, from the rest xs on in a section, of fewer statements than n
-unfoldable pub cutFrom : ℕ → List ℕ → Section → List ℕ → Option Cut
+unfoldable pub cutFrom : ℕ → List ℕ → Section → List ℕ → Option CutFile
 cutFrom zero s sec xs = none
 cutFrom (suc n) s sec xs = cutStep xs (statement s sec xs) (λ to r. cutFrom n s to r)
 
-cut-step : (s : List ℕ) (sec : Section) (xs : List ℕ) (k : Section → List ℕ → Option Cut) (c : Cut)
-    → cutStep xs (statement s sec xs) k ≡ some c → ((to : Section) (r : List ℕ) (d : Cut) → k to r ≡ some d → Cuts s to r d) → Cuts s sec xs c
+cut-step : (s : List ℕ) (sec : Section) (xs : List ℕ) (k : Section → List ℕ → Option CutFile) (c : CutFile)
+    → cutStep xs (statement s sec xs) k ≡ some c → ((to : Section) (r : List ℕ) (d : CutFile) → k to r ≡ some d → Cuts s to r d) → Cuts s sec xs c
 cut-step s sec xs k c h i = go (step s sec xs) refl h
   where
-    turned : {to : Section} (f r : List ℕ) → xs ≡ f ++ r → statement s sec xs ≡ moved to r → (x : Option Cut) → k to r ≡ x
-        → andSo x (λ d. some (led (before xs r) d)) ≡ some c → Cuts s sec xs c
+    turned : {to : Section} (f r : List ℕ) → xs ≡ f ++ r → statement s sec xs ≡ sectionNow to r → (x : Option CutFile) → k to r ≡ x
+        → andSo x (λ d. some (frontedBy (before xs r) d)) ≡ some c → Cuts s sec xs c
     turned f r p e none g m = clash (cc)
     turned {to} f r p e (some d) g m =
-        let q : led (before xs r) d ≡ c = cc in
+        let q : frontedBy (before xs r) d ≡ c = cc in
         rw q at (Cuts.turn (before xs r) (before-whole f r p) e (i to r d g))
 
-    headed : {w : HeaderRow} {ys : List ℕ} (f r : List ℕ) → xs ≡ f ++ r → statement s sec xs ≡ header w ys r → (x : Option Cut) → k InHeader r ≡ x
-        → andSo x (λ d. some (led (before xs r) d)) ≡ some c → Cuts s sec xs c
+    headed : {w : HeaderRow} {ys : List ℕ} (f r : List ℕ) → xs ≡ f ++ r → statement s sec xs ≡ headerStatement w ys r → (x : Option CutFile) → k InHeader r ≡ x
+        → andSo x (λ d. some (frontedBy (before xs r) d)) ≡ some c → Cuts s sec xs c
     headed f r p e none g m = clash (cc)
     headed f r p e (some d) g m =
-        let q : led (before xs r) d ≡ c = cc in
+        let q : frontedBy (before xs r) d ≡ c = cc in
         rw q at (Cuts.heading (before xs r) (before-whole f r p) e (i InHeader r d g))
 
-    entered : {w : Row} (t b r : List ℕ) → xs ≡ t ++ (b ++ (59 ∷ r)) → statement s sec xs ≡ record′ w (b ++ (59 ∷ r)) r
-        → (x : Option Cut) → k InData r ≡ x
-        → andSo x (λ d. some (piece (before xs (b ++ (59 ∷ r))) (textOf (b ++ (59 ∷ r)) r) (led (59 ∷ []) d))) ≡ some c → Cuts s sec xs c
+    entered : {w : Row} (t b r : List ℕ) → xs ≡ t ++ (b ++ (59 ∷ r)) → statement s sec xs ≡ dataStatement w (b ++ (59 ∷ r)) r
+        → (x : Option CutFile) → k InData r ≡ x
+        → andSo x (λ d. some (nextRecord (before xs (b ++ (59 ∷ r))) (textOf (b ++ (59 ∷ r)) r) (frontedBy (59 ∷ []) d))) ≡ some c → Cuts s sec xs c
     entered t b r p e none g m = clash (cc)
     entered t b r p e (some d) g m =
         let u : textOf (b ++ (59 ∷ r)) r ≡ b = before-rest b (59 ∷ r) in
-        let q : piece (before xs (b ++ (59 ∷ r))) b (led (59 ∷ []) d) ≡ c = cc in
+        let q : nextRecord (before xs (b ++ (59 ∷ r))) b (frontedBy (59 ∷ []) d) ≡ c = cc in
         rw q at (Cuts.entry {g = before xs (b ++ (59 ∷ r))} {b = b} (before-whole t (b ++ (59 ∷ r)) p) e (i InData r d g))
 
     ahead : (t b r : List ℕ) → t ++ (b ++ (59 ∷ r)) ≡ ((t ++ b) ++ (59 ∷ [])) ++ r
     ahead t b r = sym (append-assoc t b _) ∙ sym (append-assoc (t ++ b) (59 ∷ []) r)
 
-    go : {x : Stmt} → Step s sec xs x → statement s sec xs ≡ x → cutStep xs x k ≡ some c → Cuts s sec xs c
-    go (Step.over l) e m = let q : rest xs ≡ c = cc in rw q at (Cuts.over e)
-    go (Step.faulty q) e m = clash (cc)
-    go (Step.turn t b r to p st l) e m = turned ((t ++ b) ++ (59 ∷ [])) r (p ∙ ahead t b r) e (k to r) refl m
-    go (Step.heading t b r w p st l o) e m = headed ((t ++ b) ++ (59 ∷ [])) r (p ∙ ahead t b r) e (k InHeader r) refl m
-    go (Step.entry t b r w p st l) e m = entered t b r p e (k InData r) refl m
+    go : {x : Stmt} → StatementCase s sec xs x → statement s sec xs ≡ x → cutStep xs x k ≡ some c → Cuts s sec xs c
+    go (StatementCase.over l) e m = let q : noMoreRecords xs ≡ c = cc in rw q at (Cuts.over e)
+    go (StatementCase.faulty q) e m = clash (cc)
+    go (StatementCase.turn t b r to p st l) e m = turned ((t ++ b) ++ (59 ∷ [])) r (p ∙ ahead t b r) e (k to r) refl m
+    go (StatementCase.heading t b r w p st l o) e m = headed ((t ++ b) ++ (59 ∷ [])) r (p ∙ ahead t b r) e (k InHeader r) refl m
+    go (StatementCase.entry t b r w p st l) e m = entered t b r p e (k InData r) refl m
 
 -- what the computation calls the cut of a file is its cut
-pub cut-from : (n : ℕ) (s : List ℕ) (sec : Section) (xs : List ℕ) (c : Cut) → cutFrom n s sec xs ≡ some c → Cuts s sec xs c
+pub cut-from : (n : ℕ) (s : List ℕ) (sec : Section) (xs : List ℕ) (c : CutFile) → cutFrom n s sec xs ≡ some c → Cuts s sec xs c
 unfolding cutFrom
 cut-from zero s sec xs c h = clash (cc)
 cut-from (suc n) s sec xs c h = cut-step s sec xs (λ to r. cutFrom n s to r) c h (λ to r d g. cut-from n s to r d g)
@@ -356,10 +356,10 @@ cut-from (suc n) s sec xs c h = cut-step s sec xs (λ to r. cutFrom n s to r) c 
 -- ---- ids
 -- the text has the id i
 abbrev pub HasId : List ℕ → ℕ → Type 0
-HasId b i = (k : ℕ) → named k (dataHead b) ≡ eqb i k
+HasId b i = (k : ℕ) → headHasId k (dataHead b) ≡ eqb i k
 
 -- texts with different ids have no id in common
-pub ids-apart : (a b : List ℕ) (i j : ℕ) → HasId a i → HasId b j → eqb i j ≡ false → (k : ℕ) → (named k (dataHead a) && named k (dataHead b)) ≡ false
+pub ids-apart : (a b : List ℕ) (i j : ℕ) → HasId a i → HasId b j → eqb i j ≡ false → (k : ℕ) → (headHasId k (dataHead a) && headHasId k (dataHead b)) ≡ false
 ids-apart a b i j h g e k = rw (h k, g k) (go (eqb i k) (eqb j k) refl refl)
   where
     go : (x y : Bool) → eqb i k ≡ x → eqb j k ≡ y → (x && y) ≡ false

@@ -3,17 +3,17 @@ use Prim.Native.Nat.{ℕ}
 use mathlib.Core.Path.{_≡_, refl, sym, _∙_, ap}
 use mathlib.Core.List.{List, [], _∷_, _++_, append-assoc, append-cancel-right}
 use Rattle.common.specs.Compare.{clash}
-use Rattle.statement.specs.Rows.{Row, HeaderRow, Stmt, ends, refused, moved, header, record′}
+use Rattle.statement.specs.Rows.{Row, HeaderRow, Stmt, readingEnds, statementRefused, sectionNow, headerStatement, dataStatement}
 use Rattle.statement.specs.Statement.{statement}
 use Rattle.statement.specs.Closed.{ClosedData, ClosedHeader, ClosedFrom}
-use Rattle.statement.specs.ClosedRight.Statements.{Stands, stands-any, Step, step, data-stands, header-stands}
+use Rattle.statement.specs.ClosedRight.Statements.{StandsAsRecord, stands-as-record-any, StatementCase, step, data-stands, header-stands}
 use Rattle.statement.specs.declared.Section.{Section}
 use Rattle.statement.specs.declared.Section.the-variants.{Outside, InHeader, InData}
-use Rattle.order.specs.Order.{Cut, rest, piece, led, texts, filled, Cuts}
-use Rattle.order.specs.Shape.{Fit, AllFit, Shape, led-filled, led-texts}
+use Rattle.order.specs.Order.{CutFile, noMoreRecords, nextRecord, frontedBy, texts, fileWith, Cuts}
+use Rattle.order.specs.Shape.{Fit, AllFitTexts, FileShape, led-filled, led-texts}
 
 -- a file has only one cut
-pub cuts-one : {s : List ℕ} {sec : Section} {xs : List ℕ} {c d : Cut} → Cuts s sec xs c → Cuts s sec xs d → c ≡ d
+pub cuts-one : {s : List ℕ} {sec : Section} {xs : List ℕ} {c d : CutFile} → Cuts s sec xs c → Cuts s sec xs d → c ≡ d
 cuts-one (Cuts.over e) (Cuts.over k) = refl
 cuts-one (Cuts.over e) (Cuts.turn h q k b) = clash (cc)
 cuts-one (Cuts.over e) (Cuts.heading h q k b) = clash (cc)
@@ -43,7 +43,7 @@ cuts-one (Cuts.entry {g} {b = x} {r} p e a) (Cuts.entry {g = h} {b = y} {r = r'}
     rw (m, n, cuts-one a (rw j at b)) refl
 
 -- the file with each record's own text in its place is the file
-pub filled-own : {s : List ℕ} {sec : Section} {xs : List ℕ} {c : Cut} → Cuts s sec xs c → filled c (texts c) ≡ xs
+pub filled-own : {s : List ℕ} {sec : Section} {xs : List ℕ} {c : CutFile} → Cuts s sec xs c → fileWith c (texts c) ≡ xs
 filled-own (Cuts.over e) = refl
 filled-own (Cuts.turn {c} g p e a) = rw (led-texts g c, led-filled g c (texts c), filled-own a) (sym p)
 filled-own (Cuts.heading {c} g p e a) = rw (led-texts g c, led-filled g c (texts c), filled-own a) (sym p)
@@ -51,58 +51,58 @@ filled-own (Cuts.entry {g} {b} {c} p e a) = rw (led-texts (59 ∷ []) c, led-fil
 
 -- the cut of a closed file, with how it is read
 pub record Shaped (s : List ℕ) (sec : Section) (xs : List ℕ) : Type 0 where
-  pub pieces : Cut
+  pub pieces : CutFile
   pub cuts : Cuts s sec xs pieces
   pub heads : List (List ℕ)
-  pub shape : Shape sec pieces heads
-  pub fit : AllFit (texts pieces)
+  pub shape : FileShape sec pieces heads
+  pub fit : AllFitTexts (texts pieces)
 
 -- what is read in a section is read so in one that is equal
-shape-in : {a b : Section} {c : Cut} {hs : List (List ℕ)} → a ≡ b → Shape b c hs → Shape a c hs
+shape-in : {a b : Section} {c : CutFile} {hs : List (List ℕ)} → a ≡ b → FileShape b c hs → FileShape a c hs
 shape-in i d = rw i d
 
 -- How a closed file is read and cut, one statement after the other.
 module _ {s : List ℕ} {sec : Section} {xs : List ℕ} where
-  shaped-over : statement s sec xs ≡ ends → Shaped s sec xs
+  shaped-over : statement s sec xs ≡ readingEnds → Shaped s sec xs
   shaped-over e = go (rw e at (step s sec xs))
     where
-      go : Step s sec xs ends → Shaped s sec xs
-      go (Step.over k) = record { pieces = rest xs; cuts = Cuts.over e; heads = []; shape = Shape.over k; fit = tt }
+      go : StatementCase s sec xs readingEnds → Shaped s sec xs
+      go (StatementCase.over k) = record { pieces = noMoreRecords xs; cuts = Cuts.over e; heads = []; shape = FileShape.over k; fit = tt }
 
-  shaped-turn : {to : Section} {r : List ℕ} → statement s sec xs ≡ moved to r → Shaped s to r → Shaped s sec xs
+  shaped-turn : {to : Section} {r : List ℕ} → statement s sec xs ≡ sectionNow to r → Shaped s to r → Shaped s sec xs
   shaped-turn {to} {r} e d = go (rw e at (step s sec xs))
     where
-      go : Step s sec xs (moved to r) → Shaped s sec xs
-      go (Step.turn t b r to p st k) =
+      go : StatementCase s sec xs (sectionNow to r) → Shaped s sec xs
+      go (StatementCase.turn t b r to p st k) =
           let q : xs ≡ ((t ++ b) ++ (59 ∷ [])) ++ r = p ∙ sym (append-assoc t b _) ∙ sym (append-assoc (t ++ b) (59 ∷ []) r) in
           record {
-            pieces = led ((t ++ b) ++ (59 ∷ [])) (d .pieces);
+            pieces = frontedBy ((t ++ b) ++ (59 ∷ [])) (d .pieces);
             cuts = Cuts.turn ((t ++ b) ++ (59 ∷ [])) q e (d .cuts);
             heads = d .heads;
-            shape = Shape.turn {sec = sec} {to = to} (t ++ b) (λ f y. rw (append-assoc t b (59 ∷ y)) (k f y)) (d .shape);
+            shape = FileShape.turn {sec = sec} {to = to} (t ++ b) (λ f y. rw (append-assoc t b (59 ∷ y)) (k f y)) (d .shape);
             fit = rw (led-texts ((t ++ b) ++ (59 ∷ [])) (d .pieces)) (d .fit);
           }
 
-  shaped-heading : {b r : List ℕ} {w : HeaderRow} → statement s sec xs ≡ header w (b ++ (59 ∷ r)) r → ClosedHeader b → Shaped s InHeader r → Shaped s sec xs
+  shaped-heading : {b r : List ℕ} {w : HeaderRow} → statement s sec xs ≡ headerStatement w (b ++ (59 ∷ r)) r → ClosedHeader b → Shaped s InHeader r → Shaped s sec xs
   shaped-heading {b} {r} {w} e ch d =
       let (t, p, st, i, k) = header-stands s sec xs w b r e in
       let q : xs ≡ ((t ++ b) ++ (59 ∷ [])) ++ r = p ∙ sym (append-assoc t b _) ∙ sym (append-assoc (t ++ b) (59 ∷ []) r) in
       record {
-        pieces = led ((t ++ b) ++ (59 ∷ [])) (d .pieces);
+        pieces = frontedBy ((t ++ b) ++ (59 ∷ [])) (d .pieces);
         cuts = Cuts.heading ((t ++ b) ++ (59 ∷ [])) q e (d .cuts);
         heads = b ∷ d .heads;
-        shape = shape-in i (Shape.heading t b ch (λ y. stands-any st y) k (d .shape));
+        shape = shape-in i (FileShape.heading t b ch (λ y. stands-as-record-any st y) k (d .shape));
         fit = rw (led-texts ((t ++ b) ++ (59 ∷ [])) (d .pieces)) (d .fit);
       }
 
-  shaped-entry : {b r : List ℕ} {w : Row} → statement s sec xs ≡ record′ w (b ++ (59 ∷ r)) r → ClosedData b → Shaped s InData r → Shaped s sec xs
+  shaped-entry : {b r : List ℕ} {w : Row} → statement s sec xs ≡ dataStatement w (b ++ (59 ∷ r)) r → ClosedData b → Shaped s InData r → Shaped s sec xs
   shaped-entry {b} {r} {w} e cd d =
       let (t, p, st, i) = data-stands s sec xs w b r e in
       record {
-        pieces = piece t b (led (59 ∷ []) (d .pieces));
+        pieces = nextRecord t b (frontedBy (59 ∷ []) (d .pieces));
         cuts = Cuts.entry p e (d .cuts);
         heads = d .heads;
-        shape = shape-in i (Shape.entry t b r st (d .shape));
+        shape = shape-in i (FileShape.entry t b r st (d .shape));
         fit = (record { closed = cd; before = t; after = r; stands = st }, rw (led-texts (59 ∷ []) (d .pieces)) (d .fit));
       }
 

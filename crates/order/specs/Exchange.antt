@@ -8,7 +8,7 @@ use lib.Dec.{eqb}
 use Rattle.common.specs.Pick.{pick}
 use Rattle.common.specs.Compare.{clash}
 use Rattle.record.specs.Head.{dataHead}
-use Rattle.order.specs.Order.{Permuted, named, those, ofId, contextText, contextsIn, Rearranged}
+use Rattle.order.specs.Order.{Permuted, headHasId, those, ofId, contextText, contextsIn, Rearranged}
 
 -- ---- the same texts in another order
 -- texts are themselves in another order, where nothing changes places
@@ -124,17 +124,17 @@ pub rearranged-then : {ts us vs : List (List ℕ)} → Rearranged ts us → Rear
 rearranged-then a b = record { whole = Permuted.then (a .whole) (b .whole); ids = λ k. a .ids k ∙ b .ids k; contexts = a .contexts ∙ b .contexts }
 
 -- neighbours with different ids that are not both unit contexts may change places, behind others that stay
-pub rearranged-swap : (xs : List (List ℕ)) (a b : List ℕ) (zs : List (List ℕ)) → ((k : ℕ) → (named k (dataHead a) && named k (dataHead b)) ≡ false)
+pub rearranged-swap : (xs : List (List ℕ)) (a b : List ℕ) (zs : List (List ℕ)) → ((k : ℕ) → (headHasId k (dataHead a) && headHasId k (dataHead b)) ≡ false)
     → (contextText a && contextText b) ≡ false → Rearranged (xs ++ (a ∷ b ∷ zs)) (xs ++ (b ∷ a ∷ zs))
 rearranged-swap xs a b zs h k = record {
   whole = permuted-behind xs Permuted.swap;
-  ids = λ i. those-behind (λ c. named i (dataHead c)) xs _ _ (those-swap (λ c. named i (dataHead c)) a b zs (h i));
+  ids = λ i. those-behind (λ c. headHasId i (dataHead c)) xs _ _ (those-swap (λ c. headHasId i (dataHead c)) a b zs (h i));
   contexts = those-behind contextText xs _ _ (those-swap contextText a b zs k);
 }
 
 -- "a record whose id no other record has, and that is no unit context": rs are the other records' texts
 pub record Lone (b : List ℕ) (rs : List (List ℕ)) : Type 0 where
-  pub id : (k : ℕ) → named k (dataHead b) ≡ true → ofId k rs ≡ []
+  pub id : (k : ℕ) → headHasId k (dataHead b) ≡ true → ofId k rs ≡ []
   pub plain : contextText b ≡ false
 
 -- a record whose id no other has, and that is no unit context, "may change places with any other such record"
@@ -143,7 +143,7 @@ pub rearranged-lone : (xs : List (List ℕ)) (a : List ℕ) (ys : List (List ℕ
     → Rearranged (xs ++ (a ∷ (ys ++ (b ∷ zs)))) (xs ++ (b ∷ (ys ++ (a ∷ zs))))
 rearranged-lone xs a ys b zs h k = record {
   whole = permuted-two xs a ys b zs;
-  ids = λ i. by (λ c. named i (dataHead c)) (λ e. h .id i e) (λ e. k .id i e);
+  ids = λ i. by (λ c. headHasId i (dataHead c)) (λ e. h .id i e) (λ e. k .id i e);
   contexts = by contextText (λ e. clash (cc (h .plain, e))) (λ e. clash (cc (k .plain, e)));
 }
   where

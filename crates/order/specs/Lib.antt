@@ -2,9 +2,9 @@ pub mod Order
 pub mod Shape
 pub mod Cuts
 pub mod Accepted
-pub mod Found
+pub mod SameRecords
 pub mod Exchange
-pub mod Counted
+pub mod SameCounts
 pub mod Contexts
 pub mod Right
 pub mod Check

@@ -16,10 +16,10 @@ use Rattle.units.specs.Answer.{Units, units}
 use Rattle.scan.specs.Records.{Table, table}
 use Rattle.scan.specs.File.{scanOf}
 use Rattle.serve.specs.Serve.{unitsOf}
-use Rattle.order.specs.Order.{Cut, rest, piece, texts, filled, Cuts, Permuted, named, ofId, contextsIn, Rearranged, served, SameUnits, Same}
+use Rattle.order.specs.Order.{CutFile, noMoreRecords, nextRecord, texts, fileWith, Cuts, Permuted, headHasId, ofId, contextsIn, Rearranged, served, SameUnits, SameAnswers}
 use Rattle.order.specs.Exchange.{those-swap, rearranged-swap}
 use Rattle.order.specs.Check.{closed-from, cut-from, HasId, ids-apart}
-use Rattle.order.specs.Computed.{reading, checking, resolving}
+use Rattle.order.specs.Computed.{readingUnfolded, checking, resolving}
 
 -- a file has one table with the same rooms
 table-one : (f : List ℕ) (H R : ℕ) (t u : Table) → scanOf f H R ≡ good t → scanOf f H R ≡ good u → t ≡ u
@@ -29,8 +29,8 @@ table-one f H R t u e g = cc
 -- demand 3 without the order of records with equal ids being kept
 abbrev pub WithoutIds : Type 0
 WithoutIds = (s : List ℕ) (H R : ℕ) (t : Table) → scanOf s H R ≡ good t → Closed s
-    → (c : Cut) → Cuts s Outside s c → (us : List (List ℕ)) → Permuted (texts c) us → contextsIn (texts c) ≡ contextsIn us
-    → Same s t (filled c us) H R
+    → (c : CutFile) → Cuts s Outside s c → (us : List (List ℕ)) → Permuted (texts c) us → contextsIn (texts c) ≡ contextsIn us
+    → SameAnswers s t (fileWith c us) H R
 
 -- a file of two records with one id
 abbrev pub twins : List ℕ
@@ -45,12 +45,12 @@ abbrev pub twinRows : Table
 twinRows = table [] (row 1 21 22 23 23 0 ∷ row 1 28 29 30 30 0 ∷ [])
 
 -- the cut of the file of two records with one id
-abbrev pub twinCut : Cut
-twinCut = piece (bytes "ISO-10303-21;DATA;") (bytes "#1=A()") (piece (bytes ";") (bytes "#1=B()") (rest (bytes ";")))
+abbrev pub twinCut : CutFile
+twinCut = nextRecord (bytes "ISO-10303-21;DATA;") (bytes "#1=A()") (nextRecord (bytes ";") (bytes "#1=B()") (noMoreRecords (bytes ";")))
 
 -- the file of two records with one id is accepted, in either order
 pub twins-accepted : (scanOf twins 0 2 ≡ good twinRows) × (scanOf swappedTwins 0 2 ≡ good twinRows)
-unfolding reading
+unfolding readingUnfolded
 twins-accepted = (refl, refl)
 
 -- the file of two records with one id is closed
@@ -59,7 +59,7 @@ unfolding checking
 twins-closed = closed-from 5 twins Outside twins refl
 
 -- the cut of the file of two records with one id is its own, and with the two texts exchanged it is the file in the other order
-pub twins-cut : Cuts twins Outside twins twinCut × (filled twinCut (bytes "#1=B()" ∷ bytes "#1=A()" ∷ []) ≡ swappedTwins)
+pub twins-cut : Cuts twins Outside twins twinCut × (fileWith twinCut (bytes "#1=B()" ∷ bytes "#1=A()" ∷ []) ≡ swappedTwins)
 unfolding checking
 twins-cut = (cut-from 5 twins Outside twins twinCut refl, refl)
 
@@ -92,8 +92,8 @@ ids-needed w =
 -- demand 3 without the order of the unit contexts being kept
 abbrev pub WithoutContexts : Type 0
 WithoutContexts = (s : List ℕ) (H R : ℕ) (t : Table) → scanOf s H R ≡ good t → Closed s
-    → (c : Cut) → Cuts s Outside s c → (us : List (List ℕ)) → Permuted (texts c) us → ((k : ℕ) → ofId k (texts c) ≡ ofId k us)
-    → Same s t (filled c us) H R
+    → (c : CutFile) → Cuts s Outside s c → (us : List (List ℕ)) → Permuted (texts c) us → ((k : ℕ) → ofId k (texts c) ≡ ofId k us)
+    → SameAnswers s t (fileWith c us) H R
 
 -- a unit context that lists itself, a length unit: the millimetre
 abbrev pub inMillimetres : List ℕ
@@ -120,12 +120,12 @@ abbrev pub swappedContextRows : Table
 swappedContextRows = table [] (row 2 0 0 22 122 1 ∷ row 1 0 0 128 234 1 ∷ [])
 
 -- the cut of the file with two unit contexts
-abbrev pub contextCut : Cut
-contextCut = piece (bytes "ISO-10303-21;DATA;") inMillimetres (piece (bytes ";") inMetres (rest (bytes ";")))
+abbrev pub contextCut : CutFile
+contextCut = nextRecord (bytes "ISO-10303-21;DATA;") inMillimetres (nextRecord (bytes ";") inMetres (noMoreRecords (bytes ";")))
 
 -- the file with two unit contexts is accepted, in either order
 pub contexts-accepted : (scanOf twoContexts 0 2 ≡ good contextRows) × (scanOf swappedContexts 0 2 ≡ good swappedContextRows)
-unfolding reading
+unfolding readingUnfolded
 contexts-accepted = (refl, refl)
 
 -- the file with two unit contexts is closed
@@ -134,13 +134,13 @@ unfolding checking
 contexts-closed = closed-from 5 twoContexts Outside twoContexts refl
 
 -- the cut of the file with two unit contexts is its own, and with the two texts exchanged it is the file in the other order
-pub contexts-cut : Cuts twoContexts Outside twoContexts contextCut × (filled contextCut (inMetres ∷ inMillimetres ∷ []) ≡ swappedContexts)
+pub contexts-cut : Cuts twoContexts Outside twoContexts contextCut × (fileWith contextCut (inMetres ∷ inMillimetres ∷ []) ≡ swappedContexts)
 unfolding checking
 contexts-cut = (cut-from 5 twoContexts Outside twoContexts contextCut refl, refl)
 
 -- the ids of the two unit contexts
 pub contexts-ids : HasId inMillimetres 1 × HasId inMetres 2
-unfolding reading
+unfolding readingUnfolded
 contexts-ids = (λ k. refl, λ k. refl)
 
 -- the unit answers of the file with two unit contexts, in either order: 1.0 mm and 1000.0 mm
@@ -153,7 +153,7 @@ contexts-units = (refl, refl)
 pub contexts-needed : WithoutContexts → ⊥
 contexts-needed w =
     let ids : (k : ℕ) → ofId k (inMillimetres ∷ inMetres ∷ []) ≡ ofId k (inMetres ∷ inMillimetres ∷ []) =
-    λ k. those-swap (λ b. named k (dataHead b)) inMillimetres inMetres [] (ids-apart inMillimetres inMetres 1 2 (contexts-ids .0) (contexts-ids .1) refl k) in
+    λ k. those-swap (λ b. headHasId k (dataHead b)) inMillimetres inMetres [] (ids-apart inMillimetres inMetres 1 2 (contexts-ids .0) (contexts-ids .1) refl k) in
     let r = w twoContexts 0 2 contextRows (contexts-accepted .0) contexts-closed contextCut (contexts-cut .0) (inMetres ∷ inMillimetres ∷ []) Permuted.swap ids in
     let q : r .after ≡ swappedContextRows = table-one swappedContexts 0 2 (r .after) swappedContextRows (r .accepted) (contexts-accepted .1) in
     let k : SameUnits (unitsOf twoContexts contextRows) (unitsOf swappedContexts swappedContextRows) = rw q at (r .units) in
@@ -165,7 +165,7 @@ contexts-needed w =
 -- demand 3 of files that are not closed too
 abbrev pub WithoutClosed : Type 0
 WithoutClosed = (s : List ℕ) (H R : ℕ) (t : Table) → scanOf s H R ≡ good t
-    → (c : Cut) → Cuts s Outside s c → (us : List (List ℕ)) → Rearranged (texts c) us → Same s t (filled c us) H R
+    → (c : CutFile) → Cuts s Outside s c → (us : List (List ℕ)) → Rearranged (texts c) us → SameAnswers s t (fileWith c us) H R
 
 -- example 11 of document 01: the first record's `(` closes in the second
 abbrev pub crossing : List ℕ
@@ -180,16 +180,16 @@ abbrev pub crossingRows : Table
 crossingRows = table [] (row 1 21 22 23 34 0 ∷ row 2 30 31 32 33 0 ∷ [])
 
 -- the cut of example 11's file
-abbrev pub crossingCut : Cut
-crossingCut = piece (bytes "ISO-10303-21;DATA;") (bytes "#1=A((1)") (piece (bytes ";") (bytes "#2=B(2))") (rest (bytes ";")))
+abbrev pub crossingCut : CutFile
+crossingCut = nextRecord (bytes "ISO-10303-21;DATA;") (bytes "#1=A((1)") (nextRecord (bytes ";") (bytes "#2=B(2))") (noMoreRecords (bytes ";")))
 
 -- example 11's file is accepted, and with its records in the other order it is refused: no `)` closes the last `(`
 pub crossing-refused : (scanOf crossing 0 2 ≡ good crossingRows) × (scanOf swappedCrossing 0 2 ≡ bad (refusal 6 0 31))
-unfolding reading
+unfolding readingUnfolded
 crossing-refused = (refl, refl)
 
 -- the cut of example 11's file is its own, and with the two texts exchanged it is the file in the other order
-pub crossing-cut : Cuts crossing Outside crossing crossingCut × (filled crossingCut (bytes "#2=B(2))" ∷ bytes "#1=A((1)" ∷ []) ≡ swappedCrossing)
+pub crossing-cut : Cuts crossing Outside crossing crossingCut × (fileWith crossingCut (bytes "#2=B(2))" ∷ bytes "#1=A((1)" ∷ []) ≡ swappedCrossing)
 unfolding checking
 crossing-cut = (cut-from 5 crossing Outside crossing crossingCut refl, refl)
 

@@ -18,7 +18,7 @@ use Rattle.error.specs.Refusal.{Told, good, bad}
 use Rattle.record.specs.Head.{dataHead}
 use Rattle.record.specs.declared.Head.{Head}
 use Rattle.record.specs.declared.Head.the-variants.{Bad, Complex, Simple}
-use Rattle.statement.specs.Rows.{Row, HeaderRow, ends, moved, header, record′}
+use Rattle.statement.specs.Rows.{Row, HeaderRow, readingEnds, sectionNow, headerStatement, dataStatement}
 use Rattle.statement.specs.Row.{recordOf}
 use Rattle.statement.specs.Closed.{Closed, Content, content, HeaderContent, headerContent}
 use Rattle.statement.specs.Statement.{statement}
@@ -26,49 +26,49 @@ use Rattle.statement.specs.declared.Section.{Section}
 use Rattle.statement.specs.declared.Section.the-variants.{Outside, InHeader, InData}
 use Rattle.scan.specs.Records.{Table}
 use Rattle.scan.specs.File.{scanOf}
-use Rattle.scan.specs.Table.{countsOf}
+use Rattle.scan.specs.ScanMemory.{countsOf}
 use Rattle.params.specs.Answer.{onward}
 use Rattle.lookup.specs.Records.{lastOf}
-use Rattle.factors.specs.Thing.{thingOf}
+use Rattle.factors.specs.SeenRecords.{seenRecordOf}
 use Rattle.units.specs.Answer.{Units, isContext}
 use Rattle.serve.specs.Serve.{unitsOf}
 
 -- a file, cut: what stands up to the next data record, that record's text, from its `#` up to its `;`, and what follows, cut likewise;
 -- or what stands after the last record
-pub data Cut : Type 0 where
-  rest : List ℕ → Cut
-  piece : List ℕ → List ℕ → Cut → Cut
+pub data CutFile : Type 0 where
+  noMoreRecords : List ℕ → CutFile
+  nextRecord : List ℕ → List ℕ → CutFile → CutFile
 
 -- a cut with the bytes g in front
-abbrev pub led : List ℕ → Cut → Cut
-led g (rest h) = rest (g ++ h)
-led g (piece h b c) = piece (g ++ h) b c
+abbrev pub frontedBy : List ℕ → CutFile → CutFile
+frontedBy g (noMoreRecords h) = noMoreRecords (g ++ h)
+frontedBy g (nextRecord h b c) = nextRecord (g ++ h) b c
 
 -- "its whole data records": their texts in file order
-abbrev pub texts : Cut → List (List ℕ)
-texts (rest g) = []
-texts (piece g b c) = b ∷ texts c
+abbrev pub texts : CutFile → List (List ℕ)
+texts (noMoreRecords g) = []
+texts (nextRecord g b c) = b ∷ texts c
 
 -- "among their places": the file with these texts, one for each record, in the records' places; all else stays
-abbrev pub filled : Cut → List (List ℕ) → List ℕ
-filled (rest g) ts = g
-filled (piece g b c) [] = g ++ (b ++ filled c [])
-filled (piece g b c) (t ∷ ts) = g ++ (t ++ filled c ts)
+abbrev pub fileWith : CutFile → List (List ℕ) → List ℕ
+fileWith (noMoreRecords g) ts = g
+fileWith (nextRecord g b c) [] = g ++ (b ++ fileWith c [])
+fileWith (nextRecord g b c) (t ∷ ts) = g ++ (t ++ fileWith c ts)
 
 -- the reader's own cut of the file s, from the rest xs on in a section: a statement that is no data record stays in what stands between.
 -- Every closed file has a cut, and only one (`closed-shaped`, `cuts-one` in Cuts.antt); with its own texts it is the file (`filled-own`)
-pub data Cuts (s : List ℕ) : Section → List ℕ → Cut → Type 0 where
+pub data Cuts (s : List ℕ) : Section → List ℕ → CutFile → Type 0 where
   -- the reading ends: "`END-ISO-10303-21` ends the reading", or the file does
-  over : {sec : Section} {xs : List ℕ} → statement s sec xs ≡ ends → Cuts s sec xs (rest xs)
+  over : {sec : Section} {xs : List ℕ} → statement s sec xs ≡ readingEnds → Cuts s sec xs (noMoreRecords xs)
   -- a section word or a record that is ignored: g is the statement with what leads up to it
-  turn : {sec to : Section} {xs r : List ℕ} {c : Cut} (g : List ℕ) → xs ≡ g ++ r → statement s sec xs ≡ moved to r → Cuts s to r c
-      → Cuts s sec xs (led g c)
+  turn : {sec to : Section} {xs r : List ℕ} {c : CutFile} (g : List ℕ) → xs ≡ g ++ r → statement s sec xs ≡ sectionNow to r → Cuts s to r c
+      → Cuts s sec xs (frontedBy g c)
   -- a header record: g is the statement with what leads up to it
-  heading : {sec : Section} {xs ys r : List ℕ} {w : HeaderRow} {c : Cut} (g : List ℕ) → xs ≡ g ++ r → statement s sec xs ≡ header w ys r
-      → Cuts s InHeader r c → Cuts s sec xs (led g c)
+  heading : {sec : Section} {xs ys r : List ℕ} {w : HeaderRow} {c : CutFile} (g : List ℕ) → xs ≡ g ++ r → statement s sec xs ≡ headerStatement w ys r
+      → Cuts s InHeader r c → Cuts s sec xs (frontedBy g c)
   -- a data record: after g its text b, its `;` and the rest
-  entry : {sec : Section} {xs g b r : List ℕ} {w : Row} {c : Cut} → xs ≡ g ++ (b ++ (59 ∷ r))
-      → statement s sec xs ≡ record′ w (b ++ (59 ∷ r)) r → Cuts s InData r c → Cuts s sec xs (piece g b (led (59 ∷ []) c))
+  entry : {sec : Section} {xs g b r : List ℕ} {w : Row} {c : CutFile} → xs ≡ g ++ (b ++ (59 ∷ r))
+      → statement s sec xs ≡ dataStatement w (b ++ (59 ∷ r)) r → Cuts s InData r c → Cuts s sec xs (nextRecord g b (frontedBy (59 ∷ []) c))
 
 -- two lists of the same texts, in another order
 pub data Permuted : List (List ℕ) → List (List ℕ) → Type 0 where
@@ -82,10 +82,10 @@ pub data Permuted : List (List ℕ) → List (List ℕ) → Type 0 where
   then : {ts us vs : List (List ℕ)} → Permuted ts us → Permuted us vs → Permuted ts vs
 
 -- the head of a data record's text has the id k
-abbrev pub named : ℕ → Head → Bool
-named k (Bad why) = false
-named k (Complex i o) = eqb i k
-named k (Simple i a z o) = eqb i k
+abbrev pub headHasId : ℕ → Head → Bool
+headHasId k (Bad why) = false
+headHasId k (Complex i o) = eqb i k
+headHasId k (Simple i a z o) = eqb i k
 
 -- the texts of which a test holds, in order
 unfoldable pub those : (List ℕ → Bool) → List (List ℕ) → List (List ℕ)
@@ -94,7 +94,7 @@ those p (b ∷ bs) = pick (p b) (b ∷ those p bs) (those p bs)
 
 -- "records with equal ids": the texts with the id k, in order
 abbrev pub ofId : ℕ → List (List ℕ) → List (List ℕ)
-ofId k bs = those (λ b. named k (dataHead b)) bs
+ofId k bs = those (λ b. headHasId k (dataHead b)) bs
 
 -- what an answer says, where it is one; false where it is a refusal
 abbrev pub truly : Told Bool → Bool
@@ -104,7 +104,7 @@ truly (bad q) = false
 -- "A unit context is a GEOMETRIC_REPRESENTATION_CONTEXT record, or a complex one with that part, whose first parameter reads as an integer":
 -- a data record's text is one, read as a file of its own (that it is one in its file too: Contexts.antt)
 unfoldable pub contextText : List ℕ → Bool
-contextText b = truly (onward (λ w. onward (isContext b) (thingOf b w)) (recordOf b b b))
+contextText b = truly (onward (λ w. onward (isContext b) (seenRecordOf b w)) (recordOf b b b))
 
 -- "the unit contexts": their texts, in order
 abbrev pub contextsIn : List (List ℕ) → List (List ℕ)
@@ -135,7 +135,7 @@ SameUnits (bad p) (good v) = ⊥
 SameUnits (bad p) (bad q) = p .number ≡ q .number
 
 -- what stays the same: s is the file, t its table, f the new file, and there is room for H header rows and R data rows
-pub record Same (s : List ℕ) (t : Table) (f : List ℕ) (H R : ℕ) : Type 0 where
+pub record SameAnswers (s : List ℕ) (t : Table) (f : List ℕ) (H R : ℕ) : Type 0 where
   -- the table of the new file
   pub after : Table
   -- "The new file is accepted with the same rooms"
@@ -153,4 +153,4 @@ pub record Same (s : List ℕ) (t : Table) (f : List ℕ) (H R : ℕ) : Type 0 w
 -- demand 3: s is an accepted file that is closed, c the reader's own cut of it, and us its records' texts rearranged
 abbrev pub Demand : Type 0
 Demand = (s : List ℕ) (H R : ℕ) (t : Table) → scanOf s H R ≡ good t → Closed s
-    → (c : Cut) → Cuts s Outside s c → (us : List (List ℕ)) → Rearranged (texts c) us → Same s t (filled c us) H R
+    → (c : CutFile) → Cuts s Outside s c → (us : List (List ℕ)) → Rearranged (texts c) us → SameAnswers s t (fileWith c us) H R

@@ -4,20 +4,20 @@ use Prim.Native.Nat.{ℕ, zero, suc, _+_, _*_, _/_, _%_, _-_, _^_, _≤_, _<_}
 use mathlib.Core.Path.{_≡_, refl, sym, _∙_, ap}
 use native.Mathlib.Omega.{arith}
 use Rattle.common.specs.Tests.{Avoids, avoided}
-use Rattle.pages.specs.Tables.{entry}
+use Rattle.pages.specs.Tables.{pageEntry}
 use Rattle.pages.specs.Right.{entry-below, entry-past, entry-none}
 
 -- four numbers of 16 bits in one, the first highest
-abbrev pub four : ℕ → ℕ → ℕ → ℕ → ℕ
-four a b c d = ((a * 0x1_0000 + b) * 0x1_0000 + c) * 0x1_0000 + d
+abbrev pub packedFour : ℕ → ℕ → ℕ → ℕ → ℕ
+packedFour a b c d = ((a * 0x1_0000 + b) * 0x1_0000 + c) * 0x1_0000 + d
 
 -- the characters of page p for the four codes from A0 + 4k on
 abbrev pub packed : ℕ → ℕ → ℕ
-packed p k = four (entry p (0xA0 + 4 * k)) (entry p (0xA1 + 4 * k)) (entry p (0xA2 + 4 * k)) (entry p (0xA3 + 4 * k))
+packed p k = packedFour (pageEntry p (0xA0 + 4 * k)) (pageEntry p (0xA1 + 4 * k)) (pageEntry p (0xA2 + 4 * k)) (pageEntry p (0xA3 + 4 * k))
 
 -- where a test has found the line k to be j, the four characters of line j are those of line k
-pub found : (p j : ℕ) {k : ℕ} → k ≡ j → packed p j ≡ packed p k
-found p j e = ap (packed p) (sym e)
+pub line-found : (p j : ℕ) {k : ℕ} → k ≡ j → packed p j ≡ packed p k
+line-found p j e = ap (packed p) (sym e)
 
 -- where a test has found the page p to be q, the four characters of page q are those of page p
 pub turned-to : (q k : ℕ) {p : ℕ} → p ≡ q → packed q k ≡ packed p k
@@ -28,7 +28,7 @@ abbrev nothing : ℕ
 nothing = 0xFFFD_FFFD_FFFD_FFFD
 
 -- where all codes from the first of four on are undefined, so are the four
-none-four : (p k : ℕ) → ((n : ℕ) → 0xA0 + 4 * k ≤ n → 0xFFFD ≡ entry p n) → nothing ≡ packed p k
+none-four : (p k : ℕ) → ((n : ℕ) → 0xA0 + 4 * k ≤ n → 0xFFFD ≡ pageEntry p n) → nothing ≡ packed p k
 none-four p k f = rw (sym (f (0xA0 + 4 * k) (omega arith)), sym (f (0xA1 + 4 * k) (omega arith)), sym (f (0xA2 + 4 * k) (omega arith)), sym (f (0xA3 + 4 * k) (omega arith))) refl
 
 -- where k is none of the 24 lines, its codes lie above FF, and all four are undefined
@@ -42,24 +42,24 @@ no-page k {p} h l = let m = avoided 1 8 p l h in none-four p k (λ n e. entry-no
 -- one code k of four, read from the number w that packs the four
 module _ (p k w : ℕ) (e : w ≡ packed p (k / 4)) where
   -- a code whose place among its four is i comes i after the first of the four
-  at-code : (i : ℕ) → k % 4 ≡ i → entry p (0xA0 + i + 4 * (k / 4)) ≡ entry p (0xA0 + k)
-  at-code i h = let z : 0xA0 + i + 4 * (k / 4) ≡ 0xA0 + k = omega arith in ap (entry p) z
+  at-code : (i : ℕ) → k % 4 ≡ i → pageEntry p (0xA0 + i + 4 * (k / 4)) ≡ pageEntry p (0xA0 + k)
+  at-code i h = let z : 0xA0 + i + 4 * (k / 4) ≡ 0xA0 + k = omega arith in ap (pageEntry p) z
 
   -- what four shifts give of four codes in one number: the character of each
-  quarters : (w / 0x1_0000_0000_0000 % 0x1_0000 ≡ entry p (0xA0 + 4 * (k / 4))) × (w / 0x1_0000_0000 % 0x1_0000 ≡ entry p (0xA1 + 4 * (k / 4))) × (w / 0x1_0000 % 0x1_0000 ≡ entry p (0xA2 + 4 * (k / 4))) × (w / 1 % 0x1_0000 ≡ entry p (0xA3 + 4 * (k / 4)))
+  quarters : (w / 0x1_0000_0000_0000 % 0x1_0000 ≡ pageEntry p (0xA0 + 4 * (k / 4))) × (w / 0x1_0000_0000 % 0x1_0000 ≡ pageEntry p (0xA1 + 4 * (k / 4))) × (w / 0x1_0000 % 0x1_0000 ≡ pageEntry p (0xA2 + 4 * (k / 4))) × (w / 1 % 0x1_0000 ≡ pageEntry p (0xA3 + 4 * (k / 4)))
   quarters =
-      split (entry p (0xA0 + 4 * (k / 4))) (entry p (0xA1 + 4 * (k / 4))) (entry p (0xA2 + 4 * (k / 4))) (entry p (0xA3 + 4 * (k / 4)))
+      split (pageEntry p (0xA0 + 4 * (k / 4))) (pageEntry p (0xA1 + 4 * (k / 4))) (pageEntry p (0xA2 + 4 * (k / 4))) (pageEntry p (0xA3 + 4 * (k / 4)))
       (entry-below p (0xA0 + 4 * (k / 4))) (entry-below p (0xA1 + 4 * (k / 4))) (entry-below p (0xA2 + 4 * (k / 4))) (entry-below p (0xA3 + 4 * (k / 4))) e
     where
-      split : (a b c d : ℕ) → a < 0x1_0000 → b < 0x1_0000 → c < 0x1_0000 → d < 0x1_0000 → w ≡ four a b c d
+      split : (a b c d : ℕ) → a < 0x1_0000 → b < 0x1_0000 → c < 0x1_0000 → d < 0x1_0000 → w ≡ packedFour a b c d
           → (w / 0x1_0000_0000_0000 % 0x1_0000 ≡ a) × (w / 0x1_0000_0000 % 0x1_0000 ≡ b) × (w / 0x1_0000 % 0x1_0000 ≡ c) × (w / 1 % 0x1_0000 ≡ d)
       split a b c d ha hb hc hd f = (omega arith, omega arith, omega arith, omega arith)
 
   -- what the shift for code k gives of four codes in one number: the character of k
-  pub quarter : w / 2 ^ (48 - k % 4 * 16) % 0x1_0000 ≡ entry p (0xA0 + k)
+  pub quarter : w / 2 ^ (48 - k % 4 * 16) % 0x1_0000 ≡ pageEntry p (0xA0 + k)
   quarter = go (k % 4) refl (omega arith)
     where
-      go : (i : ℕ) → k % 4 ≡ i → i < 4 → w / 2 ^ (48 - i * 16) % 0x1_0000 ≡ entry p (0xA0 + k)
+      go : (i : ℕ) → k % 4 ≡ i → i < 4 → w / 2 ^ (48 - i * 16) % 0x1_0000 ≡ pageEntry p (0xA0 + k)
       go zero h l = quarters .0 ∙ at-code 0 h
       go (suc zero) h l = quarters .1 ∙ at-code 1 h
       go (suc (suc zero)) h l = quarters .2 ∙ at-code 2 h

@@ -13,7 +13,7 @@ use Rattle.common.specs.Pick.{pick}
 use Rattle.common.specs.Tests.{both, in-range, neither}
 use Rattle.utf8.specs.Utf8.{scalar}
 use Rattle.utf8.specs.Laws.{scalar-low}
-use Rattle.utf8.specs.Table.{In}
+use Rattle.utf8.specs.Rfc3629.{In}
 use Rattle.pages.specs.Tables
 use Rattle.pages.specs.Pages.{pageOf, codeOf}
 use Rattle.pages.specs.Rules.{pageA}
@@ -97,9 +97,9 @@ counts i [] = true
 counts i (x ∷ xs) = eqb x i && counts (suc i) xs
 
 -- every table passes a test
-abbrev pub every : (List ℕ → Bool) → List (List ℕ) → Bool
-every f [] = true
-every f (x ∷ xs) = f x && every f xs
+abbrev pub everyTable : (List ℕ → Bool) → List (List ℕ) → Bool
+everyTable f [] = true
+everyTable f (x ∷ xs) = f x && everyTable f xs
 
 -- a test that passes at each number of a list passes at each place, and past the end where it passes at what stands for none
 each-at : (f : ℕ → Bool) (xs : List ℕ) (k d : ℕ) → each f xs ≡ true → f d ≡ true → f (getD xs k d) ≡ true
@@ -114,19 +114,19 @@ counts-at i (x ∷ xs) zero d e h = let z = eqb-true x i (both (eqb x i) (counts
 counts-at i (x ∷ xs) (suc k) d e h = let z = counts-at (suc i) xs k d (both (eqb x i) (counts (suc i) xs) e .1) (omega arith) in omega arith
 
 -- a test that every table passes is passed by the table at k, and past the last by what stands for none
-every-at : (f : List ℕ → Bool) (xs : List (List ℕ)) (k : ℕ) → every f xs ≡ true → f [] ≡ true → f (getD xs k []) ≡ true
+every-at : (f : List ℕ → Bool) (xs : List (List ℕ)) (k : ℕ) → everyTable f xs ≡ true → f [] ≡ true → f (getD xs k []) ≡ true
 every-at f [] k e h = h
-every-at f (x ∷ xs) zero e h = both (f x) (every f xs) e .0
-every-at f (x ∷ xs) (suc k) e h = every-at f xs k (both (f x) (every f xs) e .1) h
+every-at f (x ∷ xs) zero e h = both (f x) (everyTable f xs) e .0
+every-at f (x ∷ xs) (suc k) e h = every-at f xs k (both (f x) (everyTable f xs) e .1) h
 
 -- every number of every table is a Unicode scalar: tried one by one
-all-scalar : every (each scalar) Tables.pages ≡ true
+all-scalar : everyTable (each scalar) Tables.pages ≡ true
 unfolding Tables.pages Tables.latin1 Tables.latin2 Tables.latin3 Tables.latin4 Tables.cyrillic Tables.arabic Tables.greek Tables.hebrew Tables.latin5
 all-scalar = refl
 
 -- "One rule over all nine tables: each entry is a Unicode scalar"
-pub entry-scalar : (p n : ℕ) → scalar (Tables.entry p n) ≡ true
-unfolding Tables.entry
+pub entry-scalar : (p n : ℕ) → scalar (Tables.pageEntry p n) ≡ true
+unfolding Tables.pageEntry
 entry-scalar p n = each-at scalar (getD Tables.pages p []) (n - 0xA0) 0xFFFD (every-at (each scalar) Tables.pages p all-scalar refl) refl
 
 -- a number has at most 16 bits
@@ -134,47 +134,47 @@ abbrev narrow : ℕ → Bool
 narrow x = ltb x 0x1_0000
 
 -- every number of every table has at most 16 bits: tried one by one
-all-narrow : every (each narrow) Tables.pages ≡ true
+all-narrow : everyTable (each narrow) Tables.pages ≡ true
 unfolding Tables.pages Tables.latin1 Tables.latin2 Tables.latin3 Tables.latin4 Tables.cyrillic Tables.arabic Tables.greek Tables.hebrew Tables.latin5
 all-narrow = refl
 
 -- each entry of the tables has at most 16 bits
-pub entry-below : (p n : ℕ) → Tables.entry p n < 0x1_0000
-unfolding Tables.entry
-entry-below p n = ltb-true (Tables.entry p n) 0x1_0000 (each-at narrow (getD Tables.pages p []) (n - 0xA0) 0xFFFD (every-at (each narrow) Tables.pages p all-narrow refl) refl)
+pub entry-below : (p n : ℕ) → Tables.pageEntry p n < 0x1_0000
+unfolding Tables.pageEntry
+entry-below p n = ltb-true (Tables.pageEntry p n) 0x1_0000 (each-at narrow (getD Tables.pages p []) (n - 0xA0) 0xFFFD (every-at (each narrow) Tables.pages p all-narrow refl) refl)
 
 -- a table has 96 codes
-abbrev pub whole : List ℕ → Bool
-whole t = eqb (length t) 96
+abbrev pub hasAllCodes : List ℕ → Bool
+hasAllCodes t = eqb (length t) 96
 
 -- there are nine tables, and each has 96 codes
-pub all-whole : (length Tables.pages ≡ 9) × (every whole Tables.pages ≡ true)
+pub all-whole : (length Tables.pages ≡ 9) × (everyTable hasAllCodes Tables.pages ≡ true)
 unfolding Tables.pages Tables.latin1 Tables.latin2 Tables.latin3 Tables.latin4 Tables.cyrillic Tables.arabic Tables.greek Tables.hebrew Tables.latin5
 all-whole = (refl, refl)
 
 -- a test that every table passes is passed by the table at k, where there is one
-every-in : (f : List ℕ → Bool) (xs : List (List ℕ)) (k : ℕ) → every f xs ≡ true → k < length xs → f (getD xs k []) ≡ true
+every-in : (f : List ℕ → Bool) (xs : List (List ℕ)) (k : ℕ) → everyTable f xs ≡ true → k < length xs → f (getD xs k []) ≡ true
 every-in f [] k e h = absurd (omega arith)
-every-in f (x ∷ xs) zero e h = both (f x) (every f xs) e .0
-every-in f (x ∷ xs) (suc k) e h = every-in f xs k (both (f x) (every f xs) e .1) (omega arith)
+every-in f (x ∷ xs) zero e h = both (f x) (everyTable f xs) e .0
+every-in f (x ∷ xs) (suc k) e h = every-in f xs k (both (f x) (everyTable f xs) e .1) (omega arith)
 
 -- a page from number 9 on comes after the last
 past : (p : ℕ) → 9 ≤ p → length Tables.pages ≤ p
 past p h = omega (arith, all-whole .0)
 
 -- on a page that there is not no code is defined
-pub entry-none : (p n : ℕ) → 9 ≤ p → 0xFFFD ≡ Tables.entry p n
-unfolding Tables.entry
+pub entry-none : (p n : ℕ) → 9 ≤ p → 0xFFFD ≡ Tables.pageEntry p n
+unfolding Tables.pageEntry
 entry-none p n h = ap (λ (t : List ℕ). getD t (n - 0xA0) 0xFFFD) (sym (List·getD-eq-default Tables.pages [] (past p h)))
 
 -- a code above FF is not defined on any page
-pub entry-past : (p n : ℕ) → 0xFF < n → 0xFFFD ≡ Tables.entry p n
-unfolding Tables.entry
+pub entry-past : (p n : ℕ) → 0xFF < n → 0xFFFD ≡ Tables.pageEntry p n
+unfolding Tables.pageEntry
 entry-past p n h = go (decLt p 9)
   where
-    go : Dec (p < 9) → 0xFFFD ≡ Tables.entry p n
+    go : Dec (p < 9) → 0xFFFD ≡ Tables.pageEntry p n
     go (yes l) =
-        let e = eqb-true (length (getD Tables.pages p [])) 96 (every-in whole Tables.pages p (all-whole .1) (omega (arith, all-whole .0))) in
+        let e = eqb-true (length (getD Tables.pages p [])) 96 (every-in hasAllCodes Tables.pages p (all-whole .1) (omega (arith, all-whole .0))) in
         let k : length (getD Tables.pages p []) ≤ n - 0xA0 = omega arith in
         sym (List·getD-eq-default (getD Tables.pages p []) 0xFFFD k)
     go (no l) = entry-none p n (omega arith)
@@ -190,8 +190,8 @@ unfolding Tables.pages Tables.latin1
 a-long n h = omega arith
 
 -- "page A is the identity"
-pub page-a : (n : ℕ) → In 0xA0 0xFF n → Tables.entry 0 n ≡ n
-unfolding Tables.entry
+pub page-a : (n : ℕ) → In 0xA0 0xFF n → Tables.pageEntry 0 n ≡ n
+unfolding Tables.pageEntry
 page-a n (l, h) = let e = counts-at 0xA0 (getD Tables.pages 0 []) (n - 0xA0) 0xFFFD a-counts (a-long n h) in omega arith
 
 -- on page A each sum is its own character, and `\S\` gives what it gave before there were pages
@@ -206,7 +206,7 @@ code-a n = go (within 0xA0 0xFF n)
 pub code-scalar : (p n : ℕ) → n < 55296 → scalar (codeOf p n) ≡ true
 code-scalar p n h = go (leb 0xA0 n && leb n 0xFF)
   where
-    go : (t : Bool) → scalar (pick t (Tables.entry p n) n) ≡ true
+    go : (t : Bool) → scalar (pick t (Tables.pageEntry p n) n) ≡ true
     go true = entry-scalar p n
     go false = scalar-low n h
 
@@ -236,10 +236,10 @@ code-same p n e = go (within 0xA0 0xFF n)
     go (no h) = rw (beyond 0xA0 0xFF n h) refl
 
 -- a sum from A0 to FF is the character that the page's table has for it
-pub code-listed : (p n : ℕ) → ltb n 160 || ltb 255 n ≡ false → (In 0xA0 0xFF n) × ((c : ℕ) → c ≡ Tables.entry p (0xA0 + (n - 160)) → c ≡ codeOf p n)
+pub code-listed : (p n : ℕ) → ltb n 160 || ltb 255 n ≡ false → (In 0xA0 0xFF n) × ((c : ℕ) → c ≡ Tables.pageEntry p (0xA0 + (n - 160)) → c ≡ codeOf p n)
 code-listed p n e =
     let (b, c) = neither (ltb n 160) (ltb 255 n) e in
     let l = ltb-false n 160 b in
     let h = ltb-false 255 n c in
     let z : 0xA0 + (n - 160) ≡ n = omega arith in
-    ((l, h), λ c k. k ∙ ap (Tables.entry p) z ∙ rw (in-range 0xA0 n 0xFF l h) refl)
+    ((l, h), λ c k. k ∙ ap (Tables.pageEntry p) z ∙ rw (in-range 0xA0 n 0xFF l h) refl)

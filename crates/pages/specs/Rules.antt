@@ -2,8 +2,8 @@
 -- Pages.antt computes just this, and that there is no other answer. `A` is 65, `I` 73, `a` 97 and `i` 105. Assumes nothing.
 -- Definitions to be believed: no law, and nothing computed that no theorem ties (docs/BELIEVE.md).
 use Prim.Native.Nat.{ℕ, _+_, _<_}
-use Rattle.utf8.specs.Table.{In}
-use Rattle.pages.specs.Tables.{entry}
+use Rattle.utf8.specs.Rfc3629.{In}
+use Rattle.pages.specs.Tables.{pageEntry}
 
 -- the page that a byte selects
 pub data Selects : ℕ → ℕ → Type 0 where
@@ -17,7 +17,7 @@ pub data Selects : ℕ → ℕ → Type 0 where
 -- the character that a sum gives on a page
 pub data Coded : ℕ → ℕ → ℕ → Type 0 where
   -- "the tables for codes A0 to FF"
-  listed : {p n : ℕ} → In 0xA0 0xFF n → Coded p n (entry p n)
+  listed : {p n : ℕ} → In 0xA0 0xFF n → Coded p n (pageEntry p n)
   -- "sums outside A0 to FF stay as before": the sum is the character
   outside : {p n : ℕ} → (In 0xA0 0xFF n → ⊥) → Coded p n n
 

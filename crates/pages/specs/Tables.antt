@@ -102,5 +102,5 @@ unfoldable pub pages : List (List ℕ)
 pages = latin1 ∷ latin2 ∷ latin3 ∷ latin4 ∷ cyrillic ∷ arabic ∷ greek ∷ hebrew ∷ latin5 ∷ []
 
 -- the character that page number p has for a code from A0 to FF
-unfoldable pub entry : ℕ → ℕ → ℕ
-entry p n = getD (getD pages p []) (n - 0xA0) 0xFFFD
+unfoldable pub pageEntry : ℕ → ℕ → ℕ
+pageEntry p n = getD (getD pages p []) (n - 0xA0) 0xFFFD

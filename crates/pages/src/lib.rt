@@ -5,7 +5,7 @@ mod tables;
 
 ghost use mathlib.Core.Path.{_≡_};
 ghost use Prim.Native.Nat.{_+_, _<_};
-ghost use Rattle.pages.specs.Tables.{entry};
+ghost use Rattle.pages.specs.Tables.{pageEntry};
 ghost use Rattle.pages.specs.Pages.{pageOf, codeOf};
 ghost use Rattle.pages.specs.Packed.{packed};
 
@@ -43,7 +43,7 @@ fn line(page: usize, k: usize) -> u64
 // The character of a code, counted from A0, on another page than A.
 fn listed(page: usize, k: usize) -> u64
     requires { ⌜ 0 < page ⌝ }
-    ensures { λ r. ⌜ r ≡ entry page (160 + k) ⌝ }
+    ensures { λ r. ⌜ r ≡ pageEntry page (160 + k) ⌝ }
 {
     (line(page, k / 4) >> (48 - k % 4 * 16)) % 0x1_0000
 }

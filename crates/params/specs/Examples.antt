@@ -7,14 +7,14 @@ use Rattle.error.specs.Refusal.{refusal, good, bad}
 use Rattle.common.specs.Walk.{walk}
 use Rattle.lex.specs.Search.{trivia}
 use Rattle.lex.specs.Grammar.{Trivia}
-use Rattle.params.specs.Grammar.{Parameter, Whole, Trails, Bound}
-use Rattle.params.specs.Cut.{cutOf, started}
+use Rattle.params.specs.Grammar.{Parameter, RunsToToken, Trails, Bound}
+use Rattle.params.specs.ParameterEnd.{cutOf, started}
 use Rattle.params.specs.Reader.{paramOf}
 use Rattle.params.specs.Answer.{reading, span}
 
 -- "An empty parameter is a parameter", by the rules
 pub empty-parameter : (r : List ℕ) → Parameter (44 ∷ r) (44 ∷ r) (44 ∷ r)
-empty-parameter r = record { depth = 0; whole = Whole.none; trails = Trails.shut Trivia.none; bounds = Bound.comma }
+empty-parameter r = record { depth = 0; whole = RunsToToken.none; trails = Trails.shut Trivia.none; bounds = Bound.comma }
 
 -- `A(1,)` has one parameter
 one-parameter : paramOf (49 ∷ 44 ∷ []) 0 2 ≡ reading (good (span 0 1)) 2 2

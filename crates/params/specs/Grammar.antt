@@ -1,13 +1,13 @@
 -- What document 01 means by a parameter, as rules of a grammar that name no loop. A rule speaks of the bytes up to the reader's end,
 -- xs, and of the rest that is left of them. Strings, comments and trivia are the scan's (lex/specs/Grammar.antt). Right.antt shows that
--- Cut.antt computes just these, and that there is no other. Assumes nothing.
+-- ParameterEnd.antt computes just these, and that there is no other. Assumes nothing.
 -- Definitions to be believed: no law, and nothing computed that no theorem ties (docs/BELIEVE.md).
 use Prim.Native.Nat.{ℕ, zero, suc}
 use mathlib.Core.Path.{_≡_}
 use mathlib.Core.Bool.{Bool, true, false}
 use mathlib.Core.List.{List, [], _∷_, _++_}
 use Rattle.lex.specs.Byte.{white}
-use Rattle.lex.specs.Grammar.{Begins, Opens, Comment, Quotation, Trivia, Led, OpenText, OpenRemark}
+use Rattle.lex.specs.Grammar.{Begins, OpensComment, Comment, Quotation, Trivia, Led, OpenText, OpenRemark}
 
 -- the byte does not occur in the list
 abbrev pub Without : ℕ → List ℕ → Type 0
@@ -28,7 +28,7 @@ pub record Ordinary (c : ℕ) (xs : List ℕ) : Type 0 where
   pub unblank : white c ≡ false
   pub unquoted : c ≡ 39 → ⊥
   pub unbinary : c ≡ 34 → ⊥
-  pub unopened : Opens (c ∷ xs) → ⊥
+  pub unopened : OpensComment (c ∷ xs) → ⊥
   pub opening : c ≡ 40 → ⊥
   pub closing : c ≡ 41 → ⊥
   pub comma : c ≡ 44 → ⊥
@@ -58,9 +58,9 @@ pub data Runs : ℕ → List ℕ → ℕ → List ℕ → Type 0 where
   comment : {d e : ℕ} {xs ys zs : List ℕ} → Runs d xs e ys → Comment ys zs → Runs d xs e zs
 
 -- from xs at depth d up to ys at depth e no comma at depth 0, and what is read ends in no trivia: it is empty, or its last is a token
-pub data Whole : ℕ → List ℕ → ℕ → List ℕ → Type 0 where
-  none : {d : ℕ} {xs : List ℕ} → Whole d xs d xs
-  last : {d e f : ℕ} {xs ys zs : List ℕ} → Runs d xs e ys → Token e ys f zs → Whole d xs f zs
+pub data RunsToToken : ℕ → List ℕ → ℕ → List ℕ → Type 0 where
+  none : {d : ℕ} {xs : List ℕ} → RunsToToken d xs d xs
+  last : {d e f : ℕ} {xs ys zs : List ℕ} → Runs d xs e ys → Token e ys f zs → RunsToToken d xs f zs
 
 -- "trailing trivia", where "an open comment runs to the end"
 pub data Trails : List ℕ → List ℕ → Type 0 where
@@ -76,7 +76,7 @@ pub data Bound : ℕ → List ℕ → Type 0 where
 -- stops before `stop`, and its comma or the end is at `bound`
 pub record Parameter (xs stop bound : List ℕ) : Type 0 where
   pub depth : ℕ
-  pub whole : Whole 0 xs depth stop
+  pub whole : RunsToToken 0 xs depth stop
   pub trails : Trails stop bound
   pub bounds : Bound depth bound
 

@@ -1,6 +1,6 @@
 pub mod Grammar
 pub mod Answer
-pub mod Cut
+pub mod ParameterEnd
 pub mod Seek
 pub mod Reader
 pub mod Skips

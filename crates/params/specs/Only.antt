@@ -9,14 +9,14 @@ use lib.ListN.{length, drop, length-drop}
 use Rattle.common.specs.Compare.{clash}
 use Rattle.error.specs.Refusal.{Told, good, bad}
 use Rattle.error.specs.Only.{faultOf, faultOf-told}
-use Rattle.params.specs.Cut.{cutOf}
-use Rattle.params.specs.Answer.{Cut, Read, Span, toldCut, toldOpened, toldEmptiness, toldSkipped, endedAt, EndedIn}
+use Rattle.params.specs.ParameterEnd.{cutOf}
+use Rattle.params.specs.Answer.{ParamEnd, Read, Span, toldNextParam, toldOpenedReader, toldEmptiness, toldSkipped, endedAt, EndedIn}
 use Rattle.params.specs.declared.State.{State}
 use Rattle.params.specs.declared.Ended.{Ended}
 use Rattle.params.specs.declared.Ended.the-variants.{At, Open}
-use Rattle.params.specs.declared.Cut as CutCode
-use Rattle.params.specs.declared.Opened.{Opened}
-use Rattle.params.specs.declared.Opened as OpenedCode
+use Rattle.params.specs.declared.NextParam as CutCode
+use Rattle.params.specs.declared.OpenedReader.{OpenedReader}
+use Rattle.params.specs.declared.OpenedReader as OpenedCode
 use Rattle.params.specs.declared.Emptiness.{Emptiness}
 use Rattle.params.specs.declared.Emptiness as EmptyCode
 use Rattle.params.specs.declared.Skipped.{Skipped}
@@ -27,34 +27,34 @@ abbrev stateOf : {A : Type 0} → Read A → State
 stateOf r = record { place = r .place; end = r .end }
 
 -- the code's answer about the next parameter that tells this
-cutBack : Told Span → State → CutCode.Cut
+cutBack : Told Span → State → CutCode.NextParam
 cutBack (good a) t = CutCode.the-variants.Span (a .start) (a .stop) t
 cutBack (bad q) t = CutCode.the-variants.Refused (faultOf q) t
 
 -- what an answer about the next parameter tells gives back that answer
-cut-told : (a : CutCode.Cut) → cutBack (toldCut a .answer) (stateOf (toldCut a)) ≡ a
+cut-told : (a : CutCode.NextParam) → cutBack (toldNextParam a .answer) (stateOf (toldNextParam a)) ≡ a
 unfolding cutBack
 cut-told (CutCode.the-variants.Span a z t) = refl
 cut-told (CutCode.the-variants.Refused f t) = ap (λ g. CutCode.the-variants.Refused g t) (faultOf-told f)
 
 -- `param_span` has one answer: two that tell the same are one
-pub cut-only : (a b : CutCode.Cut) → toldCut a ≡ toldCut b → a ≡ b
-cut-only a b e = sym (cut-told a) ∙ ap (λ (r : Read Span). cutBack (r .answer) (stateOf r)) e ∙ cut-told b
+pub next-param-only : (a b : CutCode.NextParam) → toldNextParam a ≡ toldNextParam b → a ≡ b
+next-param-only a b e = sym (cut-told a) ∙ ap (λ (r : Read Span). cutBack (r .answer) (stateOf r)) e ∙ cut-told b
 
 -- the code's answer about a new reader that tells this
-openedBack : Told State → Opened
+openedBack : Told State → OpenedReader
 openedBack (good t) = OpenedCode.the-variants.Reader t
 openedBack (bad q) = OpenedCode.the-variants.Refused (faultOf q)
 
 -- what an answer about a new reader tells gives back that answer
-opened-told : (a : Opened) → openedBack (toldOpened a) ≡ a
+opened-told : (a : OpenedReader) → openedBack (toldOpenedReader a) ≡ a
 unfolding openedBack
 opened-told (OpenedCode.the-variants.Reader t) = refl
 opened-told (OpenedCode.the-variants.Refused f) = ap OpenedCode.the-variants.Refused (faultOf-told f)
 
 -- `new` has one answer: two that tell the same are one
-pub opened-only : (a b : Opened) → toldOpened a ≡ toldOpened b → a ≡ b
-opened-only a b e = sym (opened-told a) ∙ ap openedBack e ∙ opened-told b
+pub opened-reader-only : (a b : OpenedReader) → toldOpenedReader a ≡ toldOpenedReader b → a ≡ b
+opened-reader-only a b e = sym (opened-told a) ∙ ap openedBack e ∙ opened-told b
 
 -- the code's answer about whether no parameter is left that tells this
 emptyBack : Told Bool → State → Emptiness

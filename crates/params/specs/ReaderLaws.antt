@@ -18,15 +18,15 @@ use Rattle.lex.specs.Search.{trivia}
 use Rattle.lex.specs.Answer.{Sought, at, fault, placed}
 use Rattle.lex.specs.At.{trivia-at}
 use Rattle.lex.specs.Right.{trivia-here}
-use Rattle.params.specs.Cut.{cutOf, runsOut, started, eaten}
-use Rattle.params.specs.Answer.{Cut, cut, unclosed, Read, reading, Span, span, inFile, CutIn}
-use Rattle.params.specs.Reader.{bounded, begun, paramOf}
+use Rattle.params.specs.ParameterEnd.{cutOf, runsOut, started, eaten}
+use Rattle.params.specs.Answer.{ParamEnd, stopsBefore, literalOpen, Read, reading, Span, span, readerInFile, NextParamIn}
+use Rattle.params.specs.Reader.{bounded, paramBegun, paramOf}
 use Rattle.params.specs.Skips.{emptied, emptyOf, skipOf, andThen, skipFrom, skipsOf}
 use Rattle.params.specs.declared.State.{State}
-use Rattle.params.specs.declared.Cut as Code
+use Rattle.params.specs.declared.NextParam as Code
 
 -- where the test for a place and an end in a file of n bytes passes, they lie in it and not backwards
-pub in-true : (n p e : ℕ) → inFile n p e ≡ true → (p ≤ e) × (e ≤ n)
+pub in-true : (n p e : ℕ) → readerInFile n p e ≡ true → (p ≤ e) × (e ≤ n)
 in-true n p e h = let (a, b) = both (leb p e) (leb e n) h in (leb-true p e a, leb-true e n b)
 
 -- where the search past trivia answers a place, what is left there is what is left after trivia
@@ -51,7 +51,7 @@ started-here xs i h e = let (a, b) = both (ltb 32 (getD xs i 0)) (not (eqb (getD
     let w : white (getD xs i 0) ≡ false = rw (ne-eqb (getD xs i 0) 32 (λ q. absurd (omega arith)), ne-eqb (getD xs i 0) 9 (λ q. absurd (omega arith)), ne-eqb (getD xs i 0) 10 (λ q. absurd (omega arith)), ne-eqb (getD xs i 0) 12 (λ q. absurd (omega arith)), ne-eqb (getD xs i 0) 13 (λ q. absurd (omega arith))) refl in
     rw (split xs i h) (ap runsOut (trivia-here (getD xs i 0) (drop (i + 1) xs) w (eqb-false (getD xs i 0) 47 (not-true (eqb (getD xs i 0) 47) b))))
 
-module _ (s : List ℕ) (p e : ℕ) (inside : inFile (length s) p e ≡ true) (start : ℕ) (begins : drop start (take e s) ≡ started (drop p (take e s))) (short : start ≤ e) where
+module _ (s : List ℕ) (p e : ℕ) (inside : readerInFile (length s) p e ≡ true) (start : ℕ) (begins : drop start (take e s) ≡ started (drop p (take e s))) (short : start ≤ e) where
   -- the bytes up to the reader's end are e in number
   total : length (take e s) ≡ e
   total = length-take-le e s (in-true (length s) p e inside .1)
@@ -91,11 +91,11 @@ module _ (s : List ℕ) (p e : ℕ) (inside : inFile (length s) p e ≡ true) (s
       rw (inside, ← begins, drop-end (take e s) start (omega (arith, total))) (ap (λ (k : ℕ). reading (bad (refusal 10 0 k)) k e) (sym r))
 
   -- what starts before the reader's end is bounded by the parameter's end
-  begun-at : start < e → bounded (take e s) e (drop start (take e s)) (cutOf (drop start (take e s))) ≡ begun (take e s) e (drop start (take e s))
+  begun-at : start < e → bounded (take e s) e (drop start (take e s)) (cutOf (drop start (take e s))) ≡ paramBegun (take e s) e (drop start (take e s))
   begun-at h = rw (split (take e s) start (omega (arith, total))) refl
 
   -- a parameter that is cut is the answer, and the reader stands past its comma or at the end
-  pub param-cut : start < e → (z b : ℕ) → z ≤ e → b ≤ e → cut (drop z (take e s)) (drop b (take e s)) ≡ cutOf (drop start (take e s))
+  pub param-cut : start < e → (z b : ℕ) → z ≤ e → b ≤ e → stopsBefore (drop z (take e s)) (drop b (take e s)) ≡ cutOf (drop start (take e s))
       → reading (good (span start z)) (min (b + 1) e) e ≡ paramOf s p e
   unfolding paramOf
   param-cut h z b hz hb k =
@@ -107,7 +107,7 @@ module _ (s : List ℕ) (p e : ℕ) (inside : inFile (length s) p e ≡ true) (s
       ∙ begun-at h)
 
   -- a parameter with an open literal is 11 at the literal's quote, and the reader stands at the parameter's start
-  pub param-open : start < e → (q : ℕ) → q ≤ e → unclosed (drop q (take e s)) ≡ cutOf (drop start (take e s))
+  pub param-open : start < e → (q : ℕ) → q ≤ e → literalOpen (drop q (take e s)) ≡ cutOf (drop start (take e s))
       → reading (bad (refusal 11 0 q)) start e ≡ paramOf s p e
   unfolding paramOf
   param-open h q hq k =
@@ -137,10 +137,10 @@ unfolding skipFrom
 skip-ends n s p e h = rw h refl
 
 -- a reader whose place and end lie in the file skips n parameters as `skipFrom` says
-pub skips-in : (n : ℕ) (s : List ℕ) (p e : ℕ) → inFile (length s) p e ≡ true → skipFrom n s p e ≡ skipsOf n s p e
+pub skips-in : (n : ℕ) (s : List ℕ) (p e : ℕ) → readerInFile (length s) p e ≡ true → skipFrom n s p e ≡ skipsOf n s p e
 unfolding skipsOf
 skips-in n s p e h = rw h refl
 
 -- a parameter that is cut lies in the file, and runs forwards
-pub cut-places : (n : ℕ) (r : Code.Cut) (a z : ℕ) (t : State) → CutIn n r → r ≡ Code.the-variants.Span a z t → (a ≤ z) × (z ≤ n)
-cut-places n r a z t h e = subst (CutIn n) e h
+pub cut-places : (n : ℕ) (r : Code.NextParam) (a z : ℕ) (t : State) → NextParamIn n r → r ≡ Code.the-variants.Span a z t → (a ≤ z) × (z ≤ n)
+cut-places n r a z t h e = subst (NextParamIn n) e h

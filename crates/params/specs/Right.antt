@@ -1,4 +1,4 @@
--- Cut.antt computes just the parameters of Grammar.antt: what is computed is one, and there is no other; and refusal 11 means what it
+-- ParameterEnd.antt computes just the parameters of Grammar.antt: what is computed is one, and there is no other; and refusal 11 means what it
 -- says there. Strings, comments and trivia by the scan's theorems (lex/specs/Right.antt). Assumes nothing.
 use Prim.Native.Nat.{ℕ, zero, suc, _-_, _≤_, _<_}
 use mathlib.Core.Path.{_≡_, refl, sym, _∙_, ap}
@@ -14,21 +14,21 @@ use Rattle.common.specs.Pick.{pick}
 use Rattle.common.specs.Compare.{clash}
 use Rattle.lex.specs.Byte.{white}
 use Rattle.common.specs.Walk.{walk}
-use Rattle.lex.specs.Lexer.{calm, fresh, next}
+use Rattle.lex.specs.Lexer.{calm, fresh, nextMode}
 use Rattle.lex.specs.Search.{trivia}
 use Rattle.lex.specs.Answer.{Sought, at, fault}
-use Rattle.lex.specs.Grammar.{Begins, Opens, Remarked, Comment, Inside, Quotation, Trivia, Led, OpenText, OpenRemark}
+use Rattle.lex.specs.Grammar.{Begins, OpensComment, Remarked, Comment, Inside, Quotation, Trivia, Led, OpenText, OpenRemark}
 use Rattle.lex.specs.Right.{trivia-is, trivia-open, trivia-only, trivia-open-only}
 use Rattle.lex.specs.Right.Steps.{Deaf, remark-shut, remark-open, text-ends, text-over}
-use Rattle.lex.specs.Right.Tokens.{open-text, open-remark, Reads, tokens, quotation-shorter, comment-shorter}
+use Rattle.lex.specs.Right.Tokens.{open-text, open-remark, ReadsAsTokens, tokens, quotation-shorter, comment-shorter}
 use Rattle.lex.specs.declared.Mode.{Mode}
 use Rattle.lex.specs.declared.Mode.the-variants.{Plain, Slash, Text, Quoted, Remark, Starred}
-use Rattle.params.specs.Grammar.{Without, Binary, OpenBinary, Ordinary, Token, Runs, Whole, Trails, Bound, Parameter, Unclosed, Starts}
-use Rattle.params.specs.Cut.{Stand, stand, outside, settled, solidAfter, level, modeAfter, binaryAfter, passed, cutTurn, over, cutEnd, cutOf, runsOut, started}
-use Rattle.params.specs.Answer.{Cut, cut, unclosed}
+use Rattle.params.specs.Grammar.{Without, Binary, OpenBinary, Ordinary, Token, Runs, RunsToToken, Trails, Bound, Parameter, Unclosed, Starts}
+use Rattle.params.specs.ParameterEnd.{Stand, stand, outsideLiterals, settled, solidAfter, level, modeAfter, binaryAfter, passed, cutTurn, endedInMode, cutEnd, cutOf, runsOut, started}
+use Rattle.params.specs.Answer.{ParamEnd, stopsBefore, literalOpen}
 
 -- the search for a parameter's end, from a state
-abbrev from : Mode → Bool → ℕ → List ℕ → List ℕ → List ℕ → Cut
+abbrev from : Mode → Bool → ℕ → List ℕ → List ℕ → List ℕ → ParamEnd
 from m b d o s xs = walk cutTurn cutEnd (stand m b d o s) xs
 
 -- in strings and comments the search for a parameter's end is deaf
@@ -36,8 +36,8 @@ cut-deaf : (d : ℕ) (o s : List ℕ) → Deaf cutTurn cutEnd (λ m. stand m fal
 cut-deaf d o s = record { quiet = λ m c r h. rw h; starred = refl }
 
 -- the search for a parameter's end outside literals and comments, with d open parentheses, the parameter reaching to s
-abbrev pub plainly : ℕ → List ℕ → List ℕ → Cut
-plainly d s xs = from Plain false d xs s xs
+abbrev pub paramPlainly : ℕ → List ℕ → List ℕ → ParamEnd
+paramPlainly d s xs = from Plain false d xs s xs
 
 -- where the last byte outside stood has no part in the search for a parameter's end
 unopened : (d : ℕ) (o p s xs : List ℕ) → from Plain false d o s xs ≡ from Plain false d p s xs
@@ -46,13 +46,13 @@ unopened d o p s [] = refl
 unopened d o p s (c ∷ r) = refl
 
 -- a slash that no star follows is no trivia
-unslashed : (d : ℕ) (o s xs : List ℕ) → (Begins 42 xs → ⊥) → from Slash false d o s xs ≡ plainly d xs xs
+unslashed : (d : ℕ) (o s xs : List ℕ) → (Begins 42 xs → ⊥) → from Slash false d o s xs ≡ paramPlainly d xs xs
 unfolding walk
 unslashed d o s [] h = refl
 unslashed d o s (c ∷ r) h = rw (ne-eqb c 42 (λ e. h (r, cc)))
 
 -- a quote that no quote follows ends the string, which is no trivia
-unquoted : (d : ℕ) (o s xs : List ℕ) → (Begins 39 xs → ⊥) → from Quoted false d o s xs ≡ plainly d xs xs
+unquoted : (d : ℕ) (o s xs : List ℕ) → (Begins 39 xs → ⊥) → from Quoted false d o s xs ≡ paramPlainly d xs xs
 unfolding walk
 unquoted d o s [] h = refl
 unquoted d o s (c ∷ r) h = rw (ne-eqb c 39 (λ e. h (r, cc)))
@@ -62,45 +62,45 @@ white-not : (c k : ℕ) → white c ≡ true → white k ≡ false → eqb c k �
 white-not c k h e = ne-eqb c k (λ p. let q : white k ≡ true = ap white (sym p) ∙ h in clash (cc))
 
 -- the search for a parameter's end passes over whitespace, to which the parameter does not reach
-pub blank-step : (d : ℕ) (s : List ℕ) (c : ℕ) (r : List ℕ) → white c ≡ true → plainly d s (c ∷ r) ≡ plainly d s r
+pub param-blank-step : (d : ℕ) (s : List ℕ) (c : ℕ) (r : List ℕ) → white c ≡ true → paramPlainly d s (c ∷ r) ≡ paramPlainly d s r
 unfolding walk
-blank-step d s c r h =
+param-blank-step d s c r h =
     rw (h, white-not c 44 h refl, white-not c 39 h refl, white-not c 47 h refl, white-not c 34 h refl, white-not c 40 h refl, white-not c 41 h refl)
     (unopened d (c ∷ r) r s r)
 
 -- a slash and a star open a comment for the search for a parameter's end
-remark-start : (d : ℕ) (s t : List ℕ) → plainly d s (47 ∷ 42 ∷ t) ≡ from Remark false d (47 ∷ 42 ∷ t) s t
+remark-start : (d : ℕ) (s t : List ℕ) → paramPlainly d s (47 ∷ 42 ∷ t) ≡ from Remark false d (47 ∷ 42 ∷ t) s t
 unfolding walk
 remark-start d s t = refl
 
 -- the search for a parameter's end passes over a whole comment, to which the parameter does not reach
-pub comment-step : (d : ℕ) (s : List ℕ) {xs ys : List ℕ} → Comment xs ys → plainly d s xs ≡ plainly d s ys
-comment-step d s {ys} q =
+pub param-comment-step : (d : ℕ) (s : List ℕ) {xs ys : List ℕ} → Comment xs ys → paramPlainly d s xs ≡ paramPlainly d s ys
+param-comment-step d s {ys} q =
     let o : List ℕ = 47 ∷ 42 ∷ (q .body ++ (42 ∷ 47 ∷ ys)) in
     rw (q .shape)
     (remark-start d s (q .body ++ (42 ∷ 47 ∷ ys)) ∙ remark-shut cutTurn cutEnd (λ m. stand m false d o s) (cut-deaf d o s) (q .body) ys (q .first) ∙ unopened d o ys s ys)
 
 -- a comment that never ends runs to the end, and the parameter does not reach to it
-pub remark-stuck : (d : ℕ) (s : List ℕ) {o : List ℕ} → OpenRemark o → plainly d s o ≡ cut s []
-remark-stuck d s q = let (t, e, h) = open-remark q in
+pub param-remark-stuck : (d : ℕ) (s : List ℕ) {o : List ℕ} → OpenRemark o → paramPlainly d s o ≡ stopsBefore s []
+param-remark-stuck d s q = let (t, e, h) = open-remark q in
     let o : List ℕ = 47 ∷ 42 ∷ t in
     rw e (remark-start d s t ∙ remark-open cutTurn cutEnd (λ m. stand m false d o s) (cut-deaf d o s) t h)
 
 -- a quote opens a string for the search for a parameter's end
-text-start : (d : ℕ) (s t : List ℕ) → plainly d s (39 ∷ t) ≡ from Text false d (39 ∷ t) t t
+text-start : (d : ℕ) (s t : List ℕ) → paramPlainly d s (39 ∷ t) ≡ from Text false d (39 ∷ t) t t
 unfolding walk
 text-start d s t = refl
 
 -- the search for a parameter's end passes over a whole string, to which the parameter reaches
-pub string-step : (d : ℕ) (s : List ℕ) {xs ys : List ℕ} → Quotation xs ys → plainly d s xs ≡ plainly d ys ys
-string-step d s {ys} q =
+pub param-string-step : (d : ℕ) (s : List ℕ) {xs ys : List ℕ} → Quotation xs ys → paramPlainly d s xs ≡ paramPlainly d ys ys
+param-string-step d s {ys} q =
     let t : List ℕ = q .body ++ (39 ∷ ys) in
     rw (q .shape)
     (text-start d s t ∙ text-ends cutTurn cutEnd (λ m. stand m false d (39 ∷ t) t) (cut-deaf d (39 ∷ t) t) ys (q .inside) ∙ unquoted d (39 ∷ t) t ys (q .single))
 
 -- a string that never ends stops the search for a parameter's end, at its quote
-pub text-stuck : (d : ℕ) (s : List ℕ) {o : List ℕ} → OpenText o → plainly d s o ≡ unclosed o
-text-stuck d s q = let (t, e, i) = open-text q in
+pub param-text-stuck : (d : ℕ) (s : List ℕ) {o : List ℕ} → OpenText o → paramPlainly d s o ≡ literalOpen o
+param-text-stuck d s q = let (t, e, i) = open-text q in
     rw e (text-start d s t ∙ text-over cutTurn cutEnd (λ m. stand m false d (39 ∷ t) t) (cut-deaf d (39 ∷ t) t) i)
 
 -- a byte that does not occur in a list is not its first byte
@@ -111,34 +111,34 @@ without-tail : (k c : ℕ) (b : List ℕ) → Without k (c ∷ b) → Without k 
 without-tail k c b h u v e = h (c ∷ u) v (cc)
 
 -- the search in a binary literal goes on outside after its `"`, to which the parameter reaches
-binary-shut : (d : ℕ) (o s b r : List ℕ) → Without 34 b → from Plain true d o s (b ++ (34 ∷ r)) ≡ plainly d r r
+binary-shut : (d : ℕ) (o s b r : List ℕ) → Without 34 b → from Plain true d o s (b ++ (34 ∷ r)) ≡ paramPlainly d r r
 unfolding walk
 binary-shut d o s [] r h = unopened d o r r r
 binary-shut d o s (c ∷ b) r h = rw (ne-eqb c 34 (without-head 34 c b h)) (binary-shut d o (b ++ (34 ∷ r)) b r (without-tail 34 c b h))
 
 -- the search in a binary literal that never ends stops, at the literal's quote
-binary-over : (d : ℕ) (o s b : List ℕ) → Without 34 b → from Plain true d o s b ≡ unclosed o
+binary-over : (d : ℕ) (o s b : List ℕ) → Without 34 b → from Plain true d o s b ≡ literalOpen o
 unfolding walk
 binary-over d o s [] h = refl
 binary-over d o s (c ∷ b) h = rw (ne-eqb c 34 (without-head 34 c b h)) (binary-over d o b b (without-tail 34 c b h))
 
 -- a `"` opens a binary literal for the search for a parameter's end
-binary-start : (d : ℕ) (s t : List ℕ) → plainly d s (34 ∷ t) ≡ from Plain true d (34 ∷ t) t t
+binary-start : (d : ℕ) (s t : List ℕ) → paramPlainly d s (34 ∷ t) ≡ from Plain true d (34 ∷ t) t t
 unfolding walk
 binary-start d s t = refl
 
 -- the search for a parameter's end passes over a whole binary literal, to which the parameter reaches
-pub binary-step : (d : ℕ) (s : List ℕ) {xs ys : List ℕ} → Binary xs ys → plainly d s xs ≡ plainly d ys ys
+pub binary-step : (d : ℕ) (s : List ℕ) {xs ys : List ℕ} → Binary xs ys → paramPlainly d s xs ≡ paramPlainly d ys ys
 binary-step d s {ys} q =
     let t : List ℕ = q .body ++ (34 ∷ ys) in
     rw (q .shape) (binary-start d s t ∙ binary-shut d (34 ∷ t) t (q .body) ys (q .inside))
 
 -- the search for a parameter's end passes over an ordinary byte, to which the parameter reaches
-pub byte-step : (d : ℕ) (s : List ℕ) (c : ℕ) (r : List ℕ) → Ordinary c r → plainly d s (c ∷ r) ≡ plainly d r r
+pub param-byte-step : (d : ℕ) (s : List ℕ) (c : ℕ) (r : List ℕ) → Ordinary c r → paramPlainly d s (c ∷ r) ≡ paramPlainly d r r
 unfolding walk
-byte-step d s c r q = go (eqb c 47) refl
+param-byte-step d s c r q = go (eqb c 47) refl
   where
-    go : (k : Bool) → eqb c 47 ≡ k → plainly d s (c ∷ r) ≡ plainly d r r
+    go : (k : Bool) → eqb c 47 ≡ k → paramPlainly d s (c ∷ r) ≡ paramPlainly d r r
     go true e =
         rw (ne-eqb c 44 (q .comma), ne-eqb c 39 (q .unquoted), e, ne-eqb c 34 (q .unbinary), ne-eqb c 40 (q .opening), ne-eqb c 41 (q .closing), q .unblank)
         (unslashed d (c ∷ r) s r (λ (t, g). q .unopened (t, cc (eqb-true c 47 e))))
@@ -147,47 +147,47 @@ byte-step d s c r q = go (eqb c 47) refl
         (unopened d (c ∷ r) r r r)
 
 -- the search for a parameter's end passes over a token, to which the parameter reaches
-pub token-step : (s : List ℕ) {d e : ℕ} {xs ys : List ℕ} → Token d xs e ys → plainly d s xs ≡ plainly e ys ys
+pub token-step : (s : List ℕ) {d e : ℕ} {xs ys : List ℕ} → Token d xs e ys → paramPlainly d s xs ≡ paramPlainly e ys ys
 unfolding walk
-token-step s (Token.byte {d} {c} {xs} q) = byte-step d s c xs q
+token-step s (Token.byte {d} {c} {xs} q) = param-byte-step d s c xs q
 token-step s (Token.nested {d} {xs}) = rw (ne-eqb (suc d) 0 (λ e. absurd (omega arith))) (unopened (suc d) (44 ∷ xs) xs xs xs)
-token-step s (Token.string {d} q) = string-step d s q
+token-step s (Token.string {d} q) = param-string-step d s q
 token-step s (Token.binary {d} q) = binary-step d s q
 token-step s (Token.opening {d} {xs}) = unopened (suc d) (40 ∷ xs) xs xs xs
 token-step s (Token.closing {d} {xs}) = let e : suc d - 1 ≡ d = omega arith in rw e (unopened d (41 ∷ xs) xs xs xs)
 token-step s (Token.stray {xs}) = unopened 0 (41 ∷ xs) xs xs xs
 
 -- the search for a parameter's end passes over tokens and trivia, wherever the parameter then reaches to
-runs-step : {d e : ℕ} {xs ys : List ℕ} → Runs d xs e ys → (s : List ℕ) → (t : List ℕ) × (plainly d s xs ≡ plainly e t ys)
+runs-step : {d e : ℕ} {xs ys : List ℕ} → Runs d xs e ys → (s : List ℕ) → (t : List ℕ) × (paramPlainly d s xs ≡ paramPlainly e t ys)
 runs-step Runs.none s = (s, refl)
 runs-step (Runs.token {zs} r q) s = let (t, p) = runs-step r s in (zs, p ∙ token-step t q)
-runs-step (Runs.blank {e} {c} {ys} r h) s = let (t, p) = runs-step r s in (t, p ∙ blank-step e t c ys h)
-runs-step (Runs.comment {e} r q) s = let (t, p) = runs-step r s in (t, p ∙ comment-step e t q)
+runs-step (Runs.blank {e} {c} {ys} r h) s = let (t, p) = runs-step r s in (t, p ∙ param-blank-step e t c ys h)
+runs-step (Runs.comment {e} r q) s = let (t, p) = runs-step r s in (t, p ∙ param-comment-step e t q)
 
 -- the search for a parameter's end passes over what ends in a token, to which the parameter reaches
-whole-step : {d e : ℕ} {xs ys : List ℕ} → Whole d xs e ys → plainly d xs xs ≡ plainly e ys ys
-whole-step Whole.none = refl
-whole-step {xs} (Whole.last r q) = let (t, p) = runs-step r xs in p ∙ token-step t q
+whole-step : {d e : ℕ} {xs ys : List ℕ} → RunsToToken d xs e ys → paramPlainly d xs xs ≡ paramPlainly e ys ys
+whole-step RunsToToken.none = refl
+whole-step {xs} (RunsToToken.last r q) = let (t, p) = runs-step r xs in p ∙ token-step t q
 
 -- the search for a parameter's end passes over trivia, to which the parameter does not reach
-trivia-step : (d : ℕ) (s : List ℕ) {xs ys : List ℕ} → Trivia xs ys → plainly d s xs ≡ plainly d s ys
+trivia-step : (d : ℕ) (s : List ℕ) {xs ys : List ℕ} → Trivia xs ys → paramPlainly d s xs ≡ paramPlainly d s ys
 trivia-step d s Trivia.none = refl
-trivia-step d s (Trivia.blank {c} {xs} h r) = blank-step d s c xs h ∙ trivia-step d s r
-trivia-step d s (Trivia.comment q r) = comment-step d s q ∙ trivia-step d s r
+trivia-step d s (Trivia.blank {c} {xs} h r) = param-blank-step d s c xs h ∙ trivia-step d s r
+trivia-step d s (Trivia.comment q r) = param-comment-step d s q ∙ trivia-step d s r
 
 -- the search for a parameter's end stops at a comma at depth 0 and at the end
-pub bound-stops : (s : List ℕ) {d : ℕ} {ys : List ℕ} → Bound d ys → plainly d s ys ≡ cut s ys
+pub bound-stops : (s : List ℕ) {d : ℕ} {ys : List ℕ} → Bound d ys → paramPlainly d s ys ≡ stopsBefore s ys
 unfolding walk
 bound-stops s Bound.comma = refl
 bound-stops s Bound.end = refl
 
 -- the search for a parameter's end stops at a comma at depth 0 and at the end after trivia too
-trails-stop : (s : List ℕ) {d : ℕ} {xs ys : List ℕ} → Trails xs ys → Bound d ys → plainly d s xs ≡ cut s ys
+trails-stop : (s : List ℕ) {d : ℕ} {xs ys : List ℕ} → Trails xs ys → Bound d ys → paramPlainly d s xs ≡ stopsBefore s ys
 trails-stop s {d} (Trails.shut r) b = trivia-step d s r ∙ bound-stops s b
-trails-stop s {d} (Trails.unclosed r q) b = trivia-step d s r ∙ remark-stuck d s q
+trails-stop s {d} (Trails.unclosed r q) b = trivia-step d s r ∙ param-remark-stuck d s q
 
 -- where a parameter ends by the grammar, it is cut
-pub param-only : {xs z bound : List ℕ} → Parameter xs z bound → cutOf xs ≡ cut z bound
+pub param-only : {xs z bound : List ℕ} → Parameter xs z bound → cutOf xs ≡ stopsBefore z bound
 unfolding cutOf
 param-only {z} p = whole-step (p .whole) ∙ trails-stop z (p .trails) (p .bounds)
 
@@ -227,17 +227,17 @@ open-binary {xs} ((t, e), h) = go (binary-ends t)
     go (inr i) = (t, e, i)
 
 -- where no `"` follows, no binary literal ends
-pub unended : {t : List ℕ} → Without 34 t → (r : List ℕ) → Binary (34 ∷ t) r → ⊥
-unended h r q = h (q .body) r (cc (q .shape))
+pub binary-unended : {t : List ℕ} → Without 34 t → (r : List ℕ) → Binary (34 ∷ t) r → ⊥
+binary-unended h r q = h (q .body) r (cc (q .shape))
 
 -- a binary literal that never ends stops the search for a parameter's end, at its quote
-pub binary-stuck : (d : ℕ) (s : List ℕ) {o : List ℕ} → OpenBinary o → plainly d s o ≡ unclosed o
+pub binary-stuck : (d : ℕ) (s : List ℕ) {o : List ℕ} → OpenBinary o → paramPlainly d s o ≡ literalOpen o
 binary-stuck d s q = let (t, e, i) = open-binary q in rw e (binary-start d s t ∙ binary-over d (34 ∷ t) t t i)
 
 -- a literal that never ends by the grammar is refused with 11, at its quote
-pub unclosed-only : {xs o : List ℕ} → Unclosed xs o → cutOf xs ≡ unclosed o
+pub unclosed-only : {xs o : List ℕ} → Unclosed xs o → cutOf xs ≡ literalOpen o
 unfolding cutOf
-unclosed-only {xs} (Unclosed.text {d} r q) = let (t, p) = runs-step r xs in p ∙ text-stuck d t q
+unclosed-only {xs} (Unclosed.text {d} r q) = let (t, p) = runs-step r xs in p ∙ param-text-stuck d t q
 unclosed-only {xs} (Unclosed.binary {d} r q) = let (t, p) = runs-step r xs in p ∙ binary-stuck d t q
 
 -- what becomes of a parameter: it ends, or a literal in it does not
@@ -249,7 +249,7 @@ data Comes (xs : List ℕ) : Type 0 where
 record Sofar (xs : List ℕ) (d : ℕ) (ys : List ℕ) : Type 0 where
   runs : Runs 0 xs d ys
   reach : List ℕ
-  whole : Whole 0 xs d reach
+  whole : RunsToToken 0 xs d reach
   trail : Trivia reach ys
 
 -- trivia with one more byte of whitespace are trivia
@@ -266,7 +266,7 @@ trivia-comment p (Trivia.comment q r) = Trivia.comment q (trivia-comment p r)
 
 -- how far a parameter is read, with one more token
 sofar-token : {xs ys zs : List ℕ} {d e : ℕ} → Sofar xs d ys → Token d ys e zs → Sofar xs e zs
-sofar-token {zs} s q = record { runs = Runs.token (s .runs) q; reach = zs; whole = Whole.last (s .runs) q; trail = Trivia.none }
+sofar-token {zs} s q = record { runs = Runs.token (s .runs) q; reach = zs; whole = RunsToToken.last (s .runs) q; trail = Trivia.none }
 
 -- where a comma at depth 0 or the end is, the parameter ends
 sofar-ends : {xs ys : List ℕ} {d : ℕ} → Sofar xs d ys → Bound d ys → Comes xs
@@ -292,10 +292,10 @@ quote-comes xs t d s ih = go (binary-ends t)
   where
     go : Shut t ⊎ Without 34 t → Comes xs
     go (inl q) = ih (q .rest) (omega (arith, simp length-append at (ap length (q .shape)))) d (sofar-token s (Token.binary (record { body = q .body; inside = q .inside; shape = cc (q .shape) })))
-    go (inr i) = Comes.stuck (34 ∷ t) (Unclosed.binary (s .runs) ((t, refl), unended i))
+    go (inr i) = Comes.stuck (34 ∷ t) (Unclosed.binary (s .runs) ((t, refl), binary-unended i))
 
 -- what becomes of a parameter where a byte stands that opens no string and no comment
-byte-comes : (xs t : List ℕ) (c d : ℕ) → (c ≡ 39 → ⊥) → (Opens (c ∷ t) → ⊥) → Sofar xs d (c ∷ t) → Later xs (c ∷ t) → Comes xs
+byte-comes : (xs t : List ℕ) (c d : ℕ) → (c ≡ 39 → ⊥) → (OpensComment (c ∷ t) → ⊥) → Sofar xs d (c ∷ t) → Later xs (c ∷ t) → Comes xs
 byte-comes xs t c d h k s ih = go (white c) (ℕ-discrete c 34) (ℕ-discrete c 40) (ℕ-discrete c 41) (ℕ-discrete c 44) refl
   where
     go : (w : Bool) → Dec (c ≡ 34) → Dec (c ≡ 40) → Dec (c ≡ 41) → Dec (c ≡ 44) → white c ≡ w → Comes xs
@@ -308,14 +308,14 @@ byte-comes xs t c d h k s ih = go (white c) (ℕ-discrete c 34) (ℕ-discrete c 
         ih t (omega arith) d (sofar-token s (Token.byte (record { unblank = e; unquoted = h; unbinary = p; unopened = k; opening = q; closing = r; comma = u })))
 
 -- what becomes of a parameter, by the token that stands next
-comes-by : {ys : List ℕ} (xs : List ℕ) (d : ℕ) → Reads ys → Sofar xs d ys → Later xs ys → Comes xs
-comes-by xs d Reads.end s ih = sofar-ends s Bound.end
-comes-by xs d (Reads.byte {c} {t} h k r) s ih = byte-comes xs t c d h k s ih
-comes-by xs d (Reads.string {zs} q r) s ih = ih zs (quotation-shorter q) d (sofar-token s (Token.string q))
-comes-by xs d (Reads.comment {zs} q r) s ih = ih zs (comment-shorter q) d
+comes-by : {ys : List ℕ} (xs : List ℕ) (d : ℕ) → ReadsAsTokens ys → Sofar xs d ys → Later xs ys → Comes xs
+comes-by xs d ReadsAsTokens.end s ih = sofar-ends s Bound.end
+comes-by xs d (ReadsAsTokens.byte {c} {t} h k r) s ih = byte-comes xs t c d h k s ih
+comes-by xs d (ReadsAsTokens.string {zs} q r) s ih = ih zs (quotation-shorter q) d (sofar-token s (Token.string q))
+comes-by xs d (ReadsAsTokens.comment {zs} q r) s ih = ih zs (comment-shorter q) d
     (record { runs = Runs.comment (s .runs) q; reach = s .reach; whole = s .whole; trail = trivia-comment q (s .trail) })
-comes-by {ys} xs d (Reads.text q) s ih = Comes.stuck ys (Unclosed.text (s .runs) q)
-comes-by xs d (Reads.remark q) s ih = Comes.found (s .reach) [] (record { depth = d; whole = s .whole; trails = Trails.unclosed (s .trail) q; bounds = Bound.end })
+comes-by {ys} xs d (ReadsAsTokens.text q) s ih = Comes.stuck ys (Unclosed.text (s .runs) q)
+comes-by xs d (ReadsAsTokens.remark q) s ih = Comes.found (s .reach) [] (record { depth = d; whole = s .whole; trails = Trails.unclosed (s .trail) q; bounds = Bound.end })
 
 -- what becomes of a parameter from a rest of at most n bytes on
 comes-to : (n : ℕ) (xs ys : List ℕ) (d : ℕ) → length ys ≤ n → Sofar xs d ys → Comes xs
@@ -324,10 +324,10 @@ comes-to (suc n) xs ys d h s = comes-by xs d (tokens ys) s (λ zs k e u. comes-t
 
 -- every parameter ends, or a literal in it does not
 comes : (xs : List ℕ) → Comes xs
-comes xs = comes-to (length xs) xs xs 0 (omega arith) (record { runs = Runs.none; reach = xs; whole = Whole.none; trail = Trivia.none })
+comes xs = comes-to (length xs) xs xs 0 (omega arith) (record { runs = Runs.none; reach = xs; whole = RunsToToken.none; trail = Trivia.none })
 
 -- what is cut is a parameter by the grammar
-pub param-is : (xs z bound : List ℕ) → cutOf xs ≡ cut z bound → Parameter xs z bound
+pub param-is : (xs z bound : List ℕ) → cutOf xs ≡ stopsBefore z bound → Parameter xs z bound
 param-is xs z bound h = go (comes xs)
   where
     go : Comes xs → Parameter xs z bound
@@ -335,7 +335,7 @@ param-is xs z bound h = go (comes xs)
     go (Comes.stuck o q) = clash (cc (unclosed-only q))
 
 -- refusal 11 is given only where the grammar has a literal that never ends
-pub unclosed-is : (xs o : List ℕ) → cutOf xs ≡ unclosed o → Unclosed xs o
+pub unclosed-is : (xs o : List ℕ) → cutOf xs ≡ literalOpen o → Unclosed xs o
 unclosed-is xs o h = go (comes xs)
   where
     go : Comes xs → Unclosed xs o

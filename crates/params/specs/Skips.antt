@@ -6,8 +6,8 @@ use mathlib.Core.List.{List, [], _∷_}
 use lib.ListN.{take, drop}
 use Rattle.error.specs.Refusal.{Told, good, bad}
 use Rattle.lex.specs.Byte.{place}
-use Rattle.params.specs.Cut.{started}
-use Rattle.params.specs.Answer.{Read, reading, within, mapped}
+use Rattle.params.specs.ParameterEnd.{started}
+use Rattle.params.specs.Answer.{Read, reading, ifInFile, readMapped}
 use Rattle.params.specs.Reader.{paramOf}
 
 -- whether nothing is left after the trivia, past which the reader then stands
@@ -17,11 +17,11 @@ emptied xs e (c ∷ r) = reading (good false) (place xs (c ∷ r)) e
 
 -- whether no parameter is left of a reader at p that reads up to e
 unfoldable pub emptyOf : List ℕ → ℕ → ℕ → Read Bool
-emptyOf s p e = within s p e (emptied (take e s) e (started (drop p (take e s))))
+emptyOf s p e = ifInFile s p e (emptied (take e s) e (started (drop p (take e s))))
 
 -- the next parameter of a reader at p that reads up to e is left unread
 unfoldable pub skipOf : List ℕ → ℕ → ℕ → Read (Unit {0})
-skipOf s p e = mapped (λ a. good tt) (paramOf s p e)
+skipOf s p e = readMapped (λ a. good tt) (paramOf s p e)
 
 -- what is done after an answer that is no refusal, from where the reader then stands; a refusal stays the answer
 abbrev pub andThen : Told (Unit {0}) → ℕ → ℕ → (ℕ → ℕ → Read (Unit {0})) → Read (Unit {0})
@@ -35,4 +35,4 @@ skipFrom (suc n) s p e = andThen (skipOf s p e .answer) (skipOf s p e .place) (s
 
 -- n parameters are left unread, up to the first refusal, for a place and an end in the file
 unfoldable pub skipsOf : ℕ → List ℕ → ℕ → ℕ → Read (Unit {0})
-skipsOf n s p e = within s p e (skipFrom n s p e)
+skipsOf n s p e = ifInFile s p e (skipFrom n s p e)

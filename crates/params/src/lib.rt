@@ -7,14 +7,14 @@ ghost use mathlib.Core.Path.{_≡_};
 ghost use mathlib.Core.Bool.{true, false, _&&_};
 ghost use Prim.Native.Nat.{_+_, _-_, _≤_, _<_, _^_, min};
 ghost use lib.ListN.{length, take, drop};
-ghost use Rattle.params.specs.Cut.{cutOf, started};
-ghost use Rattle.params.specs.Seek.{Standing, Stands, Stepped, onward};
-ghost use Rattle.params.specs.Answer.{endedAt, EndedIn, inFile, toldCut, CutIn, toldOpened, openedOf, toldEmptiness, toldSkipped};
+ghost use Rattle.params.specs.ParameterEnd.{cutOf, started};
+ghost use Rattle.params.specs.Seek.{Standing, StandingAtByte, ParamStep, searchFrom};
+ghost use Rattle.params.specs.Answer.{endedAt, EndedIn, readerInFile, toldNextParam, NextParamIn, toldOpenedReader, openedOf, toldEmptiness, toldSkipped};
 ghost use Rattle.params.specs.Reader.{paramOf};
 ghost use Rattle.params.specs.Skips.{emptyOf, skipOf, skipsOf};
 use error::Fault;
-use lex::Found;
-use tokens::Past;
+use lex::FoundPlace;
+use tokens::TokenEnd;
 
 // Where a reader stands, and up to where it reads.
 pub struct State {
@@ -29,13 +29,13 @@ pub enum Ended {
 }
 
 // A parameter from start up to stop, and the reader past it; or a refusal, and the reader where document 01 says.
-pub enum Cut {
+pub enum NextParam {
     Span(usize, usize, State),
     Refused(Fault, State),
 }
 
 // A reader, or a refusal.
-pub enum Opened {
+pub enum OpenedReader {
     Reader(State),
     Refused(Fault),
 }
@@ -71,8 +71,8 @@ fn lowered(depth: usize) -> usize
 
 // A comma: of the parameter, or of a list in it.
 fn comma_step(part: &[u8], i: usize, solid: usize, depth: usize) -> Step
-    requires { ⌜ Stands (now part) i solid depth 44 ⌝ }
-    ensures { λ r. ⌜ Stepped (now (part .entry)) i solid depth r ⌝ }
+    requires { ⌜ StandingAtByte (now part) i solid depth 44 ⌝ }
+    ensures { λ r. ⌜ ParamStep (now (part .entry)) i solid depth r ⌝ }
 {
     if depth < 1 {
         return Step::Comma;
@@ -82,19 +82,19 @@ fn comma_step(part: &[u8], i: usize, solid: usize, depth: usize) -> Step
 
 // A quote, which opens a string.
 fn text_step(part: &[u8], i: usize, solid: usize, depth: usize) -> Step
-    requires { ⌜ Stands (now part) i solid depth 39 ⌝ }
-    ensures { λ r. ⌜ Stepped (now (part .entry)) i solid depth r ⌝ }
+    requires { ⌜ StandingAtByte (now part) i solid depth 39 ⌝ }
+    ensures { λ r. ⌜ ParamStep (now (part .entry)) i solid depth r ⌝ }
 {
     match tokens::string_end(part, i + 1) {
-        Past::At(j) => Step::On(j, j, depth),
-        Past::Never => Step::Open,
+        TokenEnd::At(j) => Step::On(j, j, depth),
+        TokenEnd::Never => Step::Open,
     }
 }
 
 // A `"`, which opens a binary literal.
 fn binary_step(part: &[u8], i: usize, solid: usize, depth: usize) -> Step
-    requires { ⌜ Stands (now part) i solid depth 34 ⌝ }
-    ensures { λ r. ⌜ Stepped (now (part .entry)) i solid depth r ⌝ }
+    requires { ⌜ StandingAtByte (now part) i solid depth 34 ⌝ }
+    ensures { λ r. ⌜ ParamStep (now (part .entry)) i solid depth r ⌝ }
 {
     let q = tokens::find_byte(part, i + 1, b'"');
     if q == part.len() {
@@ -105,22 +105,22 @@ fn binary_step(part: &[u8], i: usize, solid: usize, depth: usize) -> Step
 
 // A slash: it opens a comment, which is no part of the parameter where it ends it, or is a byte of the parameter.
 fn slash_step(part: &[u8], i: usize, solid: usize, depth: usize) -> Step
-    requires { ⌜ Stands (now part) i solid depth 47 ⌝ }
-    ensures { λ r. ⌜ Stepped (now (part .entry)) i solid depth r ⌝ }
+    requires { ⌜ StandingAtByte (now part) i solid depth 47 ⌝ }
+    ensures { λ r. ⌜ ParamStep (now (part .entry)) i solid depth r ⌝ }
 {
     if !tokens::is_at(part, i + 1, b'*') {
         return Step::On(i + 1, i + 1, depth);
     }
     match tokens::comment_end(part, i + 2) {
-        Past::At(j) => Step::On(j, solid, depth),
-        Past::Never => Step::On(part.len(), solid, depth),
+        TokenEnd::At(j) => Step::On(j, solid, depth),
+        TokenEnd::Never => Step::On(part.len(), solid, depth),
     }
 }
 
 // The token at i, outside literals and comments.
 fn token_at(part: &[u8], i: usize, solid: usize, depth: usize) -> Step
     requires { ⌜ Standing (now part) i solid depth ⌝ }
-    ensures { λ r. ⌜ Stepped (now (part .entry)) i solid depth r ⌝ }
+    ensures { λ r. ⌜ ParamStep (now (part .entry)) i solid depth r ⌝ }
 {
     let b = part[i];
     if b == b',' {
@@ -151,7 +151,7 @@ fn token_at(part: &[u8], i: usize, solid: usize, depth: usize) -> Step
 // that seeks nothing else has half the steps a byte.
 fn past_plain(part: &[u8], i: usize) -> usize
     requires { ⌜ i ≤ length (now part) ⌝ }
-    ensures { λ r. ⌜ (i ≤ r) × (r ≤ length (now (part .entry))) × ((d : _) → onward (now (part .entry)) i i d ≡ onward (now (part .entry)) r r d) ⌝ }
+    ensures { λ r. ⌜ (i ≤ r) × (r ≤ length (now (part .entry))) × ((d : _) → searchFrom (now (part .entry)) i i d ≡ searchFrom (now (part .entry)) r r d) ⌝ }
 {
     let mut j = i;
     while j < part.len() {
@@ -212,13 +212,13 @@ fn past_trivia(part: &[u8], place: usize) -> usize
         return place;
     }
     match lex::skip_trivia(part, place) {
-        Found::At(p) => p,
-        Found::Refused(_) => part.len(),
+        FoundPlace::At(p) => p,
+        FoundPlace::Refused(_) => part.len(),
     }
 }
 
 fn in_file(n: usize, place: usize, end: usize) -> bool
-    ensures { λ r. ⌜ r ≡ inFile n place end ⌝ }
+    ensures { λ r. ⌜ r ≡ readerInFile n place end ⌝ }
 {
     (place <= end) & (end <= n)
 }
@@ -235,23 +235,26 @@ fn past_comma(bound: usize, end: usize) -> usize
 }
 
 // Cuts the next parameter.
-pub fn param_span(file: &[u8], at: State) -> Cut
-    ensures { λ r. ⌜ toldCut r ≡ paramOf (now (file .entry)) (at .place) (at .end) ⌝ }
-    ensures { λ r. ⌜ CutIn (length (now (file .entry))) r ⌝ }
+pub fn param_span(file: &[u8], at: State) -> NextParam
+    ensures { λ r. ⌜ toldNextParam r ≡ paramOf (now (file .entry)) (at .place) (at .end) ⌝ }
+    ensures { λ r. ⌜ NextParamIn (length (now (file .entry))) r ⌝ }
 {
     let place = at.place;
     let end = at.end;
     if !in_file(file.len(), place, end) {
-        return Cut::Refused(Fault::OutOfFile, at);
+        return NextParam::Refused(Fault::OutOfFile, at);
     }
     let part = &file[..end];
     let start = past_trivia(part, place);
     if start == end {
-        return Cut::Refused(Fault::NoParameter(end), State { place: end, end });
+        return NextParam::Refused(Fault::NoParameter(end), State { place: end, end });
     }
     match param_end(part, start) {
-        Ended::Open(quote) => Cut::Refused(Fault::OpenLiteral(quote), State { place: start, end }),
-        Ended::At(stop, bound) => Cut::Span(
+        Ended::Open(quote) => NextParam::Refused(
+            Fault::OpenLiteral(quote),
+            State { place: start, end },
+        ),
+        Ended::At(stop, bound) => NextParam::Span(
             start,
             stop,
             State {
@@ -263,13 +266,13 @@ pub fn param_span(file: &[u8], at: State) -> Cut
 }
 
 // A reader of the file from a place up to an end.
-pub fn new(file: &[u8], place: usize, end: usize) -> Opened
-    ensures { λ r. ⌜ toldOpened r ≡ openedOf (now (file .entry)) place end ⌝ }
+pub fn new(file: &[u8], place: usize, end: usize) -> OpenedReader
+    ensures { λ r. ⌜ toldOpenedReader r ≡ openedOf (now (file .entry)) place end ⌝ }
 {
     if in_file(file.len(), place, end) {
-        return Opened::Reader(State { place, end });
+        return OpenedReader::Reader(State { place, end });
     }
-    Opened::Refused(Fault::OutOfFile)
+    OpenedReader::Refused(Fault::OutOfFile)
 }
 
 // The reader's place.
@@ -297,8 +300,8 @@ pub fn skip(file: &[u8], at: State) -> Skipped
     ensures { λ r. ⌜ toldSkipped r ≡ skipOf (now (file .entry)) (at .place) (at .end) ⌝ }
 {
     match param_span(file, at) {
-        Cut::Span(_, _, to) => Skipped::Past(to),
-        Cut::Refused(f, to) => Skipped::Refused(f, to),
+        NextParam::Span(_, _, to) => Skipped::Past(to),
+        NextParam::Refused(f, to) => Skipped::Refused(f, to),
     }
 }
 

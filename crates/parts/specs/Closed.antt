@@ -13,12 +13,12 @@ use Rattle.lex.specs.Grammar.{Closes}
 use Rattle.lex.specs.Local.{closing-local}
 use Rattle.lex.specs.Right.{closing-only, closing-is}
 use Rattle.lex.specs.Inside.{closes-any}
-use Rattle.record.specs.Form.{Free, NotFirst, Skipped, Keyword}
-use Rattle.record.specs.FormRight.Parts.{first-other, all-front, all-back, span, Spanned, tail-split, Tailed}
+use Rattle.record.specs.Form.{Free, NotFirst, SkippedBytes, Keyword}
+use Rattle.record.specs.FormRight.Parts.{first-other, all-front, all-back, split-is, SplitAfter, tail-split, Tailed}
 use Rattle.statement.specs.Rows.{HeaderRow, headerRow}
 use Rattle.statement.specs.Closed.{ClosedParts}
 use Rattle.statement.specs.Form.{ArguedTo}
-use Rattle.parts.specs.Rules.{separator, Window, NextForm, PartsForm}
+use Rattle.parts.specs.Rules.{separator, BytesBetween, NextPartForm, PartsForm}
 use Rattle.parts.specs.Part.{partsOf}
 use Rattle.parts.specs.PartRight.{parts-only}
 
@@ -27,13 +27,13 @@ abbrev pub shiftRow : ℕ → HeaderRow → HeaderRow
 shiftRow n p = headerRow (n + p .keyStart) (n + p .keyEnd) (n + p .argStart) (n + p .argEnd)
 
 -- a part that lies in arguments of n bytes; no "span [..] backwards"
-abbrev pub RowIn : ℕ → HeaderRow → Type 0
-RowIn n p = (p .keyStart ≤ p .keyEnd) × (p .keyEnd ≤ n) × (p .argStart ≤ p .argEnd) × (p .argEnd ≤ n)
+abbrev pub PartWithin : ℕ → HeaderRow → Type 0
+PartWithin n p = (p .keyStart ≤ p .keyEnd) × (p .keyEnd ≤ n) × (p .argStart ≤ p .argEnd) × (p .argEnd ≤ n)
 
 -- parts that all lie in arguments of n bytes
-abbrev pub RowsIn : ℕ → List HeaderRow → Type 0
-RowsIn n [] = Unit {0}
-RowsIn n (p ∷ ps) = RowIn n p × RowsIn n ps
+abbrev pub PartsWithin : ℕ → List HeaderRow → Type 0
+PartsWithin n [] = Unit {0}
+PartsWithin n (p ∷ ps) = PartWithin n p × PartsWithin n ps
 
 -- the parts of the arguments a, which are these rows wherever a stands
 abbrev Reads : List ℕ → List HeaderRow → Type 0
@@ -55,7 +55,7 @@ shift-rows m n [] = refl
 shift-rows m n (p ∷ ps) = rw (shift-row m n p, shift-rows m n ps)
 
 -- parts that lie in what follows n bytes lie in all the bytes
-rows-after : (n m : ℕ) (ps : List HeaderRow) → RowsIn m ps → RowsIn (n + m) (map (shiftRow n) ps)
+rows-after : (n m : ℕ) (ps : List HeaderRow) → PartsWithin m ps → PartsWithin (n + m) (map (shiftRow n) ps)
 rows-after n m [] h = tt
 rows-after n m (p ∷ ps) ((a, b, c, d), t) = ((omega arith, omega arith, omega arith, omega arith), rows-after n m ps t)
 
@@ -65,7 +65,7 @@ parts-at : {s z : List ℕ} {d e m n : ℕ} {ps rs : List HeaderRow}
 parts-at a b c d f = rw (a, b, c, d) at f
 
 -- the arguments a in the file, taken apart
-abbrev window-at : (q a y f v : List ℕ) → a ≡ f ++ v → Window (q ++ (a ++ y)) (length q) (length q + length a) (f ++ v)
+abbrev window-at : (q a y f v : List ℕ) → a ≡ f ++ v → BytesBetween (q ++ (a ++ y)) (length q) (length q + length a) (f ++ v)
 window-at q a y f v e = record {
   front = q;
   back = y;
@@ -76,10 +76,10 @@ window-at q a y f v e = record {
 
 -- ---- no part
 parts-none : (a : List ℕ) → Free 40 a → Reads a []
-parts-none a h q y = go (span separator a)
+parts-none a h q y = go (split-is separator a)
   where
-    go : Spanned separator a → PartsForm (q ++ (a ++ y)) (length q + length a) (length q) (good [])
-    go (f, v, e, s) = PartsForm.over (NextForm.over (window-at q a y f v e) s (all-back _ f v (rw e at h)))
+    go : SplitAfter separator a → PartsForm (q ++ (a ++ y)) (length q + length a) (length q) (good [])
+    go (f, v, e, s) = PartsForm.over (NextPartForm.over (window-at q a y f v e) s (all-back _ f v (rw e at h)))
 
 -- ---- a part
 -- the first part of the arguments a: separators, the keyword, whitespace, its `(`, its own arguments and its `)`, which t follows
@@ -90,7 +90,7 @@ record Headed (a t : List ℕ) : Type 0 where
   rest : List ℕ
   args : List ℕ
   shape : a ≡ front ++ (word ++ (blank ++ (40 ∷ rest)))
-  skipped : Skipped separator front (word ++ (blank ++ (40 ∷ rest)))
+  skipped : SkippedBytes separator front (word ++ (blank ++ (40 ∷ rest)))
   keyed : Keyword (word ++ (blank ++ (40 ∷ rest))) word blank rest
   split : rest ≡ args ++ (41 ∷ t)
   closes : Closes rest t
@@ -102,9 +102,9 @@ first-open (c ∷ x) r h = first-other separator c (x ++ (40 ∷ r)) (h c x refl
 
 -- a closed part is the first part of the arguments
 headed : (a k r t : List ℕ) → a ≡ k ++ (40 ∷ r) → Free 40 k → Closes r t → Headed a t
-headed a k r t g h c = go (span separator k)
+headed a k r t g h c = go (split-is separator k)
   where
-    taken : (f x : List ℕ) → k ≡ f ++ x → Skipped separator f x → Tailed x → Headed a t
+    taken : (f x : List ℕ) → k ≡ f ++ x → SkippedBytes separator f x → Tailed x → Headed a t
     taken f x e s (n, w, d, b, l) =
         let o : NotFirst separator ((n ++ w) ++ (40 ∷ r)) = first-open (n ++ w) r (rw d at (s .over)) in
         let i : Free 40 (f ++ (n ++ w)) = rw (e, d) at h in
@@ -122,7 +122,7 @@ headed a k r t g h c = go (span separator k)
           closes = c;
         }
 
-    go : Spanned separator k → Headed a t
+    go : SplitAfter separator k → Headed a t
     go (f, x, e, s) = taken f x e s (tail-split x)
 
 -- a `(` that closes closes whatever follows
@@ -158,17 +158,17 @@ module _ {a t : List ℕ} (d : Headed a t) where
   part-length = omega (arith, ap length part-shape, length-append upTo t, up-to-length)
 
   -- the part lies in the arguments
-  row-in : RowIn (length a) rowOf
+  row-in : PartWithin (length a) rowOf
   row-in =
       let n = part-length in
       let l : length (d .word ++ d .blank) ≡ length (d .word) + length (d .blank) = length-append (d .word) (d .blank) in
       (omega arith, omega arith, omega arith, omega arith)
 
   -- "its `)` ends the part": the next part, wherever the arguments stand
-  part-next : (q y : List ℕ) → NextForm (q ++ (a ++ y)) (length q) (length q + length a) (good (some (shiftRow (length q) rowOf)))
+  part-next : (q y : List ℕ) → NextPartForm (q ++ (a ++ y)) (length q) (length q + length a) (good (some (shiftRow (length q) rowOf)))
   part-next q y =
-      subst (λ (p : HeaderRow). NextForm (q ++ (a ++ y)) (length q) (length q + length a) (good (some p))) rows
-      (NextForm.part (window-at q a y (d .front) _ (d .shape)) (d .skipped) (d .keyed) (ArguedTo.closed refl (closes-more (d .closes) y)))
+      subst (λ (p : HeaderRow). NextPartForm (q ++ (a ++ y)) (length q) (length q + length a) (good (some p))) rows
+      (NextPartForm.part (window-at q a y (d .front) _ (d .shape)) (d .skipped) (d .keyed) (ArguedTo.closed refl (closes-more (d .closes) y)))
     where
       ends : place (q ++ (a ++ y)) (41 ∷ (t ++ y)) ≡ length q + (opening + 1 + length (d .args))
       ends = omega (arith, length-append q (a ++ y), length-append a y, length-append t y, part-length)
@@ -191,7 +191,7 @@ module _ {a t : List ℕ} (d : Headed a t) where
       parts-at b (omega (arith, part-length, up-to-length)) (omega (arith, up-to-length)) c (n (q ++ upTo) y)
 
 -- closed parts have rows by the rules that lie in the arguments and are the same wherever these stand
-parts-closed : {a : List ℕ} → ClosedParts a → (rel : List HeaderRow) × RowsIn (length a) rel × Reads a rel
+parts-closed : {a : List ℕ} → ClosedParts a → (rel : List HeaderRow) × PartsWithin (length a) rel × Reads a rel
 parts-closed {a} (ClosedParts.none h) = ([], tt, parts-none a h)
 parts-closed {a} (ClosedParts.part k {r} {t} e f o h p) =
     let d : Headed a t = headed a k r t e f h in
@@ -205,7 +205,7 @@ parts-closed {a} (ClosedParts.part k {r} {t} e f o h p) =
 -- "each complex record's parts have their `(` outside both": then none of them has a fault, and what they are depends on the
 -- arguments' bytes a alone, whatever precedes these in the file and whatever follows
 pub parts-closed-good : {a : List ℕ} → ClosedParts a
-    → (rel : List HeaderRow) × RowsIn (length a) rel
+    → (rel : List HeaderRow) × PartsWithin (length a) rel
     × ((q y : List ℕ) → partsOf (q ++ (a ++ y)) (length q) (length q + length a) ≡ good (map (shiftRow (length q)) rel))
 parts-closed-good {a} c =
     let (rel, i, n) = parts-closed c in

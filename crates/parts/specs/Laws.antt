@@ -29,27 +29,27 @@ use Rattle.statement.specs.Rows.{HeaderRow, headerRow, mapped, headerRowOf}
 use Rattle.statement.specs.Row.{argued}
 use Rattle.statement.specs.declared.HeaderSpan.{HeaderSpan}
 use Rattle.kinds.specs.declared.Kind.{Kind}
-use Rattle.parts.specs.Part.{partBy, partIn, nextOf, PartIn, partsBy, partsFrom, partsOf, firstKind, firstOf}
-use Rattle.parts.specs.Rules.{separator, before, isKind, toldNext}
+use Rattle.parts.specs.Part.{partBy, partIn, nextPartOf, PartIn, partsBy, partsFrom, partsOf, firstKind, firstOf}
+use Rattle.parts.specs.Rules.{separator, partBefore, partIsKind, toldNext}
 use Rattle.parts.specs.declared.Next.{Next}
 use Rattle.parts.specs.declared.Next.the-variants.{Is, Over, Refused}
 
 -- "9 span outside the file": where the arguments' end is outside, that is the answer for the next part
-pub next-outside : (s : List ℕ) (from end : ℕ) → length s < end → bad (refusal 9 0 0) ≡ nextOf s from end
-unfolding nextOf
+pub next-outside : (s : List ℕ) (from end : ℕ) → length s < end → bad (refusal 9 0 0) ≡ nextPartOf s from end
+unfolding nextPartOf
 next-outside s from end h = sym (rw (lt-ltb (length s) end h) refl)
 
 -- where the place is at the arguments' end or past it, there is no next part
-pub next-done : (s : List ℕ) (from end : ℕ) → end ≤ length s → end ≤ from → good none ≡ nextOf s from end
-unfolding nextOf past walk headerHead keyword
+pub next-done : (s : List ℕ) (from end : ℕ) → end ≤ length s → end ≤ from → good none ≡ nextPartOf s from end
+unfolding nextPartOf past walk headerHead keyword
 next-done s from end h l =
     let e : end - from ≡ 0 = omega arith in
     sym (rw (le-ltb (length s) end h, e) refl)
 
 -- the head of what follows the separators, as the code has its text
 pub next-by : (s : List ℕ) (from end a : ℕ) → end ≤ length s → drop a (take (end - from) (drop from s)) ≡ past separator (take (end - from) (drop from s)) → a ≤ length (take (end - from) (drop from s))
-    → nextOf s from end ≡ partBy s (from + a) (headerHead (take (length (take (end - from) (drop from s)) - a) (drop a (take (end - from) (drop from s)))))
-unfolding nextOf
+    → nextPartOf s from end ≡ partBy s (from + a) (headerHead (take (length (take (end - from) (drop from s)) - a) (drop a (take (end - from) (drop from s)))))
+unfolding nextPartOf
 next-by s from end a h e l =
     let m : List ℕ = take (end - from) (drop from s) in
     let t : take (length m - a) (drop a m) ≡ drop a m = take-all (length m - a) (drop a m) (simp length-drop (omega arith)) in
@@ -104,8 +104,8 @@ window-fits : (s : List ℕ) (from end : ℕ) → length (take (end - from) (dro
 window-fits s from end = simp (length-take, length-drop) (omega arith)
 
 -- the next part lies in the file, and not before the place where it is sought
-pub next-in : (s : List ℕ) (from end : ℕ) (p : HeaderRow) → nextOf s from end ≡ good (some p) → PartIn (length s) from p
-unfolding nextOf
+pub next-in : (s : List ℕ) (from end : ℕ) (p : HeaderRow) → nextPartOf s from end ≡ good (some p) → PartIn (length s) from p
+unfolding nextPartOf
 next-in s from end p = go (ltb (length s) end)
   where
     m : List ℕ
@@ -133,7 +133,7 @@ next-in s from end p = go (ltb (length s) end)
     go false e = by-head (headerHead v) refl e
 
 -- a part's keyword runs forwards and lies in the file, and its `)` stands behind the place where it is sought
-pub next-ahead : (s : List ℕ) (from end : ℕ) (p : HeaderRow) → nextOf s from end ≡ good (some p) → (p .keyStart ≤ p .keyEnd) × (p .keyEnd ≤ length s) × (from ≤ p .argEnd) × (p .argEnd < length s)
+pub next-ahead : (s : List ℕ) (from end : ℕ) (p : HeaderRow) → nextPartOf s from end ≡ good (some p) → (p .keyStart ≤ p .keyEnd) × (p .keyEnd ≤ length s) × (from ≤ p .argEnd) × (p .argEnd < length s)
 next-ahead s from end p e =
     let h = next-in s from end p e in
     (h .key, omega (arith, h .opens, h .args, h .closes), omega (arith, h .ahead, h .key, h .opens, h .args), h .closes)
@@ -147,39 +147,39 @@ foundOf Over = none
 foundOf (Refused f) = none
 
 -- no part that was read so far was refused
-abbrev pub Fine : Next → Type 0
-Fine (Is p) = Unit {0}
-Fine Over = Unit {0}
-Fine (Refused f) = ⊥
+abbrev pub NoPartRefused : Next → Type 0
+NoPartRefused (Is p) = Unit {0}
+NoPartRefused Over = Unit {0}
+NoPartRefused (Refused f) = ⊥
 
 -- the part that was found so far, or another where there is none
-abbrev pub orElse : Option HeaderRow → Option HeaderRow → Option HeaderRow
-orElse none b = b
-orElse (some a) b = some a
+abbrev pub partOrElse : Option HeaderRow → Option HeaderRow → Option HeaderRow
+partOrElse none b = b
+partOrElse (some a) b = some a
 
 -- where the reading stands at the place i: so many steps are enough, and what was found and what is left give the answer
 pub record Sifting (s : List ℕ) (k : Kind) (start end i : ℕ) (got : Next) : Type 0 where
   pub steps : ℕ
   pub enough : length s < steps + i
   pub inside : i ≤ length s
-  pub fine : Fine got
-  pub gives : mapped (λ ps. orElse (foundOf got) (firstKind s k ps)) (partsFrom steps s i end) ≡ mapped (firstKind s k) (partsOf s start end)
+  pub fine : NoPartRefused got
+  pub gives : mapped (λ ps. partOrElse (foundOf got) (firstKind s k ps)) (partsFrom steps s i end) ≡ mapped (firstKind s k) (partsOf s start end)
 
 -- what was found so far, as the code's answer tells it
-found-told : (got : Next) → Fine got → toldNext got ≡ good (foundOf got)
+found-told : (got : Next) → NoPartRefused got → toldNext got ≡ good (foundOf got)
 found-told (Is p) h = refl
 found-told Over h = refl
 found-told (Refused f) h = absurd h
 
 -- where nothing was refused so far, nothing is with one part more
-fine-more : (got : Next) (p : HeaderSpan) (hit : Bool) → Fine got → Fine (firstOf got p hit)
+fine-more : (got : Next) (p : HeaderSpan) (hit : Bool) → NoPartRefused got → NoPartRefused (firstOf got p hit)
 fine-more (Is q) p hit h = tt
 fine-more (Refused f) p hit h = absurd h
 fine-more Over p true h = tt
 fine-more Over p false h = tt
 
 -- what is found with one part more: what was found before, or that part where it is of the kind, or what the rest gives
-more-found : (got : Next) (p : HeaderSpan) (hit : Bool) (rest : Option HeaderRow) → Fine got → orElse (foundOf (firstOf got p hit)) rest ≡ orElse (foundOf got) (pick hit (some (headerRowOf p)) rest)
+more-found : (got : Next) (p : HeaderSpan) (hit : Bool) (rest : Option HeaderRow) → NoPartRefused got → partOrElse (foundOf (firstOf got p hit)) rest ≡ partOrElse (foundOf got) (pick hit (some (headerRowOf p)) rest)
 more-found (Is q) p hit rest h = refl
 more-found (Refused f) p hit rest h = absurd h
 more-found Over p true rest h = refl
@@ -192,29 +192,29 @@ module _ (s : List ℕ) (k : Kind) (start end : ℕ) where
 
   module _ (i : ℕ) (got : Next) (f : Sifting s k start end i got) where
     -- the steps that are left after one, and that they give the answer
-    later : (n : ℕ) × (suc n ≡ f .steps) × (mapped (λ ps. orElse (foundOf got) (firstKind s k ps)) (partsBy (nextOf s i end) (λ p. partsFrom n s (p .argEnd + 1) end)) ≡ mapped (firstKind s k) (partsOf s start end))
+    later : (n : ℕ) × (suc n ≡ f .steps) × (mapped (λ ps. partOrElse (foundOf got) (firstKind s k ps)) (partsBy (nextPartOf s i end) (λ p. partsFrom n s (p .argEnd + 1) end)) ≡ mapped (firstKind s k) (partsOf s start end))
     unfolding partsFrom
     later = go (f .steps) (f .enough) (f .gives)
       where
-        go : (n : ℕ) → length s < n + i → mapped (λ ps. orElse (foundOf got) (firstKind s k ps)) (partsFrom n s i end) ≡ mapped (firstKind s k) (partsOf s start end)
-            → (m : ℕ) × (suc m ≡ n) × (mapped (λ ps. orElse (foundOf got) (firstKind s k ps)) (partsBy (nextOf s i end) (λ p. partsFrom m s (p .argEnd + 1) end)) ≡ mapped (firstKind s k) (partsOf s start end))
+        go : (n : ℕ) → length s < n + i → mapped (λ ps. partOrElse (foundOf got) (firstKind s k ps)) (partsFrom n s i end) ≡ mapped (firstKind s k) (partsOf s start end)
+            → (m : ℕ) × (suc m ≡ n) × (mapped (λ ps. partOrElse (foundOf got) (firstKind s k ps)) (partsBy (nextPartOf s i end) (λ p. partsFrom m s (p .argEnd + 1) end)) ≡ mapped (firstKind s k) (partsOf s start end))
         go zero l e = let w = f .inside in absurd (omega arith)
         go (suc m) l e = (m, refl, e)
 
     -- where no part is left, what was found is the answer
-    pub sift-over : nextOf s i end ≡ good none → toldNext got ≡ mapped (firstKind s k) (partsOf s start end)
+    pub sift-over : nextPartOf s i end ≡ good none → toldNext got ≡ mapped (firstKind s k) (partsOf s start end)
     sift-over e = found-told got (f .fine) ∙ ap good (none-left (foundOf got)) ∙ (rw e at (later .2))
       where
-        none-left : (o : Option HeaderRow) → o ≡ orElse o none
+        none-left : (o : Option HeaderRow) → o ≡ partOrElse o none
         none-left none = refl
         none-left (some p) = refl
 
     -- where a part is refused, so are all
-    pub sift-refused : (q : Refusal) → nextOf s i end ≡ bad q → bad q ≡ mapped (firstKind s k) (partsOf s start end)
+    pub sift-refused : (q : Refusal) → nextPartOf s i end ≡ bad q → bad q ≡ mapped (firstKind s k) (partsOf s start end)
     sift-refused q e = rw e at (later .2)
 
     -- after one part more the reading stands past its `)`
-    pub sift-goes : (p : HeaderSpan) → nextOf s i end ≡ good (some (headerRowOf p)) → Sifting s k start end (p .args .end + 1) (firstOf got p (isKind s k (headerRowOf p)))
+    pub sift-goes : (p : HeaderSpan) → nextPartOf s i end ≡ good (some (headerRowOf p)) → Sifting s k start end (p .args .end + 1) (firstOf got p (partIsKind s k (headerRowOf p)))
     sift-goes p e =
         let (n, c, g) = later in
         let (a, b, d, h) = next-ahead s i end (headerRowOf p) e in
@@ -223,10 +223,10 @@ module _ (s : List ℕ) (k : Kind) (start end : ℕ) where
           steps = n;
           enough = omega arith;
           inside = omega arith;
-          fine = fine-more got p (isKind s k (headerRowOf p)) (f .fine);
+          fine = fine-more got p (partIsKind s k (headerRowOf p)) (f .fine);
           gives = by (partsFrom n s (p .args .end + 1) end) ∙ (rw e at g);
         }
       where
-        by : (x : Told (List HeaderRow)) → mapped (λ ps. orElse (foundOf (firstOf got p (isKind s k (headerRowOf p)))) (firstKind s k ps)) x ≡ mapped (λ ps. orElse (foundOf got) (firstKind s k ps)) (before (headerRowOf p) x)
-        by (good ps) = ap good (more-found got p (isKind s k (headerRowOf p)) (firstKind s k ps) (f .fine))
+        by : (x : Told (List HeaderRow)) → mapped (λ ps. partOrElse (foundOf (firstOf got p (partIsKind s k (headerRowOf p)))) (firstKind s k ps)) x ≡ mapped (λ ps. partOrElse (foundOf got) (firstKind s k ps)) (partBefore (headerRowOf p) x)
+        by (good ps) = ap good (more-found got p (partIsKind s k (headerRowOf p)) (firstKind s k ps) (f .fine))
         by (bad q) = refl

@@ -19,7 +19,7 @@ use Rattle.statement.specs.Rows.{HeaderRow, headerRow, mapped}
 use Rattle.statement.specs.Row.{argued}
 use Rattle.statement.specs.declared.HeaderSpan.{HeaderSpan}
 use Rattle.kinds.specs.declared.Kind.{Kind}
-use Rattle.parts.specs.Rules.{separator, before, isKind}
+use Rattle.parts.specs.Rules.{separator, partBefore, partIsKind}
 use Rattle.parts.specs.declared.Next.{Next}
 use Rattle.parts.specs.declared.Next.the-variants.{Is, Over, Refused}
 
@@ -34,8 +34,8 @@ abbrev pub partIn : List ℕ → ℕ → List ℕ → Told (Option HeaderRow)
 partIn s from m = partBy s (from + place m (past separator m)) (headerHead (past separator m))
 
 -- the next part of the file s from a place on, where the arguments end at `end`; "9 span outside the file"
-unfoldable pub nextOf : List ℕ → ℕ → ℕ → Told (Option HeaderRow)
-nextOf s from end = pick (ltb (length s) end) (bad (refusal 9 0 0)) (partIn s from (take (end - from) (drop from s)))
+unfoldable pub nextPartOf : List ℕ → ℕ → ℕ → Told (Option HeaderRow)
+nextPartOf s from end = pick (ltb (length s) end) (bad (refusal 9 0 0)) (partIn s from (take (end - from) (drop from s)))
 
 -- a part lies in a file of n bytes, not before the place `from`: keyword and arguments run forwards, its `(` stands between them
 -- and its `)` behind them
@@ -50,12 +50,12 @@ pub record PartIn (n from : ℕ) (p : HeaderRow) : Type 0 where
 abbrev pub partsBy : Told (Option HeaderRow) → (HeaderRow → Told (List HeaderRow)) → Told (List HeaderRow)
 partsBy (bad q) k = bad q
 partsBy (good none) k = good []
-partsBy (good (some p)) k = before p (k p)
+partsBy (good (some p)) k = partBefore p (k p)
 
 -- all parts from a place on, in at most n steps; the number 0, which no refusal has, where there are more
 unfoldable pub partsFrom : ℕ → List ℕ → ℕ → ℕ → Told (List HeaderRow)
 partsFrom zero s from end = bad (refusal 0 0 0)
-partsFrom (suc n) s from end = partsBy (nextOf s from end) (λ p. partsFrom n s (p .argEnd + 1) end)
+partsFrom (suc n) s from end = partsBy (nextPartOf s from end) (λ p. partsFrom n s (p .argEnd + 1) end)
 
 -- all parts from a place on: there are no more than the file has bytes
 abbrev pub partsOf : List ℕ → ℕ → ℕ → Told (List HeaderRow)
@@ -64,7 +64,7 @@ partsOf s from end = partsFrom (suc (length s)) s from end
 -- the first part of a kind, none where no part is of it
 abbrev pub firstKind : List ℕ → Kind → List HeaderRow → Option HeaderRow
 firstKind s k [] = none
-firstKind s k (p ∷ ps) = pick (isKind s k p) (some p) (firstKind s k ps)
+firstKind s k (p ∷ ps) = pick (partIsKind s k p) (some p) (firstKind s k ps)
 
 -- `complex_part`: a record that is not complex has no parts; "9 span outside the file or backwards"; else all parts are read, and
 -- the first of the kind is given

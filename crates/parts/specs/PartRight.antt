@@ -19,7 +19,7 @@ use Rattle.lex.specs.Search.{closing}
 use Rattle.lex.specs.Answer.{placed}
 use Rattle.record.specs.Text.{past, Keyed, opened, unopened, keyword}
 use Rattle.record.specs.Head.{headerHead}
-use Rattle.record.specs.Form.{Skipped, Free, NotFirst, Keyword, HeaderForm}
+use Rattle.record.specs.Form.{SkippedBytes, Free, NotFirst, Keyword, HeaderForm}
 use Rattle.record.specs.FormRight.{past-only, past-is, keyword-is, keyword-none, headerform-only}
 use Rattle.record.specs.FormRight.Parts.{sole}
 use Rattle.record.specs.declared.Head.{Head}
@@ -29,8 +29,8 @@ use Rattle.statement.specs.Row.{argued}
 use Rattle.statement.specs.Form.{Argued}
 use Rattle.statement.specs.FormRight.{argued-only, argued-is}
 use Rattle.kinds.specs.declared.Kind.{Kind}
-use Rattle.parts.specs.Part.{partBy, partIn, nextOf, partsBy, partsFrom, partsOf, firstKind, partOf}
-use Rattle.parts.specs.Rules.{separator, Window, NextForm, before, PartsForm, isKind, NoPart, IsFirstPart, FirstPart, ComplexPart}
+use Rattle.parts.specs.Part.{partBy, partIn, nextPartOf, partsBy, partsFrom, partsOf, firstKind, partOf}
+use Rattle.parts.specs.Rules.{separator, BytesBetween, NextPartForm, partBefore, PartsForm, partIsKind, NoPart, IsFirstPart, FirstPart, ComplexPart}
 use Rattle.parts.specs.Laws.{next-outside, next-done, next-ahead}
 
 -- what does not begin with a separator does not begin with whitespace
@@ -42,22 +42,22 @@ not-white v h c r e = go (white c) refl (h c r e)
     go false p q = p
 
 -- the bytes of a window are those that the code cuts out
-window-cut : {s : List ℕ} {from end : ℕ} {m : List ℕ} (w : Window s from end m) → take (end - from) (drop from s) ≡ m
+window-cut : {s : List ℕ} {from end : ℕ} {m : List ℕ} (w : BytesBetween s from end m) → take (end - from) (drop from s) ≡ m
 window-cut {s} {from} {end} {m} w =
     let d : drop from s ≡ m ++ w .back = ap (drop from) (w .shape) ∙ drop-at (w .front) (m ++ w .back) from (w .starts) in
     let n : length m ≡ end - from = let a = w .starts in let b = w .ends in omega arith in
     ap (take (end - from)) d ∙ take-at m (w .back) (end - from) n
 
 -- a window ends in the file
-window-ends : {s : List ℕ} {from end : ℕ} {m : List ℕ} (w : Window s from end m) → end ≤ length s
+window-ends : {s : List ℕ} {from end : ℕ} {m : List ℕ} (w : BytesBetween s from end m) → end ≤ length s
 window-ends {s} {from} {end} {m} w =
     let l : length s ≡ length (w .front) + (length m + length (w .back)) = ap (λ (x : List ℕ). length x) (w .shape) ∙ length-append (w .front) (m ++ w .back) ∙ ap (λ (n : ℕ). length (w .front) + n) (length-append m (w .back)) in
     let b = w .ends in
     omega arith
 
 -- the next part of a window is that of the head past its separators
-window-next : {s : List ℕ} {from end : ℕ} {f v : List ℕ} (w : Window s from end (f ++ v)) → Skipped separator f v → (h : Head) → h ≡ headerHead v → nextOf s from end ≡ partBy s (from + length f) h
-unfolding nextOf
+window-next : {s : List ℕ} {from end : ℕ} {f v : List ℕ} (w : BytesBetween s from end (f ++ v)) → SkippedBytes separator f v → (h : Head) → h ≡ headerHead v → nextPartOf s from end ≡ partBy s (from + length f) h
+unfolding nextPartOf
 window-next {s} {from} {end} {f} {v} w k h e =
     let p : past separator (f ++ v) ≡ v = past-only separator f v k in
     let l : length (f ++ v) ≡ length f + length v = length-append f v in
@@ -66,11 +66,11 @@ window-next {s} {from} {end} {f} {v} w k h e =
     (ap (λ (x : List ℕ). partBy s (from + place (f ++ v) x) (headerHead x)) p ∙ ap (λ (n : ℕ). partBy s (from + n) (headerHead v)) q ∙ ap (partBy s (from + length f)) (sym e))
 
 -- a keyword that follows separators has the head of its places
-key-head : {f v k w r : List ℕ} → Skipped separator f v → Keyword v k w r → Simple 0 0 (length k) (length (k ++ w)) ≡ headerHead v
+key-head : {f v k w r : List ℕ} → SkippedBytes separator f v → Keyword v k w r → Simple 0 0 (length k) (length (k ++ w)) ≡ headerHead v
 key-head {f} {v} p g = headerform-only (HeaderForm.named {a = []} (record { all = tt; over = not-white v (p .over) }) g)
 
 -- the file from a part's `(` on, by the window that it stands in
-from-open : (s : List ℕ) (from end : ℕ) (f v k w r : List ℕ) (m : Window s from end (f ++ v)) → Keyword v k w r → drop (from + length f + length (k ++ w)) s ≡ 40 ∷ (r ++ m .back)
+from-open : (s : List ℕ) (from end : ℕ) (f v k w r : List ℕ) (m : BytesBetween s from end (f ++ v)) → Keyword v k w r → drop (from + length f + length (k ++ w)) s ≡ 40 ∷ (r ++ m .back)
 from-open s from end f v k w r m g =
     let x : List ℕ = m .front ++ (f ++ (k ++ w)) in
     let e : s ≡ x ++ (40 ∷ (r ++ m .back)) = m .shape ∙ ap (λ (z : List ℕ). m .front ++ ((f ++ z) ++ m .back)) (g .shape) ∙ simp append-assoc in
@@ -78,22 +78,22 @@ from-open s from end f v k w r m g =
     ap (drop (from + length f + length (k ++ w))) e ∙ drop-at x (40 ∷ (r ++ m .back)) (from + length f + length (k ++ w)) l
 
 -- the next part by the rules is the one that is computed
-pub next-only : {s : List ℕ} {from end : ℕ} {a : Told (Option HeaderRow)} → NextForm s from end a → a ≡ nextOf s from end
-next-only {s} {from} {end} (NextForm.outside h) = next-outside s from end h
-next-only {s} {from} {end} (NextForm.done h l) = next-done s from end h l
-next-only (NextForm.over {f} {v} w k g) = sym (window-next w k (Bad 1) (headerform-only (HeaderForm.unopened v g)))
-next-only {s} {from} {end} (NextForm.part {f} {v} {k} {w} {r} {e} m p g t) =
+pub part-next-only : {s : List ℕ} {from end : ℕ} {a : Told (Option HeaderRow)} → NextPartForm s from end a → a ≡ nextPartOf s from end
+part-next-only {s} {from} {end} (NextPartForm.outside h) = next-outside s from end h
+part-next-only {s} {from} {end} (NextPartForm.done h l) = next-done s from end h l
+part-next-only (NextPartForm.over {f} {v} w k g) = sym (window-next w k (Bad 1) (headerform-only (HeaderForm.unopened v g)))
+part-next-only {s} {from} {end} (NextPartForm.part {f} {v} {k} {w} {r} {e} m p g t) =
     sym (window-next m p (Simple 0 0 (length k) (length (k ++ w))) (key-head p g)
     ∙ ap (λ (x : List ℕ). argued s x (λ q. some (headerRow (from + length f + 0) (from + length f + length k) (from + length f + length (k ++ w) + 1) q))) (from-open s from end f v k w r m g)
     ∙ ap (mapped (λ q. some (headerRow (from + length f + 0) (from + length f + length k) (from + length f + length (k ++ w) + 1) q))) (sym (argued-only t))
     ∙ ap (λ (n : ℕ). good (some (headerRow n (from + length f + length k) (from + length f + length (k ++ w) + 1) e))) (omega arith))
-next-only {s} {from} {end} (NextForm.refused {f} {v} {k} {w} {r} {q} m p g t) =
+part-next-only {s} {from} {end} (NextPartForm.refused {f} {v} {k} {w} {r} {q} m p g t) =
     sym (window-next m p (Simple 0 0 (length k) (length (k ++ w))) (key-head p g)
     ∙ ap (λ (x : List ℕ). argued s x (λ q. some (headerRow (from + length f + 0) (from + length f + length k) (from + length f + length (k ++ w) + 1) q))) (from-open s from end f v k w r m g)
     ∙ ap (mapped (λ q. some (headerRow (from + length f + 0) (from + length f + length k) (from + length f + length (k ++ w) + 1) q))) (sym (argued-only t)))
 
 -- the bytes between two places of the file are its window there
-window-of : (s : List ℕ) (from end : ℕ) → from ≤ end → end ≤ length s → Window s from end (take (end - from) (drop from s))
+window-of : (s : List ℕ) (from end : ℕ) → from ≤ end → end ≤ length s → BytesBetween s from end (take (end - from) (drop from s))
 window-of s from end h l =
     record {
       front = take from s;
@@ -104,40 +104,40 @@ window-of s from end h l =
     }
 
 -- from every place on there is an answer for the next part by the rules
-next-comes : (s : List ℕ) (from end : ℕ) → (a : Told (Option HeaderRow)) × NextForm s from end a
+next-comes : (s : List ℕ) (from end : ℕ) → (a : Told (Option HeaderRow)) × NextPartForm s from end a
 next-comes s from end = by-end (decLt (length s) end)
   where
-    part-comes : {f v : List ℕ} (m : Window s from end (f ++ v)) → Skipped separator f v → (x : Keyed) → keyword v ≡ x → (a : Told (Option HeaderRow)) × NextForm s from end a
-    part-comes {f} {v} m p unopened e = (_, NextForm.over m p (keyword-none v e))
+    part-comes : {f v : List ℕ} (m : BytesBetween s from end (f ++ v)) → SkippedBytes separator f v → (x : Keyed) → keyword v ≡ x → (a : Told (Option HeaderRow)) × NextPartForm s from end a
+    part-comes {f} {v} m p unopened e = (_, NextPartForm.over m p (keyword-none v e))
     part-comes {f} {v} m p (opened z o) e = let (k, w, r, d, b, g) = keyword-is v z o e in argue k w r g (placed s (closing (40 ∷ (r ++ m .back)))) (argued-is s (r ++ m .back))
       where
-        argue : (k w r : List ℕ) → Keyword v k w r → (t : Told ℕ) → Argued s (r ++ m .back) t → (a : Told (Option HeaderRow)) × NextForm s from end a
-        argue k w r g (good q) t = (_, NextForm.part m p g t)
-        argue k w r g (bad q) t = (_, NextForm.refused m p g t)
+        argue : (k w r : List ℕ) → Keyword v k w r → (t : Told ℕ) → Argued s (r ++ m .back) t → (a : Told (Option HeaderRow)) × NextPartForm s from end a
+        argue k w r g (good q) t = (_, NextPartForm.part m p g t)
+        argue k w r g (bad q) t = (_, NextPartForm.refused m p g t)
 
-    by-start : end ≤ length s → Dec (from < end) → (a : Told (Option HeaderRow)) × NextForm s from end a
+    by-start : end ≤ length s → Dec (from < end) → (a : Told (Option HeaderRow)) × NextPartForm s from end a
     by-start l (yes h) =
         let (f, e, k) = past-is separator (take (end - from) (drop from s)) in
-        part-comes (subst (λ (x : List ℕ). Window s from end x) e (window-of s from end (omega arith) l)) k (keyword (past separator (take (end - from) (drop from s)))) refl
-    by-start l (no h) = (_, NextForm.done l (omega arith))
+        part-comes (subst (λ (x : List ℕ). BytesBetween s from end x) e (window-of s from end (omega arith) l)) k (keyword (past separator (take (end - from) (drop from s)))) refl
+    by-start l (no h) = (_, NextPartForm.done l (omega arith))
 
-    by-end : Dec (length s < end) → (a : Told (Option HeaderRow)) × NextForm s from end a
-    by-end (yes h) = (_, NextForm.outside h)
+    by-end : Dec (length s < end) → (a : Told (Option HeaderRow)) × NextPartForm s from end a
+    by-end (yes h) = (_, NextPartForm.outside h)
     by-end (no h) = by-start (omega arith) (decLt from end)
 
 -- the next part that is computed is one by the rules
-pub next-is : (s : List ℕ) (from end : ℕ) → NextForm s from end (nextOf s from end)
-next-is s from end = sole (NextForm s from end) (λ a. next-only) (next-comes s from end)
+pub part-next-is : (s : List ℕ) (from end : ℕ) → NextPartForm s from end (nextPartOf s from end)
+part-next-is s from end = sole (NextPartForm s from end) (λ a. part-next-only) (next-comes s from end)
 
 -- all parts by the rules are those that are computed, where the steps are enough
 parts-steps : {s : List ℕ} {from end : ℕ} {a : Told (List HeaderRow)} → PartsForm s end from a → (n : ℕ) → from ≤ length s → length s < n + from → a ≡ partsFrom n s from end
 unfolding partsFrom
 parts-steps {s} {from} {end} f zero h l = absurd (omega arith)
-parts-steps (PartsForm.over g) (suc n) h l = rw (← next-only g)
-parts-steps (PartsForm.fault g) (suc n) h l = rw (← next-only g)
+parts-steps (PartsForm.over g) (suc n) h l = rw (← part-next-only g)
+parts-steps (PartsForm.fault g) (suc n) h l = rw (← part-next-only g)
 parts-steps {s} {from} {end} (PartsForm.more {p = p} g f) (suc n) h l =
-    let (a, b, c, d) = next-ahead s from end p (sym (next-only g)) in
-    rw (← next-only g) (ap (before p) (parts-steps f n (omega arith) (omega arith)))
+    let (a, b, c, d) = next-ahead s from end p (sym (part-next-only g)) in
+    rw (← part-next-only g) (ap (partBefore p) (parts-steps f n (omega arith) (omega arith)))
 
 -- all parts by the rules, from a place in the file on, are those that are computed
 pub parts-only : {s : List ℕ} {from end : ℕ} {a : Told (List HeaderRow)} → PartsForm s end from a → from ≤ length s → a ≡ partsOf s from end
@@ -147,9 +147,9 @@ parts-only {s} {from} f h = parts-steps f (suc (length s)) h (omega arith)
 parts-come : (n : ℕ) (s : List ℕ) (from end : ℕ) → from ≤ length s → length s < n + from → PartsForm s end from (partsFrom n s from end)
 unfolding partsFrom
 parts-come zero s from end h l = absurd (omega arith)
-parts-come (suc n) s from end h l = go (nextOf s from end) refl (next-is s from end) (λ p a b. parts-come n s (p .argEnd + 1) end a b)
+parts-come (suc n) s from end h l = go (nextPartOf s from end) refl (part-next-is s from end) (λ p a b. parts-come n s (p .argEnd + 1) end a b)
   where
-    go : (t : Told (Option HeaderRow)) → nextOf s from end ≡ t → NextForm s from end t → ((p : HeaderRow) → p .argEnd + 1 ≤ length s → length s < n + (p .argEnd + 1) → PartsForm s end (p .argEnd + 1) (partsFrom n s (p .argEnd + 1) end))
+    go : (t : Told (Option HeaderRow)) → nextPartOf s from end ≡ t → NextPartForm s from end t → ((p : HeaderRow) → p .argEnd + 1 ≤ length s → length s < n + (p .argEnd + 1) → PartsForm s end (p .argEnd + 1) (partsFrom n s (p .argEnd + 1) end))
         → PartsForm s end from (partsBy t (λ p. partsFrom n s (p .argEnd + 1) end))
     go (bad q) e f k = PartsForm.fault f
     go (good none) e f k = PartsForm.over f
@@ -167,8 +167,8 @@ module _ (s : List ℕ) (k : Kind) where
   no-nil (v ∷ front) back p e = clash cc
 
   -- where no part is of the kind, none is with one more in front that is not
-  no-more : (v : HeaderRow) (ps : List HeaderRow) → isKind s k v ≡ false → NoPart s k ps → NoPart s k (v ∷ ps)
-  no-more v ps d h [] back p e = let q : v ≡ p = cc in subst (λ (x : HeaderRow). isKind s k x ≡ false) q d
+  no-more : (v : HeaderRow) (ps : List HeaderRow) → partIsKind s k v ≡ false → NoPart s k ps → NoPart s k (v ∷ ps)
+  no-more v ps d h [] back p e = let q : v ≡ p = cc in subst (λ (x : HeaderRow). partIsKind s k x ≡ false) q d
   no-more v ps d h (u ∷ front) back p e = h front back p cc
 
   -- where no part is of the kind, none of those after the first is
@@ -176,16 +176,16 @@ module _ (s : List ℕ) (k : Kind) where
   no-less v ps h front back p e = h (v ∷ front) back p (ap (λ (x : List HeaderRow). v ∷ x) e)
 
   -- the first part of a kind is so too with a part in front that is not of the kind
-  first-more : (v : HeaderRow) (ps : List HeaderRow) (o : Option HeaderRow) → isKind s k v ≡ false → FirstPart s k ps o → FirstPart s k (v ∷ ps) o
+  first-more : (v : HeaderRow) (ps : List HeaderRow) (o : Option HeaderRow) → partIsKind s k v ≡ false → FirstPart s k ps o → FirstPart s k (v ∷ ps) o
   first-more v ps none d h = no-more v ps d h
   first-more v ps (some p) d h = record { front = v ∷ h .front; back = h .back; cut = ap (λ (x : List HeaderRow). v ∷ x) (h .cut); kind = h .kind; before = no-more v (h .front) d (h .before) }
 
   -- the first part of a kind that is computed is that by the rules
   pub first-part-is : (ps : List HeaderRow) → FirstPart s k ps (firstKind s k ps)
   first-part-is [] = no-nil
-  first-part-is (v ∷ ps) = go (isKind s k v) refl (first-part-is ps)
+  first-part-is (v ∷ ps) = go (partIsKind s k v) refl (first-part-is ps)
     where
-      go : (t : Bool) → isKind s k v ≡ t → FirstPart s k ps (firstKind s k ps) → FirstPart s k (v ∷ ps) (pick t (some v) (firstKind s k ps))
+      go : (t : Bool) → partIsKind s k v ≡ t → FirstPart s k ps (firstKind s k ps) → FirstPart s k (v ∷ ps) (pick t (some v) (firstKind s k ps))
       go true e h = record { front = []; back = ps; cut = refl; kind = e; before = no-nil }
       go false e h = first-more v ps (firstKind s k ps) e h
 
@@ -197,12 +197,12 @@ module _ (s : List ℕ) (k : Kind) where
   first-part-only (v ∷ ps) (some p) h = go (h .front) (h .cut) (h .before) (λ o. first-part-only ps o)
     where
       go : (front : List HeaderRow) → v ∷ ps ≡ front ++ (p ∷ h .back) → NoPart s k front → ((o : Option HeaderRow) → FirstPart s k ps o → o ≡ firstKind s k ps)
-          → some p ≡ pick (isKind s k v) (some v) (firstKind s k ps)
+          → some p ≡ pick (partIsKind s k v) (some v) (firstKind s k ps)
       go [] e n ih = let q : v ≡ p = cc in rw (q, h .kind) refl
       go (u ∷ front) e n ih =
           let q : u ≡ v = cc in
           let r : ps ≡ front ++ (p ∷ h .back) = cc in
-          let d : isKind s k v ≡ false = subst (λ (x : HeaderRow). isKind s k x ≡ false) q (n [] front u refl) in
+          let d : partIsKind s k v ≡ false = subst (λ (x : HeaderRow). partIsKind s k x ≡ false) q (n [] front u refl) in
           rw d (ih (some p) (record { front = front; back = h .back; cut = r; kind = h .kind; before = no-less u front n }))
 
 -- what is computed for `complex_part` is an answer by the rules

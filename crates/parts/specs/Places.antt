@@ -15,10 +15,10 @@ use Rattle.error.specs.Refusal.{Refusal, refusal, Told, good, bad}
 use Rattle.statement.specs.Rows.{HeaderRow, mapped}
 use Rattle.statement.specs.Form.{ArguedTo, Argued}
 use Rattle.kinds.specs.declared.Kind.{Kind}
-use Rattle.parts.specs.Part.{nextOf, PartIn, partsBy, partsFrom, partsOf, firstKind, partOf}
-use Rattle.parts.specs.Rules.{NextForm, before, PartsForm, isKind}
+use Rattle.parts.specs.Part.{nextPartOf, PartIn, partsBy, partsFrom, partsOf, firstKind, partOf}
+use Rattle.parts.specs.Rules.{NextPartForm, partBefore, PartsForm, partIsKind}
 use Rattle.parts.specs.Laws.{next-in}
-use Rattle.parts.specs.PartRight.{next-is, next-only, parts-are}
+use Rattle.parts.specs.PartRight.{part-next-is, part-next-only, parts-are}
 
 -- "3 comment open", "4 string open", "6 parenthesis open" or "9 span [..] outside the file or backwards", at a place in a file of n bytes
 abbrev pub FaultIn : ℕ → Refusal → Type 0
@@ -50,21 +50,21 @@ nine-in : (n : ℕ) → FaultIn n (refusal 9 0 0)
 nine-in n = (inr (inr (inr refl)), omega arith)
 
 -- what refuses the next part by the rules is 3, 4, 6 or 9 at a place in the file
-next-fault : {s : List ℕ} {from end : ℕ} {q : Refusal} → NextForm s from end (bad q) → FaultIn (length s) q
-next-fault {s} (NextForm.outside h) = nine-in (length s)
-next-fault (NextForm.refused m p g t) = argued-fault t
+next-fault : {s : List ℕ} {from end : ℕ} {q : Refusal} → NextPartForm s from end (bad q) → FaultIn (length s) q
+next-fault {s} (NextPartForm.outside h) = nine-in (length s)
+next-fault (NextPartForm.refused m p g t) = argued-fault t
 
 -- the next part lies in the file, behind where it is sought; or it is refused with 3, 4, 6 or 9 at a place in the file
-pub next-placed : (s : List ℕ) (from end : ℕ) → AnswerIn (length s) (SomeIn (length s) from) (nextOf s from end)
-next-placed s from end = go (nextOf s from end) refl (next-is s from end)
+pub part-next-placed : (s : List ℕ) (from end : ℕ) → AnswerIn (length s) (SomeIn (length s) from) (nextPartOf s from end)
+part-next-placed s from end = go (nextPartOf s from end) refl (part-next-is s from end)
   where
-    go : (x : Told (Option HeaderRow)) → nextOf s from end ≡ x → NextForm s from end x → AnswerIn (length s) (SomeIn (length s) from) x
+    go : (x : Told (Option HeaderRow)) → nextPartOf s from end ≡ x → NextPartForm s from end x → AnswerIn (length s) (SomeIn (length s) from) x
     go (good none) e f = tt
     go (good (some p)) e f = next-in s from end p e
     go (bad q) e f = next-fault f
 
 -- where parts lie in the file, they do with one more in front that lies there before them
-add-in : (n from : ℕ) (p : HeaderRow) (x : Told (List HeaderRow)) → PartIn n from p → AnswerIn n (AllIn n (p .argEnd + 1)) x → AnswerIn n (AllIn n from) (before p x)
+add-in : (n from : ℕ) (p : HeaderRow) (x : Told (List HeaderRow)) → PartIn n from p → AnswerIn n (AllIn n (p .argEnd + 1)) x → AnswerIn n (AllIn n from) (partBefore p x)
 add-in n from p (good ps) h k = (h, k)
 add-in n from p (bad q) h k = k
 
@@ -72,7 +72,7 @@ add-in n from p (bad q) h k = k
 parts-in : {s : List ℕ} {from end : ℕ} {a : Told (List HeaderRow)} → PartsForm s end from a → AnswerIn (length s) (AllIn (length s) from) a
 parts-in (PartsForm.over f) = tt
 parts-in (PartsForm.fault f) = next-fault f
-parts-in {s} {from} {end} (PartsForm.more {p = p} {a = a} f g) = add-in (length s) from p a (next-in s from end p (sym (next-only f))) (parts-in g)
+parts-in {s} {from} {end} (PartsForm.more {p = p} {a = a} f g) = add-in (length s) from p a (next-in s from end p (sym (part-next-only f))) (parts-in g)
 
 -- all parts that are computed lie in the file; or they are refused with 3, 4, 6 or 9 at a place in the file
 pub parts-placed : (s : List ℕ) (from end : ℕ) → AnswerIn (length s) (AllIn (length s) from) (partsOf s from end)
@@ -85,7 +85,7 @@ parts-placed s from end = by (decLt (length s) from)
     go l (bad q) h = h
 
     by : Dec (length s < from) → AnswerIn (length s) (AllIn (length s) from) (partsOf s from end)
-    by (yes l) = go l (nextOf s from end) (next-placed s from end)
+    by (yes l) = go l (nextPartOf s from end) (part-next-placed s from end)
     by (no l) = parts-in (parts-are s from end (omega arith))
 
 -- a part that lies behind a place lies behind every earlier one
@@ -95,7 +95,7 @@ in-less n a b p l h = record { ahead = omega (arith, h .ahead); key = h .key; op
 -- the first part of a kind lies in the file, where all parts do
 first-in : (s : List ℕ) (k : Kind) (n from : ℕ) (ps : List HeaderRow) → AllIn n from ps → SomeIn n from (firstKind s k ps)
 first-in s k n from [] h = tt
-first-in s k n from (p ∷ ps) h = go (isKind s k p) (firstKind s k ps) (first-in s k n (p .argEnd + 1) ps (h .1))
+first-in s k n from (p ∷ ps) h = go (partIsKind s k p) (firstKind s k ps) (first-in s k n (p .argEnd + 1) ps (h .1))
   where
     go : (t : Bool) (o : Option HeaderRow) → SomeIn n (p .argEnd + 1) o → SomeIn n from (pick t (some p) o)
     go true o k = h .0

@@ -11,9 +11,9 @@ use lib.Dec.{eqb}
 use lib.ListN.{length, take, drop}
 use Rattle.error.specs.Refusal.{Refusal, refusal, Told, good, bad, told}
 use Rattle.lex.specs.Byte.{white}
-use Rattle.record.specs.Form.{Skipped, Free, Keyword}
+use Rattle.record.specs.Form.{SkippedBytes, Free, Keyword}
 use Rattle.statement.specs.Rows.{HeaderRow, headerRow, headerRowOf}
-use Rattle.kinds.specs.Kind.{kindOf}
+use Rattle.kinds.specs.Kind.{kindOfKeyword}
 use Rattle.kinds.specs.Rules.{rankOf}
 use Rattle.kinds.specs.declared.Kind.{Kind}
 use Rattle.statement.specs.Form.{Argued}
@@ -31,7 +31,7 @@ toldNext Over = good none
 toldNext (Refused f) = bad (told f)
 
 -- the bytes m of the file s from the place `from` up to the place `end`
-pub record Window (s : List ℕ) (from end : ℕ) (m : List ℕ) : Type 0 where
+pub record BytesBetween (s : List ℕ) (from end : ℕ) (m : List ℕ) : Type 0 where
   pub front : List ℕ
   pub back : List ℕ
   pub shape : s ≡ front ++ (m ++ back)
@@ -39,51 +39,51 @@ pub record Window (s : List ℕ) (from end : ℕ) (m : List ℕ) : Type 0 where
   pub ends : length front + length m ≡ end
 
 -- the next part from a place on, without a loop
-pub data NextForm (s : List ℕ) (from end : ℕ) : Told (Option HeaderRow) → Type 0 where
+pub data NextPartForm (s : List ℕ) (from end : ℕ) : Told (Option HeaderRow) → Type 0 where
   -- "9 span outside the file"
-  outside : length s < end → NextForm s from end (bad (refusal 9 0 0))
+  outside : length s < end → NextPartForm s from end (bad (refusal 9 0 0))
   -- nothing is left before the arguments' end
-  done : end ≤ length s → end ≤ from → NextForm s from end (good none)
+  done : end ≤ length s → end ≤ from → NextPartForm s from end (good none)
   -- "the next `(` byte before the arguments' end": there is none after the separators f
-  over : {f v : List ℕ} → Window s from end (f ++ v) → Skipped separator f v → Free 40 v → NextForm s from end (good none)
+  over : {f v : List ℕ} → BytesBetween s from end (f ++ v) → SkippedBytes separator f v → Free 40 v → NextPartForm s from end (good none)
   -- after the separators f the keyword k, whitespace w and the next `(`, which r follows; "its `)` ends the part", sought through
   -- the whole file
-  part : {f v k w r : List ℕ} {e : ℕ} (m : Window s from end (f ++ v)) → Skipped separator f v → Keyword v k w r
+  part : {f v k w r : List ℕ} {e : ℕ} (m : BytesBetween s from end (f ++ v)) → SkippedBytes separator f v → Keyword v k w r
       → Argued s (r ++ m .back) (good e)
-      → NextForm s from end (good (some (headerRow (from + length f) (from + length f + length k) (from + length f + length (k ++ w) + 1) e)))
+      → NextPartForm s from end (good (some (headerRow (from + length f) (from + length f + length k) (from + length f + length (k ++ w) + 1) e)))
   -- "Faults met on the way are given at once."
-  refused : {f v k w r : List ℕ} {q : Refusal} (m : Window s from end (f ++ v)) → Skipped separator f v → Keyword v k w r
-      → Argued s (r ++ m .back) (bad q) → NextForm s from end (bad q)
+  refused : {f v k w r : List ℕ} {q : Refusal} (m : BytesBetween s from end (f ++ v)) → SkippedBytes separator f v → Keyword v k w r
+      → Argued s (r ++ m .back) (bad q) → NextPartForm s from end (bad q)
 
 -- "repeat": a part before the others
-abbrev pub before : HeaderRow → Told (List HeaderRow) → Told (List HeaderRow)
-before p (good ps) = good (p ∷ ps)
-before p (bad q) = bad q
+abbrev pub partBefore : HeaderRow → Told (List HeaderRow) → Told (List HeaderRow)
+partBefore p (good ps) = good (p ∷ ps)
+partBefore p (bad q) = bad q
 
 -- all parts from a place on, without a loop
 pub data PartsForm (s : List ℕ) (end : ℕ) : ℕ → Told (List HeaderRow) → Type 0 where
   -- no part is left from the place on
-  over : {from : ℕ} → NextForm s from end (good none) → PartsForm s end from (good [])
+  over : {from : ℕ} → NextPartForm s from end (good none) → PartsForm s end from (good [])
   -- the next part is refused, and so are all
-  fault : {from : ℕ} {q : Refusal} → NextForm s from end (bad q) → PartsForm s end from (bad q)
+  fault : {from : ℕ} {q : Refusal} → NextPartForm s from end (bad q) → PartsForm s end from (bad q)
   -- "its `)` ends the part; repeat"
-  more : {from : ℕ} {p : HeaderRow} {a : Told (List HeaderRow)} → NextForm s from end (good (some p)) → PartsForm s end (p .argEnd + 1) a
-      → PartsForm s end from (before p a)
+  more : {from : ℕ} {p : HeaderRow} {a : Told (List HeaderRow)} → NextPartForm s from end (good (some p)) → PartsForm s end (p .argEnd + 1) a
+      → PartsForm s end from (partBefore p a)
 
 -- a part of the file s is of a kind by its keyword
-abbrev pub isKind : List ℕ → Kind → HeaderRow → Bool
-isKind s k p = eqb (rankOf (kindOf (take (p .keyEnd - p .keyStart) (drop (p .keyStart) s)))) (rankOf k)
+abbrev pub partIsKind : List ℕ → Kind → HeaderRow → Bool
+partIsKind s k p = eqb (rankOf (kindOfKeyword (take (p .keyEnd - p .keyStart) (drop (p .keyStart) s)))) (rankOf k)
 
 -- no part is of a kind, wherever the parts are cut around one
 abbrev pub NoPart : List ℕ → Kind → List HeaderRow → Type 0
-NoPart s k ps = (front back : List HeaderRow) (p : HeaderRow) → ps ≡ front ++ (p ∷ back) → isKind s k p ≡ false
+NoPart s k ps = (front back : List HeaderRow) (p : HeaderRow) → ps ≡ front ++ (p ∷ back) → partIsKind s k p ≡ false
 
 -- p is the first part of a kind: it stands among the parts, is of the kind, and no part before it is
 pub record IsFirstPart (s : List ℕ) (k : Kind) (ps : List HeaderRow) (p : HeaderRow) : Type 0 where
   pub front : List HeaderRow
   pub back : List HeaderRow
   pub cut : ps ≡ front ++ (p ∷ back)
-  pub kind : isKind s k p ≡ true
+  pub kind : partIsKind s k p ≡ true
   pub before : NoPart s k front
 
 -- the first part of a kind, or that there is none

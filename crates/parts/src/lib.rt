@@ -8,12 +8,12 @@ ghost use lib.ListN.{length, take, drop};
 ghost use Rattle.record.specs.Text.{past};
 ghost use Rattle.statement.specs.Rows.{headerRow, mapped, headerRowOf};
 ghost use Rattle.statement.specs.Row.{argued};
-ghost use Rattle.parts.specs.Rules.{separator, toldNext, isKind};
-ghost use Rattle.parts.specs.Part.{nextOf, firstOf, firstKind, partsOf, partOf};
+ghost use Rattle.parts.specs.Rules.{separator, toldNext, partIsKind};
+ghost use Rattle.parts.specs.Part.{nextPartOf, firstOf, firstKind, partsOf, partOf};
 ghost use mathlib.Core.Option.{some};
 use error::Fault;
 use kinds::Kind;
-use lex::Found;
+use lex::FoundPlace;
 use record::Head;
 use statement::HeaderSpan;
 use statement::Range;
@@ -54,8 +54,8 @@ fn part_at(s: &[u8], a: usize, k: usize, z: usize, o: usize) -> Next
     ensures { λ r. ⌜ toldNext r ≡ argued (now (s .entry)) (drop (a + o) (now (s .entry))) (λ q. some (headerRow (a + k) (a + z) (a + o + 1) q)) ⌝ }
 {
     match lex::matching_paren(s, a + o) {
-        Found::Refused(f) => Next::Refused(f),
-        Found::At(close) => {
+        FoundPlace::Refused(f) => Next::Refused(f),
+        FoundPlace::At(close) => {
             let keyword = Range {
                 start: a + k,
                 end: a + z,
@@ -72,7 +72,7 @@ fn part_at(s: &[u8], a: usize, k: usize, z: usize, o: usize) -> Next
 // The next part from the place `at` on, where the arguments end at `end`: whitespace and commas are passed, the keyword runs up to
 // the next `(`, its trailing whitespace dropped. 9 where the arguments end outside the file; 3, 4 and 6 where the `)` is sought.
 pub fn next_part(s: &[u8], at: usize, end: usize) -> Next
-    ensures { λ r. ⌜ toldNext r ≡ nextOf (now (s .entry)) at end ⌝ }
+    ensures { λ r. ⌜ toldNext r ≡ nextPartOf (now (s .entry)) at end ⌝ }
 {
     if s.len() < end {
         return Next::Refused(Fault::OutOfFile);
@@ -92,7 +92,7 @@ pub fn next_part(s: &[u8], at: usize, end: usize) -> Next
 // Whether a part is of a kind.
 fn part_is(s: &[u8], p: HeaderSpan, kind: Kind) -> bool
     requires { ⌜ (p .keyword .start ≤ p .keyword .end) × (p .keyword .end ≤ length (now s)) ⌝ }
-    ensures { λ r. ⌜ r ≡ isKind (now (s .entry)) kind (headerRowOf p) ⌝ }
+    ensures { λ r. ⌜ r ≡ partIsKind (now (s .entry)) kind (headerRowOf p) ⌝ }
 {
     let a = p.keyword.start;
     let z = p.keyword.end;

@@ -16,7 +16,7 @@ use lib.ListN.{length, take, drop, getD}
 use lib.Seq.{drop-cons}
 use lib.Ieee.{Float, nan, binary64, ofBits, toBits, size}
 use Rattle.common.specs.Pick.{pick}
-use Rattle.record.specs.Word.{same, isWord}
+use Rattle.record.specs.Word.{sameBytes, isWord}
 use Rattle.common.specs.Bytes.{bytes}
 use Rattle.record.specs.FormRight.{same-is}
 use Rattle.nearest.specs.Near.{near, nearUnits}
@@ -37,12 +37,12 @@ factorOf t = near (tenUp (prefixOf t)) (tenDown (prefixOf t))
 
 -- ---- the code's tables: all names in a row, where each begins, and the factors, 1.0 the last
 -- the names of the prefixes one after another
-abbrev pub names : List ℕ
-names = bytes "EXAPETATERAGIGAMEGAKILOHECTODECADECICENTIMILLIMICRONANOPICOFEMTOATTO"
+abbrev pub prefixNames : List ℕ
+prefixNames = bytes "EXAPETATERAGIGAMEGAKILOHECTODECADECICENTIMILLIMICRONANOPICOFEMTOATTO"
 
--- where each prefix's name begins in `names`, and where the last ends
-abbrev pub starts : List ℕ
-starts = 0 ∷ 3 ∷ 7 ∷ 11 ∷ 15 ∷ 19 ∷ 23 ∷ 28 ∷ 32 ∷ 36 ∷ 41 ∷ 46 ∷ 51 ∷ 55 ∷ 59 ∷ 64 ∷ 68 ∷ []
+-- where each prefix's name begins in `prefixNames`, and where the last ends
+abbrev pub prefixStarts : List ℕ
+prefixStarts = 0 ∷ 3 ∷ 7 ∷ 11 ∷ 15 ∷ 19 ∷ 23 ∷ 28 ∷ 32 ∷ 36 ∷ 41 ∷ 46 ∷ 51 ∷ 55 ∷ 59 ∷ 64 ∷ 68 ∷ []
 
 -- the f64 of each prefix's power of ten, and 1.0
 abbrev pub factors : List Float
@@ -66,18 +66,18 @@ factors =
     ∷ ofBits binary64 4607182418800017408
     ∷ []
 
--- the rule of row i of the code's tables: its part of `names` is the prefix's name, and its factor is the nearest f64
+-- the rule of row i of the code's tables: its part of `prefixNames` is the prefix's name, and its factor is the nearest f64
 pub record Rule (i : ℕ) (p : Prefix) : Type 0 where
-  pub order : getD starts i 0 ≤ getD starts (suc i) 0
-  pub within : getD starts (suc i) 0 ≤ 68
-  pub named : take (getD starts (suc i) 0 - getD starts i 0) (drop (getD starts i 0) names) ≡ bytes (p .name)
+  pub order : getD prefixStarts i 0 ≤ getD prefixStarts (suc i) 0
+  pub within : getD prefixStarts (suc i) 0 ≤ 68
+  pub named : take (getD prefixStarts (suc i) 0 - getD prefixStarts i 0) (drop (getD prefixStarts i 0) prefixNames) ≡ bytes (p .name)
   pub factor : toBits binary64 (getD factors i nan) ≡ near (tenUp p) (tenDown p)
 
 -- whether the rule of a row holds, as a test: two comparisons of places, one of a name and one of a pattern
 abbrev keepsRule : ℕ → Prefix → Bool
 keepsRule i p =
-    leb (getD starts i 0) (getD starts (suc i) 0) && leb (getD starts (suc i) 0) 68
-    && same (take (getD starts (suc i) 0 - getD starts i 0) (drop (getD starts i 0) names)) (bytes (p .name))
+    leb (getD prefixStarts i 0) (getD prefixStarts (suc i) 0) && leb (getD prefixStarts (suc i) 0) 68
+    && sameBytes (take (getD prefixStarts (suc i) 0 - getD prefixStarts i 0) (drop (getD prefixStarts i 0) prefixNames)) (bytes (p .name))
     && eqb (toBits binary64 (getD factors i nan)) (near (tenUp p) (tenDown p))
 
 -- the tests of the rules of all rows, counted from i
@@ -87,7 +87,7 @@ keepRules i (p ∷ ps) = keepsRule i p && keepRules (suc i) ps
 
 -- the test of the rule holds at all sixteen rows: antt computes it
 all-keep : T (keepRules 0 prefixes)
-unfolding toBits ofBits near nearUnits size same
+unfolding toBits ofBits near nearUnits size sameBytes
 all-keep = tt
 
 -- four tests that all hold, one by one
@@ -101,8 +101,8 @@ all-four false b c d h = absurd h
 -- where the test of a row's rule holds, the rule does
 rule-of : (i : ℕ) (p : Prefix) → T (keepsRule i p) → Rule i p
 rule-of i p h =
-    let (a, b, n, f) = all-four (leb (getD starts i 0) (getD starts (suc i) 0)) (leb (getD starts (suc i) 0) 68)
-    (same (take (getD starts (suc i) 0 - getD starts i 0) (drop (getD starts i 0) names)) (bytes (p .name)))
+    let (a, b, n, f) = all-four (leb (getD prefixStarts i 0) (getD prefixStarts (suc i) 0)) (leb (getD prefixStarts (suc i) 0) 68)
+    (sameBytes (take (getD prefixStarts (suc i) 0 - getD prefixStarts i 0) (drop (getD prefixStarts i 0) prefixNames)) (bytes (p .name)))
     (eqb (toBits binary64 (getD factors i nan)) (near (tenUp p) (tenDown p))) h in
     record { order = leb-true _ _ a; within = leb-true _ _ b; named = same-is _ _ n; factor = eqb-true _ _ f }
 
@@ -118,18 +118,18 @@ rule-from (p ∷ ps) i r (suc k) h =
 pub rule-at : (k : ℕ) → k < 16 → Rule k (getD prefixes k unity)
 rule-at k h = subst (λ (m : ℕ). Rule m (getD prefixes k unity)) (zero-add k) (rule-from prefixes 0 all-keep k h)
 
--- no name ends in `names` before it begins, by rows as the code counts them
-pub order-at : (k : ℕ) → k < 16 → getD starts k 0 ≤ getD starts (k + 1) 0
-order-at k h = subst (λ (j : ℕ). getD starts k 0 ≤ getD starts j 0) (sym (add-one k)) (rule-at k h .order)
+-- no name ends in `prefixNames` before it begins, by rows as the code counts them
+pub order-at : (k : ℕ) → k < 16 → getD prefixStarts k 0 ≤ getD prefixStarts (k + 1) 0
+order-at k h = subst (λ (j : ℕ). getD prefixStarts k 0 ≤ getD prefixStarts j 0) (sym (add-one k)) (rule-at k h .order)
 
--- each name ends inside `names`, by rows as the code counts them
-pub within-at : (k : ℕ) → k < 16 → getD starts (k + 1) 0 ≤ 68
-within-at k h = subst (λ (j : ℕ). getD starts j 0 ≤ 68) (sym (add-one k)) (rule-at k h .within)
+-- each name ends inside `prefixNames`, by rows as the code counts them
+pub within-at : (k : ℕ) → k < 16 → getD prefixStarts (k + 1) 0 ≤ 68
+within-at k h = subst (λ (j : ℕ). getD prefixStarts j 0 ≤ 68) (sym (add-one k)) (rule-at k h .within)
 
 -- to compare with a part of the names is to compare with the prefix's name
-pub word-at : (t : List ℕ) (k : ℕ) → k < 16 → isWord t (take (getD starts (k + 1) 0 - getD starts k 0) (drop (getD starts k 0) names)) ≡ isWord t (bytes (getD prefixes k unity .name))
+pub word-at : (t : List ℕ) (k : ℕ) → k < 16 → isWord t (take (getD prefixStarts (k + 1) 0 - getD prefixStarts k 0) (drop (getD prefixStarts k 0) prefixNames)) ≡ isWord t (bytes (getD prefixes k unity .name))
 word-at t k h =
-    subst (λ (j : ℕ). isWord t (take (getD starts j 0 - getD starts k 0) (drop (getD starts k 0) names)) ≡ isWord t (bytes (getD prefixes k unity .name))) (sym (add-one k))
+    subst (λ (j : ℕ). isWord t (take (getD prefixStarts j 0 - getD prefixStarts k 0) (drop (getD prefixStarts k 0) prefixNames)) ≡ isWord t (bytes (getD prefixes k unity .name))) (sym (add-one k))
     (ap (isWord t) (rule-at k h .named))
 
 -- the last factor is 1.0
@@ -182,10 +182,10 @@ search-ends t k h s =
     q
 
 -- the place of a prefix lies in the table or at its end
-pub place-within : (t : List ℕ) (ps : List Prefix) → placeIn ps t ≤ length ps
+pub prefix-place-within : (t : List ℕ) (ps : List Prefix) → placeIn ps t ≤ length ps
 unfolding placeIn
-place-within t [] = omega arith
-place-within t (p ∷ ps) = go (isWord t (bytes (p .name))) (place-within t ps)
+prefix-place-within t [] = omega arith
+prefix-place-within t (p ∷ ps) = go (isWord t (bytes (p .name))) (prefix-place-within t ps)
   where
     go : (b : Bool) → placeIn ps t ≤ length ps → pick b 0 (suc (placeIn ps t)) ≤ suc (length ps)
     go true l = omega arith
@@ -193,7 +193,7 @@ place-within t (p ∷ ps) = go (isWord t (bytes (p .name))) (place-within t ps)
 
 -- the place of a prefix that a text names is at most 16
 pub place-most : (t : List ℕ) → placeIn prefixes t ≤ 16
-place-most t = place-within t prefixes
+place-most t = prefix-place-within t prefixes
 
 -- the factor at row k is the f64 nearest to the power of ten of the prefix there; at row 16 it is 1.0
 pub factor-at : (k : ℕ) → k ≤ 16 → toBits binary64 (getD factors k nan) ≡ near (tenUp (getD prefixes k unity)) (tenDown (getD prefixes k unity))

@@ -11,7 +11,7 @@ use lib.ListN.{length, getD}
 use lib.Ieee.Bits.{is-false}
 use lib.Ieee.Fits.{and-l, and-r}
 use Rattle.common.specs.Pick.{pick}
-use Rattle.record.specs.Word.{same, isWord}
+use Rattle.record.specs.Word.{sameBytes, isWord}
 use Rattle.record.specs.Form.{Spelt}
 use Rattle.common.specs.Bytes.{bytes}
 use Rattle.record.specs.FormRight.{spelt-is, spelt-only}
@@ -23,7 +23,7 @@ use Rattle.prefixes.specs.Rules.{Prefix, prefixes, unity, tenUp, tenDown
 -- no row of the table is named w
 abbrev absent : List ℕ → List Prefix → Bool
 absent w [] = true
-absent w (q ∷ qs) = not (same (bytes (q .name)) w) && absent w qs
+absent w (q ∷ qs) = not (sameBytes (bytes (q .name)) w) && absent w qs
 
 -- no row of the table has a later one's name
 abbrev distinct : List Prefix → Bool
@@ -32,14 +32,14 @@ distinct (p ∷ ps) = absent (bytes (p .name)) ps && distinct ps
 
 -- the names of the sixteen prefixes are distinct
 all-distinct : T (distinct prefixes)
-unfolding same
+unfolding sameBytes
 all-distinct = tt
 
 -- where no row is named w, the name at row j is another
-absent-at : (w : List ℕ) (ps : List Prefix) (j : ℕ) → T (absent w ps) → j < length ps → same (bytes (getD ps j unity .name)) w ≡ false
+absent-at : (w : List ℕ) (ps : List Prefix) (j : ℕ) → T (absent w ps) → j < length ps → sameBytes (bytes (getD ps j unity .name)) w ≡ false
 absent-at w [] j a h = absurd (omega arith)
-absent-at w (q ∷ qs) zero a h = is-false (same (bytes (q .name)) w) (and-l (not (same (bytes (q .name)) w)) (absent w qs) a)
-absent-at w (q ∷ qs) (suc j) a h = absent-at w qs j (and-r (not (same (bytes (q .name)) w)) (absent w qs) a) (le-of-suc-le-suc h)
+absent-at w (q ∷ qs) zero a h = is-false (sameBytes (bytes (q .name)) w) (and-l (not (sameBytes (bytes (q .name)) w)) (absent w qs) a)
+absent-at w (q ∷ qs) (suc j) a h = absent-at w qs j (and-r (not (sameBytes (bytes (q .name)) w)) (absent w qs) a) (le-of-suc-le-suc h)
 
 -- ---- the search finds the row that is named so
 -- where row j has the name t, the search finds row j
@@ -49,7 +49,7 @@ place-only t [] j d h s = absurd (omega arith)
 place-only t (p ∷ ps) zero d h s = rw (spelt-only t (p .name) s) refl
 place-only t (p ∷ ps) (suc j) d h s =
     let a : T (absent (bytes (p .name)) ps) = and-l (absent (bytes (p .name)) ps) (distinct ps) d in
-    let e : isWord t (bytes (p .name)) ≡ false = ap (λ (l : List ℕ). same l (bytes (p .name))) s ∙ absent-at (bytes (p .name)) ps j a (le-of-suc-le-suc h) in
+    let e : isWord t (bytes (p .name)) ≡ false = ap (λ (l : List ℕ). sameBytes l (bytes (p .name))) s ∙ absent-at (bytes (p .name)) ps j a (le-of-suc-le-suc h) in
     rw e (ap suc (place-only t ps j (and-r (absent (bytes (p .name)) ps) (distinct ps) d) (le-of-suc-le-suc h) s))
 
 -- the row that the search finds has the name t

@@ -17,33 +17,33 @@ pub record Prefix : Type 0 where
   pub tens : ℕ
 
 -- a row of the table of prefixes
-abbrev pub row : String → Bool → ℕ → Prefix
-row n d k = record { name = n; down = d; tens = k }
+abbrev pub prefixEntry : String → Bool → ℕ → Prefix
+prefixEntry n d k = record { name = n; down = d; tens = k }
 
 -- "EXA 1e18, PETA 1e15, [..] ATTO 1e-18"
 abbrev pub prefixes : List Prefix
 prefixes =
-    row "EXA" false 18
-    ∷ row "PETA" false 15
-    ∷ row "TERA" false 12
-    ∷ row "GIGA" false 9
-    ∷ row "MEGA" false 6
-    ∷ row "KILO" false 3
-    ∷ row "HECTO" false 2
-    ∷ row "DECA" false 1
-    ∷ row "DECI" true 1
-    ∷ row "CENTI" true 2
-    ∷ row "MILLI" true 3
-    ∷ row "MICRO" true 6
-    ∷ row "NANO" true 9
-    ∷ row "PICO" true 12
-    ∷ row "FEMTO" true 15
-    ∷ row "ATTO" true 18
+    prefixEntry "EXA" false 18
+    ∷ prefixEntry "PETA" false 15
+    ∷ prefixEntry "TERA" false 12
+    ∷ prefixEntry "GIGA" false 9
+    ∷ prefixEntry "MEGA" false 6
+    ∷ prefixEntry "KILO" false 3
+    ∷ prefixEntry "HECTO" false 2
+    ∷ prefixEntry "DECA" false 1
+    ∷ prefixEntry "DECI" true 1
+    ∷ prefixEntry "CENTI" true 2
+    ∷ prefixEntry "MILLI" true 3
+    ∷ prefixEntry "MICRO" true 6
+    ∷ prefixEntry "NANO" true 9
+    ∷ prefixEntry "PICO" true 12
+    ∷ prefixEntry "FEMTO" true 15
+    ∷ prefixEntry "ATTO" true 18
     ∷ []
 
 -- "any other 1.0": the prefix of no name, with 10 ^ 0
 abbrev pub unity : Prefix
-unity = row "" false 0
+unity = prefixEntry "" false 0
 
 -- the upper side of a prefix's power of ten as a fraction
 abbrev pub tenUp : Prefix → ℕ

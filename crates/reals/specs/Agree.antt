@@ -1,5 +1,5 @@
 -- #101: "the short path agrees with the new one wherever both apply, proved once over digits and exponents". The short path is one product or
--- quotient of two f64s that are m and 10^k exactly, the new one the crate `wide`: both answer the one `near`. `product` and `quotient` are what the language's
+-- quotient of two f64s that are m and 10^k exactly, the new one the crate `wide_reals`: both answer the one `near`. `product` and `quotient` are what the language's
 -- `*` and `/` give (nearest/specs/Product: `mul-bits`, `div-bits`). Assumes nothing.
 use Prim.Native.Nat.{ℕ, _*_, _^_, _≤_, _<_}
 use mathlib.Core.Path.{_≡_, sym, _∙_}
@@ -12,7 +12,7 @@ use Rattle.nearest.specs.Nearest.{signed}
 use Rattle.nearest.specs.Product.{worthOf, finite, product, quotient}
 use Rattle.nearest.specs.ProductRight.{product-exact, quotient-exact, worth-whole, worth-minus}
 use Rattle.nearest.specs.PowerLaws.{ten-pos}
-use Rattle.reals.specs.Table.{powers, power-worth}
+use Rattle.reals.specs.FloatTables.{powers, power-worth}
 
 -- whatever patterns stand for m, with its sign, and for 10^k: what the wide path answers for m * 10^k has the bits of their product
 pub agree-up : (s : Bool) (m k x y : ℕ) (r : Float) → worthOf x ≡ finite s (m * 2 ^ 1074) → worthOf y ≡ finite false (10 ^ k * 2 ^ 1074)

@@ -7,13 +7,13 @@ use mathlib.Core.List.{List, _++_}
 use native.Mathlib.Omega.{arith}
 use lib.ListN.{length}
 use Rattle.record.specs.Form.{valueOf}
-use Rattle.nearest.specs.Units.{infinity}
+use Rattle.nearest.specs.PatternUnits.{infinity}
 use Rattle.nearest.specs.Near.{near}
 use Rattle.nearest.specs.Nearest.{signed}
 use Rattle.nearest.specs.Borders.{zero-is, near-zero-only, infinity-is, near-infinity-only}
 use Rattle.reals.specs.Scalar.{anyRealOf}
 use Rattle.reals.specs.Answer.{Answer, read, refused}
-use Rattle.reals.specs.Form.{Written, over, under, AnyForm}
+use Rattle.reals.specs.Form.{WrittenReal, upperSide, lowerSide, AnyForm}
 use Rattle.reals.specs.FormRight.{any-of, any-only, under-pos}
 
 -- two patterns that are the same with one sign are the same
@@ -27,14 +27,14 @@ pattern (read b) = b
 pattern (refused n) = 0
 
 -- a text that is written as a real, and its number as a fraction
-module _ {t w f x : List ℕ} {s down : Bool} (r : Written t s w f down x) where
+module _ {t w f x : List ℕ} {s down : Bool} (r : WrittenReal t s w f down x) where
   -- the upper side of a written real's number as a fraction
   abbrev num : ℕ
-  num = over (valueOf (w ++ f)) down (valueOf x)
+  num = upperSide (valueOf (w ++ f)) down (valueOf x)
 
   -- the lower side of a written real's number as a fraction
   abbrev den : ℕ
-  den = under (length f) down (valueOf x)
+  den = lowerSide (length f) down (valueOf x)
 
   -- the pattern that a written real reads as, without its sign, is the nearest one
   nearest-read : (b : ℕ) → anyRealOf t ≡ read (signed s b) → near num den ≡ b

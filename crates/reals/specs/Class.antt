@@ -11,7 +11,7 @@ use Rattle.common.specs.Pick.{pick}
 use Rattle.nearest.specs.Near.{near, near-same}
 use Rattle.nearest.specs.Nearest.{signed}
 use Rattle.nearest.specs.PowerLaws.{ten-pos}
-use Rattle.reals.specs.Scalar.{parsed, classOf, reaches, nearTen, most, largest}
+use Rattle.reals.specs.Scalar.{parsed, classOf, reaches, nearTen, mantissaBound, largestHeld}
 use Rattle.reals.specs.Answer.{Answer, read, refused, farthest}
 
 -- an exponent that is the fraction's length or more: m times 10 ^ (x - f) has the nearest f64 of m·10^x / 10^f
@@ -33,25 +33,25 @@ pub no-and : (a : Bool) → a && false ≡ false
 no-and true = refl
 no-and false = refl
 
-module _ (s : Bool) (m f x M X : ℕ) (a : m ≡ min most M) (b : x ≡ min largest X) where
+module _ (s : Bool) (m f x M X : ℕ) (a : m ≡ min mantissaBound M) (b : x ≡ min largestHeld X) where
   -- a real whose m has too many digits is 13
-  pub out-long : (d : Bool) → most ≤ m → refused 13 ≡ classOf (parsed s M f d X)
-  out-long d h = let l : most ≤ M = omega arith in rw (le-ltb M most l) refl
+  pub out-long : (d : Bool) → mantissaBound ≤ m → refused 13 ≡ classOf (parsed s M f d X)
+  out-long d h = let l : mantissaBound ≤ M = omega arith in rw (le-ltb M mantissaBound l) refl
 
   -- a real whose exponent is out of reach is 13
   out-far : (d : Bool) → reaches farthest f d X ≡ false → refused 13 ≡ classOf (parsed s M f d X)
-  out-far d e = rw (e, no-and (ltb M most)) refl
+  out-far d e = rw (e, no-and (ltb M mantissaBound)) refl
 
   -- a real whose m has few enough digits and whose exponent is in reach is the nearest f64
-  inside : (d : Bool) (p : ℕ) → m < most → reaches farthest f d X ≡ true → p ≡ signed s (nearTen M f d X) → read p ≡ classOf (parsed s M f d X)
-  inside d p h e q = let l : M < most = omega arith in rw (lt-ltb M most l, e) (ap read q)
+  inside : (d : Bool) (p : ℕ) → m < mantissaBound → reaches farthest f d X ≡ true → p ≡ signed s (nearTen M f d X) → read p ≡ classOf (parsed s M f d X)
+  inside d p h e q = let l : M < mantissaBound = omega arith in rw (lt-ltb M mantissaBound l, e) (ap read q)
 
   -- below its cap m is held as it is
-  held : m < most → m ≡ M
+  held : m < mantissaBound → m ≡ M
   held h = omega arith
 
   -- a real with a negative exponent within the bounds of the class: the nearest f64
-  pub in-down : (p : ℕ) → m < most → x + f ≤ farthest → p ≡ signed s (near m (10 ^ (x + f))) → read p ≡ classOf (parsed s M f true X)
+  pub in-down : (p : ℕ) → m < mantissaBound → x + f ≤ farthest → p ≡ signed s (near m (10 ^ (x + f))) → read p ≡ classOf (parsed s M f true X)
   in-down p h l q =
       let y : x ≡ X = omega arith in
       let z : X + f ≤ farthest = omega arith in
@@ -62,7 +62,7 @@ module _ (s : Bool) (m f x M X : ℕ) (a : m ≡ min most M) (b : x ≡ min larg
   out-down l = let z : farthest < X + f = omega arith in out-far true (lt-leb (X + f) farthest z)
 
   -- a real of the class whose exponent is the fraction's length or more: the nearest f64
-  pub in-up : (p : ℕ) → f < 2 ^ 63 → m < most → f ≤ x → x - f ≤ farthest → p ≡ signed s (near (m * 10 ^ (x - f)) 1) → read p ≡ classOf (parsed s M f false X)
+  pub in-up : (p : ℕ) → f < 2 ^ 63 → m < mantissaBound → f ≤ x → x - f ≤ farthest → p ≡ signed s (near (m * 10 ^ (x - f)) 1) → read p ≡ classOf (parsed s M f false X)
   in-up p w h g l q =
       let y : x ≡ X = omega arith in
       let z : X ≤ f + farthest = omega arith in
@@ -78,7 +78,7 @@ module _ (s : Bool) (m f x M X : ℕ) (a : m ≡ min most M) (b : x ≡ min larg
   out-up g l = let z : f + farthest < X = omega arith in out-far false (rw (lt-leb X (f + farthest) z) refl)
 
   -- a real of the class whose fraction is longer than the exponent says: the nearest f64
-  pub in-mid : (p : ℕ) → f < 2 ^ 63 → m < most → x < f → f - x ≤ farthest → p ≡ signed s (near m (10 ^ (f - x))) → read p ≡ classOf (parsed s M f false X)
+  pub in-mid : (p : ℕ) → f < 2 ^ 63 → m < mantissaBound → x < f → f - x ≤ farthest → p ≡ signed s (near m (10 ^ (f - x))) → read p ≡ classOf (parsed s M f false X)
   in-mid p w h g l q =
       let y : x ≡ X = omega arith in
       let z : X ≤ f + farthest = omega arith in

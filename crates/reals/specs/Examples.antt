@@ -9,7 +9,7 @@ use Rattle.record.specs.Text.{numberFrom}
 use Rattle.nearest.specs.Near.{near, nearUnits}
 use Rattle.reals.specs.Scalar.{parseOf, realOf, anyRealOf, wholeOf, referenceOf}
 use Rattle.reals.specs.Answer.{read, refused}
-use Rattle.reals.specs.Before.{realBefore}
+use Rattle.reals.specs.OldClass.{realBefore}
 
 -- #101: "example 9 becomes `1E27` in and `1E28` out, nineteen digits in and twenty out": `1E27` is read
 in-reach : realOf (bytes "1E27") ≡ read 0x4589_d971_e4fe_8402

@@ -32,7 +32,7 @@ pub data Powered : List ℕ → Bool → List ℕ → Type 0 where
 
 -- "Optional sign; digits, at least one, with an optional point; optionally E or e, optional sign, digits": the digits before the
 -- point, those after it, and the exponent's
-pub record Written (t : List ℕ) (s : Bool) (w f : List ℕ) (down : Bool) (x : List ℕ) : Type 0 where
+pub record WrittenReal (t : List ℕ) (s : Bool) (w f : List ℕ) (down : Bool) (x : List ℕ) : Type 0 where
   pub u : List ℕ
   pub p : List ℕ
   pub e : List ℕ
@@ -54,30 +54,30 @@ pub record Classed (long far m f : ℕ) (down : Bool) (x : ℕ) : Type 0 where
   pub reach : Reach far f down x
 
 -- m·10^e as a fraction, the powers of ten multiplied out: its upper side
-abbrev pub over : ℕ → Bool → ℕ → ℕ
-over m false x = m * 10 ^ x
-over m true x = m
+abbrev pub upperSide : ℕ → Bool → ℕ → ℕ
+upperSide m false x = m * 10 ^ x
+upperSide m true x = m
 
 -- m·10^e as a fraction, the powers of ten multiplied out: its lower side
-abbrev pub under : ℕ → Bool → ℕ → ℕ
-under f false x = 10 ^ f
-under f true x = 10 ^ (x + f)
+abbrev pub lowerSide : ℕ → Bool → ℕ → ℕ
+lowerSide f false x = 10 ^ f
+lowerSide f true x = 10 ^ (x + f)
 
 -- what a text answers as a real. #101: "answered with the nearest f64, ties to even", by its pattern, and "13 now means outside the wider class";
 -- 01: "sign kept at zero", "all else, `inf` and `nan` included, is 12"
 pub data RealForm : List ℕ → Answer ℕ → Type 0 where
-  real : {t w f x : List ℕ} {s down : Bool} {b : ℕ} → Written t s w f down x → Classed longest farthest (valueOf (w ++ f)) (length f) down (valueOf x)
-      → IsNearest (over (valueOf (w ++ f)) down (valueOf x)) (under (length f) down (valueOf x)) b → RealForm t (read (signed s b))
-  outside : {t w f x : List ℕ} {s down : Bool} → Written t s w f down x → (Classed longest farthest (valueOf (w ++ f)) (length f) down (valueOf x) → ⊥)
+  real : {t w f x : List ℕ} {s down : Bool} {b : ℕ} → WrittenReal t s w f down x → Classed longest farthest (valueOf (w ++ f)) (length f) down (valueOf x)
+      → IsNearest (upperSide (valueOf (w ++ f)) down (valueOf x)) (lowerSide (length f) down (valueOf x)) b → RealForm t (read (signed s b))
+  outside : {t w f x : List ℕ} {s down : Bool} → WrittenReal t s w f down x → (Classed longest farthest (valueOf (w ++ f)) (length f) down (valueOf x) → ⊥)
       → RealForm t (refused 13)
-  other : {t : List ℕ} → ((s down : Bool) (w f x : List ℕ) → Written t s w f down x → ⊥) → RealForm t (refused 12)
+  other : {t : List ℕ} → ((s down : Bool) (w f x : List ℕ) → WrittenReal t s w f down x → ⊥) → RealForm t (refused 12)
 
 -- what a text answers where any real is answered: the nearest f64, ties to even, the sign kept at zero, whatever the digits and the exponent. There is no class
 -- and so no 13. Where zeros end and infinities begin, nearest/specs/Borders.antt shows of `IsNearest`, and AnyBorders.antt of a text
 pub data AnyForm : List ℕ → Answer ℕ → Type 0 where
-  real : {t w f x : List ℕ} {s down : Bool} {b : ℕ} → Written t s w f down x
-      → IsNearest (over (valueOf (w ++ f)) down (valueOf x)) (under (length f) down (valueOf x)) b → AnyForm t (read (signed s b))
-  other : {t : List ℕ} → ((s down : Bool) (w f x : List ℕ) → Written t s w f down x → ⊥) → AnyForm t (refused 12)
+  real : {t w f x : List ℕ} {s down : Bool} {b : ℕ} → WrittenReal t s w f down x
+      → IsNearest (upperSide (valueOf (w ++ f)) down (valueOf x)) (lowerSide (length f) down (valueOf x)) b → AnyForm t (read (signed s b))
+  other : {t : List ℕ} → ((s down : Bool) (w f x : List ℕ) → WrittenReal t s w f down x → ⊥) → AnyForm t (refused 12)
 
 -- "in the signed 64-bit range": a number, negative where true
 abbrev pub Ranged : Bool → ℕ → Type 0

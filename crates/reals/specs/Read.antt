@@ -10,13 +10,13 @@ use lib.Dec.{eqb}
 use lib.ListN.{length, take, drop, length-drop, take-append-drop}
 use lib.Seq.{drop-drop}
 use Rattle.common.specs.Pick.{pick}
-use Rattle.record.specs.Text.{Digits, numberFrom}
-use Rattle.reals.specs.Scalar.{unsigned, minus, Mantissa, fractionOf, Exponent, power, malformed, exponentOf, parsed, unparsed, joined, parseOf, classOf, realOf, anyOf, anyRealOf, NumberAt, DecimalAt, TensAt, ClassOf, AnyAt, most, largest}
+use Rattle.record.specs.Text.{NumberAndRest, numberFrom}
+use Rattle.reals.specs.Scalar.{unsigned, isMinus, Mantissa, fractionOf, Exponent, power, malformed, exponentOf, parsed, unparsed, parsedReal, parseOf, classOf, realOf, anyOf, anyRealOf, NumberAt, DecimalAt, TensAt, ClassOf, AnyAt, mantissaBound, largestHeld}
 use Rattle.reals.specs.Which.{realBy}
 use Rattle.reals.specs.Answer.{read, refused, toldReal}
-use Rattle.long.specs.Number.{numberIn}
-use Rattle.long.specs.DigitsRight.{number-append, number-only}
-use Rattle.reals.specs.Any.{number-rest, fraction-rest}
+use Rattle.long_reals.specs.Number.{numberIn}
+use Rattle.long_reals.specs.DigitsRight.{number-append, number-in-only}
+use Rattle.reals.specs.AnyRealLaws.{number-rest, fraction-rest}
 use Rattle.reals.specs.FormRight.{unparsed-by}
 use Rattle.reals.specs.declared.Reals.{Reals}
 use Rattle.reals.specs.declared.Real.{Real}
@@ -35,7 +35,7 @@ same-place t i j h k = simp length-drop (go (ℕ-discrete i j))
         let f : length t - i ≡ length t - j → ⊥ = λ e. n (omega arith) in
         ne-eqb (length t - i) (length t - j) f ∙ sym (ne-eqb i j n)
 
-module _ (t : List ℕ) (a : ℕ) (here : drop a t ≡ unsigned t) (within : a ≤ length t) (w : Number) (whole : NumberAt t a 0 most w) (d : Decimal) (decimal : DecimalAt t (w .next) (w .value) d) where
+module _ (t : List ℕ) (a : ℕ) (here : drop a t ≡ unsigned t) (within : a ≤ length t) (w : Number) (whole : NumberAt t a 0 mantissaBound w) (d : Decimal) (decimal : DecimalAt t (w .next) (w .value) d) where
   -- what follows the digits before the point begins where the code stands
   rest-is : numberFrom 0 (unsigned t) .rest ≡ drop (w .next) t
   rest-is = ap (λ (l : List ℕ). numberFrom 0 l .rest) (sym here) ∙ whole .rest 0
@@ -45,10 +45,10 @@ module _ (t : List ℕ) (a : ℕ) (here : drop a t ≡ unsigned t) (within : a �
   mant-is = ap (fractionOf (numberFrom 0 (unsigned t) .value)) rest-is
 
   -- m, as the code has it, is held up to its cap
-  held : d .value ≡ min most (fractionOf (numberFrom 0 (unsigned t) .value) (numberFrom 0 (unsigned t) .rest) .value)
+  held : d .value ≡ min mantissaBound (fractionOf (numberFrom 0 (unsigned t) .value) (numberFrom 0 (unsigned t) .rest) .value)
   held =
-      decimal .value (numberFrom 0 (unsigned t) .value) (whole .value 0 refl ∙ ap (λ (l : List ℕ). min most (numberFrom 0 l .value)) here)
-      ∙ ap (λ (m : Mantissa). min most (m .value)) (sym mant-is)
+      decimal .value (numberFrom 0 (unsigned t) .value) (whole .value 0 refl ∙ ap (λ (l : List ℕ). min mantissaBound (numberFrom 0 l .value)) here)
+      ∙ ap (λ (m : Mantissa). min mantissaBound (m .value)) (sym mant-is)
 
   -- the number of fraction digits is as the code has counted
   places : fractionOf (numberFrom 0 (unsigned t) .value) (numberFrom 0 (unsigned t) .rest) .places ≡ d .places
@@ -66,13 +66,13 @@ module _ (t : List ℕ) (a : ℕ) (here : drop a t ≡ unsigned t) (within : a �
       ∙ same-place t (w .next) a (whole .within) within
 
   -- the parse of the text, by the code's places
-  parsed-at : parseOf t ≡ pick (eqb (w .next) a && eqb (d .places) 0) unparsed (joined (minus t) (fractionOf (numberFrom 0 (unsigned t) .value) (numberFrom 0 (unsigned t) .rest)) (exponentOf (drop (d .next) t)))
+  parsed-at : parseOf t ≡ pick (eqb (w .next) a && eqb (d .places) 0) unparsed (parsedReal (isMinus t) (fractionOf (numberFrom 0 (unsigned t) .value) (numberFrom 0 (unsigned t) .rest)) (exponentOf (drop (d .next) t)))
   unfolding parseOf
   parsed-at =
       let M = fractionOf (numberFrom 0 (unsigned t) .value) (numberFrom 0 (unsigned t) .rest) in
-      ap (λ (b : Bool). pick (b && eqb (M .places) 0) unparsed (joined (minus t) M (exponentOf (M .rest)))) none-at
-      ∙ ap (λ (f : ℕ). pick (eqb (w .next) a && eqb f 0) unparsed (joined (minus t) M (exponentOf (M .rest)))) places
-      ∙ ap (λ (l : List ℕ). pick (eqb (w .next) a && eqb (d .places) 0) unparsed (joined (minus t) M (exponentOf l))) after
+      ap (λ (b : Bool). pick (b && eqb (M .places) 0) unparsed (parsedReal (isMinus t) M (exponentOf (M .rest)))) none-at
+      ∙ ap (λ (f : ℕ). pick (eqb (w .next) a && eqb f 0) unparsed (parsedReal (isMinus t) M (exponentOf (M .rest)))) places
+      ∙ ap (λ (l : List ℕ). pick (eqb (w .next) a && eqb (d .places) 0) unparsed (parsedReal (isMinus t) M (exponentOf l))) after
 
   -- a text without a digit before or after the point is 12
   pub no-digit : (which : Reals) → eqb (w .next) a && eqb (d .places) 0 ≡ true → refused 12 ≡ realBy which t
@@ -83,15 +83,15 @@ module _ (t : List ℕ) (a : ℕ) (here : drop a t ≡ unsigned t) (within : a �
   bad-tens which e f = sym (unparsed-by which t (parsed-at ∙ rw (e, f) refl))
 
   -- else the parse has the sign, m, the number of fraction digits and the exponent that the code holds
-  good-tens : (s down : Bool) (x : ℕ) → eqb (w .next) a && eqb (d .places) 0 ≡ false → s ≡ minus t → (f : TensAt (drop (d .next) t) (Power down x)) → parsed s (fractionOf (numberFrom 0 (unsigned t) .value) (numberFrom 0 (unsigned t) .rest) .value) (d .places) down (f .0) ≡ parseOf t
+  good-tens : (s down : Bool) (x : ℕ) → eqb (w .next) a && eqb (d .places) 0 ≡ false → s ≡ isMinus t → (f : TensAt (drop (d .next) t) (Power down x)) → parsed s (fractionOf (numberFrom 0 (unsigned t) .value) (numberFrom 0 (unsigned t) .rest) .value) (d .places) down (f .0) ≡ parseOf t
   good-tens s down x e m f =
       let M = fractionOf (numberFrom 0 (unsigned t) .value) (numberFrom 0 (unsigned t) .rest) in
       ap (λ (b : Bool). parsed b (M .value) (d .places) down (f .0)) m
-      ∙ ap (λ (k : ℕ). parsed (minus t) (M .value) k down (f .0)) (sym places)
+      ∙ ap (λ (k : ℕ). parsed (isMinus t) (M .value) k down (f .0)) (sym places)
       ∙ sym (parsed-at ∙ rw (e, f .1) refl)
 
   -- a text whose parts are well formed answers as the class does of what the code holds
-  pub good-class : (s down : Bool) (x : ℕ) (r : Real) → eqb (w .next) a && eqb (d .places) 0 ≡ false → s ≡ minus t → TensAt (drop (d .next) t) (Power down x) → ClassOf s (d .value) (d .places) down x r → toldReal r ≡ realOf t
+  pub good-class : (s down : Bool) (x : ℕ) (r : Real) → eqb (w .next) a && eqb (d .places) 0 ≡ false → s ≡ isMinus t → TensAt (drop (d .next) t) (Power down x) → ClassOf s (d .value) (d .places) down x r → toldReal r ≡ realOf t
   unfolding realOf
   good-class s down x r e m f c =
       let M = fractionOf (numberFrom 0 (unsigned t) .value) (numberFrom 0 (unsigned t) .rest) in
@@ -103,7 +103,7 @@ module _ (t : List ℕ) (a : ℕ) (here : drop a t ≡ unsigned t) (within : a �
       let M = fractionOf (numberFrom 0 (unsigned t) .value) (numberFrom 0 (unsigned t) .rest) in
       let low : a ≤ d .next = let x = whole .above in let y = decimal .above in omega arith in
       let n : a + (d .next - a) ≡ d .next = omega arith in
-      number-only (numberIn 0 (take (d .next - a) (drop a t))) (M .value) (drop (d .next) t)
+      number-in-only (numberIn 0 (take (d .next - a) (drop a t))) (M .value) (drop (d .next) t)
       (sym (number-append 0 (take (d .next - a) (drop a t)) (drop (d .next) t))
       ∙ ap (λ (l : List ℕ). numberIn 0 (take (d .next - a) (drop a t) ++ l)) (ap (λ (i : ℕ). drop i t) (sym n) ∙ sym (drop-drop (d .next - a) a t))
       ∙ ap (numberIn 0) (take-append-drop (d .next - a) (drop a t) ∙ here)
@@ -112,11 +112,11 @@ module _ (t : List ℕ) (a : ℕ) (here : drop a t ≡ unsigned t) (within : a �
       ∙ ap (numberIn (M .value)) after)
 
   -- m, as the code has it, is the number of the mantissa's digits held up to its cap
-  pub m-held : d .value ≡ min most (numberIn 0 (take (d .next - a) (drop a t)))
-  m-held = held ∙ ap (min most) (sym digits-held)
+  pub m-held : d .value ≡ min mantissaBound (numberIn 0 (take (d .next - a) (drop a t)))
+  m-held = held ∙ ap (min mantissaBound) (sym digits-held)
 
   -- a text whose parts are well formed answers as any real does of what the code holds
-  pub good-any : (s down : Bool) (x b : ℕ) → eqb (w .next) a && eqb (d .places) 0 ≡ false → s ≡ minus t → TensAt (drop (d .next) t) (Power down x) → AnyAt s (numberIn 0 (take (d .next - a) (drop a t))) (d .places) down x b → read b ≡ anyRealOf t
+  pub good-any : (s down : Bool) (x b : ℕ) → eqb (w .next) a && eqb (d .places) 0 ≡ false → s ≡ isMinus t → TensAt (drop (d .next) t) (Power down x) → AnyAt s (numberIn 0 (take (d .next - a) (drop a t))) (d .places) down x b → read b ≡ anyRealOf t
   unfolding anyRealOf
   good-any s down x b e m f c =
       let M = fractionOf (numberFrom 0 (unsigned t) .value) (numberFrom 0 (unsigned t) .rest) in

@@ -8,7 +8,7 @@ use lib.Dec.{eqb, leb, ltb}
 use lib.ListN.{length, drop}
 use lib.IntN.{ℤ, pos, negℤ}
 use Rattle.common.specs.Pick.{pick}
-use Rattle.record.specs.Text.{Digits, numberFrom}
+use Rattle.record.specs.Text.{NumberAndRest, numberFrom}
 use Rattle.nearest.specs.Near.{near}
 use Rattle.nearest.specs.Nearest.{signed}
 use Rattle.nearest.specs.Power.{nearBy}
@@ -28,9 +28,9 @@ unsigned [] = []
 unsigned (c ∷ r) = pick (eqb c 43 || eqb c 45) r (c ∷ r)
 
 -- whether a text's sign is `-`
-abbrev pub minus : List ℕ → Bool
-minus [] = false
-minus (c ∷ r) = eqb c 45
+abbrev pub isMinus : List ℕ → Bool
+isMinus [] = false
+isMinus (c ∷ r) = eqb c 45
 
 -- a mantissa: the number m of all digits, how many stand after the point, and what follows
 pub record Mantissa : Type 0 where
@@ -43,7 +43,7 @@ abbrev pub mantissa : ℕ → ℕ → List ℕ → Mantissa
 mantissa m f r = record { value = m; places = f; rest = r }
 
 -- after a point stands r, of which d was read: the number, as many places as bytes were read, and what is left
-abbrev pub pointed : List ℕ → Digits → Mantissa
+abbrev pub pointed : List ℕ → NumberAndRest → Mantissa
 pointed r d = mantissa (d .value) (length r - length (d .rest)) (d .rest)
 
 -- "with an optional point": w is the number of the digits before it
@@ -61,13 +61,13 @@ abbrev pub digitsOnly : List ℕ → Bool
 digitsOnly u = eqb (length (numberFrom 0 u .rest)) 0 && ltb 0 (length u)
 
 -- an exponent's digits u, of which d is what was read: they are digits only, at least one, or it is malformed
-abbrev pub ended : Bool → List ℕ → Digits → Exponent
-ended s u d = pick (eqb (length (d .rest)) 0 && ltb 0 (length u)) (power s (d .value)) malformed
+abbrev pub exponentOfDigits : Bool → List ℕ → NumberAndRest → Exponent
+exponentOfDigits s u d = pick (eqb (length (d .rest)) 0 && ltb 0 (length u)) (power s (d .value)) malformed
 
 -- the exponent of a text: 0 of an empty one; else the letter, an optional sign and digits
 abbrev pub exponentOf : List ℕ → Exponent
 exponentOf [] = power false 0
-exponentOf (c ∷ r) = pick (eqb c 69 || eqb c 101) (ended (minus r) (unsigned r) (numberFrom 0 (unsigned r))) malformed
+exponentOf (c ∷ r) = pick (eqb c 69 || eqb c 101) (exponentOfDigits (isMinus r) (unsigned r) (numberFrom 0 (unsigned r))) malformed
 
 -- a real's sign, m, number of fraction digits, and exponent; or what is not written as a real
 pub data Parsed : Type 0 where
@@ -75,18 +75,18 @@ pub data Parsed : Type 0 where
   unparsed : Parsed
 
 -- a real of a sign, a mantissa and an exponent, which must be well formed
-abbrev pub joined : Bool → Mantissa → Exponent → Parsed
-joined s m (power d x) = parsed s (m .value) (m .places) d x
-joined s m malformed = unparsed
+abbrev pub parsedReal : Bool → Mantissa → Exponent → Parsed
+parsedReal s m (power d x) = parsed s (m .value) (m .places) d x
+parsedReal s m malformed = unparsed
 
 -- "digits, at least one", else it is no real: where none stands before the point, and none after it
-abbrev pub counted : Bool → List ℕ → Digits → Mantissa → Parsed
-counted s u d m = pick (eqb (length (d .rest)) (length u) && eqb (m .places) 0) unparsed (joined s m (exponentOf (m .rest)))
+abbrev pub realIfDigits : Bool → List ℕ → NumberAndRest → Mantissa → Parsed
+realIfDigits s u d m = pick (eqb (length (d .rest)) (length u) && eqb (m .places) 0) unparsed (parsedReal s m (exponentOf (m .rest)))
 
 -- "Optional sign; digits, at least one, with an optional point; optionally E or e, optional sign, digits"
 unfoldable pub parseOf : List ℕ → Parsed
 parseOf t =
-    counted (minus t) (unsigned t) (numberFrom 0 (unsigned t)) (fractionOf (numberFrom 0 (unsigned t) .value) (numberFrom 0 (unsigned t) .rest))
+    realIfDigits (isMinus t) (unsigned t) (numberFrom 0 (unsigned t)) (fractionOf (numberFrom 0 (unsigned t) .value) (numberFrom 0 (unsigned t) .rest))
 
 -- −far ≤ e ≤ far, e being the exponent less the number f of fraction digits; true is a negative exponent
 abbrev pub reaches : ℕ → ℕ → Bool → ℕ → Bool
@@ -102,7 +102,7 @@ abbrev pub nearTen : ℕ → ℕ → Bool → ℕ → ℕ
 nearTen m f false x = near (m * 10 ^ x) (10 ^ f)
 nearTen m f true x = near m (10 ^ (x + f))
 
--- the answer by a class's two bounds; "sign kept at zero". Document 01's class is the same at 15 and 22 (Before.antt)
+-- the answer by a class's two bounds; "sign kept at zero". Document 01's class is the same at 15 and 22 (OldClass.antt)
 abbrev pub classIn : ℕ → ℕ → Parsed → Answer ℕ
 classIn long far (parsed s m f d x) = pick (belongs long far m f d x) (read (signed s (nearTen m f d x))) (refused 13)
 classIn long far unparsed = refused 12
@@ -126,22 +126,22 @@ anyRealOf t = anyOf (parseOf t)
 
 -- ---- integers and references
 -- "in the signed 64-bit range": an integer of this sign and size, or 12
-abbrev pub ranged : Bool → ℕ → Answer ℤ
-ranged false n = pick (ltb n (2 ^ 63)) (read (pos n)) (refused 12)
-ranged true n = pick (leb n (2 ^ 63)) (read (negℤ (pos n))) (refused 12)
+abbrev pub integerInRange : Bool → ℕ → Answer ℤ
+integerInRange false n = pick (ltb n (2 ^ 63)) (read (pos n)) (refused 12)
+integerInRange true n = pick (leb n (2 ^ 63)) (read (negℤ (pos n))) (refused 12)
 
 -- what a text answers as an integer: "integers with optional sign"
 unfoldable pub wholeOf : List ℕ → Answer ℤ
-wholeOf t = pick (digitsOnly (unsigned t)) (ranged (minus t) (numberFrom 0 (unsigned t) .value)) (refused 12)
+wholeOf t = pick (digitsOnly (unsigned t)) (integerInRange (isMinus t) (numberFrom 0 (unsigned t) .value)) (refused 12)
 
 -- what the bytes after `#` answer: "`#` and digits up to 4294967295"
-abbrev pub idOf : List ℕ → Answer ℕ
-idOf ds = pick (digitsOnly ds && leb (numberFrom 0 ds .value) 4294967295) (read (numberFrom 0 ds .value)) (refused 12)
+abbrev pub referenceId : List ℕ → Answer ℕ
+referenceId ds = pick (digitsOnly ds && leb (numberFrom 0 ds .value) 4294967295) (read (numberFrom 0 ds .value)) (refused 12)
 
 -- what a text answers as a reference
 unfoldable pub referenceOf : List ℕ → Answer ℕ
 referenceOf [] = refused 12
-referenceOf (c ∷ r) = pick (eqb c 35) (idOf r) (refused 12)
+referenceOf (c ∷ r) = pick (eqb c 35) (referenceId r) (refused 12)
 
 -- ---- what the code's parts promise, at a place of the text; a number is held as itself or, from the cap on, as the cap
 
@@ -158,12 +158,12 @@ PlainAt xs cap (Plain.Digits n) = (digitsOnly xs ≡ true) × (n ≡ min cap (nu
 PlainAt xs cap Other = digitsOnly xs ≡ false
 
 -- one more than the largest m
-abbrev pub most : ℕ
-most = 10 ^ longest
+abbrev pub mantissaBound : ℕ
+mantissaBound = 10 ^ longest
 
 -- the fraction from `at`, after digits that gave n: the number of all digits, how many stand after the point, and the place after them
 pub record DecimalAt (t : List ℕ) (at from : ℕ) (r : Decimal) : Type 0 where
-  pub value : (n : ℕ) → from ≡ min most n → r .value ≡ min most (fractionOf n (drop at t) .value)
+  pub value : (n : ℕ) → from ≡ min mantissaBound n → r .value ≡ min mantissaBound (fractionOf n (drop at t) .value)
   pub places : (n : ℕ) → fractionOf n (drop at t) .places ≡ r .places
   pub rest : (n : ℕ) → fractionOf n (drop at t) .rest ≡ drop (r .next) t
   pub above : at ≤ r .next
@@ -171,22 +171,22 @@ pub record DecimalAt (t : List ℕ) (at from : ℕ) (r : Decimal) : Type 0 where
   pub short : r .places ≤ length t
 
 -- the largest number that is held as itself; it stands for all above it
-abbrev pub largest : ℕ
-largest = 2 ^ 64 - 1
+abbrev pub largestHeld : ℕ
+largestHeld = 2 ^ 64 - 1
 
 -- the exponent of a text, its size held up to the largest number, or malformed
 abbrev pub TensAt : List ℕ → Tens → Type 0
-TensAt xs (Power d x) = (n : ℕ) × (exponentOf xs ≡ power d n) × (x ≡ min largest n)
+TensAt xs (Power d x) = (n : ℕ) × (exponentOf xs ≡ power d n) × (x ≡ min largestHeld n)
 TensAt xs Malformed = exponentOf xs ≡ malformed
 
 -- r is the answer of the class, where m is held up to its cap and the exponent up to the largest number
 abbrev pub ClassOf : Bool → ℕ → ℕ → Bool → ℕ → Real → Type 0
-ClassOf s m f d x r = (M X : ℕ) → m ≡ min most M → x ≡ min largest X → toldReal r ≡ classOf (parsed s M f d X)
+ClassOf s m f d x r = (M X : ℕ) → m ≡ min mantissaBound M → x ≡ min largestHeld X → toldReal r ≡ classOf (parsed s M f d X)
 
 -- the power of ten that n digits are multiplied by, the exponent held up to the largest number; no text has 2 ^ 63 digits
 abbrev pub ScaleAt : ℕ → Bool → ℕ → Scale → Type 0
-ScaleAt f d x r = (M X n : ℕ) → M < 10 ^ n → n < 2 ^ 63 → x ≡ min largest X → nearBy (r .down) M (r .size) ≡ nearTen M f d X
+ScaleAt f d x r = (M X n : ℕ) → M < 10 ^ n → n < 2 ^ 63 → x ≡ min largestHeld X → nearBy (r .down) M (r .size) ≡ nearTen M f d X
 
 -- b is the answer for any real whose digits make M, where the exponent is held up to the largest number
 abbrev pub AnyAt : Bool → ℕ → ℕ → Bool → ℕ → ℕ → Type 0
-AnyAt s M f d x b = (X : ℕ) → x ≡ min largest X → b ≡ signed s (nearTen M f d X)
+AnyAt s M f d x b = (X : ℕ) → x ≡ min largestHeld X → b ≡ signed s (nearTen M f d X)

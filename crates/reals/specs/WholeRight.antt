@@ -14,10 +14,10 @@ use Rattle.common.specs.Pick.{pick}
 use Rattle.common.specs.Compare.{clash}
 use Rattle.common.specs.Tests.{both}
 use Rattle.record.specs.Byte.{digit}
-use Rattle.record.specs.Text.{Digits, numberFrom}
-use Rattle.record.specs.Form.{All, Skipped, valueOf, Id}
+use Rattle.record.specs.Text.{NumberAndRest, numberFrom}
+use Rattle.record.specs.Form.{All, SkippedBytes, valueOf, Id}
 use Rattle.record.specs.FormRight.{number-is}
-use Rattle.reals.specs.Scalar.{unsigned, minus, digitsOnly, ranged, wholeOf, referenceOf}
+use Rattle.reals.specs.Scalar.{unsigned, isMinus, digitsOnly, integerInRange, wholeOf, referenceOf}
 use Rattle.reals.specs.Answer.{Answer, read, refused}
 use Rattle.reals.specs.Form.{Ranged, valued, Integer, WholeForm, whole, ReferenceForm, reference}
 use Rattle.reals.specs.FormRight.{signed-only, signed-is, digits-bare, number-all, some-length}
@@ -29,7 +29,7 @@ only-digits u a n = rw (number-all u a, lt-ltb 0 (length u) (some-length u n)) r
 
 -- the number of digits is the one that `numberFrom` computes
 value-digits : (u : List ℕ) → All digit u → numberFrom 0 u .value ≡ valueOf u
-value-digits u a = ap (λ (d : Digits). d .value) (number-all u a)
+value-digits u a = ap (λ (d : NumberAndRest). d .value) (number-all u a)
 
 -- a list of length 0 is empty
 empty : (r : List ℕ) → length r ≡ 0 → r ≡ []
@@ -43,7 +43,7 @@ are-digits u e = by (number-is u (numberFrom 0 u .value) (numberFrom 0 u .rest) 
     k : (eqb (length (numberFrom 0 u .rest)) 0 ≡ true) × (ltb 0 (length u) ≡ true)
     k = both (eqb (length (numberFrom 0 u .rest)) 0) (ltb 0 (length u)) e
 
-    by : (ds : List ℕ) × (u ≡ ds ++ numberFrom 0 u .rest) × Skipped digit ds (numberFrom 0 u .rest) × (numberFrom 0 u .value ≡ valueOf ds) → All digit u × (u ≡ [] → ⊥)
+    by : (ds : List ℕ) × (u ≡ ds ++ numberFrom 0 u .rest) × SkippedBytes digit ds (numberFrom 0 u .rest) × (numberFrom 0 u .value ≡ valueOf ds) → All digit u × (u ≡ [] → ⊥)
     by (ds, h, s, v) =
         let z : numberFrom 0 u .rest ≡ [] = empty (numberFrom 0 u .rest) (eqb-true (length (numberFrom 0 u .rest)) 0 (k .0)) in
         let f : u ≡ ds = h ∙ ap (λ (r : List ℕ). ds ++ r) z ∙ append-nil ds in
@@ -55,20 +55,20 @@ are-digits u e = by (number-is u (numberFrom 0 u .value) (numberFrom 0 u .rest) 
 
 -- ---- integers
 -- an integer in the signed 64-bit range is read as it is
-ranged-in : (s : Bool) (n : ℕ) → Ranged s n → ranged s n ≡ read (valued s n)
+ranged-in : (s : Bool) (n : ℕ) → Ranged s n → integerInRange s n ≡ read (valued s n)
 ranged-in false n h = rw (lt-ltb n (2 ^ 63) h) refl
 ranged-in true n h = rw (le-leb n (2 ^ 63) h) refl
 
 -- an integer is in the signed 64-bit range, or is refused
-ranged-is : (s : Bool) (n : ℕ) → Ranged s n ⊎ ((Ranged s n → ⊥) × (ranged s n ≡ refused 12))
+ranged-is : (s : Bool) (n : ℕ) → Ranged s n ⊎ ((Ranged s n → ⊥) × (integerInRange s n ≡ refused 12))
 ranged-is false n = go (decLt n (2 ^ 63))
   where
-    go : Dec (n < 2 ^ 63) → (n < 2 ^ 63) ⊎ ((n < 2 ^ 63 → ⊥) × (ranged false n ≡ refused 12))
+    go : Dec (n < 2 ^ 63) → (n < 2 ^ 63) ⊎ ((n < 2 ^ 63 → ⊥) × (integerInRange false n ≡ refused 12))
     go (yes h) = inl h
     go (no h) = let l : 2 ^ 63 ≤ n = omega arith in inr (h, rw (le-ltb n (2 ^ 63) l) refl)
 ranged-is true n = go (decLe n (2 ^ 63))
   where
-    go : Dec (n ≤ 2 ^ 63) → (n ≤ 2 ^ 63) ⊎ ((n ≤ 2 ^ 63 → ⊥) × (ranged true n ≡ refused 12))
+    go : Dec (n ≤ 2 ^ 63) → (n ≤ 2 ^ 63) ⊎ ((n ≤ 2 ^ 63 → ⊥) × (integerInRange true n ≡ refused 12))
     go (yes h) = inl h
     go (no h) = let l : 2 ^ 63 < n = omega arith in inr (h, rw (lt-leb n (2 ^ 63) l) refl)
 
@@ -79,9 +79,9 @@ integer-only {t} {ds} {s} i =
     let k = signed-only t ds s (i .sign) (digits-bare ds (i .all) (i .some)) in
     let n : numberFrom 0 (unsigned t) .value ≡ valueOf ds = ap (λ (u : List ℕ). numberFrom 0 u .value) (k .0) ∙ value-digits ds (i .all) in
     let e : digitsOnly (unsigned t) ≡ true = ap digitsOnly (k .0) ∙ only-digits ds (i .all) (i .some) in
-    ap (λ (b : Bool). pick b (ranged (minus t) (numberFrom 0 (unsigned t) .value)) (refused 12)) e
-    ∙ ap (λ (m : ℕ). ranged (minus t) m) n
-    ∙ ap (λ (b : Bool). ranged b (valueOf ds)) (k .1)
+    ap (λ (b : Bool). pick b (integerInRange (isMinus t) (numberFrom 0 (unsigned t) .value)) (refused 12)) e
+    ∙ ap (λ (m : ℕ). integerInRange (isMinus t) m) n
+    ∙ ap (λ (b : Bool). integerInRange b (valueOf ds)) (k .1)
     ∙ ranged-in s (valueOf ds) (i .within)
 
 -- a text is an integer, or is refused
@@ -89,14 +89,14 @@ integer-is : (t : List ℕ) → ((s : Bool) × (ds : List ℕ) × Integer t s ds
 unfolding wholeOf
 integer-is t = go (digitsOnly (unsigned t)) refl
   where
-    go : (b : Bool) → digitsOnly (unsigned t) ≡ b → ((s : Bool) × (ds : List ℕ) × Integer t s ds) ⊎ (pick b (ranged (minus t) (numberFrom 0 (unsigned t) .value)) (refused 12) ≡ refused 12)
+    go : (b : Bool) → digitsOnly (unsigned t) ≡ b → ((s : Bool) × (ds : List ℕ) × Integer t s ds) ⊎ (pick b (integerInRange (isMinus t) (numberFrom 0 (unsigned t) .value)) (refused 12) ≡ refused 12)
     go false e = inr refl
-    go true e = by (are-digits (unsigned t) e) (ranged-is (minus t) (valueOf (unsigned t)))
+    go true e = by (are-digits (unsigned t) e) (ranged-is (isMinus t) (valueOf (unsigned t)))
       where
-        by : All digit (unsigned t) × (unsigned t ≡ [] → ⊥) → Ranged (minus t) (valueOf (unsigned t)) ⊎ ((Ranged (minus t) (valueOf (unsigned t)) → ⊥) × (ranged (minus t) (valueOf (unsigned t)) ≡ refused 12))
-            → ((s : Bool) × (ds : List ℕ) × Integer t s ds) ⊎ (ranged (minus t) (numberFrom 0 (unsigned t) .value) ≡ refused 12)
-        by d (inl r) = inl (minus t, unsigned t, record { sign = signed-is t; all = d .0; some = d .1; within = r })
-        by d (inr r) = inr (ap (ranged (minus t)) (value-digits (unsigned t) (d .0)) ∙ r .1)
+        by : All digit (unsigned t) × (unsigned t ≡ [] → ⊥) → Ranged (isMinus t) (valueOf (unsigned t)) ⊎ ((Ranged (isMinus t) (valueOf (unsigned t)) → ⊥) × (integerInRange (isMinus t) (valueOf (unsigned t)) ≡ refused 12))
+            → ((s : Bool) × (ds : List ℕ) × Integer t s ds) ⊎ (integerInRange (isMinus t) (numberFrom 0 (unsigned t) .value) ≡ refused 12)
+        by d (inl r) = inl (isMinus t, unsigned t, record { sign = signed-is t; all = d .0; some = d .1; within = r })
+        by d (inr r) = inr (ap (integerInRange (isMinus t)) (value-digits (unsigned t) (d .0)) ∙ r .1)
 
 -- what `wholeOf` computes is the answer by the rule for integers
 pub whole-is : (t : List ℕ) → WholeForm t (wholeOf t)

@@ -2,8 +2,8 @@
 //
 // Each takes the trimmed bytes of one parameter or item. As the Rust's parse_f64, parse_i64 and parse_ref, with
 // the float's reading as own code. Of the class, most reals are one product or quotient of two exact f64s, so that they are rounded once, and the
-// crate `nearest` says what that gives; the others of the class are answered by the crate `wide`. Where any real is asked for, whole numbers alone
-// answer it: up to nineteen digits by `wide`, more by `long`.
+// crate `nearest` says what that gives; the others of the class are answered by the crate `wide_reals`. Where any real is asked for, whole numbers alone
+// answer it: up to nineteen digits by `wide_reals`, more by `long_reals`.
 ghost use mathlib.Core.Path.{_≡_};
 ghost use Prim.Native.Nat.{_+_, _*_, _-_, _≤_, _<_, _^_, min};
 ghost use mathlib.Core.Bool.{true, false, _&&_};
@@ -14,11 +14,11 @@ ghost use Rattle.nearest.specs.Near.{near};
 ghost use Rattle.nearest.specs.Power.{nearBy};
 ghost use Rattle.nearest.specs.Nearest.{signed};
 ghost use Rattle.nearest.specs.Product.{worthOf, finite};
-ghost use Rattle.reals.specs.Scalar.{realOf, ScaleAt, AnyAt, wholeOf, ranged, referenceOf, unsigned, minus, NumberAt, PlainAt, DecimalAt, TensAt, ClassOf, most};
+ghost use Rattle.reals.specs.Scalar.{realOf, ScaleAt, AnyAt, wholeOf, integerInRange, referenceOf, unsigned, isMinus, NumberAt, PlainAt, DecimalAt, TensAt, ClassOf, mantissaBound};
 ghost use Rattle.reals.specs.Which.{realBy};
 ghost use Rattle.reals.specs.Answer.{toldReal, toldWhole, toldReference, farthest};
-ghost use Rattle.long.specs.Number.{numberIn};
-ghost use Rattle.reals.specs.Parts.{Reading, DigitsAt, EightAt};
+ghost use Rattle.long_reals.specs.Number.{numberIn};
+ghost use Rattle.reals.specs.DigitLoop.{NumberReading, DigitsAt, EightAt};
 
 // Which reals are answered: those of the class, as document 01 and #101 have it, or any.
 pub enum Reals {
@@ -56,7 +56,7 @@ const FARTHEST: usize = 27;
 const LARGEST: u64 = 0xffff_ffff_ffff_ffff;
 
 fn minus_at(t: &[u8], at: usize) -> bool
-    ensures { λ r. ⌜ r ≡ minus (drop at (now (t .entry))) ⌝ }
+    ensures { λ r. ⌜ r ≡ isMinus (drop at (now (t .entry))) ⌝ }
 {
     if at < t.len() {
         return t[at] == b'-';
@@ -175,7 +175,7 @@ fn eight_at(t: &[u8], at: usize) -> eights::Eight
 // Reads on with eight digits from a place, where there are so many.
 fn eight_from(t: &[u8], at: usize, from: u64, cap: u64) -> Number
     requires { ⌜ (at ≤ length (now t)) × (from ≤ cap) ⌝ }
-    ensures { λ r. ⌜ Reading (now (t .entry)) at from cap (r .value) (r .next) ⌝ }
+    ensures { λ r. ⌜ NumberReading (now (t .entry)) at from cap (r .value) (r .next) ⌝ }
 {
     if t.len() - at >= 8 {
         if let eights::Eight::Digits(v) = eight_at(t, at) {
@@ -194,7 +194,7 @@ fn eight_from(t: &[u8], at: usize, from: u64, cap: u64) -> Number
 // Reads on with four digits from a place, where there are so many.
 fn four_from(t: &[u8], at: usize, from: u64, cap: u64) -> Number
     requires { ⌜ (at ≤ length (now t)) × (from ≤ cap) ⌝ }
-    ensures { λ r. ⌜ Reading (now (t .entry)) at from cap (r .value) (r .next) ⌝ }
+    ensures { λ r. ⌜ NumberReading (now (t .entry)) at from cap (r .value) (r .next) ⌝ }
 {
     if t.len() - at >= 4 {
         let v = four_at(t, at);
@@ -232,7 +232,7 @@ struct Decimal {
 
 // Reads on with an optional point and its digits.
 fn fraction_from(t: &[u8], at: usize, from: u64) -> Decimal
-    requires { ⌜ (at ≤ length (now t)) × (from ≤ most) ⌝ }
+    requires { ⌜ (at ≤ length (now t)) × (from ≤ mantissaBound) ⌝ }
     ensures { λ r. ⌜ DecimalAt (now (t .entry)) at from r ⌝ }
 {
     if at < t.len() {
@@ -349,9 +349,9 @@ fn by_wide(down: bool, neg: bool, m: u64, k: usize) -> f64
     ensures { λ r. ⌜ toBits binary64 r ≡ signed neg (nearBy down m k) ⌝ }
 {
     if down {
-        return wide::lowered(neg, m, k);
+        return wide_reals::lowered(neg, m, k);
     }
-    wide::raised(neg, m, k)
+    wide_reals::raised(neg, m, k)
 }
 
 // The f64 nearest to m * 10^k, by the short path where both are f64s, as in most files: their product is rounded once. The wide path would
@@ -417,19 +417,19 @@ fn scale_of(f: usize, down: bool, x: u64) -> Scale
 // The f64 nearest to a real with m, the digits t, f fraction digits and an exponent x, negative if `down`. The digits themselves are asked only
 // where m does not hold them all.
 fn any_real(neg: bool, t: &[u8], m: u64, f: usize, down: bool, x: u64) -> f64
-    requires { ⌜ (m ≡ min most (numberIn 0 (now t))) × (f < 2 ^ 63) ⌝ }
+    requires { ⌜ (m ≡ min mantissaBound (numberIn 0 (now t))) × (f < 2 ^ 63) ⌝ }
     ensures { λ r. ⌜ AnyAt neg (numberIn 0 (now (t .entry))) f down x (toBits binary64 r) ⌝ }
 {
     let p = scale_of(f, down, x);
     if m < MOST {
         return by_wide(p.down, neg, m, p.size);
     }
-    long::decimal(neg, t, p.down, p.size)
+    long_reals::decimal(neg, t, p.down, p.size)
 }
 
 // The answer for a real with m, f fraction digits and an exponent x, negative if `down`.
 fn in_class(neg: bool, m: u64, f: usize, down: bool, x: u64) -> Real
-    requires { ⌜ (m ≤ most) × (f < 2 ^ 63) ⌝ }
+    requires { ⌜ (m ≤ mantissaBound) × (f < 2 ^ 63) ⌝ }
     ensures { λ r. ⌜ ClassOf neg m f down x r ⌝ }
 {
     if MOST <= m {
@@ -487,7 +487,7 @@ pub fn parse_real(t: &[u8]) -> Real
 
 // The negative of a number.
 fn below_zero(n: u64) -> Whole
-    ensures { λ r. ⌜ toldWhole r ≡ ranged true n ⌝ }
+    ensures { λ r. ⌜ toldWhole r ≡ integerInRange true n ⌝ }
 {
     if n == 0 {
         return Whole::Value(0);
@@ -500,7 +500,7 @@ fn below_zero(n: u64) -> Whole
 }
 
 fn above_zero(n: u64) -> Whole
-    ensures { λ r. ⌜ toldWhole r ≡ ranged false n ⌝ }
+    ensures { λ r. ⌜ toldWhole r ≡ integerInRange false n ⌝ }
 {
     if n < 0x8000_0000_0000_0000 {
         return Whole::Value(n as i64);

@@ -38,7 +38,7 @@ abbrev pub NotLast : (ℕ → Bool) → List ℕ → Type 0
 NotLast p xs = (r : List ℕ) (c : ℕ) → xs ≡ r ++ (c ∷ []) → p c ≡ false
 
 -- "digits": the bytes f of the kind p, as many as stand there before r
-pub record Skipped (p : ℕ → Bool) (f r : List ℕ) : Type 0 where
+pub record SkippedBytes (p : ℕ → Bool) (f r : List ℕ) : Type 0 where
   pub all : All p f
   pub over : NotFirst p r
 

@@ -17,12 +17,12 @@ use Rattle.common.specs.Compare.{clash}
 use Rattle.lex.specs.Byte.{white, place}
 use Rattle.common.specs.Walk.{on, walk}
 use Rattle.lex.specs.Grammar.{Begins}
-use Rattle.record.specs.Text.{past, pastGap, Digits, digits, numberFrom, opened, unopened, keyTurn, keyword, trailTurn, trail}
+use Rattle.record.specs.Text.{past, pastGap, NumberAndRest, numberAndRest, numberFrom, opened, unopened, keyTurn, keyword, trailTurn, trail}
 use Rattle.record.specs.Byte.{digit, upper}
 use Rattle.record.specs.Turns.{number-grows}
 use Rattle.record.specs.Head.{valueHead, equalHead, dataHead, headerHead}
-use Rattle.record.specs.Word.{same, isWord, opens, endsec, header, dataWord, endFile, opensData, trimmed, wordIn, wordOf}
-use Rattle.record.specs.Form.{NotFirst, Skipped, valueOf, Id, Keyword, Lead, HeadForm, HeaderForm, Gap, NoGapFirst, NoGapLast, Gapped, NoParen, Trimmed, Spelt, Says, WordForm}
+use Rattle.record.specs.Word.{sameBytes, isWord, opensParen, endsec, headerWord, dataWord, endFile, opensData, trimmed, wordIn, wordOf}
+use Rattle.record.specs.Form.{NotFirst, SkippedBytes, valueOf, Id, Keyword, Lead, HeadForm, HeaderForm, Gap, NoGapFirst, NoGapLast, Gapped, NoParen, Trimmed, Spelt, Says, WordForm}
 use Rattle.common.specs.Bytes.{bytes}
 use Rattle.record.specs.declared.Head.{Head}
 use Rattle.record.specs.declared.Head.the-variants.{Bad, Complex, Simple}
@@ -30,36 +30,36 @@ use Rattle.record.specs.declared.Word.{Word}
 use Rattle.record.specs.declared.Word.the-variants.{Header, Data, EndSection, EndFile, Other}
 pub mod Parts
 pub mod Gaps
-use Parts.{sole, first-other, all-front, all-back, all-join, all-any, Spanned, span, Tailed, tail-split, past-pass, past-halt, number-pass, number-halt, word-pass}
+use Parts.{sole, first-other, all-front, all-back, all-join, all-any, SplitAfter, split-is, Tailed, tail-split, past-pass, past-halt, number-pass, number-halt, word-pass}
 use Gaps.{gap-other, gap-more, gap-part, gap-join, gap-only, gap-is, gap-comes, gap-free, gap-digit}
 
 -- `past` answers r, where before r stand bytes of the kind p and r begins with no more of them
-pub past-only : (p : ℕ → Bool) (f r : List ℕ) → Skipped p f r → past p (f ++ r) ≡ r
+pub past-only : (p : ℕ → Bool) (f r : List ℕ) → SkippedBytes p f r → past p (f ++ r) ≡ r
 past-only p f r s = past-pass p f r (s .all) ∙ past-halt p r (s .over)
 
 -- what `past` answers follows the bytes of the kind p at the list's start, and begins with no more of them
-pub past-is : (p : ℕ → Bool) (xs : List ℕ) → (f : List ℕ) × (xs ≡ f ++ past p xs) × Skipped p f (past p xs)
-past-is p xs = go (span p xs)
+pub past-is : (p : ℕ → Bool) (xs : List ℕ) → (f : List ℕ) × (xs ≡ f ++ past p xs) × SkippedBytes p f (past p xs)
+past-is p xs = go (split-is p xs)
   where
-    go : Spanned p xs → (f : List ℕ) × (xs ≡ f ++ past p xs) × Skipped p f (past p xs)
+    go : SplitAfter p xs → (f : List ℕ) × (xs ≡ f ++ past p xs) × SkippedBytes p f (past p xs)
     go (f, r, e, s) =
         let g : past p xs ≡ r = ap (past p) e ∙ past-only p f r s in
         (f, rw g e, rw g s)
 
 -- `numberFrom` answers the number of the digits ds and the rest r, where r begins with no more digits
-pub number-only : (ds r : List ℕ) → Skipped digit ds r → numberFrom 0 (ds ++ r) ≡ digits (valueOf ds) r
-number-only ds r s = number-pass 0 ds r (s .all) ∙ number-halt _ r (s .over) ∙ ap (λ (m : ℕ). digits m r) (omega arith)
+pub number-only : (ds r : List ℕ) → SkippedBytes digit ds r → numberFrom 0 (ds ++ r) ≡ numberAndRest (valueOf ds) r
+number-only ds r s = number-pass 0 ds r (s .all) ∙ number-halt _ r (s .over) ∙ ap (λ (m : ℕ). numberAndRest m r) (omega arith)
 
 -- the number that `numberFrom` answers is that of all digits at the start, and its rest follows them
-pub number-is : (xs : List ℕ) (n : ℕ) (r : List ℕ) → numberFrom 0 xs ≡ digits n r
-    → (ds : List ℕ) × (xs ≡ ds ++ r) × Skipped digit ds r × (n ≡ valueOf ds)
-number-is xs n r h = go (span digit xs)
+pub number-is : (xs : List ℕ) (n : ℕ) (r : List ℕ) → numberFrom 0 xs ≡ numberAndRest n r
+    → (ds : List ℕ) × (xs ≡ ds ++ r) × SkippedBytes digit ds r × (n ≡ valueOf ds)
+number-is xs n r h = go (split-is digit xs)
   where
-    go : Spanned digit xs → (ds : List ℕ) × (xs ≡ ds ++ r) × Skipped digit ds r × (n ≡ valueOf ds)
+    go : SplitAfter digit xs → (ds : List ℕ) × (xs ≡ ds ++ r) × SkippedBytes digit ds r × (n ≡ valueOf ds)
     go (ds, s, e, k) =
-        let g : digits n r ≡ digits (valueOf ds) s = sym h ∙ ap (numberFrom 0) e ∙ number-only ds s k in
-        let q : r ≡ s = ap (λ (d : Digits). d .rest) g in
-        (ds, rw q e, rw q k, ap (λ (d : Digits). d .value) g)
+        let g : numberAndRest n r ≡ numberAndRest (valueOf ds) s = sym h ∙ ap (numberFrom 0) e ∙ number-only ds s k in
+        let q : r ≡ s = ap (λ (d : NumberAndRest). d .rest) g in
+        (ds, rw q e, rw q k, ap (λ (d : NumberAndRest). d .value) g)
 
 -- the search for a `(` passes over other bytes
 key-goes : (c : ℕ) → not (eqb c 40) ≡ true → (e r : List ℕ) → keyTurn e c r ≡ on (pick (white c) e r)
@@ -86,13 +86,13 @@ abbrev Keys : List ℕ → Type 0
 Keys xs = ((k w r : List ℕ) × Keyword xs k w r) ⊎ NoParen xs
 
 keyword-comes : (xs : List ℕ) → Keys xs
-keyword-comes xs = go (span (λ c. not (eqb c 40)) xs)
+keyword-comes xs = go (split-is (λ c. not (eqb c 40)) xs)
   where
     cut : (f r : List ℕ) → xs ≡ f ++ (40 ∷ r) → NoParen f → Tailed f → Keys xs
     cut f r e h (k, w, g, a, l) =
         inl (k, w, r, record { shape = cc (append-assoc k w (40 ∷ r)); first = all-front _ k w (rw g at h); blank = a; ended = l })
 
-    go : Spanned (λ c. not (eqb c 40)) xs → Keys xs
+    go : SplitAfter (λ c. not (eqb c 40)) xs → Keys xs
     go (f, [], e, s) = inr (rw (e, append-nil) (s .all))
     go (f, c ∷ r, e, s) =
         let h : c ≡ 40 = eqb-true c 40 (not-false (eqb c 40) (s .over c r refl)) in
@@ -154,7 +154,7 @@ trimmed-is xs = sole (Trimmed xs) (λ t. trimmed-only) (trimmed-comes xs)
 id-only : (ds y : List ℕ) → Id ds → NotFirst digit y → dataHead (35 ∷ (ds ++ y)) ≡ equalHead (35 ∷ (ds ++ y)) (valueOf ds) (pastGap y)
 unfolding dataHead
 id-only ds y i h =
-    let s : Skipped digit ds y = record { all = i .all; over = h } in
+    let s : SkippedBytes digit ds y = record { all = i .all; over = h } in
     rw (number-only ds y s, le-ltb 4294967295 (valueOf ds) (i .within), ne-eqb (length y) (length (ds ++ y)) (longer ds (i .some)))
   where
     longer : (f : List ℕ) → (f ≡ [] → ⊥) → length y ≡ length (f ++ y) → ⊥
@@ -231,7 +231,7 @@ equal-comes ds w (c ∷ z) i d s = go (ℕ-discrete c 61) (gap-comes z)
     go (yes p) (u, v, e, t) = rw (p, e) (simp append-assoc at (value-comes v (Lead.lead ds w u v i (s .all) t)))
     go (no h) t = (Bad 5, HeadForm.unequal ds w (c ∷ z) i d s (λ (r, e). h (cc)))
 
-number-comes : (ds y : List ℕ) → Skipped digit ds y → Heads (35 ∷ (ds ++ y))
+number-comes : (ds y : List ℕ) → SkippedBytes digit ds y → Heads (35 ∷ (ds ++ y))
 number-comes [] y s = (Bad 4, HeadForm.numberless y (s .over))
 number-comes (d ∷ ds) y s = go (leb (valueOf (d ∷ ds)) 4294967295) refl (gap-comes y)
   where
@@ -242,9 +242,9 @@ number-comes (d ∷ ds) y s = go (leb (valueOf (d ∷ ds)) 4294967295) refl (gap
 
 head-comes : (b : List ℕ) → Heads b
 head-comes [] = (Bad 2, HeadForm.unmarked [] (λ (r, e). clash (cc)))
-head-comes (c ∷ r) = go (ℕ-discrete c 35) (span digit r)
+head-comes (c ∷ r) = go (ℕ-discrete c 35) (split-is digit r)
   where
-    go : Dec (c ≡ 35) → Spanned digit r → Heads (c ∷ r)
+    go : Dec (c ≡ 35) → SplitAfter digit r → Heads (c ∷ r)
     go (yes p) (ds, y, e, s) = rw (p, e) (number-comes ds y s)
     go (no h) s = (Bad 2, HeadForm.unmarked (c ∷ r) (λ (r, e). h (cc)))
 
@@ -274,21 +274,21 @@ header-comes b = go (gap-comes b)
 pub headerform-is : (b : List ℕ) → HeaderForm b (headerHead b)
 headerform-is b = sole (HeaderForm b) (λ h. headerform-only) (header-comes b)
 
--- two texts of which the test `same` holds are equal
-pub same-is : (x y : List ℕ) → same x y ≡ true → x ≡ y
-unfolding same
+-- two texts of which the test `sameBytes` holds are equal
+pub same-is : (x y : List ℕ) → sameBytes x y ≡ true → x ≡ y
+unfolding sameBytes
 same-is [] [] h = refl
 same-is [] (b ∷ y) h = clash (cc)
 same-is (a ∷ x) [] h = clash (cc)
 same-is (a ∷ x) (b ∷ y) h = go (eqb a b) refl (same-is x y)
   where
-    go : (t : Bool) → eqb a b ≡ t → (same x y ≡ true → x ≡ y) → a ∷ x ≡ b ∷ y
-    go true e g = let f : same x y ≡ true = rw e at h in cc (g f, eqb-true a b e)
+    go : (t : Bool) → eqb a b ≡ t → (sameBytes x y ≡ true → x ≡ y) → a ∷ x ≡ b ∷ y
+    go true e g = let f : sameBytes x y ≡ true = rw e at h in cc (g f, eqb-true a b e)
     go false e g = let f : false ≡ true = rw e at h in clash (cc)
 
--- the test `same` holds of a text and itself
-pub same-self : (x : List ℕ) → same x x ≡ true
-unfolding same
+-- the test `sameBytes` holds of a text and itself
+pub same-self : (x : List ℕ) → sameBytes x x ≡ true
+unfolding sameBytes
 same-self [] = refl
 same-self (a ∷ x) = rw (eq-eqb a a refl) (same-self x)
 
@@ -310,7 +310,7 @@ opens-is : (t : List ℕ) → opensData t ≡ true → Says t Data
 opens-is t h = go (isWord t dataWord) (isWord (take 4 t) dataWord) (pastGap (drop 4 t)) refl refl refl h
   where
     go : (a b : Bool) (v : List ℕ) → isWord t dataWord ≡ a → isWord (take 4 t) dataWord ≡ b → pastGap (drop 4 t) ≡ v
-        → a || (b && opens v) ≡ true → Says t Data
+        → a || (b && opensParen v) ≡ true → Says t Data
     go true b v p q e h = Says.data-alone t (spelt-is t "DATA" p)
     go false false v p q e h = clash (cc)
     go false true [] p q e h = clash (cc)
@@ -337,7 +337,7 @@ map-take (suc n) (c ∷ t) = ap (λ (l : List ℕ). upper c ∷ l) (map-take n t
 
 -- what a trimmed text says by the rules is what `wordIn` computes
 says-only : {t : List ℕ} {w : Word} → Says t w → w ≡ wordIn t
-unfolding same
+unfolding sameBytes
 says-only (Says.headed t h) = rw h
 says-only (Says.data-alone t h) = rw h
 says-only (Says.data-opened d w r h a) = rw (opens-only d w r h a, map-append, h)
@@ -350,9 +350,9 @@ says-other s = elim s [ ]
 
 -- every trimmed text is a section word or none by the rules
 word-comes : {b t : List ℕ} → Trimmed b t → (w : Word) × WordForm b w
-word-comes {b} {t} f = go (isWord t endsec) (isWord t header) (opensData t) (isWord t endFile) refl refl refl refl
+word-comes {b} {t} f = go (isWord t endsec) (isWord t headerWord) (opensData t) (isWord t endFile) refl refl refl refl
   where
-    go : (i j k l : Bool) → isWord t endsec ≡ i → isWord t header ≡ j → opensData t ≡ k → isWord t endFile ≡ l → (w : Word) × WordForm b w
+    go : (i j k l : Bool) → isWord t endsec ≡ i → isWord t headerWord ≡ j → opensData t ≡ k → isWord t endFile ≡ l → (w : Word) × WordForm b w
     go true j k l p q r s = (EndSection, WordForm.word f (Says.left t (spelt-is t "ENDSEC" p)))
     go false true k l p q r s = (Header, WordForm.word f (Says.headed t (spelt-is t "HEADER" q)))
     go false false true l p q r s = (Data, WordForm.word f (opens-is t r))
@@ -370,7 +370,7 @@ wordform-only (WordForm.other {t} f n) = go ∙ ap wordIn (trimmed-only f)
     go : Other ≡ wordIn t
     go = rw (
       fails (isWord t endsec) (λ e. n EndSection (Says.left t (spelt-is t "ENDSEC" e))),
-      fails (isWord t header) (λ e. n Header (Says.headed t (spelt-is t "HEADER" e))),
+      fails (isWord t headerWord) (λ e. n Header (Says.headed t (spelt-is t "HEADER" e))),
       fails (opensData t) (λ e. n Data (opens-is t e)),
       fails (isWord t endFile) (λ e. n EndFile (Says.ended t (spelt-is t "END-ISO-10303-21" e))),
     )

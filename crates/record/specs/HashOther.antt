@@ -11,7 +11,7 @@ use Rattle.record.specs.Form.{Gap, Trimmed}
 use Rattle.record.specs.FormRight.{trimmed-is}
 use Rattle.common.specs.Walk.{walk}
 use Rattle.record.specs.Text.{past, trail}
-use Rattle.record.specs.Word.{same, trimmed, wordOf}
+use Rattle.record.specs.Word.{sameBytes, trimmed, wordOf}
 use Rattle.record.specs.declared.Word.{Word}
 use Rattle.record.specs.declared.Word.the-variants.{Other}
 
@@ -27,7 +27,7 @@ hash-trimmed {t} {u} f = go (f .front) u (f .back) (f .shape) (f .before) (f .af
 
 -- a text that begins with `#` is no section word
 pub hash-other : (t : List ℕ) → wordOf (35 ∷ t) ≡ Other
-unfolding wordOf same
+unfolding wordOf sameBytes
 hash-other t = let (u, e) = hash-trimmed (trimmed-is (35 ∷ t)) in rw e refl
 
 -- a text with `#` at its first place is no section word
@@ -37,6 +37,6 @@ hash-word (c ∷ t) h e = rw e (sym (hash-other t))
 
 -- an empty text is no section word
 pub empty-word : (b : List ℕ) → length b ≡ 0 → Other ≡ wordOf b
-unfolding wordOf same past trail walk
+unfolding wordOf sameBytes past trail walk
 empty-word [] h = refl
 empty-word (c ∷ t) h = absurd (omega arith)

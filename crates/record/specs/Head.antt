@@ -8,7 +8,7 @@ use lib.Dec.{eqb, ltb}
 use lib.ListN.{length}
 use Rattle.common.specs.Pick.{pick}
 use Rattle.lex.specs.Byte.{place}
-use Rattle.record.specs.Text.{pastGap, Digits, numberFrom, Keyed, opened, unopened, keyword}
+use Rattle.record.specs.Text.{pastGap, NumberAndRest, numberFrom, Keyed, opened, unopened, keyword}
 use Rattle.record.specs.declared.Head.{Head}
 use Rattle.record.specs.declared.Head.the-variants.{Bad, Complex, Simple}
 
@@ -28,7 +28,7 @@ equalHead b id [] = Bad 5
 equalHead b id (c ∷ r) = pick (eqb c 61) (valueHead b id (pastGap r)) (Bad 5)
 
 -- a data record's head by the digits that r begins with: "digits, whitespace"; reason 3 "id above 4294967295", then reason 4 "no digits"
-abbrev pub idHead : List ℕ → List ℕ → Digits → Head
+abbrev pub idHead : List ℕ → List ℕ → NumberAndRest → Head
 idHead b r d =
     pick (ltb 4294967295 (d .value)) (Bad 3) (pick (eqb (length (d .rest)) (length r)) (Bad 4) (equalHead b (d .value) (pastGap (d .rest))))
 

@@ -13,9 +13,9 @@ use lib.Seq.{take-all}
 use Rattle.common.specs.Lists.{split, drop-end}
 use Rattle.lex.specs.Byte.{place, white}
 use Rattle.lex.specs.Place.{place-drop}
-use Rattle.record.specs.Text.{pastGap, digits, numberFrom, Keyed, opened, unopened, keyword, trail}
+use Rattle.record.specs.Text.{pastGap, numberAndRest, numberFrom, Keyed, opened, unopened, keyword, trail}
 use Rattle.record.specs.Byte.{upper}
-use Rattle.record.specs.Word.{isWord, dataWord, opens, opensData, trimmed}
+use Rattle.record.specs.Word.{isWord, dataWord, opensParen, opensData, trimmed}
 use Rattle.record.specs.Turns.{same-lengths}
 use Rattle.record.specs.Head.{valueHead, equalHead, dataHead, headerHead, keyedHead}
 use Rattle.record.specs.declared.Head.{Head}
@@ -95,20 +95,20 @@ module _ (b : List ℕ) (h : 0 < length b) where
       go (c ∷ r) k h n = rw (eq-eqb c 35 k, lt-ltb _ _ n) refl
 
   -- the head of a data record with no digits after its `#` is reason 4
-  pub data-empty : (n : ℕ) → getD b 0 0 ≡ 35 → numberFrom 0 (drop 1 b) ≡ digits n (drop 1 b) → n ≤ 4294967295 → Bad 4 ≡ dataHead b
+  pub data-empty : (n : ℕ) → getD b 0 0 ≡ 35 → numberFrom 0 (drop 1 b) ≡ numberAndRest n (drop 1 b) → n ≤ 4294967295 → Bad 4 ≡ dataHead b
   unfolding dataHead
   data-empty n k q m = go b k h q
     where
-      go : (l : List ℕ) → getD l 0 0 ≡ 35 → 0 < length l → numberFrom 0 (drop 1 l) ≡ digits n (drop 1 l) → Bad 4 ≡ dataHead l
+      go : (l : List ℕ) → getD l 0 0 ≡ 35 → 0 < length l → numberFrom 0 (drop 1 l) ≡ numberAndRest n (drop 1 l) → Bad 4 ≡ dataHead l
       go [] k h q = absurd (omega arith)
       go (c ∷ r) k h q = rw (eq-eqb c 35 k, q, le-ltb _ _ m, eq-eqb (length r) (length r) refl) refl
 
   -- after `#` and the id's digits, a data record's head is that of what follows them and whitespace
-  pub data-value : (n p : ℕ) → getD b 0 0 ≡ 35 → numberFrom 0 (drop 1 b) ≡ digits n (drop p b) → n ≤ 4294967295 → 1 ≤ p → p ≤ length b → (p ≡ 1 → ⊥) → equalHead b n (pastGap (drop p b)) ≡ dataHead b
+  pub data-value : (n p : ℕ) → getD b 0 0 ≡ 35 → numberFrom 0 (drop 1 b) ≡ numberAndRest n (drop p b) → n ≤ 4294967295 → 1 ≤ p → p ≤ length b → (p ≡ 1 → ⊥) → equalHead b n (pastGap (drop p b)) ≡ dataHead b
   unfolding dataHead
   data-value n p k q m a z o = go b k h q z
     where
-      go : (l : List ℕ) → getD l 0 0 ≡ 35 → 0 < length l → numberFrom 0 (drop 1 l) ≡ digits n (drop p l) → p ≤ length l → equalHead l n (pastGap (drop p l)) ≡ dataHead l
+      go : (l : List ℕ) → getD l 0 0 ≡ 35 → 0 < length l → numberFrom 0 (drop 1 l) ≡ numberAndRest n (drop p l) → p ≤ length l → equalHead l n (pastGap (drop p l)) ≡ dataHead l
       go [] k h q z = absurd (omega arith)
       go (c ∷ r) k h q z =
           let f : length (drop p (c ∷ r)) ≡ length r → ⊥ = λ e. omega (arith, length-drop p (c ∷ r)) in

@@ -5,7 +5,7 @@ use mathlib.Core.List.{List}
 use native.Mathlib.Omega.{arith}
 use lib.ListN.{length, drop, length-drop}
 use Rattle.lex.specs.Byte.{white}
-use Rattle.record.specs.Text.{past, trail, Digits, digits, Numbered}
+use Rattle.record.specs.Text.{past, trail, NumberAndRest, numberAndRest, Numbered}
 use Rattle.record.specs.declared.Number.{Number}
 use Rattle.record.specs.declared.Number.the-variants.{Over, Value}
 
@@ -24,11 +24,11 @@ trail-one b from = place-only b (trail (drop from b))
 -- `digits_at`
 pub digits-one : (b : List ℕ) (from : ℕ) (x y : Number) → Numbered b from x → Numbered b from y → x ≡ y
 digits-one b from Over Over h k = refl
-digits-one b from Over (Value n p) h (e, l, m, o) = let v = ap (λ (d : Digits). d .value) e in absurd (omega (arith, v))
-digits-one b from (Value n p) Over (e, l, m, o) h = let v = ap (λ (d : Digits). d .value) e in absurd (omega (arith, v))
+digits-one b from Over (Value n p) h (e, l, m, o) = let v = ap (λ (d : NumberAndRest). d .value) e in absurd (omega (arith, v))
+digits-one b from (Value n p) Over (e, l, m, o) h = let v = ap (λ (d : NumberAndRest). d .value) e in absurd (omega (arith, v))
 digits-one b from (Value n p) (Value k q) (e, l, m, o) (f, i, j, c) =
-    let g : digits n (drop p b) ≡ digits k (drop q b) = sym e ∙ f in
-    let u : n ≡ k = ap (λ (d : Digits). d .value) g in
-    let r = ap (λ (d : Digits). length (d .rest)) g in
+    let g : numberAndRest n (drop p b) ≡ numberAndRest k (drop q b) = sym e ∙ f in
+    let u : n ≡ k = ap (λ (d : NumberAndRest). d .value) g in
+    let r = ap (λ (d : NumberAndRest). length (d .rest)) g in
     let v : p ≡ q = omega (arith, r, length-drop p b, length-drop q b) in
     cc

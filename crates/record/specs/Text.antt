@@ -32,21 +32,21 @@ abbrev pub pastGap : List ℕ → List ℕ
 pastGap xs = past white xs
 
 -- a number and the rest after its digits
-pub record Digits : Type 0 where
+pub record NumberAndRest : Type 0 where
   pub value : ℕ
   pub rest : List ℕ
 
 -- a number and the rest after its digits, from these two
-abbrev pub digits : ℕ → List ℕ → Digits
-digits n r = record { value = n; rest = r }
+abbrev pub numberAndRest : ℕ → List ℕ → NumberAndRest
+numberAndRest n r = record { value = n; rest = r }
 
 -- a turn of `numberFrom`: a digit makes the number ten times as large and adds its own value
-abbrev pub digitTurn : ℕ → ℕ → List ℕ → Turn ℕ Digits
-digitTurn n c r = pick (digit c) (on (n * 10 + (c - 48))) (stop (digits n (c ∷ r)))
+abbrev pub digitTurn : ℕ → ℕ → List ℕ → Turn ℕ NumberAndRest
+digitTurn n c r = pick (digit c) (on (n * 10 + (c - 48))) (stop (numberAndRest n (c ∷ r)))
 
 -- the decimal number that the digits at the start stand for, after those that gave n, and the rest after them
-unfoldable pub numberFrom : ℕ → List ℕ → Digits
-numberFrom n xs = walk digitTurn (λ m. digits m []) n xs
+unfoldable pub numberFrom : ℕ → List ℕ → NumberAndRest
+numberFrom n xs = walk digitTurn (λ m. numberAndRest m []) n xs
 
 -- a keyword's end, as the rest from there, and the rest from the `(` after it; or no `(`
 pub data Keyed : Type 0 where
@@ -72,7 +72,7 @@ trail xs = walk trailTurn (λ e. e) xs xs
 -- what the code's answer says of the digits from a place on: "id above 4294967295", or the number and the place after them
 abbrev pub Numbered : List ℕ → ℕ → Number → Type 0
 Numbered b from Over = 4294967295 < numberFrom 0 (drop from b) .value
-Numbered b from (Value n p) = (numberFrom 0 (drop from b) ≡ digits n (drop p b)) × (from ≤ p) × (p ≤ max from (length b)) × (n ≤ 4294967295)
+Numbered b from (Value n p) = (numberFrom 0 (drop from b) ≡ numberAndRest n (drop p b)) × (from ≤ p) × (p ≤ max from (length b)) × (n ≤ 4294967295)
 
 -- what the code's answer says of the keyword from a place on: there is no `(`, or where the keyword ends and the `(` stands
 abbrev pub KeyedAt : List ℕ → ℕ → Key → Type 0

@@ -13,9 +13,9 @@ use Rattle.common.specs.Pick.{pick}
 use Rattle.common.specs.Lists.{split}
 use Rattle.lex.specs.Byte.{white}
 use Rattle.common.specs.Walk.{stop, on, turned, walk, walk-stops, walk-goes}
-use Rattle.record.specs.Text.{pastTurn, Digits, digits, digitTurn, numberFrom, Keyed, opened, unopened, keyTurn, keyword}
+use Rattle.record.specs.Text.{pastTurn, NumberAndRest, numberAndRest, digitTurn, numberFrom, Keyed, opened, unopened, keyTurn, keyword}
 use Rattle.record.specs.Byte.{digit}
-use Rattle.record.specs.Word.{same}
+use Rattle.record.specs.Word.{sameBytes}
 
 module _ (b : List ℕ) (i : ℕ) (h : i < length b) where
   -- the walk past bytes that pass a test ends at one that does not
@@ -27,12 +27,12 @@ module _ (b : List ℕ) (i : ℕ) (h : i < length b) where
   past-goes p a e inv = sym (walk-goes (pastTurn p) (λ u. []) tt tt b i h (rw e refl)) ∙ inv
 
   -- the walk over digits ends at a byte that is no digit, with the number so far
-  pub digit-stops : (n : ℕ) (a : Digits) → digit (getD b i 0) ≡ false → walk digitTurn (λ m. digits m []) n (drop i b) ≡ a → digits n (drop i b) ≡ a
-  digit-stops n a e inv = sym (walk-stops digitTurn (λ m. digits m []) n b i (digits n (drop i b)) h (rw e (ap (λ (l : List ℕ). stop (digits n l)) (sym (split b i h))))) ∙ inv
+  pub digit-stops : (n : ℕ) (a : NumberAndRest) → digit (getD b i 0) ≡ false → walk digitTurn (λ m. numberAndRest m []) n (drop i b) ≡ a → numberAndRest n (drop i b) ≡ a
+  digit-stops n a e inv = sym (walk-stops digitTurn (λ m. numberAndRest m []) n b i (numberAndRest n (drop i b)) h (rw e (ap (λ (l : List ℕ). stop (numberAndRest n l)) (sym (split b i h))))) ∙ inv
 
   -- the walk over digits goes on after a digit, with that digit taken in
-  pub digit-goes : (n : ℕ) (a : Digits) → digit (getD b i 0) ≡ true → walk digitTurn (λ m. digits m []) n (drop i b) ≡ a → walk digitTurn (λ m. digits m []) (n * 10 + (getD b i 0 - 48)) (drop (i + 1) b) ≡ a
-  digit-goes n a e inv = sym (walk-goes digitTurn (λ m. digits m []) n (n * 10 + (getD b i 0 - 48)) b i h (rw e refl)) ∙ inv
+  pub digit-goes : (n : ℕ) (a : NumberAndRest) → digit (getD b i 0) ≡ true → walk digitTurn (λ m. numberAndRest m []) n (drop i b) ≡ a → walk digitTurn (λ m. numberAndRest m []) (n * 10 + (getD b i 0 - 48)) (drop (i + 1) b) ≡ a
+  digit-goes n a e inv = sym (walk-goes digitTurn (λ m. numberAndRest m []) n (n * 10 + (getD b i 0 - 48)) b i h (rw e refl)) ∙ inv
 
   -- the walk over a keyword ends at a `(`
   pub key-stops : (e : ℕ) (a : Keyed) → eqb (getD b i 0) 40 ≡ true → walk keyTurn (λ k. unopened) (drop e b) (drop i b) ≡ a → opened (drop e b) (drop i b) ≡ a
@@ -57,30 +57,30 @@ unfolding numberFrom walk
 number-grows n [] = le-refl n
 number-grows n (c ∷ r) = go (digit c) (number-grows (n * 10 + (c - 48)) r)
   where
-    go : (t : Bool) → n * 10 + (c - 48) ≤ numberFrom (n * 10 + (c - 48)) r .value → n ≤ turned (pick t (on (n * 10 + (c - 48))) (stop (digits n (c ∷ r)))) (λ u. walk digitTurn (λ m. digits m []) u r) .value
+    go : (t : Bool) → n * 10 + (c - 48) ≤ numberFrom (n * 10 + (c - 48)) r .value → n ≤ turned (pick t (on (n * 10 + (c - 48))) (stop (numberAndRest n (c ∷ r)))) (λ u. walk digitTurn (λ m. numberAndRest m []) u r) .value
     go true k = omega arith
     go false k = le-refl n
 
 -- texts of different lengths are not the same
-pub same-lengths : (x y : List ℕ) → (length x ≡ length y → ⊥) → same x y ≡ false
-unfolding same
+pub same-lengths : (x y : List ℕ) → (length x ≡ length y → ⊥) → sameBytes x y ≡ false
+unfolding sameBytes
 same-lengths [] [] h = absurd (h refl)
 same-lengths [] (b ∷ y) h = refl
 same-lengths (a ∷ x) [] h = refl
 same-lengths (a ∷ x) (b ∷ y) h = go (eqb a b) (same-lengths x y (λ e. h (omega arith)))
   where
-    go : (t : Bool) → same x y ≡ false → t && same x y ≡ false
+    go : (t : Bool) → sameBytes x y ≡ false → t && sameBytes x y ≡ false
     go true k = k
     go false k = refl
 
 -- at an index of two texts, the first seen through f, the bytes there differ or agree
 module _ (f : ℕ → ℕ) (x y : List ℕ) (i : ℕ) (a : Bool) (h : i < length x) (k : i < length y) where
   -- texts that differ at an index, the first seen through f, are not the same from there on
-  pub same-stops : eqb (f (getD x i 0)) (getD y i 0) ≡ false → same (map f (drop i x)) (drop i y) ≡ a → false ≡ a
-  unfolding same
+  pub same-stops : eqb (f (getD x i 0)) (getD y i 0) ≡ false → sameBytes (map f (drop i x)) (drop i y) ≡ a → false ≡ a
+  unfolding sameBytes
   same-stops e inv = sym (rw (split x i h, split y i k, e) refl) ∙ inv
 
   -- texts that agree at an index, the first seen through f, are the same from there on just where they are from the next on
-  pub same-goes : eqb (f (getD x i 0)) (getD y i 0) ≡ true → same (map f (drop i x)) (drop i y) ≡ a → same (map f (drop (i + 1) x)) (drop (i + 1) y) ≡ a
-  unfolding same
+  pub same-goes : eqb (f (getD x i 0)) (getD y i 0) ≡ true → sameBytes (map f (drop i x)) (drop i y) ≡ a → sameBytes (map f (drop (i + 1) x)) (drop (i + 1) y) ≡ a
+  unfolding sameBytes
   same-goes e inv = sym (rw (split x i h, split y i k, e) refl) ∙ inv

@@ -8,7 +8,7 @@ use lib.Dec.{eqb, ltb}
 use lib.ListN.{length}
 use Rattle.common.specs.Pick.{pick}
 use Rattle.lex.specs.Place.{place-within}
-use Rattle.record.specs.Text.{pastGap, Digits, numberFrom, Keyed, opened, unopened, keyword}
+use Rattle.record.specs.Text.{pastGap, NumberAndRest, numberFrom, Keyed, opened, unopened, keyword}
 use Rattle.lex.specs.Byte.{place}
 use Rattle.record.specs.Head.{keyedHead, valueHead, equalHead, idHead, hashHead, dataHead, namedHead, headerHead}
 use Rattle.record.specs.declared.Head.{Head}
@@ -37,7 +37,7 @@ equal-within : (b : List ℕ) (id : ℕ) (r : List ℕ) → HeadWithin (length b
 equal-within b id [] = tt
 equal-within b id (c ∷ r) = either (length b) (eqb c 61) _ _ (value-within b id (pastGap r)) tt
 
-id-within : (b r : List ℕ) (d : Digits) → HeadWithin (length b) (idHead b r d)
+id-within : (b r : List ℕ) (d : NumberAndRest) → HeadWithin (length b) (idHead b r d)
 id-within b r d =
     either (length b) (ltb 4294967295 (d .value)) _ _ tt
     (either (length b) (eqb (length (d .rest)) (length r)) _ _ tt (equal-within b (d .value) (pastGap (d .rest))))
@@ -61,9 +61,9 @@ unfolding headerHead
 header-within b = named-within b (pastGap b) (keyword (pastGap b))
 
 -- no header record is complex
-pub header-simple : (b : List ℕ) (id o : ℕ) → headerHead b ≡ Complex id o → ⊥
+pub header-never-complex : (b : List ℕ) (id o : ℕ) → headerHead b ≡ Complex id o → ⊥
 unfolding headerHead
-header-simple b id o = go (keyword (pastGap b))
+header-never-complex b id o = go (keyword (pastGap b))
   where
     go : (k : Keyed) → namedHead b (pastGap b) k ≡ Complex id o → ⊥
     go unopened e = let z : _≡_ {A = ℕ} 0 1 = cc in omega arith

@@ -9,7 +9,7 @@ ghost use lib.ListN.{length, drop};
 ghost use Rattle.lex.specs.Byte.{white};
 ghost use Rattle.record.specs.Text.{past, trail, keyword, Numbered, KeyedAt};
 ghost use Rattle.record.specs.Byte.{digit, upper};
-ghost use Rattle.record.specs.Word.{same, isWord, opensData, wordIn, wordOf};
+ghost use Rattle.record.specs.Word.{sameBytes, isWord, opensData, wordIn, wordOf};
 ghost use Rattle.record.specs.Head.{dataHead, equalHead, valueHead, headerHead};
 
 // The words of document 01 that a record's text can be.
@@ -281,7 +281,7 @@ pub fn header_head(b: &[u8]) -> Head
 
 // Whether two texts have the same bytes.
 pub fn same_bytes(x: &[u8], y: &[u8]) -> bool
-    ensures { λ r. ⌜ r ≡ same (now (x .entry)) (now (y .entry)) ⌝ }
+    ensures { λ r. ⌜ r ≡ sameBytes (now (x .entry)) (now (y .entry)) ⌝ }
 {
     if x.len() != y.len() {
         return false;

@@ -7,7 +7,7 @@ use lib.IntN.{ℤ}
 use lib.Ieee.{binary64, toBits}
 use Rattle.error.specs.Refusal.{refusal, Told, good, bad, told}
 use Rattle.params.specs.Reader.{paramOf}
-use Rattle.params.specs.Answer.{Read, reading, Span, mapped}
+use Rattle.params.specs.Answer.{Read, reading, Span, readMapped}
 use Rattle.reals.specs.Answer.{Answer, read, refused}
 use Rattle.scalars.specs.declared.Truth.the-variants.{True, False, Unknown}
 use Rattle.scalars.specs.declared.NextRef as NextRefCode
@@ -39,7 +39,7 @@ scalarAt f s a = answered (a .start) (f (take (a .stop - a .start) (drop (a .sta
 
 -- the next parameter of a reader, read by f
 unfoldable pub nextOf : {A : Type 0} → (List ℕ → Answer A) → List ℕ → ℕ → ℕ → Read A
-nextOf f s p e = mapped (scalarAt f s) (paramOf s p e)
+nextOf f s p e = readMapped (scalarAt f s) (paramOf s p e)
 
 -- what `next_ref` answers
 abbrev pub toldNextRef : NextRefCode.NextRef → Read ℕ

@@ -10,47 +10,47 @@ use Rattle.common.specs.Pick.{pick}
 use Rattle.common.specs.Compare.{clash}
 use Rattle.reals.specs.Scalar.{realOf, anyRealOf}
 use Rattle.reals.specs.Answer.{Answer, read, refused}
-use Rattle.reals.specs.Before.{any-kept, any-12, any-refused}
+use Rattle.reals.specs.OldClass.{any-kept, any-12, any-refused}
 use Rattle.scalars.specs.Scalars.{isUnset, asGiven, optionOf, Kernel, inside, bare, kernelOf, kernelReal, measured, measureBy, measureOf}
 use Rattle.scalars.specs.Answer.{Given, unset}
 
 -- ---- no refusal but 12
 -- an answer is read, or is 12
-abbrev pub Twelve : {A : Type 0} → Answer A → Type 0
-Twelve (read a) = Unit {0}
-Twelve (refused n) = n ≡ 12
+abbrev pub ScalarTwelve : {A : Type 0} → Answer A → Type 0
+ScalarTwelve (read a) = Unit {0}
+ScalarTwelve (refused n) = n ≡ 12
 
 -- where an answer is read or 12, a refusal of it is 12
-pub twelve-only : {A : Type 0} {a : Answer A} → Twelve a → (n : ℕ) → a ≡ refused n → n ≡ 12
-twelve-only {a = read v} h n e = clash (cc)
-twelve-only {a = refused m} h n e = let z : n ≡ m = cc in z ∙ h
+pub scalar-twelve-only : {A : Type 0} {a : Answer A} → ScalarTwelve a → (n : ℕ) → a ≡ refused n → n ≡ 12
+scalar-twelve-only {a = read v} h n e = clash (cc)
+scalar-twelve-only {a = refused m} h n e = let z : n ≡ m = cc in z ∙ h
 
 -- where each refusal of an answer is 12, it is read or 12
-pub twelve-is : {A : Type 0} (a : Answer A) → ((n : ℕ) → a ≡ refused n → n ≡ 12) → Twelve a
-twelve-is (read v) h = tt
-twelve-is (refused n) h = h n refl
+pub scalar-twelve-is : {A : Type 0} (a : Answer A) → ((n : ℕ) → a ≡ refused n → n ≡ 12) → ScalarTwelve a
+scalar-twelve-is (read v) h = tt
+scalar-twelve-is (refused n) h = h n refl
 
 -- a measure is refused with 12 alone, where reals are
 pub measure-12 : (g : List ℕ → Answer ℕ) → ((t : List ℕ) (n : ℕ) → g t ≡ refused n → n ≡ 12) → (t : List ℕ) (n : ℕ) → measureBy g t ≡ refused n → n ≡ 12
-measure-12 g only t = twelve-only (go (g t) (twelve-is (g t) (only t)) (kernelOf t))
+measure-12 g only t = scalar-twelve-only (go (g t) (scalar-twelve-is (g t) (only t)) (kernelOf t))
   where
-    inner : (k : Kernel) → Twelve (kernelReal g k)
-    inner (inside u) = twelve-is (g u) (only u)
+    inner : (k : Kernel) → ScalarTwelve (kernelReal g k)
+    inner (inside u) = scalar-twelve-is (g u) (only u)
     inner bare = refl
 
-    by : (u : Bool) (m : ℕ) → m ≡ 12 → (k : Kernel) → Twelve (pick u (kernelReal g k) (refused m))
+    by : (u : Bool) (m : ℕ) → m ≡ 12 → (k : Kernel) → ScalarTwelve (pick u (kernelReal g k) (refused m))
     by true m h k = inner k
     by false m h k = h
 
-    go : (a : Answer ℕ) → Twelve a → (k : Kernel) → Twelve (measured g a k)
+    go : (a : Answer ℕ) → ScalarTwelve a → (k : Kernel) → ScalarTwelve (measured g a k)
     go (read b) h k = tt
     go (refused m) h k = by (eqb m 12) m h k
 
 -- a value that may be unset is refused with 12 alone, where the value is
 pub option-12 : {A : Type 0} (g : List ℕ → Answer A) → ((t : List ℕ) (n : ℕ) → g t ≡ refused n → n ≡ 12) → (t : List ℕ) (n : ℕ) → optionOf g t ≡ refused n → n ≡ 12
-option-12 {A} g only t = twelve-only (go (isUnset t) (g t) (twelve-is (g t) (only t)))
+option-12 {A} g only t = scalar-twelve-only (go (isUnset t) (g t) (scalar-twelve-is (g t) (only t)))
   where
-    go : (u : Bool) (a : Answer A) → Twelve a → Twelve (pick u (read unset) (asGiven a))
+    go : (u : Bool) (a : Answer A) → ScalarTwelve a → ScalarTwelve (pick u (read unset) (asGiven a))
     go true a h = tt
     go false (read v) h = tt
     go false (refused n) h = h

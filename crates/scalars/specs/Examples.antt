@@ -5,7 +5,7 @@ use mathlib.Core.List.{[]}
 use Rattle.common.specs.Walk.{walk}
 use Rattle.common.specs.Bytes.{bytes}
 use Rattle.record.specs.Text.{past, trail, numberFrom}
-use Rattle.record.specs.Word.{same}
+use Rattle.record.specs.Word.{sameBytes}
 use Rattle.reals.specs.Scalar.{parseOf, realOf, wholeOf, referenceOf}
 use Rattle.reals.specs.Answer.{refused}
 use Rattle.scalars.specs.Scalars.{isUnset, optionOf, kernelOf, measureOf, truthOf}
@@ -17,7 +17,7 @@ empty-reference = refl
 
 -- an empty parameter, read as a reference or `$`, is 12
 empty-option : optionOf referenceOf [] ≡ refused 12
-unfolding referenceOf isUnset same
+unfolding referenceOf isUnset sameBytes
 empty-option = refl
 
 -- an empty parameter, read as an integer, is 12
@@ -37,7 +37,7 @@ empty-measure = refl
 
 -- an empty parameter, read as a boolean, is 12
 empty-truth : truthOf [] ≡ refused 12
-unfolding truthOf same
+unfolding truthOf sameBytes
 empty-truth = refl
 
 -- any bytes, or none, may stand before the first `(` of a measure: `(1.)` reads as `1.` does
@@ -82,5 +82,5 @@ outside-inside = refl
 
 -- `.t.` is no boolean
 small-letter : truthOf (bytes ".t.") ≡ refused 12
-unfolding truthOf same
+unfolding truthOf sameBytes
 small-letter = refl

@@ -18,7 +18,7 @@ use Rattle.record.specs.Word.{trimmed}
 use Rattle.params.specs.Answer.{Read}
 use Rattle.params.specs.declared.State.{State}
 use Rattle.scalars.specs.Answer.{Given, given, unset, Logical, holds, fails, unknown, toldNextRef, toldNextOptRef, toldNextWhole, toldNextReal, toldNextOptReal, toldNextTruth}
-use Rattle.scalars.specs.declared.Part.{Part}
+use Rattle.scalars.specs.declared.TextPart.{TextPart}
 use Rattle.scalars.specs.declared.NextRef as NextRefCode
 use Rattle.scalars.specs.declared.NextOptRef as NextOptRefCode
 use Rattle.scalars.specs.declared.NextWhole as NextWholeCode
@@ -43,8 +43,8 @@ ref-told (NextRefCode.the-variants.Value n t) = refl
 ref-told (NextRefCode.the-variants.Refused f t) = ap (λ g. NextRefCode.the-variants.Refused g t) (faultOf-told f)
 
 -- `next_ref`: two answers that tell the same are the same
-pub ref-only : (a b : NextRefCode.NextRef) → toldNextRef a ≡ toldNextRef b → a ≡ b
-ref-only a b e = sym (ref-told a) ∙ ap (λ (r : Read ℕ). refBack (r .answer) (stateOf r)) e ∙ ref-told b
+pub next-ref-only : (a b : NextRefCode.NextRef) → toldNextRef a ≡ toldNextRef b → a ≡ b
+next-ref-only a b e = sym (ref-told a) ∙ ap (λ (r : Read ℕ). refBack (r .answer) (stateOf r)) e ∙ ref-told b
 
 -- the code's answer that tells this reference, `$` or refusal
 optRefBack : Told (Given ℕ) → State → NextOptRefCode.NextOptRef
@@ -60,8 +60,8 @@ opt-ref-told (NextOptRefCode.the-variants.Unset t) = refl
 opt-ref-told (NextOptRefCode.the-variants.Refused f t) = ap (λ g. NextOptRefCode.the-variants.Refused g t) (faultOf-told f)
 
 -- `next_opt_ref`: two answers that tell the same are the same
-pub opt-ref-only : (a b : NextOptRefCode.NextOptRef) → toldNextOptRef a ≡ toldNextOptRef b → a ≡ b
-opt-ref-only a b e = sym (opt-ref-told a) ∙ ap (λ (r : Read (Given ℕ)). optRefBack (r .answer) (stateOf r)) e ∙ opt-ref-told b
+pub next-opt-ref-only : (a b : NextOptRefCode.NextOptRef) → toldNextOptRef a ≡ toldNextOptRef b → a ≡ b
+next-opt-ref-only a b e = sym (opt-ref-told a) ∙ ap (λ (r : Read (Given ℕ)). optRefBack (r .answer) (stateOf r)) e ∙ opt-ref-told b
 
 -- ---- integers
 -- the code's answer that tells this integer or refusal
@@ -76,8 +76,8 @@ whole-told (NextWholeCode.the-variants.Value z t) = refl
 whole-told (NextWholeCode.the-variants.Refused f t) = ap (λ g. NextWholeCode.the-variants.Refused g t) (faultOf-told f)
 
 -- `next_i64`: two answers that tell the same are the same
-pub whole-only : (a b : NextWholeCode.NextWhole) → toldNextWhole a ≡ toldNextWhole b → a ≡ b
-whole-only a b e = sym (whole-told a) ∙ ap (λ (r : Read ℤ). wholeBack (r .answer) (stateOf r)) e ∙ whole-told b
+pub next-whole-only : (a b : NextWholeCode.NextWhole) → toldNextWhole a ≡ toldNextWhole b → a ≡ b
+next-whole-only a b e = sym (whole-told a) ∙ ap (λ (r : Read ℤ). wholeBack (r .answer) (stateOf r)) e ∙ whole-told b
 
 -- ---- reals
 -- the float of a reader's answer to a real is an f64, as every value of the type is
@@ -97,8 +97,8 @@ real-told (NextRealCode.the-variants.Value x t) h = ap (λ y. NextRealCode.the-v
 real-told (NextRealCode.the-variants.Refused f t) h = ap (λ g. NextRealCode.the-variants.Refused g t) (faultOf-told f)
 
 -- `next_f64`, `next_measure_f64`, `next_real` and `next_measure`: two answers that tell the same are the same
-pub real-only : (a b : NextRealCode.NextReal) → NextRealFits a → NextRealFits b → toldNextReal a ≡ toldNextReal b → a ≡ b
-real-only a b h k e = sym (real-told a h) ∙ ap (λ (r : Read ℕ). realBack (r .answer) (stateOf r)) e ∙ real-told b k
+pub next-real-only : (a b : NextRealCode.NextReal) → NextRealFits a → NextRealFits b → toldNextReal a ≡ toldNextReal b → a ≡ b
+next-real-only a b h k e = sym (real-told a h) ∙ ap (λ (r : Read ℕ). realBack (r .answer) (stateOf r)) e ∙ real-told b k
 
 -- the float of a reader's answer to a real that may be unset is an f64, as every value of the type is
 abbrev pub NextOptRealFits : NextOptRealCode.NextOptReal → Type 0
@@ -120,8 +120,8 @@ opt-real-told (NextOptRealCode.the-variants.Unset t) h = refl
 opt-real-told (NextOptRealCode.the-variants.Refused f t) h = ap (λ g. NextOptRealCode.the-variants.Refused g t) (faultOf-told f)
 
 -- `next_opt_f64` and `next_opt_real`: two answers that tell the same are the same
-pub opt-real-only : (a b : NextOptRealCode.NextOptReal) → NextOptRealFits a → NextOptRealFits b → toldNextOptReal a ≡ toldNextOptReal b → a ≡ b
-opt-real-only a b h k e = sym (opt-real-told a h) ∙ ap (λ (r : Read (Given ℕ)). optRealBack (r .answer) (stateOf r)) e ∙ opt-real-told b k
+pub next-opt-real-only : (a b : NextOptRealCode.NextOptReal) → NextOptRealFits a → NextOptRealFits b → toldNextOptReal a ≡ toldNextOptReal b → a ≡ b
+next-opt-real-only a b h k e = sym (opt-real-told a h) ∙ ap (λ (r : Read (Given ℕ)). optRealBack (r .answer) (stateOf r)) e ∙ opt-real-told b k
 
 -- ---- booleans
 -- the code's answer that tells this boolean or refusal
@@ -140,19 +140,19 @@ truth-told (NextTruthCode.the-variants.Unknown t) = refl
 truth-told (NextTruthCode.the-variants.Refused f t) = ap (λ g. NextTruthCode.the-variants.Refused g t) (faultOf-told f)
 
 -- `next_bool`: two answers that tell the same are the same
-pub truth-only : (a b : NextTruthCode.NextTruth) → toldNextTruth a ≡ toldNextTruth b → a ≡ b
-truth-only a b e = sym (truth-told a) ∙ ap (λ (r : Read Logical). truthBack (r .answer) (stateOf r)) e ∙ truth-told b
+pub next-truth-only : (a b : NextTruthCode.NextTruth) → toldNextTruth a ≡ toldNextTruth b → a ≡ b
+next-truth-only a b e = sym (truth-told a) ∙ ap (λ (r : Read Logical). truthBack (r .answer) (stateOf r)) e ∙ truth-told b
 
 -- ---- what is left of a text without the whitespace at its ends
 -- what `trim` promises of a part of the text b
-pub record TrimmedAt (b : List ℕ) (r : Part) : Type 0 where
+pub record TrimmedAt (b : List ℕ) (r : TextPart) : Type 0 where
   pub starts : drop (r .start) b ≡ past white b
   pub text : take (r .stop - r .start) (drop (r .start) b) ≡ trimmed b
   pub ordered : r .start ≤ r .stop
   pub within : r .stop ≤ length b
 
 -- `trim`: two parts that it may give are the same
-pub trim-only : (b : List ℕ) (x y : Part) → TrimmedAt b x → TrimmedAt b y → x ≡ y
+pub trim-only : (b : List ℕ) (x y : TextPart) → TrimmedAt b x → TrimmedAt b y → x ≡ y
 trim-only b x y h k =
     let a = h .ordered in
     let c = h .within in

@@ -14,15 +14,15 @@ use Rattle.common.specs.Compare.{clash}
 use Rattle.record.specs.Text.{past}
 use Rattle.record.specs.Byte.{digit}
 use Rattle.common.specs.Tests.{bounds}
-use Rattle.record.specs.Word.{same, trimmed}
-use Rattle.record.specs.Form.{All, Free, Skipped}
+use Rattle.record.specs.Word.{sameBytes, trimmed}
+use Rattle.record.specs.Form.{All, Free, SkippedBytes}
 use Rattle.common.specs.Bytes.{bytes}
 use Rattle.record.specs.FormRight.{past-is, past-only, trimmed-is, trimmed-only, same-is, same-self}
 use Rattle.record.specs.FormRight.Parts.{first-other, all-back, all-join, all-kind}
 use Rattle.reals.specs.Scalar.{referenceOf, realOf, anyRealOf}
 use Rattle.reals.specs.Which.{realBy}
 use Rattle.reals.specs.Answer.{Answer, read, refused}
-use Rattle.reals.specs.Form.{Signed, Fraction, Powered, Written, RealForm, AnyForm, ReferenceForm}
+use Rattle.reals.specs.Form.{Signed, Fraction, Powered, WrittenReal, RealForm, AnyForm, ReferenceForm}
 use Rattle.reals.specs.FormRight.{real-is, real-only, any-is, any-only}
 use Rattle.reals.specs.By.{unwritten-by}
 use Rattle.reals.specs.WholeRight.{reference-is, reference-only}
@@ -35,10 +35,10 @@ use Rattle.scalars.specs.Rules.{Typed, MeasureForm, TruthForm, OptionFor
 
 -- ---- the same bytes
 -- texts that differ fail the test for the same bytes
-pub same-not : (x y : List ℕ) → (x ≡ y → ⊥) → same x y ≡ false
-same-not x y h = go (same x y) refl
+pub same-not : (x y : List ℕ) → (x ≡ y → ⊥) → sameBytes x y ≡ false
+same-not x y h = go (sameBytes x y) refl
   where
-    go : (t : Bool) → same x y ≡ t → same x y ≡ false
+    go : (t : Bool) → sameBytes x y ≡ t → sameBytes x y ≡ false
     go true e = absurd (h (same-is x y e))
     go false e = e
 
@@ -69,7 +69,7 @@ powered-free (Powered.powered c xs x s (inl e) g a n) = (rw e refl, signed-free 
 powered-free (Powered.powered c xs x s (inr e) g a n) = (rw e refl, signed-free g (digits-free x a))
 
 -- what is written as a real has no `(`
-written-free : {t w f x : List ℕ} {s d : Bool} → Written t s w f d x → Free 40 t
+written-free : {t w f x : List ℕ} {s d : Bool} → WrittenReal t s w f d x → Free 40 t
 written-free {w} r =
     signed-free (r .sign) (rw (r .shape) (all-join _ w (r .p ++ r .e) (digits-free w (r .whole)) (all-join _ (r .p) (r .e) (fraction-free (r .fraction)) (powered-free (r .power)))))
 
@@ -133,7 +133,7 @@ typed-comes t = go (past unopening t) refl (past-is unopening t)
     cut f r e a (inl (b, g)) = inl (trimmed b, record { keyword = f; body = b; shape = cc; first = a; trims = trimmed-is b })
     cut f r e a (inr h) = inr h
 
-    go : (x : List ℕ) → past unopening t ≡ x → (f : List ℕ) × (t ≡ f ++ past unopening t) × Skipped unopening f (past unopening t)
+    go : (x : List ℕ) → past unopening t ≡ x → (f : List ℕ) × (t ≡ f ++ past unopening t) × SkippedBytes unopening f (past unopening t)
         → ((u : List ℕ) × Typed t u) ⊎ (kernelFrom x ≡ bare)
     go [] q k = inr refl
     go (c ∷ r) q (f, e, s) =
@@ -201,7 +201,7 @@ any-measure-only = measured-only anyRealOf (λ t u. typed-by Any) AnyForm (λ t 
 -- ---- booleans
 -- "`.T.` `.F.` `.U.`": the answer by the rules is the one that is computed
 pub truth-only : {t : List ℕ} {a : Answer Logical} → TruthForm t a → a ≡ truthOf t
-unfolding truthOf same
+unfolding truthOf sameBytes
 truth-only TruthForm.true = refl
 truth-only TruthForm.false = refl
 truth-only TruthForm.unknown = refl
@@ -209,12 +209,12 @@ truth-only {t} (TruthForm.other h k l) = rw (same-not t (bytes ".T.") h, same-no
 
 -- every text has an answer as a boolean by the rules
 truth-comes : (t : List ℕ) → (a : Answer Logical) × TruthForm t a
-truth-comes t = go (same t (bytes ".T.")) (same t (bytes ".F.")) (same t (bytes ".U.")) refl refl refl
+truth-comes t = go (sameBytes t (bytes ".T.")) (sameBytes t (bytes ".F.")) (sameBytes t (bytes ".U.")) refl refl refl
   where
-    differs : (w : List ℕ) → same t w ≡ false → t ≡ w → ⊥
-    differs w h e = clash (cc (ap (λ (x : List ℕ). same x w) e ∙ same-self w))
+    differs : (w : List ℕ) → sameBytes t w ≡ false → t ≡ w → ⊥
+    differs w h e = clash (cc (ap (λ (x : List ℕ). sameBytes x w) e ∙ same-self w))
 
-    go : (a b c : Bool) → same t (bytes ".T.") ≡ a → same t (bytes ".F.") ≡ b → same t (bytes ".U.") ≡ c → (a : Answer Logical) × TruthForm t a
+    go : (a b c : Bool) → sameBytes t (bytes ".T.") ≡ a → sameBytes t (bytes ".F.") ≡ b → sameBytes t (bytes ".U.") ≡ c → (a : Answer Logical) × TruthForm t a
     go true b c p q r = (_, subst (λ (x : List ℕ). TruthForm x (read Scalars.holds)) (sym (same-is t _ p)) TruthForm.true)
     go false true c p q r = (_, subst (λ (x : List ℕ). TruthForm x (read Scalars.fails)) (sym (same-is t _ q)) TruthForm.false)
     go false false true p q r = (_, subst (λ (x : List ℕ). TruthForm x (read Scalars.unknown)) (sym (same-is t _ r)) TruthForm.unknown)
@@ -229,19 +229,19 @@ module _ {A : Type 0} (P : List ℕ → Answer A → Type 0) (f : List ℕ → A
   -- what is computed of a parameter that may be unset is the answer by the rule, where that is so of values
   pub option-is : ((t : List ℕ) → P t (f t)) → (t : List ℕ) → OptionForm P t (optionOf f t)
   unfolding isUnset
-  option-is h t = go (same t (bytes "$")) refl (f t) (h t)
+  option-is h t = go (sameBytes t (bytes "$")) refl (f t) (h t)
     where
-      differs : same t (bytes "$") ≡ false → t ≡ bytes "$" → ⊥
-      differs e q = clash (cc (ap (λ (x : List ℕ). same x (bytes "$")) q ∙ same-self (bytes "$")))
+      differs : sameBytes t (bytes "$") ≡ false → t ≡ bytes "$" → ⊥
+      differs e q = clash (cc (ap (λ (x : List ℕ). sameBytes x (bytes "$")) q ∙ same-self (bytes "$")))
 
-      go : (u : Bool) → same t (bytes "$") ≡ u → (a : Answer A) → P t a → OptionForm P t (pick u (read Scalars.unset) (asGiven a))
+      go : (u : Bool) → sameBytes t (bytes "$") ≡ u → (a : Answer A) → P t a → OptionForm P t (pick u (read Scalars.unset) (asGiven a))
       go true e a p = subst (λ (x : List ℕ). OptionForm P x (read Scalars.unset)) (sym (same-is t _ e)) OptionForm.unset
       go false e (read a) p = OptionForm.given (differs e) p
       go false e (refused n) p = OptionForm.other (differs e) p
 
   -- no answer but what is computed is by the rule that of a parameter that may be unset, where that is so of values
   pub option-only : ((t : List ℕ) (a : Answer A) → P t a → a ≡ f t) → {t : List ℕ} {a : Answer (Given A)} → OptionForm P t a → a ≡ optionOf f t
-  unfolding isUnset same
+  unfolding isUnset sameBytes
   option-only h OptionForm.unset = refl
   option-only h {t} (OptionForm.given {a} n p) = rw (same-not t (bytes "$") n) (ap asGiven (h t (read a) p))
   option-only h {t} (OptionForm.other {n} k p) = rw (same-not t (bytes "$") k) (ap asGiven (h t (refused n) p))

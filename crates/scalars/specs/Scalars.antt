@@ -8,7 +8,7 @@ use lib.Dec.{eqb}
 use lib.ListN.{length, take, drop, getD}
 use Rattle.common.specs.Pick.{pick}
 use Rattle.record.specs.Text.{past}
-use Rattle.record.specs.Word.{same, trimmed}
+use Rattle.record.specs.Word.{sameBytes, trimmed}
 use Rattle.reals.specs.Scalar.{realOf}
 use Rattle.reals.specs.Answer.{Answer, read, refused}
 use Rattle.scalars.specs.Answer.{Given, given, unset, Logical, holds, fails, unknown}
@@ -19,7 +19,7 @@ use Rattle.scalars.specs.declared.Truth.the-variants.{True, False, Unkno
 
 -- whether a parameter is `$`: "`$` unset"
 unfoldable pub isUnset : List ℕ → Bool
-isUnset t = same t (36 ∷ [])
+isUnset t = sameBytes t (36 ∷ [])
 
 -- an answer as that of a parameter that may be unset, where one is given
 abbrev pub asGiven : {A : Type 0} → Answer A → Answer (Given A)
@@ -73,7 +73,7 @@ measureOf t = measureBy realOf t
 -- what a text answers as a boolean: "`.T.` `.F.` `.U.`"
 unfoldable pub truthOf : List ℕ → Answer Logical
 truthOf t =
-    pick (same t (46 ∷ 84 ∷ 46 ∷ [])) (read holds) (pick (same t (46 ∷ 70 ∷ 46 ∷ [])) (read fails) (pick (same t (46 ∷ 85 ∷ 46 ∷ [])) (read unknown) (refused 12)))
+    pick (sameBytes t (46 ∷ 84 ∷ 46 ∷ [])) (read holds) (pick (sameBytes t (46 ∷ 70 ∷ 46 ∷ [])) (read fails) (pick (sameBytes t (46 ∷ 85 ∷ 46 ∷ [])) (read unknown) (refused 12)))
 
 -- what the code's answer says of the part in parentheses
 abbrev pub InnerAt : List ℕ → Inner → Type 0

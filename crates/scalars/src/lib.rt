@@ -17,7 +17,7 @@ ghost use Rattle.params.specs.Answer.{reading};
 ghost use Rattle.scalars.specs.Scalars.{unopening, InnerAt, measureBy, measureOf, isUnset, optionOf, toldTruth, truthOf};
 ghost use Rattle.scalars.specs.Answer.{answered, nextOf, toldNextRef, toldNextOptRef, toldNextWhole, toldNextReal, toldNextOptReal, toldNextTruth};
 use error::Fault;
-use params::Cut;
+use params::NextParam;
 use params::State;
 use reals::Real;
 use reals::Reals;
@@ -25,7 +25,7 @@ use reals::Reference;
 use reals::Whole;
 
 // A part of a text, from start up to stop.
-pub struct Part {
+pub struct TextPart {
     pub start: usize,
     pub stop: usize,
 }
@@ -89,14 +89,14 @@ fn trail_from(b: &[u8], from: usize) -> usize
 }
 
 // What is left of a text without the whitespace at its ends.
-pub fn trim(b: &[u8]) -> Part
+pub fn trim(b: &[u8]) -> TextPart
     ensures { λ r. ⌜ drop (r .start) (now (b .entry)) ≡ past white (now (b .entry)) ⌝ }
     ensures { λ r. ⌜ take (r .stop - r .start) (drop (r .start) (now (b .entry))) ≡ trimmed (now (b .entry)) ⌝ }
     ensures { λ r. ⌜ (r .start ≤ r .stop) × (r .stop ≤ length (now (b .entry))) ⌝ }
 {
     let start = record::leading_space(b);
     let stop = trail_from(b, start);
-    Part { start, stop }
+    TextPart { start, stop }
 }
 
 // The place of the first `(`, or the text's length.
@@ -183,8 +183,8 @@ pub fn next_ref(file: &[u8], at: State) -> NextRef
     ensures { λ r. ⌜ toldNextRef r ≡ nextOf referenceOf (now (file .entry)) (at .place) (at .end) ⌝ }
 {
     match params::param_span(file, at) {
-        Cut::Refused(f, to) => NextRef::Refused(f, to),
-        Cut::Span(start, stop, to) => match reals::parse_ref(between(file, start, stop)) {
+        NextParam::Refused(f, to) => NextRef::Refused(f, to),
+        NextParam::Span(start, stop, to) => match reals::parse_ref(between(file, start, stop)) {
             Reference::Value(n) => NextRef::Value(n, to),
             Reference::NotReference => NextRef::Refused(Fault::WrongType(start), to),
         },
@@ -196,8 +196,8 @@ pub fn next_opt_ref(file: &[u8], at: State) -> NextOptRef
     ensures { λ r. ⌜ toldNextOptRef r ≡ nextOf (optionOf referenceOf) (now (file .entry)) (at .place) (at .end) ⌝ }
 {
     match params::param_span(file, at) {
-        Cut::Refused(f, to) => NextOptRef::Refused(f, to),
-        Cut::Span(start, stop, to) => {
+        NextParam::Refused(f, to) => NextOptRef::Refused(f, to),
+        NextParam::Span(start, stop, to) => {
             let t = between(file, start, stop);
             if is_unset(t) {
                 return NextOptRef::Unset(to);
@@ -215,8 +215,8 @@ pub fn next_i64(file: &[u8], at: State) -> NextWhole
     ensures { λ r. ⌜ toldNextWhole r ≡ nextOf wholeOf (now (file .entry)) (at .place) (at .end) ⌝ }
 {
     match params::param_span(file, at) {
-        Cut::Refused(f, to) => NextWhole::Refused(f, to),
-        Cut::Span(start, stop, to) => match reals::parse_int(between(file, start, stop)) {
+        NextParam::Refused(f, to) => NextWhole::Refused(f, to),
+        NextParam::Span(start, stop, to) => match reals::parse_int(between(file, start, stop)) {
             Whole::Value(n) => NextWhole::Value(n, to),
             Whole::NotWhole => NextWhole::Refused(Fault::WrongType(start), to),
         },
@@ -238,8 +238,8 @@ pub fn next_real(which: Reals, file: &[u8], at: State) -> NextReal
     ensures { λ r. ⌜ toldNextReal r ≡ nextOf (realBy which) (now (file .entry)) (at .place) (at .end) ⌝ }
 {
     match params::param_span(file, at) {
-        Cut::Refused(f, to) => NextReal::Refused(f, to),
-        Cut::Span(start, stop, to) => real_read(
+        NextParam::Refused(f, to) => NextReal::Refused(f, to),
+        NextParam::Span(start, stop, to) => real_read(
             reals::read_real(which, between(file, start, stop)),
             start,
             to,
@@ -259,8 +259,8 @@ pub fn next_opt_real(which: Reals, file: &[u8], at: State) -> NextOptReal
     ensures { λ r. ⌜ toldNextOptReal r ≡ nextOf (optionOf (realBy which)) (now (file .entry)) (at .place) (at .end) ⌝ }
 {
     match params::param_span(file, at) {
-        Cut::Refused(f, to) => NextOptReal::Refused(f, to),
-        Cut::Span(start, stop, to) => {
+        NextParam::Refused(f, to) => NextOptReal::Refused(f, to),
+        NextParam::Span(start, stop, to) => {
             let t = between(file, start, stop);
             if is_unset(t) {
                 return NextOptReal::Unset(to);
@@ -286,8 +286,8 @@ pub fn next_measure(which: Reals, file: &[u8], at: State) -> NextReal
     ensures { λ r. ⌜ toldNextReal r ≡ nextOf (measureBy (realBy which)) (now (file .entry)) (at .place) (at .end) ⌝ }
 {
     match params::param_span(file, at) {
-        Cut::Refused(f, to) => NextReal::Refused(f, to),
-        Cut::Span(start, stop, to) => real_read(
+        NextParam::Refused(f, to) => NextReal::Refused(f, to),
+        NextParam::Span(start, stop, to) => real_read(
             parse_measure(which, between(file, start, stop)),
             start,
             to,
@@ -307,8 +307,8 @@ pub fn next_bool(file: &[u8], at: State) -> NextTruth
     ensures { λ r. ⌜ toldNextTruth r ≡ nextOf truthOf (now (file .entry)) (at .place) (at .end) ⌝ }
 {
     match params::param_span(file, at) {
-        Cut::Refused(f, to) => NextTruth::Refused(f, to),
-        Cut::Span(start, stop, to) => match parse_truth(between(file, start, stop)) {
+        NextParam::Refused(f, to) => NextTruth::Refused(f, to),
+        NextParam::Span(start, stop, to) => match parse_truth(between(file, start, stop)) {
             Truth::True => NextTruth::True(to),
             Truth::False => NextTruth::False(to),
             Truth::Unknown => NextTruth::Unknown(to),

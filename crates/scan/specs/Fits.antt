@@ -18,15 +18,15 @@ use Rattle.record.specs.declared.Word.{Word}
 use Rattle.record.specs.declared.Word.the-variants.{Header, Data, EndSection, EndFile, Other}
 use Rattle.record.specs.declared.Head.{Head}
 use Rattle.record.specs.declared.Head.the-variants.{Bad, Complex, Simple}
-use Rattle.statement.specs.Rows.{Row, HeaderRow, Stmt, ends, refused, moved, header, record′, bound, mapped}
-use Rattle.statement.specs.Row.{sought, recordBy, recordOf, headerBy, headerOf}
-use Rattle.statement.specs.Statement.{headed, recorded, inSection, worded, ended, begun, led, statement}
+use Rattle.statement.specs.Rows.{Row, HeaderRow, Stmt, readingEnds, statementRefused, sectionNow, headerStatement, dataStatement, bound, mapped}
+use Rattle.statement.specs.Row.{closingSought, recordBy, recordOf, headerBy, headerOf}
+use Rattle.statement.specs.Statement.{headerStated, recorded, inSection, worded, ended, begun, afterTrivia, statement}
 use Rattle.statement.specs.declared.Section.{Section}
 use Rattle.statement.specs.declared.Section.the-variants.{Outside, InHeader, InData}
 use Rattle.statement.specs.FormRight.{statement-only}
 use Rattle.scan.specs.Records.{Table}
 use Rattle.scan.specs.File.{scanOf}
-use Rattle.scan.specs.Rests.{Each, Tells, scan-tells}
+use Rattle.scan.specs.Rests.{EachInTurn, EachOfAnswer, scan-tells}
 use Rattle.scan.specs.Ordered.{HeaderOrdered, RowOrdered, header-row-ordered, data-row-ordered}
 
 -- each place of a header row is at most n
@@ -50,16 +50,16 @@ ToldFits n F (bad q) = q .place ≤ n
 
 -- each place of each row of a table is at most n
 pub record TableFits (n : ℕ) (t : Table) : Type 0 where
-  pub headers : Each (HeaderFits n) (t .headers)
-  pub records : Each (RecordFits n) (t .records)
+  pub headers : EachInTurn (HeaderFits n) (t .headers)
+  pub records : EachInTurn (RecordFits n) (t .records)
 
 -- each place of a statement is at most n
 abbrev pub StmtFits : ℕ → Stmt → Type 0
-StmtFits n ends = Unit {0}
-StmtFits n (refused q) = q .place ≤ n
-StmtFits n (moved sec r) = Unit {0}
-StmtFits n (header w ys r) = HeaderFits n w
-StmtFits n (record′ w ys r) = RecordFits n w
+StmtFits n readingEnds = Unit {0}
+StmtFits n (statementRefused q) = q .place ≤ n
+StmtFits n (sectionNow sec r) = Unit {0}
+StmtFits n (headerStatement w ys r) = HeaderFits n w
+StmtFits n (dataStatement w ys r) = RecordFits n w
 
 module _ (s : List ℕ) where
   -- a row by the place of its `)` is as F says, if F holds of it for each place in the file; or the refusal's place is in the file
@@ -80,7 +80,7 @@ module _ (s : List ℕ) where
         argStart = place-within s (drop (o + 1) ys);
         argEnd = k;
       })
-      (sought b (drop o ys))
+      (closingSought b (drop o ys))
 
   -- the places of a data row, read from the head of its record, lie in the file, or its refusal's place does
   record-by : (b : Option (List ℕ)) (ys : List ℕ) (h : Head) → ToldFits (length s) (RecordFits (length s)) (recordBy b s ys h)
@@ -88,7 +88,7 @@ module _ (s : List ℕ) where
   record-by b ys (Complex i o) =
       argued-fits (RecordFits (length s)) _
       (λ q k. record { keyStart = omega arith; keyEnd = omega arith; argStart = place-within s (drop (o + 1) ys); argEnd = k })
-      (sought b (drop o ys))
+      (closingSought b (drop o ys))
   record-by b ys (Simple i a z o) =
       argued-fits (RecordFits (length s)) _
       (λ q k.
@@ -98,10 +98,10 @@ module _ (s : List ℕ) where
         argStart = place-within s (drop (o + 1) ys);
         argEnd = k;
       })
-      (sought b (drop o ys))
+      (closingSought b (drop o ys))
 
   -- the places of a statement that is a header record lie in the file, where those of its row or its refusal do
-  headed-fits : (ys r : List ℕ) (x : Told HeaderRow) → ToldFits (length s) (HeaderFits (length s)) x → StmtFits (length s) (headed ys r x)
+  headed-fits : (ys r : List ℕ) (x : Told HeaderRow) → ToldFits (length s) (HeaderFits (length s)) x → StmtFits (length s) (headerStated ys r x)
   headed-fits ys r (good w) h = h
   headed-fits ys r (bad q) h = h
 
@@ -136,7 +136,7 @@ module _ (s : List ℕ) where
   begun-fits sec (c ∷ r) = ended-fits (c ∷ r) sec (recordEnd (c ∷ r))
 
   -- the places of a statement behind trivia, or of a fault in these, lie in the file
-  led-fits : (sec : Section) (x : Sought) → StmtFits (length s) (led s sec x)
+  led-fits : (sec : Section) (x : Sought) → StmtFits (length s) (afterTrivia s sec x)
   led-fits sec (fault n o) = place-within s o
   led-fits sec (at ys) = begun-fits sec ys
 
@@ -146,10 +146,10 @@ module _ (s : List ℕ) where
   statement-fits sec xs = led-fits sec (trivia xs)
 
 -- the places of an answer lie in the file where its rows are in order and its refusal's place lies there
-tells-fit : (n : ℕ) (a : Told Table) → Tells (HeaderOrdered n) (RowOrdered n) (λ q. q .place ≤ n) a → ToldFits n (TableFits n) a
+tells-fit : (n : ℕ) (a : Told Table) → EachOfAnswer (HeaderOrdered n) (RowOrdered n) (λ q. q .place ≤ n) a → ToldFits n (TableFits n) a
 tells-fit n (good t) (h, r) = record { headers = each-of header-fits (t .headers) h; records = each-of record-fits (t .records) r }
   where
-    each-of : {A : Type 0} {P Q : A → Type 0} → ((w : A) → P w → Q w) → (ws : List A) → Each P ws → Each Q ws
+    each-of : {A : Type 0} {P Q : A → Type 0} → ((w : A) → P w → Q w) → (ws : List A) → EachInTurn P ws → EachInTurn Q ws
     each-of f [] k = tt
     each-of f (w ∷ ws) (p, k) = (f w p, each-of f ws k)
 

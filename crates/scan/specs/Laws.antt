@@ -10,15 +10,15 @@ use lib.ListN.{length, drop, length-append}
 use Rattle.common.specs.Pick.{pick}
 use Rattle.error.specs.Refusal.{Refusal, refusal, Told, good, bad}
 use Rattle.lex.specs.Place.{place-drop}
-use Rattle.statement.specs.Rows.{Row, HeaderRow, Stmt, ends, refused, moved, header, record′, mapped}
+use Rattle.statement.specs.Rows.{Row, HeaderRow, Stmt, readingEnds, statementRefused, sectionNow, headerStatement, dataStatement, mapped}
 use Rattle.statement.specs.Statement.{statement}
 use Rattle.statement.specs.declared.Section.{Section}
 use Rattle.statement.specs.declared.Section.the-variants.{Outside, InHeader, InData}
-use Rattle.table.specs.Table.{rowsFit, headersFit, six, four, rowsLaid, headersLaid, rowPut, headerPut}
+use Rattle.table.specs.Table.{rowsFit, headersFit, six, headerRowNumbers, rowsLaid, headersLaid, rowPut, headerPut}
 use Rattle.table.specs.Laid.{nothing-laid, rows-laid-more, headers-laid-more}
 use Rattle.scan.specs.Records.{Table, table, withHeader, withRecord, largest}
 use Rattle.scan.specs.File.{taken, readFrom, readingOf}
-use Rattle.scan.specs.Table.{headersOf, recordsOf, Counts, counts, countsOf}
+use Rattle.scan.specs.ScanMemory.{headersOf, recordsOf, Counts, counts, countsOf}
 
 -- a table with the rows hs and rs before its own
 abbrev pub join : List HeaderRow → List Row → Table → Table
@@ -54,10 +54,10 @@ pub record Going (s : List ℕ) (H R : ℕ) (write : Bool) (h₀ r₀ : List ℕ
   pub rlaid : rnow ≡ pick write (rowsLaid rs r₀) r₀
 
 -- what the loop must leave: nothing changed where it does not write; else the rows of an answer
-abbrev pub Written : Bool → Told Table → (Table → List ℕ → List ℕ) → List ℕ → List ℕ → Type 0
-Written false o f old new = new ≡ old
-Written true (good t) f old new = new ≡ f t old
-Written true (bad q) f old new = Unit {0}
+abbrev pub PassWrites : Bool → Told Table → (Table → List ℕ → List ℕ) → List ℕ → List ℕ → Type 0
+PassWrites false o f old new = new ≡ old
+PassWrites true (good t) f old new = new ≡ f t old
+PassWrites true (bad q) f old new = Unit {0}
 
 -- no rows before those of an answer leave it as it is
 join-none : (x : Told Table) → mapped (join [] []) x ≡ x
@@ -88,7 +88,7 @@ going-starts s H R write h₀ r₀ = record {
   hroom = omega arith;
   rroom = omega arith;
   most = refl;
-  hlaid = sym (kept write h₀ (headersLaid [] h₀) (nothing-laid four h₀));
+  hlaid = sym (kept write h₀ (headersLaid [] h₀) (nothing-laid headerRowNumbers h₀));
   rlaid = sym (kept write r₀ (rowsLaid [] r₀) (nothing-laid six r₀));
 }
   where
@@ -103,22 +103,22 @@ module _ (s : List ℕ) (H R : ℕ) (write : Bool) (h₀ r₀ : List ℕ) (i : �
   turn x e = rw (e, ← unrolled (g .fuel) s H R sec h r (drop i s) (omega (arith, g .enough))) (g .same)
 
   -- where the next statement ends the reading, the rows so far are its answer
-  pub going-ends : ends ≡ statement s sec (drop i s) → good (table (g .hs) (g .rs)) ≡ readingOf s H R
-  going-ends e = rw (append-nil (g .hs), append-nil (g .rs)) at (turn ends e)
+  pub going-ends : readingEnds ≡ statement s sec (drop i s) → good (table (g .hs) (g .rs)) ≡ readingOf s H R
+  going-ends e = rw (append-nil (g .hs), append-nil (g .rs)) at (turn readingEnds e)
 
   -- where the next statement is refused, so is the whole reading
-  pub going-refused : (q : Refusal) → refused q ≡ statement s sec (drop i s) → bad q ≡ readingOf s H R
-  going-refused q e = turn (refused q) e
+  pub going-refused : (q : Refusal) → statementRefused q ≡ statement s sec (drop i s) → bad q ≡ readingOf s H R
+  going-refused q e = turn (statementRefused q) e
 
   -- after a section word, or a record that is ignored, the reading goes on with the same rows
-  pub going-moves : (to : Section) (n : ℕ) → moved to (drop n s) ≡ statement s sec (drop i s) → i < n → n ≤ length s → Going s H R write h₀ r₀ n to h r m hnow rnow
+  pub going-moves : (to : Section) (n : ℕ) → sectionNow to (drop n s) ≡ statement s sec (drop i s) → i < n → n ≤ length s → Going s H R write h₀ r₀ n to h r m hnow rnow
   going-moves to n e p q = record {
     fuel = g .fuel - 1;
     hs = g .hs;
     rs = g .rs;
     within = q;
     enough = omega (arith, g .enough);
-    same = turn (moved to (drop n s)) e;
+    same = turn (sectionNow to (drop n s)) e;
     hcount = g .hcount;
     rcount = g .rcount;
     hroom = g .hroom;
@@ -129,15 +129,15 @@ module _ (s : List ℕ) (H R : ℕ) (write : Bool) (h₀ r₀ : List ℕ) (i : �
   }
 
   -- a header record with no row left is 8 at the record's start
-  pub header-full : (w : HeaderRow) (p n : ℕ) → p ≤ length s → header w (drop p s) (drop n s) ≡ statement s sec (drop i s) → H ≤ h → bad (refusal 8 0 p) ≡ readingOf s H R
-  header-full w p n l e k = rw (le-ltb h H k, place-drop s p l) at (turn (header w (drop p s) (drop n s)) e)
+  pub header-full : (w : HeaderRow) (p n : ℕ) → p ≤ length s → headerStatement w (drop p s) (drop n s) ≡ statement s sec (drop i s) → H ≤ h → bad (refusal 8 0 p) ≡ readingOf s H R
+  header-full w p n l e k = rw (le-ltb h H k, place-drop s p l) at (turn (headerStatement w (drop p s) (drop n s)) e)
 
   -- a data record with no row left is 8 at the record's start
-  pub record-full : (w : Row) (p n : ℕ) → p ≤ length s → record′ w (drop p s) (drop n s) ≡ statement s sec (drop i s) → R ≤ r → bad (refusal 8 0 p) ≡ readingOf s H R
-  record-full w p n l e k = rw (le-ltb r R k, place-drop s p l) at (turn (record′ w (drop p s) (drop n s)) e)
+  pub record-full : (w : Row) (p n : ℕ) → p ≤ length s → dataStatement w (drop p s) (drop n s) ≡ statement s sec (drop i s) → R ≤ r → bad (refusal 8 0 p) ≡ readingOf s H R
+  record-full w p n l e k = rw (le-ltb r R k, place-drop s p l) at (turn (dataStatement w (drop p s) (drop n s)) e)
 
   -- after a header record, for which a row is left, the reading goes on with its row
-  pub going-header : (w : HeaderRow) (p n : ℕ) → header w (drop p s) (drop n s) ≡ statement s sec (drop i s) → i < n → n ≤ length s → h < H → h < headersFit (length h₀)
+  pub going-header : (w : HeaderRow) (p n : ℕ) → headerStatement w (drop p s) (drop n s) ≡ statement s sec (drop i s) → i < n → n ≤ length s → h < H → h < headersFit (length h₀)
       → Going s H R write h₀ r₀ n InHeader (h + 1) r m (pick write (headerPut hnow h w) hnow) rnow
   going-header w p n e a b k l = record {
     fuel = g .fuel - 1;
@@ -145,7 +145,7 @@ module _ (s : List ℕ) (H R : ℕ) (write : Bool) (h₀ r₀ : List ℕ) (i : �
     rs = g .rs;
     within = b;
     enough = omega (arith, g .enough);
-    same = sym (join-header (g .hs) (g .rs) w (readFrom (g .fuel - 1) s H R InHeader (h + 1) r (drop n s))) ∙ rw (lt-ltb h H k) at (turn (header w (drop p s) (drop n s)) e);
+    same = sym (join-header (g .hs) (g .rs) w (readFrom (g .fuel - 1) s H R InHeader (h + 1) r (drop n s))) ∙ rw (lt-ltb h H k) at (turn (headerStatement w (drop p s) (drop n s)) e);
     hcount = length-append (g .hs) (w ∷ []) ∙ omega (arith, g .hcount);
     rcount = g .rcount;
     hroom = omega arith;
@@ -160,7 +160,7 @@ module _ (s : List ℕ) (H R : ℕ) (write : Bool) (h₀ r₀ : List ℕ) (i : �
       go true = rw (← g .hcount) (sym (headers-laid-more (g .hs) w h₀ (rw (g .hcount) l)))
 
   -- after a data record, for which a row is left, the reading goes on with its row
-  pub going-record : (w : Row) (p n : ℕ) → record′ w (drop p s) (drop n s) ≡ statement s sec (drop i s) → i < n → n ≤ length s → r < R → r < rowsFit (length r₀)
+  pub going-record : (w : Row) (p n : ℕ) → dataStatement w (drop p s) (drop n s) ≡ statement s sec (drop i s) → i < n → n ≤ length s → r < R → r < rowsFit (length r₀)
       → Going s H R write h₀ r₀ n InData h (r + 1) (max m (w .id)) hnow (pick write (rowPut rnow r w) rnow)
   going-record w p n e a b k l = record {
     fuel = g .fuel - 1;
@@ -168,7 +168,7 @@ module _ (s : List ℕ) (H R : ℕ) (write : Bool) (h₀ r₀ : List ℕ) (i : �
     rs = g .rs ++ (w ∷ []);
     within = b;
     enough = omega (arith, g .enough);
-    same = sym (join-record (g .hs) (g .rs) w (readFrom (g .fuel - 1) s H R InData h (r + 1) (drop n s))) ∙ rw (lt-ltb r R k) at (turn (record′ w (drop p s) (drop n s)) e);
+    same = sym (join-record (g .hs) (g .rs) w (readFrom (g .fuel - 1) s H R InData h (r + 1) (drop n s))) ∙ rw (lt-ltb r R k) at (turn (dataStatement w (drop p s) (drop n s)) e);
     hcount = g .hcount;
     rcount = length-append (g .rs) (w ∷ []) ∙ omega (arith, g .rcount);
     hroom = g .hroom;
@@ -187,41 +187,41 @@ module _ (s : List ℕ) (H R : ℕ) (write : Bool) (h₀ r₀ : List ℕ) (i : �
   going-counts x e = rw (← e, g .hcount, g .rcount, g .most) refl
 
   -- the lent memory after an answer is what the loop must leave
-  pub going-wrote : (x : Told Table) → good (table (g .hs) (g .rs)) ≡ x → Written write x headersOf h₀ hnow × Written write x recordsOf r₀ rnow
+  pub going-wrote : (x : Told Table) → good (table (g .hs) (g .rs)) ≡ x → PassWrites write x headersOf h₀ hnow × PassWrites write x recordsOf r₀ rnow
   going-wrote x e = rw (← e, g .hlaid, g .rlaid) (go write)
     where
       go : (b : Bool)
-          → Written b (good (table (g .hs) (g .rs))) headersOf h₀ (pick b (headersLaid (g .hs) h₀) h₀)
-          × Written b (good (table (g .hs) (g .rs))) recordsOf r₀ (pick b (rowsLaid (g .rs) r₀) r₀)
+          → PassWrites b (good (table (g .hs) (g .rs))) headersOf h₀ (pick b (headersLaid (g .hs) h₀) h₀)
+          × PassWrites b (good (table (g .hs) (g .rs))) recordsOf r₀ (pick b (rowsLaid (g .rs) r₀) r₀)
       go true = (refl, refl)
       go false = (refl, refl)
 
   -- the lent memory after a refusal is what the loop must leave
-  pub going-kept : (q : Refusal) (x : Told Table) → bad q ≡ x → Written write x headersOf h₀ hnow × Written write x recordsOf r₀ rnow
+  pub going-kept : (q : Refusal) (x : Told Table) → bad q ≡ x → PassWrites write x headersOf h₀ hnow × PassWrites write x recordsOf r₀ rnow
   going-kept q x e = rw (← e, g .hlaid, g .rlaid) (go write)
     where
       go : (b : Bool)
-          → Written b (bad q) headersOf h₀ (pick b (headersLaid (g .hs) h₀) h₀)
-          × Written b (bad q) recordsOf r₀ (pick b (rowsLaid (g .rs) r₀) r₀)
+          → PassWrites b (bad q) headersOf h₀ (pick b (headersLaid (g .hs) h₀) h₀)
+          × PassWrites b (bad q) recordsOf r₀ (pick b (rowsLaid (g .rs) r₀) r₀)
       go true = (tt, tt)
       go false = (refl, refl)
 
 -- what the loop leaves where it returns, with the room R′ that its contract speaks of
-abbrev pub Left : List ℕ → ℕ → ℕ → Bool → List ℕ → List ℕ → List ℕ → List ℕ → Told Counts → Type 0
-Left s H R′ write h₀ r₀ hnow rnow a =
-    (a ≡ mapped countsOf (readingOf s H R′)) × (Written write (readingOf s H R′) headersOf h₀ hnow × Written write (readingOf s H R′) recordsOf r₀ rnow)
+abbrev pub PassLeaves : List ℕ → ℕ → ℕ → Bool → List ℕ → List ℕ → List ℕ → List ℕ → Told Counts → Type 0
+PassLeaves s H R′ write h₀ r₀ hnow rnow a =
+    (a ≡ mapped countsOf (readingOf s H R′)) × (PassWrites write (readingOf s H R′) headersOf h₀ hnow × PassWrites write (readingOf s H R′) recordsOf r₀ rnow)
 
 module _ (s : List ℕ) (H R : ℕ) (write : Bool) (h₀ r₀ : List ℕ) (i : ℕ) (sec : Section) (h r m : ℕ) (hnow rnow : List ℕ)
     (g : Going s H R write h₀ r₀ i sec h r m hnow rnow) (R′ : ℕ) (k : R ≡ R′) where
   -- where the reading ends, the loop leaves what it must and answers its counts
-  pub done : ends ≡ statement s sec (drop i s) → Left s H R′ write h₀ r₀ hnow rnow (good (counts h r m))
-  done e =
+  pub pass-done : readingEnds ≡ statement s sec (drop i s) → PassLeaves s H R′ write h₀ r₀ hnow rnow (good (counts h r m))
+  pass-done e =
       let x = going-ends s H R write h₀ r₀ i sec h r m hnow rnow g e in
       let w = going-wrote s H R write h₀ r₀ i sec h r m hnow rnow g (readingOf s H R) x in
       rw (← k) (going-counts s H R write h₀ r₀ i sec h r m hnow rnow g (readingOf s H R) x, (w .0, w .1))
 
   -- where the reading is refused, the loop leaves what it must and answers the refusal
-  pub failed : (q : Refusal) → bad q ≡ readingOf s H R → Left s H R′ write h₀ r₀ hnow rnow (bad q)
-  failed q x =
+  pub pass-failed : (q : Refusal) → bad q ≡ readingOf s H R → PassLeaves s H R′ write h₀ r₀ hnow rnow (bad q)
+  pass-failed q x =
       let w = going-kept s H R write h₀ r₀ i sec h r m hnow rnow g q (readingOf s H R) x in
       rw (← k) (ap (mapped countsOf) x, (w .0, w .1))

@@ -1,6 +1,6 @@
 pub mod Records
 pub mod File
-pub mod Table
+pub mod ScanMemory
 pub mod Laws
 pub mod Neat
 pub mod Scan
@@ -11,7 +11,7 @@ pub mod Rooms
 pub mod Rests
 pub mod Ordered
 pub mod Fits
-pub mod Roomy
+pub mod LargerRooms
 pub mod Points
-pub mod Run
+pub mod TidyRun
 pub mod LargestRight

@@ -3,7 +3,7 @@
 use mathlib.Core.Path.{_≡_, refl, sym, _∙_, ap}
 use Rattle.error.specs.Refusal.{Told, good, bad}
 use Rattle.error.specs.Only.{faultOf, faultOf-told}
-use Rattle.scan.specs.Table.{Counts, toldScan}
+use Rattle.scan.specs.ScanMemory.{Counts, toldScan}
 use Rattle.scan.specs.declared.Scanned.{Scanned}
 use Rattle.scan.specs.declared.Scanned.the-variants.{Rows, Refused}
 

@@ -14,7 +14,7 @@ use Rattle.scan.specs.Records.{Table}
 use Rattle.scan.specs.File.{scanOf}
 use Rattle.statement.specs.Form.{After, ArguedTo, Argued, DataForm, HeaderRecordForm}
 use Rattle.lex.specs.Rests.{Rest, rest-of, rest-within}
-use Rattle.scan.specs.Rests.{Each, balanced-rest, after-rest, scan-tells}
+use Rattle.scan.specs.Rests.{EachInTurn, balanced-rest, after-rest, scan-tells}
 
 -- the places of a header row of a file of n bytes are in order
 pub record HeaderOrdered (n : ℕ) (w : HeaderRow) : Type 0 where
@@ -68,7 +68,7 @@ data-row-ordered u (DataForm.simple h a z o g) =
 
 -- all rows of a scan's answer are in order
 pub scan-ordered : (s : List ℕ) (H R : ℕ) (t : Table) → scanOf s H R ≡ good t
-    → Each (HeaderOrdered (length s)) (t .headers) × Each (RowOrdered (length s)) (t .records)
+    → EachInTurn (HeaderOrdered (length s)) (t .headers) × EachInTurn (RowOrdered (length s)) (t .records)
 scan-ordered s H R t e = scan-tells s (HeaderOrdered (length s)) (RowOrdered (length s)) (λ q. Unit {0})
     (λ ys body w u g. header-row-ordered u g) (λ ys body w u g. data-row-ordered u g) (λ sec xs q u f. tt) (λ xs ys body t u d. tt)
     tt tt H R (good t) e

@@ -9,7 +9,7 @@ use Rattle.error.specs.Refusal.{refusal, Told, good, bad}
 use Rattle.lex.specs.Search.{trivia, recordEnd, closing}
 use Rattle.common.specs.Walk.{walk}
 use Rattle.record.specs.Text.{past, numberFrom, keyword, trail}
-use Rattle.record.specs.Word.{same, wordOf}
+use Rattle.record.specs.Word.{sameBytes, wordOf}
 use Rattle.record.specs.Head.{dataHead}
 use Rattle.common.specs.Bytes.{bytes}
 use Rattle.statement.specs.Rows.{Row, row, HeaderRow, header-kind, data-kind, mapped}
@@ -18,7 +18,7 @@ use Rattle.statement.specs.Statement.{statement}
 use Rattle.statement.specs.declared.Section.{Section}
 use Rattle.scan.specs.Records.{Table, table, withHeader, withRecord}
 use Rattle.scan.specs.File.{readFrom, scanOf}
-use Rattle.scan.specs.Form.{perKind, Reads, Scans}
+use Rattle.scan.specs.Form.{rowsPerKind, Reads, Scans}
 use Rattle.scan.specs.FormRight.{scans-is, scans-only}
 
 -- the answer gives rows, and these, with h and r rows used before, find room in H and R
@@ -38,7 +38,7 @@ module _ (H R h r : ℕ) where
 
 -- a reading that gives rows gives the same in every room that holds them
 reads-roomy : {s : List ℕ} {H R : ℕ} {sec : Section} {h r : ℕ} {xs : List ℕ} {a : Told Table} (H' R' : ℕ)
-    → Reads s (perKind H R) sec (perKind h r) xs a → Holds H' R' h r a → Reads s (perKind H' R') sec (perKind h r) xs a
+    → Reads s (rowsPerKind H R) sec (rowsPerKind h r) xs a → Holds H' R' h r a → Reads s (rowsPerKind H' R') sec (rowsPerKind h r) xs a
 reads-roomy H' R' (Reads.over f) k = Reads.over f
 reads-roomy H' R' (Reads.fault f) k = Reads.fault f
 reads-roomy H' R' (Reads.on f d) k = Reads.on f (reads-roomy H' R' d k)
@@ -48,7 +48,7 @@ reads-roomy {h} {r} H' R' (Reads.row {a} data-kind w ys f p d) k =
     let (l, m) = holds-record H' R' h r w a k in Reads.row data-kind w ys f l (reads-roomy H' R' d m)
 reads-roomy H' R' (Reads.full kind w ys t f p) k = absurd k
 
-scans-roomy : {s : List ℕ} {H R : ℕ} {a : Told Table} (H' R' : ℕ) → Scans s (perKind H R) a → Holds H' R' 0 0 a → Scans s (perKind H' R') a
+scans-roomy : {s : List ℕ} {H R : ℕ} {a : Told Table} (H' R' : ℕ) → Scans s (rowsPerKind H R) a → Holds H' R' 0 0 a → Scans s (rowsPerKind H' R') a
 scans-roomy H' R' (Scans.long h) k = absurd k
 scans-roomy H' R' (Scans.unmarked h n) k = absurd k
 scans-roomy H' R' (Scans.read h m d) k = Scans.read h m (reads-roomy H' R' d k)
@@ -75,7 +75,7 @@ module _ (H R h r : ℕ) where
 
 -- no reading gives more rows than are lent
 reads-fit : {s : List ℕ} {H R : ℕ} {sec : Section} {h r : ℕ} {xs : List ℕ} {a : Told Table}
-    → h ≤ H → r ≤ R → Reads s (perKind H R) sec (perKind h r) xs a → Fits H R h r a
+    → h ≤ H → r ≤ R → Reads s (rowsPerKind H R) sec (rowsPerKind h r) xs a → Fits H R h r a
 reads-fit l m (Reads.over f) = omega arith
 reads-fit l m (Reads.fault f) = tt
 reads-fit l m (Reads.on f d) = reads-fit l m d
@@ -83,7 +83,7 @@ reads-fit {H} {R} {h} {r} l m (Reads.row {a} header-kind w ys f p d) = fits-head
 reads-fit {H} {R} {h} {r} l m (Reads.row {a} data-kind w ys f p d) = fits-record H R h r w a (reads-fit l (omega arith) d)
 reads-fit l m (Reads.full kind w ys t f p) = tt
 
-scans-fit : {s : List ℕ} {H R : ℕ} {a : Told Table} → Scans s (perKind H R) a → Fits H R 0 0 a
+scans-fit : {s : List ℕ} {H R : ℕ} {a : Told Table} → Scans s (rowsPerKind H R) a → Fits H R 0 0 a
 scans-fit (Scans.long h) = tt
 scans-fit (Scans.unmarked h n) = tt
 scans-fit (Scans.read h m d) = reads-fit (omega arith) (omega arith) d
@@ -98,10 +98,10 @@ largeId = bytes "ISO-10303-21;DATA;#4294967295=A();"
 
 -- a file with one record needs one row and one id slot, however large its id
 pub large-id : scanOf largeId 0 1 ≡ good (table [] (row 4294967295 30 31 32 32 0 ∷ []))
-unfolding scanOf readFrom statement trivia recordEnd closing walk past numberFrom keyword trail same wordOf dataHead recordOf
+unfolding scanOf readFrom statement trivia recordEnd closing walk past numberFrom keyword trail sameBytes wordOf dataHead recordOf
 large-id = refl
 
 -- a file with one record and no row lent is 8 at the record's start
 pub large-id-full : scanOf largeId 0 0 ≡ bad (refusal 8 0 18)
-unfolding scanOf readFrom statement trivia recordEnd closing walk past numberFrom keyword trail same wordOf dataHead recordOf
+unfolding scanOf readFrom statement trivia recordEnd closing walk past numberFrom keyword trail sameBytes wordOf dataHead recordOf
 large-id-full = refl

@@ -9,17 +9,17 @@ ghost use lib.ListN.{length, take, drop};
 ghost use Rattle.common.specs.Pick.{pick};
 ghost use Rattle.lex.specs.Byte.{white};
 ghost use Rattle.record.specs.Text.{past};
-ghost use Rattle.record.specs.Word.{same, marker};
-ghost use Rattle.statement.specs.Rows.{mapped, rowOf, headerRowOf};
+ghost use Rattle.record.specs.Word.{sameBytes, marker};
+ghost use Rattle.statement.specs.Rows.{mapped, toldRow, headerRowOf};
 ghost use Rattle.statement.specs.Statement.{statement};
 ghost use Rattle.statement.specs.Tidy.{tidy};
 ghost use Rattle.statement.specs.declared.Section.the-variants.{Outside, InData};
 ghost use Rattle.scan.specs.File.{marked, readingOf};
 ghost use Rattle.table.specs.Table.{rowsFit, headersFit, rowPut, headerPut};
-ghost use Rattle.scan.specs.Table.{headerRoom, dataRoom, headersOf, recordsOf, toldScan, countsOf, headersAfter, rowsAfter, scanLent};
-ghost use Rattle.scan.specs.Laws.{Written};
+ghost use Rattle.scan.specs.ScanMemory.{headerRoom, dataRoom, headersOf, recordsOf, toldScan, countsOf, headersAfter, rowsAfter, scanLent};
+ghost use Rattle.scan.specs.Laws.{PassWrites};
 ghost use Rattle.scan.specs.Neat.{Neat, toldPassed, NeatTold};
-ghost use Rattle.scan.specs.Run.{Ran};
+ghost use Rattle.scan.specs.TidyRun.{RecordsRan};
 ghost use Rattle.scan.specs.Fits.{HeaderFits, RecordFits};
 use common::greater;
 use error::Fault;
@@ -48,7 +48,7 @@ enum Passed {
 
 // Whether a text begins with these bytes.
 fn starts_with(t: &[u8], w: &[u8]) -> bool
-    ensures { λ r. ⌜ r ≡ same (take (length (now (w .entry))) (now (t .entry))) (now (w .entry)) ⌝ }
+    ensures { λ r. ⌜ r ≡ sameBytes (take (length (now (w .entry))) (now (t .entry))) (now (w .entry)) ⌝ }
 {
     let n = w.len();
     if t.len() < n {
@@ -59,7 +59,7 @@ fn starts_with(t: &[u8], w: &[u8]) -> bool
 
 // Whether a text begins with the marker, after whitespace.
 fn is_marker(t: &[u8]) -> bool
-    ensures { λ r. ⌜ r ≡ same (take 12 (past white (now (t .entry)))) marker ⌝ }
+    ensures { λ r. ⌜ r ≡ sameBytes (take 12 (past white (now (t .entry)))) marker ⌝ }
 {
     let a = record::leading_space(t);
     starts_with(&t[a..], b"ISO-10303-21")
@@ -93,8 +93,8 @@ fn put_header(out: &mut [u32], k: usize, span: HeaderSpan, write: bool) -> usize
 
 // Puts a data row as row k, where the pass writes.
 fn put_record(out: &mut [u32], k: usize, span: RecordSpan, write: bool)
-    requires { ⌜ RecordFits 4294967295 (rowOf span) ⌝ }
-    ensures { λ _. ⌜ now (out .exit) ≡ pick write (rowPut (now (out .entry)) k (rowOf span)) (now (out .entry)) ⌝ }
+    requires { ⌜ RecordFits 4294967295 (toldRow span) ⌝ }
+    ensures { λ _. ⌜ now (out .exit) ≡ pick write (rowPut (now (out .entry)) k (toldRow span)) (now (out .entry)) ⌝ }
 {
     if !write {
         return;
@@ -113,7 +113,7 @@ fn rows_found(headers: usize, records: usize, max: u32) -> Scanned
 }
 
 // Where a run of records ended: the place, how many rows there are, and the largest id.
-pub struct Reached {
+pub struct RunEnd {
     pub place: usize,
     pub count: usize,
     pub max: u32,
@@ -129,23 +129,23 @@ fn run(
     stored: usize,
     largest: u32,
     known: bool,
-) -> Reached
+) -> RunEnd
     requires { ⌜ (length (now s) ≤ 4294967295) × (from ≤ length (now s)) × (room ≤ rowsFit (length (now rows))) × (known ≡ true → Neat (now s) InData (drop from (now s))) ⌝ }
-    ensures { λ t. ⌜ Ran (now (s .entry)) room known from stored largest (now (rows .entry)) (t .place) (t .count) (t .max) (now (rows .exit)) ⌝ }
+    ensures { λ t. ⌜ RecordsRan (now (s .entry)) room known from stored largest (now (rows .entry)) (t .place) (t .count) (t .max) (now (rows .exit)) ⌝ }
 {
     let mut place = from;
     let mut count = stored;
     let mut max = largest;
     while known & (count < room) {
         let Tidied::Tidy(span, _, next) = statement::tidy_record(s, place) else {
-            return Reached { place, count, max };
+            return RunEnd { place, count, max };
         };
         put_record(rows, count, span, true);
         count += 1;
         max = greater(max, span.id);
         place = next;
     }
-    Reached { place, count, max }
+    RunEnd { place, count, max }
 }
 
 // How many data rows so many numbers and slots hold.
@@ -168,8 +168,8 @@ fn pass(
 ) -> Passed
     requires { ⌜ (length (now s) ≤ 4294967295) × (known ≡ true → write ≡ true) × (known ≡ true → Neat (now s) Outside (now s)) ⌝ }
     ensures { λ r. ⌜ toldPassed r ≡ mapped countsOf (readingOf (now (s .entry)) (headerRoom (now (headers .entry))) (dataRoom (now (rows .entry)) slots)) ⌝ }
-    ensures { λ _. ⌜ Written write (readingOf (now (s .entry)) (headerRoom (now (headers .entry))) (dataRoom (now (rows .entry)) slots)) headersOf (now (headers .entry)) (now (headers .exit)) ⌝ }
-    ensures { λ _. ⌜ Written write (readingOf (now (s .entry)) (headerRoom (now (headers .entry))) (dataRoom (now (rows .entry)) slots)) recordsOf (now (rows .entry)) (now (rows .exit)) ⌝ }
+    ensures { λ _. ⌜ PassWrites write (readingOf (now (s .entry)) (headerRoom (now (headers .entry))) (dataRoom (now (rows .entry)) slots)) headersOf (now (headers .entry)) (now (headers .exit)) ⌝ }
+    ensures { λ _. ⌜ PassWrites write (readingOf (now (s .entry)) (headerRoom (now (headers .entry))) (dataRoom (now (rows .entry)) slots)) recordsOf (now (rows .entry)) (now (rows .exit)) ⌝ }
     ensures { λ r. ⌜ NeatTold (now (s .entry)) r ⌝ }
 {
     let room = data_room(rows.len(), slots);

@@ -5,12 +5,12 @@ use Prim.Native.Nat.{ℕ}
 use mathlib.Core.List.{List, map}
 use mathlib.Core.Option.{Option, none, some}
 use Rattle.error.specs.Refusal.{Told, good, bad, told}
-use Rattle.statement.specs.Rows.{Row, rowOf}
+use Rattle.statement.specs.Rows.{Row, toldRow}
 use Rattle.scan.specs.Records.{Table}
 use Rattle.lookup.specs.Records.{lastOf}
-use Rattle.store.specs.Store.{Opens}
-use Rattle.store.specs.declared.Opened.{Opened}
-use Rattle.factors.specs.Thing.{thingOf, thingFound}
+use Rattle.store.specs.Store.{OpensFile}
+use Rattle.store.specs.declared.OpenedFile.{OpenedFile}
+use Rattle.factors.specs.SeenRecords.{seenRecordOf, seenRecordFound}
 use Rattle.units.specs.Answer.{Units}
 use Rattle.units.specs.Units.{resolveOf}
 use Rattle.serve.specs.declared.Served.{Served}
@@ -22,14 +22,14 @@ recordIn k t = good (lastOf k (t .records))
 
 -- the unit answer of the file s with the table t, over its records in file order and the lookup
 abbrev pub unitsOf : List ℕ → Table → Told Units
-unitsOf s t = resolveOf s (λ k. thingFound s (lastOf k (t .records))) (map (thingOf s) (t .records))
+unitsOf s t = resolveOf s (λ k. seenRecordFound s (lastOf k (t .records))) (map (seenRecordOf s) (t .records))
 
 -- what the code's answer about a served record says: a row, none, or a refusal
 abbrev pub toldServed : Served → Told (Option Row)
-toldServed (served.Row w) = good (some (rowOf w))
+toldServed (served.Row w) = good (some (toldRow w))
 toldServed served.Nothing = good none
 toldServed (served.Refused f) = bad (told f)
 
 -- the lent memory after a call: what opening the file leaves there, and that is one thing (`opened-only` of store/specs/Only)
-abbrev pub Left : List ℕ → List ℕ → List ℕ → List ℕ → List ℕ → List ℕ → List ℕ → Type 0
-Left s heads rows slots heads′ rows′ slots′ = (a : Opened) × Opens s heads rows slots a heads′ rows′ slots′
+abbrev pub OpeningLeaves : List ℕ → List ℕ → List ℕ → List ℕ → List ℕ → List ℕ → List ℕ → Type 0
+OpeningLeaves s heads rows slots heads′ rows′ slots′ = (a : OpenedFile) × OpensFile s heads rows slots a heads′ rows′ slots′

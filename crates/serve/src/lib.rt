@@ -6,11 +6,11 @@ ghost use mathlib.Core.Path.{_≡_};
 ghost use Rattle.params.specs.Answer.{onward};
 ghost use Rattle.store.specs.Store.{scanInto};
 ghost use Rattle.units.specs.Answer.{toldUnits};
-ghost use Rattle.serve.specs.Serve.{toldServed, recordIn, unitsOf, Left};
+ghost use Rattle.serve.specs.Serve.{toldServed, recordIn, unitsOf, OpeningLeaves};
 use error::Fault;
 use lookup::Entry;
 use statement::RecordSpan;
-use store::Opened;
+use store::OpenedFile;
 use units::Resolved;
 
 // The record of an id, none, or why the file is refused.
@@ -29,11 +29,11 @@ pub fn record_of(
     id: u32,
 ) -> Served
     ensures { λ r. ⌜ toldServed r ≡ onward (recordIn id) (scanInto (now (file .entry)) (now (headers .entry)) (now (rows .entry)) (now (slots .entry))) ⌝ }
-    ensures { λ _. ⌜ Left (now (file .entry)) (now (headers .entry)) (now (rows .entry)) (now (slots .entry)) (now (headers .exit)) (now (rows .exit)) (now (slots .exit)) ⌝ }
+    ensures { λ _. ⌜ OpeningLeaves (now (file .entry)) (now (headers .entry)) (now (rows .entry)) (now (slots .entry)) (now (headers .exit)) (now (rows .exit)) (now (slots .exit)) ⌝ }
 {
     match store::open(file, headers, rows, slots) {
-        Opened::Refused(f) => Served::Refused(f),
-        Opened::Good(t) => match lookup::get(rows, slots, t, id) {
+        OpenedFile::Refused(f) => Served::Refused(f),
+        OpenedFile::Good(t) => match lookup::get(rows, slots, t, id) {
             Entry::Row(w) => Served::Row(w),
             Entry::Nothing => Served::Nothing,
         },
@@ -43,10 +43,10 @@ pub fn record_of(
 // The unit answer of a file.
 pub fn units_of(file: &[u8], headers: &mut [u32], rows: &mut [u32], slots: &mut [u64]) -> Resolved
     ensures { λ r. ⌜ toldUnits r ≡ onward (unitsOf (now (file .entry))) (scanInto (now (file .entry)) (now (headers .entry)) (now (rows .entry)) (now (slots .entry))) ⌝ }
-    ensures { λ _. ⌜ Left (now (file .entry)) (now (headers .entry)) (now (rows .entry)) (now (slots .entry)) (now (headers .exit)) (now (rows .exit)) (now (slots .exit)) ⌝ }
+    ensures { λ _. ⌜ OpeningLeaves (now (file .entry)) (now (headers .entry)) (now (rows .entry)) (now (slots .entry)) (now (headers .exit)) (now (rows .exit)) (now (slots .exit)) ⌝ }
 {
     match store::open(file, headers, rows, slots) {
-        Opened::Refused(f) => Resolved::Refused(f),
-        Opened::Good(t) => units::resolve(file, rows, slots, t),
+        OpenedFile::Refused(f) => Resolved::Refused(f),
+        OpenedFile::Good(t) => units::resolve(file, rows, slots, t),
     }
 }

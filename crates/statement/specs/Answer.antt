@@ -6,7 +6,7 @@ use mathlib.Core.List.{List}
 use lib.ListN.{drop}
 use Rattle.error.specs.Refusal.{Told, good, bad, told}
 use Rattle.lex.specs.Byte.{place}
-use Rattle.statement.specs.Rows.{Row, HeaderRow, Stmt, ends, refused, moved, header, record′, rowOf, headerRowOf}
+use Rattle.statement.specs.Rows.{Row, HeaderRow, Stmt, readingEnds, statementRefused, sectionNow, headerStatement, dataStatement, toldRow, headerRowOf}
 use Rattle.statement.specs.declared.HeaderRead.{HeaderRead}
 use Rattle.statement.specs.declared.HeaderRead.the-variants.{HeaderIs, NoHeader}
 use Rattle.statement.specs.declared.RecordRead.{RecordRead}
@@ -18,21 +18,21 @@ use Rattle.statement.specs.declared.Tidied.the-variants.{Untidy, Tidy}
 
 -- what an answer of `scan_data_record` says: a row or a refusal
 abbrev pub toldRecord : RecordRead → Told Row
-toldRecord (RecordIs r) = good (rowOf r)
+toldRecord (RecordIs r) = good (toldRow r)
 toldRecord (NoRecord f) = bad (told f)
 
 -- what an answer of `scan_header_record` says: a row or a refusal
-abbrev pub toldHeader : HeaderRead → Told HeaderRow
-toldHeader (HeaderIs r) = good (headerRowOf r)
-toldHeader (NoHeader f) = bad (told f)
+abbrev pub toldHeaderRead : HeaderRead → Told HeaderRow
+toldHeaderRead (HeaderIs r) = good (headerRowOf r)
+toldHeaderRead (NoHeader f) = bad (told f)
 
 -- what `next_statement` answers, with rests of the file s for places
 abbrev pub toldSaid : List ℕ → Said → Stmt
-toldSaid s Ends = ends
-toldSaid s (Refuses f) = refused (told f)
-toldSaid s (Moves sec n) = moved sec (drop n s)
-toldSaid s (Heads r p n) = header (headerRowOf r) (drop p s) (drop n s)
-toldSaid s (Records r p n) = record′ (rowOf r) (drop p s) (drop n s)
+toldSaid s Ends = readingEnds
+toldSaid s (Refuses f) = statementRefused (told f)
+toldSaid s (Moves sec n) = sectionNow sec (drop n s)
+toldSaid s (Heads r p n) = headerStatement (headerRowOf r) (drop p s) (drop n s)
+toldSaid s (Records r p n) = dataStatement (toldRow r) (drop p s) (drop n s)
 
 -- the place after a statement lies after the place i and after the record's start, in a file of n bytes
 abbrev pub Ahead : ℕ → ℕ → Said → Type 0
@@ -42,7 +42,7 @@ Ahead i n (Moves sec p) = (i < p) × (p ≤ n)
 Ahead i n (Heads r q p) = (i < p) × (q < p) × (p ≤ n)
 Ahead i n (Records r q p) = (i < p) × (q < p) × (p ≤ n)
 
--- what an answer of `tidy_record` says, with rests of the file s for places; `ends` where no record is had
+-- what an answer of `tidy_record` says, with rests of the file s for places; `readingEnds` where no record is had
 abbrev pub toldTidied : List ℕ → Tidied → Stmt
-toldTidied s Untidy = ends
-toldTidied s (Tidy r p n) = record′ (rowOf r) (drop p s) (drop n s)
+toldTidied s Untidy = readingEnds
+toldTidied s (Tidy r p n) = dataStatement (toldRow r) (drop p s) (drop n s)

@@ -10,11 +10,11 @@ use mathlib.Core.Path.{_≡_}
 use mathlib.Core.List.{List, _∷_, _++_}
 use lib.ListN.{length}
 use lib.Seq.{slice}
-use Rattle.lex.specs.Grammar.{Runs, Closes}
+use Rattle.lex.specs.Grammar.{RecordRuns, Closes}
 use Rattle.record.specs.Form.{Free}
 use Rattle.record.specs.Head.{dataHead, headerHead}
 use Rattle.record.specs.declared.Head.the-variants.{Complex, Simple}
-use Rattle.statement.specs.Rows.{Row, HeaderRow, ends, moved, header, record′}
+use Rattle.statement.specs.Rows.{Row, HeaderRow, readingEnds, sectionNow, headerStatement, dataStatement}
 use Rattle.statement.specs.Statement.{statement}
 use Rattle.statement.specs.declared.Section.{Section}
 use Rattle.statement.specs.declared.Section.the-variants.{Outside, InHeader, InData}
@@ -22,7 +22,7 @@ use Rattle.statement.specs.declared.Section.the-variants.{Outside, InHea
 -- "outside strings and comments": t is what is left of the text b from a place on, and all strings and comments before it are whole
 -- (no `;` stands outside them there, as in the text of every record)
 abbrev pub OutsideBoth : List ℕ → List ℕ → Type 0
-OutsideBoth b t = Runs b t
+OutsideBoth b t = RecordRuns b t
 
 -- "`(` lies outside strings and comments and closes before that record's `;`": in the record's text b the `(` stands at the place o,
 -- its `)` follows in b itself, and args lies between the two
@@ -56,12 +56,12 @@ pub data ClosedHeader : List ℕ → Type 0 where
 -- "each header and data record": those that the file s is read to have, from the rest xs on in a section, up to the reading's end;
 -- b is the record's text and r what follows its `;`. A file that is refused is none of these: demand 3 speaks of accepted files
 pub data ClosedFrom (s : List ℕ) : Section → List ℕ → Type 0 where
-  over : {sec : Section} {xs : List ℕ} → statement s sec xs ≡ ends → ClosedFrom s sec xs
-  turn : {sec to : Section} {xs r : List ℕ} → statement s sec xs ≡ moved to r → ClosedFrom s to r → ClosedFrom s sec xs
+  over : {sec : Section} {xs : List ℕ} → statement s sec xs ≡ readingEnds → ClosedFrom s sec xs
+  turn : {sec to : Section} {xs r : List ℕ} → statement s sec xs ≡ sectionNow to r → ClosedFrom s to r → ClosedFrom s sec xs
   heading : {sec : Section} {xs b r : List ℕ} {w : HeaderRow}
-      → statement s sec xs ≡ header w (b ++ (59 ∷ r)) r → ClosedHeader b → ClosedFrom s InHeader r → ClosedFrom s sec xs
+      → statement s sec xs ≡ headerStatement w (b ++ (59 ∷ r)) r → ClosedHeader b → ClosedFrom s InHeader r → ClosedFrom s sec xs
   entry : {sec : Section} {xs b r : List ℕ} {w : Row}
-      → statement s sec xs ≡ record′ w (b ++ (59 ∷ r)) r → ClosedData b → ClosedFrom s InData r → ClosedFrom s sec xs
+      → statement s sec xs ≡ dataStatement w (b ++ (59 ∷ r)) r → ClosedData b → ClosedFrom s InData r → ClosedFrom s sec xs
 
 -- "A file is closed": it is read from its first byte on, outside of every section
 abbrev pub Closed : List ℕ → Type 0

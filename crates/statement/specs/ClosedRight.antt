@@ -22,7 +22,7 @@ use Rattle.record.specs.Head.{dataHead}
 use Rattle.record.specs.Within.{data-within, header-within}
 use Rattle.record.specs.declared.Head.the-variants.{Bad}
 use Rattle.statement.specs.Rows.{Row, row, HeaderRow, headerRow, bound, mapped}
-use Rattle.statement.specs.Row.{sought, arguedTo, recordOf, headerOf}
+use Rattle.statement.specs.Row.{closingSought, arguedTo, recordOf, headerOf}
 use Rattle.statement.specs.FormRight.{sought-at}
 use Rattle.statement.specs.Closed.{OutsideBoth, ClosedAt, ClosedData, ClosedHeader, Content, content, HeaderContent, headerContent}
 pub mod Statements
@@ -37,13 +37,13 @@ closed-closing {b} {o} c y =
     rw (e, drop-at (c .front) _ o (c .place)) (closes-any (c .closes) y)
 
 -- the `)` of a closed record is found too where the search ends with the record's text
-pub closed-bounded : {b : List ℕ} {o : ℕ} (c : ClosedAt b o) (y : List ℕ) → sought (some y) (drop o (b ++ y)) ≡ at (41 ∷ (c .back ++ y))
+pub closed-bounded : {b : List ℕ} {o : ℕ} (c : ClosedAt b o) (y : List ℕ) → closingSought (some y) (drop o (b ++ y)) ≡ at (41 ∷ (c .back ++ y))
 closed-bounded {b} {o} c y =
     let e : b ++ y ≡ c .front ++ (40 ∷ ((c .args ++ (41 ∷ c .back)) ++ y)) = rw (c .shape) (append-assoc (c .front) _ y) in
     rw (e, drop-at (c .front) _ o (c .place)) (sought-at (some y) (c .args ++ (41 ∷ c .back)) (41 ∷ c .back) (closing-only 40 (c .closes)))
 
 -- the `)` of a closed record is found up to the record's bound
-closed-sought : {b : List ℕ} {o : ℕ} (c : ClosedAt b o) (y : List ℕ) → sought (bound (b ++ y) b) (drop o (b ++ y)) ≡ at (41 ∷ (c .back ++ y))
+closed-sought : {b : List ℕ} {o : ℕ} (c : ClosedAt b o) (y : List ℕ) → closingSought (bound (b ++ y) b) (drop o (b ++ y)) ≡ at (41 ∷ (c .back ++ y))
 closed-sought c y = closed-closing c y
 
 -- a `(` outside strings and comments whose `)` is found before the text's end is closed: the definition is the paper's
@@ -150,9 +150,9 @@ abbrev pub headerContentOf : {b : List ℕ} → ClosedHeader b → HeaderContent
 headerContentOf {b} (ClosedHeader.named {i} {a} {z} e c) = record { keyword = slice a z b; args = c .args }
 
 -- a closed header record has the row `headerRowFrom` wherever it stands: q precedes it in the file, and y follows its text
-pub header-row : {b : List ℕ} (c : ClosedHeader b) (q y : List ℕ) → headerOf (q ++ (b ++ y)) (b ++ y) b ≡ good (headerRowFrom (length q) c)
+pub closed-header-row : {b : List ℕ} (c : ClosedHeader b) (q y : List ℕ) → headerOf (q ++ (b ++ y)) (b ++ y) b ≡ good (headerRowFrom (length q) c)
 unfolding headerOf
-header-row {b} (ClosedHeader.named {i} {a} {z} {o} e c) q y =
+closed-header-row {b} (ClosedHeader.named {i} {a} {z} {o} e c) q y =
     let w : (a ≤ length b) × (z ≤ length b) × (o ≤ length b) = rw e at (header-within b) in
     let h : o + 1 ≤ length b = omega (arith, args-within c) in
     rw e (argued-local c q y _ ∙ rw (place-after q b y a (w .0), place-after q b y z (w .1), place-after q b y (o + 1) h) refl)
@@ -167,7 +167,7 @@ header-content {b} (ClosedHeader.named {i} {a} {z} {o} e c) q y =
 pub header-local : {b : List ℕ} → ClosedHeader b
     → (k : HeaderContent)
     × ((p r : List ℕ) → (w : HeaderRow) × (headerOf (p ++ (b ++ (59 ∷ r))) (b ++ (59 ∷ r)) b ≡ good w) × (headerContent (p ++ (b ++ (59 ∷ r))) w ≡ k))
-header-local c = (headerContentOf c, λ p r. (headerRowFrom (length p) c, header-row c p (59 ∷ r), header-content c p (59 ∷ r)))
+header-local c = (headerContentOf c, λ p r. (headerRowFrom (length p) c, closed-header-row c p (59 ∷ r), header-content c p (59 ∷ r)))
 
 -- a text whose head as a data record is not reason 2 begins with `#`
 hash-first : (b : List ℕ) → (dataHead b ≡ Bad 2 → ⊥) → Begins 35 b

@@ -12,11 +12,11 @@ use mathlib.Core.Option.{Option, none, some}
 use lib.ListN.{length}
 use Rattle.error.specs.Refusal.{Refusal, refusal, Told, good, bad}
 use Rattle.lex.specs.Byte.{place}
-use Rattle.lex.specs.Grammar.{Led, Trivia, Runs, Ends, Closes, Deep, OpenText, OpenRemark}
+use Rattle.lex.specs.Grammar.{Led, Trivia, RecordRuns, RecordEnds, Closes, Deep, OpenText, OpenRemark}
 use Rattle.record.specs.Form.{WordForm, HeadForm, HeaderForm}
 use Rattle.record.specs.declared.Word.the-variants.{Header, Data, EndSection, EndFile, Other}
 use Rattle.record.specs.declared.Head.the-variants.{Bad, Complex, Simple}
-use Rattle.statement.specs.Rows.{Row, row, HeaderRow, headerRow, Stmt, ends, refused, moved, header, record′, bound}
+use Rattle.statement.specs.Rows.{Row, row, HeaderRow, headerRow, Stmt, readingEnds, statementRefused, sectionNow, headerStatement, dataStatement, bound}
 use Rattle.statement.specs.declared.Section.{Section}
 use Rattle.statement.specs.declared.Section.the-variants.{Outside, InHeader, InData}
 
@@ -79,42 +79,42 @@ pub data HeaderRecordForm (s ys body : List ℕ) : Told HeaderRow → Type 0 whe
 -- record starts with ys, its text is body, and t follows its `;`
 pub record Record (xs ys body t : List ℕ) : Type 0 where
   pub starts : Led xs ys
-  pub finishes : Ends ys t
+  pub finishes : RecordEnds ys t
   pub text : ys ≡ body ++ (59 ∷ t)
 
 -- what the next statement of the file s says, from the rest xs on in this section
 pub data StatementForm (s : List ℕ) : Section → List ℕ → Stmt → Type 0 where
   -- "A record starts at the first non-trivia byte": there is none, and the file ends
-  over : {sec : Section} {xs : List ℕ} → Led xs [] → StatementForm s sec xs ends
+  over : {sec : Section} {xs : List ℕ} → Led xs [] → StatementForm s sec xs readingEnds
   -- "3 comment open, its `/`", before a record
-  trivia-open : {sec : Section} {xs o : List ℕ} → Trivia xs o → OpenRemark o → StatementForm s sec xs (refused (refusal 3 0 (place s o)))
+  trivia-open : {sec : Section} {xs o : List ℕ} → Trivia xs o → OpenRemark o → StatementForm s sec xs (statementRefused (refusal 3 0 (place s o)))
   -- "5 record without `;`, its start"
-  endless : {sec : Section} {xs ys : List ℕ} → Led xs ys → (ys ≡ [] → ⊥) → Runs ys []
-      → StatementForm s sec xs (refused (refusal 5 0 (place s ys)))
+  endless : {sec : Section} {xs ys : List ℕ} → Led xs ys → (ys ≡ [] → ⊥) → RecordRuns ys []
+      → StatementForm s sec xs (statementRefused (refusal 5 0 (place s ys)))
   -- "4 string open, its first quote", on the way to the `;`
-  text-open : {sec : Section} {xs ys o : List ℕ} → Led xs ys → Runs ys o → OpenText o → StatementForm s sec xs (refused (refusal 4 0 (place s o)))
+  text-open : {sec : Section} {xs ys o : List ℕ} → Led xs ys → RecordRuns ys o → OpenText o → StatementForm s sec xs (statementRefused (refusal 4 0 (place s o)))
   -- "3 comment open, its `/`", on the way to the `;`
-  remark-open : {sec : Section} {xs ys o : List ℕ} → Led xs ys → Runs ys o → OpenRemark o
-      → StatementForm s sec xs (refused (refusal 3 0 (place s o)))
+  remark-open : {sec : Section} {xs ys o : List ℕ} → Led xs ys → RecordRuns ys o → OpenRemark o
+      → StatementForm s sec xs (statementRefused (refusal 3 0 (place s o)))
   -- "`HEADER` opens the header"
-  heads : {sec : Section} {xs ys body t : List ℕ} → Record xs ys body t → WordForm body Header → StatementForm s sec xs (moved InHeader t)
+  heads : {sec : Section} {xs ys body t : List ℕ} → Record xs ys body t → WordForm body Header → StatementForm s sec xs (sectionNow InHeader t)
   -- "`DATA`, or `DATA`, whitespace or none, then `(`, opens data"
-  opens : {sec : Section} {xs ys body t : List ℕ} → Record xs ys body t → WordForm body Data → StatementForm s sec xs (moved InData t)
+  opens : {sec : Section} {xs ys body t : List ℕ} → Record xs ys body t → WordForm body Data → StatementForm s sec xs (sectionNow InData t)
   -- "`ENDSEC` leaves the section"
-  leaves : {sec : Section} {xs ys body t : List ℕ} → Record xs ys body t → WordForm body EndSection → StatementForm s sec xs (moved Outside t)
+  leaves : {sec : Section} {xs ys body t : List ℕ} → Record xs ys body t → WordForm body EndSection → StatementForm s sec xs (sectionNow Outside t)
   -- "`END-ISO-10303-21` ends the reading"
-  closes : {sec : Section} {xs ys body t : List ℕ} → Record xs ys body t → WordForm body EndFile → StatementForm s sec xs ends
+  closes : {sec : Section} {xs ys body t : List ℕ} → Record xs ys body t → WordForm body EndFile → StatementForm s sec xs readingEnds
   -- "Records elsewhere are ignored."
-  ignored : {xs ys body t : List ℕ} → Record xs ys body t → WordForm body Other → StatementForm s Outside xs (moved Outside t)
+  ignored : {xs ys body t : List ℕ} → Record xs ys body t → WordForm body Other → StatementForm s Outside xs (sectionNow Outside t)
   -- a header record, and its row
   header-row : {xs ys body t : List ℕ} {w : HeaderRow} → Record xs ys body t → WordForm body Other → HeaderRecordForm s ys body (good w)
-      → StatementForm s InHeader xs (header w ys t)
+      → StatementForm s InHeader xs (headerStatement w ys t)
   -- a header record that is refused: "the first fault is given"
   header-refused : {xs ys body t : List ℕ} {q : Refusal} → Record xs ys body t → WordForm body Other → HeaderRecordForm s ys body (bad q)
-      → StatementForm s InHeader xs (refused q)
+      → StatementForm s InHeader xs (statementRefused q)
   -- "Data: `#`, digits, ..": a data record, and its row
   data-row : {xs ys body t : List ℕ} {w : Row} → Record xs ys body t → WordForm body Other → DataForm s ys body (good w)
-      → StatementForm s InData xs (record′ w ys t)
+      → StatementForm s InData xs (dataStatement w ys t)
   -- a data record that is refused: "the first fault is given"
   data-refused : {xs ys body t : List ℕ} {q : Refusal} → Record xs ys body t → WordForm body Other → DataForm s ys body (bad q)
-      → StatementForm s InData xs (refused q)
+      → StatementForm s InData xs (statementRefused q)

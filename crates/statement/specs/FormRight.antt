@@ -10,12 +10,12 @@ use lib.ListN.{length, drop, length-append}
 use lib.Seq.{take-at, drop-at, drop-drop}
 use Rattle.common.specs.Compare.{clash}
 use Rattle.error.specs.Refusal.{Refusal, Told, good, bad}
-use Rattle.lex.specs.Grammar.{Led, Runs, Deep, OpenText, OpenRemark}
+use Rattle.lex.specs.Grammar.{Led, RecordRuns, Deep, OpenText, OpenRemark}
 use Rattle.lex.specs.Search.{trivia, recordEnd, closing}
 use Rattle.lex.specs.Answer.{Sought, at, fault, placed}
 use Rattle.lex.specs.Local.{trivia-shorter, end-local}
 use Rattle.lex.specs.Inside.{closes-any}
-use Rattle.lex.specs.Right.{trivia-only, trivia-open-only, trivia-is, trivia-open, end-only, end-text-only, end-remark-only, end-over-only, end-is, end-open, closing-only, closing-text-only, closing-remark-only, closing-over-only, closing-is, closing-open}
+use Rattle.lex.specs.Right.{trivia-only, trivia-open-only, trivia-is, trivia-open, end-only, end-text-only, end-remark-only, end-over-only, end-is, record-end-open, closing-only, closing-text-only, closing-remark-only, closing-over-only, closing-is, closing-open}
 use Rattle.record.specs.Text.{before}
 use Rattle.record.specs.Word.{wordOf}
 use Rattle.record.specs.Head.{dataHead, headerHead}
@@ -26,9 +26,9 @@ use Rattle.record.specs.declared.Word.{Word}
 use Rattle.record.specs.declared.Word.the-variants.{Header, Data, EndSection, EndFile, Other}
 use Rattle.record.specs.declared.Head.{Head}
 use Rattle.record.specs.declared.Head.the-variants.{Bad, Complex, Simple}
-use Rattle.statement.specs.Rows.{Row, HeaderRow, Stmt, refused, moved, header, record′, bound, RowKind, header-kind, data-kind, RowOf, rowed}
-use Rattle.statement.specs.Row.{sought, recordOf, headerOf}
-use Rattle.statement.specs.Statement.{headed, recorded, worded, ended, begun, statement}
+use Rattle.statement.specs.Rows.{Row, HeaderRow, Stmt, statementRefused, sectionNow, headerStatement, dataStatement, bound, RowKind, header-kind, data-kind, RowOf, rowed}
+use Rattle.statement.specs.Row.{closingSought, recordOf, headerOf}
+use Rattle.statement.specs.Statement.{headerStated, recorded, worded, ended, begun, statement}
 use Rattle.statement.specs.declared.Section.{Section}
 use Rattle.statement.specs.declared.Section.the-variants.{Outside, InHeader, InData}
 use Rattle.statement.specs.Form.{After, onto, ArguedTo, Argued, DataForm, HeaderRecordForm, Record, StatementForm}
@@ -52,30 +52,30 @@ before-own u e = take-at u e (length (u ++ e) - length e) (simp length-append (o
 -- the search up to a bound is that of what stands before it, as if nothing followed
 module _ (b : Option (List ℕ)) (u : List ℕ) where
   -- a `)` found in what stands before the bound is found by the search up to the bound
-  pub sought-at : (r : List ℕ) → closing (40 ∷ u) ≡ at r → sought b (40 ∷ onto b u) ≡ at (onto b r)
+  pub sought-at : (r : List ℕ) → closing (40 ∷ u) ≡ at r → closingSought b (40 ∷ onto b u) ≡ at (onto b r)
   sought-at r h = go b
     where
-      go : (b : Option (List ℕ)) → sought b (40 ∷ onto b u) ≡ at (onto b r)
+      go : (b : Option (List ℕ)) → closingSought b (40 ∷ onto b u) ≡ at (onto b r)
       go none = h
       go (some e) = rw (before-own (40 ∷ u) e, h) refl
 
   -- a fault met in what stands before the bound is met by the search up to the bound
-  pub sought-fault : (n : ℕ) (r : List ℕ) → closing (40 ∷ u) ≡ fault n r → sought b (40 ∷ onto b u) ≡ fault n (onto b r)
+  pub sought-fault : (n : ℕ) (r : List ℕ) → closing (40 ∷ u) ≡ fault n r → closingSought b (40 ∷ onto b u) ≡ fault n (onto b r)
   sought-fault n r h = go b
     where
-      go : (b : Option (List ℕ)) → sought b (40 ∷ onto b u) ≡ fault n (onto b r)
+      go : (b : Option (List ℕ)) → closingSought b (40 ∷ onto b u) ≡ fault n (onto b r)
       go none = h
       go (some e) = rw (before-own (40 ∷ u) e, h) refl
 
 -- a `)` that is found before a bound is the one that is found without it: u stands before the bound, and e from there on
-pub sought-whole : (u e r : List ℕ) → sought (some e) (40 ∷ (u ++ e)) ≡ at r → closing (40 ∷ (u ++ e)) ≡ at r
+pub sought-whole : (u e r : List ℕ) → closingSought (some e) (40 ∷ (u ++ e)) ≡ at r → closing (40 ∷ (u ++ e)) ≡ at r
 sought-whole u e r h = go (closing (40 ∷ u)) refl
   where
     go : (x : Sought) → closing (40 ∷ u) ≡ x → closing (40 ∷ (u ++ e)) ≡ at r
     go (fault n o) q = clash (cc (sought-fault (some e) u n o q))
     go (at y) q =
         let (v, g, c) = closing-is 40 u y q in
-        let f : sought (some e) (40 ∷ (u ++ e)) ≡ at (y ++ e) = sought-at (some e) u y q in
+        let f : closingSought (some e) (40 ∷ (u ++ e)) ≡ at (y ++ e) = sought-at (some e) u y q in
         let k : at ((41 ∷ v) ++ e) ≡ at r = ap (λ (l : List ℕ). at (l ++ e)) (sym g) ∙ sym f ∙ h in
         closes-any c e ∙ k
 
@@ -92,7 +92,7 @@ bounded-own : (body e r : List ℕ) → Bounded (bound (body ++ e) body) (r ++ e
 bounded-own body e r = bounded-none (r ++ e)
 
 -- "The closing `)`": the answer by the rules is the one that is computed
-pub arguedto-only : {b : Option (List ℕ)} {s t : List ℕ} {a : Told ℕ} → ArguedTo b s t a → a ≡ placed s (sought b (40 ∷ t))
+pub arguedto-only : {b : Option (List ℕ)} {s t : List ℕ} {a : Told ℕ} → ArguedTo b s t a → a ≡ placed s (closingSought b (40 ∷ t))
 arguedto-only {b} (ArguedTo.closed {u} e c) = rw (e, sought-at b u _ (closing-only 40 c)) refl
 arguedto-only {b} (ArguedTo.text-open {u} e d o) = rw (e, sought-fault b u 4 _ (closing-text-only 40 d o)) refl
 arguedto-only {b} (ArguedTo.remark-open {u} e d o) = rw (e, sought-fault b u 3 _ (closing-remark-only 40 d o)) refl
@@ -114,7 +114,7 @@ arguedto-comes b s t (u, h) = go (closing (40 ∷ u)) refl
         faults (inr (inr (k, g, (d, f)))) = (_, ArguedTo.unclosed h f)
 
 -- "The closing `)`": the answer that is computed is that by the rules
-pub arguedto-is : (b : Option (List ℕ)) (s t : List ℕ) → Bounded b t → ArguedTo b s t (placed s (sought b (40 ∷ t)))
+pub arguedto-is : (b : Option (List ℕ)) (s t : List ℕ) → Bounded b t → ArguedTo b s t (placed s (closingSought b (40 ∷ t)))
 arguedto-is b s t h = sole (ArguedTo b s t) (λ a. arguedto-only) (arguedto-comes b s t h)
 
 -- "through the whole file": without a bound, the answer by the rules is the one that is computed
@@ -217,11 +217,11 @@ headerrecord-is s body e =
     (headerrecord-comes s (body ++ e) body (headerHead body) (headerform-is body) (header-placed e (headerform-is body)))
 
 -- bytes that lead outside strings and comments to a rest that is not empty are not none
-runs-some : {ys o : List ℕ} → Runs ys o → (o ≡ [] → ⊥) → ys ≡ [] → ⊥
-runs-some Runs.none h e = h e
-runs-some (Runs.byte l k m r) h e = clash (cc)
-runs-some (Runs.string q r) h e = clash (cc (q .shape))
-runs-some (Runs.comment q r) h e = clash (cc (q .shape))
+runs-some : {ys o : List ℕ} → RecordRuns ys o → (o ≡ [] → ⊥) → ys ≡ [] → ⊥
+runs-some RecordRuns.none h e = h e
+runs-some (RecordRuns.byte l k m r) h e = clash (cc)
+runs-some (RecordRuns.string q r) h e = clash (cc (q .shape))
+runs-some (RecordRuns.comment q r) h e = clash (cc (q .shape))
 
 -- what is made of a record that starts with ys, by the search for its end, is what the statement says
 led-says : (s : List ℕ) (sec : Section) {xs ys : List ℕ} {x : Sought} → Led xs ys → (ys ≡ [] → ⊥) → recordEnd ys ≡ x
@@ -262,9 +262,9 @@ statement-only {s} {sec} (StatementForm.leaves d f) = record-says s sec d f
 statement-only {s} {sec} (StatementForm.closes d f) = record-says s sec d f
 statement-only {s} (StatementForm.ignored d f) = record-says s Outside d f
 statement-only {s} (StatementForm.header-row {ys} {t} d f g) =
-    ap (headed ys t) (headerrecord-only g ∙ ap (headerOf s ys) (sym (text-before d))) ∙ record-says s InHeader d f
+    ap (headerStated ys t) (headerrecord-only g ∙ ap (headerOf s ys) (sym (text-before d))) ∙ record-says s InHeader d f
 statement-only {s} (StatementForm.header-refused {ys} {t} d f g) =
-    ap (headed ys t) (headerrecord-only g ∙ ap (headerOf s ys) (sym (text-before d))) ∙ record-says s InHeader d f
+    ap (headerStated ys t) (headerrecord-only g ∙ ap (headerOf s ys) (sym (text-before d))) ∙ record-says s InHeader d f
 statement-only {s} (StatementForm.data-row {ys} {t} d f g) =
     ap (recorded ys t) (dataform-only g ∙ ap (recordOf s ys) (sym (text-before d))) ∙ record-says s InData d f
 statement-only {s} (StatementForm.data-refused {ys} {t} d f g) =
@@ -302,14 +302,14 @@ end-comes : (s : List ℕ) (sec : Section) {xs ys : List ℕ} → Led xs ys → 
 end-comes s sec {xs} {ys} l h = go (recordEnd ys) refl
   where
     faults : {n : ℕ} {o : List ℕ}
-        → ((n ≡ 4) × Runs ys o × OpenText o) ⊎ (((n ≡ 3) × Runs ys o × OpenRemark o) ⊎ ((n ≡ 5) × (o ≡ ys) × Runs ys []))
+        → ((n ≡ 4) × RecordRuns ys o × OpenText o) ⊎ (((n ≡ 3) × RecordRuns ys o × OpenRemark o) ⊎ ((n ≡ 5) × (o ≡ ys) × RecordRuns ys []))
         → Stated s sec xs
     faults (inl (k, r, q)) = (_, StatementForm.text-open l r q)
     faults (inr (inl (k, r, q))) = (_, StatementForm.remark-open l r q)
     faults (inr (inr (k, e, r))) = (_, StatementForm.endless l h r)
 
     go : (x : Sought) → recordEnd ys ≡ x → Stated s sec xs
-    go (fault n o) e = faults (end-open ys n o e)
+    go (fault n o) e = faults (record-end-open ys n o e)
     go (at zs) e =
         let (t, g, r) = end-is ys zs e in
         let (body, q, z) = end-local ys t (e ∙ ap at g) in
@@ -333,18 +333,18 @@ record-shorter : {xs ys body t : List ℕ} → Record xs ys body t → length t 
 record-shorter {xs} d = omega (arith, trivia-shorter xs (trivia-only (d .starts)), simp length-append at (ap length (d .text)))
 
 -- less is left after a section word or an ignored record
-pub moved-shorter : {s : List ℕ} {sec to : Section} {xs t : List ℕ} → StatementForm s sec xs (moved to t) → length t < length xs
+pub moved-shorter : {s : List ℕ} {sec to : Section} {xs t : List ℕ} → StatementForm s sec xs (sectionNow to t) → length t < length xs
 moved-shorter (StatementForm.heads d f) = record-shorter d
 moved-shorter (StatementForm.opens d f) = record-shorter d
 moved-shorter (StatementForm.leaves d f) = record-shorter d
 moved-shorter (StatementForm.ignored d f) = record-shorter d
 
 -- less is left after a header record
-pub header-shorter : {s : List ℕ} {sec : Section} {xs ys t : List ℕ} {w : HeaderRow} → StatementForm s sec xs (header w ys t) → length t < length xs
+pub header-shorter : {s : List ℕ} {sec : Section} {xs ys t : List ℕ} {w : HeaderRow} → StatementForm s sec xs (headerStatement w ys t) → length t < length xs
 header-shorter (StatementForm.header-row d f g) = record-shorter d
 
 -- less is left after a data record
-pub data-shorter : {s : List ℕ} {sec : Section} {xs ys t : List ℕ} {w : Row} → StatementForm s sec xs (record′ w ys t) → length t < length xs
+pub data-shorter : {s : List ℕ} {sec : Section} {xs ys t : List ℕ} {w : Row} → StatementForm s sec xs (dataStatement w ys t) → length t < length xs
 data-shorter (StatementForm.data-row d f g) = record-shorter d
 
 -- less is left after a record that gives a row
@@ -373,7 +373,7 @@ header-number (HeaderRecordForm.bad-record h) = omega arith
 header-number (HeaderRecordForm.named-refused h o g) = omega (arith, argued-number g)
 
 -- a statement is refused with a number from 3 to 7
-pub statement-number : {s : List ℕ} {sec : Section} {xs : List ℕ} {q : Refusal} → StatementForm s sec xs (refused q) → Between 3 7 q
+pub statement-number : {s : List ℕ} {sec : Section} {xs : List ℕ} {q : Refusal} → StatementForm s sec xs (statementRefused q) → Between 3 7 q
 statement-number (StatementForm.trivia-open r o) = omega arith
 statement-number (StatementForm.endless l h r) = omega arith
 statement-number (StatementForm.text-open l r o) = omega arith

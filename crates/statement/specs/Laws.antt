@@ -21,9 +21,9 @@ use Rattle.lex.specs.At.{trivia-at, end-at}
 use Rattle.record.specs.Text.{before}
 use Rattle.record.specs.Word.{wordOf}
 use Rattle.record.specs.declared.Word.{Word}
-use Rattle.statement.specs.Rows.{Row, row, HeaderRow, headerRow, Stmt, ends, refused, moved, bound}
+use Rattle.statement.specs.Rows.{Row, row, HeaderRow, headerRow, Stmt, readingEnds, statementRefused, sectionNow, bound}
 use Rattle.statement.specs.Row.{arguedTo, recordBy, recordOf, headerBy, headerOf}
-use Rattle.statement.specs.Statement.{headed, recorded, inSection, worded, ended, begun, led, statement}
+use Rattle.statement.specs.Statement.{headerStated, recorded, inSection, worded, ended, begun, afterTrivia, statement}
 use Rattle.statement.specs.Answer.{Ahead}
 use Rattle.statement.specs.declared.Said.{Said}
 use Rattle.statement.specs.declared.Said.the-variants.{Ends, Refuses, Moves, Heads, Records}
@@ -98,12 +98,12 @@ before-at s p e h k =
 -- a record in its section, at places of the file
 module _ (s : List ℕ) (p e : ℕ) (h : p ≤ e) (k : e ≤ length s) where
   -- a record outside of every section is passed over
-  pub section-outside : moved Outside (drop (e + 1) s) ≡ inSection s (drop p s) (drop e s) Outside
-  section-outside = ap (moved Outside) (sym (drop-drop 1 e s))
+  pub section-outside : sectionNow Outside (drop (e + 1) s) ≡ inSection s (drop p s) (drop e s) Outside
+  section-outside = ap (sectionNow Outside) (sym (drop-drop 1 e s))
 
   -- a record in the header is read as a header record
-  pub section-header : (t : Told HeaderRow) → t ≡ headerOf s (drop p s) (take (e - p) (drop p s)) → headed (drop p s) (drop (e + 1) s) t ≡ inSection s (drop p s) (drop e s) InHeader
-  section-header t q = rw (before-at s p e h k, drop-drop 1 e s) (ap (headed (drop p s) (drop (e + 1) s)) q)
+  pub section-header : (t : Told HeaderRow) → t ≡ headerOf s (drop p s) (take (e - p) (drop p s)) → headerStated (drop p s) (drop (e + 1) s) t ≡ inSection s (drop p s) (drop e s) InHeader
+  section-header t q = rw (before-at s p e h k, drop-drop 1 e s) (ap (headerStated (drop p s) (drop (e + 1) s)) q)
 
   -- a record in the data section is read as a data record
   pub section-data : (t : Told Row) → t ≡ recordOf s (drop p s) (take (e - p) (drop p s)) → recorded (drop p s) (drop (e + 1) s) t ≡ inSection s (drop p s) (drop e s) InData
@@ -114,8 +114,8 @@ module _ (s : List ℕ) (p e : ℕ) (h : p ≤ e) (k : e ≤ length s) where
   worded-at sec w q = ap (worded s (drop p s) (drop e s) sec) (q ∙ ap wordOf (sym (before-at s p e h k)))
 
   -- the rest after a record is the rest after its `;`
-  pub moved-at : (sec : Section) → moved sec (drop (e + 1) s) ≡ moved sec (drop 1 (drop e s))
-  moved-at sec = ap (moved sec) (sym (drop-drop 1 e s))
+  pub moved-at : (sec : Section) → sectionNow sec (drop (e + 1) s) ≡ sectionNow sec (drop 1 (drop e s))
+  moved-at sec = ap (sectionNow sec) (sym (drop-drop 1 e s))
 
 -- a statement whose first byte stands at p, by the search for the record's end
 module _ (s : List ℕ) (p : ℕ) (sec : Section) (h : p < length s) where
@@ -127,41 +127,41 @@ module _ (s : List ℕ) (p : ℕ) (sec : Section) (h : p < length s) where
   begun-found e q = ap (ended s (drop p s) sec) (sym (end-at s p e (omega arith) q .0)) ∙ sym begun-is
 
   -- where the search for the record's end is refused, so is the statement
-  pub begun-refused : (q : Refusal) → bad q ≡ placed s (recordEnd (drop p s)) → refused q ≡ begun s sec (drop p s)
+  pub begun-refused : (q : Refusal) → bad q ≡ placed s (recordEnd (drop p s)) → statementRefused q ≡ begun s sec (drop p s)
   begun-refused q r = go (recordEnd (drop p s)) refl r
     where
-      go : (x : Sought) → recordEnd (drop p s) ≡ x → bad q ≡ placed s x → refused q ≡ begun s sec (drop p s)
+      go : (x : Sought) → recordEnd (drop p s) ≡ x → bad q ≡ placed s x → statementRefused q ≡ begun s sec (drop p s)
       go (at ys) e w = let z : _≡_ {A = ℕ} 0 1 = cc in absurd (omega arith)
       go (fault n o) e w =
           let f : q ≡ refusal n 0 (place s o) = cc in
-          ap refused f ∙ ap (ended s (drop p s) sec) (sym e) ∙ sym begun-is
+          ap statementRefused f ∙ ap (ended s (drop p s) sec) (sym e) ∙ sym begun-is
 
 -- a statement from the place i on, by the search past trivia
 module _ (s : List ℕ) (i : ℕ) (sec : Section) where
   -- from the file's end on, the reading ends
-  pub statement-none : length s ≤ i → ends ≡ statement s sec (drop i s)
+  pub statement-none : length s ≤ i → readingEnds ≡ statement s sec (drop i s)
   unfolding statement trivia walk
   statement-none h = rw (drop-end s i h) refl
 
   -- where the trivia end at p, the statement is the one that begins there
   pub statement-found : (p : ℕ) → i ≤ length s → good p ≡ placed s (trivia (drop i s)) → begun s sec (drop p s) ≡ statement s sec (drop i s)
   unfolding statement
-  statement-found p h q = ap (led s sec) (sym (trivia-at s i p h q .0))
+  statement-found p h q = ap (afterTrivia s sec) (sym (trivia-at s i p h q .0))
 
   -- where the trivia end at the file's end, the reading ends
-  pub statement-over : (p : ℕ) → i ≤ length s → good p ≡ placed s (trivia (drop i s)) → length s ≤ p → ends ≡ statement s sec (drop i s)
+  pub statement-over : (p : ℕ) → i ≤ length s → good p ≡ placed s (trivia (drop i s)) → length s ≤ p → readingEnds ≡ statement s sec (drop i s)
   statement-over p h q k = rw (← statement-found p h q, drop-end s p k) refl
 
   -- where the trivia are refused, so is the statement
-  pub statement-refused : (q : Refusal) → bad q ≡ placed s (trivia (drop i s)) → refused q ≡ statement s sec (drop i s)
+  pub statement-refused : (q : Refusal) → bad q ≡ placed s (trivia (drop i s)) → statementRefused q ≡ statement s sec (drop i s)
   unfolding statement
   statement-refused q r = go (trivia (drop i s)) refl r
     where
-      go : (x : Sought) → trivia (drop i s) ≡ x → bad q ≡ placed s x → refused q ≡ led s sec (trivia (drop i s))
+      go : (x : Sought) → trivia (drop i s) ≡ x → bad q ≡ placed s x → statementRefused q ≡ afterTrivia s sec (trivia (drop i s))
       go (at ys) e w = let z : _≡_ {A = ℕ} 0 1 = cc in absurd (omega arith)
       go (fault n o) e w =
           let f : q ≡ refusal n 0 (place s o) = cc in
-          ap refused f ∙ ap (led s sec) (sym e)
+          ap statementRefused f ∙ ap (afterTrivia s sec) (sym e)
 
 -- an answer of `next_statement` that lies after a later place lies after an earlier one
 pub ahead-from : (i p n : ℕ) (r : Said) → i ≤ p → Ahead p n r → Ahead i n r

@@ -8,7 +8,7 @@ use lib.ListN.{length}
 use Rattle.error.specs.Only.{faultOf, faultOf-told}
 use Rattle.lex.specs.Byte.{place}
 use Rattle.lex.specs.Place.{place-drop}
-use Rattle.statement.specs.Rows.{Row, HeaderRow, Stmt, ends, refused, moved, header, record′}
+use Rattle.statement.specs.Rows.{Row, HeaderRow, Stmt, readingEnds, statementRefused, sectionNow, headerStatement, dataStatement}
 use Rattle.statement.specs.Answer.{toldSaid, Ahead, toldTidied}
 use Rattle.statement.specs.Tidy.{TidyAhead}
 use Rattle.statement.specs.declared.Said.{Said}
@@ -35,11 +35,11 @@ headerSpanOf w = record {
 
 -- the answer of `next_statement` that says this of the file
 saidOf : List ℕ → Stmt → Said
-saidOf s ends = Ends
-saidOf s (refused q) = Refuses (faultOf q)
-saidOf s (moved sec r) = Moves sec (place s r)
-saidOf s (header w ys r) = Heads (headerSpanOf w) (place s ys) (place s r)
-saidOf s (record′ w ys r) = Records (spanOf w) (place s ys) (place s r)
+saidOf s readingEnds = Ends
+saidOf s (statementRefused q) = Refuses (faultOf q)
+saidOf s (sectionNow sec r) = Moves sec (place s r)
+saidOf s (headerStatement w ys r) = Heads (headerSpanOf w) (place s ys) (place s r)
+saidOf s (dataStatement w ys r) = Records (spanOf w) (place s ys) (place s r)
 
 said-back : (s : List ℕ) (i : ℕ) (a : Said) → Ahead i (length s) a → saidOf s (toldSaid s a) ≡ a
 unfolding saidOf
@@ -55,11 +55,11 @@ said-only s i a b h k e = sym (said-back s i a h) ∙ ap (saidOf s) e ∙ said-b
 
 -- the answer of `tidy_record` that says this of the file
 tidiedOf : List ℕ → Stmt → Tidied
-tidiedOf s ends = Untidy
-tidiedOf s (refused q) = Untidy
-tidiedOf s (moved sec r) = Untidy
-tidiedOf s (header w ys r) = Untidy
-tidiedOf s (record′ w ys r) = Tidy (spanOf w) (place s ys) (place s r)
+tidiedOf s readingEnds = Untidy
+tidiedOf s (statementRefused q) = Untidy
+tidiedOf s (sectionNow sec r) = Untidy
+tidiedOf s (headerStatement w ys r) = Untidy
+tidiedOf s (dataStatement w ys r) = Tidy (spanOf w) (place s ys) (place s r)
 
 -- what an answer of `tidy_record` says gives back that answer
 tidied-back : (s : List ℕ) (i : ℕ) (a : Tidied) → TidyAhead i (length s) a → tidiedOf s (toldTidied s a) ≡ a

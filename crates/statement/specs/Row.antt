@@ -15,9 +15,9 @@ use Rattle.record.specs.declared.Head.the-variants.{Bad, Complex, Simple}
 use Rattle.statement.specs.Rows.{Row, row, HeaderRow, headerRow, bound, mapped}
 
 -- what of the rest o stands before the bound
-abbrev pub upTo : Option (List ℕ) → List ℕ → List ℕ
-upTo none o = o
-upTo (some e) o = before o e
+abbrev pub beforeBound : Option (List ℕ) → List ℕ → List ℕ
+beforeBound none o = o
+beforeBound (some e) o = before o e
 
 -- the answer of a search up to the bound, with rests of the file
 abbrev pub lifted : Option (List ℕ) → Sought → Sought
@@ -26,13 +26,13 @@ lifted (some e) (at r) = at (r ++ e)
 lifted (some e) (fault n r) = fault n (r ++ e)
 
 -- "The closing `)`" from the `(` on, sought up to the bound
-abbrev pub sought : Option (List ℕ) → List ℕ → Sought
-sought b o = lifted b (closing (upTo b o))
+abbrev pub closingSought : Option (List ℕ) → List ℕ → Sought
+closingSought b o = lifted b (closing (beforeBound b o))
 
 -- "The closing `)` is sought [..]. Faults met on the way are given at once.": o is the rest from the `(`; the place of the `)` makes
 -- the row
 abbrev pub arguedTo : {A : Type 0} → Option (List ℕ) → List ℕ → List ℕ → (ℕ → A) → Told A
-arguedTo b s o f = mapped f (placed s (sought b o))
+arguedTo b s o f = mapped f (placed s (closingSought b o))
 
 -- "through the whole file, even past the record's `;`": what the place of the `)` makes, where there is no bound
 abbrev pub argued : {A : Type 0} → List ℕ → List ℕ → (ℕ → A) → Told A

@@ -37,11 +37,11 @@ headerRow k l a b = record { keyStart = k; keyEnd = l; argStart = a; argEnd = b 
 -- what a statement says: the reading ends; it is refused; the section is now this one; or there is a row, of the record that
 -- starts with the rest ys. The last list of each is the rest after the statement
 pub data Stmt : Type 0 where
-  ends : Stmt
-  refused : Refusal → Stmt
-  moved : Section → List ℕ → Stmt
-  header : HeaderRow → List ℕ → List ℕ → Stmt
-  record′ : Row → List ℕ → List ℕ → Stmt
+  readingEnds : Stmt
+  statementRefused : Refusal → Stmt
+  sectionNow : Section → List ℕ → Stmt
+  headerStatement : HeaderRow → List ℕ → List ℕ → Stmt
+  dataStatement : Row → List ℕ → List ℕ → Stmt
 
 -- "The closing `)` is sought [..] through the whole file, even past the record's `;`": so there is no bound. A bound would be the rest
 -- of the file from which on it is sought no more; ys is the file from the record's start, and body the record's text
@@ -60,8 +60,8 @@ RowOf data-kind = Row
 
 -- a statement that gives a row of the kind: that of the record that starts with the rest ys, and the rest t after it
 abbrev pub rowed : (k : RowKind) → RowOf k → List ℕ → List ℕ → Stmt
-rowed header-kind w ys t = header w ys t
-rowed data-kind w ys t = record′ w ys t
+rowed header-kind w ys t = headerStatement w ys t
+rowed data-kind w ys t = dataStatement w ys t
 
 -- the section that records of the kind stand in
 abbrev pub sectionOf : RowKind → Section
@@ -74,8 +74,8 @@ mapped f (good a) = good (f a)
 mapped f (bad q) = bad q
 
 -- the row that the code's answer for a data record holds
-abbrev pub rowOf : RecordSpan → Row
-rowOf r = row (r .id) (r .keyword .start) (r .keyword .end) (r .args .start) (r .args .end) (r .complex)
+abbrev pub toldRow : RecordSpan → Row
+toldRow r = row (r .id) (r .keyword .start) (r .keyword .end) (r .args .start) (r .args .end) (r .complex)
 
 -- the row that the code's answer for a header record holds
 abbrev pub headerRowOf : HeaderSpan → HeaderRow

@@ -11,7 +11,7 @@ use Rattle.record.specs.Text.{past, before}
 use Rattle.record.specs.Head.{dataHead}
 use Rattle.record.specs.declared.Head.{Head}
 use Rattle.record.specs.declared.Head.the-variants.{Bad, Complex, Simple}
-use Rattle.statement.specs.Rows.{row, Stmt, ends, refused, moved, header, record′}
+use Rattle.statement.specs.Rows.{row, Stmt, readingEnds, statementRefused, sectionNow, headerStatement, dataStatement}
 use Rattle.statement.specs.declared.Tidied.{Tidied}
 use Rattle.statement.specs.declared.Tidied.the-variants.{Untidy, Tidy}
 
@@ -22,22 +22,22 @@ unended c = not (eqb c 59)
 -- whether what a statement says is to be had by its first `;`: a data record where that is its `;` and its `)` stands just before. What is no
 -- data record is not read so, and a refusal is not to be had
 abbrev pub tidy : List ℕ → Stmt → Bool
-tidy s ends = true
-tidy s (refused q) = false
-tidy s (moved sec t) = true
-tidy s (header w ys t) = true
-tidy s (record′ w ys t) = eqb (place s (past unended ys) + 1) (place s t) && eqb (w .argEnd + 1) (place s (past unended ys))
+tidy s readingEnds = true
+tidy s (statementRefused q) = false
+tidy s (sectionNow sec t) = true
+tidy s (headerStatement w ys t) = true
+tidy s (dataStatement w ys t) = eqb (place s (past unended ys) + 1) (place s t) && eqb (w .argEnd + 1) (place s (past unended ys))
 
--- the record that starts with the rest ys, by its head, were its `;` the first byte of e and its `)` the byte before that; `ends` for none
+-- the record that starts with the rest ys, by its head, were its `;` the first byte of e and its `)` the byte before that; `readingEnds` for none
 abbrev pub tidyBy : List ℕ → List ℕ → List ℕ → Head → Stmt
-tidyBy s ys e (Bad why) = ends
-tidyBy s ys e (Complex i o) = record′ (row i 0 0 (place s (drop (o + 1) ys)) (place s e - 1) 1) ys (drop 1 e)
+tidyBy s ys e (Bad why) = readingEnds
+tidyBy s ys e (Complex i o) = dataStatement (row i 0 0 (place s (drop (o + 1) ys)) (place s e - 1) 1) ys (drop 1 e)
 tidyBy s ys e (Simple i a z o) =
-    record′ (row i (place s (drop a ys)) (place s (drop z ys)) (place s (drop (o + 1) ys)) (place s e - 1) 0) ys (drop 1 e)
+    dataStatement (row i (place s (drop a ys)) (place s (drop z ys)) (place s (drop (o + 1) ys)) (place s e - 1) 0) ys (drop 1 e)
 
--- the record that starts with the rest ys, were its `;` the first byte of e and its `)` the byte before that; `ends` for none
+-- the record that starts with the rest ys, were its `;` the first byte of e and its `)` the byte before that; `readingEnds` for none
 abbrev pub tidyEnded : List ℕ → List ℕ → List ℕ → Stmt
-tidyEnded s ys [] = ends
+tidyEnded s ys [] = readingEnds
 tidyEnded s ys (c ∷ r) = tidyBy s ys (c ∷ r) (dataHead (before ys (c ∷ r)))
 
 -- the record that follows whitespace, by its first `;`

@@ -14,7 +14,7 @@ use Rattle.record.specs.Text.{past}
 use Rattle.record.specs.Head.{dataHead}
 use Rattle.record.specs.declared.Head.{Head}
 use Rattle.record.specs.declared.Head.the-variants.{Bad, Complex, Simple}
-use Rattle.statement.specs.Rows.{record′, rowOf}
+use Rattle.statement.specs.Rows.{dataStatement, toldRow}
 use Rattle.statement.specs.Statement.{begun}
 use Rattle.statement.specs.Tidy.{unended, tidy}
 use Rattle.statement.specs.declared.Section.{Section}
@@ -28,20 +28,20 @@ abbrev pub marks : ℕ
 marks = 576605338082476032
 
 -- a byte that a walk has to look at: its number modulo 64 is a bit of `marks`
-unfoldable pub mark : ℕ → Bool
-mark c = eqb ((marks / 2 ^ (c % 64)) % 2) 1
+unfoldable pub isLookedAt : ℕ → Bool
+isLookedAt c = eqb ((marks / 2 ^ (c % 64)) % 2) 1
 
 -- a byte that changes nothing outside strings and comments
-abbrev pub plain : ℕ → Bool
-plain c = not (mark c)
+abbrev pub isPlainByte : ℕ → Bool
+isPlainByte c = not (isLookedAt c)
 
 -- a byte at which the walk over a string's inside stops
-abbrev pub stops : ℕ → Bool
-stops c = eqb c 39 || eqb c 59
+abbrev pub stopsString : ℕ → Bool
+stopsString c = eqb c 39 || eqb c 59
 
 -- a byte at which the walk over a string's inside does not stop
 abbrev pub spoken : ℕ → Bool
-spoken c = not (stops c)
+spoken c = not (stopsString c)
 
 -- from xs with d open parentheses to ys with e: what is sought outside strings and comments is sought on from ys, be it a record's `;` or the
 -- closing `)`; and no byte on the way is a `;`
@@ -51,13 +51,13 @@ pub record Way (d e : ℕ) (xs ys : List ℕ) : Type 0 where
   pub first : past unended xs ≡ past unended ys
 
 -- what a step of the walk answers: it stops at the closing `)`, or at the length where something unusual is met; or goes on
-abbrev pub Stepped : List ℕ → ℕ → ℕ → Step → Type 0
-Stepped s i d (Stop j) = j < length s → (j ≡ i) × (d ≡ 0) × (getD s i 0 ≡ 41)
-Stepped s i d (On j e) = (i < j) × (j ≤ length s) × (e ≤ d + 1) × Way d e (drop i s) (drop j s)
+abbrev pub WalkStep : List ℕ → ℕ → ℕ → Step → Type 0
+WalkStep s i d (Stop j) = j < length s → (j ≡ i) × (d ≡ 0) × (getD s i 0 ≡ 41)
+WalkStep s i d (On j e) = (i < j) × (j ≤ length s) × (e ≤ d + 1) × Way d e (drop i s) (drop j s)
 
 -- what the walk answers: the place of the closing `)`, or the length
-abbrev pub Closed : List ℕ → ℕ → ℕ → Type 0
-Closed s from r = r < length s → (from ≤ r) × (getD s r 0 ≡ 41) × Way 0 0 (drop from s) (drop r s)
+abbrev pub ClosingFound : List ℕ → ℕ → ℕ → Type 0
+ClosingFound s from r = r < length s → (from ≤ r) × (getD s r 0 ≡ 41) × Way 0 0 (drop from s) (drop r s)
 
 -- what stands before the `(` of a data record, t, says whatever follows the `(`
 abbrev pub Headed : List ℕ → Head → Type 0
@@ -81,4 +81,4 @@ pub record Walked (s : List ℕ) (p o c e : ℕ) : Type 0 where
 abbrev pub UsualSaid : List ℕ → ℕ → Section → Usual → Type 0
 UsualSaid s p sec Unusual = Unit {0}
 UsualSaid s p sec (Whole span n b) =
-    (record′ (rowOf span) (drop p s) (drop n s) ≡ begun s sec (drop p s)) × (p < n) × (n ≤ length s) × (b ≡ tidy s (record′ (rowOf span) (drop p s) (drop n s)))
+    (dataStatement (toldRow span) (drop p s) (drop n s) ≡ begun s sec (drop p s)) × (p < n) × (n ≤ length s) × (b ≡ tidy s (dataStatement (toldRow span) (drop p s) (drop n s)))

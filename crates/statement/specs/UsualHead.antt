@@ -11,7 +11,7 @@ use Rattle.common.specs.Lists.{split, drop-end}
 use Rattle.common.specs.Compare.{clash}
 use Rattle.lex.specs.Byte.{white}
 use Rattle.lex.specs.Grammar.{Begins}
-use Rattle.record.specs.Text.{past, digits, numberFrom, trail}
+use Rattle.record.specs.Text.{past, numberAndRest, numberFrom, trail}
 use Rattle.record.specs.Byte.{digit}
 use Rattle.record.specs.Form.{Free, NoGapFirst, NoParen, valueOf, Id, Keyword, Lead, HeadForm}
 use Rattle.record.specs.FormRight.{number-is, trail-only, headform-only}
@@ -34,7 +34,7 @@ lead-id : (p v : List ℕ) (n m : ℕ) → n ≡ m → Lead p m v → Lead p n v
 lead-id p v n m e l = rw e l
 
 -- the bytes before the value, from what the code found of the `#`, the id's digits, the whitespace and the `=`
-pub fronted : (t : List ℕ) (id from q a : ℕ) → getD t 0 0 ≡ 35 → numberFrom 0 (drop 1 t) ≡ digits id (drop from t) → id ≤ 4294967295
+pub fronted : (t : List ℕ) (id from q a : ℕ) → getD t 0 0 ≡ 35 → numberFrom 0 (drop 1 t) ≡ numberAndRest id (drop from t) → id ≤ 4294967295
     → 1 < from → from ≤ length t → drop q t ≡ past white (drop from t) → q < length t → getD t q 0 ≡ 61
     → drop a t ≡ past white (drop (q + 1) t) → Fronted t id a
 fronted t id from q a hash num most some within eq hq is eqa =

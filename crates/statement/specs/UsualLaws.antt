@@ -21,46 +21,46 @@ use Rattle.record.specs.Turns.{past-stops, past-goes}
 use Rattle.record.specs.Form.{All}
 use Rattle.record.specs.FormRight.{past-is}
 use Rattle.record.specs.FormRight.Parts.{past-pass, all-kind}
-use Rattle.statement.specs.Usual.{mark, plain, stops, spoken, Way}
+use Rattle.statement.specs.Usual.{isLookedAt, isPlainByte, stopsString, spoken, Way}
 
 -- no marked byte is plain
-pub plain-other : (b c : ℕ) → mark b ≡ true → plain c ≡ true → c ≡ b → ⊥
-plain-other b c h k e = let g : mark c ≡ false = not-true (mark c) k in clash (cc)
+pub plain-other : (b c : ℕ) → isLookedAt b ≡ true → isPlainByte c ≡ true → c ≡ b → ⊥
+plain-other b c h k e = let g : isLookedAt c ≡ false = not-true (isLookedAt c) k in clash (cc)
 
 -- a quote is a marked byte
-mark-quote : mark 39 ≡ true
-unfolding mark
+mark-quote : isLookedAt 39 ≡ true
+unfolding isLookedAt
 mark-quote = refl
 
 -- a `(` is a marked byte
-pub mark-open : mark 40 ≡ true
-unfolding mark
+pub mark-open : isLookedAt 40 ≡ true
+unfolding isLookedAt
 mark-open = refl
 
 -- a `)` is a marked byte
-mark-close : mark 41 ≡ true
-unfolding mark
+mark-close : isLookedAt 41 ≡ true
+unfolding isLookedAt
 mark-close = refl
 
 -- a `/` is a marked byte
-mark-slash : mark 47 ≡ true
-unfolding mark
+mark-slash : isLookedAt 47 ≡ true
+unfolding isLookedAt
 mark-slash = refl
 
 -- a `;` is a marked byte
-mark-end : mark 59 ≡ true
-unfolding mark
+mark-end : isLookedAt 59 ≡ true
+unfolding isLookedAt
 mark-end = refl
 
 -- One byte of the walk over a string's inside, at a place.
 module _ (s : List ℕ) (i : ℕ) (h : i < length s) where
   -- the walk over a string's inside ends at a quote or a `;`
-  pub spoken-stops : stops (getD s i 0) ≡ true → drop i s ≡ past spoken (drop i s)
+  pub spoken-stops : stopsString (getD s i 0) ≡ true → drop i s ≡ past spoken (drop i s)
   unfolding past
   spoken-stops e = past-stops s i h spoken (past spoken (drop i s)) (ap not e) refl
 
   -- the walk over a string's inside goes on after any byte that is no quote and no `;`
-  pub spoken-goes : stops (getD s i 0) ≡ false → past spoken (drop (i + 1) s) ≡ past spoken (drop i s)
+  pub spoken-goes : stopsString (getD s i 0) ≡ false → past spoken (drop (i + 1) s) ≡ past spoken (drop i s)
   unfolding past
   spoken-goes e = past-goes s i h spoken (past spoken (drop i s)) (ap not e) refl
 
@@ -102,21 +102,21 @@ way-other : (d c : ℕ) (t : List ℕ) → (c ≡ 39 → ⊥) → (c ≡ 40 → 
 way-other d c t h i j k l = way-byte d d c t h k l (rw (ne-eqb c 40 i, ne-eqb c 41 j))
 
 -- plain bytes are a way that leaves the depth as it is
-pub way-plain : (d : ℕ) (f r : List ℕ) → All plain f → Way d d (f ++ r) r
+pub way-plain : (d : ℕ) (f r : List ℕ) → All isPlainByte f → Way d d (f ++ r) r
 way-plain d [] r h = way-none d r
 way-plain d (c ∷ f) r (h, t) = way-on
     (way-other d c (f ++ r) (plain-other 39 c mark-quote h) (plain-other 40 c mark-open h) (plain-other 41 c mark-close h)
     (plain-other 47 c mark-slash h) (plain-other 59 c mark-end h)) (way-plain d f r t)
 
 -- up to the first marked byte there is a way that leaves the depth as it is
-pub run-way : (d : ℕ) (xs : List ℕ) → Way d d xs (past plain xs)
-run-way d xs = let (f, e, k) = past-is plain xs in go f (past plain xs) e (k .all)
+pub run-way : (d : ℕ) (xs : List ℕ) → Way d d xs (past isPlainByte xs)
+run-way d xs = let (f, e, k) = past-is isPlainByte xs in go f (past isPlainByte xs) e (k .all)
   where
-    go : (f r : List ℕ) → xs ≡ f ++ r → All plain f → Way d d xs r
+    go : (f r : List ℕ) → xs ≡ f ++ r → All isPlainByte f → Way d d xs r
     go f r e h = rw e (way-plain d f r h)
 
 -- up to the first marked byte, at places, there is a way that leaves the depth as it is
-pub run-at : (d : ℕ) (s : List ℕ) (i r : ℕ) → drop r s ≡ past plain (drop i s) → Way d d (drop i s) (drop r s)
+pub run-at : (d : ℕ) (s : List ℕ) (i r : ℕ) → drop r s ≡ past isPlainByte (drop i s) → Way d d (drop i s) (drop r s)
 run-at d s i r e = rw e (run-way d (drop i s))
 
 -- a `(` is a way to one more open parenthesis
@@ -194,11 +194,11 @@ stop-at s from i j d (e, z, g) h w = (omega arith, rw e g, rw e (rw z at w))
 -- One byte of a run of plain bytes, at a place.
 module _ (s : List ℕ) (i : ℕ) (h : i < length s) where
   -- a run of plain bytes ends at a marked byte
-  pub run-stops : mark (getD s i 0) ≡ true → drop i s ≡ past plain (drop i s)
+  pub run-stops : isLookedAt (getD s i 0) ≡ true → drop i s ≡ past isPlainByte (drop i s)
   unfolding past
-  run-stops e = past-stops s i h plain (past plain (drop i s)) (ap not e) refl
+  run-stops e = past-stops s i h isPlainByte (past isPlainByte (drop i s)) (ap not e) refl
 
   -- a run of plain bytes goes on after a byte that is not marked
-  pub run-goes : mark (getD s i 0) ≡ false → past plain (drop (i + 1) s) ≡ past plain (drop i s)
+  pub run-goes : isLookedAt (getD s i 0) ≡ false → past isPlainByte (drop (i + 1) s) ≡ past isPlainByte (drop i s)
   unfolding past
-  run-goes e = past-goes s i h plain (past plain (drop i s)) (ap not e) refl
+  run-goes e = past-goes s i h isPlainByte (past isPlainByte (drop i s)) (ap not e) refl

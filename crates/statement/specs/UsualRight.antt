@@ -15,7 +15,7 @@ use Rattle.error.specs.Refusal.{Told, good, bad}
 use Rattle.lex.specs.Byte.{white, place}
 use Rattle.lex.specs.Place.{place-drop}
 use Rattle.common.specs.Walk.{walk}
-use Rattle.lex.specs.Grammar.{Trivia, Led, Begins, Opens}
+use Rattle.lex.specs.Grammar.{Trivia, Led, Begins, OpensComment}
 use Rattle.lex.specs.Search.{recordEnd, closing, trivia, semicolon, paren, missed}
 use Rattle.lex.specs.Answer.{Sought, at, placed}
 use Rattle.lex.specs.Local.{seek-halts}
@@ -32,20 +32,20 @@ use Rattle.record.specs.Word.{wordOf}
 use Rattle.record.specs.declared.Head.{Head}
 use Rattle.record.specs.declared.Head.the-variants.{Bad, Complex, Simple}
 use Rattle.record.specs.declared.Word.the-variants.{Other}
-use Rattle.statement.specs.Rows.{Row, row, Stmt, record′, mapped}
+use Rattle.statement.specs.Rows.{Row, row, Stmt, dataStatement, mapped}
 use Rattle.statement.specs.Row.{argued, recordOf}
 use Rattle.statement.specs.Statement.{begun}
 use Rattle.statement.specs.Laws.{text-length, record-complex, record-simple, section-data, worded-at, begun-found}
 use Rattle.statement.specs.Tidy.{unended, tidy}
 use Rattle.statement.specs.TidyLaws.{end-stops}
-use Rattle.statement.specs.Usual.{plain, Way, Headed, Walked}
+use Rattle.statement.specs.Usual.{isPlainByte, Way, Headed, Walked}
 use Rattle.statement.specs.UsualLaws.{plain-other, mark-open, way-on, run-at, open-at, close-at}
 use Rattle.statement.specs.declared.Section.the-variants.{InData}
 
 -- what the walk over a usual record finds is what the searches find
-pub walked : (s : List ℕ) (p o c e : ℕ) → getD s p 0 ≡ 35 → drop o s ≡ past plain (drop p s) → p ≤ o → o < length s → getD s o 0 ≡ 40
+pub walked : (s : List ℕ) (p o c e : ℕ) → getD s p 0 ≡ 35 → drop o s ≡ past isPlainByte (drop p s) → p ≤ o → o < length s → getD s o 0 ≡ 40
     → (o + 1 ≤ c) × (getD s c 0 ≡ 41) × Way 0 0 (drop (o + 1) s) (drop c s) → c < length s
-    → drop e s ≡ past plain (drop (c + 1) s) → c + 1 ≤ e → e < length s → getD s e 0 ≡ 59 → Walked s p o c e
+    → drop e s ≡ past isPlainByte (drop (c + 1) s) → c + 1 ≤ e → e < length s → getD s e 0 ≡ 59 → Walked s p o c e
 unfolding recordEnd closing
 walked s p o c e hash run po hos opn (oc, cls, way) hcs last ce hes fin =
     let w1 : Way 0 0 (drop p s) (drop o s) = run-at 0 s p o run in
@@ -71,15 +71,15 @@ walked s p o c e hash run po hos opn (oc, cls, way) hcs last ce hes fin =
     }
 
 -- no `(` stands before the first marked byte
-pub run-free : (s : List ℕ) (p o : ℕ) → drop o s ≡ past plain (drop p s) → p ≤ o → o ≤ length s → Free 40 (take (o - p) (drop p s))
-run-free s p o e h k = let (f, x, y) = past-is plain (drop p s) in go f (x ∙ ap (λ (l : List ℕ). f ++ l) (sym e)) (y .all)
+pub run-free : (s : List ℕ) (p o : ℕ) → drop o s ≡ past isPlainByte (drop p s) → p ≤ o → o ≤ length s → Free 40 (take (o - p) (drop p s))
+run-free s p o e h k = let (f, x, y) = past-is isPlainByte (drop p s) in go f (x ∙ ap (λ (l : List ℕ). f ++ l) (sym e)) (y .all)
   where
-    go : (f : List ℕ) → drop p s ≡ f ++ drop o s → All plain f → Free 40 (take (o - p) (drop p s))
+    go : (f : List ℕ) → drop p s ≡ f ++ drop o s → All isPlainByte f → Free 40 (take (o - p) (drop p s))
     go f x a =
         let l : length (drop p s) ≡ length f + length (drop o s) = ap length x ∙ length-append f (drop o s) in
         let n : o - p ≡ length f = omega (arith, length-drop p s, length-drop o s) in
         let t : take (o - p) (drop p s) ≡ f = ap (λ (m : ℕ). take m (drop p s)) n ∙ ap (take (length f)) x ∙ take-append-seam f (drop o s) in
-        rw t (all-kind plain (λ d. not (eqb d 40)) f (λ c q. rw (ne-eqb c 40 (plain-other 40 c mark-open q)) refl) a)
+        rw t (all-kind isPlainByte (λ d. not (eqb d 40)) f (λ c q. rw (ne-eqb c 40 (plain-other 40 c mark-open q)) refl) a)
 
 module _ (s : List ℕ) (p o c e : ℕ) (w : Walked s p o c e) where
   -- a usual record's text begins with what stands before its `(`, and then the `(`
@@ -107,7 +107,7 @@ module _ (s : List ℕ) (p o c e : ℕ) (w : Walked s p o c e) where
       hash-word (take (e - p) (drop p s)) (omega arith) h
 
   -- what a usual record's text gives as a row is what the statement says
-  said : (r : Row) → good r ≡ recordOf s (drop p s) (take (e - p) (drop p s)) → record′ r (drop p s) (drop (e + 1) s) ≡ begun s InData (drop p s)
+  said : (r : Row) → good r ≡ recordOf s (drop p s) (take (e - p) (drop p s)) → dataStatement r (drop p s) (drop (e + 1) s) ≡ begun s InData (drop p s)
   said r q =
       let a = w .from in let b = w .over in let d = w .upto in let f = w .within in
       let g : good e ≡ placed s (recordEnd (drop p s)) = sym (ap (placed s) (w .found) ∙ ap good (place-drop s e (omega arith))) in
@@ -120,12 +120,12 @@ module _ (s : List ℕ) (p o c e : ℕ) (w : Walked s p o c e) where
       sym (ap (λ (x : Sought). mapped f (placed s x)) (w .closed) ∙ ap (λ (k : ℕ). good (f k)) (place-drop s c (omega arith)))
 
   -- a usual record is tidy where its `)` stands just before its `;`, whatever else is in its row
-  pub tidy-walked : eqb (c + 1) e ≡ tidy s (record′ (row 0 0 0 0 c 0) (drop p s) (drop (e + 1) s))
+  pub tidy-walked : eqb (c + 1) e ≡ tidy s (dataStatement (row 0 0 0 0 c 0) (drop p s) (drop (e + 1) s))
   tidy-walked = let d = w .within in
       rw (w .first, place-drop s e (omega arith), place-drop s (e + 1) (omega arith), eq-eqb (e + 1) (e + 1) refl) refl
 
   -- a usual record with a complex record's head is the statement that begins at p
-  pub complex-said : (i k : ℕ) → Headed (take (o - p) (drop p s)) (Complex i k) → record′ (row i 0 0 (o + 1) c 1) (drop p s) (drop (e + 1) s) ≡ begun s InData (drop p s)
+  pub complex-said : (i k : ℕ) → Headed (take (o - p) (drop p s)) (Complex i k) → dataStatement (row i 0 0 (o + 1) c 1) (drop p s) (drop (e + 1) s) ≡ begun s InData (drop p s)
   complex-said i k (z, h) =
       let a = w .from in let b = w .over in let d = w .upto in let f = w .within in
       let n : k ≡ o - p = z ∙ length-take (o - p) (drop p s) ∙ omega (arith, length-drop p s) in
@@ -134,7 +134,7 @@ module _ (s : List ℕ) (p o c e : ℕ) (w : Walked s p o c e) where
       ∙ (rw m at (record-complex s (take (e - p) (drop p s)) p i k (omega arith) (ap dataHead body-is ∙ sym (h _)))))
 
   -- a usual record with a simple record's head is the statement that begins at p
-  pub simple-said : (i x y k : ℕ) → Headed (take (o - p) (drop p s)) (Simple i x y k) → record′ (row i (p + x) (p + y) (o + 1) c 0) (drop p s) (drop (e + 1) s) ≡ begun s InData (drop p s)
+  pub simple-said : (i x y k : ℕ) → Headed (take (o - p) (drop p s)) (Simple i x y k) → dataStatement (row i (p + x) (p + y) (o + 1) c 0) (drop p s) (drop (e + 1) s) ≡ begun s InData (drop p s)
   simple-said i x y k (u, v, z, h) =
       let a = w .from in let b = w .over in let d = w .upto in let f = w .within in
       let l : length (take (o - p) (drop p s)) ≡ o - p = length-take (o - p) (drop p s) ∙ omega (arith, length-drop p s) in

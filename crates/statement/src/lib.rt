@@ -9,18 +9,18 @@ ghost use lib.Dec.{eqb};
 ghost use lib.ListN.{length, take, drop, getD};
 ghost use Rattle.lex.specs.Byte.{white};
 ghost use Rattle.lex.specs.Search.{trivia};
-ghost use Rattle.lex.specs.Answer.{at, placed, toldFound};
+ghost use Rattle.lex.specs.Answer.{at, placed, toldFoundPlace};
 ghost use Rattle.record.specs.Text.{past, Numbered};
 ghost use Rattle.record.specs.Form.{Free};
 ghost use Rattle.record.specs.Head.{dataHead};
 ghost use Rattle.statement.specs.Rows.{row, headerRow};
 ghost use Rattle.statement.specs.Row.{argued, recordOf, headerOf};
-ghost use Rattle.statement.specs.Answer.{toldRecord, toldHeader, toldSaid, Ahead, toldTidied};
+ghost use Rattle.statement.specs.Answer.{toldRecord, toldHeaderRead, toldSaid, Ahead, toldTidied};
 ghost use Rattle.statement.specs.Statement.{inSection, ended, begun, statement};
 ghost use Rattle.statement.specs.Tidy.{unended, tidy, tidyBy, tidyRecord, TidyAhead};
-ghost use Rattle.statement.specs.Usual.{mark, plain, stops, spoken, Stepped, Closed, Headed, Walked, UsualSaid};
+ghost use Rattle.statement.specs.Usual.{isLookedAt, isPlainByte, stopsString, spoken, WalkStep, ClosingFound, Headed, Walked, UsualSaid};
 use error::Fault;
-use lex::Found;
+use lex::FoundPlace;
 use lex::Quote;
 use record::Head;
 use record::Number;
@@ -103,8 +103,8 @@ fn record_args(s: &[u8], id: u32, keyword: Range, opening: usize, complex: u32) 
     ensures { λ r. ⌜ toldRecord r ≡ argued (now (s .entry)) (drop opening (now (s .entry))) (λ q. row id (keyword .start) (keyword .end) (opening + 1) q complex) ⌝ }
 {
     match lex::matching_paren(s, opening) {
-        Found::Refused(f) => RecordRead::NoRecord(f),
-        Found::At(close) => {
+        FoundPlace::Refused(f) => RecordRead::NoRecord(f),
+        FoundPlace::At(close) => {
             let args = Range {
                 start: opening + 1,
                 end: close,
@@ -121,11 +121,11 @@ fn record_args(s: &[u8], id: u32, keyword: Range, opening: usize, complex: u32) 
 
 fn header_args(s: &[u8], keyword: Range, opening: usize) -> HeaderRead
     requires { ⌜ opening < length (now s) ⌝ }
-    ensures { λ r. ⌜ toldHeader r ≡ argued (now (s .entry)) (drop opening (now (s .entry))) (λ q. headerRow (keyword .start) (keyword .end) (opening + 1) q) ⌝ }
+    ensures { λ r. ⌜ toldHeaderRead r ≡ argued (now (s .entry)) (drop opening (now (s .entry))) (λ q. headerRow (keyword .start) (keyword .end) (opening + 1) q) ⌝ }
 {
     match lex::matching_paren(s, opening) {
-        Found::Refused(f) => HeaderRead::NoHeader(f),
-        Found::At(close) => {
+        FoundPlace::Refused(f) => HeaderRead::NoHeader(f),
+        FoundPlace::At(close) => {
             let args = Range {
                 start: opening + 1,
                 end: close,
@@ -159,7 +159,7 @@ fn scan_data_record(s: &[u8], start: usize, end: usize) -> RecordRead
 // The header record whose text runs from start up to the `;` at end. Its head is never complex (`header-simple`).
 fn scan_header_record(s: &[u8], start: usize, end: usize) -> HeaderRead
     requires { ⌜ (start ≤ end) × (end < length (now s)) ⌝ }
-    ensures { λ r. ⌜ toldHeader r ≡ headerOf (now (s .entry)) (drop start (now (s .entry))) (take (end - start) (drop start (now (s .entry)))) ⌝ }
+    ensures { λ r. ⌜ toldHeaderRead r ≡ headerOf (now (s .entry)) (drop start (now (s .entry))) (take (end - start) (drop start (now (s .entry)))) ⌝ }
 {
     match record::header_head(&s[start..end]) {
         Head::Bad(why) => HeaderRead::NoHeader(Fault::BadRecord(why, start)),
@@ -211,7 +211,7 @@ fn record_said(s: &[u8], start: usize, end: usize, section: Section) -> Said
 // A byte that a walk over a record has to look at: a quote, a parenthesis, a slash, a `;`. One bit of a number answers for each byte
 // modulo 64, so some bytes more are looked at, as `g`; none of the five is passed over.
 fn is_mark(b: u8) -> bool
-    ensures { λ r. ⌜ r ≡ mark b ⌝ }
+    ensures { λ r. ⌜ r ≡ isLookedAt b ⌝ }
 {
     (576605338082476032u64 >> wide(b % 64)) % 2 == 1
 }
@@ -225,7 +225,7 @@ fn wide(b: u8) -> u64
 // The first marked place from `from` on, or the length: the last bytes of a file.
 fn last_run(s: &[u8], from: usize) -> usize
     requires { ⌜ from ≤ length (now s) ⌝ }
-    ensures { λ r. ⌜ drop r (now (s .entry)) ≡ past plain (drop from (now (s .entry))) ⌝ }
+    ensures { λ r. ⌜ drop r (now (s .entry)) ≡ past isPlainByte (drop from (now (s .entry))) ⌝ }
     ensures { λ r. ⌜ (from ≤ r) × (r ≤ length (now (s .entry))) ⌝ }
 {
     let mut i = from;
@@ -242,7 +242,7 @@ fn last_run(s: &[u8], from: usize) -> usize
 // such a loop ends.
 fn plain_run(s: &[u8], from: usize) -> usize
     requires { ⌜ from ≤ length (now s) ⌝ }
-    ensures { λ r. ⌜ drop r (now (s .entry)) ≡ past plain (drop from (now (s .entry))) ⌝ }
+    ensures { λ r. ⌜ drop r (now (s .entry)) ≡ past isPlainByte (drop from (now (s .entry))) ⌝ }
     ensures { λ r. ⌜ (from ≤ r) × (r ≤ length (now (s .entry))) ⌝ }
 {
     let mut i = from;
@@ -269,7 +269,7 @@ fn plain_run(s: &[u8], from: usize) -> usize
 
 // A quote or a `;`.
 fn is_stop(b: u8) -> bool
-    ensures { λ r. ⌜ r ≡ stops b ⌝ }
+    ensures { λ r. ⌜ r ≡ stopsString b ⌝ }
 {
     (b == b'\'') | (b == b';')
 }
@@ -343,7 +343,7 @@ fn text_run(s: &[u8], from: usize) -> usize
 // Past the string whose first quote stands at i, with so many open parentheses. One with a `;` or a doubled quote is not usual.
 fn string_step(s: &[u8], i: usize, depth: usize) -> Step
     requires { ⌜ (i < length (now s)) × (getD (now s) i 0 ≡ 39) ⌝ }
-    ensures { λ r. ⌜ Stepped (now (s .entry)) i depth r ⌝ }
+    ensures { λ r. ⌜ WalkStep (now (s .entry)) i depth r ⌝ }
 {
     let q = text_run(s, i + 1);
     if s.len() <= q {
@@ -363,7 +363,7 @@ fn string_step(s: &[u8], i: usize, depth: usize) -> Step
 // bits with the five are passed over.
 fn mark_step(s: &[u8], i: usize, depth: usize) -> Step
     requires { ⌜ (i < length (now s)) × (depth ≤ i) ⌝ }
-    ensures { λ r. ⌜ Stepped (now (s .entry)) i depth r ⌝ }
+    ensures { λ r. ⌜ WalkStep (now (s .entry)) i depth r ⌝ }
 {
     let c = s[i];
     if c == b'(' {
@@ -387,7 +387,7 @@ fn mark_step(s: &[u8], i: usize, depth: usize) -> Step
 // The `)` that closes the `(` before `from`, or the length where something unusual is met first.
 fn usual_close(s: &[u8], from: usize) -> usize
     requires { ⌜ from ≤ length (now s) ⌝ }
-    ensures { λ r. ⌜ Closed (now (s .entry)) from r ⌝ }
+    ensures { λ r. ⌜ ClosingFound (now (s .entry)) from r ⌝ }
 {
     let mut i = from;
     let mut depth: usize = 0;
@@ -542,8 +542,8 @@ fn sought_at(s: &[u8], start: usize, section: Section) -> Said
     ensures { λ r. ⌜ Ahead start (length (now (s .entry))) r ⌝ }
 {
     match lex::find_record_end(s, start) {
-        Found::At(end) => record_said(s, start, end, section),
-        Found::Refused(f) => Said::Refuses(f),
+        FoundPlace::At(end) => record_said(s, start, end, section),
+        FoundPlace::Refused(f) => Said::Refuses(f),
     }
 }
 
@@ -648,9 +648,9 @@ fn statement_at(s: &[u8], start: usize, section: Section) -> Noted
 }
 
 // Past trivia: in nearly every case whitespace alone, before a byte that opens no comment.
-fn lead_past(s: &[u8], i: usize) -> Found
+fn lead_past(s: &[u8], i: usize) -> FoundPlace
     requires { ⌜ i ≤ length (now s) ⌝ }
-    ensures { λ r. ⌜ toldFound r ≡ placed (now (s .entry)) (trivia (drop i (now (s .entry)))) ⌝ }
+    ensures { λ r. ⌜ toldFoundPlace r ≡ placed (now (s .entry)) (trivia (drop i (now (s .entry)))) ⌝ }
 {
     let p = i + record::leading_space(&s[i..]);
     if s.len() <= p {
@@ -659,7 +659,7 @@ fn lead_past(s: &[u8], i: usize) -> Found
     if s[p] == b'/' {
         return lex::skip_trivia(s, i);
     }
-    Found::At(p)
+    FoundPlace::At(p)
 }
 
 // What the first statement says from the place i on, in this section; from the file's end on there is none. And whether it is tidy.
@@ -675,11 +675,11 @@ pub fn noted_statement(s: &[u8], i: usize, section: Section) -> Noted
         };
     }
     match lead_past(s, i) {
-        Found::Refused(f) => Noted {
+        FoundPlace::Refused(f) => Noted {
             said: Said::Refuses(f),
             tidy: false,
         },
-        Found::At(start) => {
+        FoundPlace::At(start) => {
             if s.len() <= start {
                 return Noted {
                     said: Said::Ends,

@@ -10,12 +10,12 @@ use Rattle.lex.specs.Local.{trivia-shorter}
 use Rattle.lex.specs.Right.{trivia-only}
 use Rattle.record.specs.Form.{Lead, HeadForm, Keyword}
 use Rattle.record.specs.declared.Head.the-variants.{Complex, Simple}
-use Rattle.statement.specs.Rows.{Row, HeaderRow, Stmt, record′, header-kind, data-kind, mapped}
+use Rattle.statement.specs.Rows.{Row, HeaderRow, Stmt, dataStatement, header-kind, data-kind, mapped}
 use Rattle.statement.specs.declared.Section.{Section}
 use Rattle.scan.specs.Records.{Table, withHeader, withRecord}
 use Rattle.scan.specs.File.{scanOf}
 use Rattle.statement.specs.Form.{DataForm, Record, StatementForm}
-use Rattle.scan.specs.Form.{PerKind, Reads, Scans}
+use Rattle.scan.specs.Form.{RowsPerKind, Reads, Scans}
 use Rattle.scan.specs.FormRight.{scans-is}
 use Rattle.statement.specs.FormRight.{moved-shorter, header-shorter}
 
@@ -50,7 +50,7 @@ record-long : {xs ys body t : List ℕ} → Record xs ys body t → 4 ≤ length
 record-long {xs} d h = omega (arith, trivia-shorter xs (trivia-only (d .starts)), simp length-append at (ap length (d .text)))
 
 -- what follows a data record is at least five bytes shorter than what begins with it
-data-long : {s : List ℕ} {sec : Section} {xs ys t : List ℕ} {w : Row} → StatementForm s sec xs (record′ w ys t) → length t + 5 ≤ length xs
+data-long : {s : List ℕ} {sec : Section} {xs ys t : List ℕ} {w : Row} → StatementForm s sec xs (dataStatement w ys t) → length t + 5 ≤ length xs
 data-long (StatementForm.data-row d f g) = record-long d (body-long g)
 
 -- an answer's records, five bytes each, find room in n bytes
@@ -74,7 +74,7 @@ few-record m n w (good t) h f = omega arith
 few-record m n w (bad q) h f = tt
 
 -- the records of what is left to read, five bytes each, find room in it
-reads-few : {s : List ℕ} {lent : PerKind} {sec : Section} {n : PerKind} {xs : List ℕ} {a : Told Table} → Reads s lent sec n xs a → Few (length xs) a
+reads-few : {s : List ℕ} {lent : RowsPerKind} {sec : Section} {n : RowsPerKind} {xs : List ℕ} {a : Told Table} → Reads s lent sec n xs a → Few (length xs) a
 reads-few (Reads.over f) = omega arith
 reads-few (Reads.fault f) = tt
 reads-few {xs} (Reads.on {t} {a} f d) = let m = moved-shorter f in few-more (length t) (length xs) a (omega arith) (reads-few d)
@@ -83,7 +83,7 @@ reads-few {xs} (Reads.row {t} {a} data-kind w ys f p d) = few-record (length t) 
 reads-few (Reads.full k w ys t f p) = tt
 
 -- the records of a whole file, five bytes each, find room in 2^32 - 1 bytes
-scans-few : {s : List ℕ} {lent : PerKind} {a : Told Table} → Scans s lent a → Few 4294967295 a
+scans-few : {s : List ℕ} {lent : RowsPerKind} {a : Told Table} → Scans s lent a → Few 4294967295 a
 scans-few (Scans.long h) = tt
 scans-few (Scans.unmarked h n) = tt
 scans-few {s} {a} (Scans.read h m d) = few-more (length s) 4294967295 a h (reads-few d)

@@ -11,9 +11,9 @@ use Rattle.table.specs.Table.{rowsFit, idOf}
 use Rattle.statement.specs.Rows.{mapped}
 use Rattle.scan.specs.Records.{Table, largest}
 use Rattle.scan.specs.File.{scanOf}
-use Rattle.scan.specs.Table.{Counts, counts, countsOf, dataRoom}
+use Rattle.scan.specs.ScanMemory.{Counts, counts, countsOf, dataRoom}
 use Rattle.scan.specs.Rooms.{scan-fit}
-use Rattle.index.specs.Order.{tableRoom}
+use Rattle.index.specs.KeyOrder.{tableRoom}
 use Rattle.index.specs.Lookup.{lookupOf}
 use Rattle.index.specs.Index.{Built}
 use Rattle.index.specs.Search.{searched}
@@ -27,15 +27,15 @@ recordsIn (good c) = c .records
 recordsIn (bad q) = 0
 
 -- a scan whose answer has counts gives a table with so many records
-pub counted : (a : Told Table) (h r m : ℕ) → good (counts h r m) ≡ mapped countsOf a → (t : Table) × (a ≡ good t) × (r ≡ length (t .records))
+pub counted-table : (a : Told Table) (h r m : ℕ) → good (counts h r m) ≡ mapped countsOf a → (t : Table) × (a ≡ good t) × (r ≡ length (t .records))
 unfolding recordsIn
-counted (good t) h r m e = (t, refl, ap recordsIn e)
-counted (bad q) h r m e = let z : _≡_ {A = ℕ} 0 1 = cc in absurd (omega arith)
+counted-table (good t) h r m e = (t, refl, ap recordsIn e)
+counted-table (bad q) h r m e = let z : _≡_ {A = ℕ} 0 1 = cc in absurd (omega arith)
 
 -- the index speaks of all the records of a scan
 pub all-indexed : (s rows : List ℕ) (H slots h r m : ℕ) → good (counts h r m) ≡ mapped countsOf (scanOf s H (dataRoom rows slots)) → tableRoom (rowsFit (length rows)) slots r ≡ r
 all-indexed s rows H slots h r m e =
-    let (t, q, c) = counted (scanOf s H (dataRoom rows slots)) h r m e in
+    let (t, q, c) = counted-table (scanOf s H (dataRoom rows slots)) h r m e in
     let f = scan-fit s H (dataRoom rows slots) t q .1 in
     let g = scan-few s H (dataRoom rows slots) t q in
     omega arith

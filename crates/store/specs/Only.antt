@@ -8,14 +8,14 @@ use Rattle.error.specs.Refusal.{Refusal, Told, good, bad, told}
 use Rattle.error.specs.Only.{faultOf, faultOf-told}
 use Rattle.error.specs.declared.Fault.{Fault}
 use Rattle.table.specs.Table.{idOf}
-use Rattle.scan.specs.Table.{Counts, counts}
+use Rattle.scan.specs.ScanMemory.{Counts, counts}
 use Rattle.index.specs.Index.{Built}
 use Rattle.index.specs.IndexLaws.{built-slots-only, built-only}
 use Rattle.index.specs.declared.Ids.{Ids}
 use Rattle.lookup.specs.declared.Tables.{Tables}
-use Rattle.store.specs.Store.{toldOpened, Indexed, Opens}
-use Rattle.store.specs.declared.Opened.{Opened}
-use Rattle.store.specs.declared.Opened.the-variants.{Good, Refused}
+use Rattle.store.specs.Store.{toldOpenedFile, Indexed, OpensFile}
+use Rattle.store.specs.declared.OpenedFile.{OpenedFile}
+use Rattle.store.specs.declared.OpenedFile.the-variants.{Good, Refused}
 
 -- the counts that an answer tells; none for a refusal
 countsIn : Told Counts → Counts
@@ -28,7 +28,7 @@ faultIn f (good c) = f
 faultIn f (bad q) = faultOf q
 
 -- answers that tell the same and leave the same index are the same, and so are the slots
-same-index : (rows old xs ys : List ℕ) (a b : Opened) → toldOpened a ≡ toldOpened b → Indexed a rows old xs → Indexed b rows old ys → (a ≡ b) × (xs ≡ ys)
+same-index : (rows old xs ys : List ℕ) (a b : OpenedFile) → toldOpenedFile a ≡ toldOpenedFile b → Indexed a rows old xs → Indexed b rows old ys → (a ≡ b) × (xs ≡ ys)
 unfolding countsIn faultIn
 same-index rows old xs ys (Good t) (Good u) e h g = (ap Good tables, slots)
   where
@@ -58,9 +58,9 @@ same-index rows old xs ys (Good t) (Refused k) e h g = let z : _≡_ {A = ℕ} 0
 same-index rows old xs ys (Refused f) (Good u) e h g = let z : _≡_ {A = ℕ} 0 1 = cc in absurd (omega arith)
 
 -- `open` has one answer, and leaves one list of header rows, one of data rows and one of slots
-pub opened-only : (s heads rows slots : List ℕ) (a b : Opened) (ha hb ra rb xa xb : List ℕ) → Opens s heads rows slots a ha ra xa → Opens s heads rows slots b hb rb xb
+pub opened-file-only : (s heads rows slots : List ℕ) (a b : OpenedFile) (ha hb ra rb xa xb : List ℕ) → OpensFile s heads rows slots a ha ra xa → OpensFile s heads rows slots b hb rb xb
     → (a ≡ b) × (ha ≡ hb) × (ra ≡ rb) × (xa ≡ xb)
-opened-only s heads rows slots a b ha hb ra rb xa xb p q =
+opened-file-only s heads rows slots a b ha hb ra rb xa xb p q =
     let e : ra ≡ rb = p .records ∙ sym (q .records) in
     let r = same-index rb slots xa xb a b (p .answer ∙ sym (q .answer)) (subst (λ (x : List ℕ). Indexed a x slots xa) e (p .index)) (q .index) in
     (r .0, p .headers ∙ sym (q .headers), e, r .1)

@@ -10,18 +10,18 @@ use Rattle.table.specs.Table.{idOf}
 use Rattle.statement.specs.Rows.{mapped}
 use Rattle.scan.specs.Records.{Table}
 use Rattle.scan.specs.File.{scanOf}
-use Rattle.scan.specs.Table.{headerRoom, dataRoom, headersAfter, rowsAfter, Counts, counts, countsOf}
+use Rattle.scan.specs.ScanMemory.{headerRoom, dataRoom, headersAfter, rowsAfter, Counts, counts, countsOf}
 use Rattle.index.specs.Index.{Built}
-use Rattle.store.specs.declared.Opened.{Opened}
-use Rattle.store.specs.declared.Opened.the-variants.{Good, Refused}
+use Rattle.store.specs.declared.OpenedFile.{OpenedFile}
+use Rattle.store.specs.declared.OpenedFile.the-variants.{Good, Refused}
 
 -- what the code's answer says: the counts of both kinds of row and the largest id, or a refusal
-abbrev pub toldOpened : Opened → Told Counts
-toldOpened (Good t) = good (counts (t .headers) (t .records) (t .max))
-toldOpened (Refused f) = bad (told f)
+abbrev pub toldOpenedFile : OpenedFile → Told Counts
+toldOpenedFile (Good t) = good (counts (t .headers) (t .records) (t .max))
+toldOpenedFile (Refused f) = bad (told f)
 
 -- the slots after `open`: the index of all records, with what stands beside it; a refusal leaves them as they were
-abbrev pub Indexed : Opened → List ℕ → List ℕ → List ℕ → Type 0
+abbrev pub Indexed : OpenedFile → List ℕ → List ℕ → List ℕ → Type 0
 Indexed (Good t) rows old new = Built (idOf rows) (t .records) old new (t .ids)
 Indexed (Refused f) rows old new = new ≡ old
 
@@ -30,8 +30,8 @@ abbrev pub scanInto : List ℕ → List ℕ → List ℕ → List ℕ → Told T
 scanInto s heads rows slots = scanOf s (headerRoom heads) (dataRoom rows (length slots))
 
 -- all that `open` promises of its answer and of the lent header rows, data rows and slots after it
-pub record Opens (s heads rows slots : List ℕ) (a : Opened) (heads′ rows′ slots′ : List ℕ) : Type 0 where
-  pub answer : toldOpened a ≡ mapped countsOf (scanInto s heads rows slots)
+pub record OpensFile (s heads rows slots : List ℕ) (a : OpenedFile) (heads′ rows′ slots′ : List ℕ) : Type 0 where
+  pub answer : toldOpenedFile a ≡ mapped countsOf (scanInto s heads rows slots)
   pub headers : heads′ ≡ headersAfter (scanInto s heads rows slots) heads
   pub records : rows′ ≡ rowsAfter (scanInto s heads rows slots) rows
   pub index : Indexed a rows′ slots slots′

@@ -13,15 +13,15 @@ use Rattle.common.specs.Pick.{pick}
 use Rattle.common.specs.Tests.{both}
 use Rattle.utf8.specs.Utf8.{byteAt, encode, leadOf}
 use Rattle.utf8.specs.Encoding.{encodeAll}
-use Rattle.utf8.specs.Answer.{Lead}
-use Rattle.utf8.specs.Laws.{encode-one, encode-two, sized, Leads, led-one, led-two, led-three, led-four, led-none, leads}
+use Rattle.utf8.specs.Answer.{LeadCharacter}
+use Rattle.utf8.specs.Laws.{encode-one, encode-two, sized, LeadCases, led-one, led-two, led-three, led-four, led-none, lead-case-is}
 use Rattle.pages.specs.Pages.{codeOf}
 use Rattle.pages.specs.Rules.{pageA}
 use Rattle.strings.specs.Text
-use Rattle.strings.specs.Hex.{Digit, decimal, capital, small, digit, four-within}
+use Rattle.strings.specs.Hex.{Digit, decimal, capital, small, hex-digit-is, four-within}
 use Rattle.strings.specs.Put.{encode-append}
 use Rattle.strings.specs.Steps.{is-within, piece-fits, text-goes, text-skip}
-use Rattle.strings.specs.Runs.{special, text-plain, encode-plain}
+use Rattle.strings.specs.PlainRuns.{special, text-plain, encode-plain}
 
 -- how many bytes characters have in UTF-8
 abbrev width : List ℕ → ℕ
@@ -70,7 +70,7 @@ hex-other b c e n = ne-eqb b c (λ z. let w : _≡_ {A = Bool} true false = sym 
 
 -- a hex digit is no high byte
 hex-low : (b : ℕ) → Text.hexDigit b ≡ true → b < 128
-hex-low b e = go (digit b e)
+hex-low b e = go (hex-digit-is b e)
   where
     go : Digit b → b < 128
     go (decimal l h) = omega arith
@@ -141,15 +141,15 @@ record Broke (t cs : List ℕ) : Type 0 where
   least : width cs ≤ count
 
 -- groups have no more bytes of text than of digits
-abbrev Told : List ℕ → Text.Groups → Type 0
-Told t (Text.ended cs n) = width cs ≤ n
-Told t (Text.broken cs) = Broke t cs
+abbrev Told : List ℕ → Text.GroupsRead → Type 0
+Told t (Text.groupsEnded cs n) = width cs ≤ n
+Told t (Text.groupsBroken cs) = Broke t cs
 
 -- a group more in front of others: there are still no more bytes of text than of digits
-told-more : (b : ℕ) (r : List ℕ) (c k : ℕ) (g : Text.Groups) → Digits k (b ∷ r) × (4 ≤ k) → Told (drop (k - 1) r) g → Told (b ∷ r) (Text.withChar c k g)
-told-more b r c k (Text.ended cs n) h l = omega (arith, width-more c cs, h .1)
-told-more b r c zero (Text.broken cs) h l = absurd (omega (arith, h .1))
-told-more b r c (suc k) (Text.broken cs) h l = let z : suc k - 1 ≡ k = omega arith in record { count = suc k + l .count; digits = digits-join (l .count) (suc k + l .count) refl (h .0) (rw z at (l .digits)); least = omega (arith, width-more c cs, h .1, l .least) }
+told-more : (b : ℕ) (r : List ℕ) (c k : ℕ) (g : Text.GroupsRead) → Digits k (b ∷ r) × (4 ≤ k) → Told (drop (k - 1) r) g → Told (b ∷ r) (Text.withChar c k g)
+told-more b r c k (Text.groupsEnded cs n) h l = omega (arith, width-more c cs, h .1)
+told-more b r c zero (Text.groupsBroken cs) h l = absurd (omega (arith, h .1))
+told-more b r c (suc k) (Text.groupsBroken cs) h l = let z : suc k - 1 ≡ k = omega arith in record { count = suc k + l .count; digits = digits-join (l .count) (suc k + l .count) refl (h .0) (rw z at (l .digits)); least = omega (arith, width-more c cs, h .1, l .least) }
 
 -- the groups of every directive have no more bytes of text than of digits
 groups-told : (w n : ℕ) (t : List ℕ) → Told (drop n t) (Text.groupsFrom w n t)
@@ -159,7 +159,7 @@ groups-told w (suc n) [] = omega (arith, width-none)
 groups-told w (suc n) (b ∷ r) = groups-told w n r
 groups-told w zero (b ∷ r) = go (ltb (suc (length r)) w || eqb b 92) (Text.groupOf w (b ∷ r)) (group-held w (b ∷ r)) (λ k. groups-told w (k - 1) r)
   where
-    go : (t : Bool) (g : Text.Group) → Held (b ∷ r) g → ((k : ℕ) → Told (drop (k - 1) r) (Text.groupsFrom w (k - 1) r)) → Told (b ∷ r) (pick t (Text.ended [] (Text.closing (b ∷ r))) (Text.grouped g (λ k. Text.groupsFrom w (k - 1) r)))
+    go : (t : Bool) (g : Text.Group) → Held (b ∷ r) g → ((k : ℕ) → Told (drop (k - 1) r) (Text.groupsFrom w (k - 1) r)) → Told (b ∷ r) (pick t (Text.groupsEnded [] (Text.closingTaken (b ∷ r))) (Text.grouped g (λ k. Text.groupsFrom w (k - 1) r)))
     go true g h f = omega (arith, width-none)
     go false (Text.char c k) h f = told-more b r c k (Text.groupsFrom w (k - 1) r) h (f k)
     go false Text.wrong h f = record { count = 0; digits = none; least = omega (arith, width-none) }
@@ -192,9 +192,9 @@ extended-weighs w d s h n e = shape s (is-within s 3 92 (omega arith) (y .1)) (e
     y : (Text.is s 2 d ≡ true) × (Text.is s 3 92 ≡ true)
     y = both (Text.is s 2 d) (Text.is s 3 92) (x .1)
 
-    go : (a : ℕ) (s t : List ℕ) (g : Text.Groups) → s ≡ a ∷ 88 ∷ d ∷ 92 ∷ t → Told t g → Weighs s (Text.extended g)
-    go a s t (Text.ended cs m) q l = light (omega arith)
-    go a s t (Text.broken cs) q l = heavy a d (l .count) t q n (l .digits) refl (omega (arith, width-append cs (92 ∷ []), width-two 92 (omega arith), l .least))
+    go : (a : ℕ) (s t : List ℕ) (g : Text.GroupsRead) → s ≡ a ∷ 88 ∷ d ∷ 92 ∷ t → Told t g → Weighs s (Text.extended g)
+    go a s t (Text.groupsEnded cs m) q l = light (omega arith)
+    go a s t (Text.groupsBroken cs) q l = heavy a d (l .count) t q n (l .digits) refl (omega (arith, width-append cs (92 ∷ []), width-two 92 (omega arith), l .least))
 
     shape : (s : List ℕ) → 3 < length s → byteAt s 1 ≡ 88 → byteAt s 2 ≡ d → byteAt s 3 ≡ 92 → Weighs s (Text.extended (Text.groupsFrom w 0 (drop 4 s)))
     shape [] l p q r = absurd (omega arith)
@@ -224,9 +224,9 @@ unfolding Text.pieceOf
 piece-weighs g s h =
     pick-weighs s (Text.is s 0 92) _ _ (λ e. directive-weighs g s) (λ n1.
     pick-weighs s (Text.is s 0 39 && Text.is s 1 39) _ _ (λ e. one-weighs s 39 2 (omega arith)) (λ n2.
-    pick-weighs s (ltb (byteAt s 0) 128) _ _ (λ e. byte-weighs s (byteAt s 0) h) (λ n3. go (leadOf s) (leads s))))
+    pick-weighs s (ltb (byteAt s 0) 128) _ _ (λ e. byte-weighs s (byteAt s 0) h) (λ n3. go (leadOf s) (lead-case-is s))))
   where
-    go : (l : Lead) → Leads s l → Weighs s (Text.rawOf (byteAt s 0) l)
+    go : (l : LeadCharacter) → LeadCases s l → Weighs s (Text.rawOf (byteAt s 0) l)
     go _ (led-one b) = byte-weighs s (byteAt s 0) h
     go _ (led-two a b t) = one-weighs s _ 2 (omega arith)
     go _ (led-three a b t u) = one-weighs s _ 3 (omega arith)

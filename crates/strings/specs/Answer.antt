@@ -26,20 +26,20 @@ shownOf s o (Written n) = take n o
 shownOf s o Short = []
 
 -- the text of a string, or the number of document 01's refusal; the place is the parameter's, and its reader's to say
-pub data Answer : Type 0 where
-  text : List ℕ → Answer
-  refused : ℕ → Answer
+pub data TextAnswer : Type 0 where
+  textIs : List ℕ → TextAnswer
+  textRefused : ℕ → TextAnswer
 
 -- document 01's number and value for each case: a text in the file, a text in the room, "output too short", 16
-abbrev pub toldText : List ℕ → List ℕ → Decoded → Answer
-toldText s o Plain = text s
-toldText s o (Written n) = text (take n o)
-toldText s o Short = refused 16
+abbrev pub toldText : List ℕ → List ℕ → Decoded → TextAnswer
+toldText s o Plain = textIs s
+toldText s o (Written n) = textIs (take n o)
+toldText s o Short = textRefused 16
 
 -- the answer of a string by document 01: its text, or "16 exactly when a text of this second kind is longer than the output"
-abbrev pub answerOf : List ℕ → ℕ → Answer
-answerOf s n = pick (plain s || leb (length (bytesOf s)) n) (text (bytesOf s)) (refused 16)
+abbrev pub answerOf : List ℕ → ℕ → TextAnswer
+answerOf s n = pick (plain s || leb (length (bytesOf s)) n) (textIs (bytesOf s)) (textRefused 16)
 
 -- the largest number of 64 bits
-abbrev pub most : ℕ
-most = 18446744073709551615
+abbrev pub largestU64 : ℕ
+largestU64 = 18446744073709551615

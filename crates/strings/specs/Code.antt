@@ -29,18 +29,18 @@ abbrev pub oneView : ℕ → ℕ → View
 oneView c k = record { written = encodeAll (c ∷ []); used = k }
 
 -- a piece has been read: its bytes are put from place a on
-pub record Moved (p : Piece) (a : ℕ) (o : List ℕ) (e k : ℕ) (q : List ℕ) : Type 0 where
+pub record PiecePut (p : Piece) (a : ℕ) (o : List ℕ) (e k : ℕ) (q : List ℕ) : Type 0 where
   pub put : Laid a o (encodeAll (p .chars)) e q
   pub read : k ≡ p .used
 
 -- the first n bytes of s are plain, and where n is less than `to`, not all of s is plain
-pub record Passed (s : List ℕ) (to n : ℕ) : Type 0 where
+pub record PlainPassed (s : List ℕ) (to n : ℕ) : Type 0 where
   pub within : n ≤ to
   pub plainly : plain (take n s) ≡ true
   pub stops : n < to → plain s ≡ false
 
 -- k plain bytes at the start are put from place a on
-pub record Ran (s : List ℕ) (a : ℕ) (o : List ℕ) (e k : ℕ) (q : List ℕ) : Type 0 where
+pub record PlainPut (s : List ℕ) (a : ℕ) (o : List ℕ) (e k : ℕ) (q : List ℕ) : Type 0 where
   pub within : k ≤ length s
   pub plainly : plain (take k s) ≡ true
   pub put : Laid a o (take k s) e q

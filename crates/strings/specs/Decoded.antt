@@ -13,7 +13,7 @@ use Rattle.strings.specs.declared.Decoded.{Decoded}
 use Rattle.strings.specs.declared.Decoded.the-variants.{Plain, Written, Short}
 use Rattle.strings.specs.Text.{plain, bytesOf}
 use Rattle.strings.specs.Put.{Laid}
-use Rattle.strings.specs.Answer.{most, decodedOf, roomAfter, shownOf, toldText, answerOf}
+use Rattle.strings.specs.Answer.{largestU64, decodedOf, roomAfter, shownOf, toldText, answerOf}
 use Rattle.strings.specs.Ample.{text-ample}
 use Rattle.strings.specs.Shown.{told-text}
 
@@ -30,18 +30,18 @@ pub decoded-plain : (s o : List ℕ) → plain s ≡ true → Answered s o o Pla
 decoded-plain s o h = answered s o o Plain (rw h refl) (rw h refl)
 
 -- a text that is longer than the room: the answer is `Short`, and the room is untouched
-pub decoded-short : (s o : List ℕ) (n : ℕ) → plain s ≡ false → n ≡ min most (length (bytesOf s)) → length o < n → Answered s o o Short
+pub decoded-short : (s o : List ℕ) (n : ℕ) → plain s ≡ false → n ≡ min largestU64 (length (bytesOf s)) → length o < n → Answered s o o Short
 decoded-short s o n h e l = let k = lt-leb (length (bytesOf s)) (length o) (omega arith) in answered s o o Short (rw (h, k) refl) (rw (h, k) refl)
 
 -- a text that fits is put into the room: the answer is how many bytes it has
-pub decoded-written : (s o p : List ℕ) (n r : ℕ) → plain s ≡ false → n ≡ min most (length (bytesOf s)) → n ≤ length o → length o < most → Laid 0 o (bytesOf s) r p → Answered s o p (Written n)
+pub decoded-written : (s o p : List ℕ) (n r : ℕ) → plain s ≡ false → n ≡ min largestU64 (length (bytesOf s)) → n ≤ length o → length o < largestU64 → Laid 0 o (bytesOf s) r p → Answered s o p (Written n)
 decoded-written s o p n r h e l m d =
     let q : n ≡ length (bytesOf s) = omega arith in
     let k = le-leb (length (bytesOf s)) (length o) (omega arith) in
     answered s o p (Written n) (rw (h, k) (ap Written q)) (rw (h, k) (d .laid [] o refl refl (omega arith)))
 
 -- the text is put into a room of twice the string's bytes, which surely suffices
-pub decoded-ample : (s o p : List ℕ) (r : ℕ) → plain s ≡ false → ((i : ℕ) → getD s i 0 < 256) → length s + length s ≤ length o → length o < most → Laid 0 o (bytesOf s) r p → Answered s o p (Written r)
+pub decoded-ample : (s o p : List ℕ) (r : ℕ) → plain s ≡ false → ((i : ℕ) → getD s i 0 < 256) → length s + length s ≤ length o → length o < largestU64 → Laid 0 o (bytesOf s) r p → Answered s o p (Written r)
 decoded-ample s o p r h b l m d = let k = text-ample s b in decoded-written s o p r r h (omega (arith, d .counted)) (omega (arith, d .counted)) m d
 
 -- a number of bytes past the room's end shows the whole room

@@ -10,7 +10,7 @@ use lib.ListN.{length, getD, List·getD-eq-default}
 use Rattle.common.specs.Pick.{pick}
 use Rattle.common.specs.Tests.{both, neither}
 use Rattle.utf8.specs.Utf8.{byteAt}
-use Rattle.strings.specs.Text.{hexDigit, hexValue, twoAt, twoOf, fourAt, fourOf, char, wrong, shown, high, joined, groupTwo, groupFour}
+use Rattle.strings.specs.Text.{hexDigit, hexValue, twoAt, twoOf, fourAt, fourOf, char, wrong, characterOfCode, high, surrogatesJoined, groupTwo, groupFour}
 
 -- past the end stands no byte
 pub byte-past : (s : List ℕ) (k : ℕ) → length s ≤ k → 256 ≡ byteAt s k
@@ -23,8 +23,8 @@ pub data Digit (b : ℕ) : Type 0 where
   small : 97 ≤ b → b ≤ 102 → Digit b
 
 -- every hex digit is one of the three
-pub digit : (b : ℕ) → hexDigit b ≡ true → Digit b
-digit b e = go (leb 48 b && leb b 57) (leb 65 b && leb b 70) (leb 97 b && leb b 102) refl refl refl
+pub hex-digit-is : (b : ℕ) → hexDigit b ≡ true → Digit b
+hex-digit-is b e = go (leb 48 b && leb b 57) (leb 65 b && leb b 70) (leb 97 b && leb b 102) refl refl refl
   where
     go : (x y z : Bool) → leb 48 b && leb b 57 ≡ x → leb 65 b && leb b 70 ≡ y → leb 97 b && leb b 102 ≡ z → Digit b
     go true y z p q r = let k = both (leb 48 b) (leb b 57) p in decimal (leb-true 48 b (k .0)) (leb-true b 57 (k .1))
@@ -34,7 +34,7 @@ digit b e = go (leb 48 b && leb b 57) (leb 65 b && leb b 70) (leb 97 b && leb b 
 
 -- a hex digit's value is below 16, and is the code's sum for it
 hex-both : (b : ℕ) → hexDigit b ≡ true → (hexValue b < 16) × (b % 16 + b / 64 * 9 ≡ hexValue b)
-hex-both b e = go (digit b e)
+hex-both b e = go (hex-digit-is b e)
   where
     go : Digit b → (hexValue b < 16) × (b % 16 + b / 64 * 9 ≡ hexValue b)
     go (decimal l h) = rw (le-leb b 57 h) (omega arith, omega arith)
@@ -97,8 +97,8 @@ module _ (s : List ℕ) (k a b : ℕ) (ea : a ≡ byteAt s k) (eb : b ≡ byteAt
     last = let e : k + 3 ≡ k + 2 + 1 = omega arith in ed ∙ ap (byteAt s) e
 
     -- four bytes that are hex digits: their number is that of the two pairs
-    pub four-is : (v w : ℕ) → (hexDigit a && hexDigit b) && (hexDigit c && hexDigit d) ≡ true → v ≡ hexValue a * 16 + hexValue b → w ≡ hexValue c * 16 + hexValue d → v * 256 + w ≡ pick (fourAt s k) (fourOf s k) 65536
-    four-is v w h e f = rw (sym ea, sym eb, sym ec, sym last, h, e, f) refl
+    pub four-hex-is : (v w : ℕ) → (hexDigit a && hexDigit b) && (hexDigit c && hexDigit d) ≡ true → v ≡ hexValue a * 16 + hexValue b → w ≡ hexValue c * 16 + hexValue d → v * 256 + w ≡ pick (fourAt s k) (fourOf s k) 65536
+    four-hex-is v w h e f = rw (sym ea, sym eb, sym ec, sym last, h, e, f) refl
 
     -- four bytes that are not all hex digits: 65536 stands for them
     pub four-not : (hexDigit a && hexDigit b) && (hexDigit c && hexDigit d) ≡ false → 65536 ≡ pick (fourAt s k) (fourOf s k) 65536
@@ -131,40 +131,40 @@ four-below s k e =
     omega arith
 
 -- what is picked and below its bound: the test passes, and it is the value
-pub found : (t : Bool) (v n a : ℕ) → a ≡ pick t v n → a < n → (t ≡ true) × (a ≡ v)
-found t v n a e h = let x = there t v n (rw (sym e) h) in (x, e ∙ rw x refl)
+pub hex-found : (t : Bool) (v n a : ℕ) → a ≡ pick t v n → a < n → (t ≡ true) × (a ≡ v)
+hex-found t v n a e h = let x = there t v n (rw (sym e) h) in (x, e ∙ rw x refl)
 
 -- what is picked and at its bound or above: the test fails
-pub missed : (t : Bool) (v n a : ℕ) → (t ≡ true → v < n) → a ≡ pick t v n → n ≤ a → t ≡ false
-missed t v n a k e h = absent t v n k (rw (sym e) h)
+pub hex-missed : (t : Bool) (v n a : ℕ) → (t ≡ true → v < n) → a ≡ pick t v n → n ≤ a → t ≡ false
+hex-missed t v n a k e h = absent t v n k (rw (sym e) h)
 
 -- where no four hex digits stand there is no group of four
 pub two-wrong : (s : List ℕ) (a : ℕ) → a ≡ pick (fourAt s 0) (fourOf s 0) 65536 → 65536 ≤ a → wrong ≡ groupTwo s
 unfolding groupTwo
-two-wrong s a e h = rw (missed (fourAt s 0) (fourOf s 0) 65536 a (four-below s 0) e h) refl
+two-wrong s a e h = rw (hex-missed (fourAt s 0) (fourOf s 0) 65536 a (four-below s 0) e h) refl
 
 -- a high surrogate without four hex digits after it is no group
 pub two-single : (s : List ℕ) (a b : ℕ) → a ≡ pick (fourAt s 0) (fourOf s 0) 65536 → a < 65536 → high a ≡ true → b ≡ pick (fourAt s 4) (fourOf s 4) 65536 → 65536 ≤ b → wrong ≡ groupTwo s
 unfolding groupTwo
 two-single s a b e h g f l =
-    let x = found (fourAt s 0) (fourOf s 0) 65536 a e h in
+    let x = hex-found (fourAt s 0) (fourOf s 0) 65536 a e h in
     let hi : high (fourOf s 0) ≡ true = rw (sym (x .1)) g in
-    rw (x .0, hi, missed (fourAt s 4) (fourOf s 4) 65536 b (four-below s 4) f l) refl
+    rw (x .0, hi, hex-missed (fourAt s 4) (fourOf s 4) 65536 b (four-below s 4) f l) refl
 
 -- a high surrogate and a second group are one character of eight digits
-pub two-pair : (s : List ℕ) (a b : ℕ) → a ≡ pick (fourAt s 0) (fourOf s 0) 65536 → a < 65536 → high a ≡ true → b ≡ pick (fourAt s 4) (fourOf s 4) 65536 → b < 65536 → char (joined a b) 8 ≡ groupTwo s
+pub two-pair : (s : List ℕ) (a b : ℕ) → a ≡ pick (fourAt s 0) (fourOf s 0) 65536 → a < 65536 → high a ≡ true → b ≡ pick (fourAt s 4) (fourOf s 4) 65536 → b < 65536 → char (surrogatesJoined a b) 8 ≡ groupTwo s
 unfolding groupTwo
 two-pair s a b e h g f l =
-    let x = found (fourAt s 0) (fourOf s 0) 65536 a e h in
-    let y = found (fourAt s 4) (fourOf s 4) 65536 b f l in
+    let x = hex-found (fourAt s 0) (fourOf s 0) 65536 a e h in
+    let y = hex-found (fourAt s 4) (fourOf s 4) 65536 b f l in
     let hi : high (fourOf s 0) ≡ true = rw (sym (x .1)) g in
     rw (x .0, hi, y .0, x .1, y .1) refl
 
 -- four hex digits that are no high surrogate are a group of their own
-pub two-alone : (s : List ℕ) (a : ℕ) → a ≡ pick (fourAt s 0) (fourOf s 0) 65536 → a < 65536 → high a ≡ false → char (shown a) 4 ≡ groupTwo s
+pub two-alone : (s : List ℕ) (a : ℕ) → a ≡ pick (fourAt s 0) (fourOf s 0) 65536 → a < 65536 → high a ≡ false → char (characterOfCode a) 4 ≡ groupTwo s
 unfolding groupTwo
 two-alone s a e h g =
-    let x = found (fourAt s 0) (fourOf s 0) 65536 a e h in
+    let x = hex-found (fourAt s 0) (fourOf s 0) 65536 a e h in
     let hi : high (fourOf s 0) ≡ false = rw (sym (x .1)) g in
     rw (x .0, hi, x .1) refl
 
@@ -189,12 +189,12 @@ four-wrong s a b e f h = go (fourAt s 0) (fourAt s 4) (leb 65536 a) (leb 65536 b
     go true true false false p q i j k = let z : _≡_ {A = ℕ} 0 1 = ap (λ (o : Bool). pick o 1 0) k in absurd (omega arith)
 
 -- eight hex digits are a group
-pub four-char : (s : List ℕ) (a b : ℕ) → a ≡ pick (fourAt s 0) (fourOf s 0) 65536 → b ≡ pick (fourAt s 4) (fourOf s 4) 65536 → leb 65536 a || leb 65536 b ≡ false → char (shown (a * 65536 + b)) 8 ≡ groupFour s
+pub four-char : (s : List ℕ) (a b : ℕ) → a ≡ pick (fourAt s 0) (fourOf s 0) 65536 → b ≡ pick (fourAt s 4) (fourOf s 4) 65536 → leb 65536 a || leb 65536 b ≡ false → char (characterOfCode (a * 65536 + b)) 8 ≡ groupFour s
 unfolding groupFour
 four-char s a b e f h =
     let k = neither (leb 65536 a) (leb 65536 b) h in
-    let x = found (fourAt s 0) (fourOf s 0) 65536 a e (leb-false 65536 a (k .0)) in
-    let y = found (fourAt s 4) (fourOf s 4) 65536 b f (leb-false 65536 b (k .1)) in
+    let x = hex-found (fourAt s 0) (fourOf s 0) 65536 a e (leb-false 65536 a (k .0)) in
+    let y = hex-found (fourAt s 4) (fourOf s 4) 65536 b f (leb-false 65536 b (k .1)) in
     rw (x .0, y .0, x .1, y .1) refl
 
 -- a byte of a list, or what stands for none past its end, is 256 at most

@@ -6,8 +6,8 @@
 use Prim.Native.Nat.{ℕ, _+_, _*_, _-_, _<_}
 use mathlib.Core.Path.{_≡_}
 use mathlib.Core.List.{List, [], _∷_, _++_}
-use Rattle.utf8.specs.Table.{In, Encoded}
-use Rattle.pages.specs.Tables.{entry}
+use Rattle.utf8.specs.Rfc3629.{In, Encoded}
+use Rattle.pages.specs.Tables.{pageEntry}
 use Rattle.strings.specs.Text.{hexValue}
 
 -- "SPACE", "DIGIT", "LOWER" (a to z), "UPPER" (A to Z and _) and "SPECIAL" (! " * $ % & . # + , - ( ) ? / : ; < = > @ [ ] { | } ^ ` ~):
@@ -77,7 +77,7 @@ pub data Iso : ℕ → List ℕ → List ℕ → Type 0 where
   reverse-solidus : {p : ℕ} {r cs : List ℕ} → Iso p r cs → Iso p (92 ∷ 92 ∷ r) (92 ∷ cs)
   -- "PAGE = REVERSE_SOLIDUS "S" REVERSE_SOLIDUS LATIN_CODEPOINT": the character that the page, one of ISO 8859-1 to 8859-9, has at the
   -- code plus 128, where it has one
-  page : {p c : ℕ} {r cs : List ℕ} → Latin c → p < 9 → (entry p (c + 128) ≡ 0xFFFD → ⊥) → Iso p r cs → Iso p (92 ∷ 83 ∷ 92 ∷ c ∷ r) (entry p (c + 128) ∷ cs)
+  page : {p c : ℕ} {r cs : List ℕ} → Latin c → p < 9 → (pageEntry p (c + 128) ≡ 0xFFFD → ⊥) → Iso p r cs → Iso p (92 ∷ 83 ∷ 92 ∷ c ∷ r) (pageEntry p (c + 128) ∷ cs)
   -- "ALPHABET = REVERSE_SOLIDUS "P" UPPER REVERSE_SOLIDUS": names the page from here on, A to I those of ISO 8859-1 to 8859-9
   alphabet : {p : ℕ} {a : ℕ} {r cs : List ℕ} → Upper a → Iso (a - 65) r cs → Iso p (92 ∷ 80 ∷ a ∷ 92 ∷ r) cs
   -- "EXTENDED2 = REVERSE_SOLIDUS "X2" REVERSE_SOLIDUS HEX_TWO { HEX_TWO } END_EXTENDED"

@@ -12,9 +12,9 @@ use lib.Seq.{drop-append-seam, drop-drop}
 use Rattle.common.specs.Pick.{pick}
 use Rattle.utf8.specs.Utf8.{scalar, leadOf}
 use Rattle.utf8.specs.Answer.{valid}
-use Rattle.utf8.specs.Table.{In, Encoded}
+use Rattle.utf8.specs.Rfc3629.{In, Encoded}
 use Rattle.utf8.specs.Agree.{table-leads}
-use Rattle.pages.specs.Tables.{pages, cyrillic, entry}
+use Rattle.pages.specs.Tables.{pages, cyrillic, pageEntry}
 use Rattle.pages.specs.Pages.{pageOf}
 use Rattle.pages.specs.Rules.{pageA}
 use Rattle.strings.specs.Text
@@ -98,24 +98,24 @@ four-group _ _ t (Iso.four (Iso.two (Iso.one {a = a} {b = b} ha hb) (Iso.one {a 
 
 -- one group, and the groups after it, as document 01 reads them
 group-then : (w : ℕ) (x t : List ℕ) (c : ℕ) (cs : List ℕ) (n : ℕ) → 0 < w → Text.groupOf w (x ++ t) ≡ Text.char c w → length x ≡ w → Text.is (x ++ t) 0 92 ≡ false
-    → Text.groupsFrom w 0 t ≡ Text.ended cs n → Text.groupsFrom w 0 (x ++ t) ≡ Text.ended (c ∷ cs) (length x + n)
+    → Text.groupsFrom w 0 t ≡ Text.groupsEnded cs n → Text.groupsFrom w 0 (x ++ t) ≡ Text.groupsEnded (c ∷ cs) (length x + n)
 group-then w x t c cs n p g l b e =
     let q : length (x ++ t) ≡ length x + length t = length-append x t in
     let f : ltb (length (x ++ t)) w || Text.is (x ++ t) 0 92 ≡ false = rw (le-ltb (length (x ++ t)) w (omega arith), b) refl in
     let d : drop w (x ++ t) ≡ t = ap (λ (k : ℕ). drop k (x ++ t)) (sym l) ∙ drop-append-seam x t in
-    groups-char w (x ++ t) c w (omega arith) f g p ∙ ap (λ (z : List ℕ). Text.withChar c w (Text.groupsFrom w 0 z)) d ∙ ap (Text.withChar c w) e ∙ ap (λ (k : ℕ). Text.ended (c ∷ cs) (k + n)) (sym l)
+    groups-char w (x ++ t) c w (omega arith) f g p ∙ ap (λ (z : List ℕ). Text.withChar c w (Text.groupsFrom w 0 z)) d ∙ ap (Text.withChar c w) e ∙ ap (λ (k : ℕ). Text.groupsEnded (c ∷ cs) (k + n)) (sym l)
 
 -- the end of the groups is eaten whole
-end-groups : (w : ℕ) (r : List ℕ) → Text.groupsFrom w 0 (Iso.endExtended ++ r) ≡ Text.ended [] 4
+end-groups : (w : ℕ) (r : List ℕ) → Text.groupsFrom w 0 (Iso.endExtended ++ r) ≡ Text.groupsEnded [] 4
 unfolding Text.groupsFrom
-end-groups w r = groups-stop w (Iso.endExtended ++ r) (omega arith) (stop (ltb (length (Iso.endExtended ++ r)) w)) ∙ ap (Text.ended []) (omega arith)
+end-groups w r = groups-stop w (Iso.endExtended ++ r) (omega arith) (stop (ltb (length (Iso.endExtended ++ r)) w)) ∙ ap (Text.groupsEnded []) (omega arith)
   where
     stop : (t : Bool) → t || true ≡ true
     stop true = refl
     stop false = refl
 
 -- "HEX_TWO { HEX_TWO } END_EXTENDED": document 01 reads these groups to their end
-twos-groups : {g cs : List ℕ} (r : List ℕ) → Iso.Twos g cs → Text.groupsFrom 4 0 (g ++ (Iso.endExtended ++ r)) ≡ Text.ended cs (length g + 4)
+twos-groups : {g cs : List ℕ} (r : List ℕ) → Iso.Twos g cs → Text.groupsFrom 4 0 (g ++ (Iso.endExtended ++ r)) ≡ Text.groupsEnded cs (length g + 4)
 twos-groups r (Iso.Twos.last {x = x} {c = c} t k) =
     let g = two-group x c (Iso.endExtended ++ r) t k in
     group-then 4 x (Iso.endExtended ++ r) c [] 4 (omega arith) (g .0) (g .1) (g .2) (end-groups 4 r)
@@ -123,10 +123,10 @@ twos-groups r (Iso.Twos.next {x = x} {r = y} {c = c} {cs = cs} t k m) =
     let g = two-group x c (y ++ (Iso.endExtended ++ r)) t k in
     ap (Text.groupsFrom 4 0) (append-assoc x y (Iso.endExtended ++ r))
     ∙ group-then 4 x (y ++ (Iso.endExtended ++ r)) c cs (length y + 4) (omega arith) (g .0) (g .1) (g .2) (twos-groups r m)
-    ∙ ap (Text.ended (c ∷ cs)) (omega (arith, length-append x y))
+    ∙ ap (Text.groupsEnded (c ∷ cs)) (omega (arith, length-append x y))
 
 -- "HEX_FOUR { HEX_FOUR } END_EXTENDED": document 01 reads these groups to their end
-fours-groups : {g cs : List ℕ} (r : List ℕ) → Iso.Fours g cs → Text.groupsFrom 8 0 (g ++ (Iso.endExtended ++ r)) ≡ Text.ended cs (length g + 4)
+fours-groups : {g cs : List ℕ} (r : List ℕ) → Iso.Fours g cs → Text.groupsFrom 8 0 (g ++ (Iso.endExtended ++ r)) ≡ Text.groupsEnded cs (length g + 4)
 fours-groups r (Iso.Fours.last {x = x} {c = c} t k) =
     let g = four-group x c (Iso.endExtended ++ r) t k in
     group-then 8 x (Iso.endExtended ++ r) c [] 4 (omega arith) (g .0) (g .1) (g .2) (end-groups 8 r)
@@ -134,19 +134,19 @@ fours-groups r (Iso.Fours.next {x = x} {r = y} {c = c} {cs = cs} t k m) =
     let g = four-group x c (y ++ (Iso.endExtended ++ r)) t k in
     ap (Text.groupsFrom 8 0) (append-assoc x y (Iso.endExtended ++ r))
     ∙ group-then 8 x (y ++ (Iso.endExtended ++ r)) c cs (length y + 4) (omega arith) (g .0) (g .1) (g .2) (fours-groups r m)
-    ∙ ap (Text.ended (c ∷ cs)) (omega (arith, length-append x y))
+    ∙ ap (Text.groupsEnded (c ∷ cs)) (omega (arith, length-append x y))
 
 -- what follows the groups and their end
 drop-groups : (g r : List ℕ) → drop (length g + 4) (g ++ (Iso.endExtended ++ r)) ≡ r
 drop-groups g r = sym (drop-drop 4 (length g) (g ++ (Iso.endExtended ++ r))) ∙ ap (drop 4) (drop-append-seam g (Iso.endExtended ++ r))
 
 -- "`\X2\` groups of four": the piece with their characters
-piece-two : (q : ℕ) (g r cs : List ℕ) → Text.groupsFrom 4 0 (g ++ (Iso.endExtended ++ r)) ≡ Text.ended cs (length g + 4) → Text.pieceOf q (92 ∷ 88 ∷ 50 ∷ 92 ∷ (g ++ (Iso.endExtended ++ r))) ≡ Text.gives cs (4 + (length g + 4))
+piece-two : (q : ℕ) (g r cs : List ℕ) → Text.groupsFrom 4 0 (g ++ (Iso.endExtended ++ r)) ≡ Text.groupsEnded cs (length g + 4) → Text.pieceOf q (92 ∷ 88 ∷ 50 ∷ 92 ∷ (g ++ (Iso.endExtended ++ r))) ≡ Text.gives cs (4 + (length g + 4))
 unfolding Text.pieceOf Text.directiveOf
 piece-two q g r cs e = rw e refl
 
 -- "and `\X4\` of eight hex digits": the piece with their characters
-piece-four : (q : ℕ) (g r cs : List ℕ) → Text.groupsFrom 8 0 (g ++ (Iso.endExtended ++ r)) ≡ Text.ended cs (length g + 4) → Text.pieceOf q (92 ∷ 88 ∷ 52 ∷ 92 ∷ (g ++ (Iso.endExtended ++ r))) ≡ Text.gives cs (4 + (length g + 4))
+piece-four : (q : ℕ) (g r cs : List ℕ) → Text.groupsFrom 8 0 (g ++ (Iso.endExtended ++ r)) ≡ Text.groupsEnded cs (length g + 4) → Text.pieceOf q (92 ∷ 88 ∷ 52 ∷ 92 ∷ (g ++ (Iso.endExtended ++ r))) ≡ Text.gives cs (4 + (length g + 4))
 unfolding Text.pieceOf Text.directiveOf
 piece-four q g r cs e = rw e refl
 
@@ -187,7 +187,7 @@ alphabet-names : (g a : ℕ) (r : List ℕ) → Iso.Upper a → Text.pageAfter g
 alphabet-names g a r h = page-named g (92 ∷ 80 ∷ a ∷ 92 ∷ r) refl ∙ page-known a h
 
 -- "`\S\c` code c+128", on a page
-piece-shift : (p c : ℕ) (r : List ℕ) → Iso.Latin c → p < 9 → Text.pieceOf (known p) (92 ∷ 83 ∷ 92 ∷ c ∷ r) ≡ Text.gives (entry p (c + 128) ∷ []) 4
+piece-shift : (p c : ℕ) (r : List ℕ) → Iso.Latin c → p < 9 → Text.pieceOf (known p) (92 ∷ 83 ∷ 92 ∷ c ∷ r) ≡ Text.gives (pageEntry p (c + 128) ∷ []) 4
 unfolding Text.pieceOf Text.directiveOf
 piece-shift p c r (l, h) k = rw (le-leb 4 (length (92 ∷ 83 ∷ 92 ∷ c ∷ r)) (omega arith), lt-ltb p 9 k, le-leb 160 (c + 128) (omega arith), le-leb (c + 128) 255 (omega arith)) refl
 
@@ -213,7 +213,7 @@ iso-on {p} (Iso.Iso.high-codepoint {c = c} {x = x} {r = r} {cs = cs} h e i) =
     piece-then (known p) (known p) (x ++ r) r (c ∷ []) cs (length x) l m n k (drop-append-seam x r) (iso-on i)
 iso-on {p} (Iso.Iso.apostrophe {r = r} {cs = cs} i) = piece-then (known p) (known p) (39 ∷ 39 ∷ r) r (39 ∷ []) cs 2 (omega arith) (piece-quote (known p) r) (plain-stays (known p) (39 ∷ 39 ∷ r) (λ e. omega arith)) (omega arith) refl (iso-on i)
 iso-on {p} (Iso.Iso.reverse-solidus {r = r} {cs = cs} i) = piece-then (known p) (known p) (92 ∷ 92 ∷ r) r (92 ∷ []) cs 2 (omega arith) (piece-backslash (known p) r) (slash-stays (known p) 92 r refl) (omega arith) refl (iso-on i)
-iso-on {p} (Iso.Iso.page {c = c} {r = r} {cs = cs} h l n i) = piece-then (known p) (known p) (92 ∷ 83 ∷ 92 ∷ c ∷ r) r (entry p (c + 128) ∷ []) cs 4 (omega arith) (piece-shift p c r h l) (slash-stays (known p) 83 (92 ∷ c ∷ r) refl) (omega arith) refl (iso-on i)
+iso-on {p} (Iso.Iso.page {c = c} {r = r} {cs = cs} h l n i) = piece-then (known p) (known p) (92 ∷ 83 ∷ 92 ∷ c ∷ r) r (pageEntry p (c + 128) ∷ []) cs 4 (omega arith) (piece-shift p c r h l) (slash-stays (known p) 83 (92 ∷ c ∷ r) refl) (omega arith) refl (iso-on i)
 iso-on {p} (Iso.Iso.alphabet {a = a} {r = r} {cs = cs} h i) = piece-then (known p) (known (a - 65)) (92 ∷ 80 ∷ a ∷ 92 ∷ r) r [] cs 4 (omega arith) (piece-page (known p) a r) (alphabet-names (known p) a r h) (omega arith) refl (iso-on i)
 iso-on {p} (Iso.Iso.extended2 {g = g} {r = r} {cs = cs} {ds = ds} t i) =
     piece-then (known p) (known p) (92 ∷ 88 ∷ 50 ∷ 92 ∷ (g ++ (Iso.endExtended ++ r))) r cs ds (4 + (length g + 4)) (omega arith) (piece-two (known p) g r cs (twos-groups r t)) (slash-stays (known p) 88 (50 ∷ 92 ∷ (g ++ (Iso.endExtended ++ r))) refl) (omega arith) (sym (drop-drop (length g + 4) 4 (92 ∷ 88 ∷ 50 ∷ 92 ∷ (g ++ (Iso.endExtended ++ r)))) ∙ drop-groups g r) (iso-on i)
@@ -246,5 +246,5 @@ seven =
 
 -- `\PE\\S\P` stands for U+0430, of ISO 8859-5
 pub cyrillic-a : Iso.Iso 0 (92 ∷ 80 ∷ 69 ∷ 92 ∷ 92 ∷ 83 ∷ 92 ∷ 80 ∷ []) (0x0430 ∷ [])
-unfolding entry pages cyrillic
+unfolding pageEntry pages cyrillic
 cyrillic-a = Iso.Iso.alphabet (Iso.capital {b = 69} (omega arith, omega arith)) (Iso.Iso.page {p = 4} {c = 80} (omega arith, omega arith) (omega arith) (λ e. omega arith) Iso.Iso.ends)

@@ -4,7 +4,7 @@ pub mod Code
 pub mod Hex
 pub mod Put
 pub mod Steps
-pub mod Runs
+pub mod PlainRuns
 pub mod Ample
 pub mod Ways
 pub mod Decoded
@@ -13,4 +13,4 @@ pub mod IsoRight
 pub mod Shown
 pub mod Rules
 pub mod RulesRight
-pub mod Before
+pub mod BeforePages

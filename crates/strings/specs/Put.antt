@@ -13,20 +13,20 @@ use Rattle.common.specs.Pick.{pick}
 use Rattle.utf8.specs.Utf8.{encode}
 use Rattle.utf8.specs.Encoding.{encodeAll}
 use Rattle.utf8.specs.Answer.{putAt, putWidth}
-use Rattle.strings.specs.Answer.{most}
+use Rattle.strings.specs.Answer.{largestU64}
 
 -- from place a of the room o, the bytes bs have been counted up to e; where they all fit, the room p holds them and is beyond them as
 -- it was (where they do not, nothing is said of the room)
 pub record Laid (a : ℕ) (o bs : List ℕ) (e : ℕ) (p : List ℕ) : Type 0 where
-  pub counted : e ≡ min most (a + length bs)
+  pub counted : e ≡ min largestU64 (a + length bs)
   pub laid : (pre post : List ℕ) → o ≡ pre ++ post → length pre ≡ a → length bs ≤ length post → p ≡ pre ++ (bs ++ drop (length bs) post)
 
 -- where no byte is put the room stays
-pub laid-none : (a : ℕ) (o : List ℕ) → a ≤ most → Laid a o [] a o
+pub laid-none : (a : ℕ) (o : List ℕ) → a ≤ largestU64 → Laid a o [] a o
 laid-none a o h = record { counted = omega arith; laid = λ pre post e l k. e }
 
 -- bytes are put, and then further bytes after them
-pub laid-then : (a : ℕ) (o xs : List ℕ) (e : ℕ) (p ys : List ℕ) (f : ℕ) (q : List ℕ) → length o ≤ most → Laid a o xs e p → Laid e p ys f q → Laid a o (xs ++ ys) f q
+pub laid-then : (a : ℕ) (o xs : List ℕ) (e : ℕ) (p ys : List ℕ) (f : ℕ) (q : List ℕ) → length o ≤ largestU64 → Laid a o xs e p → Laid e p ys f q → Laid a o (xs ++ ys) f q
 laid-then a o xs e p ys f q m x y = record { counted = rw (length-append xs ys) (omega (arith, x .counted, y .counted)); laid = go }
   where
     go : (pre post : List ℕ) → o ≡ pre ++ post → length pre ≡ a → length (xs ++ ys) ≤ length post → q ≡ pre ++ ((xs ++ ys) ++ drop (length (xs ++ ys)) post)
@@ -47,16 +47,16 @@ encode-append [] ys = refl
 encode-append (x ∷ xs) ys = ap (λ (z : List ℕ). encode x ++ z) (encode-append xs ys) ∙ sym (append-assoc (encode x) (encodeAll xs) (encodeAll ys))
 
 -- characters are put, and then further characters after them
-pub laid-chars : (a : ℕ) (o xs : List ℕ) (e : ℕ) (p ys : List ℕ) (f : ℕ) (q : List ℕ) → length o ≤ most → Laid a o (encodeAll xs) e p → Laid e p (encodeAll ys) f q → Laid a o (encodeAll (xs ++ ys)) f q
+pub laid-chars : (a : ℕ) (o xs : List ℕ) (e : ℕ) (p ys : List ℕ) (f : ℕ) (q : List ℕ) → length o ≤ largestU64 → Laid a o (encodeAll xs) e p → Laid e p (encodeAll ys) f q → Laid a o (encodeAll (xs ++ ys)) f q
 laid-chars a o xs e p ys f q m x y = rw (encode-append xs ys) (laid-then a o (encodeAll xs) e p (encodeAll ys) f q m x y)
 
 -- where no character is put the room stays
-pub laid-nothing : (a : ℕ) (o : List ℕ) → a ≤ most → Laid a o (encodeAll []) a o
+pub laid-nothing : (a : ℕ) (o : List ℕ) → a ≤ largestU64 → Laid a o (encodeAll []) a o
 unfolding encodeAll
 laid-nothing a o h = laid-none a o h
 
 -- a room after bytes were put at a place of it where they fit, and else as it was
-pub put-laid : (a : ℕ) (o bs p : List ℕ) (e : ℕ) → p ≡ pick (leb (a + length bs) (length o)) (take a o ++ bs ++ drop (a + length bs) o) o → e ≡ min most (a + length bs) → Laid a o bs e p
+pub put-laid : (a : ℕ) (o bs p : List ℕ) (e : ℕ) → p ≡ pick (leb (a + length bs) (length o)) (take a o ++ bs ++ drop (a + length bs) o) o → e ≡ min largestU64 (a + length bs) → Laid a o bs e p
 put-laid a o bs p e h k = record { counted = k; laid = go }
   where
     go : (pre post : List ℕ) → o ≡ pre ++ post → length pre ≡ a → length bs ≤ length post → p ≡ pre ++ (bs ++ drop (length bs) post)
@@ -66,9 +66,9 @@ put-laid a o bs p e h k = record { counted = k; laid = go }
         u ∙ rw (g, sym l, take-append-seam pre post, drop-append-add pre post (length bs)) (append-assoc pre bs (drop (length bs) post))
 
 -- a character put where it fits, and counted wherever it stands
-pub put-one : (a : ℕ) (o : List ℕ) (c w e : ℕ) (p : List ℕ) → w ≡ length (encode c) → p ≡ putAt a (encode c) o → e ≡ min most (a + w) → Laid a o (encodeAll (c ∷ [])) e p
+pub put-one : (a : ℕ) (o : List ℕ) (c w e : ℕ) (p : List ℕ) → w ≡ length (encode c) → p ≡ putAt a (encode c) o → e ≡ min largestU64 (a + w) → Laid a o (encodeAll (c ∷ [])) e p
 unfolding encodeAll putAt
-put-one a o c w e p h k l = rw (append-nil (encode c)) (put-laid a o (encode c) p e k (l ∙ ap (λ (z : ℕ). min most (a + z)) h))
+put-one a o c w e p h k l = rw (append-nil (encode c)) (put-laid a o (encode c) p e k (l ∙ ap (λ (z : ℕ). min largestU64 (a + z)) h))
 
 -- a width that was put is the encoding's, and the encoding fits
 pub put-some : (a : ℕ) (o e : List ℕ) (u : ℕ) → u ≡ putWidth a e o → (u ≡ 0 → ⊥) → (u ≡ length e) × (a + u ≤ length o)
@@ -80,7 +80,7 @@ put-some a o e u h n = go (leb (a + length e) (length o)) refl h
     go false p k = absurd (n k)
 
 -- plain bytes put where they fit, and counted wherever they stand
-pub put-run : (a : ℕ) (o s : List ℕ) (n e : ℕ) (p : List ℕ) → n ≤ length s → p ≡ pick (leb (a + n) (length o)) (paste o a s n) o → e ≡ min most (a + n) → Laid a o (take n s) e p
+pub put-run : (a : ℕ) (o s : List ℕ) (n e : ℕ) (p : List ℕ) → n ≤ length s → p ≡ pick (leb (a + n) (length o)) (paste o a s n) o → e ≡ min largestU64 (a + n) → Laid a o (take n s) e p
 put-run a o s n e p h k l =
     let w : length (take n s) ≡ n = length-take-le n s h in
     put-laid a o (take n s) p e (rw w k) (rw w l)
@@ -90,6 +90,6 @@ pub paste-more : (o : List ℕ) (a : ℕ) (s : List ℕ) (k : ℕ) (p : List ℕ
 paste-more o a s k p h l e = rw (add-one, e) (paste-suc o a s k 0 h l)
 
 -- plain bytes that fit are put
-pub put-part : (a : ℕ) (o s : List ℕ) (k : ℕ) (p : List ℕ) → a ≤ most → length o ≤ most → k ≤ length s → k ≤ length o - a → p ≡ paste o a s k → Laid a o (take k s) (a + k) p
+pub put-part : (a : ℕ) (o s : List ℕ) (k : ℕ) (p : List ℕ) → a ≤ largestU64 → length o ≤ largestU64 → k ≤ length s → k ≤ length o - a → p ≡ paste o a s k → Laid a o (take k s) (a + k) p
 put-part a o s zero p m n h l e = let q : a + 0 ≡ a = omega arith in rw (q, e ∙ sym (paste-zero o a s)) (laid-none a o m)
 put-part a o s (suc k) p m n h l e = put-run a o s (suc k) (a + suc k) p h (rw (le-leb (a + suc k) (length o) (omega arith)) e) (omega arith)

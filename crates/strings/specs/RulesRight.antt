@@ -14,8 +14,8 @@ use Rattle.common.specs.Pick.{pick}
 use Rattle.common.specs.Tests.{both, neither, in-range}
 use Rattle.lex.specs.Grammar.{Begins}
 use Rattle.utf8.specs.Utf8.{encode, byteAt, leadOf}
-use Rattle.utf8.specs.Answer.{Lead, valid, invalid}
-use Rattle.utf8.specs.Table.{Encoded, line-one, line-two, line-three, line-four}
+use Rattle.utf8.specs.Answer.{LeadCharacter, valid, invalid}
+use Rattle.utf8.specs.Rfc3629.{Encoded, line-one, line-two, line-three, line-four}
 use Rattle.utf8.specs.Laws.{scalar-low, scalar-high, scalar-between, scalar-above, encode-one}
 use Rattle.utf8.specs.Agree.{table-is, table-only, encode-leads, lead-is}
 use Rattle.pages.specs.Pages.{pageOf, codeOf}
@@ -23,7 +23,7 @@ use Rattle.pages.specs.Rules.{pageA}
 use Rattle.pages.specs.Right as Page
 use Rattle.strings.specs.Text
 use Rattle.strings.specs.Hex.{hex-within, four-within}
-use Rattle.strings.specs.Steps.{is-within, ends, groups-stop, groups-wrong, groups-char, piece-fits, text-goes, page-stays, plain-stays}
+use Rattle.strings.specs.Steps.{is-within, groupsEndHere, groups-stop, groups-wrong, groups-char, piece-fits, text-goes, page-stays, plain-stays}
 use Rattle.strings.specs.Rules
 
 -- from a test that passes and fails anything follows
@@ -32,30 +32,30 @@ differ t p q = let z : _≡_ {A = ℕ} 0 1 = ap (λ (u : Bool). pick u 0 1) (sym
 
 -- ---- hex digits
 -- a byte that is computed to be a hex digit is one, of the value computed
-pub hex-is : (b : ℕ) → Text.hexDigit b ≡ true → Rules.Hex b (Text.hexValue b)
+pub hex-is : (b : ℕ) → Text.hexDigit b ≡ true → Rules.HexValue b (Text.hexValue b)
 hex-is b e = go (leb 48 b && leb b 57) (leb 65 b && leb b 70) (leb 97 b && leb b 102) refl refl refl
   where
-    go : (x y z : Bool) → leb 48 b && leb b 57 ≡ x → leb 65 b && leb b 70 ≡ y → leb 97 b && leb b 102 ≡ z → Rules.Hex b (Text.hexValue b)
+    go : (x y z : Bool) → leb 48 b && leb b 57 ≡ x → leb 65 b && leb b 70 ≡ y → leb 97 b && leb b 102 ≡ z → Rules.HexValue b (Text.hexValue b)
     go true y z p q r =
         let (k, l) = both (leb 48 b) (leb b 57) p in
         let i = leb-true 48 b k in
         let j = leb-true b 57 l in
         let f : 48 + (b - 48) ≡ b = omega arith in
-        rw l (subst (λ (c : ℕ). Rules.Hex c (b - 48)) f (Rules.decimal {v = b - 48} (omega arith)))
+        rw l (subst (λ (c : ℕ). Rules.HexValue c (b - 48)) f (Rules.decimal {v = b - 48} (omega arith)))
     go false true z p q r =
         let (k, l) = both (leb 65 b) (leb b 70) q in
         let i = leb-true 65 b k in
         let j = leb-true b 70 l in
         let f : 65 + (b - 65) ≡ b = omega arith in
         let g : 10 + (b - 65) ≡ b - 55 = omega arith in
-        rw (lt-leb b 57 (omega arith), l, ← g) (subst (λ (c : ℕ). Rules.Hex c (10 + (b - 65))) f (Rules.capital {v = b - 65} (omega arith)))
+        rw (lt-leb b 57 (omega arith), l, ← g) (subst (λ (c : ℕ). Rules.HexValue c (10 + (b - 65))) f (Rules.capital {v = b - 65} (omega arith)))
     go false false true p q r =
         let (k, l) = both (leb 97 b) (leb b 102) r in
         let i = leb-true 97 b k in
         let j = leb-true b 102 l in
         let f : 97 + (b - 97) ≡ b = omega arith in
         let g : 10 + (b - 97) ≡ b - 87 = omega arith in
-        rw (lt-leb b 57 (omega arith), lt-leb b 70 (omega arith), ← g) (subst (λ (c : ℕ). Rules.Hex c (10 + (b - 97))) f (Rules.small {v = b - 97} (omega arith)))
+        rw (lt-leb b 57 (omega arith), lt-leb b 70 (omega arith), ← g) (subst (λ (c : ℕ). Rules.HexValue c (10 + (b - 97))) f (Rules.small {v = b - 97} (omega arith)))
     go false false false p q r = differ (Text.hexDigit b) e (rw (p, q, r) refl)
 
 -- a number above a range fails its test
@@ -63,7 +63,7 @@ over : (l h b : ℕ) → l ≤ b → h < b → leb l b && leb b h ≡ false
 over l h b p q = rw (le-leb l b p, lt-leb b h q) refl
 
 -- a hex digit is computed to be one, of its value
-pub hex-only : {b v : ℕ} → Rules.Hex b v → (Text.hexDigit b ≡ true) × (Text.hexValue b ≡ v)
+pub hex-only : {b v : ℕ} → Rules.HexValue b v → (Text.hexDigit b ≡ true) × (Text.hexValue b ≡ v)
 hex-only (Rules.decimal {v = v} h) = one (48 + v) v refl h
   where
     one : (b v : ℕ) → b ≡ 48 + v → v < 10 → (Text.hexDigit b ≡ true) × (Text.hexValue b ≡ v)
@@ -84,7 +84,7 @@ hex-only (Rules.small {v = v} h) = one (97 + v) v refl h
     )
 
 -- four bytes that are computed to be hex digits are four by the rule
-pub four-is : (s : List ℕ) → Text.fourAt s 0 ≡ true → Rules.Four s (Text.fourOf s 0)
+pub four-is : (s : List ℕ) → Text.fourAt s 0 ≡ true → Rules.FourHex s (Text.fourOf s 0)
 four-is [] e = let h = four-within [] 0 e in absurd (omega arith)
 four-is (a ∷ []) e = let h = four-within (a ∷ []) 0 e in absurd (omega arith)
 four-is (a ∷ b ∷ []) e = let h = four-within (a ∷ b ∷ []) 0 e in absurd (omega arith)
@@ -94,13 +94,13 @@ four-is (a ∷ b ∷ c ∷ d ∷ r) e =
     let (p, q) = both (Text.hexDigit a) (Text.hexDigit b) x in
     let (t, u) = both (Text.hexDigit c) (Text.hexDigit d) y in
     let f : Text.hexValue a * 4096 + Text.hexValue b * 256 + Text.hexValue c * 16 + Text.hexValue d ≡ (Text.hexValue a * 16 + Text.hexValue b) * 256 + (Text.hexValue c * 16 + Text.hexValue d) = sum (Text.hexValue a) (Text.hexValue b) (Text.hexValue c) (Text.hexValue d) in
-    subst (Rules.Four (a ∷ b ∷ c ∷ d ∷ r)) f (Rules.digits (hex-is a p) (hex-is b q) (hex-is c t) (hex-is d u))
+    subst (Rules.FourHex (a ∷ b ∷ c ∷ d ∷ r)) f (Rules.digits (hex-is a p) (hex-is b q) (hex-is c t) (hex-is d u))
   where
     sum : (i j k l : ℕ) → i * 4096 + j * 256 + k * 16 + l ≡ (i * 16 + j) * 256 + (k * 16 + l)
     sum i j k l = omega arith
 
 -- four hex digits by the rule are computed to be four, of their number
-pub four-only : {s : List ℕ} {n : ℕ} → Rules.Four s n → (Text.fourAt s 0 ≡ true) × (Text.fourOf s 0 ≡ n)
+pub four-only : {s : List ℕ} {n : ℕ} → Rules.FourHex s n → (Text.fourAt s 0 ≡ true) × (Text.fourOf s 0 ≡ n)
 four-only (Rules.digits {i = i} {j = j} {k = k} {l = l} p q t u) =
     let (a, e) = hex-only p in
     let (b, f) = hex-only q in
@@ -116,26 +116,26 @@ four-next s = (
 )
 
 -- four bytes after the first four that are computed to be hex digits are four by the rule
-second-is : (s : List ℕ) → Text.fourAt s 4 ≡ true → Rules.Four (drop 4 s) (Text.fourOf s 4)
-second-is s e = let (p, q) = four-next s in subst (Rules.Four (drop 4 s)) q (four-is (drop 4 s) (p ∙ e))
+second-is : (s : List ℕ) → Text.fourAt s 4 ≡ true → Rules.FourHex (drop 4 s) (Text.fourOf s 4)
+second-is s e = let (p, q) = four-next s in subst (Rules.FourHex (drop 4 s)) q (four-is (drop 4 s) (p ∙ e))
 
 -- four hex digits by the rule after the first four are computed to be four, of their number
-second-only : (s : List ℕ) (n : ℕ) → Rules.Four (drop 4 s) n → (Text.fourAt s 4 ≡ true) × (Text.fourOf s 4 ≡ n)
+second-only : (s : List ℕ) (n : ℕ) → Rules.FourHex (drop 4 s) n → (Text.fourAt s 4 ≡ true) × (Text.fourOf s 4 ≡ n)
 second-only s n f = let (p, q) = four-next s in let (t, u) = four-only f in (sym p ∙ t, sym q ∙ u)
 
 -- ---- groups
 -- the character that is computed of a code is the code's
-pub shown-is : (n : ℕ) → Rules.Shown n (Text.shown n)
+pub shown-is : (n : ℕ) → Rules.CharacterOfCode n (Text.characterOfCode n)
 shown-is n = go (decLt n 55296) (decLt n 57344) (decLt 1114111 n)
   where
-    go : Dec (n < 55296) → Dec (n < 57344) → Dec (1114111 < n) → Rules.Shown n (Text.shown n)
+    go : Dec (n < 55296) → Dec (n < 57344) → Dec (1114111 < n) → Rules.CharacterOfCode n (Text.characterOfCode n)
     go (yes h) _ _ = rw (scalar-low n h) (Rules.below h)
     go (no a) (yes h) _ = rw (scalar-between n (omega arith) (omega arith)) (Rules.surrogate {n = n} (omega arith, omega arith))
     go (no a) (no b) (yes h) = rw (scalar-above n h) (Rules.beyond h)
     go (no a) (no b) (no c) = rw (scalar-high n (omega arith) (omega arith)) (Rules.above {n = n} (omega arith, omega arith))
 
 -- no character but the one that is computed is a code's
-pub shown-only : {n c : ℕ} → Rules.Shown n c → Text.shown n ≡ c
+pub shown-only : {n c : ℕ} → Rules.CharacterOfCode n c → Text.characterOfCode n ≡ c
 shown-only {n} (Rules.below h) = rw (scalar-low n h) refl
 shown-only {n} (Rules.above (l, h)) = rw (scalar-high n l h) refl
 shown-only {n} (Rules.surrogate (l, h)) = rw (scalar-between n l h) refl
@@ -199,21 +199,21 @@ two-told s = go (Text.fourAt s 0) refl
         let bh = ltb-true (Text.fourOf s 4) 57344 d in
         let f : Text.fourOf s 0 ≡ 55296 + (Text.fourOf s 0 - 55296) = omega arith in
         let g : Text.fourOf s 4 ≡ 56320 + (Text.fourOf s 4 - 56320) = omega arith in
-        Rules.pair (subst (Rules.Four s) f (four-is s p)) (omega arith) (subst (Rules.Four (drop 4 s)) g (second-is s q)) (omega arith)
+        Rules.pair (subst (Rules.FourHex s) f (four-is s p)) (omega arith) (subst (Rules.FourHex (drop 4 s)) g (second-is s q)) (omega arith)
     both-are false e p h q =
         let (a, b) = both (leb 55296 (Text.fourOf s 0)) (ltb (Text.fourOf s 0) 56320) h in
         let ah = ltb-true (Text.fourOf s 0) 56320 b in
         Rules.unpaired (four-is s p) (leb-true 55296 (Text.fourOf s 0) a, omega arith) (second-is s q) (λ (l, h). differ (Text.low (Text.fourOf s 4)) (half 56320 57344 (Text.fourOf s 4) l (omega arith)) e)
 
-    second : (t : Bool) → Text.fourAt s 4 ≡ t → Text.fourAt s 0 ≡ true → Text.high (Text.fourOf s 0) ≡ true → Told 4 s (pick t (Text.char (Text.joined (Text.fourOf s 0) (Text.fourOf s 4)) 8) Text.wrong)
+    second : (t : Bool) → Text.fourAt s 4 ≡ t → Text.fourAt s 0 ≡ true → Text.high (Text.fourOf s 0) ≡ true → Told 4 s (pick t (Text.char (Text.surrogatesJoined (Text.fourOf s 0) (Text.fourOf s 4)) 8) Text.wrong)
     second true q p h = both-are (Text.low (Text.fourOf s 4)) refl p h q
     second false q p h = tt
 
-    first : (t : Bool) → Text.high (Text.fourOf s 0) ≡ t → Text.fourAt s 0 ≡ true → Told 4 s (pick t (Text.pairOf s) (Text.char (Text.shown (Text.fourOf s 0)) 4))
+    first : (t : Bool) → Text.high (Text.fourOf s 0) ≡ t → Text.fourAt s 0 ≡ true → Told 4 s (pick t (Text.pairOf s) (Text.char (Text.characterOfCode (Text.fourOf s 0)) 4))
     first true h p = second (Text.fourAt s 4) refl p h
     first false h p = Rules.single (four-is s p) (λ (a, b). differ (Text.high (Text.fourOf s 0)) (half 55296 56320 (Text.fourOf s 0) a (omega arith)) h) (shown-is (Text.fourOf s 0))
 
-    go : (t : Bool) → Text.fourAt s 0 ≡ t → Told 4 s (pick t (pick (Text.high (Text.fourOf s 0)) (Text.pairOf s) (Text.char (Text.shown (Text.fourOf s 0)) 4)) Text.wrong)
+    go : (t : Bool) → Text.fourAt s 0 ≡ t → Told 4 s (pick t (pick (Text.high (Text.fourOf s 0)) (Text.pairOf s) (Text.char (Text.characterOfCode (Text.fourOf s 0)) 4)) Text.wrong)
     go true p = first (Text.high (Text.fourOf s 0)) refl p
     go false p = tt
 
@@ -222,19 +222,19 @@ four-told : (s : List ℕ) → Told 8 s (Text.groupFour s)
 unfolding Text.groupFour
 four-told s = go (Text.fourAt s 0 && Text.fourAt s 4) refl
   where
-    go : (t : Bool) → Text.fourAt s 0 && Text.fourAt s 4 ≡ t → Told 8 s (pick t (Text.char (Text.shown (Text.fourOf s 0 * 65536 + Text.fourOf s 4)) 8) Text.wrong)
+    go : (t : Bool) → Text.fourAt s 0 && Text.fourAt s 4 ≡ t → Told 8 s (pick t (Text.char (Text.characterOfCode (Text.fourOf s 0 * 65536 + Text.fourOf s 4)) 8) Text.wrong)
     go true e =
         let (p, q) = both (Text.fourAt s 0) (Text.fourAt s 4) e in
         Rules.eight (four-is s p) (second-is s q) (shown-is (Text.fourOf s 0 * 65536 + Text.fourOf s 4))
     go false e = tt
 
 -- a group as computed, of four digits or of eight, is as `Told` says
-told : {d w : ℕ} (s : List ℕ) → Rules.Named d w → Told w s (Text.groupOf w s)
+told : {d w : ℕ} (s : List ℕ) → Rules.GroupWidth d w → Told w s (Text.groupOf w s)
 told s Rules.two = two-told s
 told s Rules.four = four-told s
 
 -- a group as computed is a good one by the rule
-pub good-is : {d w : ℕ} (s : List ℕ) (c k : ℕ) → Rules.Named d w → Text.groupOf w s ≡ Text.char c k → Rules.GoodGroup w s c k
+pub good-is : {d w : ℕ} (s : List ℕ) (c k : ℕ) → Rules.GroupWidth d w → Text.groupOf w s ≡ Text.char c k → Rules.GoodGroup w s c k
 good-is {w = w} s c k n e = subst (Told w s) e (told s n)
 
 -- from a group that is a character and is none anything follows
@@ -242,7 +242,7 @@ apart : {A : Type 0} (c k : ℕ) → Text.char c k ≡ Text.wrong → A
 apart c k e = let z : _≡_ {A = ℕ} 0 1 = cc in absurd (omega arith)
 
 -- where no good group stands by the rule, none is computed
-pub good-none : {d w : ℕ} (s : List ℕ) → Rules.Named d w → ((c k : ℕ) → Rules.GoodGroup w s c k → ⊥) → Text.groupOf w s ≡ Text.wrong
+pub good-none : {d w : ℕ} (s : List ℕ) → Rules.GroupWidth d w → ((c k : ℕ) → Rules.GoodGroup w s c k → ⊥) → Text.groupOf w s ≡ Text.wrong
 good-none {w = w} s n h = go (Text.groupOf w s) refl
   where
     go : (g : Text.Group) → Text.groupOf w s ≡ g → g ≡ Text.wrong
@@ -250,7 +250,7 @@ good-none {w = w} s n h = go (Text.groupOf w s) refl
     go Text.wrong e = refl
 
 -- four hex digits are bytes that are there, and no backslash stands first
-four-starts : {s : List ℕ} {n : ℕ} → Rules.Four s n → (4 ≤ length s) × (Text.is s 0 92 ≡ false)
+four-starts : {s : List ℕ} {n : ℕ} → Rules.FourHex s n → (4 ≤ length s) × (Text.is s 0 92 ≡ false)
 four-starts {s} f =
     let (p, q) = four-only f in
     (four-within s 0 p, go (Text.is s 0 92) refl p)
@@ -281,7 +281,7 @@ unfolding Text.groupTwo
 high-wrong s n p q h e = rw (p, q, h, e) refl
 
 -- "a high one not followed by four hex digits is a bad group"
-pub high-alone : {s : List ℕ} {n : ℕ} → Rules.Four s n → Rules.High n → ((m : ℕ) → Rules.Four (drop 4 s) m → ⊥) → Rules.BadGroup 4 s
+pub high-alone : {s : List ℕ} {n : ℕ} → Rules.FourHex s n → Rules.High n → ((m : ℕ) → Rules.FourHex (drop 4 s) m → ⊥) → Rules.BadGroup 4 s
 high-alone {s} {n} f (l, h) g =
     let (p, q) = four-only f in
     let (i, j) = four-starts f in
@@ -305,7 +305,7 @@ here-two : (s : List ℕ) (a b : ℕ) → a < 256 → b < 256 → Text.is s 0 a 
 here-two s a b h i p q = here s 0 a h p ∙ ap (λ (r : List ℕ). a ∷ r) (here s 1 b i q)
 
 -- the groups end at a backslash
-slash-ends : (w : ℕ) (r : List ℕ) → ends w (92 ∷ r) ≡ true
+slash-ends : (w : ℕ) (r : List ℕ) → groupsEndHere w (92 ∷ r) ≡ true
 slash-ends w r = go (ltb (length (92 ∷ r)) w)
   where
     go : (t : Bool) → t || true ≡ true
@@ -313,7 +313,7 @@ slash-ends w r = go (ltb (length (92 ∷ r)) w)
     go false = refl
 
 -- the groups do not end where a group may start
-group-starts : (w : ℕ) (s : List ℕ) → w ≤ length s → Text.is s 0 92 ≡ false → ends w s ≡ false
+group-starts : (w : ℕ) (s : List ℕ) → w ≤ length s → Text.is s 0 92 ≡ false → groupsEndHere w s ≡ false
 group-starts w s h e = rw (le-ltb (length s) w h, e) refl
 
 -- where no `\X0` stands, the test for one behind the backslash fails
@@ -325,24 +325,24 @@ unclosed r h = go (Text.is r 0 88 && Text.is r 1 48) refl
     go false e = refl
 
 -- where no byte is left the groups end
-groups-none : (w : ℕ) → Text.groupsFrom w 0 [] ≡ Text.ended [] 0
+groups-none : (w : ℕ) → Text.groupsFrom w 0 [] ≡ Text.groupsEnded [] 0
 unfolding Text.groupsFrom
 groups-none w = refl
 
 -- groups to their end by the rule are computed so
-pub groups-only : {w : ℕ} {s cs : List ℕ} {n : ℕ} → Rules.Groups w s cs n → Text.groupsFrom w 0 s ≡ Text.ended cs n
+pub groups-only : {w : ℕ} {s cs : List ℕ} {n : ℕ} → Rules.Groups w s cs n → Text.groupsFrom w 0 s ≡ Text.groupsEnded cs n
 groups-only {w} Rules.at-end = groups-none w
 groups-only {w} (Rules.closed {b = b} {r = r}) =
     let e : min 4 (length (92 ∷ 88 ∷ 48 ∷ b ∷ r)) ≡ 4 = omega arith in
-    groups-stop w (92 ∷ 88 ∷ 48 ∷ b ∷ r) (omega arith) (slash-ends w (88 ∷ 48 ∷ b ∷ r)) ∙ ap (Text.ended []) e
+    groups-stop w (92 ∷ 88 ∷ 48 ∷ b ∷ r) (omega arith) (slash-ends w (88 ∷ 48 ∷ b ∷ r)) ∙ ap (Text.groupsEnded []) e
 groups-only {w} Rules.closed-last = groups-stop w (92 ∷ 88 ∷ 48 ∷ []) (omega arith) (slash-ends w (88 ∷ 48 ∷ []))
 groups-only {w} (Rules.another {r = r} h) =
-    let e : Text.closing (92 ∷ r) ≡ 0 = rw (unclosed r h) refl in
-    groups-stop w (92 ∷ r) (omega arith) (slash-ends w r) ∙ ap (Text.ended []) e
+    let e : Text.closingTaken (92 ∷ r) ≡ 0 = rw (unclosed r h) refl in
+    groups-stop w (92 ∷ r) (omega arith) (slash-ends w r) ∙ ap (Text.groupsEnded []) e
 groups-only {w} (Rules.cut {b = b} {r = r} n h) =
-    let e : Text.closing (b ∷ r) ≡ 0 = rw (ne-eqb b 92 n) refl in
-    let f : ends w (b ∷ r) ≡ true = rw (lt-ltb (length (b ∷ r)) w h) refl in
-    groups-stop w (b ∷ r) (omega arith) f ∙ ap (Text.ended []) e
+    let e : Text.closingTaken (b ∷ r) ≡ 0 = rw (ne-eqb b 92 n) refl in
+    let f : groupsEndHere w (b ∷ r) ≡ true = rw (lt-ltb (length (b ∷ r)) w h) refl in
+    groups-stop w (b ∷ r) (omega arith) f ∙ ap (Text.groupsEnded []) e
 groups-only {w} {s} (Rules.next {cs = cs} {c = c} {k = k} {n = n} g t) =
     let (l, b, p, q) = good-starts g in
     groups-char w s c k (omega arith) (group-starts w s l b) (good-only g) q ∙ ap (Text.withChar c k) (groups-only t)
@@ -356,10 +356,10 @@ unslashed s h = go (Text.is s 0 92) refl
     go false e = refl
 
 -- groups up to a bad one by the rule are computed so
-pub broken-only : {d w : ℕ} {s cs : List ℕ} → Rules.Named d w → Rules.Broken w s cs → Text.groupsFrom w 0 s ≡ Text.broken cs
+pub broken-only : {d w : ℕ} {s cs : List ℕ} → Rules.GroupWidth d w → Rules.Broken w s cs → Text.groupsFrom w 0 s ≡ Text.groupsBroken cs
 broken-only {w = w} {s = s} n (Rules.bad b) = groups-wrong w s (omega (arith, b .whole, wide n)) (group-starts w s (b .whole) (unslashed s (b .unmarked))) (good-none s n (b .not-good))
   where
-    wide : {d v : ℕ} → Rules.Named d v → 4 ≤ v
+    wide : {d v : ℕ} → Rules.GroupWidth d v → 4 ≤ v
     wide Rules.two = omega arith
     wide Rules.four = omega arith
 broken-only {w = w} {s = s} n (Rules.good {cs = cs} {c = c} {k = k} g t) =
@@ -367,17 +367,17 @@ broken-only {w = w} {s = s} n (Rules.good {cs = cs} {c = c} {k = k} g t) =
     groups-char w s c k (omega arith) (group-starts w s l b) (good-only g) q ∙ ap (Text.withChar c k) (broken-only n t)
 
 -- what the groups as computed are by the rules: groups to their end, or groups up to a bad one
-abbrev Run : ℕ → List ℕ → Text.Groups → Type 0
-Run w s (Text.ended cs n) = Rules.Groups w s cs n
-Run w s (Text.broken cs) = Rules.Broken w s cs
+abbrev Run : ℕ → List ℕ → Text.GroupsRead → Type 0
+Run w s (Text.groupsEnded cs n) = Rules.Groups w s cs n
+Run w s (Text.groupsBroken cs) = Rules.Broken w s cs
 
 -- one group more in front of groups that are as `Run` says: so are all of them
-run-next : (w : ℕ) (s : List ℕ) (c k : ℕ) (g : Text.Groups) → Rules.GoodGroup w s c k → Run w (drop k s) g → Run w s (Text.withChar c k g)
-run-next w s c k (Text.ended cs n) h t = Rules.next h t
-run-next w s c k (Text.broken cs) h t = Rules.good h t
+run-next : (w : ℕ) (s : List ℕ) (c k : ℕ) (g : Text.GroupsRead) → Rules.GoodGroup w s c k → Run w (drop k s) g → Run w s (Text.withChar c k g)
+run-next w s c k (Text.groupsEnded cs n) h t = Rules.next h t
+run-next w s c k (Text.groupsBroken cs) h t = Rules.good h t
 
 -- the groups end at a backslash, and a `\X0` there is taken
-run-slash : (w : ℕ) (r : List ℕ) → Rules.Groups w (92 ∷ r) [] (Text.closing (92 ∷ r))
+run-slash : (w : ℕ) (r : List ℕ) → Rules.Groups w (92 ∷ r) [] (Text.closingTaken (92 ∷ r))
 run-slash w r = go (Text.is r 0 88 && Text.is r 1 48) refl
   where
     last : (q : List ℕ) → Rules.Groups w (92 ∷ 88 ∷ 48 ∷ q) [] (min 4 (length (92 ∷ 88 ∷ 48 ∷ q)))
@@ -392,25 +392,25 @@ run-slash w r = go (Text.is r 0 88 && Text.is r 1 48) refl
     go false e = Rules.another (λ q f. differ (Text.is r 0 88 && Text.is r 1 48) (ap (λ (z : List ℕ). Text.is z 0 88 && Text.is z 1 48) f) e)
 
 -- where the groups end as computed, they do by the rule
-run-stop : (w b : ℕ) (r : List ℕ) → ends w (b ∷ r) ≡ true → Rules.Groups w (b ∷ r) [] (Text.closing (b ∷ r))
+run-stop : (w b : ℕ) (r : List ℕ) → groupsEndHere w (b ∷ r) ≡ true → Rules.Groups w (b ∷ r) [] (Text.closingTaken (b ∷ r))
 run-stop w b r e = go (eqb b 92) refl
   where
     short : (t u : Bool) → t || u ≡ true → u ≡ false → t ≡ true
     short true u p q = refl
     short false u p q = differ u p q
 
-    go : (t : Bool) → eqb b 92 ≡ t → Rules.Groups w (b ∷ r) [] (Text.closing (b ∷ r))
-    go true p = subst (λ (z : ℕ). Rules.Groups w (z ∷ r) [] (Text.closing (z ∷ r))) (sym (eqb-true b 92 p)) (run-slash w r)
+    go : (t : Bool) → eqb b 92 ≡ t → Rules.Groups w (b ∷ r) [] (Text.closingTaken (b ∷ r))
+    go true p = subst (λ (z : ℕ). Rules.Groups w (z ∷ r) [] (Text.closingTaken (z ∷ r))) (sym (eqb-true b 92 p)) (run-slash w r)
     go false p =
-        let f : 0 ≡ Text.closing (b ∷ r) = rw p refl in
+        let f : 0 ≡ Text.closingTaken (b ∷ r) = rw p refl in
         subst (Rules.Groups w (b ∷ r) []) f (Rules.cut (eqb-false b 92 p) (ltb-true (length (b ∷ r)) w (short (ltb (length (b ∷ r)) w) (eqb b 92) e p)))
 
 -- the groups as computed are as `Run` says, where those of shorter lists are
-run-step : {d w : ℕ} (s : List ℕ) → Rules.Named d w → ((t : List ℕ) → length t < length s → Run w t (Text.groupsFrom w 0 t)) → Run w s (Text.groupsFrom w 0 s)
+run-step : {d w : ℕ} (s : List ℕ) → Rules.GroupWidth d w → ((t : List ℕ) → length t < length s → Run w t (Text.groupsFrom w 0 t)) → Run w s (Text.groupsFrom w 0 s)
 run-step {w = w} [] n ih = subst (Run w []) (sym (groups-none w)) Rules.at-end
-run-step {w = w} (b ∷ r) n ih = go (ends w (b ∷ r)) refl
+run-step {w = w} (b ∷ r) n ih = go (groupsEndHere w (b ∷ r)) refl
   where
-    group : (g : Text.Group) → Text.groupOf w (b ∷ r) ≡ g → ends w (b ∷ r) ≡ false → Run w (b ∷ r) (Text.groupsFrom w 0 (b ∷ r))
+    group : (g : Text.Group) → Text.groupOf w (b ∷ r) ≡ g → groupsEndHere w (b ∷ r) ≡ false → Run w (b ∷ r) (Text.groupsFrom w 0 (b ∷ r))
     group (Text.char c k) f e =
         let h = good-is (b ∷ r) c k n f in
         let (l, m, p, q) = good-starts h in
@@ -425,12 +425,12 @@ run-step {w = w} (b ∷ r) n ih = go (ends w (b ∷ r)) refl
         } in
         subst (Run w (b ∷ r)) (sym (groups-wrong w (b ∷ r) (omega arith) e f)) (Rules.bad u)
 
-    go : (t : Bool) → ends w (b ∷ r) ≡ t → Run w (b ∷ r) (Text.groupsFrom w 0 (b ∷ r))
+    go : (t : Bool) → groupsEndHere w (b ∷ r) ≡ t → Run w (b ∷ r) (Text.groupsFrom w 0 (b ∷ r))
     go true e = subst (Run w (b ∷ r)) (sym (groups-stop w (b ∷ r) (omega arith) e)) (run-stop w b r e)
     go false e = group (Text.groupOf w (b ∷ r)) refl e
 
 -- the groups of a directive as computed are as `Run` says
-run-is : {d w : ℕ} (s : List ℕ) → Rules.Named d w → Run w s (Text.groupsFrom w 0 s)
+run-is : {d w : ℕ} (s : List ℕ) → Rules.GroupWidth d w → Run w s (Text.groupsFrom w 0 s)
 run-is {d} {w} s n = go (length s) s (omega arith)
   where
     go : (m : ℕ) (s : List ℕ) → length s ≤ m → Run w s (Text.groupsFrom w 0 s)
@@ -438,11 +438,11 @@ run-is {d} {w} s n = go (length s) s (omega arith)
     go (suc m) s h = run-step s n (λ t l. go m t (omega arith))
 
 -- groups that are computed to end do by the rule
-pub groups-is : {d w : ℕ} (s cs : List ℕ) (n : ℕ) → Rules.Named d w → Text.groupsFrom w 0 s ≡ Text.ended cs n → Rules.Groups w s cs n
+pub groups-is : {d w : ℕ} (s cs : List ℕ) (n : ℕ) → Rules.GroupWidth d w → Text.groupsFrom w 0 s ≡ Text.groupsEnded cs n → Rules.Groups w s cs n
 groups-is {w = w} s cs n m e = subst (Run w s) e (run-is s m)
 
 -- groups that are computed to be broken off are by the rule
-pub broken-is : {d w : ℕ} (s cs : List ℕ) → Rules.Named d w → Text.groupsFrom w 0 s ≡ Text.broken cs → Rules.Broken w s cs
+pub broken-is : {d w : ℕ} (s cs : List ℕ) → Rules.GroupWidth d w → Text.groupsFrom w 0 s ≡ Text.groupsBroken cs → Rules.Broken w s cs
 broken-is {w = w} s cs m e = subst (Run w s) e (run-is s m)
 
 -- ---- directives
@@ -451,15 +451,15 @@ abbrev Directs : ℕ → List ℕ → Text.Piece → ℕ → Type 0
 Directs g s p h = Rules.Directive g s (p .chars) (p .used) h
 
 -- the piece that is computed of a directive with groups is the one of the rule
-extended-is : {d w : ℕ} (g : ℕ) (r : List ℕ) → Rules.Named d w → Directs g (92 ∷ 88 ∷ d ∷ 92 ∷ r) (Text.extended (Text.groupsFrom w 0 r)) g
+extended-is : {d w : ℕ} (g : ℕ) (r : List ℕ) → Rules.GroupWidth d w → Directs g (92 ∷ 88 ∷ d ∷ 92 ∷ r) (Text.extended (Text.groupsFrom w 0 r)) g
 extended-is {d} {w} g r n = go (Text.groupsFrom w 0 r) (run-is r n)
   where
-    go : (e : Text.Groups) → Run w r e → Directs g (92 ∷ 88 ∷ d ∷ 92 ∷ r) (Text.extended e) g
-    go (Text.ended cs k) h = Rules.long n h
-    go (Text.broken cs) h = Rules.long-bad n h
+    go : (e : Text.GroupsRead) → Run w r e → Directs g (92 ∷ 88 ∷ d ∷ 92 ∷ r) (Text.extended e) g
+    go (Text.groupsEnded cs k) h = Rules.long n h
+    go (Text.groupsBroken cs) h = Rules.long-bad n h
 
 -- the directives with names of three bytes are computed by the digit in them
-named-is : {d w : ℕ} (g : ℕ) (r : List ℕ) → Rules.Named d w → Text.pieceOf g (92 ∷ 88 ∷ d ∷ 92 ∷ r) ≡ Text.extended (Text.groupsFrom w 0 r)
+named-is : {d w : ℕ} (g : ℕ) (r : List ℕ) → Rules.GroupWidth d w → Text.pieceOf g (92 ∷ 88 ∷ d ∷ 92 ∷ r) ≡ Text.extended (Text.groupsFrom w 0 r)
 unfolding Text.pieceOf Text.directiveOf
 named-is g r Rules.two = refl
 named-is g r Rules.four = refl
@@ -549,7 +549,7 @@ module _ (g : ℕ) (s : List ℕ) (o : Text.is s 0 92 ≡ true) where
       subst (λ (z : List ℕ). Directs g z (Text.gives (Text.twoOf s 3 ∷ []) 5) g) (sym f) (Rules.octet (hex-is (byteAt s 3) u) (hex-is (byteAt s 4) v))
 
   -- the test for `\X2\` or `\X4\` is its rule
-  long-is : {d w : ℕ} → Rules.Named d w → d < 256 → Text.is s 1 88 && (Text.is s 2 d && Text.is s 3 92) ≡ true → Directs g s (Text.extended (Text.groupsFrom w 0 (drop 4 s))) g
+  long-is : {d w : ℕ} → Rules.GroupWidth d w → d < 256 → Text.is s 1 88 && (Text.is s 2 d && Text.is s 3 92) ≡ true → Directs g s (Text.extended (Text.groupsFrom w 0 (drop 4 s))) g
   long-is {d} {w} n h e =
       let (p, x) = both (Text.is s 1 88) (Text.is s 2 d && Text.is s 3 92) e in
       let (q, y) = both (Text.is s 2 d) (Text.is s 3 92) x in
@@ -578,7 +578,7 @@ never : _≡_ {A = Bool} true false → ⊥
 never e = differ true refl e
 
 -- a directive with groups passes its test
-named-none : {d w : ℕ} (r : List ℕ) → Rules.Named d w → Undirected (92 ∷ 88 ∷ d ∷ 92 ∷ r) → ⊥
+named-none : {d w : ℕ} (r : List ℕ) → Rules.GroupWidth d w → Undirected (92 ∷ 88 ∷ d ∷ 92 ∷ r) → ⊥
 named-none r Rules.two u = never (u .no-two)
 named-none r Rules.four u = never (u .no-four)
 
@@ -614,7 +614,7 @@ undirected-is g s o n = record {
 -- ---- pieces
 -- the rules give this piece at the start of s, and leave the page that is in force
 abbrev Says : ℕ → List ℕ → Text.Piece → Type 0
-Says g s p = Rules.Reads g s (p .chars) (p .used) g
+Says g s p = Rules.PieceReads g s (p .chars) (p .used) g
 
 -- of two pieces that a test picks from, each is given by the rules, so the one picked is
 pick-says : (g : ℕ) (s : List ℕ) (t : Bool) (p q : Text.Piece) → (t ≡ true → Says g s p) → (t ≡ false → Says g s q) → Says g s (pick t p q)
@@ -661,12 +661,12 @@ raw-says g b r h = go (leadOf (b ∷ r)) refl
         omega arith
     high c k e (no l) = omega arith
 
-    go : (l : Lead) → leadOf (b ∷ r) ≡ l → Says g (b ∷ r) (Text.rawOf b l)
+    go : (l : LeadCharacter) → leadOf (b ∷ r) ≡ l → Says g (b ∷ r) (Text.rawOf b l)
     go (valid c k) e =
         let (s, t, n) = lead-is (b ∷ r) c k e in
-        let q : Rules.Reads g (encode c ++ drop k (b ∷ r)) (c ∷ []) (length (encode c)) g = Rules.sequence (encode c) (drop k (b ∷ r)) (table-is c s) (high c k t (decLt c 128)) in
-        let u : Rules.Reads g (b ∷ r) (c ∷ []) (length (encode c)) g = subst (λ (z : List ℕ). Rules.Reads g z (c ∷ []) (length (encode c)) g) (from c k t) q in
-        subst (λ (z : ℕ). Rules.Reads g (b ∷ r) (c ∷ []) z g) (sym n) u
+        let q : Rules.PieceReads g (encode c ++ drop k (b ∷ r)) (c ∷ []) (length (encode c)) g = Rules.sequence (encode c) (drop k (b ∷ r)) (table-is c s) (high c k t (decLt c 128)) in
+        let u : Rules.PieceReads g (b ∷ r) (c ∷ []) (length (encode c)) g = subst (λ (z : List ℕ). Rules.PieceReads g z (c ∷ []) (length (encode c)) g) (from c k t) q in
+        subst (λ (z : ℕ). Rules.PieceReads g (b ∷ r) (c ∷ []) z g) (sym n) u
     go invalid e = Rules.latin h unled
       where
         unled : (c : ℕ) (bs q : List ℕ) → Encoded c bs → b ∷ r ≡ bs ++ q → ⊥
@@ -696,7 +696,7 @@ piece-says g (b ∷ r) h m =
 
 -- the rules give what is computed at the start of s, and leave the page that is computed
 abbrev Told-of : ℕ → List ℕ → Type 0
-Told-of g s = Rules.Reads g s (Text.pieceOf g s .chars) (Text.pieceOf g s .used) (Text.pageAfter g s)
+Told-of g s = Rules.PieceReads g s (Text.pieceOf g s .chars) (Text.pieceOf g s .used) (Text.pageAfter g s)
 
 -- where a `\P?\` stands, the rules give what is computed and leave the page that is computed
 page-says : (g b : ℕ) (r : List ℕ) → Told-of g (92 ∷ 80 ∷ b ∷ 92 ∷ r)
@@ -704,14 +704,14 @@ unfolding Text.pieceOf Text.directiveOf Text.pageAfter
 page-says g b r = Rules.directive (Rules.page (Page.page-is b))
 
 -- what is computed at the start of a string's bytes is what the rules give, on every page
-pub piece-is : (g : ℕ) (s : List ℕ) → 0 < length s → Rules.Reads g s (Text.pieceOf g s .chars) (Text.pieceOf g s .used) (Text.pageAfter g s)
+pub piece-is : (g : ℕ) (s : List ℕ) → 0 < length s → Rules.PieceReads g s (Text.pieceOf g s .chars) (Text.pieceOf g s .used) (Text.pageAfter g s)
 piece-is g s h = go (Text.is s 0 92 && (Text.is s 1 80 && Text.is s 3 92)) refl
   where
     go : (t : Bool) → Text.is s 0 92 && (Text.is s 1 80 && Text.is s 3 92) ≡ t → Told-of g s
     go true e =
         let (o, p) = both (Text.is s 0 92) (Text.is s 1 80 && Text.is s 3 92) e in
         subst (Told-of g) (sym (page-bytes g s o p)) (page-says g (byteAt s 2) (drop 4 s))
-    go false e = subst (Rules.Reads g s (Text.pieceOf g s .chars) (Text.pieceOf g s .used)) (sym (page-stays g s e)) (piece-says g s h e)
+    go false e = subst (Rules.PieceReads g s (Text.pieceOf g s .chars) (Text.pieceOf g s .used)) (sym (page-stays g s e)) (piece-says g s h e)
 
 -- the two parts of a piece that is known
 gives-parts : (p : Text.Piece) (cs : List ℕ) (k : ℕ) → p ≡ Text.gives cs k → (cs ≡ p .chars) × (k ≡ p .used)
@@ -726,7 +726,7 @@ raw-only g s h = rw (ne-eqb (byteAt s 0) 92 (λ e. omega arith), ne-eqb (byteAt 
 led-none : (s : List ℕ) → ((c : ℕ) (bs q : List ℕ) → Encoded c bs → s ≡ bs ++ q → ⊥) → leadOf s ≡ invalid
 led-none s n = go (leadOf s) refl
   where
-    go : (l : Lead) → leadOf s ≡ l → l ≡ invalid
+    go : (l : LeadCharacter) → leadOf s ≡ l → l ≡ invalid
     go (valid c k) e =
         let (t, x, m) = lead-is s c k e in
         absurd (n c (encode c) (drop k s) (table-is c t) (sym (ap (λ (z : List ℕ). z ++ drop k s) (sym x) ∙ take-append-drop k s)))
@@ -753,39 +753,39 @@ unfolding Text.pieceOf
 quote-only g r = refl
 
 -- the piece that the rules give is computed
-pub reads-only : {g h k : ℕ} {s cs : List ℕ} → Rules.Reads g s cs k h → Text.pieceOf g s ≡ Text.gives cs k
-reads-only {g} (Rules.quote {r = r}) = quote-only g r
-reads-only (Rules.directive d) = directive-only d
-reads-only {g} (Rules.unknown {r = r} n) = unknown-only g r n
-reads-only {g} (Rules.itself {b = b} {r = r} h n q) = itself-only g b r h n q
-reads-only {g} (Rules.sequence {c = c} bs r t h) =
+pub piece-reads-only : {g h k : ℕ} {s cs : List ℕ} → Rules.PieceReads g s cs k h → Text.pieceOf g s ≡ Text.gives cs k
+piece-reads-only {g} (Rules.quote {r = r}) = quote-only g r
+piece-reads-only (Rules.directive d) = directive-only d
+piece-reads-only {g} (Rules.unknown {r = r} n) = unknown-only g r n
+piece-reads-only {g} (Rules.itself {b = b} {r = r} h n q) = itself-only g b r h n q
+piece-reads-only {g} (Rules.sequence {c = c} bs r t h) =
     let (s, x) = table-only t in
     let l : leadOf (bs ++ r) ≡ valid c (length bs) = ap (λ (z : List ℕ). leadOf (z ++ r)) x ∙ encode-leads c r s ∙ ap (λ (z : List ℕ). valid c (length z)) (sym x) in
     raw-only g (bs ++ r) (encoded-high r t h) ∙ ap (Text.rawOf (byteAt (bs ++ r) 0)) l
-reads-only {g} (Rules.latin {b = b} {r = r} h n) = raw-only g (b ∷ r) h ∙ ap (Text.rawOf b) (led-none (b ∷ r) n)
+piece-reads-only {g} (Rules.latin {b = b} {r = r} h n) = raw-only g (b ∷ r) h ∙ ap (Text.rawOf b) (led-none (b ∷ r) n)
 
 -- no page is named at an unknown directive
 unknown-stays : (g : ℕ) (r : List ℕ) → Undirected (92 ∷ r) → Text.pageAfter g (92 ∷ r) ≡ g
 unknown-stays g r u = page-stays g (92 ∷ r) (u .no-page)
 
 -- the page that the rules leave is computed
-pub reads-page : {g h k : ℕ} {s cs : List ℕ} → Rules.Reads g s cs k h → h ≡ Text.pageAfter g s
-reads-page {g} (Rules.quote {r = r}) = sym (plain-stays g (39 ∷ 39 ∷ r) (λ e. omega arith))
-reads-page (Rules.directive d) = directive-page d
-reads-page {g} (Rules.unknown {r = r} n) = sym (unknown-stays g r (undirected-is g (92 ∷ r) refl n))
-reads-page {g} (Rules.itself {b = b} {r = r} h n q) = sym (plain-stays g (b ∷ r) n)
-reads-page {g} (Rules.sequence bs r t h) = let k = encoded-high r t h in sym (plain-stays g (bs ++ r) (λ e. omega arith))
-reads-page {g} (Rules.latin {b = b} {r = r} h n) = sym (plain-stays g (b ∷ r) (λ e. omega arith))
+pub piece-reads-page : {g h k : ℕ} {s cs : List ℕ} → Rules.PieceReads g s cs k h → h ≡ Text.pageAfter g s
+piece-reads-page {g} (Rules.quote {r = r}) = sym (plain-stays g (39 ∷ 39 ∷ r) (λ e. omega arith))
+piece-reads-page (Rules.directive d) = directive-page d
+piece-reads-page {g} (Rules.unknown {r = r} n) = sym (unknown-stays g r (undirected-is g (92 ∷ r) refl n))
+piece-reads-page {g} (Rules.itself {b = b} {r = r} h n q) = sym (plain-stays g (b ∷ r) n)
+piece-reads-page {g} (Rules.sequence bs r t h) = let k = encoded-high r t h in sym (plain-stays g (bs ++ r) (λ e. omega arith))
+piece-reads-page {g} (Rules.latin {b = b} {r = r} h n) = sym (plain-stays g (b ∷ r) (λ e. omega arith))
 
 -- the rules give no piece but the one that is computed, and leave no page but that one
-pub piece-only : {g h k : ℕ} {s cs : List ℕ} → Rules.Reads g s cs k h → (cs ≡ Text.pieceOf g s .chars) × (k ≡ Text.pieceOf g s .used) × (h ≡ Text.pageAfter g s)
-piece-only {g} {h} {k} {s} {cs} r = let (p, q) = gives-parts (Text.pieceOf g s) cs k (reads-only r) in (p, q, reads-page r)
+pub piece-only : {g h k : ℕ} {s cs : List ℕ} → Rules.PieceReads g s cs k h → (cs ≡ Text.pieceOf g s .chars) × (k ≡ Text.pieceOf g s .used) × (h ≡ Text.pageAfter g s)
+piece-only {g} {h} {k} {s} {cs} r = let (p, q) = gives-parts (Text.pieceOf g s) cs k (piece-reads-only r) in (p, q, piece-reads-page r)
 
 -- ---- texts
 -- where a piece stands there is a byte
-pub reads-some : {g h k : ℕ} {s cs : List ℕ} → Rules.Reads g s cs k h → 0 < length s
-reads-some Rules.quote = omega arith
-reads-some (Rules.directive d) = directive-some d
+pub piece-reads-some : {g h k : ℕ} {s cs : List ℕ} → Rules.PieceReads g s cs k h → 0 < length s
+piece-reads-some Rules.quote = omega arith
+piece-reads-some (Rules.directive d) = directive-some d
   where
     directive-some : {g h k : ℕ} {s cs : List ℕ} → Rules.Directive g s cs k h → 0 < length s
     directive-some Rules.backslash = omega arith
@@ -796,16 +796,16 @@ reads-some (Rules.directive d) = directive-some d
     directive-some (Rules.octet x y) = omega arith
     directive-some (Rules.long n g) = omega arith
     directive-some (Rules.long-bad n g) = omega arith
-reads-some (Rules.unknown n) = omega arith
-reads-some (Rules.itself h n q) = omega arith
-reads-some (Rules.sequence bs r t h) = encoded-some r t
+piece-reads-some (Rules.unknown n) = omega arith
+piece-reads-some (Rules.itself h n q) = omega arith
+piece-reads-some (Rules.sequence bs r t h) = encoded-some r t
   where
     encoded-some : {c : ℕ} {bs : List ℕ} (r : List ℕ) → Encoded c bs → 0 < length (bs ++ r)
     encoded-some r (line-one h) = omega arith
     encoded-some r (line-two h e p q) = omega arith
     encoded-some r (line-three h n e p q t) = omega arith
     encoded-some r (line-four h e p q t u) = omega arith
-reads-some (Rules.latin h n) = omega arith
+piece-reads-some (Rules.latin h n) = omega arith
 
 -- no bytes have no characters, on every page
 text-none : (g : ℕ) → Text.textOn g [] ≡ []
@@ -836,7 +836,7 @@ pub text-on-only : {g : ℕ} {s cs : List ℕ} → Rules.TextOn g s cs → cs �
 text-on-only {g} Rules.none = sym (text-none g)
 text-on-only {g} {s} (Rules.more {h = h} {k = k} {cs = cs} {ds = ds} r t) =
     let (p, q, e) = piece-only r in
-    let b = reads-some r in
+    let b = piece-reads-some r in
     let (l, u) = piece-fits g s b in
     ap (λ (z : List ℕ). cs ++ z) (text-on-only t) ∙ ap (λ (z : List ℕ). z ++ Text.textOn h (drop k s)) p ∙ ap (λ (z : ℕ). Text.pieceOf g s .chars ++ Text.textOn z (drop k s)) e ∙ sym (text-goes g s k b q (omega arith))
 

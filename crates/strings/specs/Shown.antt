@@ -13,9 +13,9 @@ use Rattle.common.specs.Pick.{pick}
 use Rattle.common.specs.Tests.{both}
 use Rattle.utf8.specs.Utf8.{byteAt, scalar, leadOf}
 use Rattle.utf8.specs.Encoding.{encodeAll}
-use Rattle.utf8.specs.Answer.{Lead, valid, invalid}
+use Rattle.utf8.specs.Answer.{LeadCharacter, valid, invalid}
 use Rattle.utf8.specs.Laws.{scalar-low}
-use Rattle.utf8.specs.Table.{Valid}
+use Rattle.utf8.specs.Rfc3629.{Valid}
 use Rattle.utf8.specs.Agree.{Scalars, all-valid, lead-is}
 use Rattle.strings.specs.declared.Decoded.{Decoded}
 use Rattle.strings.specs.declared.Decoded.the-variants.{Plain, Written, Short}
@@ -23,8 +23,8 @@ use Rattle.pages.specs.Rules.{pageA}
 use Rattle.pages.specs.Right.{code-scalar}
 use Rattle.strings.specs.Text
 use Rattle.strings.specs.Hex.{two-below}
-use Rattle.strings.specs.Runs.{bytes-plain}
-use Rattle.strings.specs.Answer.{decodedOf, roomAfter, shownOf, text, refused, toldText, answerOf}
+use Rattle.strings.specs.PlainRuns.{bytes-plain}
+use Rattle.strings.specs.Answer.{decodedOf, roomAfter, shownOf, textIs, textRefused, toldText, answerOf}
 
 -- every number of the list is a byte
 abbrev pub Bytes : List ℕ → Type 0
@@ -43,7 +43,7 @@ scalars-append [] ys h k = k
 scalars-append (x ∷ xs) ys (h, t) k = (h, scalars-append xs ys t k)
 
 -- "other surrogates and codes above 10FFFF give U+FFFD": so a code gives a character
-shown-scalar : (c : ℕ) → scalar (Text.shown c) ≡ true
+shown-scalar : (c : ℕ) → scalar (Text.characterOfCode c) ≡ true
 shown-scalar c = go (scalar c) refl
   where
     go : (t : Bool) → scalar c ≡ t → scalar (pick t c 65533) ≡ true
@@ -51,7 +51,7 @@ shown-scalar c = go (scalar c) refl
     go false e = refl
 
 -- "a high and a low surrogate join": they give a character
-joined-scalar : (h l : ℕ) → Text.high h ≡ true → scalar (Text.joined h l) ≡ true
+joined-scalar : (h l : ℕ) → Text.high h ≡ true → scalar (Text.surrogatesJoined h l) ≡ true
 joined-scalar h l e = go (Text.low l) refl
   where
     go : (t : Bool) → Text.low l ≡ t → scalar (pick t (65536 + (h - 55296) * 1024 + (l - 56320)) 65533) ≡ true
@@ -74,16 +74,16 @@ group-scalar : (w : ℕ) (s : List ℕ) → GroupScalar (Text.groupOf w s)
 unfolding Text.groupTwo Text.groupFour
 group-scalar w s = go (eqb w 4)
   where
-    pair : (u v : Bool) → Text.high (Text.fourOf s 0) ≡ u → GroupScalar (pick u (pick v (Text.char (Text.joined (Text.fourOf s 0) (Text.fourOf s 4)) 8) Text.wrong) (Text.char (Text.shown (Text.fourOf s 0)) 4))
+    pair : (u v : Bool) → Text.high (Text.fourOf s 0) ≡ u → GroupScalar (pick u (pick v (Text.char (Text.surrogatesJoined (Text.fourOf s 0) (Text.fourOf s 4)) 8) Text.wrong) (Text.char (Text.characterOfCode (Text.fourOf s 0)) 4))
     pair true true e = joined-scalar (Text.fourOf s 0) (Text.fourOf s 4) e
     pair true false e = tt
     pair false v e = shown-scalar (Text.fourOf s 0)
 
-    two : (t : Bool) → GroupScalar (pick t (pick (Text.high (Text.fourOf s 0)) (Text.pairOf s) (Text.char (Text.shown (Text.fourOf s 0)) 4)) Text.wrong)
+    two : (t : Bool) → GroupScalar (pick t (pick (Text.high (Text.fourOf s 0)) (Text.pairOf s) (Text.char (Text.characterOfCode (Text.fourOf s 0)) 4)) Text.wrong)
     two true = pair (Text.high (Text.fourOf s 0)) (Text.fourAt s 4) refl
     two false = tt
 
-    four : (t : Bool) → GroupScalar (pick t (Text.char (Text.shown (Text.fourOf s 0 * 65536 + Text.fourOf s 4)) 8) Text.wrong)
+    four : (t : Bool) → GroupScalar (pick t (Text.char (Text.characterOfCode (Text.fourOf s 0 * 65536 + Text.fourOf s 4)) 8) Text.wrong)
     four true = shown-scalar (Text.fourOf s 0 * 65536 + Text.fourOf s 4)
     four false = tt
 
@@ -92,9 +92,9 @@ group-scalar w s = go (eqb w 4)
     go false = four (Text.fourAt s 0 && Text.fourAt s 4)
 
 -- what groups give are characters
-abbrev GroupsScalar : Text.Groups → Type 0
-GroupsScalar (Text.ended cs n) = Scalars cs
-GroupsScalar (Text.broken cs) = Scalars cs
+abbrev GroupsScalar : Text.GroupsRead → Type 0
+GroupsScalar (Text.groupsEnded cs n) = Scalars cs
+GroupsScalar (Text.groupsBroken cs) = Scalars cs
 
 -- the groups of a directive give characters
 groups-scalar : (w n : ℕ) (t : List ℕ) → GroupsScalar (Text.groupsFrom w n t)
@@ -103,19 +103,19 @@ groups-scalar w n [] = tt
 groups-scalar w (suc n) (b ∷ r) = groups-scalar w n r
 groups-scalar w zero (b ∷ r) = go (ltb (suc (length r)) w || eqb b 92) (Text.groupOf w (b ∷ r)) (group-scalar w (b ∷ r)) (λ k. groups-scalar w (k - 1) r)
   where
-    more : (c k : ℕ) (g : Text.Groups) → scalar c ≡ true → GroupsScalar g → GroupsScalar (Text.withChar c k g)
-    more c k (Text.ended cs n) h l = (h, l)
-    more c k (Text.broken cs) h l = (h, l)
+    more : (c k : ℕ) (g : Text.GroupsRead) → scalar c ≡ true → GroupsScalar g → GroupsScalar (Text.withChar c k g)
+    more c k (Text.groupsEnded cs n) h l = (h, l)
+    more c k (Text.groupsBroken cs) h l = (h, l)
 
-    go : (t : Bool) (g : Text.Group) → GroupScalar g → ((k : ℕ) → GroupsScalar (Text.groupsFrom w (k - 1) r)) → GroupsScalar (pick t (Text.ended [] (Text.closing (b ∷ r))) (Text.grouped g (λ k. Text.groupsFrom w (k - 1) r)))
+    go : (t : Bool) (g : Text.Group) → GroupScalar g → ((k : ℕ) → GroupsScalar (Text.groupsFrom w (k - 1) r)) → GroupsScalar (pick t (Text.groupsEnded [] (Text.closingTaken (b ∷ r))) (Text.grouped g (λ k. Text.groupsFrom w (k - 1) r)))
     go true g h f = tt
     go false (Text.char c k) h f = more c k (Text.groupsFrom w (k - 1) r) h (f k)
     go false Text.wrong h f = tt
 
 -- a directive with groups gives characters
-extended-scalar : (g : Text.Groups) → GroupsScalar g → Scalars (Text.extended g .chars)
-extended-scalar (Text.ended cs n) h = h
-extended-scalar (Text.broken cs) h = scalars-append cs (92 ∷ []) h (refl, tt)
+extended-scalar : (g : Text.GroupsRead) → GroupsScalar g → Scalars (Text.extended g .chars)
+extended-scalar (Text.groupsEnded cs n) h = h
+extended-scalar (Text.groupsBroken cs) h = scalars-append cs (92 ∷ []) h (refl, tt)
 
 -- of two pieces that a test picks from, each gives characters, so the one picked does
 pick-scalar : (t : Bool) (p q : Text.Piece) → (t ≡ true → Scalars (p .chars)) → (t ≡ false → Scalars (q .chars)) → Scalars (pick t p q .chars)
@@ -143,7 +143,7 @@ piece-scalar g s h =
     pick-scalar (Text.is s 0 39 && Text.is s 1 39) _ _ (λ e. (refl, tt)) (λ n2.
     pick-scalar (ltb (byteAt s 0) 128) _ _ (λ e. let k = ltb-true (byteAt s 0) 128 e in (scalar-low (byteAt s 0) (omega arith), tt)) (λ n3. go (leadOf s) refl)))
   where
-    go : (l : Lead) → leadOf s ≡ l → Scalars (Text.rawOf (byteAt s 0) l .chars)
+    go : (l : LeadCharacter) → leadOf s ≡ l → Scalars (Text.rawOf (byteAt s 0) l .chars)
     go (valid c k) e = (lead-is s c k e .0, tt)
     go invalid e = let k = byte-least s 0 h in (scalar-low (byteAt s 0) (omega arith), tt)
 
@@ -193,7 +193,7 @@ pub told-text : (s o p : List ℕ) (d : Decoded) → d ≡ decodedOf s (length o
 told-text s o p d e f = rw (e, f) (go (Text.plain s) (leb (length (Text.bytesOf s)) (length o)) refl)
   where
     go : (t u : Bool) → Text.plain s ≡ t
-        → toldText s (pick t o (pick u (Text.bytesOf s ++ drop (length (Text.bytesOf s)) o) o)) (pick t Plain (pick u (Written (length (Text.bytesOf s))) Short)) ≡ pick (t || u) (text (Text.bytesOf s)) (refused 16)
-    go true u e = ap text (sym (plain-text s e))
-    go false true e = ap text (take-append-seam (Text.bytesOf s) (drop (length (Text.bytesOf s)) o))
+        → toldText s (pick t o (pick u (Text.bytesOf s ++ drop (length (Text.bytesOf s)) o) o)) (pick t Plain (pick u (Written (length (Text.bytesOf s))) Short)) ≡ pick (t || u) (textIs (Text.bytesOf s)) (textRefused 16)
+    go true u e = ap textIs (sym (plain-text s e))
+    go false true e = ap textIs (take-append-seam (Text.bytesOf s) (drop (length (Text.bytesOf s)) o))
     go false false e = refl

@@ -9,7 +9,7 @@ use lib.ListN.{length, drop}
 use Rattle.common.specs.Pick.{pick}
 use Rattle.utf8.specs.Utf8.{scalar, encode, byteAt, leadOf}
 use Rattle.utf8.specs.Encoding.{encodeAll}
-use Rattle.utf8.specs.Answer.{Lead, valid, invalid}
+use Rattle.utf8.specs.Answer.{LeadCharacter, valid, invalid}
 use Rattle.pages.specs.Pages.{pageOf, codeOf}
 use Rattle.pages.specs.Rules.{pageA}
 
@@ -43,8 +43,8 @@ pub data Group : Type 0 where
   wrong : Group
 
 -- the character of a code: "other surrogates and codes above 10FFFF give U+FFFD"
-abbrev pub shown : ℕ → ℕ
-shown c = pick (scalar c) c 65533
+abbrev pub characterOfCode : ℕ → ℕ
+characterOfCode c = pick (scalar c) c 65533
 
 -- a high surrogate of UTF-16, D800 to DBFF
 abbrev pub high : ℕ → Bool
@@ -55,53 +55,53 @@ abbrev pub low : ℕ → Bool
 low c = leb 56320 c && ltb c 57344
 
 -- "a high and a low surrogate join" (ISO knows no surrogates); "in `\X2\` a high one together with its second group" is U+FFFD
-abbrev pub joined : ℕ → ℕ → ℕ
-joined h l = pick (low l) (65536 + (h - 55296) * 1024 + (l - 56320)) 65533
+abbrev pub surrogatesJoined : ℕ → ℕ → ℕ
+surrogatesJoined h l = pick (low l) (65536 + (h - 55296) * 1024 + (l - 56320)) 65533
 
 -- the group of a high surrogate: "a high one not followed by four hex digits is a bad group"
 abbrev pub pairOf : List ℕ → Group
-pairOf s = pick (fourAt s 4) (char (joined (fourOf s 0) (fourOf s 4)) 8) wrong
+pairOf s = pick (fourAt s 4) (char (surrogatesJoined (fourOf s 0) (fourOf s 4)) 8) wrong
 
 -- "`\X2\` groups of four" hex digits
 unfoldable pub groupTwo : List ℕ → Group
-groupTwo s = pick (fourAt s 0) (pick (high (fourOf s 0)) (pairOf s) (char (shown (fourOf s 0)) 4)) wrong
+groupTwo s = pick (fourAt s 0) (pick (high (fourOf s 0)) (pairOf s) (char (characterOfCode (fourOf s 0)) 4)) wrong
 
 -- "and `\X4\` of eight" hex digits
 unfoldable pub groupFour : List ℕ → Group
-groupFour s = pick (fourAt s 0 && fourAt s 4) (char (shown (fourOf s 0 * 65536 + fourOf s 4)) 8) wrong
+groupFour s = pick (fourAt s 0 && fourAt s 4) (char (characterOfCode (fourOf s 0 * 65536 + fourOf s 4)) 8) wrong
 
 -- a group of w digits, four or eight
 abbrev pub groupOf : ℕ → List ℕ → Group
 groupOf w s = pick (eqb w 4) (groupTwo s) (groupFour s)
 
 -- the groups of a directive: their characters and how many bytes they took; or those before a bad group
-pub data Groups : Type 0 where
-  ended : List ℕ → ℕ → Groups
-  broken : List ℕ → Groups
+pub data GroupsRead : Type 0 where
+  groupsEnded : List ℕ → ℕ → GroupsRead
+  groupsBroken : List ℕ → GroupsRead
 
 -- the groups of a directive, with one more in front
-abbrev pub withChar : ℕ → ℕ → Groups → Groups
-withChar c k (ended cs n) = ended (c ∷ cs) (k + n)
-withChar c k (broken cs) = broken (c ∷ cs)
+abbrev pub withChar : ℕ → ℕ → GroupsRead → GroupsRead
+withChar c k (groupsEnded cs n) = groupsEnded (c ∷ cs) (k + n)
+withChar c k (groupsBroken cs) = groupsBroken (c ∷ cs)
 
 -- the groups from a group on: it and what follows it, or broken off where it is bad
-abbrev pub grouped : Group → (ℕ → Groups) → Groups
+abbrev pub grouped : Group → (ℕ → GroupsRead) → GroupsRead
 grouped (char c k) f = withChar c k (f k)
-grouped wrong f = broken []
+grouped wrong f = groupsBroken []
 
 -- "a `\X0` there is eaten with the byte after it" (ISO asks for `\X0\`), the byte after it where there is one
-abbrev pub closing : List ℕ → ℕ
-closing s = pick (eqb (byteAt s 0) 92 && (eqb (byteAt s 1) 88 && eqb (byteAt s 2) 48)) (min 4 (length s)) 0
+abbrev pub closingTaken : List ℕ → ℕ
+closingTaken s = pick (eqb (byteAt s 0) 92 && (eqb (byteAt s 1) 88 && eqb (byteAt s 2) 48)) (min 4 (length s)) 0
 
 -- "up to the end or a backslash at a group's start" (ISO asks for a group and for `\X0\`); "a group cut short by the end" is no group,
 -- and its bytes are read on as what follows (docs/DIFFERENCES.md). The first n bytes belong to a group already read
-unfoldable pub groupsFrom : ℕ → ℕ → List ℕ → Groups
-groupsFrom w n [] = ended [] 0
+unfoldable pub groupsFrom : ℕ → ℕ → List ℕ → GroupsRead
+groupsFrom w n [] = groupsEnded [] 0
 groupsFrom w (suc n) (b ∷ r) = groupsFrom w n r
 groupsFrom w zero (b ∷ r) =
     pick
     (ltb (suc (length r)) w || eqb b 92)
-    (ended [] (closing (b ∷ r)))
+    (groupsEnded [] (closingTaken (b ∷ r)))
     (grouped (groupOf w (b ∷ r)) (λ k. groupsFrom w (k - 1) r))
 
 -- what stands at a string's byte: its characters, and how many bytes are read for them
@@ -114,9 +114,9 @@ abbrev pub gives : List ℕ → ℕ → Piece
 gives cs k = record { chars = cs; used = k }
 
 -- groups as a piece: "A bad group gives the characters already read, then a literal backslash, and reading goes on after the directive's first byte"
-abbrev pub extended : Groups → Piece
-extended (ended cs n) = gives cs (4 + n)
-extended (broken cs) = gives (cs ++ 92 ∷ []) 1
+abbrev pub extended : GroupsRead → Piece
+extended (groupsEnded cs n) = gives cs (4 + n)
+extended (groupsBroken cs) = gives (cs ++ 92 ∷ []) 1
 
 -- the byte at k is b
 abbrev pub is : List ℕ → ℕ → ℕ → Bool
@@ -153,7 +153,7 @@ directiveOf p s =
     (pick (is s 1 88 && (is s 2 92 && twoAt s 3)) (gives (twoOf s 3 ∷ []) 5) (longOf s))))))
 
 -- "Raw bytes from 80 up: a valid UTF-8 sequence, else Latin-1" (ISO has no stray bytes)
-abbrev pub rawOf : ℕ → Lead → Piece
+abbrev pub rawOf : ℕ → LeadCharacter → Piece
 rawOf b (valid c k) = gives (c ∷ []) k
 rawOf b invalid = gives (b ∷ []) 1
 

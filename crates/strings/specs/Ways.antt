@@ -19,12 +19,12 @@ use Rattle.pages.specs.Pages.{pageOf, codeOf}
 use Rattle.pages.specs.Rules.{pageA}
 use Rattle.strings.specs.Text
 use Rattle.strings.specs.declared.Char.{Char}
-use Rattle.strings.specs.Code.{View, viewOf, oneView, Moved, Ran, Turned}
+use Rattle.strings.specs.Code.{View, viewOf, oneView, PiecePut, PlainPut, Turned}
 use Rattle.strings.specs.Put.{Laid, laid-nothing, laid-then, laid-chars}
-use Rattle.strings.specs.Answer.{most}
-use Rattle.strings.specs.Hex.{found, missed, two-below}
-use Rattle.strings.specs.Runs.{text-plain, encode-plain, bytes-plain}
-use Rattle.strings.specs.Steps.{is-within, piece-fits, text-goes, text-ends, page-stays, plain-stays, page-named}
+use Rattle.strings.specs.Answer.{largestU64}
+use Rattle.strings.specs.Hex.{hex-found, hex-missed, two-below}
+use Rattle.strings.specs.PlainRuns.{text-plain, encode-plain, bytes-plain}
+use Rattle.strings.specs.Steps.{is-within, piece-fits, text-goes, text-on-ends, page-stays, plain-stays, page-named}
 
 -- two tests that fail together fail together with a third
 and-false : (a b t : Bool) → a && b ≡ false → a && (b && t) ≡ false
@@ -80,13 +80,13 @@ module _ (g : ℕ) (s : List ℕ) (x y z : ℕ) (ex : x ≡ byteAt s 1) (ey : y 
             pub is-octet : v < 256 → oneView v 5 ≡ viewOf (Text.directiveOf g s)
             unfolding Text.directiveOf
             is-octet k =
-                let f = found (Text.twoAt s 3) (Text.twoOf s 3) 256 v ev k in
+                let f = hex-found (Text.twoAt s 3) (Text.twoOf s 3) 256 v ev k in
                 rw (first 92 false n1, slashed 78 false n2, slashed 84 false n3, n4, shifted false n5, octet .0, octet .1, f .0, f .1) refl
 
             -- no two hex digits stand after `\X\`: a directive with groups, or an unknown one
             pub no-octet : 256 ≤ v → viewOf (Text.longOf s) ≡ viewOf (Text.directiveOf g s)
             unfolding Text.directiveOf
-            no-octet k = rw (first 92 false n1, slashed 78 false n2, slashed 84 false n3, n4, shifted false n5, octet .0, octet .1, missed (Text.twoAt s 3) (Text.twoOf s 3) 256 v (two-below s 3) ev k) refl
+            no-octet k = rw (first 92 false n1, slashed 78 false n2, slashed 84 false n3, n4, shifted false n5, octet .0, octet .1, hex-missed (Text.twoAt s 3) (Text.twoOf s 3) 256 v (two-below s 3) ev k) refl
 
           -- none of the short directives stands: a directive with groups, or an unknown one
           pub is-long : eqb x 88 && eqb y 92 ≡ false → viewOf (Text.longOf s) ≡ viewOf (Text.directiveOf g s)
@@ -128,12 +128,12 @@ module _ (g : ℕ) (s : List ℕ) (n0 : eqb (byteAt s 0) 92 ≡ false) (b d : �
         rw (n0, twice false n1, u, q) refl
 
 -- a piece has been read where another one has that writes and reads the same
-pub moved-view : (p q : Text.Piece) (a : ℕ) (o : List ℕ) (e k : ℕ) (r : List ℕ) → viewOf p ≡ viewOf q → Moved p a o e k r → Moved q a o e k r
-moved-view p q a o e k r h m = record { put = rw (sym (ap (λ (v : View). v .written) h)) (m .put); read = m .read ∙ ap (λ (v : View). v .used) h }
+pub piece-put-view : (p q : Text.Piece) (a : ℕ) (o : List ℕ) (e k : ℕ) (r : List ℕ) → viewOf p ≡ viewOf q → PiecePut p a o e k r → PiecePut q a o e k r
+piece-put-view p q a o e k r h m = record { put = rw (sym (ap (λ (v : View). v .written) h)) (m .put); read = m .read ∙ ap (λ (v : View). v .used) h }
 
 -- a piece of one character has been read where that character is put
-pub moved-one : (p : Text.Piece) (a : ℕ) (o : List ℕ) (e k c : ℕ) (r : List ℕ) → oneView c k ≡ viewOf p → Laid a o (encodeAll (c ∷ [])) e r → Moved p a o e k r
-moved-one p a o e k c r h l = record { put = rw (sym (ap (λ (v : View). v .written) h)) l; read = ap (λ (v : View). v .used) h }
+pub piece-put-one : (p : Text.Piece) (a : ℕ) (o : List ℕ) (e k c : ℕ) (r : List ℕ) → oneView c k ≡ viewOf p → Laid a o (encodeAll (c ∷ [])) e r → PiecePut p a o e k r
+piece-put-one p a o e k c r h l = record { put = rw (sym (ap (λ (v : View). v .written) h)) l; read = ap (λ (v : View). v .used) h }
 
 -- where `short` took bytes, its character is what stands at the backslash
 pub short-some : (g : ℕ) (s : List ℕ) (c : Char) → pick (eqb (c .used) 0) (viewOf (Text.longOf s)) (oneView (c .code) (c .used)) ≡ viewOf (Text.directiveOf g s) → (c .used ≡ 0 → ⊥) → oneView (c .code) (c .used) ≡ viewOf (Text.directiveOf g s)
@@ -169,12 +169,12 @@ module _ (s : List ℕ) (x y z : ℕ) (ex : x ≡ byteAt s 1) (ey : y ≡ byteAt
 -- `P`, a byte and a backslash behind a backslash, as the code tests them
 module _ (g : ℕ) (s : List ℕ) (o : Text.is s 0 92 ≡ true) (x y z : ℕ) (ex : x ≡ byteAt s 1) (ey : y ≡ byteAt s 2) (ez : z ≡ byteAt s 3) where
   -- where the code's test for `\P?\` fails, none stands there
-  pub unnamed : eqb x 80 && eqb z 92 ≡ false → Text.is s 1 80 && Text.is s 3 92 ≡ false
-  unnamed h = rw (sym ex, sym ez) h
+  pub page-unnamed : eqb x 80 && eqb z 92 ≡ false → Text.is s 1 80 && Text.is s 3 92 ≡ false
+  page-unnamed h = rw (sym ex, sym ez) h
 
   -- where the code's test for `\P?\` fails, the page stays
   pub page-same : eqb x 80 && eqb z 92 ≡ false → g ≡ Text.pageAfter g s
-  page-same h = sym (page-stays g s (rw (o, unnamed h) refl))
+  page-same h = sym (page-stays g s (rw (o, page-unnamed h) refl))
 
   module _ (h : eqb x 80 && eqb z 92 ≡ true) where
     -- where the code's test for `\P?\` passes, one stands there
@@ -194,7 +194,7 @@ module _ (g : ℕ) (s : List ℕ) (o : Text.is s 0 92 ≡ true) (x y z : ℕ) (e
         rw (b, q) refl
 
     -- where the code's test for `\P?\` passes, no byte is put, and four are read
-    pub page-moves : (a : ℕ) (o : List ℕ) → a ≤ most → Moved (Text.directiveOf g s) a o a 4 o
+    pub page-moves : (a : ℕ) (o : List ℕ) → a ≤ largestU64 → PiecePut (Text.directiveOf g s) a o a 4 o
     page-moves a o m = rw page-piece (record { put = laid-nothing a o m; read = refl })
 
 -- where the first byte is the backslash, the test for it passes
@@ -223,13 +223,13 @@ pub record Running (s : List ℕ) (a₀ : ℕ) (o₀ : List ℕ) (i g a : ℕ) (
   pub kept : length o ≡ length o₀
 
 -- before the first piece of a string is read
-pub running-starts : (s : List ℕ) (a : ℕ) (o : List ℕ) → a ≤ most → Running s a o 0 pageA a o
+pub running-starts : (s : List ℕ) (a : ℕ) (o : List ℕ) → a ≤ largestU64 → Running s a o 0 pageA a o
 unfolding Text.textOf
 running-starts s a o m = record { done = []; within = omega arith; ahead = refl; put = laid-nothing a o m; kept = refl }
 
 -- a piece and the plain bytes after it are read
-pub turned : (g : ℕ) (s : List ℕ) (a : ℕ) (o : List ℕ) (e k : ℕ) (p t : List ℕ) (n f : ℕ) (q : List ℕ) → length o ≤ most → 0 < length s → t ≡ drop k s → Moved (Text.pieceOf g s) a o e k p → Ran t e p f n q → Turned g s a o f (k + n) q
-turned g s a o e k p t n f q m h w v y =
+pub turned-is : (g : ℕ) (s : List ℕ) (a : ℕ) (o : List ℕ) (e k : ℕ) (p t : List ℕ) (n f : ℕ) (q : List ℕ) → length o ≤ largestU64 → 0 < length s → t ≡ drop k s → PiecePut (Text.pieceOf g s) a o e k p → PlainPut t e p f n q → Turned g s a o f (k + n) q
+turned-is g s a o e k p t n f q m h w v y =
     let z = piece-fits g s h in
     let c = Text.pieceOf g s .chars in
     let j = Text.pageAfter g s in
@@ -244,7 +244,7 @@ turned g s a o e k p t n f q m h w v y =
     }
 
 -- a piece and the plain bytes after it are read: the text has come that much further
-pub running-goes : (s : List ℕ) (a₀ : ℕ) (o₀ : List ℕ) (i g a : ℕ) (o t : List ℕ) (e k h : ℕ) (p : List ℕ) → length o₀ ≤ most → t ≡ drop i s → Running s a₀ o₀ i g a o → Turned g t a o e k p → h ≡ Text.pageAfter g t → length p ≡ length o → Running s a₀ o₀ (i + k) h e p
+pub running-goes : (s : List ℕ) (a₀ : ℕ) (o₀ : List ℕ) (i g a : ℕ) (o t : List ℕ) (e k h : ℕ) (p : List ℕ) → length o₀ ≤ largestU64 → t ≡ drop i s → Running s a₀ o₀ i g a o → Turned g t a o e k p → h ≡ Text.pageAfter g t → length p ≡ length o → Running s a₀ o₀ (i + k) h e p
 running-goes s a₀ o₀ i g a o t e k h p m q r v l j =
     let d : drop k t ≡ drop (i + k) s = ap (drop k) q ∙ drop-drop k i s in
     let x : Text.textOn g t ≡ v .chars ++ Text.textOn h (drop k t) = v .ahead ∙ ap (λ (z : ℕ). v .chars ++ Text.textOn z (drop k t)) (sym l) in
@@ -264,9 +264,9 @@ turned-fits g s i a o t e k p q v = (v .some, omega (arith, length-drop i s, ap 
 pub running-ends : (s : List ℕ) (a₀ : ℕ) (o₀ : List ℕ) (i g a : ℕ) (o : List ℕ) → length s ≤ i → Running s a₀ o₀ i g a o → Laid a₀ o₀ (Text.bytesOf s) a o
 unfolding Text.bytesOf
 running-ends s a₀ o₀ i g a o h r =
-    let e : Text.textOf s ≡ r .done = r .ahead ∙ ap (λ (z : List ℕ). r .done ++ z) (text-ends g s i h) ∙ append-nil (r .done) in
+    let e : Text.textOf s ≡ r .done = r .ahead ∙ ap (λ (z : List ℕ). r .done ++ z) (text-on-ends g s i h) ∙ append-nil (r .done) in
     rw e (r .put)
 
 -- plain bytes are put, and then the text after them: together the whole text
-pub run-whole : (s o : List ℕ) (n e : ℕ) (p t : List ℕ) (f : ℕ) (q : List ℕ) → length o ≤ most → n ≤ length s → Text.plain (take n s) ≡ true → t ≡ drop n s → Laid 0 o (take n s) e p → Laid e p (Text.bytesOf t) f q → Laid 0 o (Text.bytesOf s) f q
+pub run-whole : (s o : List ℕ) (n e : ℕ) (p t : List ℕ) (f : ℕ) (q : List ℕ) → length o ≤ largestU64 → n ≤ length s → Text.plain (take n s) ≡ true → t ≡ drop n s → Laid 0 o (take n s) e p → Laid e p (Text.bytesOf t) f q → Laid 0 o (Text.bytesOf s) f q
 run-whole s o n e p t f q m h g w x y = rw (bytes-plain n s h g, sym w) (laid-then 0 o (take n s) e p (Text.bytesOf t) f q m x y)

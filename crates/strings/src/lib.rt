@@ -17,9 +17,9 @@ ghost use lib.Seq.{paste};
 ghost use Rattle.common.specs.Pick.{pick};
 ghost use Rattle.utf8.specs.Utf8.{byteAt};
 ghost use Rattle.utf8.specs.Encoding.{encodeAll};
-ghost use Rattle.strings.specs.Text.{hexDigit, hexValue, twoAt, twoOf, fourAt, fourOf, groupTwo, groupFour, groupOf, closing, plain, shown, joined, is, longOf, directiveOf, pieceOf, pageAfter, extended, groupsFrom, bytesOf};
-ghost use Rattle.strings.specs.Code.{toldGroup, oneView, viewOf, Moved, Passed, Ran, Turned};
-ghost use Rattle.strings.specs.Answer.{decodedOf, roomAfter, shownOf, toldText, answerOf, most};
+ghost use Rattle.strings.specs.Text.{hexDigit, hexValue, twoAt, twoOf, fourAt, fourOf, groupTwo, groupFour, groupOf, closingTaken, plain, characterOfCode, surrogatesJoined, is, longOf, directiveOf, pieceOf, pageAfter, extended, groupsFrom, bytesOf};
+ghost use Rattle.strings.specs.Code.{toldGroup, oneView, viewOf, PiecePut, PlainPassed, PlainPut, Turned};
+ghost use Rattle.strings.specs.Answer.{decodedOf, roomAfter, shownOf, toldText, answerOf, largestU64};
 ghost use Rattle.strings.specs.Put.{Laid};
 
 // The byte at a place, or 256, which is no byte, past the end.
@@ -97,7 +97,7 @@ struct Char {
 
 // U+FFFD for a number that is no character.
 fn shown_code(c: u32) -> u32
-    ensures { λ r. ⌜ r ≡ shown c ⌝ }
+    ensures { λ r. ⌜ r ≡ characterOfCode c ⌝ }
 {
     if c < 55296 {
         return c;
@@ -111,7 +111,7 @@ fn shown_code(c: u32) -> u32
 // The character of two surrogates.
 fn joined_code(h: u32, l: u32) -> u32
     requires { ⌜ (55296 ≤ h) × (h ≤ 56319) ⌝ }
-    ensures { λ r. ⌜ r ≡ joined h l ⌝ }
+    ensures { λ r. ⌜ r ≡ surrogatesJoined h l ⌝ }
 {
     if (56320 <= l) & (l < 57344) {
         return 65536 + (h - 55296) * 1024 + (l - 56320);
@@ -170,7 +170,7 @@ fn group(s: &[u8], width: usize) -> Char
 
 // How many bytes a `\X0` takes with the byte after it, or 0.
 fn closing_len(s: &[u8]) -> usize
-    ensures { λ r. ⌜ r ≡ closing (now (s .entry)) ⌝ }
+    ensures { λ r. ⌜ r ≡ closingTaken (now (s .entry)) ⌝ }
 {
     if (byte_at(s, 0) == 92) & ((byte_at(s, 1) == 88) & (byte_at(s, 2) == 48)) {
         if s.len() < 4 {
@@ -214,7 +214,7 @@ fn plain_blocks(s: &[u8], from: usize) -> usize
 // Past the bytes that are the text as they stand, one by one from a place up to another.
 fn plain_to(s: &[u8], from: usize, to: usize) -> usize
     requires { ⌜ (from ≤ to) × (to ≤ length (now s)) × (plain (take from (now s)) ≡ true) ⌝ }
-    ensures { λ r. ⌜ Passed (now (s .entry)) to r ⌝ }
+    ensures { λ r. ⌜ PlainPassed (now (s .entry)) to r ⌝ }
 {
     let mut i = from;
     while i < to {
@@ -229,7 +229,7 @@ fn plain_to(s: &[u8], from: usize, to: usize) -> usize
 
 // How many bytes from the start on are the text as they stand. A short run is found without the blocks.
 fn plain_len(s: &[u8]) -> usize
-    ensures { λ r. ⌜ Passed (now (s .entry)) (length (now (s .entry))) r ⌝ }
+    ensures { λ r. ⌜ PlainPassed (now (s .entry)) (length (now (s .entry))) r ⌝ }
 {
     let n = s.len();
     if n < 64 {
@@ -256,7 +256,7 @@ fn copy(s: &[u8], n: usize, out: &mut [u8], at: usize)
 
 // A place so many bytes further; the largest number where that is none.
 fn plus(at: usize, n: usize) -> usize
-    ensures { λ r. ⌜ r ≡ min most (at + n) ⌝ }
+    ensures { λ r. ⌜ r ≡ min largestU64 (at + n) ⌝ }
 {
     if 18446744073709551615 - at < n {
         return 18446744073709551615;
@@ -354,7 +354,7 @@ struct Reached {
 // literal backslash.
 fn groups(s: &[u8], width: usize, out: &mut [u8], at: usize) -> Reached
     requires { ⌜ 4 ≤ length (now s) ⌝ }
-    ensures { λ r. ⌜ Moved (extended (groupsFrom width 0 (drop 4 (now (s .entry))))) at (now (out .entry)) (r .at) (r .used) (now (out .exit)) ⌝ }
+    ensures { λ r. ⌜ PiecePut (extended (groupsFrom width 0 (drop 4 (now (s .entry))))) at (now (out .entry)) (r .at) (r .used) (now (out .exit)) ⌝ }
 {
     let mut i = 4;
     let mut n = at;
@@ -382,7 +382,7 @@ fn groups(s: &[u8], width: usize, out: &mut [u8], at: usize) -> Reached
 
 // A directive with groups, or a literal backslash.
 fn long(s: &[u8], out: &mut [u8], at: usize) -> Reached
-    ensures { λ r. ⌜ Moved (longOf (now (s .entry))) at (now (out .entry)) (r .at) (r .used) (now (out .exit)) ⌝ }
+    ensures { λ r. ⌜ PiecePut (longOf (now (s .entry))) at (now (out .entry)) (r .at) (r .used) (now (out .exit)) ⌝ }
 {
     let x = byte_at(s, 1);
     let y = byte_at(s, 2);
@@ -409,7 +409,7 @@ struct Advance {
 // A directive, or a literal backslash. What `long` answers is made anew, so that the other answers need not go through memory.
 fn directive(s: &[u8], page: usize, out: &mut [u8], at: usize) -> Advance
     requires { ⌜ is (now s) 0 92 ≡ true ⌝ }
-    ensures { λ r. ⌜ Moved (directiveOf page (now (s .entry))) at (now (out .entry)) (r .at) (r .used) (now (out .exit)) ⌝ }
+    ensures { λ r. ⌜ PiecePut (directiveOf page (now (s .entry))) at (now (out .entry)) (r .at) (r .used) (now (out .exit)) ⌝ }
     ensures { λ r. ⌜ r .page ≡ pageAfter page (now (s .entry)) ⌝ }
 {
     let x = byte_at(s, 1);
@@ -441,7 +441,7 @@ fn directive(s: &[u8], page: usize, out: &mut [u8], at: usize) -> Advance
 
 // The piece of the text that stands at the start, where a page is in force.
 fn step(s: &[u8], page: usize, out: &mut [u8], at: usize) -> Advance
-    ensures { λ r. ⌜ Moved (pieceOf page (now (s .entry))) at (now (out .entry)) (r .at) (r .used) (now (out .exit)) ⌝ }
+    ensures { λ r. ⌜ PiecePut (pieceOf page (now (s .entry))) at (now (out .entry)) (r .at) (r .used) (now (out .exit)) ⌝ }
     ensures { λ r. ⌜ r .page ≡ pageAfter page (now (s .entry)) ⌝ }
 {
     if byte_at(s, 0) == 92 {
@@ -489,7 +489,7 @@ fn follow(s: &[u8], m: usize, out: &mut [u8], at: usize) -> usize
 // The plain bytes at the start: copied while they are found, as a run between two pieces is mostly short; where no room is left they are
 // found and counted.
 fn plain_run(s: &[u8], out: &mut [u8], at: usize) -> Reached
-    ensures { λ r. ⌜ Ran (now (s .entry)) at (now (out .entry)) (r .at) (r .used) (now (out .exit)) ⌝ }
+    ensures { λ r. ⌜ PlainPut (now (s .entry)) at (now (out .entry)) (r .at) (r .used) (now (out .exit)) ⌝ }
 {
     let m = fitting(out.len(), at, s.len());
     let k = follow(s, m, out, at);
@@ -557,7 +557,7 @@ pub enum Decoded {
 
 // How many bytes the text has; the largest number for a text that no memory holds.
 pub fn text_length(raw: &[u8]) -> usize
-    ensures { λ r. ⌜ r ≡ min most (length (bytesOf (now (raw .entry)))) ⌝ }
+    ensures { λ r. ⌜ r ≡ min largestU64 (length (bytesOf (now (raw .entry)))) ⌝ }
 {
     let p = plain_len(raw);
     let mut none = [0u8; 1];
@@ -566,7 +566,7 @@ pub fn text_length(raw: &[u8]) -> usize
 
 // As `plain_len`; for a short string, as most are, it is one loop, which the compiler puts where it is asked for.
 fn first_plain(s: &[u8]) -> usize
-    ensures { λ r. ⌜ Passed (now (s .entry)) (length (now (s .entry))) r ⌝ }
+    ensures { λ r. ⌜ PlainPassed (now (s .entry)) (length (now (s .entry))) r ⌝ }
 {
     let n = s.len();
     if n < 64 {

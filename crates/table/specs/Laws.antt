@@ -12,7 +12,7 @@ use lib.Seq.{sets, length-sets}
 use borrow.Author.Tests.{ltb-true, ltb-false, lt-ltb, le-ltb}
 use Rattle.common.specs.Pick.{pick}
 use Rattle.statement.specs.Rows.{Row, row, HeaderRow, headerRow}
-use Rattle.table.specs.Table.{field, putAt, narrow, narrowRow, narrowHeader}
+use Rattle.table.specs.Table.{field, rowPutAt, narrow, narrowRow, narrowHeader}
 
 -- a row of w + 1 numbers has its last number in the memory just where the memory has the row
 pub last-test : (w n k : ℕ) → ltb (k * suc w + w) n ≡ ltb k (n / suc w)
@@ -42,11 +42,11 @@ module _ (w : ℕ) (xs : List ℕ) (k : ℕ) where
       go false = z
 
   -- a row that the memory has is put at its place
-  pub put-there : k < length xs / w → (new : List ℕ) → putAt w xs k new ≡ sets xs (k * w) new
+  pub put-there : k < length xs / w → (new : List ℕ) → rowPutAt w xs k new ≡ sets xs (k * w) new
   put-there h new = ap (λ (t : Bool). pick t (sets xs (k * w) new) xs) (lt-ltb k (length xs / w) h)
 
   -- a row that is put changes no length
-  pub put-length : (new : List ℕ) → length (putAt w xs k new) ≡ length xs
+  pub put-length : (new : List ℕ) → length (rowPutAt w xs k new) ≡ length xs
   put-length new = go (ltb k (length xs / w))
     where
       go : (t : Bool) → length (pick t (sets xs (k * w) new) xs) ≡ length xs

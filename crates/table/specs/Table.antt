@@ -57,13 +57,13 @@ abbrev pub six : Row → List ℕ
 six w = w .id ∷ w .keyStart ∷ w .keyEnd ∷ w .argStart ∷ w .argEnd ∷ w .complex ∷ []
 
 -- the four numbers of a header row, in document 01's order
-abbrev pub four : HeaderRow → List ℕ
-four w = w .keyStart ∷ w .keyEnd ∷ w .argStart ∷ w .argEnd ∷ []
+abbrev pub headerRowNumbers : HeaderRow → List ℕ
+headerRowNumbers w = w .keyStart ∷ w .keyEnd ∷ w .argStart ∷ w .argEnd ∷ []
 
 -- the numbers of rows, one row after the other
-unfoldable pub flat : {A : Type 0} → (A → List ℕ) → List A → List ℕ
-flat f [] = []
-flat f (w ∷ ws) = f w ++ flat f ws
+unfoldable pub rowsFlat : {A : Type 0} → (A → List ℕ) → List A → List ℕ
+rowsFlat f [] = []
+rowsFlat f (w ∷ ws) = f w ++ rowsFlat f ws
 
 -- "lent rows and output keep their bytes, as does all room beyond an answer": the new numbers, and then the old
 abbrev pub laid : List ℕ → List ℕ → List ℕ
@@ -71,23 +71,23 @@ laid new old = new ++ drop (length new) old
 
 -- the memory after these data rows were laid at its start
 abbrev pub rowsLaid : List Row → List ℕ → List ℕ
-rowsLaid ws old = laid (flat six ws) old
+rowsLaid ws old = laid (rowsFlat six ws) old
 
 -- the memory after these header rows were laid at its start
 abbrev pub headersLaid : List HeaderRow → List ℕ → List ℕ
-headersLaid ws old = laid (flat four ws) old
+headersLaid ws old = laid (rowsFlat headerRowNumbers ws) old
 
 -- the memory after the numbers of a row were put as row k, of rows of w numbers; as it was where it has no row k
-abbrev pub putAt : ℕ → List ℕ → ℕ → List ℕ → List ℕ
-putAt w xs k new = pick (ltb k (length xs / w)) (sets xs (k * w) new) xs
+abbrev pub rowPutAt : ℕ → List ℕ → ℕ → List ℕ → List ℕ
+rowPutAt w xs k new = pick (ltb k (length xs / w)) (sets xs (k * w) new) xs
 
 -- the memory after a data row was put as row k
 abbrev pub rowPut : List ℕ → ℕ → Row → List ℕ
-rowPut rows k w = putAt 6 rows k (six w)
+rowPut rows k w = rowPutAt 6 rows k (six w)
 
 -- the memory after a header row was put as row k
 abbrev pub headerPut : List ℕ → ℕ → HeaderRow → List ℕ
-headerPut heads k w = putAt 4 heads k (four w)
+headerPut heads k w = rowPutAt 4 heads k (headerRowNumbers w)
 
 -- a place as a number of 32 bits; no place of a file that is read is larger
 abbrev pub narrow : ℕ → ℕ

@@ -10,8 +10,8 @@ ghost use mathlib.Core.List.{[]};
 ghost use lib.ListN.{length};
 ghost use lib.Seq.{sets};
 ghost use Rattle.common.specs.Pick.{JustWhere};
-ghost use Rattle.statement.specs.Rows.{rowOf, headerRowOf};
-ghost use Rattle.table.specs.Table.{rowsFit, headersFit, AllIds, AllBelow, AllHave, idOf, rowNumbers, headerNumbers, six, four, rowPut, headerPut, narrowRow, narrowHeader, narrow};
+ghost use Rattle.statement.specs.Rows.{toldRow, headerRowOf};
+ghost use Rattle.table.specs.Table.{rowsFit, headersFit, AllIds, AllBelow, AllHave, idOf, rowNumbers, headerNumbers, six, headerRowNumbers, rowPut, headerPut, narrowRow, narrowHeader, narrow};
 ghost use Rattle.table.specs.Laws.{spansAt};
 use statement::HeaderSpan;
 use statement::Range;
@@ -85,7 +85,7 @@ pub fn id_at(rows: &[u32], r: u32) -> u32
 
 // A row of zeros.
 fn no_row() -> RecordSpan
-    ensures { λ r. ⌜ rowOf r ≡ rowNumbers [] 0 ⌝ }
+    ensures { λ r. ⌜ toldRow r ≡ rowNumbers [] 0 ⌝ }
 {
     RecordSpan {
         id: 0,
@@ -114,7 +114,7 @@ fn spans_at(xs: &[u32], at: usize) -> HeaderSpan
 // Row k of a table that has it.
 fn row_there(rows: &[u32], k: usize) -> RecordSpan
     requires { ⌜ k * 6 + 6 ≤ length (now rows) ⌝ }
-    ensures { λ r. ⌜ rowOf r ≡ rowNumbers (now (rows .entry)) k ⌝ }
+    ensures { λ r. ⌜ toldRow r ≡ rowNumbers (now (rows .entry)) k ⌝ }
 {
     let at = k * 6;
     let spans = spans_at(rows, at + 1);
@@ -130,7 +130,7 @@ fn row_there(rows: &[u32], k: usize) -> RecordSpan
 
 // Row k; zeros where the table has none.
 pub fn read_row(rows: &[u32], k: usize) -> RecordSpan
-    ensures { λ r. ⌜ rowOf r ≡ rowNumbers (now (rows .entry)) k ⌝ }
+    ensures { λ r. ⌜ toldRow r ≡ rowNumbers (now (rows .entry)) k ⌝ }
 {
     if among_rows(rows, k) {
         return row_there(rows, k);
@@ -168,7 +168,7 @@ fn low(p: usize) -> u32
 // Stores a keyword and arguments as the four numbers from `at` on, which the memory has.
 fn store_spans(out: &mut [u32], at: usize, w: HeaderSpan)
     requires { ⌜ at + 4 ≤ length (now out) ⌝ }
-    ensures { λ _. ⌜ now (out .exit) ≡ sets (now (out .entry)) at (four (narrowHeader (headerRowOf w))) ⌝ }
+    ensures { λ _. ⌜ now (out .exit) ≡ sets (now (out .entry)) at (headerRowNumbers (narrowHeader (headerRowOf w))) ⌝ }
 {
     out[at] = low(w.keyword.start);
     out[at + 1] = low(w.keyword.end);
@@ -179,7 +179,7 @@ fn store_spans(out: &mut [u32], at: usize, w: HeaderSpan)
 // Stores a data row as row k of memory that has it.
 fn store_row(out: &mut [u32], k: usize, w: RecordSpan)
     requires { ⌜ k * 6 + 6 ≤ length (now out) ⌝ }
-    ensures { λ _. ⌜ now (out .exit) ≡ sets (now (out .entry)) (k * 6) (six (narrowRow (rowOf w))) ⌝ }
+    ensures { λ _. ⌜ now (out .exit) ≡ sets (now (out .entry)) (k * 6) (six (narrowRow (toldRow w))) ⌝ }
 {
     let at = k * 6;
     out[at] = w.id;
@@ -191,7 +191,7 @@ fn store_row(out: &mut [u32], k: usize, w: RecordSpan)
 
 // Puts a data row as row k. Memory that has no such row keeps its numbers.
 pub fn put_row(out: &mut [u32], k: usize, w: RecordSpan)
-    ensures { λ _. ⌜ now (out .exit) ≡ rowPut (now (out .entry)) k (narrowRow (rowOf w)) ⌝ }
+    ensures { λ _. ⌜ now (out .exit) ≡ rowPut (now (out .entry)) k (narrowRow (toldRow w)) ⌝ }
 {
     if among_rows(out, k) {
         store_row(out, k, w);

@@ -13,35 +13,35 @@ use Rattle.common.specs.Pick.{pick}
 use Rattle.common.specs.Lists.{split, drop-end}
 use Rattle.common.specs.Compare.{clash}
 use Rattle.common.specs.Walk.{walk}
-use Rattle.lex.specs.Lexer.{calm, next}
+use Rattle.lex.specs.Lexer.{calm, nextMode}
 use Rattle.lex.specs.Answer.{Lacks, Stopped}
 use Rattle.lex.specs.Seek.{drop-within}
-use Rattle.lex.specs.Grammar.{Begins, Opens, Comment, Quotation, OpenText, OpenRemark}
+use Rattle.lex.specs.Grammar.{Begins, OpensComment, Comment, Quotation, OpenText, OpenRemark}
 use Rattle.lex.specs.Right.Steps.{Deaf, remark-shut, remark-open, text-ends, text-over}
-use Rattle.lex.specs.Right.Tokens.{open-text, open-remark, Reads, tokens}
+use Rattle.lex.specs.Right.Tokens.{open-text, open-remark, ReadsAsTokens, tokens}
 use Rattle.lex.specs.declared.Mode.{Mode}
 use Rattle.lex.specs.declared.Mode.the-variants.{Plain, Slash, Text, Quoted, Remark, Starred}
-use Rattle.tokens.specs.Leap.{leapTurn, leapEnd, stringRest, commentRest}
-use Rattle.tokens.specs.Answer.{fromByte, heads, Rest, ends, never}
+use Rattle.tokens.specs.TokenRests.{leapTurn, leapEnd, stringRest, commentRest}
+use Rattle.tokens.specs.Answer.{fromByte, headsWith, RestAfter, endsBefore, never}
 
 -- in strings and comments a leap is deaf
 leap-deaf : Deaf leapTurn leapEnd (λ m. m)
 leap-deaf = record { quiet = λ m c r h. rw h; starred = refl }
 
 -- after the quote that ends a string, and that no quote follows, the string is left
-quoted-ends : (r : List ℕ) → (Begins 39 r → ⊥) → walk leapTurn leapEnd Quoted r ≡ ends r
+quoted-ends : (r : List ℕ) → (Begins 39 r → ⊥) → walk leapTurn leapEnd Quoted r ≡ endsBefore r
 unfolding walk
 quoted-ends [] h = refl
 quoted-ends (c ∷ r) h = rw (ne-eqb c 39 (λ e. h (r, cc)))
 
 -- outside strings and comments, what was opened has been left
-plain-ends : (r : List ℕ) → walk leapTurn leapEnd Plain r ≡ ends r
+plain-ends : (r : List ℕ) → walk leapTurn leapEnd Plain r ≡ endsBefore r
 unfolding walk
 plain-ends [] = refl
 plain-ends (c ∷ r) = refl
 
 -- a string that ends by the grammar is left where it ends
-pub string-only : {t r : List ℕ} → Quotation (39 ∷ t) r → stringRest t ≡ ends r
+pub string-only : {t r : List ℕ} → Quotation (39 ∷ t) r → stringRest t ≡ endsBefore r
 unfolding stringRest
 string-only {t} {r} q =
     let e : t ≡ q .body ++ (39 ∷ r) = cc (q .shape) in
@@ -53,7 +53,7 @@ unfolding stringRest
 string-never-only {t} h = let (u, e, i) = open-text h in let f : t ≡ u = cc in rw f (text-over leapTurn leapEnd (λ m. m) leap-deaf i)
 
 -- a comment that ends by the grammar is left where it ends
-pub comment-only : {t r : List ℕ} → Comment (47 ∷ 42 ∷ t) r → commentRest t ≡ ends r
+pub comment-only : {t r : List ℕ} → Comment (47 ∷ 42 ∷ t) r → commentRest t ≡ endsBefore r
 unfolding commentRest
 comment-only {t} {r} q =
     let e : t ≡ q .body ++ (42 ∷ 47 ∷ r) = cc (q .shape) in
@@ -73,13 +73,13 @@ pub data Spells (t : List ℕ) : Type 0 where
 pub spells : (t : List ℕ) → Spells t
 spells t = go (39 ∷ t) refl (tokens (39 ∷ t))
   where
-    go : (xs : List ℕ) → xs ≡ 39 ∷ t → Reads xs → Spells t
-    go xs e Reads.end = clash (cc)
-    go xs e (Reads.byte h k r) = absurd (h (cc))
-    go xs e (Reads.string q r) = Spells.whole (rw e at q)
-    go xs e (Reads.comment q r) = absurd (eqb-false 39 47 refl (cc (q .shape)))
-    go xs e (Reads.text q) = Spells.cut (rw e at q)
-    go xs e (Reads.remark ((r, f), h)) = absurd (eqb-false 39 47 refl (cc))
+    go : (xs : List ℕ) → xs ≡ 39 ∷ t → ReadsAsTokens xs → Spells t
+    go xs e ReadsAsTokens.end = clash (cc)
+    go xs e (ReadsAsTokens.byte h k r) = absurd (h (cc))
+    go xs e (ReadsAsTokens.string q r) = Spells.whole (rw e at q)
+    go xs e (ReadsAsTokens.comment q r) = absurd (eqb-false 39 47 refl (cc (q .shape)))
+    go xs e (ReadsAsTokens.text q) = Spells.cut (rw e at q)
+    go xs e (ReadsAsTokens.remark ((r, f), h)) = absurd (eqb-false 39 47 refl (cc))
 
 -- what becomes of a comment: it ends, or it never does
 pub data Remarks (t : List ℕ) : Type 0 where
@@ -90,16 +90,16 @@ pub data Remarks (t : List ℕ) : Type 0 where
 pub remarks : (t : List ℕ) → Remarks t
 remarks t = go (47 ∷ 42 ∷ t) refl (tokens (47 ∷ 42 ∷ t))
   where
-    go : (xs : List ℕ) → xs ≡ 47 ∷ 42 ∷ t → Reads xs → Remarks t
-    go xs e Reads.end = clash (cc)
-    go xs e (Reads.byte h k r) = absurd (k (t, cc))
-    go xs e (Reads.string q r) = absurd (eqb-false 39 47 refl (cc (q .shape)))
-    go xs e (Reads.comment q r) = Remarks.whole (rw e at q)
-    go xs e (Reads.text ((r, f), h)) = absurd (eqb-false 39 47 refl (cc))
-    go xs e (Reads.remark q) = Remarks.cut (rw e at q)
+    go : (xs : List ℕ) → xs ≡ 47 ∷ 42 ∷ t → ReadsAsTokens xs → Remarks t
+    go xs e ReadsAsTokens.end = clash (cc)
+    go xs e (ReadsAsTokens.byte h k r) = absurd (k (t, cc))
+    go xs e (ReadsAsTokens.string q r) = absurd (eqb-false 39 47 refl (cc (q .shape)))
+    go xs e (ReadsAsTokens.comment q r) = Remarks.whole (rw e at q)
+    go xs e (ReadsAsTokens.text ((r, f), h)) = absurd (eqb-false 39 47 refl (cc))
+    go xs e (ReadsAsTokens.remark q) = Remarks.cut (rw e at q)
 
 -- where a string is left, it ends by the grammar
-pub string-is : (t r : List ℕ) → stringRest t ≡ ends r → Quotation (39 ∷ t) r
+pub string-is : (t r : List ℕ) → stringRest t ≡ endsBefore r → Quotation (39 ∷ t) r
 string-is t r e = go (spells t)
   where
     go : Spells t → Quotation (39 ∷ t) r
@@ -115,7 +115,7 @@ string-never t e = go (spells t)
     go (Spells.cut q) = q
 
 -- where a comment is left, it ends by the grammar
-pub comment-is : (t r : List ℕ) → commentRest t ≡ ends r → Comment (47 ∷ 42 ∷ t) r
+pub comment-is : (t r : List ℕ) → commentRest t ≡ endsBefore r → Comment (47 ∷ 42 ∷ t) r
 comment-is t r e = go (remarks t)
   where
     go : Remarks t → Comment (47 ∷ 42 ∷ t) r
@@ -200,13 +200,13 @@ unfolding commentRest walk
 comment-empty = refl
 
 -- a star that a slash follows ends a comment
-comment-ends : (r : List ℕ) → heads 47 r ≡ true → commentRest (42 ∷ r) ≡ ends (drop 1 r)
+comment-ends : (r : List ℕ) → headsWith 47 r ≡ true → commentRest (42 ∷ r) ≡ endsBefore (drop 1 r)
 unfolding commentRest walk
 comment-ends [] h = clash (cc)
 comment-ends (c ∷ r) h = rw h (plain-ends r)
 
 -- after a star that no slash follows, the end of a comment is sought on
-comment-star : (r : List ℕ) → heads 47 r ≡ false → commentRest (42 ∷ r) ≡ commentRest r
+comment-star : (r : List ℕ) → headsWith 47 r ≡ false → commentRest (42 ∷ r) ≡ commentRest r
 unfolding commentRest walk
 comment-star [] h = refl
 comment-star (c ∷ r) h = rw h refl
@@ -233,25 +233,25 @@ module _ (s : List ℕ) (i q : ℕ) where
     comment-none h = comment-skips (drop i s) ∙ ap commentRest (found-none 42 e h) ∙ comment-empty
 
     -- where a slash follows the star at q, the comment ends behind it
-    pub comment-last : q < length s → heads 47 (drop (q + 1) s) ≡ true → commentRest (drop i s) ≡ ends (drop (q + 2) s)
-    comment-last h k = comment-skips (drop i s) ∙ ap commentRest (found-here 42 e h) ∙ comment-ends (drop (q + 1) s) k ∙ ap ends drop-one
+    pub comment-last : q < length s → headsWith 47 (drop (q + 1) s) ≡ true → commentRest (drop i s) ≡ endsBefore (drop (q + 2) s)
+    comment-last h k = comment-skips (drop i s) ∙ ap commentRest (found-here 42 e h) ∙ comment-ends (drop (q + 1) s) k ∙ ap endsBefore drop-one
 
     -- where no slash follows the star at q, the comment's end is sought on behind the star
-    pub comment-more : q < length s → heads 47 (drop (q + 1) s) ≡ false → commentRest (drop i s) ≡ commentRest (drop (q + 1) s)
-    comment-more h k = comment-skips (drop i s) ∙ ap commentRest (found-here 42 e h) ∙ comment-star (drop (q + 1) s) k
+    pub comment-goes-on : q < length s → headsWith 47 (drop (q + 1) s) ≡ false → commentRest (drop i s) ≡ commentRest (drop (q + 1) s)
+    comment-goes-on h k = comment-skips (drop i s) ∙ ap commentRest (found-here 42 e h) ∙ comment-star (drop (q + 1) s) k
 
 -- where a rest begins with a byte, its place is before the bytes' end
-pub heads-short : (b : ℕ) (s : List ℕ) (i : ℕ) → heads b (drop i s) ≡ true → i < length s
+pub heads-short : (b : ℕ) (s : List ℕ) (i : ℕ) → headsWith b (drop i s) ≡ true → i < length s
 heads-short b s i h = go (leb (length s) i) refl
   where
     go : (k : Bool) → leb (length s) i ≡ k → i < length s
-    go true e = let f : heads b [] ≡ true = ap (heads b) (sym (drop-end s i (leb-true (length s) i e))) ∙ h in clash (cc)
+    go true e = let f : headsWith b [] ≡ true = ap (headsWith b) (sym (drop-end s i (leb-true (length s) i e))) ∙ h in clash (cc)
     go false e = leb-false (length s) i e
 
 -- a rest begins with b just where b stands at its place
-pub heads-at : (b : ℕ) (s : List ℕ) (i : ℕ) → i < length s → eqb (getD s i 0) b ≡ heads b (drop i s)
+pub heads-at : (b : ℕ) (s : List ℕ) (i : ℕ) → i < length s → eqb (getD s i 0) b ≡ headsWith b (drop i s)
 heads-at b s i h = rw (split s i h) refl
 
 -- past the bytes' end, no rest begins with b
-pub heads-past : (b : ℕ) (s : List ℕ) (i : ℕ) → length s ≤ i → false ≡ heads b (drop i s)
+pub heads-past : (b : ℕ) (s : List ℕ) (i : ℕ) → length s ≤ i → false ≡ headsWith b (drop i s)
 heads-past b s i h = rw (drop-end s i h) refl

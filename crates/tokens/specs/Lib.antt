@@ -1,4 +1,4 @@
 pub mod Answer
-pub mod Leap
+pub mod TokenRests
 pub mod Laws
 pub mod Only

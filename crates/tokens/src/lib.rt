@@ -5,12 +5,12 @@
 ghost use mathlib.Core.Path.{_≡_};
 ghost use Prim.Native.Nat.{_+_, _≤_, min};
 ghost use lib.ListN.{length, drop};
-ghost use Rattle.tokens.specs.Leap.{stringRest, commentRest};
-ghost use Rattle.tokens.specs.Answer.{fromByte, heads, toldPast, PastIn};
+ghost use Rattle.tokens.specs.TokenRests.{stringRest, commentRest};
+ghost use Rattle.tokens.specs.Answer.{fromByte, headsWith, toldTokenEnd, TokenEndIn};
 use lex::TextEnd;
 
 // Where something ends, or that it never does.
-pub enum Past {
+pub enum TokenEnd {
     At(usize),
     Never,
 }
@@ -25,7 +25,7 @@ pub fn find_byte(s: &[u8], start: usize, b: u8) -> usize
 
 // Whether the byte b stands at i.
 pub fn is_at(s: &[u8], i: usize, b: u8) -> bool
-    ensures { λ r. ⌜ r ≡ heads b (drop i (now (s .entry))) ⌝ }
+    ensures { λ r. ⌜ r ≡ headsWith b (drop i (now (s .entry))) ⌝ }
 {
     if i < s.len() {
         return s[i] == b;
@@ -34,29 +34,29 @@ pub fn is_at(s: &[u8], i: usize, b: u8) -> bool
 }
 
 // Where the string ends whose first quote stands before `start`: at the first quote that is not one of a pair.
-pub fn string_end(s: &[u8], start: usize) -> Past
-    ensures { λ r. ⌜ toldPast (now (s .entry)) r ≡ stringRest (drop start (now (s .entry))) ⌝ }
-    ensures { λ r. ⌜ PastIn start (length (now (s .entry))) r ⌝ }
+pub fn string_end(s: &[u8], start: usize) -> TokenEnd
+    ensures { λ r. ⌜ toldTokenEnd (now (s .entry)) r ≡ stringRest (drop start (now (s .entry))) ⌝ }
+    ensures { λ r. ⌜ TokenEndIn start (length (now (s .entry))) r ⌝ }
 {
     match lex::text_end(s, start) {
-        TextEnd::After(next) => Past::At(next),
-        TextEnd::Never => Past::Never,
+        TextEnd::After(next) => TokenEnd::At(next),
+        TextEnd::Never => TokenEnd::Never,
     }
 }
 
 // Where the comment ends whose `/*` stands before `start`: after the first `*/`.
-pub fn comment_end(s: &[u8], start: usize) -> Past
-    ensures { λ r. ⌜ toldPast (now (s .entry)) r ≡ commentRest (drop start (now (s .entry))) ⌝ }
-    ensures { λ r. ⌜ PastIn start (length (now (s .entry))) r ⌝ }
+pub fn comment_end(s: &[u8], start: usize) -> TokenEnd
+    ensures { λ r. ⌜ toldTokenEnd (now (s .entry)) r ≡ commentRest (drop start (now (s .entry))) ⌝ }
+    ensures { λ r. ⌜ TokenEndIn start (length (now (s .entry))) r ⌝ }
 {
     let mut i = common::within(start, s.len());
     loop {
         let q = find_byte(s, i, b'*');
         if q == s.len() {
-            return Past::Never;
+            return TokenEnd::Never;
         }
         if is_at(s, q + 1, b'/') {
-            return Past::At(q + 2);
+            return TokenEnd::At(q + 2);
         }
         i = q + 1;
     }

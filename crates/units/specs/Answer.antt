@@ -17,13 +17,13 @@ use Rattle.kinds.specs.declared.Kind.the-variants.{GeometricRepresentationConte
 use Rattle.params.specs.Answer.{Span, onward}
 use Rattle.scalars.specs.Scalars.{measureOf}
 use Rattle.scalars.specs.Answer.{nextOf}
-use Rattle.factors.specs.Thing.{goodBy, sameKind, Thing, selfOr}
+use Rattle.factors.specs.SeenRecords.{goodBy, sameKind, SeenRecord, selfOr}
 use Rattle.factors.specs.Unit.{optionBy}
 use Rattle.units.specs.declared.Values as ValuesCode
 use Rattle.units.specs.declared.Resolved as ResolvedCode
 use Rattle.lists.specs.Items.{listOf}
 use Rattle.lists.specs.Answer.{nextBy}
-use Rattle.units.specs.declared.role.Role as RoleCode
+use Rattle.units.specs.declared.role.UnitRole as RoleCode
 
 -- a unit answer's four values: length in mm, angle and tolerance as patterns of f64s, and whether a length unit was found
 pub record Units : Type 0 where
@@ -65,18 +65,18 @@ abbrev pub withTolerance : Units → ℕ → Units
 withTolerance u v = units (u .length) (u .angle) v (u .resolved)
 
 -- whether an answer is a value, and no refusal
-abbrev pub reads : {A : Type 0} → Told A → Bool
-reads (good a) = true
-reads (bad q) = false
+abbrev pub isRead : {A : Type 0} → Told A → Bool
+isRead (good a) = true
+isRead (bad q) = false
 
 -- whether the arguments are there and their first parameter reads: "whose first parameter reads as an integer"
 abbrev pub readsInteger : List ℕ → Option Span → Bool
 readsInteger s none = false
-readsInteger s (some r) = reads (nextOf wholeOf s (r .start) (r .stop) .answer)
+readsInteger s (some r) = isRead (nextOf wholeOf s (r .start) (r .stop) .answer)
 
 -- "A unit context is a GEOMETRIC_REPRESENTATION_CONTEXT record, or a complex one with that part, whose first parameter reads as an
 -- integer."
-unfoldable pub isContext : List ℕ → Thing → Told Bool
+unfoldable pub isContext : List ℕ → SeenRecord → Told Bool
 isContext s t = goodBy (readsInteger s) (selfOr GeometricRepresentationContext t)
 
 -- the code's four values of a unit answer, as patterns
@@ -100,18 +100,18 @@ uncertainBy (good v) = good (some v)
 uncertainBy (bad q) = pick (eqb (q .number) 13) (bad q) (good none)
 
 -- what the code's answer about a unit's role says: a role, none, or a refusal
-abbrev pub toldRole : RoleCode.Role → Told (Option Role)
-toldRole RoleCode.the-variants.Length = good (some lengthRole)
-toldRole RoleCode.the-variants.Angle = good (some angleRole)
-toldRole RoleCode.the-variants.Solid = good (some solidRole)
-toldRole RoleCode.the-variants.Nothing = good none
-toldRole (RoleCode.the-variants.Refused f) = bad (told f)
+abbrev pub toldUnitRole : RoleCode.UnitRole → Told (Option Role)
+toldUnitRole RoleCode.the-variants.Length = good (some lengthRole)
+toldUnitRole RoleCode.the-variants.Angle = good (some angleRole)
+toldUnitRole RoleCode.the-variants.Solid = good (some solidRole)
+toldUnitRole RoleCode.the-variants.Nothing = good none
+toldUnitRole (RoleCode.the-variants.Refused f) = bad (told f)
 
 -- one listed uncertainty: a "simple UNCERTAINTY_MEASURE_WITH_UNIT that reads", else none. A complex record is none whatever its parts
 -- are: they are not looked at, so that a fault in them refuses nothing here (open points, 4)
-abbrev pub uncertaintyOf : List ℕ → Thing → Told (Option ℕ)
+abbrev pub uncertaintyOf : List ℕ → SeenRecord → Told (Option ℕ)
 uncertaintyOf s t = pick (sameKind (t .kind) UncertaintyMeasureWithUnit) (uncertainBy (nextOf measureOf s (t .run .start) (t .run .stop) .answer)) (good none)
 
 -- one listed uncertainty by its id; a missing record is none
-unfoldable pub uncertaintyBy : List ℕ → (ℕ → Told (Option Thing)) → ℕ → Told (Option ℕ)
+unfoldable pub uncertaintyBy : List ℕ → (ℕ → Told (Option SeenRecord)) → ℕ → Told (Option ℕ)
 uncertaintyBy s find i = onward (optionBy (good none) (uncertaintyOf s)) (find i)

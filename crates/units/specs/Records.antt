@@ -10,25 +10,25 @@ use Rattle.statement.specs.Rows.{Row}
 use Rattle.table.specs.Table.{tableRows, rowNumbers}
 use Rattle.table.specs.Laid.{rows-laid-in, row-is}
 use Rattle.scan.specs.Records.{Table}
-use Rattle.scan.specs.Table.{rowsAfter}
-use Rattle.factors.specs.Thing.{Thing, thingOf}
-use Rattle.units.specs.Code.{thingsFrom, tableThings}
+use Rattle.scan.specs.ScanMemory.{rowsAfter}
+use Rattle.factors.specs.SeenRecords.{SeenRecord, seenRecordOf}
+use Rattle.units.specs.Code.{seenRecordsFrom, seenRecordsIn}
 
 -- where the row function tells these rows, from row k on, the records that are gone through are theirs
-things-by : (s : List ℕ) (row : ℕ → Row) (rs : List Row) (k : ℕ) → ((r : ℕ) → r < length rs → getElem? rs r ≡ some (row (k + r))) → thingsFrom s row (length rs) k ≡ map (thingOf s) rs
-unfolding thingsFrom
+things-by : (s : List ℕ) (row : ℕ → Row) (rs : List Row) (k : ℕ) → ((r : ℕ) → r < length rs → getElem? rs r ≡ some (row (k + r))) → seenRecordsFrom s row (length rs) k ≡ map (seenRecordOf s) rs
+unfolding seenRecordsFrom
 things-by s row [] k h = refl
 things-by s row (w ∷ rs) k h =
     let z : k + 0 ≡ k = omega arith in
     let q : some w ≡ some (row k) = h 0 (omega arith) ∙ ap (λ (j : ℕ). some (row j)) z in
     let e : row k ≡ w = cc in
     let g : (r : ℕ) → r < length rs → getElem? rs r ≡ some (row (suc k + r)) = λ r l. h (suc r) (omega arith) ∙ ap (λ (j : ℕ). some (row j)) (omega arith) in
-    ap₂ (λ (x : Row) (ts : List (Told Thing)). thingOf s x ∷ ts) e (things-by s row rs (suc k) g)
+    ap₂ (λ (x : Row) (ts : List (Told SeenRecord)). seenRecordOf s x ∷ ts) e (things-by s row rs (suc k) g)
 
 -- the records that the units go through are those of the file, in file order
-pub things-are : (s : List ℕ) (t : Table) (old : List ℕ)
-    → tableThings s (rowsAfter (good t) old) (length (t .records)) ≡ map (thingOf s) (t .records)
-things-are s t old =
+pub seen-records-are : (s : List ℕ) (t : Table) (old : List ℕ)
+    → seenRecordsIn s (rowsAfter (good t) old) (length (t .records)) ≡ map (seenRecordOf s) (t .records)
+seen-records-are s t old =
     let e : tableRows (rowsAfter (good t) old) (length (t .records)) ≡ length (t .records) = omega (arith, rows-laid-in (t .records) old) in
-    ap (λ (n : ℕ). thingsFrom s (rowNumbers (rowsAfter (good t) old)) n 0) e
+    ap (λ (n : ℕ). seenRecordsFrom s (rowNumbers (rowsAfter (good t) old)) n 0) e
     ∙ things-by s (rowNumbers (rowsAfter (good t) old)) (t .records) 0 (λ r l. row-is (t .records) old r l ∙ ap (λ (j : ℕ). some (rowNumbers (rowsAfter (good t) old) j)) (omega arith))

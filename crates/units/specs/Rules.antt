@@ -14,8 +14,8 @@ use Rattle.nearest.specs.Near.{near}
 use Rattle.kinds.specs.declared.Kind.{Kind}
 use Rattle.kinds.specs.declared.Kind.the-variants.{GlobalUnitAssignedContext, GlobalUncertaintyAssignedContext}
 use Rattle.params.specs.Answer.{onward}
-use Rattle.factors.specs.Each.{Each, IsFirst, LastForm}
-use Rattle.factors.specs.Thing.{goodBy, Piece, Thing, selfOr}
+use Rattle.factors.specs.Each.{Each, IsFirst, LastToldForm}
+use Rattle.factors.specs.SeenRecords.{goodBy, UnitPart, SeenRecord, selfOr}
 use Rattle.factors.specs.Factor.{lengthOf, angleOf}
 use Rattle.factors.specs.Unit.{optionBy}
 use Rattle.units.specs.Answer.{Units, units, defaults, Role, lengthRole, angleRole, solidRole, roleBy, withTolerance, isContext, refsIn, uncertaintyBy}
@@ -23,7 +23,7 @@ use Rattle.units.specs.Units.{roleOf}
 
 -- ---- the role of a listed unit
 -- "the role is a complex record's first part of LENGTH_UNIT, PLANE_ANGLE_UNIT and SOLID_ANGLE_UNIT": over the record's parts
-pub data RoleForm (ps : List Piece) : Option Role → Type 0 where
+pub data RoleForm (ps : List UnitPart) : Option Role → Type 0 where
   -- the first part that is a length, plane angle or solid angle unit gives the role
   part : {r : Role} → IsFirst (λ p. roleBy (p .kind) ≡ none) (λ p r. roleBy (p .kind) ≡ some r) ps r → RoleForm ps (some r)
   -- no part is a length, plane angle or solid angle unit; "a simple record gives no factor there": it has no parts
@@ -31,20 +31,20 @@ pub data RoleForm (ps : List Piece) : Option Role → Type 0 where
 
 -- ---- the units of a list
 -- what one listed unit gives: a length factor, an angle factor, or neither
-pub data Given : Type 0 where
-  aLength : ℕ → Given
-  anAngle : ℕ → Given
-  nothing : Given
+pub data ListedFactor : Type 0 where
+  aLength : ℕ → ListedFactor
+  anAngle : ℕ → ListedFactor
+  nothing : ListedFactor
 
 -- the length factor that a listed unit gave, if it was one
-abbrev pub lengthGiven : Told Given → Option ℕ
+abbrev pub lengthGiven : Told ListedFactor → Option ℕ
 lengthGiven (good (aLength f)) = some f
 lengthGiven (good (anAngle f)) = none
 lengthGiven (good nothing) = none
 lengthGiven (bad q) = none
 
 -- the angle factor that a listed unit gave, if it was one
-abbrev pub angleGiven : Told Given → Option ℕ
+abbrev pub angleGiven : Told ListedFactor → Option ℕ
 angleGiven (good (aLength f)) = none
 angleGiven (good (anAngle f)) = some f
 angleGiven (good nothing) = none
@@ -65,33 +65,33 @@ abbrev pub unitsWith : Option ℕ → Option ℕ → Units
 unitsWith l a = units (orOne l) (orOne a) (near 1 1000) (isGiven l)
 
 -- the list of references that a record has itself or in its first part of a kind; no references where it has no such part
-abbrev pub listIn : List ℕ → Kind → Thing → Told (List ℕ)
+abbrev pub listIn : List ℕ → Kind → SeenRecord → Told (List ℕ)
 listIn s k t = onward (refsIn s) (selfOr k t)
 
-module _ (s : List ℕ) (find : ℕ → Told (Option Thing)) where
+module _ (s : List ℕ) (find : ℕ → Told (Option SeenRecord)) where
   -- "In a unit list the role is ..": what a listed record gives in that role; a solid angle, or no role, gives neither factor
-  abbrev pub givenAs : Thing → Option Role → Told Given
+  abbrev pub givenAs : SeenRecord → Option Role → Told ListedFactor
   givenAs t (some lengthRole) = goodBy (optionBy nothing aLength) (lengthOf s find 16 t)
   givenAs t (some angleRole) = goodBy (optionBy nothing anAngle) (angleOf s find t)
   givenAs t (some solidRole) = good nothing
   givenAs t none = good nothing
 
   -- what the record of an id gives; "a missing record [..] gives no factor"
-  unfoldable pub givenBy : ℕ → Told Given
+  unfoldable pub givenBy : ℕ → Told ListedFactor
   givenBy i = onward (optionBy (good nothing) (λ t. onward (givenAs t) (roleOf t))) (find i)
 
   -- a listed unit does not refuse
-  abbrev pub Reads : ℕ → Type 0
-  Reads i = (g : Given) × (givenBy i ≡ good g)
+  abbrev pub UnitReads : ℕ → Type 0
+  UnitReads i = (g : ListedFactor) × (givenBy i ≡ good g)
 
   -- the units of a list of ids
   pub data UnitsForm (is : List ℕ) : Told Units → Type 0 where
     -- "its later length unit overwrites an earlier, as with angles (1.0 without one)": the last listed unit that gives a length factor
     -- gives the length, and the last that gives an angle factor the angle
-    read : (l a : Option ℕ) → Each Reads is → LastForm (λ i. lengthGiven (givenBy i)) is l → LastForm (λ i. angleGiven (givenBy i)) is a → UnitsForm is (good (unitsWith l a))
+    read : (l a : Option ℕ) → Each UnitReads is → LastToldForm (λ i. lengthGiven (givenBy i)) is l → LastToldForm (λ i. angleGiven (givenBy i)) is a → UnitsForm is (good (unitsWith l a))
     -- "An unreadable [..] conversion name or measure reference in any context tried, or a fault in the parts of a complex record met,
     -- refuses the whole answer": the first listed unit that refuses
-    refused : {q : Refusal} → IsFirst Reads (λ i q. givenBy i ≡ bad q) is q → UnitsForm is (bad q)
+    refused : {q : Refusal} → IsFirst UnitReads (λ i q. givenBy i ≡ bad q) is q → UnitsForm is (bad q)
 
   -- ---- the tolerance
   -- a listed uncertainty that ends the search: one that reads, or one that refuses
@@ -110,7 +110,7 @@ module _ (s : List ℕ) (find : ℕ → Told (Option Thing)) where
 
   -- ---- a context
   -- the units that a record declares: as the Rust has it, "units before uncertainties whatever their order" (open points)
-  pub data ContextForm (t : Thing) : Told Units → Type 0 where
+  pub data ContextForm (t : SeenRecord) : Told Units → Type 0 where
     -- the record's unit list and then its uncertainty list read
     read : {is js : List ℕ} {u : Units} {v : ℕ} → listIn s GlobalUnitAssignedContext t ≡ good is → UnitsForm is (good u)
         → listIn s GlobalUncertaintyAssignedContext t ≡ good js → ToleranceForm js (good v) → ContextForm t (good (withTolerance u v))
@@ -127,26 +127,26 @@ module _ (s : List ℕ) (find : ℕ → Told (Option Thing)) where
 
   -- ---- the records of the file
   -- a record that is passed over
-  pub data Passed : Told Thing → Type 0 where
+  pub data PassedOver : Told SeenRecord → Type 0 where
     -- a record that is no "unit context"
-    other : {t : Thing} → isContext s t ≡ good false → Passed (good t)
+    other : {t : SeenRecord} → isContext s t ≡ good false → PassedOver (good t)
     -- a unit context of which all reads, and whose units give no length factor
-    fruitless : {t : Thing} {u : Units} → isContext s t ≡ good true → ContextForm t (good u) → u .resolved ≡ false → Passed (good t)
+    fruitless : {t : SeenRecord} {u : Units} → isContext s t ≡ good true → ContextForm t (good u) → u .resolved ≡ false → PassedOver (good t)
 
   -- a record that decides, and the answer
-  pub data Decides : Told Thing → Told Units → Type 0 where
+  pub data Decides : Told SeenRecord → Told Units → Type 0 where
     -- a unit context "whose units give a length factor decides"
-    resolves : {t : Thing} {u : Units} → isContext s t ≡ good true → ContextForm t (good u) → u .resolved ≡ true → Decides (good t) (good u)
+    resolves : {t : SeenRecord} {u : Units} → isContext s t ≡ good true → ContextForm t (good u) → u .resolved ≡ true → Decides (good t) (good u)
     -- "An unreadable unit or uncertainty list, conversion name or measure reference in any context tried [..] refuses the whole answer."
-    refuses : {t : Thing} {q : Refusal} → isContext s t ≡ good true → ContextForm t (bad q) → Decides (good t) (bad q)
+    refuses : {t : SeenRecord} {q : Refusal} → isContext s t ≡ good true → ContextForm t (bad q) → Decides (good t) (bad q)
     -- "a fault in the parts of a complex record met, refuses the whole answer"
-    faulty : {t : Thing} {q : Refusal} → isContext s t ≡ bad q → Decides (good t) (bad q)
+    faulty : {t : SeenRecord} {q : Refusal} → isContext s t ≡ bad q → Decides (good t) (bad q)
     -- "9 span [..] outside the file or backwards": a record whose arguments cannot be had
     outside : {q : Refusal} → Decides (bad q) (bad q)
 
   -- the unit answer of a file's records, in file order
-  pub data ResolveForm (ts : List (Told Thing)) : Told Units → Type 0 where
+  pub data ResolveForm (ts : List (Told SeenRecord)) : Told Units → Type 0 where
     -- "The first, superseded ones included, whose units give a length factor decides": no record before it does, nor refuses
-    decided : {a : Told Units} → IsFirst Passed Decides ts a → ResolveForm ts a
+    decided : {a : Told Units} → IsFirst PassedOver Decides ts a → ResolveForm ts a
     -- "No such context: 1.0, 1.0, 1e-3, unresolved."
-    undecided : Each Passed ts → ResolveForm ts (good defaults)
+    undecided : Each PassedOver ts → ResolveForm ts (good defaults)

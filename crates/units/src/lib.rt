@@ -7,14 +7,14 @@ mod role;
 
 pub use listed::units_of_context;
 ghost use mathlib.Core.Path.{_≡_};
-ghost use Rattle.statement.specs.Rows.{rowOf};
+ghost use Rattle.statement.specs.Rows.{toldRow};
 ghost use Rattle.params.specs.Answer.{onward};
-ghost use Rattle.factors.specs.Thing.{thingOf, onRecord};
+ghost use Rattle.factors.specs.SeenRecords.{seenRecordOf, onRecord};
 ghost use Rattle.units.specs.Answer.{isContext, defaults, valuesIn, toldUnits};
 ghost use Rattle.units.specs.Code.{toldAsked, contextOr, deciding};
 ghost use Rattle.units.specs.InTable.{resolveTable};
 use error::Fault;
-use factors::Run;
+use factors::ArgumentsFound;
 use kinds::Kind;
 use lookup::Entry;
 use lookup::Tables;
@@ -57,12 +57,12 @@ fn assumed() -> Values
 
 // Whether a record is a unit context.
 fn is_context(file: &[u8], row: RecordSpan) -> Asked
-    ensures { λ r. ⌜ toldAsked r ≡ onward (isContext (now (file .entry))) (thingOf (now (file .entry)) (rowOf row)) ⌝ }
+    ensures { λ r. ⌜ toldAsked r ≡ onward (isContext (now (file .entry))) (seenRecordOf (now (file .entry)) (toldRow row)) ⌝ }
 {
     match factors::self_or(file, row, Kind::GeometricRepresentationContext) {
-        Run::Refused(f) => Asked::Refused(f),
-        Run::Nothing => Asked::No,
-        Run::Args(a, z) => match scalars::next_i64(file, State { place: a, end: z }) {
+        ArgumentsFound::Refused(f) => Asked::Refused(f),
+        ArgumentsFound::Nothing => Asked::No,
+        ArgumentsFound::Args(a, z) => match scalars::next_i64(file, State { place: a, end: z }) {
             NextWhole::Value(_, _) => Asked::Yes,
             NextWhole::Refused(_, _) => Asked::No,
         },
@@ -71,7 +71,7 @@ fn is_context(file: &[u8], row: RecordSpan) -> Asked
 
 // The units of a record, where it is a context; else those that are assumed.
 fn context_units(file: &[u8], rows: &[u32], slots: &[u64], t: Tables, row: RecordSpan) -> Resolved
-    ensures { λ r. ⌜ toldUnits r ≡ onRecord contextOr (now (file .entry)) (now (rows .entry)) (now (slots .entry)) (t .ids) (rowOf row) ⌝ }
+    ensures { λ r. ⌜ toldUnits r ≡ onRecord contextOr (now (file .entry)) (now (rows .entry)) (now (slots .entry)) (t .ids) (toldRow row) ⌝ }
 {
     match is_context(file, row) {
         Asked::Refused(f) => Resolved::Refused(f),

@@ -1,8 +1,8 @@
 // The units and the tolerance that a context lists.
 ghost use mathlib.Core.Path.{_≡_};
-ghost use Rattle.statement.specs.Rows.{rowOf};
+ghost use Rattle.statement.specs.Rows.{toldRow};
 ghost use Rattle.scalars.specs.Answer.{toldNextReal};
-ghost use Rattle.factors.specs.Thing.{goodBy, tableFind, onRecord};
+ghost use Rattle.factors.specs.SeenRecords.{goodBy, tableFind, onRecord};
 ghost use Rattle.factors.specs.Answer.{toldFactor};
 ghost use Rattle.units.specs.Answer.{defaults, withLength, withAngle, valuesIn, toldUnits, uncertainBy, uncertaintyBy};
 ghost use Rattle.units.specs.Units.{unitBy, unitsBy, toleranceBy, listedUnits, listedTolerance, contextOf};
@@ -10,17 +10,17 @@ ghost use Rattle.units.specs.Code.{RefsAt, RefsBy, ReadsAll, idsOf, told
 use crate::Resolved;
 use crate::Values;
 use crate::assumed;
-use crate::role::Role;
+use crate::role::UnitRole;
 use crate::role::role_of;
 use error::Fault;
+use factors::ArgumentsFound;
 use factors::Factor;
-use factors::Run;
 use kinds::Kind;
 use lists::Counted;
 use lookup::Entry;
 use lookup::Spanned;
 use lookup::Tables;
-use params::Cut;
+use params::NextParam;
 use params::State;
 use reals::Reference;
 use scalars::NextReal;
@@ -47,13 +47,13 @@ pub enum Uncertain {
 }
 
 // The list of references that the arguments begin with, read whole.
-fn refs_in(file: &[u8], run: Run) -> Refs
+fn refs_in(file: &[u8], run: ArgumentsFound) -> Refs
     ensures { λ r. ⌜ RefsAt (now (file .entry)) run r ⌝ }
 {
     match run {
-        Run::Refused(f) => Refs::Refused(f),
-        Run::Nothing => Refs::Nothing,
-        Run::Args(a, z) => refs_at(file, a, z),
+        ArgumentsFound::Refused(f) => Refs::Refused(f),
+        ArgumentsFound::Nothing => Refs::Nothing,
+        ArgumentsFound::Args(a, z) => refs_at(file, a, z),
     }
 }
 
@@ -61,8 +61,8 @@ fn refs_at(file: &[u8], a: usize, z: usize) -> Refs
     ensures { λ r. ⌜ RefsBy (now (file .entry)) a z r ⌝ }
 {
     match params::param_span(file, State { place: a, end: z }) {
-        Cut::Refused(f, _) => Refs::Refused(f),
-        Cut::Span(start, stop, _) => match lists::count_list(
+        NextParam::Refused(f, _) => Refs::Refused(f),
+        NextParam::Span(start, stop, _) => match lists::count_list(
             &file[start..stop],
             lists::Kind::References,
         ) {
@@ -118,11 +118,11 @@ fn one_unit(file: &[u8], rows: &[u32], slots: &[u64], t: Tables, u: Values, id: 
         return Resolved::Is(u);
     };
     match role_of(file, w) {
-        Role::Refused(f) => Resolved::Refused(f),
-        Role::Nothing => Resolved::Is(u),
-        Role::Solid => Resolved::Is(u),
-        Role::Length => with_length(u, factors::length_factor(file, rows, slots, t, w)),
-        Role::Angle => with_angle(u, factors::angle_factor(file, rows, slots, t, w)),
+        UnitRole::Refused(f) => Resolved::Refused(f),
+        UnitRole::Nothing => Resolved::Is(u),
+        UnitRole::Solid => Resolved::Is(u),
+        UnitRole::Length => with_length(u, factors::length_factor(file, rows, slots, t, w)),
+        UnitRole::Angle => with_angle(u, factors::angle_factor(file, rows, slots, t, w)),
     }
 }
 
@@ -155,7 +155,7 @@ fn units_from(file: &[u8], rows: &[u32], slots: &[u64], t: Tables, b: &[u8]) -> 
 
 // The units that a context lists.
 fn listed_units(file: &[u8], rows: &[u32], slots: &[u64], t: Tables, row: RecordSpan) -> Resolved
-    ensures { λ r. ⌜ toldUnits r ≡ onRecord listedUnits (now (file .entry)) (now (rows .entry)) (now (slots .entry)) (t .ids) (rowOf row) ⌝ }
+    ensures { λ r. ⌜ toldUnits r ≡ onRecord listedUnits (now (file .entry)) (now (rows .entry)) (now (slots .entry)) (t .ids) (toldRow row) ⌝ }
 {
     match refs_in(
         file,
@@ -238,7 +238,7 @@ fn listed_tolerance(
     t: Tables,
     row: RecordSpan,
 ) -> Tolerance
-    ensures { λ r. ⌜ toldTolerance r ≡ onRecord listedTolerance (now (file .entry)) (now (rows .entry)) (now (slots .entry)) (t .ids) (rowOf row) ⌝ }
+    ensures { λ r. ⌜ toldTolerance r ≡ onRecord listedTolerance (now (file .entry)) (now (rows .entry)) (now (slots .entry)) (t .ids) (toldRow row) ⌝ }
 {
     match refs_in(
         file,
@@ -258,7 +258,7 @@ pub fn units_of_context(
     t: Tables,
     row: RecordSpan,
 ) -> Resolved
-    ensures { λ r. ⌜ toldUnits r ≡ onRecord contextOf (now (file .entry)) (now (rows .entry)) (now (slots .entry)) (t .ids) (rowOf row) ⌝ }
+    ensures { λ r. ⌜ toldUnits r ≡ onRecord contextOf (now (file .entry)) (now (rows .entry)) (now (slots .entry)) (t .ids) (toldRow row) ⌝ }
 {
     match listed_units(file, rows, slots, t, row) {
         Resolved::Refused(f) => Resolved::Refused(f),

@@ -1,4 +1,4 @@
--- What Utf8.antt computes is what RFC 3629's tables say (Table.antt), and nothing else: each character has one encoding, which is a
+-- What Utf8.antt computes is what RFC 3629's tables say (Rfc3629.antt), and nothing else: each character has one encoding, which is a
 -- sequence of section 4; each sequence encodes one character; the character that bytes begin with is read back; bytes pass the test
 -- just where they are sequences one after another. No theorem asks that the numbers of a list are bytes. Assumes nothing.
 use Prim.Native.Nat.{ℕ, zero, suc, _+_, _*_, _-_, _/_, _%_, _≤_, _<_}
@@ -13,12 +13,12 @@ use lib.Dec.{eqb, leb}
 use lib.ListN.{length, take, drop, length-drop, take-append-drop}
 use lib.Seq.{length-take-le, drop-append-seam}
 use Rattle.common.specs.Pick.{pick}
-use Rattle.utf8.specs.Utf8.{scalar, encode, byteAt, tail, lowest, highest, second, leadTwo, leadThree, leadFour, leadOf, validFrom, validOf}
+use Rattle.utf8.specs.Utf8.{scalar, encode, byteAt, tail, leastSecond, highest, secondInRange, leadTwo, leadThree, leadFour, leadOf, validFrom, validOf}
 use Rattle.utf8.specs.Encoding.{encodeAll}
-use Rattle.utf8.specs.Answer.{Lead, valid, invalid}
-use Rattle.utf8.specs.Laws.{scalar-low, scalar-high, scalar-between, encode-one, encode-two, encode-three, encode-four, Ranged, one, two, three, four, none, ranged, byte-in, lead-one, lead-two, lead-three, lead-four, Leads, led-one, led-two, led-three, led-four, led-none, leads, tail-byte, second-byte, used-within, valid-after, valid-stops}
-use Rattle.utf8.specs.Table.{In, Tail, Encoded, line-one, line-two, line-three, line-four, Sequence, utf8-1, utf8-2, utf8-3-e0, utf8-3-e1, utf8-3-ed, utf8-3-ee, utf8-4-f0, utf8-4-f1, utf8-4-f4, Valid, more}
-use Rattle.utf8.specs.Table as table
+use Rattle.utf8.specs.Answer.{LeadCharacter, valid, invalid}
+use Rattle.utf8.specs.Laws.{scalar-low, scalar-high, scalar-between, encode-one, encode-two, encode-three, encode-four, TableLine, one, two, three, four, none, table-line-is, byte-in, lead-one, lead-two, lead-three, lead-four, LeadCases, led-one, led-two, led-three, led-four, led-none, lead-case-is, tail-byte, second-byte, used-within, valid-after, valid-stops}
+use Rattle.utf8.specs.Rfc3629.{In, Tail, Encoded, line-one, line-two, line-three, line-four, Sequence, utf8-1, utf8-2, utf8-3-e0, utf8-3-e1, utf8-3-ed, utf8-3-ee, utf8-4-f0, utf8-4-f1, utf8-4-f4, Valid, more}
+use Rattle.utf8.specs.Rfc3629 as table
 
 -- ---- section 3's table and `encode`
 -- a number in digits of six bits: the last is the remainder by 64, the others the quotient
@@ -82,12 +82,12 @@ table-only {c} (line-four {x = x} {y = y} {z = z} {w = w} (l, h) e xl yl zl wl) 
 
 -- the encoding of a character is what section 3's table says
 pub table-is : (c : ℕ) → scalar c ≡ true → Encoded c (encode c)
-table-is c s = go (ranged c)
+table-is c s = go (table-line-is c)
   where
     surrogate : In 55296 57343 c → ⊥
     surrogate (l, h) = never c s (scalar-between c l h)
 
-    go : Ranged c → Encoded c (encode c)
+    go : TableLine c → Encoded c (encode c)
     go (one h) = rw (encode-one c h) (line-one {c = c} (omega arith, omega arith))
     go (two l h) =
         let e : c / 64 * 64 + c % 64 ≡ c = div-add-mod' c 64 in
@@ -122,8 +122,8 @@ record Second (a b : ℕ) : Type 0 where
   is-tail : Tail b
 
 -- a second byte of section 4 passes the test
-second-is : (a b : ℕ) → Second a b → second a b ≡ true
-second-is a b s = rw (le-leb (lowest a) b (low (eqb a 224) refl (eqb a 240) refl), le-leb b (highest a) (high (eqb a 237) refl (eqb a 244) refl))
+second-is : (a b : ℕ) → Second a b → secondInRange a b ≡ true
+second-is a b s = rw (le-leb (leastSecond a) b (low (eqb a 224) refl (eqb a 240) refl), le-leb b (highest a) (high (eqb a 237) refl (eqb a 244) refl))
   where
     low : (t : Bool) → eqb a 224 ≡ t → (u : Bool) → eqb a 240 ≡ u → pick t 160 (pick u 144 128) ≤ b
     low true e u f = s .after-e0 (eqb-true a 224 e)
@@ -136,13 +136,13 @@ second-is a b s = rw (le-leb (lowest a) b (low (eqb a 224) refl (eqb a 240) refl
     high false e false f = s .is-tail .1
 
 -- a byte that passes the test for a second byte is one of section 4
-second-only : (a b : ℕ) → second a b ≡ true → Second a b
+second-only : (a b : ℕ) → secondInRange a b ≡ true → Second a b
 second-only a b e =
     let (l, h, x, y) = second-byte a b e in
     record {
-      after-e0 = λ q. subst (λ (n : ℕ). n ≤ b) (ap lowest q) l;
+      after-e0 = λ q. subst (λ (n : ℕ). n ≤ b) (ap leastSecond q) l;
       after-ed = λ q. subst (λ (n : ℕ). b ≤ n) (ap highest q) h;
-      after-f0 = λ q. subst (λ (n : ℕ). n ≤ b) (ap lowest q) l;
+      after-f0 = λ q. subst (λ (n : ℕ). n ≤ b) (ap leastSecond q) l;
       after-f4 = λ q. subst (λ (n : ℕ). b ≤ n) (ap highest q) h;
       is-tail = (x, y);
     }
@@ -188,14 +188,14 @@ table-leads {c} (line-two {x = x} {y = y} (l, h) e xl yl) r =
     let k : leadTwo (192 + x) (128 + y) ≡ valid c 2 = rw (t, n) in
     sym (lead-two ((192 + x) ∷ (128 + y) ∷ r) (192 + x) (128 + y) refl refl (in-is 194 (192 + x) 223 (omega arith) (omega arith))) ∙ k
 table-leads {c} (line-three {x = x} {y = y} {z = z} (l, h) s e xl yl zl) r =
-    let u : second (224 + x) (128 + y) ≡ true =
+    let u : secondInRange (224 + x) (128 + y) ≡ true =
     second-is (224 + x) (128 + y) (second-three x y z (l, h) s e xl yl zl) in
     let t : tail (128 + z) ≡ true = tail-is (128 + z) (omega arith, omega arith) in
     let n : (224 + x - 224) * 4096 + (128 + y - 128) * 64 + (128 + z - 128) ≡ c = omega arith in
     let k : leadThree (224 + x) (128 + y) (128 + z) ≡ valid c 3 = rw (u, t, n) in
     sym (lead-three ((224 + x) ∷ (128 + y) ∷ (128 + z) ∷ r) (224 + x) (128 + y) (128 + z) refl refl refl (in-is 224 (224 + x) 239 (omega arith) (omega arith))) ∙ k
 table-leads {c} (line-four {x = x} {y = y} {z = z} {w = w} (l, h) e xl yl zl wl) r =
-    let u : second (240 + x) (128 + y) ≡ true =
+    let u : secondInRange (240 + x) (128 + y) ≡ true =
     second-is (240 + x) (128 + y) (second-four x y z w (l, h) e xl yl zl wl) in
     let t : tail (128 + z) ≡ true = tail-is (128 + z) (omega arith, omega arith) in
     let v : tail (128 + w) ≡ true = tail-is (128 + w) (omega arith, omega arith) in
@@ -353,9 +353,9 @@ first-four (a ∷ r) h = ap (λ (x : List ℕ). a ∷ x) (first-three r (omega a
 
 -- what is read as a character is a line of section 3's table
 lead-table : (s : List ℕ) (c k : ℕ) → leadOf s ≡ valid c k → Encoded c (take k s)
-lead-table s c k = go (leadOf s) (leads s)
+lead-table s c k = go (leadOf s) (lead-case-is s)
   where
-    go : (l : Lead) → Leads s l → l ≡ valid c k → Encoded c (take k s)
+    go : (l : LeadCharacter) → LeadCases s l → l ≡ valid c k → Encoded c (take k s)
     go _ (led-one h) e =
         let n : byteAt s 0 ≡ c = cc in
         let m : 1 ≡ k = cc in
@@ -426,7 +426,7 @@ valid-step : (s : List ℕ) → ((t : List ℕ) → length t < length s → vali
 valid-step [] ih e = table.none
 valid-step (a ∷ r) ih e = go (a ∷ r) (omega arith) ih e (leadOf (a ∷ r)) refl
   where
-    go : (s : List ℕ) → 0 < length s → ((t : List ℕ) → length t < length s → validOf t ≡ true → Valid t) → validOf s ≡ true → (l : Lead) → leadOf s ≡ l → Valid s
+    go : (s : List ℕ) → 0 < length s → ((t : List ℕ) → length t < length s → validOf t ≡ true → Valid t) → validOf s ≡ true → (l : LeadCharacter) → leadOf s ≡ l → Valid s
     go s h ih e (valid c k) f =
         let (p, q) = used-within s c k f in
         let (t, b, m) = lead-is s c k f in

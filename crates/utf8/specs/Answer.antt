@@ -7,17 +7,17 @@ use lib.ListN.{length, take, drop}
 use Rattle.common.specs.Pick.{pick}
 
 -- what a list of bytes begins with: a character, in so many bytes, or no valid sequence
-pub data Lead : Type 0 where
-  valid : ℕ → ℕ → Lead
-  invalid : Lead
+pub data LeadCharacter : Type 0 where
+  valid : ℕ → ℕ → LeadCharacter
+  invalid : LeadCharacter
 
 -- the number of the character that bytes begin with, 0 where there is none
-abbrev pub codeOfLead : Lead → ℕ
+abbrev pub codeOfLead : LeadCharacter → ℕ
 codeOfLead (valid c n) = c
 codeOfLead invalid = 0
 
 -- in how many bytes the character that bytes begin with stands, 0 where there is none
-abbrev pub usedOfLead : Lead → ℕ
+abbrev pub usedOfLead : LeadCharacter → ℕ
 usedOfLead (valid c n) = n
 usedOfLead invalid = 0
 

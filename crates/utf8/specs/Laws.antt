@@ -12,8 +12,8 @@ use lib.ListN.{length, take, drop, getD, length-drop, List·getD-eq-default, dro
 use lib.Seq.{sets, sets-eq, take-all, drop-drop, getD-drop}
 use Rattle.common.specs.Pick.{pick}
 use Rattle.common.specs.Tests.{both, bounds}
-use Rattle.utf8.specs.Utf8.{scalar, encode, byteAt, tail, lowest, highest, second, leadTwo, leadThree, leadFour, leadOf, validFrom, validOf}
-use Rattle.utf8.specs.Answer.{Lead, valid, invalid, codeOfLead, usedOfLead, putAt, putWidth}
+use Rattle.utf8.specs.Utf8.{scalar, encode, byteAt, tail, leastSecond, highest, secondInRange, leadTwo, leadThree, leadFour, leadOf, validFrom, validOf}
+use Rattle.utf8.specs.Answer.{LeadCharacter, valid, invalid, codeOfLead, usedOfLead, putAt, putWidth}
 
 -- ---- which numbers are characters
 -- a number below the surrogates is a character
@@ -71,18 +71,18 @@ unfolding encode
 encode-none c e = rw e
 
 -- the line of section 3's table that a number belongs to
-pub data Ranged (c : ℕ) : Type 0 where
-  one : c < 128 → Ranged c
-  two : 128 ≤ c → c < 2048 → Ranged c
-  three : 2048 ≤ c → c < 65536 → scalar c ≡ true → Ranged c
-  four : 65536 ≤ c → c ≤ 1114111 → Ranged c
-  none : scalar c ≡ false → Ranged c
+pub data TableLine (c : ℕ) : Type 0 where
+  one : c < 128 → TableLine c
+  two : 128 ≤ c → c < 2048 → TableLine c
+  three : 2048 ≤ c → c < 65536 → scalar c ≡ true → TableLine c
+  four : 65536 ≤ c → c ≤ 1114111 → TableLine c
+  none : scalar c ≡ false → TableLine c
 
 -- each number belongs to a line of section 3's table, or is no character
-pub ranged : (c : ℕ) → Ranged c
-ranged c = go (decLt c 128) (decLt c 2048) (decLt c 55296) (decLt c 57344) (decLt c 65536) (decLe c 1114111)
+pub table-line-is : (c : ℕ) → TableLine c
+table-line-is c = go (decLt c 128) (decLt c 2048) (decLt c 55296) (decLt c 57344) (decLt c 65536) (decLe c 1114111)
   where
-    go : Dec (c < 128) → Dec (c < 2048) → Dec (c < 55296) → Dec (c < 57344) → Dec (c < 65536) → Dec (c ≤ 1114111) → Ranged c
+    go : Dec (c < 128) → Dec (c < 2048) → Dec (c < 55296) → Dec (c < 57344) → Dec (c < 65536) → Dec (c ≤ 1114111) → TableLine c
     go (yes h) _ _ _ _ _ = one h
     go (no n) (yes h) _ _ _ _ = two (omega arith) h
     go (no n) (no m) (yes h) _ _ _ = three (omega arith) (omega arith) (scalar-low c h)
@@ -102,9 +102,9 @@ pub record Sized (c n : ℕ) : Type 0 where
 
 -- an encoding's length tells the line of section 3's table
 pub sized : (c n : ℕ) → n ≡ length (encode c) → Sized c n
-sized c n e = go (ranged c)
+sized c n e = go (table-line-is c)
   where
-    go : Ranged c → Sized c n
+    go : TableLine c → Sized c n
     go (one h) =
         let k : n ≡ 1 = e ∙ ap length (encode-one c h) in
         record {
@@ -203,59 +203,59 @@ unfolding leadOf
 lead-none s a ea h x y z = rw (← ea, le-ltb a 128 h, x, y, z)
 
 -- the ways in which bytes begin with a character
-pub data Leads (s : List ℕ) : Lead → Type 0 where
-  led-one : byteAt s 0 < 128 → Leads s (valid (byteAt s 0) 1)
-  led-two : 194 ≤ byteAt s 0 → byteAt s 0 ≤ 223 → tail (byteAt s 1) ≡ true → Leads s (valid ((byteAt s 0 - 192) * 64 + (byteAt s 1 - 128)) 2)
-  led-three : 224 ≤ byteAt s 0 → byteAt s 0 ≤ 239 → second (byteAt s 0) (byteAt s 1) ≡ true → tail (byteAt s 2) ≡ true
-      → Leads s (valid ((byteAt s 0 - 224) * 4096 + (byteAt s 1 - 128) * 64 + (byteAt s 2 - 128)) 3)
-  led-four : 240 ≤ byteAt s 0 → byteAt s 0 ≤ 244 → second (byteAt s 0) (byteAt s 1) ≡ true → tail (byteAt s 2) ≡ true → tail (byteAt s 3) ≡ true
-      → Leads s (valid ((byteAt s 0 - 240) * 262144 + (byteAt s 1 - 128) * 4096 + (byteAt s 2 - 128) * 64 + (byteAt s 3 - 128)) 4)
-  led-none : Leads s invalid
+pub data LeadCases (s : List ℕ) : LeadCharacter → Type 0 where
+  led-one : byteAt s 0 < 128 → LeadCases s (valid (byteAt s 0) 1)
+  led-two : 194 ≤ byteAt s 0 → byteAt s 0 ≤ 223 → tail (byteAt s 1) ≡ true → LeadCases s (valid ((byteAt s 0 - 192) * 64 + (byteAt s 1 - 128)) 2)
+  led-three : 224 ≤ byteAt s 0 → byteAt s 0 ≤ 239 → secondInRange (byteAt s 0) (byteAt s 1) ≡ true → tail (byteAt s 2) ≡ true
+      → LeadCases s (valid ((byteAt s 0 - 224) * 4096 + (byteAt s 1 - 128) * 64 + (byteAt s 2 - 128)) 3)
+  led-four : 240 ≤ byteAt s 0 → byteAt s 0 ≤ 244 → secondInRange (byteAt s 0) (byteAt s 1) ≡ true → tail (byteAt s 2) ≡ true → tail (byteAt s 3) ≡ true
+      → LeadCases s (valid ((byteAt s 0 - 240) * 262144 + (byteAt s 1 - 128) * 4096 + (byteAt s 2 - 128) * 64 + (byteAt s 3 - 128)) 4)
+  led-none : LeadCases s invalid
 
 -- each list of bytes begins in one of the five ways
-pub leads : (s : List ℕ) → Leads s (leadOf s)
+pub lead-case-is : (s : List ℕ) → LeadCases s (leadOf s)
 unfolding leadOf
-leads s = one (ltb (byteAt s 0) 128) refl
+lead-case-is s = one (ltb (byteAt s 0) 128) refl
   where
     two : (t : Bool) → tail (byteAt s 1) ≡ t → leb 194 (byteAt s 0) && leb (byteAt s 0) 223 ≡ true
-        → Leads s (pick t (valid ((byteAt s 0 - 192) * 64 + (byteAt s 1 - 128)) 2) invalid)
+        → LeadCases s (pick t (valid ((byteAt s 0 - 192) * 64 + (byteAt s 1 - 128)) 2) invalid)
     two true e h = led-two (bounds 194 (byteAt s 0) 223 h .0) (bounds 194 (byteAt s 0) 223 h .1) e
     two false e h = led-none
 
-    three : (t : Bool) → second (byteAt s 0) (byteAt s 1) && tail (byteAt s 2) ≡ t → leb 224 (byteAt s 0) && leb (byteAt s 0) 239 ≡ true
-        → Leads s (pick t (valid ((byteAt s 0 - 224) * 4096 + (byteAt s 1 - 128) * 64 + (byteAt s 2 - 128)) 3) invalid)
-    three true e h = let p = both (second (byteAt s 0) (byteAt s 1)) (tail (byteAt s 2)) e in
+    three : (t : Bool) → secondInRange (byteAt s 0) (byteAt s 1) && tail (byteAt s 2) ≡ t → leb 224 (byteAt s 0) && leb (byteAt s 0) 239 ≡ true
+        → LeadCases s (pick t (valid ((byteAt s 0 - 224) * 4096 + (byteAt s 1 - 128) * 64 + (byteAt s 2 - 128)) 3) invalid)
+    three true e h = let p = both (secondInRange (byteAt s 0) (byteAt s 1)) (tail (byteAt s 2)) e in
         led-three (bounds 224 (byteAt s 0) 239 h .0) (bounds 224 (byteAt s 0) 239 h .1) (p .0) (p .1)
     three false e h = led-none
 
-    four : (t : Bool) → second (byteAt s 0) (byteAt s 1) && tail (byteAt s 2) && tail (byteAt s 3) ≡ t → leb 240 (byteAt s 0) && leb (byteAt s 0) 244 ≡ true
-        → Leads s (pick t (valid ((byteAt s 0 - 240) * 262144 + (byteAt s 1 - 128) * 4096 + (byteAt s 2 - 128) * 64 + (byteAt s 3 - 128)) 4) invalid)
+    four : (t : Bool) → secondInRange (byteAt s 0) (byteAt s 1) && tail (byteAt s 2) && tail (byteAt s 3) ≡ t → leb 240 (byteAt s 0) && leb (byteAt s 0) 244 ≡ true
+        → LeadCases s (pick t (valid ((byteAt s 0 - 240) * 262144 + (byteAt s 1 - 128) * 4096 + (byteAt s 2 - 128) * 64 + (byteAt s 3 - 128)) 4) invalid)
     four true e h =
-        let p = both (second (byteAt s 0) (byteAt s 1) && tail (byteAt s 2)) (tail (byteAt s 3)) e in
-        let q = both (second (byteAt s 0) (byteAt s 1)) (tail (byteAt s 2)) (p .0) in
+        let p = both (secondInRange (byteAt s 0) (byteAt s 1) && tail (byteAt s 2)) (tail (byteAt s 3)) e in
+        let q = both (secondInRange (byteAt s 0) (byteAt s 1)) (tail (byteAt s 2)) (p .0) in
         led-four (bounds 240 (byteAt s 0) 244 h .0) (bounds 240 (byteAt s 0) 244 h .1) (q .0) (q .1) (p .1)
     four false e h = led-none
 
     last : (t : Bool) → leb 240 (byteAt s 0) && leb (byteAt s 0) 244 ≡ t
-        → Leads s (pick t (leadFour (byteAt s 0) (byteAt s 1) (byteAt s 2) (byteAt s 3)) invalid)
-    last true h = four (second (byteAt s 0) (byteAt s 1) && tail (byteAt s 2) && tail (byteAt s 3)) refl h
+        → LeadCases s (pick t (leadFour (byteAt s 0) (byteAt s 1) (byteAt s 2) (byteAt s 3)) invalid)
+    last true h = four (secondInRange (byteAt s 0) (byteAt s 1) && tail (byteAt s 2) && tail (byteAt s 3)) refl h
     last false h = led-none
 
     third : (t : Bool) → leb 224 (byteAt s 0) && leb (byteAt s 0) 239 ≡ t
-        → Leads s (pick t (leadThree (byteAt s 0) (byteAt s 1) (byteAt s 2))
+        → LeadCases s (pick t (leadThree (byteAt s 0) (byteAt s 1) (byteAt s 2))
         (pick (leb 240 (byteAt s 0) && leb (byteAt s 0) 244) (leadFour (byteAt s 0) (byteAt s 1) (byteAt s 2) (byteAt s 3)) invalid))
-    third true h = three (second (byteAt s 0) (byteAt s 1) && tail (byteAt s 2)) refl h
+    third true h = three (secondInRange (byteAt s 0) (byteAt s 1) && tail (byteAt s 2)) refl h
     third false h = last (leb 240 (byteAt s 0) && leb (byteAt s 0) 244) refl
 
     next : (t : Bool) → leb 194 (byteAt s 0) && leb (byteAt s 0) 223 ≡ t
-        → Leads s (pick t (leadTwo (byteAt s 0) (byteAt s 1)) (pick (leb 224 (byteAt s 0) && leb (byteAt s 0) 239)
+        → LeadCases s (pick t (leadTwo (byteAt s 0) (byteAt s 1)) (pick (leb 224 (byteAt s 0) && leb (byteAt s 0) 239)
         (leadThree (byteAt s 0) (byteAt s 1) (byteAt s 2))
         (pick (leb 240 (byteAt s 0) && leb (byteAt s 0) 244) (leadFour (byteAt s 0) (byteAt s 1) (byteAt s 2) (byteAt s 3)) invalid)))
     next true h = two (tail (byteAt s 1)) refl h
     next false h = third (leb 224 (byteAt s 0) && leb (byteAt s 0) 239) refl
 
     one : (t : Bool) → ltb (byteAt s 0) 128 ≡ t
-        → Leads s (pick t (valid (byteAt s 0) 1) (pick (leb 194 (byteAt s 0) && leb (byteAt s 0) 223) (leadTwo (byteAt s 0) (byteAt s 1))
+        → LeadCases s (pick t (valid (byteAt s 0) 1) (pick (leb 194 (byteAt s 0) && leb (byteAt s 0) 223) (leadTwo (byteAt s 0) (byteAt s 1))
         (pick (leb 224 (byteAt s 0) && leb (byteAt s 0) 239) (leadThree (byteAt s 0) (byteAt s 1) (byteAt s 2))
         (pick (leb 240 (byteAt s 0) && leb (byteAt s 0) 244) (leadFour (byteAt s 0) (byteAt s 1) (byteAt s 2) (byteAt s 3)) invalid))))
     one true h = led-one (ltb-true (byteAt s 0) 128 h)
@@ -266,7 +266,7 @@ pub tail-byte : (b : ℕ) → tail b ≡ true → (128 ≤ b) × (b ≤ 191)
 tail-byte b e = bounds 128 b 191 e
 
 -- the least second byte is not below the tail bytes
-pub lowest-tail : (a : ℕ) → 128 ≤ lowest a
+pub lowest-tail : (a : ℕ) → 128 ≤ leastSecond a
 lowest-tail a = go (eqb a 224) (eqb a 240)
   where
     go : (t u : Bool) → 128 ≤ pick t 160 (pick u 144 128)
@@ -284,14 +284,14 @@ highest-tail a = go (eqb a 237) (eqb a 244)
     go false false = omega arith
 
 -- a second byte lies in the range of its first byte, and is a tail byte
-pub second-byte : (a b : ℕ) → second a b ≡ true → (lowest a ≤ b) × (b ≤ highest a) × (128 ≤ b) × (b ≤ 191)
+pub second-byte : (a b : ℕ) → secondInRange a b ≡ true → (leastSecond a ≤ b) × (b ≤ highest a) × (128 ≤ b) × (b ≤ 191)
 second-byte a b e =
-    let (l, h) = bounds (lowest a) b (highest a) e in
+    let (l, h) = bounds (leastSecond a) b (highest a) e in
     (l, h, omega (arith, lowest-tail a), omega (arith, highest-tail a))
 
 -- the second and third of three bytes, by the tests' answers
-pub three-tests : (a b c : ℕ) (p q : Bool) → p ≡ second a b → q ≡ tail c → p && q ≡ true
-    → (second a b && tail c ≡ true) × (128 ≤ b) × (b ≤ 191) × (128 ≤ c) × (c ≤ 191)
+pub three-tests : (a b c : ℕ) (p q : Bool) → p ≡ secondInRange a b → q ≡ tail c → p && q ≡ true
+    → (secondInRange a b && tail c ≡ true) × (128 ≤ b) × (b ≤ 191) × (128 ≤ c) × (c ≤ 191)
 three-tests a b c p q ep eq e =
     let (x, y) = both p q e in
     let (l, h, bl, bh) = second-byte a b (sym ep ∙ x) in
@@ -299,8 +299,8 @@ three-tests a b c p q ep eq e =
     (rw (sym ep ∙ x, sym eq ∙ y), bl, bh, cl, ch)
 
 -- the second, third and fourth of four bytes, by the tests' answers
-pub four-tests : (a b c d : ℕ) (p q r : Bool) → p ≡ second a b → q ≡ tail c → r ≡ tail d → p && q && r ≡ true
-    → (second a b && tail c && tail d ≡ true) × (128 ≤ b) × (b ≤ 191) × (128 ≤ c) × (c ≤ 191) × (128 ≤ d) × (d ≤ 191)
+pub four-tests : (a b c d : ℕ) (p q r : Bool) → p ≡ secondInRange a b → q ≡ tail c → r ≡ tail d → p && q && r ≡ true
+    → (secondInRange a b && tail c && tail d ≡ true) × (128 ≤ b) × (b ≤ 191) × (128 ≤ c) × (c ≤ 191) × (128 ≤ d) × (d ≤ 191)
 four-tests a b c d p q r ep eq er e =
     let (x, y) = both (p && q) r e in
     let (t, bl, bh, cl, ch) = three-tests a b c p q ep eq x in
@@ -309,9 +309,9 @@ four-tests a b c d p q r ep eq er e =
 
 -- a character stands in bytes of the list, at least one
 pub used-within : (s : List ℕ) (c n : ℕ) → leadOf s ≡ valid c n → (0 < n) × (n ≤ length s)
-used-within s c n = go (leadOf s) (leads s)
+used-within s c n = go (leadOf s) (lead-case-is s)
   where
-    go : (l : Lead) → Leads s l → l ≡ valid c n → (0 < n) × (n ≤ length s)
+    go : (l : LeadCharacter) → LeadCases s l → l ≡ valid c n → (0 < n) × (n ≤ length s)
     go _ (led-one h) e = let k : n ≡ 1 = cc in (omega arith, omega (arith, byte-in s 0 (omega arith)))
     go _ (led-two l h t) e = let k : n ≡ 2 = cc in (omega arith, omega (arith, byte-in s 1 (omega (arith, tail-byte (byteAt s 1) t))))
     go _ (led-three l h t u) e = let k : n ≡ 3 = cc in (omega arith, omega (arith, byte-in s 2 (omega (arith, tail-byte (byteAt s 2) u))))
@@ -363,7 +363,7 @@ valid-stops (b ∷ r) h e = rw e
 pub used-none : (s : List ℕ) → 0 ≡ usedOfLead (leadOf s) → leadOf s ≡ invalid
 used-none s = go (leadOf s) refl
   where
-    go : (l : Lead) → leadOf s ≡ l → 0 ≡ usedOfLead l → l ≡ invalid
+    go : (l : LeadCharacter) → leadOf s ≡ l → 0 ≡ usedOfLead l → l ≡ invalid
     go (valid c n) e k = let (p, q) = used-within s c n e in absurd (omega arith)
     go invalid e k = refl
 
@@ -371,7 +371,7 @@ used-none s = go (leadOf s) refl
 pub used-some : (s : List ℕ) (n : ℕ) → n ≡ usedOfLead (leadOf s) → (n ≡ 0 → ⊥) → leadOf s ≡ valid (codeOfLead (leadOf s)) n
 used-some s n = go (leadOf s) refl
   where
-    go : (l : Lead) → leadOf s ≡ l → n ≡ usedOfLead l → (n ≡ 0 → ⊥) → l ≡ valid (codeOfLead l) n
+    go : (l : LeadCharacter) → leadOf s ≡ l → n ≡ usedOfLead l → (n ≡ 0 → ⊥) → l ≡ valid (codeOfLead l) n
     go (valid c m) e k h = ap (valid c) (sym k)
     go invalid e k h = absurd (h k)
 

@@ -5,11 +5,11 @@ ghost use Prim.Native.Nat.{_+_, _≤_, _<_};
 ghost use lib.ListN.{length};
 ghost use lib.Seq.{sets};
 ghost use mathlib.Core.Bool.{true};
-ghost use Rattle.utf8.specs.Utf8.{scalar, encode, byteAt, tail, lowest, highest, second, leadTwo, leadThree, leadFour, leadOf, validOf};
+ghost use Rattle.utf8.specs.Utf8.{scalar, encode, byteAt, tail, leastSecond, highest, secondInRange, leadTwo, leadThree, leadFour, leadOf, validOf};
 ghost use Rattle.utf8.specs.Answer.{codeOfLead, usedOfLead, putAt, putWidth};
 
 // A character, and how many bytes stand for it; both 0 where no valid sequence stands.
-pub struct Character {
+pub struct FirstCharacter {
     pub code: u32,
     pub used: usize,
 }
@@ -56,7 +56,7 @@ fn is_tail(b: u32) -> bool
 
 // The least byte that may stand second: no longer form than needed.
 fn lowest_second(a: u32) -> u32
-    ensures { λ r. ⌜ r ≡ lowest a ⌝ }
+    ensures { λ r. ⌜ r ≡ leastSecond a ⌝ }
 {
     if a == 224 {
         return 160;
@@ -82,25 +82,25 @@ fn highest_second(a: u32) -> u32
 
 // Whether b may stand second after the first byte a.
 fn is_second(a: u32, b: u32) -> bool
-    ensures { λ r. ⌜ r ≡ second a b ⌝ }
+    ensures { λ r. ⌜ r ≡ secondInRange a b ⌝ }
 {
     (lowest_second(a) <= b) & (b <= highest_second(a))
 }
 
 // No valid sequence.
-fn nothing() -> Character
+fn nothing() -> FirstCharacter
     ensures { λ r. ⌜ (r .code ≡ 0) × (r .used ≡ 0) ⌝ }
 {
-    Character { code: 0, used: 0 }
+    FirstCharacter { code: 0, used: 0 }
 }
 
 // The character of two bytes, whose first is C2 to DF.
-fn two(a: u32, b: u32) -> Character
+fn two(a: u32, b: u32) -> FirstCharacter
     requires { ⌜ (194 ≤ a) × (a ≤ 223) ⌝ }
     ensures { λ r. ⌜ (r .code ≡ codeOfLead (leadTwo a b)) × (r .used ≡ usedOfLead (leadTwo a b)) ⌝ }
 {
     if is_tail(b) {
-        return Character {
+        return FirstCharacter {
             code: (a - 192) * 64 + (b - 128),
             used: 2,
         };
@@ -109,12 +109,12 @@ fn two(a: u32, b: u32) -> Character
 }
 
 // The character of three bytes, whose first is E0 to EF.
-fn three(a: u32, b: u32, c: u32) -> Character
+fn three(a: u32, b: u32, c: u32) -> FirstCharacter
     requires { ⌜ (224 ≤ a) × (a ≤ 239) ⌝ }
     ensures { λ r. ⌜ (r .code ≡ codeOfLead (leadThree a b c)) × (r .used ≡ usedOfLead (leadThree a b c)) ⌝ }
 {
     if is_second(a, b) & is_tail(c) {
-        return Character {
+        return FirstCharacter {
             code: (a - 224) * 4096 + (b - 128) * 64 + (c - 128),
             used: 3,
         };
@@ -123,12 +123,12 @@ fn three(a: u32, b: u32, c: u32) -> Character
 }
 
 // The character of four bytes, whose first is F0 to F4.
-fn four(a: u32, b: u32, c: u32, d: u32) -> Character
+fn four(a: u32, b: u32, c: u32, d: u32) -> FirstCharacter
     requires { ⌜ (240 ≤ a) × (a ≤ 244) ⌝ }
     ensures { λ r. ⌜ (r .code ≡ codeOfLead (leadFour a b c d)) × (r .used ≡ usedOfLead (leadFour a b c d)) ⌝ }
 {
     if is_second(a, b) & is_tail(c) & is_tail(d) {
-        return Character {
+        return FirstCharacter {
             code: (a - 240) * 262144 + (b - 128) * 4096 + (c - 128) * 64 + (d - 128),
             used: 4,
         };
@@ -137,12 +137,12 @@ fn four(a: u32, b: u32, c: u32, d: u32) -> Character
 }
 
 // The character that the bytes begin with.
-pub fn sequence(bytes: &[u8]) -> Character
+pub fn sequence(bytes: &[u8]) -> FirstCharacter
     ensures { λ r. ⌜ (r .code ≡ codeOfLead (leadOf (now (bytes .entry)))) × (r .used ≡ usedOfLead (leadOf (now (bytes .entry)))) ⌝ }
 {
     let a = byte_at(bytes, 0);
     if a < 128 {
-        return Character { code: a, used: 1 };
+        return FirstCharacter { code: a, used: 1 };
     }
     if (194 <= a) & (a <= 223) {
         return two(a, byte_at(bytes, 1));

@@ -12,8 +12,8 @@ use Rattle.words.specs.declared.NextName as NextNameCode
 use Rattle.words.specs.declared.NextText as NextTextCode
 
 -- the bytes of a part of the file
-abbrev pub partOf : List ℕ → Span → List ℕ
-partOf s a = take (a .stop - a .start) (drop (a .start) s)
+abbrev pub spanBytes : List ℕ → Span → List ℕ
+spanBytes s a = take (a .stop - a .start) (drop (a .start) s)
 
 -- what an answer of `next_enum` says: where a name stands, or a refusal, and where the reader then stands
 abbrev pub toldNextName : NextNameCode.NextName → Read Span

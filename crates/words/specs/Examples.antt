@@ -3,7 +3,7 @@ use mathlib.Core.Path.{_≡_, refl}
 use mathlib.Core.List.{[], _∷_}
 use Rattle.error.specs.Refusal.{refusal, good, bad}
 use Rattle.common.specs.Bytes.{bytes}
-use Rattle.record.specs.Word.{same}
+use Rattle.record.specs.Word.{sameBytes}
 use Rattle.utf8.specs.Utf8.{encode, leadOf, validFrom}
 use Rattle.utf8.specs.Encoding.{encodeAll}
 use Rattle.strings.specs.Text.{plain, pieceOf, pageAfter, textFrom, textOn, textOf, bytesOf}
@@ -34,20 +34,20 @@ nameless = refl
 
 -- an empty parameter is no text
 textless : stringAt [] 0 (span 0 0) ≡ bad (refusal 12 0 0)
-unfolding stringAt isUnset same isString
+unfolding stringAt isUnset sameBytes isString
 textless = refl
 
 -- a quote alone is no string parameter
 one-quote : stringAt (bytes "'") 0 (span 0 1) ≡ bad (refusal 12 0 0)
-unfolding stringAt isUnset same isString
+unfolding stringAt isUnset sameBytes isString
 one-quote = refl
 
 -- `'a'b` is a string parameter with the text `a'`
 half-quoted : stringAt (bytes "'a'b") 2 (span 0 4) ≡ good (inRoom 2)
-unfolding stringAt isUnset same isString plain bytesOf textOf textOn textFrom pageAfter pieceOf encodeAll encode
+unfolding stringAt isUnset sameBytes isString plain bytesOf textOf textOn textFrom pageAfter pieceOf encodeAll encode
 half-quoted = refl
 
 -- the text of `'a'b` is written to the room
 half-quoted-room : roomAt (bytes "'a'b") (0 ∷ 0 ∷ []) (span 0 4) ≡ bytes "a'"
-unfolding roomAt isUnset same isString plain bytesOf textOf textOn textFrom pageAfter pieceOf encodeAll encode
+unfolding roomAt isUnset sameBytes isString plain bytesOf textOf textOn textFrom pageAfter pieceOf encodeAll encode
 half-quoted-room = refl

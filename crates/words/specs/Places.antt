@@ -9,9 +9,9 @@ use lib.ListN.{length}
 use Rattle.common.specs.Compare.{clash}
 use Rattle.error.specs.Refusal.{Refusal, refusal, Told, good, bad}
 use Rattle.params.specs.Reader.{paramOf}
-use Rattle.params.specs.Answer.{reading, Span, inFile, onward, mapped}
-use Rattle.params.specs.Rules.{Inside}
-use Rattle.params.specs.Places.{PlacedIn, Stands, Past, mapped-stands, mapped-stays, param-placed, param-stays, param-past, refused-past}
+use Rattle.params.specs.Answer.{reading, Span, readerInFile, onward, readMapped}
+use Rattle.params.specs.Rules.{ReaderInFile}
+use Rattle.params.specs.Places.{PlacedIn, Stands, PastParameter, mapped-stands, mapped-stays, param-placed, param-stays, param-past, refused-past}
 use Rattle.words.specs.Words.{nameAt, stringAt, roomAt}
 use Rattle.words.specs.Room.{roomOf}
 use Rattle.words.specs.Answer.{Shown, inRoom}
@@ -29,7 +29,7 @@ ToldIn n F (good a) = F a
 ToldIn n F (bad q) = q .place ≤ n
 
 -- what holds of how each parameter in the file is read holds of how the next one is read
-next-in : {A : Type 0} (F : A → Type 0) (f : Span → Told A) (s : List ℕ) (p e : ℕ) → ((a : Span) → SpanIn (length s) a → ToldIn (length s) F (f a)) → ToldIn (length s) F (mapped f (paramOf s p e) .answer)
+next-in : {A : Type 0} (F : A → Type 0) (f : Span → Told A) (s : List ℕ) (p e : ℕ) → ((a : Span) → SpanIn (length s) a → ToldIn (length s) F (f a)) → ToldIn (length s) F (readMapped f (paramOf s p e) .answer)
 next-in F f s p e h = go (paramOf s p e .answer) refl (param-placed s p e)
   where
     go : (t : Told Span) → paramOf s p e .answer ≡ t → PlacedIn (length s) t → ToldIn (length s) F (onward f t)
@@ -44,7 +44,7 @@ name-start {a} q (NameForm.other n) e = let z : refusal 12 0 (a .start) ≡ q = 
 
 module _ (s : List ℕ) (p e : ℕ) where
   -- the next parameter's name lies in the file, and so does the place of a refusal
-  pub name-in : ToldIn (length s) (SpanIn (length s)) (mapped (nameAt s) (paramOf s p e) .answer)
+  pub name-in : ToldIn (length s) (SpanIn (length s)) (readMapped (nameAt s) (paramOf s p e) .answer)
   name-in = next-in (SpanIn (length s)) (nameAt s) s p e (λ a h. go a (nameAt s a) (nameform-is s a) h)
     where
       go : (a : Span) (r : Told Span) → NameForm s a r → SpanIn (length s) a → ToldIn (length s) (SpanIn (length s)) r
@@ -52,16 +52,16 @@ module _ (s : List ℕ) (p e : ℕ) where
       go a r (NameForm.other n) (h, k) = omega arith
 
   -- after a name the reader stands between where it was and its end
-  pub name-stands : Inside s p e → Stands p e (mapped (nameAt s) (paramOf s p e))
+  pub name-stands : ReaderInFile s p e → Stands p e (readMapped (nameAt s) (paramOf s p e))
   name-stands = mapped-stands (nameAt s) s p e
 
   -- a reader outside the file or backwards that is asked for a name stays as it came, and its answer is 9
-  pub name-stays : inFile (length s) p e ≡ false → mapped (nameAt s) (paramOf s p e) ≡ reading (bad (refusal 9 0 0)) p e
+  pub name-stays : readerInFile (length s) p e ≡ false → readMapped (nameAt s) (paramOf s p e) ≡ reading (bad (refusal 9 0 0)) p e
   name-stays = mapped-stays (nameAt s) s p e
 
   -- a name's refusal 12 stands at the parameter's start, and the reader past the parameter and its comma
-  pub name-past : (q : Refusal) → mapped (nameAt s) (paramOf s p e) .answer ≡ bad q → 11 < q .number
-      → (a : Span) × (paramOf s p e .answer ≡ good a) × (q .place ≡ a .start) × Past s p e a (paramOf s p e .place)
+  pub name-past : (q : Refusal) → readMapped (nameAt s) (paramOf s p e) .answer ≡ bad q → 11 < q .number
+      → (a : Span) × (paramOf s p e .answer ≡ good a) × (q .place ≡ a .start) × PastParameter s p e a (paramOf s p e .place)
   name-past q h n = let (a, j, k, i, l) = refused-past (nameAt s) s p e q h n in (a, j, name-start q (nameform-is s a) k, l)
 
 -- ---- texts
@@ -80,7 +80,7 @@ text-start {a} q (TextForm.other h k) e = let z : refusal 12 0 (a .start) ≡ q 
 
 module _ (s o : List ℕ) (p e : ℕ) where
   -- the next parameter's text lies in the file or in the lent output, and the place of a refusal in the file
-  pub text-in : ToldIn (length s) (ShownIn (length s) (length o)) (mapped (stringAt s (length o)) (paramOf s p e) .answer)
+  pub text-in : ToldIn (length s) (ShownIn (length s) (length o)) (readMapped (stringAt s (length o)) (paramOf s p e) .answer)
   text-in = next-in (ShownIn (length s) (length o)) (stringAt s (length o)) s p e (λ a h. go a (stringAt s (length o) a) (roomAt s o a) (textform-is s a o (h .0) (h .1)) h)
     where
       go : (a : Span) (r : Told Shown) (m : List ℕ) → TextForm s a o r m → SpanIn (length s) a → ToldIn (length s) (ShownIn (length s) (length o)) r
@@ -91,22 +91,22 @@ module _ (s o : List ℕ) (p e : ℕ) where
       go a r m (TextForm.other u v) (h, k) = omega arith
 
   -- after a text the reader stands between where it was and its end
-  pub text-stands : Inside s p e → Stands p e (mapped (stringAt s (length o)) (paramOf s p e))
+  pub text-stands : ReaderInFile s p e → Stands p e (readMapped (stringAt s (length o)) (paramOf s p e))
   text-stands = mapped-stands (stringAt s (length o)) s p e
 
   -- a reader outside the file or backwards that is asked for a text stays as it came, and so does the lent output; its answer is 9
-  pub text-stays : inFile (length s) p e ≡ false → (mapped (stringAt s (length o)) (paramOf s p e) ≡ reading (bad (refusal 9 0 0)) p e) × (roomOf s o (paramOf s p e .answer) ≡ o)
-  text-stays h = (mapped-stays (stringAt s (length o)) s p e h, rw (param-stays s p e h) refl)
+  pub text-outside-stays : readerInFile (length s) p e ≡ false → (readMapped (stringAt s (length o)) (paramOf s p e) ≡ reading (bad (refusal 9 0 0)) p e) × (roomOf s o (paramOf s p e .answer) ≡ o)
+  text-outside-stays h = (mapped-stays (stringAt s (length o)) s p e h, rw (param-stays s p e h) refl)
 
   -- a text's refusals 12 and 16 stand at the parameter's start, and the reader past the parameter and its comma
-  pub text-past : (q : Refusal) → mapped (stringAt s (length o)) (paramOf s p e) .answer ≡ bad q → 11 < q .number
-      → (a : Span) × (paramOf s p e .answer ≡ good a) × (q .place ≡ a .start) × Past s p e a (paramOf s p e .place)
+  pub text-past : (q : Refusal) → readMapped (stringAt s (length o)) (paramOf s p e) .answer ≡ bad q → 11 < q .number
+      → (a : Span) × (paramOf s p e .answer ≡ good a) × (q .place ≡ a .start) × PastParameter s p e a (paramOf s p e .place)
   text-past q h n = let (a, j, k, i, l) = refused-past (stringAt s (length o)) s p e q h n in
       let x = l .passed in let y = l .within in let z = i .1 in
       (a, j, text-start q (textform-is s a o (l .ordered) (omega arith)) k, l)
 
   -- "A refusal returns only its number, reason and place": the lent output keeps its bytes
-  pub text-kept : (q : Refusal) → mapped (stringAt s (length o)) (paramOf s p e) .answer ≡ bad q → roomOf s o (paramOf s p e .answer) ≡ o
+  pub text-kept : (q : Refusal) → readMapped (stringAt s (length o)) (paramOf s p e) .answer ≡ bad q → roomOf s o (paramOf s p e .answer) ≡ o
   text-kept q h = go (paramOf s p e .answer) refl h
     where
       by : {a : Span} {r : Told Shown} {m : List ℕ} → TextForm s a o r m → r ≡ bad q → m ≡ o

@@ -13,7 +13,7 @@ use Rattle.common.specs.Compare.{clash}
 use Rattle.common.specs.Tests.{both, neither}
 use Rattle.error.specs.Refusal.{refusal, Told, good, bad}
 use Rattle.record.specs.FormRight.{same-is, same-self}
-use Rattle.record.specs.Word.{same}
+use Rattle.record.specs.Word.{sameBytes}
 use Rattle.common.specs.Bytes.{bytes}
 use Rattle.utf8.specs.Utf8.{validOf}
 use Rattle.utf8.specs.Encoding.{encodeAll}
@@ -27,8 +27,8 @@ use Rattle.params.specs.Answer.{Span, span}
 use Rattle.scalars.specs.Scalars.{isUnset}
 use Rattle.scalars.specs.Laws.{part-part}
 use Rattle.scalars.specs.RulesRight.{same-not}
-use Rattle.words.specs.Words.{isName, nameAt, isString, bodyOf, decodedAt, stringAt, roomAt}
-use Rattle.words.specs.Answer.{partOf, Shown}
+use Rattle.words.specs.Words.{isName, nameAt, isString, stringBody, decodedAt, stringAt, roomAt}
+use Rattle.words.specs.Answer.{spanBytes, Shown}
 use Rattle.words.specs.Rules.{Name, NameForm, Quoted, Plainly, TextForm}
 
 -- ---- a first byte, a middle and a last byte
@@ -53,9 +53,9 @@ inner-places : (a z : ℕ) → a + 2 ≤ z → (a + (z - a - 1) - (a + 1) ≡ z 
 inner-places a z h = (omega arith, omega arith, omega arith)
 
 -- what stands between the first and the last byte of a part of the file
-module _ (s : List ℕ) (a : Span) (b : List ℕ) (c z : ℕ) (ordered : a .start ≤ a .stop) (within : a .stop ≤ length s) (shape : partOf s a ≡ c ∷ (b ++ (z ∷ []))) where
+module _ (s : List ℕ) (a : Span) (b : List ℕ) (c z : ℕ) (ordered : a .start ≤ a .stop) (within : a .stop ≤ length s) (shape : spanBytes s a ≡ c ∷ (b ++ (z ∷ []))) where
   -- the part of the file is as long as its places are apart
-  whole : length (partOf s a) ≡ a .stop - a .start
+  whole : length (spanBytes s a) ≡ a .stop - a .start
   whole = length-take-le (a .stop - a .start) (drop (a .start) s) (omega (arith, length-drop (a .start) s))
 
   -- the part of the file has at least two bytes
@@ -63,7 +63,7 @@ module _ (s : List ℕ) (a : Span) (b : List ℕ) (c z : ℕ) (ordered : a .star
   part-long = let n : length (c ∷ (b ++ (z ∷ []))) ≡ length b + 2 = simp length-append (omega arith) in omega (arith, whole, n, ap length shape)
 
   -- what is computed as the part's inside is what stands between its first and its last byte
-  body-part : bodyOf s a ≡ b
+  body-part : stringBody s a ≡ b
   body-part =
       let (i, l, m) = inner-places (a .start) (a .stop) part-long in
       let j : length (c ∷ (b ++ (z ∷ []))) - 1 - 1 ≡ a .stop - a .start - 1 - 1 = ap (λ (n : ℕ). n - 1 - 1) (sym (ap length shape) ∙ whole) in
@@ -99,24 +99,24 @@ name-is (c ∷ d ∷ r) h = let (b, z, e) = parted c d r in go b z e
         (b, record { dots = cc; valid = valid-is b (ap validOf (sym (middle-of c z b)) ∙ q) })
 
 -- the name's bytes are those that stand between the dots in the file
-pub name-part : (s : List ℕ) (a : Span) (n : List ℕ) → a .start ≤ a .stop → a .stop ≤ length s → Name (partOf s a) n → partOf s (span (a .start + 1) (a .stop - 1)) ≡ n
+pub name-part : (s : List ℕ) (a : Span) (n : List ℕ) → a .start ≤ a .stop → a .stop ≤ length s → Name (spanBytes s a) n → spanBytes s (span (a .start + 1) (a .stop - 1)) ≡ n
 name-part s a n h k m = body-part s a n 46 46 h k (m .dots)
 
 -- where a parameter's name stands: what is computed is an answer by the rules
 pub nameform-is : (s : List ℕ) (a : Span) → NameForm s a (nameAt s a)
-nameform-is s a = go (isName (partOf s a)) refl
+nameform-is s a = go (isName (spanBytes s a)) refl
   where
-    go : (t : Bool) → isName (partOf s a) ≡ t → NameForm s a (pick t (good (span (a .start + 1) (a .stop - 1))) (bad (refusal 12 0 (a .start))))
-    go true h = let (n, m) = name-is (partOf s a) h in NameForm.name m
+    go : (t : Bool) → isName (spanBytes s a) ≡ t → NameForm s a (pick t (good (span (a .start + 1) (a .stop - 1))) (bad (refusal 12 0 (a .start))))
+    go true h = let (n, m) = name-is (spanBytes s a) h in NameForm.name m
     go false h = NameForm.other (λ n m. clash (cc (name-only m)))
 
 -- where a parameter's name stands: the answer by the rules is the one that is computed
 pub nameform-only : {s : List ℕ} {a : Span} {r : Told Span} → NameForm s a r → r ≡ nameAt s a
 nameform-only (NameForm.name m) = rw (name-only m) refl
-nameform-only {s} {a} (NameForm.other h) = go (isName (partOf s a)) refl
+nameform-only {s} {a} (NameForm.other h) = go (isName (spanBytes s a)) refl
   where
-    go : (t : Bool) → isName (partOf s a) ≡ t → bad (refusal 12 0 (a .start)) ≡ pick t (good (span (a .start + 1) (a .stop - 1))) (bad (refusal 12 0 (a .start)))
-    go true k = let (n, m) = name-is (partOf s a) k in absurd (h n m)
+    go : (t : Bool) → isName (spanBytes s a) ≡ t → bad (refusal 12 0 (a .start)) ≡ pick t (good (span (a .start + 1) (a .stop - 1))) (bad (refusal 12 0 (a .start)))
+    go true k = let (n, m) = name-is (spanBytes s a) k in absurd (h n m)
     go false k = refl
 
 -- ---- string parameters
@@ -137,13 +137,13 @@ quoted-is (c ∷ d ∷ r) h =
     let (x, y) = both (leb 2 (length (c ∷ d ∷ r))) (eqb c 39) h in
     (b, record { end = z; shape = e ∙ ap (λ (k : ℕ). k ∷ (b ++ (z ∷ []))) (eqb-true c 39 y) })
 
--- "its text lies between first and last byte": `bodyOf` is what stands there in the file
-pub quoted-body : (s : List ℕ) (a : Span) (b : List ℕ) → a .start ≤ a .stop → a .stop ≤ length s → Quoted (partOf s a) b → bodyOf s a ≡ b
+-- "its text lies between first and last byte": `stringBody` is what stands there in the file
+pub quoted-body : (s : List ℕ) (a : Span) (b : List ℕ) → a .start ≤ a .stop → a .stop ≤ length s → Quoted (spanBytes s a) b → stringBody s a ≡ b
 quoted-body s a b h k q = body-part s a b 39 (q .end) h k (q .shape)
 
 -- a string parameter is not `$`
 quoted-given : {t b : List ℕ} → Quoted t b → isUnset t ≡ false
-unfolding isUnset same
+unfolding isUnset sameBytes
 quoted-given q = rw (q .shape) refl
 
 -- "no quote, backslash or high byte occurs": bytes of which this holds by the rule pass the test
@@ -184,20 +184,20 @@ bytes-is b = (String.textOf b, text-is b, bytes-only (text-is b))
 
 module _ (s : List ℕ) (a : Span) (o : List ℕ) (ordered : a .start ≤ a .stop) (within : a .stop ≤ length s) where
   -- what is computed of a string parameter and of the room is what is decoded of its inside
-  string-at : (b : List ℕ) → Quoted (partOf s a) b → (stringAt s (length o) a ≡ decodedAt a (decodedOf b (length o))) × (roomAt s o a ≡ roomAfter b o)
+  string-at : (b : List ℕ) → Quoted (spanBytes s a) b → (stringAt s (length o) a ≡ decodedAt a (decodedOf b (length o))) × (roomAt s o a ≡ roomAfter b o)
   unfolding stringAt roomAt
   string-at b q =
       let e = quoted-body s a b ordered within q in
       (rw (quoted-given q, quoted-only q) (ap (λ (x : List ℕ). decodedAt a (decodedOf x (length o))) e), rw (quoted-given q, quoted-only q) (ap (λ (x : List ℕ). roomAfter x o) e))
 
   -- what is computed of a string parameter that is not plain: its text is written where the room has space for it, or refused
-  write-at : (b : List ℕ) → Quoted (partOf s a) b → (Plainly b → ⊥) → (t : Bool) → leb (length (String.bytesOf b)) (length o) ≡ t
+  write-at : (b : List ℕ) → Quoted (spanBytes s a) b → (Plainly b → ⊥) → (t : Bool) → leb (length (String.bytesOf b)) (length o) ≡ t
       → (stringAt s (length o) a ≡ decodedAt a (pick t (Written (length (String.bytesOf b))) Short)) × (roomAt s o a ≡ pick t (String.bytesOf b ++ drop (length (String.bytesOf b)) o) o)
   write-at b q n t e = let (x, y) = string-at b q in
       (x ∙ rw (plain-not b n, e) refl, y ∙ rw (plain-not b n, e) refl)
 
   -- what is computed of a string parameter, and the room after it, are an answer by the rules
-  quoted-form : (b : List ℕ) → Quoted (partOf s a) b → TextForm s a o (stringAt s (length o) a) (roomAt s o a)
+  quoted-form : (b : List ℕ) → Quoted (spanBytes s a) b → TextForm s a o (stringAt s (length o) a) (roomAt s o a)
   quoted-form b q = go (String.plain b) (leb (length (String.bytesOf b)) (length o)) refl refl
     where
       go : (t u : Bool) → String.plain b ≡ t → leb (length (String.bytesOf b)) (length o) ≡ u → TextForm s a o (stringAt s (length o) a) (roomAt s o a)
@@ -216,13 +216,13 @@ module _ (s : List ℕ) (a : Span) (o : List ℕ) (ordered : a .start ≤ a .sto
   -- what is computed as a parameter's text, and the room after it, are an answer by the rules
   pub textform-is : TextForm s a o (stringAt s (length o) a) (roomAt s o a)
   unfolding stringAt roomAt isUnset
-  textform-is = go (same (partOf s a) (bytes "$")) (isString (partOf s a)) refl refl
+  textform-is = go (sameBytes (spanBytes s a) (bytes "$")) (isString (spanBytes s a)) refl refl
     where
-      go : (t u : Bool) → same (partOf s a) (bytes "$") ≡ t → isString (partOf s a) ≡ u → TextForm s a o (stringAt s (length o) a) (roomAt s o a)
-      go true u e f = rw e (TextForm.unset (same-is (partOf s a) (bytes "$") e))
-      go false true e f = let (b, q) = quoted-is (partOf s a) f in quoted-form b q
+      go : (t u : Bool) → sameBytes (spanBytes s a) (bytes "$") ≡ t → isString (spanBytes s a) ≡ u → TextForm s a o (stringAt s (length o) a) (roomAt s o a)
+      go true u e f = rw e (TextForm.unset (same-is (spanBytes s a) (bytes "$") e))
+      go false true e f = let (b, q) = quoted-is (spanBytes s a) f in quoted-form b q
       go false false e f =
-          rw (e, f) (TextForm.other (λ k. clash (cc (ap (λ (x : List ℕ). same x (bytes "$")) k ∙ same-self (bytes "$")))) (λ b q. clash (cc (quoted-only q))))
+          rw (e, f) (TextForm.other (λ k. clash (cc (ap (λ (x : List ℕ). sameBytes x (bytes "$")) k ∙ same-self (bytes "$")))) (λ b q. clash (cc (quoted-only q))))
 
   -- a parameter's text by the rules, and the room after it, are those that are computed
   pub textform-only : {r : Told Shown} {q : List ℕ} → TextForm s a o r q → (r ≡ stringAt s (length o) a) × (q ≡ roomAt s o a)
@@ -238,10 +238,10 @@ module _ (s : List ℕ) (a : Span) (o : List ℕ) (ordered : a .start ≤ a .sto
       let (x, y) = write-at b q n false (lt-leb (length (String.bytesOf b)) (length o) (rw g at l)) in
       (sym x, sym y)
   textform-only (TextForm.other h k) =
-      let e = same-not (partOf s a) (bytes "$") h in
-      let f : isString (partOf s a) ≡ false = go (isString (partOf s a)) refl in
+      let e = same-not (spanBytes s a) (bytes "$") h in
+      let f : isString (spanBytes s a) ≡ false = go (isString (spanBytes s a)) refl in
       (rw (e, f) refl, rw (e, f) refl)
     where
-      go : (t : Bool) → isString (partOf s a) ≡ t → isString (partOf s a) ≡ false
-      go true e = let (b, q) = quoted-is (partOf s a) e in absurd (k b q)
+      go : (t : Bool) → isString (spanBytes s a) ≡ t → isString (spanBytes s a) ≡ false
+      go true e = let (b, q) = quoted-is (spanBytes s a) e in absurd (k b q)
       go false e = e

@@ -6,12 +6,12 @@ ghost use mathlib.Core.Path.{_≡_};
 ghost use Prim.Native.Nat.{_+_, _-_, _≤_};
 ghost use lib.ListN.{length, take, drop};
 ghost use Rattle.params.specs.Reader.{paramOf};
-ghost use Rattle.params.specs.Answer.{reading, mapped, span};
+ghost use Rattle.params.specs.Answer.{reading, readMapped, span};
 ghost use Rattle.words.specs.Words.{isName, isString, nameAt, stringAt, roomAt};
 ghost use Rattle.words.specs.Room.{roomOf};
 ghost use Rattle.words.specs.Answer.{toldNextName, toldNextText, shownBy};
 use error::Fault;
-use params::Cut;
+use params::NextParam;
 use params::State;
 use strings::Decoded;
 
@@ -45,11 +45,11 @@ fn is_name(t: &[u8]) -> bool
 
 // Reads a name between two dots.
 pub fn next_enum(file: &[u8], at: State) -> NextName
-    ensures { λ r. ⌜ toldNextName r ≡ mapped (nameAt (now (file .entry))) (paramOf (now (file .entry)) (at .place) (at .end)) ⌝ }
+    ensures { λ r. ⌜ toldNextName r ≡ readMapped (nameAt (now (file .entry))) (paramOf (now (file .entry)) (at .place) (at .end)) ⌝ }
 {
     match params::param_span(file, at) {
-        Cut::Refused(f, to) => NextName::Refused(f, to),
-        Cut::Span(start, stop, to) => name_at(file, start, stop, to),
+        NextParam::Refused(f, to) => NextName::Refused(f, to),
+        NextParam::Span(start, stop, to) => name_at(file, start, stop, to),
     }
 }
 
@@ -95,12 +95,12 @@ fn text_at(file: &[u8], start: usize, stop: usize, to: State, out: &mut [u8]) ->
 
 // Reads a string, or `$`, whose text is empty.
 pub fn next_str(file: &[u8], at: State, out: &mut [u8]) -> NextText
-    ensures { λ r. ⌜ toldNextText r ≡ mapped (stringAt (now (file .entry)) (length (now (out .entry)))) (paramOf (now (file .entry)) (at .place) (at .end)) ⌝ }
+    ensures { λ r. ⌜ toldNextText r ≡ readMapped (stringAt (now (file .entry)) (length (now (out .entry)))) (paramOf (now (file .entry)) (at .place) (at .end)) ⌝ }
     ensures { λ _. ⌜ now (out .exit) ≡ roomOf (now (file .entry)) (now (out .entry)) (paramOf (now (file .entry)) (at .place) (at .end) .answer) ⌝ }
 {
     match params::param_span(file, at) {
-        Cut::Refused(f, to) => NextText::Refused(f, to),
-        Cut::Span(start, stop, to) => text_at(file, start, stop, to, out),
+        NextParam::Refused(f, to) => NextText::Refused(f, to),
+        NextParam::Span(start, stop, to) => text_at(file, start, stop, to, out),
     }
 }
 

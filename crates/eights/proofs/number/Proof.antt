@@ -3,7 +3,7 @@ use Prim.Native.Nat.{ℕ, _≤_}
 use mathlib.Core.Path.{sym, subst}
 use borrow.Author.Needs.{needs}
 use Rattle.eights.specs.Eights.{eightOf}
-use Rattle.eights.specs.Right.{threes, all-bounded, joined-bounds, passed, failed}
+use Rattle.eights.specs.Right.{threes, all-bounded, joined-bounds, digits-test-passed, digits-test-failed}
 use Rattle.eights.proofs.number.Statement.{statement}
 use Rattle.eights.proofs.number.Tie as tie
 
@@ -13,7 +13,7 @@ value-requires c κs =
     let j = t .before in
     let a = j .before .args in
     let f = j .before .fits in
-    let all = passed (a .a) (a .b) (a .c) (a .d) (a .e) (a .f) (a .g) (a .h) (j .joined .result) (t .are-digits .result) (f .a .fits, (f .b .fits, (f .c .fits, (f .d .fits, (f .e .fits, (f .f .fits, (f .g .fits, (f .h .fits, tt)))))))) (j .joined .ensures) (t .are-digits .ensures) (c .if1 .taken) in
+    let all = digits-test-passed (a .a) (a .b) (a .c) (a .d) (a .e) (a .f) (a .g) (a .h) (j .joined .result) (t .are-digits .result) (f .a .fits, (f .b .fits, (f .c .fits, (f .d .fits, (f .e .fits, (f .f .fits, (f .g .fits, (f .h .fits, tt)))))))) (j .joined .ensures) (t .are-digits .ensures) (c .if1 .taken) in
     subst (λ (n : ℕ). (threes ≤ n) × (n ≤ 0x3939_3939_3939_3939)) (sym (j .joined .ensures)) (joined-bounds (a .a) (a .b) (a .c) (a .d) (a .e) (a .f) (a .g) (a .h) (all-bounded (eightOf (a .a) (a .b) (a .c) (a .d) (a .e) (a .f) (a .g) (a .h)) all))
 
 returns : tie.Need-returns
@@ -22,7 +22,7 @@ returns c =
     let j = t .before in
     let a = j .before .args in
     let f = j .before .fits in
-    let all = passed (a .a) (a .b) (a .c) (a .d) (a .e) (a .f) (a .g) (a .h) (j .joined .result) (t .are-digits .result) (f .a .fits, (f .b .fits, (f .c .fits, (f .d .fits, (f .e .fits, (f .f .fits, (f .g .fits, (f .h .fits, tt)))))))) (j .joined .ensures) (t .are-digits .ensures) (c .before .if1 .taken) in
+    let all = digits-test-passed (a .a) (a .b) (a .c) (a .d) (a .e) (a .f) (a .g) (a .h) (j .joined .result) (t .are-digits .result) (f .a .fits, (f .b .fits, (f .c .fits, (f .d .fits, (f .e .fits, (f .f .fits, (f .g .fits, (f .h .fits, tt)))))))) (j .joined .ensures) (t .are-digits .ensures) (c .before .if1 .taken) in
     (all, c .value .ensures (a .a) (a .b) (a .c) (a .d) (a .e) (a .f) (a .g) (a .h) all (j .joined .ensures))
 
 returns-2 : tie.Need-returns-2
@@ -31,7 +31,7 @@ returns-2 c =
     let j = t .before in
     let a = j .before .args in
     let f = j .before .fits in
-    failed (a .a) (a .b) (a .c) (a .d) (a .e) (a .f) (a .g) (a .h) (j .joined .result) (t .are-digits .result) (f .a .fits, (f .b .fits, (f .c .fits, (f .d .fits, (f .e .fits, (f .f .fits, (f .g .fits, (f .h .fits, tt)))))))) (j .joined .ensures) (t .are-digits .ensures) (c .if1 .left)
+    digits-test-failed (a .a) (a .b) (a .c) (a .d) (a .e) (a .f) (a .g) (a .h) (j .joined .result) (t .are-digits .result) (f .a .fits, (f .b .fits, (f .c .fits, (f .d .fits, (f .e .fits, (f .f .fits, (f .g .fits, (f .h .fits, tt)))))))) (j .joined .ensures) (t .are-digits .ensures) (c .if1 .left)
 
 pub number-spec : {M : Type 1} → statement M
 number-spec = tie.close (tie.spec

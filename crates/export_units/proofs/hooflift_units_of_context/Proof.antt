@@ -1,6 +1,6 @@
 use borrow.Author.Needs.{needs}
 use Rattle.units.specs.Answer.{toldUnits}
-use Rattle.plain.specs.AnswersLaws.{found-code, found-value, found-fault}
+use Rattle.host_numbers.specs.AnswersLaws.{found-code, found-value, found-fault}
 use mathlib.Core.Path.{refl, _∙_}
 use Rattle.export_units.proofs.hooflift_units_of_context.Statement.{statement}
 use Rattle.export_units.proofs.hooflift_units_of_context.Tie as tie

@@ -8,12 +8,12 @@ use denote.Ref.{now}
 use lib.Ieee.{binary64, toBits}
 use Rattle.params.specs.Answer.{Read}
 use Rattle.scalars.specs.Answer.{toldNextReal, toldNextRef}
-use Rattle.statement.specs.Rows.{rowOf}
+use Rattle.statement.specs.Rows.{toldRow}
 use Rattle.lookup.specs.Lookup.{toldEntry, rowFor}
-use Rattle.factors.specs.Thing.{thingOf, findOf}
+use Rattle.factors.specs.SeenRecords.{seenRecordOf, findOf}
 use Rattle.factors.specs.Factor.{lengthOf}
 use Rattle.factors.specs.Code.{toldLink}
-use Rattle.factors.specs.Answer.{toldRun, toldFactor}
+use Rattle.factors.specs.Answer.{toldArguments, toldFactor}
 use Rattle.factors.specs.Laws.{chain-known, chain-leads, chain-left, find-none, find-row, measure-missing, measure-refused, measure-none, measure-some, at-unread, at-read, base-unread, base-missing, base-row}
 use borrow.Fn.Kinds.{In}
 use borrow.Fn.PlainCycle.{Measures, is, falls, and}
@@ -97,20 +97,20 @@ length-at-enum-known-id t c = search needs
 
 length-at-sub-measure-in-mm : (t : ℕ) → length-at-lts.Need-sub-measure-in-mm (length-at-calls t) (length-at-at t) length-at.Post
 length-at-sub-measure-in-mm t c = let a = c .before .before .before .before .before .before .before .args in
-    chain-left (now (a .file)) (a .left) (thingOf (now (a .file)) (rowOf (a .row))) (ap toldLink (sym (c .before .id .given .1)) ∙ c .before .before .before .link-at .ensures)
+    chain-left (now (a .file)) (a .left) (seenRecordOf (now (a .file)) (toldRow (a .row))) (ap toldLink (sym (c .before .id .given .1)) ∙ c .before .before .before .link-at .ensures)
 
 length-at-measure-in-mm-requires : (t : ℕ) → length-at-lts.Need-measure-in-mm-requires (length-at-calls t) (length-at-at t) length-at.Post
 length-at-measure-in-mm-requires t c κs = let a = c .before .before .before .before .before .before .before .args in
-    let l = chain-left (now (a .file)) (a .left) (thingOf (now (a .file)) (rowOf (a .row))) (ap toldLink (sym (c .before .id .given .1)) ∙ c .before .before .before .link-at .ensures) in
+    let l = chain-left (now (a .file)) (a .left) (seenRecordOf (now (a .file)) (toldRow (a .row))) (ap toldLink (sym (c .before .id .given .1)) ∙ c .before .before .before .link-at .ensures) in
     (omega (arith, c .before .before .before .before .before .before .before .pre .0, l), tt)
 
 length-at-returns : (t : ℕ) → length-at-lts.Need-returns (length-at-calls t) (length-at-at t) length-at.Post
 length-at-returns t c = let a = c .before .before .before .before .before .before .before .args in
-    chain-known (now (a .file)) (findOf (now (a .file)) (rowFor (now (a .rows)) (now (a .slots)) (a .t .ids))) (a .left) (thingOf (now (a .file)) (rowOf (a .row))) (toldFactor (c .before .f .given .0 .0)) (ap toldLink (sym (c .before .f .given .1)) ∙ c .before .before .before .link-at .ensures)
+    chain-known (now (a .file)) (findOf (now (a .file)) (rowFor (now (a .rows)) (now (a .slots)) (a .t .ids))) (a .left) (seenRecordOf (now (a .file)) (toldRow (a .row))) (toldFactor (c .before .f .given .0 .0)) (ap toldLink (sym (c .before .f .given .1)) ∙ c .before .before .before .link-at .ensures)
 
 length-at-returns-2 : (t : ℕ) → length-at-lts.Need-returns-2 (length-at-calls t) (length-at-at t) length-at.Post
 length-at-returns-2 t c = let a = c .before .before .before .before .before .before .before .before .args in
-    chain-leads (now (a .file)) (findOf (now (a .file)) (rowFor (now (a .rows)) (now (a .slots)) (a .t .ids))) (a .left) (thingOf (now (a .file)) (rowOf (a .row))) (ap toldLink (sym (c .before .before .id .given .1)) ∙ c .before .before .before .before .link-at .ensures) (c .measure-in-mm .ensures)
+    chain-leads (now (a .file)) (findOf (now (a .file)) (rowFor (now (a .rows)) (now (a .slots)) (a .t .ids))) (a .left) (seenRecordOf (now (a .file)) (toldRow (a .row))) (ap toldLink (sym (c .before .before .id .given .1)) ∙ c .before .before .before .before .link-at .ensures) (c .measure-in-mm .ensures)
 
 measure-in-mm-get-requires : (t : ℕ) → measure-in-mm-lts.Need-get-requires (measure-in-mm-calls t) (measure-in-mm-at t) measure-in-mm.Post
 measure-in-mm-get-requires t c κs = search needs
@@ -155,7 +155,7 @@ measure-in-mm-returns-2 t c = let a = c .before .before .before .before .before 
     let find = findOf (now (a .file)) (rowFor (now (a .rows)) (now (a .slots)) (a .t .ids)) in
     c .unread .ensures
     ∙ at-unread (now (a .file)) find (lengthOf (now (a .file)) find (a .left)) (c .before .before .before .before .before .a .given .0 .0) (c .before .before .before .before .before .a .given .0 .1 .0) (c .before .before .before .next-measure-f64 .ensures) (ap (λ (x : Read ℕ). x .answer) (ap toldNextReal (c .before .enum-told3 .given .1)))
-    ∙ sym (measure-some (now (a .file)) find (lengthOf (now (a .file)) find (a .left)) (a .id) (thingOf (now (a .file)) (rowOf (c .before .before .before .before .before .before .before .before .before .w .given .0 .0))) (find-row (now (a .file)) (now (a .rows)) (now (a .slots)) (a .t .ids) (a .id) (ap toldEntry (sym (c .before .before .before .before .before .before .before .before .before .w .given .1)) ∙ c .before .before .before .before .before .before .before .before .before .before .before .get .ensures)) (ap toldRun (sym (c .before .before .before .before .before .a .given .1)) ∙ c .before .before .before .before .before .before .before .measure-run .ensures))
+    ∙ sym (measure-some (now (a .file)) find (lengthOf (now (a .file)) find (a .left)) (a .id) (seenRecordOf (now (a .file)) (toldRow (c .before .before .before .before .before .before .before .before .before .w .given .0 .0))) (find-row (now (a .file)) (now (a .rows)) (now (a .slots)) (a .t .ids) (a .id) (ap toldEntry (sym (c .before .before .before .before .before .before .before .before .before .w .given .1)) ∙ c .before .before .before .before .before .before .before .before .before .before .before .get .ensures)) (ap toldArguments (sym (c .before .before .before .before .before .a .given .1)) ∙ c .before .before .before .before .before .before .before .measure-run .ensures))
 
 measure-in-mm-next-ref-requires : (t : ℕ) → measure-in-mm-lts.Need-next-ref-requires (measure-in-mm-calls t) (measure-in-mm-at t) measure-in-mm.Post
 measure-in-mm-next-ref-requires t c κs = search needs
@@ -172,7 +172,7 @@ measure-in-mm-returns-3 t c = let a = c .before .before .before .before .before 
     let n = c .before .before .before .before .number .given .0 in
     base-unread (now (a .file)) find (lengthOf (now (a .file)) find (a .left)) (toBits binary64 (n .0)) (n .1 .0 .place) (n .1 .0 .end) (ap toldNextRef (sym (c .enum-told4 .given .1)) ∙ c .before .before .next-ref .ensures)
     ∙ sym (at-read (now (a .file)) find (lengthOf (now (a .file)) find (a .left)) (c .before .before .before .before .before .before .before .before .a .given .0 .0) (c .before .before .before .before .before .before .before .before .a .given .0 .1 .0) (ap toldNextReal (sym (c .before .before .before .before .number .given .1)) ∙ c .before .before .before .before .before .before .next-measure-f64 .ensures))
-    ∙ sym (measure-some (now (a .file)) find (lengthOf (now (a .file)) find (a .left)) (a .id) (thingOf (now (a .file)) (rowOf (c .before .before .before .before .before .before .before .before .before .before .before .before .w .given .0 .0))) (find-row (now (a .file)) (now (a .rows)) (now (a .slots)) (a .t .ids) (a .id) (ap toldEntry (sym (c .before .before .before .before .before .before .before .before .before .before .before .before .w .given .1)) ∙ c .before .before .before .before .before .before .before .before .before .before .before .before .before .before .get .ensures)) (ap toldRun (sym (c .before .before .before .before .before .before .before .before .a .given .1)) ∙ c .before .before .before .before .before .before .before .before .before .before .measure-run .ensures))
+    ∙ sym (measure-some (now (a .file)) find (lengthOf (now (a .file)) find (a .left)) (a .id) (seenRecordOf (now (a .file)) (toldRow (c .before .before .before .before .before .before .before .before .before .before .before .before .w .given .0 .0))) (find-row (now (a .file)) (now (a .rows)) (now (a .slots)) (a .t .ids) (a .id) (ap toldEntry (sym (c .before .before .before .before .before .before .before .before .before .before .before .before .w .given .1)) ∙ c .before .before .before .before .before .before .before .before .before .before .before .before .before .before .get .ensures)) (ap toldArguments (sym (c .before .before .before .before .before .before .before .before .a .given .1)) ∙ c .before .before .before .before .before .before .before .before .before .before .measure-run .ensures))
 
 measure-in-mm-get-requires-2 : (t : ℕ) → measure-in-mm-lts.Need-get-requires-2 (measure-in-mm-calls t) (measure-in-mm-at t) measure-in-mm.Post
 measure-in-mm-get-requires-2 t c κs = search needs
@@ -189,7 +189,7 @@ measure-in-mm-returns-4 t c = let a = c .before .before .before .before .before 
     let n = c .before .before .before .before .before .before .before .before .number .given .0 in
     base-missing (now (a .file)) find (lengthOf (now (a .file)) find (a .left)) (toBits binary64 (n .0)) (n .1 .0 .place) (n .1 .0 .end) (ap toldNextRef (sym (c .before .before .before .before .base .given .1)) ∙ c .before .before .before .before .before .before .next-ref .ensures) (find-none (now (a .file)) (now (a .rows)) (now (a .slots)) (a .t .ids) (c .before .before .before .before .base .given .0 .0) (ap toldEntry (sym (c .enum-told5 .given .1)) ∙ c .before .before .get2 .ensures))
     ∙ sym (at-read (now (a .file)) find (lengthOf (now (a .file)) find (a .left)) (c .before .before .before .before .before .before .before .before .before .before .before .before .a .given .0 .0) (c .before .before .before .before .before .before .before .before .before .before .before .before .a .given .0 .1 .0) (ap toldNextReal (sym (c .before .before .before .before .before .before .before .before .number .given .1)) ∙ c .before .before .before .before .before .before .before .before .before .before .next-measure-f64 .ensures))
-    ∙ sym (measure-some (now (a .file)) find (lengthOf (now (a .file)) find (a .left)) (a .id) (thingOf (now (a .file)) (rowOf (c .before .before .before .before .before .before .before .before .before .before .before .before .before .before .before .before .w .given .0 .0))) (find-row (now (a .file)) (now (a .rows)) (now (a .slots)) (a .t .ids) (a .id) (ap toldEntry (sym (c .before .before .before .before .before .before .before .before .before .before .before .before .before .before .before .before .w .given .1)) ∙ c .before .before .before .before .before .before .before .before .before .before .before .before .before .before .before .before .before .before .get .ensures)) (ap toldRun (sym (c .before .before .before .before .before .before .before .before .before .before .before .before .a .given .1)) ∙ c .before .before .before .before .before .before .before .before .before .before .before .before .before .before .measure-run .ensures))
+    ∙ sym (measure-some (now (a .file)) find (lengthOf (now (a .file)) find (a .left)) (a .id) (seenRecordOf (now (a .file)) (toldRow (c .before .before .before .before .before .before .before .before .before .before .before .before .before .before .before .before .w .given .0 .0))) (find-row (now (a .file)) (now (a .rows)) (now (a .slots)) (a .t .ids) (a .id) (ap toldEntry (sym (c .before .before .before .before .before .before .before .before .before .before .before .before .before .before .before .before .w .given .1)) ∙ c .before .before .before .before .before .before .before .before .before .before .before .before .before .before .before .before .before .before .get .ensures)) (ap toldArguments (sym (c .before .before .before .before .before .before .before .before .before .before .before .before .a .given .1)) ∙ c .before .before .before .before .before .before .before .before .before .before .before .before .before .before .measure-run .ensures))
 
 measure-in-mm-length-at-requires : (t : ℕ) → measure-in-mm-lts.Need-length-at-requires (measure-in-mm-calls t) (measure-in-mm-at t) measure-in-mm.Post
 measure-in-mm-length-at-requires t c κs = (omega (arith, c .before .before .before .before .before .before .before .before .before .before .before .before .before .before .before .before .before .before .before .before .before .before .before .pre .0), tt)
@@ -200,21 +200,21 @@ measure-in-mm-scaled-requires t c κs = search needs
 measure-in-mm-returns-5 : (t : ℕ) → measure-in-mm-lts.Need-returns-5 (measure-in-mm-calls t) (measure-in-mm-at t) measure-in-mm.Post
 measure-in-mm-returns-5 t c = let a = c .before .before .before .before .before .before .before .before .before .before .before .args in
     let find = findOf (now (a .file)) (rowFor (now (a .rows)) (now (a .slots)) (a .t .ids)) in
-    measure-refused (now (a .file)) find (lengthOf (now (a .file)) find (a .left)) (a .id) (thingOf (now (a .file)) (rowOf (c .before .before .before .before .before .w .given .0 .0))) (find-row (now (a .file)) (now (a .rows)) (now (a .slots)) (a .t .ids) (a .id) (ap toldEntry (sym (c .before .before .before .before .before .w .given .1)) ∙ c .before .before .before .before .before .before .before .get .ensures)) (ap toldRun (sym (c .before .f .given .1)) ∙ c .before .before .before .measure-run .ensures)
+    measure-refused (now (a .file)) find (lengthOf (now (a .file)) find (a .left)) (a .id) (seenRecordOf (now (a .file)) (toldRow (c .before .before .before .before .before .w .given .0 .0))) (find-row (now (a .file)) (now (a .rows)) (now (a .slots)) (a .t .ids) (a .id) (ap toldEntry (sym (c .before .before .before .before .before .w .given .1)) ∙ c .before .before .before .before .before .before .before .get .ensures)) (ap toldArguments (sym (c .before .f .given .1)) ∙ c .before .before .before .measure-run .ensures)
 
 measure-in-mm-returns-6 : (t : ℕ) → measure-in-mm-lts.Need-returns-6 (measure-in-mm-calls t) (measure-in-mm-at t) measure-in-mm.Post
 measure-in-mm-returns-6 t c = let a = c .before .before .before .before .before .before .before .before .before .before .args in
     let find = findOf (now (a .file)) (rowFor (now (a .rows)) (now (a .slots)) (a .t .ids)) in
-    measure-none (now (a .file)) find (lengthOf (now (a .file)) find (a .left)) (a .id) (thingOf (now (a .file)) (rowOf (c .before .before .before .before .w .given .0 .0))) (find-row (now (a .file)) (now (a .rows)) (now (a .slots)) (a .t .ids) (a .id) (ap toldEntry (sym (c .before .before .before .before .w .given .1)) ∙ c .before .before .before .before .before .before .get .ensures)) (ap toldRun (sym (c .enum-told2 .given .1)) ∙ c .before .before .measure-run .ensures)
+    measure-none (now (a .file)) find (lengthOf (now (a .file)) find (a .left)) (a .id) (seenRecordOf (now (a .file)) (toldRow (c .before .before .before .before .w .given .0 .0))) (find-row (now (a .file)) (now (a .rows)) (now (a .slots)) (a .t .ids) (a .id) (ap toldEntry (sym (c .before .before .before .before .w .given .1)) ∙ c .before .before .before .before .before .before .get .ensures)) (ap toldArguments (sym (c .enum-told2 .given .1)) ∙ c .before .before .measure-run .ensures)
 
 measure-in-mm-returns-7 : (t : ℕ) → measure-in-mm-lts.Need-returns-7 (measure-in-mm-calls t) (measure-in-mm-at t) measure-in-mm.Post
 measure-in-mm-returns-7 t c = let a = c .before .before .before .before .before .before .before .before .before .before .before .before .before .before .before .before .before .before .before .before .before .before .before .before .before .args in
     let find = findOf (now (a .file)) (rowFor (now (a .rows)) (now (a .slots)) (a .t .ids)) in
     let n = c .before .before .before .before .before .before .before .before .before .before .before .number .given .0 in
     c .scaled .ensures
-    ∙ base-row (now (a .file)) find (lengthOf (now (a .file)) find (a .left)) (toBits binary64 (n .0)) (n .1 .0 .place) (n .1 .0 .end) (thingOf (now (a .file)) (rowOf (c .before .before .before .b .given .0 .0))) (ap toldNextRef (sym (c .before .before .before .before .before .before .before .base .given .1)) ∙ c .before .before .before .before .before .before .before .before .before .next-ref .ensures) (find-row (now (a .file)) (now (a .rows)) (now (a .slots)) (a .t .ids) (c .before .before .before .before .before .before .before .base .given .0 .0) (ap toldEntry (sym (c .before .before .before .b .given .1)) ∙ c .before .before .before .before .before .get2 .ensures)) (c .before .length-at .ensures)
+    ∙ base-row (now (a .file)) find (lengthOf (now (a .file)) find (a .left)) (toBits binary64 (n .0)) (n .1 .0 .place) (n .1 .0 .end) (seenRecordOf (now (a .file)) (toldRow (c .before .before .before .b .given .0 .0))) (ap toldNextRef (sym (c .before .before .before .before .before .before .before .base .given .1)) ∙ c .before .before .before .before .before .before .before .before .before .next-ref .ensures) (find-row (now (a .file)) (now (a .rows)) (now (a .slots)) (a .t .ids) (c .before .before .before .before .before .before .before .base .given .0 .0) (ap toldEntry (sym (c .before .before .before .b .given .1)) ∙ c .before .before .before .before .before .get2 .ensures)) (c .before .length-at .ensures)
     ∙ sym (at-read (now (a .file)) find (lengthOf (now (a .file)) find (a .left)) (c .before .before .before .before .before .before .before .before .before .before .before .before .before .before .before .a .given .0 .0) (c .before .before .before .before .before .before .before .before .before .before .before .before .before .before .before .a .given .0 .1 .0) (ap toldNextReal (sym (c .before .before .before .before .before .before .before .before .before .before .before .number .given .1)) ∙ c .before .before .before .before .before .before .before .before .before .before .before .before .before .next-measure-f64 .ensures))
-    ∙ sym (measure-some (now (a .file)) find (lengthOf (now (a .file)) find (a .left)) (a .id) (thingOf (now (a .file)) (rowOf (c .before .before .before .before .before .before .before .before .before .before .before .before .before .before .before .before .before .before .before .w .given .0 .0))) (find-row (now (a .file)) (now (a .rows)) (now (a .slots)) (a .t .ids) (a .id) (ap toldEntry (sym (c .before .before .before .before .before .before .before .before .before .before .before .before .before .before .before .before .before .before .before .w .given .1)) ∙ c .before .before .before .before .before .before .before .before .before .before .before .before .before .before .before .before .before .before .before .before .before .get .ensures)) (ap toldRun (sym (c .before .before .before .before .before .before .before .before .before .before .before .before .before .before .before .a .given .1)) ∙ c .before .before .before .before .before .before .before .before .before .before .before .before .before .before .before .before .before .measure-run .ensures))
+    ∙ sym (measure-some (now (a .file)) find (lengthOf (now (a .file)) find (a .left)) (a .id) (seenRecordOf (now (a .file)) (toldRow (c .before .before .before .before .before .before .before .before .before .before .before .before .before .before .before .before .before .before .before .w .given .0 .0))) (find-row (now (a .file)) (now (a .rows)) (now (a .slots)) (a .t .ids) (a .id) (ap toldEntry (sym (c .before .before .before .before .before .before .before .before .before .before .before .before .before .before .before .before .before .before .before .w .given .1)) ∙ c .before .before .before .before .before .before .before .before .before .before .before .before .before .before .before .before .before .before .before .before .before .get .ensures)) (ap toldArguments (sym (c .before .before .before .before .before .before .before .before .before .before .before .before .before .before .before .a .given .1)) ∙ c .before .before .before .before .before .before .before .before .before .before .before .before .before .before .before .before .before .measure-run .ensures))
 
 pub +length-at+measure-in-mm-spec : {M : Type 1} → statement M
 +length-at+measure-in-mm-spec = close μ-length-at μ-measure-in-mm (λ t. length-at-lts.spec (length-at-calls t)

@@ -3,7 +3,7 @@ use Rattle.lists.specs.Items.{listBy}
 use Rattle.lists.specs.Lent.{itemValue, lentOf, value-inward}
 use Rattle.lists.specs.Places.{list-inward}
 use Rattle.params.specs.ReaderLaws.{cut-places}
-use Rattle.params.specs.Answer.{toldCut}
+use Rattle.params.specs.Answer.{toldNextParam}
 use Rattle.grids.specs.Grid.{gridFits}
 use Rattle.grids.specs.Laws.{grids-uncut, grids-cut, grid-inward}
 use native.Mathlib.Omega.{arith}
@@ -38,14 +38,14 @@ answer-of-requires c κs = let i = c .before .before .before .before .before .be
 
 returns : tie.Need-returns
 returns c = let t = c .before .before .before .before .before .before .before .before .args in
-    grids-uncut (listBy (listBy (itemValue (t .kind)))) (lentOf (t .kind) (now (t .refs)) [] (now (t .reals))) (now (t .ends)) (t .room) (length (now (t .ends))) (now (t .file)) (t .at .place) (t .at .end) _ _ _ (ap toldCut (sym (c .before .f .given .1)) ∙ c .before .before .before .param-span .ensures .0)
+    grids-uncut (listBy (listBy (itemValue (t .kind)))) (lentOf (t .kind) (now (t .refs)) [] (now (t .reals))) (now (t .ends)) (t .room) (length (now (t .ends))) (now (t .file)) (t .at .place) (t .at .end) _ _ _ (ap toldNextParam (sym (c .before .f .given .1)) ∙ c .before .before .before .param-span .ensures .0)
 
 returns-2 : tie.Need-returns-2
 returns-2 c = let i = c .before .before .before .before .before .before .before in
     let g = c .before .before .before .before .before .before .before .before .before .before .before .before .before in
     let t = c .before .before .before .before .before .before .before .before .before .before .before .before .before .before .before .before .before .before .before .before .args in
     let (x, y) = grids-cut (listBy (listBy (itemValue (t .kind)))) (lentOf (t .kind) (now (t .refs)) [] (now (t .reals))) (now (t .ends)) (t .room) (length (now (t .ends))) (now (t .file)) (t .at .place) (t .at .end) _ _ _ _
-    (ap toldCut (sym (g .start .given .1)) ∙ g .before .before .param-span .ensures .0) _ _ _ (i .read-grid .ensures .0) (i .read-grid .ensures .1 .0) (i .read-grid .ensures .1 .1) in
+    (ap toldNextParam (sym (g .start .given .1)) ∙ g .before .before .param-span .ensures .0) _ _ _ (i .read-grid .ensures .0) (i .read-grid .ensures .1 .0) (i .read-grid .ensures .1 .1) in
     (c .answer-of .ensures ∙ x, y)
 
 pub next-grid-spec : {M : Type 1} → statement M

@@ -6,7 +6,7 @@ use mathlib.Core.Path.{_≡_, refl, _∙_, ap}
 use mathlib.Core.List.{List, _++_}
 use Prim.Native.Nat.{ℕ, _-_, _≤_}
 use lib.ListN.{length, getD, take, drop, set, length-set}
-use Rattle.kinds.specs.Name.{name-next, name-done}
+use Rattle.kinds.specs.Name.{kind-name-next, kind-name-done}
 use Rattle.kinds.proofs.put_name.Statement.{statement}
 use Rattle.kinds.proofs.put_name.Tie as tie
 
@@ -25,12 +25,12 @@ loop-holds c = (refl, omega arith, refl)
 loop-again : tie.Need-loop-again Inv-loop μ-loop
 loop-again c = let l = c .before .before .loop in
     let a = c .before .before .before .before .args in
-    (ap (λ (z : List ℕ). set z (l .i) (getD (now (a .name)) (l .i) 0)) (l .inv .0) ∙ name-next (now (a .name)) (a .out .now) (l .i) (omega arith) (omega arith), omega arith, length-set (l .out) (l .i) (getD (now (a .name)) (l .i) 0) ∙ l .inv .2)
+    (ap (λ (z : List ℕ). set z (l .i) (getD (now (a .name)) (l .i) 0)) (l .inv .0) ∙ kind-name-next (now (a .name)) (a .out .now) (l .i) (omega arith) (omega arith), omega arith, length-set (l .out) (l .i) (getD (now (a .name)) (l .i) 0) ∙ l .inv .2)
 
 returns-2 : tie.Need-returns-2 Inv-loop μ-loop
 returns-2 c = let l = c .before .loop in
     let a = c .before .before .before .args in
-    name-done (now (a .name)) (a .out .now) (l .out) (l .i) (omega arith) (omega arith) (l .inv .0)
+    kind-name-done (now (a .name)) (a .out .now) (l .out) (l .i) (omega arith) (omega arith) (l .inv .0)
 
 pub put-name-spec : {M : Type 1} → statement M
 put-name-spec =

@@ -1,6 +1,6 @@
 use Rattle.common.specs.Lists.{drop-end}
 use Rattle.record.specs.Turns.{same-lengths}
-use Rattle.record.specs.Word.{same}
+use Rattle.record.specs.Word.{sameBytes}
 use Rattle.record.specs.Byte.{upper}
 use Rattle.kinds.specs.Words.{both-stops, both-goes}
 use lib.ListN.{length, drop, length-map}
@@ -15,7 +15,7 @@ use Rattle.kinds.proofs.same_word.Statement.{statement}
 use Rattle.kinds.proofs.same_word.Tie as tie
 
 abbrev Inv-loop : tie.InvT-loop
-Inv-loop t w i₀ i = (i ≤ length t) × (same (map upper (drop i t)) (map upper (drop i w)) ≡ same (map upper t) (map upper w))
+Inv-loop t w i₀ i = (i ≤ length t) × (sameBytes (map upper (drop i t)) (map upper (drop i w)) ≡ sameBytes (map upper t) (map upper w))
 
 abbrev μ-loop : tie.MeasureT-loop
 μ-loop t w i₀ i = length t - i
@@ -38,7 +38,7 @@ loop-again c =
     (omega arith, both-goes (now (c .before .before .before .before .before .before .before .before .before .before .args .t)) (now (c .before .before .before .before .before .before .before .before .before .before .args .w)) (c .before .before .before .before .before .before .loop .i) _ (omega arith) (omega arith) (eq-eqb _ _ (sym (c .before .before .before .upper-of .ensures) ∙ c .if2 .left ∙ c .before .upper-of2 .ensures)) (c .before .before .before .before .before .before .loop .inv .1))
 
 returns-3 : tie.Need-returns-3 Inv-loop μ-loop
-unfolding same
+unfolding sameBytes
 returns-3 c =
     sym (rw (drop-end (now (c .before .before .before .before .before .args .t)) (c .before .loop .i) (omega arith), drop-end (now (c .before .before .before .before .before .args .w)) (c .before .loop .i) (omega arith)) refl) ∙ c .before .loop .inv .1
 

@@ -2,7 +2,7 @@ use Rattle.common.specs.Noting.{Noting, noting-none, noting-next, noting-all}
 use Rattle.common.specs.Tests.{neither}
 use lib.Dec.{eqb}
 use lib.ListN.{getD}
-use Rattle.lex.specs.Past.{Quiet, quiet-byte}
+use Rattle.lex.specs.PassedAtOnce.{Quiet, quiet-byte}
 use mathlib.Core.Path.{refl}
 use mathlib.Core.Bool.{_||_}
 use Prim.Native.Nat.{_+_, _-_}

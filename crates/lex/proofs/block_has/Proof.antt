@@ -3,7 +3,7 @@ use Rattle.common.specs.Tests.{neither}
 use borrow.Author.Tests.{eqb-false}
 use lib.Dec.{eqb}
 use lib.ListN.{getD}
-use Rattle.lex.specs.Leap.{lacks-none, lacks-next}
+use Rattle.lex.specs.ByteSearch.{lacks-none, lacks-next}
 use Rattle.lex.specs.Answer.{Lacks}
 use Prim.Native.Nat.{_+_, _-_}
 use native.Mathlib.Omega.{arith}

@@ -1,4 +1,4 @@
-use Rattle.lex.specs.Past.{Counted, counted-none, counted-next}
+use Rattle.lex.specs.PassedAtOnce.{BlockCounted, block-counted-none, block-counted-next}
 use mathlib.Core.Path.{_≡_}
 use mathlib.Core.Bool.{false, _||_}
 use Prim.Native.Nat.{_+_, _-_, _≤_}
@@ -9,13 +9,13 @@ use Rattle.lex.proofs.block_tally.Statement.{statement}
 use Rattle.lex.proofs.block_tally.Tie as tie
 
 abbrev Inv-loop : tie.InvT-loop
-Inv-loop s at quote₀ slash₀ up₀ down₀ k₀ quote slash up down k = (k ≤ 64) × (up ≤ k) × (down ≤ k) × ((quote || slash) ≡ false → Counted s at (at + k) up down)
+Inv-loop s at quote₀ slash₀ up₀ down₀ k₀ quote slash up down k = (k ≤ 64) × (up ≤ k) × (down ≤ k) × ((quote || slash) ≡ false → BlockCounted s at (at + k) up down)
 
 abbrev μ-loop : tie.MeasureT-loop
 μ-loop s at quote₀ slash₀ up₀ down₀ k₀ quote slash up down k = 64 - k
 
 loop-holds : tie.Need-loop-holds Inv-loop μ-loop
-loop-holds c = (omega arith, omega arith, omega arith, λ z. counted-none (now (c .before .args .s)) (c .before .args .at) (c .before .args .at + 0) (omega arith))
+loop-holds c = (omega arith, omega arith, omega arith, λ z. block-counted-none (now (c .before .args .s)) (c .before .args .at) (c .before .args .at + 0) (omega arith))
 
 loop-again : tie.Need-loop-again Inv-loop μ-loop
 loop-again c = let l = c .before .before .before .before .loop in
@@ -24,7 +24,7 @@ loop-again c = let l = c .before .before .before .before .loop in
       omega arith,
       omega arith,
       omega arith,
-      λ z. rw (e, c .before .one-if .ensures .0, c .one-if2 .ensures .0) (counted-next (now (a .s)) (a .at) (a .at + l .k) (l .up) (l .down) (l .quote) (l .slash) (omega arith) (l .inv .3) z),
+      λ z. rw (e, c .before .one-if .ensures .0, c .one-if2 .ensures .0) (block-counted-next (now (a .s)) (a .at) (a .at + l .k) (l .up) (l .down) (l .quote) (l .slash) (omega arith) (l .inv .3) z),
     )
 
 returns : tie.Need-returns Inv-loop μ-loop

@@ -1,4 +1,4 @@
-use Rattle.lex.specs.Leap.{stopped-near, stopped-far}
+use Rattle.lex.specs.ByteSearch.{stopped-near, stopped-far}
 use Rattle.lex.specs.Answer.{Stopped}
 use Prim.Native.Nat.{ℕ}
 use lib.ListN.{length}

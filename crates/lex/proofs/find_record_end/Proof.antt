@@ -1,5 +1,5 @@
-use Rattle.lex.specs.Past.{ahead, blocks-less, bytes-less}
-use Rattle.lex.specs.Seek.{drop-within, seek-halts}
+use Rattle.lex.specs.PassedAtOnce.{leftToSearch, blocks-less, bytes-less}
+use Rattle.lex.specs.Seek.{drop-within, seek-halts-at}
 use Rattle.lex.specs.Search.{seen, seekTurn, semicolon, missed, recordEnd}
 use Rattle.lex.specs.Answer.{placed}
 use Rattle.common.specs.Walk.{walk-ends}
@@ -21,7 +21,7 @@ abbrev Inv-loop : tie.InvT-loop
 Inv-loop s start from i₀ near₀ i near = (i ≤ length s) × (plainly semicolon 5 (drop from s) 0 (drop i s) ≡ recordEnd (drop start s))
 
 abbrev μ-loop : tie.MeasureT-loop
-μ-loop s start from i₀ near₀ i near = ahead (length s) i near
+μ-loop s start from i₀ near₀ i near = leftToSearch (length s) i near
 
 add-near : tie.Need-add-near Inv-loop μ-loop
 add-near c = omega (arith, c .within .ensures)
@@ -44,7 +44,7 @@ returns c = let l = c .before .before .before .before .loop in
     let s = now (c .before .before .before .before .before .before .before .args .s) in
     ap good (sym (place-drop s (l .i) (omega arith)))
     ∙ ap (placed s)
-    (seek-halts semicolon (missed 5 (drop (c .before .before .before .before .before .within .result) s)) s (l .i) (omega arith) Plain 0 (l .i) _ refl (simp (eq-eqb _ _ (c .if2 .taken))) (l .inv .1))
+    (seek-halts-at semicolon (missed 5 (drop (c .before .before .before .before .before .within .result) s)) s (l .i) (omega arith) Plain 0 (l .i) _ refl (simp (eq-eqb _ _ (c .if2 .taken))) (l .inv .1))
 
 loop-less-2 : tie.Need-loop-less-2 Inv-loop μ-loop
 loop-less-2 c = let e = rw (c .before .next .given .1) at (c .before .before .before .past .ensures) in

@@ -1,5 +1,5 @@
-use Rattle.lex.specs.Past.{ahead, blocks-less, bytes-less}
-use Rattle.lex.specs.Seek.{drop-within, seek-halts, paren-up}
+use Rattle.lex.specs.PassedAtOnce.{leftToSearch, blocks-less, bytes-less}
+use Rattle.lex.specs.Seek.{drop-within, seek-halts-at, paren-up}
 use Rattle.lex.specs.Search.{seen, seekTurn, paren, missed, closing, lookOf}
 use Rattle.lex.specs.Answer.{placed}
 use Rattle.common.specs.Walk.{walk-ends}
@@ -21,7 +21,7 @@ abbrev Inv-loop : tie.InvT-loop
 Inv-loop s opening from i₀ depth₀ near₀ i depth near = ((i ≤ length s) × (depth ≤ i)) × (plainly paren 6 (drop from s) depth (drop i s) ≡ closing (drop opening s))
 
 abbrev μ-loop : tie.MeasureT-loop
-μ-loop s opening from i₀ depth₀ near₀ i depth near = ahead (length s) i near
+μ-loop s opening from i₀ depth₀ near₀ i depth near = leftToSearch (length s) i near
 
 add-within : tie.Need-add-within Inv-loop μ-loop
 add-within c = omega (arith, c .within .ensures)
@@ -56,7 +56,7 @@ returns c = let l = c .before .before .before .before .before .before .loop in
     let s = now (c .before .before .before .before .before .before .before .before .before .before .args .s) in
     ap good (sym (place-drop s (l .i) (omega arith)))
     ∙ ap (placed s)
-    (seek-halts paren (missed 6 (drop (c .before .before .before .before .before .before .before .before .within .result) s)) s (l .i) (omega arith) Plain (l .depth) (l .i) _ refl
+    (seek-halts-at paren (missed 6 (drop (c .before .before .before .before .before .before .before .before .within .result) s)) s (l .i) (omega arith) Plain (l .depth) (l .i) _ refl
     (sym (c .before .before .depth-after .ensures) ∙ ap lookOf (c .enum-told .given .1)) (l .inv .1))
 
 returns-2 : tie.Need-returns-2 Inv-loop μ-loop

@@ -1,4 +1,4 @@
-use Rattle.lex.specs.Leap.{lacks-none, stopped-near, stopped-far}
+use Rattle.lex.specs.ByteSearch.{lacks-none, stopped-near, stopped-far}
 use Rattle.lex.specs.Answer.{Stopped}
 use Prim.Native.Nat.{ℕ, _≤_, min}
 use lib.ListN.{length}

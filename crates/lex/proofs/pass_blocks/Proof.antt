@@ -1,4 +1,4 @@
-use Rattle.lex.specs.Leap.{lacks-none, lacks-on}
+use Rattle.lex.specs.ByteSearch.{lacks-none, lacks-on}
 use Rattle.lex.specs.Answer.{Lacks}
 use lib.ListN.{length}
 use Prim.Native.Nat.{_-_, _≤_}

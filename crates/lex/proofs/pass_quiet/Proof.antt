@@ -1,4 +1,4 @@
-use Rattle.lex.specs.Past.{Quiet}
+use Rattle.lex.specs.PassedAtOnce.{Quiet}
 use lib.ListN.{length}
 use mathlib.Core.Path.{refl, _∙_}
 use Prim.Native.Nat.{_-_, _≤_}

@@ -1,4 +1,4 @@
-use Rattle.lex.specs.Past.{onward-byte, onward-slash, onward-text, onward-remark}
+use Rattle.lex.specs.PassedAtOnce.{onward-byte, onward-slash, onward-text, onward-remark}
 use borrow.Author.Tests.{not-true, not-false}
 use denote.Ref.{now}
 use native.Mathlib.Omega.{arith}

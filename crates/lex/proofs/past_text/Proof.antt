@@ -1,4 +1,4 @@
-use Rattle.lex.specs.Past.{text-left, text-stays}
+use Rattle.lex.specs.PassedAtOnce.{text-left, text-stays}
 use Rattle.lex.specs.Answer.{TextEnds}
 use Prim.Native.Nat.{_+_}
 use mathlib.Core.Path.{subst}

@@ -1,4 +1,4 @@
-use Rattle.lex.specs.Blank.{trivia-end, trivia-blank, trivia-here, trivia-remark}
+use Rattle.lex.specs.TriviaPassed.{trivia-end, trivia-blank, trivia-here-at, trivia-remark}
 use Rattle.lex.specs.Seek.{drop-within}
 use Rattle.lex.specs.Search.{trivia}
 use Rattle.lex.specs.Answer.{placed}
@@ -33,13 +33,13 @@ returns : tie.Need-returns Inv-loop μ-loop
 returns c = let s = now (c .before .before .before .before .before .before .before .before .args .s) in
     let l = c .before .before .before .before .before .loop in
     ap good (sym (place-drop s (l .i) (omega arith)))
-    ∙ ap (placed s) (sym (trivia-here s (l .i) (omega arith) (sym (c .before .before .is-space .ensures) ∙ c .before .if1 .left) (λ e _ _. absurd (c .if2 .taken e))) ∙ l .inv .1)
+    ∙ ap (placed s) (sym (trivia-here-at s (l .i) (omega arith) (sym (c .before .before .is-space .ensures) ∙ c .before .if1 .left) (λ e _ _. absurd (c .if2 .taken e))) ∙ l .inv .1)
 
 returns-2 : tie.Need-returns-2 Inv-loop μ-loop
 returns-2 c = let s = now (c .before .before .before .before .before .before .before .before .before .before .args .s) in
     let l = c .before .before .before .before .before .before .before .loop in
     ap good (sym (place-drop s (l .i) (omega arith)))
-    ∙ ap (placed s) (sym (trivia-here s (l .i) (omega arith) (sym (c .before .before .before .before .is-space .ensures) ∙ c .before .before .before .if1 .left) (λ _. c .before .is-at .ensures .away (not-true _ (c .if3 .taken)))) ∙ l .inv .1)
+    ∙ ap (placed s) (sym (trivia-here-at s (l .i) (omega arith) (sym (c .before .before .before .before .is-space .ensures) ∙ c .before .before .before .if1 .left) (λ _. c .before .is-at .ensures .away (not-true _ (c .if3 .taken)))) ∙ l .inv .1)
 
 past-remark-requires : tie.Need-past-remark-requires Inv-loop μ-loop
 past-remark-requires c κs = let k = c .before .is-at .ensures .here (not-false _ (c .if3 .left)) in omega arith

@@ -8,10 +8,10 @@ use native.Mathlib.Omega.{arith}
 use lib.Dec.{eqb}
 use borrow.Author.Tests.{eqb-true, eqb-false, ne-eqb}
 use Rattle.common.specs.Walk.{Turn, on, walk}
-use Rattle.lex.specs.Lexer.{calm, fresh, next}
+use Rattle.lex.specs.Lexer.{calm, fresh, nextMode}
 use Rattle.lex.specs.Search.{Seen, seen, Look, look, seekTurn, missed}
 use Rattle.lex.specs.Answer.{Sought, at, fault}
-use Rattle.lex.specs.Grammar.{Begins, Opens, Remarked, Comment, Inside, Quotation}
+use Rattle.lex.specs.Grammar.{Begins, OpensComment, Remarked, Comment, Inside, Quotation}
 use Rattle.lex.specs.Local.{seek, seek-within, seek-past}
 use Rattle.lex.specs.declared.Mode.{Mode}
 use Rattle.lex.specs.declared.Mode.the-variants.{Plain, Slash, Text, Quoted, Remark, Starred}
@@ -36,7 +36,7 @@ pair-swap c (a ∷ b) x y (r, e) = (b ++ (42 ∷ y), cc)
 -- in strings and comments a search is deaf: only its mode moves, and where the bytes end a star in a comment is no matter.
 -- st is its state by the mode
 pub record Deaf {S A : Type 0} (t : S → ℕ → List ℕ → Turn S A) (z : S → A) (st : Mode → S) : Type 0 where
-  pub quiet : (m : Mode) (c : ℕ) (r : List ℕ) → calm m c ≡ false → t (st m) c r ≡ on (st (next m c))
+  pub quiet : (m : Mode) (c : ℕ) (r : List ℕ) → calm m c ≡ false → t (st m) c r ≡ on (st (nextMode m c))
   pub starred : z (st Starred) ≡ z (st Remark)
 
 module _ {S A : Type 0} (t : S → ℕ → List ℕ → Turn S A) (z : S → A) (st : Mode → S) (deaf : Deaf t z st) where
@@ -97,10 +97,10 @@ plainly f n w d xs = seek f (missed n w) Plain d xs xs
 
 module _ (f : ℕ → ℕ → Look) (n : ℕ) (w : List ℕ) where
   -- outside strings and comments, where the last byte outside stood has no part in the answer
-  pub unopened : (d : ℕ) (o p xs : List ℕ) → seek f (missed n w) Plain d o xs ≡ seek f (missed n w) Plain d p xs
+  pub outside-forgotten : (d : ℕ) (o p xs : List ℕ) → seek f (missed n w) Plain d o xs ≡ seek f (missed n w) Plain d p xs
   unfolding walk
-  unopened d o p [] = refl
-  unopened d o p (c ∷ r) = refl
+  outside-forgotten d o p [] = refl
+  outside-forgotten d o p (c ∷ r) = refl
 
   -- after a slash that no star follows, a search goes on as outside strings and comments
   pub unslashed : (d : ℕ) (o p xs : List ℕ) → (Begins 42 xs → ⊥) → seek f (missed n w) Slash d o xs ≡ seek f (missed n w) Plain d p xs
@@ -128,13 +128,13 @@ module _ (f : ℕ → ℕ → Look) (n : ℕ) (w : List ℕ) where
   text-open d o i = text-over (seekTurn f) (missed n w) (λ m. seen m d o) (seek-deaf d o) i
 
   -- a search goes on after a byte that opens no string and no comment, at the depth that the byte leaves
-  pub byte-step : (d e c : ℕ) (t : List ℕ) → (c ≡ 39 → ⊥) → (Opens (c ∷ t) → ⊥) → f d c ≡ look e
+  pub byte-step : (d e c : ℕ) (t : List ℕ) → (c ≡ 39 → ⊥) → (OpensComment (c ∷ t) → ⊥) → f d c ≡ look e
       → plainly f n w d (c ∷ t) ≡ plainly f n w e t
   byte-step d e c t h k l = seek-past f (missed n w) Plain d (c ∷ t) c t e refl l ∙ go (eqb c 47) refl
     where
       go : (b : Bool) → eqb c 47 ≡ b → seek f (missed n w) (fresh c) e (c ∷ t) t ≡ plainly f n w e t
       go true p = rw (ne-eqb c 39 h, p) (unslashed e (c ∷ t) t t (λ (r, g). k (r, cc (eqb-true c 47 p))))
-      go false p = rw (ne-eqb c 39 h, p) (unopened e (c ∷ t) t t)
+      go false p = rw (ne-eqb c 39 h, p) (outside-forgotten e (c ∷ t) t t)
 
   module _ (passing : Passing f) (d : ℕ) where
     -- a quote opens a string
@@ -153,7 +153,7 @@ module _ (f : ℕ → ℕ → Look) (n : ℕ) (w : List ℕ) where
     -- a search goes on after a whole comment
     pub comment-step : {xs zs : List ℕ} → Comment xs zs → plainly f n w d xs ≡ plainly f n w d zs
     comment-step {zs} q = let xs₀ : List ℕ = 47 ∷ 42 ∷ (q .body ++ (42 ∷ 47 ∷ zs)) in rw (q .shape) (remark-start (q .body ++ (42 ∷ 47 ∷ zs))
-        ∙ remark-shut (seekTurn f) (missed n w) (λ m. seen m d xs₀) (seek-deaf d xs₀) (q .body) zs (q .first) ∙ unopened d _ zs zs)
+        ∙ remark-shut (seekTurn f) (missed n w) (λ m. seen m d xs₀) (seek-deaf d xs₀) (q .body) zs (q .first) ∙ outside-forgotten d _ zs zs)
 
     -- a search before a string that never ends is refused with 4 there
     pub text-stuck : (t : List ℕ) → Inside t → plainly f n w d (39 ∷ t) ≡ fault 4 (39 ∷ t)

@@ -10,7 +10,7 @@ use lib.ListN.{length, length-append}
 use Rattle.common.specs.Compare.{clash}
 use Rattle.lex.specs.Search.{Look, halt}
 use Rattle.common.specs.Walk.{walk}
-use Rattle.lex.specs.Grammar.{Begins, Opens, Remarked, Comment, Inside, Quotation, OpenText, OpenRemark}
+use Rattle.lex.specs.Grammar.{Begins, OpensComment, Remarked, Comment, Inside, Quotation, OpenText, OpenRemark}
 use Rattle.lex.specs.Right.Steps.{Pair, Starless, pair-swap, text-shut, text-open}
 
 -- whether the list begins with this byte
@@ -106,10 +106,10 @@ abbrev first-outside : ℕ → ℕ → Look
 first-outside d c = halt
 
 -- bytes that are all a string's inside hold no end of that string: else the search `first-outside` would answer twice
-pub unended : {t : List ℕ} → Inside t → (r : List ℕ) → Quotation (39 ∷ t) r → ⊥
+pub string-unended : {t : List ℕ} → Inside t → (r : List ℕ) → Quotation (39 ∷ t) r → ⊥
 unfolding walk
-unended i [] q = clash (cc (text-open first-outside 5 [] 0 [] i, text-shut first-outside 5 [] 0 [] [] [] (q .inside) (q .single)))
-unended i (c ∷ r) q = clash (cc (text-open first-outside 5 [] 0 [] i, text-shut first-outside 5 [] 0 [] [] (c ∷ r) (q .inside) (q .single)))
+string-unended i [] q = clash (cc (text-open first-outside 5 [] 0 [] i, text-shut first-outside 5 [] 0 [] [] [] (q .inside) (q .single)))
+string-unended i (c ∷ r) q = clash (cc (text-open first-outside 5 [] 0 [] i, text-shut first-outside 5 [] 0 [] [] (c ∷ r) (q .inside) (q .single)))
 
 -- a string has one end
 pub one-end : (t r z : List ℕ) → Quotation (39 ∷ t) r → Quotation (39 ∷ t) z → r ≡ z
@@ -136,13 +136,13 @@ open-remark {xs} ((t, e), h) = go (remark-ends t)
     go (inr k) = (t, e, k)
 
 -- a list of bytes read as tokens
-pub data Reads : List ℕ → Type 0 where
-  end : Reads []
-  byte : {c : ℕ} {t : List ℕ} → (c ≡ 39 → ⊥) → (Opens (c ∷ t) → ⊥) → Reads t → Reads (c ∷ t)
-  string : {xs zs : List ℕ} → Quotation xs zs → Reads zs → Reads xs
-  comment : {xs zs : List ℕ} → Comment xs zs → Reads zs → Reads xs
-  text : {xs : List ℕ} → OpenText xs → Reads xs
-  remark : {xs : List ℕ} → OpenRemark xs → Reads xs
+pub data ReadsAsTokens : List ℕ → Type 0 where
+  end : ReadsAsTokens []
+  byte : {c : ℕ} {t : List ℕ} → (c ≡ 39 → ⊥) → (OpensComment (c ∷ t) → ⊥) → ReadsAsTokens t → ReadsAsTokens (c ∷ t)
+  string : {xs zs : List ℕ} → Quotation xs zs → ReadsAsTokens zs → ReadsAsTokens xs
+  comment : {xs zs : List ℕ} → Comment xs zs → ReadsAsTokens zs → ReadsAsTokens xs
+  text : {xs : List ℕ} → OpenText xs → ReadsAsTokens xs
+  remark : {xs : List ℕ} → OpenRemark xs → ReadsAsTokens xs
 
 -- what follows a string is shorter than what begins with it
 pub quotation-shorter : {xs r : List ℕ} → Quotation xs r → length r < length xs
@@ -153,29 +153,29 @@ pub comment-shorter : {xs r : List ℕ} → Comment xs r → length r < length x
 comment-shorter q = omega (arith, simp length-append at (ap length (q .shape)))
 
 -- every list of at most n bytes reads as tokens
-tokens-to : (n : ℕ) (xs : List ℕ) → length xs ≤ n → Reads xs
-tokens-to zero [] h = Reads.end
+tokens-to : (n : ℕ) (xs : List ℕ) → length xs ≤ n → ReadsAsTokens xs
+tokens-to zero [] h = ReadsAsTokens.end
 tokens-to zero (c ∷ t) h = absurd (omega arith)
-tokens-to (suc n) [] h = Reads.end
+tokens-to (suc n) [] h = ReadsAsTokens.end
 tokens-to (suc n) (c ∷ t) h = go (ℕ-discrete c 39) (pair 47 42 (c ∷ t)) (λ r k. tokens-to n r (omega arith))
   where
-    texts : c ≡ 39 → Closed t ⊎ Inside t → ((r : List ℕ) → length r < length (c ∷ t) → Reads r) → Reads (c ∷ t)
+    texts : c ≡ 39 → Closed t ⊎ Inside t → ((r : List ℕ) → length r < length (c ∷ t) → ReadsAsTokens r) → ReadsAsTokens (c ∷ t)
     texts p (inl s) ih =
         let q : Quotation (c ∷ t) (s .rest) = record { body = s .body; inside = s .inside; shape = cc; single = s .single } in
-        Reads.string q (ih (s .rest) (quotation-shorter q))
-    texts p (inr i) ih = Reads.text {xs = c ∷ t} ((t, cc), rw p (unended i))
+        ReadsAsTokens.string q (ih (s .rest) (quotation-shorter q))
+    texts p (inr i) ih = ReadsAsTokens.text {xs = c ∷ t} ((t, cc), rw p (string-unended i))
 
-    remarks : (r : List ℕ) → c ∷ t ≡ 47 ∷ 42 ∷ r → Shut r ⊎ Starless r → ((r : List ℕ) → length r < length (c ∷ t) → Reads r) → Reads (c ∷ t)
+    remarks : (r : List ℕ) → c ∷ t ≡ 47 ∷ 42 ∷ r → Shut r ⊎ Starless r → ((r : List ℕ) → length r < length (c ∷ t) → ReadsAsTokens r) → ReadsAsTokens (c ∷ t)
     remarks r e (inl s) ih =
         let q : Comment (c ∷ t) (s .rest) = record { body = s .body; first = s .first; shape = cc } in
-        Reads.comment q (ih (s .rest) (comment-shorter q))
-    remarks r e (inr k) ih = Reads.remark ((r, e), λ v q. k (q .body) v (cc))
+        ReadsAsTokens.comment q (ih (s .rest) (comment-shorter q))
+    remarks r e (inr k) ih = ReadsAsTokens.remark ((r, e), λ v q. k (q .body) v (cc))
 
-    go : Dec (c ≡ 39) → Dec (Opens (c ∷ t)) → ((r : List ℕ) → length r < length (c ∷ t) → Reads r) → Reads (c ∷ t)
+    go : Dec (c ≡ 39) → Dec (OpensComment (c ∷ t)) → ((r : List ℕ) → length r < length (c ∷ t) → ReadsAsTokens r) → ReadsAsTokens (c ∷ t)
     go (yes p) q ih = texts p (text-ends t) ih
     go (no k) (yes (r, e)) ih = remarks r e (remark-ends r) ih
-    go (no k) (no l) ih = Reads.byte k l (ih t (omega arith))
+    go (no k) (no l) ih = ReadsAsTokens.byte k l (ih t (omega arith))
 
 -- every list of bytes reads as tokens
-pub tokens : (xs : List ℕ) → Reads xs
+pub tokens : (xs : List ℕ) → ReadsAsTokens xs
 tokens xs = tokens-to (length xs) xs (omega arith)

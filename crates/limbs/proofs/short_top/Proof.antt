@@ -2,12 +2,12 @@
 use native.Mathlib.Omega.{arith}
 use borrow.Author.Needs.{needs}
 use denote.Ref.{now}
-use Rattle.limbs.specs.Top.{no-digit, one-digit, two-digits}
+use Rattle.limbs.specs.Top.{no-limb, one-digit, two-digits}
 use Rattle.limbs.proofs.short_top.Statement.{statement}
 use Rattle.limbs.proofs.short_top.Tie as tie
 
 returns : tie.Need-returns
-returns c = let p = c .before .args in no-digit (now (p .a)) (p .n) (omega arith)
+returns c = let p = c .before .args in no-limb (now (p .a)) (p .n) (omega arith)
 
 cast-result : tie.Need-cast-result
 cast-result c = omega (arith, c .shared-slice-known .given 0)

@@ -6,7 +6,7 @@ use denote.Ref.{now}
 use lib.Count.{leading-le}
 use lib.ListN.{getD}
 use lib.Pow.{pow-pos}
-use Rattle.limbs.specs.Top.{bitsOf, unit-is, head-short, high-bits, head-long}
+use Rattle.limbs.specs.Top.{bitsOf, bits-unit-is, head-short, high-bits, head-long}
 use Rattle.limbs.proofs.top.Statement.{statement}
 use Rattle.limbs.proofs.top.Tie as tie
 
@@ -25,7 +25,7 @@ cast-rest c = omega (arith, c .shared-slice-known3 .given (c .before .before .be
 rem-rest : tie.Need-rem-rest
 rem-rest c =
     let b = bitsOf (getD (now (c .before .before .before .before .before .args .a)) (c .before .before .before .highest .result - 1) 0) in
-    rw (unit-is b (omega arith)) (pow-pos b)
+    rw (bits-unit-is b (omega arith)) (pow-pos b)
 
 joined-requires : tie.Need-joined-requires
 joined-requires c κs =

@@ -1,5 +1,5 @@
 use borrow.Author.Needs.{needs}
-use Rattle.lists.specs.Laws.{item-is}
+use Rattle.lists.specs.Laws.{item-told-is}
 use Rattle.lists.specs.Items.{ItemAt}
 use mathlib.Core.Path.{subst}
 use denote.Ref.{now}
@@ -13,7 +13,7 @@ returns c = let e = c .before .before .before .before .item-end in
     let b = now (c .before .before .before .before .before .before .before .args .b) in
     let m = c .before .before .trim in
     subst (λ (j : ℕ). ItemAt b j (record { start = w .result + m .result .start; stop = w .result + m .result .stop; bound = e .result })) (w .ensures)
-    (item-is b (w .result) (e .result) (m .result .start) (m .result .stop) (e .ensures .1 .0) (e .ensures .1 .1) (e .ensures .0) (m .ensures .0) (m .ensures .1 .0) (m .ensures .1 .1 .0) (m .ensures .1 .1 .1))
+    (item-told-is b (w .result) (e .result) (m .result .start) (m .result .stop) (e .ensures .1 .0) (e .ensures .1 .1) (e .ensures .0) (m .ensures .0) (m .ensures .1 .0) (m .ensures .1 .1 .0) (m .ensures .1 .1 .1))
 
 pub item-at-spec : {M : Type 1} → statement M
 item-at-spec =

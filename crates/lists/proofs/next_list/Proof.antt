@@ -5,7 +5,7 @@ use Rattle.lists.specs.Lent.{itemValue, lentOf, kindRoom, value-inward}
 use Rattle.lists.specs.Items.{listBy}
 use Rattle.lists.specs.Answer.{fitsIn}
 use Rattle.params.specs.ReaderLaws.{cut-places}
-use Rattle.params.specs.Answer.{toldCut}
+use Rattle.params.specs.Answer.{toldNextParam}
 use native.Mathlib.Omega.{arith}
 use denote.Ref.{now}
 use lib.ListN.{length, take, drop, length-take, length-drop}
@@ -36,14 +36,14 @@ answer-of-requires c κs = let i = c .before .before .before .before .before .be
 
 returns : tie.Need-returns
 returns c = let t = c .before .before .before .before .before .before .before .before .args in
-    lists-uncut (listBy (itemValue (t .kind))) (lentOf (t .kind) (now (t .refs)) (now (t .wholes)) (now (t .reals))) (kindRoom (t .kind) (length (now (t .refs))) (length (now (t .wholes))) (length (now (t .reals)))) (now (t .file)) (t .at .place) (t .at .end) _ _ _ (ap toldCut (sym (c .before .f .given .1)) ∙ c .before .before .before .param-span .ensures .0)
+    lists-uncut (listBy (itemValue (t .kind))) (lentOf (t .kind) (now (t .refs)) (now (t .wholes)) (now (t .reals))) (kindRoom (t .kind) (length (now (t .refs))) (length (now (t .wholes))) (length (now (t .reals)))) (now (t .file)) (t .at .place) (t .at .end) _ _ _ (ap toldNextParam (sym (c .before .f .given .1)) ∙ c .before .before .before .param-span .ensures .0)
 
 returns-2 : tie.Need-returns-2
 returns-2 c = let i = c .before .before .before .before .before .before .before .before in
     let g = c .before .before .before .before .before .before .before .before .before .before .before .before .before .before .before in
     let t = c .before .before .before .before .before .before .before .before .before .before .before .before .before .before .before .before .before .before .before .before .before .before .args in
     let (x, y) = lists-cut (listBy (itemValue (t .kind))) (lentOf (t .kind) (now (t .refs)) (now (t .wholes)) (now (t .reals))) (kindRoom (t .kind) (length (now (t .refs))) (length (now (t .wholes))) (length (now (t .reals)))) (now (t .file)) (t .at .place) (t .at .end) _ _ _ _
-    (ap toldCut (sym (g .start .given .1)) ∙ g .before .before .param-span .ensures .0) _ _ (i .read-list .ensures .0) (i .read-list .ensures .1) in
+    (ap toldNextParam (sym (g .start .given .1)) ∙ g .before .before .param-span .ensures .0) _ _ (i .read-list .ensures .0) (i .read-list .ensures .1) in
     (c .answer-of .ensures ∙ x, y)
 
 pub next-list-spec : {M : Type 1} → statement M

@@ -1,6 +1,6 @@
 use mathlib.Core.Path.{_∙_, sym, ap}
 use denote.Ref.{now}
-use Rattle.scan.specs.Table.{toldScan}
+use Rattle.scan.specs.ScanMemory.{toldScan}
 use Rattle.needs.specs.Laws.{needs-refused, needs-read, refused-number, good-not-bad}
 use borrow.Author.Needs.{needs}
 use Rattle.needs.proofs.count.Statement.{statement}

@@ -1,5 +1,5 @@
-use Rattle.params.specs.Seek.{Stepped, onward, step-plain, onward-over, onward-starts}
-use Rattle.params.specs.Cut.{cutOf}
+use Rattle.params.specs.Seek.{ParamStep, searchFrom, step-plain, onward-over, onward-starts}
+use Rattle.params.specs.ParameterEnd.{cutOf}
 use lib.ListN.{length, drop}
 use Prim.Native.Nat.{ℕ, _-_, _≤_}
 use mathlib.Core.Path.{_≡_, _∙_, sym, ap}
@@ -12,7 +12,7 @@ use Rattle.params.proofs.param_end.Statement.{statement}
 use Rattle.params.proofs.param_end.Tie as tie
 
 abbrev Inv-loop : tie.InvT-loop
-Inv-loop part start from i₀ solid₀ depth₀ i solid depth = (from ≤ solid) × (solid ≤ i) × (i ≤ length part) × (depth ≤ i) × (onward part i solid depth ≡ cutOf (drop start part))
+Inv-loop part start from i₀ solid₀ depth₀ i solid depth = (from ≤ solid) × (solid ≤ i) × (i ≤ length part) × (depth ≤ i) × (searchFrom part i solid depth ≡ cutOf (drop start part))
 
 abbrev μ-loop : tie.MeasureT-loop
 μ-loop part start from i₀ solid₀ depth₀ i solid depth = length part - i
@@ -50,27 +50,27 @@ token-at-requires c κs = let l = c .before .before .before .loop in record {
 returns : tie.Need-returns Inv-loop μ-loop
 returns c = let t = c .before .before in
     let l = t .before .before .before .before .loop in
-    let k : Stepped (now (t .before .before .before .before .before .before .before .args .part)) (l .i) (l .solid) (l .depth) StepCode.the-variants.Comma = rw (c .enum-told .given .1) at (t .token-at .ensures) in
+    let k : ParamStep (now (t .before .before .before .before .before .before .before .args .part)) (l .i) (l .solid) (l .depth) StepCode.the-variants.Comma = rw (c .enum-told .given .1) at (t .token-at .ensures) in
     (sym k ∙ l .inv .4, (omega (arith, t .before .before .before .before .before .within .ensures), omega arith, omega arith))
 
 returns-2 : tie.Need-returns-2 Inv-loop μ-loop
 returns-2 c = let t = c .before .before in
     let l = t .before .before .before .before .loop in
-    let k : Stepped (now (t .before .before .before .before .before .before .before .args .part)) (l .i) (l .solid) (l .depth) StepCode.the-variants.Open = rw (c .enum-told2 .given .1) at (t .token-at .ensures) in
+    let k : ParamStep (now (t .before .before .before .before .before .before .before .args .part)) (l .i) (l .solid) (l .depth) StepCode.the-variants.Open = rw (c .enum-told2 .given .1) at (t .token-at .ensures) in
     (sym k ∙ l .inv .4, (omega (arith, t .before .before .before .before .before .within .ensures), omega arith))
 
 loop-less-2 : tie.Need-loop-less-2 Inv-loop μ-loop
 loop-less-2 c = let t = c .before .before .before in
     let l = t .before .before .before .before .loop in
     let g = c .before .j .given in
-    let k : Stepped (now (t .before .before .before .before .before .before .before .args .part)) (l .i) (l .solid) (l .depth) (StepCode.the-variants.On (g .0 .0) (g .0 .1 .0) (g .0 .1 .1 .0)) = rw (g .1) at (t .token-at .ensures) in
+    let k : ParamStep (now (t .before .before .before .before .before .before .before .args .part)) (l .i) (l .solid) (l .depth) (StepCode.the-variants.On (g .0 .0) (g .0 .1 .0) (g .0 .1 .1 .0)) = rw (g .1) at (t .token-at .ensures) in
     omega (arith, k .1, k .2)
 
 loop-again-2 : tie.Need-loop-again-2 Inv-loop μ-loop
 loop-again-2 c = let t = c .before .before .before in
     let l = t .before .before .before .before .loop in
     let g = c .before .j .given in
-    let k : Stepped (now (t .before .before .before .before .before .before .before .args .part)) (l .i) (l .solid) (l .depth) (StepCode.the-variants.On (g .0 .0) (g .0 .1 .0) (g .0 .1 .1 .0)) = rw (g .1) at (t .token-at .ensures) in
+    let k : ParamStep (now (t .before .before .before .before .before .before .before .args .part)) (l .i) (l .solid) (l .depth) (StepCode.the-variants.On (g .0 .0) (g .0 .1 .0) (g .0 .1 .1 .0)) = rw (g .1) at (t .token-at .ensures) in
     (omega (arith, k .3), omega (arith, k .4), omega (arith, k .2), omega (arith, k .1, k .5), sym (k .0) ∙ l .inv .4)
 
 returns-3 : tie.Need-returns-3 Inv-loop μ-loop

@@ -1,4 +1,4 @@
-use Rattle.params.specs.Seek.{onward, step-plain}
+use Rattle.params.specs.Seek.{searchFrom, step-plain}
 use lib.ListN.{length}
 use Prim.Native.Nat.{ℕ, _-_, _≤_}
 use mathlib.Core.Path.{_≡_, refl, _∙_}
@@ -9,7 +9,7 @@ use Rattle.params.proofs.past_plain.Statement.{statement}
 use Rattle.params.proofs.past_plain.Tie as tie
 
 abbrev Inv-loop : tie.InvT-loop
-Inv-loop part i j₀ j = (i ≤ j) × (j ≤ length part) × ((d : ℕ) → onward part i i d ≡ onward part j j d)
+Inv-loop part i j₀ j = (i ≤ j) × (j ≤ length part) × ((d : ℕ) → searchFrom part i i d ≡ searchFrom part j j d)
 
 abbrev μ-loop : tie.MeasureT-loop
 μ-loop part i j₀ j = length part - j

@@ -1,5 +1,5 @@
 use borrow.Author.Needs.{needs}
-use Rattle.params.specs.Seek.{onward, step-opening, step-closing, step-blank, step-other, on-byte}
+use Rattle.params.specs.Seek.{searchFrom, step-opening, step-closing, step-blank, step-other, on-byte}
 use Prim.Native.Nat.{_-_, _+_}
 use mathlib.Core.Path.{_∙_, sym, ap}
 use native.Mathlib.Omega.{arith}
@@ -32,7 +32,7 @@ add-t13 : tie.Need-add-t13
 add-t13 c = omega (arith, c .before .before .before .before .before .pre .place, c .before .before .before .before .before .pre .bounded)
 
 returns-3 : tie.Need-returns-3
-returns-3 c = on-byte (now (c .before .before .before .before .before .before .args .part)) (c .before .before .before .before .before .before .args .i) (c .before .before .before .before .before .before .args .solid) (c .before .before .before .before .before .before .args .depth) (c .lowered .result) (c .before .before .before .before .before .before .pre) (step-closing (now (c .before .before .before .before .before .before .args .part)) (c .before .before .before .before .before .before .args .i) (c .before .before .before .before .before .before .args .solid) (c .before .before .before .before .before .before .args .depth) (c .before .before .before .before .before .before .pre .place) (c .before .if3 .taken) ∙ ap (onward (now (c .before .before .before .before .before .before .args .part)) (c .before .before .before .before .before .before .args .i + 1) (c .before .before .before .before .before .before .args .i + 1)) (sym (c .lowered .ensures))) (omega (arith, c .lowered .ensures))
+returns-3 c = on-byte (now (c .before .before .before .before .before .before .args .part)) (c .before .before .before .before .before .before .args .i) (c .before .before .before .before .before .before .args .solid) (c .before .before .before .before .before .before .args .depth) (c .lowered .result) (c .before .before .before .before .before .before .pre) (step-closing (now (c .before .before .before .before .before .before .args .part)) (c .before .before .before .before .before .before .args .i) (c .before .before .before .before .before .before .args .solid) (c .before .before .before .before .before .before .args .depth) (c .before .before .before .before .before .before .pre .place) (c .before .if3 .taken) ∙ ap (searchFrom (now (c .before .before .before .before .before .before .args .part)) (c .before .before .before .before .before .before .args .i + 1) (c .before .before .before .before .before .before .args .i + 1)) (sym (c .lowered .ensures))) (omega (arith, c .lowered .ensures))
 
 text-step-requires : tie.Need-text-step-requires
 text-step-requires c κs = record { standing = c .before .before .before .before .before .before .pre; byte = omega (arith, c .if4 .taken) }

@@ -7,9 +7,9 @@ use denote.Ref.{now}
 use lib.ListN.{length}
 use Rattle.nearest.specs.Nearest.{signed}
 use Rattle.nearest.specs.Power.{nearBy}
-use Rattle.long.specs.Digits.{digitsIn}
-use Rattle.long.specs.Number.{numberIn}
-use Rattle.long.specs.DigitsRight.{number-lt, digits-le}
+use Rattle.long_reals.specs.Digits.{digitsIn}
+use Rattle.long_reals.specs.Number.{numberIn}
+use Rattle.long_reals.specs.DigitsRight.{number-lt, digits-le}
 use Rattle.reals.proofs.any_real.Statement.{statement}
 use Rattle.reals.proofs.any_real.Tie as tie
 

@@ -10,7 +10,7 @@ use lib.IntN.{ℤ, pos, negsuc, negℤ, _-ℤ_}
 use mir.Syntax.{w64}
 use mir.Val.{SFits, toZ, ofZ}
 use mir.ValLaws.{toZ-pos, toZ-ofZ}
-use Rattle.reals.specs.Scalar.{ranged}
+use Rattle.reals.specs.Scalar.{integerInRange}
 use Rattle.reals.specs.Answer.{read}
 use Rattle.reals.proofs.below_zero.Statement.{statement}
 use Rattle.reals.proofs.below_zero.Tie as tie
@@ -30,7 +30,7 @@ negative : (n : ℕ) → (n ≡ 0 → ⊥) → negsuc (n - 1) ≡ negℤ (pos n)
 negative zero z = absurd (z refl)
 negative (suc n) z = let e : suc n - 1 ≡ n = omega arith in ap negsuc e
 
-lowered : (n : ℕ) → (n ≡ 0 → ⊥) → n ≤ 2 ^ 63 → read (toZ w64 (ofZ w64 (negsuc 0 -ℤ toZ w64 (n - 1)))) ≡ ranged true n
+lowered : (n : ℕ) → (n ≡ 0 → ⊥) → n ≤ 2 ^ 63 → read (toZ w64 (ofZ w64 (negsuc 0 -ℤ toZ w64 (n - 1)))) ≡ integerInRange true n
 lowered n z h =
     let l : n - 1 < 2 ^ 63 = omega arith in
     rw (le-leb n (2 ^ 63) h) (ap read (toZ-ofZ w64 (negsuc 0 -ℤ toZ w64 (n - 1)) (fits n l) ∙ down n l ∙ negative n z))
@@ -38,7 +38,7 @@ lowered n z h =
 returns : tie.Need-returns
 returns c = go (c .before .args .n) (c .if1 .taken)
   where
-    go : (n : ℕ) → n ≡ 0 → read (pos 0) ≡ ranged true n
+    go : (n : ℕ) → n ≡ 0 → read (pos 0) ≡ integerInRange true n
     go n e = rw e refl
 
 sub-t5 : tie.Need-sub-t5

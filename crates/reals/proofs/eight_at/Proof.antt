@@ -1,7 +1,7 @@
 -- `reals::eight_at` meets its contract: what is told of the eight bytes. Assumes nothing.
 use borrow.Author.Needs.{needs}
 use denote.Ref.{now}
-use Rattle.reals.specs.Parts.{eight-at}
+use Rattle.reals.specs.DigitLoop.{eight-at}
 use Rattle.reals.proofs.eight_at.Statement.{statement}
 use Rattle.reals.proofs.eight_at.Tie as tie
 

@@ -9,7 +9,7 @@ use denote.Ref.{now}
 use lib.ListN.{getD}
 use Rattle.common.specs.Tests.{bounds, both}
 use Rattle.record.specs.Byte.{digit}
-use Rattle.reals.specs.Parts.{four-at}
+use Rattle.reals.specs.DigitLoop.{four-at}
 use Rattle.reals.proofs.four_at.Statement.{statement}
 use Rattle.reals.proofs.four_at.Tie as tie
 

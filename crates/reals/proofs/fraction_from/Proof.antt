@@ -1,10 +1,10 @@
--- `reals::fraction_from` meets its contract, by the laws of Parts.antt at each way out. Assumes nothing.
+-- `reals::fraction_from` meets its contract, by the laws of DigitLoop.antt at each way out. Assumes nothing.
 use native.Mathlib.Omega.{arith}
 use borrow.Author.Needs.{needs}
 use borrow.Author.Tests.{eq-eqb, ne-eqb}
 use denote.Ref.{now}
 use lib.ListN.{getD}
-use Rattle.reals.specs.Parts.{decimal-pointed, decimal-whole, decimal-end}
+use Rattle.reals.specs.DigitLoop.{decimal-pointed, decimal-whole, decimal-end}
 use Rattle.reals.proofs.fraction_from.Statement.{statement}
 use Rattle.reals.proofs.fraction_from.Tie as tie
 

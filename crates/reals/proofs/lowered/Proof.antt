@@ -5,7 +5,7 @@ use native.Mathlib.Nat.{one-le-pow}
 use native.Mathlib.Omega.{arith}
 use borrow.Author.Needs.{needs}
 use lib.Ieee.{binary64, toBits}
-use Rattle.reals.specs.Table.{short-path}
+use Rattle.reals.specs.FloatTables.{short-path}
 use Rattle.nearest.specs.ProductRight.{quotient-exact}
 use Rattle.reals.proofs.lowered.Statement.{statement}
 use Rattle.reals.proofs.lowered.Tie as tie

@@ -1,7 +1,7 @@
 -- `reals::many_digits_from` meets its contract: eight digits and eight more, four, and those that are left. Assumes nothing.
 use denote.Ref.{now}
 use borrow.Author.Needs.{needs}
-use Rattle.reals.specs.Parts.{reading-then}
+use Rattle.reals.specs.DigitLoop.{number-reading-then}
 use Rattle.reals.proofs.many_digits_from.Statement.{statement}
 use Rattle.reals.proofs.many_digits_from.Tie as tie
 
@@ -21,9 +21,9 @@ returns c =
     let d = e .before in
     let a = d .before .before .args in
     let t = now (a .t) in
-    let r = reading-then t (e .eight-from2 .result .next) (e .eight-from2 .result .value) (a .cap) (g .four-from .result .value) (g .four-from .result .next) (c .digits-from .result) (g .four-from .ensures) (c .digits-from .ensures) in
-    let s = reading-then t (d .eight-from .result .next) (d .eight-from .result .value) (a .cap) (e .eight-from2 .result .value) (e .eight-from2 .result .next) (c .digits-from .result) (e .eight-from2 .ensures) r in
-    reading-then t (a .at) (a .from) (a .cap) (d .eight-from .result .value) (d .eight-from .result .next) (c .digits-from .result) (d .eight-from .ensures) s
+    let r = number-reading-then t (e .eight-from2 .result .next) (e .eight-from2 .result .value) (a .cap) (g .four-from .result .value) (g .four-from .result .next) (c .digits-from .result) (g .four-from .ensures) (c .digits-from .ensures) in
+    let s = number-reading-then t (d .eight-from .result .next) (d .eight-from .result .value) (a .cap) (e .eight-from2 .result .value) (e .eight-from2 .result .next) (c .digits-from .result) (e .eight-from2 .ensures) r in
+    number-reading-then t (a .at) (a .from) (a .cap) (d .eight-from .result .value) (d .eight-from .result .next) (c .digits-from .result) (d .eight-from .ensures) s
 
 pub many-digits-from-spec : {M : Type 1} → statement M
 many-digits-from-spec = tie.close (tie.spec

@@ -1,8 +1,8 @@
--- `reals::minus_at` meets its contract, by the laws of Parts.antt at each way out. Assumes nothing.
+-- `reals::minus_at` meets its contract, by the laws of DigitLoop.antt at each way out. Assumes nothing.
 use native.Mathlib.Omega.{arith}
 use borrow.Author.Needs.{needs}
 use denote.Ref.{now}
-use Rattle.reals.specs.Parts.{minus-here, minus-none}
+use Rattle.reals.specs.DigitLoop.{minus-here, minus-none}
 use Rattle.reals.proofs.minus_at.Statement.{statement}
 use Rattle.reals.proofs.minus_at.Tie as tie
 

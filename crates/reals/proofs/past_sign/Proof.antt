@@ -1,8 +1,8 @@
--- `reals::past_sign` meets its contract, by the laws of Parts.antt at each way out. Assumes nothing.
+-- `reals::past_sign` meets its contract, by the laws of DigitLoop.antt at each way out. Assumes nothing.
 use native.Mathlib.Omega.{arith}
 use borrow.Author.Needs.{needs}
 use denote.Ref.{now}
-use Rattle.reals.specs.Parts.{sign-passed, sign-none, sign-end}
+use Rattle.reals.specs.DigitLoop.{sign-passed, sign-none, sign-end}
 use Rattle.reals.proofs.past_sign.Statement.{statement}
 use Rattle.reals.proofs.past_sign.Tie as tie
 

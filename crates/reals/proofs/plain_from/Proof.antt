@@ -1,10 +1,10 @@
--- `reals::plain_from` meets its contract, by the laws of Parts.antt at each way out. Assumes nothing.
+-- `reals::plain_from` meets its contract, by the laws of DigitLoop.antt at each way out. Assumes nothing.
 use borrow.Author.Needs.{needs}
 use borrow.Author.Tests.{eqb-true, ltb-true}
 use denote.Ref.{now}
 use lib.ListN.{length}
 use Rattle.common.specs.Tests.{both}
-use Rattle.reals.specs.Parts.{plain-read, plain-other}
+use Rattle.reals.specs.DigitLoop.{plain-read, plain-at-other}
 use Rattle.reals.proofs.plain_from.Statement.{statement}
 use Rattle.reals.proofs.plain_from.Tie as tie
 
@@ -19,7 +19,7 @@ returns-2 : tie.Need-returns-2
 returns-2 c =
     let d = c .before .before in
     let a = d .before .before .args in
-    plain-other (now (a .t)) (a .at) (a .cap) (d .digits-from .result) (d .digits-from .ensures) (c .if1 .left)
+    plain-at-other (now (a .t)) (a .at) (a .cap) (d .digits-from .result) (d .digits-from .ensures) (c .if1 .left)
 
 pub plain-from-spec : {M : Type 1} → statement M
 plain-from-spec = tie.close (tie.spec

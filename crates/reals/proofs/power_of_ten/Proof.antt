@@ -1,7 +1,7 @@
 -- `reals::power_of_ten` meets its contract: the table's rule. Assumes nothing.
 use native.Mathlib.Omega.{arith}
 use Rattle.common.specs.Tests.{avoided}
-use Rattle.reals.specs.Table.{power-found}
+use Rattle.reals.specs.FloatTables.{power-found}
 use Rattle.reals.proofs.power_of_ten.Statement.{statement}
 use Rattle.reals.proofs.power_of_ten.Tie as tie
 

@@ -3,7 +3,7 @@ use Prim.Native.Nat.{_^_}
 use mathlib.Core.Path.{_∙_}
 use borrow.Author.Needs.{needs}
 use lib.Ieee.{binary64, toBits}
-use Rattle.reals.specs.Table.{short-path}
+use Rattle.reals.specs.FloatTables.{short-path}
 use Rattle.nearest.specs.ProductRight.{product-exact}
 use Rattle.reals.proofs.raised.Statement.{statement}
 use Rattle.reals.proofs.raised.Tie as tie

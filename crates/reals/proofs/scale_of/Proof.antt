@@ -1,10 +1,10 @@
--- `reals::scale_of` meets its contract, by the laws of Any.antt at each way out. Assumes nothing.
+-- `reals::scale_of` meets its contract, by the laws of AnyRealLaws.antt at each way out. Assumes nothing.
 use mathlib.Core.Path.{sym, _∙_, ap}
 use mathlib.Core.Bool.{Bool}
 use native.Mathlib.Omega.{arith}
 use borrow.Author.Needs.{needs}
 use Rattle.reals.specs.Scalar.{nearTen}
-use Rattle.reals.specs.Any.{down-held, down-far, up-held, mid-held}
+use Rattle.reals.specs.AnyRealLaws.{down-held, down-far, up-held, mid-held}
 use Rattle.reals.proofs.scale_of.Statement.{statement}
 use Rattle.reals.proofs.scale_of.Tie as tie
 

@@ -1,8 +1,8 @@
--- `reals::tens_from` meets its contract, by the laws of Parts.antt at each way out. Assumes nothing.
+-- `reals::tens_from` meets its contract, by the laws of DigitLoop.antt at each way out. Assumes nothing.
 use native.Mathlib.Omega.{arith}
 use borrow.Author.Needs.{needs}
 use denote.Ref.{now}
-use Rattle.reals.specs.Parts.{tens-none, tens-other, tens-read, tens-bad}
+use Rattle.reals.specs.DigitLoop.{tens-none, tens-other, tens-read, tens-bad}
 use Rattle.reals.proofs.tens_from.Statement.{statement}
 use Rattle.reals.proofs.tens_from.Tie as tie
 

@@ -3,7 +3,7 @@ use Prim.Native.Nat.{ℕ, _+_, _*_, _/_, _<_, _≤_, _^_}
 use mathlib.Core.Path.{_≡_}
 use native.Mathlib.Omega.{arith}
 use borrow.Author.Needs.{needs}
-use Rattle.reals.specs.Parts.{below-cap, at-cap, full-cap, past-cap, held-below, held-above}
+use Rattle.reals.specs.DigitLoop.{below-cap, at-cap, full-cap, past-cap, held-below, held-above}
 use Rattle.reals.proofs.with_digits.Statement.{statement}
 use Rattle.reals.proofs.with_digits.Tie as tie
 

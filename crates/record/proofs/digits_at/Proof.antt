@@ -1,6 +1,6 @@
 use Rattle.common.specs.Lists.{drop-end}
 use Rattle.record.specs.Turns.{digit-stops, digit-goes, number-grows}
-use Rattle.record.specs.Text.{digitTurn, digits, numberFrom}
+use Rattle.record.specs.Text.{digitTurn, numberAndRest, numberFrom}
 use Rattle.common.specs.Walk.{walk, walk-ends}
 use Rattle.common.specs.Tests.{bounds}
 use lib.ListN.{length, drop, getD}
@@ -15,7 +15,7 @@ use Rattle.record.proofs.digits_at.Statement.{statement}
 use Rattle.record.proofs.digits_at.Tie as tie
 
 abbrev Inv-loop : tie.InvT-loop
-Inv-loop b from n₀ i₀ n i = (from ≤ i) × (i ≤ max from (length b)) × (n ≤ 4294967295) × (walk digitTurn (λ m. digits m []) n (drop i b) ≡ numberFrom 0 (drop from b))
+Inv-loop b from n₀ i₀ n i = (from ≤ i) × (i ≤ max from (length b)) × (n ≤ 4294967295) × (walk digitTurn (λ m. numberAndRest m []) n (drop i b) ≡ numberFrom 0 (drop from b))
 
 abbrev μ-loop : tie.MeasureT-loop
 μ-loop b from n₀ i₀ n i = length b - i
@@ -64,7 +64,7 @@ returns-3 : tie.Need-returns-3 Inv-loop μ-loop
 returns-3 c = let t = c .before in
     let b = now (t .before .before .args .b) in
     let e : drop (t .loop .i) b ≡ [] = drop-end b (t .loop .i) (omega arith) in
-    (sym (t .loop .inv .3) ∙ walk-ends digitTurn (λ m. digits m []) (t .loop .n) b (t .loop .i) (omega arith) ∙ ap (digits (t .loop .n)) (sym e), omega arith, omega arith, omega arith)
+    (sym (t .loop .inv .3) ∙ walk-ends digitTurn (λ m. numberAndRest m []) (t .loop .n) b (t .loop .i) (omega arith) ∙ ap (numberAndRest (t .loop .n)) (sym e), omega arith, omega arith, omega arith)
 
 pub digits-at-spec : {M : Type 1} → statement M
 digits-at-spec =

@@ -1,6 +1,6 @@
 use Rattle.common.specs.Lists.{drop-end}
 use Rattle.record.specs.Turns.{same-lengths, same-stops, same-goes}
-use Rattle.record.specs.Word.{same, isWord}
+use Rattle.record.specs.Word.{sameBytes, isWord}
 use Rattle.record.specs.Byte.{upper}
 use lib.ListN.{length, drop, length-map}
 use denote.Ref.{now}
@@ -14,7 +14,7 @@ use Rattle.record.proofs.is_word.Statement.{statement}
 use Rattle.record.proofs.is_word.Tie as tie
 
 abbrev Inv-loop : tie.InvT-loop
-Inv-loop t w i₀ i = (i ≤ length t) × (same (map upper (drop i t)) (drop i w) ≡ isWord t w)
+Inv-loop t w i₀ i = (i ≤ length t) × (sameBytes (map upper (drop i t)) (drop i w) ≡ isWord t w)
 
 abbrev μ-loop : tie.MeasureT-loop
 μ-loop t w i₀ i = length t - i
@@ -38,7 +38,7 @@ loop-again c = let t = c .before .before .before .before .before in
     (omega arith, same-goes upper (now (a .t)) (now (a .w)) (t .loop .i) _ (omega arith) (omega arith) (eq-eqb _ _ (sym (c .before .before .upper-of .ensures) ∙ c .if2 .left)) (t .loop .inv .1))
 
 returns-3 : tie.Need-returns-3 Inv-loop μ-loop
-unfolding same
+unfolding sameBytes
 returns-3 c = let t = c .before in
     let a = t .before .before .before .before .args in
     sym (rw (drop-end (now (a .t)) (t .loop .i) (omega arith), drop-end (now (a .w)) (t .loop .i) (omega arith)) refl) ∙ t .loop .inv .1

@@ -12,14 +12,14 @@ use Rattle.lex.specs.Byte.{white}
 use Rattle.record.specs.Text.{past, pastGap}
 use Rattle.record.specs.Byte.{digit}
 use Rattle.record.specs.Form.{NotFirst, Gap, NoGapFirst, Gapped, NoParen}
-use Rattle.record.specs.FormRight.Parts.{first-other, first-part, all-join, all-kind, Spanned, span, past-pass, past-halt}
+use Rattle.record.specs.FormRight.Parts.{first-other, first-part, all-join, all-kind, SplitAfter, split-is, past-pass, past-halt}
 
 -- a byte that begins nothing that may stand between tokens
-abbrev pub token : ℕ → Bool
-token c = not (white c)
+abbrev pub beginsToken : ℕ → Bool
+beginsToken c = not (white c)
 
 -- a list whose first byte is not white begins with no gap
-pub gap-other : (c : ℕ) (xs : List ℕ) → token c ≡ true → NoGapFirst (c ∷ xs)
+pub gap-other : (c : ℕ) (xs : List ℕ) → beginsToken c ≡ true → NoGapFirst (c ∷ xs)
 gap-other c xs h = first-other white c xs (not-true (white c) h)
 
 -- where a list begins with no gap, its front part begins with none
@@ -40,9 +40,9 @@ gap-only f r s = past-pass white f r (s .all) ∙ past-halt white r (s .over)
 
 -- what `pastGap` answers follows the whole gap at the list's start
 pub gap-is : (xs : List ℕ) → (f : List ℕ) × (xs ≡ f ++ pastGap xs) × Gapped f (pastGap xs)
-gap-is xs = go (span white xs)
+gap-is xs = go (split-is white xs)
   where
-    go : Spanned white xs → (f : List ℕ) × (xs ≡ f ++ past white xs) × Gapped f (past white xs)
+    go : SplitAfter white xs → (f : List ℕ) × (xs ≡ f ++ past white xs) × Gapped f (past white xs)
     go (f, r, e, s) =
         let k : Gapped f r = record { all = s .all; over = s .over } in
         let g : past white xs ≡ r = ap (past white) e ∙ gap-only f r k in

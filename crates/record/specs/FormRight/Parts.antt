@@ -11,9 +11,9 @@ use Rattle.common.specs.Pick.{pick}
 use Rattle.common.specs.Compare.{clash}
 use Rattle.lex.specs.Byte.{white}
 use Rattle.common.specs.Walk.{Turn, on, walk}
-use Rattle.record.specs.Text.{past, digits, numberFrom}
+use Rattle.record.specs.Text.{past, numberAndRest, numberFrom}
 use Rattle.record.specs.Byte.{digit}
-use Rattle.record.specs.Form.{All, NotFirst, NotLast, Skipped, Gap, NoGapLast, valueOf}
+use Rattle.record.specs.Form.{All, NotFirst, NotLast, SkippedBytes, Gap, NoGapLast, valueOf}
 
 -- where whatever answers is a, and something answers, a answers
 pub sole : {A : Type 0} (P : A → Type 0) {a : A} → ((x : A) → P x → x ≡ a) → (x : A) × P x → P a
@@ -57,15 +57,15 @@ all-kind p q [] g h = tt
 all-kind p q (c ∷ f) g (h, t) = (g c h, all-kind p q f g t)
 
 -- a list as all its bytes of the kind p at the start, and what follows them
-abbrev pub Spanned : (ℕ → Bool) → List ℕ → Type 0
-Spanned p xs = (f r : List ℕ) × (xs ≡ f ++ r) × Skipped p f r
+abbrev pub SplitAfter : (ℕ → Bool) → List ℕ → Type 0
+SplitAfter p xs = (f r : List ℕ) × (xs ≡ f ++ r) × SkippedBytes p f r
 
 -- every list splits into its bytes of the kind p at the start and what follows them
-pub span : (p : ℕ → Bool) (xs : List ℕ) → Spanned p xs
-span p [] = ([], [], refl, record { all = tt; over = empty-not-first p })
-span p (c ∷ xs) = go (p c) refl (span p xs)
+pub split-is : (p : ℕ → Bool) (xs : List ℕ) → SplitAfter p xs
+split-is p [] = ([], [], refl, record { all = tt; over = empty-not-first p })
+split-is p (c ∷ xs) = go (p c) refl (split-is p xs)
   where
-    go : (t : Bool) → p c ≡ t → Spanned p xs → Spanned p (c ∷ xs)
+    go : (t : Bool) → p c ≡ t → SplitAfter p xs → SplitAfter p (c ∷ xs)
     go true h (f, r, e, s) = (c ∷ f, r, cc, record { all = (h, s .all); over = s .over })
     go false h s = ([], c ∷ xs, refl, record { all = tt; over = first-other p c xs h })
 
@@ -119,7 +119,7 @@ number-pass n (d ∷ ds) r (h, t) =
     rw (h, pow-succ') (number-pass (n * 10 + (d - 48)) ds r t ∙ ap (λ (m : ℕ). numberFrom m r) (ten n (d - 48) (valueOf ds) (10 ^ length ds)))
 
 -- `numberFrom` ends where no digit follows
-pub number-halt : (n : ℕ) (r : List ℕ) → NotFirst digit r → numberFrom n r ≡ digits n r
+pub number-halt : (n : ℕ) (r : List ℕ) → NotFirst digit r → numberFrom n r ≡ numberAndRest n r
 unfolding numberFrom walk
 number-halt n [] h = refl
 number-halt n (c ∷ r) h = rw (h c r refl)

@@ -1,4 +1,4 @@
-use Rattle.scan.specs.File.{mark}
+use Rattle.scan.specs.File.{byteOrderMark}
 use Rattle.record.specs.Turns.{same-lengths}
 use lib.Seq.{take-all}
 use lib.ListN.{length, take, drop, length-drop, length-take}
@@ -12,7 +12,7 @@ use Rattle.scan.proofs.is_marked.Tie as tie
 
 returns : tie.Need-returns
 returns c = let s = now (c .before .before .before .args .s) in
-    rw (same-lengths (take 3 s) mark (λ e. omega (arith, length-take 3 s))) (c .is-marker .ensures)
+    rw (same-lengths (take 3 s) byteOrderMark (λ e. omega (arith, length-take 3 s))) (c .is-marker .ensures)
 
 returns-2 : tie.Need-returns-2
 returns-2 c = let s = now (c .before .before .before .before .before .before .before .args .s) in

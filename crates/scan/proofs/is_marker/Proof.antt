@@ -1,4 +1,4 @@
-use Rattle.record.specs.Word.{same, marker}
+use Rattle.record.specs.Word.{sameBytes, marker}
 use lib.Seq.{take-all}
 use lib.ListN.{length, take, drop, length-drop}
 use mathlib.Core.List.{List}
@@ -15,7 +15,7 @@ returns c = let b = c .before .before .before in
     let t = now (b .before .before .args .t) in
     let n = b .leading-space .result in
     c .starts-with .ensures
-    ∙ ap (λ (l : List ℕ). same (take 12 l) marker) (take-all (length t - n) (drop n t) (omega (arith, length-drop n t)) ∙ b .leading-space .ensures .0)
+    ∙ ap (λ (l : List ℕ). sameBytes (take 12 l) marker) (take-all (length t - n) (drop n t) (omega (arith, length-drop n t)) ∙ b .leading-space .ensures .0)
 
 pub is-marker-spec : {M : Type 1} → statement M
 is-marker-spec =

@@ -1,7 +1,7 @@
-use Rattle.scan.specs.Table.{headerRoom}
+use Rattle.scan.specs.ScanMemory.{headerRoom}
 use Rattle.scan.specs.Fits.{statement-fits, header-fits-more, record-fits-more}
-use Rattle.scan.specs.Laws.{Going, going-starts, going-refused, going-moves, header-full, record-full, going-header, going-record, done, failed}
-use Rattle.scan.specs.Run.{ran-on, ran-length, going-ran, tidying-ran}
+use Rattle.scan.specs.Laws.{Going, going-starts, going-refused, going-moves, header-full, record-full, going-header, going-record, pass-done, pass-failed}
+use Rattle.scan.specs.TidyRun.{records-ran-on, records-ran-length, going-ran, tidying-ran}
 use Rattle.scan.specs.Neat.{Tidying, tidying-starts, tidying-ends, tidying-moves, tidying-header, tidying-record}
 use Rattle.statement.specs.Answer.{toldSaid}
 use lib.ListN.{length, drop}
@@ -38,7 +38,7 @@ returns c = let n = c .before .before .before in
     let g = t .loop .inv .2 in
     let y = t .loop .inv .3 in
     let b = n .noted-statement .ensures .1 .1 in
-    let l = done _ _ _ _ _ _ _ _ _ _ _ _ _ g _ (t .before .data-room .ensures) e in
+    let l = pass-done _ _ _ _ _ _ _ _ _ _ _ _ _ g _ (t .before .data-room .ensures) e in
     (l .0, (l .1 .0, (l .1 .1, tidying-ends _ _ _ _ _ y _ b e)))
 
 returns-2 : tie.Need-returns-2 Inv-loop μ-loop
@@ -50,7 +50,7 @@ returns-2 c = let n = c .before .before .before .before in
     let g = t .loop .inv .2 in
     let y = t .loop .inv .3 in
     let b = n .noted-statement .ensures .1 .1 in
-    let l = failed _ _ _ _ _ _ _ _ _ _ _ _ _ g _ (t .before .data-room .ensures) _ (going-refused _ _ _ _ _ _ _ _ _ _ _ _ _ g _ e) in
+    let l = pass-failed _ _ _ _ _ _ _ _ _ _ _ _ _ g _ (t .before .data-room .ensures) _ (going-refused _ _ _ _ _ _ _ _ _ _ _ _ _ g _ e) in
     (l .0, (l .1 .0, (l .1 .1, tt)))
 
 loop-less : tie.Need-loop-less Inv-loop μ-loop
@@ -87,7 +87,7 @@ returns-3 c = let n = c .before .before .before .before .before .before in
     let g = t .loop .inv .2 in
     let y = t .loop .inv .3 in
     let b = n .noted-statement .ensures .1 .1 in
-    let l = failed _ _ _ _ _ _ _ _ _ _ _ _ _ g _ (t .before .data-room .ensures) _ (header-full _ _ _ _ _ _ _ _ _ _ _ _ _ g _ (v .given .0 .1 .0) (v .given .0 .1 .1 .0) (omega arith) e (omega (arith, c .if1 .taken, t .loop .inv .0, c .before .headers-fit .ensures))) in
+    let l = pass-failed _ _ _ _ _ _ _ _ _ _ _ _ _ g _ (t .before .data-room .ensures) _ (header-full _ _ _ _ _ _ _ _ _ _ _ _ _ g _ (v .given .0 .1 .0) (v .given .0 .1 .1 .0) (omega arith) e (omega (arith, c .if1 .taken, t .loop .inv .0, c .before .headers-fit .ensures))) in
     (l .0, (l .1 .0, (l .1 .1, tt)))
 
 put-header-requires : tie.Need-put-header-requires Inv-loop μ-loop
@@ -141,7 +141,7 @@ returns-4 c = let n = c .before .before .before .before .before in
     let g = t .loop .inv .2 in
     let y = t .loop .inv .3 in
     let b = n .noted-statement .ensures .1 .1 in
-    let l = failed _ _ _ _ _ _ _ _ _ _ _ _ _ g _ (t .before .data-room .ensures) _ (record-full _ _ _ _ _ _ _ _ _ _ _ _ _ g _ (v .given .0 .1 .0) (v .given .0 .1 .1 .0) (omega arith) e (c .if2 .taken)) in
+    let l = pass-failed _ _ _ _ _ _ _ _ _ _ _ _ _ g _ (t .before .data-room .ensures) _ (record-full _ _ _ _ _ _ _ _ _ _ _ _ _ g _ (v .given .0 .1 .0) (v .given .0 .1 .1 .0) (omega arith) e (c .if2 .taken)) in
     (l .0, (l .1 .0, (l .1 .1, tt)))
 
 put-record-requires : tie.Need-put-record-requires Inv-loop μ-loop
@@ -185,7 +185,7 @@ loop-less-3 c = let n = c .before .before .before .before .before .before .befor
     let g = t .loop .inv .2 in
     let y = t .loop .inv .3 in
     let d = n .noted-statement .ensures .1 .1 in
-    let o = ran-on _ _ _ _ _ _ _ (c .before .before .run .ensures) in
+    let o = records-ran-on _ _ _ _ _ _ _ (c .before .before .run .ensures) in
     omega (arith, w, o)
 
 loop-again-3 : tie.Need-loop-again-3 Inv-loop μ-loop
@@ -201,7 +201,7 @@ loop-again-3 c = let n = c .before .before .before .before .before .before .befo
     let d = n .noted-statement .ensures .1 .1 in
     let p = c .before .before .before .before .before .before .before .put-record in
     let u = c .before .before .run in
-    let l = ran-length _ _ _ _ _ _ _ (u .ensures) in (
+    let l = records-ran-length _ _ _ _ _ _ _ (u .ensures) in (
       t .loop .inv .0,
       l ∙ p .kept .0 ∙ t .loop .inv .1,
       going-ran _ _ _ _ _ _ _ _ _ _ _ _ _ (omega (arith, t .before .data-room .ensures)) (b .pre .1)

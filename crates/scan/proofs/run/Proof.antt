@@ -1,8 +1,8 @@
 use Rattle.common.specs.Tests.{both}
 use Rattle.scan.specs.Fits.{statement-fits, record-fits-more}
 use Rattle.scan.specs.Neat.{Neat, neat-tidy, neat-row}
-use Rattle.scan.specs.Run.{Ran, ran-length}
-use Rattle.statement.specs.Rows.{rowOf}
+use Rattle.scan.specs.TidyRun.{RecordsRan, records-ran-length}
+use Rattle.statement.specs.Rows.{toldRow}
 use Rattle.statement.specs.Answer.{toldTidied}
 use Rattle.statement.specs.TidyRight.{tidy-said}
 use Rattle.statement.specs.declared.Section.the-variants.{InData}
@@ -19,16 +19,16 @@ use Rattle.scan.proofs.run.Tie as tie
 
 abbrev Inv-loop : tie.InvT-loop
 Inv-loop s rows₀ room from stored largest known place₀ count₀ max₀ rows place count max =
-    Ran s room known from stored largest rows₀ place count max rows × (known ≡ true → Neat s InData (drop place s))
+    RecordsRan s room known from stored largest rows₀ place count max rows × (known ≡ true → Neat s InData (drop place s))
 
 abbrev μ-loop : tie.MeasureT-loop
 μ-loop s rows₀ room from stored largest known place₀ count₀ max₀ rows place count max = length s - place
 
 loop-holds : tie.Need-loop-holds Inv-loop μ-loop
-loop-holds c = (Ran.none, c .before .before .pre .3)
+loop-holds c = (RecordsRan.none, c .before .before .pre .3)
 
 same-length : tie.Need-same-length Inv-loop μ-loop
-same-length c = ran-length _ _ _ _ _ _ _ (c .before .before .before .before .loop .inv .0)
+same-length c = records-ran-length _ _ _ _ _ _ _ (c .before .before .before .before .loop .inv .0)
 
 returns : tie.Need-returns Inv-loop μ-loop
 returns c = c .before .before .before .before .loop .inv .0
@@ -42,9 +42,9 @@ put-record-requires c κs = let b = c .before .before .before .before .before .b
     let t = o .loop in
     let k = both (a .known) _ (c .before .before .before .before .before .loop-test .taken) .0 in
     let z = neat-tidy x InData (drop (t .place) x) (t .inv .1 k) in
-    let q = tidy-said x (t .place) (rowOf (v .given .0 .0)) (drop (v .given .0 .1 .0) x) (drop (v .given .0 .1 .1 .0) x) (sym (ap (toldTidied x) (v .given .1)) ∙ c .before .before .before .before .tidy-record .ensures .0) z in
+    let q = tidy-said x (t .place) (toldRow (v .given .0 .0)) (drop (v .given .0 .1 .0) x) (drop (v .given .0 .1 .1 .0) x) (sym (ap (toldTidied x) (v .given .1)) ∙ c .before .before .before .before .tidy-record .ensures .0) z in
     let w = rw (v .given .1) at (c .before .before .before .before .tidy-record .ensures .1) in
-    let u = ran-length _ _ _ _ _ _ _ (t .inv .0) in
+    let u = records-ran-length _ _ _ _ _ _ _ (t .inv .0) in
     let f = ltb-true (t .count) (a .room) (both (a .known) _ (c .before .before .before .before .before .loop-test .taken) .1) in
     record-fits-more (length x) 4294967295 _ (b .pre .0) (rw (sym q) at (statement-fits x InData (drop (t .place) x)))
 
@@ -57,9 +57,9 @@ add-count c = let b = c .before .before .before .before .before .before .before 
     let t = o .loop in
     let k = both (a .known) _ (c .before .before .before .before .before .before .before .before .loop-test .taken) .0 in
     let z = neat-tidy x InData (drop (t .place) x) (t .inv .1 k) in
-    let q = tidy-said x (t .place) (rowOf (v .given .0 .0)) (drop (v .given .0 .1 .0) x) (drop (v .given .0 .1 .1 .0) x) (sym (ap (toldTidied x) (v .given .1)) ∙ c .before .before .before .before .before .before .before .tidy-record .ensures .0) z in
+    let q = tidy-said x (t .place) (toldRow (v .given .0 .0)) (drop (v .given .0 .1 .0) x) (drop (v .given .0 .1 .1 .0) x) (sym (ap (toldTidied x) (v .given .1)) ∙ c .before .before .before .before .before .before .before .tidy-record .ensures .0) z in
     let w = rw (v .given .1) at (c .before .before .before .before .before .before .before .tidy-record .ensures .1) in
-    let u = ran-length _ _ _ _ _ _ _ (t .inv .0) in
+    let u = records-ran-length _ _ _ _ _ _ _ (t .inv .0) in
     let f = ltb-true (t .count) (a .room) (both (a .known) _ (c .before .before .before .before .before .before .before .before .loop-test .taken) .1) in
     record { fits = omega (arith, f) }
 
@@ -72,9 +72,9 @@ loop-less c = let b = c .before .before .before .before .before .before .before 
     let t = o .loop in
     let k = both (a .known) _ (c .before .before .before .before .before .before .before .before .before .loop-test .taken) .0 in
     let z = neat-tidy x InData (drop (t .place) x) (t .inv .1 k) in
-    let q = tidy-said x (t .place) (rowOf (v .given .0 .0)) (drop (v .given .0 .1 .0) x) (drop (v .given .0 .1 .1 .0) x) (sym (ap (toldTidied x) (v .given .1)) ∙ c .before .before .before .before .before .before .before .before .tidy-record .ensures .0) z in
+    let q = tidy-said x (t .place) (toldRow (v .given .0 .0)) (drop (v .given .0 .1 .0) x) (drop (v .given .0 .1 .1 .0) x) (sym (ap (toldTidied x) (v .given .1)) ∙ c .before .before .before .before .before .before .before .before .tidy-record .ensures .0) z in
     let w = rw (v .given .1) at (c .before .before .before .before .before .before .before .before .tidy-record .ensures .1) in
-    let u = ran-length _ _ _ _ _ _ _ (t .inv .0) in
+    let u = records-ran-length _ _ _ _ _ _ _ (t .inv .0) in
     let f = ltb-true (t .count) (a .room) (both (a .known) _ (c .before .before .before .before .before .before .before .before .before .loop-test .taken) .1) in
     omega (arith, w)
 
@@ -87,17 +87,17 @@ loop-again c = let b = c .before .before .before .before .before .before .before
     let t = o .loop in
     let k = both (a .known) _ (c .before .before .before .before .before .before .before .before .before .loop-test .taken) .0 in
     let z = neat-tidy x InData (drop (t .place) x) (t .inv .1 k) in
-    let q = tidy-said x (t .place) (rowOf (v .given .0 .0)) (drop (v .given .0 .1 .0) x) (drop (v .given .0 .1 .1 .0) x) (sym (ap (toldTidied x) (v .given .1)) ∙ c .before .before .before .before .before .before .before .before .tidy-record .ensures .0) z in
+    let q = tidy-said x (t .place) (toldRow (v .given .0 .0)) (drop (v .given .0 .1 .0) x) (drop (v .given .0 .1 .1 .0) x) (sym (ap (toldTidied x) (v .given .1)) ∙ c .before .before .before .before .before .before .before .before .tidy-record .ensures .0) z in
     let w = rw (v .given .1) at (c .before .before .before .before .before .before .before .before .tidy-record .ensures .1) in
-    let u = ran-length _ _ _ _ _ _ _ (t .inv .0) in
+    let u = records-ran-length _ _ _ _ _ _ _ (t .inv .0) in
     let f = ltb-true (t .count) (a .room) (both (a .known) _ (c .before .before .before .before .before .before .before .before .before .loop-test .taken) .1) in
     rw (c .before .before .before .put-record .ensures, c .greater .ensures) (
-      Ran.more (t .inv .0) k (rowOf (v .given .0 .0)) (v .given .0 .1 .0) (v .given .0 .1 .1 .0) q z (omega (arith, w)) (omega (arith, w)) f,
-      λ y. neat-row x InData (drop (t .place) x) (rowOf (v .given .0 .0)) (drop (v .given .0 .1 .0) x) (drop (v .given .0 .1 .1 .0) x) q (t .inv .1 y),
+      RecordsRan.more (t .inv .0) k (toldRow (v .given .0 .0)) (v .given .0 .1 .0) (v .given .0 .1 .1 .0) q z (omega (arith, w)) (omega (arith, w)) f,
+      λ y. neat-row x InData (drop (t .place) x) (toldRow (v .given .0 .0)) (drop (v .given .0 .1 .0) x) (drop (v .given .0 .1 .1 .0) x) q (t .inv .1 y),
     )
 
 same-length-2 : tie.Need-same-length-2 Inv-loop μ-loop
-same-length-2 c = ran-length _ _ _ _ _ _ _ (c .before .loop .inv .0)
+same-length-2 c = records-ran-length _ _ _ _ _ _ _ (c .before .loop .inv .0)
 
 returns-2 : tie.Need-returns-2 Inv-loop μ-loop
 returns-2 c = c .before .loop .inv .0

@@ -1,5 +1,5 @@
 use Rattle.statement.specs.Laws.{section-outside, section-header, section-data}
-use Rattle.statement.specs.Answer.{toldHeader, toldRecord}
+use Rattle.statement.specs.Answer.{toldHeaderRead, toldRecord}
 use denote.Ref.{now}
 use native.Mathlib.Omega.{arith}
 use mathlib.Core.Path.{sym, _∙_, ap}
@@ -14,14 +14,14 @@ returns c = let a = c .before .before .before .args in
 returns-2 : tie.Need-returns-2
 returns-2 c = let a = c .before .before .before .before .before .before .before .args in (
   rw (c .before .before .before .before .enum-told2 .given .1) (section-header (now (a .s)) (a .start) (a .end) (omega arith) (omega arith) _
-      (sym (ap toldHeader (c .before .span .given .1)) ∙ c .before .before .before .scan-header-record .ensures)),
+      (sym (ap toldHeaderRead (c .before .span .given .1)) ∙ c .before .before .before .scan-header-record .ensures)),
   (omega arith, omega arith, omega arith),
 )
 
 returns-3 : tie.Need-returns-3
 returns-3 c = let a = c .before .before .before .before .before .before .before .args in (
   rw (c .before .before .before .before .enum-told2 .given .1) (section-header (now (a .s)) (a .start) (a .end) (omega arith) (omega arith) _
-      (sym (ap toldHeader (c .before .f .given .1)) ∙ c .before .before .before .scan-header-record .ensures)),
+      (sym (ap toldHeaderRead (c .before .f .given .1)) ∙ c .before .before .before .scan-header-record .ensures)),
   tt,
 )
 

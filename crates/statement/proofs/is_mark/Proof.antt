@@ -1,4 +1,4 @@
-use Rattle.statement.specs.Usual.{mark, marks}
+use Rattle.statement.specs.Usual.{isLookedAt, marks}
 use lib.Dec.{eqb}
 use mathlib.Core.Path.{ap}
 use Prim.Native.Nat.{ℕ, _/_, _%_, _^_}
@@ -7,7 +7,7 @@ use Rattle.statement.proofs.is_mark.Statement.{statement}
 use Rattle.statement.proofs.is_mark.Tie as tie
 
 returns : tie.Need-returns
-unfolding mark
+unfolding isLookedAt
 returns c = ap (λ (k : ℕ). eqb ((marks / 2 ^ k) % 2) 1) (c .wide .ensures)
 
 pub is-mark-spec : {M : Type 1} → statement M

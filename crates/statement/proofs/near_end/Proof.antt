@@ -1,6 +1,6 @@
 use Rattle.record.specs.Text.{past}
 use Rattle.statement.specs.Tidy.{unended}
-use Rattle.statement.specs.TidyLaws.{end-stops, end-goes, end-none}
+use Rattle.statement.specs.TidyLaws.{end-stops, end-goes, tidy-end-none}
 use lib.ListN.{length, drop}
 use denote.Ref.{now}
 use native.Mathlib.Omega.{arith}
@@ -32,7 +32,7 @@ loop-again c = let t = c .before .before .before in
 returns-2 : tie.Need-returns-2 Inv-loop μ-loop
 returns-2 c = let t = c .before in
     let s = now (t .before .args .s) in
-    (end-none s (t .loop .i) (omega arith) ∙ t .loop .inv .1, (omega arith, omega arith))
+    (tidy-end-none s (t .loop .i) (omega arith) ∙ t .loop .inv .1, (omega arith, omega arith))
 
 pub near-end-spec : {M : Type 1} → statement M
 near-end-spec =

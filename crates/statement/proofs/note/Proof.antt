@@ -1,5 +1,5 @@
 use Rattle.statement.specs.TidyLaws.{tidy-noted}
-use Rattle.statement.specs.Rows.{rowOf}
+use Rattle.statement.specs.Rows.{toldRow}
 use denote.Ref.{now}
 use native.Mathlib.Omega.{arith}
 use mathlib.Core.Path.{sym}
@@ -18,7 +18,7 @@ returns-5 c = let b = c .before .before .before .before .before .before .before 
     let w = rw (k .given .1) at (b .pre) in (
       sym (k .given .1),
       rw (k .given .1, c .before .just-before .ensures, c .just-before2 .ensures)
-          (tidy-noted (now (b .args .s)) (rowOf (k .given .0 .0)) (k .given .0 .1 .0) (k .given .0 .1 .1 .0) (f .result) (omega arith) (omega arith) (f .ensures .0)),
+          (tidy-noted (now (b .args .s)) (toldRow (k .given .0 .0)) (k .given .0 .1 .0) (k .given .0 .1 .1 .0) (f .result) (omega arith) (omega arith) (f .ensures .0)),
     )
 
 pub note-spec : {M : Type 1} → statement M

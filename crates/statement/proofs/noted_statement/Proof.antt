@@ -1,7 +1,7 @@
 use Rattle.statement.specs.Laws.{statement-none, statement-found, statement-over, statement-refused, ahead-from}
 use Rattle.statement.specs.Tidy.{tidy}
 use Rattle.lex.specs.At.{trivia-at}
-use Rattle.lex.specs.Answer.{toldFound}
+use Rattle.lex.specs.Answer.{toldFoundPlace}
 use denote.Ref.{now}
 use lib.ListN.{length}
 use native.Mathlib.Omega.{arith}
@@ -17,17 +17,17 @@ returns c = let a = c .before .before .args in
 returns-2 : tie.Need-returns-2
 returns-2 c = let t = c .before .before .before .before in
     let a = t .before .before .before .args in
-    let e = statement-over (now (a .s)) (a .i) (a .section) _ (omega arith) (sym (ap toldFound (c .before .before .start .given .1)) ∙ t .lead-past .ensures) (c .if2 .taken) in (e, (tt, ap (tidy (now (a .s))) e))
+    let e = statement-over (now (a .s)) (a .i) (a .section) _ (omega arith) (sym (ap toldFoundPlace (c .before .before .start .given .1)) ∙ t .lead-past .ensures) (c .if2 .taken) in (e, (tt, ap (tidy (now (a .s))) e))
 
 returns-3 : tie.Need-returns-3
 returns-3 c = let t = c .before .before .before in
     let a = t .before .before .before .args in
-    let e = statement-refused (now (a .s)) (a .i) (a .section) _ (sym (ap toldFound (c .before .f .given .1)) ∙ t .lead-past .ensures) in (e, (tt, ap (tidy (now (a .s))) e))
+    let e = statement-refused (now (a .s)) (a .i) (a .section) _ (sym (ap toldFoundPlace (c .before .f .given .1)) ∙ t .lead-past .ensures) in (e, (tt, ap (tidy (now (a .s))) e))
 
 returns-4 : tie.Need-returns-4
 returns-4 c = let t = c .before .before .before .before .before in
     let a = t .before .before .before .args in
-    let e = sym (ap toldFound (c .before .before .before .start .given .1)) ∙ t .lead-past .ensures in
+    let e = sym (ap toldFoundPlace (c .before .before .before .start .given .1)) ∙ t .lead-past .ensures in
     let g = statement-found (now (a .s)) (a .i) (a .section) _ (omega arith) e in (
       c .statement-at .ensures .0 ∙ g,
       (

@@ -1,5 +1,5 @@
 use Rattle.statement.specs.UsualLaws.{run-stops, run-goes}
-use Rattle.statement.specs.Usual.{plain}
+use Rattle.statement.specs.Usual.{isPlainByte}
 use Rattle.record.specs.Text.{past}
 use lib.ListN.{length, drop}
 use denote.Ref.{now}
@@ -11,7 +11,7 @@ use Rattle.statement.proofs.plain_run.Statement.{statement}
 use Rattle.statement.proofs.plain_run.Tie as tie
 
 abbrev Inv-loop : tie.InvT-loop
-Inv-loop s from i₀ i = ((from ≤ i) × (i ≤ length s)) × (past plain (drop i s) ≡ past plain (drop from s))
+Inv-loop s from i₀ i = ((from ≤ i) × (i ≤ length s)) × (past isPlainByte (drop i s) ≡ past isPlainByte (drop from s))
 
 abbrev μ-loop : tie.MeasureT-loop
 μ-loop s from i₀ i = length s - i

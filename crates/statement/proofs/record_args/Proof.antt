@@ -1,15 +1,15 @@
 use Rattle.statement.specs.Rows.{mapped}
-use Rattle.lex.specs.Answer.{toldFound}
+use Rattle.lex.specs.Answer.{toldFoundPlace}
 use mathlib.Core.Path.{sym, _∙_, ap}
 use borrow.Author.Needs.{needs}
 use Rattle.statement.proofs.record_args.Statement.{statement}
 use Rattle.statement.proofs.record_args.Tie as tie
 
 returns : tie.Need-returns
-returns c = ap (mapped _) (sym (ap toldFound (c .before .f .given .1)) ∙ c .before .before .before .matching-paren .ensures)
+returns c = ap (mapped _) (sym (ap toldFoundPlace (c .before .f .given .1)) ∙ c .before .before .before .matching-paren .ensures)
 
 returns-2 : tie.Need-returns-2
-returns-2 c = ap (mapped _) (sym (ap toldFound (c .before .close .given .1)) ∙ c .before .before .before .matching-paren .ensures)
+returns-2 c = ap (mapped _) (sym (ap toldFoundPlace (c .before .close .given .1)) ∙ c .before .before .before .matching-paren .ensures)
 
 pub record-args-spec : {M : Type 1} → statement M
 record-args-spec =

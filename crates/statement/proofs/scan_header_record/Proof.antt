@@ -1,4 +1,4 @@
-use Rattle.record.specs.Within.{header-simple as header-never}
+use Rattle.record.specs.Within.{header-never-complex as header-never}
 use Rattle.statement.specs.Laws.{header-fits, header-bad, header-simple}
 use lib.ListN.{take, drop}
 use Prim.Native.Nat.{_-_}

@@ -13,7 +13,7 @@ use Rattle.record.specs.Form.{Free}
 use Rattle.common.specs.Bytes.{bytes}
 use Rattle.record.specs.Text.{past, numberFrom, keyword, trail}
 use Rattle.record.specs.Head.{dataHead, headerHead}
-use Rattle.record.specs.Word.{same, wordOf}
+use Rattle.record.specs.Word.{sameBytes, wordOf}
 use Rattle.statement.specs.Row.{recordOf, headerOf}
 use Rattle.statement.specs.Statement.{statement}
 use Rattle.statement.specs.Closed.{ClosedAt, ClosedParts, ClosedData, ClosedHeader, ClosedFrom, Closed, Content}
@@ -59,10 +59,10 @@ refuses : {n : ℕ} {o r : List ℕ} → fault n o ≡ at r → ⊥
 refuses e = clash (cc)
 
 -- example 11, the first record is not closed: its `(` does not close in it
-pub unclosed : ClosedData (bytes "#1=A((1)") → ⊥
+pub example-unclosed : ClosedData (bytes "#1=A((1)") → ⊥
 unfolding dataHead past numberFrom keyword walk closing
-unclosed (ClosedData.simple {o} e c) = let h : o ≡ 4 = cc in refuses (rw h at (closed-closing c []))
-unclosed (ClosedData.complex e c p) = clash (cc)
+example-unclosed (ClosedData.simple {o} e c) = let h : o ≡ 4 = cc in refuses (rw h at (closed-closing c []))
+example-unclosed (ClosedData.complex e c p) = clash (cc)
 
 -- a record whose first `(` byte lies in a comment is not closed
 pub unclosed-comment : ClosedData (bytes "#1=A/*(*/(1)") → ⊥
@@ -95,7 +95,7 @@ closed-header = ClosedHeader.named refl (closed-after (bytes "FILE_SCHEMA") (byt
 
 -- the whole file of example 1 is closed
 pub closed-example : Closed example
-unfolding statement trivia recordEnd closing walk recordOf headerOf dataHead headerHead past numberFrom keyword trail wordOf same
+unfolding statement trivia recordEnd closing walk recordOf headerOf dataHead headerHead past numberFrom keyword trail wordOf sameBytes
 closed-example =
     ClosedFrom.turn refl
     (ClosedFrom.turn refl
@@ -113,7 +113,7 @@ crossing = bytes "ISO-10303-21;DATA;#1=A((1);#2=B(2));ENDSEC;"
 
 -- a file with the records of example 11 is not closed
 pub unclosed-file : Closed crossing → ⊥
-unfolding statement trivia recordEnd closing walk recordOf dataHead past numberFrom keyword trail wordOf same
+unfolding statement trivia recordEnd closing walk recordOf dataHead past numberFrom keyword trail wordOf sameBytes
 unclosed-file c =
     let d = closed-turn (closed-turn c Outside _ refl) InData _ refl in
-    unclosed (closed-entry d _ (bytes "#1=A((1)") _ refl .0)
+    example-unclosed (closed-entry d _ (bytes "#1=A((1)") _ refl .0)

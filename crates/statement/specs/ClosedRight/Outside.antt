@@ -7,18 +7,18 @@ use native.Mathlib.Omega.{arith}
 use lib.ListN.{length, take, length-append}
 use lib.Seq.{take-at}
 use borrow.Author.Tests.{eqb-false}
-use Rattle.lex.specs.Grammar.{Begins, Opens, Comment, Quotation, Runs}
+use Rattle.lex.specs.Grammar.{Begins, OpensComment, Comment, Quotation, RecordRuns}
 use Rattle.lex.specs.Search.{recordEnd}
 use Rattle.lex.specs.Answer.{at}
 use Rattle.lex.specs.Right.{end-only, end-is}
 use Rattle.statement.specs.Closed.{OutsideBoth, ClosedAt}
 
 -- what is left of a list after bytes outside strings and comments is no longer than the list
-pub runs-longer : {xs ys : List ℕ} → Runs xs ys → length ys ≤ length xs
-runs-longer Runs.none = omega arith
-runs-longer (Runs.byte h k l r) = omega (arith, runs-longer r)
-runs-longer (Runs.string q r) = omega (arith, runs-longer r, simp length-append at (ap length (q .shape)))
-runs-longer (Runs.comment q r) = omega (arith, runs-longer r, simp length-append at (ap length (q .shape)))
+pub runs-longer : {xs ys : List ℕ} → RecordRuns xs ys → length ys ≤ length xs
+runs-longer RecordRuns.none = omega arith
+runs-longer (RecordRuns.byte h k l r) = omega (arith, runs-longer r)
+runs-longer (RecordRuns.string q r) = omega (arith, runs-longer r, simp length-append at (ap length (q .shape)))
+runs-longer (RecordRuns.comment q r) = omega (arith, runs-longer r, simp length-append at (ap length (q .shape)))
 
 -- More bytes z behind a list change no string and no comment that ends before the list does.
 module _ (z : List ℕ) where
@@ -27,7 +27,7 @@ module _ (z : List ℕ) where
   begins-more a (c ∷ xs) h (r, e) = (xs, cc)
 
   -- where a byte follows c in the list, a comment that opens at c with more bytes behind the list opens there without them
-  pub opens-more : (c : ℕ) (xs : List ℕ) → 0 < length xs → Opens (c ∷ (xs ++ z)) → Opens (c ∷ xs)
+  pub opens-more : (c : ℕ) (xs : List ℕ) → 0 < length xs → OpensComment (c ∷ (xs ++ z)) → OpensComment (c ∷ xs)
   opens-more c [] h b = absurd (omega arith)
   opens-more c (d ∷ xs) h (r, e) = (xs, cc)
 
@@ -46,25 +46,25 @@ module _ (z : List ℕ) where
 
   -- what lies outside strings and comments in a record's text lies outside them in the file
   pub outside-more : {xs : List ℕ} {c : ℕ} {r : List ℕ} → OutsideBoth xs (c ∷ r) → OutsideBoth (xs ++ z) (c ∷ (r ++ z))
-  outside-more Runs.none = Runs.none
-  outside-more (Runs.byte {c} {xs} h k l r) = Runs.byte h k (λ o. l (opens-more c xs (omega (arith, runs-longer r)) o)) (outside-more r)
-  outside-more (Runs.string q r) = Runs.string (quotation-more q (omega (arith, runs-longer r))) (outside-more r)
-  outside-more (Runs.comment q r) = Runs.comment (comment-more q) (outside-more r)
+  outside-more RecordRuns.none = RecordRuns.none
+  outside-more (RecordRuns.byte {c} {xs} h k l r) = RecordRuns.byte h k (λ o. l (opens-more c xs (omega (arith, runs-longer r)) o)) (outside-more r)
+  outside-more (RecordRuns.string q r) = RecordRuns.string (quotation-more q (omega (arith, runs-longer r))) (outside-more r)
+  outside-more (RecordRuns.comment q r) = RecordRuns.comment (comment-more q) (outside-more r)
 
 -- a place outside strings and comments is one whatever byte stands there, but for a quote or a `*`, and whatever follows it
-runs-swap : {xs ys : List ℕ} → Runs xs ys
-    → (f : List ℕ) × (xs ≡ f ++ ys) × ((d : ℕ) (y : List ℕ) → (d ≡ 39 → ⊥) → (d ≡ 42 → ⊥) → Runs (f ++ (d ∷ y)) (d ∷ y))
-runs-swap Runs.none = ([], refl, λ d y m n. Runs.none)
-runs-swap {ys} (Runs.byte {c} {xs} h k l r) =
+runs-swap : {xs ys : List ℕ} → RecordRuns xs ys
+    → (f : List ℕ) × (xs ≡ f ++ ys) × ((d : ℕ) (y : List ℕ) → (d ≡ 39 → ⊥) → (d ≡ 42 → ⊥) → RecordRuns (f ++ (d ∷ y)) (d ∷ y))
+runs-swap RecordRuns.none = ([], refl, λ d y m n. RecordRuns.none)
+runs-swap {ys} (RecordRuns.byte {c} {xs} h k l r) =
     let (f, e, g) = runs-swap r in
-    (c ∷ f, cc, λ d y m n. Runs.byte h k (λ o. l (opens f xs e d y n o)) (g d y m n))
+    (c ∷ f, cc, λ d y m n. RecordRuns.byte h k (λ o. l (opens f xs e d y n o)) (g d y m n))
   where
-    opens : (f xs : List ℕ) → xs ≡ f ++ ys → (d : ℕ) (y : List ℕ) → (d ≡ 42 → ⊥) → Opens (c ∷ (f ++ (d ∷ y))) → Opens (c ∷ xs)
+    opens : (f xs : List ℕ) → xs ≡ f ++ ys → (d : ℕ) (y : List ℕ) → (d ≡ 42 → ⊥) → OpensComment (c ∷ (f ++ (d ∷ y))) → OpensComment (c ∷ xs)
     opens [] xs e d y n (u, o) = absurd (n (cc))
     opens (a ∷ f) xs e d y n (u, o) = (f ++ ys, cc)
-runs-swap {ys} (Runs.string {zs} q r) =
+runs-swap {ys} (RecordRuns.string {zs} q r) =
     let (f, e, g) = runs-swap r in
-    (39 ∷ (q .body ++ (39 ∷ f)), cc (append-assoc (q .body) (39 ∷ f) ys), λ d y m n. Runs.string (quoted f e d y m) (g d y m n))
+    (39 ∷ (q .body ++ (39 ∷ f)), cc (append-assoc (q .body) (39 ∷ f) ys), λ d y m n. RecordRuns.string (quoted f e d y m) (g d y m n))
   where
     begins : (f : List ℕ) → zs ≡ f ++ ys → (d : ℕ) (y : List ℕ) → (d ≡ 39 → ⊥) → Begins 39 (f ++ (d ∷ y)) → Begins 39 zs
     begins [] e d y m (u, o) = absurd (m (cc))
@@ -77,9 +77,9 @@ runs-swap {ys} (Runs.string {zs} q r) =
       shape = cc (append-assoc (q .body) (39 ∷ f) (d ∷ y));
       single = λ o. q .single (begins f e d y m o);
     }
-runs-swap {ys} (Runs.comment q r) =
+runs-swap {ys} (RecordRuns.comment q r) =
     let (f, e, g) = runs-swap r in
-    (47 ∷ 42 ∷ (q .body ++ (42 ∷ 47 ∷ f)), cc (append-assoc (q .body) (42 ∷ 47 ∷ f) ys), λ d y m n. Runs.comment (remark f (d ∷ y)) (g d y m n))
+    (47 ∷ 42 ∷ (q .body ++ (42 ∷ 47 ∷ f)), cc (append-assoc (q .body) (42 ∷ 47 ∷ f) ys), λ d y m n. RecordRuns.comment (remark f (d ∷ y)) (g d y m n))
   where
     remark : (f y : List ℕ) → Comment ((47 ∷ 42 ∷ (q .body ++ (42 ∷ 47 ∷ f))) ++ y) (f ++ y)
     remark f y = record { body = q .body; first = q .first; shape = cc (append-assoc (q .body) (42 ∷ 47 ∷ f) y) }

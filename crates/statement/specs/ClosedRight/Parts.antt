@@ -9,7 +9,7 @@ use native.Mathlib.Omega.{arith}
 use native.Mathlib.Decide.{ℕ-discrete}
 use lib.ListN.{length, length-append}
 use Rattle.common.specs.Compare.{clash}
-use Rattle.lex.specs.Grammar.{Opens, Runs, Balanced, Closes, Deep, OpenText, OpenRemark}
+use Rattle.lex.specs.Grammar.{OpensComment, RecordRuns, Balanced, Closes, Deep, OpenText, OpenRemark}
 use Rattle.lex.specs.Search.{closing}
 use Rattle.lex.specs.Answer.{Sought, at, fault}
 use Rattle.lex.specs.Local.{closing-local}
@@ -40,21 +40,21 @@ up-to {r} g (inl b) = inl (g (40 ∷ r) b)
 up-to g (inr (v, b, n)) = inr (v, g (41 ∷ v) b, n)
 
 -- all is balanced up to the first `(` byte, or a `)` stands outside before it, where that `(` lies outside strings and comments
-before-first : (z : List ℕ) {xs r : List ℕ} → Runs xs (40 ∷ r) → First xs r → UpTo (xs ++ z) (r ++ z)
-before-first z Runs.none f = inl Balanced.none
-before-first z {r} (Runs.byte {c} {xs} h k l s) f = go (ℕ-discrete c 40) (ℕ-discrete c 41) (before-first z s (λ u v e. f (c ∷ u) v (cc)))
+before-first : (z : List ℕ) {xs r : List ℕ} → RecordRuns xs (40 ∷ r) → First xs r → UpTo (xs ++ z) (r ++ z)
+before-first z RecordRuns.none f = inl Balanced.none
+before-first z {r} (RecordRuns.byte {c} {xs} h k l s) f = go (ℕ-discrete c 40) (ℕ-discrete c 41) (before-first z s (λ u v e. f (c ∷ u) v (cc)))
   where
-    o : Opens (c ∷ (xs ++ z)) → ⊥
+    o : OpensComment (c ∷ (xs ++ z)) → ⊥
     o p = l (opens-more z c xs (omega (arith, runs-longer s)) p)
 
     go : Dec (c ≡ 40) → Dec (c ≡ 41) → UpTo (xs ++ z) (r ++ z) → UpTo (c ∷ (xs ++ z)) (r ++ z)
     go (yes p) q ih = absurd (omega (arith, f [] xs (cc), runs-longer s))
     go (no m) (yes q) ih = inr (xs ++ z, rw q Balanced.none, simp length-append (omega (arith, runs-longer s)))
     go (no m) (no n) ih = up-to (λ ws. Balanced.byte m n k o) ih
-before-first z (Runs.string q s) f =
+before-first z (RecordRuns.string q s) f =
     up-to (λ ws. Balanced.string (quotation-more z q (omega (arith, runs-longer s))))
     (before-first z s (λ u v e. f (39 ∷ (q .body ++ (39 ∷ u))) v (cc (append-assoc (q .body) (39 ∷ u) (40 ∷ v)))))
-before-first z (Runs.comment q s) f =
+before-first z (RecordRuns.comment q s) f =
     up-to (λ ws. Balanced.comment (comment-more z q))
     (before-first z s (λ u v e. f (47 ∷ 42 ∷ (q .body ++ (42 ∷ 47 ∷ u))) v (cc (append-assoc (q .body) (42 ∷ 47 ∷ u) (40 ∷ v)))))
 

@@ -4,8 +4,8 @@ use Prim.Native.Nat.{ℕ}
 use denote.Ref.{now}
 use lib.ListN.{length}
 use Rattle.table.specs.Table.{rowsFit, idOf}
-use Rattle.scan.specs.Table.{toldScan, headerRoom}
-use Rattle.index.specs.Order.{tableRoom}
+use Rattle.scan.specs.ScanMemory.{toldScan, headerRoom}
+use Rattle.index.specs.KeyOrder.{tableRoom}
 use Rattle.index.specs.Index.{Built}
 use Rattle.store.specs.Laws.{all-indexed}
 use Rattle.store.proofs.open.Statement.{statement}

@@ -8,7 +8,7 @@ use denote.Ref.{now}
 use lib.ListN.{take, getD}
 use Rattle.common.specs.Tests.{neither}
 use Rattle.strings.specs.Text.{plain}
-use Rattle.strings.specs.Runs.{special, plain-more}
+use Rattle.strings.specs.PlainRuns.{special, plain-more}
 use Rattle.strings.proofs.block_differs.Statement.{statement}
 use Rattle.strings.proofs.block_differs.Tie as tie
 

@@ -1,6 +1,6 @@
 use native.Mathlib.Omega.{arith}
 use denote.Ref.{now}
-use Rattle.strings.specs.Runs.{plain-whole}
+use Rattle.strings.specs.PlainRuns.{plain-whole}
 use Rattle.strings.specs.Decoded.{decoded-plain, decoded-short, decoded-written, decoded-ample}
 use borrow.Author.Needs.{needs}
 use Rattle.strings.proofs.decode_string.Statement.{statement}

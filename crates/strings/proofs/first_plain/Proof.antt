@@ -2,7 +2,7 @@
 use native.Mathlib.Omega.{arith}
 use denote.Ref.{now}
 use borrow.Author.Needs.{needs}
-use Rattle.strings.specs.Runs.{plain-none}
+use Rattle.strings.specs.PlainRuns.{plain-none}
 use Rattle.strings.proofs.first_plain.Statement.{statement}
 use Rattle.strings.proofs.first_plain.Tie as tie
 

@@ -8,7 +8,7 @@ use lib.ListN.{length, take, getD, length-set}
 use lib.Seq.{paste, paste-zero}
 use Rattle.strings.specs.Text.{plain}
 use Rattle.strings.specs.Put.{paste-more}
-use Rattle.strings.specs.Runs.{plain-none, plain-more}
+use Rattle.strings.specs.PlainRuns.{plain-none, plain-more}
 use Rattle.strings.proofs.follow.Statement.{statement}
 use Rattle.strings.proofs.follow.Tie as tie
 

@@ -8,7 +8,7 @@ use denote.Ref.{now}
 use Rattle.common.specs.Tests.{both}
 use Rattle.utf8.specs.Laws.{byte-at}
 use Rattle.strings.specs.Text.{hexDigit}
-use Rattle.strings.specs.Hex.{four-past, four-is, four-not}
+use Rattle.strings.specs.Hex.{four-past, four-hex-is, four-not}
 use borrow.Author.Needs.{needs}
 use Rattle.strings.proofs.hex_four.Statement.{statement}
 use Rattle.strings.proofs.hex_four.Tie as tie
@@ -58,7 +58,7 @@ returns-2 c =
     let a = i .before .before .before .before .before .before .before .before .before .before .args in
     let s = now (a .s) in
     let h : four s (a .k) ≡ true = rw (sym (i .before .before .before .is-hex .ensures), sym (i .before .before .is-hex2 .ensures), sym (i .before .is-hex3 .ensures), sym (i .is-hex4 .ensures)) (c .before .before .if2 .taken) in
-    four-is s (a .k) _ _ (byte-at s (a .k) 0 (omega arith)) (byte-at s (a .k + 1) 0 (omega arith)) _ _ (byte-at s (a .k + 2) 0 (omega arith)) (byte-at s (a .k + 3) 0 (omega arith)) _ _ h (c .before .pair-value .ensures .0) (c .pair-value2 .ensures .0)
+    four-hex-is s (a .k) _ _ (byte-at s (a .k) 0 (omega arith)) (byte-at s (a .k + 1) 0 (omega arith)) _ _ (byte-at s (a .k + 2) 0 (omega arith)) (byte-at s (a .k + 3) 0 (omega arith)) _ _ h (c .before .pair-value .ensures .0) (c .pair-value2 .ensures .0)
 
 returns-3 : tie.Need-returns-3
 returns-3 c =

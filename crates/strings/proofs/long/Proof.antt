@@ -4,7 +4,7 @@ use denote.Ref.{now}
 use lib.ListN.{drop}
 use Rattle.strings.specs.Text.{longOf, extended, groupsFrom}
 use Rattle.strings.specs.Code.{viewOf}
-use Rattle.strings.specs.Ways.{moved-view, moved-one, marked-four, long-two, long-four, long-none}
+use Rattle.strings.specs.Ways.{piece-put-view, piece-put-one, marked-four, long-two, long-four, long-none}
 use Rattle.strings.proofs.long.Statement.{statement}
 use Rattle.strings.proofs.long.Tie as tie
 
@@ -18,7 +18,7 @@ returns : tie.Need-returns
 returns c =
     let q = c .before .before .before .before .before in
     let a = q .before .before .before .before .before .args in
-    moved-view (extended (groupsFrom 4 0 (drop 4 (now (a .s))))) (longOf (now (a .s))) (a .at) (now (a .out)) _ _ _ (ap viewOf (long-two (now (a .s)) (q .before .before .byte-at .result) (q .before .byte-at2 .result) (q .byte-at3 .result) (q .before .before .byte-at .ensures) (q .before .byte-at2 .ensures) (q .byte-at3 .ensures) (c .before .before .before .before .if1 .taken))) (c .before .before .groups .ensures)
+    piece-put-view (extended (groupsFrom 4 0 (drop 4 (now (a .s))))) (longOf (now (a .s))) (a .at) (now (a .out)) _ _ _ (ap viewOf (long-two (now (a .s)) (q .before .before .byte-at .result) (q .before .byte-at2 .result) (q .byte-at3 .result) (q .before .before .byte-at .ensures) (q .before .byte-at2 .ensures) (q .byte-at3 .ensures) (c .before .before .before .before .if1 .taken))) (c .before .before .groups .ensures)
 
 groups-requires-2 : tie.Need-groups-requires-2
 groups-requires-2 c κs =
@@ -30,13 +30,13 @@ returns-2 : tie.Need-returns-2
 returns-2 c =
     let q = c .before .before .before .before .before .before in
     let a = q .before .before .before .before .before .args in
-    moved-view (extended (groupsFrom 8 0 (drop 4 (now (a .s))))) (longOf (now (a .s))) (a .at) (now (a .out)) _ _ _ (ap viewOf (long-four (now (a .s)) (q .before .before .byte-at .result) (q .before .byte-at2 .result) (q .byte-at3 .result) (q .before .before .byte-at .ensures) (q .before .byte-at2 .ensures) (q .byte-at3 .ensures) (c .before .before .before .before .before .if1 .left) (c .before .before .before .before .if2 .taken))) (c .before .before .groups2 .ensures)
+    piece-put-view (extended (groupsFrom 8 0 (drop 4 (now (a .s))))) (longOf (now (a .s))) (a .at) (now (a .out)) _ _ _ (ap viewOf (long-four (now (a .s)) (q .before .before .byte-at .result) (q .before .byte-at2 .result) (q .byte-at3 .result) (q .before .before .byte-at .ensures) (q .before .byte-at2 .ensures) (q .byte-at3 .ensures) (c .before .before .before .before .before .if1 .left) (c .before .before .before .before .if2 .taken))) (c .before .before .groups2 .ensures)
 
 returns-3 : tie.Need-returns-3
 returns-3 c =
     let q = c .before .before .before .before .before .before in
     let a = q .before .before .before .before .before .args in
-    moved-one (longOf (now (a .s))) (a .at) (now (a .out)) _ _ 92 _ (ap viewOf (long-none (now (a .s)) (q .before .before .byte-at .result) (q .before .byte-at2 .result) (q .byte-at3 .result) (q .before .before .byte-at .ensures) (q .before .byte-at2 .ensures) (q .byte-at3 .ensures) (c .before .before .before .before .before .if1 .left) (c .before .before .before .before .if2 .left))) (c .before .before .put-char .ensures)
+    piece-put-one (longOf (now (a .s))) (a .at) (now (a .out)) _ _ 92 _ (ap viewOf (long-none (now (a .s)) (q .before .before .byte-at .result) (q .before .byte-at2 .result) (q .byte-at3 .result) (q .before .before .byte-at .ensures) (q .before .byte-at2 .ensures) (q .byte-at3 .ensures) (c .before .before .before .before .before .if1 .left) (c .before .before .before .before .if2 .left))) (c .before .before .put-char .ensures)
 
 pub long-spec : {M : Type 1} → statement M
 long-spec =

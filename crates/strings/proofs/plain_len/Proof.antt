@@ -1,7 +1,7 @@
 -- `strings::plain_len` meets its contract: a short string byte by byte; else sixteen bytes, the blocks, and those that are left. Assumes nothing.
 use native.Mathlib.Omega.{arith}
 use denote.Ref.{now}
-use Rattle.strings.specs.Runs.{plain-none}
+use Rattle.strings.specs.PlainRuns.{plain-none}
 use borrow.Author.Needs.{needs}
 use Rattle.strings.proofs.plain_len.Statement.{statement}
 use Rattle.strings.proofs.plain_len.Tie as tie

@@ -3,7 +3,7 @@ use Prim.Native.Nat.{_+_, _-_}
 use denote.Ref.{now}
 use lib.ListN.{length, take, drop}
 use Rattle.strings.specs.Put.{put-part}
-use Rattle.strings.specs.Runs.{ran-on}
+use Rattle.strings.specs.PlainRuns.{plain-put-on}
 use Rattle.strings.specs.Steps.{rest-is}
 use borrow.Author.Needs.{needs}
 use Rattle.strings.proofs.plain_run.Statement.{statement}
@@ -29,7 +29,7 @@ returns-2 c =
     let l = put-part (a .at) (now (a .out)) s k (f .follow .last .1 .1 .0) (omega arith) (omega arith) (omega (arith, f .follow .ensures .0, g .fitting .ensures .0)) (omega (arith, f .follow .ensures .0, g .fitting .ensures .1)) (f .follow .ensures .2) in
     let y = c .before .before in
     let n = y .before .before in
-    ran-on s (a .at) (now (a .out)) k (a .at + k) (f .follow .last .1 .1 .0) (take (length s - k) (drop k s)) (n .plain-len .result) (y .lay .result) (y .lay .last .1 .1 .0) (omega arith) (omega (arith, f .follow .ensures .0, g .fitting .ensures .0)) (rest-is s k) (f .follow .ensures .1) l (n .plain-len .ensures .within) (n .plain-len .ensures .plainly) (y .lay .ensures)
+    plain-put-on s (a .at) (now (a .out)) k (a .at + k) (f .follow .last .1 .1 .0) (take (length s - k) (drop k s)) (n .plain-len .result) (y .lay .result) (y .lay .last .1 .1 .0) (omega arith) (omega (arith, f .follow .ensures .0, g .fitting .ensures .0)) (rest-is s k) (f .follow .ensures .1) l (n .plain-len .ensures .within) (n .plain-len .ensures .plainly) (y .lay .ensures)
 
 pub plain-run-spec : {M : Type 1} → statement M
 plain-run-spec =

@@ -6,7 +6,7 @@ use mathlib.Core.Bool.{true}
 use denote.Ref.{now}
 use lib.ListN.{take}
 use Rattle.strings.specs.Text.{plain}
-use Rattle.strings.specs.Runs.{plain-more, plain-hit}
+use Rattle.strings.specs.PlainRuns.{plain-more, plain-hit}
 use Rattle.strings.proofs.plain_to.Statement.{statement}
 use Rattle.strings.proofs.plain_to.Tie as tie
 

@@ -3,7 +3,7 @@ use native.Mathlib.Omega.{arith}
 use mathlib.Core.Path.{sym}
 use denote.Ref.{now}
 use Rattle.strings.specs.Text.{pieceOf}
-use Rattle.strings.specs.Ways.{moved-one, is-directive, piece-directive, no-directive, ordinary-page}
+use Rattle.strings.specs.Ways.{piece-put-one, is-directive, piece-directive, no-directive, ordinary-page}
 use Rattle.strings.proofs.step.Statement.{statement}
 use Rattle.strings.proofs.step.Tie as tie
 
@@ -29,7 +29,7 @@ returns-2 c =
     let k = c .before .before .before .before in
     let a = k .before .before .before .before .before .args in
     let b = k .before .before in
-    (moved-one (pieceOf (a .page) (now (a .s))) (a .at) (now (a .out)) _ _ (k .ordinary .result .code) _ (k .ordinary .ensures (a .page)) (c .before .before .put-char .ensures), ordinary-page (a .page) (now (a .s)) (b .byte-at .result) (b .byte-at .ensures) (omega arith))
+    (piece-put-one (pieceOf (a .page) (now (a .s))) (a .at) (now (a .out)) _ _ (k .ordinary .result .code) _ (k .ordinary .ensures (a .page)) (c .before .before .put-char .ensures), ordinary-page (a .page) (now (a .s)) (b .byte-at .result) (b .byte-at .ensures) (omega arith))
 
 pub step-spec : {M : Type 1} → statement M
 step-spec =

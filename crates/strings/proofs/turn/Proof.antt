@@ -3,7 +3,7 @@ use Prim.Native.Nat.{_-_}
 use denote.Ref.{now}
 use lib.ListN.{length, take, drop}
 use Rattle.strings.specs.Steps.{rest-is, piece-fits}
-use Rattle.strings.specs.Ways.{turned}
+use Rattle.strings.specs.Ways.{turned-is}
 use borrow.Author.Needs.{needs}
 use Rattle.strings.proofs.turn.Statement.{statement}
 use Rattle.strings.proofs.turn.Tie as tie
@@ -21,7 +21,7 @@ returns c =
     let b = k .before .before .before .before in
     let s = now (b .args .s) in
     let u = k .step .result .used in
-    (turned (b .args .page) s (b .args .at) (now (b .args .out)) (k .step .result .at) u (k .step .last .1 .1 .0) (take (length s - u) (drop u s)) (y .plain-run .result .used) (y .plain-run .result .at) (y .plain-run .last .1 .0) (omega arith) (b .pre) (rest-is s u) (k .step .ensures .0) (y .plain-run .ensures), k .step .ensures .1)
+    (turned-is (b .args .page) s (b .args .at) (now (b .args .out)) (k .step .result .at) u (k .step .last .1 .1 .0) (take (length s - u) (drop u s)) (y .plain-run .result .used) (y .plain-run .result .at) (y .plain-run .last .1 .0) (omega arith) (b .pre) (rest-is s u) (k .step .ensures .0) (y .plain-run .ensures), k .step .ensures .1)
 
 pub turn-spec : {M : Type 1} → statement M
 turn-spec =

@@ -1,6 +1,6 @@
 use Prim.Native.Nat.{_*_}
 use denote.Ref.{now}
-use Rattle.statement.specs.Rows.{rowOf}
+use Rattle.statement.specs.Rows.{toldRow}
 use Rattle.table.specs.Table.{six, narrowRow}
 use mathlib.Core.Path.{_∙_, ap}
 use lib.ListN.{length, length-set}
@@ -19,7 +19,7 @@ returns c = rw (c .before .before .store-spans .ensures) (simp towards-suc)
 
 same-length : tie.Need-same-length
 same-length c = let a = c .before .before .before .before .before .before .before .args in
-    ap length (returns c) ∙ length-sets (now (a .out)) (a .k * 6) (six (narrowRow (rowOf (a .w))))
+    ap length (returns c) ∙ length-sets (now (a .out)) (a .k * 6) (six (narrowRow (toldRow (a .w))))
 
 pub store-row-spec : {M : Type 1} → statement M
 store-row-spec =

@@ -5,8 +5,8 @@ use mathlib.Core.Path.{_≡_, _∙_, sym, ap}
 use native.Mathlib.Omega.{arith}
 use borrow.Author.Needs.{needs}
 use denote.Ref.{now}
-use Rattle.tokens.specs.Laws.{comment-none, comment-last, comment-more, heads-short}
-use Rattle.tokens.specs.Leap.{commentRest}
+use Rattle.tokens.specs.Laws.{comment-none, comment-last, comment-goes-on, heads-short}
+use Rattle.tokens.specs.TokenRests.{commentRest}
 use Rattle.tokens.proofs.comment_end.Statement.{statement}
 use Rattle.tokens.proofs.comment_end.Tie as tie
 
@@ -57,7 +57,7 @@ loop-again c = let p = c .before .before .before in
     let q = p .find-byte .result in
     let k = p .find-byte .ensures .1 in
     let e = sym (c .before .is-at .ensures) ∙ c .if2 .left in
-    (omega (arith, k), omega arith, sym (comment-more s (l .i) q (p .find-byte .ensures .0) (omega arith) e) ∙ l .inv .2)
+    (omega (arith, k), omega arith, sym (comment-goes-on s (l .i) q (p .find-byte .ensures .0) (omega arith) e) ∙ l .inv .2)
 
 pub comment-end-spec : {M : Type 1} → statement M
 comment-end-spec =

@@ -6,7 +6,7 @@ use denote.Ref.{now}
 use Rattle.error.specs.Refusal.{good}
 use Rattle.table.specs.Table.{tableRows}
 use Rattle.lookup.specs.Lookup.{toldEntry, rowFor}
-use Rattle.factors.specs.Thing.{findOf}
+use Rattle.factors.specs.SeenRecords.{findOf}
 use Rattle.units.specs.Laws.{Resolving, resolve-starts, resolve-over, row-there, resolve-last, resolve-goes}
 use Rattle.units.proofs.resolve.Statement.{statement}
 use Rattle.units.proofs.resolve.Tie as tie

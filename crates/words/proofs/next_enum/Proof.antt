@@ -2,7 +2,7 @@ use borrow.Author.Needs.{needs}
 use mathlib.Core.Path.{_∙_, sym, ap}
 use denote.Ref.{now}
 use Rattle.params.specs.ReaderLaws.{cut-places}
-use Rattle.params.specs.Answer.{toldCut}
+use Rattle.params.specs.Answer.{toldNextParam}
 use Rattle.words.specs.Laws.{name-next, name-refused}
 use Rattle.words.proofs.next_enum.Statement.{statement}
 use Rattle.words.proofs.next_enum.Tie as tie
@@ -12,12 +12,12 @@ name-at-requires c κs = cut-places _ _ _ _ _ (c .before .before .before .param-
 
 returns : tie.Need-returns
 returns c = let a = c .before .before .before .before .before .args in
-    name-refused (now (a .file)) _ _ _ _ (ap toldCut (sym (c .before .f .given .1)) ∙ c .before .before .before .param-span .ensures .0)
+    name-refused (now (a .file)) _ _ _ _ (ap toldNextParam (sym (c .before .f .given .1)) ∙ c .before .before .before .param-span .ensures .0)
 
 returns-2 : tie.Need-returns-2
 returns-2 c = let g = c .before .before in
     let a = g .before .before .before .before .args in
-    name-next (now (a .file)) _ _ _ _ _ _ (ap toldCut (sym (g .start .given .1)) ∙ g .before .before .param-span .ensures .0) (c .name-at .ensures)
+    name-next (now (a .file)) _ _ _ _ _ _ (ap toldNextParam (sym (g .start .given .1)) ∙ g .before .before .param-span .ensures .0) (c .name-at .ensures)
 
 pub next-enum-spec : {M : Type 1} → statement M
 next-enum-spec =

@@ -1,4 +1,4 @@
--- `Args::new` meets its contract: a walk of its code. The core opens a reader, `after::opened` gives its state, and the struct is made of the
+-- `Args::new` meets its contract: a walk of its code. The core opens a reader, `reader_after::opened` gives its state, and the struct is made of the
 -- slice and of that, inside the struct that is answered. The slice is Copy: what it owns is had three times.
 -- Assumes nothing.
 use mathlib.Core.Path.{_≡_, refl, ap, subst}
@@ -43,26 +43,26 @@ use denote.Exit.{yes}
 use contract.Running.{givenOf, tables, tablesOf}
 use denote.Triple.Table.{entered, cited}
 use Rattle.error.specs.Refusal.{good}
-use Rattle.params.specs.Answer.{Read, reading, toldOpened, openedOf}
-use Rattle.after.specs.Leaving.{openedAt, Leaves}
+use Rattle.params.specs.Answer.{Read, reading, toldOpenedReader, openedOf}
+use Rattle.reader_after.specs.Leaving.{openedAt, Leaves}
 use Rattle.params.specs.declared.State.{State}
 use Rattle.params.proofs.State as St
 use Rattle.params.proofs.State.Laws as St′
 use Rattle.args.specs.declared.Args.{Args}
 use Rattle.args.specs.declared.Opening.{Opening}
-use Rattle.params.specs.declared.Opened.{Opened}
+use Rattle.params.specs.declared.OpenedReader.{OpenedReader}
 use Rattle.args.proofs.Args as T
 use Rattle.args.proofs.Args.Laws as T′
 use Rattle.args.proofs.Carry.{afterEnded, afterClauses, After, spelled, fit, fit-spelled, to-after, asked-after, said-after}
-use Rattle.params.proofs.Opened as O
-use Rattle.params.proofs.Opened.Laws as O′
+use Rattle.params.proofs.OpenedReader as O
+use Rattle.params.proofs.OpenedReader.Laws as O′
 use Rattle.args.proofs.Opening as P
 use Rattle.args.proofs.Opening.Laws as P′
 use Rattle.params.proofs.new as core
 use Rattle.params.proofs.new.Symbol as core-def
 use Rattle.params.proofs.new.Met as core-thm
-use Rattle.after.proofs.opened.Symbol as after-def
-use Rattle.after.proofs.opened.Met as after-thm
+use Rattle.reader_after.proofs.opened.Symbol as after-def
+use Rattle.reader_after.proofs.opened.Met as after-thm
 use Rattle.args.proofs.Args.new.Key.{name as #new}
 use Rattle.args.proofs.Args.new as new
 use Rattle.args.proofs.Args.new.Statement as stated
@@ -71,9 +71,9 @@ use Rattle.args.proofs.Args.new.Code as code
 abbrev stayed : Stays (new.ended .signature .params) (new.ended .kept)
 stayed = (stay-none-slice (0 ∷ []) tt (plain (λ _. u8)) yes, (stay-none (λ _. usize) yes, (stay-none (λ _. usize) yes, tt)))
 
--- what `after::opened` tells of an answer, in the form of `Carry.antt`
-abbrev tell : Opened → Read (Unit {0})
-tell a = reading (good tt) (openedAt (toldOpened a) .place) (openedAt (toldOpened a) .end)
+-- what `reader_after::opened` tells of an answer, in the form of `Carry.antt`
+abbrev tell : OpenedReader → Read (Unit {0})
+tell a = reading (good tt) (openedAt (toldOpenedReader a) .place) (openedAt (toldOpenedReader a) .end)
 
 module _ {M : Type 1} (𝓤 : URA M) (H : Heap 𝓤) (A : Atoms 𝓤) (mem : Memory → SProp 𝓤) (run : Routine → Fun 𝓤) where
   abbrev Core : Contract 𝓤
@@ -105,24 +105,24 @@ module _ {M : Type 1} (𝓤 : URA M) (H : Heap 𝓤) (A : Atoms 𝓤) (W : Given
   abbrev made : State → Args
   made s = record { file = x; at = s }
 
-  abbrev answer : Opened → State → Opening
+  abbrev answer : OpenedReader → State → Opening
   answer r s = record { opened = r; args = made s }
 
-  abbrev mach : Opened → State → Val
+  abbrev mach : OpenedReader → State → Val
   mach r s = vstruct (vcons (EL.val O.the-type O′.the-laws r) (vcons (T′.lowered (made s)) vnil))
 
   -- what is made is of its type
   made-is : (s : State) → Is St.the-row s (St′.lowered s ∷ []) → Is (T.the-row α) (made s) (T′.lowered (made s) ∷ [])
   made-is s si = LL.owes (T.the-type α) (T′.the-laws α) (made s) (has, (si, tt))
 
-  answer-fits : (r : Opened) (s : State) → Is O.the-row r (EL.val O.the-type O′.the-laws r ∷ []) → Is St.the-row s (St′.lowered s ∷ []) → Holds (hasTy (P′.mir (named 0)) (mach r s)) × WT (mach r s)
+  answer-fits : (r : OpenedReader) (s : State) → Is O.the-row r (EL.val O.the-type O′.the-laws r ∷ []) → Is St.the-row s (St′.lowered s ∷ []) → Holds (hasTy (P′.mir (named 0)) (mach r s)) × WT (mach r s)
   answer-fits r s is si = LL.lawful (P.the-type α) (P′.the-laws α) 𝓤 H A W .typed (answer r s) (mach r s ∷ []) (LL.owes (P.the-type α) (P′.the-laws α) (answer r s) (is, (made-is s si, tt))) .0
 
   -- the answer and the state at the machine values that they spell
-  told : (r : Opened) (u : Val) → Is O.the-row r (u ∷ []) → Is O.the-row r (EL.val O.the-type O′.the-laws r ∷ [])
+  told : (r : OpenedReader) (u : Val) → Is O.the-row r (u ∷ []) → Is O.the-row r (EL.val O.the-type O′.the-laws r ∷ [])
   told r u is = subst (Is O.the-row r) (EL.tells O.the-type O′.the-laws r _ is) is
 
-  state : (r : Opened) (s : State) (w : Val) → Is St.the-row s (w ∷ []) → Is St.the-row s (St′.lowered s ∷ [])
+  state : (r : OpenedReader) (s : State) (w : Val) → Is St.the-row s (w ∷ []) → Is St.the-row s (St′.lowered s ∷ [])
   state r s w si = subst (Is St.the-row s) (LL.tells St.the-type St′.the-laws s _ si) si
 
   -- the core's function: what it asks, and what it says
@@ -135,10 +135,10 @@ module _ {M : Type 1} (𝓤 : URA M) (H : Heap 𝓤) (A : Atoms 𝓤) (W : Given
       move ! (1 ∷ []) $ fsplit ! $ use1 W (‵ Own ⊛ ‵ Own) (shr-slice-copy 𝓤 H A W (named 0) κ u8 .twice x (v ∷ [])) $ split ! $ move ! (0 ∷ 2 ∷ []) $ fjoin ! $
       move ! (2 ∷ 0 ∷ []) $ use2 W (raw (Core 𝓤 H A mem run .pre to)) (qed W ((‵ (flft κ q) ⊛ ‵ ftrue) ∷ ‵ (owns (ShrSlice (named 0) κ u8 ∷ usize ∷ usize ∷ []) a at) ∷ []) ∵ join ! $ frame ! $ done !) $ frame ! $ done !
 
-  said : (r : Opened) → ent 𝓤 (ensured 𝓤 H A core.ended (core.clauses 𝓤 H A mem run) (κ, tt) a tt r) (fact 𝓤 (toldOpened r ≡ openedOf (now x) p z))
-  said r = exE 𝓤 _ (λ ws. snd∗ 𝓤 (sem 𝓤 H A (lasts core.ended (κ, tt) a ws)) (fact 𝓤 (toldOpened r ≡ openedOf (now x) p z)))
+  said : (r : OpenedReader) → ent 𝓤 (ensured 𝓤 H A core.ended (core.clauses 𝓤 H A mem run) (κ, tt) a tt r) (fact 𝓤 (toldOpenedReader r ≡ openedOf (now x) p z))
+  said r = exE 𝓤 _ (λ ws. snd∗ 𝓤 (sem 𝓤 H A (lasts core.ended (κ, tt) a ws)) (fact 𝓤 (toldOpenedReader r ≡ openedOf (now x) p z)))
 
-  exits : (r : Opened) (s : State) → Is O.the-row r (EL.val O.the-type O′.the-laws r ∷ []) → toldOpened r ≡ openedOf (now x) p z → Leaves (tell r) s
+  exits : (r : OpenedReader) (s : State) → Is O.the-row r (EL.val O.the-type O′.the-laws r ∷ []) → toldOpenedReader r ≡ openedOf (now x) p z → Leaves (tell r) s
       → ent 𝓤 (⋆ 𝓤 H A (‵ (St.the-row .own s (St′.lowered s ∷ [])) ∷ (‵ (flft κ q) ⊛ ‵ ftrue) ∷ ‵ Own ∷ [])) (Post (mach r s))
   exits r s is e l =
       qed W (‵ (St.the-row .own s (St′.lowered s ∷ [])) ∷ (‵ (flft κ q) ⊛ ‵ ftrue) ∷ ‵ Own ∷ []) ∵
@@ -158,8 +158,8 @@ module _ {M : Type 1} (𝓤 : URA M) (H : Heap 𝓤) (A : Atoms 𝓤) (W : Given
         pass1 ! (init ! 12 refl (shr-slice-lawful 𝓤 H A W (named 0) κ u8 .typed x (v ∷ []) has .0)) $ pass1 ! (init ! 10 refl (tt, record { fits = p-fits })) $ pass1 ! (init ! 8 refl (tt, record { fits = z-fits })) $ pass0 ! $
         move ! (16 ∷ []) $ use1 W (raw (Core 𝓤 H A mem run .pre to) ⊛ ‵ Own) asked $ split ! $
         calls-at ! fm (Core 𝓤 H A mem run) known to (and-then ! (load ! (from ! (stop !)) (look ! 14 refl)) (and-then ! (load ! (from ! (stop !)) (look ! 12 refl)) (and-then ! (load ! (from ! (stop !)) (look ! 10 refl)) (no-more !)))) (λ u.
-        use1 W (later (some (λ (r : Opened). ((‵ (flft κ q) ⊛ ‵ ftrue) ⊛ ‵ (O.the-row .own r (u ∷ []))) ⊛ raw (ensured 𝓤 H A core.ended (core.clauses 𝓤 H A mem run) (κ, tt) a tt r)))) (id⊢ 𝓤 _) $ await ! tt $ pick ! (λ r.
-        split ! $ move ! (1 ∷ []) $ use1 W (raw (fact 𝓤 (toldOpened r ≡ openedOf (now x) p z))) (said r) $ heard ! (toldOpened r ≡ openedOf (now x) p z) (λ e. split ! $ move ! (1 ∷ []) $
+        use1 W (later (some (λ (r : OpenedReader). ((‵ (flft κ q) ⊛ ‵ ftrue) ⊛ ‵ (O.the-row .own r (u ∷ []))) ⊛ raw (ensured 𝓤 H A core.ended (core.clauses 𝓤 H A mem run) (κ, tt) a tt r)))) (id⊢ 𝓤 _) $ await ! tt $ pick ! (λ r.
+        split ! $ move ! (1 ∷ []) $ use1 W (raw (fact 𝓤 (toldOpenedReader r ≡ openedOf (now x) p z))) (said r) $ heard ! (toldOpenedReader r ≡ openedOf (now x) p z) (λ e. split ! $ move ! (1 ∷ []) $
         -- [the answer; the token; what the slice owns; _7; …; _6; …; _5; …; _4; …; _3; …; _2; …; _1; …; room for _0; …]
         peeks ! O.the-row (Is O.the-row) (shows 𝓤 H A O.the-row) r (u ∷ []) (λ is. land ! (from ! (stop !)) (init ! 9 refl (EL.lawful O.the-type O′.the-laws 𝓤 H A W tt .typed r _ is .0)) $
         use1 W (raw (After O.the-type tell 𝓤 H A .pre (to-after 𝓤 H A W O.the-type tell r u))) (asked-after 𝓤 H A W O.the-type tell r u) $
@@ -195,4 +195,4 @@ new-spec 𝓤 H 𝓜 𝓖 𝓡 =
     (tables 𝓤 H 𝓜 𝓡 code.env .C) (tables 𝓤 H 𝓜 𝓡 code.env .Λ) #new code.function (code.unfolded 𝓤 H 𝓜 𝓡)
     (new-meets 𝓤 H (𝓖 .A) (givenOf 𝓤 H 𝓜 𝓖) (𝓜 .mem) (𝓡 .run) (tablesOf 𝓤 H 𝓜 (tables 𝓤 H 𝓜 𝓡 code.env))
     (cited 𝓤 H (Core 𝓤 H (𝓖 .A) (𝓜 .mem) (𝓡 .run)) 𝓜 𝓡 code.env core-def.name core-def.routine code.calls-params·new (core-thm.met 𝓤 H 𝓜 𝓖 𝓡))
-    (cited 𝓤 H (After O.the-type tell 𝓤 H (𝓖 .A)) 𝓜 𝓡 code.env after-def.name after-def.routine code.calls-after·opened (after-thm.met 𝓤 H 𝓜 𝓖 𝓡)))
+    (cited 𝓤 H (After O.the-type tell 𝓤 H (𝓖 .A)) 𝓜 𝓡 code.env after-def.name after-def.routine code.calls-reader-after·opened (after-thm.met 𝓤 H 𝓜 𝓖 𝓡)))

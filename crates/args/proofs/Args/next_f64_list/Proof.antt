@@ -1,4 +1,4 @@
--- `Args::next_f64_list` meets its contract: the walk of `Lent.antt`, at `lists::next_f64_list` and `after::list`.
+-- `Args::next_f64_list` meets its contract: the walk of `Lent.antt`, at `lists::next_f64_list` and `reader_after::list`.
 use contract.Running.{givenOf, tables, tablesOf}
 use denote.Triple.Spec.{tripleOf}
 use denote.Triple.Table.{entered, cited}
@@ -10,8 +10,8 @@ use Rattle.lists.proofs.NextList as E
 use Rattle.lists.proofs.NextList.Laws as E′
 use Rattle.lists.proofs.next_f64_list.Symbol as core
 use Rattle.lists.proofs.next_f64_list.Met as core-thm
-use Rattle.after.proofs.list.Symbol as after
-use Rattle.after.proofs.list.Met as after-thm
+use Rattle.reader_after.proofs.list.Symbol as after
+use Rattle.reader_after.proofs.list.Met as after-thm
 use Rattle.args.proofs.Carry.{After}
 use Rattle.args.proofs.Lent.{Core, forwards}
 use Rattle.args.proofs.Args.next_f64_list.Key.{name as #next-f64-list}
@@ -26,4 +26,4 @@ next-f64-list-spec 𝓤 H 𝓜 𝓖 𝓡 =
     (tables 𝓤 H 𝓜 𝓡 code.env .C) (tables 𝓤 H 𝓜 𝓡 code.env .Λ) #next-f64-list code.function (code.unfolded 𝓤 H 𝓜 𝓡)
     (forwards f64 E.the-type toldNextList (nextList realOf) realRoom E′.the-laws E′.the-plain tt 𝓤 H (𝓖 .A) (givenOf 𝓤 H 𝓜 𝓖) core.name after.name (tablesOf 𝓤 H 𝓜 (tables 𝓤 H 𝓜 𝓡 code.env))
     (cited 𝓤 H (Core f64 E.the-type toldNextList (nextList realOf) realRoom 𝓤 H (𝓖 .A)) 𝓜 𝓡 code.env core.name core.routine code.calls-lists·next-f64-list (core-thm.met 𝓤 H 𝓜 𝓖 𝓡))
-    (cited 𝓤 H (After E.the-type toldNextList 𝓤 H (𝓖 .A)) 𝓜 𝓡 code.env after.name after.routine code.calls-after·list (after-thm.met 𝓤 H 𝓜 𝓖 𝓡)))
+    (cited 𝓤 H (After E.the-type toldNextList 𝓤 H (𝓖 .A)) 𝓜 𝓡 code.env after.name after.routine code.calls-reader-after·list (after-thm.met 𝓤 H 𝓜 𝓖 𝓡)))

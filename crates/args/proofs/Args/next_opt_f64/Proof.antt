@@ -1,4 +1,4 @@
--- `Args::next_opt_f64` meets its contract: the walk of `Forward.antt`, at `scalars::next_opt_f64` and `after::opt_real`.
+-- `Args::next_opt_f64` meets its contract: the walk of `Forward.antt`, at `scalars::next_opt_f64` and `reader_after::opt_real`.
 use contract.Running.{givenOf, tables, tablesOf}
 use denote.Triple.Spec.{tripleOf}
 use denote.Triple.Table.{entered, cited}
@@ -9,8 +9,8 @@ use Rattle.scalars.proofs.NextOptReal as E
 use Rattle.scalars.proofs.NextOptReal.Laws as E′
 use Rattle.scalars.proofs.next_opt_f64.Symbol as core
 use Rattle.scalars.proofs.next_opt_f64.Met as core-thm
-use Rattle.after.proofs.opt_real.Symbol as after
-use Rattle.after.proofs.opt_real.Met as after-thm
+use Rattle.reader_after.proofs.opt_real.Symbol as after
+use Rattle.reader_after.proofs.opt_real.Met as after-thm
 use Rattle.args.proofs.Carry.{After}
 use Rattle.args.proofs.Forward.{Core, forwards}
 use Rattle.args.proofs.Args.next_opt_f64.Key.{name as #next-opt-f64}
@@ -25,4 +25,4 @@ next-opt-f64-spec 𝓤 H 𝓜 𝓖 𝓡 =
     (tables 𝓤 H 𝓜 𝓡 code.env .C) (tables 𝓤 H 𝓜 𝓡 code.env .Λ) #next-opt-f64 code.function (code.unfolded 𝓤 H 𝓜 𝓡)
     (forwards E.the-type toldNextOptReal (nextOf (optionOf realOf)) E′.the-laws E′.the-plain tt 𝓤 H (𝓖 .A) (givenOf 𝓤 H 𝓜 𝓖) core.name after.name (tablesOf 𝓤 H 𝓜 (tables 𝓤 H 𝓜 𝓡 code.env))
     (cited 𝓤 H (Core E.the-type toldNextOptReal (nextOf (optionOf realOf)) 𝓤 H (𝓖 .A)) 𝓜 𝓡 code.env core.name core.routine code.calls-scalars·next-opt-f64 (core-thm.met 𝓤 H 𝓜 𝓖 𝓡))
-    (cited 𝓤 H (After E.the-type toldNextOptReal 𝓤 H (𝓖 .A)) 𝓜 𝓡 code.env after.name after.routine code.calls-after·opt-real (after-thm.met 𝓤 H 𝓜 𝓖 𝓡)))
+    (cited 𝓤 H (After E.the-type toldNextOptReal 𝓤 H (𝓖 .A)) 𝓜 𝓡 code.env after.name after.routine code.calls-reader-after·opt-real (after-thm.met 𝓤 H 𝓜 𝓖 𝓡)))

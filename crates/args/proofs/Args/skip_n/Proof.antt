@@ -1,4 +1,4 @@
--- `Args::skip_n` meets its contract: the walk of `Counted.antt`, at `params::skip_n` and `after::skipped`.
+-- `Args::skip_n` meets its contract: the walk of `Counted.antt`, at `params::skip_n` and `reader_after::skipped`.
 use contract.Running.{givenOf, tables, tablesOf}
 use denote.Triple.Spec.{tripleOf}
 use denote.Triple.Table.{entered, cited}
@@ -8,8 +8,8 @@ use Rattle.params.proofs.Skipped as E
 use Rattle.params.proofs.Skipped.Laws as E′
 use Rattle.params.proofs.skip_n.Symbol as core
 use Rattle.params.proofs.skip_n.Met as core-thm
-use Rattle.after.proofs.skipped.Symbol as after
-use Rattle.after.proofs.skipped.Met as after-thm
+use Rattle.reader_after.proofs.skipped.Symbol as after
+use Rattle.reader_after.proofs.skipped.Met as after-thm
 use Rattle.args.proofs.Carry.{After}
 use Rattle.args.proofs.Counted.{Core, forwards}
 use Rattle.args.proofs.Args.skip_n.Key.{name as #skip-n}
@@ -24,4 +24,4 @@ skip-n-spec 𝓤 H 𝓜 𝓖 𝓡 =
     (tables 𝓤 H 𝓜 𝓡 code.env .C) (tables 𝓤 H 𝓜 𝓡 code.env .Λ) #skip-n code.function (code.unfolded 𝓤 H 𝓜 𝓡)
     (forwards E.the-type toldSkipped skipsOf E′.the-laws E′.the-plain tt 𝓤 H (𝓖 .A) (givenOf 𝓤 H 𝓜 𝓖) core.name after.name (tablesOf 𝓤 H 𝓜 (tables 𝓤 H 𝓜 𝓡 code.env))
     (cited 𝓤 H (Core E.the-type toldSkipped skipsOf 𝓤 H (𝓖 .A)) 𝓜 𝓡 code.env core.name core.routine code.calls-params·skip-n (core-thm.met 𝓤 H 𝓜 𝓖 𝓡))
-    (cited 𝓤 H (After E.the-type toldSkipped 𝓤 H (𝓖 .A)) 𝓜 𝓡 code.env after.name after.routine code.calls-after·skipped (after-thm.met 𝓤 H 𝓜 𝓖 𝓡)))
+    (cited 𝓤 H (After E.the-type toldSkipped 𝓤 H (𝓖 .A)) 𝓜 𝓡 code.env after.name after.routine code.calls-reader-after·skipped (after-thm.met 𝓤 H 𝓜 𝓖 𝓡)))

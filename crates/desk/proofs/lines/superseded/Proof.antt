@@ -4,7 +4,7 @@ use Rattle.io.specs.Digits.{digits}
 use Rattle.common.specs.Bytes.{bytes}
 use denote.Ref.{now}
 use native.Mathlib.Omega.{arith}
-use Rattle.text.proofs.Laws.{put-start}
+use Rattle.printing.proofs.Laws.{put-start}
 use Rattle.desk.proofs.Laws.{put-then}
 use borrow.Author.Needs.{needs}
 use Rattle.desk.proofs.lines.superseded.Statement.{statement}

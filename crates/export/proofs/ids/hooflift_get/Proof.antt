@@ -1,6 +1,6 @@
 use lib.ListN.{length}
 use Rattle.table.specs.Table.{idOf, rowsFit}
-use Rattle.finds.specs.Finds.{rowNumber}
+use Rattle.find_many.specs.Finds.{rowNumber}
 use Rattle.index.specs.SearchRight.{get-first}
 use denote.Ref.{now}
 use mathlib.Core.Path.{ap}

@@ -5,7 +5,7 @@ use borrow.Author.Tests.{le-leb}
 use denote.Ref.{now}
 use Rattle.export.specs.Ids.{lentEnough}
 use Rattle.export.specs.IdsLaws.{lent-eight}
-use Rattle.export.specs.Ids.Indexed.{short, built}
+use Rattle.export.specs.Ids.HostIndexed.{short, built}
 use borrow.Author.Needs.{needs}
 use Rattle.export.proofs.ids.hooflift_index.Statement.{statement}
 use Rattle.export.proofs.ids.hooflift_index.Tie as tie

@@ -1,6 +1,6 @@
 use borrow.Author.Needs.{needs}
 use Rattle.lookup.specs.Lookup.{toldSpan}
-use Rattle.plain.specs.AnswersLaws.{found-code, found-value}
+use Rattle.host_numbers.specs.AnswersLaws.{found-code, found-value}
 use mathlib.Core.Path.{refl, _∙_}
 use Rattle.export_tables.proofs.by_row.hooflift_keyword.Statement.{statement}
 use Rattle.export_tables.proofs.by_row.hooflift_keyword.Tie as tie

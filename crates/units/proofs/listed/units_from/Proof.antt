@@ -7,23 +7,23 @@ use lib.ListN.{length}
 use Rattle.reals.specs.Answer.{Answer, toldReference}
 use Rattle.lists.specs.Answer.{asFate}
 use Rattle.lookup.specs.Lookup.{rowFor}
-use Rattle.factors.specs.Thing.{findOf}
+use Rattle.factors.specs.SeenRecords.{findOf}
 use Rattle.units.specs.Answer.{Units, defaults, valuesIn, toldUnits}
 use Rattle.units.specs.Units.{unitsBy}
 use Rattle.units.specs.Code.{idsOf}
-use Rattle.units.specs.Laws.{Reading, reading-starts, reading-bad, reading-here, reading-last, reading-goes, units-bad, units-more, units-last}
+use Rattle.units.specs.Laws.{RefsReading, refs-reading-starts, refs-reading-bad, refs-reading-here, refs-reading-last, refs-reading-goes, units-bad, units-more, units-last}
 use Rattle.units.proofs.listed.units_from.Statement.{statement}
 use Rattle.units.proofs.listed.units_from.Tie as tie
 
 abbrev Inv-loop : tie.InvT-loop
-Inv-loop file rows slots t b u₀ i₀ u i = Reading b (unitsBy file (findOf file (rowFor rows slots (t .ids))) (valuesIn u)) (unitsBy file (findOf file (rowFor rows slots (t .ids))) defaults (idsOf b)) i
+Inv-loop file rows slots t b u₀ i₀ u i = RefsReading b (unitsBy file (findOf file (rowFor rows slots (t .ids))) (valuesIn u)) (unitsBy file (findOf file (rowFor rows slots (t .ids))) defaults (idsOf b)) i
 
 abbrev μ-loop : tie.MeasureT-loop
 μ-loop file rows slots t b u₀ i₀ u i = length b - i
 
 loop-holds : tie.Need-loop-holds Inv-loop μ-loop
 loop-holds c = let a = c .before .before .before .before .before .args in let s = now (a .file) in let b = now (a .b) in let find = findOf s (rowFor (now (a .rows)) (now (a .slots)) (a .t .ids)) in
-    reading-starts b (unitsBy s find (valuesIn (c .assumed .result))) (unitsBy s find defaults (idsOf b)) (c .before .before .before .before .before .pre) (ap (λ (u : Units). unitsBy s find u (idsOf b)) (c .assumed .ensures))
+    refs-reading-starts b (unitsBy s find (valuesIn (c .assumed .result))) (unitsBy s find defaults (idsOf b)) (c .before .before .before .before .before .pre) (ap (λ (u : Units). unitsBy s find u (idsOf b)) (c .assumed .ensures))
 
 sub-parse-ref : tie.Need-sub-parse-ref Inv-loop μ-loop
 sub-parse-ref c = c .item-at .ensures .ordered
@@ -36,16 +36,16 @@ part-parse-ref-end c = omega (arith, c .item-at .ensures .ordered, c .item-at .e
 
 returns : tie.Need-returns Inv-loop μ-loop
 returns c = let a = c .before .before .before .before .before .before .before .before .before .before .before .args in let s = now (a .file) in let b = now (a .b) in let find = findOf s (rowFor (now (a .rows)) (now (a .slots)) (a .t .ids)) in
-    absurd (reading-bad b (unitsBy s find (valuesIn (c .before .before .before .before .before .loop .u))) (unitsBy s find defaults (idsOf b)) (c .before .before .before .before .before .loop .i) (c .before .before .before .before .before .loop .inv) (c .before .before .before .before .item-at .result) (c .before .before .before .before .item-at .ensures) 12 0 (ap (λ (x : Answer ℕ). asFate x) (ap toldReference (sym (c .enum-told .given .1)) ∙ c .before .before .parse-ref .ensures)))
+    absurd (refs-reading-bad b (unitsBy s find (valuesIn (c .before .before .before .before .before .loop .u))) (unitsBy s find defaults (idsOf b)) (c .before .before .before .before .before .loop .i) (c .before .before .before .before .before .loop .inv) (c .before .before .before .before .item-at .result) (c .before .before .before .before .item-at .ensures) 12 0 (ap (λ (x : Answer ℕ). asFate x) (ap toldReference (sym (c .enum-told .given .1)) ∙ c .before .before .parse-ref .ensures)))
 
 returns-2 : tie.Need-returns-2 Inv-loop μ-loop
 returns-2 c = let a = c .before .before .before .before .before .before .before .before .before .before .before .before .before .before .before .args in let s = now (a .file) in let b = now (a .b) in let find = findOf s (rowFor (now (a .rows)) (now (a .slots)) (a .t .ids)) in
-    let (l, k) = reading-here b (unitsBy s find (valuesIn (c .before .before .before .before .before .before .before .before .before .loop .u))) (unitsBy s find defaults (idsOf b)) (c .before .before .before .before .before .before .before .before .before .loop .i) (c .before .before .before .before .before .before .before .before .before .loop .inv) (c .before .before .before .before .before .before .before .before .item-at .result) (c .before .before .before .before .before .before .before .before .item-at .ensures) (c .before .before .before .before .id .given .0 .0) (ap (λ (x : Answer ℕ). asFate x) (ap toldReference (sym (c .before .before .before .before .id .given .1)) ∙ c .before .before .before .before .before .before .parse-ref .ensures)) in
+    let (l, k) = refs-reading-here b (unitsBy s find (valuesIn (c .before .before .before .before .before .before .before .before .before .loop .u))) (unitsBy s find defaults (idsOf b)) (c .before .before .before .before .before .before .before .before .before .loop .i) (c .before .before .before .before .before .before .before .before .before .loop .inv) (c .before .before .before .before .before .before .before .before .item-at .result) (c .before .before .before .before .before .before .before .before .item-at .ensures) (c .before .before .before .before .id .given .0 .0) (ap (λ (x : Answer ℕ). asFate x) (ap toldReference (sym (c .before .before .before .before .id .given .1)) ∙ c .before .before .before .before .before .before .parse-ref .ensures)) in
     ap toldUnits (c .enum-told2 .given .1) ∙ units-bad s find (valuesIn (c .before .before .before .before .before .before .before .before .before .loop .u)) (c .before .before .before .before .id .given .0 .0) l (ap toldUnits (sym (c .enum-told2 .given .1)) ∙ c .before .before .one-unit .ensures) ∙ k
 
 returns-3 : tie.Need-returns-3 Inv-loop μ-loop
 returns-3 c = let a = c .before .before .before .before .before .before .before .before .before .before .before .before .before .before .before .before .before .args in let s = now (a .file) in let b = now (a .b) in let find = findOf s (rowFor (now (a .rows)) (now (a .slots)) (a .t .ids)) in
-    units-last s find (valuesIn (c .before .before .before .before .before .before .before .before .before .before .before .loop .u)) (c .before .before .before .before .before .before .id .given .0 .0) (ap toldUnits (sym (c .before .before .r .given .1)) ∙ c .before .before .before .before .one-unit .ensures) ∙ reading-last b (unitsBy s find (valuesIn (c .before .before .before .before .before .before .before .before .before .before .before .loop .u))) (unitsBy s find defaults (idsOf b)) (c .before .before .before .before .before .before .before .before .before .before .before .loop .i) (c .before .before .before .before .before .before .before .before .before .before .before .loop .inv) (c .before .before .before .before .before .before .before .before .before .before .item-at .result) (c .before .before .before .before .before .before .before .before .before .before .item-at .ensures) (c .before .before .before .before .before .before .id .given .0 .0) (ap (λ (x : Answer ℕ). asFate x) (ap toldReference (sym (c .before .before .before .before .before .before .id .given .1)) ∙ c .before .before .before .before .before .before .before .before .parse-ref .ensures)) (c .if1 .taken)
+    units-last s find (valuesIn (c .before .before .before .before .before .before .before .before .before .before .before .loop .u)) (c .before .before .before .before .before .before .id .given .0 .0) (ap toldUnits (sym (c .before .before .r .given .1)) ∙ c .before .before .before .before .one-unit .ensures) ∙ refs-reading-last b (unitsBy s find (valuesIn (c .before .before .before .before .before .before .before .before .before .before .before .loop .u))) (unitsBy s find defaults (idsOf b)) (c .before .before .before .before .before .before .before .before .before .before .before .loop .i) (c .before .before .before .before .before .before .before .before .before .before .before .loop .inv) (c .before .before .before .before .before .before .before .before .before .before .item-at .result) (c .before .before .before .before .before .before .before .before .before .before .item-at .ensures) (c .before .before .before .before .before .before .id .given .0 .0) (ap (λ (x : Answer ℕ). asFate x) (ap toldReference (sym (c .before .before .before .before .before .before .id .given .1)) ∙ c .before .before .before .before .before .before .before .before .parse-ref .ensures)) (c .if1 .taken)
 
 add-i : tie.Need-add-i Inv-loop μ-loop
 add-i c = omega (arith, c .before .before .before .before .before .before .before .before .before .before .item-at .ensures .within, c .before .before .before .before .before .before .before .before .before .before .before .before .before .before .before .before .before .good .1 .1 .1 .1 .0 .1)
@@ -55,7 +55,7 @@ loop-less c = omega (arith, c .before .before .before .before .before .before .b
 
 loop-again : tie.Need-loop-again Inv-loop μ-loop
 loop-again c = let a = c .before .before .before .before .before .before .before .before .before .before .before .before .before .before .before .before .before .args in let s = now (a .file) in let b = now (a .b) in let find = findOf s (rowFor (now (a .rows)) (now (a .slots)) (a .t .ids)) in
-    reading-goes b (unitsBy s find (valuesIn (c .before .before .before .before .before .before .before .before .before .before .before .loop .u))) (unitsBy s find defaults (idsOf b)) (c .before .before .before .before .before .before .before .before .before .before .before .loop .i) (c .before .before .before .before .before .before .before .before .before .before .before .loop .inv) (c .before .before .before .before .before .before .before .before .before .before .item-at .result) (c .before .before .before .before .before .before .before .before .before .before .item-at .ensures) (c .before .before .before .before .before .before .id .given .0 .0) (ap (λ (x : Answer ℕ). asFate x) (ap toldReference (sym (c .before .before .before .before .before .before .id .given .1)) ∙ c .before .before .before .before .before .before .before .before .parse-ref .ensures)) (unitsBy s find (valuesIn (c .before .before .r .given .0 .0))) (units-more s find (valuesIn (c .before .before .before .before .before .before .before .before .before .before .before .loop .u)) (c .before .before .before .before .before .before .id .given .0 .0) (ap toldUnits (sym (c .before .before .r .given .1)) ∙ c .before .before .before .before .one-unit .ensures)) (omega (arith, c .before .before .before .before .before .before .before .before .before .before .item-at .ensures .within, c .if1 .left))
+    refs-reading-goes b (unitsBy s find (valuesIn (c .before .before .before .before .before .before .before .before .before .before .before .loop .u))) (unitsBy s find defaults (idsOf b)) (c .before .before .before .before .before .before .before .before .before .before .before .loop .i) (c .before .before .before .before .before .before .before .before .before .before .before .loop .inv) (c .before .before .before .before .before .before .before .before .before .before .item-at .result) (c .before .before .before .before .before .before .before .before .before .before .item-at .ensures) (c .before .before .before .before .before .before .id .given .0 .0) (ap (λ (x : Answer ℕ). asFate x) (ap toldReference (sym (c .before .before .before .before .before .before .id .given .1)) ∙ c .before .before .before .before .before .before .before .before .parse-ref .ensures)) (unitsBy s find (valuesIn (c .before .before .r .given .0 .0))) (units-more s find (valuesIn (c .before .before .before .before .before .before .before .before .before .before .before .loop .u)) (c .before .before .before .before .before .before .id .given .0 .0) (ap toldUnits (sym (c .before .before .r .given .1)) ∙ c .before .before .before .before .one-unit .ensures)) (omega (arith, c .before .before .before .before .before .before .before .before .before .before .item-at .ensures .within, c .if1 .left))
 
 pub units-from-spec : {M : Type 1} → statement M
 units-from-spec =

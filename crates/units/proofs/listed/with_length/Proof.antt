@@ -1,6 +1,6 @@
 use borrow.Author.Needs.{needs}
 use mathlib.Core.Path.{sym, ap}
-use Rattle.factors.specs.Thing.{goodBy}
+use Rattle.factors.specs.SeenRecords.{goodBy}
 use Rattle.factors.specs.Answer.{toldFactor}
 use Rattle.factors.specs.declared.Factor.{Factor}
 use Rattle.units.specs.Answer.{withLength, valuesIn}

@@ -1,7 +1,0 @@
-pub mod Half
-pub mod Cut
-pub mod Rounding
-pub mod Window
-pub mod Drops
-pub mod Bits
-pub mod Only

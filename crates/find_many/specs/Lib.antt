@@ -1,0 +1,4 @@
+pub mod Only
+pub mod Finds
+pub mod Hints
+pub mod Sweep

@@ -1,4 +1,0 @@
-pub mod Only
-pub mod Finds
-pub mod Looks
-pub mod Sweep

@@ -1,0 +1,11 @@
+pub mod Number
+pub mod Digits
+pub mod DigitsRight
+pub mod RoomFraction
+pub mod ScaledRight
+pub mod Pattern
+pub mod Steps
+pub mod Far
+pub mod DigitsInRoom
+pub mod Only
+pub mod Examples

@@ -1,0 +1,4 @@
+pub mod KeptRows
+pub mod Laws
+pub mod KeptRowsRight
+pub mod Only

@@ -1,4 +1,0 @@
-pub mod Reach
-pub mod Long
-pub mod Pattern
-pub mod Tens

@@ -1,0 +1,4 @@
+pub mod Reach
+pub mod LongArithmetic
+pub mod Pattern
+pub mod Tens
