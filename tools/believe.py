@@ -297,7 +297,7 @@ sentences stand above them, and then its public contracts. Where a contract or a
 'By theorems' says which theorems tie it: that it is what a definition listed here says, and that there is no other answer. Of a theorem
 the statement is to be read, and not the proof; all that are of this kind are listed with their places. Three go only so far: for id slots
 that the index did not leave, `found-safe` says that what is served has the id, and `index/specs/Search` alone says what that is; `role-of-is`
-and `things-are` speak of records whose parts read, and of tables that a scan left.
+and `seen-records-are` speak of records whose parts read, and of tables that a scan left.
 
 `tools/believe.py` writes this page from the tree, and says where it does not hold: in a file that is listed nothing is a law or a
 proof, and its definitions and the contracts of public functions name only what the libraries have, the types of the code (`declared`),

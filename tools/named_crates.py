@@ -14,8 +14,8 @@ import sys
 ROOT = os.path.dirname(os.path.dirname(os.path.abspath(__file__)))
 KIT = ['io', 'libc', 'os', 'bytes', 'check']
 # Crates that declare a type of which a function has a value and no name: the fields of `r` are read in `HeaderFound::Span(r)`,
-# and a kind goes from `plain::kind_by` to `parts::complex_part`.
-REACHED = {'export_records': ['statement', 'kinds'], 'turns': ['error', 'input']}
+# and a kind goes from `host_numbers::kind_by` to `parts::complex_part`.
+REACHED = {'export_records': ['statement', 'kinds'], 'compare_output': ['error', 'input']}
 
 
 def text_of(crate):

@@ -87,7 +87,7 @@ module _ {s b : List ℕ} {m n : ℕ} (w : BytesBetween s m n b) where
   window-parts rel h = rw (w .shape, ← w .ends, ← w .starts) (h (w .front) (w .back))
 
 -- ---- what follows a part's arguments
--- "its `)` ends the part": no digit stands at the end of any of these parts' arguments
+-- "its `)` ends the part": no digit stands just behind any of these parts' arguments
 abbrev Shut : List ℕ → List HeaderRow → Type 0
 Shut s [] = Unit {0}
 Shut s (p ∷ ps) = NotFirst digit (drop (p .argEnd) s) × Shut s ps

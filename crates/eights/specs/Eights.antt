@@ -26,7 +26,7 @@ joinedOf bs = fieldsBy 8 (λ (b : ℕ). b) bs
 abbrev pub eightOf : ℕ → ℕ → ℕ → ℕ → ℕ → ℕ → ℕ → ℕ → List ℕ
 eightOf a b c d e f g h = a ∷ b ∷ c ∷ d ∷ e ∷ f ∷ g ∷ h ∷ []
 
--- a test answers r, which tells whether A holds
+-- what a test tells of A: true that A holds, false that it does not
 abbrev pub TestSays : Bool → Type 0 → Type 0
 TestSays true A = A
 TestSays false A = A → ⊥

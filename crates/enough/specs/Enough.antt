@@ -66,7 +66,7 @@ module _ (s : List ℕ) (c : Needs) (b : Behind s c) where
   abbrev pub RecordParameter : List ℕ → Type 0
   RecordParameter t = Among s (b .table) t
 
-  -- the longest text of a file's parameters is what is told; there is no other such number (lengths/specs/Greatest.greatest-only)
+  -- the longest text of a file's parameters is what is told; there is no other such number (argument_sizes/specs/Greatest.greatest-only)
   pub text-exact : Greatest RecordParameter textLen (c .text)
   text-exact = subst (λ (x : Needs). Greatest RecordParameter textLen (x .text)) (b .counted) (text-most s (b .table))
 

@@ -67,7 +67,7 @@ runOf (good none) = good none
 runOf (good (some p)) = good (some (span (p .argStart) (p .argEnd)))
 runOf (bad q) = bad q
 
--- the arguments of the first part of a kind, by its row and by its piece
+-- the arguments of the first part of a kind, by its row and by its part
 first-run : (s : List ℕ) (k : Kind) (ps : List HeaderRow) → runOf (good (firstKind s k ps)) ≡ good (firstUnitPart k (map (unitPartOf s) ps))
 first-run s k [] = refl
 first-run s k (p ∷ ps) = go (partIsKind s k p) (firstKind s k ps) (firstUnitPart k (map (unitPartOf s) ps)) (first-run s k ps)

@@ -11,7 +11,7 @@ pub found-code : {A : Type 0} (r : Told A) → readCode r ≡ foundCode (mapped 
 found-code (good a) = refl
 found-code (bad q) = refl
 
--- an answer that is read leaves one value in a lent number, also as one that is found
+-- what an answer leaves in a lent value is the same where it is taken as one that may be none
 pub found-value : {A B : Type 0} (f : A → B) (r : Told A) (old : B) → readValue f r old ≡ foundValue f (mapped some r) old
 found-value f (good a) old = refl
 found-value f (bad q) old = refl

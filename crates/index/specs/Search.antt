@@ -66,7 +66,7 @@ unfoldable pub endFrom : ℕ → ℕ → Bool → (ℕ → ℕ) → Bracket → 
 endFrom zero k distinct g b = b .lo
 endFrom (suc n) k distinct g b = turned (bracketTurn k distinct g b) (λ c. endFrom n k distinct g c)
 
--- where the slots up to the id sought end, by as many turns as the bracket's end, which are never all needed (`Looks.end-log`)
+-- where the slots up to the id sought end, by as many turns as the bracket's end, which are never all needed (`LookCount.end-log`)
 abbrev pub searchEnd : ℕ → Bool → (ℕ → ℕ) → Bracket → ℕ
 searchEnd k distinct g b = endFrom (b .hi) k distinct g b
 

@@ -57,7 +57,7 @@ NamedKind LengthMeasureWithUnit = Unit {0}
 NamedKind Complex = ⊥
 NamedKind Other = ⊥
 
--- the kind of a keyword without a search: the one of the ten whose name it is, letters in either case; "all others are `Other`"
+-- the kind of a keyword without a search: the one of the ten whose name it is, letters in either case; all others are `Other`
 pub data KindForm (t : List ℕ) : Kind → Type 0 where
   spelt : (k : Kind) → NamedKind k → Spelt t (nameOf k) → KindForm t k
   other : ((k : Kind) → NamedKind k → Spelt t (nameOf k) → ⊥) → KindForm t Other

@@ -35,7 +35,7 @@ pub record Highest (xs : List ℕ) (n : ℕ) : Type 0 where
   pub same : worth (take n xs) ≡ worth xs
   pub leads : (n ≡ 0) ⊎ (0 < getD xs (n - 1) 0)
 
--- how many binary digits stand below those that a head has
+-- how many binary digits stand below the leading ones
 abbrev pub lower : LeadingDigits → ℕ
 lower r = 32 * r .limbs + r .bits
 

@@ -13,7 +13,7 @@ abbrev pub Unbroken : List ℕ → Type 0
 Unbroken [] = Unit {0}
 Unbroken (b ∷ r) = (b ≡ 10 → ⊥) × Unbroken r
 
--- n whole lines: "a line ends with an LF"
+-- n whole lines, each of which ends with an LF
 pub data Lines : ℕ → List ℕ → Type 0 where
   none : Lines 0 []
   more : {n : ℕ} {r : List ℕ} (l : List ℕ) → Unbroken l → Lines n r → Lines (suc n) (l ++ (10 ∷ r))

@@ -58,7 +58,7 @@ fileSpan a z = record { start = a; end = z }
 abbrev pub spanFine : ℕ → ℕ → ℕ → Bool
 spanFine len a z = leb a z && leb z len
 
--- "9 span outside the file or backwards, 0": what is made of a span, in a file of this length
+-- "9 span [..] outside the file or backwards": what is made of a span, in a file of this length
 abbrev pub spanIn : ℕ → ℕ → ℕ → Told FileSpan
 spanIn len a z = pick (spanFine len a z) (good (fileSpan a z)) (bad (refusal 9 0 0))
 

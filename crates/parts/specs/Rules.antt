@@ -40,7 +40,7 @@ pub record BytesBetween (s : List ℕ) (from end : ℕ) (m : List ℕ) : Type 0 
 
 -- the next part from a place on, without a loop
 pub data NextPartForm (s : List ℕ) (from end : ℕ) : Told (Option HeaderRow) → Type 0 where
-  -- "9 span outside the file"
+  -- "9 span [..] outside the file"
   outside : length s < end → NextPartForm s from end (bad (refusal 9 0 0))
   -- nothing is left before the arguments' end
   done : end ≤ length s → end ≤ from → NextPartForm s from end (good none)
@@ -95,7 +95,7 @@ FirstPart s k ps (some p) = IsFirstPart s k ps p
 pub data ComplexPart (s : List ℕ) (from end c : ℕ) (k : Kind) : Told (Option HeaderRow) → Type 0 where
   -- a record that is not complex has no parts
   simple : (c ≡ 1 → ⊥) → ComplexPart s from end c k (good none)
-  -- "9 span outside the file"
+  -- "9 span [..] outside the file"
   outside : c ≡ 1 → length s < end → ComplexPart s from end c k (bad (refusal 9 0 0))
   -- "or backwards": the arguments end before they start
   backwards : c ≡ 1 → end < from → ComplexPart s from end c k (bad (refusal 9 0 0))

@@ -1,5 +1,5 @@
 -- "that two allowed answers coincide is proved": what a served record tells is one answer of the code. The lent memory after it is one:
--- `opened-only` of store/specs/Only; the units' answer: `units-only` of units/specs/Only. Assumes nothing.
+-- `opened-file-only` of store/specs/Only; the units' answer: `units-only` of units/specs/Only. Assumes nothing.
 use mathlib.Core.Path.{_≡_, refl, sym, _∙_, ap}
 use mathlib.Core.Option.{Option, none, some}
 use Rattle.error.specs.Refusal.{Told, good, bad}

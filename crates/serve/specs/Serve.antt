@@ -30,6 +30,6 @@ toldServed (served.Row w) = good (some (toldRow w))
 toldServed served.Nothing = good none
 toldServed (served.Refused f) = bad (told f)
 
--- the lent memory after a call: what opening the file leaves there, and that is one thing (`opened-only` of store/specs/Only)
+-- the lent memory after a call: what opening the file leaves there, and that is one thing (`opened-file-only` of store/specs/Only)
 abbrev pub OpeningLeaves : List ℕ → List ℕ → List ℕ → List ℕ → List ℕ → List ℕ → List ℕ → Type 0
 OpeningLeaves s heads rows slots heads′ rows′ slots′ = (a : OpenedFile) × OpensFile s heads rows slots a heads′ rows′ slots′

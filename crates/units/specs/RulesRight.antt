@@ -56,13 +56,13 @@ put u (aLength f) = withLength u (some f)
 put u (anAngle f) = withAngle u (some f)
 put u nothing = u
 
--- a listed unit that gives no length factor changes nothing
+-- what a length unit gives, put among a context's units, is `withLength`, with a factor or without
 put-length : (u : Units) (o : Option ℕ) → withLength u o ≡ put u (optionBy nothing aLength o)
 unfolding put
 put-length u none = refl
 put-length u (some f) = refl
 
--- a listed unit that gives no angle factor changes nothing
+-- what an angle unit gives, put among a context's units, is `withAngle`, with a factor or without
 put-angle : (u : Units) (o : Option ℕ) → withAngle u o ≡ put u (optionBy nothing anAngle o)
 unfolding put
 put-angle u none = refl
