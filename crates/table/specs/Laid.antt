@@ -113,17 +113,22 @@ header-is ws old r h =
 pub rows-laid-length : (ws : List Row) (old : List ℕ) → length ws ≤ rowsFit (length old) → length (rowsLaid ws old) ≡ length old
 rows-laid-length = laid-length 6 six (λ v. refl) (omega arith)
 
+-- the memory keeps its length where header rows are laid that fit
 pub headers-laid-length : (ws : List HeaderRow) (old : List ℕ) → length ws ≤ headersFit (length old) → length (headersLaid ws old) ≡ length old
 headers-laid-length = laid-length 4 headerRowNumbers (λ v. refl) (omega arith)
 
+-- after data rows were laid, whether or not they fit, the memory has so many data rows
 pub rows-laid-in : (ws : List Row) (old : List ℕ) → length ws ≤ rowsFit (length (rowsLaid ws old))
 rows-laid-in = laid-in 6 six (λ v. refl) (omega arith)
 
+-- after header rows were laid, whether or not they fit, the memory has so many header rows
 pub headers-laid-in : (ws : List HeaderRow) (old : List ℕ) → length ws ≤ headersFit (length (headersLaid ws old))
 headers-laid-in = laid-in 4 headerRowNumbers (λ v. refl) (omega arith)
 
+-- one data row more is put behind those that were laid
 pub rows-laid-more : (ws : List Row) (w : Row) (old : List ℕ) → length ws < rowsFit (length old) → rowsLaid (ws ++ (w ∷ [])) old ≡ rowPut (rowsLaid ws old) (length ws) w
 rows-laid-more = laid-more 6 six (λ v. refl) (omega arith)
 
+-- one header row more is put behind those that were laid
 pub headers-laid-more : (ws : List HeaderRow) (w : HeaderRow) (old : List ℕ) → length ws < headersFit (length old) → headersLaid (ws ++ (w ∷ [])) old ≡ headerPut (headersLaid ws old) (length ws) w
 headers-laid-more = laid-more 4 headerRowNumbers (λ v. refl) (omega arith)
