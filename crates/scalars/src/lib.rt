@@ -3,12 +3,10 @@
 // As the readers `next_..` of the Rust's value.rs that give one value. Each cuts the next parameter and reads its bytes; a parameter
 // that is none of its kind is passed all the same, and the refusal stands at its start.
 ghost use mathlib.Core.Path.{_≡_};
-ghost use mathlib.Core.Bool.{true, false, not};
 ghost use Prim.Native.Nat.{_+_, _-_, _≤_, _<_};
 ghost use lib.ListN.{length, take, drop};
-ghost use lib.Dec.{eqb};
 ghost use Rattle.lex.specs.Byte.{white};
-ghost use Rattle.record.specs.Text.{past, trail};
+ghost use Rattle.record.specs.Text.{past};
 ghost use Rattle.record.specs.Word.{trimmed};
 ghost use Rattle.reals.specs.Scalar.{referenceOf, wholeOf, realOf};
 ghost use Rattle.reals.specs.Which.{realBy};
@@ -72,22 +70,6 @@ pub enum NextTruth {
     Refused(Fault, State),
 }
 
-// The place after the last byte from `from` on that is not white, or `from`. From the end, since most texts end in no whitespace.
-fn trail_from(b: &[u8], from: usize) -> usize
-    requires { ⌜ from ≤ length (now b) ⌝ }
-    ensures { λ r. ⌜ drop r (now (b .entry)) ≡ trail (drop from (now (b .entry))) ⌝ }
-    ensures { λ r. ⌜ (from ≤ r) × (r ≤ length (now (b .entry))) ⌝ }
-{
-    let mut e = b.len();
-    while from < e {
-        if !lex::is_space(b[e - 1]) {
-            return e;
-        }
-        e -= 1;
-    }
-    e
-}
-
 // What is left of a text without the whitespace at its ends.
 pub fn trim(b: &[u8]) -> TextPart
     ensures { λ r. ⌜ drop (r .start) (now (b .entry)) ≡ past white (now (b .entry)) ⌝ }
@@ -95,7 +77,7 @@ pub fn trim(b: &[u8]) -> TextPart
     ensures { λ r. ⌜ (r .start ≤ r .stop) × (r .stop ≤ length (now (b .entry))) ⌝ }
 {
     let start = record::leading_space(b);
-    let stop = trail_from(b, start);
+    let stop = record::trail_at(b, start);
     TextPart { start, stop }
 }
 
