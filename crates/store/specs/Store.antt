@@ -9,8 +9,7 @@ use Rattle.error.specs.Refusal.{Told, good, bad, told}
 use Rattle.table.specs.Table.{idOf}
 use Rattle.statement.specs.Rows.{mapped}
 use Rattle.scan.specs.Records.{Table}
-use Rattle.scan.specs.File.{scanOf}
-use Rattle.scan.specs.ScanMemory.{headerRoom, dataRoom, headersAfter, rowsAfter, Counts, counts, countsOf}
+use Rattle.scan.specs.ScanMemory.{scanLent, headersAfter, rowsAfter, Counts, counts, countsOf}
 use Rattle.index.specs.Index.{Built}
 use Rattle.store.specs.declared.OpenedFile.{OpenedFile}
 use Rattle.store.specs.declared.OpenedFile.the-variants.{Good, Refused}
@@ -27,7 +26,7 @@ Indexed (Refused f) rows old new = new ≡ old
 
 -- the scan of a file into these lent header rows, data rows and slots
 abbrev pub scanInto : List ℕ → List ℕ → List ℕ → List ℕ → Told Table
-scanInto s heads rows slots = scanOf s (headerRoom heads) (dataRoom rows (length slots))
+scanInto s heads rows slots = scanLent s heads rows (length slots)
 
 -- all that `open` promises of its answer and of the lent header rows, data rows and slots after it
 pub record OpensFile (s heads rows slots : List ℕ) (a : OpenedFile) (heads′ rows′ slots′ : List ℕ) : Type 0 where
