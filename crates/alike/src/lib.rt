@@ -2,3 +2,5 @@
 // on where in the file they stand: specs/.
 //
 // It has no code: it stands above the crates whose definitions it speaks of.
+
+#![tactic(auto)]

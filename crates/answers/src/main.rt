@@ -1,6 +1,8 @@
 // Answers a run of cases, for the comparison with the Rust original: each case of up to 1 MiB where the stack limit allows the rooms for it
 // (`ulimit -s`; the script `step` raises it), and of up to 256 KiB where it does not.
 
+#![tactic(auto)]
+
 use input::{
     CHUNK, MIDDLE_CHARS, MIDDLE_ENDS, MIDDLE_FILE, MIDDLE_HEADERS, MIDDLE_NUMBERS, MIDDLE_REFS,
     MIDDLE_ROWS, MIDDLE_SLOTS, SMALL_CHARS, SMALL_ENDS, SMALL_FILE, SMALL_HEADERS, SMALL_NUMBERS,

@@ -3,6 +3,8 @@
 // As `Args` of the Rust's value.rs. Each reader takes the struct apart, calls the function of the by-value core that does the work, and
 // puts the reader where the answer leaves it. No function over such a struct is covered: each is proved by a walk of its code, so they
 // are thin, and what can be said without the struct stands below it.
+#![tactic(auto)]
+
 ghost use Rattle.std.specs.Prelude.{◌≡◌};
 ghost use Rattle.reals.specs.Scalar.{reference_of, whole_of, real_of};
 ghost use Rattle.params.specs.Skips.{skip_of, skips_of, empty_of};

@@ -2,6 +2,8 @@
 //
 // The arguments are walked as the argument reader walks them, and those of a complex record part by part too. Items are counted whatever
 // they read as.
+#![tactic(auto)]
+
 ghost use Rattle.std.specs.Prelude.{◌≡◌, max};
 ghost use Rattle.argument_sizes.specs.Lengths.{grid_len, sizes_of, args_of, part_sizes_of, record_sizes_of};
 ghost use Rattle.argument_sizes.specs.Rules.{text_len, items_len, greater_sizes};

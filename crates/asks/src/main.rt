@@ -2,6 +2,8 @@
 // record, 14, `skip_n` and `is_empty`, rooms that are too short, spans outside the file, kept rows. The rows are shown as they are read
 // again from what was kept. Its lines are compared with those of the Rust original's driver (differential/README.md, `asks`).
 
+#![tactic(auto)]
+
 use input::{CHUNK, SMALL_FILE, SMALL_HEADERS, SMALL_KEPT, SMALL_ROWS, SMALL_SLOTS};
 
 // Of lists and grids one number is read.

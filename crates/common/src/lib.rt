@@ -1,6 +1,8 @@
 // What every layer uses and none owns: the lesser and the greater of two numbers, a number as a place, a share.
 //
 // `specs/Pick` has the branch of all definitions, `specs/Compare` and `specs/Lists` the laws that go with no crate's subject.
+#![tactic(auto)]
+
 ghost use Rattle.std.specs.Prelude.{◌≡◌, ◌-◌, ◌*◌, ◌/◌, ◌%◌, ◌^◌, min, max};
 
 // A start, or the end where the start lies past it.

@@ -3,6 +3,8 @@
 // A case is its length in decimal, LF and so many bytes of standard input. Where the program has arguments, each names a
 // file that is one case; but the word `--replay` says that the run is the gate's, of standard input. A room for a file has one byte
 // more than the longest case that it takes.
+#![tactic(auto)]
+
 use input::{Brought, Feed, NumberLine};
 
 // What became of a case: it is there; there is no further one; no length stands where it should; the input ends inside it; it is longer

@@ -3,6 +3,8 @@
 //
 // A case stands at a stage of its course. Each line, or piece of one, is a value, and tells by itself where the case then stands. Nothing
 // is written here. What was read into a lent room is told by values too (`rooms`).
+#![tactic(auto)]
+
 mod asked;
 mod course;
 mod patterns;

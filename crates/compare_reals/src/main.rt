@@ -3,6 +3,8 @@
 // a real outside the class. For the comparison with Rust's own reading of decimals.
 //
 // A line is all bytes up to an LF, blanks included; the last one may lack its LF. A line of more than 4,096 bytes is not read.
+#![tactic(auto)]
+
 use input::Feed;
 use printing::{Line, Pen};
 use reals::{Real, Reals};

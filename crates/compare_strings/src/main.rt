@@ -4,6 +4,8 @@
 //
 // A line has the string's bytes in hex, two digits a byte; or `ROOM:HEX`, with the room's length in decimal. The room is filled with
 // a mark before: what is not a text's byte must have its mark after.
+#![tactic(auto)]
+
 mod answer;
 mod asked;
 

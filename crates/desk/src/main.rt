@@ -5,6 +5,8 @@
 //   inspect  Says of each exchange file that is named, in a line, whether it is accepted, or where and why it is refused
 //
 // What is to be said of a file is found first, as plain values, and put line by line in one place.
+#![tactic(auto)]
+
 mod command;
 mod lines;
 mod numerals;

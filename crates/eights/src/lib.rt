@@ -3,6 +3,8 @@
 // Their bytes are joined to one number of 64 binary digits, in which each byte has a field of eight. Two tests ask all fields whether they are
 // digits, and three sums put neighbouring fields together: eight digits to four pairs, to two fours, to one number. So no byte waits for the one
 // before it.
+#![tactic(auto)]
+
 ghost use Rattle.std.specs.Prelude.{◌≡◌, [], ◌∷◌, ◌≤◌};
 ghost use Rattle.eights.specs.Eights.{joined_of, DigitsTest, Makes};
 ghost use Rattle.eights.specs.Told.{EightTold};

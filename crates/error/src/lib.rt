@@ -2,6 +2,8 @@
 //
 // A refusal is one case of `Fault`, with the values that the case needs. What number, reason and place document 01
 // gives to it is said once, by `told` of specs/Refusal.antt; the three functions below compute its parts.
+#![tactic(auto)]
+
 ghost use Rattle.std.specs.Prelude.{◌≡◌};
 ghost use Rattle.error.specs.Refusal.{told};
 

@@ -1,5 +1,7 @@
 // The scan, the id index, the argument reader, the reals and the texts for hosts in other languages: slices and numbers only. Used
 // by the benchmarks; a load node's interface grows here.
+#![tactic(auto)]
+
 mod ids;
 mod readers;
 mod real;

@@ -1,5 +1,7 @@
 // The argument reader, for hosts in other languages: its place goes in and comes back. Each function answers 0 or a refusal's number, with
 // the refusal's place in `fault`; what it would have told stays as it was then.
+#![tactic(auto)]
+
 mod arrays;
 mod cuts;
 mod texts;

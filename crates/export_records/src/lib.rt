@@ -1,6 +1,8 @@
 // Header records and their texts, the parts of complex records and kept rows, for hosts in other languages.
 //
 // Each function answers 0 or a refusal's number, and 255 where there is none; what it would have told stays as it was then.
+#![tactic(auto)]
+
 mod header;
 mod keeping;
 mod pieces;

@@ -1,6 +1,8 @@
 // A file's tables, for hosts in other languages: what they need of lent memory, opened into it, and looked up by id, by number and by kind.
 //
 // Each function answers 0 or a refusal's number, and 255 where there is none; what it would have told stays as it was then.
+#![tactic(auto)]
+
 mod by_id;
 mod by_row;
 mod needing;

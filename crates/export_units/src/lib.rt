@@ -1,4 +1,6 @@
 // Units, for hosts in other languages: the file's, and those of one context.
+#![tactic(auto)]
+
 ghost use Rattle.std.specs.Prelude.{◌≡◌};
 ghost use Rattle.units.specs.Answer.{told_units};
 ghost use Rattle.host_numbers.specs.Answers.{HostTold, Puts, PutsReal, PutsFound, PutsFoundReal, read_fault, found_code, truth_number};

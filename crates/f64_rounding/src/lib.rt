@@ -1,4 +1,6 @@
 // Rounding: a number that was cut below some binary digits, with whether anything was left below the cut.
+#![tactic(auto)]
+
 ghost use Rattle.std.specs.Prelude.{◌≡◌, ◌/◌, ◌%◌, ◌^◌};
 ghost use Rattle.std.specs.Float.Ieee.{nearest};
 ghost use Rattle.f64_rounding.specs.Half.{against};

@@ -3,6 +3,8 @@
 // As length_factor_to_mm, angle_factor_to_rad, measure_in_mm, si_part and conversion_part of the Rust's units.rs. A factor
 // is an f64; some units have none, and some refuse the whole answer. The chain of conversions is followed by two functions that call
 // each other, the count of conversion units that are left falling.
+#![tactic(auto)]
+
 ghost use Rattle.std.specs.Prelude.{◌≡◌};
 ghost use Rattle.std.specs.Float.{binary64};
 ghost use Rattle.std.specs.Float.Ieee.{to_bits};

@@ -3,6 +3,8 @@
 // A text is shown where it stands in the file, or is written to lent room. It is empty where there is no such header record, where it
 // has too few parameters, and where the parameter is no string; only a room that is too short refuses, and a table that is not the
 // file's.
+#![tactic(auto)]
+
 ghost use Rattle.std.specs.Prelude.{◌≡◌, length};
 ghost use Rattle.headers.specs.Header.{args_found};
 ghost use Rattle.words.specs.Answer.{told_next_text};

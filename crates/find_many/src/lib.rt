@@ -3,6 +3,8 @@
 // Each answer is `index::get`'s, but not each in turn: in a part of the ids the rows that can be told without reading one come first, then
 // all of these are looked at, and the search follows for the ids that are left. A loop that reads and never jumps by what it read lets
 // the processor wait for many lines of memory at once; a search waits for one.
+#![tactic(auto)]
+
 ghost use Rattle.std.specs.Prelude.{◌≡◌, true, false, ◌&&◌, ◌+◌, ◌-◌, ◌*◌, ◌/◌, ◌%◌, ◌≤◌, ◌<◌, min, max, leb, eqb, length, get_or};
 ghost use Rattle.index.specs.Search.{first_row, searched, range_width};
 ghost use Rattle.index.specs.Answer.{told_found_row};

@@ -3,6 +3,8 @@
 // As the Rust's next_ref_grid and next_f64_grid; its rows of rows become one list of numbers and one of row ends. A grid is gone through
 // twice, as a list is: the first time it is only counted, so that a refusal leaves both lent lists alone. A row end is a usize, since
 // it counts the numbers of a file that may have more of them than 32 bits can say.
+#![tactic(auto)]
+
 ghost use Rattle.std.specs.Prelude.{◌≡◌, ◌+◌, ◌-◌, ◌≤◌, ◌<◌, ◌^◌, [], map, length};
 ghost use Rattle.std.specs.Float.{binary64};
 ghost use Rattle.std.specs.Float.Ieee.{to_bits};

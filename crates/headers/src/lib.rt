@@ -1,6 +1,8 @@
 // Header records by keyword, over a table in lent memory.
 //
 // As `header_args` of the Rust's lib.rs. The search over a slice of structs is in the crate `header_structs`.
+#![tactic(auto)]
+
 ghost use Rattle.std.specs.Prelude.{◌≡◌, length};
 ghost use Rattle.std.proofs.Math.Option.{some};
 ghost use Rattle.lookup.specs.Lookup.{told_row_or_none};

@@ -2,6 +2,8 @@
 //
 // A host keeps sixteen numbers beside its lent tables: the first eight belong to the id slots, the next to the tables, and not all of
 // either are used, so that a later one finds room.
+#![tactic(auto)]
+
 mod telling;
 
 ghost use Rattle.std.specs.Prelude.{◌≡◌, ◌%◌, length, get_or, leb};

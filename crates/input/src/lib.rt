@@ -1,4 +1,6 @@
 // What the programs are given: files that arguments name, standard input, how much stack they may use, and the sizes of their rooms there.
+#![tactic(auto)]
+
 mod feed;
 mod limit;
 mod sizes;

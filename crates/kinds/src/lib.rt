@@ -2,6 +2,8 @@
 //
 // As the Rust's kind.rs, with ten of its names: all others are `Other` (docs/DIFFERENCES.md). A complex record has a kind of its
 // own; its parts have kinds by their keywords.
+#![tactic(auto)]
+
 ghost use Rattle.std.specs.Prelude.{◌≡◌, map, eqb};
 ghost use Rattle.common.specs.Bytes.{bytes};
 ghost use Rattle.record.specs.Word.{same_bytes};

@@ -2,6 +2,8 @@
 //
 // A number lies in lent 32-bit digits, the lowest first. It is multiplied or divided by a number of 32 binary digits, in place; and its leading
 // 64 binary digits are told, with whether anything stands below them. That is all that rounding asks of it.
+#![tactic(auto)]
+
 ghost use Rattle.std.specs.Prelude.{◌≡◌, ◌+◌, ◌-◌, ◌*◌, ◌/◌, ◌≤◌, ◌<◌, ◌^◌, length, take, ltb};
 ghost use Rattle.limbs.specs.Worth.{worth, Scaled, Divided, Highest, LeadingDigitsOf};
 

@@ -1,4 +1,6 @@
 // Where a place stands in a file, as an editor counts: the line, and the byte in it. For the programs.
+#![tactic(auto)]
+
 ghost use Rattle.std.specs.Prelude.{◌≡◌, ◌+◌, ◌<◌, eqb};
 ghost use Rattle.line_column.specs.Spot.{choice, breaks, bytes_after_break};
 

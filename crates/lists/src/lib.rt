@@ -4,6 +4,8 @@
 // first time it is only counted, so that a refusal leaves the lent numbers alone, and the second time it is written; short lists of reals
 // are kept from the first time. What a text says as a list, and its items one after another, are there for the crates above, which read
 // lists of lists and lists of any length.
+#![tactic(auto)]
+
 ghost use Rattle.std.specs.Prelude.{◌≡◌, ◌+◌, ◌-◌, ◌≤◌, ◌<◌, ◌^◌, min, [], ◌++◌, map, length, take, drop, set};
 ghost use Rattle.std.specs.Float.{binary64};
 ghost use Rattle.std.specs.Float.Ieee.{to_bits};

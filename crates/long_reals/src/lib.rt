@@ -6,6 +6,8 @@
 // for any number of digits, and no number of the host's is ever rounded.
 //
 // Crate `wide_reals` has a `raised` and a `lowered` with the same answers: they are the fast ones, and call these where they are in doubt.
+#![tactic(auto)]
+
 ghost use Rattle.std.specs.Prelude.{◌≡◌, ◌⊎◌, ◌+◌, ◌-◌, ◌*◌, ◌/◌, ◌≤◌, ◌<◌, ◌^◌, min, length, take, drop};
 ghost use Rattle.std.specs.Float.{binary64};
 ghost use Rattle.std.specs.Float.Ieee.{to_bits};

@@ -3,6 +3,8 @@
 // As `get`, `require`, `args`, `by_kind` and their like of the Rust's lib.rs. The tables are lent slices of numbers,
 // and what goes with them is one struct by value. Tables that are not what the scan and the index left are answered too: what is
 // served lies in the table, and a span outside the file is 9.
+#![tactic(auto)]
+
 ghost use Rattle.std.specs.Prelude.{◌≡◌, ◌-◌, eqb, length};
 ghost use Rattle.index.specs.Search.{searched};
 ghost use Rattle.statement.specs.Rows.{told_row};

@@ -2,6 +2,8 @@
 //
 // What "nearest, ties to even" means is said once, by `IsNearest` of specs/Nearest.antt: no float stands in that definition, only
 // bit patterns and whole numbers. `near` of specs/Near.antt computes it. A float is told by its bit pattern, every NaN as one.
+#![tactic(auto)]
+
 ghost use Rattle.std.specs.Prelude.{◌≡◌};
 ghost use Rattle.std.specs.Float.{binary64};
 ghost use Rattle.std.specs.Float.Ieee.{to_bits};

@@ -3,6 +3,8 @@
 //
 // A host asks this once, lends tables and lists of just this size, and no function then answers 8, nor 16 for a list, a grid or a text; what a
 // reader finds that is set into a list aside, as the strings inside lists, for which a host asks `hooflift_text_length`.
+#![tactic(auto)]
+
 ghost use Rattle.std.specs.Prelude.{◌≡◌, max, length};
 ghost use Rattle.statement.specs.Rows.{mapped};
 ghost use Rattle.scan.specs.File.{reading_of};

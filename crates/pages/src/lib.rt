@@ -1,6 +1,8 @@
 // The code pages that a string may name: document 02's #109, ISO 8859-1 to 8859-9 by the letters A to I.
 //
 // A page is a number from 0, page A, to 8, page I. What a string does with it is crate strings' to say.
+#![tactic(auto)]
+
 mod tables;
 
 ghost use Rattle.std.specs.Prelude.{◌≡◌, ◌+◌, ◌<◌};

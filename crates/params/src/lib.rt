@@ -3,6 +3,8 @@
 // As `Args` of the Rust's value.rs down to param_span, with the file as a parameter and the reader's place and end in a struct that
 // goes in and comes back. What is cut is read by the crates above. Nothing past the reader's end is looked at: all works on the bytes
 // up to it, so that places are the file's.
+#![tactic(auto)]
+
 ghost use Rattle.std.specs.Prelude.{◌≡◌, true, false, ◌&&◌, ◌+◌, ◌-◌, ◌≤◌, ◌<◌, ◌^◌, min, length, take, drop};
 ghost use Rattle.params.specs.ParameterEnd.{cut_of, started};
 ghost use Rattle.params.specs.Seek.{Standing, StandingAtByte, ParamStep, search_from};

@@ -2,6 +2,8 @@
 //
 // As `complex_parts` and `complex_part` of the Rust's lib.rs, without its list: a part is asked for from a place on, and the next
 // one from the place after its `)`.
+#![tactic(auto)]
+
 ghost use Rattle.std.specs.Prelude.{◌≡◌, ◌+◌, ◌-◌, ◌≤◌, ◌<◌, length, take, drop};
 ghost use Rattle.record.specs.Text.{past};
 ghost use Rattle.statement.specs.Rows.{header_row, mapped, header_row_of};

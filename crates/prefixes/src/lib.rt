@@ -1,4 +1,6 @@
 // The SI prefixes' factors. As the Rust's si_prefix_factor.
+#![tactic(auto)]
+
 ghost use Rattle.std.specs.Prelude.{◌≡◌};
 ghost use Rattle.std.specs.Float.{binary64};
 ghost use Rattle.std.specs.Float.Ieee.{to_bits};

@@ -3,6 +3,8 @@
 // A pen says how far the buffer is used. Each function puts something behind what the buffer holds and answers the pen
 // after it; where the buffer is full, what it holds is written to standard output first. No contract can say what a
 // system call writes, so the contracts say what the buffer holds.
+#![tactic(auto)]
+
 mod digits;
 mod patterns;
 mod refusal;

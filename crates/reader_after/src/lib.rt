@@ -1,4 +1,6 @@
 // Where an answer of the by-value core leaves the reader: one function for each of its enums. The carrying reader stores what they give.
+#![tactic(auto)]
+
 ghost use Rattle.std.specs.Prelude.{◌≡◌};
 ghost use Rattle.params.specs.Answer.{told_skipped, told_emptiness, told_opened_reader};
 ghost use Rattle.scalars.specs.Answer.{told_next_ref, told_next_opt_ref, told_next_whole, told_next_real, told_next_opt_real, told_next_truth};

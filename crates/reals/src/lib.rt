@@ -4,6 +4,8 @@
 // the float's reading as own code. Of the class, most reals are one product or quotient of two exact f64s, so that they are rounded once, and the
 // crate `nearest` says what that gives; the others of the class are answered by the crate `wide_reals`. Where any real is asked for, whole numbers alone
 // answer it: up to nineteen digits by `wide_reals`, more by `long_reals`.
+#![tactic(auto)]
+
 ghost use Rattle.std.specs.Prelude.{◌≡◌, ◌+◌, ◌*◌, ◌-◌, ◌≤◌, ◌<◌, ◌^◌, min, true, false, ◌&&◌, length, drop};
 ghost use Rattle.std.specs.Float.{binary64};
 ghost use Rattle.std.specs.Float.Ieee.{to_bits};

@@ -2,6 +2,8 @@
 //
 // As the second half of the Rust's scan.rs. Each function takes the record's text alone, from its first byte up to its `;`, so
 // what a record says cannot depend on what stands around it; places count from the record's start.
+#![tactic(auto)]
+
 ghost use Rattle.std.specs.Prelude.{◌≡◌, true, false, ◌≤◌, ◌<◌, min, length, drop};
 ghost use Rattle.lex.specs.Byte.{white};
 ghost use Rattle.record.specs.Text.{past, trail, keyword, Numbered, KeyedAt};

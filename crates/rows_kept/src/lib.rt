@@ -2,6 +2,8 @@
 //
 // The kept form is row by row, 24 bytes a row, and this crate's own; how the rows lie in lent memory only `table` knows. Writing and
 // reading go over the rows twice, first to decide, then to write, so that a refusal changes nothing that was lent. 9 comes before 16.
+#![tactic(auto)]
+
 ghost use Rattle.std.specs.Prelude.{◌≡◌, ◌+◌, ◌*◌, ◌≤◌, ◌<◌, length};
 ghost use Rattle.std.proofs.lemmas.List.Edits.{sets};
 ghost use Rattle.statement.specs.Rows.{told_row};

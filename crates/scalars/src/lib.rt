@@ -2,6 +2,8 @@
 //
 // As the readers `next_..` of the Rust's value.rs that give one value. Each cuts the next parameter and reads its bytes; a parameter
 // that is none of its kind is passed all the same, and the refusal stands at its start.
+#![tactic(auto)]
+
 ghost use Rattle.std.specs.Prelude.{◌≡◌, ◌+◌, ◌-◌, ◌≤◌, ◌<◌, length, take, drop};
 ghost use Rattle.lex.specs.Byte.{white};
 ghost use Rattle.record.specs.Text.{past};

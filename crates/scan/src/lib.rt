@@ -2,6 +2,8 @@
 //
 // As `scan` of the Rust's scan.rs. The file is read twice, first to decide and count, then to write, so that a refusal
 // changes nothing that was lent. Nothing is sized by an id: a record takes one row and one id slot, whatever its number.
+#![tactic(auto)]
+
 ghost use Rattle.std.specs.Prelude.{◌≡◌, true, false, ◌+◌, ◌≤◌, ◌<◌, min, max, length, take, drop};
 ghost use Rattle.common.specs.Pick.{pick};
 ghost use Rattle.lex.specs.Byte.{white};

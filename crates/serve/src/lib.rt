@@ -2,6 +2,8 @@
 //
 // The contracts speak of the file alone, by the definitions of document 01: of no index and no table that somebody may have changed
 // in between. What the lent memory holds afterwards is what opening the file left.
+#![tactic(auto)]
+
 ghost use Rattle.std.specs.Prelude.{◌≡◌};
 ghost use Rattle.params.specs.Answer.{onward};
 ghost use Rattle.store.specs.Store.{scan_into};

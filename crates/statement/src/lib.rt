@@ -2,6 +2,8 @@
 //
 // As the middle of the Rust's scan.rs: the body of the loop of `scan`, and the records that it reads. A statement is read
 // from a place in a section; whether there is a row left for it is for the scan to say.
+#![tactic(auto)]
+
 ghost use Rattle.std.specs.Prelude.{◌≡◌, true, false, ◌+◌, ◌-◌, ◌≤◌, ◌<◌, eqb, length, take, drop, get_or};
 ghost use Rattle.lex.specs.Byte.{white};
 ghost use Rattle.lex.specs.Search.{trivia};

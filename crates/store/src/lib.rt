@@ -1,6 +1,8 @@
 // A file opened: scanned into lent rows, and its ids indexed in the lent slots.
 //
 // As `StepFile::from_bytes` of the Rust's lib.rs. What goes with the lent tables is one struct by value.
+#![tactic(auto)]
+
 ghost use Rattle.std.specs.Prelude.{◌≡◌};
 ghost use Rattle.statement.specs.Rows.{mapped};
 ghost use Rattle.scan.specs.ScanMemory.{counts_of, headers_after, rows_after};

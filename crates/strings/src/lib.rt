@@ -7,6 +7,8 @@
 // is read from a slice that starts at it and is not looked at again, but for the groups before a bad one: these are hex digits alone,
 // and no directive begins with a backslash and a hex digit, so that they are read twice and no more, and the time grows with the
 // length.
+#![tactic(auto)]
+
 ghost use Rattle.std.specs.Prelude.{◌≡◌, [], ◌∷◌, true, false, ◌&&◌, ℕ, ◌+◌, ◌*◌, ◌-◌, ◌≤◌, ◌<◌, min, eqb, length, take, drop};
 ghost use Rattle.std.proofs.Math.Seq.{paste};
 ghost use Rattle.common.specs.Pick.{pick};

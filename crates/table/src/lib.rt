@@ -3,6 +3,8 @@
 // Data rows of six numbers and header rows of four, row by row, in document 01's order. How many fit, the id of a row, a row read and a
 // row put: no other crate knows a width or an offset. Every function answers for any memory and any row: a row that the memory has not
 // reads as zeros, and putting it changes nothing.
+#![tactic(auto)]
+
 ghost use Rattle.std.specs.Prelude.{◌≡◌, ◌+◌, ◌*◌, ◌≤◌, ◌<◌, min, ltb, [], length};
 ghost use Rattle.std.proofs.lemmas.List.Edits.{sets};
 ghost use Rattle.common.specs.Pick.{JustWhere};

@@ -2,6 +2,8 @@
 //
 // As memchr, string_end and find_comment_end of the Rust's scan.rs and value.rs. A byte and a string's end are sought by `lex`. No function
 // has a `requires`: a start past the end counts as the end.
+#![tactic(auto)]
+
 ghost use Rattle.std.specs.Prelude.{◌≡◌, ◌+◌, ◌≤◌, min, length, drop};
 ghost use Rattle.tokens.specs.TokenRests.{string_rest, comment_rest};
 ghost use Rattle.tokens.specs.Answer.{from_byte, heads_with, told_token_end, TokenEndIn};

@@ -2,6 +2,8 @@
 //
 // As the Rust's units.rs, above the factors of single units. The first context whose units give a length factor decides. Unit and
 // uncertainty lists have any length: no room is lent for them, and each is gone through twice, first to see that it reads whole.
+#![tactic(auto)]
+
 mod listed;
 mod role;
 

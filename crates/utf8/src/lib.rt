@@ -1,5 +1,7 @@
 // UTF-8 (RFC 3629): the character that bytes begin with, whether bytes are UTF-8, the width of a character's encoding, and the
 // encoding put into lent room. No function has a `requires`: a number that is no character has an empty encoding.
+#![tactic(auto)]
+
 ghost use Rattle.std.specs.Prelude.{◌≡◌, ◌+◌, ◌≤◌, ◌<◌, length, true};
 ghost use Rattle.std.proofs.lemmas.List.Edits.{sets};
 ghost use Rattle.utf8.specs.Utf8.{scalar, encode, byte_at, tail, least_second, highest, second_in_range, lead_two, lead_three, lead_four, lead_of, valid_of};

@@ -7,6 +7,8 @@
 // is farther, or left in doubt there, goes the long path. No table is believed: the proof computes each entry.
 //
 // So `raised` and `lowered` are the fast ones, and call those of `long_reals`, which have the same answers, where they are in doubt.
+#![tactic(auto)]
+
 ghost use Rattle.std.specs.Prelude.{◌≡◌, Bool, ◌+◌, ◌-◌, ◌*◌, ◌/◌, ◌%◌, ◌≤◌, ◌<◌, ◌^◌};
 ghost use Rattle.std.specs.Float.{binary64};
 ghost use Rattle.std.specs.Float.Ieee.{to_bits};

@@ -2,6 +2,8 @@
 //
 // A name is a part of the file. A text is a part of the file, where nothing in it stands for something else, or else is written to
 // lent room; `shown` gives the bytes of either.
+#![tactic(auto)]
+
 ghost use Rattle.std.specs.Prelude.{◌≡◌, ◌+◌, ◌-◌, ◌≤◌, length, take, drop};
 ghost use Rattle.params.specs.Reader.{param_of};
 ghost use Rattle.params.specs.Answer.{reading, read_mapped, span};

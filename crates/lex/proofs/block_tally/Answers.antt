@@ -1,0 +1,24 @@
+use Rattle.lex.specs.PassedAtOnce.{BlockCounted, block_counted_none, block_counted_next}
+use mathlib.Core.Path.{◌≡◌}
+use mathlib.Core.Bool.{false, ◌||◌}
+use Prim.Native.Nat.{◌+◌, ◌-◌, ◌≤◌}
+use native.Mathlib.Omega.{arith}
+use borrow.Author.Rules.{rules}
+use Rattle.lex.proofs.block_tally.Goals as goal
+
+pub loop-k-init : goal.loop-k-init
+loop-k-init c = (omega arith, omega arith, omega arith, λ z. block_counted_none c.args.s.now c.args.at (c.args.at + 0) (omega arith))
+
+pub loop-k-preserved : goal.loop-k-preserved
+loop-k-preserved c = let l = c.loop-k in
+    let a = c.args in
+    let e : a.at + (l.k + 1) ≡ a.at + l.k + 1 = omega arith in (
+      omega arith,
+      omega arith,
+      omega arith,
+      λ z. rw (e, c.one_if-up.ensures.value, c.one_if-down.ensures.value) (block_counted_next a.s.now a.at (a.at + l.k) l.up l.down l.quote l.slash (omega arith) l.invariant.3 z),
+    )
+
+pub returns : goal.returns
+returns c = let l = c.loop-k in
+    let e : l.k ≡ 64 = omega (arith, l.invariant.0) in record { up_bound = (omega (arith, l.invariant.1), omega (arith, l.invariant.2)); block_counted = λ z. rw e at (l.invariant.3 z) }

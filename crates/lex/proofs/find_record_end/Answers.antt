@@ -1,0 +1,62 @@
+use Rattle.lex.specs.PassedAtOnce.{left_to_search, blocks_less, bytes_less}
+use Rattle.lex.specs.Seek.{drop_within, seek_halts_at}
+use Rattle.lex.specs.Search.{seen, seek_turn, semicolon, missed, record_end}
+use Rattle.lex.specs.Answer.{placed}
+use Rattle.common.specs.Walk.{walk_ends}
+use Rattle.lex.specs.Place.{place_drop}
+use Rattle.lex.specs.Right.Steps.{plainly}
+use Rattle.error.specs.Refusal.{good, bad, refusal}
+use Rattle.lex.specs.declared.Mode.TheVariants.{Plain}
+use borrow.Author.Tests.{eq-eqb, ne_eqb}
+use lib.ListN.{length, drop}
+use mathlib.Core.Path.{◌≡◌, refl, sym, ◌∙◌, ap}
+use Prim.Native.Nat.{ℕ, ◌≤◌}
+use native.Mathlib.Omega.{arith}
+use borrow.Author.Rules.{rules}
+use Rattle.lex.proofs.find_record_end.Goals as goal
+
+pub overflow_add-near : goal.overflow_add-near
+overflow_add-near c = omega (arith, c.within-from.ensures)
+
+pub loop-i-init : goal.loop-i-init
+unfolding record_end
+loop-i-init c = let s = c.args.s.now in
+    (omega (arith, c.within-from.ensures), ap record_end (ap (λ (k : ℕ). drop k s) c.within-from.ensures ∙ drop_within s c.args.start))
+
+pub loop-i-smaller-then-near-i : goal.loop-i-smaller-then-near-i
+loop-i-smaller-then-near-i c = let l = c.loop-i in blocks_less _ l.i l.near c.pass_quiet-i.result (omega arith) c.pass_quiet-i.ensures.lower_bound.0
+
+pub loop-i-preserved-then-near-i : goal.loop-i-preserved-then-near-i
+loop-i-preserved-then-near-i c = let l = c.loop-i in
+    let s = c.args.s.now in
+    (omega arith, sym (c.pass_quiet-i.ensures.quiet 5 (drop c.within-from.result s)) ∙ l.invariant.1)
+
+pub returns-then-s-i-eq59 : goal.returns-then-s-i-eq59
+returns-then-s-i-eq59 c = let l = c.loop-i in
+    let s = c.args.s.now in
+    ap good (sym (place_drop s l.i (omega arith)))
+    ∙ ap (placed s)
+    (seek_halts_at semicolon (missed 5 (drop c.within-from.result s)) s l.i (omega arith) Plain 0 l.i _ refl (simp (eq-eqb _ _ c.if-s-i-eq59.true)) l.invariant.1)
+
+pub loop-i-smaller : goal.loop-i-smaller
+loop-i-smaller c = let e = rw c.in-At.is at c.past.ensures in
+    let l = c.loop-i in bytes_less _ l.i l.near _ (omega arith) e.0 e.1
+
+pub loop-i-preserved : goal.loop-i-preserved
+loop-i-preserved c = let l = c.loop-i in
+    let s = c.args.s.now in
+    let e = rw c.in-At.is at c.past.ensures in
+    (omega (arith, e.1), sym (e.2 semicolon 5 (drop c.within-from.result s) 0 0 (simp (ne_eqb _ _ c.if-s-i-eq59.false))) ∙ l.invariant.1)
+
+pub returns-in-Refused : goal.returns-in-Refused
+returns-in-Refused c = let l = c.loop-i in
+    let s = c.args.s.now in
+    let e = rw c.in-Refused.is at c.past.ensures in
+    sym (e semicolon 5 (drop c.within-from.result s) 0 0 (simp (ne_eqb _ _ c.if-s-i-eq59.false))) ∙ ap (placed s) l.invariant.1
+
+pub returns : goal.returns
+returns c = let l = c.loop-i in
+    let s = c.args.s.now in
+    let from = c.within-from.result in
+    ap (λ (k : ℕ). bad (refusal 5 0 k)) (sym (place_drop s from (omega (arith, c.within-from.ensures))))
+    ∙ ap (placed s) (sym (walk_ends (seek_turn semicolon) (missed 5 (drop from s)) (seen Plain 0 (drop l.i s)) s l.i (omega arith)) ∙ l.invariant.1)

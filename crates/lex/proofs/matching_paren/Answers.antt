@@ -1,0 +1,78 @@
+use Rattle.lex.specs.PassedAtOnce.{left_to_search, blocks_less, bytes_less}
+use Rattle.lex.specs.Seek.{drop_within, seek_halts_at, paren_up}
+use Rattle.lex.specs.Search.{seen, seek_turn, paren, missed, closing, look_of}
+use Rattle.lex.specs.Answer.{placed}
+use Rattle.common.specs.Walk.{walk_ends}
+use Rattle.lex.specs.Place.{place_drop}
+use Rattle.lex.specs.Right.Steps.{plainly}
+use Rattle.error.specs.Refusal.{good, bad, refusal}
+use Rattle.lex.specs.declared.Mode.TheVariants.{Plain}
+use lib.Seq.{drop-drop}
+use lib.ListN.{length, drop, get_or}
+use mathlib.Core.Path.{◌≡◌, refl, sym, ◌∙◌, ap}
+use Prim.Native.Nat.{ℕ, ◌+◌, ◌≤◌}
+use native.Mathlib.Omega.{arith}
+use borrow.Author.Rules.{rules}
+use Rattle.lex.proofs.matching_paren.Goals as goal
+
+pub overflow_add-from : goal.overflow_add-from
+overflow_add-from c = omega (arith, c.within-from.ensures)
+
+pub overflow_add-near : goal.overflow_add-near
+overflow_add-near c = omega (arith, c.within-i.ensures)
+
+pub loop-i-init : goal.loop-i-init
+unfolding closing
+loop-i-init c = let s = c.args.s.now in
+    let p = c.args.opening in
+    let from = c.within-from.result in
+    let e : drop from s ≡ drop p s = ap (λ (k : ℕ). drop k s) c.within-from.ensures ∙ drop_within s p in
+    let f : drop c.within-i.result s ≡ drop 1 (drop from s) =
+    ap (λ (k : ℕ). drop k s) c.within-i.ensures ∙ drop_within s (from + 1) ∙ sym (drop-drop 1 from s) in
+    ((omega (arith, c.within-i.ensures), omega arith), rw f (ap closing e))
+
+pub overflow_add-near-then-near-i : goal.overflow_add-near-then-near-i
+overflow_add-near-then-near-i c = let t = c.pass_calm-t.ensures in omega (arith, t.inside)
+
+pub loop-i-smaller-then-near-i : goal.loop-i-smaller-then-near-i
+loop-i-smaller-then-near-i c = let l = c.loop-i in blocks_less _ l.i l.near c.pass_calm-t.result.at (omega arith) c.pass_calm-t.ensures.on
+
+pub loop-i-preserved-then-near-i : goal.loop-i-preserved-then-near-i
+loop-i-preserved-then-near-i c = let l = c.loop-i in
+    let s = c.args.s.now in
+    let t = c.pass_calm-t.ensures in
+    ((omega (arith, t.inside), omega (arith, t.low)), sym (t.same 6 (drop c.within-from.result s)) ∙ l.invariant.1)
+
+pub returns-in_default : goal.returns-in_default
+returns-in_default c = let l = c.loop-i in
+    let s = c.args.s.now in
+    ap good (sym (place_drop s l.i (omega arith)))
+    ∙ ap (placed s)
+    (seek_halts_at paren (missed 6 (drop c.within-from.result s)) s l.i (omega arith) Plain l.depth l.i _ refl
+    (sym c.depth_after.ensures ∙ ap look_of c.in_default.is) l.invariant.1)
+
+pub returns-in-Refused : goal.returns-in-Refused
+returns-in-Refused c = let l = c.loop-i in
+    let s = c.args.s.now in
+    let e = rw c.in-Refused.is at c.past.ensures in
+    let k = sym c.depth_after.ensures ∙ ap look_of c.in-Open.is in
+    sym (e paren 6 (drop c.within-from.result s) l.depth _ k) ∙ ap (placed s) l.invariant.1
+
+pub loop-i-smaller : goal.loop-i-smaller
+loop-i-smaller c = let e = rw c.in-At.is at c.past.ensures in
+    let l = c.loop-i in bytes_less _ l.i l.near _ (omega arith) e.0 e.1
+
+pub loop-i-preserved : goal.loop-i-preserved
+loop-i-preserved c = let l = c.loop-i in
+    let s = c.args.s.now in
+    let e = rw c.in-At.is at c.past.ensures in
+    let k = sym c.depth_after.ensures ∙ ap look_of c.in-Open.is in
+    let up = paren_up l.depth (get_or s l.i 0) _ k in
+    ((omega (arith, e.1), omega (arith, e.0, up)), sym (e.2 paren 6 (drop c.within-from.result s) l.depth _ k) ∙ l.invariant.1)
+
+pub returns : goal.returns
+returns c = let l = c.loop-i in
+    let s = c.args.s.now in
+    let from = c.within-from.result in
+    ap (λ (k : ℕ). bad (refusal 6 0 k)) (sym (place_drop s from (omega (arith, c.within-from.ensures))))
+    ∙ ap (placed s) (sym (walk_ends (seek_turn paren) (missed 6 (drop from s)) (seen Plain l.depth (drop l.i s)) s l.i (omega arith)) ∙ l.invariant.1)
