@@ -198,7 +198,7 @@ headform_only (HeadForm.above ds r a h) =
     let g : 4294967295 < (number_from 0 (ds ++ r)).value = rw (number_pass 0 ds r a) (omega (arith, number_grows n r)) in
     rw (lt-ltb 4294967295 (number_from 0 (ds ++ r)).value g)
 headform_only (HeadForm.numberless r h) = rw (number_halt 0 r h, eq-eqb (length r) (length r) refl)
-headform_only (HeadForm.unequal ds w r i d s h) = sym (id_only ds (w ++ r) i d ∙ rw (gap_only w r s) (equal_none _ (value_of ds) r h))
+headform_only (HeadForm.unequal ds w r i d s h) = sym (id_only ds (w ++ r) i d ∙ rw (gap_only w r s) (equal_none (35 ∷ (ds ++ (w ++ r))) (value_of ds) r h))
 headform_only (HeadForm.valueless {a} l) = sym (rw (append-nil a) at (lead_only l))
 headform_only (HeadForm.unopened {a} {v} {n} l z f) = sym (lead_only l ∙ value_none (a ++ v) n v z f)
 headform_only (HeadForm.complex {a} {r} {n} l) = ap (Complex n) (simp length-append (omega arith)) ∙ sym (lead_only l)

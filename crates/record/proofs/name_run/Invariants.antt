@@ -1,0 +1,14 @@
+use Rattle.record.specs.Turns.{key_solid}
+use Rattle.record.specs.Text.{keyword}
+use lib.ListN.{length, drop}
+use native.Mathlib.Omega.{arith}
+use mathlib.Core.Path.{◌≡◌, refl, ◌∙◌}
+use Prim.Native.Nat.{◌-◌, ◌≤◌}
+use borrow.Author.Rules.{rules}
+use Rattle.record.proofs.name_run.Given as goal
+
+abbrev pub invariant-loop-i : goal.invariant-loop-i
+invariant-loop-i l = ((l.from ≤ l.i) × (l.i ≤ length l.b)) × (keyword (drop l.i l.b) ≡ keyword (drop l.from l.b))
+
+abbrev pub decreases-loop-i : goal.decreases-loop-i
+decreases-loop-i l = length l.b - l.i

@@ -1,0 +1,17 @@
+use Rattle.common.specs.Lists.{drop_end}
+use Rattle.record.specs.Trail.{trim_more, trim_none, trim_here}
+use Rattle.record.specs.Form.{All}
+use Rattle.lex.specs.Byte.{white}
+use lib.ListN.{length, drop}
+use borrow.Author.Tests.{not-true, not-false}
+use borrow.Author.Rules.{rules}
+use native.Mathlib.Omega.{arith}
+use mathlib.Core.Path.{sym, ◌∙◌}
+use Prim.Native.Nat.{◌≤◌, min}
+use Rattle.record.proofs.trail_at.Given as goal
+
+abbrev pub invariant-loop-end : goal.invariant-loop-end
+invariant-loop-end l = (min l.from (length l.b) ≤ l.end) × (l.end ≤ length l.b) × All white (drop l.end l.b)
+
+abbrev pub decreases-loop-end : goal.decreases-loop-end
+decreases-loop-end l = l.end

@@ -1,0 +1,25 @@
+use Rattle.record.specs.HeadLaws.{value_none, value_complex, value_keyed, keyed_absent, keyed_found}
+use native.Mathlib.Omega.{arith}
+use mathlib.Core.Path.{◌∙◌}
+use borrow.Author.Rules.{rules}
+use Rattle.record.proofs.value_head.Goals as goal
+
+pub returns-then-b-v : goal.returns-then-b-v
+returns-then-b-v c = let a = c.args in
+    value_none a.b.now a.id c.past_space-v.result _ c.past_space-v.ensures.b_value c.if-b-v.true
+
+pub returns-then-b-v-eq40 : goal.returns-then-b-v-eq40
+returns-then-b-v-eq40 c = let a = c.args in
+    value_complex a.b.now a.id c.past_space-v.result _ c.past_space-v.ensures.b_value (omega arith) c.if-b-v-eq40.true
+
+pub returns-in-Absent : goal.returns-in-Absent
+returns-in-Absent c = let a = c.args in
+    let k = rw c.in-Absent.is at c.keyword_at.ensures in
+    keyed_absent a.b.now a.id c.past_space-v.result _ k
+    ∙ value_keyed a.b.now a.id c.past_space-v.result _ c.past_space-v.ensures.b_value (omega arith) c.if-b-v-eq40.false
+
+pub returns-in-Found : goal.returns-in-Found
+returns-in-Found c = let a = c.args in
+    let k = rw c.in-Found.is at c.keyword_at.ensures in
+    keyed_found a.b.now a.id c.past_space-v.result _ _ _ (omega arith) k.1 k.2 k.0
+    ∙ value_keyed a.b.now a.id c.past_space-v.result _ c.past_space-v.ensures.b_value (omega arith) c.if-b-v-eq40.false
