@@ -30,7 +30,7 @@ pub struct Args<'a> {
 }
 
 // What opening a reader answers, and the reader: after 9 one that has nothing to read. (An enum that holds a reader is refused.)
-#[derive(Drop)]
+#[derive(Clone, Copy)]
 pub struct Opening<'a> {
     pub opened: OpenedReader,
     pub args: Args<'a>,

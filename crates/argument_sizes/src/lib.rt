@@ -14,7 +14,7 @@ use params::{NextParam, State};
 use parts::Next;
 
 // The bytes of a text, the numbers of a list or a grid, and the rows of a grid.
-#[derive(Drop)]
+#[derive(Clone, Copy)]
 pub struct Sizes {
     pub text: usize,
     pub items: usize,

@@ -25,7 +25,7 @@ pub const UNOPENED: usize = 6;
 
 pub const UNREAD: usize = 7;
 
-#[derive(Drop)]
+#[derive(Clone, Copy)]
 pub struct Taken {
     // Where standard input stands in the chunk that was read of it.
     pub feed: Feed,

@@ -57,7 +57,7 @@ pub const ROWS_AGAIN: usize = 24;
 
 pub const FULL: usize = 25;
 
-#[derive(Drop)]
+#[derive(Clone, Copy)]
 pub struct Course {
     pub stage: usize,
     // The line in its stage, mostly a row's; and its piece, or its reader.

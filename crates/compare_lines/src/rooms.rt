@@ -67,7 +67,7 @@ fn read_lines(records: usize) -> usize {
 const FIRST_SHORT: usize = 7;
 
 // Which reader the next line is of, where it stands, and how much of the rooms for a text and for references is lent to it.
-#[derive(Drop)]
+#[derive(Clone, Copy)]
 pub struct NextReader {
     pub reader: usize,
     pub at: State,
@@ -129,7 +129,7 @@ pub fn kind_line(id: u32, r: KindName) -> Line {
 }
 
 // What is lent for kept rows: the file's length as it is told, so many bytes, so many numbers.
-#[derive(Drop)]
+#[derive(Clone, Copy)]
 pub struct Share {
     pub len: usize,
     pub bytes: usize,
@@ -206,7 +206,7 @@ fn counted(pattern: usize, word: usize, n: usize) -> Line {
 }
 
 // What is lent for the tables: numbers of header rows, of data rows, and slots.
-#[derive(Drop)]
+#[derive(Clone, Copy)]
 pub struct Tabled {
     pub heads: usize,
     pub rows: usize,

@@ -64,7 +64,7 @@ pub fn row(rows: &[u32], t: Tables, i: usize) -> Line {
 }
 
 // An id that is asked for, or no further one.
-#[derive(Drop)]
+#[derive(Clone, Copy)]
 pub enum Wanted {
     Id(u32),
     Over,

@@ -10,7 +10,7 @@ use printing::{Line, Pen};
 use store::OpenedFile;
 
 // A case as it was taken, and how it is told.
-#[derive(Drop)]
+#[derive(Clone, Copy)]
 pub struct Order {
     pub number: usize,
     pub why: usize,

@@ -4,7 +4,7 @@ ghost use Rattle.std.specs.Prelude.{◌+◌, ◌*◌, ◌≤◌, length};
 use crate::answer::{FAILED, LONG, NO_ROOM, NOT_HEX, NOTHING};
 use input::Feed;
 
-#[derive(Drop)]
+#[derive(Clone, Copy)]
 pub struct AskedString {
     // The pattern of what is said at once, or 0.
     pub why: usize,

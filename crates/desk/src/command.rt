@@ -5,7 +5,7 @@
 ghost use Rattle.std.specs.Prelude.{◌≤◌};
 
 // What is to be done next.
-#[derive(Drop)]
+#[derive(Clone, Copy)]
 pub enum Job {
     // To tell the usage of the task's word.
     Usage,
@@ -16,7 +16,7 @@ pub enum Job {
     Over,
 }
 
-#[derive(Drop)]
+#[derive(Clone, Copy)]
 pub struct TaskCourse {
     pub job: Job,
     pub task: TaskWord,
@@ -31,7 +31,7 @@ pub struct TaskCourse {
 }
 
 // What an argument may be.
-#[derive(Drop)]
+#[derive(Clone, Copy)]
 pub enum TaskWord {
     List,
     Scale,
@@ -42,7 +42,7 @@ pub enum TaskWord {
     Missing,
 }
 
-#[derive(Drop)]
+#[derive(Clone, Copy)]
 enum Id {
     Is(u32),
     Bad,

@@ -23,7 +23,7 @@ fn power(k: usize) -> f64 {
 }
 
 // Digits, and by how many places they are moved: to the left, or to the right.
-#[derive(Drop)]
+#[derive(Clone, Copy)]
 enum Digits {
     Are(u64, usize, usize),
     // Fifteen of them, that the number is not nearest to.

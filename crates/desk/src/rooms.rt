@@ -15,7 +15,7 @@ use printing::{Line, Pen};
 const NEEDED: u64 = 188000000;
 
 // What came of a file: all is said, or it has more records than the rooms and nothing was said yet.
-#[derive(Drop)]
+#[derive(Clone, Copy)]
 struct Said {
     pen: Pen,
     outgrown: bool,

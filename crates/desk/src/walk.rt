@@ -24,7 +24,7 @@ use statement::HeaderSpan;
 use units::Values;
 
 // A line, and the values of units that are told behind it.
-#[derive(Drop)]
+#[derive(Clone, Copy)]
 pub struct LineStep {
     pub line: Line,
     // The next value and the one after it.

@@ -9,7 +9,7 @@ ghost use Rattle.std.specs.Prelude.{◌≡◌, [], ◌∷◌, ◌≤◌};
 ghost use Rattle.eights.specs.Eights.{joined_of, DigitsTest, Makes};
 ghost use Rattle.eights.specs.Told.{EightTold};
 
-#[derive(Drop)]
+#[derive(Clone, Copy)]
 pub enum Eight {
     // All are digits, and they make this number.
     Digits(u64),

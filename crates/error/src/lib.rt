@@ -7,7 +7,7 @@
 ghost use Rattle.std.specs.Prelude.{◌≡◌};
 ghost use Rattle.error.specs.Refusal.{told};
 
-#[derive(Drop)]
+#[derive(Clone, Copy)]
 pub enum Fault {
     // 1: no Part 21 marker.
     NoMarker,

@@ -30,7 +30,7 @@ use statement::RecordSpan;
 use words::NextName;
 
 // Arguments from a place up to an end; or none; or why they cannot be told.
-#[derive(Drop)]
+#[derive(Clone, Copy)]
 pub enum ArgumentsFound {
     Args(usize, usize),
     Nothing,
@@ -38,7 +38,7 @@ pub enum ArgumentsFound {
 }
 
 // A factor; or none; or why the whole answer is refused.
-#[derive(Drop)]
+#[derive(Clone, Copy)]
 pub enum Factor {
     Is(f64),
     Nothing,
@@ -46,14 +46,14 @@ pub enum Factor {
 }
 
 // A factor, or the id of the measure that a conversion unit leads to.
-#[derive(Drop)]
+#[derive(Clone, Copy)]
 enum Link {
     Known(Factor),
     Measure(u32),
 }
 
 // An id, or a refusal.
-#[derive(Drop)]
+#[derive(Clone, Copy)]
 enum Named {
     Id(u32),
     Refused(Fault),

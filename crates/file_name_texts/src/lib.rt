@@ -16,7 +16,7 @@ use lookup::Tables;
 use params::{Skipped, State};
 use words::NextText;
 
-#[derive(Drop)]
+#[derive(Clone, Copy)]
 pub enum Title {
     // Where the text begins and ends in the file.
     InFile(usize, usize),

@@ -24,7 +24,7 @@ use params::{NextParam, State};
 use reals::Reals;
 
 // How many rows and numbers there are, or how far into the text the first bad row or item is: 12, or 13.
-#[derive(Drop)]
+#[derive(Clone, Copy)]
 pub enum Tally {
     All(usize, usize),
     Wrong(usize),
@@ -32,7 +32,7 @@ pub enum Tally {
 }
 
 // How many rows and numbers of a text were written; or what is wrong with it: 12, 13, or that they do not fit, 16.
-#[derive(Drop)]
+#[derive(Clone, Copy)]
 enum ReadGrid {
     Count(usize, usize),
     Wrong(usize),
@@ -41,7 +41,7 @@ enum ReadGrid {
 }
 
 // How many rows and numbers were written, or a refusal.
-#[derive(Drop)]
+#[derive(Clone, Copy)]
 pub enum NextGrid {
     Count(usize, usize, State),
     Refused(Fault, State),

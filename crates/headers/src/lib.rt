@@ -15,7 +15,7 @@ use lookup::{RowOrNone, Tables};
 use statement::{HeaderSpan, Range};
 
 // A header record's arguments; or that there is no such record; or 9.
-#[derive(Drop)]
+#[derive(Clone, Copy)]
 pub enum HeaderFound {
     Span(Range),
     Nothing,

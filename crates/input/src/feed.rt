@@ -5,7 +5,7 @@ ghost use Rattle.io.specs.Counts.{IsPrefixLen};
 use crate::{digits, read};
 
 // The bytes of the chunk from `at` up to `end` were read and are not used yet.
-#[derive(Drop)]
+#[derive(Clone, Copy)]
 pub struct Feed {
     pub at: usize,
     pub end: usize,
@@ -24,7 +24,7 @@ pub const LF: usize = 1;
 pub const END: usize = 2;
 
 // A number in decimal, and the line end behind it.
-#[derive(Drop)]
+#[derive(Clone, Copy)]
 pub enum NumberLine {
     Number(u64, Feed),
     // The input ended where a number might have begun.
@@ -34,7 +34,7 @@ pub enum NumberLine {
 }
 
 // How many bytes were used, and the feed after them.
-#[derive(Drop)]
+#[derive(Clone, Copy)]
 pub struct Brought {
     pub count: usize,
     pub feed: Feed,

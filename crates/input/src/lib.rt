@@ -17,7 +17,7 @@ pub use sizes::{
     SMALL_REFS, SMALL_ROWS, SMALL_SLOTS,
 };
 
-#[derive(Drop)]
+#[derive(Clone, Copy)]
 pub struct BytesRead {
     // How many bytes were put at the start of the room.
     pub count: usize,
@@ -50,7 +50,7 @@ fn read(fd: i32, room: &mut [u8]) -> Feed
     feed::fresh(io::count(got, room), (got < 0) as usize)
 }
 
-#[derive(Drop)]
+#[derive(Clone, Copy)]
 pub struct OpenedInput {
     // The descriptor, or -1.
     pub fd: i32,
@@ -101,7 +101,7 @@ pub fn size(fd: i32) -> u64 {
     if end < 0 { u64::MAX } else { end as u64 }
 }
 
-#[derive(Drop)]
+#[derive(Clone, Copy)]
 pub struct Value {
     pub number: u64,
     // The place behind the last digit.

@@ -11,7 +11,7 @@ ghost use Rattle.record.specs.Byte.{upper};
 ghost use Rattle.kinds.specs.Kind.{kind_of_keyword};
 ghost use Rattle.kinds.specs.Rules.{name_of, rank_of, told_kind_name, name_in, name_after};
 
-#[derive(Drop)]
+#[derive(Clone, Copy)]
 pub enum Kind {
     GeometricRepresentationContext,
     GlobalUnitAssignedContext,
@@ -28,7 +28,7 @@ pub enum Kind {
 }
 
 // A kind's name at the start of lent memory, in so many bytes; or that there is no room for it.
-#[derive(Drop)]
+#[derive(Clone, Copy)]
 pub enum KindName {
     Bytes(usize),
     Short,

@@ -17,7 +17,7 @@ use error::Fault;
 
 // Where the lexer of the definitions stands: outside strings and comments; after a slash there; in a string; after a quote in one; in a
 // comment; after a `*` in one.
-#[derive(Drop)]
+#[derive(Clone, Copy)]
 pub enum Mode {
     Plain,
     Slash,
@@ -28,7 +28,7 @@ pub enum Mode {
 }
 
 // A place in the file, or a refusal.
-#[derive(Drop)]
+#[derive(Clone, Copy)]
 pub enum FoundPlace {
     At(usize),
     Refused(Fault),
@@ -110,7 +110,7 @@ fn is_at(s: &[u8], i: usize, b: u8) -> bool
 
 // What a quote in a string is, by what follows it. The quotes after the string's first one are paired off in turn: `''` is a pair and stays inside,
 // and a quote that is left over is the string's end. So after the `a` of `'a'''` come a pair and the end: it ends at its last quote.
-#[derive(Drop)]
+#[derive(Clone, Copy)]
 pub enum Quote {
     Doubled, // `''`.
     Single, // `'` and another byte.
@@ -145,7 +145,7 @@ fn next_quote(s: &[u8], i: usize) -> usize
 }
 
 // The place after a string, or that it never ends.
-#[derive(Drop)]
+#[derive(Clone, Copy)]
 pub enum TextEnd {
     After(usize),
     Never,
@@ -279,7 +279,7 @@ pub fn find_record_end(s: &[u8], start: usize) -> FoundPlace
 }
 
 // What a byte outside strings and comments does to the open parentheses: it closes the one sought, or so many are open.
-#[derive(Drop)]
+#[derive(Clone, Copy)]
 enum Level {
     Closed,
     Open(usize),
@@ -302,7 +302,7 @@ fn depth_after(depth: usize, b: u8) -> Level
 }
 
 // How many `(` and `)` some bytes have, and whether one of them is a quote or a slash.
-#[derive(Drop)]
+#[derive(Clone, Copy)]
 struct Tally {
     quote: bool,
     slash: bool,
@@ -311,7 +311,7 @@ struct Tally {
 }
 
 // Where a search for a `)` stands outside strings and comments, and how many parentheses are open there.
-#[derive(Drop)]
+#[derive(Clone, Copy)]
 struct Stand {
     at: usize,
     depth: usize,

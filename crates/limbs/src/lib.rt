@@ -71,7 +71,7 @@ fn any_below(a: &[u32], n: usize) -> bool
 
 // The leading 64 binary digits of a number, or all of fewer; how many stand below them, which are 32 for each of `limbs` and `bits` besides (their sum
 // can be larger than a `usize`), and whether one of those is not 0.
-#[derive(Drop)]
+#[derive(Clone, Copy)]
 pub struct LeadingDigits {
     pub digits: u64,
     pub limbs: usize,

@@ -22,7 +22,7 @@ use params::{Ended, NextParam, State};
 use reals::{Real, Reals, Reference, Whole};
 
 // An item without the whitespace at its ends, and its comma or the end of the list.
-#[derive(Drop)]
+#[derive(Clone, Copy)]
 pub struct Item {
     pub start: usize,
     pub stop: usize,
@@ -30,7 +30,7 @@ pub struct Item {
 }
 
 // What a text is: no list, a list without items, or one with them.
-#[derive(Drop)]
+#[derive(Clone, Copy)]
 pub enum Shape {
     NotList,
     Blank,
@@ -38,7 +38,7 @@ pub enum Shape {
 }
 
 // What the items of a list are to be. `Any` is no reading of reals, as `Reals::Any` is: anything is such an item, and items are only counted.
-#[derive(Drop)]
+#[derive(Clone, Copy)]
 pub enum Kind {
     References,
     Integers,
@@ -47,7 +47,7 @@ pub enum Kind {
 }
 
 // Whether an item reads: yes, or 12, or 13.
-#[derive(Drop)]
+#[derive(Clone, Copy)]
 enum Verdict {
     Reads,
     Wrong,
@@ -55,7 +55,7 @@ enum Verdict {
 }
 
 // How many items there are, or the place of the first bad one: 12, or 13.
-#[derive(Drop)]
+#[derive(Clone, Copy)]
 pub enum Counted {
     All(usize),
     Wrong(usize),
@@ -63,7 +63,7 @@ pub enum Counted {
 }
 
 // How many numbers of a text were written; or how far into it the first bad item is: 12, or 13; or that they do not fit: 16.
-#[derive(Drop)]
+#[derive(Clone, Copy)]
 pub enum ReadList {
     Count(usize),
     Wrong(usize),
@@ -72,7 +72,7 @@ pub enum ReadList {
 }
 
 // How many numbers were written, or a refusal.
-#[derive(Drop)]
+#[derive(Clone, Copy)]
 pub enum NextList {
     Count(usize, State),
     Refused(Fault, State),

@@ -264,7 +264,7 @@ fn count_digits(t: &[u8], from: usize) -> usize
 }
 
 // How many digits of the room are used, and the place in the text after what was read.
-#[derive(Drop)]
+#[derive(Clone, Copy)]
 struct Filled {
     used: usize,
     next: usize,

@@ -18,7 +18,7 @@ use kinds::Kind;
 use statement::{Range, RecordSpan};
 
 // The numbers that go with the lent tables: how many rows each has, the largest id, and what stands beside the id slots.
-#[derive(Drop)]
+#[derive(Clone, Copy)]
 pub struct Tables {
     pub headers: usize,
     pub records: usize,
@@ -27,28 +27,28 @@ pub struct Tables {
 }
 
 // A row, or none.
-#[derive(Drop)]
+#[derive(Clone, Copy)]
 pub enum Entry {
     Row(RecordSpan),
     Nothing,
 }
 
 // A row, or 14.
-#[derive(Drop)]
+#[derive(Clone, Copy)]
 pub enum Required {
     Row(RecordSpan),
     Refused(Fault),
 }
 
 // A part of the file, or why there is none.
-#[derive(Drop)]
+#[derive(Clone, Copy)]
 pub enum Spanned {
     Span(Range),
     Refused(Fault),
 }
 
 // A row's number, or none.
-#[derive(Drop)]
+#[derive(Clone, Copy)]
 pub enum RowOrNone {
     At(usize),
     Nothing,

@@ -18,7 +18,7 @@ use scan::Scanned;
 use statement::{Said, Section};
 
 // How many header rows and data rows, the largest id, the most numbers of a list or a grid, the longest text, and the most rows of a grid.
-#[derive(Drop)]
+#[derive(Clone, Copy)]
 pub struct Needs {
     pub headers: usize,
     pub records: usize,
@@ -29,7 +29,7 @@ pub struct Needs {
 }
 
 // What a file needs, or why it is refused.
-#[derive(Drop)]
+#[derive(Clone, Copy)]
 pub enum Needed {
     Is(Needs),
     Refused(Fault),

@@ -17,42 +17,42 @@ use lex::FoundPlace;
 use tokens::TokenEnd;
 
 // Where a reader stands, and up to where it reads.
-#[derive(Drop)]
+#[derive(Clone, Copy)]
 pub struct State {
     pub place: usize,
     pub end: usize,
 }
 
 // Where a parameter stops, trailing trivia dropped, and where its comma or the end is; or the quote of an open literal.
-#[derive(Drop)]
+#[derive(Clone, Copy)]
 pub enum Ended {
     At(usize, usize),
     Open(usize),
 }
 
 // A parameter from start up to stop, and the reader past it; or a refusal, and the reader where document 01 says.
-#[derive(Drop)]
+#[derive(Clone, Copy)]
 pub enum NextParam {
     Span(usize, usize, State),
     Refused(Fault, State),
 }
 
 // A reader, or a refusal.
-#[derive(Drop)]
+#[derive(Clone, Copy)]
 pub enum OpenedReader {
     Reader(State),
     Refused(Fault),
 }
 
 // Whether no parameter is left, and the reader past the trivia.
-#[derive(Drop)]
+#[derive(Clone, Copy)]
 pub enum Emptiness {
     Empty(bool, State),
     Refused(Fault, State),
 }
 
 // The reader past what was skipped; or a refusal, and the reader where that leaves it.
-#[derive(Drop)]
+#[derive(Clone, Copy)]
 pub enum Skipped {
     Past(State),
     Refused(Fault, State),
@@ -60,7 +60,7 @@ pub enum Skipped {
 
 // What the token at a place does to the search for a parameter's end: the comma is there, a literal is open, or the search goes on
 // from a place, with what the parameter then reaches to and so many open parentheses.
-#[derive(Drop)]
+#[derive(Clone, Copy)]
 enum Step {
     Comma,
     Open,

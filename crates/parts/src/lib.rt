@@ -19,7 +19,7 @@ use record::Head;
 use statement::{HeaderSpan, Range};
 
 // The next part; or that there is none; or why it cannot be told.
-#[derive(Drop)]
+#[derive(Clone, Copy)]
 pub enum Next {
     Is(HeaderSpan),
     Over,

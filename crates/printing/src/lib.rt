@@ -14,7 +14,7 @@ ghost use Rattle.printing.specs.Put.{Put, PutNumber};
 
 pub use patterns::{Line, form};
 
-#[derive(Drop)]
+#[derive(Clone, Copy)]
 pub struct Pen {
     // How many bytes of the buffer are used.
     pub used: usize,

@@ -11,7 +11,7 @@ use crate::digits::{cut, pattern, spelt};
 use crate::refusal::{BytesSpan, line_end, line_span, line_start, words_span, words_table};
 use crate::{Pen, bytes, decimal};
 
-#[derive(Drop)]
+#[derive(Clone, Copy)]
 pub struct Line {
     // The pattern's number in its table, from 1.
     pub pattern: usize,
@@ -29,7 +29,7 @@ pub struct Line {
 const AS_IS: u8 = 0;
 
 // What a byte of a pattern puts, and how far the line is put with it.
-#[derive(Drop)]
+#[derive(Clone, Copy)]
 struct Way {
     letter: u8,
     // The two numbers that the letter takes, or may take.

@@ -4,7 +4,7 @@ ghost use Rattle.std.specs.Prelude.{◌≤◌, length};
 use crate::least;
 
 // A part of some bytes, up to end.
-#[derive(Drop)]
+#[derive(Clone, Copy)]
 pub struct BytesSpan {
     pub start: usize,
     pub end: usize,

@@ -21,13 +21,13 @@ ghost use Rattle.long_reals.specs.Number.{number_in};
 ghost use Rattle.reals.specs.DigitLoop.{NumberReading, DigitsAt, EightAt};
 
 // Which reals are answered: those of the class, as document 01 and #101 have it, or any.
-#[derive(Drop)]
+#[derive(Clone, Copy)]
 pub enum Reals {
     Class,
     Any,
 }
 
-#[derive(Drop)]
+#[derive(Clone, Copy)]
 pub enum Real {
     Value(f64),
     // 13: a real, but not of the class.
@@ -36,14 +36,14 @@ pub enum Real {
     NotReal,
 }
 
-#[derive(Drop)]
+#[derive(Clone, Copy)]
 pub enum Whole {
     Value(i64),
     // 12.
     NotWhole,
 }
 
-#[derive(Drop)]
+#[derive(Clone, Copy)]
 pub enum Reference {
     Value(u32),
     // 12.
@@ -107,7 +107,7 @@ fn with_digit(n: u64, c: u8, cap: u64) -> u64
 }
 
 // A number and the place after its digits.
-#[derive(Drop)]
+#[derive(Clone, Copy)]
 struct Number {
     value: u64,
     next: usize,
@@ -229,7 +229,7 @@ fn many_digits_from(t: &[u8], at: usize, from: u64, cap: u64) -> Number
 }
 
 // All digits' number, how many stand after the point, and the place after them.
-#[derive(Drop)]
+#[derive(Clone, Copy)]
 struct Decimal {
     value: u64,
     places: usize,
@@ -259,14 +259,14 @@ fn fraction_from(t: &[u8], at: usize, from: u64) -> Decimal
 }
 
 // Whether an exponent is negative, and its size.
-#[derive(Drop)]
+#[derive(Clone, Copy)]
 enum Tens {
     Power(bool, u64),
     Malformed,
 }
 
 // The number of a text's rest, where it is digits only, at least one; or the cap.
-#[derive(Drop)]
+#[derive(Clone, Copy)]
 enum Plain {
     Digits(u64),
     Other,
@@ -386,7 +386,7 @@ fn lowered(neg: bool, m: u64, k: usize) -> f64
 }
 
 // A power of ten: its size, and whether it is negative.
-#[derive(Drop)]
+#[derive(Clone, Copy)]
 struct Scale {
     down: bool,
     size: usize,

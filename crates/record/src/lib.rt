@@ -12,7 +12,7 @@ ghost use Rattle.record.specs.Word.{same_bytes, is_word, opens_data, word_in, wo
 ghost use Rattle.record.specs.Head.{data_head, equal_head, value_head, header_head};
 
 // The words of document 01 that a record's text can be.
-#[derive(Drop)]
+#[derive(Clone, Copy)]
 pub enum Word {
     Header,
     Data,
@@ -23,7 +23,7 @@ pub enum Word {
 
 // What stands before the arguments: a reason of refusal 7; the id and the `(` of a complex record; or the id (0 for a header
 // record), the keyword's start and end, and the `(`.
-#[derive(Drop)]
+#[derive(Clone, Copy)]
 pub enum Head {
     Bad(u8),
     Complex(u32, usize),
@@ -59,7 +59,7 @@ pub fn is_digit(c: u8) -> bool
 }
 
 // An id's digits: their number and the place after them, or that the number is above the largest id.
-#[derive(Drop)]
+#[derive(Clone, Copy)]
 pub enum Number {
     Over,
     Value(u32, usize),
@@ -86,7 +86,7 @@ pub fn digits_at(b: &[u8], from: usize) -> Number
 }
 
 // The end of a keyword and the place of the `(` after it, or no `(`.
-#[derive(Drop)]
+#[derive(Clone, Copy)]
 enum Key {
     Absent,
     Found(usize, usize),

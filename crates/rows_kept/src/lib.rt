@@ -14,7 +14,7 @@ use error::Fault;
 use statement::{Range, RecordSpan};
 
 // How many rows were written or read; or why none were.
-#[derive(Drop)]
+#[derive(Clone, Copy)]
 pub enum KeptCount {
     Rows(usize),
     Refused(Fault),

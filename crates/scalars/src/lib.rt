@@ -20,38 +20,38 @@ use params::{NextParam, State};
 use reals::{Real, Reals, Reference, Whole};
 
 // A part of a text, from start up to stop.
-#[derive(Drop)]
+#[derive(Clone, Copy)]
 pub struct TextPart {
     pub start: usize,
     pub stop: usize,
 }
 
-#[derive(Drop)]
+#[derive(Clone, Copy)]
 pub enum NextRef {
     Value(u32, State),
     Refused(Fault, State),
 }
 
-#[derive(Drop)]
+#[derive(Clone, Copy)]
 pub enum NextOptRef {
     Value(u32, State),
     Unset(State),
     Refused(Fault, State),
 }
 
-#[derive(Drop)]
+#[derive(Clone, Copy)]
 pub enum NextWhole {
     Value(i64, State),
     Refused(Fault, State),
 }
 
-#[derive(Drop)]
+#[derive(Clone, Copy)]
 pub enum NextReal {
     Value(f64, State),
     Refused(Fault, State),
 }
 
-#[derive(Drop)]
+#[derive(Clone, Copy)]
 pub enum NextOptReal {
     Value(f64, State),
     Unset(State),
@@ -59,7 +59,7 @@ pub enum NextOptReal {
 }
 
 // `.T.`, `.F.` and `.U.`, or 12.
-#[derive(Drop)]
+#[derive(Clone, Copy)]
 enum Truth {
     True,
     False,
@@ -67,7 +67,7 @@ enum Truth {
     NotTruth,
 }
 
-#[derive(Drop)]
+#[derive(Clone, Copy)]
 pub enum NextTruth {
     True(State),
     False(State),
@@ -102,7 +102,7 @@ fn first_open(t: &[u8]) -> usize
 }
 
 // What stands between the first `(` and a `)` at the end.
-#[derive(Drop)]
+#[derive(Clone, Copy)]
 enum Inner {
     Inside(usize, usize),
     Bare,

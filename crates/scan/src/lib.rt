@@ -26,7 +26,7 @@ use error::Fault;
 use statement::{HeaderSpan, RecordSpan, Said, Section, Tidied};
 
 // How many header rows and data rows there are, and the largest id; or why there are none.
-#[derive(Drop)]
+#[derive(Clone, Copy)]
 pub enum Scanned {
     Rows {
         headers: usize,
@@ -38,7 +38,7 @@ pub enum Scanned {
 
 // What a pass finds: how many header rows and data rows there are, the largest id, and whether every data record is tidy; or why there are
 // none.
-#[derive(Drop)]
+#[derive(Clone, Copy)]
 enum Passed {
     Counted(usize, usize, u32, bool),
     Stopped(Fault),
@@ -111,7 +111,7 @@ fn rows_found(headers: usize, records: usize, max: u32) -> Scanned
 }
 
 // Where a run of records ended: the place, how many rows there are, and the largest id.
-#[derive(Drop)]
+#[derive(Clone, Copy)]
 pub struct RunEnd {
     pub place: usize,
     pub count: usize,

@@ -17,7 +17,7 @@ use store::OpenedFile;
 use units::Resolved;
 
 // The record of an id, none, or why the file is refused.
-#[derive(Drop)]
+#[derive(Clone, Copy)]
 pub enum Served {
     Row(RecordSpan),
     Nothing,

@@ -23,7 +23,7 @@ use lex::{FoundPlace, Quote};
 use record::{Head, Number, Word};
 
 // Where a statement stands: in the header, in data, or elsewhere, where records are ignored.
-#[derive(Drop)]
+#[derive(Clone, Copy)]
 pub enum Section {
     Outside,
     InHeader,
@@ -31,21 +31,21 @@ pub enum Section {
 }
 
 // A part of the file, from start up to end.
-#[derive(Drop)]
+#[derive(Clone, Copy)]
 pub struct Range {
     pub start: usize,
     pub end: usize,
 }
 
 // A header record's keyword and arguments.
-#[derive(Drop)]
+#[derive(Clone, Copy)]
 pub struct HeaderSpan {
     pub keyword: Range,
     pub args: Range,
 }
 
 // A data record's id, keyword and arguments; complex is 1 for a complex record, whose keyword is 0, 0.
-#[derive(Drop)]
+#[derive(Clone, Copy)]
 pub struct RecordSpan {
     pub id: u32,
     pub keyword: Range,
@@ -53,13 +53,13 @@ pub struct RecordSpan {
     pub complex: u32,
 }
 
-#[derive(Drop)]
+#[derive(Clone, Copy)]
 pub enum HeaderRead {
     HeaderIs(HeaderSpan),
     NoHeader(Fault),
 }
 
-#[derive(Drop)]
+#[derive(Clone, Copy)]
 pub enum RecordRead {
     RecordIs(RecordSpan),
     NoRecord(Fault),
@@ -67,7 +67,7 @@ pub enum RecordRead {
 
 // What a statement says: the reading ends; it is refused; the section after it and the place after it; or a row, with the
 // record's start and the place after the statement.
-#[derive(Drop)]
+#[derive(Clone, Copy)]
 pub enum Said {
     Ends,
     Refuses(Fault),
@@ -77,28 +77,28 @@ pub enum Said {
 }
 
 // What a statement says, and whether its first `;` alone would have given that.
-#[derive(Drop)]
+#[derive(Clone, Copy)]
 pub struct Noted {
     pub said: Said,
     pub tidy: bool,
 }
 
 // A data record that was read by its first `;` alone, with its start and the place after it; or none.
-#[derive(Drop)]
+#[derive(Clone, Copy)]
 pub enum Tidied {
     Untidy,
     Tidy(RecordSpan, usize, usize),
 }
 
 // A data record that was read in one walk, with the place after it and whether it is tidy; or one that is not usual.
-#[derive(Drop)]
+#[derive(Clone, Copy)]
 enum Usual {
     Unusual,
     Whole(RecordSpan, usize, bool),
 }
 
 // What a walk does next: it stops at a place, or goes on from a place with so many open parentheses.
-#[derive(Drop)]
+#[derive(Clone, Copy)]
 enum Step {
     Stop(usize),
     On(usize, usize),

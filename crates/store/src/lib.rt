@@ -13,7 +13,7 @@ use lookup::Tables;
 use scan::Scanned;
 
 // The numbers that go with the tables, or why there are none.
-#[derive(Drop)]
+#[derive(Clone, Copy)]
 pub enum OpenedFile {
     Good(Tables),
     Refused(Fault),

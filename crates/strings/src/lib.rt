@@ -87,7 +87,7 @@ fn hex_four(s: &[u8], k: usize) -> u32
 }
 
 // A character and how many bytes it took; none where it took no byte.
-#[derive(Drop)]
+#[derive(Clone, Copy)]
 struct Char {
     code: u32,
     used: usize,
@@ -343,7 +343,7 @@ fn put_char(out: &mut [u8], at: usize, code: u32) -> usize
 }
 
 // The bytes counted so far, and how many bytes of the string were read for a piece.
-#[derive(Drop)]
+#[derive(Clone, Copy)]
 struct Reached {
     at: usize,
     used: usize,
@@ -399,7 +399,7 @@ fn long(s: &[u8], out: &mut [u8], at: usize) -> Reached
 }
 
 // The bytes counted so far, how many bytes of the string were read for a piece, and the page then in force.
-#[derive(Drop)]
+#[derive(Clone, Copy)]
 struct Advance {
     at: usize,
     used: usize,
@@ -549,7 +549,7 @@ fn run(raw: &[u8], n: usize, out: &mut [u8]) -> usize
 }
 
 // Where a string's text is: it is the string's bytes, or so many bytes of the lent room; or the room is too short.
-#[derive(Drop)]
+#[derive(Clone, Copy)]
 pub enum Decoded {
     Plain,
     Written(usize),

@@ -11,7 +11,7 @@ ghost use Rattle.tokens.specs.Answer.{from_byte, heads_with, told_token_end, Tok
 use lex::TextEnd;
 
 // Where something ends, or that it never does.
-#[derive(Drop)]
+#[derive(Clone, Copy)]
 pub enum TokenEnd {
     At(usize),
     Never,

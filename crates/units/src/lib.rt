@@ -25,7 +25,7 @@ use scalars::NextWhole;
 use statement::RecordSpan;
 
 // Length in mm, angle in radians, tolerance, and whether a length unit was found.
-#[derive(Drop)]
+#[derive(Clone, Copy)]
 pub struct Values {
     pub length: f64,
     pub angle: f64,
@@ -34,14 +34,14 @@ pub struct Values {
 }
 
 // The four values, or a refusal.
-#[derive(Drop)]
+#[derive(Clone, Copy)]
 pub enum Resolved {
     Is(Values),
     Refused(Fault),
 }
 
 // Yes, no, or a refusal.
-#[derive(Drop)]
+#[derive(Clone, Copy)]
 enum Asked {
     Yes,
     No,

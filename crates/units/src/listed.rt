@@ -21,14 +21,14 @@ use scalars::NextReal;
 use statement::RecordSpan;
 
 // A tolerance, or a refusal.
-#[derive(Drop)]
+#[derive(Clone, Copy)]
 pub enum Tolerance {
     Is(f64),
     Refused(Fault),
 }
 
 // The inside of a list of references that all read; or no references; or a refusal.
-#[derive(Drop)]
+#[derive(Clone, Copy)]
 pub enum Refs {
     Inside(usize, usize),
     Nothing,
@@ -36,7 +36,7 @@ pub enum Refs {
 }
 
 // What one listed uncertainty gives: a tolerance, or that the next one is asked, or a refusal.
-#[derive(Drop)]
+#[derive(Clone, Copy)]
 pub enum Uncertain {
     Is(f64),
     Next,

@@ -15,7 +15,7 @@ use parts::Next;
 use statement::{HeaderSpan, RecordSpan};
 
 // A length, an angle, a solid angle, none of them, or a refusal.
-#[derive(Drop)]
+#[derive(Clone, Copy)]
 pub enum UnitRole {
     Length,
     Angle,

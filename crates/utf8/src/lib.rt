@@ -8,7 +8,7 @@ ghost use Rattle.utf8.specs.Utf8.{scalar, encode, byte_at, tail, least_second, h
 ghost use Rattle.utf8.specs.Answer.{code_of_lead, used_of_lead, put_at, put_width};
 
 // A character, and how many bytes stand for it; both 0 where no valid sequence stands.
-#[derive(Drop)]
+#[derive(Clone, Copy)]
 pub struct FirstCharacter {
     pub code: u32,
     pub used: usize,

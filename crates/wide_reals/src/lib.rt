@@ -35,7 +35,7 @@ fn places(k: usize) -> u64
 }
 
 // A number moved up, and by how many binary digits.
-#[derive(Drop)]
+#[derive(Clone, Copy)]
 struct Lifted {
     value: u64,
     by: u32,
@@ -63,7 +63,7 @@ fn lifted_five(k: usize) -> Lifted
 }
 
 // A product of two numbers: its upper 64 digits, and its lower 64.
-#[derive(Drop)]
+#[derive(Clone, Copy)]
 struct Product {
     high: u64,
     low: u64,
@@ -87,7 +87,7 @@ fn multiply(a: u64, b: u64) -> Product
 }
 
 // One digit of a long division, of 27 binary digits, and what is left.
-#[derive(Drop)]
+#[derive(Clone, Copy)]
 struct Digit {
     digit: u64,
     rest: u64,
@@ -111,7 +111,7 @@ fn next_digit(r: u64, d: u64) -> Digit
 }
 
 // A quotient with 54 binary digits below the point, and what is left.
-#[derive(Drop)]
+#[derive(Clone, Copy)]
 struct Quotient {
     digits: u64,
     rest: u64,

@@ -15,14 +15,14 @@ use error::Fault;
 use params::{NextParam, State};
 use strings::Decoded;
 
-#[derive(Drop)]
+#[derive(Clone, Copy)]
 pub enum NextName {
     // Where the name begins and ends, without its dots.
     Name(usize, usize, State),
     Refused(Fault, State),
 }
 
-#[derive(Drop)]
+#[derive(Clone, Copy)]
 pub enum NextText {
     // Where the text begins and ends in the file.
     InFile(usize, usize, State),

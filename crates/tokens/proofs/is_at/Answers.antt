@@ -1,0 +1,11 @@
+use borrow.Author.Rules.{rules}
+use Rattle.tokens.specs.Laws.{heads_at, heads_past}
+use Prim.Native.Nat.{◌-◌}
+use native.Mathlib.Omega.{arith}
+use Rattle.tokens.proofs.is_at.Goals as goal
+
+pub returns-then-i-s : goal.returns-then-i-s
+returns-then-i-s c = heads_at c.args.b c.args.s.now c.args.i (omega arith)
+
+pub returns : goal.returns
+returns c = heads_past c.args.b c.args.s.now c.args.i (omega arith)
