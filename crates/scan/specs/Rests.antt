@@ -51,7 +51,7 @@ moved_rest (StatementForm.ignored d f) = let (a, b) = record_rest d in rest_of a
 -- a header row comes from a header record
 pub header_form : {s : List ℕ} {sec : Section} {xs ys t : List ℕ} {w : HeaderRow} → StatementForm s sec xs (header_statement w ys t)
     → (body : List ℕ) × Record xs ys body t × HeaderRecordForm s ys body (good w)
-header_form (StatementForm.header_row d f g) = (_, d, g)
+header_form (StatementForm.header_row_form d f g) = (_, d, g)
 
 -- a data row comes from a data record
 pub data_form : {s : List ℕ} {sec : Section} {xs ys t : List ℕ} {w : Row} → StatementForm s sec xs (data_statement w ys t)

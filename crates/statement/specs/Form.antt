@@ -104,7 +104,7 @@ pub data StatementForm (s : List ℕ) : Section → List ℕ → Stmt → Type 0
   -- "Records elsewhere are ignored."
   ignored : {xs ys body t : List ℕ} → Record xs ys body t → WordForm body Other → StatementForm s Outside xs (section_now Outside t)
   -- a header record, and its row
-  header_row : {xs ys body t : List ℕ} {w : HeaderRow} → Record xs ys body t → WordForm body Other → HeaderRecordForm s ys body (good w)
+  header_row_form : {xs ys body t : List ℕ} {w : HeaderRow} → Record xs ys body t → WordForm body Other → HeaderRecordForm s ys body (good w)
       → StatementForm s InHeader xs (header_statement w ys t)
   -- a header record that is refused: "the first fault is given"
   header_refused : {xs ys body t : List ℕ} {q : Refusal} → Record xs ys body t → WordForm body Other → HeaderRecordForm s ys body (bad q)

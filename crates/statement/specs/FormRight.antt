@@ -256,7 +256,7 @@ statement_only {s} {sec} (StatementForm.opens d f) = record_says s sec d f
 statement_only {s} {sec} (StatementForm.leaves d f) = record_says s sec d f
 statement_only {s} {sec} (StatementForm.closes d f) = record_says s sec d f
 statement_only {s} (StatementForm.ignored d f) = record_says s Outside d f
-statement_only {s} (StatementForm.header_row {ys} {t} d f g) =
+statement_only {s} (StatementForm.header_row_form {ys} {t} d f g) =
     ap (header_stated ys t) (headerrecord_only g ∙ ap (header_of s ys) (sym (text_before d))) ∙ record_says s InHeader d f
 statement_only {s} (StatementForm.header_refused {ys} {t} d f g) =
     ap (header_stated ys t) (headerrecord_only g ∙ ap (header_of s ys) (sym (text_before d))) ∙ record_says s InHeader d f
@@ -276,7 +276,7 @@ module _ (s : List ℕ) {xs ys body t : List ℕ} (d : Record xs ys body t) wher
   section_comes InHeader f = go (header_of s ys body) (rw (← d.text) at (headerrecord_is s body (59 ∷ t)))
     where
       go : (a : Told HeaderRow) → HeaderRecordForm s ys body a → Stated s InHeader xs
-      go (good w) g = (_, StatementForm.header_row d f g)
+      go (good w) g = (_, StatementForm.header_row_form d f g)
       go (bad q) g = (_, StatementForm.header_refused d f g)
   section_comes InData f = go (record_of s ys body) (rw (← d.text) at (dataform_is s body (59 ∷ t)))
     where
@@ -336,7 +336,7 @@ moved_shorter (StatementForm.ignored d f) = record_shorter d
 
 -- less is left after a header record
 pub header_shorter : {s : List ℕ} {sec : Section} {xs ys t : List ℕ} {w : HeaderRow} → StatementForm s sec xs (header_statement w ys t) → length t < length xs
-header_shorter (StatementForm.header_row d f g) = record_shorter d
+header_shorter (StatementForm.header_row_form d f g) = record_shorter d
 
 -- less is left after a data record
 pub data_shorter : {s : List ℕ} {sec : Section} {xs ys t : List ℕ} {w : Row} → StatementForm s sec xs (data_statement w ys t) → length t < length xs

@@ -1,0 +1,19 @@
+use Rattle.common.specs.Lists.{drop_end}
+use Rattle.record.specs.Turns.{past_stops, past_goes}
+use Rattle.record.specs.Text.{past, past_turn}
+use Rattle.statement.specs.Usual.{is_plain_byte}
+use Rattle.common.specs.Walk.{walk, walk_ends}
+use lib.ListN.{length, drop}
+use borrow.Author.Rules.{rules}
+use native.Mathlib.Omega.{arith}
+use mathlib.Core.List.{[]}
+use mathlib.Core.Bool.{not}
+use mathlib.Core.Path.{◌≡◌, ap, sym, refl, ◌∙◌}
+use Prim.Native.Nat.{◌-◌, ◌≤◌}
+use Rattle.statement.proofs.last_run.Given as goal
+
+abbrev pub invariant-loop-i : goal.invariant-loop-i
+invariant-loop-i l = ((l.from ≤ l.i) × (l.i ≤ length l.s)) × (walk (past_turn is_plain_byte) (λ u. []) tt (drop l.i l.s) ≡ past is_plain_byte (drop l.from l.s))
+
+abbrev pub decreases-loop-i : goal.decreases-loop-i
+decreases-loop-i l = length l.s - l.i
