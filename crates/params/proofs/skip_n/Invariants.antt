@@ -1,0 +1,14 @@
+use Rattle.params.specs.Skips.{skip_from, skips_of}
+use Rattle.params.specs.Answer.{told_skipped}
+use mathlib.Core.Path.{◌≡◌, refl, ◌∙◌, sym, ap}
+use borrow.Author.Tests.{not-true, not-false}
+use native.Mathlib.Omega.{arith}
+use borrow.Author.Rules.{rules}
+use Rattle.params.specs.ReaderLaws.{skip_stops, skip_goes, skip_ends, skips_in}
+use Rattle.params.proofs.skip_n.Given as goal
+
+abbrev pub invariant-loop-left : goal.invariant-loop-left
+invariant-loop-left l = skip_from l.left l.file l.here.place l.here.end ≡ skip_from l.n l.file l.initial.here.place l.initial.here.end
+
+abbrev pub decreases-loop-left : goal.decreases-loop-left
+decreases-loop-left l = l.left

@@ -1,0 +1,12 @@
+use native.Mathlib.Omega.{arith}
+use Prim.Native.Nat.{ℕ, ◌+◌, ◌-◌, ◌≤◌, ◌<◌}
+use borrow.Author.Rules.{rules}
+use Rattle.table.specs.Table.{AllBelow}
+use Rattle.table.specs.Sweeps.{below_next}
+use Rattle.table.proofs.highest.Given as goal
+
+abbrev pub invariant-loop-i : goal.invariant-loop-i
+invariant-loop-i l = (l.from ≤ l.i) × (l.i ≤ l.to) × AllBelow (l.top + 1) l.found l.from l.i × ((m : ℕ) → 0 < m → AllBelow m l.found l.from l.i → l.top < m)
+
+abbrev pub decreases-loop-i : goal.decreases-loop-i
+decreases-loop-i l = l.to - l.i

@@ -1,0 +1,14 @@
+use native.Mathlib.Omega.{arith}
+use mathlib.Core.Path.{◌≡◌, sym, ◌∙◌}
+use Prim.Native.Nat.{◌+◌, ◌-◌, ◌≤◌}
+use lib.ListN.{get_or}
+use borrow.Author.Rules.{rules}
+use Rattle.table.specs.Table.{AllIds}
+use Rattle.table.specs.Sweeps.{ids_next, id_there}
+use Rattle.table.proofs.misses.Given as goal
+
+abbrev pub invariant-loop-i : goal.invariant-loop-i
+invariant-loop-i l = (l.from ≤ l.i) × (l.i ≤ l.to) × (l.missed + l.from ≤ l.i) × (l.missed ≡ 0 → AllIds l.rows l.ids l.found l.from l.i) × (AllIds l.rows l.ids l.found l.from l.i → l.missed ≡ 0)
+
+abbrev pub decreases-loop-i : goal.decreases-loop-i
+decreases-loop-i l = l.to - l.i

@@ -1,0 +1,11 @@
+use mathlib.Core.Path.{sym, ◌∙◌}
+use native.Mathlib.Omega.{arith}
+use borrow.Author.Tests.{ltb-true}
+use borrow.Author.Rules.{rules}
+use Rattle.table.proofs.read_row.Goals as goal
+
+pub row_there-requires : goal.row_there-requires
+row_there-requires c = let h = ltb-true c.args.k _ (sym c.among_rows.ensures ∙ c.if-among_rows.true) in omega (arith, h)
+
+pub returns : goal.returns
+returns c = rw (sym c.among_rows.ensures ∙ c.if-among_rows.false) c.no_row.ensures
