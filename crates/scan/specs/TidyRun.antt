@@ -2,7 +2,7 @@
 -- statement by statement. No contract of a public function cites it. Assumes nothing.
 use Rattle.std.specs.Prelude.{ℕ, ◌+◌, ◌≤◌, ◌<◌, max, ◌≡◌, refl, Bool, true, List, length, drop}
 use Rattle.std.proofs.Common.{sym, ◌∙◌, ap, subst, arith}
-use Rattle.std.proofs.Math.Bool.{and_true}
+use Rattle.std.proofs.Math.Bool.{and-true}
 use Rattle.common.specs.Pick.{pick}
 use Rattle.statement.specs.Rows.{Row, data_statement}
 use Rattle.statement.specs.Statement.{statement}
@@ -49,5 +49,5 @@ module _ (s : List ℕ) (room : ℕ) (known : Bool) (i r m : ℕ) (xs : List ℕ
 pub tidying_ran : (s : List ℕ) (room : ℕ) (known all : Bool) (i r m : ℕ) (xs : List ℕ) {j q k : ℕ} {ys : List ℕ} → Tidying s known all i InData → RecordsRan s room known i r m xs j q k ys → Tidying s known all j InData
 tidying_ran s room known all i r m xs y RecordsRan.none = y
 tidying_ran s room known all i r m xs y (RecordsRan.more {j} z e w p n d t l b a) =
-    subst (λ (c : Bool). Tidying s known c n InData) (and_true all)
+    subst (λ (c : Bool). Tidying s known c n InData) (and-true all)
     (tidying_record s known all j InData (tidying_ran s room known all i r m xs y z) true (sym t) w p n d)

@@ -10,7 +10,7 @@ use Rattle.params.proofs.is_empty.Goals as goal
 
 pub returns-then-not-in_file : goal.returns-then-not-in_file
 unfolding empty_of
-returns-then-not-in_file c = rw (← c.in_file.ensures, not-true c.in_file.result c.if-not-in_file.true) refl
+returns-then-not-in_file c = rw (← c.in_file.ensures, c.if-not-in_file.true) refl
 
 pub slice_bounds-past_trivia-end : goal.slice_bounds-past_trivia-end
 slice_bounds-past_trivia-end c = let h = in_true _ _ _ (sym c.in_file.ensures ∙ c.if-not-in_file.false) in

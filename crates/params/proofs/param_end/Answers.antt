@@ -51,14 +51,14 @@ returns-in-Open c = let l = c.loop-i in
 
 pub loop-i-smaller : goal.loop-i-smaller
 loop-i-smaller c = let l = c.loop-i in
-    let g = c.j-1.given in
-    let k : ParamStep c.args.part.now l.i l.solid l.depth (StepCode.TheVariants.On g.0.0 g.0.1.0 g.0.1.1.0) = rw g.1 at c.token_at.ensures in
+    let g = c.in-On in
+    let k : ParamStep c.args.part.now l.i l.solid l.depth (StepCode.TheVariants.On g.j g.reached g.open) = rw g.is at c.token_at.ensures in
     omega (arith, k.1, k.2)
 
 pub loop-i-preserved : goal.loop-i-preserved
 loop-i-preserved c = let l = c.loop-i in
-    let g = c.j-1.given in
-    let k : ParamStep c.args.part.now l.i l.solid l.depth (StepCode.TheVariants.On g.0.0 g.0.1.0 g.0.1.1.0) = rw g.1 at c.token_at.ensures in
+    let g = c.in-On in
+    let k : ParamStep c.args.part.now l.i l.solid l.depth (StepCode.TheVariants.On g.j g.reached g.open) = rw g.is at c.token_at.ensures in
     (omega (arith, k.3), omega (arith, k.4), omega (arith, k.2), omega (arith, k.1, k.5), sym k.0 ∙ l.invariant.4)
 
 pub returns : goal.returns

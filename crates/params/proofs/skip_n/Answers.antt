@@ -9,7 +9,7 @@ use Rattle.params.proofs.skip_n.Goals as goal
 
 pub returns-then-not-in_file : goal.returns-then-not-in_file
 unfolding skips_of
-returns-then-not-in_file c = rw (← c.in_file.ensures, not-true c.in_file.result c.if-not-in_file.true) refl
+returns-then-not-in_file c = rw (← c.in_file.ensures, c.if-not-in_file.true) refl
 
 pub returns-in-Refused : goal.returns-in-Refused
 returns-in-Refused c = let l = c.loop-left in
