@@ -1,7 +1,7 @@
 -- Laws of a list from a place on.
 -- Assumes nothing.
-use Rattle.std.specs.Prelude.{ℕ, ◌+◌, ◌≤◌, ◌<◌, ◌≡◌, refl, List, [], ◌∷◌, length, drop, get_or}
-use Rattle.std.proofs.Common.{sym, ◌∙◌, ap, add-one, drop_of_length-le, drop-cons}
+use Rattle.std.specs.Prelude.{ℕ, ◌+◌, ◌≤◌, ◌<◌, ◌≡◌, List, [], ◌∷◌, length, drop, get_or}
+use Rattle.std.proofs.Common.{add-one, drop_of_length-le, drop-cons}
 
 -- the list from i on is the byte at i and the list from the next on
 pub split : (xs : List ℕ) (i : ℕ) → i < length xs → drop i xs ≡ get_or xs i 0 ∷ drop (i + 1) xs

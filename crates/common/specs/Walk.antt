@@ -1,8 +1,8 @@
 -- A walk over the bytes of a list, one turn a byte: the one recursion of every search. A turn sees the byte and
 -- what follows it; it stops with an answer or goes on in another state. At the end of the list the state decides.
 -- Three laws carry a loop of the code over it, at an index of the whole list. Assumes nothing.
-use Rattle.std.specs.Prelude.{ℕ, suc, ◌+◌, ◌≤◌, ◌<◌, ◌≡◌, refl, List, [], ◌∷◌, length, drop, get_or}
-use Rattle.std.proofs.Common.{sym, ◌∙◌, ap, drop_of_length-le}
+use Rattle.std.specs.Prelude.{ℕ, ◌+◌, ◌≤◌, ◌<◌, ◌≡◌, List, [], ◌∷◌, length, drop, get_or}
+use Rattle.std.proofs.Common.{drop_of_length-le}
 use Rattle.common.specs.Lists.{split}
 
 -- what a turn answers: it stops, or goes on

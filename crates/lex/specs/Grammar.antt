@@ -3,7 +3,7 @@
 -- Right.antt shows that the searches of Search.antt find just these, and that there is no other.
 -- Assumes nothing.
 -- Definitions to be believed: no law, and nothing computed that no theorem ties (docs/BELIEVE.md).
-use Rattle.std.specs.Prelude.{ℕ, suc, ◌≡◌, Bool, true, false, List, [], ◌∷◌, ◌++◌}
+use Rattle.std.specs.Prelude.{ℕ, suc, ◌≡◌, true, List, [], ◌∷◌, ◌++◌}
 use Rattle.lex.specs.Byte.{white}
 
 -- the list begins with this byte

@@ -1,5 +1,5 @@
 -- Where a rest of the file begins: laws. Assumes nothing.
-use Rattle.std.specs.Prelude.{ℕ, ◌-◌, ◌≤◌, ◌≡◌, List, length, drop}
+use Rattle.std.specs.Prelude.{ℕ, ◌≤◌, ◌≡◌, List, length, drop}
 use Rattle.std.proofs.Common.{arith, length-drop}
 use Rattle.lex.specs.Byte.{place}
 

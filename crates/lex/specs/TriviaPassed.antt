@@ -14,7 +14,6 @@ use Rattle.lex.specs.Search.{Look, halt, missed, trivia}
 use Rattle.lex.specs.Answer.{Sought, at, fault, placed}
 use Rattle.lex.specs.Local.{seek}
 use Rattle.lex.specs.Right.{past_trivia, past_start, blank_step, led_stops}
-use Rattle.lex.specs.Right.Steps.{plainly}
 use Rattle.lex.specs.PassedAtOnce.{LeavesOrRefused, unbegun}
 use Rattle.lex.specs.declared.FoundPlace.{FoundPlace}
 use Rattle.lex.specs.declared.FoundPlace.TheVariants.{At, Refused}

@@ -131,7 +131,7 @@ parts_steps (PartsForm.over g) (suc n) h l = rw (← part_next_only g)
 parts_steps (PartsForm.fault g) (suc n) h l = rw (← part_next_only g)
 parts_steps {s} {from} {end} (PartsForm.more {p = p} g f) (suc n) h l =
     let (a, b, c, d) = next_ahead s from end p (sym (part_next_only g)) in
-    rw (← part_next_only g) (ap (part_before p) (parts_steps f n (omega arith) (omega arith)))
+    rw (← part_next_only g) (ap (part_before p) (parts_steps {from = p.arg_end + 1} f n (omega arith) (omega arith)))
 
 -- all parts by the rules, from a place in the file on, are those that are computed
 pub parts_only : {s : List ℕ} {from end : ℕ} {a : Told (List HeaderRow)} → PartsForm s end from a → from ≤ length s → a ≡ parts_of s from end

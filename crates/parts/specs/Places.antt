@@ -63,10 +63,10 @@ add_in n from p (good ps) h k = (h, k)
 add_in n from p (bad q) h k = k
 
 -- all parts by the rules lie in the file; or they are refused with 3, 4, 6 or 9 at a place in the file
-parts_in : {s : List ℕ} {from end : ℕ} {a : Told (List HeaderRow)} → PartsForm s end from a → AnswerIn (length s) (AllIn (length s) from) a
+parts_in : {s : List ℕ} {end from : ℕ} {a : Told (List HeaderRow)} → PartsForm s end from a → AnswerIn (length s) (AllIn (length s) from) a
 parts_in (PartsForm.over f) = tt
 parts_in (PartsForm.fault f) = next_fault f
-parts_in {s} {from} {end} (PartsForm.more {p = p} {a = a} f g) = add_in (length s) from p a (next_in s from end p (sym (part_next_only f))) (parts_in g)
+parts_in {s} {end} {from} (PartsForm.more {p = p} {a = a} f g) = add_in (length s) from p a (next_in s from end p (sym (part_next_only f))) (parts_in {from = p.arg_end + 1} g)
 
 -- all parts that are computed lie in the file; or they are refused with 3, 4, 6 or 9 at a place in the file
 pub parts_placed : (s : List ℕ) (from end : ℕ) → AnswerIn (length s) (AllIn (length s) from) (parts_of s from end)

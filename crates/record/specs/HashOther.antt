@@ -1,5 +1,5 @@
 -- A text that begins with `#`, the byte 35, is no section word. Assumes nothing.
-use Rattle.std.specs.Prelude.{ℕ, ◌<◌, length, get_or, ◌≡◌, refl, Bool, true, false, List, [], ◌∷◌, ◌++◌}
+use Rattle.std.specs.Prelude.{ℕ, ◌<◌, length, get_or, ◌≡◌, refl, List, [], ◌∷◌, ◌++◌}
 use Rattle.std.proofs.Common.{arith, sym}
 use Rattle.common.specs.Compare.{clash}
 use Rattle.lex.specs.Grammar.{Begins}
@@ -7,8 +7,7 @@ use Rattle.record.specs.Form.{Gap, Trimmed}
 use Rattle.record.specs.FormRight.{trimmed_is}
 use Rattle.common.specs.Walk.{walk}
 use Rattle.record.specs.Text.{past, trail}
-use Rattle.record.specs.Word.{same_bytes, trimmed, word_of}
-use Rattle.record.specs.declared.Word.{Word}
+use Rattle.record.specs.Word.{same_bytes, word_of}
 use Rattle.record.specs.declared.Word.TheVariants.{Other}
 
 -- a text that begins with `#` begins with it when trimmed

@@ -1,7 +1,7 @@
 -- Document 01, 'Reading the file' and the reasons of refusal 7: what stands before a record's arguments, as a function of the
 -- record's text alone. Places count from the record's start.
 -- Assumes nothing.
-use Rattle.std.specs.Prelude.{ℕ, Bool, true, false, List, [], ◌∷◌, eqb, ltb, length}
+use Rattle.std.specs.Prelude.{ℕ, List, [], ◌∷◌, eqb, ltb, length}
 use Rattle.common.specs.Pick.{pick}
 use Rattle.lex.specs.Byte.{place}
 use Rattle.record.specs.Text.{past_gap, NumberAndRest, number_from, Keyed, opened, unopened, keyword}

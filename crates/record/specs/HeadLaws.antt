@@ -1,22 +1,21 @@
 -- What the head of a record's text is, at places of the text: a law for each way out of the code.
 -- Assumes nothing.
-use Rattle.std.specs.Prelude.{ℕ, ◌+◌, ◌-◌, ◌≤◌, ◌<◌, ◌≡◌, Bool, true, false, ◌&&◌, ◌||◌, eqb, ltb, take, drop}
+use Rattle.std.specs.Prelude.{ℕ, ◌+◌, ◌-◌, ◌≤◌, ◌<◌, ◌≡◌, true, false, eqb, take, drop}
 use Rattle.std.proofs.Math.Path.{refl}
-use Rattle.std.proofs.Common.{sym, ◌∙◌, ap, arith, length-take, take_all}
+use Rattle.std.proofs.Common.{sym, ◌∙◌, ap, arith, take_all}
 use mathlib.Core.List.{List, [], ◌∷◌, map}
 use Rattle.std.proofs.Math.Decide.{ℕ_discrete}
 use borrow.Author.Tests.{eq-eqb, ne_eqb, lt-ltb, le-ltb}
 use Rattle.std.proofs.Math.ListN.{length, get_or, length-drop}
 use Rattle.std.proofs.lemmas.List.{length-map}
 use Rattle.common.specs.Lists.{split, drop_end}
-use Rattle.lex.specs.Byte.{place, white}
+use Rattle.lex.specs.Byte.{place}
 use Rattle.lex.specs.Place.{place_drop}
 use Rattle.record.specs.Text.{past_gap, number_and_rest, number_from, Keyed, opened, unopened, keyword, trail}
 use Rattle.record.specs.Byte.{upper}
-use Rattle.record.specs.Word.{is_word, data_word, opens_paren, opens_data, trimmed}
+use Rattle.record.specs.Word.{is_word, data_word, opens_data, trimmed}
 use Rattle.record.specs.Turns.{same_lengths}
 use Rattle.record.specs.Head.{value_head, equal_head, data_head, header_head, keyed_head}
-use Rattle.record.specs.declared.Head.{Head}
 use Rattle.record.specs.declared.Head.TheVariants.{Bad, Complex, Simple}
 
 -- the rest from a byte on begins where the byte stands

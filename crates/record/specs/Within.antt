@@ -4,7 +4,6 @@ use Rattle.std.proofs.Common.{arith}
 use Rattle.common.specs.Pick.{pick}
 use Rattle.lex.specs.Place.{place_within}
 use Rattle.record.specs.Text.{past_gap, NumberAndRest, number_from, Keyed, opened, unopened, keyword}
-use Rattle.lex.specs.Byte.{place}
 use Rattle.record.specs.Head.{keyed_head, value_head, equal_head, id_head, hash_head, data_head, named_head, header_head}
 use Rattle.record.specs.declared.Head.{Head}
 use Rattle.record.specs.declared.Head.TheVariants.{Bad, Complex, Simple}

@@ -1,6 +1,6 @@
 -- Document 01, 'Reading the file': the section words.
 -- Assumes nothing.
-use Rattle.std.specs.Prelude.{ℕ, ◌-◌, Bool, true, false, ◌&&◌, ◌||◌, List, [], ◌∷◌, map, eqb, take, drop}
+use Rattle.std.specs.Prelude.{ℕ, Bool, true, false, ◌&&◌, ◌||◌, List, [], ◌∷◌, map, eqb, take, drop}
 use Rattle.common.specs.Pick.{pick}
 use Rattle.record.specs.Text.{before, past_gap, trail}
 use Rattle.record.specs.declared.Word.{Word}

@@ -1,20 +1,19 @@
-use Rattle.common.specs.Noting.{Noting, noting_none, noting_next, noting_all}
+use Rattle.common.specs.Noting.{noting_none, noting_next, noting_all}
 use Rattle.common.specs.Tests.{neither}
 use lib.Dec.{eqb}
 use lib.ListN.{get_or}
-use Rattle.lex.specs.PassedAtOnce.{Quiet, quiet_byte}
+use Rattle.lex.specs.PassedAtOnce.{quiet_byte}
 use mathlib.Core.Path.{refl}
 use mathlib.Core.Bool.{◌||◌}
-use Prim.Native.Nat.{◌+◌, ◌-◌}
+use Prim.Native.Nat.{◌+◌}
 use native.Mathlib.Omega.{arith}
-use borrow.Author.Rules.{rules}
 use Rattle.lex.proofs.block_ends.Goals as goal
 
 pub loop-k-init : goal.loop-k-init
 loop-k-init c = noting_none (λ n w. refl)
 
 pub loop-k-preserved : goal.loop-k-preserved
-loop-k-preserved c = 
+loop-k-preserved c =
     let l = c.loop-k in
     let a = c.args in
     let s = a.s.now in

@@ -1,13 +1,7 @@
-use Rattle.common.specs.Noting.{Noting, noting_none, noting_next, noting_all}
-use Rattle.common.specs.Tests.{neither}
-use lib.Dec.{eqb}
-use lib.ListN.{get_or}
-use Rattle.lex.specs.PassedAtOnce.{Quiet, quiet_byte}
-use mathlib.Core.Path.{refl}
+use Rattle.common.specs.Noting.{Noting}
+use Rattle.lex.specs.PassedAtOnce.{Quiet}
 use mathlib.Core.Bool.{◌||◌}
-use Prim.Native.Nat.{◌+◌, ◌-◌}
-use native.Mathlib.Omega.{arith}
-use borrow.Author.Rules.{rules}
+use Prim.Native.Nat.{◌-◌}
 use Rattle.lex.proofs.block_ends.Given as goal
 
 abbrev pub invariant-loop-k : goal.invariant-loop-k

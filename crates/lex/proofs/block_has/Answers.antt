@@ -1,20 +1,18 @@
-use Rattle.common.specs.Noting.{Noting, noting_none, noting_next, noting_all}
+use Rattle.common.specs.Noting.{noting_none, noting_next, noting_all}
 use Rattle.common.specs.Tests.{neither}
 use borrow.Author.Tests.{eqb-false}
 use lib.Dec.{eqb}
 use lib.ListN.{get_or}
 use Rattle.lex.specs.ByteSearch.{lacks_none, lacks_next}
-use Rattle.lex.specs.Answer.{Lacks}
-use Prim.Native.Nat.{◌+◌, ◌-◌}
+use Prim.Native.Nat.{◌+◌}
 use native.Mathlib.Omega.{arith}
-use borrow.Author.Rules.{rules}
 use Rattle.lex.proofs.block_has.Goals as goal
 
 pub loop-k-init : goal.loop-k-init
 loop-k-init c = noting_none (lacks_none _ _ _ _ (omega arith))
 
 pub loop-k-preserved : goal.loop-k-preserved
-loop-k-preserved c = 
+loop-k-preserved c =
     let l = c.loop-k in
     let a = c.args in
     let j = a.at + l.k in

@@ -1,9 +1,7 @@
-use Rattle.lex.specs.PassedAtOnce.{BlockCounted, block_counted_none, block_counted_next}
+use Rattle.lex.specs.PassedAtOnce.{block_counted_none, block_counted_next}
 use mathlib.Core.Path.{◌≡◌}
-use mathlib.Core.Bool.{false, ◌||◌}
-use Prim.Native.Nat.{◌+◌, ◌-◌, ◌≤◌}
+use Prim.Native.Nat.{◌+◌}
 use native.Mathlib.Omega.{arith}
-use borrow.Author.Rules.{rules}
 use Rattle.lex.proofs.block_tally.Goals as goal
 
 pub loop-k-init : goal.loop-k-init

@@ -1,9 +1,7 @@
-use Rattle.lex.specs.PassedAtOnce.{BlockCounted, block_counted_none, block_counted_next}
+use Rattle.lex.specs.PassedAtOnce.{BlockCounted}
 use mathlib.Core.Path.{◌≡◌}
 use mathlib.Core.Bool.{false, ◌||◌}
 use Prim.Native.Nat.{◌+◌, ◌-◌, ◌≤◌}
-use native.Mathlib.Omega.{arith}
-use borrow.Author.Rules.{rules}
 use Rattle.lex.proofs.block_tally.Given as goal
 
 abbrev pub invariant-loop-k : goal.invariant-loop-k

@@ -1,7 +1,6 @@
 use Rattle.lex.specs.Seek.{under_less}
 use native.Mathlib.Numerals.{add-one}
 use borrow.Author.Tests.{eq-eqb, ne_eqb}
-use borrow.Author.Rules.{rules}
 use Rattle.lex.proofs.depth_after.Goals as goal
 
 pub returns-then-b-eq40 : goal.returns-then-b-eq40

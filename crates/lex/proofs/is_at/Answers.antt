@@ -1,6 +1,5 @@
 use borrow.Author.Tests.{eqb-true, eqb-false}
 use native.Mathlib.Omega.{arith}
-use borrow.Author.Rules.{rules}
 use Rattle.common.specs.Compare.{clash}
 use Rattle.lex.proofs.is_at.Goals as goal
 

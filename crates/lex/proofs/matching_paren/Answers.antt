@@ -1,18 +1,16 @@
-use Rattle.lex.specs.PassedAtOnce.{left_to_search, blocks_less, bytes_less}
+use Rattle.lex.specs.PassedAtOnce.{blocks_less, bytes_less}
 use Rattle.lex.specs.Seek.{drop_within, seek_halts_at, paren_up}
 use Rattle.lex.specs.Search.{seen, seek_turn, paren, missed, closing, look_of}
 use Rattle.lex.specs.Answer.{placed}
 use Rattle.common.specs.Walk.{walk_ends}
 use Rattle.lex.specs.Place.{place_drop}
-use Rattle.lex.specs.Right.Steps.{plainly}
 use Rattle.error.specs.Refusal.{good, bad, refusal}
 use Rattle.lex.specs.declared.Mode.TheVariants.{Plain}
 use lib.Seq.{drop-drop}
-use lib.ListN.{length, drop, get_or}
+use lib.ListN.{drop, get_or}
 use mathlib.Core.Path.{◌≡◌, refl, sym, ◌∙◌, ap}
-use Prim.Native.Nat.{ℕ, ◌+◌, ◌≤◌}
+use Prim.Native.Nat.{ℕ, ◌+◌}
 use native.Mathlib.Omega.{arith}
-use borrow.Author.Rules.{rules}
 use Rattle.lex.proofs.matching_paren.Goals as goal
 
 pub overflow_add-from : goal.overflow_add-from

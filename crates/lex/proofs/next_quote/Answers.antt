@@ -4,7 +4,6 @@ use Prim.Native.Nat.{ℕ, ◌≤◌, min}
 use lib.ListN.{length}
 use mathlib.Core.Path.{◌≡◌, subst}
 use native.Mathlib.Omega.{arith}
-use borrow.Author.Rules.{rules}
 use Rattle.lex.proofs.next_quote.Goals as goal
 
 pub returns-then-q-near : goal.returns-then-q-near

@@ -1,9 +1,5 @@
 use Rattle.lex.specs.ByteSearch.{lacks_none, lacks_on}
-use Rattle.lex.specs.Answer.{Lacks}
-use lib.ListN.{length}
-use Prim.Native.Nat.{◌-◌, ◌≤◌}
 use native.Mathlib.Omega.{arith}
-use borrow.Author.Rules.{rules}
 use Rattle.lex.proofs.pass_blocks.Goals as goal
 
 pub loop-i-init : goal.loop-i-init

@@ -1,9 +1,6 @@
-use Rattle.lex.specs.ByteSearch.{lacks_none, lacks_on}
 use Rattle.lex.specs.Answer.{Lacks}
 use lib.ListN.{length}
 use Prim.Native.Nat.{◌-◌, ◌≤◌}
-use native.Mathlib.Omega.{arith}
-use borrow.Author.Rules.{rules}
 use Rattle.lex.proofs.pass_blocks.Given as goal
 
 abbrev pub invariant-loop-i : goal.invariant-loop-i

@@ -1,8 +1,5 @@
 use Rattle.lex.specs.ByteSearch.{lacks_none, lacks_next}
-use Rattle.lex.specs.Answer.{Lacks}
-use Prim.Native.Nat.{◌-◌, ◌≤◌}
 use native.Mathlib.Omega.{arith}
-use borrow.Author.Rules.{rules}
 use Rattle.lex.proofs.pass_bytes.Goals as goal
 
 pub loop-i-init : goal.loop-i-init

@@ -1,8 +1,5 @@
-use Rattle.lex.specs.ByteSearch.{lacks_none, lacks_next}
 use Rattle.lex.specs.Answer.{Lacks}
 use Prim.Native.Nat.{◌-◌, ◌≤◌}
-use native.Mathlib.Omega.{arith}
-use borrow.Author.Rules.{rules}
 use Rattle.lex.proofs.pass_bytes.Given as goal
 
 abbrev pub invariant-loop-i : goal.invariant-loop-i

@@ -1,15 +1,9 @@
-use mathlib.Core.List.{List}
-use lib.ListN.{length, drop}
-use mathlib.Core.Path.{◌≡◌, refl, ◌∙◌}
+use mathlib.Core.Path.{refl, ◌∙◌}
 use mathlib.Core.Bool.{◌||◌}
-use Prim.Native.Nat.{ℕ, ◌-◌, ◌≤◌}
 use Rattle.common.specs.Tests.{neither}
-use Rattle.lex.specs.Search.{paren}
-use Rattle.lex.specs.Right.Steps.{plainly}
 use lib.Dec.{ltb}
 use borrow.Author.Tests.{ltb-false}
 use native.Mathlib.Omega.{arith}
-use borrow.Author.Rules.{rules}
 use Rattle.lex.proofs.pass_calm.Goals as goal
 
 pub loop-i-init : goal.loop-i-init

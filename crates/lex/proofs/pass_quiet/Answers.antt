@@ -1,9 +1,5 @@
-use Rattle.lex.specs.PassedAtOnce.{Quiet}
-use lib.ListN.{length}
 use mathlib.Core.Path.{refl, ◌∙◌}
-use Prim.Native.Nat.{◌-◌, ◌≤◌}
 use native.Mathlib.Omega.{arith}
-use borrow.Author.Rules.{rules}
 use Rattle.lex.proofs.pass_quiet.Goals as goal
 
 pub loop-i-init : goal.loop-i-init

@@ -1,9 +1,6 @@
 use Rattle.lex.specs.PassedAtOnce.{Quiet}
 use lib.ListN.{length}
-use mathlib.Core.Path.{refl, ◌∙◌}
 use Prim.Native.Nat.{◌-◌, ◌≤◌}
-use native.Mathlib.Omega.{arith}
-use borrow.Author.Rules.{rules}
 use Rattle.lex.proofs.pass_quiet.Given as goal
 
 abbrev pub invariant-loop-i : goal.invariant-loop-i

@@ -1,7 +1,5 @@
 use Rattle.lex.specs.PassedAtOnce.{onward_byte, onward_slash, onward_text, onward_remark}
-use borrow.Author.Tests.{not-true, not-false}
 use native.Mathlib.Omega.{arith}
-use borrow.Author.Rules.{rules}
 use Rattle.lex.proofs.past.Goals as goal
 
 pub returns-then-c-eq39 : goal.returns-then-c-eq39

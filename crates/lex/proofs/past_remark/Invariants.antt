@@ -1,11 +1,7 @@
-use Rattle.lex.specs.PassedAtOnce.{StaysInside, stays_inside_on, leaves_at_on, remark_found, remark_none, remark_last, remark_byte}
-use mathlib.Core.Path.{refl, ◌∙◌, ap}
+use Rattle.lex.specs.PassedAtOnce.{StaysInside}
 use lib.ListN.{length}
 use Prim.Native.Nat.{◌+◌, ◌-◌, ◌≤◌}
-use Rattle.lex.specs.Answer.{placed}
 use Rattle.lex.specs.declared.Mode.TheVariants.{Remark}
-use native.Mathlib.Omega.{arith}
-use borrow.Author.Rules.{rules}
 use Rattle.lex.proofs.past_remark.Given as goal
 
 abbrev pub invariant-loop-q : goal.invariant-loop-q

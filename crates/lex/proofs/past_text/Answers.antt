@@ -3,7 +3,6 @@ use Rattle.lex.specs.Answer.{TextEnds}
 use Prim.Native.Nat.{◌+◌}
 use mathlib.Core.Path.{subst}
 use native.Mathlib.Omega.{arith}
-use borrow.Author.Rules.{rules}
 use Rattle.lex.proofs.past_text.Goals as goal
 
 pub returns-in-After : goal.returns-in-After

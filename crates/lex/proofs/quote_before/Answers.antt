@@ -3,7 +3,6 @@ use lib.ListN.{drop, get_or}
 use mathlib.Core.Path.{ap, ◌∙◌}
 use mathlib.Core.List.{◌∷◌}
 use native.Mathlib.Omega.{arith}
-use borrow.Author.Rules.{rules}
 use Rattle.common.specs.Lists.{split, drop_end}
 use Rattle.lex.proofs.quote_before.Goals as goal
 

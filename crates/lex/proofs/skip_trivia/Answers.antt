@@ -4,12 +4,10 @@ use Rattle.lex.specs.Search.{trivia}
 use Rattle.lex.specs.Answer.{placed}
 use Rattle.lex.specs.Place.{place_drop}
 use Rattle.error.specs.Refusal.{good}
-use borrow.Author.Tests.{not-true, not-false}
 use lib.ListN.{length, drop}
 use mathlib.Core.Path.{◌≡◌, sym, ◌∙◌, ap}
-use Prim.Native.Nat.{ℕ, ◌-◌, ◌≤◌}
+use Prim.Native.Nat.{ℕ, ◌-◌}
 use native.Mathlib.Omega.{arith}
-use borrow.Author.Rules.{rules}
 use Rattle.lex.proofs.skip_trivia.Goals as goal
 
 pub loop-i-init : goal.loop-i-init

@@ -3,11 +3,10 @@ use Rattle.lex.specs.Answer.{QuoteIs}
 use Rattle.lex.specs.declared.Quote.{Quote}
 use Rattle.lex.specs.declared.Quote.TheVariants.{Doubled, Single, Last}
 use Rattle.std.proofs.Common.{List, ℕ, get_or, ◌<◌}
-use Prim.Native.Nat.{◌+◌, ◌-◌, ◌≤◌}
+use Prim.Native.Nat.{◌+◌, ◌≤◌}
 use mathlib.Core.Path.{◌≡◌, sym, subst}
 use lib.ListN.{length, drop}
 use native.Mathlib.Omega.{arith}
-use borrow.Author.Rules.{rules}
 use Rattle.lex.proofs.text_end.Goals as goal
 
 pub loop-i-init : goal.loop-i-init

@@ -2,15 +2,15 @@
 -- Assumes nothing.
 use Rattle.std.specs.Prelude.{ℕ, ◌≡◌, Bool}
 use Rattle.std.proofs.Math.Path.{refl}
-use Rattle.std.proofs.Common.{sym, ◌∙◌, arith}
+use Rattle.std.proofs.Common.{◌∙◌}
 use Rattle.std.proofs.Math.Bool.{true, false}
 use mathlib.Core.List.{List, [], ◌∷◌, ◌++◌, append-nil}
 use Rattle.std.proofs.Math.Dec.{eqb}
 use borrow.Author.Tests.{eqb-true, eqb-false, ne_eqb}
 use Rattle.common.specs.Walk.{Turn, on, walk}
 use Rattle.lex.specs.Lexer.{calm, fresh, next_mode}
-use Rattle.lex.specs.Search.{Seen, seen, Look, look, seek_turn, missed}
-use Rattle.lex.specs.Answer.{Sought, at, fault}
+use Rattle.lex.specs.Search.{seen, Look, look, seek_turn, missed}
+use Rattle.lex.specs.Answer.{Sought, fault}
 use Rattle.lex.specs.Grammar.{Begins, OpensComment, Remarked, Comment, Inside, Quotation}
 use Rattle.lex.specs.Local.{seek, seek_within, seek_past}
 use Rattle.lex.specs.declared.Mode.{Mode}

@@ -1,7 +1,6 @@
 use Rattle.record.specs.HeadLaws.{data_none, data_other, data_over, data_empty, data_value}
 use mathlib.Core.Path.{◌∙◌}
 use native.Mathlib.Omega.{arith}
-use borrow.Author.Rules.{rules}
 use Rattle.record.proofs.data_head.Goals as goal
 
 pub returns-then-b-eq0 : goal.returns-then-b-eq0

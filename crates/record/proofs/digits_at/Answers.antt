@@ -1,15 +1,13 @@
 use Rattle.common.specs.Lists.{drop_end}
 use Rattle.record.specs.Turns.{digit_stops, digit_goes, number_grows}
 use Rattle.record.specs.Text.{digit_turn, number_and_rest, number_from}
-use Rattle.common.specs.Walk.{walk, walk_ends}
+use Rattle.common.specs.Walk.{walk_ends}
 use Rattle.common.specs.Tests.{bounds}
-use lib.ListN.{length, drop, get_or}
-use borrow.Author.Tests.{not-true, not-false}
-use borrow.Author.Rules.{rules}
+use lib.ListN.{drop, get_or}
 use native.Mathlib.Omega.{arith}
 use mathlib.Core.List.{[]}
 use mathlib.Core.Path.{◌≡◌, ap, sym, refl, ◌∙◌}
-use Prim.Native.Nat.{◌+◌, ◌-◌, ◌*◌, ◌≤◌, max}
+use Prim.Native.Nat.{◌+◌, ◌-◌, ◌*◌}
 use Rattle.record.proofs.digits_at.Goals as goal
 
 pub loop-i-init : goal.loop-i-init

@@ -1,15 +1,9 @@
-use Rattle.common.specs.Lists.{drop_end}
-use Rattle.record.specs.Turns.{digit_stops, digit_goes, number_grows}
 use Rattle.record.specs.Text.{digit_turn, number_and_rest, number_from}
-use Rattle.common.specs.Walk.{walk, walk_ends}
-use Rattle.common.specs.Tests.{bounds}
-use lib.ListN.{length, drop, get_or}
-use borrow.Author.Tests.{not-true, not-false}
-use borrow.Author.Rules.{rules}
-use native.Mathlib.Omega.{arith}
+use Rattle.common.specs.Walk.{walk}
+use lib.ListN.{length, drop}
 use mathlib.Core.List.{[]}
-use mathlib.Core.Path.{◌≡◌, ap, sym, refl, ◌∙◌}
-use Prim.Native.Nat.{◌+◌, ◌-◌, ◌*◌, ◌≤◌, max}
+use mathlib.Core.Path.{◌≡◌}
+use Prim.Native.Nat.{◌-◌, ◌≤◌, max}
 use Rattle.record.proofs.digits_at.Given as goal
 
 abbrev pub invariant-loop-i : goal.invariant-loop-i

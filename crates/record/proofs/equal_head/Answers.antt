@@ -1,7 +1,6 @@
 use Rattle.record.specs.HeadLaws.{equal_none, equal_other, equal_found}
 use native.Mathlib.Omega.{arith}
 use mathlib.Core.Path.{◌∙◌}
-use borrow.Author.Rules.{rules}
 use Rattle.record.proofs.equal_head.Goals as goal
 
 pub returns-then-b-q : goal.returns-then-b-q

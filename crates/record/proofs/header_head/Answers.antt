@@ -1,6 +1,5 @@
 use Rattle.record.specs.HeadLaws.{named_absent, named_found}
 use native.Mathlib.Omega.{arith}
-use borrow.Author.Rules.{rules}
 use Rattle.record.proofs.header_head.Goals as goal
 
 pub returns-in-Absent : goal.returns-in-Absent

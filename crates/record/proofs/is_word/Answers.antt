@@ -1,14 +1,12 @@
 use Rattle.common.specs.Lists.{drop_end}
 use Rattle.record.specs.Turns.{same_lengths, same_stops, same_goes}
-use Rattle.record.specs.Word.{same_bytes, is_word}
+use Rattle.record.specs.Word.{same_bytes}
 use Rattle.record.specs.Byte.{upper}
-use lib.ListN.{length, drop, length-map}
+use lib.ListN.{length-map}
 use borrow.Author.Tests.{eq-eqb, ne_eqb}
-use borrow.Author.Rules.{rules}
 use native.Mathlib.Omega.{arith}
 use mathlib.Core.List.{map}
-use mathlib.Core.Path.{◌≡◌, sym, refl, ◌∙◌}
-use Prim.Native.Nat.{◌-◌, ◌≤◌}
+use mathlib.Core.Path.{sym, refl, ◌∙◌}
 use Rattle.record.proofs.is_word.Goals as goal
 
 pub returns-then-t-w : goal.returns-then-t-w

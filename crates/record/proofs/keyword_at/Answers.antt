@@ -1,12 +1,11 @@
 use Rattle.record.specs.Turns.{key_stops, key_goes}
 use Rattle.record.specs.Text.{keyword, key_turn, unopened}
-use Rattle.common.specs.Walk.{walk, walk_ends}
-use lib.ListN.{length, drop}
-use borrow.Author.Tests.{eq-eqb, ne_eqb, not-true, not-false}
-use borrow.Author.Rules.{rules}
+use Rattle.common.specs.Walk.{walk_ends}
+use lib.ListN.{drop}
+use borrow.Author.Tests.{eq-eqb, ne_eqb}
 use native.Mathlib.Omega.{arith}
-use mathlib.Core.Path.{◌≡◌, sym, refl, ◌∙◌}
-use Prim.Native.Nat.{◌+◌, ◌-◌, ◌≤◌}
+use mathlib.Core.Path.{sym, refl, ◌∙◌}
+use Prim.Native.Nat.{◌+◌}
 use Rattle.record.proofs.keyword_at.Goals as goal
 
 -- the name

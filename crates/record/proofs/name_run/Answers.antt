@@ -1,10 +1,6 @@
 use Rattle.record.specs.Turns.{key_solid}
-use Rattle.record.specs.Text.{keyword}
-use lib.ListN.{length, drop}
 use native.Mathlib.Omega.{arith}
-use mathlib.Core.Path.{◌≡◌, refl, ◌∙◌}
-use Prim.Native.Nat.{◌-◌, ◌≤◌}
-use borrow.Author.Rules.{rules}
+use mathlib.Core.Path.{refl, ◌∙◌}
 use Rattle.record.proofs.name_run.Goals as goal
 
 pub loop-i-init : goal.loop-i-init

@@ -1,10 +1,7 @@
-use Rattle.record.specs.Turns.{key_solid}
 use Rattle.record.specs.Text.{keyword}
 use lib.ListN.{length, drop}
-use native.Mathlib.Omega.{arith}
-use mathlib.Core.Path.{◌≡◌, refl, ◌∙◌}
+use mathlib.Core.Path.{◌≡◌}
 use Prim.Native.Nat.{◌-◌, ◌≤◌}
-use borrow.Author.Rules.{rules}
 use Rattle.record.proofs.name_run.Given as goal
 
 abbrev pub invariant-loop-i : goal.invariant-loop-i

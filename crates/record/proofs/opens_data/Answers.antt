@@ -1,9 +1,7 @@
 use Rattle.record.specs.HeadLaws.{opens_short, opens_other, opens_after, opens_alone}
 use lib.ListN.{length-take}
-use borrow.Author.Tests.{not-true, not-false}
 use mathlib.Core.Path.{◌∙◌, sym}
 use native.Mathlib.Omega.{arith}
-use borrow.Author.Rules.{rules}
 use Rattle.record.proofs.opens_data.Goals as goal
 
 pub returns-then-t-lt4 : goal.returns-then-t-lt4

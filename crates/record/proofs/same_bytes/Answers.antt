@@ -1,13 +1,11 @@
 use Rattle.common.specs.Lists.{drop_end}
 use Rattle.record.specs.Turns.{same_lengths, same_stops, same_goes}
 use Rattle.record.specs.Word.{same_bytes}
-use lib.ListN.{length, drop}
 use borrow.Author.Tests.{eq-eqb, ne_eqb}
-use borrow.Author.Rules.{rules}
 use native.Mathlib.Omega.{arith}
-use mathlib.Core.List.{map, map-id}
-use mathlib.Core.Path.{◌≡◌, ap, sym, refl, ◌∙◌}
-use Prim.Native.Nat.{ℕ, ◌-◌, ◌≤◌}
+use mathlib.Core.List.{map-id}
+use mathlib.Core.Path.{ap, sym, refl, ◌∙◌}
+use Prim.Native.Nat.{ℕ}
 use Rattle.record.proofs.same_bytes.Goals as goal
 
 pub returns-then-x-y : goal.returns-then-x-y

@@ -1,12 +1,7 @@
-use Rattle.common.specs.Lists.{drop_end}
-use Rattle.record.specs.Turns.{same_lengths, same_stops, same_goes}
 use Rattle.record.specs.Word.{same_bytes}
 use lib.ListN.{length, drop}
-use borrow.Author.Tests.{eq-eqb, ne_eqb}
-use borrow.Author.Rules.{rules}
-use native.Mathlib.Omega.{arith}
-use mathlib.Core.List.{map, map-id}
-use mathlib.Core.Path.{◌≡◌, ap, sym, refl, ◌∙◌}
+use mathlib.Core.List.{map}
+use mathlib.Core.Path.{◌≡◌}
 use Prim.Native.Nat.{ℕ, ◌-◌, ◌≤◌}
 use Rattle.record.proofs.same_bytes.Given as goal
 

@@ -3,7 +3,6 @@ use Rattle.record.specs.HashOther.{hash_word, empty_word}
 use Rattle.record.specs.HeadLaws.{trimmed_at}
 use native.Mathlib.Omega.{arith}
 use mathlib.Core.Path.{◌∙◌, ap}
-use borrow.Author.Rules.{rules}
 use Rattle.record.proofs.section_word.Goals as goal
 
 pub returns-then-b-eq0 : goal.returns-then-b-eq0

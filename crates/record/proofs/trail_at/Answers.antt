@@ -1,13 +1,8 @@
 use Rattle.common.specs.Lists.{drop_end}
 use Rattle.record.specs.Trail.{trim_more, trim_none, trim_here}
-use Rattle.record.specs.Form.{All}
-use Rattle.lex.specs.Byte.{white}
-use lib.ListN.{length, drop}
-use borrow.Author.Tests.{not-true, not-false}
-use borrow.Author.Rules.{rules}
+use lib.ListN.{length}
 use native.Mathlib.Omega.{arith}
 use mathlib.Core.Path.{sym, ◌∙◌}
-use Prim.Native.Nat.{◌≤◌, min}
 use Rattle.record.proofs.trail_at.Goals as goal
 
 pub loop-end-init : goal.loop-end-init

@@ -1,7 +1,6 @@
 use Rattle.record.specs.HeadLaws.{value_none, value_complex, value_keyed, keyed_absent, keyed_found}
 use native.Mathlib.Omega.{arith}
 use mathlib.Core.Path.{◌∙◌}
-use borrow.Author.Rules.{rules}
 use Rattle.record.proofs.value_head.Goals as goal
 
 pub returns-then-b-v : goal.returns-then-b-v

@@ -1,5 +1,4 @@
 use mathlib.Core.Path.{◌∙◌, sym, refl}
-use borrow.Author.Rules.{rules}
 use Rattle.record.proofs.word_in.Goals as goal
 
 pub returns-then-is_word : goal.returns-then-is_word
