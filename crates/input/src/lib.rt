@@ -17,7 +17,7 @@ pub use sizes::{
     MIDDLE_SLOTS, SMALL_CHARS, SMALL_ENDS, SMALL_FILE, SMALL_HEADERS, SMALL_KEPT, SMALL_NUMBERS,
     SMALL_REFS, SMALL_ROWS, SMALL_SLOTS,
 };
-pub use source::{OpenedInput, Source, open_argument, size};
+pub use source::{OpenedInput, Source, argument, has_argument, open_argument, size};
 use std::io;
 use std::io::Read;
 

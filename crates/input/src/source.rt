@@ -31,6 +31,22 @@ pub struct OpenedInput<F, S> {
     pub name: usize,
 }
 
+// Puts an argument at the start of the room, and answers its length: 0 where it is missing or longer than the room.
+pub fn argument<R: Env>(rt: &R, i: usize, room: &mut [u8]) -> usize
+    ensures { IsPrefixLen result room.new }
+{
+    rt.arg(i, room).unwrap_or(0)
+}
+
+// Whether the program has an argument of this number. Its own name is number 0.
+pub fn has_argument<R: Env>(rt: &R, i: usize) -> bool {
+    let mut none = [0u8; 1];
+    match rt.arg(i, &mut none) {
+        Err(FillError::NotPresent) => false,
+        _ => true,
+    }
+}
+
 // Opens the file that an argument names, `-` being standard input. Where that fails, standard error says why.
 pub fn open_argument<R: Env + Files + Input + Eprint + Alloc>(
     rt: &R,
