@@ -32,7 +32,14 @@ fn main(rt: HostRuntime) {
     let mut pen = printing::fresh();
     let mut left = u64::MAX;
     while left > 0 {
-        feed = input::pass(&mut from, &mut chunk, feed, usize::MAX, input::LF, &mut line);
+        feed = input::pass(
+            &mut from,
+            &mut chunk,
+            feed,
+            usize::MAX,
+            input::LF,
+            &mut line,
+        );
         left = input::left(&rt, left, feed);
         pen = both(&rt, &mut out, pen, &line, feed, left);
     }

@@ -21,7 +21,14 @@ fn main(rt: HostRuntime) {
     let mut pen = printing::fresh();
     let mut left = u64::MAX;
     while left > 0 {
-        feed = input::pass(&mut from, &mut chunk, feed, usize::MAX, input::LF, &mut line);
+        feed = input::pass(
+            &mut from,
+            &mut chunk,
+            feed,
+            usize::MAX,
+            input::LF,
+            &mut line,
+        );
         left = input::left(&rt, left, feed);
         let said = answer::said(&mut line, &mut room, feed, left);
         pen = printing::form(
