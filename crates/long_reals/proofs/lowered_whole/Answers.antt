@@ -23,5 +23,5 @@ returns c =
     let one = take (k / 32) p.a.now ++ (ys ++ drop n (drop (k / 32) p.a.now)) in
     let w = worth (take (k / 32 + r.result.used + 1) q.new.a) in
     let u = r.ensures.few in
-    let e : worth (take (k / 32 + r.result.used) one) ≡ num * 2 ^ (32 * (k / 32)) = digits_placed p.a.now ys (k / 32) r.result.used c.requires.5 (omega (arith, c.requires.2, c.requires.3, c.requires.4)) c.a-1.given.0 ∙ ap (λ (x : ℕ). x * 2 ^ (32 * (k / 32))) (read_all p.t.now p.i p.n ys r.result c.requires.1 r.ensures) in
+    let e : worth (take (k / 32 + r.result.used) one) ≡ num * 2 ^ (32 * (k / 32)) = digits_placed p.a.now ys (k / 32) r.result.used c.requires.5 (omega (arith, c.requires.2, c.requires.3, c.requires.4)) (omega arith) ∙ ap (λ (x : ℕ). x * 2 ^ (32 * (k / 32))) (read_all p.t.now p.i p.n ys r.result c.requires.1 r.ensures) in
     c.lowered_in.ensures num (10 ^ p.k) (scaled_whole num w k p.k (moved_up k num (worth (take (k / 32 + r.result.used) one)) w e q.ensures))

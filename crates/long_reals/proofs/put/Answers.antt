@@ -23,7 +23,7 @@ shape_of-a c =
     let p = c.args in
     let e = length-set p.a.now (p.s / 32) (p.m % 4294967296) in
     let f = length-set (set p.a.now (p.s / 32) (p.m % 4294967296)) (p.s / 32 + 1) (p.m / 4294967296) in
-    c.a-1.given ∙ f ∙ e
+    omega (arith, e, f)
 
 pub returns : goal.returns
 returns c =

@@ -29,10 +29,10 @@ loop-left-preserved c =
     let i = c.loop-left.invariant in
     let t = c.loop-left-test.true in
     let w = worth (take p.used p.a.now) in
-    (omega arith, c.a-1.given ∙ i.1, omega arith, c.push.ensures ∙ goes w (worth (take c.loop-left.n c.loop-left.a)) p.k c.loop-left.left 13 (p.k - (c.loop-left.left - 13)) (omega arith) i.3)
+    (omega arith, omega arith, omega arith, c.push.ensures ∙ goes w (worth (take c.loop-left.n c.loop-left.a)) p.k c.loop-left.left 13 (p.k - (c.loop-left.left - 13)) (omega arith) i.3)
 
 pub shape_of-a : goal.shape_of-a
-shape_of-a c = c.a-2-1.given ∙ c.loop-left.invariant.1
+shape_of-a c = omega arith
 
 pub returns : goal.returns
 returns c =

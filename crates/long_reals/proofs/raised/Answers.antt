@@ -41,8 +41,7 @@ raised_in-requires c =
     let e : worth (take 5 c.put.new.a) ≡ p.m * 2 ^ 64 = c.put.ensures in
     let m = pos_of_ne-zero c.if-m-eq0.false in
     let k = c.if-k-gt308.false in
-    let y = c.a-2-1.given in
-    (omega (arith, y), k, subst (λ (x : ℕ). 2 ^ 64 ≤ x) (sym e) (large p.m m), omega (arith, y))
+    (omega arith, k, subst (λ (x : ℕ). 2 ^ 64 ≤ x) (sym e) (large p.m m), omega arith)
 
 pub returns : goal.returns
 returns c = let p = c.args in c.raised_in.ensures p.m (sym c.put.ensures)

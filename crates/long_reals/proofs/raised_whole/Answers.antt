@@ -25,9 +25,8 @@ raised_in-requires c =
     let p = c.args in
     let r = c.read_digits-r in
     let f = r.ensures.few in
-    let l = c.a-1.given.1 in
     let ys = r.new.a in
-    let e = in_room_lem p.t.now p.i p.n p.a.now ys r.result c.requires.1 r.ensures c.requires.6 (omega (arith, c.requires.3, c.requires.5)) c.a-1.given.0 in
+    let e = in_room_lem p.t.now p.i p.n p.a.now ys r.result c.requires.1 r.ensures c.requires.6 (omega (arith, c.requires.3, c.requires.5)) (omega arith) in
     (omega (arith, c.requires.3, c.requires.4, c.requires.5), c.requires.4, subst (λ (x : ℕ). 2 ^ 64 ≤ x) (sym e) (large (number_in 0 (drop p.i p.t.now)) c.requires.2), omega (arith, c.requires.5))
 
 pub returns : goal.returns
@@ -36,5 +35,5 @@ returns c =
     let r = c.read_digits-r in
     let f = r.ensures.few in
     let ys = r.new.a in
-    let e = in_room_lem p.t.now p.i p.n p.a.now ys r.result c.requires.1 r.ensures c.requires.6 (omega (arith, c.requires.3, c.requires.5)) c.a-1.given.0 in
+    let e = in_room_lem p.t.now p.i p.n p.a.now ys r.result c.requires.1 r.ensures c.requires.6 (omega (arith, c.requires.3, c.requires.5)) (omega arith) in
     c.raised_in.ensures (number_in 0 (drop p.i p.t.now)) (sym e)

@@ -102,7 +102,7 @@ pub overflow_add-result : goal.overflow_add-result
 overflow_add-result c = let k = c.loop-left.invariant.1.steps in omega (arith, c.ranges.count)
 
 pub shape_of-a : goal.shape_of-a
-shape_of-a c = c.a-2-1.given ∙ c.loop-left.invariant.0
+shape_of-a c = omega arith
 
 pub returns : goal.returns
 returns c =
