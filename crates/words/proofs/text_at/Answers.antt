@@ -39,6 +39,14 @@ slice_bounds-decode_string-count c =
     let l = part_length a.file.now a.start a.stop (omega arith) (omega arith) in
     omega arith
 
+pub slice_bounds-decode_string-start : goal.slice_bounds-decode_string-start
+slice_bounds-decode_string-start c = 
+    let a = c.args in
+    let h : is_string (take (a.stop - a.start) (drop a.start a.file.now)) ≡ true = sym c.is_string.ensures ∙ c.if-not-is_string.false in
+    let k = string_two (take (a.stop - a.start) (drop a.start a.file.now)) h in
+    let l = part_length a.file.now a.start a.stop (omega arith) (omega arith) in
+    omega arith
+
 pub overflow_sub-result : goal.overflow_sub-result
 overflow_sub-result c = 
     let a = c.args in
@@ -51,16 +59,16 @@ pub returns-in-Plain : goal.returns-in-Plain
 unfolding is_unset
 returns-in-Plain c = 
     let a = c.args in
-    let q = text_read a.file.now a.out.now a.start a.stop a.to.place a.to.end (sym c.same_bytes.ensures ∙ c.if-same_bytes.false) c.decode_string.result c.decode_string.new.out.0 _ (sym c.is_string.ensures ∙ c.if-not-is_string.false) c.decode_string.ensures.value c.decode_string.ensures.out_after (ap (decoded_at (span a.start a.stop)) (sym c.in-Plain.is)) in record { result_value = q.0; out_after = q.1 }
+    let q = text_read a.file.now a.out.now a.start a.stop a.to.place a.to.end (sym c.same_bytes.ensures ∙ c.if-same_bytes.false) c.decode_string.result c.decode_string.new.out _ (sym c.is_string.ensures ∙ c.if-not-is_string.false) c.decode_string.ensures.value c.decode_string.ensures.out_after (ap (decoded_at (span a.start a.stop)) (sym c.in-Plain.is)) in record { result_value = q.0; out_after = q.1 }
 
 pub returns-in-Written : goal.returns-in-Written
 unfolding is_unset
 returns-in-Written c = 
     let a = c.args in
-    let q = text_read a.file.now a.out.now a.start a.stop a.to.place a.to.end (sym c.same_bytes.ensures ∙ c.if-same_bytes.false) c.decode_string.result c.decode_string.new.out.0 _ (sym c.is_string.ensures ∙ c.if-not-is_string.false) c.decode_string.ensures.value c.decode_string.ensures.out_after (ap (decoded_at (span a.start a.stop)) (sym c.in-Written.is)) in record { result_value = q.0; out_after = q.1 }
+    let q = text_read a.file.now a.out.now a.start a.stop a.to.place a.to.end (sym c.same_bytes.ensures ∙ c.if-same_bytes.false) c.decode_string.result c.decode_string.new.out _ (sym c.is_string.ensures ∙ c.if-not-is_string.false) c.decode_string.ensures.value c.decode_string.ensures.out_after (ap (decoded_at (span a.start a.stop)) (sym c.in-Written.is)) in record { result_value = q.0; out_after = q.1 }
 
 pub returns-in-Short : goal.returns-in-Short
 unfolding is_unset
 returns-in-Short c = 
     let a = c.args in
-    let q = text_read a.file.now a.out.now a.start a.stop a.to.place a.to.end (sym c.same_bytes.ensures ∙ c.if-same_bytes.false) c.decode_string.result c.decode_string.new.out.0 _ (sym c.is_string.ensures ∙ c.if-not-is_string.false) c.decode_string.ensures.value c.decode_string.ensures.out_after (ap (decoded_at (span a.start a.stop)) (sym c.in-Short.is)) in record { result_value = q.0; out_after = q.1 }
+    let q = text_read a.file.now a.out.now a.start a.stop a.to.place a.to.end (sym c.same_bytes.ensures ∙ c.if-same_bytes.false) c.decode_string.result c.decode_string.new.out _ (sym c.is_string.ensures ∙ c.if-not-is_string.false) c.decode_string.ensures.value c.decode_string.ensures.out_after (ap (decoded_at (span a.start a.stop)) (sym c.in-Short.is)) in record { result_value = q.0; out_after = q.1 }
