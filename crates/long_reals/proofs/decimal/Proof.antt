@@ -12,7 +12,7 @@ use Rattle.nearest.specs.Power.{near_by}
 use Rattle.nearest.specs.PowerLaws.{ten_pos}
 use Rattle.long_reals.specs.Number.{number_in}
 use Rattle.long_reals.specs.DigitsRight.{number_none}
-use Rattle.nearest.specs.Borders.{near_nothing}
+use Rattle.nearest.proofs.Borders.{near_nothing}
 use Rattle.long_reals.proofs.decimal.Statement.{statement}
 use Rattle.long_reals.proofs.decimal.Tie as tie
 

@@ -10,7 +10,7 @@ use Rattle.nearest.specs.Nearest.{signed}
 use Rattle.limbs.specs.Worth.{worth}
 use Rattle.limbs.specs.Laws.{worth_replicate}
 use Rattle.long_reals.specs.Far.{high_infinity}
-use Rattle.nearest.specs.Borders.{near_nothing}
+use Rattle.nearest.proofs.Borders.{near_nothing}
 use Rattle.long_reals.proofs.raised.Statement.{statement}
 use Rattle.long_reals.proofs.raised.Tie as tie
 

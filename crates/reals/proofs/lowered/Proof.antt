@@ -6,7 +6,7 @@ use native.Mathlib.Omega.{arith}
 use borrow.Author.Rules.{rules}
 use lib.Ieee.{binary64, to_bits}
 use Rattle.reals.specs.FloatTables.{short_path}
-use Rattle.nearest.specs.ProductRight.{quotient_exact}
+use Rattle.nearest.proofs.ProductRight.{quotient_exact}
 use Rattle.reals.proofs.lowered.Statement.{statement}
 use Rattle.reals.proofs.lowered.Tie as tie
 
