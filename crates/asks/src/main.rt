@@ -5,53 +5,42 @@
 #![tactic(auto)]
 
 use input::{CHUNK, SMALL_FILE, SMALL_HEADERS, SMALL_KEPT, SMALL_ROWS, SMALL_SLOTS};
+use std::alloc::AllocError;
+use std::rt::{Env, Files};
 
-// Of lists and grids one number is read.
-fn main() {
-    let mut chunk = [0u8; CHUNK];
-    let mut out = [0u8; CHUNK];
-    let mut file = [0u8; SMALL_FILE];
-    let mut heads = [0u32; SMALL_HEADERS];
-    let mut rows = [0u32; SMALL_ROWS];
-    let mut slots = [0u64; SMALL_SLOTS];
-    let mut bytes = [0u8; SMALL_KEPT];
-    let mut again = [0u32; SMALL_ROWS];
+// Of lists and grids one number is read. The error is a lack of memory for the rooms.
+fn main(rt: HostRuntime) -> Result<(), AllocError> {
+    lend(&rt)
+}
+
+// Lends the rooms to a run of cases.
+fn lend<R: Env + Files + Input + Print + Eprint + AllocGlobal>(rt: &R) -> Result<(), AllocError> {
+    let mut chunk = vec![in rt.alloc(); 0u8; CHUNK]?;
+    let mut out = vec![in rt.alloc(); 0u8; CHUNK]?;
+    let mut file = vec![in rt.alloc(); 0u8; SMALL_FILE]?;
+    let mut heads = vec![in rt.alloc(); 0u32; SMALL_HEADERS]?;
+    let mut rows = vec![in rt.alloc(); 0u32; SMALL_ROWS]?;
+    let mut slots = vec![in rt.alloc(); 0u64; SMALL_SLOTS]?;
+    let mut bytes = vec![in rt.alloc(); 0u8; SMALL_KEPT]?;
+    let mut again = vec![in rt.alloc(); 0u32; SMALL_ROWS]?;
     let mut ints = [0i64; 1];
     let mut reals = [0.0; 1];
     let mut ends = [0usize; 1];
-    lend(
-        &mut chunk, &mut file, &mut heads, &mut rows, &mut slots, &mut bytes, &mut again,
-        &mut ints, &mut reals, &mut ends, &mut out,
-    );
-}
-
-// An array behind a reference is lent as a slice with no proof of its length.
-fn lend(
-    chunk: &mut [u8; CHUNK],
-    file: &mut [u8; SMALL_FILE],
-    heads: &mut [u32; SMALL_HEADERS],
-    rows: &mut [u32; SMALL_ROWS],
-    slots: &mut [u64; SMALL_SLOTS],
-    bytes: &mut [u8; SMALL_KEPT],
-    again: &mut [u32; SMALL_ROWS],
-    ints: &mut [i64; 1],
-    reals: &mut [f64; 1],
-    ends: &mut [usize; 1],
-    out: &mut [u8; CHUNK],
-) {
     compare_output::all(
-        chunk,
-        file,
-        heads,
-        rows,
-        slots,
-        bytes,
-        again,
-        ints,
-        reals,
-        ends,
-        out,
+        rt,
+        chunk.as_mut_slice(),
+        file.as_mut_slice(),
+        heads.as_mut_slice(),
+        rows.as_mut_slice(),
+        slots.as_mut_slice(),
+        bytes.as_mut_slice(),
+        again.as_mut_slice(),
+        &mut ints,
+        &mut reals,
+        &mut ends,
+        out.as_mut_slice(),
         compare_lines::COUNTS,
         0,
     );
+    Ok(())
 }

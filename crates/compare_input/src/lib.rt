@@ -5,7 +5,9 @@
 // more than the longest case that it takes.
 #![tactic(auto)]
 
-use input::{Brought, Feed, NumberLine};
+use input::{Brought, BytesRead, Feed, NumberLine};
+use std::io::Read;
+use std::rt::{Env, Files};
 
 // What became of a case: it is there; there is no further one; no length stands where it should; the input ends inside it; it is longer
 // than the room; that, and the input ends inside it; its file cannot be opened; it cannot be read.
@@ -36,14 +38,14 @@ pub struct Taken {
 }
 
 // Whether the cases are the files that the arguments name.
-fn named() -> bool {
-    os::arg_count() > 1 && !replays()
+fn named<R: Env>(rt: &R) -> bool {
+    input::has_argument(rt, 1) && !replays(rt)
 }
 
 // Whether the first argument says that the run is the gate's.
-pub fn replays() -> bool {
-    let mut word = io::buffer();
-    let n = os::arg(1, &mut word);
+pub fn replays<R: Env>(rt: &R) -> bool {
+    let mut word = [0u8; 4096];
+    let n = input::argument(rt, 1, &mut word);
     record::same_bytes(&word[..n], b"--replay")
 }
 
@@ -59,17 +61,23 @@ pub fn failed(t: Taken) -> bool {
 }
 
 // Takes the case of this number, which is the next one.
-pub fn take(chunk: &mut [u8], file: &mut [u8], feed: Feed, number: usize) -> Taken {
-    if named() {
-        return take_named(file, feed, std::num::wrapping_add_usize(number, 1));
+pub fn take<R: Env + Files + Input + Eprint + Alloc>(
+    rt: &R,
+    chunk: &mut [u8],
+    file: &mut [u8],
+    feed: Feed,
+    number: usize,
+) -> Taken {
+    if named(rt) {
+        return take_named(rt, file, feed, std::num::wrapping_add_usize(number, 1));
     }
-    follow(chunk, file, feed)
+    follow(&mut rt.reader(), chunk, file, feed)
 }
 
 // Takes the next case of standard input.
-fn follow(chunk: &mut [u8], file: &mut [u8], feed: Feed) -> Taken {
-    match input::number_line(chunk, feed) {
-        NumberLine::Number(n, next) => case_of(chunk, file, n as usize, next),
+fn follow<R: Read>(from: &mut R, chunk: &mut [u8], file: &mut [u8], feed: Feed) -> Taken {
+    match input::number_line(from, chunk, feed) {
+        NumberLine::Number(n, next) => case_of(from, chunk, file, n as usize, next),
         NumberLine::End(next) => none(next, OVER),
         NumberLine::Bad(next) => none(next, MALFORMED),
     }
@@ -85,11 +93,17 @@ fn none(feed: Feed, why: usize) -> Taken {
 }
 
 // A case of n bytes that follow in the input. One for which there is no room is passed.
-fn case_of(chunk: &mut [u8], file: &mut [u8], n: usize, feed: Feed) -> Taken {
+fn case_of<R: Read>(
+    from: &mut R,
+    chunk: &mut [u8],
+    file: &mut [u8],
+    n: usize,
+    feed: Feed,
+) -> Taken {
     if n < file.len() {
-        return brought(input::bring(chunk, feed, n, file), n, GOOD, CUT);
+        return brought(input::bring(from, chunk, feed, n, file), n, GOOD, CUT);
     }
-    brought(input::skip(chunk, feed, n), n, LONG, LONG_CUT)
+    brought(input::skip(from, chunk, feed, n), n, LONG, LONG_CUT)
 }
 
 // What became of a case of n bytes: one thing where they were all there, else the other.
@@ -105,23 +119,36 @@ fn brought(got: Brought, n: usize, all: usize, cut: usize) -> Taken {
 }
 
 // Takes the case that is an argument's file.
-fn take_named(file: &mut [u8], feed: Feed, argument: usize) -> Taken {
-    if argument >= os::arg_count() {
+fn take_named<R: Env + Files + Input + Eprint + Alloc>(
+    rt: &R,
+    file: &mut [u8],
+    feed: Feed,
+    argument: usize,
+) -> Taken {
+    if !input::has_argument(rt, argument) {
         return none(feed, OVER);
     }
-    let mut name = io::buffer();
-    let opened = input::open_argument(argument, &mut name);
-    let fd = opened.fd;
-    if fd < 0 {
-        return none(feed, UNOPENED);
+    let mut name = [0u8; 4096];
+    let opened = input::open_argument(rt, argument, &mut name);
+    match opened.source {
+        Some(mut source) => read(feed, file.len(), filled(rt, &mut source, file)),
+        None => none(feed, UNOPENED),
     }
-    let got = input::fill(fd, file);
+}
+
+// Reads a file into the room. Where that fails, standard error says why.
+fn filled<E: Eprint + Alloc, R: Read>(rt: &E, from: &mut R, file: &mut [u8]) -> BytesRead {
+    let got = input::fill(from, file);
     if got.failed != 0 {
-        os::fail(b"read");
+        input::fail(rt, "read", got.error);
     }
-    libc::close(fd);
+    got
+}
+
+// What became of a file of which so much was read into a room of this length.
+fn read(feed: Feed, room: usize, got: BytesRead) -> Taken {
     let count = got.count;
-    let full = if count == file.len() { LONG } else { GOOD };
+    let full = if count == room { LONG } else { GOOD };
     Taken {
         feed,
         why: if got.failed != 0 { UNREAD } else { full },

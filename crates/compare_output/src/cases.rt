@@ -7,6 +7,7 @@ use compare_lines::Course;
 use index::Ids;
 use lookup::Tables;
 use printing::{Line, Pen};
+use std::rt::{Env, Files};
 use store::OpenedFile;
 
 // A case as it was taken, and how it is told.
@@ -23,7 +24,8 @@ pub struct Order {
 
 // Tells all cases, or as many as 64 bits count; so many of them with the walks. The rooms are lent for a chunk of the input, the file, its
 // header rows, data rows and id slots, for texts, references, integers, reals and row ends, and for the output.
-pub fn all(
+pub fn all<R: Env + Files + Input + Print + Eprint + Alloc>(
+    rt: &R,
     chunk: &mut [u8],
     file: &mut [u8],
     heads: &mut [u32],
@@ -42,8 +44,9 @@ pub fn all(
     let mut pen = printing::fresh();
     let mut number = 0;
     while number < usize::MAX && goes_on(got.why) {
-        got = compare_input::take(chunk, file, got.feed, number);
+        got = compare_input::take(rt, chunk, file, got.feed, number);
         pen = case(
+            rt,
             file,
             heads,
             rows,
@@ -59,7 +62,7 @@ pub fn all(
         );
         number += 1;
     }
-    finish(out, pen, compare_input::failed(got));
+    finish(rt, out, pen, got);
 }
 
 // Whether there may be another case.
@@ -82,7 +85,8 @@ fn order_of(got: Taken, number: usize, first: usize, walks: usize) -> Order {
 }
 
 // Opens a case, tells its number and then its lines; or tells why it is not told.
-fn case(
+fn case<R: Print>(
+    rt: &R,
     file: &[u8],
     heads: &mut [u32],
     rows: &mut [u32],
@@ -99,8 +103,9 @@ fn case(
     let n = least(told_of(k), file.len());
     let s = &file[..n];
     let opened = store::open(s, heads, rows, slots);
-    let titled = put(out, pen, title(k, opened));
+    let titled = put(rt, out, pen, title(k, opened));
     tell(
+        rt,
         s,
         heads,
         rows,
@@ -187,17 +192,20 @@ fn tables_of(r: OpenedFile) -> Tables {
 }
 
 // Puts a line that shows no part of a file.
-fn put(out: &mut [u8], pen: Pen, l: Line) -> Pen {
+fn put<R: Print>(rt: &R, out: &mut [u8], pen: Pen, l: Line) -> Pen {
     let table = compare_lines::table();
-    printing::form(out, pen, &table, b"", l)
+    printing::form(rt, out, pen, &table, b"", l)
 }
 
 // Writes out what the buffer still holds. Where standard input could not be read, it says so.
-fn finish(out: &mut [u8], pen: Pen, failed: bool) {
+fn finish<R: Print + Eprint + Alloc>(rt: &R, out: &mut [u8], pen: Pen, got: Taken) {
+    let failed = compare_input::failed(got);
     if failed {
-        os::fail(b"standard input");
+        let feed = got.feed;
+        input::fail(rt, "standard input", feed.error);
     }
     end(
+        rt,
         out,
         pen,
         if failed {
@@ -208,12 +216,12 @@ fn finish(out: &mut [u8], pen: Pen, failed: bool) {
     );
 }
 
-fn end(out: &mut [u8], pen: Pen, pattern: usize) {
-    let said = put(out, pen, compare_lines::three(pattern, 0, 0, 0));
-    printing::finish(out, said);
+fn end<R: Print + Eprint>(rt: &R, out: &mut [u8], pen: Pen, pattern: usize) {
+    let said = put(rt, out, pen, compare_lines::three(pattern, 0, 0, 0));
+    printing::finish(rt, out, said);
 }
 
 // Says how `answers` is used.
-pub fn help(out: &mut [u8]) {
-    end(out, printing::fresh(), compare_lines::HELP);
+pub fn help<R: Print + Eprint>(rt: &R, out: &mut [u8]) {
+    end(rt, out, printing::fresh(), compare_lines::HELP);
 }

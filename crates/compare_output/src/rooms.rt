@@ -11,7 +11,8 @@ use params::State;
 use printing::{Line, Pen};
 
 // Tells all lines of a case, or as many as 64 bits count. Rows are kept in the room for texts, and read again into that for references.
-pub fn tell(
+pub fn tell<R: Print>(
+    rt: &R,
     s: &[u8],
     heads: &mut [u32],
     rows: &mut [u32],
@@ -34,7 +35,7 @@ pub fn tell(
         left -= 1;
         let line = next_line(s, heads, rows, slots, chars, refs, ints, reals, ends, t, c);
         let shown = source(s, &chars[..], compare_lines::in_room(line));
-        last = put_line(&table, shown, refs, ints, reals, ends, out, last, line);
+        last = put_line(rt, &table, shown, refs, ints, reals, ends, out, last, line);
         c = compare_lines::onward(c, line);
     }
     last
@@ -216,7 +217,8 @@ fn kept_rows(
 }
 
 // Puts a line, piece by piece. It shows a part of these bytes, or none.
-fn put_line(
+fn put_line<R: Print>(
+    rt: &R,
     table: &[u8],
     shown: &[u8],
     refs: &[u32],
@@ -232,7 +234,7 @@ fn put_line(
     let mut k = 0;
     while k < n {
         let next = compare_lines::piece(l, k, refs, ints, reals, ends);
-        last = printing::form(out, last, table, shown, next);
+        last = printing::form(rt, out, last, table, shown, next);
         k += 1;
     }
     last

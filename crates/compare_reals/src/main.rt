@@ -23,26 +23,35 @@ const FAILED: usize = 5;
 const NOTHING: usize = 6;
 
 // Answers the lines: all of them, or as many as 64 bits count.
-fn main() {
-    let mut chunk = io::large_buffer();
-    let mut line = io::buffer();
-    let mut out = io::large_buffer();
+fn main(rt: HostRuntime) {
+    let mut from = rt.stdin();
+    let mut chunk = [0u8; 65536];
+    let mut line = [0u8; 4096];
+    let mut out = [0u8; 65536];
     let mut feed = input::start();
     let mut pen = printing::fresh();
     let mut left = u64::MAX;
     while left > 0 {
-        feed = input::pass(&mut chunk, feed, usize::MAX, input::LF, &mut line);
-        left = input::left(left, feed);
-        pen = both(&mut out, pen, &line, feed, left);
+        feed = input::pass(
+            &mut from,
+            &mut chunk,
+            feed,
+            usize::MAX,
+            input::LF,
+            &mut line,
+        );
+        left = input::left(&rt, left, feed);
+        pen = both(&rt, &mut out, pen, &line, feed, left);
     }
-    printing::finish(&out, pen);
+    printing::finish(&rt, &out, pen);
 }
 
 // Puts both answers to a line.
-fn both(out: &mut [u8], pen: Pen, line: &[u8], feed: Feed, left: u64) -> Pen {
+fn both<R: Print>(rt: &R, out: &mut [u8], pen: Pen, line: &[u8], feed: Feed, left: u64) -> Pen {
     let first = firsts();
     let second = seconds();
     let last = printing::form(
+        rt,
         out,
         pen,
         &first,
@@ -50,6 +59,7 @@ fn both(out: &mut [u8], pen: Pen, line: &[u8], feed: Feed, left: u64) -> Pen {
         said(Reals::Class, line, feed, left),
     );
     printing::form(
+        rt,
         out,
         last,
         &second,

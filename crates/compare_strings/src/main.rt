@@ -10,20 +10,29 @@ mod answer;
 mod asked;
 
 // Answers the lines: all of them, or as many as 64 bits count.
-fn main() {
-    let mut chunk = io::large_buffer();
-    let mut line = io::large_buffer();
-    let mut room = io::large_buffer();
-    let mut out = io::large_buffer();
+fn main(rt: HostRuntime) {
+    let mut from = rt.stdin();
+    let mut chunk = [0u8; 65536];
+    let mut line = [0u8; 65536];
+    let mut room = [0u8; 65536];
+    let mut out = [0u8; 65536];
     let table = answer::patterns();
     let mut feed = input::start();
     let mut pen = printing::fresh();
     let mut left = u64::MAX;
     while left > 0 {
-        feed = input::pass(&mut chunk, feed, usize::MAX, input::LF, &mut line);
-        left = input::left(left, feed);
+        feed = input::pass(
+            &mut from,
+            &mut chunk,
+            feed,
+            usize::MAX,
+            input::LF,
+            &mut line,
+        );
+        left = input::left(&rt, left, feed);
         let said = answer::said(&mut line, &mut room, feed, left);
         pen = printing::form(
+            &rt,
             &mut out,
             pen,
             &table,
@@ -31,7 +40,7 @@ fn main() {
             said,
         );
     }
-    printing::finish(&out, pen);
+    printing::finish(&rt, &out, pen);
 }
 
 // The bytes that a pattern shows: the string's, or the text's in the room.

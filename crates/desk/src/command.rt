@@ -4,6 +4,8 @@
 // without a file reads standard input.
 ghost use Rattle.std.specs.Prelude.{◌≤◌};
 
+use std::rt::Env;
+
 // What is to be done next.
 #[derive(Clone, Copy)]
 pub enum Job {
@@ -49,20 +51,20 @@ enum Id {
 }
 
 // What the first argument asks for. Where it is no task's word, all usage is told, and nothing else is done.
-pub fn start() -> TaskCourse {
-    let first = argument(1);
+pub fn start<R: Env>(rt: &R) -> TaskCourse {
+    let first = argument(rt, 1);
     if is_task(first) {
-        return begun(1, first);
+        return begun(rt, 1, first);
     }
     usage(TaskWord::Other, usize::MAX)
 }
 
 // What comes after.
-pub fn after(last: TaskCourse) -> TaskCourse {
+pub fn after<R: Env>(rt: &R, last: TaskCourse) -> TaskCourse {
     let at = last.next;
-    let word = argument(at);
+    let word = argument(rt, at);
     if is_task(word) {
-        return begun(at, word);
+        return begun(rt, at, word);
     }
     let job = last.job;
     let task = last.task;
@@ -96,15 +98,15 @@ pub fn is_over(at: TaskCourse) -> bool {
 }
 
 // The task whose word an argument is.
-fn begun(at: usize, word: TaskWord) -> TaskCourse {
+fn begun<R: Env>(rt: &R, at: usize, word: TaskWord) -> TaskCourse {
     let first = std::num::wrapping_add_usize(at, 1);
-    let behind = argument(first);
+    let behind = argument(rt, first);
     if let TaskWord::Help = behind {
         return usage(word, first);
     }
     match word {
-        TaskWord::Show => shown(first),
-        _ => of(word, 0, first),
+        TaskWord::Show => shown(rt, first),
+        _ => of(rt, word, 0, first),
     }
 }
 
@@ -121,10 +123,10 @@ fn usage(word: TaskWord, next: usize) -> TaskCourse {
 }
 
 // A task whose first file may be an argument.
-fn of(task: TaskWord, id: u32, first: usize) -> TaskCourse {
-    if is_file(argument(first)) {
+fn of<R: Env>(rt: &R, task: TaskWord, id: u32, first: usize) -> TaskCourse {
+    if is_file(argument(rt, first)) {
         let second = std::num::wrapping_add_usize(first, 1);
-        return over(task, id, first, is_file(argument(second)), second);
+        return over(task, id, first, is_file(argument(rt, second)), second);
     }
     over(task, id, 0, false, first)
 }
@@ -141,11 +143,11 @@ fn over(task: TaskWord, id: u32, argument: usize, several: bool, next: usize) ->
 }
 
 // The task to show a record whose id an argument gives.
-fn shown(at: usize) -> TaskCourse {
-    let mut room = io::buffer();
-    let n = os::arg(at, &mut room);
+fn shown<R: Env>(rt: &R, at: usize) -> TaskCourse {
+    let mut room = [0u8; 4096];
+    let n = input::argument(rt, at, &mut room);
     match identified(&room[..n]) {
-        Id::Is(id) => of(TaskWord::Show, id, std::num::wrapping_add_usize(at, 1)),
+        Id::Is(id) => of(rt, TaskWord::Show, id, std::num::wrapping_add_usize(at, 1)),
         Id::Bad => usage(TaskWord::Show, at),
     }
 }
@@ -198,10 +200,10 @@ fn digit(b: u8) -> u64
     (b - b'0') as u64
 }
 
-fn argument(at: usize) -> TaskWord {
-    let mut room = io::buffer();
-    let n = os::arg(at, &mut room);
-    if os::arg_count() <= at {
+fn argument<R: Env>(rt: &R, at: usize) -> TaskWord {
+    let mut room = [0u8; 4096];
+    let n = input::argument(rt, at, &mut room);
+    if !input::has_argument(rt, at) {
         return TaskWord::Missing;
     }
     named(&room[..n])

@@ -119,14 +119,21 @@ fn patterns() -> [u8; 2297] {
 }
 
 // Puts a line and those behind it, of a file and its rows.
-pub fn say(file: &[u8], rows: &[u32], first: LineStep, out: &mut [u8], pen: Pen) -> Pen {
+pub fn say<R: Print>(
+    rt: &R,
+    file: &[u8],
+    rows: &[u32],
+    first: LineStep,
+    out: &mut [u8],
+    pen: Pen,
+) -> Pen {
     let table = patterns();
     let mut last = pen;
     let mut step = first;
     let mut turns = u64::MAX;
     while turns > 0 && !walk::is_over(step) {
-        let put = printing::form(out, last, &table, file, step.line);
-        last = superseded(out, put, walk::times(step));
+        let put = printing::form(rt, out, last, &table, file, step.line);
+        last = superseded(rt, out, put, walk::times(step));
         step = walk::next(file, rows, step);
         turns -= 1;
     }
@@ -134,21 +141,21 @@ pub fn say(file: &[u8], rows: &[u32], first: LineStep, out: &mut [u8], pen: Pen)
 }
 
 // Puts one line that speaks of no bytes of a file.
-pub fn told(l: Line, out: &mut [u8], pen: Pen) -> Pen {
+pub fn told<R: Print>(rt: &R, l: Line, out: &mut [u8], pen: Pen) -> Pen {
     let table = patterns();
-    printing::form(out, pen, &table, b"", l)
+    printing::form(rt, out, pen, &table, b"", l)
 }
 
 // Where an id stands more than once, that its last record is shown.
-fn superseded(out: &mut [u8], pen: Pen, n: usize) -> Pen
+fn superseded<R: Print>(rt: &R, out: &mut [u8], pen: Pen, n: usize) -> Pen
     ensures { Superseded out.old pen.used n out.new result.used }
 {
     if n < 2 {
         return pen;
     }
-    let a = printing::bytes(out, pen, b"the last of ");
-    let b = printing::decimal(out, a, n as u64);
-    printing::bytes(out, b, b" records with this id\n")
+    let a = printing::bytes(rt, out, pen, b"the last of ");
+    let b = printing::decimal(rt, out, a, n as u64);
+    printing::bytes(rt, out, b, b" records with this id\n")
 }
 
 // What a task's word is for, or all of them.

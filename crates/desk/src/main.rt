@@ -17,73 +17,90 @@ mod work;
 ghost use Rattle.io.specs.Counts.{IsPrefixLen};
 
 use command::{Job, TaskCourse, TaskWord};
-use input::OpenedInput;
+use input::{OpenedInput, Source};
 use printing::{Line, Pen};
+use std::alloc::AllocError;
+use std::rt::{Env, Files};
 
-fn main() {
-    let mut out = io::large_buffer();
-    let said = tasks(input::stack_limit(), &mut out);
-    printing::finish(&out, said);
+// The error is a lack of memory for the rooms.
+fn main(rt: HostRuntime) -> Result<(), AllocError> {
+    let mut out = [0u8; 65536];
+    let said = tasks(&rt, input::stack_limit(&rt), &mut out)?;
+    printing::finish(&rt, &out, said);
+    Ok(())
 }
 
 // Does what the command line asks, one file after the other: all of them, or as many as 64 bits count.
-fn tasks(limit: u64, out: &mut [u8]) -> Pen {
+fn tasks<R: Env + Files + Input + Print + Eprint + AllocGlobal>(
+    rt: &R,
+    limit: u64,
+    out: &mut [u8],
+) -> Result<Pen, AllocError> {
     let mut last = printing::fresh();
-    let mut at = command::start();
+    let mut at = command::start(rt);
     let mut turns = u64::MAX;
     while turns > 0 && !command::is_over(at) {
-        last = turn(limit, at, out, last);
-        at = command::after(at);
+        last = turn(rt, limit, at, out, last)?;
+        at = command::after(rt, at);
         turns -= 1;
     }
-    last
+    Ok(last)
 }
 
-fn turn(limit: u64, at: TaskCourse, out: &mut [u8], pen: Pen) -> Pen {
+fn turn<R: Env + Files + Input + Print + Eprint + AllocGlobal>(
+    rt: &R,
+    limit: u64,
+    at: TaskCourse,
+    out: &mut [u8],
+    pen: Pen,
+) -> Result<Pen, AllocError> {
     let job = at.job;
     let task = at.task;
     match job {
-        Job::Usage => lines::told(lines::usage(task), out, pen),
-        Job::File => over_file(limit, at, out, pen),
-        _ => pen,
+        Job::Usage => Ok(lines::told(rt, lines::usage(task), out, pen)),
+        Job::File => over_file(rt, limit, at, out, pen),
+        _ => Ok(pen),
     }
 }
 
-// Does a task over the file that an argument names, or over standard input where that is 0.
-fn over_file(limit: u64, at: TaskCourse, out: &mut [u8], pen: Pen) -> Pen {
+// Does a task over the file that an argument names, or over standard input where that is 0. The file is closed behind it; standard input
+// stays, for `-` may be named twice.
+fn over_file<R: Env + Files + Input + Print + Eprint + AllocGlobal>(
+    rt: &R,
+    limit: u64,
+    at: TaskCourse,
+    out: &mut [u8],
+    pen: Pen,
+) -> Result<Pen, AllocError> {
     let task = at.task;
-    let mut name = io::buffer();
-    let opened = open(at.argument, &mut name);
+    let mut name = [0u8; 4096];
+    let opened = open(rt, at.argument, &mut name);
     let n = opened.name;
     let titled = printing::form(
+        rt,
         out,
         pen,
         b"%b:%n\n%b: ",
         &name[..n],
         title(task, at.several, n),
     );
-    let said = rooms::read(limit, task, at.id, opened.fd, out, titled);
-    shut(opened.fd);
-    said
+    rooms::read(rt, limit, task, at.id, opened.source, out, titled)
 }
 
-fn open(argument: usize, name: &mut [u8]) -> OpenedInput
+fn open<R: Env + Files + Input + Eprint + Alloc>(
+    rt: &R,
+    argument: usize,
+    name: &mut [u8],
+) -> OpenedInput<R::File, R::Reader>
     ensures { IsPrefixLen result.name name.new }
 {
     if argument == 0 {
         return OpenedInput {
-            fd: libc::STDIN_FILENO,
+            source: Some(Source::Stdin(rt.reader())),
             name: 0,
         };
     }
-    input::open_argument(argument, name)
-}
-
-// Closes what was opened. Standard input stays, for `-` may be named twice.
-fn shut(fd: i32) {
-    if fd > libc::STDIN_FILENO {
-        libc::close(fd);
-    }
+    input::open_argument(rt, argument, name)
 }
 
 // The patterns of a file's name: on a line of its own, and before what is said. 0 is no pattern's number.

@@ -1,17 +1,23 @@
-// The rooms that a file and its rows are read into, which stand on the stack.
+// The rooms that a file and its rows are read into.
 //
 // A file is read into rooms for 1 MiB. One that is larger, or has more records than these rooms, or of which the size is not told, is read
-// into rooms for 64 MiB, where the stack limit allows them (`ulimit -s`; the script `step` raises it).
+// into rooms for 64 MiB, where the stack limit is above their size (`ulimit -s`; the script `step` raises it).
+ghost use Rattle.std.specs.Prelude.{◌≡◌, ℕ, ◌≤◌, length};
+ghost use Rattle.desk.specs.declared.rooms.Filled.TheVariants.{Whole};
+
 use crate::command::TaskWord;
 use crate::walk::LineStep;
 use crate::{lines, walk, work};
 use input::{
-    FEW_HEADERS, LARGE_FILE, LARGE_HEADERS, LARGE_ROWS, LARGE_SLOTS, MIDDLE_FILE, MIDDLE_ROWS,
-    MIDDLE_SLOTS,
+    BytesRead, FEW_HEADERS, LARGE_FILE, LARGE_HEADERS, LARGE_ROWS, LARGE_SLOTS, MIDDLE_FILE,
+    MIDDLE_ROWS, MIDDLE_SLOTS, Source,
 };
 use printing::{Line, Pen};
+use std::alloc::AllocError;
+use std::io::Read;
+use std::rt::Files;
 
-// What the large rooms take of the stack, with something over.
+// The stack limit from which on the large rooms are taken: their size, with something over.
 const NEEDED: u64 = 188000000;
 
 // What came of a file: all is said, or it has more records than the rooms and nothing was said yet.
@@ -21,135 +27,159 @@ struct Said {
     outgrown: bool,
 }
 
-// Does a task over what a descriptor reads, which is below 0 where nothing could be opened.
-pub fn read(limit: u64, task: TaskWord, id: u32, fd: i32, out: &mut [u8], pen: Pen) -> Pen {
-    if fd < 0 {
-        return lines::told(lines::bare(lines::UNOPENED), out, pen);
-    }
+// Does a task over what was opened, if it could be.
+pub fn read<R: Files + Print + Eprint + AllocGlobal, S: Read + Drop>(
+    rt: &R,
+    limit: u64,
+    task: TaskWord,
+    id: u32,
+    source: Option<Source<R::File, S>>,
+    out: &mut [u8],
+    pen: Pen,
+) -> Result<Pen, AllocError> {
+    let Some(mut from) = source else {
+        return Ok(lines::told(rt, lines::bare(lines::UNOPENED), out, pen));
+    };
     if limit >= NEEDED {
-        return grown(limit - NEEDED, task, id, fd, out, pen);
+        return grown(rt, task, id, &mut from, out, pen);
     }
-    let said = small(false, task, id, fd, out, pen);
-    said.pen
+    small(rt, false, task, id, &mut from, out, pen)
 }
 
 // The same where there are large rooms for a file that outgrows the small ones.
-fn grown(limit: u64, task: TaskWord, id: u32, fd: i32, out: &mut [u8], pen: Pen) -> Pen {
-    if input::size(fd) >= MIDDLE_FILE as u64 {
-        return large(limit, task, id, fd, out, pen);
+fn grown<R: Files + Print + Eprint + AllocGlobal, S: Read>(
+    rt: &R,
+    task: TaskWord,
+    id: u32,
+    from: &mut Source<R::File, S>,
+    out: &mut [u8],
+    pen: Pen,
+) -> Result<Pen, AllocError> {
+    if input::size(rt, from) >= MIDDLE_FILE as u64 {
+        return large(rt, task, id, from, out, pen);
     }
-    let here = libc::lseek(fd, 0, libc::SEEK_CUR);
-    let said = small(true, task, id, fd, out, pen);
-    if said.outgrown {
-        libc::lseek(fd, here, libc::SEEK_SET);
-        return large(limit, task, id, fd, out, pen);
-    }
-    said.pen
+    small(rt, true, task, id, from, out, pen)
 }
 
-fn small(grows: bool, task: TaskWord, id: u32, fd: i32, out: &mut [u8], pen: Pen) -> Said {
-    let mut file = [0u8; MIDDLE_FILE];
-    let mut headers = [0u32; FEW_HEADERS];
-    let mut rows = [0u32; MIDDLE_ROWS];
-    let mut slots = [0u64; MIDDLE_SLOTS];
-    lend_small(
+// Does the task with a room for 1 MiB, and small rooms for rows, behind which large ones may follow for the bytes that were read.
+fn small<R: Files + Print + Eprint + AllocGlobal, S: Read>(
+    rt: &R,
+    grows: bool,
+    task: TaskWord,
+    id: u32,
+    from: &mut Source<R::File, S>,
+    out: &mut [u8],
+    pen: Pen,
+) -> Result<Pen, AllocError> {
+    let mut file = vec![in rt.alloc(); 0u8; MIDDLE_FILE]?;
+    match within(rt, from, file.as_mut_slice()) {
+        Filled::Unread(l) => Ok(lines::told(rt, l, out, pen)),
+        Filled::Whole(n) => {
+            let said = lend_small(rt, grows, task, id, &file[..n], out, pen)?;
+            if said.outgrown {
+                return lend_large(rt, task, id, &file[..n], out, said.pen);
+            }
+            Ok(said.pen)
+        }
+    }
+}
+
+// Does the task over a file's bytes with small rooms for its rows.
+fn lend_small<R: Print + AllocGlobal>(
+    rt: &R,
+    grows: bool,
+    task: TaskWord,
+    id: u32,
+    t: &[u8],
+    out: &mut [u8],
+    pen: Pen,
+) -> Result<Said, AllocError> {
+    let mut headers = vec![in rt.alloc(); 0u32; FEW_HEADERS]?;
+    let mut rows = vec![in rt.alloc(); 0u32; MIDDLE_ROWS]?;
+    let mut slots = vec![in rt.alloc(); 0u64; MIDDLE_SLOTS]?;
+    Ok(answered(
+        rt,
         grows,
         task,
         id,
-        fd,
-        &mut file,
-        &mut headers,
-        &mut rows,
-        &mut slots,
+        t,
+        headers.as_mut_slice(),
+        rows.as_mut_slice(),
+        slots.as_mut_slice(),
         out,
         pen,
-    )
+    ))
 }
 
-// An array behind a reference is lent as a slice with no proof of its length.
-fn lend_small(
-    grows: bool,
+// Does the task with large rooms.
+fn large<R: Files + Print + Eprint + AllocGlobal, S: Read>(
+    rt: &R,
     task: TaskWord,
     id: u32,
-    fd: i32,
-    file: &mut [u8; MIDDLE_FILE],
-    headers: &mut [u32; FEW_HEADERS],
-    rows: &mut [u32; MIDDLE_ROWS],
-    slots: &mut [u64; MIDDLE_SLOTS],
+    from: &mut Source<R::File, S>,
     out: &mut [u8],
     pen: Pen,
-) -> Said {
-    within(grows, task, id, fd, file, headers, rows, slots, out, pen)
+) -> Result<Pen, AllocError> {
+    let mut file = vec![in rt.alloc(); 0u8; LARGE_FILE]?;
+    match within(rt, from, file.as_mut_slice()) {
+        Filled::Unread(l) => Ok(lines::told(rt, l, out, pen)),
+        Filled::Whole(n) => lend_large(rt, task, id, &file[..n], out, pen),
+    }
 }
 
-// No descriptor is the largest number, so it never calls itself; but since it might, the compiler keeps its frame apart from its caller's,
-// which else would have these rooms in every run of the program.
-fn large(limit: u64, task: TaskWord, id: u32, fd: i32, out: &mut [u8], pen: Pen) -> Pen {
-    let mut file = [0u8; LARGE_FILE];
-    let mut headers = [0u32; LARGE_HEADERS];
-    let mut rows = [0u32; LARGE_ROWS];
-    let mut slots = [0u64; LARGE_SLOTS];
-    let last = lend_large(
+// Does the task over a file's bytes with large rooms for its rows.
+fn lend_large<R: Print + AllocGlobal>(
+    rt: &R,
+    task: TaskWord,
+    id: u32,
+    t: &[u8],
+    out: &mut [u8],
+    pen: Pen,
+) -> Result<Pen, AllocError> {
+    let mut headers = vec![in rt.alloc(); 0u32; LARGE_HEADERS]?;
+    let mut rows = vec![in rt.alloc(); 0u32; LARGE_ROWS]?;
+    let mut slots = vec![in rt.alloc(); 0u64; LARGE_SLOTS]?;
+    let said = answered(
+        rt,
+        false,
         task,
         id,
-        fd,
-        &mut file,
-        &mut headers,
-        &mut rows,
-        &mut slots,
+        t,
+        headers.as_mut_slice(),
+        rows.as_mut_slice(),
+        slots.as_mut_slice(),
         out,
         pen,
     );
-    if limit < NEEDED {
-        return last;
-    }
-    if fd == i32::MAX {
-        return large(limit - NEEDED, task, id, fd, out, last);
-    }
-    last
+    Ok(said.pen)
 }
 
-fn lend_large(
-    task: TaskWord,
-    id: u32,
-    fd: i32,
-    file: &mut [u8; LARGE_FILE],
-    headers: &mut [u32; LARGE_HEADERS],
-    rows: &mut [u32; LARGE_ROWS],
-    slots: &mut [u64; LARGE_SLOTS],
-    out: &mut [u8],
-    pen: Pen,
-) -> Pen {
-    let said = within(false, task, id, fd, file, headers, rows, slots, out, pen);
-    said.pen
+// A file in its room: whole, in so many bytes; or why it is not.
+#[derive(Clone, Copy)]
+enum Filled {
+    Whole(usize),
+    Unread(Line),
 }
 
-// Does the task within these rooms, which larger ones may follow.
-fn within(
-    grows: bool,
-    task: TaskWord,
-    id: u32,
-    fd: i32,
+// Reads a file into this room.
+fn within<R: Files + Eprint + Alloc, S: Read>(
+    rt: &R,
+    from: &mut Source<R::File, S>,
     file: &mut [u8],
-    headers: &mut [u32],
-    rows: &mut [u32],
-    slots: &mut [u64],
-    out: &mut [u8],
-    pen: Pen,
-) -> Said {
-    let got = input::fill(fd, file);
+) -> Filled
+    ensures { (n : ℕ) → result ≡ Whole n → n ≤ length file.new }
+{
+    let got = input::fill(from, file);
     let n = got.count;
     if got.failed != 0 || n == file.len() {
-        return Said {
-            pen: lines::told(unread(fd, got.failed, n), out, pen),
-            outgrown: false,
-        };
+        return Filled::Unread(unread(rt, from, got));
     }
-    answered(grows, task, id, &file[..n], headers, rows, slots, out, pen)
+    Filled::Whole(n)
 }
 
-// The same over a file's bytes.
-fn answered(
+// Does the task over a file's bytes, within these rooms for rows, which larger ones may follow.
+fn answered<R: Print>(
+    rt: &R,
     grows: bool,
     task: TaskWord,
     id: u32,
@@ -169,19 +199,24 @@ fn answered(
     }
     let first = settled(task, t, headers.len(), rows.len(), found);
     Said {
-        pen: lines::say(t, rows, first, out, pen),
+        pen: lines::say(rt, t, rows, first, out, pen),
         outgrown: false,
     }
 }
 
 // Why a file is not read whole: a read failed, or the room for it is full, which is for one byte less.
-fn unread(fd: i32, failed: usize, n: usize) -> Line {
-    if failed != 0 {
-        os::fail(b"read");
+fn unread<R: Files + Eprint + Alloc, S>(
+    rt: &R,
+    from: &mut Source<R::File, S>,
+    got: BytesRead,
+) -> Line {
+    let n = got.count;
+    if got.failed != 0 {
+        input::fail(rt, "read", got.error);
         return lines::of(lines::UNREAD, n as u64, 0);
     }
     let most = std::num::wrapping_sub_usize(n, 1) as u64;
-    let size = input::size(fd);
+    let size = input::size(rt, from);
     if size < u64::MAX {
         return too_large(size, lines::EMPTY, most);
     }

@@ -1,6 +1,6 @@
 -- A sweep over a part of the lent list: what each of its numbers then is, all others being as they were.
 -- Assumes nothing.
-use Rattle.std.specs.Prelude.{ℕ, ◌+◌, ◌-◌, ◌≤◌, ◌<◌, ◌≡◌, refl, true, List, ◌⊎◌, length, get_or, set}
+use Rattle.std.specs.Prelude.{ℕ, ◌+◌, ◌≤◌, ◌<◌, ◌≡◌, refl, true, List, ◌⊎◌, length, get_or, set}
 use Rattle.std.proofs.Common.{sym, ◌∙◌, subst, inl, inr, arith, length-set, get_or-set_same, get_or-set_other, lt-ltb, eq-eqb}
 use Rattle.common.specs.Compare.{ordered, less_or}
 use Rattle.table.specs.Table.{id_of, AllHave}

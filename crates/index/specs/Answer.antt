@@ -1,7 +1,7 @@
 -- What the code's answers say: the row of an id, or none.
 -- Assumes nothing.
 -- Definitions to be believed: no law, and nothing computed that no theorem ties (docs/BELIEVE.md).
-use Rattle.std.specs.Prelude.{ℕ, ◌-◌}
+use Rattle.std.specs.Prelude.{ℕ}
 use Rattle.std.proofs.Math.Option.{Option, none, some}
 use Rattle.index.specs.declared.FoundRow.{FoundRow}
 use Rattle.index.specs.declared.FoundRow.TheVariants.{At, Nothing}

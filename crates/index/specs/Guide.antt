@@ -1,16 +1,15 @@
 -- Laws of the guide and of the step, of the loops that find and lay them, and of each way that a search goes. Assumes nothing.
-use Rattle.std.specs.Prelude.{ℕ, zero, suc, ◌+◌, ◌-◌, ◌*◌, ◌/◌, ◌%◌, ◌^◌, ◌≤◌, ◌<◌, min, max, ◌≡◌, refl, Bool, true, false, ◌&&◌, List, ◌⊎◌, ltb, leb, eqb, length, get_or, set}
-use Rattle.std.proofs.Common.{sym, ◌∙◌, ap, subst, inl, inr, arith, pow-suc, mul-le-mul, mul-div_cancel, div-one, mod-lt, div-mul-le_self, div-lt_iff_lt-mul, mul-lt-mul_of_pos_right, mul-le-mul_right, mul_comm, add-mul, length-set, get_or-set_same, get_or-set_other, lt-ltb, le-ltb, le-leb, ltb-true, ltb-false, eqb-true}
+use Rattle.std.specs.Prelude.{ℕ, zero, suc, ◌+◌, ◌-◌, ◌*◌, ◌/◌, ◌^◌, ◌≤◌, ◌<◌, min, max, ◌≡◌, refl, Bool, true, false, ◌&&◌, List, ◌⊎◌, ltb, eqb, length, get_or, set}
+use Rattle.std.proofs.Common.{sym, ◌∙◌, ap, subst, inl, inr, arith, pow-suc, mul-le-mul, mul-div_cancel, div-one, div-mul-le_self, div-lt_iff_lt-mul, mul-lt-mul_of_pos_right, mul-le-mul_right, mul_comm, add-mul, length-set, get_or-set_same, get_or-set_other, lt-ltb, le-ltb, le-leb, ltb-true, ltb-false, eqb-true}
 use Rattle.std.proofs.Math.Nat.{pow-le-pow_right, div-div-eq-div-mul, one-le-pow, lt-div-mul-add, div-le_of_le-mul, mul-div-mul_left}
 use Rattle.std.proofs.lemmas.Bool.{lt-leb, eqb-false}
-use Rattle.common.specs.Pick.{pick}
 use Rattle.common.specs.Compare.{ordered, less_or}
 use Rattle.common.specs.Walk.{turned}
 use Rattle.index.specs.KeyOrder.{slot_row, table_room, Rises, Steady, step_of, TestTells}
 use Rattle.index.specs.Index.{RowsStart, IsShift}
 use Rattle.index.specs.IndexLaws.{RowsPassed}
 use Rattle.index.specs.IndexRight.{rises_far}
-use Rattle.index.specs.Search.{Bracket, bracket, look_at_slot, search_end, whole_bracket, start_at, range_width, guide_bracket, among, range_end, guide_end, even_end, end_of, first_row}
+use Rattle.index.specs.Search.{Bracket, bracket, look_at_slot, search_end, start_at, range_width, guide_bracket, among, range_end, guide_end, even_end, end_of, first_row}
 use Rattle.index.specs.declared.Ids.{Ids}
 
 -- a range of the guide has at least one id

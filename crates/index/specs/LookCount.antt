@@ -2,20 +2,20 @@
 -- come first; after them each look halves what is left. And how many looks at slots may be at a cache line of their own: eight slots of
 -- 64 bits fill one, so that what lies between two slots at most eight apart lies in their lines. By the guide rows of 24 bytes are looked at,
 -- and each may be at a line of its own. Assumes nothing.
-use Prim.Native.Nat.{ℕ, zero, suc, ◌+◌, ◌-◌, ◌*◌, ◌/◌, ◌%◌, ◌^◌, ◌≤◌, ◌<◌, min, max}
-use Rattle.std.specs.Prelude.{◌≡◌, Bool, true, false, ◌&&◌, List, ◌⊎◌, ltb, leb, eqb}
+use Prim.Native.Nat.{ℕ, zero, suc, ◌+◌, ◌-◌, ◌*◌, ◌/◌, ◌%◌, ◌^◌, ◌≤◌, ◌<◌}
+use Rattle.std.specs.Prelude.{◌≡◌, Bool, true, false, List, ◌⊎◌, ltb, leb}
 use Rattle.std.proofs.Math.Path.{refl}
-use Rattle.std.proofs.Common.{sym, ◌∙◌, ap, subst, inl, inr, pow-suc, eq-eqb, le-ltb}
+use Rattle.std.proofs.Common.{subst, inl, inr, pow-suc, eq-eqb, le-ltb}
 use native.Mathlib.Omega.{arith}
 use Rattle.std.proofs.Math.Nat.{pow-le-pow_right}
 use Rattle.std.proofs.lemmas.Bool.{lt-leb}
 use Rattle.common.specs.Pick.{pick}
 use Rattle.common.specs.Compare.{ordered}
 use Rattle.common.specs.Walk.{Turn, stop, on, turned}
-use Rattle.index.specs.Search.{Bracket, probe_of, turn_at, bracket_turn, end_from, whole_bracket, start_at, range_width, guide_bracket, among}
+use Rattle.index.specs.Search.{Bracket, probe_of, turn_at, bracket_turn, end_from, whole_bracket, range_width, guide_bracket, among}
 use Rattle.index.specs.SearchRight.{Turns, turn_by, guide_high}
 use Rattle.index.specs.Laws.{probe_low, probe_high}
-use Rattle.index.specs.Guide.{wide_pos, among_low}
+use Rattle.index.specs.Guide.{wide_pos}
 use Rattle.index.specs.declared.Ids.{Ids}
 
 -- how many looks follow a look: none where the search stops there, else those at what is left

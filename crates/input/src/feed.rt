@@ -1,8 +1,9 @@
-// Standard input by way of a lent chunk: one system call for many small reads.
+// A reader, as standard input, by way of a lent chunk: one read for many small ones.
 ghost use Rattle.std.specs.Prelude.{◌-◌, ◌≤◌, length};
 ghost use Rattle.io.specs.Counts.{IsPrefixLen};
 
-use crate::{digits, read};
+use crate::{digits, fail, read};
+use std::io::Read;
 
 // The bytes of the chunk from `at` up to `end` were read and are not used yet.
 #[derive(Clone, Copy)]
@@ -11,6 +12,8 @@ pub struct Feed {
     pub end: usize,
     // 1 where the last read failed, else 0.
     pub failed: usize,
+    // The system's number of that failure, and 0 where there is none.
+    pub error: i32,
     // How many bytes `pass` went past.
     pub count: usize,
     // The last byte that was used, and what it may end: LF, or END where there was none.
@@ -42,17 +45,18 @@ pub struct Brought {
 
 // A feed of which nothing was read yet.
 pub fn start() -> Feed {
-    fresh(0, 0)
+    fresh(0, 0, 0)
 }
 
 // A feed of which so many bytes were read and none is used.
-pub fn fresh(end: usize, failed: usize) -> Feed
+pub fn fresh(end: usize, failed: usize, error: i32) -> Feed
     ensures { result.end ≤ end }
 {
     Feed {
         at: 0,
         end,
         failed,
+        error,
         count: 0,
         stop: 0,
         byte: 0,
@@ -60,10 +64,10 @@ pub fn fresh(end: usize, failed: usize) -> Feed
 }
 
 // The feed after the next byte. Where all of the chunk is used, more is read.
-fn next_byte(chunk: &mut [u8], feed: Feed) -> Feed {
+fn next_byte<R: Read>(from: &mut R, chunk: &mut [u8], feed: Feed) -> Feed {
     let mut last = feed;
     if last.at >= last.end {
-        last = read(libc::STDIN_FILENO, chunk);
+        last = read(from, chunk);
     }
     taken(chunk, last)
 }
@@ -85,13 +89,20 @@ fn taken(chunk: &[u8], feed: Feed) -> Feed {
 }
 
 // Goes past bytes, n at most, up to a stop and past it, and puts those that fit at the start of the room.
-pub fn pass(chunk: &mut [u8], feed: Feed, n: usize, stop: usize, room: &mut [u8]) -> Feed
+pub fn pass<R: Read>(
+    from: &mut R,
+    chunk: &mut [u8],
+    feed: Feed,
+    n: usize,
+    stop: usize,
+    room: &mut [u8],
+) -> Feed
     ensures { result.count ≤ n }
 {
     let mut last = feed;
     let mut count = 0;
     while count < n {
-        last = next_byte(chunk, last);
+        last = next_byte(from, chunk, last);
         if last.stop >= stop {
             break;
         }
@@ -105,9 +116,9 @@ pub fn pass(chunk: &mut [u8], feed: Feed, n: usize, stop: usize, room: &mut [u8]
 }
 
 // Reads a number of at most fifteen digits and its line end.
-pub fn number_line(chunk: &mut [u8], feed: Feed) -> NumberLine {
+pub fn number_line<R: Read>(from: &mut R, chunk: &mut [u8], feed: Feed) -> NumberLine {
     let mut room = [0u8; 16];
-    let last = pass(chunk, feed, 16, LF, &mut room);
+    let last = pass(from, chunk, feed, 16, LF, &mut room);
     number(&room, last)
 }
 
@@ -130,10 +141,16 @@ fn kind(stop: usize, count: usize, digits: usize) -> usize {
 }
 
 // Puts the next n bytes at the start of the room, as far as the input and the room go.
-pub fn bring(chunk: &mut [u8], feed: Feed, n: usize, room: &mut [u8]) -> Brought
+pub fn bring<R: Read>(
+    from: &mut R,
+    chunk: &mut [u8],
+    feed: Feed,
+    n: usize,
+    room: &mut [u8],
+) -> Brought
     ensures { IsPrefixLen result.count room.new }
 {
-    let last = pass(chunk, feed, least(n, room.len()), END, room);
+    let last = pass(from, chunk, feed, least(n, room.len()), END, room);
     Brought {
         count: last.count,
         feed: last,
@@ -147,9 +164,9 @@ fn least(a: usize, b: usize) -> usize
 }
 
 // Goes past n bytes, as far as the input goes.
-pub fn skip(chunk: &mut [u8], feed: Feed, n: usize) -> Brought {
+pub fn skip<R: Read>(from: &mut R, chunk: &mut [u8], feed: Feed, n: usize) -> Brought {
     let mut none = [0u8; 1];
-    let last = pass(chunk, feed, n, END, &mut none);
+    let last = pass(from, chunk, feed, n, END, &mut none);
     Brought {
         count: last.count,
         feed: last,
@@ -158,11 +175,11 @@ pub fn skip(chunk: &mut [u8], feed: Feed, n: usize) -> Brought {
 
 // How many more lines a loop over lines may ask for, of so many before the one that `pass` brought: none where there was no line, so that
 // the loop ends. The last line may lack its LF. Where a read failed, standard error says why.
-pub fn left(before: u64, feed: Feed) -> u64
+pub fn left<R: Eprint + Alloc>(rt: &R, before: u64, feed: Feed) -> u64
     ensures { result ≤ before - 1 }
 {
     if feed.failed != 0 {
-        os::fail(b"standard input");
+        fail(rt, "standard input", feed.error);
         return 0;
     }
     if feed.stop == END {

@@ -1,9 +1,10 @@
-// What the programs are given: files that arguments name, standard input, how much stack they may use, and the sizes of their rooms there.
+// What the programs are given: files that arguments name, standard input, how much stack they may use, and the sizes of their rooms.
 #![tactic(auto)]
 
 mod feed;
 mod limit;
 mod sizes;
+mod source;
 
 ghost use Rattle.std.specs.Prelude.{◌≤◌, length};
 ghost use Rattle.io.specs.Counts.{IsPrefixLen};
@@ -16,6 +17,9 @@ pub use sizes::{
     MIDDLE_SLOTS, SMALL_CHARS, SMALL_ENDS, SMALL_FILE, SMALL_HEADERS, SMALL_KEPT, SMALL_NUMBERS,
     SMALL_REFS, SMALL_ROWS, SMALL_SLOTS,
 };
+pub use source::{OpenedInput, Source, argument, has_argument, open_argument, size};
+use std::io;
+use std::io::Read;
 
 #[derive(Clone, Copy)]
 pub struct BytesRead {
@@ -23,82 +27,63 @@ pub struct BytesRead {
     pub count: usize,
     // 1 where a read failed, else 0.
     pub failed: usize,
+    // The system's number of that failure, and 0 where there is none.
+    pub error: i32,
 }
 
 // Reads until the room is full, the input ends or a read fails.
-pub fn fill(fd: i32, room: &mut [u8]) -> BytesRead
+pub fn fill<R: Read>(from: &mut R, room: &mut [u8]) -> BytesRead
     ensures { IsPrefixLen result.count room.new }
 {
     let mut count = 0;
     let mut failed = 0;
+    let mut error = 0;
     while count < room.len() {
-        let got = read(fd, &mut room[count..]);
+        let got = read(from, &mut room[count..]);
         failed = got.failed;
+        error = got.error;
         if got.end == 0 {
             break;
         }
         count += got.end;
     }
-    BytesRead { count, failed }
+    BytesRead {
+        count,
+        failed,
+        error,
+    }
 }
 
 // What one read brings, none of it used.
-fn read(fd: i32, room: &mut [u8]) -> Feed
+fn read<R: Read>(from: &mut R, room: &mut [u8]) -> Feed
     ensures { result.end ≤ length room.new }
 {
-    let got = libc::read(fd, room);
-    feed::fresh(io::count(got, room), (got < 0) as usize)
+    match from.read(room) {
+        Ok(n) => feed::fresh(n, 0, 0),
+        Err(e) => feed::fresh(0, 1, number_of(&e)),
+    }
 }
 
-#[derive(Clone, Copy)]
-pub struct OpenedInput {
-    // The descriptor, or -1.
-    pub fd: i32,
-    // How many bytes the file's name has, at the start of the lent room for it.
-    pub name: usize,
+// The system's number of an error, and 0 where it has none.
+pub fn number_of(e: &io::Error) -> i32 {
+    e.raw_os_error().unwrap_or(0)
 }
 
-// Opens the file that an argument names, `-` being standard input. Where that fails, standard error says why.
-pub fn open_argument(i: usize, name: &mut [u8]) -> OpenedInput
-    ensures { IsPrefixLen result.name name.new }
-{
-    let n = os::arg(i, name);
-    let fd = open(&name[..n]);
-    OpenedInput { fd, name: n }
+// Says on standard error what failed, as its caller names it, and why, by the system's number of the error: a line that no proof speaks of.
+pub fn fail<R: Eprint + Alloc>(rt: &R, what: &str, number: i32) {
+    let error = io::Error::from_raw_os_error(number);
+    let _ = match format!(in rt.alloc(); "{error}") {
+        Ok(text) => eprintln!(rt; "{what}: {}", words_of(text.as_str())),
+        Err(_) => eprintln!(rt; "{what}: {error}"),
+    };
 }
 
-// Opens the file of a name that was just fetched, or says why not.
-fn open(name: &[u8]) -> i32 {
-    if os::errno() != 0 {
-        os::fail(b"argument");
-        return -1;
+// What an error's text says in words, without its number.
+fn words_of(text: &str) -> &str {
+    match text.rsplit_once(" (os error ") {
+        Some((words, _)) => words,
+        None => text,
     }
-    if is_dash(name) {
-        return libc::STDIN_FILENO;
-    }
-    let fd = os::open_read(name);
-    if fd < 0 {
-        os::fail(name);
-    }
-    fd
-}
-
-fn is_dash(name: &[u8]) -> bool {
-    if name.len() == 1 {
-        return name[0] == b'-';
-    }
-    false
-}
-
-// The size of what a descriptor reads, which stays where it stands. u64::MAX where that is not told, as of a pipe.
-pub fn size(fd: i32) -> u64 {
-    let here = libc::lseek(fd, 0, libc::SEEK_CUR);
-    if here < 0 {
-        return u64::MAX;
-    }
-    let end = libc::lseek(fd, 0, libc::SEEK_END);
-    libc::lseek(fd, here, libc::SEEK_SET);
-    if end < 0 { u64::MAX } else { end as u64 }
 }
 
 #[derive(Clone, Copy)]

@@ -1,15 +1,17 @@
-// How much stack the program may use, so that it takes no more rooms than it has: rooms are arrays on the stack.
+// How much stack the program may use, by which it chooses the size of its rooms.
 //
-// The limit is read as text. (getrlimit fills a struct behind a reference, and its caller would be proved by hand.)
-use crate::digits;
+// The limit is read as text.
+use crate::{digits, fill};
+use std::fs;
+use std::rt::Files;
 
 // The stack limit in bytes. 0 where it is not told, and where there is none: an emulator then gives the program a stack of
 // its own choice.
-pub fn stack_limit() -> u64 {
-    let fd = os::open_read(b"/proc/self/limits");
-    let mut page = io::buffer();
-    io::read_full(fd, &mut page);
-    libc::close(fd);
+pub fn stack_limit<R: Files>(rt: &R) -> u64 {
+    let mut page = [0u8; 4096];
+    if let Ok(mut file) = fs::open(rt, "/proc/self/limits") {
+        fill(&mut file, &mut page);
+    }
     limit_in(&page)
 }
 

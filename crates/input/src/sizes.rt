@@ -1,4 +1,4 @@
-// The sizes of the programs' rooms, all of them: rooms are arrays on the stack.
+// The sizes of the programs' rooms, all of them: which of them a program takes is chosen by its stack limit.
 //
 // A header record takes three bytes or more of a file and four numbers, a data record six bytes, six numbers and an id slot; kept, a record takes 24
 // bytes. A byte of a string gives three at most. A reference in a list takes three bytes, another number two, a row of a grid three. A file that

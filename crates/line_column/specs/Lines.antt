@@ -3,7 +3,7 @@
 -- LinesRight.antt shows that Spot.antt computes just these, and that there are no others.
 -- Assumes nothing.
 -- Definitions to be believed: no law, and nothing computed that no theorem ties (docs/BELIEVE.md).
-use Rattle.std.specs.Prelude.{ℕ, suc, ◌+◌, ◌≡◌, List, [], ◌∷◌, ◌++◌, length}
+use Rattle.std.specs.Prelude.{ℕ, suc, ◌≡◌, List, [], ◌∷◌, ◌++◌, length}
 
 -- no LF is among these bytes
 abbrev pub Unbroken : List ℕ → Type 0

@@ -3,16 +3,21 @@ use crate::{Pen, byte, bytes};
 
 // Puts bytes by a pattern's letter: for `h` in hex digits, and `-` where there are none; for `s` those that are hidden as `\x` and their
 // digits, and the others as they are; for `b` all as they are.
-pub fn spelt(buffer: &mut [u8], pen: Pen, t: &[u8], letter: u8) -> Pen {
+pub fn spelt<R: Print>(rt: &R, buffer: &mut [u8], pen: Pen, t: &[u8], letter: u8) -> Pen {
     if letter == b'h' && t.len() == 0 {
-        return byte(buffer, pen, b'-');
+        return byte(rt, buffer, pen, b'-');
     }
     let mut last = pen;
     let mut i = 0;
     while i < t.len() {
         let b = t[i];
         let ways = spellings(b);
-        last = bytes(buffer, last, cut(&ways, first(b, letter), stop(b, letter)));
+        last = bytes(
+            rt,
+            buffer,
+            last,
+            cut(&ways, first(b, letter), stop(b, letter)),
+        );
         i += 1;
     }
     last
@@ -65,8 +70,8 @@ fn digit(n: u8) -> u8 {
 }
 
 // Puts the 16 digits of a number of 64 bits.
-pub fn pattern(buffer: &mut [u8], pen: Pen, n: u64) -> Pen {
+pub fn pattern<R: Print>(rt: &R, buffer: &mut [u8], pen: Pen, n: u64) -> Pen {
     let mut figures = [0u8; 16];
     let k = io::hex(n, 16, &mut figures);
-    bytes(buffer, pen, &figures[..k])
+    bytes(rt, buffer, pen, &figures[..k])
 }

@@ -1,8 +1,8 @@
 // What the programs print, by way of a lent buffer: one system call for each buffer full and not for each number.
 //
 // A pen says how far the buffer is used. Each function puts something behind what the buffer holds and answers the pen
-// after it; where the buffer is full, what it holds is written to standard output first. No contract can say what a
-// system call writes, so the contracts say what the buffer holds.
+// after it; where the buffer is full, what it holds is written to standard output first, which the runtime reaches. No
+// contract can say what a system call writes, so the contracts say what the buffer holds.
 #![tactic(auto)]
 
 mod digits;
@@ -36,11 +36,11 @@ fn least(a: usize, b: usize) -> usize
 }
 
 // Writes out what the buffer holds.
-pub fn flush(buffer: &[u8], pen: Pen) -> Pen
+pub fn flush<R: Print>(rt: &R, buffer: &[u8], pen: Pen) -> Pen
     ensures { result.used ≡ 0 }
 {
     let n = least(pen.used, buffer.len());
-    if io::write_all(libc::STDOUT_FILENO, &buffer[..n]) {
+    if rt.write_all(&buffer[..n]).is_ok() {
         return Pen {
             used: 0,
             lost: pen.lost,
@@ -50,21 +50,21 @@ pub fn flush(buffer: &[u8], pen: Pen) -> Pen
 }
 
 // The pen, after a flush where the buffer is full.
-fn with_room(buffer: &[u8], pen: Pen) -> Pen
+fn with_room<R: Print>(rt: &R, buffer: &[u8], pen: Pen) -> Pen
     ensures { pen.used < length buffer.now → result.used ≡ pen.used }
 {
     let used = pen.used;
     if used < buffer.len() {
         return pen;
     }
-    flush(buffer, pen)
+    flush(rt, buffer, pen)
 }
 
 // Puts one byte. A buffer of no bytes loses it.
-pub fn byte(buffer: &mut [u8], pen: Pen, b: u8) -> Pen
+pub fn byte<R: Print>(rt: &R, buffer: &mut [u8], pen: Pen, b: u8) -> Pen
     ensures { Put buffer.old pen.used (b ∷ []) buffer.new result.used }
 {
-    let roomy = with_room(buffer, pen);
+    let roomy = with_room(rt, buffer, pen);
     let at = roomy.used;
     if at < buffer.len() {
         buffer[at] = b;
@@ -77,34 +77,31 @@ pub fn byte(buffer: &mut [u8], pen: Pen, b: u8) -> Pen
 }
 
 // Puts bytes, in their order.
-pub fn bytes(buffer: &mut [u8], pen: Pen, words: &[u8]) -> Pen
+pub fn bytes<R: Print>(rt: &R, buffer: &mut [u8], pen: Pen, words: &[u8]) -> Pen
     ensures { Put buffer.old pen.used words.now buffer.new result.used }
 {
     let mut last = pen;
     let mut i = 0;
     while i < words.len() {
-        last = byte(buffer, last, words[i]);
+        last = byte(rt, buffer, last, words[i]);
         i += 1;
     }
     last
 }
 
 // Puts a number in decimal, with the fewest digits.
-pub fn decimal(buffer: &mut [u8], pen: Pen, n: u64) -> Pen
+pub fn decimal<R: Print>(rt: &R, buffer: &mut [u8], pen: Pen, n: u64) -> Pen
     ensures { PutNumber buffer.old pen.used n buffer.new result.used }
 {
     let mut figures = [0u8; 20];
     let k = io::decimal(n, &mut figures);
-    bytes(buffer, pen, &figures[..k])
+    bytes(rt, buffer, pen, &figures[..k])
 }
 
 // Writes out what the buffer still holds at a program's end, and says so where something could not be written.
-pub fn finish(buffer: &[u8], pen: Pen) {
-    let last = flush(buffer, pen);
+pub fn finish<R: Print + Eprint>(rt: &R, buffer: &[u8], pen: Pen) {
+    let last = flush(rt, buffer, pen);
     if last.lost != 0 {
-        io::write_all(
-            libc::STDERR_FILENO,
-            b"standard output could not be written whole\n",
-        );
+        let _ = eprintln!(rt; "standard output could not be written whole");
     }
 }

@@ -42,7 +42,7 @@ struct Way {
 }
 
 // Puts a line. A pattern that its table does not have puts nothing.
-pub fn form(buffer: &mut [u8], pen: Pen, table: &[u8], t: &[u8], l: Line) -> Pen {
+pub fn form<R: Print>(rt: &R, buffer: &mut [u8], pen: Pen, table: &[u8], t: &[u8], l: Line) -> Pen {
     let numbers = [l.a, l.b, l.c, l.d, l.e, l.f, l.g, l.h];
     let start = line_start(table, l.pattern);
     let end = line_end(table, start);
@@ -52,7 +52,7 @@ pub fn form(buffer: &mut [u8], pen: Pen, table: &[u8], t: &[u8], l: Line) -> Pen
     while i < end {
         way = after(table[i], i as u64, &numbers, way);
         let place = span(table, way.letter, way.m, way.n);
-        last = put(buffer, last, table, t, way.letter, way.m, place);
+        last = put(rt, buffer, last, table, t, way.letter, way.m, place);
         i += 1;
     }
     last
@@ -127,7 +127,8 @@ fn span(table: &[u8], letter: u8, m: u64, n: u64) -> BytesSpan {
 }
 
 // Puts what a letter stands for: a number, or bytes.
-fn put(
+fn put<R: Print>(
+    rt: &R,
     buffer: &mut [u8],
     pen: Pen,
     table: &[u8],
@@ -137,16 +138,16 @@ fn put(
     s: BytesSpan,
 ) -> Pen {
     match letter {
-        b'd' => decimal(buffer, pen, n),
-        b'x' => pattern(buffer, pen, n),
-        b's' | b'b' | b'h' => spelt(buffer, pen, cut(t, s.start, s.end), letter),
-        b'f' | b'n' => own(buffer, pen, s),
-        _ => bytes(buffer, pen, cut(table, s.start, s.end)),
+        b'd' => decimal(rt, buffer, pen, n),
+        b'x' => pattern(rt, buffer, pen, n),
+        b's' | b'b' | b'h' => spelt(rt, buffer, pen, cut(t, s.start, s.end), letter),
+        b'f' | b'n' => own(rt, buffer, pen, s),
+        _ => bytes(rt, buffer, pen, cut(table, s.start, s.end)),
     }
 }
 
 // A part of the table of words.
-fn own(buffer: &mut [u8], pen: Pen, s: BytesSpan) -> Pen {
+fn own<R: Print>(rt: &R, buffer: &mut [u8], pen: Pen, s: BytesSpan) -> Pen {
     let words = words_table();
-    bytes(buffer, pen, cut(&words, s.start, s.end))
+    bytes(rt, buffer, pen, cut(&words, s.start, s.end))
 }

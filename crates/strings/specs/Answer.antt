@@ -1,6 +1,6 @@
 -- Document 01, 'Strings': what the decoder of a string's text answers, and what the lent room then holds. Assumes nothing.
 -- Definitions to be believed: no law, and nothing computed that no theorem ties (docs/BELIEVE.md).
-use Rattle.std.specs.Prelude.{ℕ, ◌+◌, ◌||◌, List, [], ◌++◌, leb, length, take, drop}
+use Rattle.std.specs.Prelude.{ℕ, ◌||◌, List, [], ◌++◌, leb, length, take, drop}
 use Rattle.common.specs.Pick.{pick}
 use Rattle.strings.specs.Text.{plain, bytes_of}
 use Rattle.strings.specs.declared.Decoded.{Decoded}

@@ -1,8 +1,7 @@
 -- The answers of `decode_string`: one law for each way out. Assumes nothing.
-use Rattle.std.specs.Prelude.{ℕ, ◌+◌, ◌≤◌, ◌<◌, min, ◌≡◌, refl, Bool, true, false, List, [], ◌∷◌, ◌++◌, leb, length, drop, get_or}
-use Rattle.std.proofs.Common.{sym, ◌∙◌, ap, arith, le-leb, take_all}
+use Rattle.std.specs.Prelude.{ℕ, ◌+◌, ◌≤◌, ◌<◌, min, ◌≡◌, refl, true, false, List, [], length, get_or}
+use Rattle.std.proofs.Common.{sym, ap, arith, le-leb, take_all}
 use Rattle.std.proofs.lemmas.Bool.{lt-leb}
-use Rattle.common.specs.Pick.{pick}
 use Rattle.strings.specs.declared.Decoded.{Decoded}
 use Rattle.strings.specs.declared.Decoded.TheVariants.{Plain, Written, Short}
 use Rattle.strings.specs.Text.{plain, bytes_of}

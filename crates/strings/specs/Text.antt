@@ -3,7 +3,7 @@
 -- numbers from 0, page A, to 8, page I (crate pages). Assumes nothing.
 use Rattle.std.specs.Prelude.{ℕ, zero, suc, ◌+◌, ◌*◌, ◌-◌, min, Bool, true, false, ◌&&◌, ◌||◌, List, [], ◌∷◌, ◌++◌, eqb, leb, ltb, length, drop}
 use Rattle.common.specs.Pick.{pick}
-use Rattle.utf8.specs.Utf8.{scalar, encode, byte_at, lead_of}
+use Rattle.utf8.specs.Utf8.{scalar, byte_at, lead_of}
 use Rattle.utf8.specs.Encoding.{encode_all}
 use Rattle.utf8.specs.Answer.{LeadCharacter, valid, invalid}
 use Rattle.pages.specs.Pages.{page_of, code_of}

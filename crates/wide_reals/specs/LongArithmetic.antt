@@ -1,7 +1,7 @@
 -- Long multiplication and long division in whole numbers, and moving a number up to a known length. Laws for the proofs; no promise
 -- names them. Assumes nothing.
-use Rattle.std.specs.Prelude.{ℕ, zero, suc, ◌+◌, ◌-◌, ◌*◌, ◌/◌, ◌%◌, ◌^◌, ◌≤◌, ◌<◌, ◌≡◌, refl}
-use Rattle.std.proofs.Common.{sym, ◌∙◌, ap, subst, add_assoc, add_comm, mul_assoc, mul_comm, mul_left_comm, mul_right_comm, mul-add, add-mul, mul-le-mul, mul-le-mul_right, mod-lt, mod-eq_of_lt, div-add-mod', div-lt_iff_lt-mul, le_of_lt, lt_of_le_of_lt, one-mul, lt_of_mul-lt-mul_right, mul-lt-mul_of_pos_right, arith, pow-add, shl_lt}
+use Rattle.std.specs.Prelude.{ℕ, suc, ◌+◌, ◌-◌, ◌*◌, ◌/◌, ◌%◌, ◌^◌, ◌≤◌, ◌<◌, ◌≡◌, refl}
+use Rattle.std.proofs.Common.{sym, ◌∙◌, ap, subst, add_assoc, add_comm, mul_assoc, mul_comm, mul_left_comm, mul_right_comm, mul-add, add-mul, mul-le-mul, mul-le-mul_right, mod-lt, mod-eq_of_lt, div-add-mod', div-lt_iff_lt-mul, lt_of_le_of_lt, one-mul, lt_of_mul-lt-mul_right, mul-lt-mul_of_pos_right, arith, pow-add, shl_lt}
 use Rattle.std.proofs.Math.Nat.{add_left_comm}
 use Rattle.std.specs.Int.Count.{count_leading_zeros}
 use Rattle.std.proofs.lemmas.Nat.{leading_top}

@@ -1,7 +1,7 @@
 -- m * 10 ^ k and m / 10 ^ k, cut below the digits that the code computes: 10 ^ k is 5 ^ k * 2 ^ k, and a power of two moves nothing but
 -- the place. Laws for the proofs; of this file promises name `halvings_of`, `five_lift` and `Reciprocal` alone. Assumes nothing.
-use Rattle.std.specs.Prelude.{ℕ, zero, suc, ◌+◌, ◌-◌, ◌*◌, ◌/◌, ◌%◌, ◌^◌, ◌≤◌, ◌<◌, ◌≡◌, refl, Bool, true, false, not, ◌&&◌, T, eqb, leb, ltb}
-use Rattle.std.proofs.Common.{sym, ◌∙◌, ap, subst, add-mul, mul_assoc, mul_comm, mul_left_comm, mul_right_comm, one-mul, mul-pos, mul-le-mul, mul-lt-mul_of_pos_right, lt_of_mul-lt-mul_right, lt_of_le_of_lt, suc-mul, zero-mul, mul-one, mul-suc, mul-le-mul_left, mul-le-mul_right, le_of_mul-le-mul_right, le_trans, mod-eq_of_lt, arith, lt-ltb, eq-eqb, ne_eqb, leb→le, eqb→eq, pow_pos, pow-add}
+use Rattle.std.specs.Prelude.{ℕ, zero, suc, ◌+◌, ◌-◌, ◌*◌, ◌/◌, ◌%◌, ◌^◌, ◌≤◌, ◌<◌, ◌≡◌, refl, Bool, true, not, ◌&&◌, T, eqb, leb, ltb}
+use Rattle.std.proofs.Common.{sym, ◌∙◌, ap, subst, add-mul, mul_assoc, mul_comm, mul_left_comm, mul_right_comm, one-mul, mul-pos, mul-le-mul, mul-lt-mul_of_pos_right, lt_of_mul-lt-mul_right, lt_of_le_of_lt, suc-mul, zero-mul, mul-one, mul-suc, mul-le-mul_left, mul-le-mul_right, le_of_mul-le-mul_right, le_trans, mod-eq_of_lt, arith, lt-ltb, ne_eqb, leb→le, eqb→eq, pow_pos, pow-add}
 use Rattle.std.proofs.Math.Nat.{one-le-pow, pow-le-pow_right}
 use Rattle.std.proofs.Math.Decide.{dec_lt}
 use Rattle.std.specs.Float.Ieee.Fits.{and_l, and_r}

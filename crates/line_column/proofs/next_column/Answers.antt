@@ -1,6 +1,5 @@
 use mathlib.Core.Path.{refl}
 use borrow.Author.Tests.{eq-eqb, ne_eqb}
-use borrow.Author.Rules.{rules}
 use Rattle.line_column.proofs.next_column.Goals as goal
 
 pub returns-then-b-eq10 : goal.returns-then-b-eq10

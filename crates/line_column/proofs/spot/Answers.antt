@@ -1,7 +1,4 @@
-use Prim.Native.Nat.{◌-◌}
-use borrow.Author.Rules.{rules}
-use lib.ListN.{length}
-use Rattle.line_column.specs.Spot.{LinesCounted, lines_counted_start, lines_counted_again, lines_counted_end}
+use Rattle.line_column.specs.Spot.{lines_counted_start, lines_counted_again, lines_counted_end}
 use Rattle.line_column.proofs.spot.Goals as goal
 
 pub loop-i-init : goal.loop-i-init

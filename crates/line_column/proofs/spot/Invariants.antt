@@ -1,7 +1,6 @@
 use Prim.Native.Nat.{◌-◌}
-use borrow.Author.Rules.{rules}
 use lib.ListN.{length}
-use Rattle.line_column.specs.Spot.{LinesCounted, lines_counted_start, lines_counted_again, lines_counted_end}
+use Rattle.line_column.specs.Spot.{LinesCounted}
 use Rattle.line_column.proofs.spot.Given as goal
 
 abbrev pub invariant-loop-i : goal.invariant-loop-i

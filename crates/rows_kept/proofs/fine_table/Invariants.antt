@@ -1,12 +1,8 @@
-use native.Mathlib.Omega.{arith}
-use mathlib.Core.Path.{◌≡◌, sym, ◌∙◌, ap}
+use mathlib.Core.Path.{◌≡◌}
 use mathlib.Core.Bool.{true}
 use Prim.Native.Nat.{◌-◌, ◌≤◌}
-use borrow.Author.Rules.{rules}
-use borrow.Author.Tests.{not-true, not-false}
 use Rattle.table.specs.Table.{row_numbers}
-use Rattle.rows_kept.specs.KeptRows.{fine_all, fine_row}
-use Rattle.rows_kept.specs.Laws.{fine_none, fine_more, fine_not}
+use Rattle.rows_kept.specs.KeptRows.{fine_all}
 use Rattle.rows_kept.proofs.fine_table.Given as goal
 
 abbrev pub invariant-loop-k : goal.invariant-loop-k

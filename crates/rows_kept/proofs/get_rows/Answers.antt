@@ -1,9 +1,7 @@
 use native.Mathlib.Omega.{arith}
 use mathlib.Core.Path.{◌≡◌, refl, ◌∙◌, ap}
 use mathlib.Core.List.{List}
-use Prim.Native.Nat.{ℕ, ◌-◌, ◌≤◌}
-use borrow.Author.Rules.{rules}
-use lib.ListN.{length}
+use Prim.Native.Nat.{ℕ}
 use Rattle.statement.specs.Rows.{Row}
 use Rattle.table.specs.Table.{rows_laid, row_put}
 use Rattle.rows_kept.specs.KeptRows.{kept_row_at, first_rows}
@@ -14,7 +12,7 @@ pub loop-k-init : goal.loop-k-init
 loop-k-init c = (omega arith, refl, no_row_laid (kept_row_at c.args.bytes.now) c.args.rows.now)
 
 pub loop-k-preserved : goal.loop-k-preserved
-loop-k-preserved c = 
+loop-k-preserved c =
     let a = c.args in
     let l = c.loop-k in
     let p = c.put_row in
@@ -25,10 +23,10 @@ loop-k-preserved c =
     ∙ ap (λ (w : Row). row_put l.rows l.k w) (q.ensures.result_value_2 ∙ q.ensures.result_value)
     ∙ ap (λ (z : List ℕ). row_put z l.k (r l.k)) l.invariant.2
     ∙ get_more r a.rows.now l.k (omega arith) in
-    (omega arith, p.auto.0 ∙ l.invariant.1, e)
+    (omega arith, p.auto.out ∙ l.invariant.1, e)
 
 pub returns : goal.returns
-returns c = 
+returns c =
     let a = c.args in
     let l = c.loop-k in
     let e : l.k ≡ a.n = omega arith in

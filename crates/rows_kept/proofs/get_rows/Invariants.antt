@@ -1,13 +1,8 @@
-use native.Mathlib.Omega.{arith}
-use mathlib.Core.Path.{◌≡◌, refl, ◌∙◌, ap}
-use mathlib.Core.List.{List}
-use Prim.Native.Nat.{ℕ, ◌-◌, ◌≤◌}
-use borrow.Author.Rules.{rules}
+use mathlib.Core.Path.{◌≡◌}
+use Prim.Native.Nat.{◌-◌, ◌≤◌}
 use lib.ListN.{length}
-use Rattle.statement.specs.Rows.{Row}
-use Rattle.table.specs.Table.{rows_laid, row_put}
+use Rattle.table.specs.Table.{rows_laid}
 use Rattle.rows_kept.specs.KeptRows.{kept_row_at, first_rows}
-use Rattle.rows_kept.specs.Laws.{no_row_laid, get_more}
 use Rattle.rows_kept.proofs.get_rows.Given as goal
 
 abbrev pub invariant-loop-k : goal.invariant-loop-k

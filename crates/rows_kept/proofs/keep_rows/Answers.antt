@@ -1,7 +1,5 @@
-use borrow.Author.Rules.{rules}
 use mathlib.Core.Path.{sym, ◌∙◌, ap}
 use Prim.Native.Nat.{ℕ}
-use borrow.Author.Tests.{not-true, not-false}
 use lib.ListN.{length}
 use Rattle.error.specs.Refusal.{Told}
 use Rattle.statement.specs.Rows.{Row}
@@ -11,7 +9,7 @@ use Rattle.rows_kept.specs.Laws.{keep_nine, keep_short, keep_good}
 use Rattle.rows_kept.proofs.keep_rows.Goals as goal
 
 pub returns-then-not-fine_table : goal.returns-then-not-fine_table
-returns-then-not-fine_table c = 
+returns-then-not-fine_table c =
     let a = c.args in
     let r : ℕ → Row = row_numbers a.rows.now in
     let n = c.table_rows-n in
@@ -19,7 +17,7 @@ returns-then-not-fine_table c =
     record { result_value = sym e; out_after = sym (ap (λ (t : Told ℕ). kept_after r t a.out.now) e) }
 
 pub returns-then-out-n : goal.returns-then-out-n
-returns-then-out-n c = 
+returns-then-out-n c =
     let a = c.args in
     let r : ℕ → Row = row_numbers a.rows.now in
     let n = c.table_rows-n in
@@ -27,7 +25,7 @@ returns-then-out-n c =
     record { result_value = sym e; out_after = sym (ap (λ (t : Told ℕ). kept_after r t a.out.now) e) }
 
 pub returns : goal.returns
-returns c = 
+returns c =
     let a = c.args in
     let r : ℕ → Row = row_numbers a.rows.now in
     let n = c.table_rows-n in

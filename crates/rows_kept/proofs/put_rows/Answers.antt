@@ -1,9 +1,7 @@
 use native.Mathlib.Omega.{arith}
 use mathlib.Core.Path.{◌≡◌, refl, ◌∙◌, ap}
 use mathlib.Core.List.{List}
-use Prim.Native.Nat.{ℕ, ◌*◌, ◌-◌, ◌≤◌}
-use borrow.Author.Rules.{rules}
-use lib.ListN.{length}
+use Prim.Native.Nat.{ℕ, ◌*◌}
 use lib.Seq.{sets}
 use Rattle.statement.specs.Rows.{Row}
 use Rattle.table.specs.Table.{row_numbers}
@@ -16,7 +14,7 @@ unfolding first_rows kept_bytes
 loop-k-init c = (omega arith, refl, refl)
 
 pub loop-k-preserved : goal.loop-k-preserved
-loop-k-preserved c = 
+loop-k-preserved c =
     let a = c.args in
     let l = c.loop-k in
     let p = c.put_bytes in
@@ -26,10 +24,10 @@ loop-k-preserved c =
     ∙ ap (λ (w : Row). sets l.out (l.k * 24) (row_bytes w)) c.read_row.ensures
     ∙ ap (λ (z : List ℕ). sets z (l.k * 24) (row_bytes (r l.k))) l.invariant.2
     ∙ put_more r a.out.now l.k (omega arith) in
-    (omega arith, p.auto.0 ∙ l.invariant.1, e)
+    (omega arith, p.auto.out ∙ l.invariant.1, e)
 
 pub returns : goal.returns
-returns c = 
+returns c =
     let a = c.args in
     let l = c.loop-k in
     let e : l.k ≡ a.n = omega arith in

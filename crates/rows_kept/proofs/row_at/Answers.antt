@@ -1,5 +1,4 @@
 use Rattle.table.specs.Laws.{row_same, narrow_row_lem}
-use borrow.Author.Rules.{rules}
 use Rattle.rows_kept.proofs.row_at.Goals as goal
 
 pub returns : goal.returns

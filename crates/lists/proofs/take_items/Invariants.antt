@@ -1,0 +1,18 @@
+use Rattle.lists.specs.Keep.{Keeping, keeping_starts, keeping_bad, keeping_last, keeping_goes}
+use Rattle.lists.specs.Items.{told_verdict}
+use Rattle.lists.specs.Answer.{faulty}
+use Rattle.lists.specs.Lent.{item_value, lent_of}
+use native.Mathlib.Omega.{arith}
+use borrow.Author.Rules.{rules}
+use lib.ListN.{length}
+use mathlib.Core.Path.{◌≡◌, refl, ap, sym, ◌∙◌}
+use Prim.Native.Nat.{◌+◌, ◌-◌}
+use Rattle.lists.proofs.take_items.Given as goal
+
+abbrev pub invariant-loop-n : goal.invariant-loop-n
+invariant-loop-n l =
+    Keeping (item_value l.kind) l.b (lent_of l.kind l.initial.refs l.initial.wholes l.initial.reals) (lent_of l.kind l.refs l.wholes l.reals) l.i l.n
+    × ((length l.refs ≡ length l.initial.refs) × ((length l.wholes ≡ length l.initial.wholes) × (length l.reals ≡ length l.initial.reals)))
+
+abbrev pub decreases-loop-n : goal.decreases-loop-n
+decreases-loop-n l = length l.b - l.i

@@ -1,0 +1,23 @@
+use mathlib.Core.Path.{sym, ◌∙◌, ap}
+use mathlib.Core.Bool.{Bool}
+use native.Mathlib.Nat.{zero-add}
+use native.Mathlib.Omega.{arith}
+use Rattle.nearest.specs.Nearest.{signed}
+use Rattle.f64_rounding.specs.Bits.{no_nan, no_nan_minus, bits_back}
+use Rattle.long_reals.proofs.told.Goals as goal
+
+-- `long_reals::told` meets its contract: a pattern up to infinity's is no NaN's, and the sign is the highest bit. Assumes nothing.
+
+pub float_from_bits-result : goal.float_from_bits-result
+float_from_bits-result c = no_nan_minus _ c.requires
+
+pub returns-then-neg : goal.returns-then-neg
+returns-then-neg c =
+    bits_back _ (omega arith) (no_nan_minus _ c.requires) ∙ ap (λ (n : Bool). signed n c.args.pattern) (sym c.if-neg.true)
+
+pub float_from_bits-result-2 : goal.float_from_bits-result-2
+float_from_bits-result-2 c = no_nan _ c.requires
+
+pub returns : goal.returns
+returns c =
+    bits_back _ (omega arith) (no_nan _ c.requires) ∙ sym (zero-add c.args.pattern) ∙ ap (λ (n : Bool). signed n c.args.pattern) (sym c.if-neg.false)

@@ -1,0 +1,20 @@
+use Rattle.common.specs.Lists.{drop_end}
+use Rattle.record.specs.Text.{past, past_turn}
+use Rattle.record.specs.Turns.{past_stops, past_goes}
+use Rattle.common.specs.Walk.{walk, walk_ends}
+use Rattle.scalars.specs.Scalars.{unopening}
+use borrow.Author.Tests.{eq-eqb, ne_eqb}
+use borrow.Author.Rules.{rules}
+use mathlib.Core.Path.{◌≡◌, refl, ◌∙◌, sym, ap}
+use mathlib.Core.Bool.{not}
+use native.Mathlib.Omega.{arith}
+use lib.ListN.{length, drop}
+use Prim.Native.Nat.{◌-◌, ◌≤◌}
+use mathlib.Core.List.{[]}
+use Rattle.scalars.proofs.first_open.Given as goal
+
+abbrev pub invariant-loop-i : goal.invariant-loop-i
+invariant-loop-i l = (l.i ≤ length l.t) × (walk (past_turn unopening) (λ u. []) tt (drop l.i l.t) ≡ past unopening l.t)
+
+abbrev pub decreases-loop-i : goal.decreases-loop-i
+decreases-loop-i l = length l.t - l.i

@@ -1,0 +1,7 @@
+use borrow.Author.Rules.{rules}
+use Rattle.scalars.specs.Scalars.{is_unset}
+use Rattle.scalars.proofs.is_unset.Goals as goal
+
+pub returns : goal.returns
+unfolding is_unset
+returns c = c.same_bytes.ensures

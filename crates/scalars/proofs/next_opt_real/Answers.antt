@@ -1,0 +1,27 @@
+use borrow.Author.Rules.{rules}
+use Rattle.scalars.specs.Answer.{next_of}
+use mathlib.Core.Path.{refl}
+use Rattle.scalars.proofs.next_opt_real.Goals as goal
+
+pub between-t-requires : goal.between-t-requires
+between-t-requires c = rw c.in-Span.is at c.param_span.ensures.next_param_in
+
+pub returns-then-is_unset : goal.returns-then-is_unset
+unfolding next_of
+returns-then-is_unset c = rw (← c.param_span.ensures.result_value, c.in-Span.is, ← c.between-t.ensures, ← c.is_unset.ensures, c.if-is_unset.true) refl
+
+pub returns-in-Refused : goal.returns-in-Refused
+unfolding next_of
+returns-in-Refused c = rw (← c.param_span.ensures.result_value, c.in-Refused.is) refl
+
+pub returns-in-Value : goal.returns-in-Value
+unfolding next_of
+returns-in-Value c = rw (← c.param_span.ensures.result_value, c.in-Span.is, ← c.between-t.ensures, ← c.is_unset.ensures, c.if-is_unset.false, ← c.read_real.ensures, c.in-Value.is) refl
+
+pub returns-in-Outside : goal.returns-in-Outside
+unfolding next_of
+returns-in-Outside c = rw (← c.param_span.ensures.result_value, c.in-Span.is, ← c.between-t.ensures, ← c.is_unset.ensures, c.if-is_unset.false, ← c.read_real.ensures, c.in-Outside.is) refl
+
+pub returns-in-NotReal : goal.returns-in-NotReal
+unfolding next_of
+returns-in-NotReal c = rw (← c.param_span.ensures.result_value, c.in-Span.is, ← c.between-t.ensures, ← c.is_unset.ensures, c.if-is_unset.false, ← c.read_real.ensures, c.in-NotReal.is) refl

@@ -1,0 +1,23 @@
+use borrow.Author.Rules.{rules}
+use Rattle.scalars.specs.Answer.{next_of}
+use mathlib.Core.Path.{refl}
+use Rattle.scalars.proofs.next_opt_ref.Goals as goal
+
+pub between-t-requires : goal.between-t-requires
+between-t-requires c = rw c.in-Span.is at c.param_span.ensures.next_param_in
+
+pub returns-then-is_unset : goal.returns-then-is_unset
+unfolding next_of
+returns-then-is_unset c = rw (← c.param_span.ensures.result_value, c.in-Span.is, ← c.between-t.ensures, ← c.is_unset.ensures, c.if-is_unset.true) refl
+
+pub returns-in-Refused : goal.returns-in-Refused
+unfolding next_of
+returns-in-Refused c = rw (← c.param_span.ensures.result_value, c.in-Refused.is) refl
+
+pub returns-in-Value : goal.returns-in-Value
+unfolding next_of
+returns-in-Value c = rw (← c.param_span.ensures.result_value, c.in-Span.is, ← c.between-t.ensures, ← c.is_unset.ensures, c.if-is_unset.false, ← c.parse_ref.ensures, c.in-Value.is) refl
+
+pub returns-in-NotReference : goal.returns-in-NotReference
+unfolding next_of
+returns-in-NotReference c = rw (← c.param_span.ensures.result_value, c.in-Span.is, ← c.between-t.ensures, ← c.is_unset.ensures, c.if-is_unset.false, ← c.parse_ref.ensures, c.in-NotReference.is) refl

@@ -1,0 +1,13 @@
+use Rattle.common.specs.Noting.{Noting}
+use Prim.Native.Nat.{◌-◌}
+use mathlib.Core.Path.{◌≡◌}
+use mathlib.Core.Bool.{true}
+use lib.ListN.{take}
+use Rattle.strings.specs.Text.{plain}
+use Rattle.strings.proofs.block_differs.Given as goal
+
+abbrev pub invariant-loop-k : goal.invariant-loop-k
+invariant-loop-k l = Noting (λ j. plain (take l.at l.s) ≡ true → plain (take j l.s) ≡ true) 64 l.hit l.at l.k
+
+abbrev pub decreases-loop-k : goal.decreases-loop-k
+decreases-loop-k l = 64 - l.k

@@ -1,0 +1,1 @@
+-- `wide_reals::halvings` meets its contract. Assumes nothing.

