@@ -10,7 +10,8 @@ use Rattle.std.specs.Int.Count.{count_leading_zeros}
 use Rattle.std.specs.Float.Ieee.{nearest}
 use Rattle.nearest.specs.PatternUnits.{infinity}
 use Rattle.nearest.specs.Near.{near, Cmp, cmp}
-use Rattle.nearest.specs.Scaled.{near_scaled, order_is}
+use Rattle.nearest.specs.Scaled.{order_is}
+use Rattle.nearest.proofs.Scaled.{near_scaled}
 use Rattle.nearest.specs.Nearest.{signed}
 use Rattle.f64_rounding.specs.Half.{half_order, against}
 

@@ -8,7 +8,8 @@ use native.Mathlib.Omega.{arith}
 use Rattle.std.specs.Int.Count.{count_leading_zeros}
 use Rattle.std.specs.Float.Ieee.{nearest}
 use Rattle.nearest.specs.PatternUnits.{infinity}
-use Rattle.nearest.specs.Near.{near, near_digits, near_same, Cmp, cmp}
+use Rattle.nearest.specs.Near.{near, Cmp, cmp}
+use Rattle.nearest.proofs.Near.{near_digits, near_same}
 use Rattle.nearest.specs.Scaled.{order_is}
 use Rattle.nearest.specs.Nearest.{signed}
 use Rattle.f64_rounding.specs.CutNumbers.{order_with_rest}

@@ -4,7 +4,7 @@ use Rattle.std.proofs.Common.{sym, ◌∙◌, ap, subst, le_trans, le_of_lt, mul
 use Rattle.std.proofs.Math.Nat.{le_of_mul-le-mul_left, pow-le-pow_right, pow-succ'}
 use Rattle.nearest.specs.PatternUnits.{infinity}
 use Rattle.nearest.specs.Near.{near}
-use Rattle.nearest.specs.Borders.{near_zero, near_infinity}
+use Rattle.nearest.proofs.Borders.{near_zero, near_infinity}
 use Rattle.nearest.specs.PowerLaws.{ten_pos}
 
 -- the power of ten from which on down a decimal is a zero: 10 ^ -324 is below half the least f64

@@ -6,7 +6,7 @@ use Rattle.std.specs.Float.Ieee.{nearest}
 use Rattle.std.specs.Float.Ieee.Fits.{nearest-le}
 use Rattle.nearest.specs.PatternUnits.{infinity}
 use Rattle.nearest.specs.Near.{near}
-use Rattle.nearest.specs.Borders.{near_infinity}
+use Rattle.nearest.proofs.Borders.{near_infinity}
 use Rattle.f64_rounding.specs.Half.{against}
 use Rattle.f64_rounding.specs.Rounding.{few_dropped}
 use Rattle.f64_rounding.specs.Window.{Window, spare_of, near_window}

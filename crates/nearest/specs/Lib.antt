@@ -3,7 +3,6 @@ pub mod PatternUnitsLaws
 pub mod Nearest
 pub mod NearestRight
 pub mod Near
-pub mod Borders
 pub mod Scaled
 pub mod Round
 pub mod Only

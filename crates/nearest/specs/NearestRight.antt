@@ -1,5 +1,5 @@
 -- There is one nearest pattern. Assumes nothing.
-use Rattle.std.specs.Prelude.{ℕ, suc, ◌-◌, ◌*◌, ◌%◌, ◌≤◌, ◌<◌, ◌≡◌}
+use Rattle.std.specs.Prelude.{ℕ, suc, ◌*◌, ◌%◌, ◌≤◌, ◌<◌, ◌≡◌}
 use Rattle.std.proofs.Common.{sym, mul-lt-mul_of_pos_right, arith}
 use Rattle.std.proofs.Math.Decide.{dec_lt}
 use Rattle.nearest.specs.PatternUnits.{pattern_units, infinity, distance_of}

@@ -1,5 +1,5 @@
 -- Products and quotients of f64s as IEEE 754 has them, from bit pattern to bit pattern: the exact result over whole numbers, and
--- the nearest pattern to it. The language's `*` and `/` give just these (`mul_bits`, `div_bits` in ProductRight.antt). Assumes nothing.
+-- the nearest pattern to it. The language's `*` and `/` give just these (`mul_bits`, `div_bits` in proofs/ProductRight.antt). Assumes nothing.
 -- Definitions to be believed: no law, and nothing computed that no theorem ties (docs/BELIEVE.md).
 use Rattle.std.specs.Prelude.{ℕ, ◌+◌, ◌*◌, ◌%◌, ◌^◌, Bool, cond, ltb, leb, eqb}
 use Rattle.std.specs.Float.Ieee.{unlike}

@@ -1,24 +1,23 @@
--- The language's `*` and `/` give the products and quotients of Product.antt (`mul_bits`, `div_bits`), and these are the nearest patterns to the exact results.
--- Assumes nothing.
-use Rattle.std.specs.Prelude.{ℕ, zero, suc, ◌+◌, ◌-◌, ◌*◌, ◌/◌, ◌%◌, ◌^◌, ◌≤◌, ◌<◌, ◌≡◌, refl, Bool, true, false, not, cond, T, ltb, eqb, ℤ, pos, Float}
+-- What a pattern stands for is the number that the language reads from it, and of whole numbers their own worth. The laws that the language's
+-- `*` and `/` give the products and quotients of Product.antt stand on this, in proofs/ProductRight.antt. Assumes nothing.
+use Rattle.std.specs.Prelude.{ℕ, zero, suc, ◌+◌, ◌*◌, ◌/◌, ◌%◌, ◌^◌, ◌≤◌, ◌<◌, ◌≡◌, refl, Bool, true, false, not, cond, T, ltb, eqb, ℤ, pos, Float}
 use Rattle.std.proofs.Common.{sym, ◌∙◌, ap, subst, mul-one, mul-pos, mul_assoc, mul_comm, mul_right_comm, mul_left_comm, zero-mul, arith, lt-ltb, le-ltb, eq-eqb, ne_eqb, pow_pos}
 use Rattle.std.proofs.Math.Nat.{eq_of_mul-eq-mul_right}
 use Rattle.std.proofs.Math.Decide.{dec_lt}
 use Rattle.std.proofs.Math.Pow.{mod-mod-pow}
 use Rattle.std.specs.Float.{nan, inf, fin, binary64}
-use Rattle.std.specs.Float.Ieee.{up, down, unlike, odd, round, of_int, neg, mul, div, fits, of_fields, of_bits, to_bits}
-use Rattle.std.specs.Float.Ieee.Fits.{up_pos, down_pos, of_int-fits, neg-fits}
+use Rattle.std.specs.Float.Ieee.{up, down, unlike, odd, round, of_int, neg, fits, of_fields, of_bits, to_bits}
+use Rattle.std.specs.Float.Ieee.Fits.{down_pos, of_int-fits, neg-fits}
 use Rattle.std.specs.Float.Ieee.Back.{round_whole}
 use Rattle.std.specs.Float.Ieee.Exact.{HasValue, odd_sign}
 use Rattle.std.specs.Float.Ieee.Bits.{of_bits-to_bits}
 use Rattle.nearest.specs.PatternUnits.{units_at, pattern_units, infinity}
-use Rattle.nearest.specs.Nearest.{IsNearest, signed}
-use Rattle.nearest.specs.Near.{near, near_is, near_same}
-use Rattle.nearest.specs.Round.{to_bits_inf, round_near}
-use Rattle.nearest.specs.Product.{Worth, none, infinite, finite, negative, worth_of, quiet, times_of, over_of, product, quotient}
+use Rattle.nearest.specs.Nearest.{signed}
+use Rattle.nearest.specs.Round.{to_bits_inf}
+use Rattle.nearest.specs.Product.{Worth, none, infinite, finite, negative, worth_of, quiet}
 
 -- the language's value and what a pattern stands for are the same number, infinity or no number
-data Like : Float → Worth → Type 0 where
+pub data Like : Float → Worth → Type 0 where
   like_nan : Like nan none
   like_inf : {s : Bool} → Like (inf s) (infinite s)
   like_fin : {s : Bool} {m : ℕ} {e : ℤ} {a : ℕ} → m * up e * 2 ^ 1074 ≡ a * down e → Like (fin s m e) (finite s a)
@@ -63,11 +62,11 @@ like_bits p =
     like_fields (negative p) (p % 2 ^ 63) (p % 2 ^ 63 / 2 ^ 52) (p % 2 ^ 52) refl (mod-mod-pow p 11 52) l
 
 -- a value that an f64 holds is what its own pattern stands for
-like_own : (x : Float) → T (fits binary64 x) → Like x (worth_of (to_bits binary64 x))
+pub like_own : (x : Float) → T (fits binary64 x) → Like x (worth_of (to_bits binary64 x))
 like_own x h = subst (λ (y : Float). Like y (worth_of (to_bits binary64 x))) (of_bits-to_bits binary64 x h) (like_bits (to_bits binary64 x))
 
 -- a float is zero just where its number of units is
-zero_both : (m u a d : ℕ) → 0 < u → 0 < d → m * u * 2 ^ 1074 ≡ a * d → eqb m 0 ≡ eqb a 0
+pub zero_both : (m u a d : ℕ) → 0 < u → 0 < d → m * u * 2 ^ 1074 ≡ a * d → eqb m 0 ≡ eqb a 0
 zero_both m u a d up dp e = go m a e
   where
     none_left : (x y : ℕ) → 0 < x → x ≡ y → y ≡ 0 → ⊥
@@ -90,16 +89,16 @@ zero_both m u a d up dp e = go m a e
         no_zero a e = omega arith
 
 -- the two middle factors of four change places
-swap_middle : (a b c d : ℕ) → a * b * (c * d) ≡ a * c * (b * d)
+pub swap_middle : (a b c d : ℕ) → a * b * (c * d) ≡ a * c * (b * d)
 swap_middle a b c d = mul_assoc a b (c * d) ∙ ap (λ (x : ℕ). a * x) (mul_left_comm b c d) ∙ sym (mul_assoc a c (b * d))
 
 -- where x / c is a / s and y / d is b / t, their products are equal too
-cross : (x y s t a b c d : ℕ) → x * s ≡ a * c → y * t ≡ b * d → x * y * (s * t) ≡ a * b * (c * d)
+pub cross : (x y s t a b c d : ℕ) → x * s ≡ a * c → y * t ≡ b * d → x * y * (s * t) ≡ a * b * (c * d)
 cross x y s t a b c d e f =
     swap_middle x y s t ∙ ap (λ (z : ℕ). z * (y * t)) e ∙ ap (λ (z : ℕ). a * c * z) f ∙ swap_middle a c b d
 
 -- where x * S is a * c and y * S is b * d, x / c by y / d is a / b
-ratio : (x y S a b c d : ℕ) → 0 < S → x * S ≡ a * c → y * S ≡ b * d → x * d * b ≡ a * (y * c)
+pub ratio : (x y S a b c d : ℕ) → 0 < S → x * S ≡ a * c → y * S ≡ b * d → x * d * b ≡ a * (y * c)
 ratio x y S a b c d sp e f =
     eq_of_mul-eq-mul_right S sp (x * d * b) (a * (y * c))
     (mul_right_comm (x * d) b S
@@ -112,77 +111,25 @@ ratio x y S a b c d sp e f =
     ∙ sym (mul_assoc a (y * c) S))
 
 -- the pattern of the language's NaN is `quiet`
-to_bits_nan : to_bits binary64 nan ≡ quiet
+pub to_bits_nan : to_bits binary64 nan ≡ quiet
 unfolding to_bits
 to_bits_nan = refl
 
 -- the pattern of a zero with its sign
-to_bits_zero : (s : Bool) → to_bits binary64 (fin s 0 (pos 0)) ≡ signed s 0
+pub to_bits_zero : (s : Bool) → to_bits binary64 (fin s 0 (pos 0)) ≡ signed s 0
 unfolding to_bits
 to_bits_zero true = refl
 to_bits_zero false = refl
 
 -- infinity times a number, as the language has it and as `times_of` does: no number where that is zero
-inf_or_nan : (b c : Bool) (s : Bool) → b ≡ c → to_bits binary64 (cond b nan (inf s)) ≡ cond c quiet (signed s infinity)
+pub inf_or_nan : (b c : Bool) (s : Bool) → b ≡ c → to_bits binary64 (cond b nan (inf s)) ≡ cond c quiet (signed s infinity)
 inf_or_nan true c s e = rw (← e) to_bits_nan
 inf_or_nan false c s e = rw (← e) (to_bits_inf s)
 
--- the language's product of two values is the product of what they stand for
-mul_like : (x y : Float) (a b : Worth) → Like x a → Like y b → to_bits binary64 (mul binary64 x y) ≡ times_of a b
-unfolding mul
-mul_like x y a b like_nan w = to_bits_nan
-mul_like x y a b like_inf like_nan = to_bits_nan
-mul_like x y a b (like_inf {s = s}) (like_inf {s = t}) = to_bits_inf (unlike s t)
-mul_like x y a b (like_inf {s = s}) (like_fin {s = t} {m = n} {e = d} {a = u} f) =
-    inf_or_nan (eqb n 0) (eqb u 0) (unlike s t) (zero_both n (up d) u (down d) (up_pos d) (down_pos d) f)
-mul_like x y a b (like_fin e) like_nan = to_bits_nan
-mul_like x y a b (like_fin {s = s} {m = m} {e = d} {a = u} f) (like_inf {s = t}) =
-    inf_or_nan (eqb m 0) (eqb u 0) (unlike s t) (zero_both m (up d) u (down d) (up_pos d) (down_pos d) f)
-mul_like x y a b (like_fin {s = s} {m = m} {e = d} {a = u} f) (like_fin {s = t} {m = n} {e = k} {a = v} g) =
-    round_near (unlike s t) (m * up d * (n * up k)) (down d * down k)
-    ∙ ap (signed (unlike s t))
-    (near_same (m * up d * (n * up k)) (down d * down k) (u * v) (2 ^ 1074 * 2 ^ 1074)
-    (mul-pos (down_pos d) (down_pos k))
-    (mul-pos (pow_pos 1074) (pow_pos 1074))
-    (cross (m * up d) (n * up k) (2 ^ 1074) (2 ^ 1074) u v (down d) (down k) f g))
-
 -- the quotient of two numbers as the language has it and as `over_of` does, by whether the divisor and the dividend are zero
-over_cases : (z w z' w' : Bool) (s : Bool) (x : Float) (r : ℕ) → z ≡ z' → w ≡ w' → (z' ≡ false → to_bits binary64 x ≡ r) → to_bits binary64 (cond z (cond w nan (inf s)) x) ≡ cond z' (cond w' quiet (signed s infinity)) r
+pub over_cases : (z w z' w' : Bool) (s : Bool) (x : Float) (r : ℕ) → z ≡ z' → w ≡ w' → (z' ≡ false → to_bits binary64 x ≡ r) → to_bits binary64 (cond z (cond w nan (inf s)) x) ≡ cond z' (cond w' quiet (signed s infinity)) r
 over_cases true w z' w' s x r e f h = rw (← e) (inf_or_nan w w' s f)
 over_cases false w z' w' s x r e f h = rw (← e) (h (sym e))
-
--- the language's quotient of two values is the quotient of what they stand for
-div_like : (x y : Float) (a b : Worth) → Like x a → Like y b → to_bits binary64 (div binary64 x y) ≡ over_of a b
-unfolding div
-div_like x y a b like_nan w = to_bits_nan
-div_like x y a b like_inf like_nan = to_bits_nan
-div_like x y a b (like_inf {s = s}) (like_inf {s = t}) = to_bits_nan
-div_like x y a b (like_inf {s = s}) (like_fin {s = t} f) = to_bits_inf (unlike s t)
-div_like x y a b (like_fin e) like_nan = to_bits_nan
-div_like x y a b (like_fin {s = s} f) (like_inf {s = t}) = to_bits_zero (unlike s t)
-div_like x y a b (like_fin {s = s} {m = m} {e = d} {a = u} f) (like_fin {s = t} {m = n} {e = k} {a = v} g) =
-    over_cases (eqb n 0) (eqb m 0) (eqb v 0) (eqb u 0) (unlike s t) (round binary64 (unlike s t) (m * up d * down k) (n * up k * down d)) (signed (unlike s t) (near u v))
-    (zero_both n (up k) v (down k) (up_pos k) (down_pos k) g)
-    (zero_both m (up d) u (down d) (up_pos d) (down_pos d) f)
-    (λ z.
-    round_near (unlike s t) (m * up d * down k) (n * up k * down d)
-    ∙ ap (signed (unlike s t))
-    (near_same (m * up d * down k) (n * up k * down d) u v
-    (mul-pos (mul-pos (not_zero n (zero_both n (up k) v (down k) (up_pos k) (down_pos k) g ∙ z)) (up_pos k)) (down_pos d))
-    (not_zero v z)
-    (ratio (m * up d) (n * up k) (2 ^ 1074) u v (down d) (down k) (pow_pos 1074) f g)))
-  where
-    not_zero : (n : ℕ) → eqb n 0 ≡ false → 0 < n
-    not_zero zero e = let q : ◌≡◌ {A = ℕ} 0 1 = cc in absurd (omega arith)
-    not_zero (suc n) e = omega arith
-
--- the language's `*` gives the pattern that `product` does
-pub mul_bits : (x y : Float) → T (fits binary64 x) → T (fits binary64 y) → to_bits binary64 (mul binary64 x y) ≡ product (to_bits binary64 x) (to_bits binary64 y)
-mul_bits x y h k = mul_like x y (worth_of (to_bits binary64 x)) (worth_of (to_bits binary64 y)) (like_own x h) (like_own y k)
-
--- the language's `/` gives the pattern that `quotient` does
-pub div_bits : (x y : Float) → T (fits binary64 x) → T (fits binary64 y) → to_bits binary64 (div binary64 x y) ≡ quotient (to_bits binary64 x) (to_bits binary64 y)
-div_bits x y h k = div_like x y (worth_of (to_bits binary64 x)) (worth_of (to_bits binary64 y)) (like_own x h) (like_own y k)
 
 -- where a value is a units in size, what stands for the same number is a units
 worth_like : (x : Float) (w : Worth) (s : Bool) (a : ℕ) → Like x w → HasValue x s a (2 ^ 1074) → w ≡ finite s a
@@ -222,51 +169,10 @@ worth_minus m h =
     (minus_value (round binary64 false m 1) (m * 2 ^ 1074) (2 ^ 1074) (in_units (round binary64 false m 1) false m (round_whole binary64 false m h)))
 
 -- beside a positive operand the other one's sign is the result's
-as_first : (s : Bool) → unlike s false ≡ s
+pub as_first : (s : Bool) → unlike s false ≡ s
 as_first true = refl
 as_first false = refl
 
 -- a positive number is not zero
-some : (n : ℕ) → 0 < n → n ≡ 0 → ⊥
+pub some : (n : ℕ) → 0 < n → n ≡ 0 → ⊥
 some n h z = omega arith
-
--- the product of two whole numbers is the nearest pattern to the exact product, with the first one's sign
-pub product_exact : (p q : ℕ) (s : Bool) (a b : ℕ) → worth_of p ≡ finite s (a * 2 ^ 1074) → worth_of q ≡ finite false (b * 2 ^ 1074) → product p q ≡ signed s (near (a * b) 1)
-product_exact p q s a b e f =
-    ap (λ (w : Worth). times_of w (worth_of q)) e
-    ∙ ap (times_of (finite s (a * 2 ^ 1074))) f
-    ∙ ap (λ (t : Bool). signed t (near (a * 2 ^ 1074 * (b * 2 ^ 1074)) (2 ^ 1074 * 2 ^ 1074))) (as_first s)
-    ∙ ap (signed s)
-    (near_same (a * 2 ^ 1074 * (b * 2 ^ 1074)) (2 ^ 1074 * 2 ^ 1074) (a * b) 1 (mul-pos (pow_pos 1074) (pow_pos 1074)) (pow_pos 0)
-    (mul-one (a * 2 ^ 1074 * (b * 2 ^ 1074)) ∙ swap_middle a (2 ^ 1074) b (2 ^ 1074)))
-
--- the quotient of two whole numbers is the nearest pattern to their fraction, with the first one's sign
-pub quotient_exact : (p q : ℕ) (s : Bool) (a b : ℕ) → 0 < b → worth_of p ≡ finite s (a * 2 ^ 1074) → worth_of q ≡ finite false (b * 2 ^ 1074) → quotient p q ≡ signed s (near a b)
-quotient_exact p q s a b bp e f =
-    let d = b * 2 ^ 1074 in
-    let dp : 0 < b * 2 ^ 1074 = mul-pos bp (pow_pos 1074) in
-    ap (λ (w : Worth). over_of w (worth_of q)) e
-    ∙ ap (over_of (finite s (a * 2 ^ 1074))) f
-    ∙ ap (λ (z : Bool). cond z (cond (eqb (a * 2 ^ 1074) 0) quiet (signed (unlike s false) infinity)) (signed (unlike s false) (near (a * 2 ^ 1074) (b * 2 ^ 1074)))) (ne_eqb (b * 2 ^ 1074) 0 (some (b * 2 ^ 1074) dp))
-    ∙ ap (λ (t : Bool). signed t (near (a * 2 ^ 1074) (b * 2 ^ 1074))) (as_first s)
-    ∙ ap (signed s) (near_same (a * 2 ^ 1074) (b * 2 ^ 1074) a b dp bp (mul_right_comm a (2 ^ 1074) b ∙ mul_assoc a b (2 ^ 1074)))
-
--- the product of numbers of a and b units is the nearest pattern to the exact product, negative where just one of them is
-pub product_nearest : (p q : ℕ) (s t : Bool) (a b : ℕ) → worth_of p ≡ finite s a → worth_of q ≡ finite t b
-    → (c : ℕ) × (product p q ≡ signed (unlike s t) c) × IsNearest (a * b) (2 ^ 1074 * 2 ^ 1074) c
-product_nearest p q s t a b e f = (
-  near (a * b) (2 ^ 1074 * 2 ^ 1074),
-  ap (λ (w : Worth). times_of w (worth_of q)) e ∙ ap (times_of (finite s a)) f,
-  near_is (a * b) (2 ^ 1074 * 2 ^ 1074) (mul-pos (pow_pos 1074) (pow_pos 1074)),
-)
-
--- the quotient of numbers of a and b units, b not zero, is the nearest pattern to a / b, negative where just one of them is
-pub quotient_nearest : (p q : ℕ) (s t : Bool) (a b : ℕ) → 0 < b → worth_of p ≡ finite s a → worth_of q ≡ finite t b
-    → (c : ℕ) × (quotient p q ≡ signed (unlike s t) c) × IsNearest a b c
-quotient_nearest p q s t a b bp e f = (
-  near a b,
-  ap (λ (w : Worth). over_of w (worth_of q)) e
-      ∙ ap (over_of (finite s a)) f
-      ∙ ap (λ (z : Bool). cond z (cond (eqb a 0) quiet (signed (unlike s t) infinity)) (signed (unlike s t) (near a b))) (ne_eqb b 0 (some b bp)),
-  near_is a b bp,
-)

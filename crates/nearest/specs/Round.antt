@@ -1,19 +1,19 @@
--- The kit's rounding, to which each operation on floats hands its exact result, gives the nearest pattern: `round_near`, shown once
--- for all of them. Assumes nothing.
-use Prim.Native.Nat.{ℕ, suc, ◌+◌, ◌-◌, ◌*◌, ◌/◌, ◌%◌, ◌^◌, ◌≤◌, ◌<◌, min, compare, Ordering}
+-- The patterns that the kit writes for the digits that its rounding keeps. That the rounding, to which each operation on floats hands its
+-- exact result, gives the nearest pattern is `round_near` of proofs/Round.antt. Assumes nothing.
+use Prim.Native.Nat.{ℕ, suc, ◌+◌, ◌-◌, ◌*◌, ◌/◌, ◌^◌, ◌≤◌, ◌<◌, min, Ordering}
 use Rattle.std.specs.Prelude.{◌≡◌, refl, ◌⊎◌, Bool, true, false, not, cond, T, ltb, Float}
 use Rattle.std.proofs.Common.{sym, ◌∙◌, ap, subst, inl, inr, le_antisymm, lt_of_le_of_lt, lt_of_lt_of_le, lt_irrefl, mul-one, div-one, mul_assoc, mul-div_cancel, mul-le-mul_right, lt_of_not-le, add_assoc, arith, ltb→lt, nltb→le, pow_pos, pow_mono, pow-add, shl_lt}
 use Rattle.std.proofs.Math.Nat.{div-div-eq-div-mul, pow-succ'}
 use Rattle.std.proofs.Math.Decide.{dec_lt}
 use Rattle.std.specs.Float.{nan, inf, fin, binary64}
-use Rattle.std.specs.Float.Ieee.{up, down, size, nearest, odd, units, round, to_bits}
+use Rattle.std.specs.Float.Ieee.{up, down, size, nearest, odd, units, to_bits}
 use Rattle.std.specs.Float.Ieee.Digits.{size-lt, size-le}
-use Rattle.std.specs.Float.Ieee.Fits.{kept-lt, nearest-le, round_is, down_pos}
+use Rattle.std.specs.Float.Ieee.Fits.{kept-lt, nearest-le, down_pos}
 use Rattle.std.specs.Float.Ieee.Exact.{HasValue, odd_sign}
 use Rattle.std.specs.Float.Ieee.Nearest.{nearest-ge}
 use Rattle.nearest.specs.PatternUnits.{pattern_units, infinity}
 use Rattle.nearest.specs.PatternUnitsLaws.{DroppedDigits, units_kept, units_lt, units_le}
-use Rattle.nearest.specs.Near.{near, near_units, dropped, lead_kept}
+use Rattle.nearest.specs.Near.{dropped, lead_kept}
 use Rattle.nearest.specs.Nearest.{signed}
 
 -- powers of two in order have exponents in order
@@ -126,7 +126,7 @@ over_infinity k q h l = go (dec_lt (k * 2 ^ 52 + q) infinity)
         absurd (lt_irrefl (q * 2 ^ k) (lt_of_lt_of_le (subst (λ (x : ℕ). q * 2 ^ k < x) worth_infinity (subst (λ (x : ℕ). x < pattern_units infinity) (units_kept k q h) (units_lt (k * 2 ^ 52 + q) infinity m))) l))
 
 -- what the kit makes of q kept and k dropped has the pattern k * 2 ^ 52 + q, infinity's at most, with its sign
-units_pattern : (s : Bool) (q k : ℕ) → DroppedDigits k q → to_bits binary64 (units binary64 s q k) ≡ signed s (min infinity (k * 2 ^ 52 + q))
+pub units_pattern : (s : Bool) (q k : ℕ) → DroppedDigits k q → to_bits binary64 (units binary64 s q k) ≡ signed s (min infinity (k * 2 ^ 52 + q))
 unfolding units
 units_pattern s q k h = go (ltb (q * 2 ^ k) (2 ^ (1074 + 1024))) (ltb→lt (q * 2 ^ k) (2 ^ (1074 + 1024))) (nltb→le (q * 2 ^ k) (2 ^ (1074 + 1024)))
   where
@@ -144,7 +144,7 @@ units_pattern s q k h = go (ltb (q * 2 ^ k) (2 ^ (1074 + 1024))) (ltb→lt (q * 
     go false l g = to_bits_inf s ∙ ap (signed s) (large (k * 2 ^ 52 + q) (over_infinity k q h (g tt)))
 
 -- the digits that `near` keeps are kept in the sense of `DroppedDigits`
-kept_near : (n den : ℕ) (o : Ordering) → DroppedDigits (dropped n den) (nearest (n / (den * 2 ^ dropped n den)) o)
+pub kept_near : (n den : ℕ) (o : Ordering) → DroppedDigits (dropped n den) (nearest (n / (den * 2 ^ dropped n den)) o)
 kept_near n den o =
     let k = dropped n den in
     let q = n / (den * 2 ^ k) in
@@ -154,13 +154,3 @@ kept_near n den o =
     made : (k q r : ℕ) → q < 2 ^ 53 → (k ≡ 0) ⊎ (2 ^ 52 ≤ q) → r ≤ suc q → q ≤ r → DroppedDigits k r
     made k q r a (inl z) l g = record { most = omega arith; leads = inl z }
     made k q r a (inr m) l g = record { most = omega arith; leads = inr (omega arith) }
-
--- what the kit rounds a fraction to is the nearest pattern, with the sign that it is given
-pub round_near : (s : Bool) (num den : ℕ) → to_bits binary64 (round binary64 s num den) ≡ signed s (near num den)
-unfolding near near_units
-round_near s num den =
-    let n = num * 2 ^ 1074 in
-    let k = dropped n den in
-    let u = den * 2 ^ k in
-    let o = compare (n % u * 2) u in
-    ap (to_bits binary64) (round_is binary64 s num den) ∙ units_pattern s (nearest (n / u) o) k (kept_near n den o)

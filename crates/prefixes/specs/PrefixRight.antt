@@ -10,7 +10,8 @@ use Rattle.record.specs.Word.{same_bytes, is_word}
 use Rattle.record.specs.Form.{Spelt}
 use Rattle.common.specs.Bytes.{bytes}
 use Rattle.record.specs.FormRight.{spelt_is, spelt_only}
-use Rattle.nearest.specs.Near.{near, near_is, near_only}
+use Rattle.nearest.specs.Near.{near}
+use Rattle.nearest.proofs.Near.{near_is, near_only}
 use Rattle.prefixes.specs.Prefix.{place_in, prefix_of, factor_of, place_most}
 use Rattle.prefixes.specs.Rules.{Prefix, prefixes, unity, ten_up, ten_down, PrefixForm, named, other}
 

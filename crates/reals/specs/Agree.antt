@@ -8,7 +8,8 @@ use Rattle.std.specs.Float.Ieee.{of_int, neg, to_bits}
 use Rattle.nearest.specs.Near.{near}
 use Rattle.nearest.specs.Nearest.{signed}
 use Rattle.nearest.specs.Product.{worth_of, finite, product, quotient}
-use Rattle.nearest.specs.ProductRight.{product_exact, quotient_exact, worth_whole, worth_minus}
+use Rattle.nearest.specs.ProductRight.{worth_whole, worth_minus}
+use Rattle.nearest.proofs.ProductRight.{product_exact, quotient_exact}
 use Rattle.nearest.specs.PowerLaws.{ten_pos}
 use Rattle.reals.specs.FloatTables.{powers, power_worth}
 

@@ -6,7 +6,7 @@ use Rattle.record.specs.Form.{value_of}
 use Rattle.nearest.specs.PatternUnits.{infinity}
 use Rattle.nearest.specs.Near.{near}
 use Rattle.nearest.specs.Nearest.{signed}
-use Rattle.nearest.specs.Borders.{zero_is, near_zero_only, infinity_is, near_infinity_only}
+use Rattle.nearest.proofs.Borders.{zero_is, near_zero_only, infinity_is, near_infinity_only}
 use Rattle.reals.specs.Scalar.{any_real_of}
 use Rattle.reals.specs.Answer.{Answer, read, refused}
 use Rattle.reals.specs.Form.{WrittenReal, upper_side, lower_side, AnyForm}

@@ -8,7 +8,7 @@ use Rattle.common.specs.Walk.{walk, turned, on, stop}
 use Rattle.record.specs.Text.{NumberAndRest, number_and_rest, digit_turn, number_from}
 use Rattle.record.specs.Byte.{digit}
 use Rattle.nearest.specs.Near.{near}
-use Rattle.nearest.specs.Borders.{near_nothing}
+use Rattle.nearest.proofs.Borders.{near_nothing}
 use Rattle.nearest.specs.Power.{near_by}
 use Rattle.long_reals.specs.Number.{number_in}
 use Rattle.long_reals.specs.Far.{far_zero, high_infinity}

@@ -3,7 +3,8 @@ use Rattle.std.specs.Prelude.{ℕ, zero, suc, ◌+◌, ◌*◌, ◌-◌, ◌^◌
 use Rattle.std.proofs.Common.{sym, ◌∙◌, ap, subst, le_of_lt, mul_assoc, mul-one, mul_comm, arith, lt-ltb, le-ltb, le-leb, pow-add}
 use Rattle.std.proofs.lemmas.Bool.{lt-leb}
 use Rattle.common.specs.Pick.{pick}
-use Rattle.nearest.specs.Near.{near, near_same}
+use Rattle.nearest.specs.Near.{near}
+use Rattle.nearest.proofs.Near.{near_same}
 use Rattle.nearest.specs.Nearest.{signed}
 use Rattle.nearest.specs.PowerLaws.{ten_pos}
 use Rattle.reals.specs.Scalar.{parsed, class_of, reaches, near_ten, mantissa_bound, largest_held}

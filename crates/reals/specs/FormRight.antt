@@ -11,7 +11,8 @@ use Rattle.record.specs.Text.{NumberAndRest, number_and_rest, number_from}
 use Rattle.record.specs.Form.{All, NotFirst, SkippedBytes, value_of}
 use Rattle.record.specs.FormRight.{number_only, number_is}
 use Rattle.record.specs.FormRight.Parts.{first_other, number_pass, number_halt, SplitAfter, split_is}
-use Rattle.nearest.specs.Near.{near, near_is, near_only}
+use Rattle.nearest.specs.Near.{near}
+use Rattle.nearest.proofs.Near.{near_is, near_only}
 use Rattle.nearest.specs.Nearest.{signed}
 use Rattle.reals.specs.Scalar.{unsigned, is_minus, Mantissa, mantissa, pointed, fraction_of, power, malformed, exponent_of_digits, exponent_of, parsed, unparsed, real_if_digits, parse_of, reaches, belongs, near_ten, class_of, real_of, any_of, any_real_of}
 use Rattle.reals.specs.Which.{real_by}

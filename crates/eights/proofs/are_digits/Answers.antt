@@ -12,7 +12,7 @@ pub returns-then-w-ne3472328296227680304 : goal.returns-then-w-ne347232829622768
 returns-then-w-ne3472328296227680304 c = λ a b d e f g h i bytes is. digits_none a b d e f g h i c.args.w bytes is c.if-w-ne3472328296227680304.true
 
 pub overflow_add-result : goal.overflow_add-result
-overflow_add-result c = 
+overflow_add-result c =
     let w = c.args.w in
     let l = threes_lt w c.ranges.w.fits c.if-w-ne3472328296227680304.false in
     record { fits = omega arith }

@@ -19,7 +19,7 @@ unit_le : (drop : ℕ) → 2 ^ (drop % 64) ≤ 9223372036854775808
 unit_le drop = pow_mono {i = drop % 64} {j = 63} (omega arith)
 
 pub overflow_mul-low : goal.overflow_mul-low
-overflow_mul-low c = 
+overflow_mul-low c =
     let a = c.args in
     let h = kept_le a.w (a.drop % 64) _ (unit_of_lem a.drop) in
     record { fits = omega (arith, h) }
@@ -28,24 +28,24 @@ pub overflow_sub-low : goal.overflow_sub-low
 overflow_sub-low c = let a = c.args in kept_le a.w (a.drop % 64) _ (unit_of_lem a.drop)
 
 pub overflow_mul-low-2 : goal.overflow_mul-low-2
-overflow_mul-low-2 c = 
+overflow_mul-low-2 c =
     let a = c.args in
     let h = dropped_lt a.w (a.drop % 64) _ (unit_of_lem a.drop) in
     let s = unit_le a.drop in
     record { fits = omega (arith, h, s) }
 
-pub overflow_add-result : goal.overflow_add-result
-overflow_add-result c = 
-    let a = c.args in
-    let h = carry_room a.w (a.drop % 64) _ (unit_of_lem a.drop) a.more c.if-unit-low.true in
-    record { fits = omega (arith, h) }
-
 pub returns-then-unit-low : goal.returns-then-unit-low
-returns-then-unit-low c = 
+returns-then-unit-low c =
     let a = c.args in
     sym (ap (λ (b : Bool). cond b (a.w / 2 ^ (a.drop % 64) + 1) (a.w / 2 ^ (a.drop % 64))) c.if-unit-low.true) ∙ rounded_is a.w (a.drop % 64) _ (unit_of_lem a.drop) a.more
 
 pub returns : goal.returns
-returns c = 
+returns c =
     let a = c.args in
     sym (ap (λ (b : Bool). cond b (a.w / 2 ^ (a.drop % 64) + 1) (a.w / 2 ^ (a.drop % 64))) c.if-unit-low.false) ∙ rounded_is a.w (a.drop % 64) _ (unit_of_lem a.drop) a.more
+
+pub overflow_add-result : goal.overflow_add-result
+overflow_add-result c =
+    let a = c.args in
+    let h = carry_room a.w (a.drop % 64) _ (unit_of_lem a.drop) a.more c.if-unit-low.true in
+    record { fits = omega (arith, h) }

@@ -20,17 +20,17 @@ pub bounds-a-i : goal.bounds-a-i
 bounds-a-i c = omega (arith, c.requires)
 
 pub returns-then-a-i-ne0 : goal.returns-then-a-i-ne0
-returns-then-a-i-ne0 c = 
+returns-then-a-i-ne0 c =
     let p = c.args in
     sym (lt-ltb 0 _ (one_below p.a.now p.n c.loop-i.i (omega arith) (omega arith)))
 
 pub loop-i-preserved : goal.loop-i-preserved
-loop-i-preserved c = 
+loop-i-preserved c =
     let h = c.requires in
     (omega arith, none_more c.args.a.now c.loop-i.i (omega arith) c.loop-i.invariant.1 (omega arith))
 
 pub returns : goal.returns
-returns c = 
+returns c =
     let p = c.args in
     let e : c.loop-i.i ≡ p.n = omega arith in
     let z = sym (ap (λ k. worth (take k p.a.now)) e) ∙ c.loop-i.invariant.1 in

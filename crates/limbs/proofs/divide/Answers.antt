@@ -26,13 +26,9 @@ pub overflow_cast-t : goal.overflow_cast-t
 overflow_cast-t c = omega (arith, c.slice_known-1.given (c.loop-i.i - 1))
 
 pub overflow_add-t : goal.overflow_add-t
-overflow_add-t c = 
+overflow_add-t c =
     let s = c.loop-i.invariant.small in
     record { fits = omega (arith, c.slice_known-1.given (c.loop-i.i - 1), c.ranges.by) }
-
-pub overflow_cast-a-in-loop-i : goal.overflow_cast-a-in-loop-i
-overflow_cast-a-in-loop-i c = 
-    record { fits = digit_lt (get_or c.loop-i.a (c.loop-i.i - 1) 0) c.args.by c.loop-i.rest (c.slice_known-1.given (c.loop-i.i - 1)).fits c.loop-i.invariant.small }
 
 pub offset_bounds-a-i-in-loop-i : goal.offset_bounds-a-i-in-loop-i
 offset_bounds-a-i-in-loop-i c = omega (arith, c.loop-i.invariant.within)
@@ -41,9 +37,13 @@ pub bounds-a-i-in-loop-i : goal.bounds-a-i-in-loop-i
 bounds-a-i-in-loop-i c = omega (arith, c.loop-i.invariant.within, c.loop-i.invariant.same)
 
 pub loop-i-preserved : goal.loop-i-preserved
-loop-i-preserved c = 
+loop-i-preserved c =
     let p = c.args in
     dividing_goes p.a.now p.by c.loop-i.a c.loop-i.rest c.loop-i.i c.loop-i-test.true c.loop-i.invariant
+
+pub overflow_cast-a-in-loop-i : goal.overflow_cast-a-in-loop-i
+overflow_cast-a-in-loop-i c =
+    record { fits = digit_lt (get_or c.loop-i.a (c.loop-i.i - 1) 0) c.args.by c.loop-i.rest (c.slice_known-1.given (c.loop-i.i - 1)).fits c.loop-i.invariant.small }
 
 pub overflow_cast-result : goal.overflow_cast-result
 overflow_cast-result c = let s = c.loop-i.invariant.small in record { fits = omega (arith, c.ranges.by) }
@@ -52,6 +52,6 @@ pub shape_of-a : goal.shape_of-a
 shape_of-a c = c.loop-i.invariant.same
 
 pub returns : goal.returns
-returns c = 
+returns c =
     let p = c.args in
     dividing_ends p.a.now p.by c.loop-i.a c.loop-i.rest c.loop-i.i c.loop-i-test.false c.loop-i.invariant

@@ -15,13 +15,13 @@ pub loop-n-init : goal.loop-n-init
 loop-n-init c = (omega arith, ap worth (take-length c.args.a.now))
 
 pub returns-then-a-n-ne0 : goal.returns-then-a-n-ne0
-returns-then-a-n-ne0 c = 
+returns-then-a-n-ne0 c =
     record { within = c.loop-n.invariant.0; same = c.loop-n.invariant.1; leads = inr (omega arith) }
 
 pub loop-n-preserved : goal.loop-n-preserved
-loop-n-preserved c = 
+loop-n-preserved c =
     (omega arith, without_top c.args.a.now c.loop-n.n (omega arith) (omega arith) (omega arith) c.loop-n.invariant.1)
 
 pub returns : goal.returns
-returns c = 
+returns c =
     record { within = c.loop-n.invariant.0; same = c.loop-n.invariant.1; leads = inl (omega arith) }

@@ -17,12 +17,12 @@ pub overflow_cast-t : goal.overflow_cast-t
 overflow_cast-t c = omega (arith, c.slice_known-1.given c.loop-i.i)
 
 pub overflow_mul-t : goal.overflow_mul-t
-overflow_mul-t c = 
+overflow_mul-t c =
     let h = product_le (get_or c.loop-i.a c.loop-i.i 0) c.args.by (c.slice_known-1.given c.loop-i.i).fits c.ranges.by.fits in
     record { fits = omega (arith, h) }
 
 pub overflow_add-t : goal.overflow_add-t
-overflow_add-t c = 
+overflow_add-t c =
     let h = product_le (get_or c.loop-i.a c.loop-i.i 0) c.args.by (c.slice_known-1.given c.loop-i.i).fits c.ranges.by.fits in
     let s = c.loop-i.invariant.small in
     record { fits = omega (arith, h, s) }
@@ -37,7 +37,7 @@ pub loop-i-smaller : goal.loop-i-smaller
 loop-i-smaller c = omega (arith, c.loop-i.invariant.same)
 
 pub loop-i-preserved : goal.loop-i-preserved
-loop-i-preserved c = 
+loop-i-preserved c =
     let p = c.args in
     scaling_goes p.a.now p.by p.add c.loop-i.a c.loop-i.carry c.loop-i.i (c.slice_known-1.given c.loop-i.i).fits c.ranges.by.fits c.loop-i-test.true c.loop-i.invariant
 
@@ -48,6 +48,6 @@ pub shape_of-a : goal.shape_of-a
 shape_of-a c = c.loop-i.invariant.same
 
 pub returns : goal.returns
-returns c = 
+returns c =
     let p = c.args in
     scaling_ends p.a.now p.by p.add c.loop-i.a c.loop-i.carry c.loop-i.i c.loop-i-test.false c.loop-i.invariant

@@ -12,7 +12,7 @@ pub overflow_cast-result : goal.overflow_cast-result
 overflow_cast-result c = omega (arith, c.shared_slice_known-1.given 0)
 
 pub returns-then-n-eq1 : goal.returns-then-n-eq1
-returns-then-n-eq1 c = 
+returns-then-n-eq1 c =
     one_digit c.args.a.now c.args.n (omega arith) c.requires.1
 
 pub overflow_cast-result-2 : goal.overflow_cast-result-2
@@ -28,6 +28,6 @@ pub overflow_add-result : goal.overflow_add-result
 overflow_add-result c = record { fits = omega (arith, c.shared_slice_known-2-1.given 1, c.shared_slice_known-3-1.given 0) }
 
 pub returns : goal.returns
-returns c = 
+returns c =
     let l = c.requires.0 in
     two_digits c.args.a.now c.args.n (omega arith) c.requires.1

@@ -10,7 +10,7 @@ use Rattle.limbs.proofs.top.Goals as goal
 -- `limbs::top` meets its contract: by the law of a short number, or by that of the three highest digits. Assumes nothing.
 
 pub returns-then-n-lt3 : goal.returns-then-n-lt3
-returns-then-n-lt3 c = 
+returns-then-n-lt3 c =
     let h = c.highest-n in
     (head_short c.args.a.now h.result c.short_top.result h.ensures c.short_top.ensures, omega arith)
 
@@ -21,18 +21,18 @@ pub overflow_cast-rest : goal.overflow_cast-rest
 overflow_cast-rest c = omega (arith, c.shared_slice_known-3-1.given (c.highest-n.result - 3))
 
 pub nonzero_rem-rest : goal.nonzero_rem-rest
-nonzero_rem-rest c = 
+nonzero_rem-rest c =
     let b = bits_of (get_or c.args.a.now (c.highest-n.result - 1) 0) in
     rw (bits_unit_is b (omega arith)) (pow_pos b)
 
 pub joined-requires : goal.joined-requires
-joined-requires c = 
+joined-requires c =
     let more : 3 ≤ c.highest-n.result = omega (arith, c.if-n-lt3.false) in
     let b = high_bits c.args.a.now c.highest-n.result (λ i. (c.shared_slice_known-5-1.given i).fits) c.highest-n.ensures more in
     (b.0, b.1, b.2)
 
 pub returns : goal.returns
-returns c = 
+returns c =
     let n = c.highest-n.result in
     let more : 3 ≤ n = omega (arith, c.if-n-lt3.false) in
     let w = c.highest-n.ensures.within in

@@ -10,7 +10,7 @@ use Rattle.nearest.specs.Power.{near_by}
 use Rattle.nearest.specs.PowerLaws.{ten_pos}
 use Rattle.long_reals.specs.Number.{number_in}
 use Rattle.long_reals.specs.DigitsRight.{number_none}
-use Rattle.nearest.specs.Borders.{near_nothing}
+use Rattle.nearest.proofs.Borders.{near_nothing}
 use Rattle.long_reals.proofs.decimal.Goals as goal
 
 -- `long_reals::decimal` meets its contract: no digit but `0` is 0, and else the digits from the first on are read. Assumes nothing.

@@ -13,7 +13,7 @@ use Rattle.nearest.specs.Nearest.{signed}
 use Rattle.limbs.specs.Worth.{worth}
 use Rattle.limbs.specs.Laws.{worth_replicate}
 use Rattle.long_reals.specs.Far.{far_zero, word_lt, ahead_enough}
-use Rattle.nearest.specs.Borders.{near_nothing}
+use Rattle.nearest.proofs.Borders.{near_nothing}
 use Rattle.nearest.specs.PowerLaws.{ten_pos}
 use Rattle.long_reals.specs.DigitsInRoom.{scaled_whole}
 use Rattle.long_reals.proofs.lowered.Goals as goal

@@ -8,7 +8,7 @@ use Rattle.nearest.specs.Nearest.{signed}
 use Rattle.limbs.specs.Worth.{worth}
 use Rattle.limbs.specs.Laws.{worth_replicate}
 use Rattle.long_reals.specs.Far.{high_infinity}
-use Rattle.nearest.specs.Borders.{near_nothing}
+use Rattle.nearest.proofs.Borders.{near_nothing}
 use Rattle.long_reals.proofs.raised.Goals as goal
 
 -- `long_reals::raised` meets its contract: far away it is infinity, and else the number is multiplied. Assumes nothing.

@@ -1,6 +1,6 @@
 use mathlib.Core.Path.{sym, subst}
 use lib.Dec.{T}
-use Rattle.nearest.specs.ProductRight.{div_bits}
+use Rattle.nearest.proofs.ProductRight.{div_bits}
 use Rattle.nearest.proofs.over.Goals as goal
 
 -- `nearest::over` meets its contract: the language's `/`, by `div_bits`. Each operand is an f64's. Assumes nothing.

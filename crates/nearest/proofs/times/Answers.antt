@@ -1,6 +1,6 @@
 use mathlib.Core.Path.{sym, subst}
 use lib.Dec.{T}
-use Rattle.nearest.specs.ProductRight.{mul_bits}
+use Rattle.nearest.proofs.ProductRight.{mul_bits}
 use Rattle.nearest.proofs.times.Goals as goal
 
 -- `nearest::times` meets its contract: the language's `*`, by `mul_bits`. Each operand is an f64's. Assumes nothing.

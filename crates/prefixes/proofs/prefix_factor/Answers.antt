@@ -12,19 +12,19 @@ use Rattle.prefixes.proofs.prefix_factor.Goals as goal
 -- `prefixes::prefix_factor` meets its contract: the table's rule at the row that was found. Assumes nothing.
 
 pub offset_bounds-prefix_row : goal.offset_bounds-prefix_row
-offset_bounds-prefix_row c = 
+offset_bounds-prefix_row c =
     let e = c.prefix_row.ensures in
     let m = place_most c.args.name.now in
     omega arith
 
 pub bounds-prefix_row : goal.bounds-prefix_row
-bounds-prefix_row c = 
+bounds-prefix_row c =
     let e = c.prefix_row.ensures in
     let m = place_most c.args.name.now in
     omega arith
 
 pub returns : goal.returns
-returns c = 
+returns c =
     let k = c.prefix_row.result in
     let e = c.prefix_row.ensures in
     let m = place_most c.args.name.now in

@@ -21,12 +21,12 @@ pub slice_bounds-is_word-end : goal.slice_bounds-is_word-end
 slice_bounds-is_word-end c = within_at c.loop-k.k c.loop-k-test.true
 
 pub returns-then-is_word : goal.returns-then-is_word
-returns-then-is_word c = 
+returns-then-is_word c =
     let name = c.args.name.now in
     search_finds name c.loop-k.k c.loop-k-test.true (sym (word_at name c.loop-k.k c.loop-k-test.true) ∙ sym c.is_word.ensures ∙ c.if-is_word.true) c.loop-k.invariant
 
 pub loop-k-preserved : goal.loop-k-preserved
-loop-k-preserved c = 
+loop-k-preserved c =
     let name = c.args.name.now in
     search_goes name c.loop-k.k c.loop-k-test.true (sym (word_at name c.loop-k.k c.loop-k-test.true) ∙ sym c.is_word.ensures ∙ c.if-is_word.false) c.loop-k.invariant
 

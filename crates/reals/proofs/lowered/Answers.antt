@@ -5,7 +5,7 @@ use native.Mathlib.Omega.{arith}
 use borrow.Author.Rules.{rules}
 use lib.Ieee.{binary64, to_bits}
 use Rattle.reals.specs.FloatTables.{short_path}
-use Rattle.nearest.specs.ProductRight.{quotient_exact}
+use Rattle.nearest.proofs.ProductRight.{quotient_exact}
 use Rattle.reals.proofs.lowered.Goals as goal
 
 -- `reals::lowered` meets its contract: one quotient of two exact numbers, or the wide path's answer. Assumes nothing.

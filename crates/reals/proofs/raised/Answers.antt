@@ -3,7 +3,7 @@ use mathlib.Core.Path.{◌∙◌}
 use borrow.Author.Rules.{rules}
 use lib.Ieee.{binary64, to_bits}
 use Rattle.reals.specs.FloatTables.{short_path}
-use Rattle.nearest.specs.ProductRight.{product_exact}
+use Rattle.nearest.proofs.ProductRight.{product_exact}
 use Rattle.reals.proofs.raised.Goals as goal
 
 -- `reals::raised` meets its contract: one product of two exact numbers, or the wide path's answer. Assumes nothing.

@@ -4,7 +4,7 @@ use native.Mathlib.Nat.{one-le-pow}
 use native.Mathlib.Omega.{arith}
 use Rattle.nearest.specs.Near.{near}
 use Rattle.nearest.specs.Nearest.{signed}
-use Rattle.nearest.specs.Borders.{near_nothing}
+use Rattle.nearest.proofs.Borders.{near_nothing}
 use Rattle.wide_reals.proofs.lowered.Goals as goal
 
 -- `wide_reals::lowered` meets its contract: zero apart, which has no leading digit. Assumes nothing.

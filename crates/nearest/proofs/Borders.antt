@@ -9,7 +9,8 @@ use Rattle.std.specs.Float.Ieee.{nearest}
 use Rattle.nearest.specs.PatternUnits.{pattern_units, infinity, distance_of}
 use Rattle.nearest.specs.PatternUnitsLaws.{units_lt}
 use Rattle.nearest.specs.Nearest.{IsNearest}
-use Rattle.nearest.specs.Near.{near, near_is, near_only, near_digits, Cmp, cmp}
+use Rattle.nearest.specs.Near.{near, Cmp, cmp}
+use Rattle.nearest.proofs.Near.{near_is, near_only, near_digits}
 
 -- ---- zeros: up to and including half the least subnormal
 -- the pattern 0 is worth 0 units

@@ -1,0 +1,6 @@
+pub mod Near
+pub mod Borders
+pub mod Scaled
+pub mod Round
+pub mod ProductRight
+pub mod Examples
