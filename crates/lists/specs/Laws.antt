@@ -15,7 +15,7 @@ use Rattle.record.specs.Text.{before, past}
 use Rattle.record.specs.Word.{trimmed}
 use Rattle.scalars.specs.Laws.{part_part}
 use Rattle.params.specs.ParameterEnd.{cut_of}
-use Rattle.params.specs.Answer.{stops_before, ended_at, EndedIn}
+use Rattle.params.specs.Answer.{ended_at, EndedIn}
 use Rattle.params.specs.declared.Ended.{Ended}
 use Rattle.params.specs.declared.Ended.TheVariants.{At, Open}
 use Rattle.lists.specs.declared.Item.{Item}
@@ -168,6 +168,7 @@ and_false false b e = refl
 body_split : (t : List ℕ) → 0 < length t
     → pick (eqb (get_or t 0 0) 40 && eqb (get_or (drop 1 t) (length (drop 1 t) - 1) 0) 41) (inside (take (length (drop 1 t) - 1) (drop 1 t))) bare ≡ body_of t
 unfolding body_of
+body_split [] h = absurd (omega arith)
 body_split (c ∷ r) h = refl
 
 -- the last byte of what follows a text's first byte is the text's last byte

@@ -206,7 +206,7 @@ module _ {A : Type 0} (P : List ℕ → Fate A → Type 0) (g : List ℕ → Fat
   items_only only (Items.bad {t} {n = k} {o} i p) (suc n) h = step_bad g n k o i (only t (faulty k o) p)
   items_only only (Items.next w {t} {r} {v} {a} i p q) (suc n) h =
       let l : length r < n = omega (arith, h, length-append w (44 ∷ r)) in
-      ap (λ (x : Fate (List A)). consed v (shifted (suc (length w)) x)) (items_only only q n l) ∙ step_next g n w v i (only t (fine v) p)
+      ap (λ (x : Fate (List A)). consed v (shifted (suc (length w)) x)) (items_only only {xs = r} q n l) ∙ step_next g n w v i (only t (fine v) p)
 
 -- ---- "A list is `(`..`)`"
 -- the inside of `(`, b and `)` is b

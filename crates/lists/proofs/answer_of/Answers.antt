@@ -1,4 +1,3 @@
-use borrow.Author.Rules.{rules}
 use Rattle.lists.specs.Items.{reached}
 use Rattle.params.specs.Answer.{reading}
 use Rattle.error.specs.Refusal.{refusal, bad}

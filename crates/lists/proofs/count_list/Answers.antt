@@ -1,4 +1,3 @@
-use borrow.Author.Rules.{rules}
 use Rattle.lists.specs.Lent.{count_valued}
 use mathlib.Core.Path.{sym, ◌∙◌}
 use Rattle.lists.proofs.count_list.Goals as goal

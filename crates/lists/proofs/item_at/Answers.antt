@@ -1,4 +1,3 @@
-use borrow.Author.Rules.{rules}
 use Rattle.lists.specs.Laws.{item_told_is}
 use Rattle.lists.specs.Items.{ItemAt}
 use mathlib.Core.Path.{subst}

@@ -1,4 +1,3 @@
-use borrow.Author.Rules.{rules}
 use Rattle.lists.specs.Laws.{end_found, end_open, found_in}
 use native.Mathlib.Omega.{arith}
 use lib.ListN.{length}

@@ -4,7 +4,7 @@ use lib.Ieee.{Float}
 use lib.ListN.{take, drop, set, get_or}
 use mathlib.Core.List.{List, ◌++◌}
 use mathlib.Core.Path.{◌≡◌, refl, ap, ◌∙◌}
-use Prim.Native.Nat.{ℕ, ◌+◌, ◌-◌, ◌≤◌}
+use Prim.Native.Nat.{ℕ}
 use lib.Ieee.{Float, nan}
 use Rattle.lists.proofs.lay_reals.Goals as goal
 

@@ -1,11 +1,7 @@
-use Rattle.lists.specs.Keep.{copy_store, copy_length}
-use native.Mathlib.Omega.{arith}
-use lib.Ieee.{Float}
-use lib.ListN.{take, drop, set, get_or}
-use mathlib.Core.List.{List, ◌++◌}
-use mathlib.Core.Path.{◌≡◌, refl, ap, ◌∙◌}
-use Prim.Native.Nat.{ℕ, ◌+◌, ◌-◌, ◌≤◌}
-use lib.Ieee.{Float, nan}
+use lib.ListN.{take, drop}
+use mathlib.Core.List.{◌++◌}
+use mathlib.Core.Path.{◌≡◌}
+use Prim.Native.Nat.{◌-◌, ◌≤◌}
 use Rattle.lists.proofs.lay_reals.Given as goal
 
 abbrev pub invariant-loop-i : goal.invariant-loop-i

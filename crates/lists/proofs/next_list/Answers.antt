@@ -1,4 +1,3 @@
-use borrow.Author.Rules.{rules}
 use Rattle.lists.specs.ReadLaws.{lists_uncut, lists_cut}
 use Rattle.lists.specs.Places.{read_inward, list_inward}
 use Rattle.lists.specs.Lent.{item_value, lent_of, kind_room, value_inward}

@@ -1,4 +1,3 @@
-use borrow.Author.Rules.{rules}
 use Rattle.lists.specs.Keep.{kept_bad, kept_short, kept_fits, kept_ready}
 use Rattle.lists.specs.Lent.{item_value, lent_of, kind_room}
 use Rattle.lists.specs.First.{first_held}
@@ -18,7 +17,7 @@ pub write_list-requires : goal.write_list-requires
 write_list-requires c = let t = c.args in
     let e = ap told_counted (sym c.in-All.is) ∙ c.take_list.ensures.result_value in
     let (x, (y, z)) = kept_ready (list_by (item_value t.kind) t.t.now) (kind_room t.kind (length t.refs.now) (length t.wholes.now) (length t.reals.now)) _ _ _ e (omega (arith, c.room_of.ensures, c.if-room_of-n.false)) c.take_list.ensures.kept in
-    (x, (y, first_held t.kind (list_by (item_value t.kind) t.t.now) _ _ _ z))
+    record { ready = x; n_value = y; held = first_held t.kind (list_by (item_value t.kind) t.t.now) _ _ _ z }
 
 pub returns-in-Wrong : goal.returns-in-Wrong
 returns-in-Wrong c = let t = c.args in

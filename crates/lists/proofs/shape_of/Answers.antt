@@ -1,7 +1,5 @@
-use borrow.Author.Rules.{rules}
 use Rattle.lists.specs.Laws.{body_short, body_first, body_last, body_full, none_true, none_false}
 use native.Mathlib.Omega.{arith}
-use Prim.Native.Nat.{◌-◌}
 use Rattle.lists.proofs.shape_of.Goals as goal
 
 pub returns-then-n-lt2 : goal.returns-then-n-lt2

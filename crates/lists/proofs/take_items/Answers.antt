@@ -1,12 +1,10 @@
-use Rattle.lists.specs.Keep.{Keeping, keeping_starts, keeping_bad, keeping_last, keeping_goes}
+use Rattle.lists.specs.Keep.{keeping_starts, keeping_bad, keeping_last, keeping_goes}
 use Rattle.lists.specs.Items.{told_verdict}
 use Rattle.lists.specs.Answer.{faulty}
 use Rattle.lists.specs.Lent.{item_value, lent_of}
 use native.Mathlib.Omega.{arith}
-use borrow.Author.Rules.{rules}
-use lib.ListN.{length}
 use mathlib.Core.Path.{◌≡◌, refl, ap, sym, ◌∙◌}
-use Prim.Native.Nat.{◌+◌, ◌-◌}
+use Prim.Native.Nat.{◌+◌}
 use Rattle.lists.proofs.take_items.Goals as goal
 
 pub loop-n-init : goal.loop-n-init

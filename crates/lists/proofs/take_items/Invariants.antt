@@ -1,12 +1,8 @@
-use Rattle.lists.specs.Keep.{Keeping, keeping_starts, keeping_bad, keeping_last, keeping_goes}
-use Rattle.lists.specs.Items.{told_verdict}
-use Rattle.lists.specs.Answer.{faulty}
+use Rattle.lists.specs.Keep.{Keeping}
 use Rattle.lists.specs.Lent.{item_value, lent_of}
-use native.Mathlib.Omega.{arith}
-use borrow.Author.Rules.{rules}
 use lib.ListN.{length}
-use mathlib.Core.Path.{◌≡◌, refl, ap, sym, ◌∙◌}
-use Prim.Native.Nat.{◌+◌, ◌-◌}
+use mathlib.Core.Path.{◌≡◌}
+use Prim.Native.Nat.{◌-◌}
 use Rattle.lists.proofs.take_items.Given as goal
 
 abbrev pub invariant-loop-n : goal.invariant-loop-n

@@ -1,4 +1,3 @@
-use borrow.Author.Rules.{rules}
 use Rattle.lists.specs.Keep.{kept_none, kept_blank, kept_full}
 use Rattle.lists.specs.Laws.{shape_full, body_length, counted_wrong, counted_outside, counted_all}
 use Rattle.lists.specs.Lent.{item_value, lent_of}
