@@ -1,8 +1,7 @@
 // Header records by keyword, over a lent slice of header span structs.
 //
-// As `header_args` of the Rust's lib.rs, which goes through a Vec of such structs. A slice of structs is not covered: both functions are
-// proved by a walk of their code, so what can be said of one struct by value stands in `headers`. What it finds is what the search over
-// the number columns of the same records finds.
+// As `header_args` of the Rust's lib.rs, which goes through a Vec of such structs. What can be said of one struct by value stands in
+// `headers`. What it finds is what the search over the number columns of the same records finds.
 #![tactic(auto)]
 
 ghost use Rattle.std.specs.Prelude.{◌≡◌, ◌<◌, length};

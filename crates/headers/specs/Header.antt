@@ -1,9 +1,9 @@
 -- Header records looked up by keyword: `head` tells header row i, and there are n.
 -- Assumes nothing.
 -- Definitions to be believed: no law, and nothing computed that no theorem ties (docs/BELIEVE.md).
-use Rattle.std.specs.Prelude.{ℕ, Bool, true, false, ◌&&◌, List, map, length}
+use Rattle.std.specs.Prelude.{ℕ, Bool, ◌&&◌, List, map, length}
 use Rattle.std.proofs.Math.Option.{Option, none, some}
-use Rattle.error.specs.Refusal.{Refusal, refusal, Told, good, bad, told}
+use Rattle.error.specs.Refusal.{Told, good, bad, told}
 use Rattle.record.specs.Word.{same_bytes}
 use Rattle.record.specs.Byte.{upper}
 use Rattle.statement.specs.Rows.{mapped, HeaderRow}

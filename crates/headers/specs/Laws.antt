@@ -1,14 +1,14 @@
 -- Laws for the code: each way out of the test of a header row, and that the first is found.
 -- Assumes nothing.
-use Rattle.std.specs.Prelude.{ℕ, ◌+◌, ◌*◌, ◌/◌, ◌-◌, ◌≤◌, ◌<◌, min, ◌≡◌, refl, Bool, true, false, ◌&&◌, List, map, length}
-use Rattle.std.proofs.Common.{sym, ◌∙◌, ap, subst, arith, le-leb}
-use Rattle.std.proofs.Math.Option.{Option, none, some}
+use Rattle.std.specs.Prelude.{ℕ, ◌-◌, ◌≤◌, ◌<◌, ◌≡◌, refl, false, List, map, length}
+use Rattle.std.proofs.Common.{sym, subst, arith, le-leb}
+use Rattle.std.proofs.Math.Option.{some}
 use Rattle.std.proofs.lemmas.Bool.{lt-leb}
-use Rattle.error.specs.Refusal.{refusal, Told, good, bad}
+use Rattle.error.specs.Refusal.{refusal, good, bad}
 use Rattle.record.specs.Word.{same_bytes}
 use Rattle.record.specs.Byte.{upper}
 use Rattle.statement.specs.Rows.{HeaderRow}
-use Rattle.lookup.specs.Lookup.{FileSpan, file_span, bytes_between, FirstForm}
+use Rattle.lookup.specs.Lookup.{file_span, bytes_between, FirstForm}
 use Rattle.lookup.specs.First.{first_from}
 use Rattle.lookup.specs.Laws.{first_right}
 use Rattle.headers.specs.Header.{header_named, is_header, header_first, header_arguments}

@@ -1,13 +1,13 @@
 -- A data record takes at least five bytes, so that no file which the scan takes has more records than the index can hold.
 -- Assumes nothing.
-use Rattle.std.specs.Prelude.{ℕ, ◌+◌, ◌*◌, ◌≤◌, ◌<◌, ◌≡◌, refl, List, [], ◌∷◌, ◌++◌, length}
-use Rattle.std.proofs.Common.{sym, ◌∙◌, ap, arith, length-append}
-use Rattle.error.specs.Refusal.{refusal, Told, good, bad}
+use Rattle.std.specs.Prelude.{ℕ, ◌+◌, ◌*◌, ◌≤◌, ◌<◌, ◌≡◌, refl, List, [], ◌∷◌, length}
+use Rattle.std.proofs.Common.{◌∙◌, ap, arith, length-append}
+use Rattle.error.specs.Refusal.{Told, good, bad}
 use Rattle.lex.specs.Local.{trivia_shorter}
 use Rattle.lex.specs.Right.{trivia_only}
 use Rattle.record.specs.Form.{Lead, HeadForm, Keyword}
 use Rattle.record.specs.declared.Head.TheVariants.{Complex, Simple}
-use Rattle.statement.specs.Rows.{Row, HeaderRow, Stmt, data_statement, header_kind, data_kind, mapped}
+use Rattle.statement.specs.Rows.{Row, HeaderRow, data_statement, header_kind, data_kind, mapped}
 use Rattle.statement.specs.declared.Section.{Section}
 use Rattle.scan.specs.Records.{Table, with_header, with_record}
 use Rattle.scan.specs.File.{scan_of}

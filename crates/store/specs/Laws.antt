@@ -1,12 +1,11 @@
 -- Opening a file: all its records are indexed, and a lookup answers like the map.
 -- Assumes nothing.
-use Rattle.std.specs.Prelude.{ℕ, ◌/◌, ◌≤◌, ◌<◌, min, ◌≡◌, refl, List, length}
+use Rattle.std.specs.Prelude.{ℕ, ◌≡◌, refl, List, length}
 use Rattle.std.proofs.Common.{sym, ◌∙◌, ap, subst, arith}
-use Rattle.std.proofs.Math.Option.{Option}
 use Rattle.error.specs.Refusal.{Told, good, bad}
 use Rattle.table.specs.Table.{rows_fit, id_of}
 use Rattle.statement.specs.Rows.{mapped}
-use Rattle.scan.specs.Records.{Table, largest}
+use Rattle.scan.specs.Records.{Table}
 use Rattle.scan.specs.File.{scan_of}
 use Rattle.scan.specs.ScanMemory.{Counts, counts, counts_of, data_room}
 use Rattle.scan.specs.Rooms.{scan_fit}

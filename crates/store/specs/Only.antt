@@ -1,16 +1,14 @@
 -- "that two allowed answers coincide is proved": what `open` promises is one answer, one list of header rows, one of data rows and
 -- one of slots. Assumes nothing.
-use Rattle.std.specs.Prelude.{ℕ, ◌≡◌, refl, List}
+use Rattle.std.specs.Prelude.{ℕ, ◌≡◌, List}
 use Rattle.std.proofs.Common.{sym, ◌∙◌, ap, subst, arith}
-use Rattle.error.specs.Refusal.{Refusal, Told, good, bad, told}
+use Rattle.error.specs.Refusal.{Told, good, bad}
 use Rattle.error.specs.Only.{fault_of, fault_of_told}
 use Rattle.error.specs.declared.Fault.{Fault}
 use Rattle.table.specs.Table.{id_of}
 use Rattle.scan.specs.ScanMemory.{Counts, counts}
 use Rattle.index.specs.Index.{Built}
 use Rattle.index.specs.IndexLaws.{built_slots_only, built_only}
-use Rattle.index.specs.declared.Ids.{Ids}
-use Rattle.lookup.specs.declared.Tables.{Tables}
 use Rattle.store.specs.Store.{told_opened_file, Indexed, OpensFile}
 use Rattle.store.specs.declared.OpenedFile.{OpenedFile}
 use Rattle.store.specs.declared.OpenedFile.TheVariants.{Good, Refused}

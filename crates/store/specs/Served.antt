@@ -1,11 +1,11 @@
 -- The record that is served: over the rows that the scan laid and the index built of them, lookup answers with the records of the
 -- file. "Lookup of an id answers like a map written to in file order: the last record of that id, or none."
 -- Assumes nothing.
-use Rattle.std.specs.Prelude.{ℕ, ◌≤◌, ◌<◌, min, ◌≡◌, refl, List, length}
+use Rattle.std.specs.Prelude.{ℕ, ◌≤◌, ◌<◌, ◌≡◌, List, length}
 use Rattle.std.proofs.Common.{sym, ◌∙◌, ap, subst, arith}
-use Rattle.std.proofs.Math.Option.{Option, some}
+use Rattle.std.proofs.Math.Option.{some}
 use Rattle.std.proofs.Math.ListN.{get_elem?}
-use Rattle.error.specs.Refusal.{Told, good, bad}
+use Rattle.error.specs.Refusal.{Told, good}
 use Rattle.table.specs.Table.{rows_fit, row_numbers, id_of}
 use Rattle.table.specs.Laid.{rows_laid_in, row_is}
 use Rattle.scan.specs.Records.{Table}
