@@ -5,11 +5,7 @@ use lib.Ieee.{binary64, to_bits, of_bits}
 use Rattle.nearest.specs.Near.{near}
 use Rattle.units.specs.Answer.{units}
 use Rattle.units.specs.Laws.{one_bits, thousandth_bits}
-use Rattle.units.proofs.assumed.Statement.{statement}
-use Rattle.units.proofs.assumed.Tie as tie
+use Rattle.units.proofs.assumed.Goals as goal
 
-returns : tie.Need-returns
+pub returns : goal.returns
 returns c = ap (λ (x : ℕ). units x x (to_bits binary64 (of_bits binary64 4562254508917369340)) false) one_bits ∙ ap (λ (x : ℕ). units (near 1 1) (near 1 1) x false) thousandth_bits
-
-pub assumed_spec : {M : Type 1} → statement M
-assumed_spec = tie.close (tie.spec returns)
