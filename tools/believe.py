@@ -38,7 +38,7 @@ def read(path):
 
 
 def crates():
-    return [line.split(':')[0] for line in read(os.path.join(ROOT, 'crates.txt')).split('\n') if ':' in line and not line.startswith('#')]
+    return [line.split(':')[0].split()[0] for line in read(os.path.join(ROOT, 'crates.txt')).split('\n') if ':' in line and not line.startswith('#')]
 
 
 class Spec:

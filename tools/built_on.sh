@@ -6,7 +6,7 @@
 # crates.txt lists for each crate what its own files name; what these are built on follows from their lines.
 root=$(CDPATH='' cd -- "$(dirname -- "$0")/.." && pwd -P)
 exec awk -v todo="$*" '
-    { sub(/#.*/, ""); name = $1; if (sub(/:$/, "", name)) { $1 = ""; on[name] = $0 } }
+    { sub(/#.*/, ""); colon = index($0, ":"); split($0, word, /[ :]/); if (colon) on[word[1]] = substr($0, colon + 1) }
     END {
         while (todo != "") {
             split(todo, word, " "); name = word[1]; sub(/^ *[^ ]+ */, "", todo)

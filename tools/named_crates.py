@@ -2,7 +2,7 @@
 """Holds crates.txt to what each crate names itself: named_crates.py [--write]
 
 A crate's line in crates.txt lists the crates that its own files name, in paths of Rattle (`scan::scan`, `use scan::..`) and of antt
-(`Rattle·scan.`), and no others: the kit finds what these are built on by itself, and whatever a line lists besides is read again for
+(`Rattle.scan.`), and no others: the kit finds what these are built on by itself, and whatever a line lists besides is read again for
 nothing. A type whose values a crate reaches without naming it counts as named (REACHED). Prints each line that differs; the status is
 then 1. With --write it writes them, each line's crates in the order in which crates.txt has them.
 """
@@ -44,7 +44,7 @@ def named(crate, all_crates):
         if name == crate:
             continue
         in_code = name not in own and re.search(r'(?<![\w:])%s::' % name, code)
-        in_logic = re.search(r'Rattle·%s\.' % name, code + logic)
+        in_logic = re.search(r'Rattle\.%s\.' % name, code + logic)
         if in_code or in_logic or name in REACHED.get(crate, []):
             found.append(name)
     return found
@@ -54,13 +54,14 @@ def main(arguments):
     path = os.path.join(ROOT, 'crates.txt')
     with open(path, encoding='utf-8') as f:
         lines = f.read().split('\n')
-    crates = [line.split(':')[0] for line in lines if ':' in line and not line.startswith('#')]
+    crates = [line.split(':')[0].split()[0] for line in lines if ':' in line and not line.startswith('#')]
     differ = 0
     for i, line in enumerate(lines):
         if ':' not in line or line.startswith('#'):
             continue
-        crate = line.split(':')[0]
-        new = ('%s: %s' % (crate, ' '.join(named(crate, crates + KIT)))).rstrip(' ')
+        head = line.split(':')[0]
+        crate = head.split()[0]
+        new = ('%s: %s' % (head, ' '.join(named(crate, crates + KIT)))).rstrip(' ')
         if new != line:
             differ += 1
             print(new)
