@@ -4,7 +4,8 @@
 A file of crates/*/specs is believed where its opening comment has the sentence MARK. Such a file holds definitions alone (`abbrev`,
 `unfoldable`, `record`, `data`), no law and no proof, and takes names only from the libraries, from modules `declared` (the types of the
 code), from other believed files, and from elsewhere what tools/believe.txt lists: computed names that theorems tie, and crates whose
-definitions are not apart as yet. What breaks this is printed with file and line, and the status is 1.
+definitions are not apart as yet. Theorems are those of crates/*/specs and of the files right in crates/*/proofs. What breaks this is
+printed with file and line, and the status is 1.
 
 With --check nothing is written, and the status is also 1 where docs/BELIEVE.md is not what would be written.
 """
@@ -17,15 +18,17 @@ ROOT = os.path.dirname(os.path.dirname(os.path.abspath(__file__)))
 # the sentence of a believed file, a line of its opening comment
 MARK = '-- Definitions to be believed: no law, and nothing computed that no theorem ties (docs/BELIEVE.md).'
 LIBRARIES = {'Prim', 'mathlib', 'native', 'lib', 'borrow', 'denote'}
+# of the kit's own library, whose paths begin as ours do
+STD = 'Rattle.std.'
 # words of proofs
-PROOF = {'omega', 'rw', 'rw⁻¹', 'grw', 'simp', 'search', 'cc', 'refl', 'sym', '∙', 'ap', 'subst', 'absurd', 'unfolding', 'unfold', 'axiom', '?'}
+PROOF = {'omega', 'rw', 'rw⁻¹', 'grw', 'simp', 'search', 'grind', 'cc', 'refl', 'sym', '∙', 'ap', 'subst', 'absurd', 'unfolding', 'unfold', 'axiom', '?'}
 # endings of the names of theorems that tie
-TIES = ('-is', '-only', '-one', '-are')
+TIES = ('_is', '_only', '_one', '_are', '-is', '-only', '-one', '-are')
 # characters of a line of the page
 WIDTH = 150
 
 USE = re.compile(r'^(?:pub )?use ([^\s{]+?)(?:\.\{([^}]*)\}|( as \S+))?$', re.S)
-MODULE = re.compile(r'^Rattle·([a-z_0-9]+)(?:·specs\.specs|\.specs)\.(.+)$')
+MODULE = re.compile(r'^Rattle\.([a-z_0-9]+)\.(?:specs|(proofs))\.(.+)$')
 NAMED = re.compile(r'^( *)((?:(?:unfoldable|abbrev|pub|axiom) )*)(?:(data|record) (\S+)|([^\s:(){};,-][^\s:(){};,]*) :(?:\s|$))')
 
 
@@ -39,11 +42,12 @@ def crates():
 
 
 class Spec:
-    """A file of specs: its opening comment, its `use` lines and what it declares, each with its line."""
+    """A file of specs or of lemmas: its opening comment, its `use` lines and what it declares, each with its line."""
 
     def __init__(self, crate, path):
         self.crate, self.path = crate, path
-        self.name = os.path.relpath(path, os.path.join(ROOT, 'crates', crate, 'specs'))[:-len('.antt')].replace(os.sep, '/')
+        inner = os.path.relpath(path, os.path.join(ROOT, 'crates', crate))[:-len('.antt')].replace(os.sep, '/')
+        self.name = inner[len('specs/'):] if inner.startswith('specs/') else inner
         self.lines = read(path).split('\n')
         i = 0
         while i < len(self.lines) and self.lines[i].startswith('--'):
@@ -122,7 +126,7 @@ def body_faults(spec):
         bad = set(re.split(r'[\s(){};,]+', line)) & PROOF
         if bad:
             yield k + 1, 'a proof: `%s`' % sorted(bad)[0]
-        if 'Rattle·' in line:
+        if re.search(r'\bRattle\.', line):
             yield k + 1, 'a name by its whole path, and no `use` line'
         indent = len(line) - len(line.lstrip())
         if indent == 0:
@@ -177,14 +181,14 @@ class Notes:
 
 
 def placed(module):
-    """crate/FILE of a module of specs, or none."""
+    """crate/FILE of a module of specs, crate/proofs/FILE of one of proofs, or none."""
     m = MODULE.match(module)
-    return None if not m else '%s/%s' % (m.group(1), m.group(2).replace('.', '/'))
+    return None if not m or module.startswith(STD) else '/'.join(x for x in m.groups() if x).replace('.', '/')
 
 
 def use_faults(spec, specs, notes):
     for line, module, names in imports(spec):
-        if module.split('.')[0] in LIBRARIES:
+        if module.split('.')[0] in LIBRARIES or module.startswith(STD):
             continue
         place = placed(module)
         if place is None:
@@ -296,8 +300,8 @@ The definitions stand in files of their own, which say so in their opening comme
 sentences stand above them, and then its public contracts. Where a contract or a definition names something that is computed elsewhere,
 'By theorems' says which theorems tie it: that it is what a definition listed here says, and that there is no other answer. Of a theorem
 the statement is to be read, and not the proof; all that are of this kind are listed with their places. Three go only so far: for id slots
-that the index did not leave, `found-safe` says that what is served has the id, and `index/specs/Search` alone says what that is; `role-of-is`
-and `seen-records-are` speak of records whose parts read, and of tables that a scan left.
+that the index did not leave, `found_safe` says that what is served has the id, and `index/specs/Search` alone says what that is; `role_of_is`
+and `seen_records_are` speak of records whose parts read, and of tables that a scan left.
 
 `tools/believe.py` writes this page from the tree, and says where it does not hold: in a file that is listed nothing is a law or a
 proof, and its definitions and the contracts of public functions name only what the libraries have, the types of the code (`declared`),
@@ -377,7 +381,8 @@ def page(specs, notes):
 def main(arguments):
     specs = {}
     for crate in crates():
-        for path in glob.glob(os.path.join(ROOT, 'crates', crate, 'specs', '**', '*.antt'), recursive=True):
+        folder = os.path.join(ROOT, 'crates', crate)
+        for path in glob.glob(os.path.join(folder, 'specs', '**', '*.antt'), recursive=True) + glob.glob(os.path.join(folder, 'proofs', '*.antt')):
             if os.path.basename(path) != 'Lib.antt':
                 s = Spec(crate, path)
                 specs['%s/%s' % (crate, s.name)] = s

@@ -1,29 +1,19 @@
--- Where the digits need not be read: the decimals so small that 0 is nearest, and so large that infinity is. Assumes nothing.
+-- Where the digits need not be read: the decimals so small that 0 is nearest (`far_zero` of proofs/Far.antt), and so large that infinity is. Assumes nothing.
 use Rattle.std.specs.Prelude.{ℕ, zero, suc, ◌+◌, ◌-◌, ◌*◌, ◌^◌, ◌≤◌, ◌<◌, ◌≡◌, refl}
-use Rattle.std.proofs.Common.{sym, ◌∙◌, ap, subst, le_trans, le_of_lt, mul_assoc, mul-le-mul, mul-le-mul_left, mul-le-mul_right, one-mul, arith, leb-true, pow-add}
+use Rattle.std.proofs.Common.{sym, ◌∙◌, ap, subst, le_trans, mul_assoc, mul-le-mul, mul-le-mul_left, mul-le-mul_right, one-mul, arith, leb-true, pow-add}
 use Rattle.std.proofs.Math.Nat.{le_of_mul-le-mul_left, pow-le-pow_right, pow-succ'}
 use Rattle.nearest.specs.PatternUnits.{infinity}
 use Rattle.nearest.specs.Near.{near}
-use Rattle.nearest.proofs.Borders.{near_zero, near_infinity}
+use Rattle.nearest.proofs.Borders.{near_infinity}
 use Rattle.nearest.specs.PowerLaws.{ten_pos}
 
 -- the power of ten from which on down a decimal is a zero: 10 ^ -324 is below half the least f64
 abbrev pub vanishing_power : ℕ
 vanishing_power = 324
 
--- 10 ^ -324 is at most half the least f64
-zero_border : 2 ^ 1075 ≤ 10 ^ vanishing_power
-zero_border = leb-true (2 ^ 1075) (10 ^ vanishing_power) refl
-
 -- the border of infinity is below 10 ^ 309
 infinity_border : (2 ^ 54 - 1) * 2 ^ 970 ≤ 10 ^ 309
 infinity_border = leb-true ((2 ^ 54 - 1) * 2 ^ 970) (10 ^ 309) refl
-
--- a number below 10 ^ n, divided by 10 ^ (n + 324) or more, has the nearest f64 0
-pub far_zero : (num n k : ℕ) → num < 10 ^ n → n + vanishing_power ≤ k → near num (10 ^ k) ≡ 0
-far_zero num n k l h =
-    near_zero num (10 ^ k) (ten_pos k)
-    (le_trans (mul-le-mul (le_of_lt l) zero_border) (subst (λ (x : ℕ). x ≤ 10 ^ k) (pow-add 10 n vanishing_power) (pow-le-pow_right {n = 10} (omega arith) {i = n + vanishing_power} {j = k} h)))
 
 -- a number of n digits that is a tenth of 10 ^ n or more, divided by less than 10 ^ (n - 309), has the nearest f64 infinity
 pub far_infinity : (num n k : ℕ) → 10 ^ n ≤ 10 * num → k + 309 < n → near num (10 ^ k) ≡ infinity

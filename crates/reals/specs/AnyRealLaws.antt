@@ -11,7 +11,8 @@ use Rattle.nearest.specs.Near.{near}
 use Rattle.nearest.proofs.Borders.{near_nothing}
 use Rattle.nearest.specs.Power.{near_by}
 use Rattle.long_reals.specs.Number.{number_in}
-use Rattle.long_reals.specs.Far.{far_zero, high_infinity}
+use Rattle.long_reals.specs.Far.{high_infinity}
+use Rattle.long_reals.proofs.Far.{far_zero}
 use Rattle.long_reals.specs.DigitsRight.{number_next, number_past}
 use Rattle.reals.specs.Scalar.{near_ten, largest_held, mantissa, pointed, fraction_of}
 use Rattle.reals.specs.Class.{raised_same, lowered_same}

@@ -12,7 +12,8 @@ use Rattle.nearest.specs.Near.{near}
 use Rattle.nearest.specs.Nearest.{signed}
 use Rattle.limbs.specs.Worth.{worth}
 use Rattle.limbs.specs.Laws.{worth_replicate}
-use Rattle.long_reals.specs.Far.{far_zero, word_lt, ahead_enough}
+use Rattle.long_reals.specs.Far.{word_lt, ahead_enough}
+use Rattle.long_reals.proofs.Far.{far_zero}
 use Rattle.nearest.proofs.Borders.{near_nothing}
 use Rattle.nearest.specs.PowerLaws.{ten_pos}
 use Rattle.long_reals.specs.DigitsInRoom.{scaled_whole}

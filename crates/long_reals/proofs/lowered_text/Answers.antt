@@ -7,7 +7,8 @@ use Rattle.nearest.specs.Nearest.{signed}
 use Rattle.limbs.specs.Laws.{worth_replicate}
 use Rattle.long_reals.specs.Number.{number_in}
 use Rattle.long_reals.specs.DigitsRight.{digits_le, read_lt, read_le}
-use Rattle.long_reals.specs.Far.{far_zero, far_infinity}
+use Rattle.long_reals.specs.Far.{far_infinity}
+use Rattle.long_reals.proofs.Far.{far_zero}
 use Rattle.long_reals.proofs.lowered_text.Goals as goal
 
 -- `long_reals::lowered_text` meets its contract: far away it is 0 or infinity, and else the digits are read. Assumes nothing.
