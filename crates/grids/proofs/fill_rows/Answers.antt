@@ -45,12 +45,6 @@ bounds-ends-rows c = let t = c.args in
 pub overflow_add-rows : goal.overflow_add-rows
 overflow_add-rows c = omega (arith, c.loop-kind.invariant.0.few, c.loop-kind.invariant.0.within)
 
-pub shape_of-refs-then-bound-b : goal.shape_of-refs-then-bound-b
-shape_of-refs-then-bound-b c = c.refs-1.given ∙ c.loop-kind.invariant.1.0
-
-pub shape_of-reals-then-bound-b : goal.shape_of-reals-then-bound-b
-shape_of-reals-then-bound-b c = c.reals-1.given ∙ c.loop-kind.invariant.1.1
-
 pub shape_of-ends-then-bound-b : goal.shape_of-ends-then-bound-b
 shape_of-ends-then-bound-b c = let t = c.args in
     let (x, y) = row_place (item_value t.kind) t.b.now _ _ _ _ _ _ _ c.loop-kind.invariant.0 c.item_at-w.result c.item_at-w.ensures _ _ c.fill_row-k.ensures.value c.fill_row-k.ensures.reals_after in
@@ -68,4 +62,4 @@ loop-kind-smaller c = omega (arith, c.item_at-w.ensures.within, c.item_at-w.ensu
 
 pub loop-kind-preserved : goal.loop-kind-preserved
 loop-kind-preserved c = let t = c.args in
-    (row_goes (item_value t.kind) t.b.now _ _ _ _ _ _ _ c.loop-kind.invariant.0 c.item_at-w.result c.item_at-w.ensures _ _ c.fill_row-k.ensures.value c.fill_row-k.ensures.reals_after (omega (arith, c.item_at-w.ensures.within, c.if-bound-b.false)), (c.refs-1.given ∙ c.loop-kind.invariant.1.0, c.reals-1.given ∙ c.loop-kind.invariant.1.1))
+    (row_goes (item_value t.kind) t.b.now _ _ _ _ _ _ _ c.loop-kind.invariant.0 c.item_at-w.result c.item_at-w.ensures _ _ c.fill_row-k.ensures.value c.fill_row-k.ensures.reals_after (omega (arith, c.item_at-w.ensures.within, c.if-bound-b.false)), (omega arith, omega arith))
