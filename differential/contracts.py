@@ -2,7 +2,7 @@
 """What a change moved of what is promised and defined: contracts.py REV
 
 Holds the working tree against the revision REV and prints a line for each public function that is new or gone, or whose signature,
-`requires` or `ensures` has changed, and for each declaration in specs/ (definition, record, law with its proof) that is gone or has
+`requires` or `ensures` has changed, and for each declaration in specs/ or right in proofs/ (definition, record, law with its proof) that is gone or has
 another text. What stands elsewhere word for word is `moved`. The last line counts. Layout and comments do not count. Names that docs/NAMES.md
 renames count as their new ones, and short names in a contract as what they stand for.
 """
@@ -25,10 +25,12 @@ def functions(text):
     """The public functions of a file of Rattle: name to signature and contract."""
     text = re.sub(r'//[^\n]*', '', text)
     found = {}
-    for m in re.finditer(r'^(?: *)(?:#\[no_mangle\]\s*)?pub (?:extern "C" )?fn (\w+)', text, re.M):
+    for m in re.finditer(r'^ *(?:#\[(?:unsafe\()?no_mangle\)?\]\s*)?pub (?:unsafe )?(?:extern "C" )?fn (\w+)', text, re.M):
         rest = text[m.start():]
+        # the body begins at a brace on a line of its own, or at one that ends a line before any clause
         end = re.search(r'\n *\{', rest)
-        one = re.search(r'\{(?!\s*λ|\s*⌜)', rest)
+        clause = re.search(r'\n *(?:requires|ensures)\b', rest)
+        one = re.search(r'\{\s*$|\{\s*\}|\{[^{}\n]*\}$', rest[:clause.start()] if clause and end and clause.start() < end.start() else rest, re.M)
         stop = min(x.start() for x in (end, one) if x)
         found[m.group(1)] = plain(rest[:stop])
     return found
@@ -70,7 +72,7 @@ def tree(rev):
         names = git('ls-tree', '-r', '--name-only', rev, 'crates').split('\n')
     else:
         names = git('ls-files', '-co', '--exclude-standard', 'crates').split('\n')
-    keep = [n for n in names if re.match(r'crates/\w+/(src/.*\.rt|specs/.*\.antt)$', n)]
+    keep = [n for n in names if re.match(r'crates/\w+/(src/.*\.rt|specs/.*\.antt|proofs/[^/]*\.antt)$', n)]
     if rev:
         return {n: git('show', rev + ':' + n) for n in keep}
     out = {}

@@ -7,7 +7,7 @@ which only got shorter compares as equal.
 import re
 
 WORD = r"\w′'₀-₉·\-"
-USE = re.compile(r"use Rattle·([a-z0-9_]+)(?:·specs)?\.specs\.([A-Za-z0-9_.\-]+?)(?:\.\{([^}]*)\}| as (\S+?))(?=[;\s]|$)", re.M)
+USE = re.compile(r"use Rattle[·.]([a-z0-9_]+)(?:·specs)?\.specs\.([A-Za-z0-9_.\-]+?)(?:\.\{([^}]*)\}| as (\S+?))(?=[;\s]|$)", re.M)
 SIGNS = {'⌜', '⌝', '≡', '×', '+', '-', '*', '<', '≤', '^', '++', '∷', '→', ',', '.', '=', '&&', '||', '⊎'}
 
 
@@ -71,10 +71,10 @@ def renamed(files, page):
         text = replaced(text, words)
         for (where, old), new in modules.items():
             crate = where.split('/')[0]
-            text = re.sub(r'(Rattle·%s(?:·specs)?\.specs\.)%s(?![%s])' % (crate, re.escape(old.replace('/', '.')), WORD), r'\g<1>' + new.replace('/', '.'), text)
+            text = re.sub(r'(Rattle[·.]%s(?:·specs)?\.specs\.)%s(?![%s])' % (crate, re.escape(old.replace('/', '.')), WORD), r'\g<1>' + new.replace('/', '.'), text)
             path = re.sub(r'^(crates/%s/specs/)%s(?=[./])' % (crate, re.escape(old)), r'\g<1>' + new, path)
         for old, new in crates.items():
-            text = re.sub(r'Rattle·%s(?![%s])' % (old, r'\w\-'), 'Rattle·' + new, text)
+            text = re.sub(r'(Rattle[·.])%s(?![%s])' % (old, r'\w\-'), r'\g<1>' + new, text)
             text = re.sub(r'\b%s::' % old, new + '::', text)
             path = re.sub('^crates/%s/' % old, 'crates/%s/' % new, path)
         out[path] = text
@@ -122,7 +122,7 @@ def opened(term, shorts):
     flat = []
     for k, word in enumerate(out):
         head = k == 0 or (isinstance(out[k - 1], str) and out[k - 1] in SIGNS)
-        alone = (k == 0 or out[k - 1] == '⌜') and (k == len(out) - 1 or out[k + 1] == '⌝')
+        alone = (k == 0 or out[k - 1] in ('⌜', '{')) and (k == len(out) - 1 or out[k + 1] in ('⌝', '}'))
         if isinstance(word, list) and (len(word) == 1 or alone or (head and bare(word))):
             flat += word
         else:
@@ -131,7 +131,11 @@ def opened(term, shorts):
 
 
 def filled(term, given):
-    return [filled(t, given) if isinstance(t, list) else given.get(t, t) for t in term]
+    """A term with its variables replaced; of `x.old` the part before the dot."""
+    def word(t):
+        head, dot, rest = t.partition('.')
+        return given.get(t, given[head] + dot + rest if dot and isinstance(given.get(head), str) else t)
+    return [filled(t, given) if isinstance(t, list) else word(t) for t in term]
 
 
 def shown(term):

@@ -29,7 +29,7 @@ TASKS = {'list', 'scale', 'show', 'inspect'}
 # names that are not ours: of the Rust original, of what the kit generates, of files and packages; and names of ours that are said to be gone
 OTHERS = set('''
 StepFile from_bytes DanglingRef args_checked as_ref_id kind_histogram keyword_histogram is_surface is_curve Kind::Line
-Lts.antt CLOCK_THREAD_CPUTIME_ID ISO-10303-21 E-655360 kicad-packages3d
+Lts.antt CLOCK_THREAD_CPUTIME_ID ISO-10303-21 END-ISO-10303-21 E-655360 kicad-packages3d
 carried lex::far_text quick_at said_at unclosed_at
 '''.split())
 # headings of tables whose rows go on from those above them

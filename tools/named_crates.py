@@ -12,7 +12,7 @@ import re
 import sys
 
 ROOT = os.path.dirname(os.path.dirname(os.path.abspath(__file__)))
-KIT = ['io', 'libc', 'os', 'bytes', 'check']
+KIT = ['io', 'bytes', 'check']
 # Crates that declare a type of which a function has a value and no name: the fields of `r` are read in `HeaderFound::Span(r)`,
 # and a kind goes from `host_numbers::kind_by` to `parts::complex_part`.
 REACHED = {'export_records': ['statement', 'kinds'], 'compare_output': ['error', 'input']}
