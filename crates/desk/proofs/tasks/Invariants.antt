@@ -1,4 +1,3 @@
-use Rattle.std.proofs.Common.{◌≡◌}
 use Rattle.desk.proofs.tasks.Given as goal
 
 abbrev pub decreases-loop-turns : goal.decreases-loop-turns
