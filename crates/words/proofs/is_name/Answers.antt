@@ -1,4 +1,3 @@
-use borrow.Author.Rules.{rules}
 use native.Mathlib.Omega.{arith}
 use Rattle.words.specs.Laws.{name_short, name_undotted, name_dotted}
 use Rattle.words.proofs.is_name.Goals as goal

@@ -1,10 +1,8 @@
-use borrow.Author.Rules.{rules}
 use native.Mathlib.Omega.{arith}
 use mathlib.Core.Path.{◌≡◌, ◌∙◌, sym, ap}
 use mathlib.Core.Bool.{true}
 use Prim.Native.Nat.{◌-◌}
 use lib.ListN.{take, drop}
-use borrow.Author.Tests.{not-true, not-false}
 use Rattle.scalars.specs.Scalars.{is_unset}
 use Rattle.words.specs.Words.{is_string, decoded_at}
 use Rattle.words.specs.Laws.{text_unset, text_wrong, text_read, string_two, part_length}
