@@ -28,7 +28,7 @@ pub struct Args<'a> {
     pub at: State,
 }
 
-// What opening a reader answers, and the reader: after 9 one that has nothing to read. (An enum that holds a reader is refused.)
+// What opening a reader answers, and the reader: after 9 one that has nothing to read.
 #[derive(Clone, Copy)]
 pub struct Opening<'a> {
     pub opened: OpenedReader,
